@@ -1,0 +1,5 @@
+pub mod Occurrences
+pub mod Totals
+pub mod Marking
+pub mod Searching
+pub mod Cycles

@@ -1,0 +1,4 @@
+pub mod Acyclic
+pub mod Reach
+pub mod Marks
+pub mod Successors

@@ -1,0 +1,66 @@
+-- What programs, configurations and steps of the code are as plain data.
+use Rattle.std.specs.Prelude.{map}
+use Rattle.poly_terms.specs.Views.{term_of}
+use Rattle.model.specs.Programs as plain
+use Rattle.model.specs.Programs.{AtLeast, MoreThan, AtMost, LessThan, EqualTo}
+use Rattle.model.specs.Runs as runs
+use Rattle.its_model.specs.declared.name.Name.{Name}
+use Rattle.its_model.specs.declared.guard.Rel.{Rel}
+use Rattle.its_model.specs.declared.guard.Rel.TheVariants.{Ge, Gt, Le, Lt, Eq}
+use Rattle.its_model.specs.declared.guard.Atom.{Atom}
+use Rattle.its_model.specs.declared.guard.Atom.TheVariants.{Always, Compare}
+use Rattle.its_model.specs.declared.program.Symbol.{Symbol}
+use Rattle.its_model.specs.declared.program.Rule.{Rule}
+use Rattle.its_model.specs.declared.program.Program.{Program}
+use Rattle.its_model.specs.declared.run.Config.{Config}
+use Rattle.its_model.specs.declared.run.Step.{Step}
+
+-- a name as its bytes
+abbrev pub name_of : Name → plain.Name
+name_of n = n.bytes.items
+
+-- a relation as plain data
+abbrev pub relation_of : Rel → plain.Relation
+relation_of Ge = AtLeast
+relation_of Gt = MoreThan
+relation_of Le = AtMost
+relation_of Lt = LessThan
+relation_of Eq = EqualTo
+
+-- an atom as plain data
+abbrev pub atom_of : Atom → plain.Atom
+atom_of Always = plain.Always
+atom_of (Compare l r q) = plain.Compare (term_of l) (relation_of r) (term_of q)
+
+-- a symbol as plain data
+abbrev pub symbol_of : Symbol → plain.Symbol
+symbol_of s = record { name = name_of s.name; arity = s.arity }
+
+-- a rule as plain data
+abbrev pub rule_of : Rule → plain.Rule
+rule_of r = record {
+  source = r.source;
+  target = r.target;
+  left = r.left;
+  free = r.free;
+  names = map name_of r.names.items;
+  updates = map term_of r.updates.items;
+  guard = map atom_of r.guard.items;
+}
+
+-- a program as plain data
+abbrev pub program_of : Program → plain.Program
+program_of p = record {
+  symbols = map symbol_of p.symbols.items;
+  start = p.start;
+  start_names = map name_of p.start_names.items;
+  rules = map rule_of p.rules.items;
+}
+
+-- a configuration as plain data
+abbrev pub config_of : Config → runs.Config
+config_of c = record { at = c.at; values = c.values.items }
+
+-- a step as plain data
+abbrev pub step_of : Step → runs.Step
+step_of s = record { rule = s.rule; free = s.free.items }

@@ -1,0 +1,9 @@
+use Rattle.std.proofs.Common.{refl}
+use Rattle.model.proofs.worked_values_hold.Goals as goal
+
+pub returns : goal.returns
+returns c = record {
+  expressions = record { less_one = refl; minus_square = refl; odd_power = refl; no_power = refl; second_variable = refl; sum = refl };
+  bounds = record { polynomial = refl; exponential = refl; greatest = refl; empty_sum = refl; empty_product = refl; empty_greatest = refl; no_power = refl };
+  steps = record { first = refl; second = refl; third = refl; entry = refl; last = refl; none = refl; sizes = refl };
+}
