@@ -1,0 +1,103 @@
+ghost use Rattle.std.specs.Prelude.{◌≡◌, ◌*◌, ◌+◌, ◌≤◌, ◌^◌, max, length};
+ghost use Rattle.model.specs.Bounds.{val_sum, val_product, val_greatest};
+ghost use Rattle.bound_expr.specs.Views.{size_of, sizes_of, parts_of};
+ghost use Rattle.bound_expr.specs.Substitution.{ReadsBelow, AllReadBelow};
+ghost use Rattle.bound_expr.specs.Capped.{capped, capped_val};
+
+use crate::bound::Bound;
+
+/// The greatest number that `Bound::capped_value` answers: 2^127.
+pub const CAP: u128 = 0x8000_0000_0000_0000_0000_0000_0000_0000;
+
+impl Bound {
+    /// The value of this bound where variable i is `at[i]`, or 2^127 where the value is greater.
+    ///
+    /// Takes no memory, and no time that grows with the exponents.
+    pub fn capped_value(&self, at: &[u128]) -> u128
+        requires { ReadsBelow (length at.now) (size_of self.now) }
+        ensures { result ≡ capped_val (size_of self.now) at.now }
+    {
+        value_of(self, at)
+    }
+}
+
+#[cycle(value)]
+fn value_of(bound: &Bound, at: &[u128]) -> u128
+    requires { ReadsBelow (length at.now) (size_of bound.now) }
+    ensures { result ≡ capped_val (size_of bound.now) at.now }
+{
+    match bound {
+        Bound::Const(c) => (*c).min(CAP),
+        Bound::Var(i) => at[*i as usize].min(CAP),
+        Bound::Sum(parts) => capped_sum(parts, at),
+        Bound::Prod(parts) => capped_product(parts, at),
+        Bound::Max(parts) => capped_greatest(parts, at),
+        Bound::Power(base, exponent) => power(u128::from(*base), value_of(exponent, at)),
+    }
+}
+
+#[cycle(value)]
+fn capped_sum(parts: &[Bound], at: &[u128]) -> u128
+    requires { AllReadBelow (length at.now) (parts_of (sizes_of parts.now)) }
+    ensures { result ≡ capped (val_sum (parts_of (sizes_of parts.now)) at.now) }
+{
+    let mut total = 0;
+    for part in parts {
+        total = capped_add(total, value_of(part, at));
+    }
+    total
+}
+
+#[cycle(value)]
+fn capped_product(parts: &[Bound], at: &[u128]) -> u128
+    requires { AllReadBelow (length at.now) (parts_of (sizes_of parts.now)) }
+    ensures { result ≡ capped (val_product (parts_of (sizes_of parts.now)) at.now) }
+{
+    let mut product = 1;
+    for part in parts {
+        product = capped_multiply(product, value_of(part, at));
+    }
+    product
+}
+
+#[cycle(value)]
+fn capped_greatest(parts: &[Bound], at: &[u128]) -> u128
+    requires { AllReadBelow (length at.now) (parts_of (sizes_of parts.now)) }
+    ensures { result ≡ capped (val_greatest (parts_of (sizes_of parts.now)) at.now) }
+{
+    let mut greatest = 0u128;
+    for part in parts {
+        greatest = greatest.max(value_of(part, at));
+    }
+    greatest
+}
+
+/// The sum of two numbers, or 2^127 where it is greater.
+pub fn capped_add(a: u128, b: u128) -> u128
+    ensures { result ≡ capped (a + b) }
+{
+    a.saturating_add(b).min(CAP)
+}
+
+/// The product of two numbers, or 2^127 where it is greater.
+pub fn capped_multiply(a: u128, b: u128) -> u128
+    ensures { result ≡ capped (a * b) }
+{
+    a.saturating_mul(b).min(CAP)
+}
+
+// The capped power, by squares: as many steps as the exponent has bits.
+fn power(base: u128, exponent: u128) -> u128
+    ensures { result ≡ capped (base ^ exponent) }
+{
+    if exponent == 0 {
+        return 1;
+    }
+    let root = power(base, exponent / 2);
+    let square = capped_multiply(root, root);
+    if exponent % 2 == 0 {
+        square
+    } else {
+        capped_multiply(base, square)
+    }
+}

@@ -1,0 +1,20 @@
+//! Exact fractions of 128 bits. Each call answers the exact value, or `Range` exactly where a
+//! number of its own formula, as written and before any reduction, has an absolute value over
+//! 2^127 - 1. Nothing takes memory.
+#![tactic(auto)]
+
+ghost use Rattle.frac128.specs.Fraction.{EqualFractionsAreIdentical};
+
+mod divisor;
+mod frac;
+mod narrow;
+#[cfg(test)]
+mod tests;
+
+pub use frac::Frac;
+pub use narrow::Range;
+
+/// Fractions of the same value are the same: `==` compares values.
+pub fn equal_fractions_are_identical()
+    ensures { EqualFractionsAreIdentical }
+{}

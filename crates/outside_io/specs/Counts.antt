@@ -1,0 +1,15 @@
+-- Counts that a `u64` keeps: of calls and of faults.
+use Rattle.std.specs.Prelude.{ℕ, ◌+◌, ◌-◌, ◌^◌, ◌≤◌, ◌==◌, min, Bool, List}
+use Rattle.std.specs.List.{list_any}
+
+-- the count after one more; a count that has reached the greatest number stays there
+abbrev pub next_count : ℕ → ℕ
+next_count n = min (n + 1) (2 ^ 64 - 1)
+
+-- the count is greater than before, or has reached the greatest number
+abbrev pub Rose : ℕ → ℕ → Type 0
+Rose before now = next_count before ≤ now
+
+-- whether one of the numbers is that of the call
+unfoldable pub names_call : List ℕ → ℕ → Bool
+names_call numbers call = list_any (λ number. number == call) numbers

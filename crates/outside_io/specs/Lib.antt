@@ -1,0 +1,11 @@
+pub mod Counts
+pub mod Fetching
+pub mod FileShelf
+pub mod Files
+pub mod HeldFiles
+pub mod MemoryShelf
+pub mod MemorySink
+pub mod OutSink
+pub mod Putting
+pub mod SteadyShelf
+pub mod Stops

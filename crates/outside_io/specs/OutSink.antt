@@ -1,0 +1,11 @@
+-- What is seen of a writer as a sink.
+use Rattle.std.specs.Prelude.{ℕ}
+use Rattle.outside_io.specs.declared.out_sink.OutSink.{OutSink}
+
+-- where it writes
+abbrev pub writer_of : {W : Type 0} → OutSink W → W
+writer_of sink = sink.writer
+
+-- how many puts failed
+abbrev pub fault_count : {W : Type 0} → OutSink W → ℕ
+fault_count sink = sink.faults

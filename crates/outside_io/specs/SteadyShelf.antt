@@ -1,0 +1,13 @@
+-- What is seen of a shelf without faults.
+use Rattle.std.specs.Prelude.{ℕ}
+use Rattle.outside_io.specs.declared.steady.SteadyShelf.{SteadyShelf}
+use Rattle.outside_io.specs.Files.{Files}
+use Rattle.outside_io.specs.HeldFiles.{files_of}
+
+-- the files that it holds
+abbrev pub held_files : SteadyShelf → Files
+held_files shelf = files_of shelf.files.items
+
+-- how many bytes the last fetch took
+abbrev pub taken_count : SteadyShelf → ℕ
+taken_count shelf = shelf.taken

@@ -1,0 +1,36 @@
+//! Where bytes come in and go out: shelves, from which files are fetched by name, and sinks, into
+//! which pieces of text are put.
+//!
+//! The layer above is written over [`Shelf`] and [`Sink`] and rests on their clauses alone: `Ok` of
+//! a fetch gives the held bytes, `Ok` of a put appends the whole piece, and a failure comes only
+//! where a count of faults rose or the name isn't held. There are three pairs: in memory, with
+//! faults at chosen calls; steady, which never fails; and the files and the standard output of the
+//! system.
+#![tactic(auto)]
+
+mod file_shelf;
+mod held;
+mod memory_shelf;
+mod memory_sink;
+mod out_sink;
+mod reading;
+mod shelf;
+mod sink;
+mod steady;
+mod stop;
+#[cfg(test)]
+mod tests;
+
+pub use file_shelf::FileShelf;
+pub use held::{Held, first_file_of_a_name_counts};
+pub use memory_shelf::MemoryShelf;
+pub use memory_sink::MemorySink;
+pub use out_sink::OutSink;
+pub use shelf::{FetchError, Shelf};
+pub use sink::{PutFailed, Sink};
+use std::alloc::AllocError;
+pub use steady::{SteadyShelf, SteadySink, steady_counts_never_rise};
+pub use stop::Stop;
+
+/// Want of memory, as an error type of its own.
+pub type Memory = AllocError;

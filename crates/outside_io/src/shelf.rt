@@ -1,0 +1,60 @@
+// The shelf: files that are fetched by name.
+ghost use Rattle.std.specs.Prelude.{◌≡◌, ℕ, ◌≤◌, List, Option, IfOk, IsErrOf, ◌⊎◌, length};
+ghost use Rattle.outside_io.specs.Fetching.{IsTooLong, MayFail};
+ghost use Rattle.outside_io.specs.Files.{Files, IsHeld, Lacks};
+ghost use Rattle.outside_io.specs.declared.shelf.FetchError.TheVariants.{Memory};
+
+use std::alloc::{AllocError, Global};
+
+/// Why a fetch gave no bytes.
+#[derive(Clone, Copy, Debug, PartialEq, Eq, Hash)]
+pub enum FetchError {
+    /// The shelf couldn't give the file: a fault, or no file of this name.
+    Failed,
+    /// The file has more bytes than the limit.
+    TooLong,
+    /// Memory ran out.
+    Memory,
+}
+
+impl From<AllocError> for FetchError {
+    ghost from_gives = { λ _ e. e ≡ Memory };
+
+    fn from(_error: AllocError) -> FetchError {
+        FetchError::Memory
+    }
+}
+
+/// Where files are fetched by name.
+///
+/// Its meanings are `held`, what it holds, if it tells that; `taken`, how many bytes the last fetch
+/// took; and `faults`, a count of faults, kept in a `u64`, which stays at the greatest number.
+pub trait Shelf {
+    ghost held: { Self → Option Files };
+
+    ghost taken: { Self → ℕ };
+
+    ghost faults: { Self → ℕ };
+
+    /// The bytes of the file of this name, of which there may be at most `limit`.
+    ///
+    /// Errors: `Failed`, only where `faults` rose in this call or the shelf tells what it holds and
+    /// lacks the name; `TooLong`, only where the file has more bytes than `limit`; `Memory`. What
+    /// the shelf holds stays as it was, after each of them too.
+    fn fetch(&mut self, alloc: Global, name: &str, limit: u64) -> Result<Vec<u8>, FetchError>
+        ensures keeps_files { held self.new ≡ held self.old }
+        ensures keeps_count { faults self.old ≤ faults self.new }
+
+        ensures ok { IfOk result (λ file. IsHeld (held self.old) name.now file.items) }
+        ensures within { IfOk result (λ file. length file.items ≤ limit) }
+        ensures takes { IfOk result (λ file. taken self.new ≡ length file.items) }
+
+        ensures failed { IsErrOf result FetchError.Failed
+            → MayFail (held self.old) name.now (faults self.old) (faults self.new) }
+        ensures too_long { IsErrOf result FetchError.TooLong
+            → IsTooLong (held self.old) name.now limit (taken self.new) }
+
+        // A name that the shelf tells to lack never gets `Ok` or `TooLong`.
+        ensures lacking { Lacks (held self.old) name.now
+            → (IsErrOf result FetchError.Failed ⊎ IsErrOf result FetchError.Memory) };
+}
