@@ -1,0 +1,17 @@
+pub mod FrontLaws
+pub mod LexingLaws
+pub mod NameLaws
+pub mod TableLaws
+pub mod KeyLaws
+pub mod TreeReading
+pub mod Completion
+pub mod RuleLaws
+pub mod StepLaws
+pub mod SymbolLaws
+pub mod ArgumentLaws
+pub mod RuleReading
+pub mod RulesReading
+pub mod StartLaws
+pub mod ProgramReading
+pub mod ReadingLaws
+pub mod WritingLaws

@@ -1,0 +1,10 @@
+pub mod Lexing
+pub mod Written
+pub mod Numbering
+pub mod Spelling
+pub mod Fronts
+pub mod Lexemes
+pub mod Places
+pub mod Tables
+pub mod Variables
+pub mod Drafts

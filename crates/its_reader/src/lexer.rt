@@ -1,0 +1,108 @@
+// The text's pieces, one after the other.
+
+ghost use Rattle.std.specs.Prelude.{◌≡◌, ◌<◌, ◌≤◌, ◌∷◌, length, IfSome, MatchOption, IsFalse};
+ghost use Rattle.its_reader.specs.Lexing.{is_blank as is_blank_byte, begins_name as begins_name_at, continues_name as continues_name_at, AreBlank};
+ghost use Rattle.its_reader.specs.Fronts.{front, behind};
+ghost use Rattle.its_reader.specs.Lexemes.{BeginsName, Shows, Finds};
+
+/// A piece of the text, or what stands where a piece should.
+#[derive(Clone, Copy)]
+pub enum Lexeme<'a> {
+    Word(&'a [u8]),
+    OpenBracket,
+    CloseBracket,
+    Comma,
+    Arrow,
+    /// A byte that begins no piece.
+    Wrong,
+    /// A byte over 127.
+    Strange,
+}
+
+fn is_blank(byte: u8) -> bool
+    ensures { result ≡ is_blank_byte byte }
+{
+    byte == b' ' || byte == b'\t' || byte == b'\r' || byte == b'\n'
+}
+
+fn begins_name(byte: u8) -> bool
+    ensures { result ≡ begins_name_at byte }
+{
+    byte.is_ascii_alphabetic() || byte == b'_' || byte == b'$'
+}
+
+fn continues_name(byte: u8) -> bool
+    ensures { result ≡ continues_name_at byte }
+{
+    begins_name(byte) || byte.is_ascii_digit() || byte == b'\'' || byte == b'.'
+}
+
+fn behind_blanks(bytes: &[u8]) -> &[u8]
+    ensures value { result.now ≡ behind is_blank_byte bytes.now }
+    ensures shorter { length result.now ≤ length bytes.now }
+{
+    let mut text = bytes;
+    while let [first, rest @ ..] = text {
+        if !is_blank(*first) {
+            break;
+        }
+        text = rest;
+    }
+    text
+}
+
+// How many bytes from the front on go on a name.
+fn name_len(bytes: &[u8]) -> usize
+    ensures value { result ≡ length (front continues_name_at bytes.now) }
+    ensures within { result ≤ length bytes.now }
+{
+    for (i, byte) in bytes.iter().enumerate() {
+        if !continues_name(*byte) {
+            return i;
+        }
+    }
+    bytes.len()
+}
+
+// The name that a text begins with, and what follows it.
+fn word(text: &[u8]) -> (Lexeme<'_>, &[u8])
+    requires { BeginsName text.now }
+    ensures found { Shows text.now result.0 result.1.now }
+    ensures shorter { length result.1.now < length text.now }
+{
+    let (name, rest) = text.split_at(name_len(text));
+    (Lexeme::Word(name), rest)
+}
+
+// The piece that begins with a byte which begins no name, and what follows it.
+fn mark(first: u8, rest: &[u8]) -> (Lexeme<'_>, &[u8])
+    requires { IsFalse (begins_name_at first) }
+    ensures found { Shows (first ∷ rest.now) result.0 result.1.now }
+    ensures shorter { length result.1.now ≤ length rest.now }
+{
+    match first {
+        b'(' => (Lexeme::OpenBracket, rest),
+        b')' => (Lexeme::CloseBracket, rest),
+        b',' => (Lexeme::Comma, rest),
+        b'-' => match rest {
+            [b'>', behind @ ..] => (Lexeme::Arrow, behind),
+            _ => (Lexeme::Wrong, rest),
+        },
+        128.. => (Lexeme::Strange, rest),
+        _ => (Lexeme::Wrong, rest),
+    }
+}
+
+/// The first piece of the bytes, and what follows it. None where there is white space alone.
+pub fn next(bytes: &[u8]) -> Option<(Lexeme<'_>, &[u8])>
+    ensures found { MatchOption result (AreBlank bytes.now) (λ r. Finds bytes.now r.0 r.1.now) }
+    ensures shorter { IfSome result (λ r. length r.1.now < length bytes.now) }
+{
+    let text = behind_blanks(bytes);
+    let (first, rest) = text.split_first()?;
+    if begins_name(*first) {
+        Some(word(text))
+    } else {
+        Some(mark(*first, rest))
+    }
+}

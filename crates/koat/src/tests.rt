@@ -1,0 +1,179 @@
+// The program's answers, whole, on shelves and sinks in memory: every status with its text, and what follows a fault.
+
+use koat_cli::{Status, run};
+use outside_io::{Held, MemoryShelf, MemorySink, Stop};
+use std::alloc::{AllocError, Global};
+use std::test::Fail;
+
+const BEFORE: &str = "(STARTTERM (FUNCTIONSYMBOLS l0))(RULES ";
+
+const ONE_RULE: &str = "l0(A) -> Com_1(l1(A))";
+
+const BOUNDED: &[u8] = b"bounded\ntime 1: 1\ntotal: 1\n";
+
+const FORM: &[u8] = b"program refused: form\n";
+
+const CYCLE: &[u8] = b"program refused: cycle\n";
+
+const USAGE: &[u8] = b"usage: koat analyse FILE\n";
+
+// A program's text with these rules.
+fn text_of(alloc: Global, rules: &str) -> Result<Vec<u8>, AllocError> {
+    let mut text = Vec::from_slice(alloc, BEFORE.as_bytes())?;
+    text.extend_from_slice(rules.as_bytes())?;
+    text.extend_from_slice(b")")?;
+    Ok(text)
+}
+
+// A file of this name.
+fn file(alloc: Global, name: &str, bytes: Vec<u8>) -> Result<Held, AllocError> {
+    Ok(Held {
+        name: String::from_str(alloc, name)?,
+        bytes,
+    })
+}
+
+// The files of a shelf that holds one.
+fn one_file(alloc: Global, name: &str, bytes: Vec<u8>) -> Result<Vec<Held>, AllocError> {
+    let mut files = Vec::new(alloc);
+    files.push(file(alloc, name, bytes)?)?;
+    Ok(files)
+}
+
+fn words_of(alloc: Global, words: &[&str]) -> Result<Vec<String>, AllocError> {
+    let mut all = Vec::new(alloc);
+    for word in words {
+        all.push(String::from_str(alloc, word)?)?;
+    }
+    Ok(all)
+}
+
+#[test]
+fn programs_are_analysed_or_refused(rt: HostRuntime) -> Result<(), Fail> {
+    let alloc = rt.alloc();
+    let table: [(&str, Status, &[u8]); 8] = [
+        (ONE_RULE, Status::Done, BOUNDED),
+        (
+            "l0(A) -> Com_1(l1(A)) l1(A) -> Com_1(l2(A)) l0(A) -> Com_1(l2(A))",
+            Status::Done,
+            b"bounded\ntime 1: 1\ntime 2: 1\ntime 3: 1\ntotal: 3\n",
+        ),
+        ("l0(A) -> Com_1(l0(A))", Status::ProgramRefused, CYCLE),
+        (
+            "l0(A) -> Com_1(l1(A)) l1(A) -> Com_1(l0(A))",
+            Status::ProgramRefused,
+            CYCLE,
+        ),
+        (
+            "l0(A) -> Com_1(l1(A)) l1(A) -> Com_1(l1(A-1)) :|: A >= 1",
+            Status::ProgramRefused,
+            FORM,
+        ),
+        ("l1(A) -> Com_1(l1(A))", Status::ProgramRefused, FORM),
+        ("", Status::ProgramRefused, FORM),
+        (
+            "l0(B,A) -> Com_1(l1(A,A,B)) l7() -> Com_1(l8())",
+            Status::Done,
+            b"bounded\ntime 1: 1\ntime 2: 1\ntotal: 2\n",
+        ),
+    ];
+    let words = words_of(alloc, &["analyse", "p"])?;
+    for (rules, status, output) in table {
+        let files = one_file(alloc, "p", text_of(alloc, rules)?)?;
+        let mut shelf = MemoryShelf::new(files, Vec::new(alloc));
+        let mut sink = MemorySink::new(alloc, 999, Vec::new(alloc))?;
+        assert_eq!(rt;
+            run(alloc, &words, &mut shelf, &mut sink),
+            status,
+            "at {rules}"
+        );
+        assert_eq!(rt; sink.bytes(), output, "at {rules}");
+        assert_eq!(rt; shelf.calls(), 1);
+    }
+    Ok(())
+}
+
+#[test]
+fn words_are_a_command_line_or_get_the_usage(rt: HostRuntime) -> Result<(), Fail> {
+    let alloc = rt.alloc();
+    let table: [(&[&str], Status, &[u8]); 12] = [
+        (&["analyse", "p"], Status::Done, BOUNDED),
+        (&["analyse", "-"], Status::Done, BOUNDED),
+        (&["analyse", ""], Status::Done, BOUNDED),
+        (&[], Status::Usage, USAGE),
+        (&["analyse"], Status::Usage, USAGE),
+        (&["analyse", "-p"], Status::Usage, USAGE),
+        (&["analyse", "--"], Status::Usage, USAGE),
+        (&["analyse", "p", "p"], Status::Usage, USAGE),
+        (&["analyse", "--pivots", "01", "p"], Status::Usage, USAGE),
+        (&["Analyse", "p"], Status::Usage, USAGE),
+        (&["prove", "p"], Status::Usage, USAGE),
+        (&["--help"], Status::Usage, USAGE),
+    ];
+    for (words, status, output) in table {
+        let mut files = Vec::new(alloc);
+        for name in ["p", "-", ""] {
+            files.push(file(alloc, name, text_of(alloc, ONE_RULE)?)?)?;
+        }
+        let mut shelf = MemoryShelf::new(files, Vec::new(alloc));
+        let mut sink = MemorySink::new(alloc, 999, Vec::new(alloc))?;
+        let words = words_of(alloc, words)?;
+        assert_eq!(rt; run(alloc, &words, &mut shelf, &mut sink), status);
+        assert_eq!(rt; sink.bytes(), output);
+    }
+    Ok(())
+}
+
+#[test]
+fn another_call_may_follow_a_fault(rt: HostRuntime) -> Result<(), Fail> {
+    let alloc = rt.alloc();
+    let words = words_of(alloc, &["analyse", "p"])?;
+    let files = one_file(alloc, "p", text_of(alloc, ONE_RULE)?)?;
+    let mut shelf = MemoryShelf::new(files, vec![in alloc; 1, 3]?);
+    let stop = Stop { call: 2, bytes: 3 };
+    let late = Stop { call: 3, bytes: 4 };
+    let mut sink = MemorySink::new(alloc, 999, vec![in alloc; stop, late]?)?;
+    assert_eq!(rt;
+        run(alloc, &words, &mut shelf, &mut sink),
+        Status::ReadFault
+    );
+    assert_eq!(rt;
+        run(alloc, &words, &mut shelf, &mut sink),
+        Status::WriteFault
+    );
+    assert_eq!(rt;
+        run(alloc, &words, &mut shelf, &mut sink),
+        Status::WriteFault
+    );
+    assert_eq!(rt; run(alloc, &words, &mut shelf, &mut sink), Status::Done);
+    let mut wanted = Vec::from_slice(alloc, b"read fault\nbouread")?;
+    wanted.extend_from_slice(BOUNDED)?;
+    assert_eq!(rt; sink.bytes(), wanted.as_slice());
+    Ok(())
+}
+
+#[test]
+fn files_that_are_missing_or_too_long_are_told(rt: HostRuntime) -> Result<(), Fail> {
+    let alloc = rt.alloc();
+    let words = words_of(alloc, &["analyse", "p"])?;
+    let blanks = |count: usize| vec![in alloc; b' '; count];
+    let table: [(&str, usize, Status, &[u8]); 4] = [
+        ("p", 0, Status::ProgramRefused, FORM),
+        ("p", 4_194_304, Status::ProgramRefused, FORM),
+        (
+            "p",
+            4_194_305,
+            Status::ProgramRefused,
+            b"program refused: too long\n",
+        ),
+        ("q", 0, Status::ReadFault, b"read fault\n"),
+    ];
+    for (name, count, status, output) in table {
+        let files = one_file(alloc, name, blanks(count)?)?;
+        let mut shelf = MemoryShelf::new(files, Vec::new(alloc));
+        let mut sink = MemorySink::new(alloc, 999, Vec::new(alloc))?;
+        assert_eq!(rt; run(alloc, &words, &mut shelf, &mut sink), status);
+        assert_eq!(rt; sink.bytes(), output);
+    }
+    Ok(())
+}

@@ -1,0 +1,9 @@
+// What the causes of the statuses have to do with each other.
+
+ghost use Rattle.koat_cli.specs.Exclusion.{CausesExcludeEachOther};
+
+/// The law that no two statuses have their causes in one call of `run` on a shelf that tells what it holds. So each
+/// status comes exactly where its cause stands, but for faults and want of memory. It has no code: its contract is the law.
+pub fn causes_exclude_each_other()
+    ensures { CausesExcludeEachOther }
+{}

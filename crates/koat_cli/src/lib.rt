@@ -1,0 +1,16 @@
+// The program's top call, from the words of the command line to the status. Its contract is the theorem: after status 0
+// the report on the sink is true on every run of the program that the file spells.
+#![tactic(auto)]
+
+mod analysis;
+mod law;
+mod preparation;
+mod report_lines;
+mod said;
+mod status;
+mod top_call;
+mod words;
+
+pub use law::causes_exclude_each_other;
+pub use status::Status;
+pub use top_call::run;

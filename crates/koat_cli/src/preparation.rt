@@ -1,0 +1,43 @@
+// What the program says, before it is written.
+
+ghost use Rattle.std.specs.Prelude.{◌≡◌, ◌≤◌, map, string_bytes, IfOk};
+ghost use Rattle.koat_cli.specs.Causes.{call_of};
+ghost use Rattle.koat_cli.specs.Ends.{Says};
+
+use crate::analysis::analyse;
+use crate::said::{Said, say};
+use crate::status::Status;
+use crate::words::file_to_analyse;
+use its_graph::Memory;
+use outside_io::{FetchError, Shelf};
+use std::alloc::{AllocError, Global};
+
+/// How many bytes a program's text may have.
+const PROGRAM_LIMIT: u64 = 4_194_304;
+
+/// The status and the text of a call with these words. The shelf keeps what it holds.
+pub(crate) fn prepare<F: Shelf>(
+    alloc: Global,
+    words: &[String],
+    shelf: &mut F,
+) -> Result<Said, Memory>
+    ensures keeps_files { F.held shelf.new ≡ F.held shelf.old }
+    ensures keeps_count { F.faults shelf.old ≤ F.faults shelf.new }
+    ensures says { IfOk result (λ said. Says said.status
+        (call_of (map string_bytes words.now) (F.held shelf.old) (F.faults shelf.old) (F.faults shelf.new) (F.taken shelf.new))
+        said.text.items) }
+{
+    let Some(file) = file_to_analyse(words) else {
+        return say(alloc, Status::Usage, b"usage: koat analyse FILE\n");
+    };
+    match shelf.fetch(alloc, file, PROGRAM_LIMIT) {
+        Ok(bytes) => analyse(alloc, &bytes),
+        Err(FetchError::Failed) => say(alloc, Status::ReadFault, b"read fault\n"),
+        Err(FetchError::TooLong) => say(
+            alloc,
+            Status::ProgramRefused,
+            b"program refused: too long\n",
+        ),
+        Err(FetchError::Memory) => Err(AllocError),
+    }
+}

@@ -1,0 +1,40 @@
+// How the program ends.
+
+/// The status with which the program ends. Its number is its place in this list, from 0.
+#[derive(Clone, Copy, Debug, PartialEq, Eq)]
+pub enum Status {
+    /// The output is written, and with `analyse` each rule has a bound.
+    Done,
+    /// The output is written, and some rule has no bound.
+    Unknown,
+    /// The words are no command line.
+    Usage,
+    /// A file couldn't be read.
+    ReadFault,
+    /// The text couldn't be written whole.
+    WriteFault,
+    /// Memory ran out. Nothing was written.
+    Memory,
+    /// The program text is refused.
+    ProgramRefused,
+    /// The proof text is refused.
+    ProofRefused,
+    /// The proof isn't accepted.
+    No,
+    /// The run text is refused.
+    RunRefused,
+    /// The steps are no run.
+    NotARun,
+}
+
+impl Status {
+    ghost use Rattle.std.specs.Prelude.{◌≡◌};
+    ghost use Rattle.koat_cli.specs.Numbers.{number_of};
+
+    /// The number with which the process ends, from 0 to 10.
+    pub fn code(self) -> u8
+        ensures { result ≡ number_of self }
+    {
+        self as u8
+    }
+}

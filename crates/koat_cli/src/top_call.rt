@@ -1,0 +1,65 @@
+// The top call.
+
+ghost use Rattle.std.specs.Prelude.{◌≡◌, ◌≤◌, map, string_bytes, IsSome};
+ghost use Rattle.koat_cli.specs.Causes.{IsBounded, IsUsage, IsReadFault, IsProgramRefused, call_of};
+ghost use Rattle.koat_cli.specs.Ends.{Wrote, Broke, IsStatusOfAnalyse};
+
+use crate::preparation::prepare;
+use crate::status::Status;
+use outside_io::{PutFailed, Shelf, Sink};
+use std::alloc::Global;
+
+/// Does all that the program does for the words after its name, and answers how it ended.
+///
+/// `analyse FILE` fetches the file, of at most 4,194,304 bytes, and writes its report by one put; other words get the
+/// usage text. The program texts are those of integer transition systems in the KoAT format, in the form that
+/// `its_reader::read` takes, and the report gives each rule a bound on how often it occurs in a run.
+///
+/// - `Done`: the file spells a program without a cycle, and its report was written. On every run of the program, from
+///   any integers and by any choice of rules, each rule occurs at most once, and there are at most as many steps as the
+///   total says.
+/// - `Usage`: the words are anything but `analyse FILE`.
+/// - `ReadFault`: the shelf had a fault in this call, or tells that it lacks the file.
+/// - `ProgramRefused`: the file has too many bytes, spells no program within the limits, or spells one with a cycle.
+/// - `WriteFault`: the sink had a fault; some first bytes of the text of the status that would have come were written.
+/// - `Memory`: memory ran out; the sink is as it was.
+///
+/// With each status but the last two the whole text of the status was written behind what the sink held. What the shelf
+/// holds stays as it was. Another call may follow any status.
+pub fn run<F: Shelf, S: Sink>(
+    alloc: Global,
+    words: &[String],
+    shelf: &mut F,
+    sink: &mut S,
+) -> Status
+    ensures done { result ≡ Status.Done → Wrote
+        (IsBounded (call_of (map string_bytes words.now) (F.held shelf.old) (F.faults shelf.old) (F.faults shelf.new) (F.taken shelf.new)))
+        (S.written sink.old) (S.written sink.new) }
+    ensures usage { result ≡ Status.Usage → Wrote
+        (IsUsage (call_of (map string_bytes words.now) (F.held shelf.old) (F.faults shelf.old) (F.faults shelf.new) (F.taken shelf.new)))
+        (S.written sink.old) (S.written sink.new) }
+    ensures read_fault { result ≡ Status.ReadFault → Wrote
+        (IsReadFault (call_of (map string_bytes words.now) (F.held shelf.old) (F.faults shelf.old) (F.faults shelf.new) (F.taken shelf.new)))
+        (S.written sink.old) (S.written sink.new) }
+    ensures program_refused { result ≡ Status.ProgramRefused → Wrote
+        (IsProgramRefused (call_of (map string_bytes words.now) (F.held shelf.old) (F.faults shelf.old) (F.faults shelf.new) (F.taken shelf.new)))
+        (S.written sink.old) (S.written sink.new) }
+    ensures write_fault { result ≡ Status.WriteFault → Broke
+        (call_of (map string_bytes words.now) (F.held shelf.old) (F.faults shelf.old) (F.faults shelf.new) (F.taken shelf.new))
+        (S.faults sink.old) (S.faults sink.new) (S.written sink.old) (S.written sink.new) }
+    ensures memory { result ≡ Status.Memory → sink.new ≡ sink.old }
+    ensures no_other { IsStatusOfAnalyse result }
+
+    ensures keeps_files { F.held shelf.new ≡ F.held shelf.old }
+    ensures keeps_shelf_count { F.faults shelf.old ≤ F.faults shelf.new }
+    ensures keeps_sink_count { S.faults sink.old ≤ S.faults sink.new }
+    ensures keeps_telling { IsSome (S.written sink.old) → IsSome (S.written sink.new) }
+{
+    let Ok(said) = prepare(alloc, words, shelf) else {
+        return Status::Memory;
+    };
+    match sink.put(&said.text) {
+        Ok(()) => said.status,
+        Err(PutFailed) => Status::WriteFault,
+    }
+}
