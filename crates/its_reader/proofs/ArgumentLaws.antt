@@ -1,5 +1,5 @@
 -- The arguments of a term are read exactly where they are distinct, or among the variables, and within the limits.
-use Rattle.std.proofs.Common.{◌≡◌, ℕ, ◌+◌, ◌<◌, ◌≤◌, Bool, true, false, not, ◌&&◌, ◌||◌, List, [], ◌∷◌, ◌++◌, length, append_assoc, append-nil, refl, sym, ap, ◌∙◌, map, arith, nat_lt, Some}
+use Rattle.std.proofs.Common.{◌≡◌, ◌+◌, ◌<◌, ◌≤◌, Bool, true, false, not, ◌||◌, List, [], ◌∷◌, ◌++◌, length, append_assoc, append-nil, refl, sym, ap, ◌∙◌, map, arith, nat_lt, Some}
 use Rattle.std.proofs.lemmas.Bool.Decides.{nat_tests}
 use Rattle.std.proofs.lemmas.Cmp.{nat_list_eq_equiv}
 use Rattle.std.specs.List.{AllByRecursion}
@@ -10,22 +10,7 @@ use Rattle.its_reader.specs.Numbering.{is_same, is_among, place_of, AreDistinct}
 use Rattle.its_reader.specs.Spelling.{IsShort}
 use Rattle.its_reader.specs.Places.{Book, Source, is_short, can_add_left, can_add_right, with_update, close_left, close_right}
 use Rattle.its_reader.proofs.TreeReading.{left_read, right_read}
-use Rattle.its_reader.proofs.RuleLaws.{when_some, some_when}
-
--- a test of three parts passes where each part does
-pub all_three : (a b c : Bool) → a && b && c ≡ true → (a ≡ true) × (b ≡ true) × (c ≡ true)
-all_three true true c h = (refl, refl, h)
-all_three true false c h = cc
-all_three false b c h = cc
-
--- and back
-pub three_all : (a b c : Bool) → a ≡ true → b ≡ true → c ≡ true → a && b && c ≡ true
-three_all a b c h k l = rw (h, k, l) refl
-
--- a negation that holds
-not_holds : (a : Bool) → not a ≡ true → a ≡ false
-not_holds true h = cc
-not_holds false h = refl
+use Rattle.its_reader.proofs.TestLaws.{all_three, three_all, neither, not_holds, below_passes, passes_below, when_some, some_when}
 
 -- a short name passes the test for it
 pub short_passes : (n : Name) → IsShort n → is_short n ≡ true
@@ -34,14 +19,6 @@ short_passes n h = grind (arith, nat_tests)
 -- and back
 pub passes_short : (n : Name) → is_short n ≡ true → IsShort n
 passes_short n h = grind (arith, nat_tests)
-
--- a number below another passes the test for it
-below_passes : (a b : ℕ) → a < b → nat_lt a b ≡ true
-below_passes a b h = grind (arith, nat_tests)
-
--- and back
-passes_below : (a b : ℕ) → nat_lt a b ≡ true → a < b
-passes_below a b h = grind (arith, nat_tests)
 
 -- a name is among others and one more where it is among the others or the one
 among_push : (n a : Name) (names : List Name) → is_among n (names ++ a ∷ []) ≡ (is_among n names || is_same n a)
@@ -53,11 +30,6 @@ among_push n a (m ∷ names) = go (is_same n m) (among_push n a names) where
   go : (b : Bool) → is_among n (names ++ a ∷ []) ≡ (is_among n names || is_same n a) → (b || is_among n (names ++ a ∷ [])) ≡ ((b || is_among n names) || is_same n a)
   go true ih = refl
   go false ih = ih
-
--- neither of two tests passes where their alternative doesn't
-neither : (a b : Bool) → a || b ≡ false → (a ≡ false) × (b ≡ false)
-neither true b h = cc
-neither false b h = (refl, h)
 
 -- no name is one that isn't among the others
 none_same : (a : Name) (names : List Name) → is_among a names ≡ false → AllByRecursion (λ n. is_same n a ≡ false) names

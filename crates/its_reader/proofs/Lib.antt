@@ -1,9 +1,10 @@
 pub mod FrontLaws
 pub mod LexingLaws
 pub mod NameLaws
-pub mod TableLaws
 pub mod KeyLaws
+pub mod TableLaws
 pub mod TreeReading
+pub mod TestLaws
 pub mod Completion
 pub mod RuleLaws
 pub mod StepLaws

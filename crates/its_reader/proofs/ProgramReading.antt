@@ -7,7 +7,7 @@ use Rattle.its_reader.specs.Numbering.{has_symbol, number_of, symbols_of, terms_
 use Rattle.its_reader.specs.Spelling.{IsWithin}
 use Rattle.its_reader.specs.Places.{Book, empty_book, with_start, is_short, program_of_book, finished}
 use Rattle.its_reader.proofs.TreeReading.{rules_read, program_read}
-use Rattle.its_reader.proofs.RuleLaws.{and_then_some, some_and_then, when_some, some_when}
+use Rattle.its_reader.proofs.TestLaws.{and_then_some, some_and_then, when_some, some_when}
 use Rattle.its_reader.proofs.ArgumentLaws.{short_passes, passes_short}
 use Rattle.its_reader.proofs.RulesReading.{RulesFit, rules_found, rules_again}
 use Rattle.its_reader.proofs.StartLaws.{sources_known, source_known, first_rule, first_found, found_first}

@@ -16,7 +16,7 @@ use Rattle.its_reader.specs.declared.error.ReadError.{ReadError}
 use Rattle.its_reader.specs.declared.error.ReadError.TheVariants.{Form, Memory}
 use Rattle.its_reader.proofs.LexingLaws.{takes_behind, begins_unique, takes_not_blank}
 use Rattle.its_reader.proofs.TreeReading.{rules_read, program_read}
-use Rattle.its_reader.proofs.RuleLaws.{and_then_some, some_and_then, when_some, some_when}
+use Rattle.its_reader.proofs.TestLaws.{and_then_some, some_and_then, when_some, some_when}
 use Rattle.its_reader.proofs.Completion.{Completes, CompletesAfter}
 use Rattle.its_reader.proofs.StepLaws.{forward, backward, forward_end, backward_end}
 use Rattle.its_reader.proofs.ProgramReading.{program_found, program_again}

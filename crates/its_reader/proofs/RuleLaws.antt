@@ -1,30 +1,13 @@
 -- A rule at the front of what is left: its pieces lead through its places, one after the other.
-use Rattle.std.proofs.Common.{◌≡◌, Bool, true, false, cond, List, [], ◌∷◌, Option, Some, None, refl, ap, subst, ◌∙◌}
+use Rattle.std.proofs.Common.{◌≡◌, true, List, [], ◌∷◌, Some, refl, ap, subst}
 use Rattle.std.specs.Prelude.{codes}
 use Rattle.model.specs.Programs.{Name, Program}
 use Rattle.its_reader.specs.Lexing.{Piece, Word, OpenBracket, CloseBracket, Arrow}
 use Rattle.its_reader.specs.Written.{WrittenRule, arguments_then, target_then, rules_then}
 use Rattle.its_reader.specs.Places.{Book, Source, can_begin_rule, can_be_target, finished}
-use Rattle.its_reader.proofs.TreeReading.{and_then, left_read, right_read, target_read, rule_read, rules_read}
+use Rattle.its_reader.proofs.TreeReading.{left_read, right_read, target_read, rule_read, rules_read}
+use Rattle.its_reader.proofs.TestLaws.{when_some, some_when, and_then_some, some_and_then}
 use Rattle.its_reader.proofs.Completion.{AtEnd, AtRules, AtLeftNamed}
-
--- what follows from a value is there where both are
-pub and_then_some : {X Y : Type 0} (o : Option X) (f : X → Option Y) (y : Y) → and_then o f ≡ Some y → (x : X) × (o ≡ Some x) × (f x ≡ Some y)
-and_then_some None f y e = cc
-and_then_some (Some x) f y e = (x, refl, e)
-
--- a value that hangs on a test is there where the test passes
-pub when_some : {X : Type 0} (t : Bool) (o : Option X) (x : X) → cond t o None ≡ Some x → (t ≡ true) × (o ≡ Some x)
-when_some true o x e = (refl, e)
-when_some false o x e = cc
-
--- and back
-pub some_when : {X : Type 0} (t : Bool) (o : Option X) (x : X) → t ≡ true → o ≡ Some x → cond t o None ≡ Some x
-some_when t o x h e = ap (λ b. cond b o None) h ∙ e
-
--- and back
-pub some_and_then : {X Y : Type 0} (o : Option X) (f : X → Option Y) (x : X) (y : Y) → o ≡ Some x → f x ≡ Some y → and_then o f ≡ Some y
-some_and_then o f x y e g = ap (λ v. and_then v f) e ∙ g
 
 -- how a rule is read: its left term, then its right one
 pub record ReadsRule (b : Book) (r : WrittenRule) (c : Book) : Type 0 where

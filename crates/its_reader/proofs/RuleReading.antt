@@ -1,7 +1,6 @@
 -- A rule is read exactly where it is one, within the limits, and its terms have as many arguments as their symbols have places.
-use Rattle.std.proofs.Common.{◌≡◌, ℕ, ◌+◌, ◌<◌, ◌≤◌, suc, Bool, true, false, not, ◌&&◌, List, [], ◌∷◌, ◌++◌, length, refl, sym, ap, subst, ◌∙◌, arith, nat_eq, nat_lt, Option, Some, eq-eqb}
+use Rattle.std.proofs.Common.{◌≡◌, ℕ, ◌+◌, ◌<◌, ◌≤◌, suc, false, not, List, [], ◌∷◌, ◌++◌, length, refl, sym, ap, subst, ◌∙◌, arith, nat_eq, nat_lt, Option, Some, eq-eqb}
 use Rattle.std.proofs.lemmas.Bool.{eqb-true}
-use Rattle.std.proofs.lemmas.Bool.Decides.{nat_tests}
 use Rattle.std.specs.List.{AllByRecursion}
 use Rattle.model.specs.Terms.{Term}
 use Rattle.model.specs.Programs.{Name, Symbol, Rule}
@@ -10,17 +9,9 @@ use Rattle.its_reader.specs.Numbering.{with_symbol, symbol_of, number_of, arity_
 use Rattle.its_reader.specs.Spelling.{IsSmall}
 use Rattle.its_reader.specs.Places.{Book, Source, when, with_named, is_short}
 use Rattle.its_reader.proofs.TreeReading.{right_read, rule_read}
+use Rattle.its_reader.proofs.TestLaws.{both, and_both, not_holds, below_passes, passes_below, when_value, value_when}
 use Rattle.its_reader.proofs.RuleLaws.{rule_reads, reads_rule}
 use Rattle.its_reader.proofs.ArgumentLaws.{updates_to, left_found, left_again, right_found, right_again, short_passes, passes_short}
-
--- a value that is there where a test passes
-when_value : {X : Type 0} (t : Bool) (x y : X) → when t x ≡ Some y → (t ≡ true) × (y ≡ x)
-when_value true x y e = (refl, cc)
-when_value false x y e = cc
-
--- and back
-value_when : {X : Type 0} (t : Bool) (x : X) → t ≡ true → when t x ≡ Some x
-value_when t x h = ap (λ b. when b x) h
 
 -- as many variables as names
 length-updates_to : (variables names : List Name) → length (updates_to variables names) ≡ length names
@@ -60,20 +51,6 @@ pub record RuleFits (b : Book) (r : WrittenRule) : Type 0 where
   pub left_arity : arity_of (symbols_left b r) r.left.name ≡ length r.left.arguments
   pub right_arity : arity_of (symbols_right b r) r.right.name ≡ length r.right.arguments
 
--- two tests pass where both do
-both : (a b : Bool) → a && b ≡ true → (a ≡ true) × (b ≡ true)
-both true b h = (refl, h)
-both false b h = cc
-
--- and back
-and_both : (a b : Bool) → a ≡ true → b ≡ true → a && b ≡ true
-and_both a b h k = rw (h, k) refl
-
--- a negation that holds
-not_holds : (a : Bool) → not a ≡ true → a ≡ false
-not_holds true h = cc
-not_holds false h = refl
-
 -- the source that a left term makes
 abbrev source_by : Book → WrittenRule → Source
 source_by b r = record { book = with_named b r.left.name (length r.left.arguments); number = number_of (symbols_left b r) r.left.name; variables = r.left.arguments }
@@ -106,7 +83,7 @@ rule_found b r d e =
     let closes : close_at b r (updates_to r.left.arguments r.right.arguments) (length r.right.arguments) ≡ Some d
     = ap (close_at b r (updates_to r.left.arguments r.right.arguments)) (sym (length-updates_to r.left.arguments r.right.arguments)) ∙ right.1 in
     let after = when_value (nat_eq (arity_of (symbols_right b r) r.right.name) (length r.right.arguments)) (book_after b r) d closes in
-    let few : length b.rules < 1000 = below (length b.rules) begins.1 in (
+    let few : length b.rules < 1000 = passes_below (length b.rules) 1000 begins.1 in (
       record {
         count = few;
         is_rule = record { left = left.0.distinct; right = right.0.known; target = not_holds (is_com r.right.name) target.1 };
@@ -118,16 +95,13 @@ rule_found b r d e =
       after.1,
     )
   where
-    below : (n : ℕ) → nat_lt n 1000 ≡ true → n < 1000
-    below n h = grind (arith, nat_tests)
-
     small : {n : ℕ} → 0 + n ≤ 32 → n ≤ 32
     small h = omega arith
 
 -- a rule that fits is read
 pub rule_again : (b : Book) (r : WrittenRule) → RuleFits b r → rule_read b r ≡ Some (book_after b r)
 rule_again b r h = reads_rule b r (book_after b r) (record {
-  begins = and_both (is_short r.left.name) (nat_lt (length b.rules) 1000) (short_passes r.left.name h.left_small.name) (below (length b.rules) h.count);
+  begins = and_both (is_short r.left.name) (nat_lt (length b.rules) 1000) (short_passes r.left.name h.left_small.name) (below_passes (length b.rules) 1000 h.count);
   source = source_by b r;
   left = left_again b r.left.name [] r.left.arguments (source_by b r)
       (record { distinct = h.is_rule.left; new = all_new r.left.arguments; short = h.left_small.arguments; arity = small h.left_small.arity })
@@ -139,9 +113,6 @@ rule_again b r h = reads_rule b r (book_after b r) (record {
       ∙ value_when (nat_eq (arity_of (symbols_right b r) r.right.name) (length r.right.arguments)) (book_after b r) (eq-eqb _ _ h.right_arity));
 })
   where
-    below : (n : ℕ) → n < 1000 → nat_lt n 1000 ≡ true
-    below n h = grind (arith, nat_tests)
-
     small : {n : ℕ} → n ≤ 32 → 0 + n ≤ 32
     small h = omega arith
 

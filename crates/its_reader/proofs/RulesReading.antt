@@ -7,7 +7,7 @@ use Rattle.its_reader.specs.Numbering.{with_terms, symbol_of, number_of, arity_o
 use Rattle.its_reader.specs.Spelling.{IsSmall}
 use Rattle.its_reader.specs.Places.{Book}
 use Rattle.its_reader.proofs.TreeReading.{rule_read, rules_read}
-use Rattle.its_reader.proofs.RuleLaws.{and_then_some, some_and_then}
+use Rattle.its_reader.proofs.TestLaws.{and_then_some, some_and_then}
 use Rattle.its_reader.proofs.SymbolLaws.{Extends, extends_both, extends_symbol, extends_terms, has_with_symbol, number_extended, arity_extended}
 use Rattle.its_reader.proofs.RuleReading.{RuleFits, rule_found, rule_again, symbols_left, symbols_right, rule_by, book_after}
 

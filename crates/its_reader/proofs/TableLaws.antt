@@ -1,20 +1,34 @@
 -- A table of names, and the symbols that it stands for.
-use Rattle.std.proofs.Common.{◌≡◌, ℕ, ◌+◌, Bool, true, false, cond, not, ◌||◌, List, [], ◌∷◌, ◌++◌, length, refl, sym, ap, ◌∙◌, Some, None, map, nat_lt, suc, arith}
+use Rattle.std.proofs.Common.{◌≡◌, ℕ, ◌+◌, Bool, true, false, cond, not, ◌||◌, List, [], ◌∷◌, ◌++◌, length, refl, sym, ap, ◌∙◌, Some, None, map, suc, arith}
 use Rattle.std.specs.Map.{lookup, keys_of}
 use Rattle.std.specs.List.{position, position_or_len}
 use Rattle.indexmap.specs.IndexMap.{insert_entry}
 use Rattle.its_model.specs.Views.{name_of}
 use Rattle.its_model.specs.declared.name.Name.{Name}
 use Rattle.model.specs.Programs as plain
-use Rattle.its_reader.specs.Numbering.{is_same, has_symbol, number_of, arity_of}
+use Rattle.its_reader.specs.Numbering.{is_same, place_of, names_of, has_symbol, number_of, arity_of}
 use Rattle.its_reader.specs.Tables.{as_symbol}
 use Rattle.its_reader.proofs.NameLaws.{is_same_self}
+use Rattle.its_reader.proofs.KeyLaws.{key_place, position_place}
 
 -- the symbols that entries stand for
 abbrev pub symbols_at : List (Name × ℕ) → List plain.Symbol
 symbols_at es = map (λ e. as_symbol e.0 e.1) es
 
+-- the names of the symbols are those of the keys
+names-symbols_at : (es : List (Name × ℕ)) → names_of (symbols_at es) ≡ map name_of (keys_of es)
+names-symbols_at [] = refl
+names-symbols_at (e ∷ es) = ap (λ ns. name_of e.0 ∷ ns) (names-symbols_at es)
+
 module _ (n : plain.Name) (test : Name → Bool) (same : (k : Name) → test k ≡ is_same n (name_of k)) where
+  -- the place of the key is the number of the symbol
+  pub key_number : (es : List (Name × ℕ)) → position_or_len test (keys_of es) ≡ number_of (symbols_at es) n
+  key_number es = key_place n test same (keys_of es) ∙ ap (place_of n) (sym (names-symbols_at es))
+
+  -- a key that is found is found at the number of the symbol
+  pub position_number : (es : List (Name × ℕ)) (i : ℕ) → position test (keys_of es) ≡ Some i → i ≡ number_of (symbols_at es) n
+  position_number es i h = position_place n test same (keys_of es) i h ∙ ap (place_of n) (sym (names-symbols_at es))
+
   -- a table without the name stands for symbols without it
   pub lookup_none : (es : List (Name × ℕ)) → lookup test es ≡ None → has_symbol (symbols_at es) n ≡ false
   lookup_none [] h = refl
@@ -27,21 +41,10 @@ module _ (n : plain.Name) (test : Name → Bool) (same : (k : Name) → test k �
   pub lookup_some : (es : List (Name × ℕ)) (v : ℕ) → lookup test es ≡ Some v → (has_symbol (symbols_at es) n ≡ true) × (v ≡ arity_of (symbols_at es) n)
   lookup_some [] v h = cc
   lookup_some (e ∷ es) v h = go (test e.0) (same e.0) h (lookup_some es v) where
-    go : (b : Bool) → b ≡ is_same n (name_of e.0) → cond b (Some e.1) (lookup test es) ≡ Some v → (lookup test es ≡ Some v → (has_symbol (symbols_at es) n ≡ true) × (v ≡ arity_of (symbols_at es) n)) → (is_same n (name_of e.0) || has_symbol (symbols_at es) n ≡ true) × (v ≡ cond (is_same n (name_of e.0)) e.1 (arity_of (symbols_at es) n))
+    go : (b : Bool) → b ≡ is_same n (name_of e.0) → cond b (Some e.1) (lookup test es) ≡ Some v → (lookup test es ≡ Some v → (has_symbol (symbols_at es) n ≡ true) × (v ≡ arity_of (symbols_at es) n))
+        → (is_same n (name_of e.0) || has_symbol (symbols_at es) n ≡ true) × (v ≡ cond (is_same n (name_of e.0)) e.1 (arity_of (symbols_at es) n))
     go true s h ih = rw (sym s) (refl, cc)
     go false s h ih = rw (sym s) (ih h)
-
-  -- the place of the key is the number of the symbol
-  pub key_number : (es : List (Name × ℕ)) → position_or_len test (keys_of es) ≡ number_of (symbols_at es) n
-  key_number [] = refl
-  key_number (e ∷ es) = rw (same e.0, key_number es) refl
-
-  -- a key that is found is found at the number of the symbol
-  pub position_number : (es : List (Name × ℕ)) (i : ℕ) → position test (keys_of es) ≡ Some i → i ≡ number_of (symbols_at es) n
-  position_number es i h = go (nat_lt (position_or_len test (keys_of es)) (length (keys_of es))) h ∙ key_number es where
-    go : (b : Bool) → cond b (Some (position_or_len test (keys_of es))) None ≡ Some i → i ≡ position_or_len test (keys_of es)
-    go true h = cc
-    go false h = cc
 
 module _ (eq : Name → Name → Bool) (same : (a b : Name) → eq a b ≡ is_same (name_of a) (name_of b)) where
   -- a name that the table lacks goes to its end

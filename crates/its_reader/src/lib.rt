@@ -1,4 +1,6 @@
-// The reader of program texts.
+// The reader of program texts: from bytes to a program by numbers.
+// Contract to the layer above: `read` gives the program that the bytes spell within the limits (`SpellsWithin`), and answers
+// `Form` exactly where they spell none. A text spells one program at most (`OneProgram`).
 #![tactic(auto)]
 
 mod copies;
@@ -10,6 +12,8 @@ mod place;
 mod reading;
 mod steps;
 mod symbols;
+#[cfg(test)]
+mod tests;
 mod variables;
 
 pub use error::ReadError;

@@ -87,7 +87,8 @@ impl Symbols {
     }
 }
 
-/// The same number. The limits keep each number small, so that none is too large.
+/// The same number. Texts within the limits have no number over `u32::MAX`; one that had would ask for more memory than
+/// there is, and is answered so.
 pub fn u32_from(number: usize) -> Result<u32, ReadError>
     ensures ok { IfOk result (λ same. same ≡ number) }
     ensures form { IsErrOf result ReadError.Form → ⊥ }
