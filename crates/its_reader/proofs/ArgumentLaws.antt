@@ -1,5 +1,6 @@
 -- The arguments of a term are read exactly where they are distinct, or among the variables, and within the limits.
 use Rattle.std.proofs.Common.{◌≡◌, ◌+◌, ◌<◌, ◌≤◌, Bool, true, false, not, ◌||◌, List, [], ◌∷◌, ◌++◌, length, append_assoc, append-nil, refl, sym, ap, ◌∙◌, map, arith, nat_lt, Some}
+use Rattle.std.proofs.lemmas.List.{length_push}
 use Rattle.std.proofs.lemmas.Bool.Decides.{nat_tests}
 use Rattle.std.proofs.lemmas.Cmp.{nat_list_eq_equiv}
 use Rattle.std.specs.List.{AllByRecursion}
@@ -54,11 +55,6 @@ push_none a variables (n ∷ names) h =
     let rest = push_none a variables names h.1 in
     ((k.0, rest.0), (k.1, rest.1))
 
--- one more element, before the others or at the end of what is before them
-push_length : (variables : List Name) (a : Name) → length (variables ++ a ∷ []) ≡ length variables + 1
-push_length [] a = refl
-push_length (v ∷ variables) a = let e = push_length variables a in omega arith
-
 -- further left arguments are new, distinct, short, and not too many
 pub record AddLeft (variables names : List Name) : Type 0 where
   pub distinct : AreDistinct names
@@ -73,7 +69,7 @@ left_found b name variables (a ∷ names) s few e =
     let told = when_some (can_add_left variables a) (left_read b name (variables ++ a ∷ []) names) s e in
     let parts = all_three (is_short a) (nat_lt (length variables) 32) (not (is_among a variables)) told.0 in
     let below : length variables < 32 = passes_below (length variables) 32 parts.1 in
-    let longer = push_length variables a in
+    let longer = length_push variables a in
     let rest = left_found b name (variables ++ a ∷ []) names s (omega arith) told.1 in
     let more = push_none a variables names rest.0.new in
     let count = rest.0.arity in (
@@ -91,7 +87,7 @@ pub left_again : (b : Book) (name : Name) (variables names : List Name) (s : Sou
 left_again b name variables [] s h e = ap (close_left b name) (sym (append-nil variables)) ∙ e
 left_again b name variables (a ∷ names) s h e =
     let count = h.arity in
-    let longer = push_length variables a in
+    let longer = length_push variables a in
     some_when (can_add_left variables a) (left_read b name (variables ++ a ∷ []) names) s
     (three_all (is_short a) (nat_lt (length variables) 32) (not (is_among a variables)) (short_passes a h.short.0) (below_passes (length variables) 32 (omega arith)) (ap not h.new.0))
     (left_again b name (variables ++ a ∷ []) names s
@@ -108,11 +104,6 @@ pub record AddRight (variables : List Name) (updates : List Term) (names : List 
 abbrev pub updates_to : List Name → List Name → List Term
 updates_to variables names = map (λ a. Variable (place_of a variables)) names
 
--- one more update
-push_updates : (updates : List Term) (u : Term) → length (updates ++ u ∷ []) ≡ length updates + 1
-push_updates [] u = refl
-push_updates (v ∷ updates) u = let e = push_updates updates u in omega arith
-
 -- a right term that is read has such arguments, and ends with their variables
 pub right_found : (s : Source) (name : Name) (updates : List Term) (names : List Name) (b : Book) → length updates ≤ 32 → right_read s name updates names ≡ Some b → AddRight s.variables updates names × (close_right s name (updates ++ updates_to s.variables names) ≡ Some b)
 right_found s name updates [] b few e = (record { known = tt; short = tt; arity = omega arith }, ap (close_right s name) (append-nil updates) ∙ e)
@@ -120,7 +111,7 @@ right_found s name updates (a ∷ names) b few e =
     let told = when_some (can_add_right s updates a) (right_read s name (with_update s updates a) names) b e in
     let parts = all_three (is_short a) (nat_lt (length updates) 32) (is_among a s.variables) told.0 in
     let below : length updates < 32 = passes_below (length updates) 32 parts.1 in
-    let longer = push_updates updates (Variable (place_of a s.variables)) in
+    let longer = length_push updates (Variable (place_of a s.variables)) in
     let rest = right_found s name (with_update s updates a) names b (omega arith) told.1 in
     let count = rest.0.arity in (
       record {
@@ -136,7 +127,7 @@ pub right_again : (s : Source) (name : Name) (updates : List Term) (names : List
 right_again s name updates [] b h e = ap (close_right s name) (sym (append-nil updates)) ∙ e
 right_again s name updates (a ∷ names) b h e =
     let count = h.arity in
-    let longer = push_updates updates (Variable (place_of a s.variables)) in
+    let longer = length_push updates (Variable (place_of a s.variables)) in
     some_when (can_add_right s updates a) (right_read s name (with_update s updates a) names) b
     (three_all (is_short a) (nat_lt (length updates) 32) (is_among a s.variables) (short_passes a h.short.0) (below_passes (length updates) 32 (omega arith)) h.known.0)
     (right_again s name (with_update s updates a) names b

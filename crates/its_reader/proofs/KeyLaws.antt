@@ -1,15 +1,12 @@
 -- A set of names, and the names that it holds.
-use Rattle.std.proofs.Common.{◌≡◌, ℕ, Bool, true, false, cond, List, [], ◌∷◌, ◌++◌, length, refl, ap, ◌∙◌, Some, None, map, nat_lt}
+use Rattle.std.proofs.Common.{◌≡◌, ℕ, Bool, true, false, cond, List, [], ◌∷◌, ◌++◌, length, refl, ap, ◌∙◌, Some, None, map, nat_lt, ◌<◌, subst}
 use Rattle.std.specs.List.{list_any, position, position_or_len}
 use Rattle.indexmap.specs.IndexSet.{insert_key}
 use Rattle.its_model.specs.Views.{name_of}
 use Rattle.its_model.specs.declared.name.Name.{Name}
 use Rattle.model.specs.Programs as plain
-use Rattle.std.specs.Prelude.{Result, Ok, Err, IfOk, IsErrOf}
+use Rattle.its_reader.proofs.TestLaws.{passes_below}
 use Rattle.its_reader.specs.Numbering.{is_same, is_among, place_of}
-use Rattle.its_reader.specs.Variables.{IsPlace}
-use Rattle.its_reader.specs.declared.error.ReadError.{ReadError}
-use Rattle.its_reader.specs.declared.error.ReadError.TheVariants.{Form, Memory}
 
 module _ (n : plain.Name) (test : Name → Bool) (same : (k : Name) → test k ≡ is_same n (name_of k)) where
   -- the set has the key exactly where the name is among the names
@@ -42,9 +39,9 @@ name_eq a b = is_same (name_of a) (name_of b)
 pub names-insert_key : (ks new : List Name) (k : Name) → new ≡ insert_key name_eq ks k → list_any (name_eq k) ks ≡ false → map name_of new ≡ map name_of ks ++ name_of k ∷ []
 names-insert_key ks new k e h = ap (map name_of) (e ∙ ap (λ b. cond b ks (ks ++ k ∷ [])) h) ∙ names-push ks k
 
--- a number that fits is the place of a name among others
-pub place_found : (variables : List plain.Name) (name : plain.Name) (place : ℕ) (r : Result ℕ ReadError) → is_among name variables ≡ true → place ≡ place_of name variables
-    → IfOk r (λ same. same ≡ place) → (IsErrOf r Form → ⊥) → IsPlace variables name r
-place_found variables name place (Ok n) has e ok form = (has, ok ∙ e)
-place_found variables name place (Err Form) has e ok form = absurd (form refl)
-place_found variables name place (Err Memory) has e ok form = tt
+-- a key that is found is found before the end
+pub position_within : (test : Name → Bool) (ks : List Name) (i : ℕ) → position test ks ≡ Some i → i < length ks
+position_within test ks i h = go (nat_lt (position_or_len test ks) (length ks)) refl h where
+  go : (b : Bool) → nat_lt (position_or_len test ks) (length ks) ≡ b → cond b (Some (position_or_len test ks)) None ≡ Some i → i < length ks
+  go true e h = let same : position_or_len test ks ≡ i = cc in subst (λ k. k < length ks) same (passes_below _ _ e)
+  go false e h = cc

@@ -14,5 +14,6 @@ pub mod RuleReading
 pub mod RulesReading
 pub mod StartLaws
 pub mod ProgramReading
+pub mod SizeLaws
 pub mod ReadingLaws
 pub mod WritingLaws

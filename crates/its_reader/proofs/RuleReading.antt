@@ -1,22 +1,18 @@
 -- A rule is read exactly where it is one, within the limits, and its terms have as many arguments as their symbols have places.
-use Rattle.std.proofs.Common.{◌≡◌, ℕ, ◌+◌, ◌<◌, ◌≤◌, suc, false, not, List, [], ◌∷◌, ◌++◌, length, refl, sym, ap, subst, ◌∙◌, arith, nat_eq, nat_lt, Option, Some, eq-eqb}
+use Rattle.std.proofs.Common.{◌≡◌, ℕ, ◌+◌, ◌<◌, ◌≤◌, false, not, List, [], ◌∷◌, ◌++◌, length, refl, sym, ap, subst, ◌∙◌, arith, nat_eq, nat_lt, Option, Some, eq-eqb}
+use Rattle.std.proofs.lemmas.List.{length-map}
 use Rattle.std.proofs.lemmas.Bool.{eqb-true}
 use Rattle.std.specs.List.{AllByRecursion}
-use Rattle.model.specs.Terms.{Term}
+use Rattle.model.specs.Terms.{Term, Variable}
 use Rattle.model.specs.Programs.{Name, Symbol, Rule}
 use Rattle.its_reader.specs.Written.{WrittenRule}
-use Rattle.its_reader.specs.Numbering.{with_symbol, symbol_of, number_of, arity_of, is_com, IsRule}
+use Rattle.its_reader.specs.Numbering.{place_of, with_symbol, symbol_of, number_of, arity_of, is_com, IsRule}
 use Rattle.its_reader.specs.Spelling.{IsSmall}
 use Rattle.its_reader.specs.Places.{Book, Source, when, with_named, is_short}
 use Rattle.its_reader.proofs.TreeReading.{right_read, rule_read}
 use Rattle.its_reader.proofs.TestLaws.{both, and_both, not_holds, below_passes, passes_below, when_value, value_when}
 use Rattle.its_reader.proofs.RuleLaws.{rule_reads, reads_rule}
 use Rattle.its_reader.proofs.ArgumentLaws.{updates_to, left_found, left_again, right_found, right_again, short_passes, passes_short}
-
--- as many variables as names
-length-updates_to : (variables names : List Name) → length (updates_to variables names) ≡ length names
-length-updates_to variables [] = refl
-length-updates_to variables (a ∷ names) = ap suc (length-updates_to variables names)
 
 -- the symbols once a rule's left term is read
 abbrev pub symbols_left : Book → WrittenRule → List Symbol
@@ -81,7 +77,7 @@ rule_found b r d e =
     let target = both (is_short r.right.name) (not (is_com r.right.name)) h.target in
     let right = right_found (source_by b r) r.right.name [] r.right.arguments d (omega arith) reads in
     let closes : close_at b r (updates_to r.left.arguments r.right.arguments) (length r.right.arguments) ≡ Some d
-    = ap (close_at b r (updates_to r.left.arguments r.right.arguments)) (sym (length-updates_to r.left.arguments r.right.arguments)) ∙ right.1 in
+    = ap (close_at b r (updates_to r.left.arguments r.right.arguments)) (sym (length-map r.right.arguments (λ a. Variable (place_of a r.left.arguments)))) ∙ right.1 in
     let after = when_value (nat_eq (arity_of (symbols_right b r) r.right.name) (length r.right.arguments)) (book_after b r) d closes in
     let few : length b.rules < 1000 = passes_below (length b.rules) 1000 begins.1 in (
       record {
@@ -109,7 +105,7 @@ rule_again b r h = reads_rule b r (book_after b r) (record {
   target = and_both (is_short r.right.name) (not (is_com r.right.name)) (short_passes r.right.name h.right_small.name) (ap not h.is_rule.target);
   right = right_again (source_by b r) r.right.name [] r.right.arguments (book_after b r)
       (record { known = h.is_rule.right; short = h.right_small.arguments; arity = small h.right_small.arity })
-      (ap (close_at b r (updates_to r.left.arguments r.right.arguments)) (length-updates_to r.left.arguments r.right.arguments)
+      (ap (close_at b r (updates_to r.left.arguments r.right.arguments)) (length-map r.right.arguments (λ a. Variable (place_of a r.left.arguments)))
       ∙ value_when (nat_eq (arity_of (symbols_right b r) r.right.name) (length r.right.arguments)) (book_after b r) (eq-eqb _ _ h.right_arity));
 })
   where

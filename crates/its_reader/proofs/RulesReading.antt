@@ -1,7 +1,8 @@
 -- Rules are read one after the other exactly where they make a program within the limits, and what is known then is its numbering.
 use Rattle.std.proofs.Common.{◌≡◌, ◌+◌, ◌≤◌, List, [], ◌∷◌, ◌++◌, length, append_assoc, append-nil, refl, sym, ap, subst, ◌∙◌, map, arith, Some}
+use Rattle.std.proofs.lemmas.List.{length_push}
 use Rattle.std.specs.List.{AllByRecursion}
-use Rattle.model.specs.Programs.{Symbol, Rule}
+use Rattle.model.specs.Programs.{Symbol}
 use Rattle.its_reader.specs.Written.{WrittenRule}
 use Rattle.its_reader.specs.Numbering.{with_terms, symbol_of, number_of, arity_of, terms_of, HasArity, IsRule, rule_numbered}
 use Rattle.its_reader.specs.Spelling.{IsSmall}
@@ -20,11 +21,6 @@ pub record RulesFit (b : Book) (rules : List WrittenRule) (c : Book) : Type 0 wh
   pub arities : AllByRecursion (HasArity c.symbols) (terms_of rules)
   pub small : AllByRecursion IsSmall (terms_of rules)
   pub count : length b.rules + length rules ≤ 1000
-
--- one more rule
-push_rules : (rules : List Rule) (r : Rule) → length (rules ++ r ∷ []) ≡ length rules + 1
-push_rules [] r = refl
-push_rules (s ∷ rules) r = let e = push_rules rules r in omega arith
 
 -- the symbols once a rule is read are among those once all are
 rule_extended : (b : Book) (r : WrittenRule) (rules : List WrittenRule) (symbols : List Symbol) → symbols ≡ with_terms (symbols_right b r) (terms_of rules) → Extends (symbols_right b r) symbols
@@ -71,7 +67,7 @@ rules_found (r ∷ rules) b c few e =
     let parts = and_then_some (rule_read b r) (rules_read rules) c e in
     let rule = rule_found b r parts.0 parts.1 in
     let reads : rules_read rules (book_after b r) ≡ Some c = subst (λ d. rules_read rules d ≡ Some c) rule.1 parts.2 in
-    let longer = push_rules b.rules (rule_by b r) in
+    let longer = length_push b.rules (rule_by b r) in
     let fewer = rule.0.count in
     let rest = rules_found rules (book_after b r) c (omega arith) reads in
     let stays = settled b r c.symbols (rule_extended b r rules c.symbols rest.symbols) in
@@ -94,7 +90,7 @@ rules_again [] b c h = ap Some (same_book b c (sym h.start) (sym h.symbols) (sym
 rules_again (r ∷ rules) b c h =
     let stays = settled b r c.symbols (rule_extended b r rules c.symbols h.symbols) in
     let count = h.count in
-    let longer = push_rules b.rules (rule_by b r) in
+    let longer = length_push b.rules (rule_by b r) in
     let fits : RuleFits b r = record {
       count = omega arith;
       is_rule = h.are_rules.0;

@@ -1,5 +1,6 @@
 -- A table of names, and the symbols that it stands for.
-use Rattle.std.proofs.Common.{◌≡◌, ℕ, ◌+◌, Bool, true, false, cond, not, ◌||◌, List, [], ◌∷◌, ◌++◌, length, refl, sym, ap, ◌∙◌, Some, None, map, suc, arith}
+use Rattle.std.proofs.Common.{◌≡◌, ◌<◌, subst, ℕ, ◌+◌, Bool, true, false, cond, not, ◌||◌, List, [], ◌∷◌, ◌++◌, length, refl, sym, ap, ◌∙◌, Some, None, map, suc, arith}
+use Rattle.std.proofs.lemmas.List.{length-map}
 use Rattle.std.specs.Map.{lookup, keys_of}
 use Rattle.std.specs.List.{position, position_or_len}
 use Rattle.indexmap.specs.IndexMap.{insert_entry}
@@ -9,7 +10,7 @@ use Rattle.model.specs.Programs as plain
 use Rattle.its_reader.specs.Numbering.{is_same, place_of, names_of, has_symbol, number_of, arity_of}
 use Rattle.its_reader.specs.Tables.{as_symbol}
 use Rattle.its_reader.proofs.NameLaws.{is_same_self}
-use Rattle.its_reader.proofs.KeyLaws.{key_place, position_place}
+use Rattle.its_reader.proofs.KeyLaws.{key_place, position_place, position_within}
 
 -- the symbols that entries stand for
 abbrev pub symbols_at : List (Name × ℕ) → List plain.Symbol
@@ -19,6 +20,10 @@ symbols_at es = map (λ e. as_symbol e.0 e.1) es
 names-symbols_at : (es : List (Name × ℕ)) → names_of (symbols_at es) ≡ map name_of (keys_of es)
 names-symbols_at [] = refl
 names-symbols_at (e ∷ es) = ap (λ ns. name_of e.0 ∷ ns) (names-symbols_at es)
+
+-- a key that is found has a number below how many symbols there are
+pub number_within : (test : Name → Bool) (es : List (Name × ℕ)) (i : ℕ) → position test (keys_of es) ≡ Some i → i < length (symbols_at es)
+number_within test es i h = subst (λ n. i < n) (length-map es (λ e. e.0) ∙ sym (length-map es (λ e. as_symbol e.0 e.1))) (position_within test (keys_of es) i h)
 
 module _ (n : plain.Name) (test : Name → Bool) (same : (k : Name) → test k ≡ is_same n (name_of k)) where
   -- the place of the key is the number of the symbol

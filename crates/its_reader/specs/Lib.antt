@@ -5,6 +5,6 @@ pub mod Spelling
 pub mod Fronts
 pub mod Lexemes
 pub mod Places
+pub mod Sizes
 pub mod Tables
-pub mod Variables
 pub mod Drafts

@@ -1,11 +1,9 @@
 -- What the reader's table of symbols holds, as plain data.
-use Rattle.std.specs.Prelude.{◌≡◌, ℕ, List, map, Result, Ok, Err, IsTrue, IsFalse, ⊤}
+use Rattle.std.specs.Prelude.{◌≡◌, ℕ, ◌<◌, length, List, map, IsTrue}
 use Rattle.model.specs.Programs as plain
 use Rattle.its_model.specs.Views.{name_of}
 use Rattle.its_model.specs.declared.name.Name.{Name}
 use Rattle.its_reader.specs.Numbering.{has_symbol, number_of, arity_of}
-use Rattle.its_reader.specs.declared.error.ReadError.{ReadError}
-use Rattle.its_reader.specs.declared.error.ReadError.TheVariants.{Form, Memory}
 use Rattle.its_reader.specs.declared.symbols.Symbols.{Symbols}
 
 -- a name with a number of places, as a symbol
@@ -20,10 +18,5 @@ symbols_in s = map (λ e. as_symbol e.0 e.1) s.table.entries
 pub record Knows (symbols : List plain.Symbol) (name : plain.Name) (found : ℕ × ℕ) : Type 0 where
   pub has : IsTrue (has_symbol symbols name)
   pub number : found.0 ≡ number_of symbols name
+  pub within : found.0 < length symbols
   pub places : found.1 ≡ arity_of symbols name
-
--- the number is that of the symbol with the name; `Form` is answered exactly where none has it
-abbrev pub IsNumber : List plain.Symbol → plain.Name → Result ℕ ReadError → Type 0
-IsNumber symbols name (Ok number) = IsTrue (has_symbol symbols name) × (number ≡ number_of symbols name)
-IsNumber symbols name (Err Form) = IsFalse (has_symbol symbols name)
-IsNumber symbols name (Err Memory) = ⊤

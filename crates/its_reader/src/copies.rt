@@ -1,10 +1,19 @@
 // Names of one's own.
 
-ghost use Rattle.std.specs.Prelude.{◌≡◌, map, IfOk};
+ghost use Rattle.std.specs.Prelude.{◌≡◌, [], map, IfOk};
 ghost use Rattle.its_model.specs.Views.{name_of};
 
 use its_model::Name;
 use std::alloc::{AllocError, Global};
+
+/// No bytes, where no name is known.
+pub fn no_name(alloc: Global) -> Name
+    ensures { name_of result ≡ [] }
+{
+    Name {
+        bytes: Vec::new(alloc),
+    }
+}
 
 /// The name with these bytes.
 pub fn name_from(alloc: Global, bytes: &[u8]) -> Result<Name, AllocError>

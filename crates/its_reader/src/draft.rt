@@ -7,13 +7,14 @@ ghost use Rattle.its_model.specs.Views.{name_of};
 ghost use Rattle.its_reader.specs.Lexing.{Word, CloseBracket};
 ghost use Rattle.its_reader.specs.Places.{FunctionSymbols, Rules, LeftArgument, TargetOpen, RightArgument, LeftClosed as LeftEnds, RightClosed as RightEnds, step, when, reached, empty_book, can_add_left, can_add_right, with_update, is_short as is_short_name, close_left as closed_left, close_right as closed_right};
 ghost use Rattle.its_reader.specs.Numbering.{is_com as is_com_name};
+ghost use Rattle.its_reader.specs.Sizes.{IsBounded};
 ghost use Rattle.its_reader.specs.Drafts.{book_of, source_of, variables_of, updates_of, state_of, Follows};
 
-use crate::copies::name_from;
+use crate::copies::{name_from, no_name};
 use crate::error::ReadError;
 use crate::place::Place;
-use crate::symbols::{Symbols, u32_from};
-use crate::variables::{add_name, place_among};
+use crate::symbols::Symbols;
+use crate::variables::{add_name, count_of, place_among};
 use indexmap::IndexSet;
 use its_model::{Name, Rule};
 use poly_terms::Expr;
@@ -71,14 +72,10 @@ impl Draft {
         ensures { book_of result ≡ empty_book }
     {
         Draft {
-            start: Name {
-                bytes: Vec::new(alloc),
-            },
+            start: no_name(alloc),
             symbols: Symbols::new(alloc),
             rules: Vec::new(alloc),
-            name: Name {
-                bytes: Vec::new(alloc),
-            },
+            name: no_name(alloc),
             variables: IndexSet::new(alloc),
             source: 0,
             updates: Vec::new(alloc),
@@ -124,15 +121,11 @@ impl Draft {
 
     /// The left term ends.
     pub fn close_left(&mut self, alloc: Global) -> Result<Place, ReadError>
+        requires { IsBounded (LeftArgument (book_of self.old) (name_of self.old.name) (variables_of self.old)) }
         ensures { Follows (reached LeftEnds (closed_left (book_of self.old) (name_of self.old.name) (variables_of self.old))) self.new result }
     {
-        let name = mem::replace(
-            &mut self.name,
-            Name {
-                bytes: Vec::new(alloc),
-            },
-        );
-        self.source = self.symbols.number_term(name, self.variables.len())?;
+        let name = mem::replace(&mut self.name, no_name(alloc));
+        self.source = self.symbols.number_term(name, count_of(&self.variables))?;
         Ok(Place::LeftClosed)
     }
 
@@ -149,31 +142,32 @@ impl Draft {
 
     /// A right argument is read.
     pub fn add_right(&mut self, alloc: Global, name: &[u8]) -> Result<Place, ReadError>
+        requires { IsBounded (RightArgument (source_of self.old) (name_of self.old.name) (updates_of self.old)) }
         ensures { Follows (when (can_add_right (source_of self.old) (updates_of self.old) name.now)
             (RightArgument (source_of self.old) (name_of self.old.name) (with_update (source_of self.old) (updates_of self.old) name.now))) self.new result }
     {
         if !is_short(name) || self.updates.len() >= MAX_ARITY {
             return Err(ReadError::Form);
         }
-        let place = place_among(&self.variables, &name_from(alloc, name)?)?;
-        self.updates.push(Expr::Var(place))?;
-        Ok(Place::RightArgument)
+        match place_among(&self.variables, &name_from(alloc, name)?) {
+            Some(place) => {
+                self.updates.push(Expr::Var(place))?;
+                Ok(Place::RightArgument)
+            }
+            None => Err(ReadError::Form),
+        }
     }
 
     /// The right term ends, and with it what the rule says.
     pub fn close_right(&mut self, alloc: Global) -> Result<Place, ReadError>
+        requires { IsBounded (RightArgument (source_of self.old) (name_of self.old.name) (updates_of self.old)) }
         ensures { Follows (reached RightEnds (closed_right (source_of self.old) (name_of self.old.name) (updates_of self.old))) self.new result }
     {
-        let name = mem::replace(
-            &mut self.name,
-            Name {
-                bytes: Vec::new(alloc),
-            },
-        );
+        let name = mem::replace(&mut self.name, no_name(alloc));
         let target = self.symbols.number_term(name, self.updates.len())?;
         let variables = mem::replace(&mut self.variables, IndexSet::new(alloc));
         let updates = mem::replace(&mut self.updates, Vec::new(alloc));
-        let left = u32_from(variables.len())?;
+        let left = count_of(&variables) as u32;
         let names = variables.into_iter().collect(alloc)?;
         self.rules.push(Rule {
             source: self.source,

@@ -4,6 +4,7 @@ ghost use Rattle.std.specs.Prelude.{◌≡◌, map, MatchOption, ◌==◌, Some,
 ghost use Rattle.std.specs.List.{find};
 ghost use Rattle.its_model.specs.Views.{rule_of};
 ghost use Rattle.its_reader.specs.Places.{finish as finish_of, finished};
+ghost use Rattle.its_reader.specs.Sizes.{IsFew, IsBounded};
 ghost use Rattle.its_reader.specs.Drafts.{state_of, book_of, Gives};
 
 use crate::copies::copied_names;
@@ -29,6 +30,7 @@ fn first_from(rules: &[Rule], number: u32) -> Option<&Rule>
 impl Draft {
     /// The program. `Form` where the text isn't at its end, or no rule leaves the start symbol.
     pub fn finish(self, alloc: Global, place: Place) -> Result<Program, ReadError>
+        requires { IsBounded (state_of place self) }
         ensures { Gives (finish_of (state_of place self)) result }
     {
         match place {
@@ -38,9 +40,12 @@ impl Draft {
     }
 
     fn into_program(self, alloc: Global) -> Result<Program, ReadError>
+        requires { IsFew (book_of self) 0 0 }
         ensures { Gives (finished (book_of self)) result }
     {
-        let start = self.symbols.number_of(&self.start)?;
+        let Some(start) = self.symbols.number_of(&self.start) else {
+            return Err(ReadError::Form);
+        };
         let start_names = match first_from(&self.rules, start) {
             Some(first) => copied_names(alloc, &first.names)?,
             None => return Err(ReadError::Form),

@@ -4,6 +4,7 @@ ghost use Rattle.std.specs.Prelude.{◌≡◌, if◌then◌else◌};
 ghost use Rattle.its_reader.specs.Lexing.{Word, OpenBracket as open_piece, CloseBracket as close_piece, Comma as comma_piece, Arrow as arrow_piece};
 ghost use Rattle.its_reader.specs.Numbering.{is_same};
 ghost use Rattle.its_reader.specs.Places.{step};
+ghost use Rattle.its_reader.specs.Sizes.{IsBounded};
 ghost use Rattle.its_reader.specs.Drafts.{state_of, step_by, Follows};
 
 use crate::draft::Draft;
@@ -32,6 +33,7 @@ impl Draft {
         place: Place,
         lexeme: Lexeme<'_>,
     ) -> Result<Place, ReadError>
+        requires { IsBounded (state_of place self.old) }
         ensures { Follows (step_by (state_of place self.old) lexeme.entry) self.new result }
     {
         match lexeme {
@@ -45,6 +47,7 @@ impl Draft {
     }
 
     fn take_word(&mut self, alloc: Global, place: Place, word: &[u8]) -> Result<Place, ReadError>
+        requires { IsBounded (state_of place self.old) }
         ensures { Follows (step (state_of place self.old) (Word word.now)) self.new result }
     {
         match place {
@@ -82,6 +85,7 @@ impl Draft {
     }
 
     fn take_close_bracket(&mut self, alloc: Global, place: Place) -> Result<Place, ReadError>
+        requires { IsBounded (state_of place self.old) }
         ensures { Follows (step (state_of place self.old) close_piece) self.new result }
     {
         match place {

@@ -1,9 +1,9 @@
 // The symbols of a text, by name and by number.
 
-ghost use Rattle.std.specs.Prelude.{◌≡◌, ◌==◌, ◌∷◌, ◌++◌, [], IfOk, IsErrOf, IsTrue, IsFalse, MatchOption, map};
+ghost use Rattle.std.specs.Prelude.{◌≡◌, ◌==◌, ◌<◌, ◌^◌, ◌∷◌, ◌++◌, [], length, IfOk, IsErrOf, IsTrue, IsFalse, MatchOption, map};
 ghost use Rattle.its_model.specs.Views.{name_of, symbol_of};
 ghost use Rattle.its_reader.specs.Numbering.{with_symbol, number_of, arity_of, has_symbol};
-ghost use Rattle.its_reader.specs.Tables.{symbols_in, as_symbol, Knows, IsNumber};
+ghost use Rattle.its_reader.specs.Tables.{symbols_in, as_symbol, Knows};
 
 use crate::error::ReadError;
 use indexmap::IndexMap;
@@ -28,32 +28,34 @@ impl Symbols {
 
     /// The number of the symbol that a term has. A new symbol goes to the end.
     pub fn number_term(&mut self, name: Name, arity: usize) -> Result<u32, ReadError>
+        requires few { length (symbols_in self.old) < 2 ^ 32 }
+        requires small { arity < 2 ^ 32 }
         ensures symbols { IfOk result (λ _. symbols_in self.new ≡ with_symbol (symbols_in self.old) (as_symbol name arity)) }
         ensures number { IfOk result (λ number. number ≡ number_of (symbols_in self.new) (name_of name)) }
         ensures arity { IfOk result (λ _. IsTrue (arity_of (symbols_in self.new) (name_of name) == arity)) }
         ensures form { IsErrOf result ReadError.Form → IsFalse (arity_of (with_symbol (symbols_in self.old) (as_symbol name arity)) (name_of name) == arity) }
     {
-        let places = u32_from(arity)?;
+        let places = arity as u32;
         match self.known(&name) {
             Some((number, known)) => {
                 if known == places {
-                    u32_from(number)
+                    Ok(number as u32)
                 } else {
                     Err(ReadError::Form)
                 }
             }
-            None => u32_from(self.add(name, places)?),
+            None => Ok(self.add(name, places)? as u32),
         }
     }
 
     /// The number of the symbol with a name.
-    pub fn number_of(&self, name: &Name) -> Result<u32, ReadError>
-        ensures { IsNumber (symbols_in self.now) (name_of name.now) result }
+    pub fn number_of(&self, name: &Name) -> Option<u32>
+        requires { length (symbols_in self.now) < 2 ^ 32 }
+        ensures { MatchOption result (IsFalse (has_symbol (symbols_in self.now) (name_of name.now)))
+            (λ number. IsTrue (has_symbol (symbols_in self.now) (name_of name.now)) × (number ≡ number_of (symbols_in self.now) (name_of name.now))) }
     {
-        match self.known(name) {
-            Some((number, _)) => u32_from(number),
-            None => Err(ReadError::Form),
-        }
+        let (number, _) = self.known(name)?;
+        Some(number as u32)
     }
 
     /// The symbols in the order of their numbers.
@@ -79,19 +81,11 @@ impl Symbols {
     fn add(&mut self, name: Name, places: u32) -> Result<usize, AllocError>
         requires { IsFalse (has_symbol (symbols_in self.old) (name_of name)) }
         ensures symbols { IfOk result (λ _. symbols_in self.new ≡ symbols_in self.old ++ as_symbol name places ∷ []) }
+        ensures last { IfOk result (λ number. number ≡ length (symbols_in self.old)) }
         ensures number { IfOk result (λ number. number ≡ number_of (symbols_in self.new) (name_of name)) }
         ensures arity { IfOk result (λ _. arity_of (symbols_in self.new) (name_of name) ≡ places) }
     {
         let (number, _) = self.table.insert_full(name, places)?;
         Ok(number)
     }
-}
-
-/// The same number. Texts within the limits have no number over `u32::MAX`; one that had would ask for more memory than
-/// there is, and is answered so.
-pub fn u32_from(number: usize) -> Result<u32, ReadError>
-    ensures ok { IfOk result (λ same. same ≡ number) }
-    ensures form { IsErrOf result ReadError.Form → ⊥ }
-{
-    u32::try_from(number).map_err(|_| ReadError::Memory)
 }

@@ -1,12 +1,9 @@
 // The left variables of a rule, by name and by place.
 
-ghost use Rattle.std.specs.Prelude.{◌≡◌, ◌∷◌, ◌++◌, [], map, not, IfOk, IsTrue};
+ghost use Rattle.std.specs.Prelude.{◌≡◌, ◌<◌, ◌^◌, ◌∷◌, ◌++◌, [], length, map, not, IfOk, IsTrue, IsFalse, MatchOption};
 ghost use Rattle.its_model.specs.Views.{name_of};
-ghost use Rattle.its_reader.specs.Numbering.{is_among};
-ghost use Rattle.its_reader.specs.Variables.{IsPlace};
+ghost use Rattle.its_reader.specs.Numbering.{is_among, place_of};
 
-use crate::error::ReadError;
-use crate::symbols::u32_from;
 use indexmap::IndexSet;
 use its_model::Name;
 use std::alloc::AllocError;
@@ -20,12 +17,19 @@ pub fn add_name(names: &mut IndexSet<Name>, name: Name) -> Result<bool, AllocErr
     Ok(is_new)
 }
 
-/// The place of a name, from 0.
-pub fn place_among(names: &IndexSet<Name>, name: &Name) -> Result<u32, ReadError>
-    ensures { IsPlace (map name_of names.now.keys) (name_of name.now) result }
+/// How many names there are.
+pub fn count_of(names: &IndexSet<Name>) -> usize
+    ensures { result ≡ length (map name_of names.now.keys) }
 {
-    match names.get_index_of(name) {
-        Some(place) => u32_from(place),
-        None => Err(ReadError::Form),
-    }
+    names.len()
+}
+
+/// The place of a name, from 0.
+pub fn place_among(names: &IndexSet<Name>, name: &Name) -> Option<u32>
+    requires { length (map name_of names.now.keys) < 2 ^ 32 }
+    ensures { MatchOption result (IsFalse (is_among (name_of name.now) (map name_of names.now.keys)))
+        (λ place. IsTrue (is_among (name_of name.now) (map name_of names.now.keys)) × (place ≡ place_of (name_of name.now) (map name_of names.now.keys))) }
+{
+    let place = names.get_index_of(name)?;
+    Some(place as u32)
 }

@@ -7,6 +7,7 @@ use Rattle.its_reader.specs.Drafts.{Follows}
 use Rattle.its_reader.specs.declared.draft.Draft.{Draft}
 use Rattle.its_reader.specs.declared.error.ReadError.{ReadError}
 use Rattle.its_reader.specs.declared.error.ReadError.TheVariants.{Form, Memory}
+use Rattle.its_reader.proofs.SizeLaws.{bounded_first, bounded_by}
 use Rattle.its_reader.proofs.ReadingLaws.{stays_first, stays_on, stays_not, ends_ok, ends_form}
 use Rattle.its_reader.proofs.reading.read.Goals as goal
 
@@ -16,19 +17,22 @@ leads_nowhere o d Form r h same form = h
 leads_nowhere o d Memory r h same form = cc
 
 pub loop-lexeme-init : goal.loop-lexeme-init
-loop-lexeme-init c = stays_first c.args.bytes.now _ c.new-draft.ensures
+loop-lexeme-init c = record { stays = stays_first c.args.bytes.now _ c.new-draft.ensures; bounded = bounded_first _ c.new-draft.ensures }
 
 pub returns-in_err-place-clause-form : goal.returns-in_err-place-clause-form
 returns-in_err-place-clause-form c =
     let p = err_from_is_err_and c.from_residual.result c.from_residual.ensures.1 in
-    λ form. stays_not c.args.bytes.now _ c.loop-lexeme.rest.now c.in-Some.behind.now c.in-Some.lexeme c.loop-lexeme.invariant c.in-Some.ensures.found
+    λ form. stays_not c.args.bytes.now _ c.loop-lexeme.rest.now c.in-Some.behind.now c.in-Some.lexeme c.loop-lexeme.invariant.stays c.in-Some.ensures.found
     (leads_nowhere _ c.advance.new.self c.in_err-place.field-0.0 c.from_residual.result c.in_err-place.ensures (p.1 ∙ ap Err p.2) form)
 
 pub loop-lexeme-preserved : goal.loop-lexeme-preserved
-loop-lexeme-preserved c = stays_on c.args.bytes.now _ _ c.loop-lexeme.rest.now c.in-Some.behind.now c.in-Some.lexeme c.loop-lexeme.invariant c.in-Some.ensures.found c.in_ok-place.ensures
+loop-lexeme-preserved c = record {
+  stays = stays_on c.args.bytes.now _ _ c.loop-lexeme.rest.now c.in-Some.behind.now c.in-Some.lexeme c.loop-lexeme.invariant.stays c.in-Some.ensures.found c.in_ok-place.ensures;
+  bounded = bounded_by _ c.in-Some.lexeme _ c.loop-lexeme.invariant.bounded c.in_ok-place.ensures;
+}
 
 pub returns-clause-ok : goal.returns-clause-ok
-returns-clause-ok c = ends_ok c.args.bytes.now _ c.loop-lexeme.rest.now c.loop-lexeme.invariant c.in_default.ensures.found c.finish.result c.finish.ensures
+returns-clause-ok c = ends_ok c.args.bytes.now _ c.loop-lexeme.rest.now c.loop-lexeme.invariant.stays c.in_default.ensures.found c.finish.result c.finish.ensures
 
 pub returns-clause-form : goal.returns-clause-form
-returns-clause-form c = ends_form c.args.bytes.now _ c.loop-lexeme.rest.now c.loop-lexeme.invariant c.in_default.ensures.found c.finish.result c.finish.ensures
+returns-clause-form c = ends_form c.args.bytes.now _ c.loop-lexeme.rest.now c.loop-lexeme.invariant.stays c.in_default.ensures.found c.finish.result c.finish.ensures

@@ -10,10 +10,14 @@ returns-clause-symbols c =
     ap symbols_at (c.in_ok-number.ensures.entries ∙ insert_new _ (λ a b. refl) c.args.self.now.table.entries c.args.name c.args.places c.requires)
     ∙ symbols-push c.args.self.now.table.entries c.args.name c.args.places
 
-pub returns-clause-number : goal.returns-clause-number
-returns-clause-number c =
+pub returns-clause-last : goal.returns-clause-last
+returns-clause-last c =
     c.in_ok-number.ensures.index ∙ key_number (name_of c.args.name) _ (λ k. refl) c.args.self.now.table.entries
     ∙ number_absent _ (name_of c.args.name) c.requires
+
+pub returns-clause-number : goal.returns-clause-number
+returns-clause-number c =
+    returns-clause-last c
     ∙ sym (ap (λ ss. number_of ss (name_of c.args.name)) (returns-clause-symbols c) ∙ number_pushed _ (as_symbol c.args.name c.args.places) c.requires)
 
 pub returns-clause-arity : goal.returns-clause-arity

@@ -1,6 +1,6 @@
 use Rattle.std.proofs.Common.{refl, sym}
 use Rattle.its_model.specs.Views.{name_of}
-use Rattle.its_reader.proofs.TableLaws.{lookup_none, lookup_some, position_number}
+use Rattle.its_reader.proofs.TableLaws.{lookup_none, lookup_some, position_number, number_within}
 use Rattle.its_reader.proofs.symbols.Symbols.known.Goals as goal
 
 pub returns-in_err-number : goal.returns-in_err-number
@@ -12,5 +12,6 @@ returns c =
     record {
       has = found.0;
       number = position_number (name_of c.args.name.now) _ (λ k. refl) c.args.self.now.table.entries _ (sym c.in_ok-number.ensures.index);
+      within = number_within _ c.args.self.now.table.entries _ (sym c.in_ok-number.ensures.index);
       places = found.1;
     }
