@@ -1,8 +1,8 @@
 -- The pieces of a program's text: names, brackets, commas and arrows, with white space between them.
 use Rattle.std.specs.Prelude.{◌≡◌, ℕ, Bool, ◌||◌, ◌==◌, List, [], ◌∷◌, ◌++◌, IsTrue, IsFalse, ⊤}
 use Rattle.std.specs.List.{list_all}
-use Rattle.std.specs.Char.{is_ascii_alphabetic, is_ascii_digit}
 use Rattle.model.specs.Programs.{Name}
+pub use Rattle.its_model.specs.Names.{begins_name, continues_name, IsName}
 
 -- white space: a space, a tab, a carriage return or a line feed
 abbrev pub is_blank : ℕ → Bool
@@ -11,19 +11,6 @@ is_blank b = (b == 32) || (b == 9) || (b == 13) || (b == 10)
 -- the bytes are white space
 abbrev pub AreBlank : List ℕ → Type 0
 AreBlank bytes = IsTrue (list_all is_blank bytes)
-
--- a name begins with a letter, `_` or `$`
-abbrev pub begins_name : ℕ → Bool
-begins_name b = is_ascii_alphabetic b || (b == 95) || (b == 36)
-
--- a name goes on with letters, digits, `_`, `$`, `'` and `.`
-abbrev pub continues_name : ℕ → Bool
-continues_name b = begins_name b || is_ascii_digit b || (b == 39) || (b == 46)
-
--- the bytes are those of a name
-abbrev pub IsName : List ℕ → Type 0
-IsName [] = ⊥
-IsName (b ∷ bytes) = IsTrue (begins_name b) × IsTrue (list_all continues_name bytes)
 
 -- a piece of the text
 pub data Piece : Type 0 where

@@ -1,23 +1,15 @@
 -- What a written program stands for: numbers in place of names.
 use Rattle.std.specs.Prelude.{◌≡◌, ℕ, Bool, nat_eq, List, [], ◌∷◌, ◌++◌, map, length, if◌then◌else◌, ◌&&◌, nat_lt, codes, drop, IsTrue, IsFalse, ⊤}
-use Rattle.std.specs.List.{list_any, list_all, position_or_len, starts_with, AllByRecursion}
-use Rattle.std.specs.Cmp.Lexicographic.{pointwise}
+use Rattle.std.specs.List.{list_any, list_all, starts_with, AllByRecursion}
 use Rattle.std.specs.Char.{is_ascii_digit}
 use Rattle.model.specs.Terms.{Variable}
 use Rattle.model.specs.Programs.{Name, Symbol, Rule, Program}
+pub use Rattle.its_model.specs.Names.{is_same, place_of}
 use Rattle.its_reader.specs.Written.{WrittenTerm, WrittenRule, WrittenProgram}
-
--- whether two names have the same bytes
-abbrev pub is_same : Name → Name → Bool
-is_same = pointwise nat_eq
 
 -- whether a name is among others
 abbrev pub is_among : Name → List Name → Bool
 is_among name names = list_any (is_same name) names
-
--- the place of a name among others, from 0
-abbrev pub place_of : Name → List Name → ℕ
-place_of name names = position_or_len (is_same name) names
 
 -- no name stands twice
 abbrev pub AreDistinct : List Name → Type 0

@@ -1,7 +1,9 @@
 -- Values of the definitions that were worked out by hand.
-use Rattle.std.specs.Prelude.{◌≡◌, ℕ, List, [], ◌∷◌, pos, negsuc}
+use Rattle.std.specs.Prelude.{◌≡◌, ℕ, List, [], ◌∷◌, ℤ, pos, negsuc, Some, None}
 use Rattle.model.specs.Terms.{Literal, Variable, Negation, Addition, Subtraction, Multiplication, Exponentiation, value}
-use Rattle.model.specs.Runs.{Step, count, last_rule, sizes_of_start}
+use Rattle.model.specs.Programs.{AtLeast, MoreThan, AtMost, LessThan, EqualTo, Related, Always, Compare, Symbol, Rule, Program, rule_at, arity_of}
+use Rattle.model.specs.Runs.{Config, Step, Leads, Begins, count, last_rule, place_value, sizes_of_start}
+use Rattle.model.specs.Paths.{HasCycle}
 use Rattle.model.specs.Bounds.{Size, Constant, Input, SumOf, ProductOf, GreatestOf, PowerOf, Parts, NoParts, Part, val}
 
 -- a part alone, and two parts
@@ -47,3 +49,71 @@ pub record StepsAreCounted : Type 0 where
   pub last : last_rule four_steps ≡ 2
   pub none : last_rule [] ≡ 0
   pub sizes : sizes_of_start (negsuc 2 ∷ pos 4 ∷ []) ≡ 3 ∷ 4 ∷ []
+
+-- each relation at 1 and 2, at 1 and 1, and at 2 and 1
+pub record RelationsHold : Type 0 where
+  pub at_least : Related AtLeast (pos 2) (pos 1) × Related AtLeast (pos 1) (pos 1) × ¬ (Related AtLeast (pos 1) (pos 2))
+  pub more_than : Related MoreThan (pos 2) (pos 1) × ¬ (Related MoreThan (pos 1) (pos 1)) × ¬ (Related MoreThan (pos 1) (pos 2))
+  pub at_most : Related AtMost (pos 1) (pos 2) × Related AtMost (pos 1) (pos 1) × ¬ (Related AtMost (pos 2) (pos 1))
+  pub less_than : Related LessThan (pos 1) (pos 2) × ¬ (Related LessThan (pos 1) (pos 1)) × ¬ (Related LessThan (pos 2) (pos 1))
+  pub equal_to : Related EqualTo (pos 1) (pos 1) × ¬ (Related EqualTo (pos 1) (pos 2)) × ¬ (Related EqualTo (pos 2) (pos 1))
+
+-- the rule l0(A) -> l1(A + C) where A is at least C and the atom that always holds does; C is free
+abbrev pub with_free : Rule
+with_free = record {
+  source = 0;
+  target = 1;
+  left = 1;
+  free = 1;
+  names = (65 ∷ []) ∷ (67 ∷ []) ∷ [];
+  updates = Addition (Variable 0) (Variable 1) ∷ [];
+  guard = Always ∷ Compare (Variable 0) AtLeast (Variable 1) ∷ [];
+}
+
+-- a configuration with one value, and one with two
+abbrev pub one_value : ℕ → ℤ → Config
+one_value s x = record { at = s; values = x ∷ [] }
+
+abbrev pub two_values : ℕ → ℤ → ℤ → Config
+two_values s x y = record { at = s; values = x ∷ y ∷ [] }
+
+-- from l0(3) the rule leads with C = 2 to l1(5); not from another symbol or with another number of values, not without a
+-- value of C or with two of them, not where C is 4, and not to another symbol or another value
+pub record StepsLead : Type 0 where
+  pub leads : Leads with_free (one_value 0 (pos 3)) (pos 2 ∷ []) (one_value 1 (pos 5))
+  pub other_source : ¬ (Leads with_free (one_value 1 (pos 3)) (pos 2 ∷ []) (one_value 1 (pos 5)))
+  pub more_values : ¬ (Leads with_free (two_values 0 (pos 3) (pos 2)) (pos 2 ∷ []) (one_value 1 (pos 5)))
+  pub no_free : (d : Config) → ¬ (Leads with_free (one_value 0 (pos 3)) [] d)
+  pub more_free : (d : Config) → ¬ (Leads with_free (one_value 0 (pos 3)) (pos 2 ∷ pos 2 ∷ []) d)
+  pub guard_fails : (d : Config) → ¬ (Leads with_free (one_value 0 (pos 3)) (pos 4 ∷ []) d)
+  pub other_target : ¬ (Leads with_free (one_value 0 (pos 3)) (pos 2 ∷ []) (one_value 0 (pos 5)))
+  pub other_value : ¬ (Leads with_free (one_value 0 (pos 3)) (pos 2 ∷ []) (one_value 1 (pos 6)))
+
+-- a rule without variables from one symbol to another
+abbrev pub bare_rule : ℕ → ℕ → Rule
+bare_rule s t = record { source = s; target = t; left = 0; free = 0; names = []; updates = []; guard = [] }
+
+-- the symbol l0 with one place, and l1 with none
+abbrev pub two_symbols : List Symbol
+two_symbols = record { name = 108 ∷ 48 ∷ []; arity = 1 } ∷ record { name = 108 ∷ 49 ∷ []; arity = 0 } ∷ []
+
+-- a program with these rules, which starts at l0
+abbrev pub with_rules : List Rule → Program
+with_rules rules = record { symbols = two_symbols; start = 0; start_names = (65 ∷ []) ∷ []; rules = rules }
+
+-- places and rules count from 1, a run begins with a value for each place, two rules can be a cycle, and one rule between
+-- two symbols is none
+pub record PlacesAndRulesCount : Type 0 where
+  pub first_place : place_value (two_values 0 (pos 7) (negsuc 8)) 1 ≡ pos 7
+  pub second_place : place_value (two_values 0 (pos 7) (negsuc 8)) 2 ≡ negsuc 8
+  pub no_rule : rule_at (with_rules (bare_rule 0 1 ∷ bare_rule 1 0 ∷ [])) 0 ≡ None
+  pub first_rule : rule_at (with_rules (bare_rule 0 1 ∷ bare_rule 1 0 ∷ [])) 1 ≡ Some (bare_rule 0 1)
+  pub second_rule : rule_at (with_rules (bare_rule 0 1 ∷ bare_rule 1 0 ∷ [])) 2 ≡ Some (bare_rule 1 0)
+  pub past_the_rules : rule_at (with_rules (bare_rule 0 1 ∷ bare_rule 1 0 ∷ [])) 3 ≡ None
+  pub arity : arity_of (with_rules []) 0 ≡ 1
+  pub other_arity : arity_of (with_rules []) 1 ≡ 0
+  pub begins : Begins (with_rules []) (pos 4 ∷ []) (one_value 0 (pos 4))
+  pub begins_with_all : (c : Config) → ¬ (Begins (with_rules []) [] c)
+  pub begins_at_start : ¬ (Begins (with_rules []) (pos 4 ∷ []) (one_value 1 (pos 4)))
+  pub cycle_of_two : HasCycle (with_rules (bare_rule 0 1 ∷ bare_rule 1 0 ∷ []))
+  pub no_cycle_of_one : ¬ (HasCycle (with_rules (bare_rule 0 1 ∷ [])))

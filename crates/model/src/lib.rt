@@ -5,7 +5,7 @@
 #![tactic(auto)]
 
 ghost use Rattle.model.specs.Laws.{RunsAreDetermined, EntryOccursOnce};
-ghost use Rattle.model.specs.Worked.{ExpressionsHaveTheirValues, BoundsHaveTheirValues, StepsAreCounted};
+ghost use Rattle.model.specs.Worked.{ExpressionsHaveTheirValues, BoundsHaveTheirValues, StepsAreCounted, RelationsHold, StepsLead, PlacesAndRulesCount};
 
 /// Start values and steps, with the values of their free variables, determine the configuration that a run reaches.
 pub fn runs_are_determined()
@@ -17,9 +17,12 @@ pub fn entry_occurs_once()
     ensures { EntryOccursOnce }
 {}
 
-/// The definitions give expressions, bounds and steps the values that were worked out by hand.
+/// The definitions give expressions, bounds, relations, steps, places and rules what was worked out by hand.
 pub fn worked_values_hold()
     ensures expressions { ExpressionsHaveTheirValues }
     ensures bounds { BoundsHaveTheirValues }
     ensures steps { StepsAreCounted }
+    ensures relations { RelationsHold }
+    ensures leading { StepsLead }
+    ensures numbering { PlacesAndRulesCount }
 {}
