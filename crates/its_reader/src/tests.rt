@@ -8,6 +8,32 @@ use std::test::Fail;
 
 const FIRST: &[u8] = b"(STARTTERM (FUNCTIONSYMBOLS l0))(RULES l0(A) -> Com_1(l1(A)))";
 
+// The tokens of the first text, but for white space.
+const TOKENS: [&[u8]; 22] = [
+    b"(",
+    b"STARTTERM",
+    b"(",
+    b"FUNCTIONSYMBOLS",
+    b"l0",
+    b")",
+    b")",
+    b"(",
+    b"RULES",
+    b"l0",
+    b"(",
+    b"A",
+    b")",
+    b"->",
+    b"Com_1",
+    b"(",
+    b"l1",
+    b"(",
+    b"A",
+    b")",
+    b")",
+    b")",
+];
+
 fn name(alloc: Global, bytes: &[u8]) -> Result<Name, AllocError> {
     Ok(Name {
         bytes: bytes.to_vec(alloc)?,
@@ -112,7 +138,7 @@ fn reads_programs_by_numbers(rt: HostRuntime) -> Result<(), Fail> {
 }
 
 #[test]
-fn tells_texts_of_the_form_from_others(rt: HostRuntime) -> Result<(), Fail> {
+fn reads_texts_of_the_form(rt: HostRuntime) -> Result<(), Fail> {
     let alloc = rt.alloc();
     for rules in [
         b"l0() -> Com_1(l1())".as_slice(),
@@ -125,8 +151,14 @@ fn tells_texts_of_the_form_from_others(rt: HostRuntime) -> Result<(), Fail> {
         b"l0(STARTTERM) -> Com_1(Com(STARTTERM))",
         b"l0(Com_1) -> Com_1(l1(Com_1))",
     ] {
-        assert!(rt; is_read(alloc, &text_of(alloc, rules)?));
+        assert!(rt; is_read(alloc, &text_of(alloc, rules)?), "{rules:?}");
     }
+    Ok(())
+}
+
+#[test]
+fn refuses_texts_of_another_form(rt: HostRuntime) -> Result<(), Fail> {
+    let alloc = rt.alloc();
     for rules in [
         b"".as_slice(),
         b"l1(A) -> Com_1(l0(A))",
@@ -158,8 +190,14 @@ fn tells_texts_of_the_form_from_others(rt: HostRuntime) -> Result<(), Fail> {
         b"l0(A) -> Com_1(l1(A)) \x0b",
         b"l0(A) -> Com_1(l1(A)) (",
     ] {
-        assert!(rt; is_refused(alloc, &text_of(alloc, rules)?));
+        assert!(rt; is_refused(alloc, &text_of(alloc, rules)?), "{rules:?}");
     }
+    Ok(())
+}
+
+#[test]
+fn refuses_other_sections_cuts_and_bytes(rt: HostRuntime) -> Result<(), Fail> {
+    let alloc = rt.alloc();
     for text in [
         b"".as_slice(),
         b"(RULES l0(A) -> Com_1(l1(A)))(STARTTERM (FUNCTIONSYMBOLS l0))",
@@ -169,23 +207,60 @@ fn tells_texts_of_the_form_from_others(rt: HostRuntime) -> Result<(), Fail> {
         b"(STARTTERM (FUNCTIONSYMBOLS l0))(VAR A)(RULES l0(A) -> Com_1(l1(A)))",
         b"(STARTTERM (FUNCTIONSYMBOLS l0))(RULESX l0(A) -> Com_1(l1(A)))",
     ] {
-        assert!(rt; is_refused(alloc, text));
+        assert!(rt; is_refused(alloc, text), "{text:?}");
     }
     for end in 0..FIRST.len() {
         assert!(rt; is_refused(alloc, &FIRST[..end]), "the first {end} bytes");
+        for byte in [0x80, 0xff] {
+            let mut text = FIRST.to_vec(alloc)?;
+            text[end] = byte;
+            assert!(rt; is_refused(alloc, &text), "{byte} at {end}");
+        }
+    }
+    Ok(())
+}
+
+// The tokens of a text with a blank behind each, the one at a place being another.
+fn with_another(alloc: Global, place: usize, other: &[u8]) -> Result<Vec<u8>, AllocError> {
+    let mut text = Vec::new(alloc);
+    for (i, token) in TOKENS.iter().enumerate() {
+        text.extend_from_slice(if i == place { other } else { token })?;
+        text.push(b' ')?;
+    }
+    Ok(text)
+}
+
+#[test]
+fn refuses_each_token_in_the_place_of_another(rt: HostRuntime) -> Result<(), Fail> {
+    let alloc = rt.alloc();
+    for (place, token) in TOKENS.iter().enumerate() {
+        for other in [b"x".as_slice(), b"(", b")", b",", b"->", b"7", b"#"] {
+            let text = with_another(alloc, place, other)?;
+            let accepted = other == *token
+                || (*token == b"l1".as_slice() && other == b"x".as_slice());
+            assert_eq!(rt; is_read(alloc, &text), accepted, "{other:?} at {place}");
+            assert_eq!(rt; is_refused(alloc, &text), !accepted, "{other:?} at {place}");
+        }
+    }
+    for other in [b"x".as_slice(), b"(", b")", b",", b"->", b"7", b"#"] {
+        let mut text = with_another(alloc, TOKENS.len(), b"")?;
+        text.extend_from_slice(other)?;
+        assert!(rt; is_refused(alloc, &text), "{other:?} at the end");
     }
     Ok(())
 }
 
 #[test]
-fn keeps_the_limits(rt: HostRuntime) -> Result<(), Fail> {
+fn keeps_the_limit_on_places(rt: HostRuntime) -> Result<(), Fail> {
     let alloc = rt.alloc();
     for (count, accepted) in [(32, true), (33, false)] {
         let list = arguments(alloc, count)?;
         let mut rules = b"l0(".to_vec(alloc)?;
         rules.extend_from_slice(&list)?;
         rules.extend_from_slice(b") -> Com_1(l1(A00))")?;
-        assert_eq!(rt; is_read(alloc, &text_of(alloc, &rules)?), accepted);
+        let text = text_of(alloc, &rules)?;
+        assert_eq!(rt; is_read(alloc, &text), accepted);
+        assert_eq!(rt; is_refused(alloc, &text), !accepted);
         let mut repeated = b"A".to_vec(alloc)?;
         for _ in 1..count {
             repeated.extend_from_slice(b",A")?;
@@ -197,6 +272,12 @@ fn keeps_the_limits(rt: HostRuntime) -> Result<(), Fail> {
         assert_eq!(rt; is_read(alloc, &text), accepted);
         assert_eq!(rt; is_refused(alloc, &text), !accepted);
     }
+    Ok(())
+}
+
+#[test]
+fn keeps_the_limits_on_names_and_rules(rt: HostRuntime) -> Result<(), Fail> {
+    let alloc = rt.alloc();
     for (length, accepted) in [(256usize, true), (257, false)] {
         let long = vec![in alloc; b'a'; length]?;
         for (front, back) in [
@@ -211,6 +292,14 @@ fn keeps_the_limits(rt: HostRuntime) -> Result<(), Fail> {
             assert_eq!(rt; is_read(alloc, &text), accepted);
             assert_eq!(rt; is_refused(alloc, &text), !accepted);
         }
+    }
+    for length in [256usize, 257] {
+        let mut text = b"(STARTTERM (FUNCTIONSYMBOLS ".to_vec(alloc)?;
+        text.extend_from_slice(&vec![in alloc; b'a'; length]?)?;
+        text.extend_from_slice(b"))(RULES ")?;
+        text.extend_from_slice(&vec![in alloc; b'a'; length]?)?;
+        text.extend_from_slice(b"() -> Com_1(b()))")?;
+        assert_eq!(rt; is_read(alloc, &text), length == 256);
     }
     for (count, accepted) in [(1000, true), (1001, false)] {
         let mut rules = Vec::new(alloc);
