@@ -120,7 +120,44 @@ fn words_are_a_command_line_or_get_the_usage(rt: HostRuntime) -> Result<(), Fail
         let words = words_of(alloc, words)?;
         assert_eq!(rt; run(alloc, &words, &mut shelf, &mut sink), status);
         assert_eq!(rt; sink.bytes(), output);
+        assert_eq!(rt; shelf.calls() == 0, status == Status::Usage);
     }
+    Ok(())
+}
+
+#[test]
+fn statuses_are_numbered_from_0(rt: HostRuntime) {
+    let table: [Status; 11] = [
+        Status::Done,
+        Status::Unknown,
+        Status::Usage,
+        Status::ReadFault,
+        Status::WriteFault,
+        Status::Memory,
+        Status::ProgramRefused,
+        Status::ProofRefused,
+        Status::No,
+        Status::RunRefused,
+        Status::NotARun,
+    ];
+    for (number, status) in table.into_iter().enumerate() {
+        assert_eq!(rt; usize::from(status.code()), number);
+    }
+}
+
+#[test]
+fn the_first_put_may_stop_after_three_bytes(rt: HostRuntime) -> Result<(), Fail> {
+    let alloc = rt.alloc();
+    let words = words_of(alloc, &["analyse", "p"])?;
+    let files = one_file(alloc, "p", text_of(alloc, ONE_RULE)?)?;
+    let mut shelf = MemoryShelf::new(files, Vec::new(alloc));
+    let stop = Stop { call: 1, bytes: 3 };
+    let mut sink = MemorySink::new(alloc, 999, vec![in alloc; stop]?)?;
+    assert_eq!(rt;
+        run(alloc, &words, &mut shelf, &mut sink),
+        Status::WriteFault
+    );
+    assert_eq!(rt; sink.bytes(), b"bou".as_slice());
     Ok(())
 }
 

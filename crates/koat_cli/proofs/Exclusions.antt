@@ -170,9 +170,26 @@ told_is None h = absurd (different h)
     different e = cc
 told_is (Some files) h = (files, refl)
 
+-- words that ask for nothing are the cause of no other status
+pub only_usage : (call : Call) (t : Status) (x y : List ℕ) → IsUsage call x → Says t call y → t ≡ Usage
+only_usage call Usage x y usage h = refl
+only_usage call Done x y usage h = absurd (usage.other h.read.file h.read.asked)
+only_usage call ReadFault x y usage h = absurd (usage.other h.file h.asked)
+only_usage call ProgramRefused x y usage (inl h) = absurd (usage.other h.file h.asked)
+only_usage call ProgramRefused x y usage (inr (inl h)) = absurd (usage.other h.read.file h.read.asked)
+only_usage call ProgramRefused x y usage (inr (inr h)) = absurd (usage.other h.read.file h.read.asked)
+only_usage call Unknown x y usage h = absurd h
+only_usage call WriteFault x y usage h = absurd h
+only_usage call Memory x y usage h = absurd h
+only_usage call ProofRefused x y usage h = absurd h
+only_usage call No x y usage h = absurd h
+only_usage call RunRefused x y usage h = absurd h
+only_usage call NotARun x y usage h = absurd h
+
 -- the law
 pub causes_exclude : OneProgram → CausesExcludeEachOther
 causes_exclude one = record {
+  other_words = λ call t x y usage h. only_usage call t x y usage h;
   without_faults = λ call s t x y told steady hs ht.
       let files = told_is call.held told in
       one_cause one call files.0 s t x y files.1 (cause_of call s x (λ _ file h. lacking_only call.held file call.faults_before call.faults_after steady h) hs) (cause_of call t y (λ _ file h. lacking_only call.held file call.faults_before call.faults_after steady h) ht);

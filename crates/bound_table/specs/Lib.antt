@@ -1,0 +1,12 @@
+pub mod Kinds
+pub mod Terms
+pub mod Comparison
+pub mod Below
+pub mod Taking
+pub mod Folding
+pub mod Sorting
+pub mod Likes
+pub mod Dominance
+pub mod Rewriting
+pub mod Laws
+pub mod InForce

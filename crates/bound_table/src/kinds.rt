@@ -1,0 +1,66 @@
+/// One case of a rewriting: what is done at a node of a bound.
+#[derive(Clone, Copy, Debug, PartialEq, Eq, Hash)]
+pub enum Case {
+    /// A sum in a sum, a product in a product and a greatest in a greatest is replaced by its parts, in place.
+    Flat,
+    /// Two or more constants become one, at the first one's place, where what they make is below 2^127; else none is folded.
+    FoldConst,
+    /// A product with a factor 0 becomes 0.
+    ZeroProduct,
+    /// Zeros of a sum or greatest and ones of a product are dropped.
+    Neutral,
+    /// Factors are sorted by kind and then structurally, other parts by how many powers, sums and greatests, and variables are
+    /// among their factors, more first, then by the factors, and then by the constant, greater first. Equal ones stay as they
+    /// stood.
+    Order,
+    /// Each longest run of neighbouring parts of a sum with the same factors becomes one part, the sum of their constants times
+    /// these factors, where that sum is below 2^127.
+    Like,
+    /// A part of a greatest that is below another one is dropped.
+    Dominate,
+    /// A node of no parts becomes a constant, and a part alone stands for itself.
+    Few,
+}
+
+/// A table of N cases, which are tried at each node in order.
+#[derive(Clone, Copy, Debug, PartialEq, Eq, Hash)]
+pub struct Cases<const N: usize> {
+    /// The cases, first to last.
+    pub list: [Case; N],
+}
+
+/// The table of the eight cases.
+pub const SMALL: Cases<8> = Cases {
+    list: [
+        Case::Flat,
+        Case::FoldConst,
+        Case::ZeroProduct,
+        Case::Neutral,
+        Case::Order,
+        Case::Like,
+        Case::Dominate,
+        Case::Few,
+    ],
+};
+
+/// The kinds of nodes that hold parts.
+#[derive(Clone, Copy, Debug, PartialEq, Eq)]
+pub enum Kind {
+    /// A sum.
+    AsSum,
+    /// A product.
+    AsProd,
+    /// A greatest.
+    AsMax,
+}
+
+/// The factors that the order of the parts of a sum or greatest counts.
+#[derive(Clone, Copy, Debug, PartialEq, Eq)]
+pub enum Counted {
+    /// Powers.
+    Powers,
+    /// Sums and greatests.
+    Nests,
+    /// Variables.
+    Inputs,
+}

@@ -1,0 +1,160 @@
+ghost use Rattle.std.specs.Prelude.{◌≡◌, IfOk};
+ghost use Rattle.model.specs.Bounds.{IsBased};
+ghost use Rattle.bound_expr.specs.Tidy.{IsTidy, HasTidyNumbers};
+ghost use Rattle.bound_table.specs.InForce.{rewritten as rewritten_of};
+ghost use Rattle.bound_table.specs.Laws.{HasValueOf, ReadsNoMore, IsTidying};
+ghost use Rattle.bound_expr.specs.Views.{size_of, sizes_of, parts_of};
+ghost use Rattle.bound_table.specs.Rewriting.{at_parts as made_of_parts, at_node as made_of_node, at_node_all, parts_passed, one_pass, one_pass_each, simplified};
+
+use crate::dominance::dominant;
+use crate::folding::{folded, simple, spliced, whole, without_neutral, zeroed};
+use crate::kinds::{Case, Cases, Kind, SMALL};
+use crate::likes::likes_joined;
+use crate::sorting::sort;
+use crate::structure::is_same;
+use bound_expr::{Bound, Memory};
+use std::alloc::Global;
+
+// How many passes are made at most.
+const PASSES: u32 = 16;
+
+// The arms of a match on the case: each case by its name, with what it makes of the parts.
+macro_rules! cases {
+    ($case:expr; $($name:ident => $outcome:expr),+ $(,)?) => {
+        match $case {
+            $(Case::$name => $outcome),+
+        }
+    };
+}
+
+/// The bound `b` rewritten by a table of cases.
+///
+/// A pass builds the bound again from the leaves up, and applies the cases of the table once each, in order, to each node as it
+/// then stands. There are as many passes as change something, at most sixteen.
+///
+/// # Errors
+///
+/// `Memory` where an allocation fails.
+pub fn simplify<const N: usize>(alloc: Global, cases: &Cases<N>, b: &Bound) -> Result<Bound, Memory>
+    ensures outcome { IfOk result (λ r. size_of r ≡ simplified cases.now.list (size_of b.now)) }
+
+    // No value changes, no variable is read that was not read before, and a table that begins with Flat and ends with Few
+    // makes the bound tidy.
+    ensures value { IsBased (size_of b.now) → IfOk result (λ r. HasValueOf (size_of r) (size_of b.now)) }
+    ensures reads { IfOk result (λ r. ReadsNoMore (size_of r) (size_of b.now)) }
+    ensures tidy { IsTidying cases.now.list → HasTidyNumbers (size_of b.now) → IfOk result (λ r. IsTidy (size_of r)) }
+{
+    rewritten(alloc, &cases.list, b)
+}
+
+/// The bound `b` rewritten by the table in force, the eight cases of `SMALL`.
+///
+/// # Errors
+///
+/// `Memory` where an allocation fails.
+pub fn rewrite(alloc: Global, b: &Bound) -> Result<Bound, Memory>
+    ensures outcome { IfOk result (λ r. size_of r ≡ rewritten_of (size_of b.now)) }
+    ensures value { IsBased (size_of b.now) → IfOk result (λ r. HasValueOf (size_of r) (size_of b.now)) }
+    ensures reads { IfOk result (λ r. ReadsNoMore (size_of r) (size_of b.now)) }
+    ensures tidy { HasTidyNumbers (size_of b.now) → IfOk result (λ r. IsTidy (size_of r)) }
+{
+    simplify(alloc, &SMALL, b)
+}
+
+// As many passes as change something, at most sixteen.
+fn rewritten(alloc: Global, cases: &[Case], b: &Bound) -> Result<Bound, Memory>
+    ensures { IfOk result (λ r. size_of r ≡ simplified cases.now (size_of b.now)) }
+{
+    let mut now = b.copied(alloc)?;
+    for _ in 0..PASSES {
+        let next = pass(alloc, cases, &now)?;
+        if is_same(&next, &now) {
+            return Ok(next);
+        }
+        now = next;
+    }
+    Ok(now)
+}
+
+// One pass: the bound built again from the leaves up.
+#[cycle(pass)]
+fn pass(alloc: Global, cases: &[Case], bound: &Bound) -> Result<Bound, Memory>
+    ensures { IfOk result (λ r. size_of r ≡ one_pass cases.now (size_of bound.now)) }
+{
+    let node = with_parts_passed(alloc, cases, bound)?;
+    at_cases(alloc, cases, node)
+}
+
+// A node with its parts rewritten.
+#[cycle(pass)]
+#[tactic(auto, using(crate::proofs::Loops::views), unfolding(crate::specs::Rewriting::parts_passed))]
+fn with_parts_passed(alloc: Global, cases: &[Case], bound: &Bound) -> Result<Bound, Memory>
+    ensures { IfOk result (λ r. size_of r ≡ parts_passed cases.now (size_of bound.now)) }
+{
+    match bound {
+        Bound::Const(c) => Ok(Bound::Const(*c)),
+        Bound::Var(i) => Ok(Bound::Var(*i)),
+        Bound::Sum(parts) => Ok(Bound::Sum(pass_each(alloc, cases, parts)?)),
+        Bound::Prod(parts) => Ok(Bound::Prod(pass_each(alloc, cases, parts)?)),
+        Bound::Max(parts) => Ok(Bound::Max(pass_each(alloc, cases, parts)?)),
+        Bound::Power(base, exponent) => Ok(Bound::Power(
+            *base,
+            Box::new(alloc, pass(alloc, cases, exponent)?)?,
+        )),
+    }
+}
+
+// A pass over each of the parts, in order.
+#[cycle(pass)]
+#[tactic(auto, using(crate::proofs::Passes::one_pass_each_steps), unfolding(crate::specs::Rewriting::parts_passed))]
+fn pass_each(alloc: Global, cases: &[Case], parts: &[Bound]) -> Result<Vec<Bound>, Memory>
+    ensures { IfOk result (λ r. parts_of (sizes_of r.items) ≡ one_pass_each cases.now (parts_of (sizes_of parts.now))) }
+{
+    let mut outcomes = Vec::new(alloc);
+    for part in parts {
+        outcomes.push(pass(alloc, cases, part)?)?;
+    }
+    Ok(outcomes)
+}
+
+// The cases applied once each, in order, to a node as it then stands.
+fn at_cases(alloc: Global, cases: &[Case], node: Bound) -> Result<Bound, Memory>
+    ensures { IfOk result (λ r. size_of r ≡ at_node_all cases.now (size_of node)) }
+{
+    let mut now = node;
+    for case in cases {
+        now = at_node(alloc, *case, now)?;
+    }
+    Ok(now)
+}
+
+// A case applied to a node.
+#[tactic(auto, using(crate::proofs::Loops::views), unfolding(crate::specs::Rewriting::at_node))]
+fn at_node(alloc: Global, case: Case, node: Bound) -> Result<Bound, Memory>
+    ensures { IfOk result (λ r. size_of r ≡ made_of_node case (size_of node)) }
+{
+    match node {
+        Bound::Sum(parts) => at_parts(alloc, case, Kind::AsSum, parts),
+        Bound::Prod(parts) => at_parts(alloc, case, Kind::AsProd, parts),
+        Bound::Max(parts) => at_parts(alloc, case, Kind::AsMax, parts),
+        Bound::Const(c) => Ok(Bound::Const(c)),
+        Bound::Var(i) => Ok(Bound::Var(i)),
+        Bound::Power(base, exponent) => Ok(Bound::Power(base, exponent)),
+    }
+}
+
+// A case applied to a node of a kind with these parts.
+fn at_parts(alloc: Global, case: Case, kind: Kind, parts: Vec<Bound>) -> Result<Bound, Memory>
+    ensures { IfOk result (λ r. size_of r ≡ made_of_parts case kind (sizes_of parts.items)) }
+{
+    cases! { case;
+        Flat => Ok(whole(kind, spliced(alloc, kind, parts)?)),
+        FoldConst => Ok(whole(kind, folded(alloc, kind, parts)?)),
+        ZeroProduct => Ok(zeroed(kind, parts)),
+        Neutral => Ok(whole(kind, without_neutral(alloc, kind, parts)?)),
+        Order => Ok(whole(kind, sort(alloc, kind, parts)?)),
+        Like => Ok(whole(kind, likes_joined(alloc, kind, parts)?)),
+        Dominate => Ok(whole(kind, dominant(kind, parts))),
+        Few => Ok(simple(kind, parts)),
+    }
+}

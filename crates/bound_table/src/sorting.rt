@@ -1,0 +1,82 @@
+ghost use Rattle.std.specs.Prelude.{◌≡◌, ◌++◌, IfOk, OnOk};
+ghost use Rattle.bound_expr.specs.Views.{size_of, sizes_of};
+ghost use Rattle.bound_table.specs.Sorting.{sorted, merged, coming_before, not_before, starts_before};
+
+use crate::kinds::Kind;
+use crate::order::order;
+use bound_expr::{Bound, Memory};
+use std::alloc::Global;
+use std::cmp::Ordering;
+use std::collections::VecDeque;
+
+// The parts in the order of the kind, by merging; equal ones stay as they stood.
+pub(crate) fn sort(alloc: Global, kind: Kind, parts: Vec<Bound>) -> Result<Vec<Bound>, Memory>
+    ensures { IfOk result (λ r. sizes_of r.items ≡ sorted kind (sizes_of parts.items)) }
+{
+    if parts.len() < 2 {
+        return Ok(parts);
+    }
+    let mut front = parts;
+    let half = front.len() / 2;
+    let back = front.split_off(half)?;
+    let front = sort(alloc, kind, front)?;
+    let back = sort(alloc, kind, back)?;
+    merge(alloc, kind, front, back)
+}
+
+// Two lists in order merged.
+fn merge(
+    alloc: Global,
+    kind: Kind,
+    front: Vec<Bound>,
+    back: Vec<Bound>,
+) -> Result<Vec<Bound>, Memory>
+    ensures { IfOk result (λ r. sizes_of r.items ≡ merged kind (sizes_of front.items) (sizes_of back.items)) }
+{
+    let mut rest = VecDeque::from(back);
+    let mut all = Vec::new(alloc);
+    for part in front {
+        move_before(kind, &part, &mut rest, &mut all)?;
+        all.push(part)?;
+    }
+    move_all(rest, &mut all)?;
+    Ok(all)
+}
+
+// Moves those at the front that come before the part.
+fn move_before(
+    kind: Kind,
+    part: &Bound,
+    rest: &mut VecDeque<Bound>,
+    all: &mut Vec<Bound>,
+) -> Result<(), Memory>
+    ensures moved { OnOk result (sizes_of all.new.items ≡ sizes_of all.old.items ++ coming_before kind (size_of part.now) (sizes_of rest.old.items)) }
+    ensures left { OnOk result (sizes_of rest.new.items ≡ not_before kind (size_of part.now) (sizes_of rest.old.items)) }
+{
+    while comes_first(kind, rest, part) {
+        if let Some(first) = rest.pop_front() {
+            all.push(first)?;
+        }
+    }
+    Ok(())
+}
+
+// Whether there is a first one, and it comes before the part.
+fn comes_first(kind: Kind, rest: &VecDeque<Bound>, part: &Bound) -> bool
+    ensures { result ≡ starts_before kind (size_of part.now) (sizes_of rest.now.items) }
+{
+    match rest.front() {
+        Some(first) => order(kind, first, part) == Ordering::Less,
+        None => false,
+    }
+}
+
+fn move_all(rest: VecDeque<Bound>, all: &mut Vec<Bound>) -> Result<(), Memory>
+    ensures { OnOk result (sizes_of all.new.items ≡ sizes_of all.old.items ++ sizes_of rest.items) }
+{
+    let mut rest = rest;
+    while let Some(first) = rest.pop_front() {
+        all.push(first)?;
+    }
+    Ok(())
+}
