@@ -1,6 +1,6 @@
 -- Sums, products and powers up to a limit: capping the operands changes nothing.
 use Rattle.std.proofs.Common.{◌≡◌, ℕ, zero, suc, ◌+◌, ◌*◌, ◌^◌, ◌/◌, ◌%◌, ◌<◌, ◌≤◌, min, max, refl, ap, sym, ◌∙◌, inl, inr, arith}
-use Rattle.std.proofs.Math.Nat.{mul-le-mul, pow-suc, pow-zero}
+use Rattle.std.proofs.Math.Nat.{mul-le-mul, mul_assoc, pow-suc, pow-zero}
 use Rattle.std.proofs.lemmas.Bool.{cases_lt}
 use Rattle.std.proofs.lemmas.Nat.{pow-add}
 
@@ -28,7 +28,7 @@ min-mul a b limit =
     ∙ min-mul_right b a limit
     ∙ ap (λ (v : ℕ). min v limit) (omega arith)
 
-power_zero : (c : ℕ) → c ^ 0 ≡ 1
+pub power_zero : (c : ℕ) → c ^ 0 ≡ 1
 power_zero c = pow-zero c
 
 -- a power of a base of at least 2 is above its exponent
@@ -68,28 +68,46 @@ pow-halves c n =
     ∙ pow-add c (n % 2) (n / 2 + n / 2)
     ∙ ap (λ (v : ℕ). c ^ (n % 2) * v) (pow-add c (n / 2) (n / 2))
 
-pow-one : (c : ℕ) → c ^ 1 ≡ c
+pub pow-one : (c : ℕ) → c ^ 1 ≡ c
 pow-one c = pow-suc c 0 ∙ ap (λ (v : ℕ). v * c) (power_zero c) ∙ omega arith
 
--- by squares, an even power and an odd one
-pub min-pow_even : (c n root square limit : ℕ) → n % 2 ≡ 0 → root ≡ min (c ^ (n / 2)) limit → square ≡ min (root * root) limit
-    → square ≡ min (c ^ n) limit
-min-pow_even c n root square limit even is_root is_square =
-    let squared : min (root * root) limit ≡ min (c ^ (n / 2) * c ^ (n / 2)) limit =
-    ap (λ (v : ℕ). min (v * v) limit) is_root ∙ min-mul (c ^ (n / 2)) (c ^ (n / 2)) limit in
-    let whole : c ^ n ≡ c ^ 0 * (c ^ (n / 2) * c ^ (n / 2)) =
-    pow-halves c n ∙ ap (λ (v : ℕ). c ^ v * (c ^ (n / 2) * c ^ (n / 2))) even in
-    let doubled : c ^ n ≡ c ^ (n / 2) * c ^ (n / 2) =
-    whole ∙ ap (λ (v : ℕ). v * (c ^ (n / 2) * c ^ (n / 2))) (power_zero c) ∙ omega arith in
-    is_square ∙ squared ∙ ap (λ (v : ℕ). min v limit) (sym doubled)
+-- capping twice is capping once
+pub min-min : (a limit : ℕ) → min (min a limit) limit ≡ min a limit
+min-min a limit = omega arith
 
-pub min-pow_odd : (c n root square outcome limit : ℕ) → n % 2 ≡ 1 → root ≡ min (c ^ (n / 2)) limit → square ≡ min (root * root) limit
-    → outcome ≡ min (c * square) limit → outcome ≡ min (c ^ n) limit
-min-pow_odd c n root square outcome limit odd is_root is_square is_outcome =
-    let squared : square ≡ min (c ^ (n / 2) * c ^ (n / 2)) limit =
-    is_square ∙ ap (λ (v : ℕ). min (v * v) limit) is_root ∙ min-mul (c ^ (n / 2)) (c ^ (n / 2)) limit in
-    let whole : c ^ n ≡ c * (c ^ (n / 2) * c ^ (n / 2)) =
-    pow-halves c n ∙ ap (λ (v : ℕ). c ^ v * (c ^ (n / 2) * c ^ (n / 2))) odd
-    ∙ ap (λ (v : ℕ). v * (c ^ (n / 2) * c ^ (n / 2))) (pow-one c) in
-    is_outcome ∙ ap (λ (v : ℕ). min (c * v) limit) squared ∙ min-mul_right c (c ^ (n / 2) * c ^ (n / 2)) limit
-    ∙ ap (λ (v : ℕ). min v limit) (sym whole)
+-- a capped factor on the left changes nothing
+pub min-mul_left : (a b limit : ℕ) → min (min a limit * b) limit ≡ min (a * b) limit
+min-mul_left a b limit = ap (λ (v : ℕ). min v limit) (omega arith) ∙ min-mul_right b a limit ∙ ap (λ (v : ℕ). min v limit) (omega arith)
+
+-- a capped base changes nothing
+pub min-pow_base : (b n limit : ℕ) → min (min b limit ^ n) limit ≡ min (b ^ n) limit
+min-pow_base b zero limit = ap (λ (v : ℕ). min v limit) (power_zero (min b limit) ∙ sym (power_zero b))
+min-pow_base b (suc n) limit =
+    ap (λ (v : ℕ). min v limit) (pow-suc (min b limit) n)
+    ∙ min-mul_right (min b limit ^ n) b limit
+    ∙ sym (min-mul_left (min b limit ^ n) b limit)
+    ∙ ap (λ (v : ℕ). min (v * b) limit) (min-pow_base b n limit)
+    ∙ min-mul_left (b ^ n) b limit
+    ∙ ap (λ (v : ℕ). min v limit) (sym (pow-suc b n))
+
+-- a power of a square is a square of powers
+pub square-pow : (b n : ℕ) → (b * b) ^ n ≡ b ^ n * b ^ n
+square-pow b zero = power_zero (b * b) ∙ sym (ap (λ (v : ℕ). v * v) (power_zero b))
+square-pow b (suc n) =
+    pow-suc (b * b) n ∙ ap (λ (v : ℕ). v * (b * b)) (square-pow b n)
+    ∙ (omega arith ∙ sym (ap (λ (v : ℕ). v * v) (pow-suc b n)))
+
+-- a turn: the odd factor taken in, the base squared and the exponent halved make the same power
+pub min-pow_turn : (outcome square rest taken next limit : ℕ) → taken ≡ min (outcome * square ^ (rest % 2)) limit → next ≡ min (square * square) limit
+    → min (taken * next ^ (rest / 2)) limit ≡ min (outcome * square ^ rest) limit
+min-pow_turn outcome square rest taken next limit is_taken is_next =
+    let a : ℕ = outcome * square ^ (rest % 2) in
+    let k : ℕ = rest / 2 in
+    ap (λ (v : ℕ). min (v * next ^ k) limit) is_taken
+    ∙ min-mul_left a (next ^ k) limit
+    ∙ sym (min-mul_right a (next ^ k) limit)
+    ∙ ap (λ (v : ℕ). min (a * v) limit) (ap (λ (v : ℕ). min (v ^ k) limit) is_next ∙ min-pow_base (square * square) k limit)
+    ∙ min-mul_right a ((square * square) ^ k) limit
+    ∙ ap (λ (v : ℕ). min (a * v) limit) (square-pow square k)
+    ∙ ap (λ (v : ℕ). min v limit) (mul_assoc outcome (square ^ (rest % 2)) (square ^ k * square ^ k))
+    ∙ ap (λ (v : ℕ). min (outcome * v) limit) (sym (pow-halves square rest))

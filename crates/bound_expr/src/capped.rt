@@ -1,4 +1,4 @@
-ghost use Rattle.std.specs.Prelude.{◌≡◌, ◌*◌, ◌+◌, ◌≤◌, ◌^◌, max, length};
+ghost use Rattle.std.specs.Prelude.{◌≡◌, ◌*◌, ◌+◌, ◌%◌, ◌≤◌, ◌^◌, max, length};
 ghost use Rattle.model.specs.Bounds.{val_sum, val_product, val_greatest};
 ghost use Rattle.bound_expr.specs.Views.{size_of, sizes_of, parts_of};
 ghost use Rattle.bound_expr.specs.Substitution.{ReadsBelow, AllReadBelow};
@@ -86,18 +86,28 @@ pub fn capped_multiply(a: u128, b: u128) -> u128
     a.saturating_mul(b).min(CAP)
 }
 
-// The capped power, by squares: as many steps as the exponent has bits.
+// The capped power, by squares: as many turns as the exponent has bits.
 fn power(base: u128, exponent: u128) -> u128
     ensures { result ≡ capped (base ^ exponent) }
 {
-    if exponent == 0 {
-        return 1;
+    let mut outcome = 1;
+    let mut square = base;
+    let mut rest = exponent;
+    while rest > 0 {
+        outcome = with_odd_factor(outcome, square, rest);
+        square = capped_multiply(square, square);
+        rest /= 2;
     }
-    let root = power(base, exponent / 2);
-    let square = capped_multiply(root, root);
-    if exponent % 2 == 0 {
-        square
-    } else {
-        capped_multiply(base, square)
+    outcome
+}
+
+// The outcome with the square as one more factor, where the exponent that is left is odd.
+fn with_odd_factor(outcome: u128, square: u128, rest: u128) -> u128
+    requires { outcome ≤ 2 ^ 127 }
+    ensures { result ≡ capped (outcome * square ^ (rest % 2)) }
+{
+    if rest % 2 == 0 {
+        return outcome;
     }
+    capped_multiply(outcome, square)
 }

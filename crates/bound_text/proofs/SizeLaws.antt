@@ -1,0 +1,48 @@
+-- How large the tree so far is, by the place of the code.
+use Rattle.std.proofs.Common.{◌≡◌, ℕ, ◌+◌, ◌<◌, max, List, length, take, get_or, refl, ap, sym, ◌∙◌, arith}
+use Rattle.std.proofs.lemmas.List.{take_more}
+use Rattle.model.specs.Bounds.{Constant, Input, Parts}
+use Rattle.bound_expr.specs.Measure.{node_count_of_all, greatest_depth}
+use Rattle.bound_text.specs.Fronts.{Outer, Inside, nodes_of, inner_levels, nodes_round, levels_above}
+use Rattle.bound_text.specs.Views.{parts_in, bracket_of, outer_of, front_with, sum_here, product_here, item_here}
+use Rattle.bound_text.specs.declared.state.Opened.{Opened}
+use Rattle.bound_text.specs.declared.state.Place.{Place}
+use Rattle.bound_text.specs.declared.state.Place.TheVariants as at
+use Rattle.bound_text.proofs.PartLaws.{node_count-with_part, depth-with_part, product_node-with_part}
+use Rattle.bound_text.proofs.ViewLaws.{outer_of_push}
+
+-- a leaf that is no factor yet counts like one
+pub nodes_here : (place : Place) (outer : Outer) (ts fs : Parts)
+    → nodes_of (front_with place outer ts fs) ≡ nodes_round outer + sum_here place outer ts + node_count_of_all ts + product_here place fs + node_count_of_all fs + item_here place
+nodes_here at.Begins outer ts fs = refl
+nodes_here (at.Number c) outer ts fs = omega (arith, node_count-with_part fs (Constant c), product_node-with_part fs (Constant c) refl)
+nodes_here (at.Name i) outer ts fs = omega (arith, node_count-with_part fs (Input i), product_node-with_part fs (Input i) refl)
+nodes_here (at.RunCaret i) outer ts fs = refl
+nodes_here (at.PowerCaret c) outer ts fs = refl
+nodes_here at.ItemRead outer ts fs = refl
+nodes_here at.BlankRead outer ts fs = refl
+nodes_here at.PlusRead outer ts fs = refl
+nodes_here at.CommaRead outer ts fs = refl
+
+-- and so do its levels
+pub levels_here : (place : Place) (outer : Outer) (ts fs : Parts)
+    → inner_levels (front_with place outer ts fs) ≡ max (levels_above outer + sum_here place outer ts + greatest_depth ts) (levels_above outer + sum_here place outer ts + product_here place fs + max (greatest_depth fs) (item_here place))
+levels_here at.Begins outer ts fs = refl
+levels_here (at.Number c) outer ts fs = omega (arith, depth-with_part fs (Constant c), product_node-with_part fs (Constant c) refl)
+levels_here (at.Name i) outer ts fs = omega (arith, depth-with_part fs (Input i), product_node-with_part fs (Input i) refl)
+levels_here (at.RunCaret i) outer ts fs = refl
+levels_here (at.PowerCaret c) outer ts fs = refl
+levels_here at.ItemRead outer ts fs = refl
+levels_here at.BlankRead outer ts fs = refl
+levels_here at.PlusRead outer ts fs = refl
+levels_here at.CommaRead outer ts fs = refl
+
+-- one more bracket
+pub outer_of-take_more : (xs : List Opened) (i : ℕ) (x : Opened) → i < length xs → x ≡ get_or xs i x
+    → outer_of (take (i + 1) xs) ≡ Inside (bracket_of x.bracket) (parts_in x.terms) (parts_in x.factors) (outer_of (take i xs))
+outer_of-take_more xs i x h e =
+    ap outer_of (take_more xs i x h)
+    ∙ outer_of_push (take i xs) (get_or xs i x)
+    ∙ ap (λ (y : Opened). Inside (bracket_of y.bracket) (parts_in y.terms) (parts_in y.factors) (outer_of (take i xs))) (sym e)
+
+pub ruleset here = (nodes_here, levels_here)

@@ -1,0 +1,323 @@
+-- Where the reader comes to is what has been read.
+use Rattle.std.proofs.Common.{◌≡◌, ℕ, zero, suc, ◌+◌, ◌≤◌, nat_lt, Bool, true, false, not, cond, ◌&&◌, List, ◌∷◌, ◌++◌, Some, refl, ap, sym, subst, ◌∙◌, arith}
+use Rattle.std.proofs.lemmas.Bool.Decides.{nat_tests}
+use Rattle.model.specs.Bounds.{Size, Constant, Input, SumOf, ProductOf, GreatestOf, PowerOf, Parts, NoParts, Part}
+use Rattle.bound_expr.specs.Tidy.{part_count, IsNoSum, IsNoProduct, IsNoGreatest, EachPart}
+use Rattle.bound_text.specs.Shapes.{is_sum, is_greatest, is_empty, with_part, IsShaped, AreShaped}
+use Rattle.bound_text.specs.Pieces.{Piece, Variable, Number, Greatest, Open, Close, Times, Caret, Plus, Blank, Comma}
+use Rattle.bound_text.specs.Writing.{Nothing, bracketed_then, text_then, factors_then, plus_between, comma_between}
+use Rattle.bound_text.specs.Fronts.{Bracket, Arguments, Exponent, Factor, Outer, Whole, Inside, Place, Front, Begins, RunCaret, PowerCaret, ItemRead, BlankRead, PlusRead, CommaRead, IsFront, IsOuter, IsBracket, IsPlace, AreTerms, AreFactors, front_then, outer_then, place_then, star_then, each_then, bracket_then, last, init, is_input, term_of, bound_of, can_end, can_be_argument}
+use Rattle.bound_text.specs.Steps.{when, with_copies, front_at, inside, behind_factor, begin_item, end_run, begin_exponent, caret_behind, can_close, item_of, close_bracket, follow_item, end_argument, step, step_at, beginning, finish}
+use Rattle.bound_text.proofs.TestLaws.{both, not-true}
+use Rattle.bound_text.proofs.PartLaws.{is_empty-with_part, last-with_part, init-with_part}
+use Rattle.bound_text.proofs.JoiningLaws.{as_one-with_part}
+use Rattle.bound_text.proofs.WritingLaws.{is_variable, ends_in, joined-with_part, each-with_part, factors-other, factors-run, term_text, bound_text}
+
+-- behind the piece the reader has read what it had, and the piece
+pub record Extends (f : Front) (piece : Piece) (g : Front) : Type 0 where
+  pub is_front : IsFront g
+  pub text : (rest : List Piece) → front_then g rest ≡ front_then f (piece ∷ rest)
+
+-- where a test leads
+pub when-some : {X : Type 0} (v : Bool) (f g : X) → when v f ≡ Some g → (v ≡ true) × (f ≡ g)
+when-some true f g h = (refl, cc)
+when-some false f g h = cc
+
+-- one more part keeps what holds of each
+each-more : (P : Size → Type 0) (bs : Parts) (b : Size) → EachPart P bs → P b → EachPart P (with_part bs b)
+each-more P NoParts b all here = (here, tt)
+each-more P (Part c cs) b all here = (all.0, each-more P cs b all.1 here)
+
+-- one more part as texts spell it
+shaped-more : (bs : Parts) (b : Size) → AreShaped bs → IsShaped b → AreShaped (with_part bs b)
+shaped-more NoParts b all here = (here, tt)
+shaped-more (Part c cs) b all here = (all.0, shaped-more cs b all.1 here)
+
+-- without the last
+each-less : (P : Size → Type 0) (bs : Parts) (b : Size) → EachPart P (with_part bs b) → EachPart P bs
+each-less P NoParts b all = tt
+each-less P (Part c cs) b all = (all.0, each-less P cs b all.1)
+
+-- without the last, as texts spell them
+shaped-less : (bs : Parts) (b : Size) → AreShaped (with_part bs b) → AreShaped bs
+shaped-less NoParts b all = tt
+shaped-less (Part c cs) b all = (all.0, shaped-less cs b all.1)
+
+-- one more factor
+factors-more : (fs : Parts) (b : Size) → AreFactors fs → IsShaped b → IsNoProduct b → AreFactors (with_part fs b)
+factors-more fs b all shaped none = record { no_products = each-more IsNoProduct fs b all.no_products none; shaped = shaped-more fs b all.shaped shaped }
+
+-- copies more
+copies-more : (n i : ℕ) (fs : Parts) → AreFactors fs → AreFactors (with_copies n i fs)
+copies-more zero i fs all = all
+copies-more (suc n) i fs all = factors-more (with_copies n i fs) (Input i) (copies-more n i fs all) tt tt
+
+-- the number of parts with one more
+count-more : (bs : Parts) (b : Size) → part_count (with_part bs b) ≡ part_count bs + 1
+count-more NoParts b = omega arith
+count-more (Part c cs) b = omega (arith, count-more cs b)
+
+-- no terms
+no_parts : AreTerms NoParts
+no_parts = record { no_sums = tt; shaped = tt }
+
+-- no factors
+no_factors : AreFactors NoParts
+no_factors = record { no_products = tt; shaped = tt }
+
+-- one more factor
+more_factor : (outer : Outer) (ts fs : Parts) (place : Place) (b : Size) (piece : Piece) → IsFront (front_at outer ts fs place) → IsShaped b → IsNoProduct b
+    → ((rest : List Piece) → factors_then Nothing (with_part fs b) rest ≡ factors_then Nothing fs (place_then place fs (piece ∷ rest))) → Extends (front_at outer ts fs place) piece (behind_factor outer ts fs b)
+more_factor outer ts fs place b piece is shaped none texts = record {
+  is_front = record { outer = is.outer; terms = is.terms; factors = factors-more fs b is.factors shaped none; place = is_empty-with_part fs b };
+  text = λ rest. ap (λ (ps : List Piece). outer_then outer (each_then plus_between ts ps)) (texts rest);
+}
+
+-- where nothing stands before, the last factor tells
+ends_first : (fs : Parts) (i : ℕ) → is_input i (last fs) ≡ false → ends_in Nothing fs i ≡ false
+ends_first NoParts i h = refl
+ends_first (Part b bs) i h = h
+
+-- where an item begins
+begin_sound : (outer : Outer) (ts fs : Parts) (piece : Piece) (g : Front) → IsFront (front_at outer ts fs Begins) → begin_item outer ts fs piece ≡ Some g → Extends (front_at outer ts fs Begins) piece g
+begin_sound outer ts fs (Variable i) g is h =
+    let t = when-some (not (is_input i (last fs))) (behind_factor outer ts fs (Input i)) g h in
+    subst (Extends (front_at outer ts fs Begins) (Variable i)) t.1
+    (more_factor outer ts fs Begins (Input i) (Variable i) is tt tt (λ rest. factors-run Nothing fs zero i rest (ends_first fs i (not-true (is_input i (last fs)) t.0))))
+begin_sound outer ts fs (Number c) g is h =
+    let e : behind_factor outer ts fs (Constant c) ≡ g = cc in
+    subst (Extends (front_at outer ts fs Begins) (Number c)) e
+    (more_factor outer ts fs Begins (Constant c) (Number c) is tt tt (λ rest. factors-other Nothing fs (Constant c) rest refl))
+begin_sound outer ts fs Greatest g is h =
+    let e : inside (Arguments NoParts) outer ts fs ≡ g = cc in
+    subst (Extends (front_at outer ts fs Begins) Greatest) e (record {
+      is_front = record { outer = (record { no_greatests = tt; shaped = tt }, is.terms, is.factors, is.outer); terms = no_parts; factors = no_factors; place = tt };
+      text = λ rest. refl;
+    })
+begin_sound outer ts fs Open g is h =
+    let e : inside Factor outer ts fs ≡ g = cc in
+    subst (Extends (front_at outer ts fs Begins) Open) e (record {
+      is_front = record { outer = (tt, is.terms, is.factors, is.outer); terms = no_parts; factors = no_factors; place = tt };
+      text = λ rest. refl;
+    })
+begin_sound outer ts fs piece g is h = cc
+
+-- behind the `^` of a run
+run_sound : (outer : Outer) (ts fs : Parts) (i : ℕ) (piece : Piece) (g : Front) → IsFront (front_at outer ts fs (RunCaret i)) → end_run outer ts fs i piece ≡ Some g → Extends (front_at outer ts fs (RunCaret i)) piece g
+run_sound outer ts fs i (Number zero) g is h = cc
+run_sound outer ts fs i (Number (suc zero)) g is h = cc
+run_sound outer ts fs i (Number (suc (suc n))) g is h =
+    let more : nat_lt 1 (suc (suc n)) ≡ true = grind (arith, nat_tests) in
+    let t = when-some (nat_lt 1 (suc (suc n))) (front_at outer ts (with_copies (suc (suc n)) i fs) ItemRead) g h in
+    subst (Extends (front_at outer ts fs (RunCaret i)) (Number (suc (suc n)))) t.1 (record {
+      is_front = record { outer = is.outer; terms = is.terms; factors = copies-more (suc (suc n)) i fs is.factors; place = is_empty-with_part (with_copies (suc n) i fs) (Input i) };
+      text = λ rest.
+          ap (λ (ps : List Piece). outer_then outer (each_then plus_between ts ps))
+          (factors-run Nothing fs (suc n) i rest (ends_first fs i is.place)
+          ∙ ap (λ (v : Bool). factors_then Nothing fs (star_then fs (Variable i ∷ cond v (Caret ∷ Number (suc (suc n)) ∷ rest) rest))) more);
+    })
+run_sound outer ts fs i piece g is h = cc
+
+-- behind the `^` of a power
+exponent_sound : (outer : Outer) (ts fs : Parts) (c : ℕ) (piece : Piece) (g : Front) → IsFront (front_at outer ts fs (PowerCaret c)) → begin_exponent outer ts fs c piece ≡ Some g
+    → Extends (front_at outer ts fs (PowerCaret c)) piece g
+exponent_sound outer ts fs c (Number n) g is h =
+    let e : behind_factor outer ts fs (PowerOf c (Constant n)) ≡ g = cc in
+    subst (Extends (front_at outer ts fs (PowerCaret c)) (Number n)) e
+    (more_factor outer ts fs (PowerCaret c) (PowerOf c (Constant n)) (Number n) is (is.place, tt) tt (λ rest. factors-other Nothing fs (PowerOf c (Constant n)) rest refl))
+exponent_sound outer ts fs c (Variable i) g is h =
+    let e : behind_factor outer ts fs (PowerOf c (Input i)) ≡ g = cc in
+    subst (Extends (front_at outer ts fs (PowerCaret c)) (Variable i)) e
+    (more_factor outer ts fs (PowerCaret c) (PowerOf c (Input i)) (Variable i) is (is.place, tt) tt (λ rest. factors-other Nothing fs (PowerOf c (Input i)) rest refl))
+exponent_sound outer ts fs c Open g is h =
+    let e : inside (Exponent c) outer ts fs ≡ g = cc in
+    subst (Extends (front_at outer ts fs (PowerCaret c)) Open) e (record {
+      is_front = record { outer = (is.place, is.terms, is.factors, is.outer); terms = no_parts; factors = no_factors; place = tt };
+      text = λ rest. refl;
+    })
+exponent_sound outer ts fs c piece g is h = cc
+
+-- factors that end are a term that is no sum
+term_shaped : (fs : Parts) → AreFactors fs → can_end fs ≡ true → IsShaped (term_of fs) × IsNoSum (term_of fs)
+term_shaped NoParts all h = cc
+term_shaped (Part (Constant c) NoParts) all h = (tt, tt)
+term_shaped (Part (Input i) NoParts) all h = (tt, tt)
+term_shaped (Part (SumOf bs) NoParts) all h = cc
+term_shaped (Part (ProductOf bs) NoParts) all h = absurd all.no_products.0
+term_shaped (Part (GreatestOf bs) NoParts) all h = (all.shaped.0, tt)
+term_shaped (Part (PowerOf c e) NoParts) all h = (all.shaped.0, tt)
+term_shaped (Part b (Part c bs)) all h = ((omega arith, all.no_products, all.shaped), tt)
+
+-- terms and factors make a bound as texts spell it
+bound_shaped : (ts fs : Parts) → AreTerms ts → AreFactors fs → can_end fs ≡ true → IsShaped (bound_of ts fs)
+bound_shaped NoParts fs terms factors h = (term_shaped fs factors h).0
+bound_shaped (Part c cs) fs terms factors h =
+    let t = term_shaped fs factors h in
+    subst IsShaped (sym (as_one-with_part c cs (term_of fs)))
+    (omega (arith, count-more (Part c cs) (term_of fs)), each-more IsNoSum (Part c cs) (term_of fs) terms.no_sums t.1, shaped-more (Part c cs) (term_of fs) terms.shaped t.0)
+
+-- what fails the test of a greatest is none
+no_greatest : (b : Size) → is_greatest b ≡ false → IsNoGreatest b
+no_greatest (Constant c) h = tt
+no_greatest (Input i) h = tt
+no_greatest (SumOf bs) h = tt
+no_greatest (ProductOf bs) h = tt
+no_greatest (GreatestOf bs) h = cc
+no_greatest (PowerOf c e) h = tt
+
+-- parts that aren't none are one at least
+some_parts : (bs : Parts) → is_empty bs ≡ false → 1 ≤ part_count bs
+some_parts NoParts h = cc
+some_parts (Part b bs) h = omega arith
+
+-- the item of a bracket is one as texts spell it, and no variable
+is_item : (bracket : Bracket) (b : Size) → IsBracket bracket → IsShaped b → can_close bracket b ≡ true → IsShaped (item_of bracket b) × IsNoProduct (item_of bracket b) × (is_variable (item_of bracket b) ≡ false)
+is_item (Arguments bs) b is shaped h =
+    let t = both (not (is_empty bs)) (not (is_greatest b)) h in
+    ((omega (arith, count-more bs b, some_parts bs (not-true (is_empty bs) t.0)), each-more IsNoGreatest bs b is.no_greatests (no_greatest b (not-true (is_greatest b) t.1)), shaped-more bs b is.shaped shaped), tt, refl)
+is_item (Exponent c) b is shaped h = ((is, shaped), tt, refl)
+is_item Factor (SumOf bs) is shaped h = (shaped, tt, refl)
+is_item Factor (Constant c) is shaped h = cc
+is_item Factor (Input i) is shaped h = cc
+is_item Factor (ProductOf bs) is shaped h = cc
+is_item Factor (GreatestOf bs) is shaped h = cc
+is_item Factor (PowerOf c e) is shaped h = cc
+
+-- the item of a bracket is written as the bracket with its bound
+closed_text : (bracket : Bracket) (b : Size) (rest : List Piece) → can_close bracket b ≡ true
+    → bracketed_then (is_sum (item_of bracket b)) (text_then (item_of bracket b)) rest ≡ bracket_then bracket (text_then b (Close ∷ rest))
+closed_text (Arguments bs) b rest h = ap (λ (ps : List Piece). Greatest ∷ ps) (joined-with_part comma_between bs b (Close ∷ rest))
+closed_text (Exponent c) b rest h = ap (λ (v : Bool). Number c ∷ Caret ∷ bracketed_then v (text_then b) rest) h
+closed_text Factor b rest h = ap (λ (v : Bool). bracketed_then v (text_then b) rest) h
+
+-- at a closing bracket
+close_sound : (outer : Outer) (ts fs : Parts) (g : Front) → IsFront (front_at outer ts fs ItemRead) → close_bracket outer ts fs ≡ Some g → Extends (front_at outer ts fs ItemRead) Close g
+close_sound Whole ts fs g is h = cc
+close_sound (Inside bracket ts' fs' outer) ts fs g is h =
+    let t = when-some (can_end fs && can_close bracket (bound_of ts fs)) (behind_factor outer ts' fs' (item_of bracket (bound_of ts fs))) g h in
+    let c = both (can_end fs) (can_close bracket (bound_of ts fs)) t.0 in
+    let item = is_item bracket (bound_of ts fs) is.outer.0 (bound_shaped ts fs is.terms is.factors c.0) c.1 in
+    subst (Extends (front_at (Inside bracket ts' fs' outer) ts fs ItemRead) Close) t.1 (record {
+      is_front = record { outer = is.outer.3; terms = is.outer.1; factors = factors-more fs' (item_of bracket (bound_of ts fs)) is.outer.2 item.0 item.1; place = is_empty-with_part fs' (item_of bracket (bound_of ts fs)) };
+      text = λ rest.
+          ap (λ (ps : List Piece). outer_then outer (each_then plus_between ts' ps))
+          (factors-other Nothing fs' (item_of bracket (bound_of ts fs)) rest item.2
+          ∙ ap (λ (ps : List Piece). factors_then Nothing fs' (star_then fs' ps))
+          (closed_text bracket (bound_of ts fs) rest c.1 ∙ ap (bracket_then bracket) (bound_text ts fs (Close ∷ rest) c.0)));
+    })
+
+-- factors that are some are some with one more
+pub unsnoc : (fs : Parts) → is_empty fs ≡ false → (gs : Parts) × (b : Size) × (fs ≡ with_part gs b)
+unsnoc NoParts h = cc
+unsnoc (Part b NoParts) h = (NoParts, b, refl)
+unsnoc (Part b (Part c cs)) h = let t = unsnoc (Part c cs) refl in (Part b t.0, t.1, ap (Part b) t.2)
+
+-- at the `^` behind a factor
+caret_sound : (outer : Outer) (ts gs : Parts) (b : Size) (g : Front) → IsFront (front_at outer ts (with_part gs b) ItemRead) → caret_behind outer ts gs (Some b) ≡ Some g
+    → Extends (front_at outer ts (with_part gs b) ItemRead) Caret g
+caret_sound outer ts gs (Constant c) g is h =
+    let t = when-some (nat_lt 1 c) (front_at outer ts gs (PowerCaret c)) g h in
+    subst (Extends (front_at outer ts (with_part gs (Constant c)) ItemRead) Caret) t.1 (record {
+      is_front = record { outer = is.outer; terms = is.terms; factors = record { no_products = each-less IsNoProduct gs (Constant c) is.factors.no_products; shaped = shaped-less gs (Constant c) is.factors.shaped }; place = (let e = t.0 in grind (arith, nat_tests)) };
+      text = λ rest. ap (λ (ps : List Piece). outer_then outer (each_then plus_between ts ps)) (sym (factors-other Nothing gs (Constant c) (Caret ∷ rest) refl));
+    })
+caret_sound outer ts gs (Input i) g is h =
+    let t = when-some (not (is_input i (last gs))) (front_at outer ts gs (RunCaret i)) g h in
+    let f = not-true (is_input i (last gs)) t.0 in
+    subst (Extends (front_at outer ts (with_part gs (Input i)) ItemRead) Caret) t.1 (record {
+      is_front = record { outer = is.outer; terms = is.terms; factors = record { no_products = each-less IsNoProduct gs (Input i) is.factors.no_products; shaped = shaped-less gs (Input i) is.factors.shaped }; place = f };
+      text = λ rest. ap (λ (ps : List Piece). outer_then outer (each_then plus_between ts ps)) (sym (factors-run Nothing gs zero i (Caret ∷ rest) (ends_first gs i f)));
+    })
+caret_sound outer ts gs b g is h = cc
+
+-- `*` behind some factors
+star_some : (fs : Parts) (rest : List Piece) → is_empty fs ≡ false → star_then fs rest ≡ Times ∷ rest
+star_some NoParts rest h = cc
+star_some (Part b bs) rest h = refl
+
+-- behind an item
+follow_sound : (outer : Outer) (ts fs : Parts) (piece : Piece) (g : Front) → IsFront (front_at outer ts fs ItemRead) → follow_item outer ts fs piece ≡ Some g → Extends (front_at outer ts fs ItemRead) piece g
+follow_sound outer ts fs Times g is h =
+    let e : front_at outer ts fs Begins ≡ g = cc in
+    subst (Extends (front_at outer ts fs ItemRead) Times) e (record {
+      is_front = record { outer = is.outer; terms = is.terms; factors = is.factors; place = tt };
+      text = λ rest. ap (λ (ps : List Piece). outer_then outer (each_then plus_between ts (factors_then Nothing fs ps))) (star_some fs rest is.place);
+    })
+follow_sound outer ts fs Caret g is h = go (unsnoc fs is.place)
+  where
+    go : ((gs : Parts) × (b : Size) × (fs ≡ with_part gs b)) → Extends (front_at outer ts fs ItemRead) Caret g
+    go t =
+        let e = t.2 in
+        let at_end : caret_behind outer ts t.0 (Some t.1) ≡ Some g =
+        sym (ap (λ (ps : Parts). caret_behind outer ts (init ps) (last ps)) e ∙ ap (λ (ps : Parts). caret_behind outer ts ps (last (with_part t.0 t.1))) (init-with_part t.0 t.1) ∙ ap (caret_behind outer ts t.0) (last-with_part t.0 t.1)) ∙ h in
+        subst (λ (ps : Parts). Extends (front_at outer ts ps ItemRead) Caret g) (sym e)
+        (caret_sound outer ts t.0 t.1 g (subst (λ (ps : Parts). IsFront (front_at outer ts ps ItemRead)) e is) at_end)
+follow_sound outer ts fs Blank g is h =
+    let t = when-some (can_end fs) (front_at outer ts fs BlankRead) g h in
+    subst (Extends (front_at outer ts fs ItemRead) Blank) t.1 (record { is_front = record { outer = is.outer; terms = is.terms; factors = is.factors; place = t.0 }; text = λ rest. refl })
+follow_sound outer ts fs Comma g is h =
+    let t = when-some (can_be_argument outer ts fs) (front_at outer ts fs CommaRead) g h in
+    subst (Extends (front_at outer ts fs ItemRead) Comma) t.1 (record { is_front = record { outer = is.outer; terms = is.terms; factors = is.factors; place = t.0 }; text = λ rest. refl })
+follow_sound outer ts fs Close g is h = close_sound outer ts fs g is h
+follow_sound outer ts fs piece g is h = cc
+
+-- a term ends
+term_sound : (outer : Outer) (ts fs : Parts) (g : Front) → IsFront (front_at outer ts fs PlusRead) → front_at outer (with_part ts (term_of fs)) NoParts Begins ≡ g → Extends (front_at outer ts fs PlusRead) Blank g
+term_sound outer ts fs g is h =
+    let t = term_shaped fs is.factors is.place in
+    subst (Extends (front_at outer ts fs PlusRead) Blank) h (record {
+      is_front = record { outer = is.outer; terms = record { no_sums = each-more IsNoSum ts (term_of fs) is.terms.no_sums t.1; shaped = shaped-more ts (term_of fs) is.terms.shaped t.0 }; factors = no_factors; place = tt };
+      text = λ rest. ap (outer_then outer) (each-with_part plus_between ts (term_of fs) rest ∙ ap (each_then plus_between ts) (term_text fs (plus_between ++ rest) is.place));
+    })
+
+-- an argument ends
+argument_sound : (outer : Outer) (ts fs : Parts) (g : Front) → IsFront (front_at outer ts fs CommaRead) → end_argument outer ts fs ≡ Some g → Extends (front_at outer ts fs CommaRead) Blank g
+argument_sound Whole ts fs g is h = cc
+argument_sound (Inside (Exponent c) ts' fs' outer) ts fs g is h = cc
+argument_sound (Inside Factor ts' fs' outer) ts fs g is h = cc
+argument_sound (Inside (Arguments bs) ts' fs' outer) ts fs g is h =
+    let e : inside (Arguments (with_part bs (bound_of ts fs))) outer ts' fs' ≡ g = cc in
+    let c = both (can_end fs) (not (is_greatest (bound_of ts fs))) is.place in
+    subst (Extends (front_at (Inside (Arguments bs) ts' fs' outer) ts fs CommaRead) Blank) e (record {
+      is_front = record {
+        outer = (record { no_greatests = each-more IsNoGreatest bs (bound_of ts fs) is.outer.0.no_greatests (no_greatest (bound_of ts fs) (not-true (is_greatest (bound_of ts fs)) c.1)); shaped = shaped-more bs (bound_of ts fs) is.outer.0.shaped (bound_shaped ts fs is.terms is.factors c.0) }, is.outer.1, is.outer.2, is.outer.3);
+        terms = no_parts;
+        factors = no_factors;
+        place = tt;
+      };
+      text = λ rest.
+          ap (λ (ps : List Piece). outer_then outer (each_then plus_between ts' (factors_then Nothing fs' (star_then fs' (Greatest ∷ ps)))))
+          (each-with_part comma_between bs (bound_of ts fs) rest ∙ ap (each_then comma_between bs) (bound_text ts fs (comma_between ++ rest) c.0));
+    })
+
+-- a piece that leads somewhere is read
+pub step_sound : (f g : Front) (piece : Piece) → IsFront f → step f piece ≡ Some g → Extends f piece g
+step_sound f g piece is h = go f.place piece (record { outer = is.outer; terms = is.terms; factors = is.factors; place = is.place }) h
+  where
+    go : (place : Place) (piece : Piece) → IsFront (front_at f.outer f.terms f.factors place) → step_at place f.outer f.terms f.factors piece ≡ Some g → Extends (front_at f.outer f.terms f.factors place) piece g
+    go Begins piece is h = begin_sound f.outer f.terms f.factors piece g is h
+    go (RunCaret i) piece is h = run_sound f.outer f.terms f.factors i piece g is h
+    go (PowerCaret c) piece is h = exponent_sound f.outer f.terms f.factors c piece g is h
+    go ItemRead piece is h = follow_sound f.outer f.terms f.factors piece g is h
+    go BlankRead Plus is h =
+        let e : front_at f.outer f.terms f.factors PlusRead ≡ g = cc in
+        subst (Extends (front_at f.outer f.terms f.factors BlankRead) Plus) e (record { is_front = record { outer = is.outer; terms = is.terms; factors = is.factors; place = is.place }; text = λ rest. refl })
+    go PlusRead Blank is h = term_sound f.outer f.terms f.factors g is (let e : front_at f.outer (with_part f.terms (term_of f.factors)) NoParts Begins ≡ g = cc in e)
+    go CommaRead Blank is h = argument_sound f.outer f.terms f.factors g is h
+    go place piece is h = cc
+
+-- nothing has been read at first
+pub beginning_front : IsFront beginning
+beginning_front = record { outer = tt; terms = no_parts; factors = no_factors; place = tt }
+
+-- a text that ends at a bound is its text
+pub finish_sound : (f : Front) (b : Size) → IsFront f → finish f ≡ Some b → IsShaped b × ((rest : List Piece) → text_then b rest ≡ front_then f rest)
+finish_sound f b is h = go f.place f.outer is.outer is.place h
+  where
+    go : (place : Place) (outer : Outer) → IsOuter outer → IsPlace place outer f.terms f.factors → finish (front_at outer f.terms f.factors place) ≡ Some b
+        → IsShaped b × ((rest : List Piece) → text_then b rest ≡ front_then (front_at outer f.terms f.factors place) rest)
+    go ItemRead Whole o p h =
+        let t = when-some (can_end f.factors) (bound_of f.terms f.factors) b h in
+        (subst IsShaped t.1 (bound_shaped f.terms f.factors is.terms is.factors t.0), λ rest. ap (λ (c : Size). text_then c rest) (sym t.1) ∙ bound_text f.terms f.factors rest t.0)
+    go ItemRead (Inside bracket ts fs outer) o p h = cc
+    go place outer o p h = cc

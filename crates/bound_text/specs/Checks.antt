@@ -1,0 +1,114 @@
+-- Whether a piece can be taken.
+use Rattle.std.specs.Prelude.{ℕ, ◌+◌, ◌^◌, Bool, true, false, if◌then◌else◌, not, ◌&&◌, ◌||◌, nat_lt, nat_le, List, [], ◌∷◌, Option, Some, None}
+use Rattle.model.specs.Bounds.{Size, Constant, Input, Parts}
+use Rattle.bound_text.specs.Pieces.{Piece, Variable, Number, Caret}
+use Rattle.bound_text.specs.Fronts.{Front, Place, Begins, ItemRead, last, is_input, nodes_of, inner_levels}
+use Rattle.bound_text.specs.Lexing.{Lexeme}
+use Rattle.bound_text.specs.Steps.{step, finish}
+use Rattle.bound_text.specs.Faults.{Kind, Syntax, NumberTooLarge, UnknownName, TooDeep, TooLarge}
+
+-- what taking a piece comes to: a refusal, or what has been read with it
+pub data Checked : Type 0 where
+  Refused : Kind → Checked
+  Reached : Front → Checked
+
+-- whether what has been read is within the limits
+abbrev pub sized : Front → Checked
+sized f = if nat_lt 200 (inner_levels f) then Refused TooDeep else if nat_lt 4096 (nodes_of f) then Refused TooLarge else Reached f
+
+-- whether a number is over 2^127-1; whether a base is under 2, or over 2^64-1
+abbrev pub is_large : Piece → Bool
+is_large (Number c) = nat_le (2 ^ 127) c
+is_large piece = false
+
+abbrev pub is_small_base : Piece → Bool
+is_small_base (Number c) = nat_lt c 2
+is_small_base piece = false
+
+abbrev pub is_large_base : Piece → Bool
+is_large_base (Number c) = nat_le (2 ^ 64) c
+is_large_base piece = false
+
+-- whether a variable is none of the first n
+abbrev pub is_unlisted : ℕ → Piece → Bool
+is_unlisted n (Variable i) = nat_le n i
+is_unlisted n piece = false
+
+-- the fault of a piece by itself, where `base` says whether it would be a base
+abbrev pub fault_of : ℕ → Bool → Piece → Option Kind
+fault_of n base piece =
+    if base && is_small_base piece then Some Syntax
+    else if is_large piece || (base && is_large_base piece) then Some NumberTooLarge
+    else if is_unlisted n piece then Some UnknownName
+    else None
+
+-- whether an item begins
+abbrev pub begins : Place → Bool
+begins Begins = true
+begins place = false
+
+-- whether a piece is the `^` behind a base over 2^64-1
+abbrev pub is_large_number : Option Size → Bool
+is_large_number (Some (Constant c)) = nat_le (2 ^ 64) c
+is_large_number factor = false
+
+abbrev pub has_large_base_at : Place → Parts → Piece → Bool
+has_large_base_at ItemRead fs Caret = is_large_number (last fs)
+has_large_base_at place fs piece = false
+
+abbrev pub has_large_base : Front → Piece → Bool
+has_large_base f piece = has_large_base_at f.place f.factors piece
+
+-- what the fault of a piece and where it leads come to
+abbrev pub judged : Option Kind → Option Front → Checked
+judged fault None = Refused Syntax
+judged (Some kind) (Some f) = Refused kind
+judged None (Some f) = sized f
+
+-- what taking a piece comes to, where n names are listed, and where `caret` says whether `^` comes next
+abbrev pub checked : ℕ → Bool → Front → Piece → Checked
+checked n caret f piece =
+    if has_large_base f piece then Refused NumberTooLarge
+    else judged (fault_of n (begins f.place && caret) piece) (step f piece)
+
+-- whether a product's last factor can't have `^` behind it: it is no constant, and no variable that stands alone
+abbrev pub takes_caret : Parts → Option Size → Bool
+takes_caret fs (Some (Constant c)) = true
+takes_caret fs (Some (Input i)) = not (is_input i (last fs))
+takes_caret fs factor = false
+
+-- whether `^` comes next
+abbrev pub is_caret : Piece → Bool
+is_caret Caret = true
+is_caret piece = false
+
+abbrev pub caret_next : List Lexeme → Bool
+caret_next [] = false
+caret_next (next ∷ rest) = is_caret next.piece
+
+-- what reading comes to: a refusal at a position, or a bound
+pub data Verdict : Type 0 where
+  Faulty : Kind → ℕ → Verdict
+  Stands : Size → Verdict
+
+-- the verdict on a text that ends at a position
+abbrev pub ended : ℕ → Option Size → Verdict
+ended at None = Faulty Syntax at
+ended at (Some b) = Stands b
+
+-- how far reading has come: a refusal at a position, or what has been read, up to a position
+pub data Progress : Type 0 where
+  Stopped : Kind → ℕ → Progress
+  Going : ℕ → Front → Progress
+
+-- one piece further
+abbrev pub further : ℕ → ℕ → Checked → Progress
+further at len (Refused kind) = Stopped kind at
+further at len (Reached f) = Going (at + len) f
+
+-- the verdict on the pieces that are left
+abbrev pub verdict : ℕ → Progress → List Lexeme → Verdict
+verdict n (Stopped kind at) [] = Faulty kind at
+verdict n (Going at f) [] = ended at (finish f)
+verdict n (Stopped kind at) (next ∷ rest) = Faulty kind at
+verdict n (Going at f) (next ∷ rest) = verdict n (further at next.len (checked n (caret_next rest) f next.piece)) rest

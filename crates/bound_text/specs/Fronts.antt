@@ -1,0 +1,261 @@
+-- The part of a text that has been read, as the tree so far.
+use Rattle.std.specs.Prelude.{ℕ, ◌+◌, ◌≤◌, max, Bool, true, false, if◌then◌else◌, not, ◌&&◌, ◌==◌, List, ◌∷◌, ◌++◌, Option, Some, None, IsTrue, IsFalse, ⊤}
+use Rattle.model.specs.Bounds.{Size, Input, SumOf, ProductOf, Parts, NoParts, Part}
+use Rattle.bound_expr.specs.Measure.{node_count_of_all, greatest_depth}
+use Rattle.bound_expr.specs.Tidy.{IsNoSum, IsNoProduct, IsNoGreatest, EachPart}
+use Rattle.bound_text.specs.Shapes.{is_sum, is_greatest, is_empty, with_part, AreShaped}
+use Rattle.bound_text.specs.Pieces.{Piece, Variable, Number, Greatest, Open, Times, Caret, Plus, Blank, Comma}
+use Rattle.bound_text.specs.Writing.{Nothing, plus_between, comma_between, text_then, factors_then}
+
+-- what an open bracket belongs to: a greatest with the arguments so far, a power with this base, or a sum as a factor
+pub data Bracket : Type 0 where
+  Arguments : Parts → Bracket
+  Exponent : ℕ → Bracket
+  Factor : Bracket
+
+-- what stands round the innermost bound: nothing, or a bracket behind these terms of a sum and these factors of the
+-- product that is the next term
+pub data Outer : Type 0 where
+  Whole : Outer
+  Inside : Bracket → Parts → Parts → Outer → Outer
+
+-- what was read last in the innermost bound: what an item can follow; the `^` of a run or of a power; an item; or a part
+-- of ` + ` or of `, `
+pub data Place : Type 0 where
+  Begins : Place
+  RunCaret : ℕ → Place
+  PowerCaret : ℕ → Place
+  ItemRead : Place
+  BlankRead : Place
+  PlusRead : Place
+  CommaRead : Place
+
+-- the part that has been read: what stands round the innermost bound, the bound's terms and the factors of its last
+-- term so far, and the place
+pub record Front : Type 0 where
+  pub outer : Outer
+  pub terms : Parts
+  pub factors : Parts
+  pub place : Place
+
+-- `*` behind factors, and then the rest
+abbrev pub star_then : Parts → List Piece → List Piece
+star_then NoParts rest = rest
+star_then (Part b bs) rest = Times ∷ rest
+
+-- parts with the separator behind each, and then the rest
+abbrev pub each_then : List Piece → Parts → List Piece → List Piece
+each_then separator NoParts rest = rest
+each_then separator (Part b bs) rest = text_then b (separator ++ each_then separator bs rest)
+
+-- an open bracket, and then the rest
+abbrev pub bracket_then : Bracket → List Piece → List Piece
+bracket_then (Arguments bs) rest = Greatest ∷ each_then comma_between bs rest
+bracket_then (Exponent c) rest = Number c ∷ Caret ∷ Open ∷ rest
+bracket_then Factor rest = Open ∷ rest
+
+-- what stands round a bound, and then the rest
+abbrev pub outer_then : Outer → List Piece → List Piece
+outer_then Whole rest = rest
+outer_then (Inside bracket ts fs outer) rest = outer_then outer (each_then plus_between ts (factors_then Nothing fs (star_then fs (bracket_then bracket rest))))
+
+-- what was read last, and then the rest
+abbrev pub place_then : Place → Parts → List Piece → List Piece
+place_then Begins fs rest = star_then fs rest
+place_then (RunCaret i) fs rest = star_then fs (Variable i ∷ Caret ∷ rest)
+place_then (PowerCaret c) fs rest = star_then fs (Number c ∷ Caret ∷ rest)
+place_then ItemRead fs rest = rest
+place_then BlankRead fs rest = Blank ∷ rest
+place_then PlusRead fs rest = Blank ∷ Plus ∷ rest
+place_then CommaRead fs rest = Comma ∷ rest
+
+-- the part that has been read, and then the rest
+abbrev pub front_then : Front → List Piece → List Piece
+front_then f rest = outer_then f.outer (each_then plus_between f.terms (factors_then Nothing f.factors (place_then f.place f.factors rest)))
+
+-- whether the innermost bracket is that of a sum as a factor
+abbrev pub in_factor : Outer → Bool
+in_factor Whole = false
+in_factor (Inside (Arguments bs) ts fs outer) = false
+in_factor (Inside (Exponent c) ts fs outer) = false
+in_factor (Inside Factor ts fs outer) = true
+
+-- one node where there are parts
+abbrev pub node_of_any : Parts → ℕ
+node_of_any NoParts = 0
+node_of_any (Part b bs) = 1
+
+-- a sum counts as a node from its first ` + ` on, or from the bracket before it on, which counts itself
+abbrev pub sum_node : Outer → Parts → ℕ
+sum_node outer ts = if in_factor outer then 0 else node_of_any ts
+
+-- a product counts as a node once a `*` or the number of a run was read, or the bracket that begins it
+abbrev pub product_node : Parts → ℕ
+product_node NoParts = 0
+product_node (Part b NoParts) = if is_sum b then 1 else 0
+product_node (Part b (Part c bs)) = 1
+
+-- the product round a bracket; a sum in brackets is always the factor of one
+abbrev pub product_node_round : Bracket → Parts → ℕ
+product_node_round (Arguments bs) fs = node_of_any fs
+product_node_round (Exponent c) fs = node_of_any fs
+product_node_round Factor fs = 1
+
+-- the nodes of what a bracket belongs to
+abbrev pub bracket_nodes : Bracket → ℕ
+bracket_nodes (Arguments bs) = 1 + node_count_of_all bs
+bracket_nodes (Exponent c) = 1
+bracket_nodes Factor = 1
+
+-- the levels of the arguments before
+abbrev pub bracket_depth : Bracket → ℕ
+bracket_depth (Arguments bs) = greatest_depth bs
+bracket_depth (Exponent c) = 0
+bracket_depth Factor = 0
+
+-- the nodes round the innermost bound
+abbrev pub nodes_round : Outer → ℕ
+nodes_round Whole = 0
+nodes_round (Inside bracket ts fs outer) = nodes_round outer + sum_node outer ts + node_count_of_all ts + product_node_round bracket fs + node_count_of_all fs + bracket_nodes bracket
+
+-- the levels above the innermost bound
+abbrev pub levels_above : Outer → ℕ
+levels_above Whole = 0
+levels_above (Inside bracket ts fs outer) = levels_above outer + sum_node outer ts + product_node_round bracket fs + 1
+
+-- the levels of the tree round the innermost bound
+abbrev pub levels_round : Outer → ℕ
+levels_round Whole = 0
+levels_round (Inside bracket ts fs outer) =
+    max (levels_round outer) (max (levels_above outer + sum_node outer ts + greatest_depth ts)
+    (max (levels_above outer + sum_node outer ts + product_node_round bracket fs + greatest_depth fs)
+    (levels_above outer + sum_node outer ts + product_node_round bracket fs + 1 + bracket_depth bracket)))
+
+-- the sum's node, the product's, and the one of an item that has begun, by the place
+abbrev pub sum_at : Place → Outer → Parts → ℕ
+sum_at BlankRead outer ts = if in_factor outer then 0 else 1
+sum_at PlusRead outer ts = if in_factor outer then 0 else 1
+sum_at _ outer ts = sum_node outer ts
+
+abbrev pub product_at : Place → Parts → ℕ
+product_at ItemRead fs = product_node fs
+product_at BlankRead fs = product_node fs
+product_at PlusRead fs = product_node fs
+product_at CommaRead fs = product_node fs
+product_at _ fs = node_of_any fs
+
+abbrev pub item_at : Place → ℕ
+item_at (RunCaret i) = 1
+item_at (PowerCaret c) = 1
+item_at _ = 0
+
+-- the nodes of the tree so far
+abbrev pub nodes_of : Front → ℕ
+nodes_of f = nodes_round f.outer + sum_at f.place f.outer f.terms + node_count_of_all f.terms + product_at f.place f.factors + node_count_of_all f.factors + item_at f.place
+
+-- the levels of the innermost bound so far, with those above it
+abbrev pub inner_levels : Front → ℕ
+inner_levels f =
+    max (levels_above f.outer + sum_at f.place f.outer f.terms + greatest_depth f.terms)
+    (levels_above f.outer + sum_at f.place f.outer f.terms + product_at f.place f.factors + max (greatest_depth f.factors) (item_at f.place))
+
+-- the levels of the tree so far
+abbrev pub levels_of : Front → ℕ
+levels_of f = max (levels_round f.outer) (inner_levels f)
+
+-- the last part
+abbrev pub last : Parts → Option Size
+last NoParts = None
+last (Part b NoParts) = Some b
+last (Part b (Part c bs)) = last (Part c bs)
+
+-- the parts but the last
+abbrev pub init : Parts → Parts
+init NoParts = NoParts
+init (Part b NoParts) = NoParts
+init (Part b (Part c bs)) = Part b (init (Part c bs))
+
+-- whether it is variable i
+abbrev pub is_input : ℕ → Option Size → Bool
+is_input i (Some (Input j)) = j == i
+is_input i _ = false
+
+-- a single part by itself, and others as one
+abbrev pub as_one : (Parts → Size) → Parts → Size
+as_one whole NoParts = whole NoParts
+as_one whole (Part b NoParts) = b
+as_one whole (Part b (Part c bs)) = whole (Part b (Part c bs))
+
+-- the term that factors make
+abbrev pub term_of : Parts → Size
+term_of fs = as_one ProductOf fs
+
+-- the bound that terms and the factors of the last one make
+abbrev pub bound_of : Parts → Parts → Size
+bound_of ts fs = as_one SumOf (with_part ts (term_of fs))
+
+-- the factor that stands alone
+abbrev pub lone : Parts → Option Size
+lone NoParts = None
+lone (Part b NoParts) = Some b
+lone (Part b (Part c bs)) = None
+
+-- whether there is one that passes a test
+abbrev pub passes : (Size → Bool) → Option Size → Bool
+passes test None = false
+passes test (Some b) = test b
+
+-- whether the factors can be all of a term: a lone sum in brackets can't
+abbrev pub can_end : Parts → Bool
+can_end fs = not (is_empty fs) && not (passes is_sum (lone fs))
+
+-- terms of a sum, factors of a product, arguments of a greatest
+pub record AreTerms (ts : Parts) : Type 0 where
+  pub no_sums : EachPart IsNoSum ts
+  pub shaped : AreShaped ts
+
+pub record AreFactors (fs : Parts) : Type 0 where
+  pub no_products : EachPart IsNoProduct fs
+  pub shaped : AreShaped fs
+
+pub record AreArguments (bs : Parts) : Type 0 where
+  pub no_greatests : EachPart IsNoGreatest bs
+  pub shaped : AreShaped bs
+
+-- what a bracket belongs to can become a bound as texts spell them
+abbrev pub IsBracket : Bracket → Type 0
+IsBracket (Arguments bs) = AreArguments bs
+IsBracket (Exponent c) = 2 ≤ c
+IsBracket Factor = ⊤
+
+abbrev pub IsOuter : Outer → Type 0
+IsOuter Whole = ⊤
+IsOuter (Inside bracket ts fs outer) = IsBracket bracket × AreTerms ts × AreFactors fs × IsOuter outer
+
+-- whether a bound stands in the brackets of a greatest
+abbrev pub in_arguments : Outer → Bool
+in_arguments (Inside (Arguments bs) ts fs outer) = true
+in_arguments (Inside (Exponent c) ts fs outer) = false
+in_arguments (Inside Factor ts fs outer) = false
+in_arguments Whole = false
+
+-- whether an argument can end here: it is no greatest, and stands in the brackets of one
+abbrev pub can_be_argument : Outer → Parts → Parts → Bool
+can_be_argument outer ts fs = in_arguments outer && (can_end fs && not (is_greatest (bound_of ts fs)))
+
+-- the place can be behind these terms and factors
+abbrev pub IsPlace : Place → Outer → Parts → Parts → Type 0
+IsPlace Begins outer ts fs = ⊤
+IsPlace (RunCaret i) outer ts fs = IsFalse (is_input i (last fs))
+IsPlace (PowerCaret c) outer ts fs = 2 ≤ c
+IsPlace ItemRead outer ts fs = IsFalse (is_empty fs)
+IsPlace BlankRead outer ts fs = IsTrue (can_end fs)
+IsPlace PlusRead outer ts fs = IsTrue (can_end fs)
+IsPlace CommaRead outer ts fs = IsTrue (can_be_argument outer ts fs)
+
+-- a text as bounds are spelled can begin with the part that has been read
+pub record IsFront (f : Front) : Type 0 where
+  pub outer : IsOuter f.outer
+  pub terms : AreTerms f.terms
+  pub factors : AreFactors f.factors
+  pub place : IsPlace f.place f.outer f.terms f.factors

@@ -1,0 +1,14 @@
+pub mod Shapes
+pub mod Pieces
+pub mod Writing
+pub mod Names
+pub mod Texts
+pub mod Printing
+pub mod Lexing
+pub mod Lexemes
+pub mod Fronts
+pub mod Steps
+pub mod Faults
+pub mod Verdicts
+pub mod Checks
+pub mod Views

@@ -1,0 +1,124 @@
+-- Where each piece leads the reader.
+use Rattle.std.specs.Prelude.{ℕ, zero, suc, Bool, true, false, if◌then◌else◌, not, ◌&&◌, nat_lt, List, [], ◌∷◌, Option, Some, None}
+use Rattle.model.specs.Bounds.{Size, Constant, Input, GreatestOf, PowerOf, Parts, NoParts}
+use Rattle.bound_text.specs.Shapes.{is_sum, is_greatest, is_leaf, is_empty, with_part}
+use Rattle.bound_text.specs.Pieces.{Piece, Variable, Number, Greatest, Open, Close, Times, Caret, Plus, Blank, Comma}
+use Rattle.bound_text.specs.Fronts.{Bracket, Arguments, Exponent, Factor, Outer, Whole, Inside, Place, Begins, RunCaret, PowerCaret, ItemRead, BlankRead, PlusRead, CommaRead, Front, last, init, is_input, term_of, bound_of, can_end, can_be_argument}
+
+-- the value where a test passes
+abbrev pub when : {X : Type 0} → Bool → X → Option X
+when test x = if test then Some x else None
+
+-- n times variable i behind the factors
+abbrev pub with_copies : ℕ → ℕ → Parts → Parts
+with_copies zero i fs = fs
+with_copies (suc n) i fs = with_part (with_copies n i fs) (Input i)
+
+-- the front with these parts
+abbrev pub front_at : Outer → Parts → Parts → Place → Front
+front_at outer ts fs place = record { outer = outer; terms = ts; factors = fs; place = place }
+
+-- nothing has been read
+abbrev pub beginning : Front
+beginning = front_at Whole NoParts NoParts Begins
+
+-- inside a bracket that begins an item
+abbrev pub inside : Bracket → Outer → Parts → Parts → Front
+inside bracket outer ts fs = front_at (Inside bracket ts fs outer) NoParts NoParts Begins
+
+-- behind one more factor
+abbrev pub behind_factor : Outer → Parts → Parts → Size → Front
+behind_factor outer ts fs b = front_at outer ts (with_part fs b) ItemRead
+
+-- an item begins
+abbrev pub begin_item : Outer → Parts → Parts → Piece → Option Front
+begin_item outer ts fs (Variable i) = when (not (is_input i (last fs))) (behind_factor outer ts fs (Input i))
+begin_item outer ts fs (Number c) = Some (behind_factor outer ts fs (Constant c))
+begin_item outer ts fs Greatest = Some (inside (Arguments NoParts) outer ts fs)
+begin_item outer ts fs Open = Some (inside Factor outer ts fs)
+begin_item outer ts fs piece = None
+
+-- a run ends with its number
+abbrev pub end_run : Outer → Parts → Parts → ℕ → Piece → Option Front
+end_run outer ts fs i (Number n) = when (nat_lt 1 n) (front_at outer ts (with_copies n i fs) ItemRead)
+end_run outer ts fs i piece = None
+
+-- an exponent begins
+abbrev pub begin_exponent : Outer → Parts → Parts → ℕ → Piece → Option Front
+begin_exponent outer ts fs c (Number n) = Some (behind_factor outer ts fs (PowerOf c (Constant n)))
+begin_exponent outer ts fs c (Variable i) = Some (behind_factor outer ts fs (PowerOf c (Input i)))
+begin_exponent outer ts fs c Open = Some (inside (Exponent c) outer ts fs)
+begin_exponent outer ts fs c piece = None
+
+-- `^` behind a factor, which is a base or the variable of a run
+abbrev pub caret_behind : Outer → Parts → Parts → Option Size → Option Front
+caret_behind outer ts fs (Some (Constant c)) = when (nat_lt 1 c) (front_at outer ts fs (PowerCaret c))
+caret_behind outer ts fs (Some (Input i)) = when (not (is_input i (last fs))) (front_at outer ts fs (RunCaret i))
+caret_behind outer ts fs factor = None
+
+-- whether a bracket can close behind a bound
+abbrev pub can_close : Bracket → Size → Bool
+can_close (Arguments bs) b = not (is_empty bs) && not (is_greatest b)
+can_close (Exponent c) b = not (is_leaf b)
+can_close Factor b = is_sum b
+
+-- the item that a bracket's bound makes
+abbrev pub item_of : Bracket → Size → Size
+item_of (Arguments bs) b = GreatestOf (with_part bs b)
+item_of (Exponent c) b = PowerOf c b
+item_of Factor b = b
+
+-- a bracket closes
+abbrev pub close_bracket : Outer → Parts → Parts → Option Front
+close_bracket Whole ts fs = None
+close_bracket (Inside bracket ts' fs' outer) ts fs =
+    when (can_end fs && can_close bracket (bound_of ts fs)) (behind_factor outer ts' fs' (item_of bracket (bound_of ts fs)))
+
+-- what follows an item
+abbrev pub follow_item : Outer → Parts → Parts → Piece → Option Front
+follow_item outer ts fs Times = Some (front_at outer ts fs Begins)
+follow_item outer ts fs Caret = caret_behind outer ts (init fs) (last fs)
+follow_item outer ts fs Blank = when (can_end fs) (front_at outer ts fs BlankRead)
+follow_item outer ts fs Comma = when (can_be_argument outer ts fs) (front_at outer ts fs CommaRead)
+follow_item outer ts fs Close = close_bracket outer ts fs
+follow_item outer ts fs piece = None
+
+-- an argument ends
+abbrev pub end_argument : Outer → Parts → Parts → Option Front
+end_argument (Inside (Arguments bs) ts' fs' outer) ts fs = Some (inside (Arguments (with_part bs (bound_of ts fs))) outer ts' fs')
+end_argument outer ts fs = None
+
+-- where a piece leads
+abbrev pub step_at : Place → Outer → Parts → Parts → Piece → Option Front
+step_at Begins outer ts fs piece = begin_item outer ts fs piece
+step_at (RunCaret i) outer ts fs piece = end_run outer ts fs i piece
+step_at (PowerCaret c) outer ts fs piece = begin_exponent outer ts fs c piece
+step_at ItemRead outer ts fs piece = follow_item outer ts fs piece
+step_at BlankRead outer ts fs Plus = Some (front_at outer ts fs PlusRead)
+step_at PlusRead outer ts fs Blank = Some (front_at outer (with_part ts (term_of fs)) NoParts Begins)
+step_at CommaRead outer ts fs Blank = end_argument outer ts fs
+step_at place outer ts fs piece = None
+
+-- where a piece leads from the part that has been read
+abbrev pub step : Front → Piece → Option Front
+step f piece = step_at f.place f.outer f.terms f.factors piece
+
+-- where pieces lead
+abbrev pub walk : Option Front → List Piece → Option Front
+walk reached [] = reached
+walk None (piece ∷ pieces) = None
+walk (Some f) (piece ∷ pieces) = walk (step f piece) pieces
+
+-- whether nothing stands round the bound
+abbrev pub is_whole : Outer → Bool
+is_whole Whole = true
+is_whole (Inside bracket ts fs outer) = false
+
+-- the bound of a text that ends, by the place
+abbrev pub finish_at : Place → Outer → Parts → Parts → Option Size
+finish_at ItemRead outer ts fs = when (is_whole outer && can_end fs) (bound_of ts fs)
+finish_at place outer ts fs = None
+
+-- the bound of a text that ends here
+abbrev pub finish : Front → Option Size
+finish f = finish_at f.place f.outer f.terms f.factors

@@ -1,0 +1,49 @@
+-- What a text stands for.
+use Rattle.std.specs.Prelude.{◌≡◌, ℕ, ◌^◌, ◌<◌, ◌≤◌, List, length, ⊤}
+use Rattle.model.specs.Programs.{Name}
+use Rattle.model.specs.Bounds.{Size, Constant, Input, SumOf, ProductOf, GreatestOf, PowerOf, Parts, NoParts, Part}
+use Rattle.bound_expr.specs.Measure.{node_count, depth_of}
+use Rattle.bound_expr.specs.Substitution.{ReadsBelow}
+use Rattle.bound_expr.specs.Tidy.{IsTidy}
+use Rattle.bound_text.specs.Names.{AreNames}
+use Rattle.bound_text.specs.Pieces.{bytes_of}
+use Rattle.bound_text.specs.Writing.{pieces_of}
+
+-- the text of a bound over variables with these names
+abbrev pub text_of : List Name → Size → List ℕ
+text_of names b = bytes_of names (pieces_of b)
+
+-- the bytes are the text of a tidy bound over these variables
+pub record IsText (names : List Name) (bytes : List ℕ) (b : Size) : Type 0 where
+  pub text : text_of names b ≡ bytes
+  pub tidy : IsTidy b
+  pub listed : ReadsBelow (length names) b
+
+-- the bases are below 2^64
+abbrev mutual
+  pub HasShortBases : Size → Type 0
+  HasShortBases (Constant c) = ⊤
+  HasShortBases (Input i) = ⊤
+  HasShortBases (SumOf bs) = HaveShortBases bs
+  HasShortBases (ProductOf bs) = HaveShortBases bs
+  HasShortBases (GreatestOf bs) = HaveShortBases bs
+  HasShortBases (PowerOf c e) = (c < 2 ^ 64) × HasShortBases e
+
+  pub HaveShortBases : Parts → Type 0
+  HaveShortBases NoParts = ⊤
+  HaveShortBases (Part b bs) = HasShortBases b × HaveShortBases bs
+
+-- a bound within the limits: at most 200 levels and 4,096 nodes, and bases below 2^64
+pub record IsWithin (b : Size) : Type 0 where
+  pub levels : depth_of b ≤ 200
+  pub nodes : node_count b ≤ 4096
+  pub bases : HasShortBases b
+
+-- the bytes are the text of a tidy bound within the limits
+pub record IsTextWithin (names : List Name) (bytes : List ℕ) (b : Size) : Type 0 where
+  pub spells : IsText names bytes b
+  pub within : IsWithin b
+
+-- over variables whose names are names and all differ, a text stands for one bound within the limits at most
+pub record OneBound : Type 0 where
+  pub each : (names : List Name) → AreNames names → (bytes : List ℕ) (a b : Size) → IsTextWithin names bytes a → IsTextWithin names bytes b → a ≡ b

@@ -1,0 +1,159 @@
+-- What has been read of a text, as plain data.
+use Rattle.std.specs.Prelude.{◌≡◌, ℕ, ◌^◌, ◌-◌, min, if◌then◌else◌, Bool, true, false, not, List, [], ◌∷◌, Option, Some, None, Result, Ok, Err, ⊤, IsTrue}
+use Rattle.model.specs.Bounds.{Size, Constant, Input, Parts}
+use Rattle.bound_expr.specs.declared.bound.Bound.{Bound}
+use Rattle.bound_expr.specs.Views.{size_of, sizes_of, parts_of}
+use Rattle.bound_text.specs.Fronts as fronts
+use Rattle.bound_text.specs.Fronts.{Front, Outer, Whole, Inside, last, init}
+use Rattle.bound_text.specs.Steps.{front_at, behind_factor}
+use Rattle.bound_text.specs.Faults as plain
+use Rattle.bound_text.specs.Checks.{Checked, Refused, Reached, Verdict, Faulty, Stands, takes_caret}
+use Rattle.bound_text.specs.declared.measured.Measured.{Measured}
+use Rattle.bound_text.specs.declared.state.Bracket.{Bracket}
+use Rattle.bound_text.specs.declared.state.Bracket.TheVariants as brackets
+use Rattle.bound_text.specs.declared.state.Opened.{Opened}
+use Rattle.bound_text.specs.declared.state.Place.{Place}
+use Rattle.bound_text.specs.declared.state.Place.TheVariants as at
+use Rattle.bound_text.specs.declared.state.Reader.{Reader}
+use Rattle.bound_text.specs.declared.size.Round.{Round}
+use Rattle.bound_text.specs.declared.error.BoundTextError.{BoundTextError}
+use Rattle.bound_text.specs.declared.error.BoundTextError.TheVariants as errors
+use Rattle.bound_text.specs.declared.fault.Fault.{Fault}
+use Rattle.bound_text.specs.declared.fault.Fault.TheVariants as faults
+
+-- measured bounds as parts
+abbrev pub parts_in : Measured → Parts
+parts_in m = parts_of (sizes_of m.bounds.items)
+
+-- what an open bracket belongs to
+abbrev pub bracket_of : Bracket → fronts.Bracket
+bracket_of (brackets.Arguments bs) = fronts.Arguments (parts_in bs)
+bracket_of (brackets.Exponent c) = fronts.Exponent c
+bracket_of brackets.Factor = fronts.Factor
+
+-- open brackets, the outermost first, inside what stands round them
+abbrev pub outer_from : Outer → List Opened → Outer
+outer_from outer [] = outer
+outer_from outer (x ∷ xs) = outer_from (Inside (bracket_of x.bracket) (parts_in x.terms) (parts_in x.factors) outer) xs
+
+-- what stands round the innermost bound
+abbrev pub outer_of : List Opened → Outer
+outer_of xs = outer_from Whole xs
+
+-- the front at a place of the code
+abbrev pub front_with : Place → Outer → Parts → Parts → Front
+front_with at.Begins outer ts fs = front_at outer ts fs fronts.Begins
+front_with (at.Number c) outer ts fs = behind_factor outer ts fs (Constant c)
+front_with (at.Name i) outer ts fs = behind_factor outer ts fs (Input i)
+front_with (at.RunCaret i) outer ts fs = front_at outer ts fs (fronts.RunCaret i)
+front_with (at.PowerCaret c) outer ts fs = front_at outer ts fs (fronts.PowerCaret c)
+front_with at.ItemRead outer ts fs = front_at outer ts fs fronts.ItemRead
+front_with at.BlankRead outer ts fs = front_at outer ts fs fronts.BlankRead
+front_with at.PlusRead outer ts fs = front_at outer ts fs fronts.PlusRead
+front_with at.CommaRead outer ts fs = front_at outer ts fs fronts.CommaRead
+
+-- the part that has been read
+abbrev pub front_of : Reader → Front
+front_of r = front_with r.place (outer_of r.outer.items) (parts_in r.terms) (parts_in r.factors)
+
+-- behind an item that is a factor already no `^` can come, and a variable that is none yet goes on no run
+abbrev pub is_settled_at : Place → Parts → Bool
+is_settled_at at.ItemRead fs = not (takes_caret (init fs) (last fs))
+is_settled_at (at.Name i) fs = not (fronts.is_input i (last fs))
+is_settled_at place fs = true
+
+abbrev pub is_settled : Reader → Bool
+is_settled r = is_settled_at r.place (parts_in r.factors)
+
+-- whether a bracket is that of a greatest
+abbrev pub is_arguments : fronts.Bracket → Bool
+is_arguments (fronts.Arguments bs) = true
+is_arguments bracket = false
+
+-- whether a run's number comes next
+abbrev pub is_in_run : Place → Bool
+is_in_run (at.RunCaret i) = true
+is_in_run place = false
+
+-- a refusal of the code is of this kind, want of memory aside
+abbrev pub IsKind : plain.Kind → Fault → Type 0
+IsKind plain.Syntax faults.Syntax = ⊤
+IsKind plain.NumberTooLarge faults.NumberTooLarge = ⊤
+IsKind plain.UnknownName faults.UnknownName = ⊤
+IsKind plain.TooDeep faults.TooDeep = ⊤
+IsKind plain.TooLarge faults.TooLarge = ⊤
+IsKind kind faults.Memory = ⊤
+IsKind kind fault = ⊥
+
+-- the reader comes to where the step leads; it answers `Syntax` exactly where it leads nowhere, want of memory aside
+abbrev pub Follows : Option Front → Reader → Result (Unit {0}) Fault → Type 0
+Follows reached r (Ok u) = (reached ≡ Some (front_of r)) × IsTrue (is_settled r)
+Follows reached r (Err faults.Syntax) = reached ≡ None
+Follows reached r (Err faults.Memory) = ⊤
+Follows reached r (Err fault) = ⊥
+
+-- the reader comes to what taking a piece comes to, or refuses it as that does, want of memory aside
+abbrev pub Obeys : Checked → Reader → Result (Unit {0}) Fault → Type 0
+Obeys (Reached f) r (Ok u) = (f ≡ front_of r) × IsTrue (is_settled r)
+Obeys (Refused kind) r (Ok u) = ⊥
+Obeys (Refused kind) r (Err fault) = IsKind kind fault
+Obeys (Reached f) r (Err faults.Memory) = ⊤
+Obeys (Reached f) r (Err fault) = ⊥
+
+-- the code finds the fault of a piece by itself
+abbrev pub FindsFault : Option plain.Kind → Result (Unit {0}) Fault → Type 0
+FindsFault None (Ok u) = ⊤
+FindsFault None (Err fault) = ⊥
+FindsFault (Some kind) (Ok u) = ⊥
+FindsFault (Some kind) (Err fault) = IsKind kind fault
+
+-- the bound that a text that ends here stands for; `Syntax` is answered exactly where there is none, want of memory aside
+abbrev pub Finishes : Option Size → Result Bound Fault → Type 0
+Finishes bound (Ok b) = bound ≡ Some (size_of b)
+Finishes bound (Err faults.Syntax) = bound ≡ None
+Finishes bound (Err faults.Memory) = ⊤
+Finishes bound (Err fault) = ⊥
+
+-- an error is a refusal of this kind at this position, or want of memory
+abbrev pub IsRefusal : plain.Kind → ℕ → BoundTextError → Type 0
+IsRefusal plain.Syntax at (errors.Syntax p) = p ≡ at
+IsRefusal plain.NumberTooLarge at (errors.NumberTooLarge p) = p ≡ at
+IsRefusal plain.UnknownName at (errors.UnknownName p) = p ≡ at
+IsRefusal plain.TooDeep at (errors.TooDeep p) = p ≡ at
+IsRefusal plain.TooLarge at (errors.TooLarge p) = p ≡ at
+IsRefusal kind at errors.Memory = ⊤
+IsRefusal kind at error = ⊥
+
+-- the answer is the verdict, want of memory aside
+abbrev pub Says : Verdict → Result Bound BoundTextError → Type 0
+Says (Stands b) (Ok a) = size_of a ≡ b
+Says (Stands b) (Err errors.Memory) = ⊤
+Says (Stands b) (Err error) = ⊥
+Says (Faulty kind at) (Ok a) = ⊥
+Says (Faulty kind at) (Err error) = IsRefusal kind at error
+
+-- the sum's node, the product's, and the one of an item that has begun, by the place of the code
+abbrev pub sum_here : Place → Outer → Parts → ℕ
+sum_here at.BlankRead outer ts = if fronts.in_factor outer then 0 else 1
+sum_here at.PlusRead outer ts = if fronts.in_factor outer then 0 else 1
+sum_here place outer ts = fronts.sum_node outer ts
+
+abbrev pub product_here : Place → Parts → ℕ
+product_here at.ItemRead fs = fronts.product_node fs
+product_here at.BlankRead fs = fronts.product_node fs
+product_here at.PlusRead fs = fronts.product_node fs
+product_here at.CommaRead fs = fronts.product_node fs
+product_here place fs = fronts.node_of_any fs
+
+abbrev pub item_here : Place → ℕ
+item_here (at.Number c) = 1
+item_here (at.Name i) = 1
+item_here (at.RunCaret i) = 1
+item_here (at.PowerCaret c) = 1
+item_here place = 0
+
+-- what is counted round the innermost bound, each up to 2^64-1
+pub record IsRound (outer : Outer) (round : Round) : Type 0 where
+  pub nodes : round.nodes ≡ min (fronts.nodes_round outer) (2 ^ 64 - 1)
+  pub levels : round.levels ≡ min (fronts.levels_above outer) (2 ^ 64 - 1)
+  pub in_factor : round.in_factor ≡ fronts.in_factor outer

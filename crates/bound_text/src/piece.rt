@@ -1,0 +1,28 @@
+// The pieces of a bound's text.
+
+/// A piece of the text.
+#[derive(Clone, Copy, Debug, PartialEq, Eq)]
+pub enum Piece {
+    /// The name of the variable with this number.
+    Variable(u32),
+    /// Decimal digits.
+    Number(u128),
+    /// `max(`
+    Greatest,
+    /// `(`
+    Open,
+    /// `)`
+    Close,
+    /// `*`
+    Times,
+    /// `^`
+    Caret,
+    /// `+`
+    Plus,
+    /// A blank.
+    Blank,
+    /// `,`
+    Comma,
+    /// What is no piece of any text.
+    Wrong,
+}

@@ -1,0 +1,69 @@
+// From a text to its bound.
+
+ghost use Rattle.std.specs.Prelude.{length, map};
+ghost use Rattle.model.specs.Bounds.{Size};
+ghost use Rattle.its_model.specs.Views.{name_of};
+ghost use Rattle.bound_text.specs.Faults.{Answers, GivesBack};
+ghost use Rattle.bound_text.specs.Lexing.{lexed};
+ghost use Rattle.bound_text.specs.Names.{AreNames};
+ghost use Rattle.bound_text.specs.Steps.{beginning};
+ghost use Rattle.bound_text.specs.Checks.{Going, verdict};
+ghost use Rattle.bound_text.specs.Texts.{IsTextWithin, OneBound};
+ghost use Rattle.bound_text.specs.Views.{Says};
+
+use crate::error::BoundTextError;
+use crate::lexer::{begins_with, next};
+use crate::state::Reader;
+use bound_expr::Bound;
+use its_model::Name;
+use std::alloc::Global;
+
+/// Reads the bound that a text stands for, over variables with these names.
+///
+/// There is one spelling. The parts of a sum are joined by ` + `, those of a greatest are written `max(a, b)`, the factors
+/// of a product are joined by `*`, and a longest run of n equal neighbouring variables, n at least 2, is written `A^n`. A
+/// power is its base, `^` and the exponent. A sum as a factor stands in brackets, and so does an exponent that is no
+/// constant and no variable. Constants are decimal without leading zeros.
+///
+/// # Errors
+///
+/// The refusal at the least position is the answer, and at one position the one that comes first here. `Syntax` stands at
+/// the first token that can't follow, at the number of a base under 2, or at the text's length where it ends too early. A
+/// name directly before a bracket is one token with it. `NumberTooLarge` stands at a number over 2^127-1, or a base over
+/// 2^64-1; `UnknownName` at a name that isn't listed; `TooDeep` and `TooLarge` at the token with which the tree so far has
+/// more than 200 levels, or more than 4,096 nodes. A sum and a product count from the token on that shows them. `Memory`
+/// comes where memory ran out, or where a listed name has a place over 2^32-1.
+pub fn read(alloc: Global, names: &[Name], bytes: &[u8]) -> Result<Bound, BoundTextError>
+    requires { AreNames (map name_of names.now) }
+    ensures answer { Answers (map name_of names.now) bytes.now result }
+    ensures complete { (b : Size) → IsTextWithin (map name_of names.now) bytes.now b → GivesBack b result }
+{
+    judge(alloc, names, bytes)
+}
+
+/// A text stands for one bound within the limits at most.
+pub fn one_bound()
+    ensures { OneBound }
+{}
+
+// The verdict on a text.
+fn judge(alloc: Global, names: &[Name], bytes: &[u8]) -> Result<Bound, BoundTextError>
+    ensures { Says (verdict (length names.now) (Going 0 beginning) (lexed (map name_of names.now) 0 bytes.now)) result }
+{
+    let mut reader = Reader::new(alloc);
+    let mut rest = bytes;
+    while let Some((first, others)) = rest.split_first() {
+        let at = (bytes.len() - rest.len()) as u64;
+        let lexeme = next(names, rest, *first, others)?;
+        let (_, behind) = rest.split_at(lexeme.len);
+        let caret = begins_with(behind, b'^');
+        if let Err(fault) = reader.take(alloc, names.len(), caret, lexeme.piece) {
+            return Err(fault.at(at));
+        }
+        rest = behind;
+    }
+    match reader.finish() {
+        Ok(bound) => Ok(bound),
+        Err(fault) => Err(fault.at(bytes.len() as u64)),
+    }
+}

@@ -1,0 +1,193 @@
+// How large the tree so far is.
+
+ghost use Rattle.std.specs.Prelude.{◌≡◌, ◌≤◌, ◌^◌, ◌-◌, min, IsTrue};
+ghost use Rattle.bound_text.specs.Fronts as fronts;
+ghost use Rattle.bound_text.specs.Fronts.{Outer, Inside, node_of_any as any_node, product_node as node_of_product, product_node_round, bracket_nodes, inner_levels, nodes_of};
+ghost use Rattle.bound_text.specs.Checks.{sized};
+ghost use Rattle.bound_text.specs.Views.{parts_in, bracket_of, outer_of, front_of, is_settled, sum_here, product_here, item_here, IsRound, Obeys};
+
+use crate::fault::Fault;
+use crate::joining::{is_empty, makes_product};
+use crate::measured::Measured;
+use crate::state::{Bracket, Opened, Place, Reader};
+
+/// How many levels a bound may have.
+const MAX_LEVELS: u64 = 200;
+
+/// How many nodes a bound may have.
+const MAX_NODES: u64 = 4096;
+
+/// What stands round the innermost bound: its nodes, the levels above the bound, and whether the innermost bracket is that
+/// of a sum as a factor.
+#[derive(Clone, Copy)]
+pub struct Round {
+    pub nodes: u64,
+    pub levels: u64,
+    pub in_factor: bool,
+}
+
+// One node where there are parts.
+fn node_of_any(parts: &Measured) -> u64
+    ensures value { result ≡ any_node (parts_in parts.now) }
+    ensures small { result ≤ 1 }
+{
+    if is_empty(parts) { 0 } else { 1 }
+}
+
+// One node where the factors are a product.
+fn product_node(factors: &Measured) -> u64
+    ensures value { result ≡ node_of_product (parts_in factors.now) }
+    ensures small { result ≤ 1 }
+{
+    if makes_product(factors) { 1 } else { 0 }
+}
+
+impl Opened {
+    // What stands round a bound in this bracket, where `round` is what stands round the bracket.
+    fn count_in(&self, round: Round) -> Round
+        ensures { (outer : Outer) → IsRound outer round → IsRound (Inside (bracket_of self.now.bracket) (parts_in self.now.terms) (parts_in self.now.factors) outer) result }
+    {
+        let sum = if round.in_factor {
+            0
+        } else {
+            node_of_any(&self.terms)
+        };
+        let product = self.product_node();
+        let nodes = round
+            .nodes
+            .saturating_add(sum)
+            .saturating_add(self.terms.nodes)
+            .saturating_add(product)
+            .saturating_add(self.factors.nodes);
+        Round {
+            nodes: nodes.saturating_add(self.bracket.nodes()),
+            levels: round.levels.saturating_add(sum + product + 1),
+            in_factor: matches!(self.bracket, Bracket::Factor),
+        }
+    }
+
+    // The node of the product round the bracket.
+    fn product_node(&self) -> u64
+        ensures value { result ≡ product_node_round (bracket_of self.now.bracket) (parts_in self.now.factors) }
+        ensures small { result ≤ 1 }
+    {
+        match &self.bracket {
+            Bracket::Factor => 1,
+            _ => node_of_any(&self.factors),
+        }
+    }
+}
+
+impl Bracket {
+    // The nodes of what the bracket belongs to.
+    fn nodes(&self) -> u64
+        ensures { result ≡ min (bracket_nodes (bracket_of self.now)) (2 ^ 64 - 1) }
+    {
+        match self {
+            Bracket::Arguments(arguments) => arguments.nodes.saturating_add(1),
+            _ => 1,
+        }
+    }
+}
+
+// What stands round the innermost bound.
+fn round_of(outer: &[Opened]) -> Round
+    ensures { IsRound (outer_of outer.now) result }
+{
+    let mut round = Round {
+        nodes: 0,
+        levels: 0,
+        in_factor: false,
+    };
+    for opened in outer {
+        round = opened.count_in(round);
+    }
+    round
+}
+
+#[tactic(auto, using(crate::proofs::SizeLaws::here))]
+impl Reader {
+    // The node of the innermost sum.
+    fn sum_node(&self, round: Round) -> u64
+        ensures value { (outer : Outer) → IsRound outer round → result ≡ sum_here self.now.place outer (parts_in self.now.terms) }
+        ensures small { result ≤ 1 }
+    {
+        if round.in_factor {
+            return 0;
+        }
+        match self.place {
+            Place::BlankRead | Place::PlusRead => 1,
+            _ => node_of_any(&self.terms),
+        }
+    }
+
+    // The node of the innermost product.
+    fn product_node(&self) -> u64
+        ensures value { result ≡ product_here self.now.place (parts_in self.now.factors) }
+        ensures small { result ≤ 1 }
+    {
+        match self.place {
+            Place::ItemRead | Place::BlankRead | Place::PlusRead | Place::CommaRead => product_node(
+                &self.factors,
+            ),
+            _ => node_of_any(&self.factors),
+        }
+    }
+
+    // The node of an item that has begun.
+    fn item_node(&self) -> u64
+        ensures value { result ≡ item_here self.now.place }
+        ensures small { result ≤ 1 }
+    {
+        match self.place {
+            Place::Number(_) | Place::Name(_) | Place::RunCaret(_) | Place::PowerCaret(_) => 1,
+            _ => 0,
+        }
+    }
+
+    // The levels of the innermost bound with those above it, exact up to one over the limit.
+    fn levels(&self, round: Round) -> u64
+        requires { IsRound (outer_of self.now.outer.items) round }
+        ensures { min result 201 ≡ min (inner_levels (front_of self.now)) 201 }
+    {
+        let above = round.levels.saturating_add(self.sum_node(round));
+        let terms = above.saturating_add(u64::from(self.terms.depth));
+        let factors = u64::from(self.factors.depth).max(self.item_node());
+        terms.max(
+            above
+                .saturating_add(self.product_node())
+                .saturating_add(factors),
+        )
+    }
+
+    // The nodes of the tree so far.
+    fn nodes(&self, round: Round) -> u64
+        requires { IsRound (outer_of self.now.outer.items) round }
+        ensures { result ≡ min (nodes_of (front_of self.now)) (2 ^ 64 - 1) }
+    {
+        let sum = round
+            .nodes
+            .saturating_add(self.sum_node(round))
+            .saturating_add(self.terms.nodes);
+        let product = sum
+            .saturating_add(self.product_node())
+            .saturating_add(self.factors.nodes);
+        product.saturating_add(self.item_node())
+    }
+
+    /// Whether what has been read is within the limits. `TooDeep` comes exactly where it has more than 200 levels, and
+    /// else `TooLarge` exactly where it has more than 4,096 nodes.
+    pub fn check_size(&self) -> Result<(), Fault>
+        requires { IsTrue (is_settled self.now) }
+        ensures { Obeys (sized (front_of self.now)) self.now result }
+    {
+        let round = round_of(&self.outer);
+        if self.levels(round) > MAX_LEVELS {
+            return Err(Fault::TooDeep);
+        }
+        if self.nodes(round) > MAX_NODES {
+            return Err(Fault::TooLarge);
+        }
+        Ok(())
+    }
+}

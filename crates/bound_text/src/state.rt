@@ -1,0 +1,74 @@
+// What has been read of a text.
+
+ghost use Rattle.std.specs.Prelude.{◌≡◌};
+ghost use Rattle.bound_text.specs.Steps.{beginning};
+ghost use Rattle.bound_text.specs.Views.{front_of};
+
+use crate::measured::Measured;
+use std::alloc::Global;
+
+/// What an open bracket belongs to.
+#[derive(Drop)]
+pub enum Bracket {
+    /// A greatest, with its arguments so far.
+    Arguments(Measured),
+    /// A power, with its base.
+    Exponent(u64),
+    /// A sum, as a factor.
+    Factor,
+}
+
+/// An open bracket, with the terms and the factors before it.
+#[derive(Drop)]
+pub struct Opened {
+    pub bracket: Bracket,
+    pub terms: Measured,
+    pub factors: Measured,
+}
+
+/// What was read last.
+#[derive(Clone, Copy, Debug, PartialEq, Eq)]
+pub enum Place {
+    /// What an item can follow.
+    Begins,
+    /// A number that begins an item, not yet a factor.
+    Number(u128),
+    /// A variable that begins an item, not yet a factor.
+    Name(u32),
+    /// The `^` of a run of this variable.
+    RunCaret(u32),
+    /// The `^` of a power with this base.
+    PowerCaret(u64),
+    /// An item.
+    ItemRead,
+    /// The first blank of ` + `.
+    BlankRead,
+    /// The `+` of ` + `.
+    PlusRead,
+    /// The comma of `, `.
+    CommaRead,
+}
+
+/// The part of a text that has been read: the open brackets, the outermost first, then the terms and the factors of the
+/// innermost bound, and the place.
+#[derive(Drop)]
+pub struct Reader {
+    pub outer: Vec<Opened>,
+    pub terms: Measured,
+    pub factors: Measured,
+    pub place: Place,
+}
+
+impl Reader {
+    /// Nothing has been read.
+    pub fn new(alloc: Global) -> Reader
+        ensures { front_of result ≡ beginning }
+    {
+        Reader {
+            outer: Vec::new(alloc),
+            terms: Measured::new(alloc),
+            factors: Measured::new(alloc),
+            place: Place::Begins,
+        }
+    }
+}

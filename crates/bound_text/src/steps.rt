@@ -1,0 +1,279 @@
+// Where each piece leads the reader.
+
+ghost use Rattle.std.specs.Prelude.{◌≡◌, ◌&&◌, ◌^◌, ◌<◌, IsTrue, IsFalse, OnOk, MatchResult};
+ghost use Rattle.bound_text.specs.Fronts.{last, init, can_be_argument as can_be_argument_of, in_arguments as in_arguments_of};
+ghost use Rattle.bound_text.specs.Steps.{step as step_of, begin_item as item_begun, begin_exponent as exponent_begun, follow_item as item_followed, caret_behind, close_bracket as bracket_closed, end_argument as argument_ended, inside, front_at, behind_factor, can_close as bracket_can_close, item_of};
+ghost use Rattle.bound_text.specs.Fronts as fronts;
+ghost use Rattle.model.specs.Bounds.{Constant, Input, PowerOf, NoParts};
+ghost use Rattle.bound_text.specs.Shapes.{with_part};
+ghost use Rattle.bound_text.specs.Fronts.{term_of, bound_of};
+ghost use Rattle.bound_text.specs.Printing.{piece_of};
+ghost use Rattle.bound_text.specs.Checks.{is_caret, takes_caret, has_large_base as has_large_base_of};
+ghost use Rattle.bound_expr.specs.Views.{size_of};
+ghost use Rattle.bound_text.specs.Views.{is_arguments, parts_in, bracket_of, outer_of, front_of, is_settled, Follows};
+
+use crate::fault::Fault;
+use crate::joining::{
+    bound_from, can_end, ends_with, is_empty, makes_greatest, makes_leaf, makes_sum, product_from,
+};
+use crate::measured::Measured;
+use crate::piece::Piece;
+use crate::state::{Bracket, Opened, Place, Reader};
+use crate::taking::TOO_LARGE_BASE;
+use bound_expr::Bound;
+use std::alloc::Global;
+use std::mem;
+
+#[tactic(auto, using(crate::proofs::PartLaws::ends, crate::proofs::ViewLaws::outer_of_push))]
+impl Reader {
+    /// Whether this is the `^` behind a base over 2^64-1.
+    pub fn has_large_base(&self, piece: Piece) -> bool
+        requires { IsTrue (is_settled self.now) }
+        ensures { result ≡ has_large_base_of (front_of self.now) (piece_of piece) }
+    {
+        match (self.place, piece) {
+            (Place::Number(c), Piece::Caret) => c >= TOO_LARGE_BASE,
+            _ => false,
+        }
+    }
+
+    // A bracket that begins an item.
+    fn open(&mut self, alloc: Global, bracket: Bracket) -> Result<(), Fault>
+        ensures { Follows (Some (inside (bracket_of bracket) (outer_of self.old.outer.items) (parts_in self.old.terms) (parts_in self.old.factors))) self.new result }
+    {
+        let terms = mem::replace(&mut self.terms, Measured::new(alloc));
+        let factors = mem::replace(&mut self.factors, Measured::new(alloc));
+        self.outer.push(Opened {
+            bracket,
+            terms,
+            factors,
+        })?;
+        self.place = Place::Begins;
+        Ok(())
+    }
+
+    // An item begins.
+    pub fn begin_item(&mut self, alloc: Global, piece: Piece) -> Result<(), Fault>
+        ensures { Follows (item_begun (outer_of self.old.outer.items) (parts_in self.old.terms) (parts_in self.old.factors) (piece_of piece)) self.new result }
+    {
+        match piece {
+            Piece::Variable(i) => {
+                if ends_with(&self.factors, i) {
+                    return Err(Fault::Syntax);
+                }
+                self.place = Place::Name(i);
+                Ok(())
+            }
+            Piece::Number(c) => {
+                self.place = Place::Number(c);
+                Ok(())
+            }
+            Piece::Greatest => self.open(alloc, Bracket::Arguments(Measured::new(alloc))),
+            Piece::Open => self.open(alloc, Bracket::Factor),
+            _ => Err(Fault::Syntax),
+        }
+    }
+
+    // An exponent begins.
+    pub fn begin_exponent(&mut self, alloc: Global, base: u64, piece: Piece) -> Result<(), Fault>
+        ensures { Follows (exponent_begun (outer_of self.old.outer.items) (parts_in self.old.terms) (parts_in self.old.factors) base (piece_of piece)) self.new result }
+    {
+        match piece {
+            Piece::Number(c) => self.end_power(alloc, base, Bound::Const(c)),
+            Piece::Variable(i) => self.end_power(alloc, base, Bound::Var(i)),
+            Piece::Open => self.open(alloc, Bracket::Exponent(base)),
+            _ => Err(Fault::Syntax),
+        }
+    }
+
+    // A power with its exponent.
+    fn end_power(&mut self, alloc: Global, base: u64, exponent: Bound) -> Result<(), Fault>
+        ensures { Follows (Some (behind_factor (outer_of self.old.outer.items) (parts_in self.old.terms) (parts_in self.old.factors) (PowerOf base (size_of exponent)))) self.new result }
+    {
+        self.factors
+            .push(Bound::Power(base, Box::new(alloc, exponent)?))?;
+        self.place = Place::ItemRead;
+        Ok(())
+    }
+
+    // `^` behind a number that begins an item.
+    fn begin_power(&mut self, number: u128) -> Result<(), Fault>
+        requires { number < 2 ^ 64 }
+        ensures { Follows (caret_behind (outer_of self.old.outer.items) (parts_in self.old.terms) (parts_in self.old.factors) (Some (Constant number))) self.new result }
+    {
+        if number < 2 {
+            return Err(Fault::Syntax);
+        }
+        self.place = Place::PowerCaret(number as u64);
+        Ok(())
+    }
+
+    // Whether an argument can end here.
+    fn can_be_argument(&self) -> bool
+        ensures { result ≡ can_be_argument_of (outer_of self.now.outer.items) (parts_in self.now.terms) (parts_in self.now.factors) }
+    {
+        in_arguments(&self.outer)
+            && can_end(&self.factors)
+            && !makes_greatest(&self.terms, &self.factors)
+    }
+
+    // A bracket closes.
+    fn close(&mut self, alloc: Global) -> Result<(), Fault>
+        ensures { Follows (bracket_closed (outer_of self.old.outer.items) (parts_in self.old.terms) (parts_in self.old.factors)) self.new result }
+    {
+        let Some(
+            Opened {
+                bracket,
+                terms: outer_terms,
+                factors: outer_factors,
+            },
+        ) = self.outer.pop()
+        else {
+            return Err(Fault::Syntax);
+        };
+        if !can_end(&self.factors) || !bracket.can_close(&self.terms, &self.factors) {
+            return Err(Fault::Syntax);
+        }
+        let terms = mem::replace(&mut self.terms, outer_terms);
+        let factors = mem::replace(&mut self.factors, outer_factors);
+        let item = bracket.item_from(alloc, bound_from(terms, factors)?)?;
+        self.factors.push(item)?;
+        self.place = Place::ItemRead;
+        Ok(())
+    }
+
+    // What follows an item that is a factor.
+    pub fn follow_item(&mut self, alloc: Global, piece: Piece) -> Result<(), Fault>
+        requires { IsFalse (is_caret (piece_of piece) && takes_caret (init (parts_in self.old.factors)) (last (parts_in self.old.factors))) }
+        ensures { Follows (item_followed (outer_of self.old.outer.items) (parts_in self.old.terms) (parts_in self.old.factors) (piece_of piece)) self.new result }
+    {
+        match piece {
+            Piece::Times => {
+                self.place = Place::Begins;
+                Ok(())
+            }
+            Piece::Blank if can_end(&self.factors) => {
+                self.place = Place::BlankRead;
+                Ok(())
+            }
+            Piece::Comma if self.can_be_argument() => {
+                self.place = Place::CommaRead;
+                Ok(())
+            }
+            Piece::Close => self.close(alloc),
+            _ => Err(Fault::Syntax),
+        }
+    }
+
+    // A term ends with ` + `.
+    pub fn end_term(&mut self, alloc: Global) -> Result<(), Fault>
+        ensures { Follows (Some (front_at (outer_of self.old.outer.items) (with_part (parts_in self.old.terms) (term_of (parts_in self.old.factors))) NoParts fronts.Begins)) self.new result }
+    {
+        let factors = mem::replace(&mut self.factors, Measured::new(alloc));
+        self.terms.push(product_from(factors.bounds))?;
+        self.place = Place::Begins;
+        Ok(())
+    }
+
+    // An argument ends with `, `.
+    pub fn end_argument(&mut self, alloc: Global) -> Result<(), Fault>
+        ensures { Follows (argument_ended (outer_of self.old.outer.items) (parts_in self.old.terms) (parts_in self.old.factors)) self.new result }
+    {
+        let Some(
+            Opened {
+                bracket,
+                terms: outer_terms,
+                factors: outer_factors,
+            },
+        ) = self.outer.pop()
+        else {
+            return Err(Fault::Syntax);
+        };
+        let terms = mem::replace(&mut self.terms, outer_terms);
+        let factors = mem::replace(&mut self.factors, outer_factors);
+        match bracket {
+            Bracket::Arguments(mut arguments) => {
+                arguments.push(bound_from(terms, factors)?)?;
+                self.open(alloc, Bracket::Arguments(arguments))
+            }
+            _ => Err(Fault::Syntax),
+        }
+    }
+
+    // Behind a number that begins an item.
+    pub fn follow_number(&mut self, alloc: Global, number: u128, piece: Piece) -> Result<(), Fault>
+        requires { IsTrue (is_caret (piece_of piece)) → number < 2 ^ 64 }
+        ensures { Follows (item_followed (outer_of self.old.outer.items) (parts_in self.old.terms) (with_part (parts_in self.old.factors) (Constant number)) (piece_of piece)) self.new result }
+    {
+        match piece {
+            Piece::Caret => self.begin_power(number),
+            _ => {
+                self.factors.push(Bound::Const(number))?;
+                self.follow_item(alloc, piece)
+            }
+        }
+    }
+
+    // Behind a variable that begins an item.
+    pub fn follow_name(&mut self, alloc: Global, variable: u32, piece: Piece) -> Result<(), Fault>
+        requires { IsFalse (fronts.is_input variable (last (parts_in self.old.factors))) }
+        ensures { Follows (item_followed (outer_of self.old.outer.items) (parts_in self.old.terms) (with_part (parts_in self.old.factors) (Input variable)) (piece_of piece)) self.new result }
+    {
+        match piece {
+            Piece::Caret => {
+                self.place = Place::RunCaret(variable);
+                Ok(())
+            }
+            _ => {
+                self.factors.push(Bound::Var(variable))?;
+                self.follow_item(alloc, piece)
+            }
+        }
+    }
+}
+
+impl Bracket {
+    // Whether it is the bracket of a greatest.
+    fn is_of_greatest(&self) -> bool
+        ensures { result ≡ is_arguments (bracket_of self.now) }
+    {
+        matches!(self, Bracket::Arguments(_))
+    }
+
+    // Whether the bracket can close behind the bound that terms and factors make.
+    fn can_close(&self, terms: &Measured, factors: &Measured) -> bool
+        ensures { result ≡ bracket_can_close (bracket_of self.now) (bound_of (parts_in terms.now) (parts_in factors.now)) }
+    {
+        match self {
+            Bracket::Arguments(arguments) => !is_empty(arguments)
+                && !makes_greatest(terms, factors),
+            Bracket::Exponent(_) => !makes_leaf(terms, factors),
+            Bracket::Factor => makes_sum(terms, factors),
+        }
+    }
+
+    // The item that the bracket's bound makes.
+    fn item_from(self, alloc: Global, bound: Bound) -> Result<Bound, Fault>
+        ensures { MatchResult result (λ item. size_of item ≡ item_of (bracket_of self) (size_of bound)) (λ fault. fault ≡ Fault.Memory) }
+    {
+        match self {
+            Bracket::Arguments(mut arguments) => {
+                arguments.push(bound)?;
+                Ok(Bound::Max(arguments.bounds))
+            }
+            Bracket::Exponent(base) => Ok(Bound::Power(base, Box::new(alloc, bound)?)),
+            Bracket::Factor => Ok(bound),
+        }
+    }
+}
+
+// Whether the innermost open bracket is that of a greatest.
+#[tactic(auto, using(crate::proofs::ViewLaws::in_arguments_last))]
+fn in_arguments(outer: &[Opened]) -> bool
+    ensures { result ≡ in_arguments_of (outer_of outer.now) }
+{
+    match outer.last() {
+        Some(opened) => opened.bracket.is_of_greatest(),
+        None => false,
+    }
+}

@@ -1,0 +1,171 @@
+// Taking one piece after the other.
+
+ghost use Rattle.std.specs.Prelude.{◌≡◌, ◌&&◌, ◌<◌, ◌^◌, ◌≤◌, IsTrue, IsFalse, OnOk, false};
+ghost use Rattle.bound_text.specs.Fronts as fronts;
+ghost use Rattle.bound_text.specs.Fronts.{last};
+ghost use Rattle.bound_text.specs.Steps.{step as step_of, end_run as run_ended, finish as finish_of, finish_at, is_whole as is_whole_outer, with_copies};
+ghost use Rattle.bound_text.specs.Printing.{piece_of};
+ghost use Rattle.bound_text.specs.Checks.{begins as begins_at, checked, judged, fault_of as fault_of_piece, has_large_base as has_large_base_of};
+ghost use Rattle.bound_text.specs.Views.{parts_in, outer_of, front_of, is_settled, is_in_run, Follows, FindsFault, Obeys, Finishes};
+
+use crate::fault::Fault;
+use crate::joining::{bound_from, can_end};
+use crate::measured::Measured;
+use crate::piece::Piece;
+use crate::state::{Opened, Place, Reader};
+use bound_expr::{Bound, Memory};
+use std::alloc::Global;
+
+/// The least number that is too large: 2^127.
+const TOO_LARGE: u128 = 0x8000_0000_0000_0000_0000_0000_0000_0000;
+
+/// The least base that is too large: 2^64.
+pub const TOO_LARGE_BASE: u128 = 0x1_0000_0000_0000_0000;
+
+/// More copies of a variable than a bound may have nodes.
+const TOO_MANY: u128 = 4097;
+
+// The fault of a piece by itself, where n names are listed, and where `base` says whether it would be a base.
+fn fault_of(names: usize, base: bool, piece: Piece) -> Result<(), Fault>
+    ensures { FindsFault (fault_of_piece names base (piece_of piece)) result }
+{
+    match piece {
+        Piece::Number(c) if base && c < 2 => Err(Fault::Syntax),
+        Piece::Number(c) if c >= TOO_LARGE || (base && c >= TOO_LARGE_BASE) => Err(
+            Fault::NumberTooLarge,
+        ),
+        Piece::Variable(i) if names <= i as usize => Err(Fault::UnknownName),
+        _ => Ok(()),
+    }
+}
+
+impl Measured {
+    // So many times a variable more.
+    fn push_copies(&mut self, variable: u32, count: u32) -> Result<(), Memory>
+        ensures { OnOk result (parts_in self.new ≡ with_copies count variable (parts_in self.old)) }
+    {
+        for _copy in 0..count {
+            self.push(Bound::Var(variable))?;
+        }
+        Ok(())
+    }
+}
+
+impl Reader {
+    /// Takes one piece, where so many names are listed, and where `caret` says whether `^` comes next.
+    pub fn take(
+        &mut self,
+        alloc: Global,
+        names: usize,
+        caret: bool,
+        piece: Piece,
+    ) -> Result<(), Fault>
+        requires { IsTrue (is_settled self.old) }
+        ensures { Obeys (checked names caret (front_of self.old) (piece_of piece)) self.new result }
+    {
+        if let Place::RunCaret(variable) = self.place {
+            return self.end_run(variable, piece);
+        }
+        if self.has_large_base(piece) {
+            return Err(Fault::NumberTooLarge);
+        }
+        let base = self.begins() && caret;
+        self.step(alloc, piece)?;
+        fault_of(names, base, piece)?;
+        self.check_size()
+    }
+
+    // Whether an item begins.
+    fn begins(&self) -> bool
+        ensures { result ≡ begins_at (front_of self.now).place }
+    {
+        matches!(self.place, Place::Begins)
+    }
+
+    // Where a piece leads, but behind the `^` of a run.
+    fn step(&mut self, alloc: Global, piece: Piece) -> Result<(), Fault>
+        requires settled { IsTrue (is_settled self.old) }
+        requires no_run { IsFalse (is_in_run self.old.place) }
+        requires no_base { IsFalse (has_large_base_of (front_of self.old) (piece_of piece)) }
+        ensures { Follows (step_of (front_of self.old) (piece_of piece)) self.new result }
+    {
+        match self.place {
+            Place::Begins => self.begin_item(alloc, piece),
+            Place::Number(number) => self.follow_number(alloc, number, piece),
+            Place::Name(variable) => self.follow_name(alloc, variable, piece),
+            Place::PowerCaret(base) => self.begin_exponent(alloc, base, piece),
+            Place::ItemRead => self.follow_item(alloc, piece),
+            Place::BlankRead => match piece {
+                Piece::Plus => {
+                    self.place = Place::PlusRead;
+                    Ok(())
+                }
+                _ => Err(Fault::Syntax),
+            },
+            Place::PlusRead => match piece {
+                Piece::Blank => self.end_term(alloc),
+                _ => Err(Fault::Syntax),
+            },
+            Place::CommaRead => match piece {
+                Piece::Blank => self.end_argument(alloc),
+                _ => Err(Fault::Syntax),
+            },
+            Place::RunCaret(_) => unreachable!(),
+        }
+    }
+
+    // A run ends with its number. More copies than a bound may have nodes are as many as are refused.
+    fn end_run(&mut self, variable: u32, piece: Piece) -> Result<(), Fault>
+        ensures { Obeys (judged (fault_of_piece 0 false (piece_of piece)) (run_ended (outer_of self.old.outer.items) (parts_in self.old.terms) (parts_in self.old.factors) variable (piece_of piece))) self.new result }
+    {
+        match piece {
+            Piece::Number(count) if count >= 2 => {
+                if count >= TOO_LARGE {
+                    return Err(Fault::NumberTooLarge);
+                }
+                self.factors
+                    .push_copies(variable, count.min(TOO_MANY) as u32)?;
+                self.place = Place::ItemRead;
+                self.check_size()
+            }
+            _ => Err(Fault::Syntax),
+        }
+    }
+
+    /// The bound of a text that ends here.
+    pub fn finish(mut self) -> Result<Bound, Fault>
+        ensures { Finishes (finish_of (front_of self)) result }
+    {
+        match self.place {
+            Place::Number(c) => {
+                self.factors.push(Bound::Const(c))?;
+                self.end()
+            }
+            Place::Name(i) => {
+                self.factors.push(Bound::Var(i))?;
+                self.end()
+            }
+            Place::ItemRead => self.end(),
+            _ => Err(Fault::Syntax),
+        }
+    }
+
+    // The bound of a text that ends with a factor.
+    fn end(self) -> Result<Bound, Fault>
+        ensures { Finishes (finish_at fronts.ItemRead (outer_of self.outer.items) (parts_in self.terms) (parts_in self.factors)) result }
+    {
+        if is_whole(&self.outer) && can_end(&self.factors) {
+            Ok(bound_from(self.terms, self.factors)?)
+        } else {
+            Err(Fault::Syntax)
+        }
+    }
+}
+
+// Whether no bracket is open.
+#[tactic(auto, using(crate::proofs::ViewLaws::is_whole_empty))]
+fn is_whole(outer: &[Opened]) -> bool
+    ensures { result ≡ is_whole_outer (outer_of outer.now) }
+{
+    outer.is_empty()
+}

@@ -1,0 +1,35 @@
+-- The linear program of a problem, field by field.
+use Rattle.std.proofs.Common.{◌≡◌, ℕ, refl}
+use Rattle.std.specs.Prelude.{pos, slice_index_or}
+use Rattle.simplex_core.specs.declared.problem.Problem.{Problem}
+use Rattle.simplex_core.specs.Problem.{entry_value, program_of}
+
+-- the columns of a problem's program
+pub program-columns : (q : Problem) → (program_of q).columns ≡ q.cols
+unfolding program_of
+program-columns q = refl
+
+-- the rows of a problem's program
+pub program-rows : (q : Problem) → (program_of q).rows ≡ q.rows
+unfolding program_of
+program-rows q = refl
+
+-- the numbers of a problem's program
+pub program-entry : (q : Problem) (i j : ℕ) → (program_of q).entry i j ≡ entry_value q.entries.items i j
+unfolding program_of
+program-entry q i j = refl
+
+-- the right sides of a problem's program
+pub program-right : (q : Problem) (i : ℕ) → (program_of q).right i ≡ slice_index_or q.right.items i (pos 0)
+unfolding program_of
+program-right q i = refl
+
+-- the first costs of a problem's program
+pub program-first : (q : Problem) (j : ℕ) → (program_of q).first j ≡ slice_index_or q.first.items j (pos 0)
+unfolding program_of
+program-first q j = refl
+
+-- the second costs of a problem's program
+pub program-second : (q : Problem) (j : ℕ) → (program_of q).second j ≡ slice_index_or q.second.items j (pos 0)
+unfolding program_of
+program-second q j = refl

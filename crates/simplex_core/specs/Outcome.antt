@@ -1,0 +1,107 @@
+-- What `solve` answers: the end of the sequence of tableaux, or the limit that it trips.
+use Rattle.std.specs.Prelude.{◌≡◌, ℕ, ◌^◌, ◌<◌, ◌≤◌, ℤ, pos, ◌*ℤ◌, ◌<ℤ◌, unsigned_abs, List, length, slice_get, slice_index, Some, None, false, true, Result, MatchResult, ◌≢◌, ◌⊎◌}
+use Rattle.frac128.specs.declared.frac.Frac.{Frac}
+use Rattle.frac128.specs.Fraction.{IsFraction}
+use Rattle.frac128.specs.Lowest.{IsLowest}
+use Rattle.simplex_core.specs.declared.problem.Solved.{Solved}
+use Rattle.simplex_core.specs.declared.problem.Solved.TheVariants.{Optimal, Infeasible}
+use Rattle.simplex_core.specs.declared.problem.SolveError.{SolveError}
+use Rattle.simplex_core.specs.declared.problem.SolveError.TheVariants.{Range, Budget, Wide, Memory}
+use Rattle.simplex_core.specs.LinearProgram.{LinearProgram, IsSolution, IsLeast, IsDual}
+use Rattle.simplex_core.specs.Tableau.{Tableau, unknowns, cost_row}
+use Rattle.simplex_core.specs.Bland.{is_infeasible, entering, dual_of, next, tableau_at}
+use Rattle.simplex_core.specs.Problem.{table_size}
+use Rattle.simplex_core.specs.Places.{InTable}
+
+-- in lowest terms, z over s has a numerator and a denominator below 2^31 in absolute value
+pub record IsSmallRatio (z s : ℤ) : Type 0 where
+  pub each : (n d : ℤ) → pos 0 <ℤ d → IsLowest n d → n *ℤ s ≡ z *ℤ d → (unsigned_abs n < 2 ^ 31) × (unsigned_abs d < 2 ^ 31)
+
+-- each number of the tableau is in range; a cost row has no right side
+pub record IsInRange (p : LinearProgram) (t : Tableau) : Type 0 where
+  pub each : (i j : ℕ) → InTable p.rows p.columns i j → IsSmallRatio (t.entry i j) (t.scale i)
+
+-- after k pivots the tableau is t, and each one before was in range
+pub record IsReached (p : LinearProgram) (k : ℕ) (t : Tableau) : Type 0 where
+  pub is : tableau_at p k ≡ Some t
+  pub before : (i : ℕ) (u : Tableau) → i < k → tableau_at p i ≡ Some u → IsInRange p u
+
+-- the list holds the numbers of the point x over d
+pub record HoldsPoint (n : ℕ) (at : List Frac) (x : ℕ → ℤ) (d : ℤ) : Type 0 where
+  pub length_is : length at ≡ n
+  pub each : (j : ℕ) (f : Frac) → slice_get at j ≡ Some f → IsFraction f (x j) d
+
+-- the number is the basic solution's of the tableau in column j: the right side of the row that is solved
+-- for column j, or 0 where none is
+abbrev pub IsBasicValue : LinearProgram → Tableau → ℕ → Frac → Type 0
+IsBasicValue p t j f =
+    ((i : ℕ) × (i < p.rows) × (t.basis i ≡ j) × IsFraction f (t.entry i (unknowns p)) (t.scale i))
+    ⊎ ((f.num ≡ pos 0) × ((i : ℕ) → i < p.rows → t.basis i ≢ j))
+
+-- the sequence ends as optimal within the allowed pivots: the list is a solution of least cost, namely
+-- the last tableau's basic solution, and the basis is the last tableau's
+pub record EndsOptimally (p : LinearProgram) (allowed : ℕ) (at : List Frac) (basis : List ℕ) (k : ℕ) : Type 0 where
+  pub within : k ≤ allowed
+  pub last : Tableau
+  pub reached : IsReached p k last
+  pub in_range : IsInRange p last
+  pub feasible : is_infeasible p last ≡ false
+  pub done : entering p last ≡ None
+  pub rows : length basis ≡ p.rows
+  pub basis_is : (i : ℕ) → i < p.rows → slice_index basis i ≡ last.basis i
+  pub x : ℕ → ℤ
+  pub d : ℤ
+  pub holds : HoldsPoint p.columns at x d
+  pub solution : IsSolution p x d
+  pub least : IsLeast p x d
+  pub basic : (j : ℕ) (f : Frac) → slice_get at j ≡ Some f → IsBasicValue p last j f
+
+-- the sequence ends as infeasible within the allowed pivots: the list is the last tableau's dual, over
+-- a scale over 0
+pub record EndsInfeasibly (p : LinearProgram) (allowed : ℕ) (dual : List Frac) (k : ℕ) : Type 0 where
+  pub within : k ≤ allowed
+  pub last : Tableau
+  pub reached : IsReached p k last
+  pub in_range : IsInRange p last
+  pub infeasible : is_infeasible p last ≡ true
+  pub holds : HoldsPoint p.rows dual (dual_of p last) (last.scale (cost_row p 0))
+  pub positive : pos 0 <ℤ last.scale (cost_row p 0)
+  pub certified : IsDual p (dual_of p last)
+
+-- after k pivots, within the allowed ones, a number of the tableau is out of range, and none was before
+pub record TripsRange (p : LinearProgram) (allowed k : ℕ) : Type 0 where
+  pub within : k ≤ allowed
+  pub last : Tableau
+  pub reached : IsReached p k last
+  pub out : ¬ IsInRange p last
+
+-- the allowed pivots are made, and the sequence goes on
+pub record TripsBudget (p : LinearProgram) (allowed : ℕ) : Type 0 where
+  pub last : Tableau
+  pub reached : IsReached p allowed last
+  pub in_range : IsInRange p last
+  pub following : Tableau
+  pub goes_on : next p last ≡ Some following
+
+-- how the sequence within the allowed pivots ends
+abbrev pub IsEnd : LinearProgram → ℕ → Solved → Type 0
+IsEnd p allowed (Optimal at basis k) = EndsOptimally p allowed at.items basis.items k
+IsEnd p allowed (Infeasible dual k) = EndsInfeasibly p allowed dual.items k
+
+-- what the sequence within the allowed pivots trips; want of memory may come at any time
+abbrev pub IsTrip : LinearProgram → ℕ → SolveError → Type 0
+IsTrip p allowed (Range k) = TripsRange p allowed k
+IsTrip p allowed (Budget k) = (k ≡ allowed) × TripsBudget p allowed
+IsTrip p allowed (Wide n) = ⊥
+IsTrip p allowed Memory = Unit {0}
+
+-- the answer that isn't an end: the table would be too wide, or it isn't and the sequence trips
+abbrev pub IsStop : LinearProgram → ℕ → SolveError → Type 0
+IsStop p allowed (Range k) = (table_size p ≤ 16000000) × IsTrip p allowed (Range k)
+IsStop p allowed (Budget k) = (table_size p ≤ 16000000) × IsTrip p allowed (Budget k)
+IsStop p allowed (Wide n) = (16000000 < table_size p) × (n ≡ table_size p)
+IsStop p allowed Memory = Unit {0}
+
+-- the answer of the sequence within the allowed pivots
+abbrev pub IsAnswer : LinearProgram → ℕ → Result Solved SolveError → Type 0
+IsAnswer p allowed result = MatchResult result (λ s. (table_size p ≤ 16000000) × IsEnd p allowed s) (IsStop p allowed)

@@ -1,0 +1,30 @@
+//! Whether the numbers of a problem are below 2^31, before any sum is made of them.
+
+ghost use Rattle.std.specs.Prelude.{ℕ, MatchBool};
+ghost use Rattle.simplex_core.specs.Building.{AreBelow, IsOneAbove, AreEntriesBelow, IsOneEntryAbove};
+
+use crate::problem::Entry;
+
+/// Whether each number is below 2^31 in absolute value.
+pub(crate) fn are_below(numbers: &[i128]) -> bool
+    ensures { MatchBool result (AreBelow numbers.now) (IsOneAbove numbers.now) }
+{
+    for place in 0..numbers.len() {
+        if numbers[place].unsigned_abs() >= 1 << 31 {
+            return false;
+        }
+    }
+    true
+}
+
+/// Whether each entry's number is below 2^31 in absolute value.
+pub(crate) fn are_entries_below(entries: &[Entry]) -> bool
+    ensures { MatchBool result (AreEntriesBelow entries.now) (IsOneEntryAbove entries.now) }
+{
+    for place in 0..entries.len() {
+        if entries[place].value.unsigned_abs() >= 1 << 31 {
+            return false;
+        }
+    }
+    true
+}

@@ -1,0 +1,17 @@
+//! Bland's simplex method over exact fractions.
+#![tactic(auto)]
+
+mod arithmetic;
+mod checking;
+mod laws;
+mod problem;
+mod sequence;
+mod solving;
+mod start;
+mod table;
+#[cfg(test)]
+mod tests;
+
+pub use laws::{dual_excludes_solutions, least_costs_least, outcome_tells_solutions};
+pub use problem::{Entry, Problem, SolveError, Solved};
+pub use solving::solve;

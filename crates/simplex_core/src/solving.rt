@@ -1,0 +1,58 @@
+//! The public call.
+
+ghost use Rattle.std.specs.Prelude.{MatchBool};
+ghost use Rattle.simplex_core.specs.Tableau.{first_tableau};
+ghost use Rattle.simplex_core.specs.Problem.{program_of, IsProper};
+ghost use Rattle.simplex_core.specs.Building.{HasSmallNumbers};
+ghost use Rattle.simplex_core.specs.Outcome.{IsInRange, IsAnswer};
+
+use crate::checking::{are_below, are_entries_below};
+use crate::problem::{Problem, SolveError, Solved};
+use crate::sequence::run;
+use crate::start::first_table;
+use std::alloc::Global;
+
+/// The most numbers that a table may have.
+const WIDEST: u64 = 16_000_000;
+
+/// Whether the numbers of a problem are below 2^31; else the first tableau is out of range.
+fn has_small_numbers(problem: &Problem) -> bool
+    requires { IsProper problem.now }
+    ensures { MatchBool result (HasSmallNumbers problem.now) (¬ IsInRange (program_of problem.now) (first_tableau (program_of problem.now))) }
+{
+    if !are_entries_below(problem.entries.as_slice()) {
+        return false;
+    }
+    if !are_below(problem.right.as_slice()) {
+        return false;
+    }
+    if !are_below(problem.first.as_slice()) {
+        return false;
+    }
+    are_below(problem.second.as_slice())
+}
+
+/// Follows Bland's sequence of tableaux, which starts with artificial unknowns, for at most `pivots`
+/// pivots. `Optimal` is a solution of least cost, first by the first costs and then by the second
+/// (`least_costs_least` says what that is): the last basic solution, with 0 for each unknown that no row
+/// is solved for. `Infeasible` comes exactly where there is no solution and nothing trips
+/// (`outcome_tells_solutions`), with a dual that shows it (`dual_excludes_solutions`).
+/// `Wide` comes before all where the table would have more than 16,000,000 numbers; `Range` at the
+/// first tableau with a number out of range; `Budget` where the allowed pivots are made and another is
+/// needed; `Memory` where memory runs out. Source: R. G. Bland, New finite pivoting rules for the
+/// simplex method, 1977.
+pub fn solve(alloc: Global, problem: &Problem, pivots: u32) -> Result<Solved, SolveError>
+    requires { IsProper problem.now }
+    ensures { IsAnswer (program_of problem.now) pivots result }
+{
+    let rows = u64::from(problem.rows);
+    let entries = rows * (u64::from(problem.cols) + rows + 1);
+    if entries > WIDEST {
+        return Err(SolveError::Wide { entries });
+    }
+    if !has_small_numbers(problem) {
+        return Err(SolveError::Range { pivot: 0 });
+    }
+    let table = first_table(alloc, problem)?;
+    run(alloc, problem, table, pivots)
+}
