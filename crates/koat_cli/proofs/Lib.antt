@@ -1,3 +1,5 @@
 pub mod TwoWords
 pub mod Sayings
 pub mod Exclusions
+pub mod Lines
+pub mod Ones

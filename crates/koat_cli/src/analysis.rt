@@ -34,6 +34,6 @@ fn analyse_program(alloc: Global, program: &Program) -> Result<Said, Memory>
     }
     Ok(Said {
         status: Status::Done,
-        text: report_text(alloc, program.rules.len())?,
+        text: report_text(alloc, &program.start_names, program.rules.len())?,
     })
 }

@@ -9,6 +9,7 @@ mod report_lines;
 mod said;
 mod status;
 mod top_call;
+mod total;
 mod words;
 
 pub use law::causes_exclude_each_other;
