@@ -96,5 +96,3 @@ zero_is_whole num den lowest positive is_zero =
 -- a whole number is in lowest terms
 pub whole_is_lowest : (num : ℤ) → IsLowest num (pos 1)
 whole_is_lowest num k divides_num divides_one = eq-one_of_dvd-one divides_one
-
-pub ruleset lowest_terms = (quotients_are_lowest, quotient-narrow, quotient-positive, quotients-cross, factor_apart, whole_is_lowest)

@@ -3,6 +3,7 @@
 use Rattle.std.proofs.Common.{◌≡◌, sym, ◌∙◌, ap, subst, arith, [], ◌∷◌}
 use Rattle.std.specs.Prelude.{ℤ, pos, ◌+ℤ◌, ◌-ℤ◌, ◌*ℤ◌, neg_ℤ}
 use Rattle.std.proofs.lemmas.Int.{ints}
+use Rattle.int_laws.proofs.RingLaws.{zero-mul_ℤ, one-mul_ℤ, mul-one_ℤ}
 use Rattle.frac128.specs.Narrow.{IsNarrow, AreNarrow}
 
 -- a number is narrow as its equal is
@@ -16,27 +17,6 @@ zero_narrow = omega arith
 -- 1 is narrow
 one_narrow : IsNarrow (pos 1)
 one_narrow = omega arith
-
--- a product with 0
-zero-times : (a d : ℤ) → a ≡ pos 0 → a *ℤ d ≡ pos 0
-zero-times a d e = ap (λ (z : ℤ). z *ℤ d) e ∙ base d
-  where
-    base : (d : ℤ) → pos 0 *ℤ d ≡ pos 0
-    base d = omega (arith, ints)
-
--- a product with 1 in front
-one-times : (b d : ℤ) → b ≡ pos 1 → b *ℤ d ≡ d
-one-times b d e = ap (λ (z : ℤ). z *ℤ d) e ∙ base d
-  where
-    base : (d : ℤ) → pos 1 *ℤ d ≡ d
-    base d = omega (arith, ints)
-
--- a product with 1 behind
-times-one : (c b : ℤ) → b ≡ pos 1 → c *ℤ b ≡ c
-times-one c b e = ap (λ (z : ℤ). c *ℤ z) e ∙ base c
-  where
-    base : (c : ℤ) → c *ℤ pos 1 ≡ c
-    base c = omega (arith, ints)
 
 -- cross products are equal where both fractions are the same
 cross : (n d over under : ℤ) → over ≡ n → under ≡ d → n *ℤ under ≡ over *ℤ d
@@ -52,9 +32,9 @@ four x y z w x' y' z' w' ex ey ez ew nx ny nz nw =
 pub zero-plus : (a b c d : ℤ) → a ≡ pos 0 → b ≡ pos 1 → IsNarrow c → IsNarrow d
     → AreNarrow ((a *ℤ d) ∷ (c *ℤ b) ∷ (a *ℤ d +ℤ c *ℤ b) ∷ (b *ℤ d) ∷ []) × (c *ℤ (b *ℤ d) ≡ (a *ℤ d +ℤ c *ℤ b) *ℤ d)
 zero-plus a b c d a_zero b_one c_narrow d_narrow =
-    let over = sum _ _ c (zero-times a d a_zero) (times-one c b b_one) in (
-      four _ _ _ _ (pos 0) c c d (zero-times a d a_zero) (times-one c b b_one) over (one-times b d b_one) zero_narrow c_narrow c_narrow d_narrow,
-      cross c d _ _ over (one-times b d b_one),
+    let over = sum _ _ c (zero-mul_ℤ a d a_zero) (mul-one_ℤ c b b_one) in (
+      four _ _ _ _ (pos 0) c c d (zero-mul_ℤ a d a_zero) (mul-one_ℤ c b b_one) over (one-mul_ℤ b d b_one) zero_narrow c_narrow c_narrow d_narrow,
+      cross c d _ _ over (one-mul_ℤ b d b_one),
     )
   where
     sum : (v w c : ℤ) → v ≡ pos 0 → w ≡ c → v +ℤ w ≡ c
@@ -64,9 +44,9 @@ zero-plus a b c d a_zero b_one c_narrow d_narrow =
 pub plus-zero : (a b c d : ℤ) → c ≡ pos 0 → d ≡ pos 1 → IsNarrow a → IsNarrow b
     → AreNarrow ((a *ℤ d) ∷ (c *ℤ b) ∷ (a *ℤ d +ℤ c *ℤ b) ∷ (b *ℤ d) ∷ []) × (a *ℤ (b *ℤ d) ≡ (a *ℤ d +ℤ c *ℤ b) *ℤ b)
 plus-zero a b c d c_zero d_one a_narrow b_narrow =
-    let over = sum _ _ a (times-one a d d_one) (zero-times c b c_zero) in (
-      four _ _ _ _ a (pos 0) a b (times-one a d d_one) (zero-times c b c_zero) over (times-one b d d_one) a_narrow zero_narrow a_narrow b_narrow,
-      cross a b _ _ over (times-one b d d_one),
+    let over = sum _ _ a (mul-one_ℤ a d d_one) (zero-mul_ℤ c b c_zero) in (
+      four _ _ _ _ a (pos 0) a b (mul-one_ℤ a d d_one) (zero-mul_ℤ c b c_zero) over (mul-one_ℤ b d d_one) a_narrow zero_narrow a_narrow b_narrow,
+      cross a b _ _ over (mul-one_ℤ b d d_one),
     )
   where
     sum : (v w a : ℤ) → v ≡ a → w ≡ pos 0 → v +ℤ w ≡ a
@@ -76,9 +56,9 @@ plus-zero a b c d c_zero d_one a_narrow b_narrow =
 pub whole-plus : (a b c d n m : ℤ) → b ≡ pos 1 → d ≡ pos 1 → n ≡ a +ℤ c → m ≡ pos 1 → IsNarrow a → IsNarrow c → IsNarrow (a +ℤ c)
     → AreNarrow ((a *ℤ d) ∷ (c *ℤ b) ∷ (a *ℤ d +ℤ c *ℤ b) ∷ (b *ℤ d) ∷ []) × (n *ℤ (b *ℤ d) ≡ (a *ℤ d +ℤ c *ℤ b) *ℤ m)
 whole-plus a b c d n m b_one d_one n_is m_is a_narrow c_narrow sum_narrow =
-    let over = sum _ _ a c (times-one a d d_one) (times-one c b b_one) in
-    let under = one-times b d b_one ∙ d_one in (
-      four _ _ _ _ a c (a +ℤ c) (pos 1) (times-one a d d_one) (times-one c b b_one) over under a_narrow c_narrow sum_narrow one_narrow,
+    let over = sum _ _ a c (mul-one_ℤ a d d_one) (mul-one_ℤ c b b_one) in
+    let under = one-mul_ℤ b d b_one ∙ d_one in (
+      four _ _ _ _ a c (a +ℤ c) (pos 1) (mul-one_ℤ a d d_one) (mul-one_ℤ c b b_one) over under a_narrow c_narrow sum_narrow one_narrow,
       cross n m _ _ (over ∙ sym n_is) (under ∙ sym m_is),
     )
   where
@@ -89,9 +69,9 @@ whole-plus a b c d n m b_one d_one n_is m_is a_narrow c_narrow sum_narrow =
 pub zero-minus : (a b c d n m : ℤ) → a ≡ pos 0 → b ≡ pos 1 → n ≡ neg_ℤ c → m ≡ d → IsNarrow c → IsNarrow d
     → AreNarrow ((a *ℤ d) ∷ (c *ℤ b) ∷ (a *ℤ d -ℤ c *ℤ b) ∷ (b *ℤ d) ∷ []) × (n *ℤ (b *ℤ d) ≡ (a *ℤ d -ℤ c *ℤ b) *ℤ m)
 zero-minus a b c d n m a_zero b_one n_is m_is c_narrow d_narrow =
-    let over = difference _ _ c (zero-times a d a_zero) (times-one c b b_one) in (
-      four _ _ _ _ (pos 0) c (neg_ℤ c) d (zero-times a d a_zero) (times-one c b b_one) over (one-times b d b_one) zero_narrow c_narrow (omega (arith, ints)) d_narrow,
-      cross n m _ _ (over ∙ sym n_is) (one-times b d b_one ∙ sym m_is),
+    let over = difference _ _ c (zero-mul_ℤ a d a_zero) (mul-one_ℤ c b b_one) in (
+      four _ _ _ _ (pos 0) c (neg_ℤ c) d (zero-mul_ℤ a d a_zero) (mul-one_ℤ c b b_one) over (one-mul_ℤ b d b_one) zero_narrow c_narrow (omega (arith, ints)) d_narrow,
+      cross n m _ _ (over ∙ sym n_is) (one-mul_ℤ b d b_one ∙ sym m_is),
     )
   where
     difference : (v w c : ℤ) → v ≡ pos 0 → w ≡ c → v -ℤ w ≡ neg_ℤ c
@@ -101,9 +81,9 @@ zero-minus a b c d n m a_zero b_one n_is m_is c_narrow d_narrow =
 pub minus-zero : (a b c d : ℤ) → c ≡ pos 0 → d ≡ pos 1 → IsNarrow a → IsNarrow b
     → AreNarrow ((a *ℤ d) ∷ (c *ℤ b) ∷ (a *ℤ d -ℤ c *ℤ b) ∷ (b *ℤ d) ∷ []) × (a *ℤ (b *ℤ d) ≡ (a *ℤ d -ℤ c *ℤ b) *ℤ b)
 minus-zero a b c d c_zero d_one a_narrow b_narrow =
-    let over = difference _ _ a (times-one a d d_one) (zero-times c b c_zero) in (
-      four _ _ _ _ a (pos 0) a b (times-one a d d_one) (zero-times c b c_zero) over (times-one b d d_one) a_narrow zero_narrow a_narrow b_narrow,
-      cross a b _ _ over (times-one b d d_one),
+    let over = difference _ _ a (mul-one_ℤ a d d_one) (zero-mul_ℤ c b c_zero) in (
+      four _ _ _ _ a (pos 0) a b (mul-one_ℤ a d d_one) (zero-mul_ℤ c b c_zero) over (mul-one_ℤ b d d_one) a_narrow zero_narrow a_narrow b_narrow,
+      cross a b _ _ over (mul-one_ℤ b d d_one),
     )
   where
     difference : (v w a : ℤ) → v ≡ a → w ≡ pos 0 → v -ℤ w ≡ a
@@ -113,9 +93,9 @@ minus-zero a b c d c_zero d_one a_narrow b_narrow =
 pub whole-minus : (a b c d n m : ℤ) → b ≡ pos 1 → d ≡ pos 1 → n ≡ a -ℤ c → m ≡ pos 1 → IsNarrow a → IsNarrow c → IsNarrow (a -ℤ c)
     → AreNarrow ((a *ℤ d) ∷ (c *ℤ b) ∷ (a *ℤ d -ℤ c *ℤ b) ∷ (b *ℤ d) ∷ []) × (n *ℤ (b *ℤ d) ≡ (a *ℤ d -ℤ c *ℤ b) *ℤ m)
 whole-minus a b c d n m b_one d_one n_is m_is a_narrow c_narrow difference_narrow =
-    let over = difference _ _ a c (times-one a d d_one) (times-one c b b_one) in
-    let under = one-times b d b_one ∙ d_one in (
-      four _ _ _ _ a c (a -ℤ c) (pos 1) (times-one a d d_one) (times-one c b b_one) over under a_narrow c_narrow difference_narrow one_narrow,
+    let over = difference _ _ a c (mul-one_ℤ a d d_one) (mul-one_ℤ c b b_one) in
+    let under = one-mul_ℤ b d b_one ∙ d_one in (
+      four _ _ _ _ a c (a -ℤ c) (pos 1) (mul-one_ℤ a d d_one) (mul-one_ℤ c b b_one) over under a_narrow c_narrow difference_narrow one_narrow,
       cross n m _ _ (over ∙ sym n_is) (under ∙ sym m_is),
     )
   where
@@ -126,8 +106,8 @@ whole-minus a b c d n m b_one d_one n_is m_is a_narrow c_narrow difference_narro
 pub zero-product : (a b c d : ℤ) → a ≡ pos 0 → b ≡ pos 1 → IsNarrow d
     → AreNarrow ((a *ℤ c) ∷ (b *ℤ d) ∷ []) × (a *ℤ (b *ℤ d) ≡ (a *ℤ c) *ℤ b)
 zero-product a b c d a_zero b_one d_narrow = (
-  (narrow_as _ _ (zero-times a c a_zero) zero_narrow, (narrow_as _ _ (one-times b d b_one) d_narrow, tt)),
-  zero-times a (b *ℤ d) a_zero ∙ sym (zero-times (a *ℤ c) b (zero-times a c a_zero)),
+  (narrow_as _ _ (zero-mul_ℤ a c a_zero) zero_narrow, (narrow_as _ _ (one-mul_ℤ b d b_one) d_narrow, tt)),
+  zero-mul_ℤ a (b *ℤ d) a_zero ∙ sym (zero-mul_ℤ (a *ℤ c) b (zero-mul_ℤ a c a_zero)),
 )
 
 -- the product with a fraction that is 0, behind
@@ -135,8 +115,8 @@ pub product-zero : (a b c d : ℤ) → c ≡ pos 0 → d ≡ pos 1 → IsNarrow 
     → AreNarrow ((a *ℤ c) ∷ (b *ℤ d) ∷ []) × (c *ℤ (b *ℤ d) ≡ (a *ℤ c) *ℤ d)
 product-zero a b c d c_zero d_one b_narrow =
     let over = ap (λ (z : ℤ). a *ℤ z) c_zero ∙ base a in (
-      (narrow_as _ _ over zero_narrow, (narrow_as _ _ (times-one b d d_one) b_narrow, tt)),
-      zero-times c (b *ℤ d) c_zero ∙ sym (zero-times (a *ℤ c) d over),
+      (narrow_as _ _ over zero_narrow, (narrow_as _ _ (mul-one_ℤ b d d_one) b_narrow, tt)),
+      zero-mul_ℤ c (b *ℤ d) c_zero ∙ sym (zero-mul_ℤ (a *ℤ c) d over),
     )
   where
     base : (a : ℤ) → a *ℤ pos 0 ≡ pos 0
@@ -146,5 +126,5 @@ product-zero a b c d c_zero d_one b_narrow =
 pub whole-product : (a b c d n m : ℤ) → b ≡ pos 1 → d ≡ pos 1 → n ≡ a *ℤ c → m ≡ pos 1 → IsNarrow (a *ℤ c)
     → AreNarrow ((a *ℤ c) ∷ (b *ℤ d) ∷ []) × (n *ℤ (b *ℤ d) ≡ (a *ℤ c) *ℤ m)
 whole-product a b c d n m b_one d_one n_is m_is product_narrow =
-    let under = one-times b d b_one ∙ d_one in
+    let under = one-mul_ℤ b d b_one ∙ d_one in
     ((product_narrow, (narrow_as _ _ under one_narrow, tt)), cross n m _ _ (sym n_is) (under ∙ sym m_is))

@@ -4,5 +4,6 @@ pub mod OrderLaws
 pub mod HornerValues
 pub mod Identities
 pub mod SumLaws
+pub mod DotLaws
 pub mod Duality
 pub mod Coprime

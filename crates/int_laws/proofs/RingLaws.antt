@@ -1,6 +1,6 @@
 -- The laws of the ring ℤ.
-use Rattle.std.proofs.Common.{◌≡◌, ℕ, ◌*◌, ap, arith}
-use Rattle.std.specs.Prelude.{ℤ, negsuc, ◌+ℤ◌, ◌-ℤ◌, ◌*ℤ◌, neg_ℤ}
+use Rattle.std.proofs.Common.{◌≡◌, ℕ, ◌*◌, ap, arith, ◌∙◌}
+use Rattle.std.specs.Prelude.{ℤ, pos, negsuc, ◌+ℤ◌, ◌-ℤ◌, ◌*ℤ◌, neg_ℤ}
 use Rattle.std.proofs.lemmas.Int.{ints}
 use borrow.Author.Differences.{up, down, sum_is_lem, product_is, neg_is}
 
@@ -54,3 +54,31 @@ neg-mul_ℤ a b =
 -- a - b = a + -b
 pub sub-is-add_ℤ : (a b : ℤ) → a -ℤ b ≡ a +ℤ negsuc 0 *ℤ b
 sub-is-add_ℤ a b = omega (arith, ints)
+
+-- a product whose first factor is 0
+pub zero-mul_ℤ : (a b : ℤ) → a ≡ pos 0 → a *ℤ b ≡ pos 0
+zero-mul_ℤ a b e = ap (λ (z : ℤ). z *ℤ b) e ∙ base
+  where
+    base : pos 0 *ℤ b ≡ pos 0
+    base = omega (arith, ints)
+
+-- a product whose second factor is 0
+pub mul-zero_ℤ : (a b : ℤ) → b ≡ pos 0 → a *ℤ b ≡ pos 0
+mul-zero_ℤ a b e = ap (λ (z : ℤ). a *ℤ z) e ∙ base
+  where
+    base : a *ℤ pos 0 ≡ pos 0
+    base = omega (arith, ints)
+
+-- a product whose first factor is 1
+pub one-mul_ℤ : (a b : ℤ) → a ≡ pos 1 → a *ℤ b ≡ b
+one-mul_ℤ a b e = ap (λ (z : ℤ). z *ℤ b) e ∙ base
+  where
+    base : pos 1 *ℤ b ≡ b
+    base = omega (arith, ints)
+
+-- a product whose second factor is 1
+pub mul-one_ℤ : (a b : ℤ) → b ≡ pos 1 → a *ℤ b ≡ a
+mul-one_ℤ a b e = ap (λ (z : ℤ). a *ℤ z) e ∙ base
+  where
+    base : a *ℤ pos 1 ≡ a
+    base = omega (arith, ints)

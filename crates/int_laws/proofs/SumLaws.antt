@@ -1,7 +1,7 @@
 -- The laws of sums over index functions.
 use Rattle.std.proofs.Common.{◌≡◌, ◌≢◌, ℕ, zero, suc, ◌+◌, ◌<◌, ◌≤◌, ap, arith, refl, sym, ◌∙◌, add-zero, add-suc, add-one, ◌⊎◌, inl, inr}
 use Rattle.std.proofs.lemmas.Bool.{cases_lt}
-use Rattle.std.specs.Prelude.{ℤ, pos, ◌+ℤ◌, ◌-ℤ◌, ◌*ℤ◌, ◌≤ℤ◌}
+use Rattle.std.specs.Prelude.{ℤ, pos, ◌+ℤ◌, ◌-ℤ◌, ◌*ℤ◌, ◌≤ℤ◌, ◌<ℤ◌}
 use Rattle.std.proofs.lemmas.Int.{ints}
 use Rattle.int_laws.specs.Sums.{sum_to}
 use Rattle.int_laws.proofs.RingLaws.{mul-add_ℤ, mul_comm_ℤ}
@@ -134,3 +134,25 @@ sum_to-apart n k f g l z h =
 
     from_difference : (s v d a : ℤ) → d ≡ s -ℤ v → d ≡ a -ℤ g k → g k ≡ pos 0 → s ≡ v +ℤ a
     from_difference s v d a e f z = omega (arith, ints)
+
+-- a sum of terms at least 0 is over 0 where one of them is
+pub sum_to-positive : (n k : ℕ) (f : ℕ → ℤ) → k < n → ((j : ℕ) → j < n → pos 0 ≤ℤ f j) → pos 0 <ℤ f k → pos 0 <ℤ sum_to n f
+sum_to-positive zero k f l h p = absurd (omega arith)
+sum_to-positive (suc n) k f l h p = go (last_or_before l) (λ m. sum_to-positive n k f m (λ j i. h j (omega arith)) p)
+  where
+    last_or_before : k < suc n → (k ≡ n) ⊎ (k < n)
+    last_or_before m = split (cases_lt k n)
+      where
+        split : (k < n) ⊎ (n ≤ k) → (k ≡ n) ⊎ (k < n)
+        split (inl i) = inr i
+        split (inr i) = inl (omega arith)
+
+    at_end : (v w z : ℤ) → pos 0 ≤ℤ v → pos 0 <ℤ z → z ≡ w → pos 0 <ℤ (v +ℤ w)
+    at_end v w z a b e = omega (arith, ints)
+
+    before : (v w : ℤ) → pos 0 <ℤ v → pos 0 ≤ℤ w → pos 0 <ℤ (v +ℤ w)
+    before v w a b = omega (arith, ints)
+
+    go : (k ≡ n) ⊎ (k < n) → (k < n → pos 0 <ℤ sum_to n f) → pos 0 <ℤ sum_to (suc n) f
+    go (inl e) ih = at_end (sum_to n f) (f n) (f k) (sum_to-nonneg n f (λ j i. h j (omega arith))) p (ap f e)
+    go (inr m) ih = before (sum_to n f) (f n) (ih m) (h n (omega arith))

@@ -5,7 +5,7 @@ use Rattle.simplex_core.specs.declared.problem.Solved.{Solved}
 use Rattle.simplex_core.specs.declared.problem.SolveError.{SolveError}
 use Rattle.simplex_core.specs.declared.problem.SolveError.TheVariants.{Range, Budget, Wide, Memory}
 use Rattle.simplex_core.specs.LinearProgram.{LinearProgram}
-use Rattle.simplex_core.specs.Problem.{table_size}
+use Rattle.simplex_core.specs.Problem.{table_size, widest}
 use Rattle.simplex_core.specs.Outcome.{IsEnd, IsTrip, IsAnswer}
 
 -- what follows in each case of a test
@@ -14,7 +14,7 @@ match-map true P Q R S f g h = f h
 match-map false P Q R S f g h = g h
 
 -- the sequence's answer, where the table isn't too wide
-pub answer : (p : LinearProgram) (allowed : ℕ) (result : Result Solved SolveError) → table_size p ≤ 16000000
+pub answer : (p : LinearProgram) (allowed : ℕ) (result : Result Solved SolveError) → table_size p ≤ widest
     → MatchResult result (IsEnd p allowed) (IsTrip p allowed) → IsAnswer p allowed result
 answer p allowed (Ok s) fits h = (fits, h)
 answer p allowed (Err (Range k)) fits h = (fits, h)

@@ -4,7 +4,7 @@ use Rattle.std.specs.Prelude.{pos}
 use Rattle.frac128.specs.declared.frac.Frac.{Frac}
 use Rattle.int_laws.specs.Polynomial.{variable, constant, ◌⊖◌, ◌⊗◌}
 use Rattle.int_laws.proofs.Identities.{identity_by_one}
-use Rattle.simplex_core.specs.declared.table.Table.{Table}
+use Rattle.simplex_core.specs.declared.dense_table.DenseTable.{DenseTable}
 use Rattle.simplex_core.specs.Cells.{width, cell, ChangesRow, KeepsRow, IsRowBelow, IsRowClearedBy, IsLessMultiple}
 use Rattle.simplex_core.specs.Places.{InTable}
 use Rattle.simplex_core.proofs.Invariant.{same_or_other}
@@ -18,7 +18,7 @@ InTable-same rows columns rows' columns' i j e f h = record {
 }
 
 -- a row of the same numbers is as small
-pub IsRowBelow-same : (bits : ℕ) (a b : Table) (i : ℕ) → b.rows ≡ a.rows → b.columns ≡ a.columns
+pub IsRowBelow-same : (bits : ℕ) (a b : DenseTable) (i : ℕ) → b.rows ≡ a.rows → b.columns ≡ a.columns
     → ((j : ℕ) → j < width a → cell b i j ≡ cell a i j) → IsRowBelow bits a i → IsRowBelow bits b i
 IsRowBelow-same bits a b i e f same h = record {
   each = λ j g inside is.
@@ -27,7 +27,7 @@ IsRowBelow-same bits a b i e f same h = record {
 }
 
 -- a change of another row, or of the row itself by nothing, keeps a row
-pub KeepsRow-more : (a b d : Table) (r i : ℕ) → KeepsRow a b r → ChangesRow b d i → (i ≡ r → KeepsRow b d i) → KeepsRow a d r
+pub KeepsRow-more : (a b d : DenseTable) (r i : ℕ) → KeepsRow a b r → ChangesRow b d i → (i ≡ r → KeepsRow b d i) → KeepsRow a d r
 KeepsRow-more a b d r i kept changes same = record {
   rows = changes.rows ∙ kept.rows;
   columns = changes.columns ∙ kept.columns;
@@ -40,7 +40,7 @@ KeepsRow-more a b d r i kept changes same = record {
     go j l w (inr n) = changes.others r j n w ∙ kept.row j l
 
 -- a row that was cleared from a table with the same rows was cleared from the first
-pub IsRowClearedBy-from : (a b d : Table) (i r c : ℕ) → c < width a → KeepsRow a b r → ((j : ℕ) → j < width a → cell b i j ≡ cell a i j)
+pub IsRowClearedBy-from : (a b d : DenseTable) (i r c : ℕ) → c < width a → KeepsRow a b r → ((j : ℕ) → j < width a → cell b i j ≡ cell a i j)
     → IsRowClearedBy b d i r c → IsRowClearedBy a d i r c
 IsRowClearedBy-from a b d i r c l kept same h = record {
   each = λ j f factor y g inside is_f is_factor is_y is_g.
@@ -49,7 +49,7 @@ IsRowClearedBy-from a b d i r c l kept same h = record {
 }
 
 -- a row that was cleared stays so where another row changes
-pub IsRowClearedBy-kept : (a b d : Table) (i r c k : ℕ) → i ≢ k → b.rows ≡ a.rows → b.columns ≡ a.columns → ChangesRow b d k → IsRowClearedBy a b i r c → IsRowClearedBy a d i r c
+pub IsRowClearedBy-kept : (a b d : DenseTable) (i r c k : ℕ) → i ≢ k → b.rows ≡ a.rows → b.columns ≡ a.columns → ChangesRow b d k → IsRowClearedBy a b i r c → IsRowClearedBy a d i r c
 IsRowClearedBy-kept a b d i r c k apart e m changes h = record {
   each = λ j f factor y g inside is_f is_factor is_y is_g.
       h.each j f factor y g inside is_f is_factor is_y
@@ -64,12 +64,8 @@ less_no_multiple f factor b none =
     (((variable 0 ⊗ variable 3) ⊗ variable 5 ⊖ (variable 2 ⊗ variable 4) ⊗ variable 1) ⊗ variable 1)
     ((variable 4 ⊗ variable 1) ⊗ variable 1) (variable 2) (constant (pos 0)) none refl
 
--- a table is as it was, in each row
-pub ChangesRow-none : (a : Table) (i : ℕ) → ChangesRow a a i
-ChangesRow-none a i = record { rows = refl; columns = refl; basis = refl; others = λ k j _ _. refl }
-
 -- one row more is cleared
-pub cleared-step : (a b d : Table) (r c n : ℕ) → c < width a → KeepsRow a b r → ChangesRow b d n
+pub cleared-step : (a b d : DenseTable) (r c n : ℕ) → c < width a → KeepsRow a b r → ChangesRow b d n
     → ((i j : ℕ) → n ≤ i → j < width a → cell b i j ≡ cell a i j)
     → ((i : ℕ) → i ≢ r → i < n → IsRowClearedBy a b i r c)
     → (n ≢ r → IsRowClearedBy b d n r c)

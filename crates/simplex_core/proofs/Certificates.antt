@@ -3,36 +3,14 @@ use Rattle.std.proofs.Common.{◌≡◌, ℕ, ◌<◌, ap, arith, refl, sym, ◌
 use Rattle.std.specs.Prelude.{ℤ, pos, ◌+ℤ◌, ◌*ℤ◌, ◌≤ℤ◌, ◌<ℤ◌}
 use Rattle.std.proofs.lemmas.Int.{ints}
 use Rattle.int_laws.specs.Sums.{dot}
-use Rattle.int_laws.specs.Polynomial.{variable, ◌⊕◌, ◌⊗◌}
+use Rattle.int_laws.specs.Polynomial.{variable, ◌⊗◌}
 use Rattle.int_laws.proofs.Identities.{identity, identity_by_one}
-use Rattle.int_laws.proofs.RingLaws.{mul_assoc_ℤ}
 use Rattle.int_laws.proofs.OrderLaws.{mul-positive_ℤ, mul-le-mul_ℤ, le-of-mul_ℤ}
-use Rattle.int_laws.proofs.SumLaws.{sum_to-same, sum_to-zero, sum_to-add, sum_to-scale, sum_to-scale_behind}
+use Rattle.int_laws.proofs.SumLaws.{sum_to-zero}
+use Rattle.int_laws.proofs.DotLaws.{combined-times, dot-scaled, dot-scaled_behind, dot-combined}
 use Rattle.int_laws.proofs.Duality.{weak_duality}
 use Rattle.simplex_core.specs.LinearProgram.{LinearProgram, IsSolution, HasPrices, IsLeast, IsDual}
 use Rattle.simplex_core.specs.Laws.{CostsAtMost, CostsTheSame, HasSolution}
-
--- a list times multiples is the multiple of the list times the numbers, the factor behind
-dot-scaled_behind : (n : ℕ) (w b : ℕ → ℤ) (d : ℤ) → dot n w (λ i. b i *ℤ d) ≡ dot n w b *ℤ d
-dot-scaled_behind n w b d =
-    sum_to-same n (λ i. w i *ℤ (b i *ℤ d)) (λ i. (w i *ℤ b i) *ℤ d) (λ i _. sym (mul_assoc_ℤ (w i) (b i) d))
-    ∙ sum_to-scale_behind n d (λ i. w i *ℤ b i)
-
--- multiples times a point are the multiple of the numbers times the point
-dot-scaled : (n : ℕ) (q : ℤ) (c x : ℕ → ℤ) → dot n (λ j. q *ℤ c j) x ≡ q *ℤ dot n c x
-dot-scaled n q c x =
-    sum_to-same n (λ j. (q *ℤ c j) *ℤ x j) (λ j. q *ℤ (c j *ℤ x j)) (λ j _. mul_assoc_ℤ q (c j) (x j)) ∙ sum_to-scale n q (λ j. c j *ℤ x j)
-
--- a number plus a product, times a number
-spread : (c m h z : ℤ) → (c +ℤ m *ℤ h) *ℤ z ≡ c *ℤ z +ℤ m *ℤ (h *ℤ z)
-spread c m h z =
-    identity (c ∷ m ∷ h ∷ z ∷ []) ((variable 0 ⊕ variable 1 ⊗ variable 2) ⊗ variable 3) (variable 0 ⊗ variable 3 ⊕ variable 1 ⊗ (variable 2 ⊗ variable 3)) refl
-
--- costs plus a multiple of others cost the sum of the costs and the multiple
-dot-combined : (n : ℕ) (c f x : ℕ → ℤ) (m : ℤ) → dot n (λ j. c j +ℤ m *ℤ f j) x ≡ dot n c x +ℤ m *ℤ dot n f x
-dot-combined n c f x m =
-    sum_to-same n (λ j. (c j +ℤ m *ℤ f j) *ℤ x j) (λ j. c j *ℤ x j +ℤ m *ℤ (f j *ℤ x j)) (λ j _. spread (c j) m (f j) (x j))
-    ∙ (sum_to-add n (λ j. c j *ℤ x j) (λ j. m *ℤ (f j *ℤ x j)) ∙ ap (λ (z : ℤ). dot n c x +ℤ z) (sum_to-scale n m (λ j. f j *ℤ x j)))
 
 -- prices that give each column at most its cost give the right sides at most the cost of a solution
 solution-priced : (p : LinearProgram) (cost price y : ℕ → ℤ) (e : ℤ) → IsSolution p y e → ((j : ℕ) → j < p.columns → dot p.rows price (λ i. p.entry i j) ≤ℤ cost j)
@@ -94,4 +72,4 @@ least-second p x d y e positive h s same =
     left_out : (m a f b g v w : ℤ) → v ≡ a +ℤ m *ℤ f → w ≡ b +ℤ m *ℤ g → f *ℤ e ≡ g *ℤ d → (v *ℤ e) ≤ℤ (w *ℤ d) → (a *ℤ e) ≤ℤ (b *ℤ d)
     left_out m a f b g v w left right equal below =
         difference (a *ℤ e) (b *ℤ d) (v *ℤ e) (w *ℤ d) (m *ℤ (f *ℤ e)) (m *ℤ (g *ℤ d))
-        (ap (λ (z : ℤ). z *ℤ e) left ∙ spread a m f e) (ap (λ (z : ℤ). z *ℤ d) right ∙ spread b m g d) (ap (λ (z : ℤ). m *ℤ z) equal) below
+        (ap (λ (z : ℤ). z *ℤ e) left ∙ combined-times a m f e) (ap (λ (z : ℤ). z *ℤ d) right ∙ combined-times b m g d) (ap (λ (z : ℤ). m *ℤ z) equal) below

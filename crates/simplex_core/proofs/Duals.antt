@@ -6,8 +6,7 @@ use Rattle.int_laws.specs.Sums.{sum_to, dot}
 use Rattle.int_laws.specs.Polynomial.{variable, constant, ◌⊖◌, ◌⊗◌}
 use Rattle.int_laws.proofs.Identities.{identity}
 use Rattle.int_laws.proofs.OrderLaws.{mul-nonneg_ℤ, mul-positive_ℤ, lt-of-mul_ℤ}
-use Rattle.int_laws.proofs.SumLaws.{sum_to-same, sum_to-scale}
-use Rattle.simplex_core.proofs.MoreSums.{sum_to-positive}
+use Rattle.int_laws.proofs.SumLaws.{sum_to-positive, sum_to-same, sum_to-scale}
 use Rattle.std.proofs.lemmas.Bool.{cases_lt, leb-true}
 use Rattle.simplex_core.proofs.Searches.{and-both, every-each, some-one}
 use Rattle.simplex_core.proofs.Choices.{int_lt-true, int_lt-false, not-true}
@@ -58,7 +57,7 @@ dual-dot p t a eq h =
 
 -- where the sequence ends as infeasible: no reduced cost in cost row 0 is negative, and an artificial
 -- unknown is over 0
-record EndsInfeasible (p : LinearProgram) (t : Tableau) : Type 0 where
+pub record EndsInfeasible (p : LinearProgram) (t : Tableau) : Type 0 where
   reduced : (j : ℕ) → j < p.columns → pos 0 ≤ℤ t.entry (cost_row p 0) j
   row : ℕ
   row_is : row < p.rows
@@ -80,7 +79,7 @@ ends_infeasible p t h =
     }
 
 -- the artificial unknowns of the basic solution add up to more than 0
-artificials-positive : (p : LinearProgram) (t : Tableau) (s : CommonScale p.rows t.scale) → IsTableauOf p t → EndsInfeasible p t
+pub artificials-positive : (p : LinearProgram) (t : Tableau) (s : CommonScale p.rows t.scale) → IsTableauOf p t → EndsInfeasible p t
     → pos 0 <ℤ dot (unknowns p) (cost p 0) (basic_point p t s)
 artificials-positive p t s h e =
     subst (λ (z : ℤ). pos 0 <ℤ z) (sym (dot-point p.rows (unknowns p) t.basis (basic_value p t s) (cost p 0) h.basic))

@@ -4,9 +4,10 @@ use Rattle.std.specs.Prelude.{ℤ, pos, negsuc, ◌-ℤ◌, ◌*ℤ◌, slice_ge
 use Rattle.std.proofs.lemmas.Bool.{cases_lt}
 use Rattle.std.proofs.lemmas.Int.{ints}
 use Rattle.frac128.specs.declared.frac.Frac.{Frac}
+use Rattle.int_laws.proofs.RingLaws.{mul-zero_ℤ, zero-mul_ℤ}
 use Rattle.int_laws.specs.Sums.{sum_to}
 use Rattle.int_laws.proofs.SumLaws.{sum_to-same, sum_to-zero}
-use Rattle.simplex_core.specs.declared.table.Table.{Table}
+use Rattle.simplex_core.specs.declared.dense_table.DenseTable.{DenseTable}
 use Rattle.simplex_core.specs.declared.problem.Entry.{Entry}
 use Rattle.simplex_core.specs.declared.problem.Problem.{Problem}
 use Rattle.simplex_core.specs.LinearProgram.{LinearProgram}
@@ -14,7 +15,8 @@ use Rattle.simplex_core.specs.Tableau.{artificial, cost_row, sign_of, equation, 
 use Rattle.simplex_core.specs.Problem.{entry_value, program_of, IsProper}
 use Rattle.simplex_core.specs.Places.{InTable}
 use Rattle.simplex_core.specs.Cells.{cell, Shows}
-use Rattle.simplex_core.specs.Building.{HoldsWhole, HasSmallEquations, AreEntriesBelow, signed_entries, with_equations, cost_number, with_costs}
+use Rattle.simplex_core.specs.Building.{HoldsWhole, HasSmallEquations, signed_entries, with_equations, cost_number, with_costs}
+use Rattle.simplex_core.specs.Numbers.{AreEntriesBelow}
 use Rattle.simplex_core.proofs.Invariant.{same_or_other}
 use Rattle.simplex_core.proofs.Regions.{choose-below, choose-above, choose-same, choose-other, equation-column, equation-artificial, equation-other_artificial, equation-right, cost-none, cost-first, cost-second, cost-artificial, cost-no_artificial, first-row, first-cost}
 use Rattle.simplex_core.proofs.First.{first-is_tableau, first-scale, first-basis, first-cost-artificial}
@@ -44,7 +46,7 @@ filled-column m n right g i j l k =
     choose-below i m _ (g i j) l ∙ (choose-other j (n + i) (pos 1) _ (omega arith) ∙ choose-other j (n + m) _ (g i j) (omega arith))
 
 -- the equations' numbers of a filled table are small
-pub filled-small : (table : Table) (right : List ℤ) (es : List Entry) → AreEntriesBelow es
+pub filled-small : (table : DenseTable) (right : List ℤ) (es : List Entry) → AreEntriesBelow es
     → HoldsWhole table (with_equations table.rows table.columns right (signed_entries es right) table.rows) → HasSmallEquations table
 filled-small table right es below holds = record {
   each = λ i j f l k is.
@@ -52,13 +54,6 @@ filled-small table right es below holds = record {
       subst (λ (z : ℤ). unsigned_abs z < 2 ^ 31) (sym num)
       (signed-below (slice_index_or right i (pos 0)) (entry_value es i j) (entry_value-below es i j below.each));
 }
-
--- a number times 0
-times_zero : (a b : ℤ) → b ≡ pos 0 → a *ℤ b ≡ pos 0
-times_zero a b e = ap (λ (z : ℤ). a *ℤ z) e ∙ base
-  where
-    base : a *ℤ pos 0 ≡ pos 0
-    base = omega (arith, ints)
 
 -- the filled equations are the program's
 equations-are : (q : Problem) (m n i j : ℕ) → IsProper q → m ≡ q.rows → n ≡ q.cols → i < m → j < n + m + 1
@@ -93,7 +88,7 @@ equations-are q m n i j proper em en l k = go (cases_lt j n) (same_or_other j (n
         ∙ (ap (λ (z : ℤ). sign_of z *ℤ z) (sym (program-right q i)) ∙ (sym (equation-right p i) ∙ ap (λ (y : ℕ). equation p i y) (omega (arith, rows, columns))))))
     go (inr f) (inr v) (inr w) =
         choose-below i m _ (g i j) l ∙ (choose-other j (n + i) (pos 1) _ v ∙ (choose-other j (n + m) _ (g i j) w
-        ∙ (times_zero _ _ (entry_value-outside q.rows q.cols q.entries.items i j proper.inside (inr (omega (arith, rows, columns))))
+        ∙ (mul-zero_ℤ _ _ (entry_value-outside q.rows q.cols q.entries.items i j proper.inside (inr (omega (arith, rows, columns))))
         ∙ (sym (equation-other_artificial p i (j - n) (omega (arith, rows, columns)) (omega (arith, rows, columns))) ∙ ap (λ (y : ℕ). equation p i y) (omega (arith, rows, columns))))))
 
 -- the filled cost rows are the first reduced costs
@@ -120,12 +115,6 @@ costs-are q m n r j proper em en few k = go (cases_lt j n)
     none : (c b : ℤ) (w : ℤ) → c ≡ w → b ≡ pos 0 → w ≡ c -ℤ b
     none c b w e f = omega (arith, ints)
 
-    zero_times : (a b : ℤ) → a ≡ pos 0 → a *ℤ b ≡ pos 0
-    zero_times a b e = ap (λ (z : ℤ). z *ℤ b) e ∙ base
-      where
-        base : pos 0 *ℤ b ≡ pos 0
-        base = omega (arith, ints)
-
     number : (s : ℕ) → s < 3 → j < n → cost_number m g q.first.items q.second.items s j ≡ first_reduced_cost p s j
     number zero f l =
         less (sum_to m (λ i. g i j)) (sum_to p.rows (λ i. cost p 0 (artificial p i) *ℤ equation p i j)) (cost p 0 j) (cost-none p j (omega (arith, rows, columns)))
@@ -143,10 +132,10 @@ costs-are q m n r j proper em en few k = go (cases_lt j n)
             base = omega (arith, ints)
     number (suc zero) f l =
         none (cost p 1 j) _ _ (cost-first p j (omega (arith, rows, columns)) ∙ program-first q j)
-        (sum_to-zero p.rows (λ i. cost p 1 (artificial p i) *ℤ equation p i j) (λ i x. zero_times _ _ (cost-no_artificial p 0 (artificial p i) (omega (arith, rows, columns)))))
+        (sum_to-zero p.rows (λ i. cost p 1 (artificial p i) *ℤ equation p i j) (λ i x. zero-mul_ℤ _ _ (cost-no_artificial p 0 (artificial p i) (omega (arith, rows, columns)))))
     number (suc (suc s)) f l =
         none (cost p (suc (suc s)) j) _ _ (cost-second p s j (omega (arith, rows, columns)) ∙ program-second q j)
-        (sum_to-zero p.rows (λ i. cost p (suc (suc s)) (artificial p i) *ℤ equation p i j) (λ i x. zero_times _ _ (cost-no_artificial p (suc s) (artificial p i) (omega (arith, rows, columns)))))
+        (sum_to-zero p.rows (λ i. cost p (suc (suc s)) (artificial p i) *ℤ equation p i j) (λ i x. zero-mul_ℤ _ _ (cost-no_artificial p (suc s) (artificial p i) (omega (arith, rows, columns)))))
 
     go : (j < n) ⊎ (n ≤ j) → with_costs m g q.first.items q.second.items n (m + r) j ≡ first_reduced_cost p r j
     go (inl l) =
@@ -157,11 +146,11 @@ costs-are q m n r j proper em en few k = go (cases_lt j n)
         choose-above (m + r) m (g (m + r) j) _ (omega (arith, rows, columns))
         ∙ (choose-above j n _ (g (m + r) j) l
         ∙ (choose-above (m + r) m _ (signed_entries q.entries.items q.right.items (m + r) j) (omega (arith, rows, columns))
-        ∙ (times_zero _ _ (entry_value-outside q.rows q.cols q.entries.items (m + r) j proper.inside (inl (omega (arith, rows, columns))))
+        ∙ (mul-zero_ℤ _ _ (entry_value-outside q.rows q.cols q.entries.items (m + r) j proper.inside (inl (omega (arith, rows, columns))))
         ∙ (sym (first-cost-artificial p r (j - n) (omega (arith, rows, columns))) ∙ (first-cost p r (artificial p (j - n)) ∙ ap (λ (y : ℕ). first_reduced_cost p r y) (omega (arith, rows, columns)))))))
 
 -- the filled table shows the first tableau
-pub filled-shows : (q : Problem) (table : Table) → IsProper q → table.rows ≡ q.rows → table.columns ≡ q.cols
+pub filled-shows : (q : Problem) (table : DenseTable) → IsProper q → table.rows ≡ q.rows → table.columns ≡ q.cols
     → HoldsWhole table (with_costs table.rows (with_equations table.rows table.columns q.right.items (signed_entries q.entries.items q.right.items) table.rows) q.first.items q.second.items table.columns)
     → ((i : ℕ) → i < q.rows → slice_index table.basis.items i ≡ q.cols + i)
     → Shows (program_of q) table (first_tableau (program_of q))

@@ -3,18 +3,19 @@ use Rattle.std.proofs.Common.{◌≡◌, ◌≢◌, ℕ, zero, suc, ◌+◌, ◌
 use Rattle.std.specs.Prelude.{ℤ, pos, ◌*ℤ◌, slice_get, slice_index_or, nat_eq, nat_lt, ◌&&◌, if◌then◌else◌}
 use Rattle.std.proofs.lemmas.Bool.{eqb-true, eq-eqb}
 use Rattle.frac128.specs.declared.frac.Frac.{Frac}
-use Rattle.simplex_core.specs.declared.table.Table.{Table}
+use Rattle.simplex_core.specs.declared.dense_table.DenseTable.{DenseTable}
 use Rattle.simplex_core.specs.declared.problem.Entry.{Entry}
 use Rattle.simplex_core.specs.Tableau.{sign_of}
 use Rattle.simplex_core.specs.Problem.{entry_value}
 use Rattle.simplex_core.specs.Cells.{width, cell}
-use Rattle.simplex_core.specs.Building.{HoldsWhole, WritesWhole, signed_entries, with_equations, cost_number, with_costs, ArePlaced}
+use Rattle.simplex_core.specs.Building.{HoldsWhole, WritesWhole, signed_entries, with_equations, cost_number, with_costs}
+use Rattle.simplex_core.specs.Numbers.{ArePlaced}
 use Rattle.std.proofs.lemmas.Bool.{cases_lt}
 use Rattle.simplex_core.proofs.Invariant.{same_or_other}
 use Rattle.simplex_core.proofs.Regions.{choose-below, choose-above, choose-same, choose-other}
 
 -- the whole numbers of a table after one more is written
-pub HoldsWhole-written_within : (a b : Table) (r c : ℕ) (z : ℤ) (g h : ℕ → ℕ → ℤ) → HoldsWhole a g → WritesWhole a b r c z → h r c ≡ z
+pub HoldsWhole-written_within : (a b : DenseTable) (r c : ℕ) (z : ℤ) (g h : ℕ → ℕ → ℤ) → HoldsWhole a g → WritesWhole a b r c z → h r c ≡ z
     → ((i j : ℕ) → i < a.rows + 3 → (i ≡ r → j ≡ c → ⊥) → h i j ≡ g i j) → HoldsWhole b h
 HoldsWhole-written_within a b r c z g h holds writes here others = record {
   num = λ i j f l m is. num i j f l m is (same_or_other i r) (same_or_other j c);
@@ -46,7 +47,7 @@ HoldsWhole-written_within a b r c z g h holds writes here others = record {
     den i j f l m is (inr d) w = holds.den i j f (old_row i l) (old_column j m) (before i j f (λ e _. d e) m is)
 
 -- the whole numbers after one more is written
-pub HoldsWhole-written : (a b : Table) (r c : ℕ) (z : ℤ) (g h : ℕ → ℕ → ℤ) → HoldsWhole a g → WritesWhole a b r c z → h r c ≡ z
+pub HoldsWhole-written : (a b : DenseTable) (r c : ℕ) (z : ℤ) (g h : ℕ → ℕ → ℤ) → HoldsWhole a g → WritesWhole a b r c z → h r c ≡ z
     → ((i j : ℕ) → (i ≡ r → j ≡ c → ⊥) → h i j ≡ g i j) → HoldsWhole b h
 HoldsWhole-written a b r c z g h holds writes here others =
     HoldsWhole-written_within a b r c z g h holds writes here (λ i j _ apart. others i j apart)
@@ -104,7 +105,7 @@ slice_get-take (y ∷ ys) (suc m) zero x h = (omega arith, h)
 slice_get-take (y ∷ ys) (suc m) (suc k) x h = let r = slice_get-take ys m k x h in (omega (arith, r.0), r.1)
 
 -- one more entry is written
-pub entries-step : (rows columns : ℕ) (a b : Table) (es : List Entry) (right : List ℤ) (k : ℕ) (e : Entry) → ArePlaced rows columns es → slice_get es k ≡ Some e
+pub entries-step : (rows columns : ℕ) (a b : DenseTable) (es : List Entry) (right : List ℤ) (k : ℕ) (e : Entry) → ArePlaced rows columns es → slice_get es k ≡ Some e
     → HoldsWhole a (signed_entries (take k es) right) → WritesWhole a b e.row e.col (sign_of (slice_index_or right e.row (pos 0)) *ℤ e.value)
     → HoldsWhole b (signed_entries (take (k + 1) es) right)
 entries-step rows columns a b es right k e placed is holds writes =
@@ -138,7 +139,7 @@ with_number-other r c z g i j apart = ap (λ (b : Bool). if b then z else g i j)
     go false b x y = refl
 
 -- one more row's artificial unknown and right side are written
-pub equations-step : (m n : ℕ) (right : List ℤ) (g : ℕ → ℕ → ℤ) (k : ℕ) (a b d : Table) → k < m
+pub equations-step : (m n : ℕ) (right : List ℤ) (g : ℕ → ℕ → ℤ) (k : ℕ) (a b d : DenseTable) → k < m
     → HoldsWhole a (with_equations m n right g k) → WritesWhole a b k (n + k) (pos 1)
     → WritesWhole b d k (n + m) (sign_of (slice_index_or right k (pos 0)) *ℤ slice_index_or right k (pos 0))
     → HoldsWhole d (with_equations m n right g (k + 1))
@@ -189,7 +190,7 @@ equations-step m n right g k a b d l holds first second =
             ∙ (sym (choose-above i k (inner i j) (g i j) f) ∙ sym (with_number-other k (n + k) (pos 1) before i j (λ e _. d e)))
 
 -- one more column of the cost rows is written
-pub costs-step : (m : ℕ) (g : ℕ → ℕ → ℤ) (f s : List ℤ) (k : ℕ) (a b d e : Table) → a.rows ≡ m → b.rows ≡ m → d.rows ≡ m
+pub costs-step : (m : ℕ) (g : ℕ → ℕ → ℤ) (f s : List ℤ) (k : ℕ) (a b d e : DenseTable) → a.rows ≡ m → b.rows ≡ m → d.rows ≡ m
     → HoldsWhole a (with_costs m g f s k)
     → WritesWhole a b m k (cost_number m g f s 0 k) → WritesWhole b d (m + 1) k (cost_number m g f s 1 k) → WritesWhole d e (m + 2) k (cost_number m g f s 2 k)
     → HoldsWhole e (with_costs m g f s (k + 1))

@@ -5,7 +5,7 @@ use Rattle.std.proofs.lemmas.Bool.{cases_lt}
 use Rattle.std.proofs.lemmas.Int.{ints}
 use Rattle.int_laws.specs.Sums.{sum_to}
 use Rattle.int_laws.proofs.SumLaws.{sum_to-same, sum_to-single, sum_to-scale}
-use Rattle.int_laws.proofs.RingLaws.{mul_assoc_ℤ}
+use Rattle.int_laws.proofs.RingLaws.{zero-mul_ℤ, one-mul_ℤ, mul-zero_ℤ, mul-one_ℤ, mul_assoc_ℤ}
 use Rattle.simplex_core.specs.LinearProgram.{LinearProgram}
 use Rattle.simplex_core.specs.Tableau.{artificial, unknowns, cost_row, equation, cost, first_tableau}
 use Rattle.simplex_core.proofs.Regions.{equation-artificial, equation-other_artificial, equation-right, sign_of-right, first-row, first-cost}
@@ -25,39 +25,15 @@ first-basis p i = refl
 unit-equation : (p : LinearProgram) (i j : ℕ) → i < p.rows → sum_to p.rows (λ k. equation p i (artificial p k) *ℤ equation p k j) ≡ equation p i j
 unit-equation p i j l =
     sum_to-single p.rows i (λ k. equation p i (artificial p k) *ℤ equation p k j) l
-    (λ k m d. zero_times _ _ (equation-other_artificial p i k m (λ e. d (sym e))))
-    ∙ one_times _ _ (equation-artificial p i l)
-  where
-    zero_times : (a b : ℤ) → a ≡ pos 0 → a *ℤ b ≡ pos 0
-    zero_times a b e = ap (λ (z : ℤ). z *ℤ b) e ∙ base b
-      where
-        base : (b : ℤ) → pos 0 *ℤ b ≡ pos 0
-        base b = omega (arith, ints)
-
-    one_times : (a b : ℤ) → a ≡ pos 1 → a *ℤ b ≡ b
-    one_times a b e = ap (λ (z : ℤ). z *ℤ b) e ∙ base b
-      where
-        base : (b : ℤ) → pos 1 *ℤ b ≡ b
-        base b = omega (arith, ints)
+    (λ k m d. zero-mul_ℤ _ _ (equation-other_artificial p i k m (λ e. d (sym e))))
+    ∙ one-mul_ℤ _ _ (equation-artificial p i l)
 
 -- the costs of the artificial unknowns times their columns give the costs
 unit-costs : (p : LinearProgram) (q k : ℕ) → k < p.rows → sum_to p.rows (λ i. cost p q (artificial p i) *ℤ equation p i (artificial p k)) ≡ cost p q (artificial p k)
 unit-costs p q k l =
     sum_to-single p.rows k (λ i. cost p q (artificial p i) *ℤ equation p i (artificial p k)) l
-    (λ i m d. times_zero _ _ (equation-other_artificial p i k l d))
-    ∙ times_one _ _ (equation-artificial p k l)
-  where
-    times_zero : (a b : ℤ) → b ≡ pos 0 → a *ℤ b ≡ pos 0
-    times_zero a b e = ap (λ (z : ℤ). a *ℤ z) e ∙ base a
-      where
-        base : (a : ℤ) → a *ℤ pos 0 ≡ pos 0
-        base a = omega (arith, ints)
-
-    times_one : (a b : ℤ) → b ≡ pos 1 → a *ℤ b ≡ a
-    times_one a b e = ap (λ (z : ℤ). a *ℤ z) e ∙ base a
-      where
-        base : (a : ℤ) → a *ℤ pos 1 ≡ a
-        base a = omega (arith, ints)
+    (λ i m d. mul-zero_ℤ _ _ (equation-other_artificial p i k l d))
+    ∙ mul-one_ℤ _ _ (equation-artificial p k l)
 
 -- the first reduced cost of an artificial unknown is 0
 pub first-cost-artificial : (p : LinearProgram) (q k : ℕ) → k < p.rows → (first_tableau p).entry (cost_row p q) (artificial p k) ≡ pos 0

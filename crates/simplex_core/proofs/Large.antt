@@ -3,6 +3,7 @@ use Rattle.std.proofs.Common.{◌≡◌, ℕ, zero, suc, ◌+◌, ◌*◌, ◌<�
 use Rattle.std.specs.Prelude.{ℤ, pos, negsuc, ◌-ℤ◌, ◌*ℤ◌, slice_get, slice_index_or, unsigned_abs, int_lt, nat_eq, ◌&&◌, if◌then◌else◌}
 use Rattle.std.proofs.lemmas.Int.{ints}
 use Rattle.std.proofs.lemmas.Bool.{eqb-true, eq-eqb}
+use Rattle.int_laws.proofs.RingLaws.{zero-mul_ℤ}
 use Rattle.int_laws.proofs.SumLaws.{sum_to-zero}
 use Rattle.frac128.proofs.LowestTerms.{whole_is_lowest}
 use Rattle.simplex_core.specs.declared.problem.Entry.{Entry}
@@ -11,7 +12,7 @@ use Rattle.simplex_core.specs.LinearProgram.{LinearProgram}
 use Rattle.simplex_core.specs.Tableau.{artificial, unknowns, cost_row, sign_of, equation, cost, first_reduced_cost, first_tableau}
 use Rattle.simplex_core.specs.Problem.{entry_value, program_of, IsProper, table_size}
 use Rattle.simplex_core.specs.Places.{InTable}
-use Rattle.simplex_core.specs.Building.{IsOneAbove, IsOneEntryAbove}
+use Rattle.simplex_core.specs.Numbers.{IsOneAbove, IsOneEntryAbove}
 use Rattle.simplex_core.specs.Outcome.{IsInRange}
 use Rattle.simplex_core.proofs.Regions.{equation-column, equation-right, cost-first, cost-second, cost-no_artificial, first-row, first-cost}
 use Rattle.simplex_core.proofs.ProgramFields.{program-columns, program-rows, program-entry, program-right, program-first, program-second}
@@ -88,14 +89,8 @@ large-right q proper large =
 -- the first reduced costs of the first and the second costs are the costs
 reduced-is : (p : LinearProgram) (k j : ℕ) → first_reduced_cost p (suc k) j ≡ cost p (suc k) j
 reduced-is p k j =
-    less _ _ (sum_to-zero p.rows (λ i. cost p (suc k) (artificial p i) *ℤ equation p i j) (λ i l. zero_times _ _ (cost-no_artificial p k (artificial p i) (omega arith))))
+    less _ _ (sum_to-zero p.rows (λ i. cost p (suc k) (artificial p i) *ℤ equation p i j) (λ i l. zero-mul_ℤ _ _ (cost-no_artificial p k (artificial p i) (omega arith))))
   where
-    zero_times : (a b : ℤ) → a ≡ pos 0 → a *ℤ b ≡ pos 0
-    zero_times a b e = ap (λ (z : ℤ). z *ℤ b) e ∙ base
-      where
-        base : pos 0 *ℤ b ≡ pos 0
-        base = omega (arith, ints)
-
     less : (a b : ℤ) → b ≡ pos 0 → a -ℤ b ≡ a
     less a b e = omega (arith, ints)
 

@@ -1,14 +1,18 @@
 -- The leaving row is unique, and searches that go up find the least number.
 use Rattle.std.proofs.Common.{◌≡◌, ◌≢◌, ℕ, zero, suc, ◌+◌, ◌<◌, ◌≤◌, ap, arith, refl, sym, ◌∙◌, subst, ◌⊎◌, inl, inr, Bool, true, false, Option, Some, None}
-use Rattle.std.specs.Prelude.{ℤ, pos, ◌*ℤ◌, ◌<ℤ◌, int_lt, nat_lt, not, ◌&&◌, ◌||◌, if◌then◌else◌}
+use Rattle.std.specs.Prelude.{ℤ, pos, ◌*ℤ◌, ◌<ℤ◌, int_lt, nat_lt, nat_eq, not, ◌&&◌, ◌||◌, if◌then◌else◌}
 use Rattle.std.proofs.lemmas.Bool.{cases_lt, lt-ltb}
 use Rattle.std.proofs.lemmas.Int.{ints}
+use Rattle.int_laws.proofs.SumLaws.{sum_to-single}
 use Rattle.simplex_core.specs.LinearProgram.{LinearProgram}
 use Rattle.simplex_core.specs.Search.{or_else, least}
 use Rattle.simplex_core.specs.Tableau.{Tableau, unknowns}
-use Rattle.simplex_core.specs.Bland.{goes_before, is_candidate, leaving, IsBest, IsBestOf}
+use Rattle.simplex_core.specs.Bland.{goes_before, is_candidate, leaving, IsBest}
+use Rattle.simplex_core.specs.Cells.{IsBestOf}
 use Rattle.simplex_core.proofs.Searches.{and-both, every-each, least-found, last_or_before}
 use Rattle.simplex_core.proofs.Invariant.{IsTableauOf, same_or_other}
+use Rattle.simplex_core.proofs.Regions.{choose-same, choose-other}
+use Rattle.simplex_core.proofs.Points.{point}
 use Rattle.simplex_core.proofs.Choices.{IsBefore, ratio, before_trans, before_irrefl, goes_before-true, goes_before-false, candidate-positive, leaving-there, not-true}
 
 -- where no number below n passes and n does, n is the least
@@ -38,6 +42,13 @@ basis-apart p t i r h li lr e = go (same_or_other r i)
       where
         clash : (s : ℤ) → pos 0 <ℤ s → s ≡ pos 0 → ⊥
         clash s a b = omega (arith, ints)
+
+-- a point of the basis has, at the column that a row is solved for, the row's number
+pub point-at : (p : LinearProgram) (t : Tableau) (v : ℕ → ℤ) (i j : ℕ) → IsTableauOf p t → i < p.rows → t.basis i ≡ j → point p.rows t.basis v j ≡ v i
+point-at p t v i j h l e =
+    sum_to-single p.rows i (λ k. if nat_eq (t.basis k) j then v k else pos 0) l
+    (λ k m d. choose-other (t.basis k) j (v k) (pos 0) (λ f. d (basis-apart p t k i h m l (f ∙ sym e))))
+    ∙ choose-same (t.basis i) j (v i) (pos 0) e
 
 -- of two rows of which neither goes before the other, the basic columns are the same
 tied : (p : LinearProgram) (t : Tableau) (c i r : ℕ) → goes_before p t c i r ≡ false → goes_before p t c r i ≡ false → t.basis i ≡ t.basis r

@@ -3,7 +3,6 @@ pub mod Searches
 pub mod Regions
 pub mod Invariant
 pub mod First
-pub mod MoreSums
 pub mod Pivots
 pub mod Points
 pub mod Values
@@ -23,6 +22,7 @@ pub mod Leaving
 pub mod Ranges
 pub mod Extraction
 pub mod EndsShown
+pub mod Reading
 pub mod Running
 pub mod Filling
 pub mod ProgramFields

@@ -7,7 +7,7 @@ use Rattle.int_laws.specs.Sums.{dot}
 use Rattle.int_laws.specs.Polynomial.{variable, constant, ◌⊖◌, ◌⊗◌}
 use Rattle.int_laws.specs.NormalForm.{is_zero}
 use Rattle.int_laws.proofs.Identities.{identity_by_two}
-use Rattle.int_laws.proofs.RingLaws.{mul_assoc_ℤ}
+use Rattle.int_laws.proofs.RingLaws.{zero-mul_ℤ, mul-zero_ℤ, mul_assoc_ℤ}
 use Rattle.int_laws.proofs.SumLaws.{sum_to-same, sum_to-scale, sum_to-split, sum_to-zero}
 use Rattle.simplex_core.specs.LinearProgram.{LinearProgram, IsSolution}
 use Rattle.simplex_core.specs.Search.{every, some, or_else, least}
@@ -90,26 +90,14 @@ ends_optimal p t h feasible done = record { none = none; first = first; second =
 -- at an end as optimal the artificial unknowns of the basic solution are 0
 pub artificials-zero : (p : LinearProgram) (t : Tableau) (s : CommonScale p.rows t.scale) → EndsOptimal p t → (j : ℕ) → p.columns ≤ j → basic_point p t s j ≡ pos 0
 artificials-zero p t s e j l =
-    point-zero p.rows t.basis (basic_value p t s) j (λ i m b. zero_times (t.entry i (unknowns p)) (s.q i) (e.artificials i m (omega (arith, b))))
-  where
-    zero_times : (a b : ℤ) → a ≡ pos 0 → a *ℤ b ≡ pos 0
-    zero_times a b e = ap (λ (z : ℤ). z *ℤ b) e ∙ base
-      where
-        base : pos 0 *ℤ b ≡ pos 0
-        base = omega (arith, ints)
+    point-zero p.rows t.basis (basic_value p t s) j (λ i m b. zero-mul_ℤ (t.entry i (unknowns p)) (s.q i) (e.artificials i m (omega (arith, b))))
 
 -- where the artificial unknowns are 0, a product is one over the program's columns
 pub front-dot : (p : LinearProgram) (a x : ℕ → ℤ) → ((j : ℕ) → p.columns ≤ j → x j ≡ pos 0) → dot (unknowns p) a x ≡ dot p.columns a x
 front-dot p a x h =
     sum_to-split p.columns p.rows (λ j. a j *ℤ x j)
-    ∙ plus_zero _ _ (sum_to-zero p.rows (λ j. a (p.columns + j) *ℤ x (p.columns + j)) (λ j _. times_zero _ _ (h (p.columns + j) (omega arith))))
+    ∙ plus_zero _ _ (sum_to-zero p.rows (λ j. a (p.columns + j) *ℤ x (p.columns + j)) (λ j _. mul-zero_ℤ _ _ (h (p.columns + j) (omega arith))))
   where
-    times_zero : (a b : ℤ) → b ≡ pos 0 → a *ℤ b ≡ pos 0
-    times_zero a b e = ap (λ (z : ℤ). a *ℤ z) e ∙ base
-      where
-        base : a *ℤ pos 0 ≡ pos 0
-        base = omega (arith, ints)
-
     plus_zero : (a b : ℤ) → b ≡ pos 0 → a +ℤ b ≡ a
     plus_zero a b e = omega (arith, ints)
 

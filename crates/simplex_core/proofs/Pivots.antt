@@ -2,12 +2,12 @@
 use Rattle.std.proofs.Common.{◌≡◌, ◌≢◌, ℕ, ◌+◌, ◌<◌, ap, arith, refl, sym, ◌∙◌, subst, ◌⊎◌, inl, inr, [], ◌∷◌}
 use Rattle.std.specs.Prelude.{ℤ, pos, ◌+ℤ◌, ◌-ℤ◌, ◌*ℤ◌, ◌≤ℤ◌, ◌<ℤ◌}
 use Rattle.std.proofs.lemmas.Int.{ints, by_lt_z}
+use Rattle.int_laws.proofs.DotLaws.{sum_to-combine}
 use Rattle.int_laws.specs.Sums.{sum_to, dot}
 use Rattle.int_laws.specs.Polynomial.{variable, constant, ◌⊕◌, ◌⊖◌, ◌⊗◌}
 use Rattle.int_laws.proofs.Identities.{identity, identity_by_two}
 use Rattle.int_laws.proofs.OrderLaws.{mul-positive_ℤ, mul-nonneg_ℤ, mul-cancel_ℤ}
 use Rattle.int_laws.proofs.SumLaws.{sum_to-same}
-use Rattle.simplex_core.proofs.MoreSums.{sum_to-combine}
 use Rattle.simplex_core.specs.LinearProgram.{LinearProgram}
 use Rattle.simplex_core.specs.Tableau.{Tableau, artificial, unknowns, cost_row, equation, cost, pivot}
 use Rattle.simplex_core.proofs.Regions.{pivot-row, pivot-other, pivot-scale, pivot-other_scale, pivot-basis, pivot-other_basis}

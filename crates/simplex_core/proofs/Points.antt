@@ -4,7 +4,7 @@ use Rattle.std.specs.Prelude.{ℤ, pos, ◌*ℤ◌, ◌≤ℤ◌, ◌<ℤ◌, na
 use Rattle.std.proofs.lemmas.Int.{ints}
 use Rattle.std.proofs.lemmas.Bool.{eqb-true}
 use Rattle.int_laws.specs.Sums.{sum_to, dot}
-use Rattle.int_laws.proofs.RingLaws.{mul_comm_ℤ, mul_assoc_ℤ}
+use Rattle.int_laws.proofs.RingLaws.{mul-zero_ℤ, mul_comm_ℤ, mul_assoc_ℤ}
 use Rattle.int_laws.proofs.OrderLaws.{mul-positive_ℤ}
 use Rattle.int_laws.proofs.SumLaws.{sum_to-same, sum_to-single, sum_to-scale, sum_to-swap, sum_to-nonneg, sum_to-zero}
 use Rattle.simplex_core.proofs.Searches.{last_or_before}
@@ -87,14 +87,8 @@ dot-point m n basis v a h =
     ∙ (sum_to-swap n m (λ j i. a j *ℤ (if nat_eq (basis i) j then v i else pos 0))
     ∙ sum_to-same m (λ i. sum_to n (λ j. a j *ℤ (if nat_eq (basis i) j then v i else pos 0))) (λ i. a (basis i) *ℤ v i) at_each)
   where
-    times_zero : (a z : ℤ) → z ≡ pos 0 → a *ℤ z ≡ pos 0
-    times_zero a z e = ap (λ (w : ℤ). a *ℤ w) e ∙ base a
-      where
-        base : (a : ℤ) → a *ℤ pos 0 ≡ pos 0
-        base a = omega (arith, ints)
-
     at_each : (i : ℕ) → i < m → sum_to n (λ j. a j *ℤ (if nat_eq (basis i) j then v i else pos 0)) ≡ a (basis i) *ℤ v i
     at_each i l =
         sum_to-single n (basis i) (λ j. a j *ℤ (if nat_eq (basis i) j then v i else pos 0)) (h i l)
-        (λ j k d. times_zero (a j) _ (choose-other (basis i) j (v i) (pos 0) (λ e. d (sym e))))
+        (λ j k d. mul-zero_ℤ (a j) _ (choose-other (basis i) j (v i) (pos 0) (λ e. d (sym e))))
         ∙ ap (λ (z : ℤ). a (basis i) *ℤ z) (choose-same (basis i) (basis i) (v i) (pos 0) refl)

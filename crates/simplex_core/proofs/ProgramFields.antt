@@ -1,8 +1,9 @@
 -- The linear program of a problem, field by field.
-use Rattle.std.proofs.Common.{◌≡◌, ℕ, refl}
-use Rattle.std.specs.Prelude.{pos, slice_index_or}
+use Rattle.std.proofs.Common.{◌≡◌, ℕ, ap, refl, sym, ◌∙◌, List, length}
+use Rattle.std.specs.Prelude.{ℤ, pos, slice_index_or}
 use Rattle.simplex_core.specs.declared.problem.Problem.{Problem}
 use Rattle.simplex_core.specs.Problem.{entry_value, program_of}
+use Rattle.simplex_core.specs.Showing.{AreSides}
 
 -- the columns of a problem's program
 pub program-columns : (q : Problem) → (program_of q).columns ≡ q.cols
@@ -33,3 +34,10 @@ program-first q j = refl
 pub program-second : (q : Problem) (j : ℕ) → (program_of q).second j ≡ slice_index_or q.second.items j (pos 0)
 unfolding program_of
 program-second q j = refl
+
+-- a problem's right sides are its program's
+pub sides-read : (q : Problem) (right : List ℤ) → length q.right.items ≡ q.rows → right ≡ q.right.items → AreSides (program_of q) right
+sides-read q right rows same = record {
+  length_is = ap length same ∙ (rows ∙ sym (program-rows q));
+  each = λ i. ap (λ (xs : List ℤ). slice_index_or xs i (pos 0)) same ∙ sym (program-right q i);
+}

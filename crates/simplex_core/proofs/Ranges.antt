@@ -1,18 +1,19 @@
 -- The table's numbers are in range exactly where the tableau's are.
-use Rattle.std.proofs.Common.{◌≡◌, ◌<◌, ◌^◌, arith, refl, sym, subst, [], ◌∷◌}
-use Rattle.std.specs.Prelude.{ℤ, pos, ◌*ℤ◌, ◌<ℤ◌, unsigned_abs}
+use Rattle.std.proofs.Common.{◌≡◌, ◌<◌, ◌^◌, arith, refl, sym, subst, [], ◌∷◌, Bool, true, false}
+use Rattle.std.specs.Prelude.{ℤ, pos, ◌*ℤ◌, ◌<ℤ◌, unsigned_abs, MatchBool}
 use Rattle.frac128.specs.declared.frac.Frac.{Frac}
 use Rattle.frac128.specs.Fraction.{IsFraction}
 use Rattle.frac128.proofs.Uniqueness.{same_parts}
 use Rattle.int_laws.specs.Polynomial.{variable, constant, ◌⊖◌, ◌⊗◌}
 use Rattle.int_laws.proofs.Identities.{identity_by_two}
 use Rattle.int_laws.proofs.OrderLaws.{mul-cancel_ℤ}
-use Rattle.simplex_core.specs.declared.table.Table.{Table}
+use Rattle.simplex_core.specs.declared.dense_table.DenseTable.{DenseTable}
 use Rattle.simplex_core.specs.LinearProgram.{LinearProgram}
 use Rattle.simplex_core.specs.Tableau.{Tableau}
 use Rattle.simplex_core.specs.Sizes.{IsBelow}
 use Rattle.simplex_core.specs.Cells.{AreSmall, HasLarge, Shows}
 use Rattle.simplex_core.specs.Outcome.{IsSmallRatio, IsInRange}
+use Rattle.simplex_core.specs.Showing.{ShowsInRange, ShowsOutOfRange}
 use Rattle.simplex_core.proofs.CellLaws.{InTable-same}
 use Rattle.simplex_core.proofs.Shown.{cell-there}
 
@@ -32,7 +33,7 @@ small-shows f z s positive shows below = record {
         (constant (pos 0) ⊖ variable 1) (variable 4 ⊗ variable 2) (variable 3 ⊗ variable 5) same shows refl)
 
 -- a table of small numbers shows a tableau in range
-pub small-in_range : (p : LinearProgram) (a : Table) (t : Tableau) → Shows p a t → AreSmall a → IsInRange p t
+pub small-in_range : (p : LinearProgram) (a : DenseTable) (t : Tableau) → Shows p a t → AreSmall a → IsInRange p t
 small-in_range p a t shows small = record {
   each = λ i j inside.
       let rows = shows.rows in
@@ -45,9 +46,23 @@ small-in_range p a t shows small = record {
 }
 
 -- a table with a number that isn't small shows a tableau out of range
-pub large-out_of_range : (p : LinearProgram) (a : Table) (t : Tableau) → Shows p a t → HasLarge a → ¬ IsInRange p t
+pub large-out_of_range : (p : LinearProgram) (a : DenseTable) (t : Tableau) → Shows p a t → HasLarge a → ¬ IsInRange p t
 large-out_of_range p a t shows large range =
     let inside = InTable-same a.rows a.columns p.rows p.columns large.row large.column shows.rows shows.columns large.in_table in
     let f = large.number in
     let small = (range.each large.row large.column inside).each f.num f.den f.positive f.lowest (shows.numbers large.row large.column f inside large.is) in
     large.large (record { num = small.0; den = small.1 })
+
+-- a table that shows a tableau in range has small numbers
+pub in_range-small : (p : LinearProgram) (a : DenseTable) (t : Tableau) → Shows p a t → IsInRange p t → AreSmall a
+in_range-small p a t shows range = record {
+  each = λ i j f inside is.
+      let there = InTable-same a.rows a.columns p.rows p.columns i j shows.rows shows.columns inside in
+      let small = (range.each i j there).each f.num f.den f.positive f.lowest (shows.numbers i j f there is) in
+      record { num = small.0; den = small.1 };
+}
+
+-- whether the numbers of a table are small tells whether the tableaux that it shows are in range
+pub range-told : (a : DenseTable) (v : Bool) → MatchBool v (AreSmall a) (HasLarge a) → MatchBool v (ShowsInRange Shows a) (ShowsOutOfRange Shows a)
+range-told a true small = record { each = λ p t shows. small-in_range p a t shows small }
+range-told a false large = record { each = λ p t shows. large-out_of_range p a t shows large }

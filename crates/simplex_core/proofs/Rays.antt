@@ -45,7 +45,7 @@ abbrev pub ray : (p : LinearProgram) (t : Tableau) → CommonScale p.rows t.scal
 ray p t s c j = point 1 (λ _. c) (λ _. s.d) j +ℤ point p.rows t.basis (ray_value p t s c) j
 
 -- the product of a list of numbers with a ray
-dot-ray : (p : LinearProgram) (t : Tableau) (s : CommonScale p.rows t.scale) (c : ℕ) (a : ℕ → ℤ) → c < unknowns p
+pub dot-ray : (p : LinearProgram) (t : Tableau) (s : CommonScale p.rows t.scale) (c : ℕ) (a : ℕ → ℤ) → c < unknowns p
     → dot (unknowns p) a (ray p t s c) ≡ a c *ℤ s.d +ℤ dot (unknowns p) a (point p.rows t.basis (ray_value p t s c))
 dot-ray p t s c a l =
     sum_to-same (unknowns p) (λ j. a j *ℤ ray p t s c j) (λ j. a j *ℤ point 1 (λ _. c) (λ _. s.d) j +ℤ a j *ℤ point p.rows t.basis (ray_value p t s c) j)

@@ -8,12 +8,12 @@ use Rattle.frac128.specs.Fraction.{IsFraction}
 use Rattle.int_laws.specs.Polynomial.{variable, constant, ◌⊖◌, ◌⊗◌}
 use Rattle.int_laws.proofs.Identities.{identity, identity_by_one}
 use Rattle.int_laws.proofs.OrderLaws.{mul-cancel_ℤ, mul-positive_ℤ}
-use Rattle.simplex_core.specs.declared.table.Table.{Table}
+use Rattle.simplex_core.specs.declared.dense_table.DenseTable.{DenseTable}
 use Rattle.simplex_core.specs.LinearProgram.{LinearProgram}
 use Rattle.simplex_core.specs.Tableau.{Tableau, pivot}
 use Rattle.simplex_core.specs.Cells.{width, cell, IsPivoted, Shows}
 use Rattle.simplex_core.specs.Places.{InTable}
-use Rattle.simplex_core.proofs.Invariant.{IsTableauOf, same_or_other}
+use Rattle.simplex_core.proofs.Invariant.{same_or_other}
 use Rattle.simplex_core.proofs.Regions.{pivot-row, pivot-other, pivot-scale, pivot-other_scale, pivot-basis, pivot-other_basis}
 use Rattle.simplex_core.proofs.Places.{slice_get-there}
 use Rattle.simplex_core.proofs.CellLaws.{InTable-same}
@@ -52,14 +52,14 @@ difference-shows f g n d h k u v s x y z w pd pk pv first second third cleared =
     (constant (pos 0) ⊖ (variable 6 ⊗ variable 1) ⊗ variable 0 ⊗ variable 8) (variable 2 ⊗ variable 5) (variable 7 ⊗ variable 3) third refl))))
 
 -- there is a number in each row and column of a table
-pub cell-there : (a : Table) (i j : ℕ) → i < a.rows + 3 → j < width a → (f : Frac) × (cell a i j ≡ Some f)
+pub cell-there : (a : DenseTable) (i j : ℕ) → i < a.rows + 3 → j < width a → (f : Frac) × (cell a i j ≡ Some f)
 cell-there a i j l m = slice_get-there a.numbers.items (i * width a + j) (below i j (a.rows + 3) (width a) (length a.numbers.items) a.shape l m)
   where
     below : (i j h w n : ℕ) → n ≡ h * w → i < h → j < w → i * w + j < n
     below i j h w n e l m = let p = mul-le-mul_right w l in omega (arith, e, p)
 
 -- the pivot row of the table shows that of the tableau
-pivot_row-shows : (p : LinearProgram) (a e : Table) (t : Tableau) (r c j : ℕ) (f : Frac) → Shows p a t → IsPivoted a e r c → r < p.rows → c < p.columns
+pivot_row-shows : (p : LinearProgram) (a e : DenseTable) (t : Tableau) (r c j : ℕ) (f : Frac) → Shows p a t → IsPivoted a e r c → r < p.rows → c < p.columns
     → InTable p.rows p.columns r j → cell e r j ≡ Some f → IsFraction f (t.entry r j) (t.entry r c)
 pivot_row-shows p a e t r c j f shows pivoted lr lc inside is =
     let row : r < a.rows + 3 = let m = shows.rows in omega arith in
@@ -73,7 +73,7 @@ pivot_row-shows p a e t r c j f shows pivoted lr lc inside is =
     (pivoted.divided j old.0 by.0 f (InTable-same p.rows p.columns a.rows a.columns r j (sym shows.rows) (sym shows.columns) inside) old.1 by.1 is)
 
 -- another row of the table shows that of the tableau
-other_row-shows : (p : LinearProgram) (a e : Table) (t : Tableau) (r c i j : ℕ) (f : Frac) → Shows p a t → IsPivoted a e r c → r < p.rows → c < p.columns → i ≢ r
+other_row-shows : (p : LinearProgram) (a e : DenseTable) (t : Tableau) (r c i j : ℕ) (f : Frac) → Shows p a t → IsPivoted a e r c → r < p.rows → c < p.columns → i ≢ r
     → InTable p.rows p.columns i j → cell e i j ≡ Some f
     → IsFraction f (t.entry i j *ℤ t.entry r c -ℤ t.entry i c *ℤ t.entry r j) (t.scale i *ℤ t.entry r c)
 other_row-shows p a e t r c i j f shows pivoted lr lc apart inside is =
@@ -94,11 +94,19 @@ other_row-shows p a e t r c i j f shows pivoted lr lc apart inside is =
     (pivot_row-shows p a e t r c j divided.0 shows pivoted lr lc at_row divided.1)
     (pivoted.cleared i j old.0 factor.0 divided.0 f apart (InTable-same p.rows p.columns a.rows a.columns i j (sym m) (sym n) inside) old.1 factor.1 divided.1 is)
 
--- after a pivot of the table it shows the tableau after the pivot
-pub pivot-shows : (p : LinearProgram) (a e : Table) (t : Tableau) (r c : ℕ) → Shows p a t → IsPivoted a e r c → r < p.rows → c < p.columns → IsTableauOf p (pivot t r c)
+-- the scales are over 0 after a pivot at an entry over 0
+pivot_scale-positive : (p : LinearProgram) (t : Tableau) (r c i : ℕ) → ((k : ℕ) → k < p.rows + 3 → pos 0 <ℤ t.scale k) → pos 0 <ℤ t.entry r c → i < p.rows + 3
+    → (i ≡ r) ⊎ (i ≢ r) → pos 0 <ℤ (pivot t r c).scale i
+pivot_scale-positive p t r c i scales entry l (inl s) =
+    subst (λ (k : ℕ). pos 0 <ℤ (pivot t r c).scale k) (sym s) (subst (λ (z : ℤ). pos 0 <ℤ z) (sym (pivot-scale t r c)) entry)
+pivot_scale-positive p t r c i scales entry l (inr d) =
+    subst (λ (z : ℤ). pos 0 <ℤ z) (sym (pivot-other_scale t r c i d)) (mul-positive_ℤ (t.scale i) (t.entry r c) (scales i l) entry)
+
+-- after a pivot of the table at an entry over 0 it shows the tableau after the pivot
+pub pivot-shows : (p : LinearProgram) (a e : DenseTable) (t : Tableau) (r c : ℕ) → Shows p a t → IsPivoted a e r c → r < p.rows → c < p.columns → pos 0 <ℤ t.entry r c
     → Shows p e (pivot t r c)
-pivot-shows p a e t r c shows pivoted lr lc after = record {
-  positive = after.positive;
+pivot-shows p a e t r c shows pivoted lr lc entry = record {
+  positive = λ i l. pivot_scale-positive p t r c i shows.positive entry l (same_or_other i r);
   rows = pivoted.rows ∙ shows.rows;
   columns = pivoted.columns ∙ shows.columns;
   numbers = λ i j f inside is. numbers i j f inside is (same_or_other i r);

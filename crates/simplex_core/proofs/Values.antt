@@ -5,7 +5,7 @@ use Rattle.std.proofs.lemmas.Int.{ints}
 use Rattle.int_laws.specs.Sums.{sum_to, dot}
 use Rattle.int_laws.specs.Polynomial.{variable, ◌⊗◌}
 use Rattle.int_laws.proofs.Identities.{identity_by_one}
-use Rattle.int_laws.proofs.RingLaws.{add-mul_ℤ, mul_assoc_ℤ}
+use Rattle.int_laws.proofs.RingLaws.{zero-mul_ℤ, add-mul_ℤ, mul_assoc_ℤ}
 use Rattle.int_laws.proofs.OrderLaws.{mul-nonneg_ℤ}
 use Rattle.int_laws.proofs.SumLaws.{sum_to-same, sum_to-add, sum_to-scale, sum_to-scale_behind, sum_to-single, sum_to-zero}
 use Rattle.int_laws.proofs.Duality.{dot-dot}
@@ -53,14 +53,8 @@ pub own_term : (p : LinearProgram) (t : Tableau) (v : ℕ → ℤ) (i : ℕ) →
 own_term p t v i h l =
     dot-point p.rows (unknowns p) t.basis v (t.entry i) h.basic
     ∙ (sum_to-single p.rows i (λ k. t.entry i (t.basis k) *ℤ v k) l
-    (λ k m d. zero_times _ _ (h.other i k (omega arith) m (λ e. d (sym e))))
+    (λ k m d. zero-mul_ℤ _ _ (h.other i k (omega arith) m (λ e. d (sym e))))
     ∙ ap (λ (z : ℤ). z *ℤ v i) (h.own i l))
-  where
-    zero_times : (a b : ℤ) → a ≡ pos 0 → a *ℤ b ≡ pos 0
-    zero_times a b e = ap (λ (z : ℤ). z *ℤ b) e ∙ base b
-      where
-        base : (b : ℤ) → pos 0 *ℤ b ≡ pos 0
-        base b = omega (arith, ints)
 
 -- a cost row times a point of the basis is 0
 pub no_term : (p : LinearProgram) (t : Tableau) (v : ℕ → ℤ) (q : ℕ) → IsTableauOf p t → q < 3
@@ -68,13 +62,7 @@ pub no_term : (p : LinearProgram) (t : Tableau) (v : ℕ → ℤ) (q : ℕ) → 
 no_term p t v q h l =
     dot-point p.rows (unknowns p) t.basis v (t.entry (cost_row p q)) h.basic
     ∙ sum_to-zero p.rows (λ k. t.entry (cost_row p q) (t.basis k) *ℤ v k)
-    (λ k m. zero_times _ _ (h.other (cost_row p q) k (omega arith) m (omega arith)))
-  where
-    zero_times : (a b : ℤ) → a ≡ pos 0 → a *ℤ b ≡ pos 0
-    zero_times a b e = ap (λ (z : ℤ). z *ℤ b) e ∙ base b
-      where
-        base : (b : ℤ) → pos 0 *ℤ b ≡ pos 0
-        base b = omega (arith, ints)
+    (λ k m. zero-mul_ℤ _ _ (h.other (cost_row p q) k (omega arith) m (omega arith)))
 
 -- the basic solution solves the equations
 pub basic-solves : (p : LinearProgram) (t : Tableau) (c : CommonScale p.rows t.scale) → IsTableauOf p t → SolvesEquations p (basic_point p t c) c.d

@@ -27,16 +27,12 @@ goes_before p t c i r =
 abbrev pub is_candidate : Tableau → ℕ → ℕ → Bool
 is_candidate t c i = int_lt (pos 0) (t.entry i c)
 
--- of the first m rows, row r has an entry over 0 in column c, and none that has goes before it
+-- of the first m rows, row r has an entry over 0 in column c, and none that has goes before it; of all rows of a
+-- tableau of the program this is the leaving row
 pub record IsBest (p : LinearProgram) (t : Tableau) (c m r : ℕ) : Type 0 where
   pub row : r < m
   pub candidate : is_candidate t c r ≡ true
   pub best : (i : ℕ) → i < m → is_candidate t c i ≡ true → goes_before p t c i r ≡ false
-
--- the row is the best of the first m; no row, where none has an entry over 0
-abbrev pub IsBestOf : LinearProgram → Tableau → ℕ → ℕ → Option ℕ → Type 0
-IsBestOf p t c m None = (i : ℕ) → i < m → is_candidate t c i ≡ false
-IsBestOf p t c m (Some r) = IsBest p t c m r
 
 -- the leaving row: of the rows with an entry over 0 in column c, the one that none goes before
 abbrev pub leaving : LinearProgram → Tableau → ℕ → Option ℕ
@@ -44,7 +40,8 @@ leaving p t c =
     least p.rows (λ r. is_candidate t c r && every p.rows (λ i. not (is_candidate t c i && goes_before p t c i r)))
 
 -- whether the sequence ends as infeasible: no column of the program has a negative reduced cost in
--- cost row 0, and an artificial unknown is over 0
+-- cost row 0, and the artificial unknowns add up to more than 0. As right sides stay at least 0, this is
+-- that a row is solved for an artificial unknown with a right side over 0
 abbrev pub is_infeasible : LinearProgram → Tableau → Bool
 is_infeasible p t =
     every p.columns (λ j. not (int_lt (t.entry (cost_row p 0) j) (pos 0)))

@@ -1,16 +1,15 @@
 -- The table while it is being filled: whole numbers that are known.
-use Rattle.std.specs.Prelude.{◌≡◌, ◌≢◌, ℕ, zero, suc, ◌+◌, ◌-◌, ◌<◌, ◌≤◌, ◌^◌, ℤ, pos, ◌-ℤ◌, ◌*ℤ◌, unsigned_abs, nat_lt, nat_eq, if◌then◌else◌, List, Some, slice_get, slice_index_or, length}
+use Rattle.std.specs.Prelude.{◌≡◌, ℕ, zero, suc, ◌+◌, ◌-◌, ◌<◌, ◌^◌, ℤ, pos, ◌-ℤ◌, ◌*ℤ◌, unsigned_abs, nat_lt, nat_eq, if◌then◌else◌, List, Some, slice_index_or}
 use Rattle.int_laws.specs.Sums.{sum_to}
 use Rattle.frac128.specs.declared.frac.Frac.{Frac}
-use Rattle.simplex_core.specs.declared.table.Table.{Table}
+use Rattle.simplex_core.specs.declared.dense_table.DenseTable.{DenseTable}
 use Rattle.simplex_core.specs.declared.problem.Entry.{Entry}
-use Rattle.simplex_core.specs.declared.problem.Problem.{Problem}
 use Rattle.simplex_core.specs.Tableau.{sign_of}
 use Rattle.simplex_core.specs.Problem.{entry_value}
 use Rattle.simplex_core.specs.Cells.{width, cell, ChangesCell}
 
 -- each number of the table is the whole number g i j
-pub record HoldsWhole (table : Table) (g : ℕ → ℕ → ℤ) : Type 0 where
+pub record HoldsWhole (table : DenseTable) (g : ℕ → ℕ → ℤ) : Type 0 where
   pub num : (i j : ℕ) (f : Frac) → i < table.rows + 3 → j < width table → cell table i j ≡ Some f → f.num ≡ g i j
   pub den : (i j : ℕ) (f : Frac) → i < table.rows + 3 → j < width table → cell table i j ≡ Some f → f.den ≡ pos 1
 
@@ -41,54 +40,21 @@ with_costs m g first second k i j =
     if nat_lt i m then g i j else if nat_lt j k then cost_number m g first second (i - m) j else g i j
 
 -- the equations' numbers in the program's columns are below 2^31 in absolute value
-pub record HasSmallEquations (table : Table) : Type 0 where
+pub record HasSmallEquations (table : DenseTable) : Type 0 where
   pub each : (i j : ℕ) (f : Frac) → i < table.rows → j < table.columns → cell table i j ≡ Some f → unsigned_abs f.num < 2 ^ 31
 
 -- the equations' numbers are as before
-pub record KeepsEquations (old new : Table) : Type 0 where
+pub record KeepsEquations (old new : DenseTable) : Type 0 where
   pub each : (i j : ℕ) → i < old.rows → j < width old → cell new i j ≡ cell old i j
 
--- each of the numbers is below 2^31 in absolute value
-pub record AreBelow (numbers : List ℤ) : Type 0 where
-  pub each : (k : ℕ) → k < length numbers → unsigned_abs (slice_index_or numbers k (pos 0)) < 2 ^ 31
-
--- one of the numbers is 2^31 or more in absolute value
-pub record IsOneAbove (numbers : List ℤ) : Type 0 where
-  pub place : ℕ
-  pub within : place < length numbers
-  pub above : 2 ^ 31 ≤ unsigned_abs (slice_index_or numbers place (pos 0))
-
--- each entry's number is below 2^31 in absolute value
-pub record AreEntriesBelow (entries : List Entry) : Type 0 where
-  pub each : (k : ℕ) (e : Entry) → slice_get entries k ≡ Some e → unsigned_abs e.value < 2 ^ 31
-
--- one of the entries' numbers is 2^31 or more in absolute value
-pub record IsOneEntryAbove (entries : List Entry) : Type 0 where
-  pub place : ℕ
-  pub entry : Entry
-  pub is : slice_get entries place ≡ Some entry
-  pub above : 2 ^ 31 ≤ unsigned_abs entry.value
-
 -- a whole number is written in a row and a column, and the table is else as before
-pub record WritesWhole (old new : Table) (row column : ℕ) (number : ℤ) : Type 0 where
+pub record WritesWhole (old new : DenseTable) (row column : ℕ) (number : ℤ) : Type 0 where
   pub changes : ChangesCell old new row column
   pub num : (f : Frac) → cell new row column ≡ Some f → f.num ≡ number
   pub den : (f : Frac) → cell new row column ≡ Some f → f.den ≡ pos 1
 
 -- the table has the same rows, columns and basis
-pub record KeepsShape (old new : Table) : Type 0 where
+pub record KeepsShape (old new : DenseTable) : Type 0 where
   pub rows : new.rows ≡ old.rows
   pub columns : new.columns ≡ old.columns
   pub basis : new.basis.items ≡ old.basis.items
-
--- the entries lie inside the table, and no place has two
-pub record ArePlaced (rows columns : ℕ) (entries : List Entry) : Type 0 where
-  pub inside : (k : ℕ) (e : Entry) → slice_get entries k ≡ Some e → (e.row < rows) × (e.col < columns)
-  pub once : (k l : ℕ) (d e : Entry) → k < l → slice_get entries k ≡ Some d → slice_get entries l ≡ Some e → d.row ≡ e.row → d.col ≢ e.col
-
--- the numbers of a problem are below 2^31 in absolute value
-pub record HasSmallNumbers (q : Problem) : Type 0 where
-  pub entries : AreEntriesBelow q.entries.items
-  pub right : AreBelow q.right.items
-  pub first : AreBelow q.first.items
-  pub second : AreBelow q.second.items

@@ -1,10 +1,8 @@
 -- How the code's table of fractions shows a tableau.
-use Rattle.std.specs.Prelude.{◌≡◌, ◌≢◌, ℕ, ◌+◌, ◌*◌, ◌<◌, ℤ, pos, ◌-ℤ◌, ◌*ℤ◌, ◌<ℤ◌, List, Option, Some, true, slice_get, slice_index, slice_index_or, slice_set, length, ◌⊎◌}
+use Rattle.std.specs.Prelude.{◌≡◌, ◌≢◌, ℕ, ◌+◌, ◌*◌, ◌<◌, ℤ, pos, ◌-ℤ◌, ◌*ℤ◌, ◌<ℤ◌, List, Option, Some, None, false, slice_get, slice_index, slice_index_or, slice_set, length, ◌⊎◌}
 use Rattle.frac128.specs.declared.frac.Frac.{Frac}
 use Rattle.frac128.specs.Fraction.{IsFraction}
-use Rattle.simplex_core.specs.declared.table.Table.{Table}
-use Rattle.simplex_core.specs.declared.problem.Solved.{Solved}
-use Rattle.simplex_core.specs.declared.problem.Solved.TheVariants.{Optimal, Infeasible}
+use Rattle.simplex_core.specs.declared.dense_table.DenseTable.{DenseTable}
 use Rattle.simplex_core.specs.Bland.{IsBest, is_candidate}
 use Rattle.simplex_core.specs.Sizes.{IsBelow}
 use Rattle.simplex_core.specs.Places.{InTable}
@@ -12,15 +10,15 @@ use Rattle.simplex_core.specs.LinearProgram.{LinearProgram}
 use Rattle.simplex_core.specs.Tableau.{Tableau, sign_of}
 
 -- the length of a row: the unknowns and the right side
-abbrev pub width : Table → ℕ
+abbrev pub width : DenseTable → ℕ
 width table = table.columns + table.rows + 1
 
 -- the fraction in row i and column j, if it is in the table
-abbrev pub cell : Table → ℕ → ℕ → Option Frac
+abbrev pub cell : DenseTable → ℕ → ℕ → Option Frac
 cell table i j = slice_get table.numbers.items (i * width table + j)
 
 -- the table has the same rows, columns and basis as before, and changed one number alone
-pub record ChangesCell (old new : Table) (row column : ℕ) : Type 0 where
+pub record ChangesCell (old new : DenseTable) (row column : ℕ) : Type 0 where
   pub rows : new.rows ≡ old.rows
   pub columns : new.columns ≡ old.columns
   pub basis : new.basis.items ≡ old.basis.items
@@ -32,29 +30,29 @@ IsLessMultiple f factor b g =
     IsFraction g ((f.num *ℤ factor.den) *ℤ b.den -ℤ (factor.num *ℤ b.num) *ℤ f.den) ((f.den *ℤ factor.den) *ℤ b.den)
 
 -- the table has the same rows, columns and basis as before, and changed row r alone
-pub record ChangesRow (old new : Table) (r : ℕ) : Type 0 where
+pub record ChangesRow (old new : DenseTable) (r : ℕ) : Type 0 where
   pub rows : new.rows ≡ old.rows
   pub columns : new.columns ≡ old.columns
   pub basis : new.basis.items ≡ old.basis.items
   pub others : (i j : ℕ) → i ≢ r → j < width old → cell new i j ≡ cell old i j
 
 -- the table has the same rows, columns and basis as before, and the same row r
-pub record KeepsRow (old new : Table) (r : ℕ) : Type 0 where
+pub record KeepsRow (old new : DenseTable) (r : ℕ) : Type 0 where
   pub rows : new.rows ≡ old.rows
   pub columns : new.columns ≡ old.columns
   pub basis : new.basis.items ≡ old.basis.items
   pub row : (j : ℕ) → j < width old → cell new r j ≡ cell old r j
 
 -- each number of the table is below 2^31 in numerator and denominator
-pub record AreSmall (table : Table) : Type 0 where
+pub record AreSmall (table : DenseTable) : Type 0 where
   pub each : (i j : ℕ) (f : Frac) → InTable table.rows table.columns i j → cell table i j ≡ Some f → IsBelow 31 f
 
 -- each number of row r is below 2^bits in numerator and denominator
-pub record IsRowBelow (bits : ℕ) (table : Table) (r : ℕ) : Type 0 where
+pub record IsRowBelow (bits : ℕ) (table : DenseTable) (r : ℕ) : Type 0 where
   pub each : (j : ℕ) (f : Frac) → InTable table.rows table.columns r j → cell table r j ≡ Some f → IsBelow bits f
 
 -- a number of the table isn't below 2^31
-pub record HasLarge (table : Table) : Type 0 where
+pub record HasLarge (table : DenseTable) : Type 0 where
   pub row : ℕ
   pub column : ℕ
   pub number : Frac
@@ -63,22 +61,22 @@ pub record HasLarge (table : Table) : Type 0 where
   pub large : ¬ IsBelow 31 number
 
 -- row r is the old row divided by a number
-pub record IsRowDivided (old new : Table) (r : ℕ) (by : Frac) : Type 0 where
+pub record IsRowDivided (old new : DenseTable) (r : ℕ) (by : Frac) : Type 0 where
   pub each : (j : ℕ) (f g : Frac) → InTable old.rows old.columns r j → cell old r j ≡ Some f → cell new r j ≡ Some g
       → IsFraction g (f.num *ℤ by.den) (f.den *ℤ by.num)
 
 -- row i is the old row less a multiple of row r
-pub record IsRowCleared (old new : Table) (i r : ℕ) (factor : Frac) : Type 0 where
+pub record IsRowCleared (old new : DenseTable) (i r : ℕ) (factor : Frac) : Type 0 where
   pub each : (j : ℕ) (f b g : Frac) → InTable old.rows old.columns i j → cell old i j ≡ Some f → cell old r j ≡ Some b → cell new i j ≡ Some g
       → IsLessMultiple f factor b g
 
 -- row i is the old row less the multiple of row r that the number in the column shows
-pub record IsRowClearedBy (old new : Table) (i r column : ℕ) : Type 0 where
+pub record IsRowClearedBy (old new : DenseTable) (i r column : ℕ) : Type 0 where
   pub each : (j : ℕ) (f factor b g : Frac) → InTable old.rows old.columns i j → cell old i j ≡ Some f → cell old i column ≡ Some factor → cell old r j ≡ Some b
       → cell new i j ≡ Some g → IsLessMultiple f factor b g
 
 -- the table is the old one after the pivot at row r and column c
-pub record IsPivoted (old new : Table) (r c : ℕ) : Type 0 where
+pub record IsPivoted (old new : DenseTable) (r c : ℕ) : Type 0 where
   pub rows : new.rows ≡ old.rows
   pub columns : new.columns ≡ old.columns
   pub basis : new.basis.items ≡ slice_set old.basis.items r c
@@ -88,7 +86,7 @@ pub record IsPivoted (old new : Table) (r c : ℕ) : Type 0 where
       → cell new r j ≡ Some b → cell new i j ≡ Some g → IsLessMultiple f factor b g
 
 -- the table shows the tableau: its fractions are the tableau's, over scales over 0, and its basis is
-pub record Shows (p : LinearProgram) (table : Table) (t : Tableau) : Type 0 where
+pub record Shows (p : LinearProgram) (table : DenseTable) (t : Tableau) : Type 0 where
   pub rows : table.rows ≡ p.rows
   pub columns : table.columns ≡ p.columns
   pub positive : (i : ℕ) → i < p.rows + 3 → pos 0 <ℤ t.scale i
@@ -97,44 +95,24 @@ pub record Shows (p : LinearProgram) (table : Table) (t : Tableau) : Type 0 wher
 
 -- the number is the basic solution's in column j, by the first m rows: the right side of a row that is
 -- solved for column j, or 0 where none is
-abbrev pub IsBasicNumber : Table → ℕ → ℕ → Frac → Type 0
+abbrev pub IsBasicNumber : DenseTable → ℕ → ℕ → Frac → Type 0
 IsBasicNumber table m j f =
     ((i : ℕ) × (i < m) × (slice_index table.basis.items i ≡ j) × (cell table i (table.columns + table.rows) ≡ Some f))
     ⊎ ((f.num ≡ pos 0) × ((i : ℕ) → i < m → slice_index table.basis.items i ≢ j))
 
 -- the list holds the basic solution's numbers, by the first m rows
-pub record HoldsBasic (table : Table) (m : ℕ) (at : List Frac) : Type 0 where
+pub record HoldsBasic (table : DenseTable) (m : ℕ) (at : List Frac) : Type 0 where
   pub length_is : length at ≡ table.columns
   pub each : (j : ℕ) (f : Frac) → slice_get at j ≡ Some f → IsBasicNumber table m j f
 
 -- the list holds, for each of the first m rows, 1 less the artificial unknown's reduced cost in cost
 -- row 0, with the sign of the right side
-pub record HoldsDual (table : Table) (right : List ℤ) (m : ℕ) (dual : List Frac) : Type 0 where
+pub record HoldsDual (table : DenseTable) (right : List ℤ) (m : ℕ) (dual : List Frac) : Type 0 where
   pub length_is : length dual ≡ m
   pub each : (k : ℕ) (y x : Frac) → k < m → slice_get dual k ≡ Some y → cell table table.rows (table.columns + k) ≡ Some x
       → IsFraction y (sign_of (slice_index_or right k (pos 0)) *ℤ (x.den -ℤ x.num)) x.den
 
--- the end is optimal, with the basic solution and the basis of the table
-abbrev pub IsOptimum : Table → ℕ → Solved → Type 0
-IsOptimum table k (Optimal at basis pivots) = HoldsBasic table table.rows at.items × (basis.items ≡ table.basis.items) × (pivots ≡ k)
-IsOptimum table k (Infeasible dual pivots) = ⊥
-
--- the end is infeasible, with the dual of the table
-abbrev pub IsInfeasibility : Table → List ℤ → ℕ → Solved → Type 0
-IsInfeasibility table right k (Optimal at basis pivots) = ⊥
-IsInfeasibility table right k (Infeasible dual pivots) = HoldsDual table right table.rows dual.items × (pivots ≡ k)
-
--- the table shows a tableau with an entry over 0 in the column
-pub record HasCandidate (table : Table) (c : ℕ) : Type 0 where
-  pub p : LinearProgram
-  pub t : Tableau
-  pub shows : Shows p table t
-  pub row : ℕ
-  pub within : row < p.rows
-  pub candidate : is_candidate t c row ≡ true
-
--- the table is pivoted at the leaving row of the column
-pub record IsAdvanced (old new : Table) (c : ℕ) : Type 0 where
-  pub row : ℕ
-  pub pivoted : IsPivoted old new row c
-  pub best : (p : LinearProgram) (t : Tableau) → Shows p old t → IsBest p t c p.rows row
+-- the row is the best of the first m; no row, where none has an entry over 0
+abbrev pub IsBestOf : LinearProgram → Tableau → ℕ → ℕ → Option ℕ → Type 0
+IsBestOf p t c m None = (i : ℕ) → i < m → is_candidate t c i ≡ false
+IsBestOf p t c m (Some r) = IsBest p t c m r

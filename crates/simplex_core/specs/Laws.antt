@@ -3,6 +3,7 @@ use Rattle.std.specs.Prelude.{◌≡◌, ℕ, ℤ, pos, ◌*ℤ◌, ◌≤ℤ◌
 use Rattle.std.specs.declared.alloc.Global.{Global}
 use Rattle.frac128.specs.declared.frac.Frac.{Frac}
 use Rattle.int_laws.specs.Sums.{dot}
+use Rattle.simplex_core.specs.declared.problem.Solved.{Solved}
 use Rattle.simplex_core.specs.declared.problem.Solved.TheVariants.{Optimal, Infeasible}
 use Rattle.simplex_core.specs.LinearProgram.{LinearProgram, IsSolution, IsLeast, IsDual}
 use Rattle.simplex_core.specs.Outcome.{IsAnswer}
@@ -33,9 +34,16 @@ pub record LeastCostsLeast : Type 0 where
   pub second : (p : LinearProgram) (x : ℕ → ℤ) (d : ℤ) (y : ℕ → ℤ) (e : ℤ) → pos 0 <ℤ d → IsLeast p x d → IsSolution p y e
       → CostsTheSame p.columns p.first x d y e → CostsAtMost p.columns p.second x d y e
 
--- an answer that is `Optimal` says that there is a solution, and one that is `Infeasible` that there is none
+-- the end is `Infeasible`
+abbrev pub SaysInfeasible : Solved → Type 0
+SaysInfeasible (Optimal at basis k) = ⊥
+SaysInfeasible (Infeasible dual k) = Unit {0}
+
+-- an answer that is `Optimal` says that there is a solution, and one that is `Infeasible` that there is
+-- none; so where there is none and nothing trips, the answer is `Infeasible`
 pub record OutcomeTellsSolutions : Type 0 where
   pub optimal : (p : LinearProgram) (allowed : ℕ) (at : Vec Frac Global) (basis : Vec ℕ Global) (k : ℕ)
       → IsAnswer p allowed (Ok (Optimal at basis k)) → HasSolution p
   pub infeasible : (p : LinearProgram) (allowed : ℕ) (dual : Vec Frac Global) (k : ℕ)
       → IsAnswer p allowed (Ok (Infeasible dual k)) → ¬ HasSolution p
+  pub exactly : (p : LinearProgram) (allowed : ℕ) (s : Solved) → IsAnswer p allowed (Ok s) → ¬ HasSolution p → SaysInfeasible s

@@ -9,5 +9,7 @@ pub mod Places
 pub mod Cells
 pub mod Problem
 pub mod Outcome
+pub mod Showing
+pub mod Numbers
 pub mod Building
 pub mod Laws

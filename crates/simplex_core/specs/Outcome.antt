@@ -10,7 +10,7 @@ use Rattle.simplex_core.specs.declared.problem.SolveError.TheVariants.{Range, Bu
 use Rattle.simplex_core.specs.LinearProgram.{LinearProgram, IsSolution, IsLeast, IsDual}
 use Rattle.simplex_core.specs.Tableau.{Tableau, unknowns, cost_row}
 use Rattle.simplex_core.specs.Bland.{is_infeasible, entering, dual_of, next, tableau_at}
-use Rattle.simplex_core.specs.Problem.{table_size}
+use Rattle.simplex_core.specs.Problem.{table_size, widest}
 use Rattle.simplex_core.specs.Places.{InTable}
 
 -- in lowest terms, z over s has a numerator and a denominator below 2^31 in absolute value
@@ -97,11 +97,11 @@ IsTrip p allowed Memory = Unit {0}
 
 -- the answer that isn't an end: the table would be too wide, or it isn't and the sequence trips
 abbrev pub IsStop : LinearProgram → ℕ → SolveError → Type 0
-IsStop p allowed (Range k) = (table_size p ≤ 16000000) × IsTrip p allowed (Range k)
-IsStop p allowed (Budget k) = (table_size p ≤ 16000000) × IsTrip p allowed (Budget k)
-IsStop p allowed (Wide n) = (16000000 < table_size p) × (n ≡ table_size p)
+IsStop p allowed (Range k) = (table_size p ≤ widest) × IsTrip p allowed (Range k)
+IsStop p allowed (Budget k) = (table_size p ≤ widest) × IsTrip p allowed (Budget k)
+IsStop p allowed (Wide n) = (widest < table_size p) × (n ≡ table_size p)
 IsStop p allowed Memory = Unit {0}
 
 -- the answer of the sequence within the allowed pivots
 abbrev pub IsAnswer : LinearProgram → ℕ → Result Solved SolveError → Type 0
-IsAnswer p allowed result = MatchResult result (λ s. (table_size p ≤ 16000000) × IsEnd p allowed s) (IsStop p allowed)
+IsAnswer p allowed result = MatchResult result (λ s. (table_size p ≤ widest) × IsEnd p allowed s) (IsStop p allowed)

@@ -32,6 +32,10 @@ pub record IsProper (p : Problem) : Type 0 where
   pub second : length p.second.items ≡ p.cols
   pub costs : HasNonnegativeCosts (program_of p)
 
--- how many numbers the table of a program has: rows times unknowns, artificial unknowns and the right side
+-- how many numbers the equations of a program's table have: rows times unknowns, artificial unknowns and the right side
 abbrev pub table_size : LinearProgram → ℕ
 table_size p = p.rows * (p.columns + p.rows + 1)
+
+-- the most numbers that they may have
+abbrev pub widest : ℕ
+widest = 16000000

@@ -1,7 +1,7 @@
 //! Whether the numbers of a problem are below 2^31, before any sum is made of them.
 
 ghost use Rattle.std.specs.Prelude.{ℕ, MatchBool};
-ghost use Rattle.simplex_core.specs.Building.{AreBelow, IsOneAbove, AreEntriesBelow, IsOneEntryAbove};
+ghost use Rattle.simplex_core.specs.Numbers.{AreBelow, IsOneAbove, AreEntriesBelow, IsOneEntryAbove};
 
 use crate::problem::Entry;
 

@@ -3,12 +3,12 @@
 
 mod arithmetic;
 mod checking;
+mod dense_table;
 mod laws;
 mod problem;
 mod sequence;
+mod simplex_table;
 mod solving;
-mod start;
-mod table;
 #[cfg(test)]
 mod tests;
 

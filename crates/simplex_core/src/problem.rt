@@ -12,7 +12,7 @@ pub struct Problem {
     pub rows: u32,
     /// The number of unknowns.
     pub cols: u32,
-    /// The numbers that aren't 0, at most one for each row and column.
+    /// The numbers, at most one for each row and column; where none is given it is 0.
     pub entries: Vec<Entry>,
     /// The right sides, one for each row.
     pub right: Vec<i128>,
@@ -59,7 +59,7 @@ pub enum SolveError {
     /// Another pivot is needed, and the allowed ones are made.
     #[error("more than {pivots} pivots are needed")]
     Budget { pivots: u32 },
-    /// The table would have this many numbers, which is more than the limit.
+    /// The equations of the table would have this many numbers, which is more than the limit.
     #[error("a table of {entries} numbers is too wide")]
     Wide { entries: u64 },
     /// Memory ran out.

@@ -4,23 +4,22 @@ ghost use Rattle.std.specs.Prelude.{◌≡◌, ℕ, length, MatchResult};
 ghost use Rattle.simplex_core.specs.LinearProgram.{HasNonnegativeCosts};
 ghost use Rattle.simplex_core.specs.Tableau.{first_tableau};
 ghost use Rattle.simplex_core.specs.Problem.{program_of};
-ghost use Rattle.simplex_core.specs.Cells.{Shows};
 ghost use Rattle.simplex_core.specs.Outcome.{IsEnd, IsTrip};
 
 use crate::problem::{Problem, SolveError, Solved};
-use crate::table::Table;
+use crate::simplex_table::SimplexTable;
 use std::alloc::Global;
 
 /// Follows the sequence from the first tableau.
-pub(crate) fn run(
+pub(crate) fn run<T: SimplexTable + Drop>(
     alloc: Global,
     problem: &Problem,
-    table: Table,
+    table: T,
     pivots: u32,
 ) -> Result<Solved, SolveError>
     requires costs { HasNonnegativeCosts (program_of problem.now) }
     requires right { length problem.now.right.items ≡ problem.now.rows }
-    requires first { Shows (program_of problem.now) table (first_tableau (program_of problem.now)) }
+    requires first { T.shows (program_of problem.now) table (first_tableau (program_of problem.now)) }
     ensures { MatchResult result (IsEnd (program_of problem.now) pivots) (IsTrip (program_of problem.now) pivots) }
 {
     let mut table = table;
@@ -30,15 +29,22 @@ pub(crate) fn run(
             return Err(SolveError::Range { pivot: made });
         }
         if table.is_infeasible() {
-            return Ok(table.infeasibility(alloc, problem.right.as_slice(), made)?);
+            let dual = table.dual(alloc, problem.right.as_slice())?;
+            return Ok(Solved::Infeasible { dual, pivots: made });
         }
         let Some(column) = table.entering() else {
-            return Ok(table.optimum(alloc, made)?);
+            let at = table.solution(alloc)?;
+            let basis = table.basis(alloc)?;
+            return Ok(Solved::Optimal {
+                at,
+                basis,
+                pivots: made,
+            });
         };
         if made == pivots {
             return Err(SolveError::Budget { pivots });
         }
-        table.advance(column);
+        table.advance(alloc, column)?;
         made += 1;
     }
 }

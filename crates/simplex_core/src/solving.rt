@@ -3,16 +3,16 @@
 ghost use Rattle.std.specs.Prelude.{MatchBool};
 ghost use Rattle.simplex_core.specs.Tableau.{first_tableau};
 ghost use Rattle.simplex_core.specs.Problem.{program_of, IsProper};
-ghost use Rattle.simplex_core.specs.Building.{HasSmallNumbers};
+ghost use Rattle.simplex_core.specs.Numbers.{HasSmallNumbers};
 ghost use Rattle.simplex_core.specs.Outcome.{IsInRange, IsAnswer};
 
 use crate::checking::{are_below, are_entries_below};
+use crate::dense_table::first_table;
 use crate::problem::{Problem, SolveError, Solved};
 use crate::sequence::run;
-use crate::start::first_table;
 use std::alloc::Global;
 
-/// The most numbers that a table may have.
+/// The most numbers that the equations of a table may have.
 const WIDEST: u64 = 16_000_000;
 
 /// Whether the numbers of a problem are below 2^31; else the first tableau is out of range.
@@ -32,12 +32,15 @@ fn has_small_numbers(problem: &Problem) -> bool
     are_below(problem.second.as_slice())
 }
 
+/// Condition: rows and columns are below 2^31, entries lie inside the table and no place has two, and there is a right
+/// side for each row and two costs at least 0 for each column.
+///
 /// Follows Bland's sequence of tableaux, which starts with artificial unknowns, for at most `pivots`
 /// pivots. `Optimal` is a solution of least cost, first by the first costs and then by the second
 /// (`least_costs_least` says what that is): the last basic solution, with 0 for each unknown that no row
 /// is solved for. `Infeasible` comes exactly where there is no solution and nothing trips
 /// (`outcome_tells_solutions`), with a dual that shows it (`dual_excludes_solutions`).
-/// `Wide` comes before all where the table would have more than 16,000,000 numbers; `Range` at the
+/// `Wide` comes before all where the equations of the table would have more than 16,000,000 numbers; `Range` at the
 /// first tableau with a number out of range; `Budget` where the allowed pivots are made and another is
 /// needed; `Memory` where memory runs out. Source: R. G. Bland, New finite pivoting rules for the
 /// simplex method, 1977.

@@ -349,19 +349,25 @@ fn plain(alloc: Global, problem: &Problem, pivots: u32) -> Option<Result<Solved,
     None
 }
 
+// The program of a number below 512: the first half have two columns, the others three.
+fn numbered(alloc: Global, number: u32) -> Option<Problem> {
+    if number < 256 {
+        coded(alloc, number, 2)
+    } else {
+        coded(alloc, number.checked_mul(16)?.checked_sub(4_089)?, 3)
+    }
+}
+
 #[test]
 fn small_programs_are_solved_as_the_definition_says(rt: HostRuntime) -> Result<(), Fail> {
     let alloc = rt.alloc();
-    for number in 0..512u32 {
-        let (code, cols) = if number < 256 {
-            (number, 2)
-        } else {
-            (number * 16 - 4_089, 3)
-        };
-        let problem = coded(alloc, code, cols).ok_or("no such program")?;
-        let got = solved(&rt, alloc, &problem, 2);
-        let want = plain(alloc, &problem, 2).ok_or("no answer by the definition")?;
-        assert_eq!(rt; got, want, "program {code} with {cols} columns");
+    for number in 0..512 {
+        let problem = numbered(alloc, number).ok_or("no such program")?;
+        for pivots in [0, 1, 2, 40] {
+            let got = solved(&rt, alloc, &problem, pivots);
+            let want = plain(alloc, &problem, pivots).ok_or("no answer by the definition")?;
+            assert_eq!(rt; got, want, "program {number} within {pivots} pivots");
+        }
     }
     Ok(())
 }

@@ -1,7 +1,7 @@
 //! The worked programs, solved and compared.
 
 use super::proper::is_proper;
-use super::tables::{Answer, CHOICES, Row, SMALL};
+use super::tables::{Answer, CHOICES, EXTREMES, Row, SMALL};
 use crate::problem::{Entry, Problem, SolveError, Solved};
 use crate::solving::solve;
 use Answer::{Budget, Infeasible, Optimal, Range};
@@ -112,6 +112,11 @@ fn small_programs_have_their_answers(rt: HostRuntime) -> Result<(), Fail> {
 #[test]
 fn ties_and_limits_are_decided_by_the_rules(rt: HostRuntime) -> Result<(), Fail> {
     compare_all(&rt, rt.alloc(), &CHOICES)
+}
+
+#[test]
+fn extreme_numbers_are_out_of_range_at_the_start(rt: HostRuntime) -> Result<(), Fail> {
+    compare_all(&rt, rt.alloc(), &EXTREMES)
 }
 
 #[test]

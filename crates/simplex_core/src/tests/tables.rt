@@ -316,3 +316,47 @@ pub(super) const CHOICES: [Row; 28] = [
         answer: Infeasible(&[(1, 1), (-1, 1)], 0),
     },
 ];
+
+// Programs with the least and the greatest numbers, which are out of range before any sum is made of them.
+pub(super) const EXTREMES: [Row; 5] = [
+    Row {
+        equations: &[&[i128::MAX], &[i128::MAX]],
+        right: &[1, 1],
+        first: &[0],
+        second: &[0],
+        pivots: 9,
+        answer: Range(0),
+    },
+    Row {
+        equations: &[&[i128::MIN, 1]],
+        right: &[-1],
+        first: &[0, 0],
+        second: &[0, 0],
+        pivots: 0,
+        answer: Range(0),
+    },
+    Row {
+        equations: &[&[1]],
+        right: &[i128::MIN],
+        first: &[0],
+        second: &[0],
+        pivots: 9,
+        answer: Range(0),
+    },
+    Row {
+        equations: &[&[1]],
+        right: &[0],
+        first: &[i128::MAX],
+        second: &[0],
+        pivots: 9,
+        answer: Range(0),
+    },
+    Row {
+        equations: &[&[1]],
+        right: &[0],
+        first: &[0],
+        second: &[i128::MAX],
+        pivots: 0,
+        answer: Range(0),
+    },
+];

@@ -1,40 +1,47 @@
-use Rattle.std.proofs.Common.{◌≡◌, ℕ, ap, arith, sym, ◌∙◌, subst, refl, length, List, Some, None, true, false}
-use Rattle.std.specs.Prelude.{ℤ, pos, slice_index_or}
+use Rattle.std.proofs.Common.{◌≡◌, arith, sym, ◌∙◌, subst, refl, Some, None, true, false}
+use Rattle.std.specs.Prelude.{ℕ}
 use Rattle.simplex_core.specs.Problem.{program_of}
+use Rattle.simplex_core.specs.Tableau.{pivot}
 use Rattle.simplex_core.specs.Bland.{is_infeasible, entering}
 use Rattle.simplex_core.specs.Outcome.{TripsBudget}
-use Rattle.simplex_core.proofs.Running.{range-trips, entering-within, entering-candidate, budget-trips, advanced, optimum-ends, infeasibility-ends}
-use Rattle.simplex_core.proofs.ProgramFields.{program-rows, program-right}
+use Rattle.simplex_core.proofs.Running.{entering-candidate, budget-trips, advanced}
+use Rattle.simplex_core.proofs.EndsShown.{optimum-ends, infeasibility-ends}
+use Rattle.simplex_core.proofs.ProgramFields.{sides-read}
 use Rattle.simplex_core.proofs.sequence.run.Goals as goal
 
-pub returns-then-not-is_in_range : goal.returns-then-not-is_in_range
-returns-then-not-is_in_range c =
+pub dual-requires : goal.dual-requires
+dual-requires g c =
+    let p = program_of c.args.problem.now in
     let inv = c.pivoting.invariant in
-    range-trips (program_of c.args.problem.now) c.pivoting.table inv.last c.args.pivots c.pivoting.made inv.shows inv.reached inv.within c.if-not-is_in_range.ensures
-
-pub infeasibility-requires-clause-right : goal.infeasibility-requires-clause-right
-infeasibility-requires-clause-right c =
-    ap length c.as_slice.ensures.value ∙ (c.requires.right ∙ sym (c.pivoting.invariant.shows.rows ∙ program-rows c.args.problem.now))
+    record {
+      p = p;
+      t = inv.last;
+      shown = inv.shows;
+      in_range = c.if-not-is_in_range.ensures.each p inv.last inv.shows;
+      sides = sides-read c.args.problem.now c.as_slice.result.now c.requires.right c.as_slice.ensures.value;
+    }
 
 pub returns-then-is_infeasible : goal.returns-then-is_infeasible
-returns-then-is_infeasible c =
+returns-then-is_infeasible g c =
     let p = program_of c.args.problem.now in
     let inv = c.pivoting.invariant in
     let ends : is_infeasible p inv.last ≡ true = sym (c.is_infeasible.ensures p inv.last inv.shows) ∙ c.if-is_infeasible.true in
-    infeasibility-ends p c.pivoting.table inv.last c.as_slice.result.now c.args.pivots c.pivoting.made c.in_ok-infeasibility.field-0 inv.shows inv.reached inv.within
-    c.if-not-is_in_range.ensures ends (λ i. ap (λ (xs : List ℤ). slice_index_or xs i (pos 0)) c.as_slice.ensures.value ∙ sym (program-right c.args.problem.now i))
-    c.in_ok-infeasibility.ensures
+    let sides = sides-read c.args.problem.now c.as_slice.result.now c.requires.right c.as_slice.ensures.value in
+    infeasibility-ends p inv.last c.args.pivots c.pivoting.made c.in_ok-dual.dual.items inv.reached inv.within (c.if-not-is_in_range.ensures.each p inv.last inv.shows) ends
+    (c.in_ok-dual.ensures.each p inv.last inv.shows sides)
 
 pub returns-in_default : goal.returns-in_default
-returns-in_default c =
+returns-in_default g c =
     let p = program_of c.args.problem.now in
     let inv = c.pivoting.invariant in
     let feasible : is_infeasible p inv.last ≡ false = sym (c.is_infeasible.ensures p inv.last inv.shows) ∙ c.if-is_infeasible.false in
     let done : entering p inv.last ≡ None = sym (c.entering.ensures p inv.last inv.shows) ∙ c.in_default.is in
-    optimum-ends p c.pivoting.table inv.last c.args.pivots c.pivoting.made c.in_ok-optimum.field-0 inv.shows inv.reached inv.within c.if-not-is_in_range.ensures feasible done c.in_ok-optimum.ensures
+    optimum-ends p inv.last c.args.pivots c.pivoting.made c.in_ok-at.at.items c.in_ok-basis.basis.items inv.reached inv.within
+    (c.if-not-is_in_range.ensures.each p inv.last inv.shows) feasible done
+    (c.in_ok-at.ensures.each p inv.last inv.shows) (c.in_ok-basis.ensures.each p inv.last inv.shows)
 
 pub returns-then-made-pivots : goal.returns-then-made-pivots
-returns-then-made-pivots c =
+returns-then-made-pivots g c =
     let p = program_of c.args.problem.now in
     let inv = c.pivoting.invariant in
     let feasible : is_infeasible p inv.last ≡ false = sym (c.is_infeasible.ensures p inv.last inv.shows) ∙ c.if-is_infeasible.false in
@@ -42,28 +49,37 @@ returns-then-made-pivots c =
     let all : c.pivoting.made ≡ c.args.pivots = omega arith in (
       refl,
       subst (λ (k : ℕ). TripsBudget p k) all
-          (budget-trips p c.pivoting.table inv.last c.pivoting.made c.in-Some.column c.requires.costs inv.shows inv.reached c.if-not-is_in_range.ensures feasible enters),
+          (budget-trips p inv.last c.pivoting.made c.in-Some.column c.requires.costs inv.reached (c.if-not-is_in_range.ensures.each p inv.last inv.shows) feasible enters),
     )
 
-pub advance-requires-clause-column : goal.advance-requires-clause-column
-advance-requires-clause-column c =
+pub advance-requires : goal.advance-requires
+advance-requires g c =
     let p = program_of c.args.problem.now in
     let inv = c.pivoting.invariant in
     let enters : entering p inv.last ≡ Some c.in-Some.column = sym (c.entering.ensures p inv.last inv.shows) ∙ c.in-Some.is in
-    entering-within p c.pivoting.table inv.last c.in-Some.column inv.shows enters
-
-pub advance-requires-clause-candidate : goal.advance-requires-clause-candidate
-advance-requires-clause-candidate c =
-    let p = program_of c.args.problem.now in
-    let inv = c.pivoting.invariant in
-    let enters : entering p inv.last ≡ Some c.in-Some.column = sym (c.entering.ensures p inv.last inv.shows) ∙ c.in-Some.is in
-    entering-candidate p c.pivoting.table inv.last c.pivoting.made c.in-Some.column c.requires.costs inv.shows inv.reached enters
+    let found = entering-candidate p inv.last c.pivoting.made c.in-Some.column c.requires.costs inv.reached enters in
+    record {
+      p = p;
+      t = inv.last;
+      shown = inv.shows;
+      in_range = c.if-not-is_in_range.ensures.each p inv.last inv.shows;
+      column = found.column;
+      row = found.row;
+      within = found.within;
+      candidate = found.candidate;
+    }
 
 pub pivoting-preserved : goal.pivoting-preserved
-pivoting-preserved c =
+pivoting-preserved g c =
     let p = program_of c.args.problem.now in
     let inv = c.pivoting.invariant in
     let feasible : is_infeasible p inv.last ≡ false = sym (c.is_infeasible.ensures p inv.last inv.shows) ∙ c.if-is_infeasible.false in
     let enters : entering p inv.last ≡ Some c.in-Some.column = sym (c.entering.ensures p inv.last inv.shows) ∙ c.in-Some.is in
-    let round = advanced p c.pivoting.table c.advance.new.self inv.last c.pivoting.made c.in-Some.column inv.shows inv.reached c.if-not-is_in_range.ensures feasible enters c.advance.ensures in
-    record { within = let w = inv.within in omega arith; last = round.last; shows = round.shows; reached = round.reached }
+    let step = c.in_ok-advance.ensures in
+    record {
+      within = let w = inv.within in omega arith;
+      last = pivot inv.last step.row c.in-Some.column;
+      shows = step.pivoted p inv.last inv.shows;
+      reached = advanced p inv.last c.pivoting.made c.in-Some.column step.row inv.reached (c.if-not-is_in_range.ensures.each p inv.last inv.shows) feasible enters
+          (step.best p inv.last inv.shows);
+    }

@@ -1,7 +1,7 @@
 use Rattle.std.proofs.Common.{List, subst}
 use Rattle.std.specs.Prelude.{ℤ}
 use Rattle.simplex_core.specs.declared.problem.Entry.{Entry}
-use Rattle.simplex_core.specs.Building.{AreBelow, AreEntriesBelow, IsOneAbove, IsOneEntryAbove, HasSmallNumbers}
+use Rattle.simplex_core.specs.Numbers.{AreBelow, AreEntriesBelow, IsOneAbove, IsOneEntryAbove, HasSmallNumbers}
 use Rattle.simplex_core.specs.Outcome.{IsInRange}
 use Rattle.simplex_core.specs.Problem.{program_of}
 use Rattle.simplex_core.specs.Tableau.{first_tableau}

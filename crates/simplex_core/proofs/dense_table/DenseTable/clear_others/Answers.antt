@@ -1,0 +1,33 @@
+use Rattle.std.proofs.Common.{◌≢◌, arith, ◌∙◌}
+use Rattle.simplex_core.proofs.CellLaws.{IsRowBelow-same, KeepsRow-more, cleared-step}
+use Rattle.simplex_core.proofs.dense_table.DenseTable.clear_others.Goals as goal
+
+pub clear_by-requires-clause-small : goal.clear_by-requires-clause-small
+clear_by-requires-clause-small c apart =
+    let kept = c.loop-row.invariant.kept in
+    let within = c.loop-row-test.true in
+    IsRowBelow-same 31 c.args.self.now c.loop-row.self c.loop-row.row kept.rows kept.columns
+    (λ j l. c.loop-row.invariant.rest c.loop-row.row j (omega arith) l)
+    (c.requires.small c.loop-row.row apart (omega arith))
+
+pub clear_by-requires-clause-bounded : goal.clear_by-requires-clause-bounded
+clear_by-requires-clause-bounded c =
+    let kept = c.loop-row.invariant.kept in
+    IsRowBelow-same 62 c.args.self.now c.loop-row.self c.args.pivot kept.rows kept.columns kept.row c.requires.bounded
+
+pub loop-row-preserved : goal.loop-row-preserved
+loop-row-preserved c =
+    let first = c.args.self.now in
+    let before = c.loop-row.self in
+    let kept = c.loop-row.invariant.kept in
+    let rows = kept.rows in
+    let columns = kept.columns in
+    let changes = c.clear_by.ensures.changes in
+    record {
+      kept = KeepsRow-more first before _ c.args.pivot c.loop-row.row kept changes c.clear_by.ensures.pivot_row;
+      rest = λ i j l w.
+          let apart : i ≢ c.loop-row.row = omega arith in
+          changes.others i j apart (omega (arith, rows, columns, w)) ∙ c.loop-row.invariant.rest i j (omega arith) w;
+      done = cleared-step first before _ c.args.pivot c.args.column c.loop-row.row (let l = c.requires.column in omega arith) kept changes
+          c.loop-row.invariant.rest c.loop-row.invariant.done c.clear_by.ensures.cleared;
+    }

@@ -1,0 +1,29 @@
+use Rattle.std.proofs.Common.{rules, arith, ◌∙◌, subst, get_or}
+use Rattle.std.specs.Int.{w128}
+use Rattle.std.specs.Prelude.{ℤ, pos, ◌*ℤ◌, FitsSigned, slice_index_or}
+use Rattle.std.proofs.lemmas.Int.{to_z-of_z}
+use Rattle.std.proofs.lemmas.Option.{slice_get-get_or}
+use Rattle.simplex_core.specs.declared.problem.Entry.{Entry}
+use Rattle.simplex_core.specs.Tableau.{sign_of}
+use Rattle.simplex_core.specs.Building.{WritesWhole}
+use Rattle.simplex_core.proofs.Filling.{entries-step}
+use Rattle.simplex_core.proofs.dense_table.DenseTable.write_entries.Goals as goal
+
+pub loop-place-preserved : goal.loop-place-preserved
+loop-place-preserved c =
+    let inv = c.loop-place.invariant in
+    let entries = c.args.entries.now in
+    let right = c.args.right.now in
+    let place = c.loop-place.place in
+    let none : Entry = record { row = 0; col = 0; value = pos 0 } in
+    let e = get_or entries place none in
+    let within = c.loop-place-test.true in
+    let is = slice_get-get_or entries place none (omega arith) in
+    let fits : FitsSigned w128 (slice_index_or right e.row (pos 0)) = search rules in
+    let value = to_z-of_z w128 (slice_index_or right e.row (pos 0)) fits in
+    let written = subst (λ (z : ℤ). WritesWhole c.loop-place.self c.write_entry.new.self e.row e.col (sign_of z *ℤ e.value)) value c.write_entry.ensures in
+    let changes = c.write_entry.ensures.changes in
+    record {
+      shape = record { rows = changes.rows ∙ inv.shape.rows; columns = changes.columns ∙ inv.shape.columns; basis = changes.basis ∙ inv.shape.basis };
+      whole = entries-step c.args.self.now.rows c.args.self.now.columns c.loop-place.self c.write_entry.new.self entries right place e c.requires.placed is inv.whole written;
+    }

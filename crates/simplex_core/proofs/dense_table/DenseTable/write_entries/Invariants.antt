@@ -1,0 +1,10 @@
+use Rattle.std.proofs.Common.{take}
+use Rattle.simplex_core.specs.Building.{HoldsWhole, KeepsShape, signed_entries}
+use Rattle.simplex_core.proofs.dense_table.DenseTable.write_entries.Given as goal
+
+-- the entries before this one are written
+abbrev pub invariant-loop-place : goal.invariant-loop-place
+invariant-loop-place l = record {
+  shape : KeepsShape l.fn.self l.self;
+  whole : HoldsWhole l.self (signed_entries (take l.place l.entries) l.right);
+}

@@ -1,0 +1,128 @@
+//! The entering column, and the end as infeasible.
+
+ghost use Rattle.std.specs.Prelude.{◌≡◌, ◌+◌, ◌<◌, pos, int_lt, nat_le, not, ◌&&◌};
+ghost use Rattle.int_laws.specs.NormalForm.{is_zero};
+ghost use Rattle.simplex_core.specs.LinearProgram.{LinearProgram};
+ghost use Rattle.simplex_core.specs.Tableau.{Tableau, unknowns, cost_row};
+ghost use Rattle.simplex_core.specs.Search.{least, every, some};
+ghost use Rattle.simplex_core.specs.Bland.{may_enter, entering, is_infeasible};
+ghost use Rattle.simplex_core.specs.Cells.{width, Shows};
+
+use crate::dense_table::DenseTable;
+
+impl DenseTable {
+    /// The entering column, if one may enter.
+    pub(super) fn entering_column(&self) -> Option<usize>
+        ensures { (p : LinearProgram) (t : Tableau) → Shows p self.now t → result ≡ entering p t }
+    {
+        match self.least_entering(0) {
+            Some(column) => Some(column),
+            None => match self.least_entering(1) {
+                Some(column) => Some(column),
+                None => self.least_entering(2),
+            },
+        }
+    }
+
+    /// The least column that may enter by a cost row.
+    fn least_entering(&self, cost: usize) -> Option<usize>
+        requires { cost < 3 }
+        ensures { (p : LinearProgram) (t : Tableau) → Shows p self.now t → result ≡ least p.columns (may_enter p t cost) }
+    {
+        for column in 0..self.columns {
+            if self.may_enter(cost, column) {
+                return Some(column);
+            }
+        }
+        None
+    }
+
+    /// Whether a column may enter by a cost row.
+    fn may_enter(&self, cost: usize, column: usize) -> bool
+        requires cost { cost < 3 }
+        requires column { column < self.now.columns }
+        ensures { (p : LinearProgram) (t : Tableau) → Shows p self.now t → result ≡ may_enter p t cost column }
+    {
+        for before in 0..cost {
+            if !self.is_zero_at(self.rows + before, column) {
+                return false;
+            }
+        }
+        self.is_negative_at(self.rows + cost, column)
+    }
+
+    /// Whether the sequence ends as infeasible.
+    pub(super) fn ends_infeasibly(&self) -> bool
+        ensures { (p : LinearProgram) (t : Tableau) → Shows p self.now t → result ≡ is_infeasible p t }
+    {
+        if !self.has_no_negative() {
+            return false;
+        }
+        self.has_artificial()
+    }
+
+    /// Whether no column of the program has a negative number in cost row 0.
+    fn has_no_negative(&self) -> bool
+        ensures { (p : LinearProgram) (t : Tableau) → Shows p self.now t
+            → result ≡ every p.columns (λ j. not (int_lt (t.entry (cost_row p 0) j) (pos 0))) }
+    {
+        for column in 0..self.columns {
+            if self.is_negative_at(self.rows, column) {
+                return false;
+            }
+        }
+        true
+    }
+
+    /// Whether an artificial unknown is over 0.
+    fn has_artificial(&self) -> bool
+        ensures { (p : LinearProgram) (t : Tableau) → Shows p self.now t
+            → result ≡ some p.rows (λ i. nat_le p.columns (t.basis i) && int_lt (pos 0) (t.entry i (unknowns p))) }
+    {
+        for row in 0..self.rows {
+            if self.is_artificial_over_zero(row) {
+                return true;
+            }
+        }
+        false
+    }
+
+    /// Whether a row is solved for an artificial unknown, and that is over 0.
+    fn is_artificial_over_zero(&self, row: usize) -> bool
+        requires { row < self.now.rows }
+        ensures { (p : LinearProgram) (t : Tableau) → Shows p self.now t
+            → result ≡ (nat_le p.columns (t.basis row) && int_lt (pos 0) (t.entry row (unknowns p))) }
+    {
+        if (self.basis[row] as usize) < self.columns {
+            return false;
+        }
+        self.is_positive_at(row, self.columns + self.rows)
+    }
+
+    /// Whether a number is below 0.
+    fn is_negative_at(&self, row: usize, column: usize) -> bool
+        requires row { row < self.now.rows + 3 }
+        requires column { column < self.now.columns }
+        ensures { (p : LinearProgram) (t : Tableau) → Shows p self.now t → result ≡ int_lt (t.entry row column) (pos 0) }
+    {
+        self.at(row, column).num < 0
+    }
+
+    /// Whether a number is 0.
+    fn is_zero_at(&self, row: usize, column: usize) -> bool
+        requires row { row < self.now.rows + 3 }
+        requires column { column < self.now.columns }
+        ensures { (p : LinearProgram) (t : Tableau) → Shows p self.now t → result ≡ is_zero (t.entry row column) }
+    {
+        self.at(row, column).num == 0
+    }
+
+    /// Whether a number of an equation, or its right side, is over 0.
+    pub(super) fn is_positive_at(&self, row: usize, column: usize) -> bool
+        requires row { row < self.now.rows }
+        requires column { column < width self.now }
+        ensures { (p : LinearProgram) (t : Tableau) → Shows p self.now t → result ≡ int_lt (pos 0) (t.entry row column) }
+    {
+        self.at(row, column).num > 0
+    }
+}

@@ -1,0 +1,34 @@
+//! Whether the numbers are in range.
+
+ghost use Rattle.std.specs.Prelude.{◌+◌, ◌<◌, MatchBool};
+ghost use Rattle.simplex_core.specs.Cells.{AreSmall, IsRowBelow, HasLarge};
+
+use crate::arithmetic::is_small;
+use crate::dense_table::DenseTable;
+
+impl DenseTable {
+    /// Whether all numbers are below 2^31.
+    pub(super) fn are_rows_small(&self) -> bool
+        ensures { MatchBool result (AreSmall self.now) (HasLarge self.now) }
+    {
+        for row in 0..self.rows + 3 {
+            if !self.is_row_small(row) {
+                return false;
+            }
+        }
+        true
+    }
+
+    /// Whether a row's numbers are below 2^31.
+    fn is_row_small(&self, row: usize) -> bool
+        requires { row < self.now.rows + 3 }
+        ensures { MatchBool result (IsRowBelow 31 self.now row) (HasLarge self.now) }
+    {
+        for column in 0..self.row_len(row) {
+            if !is_small(self.at(row, column)) {
+                return false;
+            }
+        }
+        true
+    }
+}

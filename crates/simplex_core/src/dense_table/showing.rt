@@ -1,0 +1,45 @@
+//! The dense table as a table of the method.
+
+use crate::dense_table::DenseTable;
+use crate::simplex_table::SimplexTable;
+use frac128::Frac;
+use std::alloc::{AllocError, Global};
+
+impl SimplexTable for DenseTable {
+    ghost use Rattle.simplex_core.specs.Cells.{Shows};
+
+    ghost shows = { Shows };
+
+    fn is_in_range(&self) -> bool {
+        self.are_rows_small()
+    }
+
+    fn is_infeasible(&self) -> bool {
+        self.ends_infeasibly()
+    }
+
+    fn entering(&self) -> Option<usize> {
+        self.entering_column()
+    }
+
+    /// As the trait says. It takes no memory.
+    fn advance(&mut self, _alloc: Global, column: usize) -> Result<(), AllocError> {
+        let Some(row) = self.leaving_row(column) else {
+            unreachable!()
+        };
+        self.pivot(row, column);
+        Ok(())
+    }
+
+    fn solution(&self, alloc: Global) -> Result<Vec<Frac>, AllocError> {
+        self.basic_numbers(alloc)
+    }
+
+    fn basis(&self, alloc: Global) -> Result<Vec<u32>, AllocError> {
+        Vec::from_slice(alloc, self.basis.as_slice())
+    }
+
+    fn dual(&self, alloc: Global, right: &[i128]) -> Result<Vec<Frac>, AllocError> {
+        self.dual_numbers(alloc, right)
+    }
+}

@@ -1,0 +1,51 @@
+//! What the method sees of its table.
+
+ghost use Rattle.std.specs.Prelude.{◌≡◌, ℕ, MatchBool, IfOk};
+ghost use Rattle.simplex_core.specs.LinearProgram.{LinearProgram};
+ghost use Rattle.simplex_core.specs.Tableau.{Tableau};
+ghost use Rattle.simplex_core.specs.Bland.{is_infeasible, entering};
+ghost use Rattle.simplex_core.specs.Showing.{ShowsInRange, ShowsOutOfRange, MayPivot, IsAdvanced, MayGiveDual, GivesSolution, GivesBasis, GivesDual};
+
+use frac128::Frac;
+use std::alloc::{AllocError, Global};
+
+/// A table of numbers that shows a tableau: its tests, Bland's choice and pivot, and what is read off it
+/// at an end. The method is written over it and rests on its clauses alone, so they leave open how the
+/// numbers are kept.
+///
+/// Its meaning is `shows`: the numbers and the basis are those of this tableau, and the sizes those of this
+/// linear program. A tableau is told up to the scales of its rows, so it is a relation.
+pub(crate) trait SimplexTable {
+    ghost shows: { LinearProgram → Self → Tableau → Type 0 };
+
+    /// Whether each number is in range: in lowest terms its numerator and denominator are below 2^31.
+    fn is_in_range(&self) -> bool
+        ensures { MatchBool result (ShowsInRange shows self.now) (ShowsOutOfRange shows self.now) };
+
+    /// Whether the sequence ends as infeasible.
+    fn is_infeasible(&self) -> bool
+        ensures { (p : LinearProgram) (t : Tableau) → shows p self.now t → result ≡ is_infeasible p t };
+
+    /// The entering column, if one may enter.
+    fn entering(&self) -> Option<usize>
+        ensures { (p : LinearProgram) (t : Tableau) → shows p self.now t → result ≡ entering p t };
+
+    /// Pivots at the leaving row of the entering column. Error: memory ran out; the table is then open.
+    fn advance(&mut self, alloc: Global, column: usize) -> Result<(), AllocError>
+        requires { MayPivot shows self.old column }
+        ensures { IfOk result (λ _. IsAdvanced shows self.old self.new column) };
+
+    /// The basic solution, one number for each column of the program. Error: memory ran out.
+    fn solution(&self, alloc: Global) -> Result<Vec<Frac>, AllocError>
+        ensures { IfOk result (λ at. GivesSolution shows self.now at.items) };
+
+    /// The columns of the basis, one for each row. Error: memory ran out.
+    fn basis(&self, alloc: Global) -> Result<Vec<u32>, AllocError>
+        ensures { IfOk result (λ basis. GivesBasis shows self.now basis.items) };
+
+    /// The dual at an end as infeasible, one number for each row, from the program's right sides. Error:
+    /// memory ran out.
+    fn dual(&self, alloc: Global, right: &[i128]) -> Result<Vec<Frac>, AllocError>
+        requires { MayGiveDual shows self.now right.now }
+        ensures { IfOk result (λ dual. GivesDual shows self.now right.now dual.items) };
+}
