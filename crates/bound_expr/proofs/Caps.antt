@@ -1,14 +1,8 @@
 -- Sums, products and powers up to a limit: capping the operands changes nothing.
-use Rattle.std.proofs.Common.{◌≡◌, ℕ, zero, suc, ◌+◌, ◌*◌, ◌^◌, ◌/◌, ◌%◌, ◌<◌, ◌≤◌, min, max, refl, ap, sym, ◌∙◌, inl, inr, arith}
+use Rattle.std.proofs.Common.{◌≡◌, ℕ, zero, suc, ◌+◌, ◌*◌, ◌^◌, ◌/◌, ◌%◌, ◌<◌, ◌≤◌, min, refl, ap, sym, ◌∙◌, inl, inr, arith}
 use Rattle.std.proofs.Math.Nat.{mul-le-mul, mul_assoc, pow-suc, pow-zero}
 use Rattle.std.proofs.lemmas.Bool.{cases_lt}
 use Rattle.std.proofs.lemmas.Nat.{pow-add}
-
-pub min-add : (a b limit : ℕ) → min (min a limit + min b limit) limit ≡ min (a + b) limit
-min-add a b limit = omega arith
-
-pub min-max : (a b limit : ℕ) → max (min a limit) (min b limit) ≡ min (max a b) limit
-min-max a b limit = omega arith
 
 le-mul : (a b c d : ℕ) → a ≤ c → b ≤ d → a * b ≤ c * d
 le-mul a b c d = mul-le-mul
@@ -70,10 +64,6 @@ pow-halves c n =
 
 pub pow-one : (c : ℕ) → c ^ 1 ≡ c
 pow-one c = pow-suc c 0 ∙ ap (λ (v : ℕ). v * c) (power_zero c) ∙ omega arith
-
--- capping twice is capping once
-pub min-min : (a limit : ℕ) → min (min a limit) limit ≡ min a limit
-min-min a limit = omega arith
 
 -- a capped factor on the left changes nothing
 pub min-mul_left : (a b limit : ℕ) → min (min a limit * b) limit ≡ min (a * b) limit

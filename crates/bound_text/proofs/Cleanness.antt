@@ -46,7 +46,7 @@ item_kept n (Exponent c) b k = k
 item_kept n Factor b k = (tt, k)
 
 -- what is kept behind a piece was kept before it, and so is the piece
-pub keeps_back : (n : ℕ) (f g : Front) (piece : Piece) → Leads f piece g → nodes_of g ≤ 4096 → KeptFront n g → KeptFront n f × KeptPiece n piece
+pub keeps_back : (n : ℕ) (f g : Front) (piece : Piece) → Leads f piece g → nodes_of g < 2 ^ 127 → KeptFront n g → KeptFront n f × KeptPiece n piece
 keeps_back n f g piece (of_variable o ts fs i) m k = let t = kept-less n fs (Input i) k.factors in (kept_front n o ts fs Begins k.outer k.terms t.0 tt, t.1)
 keeps_back n f g piece (of_number o ts fs c) m k = let t = kept-less n fs (Constant c) k.factors in (kept_front n o ts fs Begins k.outer k.terms t.0 tt, t.1)
 keeps_back n f g piece (of_greatest o ts fs) m k = (kept_front n o ts fs Begins k.outer.3 k.outer.1 k.outer.2 tt, tt)
@@ -183,7 +183,7 @@ clean names (l ∷ ls) at done f last_one led walked whole kept shallow small = 
     go (Some g) e w ih =
         let c = ih g (one_more done f l.piece led ∙ e) w in
         let leads = step_leads f g l.piece (walk_read done f led).is_front e in
-        let b = keeps_back (length names) f g l.piece leads c.nodes c.kept in
+        let b = keeps_back (length names) f g l.piece leads (omega (arith, c.nodes)) c.kept in
         let grown = grows f g l.piece leads in
         record {
           kept = b.0;

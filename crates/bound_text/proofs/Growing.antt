@@ -116,52 +116,52 @@ le_right : (a b c : ℕ) → a ≤ c → a ≤ max b c
 le_right a b c h = omega arith
 
 -- the levels in a bracket are those of its item, as a factor of the product round it
-close_levels : (LR A S P P2 T1 F1 F2 B K T N F I : ℕ) → P2 ≡ P → F2 ≡ max F1 I → I ≡ 1 + max B (K + max T (N + F))
-    → max (max LR (max (A + S + T1) (max (A + S + P + F1) (A + S + P + 1 + B)))) (max (A + S + P + 1 + K + T) (A + S + P + 1 + K + N + max F 0)) ≤ max LR (max (A + S + T1) (A + S + P2 + max F2 0))
-close_levels LR A S P P2 T1 F1 F2 B K T N F I p f i =
+close_levels : (LR A S P PB TA FA FB B K T N F I : ℕ) → PB ≡ P → FB ≡ max FA I → I ≡ 1 + max B (K + max T (N + F))
+    → max (max LR (max (A + S + TA) (max (A + S + P + FA) (A + S + P + 1 + B)))) (max (A + S + P + 1 + K + T) (A + S + P + 1 + K + N + max F 0)) ≤ max LR (max (A + S + TA) (A + S + PB + max FB 0))
+close_levels LR A S P PB TA FA FB B K T N F I p f i =
     max_le _ _ _
-    (max_le LR _ _ (le_left LR LR _ (omega arith)) (max_le (A + S + T1) _ _ (le_right _ LR _ (le_left (A + S + T1) (A + S + T1) _ (omega arith)))
-    (max_le (A + S + P + F1) (A + S + P + 1 + B) _ (le_right _ LR _ (le_right _ (A + S + T1) _ (factor F1 (omega (arith, f))))) (le_right _ LR _ (le_right _ (A + S + T1) _ (item (1 + B) (omega (arith, i))))))))
-    (max_le (A + S + P + 1 + K + T) (A + S + P + 1 + K + N + max F 0) _ (le_right _ LR _ (le_right _ (A + S + T1) _ (deep (1 + K + T) (omega (arith, i))))) (le_right _ LR _ (le_right _ (A + S + T1) _ (deeper (1 + K + N + F) (omega (arith, i))))))
+    (max_le LR _ _ (le_left LR LR _ (omega arith)) (max_le (A + S + TA) _ _ (le_right _ LR _ (le_left (A + S + TA) (A + S + TA) _ (omega arith)))
+    (max_le (A + S + P + FA) (A + S + P + 1 + B) _ (le_right _ LR _ (le_right _ (A + S + TA) _ (factor FA (omega (arith, f))))) (le_right _ LR _ (le_right _ (A + S + TA) _ (item (1 + B) (omega (arith, i))))))))
+    (max_le (A + S + P + 1 + K + T) (A + S + P + 1 + K + N + max F 0) _ (le_right _ LR _ (le_right _ (A + S + TA) _ (deep (1 + K + T) (omega (arith, i))))) (le_right _ LR _ (le_right _ (A + S + TA) _ (deeper (1 + K + N + F) (omega (arith, i))))))
   where
-    factor : (x : ℕ) → x ≤ F2 → A + S + P + x ≤ A + S + P2 + max F2 0
+    factor : (x : ℕ) → x ≤ FB → A + S + P + x ≤ A + S + PB + max FB 0
     factor x h = omega (arith, p)
 
-    item : (x : ℕ) → x ≤ I → A + S + P + 1 + B ≤ A + S + P2 + max F2 0
+    item : (x : ℕ) → x ≤ I → A + S + P + 1 + B ≤ A + S + PB + max FB 0
     item x h = omega (arith, p, f, i)
 
-    deep : (x : ℕ) → x ≤ I → A + S + P + 1 + K + T ≤ A + S + P2 + max F2 0
+    deep : (x : ℕ) → x ≤ I → A + S + P + 1 + K + T ≤ A + S + PB + max FB 0
     deep x h = omega (arith, p, f, i)
 
-    deeper : (x : ℕ) → x ≤ I → A + S + P + 1 + K + N + max F 0 ≤ A + S + P2 + max F2 0
+    deeper : (x : ℕ) → x ≤ I → A + S + P + 1 + K + N + max F 0 ≤ A + S + PB + max FB 0
     deeper x h = omega (arith, p, f, i)
 
 -- the levels of an argument are those of the greatest's arguments
-argument_levels : (LR A S P T1 F1 B B2 K T N F : ℕ) → B2 ≡ max B (K + max T (N + F))
-    → max (max LR (max (A + S + T1) (max (A + S + P + F1) (A + S + P + 1 + B)))) (max (A + S + P + 1 + K + T) (A + S + P + 1 + K + N + max F 0))
-    ≤ max (max LR (max (A + S + T1) (max (A + S + P + F1) (A + S + P + 1 + B2)))) (max (A + S + P + 1 + 0 + 0) (A + S + P + 1 + 0 + 0 + max 0 0))
-argument_levels LR A S P T1 F1 B B2 K T N F b =
-    le_left _ (max LR (max (A + S + T1) (max (A + S + P + F1) (A + S + P + 1 + B2)))) _
+argument_levels : (LR A S P TA FA B BB K T N F : ℕ) → BB ≡ max B (K + max T (N + F))
+    → max (max LR (max (A + S + TA) (max (A + S + P + FA) (A + S + P + 1 + B)))) (max (A + S + P + 1 + K + T) (A + S + P + 1 + K + N + max F 0))
+    ≤ max (max LR (max (A + S + TA) (max (A + S + P + FA) (A + S + P + 1 + BB)))) (max (A + S + P + 1 + 0 + 0) (A + S + P + 1 + 0 + 0 + max 0 0))
+argument_levels LR A S P TA FA B BB K T N F b =
+    le_left _ (max LR (max (A + S + TA) (max (A + S + P + FA) (A + S + P + 1 + BB)))) _
     (max_le _ _ _
-    (max_le LR _ _ (le_left LR LR _ (omega arith)) (max_le (A + S + T1) _ _ (le_right _ LR _ (le_left (A + S + T1) (A + S + T1) _ (omega arith)))
-    (max_le (A + S + P + F1) (A + S + P + 1 + B) _ (le_right _ LR _ (le_right _ (A + S + T1) _ (le_left (A + S + P + F1) (A + S + P + F1) _ (omega arith)))) (le_right _ LR _ (le_right _ (A + S + T1) _ (le_right _ (A + S + P + F1) _ (omega (arith, b))))))))
-    (max_le (A + S + P + 1 + K + T) (A + S + P + 1 + K + N + max F 0) _ (le_right _ LR _ (le_right _ (A + S + T1) _ (le_right _ (A + S + P + F1) _ (omega (arith, b))))) (le_right _ LR _ (le_right _ (A + S + T1) _ (le_right _ (A + S + P + F1) _ (omega (arith, b)))))))
+    (max_le LR _ _ (le_left LR LR _ (omega arith)) (max_le (A + S + TA) _ _ (le_right _ LR _ (le_left (A + S + TA) (A + S + TA) _ (omega arith)))
+    (max_le (A + S + P + FA) (A + S + P + 1 + B) _ (le_right _ LR _ (le_right _ (A + S + TA) _ (le_left (A + S + P + FA) (A + S + P + FA) _ (omega arith)))) (le_right _ LR _ (le_right _ (A + S + TA) _ (le_right _ (A + S + P + FA) _ (omega (arith, b))))))))
+    (max_le (A + S + P + 1 + K + T) (A + S + P + 1 + K + N + max F 0) _ (le_right _ LR _ (le_right _ (A + S + TA) _ (le_right _ (A + S + P + FA) _ (omega (arith, b))))) (le_right _ LR _ (le_right _ (A + S + TA) _ (le_right _ (A + S + P + FA) _ (omega (arith, b)))))))
 
 -- of two numbers one is over what the greater of two others adds
-either : (x B B2 u v d : ℕ) → B2 ≡ max B d → x + B ≤ u → x + d ≤ v → x + B2 ≤ max u v
-either x B B2 u v d e h k = omega arith
+either : (x B BB u v d : ℕ) → BB ≡ max B d → x + B ≤ u → x + d ≤ v → x + BB ≤ max u v
+either x B BB u v d e h k = omega arith
 
 -- what stands round the next argument was there
-argument_round : (LR A S P T1 F1 B B2 K T N F G : ℕ) → B2 ≡ max B (K + max T (N + F))
-    → max LR (max (A + S + T1) (max (A + S + P + F1) (A + S + P + 1 + B2)))
-    ≤ max (max (max LR (max (A + S + T1) (max (A + S + P + F1) (A + S + P + 1 + B)))) (max (A + S + P + 1 + K + T) (A + S + P + 1 + K + N + max F 0))) G
-argument_round LR A S P T1 F1 B B2 K T N F G b = le_left _ (max U V) G
+argument_round : (LR A S P TA FA B BB K T N F G : ℕ) → BB ≡ max B (K + max T (N + F))
+    → max LR (max (A + S + TA) (max (A + S + P + FA) (A + S + P + 1 + BB)))
+    ≤ max (max (max LR (max (A + S + TA) (max (A + S + P + FA) (A + S + P + 1 + B)))) (max (A + S + P + 1 + K + T) (A + S + P + 1 + K + N + max F 0))) G
+argument_round LR A S P TA FA B BB K T N F G b = le_left _ (max U V) G
     (max_le LR _ _ (le_left _ U V (le_left LR LR _ (omega arith)))
-    (max_le (A + S + T1) _ _ (le_left _ U V (le_right _ LR _ (le_left (A + S + T1) (A + S + T1) _ (omega arith))))
-    (max_le (A + S + P + F1) (A + S + P + 1 + B2) _ (le_left _ U V (le_right _ LR _ (le_right _ (A + S + T1) _ (le_left (A + S + P + F1) (A + S + P + F1) _ (omega arith))))) both)))
+    (max_le (A + S + TA) _ _ (le_left _ U V (le_right _ LR _ (le_left (A + S + TA) (A + S + TA) _ (omega arith))))
+    (max_le (A + S + P + FA) (A + S + P + 1 + BB) _ (le_left _ U V (le_right _ LR _ (le_right _ (A + S + TA) _ (le_left (A + S + P + FA) (A + S + P + FA) _ (omega arith))))) both)))
   where
     U : ℕ
-    U = max LR (max (A + S + T1) (max (A + S + P + F1) (A + S + P + 1 + B)))
+    U = max LR (max (A + S + TA) (max (A + S + P + FA) (A + S + P + 1 + B)))
 
     V : ℕ
     V = max (A + S + P + 1 + K + T) (A + S + P + 1 + K + N + max F 0)
@@ -170,10 +170,10 @@ argument_round LR A S P T1 F1 B B2 K T N F G b = le_left _ (max U V) G
     inner = omega arith
 
     old : A + S + P + 1 + B ≤ U
-    old = le_right _ LR _ (le_right _ (A + S + T1) _ (le_right _ (A + S + P + F1) _ (omega arith)))
+    old = le_right _ LR _ (le_right _ (A + S + TA) _ (le_right _ (A + S + P + FA) _ (omega arith)))
 
-    both : A + S + P + 1 + B2 ≤ max U V
-    both = either (A + S + P + 1) B B2 U V (K + max T (N + F)) b old inner
+    both : A + S + P + 1 + BB ≤ max U V
+    both = either (A + S + P + 1) B BB U V (K + max T (N + F)) b old inner
 
 -- each piece makes the tree so far grow
 pub grows : (f g : Front) (piece : Piece) → Leads f piece g → Grows f g

@@ -7,10 +7,11 @@ use Rattle.std.specs.declared.alloc.AllocError.{AllocError}
 use Rattle.model.specs.Programs.{Name}
 use Rattle.bound_text.specs.Names.{begins_name, continues_name}
 use Rattle.bound_text.specs.Lexing as plain
-use Rattle.bound_text.specs.Lexing.{front, behind, word_at, number_at, lexeme_at}
+use Rattle.its_model.specs.Fronts.{front, behind}
+use Rattle.bound_text.specs.Lexing.{word_at, number_at, lexeme_at}
 use Rattle.bound_text.specs.Lexemes.{lexeme_of}
 use Rattle.bound_text.specs.declared.lexer.Lexeme.{Lexeme}
-use Rattle.bound_text.proofs.FrontLaws.{take-front, drop-front, all_front}
+use Rattle.its_model.proofs.FrontLaws.{take-front, drop-front, all_front}
 
 module _ (p : ℕ → Bool) where
   -- the first byte and the front of the others

@@ -1,7 +1,5 @@
 pub mod PrintingLaws
 pub mod TestLaws
-pub mod FrontLaws
-pub mod NameLaws
 pub mod NumberLaws
 pub mod LexingLaws
 pub mod PartLaws

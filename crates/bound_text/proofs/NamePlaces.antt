@@ -3,7 +3,7 @@ use Rattle.std.proofs.Common.{◌≡◌, ℕ, zero, suc, ◌+◌, ◌<◌, Bool,
 use Rattle.std.specs.List.{list_any}
 use Rattle.model.specs.Programs.{Name}
 use Rattle.bound_text.specs.Names.{IsName, is_same, place_of, AreNames}
-use Rattle.bound_text.proofs.NameLaws.{same_equal, equal_same, is_same_self}
+use Rattle.its_model.proofs.NameLaws.{same_equal, equal_same, is_same_self}
 
 -- the name at the place of one that is listed is that name
 pub at_place : (names : List Name) (w : Name) → place_of w names < length names → slice_index_or names (place_of w names) [] ≡ w

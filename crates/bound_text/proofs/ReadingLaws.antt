@@ -1,22 +1,21 @@
 -- What reading has come to decides the verdict with what is left.
-use Rattle.std.proofs.Common.{◌≡◌, length-drop, ℕ, zero, suc, ◌+◌, ◌-◌, ◌<◌, ◌≤◌, Bool, true, false, cond, nat_eq, List, [], ◌∷◌, length, drop, refl, ap, sym, subst, ◌∙◌, arith, Some}
+use Rattle.std.proofs.Common.{◌≡◌, length-drop, ℕ, zero, suc, ◌+◌, ◌-◌, ◌<◌, ◌≤◌, Bool, true, false, cond, nat_eq, List, [], ◌∷◌, length, drop, refl, ap, sym, subst, ◌∙◌, arith}
 use Rattle.std.specs.Prelude.{Result, Ok, Err, IsTrue, codes}
 use Rattle.std.specs.Char.{is_ascii_digit}
 use Rattle.std.proofs.lemmas.Bool.Decides.{nat_tests}
 use Rattle.std.specs.Str.Parse.{digits_value}
 use Rattle.bound_expr.specs.Capped.{capped}
-use Rattle.bound_expr.specs.Views.{size_of}
 use Rattle.model.specs.Programs.{Name}
-use Rattle.bound_expr.specs.declared.bound.Bound.{Bound}
 use Rattle.bound_text.specs.Names.{begins_name, continues_name, is_same, place_of}
 use Rattle.bound_text.specs.Pieces.{Piece, Variable, Number, Greatest, Wrong}
-use Rattle.bound_text.specs.Lexing.{Lexeme, front, behind, begins_with, has_leading_zero, word_at, number_at, mark_at, lexeme_at, lexed}
+use Rattle.its_model.specs.Fronts.{front, behind}
+use Rattle.bound_text.specs.Lexing.{Lexeme, begins_with, has_leading_zero, word_at, number_at, mark_at, lexeme_at, lexed}
 use Rattle.bound_text.specs.Fronts.{Front}
-use Rattle.bound_text.specs.Steps.{beginning, finish}
+use Rattle.bound_text.specs.Steps.{beginning}
 use Rattle.bound_text.specs.Faults.{Kind, Syntax, NumberTooLarge, UnknownName, TooDeep, TooLarge}
-use Rattle.bound_text.specs.Checks.{Checked, Refused, Reached, Stopped, Going, Verdict, Faulty, Stands, is_caret, caret_next, checked, further, ended, verdict}
+use Rattle.bound_text.specs.Checks.{Checked, Refused, Reached, Stopped, Going, Verdict, Faulty, Stands, is_caret, caret_next, checked, further, verdict}
 use Rattle.bound_text.specs.Verdicts.{error_at}
-use Rattle.bound_text.specs.Views.{IsKind, IsRefusal, Obeys, Finishes, Says, front_of, is_settled}
+use Rattle.bound_text.specs.Views.{IsKind, IsRefusal, Obeys, Says, front_of, is_settled}
 use Rattle.bound_text.specs.declared.state.Reader.{Reader}
 use Rattle.bound_text.specs.declared.error.BoundTextError.TheVariants as errors
 use Rattle.bound_text.specs.declared.fault.Fault.{Fault}
@@ -134,13 +133,6 @@ pub record Decides (n : ℕ) (names : List Name) (bytes rest : List ℕ) (f : Fr
   pub within : length rest ≤ length bytes
   pub same : verdict n (Going 0 beginning) (lexed names 0 bytes) ≡ verdict n (Going (length bytes - length rest) f) (lexed names 0 rest)
 
--- at first all is left
-pub decides_first : (n : ℕ) (names : List Name) (bytes : List ℕ) (f : Front) → f ≡ beginning → Decides n names bytes bytes f
-decides_first n names bytes f e = record {
-  within = omega arith;
-  same = ap (λ (g : Front). verdict n (Going 0 g) (lexed names 0 bytes)) (sym e) ∙ ap (λ (at : ℕ). verdict n (Going at f) (lexed names 0 bytes)) (let z : 0 ≡ length bytes - length bytes = omega arith in z);
-}
-
 -- the answer of taking a piece
 reached_front : (c : Checked) (r : Reader) (u : Unit {0}) → Obeys c r (Ok u) → c ≡ Reached (front_of r)
 reached_front (Refused kind) r u h = absurd h
@@ -187,25 +179,3 @@ decides_not n names f r b bytes others rest behind l piece caret result fault at
         only_memory : (fault : Fault) → Obeys (Reached g) r (Err fault) → Says (verdict n (Going 0 beginning) (lexed names 0 bytes)) (Err (error_at fault at))
         only_memory faults.Memory h = says_memory (verdict n (Going 0 beginning) (lexed names 0 bytes))
         only_memory fault h = absurd h
-
--- the verdict at the end of the text
-verdict_end : (n : ℕ) (names : List Name) (bytes rest : List ℕ) (f : Front) → Decides n names bytes rest f → length rest ≡ 0 → verdict n (Going 0 beginning) (lexed names 0 bytes) ≡ ended (length bytes) (finish f)
-verdict_end n names bytes [] f d none = d.same ∙ ap (λ (at : ℕ). ended at (finish f)) (let z : length bytes - length {A = ℕ} [] ≡ length bytes = omega arith in z)
-verdict_end n names bytes (b ∷ rest) f d none = absurd (omega (arith, none))
-
--- a bound at the end
-pub end_ok : (n : ℕ) (names : List Name) (bytes rest : List ℕ) (f : Front) (result : Result Bound Fault) (b : Bound) → Decides n names bytes rest f → length rest ≡ 0 → result ≡ Ok b → Finishes (finish f) result
-    → Says (verdict n (Going 0 beginning) (lexed names 0 bytes)) (Ok b)
-end_ok n names bytes rest f result b d none ok h =
-    let is : finish f ≡ Some (size_of b) = subst (λ (x : Result Bound Fault). Finishes (finish f) x) ok h in
-    subst (λ (v : Verdict). Says v (Ok b)) (sym (verdict_end n names bytes rest f d none ∙ ap (ended (length bytes)) is)) refl
-
--- a refusal at the end
-pub end_err : (n : ℕ) (names : List Name) (bytes rest : List ℕ) (f : Front) (result : Result Bound Fault) (fault : Fault) → Decides n names bytes rest f → length rest ≡ 0 → result ≡ Err fault → Finishes (finish f) result
-    → Says (verdict n (Going 0 beginning) (lexed names 0 bytes)) (Err (error_at fault (length bytes)))
-end_err n names bytes rest f result fault d none err h = go fault (subst (λ (x : Result Bound Fault). Finishes (finish f) x) err h)
-  where
-    go : (fault : Fault) → Finishes (finish f) (Err fault) → Says (verdict n (Going 0 beginning) (lexed names 0 bytes)) (Err (error_at fault (length bytes)))
-    go faults.Syntax h = subst (λ (v : Verdict). Says v (Err (errors.Syntax (length bytes)))) (sym (verdict_end n names bytes rest f d none ∙ ap (ended (length bytes)) h)) refl
-    go faults.Memory h = says_memory (verdict n (Going 0 beginning) (lexed names 0 bytes))
-    go fault h = absurd h

@@ -12,15 +12,16 @@ use Rattle.model.specs.Programs.{Name}
 use Rattle.bound_expr.specs.Capped.{capped}
 use Rattle.bound_text.specs.Names.{begins_name, continues_name, is_same, place_of, IsName, AreNames}
 use Rattle.bound_text.specs.Pieces.{Piece, Variable, Number, Greatest, Open, Close, Times, Caret, Plus, Blank, Comma, Wrong, spelled, bytes_of}
-use Rattle.bound_text.specs.Lexing.{Lexeme, front, behind, begins_with, has_leading_zero, word_at, number_at, mark_at, lexeme_at, lexed}
+use Rattle.its_model.specs.Fronts.{front, behind}
+use Rattle.bound_text.specs.Lexing.{Lexeme, begins_with, has_leading_zero, word_at, number_at, mark_at, lexeme_at, lexed}
 use Rattle.bound_text.specs.Fronts.{Front, Place, ItemRead, IsFront}
 use Rattle.bound_text.specs.Steps.{step, step_at, follow_item, walk}
 use Rattle.bound_text.proofs.SoundnessLaws.{step_sound}
 use Rattle.bound_text.proofs.WalkLaws.{walk-none}
 use Rattle.bound_text.proofs.Leading.{Leads, of_variable, of_number, of_greatest, of_sum, of_run, of_power, of_power_of, of_exponent, of_times, of_base, of_caret, of_blank, of_comma, of_close, of_plus, of_term, of_argument, step_leads}
 use Rattle.bound_text.proofs.TestLaws.{both}
-use Rattle.bound_text.proofs.FrontLaws.{front-behind, all_front, Stops, behind-append, behind-stops, front-append}
-use Rattle.bound_text.proofs.NameLaws.{same_equal}
+use Rattle.its_model.proofs.FrontLaws.{front-behind, all_front, Stops, behind-append, behind-stops, front-append}
+use Rattle.its_model.proofs.NameLaws.{same_equal}
 use Rattle.bound_text.proofs.NamePlaces.{at_place, listed_name, place_at}
 use Rattle.bound_text.proofs.Numerals.{numeral_of, digits_pass, decimal_proper}
 use Rattle.bound_text.proofs.ReadingLaws.{lexed-first}

@@ -16,15 +16,17 @@ pub data Checked : Type 0 where
 abbrev pub sized : Front → Checked
 sized f = if nat_lt 200 (inner_levels f) then Refused TooDeep else if nat_lt 4096 (nodes_of f) then Refused TooLarge else Reached f
 
--- whether a number is over 2^127-1; whether a base is under 2, or over 2^64-1
+-- whether a number is over 2^127-1
 abbrev pub is_large : Piece → Bool
 is_large (Number c) = nat_le (2 ^ 127) c
 is_large piece = false
 
+-- whether a base is under 2
 abbrev pub is_small_base : Piece → Bool
 is_small_base (Number c) = nat_lt c 2
 is_small_base piece = false
 
+-- whether a base is over 2^64-1
 abbrev pub is_large_base : Piece → Bool
 is_large_base (Number c) = nat_le (2 ^ 64) c
 is_large_base piece = false
@@ -47,15 +49,17 @@ abbrev pub begins : Place → Bool
 begins Begins = true
 begins place = false
 
--- whether a piece is the `^` behind a base over 2^64-1
+-- whether a product's last factor is a constant over 2^64-1
 abbrev pub is_large_number : Option Size → Bool
 is_large_number (Some (Constant c)) = nat_le (2 ^ 64) c
 is_large_number factor = false
 
+-- whether a piece is the `^` behind a base over 2^64-1
 abbrev pub has_large_base_at : Place → Parts → Piece → Bool
 has_large_base_at ItemRead fs Caret = is_large_number (last fs)
 has_large_base_at place fs piece = false
 
+-- the same where what has been read ends
 abbrev pub has_large_base : Front → Piece → Bool
 has_large_base f piece = has_large_base_at f.place f.factors piece
 
@@ -71,17 +75,18 @@ checked n caret f piece =
     if has_large_base f piece then Refused NumberTooLarge
     else judged (fault_of n (begins f.place && caret) piece) (step f piece)
 
--- whether a product's last factor can't have `^` behind it: it is no constant, and no variable that stands alone
+-- whether `^` can stand behind a product's last factor: it is a constant, or a variable that stands alone
 abbrev pub takes_caret : Parts → Option Size → Bool
 takes_caret fs (Some (Constant c)) = true
 takes_caret fs (Some (Input i)) = not (is_input i (last fs))
 takes_caret fs factor = false
 
--- whether `^` comes next
+-- whether a piece is `^`
 abbrev pub is_caret : Piece → Bool
 is_caret Caret = true
 is_caret piece = false
 
+-- whether `^` comes next
 abbrev pub caret_next : List Lexeme → Bool
 caret_next [] = false
 caret_next (next ∷ rest) = is_caret next.piece

@@ -4,6 +4,7 @@ use Rattle.model.specs.Programs.{Name}
 use Rattle.model.specs.Bounds.{Size}
 use Rattle.bound_expr.specs.declared.bound.Bound.{Bound}
 use Rattle.bound_expr.specs.Views.{size_of}
+use Rattle.bound_text.specs.Names.{AreNames}
 use Rattle.bound_text.specs.Shapes.{IsShaped}
 use Rattle.bound_text.specs.Pieces.{Piece, Variable, Number, Caret}
 use Rattle.bound_text.specs.Writing.{pieces_of}
@@ -84,6 +85,10 @@ pub record NotAfter (x y : Fault) : Type 0 where
 pub record IsFirst (names : List Name) (bytes : List ℕ) (x : Fault) : Type 0 where
   pub is : HasFault names 0 [] (lexed names 0 bytes) x
   pub least : (y : Fault) → HasFault names 0 [] (lexed names 0 bytes) y → NotAfter x y
+
+-- over variables whose names are names and all differ, the text of a bound within the limits has no fault
+pub record TextsHaveNoFault : Type 0 where
+  pub each : (names : List Name) → AreNames names → (bytes : List ℕ) (b : Size) (x : Fault) → IsTextWithin names bytes b → IsFirst names bytes x → ⊥
 
 -- what reading a text answers: the bound, or the first fault, want of memory aside
 abbrev pub Answers : List Name → List ℕ → Result Bound BoundTextError → Type 0

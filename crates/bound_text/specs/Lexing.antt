@@ -4,19 +4,9 @@ use Rattle.std.specs.Char.{is_ascii_digit}
 use Rattle.std.specs.Str.Parse.{digits_value}
 use Rattle.model.specs.Programs.{Name}
 use Rattle.bound_expr.specs.Capped.{capped}
+use Rattle.its_model.specs.Fronts.{front, behind}
 use Rattle.bound_text.specs.Names.{begins_name, continues_name, is_same, place_of}
 use Rattle.bound_text.specs.Pieces.{Piece, Variable, Number, Greatest, Open, Close, Times, Caret, Plus, Blank, Comma, Wrong}
-
-module _ (p : ℕ → Bool) where
-  -- the bytes from the front on that pass
-  abbrev pub front : List ℕ → List ℕ
-  front [] = []
-  front (b ∷ bytes) = if p b then b ∷ front bytes else []
-
-  -- the bytes from the first one on that doesn't pass
-  abbrev pub behind : List ℕ → List ℕ
-  behind [] = []
-  behind (b ∷ bytes) = if p b then behind bytes else b ∷ bytes
 
 -- a piece with the number of its bytes
 pub record Lexeme : Type 0 where

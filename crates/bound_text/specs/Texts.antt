@@ -44,6 +44,11 @@ pub record IsTextWithin (names : List Name) (bytes : List ℕ) (b : Size) : Type
   pub spells : IsText names bytes b
   pub within : IsWithin b
 
--- over variables whose names are names and all differ, a text stands for one bound within the limits at most
+-- the numbers of a bound fit the types that hold them: bases are below 2^64, and nodes fewer than 2^127
+pub record FitsTypes (b : Size) : Type 0 where
+  pub bases : HasShortBases b
+  pub nodes : node_count b < 2 ^ 127
+
+-- over variables whose names are names and all differ, a text stands for one bound at most, however deep and large
 pub record OneBound : Type 0 where
-  pub each : (names : List Name) → AreNames names → (bytes : List ℕ) (a b : Size) → IsTextWithin names bytes a → IsTextWithin names bytes b → a ≡ b
+  pub each : (names : List Name) → AreNames names → (bytes : List ℕ) (a b : Size) → IsText names bytes a → FitsTypes a → IsText names bytes b → FitsTypes b → a ≡ b

@@ -9,7 +9,7 @@ use thiserror::Error;
 /// Why no bound was read. Positions count bytes from 0, and the text's length is the position of its end.
 #[derive(Debug, PartialEq, Eq, Drop, Error)]
 pub enum BoundTextError {
-    /// The token at this position can't follow, or the text ends here too early.
+    /// The token at this position can't follow, or is the number of a base under 2, or the text ends here too early.
     #[error("syntax at {at}")]
     Syntax { at: u64 },
     /// The number at this position is over 2^127-1, or a base over 2^64-1.

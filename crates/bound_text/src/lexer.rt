@@ -7,13 +7,14 @@ ghost use Rattle.std.specs.Str.Parse.{digits_value};
 ghost use Rattle.its_model.specs.Views.{name_of};
 ghost use Rattle.bound_expr.specs.Capped.{capped};
 ghost use Rattle.bound_text.specs.Names.{begins_name as begins_name_at, continues_name as continues_name_at, place_of as place_in};
-ghost use Rattle.bound_text.specs.Lexing.{front, behind, begins_with as begins_with_byte, word_at, number_at, mark_at, lexeme_at};
+ghost use Rattle.its_model.specs.Fronts.{front, behind};
+ghost use Rattle.bound_text.specs.Lexing.{begins_with as begins_with_byte, word_at, number_at, mark_at, lexeme_at};
 ghost use Rattle.bound_text.specs.Printing.{piece_of};
 ghost use Rattle.bound_text.specs.Lexemes.{lexeme_of};
 
 use crate::piece::Piece;
 use bound_expr::{Memory, capped_add, capped_multiply};
-use its_model::Name;
+use its_model::{Name, begins_name, name_len};
 use std::alloc::AllocError;
 
 /// A piece with the number of its bytes.
@@ -21,31 +22,6 @@ use std::alloc::AllocError;
 pub struct Lexeme {
     pub piece: Piece,
     pub len: usize,
-}
-
-fn begins_name(byte: u8) -> bool
-    ensures { result ≡ begins_name_at byte }
-{
-    byte.is_ascii_alphabetic() || byte == b'_' || byte == b'$'
-}
-
-fn continues_name(byte: u8) -> bool
-    ensures { result ≡ continues_name_at byte }
-{
-    begins_name(byte) || byte.is_ascii_digit() || byte == b'\'' || byte == b'.'
-}
-
-// How many bytes from the front on go on a name.
-fn name_len(bytes: &[u8]) -> usize
-    ensures value { result ≡ length (front continues_name_at bytes.now) }
-    ensures within { result ≤ length bytes.now }
-{
-    for (i, byte) in bytes.iter().enumerate() {
-        if !continues_name(*byte) {
-            return i;
-        }
-    }
-    bytes.len()
 }
 
 // How many bytes from the front on are digits.

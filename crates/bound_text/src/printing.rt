@@ -36,7 +36,7 @@ pub enum Before {
     Other,
 }
 
-/// The text of a bound over variables with these names.
+/// The text of a bound over variables with these names. It is of any depth: the call goes as deep as the bound.
 ///
 /// # Errors
 ///

@@ -3,7 +3,7 @@
 ghost use Rattle.std.specs.Prelude.{length, map};
 ghost use Rattle.model.specs.Bounds.{Size};
 ghost use Rattle.its_model.specs.Views.{name_of};
-ghost use Rattle.bound_text.specs.Faults.{Answers, GivesBack};
+ghost use Rattle.bound_text.specs.Faults.{Answers, GivesBack, TextsHaveNoFault};
 ghost use Rattle.bound_text.specs.Lexing.{lexed};
 ghost use Rattle.bound_text.specs.Names.{AreNames};
 ghost use Rattle.bound_text.specs.Steps.{beginning};
@@ -29,7 +29,7 @@ use std::alloc::Global;
 ///
 /// The refusal at the least position is the answer, and at one position the one that comes first here. `Syntax` stands at
 /// the first token that can't follow, at the number of a base under 2, or at the text's length where it ends too early. A
-/// name directly before a bracket is one token with it. `NumberTooLarge` stands at a number over 2^127-1, or a base over
+/// name directly before a bracket is refused at its first byte, unless it is `max`. `NumberTooLarge` stands at a number over 2^127-1, or a base over
 /// 2^64-1; `UnknownName` at a name that isn't listed; `TooDeep` and `TooLarge` at the token with which the tree so far has
 /// more than 200 levels, or more than 4,096 nodes. A sum and a product count from the token on that shows them. `Memory`
 /// comes where memory ran out, or where a listed name has a place over 2^32-1.
@@ -41,9 +41,14 @@ pub fn read(alloc: Global, names: &[Name], bytes: &[u8]) -> Result<Bound, BoundT
     judge(alloc, names, bytes)
 }
 
-/// A text stands for one bound within the limits at most.
+/// A text stands for one bound at most, of those that a `Bound` can hold, however deep and large.
 pub fn one_bound()
     ensures { OneBound }
+{}
+
+/// The text of a bound within the limits has no fault. So a text has either a bound within the limits or a first fault.
+pub fn texts_have_no_fault()
+    ensures { TextsHaveNoFault }
 {}
 
 // The verdict on a text.

@@ -95,169 +95,221 @@ fn a_text_is_the_bound_that_it_stands_for(rt: HostRuntime) -> Result<(), Fail> {
     Ok(())
 }
 
+// Texts with a token that can't follow, and its position.
+const SYNTAX: &[(&str, u64)] = &[
+    ("", 0),
+    (" A", 0),
+    ("01", 0),
+    ("1^A", 0),
+    ("0^2", 0),
+    ("foo(A, B)", 0),
+    ("A+B", 1),
+    ("A-B", 1),
+    ("A\tB", 1),
+    ("Aé", 1),
+    ("A*A", 2),
+    ("A^1", 2),
+    ("A^0", 2),
+    ("A^02", 2),
+    ("A*A^2", 2),
+    ("A B", 2),
+    ("A C", 2),
+    ("A 170141183460469231731687303715884105728", 2),
+    ("A*", 2),
+    ("(A)*B", 2),
+    ("2^max(A, B)", 2),
+    ("A*foo(", 2),
+    ("A +B", 3),
+    ("2^3^4", 3),
+    ("A^2^2", 3),
+    ("max()", 4),
+    ("A^2*A", 4),
+    ("2^(A)", 4),
+    ("2^(3)", 4),
+    ("A + ", 4),
+    ("max(A)", 5),
+    ("max(A,B)", 6),
+    ("(A + B)", 7),
+    ("(A + B) + A", 7),
+    ("(A*B)*A", 4),
+    ("max(max(A, B), A)", 13),
+    ("2^18446744073709551616^A", 22),
+];
+
+// Texts with a number that is too large, and its position.
+const NUMBERS: &[(&str, u64)] = &[
+    ("170141183460469231731687303715884105728", 0),
+    (
+        "99999999999999999999999999999999999999999999999999999999999999999999999999999999",
+        0,
+    ),
+    ("18446744073709551616^A", 0),
+    ("2^170141183460469231731687303715884105728", 2),
+    ("A^170141183460469231731687303715884105728", 2),
+    ("A + 170141183460469231731687303715884105728^", 4),
+];
+
+// Texts with a name that isn't listed, and its position.
+const NAMES: &[(&str, u64)] = &[
+    ("C", 0),
+    ("C*C", 0),
+    ("A*C", 2),
+    ("max", 0),
+    ("2^AB", 2),
+    ("A + max*B", 4),
+];
+
 #[test]
-fn each_refusal_stands_at_its_position(rt: HostRuntime) -> Result<(), Fail> {
+fn a_token_that_cannot_follow_is_refused(rt: HostRuntime) -> Result<(), Fail> {
     let alloc = rt.alloc();
-    let syntax = [
-        ("", 0),
-        (" A", 0),
-        ("01", 0),
-        ("1^A", 0),
-        ("0^2", 0),
-        ("foo(A, B)", 0),
-        ("A+B", 1),
-        ("A*A", 2),
-        ("A^1", 2),
-        ("A^0", 2),
-        ("A^02", 2),
-        ("A*A^2", 2),
-        ("A B", 2),
-        ("A*", 2),
-        ("(A)*B", 2),
-        ("2^max(A, B)", 2),
-        ("A*foo(", 2),
-        ("A +B", 3),
-        ("2^3^4", 3),
-        ("A^2^2", 3),
-        ("max()", 4),
-        ("A^2*A", 4),
-        ("2^(A)", 4),
-        ("2^(3)", 4),
-        ("A + ", 4),
-        ("max(A)", 5),
-        ("max(A,B)", 6),
-        ("(A + B)", 7),
-        ("(A + B) + A", 7),
-        ("(A*B)*A", 4),
-        ("max(max(A, B), A)", 13),
-        ("2^18446744073709551616^A", 22),
-    ];
-    for (text, at) in &syntax {
+    for (text, at) in SYNTAX {
         assert_eq!(rt;
             refusal(alloc, text.as_bytes())?,
-            Some(BoundTextError::Syntax { at: *at })
-        );
-    }
-    let large = [
-        ("170141183460469231731687303715884105728", 0),
-        (
-            "99999999999999999999999999999999999999999999999999999999999999999999999999999999",
-            0,
-        ),
-        ("18446744073709551616^A", 0),
-        ("2^170141183460469231731687303715884105728", 2),
-        ("A^170141183460469231731687303715884105728", 2),
-        ("A + 170141183460469231731687303715884105728^", 4),
-    ];
-    for (text, at) in &large {
-        assert_eq!(rt;
-            refusal(alloc, text.as_bytes())?,
-            Some(BoundTextError::NumberTooLarge { at: *at })
-        );
-    }
-    let unknown = [
-        ("C", 0),
-        ("C*C", 0),
-        ("A*C", 2),
-        ("max", 0),
-        ("2^AB", 2),
-        ("A + max*B", 4),
-    ];
-    for (text, at) in &unknown {
-        assert_eq!(rt;
-            refusal(alloc, text.as_bytes())?,
-            Some(BoundTextError::UnknownName { at: *at })
+            Some(BoundTextError::Syntax { at: *at }),
+            "at {text}"
         );
     }
     Ok(())
 }
 
 #[test]
-fn the_limits_stand_at_the_token_that_passes_them(rt: HostRuntime) -> Result<(), Fail> {
+fn a_number_that_is_too_large_is_refused(rt: HostRuntime) -> Result<(), Fail> {
     let alloc = rt.alloc();
+    for (text, at) in NUMBERS {
+        assert_eq!(rt;
+            refusal(alloc, text.as_bytes())?,
+            Some(BoundTextError::NumberTooLarge { at: *at }),
+            "at {text}"
+        );
+    }
+    Ok(())
+}
+
+#[test]
+fn a_name_that_is_not_listed_is_refused(rt: HostRuntime) -> Result<(), Fail> {
+    let alloc = rt.alloc();
+    for (text, at) in NAMES {
+        assert_eq!(rt;
+            refusal(alloc, text.as_bytes())?,
+            Some(BoundTextError::UnknownName { at: *at }),
+            "at {text}"
+        );
+    }
+    Ok(())
+}
+
+// So many times a piece and then another, and the position of the token with which there are more than 200 levels.
+const DEEP: &[(&str, usize, &str, u64)] = &[
+    ("2^(", 199, "A*B", 598),
+    ("2^(", 199, "A^2", 599),
+    ("2^(", 199, "A + B", 598),
+    ("2^(", 199, "A^5000", 599),
+    ("2^(", 200, "A", 600),
+    ("max(", 200, "A", 800),
+    ("(", 100, "A", 100),
+];
+
+// The same for more than 4,096 nodes.
+const LARGE: &[(&str, usize, &str, u64)] = &[
+    ("", 0, "A^4096", 2),
+    ("", 0, "A*B^4096", 4),
+    ("1 + ", 4095, "1", 16380),
+    ("1*", 4095, "1", 8190),
+];
+
+#[test]
+fn a_level_too_many_is_refused_where_it_shows(rt: HostRuntime) -> Result<(), Fail> {
+    let alloc = rt.alloc();
+    for (piece, count, end, at) in DEEP {
+        let text = repeated(alloc, piece.as_bytes(), *count, end.as_bytes())?;
+        assert_eq!(rt;
+            refusal(alloc, &text)?,
+            Some(BoundTextError::TooDeep { at: *at })
+        );
+    }
     let closed = repeated(alloc, b")", 198, b"")?;
-    let fits = repeated(alloc, b"2^(", 198, b"A*B")?;
-    let mut text = fits;
+    let mut text = repeated(alloc, b"2^(", 198, b"A*B")?;
     text.extend_from_slice(&closed)?;
     assert_eq!(rt; refusal(alloc, &text)?, None);
-    let rows = [
-        (
-            repeated(alloc, b"2^(", 199, b"A*B")?,
-            BoundTextError::TooDeep { at: 598 },
-        ),
-        (
-            repeated(alloc, b"2^(", 199, b"A^2")?,
-            BoundTextError::TooDeep { at: 599 },
-        ),
-        (
-            repeated(alloc, b"2^(", 199, b"A + B")?,
-            BoundTextError::TooDeep { at: 598 },
-        ),
-        (
-            repeated(alloc, b"2^(", 199, b"A^5000")?,
-            BoundTextError::TooDeep { at: 599 },
-        ),
-        (
-            repeated(alloc, b"2^(", 200, b"A")?,
-            BoundTextError::TooDeep { at: 600 },
-        ),
-        (
-            repeated(alloc, b"2^(", 200, b"C")?,
-            BoundTextError::UnknownName { at: 600 },
-        ),
-        (
-            repeated(alloc, b"max(", 200, b"A")?,
-            BoundTextError::TooDeep { at: 800 },
-        ),
-        (
-            repeated(alloc, b"(", 100, b"A")?,
-            BoundTextError::TooDeep { at: 100 },
-        ),
-        (
-            repeated(alloc, b"", 0, b"A^4096")?,
-            BoundTextError::TooLarge { at: 2 },
-        ),
-        (
-            repeated(alloc, b"", 0, b"A*B^4096")?,
-            BoundTextError::TooLarge { at: 4 },
-        ),
-        (
-            repeated(alloc, b"1 + ", 4095, b"1")?,
-            BoundTextError::TooLarge { at: 16380 },
-        ),
-        (
-            repeated(alloc, b"1*", 4095, b"1")?,
-            BoundTextError::TooLarge { at: 8190 },
-        ),
-    ];
-    for (text, error) in &rows {
-        assert_eq!(rt; refusal(alloc, text)?.as_ref(), Some(error));
+    Ok(())
+}
+
+#[test]
+fn a_node_too_many_is_refused_where_it_shows(rt: HostRuntime) -> Result<(), Fail> {
+    let alloc = rt.alloc();
+    for (piece, count, end, at) in LARGE {
+        let text = repeated(alloc, piece.as_bytes(), *count, end.as_bytes())?;
+        assert_eq!(rt;
+            refusal(alloc, &text)?,
+            Some(BoundTextError::TooLarge { at: *at })
+        );
     }
+    let fits = repeated(alloc, b"1 + ", 4094, b"1")?;
+    assert_eq!(rt; refusal(alloc, &fits)?, None);
+    Ok(())
+}
+
+#[test]
+fn a_token_that_shows_two_faults_gets_the_first_kind(rt: HostRuntime) -> Result<(), Fail> {
+    let alloc = rt.alloc();
+    let unlisted = repeated(alloc, b"2^(", 200, b"C")?;
     assert_eq!(rt;
-        refusal(alloc, &repeated(alloc, b"1 + ", 4094, b"1")?)?,
-        None
+        refusal(alloc, &unlisted)?,
+        Some(BoundTextError::UnknownName { at: 600 })
+    );
+    let number = b"170141183460469231731687303715884105728";
+    let large = repeated(alloc, b"2^(", 200, number)?;
+    assert_eq!(rt;
+        refusal(alloc, &large)?,
+        Some(BoundTextError::NumberTooLarge { at: 600 })
     );
     Ok(())
+}
+
+// Texts with a letter for each of their proper prefixes: a text, refused at its end, or ended by a name that isn't listed.
+const PREFIXES: &[(&str, &str)] = &[
+    (
+        "max(2^(A + B)*(A + 1), 2*A^2*B + 10, 3^B)*(A + max(A*B, 7)) + B",
+        "euuueeeeeeeeeeeeeeeeeeeeeeeeeeeeeeeeeeeeeteeeeeeuuueeeeeeeeteee",
+    ),
+    (
+        "2^(2^(max(A, 3*B^2) + 1))*(B + 2*(A + 4))*max(A^5, B) + 12*A",
+        "eteeeeeuuueeeeeeeeeeeeeeeteeeeeeeeeeeeeeeteuuueeeeeeeteeette",
+    ),
+    (
+        "(A + 3^(A*B))*max(B, 7*(B + max(A, 9)*5))*2^18 + A^3*B*A^2 + 6",
+        "eeeeeeeeeeeeeeeuuueeeeeeeeeeeuuueeeeeeeeetetetteeeteteteteteee",
+    ),
+];
+
+// How many letters from `a` to `z` a text ends with.
+fn last_letters(text: &[u8]) -> usize {
+    let mut count = 0usize;
+    for byte in text {
+        count = if byte.is_ascii_lowercase() {
+            count.saturating_add(1)
+        } else {
+            0
+        };
+    }
+    count
 }
 
 #[test]
 fn proper_prefixes_are_texts_or_refused_where_they_end(rt: HostRuntime) -> Result<(), Fail> {
     let alloc = rt.alloc();
-    // a text with a letter for each of its proper prefixes: a text, refused at its end, an unknown name at 0
-    let rows = [
-        ("2*A*B + 3", "eteteteee"),
-        ("max(A, B)*A^2", "euuueeeeetete"),
-        ("2^(A + B)*(A + 1)", "eteeeeeeeteeeeeee"),
-    ];
-    for (text, outcomes) in &rows {
+    for (text, outcomes) in PREFIXES {
+        assert_eq!(rt; text.len(), outcomes.len());
+        assert_eq!(rt; refusal(alloc, text.as_bytes())?, None);
         for (end, outcome) in outcomes.as_bytes().iter().enumerate() {
             let prefix = text.as_bytes().get(..end).unwrap_or(b"");
+            let name = end.saturating_sub(last_letters(prefix));
             let expected = match *outcome {
                 b't' => None,
-                b'u' => Some(BoundTextError::UnknownName { at: 0 }),
+                b'u' => Some(BoundTextError::UnknownName { at: name as u64 }),
                 _ => Some(BoundTextError::Syntax { at: end as u64 }),
             };
-            assert_eq!(rt; refusal(alloc, prefix)?, expected);
+            assert_eq!(rt; refusal(alloc, prefix)?, expected, "at {end} of {text}");
         }
     }
     Ok(())

@@ -1,2 +1,4 @@
+pub mod Fronts
 pub mod Names
 pub mod Views
+pub mod Worked

@@ -6,8 +6,8 @@ use Rattle.its_reader.specs.Lexing.{is_blank, begins_name, continues_name, Piece
 use Rattle.its_reader.specs.Lexemes.{BeginsName, BeginsWith, Shows, Finds}
 use Rattle.its_reader.specs.declared.lexer.Lexeme.{Lexeme}
 use Rattle.its_reader.specs.declared.lexer.Lexeme.TheVariants as lexemes
-use Rattle.its_reader.specs.Fronts.{front, behind}
-use Rattle.its_reader.proofs.FrontLaws.{front-behind, all_front, take-front, drop-front, Stops, stops, behind-append, behind-stops, all-behind, behind-all, front-append}
+use Rattle.its_model.specs.Fronts.{front, behind}
+use Rattle.its_model.proofs.FrontLaws.{front-behind, all_front, take-front, drop-front, Stops, stops, behind-append, behind-stops, all-behind, behind-all, front-append}
 
 -- a byte that begins a name goes on one
 begins_continues : (b : ℕ) → begins_name b ≡ true → continues_name b ≡ true

@@ -1,6 +1,4 @@
-pub mod FrontLaws
 pub mod LexingLaws
-pub mod NameLaws
 pub mod KeyLaws
 pub mod TableLaws
 pub mod TreeReading

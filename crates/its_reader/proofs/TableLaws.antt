@@ -9,7 +9,7 @@ use Rattle.its_model.specs.declared.name.Name.{Name}
 use Rattle.model.specs.Programs as plain
 use Rattle.its_reader.specs.Numbering.{is_same, place_of, names_of, has_symbol, number_of, arity_of}
 use Rattle.its_reader.specs.Tables.{as_symbol}
-use Rattle.its_reader.proofs.NameLaws.{is_same_self}
+use Rattle.its_model.proofs.NameLaws.{is_same_self}
 use Rattle.its_reader.proofs.KeyLaws.{key_place, position_place, position_within}
 
 -- the symbols that entries stand for

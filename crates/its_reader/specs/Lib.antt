@@ -2,7 +2,6 @@ pub mod Lexing
 pub mod Written
 pub mod Numbering
 pub mod Spelling
-pub mod Fronts
 pub mod Lexemes
 pub mod Places
 pub mod Sizes

@@ -2,8 +2,10 @@
 
 ghost use Rattle.std.specs.Prelude.{◌≡◌, ◌<◌, ◌≤◌, ◌∷◌, length, IfSome, MatchOption, IsFalse};
 ghost use Rattle.its_reader.specs.Lexing.{is_blank as is_blank_byte, begins_name as begins_name_at, continues_name as continues_name_at, AreBlank};
-ghost use Rattle.its_reader.specs.Fronts.{front, behind};
+ghost use Rattle.its_model.specs.Fronts.{front, behind};
 ghost use Rattle.its_reader.specs.Lexemes.{BeginsName, Shows, Finds};
+
+use its_model::{begins_name, name_len};
 
 /// A piece of the text, or what stands where a piece should.
 #[derive(Clone, Copy)]
@@ -25,18 +27,6 @@ fn is_blank(byte: u8) -> bool
     byte == b' ' || byte == b'\t' || byte == b'\r' || byte == b'\n'
 }
 
-fn begins_name(byte: u8) -> bool
-    ensures { result ≡ begins_name_at byte }
-{
-    byte.is_ascii_alphabetic() || byte == b'_' || byte == b'$'
-}
-
-fn continues_name(byte: u8) -> bool
-    ensures { result ≡ continues_name_at byte }
-{
-    begins_name(byte) || byte.is_ascii_digit() || byte == b'\'' || byte == b'.'
-}
-
 fn behind_blanks(bytes: &[u8]) -> &[u8]
     ensures value { result.now ≡ behind is_blank_byte bytes.now }
     ensures shorter { length result.now ≤ length bytes.now }
@@ -49,19 +39,6 @@ fn behind_blanks(bytes: &[u8]) -> &[u8]
         text = rest;
     }
     text
-}
-
-// How many bytes from the front on go on a name.
-fn name_len(bytes: &[u8]) -> usize
-    ensures value { result ≡ length (front continues_name_at bytes.now) }
-    ensures within { result ≤ length bytes.now }
-{
-    for (i, byte) in bytes.iter().enumerate() {
-        if !continues_name(*byte) {
-            return i;
-        }
-    }
-    bytes.len()
 }
 
 // The name that a text begins with, and what follows it.

@@ -1,6 +1,6 @@
 use Rattle.std.proofs.Common.{◌≡◌, ◌+◌, length, drop}
 use Rattle.std.specs.Char.{is_ascii_digit}
-use Rattle.bound_text.specs.Lexing.{front}
+use Rattle.its_model.specs.Fronts.{front}
 use Rattle.bound_text.proofs.lexer.digits_len.Given as goal
 
 -- the bytes passed are digits, and so are those at the front of what is left

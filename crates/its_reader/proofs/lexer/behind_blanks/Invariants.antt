@@ -1,6 +1,6 @@
 use Rattle.std.proofs.Common.{◌≡◌, ◌≤◌, length}
 use Rattle.its_reader.specs.Lexing.{is_blank}
-use Rattle.its_reader.specs.Fronts.{behind}
+use Rattle.its_model.specs.Fronts.{behind}
 use Rattle.its_reader.proofs.lexer.behind_blanks.Given as goal
 
 -- what is behind the white space stays the same, and the text grows no longer

@@ -2,7 +2,7 @@
 use Rattle.std.proofs.Common.{◌≡◌, Bool, true, false, cond, ◌&&◌, List, [], ◌∷◌, ◌++◌, length, take, drop, refl, ap}
 use Rattle.std.specs.Prelude.{⊤}
 use Rattle.std.specs.List.{list_all}
-use Rattle.its_reader.specs.Fronts.{front, behind}
+use Rattle.its_model.specs.Fronts.{front, behind}
 
 module _ {X : Type 0} (p : X → Bool) where
   -- the front, and what is behind it, are the list

@@ -3,7 +3,7 @@ use Rattle.std.proofs.Common.{◌≡◌, true, sym, subst}
 use Rattle.std.proofs.lemmas.Cmp.{nat_list_eq_equiv}
 use Rattle.std.specs.Cmp.Lexicographic.{same_text}
 use Rattle.model.specs.Programs.{Name}
-use Rattle.bound_text.specs.Names.{is_same}
+use Rattle.its_model.specs.Names.{is_same}
 
 -- a name is the same as itself
 pub is_same_self : (n : Name) → is_same n n ≡ true

@@ -1,7 +1,7 @@
 use Rattle.std.proofs.Common.{◌≡◌, ◌+◌, length, drop}
-use Rattle.its_reader.specs.Lexing.{continues_name}
-use Rattle.its_reader.specs.Fronts.{front}
-use Rattle.its_reader.proofs.lexer.name_len.Given as goal
+use Rattle.its_model.specs.Names.{continues_name}
+use Rattle.its_model.specs.Fronts.{front}
+use Rattle.its_model.proofs.name.name_len.Given as goal
 
 -- the bytes passed go on the name, and so do those at the front of what is left
 abbrev pub invariant-loop-i : goal.invariant-loop-i

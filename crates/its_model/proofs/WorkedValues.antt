@@ -1,0 +1,100 @@
+-- The worked values of names and of the views.
+use Rattle.std.proofs.Common.{◌≡◌, ℕ, true, false, List, [], ◌∷◌, map, refl, ap, ◌∙◌}
+use Rattle.model.specs.Programs as plain
+use Rattle.poly_terms.specs.Views.{term_of}
+use Rattle.its_model.specs.declared.name.Name.{Name}
+use Rattle.its_model.specs.declared.program.Symbol.{Symbol}
+use Rattle.its_model.specs.declared.program.Rule.{Rule}
+use Rattle.its_model.specs.declared.program.Program.{Program}
+use Rattle.its_model.specs.Views.{name_of, atom_of, symbol_of, rule_of, program_of}
+use Rattle.its_model.specs.Worked.{NamesAreTold, PlacesAreFound, GuardsAreRead, ProgramsAreRead, RunsAreRead, IsSymbol, AreSpelled, IsFirstRule, first_rule, IsSecondRule, second_rule, IsWorkedProgram, worked_program}
+
+-- a test that fails doesn't pass
+fails : false ≡ true → ⊥
+fails h = cc
+
+-- the bytes are names, or none, as was worked out
+pub names : NamesAreTold
+names = record {
+  small_letter = (refl, refl);
+  capital_letter = (refl, refl);
+  underscore = (refl, refl);
+  dollar = (refl, refl);
+  goes_on = (refl, refl);
+  digit_first = λ h. fails h.0;
+  apostrophe_first = λ h. fails h.0;
+  dot_first = λ h. fails h.0;
+  space_in_it = λ h. fails h.1;
+  minus_behind_it = λ h. fails h.1;
+  minus_in_it = λ h. fails h.1;
+  nothing = λ h. h;
+}
+
+-- names are the same, and stand at the places, as was worked out
+pub places : PlacesAreFound
+places = record { same = refl; other = refl; small_for_capital = refl; longer = refl; shorter = refl; first = refl; twice = refl; absent = refl; among_none = refl }
+
+-- relations and atoms are read as was worked out
+pub guards : GuardsAreRead
+guards = record { at_least = refl; more_than = refl; at_most = refl; less_than = refl; equal_to = refl; always = refl; with_literal = refl; with_variables = refl }
+
+-- names that have these bytes are read as them
+names_read : (ns : List Name) (all : List plain.Name) → AreSpelled ns all → map name_of ns ≡ all
+names_read [] [] h = refl
+names_read [] (bytes ∷ more) h = absurd h
+names_read (n ∷ ns) [] h = absurd h
+names_read (n ∷ ns) (bytes ∷ more) h = λ i. h.0 i ∷ names_read ns more h.1 i
+
+-- a symbol is read with its name and its places
+symbol_read : (bytes : plain.Name) (places : ℕ) (s : Symbol) → IsSymbol bytes places s → symbol_of s ≡ record { name = bytes; arity = places }
+symbol_read bytes places s h = λ i. record { name = h.named i; arity = h.arity i }
+
+-- the first rule is read with all its parts
+first_read : (r : Rule) → IsFirstRule r → rule_of r ≡ first_rule
+first_read r h = λ i. record {
+  source = h.source i;
+  target = h.target i;
+  left = h.left i;
+  free = h.free i;
+  names = names_read _ _ h.names i;
+  updates = ap (map term_of) h.updates i;
+  guard = ap (map atom_of) h.guard i;
+}
+
+-- so is the second one
+second_read : (r : Rule) → IsSecondRule r → rule_of r ≡ second_rule
+second_read r h = λ i. record {
+  source = h.source i;
+  target = h.target i;
+  left = h.left i;
+  free = h.free i;
+  names = names_read _ _ h.names i;
+  updates = ap (map term_of) h.updates i;
+  guard = ap (map atom_of) h.guard i;
+}
+
+-- so is the program
+program_read : (p : Program) → IsWorkedProgram p → program_of p ≡ worked_program
+program_read p w = λ i. record {
+  symbols = symbols i;
+  start = w.start i;
+  start_names = names_read _ _ w.start_names i;
+  rules = rules i;
+}
+  where
+    symbols : map symbol_of p.symbols.items ≡ worked_program.symbols
+    symbols = ap (map symbol_of) w.symbols ∙ (λ i. symbol_read _ _ w.f w.f_is i ∷ symbol_read _ _ w.h w.h_is i ∷ symbol_read _ _ w.g w.g_is i ∷ [])
+
+    rules : map rule_of p.rules.items ≡ worked_program.rules
+    rules = ap (map rule_of) w.rules ∙ (λ i. first_read w.one w.one_is i ∷ second_read w.two w.two_is i ∷ [])
+
+-- symbols, rules and programs are read as was worked out
+pub programs : ProgramsAreRead
+programs = record { symbol = symbol_read _ _; rule = first_read; bare_rule = second_read; program = program_read }
+
+-- configurations and steps are read as was worked out
+pub runs : RunsAreRead
+runs = record {
+  config = λ c a v. λ i. record { at = a i; values = v i };
+  step = λ s t f. λ i. record { rule = t i; free = f i };
+}
