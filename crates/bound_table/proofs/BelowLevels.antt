@@ -66,9 +66,6 @@ behind-weight (ProductOf qs ∷ ps) = omega arith
 behind-weight (GreatestOf qs ∷ ps) = omega arith
 behind-weight (PowerOf c e ∷ ps) = omega arith
 
-pub bound_weight-pos : (b : Size) → 4 ≤ bound_weight b
-bound_weight-pos b = omega (arith, node_count-pos b)
-
 -- the bounds of a list of parts
 pub bounds_weight-list_of : (ps : Parts) → bounds_weight (list_of ps) ≤ 3 * node_count_of_all ps + 1
 bounds_weight-list_of NoParts = omega arith

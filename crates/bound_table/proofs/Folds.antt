@@ -1,19 +1,12 @@
 -- Constants joined one after another.
-use Rattle.std.proofs.Common.{◌≡◌, ℕ, ◌*◌, ◌^◌, ◌≤◌, min, List, ◌∷◌, refl, ap, sym, ◌∙◌, arith}
+use Rattle.std.proofs.Common.{◌≡◌, ℕ, ◌*◌, ◌^◌, ◌≤◌, min, List, ◌∷◌, refl, ap, ◌∙◌, arith}
 use Rattle.model.specs.Bounds.{Size, Constant, Input, SumOf, ProductOf, GreatestOf, PowerOf}
 use Rattle.bound_expr.specs.Capped.{capped}
-use Rattle.bound_expr.proofs.Caps.{min-mul}
+use Rattle.bound_expr.proofs.Caps.{min-mul_left}
 use Rattle.bound_table.specs.declared.kinds.Kind.{Kind}
 use Rattle.bound_table.specs.declared.kinds.Kind.TheVariants.{AsSum, AsProd, AsMax}
 use Rattle.bound_table.specs.Kinds.{joined, all_joined}
 use Rattle.bound_table.specs.Folding.{constants_in, total_with}
-
--- capping a factor changes nothing below the limit
-min-mul_left : (a b limit : ℕ) → min (min a limit * b) limit ≡ min (a * b) limit
-min-mul_left a b limit =
-    sym (min-mul (min a limit) b limit)
-    ∙ ap (λ (v : ℕ). min (v * min b limit) limit) (omega arith)
-    ∙ min-mul a b limit
 
 joined-capped : (k : Kind) (total c rest limit : ℕ) → min (joined k (min (joined k total c) limit) rest) limit ≡ min (joined k total (joined k c rest)) limit
 joined-capped AsSum total c rest limit = omega arith

@@ -3,11 +3,11 @@ use Rattle.std.proofs.Common.{◌≡◌, ℕ, ◌^◌, ◌<◌, nat_lt, nat_le, 
 use Rattle.std.specs.List.{list_any}
 use Rattle.std.specs.Ordering.{is_lt}
 use Rattle.std.proofs.lemmas.Bool.{ltb-true}
-use Rattle.model.specs.Bounds.{Size, Constant}
+use Rattle.model.specs.Bounds.{Size, Constant, Input, SumOf, ProductOf, GreatestOf, PowerOf}
 use Rattle.bound_table.specs.declared.kinds.Kind.{Kind}
 use Rattle.bound_table.specs.declared.kinds.Kind.TheVariants.{AsSum, AsProd, AsMax}
 use Rattle.bound_table.specs.Kinds.{all_joined, is_constant}
-use Rattle.bound_table.specs.Terms.{factors_of}
+use Rattle.bound_table.specs.Terms.{factors_of, behind_constant}
 use Rattle.bound_table.specs.Folding.{spread, spliced, constants_in, without_constants, with_one_constant, folded, is_neutral, without_neutral}
 use Rattle.bound_table.specs.Sorting.{order_of, placed, sorted}
 use Rattle.bound_table.specs.Likes.{are_same_factors, is_like, Run, run_parts, with_part_before, runs_of, constants_total, times, joined_list, run_joined, all_runs_joined, likes_joined}
@@ -33,6 +33,16 @@ pub record IsKept (k : Kind) (P : Size → Type 0) : Type 0 where
 pub Each-append : (P : Size → Type 0) (ps qs : List Size) → Each P ps → Each P qs → Each P (ps ++ qs)
 Each-append P [] qs each each' = each'
 Each-append P (p ∷ ps) qs each each' = (each.0, Each-append P ps qs each.1 each')
+
+-- what holds of every factor holds of those behind a leading constant
+pub Each-behind_constant : (P : Size → Type 0) (ps : List Size) → Each P ps → Each P (behind_constant ps)
+Each-behind_constant P [] each = each
+Each-behind_constant P (Constant c ∷ ps) each = each.1
+Each-behind_constant P (Input i ∷ ps) each = each
+Each-behind_constant P (SumOf qs ∷ ps) each = each
+Each-behind_constant P (ProductOf qs ∷ ps) each = each
+Each-behind_constant P (GreatestOf qs ∷ ps) each = each
+Each-behind_constant P (PowerOf c e ∷ ps) each = each
 
 pub Each-spliced : (k : Kind) (P : Size → Type 0) (ps : List Size) → ((p : Size) → P p → Each P (spread k p)) → Each P ps → Each P (spliced k ps)
 Each-spliced k P [] inner each = tt

@@ -1,8 +1,6 @@
 -- Joining like parts of a sum, and dropping parts of a greatest that are below others, keep the value.
 use Rattle.std.proofs.Common.{◌≡◌, ℕ, ◌+◌, ◌*◌, ◌^◌, ◌≤◌, max, nat_lt, Bool, true, false, cond, ◌||◌, List, [], ◌∷◌, ◌++◌, refl, ap, sym, ◌∙◌, arith}
 use Rattle.std.specs.List.{list_any}
-use Rattle.std.specs.declared.cmp.Ordering.{Ordering}
-use Rattle.std.specs.declared.cmp.Ordering.TheVariants.{Less, Equal, Greater}
 use Rattle.std.specs.Ordering.{is_eq}
 use Rattle.std.specs.Cmp.Lexicographic.{slice_cmp}
 use Rattle.model.specs.Bounds.{Size, val, IsBased}
@@ -17,16 +15,11 @@ use Rattle.bound_table.specs.Dominance.{dominant_after, dominant}
 use Rattle.bound_table.specs.Below.{below}
 use Rattle.bound_table.proofs.Products.{sum_at, product_at, greatest_at, val_product-parts_of, val-term}
 use Rattle.bound_table.proofs.BelowSound.{below-sound}
-use Rattle.bound_table.proofs.TotalOrder.{slice_cmp-compared, all_compared-same}
+use Rattle.bound_table.proofs.TotalOrder.{slice_cmp-compared, all_compared-same, is_eq-Equal}
 use Rattle.bound_table.proofs.Kept.{Each, Each-append, EachRun, IsGoodRun, AreAlike, runs_of-good}
 use Rattle.bound_table.proofs.CaseValues.{parts_at}
 
 -- factor lists that are the same in the structural order are the same
-is_eq-Equal : (o : Ordering) → is_eq o ≡ true → o ≡ Equal
-is_eq-Equal Less e = cc
-is_eq-Equal Equal e = refl
-is_eq-Equal Greater e = cc
-
 same_lists : (fs gs : List Size) → is_eq (slice_cmp compared fs gs) ≡ true → fs ≡ gs
 same_lists fs gs same =
     sym (list_of-parts_of fs)

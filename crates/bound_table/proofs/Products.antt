@@ -34,25 +34,13 @@ pub val_greatest-list_of : (ps : Parts) (m : List ℕ) → val_greatest ps m ≡
 val_greatest-list_of NoParts m = refl
 val_greatest-list_of (Part p ps) m = ap (λ (v : ℕ). max (val p m) v) (val_greatest-list_of ps m)
 
-pub val_sum-parts_of : (ps : List Size) (m : List ℕ) → val_sum (parts_of ps) m ≡ sum_at ps m
-val_sum-parts_of [] m = refl
-val_sum-parts_of (p ∷ ps) m = ap (λ (v : ℕ). val p m + v) (val_sum-parts_of ps m)
-
 pub val_product-parts_of : (ps : List Size) (m : List ℕ) → val_product (parts_of ps) m ≡ product_at ps m
 val_product-parts_of [] m = refl
 val_product-parts_of (p ∷ ps) m = ap (λ (v : ℕ). val p m * v) (val_product-parts_of ps m)
 
-pub val_greatest-parts_of : (ps : List Size) (m : List ℕ) → val_greatest (parts_of ps) m ≡ greatest_at ps m
-val_greatest-parts_of [] m = refl
-val_greatest-parts_of (p ∷ ps) m = ap (λ (v : ℕ). max (val p m) v) (val_greatest-parts_of ps m)
-
 pub AreBased-list_of : (ps : Parts) → AreBased ps → AllBased (list_of ps)
 AreBased-list_of NoParts based = tt
 AreBased-list_of (Part p ps) based = (based.0, AreBased-list_of ps based.1)
-
-pub AreBased-parts_of : (ps : List Size) → AllBased ps → AreBased (parts_of ps)
-AreBased-parts_of [] based = tt
-AreBased-parts_of (p ∷ ps) based = (based.0, AreBased-parts_of ps based.1)
 
 -- a list of factors is its leading constant times the rest
 leading-behind : (ps : List Size) (m : List ℕ) → product_at ps m ≡ leading_constant ps * product_at (behind_constant ps) m

@@ -9,7 +9,7 @@ use Rattle.bound_table.specs.declared.kinds.Case.TheVariants.{Flat, FoldConst, Z
 use Rattle.bound_table.specs.declared.kinds.Kind.{Kind}
 use Rattle.bound_table.specs.declared.kinds.Kind.TheVariants.{AsSum, AsProd, AsMax}
 use Rattle.bound_table.specs.Kinds.{whole, is_zero}
-use Rattle.bound_table.specs.Terms.{factors_of, behind_constant}
+use Rattle.bound_table.specs.Terms.{factors_of}
 use Rattle.bound_table.specs.Folding.{spread, spliced, folded, zeroed, without_neutral, simple}
 use Rattle.bound_table.specs.Sorting.{sorted}
 use Rattle.bound_table.specs.Likes.{likes_joined}
@@ -17,7 +17,7 @@ use Rattle.bound_table.specs.Dominance.{dominant}
 use Rattle.bound_table.specs.Rewriting.{at_parts, at_node, at_node_all, parts_passed, one_pass_each, one_pass, simplified}
 use Rattle.bound_table.proofs.Passes.{passes, simplified-is}
 use Rattle.bound_table.specs.Laws.{ReadsNoMore}
-use Rattle.bound_table.proofs.Kept.{Each, IsKept, Each-spliced, Each-folded, Each-without_neutral, Each-sorted, Each-likes_joined, Each-dominant}
+use Rattle.bound_table.proofs.Kept.{Each, IsKept, Each-behind_constant, Each-spliced, Each-folded, Each-without_neutral, Each-sorted, Each-likes_joined, Each-dominant}
 
 reads-each : (n : ℕ) (ps : Parts) → AllReadBelow n ps → Each (ReadsBelow n) (list_of ps)
 reads-each n NoParts reads = tt
@@ -32,20 +32,11 @@ whole-reads n AsSum ps reads = each-reads n ps reads
 whole-reads n AsProd ps reads = each-reads n ps reads
 whole-reads n AsMax ps reads = each-reads n ps reads
 
-behind-reads : (n : ℕ) (ps : List Size) → Each (ReadsBelow n) ps → Each (ReadsBelow n) (behind_constant ps)
-behind-reads n [] reads = reads
-behind-reads n (Constant c ∷ ps) reads = reads.1
-behind-reads n (Input i ∷ ps) reads = reads
-behind-reads n (SumOf qs ∷ ps) reads = reads
-behind-reads n (ProductOf qs ∷ ps) reads = reads
-behind-reads n (GreatestOf qs ∷ ps) reads = reads
-behind-reads n (PowerOf c e ∷ ps) reads = reads
-
 factors-read : (n : ℕ) (p : Size) → ReadsBelow n p → Each (ReadsBelow n) (factors_of p)
 factors-read n (Constant c) reads = tt
 factors-read n (Input i) reads = (reads, tt)
 factors-read n (SumOf ps) reads = (reads, tt)
-factors-read n (ProductOf ps) reads = behind-reads n (list_of ps) (reads-each n ps reads)
+factors-read n (ProductOf ps) reads = Each-behind_constant (ReadsBelow n) (list_of ps) (reads-each n ps reads)
 factors-read n (GreatestOf ps) reads = (reads, tt)
 factors-read n (PowerOf c e) reads = (reads, tt)
 

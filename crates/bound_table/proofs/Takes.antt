@@ -1,5 +1,5 @@
 -- Parts that take parts one after another: one more that is offered, marks of what is taken, and what is left over.
-use Rattle.std.proofs.Common.{◌≡◌, ℕ, ◌<◌, ◌≤◌, ◌==◌, Bool, true, false, cond, ◌&&◌, ◌||◌, List, [], ◌∷◌, length, slice_set, slice_index_or, refl, ap, sym, ◌∙◌, arith}
+use Rattle.std.proofs.Common.{◌≡◌, ℕ, ◌<◌, ◌==◌, Bool, true, false, cond, ◌&&◌, ◌||◌, List, [], ◌∷◌, length, slice_set, slice_index_or, refl, ap, sym, ◌∙◌, arith}
 use Rattle.std.specs.Prelude.{replicate}
 use Rattle.std.specs.List.{list_any, list_all}
 use Rattle.std.proofs.lemmas.Bool.{eqb-true, eqb-false}
@@ -7,77 +7,13 @@ use Rattle.std.proofs.Common.{eq-eqb}
 use Rattle.std.proofs.lemmas.List.{length-set, get_or-set_same, get_or-set_other, length-replicate, get_or-replicate}
 use Rattle.model.specs.Bounds.{Size, Constant, Input, SumOf, ProductOf, GreatestOf, PowerOf}
 use Rattle.bound_table.specs.Kinds.{is_same_input}
-use Rattle.bound_table.specs.Below.{each_takes, taken, spare, may_be_spare}
-use Rattle.bound_table.specs.Taking.{left_after, marked_one, marked, is_power_or_input, input_among, IsMarked}
-use Rattle.bound_table.proofs.BelowLevels.{factors_weight}
-
-pub each_takes-offer : (related : Size → Size → Bool) (ps : List Size) (q : Size) (qs : List Size)
-    → each_takes related ps (q ∷ qs) ≡ each_takes related (left_after related ps q) qs
-each_takes-offer related [] q qs = refl
-each_takes-offer related (p ∷ ps) q qs = go (related p q)
-  where
-    go : (takes : Bool) → cond takes (each_takes related ps qs) (each_takes related (p ∷ ps) qs) ≡ each_takes related (cond takes ps (p ∷ ps)) qs
-    go true = refl
-    go false = refl
-
--- the one offered is taken where fewer look for one afterwards
-pub taken-took : (related : Size → Size → Bool) (ps : List Size) (q : Size) (qs : List Size) → length (left_after related ps q) < length ps
-    → taken related ps (q ∷ qs) ≡ q ∷ taken related (left_after related ps q) qs
-taken-took related [] q qs h = absurd (omega arith)
-taken-took related (p ∷ ps) q qs h = go (related p q) h
-  where
-    go : (takes : Bool) → length (cond takes ps (p ∷ ps)) < length (p ∷ ps)
-        → cond takes (q ∷ taken related ps qs) (taken related (p ∷ ps) qs) ≡ q ∷ taken related (cond takes ps (p ∷ ps)) qs
-    go true h = refl
-    go false h = absurd (omega arith)
-
-pub taken-left : (related : Size → Size → Bool) (ps : List Size) (q : Size) (qs : List Size) → length ps ≤ length (left_after related ps q)
-    → taken related ps (q ∷ qs) ≡ taken related (left_after related ps q) qs
-taken-left related [] q qs h = refl
-taken-left related (p ∷ ps) q qs h = go (related p q) h
-  where
-    go : (takes : Bool) → length (p ∷ ps) ≤ length (cond takes ps (p ∷ ps))
-        → cond takes (q ∷ taken related ps qs) (taken related (p ∷ ps) qs) ≡ taken related (cond takes ps (p ∷ ps)) qs
-    go true h = absurd (omega arith)
-    go false h = refl
-
-pub spare-took : (related : Size → Size → Bool) (ps : List Size) (q : Size) (qs : List Size) → length (left_after related ps q) < length ps
-    → spare related ps (q ∷ qs) ≡ spare related (left_after related ps q) qs
-spare-took related [] q qs h = absurd (omega arith)
-spare-took related (p ∷ ps) q qs h = go (related p q) h
-  where
-    go : (takes : Bool) → length (cond takes ps (p ∷ ps)) < length (p ∷ ps)
-        → cond takes (spare related ps qs) (q ∷ spare related (p ∷ ps) qs) ≡ spare related (cond takes ps (p ∷ ps)) qs
-    go true h = refl
-    go false h = absurd (omega arith)
-
-pub spare-left : (related : Size → Size → Bool) (ps : List Size) (q : Size) (qs : List Size) → length ps ≤ length (left_after related ps q)
-    → spare related ps (q ∷ qs) ≡ q ∷ spare related (left_after related ps q) qs
-spare-left related [] q qs h = refl
-spare-left related (p ∷ ps) q qs h = go (related p q) h
-  where
-    go : (takes : Bool) → length (p ∷ ps) ≤ length (cond takes ps (p ∷ ps))
-        → cond takes (spare related ps qs) (q ∷ spare related (p ∷ ps) qs) ≡ q ∷ spare related (cond takes ps (p ∷ ps)) qs
-    go true h = absurd (omega arith)
-    go false h = refl
+use Rattle.bound_table.specs.Below.{taken, spare, may_be_spare}
+use Rattle.bound_table.specs.Taking.{marked_one, marked, is_power_or_input, input_among, IsMarked}
 
 -- nothing is taken or left of no parts
 pub taken-none : (related : Size → Size → Bool) (ps : List Size) → taken related ps [] ≡ []
 taken-none related [] = refl
 taken-none related (p ∷ ps) = refl
-
-pub spare-none : (related : Size → Size → Bool) (ps : List Size) → spare related ps [] ≡ []
-spare-none related [] = refl
-spare-none related (p ∷ ps) = refl
-
--- those that look for one grow no heavier
-pub left_after-weight : (related : Size → Size → Bool) (ps : List Size) (q : Size) → factors_weight (left_after related ps q) ≤ factors_weight ps
-left_after-weight related [] q = omega arith
-left_after-weight related (p ∷ ps) q = go (related p q)
-  where
-    go : (takes : Bool) → factors_weight (cond takes ps (p ∷ ps)) ≤ factors_weight (p ∷ ps)
-    go true = omega arith
-    go false = omega arith
 
 -- marks keep their number
 length-marked_one : (marks : List Bool) (t : Size) → length (marked_one marks t) ≡ length marks

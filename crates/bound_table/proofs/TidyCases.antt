@@ -11,7 +11,7 @@ use Rattle.bound_table.specs.declared.kinds.Case.TheVariants.{Flat, FoldConst, Z
 use Rattle.bound_table.specs.declared.kinds.Kind.{Kind}
 use Rattle.bound_table.specs.declared.kinds.Kind.TheVariants.{AsSum, AsProd, AsMax}
 use Rattle.bound_table.specs.Kinds.{whole, unit_of, is_zero}
-use Rattle.bound_table.specs.Terms.{factors_of, behind_constant}
+use Rattle.bound_table.specs.Terms.{factors_of}
 use Rattle.bound_table.specs.Folding.{spread, spliced, folded, zeroed, without_neutral, simple}
 use Rattle.bound_table.specs.Sorting.{sorted}
 use Rattle.bound_table.specs.Likes.{times, likes_joined}
@@ -19,7 +19,7 @@ use Rattle.bound_table.specs.Dominance.{dominant}
 use Rattle.bound_table.specs.Rewriting.{at_parts, at_node, at_node_all, parts_passed, one_pass_each, one_pass, simplified}
 use Rattle.bound_table.proofs.Passes.{passes, simplified-is}
 use Rattle.bound_table.specs.Laws.{IsTidying}
-use Rattle.bound_table.proofs.Kept.{Each, IsFilled, IsKept, Each-append, Each-spliced, Each-folded, Each-without_neutral, Each-sorted, Each-likes_joined, Each-dominant}
+use Rattle.bound_table.proofs.Kept.{Each, IsFilled, IsKept, Each-append, Each-behind_constant, Each-spliced, Each-folded, Each-without_neutral, Each-sorted, Each-likes_joined, Each-dominant}
 
 -- it is no node of the kind
 abbrev IsNoKind : Kind → Size → Type 0
@@ -31,11 +31,6 @@ IsNoKind AsMax b = IsNoGreatest b
 abbrev IsTidyPart : Kind → Size → Type 0
 IsTidyPart k b = IsTidy b × IsNoKind k b
 
--- from parts to lists and back
-AreTidy-each : (ps : Parts) → AreTidy ps → Each IsTidy (list_of ps)
-AreTidy-each NoParts tidy = tt
-AreTidy-each (Part p ps) tidy = (tidy.0, AreTidy-each ps tidy.1)
-
 each-part : (P : Size → Type 0) (ps : Parts) → EachPart P ps → AreTidy ps → Each (λ p. IsTidy p × P p) (list_of ps)
 each-part P NoParts each tidy = tt
 each-part P (Part p ps) each tidy = ((tidy.0, each.0), each-part P ps each.1 tidy.1)
@@ -45,20 +40,11 @@ parts-tidy P [] each = (tt, tt)
 parts-tidy P (p ∷ ps) each = let rest = parts-tidy P ps each.1 in ((each.0.1, rest.0), (each.0.0, rest.1))
 
 -- factors of a tidy part
-behind-tidy : (P : Size → Type 0) (ps : List Size) → Each P ps → Each P (behind_constant ps)
-behind-tidy P [] each = each
-behind-tidy P (Constant c ∷ ps) each = each.1
-behind-tidy P (Input i ∷ ps) each = each
-behind-tidy P (SumOf qs ∷ ps) each = each
-behind-tidy P (ProductOf qs ∷ ps) each = each
-behind-tidy P (GreatestOf qs ∷ ps) each = each
-behind-tidy P (PowerOf c e ∷ ps) each = each
-
 factors-tidy : (p : Size) → IsTidy p → Each (λ f. IsTidy f × IsNoProduct f) (factors_of p)
 factors-tidy (Constant c) tidy = tt
 factors-tidy (Input i) tidy = ((tidy, tt), tt)
 factors-tidy (SumOf ps) tidy = ((tidy, tt), tt)
-factors-tidy (ProductOf ps) tidy = behind-tidy (λ f. IsTidy f × IsNoProduct f) (list_of ps) (each-part IsNoProduct ps tidy.1 tidy.2)
+factors-tidy (ProductOf ps) tidy = Each-behind_constant (λ f. IsTidy f × IsNoProduct f) (list_of ps) (each-part IsNoProduct ps tidy.1 tidy.2)
 factors-tidy (GreatestOf ps) tidy = ((tidy, tt), tt)
 factors-tidy (PowerOf c e) tidy = ((tidy, tt), tt)
 

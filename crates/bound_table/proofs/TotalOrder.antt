@@ -158,10 +158,11 @@ mutual
       let both = ordering_then-parts (compared p q) (all_compared ps qs) e in
       ap (λ (b : Size). Part b ps) (compared-same p q both.0) ∙ ap (Part q) (all_compared-same ps qs both.1)
 
+-- a test for equality that passes
+pub is_eq-Equal : (o : Ordering) → is_eq o ≡ true → o ≡ Equal
+is_eq-Equal Less e = cc
+is_eq-Equal Equal e = refl
+is_eq-Equal Greater e = cc
+
 pub is_eq-same : (a b : Size) → is_eq (compared a b) ≡ true → a ≡ b
-is_eq-same a b same = compared-same a b (Equal-only (compared a b) same)
-  where
-    Equal-only : (o : Ordering) → is_eq o ≡ true → o ≡ Equal
-    Equal-only Less e = cc
-    Equal-only Equal e = refl
-    Equal-only Greater e = cc
+is_eq-same a b same = compared-same a b (is_eq-Equal (compared a b) same)
