@@ -5,6 +5,8 @@
 mod steady;
 #[cfg(test)]
 mod tests;
+#[cfg(test)]
+mod texts;
 
 use koat_cli::{Status, run};
 use outside_io::{FileShelf, OutSink};

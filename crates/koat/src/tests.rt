@@ -48,46 +48,55 @@ fn words_of(alloc: Global, words: &[&str]) -> Result<Vec<String>, AllocError> {
     Ok(all)
 }
 
+// Rules, with the status and the text of the answer to them.
+const PROGRAMS: &[(&str, Status, &[u8])] = &[
+    (ONE_RULE, Status::Done, BOUNDED),
+    (
+        "l0(A) -> Com_1(l1(A)) l1(A) -> Com_1(l2(A)) l0(A) -> Com_1(l2(A))",
+        Status::Done,
+        b"bounded\ntime 1: 1\ntime 2: 1\ntime 3: 1\ntotal: 3\n",
+    ),
+    ("l0(A) -> Com_1(l0(A))", Status::ProgramRefused, CYCLE),
+    (
+        "l0(A) -> Com_1(l1(A)) l1(A) -> Com_1(l0(A))",
+        Status::ProgramRefused,
+        CYCLE,
+    ),
+    (
+        "l0(A) -> Com_1(l1(A)) l1(A) -> Com_1(l1(A-1)) :|: A >= 1",
+        Status::ProgramRefused,
+        FORM,
+    ),
+    ("l1(A) -> Com_1(l1(A))", Status::ProgramRefused, FORM),
+    ("", Status::ProgramRefused, FORM),
+    (
+        "l0(B,A) -> Com_1(l1(A,A,B)) l7() -> Com_1(l8())",
+        Status::Done,
+        b"bounded\ntime 1: 1\ntime 2: 1\ntotal: 2\n",
+    ),
+    (
+        "l0() -> Com_1(a()) l0() -> Com_1(b()) l0() -> Com_1(c()) l0() -> Com_1(d()) l0() -> Com_1(e()) l0() -> Com_1(f()) \
+         l0() -> Com_1(g()) l0() -> Com_1(h()) l0() -> Com_1(i()) l0() -> Com_1(j()) l0() -> Com_1(k()) l0() -> Com_1(m())",
+        Status::Done,
+        b"bounded\ntime 1: 1\ntime 2: 1\ntime 3: 1\ntime 4: 1\ntime 5: 1\ntime 6: 1\ntime 7: 1\ntime 8: 1\ntime 9: 1\n\
+          time 10: 1\ntime 11: 1\ntime 12: 1\ntotal: 12\n",
+    ),
+];
+
 #[test]
 fn programs_are_analysed_or_refused(rt: HostRuntime) -> Result<(), Fail> {
     let alloc = rt.alloc();
-    let table: [(&str, Status, &[u8]); 8] = [
-        (ONE_RULE, Status::Done, BOUNDED),
-        (
-            "l0(A) -> Com_1(l1(A)) l1(A) -> Com_1(l2(A)) l0(A) -> Com_1(l2(A))",
-            Status::Done,
-            b"bounded\ntime 1: 1\ntime 2: 1\ntime 3: 1\ntotal: 3\n",
-        ),
-        ("l0(A) -> Com_1(l0(A))", Status::ProgramRefused, CYCLE),
-        (
-            "l0(A) -> Com_1(l1(A)) l1(A) -> Com_1(l0(A))",
-            Status::ProgramRefused,
-            CYCLE,
-        ),
-        (
-            "l0(A) -> Com_1(l1(A)) l1(A) -> Com_1(l1(A-1)) :|: A >= 1",
-            Status::ProgramRefused,
-            FORM,
-        ),
-        ("l1(A) -> Com_1(l1(A))", Status::ProgramRefused, FORM),
-        ("", Status::ProgramRefused, FORM),
-        (
-            "l0(B,A) -> Com_1(l1(A,A,B)) l7() -> Com_1(l8())",
-            Status::Done,
-            b"bounded\ntime 1: 1\ntime 2: 1\ntotal: 2\n",
-        ),
-    ];
     let words = words_of(alloc, &["analyse", "p"])?;
-    for (rules, status, output) in table {
+    for (rules, status, output) in PROGRAMS {
         let files = one_file(alloc, "p", text_of(alloc, rules)?)?;
         let mut shelf = MemoryShelf::new(files, Vec::new(alloc));
         let mut sink = MemorySink::new(alloc, 999, Vec::new(alloc))?;
         assert_eq!(rt;
             run(alloc, &words, &mut shelf, &mut sink),
-            status,
+            *status,
             "at {rules}"
         );
-        assert_eq!(rt; sink.bytes(), output, "at {rules}");
+        assert_eq!(rt; sink.bytes(), *output, "at {rules}");
         assert_eq!(rt; shelf.calls(), 1);
     }
     Ok(())
