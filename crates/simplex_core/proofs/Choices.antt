@@ -9,7 +9,7 @@ use Rattle.int_laws.proofs.OrderLaws.{mul-lt-mul_ℤ, mul-cancel_ℤ, lt-of-mul_
 use Rattle.simplex_core.specs.LinearProgram.{LinearProgram}
 use Rattle.simplex_core.specs.Tableau.{Tableau, unknowns}
 use Rattle.simplex_core.specs.Bland.{goes_before, is_candidate, leaving}
-use Rattle.simplex_core.proofs.Searches.{and-both, both-and, every-each, each-every, least-found, least-none, last_or_before}
+use Rattle.simplex_core.proofs.Searches.{and-both, and_no, no_and, second_fails, both-and, every-each, each-every, least-found, least-none, last_or_before}
 use Rattle.simplex_core.proofs.Pivots.{IsPivot}
 
 -- a test of an order on ℤ that holds
@@ -142,14 +142,6 @@ best_of : (p : LinearProgram) (t : Tableau) (c m : ℕ)
 best_of p t c zero = inl (λ i l. absurd (omega arith))
 best_of p t c (suc m) = go (best_of p t c m) (is_candidate t c m) refl
   where
-    no_and : (a b : Bool) → a ≡ false → (a && b) ≡ false
-    no_and true b e = cc
-    no_and false b e = refl
-
-    and_no : (a b : Bool) → b ≡ false → (a && b) ≡ false
-    and_no true b e = e
-    and_no false b e = refl
-
     -- where neither is before, one that the second is not after stays minimal
     not_before : (i r : ℕ) → (a b : Bool) → is_candidate t c i ≡ a → goes_before p t c i r ≡ b → (is_candidate t c i ≡ true → ¬ IsBefore (ratio p t c i) (ratio p t c r))
         → (a && b) ≡ false
@@ -247,12 +239,8 @@ leaving-is_pivot p t c r l h =
         → (t.entry r (unknowns p) *ℤ t.entry i c) ≤ℤ (t.entry i (unknowns p) *ℤ t.entry r c)
     at_most i above e = go (int_lt (t.entry i (unknowns p) *ℤ t.entry r c) (t.entry r (unknowns p) *ℤ t.entry i c)) refl
       where
-        second : (a b : Bool) → a ≡ true → (a && b) ≡ false → b ≡ false
-        second true b f g = g
-        second false b f g = cc
-
         not_less : goes_before p t c i r ≡ false
-        not_less = second _ _ (lt-int_lt _ _ above) e
+        not_less = second_fails _ _ e (lt-int_lt _ _ above)
 
         go : (v : Bool) → int_lt (t.entry i (unknowns p) *ℤ t.entry r c) (t.entry r (unknowns p) *ℤ t.entry i c) ≡ v
             → (t.entry r (unknowns p) *ℤ t.entry i c) ≤ℤ (t.entry i (unknowns p) *ℤ t.entry r c)

@@ -9,7 +9,7 @@ use Rattle.simplex_core.specs.Search.{or_else, least}
 use Rattle.simplex_core.specs.Tableau.{Tableau, unknowns}
 use Rattle.simplex_core.specs.Bland.{goes_before, is_candidate, leaving, IsBest}
 use Rattle.simplex_core.specs.Cells.{IsBestOf}
-use Rattle.simplex_core.proofs.Searches.{and-both, every-each, least-found, last_or_before}
+use Rattle.simplex_core.proofs.Searches.{and-both, second_fails, every-each, least-found, last_or_before}
 use Rattle.simplex_core.proofs.Invariant.{IsTableauOf, same_or_other}
 use Rattle.simplex_core.proofs.Regions.{choose-same, choose-other}
 use Rattle.simplex_core.proofs.Points.{point}
@@ -81,17 +81,13 @@ tied p t c i r a b = go (cases_lt (t.basis i) (t.basis r)) (cases_lt (t.basis r)
 pub best-leaves : (p : LinearProgram) (t : Tableau) (c r : ℕ) → IsTableauOf p t → IsBest p t c p.rows r → leaving p t c ≡ Some r
 best-leaves p t c r h best = go (leaving-there p t c r best.row (candidate-positive t c r best.candidate))
   where
-    second : (a b : Bool) → a ≡ true → (a && b) ≡ false → b ≡ false
-    second true b f g = g
-    second false b f g = cc
-
     go : (k : ℕ) × (leaving p t c ≡ Some k) → leaving p t c ≡ Some r
     go found =
         let k = found.0 in
         let passes = least-found p.rows _ k found.1 in
         let parts = and-both _ _ passes.1 in
-        let before = second (is_candidate t c r) (goes_before p t c r k) best.candidate
-        (not-true _ (every-each p.rows (λ i. not (is_candidate t c i && goes_before p t c i k)) parts.1 r best.row)) in
+        let before = second_fails (is_candidate t c r) (goes_before p t c r k)
+        (not-true _ (every-each p.rows (λ i. not (is_candidate t c i && goes_before p t c i k)) parts.1 r best.row)) best.candidate in
         let same = basis-apart p t k r h passes.0 best.row (tied p t c k r (best.best k passes.0 parts.0) before) in
         found.1 ∙ ap Some same
 

@@ -29,4 +29,5 @@ pub mod ProgramFields
 pub mod Filled
 pub mod Large
 pub mod Answering
+pub mod ArtificialSums
 pub mod Certificates

@@ -13,7 +13,7 @@ use Rattle.simplex_core.specs.LinearProgram.{LinearProgram, IsSolution}
 use Rattle.simplex_core.specs.Search.{every, some, or_else, least}
 use Rattle.simplex_core.specs.Tableau.{Tableau, unknowns, cost_row, sign_of, equation}
 use Rattle.simplex_core.specs.Bland.{may_enter, entering, is_infeasible}
-use Rattle.simplex_core.proofs.Searches.{both-and, each-every, some-none, least-none}
+use Rattle.simplex_core.proofs.Searches.{second_fails, both-and, each-every, some-none, least-none}
 use Rattle.simplex_core.proofs.Regions.{equation-column, equation-right, sign_of-square}
 use Rattle.simplex_core.proofs.Invariant.{IsTableauOf, SolvesEquations}
 use Rattle.simplex_core.proofs.Points.{CommonScale, point-nonneg, point-zero}
@@ -31,11 +31,6 @@ pub record EndsOptimal (p : LinearProgram) (t : Tableau) : Type 0 where
 other_fails : (a b : Bool) → (a && b) ≡ false → b ≡ true → a ≡ false
 other_fails true b h k = cc
 other_fails false b h k = refl
-
--- the second part of a conjunction fails where the first holds
-second_fails : (a b : Bool) → (a && b) ≡ false → a ≡ true → b ≡ false
-second_fails true b h k = h
-second_fails false b h k = cc
 
 -- where no column may enter, none may by a cost row
 none_enters : (p : LinearProgram) (t : Tableau) → entering p t ≡ None

@@ -22,6 +22,16 @@ pub and_no : (a b : Bool) → b ≡ false → (a && b) ≡ false
 and_no true b h = h
 and_no false b h = refl
 
+-- a conjunction whose first part fails
+pub no_and : (a b : Bool) → a ≡ false → (a && b) ≡ false
+no_and true b h = cc
+no_and false b h = refl
+
+-- a conjunction that fails, and whose first part holds
+pub second_fails : (a b : Bool) → (a && b) ≡ false → a ≡ true → b ≡ false
+second_fails true b h k = h
+second_fails false b h k = cc
+
 -- a conjunction whose second part holds
 pub and_yes : (a b : Bool) → b ≡ true → (a && b) ≡ a
 and_yes true b h = h
@@ -109,17 +119,9 @@ pub fails-every : (n j : ℕ) (f : ℕ → Bool) → j < n → f j ≡ false →
 fails-every zero j f l h = absurd (omega arith)
 fails-every (suc n) j f l h = go (last_or_before n j l) (λ m. fails-every n j f m h)
   where
-    right : (a b : Bool) → b ≡ false → (a && b) ≡ false
-    right true b e = e
-    right false b e = refl
-
-    left : (a b : Bool) → a ≡ false → (a && b) ≡ false
-    left true b e = cc
-    left false b e = refl
-
     go : (j ≡ n) ⊎ (j < n) → (j < n → every n f ≡ false) → every (suc n) f ≡ false
-    go (inl e) ih = right (every n f) (f n) (ap f (sym e) ∙ h)
-    go (inr m) ih = left (every n f) (f n) (ih m)
+    go (inl e) ih = and_no (every n f) (f n) (ap f (sym e) ∙ h)
+    go (inr m) ih = no_and (every n f) (f n) (ih m)
 
 -- where neither n nor a number below it passes, none below n + 1 does
 pub some-more : (n : ℕ) (f : ℕ → Bool) → some n f ≡ false → f n ≡ false → some (suc n) f ≡ false

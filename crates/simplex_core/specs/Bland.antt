@@ -39,13 +39,15 @@ abbrev pub leaving : LinearProgram → Tableau → ℕ → Option ℕ
 leaving p t c =
     least p.rows (λ r. is_candidate t c r && every p.rows (λ i. not (is_candidate t c i && goes_before p t c i r)))
 
+-- whether the artificial unknowns of the basic solution add up to more than 0: as none of them is below 0, this
+-- is that a row is solved for one with a right side over 0 (`ArtificialSumsAreTold` says that the two are the same)
+abbrev pub has_artificial : LinearProgram → Tableau → Bool
+has_artificial p t = some p.rows (λ i. nat_le p.columns (t.basis i) && int_lt (pos 0) (t.entry i (unknowns p)))
+
 -- whether the sequence ends as infeasible: no column of the program has a negative reduced cost in
--- cost row 0, and the artificial unknowns add up to more than 0. As right sides stay at least 0, this is
--- that a row is solved for an artificial unknown with a right side over 0
+-- cost row 0, and the artificial unknowns add up to more than 0
 abbrev pub is_infeasible : LinearProgram → Tableau → Bool
-is_infeasible p t =
-    every p.columns (λ j. not (int_lt (t.entry (cost_row p 0) j) (pos 0)))
-    && some p.rows (λ i. nat_le p.columns (t.basis i) && int_lt (pos 0) (t.entry i (unknowns p)))
+is_infeasible p t = every p.columns (λ j. not (int_lt (t.entry (cost_row p 0) j) (pos 0))) && has_artificial p t
 
 -- the numerators, over the scale of cost row 0, of the dual at an end as infeasible: 1 less the reduced
 -- cost of the row's artificial unknown, negated back where the row was multiplied by -1

@@ -1,11 +1,13 @@
 -- The laws that the crate's functions state: what the certificates and the answers of `solve` mean.
-use Rattle.std.specs.Prelude.{◌≡◌, ℕ, ℤ, pos, ◌*ℤ◌, ◌≤ℤ◌, ◌<ℤ◌, Ok, Vec}
+use Rattle.std.specs.Prelude.{◌≡◌, ◌≢◌, ℕ, ◌<◌, ℤ, pos, ◌*ℤ◌, ◌≤ℤ◌, ◌<ℤ◌, Some, true, false, Ok, Vec}
 use Rattle.std.specs.declared.alloc.Global.{Global}
 use Rattle.frac128.specs.declared.frac.Frac.{Frac}
-use Rattle.int_laws.specs.Sums.{dot}
+use Rattle.int_laws.specs.Sums.{sum_to, dot}
 use Rattle.simplex_core.specs.declared.problem.Solved.{Solved}
 use Rattle.simplex_core.specs.declared.problem.Solved.TheVariants.{Optimal, Infeasible}
 use Rattle.simplex_core.specs.LinearProgram.{LinearProgram, IsSolution, IsLeast, IsDual}
+use Rattle.simplex_core.specs.Tableau.{Tableau, artificial, unknowns}
+use Rattle.simplex_core.specs.Bland.{has_artificial, tableau_at}
 use Rattle.simplex_core.specs.Outcome.{IsAnswer}
 
 -- x over d costs at most what y over e costs, by cross products
@@ -47,3 +49,17 @@ pub record OutcomeTellsSolutions : Type 0 where
   pub infeasible : (p : LinearProgram) (allowed : ℕ) (dual : Vec Frac Global) (k : ℕ)
       → IsAnswer p allowed (Ok (Infeasible dual k)) → ¬ HasSolution p
   pub exactly : (p : LinearProgram) (allowed : ℕ) (s : Solved) → IsAnswer p allowed (Ok s) → ¬ HasSolution p → SaysInfeasible s
+
+-- x over d is the basic solution of a tableau, with the artificial unknowns: the right side of each row at the unknown
+-- that it is solved for, and 0 at each other one
+pub record IsBasicPoint (p : LinearProgram) (t : Tableau) (x : ℕ → ℤ) (d : ℤ) : Type 0 where
+  pub denominator : pos 0 <ℤ d
+  pub basic : (i : ℕ) → i < p.rows → x (t.basis i) *ℤ t.scale i ≡ t.entry i (unknowns p) *ℤ d
+  pub other : (j : ℕ) → ((i : ℕ) → i < p.rows → t.basis i ≢ j) → x j ≡ pos 0
+
+-- at each tableau of the sequence the test of the artificial unknowns says whether their sum is over 0
+pub record ArtificialSumsAreTold : Type 0 where
+  pub over : (p : LinearProgram) (k : ℕ) (t : Tableau) (x : ℕ → ℤ) (d : ℤ) → tableau_at p k ≡ Some t → IsBasicPoint p t x d → has_artificial p t ≡ true
+      → pos 0 <ℤ sum_to p.rows (λ i. x (artificial p i))
+  pub none : (p : LinearProgram) (k : ℕ) (t : Tableau) (x : ℕ → ℤ) (d : ℤ) → tableau_at p k ≡ Some t → IsBasicPoint p t x d → has_artificial p t ≡ false
+      → sum_to p.rows (λ i. x (artificial p i)) ≡ pos 0

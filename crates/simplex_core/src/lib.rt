@@ -12,6 +12,8 @@ mod solving;
 #[cfg(test)]
 mod tests;
 
-pub use laws::{dual_excludes_solutions, least_costs_least, outcome_tells_solutions};
+pub use laws::{
+    artificial_sums_are_told, dual_excludes_solutions, least_costs_least, outcome_tells_solutions,
+};
 pub use problem::{Entry, Problem, SolveError, Solved};
 pub use solving::solve;

@@ -5,7 +5,7 @@ ghost use Rattle.int_laws.specs.NormalForm.{is_zero};
 ghost use Rattle.simplex_core.specs.LinearProgram.{LinearProgram};
 ghost use Rattle.simplex_core.specs.Tableau.{Tableau, unknowns, cost_row};
 ghost use Rattle.simplex_core.specs.Search.{least, every, some};
-ghost use Rattle.simplex_core.specs.Bland.{may_enter, entering, is_infeasible};
+ghost use Rattle.simplex_core.specs.Bland.{may_enter, entering, has_artificial, is_infeasible};
 ghost use Rattle.simplex_core.specs.Cells.{width, Shows};
 
 use crate::dense_table::DenseTable;
@@ -77,7 +77,7 @@ impl DenseTable {
     /// Whether an artificial unknown is over 0.
     fn has_artificial(&self) -> bool
         ensures { (p : LinearProgram) (t : Tableau) → Shows p self.now t
-            → result ≡ some p.rows (λ i. nat_le p.columns (t.basis i) && int_lt (pos 0) (t.entry i (unknowns p))) }
+            → result ≡ has_artificial p t }
     {
         for row in 0..self.rows {
             if self.is_artificial_over_zero(row) {
