@@ -1,15 +1,12 @@
 -- How large the tree so far is, by the place of the code.
-use Rattle.std.proofs.Common.{◌≡◌, ℕ, ◌+◌, ◌<◌, max, List, length, take, get_or, refl, ap, sym, ◌∙◌, arith}
-use Rattle.std.proofs.lemmas.List.{take_more}
+use Rattle.std.proofs.Common.{◌≡◌, ◌+◌, max, refl, arith}
 use Rattle.model.specs.Bounds.{Constant, Input, Parts}
 use Rattle.bound_expr.specs.Measure.{node_count_of_all, greatest_depth}
-use Rattle.bound_text.specs.Fronts.{Outer, Inside, nodes_of, inner_levels, nodes_round, levels_above}
-use Rattle.bound_text.specs.Views.{parts_in, bracket_of, outer_of, front_with, sum_here, product_here, item_here}
-use Rattle.bound_text.specs.declared.state.Opened.{Opened}
+use Rattle.bound_text.specs.Fronts.{Outer, nodes_of, inner_levels, nodes_round, levels_above}
+use Rattle.bound_text.specs.Views.{front_with, sum_here, product_here, item_here}
 use Rattle.bound_text.specs.declared.state.Place.{Place}
 use Rattle.bound_text.specs.declared.state.Place.TheVariants as at
 use Rattle.bound_text.proofs.PartLaws.{node_count-with_part, depth-with_part, product_node-with_part}
-use Rattle.bound_text.proofs.ViewLaws.{outer_of_push}
 
 -- a leaf that is no factor yet counts like one
 pub nodes_here : (place : Place) (outer : Outer) (ts fs : Parts)
@@ -36,13 +33,5 @@ levels_here at.ItemRead outer ts fs = refl
 levels_here at.BlankRead outer ts fs = refl
 levels_here at.PlusRead outer ts fs = refl
 levels_here at.CommaRead outer ts fs = refl
-
--- one more bracket
-pub outer_of-take_more : (xs : List Opened) (i : ℕ) (x : Opened) → i < length xs → x ≡ get_or xs i x
-    → outer_of (take (i + 1) xs) ≡ Inside (bracket_of x.bracket) (parts_in x.terms) (parts_in x.factors) (outer_of (take i xs))
-outer_of-take_more xs i x h e =
-    ap outer_of (take_more xs i x h)
-    ∙ outer_of_push (take i xs) (get_or xs i x)
-    ∙ ap (λ (y : Opened). Inside (bracket_of y.bracket) (parts_in y.terms) (parts_in y.factors) (outer_of (take i xs))) (sym e)
 
 pub ruleset here = (nodes_here, levels_here)

@@ -1,11 +1,14 @@
 -- Open brackets of the code, and what they are as plain data.
-use Rattle.std.proofs.Common.{◌≡◌, nat_eq, ℕ, suc, false, ◌-◌, List, [], ◌∷◌, ◌++◌, length, arith, Some, refl, ap, ◌∙◌}
+use Rattle.std.proofs.Common.{◌≡◌, nat_eq, ℕ, suc, Bool, true, false, sym, Option, None, ◌-◌, List, [], ◌∷◌, ◌++◌, length, arith, Some, refl, ap, ◌∙◌, subst}
 use Rattle.bound_text.specs.Fronts.{Bracket, Arguments, Exponent, Factor, Outer, Whole, Inside}
-use Rattle.std.specs.Prelude.{slice_get}
+use Rattle.std.specs.Prelude.{slice_get, if◌then◌else◌, MatchOption, ⊤}
+use Rattle.std.specs.Option.{option_to_list}
+use Rattle.std.proofs.lemmas.List.{append-nil}
 use Rattle.bound_text.specs.Fronts.{in_arguments}
 use Rattle.std.proofs.lemmas.Bool.Decides.{nat_tests}
 use Rattle.bound_text.specs.Steps.{is_whole}
-use Rattle.bound_text.specs.Views.{is_arguments, parts_in, bracket_of, outer_from, outer_of}
+use Rattle.bound_text.specs.Views.{is_arguments}
+use Rattle.bound_text.specs.Brackets.{parts_in, bracket_of, outer_from, outer_of, IsRound, AreRoundsFrom, AreRounds}
 use Rattle.model.specs.Bounds.{Parts}
 use Rattle.bound_text.specs.declared.state.Opened.{Opened}
 
@@ -44,3 +47,54 @@ is_whole_from bracket ts fs outer (x ∷ xs) = is_whole_from (bracket_of x.brack
 pub is_whole_empty : (xs : List Opened) → is_whole (outer_of xs) ≡ nat_eq (length xs) 0
 is_whole_empty [] = refl
 is_whole_empty (x ∷ xs) = is_whole_from (bracket_of x.bracket) (parts_in x.terms) (parts_in x.factors) Whole xs ∙ (let e : false ≡ nat_eq (suc (length xs)) 0 = grind (arith, nat_tests) in e)
+
+-- one more bracket that tells its count
+rounds_from_push : (outer : Outer) (xs : List Opened) (x : Opened) → AreRoundsFrom outer xs
+    → IsRound (Inside (bracket_of x.bracket) (parts_in x.terms) (parts_in x.factors) (outer_from outer xs)) x.within → AreRoundsFrom outer (xs ++ x ∷ [])
+rounds_from_push outer [] x rounds round = (round, tt)
+rounds_from_push outer (y ∷ ys) x rounds round = (rounds.0, rounds_from_push (Inside (bracket_of y.bracket) (parts_in y.terms) (parts_in y.factors) outer) ys x rounds.1 round)
+
+-- and from the outermost on
+pub rounds_push : (xs : List Opened) (x : Opened) → AreRounds xs → IsRound (Inside (bracket_of x.bracket) (parts_in x.terms) (parts_in x.factors) (outer_of xs)) x.within → AreRounds (xs ++ x ∷ [])
+rounds_push xs x rounds round = rounds_from_push Whole xs x rounds round
+
+-- one bracket less
+rounds_from_front : (outer : Outer) (xs : List Opened) (x : Opened) → AreRoundsFrom outer (xs ++ x ∷ []) → AreRoundsFrom outer xs
+rounds_from_front outer [] x rounds = tt
+rounds_from_front outer (y ∷ ys) x rounds = (rounds.0, rounds_from_front (Inside (bracket_of y.bracket) (parts_in y.terms) (parts_in y.factors) outer) ys x rounds.1)
+
+-- and from the outermost on
+pub rounds_front : (xs : List Opened) (x : Opened) → AreRounds (xs ++ x ∷ []) → AreRounds xs
+rounds_front xs x rounds = rounds_from_front Whole xs x rounds
+
+-- the innermost bracket tells what is counted round the innermost bound
+rounds_from_last : (outer : Outer) (xs : List Opened) (x : Opened) → slice_get xs (length xs - 1) ≡ Some x → AreRoundsFrom outer xs → IsRound (outer_from outer xs) x.within
+rounds_from_last outer [] x h rounds = cc
+rounds_from_last outer (y ∷ []) x h rounds =
+    let e : y ≡ x = cc in
+    subst (λ (o : Opened). IsRound (Inside (bracket_of y.bracket) (parts_in y.terms) (parts_in y.factors) outer) o.within) e rounds.0
+rounds_from_last outer (y ∷ z ∷ xs) x h rounds =
+    rounds_from_last (Inside (bracket_of y.bracket) (parts_in y.terms) (parts_in y.factors) outer) (z ∷ xs) x
+    (ap (λ (k : ℕ). slice_get (y ∷ z ∷ xs) k) (let e : suc (length (z ∷ xs) - 1) ≡ length (y ∷ z ∷ xs) - 1 = omega arith in e) ∙ h) rounds.1
+
+-- and from the outermost on
+pub rounds_last : (xs : List Opened) (x : Opened) → slice_get xs (length xs - 1) ≡ Some x → AreRounds xs → IsRound (outer_of xs) x.within
+rounds_last xs x h rounds = rounds_from_last Whole xs x h rounds
+
+-- a bracket was opened, or wasn't for want of memory
+pub rounds_pushed : (opens : Bool) (xs ys : List Opened) (x : Opened) → ys ≡ (if opens then xs ++ x ∷ [] else xs) → AreRounds xs
+    → IsRound (Inside (bracket_of x.bracket) (parts_in x.terms) (parts_in x.factors) (outer_of xs)) x.within → AreRounds ys
+rounds_pushed true xs ys x e rounds round = subst AreRounds (sym e) (rounds_push xs x rounds round)
+rounds_pushed false xs ys x e rounds round = subst AreRounds (sym e) rounds
+
+-- the innermost bracket was closed, if one was open
+pub rounds_popped : (r : Option Opened) (xs ys : List Opened) → xs ≡ ys ++ option_to_list r → AreRounds xs → AreRounds ys
+rounds_popped None xs ys e rounds = subst AreRounds (e ∙ append-nil ys) rounds
+rounds_popped (Some x) xs ys e rounds = rounds_front ys x (subst AreRounds e rounds)
+
+-- and what stood round it stands round it no more
+pub outer_popped : (r : Option Opened) (xs ys : List Opened) → xs ≡ ys ++ option_to_list r → MatchOption r (length xs ≡ 0) (λ _. ⊤)
+    → MatchOption r (outer_of xs ≡ Whole) (λ x. outer_of xs ≡ Inside (bracket_of x.bracket) (parts_in x.terms) (parts_in x.factors) (outer_of ys))
+outer_popped None [] ys e none = refl
+outer_popped None (x ∷ xs) ys e none = cc
+outer_popped (Some x) xs ys e some = ap outer_of e ∙ outer_of_push ys x

@@ -11,4 +11,5 @@ pub mod Steps
 pub mod Faults
 pub mod Verdicts
 pub mod Checks
+pub mod Brackets
 pub mod Views

@@ -1,44 +1,26 @@
 -- What has been read of a text, as plain data.
-use Rattle.std.specs.Prelude.{◌≡◌, ℕ, ◌^◌, ◌-◌, min, if◌then◌else◌, Bool, true, false, not, List, [], ◌∷◌, Option, Some, None, Result, Ok, Err, ⊤, IsTrue}
+use Rattle.std.specs.Prelude.{◌≡◌, ℕ, if◌then◌else◌, Bool, true, false, not, Option, Some, None, Result, Ok, Err, ⊤, IsTrue}
 use Rattle.model.specs.Bounds.{Size, Constant, Input, Parts}
 use Rattle.bound_expr.specs.declared.bound.Bound.{Bound}
-use Rattle.bound_expr.specs.Views.{size_of, sizes_of, parts_of}
+use Rattle.bound_expr.specs.Views.{size_of}
 use Rattle.bound_text.specs.Fronts as fronts
 use Rattle.bound_text.specs.Fronts.{Front, Outer, Whole, Inside, last, init}
 use Rattle.bound_text.specs.Steps.{front_at, behind_factor}
 use Rattle.bound_text.specs.Faults as plain
 use Rattle.bound_text.specs.Checks.{Checked, Refused, Reached, Verdict, Faulty, Stands, takes_caret}
-use Rattle.bound_text.specs.declared.measured.Measured.{Measured}
-use Rattle.bound_text.specs.declared.state.Bracket.{Bracket}
-use Rattle.bound_text.specs.declared.state.Bracket.TheVariants as brackets
-use Rattle.bound_text.specs.declared.state.Opened.{Opened}
+pub use Rattle.bound_text.specs.Brackets.{parts_in, bracket_of, outer_from, outer_of, IsRound}
+use Rattle.bound_text.specs.declared.brackets.Brackets.{Brackets}
 use Rattle.bound_text.specs.declared.state.Place.{Place}
 use Rattle.bound_text.specs.declared.state.Place.TheVariants as at
 use Rattle.bound_text.specs.declared.state.Reader.{Reader}
-use Rattle.bound_text.specs.declared.size.Round.{Round}
 use Rattle.bound_text.specs.declared.error.BoundTextError.{BoundTextError}
 use Rattle.bound_text.specs.declared.error.BoundTextError.TheVariants as errors
 use Rattle.bound_text.specs.declared.fault.Fault.{Fault}
 use Rattle.bound_text.specs.declared.fault.Fault.TheVariants as faults
 
--- measured bounds as parts
-abbrev pub parts_in : Measured → Parts
-parts_in m = parts_of (sizes_of m.bounds.items)
-
--- what an open bracket belongs to
-abbrev pub bracket_of : Bracket → fronts.Bracket
-bracket_of (brackets.Arguments bs) = fronts.Arguments (parts_in bs)
-bracket_of (brackets.Exponent c) = fronts.Exponent c
-bracket_of brackets.Factor = fronts.Factor
-
--- open brackets, the outermost first, inside what stands round them
-abbrev pub outer_from : Outer → List Opened → Outer
-outer_from outer [] = outer
-outer_from outer (x ∷ xs) = outer_from (Inside (bracket_of x.bracket) (parts_in x.terms) (parts_in x.factors) outer) xs
-
--- what stands round the innermost bound
-abbrev pub outer_of : List Opened → Outer
-outer_of xs = outer_from Whole xs
+-- the open brackets, as what stands round the innermost bound
+abbrev pub outer_in : Brackets → Outer
+outer_in b = outer_of b.opened.items
 
 -- the front at a place of the code
 abbrev pub front_with : Place → Outer → Parts → Parts → Front
@@ -54,7 +36,7 @@ front_with at.CommaRead outer ts fs = front_at outer ts fs fronts.CommaRead
 
 -- the part that has been read
 abbrev pub front_of : Reader → Front
-front_of r = front_with r.place (outer_of r.outer.items) (parts_in r.terms) (parts_in r.factors)
+front_of r = front_with r.place (outer_in r.outer) (parts_in r.terms) (parts_in r.factors)
 
 -- behind an item that is a factor already no `^` can come, and a variable that is none yet goes on no run
 abbrev pub is_settled_at : Place → Parts → Bool
@@ -151,9 +133,3 @@ item_here (at.Name i) = 1
 item_here (at.RunCaret i) = 1
 item_here (at.PowerCaret c) = 1
 item_here place = 0
-
--- what is counted round the innermost bound, each up to 2^64-1
-pub record IsRound (outer : Outer) (round : Round) : Type 0 where
-  pub nodes : round.nodes ≡ min (fronts.nodes_round outer) (2 ^ 64 - 1)
-  pub levels : round.levels ≡ min (fronts.levels_above outer) (2 ^ 64 - 1)
-  pub in_factor : round.in_factor ≡ fronts.in_factor outer

@@ -1,50 +1,109 @@
 // From terms and factors to one bound.
 
 ghost use Rattle.std.specs.Prelude.{◌≡◌, IfOk, MatchOption, if◌then◌else◌};
-ghost use Rattle.model.specs.Bounds.{ProductOf, SumOf};
-ghost use Rattle.bound_expr.specs.Views.{size_of, sizes_of, parts_of};
+ghost use Rattle.model.specs.Bounds.{ProductOf, SumOf, GreatestOf, PowerOf};
+ghost use Rattle.bound_expr.specs.Views.{size_of};
 ghost use Rattle.bound_text.specs.Shapes.{is_sum as is_sum_size, is_greatest as is_greatest_size, is_leaf as is_leaf_size, is_empty as has_none};
 ghost use Rattle.bound_text.specs.Fronts.{as_one, bound_of, can_end as terms_can_end, is_input, last, lone as lone_of, passes, product_node};
 ghost use Rattle.bound_text.specs.Views.{parts_in};
 
 use crate::kinds::{is_greatest, is_leaf, is_sum, is_variable};
-use crate::measured::Measured;
+use crate::measured::{Counted, Measured};
 use bound_expr::{Bound, Memory};
+use std::alloc::{AllocError, Global};
 
 /// A single factor by itself, and others as a product.
 #[tactic(auto, using(crate::proofs::JoiningLaws::as_one_more))]
-pub fn product_from(mut factors: Vec<Bound>) -> Bound
-    ensures { size_of result ≡ as_one ProductOf (parts_of (sizes_of factors.items)) }
+pub fn product_from(factors: Measured) -> Counted
+    ensures { size_of result.bound ≡ as_one ProductOf (parts_in factors) }
 {
-    if factors.len() != 1 {
-        return Bound::Prod(factors);
+    let Measured {
+        mut bounds,
+        nodes,
+        depth,
+    } = factors;
+    if bounds.len() != 1 {
+        return Counted {
+            bound: Bound::Prod(bounds),
+            nodes: nodes.saturating_add(1),
+            depth: depth.saturating_add(1),
+        };
     }
-    match factors.pop() {
-        Some(only) => only,
+    match bounds.pop() {
+        Some(bound) => Counted {
+            bound,
+            nodes,
+            depth,
+        },
         None => unreachable!(),
     }
 }
 
 /// A single term by itself, and others as a sum.
 #[tactic(auto, using(crate::proofs::JoiningLaws::as_one_more))]
-pub fn sum_from(mut terms: Vec<Bound>) -> Bound
-    ensures { size_of result ≡ as_one SumOf (parts_of (sizes_of terms.items)) }
+pub fn sum_from(terms: Measured) -> Counted
+    ensures { size_of result.bound ≡ as_one SumOf (parts_in terms) }
 {
-    if terms.len() != 1 {
-        return Bound::Sum(terms);
+    let Measured {
+        mut bounds,
+        nodes,
+        depth,
+    } = terms;
+    if bounds.len() != 1 {
+        return Counted {
+            bound: Bound::Sum(bounds),
+            nodes: nodes.saturating_add(1),
+            depth: depth.saturating_add(1),
+        };
     }
-    match terms.pop() {
-        Some(only) => only,
+    match bounds.pop() {
+        Some(bound) => Counted {
+            bound,
+            nodes,
+            depth,
+        },
         None => unreachable!(),
     }
 }
 
 /// The bound that terms and the factors of the last one make.
-pub fn bound_from(mut terms: Measured, factors: Measured) -> Result<Bound, Memory>
-    ensures { IfOk result (λ b. size_of b ≡ bound_of (parts_in terms) (parts_in factors)) }
+pub fn bound_from(mut terms: Measured, factors: Measured) -> Result<Counted, Memory>
+    ensures { IfOk result (λ b. size_of b.bound ≡ bound_of (parts_in terms) (parts_in factors)) }
 {
-    terms.push(product_from(factors.bounds))?;
-    Ok(sum_from(terms.bounds))
+    terms.push_counted(product_from(factors))?;
+    Ok(sum_from(terms))
+}
+
+/// The greatest of arguments.
+pub fn greatest_from(arguments: Measured) -> Counted
+    ensures { size_of result.bound ≡ GreatestOf (parts_in arguments) }
+{
+    let Measured {
+        bounds,
+        nodes,
+        depth,
+    } = arguments;
+    Counted {
+        bound: Bound::Max(bounds),
+        nodes: nodes.saturating_add(1),
+        depth: depth.saturating_add(1),
+    }
+}
+
+/// The power of a base.
+pub fn power_from(alloc: Global, base: u64, exponent: Counted) -> Result<Counted, AllocError>
+    ensures { IfOk result (λ power. size_of power.bound ≡ PowerOf base (size_of exponent.bound)) }
+{
+    let Counted {
+        bound,
+        nodes,
+        depth,
+    } = exponent;
+    Ok(Counted {
+        bound: Bound::Power(base, Box::new(alloc, bound)?),
+        nodes: nodes.saturating_add(1),
+        depth: depth.saturating_add(1),
+    })
 }
 
 /// Whether there are none.

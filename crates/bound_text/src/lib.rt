@@ -2,6 +2,7 @@
 // Contract to the layers above: `text_of` is the text of a bound, and a refusal is the first fault of the text.
 #![tactic(auto)]
 
+mod brackets;
 mod error;
 mod fault;
 mod joining;

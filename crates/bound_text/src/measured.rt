@@ -3,7 +3,7 @@
 ghost use Rattle.std.specs.Prelude.{◌≡◌, ◌^◌, ◌-◌, min, OnOk};
 ghost use Rattle.model.specs.Bounds.{NoParts, Input};
 ghost use Rattle.bound_expr.specs.Views.{size_of, sizes_of, parts_of};
-ghost use Rattle.bound_expr.specs.Measure.{node_count_of_all, greatest_depth};
+ghost use Rattle.bound_expr.specs.Measure.{node_count, node_count_of_all, depth_of, greatest_depth};
 ghost use Rattle.bound_text.specs.Shapes.{with_part};
 
 use bound_expr::{Bound, Memory};
@@ -32,14 +32,49 @@ impl Measured {
     }
 
     /// One bound more, at the end.
-    #[tactic(auto, using(crate::proofs::PartLaws::pushes))]
     pub fn push(&mut self, bound: Bound) -> Result<(), Memory>
         ensures { OnOk result (parts_of (sizes_of self.new.bounds.items) ≡ with_part (parts_of (sizes_of self.old.bounds.items)) (size_of bound)) }
     {
-        let (nodes, depth) = bound.measure();
+        self.push_counted(Counted::new(bound))
+    }
+
+    /// One bound more, at the end, whose measure is known.
+    #[tactic(auto, using(crate::proofs::PartLaws::pushes))]
+    pub fn push_counted(&mut self, counted: Counted) -> Result<(), Memory>
+        ensures { OnOk result (parts_of (sizes_of self.new.bounds.items) ≡ with_part (parts_of (sizes_of self.old.bounds.items)) (size_of counted.bound)) }
+    {
+        let Counted {
+            bound,
+            nodes,
+            depth,
+        } = counted;
         self.bounds.push(bound)?;
         self.nodes = self.nodes.saturating_add(nodes);
         self.depth = self.depth.max(depth);
         Ok(())
+    }
+}
+
+/// A bound with its measure.
+#[derive(Drop)]
+pub struct Counted {
+    pub bound: Bound,
+    pub nodes: u64,
+    pub depth: u32,
+    ghost counted: { nodes ≡ min (node_count (size_of bound)) (2 ^ 64 - 1) },
+    ghost deep: { depth ≡ min (depth_of (size_of bound)) (2 ^ 32 - 1) },
+}
+
+impl Counted {
+    /// The bound is gone through once.
+    pub fn new(bound: Bound) -> Counted
+        ensures { size_of result.bound ≡ size_of bound }
+    {
+        let (nodes, depth) = bound.measure();
+        Counted {
+            bound,
+            nodes,
+            depth,
+        }
     }
 }

@@ -4,7 +4,7 @@ ghost use Rattle.std.specs.Prelude.{◌≡◌, ◌≤◌, ◌^◌, ◌-◌, min,
 ghost use Rattle.bound_text.specs.Fronts as fronts;
 ghost use Rattle.bound_text.specs.Fronts.{Outer, Inside, node_of_any as any_node, product_node as node_of_product, product_node_round, bracket_nodes, inner_levels, nodes_of};
 ghost use Rattle.bound_text.specs.Checks.{sized};
-ghost use Rattle.bound_text.specs.Views.{parts_in, bracket_of, outer_of, front_of, is_settled, sum_here, product_here, item_here, IsRound, Obeys};
+ghost use Rattle.bound_text.specs.Views.{parts_in, bracket_of, outer_in, front_of, is_settled, sum_here, product_here, item_here, IsRound, Obeys};
 
 use crate::fault::Fault;
 use crate::joining::{is_empty, makes_product};
@@ -43,8 +43,8 @@ fn product_node(factors: &Measured) -> u64
 }
 
 impl Opened {
-    // What stands round a bound in this bracket, where `round` is what stands round the bracket.
-    fn count_in(&self, round: Round) -> Round
+    /// What stands round a bound in this bracket, where `round` is what stands round the bracket.
+    pub fn count_in(&self, round: Round) -> Round
         ensures { (outer : Outer) → IsRound outer round → IsRound (Inside (bracket_of self.now.bracket) (parts_in self.now.terms) (parts_in self.now.factors) outer) result }
     {
         let sum = if round.in_factor {
@@ -90,21 +90,6 @@ impl Bracket {
     }
 }
 
-// What stands round the innermost bound.
-fn round_of(outer: &[Opened]) -> Round
-    ensures { IsRound (outer_of outer.now) result }
-{
-    let mut round = Round {
-        nodes: 0,
-        levels: 0,
-        in_factor: false,
-    };
-    for opened in outer {
-        round = opened.count_in(round);
-    }
-    round
-}
-
 #[tactic(auto, using(crate::proofs::SizeLaws::here))]
 impl Reader {
     // The node of the innermost sum.
@@ -147,7 +132,7 @@ impl Reader {
 
     // The levels of the innermost bound with those above it, exact up to one over the limit.
     fn levels(&self, round: Round) -> u64
-        requires { IsRound (outer_of self.now.outer.items) round }
+        requires { IsRound (outer_in self.now.outer) round }
         ensures { min result 201 ≡ min (inner_levels (front_of self.now)) 201 }
     {
         let above = round.levels.saturating_add(self.sum_node(round));
@@ -162,7 +147,7 @@ impl Reader {
 
     // The nodes of the tree so far.
     fn nodes(&self, round: Round) -> u64
-        requires { IsRound (outer_of self.now.outer.items) round }
+        requires { IsRound (outer_in self.now.outer) round }
         ensures { result ≡ min (nodes_of (front_of self.now)) (2 ^ 64 - 1) }
     {
         let sum = round
@@ -181,7 +166,7 @@ impl Reader {
         requires { IsTrue (is_settled self.now) }
         ensures { Obeys (sized (front_of self.now)) self.now result }
     {
-        let round = round_of(&self.outer);
+        let round = self.outer.round();
         if self.levels(round) > MAX_LEVELS {
             return Err(Fault::TooDeep);
         }

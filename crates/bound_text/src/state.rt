@@ -4,7 +4,9 @@ ghost use Rattle.std.specs.Prelude.{◌≡◌};
 ghost use Rattle.bound_text.specs.Steps.{beginning};
 ghost use Rattle.bound_text.specs.Views.{front_of};
 
+use crate::brackets::Brackets;
 use crate::measured::Measured;
+use crate::size::Round;
 use std::alloc::Global;
 
 /// What an open bracket belongs to.
@@ -18,12 +20,13 @@ pub enum Bracket {
     Factor,
 }
 
-/// An open bracket, with the terms and the factors before it.
+/// An open bracket, with the terms and the factors before it, and what is counted round a bound in it.
 #[derive(Drop)]
 pub struct Opened {
     pub bracket: Bracket,
     pub terms: Measured,
     pub factors: Measured,
+    pub within: Round,
 }
 
 /// What was read last.
@@ -53,7 +56,7 @@ pub enum Place {
 /// innermost bound, and the place.
 #[derive(Drop)]
 pub struct Reader {
-    pub outer: Vec<Opened>,
+    pub outer: Brackets,
     pub terms: Measured,
     pub factors: Measured,
     pub place: Place,
@@ -65,7 +68,7 @@ impl Reader {
         ensures { front_of result ≡ beginning }
     {
         Reader {
-            outer: Vec::new(alloc),
+            outer: Brackets::new(alloc),
             terms: Measured::new(alloc),
             factors: Measured::new(alloc),
             place: Place::Begins,

@@ -10,13 +10,14 @@ ghost use Rattle.bound_text.specs.Fronts.{term_of, bound_of};
 ghost use Rattle.bound_text.specs.Printing.{piece_of};
 ghost use Rattle.bound_text.specs.Checks.{is_caret, takes_caret, has_large_base as has_large_base_of};
 ghost use Rattle.bound_expr.specs.Views.{size_of};
-ghost use Rattle.bound_text.specs.Views.{is_arguments, parts_in, bracket_of, outer_of, front_of, is_settled, Follows};
+ghost use Rattle.bound_text.specs.Views.{is_arguments, parts_in, bracket_of, outer_in, front_of, is_settled, Follows};
 
 use crate::fault::Fault;
 use crate::joining::{
-    bound_from, can_end, ends_with, is_empty, makes_greatest, makes_leaf, makes_sum, product_from,
+    bound_from, can_end, ends_with, greatest_from, is_empty, makes_greatest, makes_leaf, makes_sum,
+    power_from, product_from,
 };
-use crate::measured::Measured;
+use crate::measured::{Counted, Measured};
 use crate::piece::Piece;
 use crate::state::{Bracket, Opened, Place, Reader};
 use crate::taking::TOO_LARGE_BASE;
@@ -39,22 +40,18 @@ impl Reader {
 
     // A bracket that begins an item.
     fn open(&mut self, alloc: Global, bracket: Bracket) -> Result<(), Fault>
-        ensures { Follows (Some (inside (bracket_of bracket) (outer_of self.old.outer.items) (parts_in self.old.terms) (parts_in self.old.factors))) self.new result }
+        ensures { Follows (Some (inside (bracket_of bracket) (outer_in self.old.outer) (parts_in self.old.terms) (parts_in self.old.factors))) self.new result }
     {
         let terms = mem::replace(&mut self.terms, Measured::new(alloc));
         let factors = mem::replace(&mut self.factors, Measured::new(alloc));
-        self.outer.push(Opened {
-            bracket,
-            terms,
-            factors,
-        })?;
+        self.outer.open(bracket, terms, factors)?;
         self.place = Place::Begins;
         Ok(())
     }
 
     // An item begins.
     pub fn begin_item(&mut self, alloc: Global, piece: Piece) -> Result<(), Fault>
-        ensures { Follows (item_begun (outer_of self.old.outer.items) (parts_in self.old.terms) (parts_in self.old.factors) (piece_of piece)) self.new result }
+        ensures { Follows (item_begun (outer_in self.old.outer) (parts_in self.old.terms) (parts_in self.old.factors) (piece_of piece)) self.new result }
     {
         match piece {
             Piece::Variable(i) => {
@@ -76,7 +73,7 @@ impl Reader {
 
     // An exponent begins.
     pub fn begin_exponent(&mut self, alloc: Global, base: u64, piece: Piece) -> Result<(), Fault>
-        ensures { Follows (exponent_begun (outer_of self.old.outer.items) (parts_in self.old.terms) (parts_in self.old.factors) base (piece_of piece)) self.new result }
+        ensures { Follows (exponent_begun (outer_in self.old.outer) (parts_in self.old.terms) (parts_in self.old.factors) base (piece_of piece)) self.new result }
     {
         match piece {
             Piece::Number(c) => self.end_power(alloc, base, Bound::Const(c)),
@@ -88,7 +85,7 @@ impl Reader {
 
     // A power with its exponent.
     fn end_power(&mut self, alloc: Global, base: u64, exponent: Bound) -> Result<(), Fault>
-        ensures { Follows (Some (behind_factor (outer_of self.old.outer.items) (parts_in self.old.terms) (parts_in self.old.factors) (PowerOf base (size_of exponent)))) self.new result }
+        ensures { Follows (Some (behind_factor (outer_in self.old.outer) (parts_in self.old.terms) (parts_in self.old.factors) (PowerOf base (size_of exponent)))) self.new result }
     {
         self.factors
             .push(Bound::Power(base, Box::new(alloc, exponent)?))?;
@@ -99,7 +96,7 @@ impl Reader {
     // `^` behind a number that begins an item.
     fn begin_power(&mut self, number: u128) -> Result<(), Fault>
         requires { number < 2 ^ 64 }
-        ensures { Follows (caret_behind (outer_of self.old.outer.items) (parts_in self.old.terms) (parts_in self.old.factors) (Some (Constant number))) self.new result }
+        ensures { Follows (caret_behind (outer_in self.old.outer) (parts_in self.old.terms) (parts_in self.old.factors) (Some (Constant number))) self.new result }
     {
         if number < 2 {
             return Err(Fault::Syntax);
@@ -110,24 +107,25 @@ impl Reader {
 
     // Whether an argument can end here.
     fn can_be_argument(&self) -> bool
-        ensures { result ≡ can_be_argument_of (outer_of self.now.outer.items) (parts_in self.now.terms) (parts_in self.now.factors) }
+        ensures { result ≡ can_be_argument_of (outer_in self.now.outer) (parts_in self.now.terms) (parts_in self.now.factors) }
     {
-        in_arguments(&self.outer)
+        self.outer.is_in_arguments()
             && can_end(&self.factors)
             && !makes_greatest(&self.terms, &self.factors)
     }
 
     // A bracket closes.
     fn close(&mut self, alloc: Global) -> Result<(), Fault>
-        ensures { Follows (bracket_closed (outer_of self.old.outer.items) (parts_in self.old.terms) (parts_in self.old.factors)) self.new result }
+        ensures { Follows (bracket_closed (outer_in self.old.outer) (parts_in self.old.terms) (parts_in self.old.factors)) self.new result }
     {
         let Some(
             Opened {
                 bracket,
                 terms: outer_terms,
                 factors: outer_factors,
+                ..
             },
-        ) = self.outer.pop()
+        ) = self.outer.close()
         else {
             return Err(Fault::Syntax);
         };
@@ -137,7 +135,7 @@ impl Reader {
         let terms = mem::replace(&mut self.terms, outer_terms);
         let factors = mem::replace(&mut self.factors, outer_factors);
         let item = bracket.item_from(alloc, bound_from(terms, factors)?)?;
-        self.factors.push(item)?;
+        self.factors.push_counted(item)?;
         self.place = Place::ItemRead;
         Ok(())
     }
@@ -145,7 +143,7 @@ impl Reader {
     // What follows an item that is a factor.
     pub fn follow_item(&mut self, alloc: Global, piece: Piece) -> Result<(), Fault>
         requires { IsFalse (is_caret (piece_of piece) && takes_caret (init (parts_in self.old.factors)) (last (parts_in self.old.factors))) }
-        ensures { Follows (item_followed (outer_of self.old.outer.items) (parts_in self.old.terms) (parts_in self.old.factors) (piece_of piece)) self.new result }
+        ensures { Follows (item_followed (outer_in self.old.outer) (parts_in self.old.terms) (parts_in self.old.factors) (piece_of piece)) self.new result }
     {
         match piece {
             Piece::Times => {
@@ -167,25 +165,26 @@ impl Reader {
 
     // A term ends with ` + `.
     pub fn end_term(&mut self, alloc: Global) -> Result<(), Fault>
-        ensures { Follows (Some (front_at (outer_of self.old.outer.items) (with_part (parts_in self.old.terms) (term_of (parts_in self.old.factors))) NoParts fronts.Begins)) self.new result }
+        ensures { Follows (Some (front_at (outer_in self.old.outer) (with_part (parts_in self.old.terms) (term_of (parts_in self.old.factors))) NoParts fronts.Begins)) self.new result }
     {
         let factors = mem::replace(&mut self.factors, Measured::new(alloc));
-        self.terms.push(product_from(factors.bounds))?;
+        self.terms.push_counted(product_from(factors))?;
         self.place = Place::Begins;
         Ok(())
     }
 
     // An argument ends with `, `.
     pub fn end_argument(&mut self, alloc: Global) -> Result<(), Fault>
-        ensures { Follows (argument_ended (outer_of self.old.outer.items) (parts_in self.old.terms) (parts_in self.old.factors)) self.new result }
+        ensures { Follows (argument_ended (outer_in self.old.outer) (parts_in self.old.terms) (parts_in self.old.factors)) self.new result }
     {
         let Some(
             Opened {
                 bracket,
                 terms: outer_terms,
                 factors: outer_factors,
+                ..
             },
-        ) = self.outer.pop()
+        ) = self.outer.close()
         else {
             return Err(Fault::Syntax);
         };
@@ -193,7 +192,7 @@ impl Reader {
         let factors = mem::replace(&mut self.factors, outer_factors);
         match bracket {
             Bracket::Arguments(mut arguments) => {
-                arguments.push(bound_from(terms, factors)?)?;
+                arguments.push_counted(bound_from(terms, factors)?)?;
                 self.open(alloc, Bracket::Arguments(arguments))
             }
             _ => Err(Fault::Syntax),
@@ -203,7 +202,7 @@ impl Reader {
     // Behind a number that begins an item.
     pub fn follow_number(&mut self, alloc: Global, number: u128, piece: Piece) -> Result<(), Fault>
         requires { IsTrue (is_caret (piece_of piece)) → number < 2 ^ 64 }
-        ensures { Follows (item_followed (outer_of self.old.outer.items) (parts_in self.old.terms) (with_part (parts_in self.old.factors) (Constant number)) (piece_of piece)) self.new result }
+        ensures { Follows (item_followed (outer_in self.old.outer) (parts_in self.old.terms) (with_part (parts_in self.old.factors) (Constant number)) (piece_of piece)) self.new result }
     {
         match piece {
             Piece::Caret => self.begin_power(number),
@@ -217,7 +216,7 @@ impl Reader {
     // Behind a variable that begins an item.
     pub fn follow_name(&mut self, alloc: Global, variable: u32, piece: Piece) -> Result<(), Fault>
         requires { IsFalse (fronts.is_input variable (last (parts_in self.old.factors))) }
-        ensures { Follows (item_followed (outer_of self.old.outer.items) (parts_in self.old.terms) (with_part (parts_in self.old.factors) (Input variable)) (piece_of piece)) self.new result }
+        ensures { Follows (item_followed (outer_in self.old.outer) (parts_in self.old.terms) (with_part (parts_in self.old.factors) (Input variable)) (piece_of piece)) self.new result }
     {
         match piece {
             Piece::Caret => {
@@ -234,7 +233,7 @@ impl Reader {
 
 impl Bracket {
     // Whether it is the bracket of a greatest.
-    fn is_of_greatest(&self) -> bool
+    pub fn is_of_greatest(&self) -> bool
         ensures { result ≡ is_arguments (bracket_of self.now) }
     {
         matches!(self, Bracket::Arguments(_))
@@ -253,27 +252,16 @@ impl Bracket {
     }
 
     // The item that the bracket's bound makes.
-    fn item_from(self, alloc: Global, bound: Bound) -> Result<Bound, Fault>
-        ensures { MatchResult result (λ item. size_of item ≡ item_of (bracket_of self) (size_of bound)) (λ fault. fault ≡ Fault.Memory) }
+    fn item_from(self, alloc: Global, counted: Counted) -> Result<Counted, Fault>
+        ensures { MatchResult result (λ item. size_of item.bound ≡ item_of (bracket_of self) (size_of counted.bound)) (λ fault. fault ≡ Fault.Memory) }
     {
         match self {
             Bracket::Arguments(mut arguments) => {
-                arguments.push(bound)?;
-                Ok(Bound::Max(arguments.bounds))
+                arguments.push_counted(counted)?;
+                Ok(greatest_from(arguments))
             }
-            Bracket::Exponent(base) => Ok(Bound::Power(base, Box::new(alloc, bound)?)),
-            Bracket::Factor => Ok(bound),
+            Bracket::Exponent(base) => Ok(power_from(alloc, base, counted)?),
+            Bracket::Factor => Ok(counted),
         }
-    }
-}
-
-// Whether the innermost open bracket is that of a greatest.
-#[tactic(auto, using(crate::proofs::ViewLaws::in_arguments_last))]
-fn in_arguments(outer: &[Opened]) -> bool
-    ensures { result ≡ in_arguments_of (outer_of outer.now) }
-{
-    match outer.last() {
-        Some(opened) => opened.bracket.is_of_greatest(),
-        None => false,
     }
 }

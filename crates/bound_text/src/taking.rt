@@ -6,13 +6,13 @@ ghost use Rattle.bound_text.specs.Fronts.{last};
 ghost use Rattle.bound_text.specs.Steps.{step as step_of, end_run as run_ended, finish as finish_of, finish_at, is_whole as is_whole_outer, with_copies};
 ghost use Rattle.bound_text.specs.Printing.{piece_of};
 ghost use Rattle.bound_text.specs.Checks.{begins as begins_at, checked, judged, fault_of as fault_of_piece, has_large_base as has_large_base_of};
-ghost use Rattle.bound_text.specs.Views.{parts_in, outer_of, front_of, is_settled, is_in_run, Follows, FindsFault, Obeys, Finishes};
+ghost use Rattle.bound_text.specs.Views.{parts_in, outer_in, front_of, is_settled, is_in_run, Follows, FindsFault, Obeys, Finishes};
 
 use crate::fault::Fault;
 use crate::joining::{bound_from, can_end};
 use crate::measured::Measured;
 use crate::piece::Piece;
-use crate::state::{Opened, Place, Reader};
+use crate::state::{Place, Reader};
 use bound_expr::{Bound, Memory};
 use std::alloc::Global;
 
@@ -116,7 +116,7 @@ impl Reader {
 
     // A run ends with its number. More copies than a bound may have nodes are as many as are refused.
     fn end_run(&mut self, variable: u32, piece: Piece) -> Result<(), Fault>
-        ensures { Obeys (judged (fault_of_piece 0 false (piece_of piece)) (run_ended (outer_of self.old.outer.items) (parts_in self.old.terms) (parts_in self.old.factors) variable (piece_of piece))) self.new result }
+        ensures { Obeys (judged (fault_of_piece 0 false (piece_of piece)) (run_ended (outer_in self.old.outer) (parts_in self.old.terms) (parts_in self.old.factors) variable (piece_of piece))) self.new result }
     {
         match piece {
             Piece::Number(count) if count >= 2 => {
@@ -152,20 +152,12 @@ impl Reader {
 
     // The bound of a text that ends with a factor.
     fn end(self) -> Result<Bound, Fault>
-        ensures { Finishes (finish_at fronts.ItemRead (outer_of self.outer.items) (parts_in self.terms) (parts_in self.factors)) result }
+        ensures { Finishes (finish_at fronts.ItemRead (outer_in self.outer) (parts_in self.terms) (parts_in self.factors)) result }
     {
-        if is_whole(&self.outer) && can_end(&self.factors) {
-            Ok(bound_from(self.terms, self.factors)?)
+        if self.outer.is_empty() && can_end(&self.factors) {
+            Ok(bound_from(self.terms, self.factors)?.bound)
         } else {
             Err(Fault::Syntax)
         }
     }
-}
-
-// Whether no bracket is open.
-#[tactic(auto, using(crate::proofs::ViewLaws::is_whole_empty))]
-fn is_whole(outer: &[Opened]) -> bool
-    ensures { result ≡ is_whole_outer (outer_of outer.now) }
-{
-    outer.is_empty()
 }

@@ -5,4 +5,4 @@ use Rattle.bound_text.proofs.JoiningLaws.{as_one_more}
 use Rattle.bound_text.proofs.joining.sum_from.Goals as goal
 
 pub returns-then-len-ne1 : goal.returns-then-len-ne1
-returns-then-len-ne1 c = size_of-Sum c.args.terms ∙ sym (as_one_more SumOf c.args.terms.items (λ e. omega arith))
+returns-then-len-ne1 c = size_of-Sum c.args.terms.bounds ∙ sym (as_one_more SumOf c.args.terms.bounds.items (λ e. omega arith))

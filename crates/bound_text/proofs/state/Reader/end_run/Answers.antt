@@ -9,5 +9,5 @@ check_size-requires c = copies_settled c.min.result c.args.variable (parts_in c.
 
 pub returns-in_ok-push_copies-in-Number : goal.returns-in_ok-push_copies-in-Number
 returns-in_ok-push_copies-in-Number c =
-    run_obeys (outer_of c.args.self.now.outer.items) (parts_in c.args.self.now.terms) (parts_in c.args.self.now.factors) (parts_in c.push_copies.new.self) (piece_of c.args.piece) c.in-Number.count c.min.result
+    run_obeys (outer_of c.args.self.now.outer.opened.items) (parts_in c.args.self.now.terms) (parts_in c.args.self.now.factors) (parts_in c.push_copies.new.self) (piece_of c.args.piece) c.in-Number.count c.min.result
     c.args.variable _ c.check_size.result (ap piece_of c.in-Number.is) (omega arith) (omega arith) c.min.ensures c.in_ok-push_copies-in-Number.ensures c.check_size.ensures

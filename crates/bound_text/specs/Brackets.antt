@@ -1,0 +1,59 @@
+-- Open brackets of the code, as plain data, and what is counted round a bound in them.
+use Rattle.std.specs.Prelude.{◌≡◌, ◌^◌, ◌-◌, min, List, [], ◌∷◌, ⊤}
+use Rattle.std.proofs.Props.{props}
+use Rattle.model.specs.Bounds.{Parts}
+use Rattle.bound_expr.specs.Views.{sizes_of, parts_of}
+use Rattle.bound_text.specs.Fronts as fronts
+use Rattle.bound_text.specs.Fronts.{Outer, Whole, Inside}
+use Rattle.bound_text.specs.declared.measured.Measured.{Measured}
+use Rattle.bound_text.specs.declared.state.Bracket.{Bracket}
+use Rattle.bound_text.specs.declared.state.Bracket.TheVariants as brackets
+use Rattle.bound_text.specs.declared.state.Opened.{Opened}
+use Rattle.bound_text.specs.declared.size.Round.{Round}
+
+-- measured bounds as parts
+abbrev pub parts_in : Measured → Parts
+parts_in m = parts_of (sizes_of m.bounds.items)
+
+-- what an open bracket belongs to
+abbrev pub bracket_of : Bracket → fronts.Bracket
+bracket_of (brackets.Arguments bs) = fronts.Arguments (parts_in bs)
+bracket_of (brackets.Exponent c) = fronts.Exponent c
+bracket_of brackets.Factor = fronts.Factor
+
+-- open brackets, the outermost first, inside what stands round them
+abbrev pub outer_from : Outer → List Opened → Outer
+outer_from outer [] = outer
+outer_from outer (x ∷ xs) = outer_from (Inside (bracket_of x.bracket) (parts_in x.terms) (parts_in x.factors) outer) xs
+
+-- what stands round the innermost bound
+abbrev pub outer_of : List Opened → Outer
+outer_of xs = outer_from Whole xs
+
+-- what is counted round the innermost bound, each up to 2^64-1
+pub record IsRound (outer : Outer) (round : Round) : Type 0 where
+  pub nodes : round.nodes ≡ min (fronts.nodes_round outer) (2 ^ 64 - 1)
+  pub levels : round.levels ≡ min (fronts.levels_above outer) (2 ^ 64 - 1)
+  pub in_factor : round.in_factor ≡ fronts.in_factor outer
+
+-- each open bracket, inside what stands round them all, tells what is counted round a bound in it
+abbrev pub AreRoundsFrom : Outer → List Opened → Type 0
+AreRoundsFrom outer [] = ⊤
+AreRoundsFrom outer (x ∷ xs) =
+    IsRound (Inside (bracket_of x.bracket) (parts_in x.terms) (parts_in x.factors) outer) x.within
+    × AreRoundsFrom (Inside (bracket_of x.bracket) (parts_in x.terms) (parts_in x.factors) outer) xs
+
+-- which is told in one way alone
+AreRoundsFrom-prop : (outer : Outer) (xs : List Opened) → IsProp (AreRoundsFrom outer xs)
+AreRoundsFrom-prop outer [] = hlevel props
+AreRoundsFrom-prop outer (x ∷ xs) =
+    let rest = AreRoundsFrom-prop (Inside (bracket_of x.bracket) (parts_in x.terms) (parts_in x.factors) outer) xs in
+    hlevel (props, rest)
+
+-- the same where they are the whole text's
+abbrev pub AreRounds : List Opened → Type 0
+AreRounds xs = AreRoundsFrom Whole xs
+
+-- which is told in one way alone
+pub AreRounds-prop : (xs : List Opened) → IsProp (AreRounds xs)
+AreRounds-prop xs = AreRoundsFrom-prop Whole xs

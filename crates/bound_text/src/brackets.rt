@@ -1,0 +1,93 @@
+// The open brackets of a text.
+
+ghost use Rattle.bound_text.specs.Brackets.{AreRounds, AreRounds-prop};
+
+use crate::measured::Measured;
+use crate::size::Round;
+use crate::state::{Bracket, Opened};
+use bound_expr::Memory;
+use std::alloc::Global;
+
+/// The open brackets, the outermost first. Each tells what is counted round a bound in it, so that this is known of the
+/// innermost one without going through the others.
+#[derive(Drop)]
+pub struct Brackets {
+    opened: Vec<Opened>,
+    ghost counted: { AreRounds opened.items } by { AreRounds-prop opened.items },
+}
+
+#[tactic(auto, using(crate::proofs::ViewLaws::in_arguments_last, crate::proofs::ViewLaws::is_whole_empty, crate::proofs::ViewLaws::rounds_last))]
+impl Brackets {
+    ghost use Rattle.std.specs.Prelude.{◌≡◌, OnOk, MatchOption};
+    ghost use Rattle.bound_text.specs.Fronts.{Whole, Inside, in_arguments as in_arguments_of};
+    ghost use Rattle.bound_text.specs.Steps.{is_whole};
+    ghost use Rattle.bound_text.specs.Views.{parts_in, bracket_of, outer_in, IsRound};
+
+    /// No bracket is open.
+    pub fn new(alloc: Global) -> Brackets
+        ensures { outer_in result ≡ Whole }
+    {
+        Brackets {
+            opened: Vec::new(alloc),
+        }
+    }
+
+    /// Whether no bracket is open.
+    pub fn is_empty(&self) -> bool
+        ensures { result ≡ is_whole (outer_in self.now) }
+    {
+        self.opened.is_empty()
+    }
+
+    /// Whether the innermost open bracket is that of a greatest.
+    pub fn is_in_arguments(&self) -> bool
+        ensures { result ≡ in_arguments_of (outer_in self.now) }
+    {
+        match self.opened.last() {
+            Some(opened) => opened.bracket.is_of_greatest(),
+            None => false,
+        }
+    }
+
+    /// What stands round the innermost bound.
+    pub fn round(&self) -> Round
+        ensures { IsRound (outer_in self.now) result }
+    {
+        match self.opened.last() {
+            Some(opened) => opened.within,
+            None => Round {
+                nodes: 0,
+                levels: 0,
+                in_factor: false,
+            },
+        }
+    }
+
+    /// A bracket opens, behind these terms and factors.
+    pub fn open(
+        &mut self,
+        bracket: Bracket,
+        terms: Measured,
+        factors: Measured,
+    ) -> Result<(), Memory>
+        ensures { OnOk result (outer_in self.new ≡ Inside (bracket_of bracket) (parts_in terms) (parts_in factors) (outer_in self.old)) }
+    {
+        let round = self.round();
+        let mut opened = Opened {
+            bracket,
+            terms,
+            factors,
+            within: round,
+        };
+        opened.within = opened.count_in(round);
+        self.opened.push(opened)?;
+        Ok(())
+    }
+
+    /// The innermost bracket closes, if one is open.
+    pub fn close(&mut self) -> Option<Opened>
+        ensures { MatchOption result (outer_in self.old ≡ Whole) (λ opened. outer_in self.old ≡ Inside (bracket_of opened.bracket) (parts_in opened.terms) (parts_in opened.factors) (outer_in self.new)) }
+    {
+        self.opened.pop()
+    }
+}
