@@ -44,13 +44,13 @@ leaving p t c =
 abbrev pub has_artificial : LinearProgram → Tableau → Bool
 has_artificial p t = some p.rows (λ i. nat_le p.columns (t.basis i) && int_lt (pos 0) (t.entry i (unknowns p)))
 
--- whether the sequence ends as infeasible: no column of the program has a negative reduced cost in
--- cost row 0, and the artificial unknowns add up to more than 0
+-- whether the sequence ends as infeasible: in the cost row of the artificial unknowns no column of the program
+-- has a negative reduced cost, and the artificial unknowns add up to more than 0
 abbrev pub is_infeasible : LinearProgram → Tableau → Bool
 is_infeasible p t = every p.columns (λ j. not (int_lt (t.entry (cost_row p 0) j) (pos 0))) && has_artificial p t
 
--- the numerators, over the scale of cost row 0, of the dual at an end as infeasible: 1 less the reduced
--- cost of the row's artificial unknown, negated back where the row was multiplied by -1
+-- the numerators, over the scale of the cost row of the artificial unknowns, of the dual at an end as infeasible:
+-- 1 less the reduced cost of the row's artificial unknown, negated back where the row was multiplied by -1
 abbrev pub dual_of : LinearProgram → Tableau → ℕ → ℤ
 dual_of p t k = sign_of (p.right k) *ℤ (t.scale (cost_row p 0) -ℤ t.entry (cost_row p 0) (artificial p k))
 

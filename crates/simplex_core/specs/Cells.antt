@@ -105,8 +105,8 @@ pub record HoldsBasic (table : DenseTable) (m : ℕ) (at : List Frac) : Type 0 w
   pub length_is : length at ≡ table.columns
   pub each : (j : ℕ) (f : Frac) → slice_get at j ≡ Some f → IsBasicNumber table m j f
 
--- the list holds, for each of the first m rows, 1 less the artificial unknown's reduced cost in cost
--- row 0, with the sign of the right side
+-- the list holds, for each of the first m rows, 1 less its artificial unknown's reduced cost in the cost row of the
+-- artificial unknowns, with the sign of the right side
 pub record HoldsDual (table : DenseTable) (right : List ℤ) (m : ℕ) (dual : List Frac) : Type 0 where
   pub length_is : length dual ≡ m
   pub each : (k : ℕ) (y x : Frac) → k < m → slice_get dual k ≡ Some y → cell table table.rows (table.columns + k) ≡ Some x

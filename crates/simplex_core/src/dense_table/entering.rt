@@ -11,21 +11,8 @@ ghost use Rattle.simplex_core.specs.Cells.{width, Shows};
 use crate::dense_table::DenseTable;
 
 impl DenseTable {
-    /// The entering column, if one may enter.
-    pub(super) fn entering_column(&self) -> Option<usize>
-        ensures { (p : LinearProgram) (t : Tableau) → Shows p self.now t → result ≡ entering p t }
-    {
-        match self.least_entering(0) {
-            Some(column) => Some(column),
-            None => match self.least_entering(1) {
-                Some(column) => Some(column),
-                None => self.least_entering(2),
-            },
-        }
-    }
-
     /// The least column that may enter by a cost row.
-    fn least_entering(&self, cost: usize) -> Option<usize>
+    pub(super) fn least_entering(&self, cost: usize) -> Option<usize>
         requires { cost < 3 }
         ensures { (p : LinearProgram) (t : Tableau) → Shows p self.now t → result ≡ least p.columns (may_enter p t cost) }
     {
@@ -51,18 +38,8 @@ impl DenseTable {
         self.is_negative_at(self.rows + cost, column)
     }
 
-    /// Whether the sequence ends as infeasible.
-    pub(super) fn ends_infeasibly(&self) -> bool
-        ensures { (p : LinearProgram) (t : Tableau) → Shows p self.now t → result ≡ is_infeasible p t }
-    {
-        if !self.has_no_negative() {
-            return false;
-        }
-        self.has_artificial()
-    }
-
-    /// Whether no column of the program has a negative number in cost row 0.
-    fn has_no_negative(&self) -> bool
+    /// Whether no column of the program has a negative number in the cost row of the artificial unknowns.
+    pub(super) fn has_no_negative(&self) -> bool
         ensures { (p : LinearProgram) (t : Tableau) → Shows p self.now t
             → result ≡ every p.columns (λ j. not (int_lt (t.entry (cost_row p 0) j) (pos 0))) }
     {
@@ -75,7 +52,7 @@ impl DenseTable {
     }
 
     /// Whether an artificial unknown is over 0.
-    fn has_artificial(&self) -> bool
+    pub(super) fn has_artificial(&self) -> bool
         ensures { (p : LinearProgram) (t : Tableau) → Shows p self.now t
             → result ≡ has_artificial p t }
     {

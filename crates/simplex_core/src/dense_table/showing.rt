@@ -15,11 +15,20 @@ impl SimplexTable for DenseTable {
     }
 
     fn is_infeasible(&self) -> bool {
-        self.ends_infeasibly()
+        if !self.has_no_negative() {
+            return false;
+        }
+        self.has_artificial()
     }
 
     fn entering(&self) -> Option<usize> {
-        self.entering_column()
+        match self.least_entering(0) {
+            Some(column) => Some(column),
+            None => match self.least_entering(1) {
+                Some(column) => Some(column),
+                None => self.least_entering(2),
+            },
+        }
     }
 
     /// As the trait says. It takes no memory.
