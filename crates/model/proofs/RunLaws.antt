@@ -39,7 +39,8 @@ same_step p b s c d hc hd =
     same_config c d (hc.leads.target ∙ (ap (λ (r : Rule). r.target) rule ∙ sym hd.leads.target)) (hc.leads.values ∙ (ap (λ (r : Rule). map (λ u. value u (b.values ++ s.free)) r.updates) rule ∙ sym hd.leads.values))
 
 -- start values and steps determine where a run ends
-pub same_end : (p : Program) (start : List ℤ) (steps : List Step) (c d : Config) → IsRun p start steps c → IsRun p start steps d → c ≡ d
+pub same_end : (p : Program) (start : List ℤ) (steps : List Step) (c d : Config) → IsRun p start steps c
+    → IsRun p start steps d → c ≡ d
 same_end p start [] c d hc hd = same_config c d (hc.at ∙ sym hd.at) (hc.values ∙ sym hd.values)
 same_end p start (s ∷ earlier) c d (b, run, step) (e, run', step') = same_step p e s c d (subst (λ (x : Config). IsStep p x s c) (same_end p start earlier b e run run') step) step'
 
@@ -55,6 +56,7 @@ not_the_entry p b s c h = go s.rule h.numbered
     go (suc t) e = one_if_same-other (suc t) 0 (omega arith)
 
 -- the virtual entry occurs once
-pub entry_once : (p : Program) (start : List ℤ) (steps : List Step) (c : Config) → IsRun p start steps c → count 0 steps ≡ 1
+pub entry_once : (p : Program) (start : List ℤ) (steps : List Step) (c : Config) → IsRun p start steps c
+    → count 0 steps ≡ 1
 entry_once p start [] c run = refl
 entry_once p start (s ∷ earlier) c (b, run, step) = omega (arith, not_the_entry p b s c step, entry_once p start earlier b run)

@@ -4,7 +4,7 @@ use Rattle.std.proofs.lemmas.Int.{ints}
 use Rattle.std.proofs.lemmas.List.Elements.{All-nil, All-cons, All-head, All-tail}
 use Rattle.model.specs.Terms.{Variable}
 use Rattle.model.specs.Programs.{Rule, rule_at, AtLeast, Atom, Always, Compare, AtomHolds, GuardHolds}
-use Rattle.model.specs.Paths.{HasEdge, HasPath, Edge, Longer}
+use Rattle.model.specs.Paths.{HasEdge, HasPath, any_rule, Here, Onward}
 use Rattle.model.specs.Worked.{RelationsHold, StepsLead, PlacesAndRulesCount, with_free, bare_rule, with_rules}
 
 -- each relation holds and fails where it was worked out
@@ -56,10 +56,11 @@ steps_lead = record {
 }
 
 -- an edge of the program with one rule leads from 0 to 1
-edge_of_one : (a b : ℕ) → HasEdge (with_rules (bare_rule 0 1 ∷ [])) a b → (a ≡ 0) × (b ≡ 1)
+edge_of_one : (a b : ℕ) → HasEdge (with_rules (bare_rule 0 1 ∷ [])) any_rule a b → (a ≡ 0) × (b ≡ 1)
 edge_of_one a b h = go h.number h.rule h.numbered h.source h.target
   where
-    go : (n : ℕ) (r : Rule) → rule_at (with_rules (bare_rule 0 1 ∷ [])) n ≡ Some r → r.source ≡ a → r.target ≡ b → (a ≡ 0) × (b ≡ 1)
+    go : (n : ℕ) (r : Rule) → rule_at (with_rules (bare_rule 0 1 ∷ [])) n ≡ Some r → r.source ≡ a → r.target ≡ b
+        → (a ≡ 0) × (b ≡ 1)
     go zero r e s t = absurd (none_some e)
       where
         none_some : None ≡ Some r → ⊥
@@ -70,10 +71,10 @@ edge_of_one a b h = go h.number h.rule h.numbered h.source h.target
         none_some : None ≡ Some r → ⊥
         none_some x = cc
 
--- so does a path
-path_of_one : (a b : ℕ) → HasPath (with_rules (bare_rule 0 1 ∷ [])) a b → (a ≡ 0) × (b ≡ 1)
-path_of_one a b (Edge h) = edge_of_one a b h
-path_of_one a b (Longer {b = x} path h) = let before = path_of_one a x path in let last = edge_of_one x b h in (before.0, last.1)
+-- no path leads from 1 to 0
+path_of_one : (a b : ℕ) → HasPath (with_rules (bare_rule 0 1 ∷ [])) any_rule a b → a ≡ 1 → b ≡ 1
+path_of_one a b (Here e) h = sym e ∙ h
+path_of_one a b (Onward {b = x} path h) e = (edge_of_one x b h).1
 
 -- places, rules and cycles are what was worked out
 pub places_and_rules : PlacesAndRulesCount
@@ -89,6 +90,11 @@ places_and_rules = record {
   begins = record { places = refl; at = refl; values = refl };
   begins_with_all = λ c h. omega (arith, h.places);
   begins_at_start = λ h. omega (arith, h.at);
-  cycle_of_two = record { symbol = 0; path = Longer (Edge (record { number = 1; rule = bare_rule 0 1; numbered = refl; source = refl; target = refl })) (record { number = 2; rule = bare_rule 1 0; numbered = refl; source = refl; target = refl }) };
-  no_cycle_of_one = λ h. let ends = path_of_one h.symbol h.symbol h.path in omega (arith, ends.0, ends.1);
+  cycle_of_two = record {
+    from = 0;
+    to = 1;
+    edge = record { number = 1; rule = bare_rule 0 1; numbered = refl; allowed = refl; source = refl; target = refl };
+    back = Onward (Here refl) (record { number = 2; rule = bare_rule 1 0; numbered = refl; allowed = refl; source = refl; target = refl });
+  };
+  no_cycle_of_one = λ h. let ends = edge_of_one h.from h.to h.edge in omega (arith, ends.0, path_of_one h.to h.from h.back ends.1);
 }

@@ -3,27 +3,27 @@ use Rattle.std.specs.Prelude.{ℕ, ◌+◌, ◌*◌, ◌^◌, ◌≤◌, max, Li
 
 -- a bound, and the list of a bound's parts
 mutual
-  pub data Size : Type 0 where
-    Constant : ℕ → Size
-    Input : ℕ → Size
-    SumOf : Parts → Size
-    ProductOf : Parts → Size
-    GreatestOf : Parts → Size
-    PowerOf : ℕ → Size → Size
+  pub data Bound : Type 0 where
+    Constant : ℕ → Bound
+    Input : ℕ → Bound
+    SumOf : Parts → Bound
+    ProductOf : Parts → Bound
+    MaximumOf : Parts → Bound
+    PowerOf : ℕ → Bound → Bound
 
   pub data Parts : Type 0 where
     NoParts : Parts
-    Part : Size → Parts → Parts
+    Part : Bound → Parts → Parts
 
--- the value of a bound where start argument i has the absolute value m[i]: an empty sum or greatest is 0, an empty
+-- the value of a bound where start argument i has the absolute value m[i]: an empty sum or maximum is 0, an empty
 -- product is 1, and a power with exponent 0 is 1
 abbrev mutual
-  pub val : Size → List ℕ → ℕ
+  pub val : Bound → List ℕ → ℕ
   val (Constant c) m = c
   val (Input i) m = slice_index m i
   val (SumOf bs) m = val_sum bs m
   val (ProductOf bs) m = val_product bs m
-  val (GreatestOf bs) m = val_greatest bs m
+  val (MaximumOf bs) m = val_maximum bs m
   val (PowerOf c e) m = c ^ val e m
 
   pub val_sum : Parts → List ℕ → ℕ
@@ -34,20 +34,33 @@ abbrev mutual
   val_product NoParts m = 1
   val_product (Part b bs) m = val b m * val_product bs m
 
-  pub val_greatest : Parts → List ℕ → ℕ
-  val_greatest NoParts m = 0
-  val_greatest (Part b bs) m = max (val b m) (val_greatest bs m)
+  pub val_maximum : Parts → List ℕ → ℕ
+  val_maximum NoParts m = 0
+  val_maximum (Part b bs) m = max (val b m) (val_maximum bs m)
+
+-- a fact holds of each node of a bound: of the bound itself, and of each node of its parts or of its exponent
+abbrev mutual
+  pub EachNode : (Bound → Type 0) → Bound → Type 0
+  EachNode P (Constant c) = P (Constant c)
+  EachNode P (Input i) = P (Input i)
+  EachNode P (SumOf bs) = P (SumOf bs) × EachNodeOfAll P bs
+  EachNode P (ProductOf bs) = P (ProductOf bs) × EachNodeOfAll P bs
+  EachNode P (MaximumOf bs) = P (MaximumOf bs) × EachNodeOfAll P bs
+  EachNode P (PowerOf c e) = P (PowerOf c e) × EachNode P e
+
+  pub EachNodeOfAll : (Bound → Type 0) → Parts → Type 0
+  EachNodeOfAll P NoParts = ⊤
+  EachNodeOfAll P (Part b bs) = EachNode P b × EachNodeOfAll P bs
+
+-- where it is a power, its base is at least n
+abbrev pub IsBasedFrom : ℕ → Bound → Type 0
+IsBasedFrom n (PowerOf c e) = n ≤ c
+IsBasedFrom n _ = ⊤
 
 -- every base of a power in the bound is at least 1
-abbrev mutual
-  pub IsBased : Size → Type 0
-  IsBased (Constant c) = ⊤
-  IsBased (Input i) = ⊤
-  IsBased (SumOf bs) = AreBased bs
-  IsBased (ProductOf bs) = AreBased bs
-  IsBased (GreatestOf bs) = AreBased bs
-  IsBased (PowerOf c e) = (1 ≤ c) × IsBased e
+abbrev pub IsBased : Bound → Type 0
+IsBased b = EachNode (IsBasedFrom 1) b
 
-  pub AreBased : Parts → Type 0
-  AreBased NoParts = ⊤
-  AreBased (Part b bs) = IsBased b × AreBased bs
+-- every base of a power in the parts is at least 1
+abbrev pub AreBased : Parts → Type 0
+AreBased bs = EachNodeOfAll (IsBasedFrom 1) bs

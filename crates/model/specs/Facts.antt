@@ -2,27 +2,30 @@
 use Rattle.std.specs.Prelude.{◌≡◌, ℕ, ◌≤◌, List, length, ℤ, nat_abs}
 use Rattle.model.specs.Programs.{Program}
 use Rattle.model.specs.Runs.{Config, Step, IsRun, count, last_rule, place_value, sizes_of_start}
-use Rattle.model.specs.Bounds.{Size, val}
+use Rattle.model.specs.Bounds.{Bound, val}
 
 -- a bound on how often a rule occurs, or on the absolute value at a place after a rule
 pub data Fact : Type 0 where
-  Time : ℕ → Size → Fact
-  SizeAt : ℕ → ℕ → Size → Fact
+  Time : ℕ → Bound → Fact
+  Size : ℕ → ℕ → Bound → Fact
 
 -- in every run, from any integers and by any choice of rules, the rule occurs at most as often as the bound says
-pub record HoldsTime (p : Program) (rule : ℕ) (bound : Size) : Type 0 where
-  pub each : (start : List ℤ) (steps : List Step) (c : Config) → IsRun p start steps c → count rule steps ≤ val bound (sizes_of_start start)
+pub record HoldsTime (p : Program) (rule : ℕ) (bound : Bound) : Type 0 where
+  pub each : (start : List ℤ) (steps : List Step) (c : Config) → IsRun p start steps c
+      → count rule steps ≤ val bound (sizes_of_start start)
 
 -- after every run whose last step is by the rule, the absolute value at the place is at most what the bound says;
 -- of the virtual entry this is said of the runs without a step
-pub record HoldsSize (p : Program) (rule place : ℕ) (bound : Size) : Type 0 where
-  pub each : (start : List ℤ) (steps : List Step) (c : Config) → IsRun p start steps c → last_rule steps ≡ rule → nat_abs (place_value c place) ≤ val bound (sizes_of_start start)
+pub record HoldsSize (p : Program) (rule place : ℕ) (bound : Bound) : Type 0 where
+  pub each : (start : List ℤ) (steps : List Step) (c : Config) → IsRun p start steps c → last_rule steps ≡ rule
+      → nat_abs (place_value c place) ≤ val bound (sizes_of_start start)
 
 -- every run has at most as many steps as the bound says
-pub record HoldsTotal (p : Program) (bound : Size) : Type 0 where
-  pub each : (start : List ℤ) (steps : List Step) (c : Config) → IsRun p start steps c → length steps ≤ val bound (sizes_of_start start)
+pub record HoldsTotal (p : Program) (bound : Bound) : Type 0 where
+  pub each : (start : List ℤ) (steps : List Step) (c : Config) → IsRun p start steps c
+      → length steps ≤ val bound (sizes_of_start start)
 
 -- a fact holds on all runs of the program
 abbrev pub Holds : Program → Fact → Type 0
 Holds p (Time t b) = HoldsTime p t b
-Holds p (SizeAt t i b) = HoldsSize p t i b
+Holds p (Size t i b) = HoldsSize p t i b

@@ -1,21 +1,94 @@
--- The graph of a program: its symbols, with an edge from source to target for each rule.
-use Rattle.std.specs.Prelude.{◌≡◌, ℕ, Some}
+-- Paths along the edges of a graph and along the rules of a program, and what is said by them.
+use Rattle.std.specs.Prelude.{◌≡◌, ◌⊎◌, ℕ, zero, suc, ◌==◌, List, length, Bool, true, false, filter, Option, Some, None, slice_get}
+use Rattle.std.specs.List.{range_with_len}
 use Rattle.model.specs.Programs.{Program, Rule, rule_at}
 
--- some rule leads from one symbol to the other
-pub record HasEdge (p : Program) (a b : ℕ) : Type 0 where
+-- a path of any number of edges, also of none, leads from one node to another
+pub data Path (Edge : ℕ → ℕ → Type 0) (a : ℕ) : ℕ → Type 0 where
+  Here : {b : ℕ} → a ≡ b → Path Edge a b
+  Onward : {b c : ℕ} → Path Edge a b → Edge b c → Path Edge a c
+
+-- a rule that is allowed leads from one symbol to another
+pub record HasEdge (p : Program) (is_allowed : ℕ → Bool) (a b : ℕ) : Type 0 where
   pub number : ℕ
   pub rule : Rule
   pub numbered : rule_at p number ≡ Some rule
+  pub allowed : is_allowed number ≡ true
   pub source : rule.source ≡ a
   pub target : rule.target ≡ b
 
--- a path of one edge or more leads from one symbol to the other
-pub data HasPath (p : Program) (a : ℕ) : ℕ → Type 0 where
-  Edge : {b : ℕ} → HasEdge p a b → HasPath p a b
-  Longer : {b c : ℕ} → HasPath p a b → HasEdge p b c → HasPath p a c
+-- a path of allowed rules, possibly empty, leads from one symbol to another
+abbrev pub HasPath : Program → (ℕ → Bool) → ℕ → ℕ → Type 0
+HasPath p is_allowed = Path (HasEdge p is_allowed)
 
--- the graph has a cycle: some path leads from a symbol back to it
+-- a path of allowed rules leads from the virtual entry to the symbol: the entry leads to the start symbol
+abbrev pub IsReached : Program → (ℕ → Bool) → ℕ → Type 0
+IsReached p is_allowed b = HasPath p is_allowed p.start b
+
+-- all rules are allowed
+abbrev pub any_rule : ℕ → Bool
+any_rule t = true
+
+-- the graph has a cycle: from where some rule leads to a path leads back to where it comes from
 pub record HasCycle (p : Program) : Type 0 where
-  pub symbol : ℕ
-  pub path : HasPath p symbol symbol
+  pub from : ℕ
+  pub to : ℕ
+  pub edge : HasEdge p any_rule from to
+  pub back : HasPath p any_rule to from
+
+-- the symbol that a rule leads to, where there is one
+abbrev pub target_in : Option Rule → Option ℕ
+target_in None = None
+target_in (Some r) = Some r.target
+
+-- the symbol that the rule with a number leads to; the virtual entry, rule 0, leads to the start symbol
+abbrev pub target_of : Program → ℕ → Option ℕ
+target_of p zero = Some p.start
+target_of p (suc t) = target_in (slice_get p.rules t)
+
+-- the symbol that a rule comes from, where there is one
+abbrev pub source_in : Option Rule → Option ℕ
+source_in None = None
+source_in (Some r) = Some r.source
+
+-- the symbol that the rule with a number comes from; the virtual entry comes from none
+abbrev pub source_of : Program → ℕ → Option ℕ
+source_of p t = source_in (rule_at p t)
+
+-- whether both are there and are the same symbol
+abbrev pub same_symbol : Option ℕ → Option ℕ → Bool
+same_symbol None b = false
+same_symbol (Some a) None = false
+same_symbol (Some a) (Some b) = a == b
+
+-- whether rule e, or the virtual entry, can come just before rule t: it leads to where t comes from
+abbrev pub comes_before : Program → ℕ → ℕ → Bool
+comes_before p e t = same_symbol (target_of p e) (source_of p t)
+
+-- the virtual entry and the rules, by their numbers
+abbrev pub entry_and_rules : Program → List ℕ
+entry_and_rules p = range_with_len 0 (suc (length p.rules))
+
+-- what can come just before rule t, ascending
+abbrev pub pre : Program → ℕ → List ℕ
+pre p t = filter (λ e. comes_before p e t) (entry_and_rules p)
+
+-- rule e is untimed, and from where it leads to a path of untimed rules, possibly empty, leads to where t comes from
+pub record LeadsBackTo (p : Program) (is_untimed : ℕ → Bool) (t e : ℕ) : Type 0 where
+  pub untimed : is_untimed e ≡ true
+  pub from : ℕ
+  pub leads : target_of p e ≡ Some from
+  pub to : ℕ
+  pub leaves : source_of p t ≡ Some to
+  pub path : HasPath p is_untimed from to
+
+-- the set of rule t holds t itself, and each untimed rule from where a path of untimed rules leads to where t comes from
+abbrev pub IsInSet : Program → (ℕ → Bool) → ℕ → ℕ → Type 0
+IsInSet p is_untimed t e = (e ≡ t) ⊎ LeadsBackTo p is_untimed t e
+
+-- an entry of a set of rules is a rule outside it, or the virtual entry, that can come just before one of its rules
+pub record IsEntry (p : Program) (is_member : ℕ → Bool) (e : ℕ) : Type 0 where
+  pub outside : is_member e ≡ false
+  pub member : ℕ
+  pub inside : is_member member ≡ true
+  pub before : comes_before p e member ≡ true

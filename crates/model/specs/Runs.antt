@@ -1,5 +1,6 @@
 -- What a program does: configurations, steps and runs over unbounded integers.
-use Rattle.std.specs.Prelude.{◌≡◌, ℕ, zero, suc, ◌+◌, List, [], ◌∷◌, ◌++◌, length, map, ℤ, pos, Some, if◌then◌else◌, ◌==◌, slice_index_or, nat_abs}
+use Rattle.std.specs.Prelude.{◌≡◌, ℕ, zero, suc, ◌+◌, List, [], ◌∷◌, ◌++◌, length, map, ℤ, pos, Some, if◌then◌else◌}
+use Rattle.std.specs.Prelude.{◌==◌, slice_index_or, nat_abs}
 use Rattle.model.specs.Terms.{value}
 use Rattle.model.specs.Programs.{Program, Rule, rule_at, arity_of, GuardHolds}
 

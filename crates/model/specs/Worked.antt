@@ -1,16 +1,17 @@
 -- Values of the definitions that were worked out by hand.
 use Rattle.std.specs.Prelude.{◌≡◌, ℕ, List, [], ◌∷◌, ℤ, pos, negsuc, Some, None}
 use Rattle.model.specs.Terms.{Literal, Variable, Negation, Addition, Subtraction, Multiplication, Exponentiation, value}
-use Rattle.model.specs.Programs.{AtLeast, MoreThan, AtMost, LessThan, EqualTo, Related, Always, Compare, Symbol, Rule, Program, rule_at, arity_of}
+use Rattle.model.specs.Programs.{AtLeast, MoreThan, AtMost, LessThan, EqualTo, Related, Always, Compare, Symbol, Rule}
+use Rattle.model.specs.Programs.{Program, rule_at, arity_of}
 use Rattle.model.specs.Runs.{Config, Step, Leads, Begins, count, last_rule, place_value, sizes_of_start}
 use Rattle.model.specs.Paths.{HasCycle}
-use Rattle.model.specs.Bounds.{Size, Constant, Input, SumOf, ProductOf, GreatestOf, PowerOf, Parts, NoParts, Part, val}
+use Rattle.model.specs.Bounds.{Bound, Constant, Input, SumOf, ProductOf, MaximumOf, PowerOf, Parts, NoParts, Part, val}
 
 -- a part alone, and two parts
-abbrev pub one_part : Size → Parts
+abbrev pub one_part : Bound → Parts
 one_part a = Part a NoParts
 
-abbrev pub two_parts : Size → Size → Parts
+abbrev pub two_parts : Bound → Bound → Parts
 two_parts a b = Part a (one_part b)
 
 -- expressions: A - 1 at 3, -(A^2) at 3, (-2)^3, (-2)^0, 2 - A*B at (5, -4)
@@ -19,17 +20,19 @@ pub record ExpressionsHaveTheirValues : Type 0 where
   pub minus_square : value (Negation (Exponentiation (Variable 0) 2)) (pos 3 ∷ []) ≡ negsuc 8
   pub odd_power : value (Exponentiation (Literal (negsuc 1)) 3) [] ≡ negsuc 7
   pub no_power : value (Exponentiation (Literal (negsuc 1)) 0) [] ≡ pos 1
-  pub second_variable : value (Subtraction (Literal (pos 2)) (Multiplication (Variable 0) (Variable 1))) (pos 5 ∷ negsuc 3 ∷ []) ≡ pos 22
+  pub second_variable : value (Subtraction (Literal (pos 2)) (Multiplication (Variable 0) (Variable 1)))
+      (pos 5 ∷ negsuc 3 ∷ []) ≡ pos 22
   pub sum : value (Addition (Variable 0) (Literal (negsuc 6))) (pos 5 ∷ []) ≡ negsuc 1
 
--- bounds at A = 3 and B = 4: 2*A^2 + 2*A + 1, 2*2^A*B, the greatest of A and B, and the empty ones
+-- bounds at A = 3 and B = 4: 2*A^2 + 2*A + 1, 2*2^A*B, the maximum of A and B, and the empty ones
 pub record BoundsHaveTheirValues : Type 0 where
-  pub polynomial : val (SumOf (Part (ProductOf (Part (Constant 2) (two_parts (Input 0) (Input 0)))) (two_parts (ProductOf (two_parts (Constant 2) (Input 0))) (Constant 1)))) (3 ∷ 4 ∷ []) ≡ 25
+  pub polynomial : val (SumOf (Part (ProductOf (Part (Constant 2) (two_parts (Input 0) (Input 0))))
+      (two_parts (ProductOf (two_parts (Constant 2) (Input 0))) (Constant 1)))) (3 ∷ 4 ∷ []) ≡ 25
   pub exponential : val (ProductOf (Part (Constant 2) (two_parts (PowerOf 2 (Input 0)) (Input 1)))) (3 ∷ 4 ∷ []) ≡ 64
-  pub greatest : val (GreatestOf (two_parts (Input 0) (Input 1))) (3 ∷ 4 ∷ []) ≡ 4
+  pub maximum : val (MaximumOf (two_parts (Input 0) (Input 1))) (3 ∷ 4 ∷ []) ≡ 4
   pub empty_sum : val (SumOf NoParts) (3 ∷ []) ≡ 0
   pub empty_product : val (ProductOf NoParts) (3 ∷ []) ≡ 1
-  pub empty_greatest : val (GreatestOf NoParts) (3 ∷ []) ≡ 0
+  pub empty_maximum : val (MaximumOf NoParts) (3 ∷ []) ≡ 0
   pub no_power : val (PowerOf 7 (Constant 0)) (3 ∷ []) ≡ 1
 
 -- a use of a rule without free variables
@@ -53,10 +56,13 @@ pub record StepsAreCounted : Type 0 where
 -- each relation at 1 and 2, at 1 and 1, and at 2 and 1
 pub record RelationsHold : Type 0 where
   pub at_least : Related AtLeast (pos 2) (pos 1) × Related AtLeast (pos 1) (pos 1) × ¬ (Related AtLeast (pos 1) (pos 2))
-  pub more_than : Related MoreThan (pos 2) (pos 1) × ¬ (Related MoreThan (pos 1) (pos 1)) × ¬ (Related MoreThan (pos 1) (pos 2))
+  pub more_than : Related MoreThan (pos 2) (pos 1) × ¬ (Related MoreThan (pos 1) (pos 1))
+      × ¬ (Related MoreThan (pos 1) (pos 2))
   pub at_most : Related AtMost (pos 1) (pos 2) × Related AtMost (pos 1) (pos 1) × ¬ (Related AtMost (pos 2) (pos 1))
-  pub less_than : Related LessThan (pos 1) (pos 2) × ¬ (Related LessThan (pos 1) (pos 1)) × ¬ (Related LessThan (pos 2) (pos 1))
-  pub equal_to : Related EqualTo (pos 1) (pos 1) × ¬ (Related EqualTo (pos 1) (pos 2)) × ¬ (Related EqualTo (pos 2) (pos 1))
+  pub less_than : Related LessThan (pos 1) (pos 2) × ¬ (Related LessThan (pos 1) (pos 1))
+      × ¬ (Related LessThan (pos 2) (pos 1))
+  pub equal_to : Related EqualTo (pos 1) (pos 1) × ¬ (Related EqualTo (pos 1) (pos 2))
+      × ¬ (Related EqualTo (pos 2) (pos 1))
 
 -- the rule l0(A) -> l1(A + C) where A is at least C and the atom that always holds does; C is free
 abbrev pub with_free : Rule
@@ -77,8 +83,8 @@ one_value s x = record { at = s; values = x ∷ [] }
 abbrev pub two_values : ℕ → ℤ → ℤ → Config
 two_values s x y = record { at = s; values = x ∷ y ∷ [] }
 
--- from l0(3) the rule leads with C = 2 to l1(5); not from another symbol or with another number of values, not without a
--- value of C or with two of them, not where C is 4, and not to another symbol or another value
+-- from l0(3) the rule leads with C = 2 to l1(5); not from another symbol or with another number of values, not without
+-- a value of C or with two of them, not where C is 4, and not to another symbol or another value
 pub record StepsLead : Type 0 where
   pub leads : Leads with_free (one_value 0 (pos 3)) (pos 2 ∷ []) (one_value 1 (pos 5))
   pub other_source : ¬ (Leads with_free (one_value 1 (pos 3)) (pos 2 ∷ []) (one_value 1 (pos 5)))
@@ -101,8 +107,8 @@ two_symbols = record { name = 108 ∷ 48 ∷ []; arity = 1 } ∷ record { name =
 abbrev pub with_rules : List Rule → Program
 with_rules rules = record { symbols = two_symbols; start = 0; start_names = (65 ∷ []) ∷ []; rules = rules }
 
--- places and rules count from 1, a run begins with a value for each place, two rules can be a cycle, and one rule between
--- two symbols is none
+-- places and rules count from 1, a run begins with a value for each place, two rules can be a cycle, and one rule
+-- between two symbols is none
 pub record PlacesAndRulesCount : Type 0 where
   pub first_place : place_value (two_values 0 (pos 7) (negsuc 8)) 1 ≡ pos 7
   pub second_place : place_value (two_values 0 (pos 7) (negsuc 8)) 2 ≡ negsuc 8

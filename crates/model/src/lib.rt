@@ -1,11 +1,22 @@
-// What a program, a run, a bound and a fact mean: definitions over unbounded integers, in `specs/`, with their first laws.
+// What a program, a run, a bound and a fact mean: definitions over unbounded integers, in `specs/`, with their laws.
 //
-// The crates above read their own types as this plain data and state their contracts over it. The functions here have no
-// code: the contract of each is a law of the definitions, or values that were worked out by hand.
+// The crates above read their own types as this plain data and state their contracts over it. The functions here have
+// no code: the contract of each is a law of the definitions, or values that were worked out by hand. The one type here
+// is the error that all these crates share.
 #![tactic(auto)]
 
+mod runs;
+
 ghost use Rattle.model.specs.Laws.{RunsAreDetermined, EntryOccursOnce};
-ghost use Rattle.model.specs.Worked.{ExpressionsHaveTheirValues, BoundsHaveTheirValues, StepsAreCounted, RelationsHold, StepsLead, PlacesAndRulesCount};
+ghost use Rattle.model.specs.Worked.{ExpressionsHaveTheirValues, BoundsHaveTheirValues, StepsAreCounted};
+ghost use Rattle.model.specs.Worked.{RelationsHold, StepsLead, PlacesAndRulesCount};
+ghost use Rattle.model.specs.WorkedRuns.{RelationsHoldBelowZero, StepsAreSteps, RunsAreRuns};
+ghost use Rattle.model.specs.WorkedFacts.{StepsAndPlacesAreCounted, TimesHold, TotalsHold, SizesHold};
+
+pub use runs::runs_go_step_by_step;
+
+/// Want of memory, as an error type of its own.
+pub type Memory = std::alloc::AllocError;
 
 /// Start values and steps, with the values of their free variables, determine the configuration that a run reaches.
 pub fn runs_are_determined()
@@ -25,4 +36,19 @@ pub fn worked_values_hold()
     ensures relations { RelationsHold }
     ensures leading { StepsLead }
     ensures numbering { PlacesAndRulesCount }
+{}
+
+/// The steps and runs of a small program with a loop are those that were worked out by hand, and no others are.
+pub fn worked_runs_hold()
+    ensures relations { RelationsHoldBelowZero }
+    ensures steps { StepsAreSteps }
+    ensures runs { RunsAreRuns }
+{}
+
+/// The bounds that were worked out by hand hold on all runs of a small program, and those that are one too small don't.
+pub fn worked_facts_hold()
+    ensures counting { StepsAndPlacesAreCounted }
+    ensures times { TimesHold }
+    ensures totals { TotalsHold }
+    ensures sizes { SizesHold }
 {}

@@ -21,7 +21,8 @@ get-files_of file rest name =
     ∙ ap (λ b. cond b (Some file.bytes.items) (get (files_of rest) name)) (sym (texts_ties name (string_bytes file.name)))
 
 -- the search ends at a file of this name
-pub get-found : (files : List Held) (i : ℕ) (file : Held) (name : List ℕ) → i < length files → file ≡ get_or files i file
+pub get-found : (files : List Held) (i : ℕ) (file : Held) (name : List ℕ) → i < length files
+    → file ≡ get_or files i file
     → pointwise nat_eq name (string_bytes file.name) ≡ true → get (files_of (drop i files)) name ≡ Some file.bytes.items
 get-found files i file name within is same =
     let begins : drop i files ≡ file ∷ drop (suc i) files = drop-cons files i file within ∙ ap (λ f. f ∷ drop (suc i) files) (sym is) in
@@ -30,7 +31,8 @@ get-found files i file name within is same =
     ∙ ap (λ b. cond b (Some file.bytes.items) (get (files_of (drop (suc i) files)) name)) same
 
 -- the search goes on behind a file of another name
-pub get-passed : (files : List Held) (i : ℕ) (file : Held) (name : List ℕ) → i < length files → file ≡ get_or files i file
+pub get-passed : (files : List Held) (i : ℕ) (file : Held) (name : List ℕ) → i < length files
+    → file ≡ get_or files i file
     → pointwise nat_eq name (string_bytes file.name) ≡ false → get (files_of (drop i files)) name ≡ get (files_of (drop (i + 1) files)) name
 get-passed files i file name within is other =
     let begins : drop i files ≡ file ∷ drop (suc i) files = drop-cons files i file within ∙ ap (λ f. f ∷ drop (suc i) files) (sym is) in
@@ -40,7 +42,8 @@ get-passed files i file name within is other =
     ∙ ap (λ j. get (files_of (drop j files)) name) (sym (add-one i))
 
 -- the search ends where no file is left
-pub get-ended : (files : List Held) (i : ℕ) (name : List ℕ) → length files ≤ i → get (files_of (drop i files)) name ≡ None
+pub get-ended : (files : List Held) (i : ℕ) (name : List ℕ) → length files ≤ i
+    → get (files_of (drop i files)) name ≡ None
 get-ended files i name past = ap (λ fs. get (files_of fs) name) (drop_all i files past) ∙ get-none name
 
 -- of several files of one name the first counts

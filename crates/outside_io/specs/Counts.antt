@@ -2,11 +2,11 @@
 use Rattle.std.specs.Prelude.{ℕ, ◌+◌, ◌-◌, ◌^◌, ◌≤◌, ◌==◌, min, Bool, List}
 use Rattle.std.specs.List.{list_any}
 
--- the count after one more; a count that has reached the greatest number stays there
+-- the count after one more; a count that has reached its maximum stays there
 abbrev pub next_count : ℕ → ℕ
 next_count n = min (n + 1) (2 ^ 64 - 1)
 
--- the count is greater than before, or has reached the greatest number
+-- the count is more than before, or has reached its maximum
 abbrev pub Rose : ℕ → ℕ → Type 0
 Rose before now = next_count before ≤ now
 

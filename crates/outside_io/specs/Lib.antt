@@ -1,11 +1,14 @@
+-- what the contracts of shelves and sinks cite
 pub mod Counts
-pub mod Fetching
-pub mod FileShelf
 pub mod Files
+pub mod Fetching
+pub mod Putting
+pub mod Stops
 pub mod HeldFiles
+pub mod FileShelf
 pub mod MemoryShelf
 pub mod MemorySink
 pub mod OutSink
-pub mod Putting
 pub mod SteadyShelf
-pub mod Stops
+-- values that were worked out by hand
+pub mod WorkedPuts

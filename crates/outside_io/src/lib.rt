@@ -8,6 +8,7 @@
 //! system.
 #![tactic(auto)]
 
+mod command_line;
 mod file_shelf;
 mod held;
 mod memory_shelf;
@@ -18,19 +19,17 @@ mod shelf;
 mod sink;
 mod steady;
 mod stop;
-#[cfg(test)]
-mod tests;
+mod worked;
 
+pub use command_line::all_words;
 pub use file_shelf::FileShelf;
 pub use held::{Held, first_file_of_a_name_counts};
 pub use memory_shelf::MemoryShelf;
 pub use memory_sink::MemorySink;
+pub use model::Memory;
 pub use out_sink::OutSink;
 pub use shelf::{FetchError, Shelf};
 pub use sink::{PutFailed, Sink};
-use std::alloc::AllocError;
 pub use steady::{SteadyShelf, SteadySink, steady_counts_never_rise};
 pub use stop::Stop;
-
-/// Want of memory, as an error type of its own.
-pub type Memory = AllocError;
+pub use worked::worked_puts_hold;

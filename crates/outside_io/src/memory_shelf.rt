@@ -1,5 +1,6 @@
 // A shelf in memory, which fails at chosen calls.
-ghost use Rattle.std.specs.Prelude.{◌≡◌, ◌≤◌, ◌↔◌, ◌⊎◌, Some, IfOk, OnErr, IsErrOf, IsTrue, false, length, if◌then◌else◌};
+ghost use Rattle.std.specs.Prelude.{◌≡◌, ◌≤◌, ◌↔◌, ◌⊎◌, Some, IfOk, OnErr, IsErrOf, IsTrue, false, length};
+ghost use Rattle.std.specs.Prelude.{if◌then◌else◌};
 ghost use Rattle.outside_io.specs.Counts.{names_call};
 
 use crate::held::{Held, copy_of};
@@ -38,7 +39,7 @@ impl MemoryShelf {
         }
     }
 
-    /// The number of fetches so far. It stays at the greatest `u64` once it has reached it.
+    /// The number of fetches so far. It stays at the maximum of a `u64` once it has reached it.
     pub fn calls(&self) -> u64
         ensures { result ≡ fetch_count self.now }
     {
@@ -50,7 +51,8 @@ impl Shelf for MemoryShelf {
     ghost use Rattle.outside_io.specs.Counts.{next_count};
     ghost use Rattle.outside_io.specs.Fetching.{IsTooLong, MayFail};
     ghost use Rattle.outside_io.specs.Files.{HoldsMore, IsHeld, Lacks};
-    ghost use Rattle.outside_io.specs.MemoryShelf.{held_files, failing_calls, fetch_count, fault_count, taken_count, fails_next};
+    ghost use Rattle.outside_io.specs.MemoryShelf.{held_files, failing_calls, fetch_count, fault_count, taken_count};
+    ghost use Rattle.outside_io.specs.MemoryShelf.{fails_next};
 
     ghost held = { λ shelf. Some (held_files shelf) };
 

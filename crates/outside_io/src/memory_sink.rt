@@ -1,12 +1,13 @@
 // A sink in memory, which fails at chosen calls.
-ghost use Rattle.std.specs.Prelude.{◌≡◌, ◌≤◌, ◌↔◌, ℕ, List, [], ◌++◌, Option, None, Some, IfOk, IsOk, OnOk, OnErr, is_ok, if◌then◌else◌, length, take, vec_capacity};
+ghost use Rattle.std.specs.Prelude.{◌≡◌, ◌≤◌, ◌↔◌, ℕ, List, [], ◌++◌, Option, None, Some, IfOk, IsOk, OnOk, OnErr};
+ghost use Rattle.std.specs.Prelude.{is_ok, if◌then◌else◌, length, take, vec_capacity};
 ghost use Rattle.std.specs.Io.KnownBytes.{Appends};
 ghost use Rattle.outside_io.specs.Counts.{Rose, next_count};
 ghost use Rattle.outside_io.specs.Putting.{AppendsPrefix};
 
-use crate::Memory;
 use crate::sink::{PutFailed, Sink};
 use crate::stop::{Stop, first_stop, out_count};
+use model::Memory;
 use std::alloc::Global;
 
 /// A sink in memory. It tells all that was written, and fails at the calls that it was told to.
@@ -54,7 +55,8 @@ impl MemorySink {
 }
 
 impl Sink for MemorySink {
-    ghost use Rattle.outside_io.specs.MemorySink.{written_bytes, room_of, room_left, stops_of, put_count, fault_count, next_stop_bytes, out_count};
+    ghost use Rattle.outside_io.specs.MemorySink.{written_bytes, room_of, room_left, stops_of, put_count, fault_count};
+    ghost use Rattle.outside_io.specs.MemorySink.{next_stop_bytes, out_count};
 
     ghost written = { λ sink. Some (written_bytes sink) };
 

@@ -28,7 +28,7 @@ impl From<AllocError> for FetchError {
 /// Where files are fetched by name.
 ///
 /// Its meanings are `held`, what it holds, if it tells that; `taken`, how many bytes the last fetch
-/// took; and `faults`, a count of faults, kept in a `u64`, which stays at the greatest number.
+/// took; and `faults`, a count of faults, kept in a `u64`, which stays at its maximum.
 pub trait Shelf {
     ghost held: { Self → Option Files };
 

@@ -11,7 +11,7 @@ pub struct PutFailed;
 /// Where pieces of text are put, one behind the other.
 ///
 /// Its meanings are `written`, all bytes that were written, if it tells that; and `faults`, a count
-/// of faults, kept in a `u64`, which stays at the greatest number.
+/// of faults, kept in a `u64`, which stays at its maximum.
 pub trait Sink {
     ghost written: { Self → Option (List ℕ) };
 

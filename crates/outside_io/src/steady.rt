@@ -1,5 +1,6 @@
 // A shelf and a sink that never have a fault.
-ghost use Rattle.std.specs.Prelude.{◌≡◌, ◌≤◌, ◌↔◌, ◌⊎◌, ℕ, None, Some, IfOk, IsErrOf, IsOk, IsSome, OnOk, OnErr, length};
+ghost use Rattle.std.specs.Prelude.{◌≡◌, ◌≤◌, ◌↔◌, ◌⊎◌, ℕ, None, Some, IfOk, IsErrOf, IsOk, IsSome, OnOk, OnErr};
+ghost use Rattle.std.specs.Prelude.{length};
 ghost use Rattle.outside_io.specs.Counts.{Rose};
 
 use crate::held::{Held, copy_of};

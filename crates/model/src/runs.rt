@@ -1,0 +1,10 @@
+// What holds of every run, step by step.
+
+ghost use Rattle.model.specs.RunLaws.{AllRunsGoStepByStep};
+
+/// A beginning of a run is a run. A run stands where its last rule leads to, and the rule before can come just before each
+/// of its steps. Allowed rules lead a run to symbols alone that they reach. Where arities agree, a run has one value for
+/// each place of the symbol at which it stands.
+pub fn runs_go_step_by_step()
+    ensures { AllRunsGoStepByStep }
+{}

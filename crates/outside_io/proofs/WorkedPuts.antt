@@ -1,0 +1,55 @@
+-- The worked counts, and what was worked out of a put that failed.
+use Rattle.std.proofs.Common.{◌≡◌, ℕ, zero, suc, ◌≤◌, List, [], ◌∷◌, length, take, get_or, refl, ap, arith}
+use Rattle.outside_io.specs.WorkedPuts.{CountsRise, AreLeft, PrefixesAreLeft}
+
+-- the counts rise as was worked out
+pub counts : CountsRise
+counts = record {
+  one_more = refl;
+  to_the_end = refl;
+  at_the_end = refl;
+  rose = omega arith;
+  rose_more = omega arith;
+  rose_at_the_end = omega arith;
+  stayed = λ h. omega (arith, h);
+  fell = λ h. omega (arith, h);
+  stayed_below_the_end = λ h. omega (arith, h);
+}
+
+-- what is left is the byte 1 and no more, with the byte 2, or with both
+left : (bytes : List ℕ) → AreLeft bytes → (get_or bytes 0 9 ≡ 1) × (get_or bytes 2 3 ≡ 3) × (length bytes ≤ 3)
+left bytes h = go h.count h.within h.appends
+  where
+    go : (k : ℕ) → k ≤ 2 → bytes ≡ 1 ∷ take k (2 ∷ 3 ∷ [])
+        → (get_or bytes 0 9 ≡ 1) × (get_or bytes 2 3 ≡ 3) × (length bytes ≤ 3)
+    go zero within e = (ap (λ (bs : List ℕ). get_or bs 0 9) e, ap (λ (bs : List ℕ). get_or bs 2 3) e, omega (arith, ap length e))
+    go (suc zero) within e = (ap (λ (bs : List ℕ). get_or bs 0 9) e, ap (λ (bs : List ℕ). get_or bs 2 3) e, omega (arith, ap length e))
+    go (suc (suc zero)) within e = (ap (λ (bs : List ℕ). get_or bs 0 9) e, ap (λ (bs : List ℕ). get_or bs 2 3) e, omega (arith, ap length e))
+    go (suc (suc (suc k))) within e = absurd (omega (arith, within))
+
+-- its second byte, if there is one, is the byte 2
+second : (bytes : List ℕ) → AreLeft bytes → get_or bytes 1 2 ≡ 2
+second bytes h = go h.count h.within h.appends
+  where
+    go : (k : ℕ) → k ≤ 2 → bytes ≡ 1 ∷ take k (2 ∷ 3 ∷ []) → get_or bytes 1 2 ≡ 2
+    go zero within e = ap (λ (bs : List ℕ). get_or bs 1 2) e
+    go (suc zero) within e = ap (λ (bs : List ℕ). get_or bs 1 2) e
+    go (suc (suc zero)) within e = ap (λ (bs : List ℕ). get_or bs 1 2) e
+    go (suc (suc (suc k))) within e = absurd (omega (arith, within))
+
+-- what is left is what was worked out
+pub prefixes : PrefixesAreLeft
+prefixes = record {
+  none = record { count = 0; within = omega arith; appends = refl };
+  first = record { count = 1; within = omega arith; appends = refl };
+  all = record { count = 2; within = omega arith; appends = refl };
+  last_alone = λ h. omega (arith, second (1 ∷ 3 ∷ []) h);
+  turned_round = λ h. omega (arith, second (1 ∷ 3 ∷ 2 ∷ []) h);
+  other_bytes = λ h. omega (arith, (left (1 ∷ 2 ∷ 4 ∷ []) h).1);
+  more = λ h. omega (arith, (left (1 ∷ 2 ∷ 3 ∷ 2 ∷ []) h).2);
+  twice = λ h. omega (arith, (left (1 ∷ 2 ∷ 3 ∷ 2 ∷ 3 ∷ []) h).2);
+  before = λ h. omega (arith, (left (2 ∷ 1 ∷ []) h).0);
+  over_it = λ h. omega (arith, (left (2 ∷ 3 ∷ []) h).0);
+  lost = λ h. omega (arith, (left [] h).0);
+  told_no_more = λ h. absurd h.appends;
+}

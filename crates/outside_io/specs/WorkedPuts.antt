@@ -1,0 +1,37 @@
+-- Counts, and what was written after a put that failed, as they were worked out by hand.
+use Rattle.std.specs.Prelude.{◌≡◌, ℕ, ◌-◌, ◌^◌, List, [], ◌∷◌, None, Some}
+use Rattle.outside_io.specs.Counts.{next_count, Rose}
+use Rattle.outside_io.specs.Putting.{AppendsPrefix}
+
+-- a count rises by one, up to the maximum of a `u64`; where it is there, it counts as risen
+pub record CountsRise : Type 0 where
+  pub one_more : next_count 3 ≡ 4
+  pub to_the_end : next_count (2 ^ 64 - 2) ≡ 2 ^ 64 - 1
+  pub at_the_end : next_count (2 ^ 64 - 1) ≡ 2 ^ 64 - 1
+  pub rose : Rose 3 4
+  pub rose_more : Rose 3 9
+  pub rose_at_the_end : Rose (2 ^ 64 - 1) (2 ^ 64 - 1)
+  pub stayed : ¬ (Rose 3 3)
+  pub fell : ¬ (Rose 3 2)
+  pub stayed_below_the_end : ¬ (Rose (2 ^ 64 - 2) (2 ^ 64 - 2))
+
+-- behind the byte 1 the piece 2, 3 was put, and with a fault these bytes are there
+abbrev pub AreLeft : List ℕ → Type 0
+AreLeft bytes = AppendsPrefix (Some (1 ∷ [])) (Some bytes) (2 ∷ 3 ∷ [])
+
+-- none of the piece, its first byte, or all of it; no other bytes, no byte more than the piece has, nothing in place
+-- of what was there
+pub record PrefixesAreLeft : Type 0 where
+  pub none : AreLeft (1 ∷ [])
+  pub first : AreLeft (1 ∷ 2 ∷ [])
+  pub all : AreLeft (1 ∷ 2 ∷ 3 ∷ [])
+  pub last_alone : ¬ (AreLeft (1 ∷ 3 ∷ []))
+  pub turned_round : ¬ (AreLeft (1 ∷ 3 ∷ 2 ∷ []))
+  pub other_bytes : ¬ (AreLeft (1 ∷ 2 ∷ 4 ∷ []))
+  pub more : ¬ (AreLeft (1 ∷ 2 ∷ 3 ∷ 2 ∷ []))
+  pub twice : ¬ (AreLeft (1 ∷ 2 ∷ 3 ∷ 2 ∷ 3 ∷ []))
+  pub before : ¬ (AreLeft (2 ∷ 1 ∷ []))
+  pub over_it : ¬ (AreLeft (2 ∷ 3 ∷ []))
+  pub lost : ¬ (AreLeft [])
+  -- what was told stays told
+  pub told_no_more : ¬ (AppendsPrefix (Some (1 ∷ [])) None (2 ∷ 3 ∷ []))
