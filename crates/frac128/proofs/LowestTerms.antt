@@ -1,13 +1,14 @@
 -- Division by the greatest common divisor gives lowest terms, with the same cross products.
-use Rattle.std.proofs.Common.{◌≡◌, ◌≢◌, ℕ, ◌*◌, ◌<◌, ◌≤◌, refl, sym, ◌∙◌, ap, subst, arith}
+use Rattle.std.proofs.Common.{◌≡◌, ◌≢◌, ℕ, ◌<◌, ◌≤◌, refl, sym, ◌∙◌, ap, subst, arith}
 use Rattle.std.specs.Int.{IsGcd, ◌∣◌}
 use Rattle.std.specs.Prelude.{zero, suc, ℤ, pos, negsuc, unsigned_abs, ◌<ℤ◌, ◌+ℤ◌, ◌*ℤ◌, int_div, int_rem}
-use Rattle.std.proofs.Math.Nat.{mul-dvd-mul_right, dvd_of_mul-dvd-mul_right, eq-one_of_dvd-one, pos_of_dvd_of_pos, dvd_refl, dvd-zero, one-mul, mod-eq-zero_of_dvd, mul-le-mul_left, le_of_dvd}
+use Rattle.std.proofs.Math.Nat.{eq-one_of_dvd-one, pos_of_dvd_of_pos, dvd_refl, dvd-zero, mod-eq-zero_of_dvd, mul-le-mul_left, le_of_dvd}
 use Rattle.std.proofs.lemmas.Int.{ints, quot-rem, unsigned_abs-mul}
 use Rattle.std.specs.Prelude.{◌-ℤ◌, [], ◌∷◌}
 use Rattle.int_laws.specs.Polynomial.{variable, constant, ◌⊖◌, ◌⊗◌}
 use Rattle.int_laws.proofs.Identities.{identity}
 use Rattle.int_laws.proofs.OrderLaws.{mul-positive_ℤ}
+use Rattle.int_laws.proofs.LeastMultiples.{quotients_apart}
 use Rattle.int_laws.proofs.RingLaws.{mul_assoc_ℤ, mul_comm_ℤ}
 use Rattle.frac128.specs.Lowest.{IsLowest}
 use Rattle.frac128.specs.Narrow.{IsNarrow}
@@ -42,12 +43,9 @@ IsGcd-bounds a b g h positive = (pos_of_dvd_of_pos h.1 positive, le_of_dvd posit
 -- what is left of two numbers without their greatest common divisor has no common divisor but 1
 pub quotients_are_lowest : (a b g n d : ℤ) → IsGcd (unsigned_abs a) (unsigned_abs b) (unsigned_abs g) → g ≢ pos 0
     → n *ℤ g ≡ a → d *ℤ g ≡ b → IsLowest n d
-quotients_are_lowest a b g n d gcd nonzero of_a of_b k divides_n divides_d =
-    let size = unsigned_abs g in
-    let in_a = subst (λ (m : ℕ). k * size ∣ m) (sym (unsigned_abs-mul n g) ∙ ap unsigned_abs of_a) (mul-dvd-mul_right k divides_n size) in
-    let in_b = subst (λ (m : ℕ). k * size ∣ m) (sym (unsigned_abs-mul d g) ∙ ap unsigned_abs of_b) (mul-dvd-mul_right k divides_d size) in
-    let in_g = subst (λ (m : ℕ). k * size ∣ m) (sym (one-mul size)) (gcd.2 (k * size) in_a in_b) in
-    eq-one_of_dvd-one (dvd_of_mul-dvd-mul_right k (size-positive g nonzero) in_g)
+quotients_are_lowest a b g n d gcd nonzero of_a of_b =
+    quotients_apart (unsigned_abs a) (unsigned_abs b) (unsigned_abs g) (unsigned_abs n) (unsigned_abs d) (size-positive g nonzero) gcd
+    (sym (unsigned_abs-mul n g) ∙ ap unsigned_abs of_a) (sym (unsigned_abs-mul d g) ∙ ap unsigned_abs of_b)
 
 -- a quotient is no larger than the number
 pub quotient-narrow : (a g n : ℤ) → g ≢ pos 0 → n *ℤ g ≡ a → IsNarrow a → IsNarrow n

@@ -9,8 +9,8 @@ use Rattle.int_laws.proofs.OrderLaws.{mul-cancel_ℤ}
 use Rattle.int_laws.proofs.RingLaws.{mul_comm_ℤ}
 use Rattle.frac128.specs.Lowest.{IsLowest}
 
--- with equal cross products, the first denominator divides the second
-divides_other : (n d n' d' : ℤ) → IsLowest n d → n *ℤ d' ≡ n' *ℤ d → unsigned_abs d ∣ unsigned_abs d'
+-- with equal cross products, the denominator of a fraction in lowest terms divides the other
+pub divides_other : (n d n' d' : ℤ) → IsLowest n d → n *ℤ d' ≡ n' *ℤ d → unsigned_abs d ∣ unsigned_abs d'
 divides_other n d n' d' lowest same =
     euclid (unsigned_abs n) (unsigned_abs d') (unsigned_abs d) lowest
     (subst (λ (m : ℕ). unsigned_abs d ∣ m)

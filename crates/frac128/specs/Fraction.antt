@@ -21,10 +21,10 @@ abbrev pub IsOrderOrRange : Result Ordering Range → ℤ → ℤ → Type 0
 IsOrderOrRange result left right =
     MatchResult result (λ order. AreNarrow (left ∷ right ∷ []) × (order ≡ int_cmp left right)) (λ _. ¬ AreNarrow (left ∷ right ∷ []))
 
--- the greatest whole number that is at most the fraction
+-- the maximum whole number that is at most the fraction
 pub record IsFloor (f : Frac) (z : ℤ) : Type 0 where
   pub at_most : (z *ℤ f.den) ≤ℤ f.num
-  pub greatest : f.num <ℤ ((z +ℤ pos 1) *ℤ f.den)
+  pub maximum : f.num <ℤ ((z +ℤ pos 1) *ℤ f.den)
 
 -- the least whole number that is at least the fraction
 pub record IsCeiling (f : Frac) (z : ℤ) : Type 0 where

@@ -1,22 +1,10 @@
-//! Euclid's algorithm, and division by the common divisor.
+//! Division by the common divisor.
 
 ghost use Rattle.std.specs.Prelude.{◌≡◌, ◌≢◌, ℕ, pos, ◌*ℤ◌, ◌<ℤ◌, unsigned_abs};
 ghost use Rattle.std.specs.Int.{IsGcd, ◌∣◌};
 ghost use Rattle.frac128.specs.Narrow.{IsNarrow};
 
-/// The greatest common divisor.
-fn greatest_common_divisor(a: u128, b: u128) -> u128
-    ensures { IsGcd a b result }
-{
-    let mut x = a;
-    let mut y = b;
-    while y != 0 {
-        let rest = x % y;
-        x = y;
-        y = rest;
-    }
-    x
-}
+use int_laws::greatest_common_divisor;
 
 /// The greatest common divisor of both parts of a fraction, which is at least 1.
 fn common_divisor(over: i128, under: i128) -> i128

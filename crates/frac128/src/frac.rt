@@ -50,8 +50,8 @@ impl Frac {
         }
     }
 
-    /// The whole number `num`.
-    fn whole(num: i128) -> Frac
+    /// The whole number `num`, whose absolute value is at most 2^127 - 1.
+    pub fn whole(num: i128) -> Frac
         requires { IsNarrow num }
         ensures { (result.num ≡ num) × (result.den ≡ pos 1) }
     {
@@ -162,7 +162,7 @@ impl Frac {
         }
     }
 
-    /// The greatest whole number that is at most the fraction.
+    /// The maximum whole number that is at most the fraction.
     pub fn floor(self) -> i128
         ensures { IsFloor self result }
     {

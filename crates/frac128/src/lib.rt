@@ -8,8 +8,6 @@ ghost use Rattle.frac128.specs.Fraction.{EqualFractionsAreIdentical};
 mod divisor;
 mod frac;
 mod narrow;
-#[cfg(test)]
-mod tests;
 
 pub use frac::Frac;
 pub use narrow::Range;

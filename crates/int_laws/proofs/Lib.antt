@@ -7,3 +7,4 @@ pub mod SumLaws
 pub mod DotLaws
 pub mod Duality
 pub mod Coprime
+pub mod LeastMultiples

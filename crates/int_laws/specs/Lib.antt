@@ -3,3 +3,4 @@ pub mod Sums
 pub mod Polynomial
 pub mod NormalForm
 pub mod Laws
+pub mod Divisors

@@ -15,5 +15,5 @@ returns c =
     let bounds = div_euclid-is_floor self.num self.den self.positive in
     record {
       at_most = subst (λ (z : ℤ). (z *ℤ self.den) ≤ℤ self.num) (sym (result ∙ quotient)) bounds.0;
-      greatest = subst (λ (z : ℤ). self.num <ℤ ((z +ℤ pos 1) *ℤ self.den)) (sym (result ∙ quotient)) bounds.1;
+      maximum = subst (λ (z : ℤ). self.num <ℤ ((z +ℤ pos 1) *ℤ self.den)) (sym (result ∙ quotient)) bounds.1;
     }

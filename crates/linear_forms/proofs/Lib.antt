@@ -1,0 +1,13 @@
+-- Laws of lists, of sums and multiples of forms, and of questions.
+pub mod ListLaws
+pub mod CombinationLaws
+pub mod SolutionLaws
+pub mod ColumnLaws
+pub mod ElementLaws
+pub mod RefutationLaws
+pub mod WeightLaws
+pub mod WorkedQuestions
+pub mod ProgramLaws
+pub mod FormLaws
+pub mod CertificateLaws
+pub mod CertificateValues

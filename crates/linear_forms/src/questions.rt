@@ -1,0 +1,40 @@
+//! What a question's linear program says of the question.
+
+ghost use Rattle.linear_forms.specs.QuestionLaws.{SolutionsSolve, DualsRefute, RefutedHasNone, PricesBoundWeights, LeastWeighsLeast};
+ghost use Rattle.linear_forms.specs.QuestionValues.{QuestionValues};
+
+/// A solution of a question's linear program gives parameters, and for each group multipliers by which its goal at these
+/// parameters follows from its rows.
+pub fn solutions_solve()
+    ensures { SolutionsSolve }
+{}
+
+/// A dual of a question's linear program falls into one part for each group, which is a point or a ray of its rows. At
+/// these the goal forms of each parameter add up to 0, and the fixed forms to less than 0.
+pub fn duals_refute()
+    ensures { DualsRefute }
+{}
+
+/// Where points and rays refute a question and each group has a point, no parameters make every goal at least 0 on all
+/// points of its group: along a ray a group's point can be moved any number of times.
+pub fn refuted_has_none()
+    ensures { RefutedHasNone }
+{}
+
+/// Prices of a solution, by any costs of the parameters' columns, bound the weight of all parameters that make every
+/// goal at least 0 on all points of its group. The solution's own parameters weigh at most what it costs.
+pub fn prices_bound_weights()
+    ensures { PricesBoundWeights }
+{}
+
+/// The parameters of a solution of least cost weigh at most what any others weigh that make every goal at least 0 on all
+/// points of its group, by their sizes and, where these are the same, by their heights.
+pub fn least_weighs_least()
+    ensures { LeastWeighsLeast }
+{}
+
+/// Worked values of a question's linear program: its columns, equations and costs, with a solution or a dual, for rows
+/// without a point, rows with one, a bound on a new value, and a ranking function of one rule.
+pub fn questions_have_these_programs()
+    ensures { QuestionValues }
+{}
