@@ -7,7 +7,7 @@ use Rattle.int_laws.specs.Sums.{sum_to}
 use Rattle.int_laws.proofs.RingLaws.{mul_comm_ℤ, mul-zero_ℤ, zero-mul_ℤ}
 use Rattle.int_laws.proofs.OrderLaws.{mul-positive_ℤ, mul-nonneg_ℤ, le-of-mul_ℤ, lt-of-mul_ℤ, mul-cancel_ℤ}
 use Rattle.int_laws.proofs.SumLaws.{sum_to-zero, sum_to-positive}
-use Rattle.simplex_core.specs.LinearProgram.{LinearProgram}
+use Rattle.linear_forms.specs.LinearProgram.{LinearProgram}
 use Rattle.simplex_core.specs.Tableau.{Tableau, artificial, unknowns}
 use Rattle.simplex_core.specs.Search.{some}
 use Rattle.simplex_core.specs.Bland.{has_artificial}

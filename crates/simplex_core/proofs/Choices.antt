@@ -6,7 +6,7 @@ use Rattle.std.proofs.lemmas.Bool.{lt-ltb, ltb-true}
 use Rattle.int_laws.specs.Polynomial.{variable, ◌⊗◌}
 use Rattle.int_laws.proofs.Identities.{identity}
 use Rattle.int_laws.proofs.OrderLaws.{mul-lt-mul_ℤ, mul-cancel_ℤ, lt-of-mul_ℤ}
-use Rattle.simplex_core.specs.LinearProgram.{LinearProgram}
+use Rattle.linear_forms.specs.LinearProgram.{LinearProgram}
 use Rattle.simplex_core.specs.Tableau.{Tableau, unknowns}
 use Rattle.simplex_core.specs.Bland.{goes_before, is_candidate, leaving}
 use Rattle.simplex_core.proofs.Searches.{and-both, and_no, no_and, second_fails, both-and, every-each, each-every, least-found, least-none, last_or_before}

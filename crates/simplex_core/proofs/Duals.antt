@@ -10,7 +10,7 @@ use Rattle.int_laws.proofs.SumLaws.{sum_to-positive, sum_to-same, sum_to-scale}
 use Rattle.std.proofs.lemmas.Bool.{cases_lt, leb-true}
 use Rattle.simplex_core.proofs.Searches.{and-both, every-each, some-one}
 use Rattle.simplex_core.proofs.Choices.{int_lt-true, int_lt-false, not-true}
-use Rattle.simplex_core.specs.LinearProgram.{LinearProgram, IsDual}
+use Rattle.linear_forms.specs.LinearProgram.{LinearProgram, IsDual}
 use Rattle.simplex_core.specs.Tableau.{Tableau, artificial, unknowns, cost_row, sign_of, equation, cost}
 use Rattle.simplex_core.specs.Bland.{is_infeasible, dual_of}
 use Rattle.simplex_core.proofs.Regions.{equation-column, equation-right, cost-none, cost-artificial}

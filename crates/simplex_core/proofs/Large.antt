@@ -8,7 +8,7 @@ use Rattle.int_laws.proofs.SumLaws.{sum_to-zero}
 use Rattle.frac128.proofs.LowestTerms.{whole_is_lowest}
 use Rattle.simplex_core.specs.declared.problem.Entry.{Entry}
 use Rattle.simplex_core.specs.declared.problem.Problem.{Problem}
-use Rattle.simplex_core.specs.LinearProgram.{LinearProgram}
+use Rattle.linear_forms.specs.LinearProgram.{LinearProgram}
 use Rattle.simplex_core.specs.Tableau.{artificial, unknowns, cost_row, sign_of, equation, cost, first_reduced_cost, first_tableau}
 use Rattle.simplex_core.specs.Problem.{entry_value, program_of, IsProper, table_size}
 use Rattle.simplex_core.specs.Places.{InTable}

@@ -4,7 +4,7 @@ use Rattle.std.specs.Prelude.{ℤ, pos, ◌*ℤ◌, ◌<ℤ◌, int_lt, nat_lt, 
 use Rattle.std.proofs.lemmas.Bool.{cases_lt, lt-ltb}
 use Rattle.std.proofs.lemmas.Int.{ints}
 use Rattle.int_laws.proofs.SumLaws.{sum_to-single}
-use Rattle.simplex_core.specs.LinearProgram.{LinearProgram}
+use Rattle.linear_forms.specs.LinearProgram.{LinearProgram}
 use Rattle.simplex_core.specs.Search.{or_else, least}
 use Rattle.simplex_core.specs.Tableau.{Tableau, unknowns}
 use Rattle.simplex_core.specs.Bland.{goes_before, is_candidate, leaving, IsBest}

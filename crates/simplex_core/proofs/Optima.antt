@@ -9,7 +9,7 @@ use Rattle.int_laws.specs.NormalForm.{is_zero}
 use Rattle.int_laws.proofs.Identities.{identity_by_two}
 use Rattle.int_laws.proofs.RingLaws.{zero-mul_ℤ, mul-zero_ℤ, mul_assoc_ℤ}
 use Rattle.int_laws.proofs.SumLaws.{sum_to-same, sum_to-scale, sum_to-split, sum_to-zero}
-use Rattle.simplex_core.specs.LinearProgram.{LinearProgram, IsSolution}
+use Rattle.linear_forms.specs.LinearProgram.{LinearProgram, IsSolution}
 use Rattle.simplex_core.specs.Search.{every, some, or_else, least}
 use Rattle.simplex_core.specs.Tableau.{Tableau, unknowns, cost_row, sign_of, equation}
 use Rattle.simplex_core.specs.Bland.{may_enter, entering, is_infeasible}

@@ -8,7 +8,7 @@ use Rattle.int_laws.specs.Polynomial.{variable, constant, ◌⊕◌, ◌⊖◌, 
 use Rattle.int_laws.proofs.Identities.{identity, identity_by_two}
 use Rattle.int_laws.proofs.OrderLaws.{mul-positive_ℤ, mul-nonneg_ℤ, mul-cancel_ℤ}
 use Rattle.int_laws.proofs.SumLaws.{sum_to-same}
-use Rattle.simplex_core.specs.LinearProgram.{LinearProgram}
+use Rattle.linear_forms.specs.LinearProgram.{LinearProgram}
 use Rattle.simplex_core.specs.Tableau.{Tableau, artificial, unknowns, cost_row, equation, cost, pivot}
 use Rattle.simplex_core.proofs.Regions.{pivot-row, pivot-other, pivot-scale, pivot-other_scale, pivot-basis, pivot-other_basis}
 use Rattle.simplex_core.proofs.Invariant.{weight, SolvesRows, IsTableauOf, same_or_other}

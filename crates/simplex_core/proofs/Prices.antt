@@ -9,7 +9,7 @@ use Rattle.int_laws.proofs.Identities.{identity, identity_by_one}
 use Rattle.int_laws.proofs.RingLaws.{add-mul_ℤ, mul-add_ℤ, mul_assoc_ℤ}
 use Rattle.int_laws.proofs.OrderLaws.{mul-nonneg_ℤ, mul-cancel_ℤ}
 use Rattle.int_laws.proofs.SumLaws.{sum_to-same, sum_to-add, sum_to-scale}
-use Rattle.simplex_core.specs.LinearProgram.{LinearProgram, ArePrices, HasPrices, IsLeast}
+use Rattle.linear_forms.specs.LinearProgram.{LinearProgram, ArePrices, HasPrices, IsLeast}
 use Rattle.simplex_core.specs.Tableau.{Tableau, unknowns, cost_row, sign_of, equation, cost}
 use Rattle.simplex_core.proofs.Searches.{last_or_before}
 use Rattle.simplex_core.proofs.Regions.{equation-column, equation-right, cost-none, cost-first, cost-second}

@@ -3,7 +3,7 @@ use Rattle.std.proofs.Common.{◌≡◌, ℕ, ap, refl, sym, ◌∙◌, List, le
 use Rattle.std.specs.Prelude.{ℤ, pos, slice_index_or}
 use Rattle.simplex_core.specs.declared.problem.Problem.{Problem}
 use Rattle.simplex_core.specs.Problem.{entry_value, program_of}
-use Rattle.simplex_core.specs.Showing.{AreSides}
+use Rattle.simplex_core.specs.TableClauses.{AreSides}
 
 -- the columns of a problem's program
 pub program-columns : (q : Problem) → (program_of q).columns ≡ q.cols

@@ -8,14 +8,14 @@ use Rattle.int_laws.specs.Polynomial.{variable, constant, ◌⊖◌, ◌⊗◌}
 use Rattle.int_laws.proofs.Identities.{identity_by_two}
 use Rattle.int_laws.proofs.OrderLaws.{mul-cancel_ℤ}
 use Rattle.simplex_core.specs.declared.dense_table.DenseTable.{DenseTable}
-use Rattle.simplex_core.specs.LinearProgram.{LinearProgram}
+use Rattle.linear_forms.specs.LinearProgram.{LinearProgram}
 use Rattle.simplex_core.specs.Tableau.{Tableau}
 use Rattle.simplex_core.specs.Sizes.{IsBelow}
-use Rattle.simplex_core.specs.Cells.{AreSmall, HasLarge, Shows}
+use Rattle.simplex_core.specs.Cells.{AreSmall, HasLarge, Shows, ShowsTested}
 use Rattle.simplex_core.specs.Outcome.{IsSmallRatio, IsInRange}
-use Rattle.simplex_core.specs.Showing.{ShowsInRange, ShowsOutOfRange}
+use Rattle.simplex_core.specs.TableClauses.{ShowsInRange, ShowsOutOfRange}
 use Rattle.simplex_core.proofs.CellLaws.{InTable-same}
-use Rattle.simplex_core.proofs.Shown.{cell-there}
+use Rattle.simplex_core.proofs.PivotedTable.{cell-there}
 
 -- a small fraction shows a small ratio
 small-shows : (f : Frac) (z s : ℤ) → pos 0 <ℤ s → IsFraction f z s → IsBelow 31 f → IsSmallRatio z s
@@ -62,7 +62,7 @@ in_range-small p a t shows range = record {
       record { num = small.0; den = small.1 };
 }
 
--- whether the numbers of a table are small tells whether the tableaux that it shows are in range
-pub range-told : (a : DenseTable) (v : Bool) → MatchBool v (AreSmall a) (HasLarge a) → MatchBool v (ShowsInRange Shows a) (ShowsOutOfRange Shows a)
-range-told a true small = record { each = λ p t shows. small-in_range p a t shows small }
-range-told a false large = record { each = λ p t shows. large-out_of_range p a t shows large }
+-- what a table has noted tells whether the tableaux that it shows are in range
+pub range-told : (a : DenseTable) (v : Bool) → a.is_small ≡ v → MatchBool v (ShowsInRange ShowsTested a) (ShowsOutOfRange ShowsTested a)
+range-told a true e = record { each = λ p t s. small-in_range p a t s.shows (subst (λ (b : Bool). MatchBool b (AreSmall a) (HasLarge a)) e s.range) }
+range-told a false e = record { each = λ p t s. large-out_of_range p a t s.shows (subst (λ (b : Bool). MatchBool b (AreSmall a) (HasLarge a)) e s.range) }

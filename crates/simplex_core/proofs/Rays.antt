@@ -10,7 +10,7 @@ use Rattle.int_laws.proofs.Identities.{identity_by_one}
 use Rattle.int_laws.proofs.RingLaws.{mul-add_ℤ, mul_comm_ℤ}
 use Rattle.int_laws.proofs.OrderLaws.{mul-nonneg_ℤ, mul-lt-mul_ℤ}
 use Rattle.int_laws.proofs.SumLaws.{sum_to-same, sum_to-add, sum_to-nonneg}
-use Rattle.simplex_core.specs.LinearProgram.{LinearProgram, HasNonnegativeCosts}
+use Rattle.linear_forms.specs.LinearProgram.{LinearProgram, HasNonnegativeCosts}
 use Rattle.simplex_core.specs.Search.{some}
 use Rattle.simplex_core.specs.Tableau.{Tableau, unknowns, cost_row, equation, cost}
 use Rattle.simplex_core.specs.Bland.{is_candidate}

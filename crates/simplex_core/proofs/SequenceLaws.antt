@@ -2,7 +2,7 @@
 -- as optimal.
 use Rattle.std.proofs.Common.{◌≡◌, ℕ, zero, suc, ◌<◌, arith, refl, ◌∙◌, subst, ◌⊎◌, inl, inr, Bool, true, false, Option, Some, None}
 use Rattle.std.specs.Prelude.{pos, ◌<ℤ◌, if◌then◌else◌}
-use Rattle.simplex_core.specs.LinearProgram.{LinearProgram, HasNonnegativeCosts}
+use Rattle.linear_forms.specs.LinearProgram.{LinearProgram, HasNonnegativeCosts}
 use Rattle.simplex_core.specs.Search.{or_else, least}
 use Rattle.simplex_core.specs.Tableau.{Tableau, cost_row, first_tableau, pivot}
 use Rattle.simplex_core.specs.Bland.{may_enter, entering, leaving, is_infeasible, pivot_at, step_in, next, next_of, tableau_at}

@@ -9,7 +9,7 @@ use Rattle.int_laws.proofs.RingLaws.{zero-mul_ℤ, add-mul_ℤ, mul_assoc_ℤ}
 use Rattle.int_laws.proofs.OrderLaws.{mul-nonneg_ℤ}
 use Rattle.int_laws.proofs.SumLaws.{sum_to-same, sum_to-add, sum_to-scale, sum_to-scale_behind, sum_to-single, sum_to-zero}
 use Rattle.int_laws.proofs.Duality.{dot-dot}
-use Rattle.simplex_core.specs.LinearProgram.{LinearProgram}
+use Rattle.linear_forms.specs.LinearProgram.{LinearProgram}
 use Rattle.simplex_core.specs.Tableau.{Tableau, unknowns, cost_row}
 use Rattle.simplex_core.proofs.Invariant.{SolvesEquations, IsTableauOf}
 use Rattle.simplex_core.proofs.Points.{CommonScale, point, dot-point}

@@ -1,12 +1,12 @@
 -- How the code's table of fractions shows a tableau.
-use Rattle.std.specs.Prelude.{◌≡◌, ◌≢◌, ℕ, ◌+◌, ◌*◌, ◌<◌, ℤ, pos, ◌-ℤ◌, ◌*ℤ◌, ◌<ℤ◌, List, Option, Some, None, false, slice_get, slice_index, slice_index_or, slice_set, length, ◌⊎◌}
+use Rattle.std.specs.Prelude.{◌≡◌, ◌≢◌, ℕ, ◌+◌, ◌*◌, ◌<◌, ℤ, pos, ◌-ℤ◌, ◌*ℤ◌, ◌<ℤ◌, List, Option, Some, None, false, slice_get, slice_index, slice_index_or, slice_set, length, ◌⊎◌, MatchBool}
 use Rattle.frac128.specs.declared.frac.Frac.{Frac}
 use Rattle.frac128.specs.Fraction.{IsFraction}
 use Rattle.simplex_core.specs.declared.dense_table.DenseTable.{DenseTable}
 use Rattle.simplex_core.specs.Bland.{IsBest, is_candidate}
 use Rattle.simplex_core.specs.Sizes.{IsBelow}
 use Rattle.simplex_core.specs.Places.{InTable}
-use Rattle.simplex_core.specs.LinearProgram.{LinearProgram}
+use Rattle.linear_forms.specs.LinearProgram.{LinearProgram}
 use Rattle.simplex_core.specs.Tableau.{Tableau, sign_of}
 
 -- the length of a row: the unknowns and the right side
@@ -60,6 +60,25 @@ pub record HasLarge (table : DenseTable) : Type 0 where
   pub is : cell table row column ≡ Some number
   pub large : ¬ IsBelow 31 number
 
+-- a number of row r isn't below 2^31
+pub record HasLargeIn (table : DenseTable) (r : ℕ) : Type 0 where
+  pub column : ℕ
+  pub number : Frac
+  pub in_table : InTable table.rows table.columns r column
+  pub is : cell table r column ≡ Some number
+  pub large : ¬ IsBelow 31 number
+
+-- a number of the first m rows, but for row r, isn't below 2^31
+pub record HasLargeBut (table : DenseTable) (r m : ℕ) : Type 0 where
+  pub row : ℕ
+  pub within : row < m
+  pub apart : row ≢ r
+  pub large : HasLargeIn table row
+
+-- each number of the first m rows, but for row r, is below 2^31
+pub record AreSmallBut (table : DenseTable) (r m : ℕ) : Type 0 where
+  pub each : (i : ℕ) → i ≢ r → i < m → IsRowBelow 31 table i
+
 -- row r is the old row divided by a number
 pub record IsRowDivided (old new : DenseTable) (r : ℕ) (by : Frac) : Type 0 where
   pub each : (j : ℕ) (f g : Frac) → InTable old.rows old.columns r j → cell old r j ≡ Some f → cell new r j ≡ Some g
@@ -92,6 +111,11 @@ pub record Shows (p : LinearProgram) (table : DenseTable) (t : Tableau) : Type 0
   pub positive : (i : ℕ) → i < p.rows + 3 → pos 0 <ℤ t.scale i
   pub numbers : (i j : ℕ) (f : Frac) → InTable p.rows p.columns i j → cell table i j ≡ Some f → IsFraction f (t.entry i j) (t.scale i)
   pub basis : (i : ℕ) → i < p.rows → slice_index table.basis.items i ≡ t.basis i
+
+-- the table shows the tableau, and has noted whether all its numbers are below 2^31
+pub record ShowsTested (p : LinearProgram) (table : DenseTable) (t : Tableau) : Type 0 where
+  pub shows : Shows p table t
+  pub range : MatchBool table.is_small (AreSmall table) (HasLarge table)
 
 -- the number is the basic solution's in column j, by the first m rows: the right side of a row that is
 -- solved for column j, or 0 where none is

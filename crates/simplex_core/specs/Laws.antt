@@ -1,28 +1,14 @@
 -- The laws that the crate's functions state: what the certificates and the answers of `solve` mean.
-use Rattle.std.specs.Prelude.{◌≡◌, ◌≢◌, ℕ, ◌<◌, ℤ, pos, ◌*ℤ◌, ◌≤ℤ◌, ◌<ℤ◌, Some, true, false, Ok, Vec}
+use Rattle.std.specs.Prelude.{◌≡◌, ◌≢◌, ℕ, ◌<◌, ℤ, pos, ◌*ℤ◌, ◌<ℤ◌, Some, true, false, Ok, Vec}
 use Rattle.std.specs.declared.alloc.Global.{Global}
 use Rattle.frac128.specs.declared.frac.Frac.{Frac}
-use Rattle.int_laws.specs.Sums.{sum_to, dot}
+use Rattle.int_laws.specs.Sums.{sum_to}
 use Rattle.simplex_core.specs.declared.problem.Solved.{Solved}
 use Rattle.simplex_core.specs.declared.problem.Solved.TheVariants.{Optimal, Infeasible}
-use Rattle.simplex_core.specs.LinearProgram.{LinearProgram, IsSolution, IsLeast, IsDual}
+use Rattle.linear_forms.specs.LinearProgram.{LinearProgram, IsSolution, IsLeast, IsDual, HasSolution, CostsAtMost, CostsTheSame}
 use Rattle.simplex_core.specs.Tableau.{Tableau, artificial, unknowns}
 use Rattle.simplex_core.specs.Bland.{has_artificial, tableau_at}
 use Rattle.simplex_core.specs.Outcome.{IsAnswer}
-
--- x over d costs at most what y over e costs, by cross products
-abbrev pub CostsAtMost : ℕ → (ℕ → ℤ) → (ℕ → ℤ) → ℤ → (ℕ → ℤ) → ℤ → Type 0
-CostsAtMost n cost x d y e = (dot n cost x *ℤ e) ≤ℤ (dot n cost y *ℤ d)
-
--- x over d costs what y over e costs, by cross products
-abbrev pub CostsTheSame : ℕ → (ℕ → ℤ) → (ℕ → ℤ) → ℤ → (ℕ → ℤ) → ℤ → Type 0
-CostsTheSame n cost x d y e = dot n cost x *ℤ e ≡ dot n cost y *ℤ d
-
--- a program has a solution
-pub record HasSolution (p : LinearProgram) : Type 0 where
-  pub x : ℕ → ℤ
-  pub d : ℤ
-  pub solution : IsSolution p x d
 
 -- a program with a dual has no solution
 pub record DualExcludesSolutions : Type 0 where

@@ -7,7 +7,7 @@ use Rattle.simplex_core.specs.declared.problem.Solved.{Solved}
 use Rattle.simplex_core.specs.declared.problem.Solved.TheVariants.{Optimal, Infeasible}
 use Rattle.simplex_core.specs.declared.problem.SolveError.{SolveError}
 use Rattle.simplex_core.specs.declared.problem.SolveError.TheVariants.{Range, Budget, Wide, Memory}
-use Rattle.simplex_core.specs.LinearProgram.{LinearProgram, IsSolution, IsLeast, IsDual}
+use Rattle.linear_forms.specs.LinearProgram.{LinearProgram, IsSolution, IsLeast, IsDual}
 use Rattle.simplex_core.specs.Tableau.{Tableau, unknowns, cost_row}
 use Rattle.simplex_core.specs.Bland.{is_infeasible, entering, dual_of, next, tableau_at}
 use Rattle.simplex_core.specs.Problem.{table_size, widest}
@@ -56,17 +56,20 @@ pub record EndsOptimally (p : LinearProgram) (allowed : ℕ) (at : List Frac) (b
   pub least : IsLeast p x d
   pub basic : (j : ℕ) (f : Frac) → slice_get at j ≡ Some f → IsBasicValue p last j f
 
--- the sequence ends as infeasible within the allowed pivots: the list is the last tableau's dual, over
--- a scale over 0
+-- the sequence ends as infeasible within the allowed pivots: the list is the last tableau's dual, and holds a dual of the
+-- program over a scale over 0
 pub record EndsInfeasibly (p : LinearProgram) (allowed : ℕ) (dual : List Frac) (k : ℕ) : Type 0 where
   pub within : k ≤ allowed
   pub last : Tableau
   pub reached : IsReached p k last
   pub in_range : IsInRange p last
   pub infeasible : is_infeasible p last ≡ true
-  pub holds : HoldsPoint p.rows dual (dual_of p last) (last.scale (cost_row p 0))
-  pub positive : pos 0 <ℤ last.scale (cost_row p 0)
-  pub certified : IsDual p (dual_of p last)
+  pub read : HoldsPoint p.rows dual (dual_of p last) (last.scale (cost_row p 0))
+  pub y : ℕ → ℤ
+  pub d : ℤ
+  pub positive : pos 0 <ℤ d
+  pub holds : HoldsPoint p.rows dual y d
+  pub certified : IsDual p y
 
 -- after k pivots, within the allowed ones, a number of the tableau is out of range, and none was before
 pub record TripsRange (p : LinearProgram) (allowed k : ℕ) : Type 0 where

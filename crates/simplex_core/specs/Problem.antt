@@ -2,7 +2,7 @@
 use Rattle.std.specs.Prelude.{◌≡◌, ◌≢◌, ℕ, ◌^◌, ◌<◌, ◌*◌, ◌+◌, ℤ, pos, nat_eq, ◌&&◌, if◌then◌else◌, List, [], ◌∷◌, length, slice_get, slice_index_or, Some}
 use Rattle.simplex_core.specs.declared.problem.Problem.{Problem}
 use Rattle.simplex_core.specs.declared.problem.Entry.{Entry}
-use Rattle.simplex_core.specs.LinearProgram.{LinearProgram, HasNonnegativeCosts}
+use Rattle.linear_forms.specs.LinearProgram.{LinearProgram, HasNonnegativeCosts}
 
 -- the number at a row and a column, 0 where none is given
 abbrev pub entry_value : List Entry → ℕ → ℕ → ℤ

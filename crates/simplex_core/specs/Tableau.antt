@@ -1,7 +1,7 @@
 -- The tableaux of the simplex method with artificial unknowns, in whole numbers.
 use Rattle.std.specs.Prelude.{ℕ, zero, suc, ◌+◌, ◌-◌, ℤ, pos, negsuc, ◌-ℤ◌, ◌*ℤ◌, int_lt, nat_lt, nat_eq, if◌then◌else◌}
 use Rattle.int_laws.specs.Sums.{sum_to}
-use Rattle.simplex_core.specs.LinearProgram.{LinearProgram}
+use Rattle.linear_forms.specs.LinearProgram.{LinearProgram}
 
 -- row i stands for the fractions entry i j / scale i; the equations' rows are followed by three cost
 -- rows; basis i is the column of the unknown that row i is solved for

@@ -15,14 +15,6 @@ pub(crate) fn is_small(number: Frac) -> bool
     number.num.unsigned_abs() < 1 << 31 && number.den.unsigned_abs() < 1 << 31
 }
 
-/// A whole number.
-pub(crate) fn whole(num: i128) -> Frac
-    requires { unsigned_abs num < 2 ^ 127 }
-    ensures { (result.num ≡ num) × (result.den ≡ pos 1) }
-{
-    Frac { num, den: 1 }
-}
-
 /// A number of a problem, with the sign that makes its row's right side at least 0.
 pub(crate) fn signed(value: i128, right: i128) -> i128
     requires { unsigned_abs value < 2 ^ 31 }
@@ -38,9 +30,9 @@ pub(crate) fn one_less(number: Frac, is_negated: bool) -> Frac
     ensures { IsFraction result ((if is_negated then negsuc 0 else pos 1) *ℤ (number.den -ℤ number.num)) number.den }
 {
     if is_negated {
-        difference(number, whole(1))
+        difference(number, Frac::whole(1))
     } else {
-        difference(whole(1), number)
+        difference(Frac::whole(1), number)
     }
 }
 

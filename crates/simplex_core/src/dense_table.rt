@@ -1,27 +1,29 @@
 //! A table that keeps every number of the tableau: its fractions row by row, in one allocation.
 
 mod entering;
-mod filling;
 mod first;
 mod leaving;
+mod method;
+mod numbers;
 mod pivoting;
 mod ranges;
-mod reading;
-mod showing;
+mod results;
 
 ghost use Rattle.std.specs.Prelude.{◌≡◌, ℕ, ◌+◌, ◌*◌, ◌<◌, ◌≤◌, ◌^◌, Some, length};
 
-pub(crate) use first::first_table;
+pub(crate) use first::{first_table, tested};
 use frac128::Frac;
 
 /// The fractions of a tableau: a row for each equation, then three cost rows. A row has the
-/// unknowns, with the artificial ones behind, and the right side; of a cost row the last place is unused.
+/// unknowns, with the artificial ones behind, and the right side; of a cost row the last place is unused. `is_small` notes
+/// whether all numbers are below 2^31.
 #[derive(Debug, Drop)]
 pub(crate) struct DenseTable {
     numbers: Vec<Frac>,
     basis: Vec<u32>,
     rows: usize,
     columns: usize,
+    is_small: bool,
     ghost shape: { length numbers.items ≡ (rows + 3) * (columns + rows + 1) },
     ghost based: { length basis.items ≡ rows },
     ghost few_rows: { rows < 2 ^ 31 },

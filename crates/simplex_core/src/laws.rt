@@ -1,6 +1,8 @@
 //! Laws for callers: what a dual, prices and an answer of `solve` say of all solutions.
 
 ghost use Rattle.simplex_core.specs.Laws.{ArtificialSumsAreTold, DualExcludesSolutions, LeastCostsLeast, OutcomeTellsSolutions};
+ghost use Rattle.simplex_core.specs.Agreement.{AnswersAreOne, AgreeingProgramsAnswerTheSame};
+ghost use Rattle.simplex_core.specs.Trips.{WholeAnswersAreOne};
 
 /// A linear program with a dual, which gives every column at most 0 and the right sides more than 0,
 /// has no solution: the easy half of Farkas' lemma.
@@ -25,4 +27,21 @@ pub fn outcome_tells_solutions()
 /// more than 0.
 pub fn artificial_sums_are_told()
     ensures { ArtificialSumsAreTold }
+{}
+
+/// Of one linear program within one number of pivots two answers are the same, but for want of memory.
+pub fn answers_are_one()
+    ensures { AnswersAreOne }
+{}
+
+/// Linear programs that agree inside their rows and columns have the same answers. That they have the same solutions,
+/// least points and duals is `linear_forms::agreeing_programs_are_the_same`.
+pub fn agreeing_programs_answer_the_same()
+    ensures { AgreeingProgramsAnswerTheSame }
+{}
+
+/// Of one linear program within one number of pivots two answers in whole numbers are the same, and so are two causes by
+/// which it trips: it trips by one cause, or has a solution, or a dual.
+pub fn whole_answers_are_one()
+    ensures { WholeAnswersAreOne }
 {}

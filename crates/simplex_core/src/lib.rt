@@ -1,19 +1,22 @@
 //! Bland's simplex method over exact fractions.
 #![tactic(auto)]
 
+mod answers;
 mod arithmetic;
 mod checking;
 mod dense_table;
 mod laws;
 mod problem;
+mod scaling;
 mod sequence;
 mod simplex_table;
 mod solving;
-#[cfg(test)]
-mod tests;
 
+pub use answers::{Answer, Cause, solve_scaled};
 pub use laws::{
-    artificial_sums_are_told, dual_excludes_solutions, least_costs_least, outcome_tells_solutions,
+    agreeing_programs_answer_the_same, answers_are_one, artificial_sums_are_told,
+    dual_excludes_solutions, least_costs_least, outcome_tells_solutions, whole_answers_are_one,
 };
 pub use problem::{Entry, Problem, SolveError, Solved};
+pub use scaling::Scaled;
 pub use solving::solve;

@@ -1,7 +1,7 @@
 //! Bland's sequence of pivots, to its end or to a limit.
 
 ghost use Rattle.std.specs.Prelude.{◌≡◌, ℕ, length, MatchResult};
-ghost use Rattle.simplex_core.specs.LinearProgram.{HasNonnegativeCosts};
+ghost use Rattle.linear_forms.specs.LinearProgram.{HasNonnegativeCosts};
 ghost use Rattle.simplex_core.specs.Tableau.{first_tableau};
 ghost use Rattle.simplex_core.specs.Problem.{program_of};
 ghost use Rattle.simplex_core.specs.Outcome.{IsEnd, IsTrip};

@@ -7,7 +7,7 @@ ghost use Rattle.simplex_core.specs.Numbers.{HasSmallNumbers};
 ghost use Rattle.simplex_core.specs.Outcome.{IsInRange, IsAnswer};
 
 use crate::checking::{are_below, are_entries_below};
-use crate::dense_table::first_table;
+use crate::dense_table::{first_table, tested};
 use crate::problem::{Problem, SolveError, Solved};
 use crate::sequence::run;
 use std::alloc::Global;
@@ -57,5 +57,5 @@ pub fn solve(alloc: Global, problem: &Problem, pivots: u32) -> Result<Solved, So
         return Err(SolveError::Range { pivot: 0 });
     }
     let table = first_table(alloc, problem)?;
-    run(alloc, problem, table, pivots)
+    run(alloc, problem, tested(table), pivots)
 }

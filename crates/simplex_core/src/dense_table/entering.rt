@@ -2,7 +2,7 @@
 
 ghost use Rattle.std.specs.Prelude.{◌≡◌, ◌+◌, ◌<◌, pos, int_lt, nat_le, not, ◌&&◌};
 ghost use Rattle.int_laws.specs.NormalForm.{is_zero};
-ghost use Rattle.simplex_core.specs.LinearProgram.{LinearProgram};
+ghost use Rattle.linear_forms.specs.LinearProgram.{LinearProgram};
 ghost use Rattle.simplex_core.specs.Tableau.{Tableau, unknowns, cost_row};
 ghost use Rattle.simplex_core.specs.Search.{least, every, some};
 ghost use Rattle.simplex_core.specs.Bland.{may_enter, entering, has_artificial, is_infeasible};

@@ -1,9 +1,10 @@
 //! The table of the first tableau.
 
 ghost use Rattle.std.specs.Prelude.{IfOk};
-ghost use Rattle.simplex_core.specs.Tableau.{first_tableau};
+ghost use Rattle.linear_forms.specs.LinearProgram.{LinearProgram};
+ghost use Rattle.simplex_core.specs.Tableau.{Tableau, first_tableau};
 ghost use Rattle.simplex_core.specs.Problem.{program_of, IsProper};
-ghost use Rattle.simplex_core.specs.Cells.{Shows};
+ghost use Rattle.simplex_core.specs.Cells.{Shows, ShowsTested};
 ghost use Rattle.simplex_core.specs.Numbers.{AreBelow, AreEntriesBelow};
 
 use crate::dense_table::DenseTable;
@@ -24,4 +25,13 @@ pub(crate) fn first_table(alloc: Global, problem: &Problem) -> Result<DenseTable
     table.write_rows(problem.right.as_slice());
     table.write_costs(problem.first.as_slice(), problem.second.as_slice());
     Ok(table)
+}
+
+/// The table, which has noted whether its numbers are below 2^31.
+pub(crate) fn tested(table: DenseTable) -> DenseTable
+    ensures { (p : LinearProgram) (t : Tableau) → Shows p table t → ShowsTested p result t }
+{
+    let mut table = table;
+    table.is_small = table.are_rows_small();
+    table
 }

@@ -1,7 +1,7 @@
 //! The leaving row.
 
 ghost use Rattle.std.specs.Prelude.{◌≡◌, ◌+◌, ◌*◌, ◌<◌, ℤ, ◌*ℤ◌, IfSome, int_lt};
-ghost use Rattle.simplex_core.specs.LinearProgram.{LinearProgram};
+ghost use Rattle.linear_forms.specs.LinearProgram.{LinearProgram};
 ghost use Rattle.simplex_core.specs.Tableau.{Tableau, unknowns};
 ghost use Rattle.simplex_core.specs.Bland.{goes_before};
 ghost use Rattle.simplex_core.specs.Cells.{IsBestOf};

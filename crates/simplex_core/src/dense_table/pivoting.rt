@@ -1,10 +1,10 @@
 //! The pivot.
 
-ghost use Rattle.std.specs.Prelude.{◌≡◌, ◌≢◌, ℕ, ◌+◌, ◌<◌, ℤ, pos, ◌<ℤ◌, ◌*ℤ◌, Some};
+ghost use Rattle.std.specs.Prelude.{◌≡◌, ◌≢◌, ℕ, ◌+◌, ◌<◌, ℤ, pos, ◌<ℤ◌, ◌*ℤ◌, Some, MatchBool, ◌&&◌};
 ghost use Rattle.frac128.specs.Fraction.{IsFraction};
 ghost use Rattle.frac128.specs.declared.frac.Frac.{Frac};
 ghost use Rattle.simplex_core.specs.Sizes.{IsBelow};
-ghost use Rattle.simplex_core.specs.Cells.{width, cell, ChangesCell, IsLessMultiple, AreSmall, ChangesRow, IsRowBelow, IsRowDivided, IsRowCleared, IsRowClearedBy, KeepsRow, IsPivoted};
+ghost use Rattle.simplex_core.specs.Cells.{width, cell, ChangesCell, IsLessMultiple, AreSmall, ChangesRow, IsRowBelow, IsRowDivided, IsRowCleared, IsRowClearedBy, KeepsRow, IsPivoted, HasLarge, HasLargeIn, HasLargeBut, AreSmallBut};
 
 use crate::arithmetic::{less_multiple, quotient};
 use crate::dense_table::DenseTable;
@@ -18,12 +18,26 @@ impl DenseTable {
         requires column { column < self.old.columns }
         requires small { AreSmall self.old }
         requires positive { (f : Frac) → cell self.old row column ≡ Some f → pos 0 <ℤ f.num }
-        ensures { IsPivoted self.old self.new row column }
+        ensures pivoted { IsPivoted self.old self.new row column }
+        ensures tested { MatchBool self.new.is_small (AreSmall self.new) (HasLarge self.new) }
     {
         let by = self.at(row, column);
         self.divide_row(row, by);
-        self.clear_others(row, column);
+        let are_others_small = self.clear_others(row, column);
+        self.is_small = self.are_all_small(row, are_others_small);
         self.basis[row] = column as u32;
+    }
+
+    /// Whether all numbers are below 2^31, where it is known of all rows but one.
+    fn are_all_small(&self, row: usize, are_others_small: bool) -> bool
+        requires row { row < self.now.rows + 3 }
+        requires others { MatchBool are_others_small (AreSmallBut self.now row (self.now.rows + 3)) (HasLargeBut self.now row (self.now.rows + 3)) }
+        ensures { MatchBool result (AreSmall self.now) (HasLarge self.now) }
+    {
+        if !are_others_small {
+            return false;
+        }
+        self.is_row_small(row)
     }
 
     /// Divides a row by a number over 0.
@@ -59,23 +73,26 @@ impl DenseTable {
         }
     }
 
-    /// Clears the column in each row but the pivot's.
-    fn clear_others(&mut self, pivot: usize, column: usize)
+    /// Clears the column in each row but the pivot's. The answer is whether these rows' numbers are below 2^31.
+    fn clear_others(&mut self, pivot: usize, column: usize) -> bool
         requires pivot { pivot < self.old.rows }
         requires column { column < self.old.columns }
         requires small { (i : ℕ) → i ≢ pivot → i < self.old.rows + 3 → IsRowBelow 31 self.old i }
         requires bounded { IsRowBelow 62 self.old pivot }
         ensures kept { KeepsRow self.old self.new pivot }
         ensures cleared { (i : ℕ) → i ≢ pivot → i < self.old.rows + 3 → IsRowClearedBy self.old self.new i pivot column }
+        ensures tested { MatchBool result (AreSmallBut self.new pivot (self.new.rows + 3)) (HasLargeBut self.new pivot (self.new.rows + 3)) }
     {
+        let mut are_small = true;
         for row in 0..self.rows + 3 {
-            self.clear_by(row, pivot, column);
+            are_small = both(self.clear_by(row, pivot, column), are_small);
         }
+        are_small
     }
 
     /// Takes from a row, if it isn't the pivot's, the multiple of the pivot row that its number in the
-    /// column shows.
-    fn clear_by(&mut self, row: usize, pivot: usize, column: usize)
+    /// column shows. The answer is whether the row's numbers are below 2^31; of the pivot's row it isn't asked.
+    fn clear_by(&mut self, row: usize, pivot: usize, column: usize) -> bool
         requires row { row < self.old.rows + 3 }
         requires pivot { pivot < self.old.rows }
         requires column { column < self.old.columns }
@@ -84,14 +101,17 @@ impl DenseTable {
         ensures changes { ChangesRow self.old self.new row }
         ensures pivot_row { row ≡ pivot → KeepsRow self.old self.new row }
         ensures cleared { row ≢ pivot → IsRowClearedBy self.old self.new row pivot column }
+        ensures tested { MatchBool result (row ≢ pivot → IsRowBelow 31 self.new row) ((row ≢ pivot) × HasLargeIn self.new row) }
     {
         if row == pivot {
-            return;
+            return true;
         }
         let factor = self.at(row, column);
-        if factor.num != 0 {
-            self.clear_row(row, pivot, factor);
+        if factor.num == 0 {
+            return true;
         }
+        self.clear_row(row, pivot, factor);
+        self.is_row_small(row)
     }
 
     /// Takes a multiple of the pivot row from a row.
@@ -128,4 +148,11 @@ impl DenseTable {
             self.set(row, column, less_multiple(number, factor, divided));
         }
     }
+}
+
+/// Whether both hold.
+fn both(first: bool, second: bool) -> bool
+    ensures { result ≡ (first && second) }
+{
+    first && second
 }

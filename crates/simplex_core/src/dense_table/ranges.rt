@@ -1,7 +1,7 @@
 //! Whether the numbers are in range.
 
 ghost use Rattle.std.specs.Prelude.{◌+◌, ◌<◌, MatchBool};
-ghost use Rattle.simplex_core.specs.Cells.{AreSmall, IsRowBelow, HasLarge};
+ghost use Rattle.simplex_core.specs.Cells.{AreSmall, IsRowBelow, HasLarge, HasLargeIn};
 
 use crate::arithmetic::is_small;
 use crate::dense_table::DenseTable;
@@ -20,9 +20,9 @@ impl DenseTable {
     }
 
     /// Whether a row's numbers are below 2^31.
-    fn is_row_small(&self, row: usize) -> bool
+    pub(super) fn is_row_small(&self, row: usize) -> bool
         requires { row < self.now.rows + 3 }
-        ensures { MatchBool result (IsRowBelow 31 self.now row) (HasLarge self.now) }
+        ensures { MatchBool result (IsRowBelow 31 self.now row) (HasLargeIn self.now row) }
     {
         for column in 0..self.row_len(row) {
             if !is_small(self.at(row, column)) {

@@ -4,8 +4,8 @@ use Rattle.simplex_core.specs.Problem.{program_of}
 use Rattle.simplex_core.specs.Tableau.{pivot}
 use Rattle.simplex_core.specs.Bland.{is_infeasible, entering}
 use Rattle.simplex_core.specs.Outcome.{TripsBudget}
-use Rattle.simplex_core.proofs.Running.{entering-candidate, budget-trips, advanced}
-use Rattle.simplex_core.proofs.EndsShown.{optimum-ends, infeasibility-ends}
+use Rattle.simplex_core.proofs.Rounds.{entering-candidate, budget-trips, advanced}
+use Rattle.simplex_core.proofs.Ends.{optimum-ends, infeasibility-ends}
 use Rattle.simplex_core.proofs.ProgramFields.{sides-read}
 use Rattle.simplex_core.proofs.sequence.run.Goals as goal
 

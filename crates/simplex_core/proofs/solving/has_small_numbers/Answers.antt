@@ -6,7 +6,7 @@ use Rattle.simplex_core.specs.Outcome.{IsInRange}
 use Rattle.simplex_core.specs.Problem.{program_of}
 use Rattle.simplex_core.specs.Tableau.{first_tableau}
 use Rattle.simplex_core.proofs.Large.{large-entry, large-right, large-first, large-second}
-use Rattle.simplex_core.proofs.Answering.{match-map}
+use Rattle.simplex_core.proofs.AnswerCases.{match-map}
 use Rattle.simplex_core.proofs.solving.has_small_numbers.Goals as goal
 
 pub returns-then-not-are_entries_below : goal.returns-then-not-are_entries_below

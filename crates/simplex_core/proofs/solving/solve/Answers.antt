@@ -2,7 +2,7 @@ use Rattle.std.proofs.Common.{rules, ◌≡◌, ℕ, ◌+◌, ◌*◌, ap, sym, 
 use Rattle.simplex_core.specs.Problem.{program_of}
 use Rattle.simplex_core.specs.Tableau.{first_tableau}
 use Rattle.simplex_core.proofs.Large.{size-is}
-use Rattle.simplex_core.proofs.Answering.{answer}
+use Rattle.simplex_core.proofs.AnswerCases.{answer}
 use Rattle.simplex_core.proofs.solving.solve.Goals as goal
 
 pub returns-then-entries-gt-WIDEST : goal.returns-then-entries-gt-WIDEST
@@ -35,3 +35,6 @@ returns c =
     let cols : c.from.result ≡ q.cols = search rules in
     let size = ap (λ (r : ℕ). r * (c.from.result + r + 1)) rows ∙ (ap (λ (n : ℕ). q.rows * (n + q.rows + 1)) cols ∙ sym (size-is q)) in
     answer (program_of q) c.args.pivots c.run.result (omega (arith, size)) c.run.ensures
+
+pub run-requires-clause-first : goal.run-requires-clause-first
+run-requires-clause-first c = c.tested.ensures (program_of c.args.problem.now) (first_tableau (program_of c.args.problem.now)) c.in_ok-table.ensures

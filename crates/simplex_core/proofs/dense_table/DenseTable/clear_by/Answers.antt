@@ -6,8 +6,8 @@ use Rattle.simplex_core.specs.Cells.{IsLessMultiple}
 use Rattle.simplex_core.proofs.CellLaws.{less_no_multiple}
 use Rattle.simplex_core.proofs.dense_table.DenseTable.clear_by.Goals as goal
 
-pub returns-else-factor-ne0-clause-cleared : goal.returns-else-factor-ne0-clause-cleared
-returns-else-factor-ne0-clause-cleared c apart =
+pub returns-then-factor-eq0-clause-cleared : goal.returns-then-factor-eq0-clause-cleared
+returns-then-factor-eq0-clause-cleared c apart =
     record {
       each = λ j f factor b g inside is_f is_factor is_b is_g.
           let read = c.at-factor.ensures in

@@ -1,4 +1,7 @@
-use Rattle.std.proofs.Common.{◌≢◌, arith, ◌∙◌}
+use Rattle.std.proofs.Common.{◌≡◌, ◌≢◌, ℕ, ◌+◌, arith, ◌∙◌, subst, sym, Bool}
+use Rattle.std.specs.Prelude.{MatchBool}
+use Rattle.simplex_core.specs.Cells.{AreSmallBut, HasLargeBut}
+use Rattle.simplex_core.proofs.SmallRows.{small-step}
 use Rattle.simplex_core.proofs.CellLaws.{IsRowBelow-same, KeepsRow-more, cleared-step}
 use Rattle.simplex_core.proofs.dense_table.DenseTable.clear_others.Goals as goal
 
@@ -28,6 +31,14 @@ loop-row-preserved c =
       rest = λ i j l w.
           let apart : i ≢ c.loop-row.row = omega arith in
           changes.others i j apart (omega (arith, rows, columns, w)) ∙ c.loop-row.invariant.rest i j (omega arith) w;
+      small = subst (λ (b : Bool). MatchBool b (AreSmallBut c.clear_by.new.self c.args.pivot (c.loop-row.row + 1)) (HasLargeBut c.clear_by.new.self c.args.pivot (c.loop-row.row + 1))) (sym c.both-are_small.ensures)
+          (small-step before c.clear_by.new.self c.args.pivot c.loop-row.row c.clear_by.result c.loop-row.are_small changes c.clear_by.ensures.tested c.loop-row.invariant.small);
       done = cleared-step first before _ c.args.pivot c.args.column c.loop-row.row (let l = c.requires.column in omega arith) kept changes
           c.loop-row.invariant.rest c.loop-row.invariant.done c.clear_by.ensures.cleared;
     }
+
+pub returns-clause-tested : goal.returns-clause-tested
+returns-clause-tested c =
+    let all : c.loop-row.row ≡ c.loop-row.self.rows + 3 =
+    let a = c.loop-row-test.false in let b = c.loop-row.auto.row-end in let e = c.loop-row.invariant.kept.rows in omega arith in
+    subst (λ (m : ℕ). MatchBool c.loop-row.are_small (AreSmallBut c.loop-row.self c.args.pivot m) (HasLargeBut c.loop-row.self c.args.pivot m)) all c.loop-row.invariant.small

@@ -1,7 +1,7 @@
 use Rattle.std.proofs.Common.{◌≡◌, false}
 use Rattle.std.specs.Prelude.{pos, int_lt, nat_le, ◌&&◌}
 use Rattle.simplex_core.specs.Cells.{Shows}
-use Rattle.simplex_core.specs.LinearProgram.{LinearProgram}
+use Rattle.linear_forms.specs.LinearProgram.{LinearProgram}
 use Rattle.simplex_core.specs.Tableau.{Tableau, unknowns}
 use Rattle.simplex_core.specs.Search.{some}
 use Rattle.simplex_core.proofs.dense_table.DenseTable.has_artificial.Given as goal

@@ -1,7 +1,7 @@
 use Rattle.std.proofs.Common.{◌≡◌, true}
 use Rattle.std.specs.Prelude.{pos, int_lt, not}
 use Rattle.simplex_core.specs.Cells.{Shows}
-use Rattle.simplex_core.specs.LinearProgram.{LinearProgram}
+use Rattle.linear_forms.specs.LinearProgram.{LinearProgram}
 use Rattle.simplex_core.specs.Tableau.{Tableau, cost_row}
 use Rattle.simplex_core.specs.Search.{every}
 use Rattle.simplex_core.proofs.dense_table.DenseTable.has_no_negative.Given as goal

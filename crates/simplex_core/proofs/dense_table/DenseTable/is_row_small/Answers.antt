@@ -9,7 +9,6 @@ returns-then-not-is_small c =
     let below = c.loop-column-test.true in
     let row = c.requires in
     record {
-      row = c.args.row;
       column = c.loop-column.column;
       number = c.at.result;
       in_table = record { row = row; column = within c.args.row c.args.self.now.rows c.args.self.now.columns _ _ equation cost below; cost = λ l. let e = cost l in omega arith };

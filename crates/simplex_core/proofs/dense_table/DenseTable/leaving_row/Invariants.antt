@@ -1,7 +1,7 @@
 use Rattle.std.proofs.Common.{◌<◌}
 use Rattle.std.specs.Prelude.{IfSome}
 use Rattle.simplex_core.specs.Cells.{Shows}
-use Rattle.simplex_core.specs.LinearProgram.{LinearProgram}
+use Rattle.linear_forms.specs.LinearProgram.{LinearProgram}
 use Rattle.simplex_core.specs.Tableau.{Tableau}
 use Rattle.simplex_core.specs.Cells.{IsBestOf}
 use Rattle.simplex_core.proofs.dense_table.DenseTable.leaving_row.Given as goal

@@ -1,7 +1,7 @@
 use Rattle.std.proofs.Common.{◌≡◌, true}
 use Rattle.int_laws.specs.NormalForm.{is_zero}
 use Rattle.simplex_core.specs.Cells.{Shows}
-use Rattle.simplex_core.specs.LinearProgram.{LinearProgram}
+use Rattle.linear_forms.specs.LinearProgram.{LinearProgram}
 use Rattle.simplex_core.specs.Tableau.{Tableau, cost_row}
 use Rattle.simplex_core.specs.Search.{every}
 use Rattle.simplex_core.proofs.dense_table.DenseTable.may_enter.Given as goal

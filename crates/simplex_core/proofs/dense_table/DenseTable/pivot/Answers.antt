@@ -1,15 +1,16 @@
-use Rattle.std.proofs.Common.{◌≡◌, ap, sym, ◌∙◌, subst, arith}
+use Rattle.std.proofs.Common.{◌≡◌, refl, ap, sym, ◌∙◌, subst, arith}
 use Rattle.std.specs.Prelude.{◌*ℤ◌, slice_set}
 use Rattle.frac128.specs.declared.frac.Frac.{Frac}
 use Rattle.frac128.specs.Fraction.{IsFraction}
 use Rattle.simplex_core.proofs.CellLaws.{InTable-same}
+use Rattle.simplex_core.proofs.SmallRows.{small-same}
 use Rattle.simplex_core.proofs.dense_table.DenseTable.pivot.Goals as goal
 
-pub returns : goal.returns
-returns c =
+pub returns-clause-pivoted : goal.returns-clause-pivoted
+returns-clause-pivoted c =
     let first = c.args.self.now in
     let divided = c.divide_row.ensures in
-    let cleared = c.clear_others.ensures in
+    let cleared = c.clear_others-are_others_small.ensures in
     let rows = divided.changes.rows in
     let columns = divided.changes.columns in
     let column = c.requires.column in
@@ -29,3 +30,6 @@ returns c =
           (divided.changes.others i c.args.column apart (omega (arith, column)) ∙ is_factor)
           (sym (cleared.kept.row j (let l = inside.column in omega (arith, rows, columns, l))) ∙ is_b) is_g;
     }
+
+pub returns-clause-tested : goal.returns-clause-tested
+returns-clause-tested c = small-same c.clear_others-are_others_small.new.self _ c.are_all_small-self.result refl refl refl c.are_all_small-self.ensures

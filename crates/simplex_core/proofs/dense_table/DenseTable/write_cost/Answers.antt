@@ -5,7 +5,7 @@ use Rattle.std.proofs.lemmas.Int.{ints, to_z-of_z}
 use Rattle.int_laws.proofs.SumLaws.{sum_to-same}
 use Rattle.simplex_core.specs.Building.{WritesWhole, cost_number, with_costs}
 use Rattle.simplex_core.proofs.Regions.{choose-below}
-use Rattle.simplex_core.proofs.Filling.{costs-step}
+use Rattle.simplex_core.proofs.WrittenNumbers.{costs-step}
 use Rattle.simplex_core.proofs.dense_table.DenseTable.write_cost.Goals as goal
 
 pub returns-clause-whole : goal.returns-clause-whole

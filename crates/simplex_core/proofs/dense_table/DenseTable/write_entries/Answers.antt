@@ -6,7 +6,7 @@ use Rattle.std.proofs.lemmas.Option.{slice_get-get_or}
 use Rattle.simplex_core.specs.declared.problem.Entry.{Entry}
 use Rattle.simplex_core.specs.Tableau.{sign_of}
 use Rattle.simplex_core.specs.Building.{WritesWhole}
-use Rattle.simplex_core.proofs.Filling.{entries-step}
+use Rattle.simplex_core.proofs.WrittenNumbers.{entries-step}
 use Rattle.simplex_core.proofs.dense_table.DenseTable.write_entries.Goals as goal
 
 pub loop-place-preserved : goal.loop-place-preserved

@@ -4,7 +4,7 @@ use Rattle.std.specs.Prelude.{ℤ, ◌*ℤ◌}
 use Rattle.std.proofs.lemmas.Int.{ints, to_z-of_z}
 use Rattle.simplex_core.specs.Tableau.{sign_of}
 use Rattle.simplex_core.specs.Building.{WritesWhole}
-use Rattle.simplex_core.proofs.Filling.{equations-step}
+use Rattle.simplex_core.proofs.WrittenNumbers.{equations-step}
 use Rattle.simplex_core.proofs.dense_table.DenseTable.write_row.Goals as goal
 
 pub returns-clause-whole : goal.returns-clause-whole

@@ -3,7 +3,7 @@ use Rattle.std.specs.Prelude.{ℤ, slice_index}
 use Rattle.simplex_core.specs.declared.dense_table.DenseTable.{DenseTable}
 use Rattle.simplex_core.specs.declared.problem.Entry.{Entry}
 use Rattle.simplex_core.specs.Building.{HoldsWhole, signed_entries, with_equations, with_costs}
-use Rattle.simplex_core.proofs.Filled.{filled-small, filled-shows}
+use Rattle.simplex_core.proofs.FirstTable.{filled-small, filled-shows}
 use Rattle.simplex_core.proofs.dense_table.first.first_table.Goals as goal
 
 -- the same equations, of the same shape and from the same lists

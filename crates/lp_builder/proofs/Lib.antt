@@ -1,0 +1,4 @@
+-- The entries of lines, and the problem of a question.
+pub mod Entries
+pub mod Problems
+pub mod SheetLaws

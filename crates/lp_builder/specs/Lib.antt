@@ -1,0 +1,3 @@
+-- The entries of lines of numbers, and the problem of a question.
+pub mod Entries
+pub mod Problems

@@ -1,0 +1,7 @@
+use Rattle.std.proofs.Common.{ℕ, ◌<◌}
+use Rattle.std.specs.Prelude.{pos, ◌≤ℤ◌, slice_index_or}
+use Rattle.numbers_tests.proofs.proper.are_nonnegative.Given as goal
+
+-- the numbers before this one are at least 0
+abbrev pub invariant-loop-place : goal.invariant-loop-place
+invariant-loop-place l = (k : ℕ) → k < l.place → pos 0 ≤ℤ slice_index_or l.numbers k (pos 0)

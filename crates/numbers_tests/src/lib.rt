@@ -1,0 +1,18 @@
+//! Tests of the fractions and of the simplex method through their public calls: fractions beside worked values, programs
+//! with worked answers, the definition's plain reading, and a program at size.
+#![tactic(auto)]
+
+#[cfg(test)]
+mod coded;
+#[cfg(test)]
+mod fractions;
+#[cfg(test)]
+mod large;
+#[cfg(test)]
+mod plain;
+#[cfg(test)]
+mod proper;
+#[cfg(test)]
+mod rows;
+#[cfg(test)]
+mod tables;

@@ -1,0 +1,140 @@
+//! The worked programs, solved and compared.
+
+use crate::proper::is_proper;
+use crate::tables::{Answer, CHOICES, EXTREMES, Row, SMALL};
+use Answer::{Budget, Infeasible, Optimal, Range};
+use frac128::Frac;
+use simplex_core::{Entry, Problem, SolveError, Solved, solve};
+use std::alloc::{AllocError, Global};
+use std::process::Abort;
+use std::test::Fail;
+
+// A place as a number of 32 bits; no table here is that large.
+fn number_of(place: usize) -> u32 {
+    u32::try_from(place).unwrap_or(u32::MAX)
+}
+
+// Adds the numbers of an equation that aren't 0.
+fn push_numbers(entries: &mut Vec<Entry>, row: u32, numbers: &[i128]) -> Result<(), AllocError> {
+    for col in 0..numbers.len() {
+        let value = numbers[col];
+        if value != 0 {
+            let col = number_of(col);
+            entries.push(Entry { row, col, value })?;
+        }
+    }
+    Ok(())
+}
+
+// The numbers that aren't 0.
+fn entries_of(alloc: Global, equations: &[&[i128]]) -> Result<Vec<Entry>, AllocError> {
+    let mut entries = Vec::new(alloc);
+    for row in 0..equations.len() {
+        push_numbers(&mut entries, number_of(row), equations[row])?;
+    }
+    Ok(entries)
+}
+
+// The program of a row.
+fn problem_of(alloc: Global, row: &Row) -> Result<Problem, AllocError> {
+    Ok(Problem {
+        rows: number_of(row.right.len()),
+        cols: number_of(row.first.len()),
+        entries: entries_of(alloc, row.equations)?,
+        right: Vec::from_slice(alloc, row.right)?,
+        first: Vec::from_slice(alloc, row.first)?,
+        second: Vec::from_slice(alloc, row.second)?,
+    })
+}
+
+// The fractions with these numerators and denominators.
+fn fractions_of(alloc: Global, pairs: &[(i128, i128)]) -> Result<Vec<Frac>, Fail> {
+    let mut fractions = Vec::new(alloc);
+    for (num, den) in pairs {
+        if *den != 0 {
+            fractions.push(Frac::new(*num, *den)?)?;
+        }
+    }
+    Ok(fractions)
+}
+
+// The answer as `solve` writes it.
+fn answer_of(alloc: Global, answer: Answer) -> Result<Result<Solved, SolveError>, Fail> {
+    Ok(match answer {
+        Optimal(at, basis, pivots) => Ok(Solved::Optimal {
+            at: fractions_of(alloc, at)?,
+            basis: Vec::from_slice(alloc, basis)?,
+            pivots,
+        }),
+        Infeasible(dual, pivots) => Ok(Solved::Infeasible {
+            dual: fractions_of(alloc, dual)?,
+            pivots,
+        }),
+        Range(pivot) => Err(SolveError::Range { pivot }),
+        Budget(pivots) => Err(SolveError::Budget { pivots }),
+    })
+}
+
+/// What `solve` answers to a problem, which has to be proper.
+pub(super) fn solved(
+    rt: &impl Abort,
+    alloc: Global,
+    problem: &Problem,
+    pivots: u32,
+) -> Result<Solved, SolveError> {
+    assert!(rt; is_proper(problem));
+    solve(alloc, problem, pivots)
+}
+
+// Solves the program of a row, and compares the answer.
+fn compare(rt: &impl Abort, alloc: Global, row: &Row, place: usize) -> Result<(), Fail> {
+    let problem = problem_of(alloc, row)?;
+    let got = solved(rt, alloc, &problem, row.pivots);
+    let want = answer_of(alloc, row.answer)?;
+    assert_eq!(rt; got, want, "row {place}");
+    Ok(())
+}
+
+// Compares each row of a table.
+fn compare_all(rt: &impl Abort, alloc: Global, rows: &[Row]) -> Result<(), Fail> {
+    for place in 0..rows.len() {
+        compare(rt, alloc, &rows[place], place)?;
+    }
+    Ok(())
+}
+
+#[test]
+fn small_programs_have_their_answers(rt: HostRuntime) -> Result<(), Fail> {
+    compare_all(&rt, rt.alloc(), &SMALL)
+}
+
+#[test]
+fn ties_and_limits_are_decided_by_the_rules(rt: HostRuntime) -> Result<(), Fail> {
+    compare_all(&rt, rt.alloc(), &CHOICES)
+}
+
+#[test]
+fn extreme_numbers_are_out_of_range_at_the_start(rt: HostRuntime) -> Result<(), Fail> {
+    compare_all(&rt, rt.alloc(), &EXTREMES)
+}
+
+#[test]
+fn a_table_of_more_than_16_million_numbers_is_too_wide(rt: HostRuntime) -> Result<(), Fail> {
+    let alloc = rt.alloc();
+    let problem = Problem {
+        rows: 4_000,
+        cols: 0,
+        entries: Vec::new(alloc),
+        right: vec![in alloc; 0; 4_000]?,
+        first: Vec::new(alloc),
+        second: Vec::new(alloc),
+    };
+    let got = solved(&rt, alloc, &problem, 9);
+    assert_eq!(rt;
+        got,
+        Err(SolveError::Wide {
+            entries: 16_004_000
+        })
+    );
+    Ok(())
+}

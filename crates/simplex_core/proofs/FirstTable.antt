@@ -1,0 +1,204 @@
+-- The table that was filled from a problem shows the first tableau.
+use Rattle.std.proofs.Common.{◌≡◌, ◌≢◌, ℕ, zero, suc, ◌+◌, ◌-◌, ◌<◌, ◌≤◌, ◌^◌, ap, arith, refl, sym, ◌∙◌, subst, ◌⊎◌, inl, inr, List, [], ◌∷◌, Some, Bool, true, false}
+use Rattle.std.specs.Prelude.{ℤ, pos, negsuc, ◌-ℤ◌, ◌*ℤ◌, slice_get, slice_index, slice_index_or, unsigned_abs, int_lt, nat_eq, ◌&&◌, if◌then◌else◌}
+use Rattle.std.proofs.lemmas.Bool.{cases_lt}
+use Rattle.std.proofs.lemmas.Int.{ints}
+use Rattle.frac128.specs.declared.frac.Frac.{Frac}
+use Rattle.int_laws.proofs.RingLaws.{mul-zero_ℤ, zero-mul_ℤ}
+use Rattle.int_laws.specs.Sums.{sum_to}
+use Rattle.int_laws.proofs.SumLaws.{sum_to-same, sum_to-zero}
+use Rattle.simplex_core.specs.declared.dense_table.DenseTable.{DenseTable}
+use Rattle.simplex_core.specs.declared.problem.Entry.{Entry}
+use Rattle.simplex_core.specs.declared.problem.Problem.{Problem}
+use Rattle.linear_forms.specs.LinearProgram.{LinearProgram}
+use Rattle.simplex_core.specs.Tableau.{artificial, cost_row, sign_of, equation, cost, first_reduced_cost, first_tableau}
+use Rattle.simplex_core.specs.Problem.{entry_value, program_of, IsProper}
+use Rattle.simplex_core.specs.Places.{InTable}
+use Rattle.simplex_core.specs.Cells.{cell, Shows}
+use Rattle.simplex_core.specs.Building.{HoldsWhole, HasSmallEquations, signed_entries, with_equations, cost_number, with_costs}
+use Rattle.simplex_core.specs.Numbers.{AreEntriesBelow}
+use Rattle.simplex_core.proofs.Invariant.{same_or_other}
+use Rattle.simplex_core.proofs.Regions.{choose-below, choose-above, choose-same, choose-other, equation-column, equation-artificial, equation-other_artificial, equation-right, cost-none, cost-first, cost-second, cost-artificial, cost-no_artificial, first-row, first-cost}
+use Rattle.simplex_core.proofs.First.{first-is_tableau, first-scale, first-basis, first-cost-artificial}
+use Rattle.simplex_core.proofs.ProgramFields.{program-columns, program-rows, program-entry, program-right, program-first, program-second}
+use Rattle.simplex_core.proofs.WrittenNumbers.{entry_value-outside}
+
+-- an entry's number is small
+entry_value-below : (es : List Entry) (i j : ℕ) → ((k : ℕ) (e : Entry) → slice_get es k ≡ Some e → unsigned_abs e.value < 2 ^ 31) → unsigned_abs (entry_value es i j) < 2 ^ 31
+entry_value-below [] i j h = omega arith
+entry_value-below (e ∷ es) i j h = go (nat_eq e.row i && nat_eq e.col j) (h 0 e refl) (entry_value-below es i j (λ k x is. h (suc k) x is))
+  where
+    go : (b : Bool) → unsigned_abs e.value < 2 ^ 31 → unsigned_abs (entry_value es i j) < 2 ^ 31 → unsigned_abs (if b then e.value else entry_value es i j) < 2 ^ 31
+    go true x y = x
+    go false x y = y
+
+-- a sign keeps a size
+signed-below : (b z : ℤ) → unsigned_abs z < 2 ^ 31 → unsigned_abs (sign_of b *ℤ z) < 2 ^ 31
+signed-below b z l = go (int_lt b (pos 0))
+  where
+    go : (v : Bool) → unsigned_abs ((if v then negsuc 0 else pos 1) *ℤ z) < 2 ^ 31
+    go true = omega (arith, ints, l)
+    go false = omega (arith, ints, l)
+
+-- the filled equations in a column of the program
+filled-column : (m n : ℕ) (right : List ℤ) (g : ℕ → ℕ → ℤ) (i j : ℕ) → i < m → j < n → with_equations m n right g m i j ≡ g i j
+filled-column m n right g i j l k =
+    choose-below i m _ (g i j) l ∙ (choose-other j (n + i) (pos 1) _ (omega arith) ∙ choose-other j (n + m) _ (g i j) (omega arith))
+
+-- the equations' numbers of a filled table are small
+pub filled-small : (table : DenseTable) (right : List ℤ) (es : List Entry) → AreEntriesBelow es
+    → HoldsWhole table (with_equations table.rows table.columns right (signed_entries es right) table.rows) → HasSmallEquations table
+filled-small table right es below holds = record {
+  each = λ i j f l k is.
+      let num = holds.num i j f (omega arith) (omega arith) is ∙ filled-column table.rows table.columns right (signed_entries es right) i j l k in
+      subst (λ (z : ℤ). unsigned_abs z < 2 ^ 31) (sym num)
+      (signed-below (slice_index_or right i (pos 0)) (entry_value es i j) (entry_value-below es i j below.each));
+}
+
+-- the filled equations are the program's
+equations-are : (q : Problem) (m n i j : ℕ) → IsProper q → m ≡ q.rows → n ≡ q.cols → i < m → j < n + m + 1
+    → with_equations m n q.right.items (signed_entries q.entries.items q.right.items) m i j ≡ equation (program_of q) i j
+equations-are q m n i j proper em en l k = go (cases_lt j n) (same_or_other j (n + i)) (same_or_other j (n + m))
+  where
+    p : LinearProgram
+    p = program_of q
+
+    g : ℕ → ℕ → ℤ
+    g = signed_entries q.entries.items q.right.items
+
+    rows : p.rows ≡ m
+    rows = program-rows q ∙ sym em
+
+    columns : p.columns ≡ n
+    columns = program-columns q ∙ sym en
+
+    sign : sign_of (slice_index_or q.right.items i (pos 0)) ≡ sign_of (p.right i)
+    sign = ap sign_of (sym (program-right q i))
+
+    go : (j < n) ⊎ (n ≤ j) → (j ≡ n + i) ⊎ (j ≢ n + i) → (j ≡ n + m) ⊎ (j ≢ n + m) → with_equations m n q.right.items g m i j ≡ equation p i j
+    go (inl f) v w =
+        filled-column m n q.right.items g i j l f
+        ∙ (ap (λ (z : ℤ). z *ℤ entry_value q.entries.items i j) sign
+        ∙ (ap (λ (z : ℤ). sign_of (p.right i) *ℤ z) (sym (program-entry q i j)) ∙ sym (equation-column p i j (omega (arith, rows, columns)))))
+    go (inr f) (inl v) w =
+        choose-below i m _ (g i j) l ∙ (choose-same j (n + i) (pos 1) _ v
+        ∙ (sym (equation-artificial p i (omega (arith, rows, columns))) ∙ ap (λ (y : ℕ). equation p i y) (omega (arith, rows, columns))))
+    go (inr f) (inr v) (inl w) =
+        choose-below i m _ (g i j) l ∙ (choose-other j (n + i) (pos 1) _ v ∙ (choose-same j (n + m) _ (g i j) w
+        ∙ (ap (λ (z : ℤ). sign_of z *ℤ z) (sym (program-right q i)) ∙ (sym (equation-right p i) ∙ ap (λ (y : ℕ). equation p i y) (omega (arith, rows, columns))))))
+    go (inr f) (inr v) (inr w) =
+        choose-below i m _ (g i j) l ∙ (choose-other j (n + i) (pos 1) _ v ∙ (choose-other j (n + m) _ (g i j) w
+        ∙ (mul-zero_ℤ _ _ (entry_value-outside q.rows q.cols q.entries.items i j proper.inside (inr (omega (arith, rows, columns))))
+        ∙ (sym (equation-other_artificial p i (j - n) (omega (arith, rows, columns)) (omega (arith, rows, columns))) ∙ ap (λ (y : ℕ). equation p i y) (omega (arith, rows, columns))))))
+
+-- the filled cost rows are the first reduced costs
+costs-are : (q : Problem) (m n r j : ℕ) → IsProper q → m ≡ q.rows → n ≡ q.cols → r < 3 → j < n + m
+    → with_costs m (with_equations m n q.right.items (signed_entries q.entries.items q.right.items) m) q.first.items q.second.items n (m + r) j
+    ≡ first_reduced_cost (program_of q) r j
+costs-are q m n r j proper em en few k = go (cases_lt j n)
+  where
+    p : LinearProgram
+    p = program_of q
+
+    g : ℕ → ℕ → ℤ
+    g = with_equations m n q.right.items (signed_entries q.entries.items q.right.items) m
+
+    rows : p.rows ≡ m
+    rows = program-rows q ∙ sym em
+
+    columns : p.columns ≡ n
+    columns = program-columns q ∙ sym en
+
+    place : (m + r) - m ≡ r
+    place = omega (arith, rows, columns)
+
+    none : (c b : ℤ) (w : ℤ) → c ≡ w → b ≡ pos 0 → w ≡ c -ℤ b
+    none c b w e f = omega (arith, ints)
+
+    number : (s : ℕ) → s < 3 → j < n → cost_number m g q.first.items q.second.items s j ≡ first_reduced_cost p s j
+    number zero f l =
+        less (sum_to m (λ i. g i j)) (sum_to p.rows (λ i. cost p 0 (artificial p i) *ℤ equation p i j)) (cost p 0 j) (cost-none p j (omega (arith, rows, columns)))
+        (ap (λ (x : ℕ). sum_to x (λ i. g i j)) (sym rows)
+        ∙ sum_to-same p.rows (λ i. g i j) (λ i. cost p 0 (artificial p i) *ℤ equation p i j)
+        (λ i x. equations-are q m n i j proper em en (omega (arith, rows, columns)) (omega (arith, rows, columns)) ∙ one_times (cost p 0 (artificial p i)) (equation p i j) (cost-artificial p (artificial p i) (omega (arith, rows, columns)))))
+      where
+        less : (a b c : ℤ) → c ≡ pos 0 → a ≡ b → pos 0 -ℤ a ≡ c -ℤ b
+        less a b c e f = omega (arith, ints)
+
+        one_times : (o z : ℤ) → o ≡ pos 1 → z ≡ o *ℤ z
+        one_times o z e = base ∙ ap (λ (y : ℤ). y *ℤ z) (sym e)
+          where
+            base : z ≡ pos 1 *ℤ z
+            base = omega (arith, ints)
+    number (suc zero) f l =
+        none (cost p 1 j) _ _ (cost-first p j (omega (arith, rows, columns)) ∙ program-first q j)
+        (sum_to-zero p.rows (λ i. cost p 1 (artificial p i) *ℤ equation p i j) (λ i x. zero-mul_ℤ _ _ (cost-no_artificial p 0 (artificial p i) (omega (arith, rows, columns)))))
+    number (suc (suc s)) f l =
+        none (cost p (suc (suc s)) j) _ _ (cost-second p s j (omega (arith, rows, columns)) ∙ program-second q j)
+        (sum_to-zero p.rows (λ i. cost p (suc (suc s)) (artificial p i) *ℤ equation p i j) (λ i x. zero-mul_ℤ _ _ (cost-no_artificial p (suc s) (artificial p i) (omega (arith, rows, columns)))))
+
+    go : (j < n) ⊎ (n ≤ j) → with_costs m g q.first.items q.second.items n (m + r) j ≡ first_reduced_cost p r j
+    go (inl l) =
+        choose-above (m + r) m (g (m + r) j) _ (omega (arith, rows, columns))
+        ∙ (choose-below j n _ (g (m + r) j) l
+        ∙ (ap (λ (s : ℕ). cost_number m g q.first.items q.second.items s j) place ∙ number r few l))
+    go (inr l) =
+        choose-above (m + r) m (g (m + r) j) _ (omega (arith, rows, columns))
+        ∙ (choose-above j n _ (g (m + r) j) l
+        ∙ (choose-above (m + r) m _ (signed_entries q.entries.items q.right.items (m + r) j) (omega (arith, rows, columns))
+        ∙ (mul-zero_ℤ _ _ (entry_value-outside q.rows q.cols q.entries.items (m + r) j proper.inside (inl (omega (arith, rows, columns))))
+        ∙ (sym (first-cost-artificial p r (j - n) (omega (arith, rows, columns))) ∙ (first-cost p r (artificial p (j - n)) ∙ ap (λ (y : ℕ). first_reduced_cost p r y) (omega (arith, rows, columns)))))))
+
+-- the filled table shows the first tableau
+pub filled-shows : (q : Problem) (table : DenseTable) → IsProper q → table.rows ≡ q.rows → table.columns ≡ q.cols
+    → HoldsWhole table (with_costs table.rows (with_equations table.rows table.columns q.right.items (signed_entries q.entries.items q.right.items) table.rows) q.first.items q.second.items table.columns)
+    → ((i : ℕ) → i < q.rows → slice_index table.basis.items i ≡ q.cols + i)
+    → Shows (program_of q) table (first_tableau (program_of q))
+filled-shows q table proper em en holds basis = record {
+  rows = rows;
+  columns = columns;
+  positive = (first-is_tableau p).positive;
+  numbers = numbers;
+  basis = λ i l. basis i (omega (arith, rows, columns)) ∙ (ap (λ (n : ℕ). n + i) (sym (program-columns q)) ∙ sym (first-basis-is i));
+}
+  where
+    p : LinearProgram
+    p = program_of q
+
+    m : ℕ
+    m = table.rows
+
+    n : ℕ
+    n = table.columns
+
+    rows : m ≡ p.rows
+    rows = em ∙ sym (program-rows q)
+
+    columns : n ≡ p.columns
+    columns = en ∙ sym (program-columns q)
+
+    first-basis-is : (i : ℕ) → (first_tableau p).basis i ≡ artificial p i
+    first-basis-is i = first-basis p i
+
+    whole : (f : Frac) (i : ℕ) (z : ℤ) → f.num ≡ z → f.den ≡ pos 1 → (first_tableau p).scale i ≡ pos 1 → f.num *ℤ (first_tableau p).scale i ≡ z *ℤ f.den
+    whole f i z a b c = ap (λ (y : ℤ). y *ℤ (first_tableau p).scale i) a ∙ (ap (λ (y : ℤ). z *ℤ y) c ∙ ap (λ (y : ℤ). z *ℤ y) (sym b))
+
+    numbers : (i j : ℕ) (f : Frac) → InTable p.rows p.columns i j → cell table i j ≡ Some f → f.num *ℤ (first_tableau p).scale i ≡ (first_tableau p).entry i j *ℤ f.den
+    numbers i j f inside is =
+        let r = inside.row in
+        let k = inside.column in
+        whole f i ((first_tableau p).entry i j) (holds.num i j f (omega (arith, rows, columns)) (omega (arith, rows, columns)) is ∙ value i j inside (cases_lt i m)) (holds.den i j f (omega (arith, rows, columns)) (omega (arith, rows, columns)) is) (first-scale p i)
+      where
+        value : (i j : ℕ) → InTable p.rows p.columns i j → (i < m) ⊎ (m ≤ i)
+            → with_costs m (with_equations m n q.right.items (signed_entries q.entries.items q.right.items) m) q.first.items q.second.items n i j ≡ (first_tableau p).entry i j
+        value i j inside (inl l) =
+            let k = inside.column in
+            choose-below i m _ _ l ∙ (equations-are q m n i j proper em en l (omega (arith, rows, columns)) ∙ sym (first-row p i j (omega (arith, rows, columns))))
+        value i j inside (inr l) =
+            let r = inside.row in
+            let k = inside.cost in
+            let e : i ≡ m + (i - m) = omega (arith, rows, columns) in
+            let c : i ≡ cost_row p (i - m) = omega (arith, rows, columns) in
+            ap (λ (x : ℕ). with_costs m (with_equations m n q.right.items (signed_entries q.entries.items q.right.items) m) q.first.items q.second.items n x j) e
+            ∙ (costs-are q m n (i - m) j proper em en (omega (arith, rows, columns)) (let w = k (omega (arith, rows, columns)) in omega (arith, rows, columns))
+            ∙ (sym (first-cost p (i - m) j) ∙ ap (λ (x : ℕ). (first_tableau p).entry x j) (sym c)))

@@ -1,0 +1,69 @@
+-- Which rows of a table are known to be small while a pivot is made.
+use Rattle.std.proofs.Common.{◌≡◌, ◌≢◌, ℕ, ◌+◌, ◌*◌, ◌<◌, ap, arith, refl, sym, ◌∙◌, subst, ◌⊎◌, inl, inr, Bool, true, false, List, Some}
+use Rattle.std.specs.Prelude.{MatchBool, ◌&&◌, slice_get}
+use Rattle.frac128.specs.declared.frac.Frac.{Frac}
+use Rattle.simplex_core.specs.declared.dense_table.DenseTable.{DenseTable}
+use Rattle.simplex_core.specs.Sizes.{IsBelow}
+use Rattle.simplex_core.specs.Places.{InTable}
+use Rattle.simplex_core.specs.Cells.{width, cell, ChangesRow, IsRowBelow, AreSmall, HasLarge, HasLargeIn, HasLargeBut, AreSmallBut}
+use Rattle.simplex_core.proofs.CellLaws.{InTable-same, IsRowBelow-same}
+use Rattle.simplex_core.proofs.Invariant.{same_or_other}
+
+-- a large number of a row is one of the table
+large-in : (a : DenseTable) (r : ℕ) → HasLargeIn a r → HasLarge a
+large-in a r h = record { row = r; column = h.column; number = h.number; in_table = h.in_table; is = h.is; large = h.large }
+
+-- a large number of another row is one of the table
+pub large-but : (a : DenseTable) (r m : ℕ) → HasLargeBut a r m → HasLarge a
+large-but a r m h = large-in a h.row h.large
+
+-- where the other rows are small, the row decides
+pub small-all : (a : DenseTable) (r : ℕ) (v : Bool) → AreSmallBut a r (a.rows + 3) → MatchBool v (IsRowBelow 31 a r) (HasLargeIn a r) → MatchBool v (AreSmall a) (HasLarge a)
+small-all a r false others large = large-in a r large
+small-all a r true others small = record { each = λ i j f inside is. go i j f inside is (same_or_other i r) }
+  where
+    go : (i j : ℕ) (f : Frac) → InTable a.rows a.columns i j → cell a i j ≡ Some f → (i ≡ r) ⊎ (i ≢ r) → IsBelow 31 f
+    go i j f inside is (inl e) = (subst (λ (k : ℕ). IsRowBelow 31 a k) (sym e) small).each j f inside is
+    go i j f inside is (inr d) = (others.each i d inside.row).each j f inside is
+
+-- the same numbers are as small
+pub small-same : (a b : DenseTable) (v : Bool) → b.numbers.items ≡ a.numbers.items → b.rows ≡ a.rows → b.columns ≡ a.columns → MatchBool v (AreSmall a) (HasLarge a) → MatchBool v (AreSmall b) (HasLarge b)
+small-same a b v n r c h = go v h
+  where
+    cells : (i j : ℕ) → cell b i j ≡ cell a i j
+    cells i j =
+        ap (λ (xs : List Frac). slice_get xs (i * width b + j)) n
+        ∙ (ap (λ (k : ℕ). slice_get a.numbers.items (i * (k + b.rows + 1) + j)) c ∙ ap (λ (k : ℕ). slice_get a.numbers.items (i * (a.columns + k + 1) + j)) r)
+
+    go : (v : Bool) → MatchBool v (AreSmall a) (HasLarge a) → MatchBool v (AreSmall b) (HasLarge b)
+    go true h = record { each = λ i j f inside is. h.each i j f (InTable-same b.rows b.columns a.rows a.columns i j r c inside) (sym (cells i j) ∙ is) }
+    go false h = record {
+      row = h.row;
+      column = h.column;
+      number = h.number;
+      in_table = InTable-same a.rows a.columns b.rows b.columns h.row h.column (sym r) (sym c) h.in_table;
+      is = cells h.row h.column ∙ h.is;
+      large = h.large;
+    }
+
+-- one row more is tested
+pub small-step : (b d : DenseTable) (r n : ℕ) (x s : Bool) → ChangesRow b d n → MatchBool x (n ≢ r → IsRowBelow 31 d n) ((n ≢ r) × HasLargeIn d n)
+    → MatchBool s (AreSmallBut b r n) (HasLargeBut b r n) → MatchBool (x && s) (AreSmallBut d r (n + 1)) (HasLargeBut d r (n + 1))
+small-step b d r n false s changes tested before = record { row = n; within = omega arith; apart = tested.0; large = tested.1 }
+small-step b d r n true false changes tested before = record {
+  row = before.row;
+  within = let l = before.within in omega arith;
+  apart = before.apart;
+  large = record {
+    column = before.large.column;
+    number = before.large.number;
+    in_table = InTable-same b.rows b.columns d.rows d.columns before.row before.large.column (sym changes.rows) (sym changes.columns) before.large.in_table;
+    is = changes.others before.row before.large.column (λ e. let l = before.within in omega arith) before.large.in_table.column ∙ before.large.is;
+    large = before.large.large;
+  };
+}
+small-step b d r n true true changes tested before = record { each = λ i apart l. go i apart l (same_or_other i n) }
+  where
+    go : (i : ℕ) → i ≢ r → i < n + 1 → (i ≡ n) ⊎ (i ≢ n) → IsRowBelow 31 d i
+    go i apart l (inl e) = subst (λ (k : ℕ). IsRowBelow 31 d k) (sym e) (tested (λ f. apart (e ∙ f)))
+    go i apart l (inr f) = IsRowBelow-same 31 b d i changes.rows changes.columns (λ j w. changes.others i j f w) (before.each i apart (omega arith))

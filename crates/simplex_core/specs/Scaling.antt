@@ -1,0 +1,68 @@
+-- Fractions over a common denominator.
+use Rattle.std.specs.Prelude.{◌≡◌, ℕ, ◌^◌, ◌*◌, ◌<◌, ◌≤◌, ℤ, pos, ◌*ℤ◌, unsigned_abs, List, length, slice_get, Some, ◌⊎◌}
+use Rattle.std.specs.Int.{◌∣◌}
+use Rattle.frac128.specs.declared.frac.Frac.{Frac}
+use Rattle.linear_forms.specs.Forms.{at}
+
+-- n is a common denominator of the first m fractions: each of their denominators divides it
+pub record IsCommon (fs : List Frac) (m n : ℕ) : Type 0 where
+  pub each : (j : ℕ) (f : Frac) → j < m → slice_get fs j ≡ Some f → unsigned_abs f.den ∣ n
+
+-- n is the least common denominator of the first m fractions: it is over 0, and divides each other one
+pub record IsLeastCommon (fs : List Frac) (m n : ℕ) : Type 0 where
+  pub positive : 0 < n
+  pub common : IsCommon fs m n
+  pub least : (k : ℕ) → IsCommon fs m k → n ∣ k
+
+-- no common denominator over 0 of the first m fractions is within the limit
+pub record HasNoCommonWithin (fs : List Frac) (m limit : ℕ) : Type 0 where
+  pub each : (n : ℕ) → 0 < n → IsCommon fs m n → limit < n
+
+-- the first m of the whole numbers, over a denominator, are the first m fractions
+pub record AreOver (fs : List Frac) (m : ℕ) (numbers : List ℤ) (den : ℕ) : Type 0 where
+  pub positive : 0 < den
+  pub each : (j : ℕ) (f : Frac) → j < m → slice_get fs j ≡ Some f → at numbers j *ℤ f.den ≡ f.num *ℤ pos den
+
+-- none of the first m numbers is over the limit in absolute value
+pub record AreWithin (limit m : ℕ) (numbers : List ℤ) : Type 0 where
+  pub each : (j : ℕ) → j < m → unsigned_abs (at numbers j) ≤ limit
+
+-- the whole numbers over the denominator are the fractions, and the denominator is their least common one
+pub record AreScaled (fs : List Frac) (numbers : List ℤ) (den : ℕ) : Type 0 where
+  pub lengths : length numbers ≡ length fs
+  pub over : AreOver fs (length fs) numbers den
+  pub least : IsLeastCommon fs (length fs) den
+
+-- a fraction times the denominator is over the limit in absolute value, by cross products
+pub record IsNumberOver (f : Frac) (den limit : ℕ) : Type 0 where
+  pub passes : limit * unsigned_abs f.den < unsigned_abs f.num * den
+
+-- over the denominator one of the fractions is a number over the limit
+pub record HasNumberOver (fs : List Frac) (den limit : ℕ) : Type 0 where
+  pub position : ℕ
+  pub fraction : Frac
+  pub within : position < length fs
+  pub is : slice_get fs position ≡ Some fraction
+  pub over : IsNumberOver fraction den limit
+
+-- over no common denominator within one limit do the fractions have numbers within another: none is within, or over the
+-- least one of the fractions is a number over the limit
+pub record HasNoneScaled (fs : List Frac) (den_limit limit : ℕ) : Type 0 where
+  pub each : HasNoCommonWithin fs (length fs) den_limit ⊎ ((den : ℕ) × IsLeastCommon fs (length fs) den × HasNumberOver fs den limit)
+
+-- the most that a number of a scaled solution, or its denominator, may be
+abbrev pub solution_limit : ℕ
+solution_limit = 2 ^ 55
+
+-- the most that a number of a scaled dual may be
+abbrev pub dual_limit : ℕ
+dual_limit = 2 ^ 45
+
+-- over no common denominator that is within the limit do the fractions have numbers within it
+abbrev pub ExceedsSolution : List Frac → Type 0
+ExceedsSolution fs =
+    (numbers : List ℤ) (den : ℕ) → AreOver fs (length fs) numbers den → AreWithin solution_limit (length fs) numbers → ¬ (den ≤ solution_limit)
+
+-- over no common denominator do the fractions have numbers within the limit
+abbrev pub ExceedsDual : List Frac → Type 0
+ExceedsDual fs = (numbers : List ℤ) (den : ℕ) → AreOver fs (length fs) numbers den → ¬ AreWithin dual_limit (length fs) numbers

@@ -1,0 +1,96 @@
+-- What trips a linear program, and the answer in whole numbers where nothing does.
+use Rattle.std.specs.Prelude.{◌≡◌, ℕ, ◌<◌, ◌≤◌, List, length, ◌⊎◌, ℤ, pos}
+use Rattle.frac128.specs.declared.frac.Frac.{Frac}
+use Rattle.linear_forms.specs.Forms.{at}
+use Rattle.linear_forms.specs.Causes.{Cause, range, budget, wide, scale}
+use Rattle.linear_forms.specs.LinearProgram.{LinearProgram, IsSolution, IsLeast, IsDual}
+use Rattle.simplex_core.specs.declared.answers.Cause.{Cause as TripCause}
+use Rattle.simplex_core.specs.declared.answers.Cause.TheVariants.{Range, Budget, Wide, Scale}
+use Rattle.simplex_core.specs.declared.answers.Answer.{Answer}
+use Rattle.simplex_core.specs.declared.answers.Answer.TheVariants.{Solution, Dual, Tripped}
+use Rattle.simplex_core.specs.Problem.{table_size, widest}
+use Rattle.simplex_core.specs.Outcome.{EndsOptimally, EndsInfeasibly, TripsRange, TripsBudget}
+use Rattle.simplex_core.specs.Scaling.{AreScaled, AreWithin, solution_limit, dual_limit, ExceedsSolution, ExceedsDual}
+
+-- the sequence ends as optimal, and the solution has no whole numbers small enough
+pub record TripsSolution (p : LinearProgram) (allowed : ℕ) : Type 0 where
+  pub at : List Frac
+  pub basis : List ℕ
+  pub k : ℕ
+  pub ends : EndsOptimally p allowed at basis k
+  pub exceeds : ExceedsSolution at
+
+-- the sequence ends as infeasible, and the dual has no whole numbers small enough
+pub record TripsDual (p : LinearProgram) (allowed : ℕ) : Type 0 where
+  pub dual : List Frac
+  pub k : ℕ
+  pub ends : EndsInfeasibly p allowed dual k
+  pub exceeds : ExceedsDual dual
+
+-- a linear program, within a number of pivots, trips by a cause: its table is too wide, and has so many numbers; or it
+-- isn't, and after so many pivots a number is out of range; or the allowed pivots don't suffice; or the answer has no
+-- whole numbers small enough
+abbrev pub Trips : LinearProgram → ℕ → Cause → Type 0
+Trips p allowed (wide n) = (widest < table_size p) × (n ≡ table_size p)
+Trips p allowed (range k) = (table_size p ≤ widest) × TripsRange p allowed k
+Trips p allowed (budget n) = (table_size p ≤ widest) × (n ≡ allowed) × TripsBudget p allowed
+Trips p allowed scale = (table_size p ≤ widest) × (TripsSolution p allowed ⊎ TripsDual p allowed)
+
+-- the cause that the code tells
+abbrev pub cause_of : TripCause → Cause
+cause_of (Range k) = range k
+cause_of (Budget n) = budget n
+cause_of (Wide n) = wide n
+cause_of Scale = scale
+
+-- the numbers over the denominator are the solution of least cost at which the sequence ends, scaled by its least common
+-- denominator, and within the limit with it
+pub record IsScaledSolution (p : LinearProgram) (allowed : ℕ) (numbers : List ℤ) (den : ℕ) : Type 0 where
+  pub fits : table_size p ≤ widest
+  pub point : List Frac
+  pub basis : List ℕ
+  pub k : ℕ
+  pub ends : EndsOptimally p allowed point basis k
+  pub scaled : AreScaled point numbers den
+  pub within : AreWithin solution_limit (length numbers) numbers
+  pub den_within : den ≤ solution_limit
+  pub columns : length numbers ≡ p.columns
+  pub solution : IsSolution p (at numbers) (pos den)
+  pub least : IsLeast p (at numbers) (pos den)
+
+-- the numbers are the dual at which the sequence ends as infeasible, scaled by its least common denominator, and within
+-- the limit
+pub record IsScaledDual (p : LinearProgram) (allowed : ℕ) (numbers : List ℤ) (den : ℕ) : Type 0 where
+  pub fits : table_size p ≤ widest
+  pub dual : List Frac
+  pub k : ℕ
+  pub ends : EndsInfeasibly p allowed dual k
+  pub scaled : AreScaled dual numbers den
+  pub within : AreWithin dual_limit (length numbers) numbers
+  pub rows : length numbers ≡ p.rows
+  pub certified : IsDual p (at numbers)
+
+-- the answer in whole numbers, within a number of pivots
+abbrev pub IsWholeAnswer : LinearProgram → ℕ → Answer → Type 0
+IsWholeAnswer p allowed (Solution s) = IsScaledSolution p allowed s.numbers.items s.den
+IsWholeAnswer p allowed (Dual s) = IsScaledDual p allowed s.numbers.items s.den
+IsWholeAnswer p allowed (Tripped cause) = Trips p allowed (cause_of cause)
+
+-- the answers are the same
+abbrev pub IsSameWholeAnswer : Answer → Answer → Type 0
+IsSameWholeAnswer (Solution s) (Solution t) = (s.numbers.items ≡ t.numbers.items) × (s.den ≡ t.den)
+IsSameWholeAnswer (Solution s) (Dual t) = ⊥
+IsSameWholeAnswer (Solution s) (Tripped c) = ⊥
+IsSameWholeAnswer (Dual s) (Solution t) = ⊥
+IsSameWholeAnswer (Dual s) (Dual t) = (s.numbers.items ≡ t.numbers.items) × (s.den ≡ t.den)
+IsSameWholeAnswer (Dual s) (Tripped c) = ⊥
+IsSameWholeAnswer (Tripped c) (Solution t) = ⊥
+IsSameWholeAnswer (Tripped c) (Dual t) = ⊥
+IsSameWholeAnswer (Tripped c) (Tripped d) = cause_of c ≡ cause_of d
+
+-- of one program within one number of pivots there is one answer in whole numbers: so it trips, and by which cause, or has
+-- a solution, or has none; and where one finds numbers for fractions over their least common denominator that aren't
+-- within the limits, no other common denominator helps
+pub record WholeAnswersAreOne : Type 0 where
+  pub each : (p : LinearProgram) (allowed : ℕ) (a b : Answer) → IsWholeAnswer p allowed a → IsWholeAnswer p allowed b → IsSameWholeAnswer a b
+  pub causes : (p : LinearProgram) (allowed : ℕ) (c d : Cause) → Trips p allowed c → Trips p allowed d → c ≡ d
