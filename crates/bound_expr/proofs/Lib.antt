@@ -4,4 +4,6 @@ pub mod Caps
 pub mod Steps
 pub mod Substitutions
 pub mod Monotone
-pub mod TidyBounds
+pub mod Nodes
+pub mod PartLists
+pub mod WorkedValues

@@ -1,60 +1,73 @@
 -- A loop over the parts of a bound: one more part at the end, and what the measures say of it.
-use Rattle.std.proofs.Common.{◌≡◌, ℕ, zero, suc, ◌+◌, ◌*◌, ◌<◌, max, List, [], ◌∷◌, ◌++◌, take, get_or, length, refl, ap, sym, ◌∙◌, subst, arith}
+use Rattle.std.proofs.Common.{◌≡◌, ℕ, zero, suc, ◌+◌, ◌*◌, ◌<◌, max, List, [], ◌∷◌, ◌++◌, take, get_or, length, refl}
+use Rattle.std.proofs.Common.{ap, sym, ◌∙◌, subst, arith}
 use Rattle.std.proofs.lemmas.List.{take_more, map-append}
-use Rattle.model.specs.Bounds.{Size, Parts, NoParts, Part, val, val_sum, val_product, val_greatest}
+use Rattle.model.specs.Bounds as plain
+use Rattle.model.specs.Bounds.{Parts, NoParts, Part, val, val_sum, val_product, val_maximum}
 use Rattle.bound_expr.specs.declared.bound.Bound.{Bound}
-use Rattle.bound_expr.specs.Views.{size_of, sizes_of, parts_of}
-use Rattle.bound_expr.specs.Measure.{node_count, node_count_of_all, depth_of, greatest_depth}
-use Rattle.bound_expr.specs.Substitution.{ReadsBelow, AllReadBelow, substituted, all_substituted}
+use Rattle.bound_expr.specs.Views.{bound_of, bounds_of, parts_of, with_part}
+use Rattle.bound_expr.specs.Measure.{node_count, node_count_of_all, depth_of, maximum_depth}
+use Rattle.bound_expr.specs.Numbers.{ReadsBelow, AllReadBelow}
+use Rattle.bound_expr.specs.Substitution.{substituted, all_substituted}
 
--- the parts with one more at the end
-abbrev pub with_part : Parts → Size → Parts
-with_part NoParts b = Part b NoParts
-with_part (Part c cs) b = Part c (with_part cs b)
-
-pub parts_of-snoc : (bs : List Size) (b : Size) → parts_of (bs ++ b ∷ []) ≡ with_part (parts_of bs) b
+-- one more part at the end of a list
+pub parts_of-snoc : (bs : List plain.Bound) (b : plain.Bound) → parts_of (bs ++ b ∷ []) ≡ with_part (parts_of bs) b
 parts_of-snoc [] b = refl
 parts_of-snoc (c ∷ cs) b = ap (Part c) (parts_of-snoc cs b)
 
 -- the parts after one more push
-pub parts_of-push : (xs : List Bound) (x : Bound) → parts_of (sizes_of (xs ++ x ∷ [])) ≡ with_part (parts_of (sizes_of xs)) (size_of x)
-parts_of-push xs x = ap parts_of (map-append size_of xs (x ∷ [])) ∙ parts_of-snoc (sizes_of xs) (size_of x)
+pub parts_of-push : (xs : List Bound) (x : Bound)
+    → parts_of (bounds_of (xs ++ x ∷ [])) ≡ with_part (parts_of (bounds_of xs)) (bound_of x)
+parts_of-push xs x = ap parts_of (map-append bound_of xs (x ∷ [])) ∙ parts_of-snoc (bounds_of xs) (bound_of x)
 
 -- the parts that a loop has seen once it has seen x, too
 pub parts_of-take_more : (xs : List Bound) (i : ℕ) (x : Bound) → i < length xs → x ≡ get_or xs i x
-    → parts_of (sizes_of (take (i + 1) xs)) ≡ with_part (parts_of (sizes_of (take i xs))) (size_of x)
+    → parts_of (bounds_of (take (i + 1) xs)) ≡ with_part (parts_of (bounds_of (take i xs))) (bound_of x)
 parts_of-take_more xs i x h e =
-    ap (λ (ys : List Bound). parts_of (sizes_of ys)) (take_more xs i x h)
+    ap (λ (ys : List Bound). parts_of (bounds_of ys)) (take_more xs i x h)
     ∙ parts_of-push (take i xs) (get_or xs i x)
-    ∙ ap (λ (y : Bound). with_part (parts_of (sizes_of (take i xs))) (size_of y)) (sym e)
+    ∙ ap (λ (y : Bound). with_part (parts_of (bounds_of (take i xs))) (bound_of y)) (sym e)
 
-pub node_count-with_part : (bs : Parts) (b : Size) → node_count_of_all (with_part bs b) ≡ node_count_of_all bs + node_count b
+-- one more part adds its nodes
+pub node_count-with_part : (bs : Parts) (b : plain.Bound)
+    → node_count_of_all (with_part bs b) ≡ node_count_of_all bs + node_count b
 node_count-with_part NoParts b = omega arith
 node_count-with_part (Part c cs) b = omega (arith, node_count-with_part cs b)
 
-pub depth-with_part : (bs : Parts) (b : Size) → greatest_depth (with_part bs b) ≡ max (greatest_depth bs) (depth_of b)
+-- the levels of parts are those of the deepest
+pub depth-with_part : (bs : Parts) (b : plain.Bound)
+    → maximum_depth (with_part bs b) ≡ max (maximum_depth bs) (depth_of b)
 depth-with_part NoParts b = omega arith
 depth-with_part (Part c cs) b = omega (arith, depth-with_part cs b)
 
-pub val_sum-with_part : (bs : Parts) (b : Size) (m : List ℕ) → val_sum (with_part bs b) m ≡ val_sum bs m + val b m
+-- one more part of a sum adds its value
+pub val_sum-with_part : (bs : Parts) (b : plain.Bound) (m : List ℕ)
+    → val_sum (with_part bs b) m ≡ val_sum bs m + val b m
 val_sum-with_part NoParts b m = omega arith
 val_sum-with_part (Part c cs) b m = omega (arith, val_sum-with_part cs b m)
 
-pub val_product-with_part : (bs : Parts) (b : Size) (m : List ℕ) → val_product (with_part bs b) m ≡ val_product bs m * val b m
+-- one more factor multiplies by its value
+pub val_product-with_part : (bs : Parts) (b : plain.Bound) (m : List ℕ)
+    → val_product (with_part bs b) m ≡ val_product bs m * val b m
 val_product-with_part NoParts b m = omega arith
 val_product-with_part (Part c cs) b m = omega (arith, ap (λ (v : ℕ). val c m * v) (val_product-with_part cs b m))
 
-pub val_greatest-with_part : (bs : Parts) (b : Size) (m : List ℕ) → val_greatest (with_part bs b) m ≡ max (val_greatest bs m) (val b m)
-val_greatest-with_part NoParts b m = omega arith
-val_greatest-with_part (Part c cs) b m = omega (arith, val_greatest-with_part cs b m)
+-- one more part of a maximum may be greater
+pub val_maximum-with_part : (bs : Parts) (b : plain.Bound) (m : List ℕ)
+    → val_maximum (with_part bs b) m ≡ max (val_maximum bs m) (val b m)
+val_maximum-with_part NoParts b m = omega arith
+val_maximum-with_part (Part c cs) b m = omega (arith, val_maximum-with_part cs b m)
 
-pub substituted-with_part : (bs : Parts) (b : Size) (sizes : List Size) → all_substituted (with_part bs b) sizes ≡ with_part (all_substituted bs sizes) (substituted b sizes)
+-- one more part is substituted by itself
+pub substituted-with_part : (bs : Parts) (b : plain.Bound) (sizes : List plain.Bound)
+    → all_substituted (with_part bs b) sizes ≡ with_part (all_substituted bs sizes) (substituted b sizes)
 substituted-with_part NoParts b sizes = refl
 substituted-with_part (Part c cs) b sizes = ap (Part (substituted c sizes)) (substituted-with_part cs b sizes)
 
 -- what all parts read, the part at a place reads
-pub ReadsBelow-at : (n : ℕ) (xs : List Bound) (i : ℕ) (x : Bound) → AllReadBelow n (parts_of (sizes_of xs)) → i < length xs
-    → x ≡ get_or xs i x → ReadsBelow n (size_of x)
+pub ReadsBelow-at : (n : ℕ) (xs : List Bound) (i : ℕ) (x : Bound) → AllReadBelow n (parts_of (bounds_of xs))
+    → i < length xs
+    → x ≡ get_or xs i x → ReadsBelow n (bound_of x)
 ReadsBelow-at n [] i x all h e = absurd (omega arith)
-ReadsBelow-at n (y ∷ ys) zero x all h e = subst (λ (z : Bound). ReadsBelow n (size_of z)) (sym e) all.0
+ReadsBelow-at n (y ∷ ys) zero x all h e = subst (λ (z : Bound). ReadsBelow n (bound_of z)) (sym e) all.0
 ReadsBelow-at n (y ∷ ys) (suc i) x all h e = ReadsBelow-at n ys i x all.1 (omega arith) e

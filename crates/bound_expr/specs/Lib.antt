@@ -1,6 +1,12 @@
+-- what public contracts cite
 pub mod Views
-pub mod Measure
+pub mod Limits
+pub mod Numbers
 pub mod Tidy
+pub mod Measure
+pub mod Capped
 pub mod Substitution
 pub mod Growth
-pub mod Capped
+pub mod Worked
+-- what proofs and the crates above cite besides
+pub mod Kinds

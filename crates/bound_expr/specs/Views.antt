@@ -1,33 +1,39 @@
 -- What contracts see of a bound: the plain expression.
 use Rattle.std.specs.Prelude.{List, [], ◌∷◌, map}
-use Rattle.model.specs.Bounds.{Size, Constant, Input, SumOf, ProductOf, GreatestOf, PowerOf, Parts, NoParts, Part}
+use Rattle.model.specs.Bounds as plain
+use Rattle.model.specs.Bounds.{Constant, Input, SumOf, ProductOf, MaximumOf, PowerOf, Parts, NoParts, Part}
 use Rattle.bound_expr.specs.declared.bound.Bound.{Bound}
 use Rattle.bound_expr.specs.declared.bound.Bound.TheOpen.{Bound-F, Const, Var, Sum, Prod, Max, Power}
 use Rattle.bound_expr.specs.declared.bound.Bound.TheFolds.{fold-Bound}
 
 -- a list of expressions as the parts of one
-abbrev pub parts_of : List Size → Parts
+abbrev pub parts_of : List plain.Bound → Parts
 parts_of [] = NoParts
 parts_of (b ∷ bs) = Part b (parts_of bs)
 
 -- the parts of an expression as a list
-abbrev pub list_of : Parts → List Size
+abbrev pub list_of : Parts → List plain.Bound
 list_of NoParts = []
 list_of (Part b bs) = b ∷ list_of bs
 
+-- the parts with one more at the end
+abbrev pub with_part : Parts → plain.Bound → Parts
+with_part NoParts b = Part b NoParts
+with_part (Part c cs) b = Part c (with_part cs b)
+
 -- one node, with the expression of each part in the part's place
-abbrev pub size_step : Bound-F Size → Size
-size_step (Const c) = Constant c
-size_step (Var i) = Input i
-size_step (Sum bs) = SumOf (parts_of bs.items)
-size_step (Prod bs) = ProductOf (parts_of bs.items)
-size_step (Max bs) = GreatestOf (parts_of bs.items)
-size_step (Power c e) = PowerOf c e.value
+abbrev pub bound_step : Bound-F plain.Bound → plain.Bound
+bound_step (Const c) = Constant c
+bound_step (Var i) = Input i
+bound_step (Sum bs) = SumOf (parts_of bs.items)
+bound_step (Prod bs) = ProductOf (parts_of bs.items)
+bound_step (Max bs) = MaximumOf (parts_of bs.items)
+bound_step (Power c e) = PowerOf c e.value
 
 -- the expression that a bound is
-abbrev pub size_of : Bound → Size
-size_of = fold-Bound Size size_step
+abbrev pub bound_of : Bound → plain.Bound
+bound_of = fold-Bound plain.Bound bound_step
 
 -- the expressions that a list of bounds are
-abbrev pub sizes_of : List Bound → List Size
-sizes_of bs = map size_of bs
+abbrev pub bounds_of : List Bound → List plain.Bound
+bounds_of bs = map bound_of bs

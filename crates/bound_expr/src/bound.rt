@@ -1,14 +1,12 @@
 ghost use Rattle.std.specs.Prelude.{◌≡◌, IfOk};
-ghost use Rattle.bound_expr.specs.Views.{size_of, sizes_of};
+ghost use Rattle.bound_expr.specs.Views.{bound_of, bounds_of};
 
-use std::alloc::{AllocError, Global};
-
-/// Want of memory, the only error of the calls that make a bound.
-pub type Memory = AllocError;
+use model::Memory;
+use std::alloc::Global;
 
 /// A bound: an expression over natural numbers that grows with each of its variables.
 ///
-/// An empty sum or greatest is 0, an empty product is 1, and a power with exponent 0 is 1.
+/// An empty sum or maximum is 0, an empty product is 1, and a power with exponent 0 is 1.
 #[derive(Debug, PartialEq, Eq, Hash, Drop)]
 pub enum Bound {
     /// A fixed number.
@@ -19,7 +17,7 @@ pub enum Bound {
     Sum(Vec<Bound>),
     /// The product of the parts.
     Prod(Vec<Bound>),
-    /// The greatest of the parts.
+    /// The maximum of the parts.
     Max(Vec<Bound>),
     /// A fixed base to the power of a bound.
     Power(u64, Box<Bound>),
@@ -33,7 +31,7 @@ impl Bound {
     /// `Memory` where an allocation fails.
     #[cycle(copied)]
     pub fn copied(&self, alloc: Global) -> Result<Bound, Memory>
-        ensures { IfOk result (λ b. size_of b ≡ size_of self.now) }
+        ensures { IfOk result (λ b. bound_of b ≡ bound_of self.now) }
     {
         match self {
             Bound::Const(c) => Ok(Bound::Const(*c)),
@@ -52,7 +50,7 @@ impl Bound {
 // Copies of bounds, in order.
 #[cycle(copied)]
 fn copied_parts(alloc: Global, parts: &[Bound]) -> Result<Vec<Bound>, Memory>
-    ensures { IfOk result (λ bs. sizes_of bs.items ≡ sizes_of parts.now) }
+    ensures { IfOk result (λ bs. bounds_of bs.items ≡ bounds_of parts.now) }
 {
     let mut copies = Vec::new(alloc);
     for part in parts {

@@ -1,21 +1,20 @@
 ghost use Rattle.std.specs.Prelude.{◌≡◌, ◌*◌, ◌+◌, ◌%◌, ◌≤◌, ◌^◌, max, length};
-ghost use Rattle.model.specs.Bounds.{val_sum, val_product, val_greatest};
-ghost use Rattle.bound_expr.specs.Views.{size_of, sizes_of, parts_of};
-ghost use Rattle.bound_expr.specs.Substitution.{ReadsBelow, AllReadBelow};
+ghost use Rattle.model.specs.Bounds.{val_sum, val_product, val_maximum};
+ghost use Rattle.bound_expr.specs.Views.{bound_of, bounds_of, parts_of};
+ghost use Rattle.bound_expr.specs.Numbers.{ReadsBelow, AllReadBelow};
+ghost use Rattle.bound_expr.specs.Limits.{cap};
 ghost use Rattle.bound_expr.specs.Capped.{capped, capped_val};
 
 use crate::bound::Bound;
-
-/// The greatest number that `Bound::capped_value` answers: 2^127.
-pub const CAP: u128 = 0x8000_0000_0000_0000_0000_0000_0000_0000;
+use crate::limits::CAP;
 
 impl Bound {
     /// The value of this bound where variable i is `at[i]`, or 2^127 where the value is greater.
     ///
     /// Takes no memory, and no time that grows with the exponents.
     pub fn capped_value(&self, at: &[u128]) -> u128
-        requires { ReadsBelow (length at.now) (size_of self.now) }
-        ensures { result ≡ capped_val (size_of self.now) at.now }
+        requires { ReadsBelow (length at.now) (bound_of self.now) }
+        ensures { result ≡ capped_val (bound_of self.now) at.now }
     {
         value_of(self, at)
     }
@@ -23,23 +22,23 @@ impl Bound {
 
 #[cycle(value)]
 fn value_of(bound: &Bound, at: &[u128]) -> u128
-    requires { ReadsBelow (length at.now) (size_of bound.now) }
-    ensures { result ≡ capped_val (size_of bound.now) at.now }
+    requires { ReadsBelow (length at.now) (bound_of bound.now) }
+    ensures { result ≡ capped_val (bound_of bound.now) at.now }
 {
     match bound {
         Bound::Const(c) => (*c).min(CAP),
         Bound::Var(i) => at[*i as usize].min(CAP),
         Bound::Sum(parts) => capped_sum(parts, at),
         Bound::Prod(parts) => capped_product(parts, at),
-        Bound::Max(parts) => capped_greatest(parts, at),
+        Bound::Max(parts) => capped_maximum(parts, at),
         Bound::Power(base, exponent) => power(u128::from(*base), value_of(exponent, at)),
     }
 }
 
 #[cycle(value)]
 fn capped_sum(parts: &[Bound], at: &[u128]) -> u128
-    requires { AllReadBelow (length at.now) (parts_of (sizes_of parts.now)) }
-    ensures { result ≡ capped (val_sum (parts_of (sizes_of parts.now)) at.now) }
+    requires { AllReadBelow (length at.now) (parts_of (bounds_of parts.now)) }
+    ensures { result ≡ capped (val_sum (parts_of (bounds_of parts.now)) at.now) }
 {
     let mut total = 0;
     for part in parts {
@@ -50,8 +49,8 @@ fn capped_sum(parts: &[Bound], at: &[u128]) -> u128
 
 #[cycle(value)]
 fn capped_product(parts: &[Bound], at: &[u128]) -> u128
-    requires { AllReadBelow (length at.now) (parts_of (sizes_of parts.now)) }
-    ensures { result ≡ capped (val_product (parts_of (sizes_of parts.now)) at.now) }
+    requires { AllReadBelow (length at.now) (parts_of (bounds_of parts.now)) }
+    ensures { result ≡ capped (val_product (parts_of (bounds_of parts.now)) at.now) }
 {
     let mut product = 1;
     for part in parts {
@@ -61,15 +60,15 @@ fn capped_product(parts: &[Bound], at: &[u128]) -> u128
 }
 
 #[cycle(value)]
-fn capped_greatest(parts: &[Bound], at: &[u128]) -> u128
-    requires { AllReadBelow (length at.now) (parts_of (sizes_of parts.now)) }
-    ensures { result ≡ capped (val_greatest (parts_of (sizes_of parts.now)) at.now) }
+fn capped_maximum(parts: &[Bound], at: &[u128]) -> u128
+    requires { AllReadBelow (length at.now) (parts_of (bounds_of parts.now)) }
+    ensures { result ≡ capped (val_maximum (parts_of (bounds_of parts.now)) at.now) }
 {
-    let mut greatest = 0u128;
+    let mut maximum = 0u128;
     for part in parts {
-        greatest = greatest.max(value_of(part, at));
+        maximum = maximum.max(value_of(part, at));
     }
-    greatest
+    maximum
 }
 
 /// The sum of two numbers, or 2^127 where it is greater.
@@ -103,7 +102,7 @@ fn power(base: u128, exponent: u128) -> u128
 
 // The outcome with the square as one more factor, where the exponent that is left is odd.
 fn with_odd_factor(outcome: u128, square: u128, rest: u128) -> u128
-    requires { outcome ≤ 2 ^ 127 }
+    requires { outcome ≤ cap }
     ensures { result ≡ capped (outcome * square ^ (rest % 2)) }
 {
     if rest % 2 == 0 {

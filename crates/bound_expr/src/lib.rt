@@ -1,17 +1,20 @@
-// Bounds: expressions over the absolute values of the start arguments, with no subtraction, so that their value grows with
-// each of them. Contracts see a bound as the plain expression `size_of b`, whose value at m is `val (size_of b) m`.
+// Bounds: expressions over the absolute values of the start arguments, with no subtraction, so that their value grows
+// with each of them. Contracts see a bound as the plain expression `bound_of b`, whose value at m is `val (bound_of b)
+// m`.
 #![tactic(auto)]
 
 mod bound;
 mod capped;
 mod growth;
+mod limits;
 mod measured;
 mod substituted;
+mod worked;
 
-pub use bound::{Bound, Memory};
-pub use capped::{CAP, capped_add, capped_multiply};
+pub use bound::Bound;
+pub use capped::{capped_add, capped_multiply};
 pub use growth::bounds_grow_with_inputs;
+pub use limits::{CAP, CONSTANT_LIMIT, DEPTH_LIMIT, NODE_LIMIT, limits_are_as_defined};
+pub use model::Memory;
 pub use substituted::apply;
-
-#[cfg(test)]
-mod tests;
+pub use worked::bounds_are_as_worked_out;

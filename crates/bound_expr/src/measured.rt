@@ -1,24 +1,34 @@
 ghost use Rattle.std.specs.Prelude.{◌≡◌, ◌-◌, ◌^◌, min, slice_index};
-ghost use Rattle.bound_expr.specs.Views.{size_of, sizes_of, parts_of};
-ghost use Rattle.bound_expr.specs.Measure.{node_count, node_count_of_all, depth_of, greatest_depth};
+ghost use Rattle.bound_expr.specs.Views.{bound_of, bounds_of, parts_of};
+ghost use Rattle.bound_expr.specs.Measure.{node_count, node_count_of_all, depth_of, maximum_depth};
+ghost use Rattle.bound_expr.specs.Measure.{is_large as is_large_bound};
 
 use crate::bound::Bound;
+use crate::limits::{DEPTH_LIMIT, NODE_LIMIT};
 
 impl Bound {
     /// The number of nodes and the number of levels, a node without parts being one level.
     ///
-    /// Each is the lesser of the exact number and the greatest number of its type.
+    /// Each is the lesser of the exact number and the maximum number of its type.
     pub fn measure(&self) -> (u64, u32)
-        ensures nodes { result.0 ≡ min (node_count (size_of self.now)) (2 ^ 64 - 1) }
-        ensures depth { result.1 ≡ min (depth_of (size_of self.now)) (2 ^ 32 - 1) }
+        ensures nodes { result.0 ≡ min (node_count (bound_of self.now)) (2 ^ 64 - 1) }
+        ensures depth { result.1 ≡ min (depth_of (bound_of self.now)) (2 ^ 32 - 1) }
     {
         (nodes_in(self), levels_in(self))
+    }
+
+    /// Whether this bound has more nodes than `NODE_LIMIT`, or more levels than `DEPTH_LIMIT`.
+    pub fn is_large(&self) -> bool
+        ensures { result ≡ is_large_bound (bound_of self.now) }
+    {
+        let (nodes, depth) = self.measure();
+        nodes > NODE_LIMIT || depth > DEPTH_LIMIT
     }
 }
 
 #[cycle(nodes)]
 fn nodes_in(bound: &Bound) -> u64
-    ensures { result ≡ min (node_count (size_of bound.now)) (2 ^ 64 - 1) }
+    ensures { result ≡ min (node_count (bound_of bound.now)) (2 ^ 64 - 1) }
 {
     match bound {
         Bound::Const(_) | Bound::Var(_) => 1,
@@ -31,7 +41,7 @@ fn nodes_in(bound: &Bound) -> u64
 
 #[cycle(nodes)]
 fn nodes_in_all(parts: &[Bound]) -> u64
-    ensures { result ≡ min (node_count_of_all (parts_of (sizes_of parts.now))) (2 ^ 64 - 1) }
+    ensures { result ≡ min (node_count_of_all (parts_of (bounds_of parts.now))) (2 ^ 64 - 1) }
 {
     let mut nodes = 0u64;
     for part in parts {
@@ -42,7 +52,7 @@ fn nodes_in_all(parts: &[Bound]) -> u64
 
 #[cycle(levels)]
 fn levels_in(bound: &Bound) -> u32
-    ensures { result ≡ min (depth_of (size_of bound.now)) (2 ^ 32 - 1) }
+    ensures { result ≡ min (depth_of (bound_of bound.now)) (2 ^ 32 - 1) }
 {
     match bound {
         Bound::Const(_) | Bound::Var(_) => 1,
@@ -55,7 +65,7 @@ fn levels_in(bound: &Bound) -> u32
 
 #[cycle(levels)]
 fn most_levels_in(parts: &[Bound]) -> u32
-    ensures { result ≡ min (greatest_depth (parts_of (sizes_of parts.now))) (2 ^ 32 - 1) }
+    ensures { result ≡ min (maximum_depth (parts_of (bounds_of parts.now))) (2 ^ 32 - 1) }
 {
     let mut most = 0u32;
     for part in parts {

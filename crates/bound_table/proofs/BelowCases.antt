@@ -1,70 +1,96 @@
 -- The test of being below, kind by kind of its first argument, and the end of a matching of factors.
-use Rattle.std.proofs.Common.{◌≡◌, ℕ, zero, suc, ◌+◌, ◌≤◌, ◌==◌, ◌⊎◌, Bool, true, false, ◌&&◌, ◌||◌, List, [], ◌∷◌, length, refl, ap, sym, ◌∙◌, inl, inr, subst, arith}
+use Rattle.std.proofs.Common.{◌≡◌, ℕ, zero, suc, ◌+◌, ◌≤◌, ◌==◌, ◌⊎◌, Bool, true, false, ◌&&◌, ◌||◌, List, [], ◌∷◌}
+use Rattle.std.proofs.Common.{length, refl, ap, sym, ◌∙◌, inl, inr, subst, arith}
 use Rattle.std.proofs.Common.{Vec, Box, Global}
 use Rattle.std.proofs.Math.Dec.{eqb-suc-zero}
 use Rattle.std.specs.List.{list_all}
-use Rattle.model.specs.Bounds.{Size, Constant, Input, SumOf, ProductOf, GreatestOf, PowerOf}
+use Rattle.std.proofs.lemmas.List.{length-map}
+use Rattle.model.specs.Bounds as plain
+use Rattle.model.specs.Bounds.{Constant, Input, SumOf, ProductOf, MaximumOf, PowerOf}
 use Rattle.bound_expr.specs.declared.bound.Bound.{Bound, Const, Var, Sum, Prod, Max, Power}
-use Rattle.bound_expr.specs.Views.{size_of, sizes_of, parts_of}
-use Rattle.bound_expr.specs.Tidy.{IsNoGreatest}
-use Rattle.bound_expr.proofs.Views.{size_of-Const, size_of-Var, size_of-Sum, size_of-Prod, size_of-Max, size_of-Power}
-use Rattle.bound_expr.proofs.TidyBounds.{list_of-parts_of}
+use Rattle.bound_expr.specs.Views.{bound_of, bounds_of, parts_of}
+use Rattle.bound_expr.specs.Tidy.{IsNoMaximum}
+use Rattle.bound_expr.proofs.Views.{bound_of-Const, bound_of-Var, bound_of-Sum, bound_of-Prod, bound_of-Max}
+use Rattle.bound_expr.proofs.Views.{bound_of-Power}
+use Rattle.bound_expr.proofs.PartLists.{list_of-parts_of}
 use Rattle.bound_table.specs.Below.{each_takes, taken, spare, may_be_spare, below_one, below}
-use Rattle.bound_table.specs.Taking.{takes_fully, is_power_or_input, input_among}
+use Rattle.bound_table.specs.Kinds.{is_power_or_input}
+use Rattle.bound_table.specs.Taking.{takes_fully, input_among}
 use Rattle.bound_table.proofs.BelowLevels.{bound_weight, bounds_weight, bounds_weight-list_of, below_is}
 use Rattle.bound_table.proofs.Takes.{spare-split}
 
--- a bound that is neither a constant nor a greatest
-abbrev pub IsPlain : Size → Type 0
+-- a bound that is neither a constant nor a maximum
+abbrev pub IsPlain : plain.Bound → Type 0
 IsPlain (Constant c) = ⊥
-IsPlain (GreatestOf ps) = ⊥
+IsPlain (MaximumOf ps) = ⊥
 IsPlain b = Unit {0}
 
-pub below-plain : (a b : Size) → IsPlain a → below a b ≡ below_one (λ p q. below p q) a b
+-- the test on such a bound looks at the other one
+pub below-plain : (a b : plain.Bound) → IsPlain a → below a b ≡ below_one (λ p q. below p q) a b
 below-plain (Constant c) b plain = absurd plain
-below-plain (GreatestOf ps) b plain = absurd plain
+below-plain (MaximumOf ps) b plain = absurd plain
 below-plain (Input i) b plain = below_is (Input i) b
 below-plain (SumOf ps) b plain = below_is (SumOf ps) b
 below-plain (ProductOf ps) b plain = below_is (ProductOf ps) b
 below-plain (PowerOf c e) b plain = below_is (PowerOf c e) b
 
+-- a variable, a sum, a product or a power
+abbrev pub IsOneOfFour : Bound → Type 0
+IsOneOfFour a =
+    ((i : ℕ) × (a ≡ Var i))
+    ⊎ (((v : Vec Bound Global) × (a ≡ Sum v))
+    ⊎ (((v : Vec Bound Global) × (a ≡ Prod v)) ⊎ ((c : ℕ) × (e : Box Bound Global) × (a ≡ Power c e))))
+
 -- a bound of four kinds is plain
 pub IsPlain-kinds : (a : Bound)
-    → ((i : ℕ) × (a ≡ Var i)) ⊎ (((v : Vec Bound Global) × (a ≡ Sum v)) ⊎ (((v : Vec Bound Global) × (a ≡ Prod v)) ⊎ ((c : ℕ) × (e : Box Bound Global) × (a ≡ Power c e))))
-    → IsPlain (size_of a)
-IsPlain-kinds a (inl (i, e)) = subst IsPlain (sym (ap size_of e ∙ size_of-Var i)) tt
-IsPlain-kinds a (inr (inl (v, e))) = subst IsPlain (sym (ap size_of e ∙ size_of-Sum v)) tt
-IsPlain-kinds a (inr (inr (inl (v, e)))) = subst IsPlain (sym (ap size_of e ∙ size_of-Prod v)) tt
-IsPlain-kinds a (inr (inr (inr (c, x, e)))) = subst IsPlain (sym (ap size_of e ∙ size_of-Power c x)) tt
+    → IsOneOfFour a
+    → IsPlain (bound_of a)
+IsPlain-kinds a (inl (i, e)) = subst IsPlain (sym (ap bound_of e ∙ bound_of-Var i)) tt
+IsPlain-kinds a (inr (inl (v, e))) = subst IsPlain (sym (ap bound_of e ∙ bound_of-Sum v)) tt
+IsPlain-kinds a (inr (inr (inl (v, e)))) = subst IsPlain (sym (ap bound_of e ∙ bound_of-Prod v)) tt
+IsPlain-kinds a (inr (inr (inr (c, x, e)))) = subst IsPlain (sym (ap bound_of e ∙ bound_of-Power c x)) tt
 
-pub below-kinds : (a : Bound) (b : Size)
-    → ((i : ℕ) × (a ≡ Var i)) ⊎ (((v : Vec Bound Global) × (a ≡ Sum v)) ⊎ (((v : Vec Bound Global) × (a ≡ Prod v)) ⊎ ((c : ℕ) × (e : Box Bound Global) × (a ≡ Power c e))))
-    → below (size_of a) b ≡ below_one (λ p q. below p q) (size_of a) b
-below-kinds a b kinds = below-plain (size_of a) b (IsPlain-kinds a kinds)
+-- the same of a bound of the code
+pub below-kinds : (a : Bound) (b : plain.Bound)
+    → IsOneOfFour a
+    → below (bound_of a) b ≡ below_one (λ p q. below p q) (bound_of a) b
+below-kinds a b kinds = below-plain (bound_of a) b (IsPlain-kinds a kinds)
 
-pub below-constant : (c : ℕ) (b : Size) → below (Constant c) b ≡ ((c == 0) || below_one (λ p q. below p q) (Constant c) b)
+-- a constant is below where it is 0, or as any other bound
+pub below-constant : (c : ℕ) (b : plain.Bound)
+    → below (Constant c) b ≡ ((c == 0) || below_one (λ p q. below p q) (Constant c) b)
 below-constant zero b = below_is (Constant zero) b
-below-constant (suc c) b = below_is (Constant (suc c)) b ∙ sym (ap (λ v. v || below_one (λ p q. below p q) (Constant (suc c)) b) (eqb-suc-zero c))
+below-constant (suc c) b =
+    below_is (Constant (suc c)) b
+    ∙ sym (ap (λ v. v || below_one (λ p q. below p q) (Constant (suc c)) b) (eqb-suc-zero c))
 
-pub below-greatest : (a : Bound) (v : Vec Bound Global) (b : Size) → a ≡ Max v → below (size_of a) b ≡ list_all (λ p. below p b) (sizes_of v.items)
-below-greatest a v b e =
-    ap (λ s. below s b) (ap size_of e ∙ size_of-Max v)
-    ∙ below_is (GreatestOf (parts_of (sizes_of v.items))) b
-    ∙ ap (λ ps. list_all (λ p. below p b) ps) (list_of-parts_of (sizes_of v.items))
+-- a maximum is below where each of its parts is
+pub below-maximum : (a : Bound) (v : Vec Bound Global) (b : plain.Bound) → a ≡ Max v
+    → below (bound_of a) b ≡ list_all (λ p. below p b) (bounds_of v.items)
+below-maximum a v b e =
+    ap (λ s. below s b) (ap bound_of e ∙ bound_of-Max v)
+    ∙ below_is (MaximumOf (parts_of (bounds_of v.items))) b
+    ∙ ap (λ ps. list_all (λ p. below p b) ps) (list_of-parts_of (bounds_of v.items))
 
--- the parts of a greatest weigh less than it
-pub bounds_weight-greatest : (a : Bound) (v : Vec Bound Global) → a ≡ Max v → bounds_weight (sizes_of v.items) + 3 ≤ bound_weight (size_of a)
-bounds_weight-greatest a v e =
-    omega (arith, ap bound_weight (ap size_of e ∙ size_of-Max v), bounds_weight-list_of (parts_of (sizes_of v.items)), ap bounds_weight (list_of-parts_of (sizes_of v.items)))
+-- the parts of a maximum weigh less than it
+pub bounds_weight-maximum : (a : Bound) (v : Vec Bound Global) → a ≡ Max v
+    → bounds_weight (bounds_of v.items) + 3 ≤ bound_weight (bound_of a)
+bounds_weight-maximum a v e =
+    omega (arith, ap bound_weight (ap bound_of e ∙ bound_of-Max v), bounds_weight-list_of (parts_of (bounds_of v.items)), ap bounds_weight (list_of-parts_of (bounds_of v.items)))
 
 -- the end of a matching: where all found one, what is left over decides
-pub fully-unfound : (related : Size → Size → Bool) (left ps qs : List Size) → each_takes related left [] ≡ each_takes related ps qs
+pub fully-unfound : (related : plain.Bound → plain.Bound → Bool) (left ps qs : List plain.Bound)
+    → each_takes related left [] ≡ each_takes related ps qs
     → (length left == 0) ≡ false → false ≡ takes_fully related ps qs
 fully-unfound related [] ps qs found some = cc
-fully-unfound related (p ∷ left) ps qs found some = ap (λ v. v && list_all (may_be_spare (taken related ps qs)) (spare related ps qs)) found
+fully-unfound related (p ∷ left) ps qs found some =
+    ap (λ v. v && list_all (may_be_spare (taken related ps qs)) (spare related ps qs)) found
 
-pub fully-found : (related : Size → Size → Bool) (left ps qs : List Size) (fit among : Bool) → each_takes related left [] ≡ each_takes related ps qs
-    → (length left == 0) ≡ true → (fit && list_all is_power_or_input (spare related left [])) ≡ list_all is_power_or_input (spare related ps qs)
+-- and where each finds one, what is left over decides
+pub fully-found : (related : plain.Bound → plain.Bound → Bool) (left ps qs : List plain.Bound) (fit among : Bool)
+    → each_takes related left [] ≡ each_takes related ps qs
+    → (length left == 0) ≡ true
+    → (fit && list_all is_power_or_input (spare related left [])) ≡ list_all is_power_or_input (spare related ps qs)
     → among ≡ list_all (input_among (taken related ps qs)) qs → (fit && among) ≡ takes_fully related ps qs
 fully-found related [] ps qs fit among found none fits is =
     ap (λ v. v && among) (sym (and-true fit) ∙ fits)
@@ -77,17 +103,45 @@ fully-found related [] ps qs fit among found none fits is =
     and-true false = refl
 fully-found related (p ∷ left) ps qs fit among found none fits is = cc (eqb-suc-zero (length left))
 
+-- at the end of a loop over the others nothing of them is left; where a factor is, not all are taken
+pub loop-unfound : (related : plain.Bound → plain.Bound → Bool) (xs : List Bound) (rest ps qs : List plain.Bound)
+    → rest ≡ []
+    → each_takes related (bounds_of xs) rest ≡ each_takes related ps qs
+    → (length xs == 0) ≡ false
+    → false ≡ takes_fully related ps qs
+loop-unfound related xs rest ps qs none found some =
+    fully-unfound related (bounds_of xs) ps qs (sym (ap (each_takes related (bounds_of xs)) none) ∙ found)
+    (ap (λ (n : ℕ). n == 0) (length-map xs bound_of) ∙ some)
+
+-- and where none is, what is left over decides
+pub loop-found : (related : plain.Bound → plain.Bound → Bool) (xs : List Bound) (rest ps qs : List plain.Bound)
+    (fit among : Bool)
+    → rest ≡ []
+    → each_takes related (bounds_of xs) rest ≡ each_takes related ps qs
+    → (length xs == 0) ≡ true
+    → (fit && list_all is_power_or_input (spare related (bounds_of xs) rest))
+    ≡ list_all is_power_or_input (spare related ps qs)
+    → among ≡ list_all (input_among (taken related ps qs)) qs
+    → (fit && among) ≡ takes_fully related ps qs
+loop-found related xs rest ps qs fit among none found empty fits is =
+    let left = bounds_of xs in
+    let over = λ (gs : List plain.Bound). fit && list_all is_power_or_input (spare related left gs) in
+    fully-found related left ps qs fit among (sym (ap (each_takes related left) none) ∙ found)
+    (ap (λ (n : ℕ). n == 0) (length-map xs bound_of) ∙ empty)
+    (sym (ap over none) ∙ fits) is
+
 -- nothing is left of no parts
-pub each_takes-none : (related : Size → Size → Bool) (ps : List Size) → each_takes related ps [] ≡ (length ps == 0)
+pub each_takes-none : (related : plain.Bound → plain.Bound → Bool) (ps : List plain.Bound)
+    → each_takes related ps [] ≡ (length ps == 0)
 each_takes-none related [] = refl
 each_takes-none related (p ∷ ps) = sym (eqb-suc-zero (length ps))
 
--- a bound of five kinds is no greatest
-pub IsNoGreatest-kinds : (a : Bound)
-    → ((i : ℕ) × (a ≡ Const i)) ⊎ (((i : ℕ) × (a ≡ Var i)) ⊎ (((v : Vec Bound Global) × (a ≡ Sum v)) ⊎ (((v : Vec Bound Global) × (a ≡ Prod v)) ⊎ ((c : ℕ) × (e : Box Bound Global) × (a ≡ Power c e)))))
-    → IsNoGreatest (size_of a)
-IsNoGreatest-kinds a (inl (i, e)) = subst IsNoGreatest (sym (ap size_of e ∙ size_of-Const i)) tt
-IsNoGreatest-kinds a (inr (inl (i, e))) = subst IsNoGreatest (sym (ap size_of e ∙ size_of-Var i)) tt
-IsNoGreatest-kinds a (inr (inr (inl (v, e)))) = subst IsNoGreatest (sym (ap size_of e ∙ size_of-Sum v)) tt
-IsNoGreatest-kinds a (inr (inr (inr (inl (v, e))))) = subst IsNoGreatest (sym (ap size_of e ∙ size_of-Prod v)) tt
-IsNoGreatest-kinds a (inr (inr (inr (inr (c, x, e))))) = subst IsNoGreatest (sym (ap size_of e ∙ size_of-Power c x)) tt
+-- a bound of five kinds is no maximum
+pub IsNoMaximum-kinds : (a : Bound)
+    → ((i : ℕ) × (a ≡ Const i)) ⊎ IsOneOfFour a
+    → IsNoMaximum (bound_of a)
+IsNoMaximum-kinds a (inl (i, e)) = subst IsNoMaximum (sym (ap bound_of e ∙ bound_of-Const i)) tt
+IsNoMaximum-kinds a (inr (inl (i, e))) = subst IsNoMaximum (sym (ap bound_of e ∙ bound_of-Var i)) tt
+IsNoMaximum-kinds a (inr (inr (inl (v, e)))) = subst IsNoMaximum (sym (ap bound_of e ∙ bound_of-Sum v)) tt
+IsNoMaximum-kinds a (inr (inr (inr (inl (v, e))))) = subst IsNoMaximum (sym (ap bound_of e ∙ bound_of-Prod v)) tt
+IsNoMaximum-kinds a (inr (inr (inr (inr (c, x, e))))) = subst IsNoMaximum (sym (ap bound_of e ∙ bound_of-Power c x)) tt

@@ -1,30 +1,34 @@
--- A bound that is below another has no greater value: a factor that is taken is no smaller than the one that takes it, and a
--- factor that is left is at least 1, unless it is an input that is taken too, and then both products are 0.
-use Rattle.std.proofs.Common.{◌≡◌, ℕ, zero, suc, ◌+◌, ◌*◌, ◌^◌, ◌≤◌, ◌⊎◌, max, nat_le, Bool, true, false, cond, not, ◌&&◌, ◌||◌, List, [], ◌∷◌, slice_index, refl, ap, sym, ◌∙◌, inl, inr, arith}
+-- A bound that is below another has no greater value: a factor that is taken is no smaller than the one that takes it,
+-- and a factor that is left is at least 1, unless it is an input that is taken too, and then both products are 0.
+use Rattle.std.proofs.Common.{◌≡◌, ℕ, zero, suc, ◌+◌, ◌*◌, ◌^◌, ◌≤◌, ◌⊎◌, max, nat_le, Bool, true, false, cond, not}
+use Rattle.std.proofs.Common.{◌&&◌, ◌||◌, List, [], ◌∷◌, slice_index, refl, ap, sym, ◌∙◌, inl, inr, arith}
 use Rattle.std.specs.List.{list_any, list_all}
-use Rattle.std.proofs.Math.Nat.{mul-le-mul, pow-le-pow_left, pow-le-pow_right, one-le-pow}
+use Rattle.std.proofs.Math.Nat.{pow-le-pow_left, pow-le-pow_right, one-le-pow}
 use Rattle.std.proofs.lemmas.Bool.{and_parts, eqb-true, leb-true}
-use Rattle.model.specs.Bounds.{Size, Constant, Input, SumOf, ProductOf, GreatestOf, PowerOf, val, IsBased}
+use Rattle.model.specs.Bounds.{Bound, Constant, Input, SumOf, ProductOf, MaximumOf, PowerOf, val, IsBasedFrom, IsBased}
 use Rattle.bound_expr.specs.Views.{list_of}
 use Rattle.bound_expr.specs.Measure.{node_count}
-use Rattle.bound_table.specs.Kinds.{is_constant, is_same_input, is_nest}
+use Rattle.bound_expr.specs.Kinds.{is_constant}
+use Rattle.bound_table.specs.Kinds.{is_same_input, is_nest}
 use Rattle.bound_table.specs.Terms.{constant_of, factors_of}
-use Rattle.bound_table.specs.Below.{each_takes, taken, spare, may_be_spare, factor_below, term_below, terms_of, below_one, below_step, below_within, below, IsNeverGreater}
-use Rattle.bound_table.proofs.Products.{sum_at, product_at, greatest_at, AllBased, val_sum-list_of, val_greatest-list_of, AreBased-list_of, val-term, factors-based}
+use Rattle.bound_table.specs.Below.{each_takes, taken, spare, may_be_spare, factor_below, term_below, terms_of}
+use Rattle.bound_table.specs.Below.{below_one, below_step, below_within, below, IsNeverGreater}
+use Rattle.bound_expr.proofs.Caps.{le-mul}
+use Rattle.bound_table.proofs.Each.{Each, Each-list_of, Each-factors_of}
+use Rattle.bound_table.proofs.Products.{sum_at, product_at, maximum_at, val_sum-list_of, val_maximum-list_of, val-term}
 
 -- a test that holds only where the value is no greater at m
-abbrev IsSoundAt : List ℕ → (Size → Size → Bool) → Type 0
-IsSoundAt m related = (p q : Size) → IsBased p → IsBased q → related p q ≡ true → val p m ≤ val q m
-
-le-mul : (a b c d : ℕ) → a ≤ c → b ≤ d → a * b ≤ c * d
-le-mul a b c d = mul-le-mul
+abbrev IsSoundAt : List ℕ → (Bound → Bound → Bool) → Type 0
+IsSoundAt m related = (p q : Bound) → IsBased p → IsBased q → related p q ≡ true → val p m ≤ val q m
 
 -- those that are taken and those that are left are all
-product-taken-spare : (related : Size → Size → Bool) (fs gs : List Size) (m : List ℕ) → each_takes related fs gs ≡ true
+product-taken-spare : (related : Bound → Bound → Bool) (fs gs : List Bound) (m : List ℕ)
+    → each_takes related fs gs ≡ true
     → product_at gs m ≡ product_at (taken related fs gs) m * product_at (spare related fs gs) m
 product-taken-spare related [] gs m found = omega arith
 product-taken-spare related (f ∷ fs) [] m found = cc
-product-taken-spare related (f ∷ fs) (g ∷ gs) m found = go (related f g) found (product-taken-spare related fs gs m) (product-taken-spare related (f ∷ fs) gs m)
+product-taken-spare related (f ∷ fs) (g ∷ gs) m found =
+    go (related f g) found (product-taken-spare related fs gs m) (product-taken-spare related (f ∷ fs) gs m)
   where
     go : (takes : Bool) → cond takes (each_takes related fs gs) (each_takes related (f ∷ fs) gs) ≡ true
         → (each_takes related fs gs ≡ true → product_at gs m ≡ product_at (taken related fs gs) m * product_at (spare related fs gs) m)
@@ -35,35 +39,42 @@ product-taken-spare related (f ∷ fs) (g ∷ gs) m found = go (related f g) fou
     go false found ih ih' = omega (arith, ap (λ (v : ℕ). val g m * v) (ih' found))
 
 -- each factor is at most the one that it takes
-product-le-taken : (related : Size → Size → Bool) (fs gs : List Size) (m : List ℕ) → IsSoundAt m related → AllBased fs → AllBased gs
+product-le-taken : (related : Bound → Bound → Bool) (fs gs : List Bound) (m : List ℕ) → IsSoundAt m related
+    → Each IsBased fs → Each IsBased gs
     → each_takes related fs gs ≡ true → product_at fs m ≤ product_at (taken related fs gs) m
 product-le-taken related [] gs m sound bf bg found = omega arith
 product-le-taken related (f ∷ fs) [] m sound bf bg found = cc
 product-le-taken related (f ∷ fs) (g ∷ gs) m sound bf bg found =
-    go (related f g) refl found (product-le-taken related fs gs m sound bf.1 bg.1) (product-le-taken related (f ∷ fs) gs m sound bf bg.1)
+    go (related f g) refl found (product-le-taken related fs gs m sound bf.1 bg.1)
+    (product-le-taken related (f ∷ fs) gs m sound bf bg.1)
   where
-    go : (takes : Bool) → related f g ≡ takes → cond takes (each_takes related fs gs) (each_takes related (f ∷ fs) gs) ≡ true
+    go : (takes : Bool) → related f g ≡ takes
+        → cond takes (each_takes related fs gs) (each_takes related (f ∷ fs) gs) ≡ true
         → (each_takes related fs gs ≡ true → product_at fs m ≤ product_at (taken related fs gs) m)
         → (each_takes related (f ∷ fs) gs ≡ true → product_at (f ∷ fs) m ≤ product_at (taken related (f ∷ fs) gs) m)
         → product_at (f ∷ fs) m ≤ product_at (cond takes (g ∷ taken related fs gs) (taken related (f ∷ fs) gs)) m
-    go true is found ih ih' = le-mul (val f m) (product_at fs m) (val g m) (product_at (taken related fs gs) m) (sound f g bf.0 bg.0 is) (ih found)
+    go true is found ih ih' =
+        le-mul (val f m) (product_at fs m) (val g m) (product_at (taken related fs gs) m) (sound f g bf.0 bg.0 is)
+        (ih found)
     go false is found ih ih' = ih' found
 
 -- an input that is the same as one of a list is 0 only where the product of the list is
-same_input-val : (g t : Size) (m : List ℕ) → is_same_input g t ≡ true → val g m ≡ val t m
+same_input-val : (g t : Bound) (m : List ℕ) → is_same_input g t ≡ true → val g m ≡ val t m
 same_input-val (Input i) (Input j) m same = ap (λ (k : ℕ). slice_index m k) (eqb-true i j same)
 same_input-val (Constant c) t m same = cc
 same_input-val (SumOf ps) t m same = cc
 same_input-val (ProductOf ps) t m same = cc
-same_input-val (GreatestOf ps) t m same = cc
+same_input-val (MaximumOf ps) t m same = cc
 same_input-val (PowerOf c e) t m same = cc
 same_input-val (Input i) (Constant c) m same = cc
 same_input-val (Input i) (SumOf ps) m same = cc
 same_input-val (Input i) (ProductOf ps) m same = cc
-same_input-val (Input i) (GreatestOf ps) m same = cc
+same_input-val (Input i) (MaximumOf ps) m same = cc
 same_input-val (Input i) (PowerOf c e) m same = cc
 
-among-zero : (g : Size) (ts : List Size) (m : List ℕ) → list_any (is_same_input g) ts ≡ true → val g m ≡ 0 → product_at ts m ≡ 0
+-- where such an input is 0 the product is
+among-zero : (g : Bound) (ts : List Bound) (m : List ℕ) → list_any (is_same_input g) ts ≡ true → val g m ≡ 0
+    → product_at ts m ≡ 0
 among-zero g [] m any none = cc
 among-zero g (t ∷ ts) m any none = go (is_same_input g t) refl any (among-zero g ts m)
   where
@@ -73,7 +84,8 @@ among-zero g (t ∷ ts) m any none = go (is_same_input g t) refl any (among-zero
     go false is any ih = ap (λ (v : ℕ). val t m * v) (ih any none) ∙ omega arith
 
 -- a factor that may be left is at least 1, or those that are taken make 0
-spare-one : (ts : List Size) (g : Size) (m : List ℕ) → IsBased g → may_be_spare ts g ≡ true → (1 ≤ val g m) ⊎ (product_at ts m ≡ 0)
+spare-one : (ts : List Bound) (g : Bound) (m : List ℕ) → IsBased g → may_be_spare ts g ≡ true
+    → (1 ≤ val g m) ⊎ (product_at ts m ≡ 0)
 spare-one ts (PowerOf c e) m based may = inl (one-le-pow (val e m) c based.0)
 spare-one ts (Input i) m based may = go (val (Input i) m) refl
   where
@@ -83,28 +95,37 @@ spare-one ts (Input i) m based may = go (val (Input i) m) refl
 spare-one ts (Constant c) m based may = cc
 spare-one ts (SumOf ps) m based may = cc
 spare-one ts (ProductOf ps) m based may = cc
-spare-one ts (GreatestOf ps) m based may = cc
+spare-one ts (MaximumOf ps) m based may = cc
 
-spares-one : (ts gs : List Size) (m : List ℕ) → AllBased gs → list_all (may_be_spare ts) gs ≡ true → (1 ≤ product_at gs m) ⊎ (product_at ts m ≡ 0)
+-- the same of all factors that are left
+spares-one : (ts gs : List Bound) (m : List ℕ) → Each IsBased gs → list_all (may_be_spare ts) gs ≡ true
+    → (1 ≤ product_at gs m) ⊎ (product_at ts m ≡ 0)
 spares-one ts [] m based all = inl (omega arith)
-spares-one ts (g ∷ gs) m based all = go (spare-one ts g m based.0 (and_parts _ _ all).0) (spares-one ts gs m based.1 (and_parts _ _ all).1)
+spares-one ts (g ∷ gs) m based all =
+    go (spare-one ts g m based.0 (and_parts _ _ all).0) (spares-one ts gs m based.1 (and_parts _ _ all).1)
   where
-    go : (1 ≤ val g m) ⊎ (product_at ts m ≡ 0) → (1 ≤ product_at gs m) ⊎ (product_at ts m ≡ 0) → (1 ≤ val g m * product_at gs m) ⊎ (product_at ts m ≡ 0)
+    go : (1 ≤ val g m) ⊎ (product_at ts m ≡ 0) → (1 ≤ product_at gs m) ⊎ (product_at ts m ≡ 0)
+        → (1 ≤ val g m * product_at gs m) ⊎ (product_at ts m ≡ 0)
     go (inl one) (inl ones) = inl (le-mul 1 1 (val g m) (product_at gs m) one ones)
     go (inl one) (inr none) = inr none
     go (inr none) ones = inr none
 
-spare-based : (related : Size → Size → Bool) (fs gs : List Size) → AllBased gs → AllBased (spare related fs gs)
+-- what is left has the bases of all
+spare-based : (related : Bound → Bound → Bool) (fs gs : List Bound) → Each IsBased gs
+    → Each IsBased (spare related fs gs)
 spare-based related [] gs based = based
 spare-based related (f ∷ fs) [] based = tt
-spare-based related (f ∷ fs) (g ∷ gs) based = go (related f g) (spare-based related fs gs based.1) (spare-based related (f ∷ fs) gs based.1)
+spare-based related (f ∷ fs) (g ∷ gs) based =
+    go (related f g) (spare-based related fs gs based.1) (spare-based related (f ∷ fs) gs based.1)
   where
-    go : (takes : Bool) → AllBased (spare related fs gs) → AllBased (spare related (f ∷ fs) gs) → AllBased (cond takes (spare related fs gs) (g ∷ spare related (f ∷ fs) gs))
+    go : (takes : Bool) → Each IsBased (spare related fs gs) → Each IsBased (spare related (f ∷ fs) gs)
+        → Each IsBased (cond takes (spare related fs gs) (g ∷ spare related (f ∷ fs) gs))
     go true ih ih' = ih
     go false ih ih' = (based.0, ih')
 
 -- products of factors
-factors-le : (related : Size → Size → Bool) (fs gs : List Size) (m : List ℕ) → IsSoundAt m related → AllBased fs → AllBased gs
+factors-le : (related : Bound → Bound → Bool) (fs gs : List Bound) (m : List ℕ) → IsSoundAt m related → Each IsBased fs
+    → Each IsBased gs
     → each_takes related fs gs ≡ true → list_all (may_be_spare (taken related fs gs)) (spare related fs gs) ≡ true
     → product_at fs m ≤ product_at gs m
 factors-le related fs gs m sound bf bg found all =
@@ -113,27 +134,37 @@ factors-le related fs gs m sound bf bg found all =
     less : product_at fs m ≤ product_at (taken related fs gs) m
     less = product-le-taken related fs gs m sound bf bg found
 
-    go : (1 ≤ product_at (spare related fs gs) m) ⊎ (product_at (taken related fs gs) m ≡ 0) → product_at fs m ≤ product_at gs m
+    go : (1 ≤ product_at (spare related fs gs) m) ⊎ (product_at (taken related fs gs) m ≡ 0)
+        → product_at fs m ≤ product_at gs m
     go (inl ones) =
         omega (
           arith,
           less,
           product-taken-spare related fs gs m found,
-          le-mul (product_at (taken related fs gs) m) 1 (product_at (taken related fs gs) m) (product_at (spare related fs gs) m) (omega arith) ones,
+          le-mul (product_at (taken related fs gs) m) 1 (product_at (taken related fs gs) m)
+              (product_at (spare related fs gs) m) (omega arith) ones,
         )
     go (inr none) = omega (arith, less, none)
 
+-- a power is no greater where base and exponent are not
 powers-le : (c e d f : ℕ) → 1 ≤ c → c ≤ d → e ≤ f → c ^ e ≤ d ^ f
-powers-le c e d f one bases exponents = omega (arith, pow-le-pow_left bases e, pow-le-pow_right {n = d} (omega arith) exponents)
+powers-le c e d f one bases exponents =
+    omega (arith, pow-le-pow_left bases e, pow-le-pow_right {n = d} (omega arith) exponents)
 
-factor_below-sound : (smaller : Size → Size → Bool) (m : List ℕ) → IsSoundAt m smaller → IsSoundAt m (factor_below smaller)
-factor_below-sound smaller m sound (Input i) (Input j) bp bq holds = omega (arith, same_input-val (Input i) (Input j) m holds)
+-- so the test on factors is sound where that on bounds is
+factor_below-sound : (smaller : Bound → Bound → Bool) (m : List ℕ) → IsSoundAt m smaller
+    → IsSoundAt m (factor_below smaller)
+factor_below-sound smaller m sound (Input i) (Input j) bp bq holds =
+    omega (arith, same_input-val (Input i) (Input j) m holds)
 factor_below-sound smaller m sound (PowerOf c e) (PowerOf d f) bp bq holds =
-    powers-le c (val e m) d (val f m) bp.0 (leb-true c d (and_parts _ _ holds).0) (sound e f bp.1 bq.1 (and_parts _ _ holds).1)
-factor_below-sound smaller m sound p q bp bq holds = sound p q bp bq (and_parts (is_nest p || is_nest q) (smaller p q) holds).1
+    powers-le c (val e m) d (val f m) bp.0 (leb-true c d (and_parts _ _ holds).0)
+    (sound e f bp.1 bq.1 (and_parts _ _ holds).1)
+factor_below-sound smaller m sound p q bp bq holds =
+    sound p q bp bq (and_parts (is_nest p || is_nest q) (smaller p q) holds).1
 
 -- products with their constants
-term_below-sound : (smaller : Size → Size → Bool) (m : List ℕ) → IsSoundAt m smaller → IsSoundAt m (term_below smaller)
+term_below-sound : (smaller : Bound → Bound → Bool) (m : List ℕ) → IsSoundAt m smaller
+    → IsSoundAt m (term_below smaller)
 term_below-sound smaller m sound p q bp bq holds =
     let fs = factors_of p in
     let gs = factors_of q in
@@ -146,96 +177,118 @@ term_below-sound smaller m sound p q bp bq holds =
     let four = and_parts (no_constant && none_either && constant_le && found) left holds in
     let three = and_parts (no_constant && none_either && constant_le) found four.0 in
     let two = and_parts (no_constant && none_either) constant_le three.0 in
-    let product = factors-le related fs gs m (factor_below-sound smaller m sound) (factors-based p bp) (factors-based q bq) three.1 four.1 in
+    let product =
+    factors-le related fs gs m (factor_below-sound smaller m sound) (Each-factors_of (IsBasedFrom 1) p bp) (Each-factors_of (IsBasedFrom 1) q bq) three.1 four.1 in
     omega (
       arith,
       val-term p m,
       val-term q m,
-      le-mul (constant_of p) (product_at fs m) (constant_of q) (product_at gs m) (leb-true (constant_of p) (constant_of q) two.1) product,
+      le-mul (constant_of p) (product_at fs m) (constant_of q) (product_at gs m)
+          (leb-true (constant_of p) (constant_of q) two.1) product,
     )
 
 -- sums of parts
-each_takes-sum : (related : Size → Size → Bool) (ps qs : List Size) (m : List ℕ) → IsSoundAt m related → AllBased ps → AllBased qs
+each_takes-sum : (related : Bound → Bound → Bool) (ps qs : List Bound) (m : List ℕ) → IsSoundAt m related
+    → Each IsBased ps → Each IsBased qs
     → each_takes related ps qs ≡ true → sum_at ps m ≤ sum_at qs m
 each_takes-sum related [] qs m sound bp bq found = omega arith
 each_takes-sum related (p ∷ ps) [] m sound bp bq found = cc
 each_takes-sum related (p ∷ ps) (q ∷ qs) m sound bp bq found =
-    go (related p q) refl found (each_takes-sum related ps qs m sound bp.1 bq.1) (each_takes-sum related (p ∷ ps) qs m sound bp bq.1)
+    go (related p q) refl found (each_takes-sum related ps qs m sound bp.1 bq.1)
+    (each_takes-sum related (p ∷ ps) qs m sound bp bq.1)
   where
-    go : (takes : Bool) → related p q ≡ takes → cond takes (each_takes related ps qs) (each_takes related (p ∷ ps) qs) ≡ true
+    go : (takes : Bool) → related p q ≡ takes
+        → cond takes (each_takes related ps qs) (each_takes related (p ∷ ps) qs) ≡ true
         → (each_takes related ps qs ≡ true → sum_at ps m ≤ sum_at qs m)
         → (each_takes related (p ∷ ps) qs ≡ true → sum_at (p ∷ ps) m ≤ sum_at qs m)
         → sum_at (p ∷ ps) m ≤ sum_at (q ∷ qs) m
     go true is found ih ih' = omega (arith, sound p q bp.0 bq.0 is, ih found)
     go false is found ih ih' = omega (arith, ih' found)
 
-terms-sum : (b : Size) (m : List ℕ) → sum_at (terms_of b) m ≡ val b m
+-- a bound is the sum of its parts
+terms-sum : (b : Bound) (m : List ℕ) → sum_at (terms_of b) m ≡ val b m
 terms-sum (SumOf ps) m = sym (val_sum-list_of ps m)
 terms-sum (Constant c) m = omega arith
 terms-sum (Input i) m = omega arith
 terms-sum (ProductOf ps) m = omega arith
-terms-sum (GreatestOf ps) m = omega arith
+terms-sum (MaximumOf ps) m = omega arith
 terms-sum (PowerOf c e) m = omega arith
 
-terms-based : (b : Size) → IsBased b → AllBased (terms_of b)
-terms-based (SumOf ps) based = AreBased-list_of ps based
+-- the parts of a bound have its bases
+terms-based : (b : Bound) → IsBased b → Each IsBased (terms_of b)
+terms-based (SumOf ps) based = Each-list_of (IsBasedFrom 1) ps based.1
 terms-based (Constant c) based = (based, tt)
 terms-based (Input i) based = (based, tt)
 terms-based (ProductOf ps) based = (based, tt)
-terms-based (GreatestOf ps) based = (based, tt)
+terms-based (MaximumOf ps) based = (based, tt)
 terms-based (PowerOf c e) based = (based, tt)
 
-terms-le : (smaller : Size → Size → Bool) (m : List ℕ) → IsSoundAt m smaller → (a b : Size) → IsBased a → IsBased b
+-- sums whose parts take parts are no greater
+terms-le : (smaller : Bound → Bound → Bool) (m : List ℕ) → IsSoundAt m smaller → (a b : Bound) → IsBased a → IsBased b
     → each_takes (term_below smaller) (terms_of a) (terms_of b) ≡ true → val a m ≤ val b m
 terms-le smaller m sound a b ba bb found =
     omega (
       arith,
       terms-sum a m,
       terms-sum b m,
-      each_takes-sum (term_below smaller) (terms_of a) (terms_of b) m (term_below-sound smaller m sound) (terms-based a ba) (terms-based b bb) found,
+      each_takes-sum (term_below smaller) (terms_of a) (terms_of b) m (term_below-sound smaller m sound)
+          (terms-based a ba) (terms-based b bb) found,
     )
 
-any-le : (smaller : Size → Size → Bool) (a : Size) (qs : List Size) (m : List ℕ) → IsSoundAt m smaller → IsBased a → AllBased qs
-    → list_any (λ q. smaller a q) qs ≡ true → val a m ≤ greatest_at qs m
+-- a bound below a part of a maximum is no greater than that
+any-le : (smaller : Bound → Bound → Bool) (a : Bound) (qs : List Bound) (m : List ℕ) → IsSoundAt m smaller → IsBased a
+    → Each IsBased qs
+    → list_any (λ q. smaller a q) qs ≡ true → val a m ≤ maximum_at qs m
 any-le smaller a [] m sound ba bq any = cc
 any-le smaller a (q ∷ qs) m sound ba bq any = go (smaller a q) refl any (any-le smaller a qs m sound ba bq.1)
   where
     go : (is : Bool) → smaller a q ≡ is → is || list_any (λ q. smaller a q) qs ≡ true
-        → (list_any (λ q. smaller a q) qs ≡ true → val a m ≤ greatest_at qs m) → val a m ≤ max (val q m) (greatest_at qs m)
+        → (list_any (λ q. smaller a q) qs ≡ true → val a m ≤ maximum_at qs m)
+        → val a m ≤ max (val q m) (maximum_at qs m)
     go true is any ih = omega (arith, sound a q ba bq.0 is)
     go false is any ih = omega (arith, ih any)
 
-all-le : (smaller : Size → Size → Bool) (ps : List Size) (b : Size) (m : List ℕ) → IsSoundAt m smaller → AllBased ps → IsBased b
-    → list_all (λ p. smaller p b) ps ≡ true → greatest_at ps m ≤ val b m
+-- a maximum whose parts are all below is no greater
+all-le : (smaller : Bound → Bound → Bool) (ps : List Bound) (b : Bound) (m : List ℕ) → IsSoundAt m smaller
+    → Each IsBased ps → IsBased b
+    → list_all (λ p. smaller p b) ps ≡ true → maximum_at ps m ≤ val b m
 all-le smaller [] b m sound bp bb all = omega arith
 all-le smaller (p ∷ ps) b m sound bp bb all =
     let both = and_parts (smaller p b) (list_all (λ p. smaller p b) ps) all in
     omega (arith, sound p b bp.0 bb both.0, all-le smaller ps b m sound bp.1 bb both.1)
 
-below_one-sound : (smaller : Size → Size → Bool) (m : List ℕ) → IsSoundAt m smaller → IsSoundAt m (below_one smaller)
-below_one-sound smaller m sound a (GreatestOf qs) ba bb holds =
-    omega (arith, val_greatest-list_of qs m, any-le smaller a (list_of qs) m sound ba (AreBased-list_of qs bb) holds)
+-- so the test on a bound that is no maximum is sound
+below_one-sound : (smaller : Bound → Bound → Bool) (m : List ℕ) → IsSoundAt m smaller → IsSoundAt m (below_one smaller)
+below_one-sound smaller m sound a (MaximumOf qs) ba bb holds =
+    omega (arith, val_maximum-list_of qs m, any-le smaller a (list_of qs) m sound ba (Each-list_of (IsBasedFrom 1) qs bb.1) holds)
 below_one-sound smaller m sound a (Constant c) ba bb holds = terms-le smaller m sound a (Constant c) ba bb holds
 below_one-sound smaller m sound a (Input i) ba bb holds = terms-le smaller m sound a (Input i) ba bb holds
 below_one-sound smaller m sound a (SumOf qs) ba bb holds = terms-le smaller m sound a (SumOf qs) ba bb holds
 below_one-sound smaller m sound a (ProductOf qs) ba bb holds = terms-le smaller m sound a (ProductOf qs) ba bb holds
 below_one-sound smaller m sound a (PowerOf c e) ba bb holds = terms-le smaller m sound a (PowerOf c e) ba bb holds
 
-below_step-sound : (smaller : Size → Size → Bool) (m : List ℕ) → IsSoundAt m smaller → IsSoundAt m (below_step smaller)
+-- and one level of the test
+below_step-sound : (smaller : Bound → Bound → Bool) (m : List ℕ) → IsSoundAt m smaller
+    → IsSoundAt m (below_step smaller)
 below_step-sound smaller m sound (Constant zero) b ba bb holds = omega arith
-below_step-sound smaller m sound (Constant (suc c)) b ba bb holds = below_one-sound smaller m sound (Constant (suc c)) b ba bb holds
-below_step-sound smaller m sound (GreatestOf ps) b ba bb holds =
-    omega (arith, val_greatest-list_of ps m, all-le smaller (list_of ps) b m sound (AreBased-list_of ps ba) bb holds)
+below_step-sound smaller m sound (Constant (suc c)) b ba bb holds =
+    below_one-sound smaller m sound (Constant (suc c)) b ba bb holds
+below_step-sound smaller m sound (MaximumOf ps) b ba bb holds =
+    omega (arith, val_maximum-list_of ps m, all-le smaller (list_of ps) b m sound (Each-list_of (IsBasedFrom 1) ps ba.1) bb holds)
 below_step-sound smaller m sound (Input i) b ba bb holds = below_one-sound smaller m sound (Input i) b ba bb holds
 below_step-sound smaller m sound (SumOf ps) b ba bb holds = below_one-sound smaller m sound (SumOf ps) b ba bb holds
-below_step-sound smaller m sound (ProductOf ps) b ba bb holds = below_one-sound smaller m sound (ProductOf ps) b ba bb holds
-below_step-sound smaller m sound (PowerOf c e) b ba bb holds = below_one-sound smaller m sound (PowerOf c e) b ba bb holds
+below_step-sound smaller m sound (ProductOf ps) b ba bb holds =
+    below_one-sound smaller m sound (ProductOf ps) b ba bb holds
+below_step-sound smaller m sound (PowerOf c e) b ba bb holds =
+    below_one-sound smaller m sound (PowerOf c e) b ba bb holds
 
+-- and any number of levels
 below_within-sound : (n : ℕ) (m : List ℕ) → IsSoundAt m (λ p q. below_within n p q)
 below_within-sound zero m a b ba bb holds = cc
-below_within-sound (suc n) m a b ba bb holds = below_step-sound (λ p q. below_within n p q) m (below_within-sound n m) a b ba bb holds
+below_within-sound (suc n) m a b ba bb holds =
+    below_step-sound (λ p q. below_within n p q) m (below_within-sound n m) a b ba bb holds
 
 -- below is sound
-pub below-sound : (a b : Size) → IsBased a → IsBased b → below a b ≡ true → IsNeverGreater a b
+pub below-sound : (a b : Bound) → IsBased a → IsBased b → below a b ≡ true → IsNeverGreater a b
 unfolding below
 below-sound a b ba bb holds = record { each = λ m. below_within-sound (node_count a + node_count b) m a b ba bb holds }

@@ -1,88 +1,75 @@
 -- Each case keeps the value of a node.
-use Rattle.std.proofs.Common.{◌≡◌, ℕ, zero, suc, ◌+◌, ◌*◌, ◌^◌, ◌≤◌, max, nat_lt, nat_le, Bool, true, false, cond, ◌&&◌, ◌||◌, List, [], ◌∷◌, ◌++◌, refl, ap, sym, ◌∙◌, length, arith}
+use Rattle.std.proofs.Common.{◌≡◌, ℕ, zero, suc, ◌*◌, ◌≤◌, nat_le, Bool, true, false, cond, ◌&&◌, ◌||◌, List}
+use Rattle.std.proofs.Common.{[], ◌∷◌, ◌++◌, refl, ap, sym, ◌∙◌, arith}
 use Rattle.std.specs.List.{list_any}
 use Rattle.std.specs.Ordering.{is_lt}
 use Rattle.std.proofs.lemmas.Bool.{eqb-true, leb-true}
 use Rattle.std.proofs.Math.Nat.{mul_assoc, mul_comm}
-use Rattle.model.specs.Bounds.{Size, Constant, Input, SumOf, ProductOf, GreatestOf, PowerOf, Parts, NoParts, Part, val, val_sum, val_product, val_greatest}
-use Rattle.bound_expr.specs.Views.{parts_of, list_of}
+use Rattle.model.specs.Bounds.{Bound, Constant, Input, SumOf, ProductOf, MaximumOf, PowerOf, val}
+use Rattle.bound_expr.specs.Kinds.{is_constant}
+use Rattle.bound_expr.specs.Limits.{constant_limit}
 use Rattle.bound_table.specs.declared.kinds.Kind.{Kind}
 use Rattle.bound_table.specs.declared.kinds.Kind.TheVariants.{AsSum, AsProd, AsMax}
+use Rattle.bound_table.specs.Counting.{how_many}
 use Rattle.bound_table.specs.Kinds.{whole, unit_of, joined, all_joined, is_zero}
-use Rattle.bound_table.specs.Folding.{spread, spliced, constants_in, without_constants, with_one_constant, folded, zeroed, is_neutral, without_neutral, simple}
-use Rattle.bound_table.specs.Sorting.{order_of, placed, sorted}
+use Rattle.bound_table.specs.Folding.{spread, spliced, constants_in, without_constants, with_one_constant, folded}
+use Rattle.bound_table.specs.Folding.{zeroed, is_neutral, without_neutral, simple}
+use Rattle.bound_table.specs.Sorting.{order_of, inserted, sorted}
+use Rattle.bound_table.proofs.Products.{parts_at, val_sum-list_of, val_product-list_of, val_maximum-list_of}
+use Rattle.bound_table.proofs.Products.{val_sum-parts_of, val_product-parts_of, val_maximum-parts_of}
 
--- the values of parts joined as the kind joins them
-abbrev pub parts_at : Kind → List Size → List ℕ → ℕ
-parts_at k [] m = unit_of k
-parts_at k (p ∷ ps) m = joined k (val p m) (parts_at k ps m)
-
+-- numbers are joined in any grouping
 joined-assoc : (k : Kind) (a b c : ℕ) → joined k (joined k a b) c ≡ joined k a (joined k b c)
 joined-assoc AsSum a b c = omega arith
 joined-assoc AsProd a b c = mul_assoc a b c
 joined-assoc AsMax a b c = omega arith
 
+-- and in any order
 joined-comm : (k : Kind) (a b : ℕ) → joined k a b ≡ joined k b a
 joined-comm AsSum a b = omega arith
 joined-comm AsProd a b = mul_comm a b
 joined-comm AsMax a b = omega arith
 
+-- what nothing comes to changes nothing behind a number
 joined-unit : (k : Kind) (a : ℕ) → joined k a (unit_of k) ≡ a
 joined-unit AsSum a = omega arith
 joined-unit AsProd a = omega arith
 joined-unit AsMax a = omega arith
 
+-- nor before it
 unit-joined : (k : Kind) (a : ℕ) → joined k (unit_of k) a ≡ a
 unit-joined AsSum a = omega arith
 unit-joined AsProd a = omega arith
 unit-joined AsMax a = omega arith
 
+-- two numbers change places before a third
 joined-swap : (k : Kind) (a b c : ℕ) → joined k a (joined k b c) ≡ joined k b (joined k a c)
-joined-swap k a b c = sym (joined-assoc k a b c) ∙ ap (λ (v : ℕ). joined k v c) (joined-comm k a b) ∙ joined-assoc k b a c
+joined-swap k a b c =
+    sym (joined-assoc k a b c) ∙ ap (λ (v : ℕ). joined k v c) (joined-comm k a b) ∙ joined-assoc k b a c
 
 -- the value of a node
-val_sum-at : (ps : List Size) (m : List ℕ) → val_sum (parts_of ps) m ≡ parts_at AsSum ps m
-val_sum-at [] m = refl
-val_sum-at (p ∷ ps) m = ap (λ (v : ℕ). val p m + v) (val_sum-at ps m)
+pub val-whole : (k : Kind) (ps : List Bound) (m : List ℕ) → val (whole k ps) m ≡ parts_at k ps m
+val-whole AsSum ps m = val_sum-parts_of ps m
+val-whole AsProd ps m = val_product-parts_of ps m
+val-whole AsMax ps m = val_maximum-parts_of ps m
 
-val_product-at : (ps : List Size) (m : List ℕ) → val_product (parts_of ps) m ≡ parts_at AsProd ps m
-val_product-at [] m = refl
-val_product-at (p ∷ ps) m = ap (λ (v : ℕ). val p m * v) (val_product-at ps m)
-
-val_greatest-at : (ps : List Size) (m : List ℕ) → val_greatest (parts_of ps) m ≡ parts_at AsMax ps m
-val_greatest-at [] m = refl
-val_greatest-at (p ∷ ps) m = ap (λ (v : ℕ). max (val p m) v) (val_greatest-at ps m)
-
-pub val-whole : (k : Kind) (ps : List Size) (m : List ℕ) → val (whole k ps) m ≡ parts_at k ps m
-val-whole AsSum ps m = val_sum-at ps m
-val-whole AsProd ps m = val_product-at ps m
-val-whole AsMax ps m = val_greatest-at ps m
-
-parts_at-append : (k : Kind) (ps qs : List Size) (m : List ℕ) → parts_at k (ps ++ qs) m ≡ joined k (parts_at k ps m) (parts_at k qs m)
+-- two lists of parts come to the two joined
+parts_at-append : (k : Kind) (ps qs : List Bound) (m : List ℕ)
+    → parts_at k (ps ++ qs) m ≡ joined k (parts_at k ps m) (parts_at k qs m)
 parts_at-append k [] qs m = sym (unit-joined k (parts_at k qs m))
 parts_at-append k (p ∷ ps) qs m =
-    ap (joined k (val p m)) (parts_at-append k ps qs m) ∙ sym (joined-assoc k (val p m) (parts_at k ps m) (parts_at k qs m))
+    ap (joined k (val p m)) (parts_at-append k ps qs m)
+    ∙ sym (joined-assoc k (val p m) (parts_at k ps m) (parts_at k qs m))
 
 -- Flat
-parts_at-list_sum : (ps : Parts) (m : List ℕ) → parts_at AsSum (list_of ps) m ≡ val_sum ps m
-parts_at-list_sum NoParts m = refl
-parts_at-list_sum (Part p ps) m = ap (λ (v : ℕ). val p m + v) (parts_at-list_sum ps m)
-
-parts_at-list_product : (ps : Parts) (m : List ℕ) → parts_at AsProd (list_of ps) m ≡ val_product ps m
-parts_at-list_product NoParts m = refl
-parts_at-list_product (Part p ps) m = ap (λ (v : ℕ). val p m * v) (parts_at-list_product ps m)
-
-parts_at-list_greatest : (ps : Parts) (m : List ℕ) → parts_at AsMax (list_of ps) m ≡ val_greatest ps m
-parts_at-list_greatest NoParts m = refl
-parts_at-list_greatest (Part p ps) m = ap (λ (v : ℕ). max (val p m) v) (parts_at-list_greatest ps m)
-
-parts_at-spread : (k : Kind) (p : Size) (m : List ℕ) → parts_at k (spread k p) m ≡ val p m
-parts_at-spread AsSum (SumOf ps) m = parts_at-list_sum ps m
-parts_at-spread AsProd (ProductOf ps) m = parts_at-list_product ps m
-parts_at-spread AsMax (GreatestOf ps) m = parts_at-list_greatest ps m
+parts_at-spread : (k : Kind) (p : Bound) (m : List ℕ) → parts_at k (spread k p) m ≡ val p m
+parts_at-spread AsSum (SumOf ps) m = sym (val_sum-list_of ps m)
+parts_at-spread AsProd (ProductOf ps) m = sym (val_product-list_of ps m)
+parts_at-spread AsMax (MaximumOf ps) m = sym (val_maximum-list_of ps m)
 parts_at-spread k p m = joined-unit k (val p m)
 
-pub parts_at-spliced : (k : Kind) (ps : List Size) (m : List ℕ) → parts_at k (spliced k ps) m ≡ parts_at k ps m
+-- splicing keeps the value
+pub parts_at-spliced : (k : Kind) (ps : List Bound) (m : List ℕ) → parts_at k (spliced k ps) m ≡ parts_at k ps m
 parts_at-spliced k [] m = refl
 parts_at-spliced k (p ∷ ps) m =
     parts_at-append k (spread k p) (spliced k ps) m
@@ -90,51 +77,61 @@ parts_at-spliced k (p ∷ ps) m =
     ∙ ap (joined k (val p m)) (parts_at-spliced k ps m)
 
 -- FoldConst
-parts_at-constants : (k : Kind) (ps : List Size) (m : List ℕ)
+parts_at-constants : (k : Kind) (ps : List Bound) (m : List ℕ)
     → parts_at k ps m ≡ joined k (all_joined k (constants_in ps)) (parts_at k (without_constants ps) m)
 parts_at-constants k [] m = sym (joined-unit k (unit_of k))
 parts_at-constants k (Constant c ∷ ps) m =
-    ap (joined k c) (parts_at-constants k ps m) ∙ sym (joined-assoc k c (all_joined k (constants_in ps)) (parts_at k (without_constants ps) m))
+    ap (joined k c) (parts_at-constants k ps m)
+    ∙ sym (joined-assoc k c (all_joined k (constants_in ps)) (parts_at k (without_constants ps) m))
 parts_at-constants k (p ∷ ps) m =
-    ap (joined k (val p m)) (parts_at-constants k ps m) ∙ joined-swap k (val p m) (all_joined k (constants_in ps)) (parts_at k (without_constants ps) m)
+    ap (joined k (val p m)) (parts_at-constants k ps m)
+    ∙ joined-swap k (val p m) (all_joined k (constants_in ps)) (parts_at k (without_constants ps) m)
 
-parts_at-with_one_constant : (k : Kind) (c : ℕ) (ps : List Size) (m : List ℕ) → 1 ≤ length (constants_in ps)
+-- one constant in place of all comes to it and the others
+parts_at-with_one_constant : (k : Kind) (c : ℕ) (ps : List Bound) (m : List ℕ) → 1 ≤ how_many is_constant ps
     → parts_at k (with_one_constant c ps) m ≡ joined k c (parts_at k (without_constants ps) m)
 parts_at-with_one_constant k c [] m some = absurd (omega arith)
 parts_at-with_one_constant k c (Constant d ∷ ps) m some = refl
 parts_at-with_one_constant k c (p ∷ ps) m some =
-    ap (joined k (val p m)) (parts_at-with_one_constant k c ps m some) ∙ joined-swap k (val p m) c (parts_at k (without_constants ps) m)
+    ap (joined k (val p m)) (parts_at-with_one_constant k c ps m (omega (arith, some)))
+    ∙ joined-swap k (val p m) c (parts_at k (without_constants ps) m)
 
-pub parts_at-folded : (k : Kind) (ps : List Size) (m : List ℕ) → parts_at k (folded k ps) m ≡ parts_at k ps m
-parts_at-folded k ps m = go (nat_le 2 (length (constants_in ps))) (nat_lt (all_joined k (constants_in ps)) (2 ^ 127)) refl
+-- folding keeps the value
+pub parts_at-folded : (k : Kind) (ps : List Bound) (m : List ℕ) → parts_at k (folded k ps) m ≡ parts_at k ps m
+parts_at-folded k ps m =
+    go (nat_le 2 (how_many is_constant ps)) (nat_le (all_joined k (constants_in ps)) constant_limit) refl
   where
-    go : (many small : Bool) → nat_le 2 (length (constants_in ps)) ≡ many
-        → parts_at k (cond (many && small) (with_one_constant (all_joined k (constants_in ps)) ps) ps) m ≡ parts_at k ps m
+    go : (many small : Bool) → nat_le 2 (how_many is_constant ps) ≡ many
+        → parts_at k (cond (many && small) (with_one_constant (all_joined k (constants_in ps)) ps) ps) m
+        ≡ parts_at k ps m
     go true true is =
-        parts_at-with_one_constant k (all_joined k (constants_in ps)) ps m (omega (arith, leb-true 2 (length (constants_in ps)) is))
+        parts_at-with_one_constant k (all_joined k (constants_in ps)) ps m
+        (omega (arith, leb-true 2 (how_many is_constant ps) is))
         ∙ sym (parts_at-constants k ps m)
     go true false is = refl
     go false small is = refl
 
 -- ZeroProduct
-parts_at-zero : (ps : List Size) (m : List ℕ) → list_any is_zero ps ≡ true → parts_at AsProd ps m ≡ 0
+parts_at-zero : (ps : List Bound) (m : List ℕ) → list_any is_zero ps ≡ true → parts_at AsProd ps m ≡ 0
 parts_at-zero [] m any = cc
 parts_at-zero (p ∷ ps) m any = go (is_zero p) refl any (parts_at-zero ps m)
   where
-    zero-val : (p : Size) → is_zero p ≡ true → val p m ≡ 0
+    zero-val : (p : Bound) → is_zero p ≡ true → val p m ≡ 0
     zero-val (Constant zero) is = refl
     zero-val (Constant (suc c)) is = cc
     zero-val (Input i) is = cc
     zero-val (SumOf qs) is = cc
     zero-val (ProductOf qs) is = cc
-    zero-val (GreatestOf qs) is = cc
+    zero-val (MaximumOf qs) is = cc
     zero-val (PowerOf c e) is = cc
 
-    go : (b : Bool) → is_zero p ≡ b → b || list_any is_zero ps ≡ true → (list_any is_zero ps ≡ true → parts_at AsProd ps m ≡ 0) → val p m * parts_at AsProd ps m ≡ 0
+    go : (b : Bool) → is_zero p ≡ b → b || list_any is_zero ps ≡ true
+        → (list_any is_zero ps ≡ true → parts_at AsProd ps m ≡ 0) → val p m * parts_at AsProd ps m ≡ 0
     go true is any ih = ap (λ (v : ℕ). v * parts_at AsProd ps m) (zero-val p is) ∙ omega arith
     go false is any ih = ap (λ (v : ℕ). val p m * v) (ih any) ∙ omega arith
 
-pub val-zeroed : (k : Kind) (ps : List Size) (m : List ℕ) → val (zeroed k ps) m ≡ parts_at k ps m
+-- so does making a product 0
+pub val-zeroed : (k : Kind) (ps : List Bound) (m : List ℕ) → val (zeroed k ps) m ≡ parts_at k ps m
 val-zeroed AsSum ps m = val-whole AsSum ps m
 val-zeroed AsMax ps m = val-whole AsMax ps m
 val-zeroed AsProd ps m = go (list_any is_zero ps) refl
@@ -144,39 +141,45 @@ val-zeroed AsProd ps m = go (list_any is_zero ps) refl
     go false is = val-whole AsProd ps m
 
 -- Neutral
-neutral-val : (k : Kind) (p : Size) (m : List ℕ) → is_neutral k p ≡ true → val p m ≡ unit_of k
+neutral-val : (k : Kind) (p : Bound) (m : List ℕ) → is_neutral k p ≡ true → val p m ≡ unit_of k
 neutral-val k (Constant c) m is = eqb-true c (unit_of k) is
 neutral-val k (Input i) m is = cc
 neutral-val k (SumOf qs) m is = cc
 neutral-val k (ProductOf qs) m is = cc
-neutral-val k (GreatestOf qs) m is = cc
+neutral-val k (MaximumOf qs) m is = cc
 neutral-val k (PowerOf c e) m is = cc
 
-pub parts_at-without_neutral : (k : Kind) (ps : List Size) (m : List ℕ) → parts_at k (without_neutral k ps) m ≡ parts_at k ps m
+-- dropping what changes nothing keeps the value
+pub parts_at-without_neutral : (k : Kind) (ps : List Bound) (m : List ℕ)
+    → parts_at k (without_neutral k ps) m ≡ parts_at k ps m
 parts_at-without_neutral k [] m = refl
 parts_at-without_neutral k (p ∷ ps) m = go (is_neutral k p) refl (parts_at-without_neutral k ps m)
   where
     go : (b : Bool) → is_neutral k p ≡ b → parts_at k (without_neutral k ps) m ≡ parts_at k ps m
         → parts_at k (cond b (without_neutral k ps) (p ∷ without_neutral k ps)) m ≡ joined k (val p m) (parts_at k ps m)
-    go true is ih = ih ∙ sym (ap (λ (v : ℕ). joined k v (parts_at k ps m)) (neutral-val k p m is) ∙ unit-joined k (parts_at k ps m))
+    go true is ih =
+        ih ∙ sym (ap (λ (v : ℕ). joined k v (parts_at k ps m)) (neutral-val k p m is) ∙ unit-joined k (parts_at k ps m))
     go false is ih = ap (joined k (val p m)) ih
 
 -- Order
-parts_at-placed : (k : Kind) (p : Size) (ps : List Size) (m : List ℕ) → parts_at k (placed k p ps) m ≡ joined k (val p m) (parts_at k ps m)
-parts_at-placed k p [] m = refl
-parts_at-placed k p (q ∷ ps) m = go (is_lt (order_of k q p)) (parts_at-placed k p ps m)
+parts_at-inserted : (k : Kind) (p : Bound) (ps : List Bound) (m : List ℕ)
+    → parts_at k (inserted k p ps) m ≡ joined k (val p m) (parts_at k ps m)
+parts_at-inserted k p [] m = refl
+parts_at-inserted k p (q ∷ ps) m = go (is_lt (order_of k q p)) (parts_at-inserted k p ps m)
   where
-    go : (b : Bool) → parts_at k (placed k p ps) m ≡ joined k (val p m) (parts_at k ps m)
-        → parts_at k (cond b (q ∷ placed k p ps) (p ∷ q ∷ ps)) m ≡ joined k (val p m) (joined k (val q m) (parts_at k ps m))
+    go : (b : Bool) → parts_at k (inserted k p ps) m ≡ joined k (val p m) (parts_at k ps m)
+        → parts_at k (cond b (q ∷ inserted k p ps) (p ∷ q ∷ ps)) m
+        ≡ joined k (val p m) (joined k (val q m) (parts_at k ps m))
     go true ih = ap (joined k (val q m)) ih ∙ joined-swap k (val q m) (val p m) (parts_at k ps m)
     go false ih = refl
 
-pub parts_at-sorted : (k : Kind) (ps : List Size) (m : List ℕ) → parts_at k (sorted k ps) m ≡ parts_at k ps m
+-- sorting keeps the value
+pub parts_at-sorted : (k : Kind) (ps : List Bound) (m : List ℕ) → parts_at k (sorted k ps) m ≡ parts_at k ps m
 parts_at-sorted k [] m = refl
-parts_at-sorted k (p ∷ ps) m = parts_at-placed k p (sorted k ps) m ∙ ap (joined k (val p m)) (parts_at-sorted k ps m)
+parts_at-sorted k (p ∷ ps) m = parts_at-inserted k p (sorted k ps) m ∙ ap (joined k (val p m)) (parts_at-sorted k ps m)
 
 -- Few
-pub val-simple : (k : Kind) (ps : List Size) (m : List ℕ) → val (simple k ps) m ≡ parts_at k ps m
+pub val-simple : (k : Kind) (ps : List Bound) (m : List ℕ) → val (simple k ps) m ≡ parts_at k ps m
 val-simple k [] m = refl
 val-simple k (p ∷ []) m = sym (joined-unit k (val p m))
 val-simple k (p ∷ q ∷ ps) m = val-whole k (p ∷ q ∷ ps) m

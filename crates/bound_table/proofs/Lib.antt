@@ -1,3 +1,4 @@
+pub mod Each
 pub mod Products
 pub mod BelowSound
 pub mod BelowLevels
@@ -10,10 +11,11 @@ pub mod Folds
 pub mod Runs
 pub mod Dominances
 pub mod Passes
-pub mod Kept
+pub mod PartFacts
 pub mod CaseValues
 pub mod LikeValues
 pub mod Values
 pub mod TidyCases
-pub mod ReadInputs
+pub mod NumberFacts
 pub mod TableInForce
+pub mod WithinLimits

@@ -1,36 +1,42 @@
 -- Loops over the parts of a bound: what is left.
-use Rattle.std.proofs.Common.{◌≡◌, ℕ, zero, suc, ◌+◌, ◌<◌, ◌≤◌, List, [], ◌∷◌, length, get_or, drop, ap, sym, ◌∙◌, arith}
+use Rattle.std.proofs.Common.{◌≡◌, ℕ, zero, suc, ◌+◌, ◌<◌, ◌≤◌, List, [], ◌∷◌, length, get_or, drop, ap, sym, ◌∙◌}
+use Rattle.std.proofs.Common.{arith}
 use Rattle.std.proofs.lemmas.List.{drop_more, drop_all}
 use Rattle.bound_expr.specs.declared.bound.Bound.{Bound}
-use Rattle.model.specs.Bounds.{Size}
-use Rattle.bound_expr.specs.Views.{size_of, sizes_of}
+use Rattle.model.specs.Bounds as plain
+use Rattle.bound_expr.specs.Views.{bound_of, bounds_of}
 use Rattle.bound_table.proofs.BelowLevels.{bound_weight, bounds_weight, factor_weight, factors_weight}
 use Rattle.bound_expr.proofs.Views.{seen}
-use Rattle.bound_expr.proofs.TidyBounds.{list_of-parts_of}
+use Rattle.bound_expr.proofs.PartLists.{list_of-parts_of}
 
 -- the expressions of what is left of a list: the next one, then those behind it
-pub sizes_of-drop : (xs : List Bound) (i : ℕ) (x : Bound) → i < length xs → x ≡ get_or xs i x → sizes_of (drop i xs) ≡ size_of x ∷ sizes_of (drop (i + 1) xs)
-sizes_of-drop xs i x h e =
-    ap sizes_of (drop_more xs i x h) ∙ ap (λ (y : Bound). size_of y ∷ sizes_of (drop (i + 1) xs)) (sym e)
+pub bounds_of-drop : (xs : List Bound) (i : ℕ) (x : Bound) → i < length xs → x ≡ get_or xs i x
+    → bounds_of (drop i xs) ≡ bound_of x ∷ bounds_of (drop (i + 1) xs)
+bounds_of-drop xs i x h e =
+    ap bounds_of (drop_more xs i x h) ∙ ap (λ (y : Bound). bound_of y ∷ bounds_of (drop (i + 1) xs)) (sym e)
 
 -- any function of them
-pub at-sizes_of-drop : {Y : Type 0} (f : List Size → Y) (xs : List Bound) (i : ℕ) (x : Bound) → i < length xs → x ≡ get_or xs i x
-    → f (sizes_of (drop i xs)) ≡ f (size_of x ∷ sizes_of (drop (i + 1) xs))
-at-sizes_of-drop f xs i x h e = ap f (sizes_of-drop xs i x h e)
+pub at-bounds_of-drop : {Y : Type 0} (f : List plain.Bound → Y) (xs : List Bound) (i : ℕ) (x : Bound) → i < length xs
+    → x ≡ get_or xs i x
+    → f (bounds_of (drop i xs)) ≡ f (bound_of x ∷ bounds_of (drop (i + 1) xs))
+at-bounds_of-drop f xs i x h e = ap f (bounds_of-drop xs i x h e)
 
 -- at the end nothing is left
-pub sizes_of-drop_all : (xs : List Bound) (i : ℕ) → length xs ≤ i → sizes_of (drop i xs) ≡ []
-sizes_of-drop_all xs i h = ap sizes_of (drop_all i xs h)
+pub bounds_of-drop_all : (xs : List Bound) (i : ℕ) → length xs ≤ i → bounds_of (drop i xs) ≡ []
+bounds_of-drop_all xs i h = ap bounds_of (drop_all i xs h)
 
 -- one of a list weighs no more than the heaviest
-pub bounds_weight-at : (xs : List Bound) (i : ℕ) (x : Bound) → i < length xs → x ≡ get_or xs i x → bound_weight (size_of x) ≤ bounds_weight (sizes_of xs)
+pub bounds_weight-at : (xs : List Bound) (i : ℕ) (x : Bound) → i < length xs → x ≡ get_or xs i x
+    → bound_weight (bound_of x) ≤ bounds_weight (bounds_of xs)
 bounds_weight-at [] i x h e = absurd (omega arith)
-bounds_weight-at (y ∷ ys) zero x h e = omega (arith, ap (λ (z : Bound). bound_weight (size_of z)) e)
+bounds_weight-at (y ∷ ys) zero x h e = omega (arith, ap (λ (z : Bound). bound_weight (bound_of z)) e)
 bounds_weight-at (y ∷ ys) (suc i) x h e = omega (arith, bounds_weight-at ys i x (omega arith) e)
 
-pub factors_weight-at : (xs : List Bound) (i : ℕ) (x : Bound) → i < length xs → x ≡ get_or xs i x → factor_weight (size_of x) ≤ factors_weight (sizes_of xs)
+-- the same as factors
+pub factors_weight-at : (xs : List Bound) (i : ℕ) (x : Bound) → i < length xs → x ≡ get_or xs i x
+    → factor_weight (bound_of x) ≤ factors_weight (bounds_of xs)
 factors_weight-at [] i x h e = absurd (omega arith)
-factors_weight-at (y ∷ ys) zero x h e = omega (arith, ap (λ (z : Bound). factor_weight (size_of z)) e)
+factors_weight-at (y ∷ ys) zero x h e = omega (arith, ap (λ (z : Bound). factor_weight (bound_of z)) e)
 factors_weight-at (y ∷ ys) (suc i) x h e = omega (arith, factors_weight-at ys i x (omega arith) e)
 
 -- what a bound is seen as, with the parts of a node as a list

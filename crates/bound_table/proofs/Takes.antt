@@ -1,58 +1,66 @@
 -- Parts that take parts one after another: one more that is offered, marks of what is taken, and what is left over.
-use Rattle.std.proofs.Common.{◌≡◌, ℕ, ◌<◌, ◌==◌, Bool, true, false, cond, ◌&&◌, ◌||◌, List, [], ◌∷◌, length, slice_set, slice_index_or, refl, ap, sym, ◌∙◌, arith}
+use Rattle.std.proofs.Common.{◌≡◌, ℕ, ◌<◌, ◌==◌, Bool, true, false, cond, ◌&&◌, ◌||◌, List, [], ◌∷◌, length, slice_set}
+use Rattle.std.proofs.Common.{slice_index_or, refl, ap, sym, ◌∙◌, arith}
 use Rattle.std.specs.Prelude.{replicate}
 use Rattle.std.specs.List.{list_any, list_all}
 use Rattle.std.proofs.lemmas.Bool.{eqb-true, eqb-false}
 use Rattle.std.proofs.Common.{eq-eqb}
 use Rattle.std.proofs.lemmas.List.{length-set, get_or-set_same, get_or-set_other, length-replicate, get_or-replicate}
-use Rattle.model.specs.Bounds.{Size, Constant, Input, SumOf, ProductOf, GreatestOf, PowerOf}
-use Rattle.bound_table.specs.Kinds.{is_same_input}
+use Rattle.model.specs.Bounds.{Bound, Constant, Input, SumOf, ProductOf, MaximumOf, PowerOf}
+use Rattle.bound_table.specs.Kinds.{is_power_or_input, is_same_input}
 use Rattle.bound_table.specs.Below.{taken, spare, may_be_spare}
-use Rattle.bound_table.specs.Taking.{marked_one, marked, is_power_or_input, input_among, IsMarked}
+use Rattle.bound_table.specs.Taking.{marked_one, marked, input_among, IsMarked}
 
 -- nothing is taken or left of no parts
-pub taken-none : (related : Size → Size → Bool) (ps : List Size) → taken related ps [] ≡ []
+pub taken-none : (related : Bound → Bound → Bool) (ps : List Bound) → taken related ps [] ≡ []
 taken-none related [] = refl
 taken-none related (p ∷ ps) = refl
 
 -- marks keep their number
-length-marked_one : (marks : List Bool) (t : Size) → length (marked_one marks t) ≡ length marks
+length-marked_one : (marks : List Bool) (t : Bound) → length (marked_one marks t) ≡ length marks
 length-marked_one marks (Input i) = length-set marks i true
 length-marked_one marks (Constant c) = refl
 length-marked_one marks (SumOf ps) = refl
 length-marked_one marks (ProductOf ps) = refl
-length-marked_one marks (GreatestOf ps) = refl
+length-marked_one marks (MaximumOf ps) = refl
 length-marked_one marks (PowerOf c e) = refl
 
-pub length-marked : (marks : List Bool) (ts : List Size) → length (marked marks ts) ≡ length marks
+-- and so do all marks together
+pub length-marked : (marks : List Bool) (ts : List Bound) → length (marked marks ts) ≡ length marks
 length-marked marks [] = refl
 length-marked marks (t ∷ ts) = length-marked (marked_one marks t) ts ∙ length-marked_one marks t
 
 -- one more mark
-get_or-marked_one : (marks : List Bool) (t : Size) (i : ℕ) → i < length marks
+get_or-marked_one : (marks : List Bool) (t : Bound) (i : ℕ) → i < length marks
     → slice_index_or (marked_one marks t) i false ≡ (is_same_input (Input i) t || slice_index_or marks i false)
 get_or-marked_one marks (Input j) i h = go (i == j) refl
   where
-    go : (same : Bool) → (i == j) ≡ same → slice_index_or (slice_set marks j true) i false ≡ (same || slice_index_or marks i false)
-    go true is = let e : i ≡ j = eqb-true i j is in ap (λ (k : ℕ). slice_index_or (slice_set marks k true) i false) (sym e) ∙ get_or-set_same marks i true false h
+    go : (same : Bool) → (i == j) ≡ same
+        → slice_index_or (slice_set marks j true) i false ≡ (same || slice_index_or marks i false)
+    go true is =
+        let e : i ≡ j = eqb-true i j is in ap (λ (k : ℕ). slice_index_or (slice_set marks k true) i false) (sym e)
+        ∙ get_or-set_same marks i true false h
     go false is = get_or-set_other marks j i true false (eqb-false i j is)
 get_or-marked_one marks (Constant c) i h = refl
 get_or-marked_one marks (SumOf ps) i h = refl
 get_or-marked_one marks (ProductOf ps) i h = refl
-get_or-marked_one marks (GreatestOf ps) i h = refl
+get_or-marked_one marks (MaximumOf ps) i h = refl
 get_or-marked_one marks (PowerOf c e) i h = refl
 
+-- or with what fails changes nothing
 pub or-false : (b : Bool) → (b || false) ≡ b
 or-false true = refl
 or-false false = refl
 
+-- two changed in a row of three
 or-swap : (a b c : Bool) → (a || (b || c)) ≡ ((b || a) || c)
 or-swap true true c = refl
 or-swap true false c = refl
 or-swap false true c = refl
 or-swap false false c = refl
 
-get_or-marked : (marks : List Bool) (ts : List Size) (i : ℕ) → i < length marks
+-- all marks together
+get_or-marked : (marks : List Bool) (ts : List Bound) (i : ℕ) → i < length marks
     → slice_index_or (marked marks ts) i false ≡ (slice_index_or marks i false || list_any (is_same_input (Input i)) ts)
 get_or-marked marks [] i h = sym (or-false (slice_index_or marks i false))
 get_or-marked marks (t ∷ ts) i h =
@@ -61,14 +69,17 @@ get_or-marked marks (t ∷ ts) i h =
     ∙ ap (λ v. v || list_any (is_same_input (Input i)) ts) (get_or-marked_one marks t i h)
     ∙ sym (or-swap (slice_index_or marks i false) (is_same_input (Input i) t) (list_any (is_same_input (Input i)) ts))
 
--- marks on clean places tell what is taken
-pub marked-IsMarked : (n : ℕ) (marks : List Bool) (ts : List Size) → marks ≡ marked (replicate n false) ts → IsMarked marks ts
+-- marks where none was before tell what is taken
+pub marked-IsMarked : (n : ℕ) (marks : List Bool) (ts : List Bound) → marks ≡ marked (replicate n false) ts
+    → IsMarked marks ts
 marked-IsMarked n marks ts is = record {
   each = λ i h.
-      let within : i < length (replicate n false) = omega (arith, ap (λ (ms : List Bool). length ms) is, length-marked (replicate n false) ts) in
+      let within : i < length (replicate n false) =
+      omega (arith, ap (λ (ms : List Bool). length ms) is, length-marked (replicate n false) ts) in
       ap (λ (ms : List Bool). slice_index_or ms i false) is
       ∙ get_or-marked (replicate n false) ts i within
-      ∙ ap (λ v. v || list_any (is_same_input (Input i)) ts) (get_or-replicate n i false false (omega (arith, length-replicate n false)));
+      ∙ ap (λ v. v || list_any (is_same_input (Input i)) ts)
+      (get_or-replicate n i false false (omega (arith, length-replicate n false)));
 }
 
 -- an input is the same as itself
@@ -76,7 +87,7 @@ same_input-self : (i : ℕ) → is_same_input (Input i) (Input i) ≡ true
 same_input-self i = eq-eqb i i refl
 
 -- what is among some is among more
-input_among-more : (ts : List Size) (t g : Size) → input_among ts g ≡ true → input_among (t ∷ ts) g ≡ true
+input_among-more : (ts : List Bound) (t g : Bound) → input_among ts g ≡ true → input_among (t ∷ ts) g ≡ true
 input_among-more ts t (Input i) h = go (is_same_input (Input i) t)
   where
     go : (same : Bool) → (same || list_any (is_same_input (Input i)) ts) ≡ true
@@ -85,38 +96,43 @@ input_among-more ts t (Input i) h = go (is_same_input (Input i) t)
 input_among-more ts t (Constant c) h = refl
 input_among-more ts t (SumOf ps) h = refl
 input_among-more ts t (ProductOf ps) h = refl
-input_among-more ts t (GreatestOf ps) h = refl
+input_among-more ts t (MaximumOf ps) h = refl
 input_among-more ts t (PowerOf c e) h = refl
 
-input_among-first : (ts : List Size) (t : Size) → input_among (t ∷ ts) t ≡ true
+-- what is taken is among what is taken
+input_among-first : (ts : List Bound) (t : Bound) → input_among (t ∷ ts) t ≡ true
 input_among-first ts (Input i) = ap (λ v. v || list_any (is_same_input (Input i)) ts) (same_input-self i)
 input_among-first ts (Constant c) = refl
 input_among-first ts (SumOf ps) = refl
 input_among-first ts (ProductOf ps) = refl
-input_among-first ts (GreatestOf ps) = refl
+input_among-first ts (MaximumOf ps) = refl
 input_among-first ts (PowerOf c e) = refl
 
 -- all of a list are among another
-abbrev AllAmong : List Size → List Size → Type 0
+abbrev AllAmong : List Bound → List Bound → Type 0
 AllAmong us [] = Unit {0}
 AllAmong us (t ∷ ts) = (input_among us t ≡ true) × AllAmong us ts
 
-AllAmong-more : (us : List Size) (u : Size) (ts : List Size) → AllAmong us ts → AllAmong (u ∷ us) ts
+-- and stay so where there is one more
+AllAmong-more : (us : List Bound) (u : Bound) (ts : List Bound) → AllAmong us ts → AllAmong (u ∷ us) ts
 AllAmong-more us u [] all = tt
 AllAmong-more us u (t ∷ ts) all = (input_among-more us u t all.0, AllAmong-more us u ts all.1)
 
-AllAmong-self : (ts : List Size) → AllAmong ts ts
+-- all of a list are among itself
+AllAmong-self : (ts : List Bound) → AllAmong ts ts
 AllAmong-self [] = tt
 AllAmong-self (t ∷ ts) = (input_among-first ts t, AllAmong-more ts t ts (AllAmong-self ts))
 
-spare-kind : (us : List Size) (g : Size) → may_be_spare us g ≡ (is_power_or_input g && input_among us g)
+-- what may be left is a power or an input, and the input is among what is taken
+spare-kind : (us : List Bound) (g : Bound) → may_be_spare us g ≡ (is_power_or_input g && input_among us g)
 spare-kind us (Input i) = refl
 spare-kind us (Constant c) = refl
 spare-kind us (SumOf ps) = refl
 spare-kind us (ProductOf ps) = refl
-spare-kind us (GreatestOf ps) = refl
+spare-kind us (MaximumOf ps) = refl
 spare-kind us (PowerOf c e) = refl
 
+-- two changed in a row of four
 and-swap : (a b c d : Bool) → ((a && b) && (c && d)) ≡ ((a && c) && (b && d))
 and-swap true true c d = refl
 and-swap true false true d = refl
@@ -124,8 +140,9 @@ and-swap true false false d = refl
 and-swap false b c d = refl
 
 -- what is left over may be left where it is powers and inputs, and every input offered is among those that are taken
-spare-split_among : (related : Size → Size → Bool) (us ps qs : List Size) → AllAmong us (taken related ps qs)
-    → list_all (may_be_spare us) (spare related ps qs) ≡ (list_all is_power_or_input (spare related ps qs) && list_all (input_among us) qs)
+spare-split_among : (related : Bound → Bound → Bool) (us ps qs : List Bound) → AllAmong us (taken related ps qs)
+    → list_all (may_be_spare us) (spare related ps qs)
+    ≡ (list_all is_power_or_input (spare related ps qs) && list_all (input_among us) qs)
 spare-split_among related us [] [] all = refl
 spare-split_among related us [] (q ∷ qs) all =
     ap (λ v. v && list_all (may_be_spare us) qs) (spare-kind us q)
@@ -140,13 +157,17 @@ spare-split_among related us (p ∷ ps) (q ∷ qs) all =
         → (AllAmong us (taken related (p ∷ ps) qs) → list_all (may_be_spare us) (spare related (p ∷ ps) qs) ≡ (list_all is_power_or_input (spare related (p ∷ ps) qs) && list_all (input_among us) qs))
         → list_all (may_be_spare us) (cond takes (spare related ps qs) (q ∷ spare related (p ∷ ps) qs))
         ≡ (list_all is_power_or_input (cond takes (spare related ps qs) (q ∷ spare related (p ∷ ps) qs)) && (input_among us q && list_all (input_among us) qs))
-    go true all ih ih' = ih all.1 ∙ ap (λ v. list_all is_power_or_input (spare related ps qs) && (v && list_all (input_among us) qs)) (sym all.0)
+    go true all ih ih' =
+        ih all.1
+        ∙ ap (λ v. list_all is_power_or_input (spare related ps qs) && (v && list_all (input_among us) qs)) (sym all.0)
     go false all ih ih' =
         ap (λ v. v && list_all (may_be_spare us) (spare related (p ∷ ps) qs)) (spare-kind us q)
         ∙ ap (λ v. (is_power_or_input q && input_among us q) && v) (ih' all)
-        ∙ and-swap (is_power_or_input q) (input_among us q) (list_all is_power_or_input (spare related (p ∷ ps) qs)) (list_all (input_among us) qs)
+        ∙ and-swap (is_power_or_input q) (input_among us q) (list_all is_power_or_input (spare related (p ∷ ps) qs))
+        (list_all (input_among us) qs)
 
-pub spare-split : (related : Size → Size → Bool) (ps qs : List Size)
+-- so what is left over is split into two tests
+pub spare-split : (related : Bound → Bound → Bool) (ps qs : List Bound)
     → list_all (may_be_spare (taken related ps qs)) (spare related ps qs)
     ≡ (list_all is_power_or_input (spare related ps qs) && list_all (input_among (taken related ps qs)) qs)
 spare-split related ps qs = spare-split_among related (taken related ps qs) ps qs (AllAmong-self (taken related ps qs))

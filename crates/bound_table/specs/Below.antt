@@ -1,77 +1,79 @@
 -- When one bound is below another, as a test on their structure.
 use Rattle.std.specs.Prelude.{ℕ, zero, suc, ◌+◌, ◌≤◌, nat_le, ◌&&◌, ◌||◌, not, cond, Bool, true, false, List, [], ◌∷◌}
 use Rattle.std.specs.List.{list_any, list_all}
-use Rattle.model.specs.Bounds.{Size, Constant, Input, SumOf, GreatestOf, PowerOf, val}
+use Rattle.model.specs.Bounds.{Bound, Constant, Input, SumOf, MaximumOf, PowerOf, val}
 use Rattle.bound_expr.specs.Views.{list_of}
 use Rattle.bound_expr.specs.Measure.{node_count}
-use Rattle.bound_table.specs.Kinds.{is_constant, is_power, is_input, is_same_input, is_nest}
+use Rattle.bound_expr.specs.Kinds.{is_constant, is_power, is_input}
+use Rattle.bound_table.specs.Kinds.{is_same_input, is_nest}
 use Rattle.bound_table.specs.Terms.{constant_of, factors_of}
 
--- each of the first list, in order, takes the first of the second list, after the one taken before, that it is related to;
--- yes where each finds one
-abbrev pub each_takes : (Size → Size → Bool) → List Size → List Size → Bool
+-- each of the first list, in order, takes the first of the second list, after the one taken before, that it is related
+-- to; yes where each finds one
+abbrev pub each_takes : (Bound → Bound → Bool) → List Bound → List Bound → Bool
 each_takes related [] qs = true
 each_takes related (p ∷ ps) [] = false
 each_takes related (p ∷ ps) (q ∷ qs) = cond (related p q) (each_takes related ps qs) (each_takes related (p ∷ ps) qs)
 
 -- those of the second list that are taken so
-abbrev pub taken : (Size → Size → Bool) → List Size → List Size → List Size
+abbrev pub taken : (Bound → Bound → Bool) → List Bound → List Bound → List Bound
 taken related [] qs = []
 taken related (p ∷ ps) [] = []
 taken related (p ∷ ps) (q ∷ qs) = cond (related p q) (q ∷ taken related ps qs) (taken related (p ∷ ps) qs)
 
--- those that are left
-abbrev pub spare : (Size → Size → Bool) → List Size → List Size → List Size
+-- those that are left over
+abbrev pub spare : (Bound → Bound → Bool) → List Bound → List Bound → List Bound
 spare related [] qs = qs
 spare related (p ∷ ps) [] = []
 spare related (p ∷ ps) (q ∷ qs) = cond (related p q) (spare related ps qs) (q ∷ spare related (p ∷ ps) qs)
 
 -- a factor that may be left: a power, or an input that is also one of those taken
-abbrev pub may_be_spare : List Size → Size → Bool
+abbrev pub may_be_spare : List Bound → Bound → Bool
 may_be_spare ts g = is_power g || (is_input g && list_any (is_same_input g) ts)
 
--- a factor below another: the same input; powers with bases and exponents below; or one of the two is a sum or a greatest,
--- and it is below the other as a bound
-abbrev pub factor_below : (Size → Size → Bool) → Size → Size → Bool
+-- a factor below another: the same input; powers with bases and exponents below; or one of the two is a sum or a
+-- maximum, and it is below the other as a bound
+abbrev pub factor_below : (Bound → Bound → Bool) → Bound → Bound → Bool
 factor_below smaller (Input i) (Input j) = is_same_input (Input i) (Input j)
 factor_below smaller (PowerOf c e) (PowerOf d f) = nat_le c d && smaller e f
 factor_below smaller f g = (is_nest f || is_nest g) && smaller f g
 
 -- a part below another: no constant among the factors of either; the constant at most the other's; each factor takes a
 -- factor that it is below; and the factors that are left may be left
-abbrev pub term_below : (Size → Size → Bool) → Size → Size → Bool
+abbrev pub term_below : (Bound → Bound → Bool) → Bound → Bound → Bool
 term_below smaller p q =
     not (list_any is_constant (factors_of p)) && not (list_any is_constant (factors_of q))
     && nat_le (constant_of p) (constant_of q)
     && each_takes (factor_below smaller) (factors_of p) (factors_of q)
-    && list_all (may_be_spare (taken (factor_below smaller) (factors_of p) (factors_of q))) (spare (factor_below smaller) (factors_of p) (factors_of q))
+    && list_all (may_be_spare (taken (factor_below smaller) (factors_of p) (factors_of q)))
+    (spare (factor_below smaller) (factors_of p) (factors_of q))
 
 -- the parts of a sum; a bound that is no sum is its own only part
-abbrev pub terms_of : Size → List Size
+abbrev pub terms_of : Bound → List Bound
 terms_of (SumOf ps) = list_of ps
 terms_of b = b ∷ []
 
--- a bound that is no greatest, against any other: it is below one of the parts of a greatest, and below another bound where
--- each of its parts takes one of the other's
-abbrev pub below_one : (Size → Size → Bool) → Size → Size → Bool
-below_one smaller a (GreatestOf qs) = list_any (λ q. smaller a q) (list_of qs)
+-- a bound that is no maximum, against any other: it is below one of the parts of a maximum, and below another bound
+-- where each of its parts takes one of the other's
+abbrev pub below_one : (Bound → Bound → Bool) → Bound → Bound → Bool
+below_one smaller a (MaximumOf qs) = list_any (λ q. smaller a q) (list_of qs)
 below_one smaller a b = each_takes (term_below smaller) (terms_of a) (terms_of b)
 
--- one level of the test: 0 is below everything, and a greatest is below what all of its parts are below
-abbrev pub below_step : (Size → Size → Bool) → Size → Size → Bool
+-- one level of the test: 0 is below everything, and a maximum is below what all of its parts are below
+abbrev pub below_step : (Bound → Bound → Bool) → Bound → Bound → Bool
 below_step smaller (Constant zero) b = true
-below_step smaller (GreatestOf ps) b = list_all (λ p. smaller p b) (list_of ps)
+below_step smaller (MaximumOf ps) b = list_all (λ p. smaller p b) (list_of ps)
 below_step smaller a b = below_one smaller a b
 
 -- the test with at most this many levels
-abbrev pub below_within : ℕ → Size → Size → Bool
+abbrev pub below_within : ℕ → Bound → Bound → Bool
 below_within zero a b = false
 below_within (suc n) a b = below_step (λ p q. below_within n p q) a b
 
 -- a is below b; no test has more levels than the two bounds have nodes
-unfoldable pub below : Size → Size → Bool
+unfoldable pub below : Bound → Bound → Bool
 below a b = below_within (node_count a + node_count b) a b
 
 -- a bound has no greater value than another, whatever the inputs are
-pub record IsNeverGreater (a b : Size) : Type 0 where
+pub record IsNeverGreater (a b : Bound) : Type 0 where
   pub each : (m : List ℕ) → val a m ≤ val b m

@@ -1,12 +1,17 @@
-pub mod Kinds
-pub mod Terms
+-- what public contracts cite
 pub mod Comparison
 pub mod Below
-pub mod Taking
+pub mod Rewriting
+pub mod InForce
+pub mod Laws
+pub mod Within
+-- what these say part by part
+pub mod Kinds
+pub mod Counting
+pub mod Terms
 pub mod Folding
 pub mod Sorting
 pub mod Likes
 pub mod Dominance
-pub mod Rewriting
-pub mod Laws
-pub mod InForce
+-- what the proofs of loops cite besides
+pub mod Taking

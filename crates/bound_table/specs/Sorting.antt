@@ -1,48 +1,37 @@
 -- The order of parts, and sorting by it.
-use Rattle.std.specs.Prelude.{ℕ, ◌+◌, cond, Bool, false, List, [], ◌∷◌, ◌++◌}
+use Rattle.std.specs.Prelude.{ℕ, cond, Bool, false, List, [], ◌∷◌, ◌++◌}
 use Rattle.std.specs.declared.cmp.Ordering.{Ordering}
 use Rattle.std.specs.Ordering.{nat_cmp, ordering_then, is_lt}
 use Rattle.std.specs.Cmp.Lexicographic.{slice_cmp}
-use Rattle.model.specs.Bounds.{Size, Constant, Input, SumOf, ProductOf, GreatestOf, PowerOf}
+use Rattle.model.specs.Bounds.{Bound, Constant, Input, SumOf, ProductOf, MaximumOf, PowerOf}
 use Rattle.bound_table.specs.declared.kinds.Kind.{Kind}
 use Rattle.bound_table.specs.declared.kinds.Kind.TheVariants.{AsSum, AsProd, AsMax}
 use Rattle.bound_table.specs.declared.kinds.Counted.{Counted}
 use Rattle.bound_table.specs.declared.kinds.Counted.TheVariants.{Powers, Nests, Inputs}
-use Rattle.bound_table.specs.Kinds.{is_power, is_nest, is_input}
+use Rattle.bound_table.specs.Counting.{how_many, is_counted}
 use Rattle.bound_table.specs.Terms.{constant_of, factors_of}
 use Rattle.bound_table.specs.Comparison.{compared}
 
--- the place of a kind of bound among factors: constants, powers, inputs, greatests, sums; a product comes last
-abbrev pub factor_rank : Size → ℕ
+-- the rank of a kind of bound among factors: constants, powers, inputs, maximums, sums; a product comes last
+abbrev pub factor_rank : Bound → ℕ
 factor_rank (Constant c) = 0
 factor_rank (PowerOf c e) = 1
 factor_rank (Input i) = 2
-factor_rank (GreatestOf ps) = 3
+factor_rank (MaximumOf ps) = 3
 factor_rank (SumOf ps) = 4
 factor_rank (ProductOf ps) = 5
 
 -- factors go by kind, then structurally
-abbrev pub factors_compared : Size → Size → Ordering
+abbrev pub factors_compared : Bound → Bound → Ordering
 factors_compared p q = ordering_then (nat_cmp (factor_rank p) (factor_rank q)) (compared p q)
 
--- how many of the list pass the test
-abbrev pub how_many : (Size → Bool) → List Size → ℕ
-how_many test [] = 0
-how_many test (p ∷ ps) = cond (test p) 1 0 + how_many test ps
-
--- which factors are counted: powers, sums and greatests, or inputs
-abbrev pub is_counted : Counted → Size → Bool
-is_counted Powers f = is_power f
-is_counted Nests f = is_nest f
-is_counted Inputs f = is_input f
-
 -- how many factors of a part are counted
-abbrev pub count_in : Counted → Size → ℕ
+abbrev pub count_in : Counted → Bound → ℕ
 count_in c p = how_many (is_counted c) (factors_of p)
 
--- the parts of a sum or greatest go by these three counts, greater first, then by the factors, least first, then by the
+-- the parts of a sum or maximum go by these three counts, greater first, then by the factors, least first, then by the
 -- constant, greater first
-abbrev pub parts_compared : Size → Size → Ordering
+abbrev pub parts_compared : Bound → Bound → Ordering
 parts_compared p q =
     ordering_then (nat_cmp (count_in Powers q) (count_in Powers p))
     (ordering_then (nat_cmp (count_in Nests q) (count_in Nests p))
@@ -50,36 +39,37 @@ parts_compared p q =
     (ordering_then (slice_cmp compared (factors_of p) (factors_of q)) (nat_cmp (constant_of q) (constant_of p)))))
 
 -- the order of the parts of a node of the kind
-abbrev pub order_of : Kind → Size → Size → Ordering
+abbrev pub order_of : Kind → Bound → Bound → Ordering
 order_of AsProd p q = factors_compared p q
 order_of AsSum p q = parts_compared p q
 order_of AsMax p q = parts_compared p q
 
--- p placed before the first that doesn't come before it
-abbrev pub placed : Kind → Size → List Size → List Size
-placed k p [] = p ∷ []
-placed k p (q ∷ qs) = cond (is_lt (order_of k q p)) (q ∷ placed k p qs) (p ∷ q ∷ qs)
+-- p inserted before the first that doesn't come before it
+abbrev pub inserted : Kind → Bound → List Bound → List Bound
+inserted k p [] = p ∷ []
+inserted k p (q ∷ qs) = cond (is_lt (order_of k q p)) (q ∷ inserted k p qs) (p ∷ q ∷ qs)
 
 -- the parts in order; equal ones stay as they stood
-abbrev pub sorted : Kind → List Size → List Size
+abbrev pub sorted : Kind → List Bound → List Bound
 sorted k [] = []
-sorted k (p ∷ ps) = placed k p (sorted k ps)
+sorted k (p ∷ ps) = inserted k p (sorted k ps)
 
--- those at the front that come before p, and those behind them
-abbrev pub coming_before : Kind → Size → List Size → List Size
+-- the longest prefix of what comes before p
+abbrev pub coming_before : Kind → Bound → List Bound → List Bound
 coming_before k p [] = []
 coming_before k p (q ∷ qs) = cond (is_lt (order_of k q p)) (q ∷ coming_before k p qs) []
 
-abbrev pub not_before : Kind → Size → List Size → List Size
+-- and the rest
+abbrev pub not_before : Kind → Bound → List Bound → List Bound
 not_before k p [] = []
 not_before k p (q ∷ qs) = cond (is_lt (order_of k q p)) (not_before k p qs) (q ∷ qs)
 
 -- there is a first one, and it comes before p
-abbrev pub starts_before : Kind → Size → List Size → Bool
+abbrev pub starts_before : Kind → Bound → List Bound → Bool
 starts_before k p [] = false
 starts_before k p (q ∷ qs) = is_lt (order_of k q p)
 
 -- two lists in order merged: each of the first stands behind those of the second that come before it
-abbrev pub merged : Kind → List Size → List Size → List Size
+abbrev pub merged : Kind → List Bound → List Bound → List Bound
 merged k [] qs = qs
 merged k (p ∷ ps) qs = coming_before k p qs ++ p ∷ merged k ps (not_before k p qs)

@@ -1,14 +1,14 @@
 ghost use Rattle.std.specs.Prelude.{◌≡◌, ◌<◌, [], length, remove};
-ghost use Rattle.bound_expr.specs.Views.{sizes_of};
+ghost use Rattle.bound_expr.specs.Views.{bounds_of};
 ghost use Rattle.bound_table.specs.Dominance.{dominant as dominant_of, dominant_after, below_another};
 
 use crate::kinds::Kind;
 use crate::lower::any_above;
 use bound_expr::Bound;
 
-// The parts of a greatest that no other part makes needless; all parts of another node.
+// The parts of a maximum that no other part makes needless; all parts of another node.
 pub(crate) fn dominant(kind: Kind, parts: Vec<Bound>) -> Vec<Bound>
-    ensures { sizes_of result.items ≡ dominant_of kind (sizes_of parts.items) }
+    ensures { bounds_of result.items ≡ dominant_of kind (bounds_of parts.items) }
 {
     match kind {
         Kind::AsMax => without_lower(parts),
@@ -18,32 +18,32 @@ pub(crate) fn dominant(kind: Kind, parts: Vec<Bound>) -> Vec<Bound>
 
 // From the first part on, each part that is below another one still kept is dropped.
 fn without_lower(parts: Vec<Bound>) -> Vec<Bound>
-    ensures { sizes_of result.items ≡ dominant_after [] (sizes_of parts.items) }
+    ensures { bounds_of result.items ≡ dominant_after [] (bounds_of parts.items) }
 {
     let mut kept = parts;
-    let mut place = 0usize;
-    while place < kept.len() {
-        if is_below_another(&kept, place) {
-            take_away(&mut kept, place);
+    let mut position = 0usize;
+    while position < kept.len() {
+        if is_below_another(&kept, position) {
+            take_away(&mut kept, position);
         } else {
-            place += 1;
+            position += 1;
         }
     }
     kept
 }
 
-fn take_away(parts: &mut Vec<Bound>, place: usize)
-    requires { place < length parts.old.items }
-    ensures { parts.new.items ≡ remove parts.old.items place }
+fn take_away(parts: &mut Vec<Bound>, position: usize)
+    requires { position < length parts.old.items }
+    ensures { parts.new.items ≡ remove parts.old.items position }
 {
-    let _ = parts.remove(place);
+    let _ = parts.remove(position);
 }
 
-// Whether the part at the place is below another part.
-fn is_below_another(parts: &[Bound], place: usize) -> bool
-    requires { place < length parts.now }
-    ensures { result ≡ below_another (sizes_of parts.now) place }
+// Whether the part at the position is below another part.
+fn is_below_another(parts: &[Bound], position: usize) -> bool
+    requires { position < length parts.now }
+    ensures { result ≡ below_another (bounds_of parts.now) position }
 {
-    let part = &parts[place];
-    any_above(part, &parts[..place]) || any_above(part, &parts[place + 1..])
+    let part = &parts[position];
+    any_above(part, &parts[..position]) || any_above(part, &parts[position + 1..])
 }

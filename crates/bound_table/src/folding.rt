@@ -1,18 +1,22 @@
-ghost use Rattle.std.specs.Prelude.{◌≡◌, ◌++◌, ◌∷◌, [], ◌^◌, ◌<◌, IfOk, OnOk, MatchResult, length};
-ghost use Rattle.std.specs.List.{list_any};
-ghost use Rattle.bound_expr.specs.Views.{size_of, sizes_of};
+ghost use Rattle.std.specs.Prelude.{◌≡◌, ◌++◌, ◌∷◌, [], IfOk, OnOk, MatchResult};
+ghost use Rattle.bound_expr.specs.Views.{bound_of, bounds_of};
 ghost use Rattle.bound_expr.specs.Capped.{capped};
-ghost use Rattle.bound_table.specs.Kinds.{whole as node_of, unit_of, joined as joined_of, all_joined, is_zero as is_nothing, is_constant};
-ghost use Rattle.bound_table.specs.Folding.{spread, total_with, spliced as spliced_of, constants_in, without_constants, with_one_constant as one_constant_of, folded as folded_of, zeroed as zeroed_of, is_neutral as is_unit, without_neutral as without_units, simple as simple_of};
+ghost use Rattle.bound_table.specs.Kinds.{whole as node_of, unit_of, joined as joined_of, all_joined};
+ghost use Rattle.bound_table.specs.Kinds.{is_zero as is_nothing};
+ghost use Rattle.bound_table.specs.Folding.{spread, total_with, spliced as spliced_of, constants_in, without_constants};
+ghost use Rattle.bound_table.specs.Folding.{with_one_constant as one_constant_of, folded as folded_of};
+ghost use Rattle.bound_table.specs.Folding.{zeroed as zeroed_of, is_neutral as is_unit};
+ghost use Rattle.bound_table.specs.Folding.{without_neutral as without_units, simple as simple_of};
 
-use crate::kinds::Kind;
+use crate::counting::{has, how_many};
+use crate::kinds::{Counted, Kind};
 use crate::terms::is_const;
-use bound_expr::{Bound, CAP, Memory, capped_add, capped_multiply};
+use bound_expr::{Bound, CAP, CONSTANT_LIMIT, Memory, capped_add, capped_multiply};
 use std::alloc::Global;
 
 // The node of a kind with these parts.
 pub(crate) fn whole(kind: Kind, parts: Vec<Bound>) -> Bound
-    ensures { size_of result ≡ node_of kind (sizes_of parts.items) }
+    ensures { bound_of result ≡ node_of kind (bounds_of parts.items) }
 {
     match kind {
         Kind::AsSum => Bound::Sum(parts),
@@ -23,7 +27,7 @@ pub(crate) fn whole(kind: Kind, parts: Vec<Bound>) -> Bound
 
 // Each part of the kind replaced by its own parts, in place.
 pub(crate) fn spliced(alloc: Global, kind: Kind, parts: Vec<Bound>) -> Result<Vec<Bound>, Memory>
-    ensures { IfOk result (λ r. sizes_of r.items ≡ spliced_of kind (sizes_of parts.items)) }
+    ensures { IfOk result (λ r. bounds_of r.items ≡ spliced_of kind (bounds_of parts.items)) }
 {
     let mut flat = Vec::new(alloc);
     for part in parts {
@@ -33,7 +37,7 @@ pub(crate) fn spliced(alloc: Global, kind: Kind, parts: Vec<Bound>) -> Result<Ve
 }
 
 fn push_spread(kind: Kind, part: Bound, flat: &mut Vec<Bound>) -> Result<(), Memory>
-    ensures { OnOk result (sizes_of flat.new.items ≡ sizes_of flat.old.items ++ spread kind (size_of part)) }
+    ensures { OnOk result (bounds_of flat.new.items ≡ bounds_of flat.old.items ++ spread kind (bound_of part)) }
 {
     match inner_parts(kind, part) {
         Ok(mut inner) => flat.append(&mut inner),
@@ -46,7 +50,7 @@ fn push_spread(kind: Kind, part: Bound, flat: &mut Vec<Bound>) -> Result<(), Mem
 
 // The parts of a node of the kind, or the bound itself where it is of another kind.
 fn inner_parts(kind: Kind, part: Bound) -> Result<Vec<Bound>, Bound>
-    ensures { MatchResult result (λ inner. spread kind (size_of part) ≡ sizes_of inner.items) (λ single. spread kind (size_of part) ≡ size_of single ∷ []) }
+    ensures { MatchResult result (λ inner. spread kind (bound_of part) ≡ bounds_of inner.items) (λ single. spread kind (bound_of part) ≡ bound_of single ∷ []) }
 {
     match (kind, part) {
         (Kind::AsSum, Bound::Sum(inner)) => Ok(inner),
@@ -56,35 +60,23 @@ fn inner_parts(kind: Kind, part: Bound) -> Result<Vec<Bound>, Bound>
     }
 }
 
-// Two or more constants become one, at the first one's place, where what they make is below 2^127.
+// Two or more constants become one, where the first one stands, where what they make is at most 2^127-1.
 pub(crate) fn folded(alloc: Global, kind: Kind, parts: Vec<Bound>) -> Result<Vec<Bound>, Memory>
-    ensures { IfOk result (λ r. sizes_of r.items ≡ folded_of kind (sizes_of parts.items)) }
+    ensures { IfOk result (λ r. bounds_of r.items ≡ folded_of kind (bounds_of parts.items)) }
 {
-    if constant_count(&parts) < 2 {
+    if how_many(Counted::Constants, &parts) < 2 {
         return Ok(parts);
     }
     let total = constants_joined(kind, &parts);
-    if total >= CAP {
+    if total > CONSTANT_LIMIT {
         return Ok(parts);
     }
     with_one_constant(alloc, total, parts)
 }
 
-fn constant_count(parts: &[Bound]) -> usize
-    ensures { result ≡ length (constants_in (sizes_of parts.now)) }
-{
-    let mut count = 0usize;
-    for part in parts {
-        if is_const(part) {
-            count += 1;
-        }
-    }
-    count
-}
-
 // What the constants make, joined as the kind joins its parts, or 2^127 where it is more.
 fn constants_joined(kind: Kind, parts: &[Bound]) -> u128
-    ensures { result ≡ capped (all_joined kind (constants_in (sizes_of parts.now))) }
+    ensures { result ≡ capped (all_joined kind (constants_in (bounds_of parts.now))) }
 {
     let mut total = unit(kind);
     for part in parts {
@@ -95,7 +87,7 @@ fn constants_joined(kind: Kind, parts: &[Bound]) -> u128
 
 // A number joined with a part, where that is a constant.
 fn joined_with(kind: Kind, total: u128, part: &Bound) -> u128
-    ensures { result ≡ total_with kind total (size_of part.now) }
+    ensures { result ≡ total_with kind total (bound_of part.now) }
 {
     match part {
         Bound::Const(c) => joined(kind, total, *c),
@@ -126,16 +118,16 @@ fn joined(kind: Kind, a: u128, b: u128) -> u128
 
 // The constant in place of the first constant, and the other constants gone.
 fn with_one_constant(alloc: Global, constant: u128, parts: Vec<Bound>) -> Result<Vec<Bound>, Memory>
-    ensures { IfOk result (λ r. sizes_of r.items ≡ one_constant_of constant (sizes_of parts.items)) }
+    ensures { IfOk result (λ r. bounds_of r.items ≡ one_constant_of constant (bounds_of parts.items)) }
 {
     let mut kept = Vec::new(alloc);
-    let mut placed = false;
+    let mut inserted = false;
     for part in parts {
         if !is_const(&part) {
             kept.push(part)?;
-        } else if !placed {
+        } else if !inserted {
             kept.push(Bound::Const(constant))?;
-            placed = true;
+            inserted = true;
         }
     }
     Ok(kept)
@@ -143,10 +135,10 @@ fn with_one_constant(alloc: Global, constant: u128, parts: Vec<Bound>) -> Result
 
 // A product with a part 0 becomes 0.
 pub(crate) fn zeroed(kind: Kind, parts: Vec<Bound>) -> Bound
-    ensures { size_of result ≡ zeroed_of kind (sizes_of parts.items) }
+    ensures { bound_of result ≡ zeroed_of kind (bounds_of parts.items) }
 {
     match kind {
-        Kind::AsProd => if has_zero(&parts) {
+        Kind::AsProd => if has(Counted::Zeros, &parts) {
             Bound::Const(0)
         } else {
             Bound::Prod(parts)
@@ -156,34 +148,13 @@ pub(crate) fn zeroed(kind: Kind, parts: Vec<Bound>) -> Bound
     }
 }
 
-fn has_zero(parts: &[Bound]) -> bool
-    ensures { result ≡ list_any is_nothing (sizes_of parts.now) }
-{
-    for part in parts {
-        if is_zero(part) {
-            return true;
-        }
-    }
-    false
-}
-
-fn is_zero(bound: &Bound) -> bool
-    ensures { result ≡ is_nothing (size_of bound.now) }
-{
-    match bound {
-        Bound::Const(c) => *c == 0,
-        Bound::Var(_) | Bound::Sum(_) | Bound::Prod(_) | Bound::Max(_) | Bound::Power(_, _) =>
-            false,
-    }
-}
-
 // The parts that change something.
 pub(crate) fn without_neutral(
     alloc: Global,
     kind: Kind,
     parts: Vec<Bound>,
 ) -> Result<Vec<Bound>, Memory>
-    ensures { IfOk result (λ r. sizes_of r.items ≡ without_units kind (sizes_of parts.items)) }
+    ensures { IfOk result (λ r. bounds_of r.items ≡ without_units kind (bounds_of parts.items)) }
 {
     let mut kept = Vec::new(alloc);
     for part in parts {
@@ -196,7 +167,7 @@ pub(crate) fn without_neutral(
 
 // Whether a part of the kind changes nothing.
 fn is_neutral(kind: Kind, part: &Bound) -> bool
-    ensures { result ≡ is_unit kind (size_of part.now) }
+    ensures { result ≡ is_unit kind (bound_of part.now) }
 {
     match part {
         Bound::Const(c) => *c == unit(kind),
@@ -207,7 +178,7 @@ fn is_neutral(kind: Kind, part: &Bound) -> bool
 
 // A node without parts becomes its constant, and a single part stands by itself.
 pub(crate) fn simple(kind: Kind, parts: Vec<Bound>) -> Bound
-    ensures { size_of result ≡ simple_of kind (sizes_of parts.items) }
+    ensures { bound_of result ≡ simple_of kind (bounds_of parts.items) }
 {
     if parts.is_empty() {
         return Bound::Const(unit(kind));

@@ -1,22 +1,23 @@
 /// One case of a rewriting: what is done at a node of a bound.
 #[derive(Clone, Copy, Debug, PartialEq, Eq, Hash)]
 pub enum Case {
-    /// A sum in a sum, a product in a product and a greatest in a greatest is replaced by its parts, in place.
+    /// A sum in a sum, a product in a product and a maximum in a maximum is replaced by its parts, in place.
     Flat,
-    /// Two or more constants become one, at the first one's place, where what they make is below 2^127; else none is folded.
+    /// Two or more constants become one, where the first one stands, where what they make is at most 2^127-1; else none
+    /// is folded.
     FoldConst,
     /// A product with a factor 0 becomes 0.
     ZeroProduct,
-    /// Zeros of a sum or greatest and ones of a product are dropped.
+    /// Zeros of a sum or maximum and ones of a product are dropped.
     Neutral,
-    /// Factors are sorted by kind and then structurally, other parts by how many powers, sums and greatests, and variables are
-    /// among their factors, more first, then by the factors, and then by the constant, greater first. Equal ones stay as they
-    /// stood.
+    /// Factors are sorted by kind and then structurally, other parts by how many powers, sums and maximums, and
+    /// variables are among their factors, more first, then by the factors, and then by the constant, greater first.
+    /// Equal ones stay as they stood.
     Order,
-    /// Each longest run of neighbouring parts of a sum with the same factors becomes one part, the sum of their constants times
-    /// these factors, where that sum is below 2^127.
+    /// Each longest run of neighbouring parts of a sum with the same factors becomes one part, the sum of their
+    /// constants times these factors, where that sum is at most 2^127-1.
     Like,
-    /// A part of a greatest that is below another one is dropped.
+    /// A part of a maximum that is below another one is dropped.
     Dominate,
     /// A node of no parts becomes a constant, and a part alone stands for itself.
     Few,
@@ -50,17 +51,30 @@ pub enum Kind {
     AsSum,
     /// A product.
     AsProd,
-    /// A greatest.
+    /// A maximum.
     AsMax,
 }
 
-/// The factors that the order of the parts of a sum or greatest counts.
+/// The bounds that are counted, or looked for, among others.
 #[derive(Clone, Copy, Debug, PartialEq, Eq)]
-pub enum Counted {
+pub(crate) enum Counted {
+    /// Constants.
+    Constants,
+    /// Constants 0.
+    Zeros,
     /// Powers.
     Powers,
-    /// Sums and greatests.
+    /// Sums and maximums.
     Nests,
     /// Variables.
     Inputs,
+}
+
+/// What two bounds are when one looks for another that it is below.
+#[derive(Clone, Copy, Debug, PartialEq, Eq)]
+pub(crate) enum Pairing {
+    /// Parts of a sum.
+    AsTerms,
+    /// Factors.
+    AsFactors,
 }

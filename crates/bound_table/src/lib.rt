@@ -1,7 +1,8 @@
-// The rewriting of bounds by a table of cases, and the test that one bound is below another. What a rewriting gives has the
-// value of what it was given, and a bound that is below another has no greater value.
+// The rewriting of bounds by a table of cases, and the test that one bound is below another. What a rewriting gives has
+// the value of what it was given, and a bound that is below another has no greater value.
 #![tactic(auto, using(crate::proofs::Loops::views))]
 
+mod counting;
 mod dominance;
 mod folding;
 mod kinds;
@@ -13,11 +14,10 @@ mod rewriting;
 mod sorting;
 mod structure;
 mod terms;
+mod within;
 
 pub use kinds::{Case, Cases, SMALL};
 pub use lower::below;
 pub use rewriting::{rewrite, simplify};
 pub use structure::compare;
-
-#[cfg(test)]
-mod tests;
+pub use within::{Within, rewrite_within};

@@ -1,14 +1,15 @@
 ghost use Rattle.std.specs.Prelude.{◌≡◌, ◌++◌, ◌∷◌, [], ◌^◌, IfOk, OnOk};
-ghost use Rattle.bound_expr.specs.Views.{size_of, sizes_of};
+ghost use Rattle.bound_expr.specs.Views.{bound_of, bounds_of};
 ghost use Rattle.bound_expr.specs.Capped.{capped};
 ghost use Rattle.model.specs.Bounds.{Constant};
-ghost use Rattle.bound_table.specs.Terms.{factors_of, behind_constant, begins_with_constant};
-ghost use Rattle.bound_table.specs.Likes.{is_like as are_like, last_is_like, constants_total as total_of, times, joined_list, likes_joined as likes_joined_of, runs_of, all_runs_joined};
+ghost use Rattle.bound_table.specs.Terms.{factors_of, after_constant, begins_with_constant};
+ghost use Rattle.bound_table.specs.Likes.{is_like as are_like, last_is_like, constants_total as total_of, times};
+ghost use Rattle.bound_table.specs.Likes.{joined_list, likes_joined as likes_joined_of, runs_of, all_runs_joined};
 
 use crate::kinds::Kind;
 use crate::order::factor_lists;
 use crate::terms::{is_const, term_of};
-use bound_expr::{Bound, CAP, Memory, capped_add};
+use bound_expr::{Bound, CONSTANT_LIMIT, Memory, capped_add};
 use std::alloc::Global;
 use std::cmp::Ordering;
 use std::mem;
@@ -19,7 +20,7 @@ pub(crate) fn likes_joined(
     kind: Kind,
     parts: Vec<Bound>,
 ) -> Result<Vec<Bound>, Memory>
-    ensures { IfOk result (λ r. sizes_of r.items ≡ likes_joined_of kind (sizes_of parts.items)) }
+    ensures { IfOk result (λ r. bounds_of r.items ≡ likes_joined_of kind (bounds_of parts.items)) }
 {
     match kind {
         Kind::AsSum => runs_joined(alloc, parts),
@@ -27,9 +28,9 @@ pub(crate) fn likes_joined(
     }
 }
 
-// Each longest run of neighbours that are alike joined, in its place.
+// Each longest run of neighbours that are alike joined, where it stands.
 fn runs_joined(alloc: Global, parts: Vec<Bound>) -> Result<Vec<Bound>, Memory>
-    ensures { IfOk result (λ r. sizes_of r.items ≡ all_runs_joined (runs_of (sizes_of parts.items))) }
+    ensures { IfOk result (λ r. bounds_of r.items ≡ all_runs_joined (runs_of (bounds_of parts.items))) }
 {
     let mut done = Vec::new(alloc);
     let mut run = Vec::new(alloc);
@@ -46,7 +47,7 @@ fn runs_joined(alloc: Global, parts: Vec<Bound>) -> Result<Vec<Bound>, Memory>
 
 // Whether a part goes on with a run.
 fn goes_on(run: &[Bound], part: &Bound) -> bool
-    ensures { result ≡ last_is_like (sizes_of run.now) (size_of part.now) }
+    ensures { result ≡ last_is_like (bounds_of run.now) (bound_of part.now) }
 {
     if run.is_empty() {
         return false;
@@ -56,23 +57,23 @@ fn goes_on(run: &[Bound], part: &Bound) -> bool
 
 // Whether two parts have the same factors, at least one.
 fn is_like(part: &Bound, other: &Bound) -> bool
-    ensures { result ≡ are_like (size_of part.now) (size_of other.now) }
+    ensures { result ≡ are_like (bound_of part.now) (bound_of other.now) }
 {
     let first = term_of(part);
     let second = term_of(other);
     !first.factors.is_empty() && factor_lists(first.factors, second.factors) == Ordering::Equal
 }
 
-// Puts a run behind what is done: as one part where it has two or more and their constants add up to less than 2^127.
+// Puts a run behind what is done: as one part where it has two or more and their constants add up to at most 2^127-1.
 fn push_joined(alloc: Global, run: Vec<Bound>, done: &mut Vec<Bound>) -> Result<(), Memory>
-    ensures { OnOk result (sizes_of done.new.items ≡ sizes_of done.old.items ++ joined_list (sizes_of run.items)) }
+    ensures { OnOk result (bounds_of done.new.items ≡ bounds_of done.old.items ++ joined_list (bounds_of run.items)) }
 {
     let mut run = run;
     if run.len() < 2 {
         return done.append(&mut run);
     }
     let total = constants_total(&run);
-    if total >= CAP {
+    if total > CONSTANT_LIMIT {
         return done.append(&mut run);
     }
     let first = run.remove(0);
@@ -83,7 +84,7 @@ fn push_joined(alloc: Global, run: Vec<Bound>, done: &mut Vec<Bound>) -> Result<
 
 // The sum of the constants of the parts, or 2^127 where it is greater.
 fn constants_total(parts: &[Bound]) -> u128
-    ensures { result ≡ capped (total_of (sizes_of parts.now)) }
+    ensures { result ≡ capped (total_of (bounds_of parts.now)) }
 {
     let mut total = 0u128;
     for part in parts {
@@ -94,7 +95,7 @@ fn constants_total(parts: &[Bound]) -> u128
 
 // A constant times the factors of a part.
 fn with_constant(alloc: Global, constant: u128, part: Bound) -> Result<Bound, Memory>
-    ensures { IfOk result (λ r. size_of r ≡ times constant (factors_of (size_of part))) }
+    ensures { IfOk result (λ r. bound_of r ≡ times constant (factors_of (bound_of part))) }
 {
     let mut factors = factors_from(alloc, part)?;
     factors.insert(0, Bound::Const(constant))?;
@@ -103,7 +104,7 @@ fn with_constant(alloc: Global, constant: u128, part: Bound) -> Result<Bound, Me
 
 // The factors of a part.
 fn factors_from(alloc: Global, part: Bound) -> Result<Vec<Bound>, Memory>
-    ensures { IfOk result (λ r. sizes_of r.items ≡ factors_of (size_of part)) }
+    ensures { IfOk result (λ r. bounds_of r.items ≡ factors_of (bound_of part)) }
 {
     match part {
         Bound::Const(_) => Ok(Vec::new(alloc)),
@@ -114,7 +115,7 @@ fn factors_from(alloc: Global, part: Bound) -> Result<Vec<Bound>, Memory>
 
 // The factors behind a constant that stands first.
 fn without_leading(parts: Vec<Bound>) -> Vec<Bound>
-    ensures { sizes_of result.items ≡ behind_constant (sizes_of parts.items) }
+    ensures { bounds_of result.items ≡ after_constant (bounds_of parts.items) }
 {
     let mut parts = parts;
     if starts_with_constant(&parts) {
@@ -124,7 +125,7 @@ fn without_leading(parts: Vec<Bound>) -> Vec<Bound>
 }
 
 fn starts_with_constant(parts: &[Bound]) -> bool
-    ensures { result ≡ begins_with_constant (sizes_of parts.now) }
+    ensures { result ≡ begins_with_constant (bounds_of parts.now) }
 {
     match parts.split_first() {
         Some((first, _)) => is_const(first),

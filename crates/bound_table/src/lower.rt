@@ -1,33 +1,37 @@
 ghost use Rattle.std.specs.Prelude.{◌≡◌, IsTrue, ◌≤◌, length};
 ghost use Rattle.std.specs.List.{list_any, list_all};
 ghost use Rattle.model.specs.Bounds.{IsBased};
-ghost use Rattle.bound_expr.specs.Views.{size_of, sizes_of};
-ghost use Rattle.bound_expr.specs.Tidy.{IsNoGreatest};
-ghost use Rattle.bound_table.specs.Below.{below as is_lower, below_one, term_below, factor_below, each_takes, taken, IsNeverGreater};
-ghost use Rattle.bound_table.specs.Taking.{left_after, takes_fully, input_among, IsMarked};
+ghost use Rattle.bound_expr.specs.Views.{bound_of, bounds_of};
+ghost use Rattle.bound_expr.specs.Tidy.{IsNoMaximum};
+ghost use Rattle.bound_table.specs.Below.{below as is_lower, below_one, term_below, factor_below, each_takes, taken};
+ghost use Rattle.bound_table.specs.Below.{IsNeverGreater};
+ghost use Rattle.bound_table.specs.Taking.{paired_below, left_after, takes_fully, factors_taken, input_among, IsMarked};
 ghost use Rattle.bound_table.specs.Kinds.{is_same_input};
 
+use crate::counting::has;
+use crate::kinds::{Counted, Pairing};
 use crate::marks::{MARKED, is_same_var, mark};
-use crate::terms::{has_constant, is_power_or_var, term_of, terms_of};
+use crate::terms::{is_power_or_var, term_of, terms_of};
 use bound_expr::Bound;
 
-/// Whether `a` is below `b`, as a test on their structure; a yes means that no value of `a` is greater than that of `b`.
+/// Whether `a` is below `b`, as a test on their structure; a yes means that no value of `a` is greater than that of
+/// `b`.
 ///
-/// A constant 0 is below every bound. A greatest is below what all of its parts are below, and any other bound is below a
-/// greatest where it is below one of its parts. Otherwise each part of `a`, in order, has to take the first part of `b`, after
-/// the one taken before, that it is below as a constant times factors.
+/// A constant 0 is below every bound. A maximum is below what all of its parts are below, and any other bound is below
+/// a maximum where it is below one of its parts. Otherwise each part of `a`, in order, has to take the first part of
+/// `b`, after the one taken before, that it is below as a constant times factors.
 pub fn below(a: &Bound, b: &Bound) -> bool
-    requires a_based { IsBased (size_of a.now) }
-    requires b_based { IsBased (size_of b.now) }
-    ensures exact { result ≡ is_lower (size_of a.now) (size_of b.now) }
-    ensures sound { IsTrue result → IsNeverGreater (size_of a.now) (size_of b.now) }
+    requires a_based { IsBased (bound_of a.now) }
+    requires b_based { IsBased (bound_of b.now) }
+    ensures exact { result ≡ is_lower (bound_of a.now) (bound_of b.now) }
+    ensures sound { IsTrue result → IsNeverGreater (bound_of a.now) (bound_of b.now) }
 {
     is_below(a, b)
 }
 
 #[cycle(below)]
 pub(crate) fn is_below(a: &Bound, b: &Bound) -> bool
-    ensures { result ≡ is_lower (size_of a.now) (size_of b.now) }
+    ensures { result ≡ is_lower (bound_of a.now) (bound_of b.now) }
 {
     match a {
         Bound::Const(c) => *c == 0 || one_below(a, b),
@@ -39,7 +43,7 @@ pub(crate) fn is_below(a: &Bound, b: &Bound) -> bool
 // Whether each part is below b.
 #[cycle(below)]
 fn all_below(parts: &[Bound], b: &Bound) -> bool
-    ensures { result ≡ list_all (λ p. is_lower p (size_of b.now)) (sizes_of parts.now) }
+    ensures { result ≡ list_all (λ p. is_lower p (bound_of b.now)) (bounds_of parts.now) }
 {
     for part in parts {
         if !is_below(part, b) {
@@ -49,11 +53,11 @@ fn all_below(parts: &[Bound], b: &Bound) -> bool
     true
 }
 
-// Whether a, which is no greatest, is below b.
+// Whether a, which is no maximum, is below b.
 #[cycle(below)]
 fn one_below(a: &Bound, b: &Bound) -> bool
-    requires { IsNoGreatest (size_of a.now) }
-    ensures { result ≡ below_one (λ p q. is_lower p q) (size_of a.now) (size_of b.now) }
+    requires { IsNoMaximum (bound_of a.now) }
+    ensures { result ≡ below_one (λ p q. is_lower p q) (bound_of a.now) (bound_of b.now) }
 {
     match b {
         Bound::Max(parts) => any_above(a, parts),
@@ -66,7 +70,7 @@ fn one_below(a: &Bound, b: &Bound) -> bool
 // Whether a is below one of the parts.
 #[cycle(below)]
 pub(crate) fn any_above(a: &Bound, parts: &[Bound]) -> bool
-    ensures { result ≡ list_any (λ q. is_lower (size_of a.now) q) (sizes_of parts.now) }
+    ensures { result ≡ list_any (λ q. is_lower (bound_of a.now) q) (bounds_of parts.now) }
 {
     for part in parts {
         if is_below(a, part) {
@@ -79,22 +83,23 @@ pub(crate) fn any_above(a: &Bound, parts: &[Bound]) -> bool
 // Whether each of the first parts takes one of the others that it is below.
 #[cycle(below)]
 fn terms_below(parts: &[Bound], others: &[Bound]) -> bool
-    ensures { result ≡ each_takes (term_below (λ p q. is_lower p q)) (sizes_of parts.now) (sizes_of others.now) }
+    ensures { result ≡ each_takes (term_below (λ p q. is_lower p q)) (bounds_of parts.now) (bounds_of others.now) }
 {
     let mut left = parts;
     for other in others {
-        left = after_term(left, other);
+        left = still_left(Pairing::AsTerms, left, other);
     }
     left.is_empty()
 }
 
-// The parts that still look for one, after one has been offered to the first of them.
+// Those that still look for one, after one has been offered to the first of them.
 #[cycle(below)]
-fn after_term<'a>(left: &'a [Bound], other: &Bound) -> &'a [Bound]
-    ensures { sizes_of result.now ≡ left_after (term_below (λ p q. is_lower p q)) (sizes_of left.now) (size_of other.now) }
+fn still_left<'a>(pairing: Pairing, left: &'a [Bound], other: &Bound) -> &'a [Bound]
+    ensures { bounds_of result.now
+        ≡ left_after (paired_below pairing (λ p q. is_lower p q)) (bounds_of left.now) (bound_of other.now) }
 {
     match left.split_first() {
-        Some((first, rest)) => if is_term_below(first, other) {
+        Some((first, rest)) => if is_paired(pairing, first, other) {
             rest
         } else {
             left
@@ -103,14 +108,25 @@ fn after_term<'a>(left: &'a [Bound], other: &Bound) -> &'a [Bound]
     }
 }
 
+// Whether one is below another as what both are.
+#[cycle(below)]
+fn is_paired(pairing: Pairing, part: &Bound, other: &Bound) -> bool
+    ensures { result ≡ paired_below pairing (λ p q. is_lower p q) (bound_of part.now) (bound_of other.now) }
+{
+    match pairing {
+        Pairing::AsTerms => is_term_below(part, other),
+        Pairing::AsFactors => is_factor_below(part, other),
+    }
+}
+
 #[cycle(below)]
 fn is_term_below(part: &Bound, other: &Bound) -> bool
-    ensures { result ≡ term_below (λ p q. is_lower p q) (size_of part.now) (size_of other.now) }
+    ensures { result ≡ term_below (λ p q. is_lower p q) (bound_of part.now) (bound_of other.now) }
 {
     let lesser = term_of(part);
     let greater = term_of(other);
-    !has_constant(lesser.factors)
-        && !has_constant(greater.factors)
+    !has(Counted::Constants, lesser.factors)
+        && !has(Counted::Constants, greater.factors)
         && lesser.constant <= greater.constant
         && factors_below(lesser.factors, greater.factors)
 }
@@ -118,13 +134,13 @@ fn is_term_below(part: &Bound, other: &Bound) -> bool
 // Whether each factor takes one of the others that it is below, and what is left over may be left.
 #[cycle(below)]
 fn factors_below(factors: &[Bound], others: &[Bound]) -> bool
-    ensures { result ≡ takes_fully (factor_below (λ p q. is_lower p q)) (sizes_of factors.now) (sizes_of others.now) }
+    ensures { result ≡ takes_fully (factor_below (λ p q. is_lower p q)) (bounds_of factors.now) (bounds_of others.now) }
 {
     let mut marks = [false; MARKED];
     let mut left = factors;
     let mut fit = true;
     for other in others {
-        let after = after_factor(left, other);
+        let after = still_left(Pairing::AsFactors, left, other);
         if after.len() < left.len() {
             mark(&mut marks, other);
         } else {
@@ -144,8 +160,9 @@ fn factors_below(factors: &[Bound], others: &[Bound]) -> bool
 // Whether each variable among the others is one that is taken.
 #[cycle(below)]
 fn inputs_taken(factors: &[Bound], others: &[Bound], marks: &[bool]) -> bool
-    requires { IsMarked marks.now (taken (factor_below (λ p q. is_lower p q)) (sizes_of factors.now) (sizes_of others.now)) }
-    ensures { result ≡ list_all (input_among (taken (factor_below (λ p q. is_lower p q)) (sizes_of factors.now) (sizes_of others.now))) (sizes_of others.now) }
+    requires { IsMarked marks.now (factors_taken (bounds_of factors.now) (bounds_of others.now)) }
+    ensures { result
+        ≡ list_all (input_among (factors_taken (bounds_of factors.now) (bounds_of others.now))) (bounds_of others.now) }
 {
     for other in others {
         if !input_taken(factors, others, marks, other) {
@@ -155,17 +172,18 @@ fn inputs_taken(factors: &[Bound], others: &[Bound], marks: &[bool]) -> bool
     true
 }
 
-// Whether a variable is one that is taken: by its mark, and where there is no place for one by taking all again.
+// Whether a variable is one that is taken: by its mark, and where there is no room for one by taking all again.
 #[cycle(below)]
 fn input_taken(factors: &[Bound], others: &[Bound], marks: &[bool], input: &Bound) -> bool
-    requires { IsMarked marks.now (taken (factor_below (λ p q. is_lower p q)) (sizes_of factors.now) (sizes_of others.now)) }
-    ensures { result ≡ input_among (taken (factor_below (λ p q. is_lower p q)) (sizes_of factors.now) (sizes_of others.now)) (size_of input.now) }
+    requires { IsMarked marks.now (factors_taken (bounds_of factors.now) (bounds_of others.now)) }
+    ensures { result
+        ≡ input_among (factors_taken (bounds_of factors.now) (bounds_of others.now)) (bound_of input.now) }
 {
     match input {
         Bound::Var(i) => {
-            let place = *i as usize;
-            if place < marks.len() {
-                marks[place]
+            let index = *i as usize;
+            if index < marks.len() {
+                marks[index]
             } else {
                 is_among_taken(factors, others, input)
             }
@@ -178,12 +196,13 @@ fn input_taken(factors: &[Bound], others: &[Bound], marks: &[bool], input: &Boun
 // Whether the factors take a variable that is the same as this one.
 #[cycle(below)]
 fn is_among_taken(factors: &[Bound], others: &[Bound], input: &Bound) -> bool
-    ensures { result ≡ list_any (is_same_input (size_of input.now)) (taken (factor_below (λ p q. is_lower p q)) (sizes_of factors.now) (sizes_of others.now)) }
+    ensures { result
+        ≡ list_any (is_same_input (bound_of input.now)) (factors_taken (bounds_of factors.now) (bounds_of others.now)) }
 {
     let mut left = factors;
     let mut found = false;
     for other in others {
-        let after = after_factor(left, other);
+        let after = still_left(Pairing::AsFactors, left, other);
         if after.len() < left.len() {
             found = found || is_same_var(input, other);
         }
@@ -192,24 +211,9 @@ fn is_among_taken(factors: &[Bound], others: &[Bound], input: &Bound) -> bool
     found
 }
 
-// The factors that still look for one, after one has been offered to the first of them.
-#[cycle(below)]
-fn after_factor<'a>(left: &'a [Bound], other: &Bound) -> &'a [Bound]
-    ensures { sizes_of result.now ≡ left_after (factor_below (λ p q. is_lower p q)) (sizes_of left.now) (size_of other.now) }
-{
-    match left.split_first() {
-        Some((first, rest)) => if is_factor_below(first, other) {
-            rest
-        } else {
-            left
-        },
-        None => left,
-    }
-}
-
 #[cycle(below)]
 fn is_factor_below(factor: &Bound, other: &Bound) -> bool
-    ensures { result ≡ factor_below (λ p q. is_lower p q) (size_of factor.now) (size_of other.now) }
+    ensures { result ≡ factor_below (λ p q. is_lower p q) (bound_of factor.now) (bound_of other.now) }
 {
     match factor {
         Bound::Var(i) => match other {

@@ -1,9 +1,10 @@
-ghost use Rattle.std.specs.Prelude.{◌≡◌, ◌+◌, ◌≤◌, length, IfOk, insert};
+ghost use Rattle.std.specs.Prelude.{◌≡◌};
 ghost use Rattle.std.specs.Cmp.Lexicographic.{slice_cmp};
-ghost use Rattle.bound_expr.specs.Views.{size_of, sizes_of};
+ghost use Rattle.bound_expr.specs.Views.{bound_of, bounds_of};
 ghost use Rattle.bound_table.specs.Comparison.{compared};
-ghost use Rattle.bound_table.specs.Sorting.{factor_rank as rank_of, factors_compared, parts_compared, order_of, is_counted as counts, how_many as number_of, placed, sorted};
+ghost use Rattle.bound_table.specs.Sorting.{factor_rank as rank_of, factors_compared, parts_compared, order_of};
 
+use crate::counting::how_many;
 use crate::kinds::{Counted, Kind};
 use crate::structure::{compare, compare_all};
 use crate::terms::term_of;
@@ -13,7 +14,7 @@ use std::cmp::Ordering;
 
 // The order of two parts of a node of the kind.
 pub(crate) fn order(kind: Kind, part: &Bound, other: &Bound) -> Ordering
-    ensures { result ≡ order_of kind (size_of part.now) (size_of other.now) }
+    ensures { result ≡ order_of kind (bound_of part.now) (bound_of other.now) }
 {
     match kind {
         Kind::AsProd => order_of_factors(part, other),
@@ -22,16 +23,16 @@ pub(crate) fn order(kind: Kind, part: &Bound, other: &Bound) -> Ordering
 }
 
 fn order_of_factors(part: &Bound, other: &Bound) -> Ordering
-    ensures { result ≡ factors_compared (size_of part.now) (size_of other.now) }
+    ensures { result ≡ factors_compared (bound_of part.now) (bound_of other.now) }
 {
     factor_rank(part)
         .cmp(&factor_rank(other))
         .then(compare(part, other))
 }
 
-// The place of a kind of bound among factors.
+// The rank of a kind of bound among factors.
 fn factor_rank(bound: &Bound) -> u8
-    ensures { result ≡ rank_of (size_of bound.now) }
+    ensures { result ≡ rank_of (bound_of bound.now) }
 {
     match bound {
         Bound::Const(_) => 0,
@@ -44,7 +45,7 @@ fn factor_rank(bound: &Bound) -> u8
 }
 
 fn order_of_parts(part: &Bound, other: &Bound) -> Ordering
-    ensures { result ≡ parts_compared (size_of part.now) (size_of other.now) }
+    ensures { result ≡ parts_compared (bound_of part.now) (bound_of other.now) }
 {
     let first = term_of(part);
     let second = term_of(other);
@@ -67,30 +68,7 @@ fn order_of_parts(part: &Bound, other: &Bound) -> Ordering
 
 // The order of two lists of factors.
 pub(crate) fn factor_lists(factors: &[Bound], others: &[Bound]) -> Ordering
-    ensures { result ≡ slice_cmp compared (sizes_of factors.now) (sizes_of others.now) }
+    ensures { result ≡ slice_cmp compared (bounds_of factors.now) (bounds_of others.now) }
 {
     compare_all(factors, others)
-}
-
-// How many of the factors are counted.
-fn how_many(counted: Counted, factors: &[Bound]) -> usize
-    ensures { result ≡ number_of (counts counted) (sizes_of factors.now) }
-{
-    let mut number = 0usize;
-    for factor in factors {
-        if is_counted(counted, factor) {
-            number += 1;
-        }
-    }
-    number
-}
-
-fn is_counted(counted: Counted, factor: &Bound) -> bool
-    ensures { result ≡ counts counted (size_of factor.now) }
-{
-    match counted {
-        Counted::Powers => matches!(factor, Bound::Power(_, _)),
-        Counted::Nests => matches!(factor, Bound::Sum(_) | Bound::Max(_)),
-        Counted::Inputs => matches!(factor, Bound::Var(_)),
-    }
 }

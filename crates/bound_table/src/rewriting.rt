@@ -1,10 +1,12 @@
 ghost use Rattle.std.specs.Prelude.{◌≡◌, IfOk};
 ghost use Rattle.model.specs.Bounds.{IsBased};
-ghost use Rattle.bound_expr.specs.Tidy.{IsTidy, HasTidyNumbers};
+ghost use Rattle.bound_expr.specs.Numbers.{HasTidyNumbers};
+ghost use Rattle.bound_expr.specs.Tidy.{IsTidy};
 ghost use Rattle.bound_table.specs.InForce.{rewritten as rewritten_of};
-ghost use Rattle.bound_table.specs.Laws.{HasValueOf, ReadsNoMore, IsTidying};
-ghost use Rattle.bound_expr.specs.Views.{size_of, sizes_of, parts_of};
-ghost use Rattle.bound_table.specs.Rewriting.{at_parts as made_of_parts, at_node as made_of_node, at_node_all, parts_passed, one_pass, one_pass_each, simplified};
+ghost use Rattle.bound_table.specs.Laws.{HasValueOf, ReadsNoMore, KeepsNumbers, IsTidying};
+ghost use Rattle.bound_expr.specs.Views.{bound_of, bounds_of, parts_of};
+ghost use Rattle.bound_table.specs.Rewriting.{at_parts as made_of_parts, at_node as made_of_node, at_node_all};
+ghost use Rattle.bound_table.specs.Rewriting.{parts_passed, one_pass, one_pass_each, simplified};
 
 use crate::dominance::dominant;
 use crate::folding::{folded, simple, spliced, whole, without_neutral, zeroed};
@@ -29,20 +31,21 @@ macro_rules! cases {
 
 /// The bound `b` rewritten by a table of cases.
 ///
-/// A pass builds the bound again from the leaves up, and applies the cases of the table once each, in order, to each node as it
-/// then stands. There are as many passes as change something, at most sixteen.
+/// A pass builds the bound again from the leaves up, and applies the cases of the table once each, in order, to each
+/// node as it then stands. There are as many passes as change something, at most sixteen.
 ///
 /// # Errors
 ///
 /// `Memory` where an allocation fails.
 pub fn simplify<const N: usize>(alloc: Global, cases: &Cases<N>, b: &Bound) -> Result<Bound, Memory>
-    ensures outcome { IfOk result (λ r. size_of r ≡ simplified cases.now.list (size_of b.now)) }
+    ensures outcome { IfOk result (λ r. bound_of r ≡ simplified cases.now.list (bound_of b.now)) }
 
-    // No value changes, no variable is read that was not read before, and a table that begins with Flat and ends with Few
-    // makes the bound tidy.
-    ensures value { IsBased (size_of b.now) → IfOk result (λ r. HasValueOf (size_of r) (size_of b.now)) }
-    ensures reads { IfOk result (λ r. ReadsNoMore (size_of r) (size_of b.now)) }
-    ensures tidy { IsTidying cases.now.list → HasTidyNumbers (size_of b.now) → IfOk result (λ r. IsTidy (size_of r)) }
+    // No value changes, no variable is read that was not read before, and a table that begins with Flat and ends with
+    // Few makes the bound tidy.
+    ensures value { IsBased (bound_of b.now) → IfOk result (λ r. HasValueOf (bound_of r) (bound_of b.now)) }
+    ensures reads { IfOk result (λ r. ReadsNoMore (bound_of r) (bound_of b.now)) }
+    ensures numbers { IfOk result (λ r. KeepsNumbers (bound_of r) (bound_of b.now)) }
+    ensures tidy { IsTidying cases.now.list → HasTidyNumbers (bound_of b.now) → IfOk result (λ r. IsTidy (bound_of r)) }
 {
     rewritten(alloc, &cases.list, b)
 }
@@ -53,17 +56,18 @@ pub fn simplify<const N: usize>(alloc: Global, cases: &Cases<N>, b: &Bound) -> R
 ///
 /// `Memory` where an allocation fails.
 pub fn rewrite(alloc: Global, b: &Bound) -> Result<Bound, Memory>
-    ensures outcome { IfOk result (λ r. size_of r ≡ rewritten_of (size_of b.now)) }
-    ensures value { IsBased (size_of b.now) → IfOk result (λ r. HasValueOf (size_of r) (size_of b.now)) }
-    ensures reads { IfOk result (λ r. ReadsNoMore (size_of r) (size_of b.now)) }
-    ensures tidy { HasTidyNumbers (size_of b.now) → IfOk result (λ r. IsTidy (size_of r)) }
+    ensures outcome { IfOk result (λ r. bound_of r ≡ rewritten_of (bound_of b.now)) }
+    ensures value { IsBased (bound_of b.now) → IfOk result (λ r. HasValueOf (bound_of r) (bound_of b.now)) }
+    ensures reads { IfOk result (λ r. ReadsNoMore (bound_of r) (bound_of b.now)) }
+    ensures numbers { IfOk result (λ r. KeepsNumbers (bound_of r) (bound_of b.now)) }
+    ensures tidy { HasTidyNumbers (bound_of b.now) → IfOk result (λ r. IsTidy (bound_of r)) }
 {
     simplify(alloc, &SMALL, b)
 }
 
 // As many passes as change something, at most sixteen.
 fn rewritten(alloc: Global, cases: &[Case], b: &Bound) -> Result<Bound, Memory>
-    ensures { IfOk result (λ r. size_of r ≡ simplified cases.now (size_of b.now)) }
+    ensures { IfOk result (λ r. bound_of r ≡ simplified cases.now (bound_of b.now)) }
 {
     let mut now = b.copied(alloc)?;
     for _ in 0..PASSES {
@@ -79,7 +83,7 @@ fn rewritten(alloc: Global, cases: &[Case], b: &Bound) -> Result<Bound, Memory>
 // One pass: the bound built again from the leaves up.
 #[cycle(pass)]
 fn pass(alloc: Global, cases: &[Case], bound: &Bound) -> Result<Bound, Memory>
-    ensures { IfOk result (λ r. size_of r ≡ one_pass cases.now (size_of bound.now)) }
+    ensures { IfOk result (λ r. bound_of r ≡ one_pass cases.now (bound_of bound.now)) }
 {
     let node = with_parts_passed(alloc, cases, bound)?;
     at_cases(alloc, cases, node)
@@ -89,7 +93,7 @@ fn pass(alloc: Global, cases: &[Case], bound: &Bound) -> Result<Bound, Memory>
 #[cycle(pass)]
 #[tactic(auto, using(crate::proofs::Loops::views), unfolding(crate::specs::Rewriting::parts_passed))]
 fn with_parts_passed(alloc: Global, cases: &[Case], bound: &Bound) -> Result<Bound, Memory>
-    ensures { IfOk result (λ r. size_of r ≡ parts_passed cases.now (size_of bound.now)) }
+    ensures { IfOk result (λ r. bound_of r ≡ parts_passed cases.now (bound_of bound.now)) }
 {
     match bound {
         Bound::Const(c) => Ok(Bound::Const(*c)),
@@ -108,7 +112,7 @@ fn with_parts_passed(alloc: Global, cases: &[Case], bound: &Bound) -> Result<Bou
 #[cycle(pass)]
 #[tactic(auto, using(crate::proofs::Passes::one_pass_each_steps), unfolding(crate::specs::Rewriting::parts_passed))]
 fn pass_each(alloc: Global, cases: &[Case], parts: &[Bound]) -> Result<Vec<Bound>, Memory>
-    ensures { IfOk result (λ r. parts_of (sizes_of r.items) ≡ one_pass_each cases.now (parts_of (sizes_of parts.now))) }
+    ensures { IfOk result (λ r. parts_of (bounds_of r.items) ≡ one_pass_each cases.now (parts_of (bounds_of parts.now))) }
 {
     let mut outcomes = Vec::new(alloc);
     for part in parts {
@@ -119,7 +123,7 @@ fn pass_each(alloc: Global, cases: &[Case], parts: &[Bound]) -> Result<Vec<Bound
 
 // The cases applied once each, in order, to a node as it then stands.
 fn at_cases(alloc: Global, cases: &[Case], node: Bound) -> Result<Bound, Memory>
-    ensures { IfOk result (λ r. size_of r ≡ at_node_all cases.now (size_of node)) }
+    ensures { IfOk result (λ r. bound_of r ≡ at_node_all cases.now (bound_of node)) }
 {
     let mut now = node;
     for case in cases {
@@ -131,7 +135,7 @@ fn at_cases(alloc: Global, cases: &[Case], node: Bound) -> Result<Bound, Memory>
 // A case applied to a node.
 #[tactic(auto, using(crate::proofs::Loops::views), unfolding(crate::specs::Rewriting::at_node))]
 fn at_node(alloc: Global, case: Case, node: Bound) -> Result<Bound, Memory>
-    ensures { IfOk result (λ r. size_of r ≡ made_of_node case (size_of node)) }
+    ensures { IfOk result (λ r. bound_of r ≡ made_of_node case (bound_of node)) }
 {
     match node {
         Bound::Sum(parts) => at_parts(alloc, case, Kind::AsSum, parts),
@@ -145,7 +149,7 @@ fn at_node(alloc: Global, case: Case, node: Bound) -> Result<Bound, Memory>
 
 // A case applied to a node of a kind with these parts.
 fn at_parts(alloc: Global, case: Case, kind: Kind, parts: Vec<Bound>) -> Result<Bound, Memory>
-    ensures { IfOk result (λ r. size_of r ≡ made_of_parts case kind (sizes_of parts.items)) }
+    ensures { IfOk result (λ r. bound_of r ≡ made_of_parts case kind (bounds_of parts.items)) }
 {
     cases! { case;
         Flat => Ok(whole(kind, spliced(alloc, kind, parts)?)),

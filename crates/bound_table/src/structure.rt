@@ -1,16 +1,16 @@
 ghost use Rattle.std.specs.Prelude.{◌≡◌};
 ghost use Rattle.std.specs.Ordering.{is_eq};
-ghost use Rattle.bound_expr.specs.Views.{size_of, sizes_of, parts_of};
+ghost use Rattle.bound_expr.specs.Views.{bound_of, bounds_of, parts_of};
 ghost use Rattle.bound_table.specs.Comparison.{compared, all_compared, kind_rank as rank_of};
 
 use bound_expr::Bound;
 use std::cmp::Ordering;
 
-/// The structural order of two bounds: by kind, in the order constant, variable, sum, product, greatest, power; then by numbers,
-/// by lists part by part with a proper prefix first, and by the base of a power before its exponent.
+/// The structural order of two bounds: by kind, in the order constant, variable, sum, product, maximum, power; then by
+/// numbers, by lists part by part with a proper prefix first, and by the base of a power before its exponent.
 #[cycle(compare)]
 pub fn compare(a: &Bound, b: &Bound) -> Ordering
-    ensures { result ≡ compared (size_of a.now) (size_of b.now) }
+    ensures { result ≡ compared (bound_of a.now) (bound_of b.now) }
 {
     match (a, b) {
         (Bound::Const(c), Bound::Const(d)) => c.cmp(d),
@@ -27,7 +27,7 @@ pub fn compare(a: &Bound, b: &Bound) -> Ordering
 
 // Whether two bounds are the same, node for node.
 pub(crate) fn is_same(a: &Bound, b: &Bound) -> bool
-    ensures { result ≡ is_eq (compared (size_of a.now) (size_of b.now)) }
+    ensures { result ≡ is_eq (compared (bound_of a.now) (bound_of b.now)) }
 {
     compare(a, b) == Ordering::Equal
 }
@@ -35,7 +35,7 @@ pub(crate) fn is_same(a: &Bound, b: &Bound) -> bool
 /// The order of two lists of bounds, part by part, a proper prefix first.
 #[cycle(compare)]
 pub(crate) fn compare_all(parts: &[Bound], others: &[Bound]) -> Ordering
-    ensures { result ≡ all_compared (parts_of (sizes_of parts.now)) (parts_of (sizes_of others.now)) }
+    ensures { result ≡ all_compared (parts_of (bounds_of parts.now)) (parts_of (bounds_of others.now)) }
 {
     let mut left = others;
     for part in parts {
@@ -55,9 +55,9 @@ pub(crate) fn compare_all(parts: &[Bound], others: &[Bound]) -> Ordering
     }
 }
 
-// The place of a kind of bound in the order.
+// The rank of a kind of bound in the order.
 fn kind_rank(bound: &Bound) -> u8
-    ensures { result ≡ rank_of (size_of bound.now) }
+    ensures { result ≡ rank_of (bound_of bound.now) }
 {
     match bound {
         Bound::Const(_) => 0,

@@ -1,9 +1,8 @@
 ghost use Rattle.std.specs.Prelude.{◌≡◌};
-ghost use Rattle.std.specs.List.{list_any};
-ghost use Rattle.bound_expr.specs.Views.{size_of, sizes_of};
-ghost use Rattle.bound_table.specs.Kinds.{is_constant, is_nest, is_power, is_input};
-ghost use Rattle.bound_table.specs.Taking.{is_power_or_input};
-ghost use Rattle.bound_table.specs.Terms.{constant_of, factors_of, leading_constant, behind_constant};
+ghost use Rattle.bound_expr.specs.Views.{bound_of, bounds_of};
+ghost use Rattle.bound_expr.specs.Kinds.{is_constant};
+ghost use Rattle.bound_table.specs.Kinds.{is_zero as is_nothing, is_power_or_input};
+ghost use Rattle.bound_table.specs.Terms.{constant_of, factors_of, leading_constant, after_constant};
 ghost use Rattle.bound_table.specs.Below.{terms_of as parts_of_sum};
 
 use bound_expr::Bound;
@@ -16,9 +15,10 @@ pub(crate) struct Term<'a> {
     pub(crate) factors: &'a [Bound],
 }
 
+// A part as a constant times factors.
 pub(crate) fn term_of(part: &Bound) -> Term<'_>
-    ensures constant { result.constant ≡ constant_of (size_of part.now) }
-    ensures factors { sizes_of result.factors.now ≡ factors_of (size_of part.now) }
+    ensures constant { result.constant ≡ constant_of (bound_of part.now) }
+    ensures factors { bounds_of result.factors.now ≡ factors_of (bound_of part.now) }
 {
     match part {
         Bound::Const(c) => Term {
@@ -35,8 +35,8 @@ pub(crate) fn term_of(part: &Bound) -> Term<'_>
 
 // The parts of a product as a constant times factors.
 fn product_term(parts: &[Bound]) -> Term<'_>
-    ensures constant { result.constant ≡ leading_constant (sizes_of parts.now) }
-    ensures factors { sizes_of result.factors.now ≡ behind_constant (sizes_of parts.now) }
+    ensures constant { result.constant ≡ leading_constant (bounds_of parts.now) }
+    ensures factors { bounds_of result.factors.now ≡ after_constant (bounds_of parts.now) }
 {
     let Some((first, rest)) = parts.split_first() else {
         return Term {
@@ -59,7 +59,7 @@ fn product_term(parts: &[Bound]) -> Term<'_>
 
 // The parts of a sum; a bound that is no sum is its own only part.
 pub(crate) fn terms_of(bound: &Bound) -> &[Bound]
-    ensures { sizes_of result.now ≡ parts_of_sum (size_of bound.now) }
+    ensures { bounds_of result.now ≡ parts_of_sum (bound_of bound.now) }
 {
     match bound {
         Bound::Sum(parts) => parts,
@@ -68,19 +68,9 @@ pub(crate) fn terms_of(bound: &Bound) -> &[Bound]
     }
 }
 
-pub(crate) fn has_constant(factors: &[Bound]) -> bool
-    ensures { result ≡ list_any is_constant (sizes_of factors.now) }
-{
-    for factor in factors {
-        if is_const(factor) {
-            return true;
-        }
-    }
-    false
-}
-
+// Whether it is a constant.
 pub(crate) fn is_const(bound: &Bound) -> bool
-    ensures { result ≡ is_constant (size_of bound.now) }
+    ensures { result ≡ is_constant (bound_of bound.now) }
 {
     match bound {
         Bound::Const(_) => true,
@@ -89,8 +79,20 @@ pub(crate) fn is_const(bound: &Bound) -> bool
     }
 }
 
+// Whether it is the constant 0.
+pub(crate) fn is_zero(bound: &Bound) -> bool
+    ensures { result ≡ is_nothing (bound_of bound.now) }
+{
+    match bound {
+        Bound::Const(c) => *c == 0,
+        Bound::Var(_) | Bound::Sum(_) | Bound::Prod(_) | Bound::Max(_) | Bound::Power(_, _) =>
+            false,
+    }
+}
+
+// Whether it is a power or a variable.
 pub(crate) fn is_power_or_var(bound: &Bound) -> bool
-    ensures { result ≡ is_power_or_input (size_of bound.now) }
+    ensures { result ≡ is_power_or_input (bound_of bound.now) }
 {
     match bound {
         Bound::Power(_, _) | Bound::Var(_) => true,

@@ -4,5 +4,7 @@ use Rattle.bound_expr.proofs.measured.+nodes.Goals as goal
 
 pub nodes_in_all-loop-part-preserved : goal.nodes_in_all-loop-part-preserved
 nodes_in_all-loop-part-preserved t c =
-    node_count-step c.args.parts.now c.loop-part.part-index c.part-item.result c.loop-part.nodes c.nodes_in.result c.saturating_add-nodes.result
-    (2 ^ 64 - 1) c.loop-part-test.true c.part-item.is c.loop-part.invariant c.nodes_in.ensures c.saturating_add-nodes.ensures
+    node_count-step c.args.parts.now c.loop-part.part-index c.part-item.result c.loop-part.nodes c.nodes_in.result
+    c.saturating_add-nodes.result
+    (2 ^ 64 - 1) c.loop-part-test.true c.part-item.is c.loop-part.invariant c.nodes_in.ensures
+    c.saturating_add-nodes.ensures

@@ -1,8 +1,10 @@
 use Rattle.std.proofs.Common.{◌≡◌, ◌++◌}
 use Rattle.std.specs.Vec.Iter.{into_iter_items}
-use Rattle.bound_expr.specs.Views.{sizes_of}
+use Rattle.bound_expr.specs.Views.{bounds_of}
 use Rattle.bound_table.specs.Folding.{without_neutral}
 use Rattle.bound_table.proofs.folding.without_neutral.Given as goal
 
 abbrev pub invariant-loop-part : goal.invariant-loop-part
-invariant-loop-part l = sizes_of l.kept.items ++ without_neutral l.kind (sizes_of (into_iter_items l.part-iterator)) ≡ without_neutral l.kind (sizes_of l.fn.parts.items)
+invariant-loop-part l =
+    bounds_of l.kept.items ++ without_neutral l.kind (bounds_of (into_iter_items l.part-iterator)) ≡ without_neutral
+    l.kind (bounds_of l.fn.parts.items)

@@ -1,6 +1,6 @@
 use Rattle.std.proofs.Common.{◌≡◌, ◌+◌, ◌-◌, length, sym, ◌∙◌, arith}
 use Rattle.std.proofs.lemmas.Bool.{eqb-false}
-use Rattle.bound_expr.specs.Views.{size_of}
+use Rattle.bound_expr.specs.Views.{bound_of}
 use Rattle.bound_table.proofs.Runs.{last_is_like-at}
 use Rattle.bound_table.proofs.likes.goes_on.Goals as goal
 
@@ -9,4 +9,5 @@ returns c =
     let xs = c.args.run.now in
     let some : length xs ≡ 0 → ⊥ = eqb-false (length xs) 0 (sym c.is_empty.ensures ∙ c.if-is_empty.false) in
     let last : (length xs - 1) + 1 ≡ length xs = omega arith in
-    c.is_like.ensures ∙ sym (last_is_like-at xs (length xs - 1) c.index-run-run.result (size_of c.args.part.now) last c.index-run-run.is)
+    c.is_like.ensures
+    ∙ sym (last_is_like-at xs (length xs - 1) c.index-run-run.result (bound_of c.args.part.now) last c.index-run-run.is)

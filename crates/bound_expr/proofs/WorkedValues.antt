@@ -1,0 +1,52 @@
+-- The worked values: what is measured, what holds of numbers, and what is tidy.
+use Rattle.std.proofs.Common.{refl, arith}
+use Rattle.bound_expr.specs.Worked.{MeasuresAreWorkedOut, NumbersAreWorkedOut, TidyBoundsAreWorkedOut}
+use Rattle.bound_expr.specs.Worked.{SubstitutionIsWorkedOut}
+
+-- nodes and levels
+pub measures : MeasuresAreWorkedOut
+measures = record {
+  nodes = refl;
+  levels = refl;
+  empty = refl;
+  small = refl;
+  nodes_at_most = refl;
+  nodes_beyond = refl;
+  levels_at_most = refl;
+  levels_beyond = refl;
+}
+
+-- bases, constants and inputs
+pub numbers : NumbersAreWorkedOut
+numbers = record {
+  based = (tt, ((omega arith, tt), tt));
+  not_based = λ h. omega (arith, h.1.0.0);
+  bases = (tt, ((tt, (tt, (tt, tt))), ((omega arith, tt), tt)));
+  lesser_base = λ h. omega (arith, h.1.0);
+  constants = (tt, (tt, (omega arith, tt)));
+  greater_constant = λ h. omega (arith, h.1);
+  numbers = (tt, ((omega arith, omega arith), tt));
+  no_numbers = λ h. omega (arith, h.1.1.0.0);
+  reads = (tt, ((tt, (tt, (omega arith, tt))), ((tt, omega arith), tt)));
+  reads_more = λ h. omega (arith, h.1.1.0.1);
+}
+
+-- what is tidy, and what isn't
+pub tidy_bounds : TidyBoundsAreWorkedOut
+tidy_bounds = record {
+  tidy = (
+    (omega arith, (tt, (tt, tt))),
+    ((((omega arith, (tt, (tt, tt))), (omega arith, (tt, tt))), ((omega arith, tt), tt))),
+  );
+  one_part_alone = λ h. omega (arith, h.0.0);
+  no_part = λ h. omega (arith, h.0.0);
+  sum_in_sum = λ h. h.0.1.0;
+  product_in_product = λ h. h.0.1.1.0;
+  maximum_in_maximum = λ h. h.0.1.0;
+  base_of_one = λ h. omega (arith, h.0);
+  constant_beyond = λ h. omega (arith, h.1.1.0);
+}
+
+-- what is substituted
+pub substitution : SubstitutionIsWorkedOut
+substitution = record { outcome = refl }

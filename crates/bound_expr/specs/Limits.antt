@@ -1,0 +1,18 @@
+-- The limits of a bound, each by its one name.
+use Rattle.std.specs.Prelude.{ℕ, ◌+◌, ◌-◌, ◌^◌}
+
+-- the maximum constant
+abbrev pub constant_limit : ℕ
+constant_limit = 2 ^ 127 - 1
+
+-- the number behind it, which stands for every greater one where values are told up to a cap
+abbrev pub cap : ℕ
+cap = constant_limit + 1
+
+-- the maximum number of nodes
+abbrev pub node_limit : ℕ
+node_limit = 4096
+
+-- the maximum number of levels
+abbrev pub depth_limit : ℕ
+depth_limit = 200

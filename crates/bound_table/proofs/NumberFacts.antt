@@ -1,0 +1,163 @@
+-- What is said of the numbers of a bound, node by node, is said of those of its rewriting.
+use Rattle.std.proofs.Common.{◌≡◌, ℕ, zero, suc, ◌≤◌, Bool, true, false, cond, List, [], ◌∷◌, sym, ◌∙◌, subst, arith}
+use Rattle.std.specs.List.{list_any}
+use Rattle.model.specs.Bounds.{Bound, Constant, Input, SumOf, ProductOf, MaximumOf, PowerOf, Parts, NoParts, Part}
+use Rattle.model.specs.Bounds.{EachNode, EachNodeOfAll, IsBasedFrom, IsBased}
+use Rattle.bound_expr.specs.Limits.{constant_limit}
+use Rattle.bound_expr.specs.Numbers.{IsSmallConstant, IsTidyNumber, IsInputBelow}
+use Rattle.bound_expr.specs.Views.{parts_of, list_of}
+use Rattle.bound_expr.proofs.Nodes.{IsOfNumbers, bases-of_numbers, constants-of_numbers, tidy-of_numbers}
+use Rattle.bound_expr.proofs.Nodes.{inputs-of_numbers}
+use Rattle.bound_table.specs.declared.kinds.Case.{Case}
+use Rattle.bound_table.specs.declared.kinds.Case.TheVariants.{Flat, FoldConst, ZeroProduct, Neutral, Order, Like}
+use Rattle.bound_table.specs.declared.kinds.Case.TheVariants.{Dominate, Few}
+use Rattle.bound_table.specs.declared.kinds.Kind.{Kind}
+use Rattle.bound_table.specs.declared.kinds.Kind.TheVariants.{AsSum, AsProd, AsMax}
+use Rattle.bound_table.specs.Kinds.{whole, unit_of, is_zero}
+use Rattle.bound_table.specs.Terms.{factors_of}
+use Rattle.bound_table.specs.Folding.{spread, spliced, folded, zeroed, without_neutral, simple}
+use Rattle.bound_table.specs.Sorting.{sorted}
+use Rattle.bound_table.specs.Likes.{times, likes_joined}
+use Rattle.bound_table.specs.Dominance.{dominant}
+use Rattle.bound_table.specs.Laws.{ReadsNoMore, KeepsNumbers}
+use Rattle.bound_table.specs.Rewriting.{at_parts, at_node, at_node_all, parts_passed, one_pass_each, one_pass}
+use Rattle.bound_table.specs.Rewriting.{simplified}
+use Rattle.bound_table.proofs.Each.{Each, Each-list_of, Each-parts_of, Each-factors_of}
+use Rattle.bound_table.proofs.PartFacts.{IsKept, Each-spliced, Each-folded, Each-without_neutral, Each-sorted}
+use Rattle.bound_table.proofs.PartFacts.{Each-likes_joined, Each-dominant}
+use Rattle.bound_table.proofs.Passes.{passes, simplified-is}
+
+-- what nothing comes to is a small constant
+pub unit-small : (k : Kind) → unit_of k ≤ constant_limit
+unit-small AsSum = omega arith
+unit-small AsProd = omega arith
+unit-small AsMax = omega arith
+
+-- a fact of numbers that every constant within the limit has
+module _ (F : Bound → Type 0) (of : IsOfNumbers F) (constant : (c : ℕ) → c ≤ constant_limit → F (Constant c)) where
+  -- a node of parts
+  whole-each : (k : Kind) (ps : List Bound) → Each (EachNode F) ps → EachNode F (whole k ps)
+  whole-each AsSum ps each = (of.sum (parts_of ps), Each-parts_of F ps each)
+  whole-each AsProd ps each = (of.product (parts_of ps), Each-parts_of F ps each)
+  whole-each AsMax ps each = (of.maximum (parts_of ps), Each-parts_of F ps each)
+
+  -- the parts of a part
+  spread-each : (k : Kind) (p : Bound) → EachNode F p → Each (EachNode F) (spread k p)
+  spread-each AsSum (SumOf ps) each = Each-list_of F ps each.1
+  spread-each AsProd (ProductOf ps) each = Each-list_of F ps each.1
+  spread-each AsMax (MaximumOf ps) each = Each-list_of F ps each.1
+  spread-each k p each = (each, tt)
+
+  -- a constant times the factors of a part
+  times-each : (c : ℕ) (p : Bound) → c ≤ constant_limit → EachNode F p → EachNode F (times c (factors_of p))
+  times-each c p small each = (
+    of.product (parts_of (Constant c ∷ factors_of p)),
+    (constant c small, Each-parts_of F (factors_of p) (Each-factors_of F p each)),
+  )
+
+  -- so each case keeps it
+  numbers-kept : (k : Kind) → IsKept k (EachNode F)
+  numbers-kept k = record {
+    constant = constant;
+    inner = λ p each. spread-each k p each;
+    product = λ sum c p small filled each. times-each c p small each;
+  }
+
+  -- a node of no parts, of one part, and of more
+  simple-each : (k : Kind) (ps : List Bound) → Each (EachNode F) ps → EachNode F (simple k ps)
+  simple-each k [] each = constant (unit_of k) (unit-small k)
+  simple-each k (p ∷ []) each = each.0
+  simple-each k (p ∷ q ∷ ps) each = whole-each k (p ∷ q ∷ ps) each
+
+  -- a product that may be 0
+  zeroed-each : (k : Kind) (ps : List Bound) → Each (EachNode F) ps → EachNode F (zeroed k ps)
+  zeroed-each AsSum ps each = whole-each AsSum ps each
+  zeroed-each AsMax ps each = whole-each AsMax ps each
+  zeroed-each AsProd ps each = go (list_any is_zero ps)
+    where
+      go : (b : Bool) → EachNode F (cond b (Constant 0) (whole AsProd ps))
+      go true = of.zero
+      go false = whole-each AsProd ps each
+
+  -- what a case makes of parts
+  at_parts-each : (c : Case) (k : Kind) (ps : List Bound) → Each (EachNode F) ps → EachNode F (at_parts c k ps)
+  at_parts-each Flat k ps each = whole-each k (spliced k ps) (Each-spliced k (EachNode F) ps (spread-each k) each)
+  at_parts-each FoldConst k ps each = whole-each k (folded k ps) (Each-folded k (EachNode F) ps constant each)
+  at_parts-each ZeroProduct k ps each = zeroed-each k ps each
+  at_parts-each Neutral k ps each = whole-each k (without_neutral k ps) (Each-without_neutral k (EachNode F) ps each)
+  at_parts-each Order k ps each = whole-each k (sorted k ps) (Each-sorted k (EachNode F) ps each)
+  at_parts-each Like k ps each =
+      whole-each k (likes_joined k ps) (Each-likes_joined k (EachNode F) (numbers-kept k) ps each)
+  at_parts-each Dominate k ps each = whole-each k (dominant k ps) (Each-dominant k (EachNode F) ps each)
+  at_parts-each Few k ps each = simple-each k ps each
+
+  -- what a case makes of a node
+  at_node-each : (c : Case) (b : Bound) → EachNode F b → EachNode F (at_node c b)
+  unfolding at_node
+  at_node-each c (Constant n) each = each
+  at_node-each c (Input i) each = each
+  at_node-each c (SumOf ps) each = at_parts-each c AsSum (list_of ps) (Each-list_of F ps each.1)
+  at_node-each c (ProductOf ps) each = at_parts-each c AsProd (list_of ps) (Each-list_of F ps each.1)
+  at_node-each c (MaximumOf ps) each = at_parts-each c AsMax (list_of ps) (Each-list_of F ps each.1)
+  at_node-each c (PowerOf n e) each = each
+
+  -- what all cases make of it
+  at_node_all-each : (cs : List Case) (b : Bound) → EachNode F b → EachNode F (at_node_all cs b)
+  at_node_all-each [] b each = each
+  at_node_all-each (c ∷ cs) b each = at_node_all-each cs (at_node c b) (at_node-each c b each)
+
+  -- what a pass makes of the parts
+  mutual
+    unfolding parts_passed
+
+    parts_passed-each : (cs : List Case) (b : Bound) → EachNode F b → EachNode F (parts_passed cs b)
+    parts_passed-each cs (Constant n) each = each
+    parts_passed-each cs (Input i) each = each
+    parts_passed-each cs (SumOf ps) each = (of.sum (one_pass_each cs ps), one_pass_each-each cs ps each.1)
+    parts_passed-each cs (ProductOf ps) each = (of.product (one_pass_each cs ps), one_pass_each-each cs ps each.1)
+    parts_passed-each cs (MaximumOf ps) each = (of.maximum (one_pass_each cs ps), one_pass_each-each cs ps each.1)
+    parts_passed-each cs (PowerOf n e) each =
+        (of.power n e (one_pass cs e) each.0, at_node_all-each cs (parts_passed cs e) (parts_passed-each cs e each.1))
+
+    one_pass_each-each : (cs : List Case) (ps : Parts) → EachNodeOfAll F ps → EachNodeOfAll F (one_pass_each cs ps)
+    one_pass_each-each cs NoParts each = tt
+    one_pass_each-each cs (Part p ps) each =
+        (at_node_all-each cs (parts_passed cs p) (parts_passed-each cs p each.0), one_pass_each-each cs ps each.1)
+
+  -- what passes make of a bound
+  passes-each : (n : ℕ) (cs : List Case) (b : Bound) → EachNode F b → EachNode F (passes n cs b)
+  unfolding passes
+  passes-each zero cs b each = each
+  passes-each (suc n) cs b each =
+      passes-each n cs (one_pass cs b) (at_node_all-each cs (parts_passed cs b) (parts_passed-each cs b each))
+
+  -- what a rewriting gives
+  pub simplified-each : (cs : List Case) (b outcome : Bound) → outcome ≡ simplified cs b → EachNode F b
+      → EachNode F outcome
+  simplified-each cs b outcome is each = subst (EachNode F) (sym (is ∙ simplified-is cs b)) (passes-each 16 cs b each)
+
+-- bases of at least 1, through the cases and the parts
+pub at_node-based : (c : Case) (b : Bound) → IsBased b → IsBased (at_node c b)
+at_node-based = at_node-each (IsBasedFrom 1) (bases-of_numbers 1) (λ c small. tt)
+
+-- through all cases
+pub at_node_all-based : (cs : List Case) (b : Bound) → IsBased b → IsBased (at_node_all cs b)
+at_node_all-based = at_node_all-each (IsBasedFrom 1) (bases-of_numbers 1) (λ c small. tt)
+
+-- and through the parts
+pub parts_passed-based : (cs : List Case) (b : Bound) → IsBased b → IsBased (parts_passed cs b)
+parts_passed-based = parts_passed-each (IsBasedFrom 1) (bases-of_numbers 1) (λ c small. tt)
+
+-- a rewriting reads no more inputs
+pub simplified-reads : (cs : List Case) (b outcome : Bound) → outcome ≡ simplified cs b → ReadsNoMore outcome b
+simplified-reads cs b outcome is = record {
+  each = λ n reads. simplified-each (IsInputBelow n) (inputs-of_numbers n) (λ c small. tt) cs b outcome is reads;
+}
+
+-- and keeps what is said of bases and constants
+pub simplified-numbers : (cs : List Case) (b outcome : Bound) → outcome ≡ simplified cs b → KeepsNumbers outcome b
+simplified-numbers cs b outcome is = record {
+  bases = λ n has. simplified-each (IsBasedFrom n) (bases-of_numbers n) (λ c small. tt) cs b outcome is has;
+  constants = λ has. simplified-each IsSmallConstant constants-of_numbers (λ c small. small) cs b outcome is has;
+  numbers = λ has. simplified-each IsTidyNumber tidy-of_numbers (λ c small. small) cs b outcome is has;
+}
