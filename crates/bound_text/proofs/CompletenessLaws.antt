@@ -2,12 +2,12 @@
 use Rattle.std.proofs.Common.{◌≡◌, ℕ, zero, suc, ◌≤◌, nat_lt, nat_eq, Bool, true, false, not, cond, ◌&&◌, List, ◌∷◌, ◌++◌, Option, Some, refl, ap, sym, ◌∙◌, arith}
 use Rattle.std.specs.Prelude.{⊤}
 use Rattle.std.proofs.lemmas.Bool.Decides.{nat_tests}
-use Rattle.model.specs.Bounds.{Size, Constant, Input, SumOf, ProductOf, GreatestOf, PowerOf, Parts, NoParts, Part}
-use Rattle.bound_expr.specs.Tidy.{part_count, IsNoSum, IsNoProduct, IsNoGreatest, EachPart}
-use Rattle.bound_text.specs.Shapes.{is_sum, is_greatest, is_leaf, is_empty, with_part, IsShaped, AreShaped}
+use Rattle.model.specs.Bounds.{Bound, Constant, Input, SumOf, ProductOf, MaximumOf, PowerOf, Parts, NoParts, Part}
+use Rattle.bound_expr.specs.Tidy.{part_count, IsNoSum, IsNoProduct, IsNoMaximum, EachPart}
+use Rattle.bound_text.specs.Shapes.{is_sum, is_maximum, is_leaf, is_empty, with_part, IsShaped, AreShaped}
 use Rattle.bound_text.specs.Pieces.{Piece, Variable, Number, Close, Times, Caret, Plus, Blank, Comma}
 use Rattle.bound_text.specs.Writing.{Nothing, Run, Other, run_then, bracketed_then, text_then, joined_then, more_then, factors_then, plus_between, comma_between}
-use Rattle.bound_text.specs.Fronts.{Bracket, Arguments, Exponent, Factor, Outer, Whole, Inside, Front, Begins, RunCaret, PowerCaret, ItemRead, BlankRead, CommaRead, last, init, is_input, as_one, term_of, bound_of, can_end}
+use Rattle.bound_text.specs.Fronts.{Bracket, Arguments, Exponent, Factor, Outer, Whole, Inside, Front, Begins, RunCaret, PowerCaret, ItemRead, BlankRead, CommaRead, last, init, is_input, as_one, term_of, bound_made, can_end}
 use Rattle.bound_text.specs.Steps.{when, with_copies, front_at, behind_factor, caret_behind, can_close, item_of, walk, beginning, finish}
 use Rattle.bound_text.proofs.PartLaws.{is_empty-with_part, last-with_part, init-with_part}
 use Rattle.bound_text.proofs.WritingLaws.{is_variable}
@@ -34,7 +34,7 @@ read_input outer ts fs i rest h = walk-when (not (is_input i (last fs))) (behind
 pub read_run_caret : (outer : Outer) (ts fs : Parts) (i : ℕ) (rest : List Piece) → is_input i (last fs) ≡ false
     → walk (stands outer ts (with_part fs (Input i))) (Caret ∷ rest) ≡ walk (Some (front_at outer ts fs (RunCaret i))) rest
 read_run_caret outer ts fs i rest h =
-    ap (λ (b : Option Size). walk (caret_behind outer ts (init (with_part fs (Input i))) b) rest) (last-with_part fs (Input i))
+    ap (λ (b : Option Bound). walk (caret_behind outer ts (init (with_part fs (Input i))) b) rest) (last-with_part fs (Input i))
     ∙ ap (λ (gs : Parts). walk (caret_behind outer ts gs (Some (Input i))) rest) (init-with_part fs (Input i))
     ∙ walk-when (not (is_input i (last fs))) (front_at outer ts fs (RunCaret i)) rest (ap not h)
 
@@ -42,7 +42,7 @@ read_run_caret outer ts fs i rest h =
 pub read_base : (outer : Outer) (ts fs : Parts) (c : ℕ) (rest : List Piece) → 2 ≤ c
     → walk (starts outer ts fs) (Number c ∷ Caret ∷ rest) ≡ walk (Some (front_at outer ts fs (PowerCaret c))) rest
 read_base outer ts fs c rest h =
-    ap (λ (b : Option Size). walk (caret_behind outer ts (init (with_part fs (Constant c))) b) rest) (last-with_part fs (Constant c))
+    ap (λ (b : Option Bound). walk (caret_behind outer ts (init (with_part fs (Constant c))) b) rest) (last-with_part fs (Constant c))
     ∙ ap (λ (gs : Parts). walk (caret_behind outer ts gs (Some (Constant c))) rest) (init-with_part fs (Constant c))
     ∙ walk-when (nat_lt 1 c) (front_at outer ts fs (PowerCaret c)) rest (let e : nat_lt 1 c ≡ true = grind (arith, nat_tests) in e)
 
@@ -58,12 +58,12 @@ read_run outer ts fs (suc n) i rest h =
     ∙ walk-when (nat_lt 1 (suc (suc n))) (front_at outer ts (with_copies (suc (suc n)) i fs) ItemRead) rest more
 
 -- the factors of a term, and the terms and the last one's factors of a bound
-abbrev pub factors_of : Size → Parts
+abbrev pub factors_of : Bound → Parts
 factors_of (ProductOf fs) = fs
 factors_of (Constant c) = Part (Constant c) NoParts
 factors_of (Input i) = Part (Input i) NoParts
 factors_of (SumOf bs) = Part (SumOf bs) NoParts
-factors_of (GreatestOf bs) = Part (GreatestOf bs) NoParts
+factors_of (MaximumOf bs) = Part (MaximumOf bs) NoParts
 factors_of (PowerOf c e) = Part (PowerOf c e) NoParts
 
 -- terms, and then all but the last of some parts
@@ -79,32 +79,32 @@ last_factors (Part b NoParts) = factors_of b
 last_factors (Part b (Part c cs)) = last_factors (Part c cs)
 
 -- the terms of a bound but the last
-abbrev pub terms_in : Size → Parts
+abbrev pub terms_in : Bound → Parts
 terms_in (SumOf bs) = terms_from NoParts bs
 terms_in (Constant c) = NoParts
 terms_in (Input i) = NoParts
 terms_in (ProductOf bs) = NoParts
-terms_in (GreatestOf bs) = NoParts
+terms_in (MaximumOf bs) = NoParts
 terms_in (PowerOf c e) = NoParts
 
 -- the factors of a bound's last term
-abbrev pub factors_in : Size → Parts
+abbrev pub factors_in : Bound → Parts
 factors_in (SumOf bs) = last_factors bs
 factors_in (ProductOf fs) = fs
 factors_in (Constant c) = Part (Constant c) NoParts
 factors_in (Input i) = Part (Input i) NoParts
-factors_in (GreatestOf bs) = Part (GreatestOf bs) NoParts
+factors_in (MaximumOf bs) = Part (MaximumOf bs) NoParts
 factors_in (PowerOf c e) = Part (PowerOf c e) NoParts
 
 -- a term that is no sum is what its factors make
-term-factors : (b : Size) → IsShaped b → IsNoSum b → (term_of (factors_of b) ≡ b) × (can_end (factors_of b) ≡ true)
+term-factors : (b : Bound) → IsShaped b → IsNoSum b → (term_of (factors_of b) ≡ b) × (can_end (factors_of b) ≡ true)
 term-factors (Constant c) shaped none = (refl, refl)
 term-factors (Input i) shaped none = (refl, refl)
 term-factors (SumOf bs) shaped none = absurd none
 term-factors (ProductOf NoParts) shaped none = absurd (omega (arith, shaped.0))
 term-factors (ProductOf (Part b NoParts)) shaped none = absurd (omega (arith, shaped.0))
 term-factors (ProductOf (Part b (Part c bs))) shaped none = (refl, refl)
-term-factors (GreatestOf bs) shaped none = (refl, refl)
+term-factors (MaximumOf bs) shaped none = (refl, refl)
 term-factors (PowerOf c e) shaped none = (refl, refl)
 
 -- parts behind others
@@ -118,7 +118,7 @@ plus_parts NoParts bs = bs
 plus_parts (Part a args) bs = Part a (plus_parts args bs)
 
 -- one part changes sides
-plus_parts-with_part : (ts : Parts) (b : Size) (bs : Parts) → plus_parts (with_part ts b) bs ≡ plus_parts ts (Part b bs)
+plus_parts-with_part : (ts : Parts) (b : Bound) (bs : Parts) → plus_parts (with_part ts b) bs ≡ plus_parts ts (Part b bs)
 plus_parts-with_part NoParts b bs = refl
 plus_parts-with_part (Part a args) b bs = ap (Part a) (plus_parts-with_part args b bs)
 
@@ -137,7 +137,7 @@ pub appended-none : (bs : Parts) → appended NoParts bs ≡ bs
 appended-none bs = appended-plus NoParts bs
 
 -- the terms with the last one are the parts of the sum
-terms-last : (ts : Parts) (b : Size) (bs : Parts) → EachPart IsNoSum (Part b bs) → AreShaped (Part b bs)
+terms-last : (ts : Parts) (b : Bound) (bs : Parts) → EachPart IsNoSum (Part b bs) → AreShaped (Part b bs)
     → (with_part (terms_from ts (Part b bs)) (term_of (last_factors (Part b bs))) ≡ appended ts (Part b bs)) × (can_end (last_factors (Part b bs)) ≡ true)
 terms-last ts b NoParts none shaped =
     let t = term-factors b shaped.0 none.0 in
@@ -145,7 +145,7 @@ terms-last ts b NoParts none shaped =
 terms-last ts b (Part c cs) none shaped = terms-last (with_part ts b) c cs none.1 shaped.1
 
 -- a bound as texts spell it is what its terms and factors make
-pub bound-parts : (b : Size) → IsShaped b → (bound_of (terms_in b) (factors_in b) ≡ b) × ((can_end (factors_in b) ≡ true))
+pub bound-parts : (b : Bound) → IsShaped b → (bound_made (terms_in b) (factors_in b) ≡ b) × ((can_end (factors_in b) ≡ true))
 bound-parts (Constant c) shaped = (refl, refl)
 bound-parts (Input i) shaped = (refl, refl)
 bound-parts (SumOf NoParts) shaped = absurd (omega (arith, shaped.0))
@@ -157,17 +157,17 @@ bound-parts (SumOf (Part b (Part c cs))) shaped =
 bound-parts (ProductOf NoParts) shaped = absurd (omega (arith, shaped.0))
 bound-parts (ProductOf (Part b NoParts)) shaped = absurd (omega (arith, shaped.0))
 bound-parts (ProductOf (Part b (Part c bs))) shaped = (refl, refl)
-bound-parts (GreatestOf bs) shaped = (refl, refl)
+bound-parts (MaximumOf bs) shaped = (refl, refl)
 bound-parts (PowerOf c e) shaped = (refl, refl)
 
 -- what is read at a bound: a sum behind the first terms, a product where no factor stands before, and another as one more
 -- factor
-abbrev pub CanFollow : Size → Parts → Type 0
+abbrev pub CanFollow : Bound → Parts → Type 0
 CanFollow (Input i) fs = is_input i (last fs) ≡ false
 CanFollow (Constant c) fs = ⊤
 CanFollow (SumOf bs) fs = ⊤
 CanFollow (ProductOf bs) fs = ⊤
-CanFollow (GreatestOf bs) fs = ⊤
+CanFollow (MaximumOf bs) fs = ⊤
 CanFollow (PowerOf c e) fs = ⊤
 
 pub record ReadsSum (bs : Parts) : Type 0 where
@@ -176,16 +176,16 @@ pub record ReadsSum (bs : Parts) : Type 0 where
 pub record ReadsProduct (fs : Parts) : Type 0 where
   pub each : (outer : Outer) (ts : Parts) (rest : List Piece) → walk (starts outer ts NoParts) (text_then (ProductOf fs) rest) ≡ walk (stands outer ts fs) rest
 
-pub record ReadsItem (b : Size) : Type 0 where
+pub record ReadsItem (b : Bound) : Type 0 where
   pub each : (outer : Outer) (ts fs : Parts) (rest : List Piece) → CanFollow b fs → walk (starts outer ts fs) (text_then b rest) ≡ walk (stands outer ts (with_part fs b)) rest
 
 -- what reading a bound comes to, by its kind
-abbrev pub Reads : Size → Type 0
+abbrev pub Reads : Bound → Type 0
 Reads (SumOf bs) = ReadsSum bs
 Reads (ProductOf fs) = ReadsProduct fs
 Reads (Constant c) = ReadsItem (Constant c)
 Reads (Input i) = ReadsItem (Input i)
-Reads (GreatestOf bs) = ReadsItem (GreatestOf bs)
+Reads (MaximumOf bs) = ReadsItem (MaximumOf bs)
 Reads (PowerOf c e) = ReadsItem (PowerOf c e)
 
 -- each part is read
@@ -194,33 +194,33 @@ AllRead NoParts = ⊤
 AllRead (Part b bs) = Reads b × AllRead bs
 
 -- a bound is read at the start of one
-pub bound_read : (b : Size) → Reads b → (outer : Outer) (rest : List Piece) → walk (starts outer NoParts NoParts) (text_then b rest) ≡ walk (stands outer (terms_in b) (factors_in b)) rest
+pub bound_read : (b : Bound) → Reads b → (outer : Outer) (rest : List Piece) → walk (starts outer NoParts NoParts) (text_then b rest) ≡ walk (stands outer (terms_in b) (factors_in b)) rest
 bound_read (SumOf bs) r outer rest = r.each outer rest
 bound_read (ProductOf fs) r outer rest = r.each outer NoParts rest
 bound_read (Constant c) r outer rest = r.each outer NoParts NoParts rest tt
 bound_read (Input i) r outer rest = r.each outer NoParts NoParts rest refl
-bound_read (GreatestOf bs) r outer rest = r.each outer NoParts NoParts rest tt
+bound_read (MaximumOf bs) r outer rest = r.each outer NoParts NoParts rest tt
 bound_read (PowerOf c e) r outer rest = r.each outer NoParts NoParts rest tt
 
 -- a term is read behind others
-pub term_read : (b : Size) → Reads b → IsNoSum b → (outer : Outer) (ts : Parts) (rest : List Piece) → walk (starts outer ts NoParts) (text_then b rest) ≡ walk (stands outer ts (factors_of b)) rest
+pub term_read : (b : Bound) → Reads b → IsNoSum b → (outer : Outer) (ts : Parts) (rest : List Piece) → walk (starts outer ts NoParts) (text_then b rest) ≡ walk (stands outer ts (factors_of b)) rest
 term_read (SumOf bs) r none outer ts rest = absurd none
 term_read (ProductOf fs) r none outer ts rest = r.each outer ts rest
 term_read (Constant c) r none outer ts rest = r.each outer ts NoParts rest tt
 term_read (Input i) r none outer ts rest = r.each outer ts NoParts rest refl
-term_read (GreatestOf bs) r none outer ts rest = r.each outer ts NoParts rest tt
+term_read (MaximumOf bs) r none outer ts rest = r.each outer ts NoParts rest tt
 term_read (PowerOf c e) r none outer ts rest = r.each outer ts NoParts rest tt
 
 -- ` + ` behind a term
-pub read_plus : (b : Size) → IsShaped b → IsNoSum b → (outer : Outer) (ts : Parts) (rest : List Piece)
+pub read_plus : (b : Bound) → IsShaped b → IsNoSum b → (outer : Outer) (ts : Parts) (rest : List Piece)
     → walk (stands outer ts (factors_of b)) (Blank ∷ Plus ∷ Blank ∷ rest) ≡ walk (starts outer (with_part ts b) NoParts) rest
 read_plus b shaped none outer ts rest =
     let t = term-factors b shaped none in
     walk-when (can_end (factors_of b)) (front_at outer ts (factors_of b) BlankRead) (Plus ∷ Blank ∷ rest) t.1
-    ∙ ap (λ (c : Size). walk (starts outer (with_part ts c) NoParts) rest) t.0
+    ∙ ap (λ (c : Bound). walk (starts outer (with_part ts c) NoParts) rest) t.0
 
 -- terms are read one after the other
-pub terms_read : (b : Size) (bs : Parts) → Reads b → AllRead bs → EachPart IsNoSum (Part b bs) → AreShaped (Part b bs) → (outer : Outer) (ts : Parts) (rest : List Piece)
+pub terms_read : (b : Bound) (bs : Parts) → Reads b → AllRead bs → EachPart IsNoSum (Part b bs) → AreShaped (Part b bs) → (outer : Outer) (ts : Parts) (rest : List Piece)
     → walk (starts outer ts NoParts) (joined_then plus_between (Part b bs) rest) ≡ walk (stands outer (terms_from ts (Part b bs)) (last_factors (Part b bs))) rest
 terms_read b NoParts r rs none shaped outer ts rest = term_read b r none.0 outer ts rest
 terms_read b (Part c cs) r rs none shaped outer ts rest =
@@ -229,14 +229,14 @@ terms_read b (Part c cs) r rs none shaped outer ts rest =
     ∙ terms_read c cs rs.0 rs.1 none.1 shaped.1 outer (with_part ts b) rest
 
 -- a bracket closes behind its bound
-close_read : (bracket : Bracket) (b : Size) (outer : Outer) (ts' fs' ts fs : Parts) (rest : List Piece) → can_end fs ≡ true → bound_of ts fs ≡ b → can_close bracket b ≡ true
+close_read : (bracket : Bracket) (b : Bound) (outer : Outer) (ts' fs' ts fs : Parts) (rest : List Piece) → can_end fs ≡ true → bound_made ts fs ≡ b → can_close bracket b ≡ true
     → walk (stands (Inside bracket ts' fs' outer) ts fs) (Close ∷ rest) ≡ walk (stands outer ts' (with_part fs' (item_of bracket b))) rest
 close_read bracket b outer ts' fs' ts fs rest ends is closes =
-    ap (λ (c : Size). walk (when (can_end fs && can_close bracket c) (behind_factor outer ts' fs' (item_of bracket c))) rest) is
+    ap (λ (c : Bound). walk (when (can_end fs && can_close bracket c) (behind_factor outer ts' fs' (item_of bracket c))) rest) is
     ∙ walk-when (can_end fs && can_close bracket b) (behind_factor outer ts' fs' (item_of bracket b)) rest (ap (λ (v : Bool). v && can_close bracket b) ends ∙ closes)
 
 -- a bound in the brackets of an item
-in_brackets_read : (bracket : Bracket) (b : Size) → Reads b → IsShaped b → can_close bracket b ≡ true → (outer : Outer) (ts fs : Parts) (rest : List Piece)
+in_brackets_read : (bracket : Bracket) (b : Bound) → Reads b → IsShaped b → can_close bracket b ≡ true → (outer : Outer) (ts fs : Parts) (rest : List Piece)
     → walk (starts (Inside bracket ts fs outer) NoParts NoParts) (text_then b (Close ∷ rest)) ≡ walk (stands outer ts (with_part fs (item_of bracket b))) rest
 in_brackets_read bracket b r shaped closes outer ts fs rest =
     let p = bound-parts b shaped in
@@ -244,13 +244,13 @@ in_brackets_read bracket b r shaped closes outer ts fs rest =
     ∙ close_read bracket b outer ts fs (terms_in b) (factors_in b) rest p.1 p.0 closes
 
 -- a factor that is no variable is read
-factor_read : (b : Size) → Reads b → IsShaped b → IsNoProduct b → is_variable b ≡ false → (outer : Outer) (ts fs : Parts) (rest : List Piece)
+factor_read : (b : Bound) → Reads b → IsShaped b → IsNoProduct b → is_variable b ≡ false → (outer : Outer) (ts fs : Parts) (rest : List Piece)
     → walk (starts outer ts fs) (bracketed_then (is_sum b) (text_then b) rest) ≡ walk (stands outer ts (with_part fs b)) rest
 factor_read (SumOf bs) r shaped none h outer ts fs rest = in_brackets_read Factor (SumOf bs) r shaped refl outer ts fs rest
 factor_read (ProductOf bs) r shaped none h outer ts fs rest = absurd none
 factor_read (Constant c) r shaped none h outer ts fs rest = r.each outer ts fs rest tt
 factor_read (Input i) r shaped none h outer ts fs rest = cc
-factor_read (GreatestOf bs) r shaped none h outer ts fs rest = r.each outer ts fs rest tt
+factor_read (MaximumOf bs) r shaped none h outer ts fs rest = r.each outer ts fs rest tt
 factor_read (PowerOf c e) r shaped none h outer ts fs rest = r.each outer ts fs rest tt
 
 -- a run's number 1 more
@@ -262,15 +262,15 @@ last-copies : (n i j : ℕ) (fs : Parts) → is_input j (last (with_copies (suc 
 last-copies n i j fs = ap (is_input j) (last-with_part (with_copies n i fs) (Input i))
 
 -- behind a factor that is no variable the last one is none
-no_input : (b : Size) (j : ℕ) (fs : Parts) → is_variable b ≡ false → is_input j (last (with_part fs b)) ≡ false
+no_input : (b : Bound) (j : ℕ) (fs : Parts) → is_variable b ≡ false → is_input j (last (with_part fs b)) ≡ false
 no_input b j fs h = ap (is_input j) (last-with_part fs b) ∙ go b h
   where
-    go : (b : Size) → is_variable b ≡ false → is_input j (Some b) ≡ false
+    go : (b : Bound) → is_variable b ≡ false → is_input j (Some b) ≡ false
     go (Constant c) h = refl
     go (Input i) h = cc
     go (SumOf bs) h = refl
     go (ProductOf bs) h = refl
-    go (GreatestOf bs) h = refl
+    go (MaximumOf bs) h = refl
     go (PowerOf c e) h = refl
 
 -- a variable behind a run that isn't read yet
@@ -311,40 +311,40 @@ mutual
       ∙ factors_read bs rs.1 none.1 shaped.1 outer ts (with_part fs b) rest (λ j. no_input b j fs refl)
 
 -- the factors of a product are read
-pub product_read : (b : Size) (bs : Parts) → AllRead (Part b bs) → EachPart IsNoProduct (Part b bs) → AreShaped (Part b bs) → (outer : Outer) (ts : Parts) (rest : List Piece)
+pub product_read : (b : Bound) (bs : Parts) → AllRead (Part b bs) → EachPart IsNoProduct (Part b bs) → AreShaped (Part b bs) → (outer : Outer) (ts : Parts) (rest : List Piece)
     → walk (starts outer ts NoParts) (factors_then Nothing (Part b bs) rest) ≡ walk (stands outer ts (Part b bs)) rest
 product_read b bs rs none shaped outer ts rest = go b rs none shaped ∙ ap (λ (fs : Parts). walk (stands outer ts fs) rest) (appended-none (Part b bs))
   where
-    go : (b : Size) → AllRead (Part b bs) → EachPart IsNoProduct (Part b bs) → AreShaped (Part b bs) → walk (starts outer ts NoParts) (factors_then Nothing (Part b bs) rest) ≡ walk (stands outer ts (appended NoParts (Part b bs))) rest
+    go : (b : Bound) → AllRead (Part b bs) → EachPart IsNoProduct (Part b bs) → AreShaped (Part b bs) → walk (starts outer ts NoParts) (factors_then Nothing (Part b bs) rest) ≡ walk (stands outer ts (appended NoParts (Part b bs))) rest
     go (Input i) rs none shaped = run_factors_read bs rs.1 none.1 shaped.1 zero i outer ts NoParts rest refl
     go b rs none shaped =
         factor_read b rs.0 shaped.0 none.0 refl outer ts NoParts (factors_then Other bs rest)
         ∙ factors_read bs rs.1 none.1 shaped.1 outer ts (Part b NoParts) rest (λ j. no_input b j NoParts refl)
 
--- what is no greatest isn't tested as one
-no_greatest : (b : Size) → IsNoGreatest b → is_greatest b ≡ false
-no_greatest (Constant c) h = refl
-no_greatest (Input i) h = refl
-no_greatest (SumOf bs) h = refl
-no_greatest (ProductOf bs) h = refl
-no_greatest (GreatestOf bs) h = absurd h
-no_greatest (PowerOf c e) h = refl
+-- what is no maximum isn't tested as one
+no_maximum : (b : Bound) → IsNoMaximum b → is_maximum b ≡ false
+no_maximum (Constant c) h = refl
+no_maximum (Input i) h = refl
+no_maximum (SumOf bs) h = refl
+no_maximum (ProductOf bs) h = refl
+no_maximum (MaximumOf bs) h = absurd h
+no_maximum (PowerOf c e) h = refl
 
 -- an argument with `, ` behind it is read
-pub argument_read : (b : Size) → Reads b → IsShaped b → IsNoGreatest b → (args ts fs : Parts) (outer : Outer) (rest : List Piece)
+pub argument_read : (b : Bound) → Reads b → IsShaped b → IsNoMaximum b → (args ts fs : Parts) (outer : Outer) (rest : List Piece)
     → walk (starts (Inside (Arguments args) ts fs outer) NoParts NoParts) (text_then b (Comma ∷ Blank ∷ rest)) ≡ walk (starts (Inside (Arguments (with_part args b)) ts fs outer) NoParts NoParts) rest
 argument_read b r shaped none args ts fs outer rest =
     let p = bound-parts b shaped in
     bound_read b r (Inside (Arguments args) ts fs outer) (Comma ∷ Blank ∷ rest)
-    ∙ walk-when (can_end (factors_in b) && not (is_greatest (bound_of (terms_in b) (factors_in b)))) (front_at (Inside (Arguments args) ts fs outer) (terms_in b) (factors_in b) CommaRead) (Blank ∷ rest)
-    (ap (λ (v : Bool). v && not (is_greatest (bound_of (terms_in b) (factors_in b)))) p.1 ∙ ap (λ (c : Size). not (is_greatest c)) p.0 ∙ ap not (no_greatest b none))
-    ∙ ap (λ (c : Size). walk (starts (Inside (Arguments (with_part args c)) ts fs outer) NoParts NoParts) rest) p.0
+    ∙ walk-when (can_end (factors_in b) && not (is_maximum (bound_made (terms_in b) (factors_in b)))) (front_at (Inside (Arguments args) ts fs outer) (terms_in b) (factors_in b) CommaRead) (Blank ∷ rest)
+    (ap (λ (v : Bool). v && not (is_maximum (bound_made (terms_in b) (factors_in b)))) p.1 ∙ ap (λ (c : Bound). not (is_maximum c)) p.0 ∙ ap not (no_maximum b none))
+    ∙ ap (λ (c : Bound). walk (starts (Inside (Arguments (with_part args c)) ts fs outer) NoParts NoParts) rest) p.0
 
--- the arguments of a greatest are read
-arguments_read : (b : Size) (bs : Parts) → AllRead (Part b bs) → AreShaped (Part b bs) → EachPart IsNoGreatest (Part b bs) → (args ts fs : Parts) → is_empty bs && is_empty args ≡ false → (outer : Outer) (rest : List Piece)
-    → walk (starts (Inside (Arguments args) ts fs outer) NoParts NoParts) (joined_then comma_between (Part b bs) (Close ∷ rest)) ≡ walk (stands outer ts (with_part fs (GreatestOf (appended args (Part b bs))))) rest
+-- the arguments of a maximum are read
+arguments_read : (b : Bound) (bs : Parts) → AllRead (Part b bs) → AreShaped (Part b bs) → EachPart IsNoMaximum (Part b bs) → (args ts fs : Parts) → is_empty bs && is_empty args ≡ false → (outer : Outer) (rest : List Piece)
+    → walk (starts (Inside (Arguments args) ts fs outer) NoParts NoParts) (joined_then comma_between (Part b bs) (Close ∷ rest)) ≡ walk (stands outer ts (with_part fs (MaximumOf (appended args (Part b bs))))) rest
 arguments_read b NoParts rs shaped none args ts fs h outer rest =
-    in_brackets_read (Arguments args) b rs.0 shaped.0 (ap (λ (v : Bool). not v && not (is_greatest b)) h ∙ ap not (no_greatest b none.0)) outer ts fs rest
+    in_brackets_read (Arguments args) b rs.0 shaped.0 (ap (λ (v : Bool). not v && not (is_maximum b)) h ∙ ap not (no_maximum b none.0)) outer ts fs rest
 arguments_read b (Part c cs) rs shaped none args ts fs h outer rest =
     argument_read b rs.0 shaped.0 none.0 args ts fs outer (text_then c (more_then comma_between cs (Close ∷ rest)))
     ∙ arguments_read c cs rs.1 shaped.1 none.1 (with_part args b) ts fs (go (is_empty cs) (is_empty-with_part args b)) outer rest
@@ -354,34 +354,34 @@ arguments_read b (Part c cs) rs shaped none args ts fs h outer rest =
     go false e = refl
 
 -- an exponent is read
-exponent_read : (c : ℕ) (e : Size) → Reads e → IsShaped e → (outer : Outer) (ts fs : Parts) (rest : List Piece)
+exponent_read : (c : ℕ) (e : Bound) → Reads e → IsShaped e → (outer : Outer) (ts fs : Parts) (rest : List Piece)
     → walk (Some (front_at outer ts fs (PowerCaret c))) (bracketed_then (not (is_leaf e)) (text_then e) rest) ≡ walk (stands outer ts (with_part fs (PowerOf c e))) rest
 exponent_read c (Constant n) r shaped outer ts fs rest = refl
 exponent_read c (Input i) r shaped outer ts fs rest = refl
 exponent_read c (SumOf bs) r shaped outer ts fs rest = in_brackets_read (Exponent c) (SumOf bs) r shaped refl outer ts fs rest
 exponent_read c (ProductOf bs) r shaped outer ts fs rest = in_brackets_read (Exponent c) (ProductOf bs) r shaped refl outer ts fs rest
-exponent_read c (GreatestOf bs) r shaped outer ts fs rest = in_brackets_read (Exponent c) (GreatestOf bs) r shaped refl outer ts fs rest
+exponent_read c (MaximumOf bs) r shaped outer ts fs rest = in_brackets_read (Exponent c) (MaximumOf bs) r shaped refl outer ts fs rest
 exponent_read c (PowerOf d e) r shaped outer ts fs rest = in_brackets_read (Exponent c) (PowerOf d e) r shaped refl outer ts fs rest
 
 -- arguments are at least two
-two_arguments : (b : Size) (bs : Parts) → 2 ≤ part_count (Part b bs) → is_empty bs && true ≡ false
+two_arguments : (b : Bound) (bs : Parts) → 2 ≤ part_count (Part b bs) → is_empty bs && true ≡ false
 two_arguments b NoParts h = absurd (omega (arith, h))
 two_arguments b (Part c cs) h = refl
 
 mutual
   -- a bound as texts spell it is read
-  pub reads : (b : Size) → IsShaped b → Reads b
+  pub reads : (b : Bound) → IsShaped b → Reads b
   reads (Constant c) shaped = record { each = λ outer ts fs rest h. refl }
   reads (Input i) shaped = record { each = λ outer ts fs rest h. read_input outer ts fs i rest h }
   reads (SumOf NoParts) shaped = absurd (omega (arith, shaped.0))
   reads (SumOf (Part b bs)) shaped = record { each = λ outer rest. terms_read b bs (reads b shaped.2.0) (all_read bs shaped.2.1) shaped.1 shaped.2 outer NoParts rest }
   reads (ProductOf NoParts) shaped = absurd (omega (arith, shaped.0))
   reads (ProductOf (Part b bs)) shaped = record { each = λ outer ts rest. product_read b bs (reads b shaped.2.0, all_read bs shaped.2.1) shaped.1 shaped.2 outer ts rest }
-  reads (GreatestOf NoParts) shaped = absurd (omega (arith, shaped.0))
-  reads (GreatestOf (Part b bs)) shaped = record {
+  reads (MaximumOf NoParts) shaped = absurd (omega (arith, shaped.0))
+  reads (MaximumOf (Part b bs)) shaped = record {
     each = λ outer ts fs rest h.
         arguments_read b bs (reads b shaped.2.0, all_read bs shaped.2.1) shaped.2 shaped.1 NoParts ts fs (two_arguments b bs shaped.0) outer rest
-        ∙ ap (λ (cs : Parts). walk (stands outer ts (with_part fs (GreatestOf cs))) rest) (appended-none (Part b bs));
+        ∙ ap (λ (cs : Parts). walk (stands outer ts (with_part fs (MaximumOf cs))) rest) (appended-none (Part b bs));
   }
   reads (PowerOf c e) shaped = record {
     each = λ outer ts fs rest h.
@@ -394,11 +394,11 @@ mutual
   all_read (Part b bs) shaped = (reads b shaped.0, all_read bs shaped.1)
 
 -- the pieces of a bound lead to it
-pub walk-bound : (b : Size) → IsShaped b → (rest : List Piece) → walk (Some beginning) (text_then b rest) ≡ walk (stands Whole (terms_in b) (factors_in b)) rest
+pub walk-bound : (b : Bound) → IsShaped b → (rest : List Piece) → walk (Some beginning) (text_then b rest) ≡ walk (stands Whole (terms_in b) (factors_in b)) rest
 walk-bound b shaped rest = bound_read b (reads b shaped) Whole rest
 
 -- and the text can end there
-pub finish-bound : (b : Size) → IsShaped b → finish (front_at Whole (terms_in b) (factors_in b) ItemRead) ≡ Some b
+pub finish-bound : (b : Bound) → IsShaped b → finish (front_at Whole (terms_in b) (factors_in b) ItemRead) ≡ Some b
 finish-bound b shaped =
     let p = bound-parts b shaped in
-    ap (λ (v : Bool). when v (bound_of (terms_in b) (factors_in b))) p.1 ∙ ap Some p.0
+    ap (λ (v : Bool). when v (bound_made (terms_in b) (factors_in b))) p.1 ∙ ap Some p.0

@@ -1,11 +1,11 @@
 -- The part that has been read leads the reader to it, and can be completed.
 use Rattle.std.proofs.Common.{◌≡◌, Bool, true, false, not, ◌&&◌, List, ◌∷◌, ◌++◌, Some, refl, ap, ◌∙◌}
 use Rattle.model.specs.Bounds.{Parts, NoParts, Part}
-use Rattle.bound_expr.specs.Tidy.{IsNoSum, IsNoGreatest, EachPart}
-use Rattle.bound_text.specs.Shapes.{is_greatest, is_empty, with_part, AreShaped}
+use Rattle.bound_expr.specs.Tidy.{IsNoSum, IsNoMaximum, EachPart}
+use Rattle.bound_text.specs.Shapes.{is_maximum, is_empty, with_part, AreShaped}
 use Rattle.bound_text.specs.Pieces.{Piece, Variable, Number, Open, Times, Caret, Plus, Blank, Comma}
 use Rattle.bound_text.specs.Writing.{Nothing, factors_then, plus_between, comma_between}
-use Rattle.bound_text.specs.Fronts.{Bracket, Arguments, Exponent, Factor, Outer, Whole, Inside, Place, Front, Begins, RunCaret, PowerCaret, ItemRead, BlankRead, PlusRead, CommaRead, IsFront, IsOuter, IsBracket, AreFactors, front_then, outer_then, place_then, star_then, each_then, bracket_then, bound_of, can_end, can_be_argument, in_arguments}
+use Rattle.bound_text.specs.Fronts.{Bracket, Arguments, Exponent, Factor, Outer, Whole, Inside, Place, Front, Begins, RunCaret, PowerCaret, ItemRead, BlankRead, PlusRead, CommaRead, IsFront, IsOuter, IsBracket, AreFactors, front_then, outer_then, place_then, star_then, each_then, bracket_then, bound_made, can_end, can_be_argument, in_arguments}
 use Rattle.bound_text.specs.Steps.{front_at, walk, beginning}
 use Rattle.bound_text.proofs.CompletenessLaws.{starts, stands, walk-when, read_input, read_run_caret, read_base, appended, appended-none, AllRead, term_read, read_plus, argument_read, product_read, all_read}
 
@@ -19,7 +19,7 @@ terms_before_read (Part b bs) rs none shaped outer acc rest =
     ∙ terms_before_read bs rs.1 none.1 shaped.1 outer (with_part acc b) rest
 
 -- arguments with `, ` behind each
-arguments_before_read : (bs : Parts) → AllRead bs → EachPart IsNoGreatest bs → AreShaped bs → (outer : Outer) (acc ts fs : Parts) (rest : List Piece)
+arguments_before_read : (bs : Parts) → AllRead bs → EachPart IsNoMaximum bs → AreShaped bs → (outer : Outer) (acc ts fs : Parts) (rest : List Piece)
     → walk (starts (Inside (Arguments acc) ts fs outer) NoParts NoParts) (each_then comma_between bs rest) ≡ walk (starts (Inside (Arguments (appended acc bs)) ts fs outer) NoParts NoParts) rest
 arguments_before_read NoParts rs none shaped outer acc ts fs rest = refl
 arguments_before_read (Part b bs) rs none shaped outer acc ts fs rest =
@@ -39,7 +39,7 @@ factors_before (Part b bs) all outer ts rest = factors_at (Part b bs) all refl o
 -- an open bracket
 bracket_read : (bracket : Bracket) → IsBracket bracket → (outer : Outer) (ts fs : Parts) (rest : List Piece) → walk (starts outer ts fs) (bracket_then bracket rest) ≡ walk (starts (Inside bracket ts fs outer) NoParts NoParts) rest
 bracket_read (Arguments bs) is outer ts fs rest =
-    arguments_before_read bs (all_read bs is.shaped) is.no_greatests is.shaped outer NoParts ts fs rest
+    arguments_before_read bs (all_read bs is.shaped) is.no_maximums is.shaped outer NoParts ts fs rest
     ∙ ap (λ (cs : Parts). walk (starts (Inside (Arguments cs) ts fs outer) NoParts NoParts) rest) (appended-none bs)
 bracket_read (Exponent c) is outer ts fs rest = read_base outer ts fs c (Open ∷ rest) is
 bracket_read Factor is outer ts fs rest = refl
@@ -89,7 +89,7 @@ front_read f is rest =
         ∙ walk-when (can_be_argument f.outer f.terms f.factors) (front_at f.outer f.terms f.factors CommaRead) rest is.place
       where
         some_argument : (outer : Outer) → can_be_argument outer f.terms f.factors ≡ true → is_empty f.factors ≡ false
-        some_argument outer h = some (in_arguments outer) (can_end f.factors) (not (is_greatest (bound_of f.terms f.factors))) h (some_end f.factors)
+        some_argument outer h = some (in_arguments outer) (can_end f.factors) (not (is_maximum (bound_made f.terms f.factors))) h (some_end f.factors)
           where
             some : (a b c : Bool) → a && (b && c) ≡ true → (b ≡ true → is_empty f.factors ≡ false) → is_empty f.factors ≡ false
             some true true c h k = k refl

@@ -3,72 +3,73 @@ use Rattle.std.proofs.Common.{◌≡◌, ◌≢◌, ℕ, suc, ◌-◌, cond, nat
 use Rattle.std.specs.Prelude.{slice_get, nat_eq}
 use Rattle.std.specs.Option.{option_map}
 use Rattle.std.proofs.lemmas.Bool.Decides.{nat_tests}
-use Rattle.model.specs.Bounds.{Size, SumOf, Parts, NoParts, Part}
+use Rattle.model.specs.Bounds as plain
+use Rattle.model.specs.Bounds.{SumOf, Parts, NoParts, Part}
 use Rattle.bound_expr.specs.declared.bound.Bound.{Bound}
-use Rattle.bound_expr.specs.Views.{size_of, sizes_of, parts_of}
-use Rattle.bound_text.specs.Shapes.{is_sum, is_greatest, is_leaf, is_empty, with_part}
-use Rattle.bound_text.specs.Fronts.{as_one, term_of, bound_of, lone, passes, last, product_node}
+use Rattle.bound_expr.specs.Views.{bound_of, bounds_of, parts_of}
+use Rattle.bound_text.specs.Shapes.{is_sum, is_maximum, is_leaf, is_empty, with_part}
+use Rattle.bound_text.specs.Fronts.{as_one, term_of, bound_made, lone, passes, last, product_node}
 
 -- parts that aren't one are taken as a whole
-pub as_one_more : (whole : Parts → Size) (xs : List Bound) → length xs ≢ 1 → as_one whole (parts_of (sizes_of xs)) ≡ whole (parts_of (sizes_of xs))
+pub as_one_more : (whole : Parts → plain.Bound) (xs : List Bound) → length xs ≢ 1 → as_one whole (parts_of (bounds_of xs)) ≡ whole (parts_of (bounds_of xs))
 as_one_more whole [] h = refl
 as_one_more whole (x ∷ []) h = absurd (h refl)
 as_one_more whole (x ∷ y ∷ xs) h = refl
 
 -- there are no parts where the list has none
-pub is_empty_parts : (xs : List Bound) → is_empty (parts_of (sizes_of xs)) ≡ nat_eq (length xs) 0
+pub is_empty_parts : (xs : List Bound) → is_empty (parts_of (bounds_of xs)) ≡ nat_eq (length xs) 0
 is_empty_parts [] = refl
 is_empty_parts (x ∷ xs) = grind (arith, nat_tests)
 
 -- terms before make a sum
-pub as_one-with_part : (b : Size) (bs : Parts) (t : Size) → as_one SumOf (with_part (Part b bs) t) ≡ SumOf (with_part (Part b bs) t)
+pub as_one-with_part : (b : plain.Bound) (bs : Parts) (t : plain.Bound) → as_one SumOf (with_part (Part b bs) t) ≡ SumOf (with_part (Part b bs) t)
 as_one-with_part b NoParts t = refl
 as_one-with_part b (Part c bs) t = refl
 
 -- when terms and factors make a sum
-pub is_sum-bound_of : (ts fs : Parts) → is_sum (bound_of ts fs) ≡ not (is_empty ts) || passes is_sum (lone fs)
-is_sum-bound_of NoParts NoParts = refl
-is_sum-bound_of NoParts (Part b NoParts) = refl
-is_sum-bound_of NoParts (Part b (Part c bs)) = refl
-is_sum-bound_of (Part b bs) fs = ap is_sum (as_one-with_part b bs (term_of fs))
+pub is_sum-bound_made : (ts fs : Parts) → is_sum (bound_made ts fs) ≡ not (is_empty ts) || passes is_sum (lone fs)
+is_sum-bound_made NoParts NoParts = refl
+is_sum-bound_made NoParts (Part b NoParts) = refl
+is_sum-bound_made NoParts (Part b (Part c bs)) = refl
+is_sum-bound_made (Part b bs) fs = ap is_sum (as_one-with_part b bs (term_of fs))
 
--- when they make a greatest
-pub is_greatest-bound_of : (ts fs : Parts) → is_greatest (bound_of ts fs) ≡ is_empty ts && passes is_greatest (lone fs)
-is_greatest-bound_of NoParts NoParts = refl
-is_greatest-bound_of NoParts (Part b NoParts) = refl
-is_greatest-bound_of NoParts (Part b (Part c bs)) = refl
-is_greatest-bound_of (Part b bs) fs = ap is_greatest (as_one-with_part b bs (term_of fs))
+-- when they make a maximum
+pub is_maximum-bound_made : (ts fs : Parts) → is_maximum (bound_made ts fs) ≡ is_empty ts && passes is_maximum (lone fs)
+is_maximum-bound_made NoParts NoParts = refl
+is_maximum-bound_made NoParts (Part b NoParts) = refl
+is_maximum-bound_made NoParts (Part b (Part c bs)) = refl
+is_maximum-bound_made (Part b bs) fs = ap is_maximum (as_one-with_part b bs (term_of fs))
 
 -- when they make a constant or a variable
-pub is_leaf-bound_of : (ts fs : Parts) → is_leaf (bound_of ts fs) ≡ is_empty ts && passes is_leaf (lone fs)
-is_leaf-bound_of NoParts NoParts = refl
-is_leaf-bound_of NoParts (Part b NoParts) = refl
-is_leaf-bound_of NoParts (Part b (Part c bs)) = refl
-is_leaf-bound_of (Part b bs) fs = ap is_leaf (as_one-with_part b bs (term_of fs))
+pub is_leaf-bound_made : (ts fs : Parts) → is_leaf (bound_made ts fs) ≡ is_empty ts && passes is_leaf (lone fs)
+is_leaf-bound_made NoParts NoParts = refl
+is_leaf-bound_made NoParts (Part b NoParts) = refl
+is_leaf-bound_made NoParts (Part b (Part c bs)) = refl
+is_leaf-bound_made (Part b bs) fs = ap is_leaf (as_one-with_part b bs (term_of fs))
 
 -- what kind of bound terms and factors make
-pub ruleset kinds = (is_sum-bound_of, is_greatest-bound_of, is_leaf-bound_of)
+pub ruleset kinds = (is_sum-bound_made, is_maximum-bound_made, is_leaf-bound_made)
 
 -- the last part is the last of the list
-pub last_got : (xs : List Bound) → last (parts_of (sizes_of xs)) ≡ option_map size_of (slice_get xs (length xs - 1))
+pub last_got : (xs : List Bound) → last (parts_of (bounds_of xs)) ≡ option_map bound_of (slice_get xs (length xs - 1))
 last_got [] = refl
 last_got (x ∷ []) = refl
-last_got (x ∷ y ∷ xs) = last_got (y ∷ xs) ∙ ap (λ (k : ℕ). option_map size_of (slice_get (x ∷ y ∷ xs) k)) (let e : suc (length (y ∷ xs) - 1) ≡ length (x ∷ y ∷ xs) - 1 = omega arith in e)
+last_got (x ∷ y ∷ xs) = last_got (y ∷ xs) ∙ ap (λ (k : ℕ). option_map bound_of (slice_get (x ∷ y ∷ xs) k)) (let e : suc (length (y ∷ xs) - 1) ≡ length (x ∷ y ∷ xs) - 1 = omega arith in e)
 
 -- of parts that aren't one none stands alone
-pub lone_many : (xs : List Bound) → length xs ≢ 1 → lone (parts_of (sizes_of xs)) ≡ None
+pub lone_many : (xs : List Bound) → length xs ≢ 1 → lone (parts_of (bounds_of xs)) ≡ None
 lone_many [] h = refl
 lone_many (x ∷ []) h = absurd (h refl)
 lone_many (x ∷ y ∷ xs) h = refl
 
 -- of parts that are one the first stands alone
-pub lone_got : (xs : List Bound) → length xs ≡ 1 → lone (parts_of (sizes_of xs)) ≡ option_map size_of (slice_get xs 0)
+pub lone_got : (xs : List Bound) → length xs ≡ 1 → lone (parts_of (bounds_of xs)) ≡ option_map bound_of (slice_get xs 0)
 lone_got [] h = cc
 lone_got (x ∷ []) h = refl
 lone_got (x ∷ y ∷ xs) h = absurd (omega (arith, h))
 
 -- a product counts where there is more than one factor, or a lone sum
-pub makes_product : (xs : List Bound) → product_node (parts_of (sizes_of xs)) ≡ cond (nat_lt 1 (length xs) || passes is_sum (lone (parts_of (sizes_of xs)))) 1 0
+pub makes_product : (xs : List Bound) → product_node (parts_of (bounds_of xs)) ≡ cond (nat_lt 1 (length xs) || passes is_sum (lone (parts_of (bounds_of xs)))) 1 0
 makes_product [] = refl
 makes_product (x ∷ []) = refl
 makes_product (x ∷ y ∷ xs) = ap (λ (b : Bool). cond (b || false) 1 0) (let e : true ≡ nat_lt 1 (length (x ∷ y ∷ xs)) = grind (arith, nat_tests) in e)

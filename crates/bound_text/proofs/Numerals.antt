@@ -6,9 +6,9 @@ use Rattle.std.specs.Char.{is_ascii_digit, digit_value}
 use Rattle.std.specs.Str.Parse.{AllDigits, digits_value_after, digits_value}
 use Rattle.std.proofs.lemmas.Fmt.{decimal_digit, decimal_step_wide, decimal_by_steps_wide}
 use Rattle.std.proofs.lemmas.Bool.Decides.{nat_tests}
-use Rattle.bound_text.specs.Lexing.{begins_with, has_leading_zero}
-use Rattle.bound_text.proofs.TestLaws.{both}
-use Rattle.bound_text.proofs.NumberLaws.{digit_value-digit}
+use Rattle.text_core.specs.Bytes.{begins_with, has_leading_zero}
+use Rattle.std.proofs.lemmas.Bool.{and_parts}
+use Rattle.text_core.proofs.NumberLaws.{digit_value-digit}
 
 -- a digit's byte, from its value and back
 digit_byte : (c : ℕ) → is_ascii_digit c ≡ true → (c ≡ 48 + digit_value c) × (digit_value c < 10)
@@ -36,7 +36,7 @@ grows_after n (c ∷ ds) = omega (arith, grows_after (n * 10 + digit_value c) ds
 numeral_after : (n : ℕ) (xs ds : List ℕ) → 1 ≤ n → decimal n ≡ xs → list_all is_ascii_digit ds ≡ true → digits_value_after 10 n ds < 10 ^ 64 → decimal (digits_value_after 10 n ds) ≡ xs ++ ds
 numeral_after n xs [] some is all small = is ∙ sym (append-nil xs)
 numeral_after n xs (c ∷ ds) some is all small =
-    let t = both (is_ascii_digit c) (list_all is_ascii_digit ds) all in
+    let t = and_parts (is_ascii_digit c) (list_all is_ascii_digit ds) all in
     let b = digit_byte c t.0 in
     let m : ℕ = n * 10 + digit_value c in
     let big = grows_after (n * 10 + digit_value c) ds in

@@ -1,51 +1,51 @@
--- What reading has come to decides the verdict with what is left.
-use Rattle.std.proofs.Common.{◌≡◌, length-drop, ℕ, zero, suc, ◌+◌, ◌-◌, ◌<◌, ◌≤◌, Bool, true, false, cond, nat_eq, List, [], ◌∷◌, length, drop, refl, ap, sym, subst, ◌∙◌, arith}
-use Rattle.std.specs.Prelude.{Result, Ok, Err, IsTrue, codes}
+-- What reading has come to decides the answer with what is left.
+use Rattle.std.proofs.Common.{◌≡◌, length-drop, ℕ, ◌+◌, ◌-◌, ◌^◌, ◌<◌, ◌≤◌, Bool, true, false, cond, nat_eq, List, [], ◌∷◌, length, drop, Option, Some, None, refl, ap, sym, subst, ◌∙◌, inl, inr, arith}
+use Rattle.std.specs.Prelude.{Result, Ok, Err, IsErrAnd, IsTrue, codes, ◌⊎◌}
 use Rattle.std.specs.Char.{is_ascii_digit}
 use Rattle.std.proofs.lemmas.Bool.Decides.{nat_tests}
-use Rattle.std.specs.Str.Parse.{digits_value}
-use Rattle.bound_expr.specs.Capped.{capped}
 use Rattle.model.specs.Programs.{Name}
-use Rattle.bound_text.specs.Names.{begins_name, continues_name, is_same, place_of}
-use Rattle.bound_text.specs.Pieces.{Piece, Variable, Number, Greatest, Wrong}
-use Rattle.its_model.specs.Fronts.{front, behind}
-use Rattle.bound_text.specs.Lexing.{Lexeme, begins_with, has_leading_zero, word_at, number_at, mark_at, lexeme_at, lexed}
-use Rattle.bound_text.specs.Fronts.{Front}
-use Rattle.bound_text.specs.Steps.{beginning}
-use Rattle.bound_text.specs.Faults.{Kind, Syntax, NumberTooLarge, UnknownName, TooDeep, TooLarge}
-use Rattle.bound_text.specs.Checks.{Checked, Refused, Reached, Stopped, Going, Verdict, Faulty, Stands, is_caret, caret_next, checked, further, verdict}
+use Rattle.model.specs.Bounds as plain
+use Rattle.text_core.specs.Names.{begins_name, continues_name, is_same, position_of}
+use Rattle.text_core.specs.Prefixes.{prefix, rest as the_rest}
+use Rattle.text_core.specs.Bytes.{begins_with, has_leading_zero, value_up_to}
+use Rattle.text_core.specs.Tokens.{Token, Lexeme, each_piece, pieces, tokens_from, AreInOrder}
+use Rattle.text_core.specs.Readers as text
+use Rattle.text_core.specs.Readers.{next, reached, BreaksOff}
+use Rattle.text_core.specs.Faults.{Among, next_at, off_at, NotAfter}
+use Rattle.text_core.specs.Reading.{Answer, Stands, Refused as RefusedBy, Going, answer, run, further, first_among}
+use Rattle.text_core.specs.Stopping.{ShowsNext}
+use Rattle.text_core.proofs.ShownFaults.{fault_among, among_faults, no_faults}
+use Rattle.text_core.proofs.Lexing.{tokens-first, in_order}
+use Rattle.text_core.proofs.FirstFaults.{Ahead, breaks_here, goes_here}
+use Rattle.text_core.proofs.Stopping.{ahead_next, first_ahead}
+use Rattle.bound_text.specs.Pieces.{Piece, Variable, Number, Maximum, Caret, Wrong}
+use Rattle.bound_text.specs.Lexing.{word_at, number_at, mark_at, lexeme_at, tokens}
+use Rattle.bound_text.specs.Fronts.{Front, levels_of}
+use Rattle.bound_text.specs.Kinds.{Kind, Syntax, NumberTooLarge, UnknownName, TooDeep, TooLarge, number_of, kinds}
+use Rattle.bound_text.specs.Steps.{step, beginning}
+use Rattle.bound_text.specs.Checks.{Checked, Refused, Reached, is_caret, caret_next, has_large_base, checked}
+use Rattle.bound_text.specs.Reading.{stands, shown, bounds}
 use Rattle.bound_text.specs.Verdicts.{error_at}
 use Rattle.bound_text.specs.Views.{IsKind, IsRefusal, Obeys, Says, front_of, is_settled}
+use Rattle.bound_expr.specs.declared.bound.Bound.{Bound}
 use Rattle.bound_text.specs.declared.state.Reader.{Reader}
+use Rattle.bound_text.specs.declared.error.BoundTextError.{BoundTextError}
 use Rattle.bound_text.specs.declared.error.BoundTextError.TheVariants as errors
 use Rattle.bound_text.specs.declared.fault.Fault.{Fault}
 use Rattle.bound_text.specs.declared.fault.Fault.TheVariants as faults
-
--- the pieces behind bytes that are passed over
-pub lexed-drop : (names : List Name) (k : ℕ) (bytes : List ℕ) → lexed names k bytes ≡ lexed names 0 (drop k bytes)
-lexed-drop names zero [] = refl
-lexed-drop names (suc k) [] = refl
-lexed-drop names zero (b ∷ bytes) = refl
-lexed-drop names (suc k) (b ∷ bytes) = lexed-drop names k bytes
-
--- the pieces of a text are the first one, and those behind it
-pub lexed-first : (names : List Name) (rest others behind : List ℕ) (b : ℕ) (l : Lexeme) → rest ≡ b ∷ others → l ≡ lexeme_at names b others → 0 < l.len → behind ≡ drop l.len rest
-    → lexed names 0 rest ≡ l ∷ lexed names 0 behind
-lexed-first names rest others behind b l e is some rests =
-    ap (lexed names 0) e
-    ∙ ap (λ (m : Lexeme). m ∷ lexed names (m.len - 1) others) (sym is)
-    ∙ ap (λ (ls : List Lexeme). l ∷ ls) (lexed-drop names (l.len - 1) others ∙ ap (lexed names 0) (sym (rests ∙ ap (drop l.len) e ∙ passed l.len some)))
-  where
-    passed : (n : ℕ) → 0 < n → drop n (b ∷ others) ≡ drop (n - 1) others
-    passed zero some = absurd (omega arith)
-    passed (suc n) some = ap (λ (k : ℕ). drop k others) (let same : n ≡ suc n - 1 = omega arith in same)
+use Rattle.bound_text.proofs.StepCases.{step_leads}
+use Rattle.bound_text.proofs.PieceFaults.{IsRefused, IsTaken, IsJudged, piece_judged}
+use Rattle.bound_text.proofs.ReaderLaws.{bound_laws, is_front}
+use Rattle.bound_text.proofs.Limits.{base_ok, base_kept, each_kind}
+use Rattle.bound_text.proofs.TextLexing.{lexes_within}
+use Rattle.bound_expr.specs.Limits.{depth_limit}
 
 -- a name is no `^`
 word_no_caret : (names : List Name) (name rest : List ℕ) → is_caret (word_at names name rest).piece ≡ false
 word_no_caret names name rest = go (begins_with 40 rest) (is_same name (codes "max"))
   where
     go : (a b : Bool)
-        → is_caret (cond {A = Lexeme} a (cond b (record { piece = Greatest; len = length name + 1 }) (record { piece = Wrong; len = length name })) (record { piece = Variable (place_of name names); len = length name })).piece ≡ false
+        → is_caret (cond {A = Lexeme Piece} a (cond b (record { piece = Maximum; len = length name + 1 }) (record { piece = Wrong; len = length name })) (record { piece = Variable (position_of name names); len = length name })).piece ≡ false
     go true true = refl
     go true false = refl
     go false b = refl
@@ -54,7 +54,7 @@ word_no_caret names name rest = go (begins_with 40 rest) (is_same name (codes "m
 number_no_caret : (digits : List ℕ) → is_caret (number_at digits).piece ≡ false
 number_no_caret digits = go (has_leading_zero digits)
   where
-    go : (a : Bool) → is_caret (cond a Wrong (Number (capped (digits_value 10 digits)))) ≡ false
+    go : (a : Bool) → is_caret (cond a Wrong (Number (value_up_to (2 ^ 127) digits))) ≡ false
     go true = refl
     go false = refl
 
@@ -75,37 +75,66 @@ lexeme_caret : (names : List Name) (b : ℕ) (bytes : List ℕ) → is_caret (le
 lexeme_caret names b bytes = go (begins_name b) (is_ascii_digit b) refl refl
   where
     go : (v w : Bool) → begins_name b ≡ v → is_ascii_digit b ≡ w
-        → is_caret (cond {A = Lexeme} v (word_at names (b ∷ front continues_name bytes) (behind continues_name bytes)) (cond w (number_at (b ∷ front is_ascii_digit bytes)) (record { piece = mark_at b; len = 1 }))).piece ≡ nat_eq b 94
-    go true w e f = word_no_caret names (b ∷ front continues_name bytes) (behind continues_name bytes) ∙ sym (begins_no_caret b e)
-    go false true e f = number_no_caret (b ∷ front is_ascii_digit bytes) ∙ sym (digit_no_caret b f)
+        → is_caret (cond {A = Lexeme Piece} v (word_at names (b ∷ prefix continues_name bytes) (the_rest continues_name bytes)) (cond w (number_at (b ∷ prefix is_ascii_digit bytes)) (record { piece = mark_at b; len = 1 }))).piece ≡ nat_eq b 94
+    go true w e f = word_no_caret names (b ∷ prefix continues_name bytes) (the_rest continues_name bytes) ∙ sym (begins_no_caret b e)
+    go false true e f = number_no_caret (b ∷ prefix is_ascii_digit bytes) ∙ sym (digit_no_caret b f)
     go false false e f = mark_caret b
 
 -- `^` comes next where the bytes begin with it
-pub caret-lexed : (names : List Name) (bytes : List ℕ) → caret_next (lexed names 0 bytes) ≡ begins_with 94 bytes
-caret-lexed names [] = refl
-caret-lexed names (b ∷ bytes) = lexeme_caret names b bytes
+pub caret-tokens : (names : List Name) (at : ℕ) (bytes : List ℕ) → caret_next (pieces (tokens_from (each_piece (lexeme_at names)) at 0 bytes)) ≡ begins_with 94 bytes
+caret-tokens names at [] = refl
+caret-tokens names at (b ∷ bytes) = lexeme_caret names b bytes
+
+-- kinds differ in their numbers
+kinds_differ : (a b : Kind) → number_of a ≡ number_of b → a ≡ b
+kinds_differ Syntax Syntax h = refl
+kinds_differ NumberTooLarge NumberTooLarge h = refl
+kinds_differ UnknownName UnknownName h = refl
+kinds_differ TooDeep TooDeep h = refl
+kinds_differ TooLarge TooLarge h = refl
+kinds_differ a b h = absurd (omega (arith, h))
+
+-- everything that is shown stands at the next token
+shown_next : (n len : ℕ) (f : Front) (rest : List (Token Piece)) (x : text.Fault Kind) → Among x (shown n f rest) → x.at ≡ next_at len rest
+shown_next n len f [] x a = absurd a
+shown_next n len f (t ∷ rest) x a = (among_faults t.at (stands n f t.piece (pieces rest)) kinds x a).0
+
+shows_next : (n : ℕ) → ShowsNext (bounds n)
+shows_next n = record { each = λ len done f rest x a. shown_next n len f rest x a }
 
 -- a piece that is taken decides nothing
-pub reads_on : (n at : ℕ) (names : List Name) (f g : Front) (b : ℕ) (others rest behind : List ℕ) (l : Lexeme) → rest ≡ b ∷ others → l ≡ lexeme_at names b others → 0 < l.len → behind ≡ drop l.len rest
-    → checked n (begins_with 94 behind) f l.piece ≡ Reached g → verdict n (Going at f) (lexed names 0 rest) ≡ verdict n (Going (at + l.len) g) (lexed names 0 behind)
-reads_on n at names f g b others rest behind l e is some rests reached =
-    ap (verdict n (Going at f)) (lexed-first names rest others behind b l e is some rests)
-    ∙ ap (λ (c : Checked). verdict n (further at l.len c) (lexed names 0 behind)) (ap (λ (v : Bool). checked n v f l.piece) (caret-lexed names behind) ∙ reached)
-
--- where reading has stopped, that is the verdict
-verdict-stopped : (n at : ℕ) (kind : Kind) (ls : List Lexeme) → verdict n (Stopped kind at) ls ≡ Faulty kind at
-verdict-stopped n at kind [] = refl
-verdict-stopped n at kind (l ∷ ls) = refl
+run_taken : (n len : ℕ) (done rest : List (Token Piece)) (f g : Front) (t : Token Piece) → IsTaken n f t.piece (pieces rest) g → run (bounds n) len (Going None done f) (t ∷ rest) ≡ run (bounds n) len (Going None (t ∷ done) g) rest
+run_taken n len done rest f g t is =
+    ap (λ (xs : List (text.Fault Kind)). run (bounds n) len (further (bounds n) (first_among (bounds n) None xs) done t (step f t.piece) (off_at (bounds n) len f (t ∷ rest))) rest) (no_faults t.at (stands n f t.piece (pieces rest)) kinds is.none)
+    ∙ ap (λ (o : Option Front). run (bounds n) len (further (bounds n) None done t o (off_at (bounds n) len f (t ∷ rest))) rest) is.leads
 
 -- a piece that is refused decides
-pub reads_not : (n at : ℕ) (names : List Name) (f : Front) (kind : Kind) (b : ℕ) (others rest behind : List ℕ) (l : Lexeme) → rest ≡ b ∷ others → l ≡ lexeme_at names b others → 0 < l.len → behind ≡ drop l.len rest
-    → checked n (begins_with 94 behind) f l.piece ≡ Refused kind → verdict n (Going at f) (lexed names 0 rest) ≡ Faulty kind at
-reads_not n at names f kind b others rest behind l e is some rests refused =
-    ap (verdict n (Going at f)) (lexed-first names rest others behind b l e is some rests)
-    ∙ ap (λ (c : Checked). verdict n (further at l.len c) (lexed names 0 behind)) (ap (λ (v : Bool). checked n v f l.piece) (caret-lexed names behind) ∙ refused)
-    ∙ verdict-stopped n at kind (lexed names 0 behind)
+run_refused : (n len : ℕ) (done rest : List (Token Piece)) (f : Front) (t : Token Piece) (kind : Kind) → reached (bounds n) (pieces done) ≡ Some f → t.at < t.upto → AreInOrder t.upto rest len → IsRefused n f t.piece (pieces rest) kind
+    → run (bounds n) len (Going None done f) (t ∷ rest) ≡ RefusedBy (record { kind = kind; at = t.at })
+run_refused n len done rest f t kind led some order is = first_ahead (bounds n) (bound_laws n) kinds_differ len done (t ∷ rest) f (record { kind = kind; at = t.at }) led (here is.is) least
+  where
+    here : (stands n f t.piece (pieces rest) kind ≡ true) ⊎ ((step f t.piece ≡ None) × (kind ≡ Syntax)) → Ahead (bounds n) len done (Some f) (t ∷ rest) (record { kind = kind; at = t.at })
+    here (inl s) = inl (inl (fault_among t.at (stands n f t.piece (pieces rest)) kinds kind (each_kind kind) s))
+    here (inr s) = inl (inr (breaks_here (bounds n) (bound_laws n) (pieces done) f t.piece (pieces rest) led s.0, ap (λ (k : Kind). record { kind = k; at = t.at }) (sym s.1)))
 
--- want of memory is an answer to each verdict
+    nowhere : (o : Option Front) → step f t.piece ≡ o → BreaksOff (bounds n) (pieces done) (t.piece ∷ pieces rest) → kind ≡ Syntax
+    nowhere None e b = is.nowhere e
+    nowhere (Some g) e b = absurd (goes_here (bounds n) (bound_laws n) (pieces done) f g t.piece (pieces rest) led e b)
+
+    least : (y : text.Fault Kind) → Ahead (bounds n) len done (Some f) (t ∷ rest) y → NotAfter (bounds n) (record { kind = kind; at = t.at }) y
+    least y (inl (inl a)) =
+        let m = among_faults t.at (stands n f t.piece (pieces rest)) kinds y a in
+        record { position = (let e = m.0 in omega (arith, e)); kind = λ p. is.least y.kind m.1 }
+    least y (inl (inr b)) =
+        let at : t.at ≡ y.at = ap (λ (z : text.Fault Kind). z.at) b.1 in
+        let first : number_of kind ≡ 1 = ap number_of (nowhere (step f t.piece) refl b.0) in
+        let one : 1 ≡ number_of y.kind = ap (λ (z : text.Fault Kind). number_of z.kind) b.1 in
+        record { position = omega (arith, at); kind = λ p. omega (arith, first, one) }
+    least y (inr a) =
+        let e = ahead_next (bounds n) (shows_next n) rest len t.upto (t ∷ done) (step f t.piece) y order a in
+        record { position = omega (arith, e, some); kind = λ p. absurd (omega (arith, e, some, p)) }
+
+-- want of memory is an answer to each refusal
 refusal_memory : (kind : Kind) (at : ℕ) → IsRefusal kind at errors.Memory
 refusal_memory Syntax at = tt
 refusal_memory NumberTooLarge at = tt
@@ -113,10 +142,15 @@ refusal_memory UnknownName at = tt
 refusal_memory TooDeep at = tt
 refusal_memory TooLarge at = tt
 
--- so it is to a verdict
-pub says_memory : (v : Verdict) → Says v (Err errors.Memory)
-says_memory (Faulty kind at) = refusal_memory kind at
+-- so it is to each answer
+pub says_memory : (a : Answer plain.Bound Kind) → Says a (Err errors.Memory)
+says_memory (RefusedBy x) = refusal_memory x.kind x.at
 says_memory (Stands b) = tt
+
+-- so it is where an error is passed on as it
+pub says_passed_on : (a : Answer plain.Bound Kind) (result : Result Bound BoundTextError) → IsErrAnd result (λ e. e ≡ errors.Memory) → Says a result
+says_passed_on a (Ok b) h = absurd h
+says_passed_on a (Err e) h = subst (λ (x : BoundTextError). Says a (Err x)) (sym h) (says_memory a)
 
 -- a refusal of the code with its position
 refusal_at : (kind : Kind) (fault : Fault) (at : ℕ) → IsKind kind fault → IsRefusal kind at (error_at fault at)
@@ -127,11 +161,6 @@ refusal_at TooDeep faults.TooDeep at h = refl
 refusal_at TooLarge faults.TooLarge at h = refl
 refusal_at kind faults.Memory at h = refusal_memory kind at
 refusal_at kind fault at h = absurd h
-
--- the reader stands where what has been read decides the verdict with what is left
-pub record Decides (n : ℕ) (names : List Name) (bytes rest : List ℕ) (f : Front) : Type 0 where
-  pub within : length rest ≤ length bytes
-  pub same : verdict n (Going 0 beginning) (lexed names 0 bytes) ≡ verdict n (Going (length bytes - length rest) f) (lexed names 0 rest)
 
 -- the answer of taking a piece
 reached_front : (c : Checked) (r : Reader) (u : Unit {0}) → Obeys c r (Ok u) → c ≡ Reached (front_of r)
@@ -146,36 +175,104 @@ settled_front c r result u e h = go c (subst (λ (x : Result (Unit {0}) Fault). 
     go (Refused kind) k = absurd k
     go (Reached f) k = k.1
 
--- a piece that is taken
-pub decides_on : (n : ℕ) (names : List Name) (f : Front) (r : Reader) (b : ℕ) (bytes others rest behind : List ℕ) (l : Lexeme) (piece : Piece) (caret : Bool) (result : Result (Unit {0}) Fault) (u : Unit {0})
-    → Decides n names bytes rest f → rest ≡ b ∷ others → l ≡ lexeme_at names b others → piece ≡ l.piece → 0 < l.len → l.len ≤ length rest → behind ≡ drop l.len rest → caret ≡ begins_with 94 behind
-    → result ≡ Ok u → Obeys (checked n caret f piece) r result → Decides n names bytes behind (front_of r)
-decides_on n names f r b bytes others rest behind l piece caret result u d e is p some fits rests c ok obeys =
-    let told : checked n (begins_with 94 behind) f l.piece ≡ Reached (front_of r) =
-    ap (λ (v : Bool). checked n v f l.piece) (sym c) ∙ ap (checked n caret f) (sym p) ∙ reached_front (checked n caret f piece) r u (subst (λ (x : Result (Unit {0}) Fault). Obeys (checked n caret f piece) r x) ok obeys) in
-    let len : length behind ≡ length rest - l.len = ap length rests ∙ length-drop l.len rest in
-    record {
-      within = omega (arith, d.within, len);
-      same =
-          d.same
-          ∙ reads_on n (length bytes - length rest) names f (front_of r) b others rest behind l e is some rests told
-          ∙ ap (λ (at : ℕ). verdict n (Going at (front_of r)) (lexed names 0 behind)) (let z : length bytes - length rest + l.len ≡ length bytes - length behind = omega (arith, d.within, len) in z);
-    }
+-- the tokens of the bytes that are left of a text
+abbrev pub left_tokens : List Name → List ℕ → List ℕ → List (Token Piece)
+left_tokens names bytes left = tokens_from (each_piece (lexeme_at names)) (length bytes - length left) 0 left
 
--- a piece that is refused
-pub decides_not : (n : ℕ) (names : List Name) (f : Front) (r : Reader) (b : ℕ) (bytes others rest behind : List ℕ) (l : Lexeme) (piece : Piece) (caret : Bool) (result : Result (Unit {0}) Fault) (fault : Fault) (at : ℕ)
-    → Decides n names bytes rest f → rest ≡ b ∷ others → l ≡ lexeme_at names b others → piece ≡ l.piece → 0 < l.len → behind ≡ drop l.len rest → caret ≡ begins_with 94 behind → at ≡ length bytes - length rest
-    → result ≡ Err fault → Obeys (checked n caret f piece) r result → Says (verdict n (Going 0 beginning) (lexed names 0 bytes)) (Err (error_at fault at))
-decides_not n names f r b bytes others rest behind l piece caret result fault at d e is p some rests c here err obeys =
-    go (checked n caret f piece) refl (subst (λ (x : Result (Unit {0}) Fault). Obeys (checked n caret f piece) r x) err obeys)
+-- the reader stands where what has been read decides the answer with what is left
+pub record Decides (names : List Name) (bytes left : List ℕ) (f : Front) : Type 0 where
+  pub within : length left ≤ length bytes
+  pub done : List (Token Piece)
+  pub led : reached (bounds (length names)) (pieces done) ≡ Some f
+  pub shallow : levels_of f ≤ depth_limit
+  pub bases : begins_with 94 left ≡ true → has_large_base f Caret ≡ false
+  pub same : answer (bounds (length names)) (length bytes) (tokens names bytes) ≡ run (bounds (length names)) (length bytes) (Going None done f) (left_tokens names bytes left)
+
+-- at the beginning
+pub decides_first : (names : List Name) (bytes : List ℕ) → Decides names bytes bytes beginning
+decides_first names bytes = record {
+  within = omega arith;
+  done = [];
+  led = refl;
+  shallow = omega arith;
+  bases = λ h. refl;
+  same = ap (λ (at : ℕ). run (bounds (length names)) (length bytes) (Going None [] beginning) (tokens_from (each_piece (lexeme_at names)) at 0 bytes)) (let e : 0 ≡ length bytes - length bytes = omega arith in e);
+}
+
+-- the token that the text goes on with
+module _ (names : List Name) (bytes left others behind : List ℕ) (b : ℕ) (l : Lexeme Piece) (first : left ≡ b ∷ others) (found_at : l ≡ lexeme_at names b others) (some : 0 < l.len) (fits : l.len ≤ length left) (rests : behind ≡ drop l.len left) (within : length left ≤ length bytes)
   where
-    go : (k : Checked) → checked n caret f piece ≡ k → Obeys k r (Err fault) → Says (verdict n (Going 0 beginning) (lexed names 0 bytes)) (Err (error_at fault at))
-    go (Refused kind) is_refused h =
-        let told : checked n (begins_with 94 behind) f l.piece ≡ Refused kind = ap (λ (v : Bool). checked n v f l.piece) (sym c) ∙ ap (checked n caret f) (sym p) ∙ is_refused in
-        let v : verdict n (Going 0 beginning) (lexed names 0 bytes) ≡ Faulty kind (length bytes - length rest) = d.same ∙ reads_not n (length bytes - length rest) names f kind b others rest behind l e is some rests told in
-        subst (λ (w : Verdict). Says w (Err (error_at fault at))) (sym v) (subst (λ (q : ℕ). IsRefusal kind q (error_at fault at)) here (refusal_at kind fault at h))
-    go (Reached g) is_reached h = only_memory fault h
-      where
-        only_memory : (fault : Fault) → Obeys (Reached g) r (Err fault) → Says (verdict n (Going 0 beginning) (lexed names 0 bytes)) (Err (error_at fault at))
-        only_memory faults.Memory h = says_memory (verdict n (Going 0 beginning) (lexed names 0 bytes))
-        only_memory fault h = absurd h
+    abbrev token : Token Piece
+    token = record { piece = l.piece; at = length bytes - length left; upto = length bytes - length left + l.len }
+
+    -- what is left behind it
+    fewer : length behind ≡ length left - l.len
+    fewer = ap length rests ∙ length-drop l.len left
+
+    -- the tokens that are left are that one, and those behind it
+    next_token : left_tokens names bytes left ≡ token ∷ left_tokens names bytes behind
+    next_token =
+        tokens-first (each_piece (lexeme_at names)) (length bytes - length left) left others behind b (record { piece = Some l.piece; len = l.len }) first
+        (ap (λ (m : Lexeme Piece). record { piece = Some m.piece; len = m.len }) found_at) some rests
+        ∙ ap (λ (at : ℕ). token ∷ tokens_from (each_piece (lexeme_at names)) at 0 behind) (let e : length bytes - length left + l.len ≡ length bytes - length behind = omega (arith, fewer, fits, within) in e)
+
+    -- the tokens behind it stand in order
+    order : AreInOrder token.upto (left_tokens names bytes behind) (length bytes)
+    order =
+        subst (λ (p : ℕ). AreInOrder p (left_tokens names bytes behind) (length bytes)) (let e : length bytes - length behind + 0 ≡ length bytes - length left + l.len = omega (arith, fewer, fits, within) in e)
+        (subst (AreInOrder (length bytes - length behind + 0) (left_tokens names bytes behind)) (let e : length bytes - length behind + length behind ≡ length bytes = omega (arith, fewer, within) in e)
+        (in_order (each_piece (lexeme_at names)) (lexes_within names) behind 0 (length bytes - length behind) (omega arith)))
+
+    -- what taking its piece comes to
+    piece_is : (f : Front) (d : Decides names bytes left f) → IsJudged (length names) f l.piece (pieces (left_tokens names bytes behind)) (checked (length names) (caret_next (pieces (left_tokens names bytes behind))) f l.piece)
+    piece_is f d =
+        piece_judged (length names) f l.piece (pieces (left_tokens names bytes behind)) (is_front (length names) (pieces d.done) f d.led) d.shallow
+        (base_ok f.place f.factors l.piece (λ h. d.bases (ap (begins_with 94) first ∙ sym (lexeme_caret names b others) ∙ sym (ap (λ (m : Lexeme Piece). is_caret m.piece) found_at) ∙ h)))
+
+    module _ (m : ℕ) (f : Front) (r : Reader) (piece : Piece) (caret : Bool) (result : Result (Unit {0}) Fault) (listed : m ≡ length names) (piece_same : piece ≡ l.piece) (caret_same : caret ≡ begins_with 94 behind)
+        (obeys : Obeys (checked m caret f piece) r result) where
+      -- the code takes the piece as it is found
+      checked_same : checked m caret f piece ≡ checked (length names) (caret_next (pieces (left_tokens names bytes behind))) f l.piece
+      checked_same =
+          ap (λ (k : ℕ). checked k caret f piece) listed
+          ∙ ap (λ (v : Bool). checked (length names) v f piece) (caret_same ∙ sym (caret-tokens names (length bytes - length behind) behind))
+          ∙ ap (checked (length names) (caret_next (pieces (left_tokens names bytes behind))) f) piece_same
+
+      -- a piece that is taken
+      pub decides_on : (u : Unit {0}) → Decides names bytes left f → result ≡ Ok u → Decides names bytes behind (front_of r)
+      decides_on u d ok =
+          let told : checked (length names) (caret_next (pieces (left_tokens names bytes behind))) f l.piece ≡ Reached (front_of r) =
+          sym checked_same ∙ reached_front (checked m caret f piece) r u (subst (λ (x : Result (Unit {0}) Fault). Obeys (checked m caret f piece) r x) ok obeys) in
+          let taken : IsTaken (length names) f l.piece (pieces (left_tokens names bytes behind)) (front_of r) = subst (IsJudged (length names) f l.piece (pieces (left_tokens names bytes behind))) told (piece_is f d) in
+          record {
+            within = omega (arith, fewer, within);
+            done = token ∷ d.done;
+            led = ap (λ (o : Option Front). next step o l.piece) d.led ∙ taken.leads;
+            shallow = taken.levels;
+            bases = λ h.
+                base_kept (length names) f (front_of r) l.piece (pieces (left_tokens names bytes behind)) taken.leads taken.none (step_leads f (front_of r) l.piece (is_front (length names) (pieces d.done) f d.led) taken.leads)
+                (caret-tokens names (length bytes - length behind) behind ∙ h);
+            same =
+                d.same
+                ∙ ap (run (bounds (length names)) (length bytes) (Going None d.done f)) next_token
+                ∙ run_taken (length names) (length bytes) d.done (left_tokens names bytes behind) f (front_of r) token taken;
+          }
+
+      -- a piece that is refused
+      pub decides_not : (fault : Fault) (at : ℕ) → Decides names bytes left f → at ≡ length bytes - length left → result ≡ Err fault
+          → Says (answer (bounds (length names)) (length bytes) (tokens names bytes)) (Err (error_at fault at))
+      decides_not fault at d here err = go (checked m caret f piece) refl (subst (λ (x : Result (Unit {0}) Fault). Obeys (checked m caret f piece) r x) err obeys)
+        where
+          go : (k : Checked) → checked m caret f piece ≡ k → Obeys k r (Err fault) → Says (answer (bounds (length names)) (length bytes) (tokens names bytes)) (Err (error_at fault at))
+          go (Refused kind) e h =
+              let refused : IsRefused (length names) f l.piece (pieces (left_tokens names bytes behind)) kind = subst (IsJudged (length names) f l.piece (pieces (left_tokens names bytes behind))) (sym checked_same ∙ e) (piece_is f d) in
+              let told =
+              d.same
+              ∙ ap (run (bounds (length names)) (length bytes) (Going None d.done f)) next_token
+              ∙ run_refused (length names) (length bytes) d.done (left_tokens names bytes behind) f token kind d.led (omega (arith, some)) order refused in
+              subst (λ (w : Answer plain.Bound Kind). Says w (Err (error_at fault at))) (sym told) (subst (λ (q : ℕ). IsRefusal kind q (error_at fault at)) here (refusal_at kind fault at h))
+          go (Reached g) e h = only_memory fault h
+            where
+              only_memory : (fault : Fault) → Obeys (Reached g) r (Err fault) → Says (answer (bounds (length names)) (length bytes) (tokens names bytes)) (Err (error_at fault at))
+              only_memory faults.Memory h = says_memory (answer (bounds (length names)) (length bytes) (tokens names bytes))
+              only_memory fault h = absurd h

@@ -3,18 +3,19 @@ use Rattle.std.proofs.Common.{◌≡◌, ℕ, zero, suc, ◌+◌, ◌^◌, ◌<�
 use Rattle.std.specs.Prelude.{IsTrue, Result}
 use Rattle.std.proofs.lemmas.Bool.{cases_lt}
 use Rattle.std.proofs.lemmas.Bool.Decides.{nat_tests}
-use Rattle.model.specs.Bounds.{Size, Input, Parts, NoParts, Part}
-use Rattle.bound_expr.specs.Measure.{node_count_of_all, greatest_depth}
+use Rattle.model.specs.Bounds.{Bound, Input, Parts, NoParts, Part}
+use Rattle.bound_expr.specs.Measure.{node_count_of_all, maximum_depth}
 use Rattle.bound_text.specs.Shapes.{with_part}
 use Rattle.bound_text.specs.Pieces.{Piece, Number}
 use Rattle.bound_text.specs.Fronts.{Outer, Front, ItemRead, last, init, is_input, product_node, nodes_of, inner_levels}
 use Rattle.bound_text.specs.Steps.{front_at, with_copies, end_run}
-use Rattle.bound_text.specs.Faults.{TooDeep, TooLarge}
+use Rattle.bound_text.specs.Kinds.{TooDeep, TooLarge}
 use Rattle.bound_text.specs.Checks.{Checked, Refused, Reached, sized, judged, fault_of, takes_caret}
 use Rattle.bound_text.specs.Views.{Obeys}
 use Rattle.bound_text.specs.declared.state.Reader.{Reader}
 use Rattle.bound_text.specs.declared.fault.Fault.{Fault}
 use Rattle.bound_text.proofs.PartLaws.{last-with_part, init-with_part, node_count-with_part, depth-with_part}
+use Rattle.bound_expr.specs.Limits.{depth_limit, node_limit}
 
 -- a variable is itself
 pub is_same_input : (i : ℕ) → nat_eq i i ≡ true
@@ -26,12 +27,12 @@ node_count-with_copies zero i fs = omega arith
 node_count-with_copies (suc n) i fs = omega (arith, node_count-with_part (with_copies n i fs) (Input i), node_count-with_copies n i fs)
 
 -- the levels with copies
-pub depth-with_copies : (n i : ℕ) (fs : Parts) → greatest_depth (with_copies (suc n) i fs) ≡ max (greatest_depth fs) 1
+pub depth-with_copies : (n i : ℕ) (fs : Parts) → maximum_depth (with_copies (suc n) i fs) ≡ max (maximum_depth fs) 1
 depth-with_copies zero i fs = depth-with_part fs (Input i)
 depth-with_copies (suc n) i fs = omega (arith, depth-with_part (with_copies (suc n) i fs) (Input i), depth-with_copies n i fs)
 
 -- two more factors make a product
-pub product_two : (gs : Parts) (a b : Size) → product_node (with_part (with_part gs a) b) ≡ 1
+pub product_two : (gs : Parts) (a b : Bound) → product_node (with_part (with_part gs a) b) ≡ 1
 product_two NoParts a b = refl
 product_two (Part c NoParts) a b = refl
 product_two (Part c (Part d ds)) a b = refl
@@ -41,7 +42,7 @@ pub run_settled : (n i : ℕ) (fs : Parts) → takes_caret (init (with_copies (s
 run_settled n i fs =
     ap (λ (gs : Parts). takes_caret gs (last (with_copies (suc (suc n)) i fs))) (init-with_part (with_copies (suc n) i fs) (Input i))
     ∙ ap (takes_caret (with_copies (suc n) i fs)) (last-with_part (with_copies (suc n) i fs) (Input i))
-    ∙ ap (λ (b : Option Size). not (is_input i b)) (last-with_part (with_copies n i fs) (Input i))
+    ∙ ap (λ (b : Option Bound). not (is_input i b)) (last-with_part (with_copies n i fs) (Input i))
     ∙ ap not (is_same_input i)
 
 -- the same for as many copies as were made
@@ -61,15 +62,15 @@ refused_by true b f e = refl
 refused_by false b f e = ap (λ (v : Bool). cond v (Refused TooLarge) (Reached f)) e
 
 -- more than the limit, as the test says
-is_over : (m : ℕ) → 4096 < m → nat_lt 4096 m ≡ true
+is_over : (m : ℕ) → node_limit < m → nat_lt node_limit m ≡ true
 is_over m h = grind (arith, nat_tests)
 
 -- with more copies than a bound may have nodes the refusal is the same
 sized-many : (outer : Outer) (ts fs : Parts) (n i : ℕ) → 4095 ≤ n
-    → sized (front_at outer ts (with_copies (suc (suc n)) i fs) ItemRead) ≡ cond (nat_lt 200 (inner_levels (front_at outer ts (with_copies 2 i fs) ItemRead))) (Refused TooDeep) (Refused TooLarge)
+    → sized (front_at outer ts (with_copies (suc (suc n)) i fs) ItemRead) ≡ cond (nat_lt depth_limit (inner_levels (front_at outer ts (with_copies 2 i fs) ItemRead))) (Refused TooDeep) (Refused TooLarge)
 sized-many outer ts fs n i h =
-    refused_by (nat_lt 200 (inner_levels f)) (nat_lt 4096 (nodes_of f)) f (is_over (nodes_of f) (omega (arith, node_count-with_copies (suc (suc n)) i fs)))
-    ∙ ap (λ (l : ℕ). cond (nat_lt 200 l) (Refused TooDeep) (Refused TooLarge)) (levels-copies outer ts fs n i)
+    refused_by (nat_lt depth_limit (inner_levels f)) (nat_lt node_limit (nodes_of f)) f (is_over (nodes_of f) (omega (arith, node_count-with_copies (suc (suc n)) i fs)))
+    ∙ ap (λ (l : ℕ). cond (nat_lt depth_limit l) (Refused TooDeep) (Refused TooLarge)) (levels-copies outer ts fs n i)
   where
     f : Front
     f = front_at outer ts (with_copies (suc (suc n)) i fs) ItemRead

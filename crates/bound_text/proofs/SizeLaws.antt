@@ -1,7 +1,7 @@
 -- How large the tree so far is, by the place of the code.
 use Rattle.std.proofs.Common.{◌≡◌, ◌+◌, max, refl, arith}
 use Rattle.model.specs.Bounds.{Constant, Input, Parts}
-use Rattle.bound_expr.specs.Measure.{node_count_of_all, greatest_depth}
+use Rattle.bound_expr.specs.Measure.{node_count_of_all, maximum_depth}
 use Rattle.bound_text.specs.Fronts.{Outer, nodes_of, inner_levels, nodes_round, levels_above}
 use Rattle.bound_text.specs.Views.{front_with, sum_here, product_here, item_here}
 use Rattle.bound_text.specs.declared.state.Place.{Place}
@@ -23,7 +23,7 @@ nodes_here at.CommaRead outer ts fs = refl
 
 -- and so do its levels
 pub levels_here : (place : Place) (outer : Outer) (ts fs : Parts)
-    → inner_levels (front_with place outer ts fs) ≡ max (levels_above outer + sum_here place outer ts + greatest_depth ts) (levels_above outer + sum_here place outer ts + product_here place fs + max (greatest_depth fs) (item_here place))
+    → inner_levels (front_with place outer ts fs) ≡ max (levels_above outer + sum_here place outer ts + maximum_depth ts) (levels_above outer + sum_here place outer ts + product_here place fs + max (maximum_depth fs) (item_here place))
 levels_here at.Begins outer ts fs = refl
 levels_here (at.Number c) outer ts fs = omega (arith, depth-with_part fs (Constant c), product_node-with_part fs (Constant c) refl)
 levels_here (at.Name i) outer ts fs = omega (arith, depth-with_part fs (Input i), product_node-with_part fs (Input i) refl)

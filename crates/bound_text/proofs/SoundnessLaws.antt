@@ -1,14 +1,14 @@
 -- Where the reader comes to is what has been read.
 use Rattle.std.proofs.Common.{◌≡◌, ℕ, zero, suc, ◌+◌, ◌≤◌, nat_lt, Bool, true, false, not, cond, ◌&&◌, List, ◌∷◌, ◌++◌, Some, refl, ap, sym, subst, ◌∙◌, arith}
 use Rattle.std.proofs.lemmas.Bool.Decides.{nat_tests}
-use Rattle.model.specs.Bounds.{Size, Constant, Input, SumOf, ProductOf, GreatestOf, PowerOf, Parts, NoParts, Part}
-use Rattle.bound_expr.specs.Tidy.{part_count, IsNoSum, IsNoProduct, IsNoGreatest, EachPart}
-use Rattle.bound_text.specs.Shapes.{is_sum, is_greatest, is_empty, with_part, IsShaped, AreShaped}
-use Rattle.bound_text.specs.Pieces.{Piece, Variable, Number, Greatest, Open, Close, Times, Caret, Plus, Blank, Comma}
+use Rattle.model.specs.Bounds.{Bound, Constant, Input, SumOf, ProductOf, MaximumOf, PowerOf, Parts, NoParts, Part}
+use Rattle.bound_expr.specs.Tidy.{part_count, IsNoSum, IsNoProduct, IsNoMaximum, EachPart}
+use Rattle.bound_text.specs.Shapes.{is_sum, is_maximum, is_empty, with_part, IsShaped, AreShaped}
+use Rattle.bound_text.specs.Pieces.{Piece, Variable, Number, Maximum, Open, Close, Times, Caret, Plus, Blank, Comma}
 use Rattle.bound_text.specs.Writing.{Nothing, bracketed_then, text_then, factors_then, plus_between, comma_between}
-use Rattle.bound_text.specs.Fronts.{Bracket, Arguments, Exponent, Factor, Outer, Whole, Inside, Place, Front, Begins, RunCaret, PowerCaret, ItemRead, BlankRead, PlusRead, CommaRead, IsFront, IsOuter, IsBracket, IsPlace, AreTerms, AreFactors, front_then, outer_then, place_then, star_then, each_then, bracket_then, last, init, is_input, term_of, bound_of, can_end, can_be_argument}
+use Rattle.bound_text.specs.Fronts.{Bracket, Arguments, Exponent, Factor, Outer, Whole, Inside, Place, Front, Begins, RunCaret, PowerCaret, ItemRead, BlankRead, PlusRead, CommaRead, IsFront, IsOuter, IsBracket, IsPlace, AreTerms, AreFactors, front_then, outer_then, place_then, star_then, each_then, bracket_then, last, init, is_input, term_of, bound_made, can_end, can_be_argument}
 use Rattle.bound_text.specs.Steps.{when, with_copies, front_at, inside, behind_factor, begin_item, end_run, begin_exponent, caret_behind, can_close, item_of, close_bracket, follow_item, end_argument, step, step_at, beginning, finish}
-use Rattle.bound_text.proofs.TestLaws.{both, not-true}
+use Rattle.std.proofs.lemmas.Bool.{and_parts, not-true}
 use Rattle.bound_text.proofs.PartLaws.{is_empty-with_part, last-with_part, init-with_part}
 use Rattle.bound_text.proofs.JoiningLaws.{as_one-with_part}
 use Rattle.bound_text.proofs.WritingLaws.{is_variable, ends_in, joined-with_part, each-with_part, factors-other, factors-run, term_text, bound_text}
@@ -24,27 +24,27 @@ when-some true f g h = (refl, cc)
 when-some false f g h = cc
 
 -- one more part keeps what holds of each
-each-more : (P : Size → Type 0) (bs : Parts) (b : Size) → EachPart P bs → P b → EachPart P (with_part bs b)
+each-more : (P : Bound → Type 0) (bs : Parts) (b : Bound) → EachPart P bs → P b → EachPart P (with_part bs b)
 each-more P NoParts b all here = (here, tt)
 each-more P (Part c cs) b all here = (all.0, each-more P cs b all.1 here)
 
 -- one more part as texts spell it
-shaped-more : (bs : Parts) (b : Size) → AreShaped bs → IsShaped b → AreShaped (with_part bs b)
+shaped-more : (bs : Parts) (b : Bound) → AreShaped bs → IsShaped b → AreShaped (with_part bs b)
 shaped-more NoParts b all here = (here, tt)
 shaped-more (Part c cs) b all here = (all.0, shaped-more cs b all.1 here)
 
 -- without the last
-each-less : (P : Size → Type 0) (bs : Parts) (b : Size) → EachPart P (with_part bs b) → EachPart P bs
+each-less : (P : Bound → Type 0) (bs : Parts) (b : Bound) → EachPart P (with_part bs b) → EachPart P bs
 each-less P NoParts b all = tt
 each-less P (Part c cs) b all = (all.0, each-less P cs b all.1)
 
 -- without the last, as texts spell them
-shaped-less : (bs : Parts) (b : Size) → AreShaped (with_part bs b) → AreShaped bs
+shaped-less : (bs : Parts) (b : Bound) → AreShaped (with_part bs b) → AreShaped bs
 shaped-less NoParts b all = tt
 shaped-less (Part c cs) b all = (all.0, shaped-less cs b all.1)
 
 -- one more factor
-factors-more : (fs : Parts) (b : Size) → AreFactors fs → IsShaped b → IsNoProduct b → AreFactors (with_part fs b)
+factors-more : (fs : Parts) (b : Bound) → AreFactors fs → IsShaped b → IsNoProduct b → AreFactors (with_part fs b)
 factors-more fs b all shaped none = record { no_products = each-more IsNoProduct fs b all.no_products none; shaped = shaped-more fs b all.shaped shaped }
 
 -- copies more
@@ -53,7 +53,7 @@ copies-more zero i fs all = all
 copies-more (suc n) i fs all = factors-more (with_copies n i fs) (Input i) (copies-more n i fs all) tt tt
 
 -- the number of parts with one more
-count-more : (bs : Parts) (b : Size) → part_count (with_part bs b) ≡ part_count bs + 1
+count-more : (bs : Parts) (b : Bound) → part_count (with_part bs b) ≡ part_count bs + 1
 count-more NoParts b = omega arith
 count-more (Part c cs) b = omega (arith, count-more cs b)
 
@@ -66,7 +66,7 @@ no_factors : AreFactors NoParts
 no_factors = record { no_products = tt; shaped = tt }
 
 -- one more factor
-more_factor : (outer : Outer) (ts fs : Parts) (place : Place) (b : Size) (piece : Piece) → IsFront (front_at outer ts fs place) → IsShaped b → IsNoProduct b
+more_factor : (outer : Outer) (ts fs : Parts) (place : Place) (b : Bound) (piece : Piece) → IsFront (front_at outer ts fs place) → IsShaped b → IsNoProduct b
     → ((rest : List Piece) → factors_then Nothing (with_part fs b) rest ≡ factors_then Nothing fs (place_then place fs (piece ∷ rest))) → Extends (front_at outer ts fs place) piece (behind_factor outer ts fs b)
 more_factor outer ts fs place b piece is shaped none texts = record {
   is_front = record { outer = is.outer; terms = is.terms; factors = factors-more fs b is.factors shaped none; place = is_empty-with_part fs b };
@@ -88,10 +88,10 @@ begin_sound outer ts fs (Number c) g is h =
     let e : behind_factor outer ts fs (Constant c) ≡ g = cc in
     subst (Extends (front_at outer ts fs Begins) (Number c)) e
     (more_factor outer ts fs Begins (Constant c) (Number c) is tt tt (λ rest. factors-other Nothing fs (Constant c) rest refl))
-begin_sound outer ts fs Greatest g is h =
+begin_sound outer ts fs Maximum g is h =
     let e : inside (Arguments NoParts) outer ts fs ≡ g = cc in
-    subst (Extends (front_at outer ts fs Begins) Greatest) e (record {
-      is_front = record { outer = (record { no_greatests = tt; shaped = tt }, is.terms, is.factors, is.outer); terms = no_parts; factors = no_factors; place = tt };
+    subst (Extends (front_at outer ts fs Begins) Maximum) e (record {
+      is_front = record { outer = (record { no_maximums = tt; shaped = tt }, is.terms, is.factors, is.outer); terms = no_parts; factors = no_factors; place = tt };
       text = λ rest. refl;
     })
 begin_sound outer ts fs Open g is h =
@@ -144,26 +144,26 @@ term_shaped (Part (Constant c) NoParts) all h = (tt, tt)
 term_shaped (Part (Input i) NoParts) all h = (tt, tt)
 term_shaped (Part (SumOf bs) NoParts) all h = cc
 term_shaped (Part (ProductOf bs) NoParts) all h = absurd all.no_products.0
-term_shaped (Part (GreatestOf bs) NoParts) all h = (all.shaped.0, tt)
+term_shaped (Part (MaximumOf bs) NoParts) all h = (all.shaped.0, tt)
 term_shaped (Part (PowerOf c e) NoParts) all h = (all.shaped.0, tt)
 term_shaped (Part b (Part c bs)) all h = ((omega arith, all.no_products, all.shaped), tt)
 
 -- terms and factors make a bound as texts spell it
-bound_shaped : (ts fs : Parts) → AreTerms ts → AreFactors fs → can_end fs ≡ true → IsShaped (bound_of ts fs)
+bound_shaped : (ts fs : Parts) → AreTerms ts → AreFactors fs → can_end fs ≡ true → IsShaped (bound_made ts fs)
 bound_shaped NoParts fs terms factors h = (term_shaped fs factors h).0
 bound_shaped (Part c cs) fs terms factors h =
     let t = term_shaped fs factors h in
     subst IsShaped (sym (as_one-with_part c cs (term_of fs)))
     (omega (arith, count-more (Part c cs) (term_of fs)), each-more IsNoSum (Part c cs) (term_of fs) terms.no_sums t.1, shaped-more (Part c cs) (term_of fs) terms.shaped t.0)
 
--- what fails the test of a greatest is none
-no_greatest : (b : Size) → is_greatest b ≡ false → IsNoGreatest b
-no_greatest (Constant c) h = tt
-no_greatest (Input i) h = tt
-no_greatest (SumOf bs) h = tt
-no_greatest (ProductOf bs) h = tt
-no_greatest (GreatestOf bs) h = cc
-no_greatest (PowerOf c e) h = tt
+-- what fails the test of a maximum is none
+no_maximum : (b : Bound) → is_maximum b ≡ false → IsNoMaximum b
+no_maximum (Constant c) h = tt
+no_maximum (Input i) h = tt
+no_maximum (SumOf bs) h = tt
+no_maximum (ProductOf bs) h = tt
+no_maximum (MaximumOf bs) h = cc
+no_maximum (PowerOf c e) h = tt
 
 -- parts that aren't none are one at least
 some_parts : (bs : Parts) → is_empty bs ≡ false → 1 ≤ part_count bs
@@ -171,22 +171,22 @@ some_parts NoParts h = cc
 some_parts (Part b bs) h = omega arith
 
 -- the item of a bracket is one as texts spell it, and no variable
-is_item : (bracket : Bracket) (b : Size) → IsBracket bracket → IsShaped b → can_close bracket b ≡ true → IsShaped (item_of bracket b) × IsNoProduct (item_of bracket b) × (is_variable (item_of bracket b) ≡ false)
+is_item : (bracket : Bracket) (b : Bound) → IsBracket bracket → IsShaped b → can_close bracket b ≡ true → IsShaped (item_of bracket b) × IsNoProduct (item_of bracket b) × (is_variable (item_of bracket b) ≡ false)
 is_item (Arguments bs) b is shaped h =
-    let t = both (not (is_empty bs)) (not (is_greatest b)) h in
-    ((omega (arith, count-more bs b, some_parts bs (not-true (is_empty bs) t.0)), each-more IsNoGreatest bs b is.no_greatests (no_greatest b (not-true (is_greatest b) t.1)), shaped-more bs b is.shaped shaped), tt, refl)
+    let t = and_parts (not (is_empty bs)) (not (is_maximum b)) h in
+    ((omega (arith, count-more bs b, some_parts bs (not-true (is_empty bs) t.0)), each-more IsNoMaximum bs b is.no_maximums (no_maximum b (not-true (is_maximum b) t.1)), shaped-more bs b is.shaped shaped), tt, refl)
 is_item (Exponent c) b is shaped h = ((is, shaped), tt, refl)
 is_item Factor (SumOf bs) is shaped h = (shaped, tt, refl)
 is_item Factor (Constant c) is shaped h = cc
 is_item Factor (Input i) is shaped h = cc
 is_item Factor (ProductOf bs) is shaped h = cc
-is_item Factor (GreatestOf bs) is shaped h = cc
+is_item Factor (MaximumOf bs) is shaped h = cc
 is_item Factor (PowerOf c e) is shaped h = cc
 
 -- the item of a bracket is written as the bracket with its bound
-closed_text : (bracket : Bracket) (b : Size) (rest : List Piece) → can_close bracket b ≡ true
+closed_text : (bracket : Bracket) (b : Bound) (rest : List Piece) → can_close bracket b ≡ true
     → bracketed_then (is_sum (item_of bracket b)) (text_then (item_of bracket b)) rest ≡ bracket_then bracket (text_then b (Close ∷ rest))
-closed_text (Arguments bs) b rest h = ap (λ (ps : List Piece). Greatest ∷ ps) (joined-with_part comma_between bs b (Close ∷ rest))
+closed_text (Arguments bs) b rest h = ap (λ (ps : List Piece). Maximum ∷ ps) (joined-with_part comma_between bs b (Close ∷ rest))
 closed_text (Exponent c) b rest h = ap (λ (v : Bool). Number c ∷ Caret ∷ bracketed_then v (text_then b) rest) h
 closed_text Factor b rest h = ap (λ (v : Bool). bracketed_then v (text_then b) rest) h
 
@@ -194,26 +194,26 @@ closed_text Factor b rest h = ap (λ (v : Bool). bracketed_then v (text_then b) 
 close_sound : (outer : Outer) (ts fs : Parts) (g : Front) → IsFront (front_at outer ts fs ItemRead) → close_bracket outer ts fs ≡ Some g → Extends (front_at outer ts fs ItemRead) Close g
 close_sound Whole ts fs g is h = cc
 close_sound (Inside bracket ts' fs' outer) ts fs g is h =
-    let t = when-some (can_end fs && can_close bracket (bound_of ts fs)) (behind_factor outer ts' fs' (item_of bracket (bound_of ts fs))) g h in
-    let c = both (can_end fs) (can_close bracket (bound_of ts fs)) t.0 in
-    let item = is_item bracket (bound_of ts fs) is.outer.0 (bound_shaped ts fs is.terms is.factors c.0) c.1 in
+    let t = when-some (can_end fs && can_close bracket (bound_made ts fs)) (behind_factor outer ts' fs' (item_of bracket (bound_made ts fs))) g h in
+    let c = and_parts (can_end fs) (can_close bracket (bound_made ts fs)) t.0 in
+    let item = is_item bracket (bound_made ts fs) is.outer.0 (bound_shaped ts fs is.terms is.factors c.0) c.1 in
     subst (Extends (front_at (Inside bracket ts' fs' outer) ts fs ItemRead) Close) t.1 (record {
-      is_front = record { outer = is.outer.3; terms = is.outer.1; factors = factors-more fs' (item_of bracket (bound_of ts fs)) is.outer.2 item.0 item.1; place = is_empty-with_part fs' (item_of bracket (bound_of ts fs)) };
+      is_front = record { outer = is.outer.3; terms = is.outer.1; factors = factors-more fs' (item_of bracket (bound_made ts fs)) is.outer.2 item.0 item.1; place = is_empty-with_part fs' (item_of bracket (bound_made ts fs)) };
       text = λ rest.
           ap (λ (ps : List Piece). outer_then outer (each_then plus_between ts' ps))
-          (factors-other Nothing fs' (item_of bracket (bound_of ts fs)) rest item.2
+          (factors-other Nothing fs' (item_of bracket (bound_made ts fs)) rest item.2
           ∙ ap (λ (ps : List Piece). factors_then Nothing fs' (star_then fs' ps))
-          (closed_text bracket (bound_of ts fs) rest c.1 ∙ ap (bracket_then bracket) (bound_text ts fs (Close ∷ rest) c.0)));
+          (closed_text bracket (bound_made ts fs) rest c.1 ∙ ap (bracket_then bracket) (bound_text ts fs (Close ∷ rest) c.0)));
     })
 
 -- factors that are some are some with one more
-pub unsnoc : (fs : Parts) → is_empty fs ≡ false → (gs : Parts) × (b : Size) × (fs ≡ with_part gs b)
+pub unsnoc : (fs : Parts) → is_empty fs ≡ false → (gs : Parts) × (b : Bound) × (fs ≡ with_part gs b)
 unsnoc NoParts h = cc
 unsnoc (Part b NoParts) h = (NoParts, b, refl)
 unsnoc (Part b (Part c cs)) h = let t = unsnoc (Part c cs) refl in (Part b t.0, t.1, ap (Part b) t.2)
 
 -- at the `^` behind a factor
-caret_sound : (outer : Outer) (ts gs : Parts) (b : Size) (g : Front) → IsFront (front_at outer ts (with_part gs b) ItemRead) → caret_behind outer ts gs (Some b) ≡ Some g
+caret_sound : (outer : Outer) (ts gs : Parts) (b : Bound) (g : Front) → IsFront (front_at outer ts (with_part gs b) ItemRead) → caret_behind outer ts gs (Some b) ≡ Some g
     → Extends (front_at outer ts (with_part gs b) ItemRead) Caret g
 caret_sound outer ts gs (Constant c) g is h =
     let t = when-some (nat_lt 1 c) (front_at outer ts gs (PowerCaret c)) g h in
@@ -245,7 +245,7 @@ follow_sound outer ts fs Times g is h =
     })
 follow_sound outer ts fs Caret g is h = go (unsnoc fs is.place)
   where
-    go : ((gs : Parts) × (b : Size) × (fs ≡ with_part gs b)) → Extends (front_at outer ts fs ItemRead) Caret g
+    go : ((gs : Parts) × (b : Bound) × (fs ≡ with_part gs b)) → Extends (front_at outer ts fs ItemRead) Caret g
     go t =
         let e = t.2 in
         let at_end : caret_behind outer ts t.0 (Some t.1) ≡ Some g =
@@ -276,18 +276,18 @@ argument_sound Whole ts fs g is h = cc
 argument_sound (Inside (Exponent c) ts' fs' outer) ts fs g is h = cc
 argument_sound (Inside Factor ts' fs' outer) ts fs g is h = cc
 argument_sound (Inside (Arguments bs) ts' fs' outer) ts fs g is h =
-    let e : inside (Arguments (with_part bs (bound_of ts fs))) outer ts' fs' ≡ g = cc in
-    let c = both (can_end fs) (not (is_greatest (bound_of ts fs))) is.place in
+    let e : inside (Arguments (with_part bs (bound_made ts fs))) outer ts' fs' ≡ g = cc in
+    let c = and_parts (can_end fs) (not (is_maximum (bound_made ts fs))) is.place in
     subst (Extends (front_at (Inside (Arguments bs) ts' fs' outer) ts fs CommaRead) Blank) e (record {
       is_front = record {
-        outer = (record { no_greatests = each-more IsNoGreatest bs (bound_of ts fs) is.outer.0.no_greatests (no_greatest (bound_of ts fs) (not-true (is_greatest (bound_of ts fs)) c.1)); shaped = shaped-more bs (bound_of ts fs) is.outer.0.shaped (bound_shaped ts fs is.terms is.factors c.0) }, is.outer.1, is.outer.2, is.outer.3);
+        outer = (record { no_maximums = each-more IsNoMaximum bs (bound_made ts fs) is.outer.0.no_maximums (no_maximum (bound_made ts fs) (not-true (is_maximum (bound_made ts fs)) c.1)); shaped = shaped-more bs (bound_made ts fs) is.outer.0.shaped (bound_shaped ts fs is.terms is.factors c.0) }, is.outer.1, is.outer.2, is.outer.3);
         terms = no_parts;
         factors = no_factors;
         place = tt;
       };
       text = λ rest.
-          ap (λ (ps : List Piece). outer_then outer (each_then plus_between ts' (factors_then Nothing fs' (star_then fs' (Greatest ∷ ps)))))
-          (each-with_part comma_between bs (bound_of ts fs) rest ∙ ap (each_then comma_between bs) (bound_text ts fs (comma_between ++ rest) c.0));
+          ap (λ (ps : List Piece). outer_then outer (each_then plus_between ts' (factors_then Nothing fs' (star_then fs' (Maximum ∷ ps)))))
+          (each-with_part comma_between bs (bound_made ts fs) rest ∙ ap (each_then comma_between bs) (bound_text ts fs (comma_between ++ rest) c.0));
     })
 
 -- a piece that leads somewhere is read
@@ -311,13 +311,13 @@ pub beginning_front : IsFront beginning
 beginning_front = record { outer = tt; terms = no_parts; factors = no_factors; place = tt }
 
 -- a text that ends at a bound is its text
-pub finish_sound : (f : Front) (b : Size) → IsFront f → finish f ≡ Some b → IsShaped b × ((rest : List Piece) → text_then b rest ≡ front_then f rest)
+pub finish_sound : (f : Front) (b : Bound) → IsFront f → finish f ≡ Some b → IsShaped b × ((rest : List Piece) → text_then b rest ≡ front_then f rest)
 finish_sound f b is h = go f.place f.outer is.outer is.place h
   where
     go : (place : Place) (outer : Outer) → IsOuter outer → IsPlace place outer f.terms f.factors → finish (front_at outer f.terms f.factors place) ≡ Some b
         → IsShaped b × ((rest : List Piece) → text_then b rest ≡ front_then (front_at outer f.terms f.factors place) rest)
     go ItemRead Whole o p h =
-        let t = when-some (can_end f.factors) (bound_of f.terms f.factors) b h in
-        (subst IsShaped t.1 (bound_shaped f.terms f.factors is.terms is.factors t.0), λ rest. ap (λ (c : Size). text_then c rest) (sym t.1) ∙ bound_text f.terms f.factors rest t.0)
+        let t = when-some (can_end f.factors) (bound_made f.terms f.factors) b h in
+        (subst IsShaped t.1 (bound_shaped f.terms f.factors is.terms is.factors t.0), λ rest. ap (λ (c : Bound). text_then c rest) (sym t.1) ∙ bound_text f.terms f.factors rest t.0)
     go ItemRead (Inside bracket ts fs outer) o p h = cc
     go place outer o p h = cc

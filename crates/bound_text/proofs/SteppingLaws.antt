@@ -1,7 +1,7 @@
 -- What the code has read behind one more factor.
 use Rattle.std.proofs.Common.{◌≡◌, ℕ, ◌^◌, ◌<◌, nat_le, arith, subst, false, not, Some, ap, sym, ◌∙◌}
 use Rattle.std.specs.Prelude.{IsTrue}
-use Rattle.model.specs.Bounds.{Size, Constant, Parts}
+use Rattle.model.specs.Bounds.{Bound, Constant, Parts}
 use Rattle.bound_text.specs.Shapes.{with_part}
 use Rattle.bound_text.specs.Fronts.{Outer, ItemRead, last, init}
 use Rattle.bound_text.specs.Steps.{front_at, behind_factor}
@@ -14,7 +14,7 @@ use Rattle.bound_text.specs.declared.state.Place.TheVariants as at
 use Rattle.bound_text.proofs.PartLaws.{last-with_part, init-with_part}
 
 -- behind a factor that takes no `^` the reader stands settled
-pub settled_factor : (outer : Outer) (ts fs behind : Parts) (b : Size) → behind ≡ with_part fs b → takes_caret fs (Some b) ≡ false
+pub settled_factor : (outer : Outer) (ts fs behind : Parts) (b : Bound) → behind ≡ with_part fs b → takes_caret fs (Some b) ≡ false
     → (Some (behind_factor outer ts fs b) ≡ Some (front_at outer ts behind ItemRead)) × IsTrue (not (takes_caret (init behind) (last behind)))
 settled_factor outer ts fs behind b e none = (
   ap (λ (gs : Parts). Some (front_at outer ts gs ItemRead)) (sym e),

@@ -1,5 +1,5 @@
 -- The bytes of a text's pieces are the text, and the pieces of what they are written as are they.
-use Rattle.std.proofs.Common.{◌≡◌, ℕ, zero, suc, ◌+◌, ◌-◌, ◌^◌, ◌<◌, nat_eq, Bool, true, false, cond, List, [], ◌∷◌, ◌++◌, length, drop, slice_index_or, Option, Some, None, refl, sym, ap, subst, ◌∙◌, arith}
+use Rattle.std.proofs.Common.{◌≡◌, ℕ, zero, suc, ◌+◌, ◌-◌, ◌^◌, ◌<◌, ◌≤◌, nat_eq, Bool, true, false, cond, List, [], ◌∷◌, ◌++◌, length, length-append, min, drop, slice_index_or, Option, Some, None, refl, sym, ap, subst, ◌∙◌, arith}
 use Rattle.std.specs.Prelude.{codes, ⊤}
 use Rattle.std.specs.List.{list_all}
 use Rattle.std.specs.Fmt.{decimal}
@@ -9,48 +9,68 @@ use Rattle.std.proofs.Math.Seq.{drop-append_seam}
 use Rattle.std.proofs.lemmas.Fmt.{decimal_is_IsNumeral_wide}
 use Rattle.std.proofs.lemmas.Bool.Decides.{nat_tests}
 use Rattle.model.specs.Programs.{Name}
-use Rattle.bound_expr.specs.Capped.{capped}
-use Rattle.bound_text.specs.Names.{begins_name, continues_name, is_same, place_of, IsName, AreNames}
-use Rattle.bound_text.specs.Pieces.{Piece, Variable, Number, Greatest, Open, Close, Times, Caret, Plus, Blank, Comma, Wrong, spelled, bytes_of}
-use Rattle.its_model.specs.Fronts.{front, behind}
-use Rattle.bound_text.specs.Lexing.{Lexeme, begins_with, has_leading_zero, word_at, number_at, mark_at, lexeme_at, lexed}
+use Rattle.text_core.specs.Names.{begins_name, continues_name, is_same, position_of, IsName, AreNames}
+use Rattle.bound_text.specs.Pieces.{Piece, Variable, Number, Maximum, Open, Close, Times, Caret, Plus, Blank, Comma, Wrong, spelled, bytes_of}
+use Rattle.text_core.specs.Prefixes.{prefix, rest as the_rest}
+use Rattle.text_core.specs.Bytes.{begins_with, has_leading_zero, value_up_to}
+use Rattle.text_core.specs.Tokens.{Lexeme, LexesWithin, each_piece, pieces, tokens_from}
+use Rattle.text_core.proofs.Lexing.{tokens-first, pieces_at}
+use Rattle.text_core.proofs.Walks.{walk-none}
+use Rattle.bound_text.specs.Lexing.{found, word_at, number_at, mark_at, lexeme_at, tokens}
 use Rattle.bound_text.specs.Fronts.{Front, Place, ItemRead, IsFront}
 use Rattle.bound_text.specs.Steps.{step, step_at, follow_item, walk}
 use Rattle.bound_text.proofs.SoundnessLaws.{step_sound}
-use Rattle.bound_text.proofs.WalkLaws.{walk-none}
-use Rattle.bound_text.proofs.Leading.{Leads, of_variable, of_number, of_greatest, of_sum, of_run, of_power, of_power_of, of_exponent, of_times, of_base, of_caret, of_blank, of_comma, of_close, of_plus, of_term, of_argument, step_leads}
-use Rattle.bound_text.proofs.TestLaws.{both}
-use Rattle.its_model.proofs.FrontLaws.{front-behind, all_front, Stops, behind-append, behind-stops, front-append}
-use Rattle.its_model.proofs.NameLaws.{same_equal}
-use Rattle.bound_text.proofs.NamePlaces.{at_place, listed_name, place_at}
+use Rattle.bound_text.proofs.StepCases.{Leads, of_variable, of_number, of_maximum, of_sum, of_run, of_power, of_power_of, of_exponent, of_times, of_base, of_caret, of_blank, of_comma, of_close, of_plus, of_term, of_argument, step_leads}
+use Rattle.std.proofs.lemmas.Bool.{and_parts}
+use Rattle.text_core.proofs.PrefixLaws.{prefix-rest, all_prefix, Stops, rest-append, rest-stops, prefix-append}
+use Rattle.text_core.proofs.NameLaws.{same_equal}
+use Rattle.text_core.proofs.PositionLaws.{at_position, listed_name, position_at}
 use Rattle.bound_text.proofs.Numerals.{numeral_of, digits_pass, decimal_proper}
-use Rattle.bound_text.proofs.ReadingLaws.{lexed-first}
-use Rattle.bound_text.proofs.Keeping.{KeptPiece}
-use Rattle.bound_text.proofs.Exactness.{HaveBytes, pieces_in, AllPiecesKept}
+use Rattle.bound_text.proofs.KeptBounds.{KeptPiece, AllPiecesKept}
 
 -- each piece has some bytes
 lexeme_some : (names : List Name) (b : ℕ) (bytes : List ℕ) → 0 < (lexeme_at names b bytes).len
 lexeme_some names b bytes = go (begins_name b) (is_ascii_digit b)
   where
-    word : (v u : Bool) (name : Name) → 0 < length name → 0 < (cond {A = Lexeme} v (cond u (record { piece = Greatest; len = length name + 1 }) (record { piece = Wrong; len = length name })) (record { piece = Variable (place_of name names); len = length name })).len
+    word : (v u : Bool) (name : Name) → 0 < length name → 0 < (cond {A = Lexeme Piece} v (cond u (found Maximum (length name + 1)) (record { piece = Wrong; len = length name })) (record { piece = Variable (position_of name names); len = length name })).len
     word true true name h = omega arith
     word true false name h = h
     word false u name h = h
 
-    go : (v w : Bool) → 0 < (cond {A = Lexeme} v (word_at names (b ∷ front continues_name bytes) (behind continues_name bytes)) (cond w (number_at (b ∷ front is_ascii_digit bytes)) (record { piece = mark_at b; len = 1 }))).len
-    go true w = word (begins_with 40 (behind continues_name bytes)) (is_same (b ∷ front continues_name bytes) (codes "max")) (b ∷ front continues_name bytes) (omega arith)
+    go : (v w : Bool) → 0 < (cond {A = Lexeme Piece} v (word_at names (b ∷ prefix continues_name bytes) (the_rest continues_name bytes)) (cond w (number_at (b ∷ prefix is_ascii_digit bytes)) (record { piece = mark_at b; len = 1 }))).len
+    go true w = word (begins_with 40 (the_rest continues_name bytes)) (is_same (b ∷ prefix continues_name bytes) (codes "max")) (b ∷ prefix continues_name bytes) (omega arith)
     go false true = omega arith
     go false false = omega arith
 
--- so has each piece of a text
-pub lexed_some : (names : List Name) (k : ℕ) (bytes : List ℕ) → HaveBytes (lexed names k bytes)
-lexed_some names zero [] = tt
-lexed_some names (suc k) [] = tt
-lexed_some names zero (b ∷ bytes) = (lexeme_some names b bytes, lexed_some names ((lexeme_at names b bytes).len - 1) bytes)
-lexed_some names (suc k) (b ∷ bytes) = lexed_some names k bytes
+-- and no more than there are
+lexeme_few : (names : List Name) (b : ℕ) (bytes : List ℕ) → (lexeme_at names b bytes).len ≤ length (b ∷ bytes)
+lexeme_few names b bytes = go (begins_name b) (is_ascii_digit b)
+  where
+    parts : (test : ℕ → Bool) → length (prefix test bytes) + length (the_rest test bytes) ≡ length bytes
+    parts test = sym (length-append (prefix test bytes) (the_rest test bytes)) ∙ ap length (prefix-rest test bytes)
+
+    bracket : (xs : List ℕ) → begins_with 40 xs ≡ true → 0 < length xs
+    bracket [] h = cc
+    bracket (x ∷ xs) h = omega arith
+
+    word : (v u : Bool) → begins_with 40 (the_rest continues_name bytes) ≡ v
+        → (cond {A = Lexeme Piece} v (cond u (found Maximum (length (b ∷ prefix continues_name bytes) + 1)) (found Wrong (length (b ∷ prefix continues_name bytes)))) (found (Variable (position_of (b ∷ prefix continues_name bytes) names)) (length (b ∷ prefix continues_name bytes)))).len
+        ≤ length (b ∷ bytes)
+    word true true h = omega (arith, parts continues_name, bracket (the_rest continues_name bytes) h)
+    word true false h = omega (arith, parts continues_name)
+    word false u h = omega (arith, parts continues_name)
+
+    go : (v w : Bool) → (cond {A = Lexeme Piece} v (word_at names (b ∷ prefix continues_name bytes) (the_rest continues_name bytes)) (cond w (number_at (b ∷ prefix is_ascii_digit bytes)) (found (mark_at b) 1))).len ≤ length (b ∷ bytes)
+    go true w = word (begins_with 40 (the_rest continues_name bytes)) (is_same (b ∷ prefix continues_name bytes) (codes "max")) refl
+    go false true = omega (arith, parts is_ascii_digit)
+    go false false = omega arith
+
+-- so the pieces of a text stand in order
+pub lexes_within : (names : List Name) → LexesWithin (each_piece (lexeme_at names))
+lexes_within names = record { each = λ b bytes. (lexeme_some names b bytes, lexeme_few names b bytes) }
 
 -- the bytes begin with those of the piece
-pub record Spelled (names : List Name) (text : List ℕ) (l : Lexeme) : Type 0 where
+pub record Spelled (names : List Name) (text : List ℕ) (l : Lexeme Piece) : Type 0 where
   pub rest : List ℕ
   pub split : text ≡ spelled names l.piece ++ rest
   pub len : length (spelled names l.piece) ≡ l.len
@@ -65,26 +85,26 @@ word_spelled : (names : List Name) (w rest : List ℕ) → KeptPiece (length nam
 word_spelled names w rest kept = go (begins_with 40 rest) (is_same w (codes "max")) refl refl kept
   where
     go : (v u : Bool) → begins_with 40 rest ≡ v → is_same w (codes "max") ≡ u
-        → KeptPiece (length names) (cond {A = Lexeme} v (cond u (record { piece = Greatest; len = length w + 1 }) (record { piece = Wrong; len = length w })) (record { piece = Variable (place_of w names); len = length w })).piece
-        → Spelled names (w ++ rest) (cond {A = Lexeme} v (cond u (record { piece = Greatest; len = length w + 1 }) (record { piece = Wrong; len = length w })) (record { piece = Variable (place_of w names); len = length w }))
+        → KeptPiece (length names) (cond {A = Lexeme Piece} v (cond u (record { piece = Maximum; len = length w + 1 }) (record { piece = Wrong; len = length w })) (record { piece = Variable (position_of w names); len = length w })).piece
+        → Spelled names (w ++ rest) (cond {A = Lexeme Piece} v (cond u (record { piece = Maximum; len = length w + 1 }) (record { piece = Wrong; len = length w })) (record { piece = Variable (position_of w names); len = length w }))
     go true true e f kept =
         let r = begins_split 40 rest e in
         let m : w ≡ codes "max" = same_equal w (codes "max") f in
         record { rest = r.0; split = ap (λ (xs : List ℕ). xs ++ rest) m ∙ ap (λ (xs : List ℕ). codes "max" ++ xs) r.1; len = (let k : 4 ≡ length (codes "max") + 1 = refl in k ∙ ap (λ (xs : List ℕ). length xs + 1) (sym m)) }
     go true false e f kept = absurd kept
-    go false u e f kept = let p = at_place names w kept in record { rest = rest; split = ap (λ (xs : List ℕ). xs ++ rest) (sym p); len = ap length p }
+    go false u e f kept = let p = at_position names w kept in record { rest = rest; split = ap (λ (xs : List ℕ). xs ++ rest) (sym p); len = ap length p }
 
 -- what a kept number is written as
 number_spelled : (names : List Name) (c : ℕ) (ds rest : List ℕ) → is_ascii_digit c ≡ true → list_all is_ascii_digit ds ≡ true → KeptPiece (length names) (number_at (c ∷ ds)).piece → Spelled names ((c ∷ ds) ++ rest) (number_at (c ∷ ds))
 number_spelled names c ds rest d all kept = go (has_leading_zero (c ∷ ds)) refl kept
   where
-    go : (v : Bool) → has_leading_zero (c ∷ ds) ≡ v → KeptPiece (length names) (cond v Wrong (Number (capped (digits_value 10 (c ∷ ds)))))
-        → Spelled names ((c ∷ ds) ++ rest) (record { piece = cond v Wrong (Number (capped (digits_value 10 (c ∷ ds)))); len = length (c ∷ ds) })
+    go : (v : Bool) → has_leading_zero (c ∷ ds) ≡ v → KeptPiece (length names) (cond v Wrong (Number (value_up_to (2 ^ 127) (c ∷ ds))))
+        → Spelled names ((c ∷ ds) ++ rest) (record { piece = cond v Wrong (Number (value_up_to (2 ^ 127) (c ∷ ds))); len = length (c ∷ ds) })
     go true e kept = absurd kept
     go false e kept =
         let small : digits_value 10 (c ∷ ds) < 2 ^ 127 = omega (arith, kept) in
-        let same : capped (digits_value 10 (c ∷ ds)) ≡ digits_value 10 (c ∷ ds) = omega (arith, small) in
-        let n : decimal (capped (digits_value 10 (c ∷ ds))) ≡ c ∷ ds = ap decimal same ∙ numeral_of c ds d all e (omega (arith, small)) in
+        let same : value_up_to (2 ^ 127) (c ∷ ds) ≡ digits_value 10 (c ∷ ds) = omega (arith, small) in
+        let n : decimal (value_up_to (2 ^ 127) (c ∷ ds)) ≡ c ∷ ds = ap decimal same ∙ numeral_of c ds d all e (omega (arith, small)) in
         record { rest = rest; split = ap (λ (xs : List ℕ). xs ++ rest) (sym n); len = ap length n }
 
 -- what any other kept byte is written as
@@ -111,14 +131,14 @@ lexeme_spelled : (names : List Name) (b : ℕ) (bytes : List ℕ) → KeptPiece 
 lexeme_spelled names b bytes kept = go (begins_name b) (is_ascii_digit b) refl kept
   where
     go : (v w : Bool) → is_ascii_digit b ≡ w
-        → KeptPiece (length names) (cond {A = Lexeme} v (word_at names (b ∷ front continues_name bytes) (behind continues_name bytes)) (cond w (number_at (b ∷ front is_ascii_digit bytes)) (record { piece = mark_at b; len = 1 }))).piece
-        → Spelled names (b ∷ bytes) (cond {A = Lexeme} v (word_at names (b ∷ front continues_name bytes) (behind continues_name bytes)) (cond w (number_at (b ∷ front is_ascii_digit bytes)) (record { piece = mark_at b; len = 1 })))
+        → KeptPiece (length names) (cond {A = Lexeme Piece} v (word_at names (b ∷ prefix continues_name bytes) (the_rest continues_name bytes)) (cond w (number_at (b ∷ prefix is_ascii_digit bytes)) (record { piece = mark_at b; len = 1 }))).piece
+        → Spelled names (b ∷ bytes) (cond {A = Lexeme Piece} v (word_at names (b ∷ prefix continues_name bytes) (the_rest continues_name bytes)) (cond w (number_at (b ∷ prefix is_ascii_digit bytes)) (record { piece = mark_at b; len = 1 })))
     go true w f kept =
-        subst (λ (xs : List ℕ). Spelled names (b ∷ xs) (word_at names (b ∷ front continues_name bytes) (behind continues_name bytes))) (front-behind continues_name bytes)
-        (word_spelled names (b ∷ front continues_name bytes) (behind continues_name bytes) kept)
+        subst (λ (xs : List ℕ). Spelled names (b ∷ xs) (word_at names (b ∷ prefix continues_name bytes) (the_rest continues_name bytes))) (prefix-rest continues_name bytes)
+        (word_spelled names (b ∷ prefix continues_name bytes) (the_rest continues_name bytes) kept)
     go false true f kept =
-        subst (λ (xs : List ℕ). Spelled names (b ∷ xs) (number_at (b ∷ front is_ascii_digit bytes))) (front-behind is_ascii_digit bytes)
-        (number_spelled names b (front is_ascii_digit bytes) (behind is_ascii_digit bytes) f (all_front is_ascii_digit bytes) kept)
+        subst (λ (xs : List ℕ). Spelled names (b ∷ xs) (number_at (b ∷ prefix is_ascii_digit bytes))) (prefix-rest is_ascii_digit bytes)
+        (number_spelled names b (prefix is_ascii_digit bytes) (the_rest is_ascii_digit bytes) f (all_prefix is_ascii_digit bytes) kept)
     go false false f kept = mark_spelled names b bytes kept
 
 -- what is behind the bytes of a piece
@@ -129,15 +149,17 @@ behind_first b bytes xs rest (suc n) e h some =
     ap (λ (j : ℕ). drop j bytes) k ∙ ap (drop (suc n)) e ∙ ap (λ (j : ℕ). drop j (xs ++ rest)) (sym h) ∙ drop-append_seam xs rest
 
 -- the bytes of kept pieces are the text
-pub text_spelled : (names : List Name) (k : ℕ) (bytes : List ℕ) → AllPiecesKept (length names) (pieces_in (lexed names k bytes)) → drop k bytes ≡ bytes_of names (pieces_in (lexed names k bytes))
-text_spelled names zero [] all = refl
-text_spelled names (suc k) [] all = refl
-text_spelled names zero (b ∷ bytes) all =
+pub text_spelled : (names : List Name) (at k : ℕ) (bytes : List ℕ) → AllPiecesKept (length names) (pieces (tokens_from (each_piece (lexeme_at names)) at k bytes))
+    → drop k bytes ≡ bytes_of names (pieces (tokens_from (each_piece (lexeme_at names)) at k bytes))
+text_spelled names at zero [] all = refl
+text_spelled names at (suc k) [] all = refl
+text_spelled names at zero (b ∷ bytes) all =
     let s = lexeme_spelled names b bytes all.0 in
     s.split
     ∙ ap (λ (xs : List ℕ). spelled names (lexeme_at names b bytes).piece ++ xs)
-    (sym (behind_first b bytes (spelled names (lexeme_at names b bytes).piece) s.rest (lexeme_at names b bytes).len s.split s.len (lexeme_some names b bytes)) ∙ text_spelled names ((lexeme_at names b bytes).len - 1) bytes all.1)
-text_spelled names (suc k) (b ∷ bytes) all = text_spelled names k bytes all
+    (sym (behind_first b bytes (spelled names (lexeme_at names b bytes).piece) s.rest (lexeme_at names b bytes).len s.split s.len (lexeme_some names b bytes))
+    ∙ text_spelled names (at + 1) ((lexeme_at names b bytes).len - 1) bytes all.1)
+text_spelled names at (suc k) (b ∷ bytes) all = text_spelled names (at + 1) k bytes all
 
 -- no byte that would go on a name or a number comes first, and no opening bracket
 abbrev pub Closes : List ℕ → Type 0
@@ -177,11 +199,11 @@ word_found names i rest are h closed = go (slice_index_or names i []) (listed_na
       others = cs;
       split = e;
       lexeme =
-          ap (λ (v : Bool). cond {A = Lexeme} v (word_at names (c ∷ front continues_name (cs ++ rest)) (behind continues_name (cs ++ rest))) (cond (is_ascii_digit c) (number_at (c ∷ front is_ascii_digit (cs ++ rest))) (record { piece = mark_at c; len = 1 }))) is.0
-          ∙ ap (λ (xs : List ℕ). word_at names (c ∷ xs) (behind continues_name (cs ++ rest))) (front-append continues_name cs rest is.1 (closes_name rest closed))
-          ∙ ap (λ (xs : List ℕ). word_at names (c ∷ cs) xs) (behind-append continues_name cs rest is.1 ∙ behind-stops continues_name rest (closes_name rest closed))
-          ∙ ap (λ (v : Bool). cond {A = Lexeme} v (cond (is_same (c ∷ cs) (codes "max")) (record { piece = Greatest; len = length (c ∷ cs) + 1 }) (record { piece = Wrong; len = length (c ∷ cs) })) (record { piece = Variable (place_of (c ∷ cs) names); len = length (c ∷ cs) })) (closes_call rest closed)
-          ∙ ap (λ (k : ℕ). record { piece = Variable k; len = length (c ∷ cs) }) (ap (λ (w : Name). place_of w names) (sym e) ∙ place_at names i are h);
+          ap (λ (v : Bool). cond {A = Lexeme Piece} v (word_at names (c ∷ prefix continues_name (cs ++ rest)) (the_rest continues_name (cs ++ rest))) (cond (is_ascii_digit c) (number_at (c ∷ prefix is_ascii_digit (cs ++ rest))) (record { piece = mark_at c; len = 1 }))) is.0
+          ∙ ap (λ (xs : List ℕ). word_at names (c ∷ xs) (the_rest continues_name (cs ++ rest))) (prefix-append continues_name cs rest is.1 (closes_name rest closed))
+          ∙ ap (λ (xs : List ℕ). word_at names (c ∷ cs) xs) (rest-append continues_name cs rest is.1 ∙ rest-stops continues_name rest (closes_name rest closed))
+          ∙ ap (λ (v : Bool). cond {A = Lexeme Piece} v (cond (is_same (c ∷ cs) (codes "max")) (record { piece = Maximum; len = length (c ∷ cs) + 1 }) (record { piece = Wrong; len = length (c ∷ cs) })) (record { piece = Variable (position_of (c ∷ cs) names); len = length (c ∷ cs) })) (closes_call rest closed)
+          ∙ ap (λ (k : ℕ). record { piece = Variable k; len = length (c ∷ cs) }) (ap (λ (w : Name). position_of w names) (sym e) ∙ position_at names i are h);
     }
 
 -- a digit begins no name
@@ -198,7 +220,7 @@ number_found names n rest small closed = go (decimal n) d.0.0 (digits_pass (deci
     go : (ds : List ℕ) → 0 < length ds → list_all is_ascii_digit ds ≡ true → decimal n ≡ ds → Found names (Number n) rest
     go [] some all e = absurd (omega (arith, some))
     go (c ∷ cs) some all e =
-        let t = both (is_ascii_digit c) (list_all is_ascii_digit cs) all in
+        let t = and_parts (is_ascii_digit c) (list_all is_ascii_digit cs) all in
         let proper : has_leading_zero (c ∷ cs) ≡ false = ap has_leading_zero (sym e) ∙ decimal_proper n (omega (arith, small)) in
         let value : digits_value 10 (c ∷ cs) ≡ n = ap (digits_value 10) (sym e) ∙ d.1 in
         record {
@@ -206,18 +228,18 @@ number_found names n rest small closed = go (decimal n) d.0.0 (digits_pass (deci
           others = cs;
           split = e;
           lexeme =
-              ap (λ (v : Bool). cond {A = Lexeme} v (word_at names (c ∷ front continues_name (cs ++ rest)) (behind continues_name (cs ++ rest))) (cond (is_ascii_digit c) (number_at (c ∷ front is_ascii_digit (cs ++ rest))) (record { piece = mark_at c; len = 1 }))) (digit_no_name c t.0)
-              ∙ ap (λ (v : Bool). cond {A = Lexeme} v (number_at (c ∷ front is_ascii_digit (cs ++ rest))) (record { piece = mark_at c; len = 1 })) t.0
-              ∙ ap (λ (xs : List ℕ). number_at (c ∷ xs)) (front-append is_ascii_digit cs rest t.1 (closes_number rest closed))
-              ∙ ap (λ (v : Bool). record { piece = cond v Wrong (Number (capped (digits_value 10 (c ∷ cs)))); len = length (c ∷ cs) }) proper
-              ∙ ap (λ (k : ℕ). record { piece = Number k; len = length (c ∷ cs) }) (ap capped value ∙ (let k : capped n ≡ n = omega (arith, small) in k));
+              ap (λ (v : Bool). cond {A = Lexeme Piece} v (word_at names (c ∷ prefix continues_name (cs ++ rest)) (the_rest continues_name (cs ++ rest))) (cond (is_ascii_digit c) (number_at (c ∷ prefix is_ascii_digit (cs ++ rest))) (record { piece = mark_at c; len = 1 }))) (digit_no_name c t.0)
+              ∙ ap (λ (v : Bool). cond {A = Lexeme Piece} v (number_at (c ∷ prefix is_ascii_digit (cs ++ rest))) (record { piece = mark_at c; len = 1 })) t.0
+              ∙ ap (λ (xs : List ℕ). number_at (c ∷ xs)) (prefix-append is_ascii_digit cs rest t.1 (closes_number rest closed))
+              ∙ ap (λ (v : Bool). record { piece = cond v Wrong (Number (value_up_to (2 ^ 127) (c ∷ cs))); len = length (c ∷ cs) }) proper
+              ∙ ap (λ (k : ℕ). record { piece = Number k; len = length (c ∷ cs) }) (ap (λ (k : ℕ). min k (2 ^ 127)) value ∙ (let k : min n (2 ^ 127) ≡ n = omega (arith, small) in k));
         }
 
 -- a piece that is a name or a number
 abbrev pub IsLong : Piece → Type 0
 IsLong (Variable i) = ⊤
 IsLong (Number n) = ⊤
-IsLong Greatest = ⊥
+IsLong Maximum = ⊥
 IsLong Open = ⊥
 IsLong Close = ⊥
 IsLong Times = ⊥
@@ -231,7 +253,7 @@ IsLong Wrong = ⊥
 piece_found : (names : List Name) (piece : Piece) (rest : List ℕ) → AreNames names → KeptPiece (length names) piece → (IsLong piece → Closes rest) → Found names piece rest
 piece_found names (Variable i) rest are kept closed = word_found names i rest are kept (closed tt)
 piece_found names (Number n) rest are kept closed = number_found names n rest kept (closed tt)
-piece_found names Greatest rest are kept closed = record { first = 109; others = codes "ax("; split = refl; lexeme = refl }
+piece_found names Maximum rest are kept closed = record { first = 109; others = codes "ax("; split = refl; lexeme = refl }
 piece_found names Open rest are kept closed = record { first = 40; others = []; split = refl; lexeme = refl }
 piece_found names Close rest are kept closed = record { first = 41; others = []; split = refl; lexeme = refl }
 piece_found names Times rest are kept closed = record { first = 42; others = []; split = refl; lexeme = refl }
@@ -248,7 +270,7 @@ behind_long f g piece (of_number o ts fs c) long = refl
 behind_long f g piece (of_run o ts fs i n) long = refl
 behind_long f g piece (of_power o ts fs c n) long = refl
 behind_long f g piece (of_power_of o ts fs c i) long = refl
-behind_long f g piece (of_greatest o ts fs) long = absurd long
+behind_long f g piece (of_maximum o ts fs) long = absurd long
 behind_long f g piece (of_sum o ts fs) long = absurd long
 behind_long f g piece (of_exponent o ts fs c) long = absurd long
 behind_long f g piece (of_times o ts fs e) long = absurd long
@@ -273,7 +295,7 @@ mark_closes names f h piece rest e on = go piece (ap (λ (p : Place). step_at p 
     go Close on = (refl, refl, refl)
     go (Variable i) on = cc
     go (Number n) on = cc
-    go Greatest on = cc
+    go Maximum on = cc
     go Open on = cc
     go Plus on = cc
     go Wrong on = cc
@@ -284,22 +306,22 @@ pieces_close names g last_one [] e on = tt
 pieces_close names g last_one (p ∷ ps) e on = go (step g p) refl on
   where
     go : (o : Option Front) → step g p ≡ o → walk o ps ≡ Some last_one → Closes (spelled names p ++ bytes_of names ps)
-    go None s on = let n = walk-none ps in cc
+    go None s on = let n = walk-none step ps in cc
     go (Some h) s on = mark_closes names g h p (bytes_of names ps) e s
 
 -- pieces that lead on are found again in their bytes
-pub pieces_lexed : (names : List Name) (ps : List Piece) (f last_one : Front) → AreNames names → IsFront f → walk (Some f) ps ≡ Some last_one → AllPiecesKept (length names) ps → pieces_in (lexed names 0 (bytes_of names ps)) ≡ ps
+pub pieces_lexed : (names : List Name) (ps : List Piece) (f last_one : Front) → AreNames names → IsFront f → walk (Some f) ps ≡ Some last_one → AllPiecesKept (length names) ps → pieces (tokens names (bytes_of names ps)) ≡ ps
 pieces_lexed names [] f last_one are is on kept = refl
 pieces_lexed names (p ∷ ps) f last_one are is on kept = go (step f p) refl on (λ g is on. pieces_lexed names ps g last_one are is on kept.1)
   where
-    go : (o : Option Front) → step f p ≡ o → walk o ps ≡ Some last_one → ((g : Front) → IsFront g → walk (Some g) ps ≡ Some last_one → pieces_in (lexed names 0 (bytes_of names ps)) ≡ ps)
-        → pieces_in (lexed names 0 (spelled names p ++ bytes_of names ps)) ≡ p ∷ ps
-    go None s on ih = let n = walk-none ps in cc
+    go : (o : Option Front) → step f p ≡ o → walk o ps ≡ Some last_one → ((g : Front) → IsFront g → walk (Some g) ps ≡ Some last_one → pieces (tokens names (bytes_of names ps)) ≡ ps)
+        → pieces (tokens names (spelled names p ++ bytes_of names ps)) ≡ p ∷ ps
+    go None s on ih = let n = walk-none step ps in cc
     go (Some g) s on ih =
         let leads = step_leads f g p is s in
         let r = piece_found names p (bytes_of names ps) are kept.0 (λ long. pieces_close names g last_one ps (behind_long f g p leads long) on) in
-        ap pieces_in
-        (lexed-first names (spelled names p ++ bytes_of names ps) (r.others ++ bytes_of names ps) (bytes_of names ps) r.first (record { piece = p; len = length (r.first ∷ r.others) })
-        (ap (λ (xs : List ℕ). xs ++ bytes_of names ps) r.split) (sym r.lexeme) (omega arith)
+        ap pieces
+        (tokens-first (each_piece (lexeme_at names)) 0 (spelled names p ++ bytes_of names ps) (r.others ++ bytes_of names ps) (bytes_of names ps) r.first (record { piece = Some p; len = length (r.first ∷ r.others) })
+        (ap (λ (xs : List ℕ). xs ++ bytes_of names ps) r.split) (ap (λ (m : Lexeme Piece). record { piece = Some m.piece; len = m.len }) (sym r.lexeme)) (omega arith)
         (sym (ap (λ (k : ℕ). drop k (spelled names p ++ bytes_of names ps)) (sym (ap length r.split)) ∙ drop-append_seam (spelled names p) (bytes_of names ps))))
-        ∙ ap (λ (qs : List Piece). p ∷ qs) (ih g (step_sound f g p is s).is_front on)
+        ∙ ap (λ (qs : List Piece). p ∷ qs) (pieces_at (each_piece (lexeme_at names)) (bytes_of names ps) 0 (0 + length (r.first ∷ r.others)) 0 ∙ ih g (step_sound f g p is s).is_front on)

@@ -1,27 +1,21 @@
 -- A text begins with pieces exactly where they lead somewhere, and they are all of a text exactly where it can end there.
 use Rattle.std.proofs.Common.{◌≡◌, List, [], ◌∷◌, ◌++◌, Option, Some, None, refl, ap, sym, subst, ◌∙◌, append-nil}
-use Rattle.model.specs.Bounds.{Size}
+use Rattle.model.specs.Bounds.{Bound}
 use Rattle.bound_text.specs.Shapes.{IsShaped}
 use Rattle.bound_text.specs.Pieces.{Piece}
 use Rattle.bound_text.specs.Writing.{pieces_of}
 use Rattle.bound_text.specs.Fronts.{Front, ItemRead, Whole, IsFront, front_then}
 use Rattle.bound_text.specs.Steps.{front_at, step, walk, beginning, finish}
-use Rattle.bound_text.specs.Faults.{IsBeginning, Reads}
+use Rattle.text_core.proofs.Walks.{walk-none, walk-append}
 use Rattle.bound_text.proofs.CompletenessLaws.{stands, terms_in, factors_in, walk-bound, finish-bound}
 use Rattle.bound_text.proofs.SoundnessLaws.{step_sound, beginning_front, finish_sound}
 use Rattle.bound_text.proofs.FrontReading.{front_read}
-use Rattle.bound_text.proofs.Filling.{finished, Completes, completes}
+use Rattle.bound_text.proofs.Completions.{finished, Completes, completes}
 
--- from nowhere nothing leads anywhere
-pub walk-none : (pieces : List Piece) → walk None pieces ≡ None
-walk-none [] = refl
-walk-none (piece ∷ pieces) = refl
-
--- pieces and then others
-pub walk-append : (reached : Option Front) (before behind : List Piece) → walk reached (before ++ behind) ≡ walk (walk reached before) behind
-walk-append reached [] behind = refl
-walk-append None (piece ∷ before) behind = sym (walk-none behind)
-walk-append (Some f) (piece ∷ before) behind = walk-append (step f piece) before behind
+-- the part that has been read, where the pieces are all of it
+pub record Reads (pieces : List Piece) (f : Front) : Type 0 where
+  pub is : IsFront f
+  pub text : front_then f [] ≡ pieces
 
 -- pieces lead to what has been read with them
 pub record Read (f g : Front) (pieces : List Piece) : Type 0 where
@@ -34,7 +28,7 @@ walk_sound [] f g is h = let e : f ≡ g = cc in subst (λ (k : Front). Read f k
 walk_sound (piece ∷ pieces) f g is h = go (step f piece) refl h (λ k is on. walk_sound pieces k g is on)
   where
     go : (reached : Option Front) → step f piece ≡ reached → walk reached pieces ≡ Some g → ((k : Front) → IsFront k → walk (Some k) pieces ≡ Some g → Read k g pieces) → Read f g (piece ∷ pieces)
-    go None e k ih = let none = walk-none pieces in cc
+    go None e k ih = let none = walk-none step pieces in cc
     go (Some k) e on ih =
         let x = step_sound f k piece is e in
         let r = ih k x.is_front on in
@@ -53,32 +47,25 @@ pub walk_reads : (pieces : List Piece) (f : Front) → walk (Some beginning) pie
 walk_reads pieces f h = let r = walk_read pieces f h in record { is = r.is_front; text = r.text [] ∙ append-nil pieces }
 
 -- where the pieces are the whole text of a bound
-pub walk_whole : (pieces : List Piece) (f : Front) (b : Size) → walk (Some beginning) pieces ≡ Some f → finish f ≡ Some b → IsShaped b × (pieces_of b ≡ pieces)
+pub walk_whole : (pieces : List Piece) (f : Front) (b : Bound) → walk (Some beginning) pieces ≡ Some f → finish f ≡ Some b → IsShaped b × (pieces_of b ≡ pieces)
 walk_whole pieces f b h e =
     let r = walk_read pieces f h in
     let s = finish_sound f b r.is_front e in
     (s.0, s.1 [] ∙ r.text [] ∙ append-nil pieces)
 
 -- and the other way round
-pub whole_walk : (pieces : List Piece) (b : Size) → IsShaped b → pieces_of b ≡ pieces → (walk (Some beginning) pieces ≡ stands Whole (terms_in b) (factors_in b)) × (finish (front_at Whole (terms_in b) (factors_in b) ItemRead) ≡ Some b)
+pub whole_walk : (pieces : List Piece) (b : Bound) → IsShaped b → pieces_of b ≡ pieces → (walk (Some beginning) pieces ≡ stands Whole (terms_in b) (factors_in b)) × (finish (front_at Whole (terms_in b) (factors_in b) ItemRead) ≡ Some b)
 whole_walk pieces b shaped e = (ap (walk (Some beginning)) (sym e) ∙ walk-bound b shaped [], finish-bound b shaped)
 
--- a text begins with pieces that lead somewhere
-pub walk_begins : (pieces : List Piece) (f : Front) → walk (Some beginning) pieces ≡ Some f → IsBeginning pieces
+-- a text goes on from each front that pieces lead to
+pub walk_begins : (pieces : List Piece) (f : Front) → walk (Some beginning) pieces ≡ Some f → (b : Bound) × (rest : List Piece) × IsShaped b × (pieces_of b ≡ pieces ++ rest)
 walk_begins pieces f h = go (walk (Some f) c.pieces) refl c.ends
   where
     c : Completes (Some f)
     c = completes f (walk_read pieces f h).is_front
 
-    go : (reached : Option Front) → walk (Some f) c.pieces ≡ reached → finished reached ≡ Some c.bound → IsBeginning pieces
+    go : (reached : Option Front) → walk (Some f) c.pieces ≡ reached → finished reached ≡ Some c.bound → (b : Bound) × (rest : List Piece) × IsShaped b × (pieces_of b ≡ pieces ++ rest)
     go None e k = cc
     go (Some g) e k =
-        let w = walk_whole (pieces ++ c.pieces) g c.bound (walk-append (Some beginning) pieces c.pieces ∙ ap (λ (o : Option Front). walk o c.pieces) h ∙ e) k in
+        let w = walk_whole (pieces ++ c.pieces) g c.bound (walk-append step (Some beginning) pieces c.pieces ∙ ap (λ (o : Option Front). walk o c.pieces) h ∙ e) k in
         (c.bound, c.pieces, w.0, w.1)
-
--- and only with those
-pub begins_walk : (pieces : List Piece) → IsBeginning pieces → walk (Some beginning) pieces ≡ None → ⊥
-begins_walk pieces (b, rest, shaped, e) none =
-    let w = whole_walk (pieces ++ rest) b shaped e in
-    let n : walk (Some beginning) (pieces ++ rest) ≡ None = walk-append (Some beginning) pieces rest ∙ ap (λ (o : Option Front). walk o rest) none ∙ walk-none rest in
-    (let s = w.0 in cc)

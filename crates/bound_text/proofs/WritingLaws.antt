@@ -1,37 +1,37 @@
 -- Texts of parts with one more at the end.
 use Rattle.std.proofs.Common.{◌≡◌, ℕ, zero, suc, ◌+◌, nat_eq, Bool, true, false, cond, List, ◌∷◌, ◌++◌, refl, ap, sym, ◌∙◌, arith}
 use Rattle.std.proofs.lemmas.Bool.Decides.{nat_tests}
-use Rattle.model.specs.Bounds.{Size, Constant, Input, SumOf, ProductOf, GreatestOf, PowerOf, Parts, NoParts, Part}
+use Rattle.model.specs.Bounds.{Bound, Constant, Input, SumOf, ProductOf, MaximumOf, PowerOf, Parts, NoParts, Part}
 use Rattle.bound_text.specs.Shapes.{is_sum, with_part}
 use Rattle.bound_text.specs.Pieces.{Piece, Times}
 use Rattle.bound_text.specs.Writing.{Before, Nothing, Run, Other, goes_on, run_with, run_then, ended_then, times_then, bracketed_then, text_then, joined_then, more_then, factors_then, plus_between}
-use Rattle.bound_text.specs.Fronts.{last, is_input, star_then, each_then, term_of, bound_of, can_end}
+use Rattle.bound_text.specs.Fronts.{last, is_input, star_then, each_then, term_of, bound_made, can_end}
 use Rattle.bound_text.specs.Steps.{with_copies}
 use Rattle.bound_text.proofs.RunLaws.{is_same_input}
 use Rattle.bound_text.proofs.JoiningLaws.{as_one-with_part}
 
 -- parts with the separator before each, and one more
-more-with_part : (s : List Piece) (bs : Parts) (b : Size) (rest : List Piece) → more_then s (with_part bs b) rest ≡ s ++ each_then s bs (text_then b rest)
+more-with_part : (s : List Piece) (bs : Parts) (b : Bound) (rest : List Piece) → more_then s (with_part bs b) rest ≡ s ++ each_then s bs (text_then b rest)
 more-with_part s NoParts b rest = refl
 more-with_part s (Part c cs) b rest = ap (λ (ps : List Piece). s ++ text_then c ps) (more-with_part s cs b rest)
 
 -- joined parts and one more
-pub joined-with_part : (s : List Piece) (bs : Parts) (b : Size) (rest : List Piece) → joined_then s (with_part bs b) rest ≡ each_then s bs (text_then b rest)
+pub joined-with_part : (s : List Piece) (bs : Parts) (b : Bound) (rest : List Piece) → joined_then s (with_part bs b) rest ≡ each_then s bs (text_then b rest)
 joined-with_part s NoParts b rest = refl
 joined-with_part s (Part c cs) b rest = ap (text_then c) (more-with_part s cs b rest)
 
 -- parts with the separator behind each, and one more
-pub each-with_part : (s : List Piece) (bs : Parts) (b : Size) (rest : List Piece) → each_then s (with_part bs b) rest ≡ each_then s bs (text_then b (s ++ rest))
+pub each-with_part : (s : List Piece) (bs : Parts) (b : Bound) (rest : List Piece) → each_then s (with_part bs b) rest ≡ each_then s bs (text_then b (s ++ rest))
 each-with_part s NoParts b rest = refl
 each-with_part s (Part c cs) b rest = ap (λ (ps : List Piece). text_then c (s ++ ps)) (each-with_part s cs b rest)
 
 -- whether it is a variable
-abbrev pub is_variable : Size → Bool
+abbrev pub is_variable : Bound → Bool
 is_variable (Input i) = true
 is_variable (Constant c) = false
 is_variable (SumOf bs) = false
 is_variable (ProductOf bs) = false
-is_variable (GreatestOf bs) = false
+is_variable (MaximumOf bs) = false
 is_variable (PowerOf c e) = false
 
 -- `*` where something stands before, or among the factors
@@ -41,13 +41,13 @@ lead_then (Run i n) fs rest = Times ∷ rest
 lead_then Other fs rest = Times ∷ rest
 
 -- a factor that is no variable is written behind what stands before it
-pub other_factor : (w : Before) (b : Size) (bs : Parts) (rest : List Piece) → is_variable b ≡ false
+pub other_factor : (w : Before) (b : Bound) (bs : Parts) (rest : List Piece) → is_variable b ≡ false
     → factors_then w (Part b bs) rest ≡ ended_then w (times_then w (bracketed_then (is_sum b) (text_then b) (factors_then Other bs rest)))
 other_factor w (Constant c) bs rest h = refl
 other_factor w (Input i) bs rest h = cc
 other_factor w (SumOf cs) bs rest h = refl
 other_factor w (ProductOf cs) bs rest h = refl
-other_factor w (GreatestOf cs) bs rest h = refl
+other_factor w (MaximumOf cs) bs rest h = refl
 other_factor w (PowerOf c e) bs rest h = refl
 
 -- with no factor among them, what leads is what stands before
@@ -57,7 +57,7 @@ lead_none (Run i n) rest = refl
 lead_none Other rest = refl
 
 -- behind a factor `*` leads
-lead_some : (w : Before) (c : Size) (cs : Parts) (rest : List Piece) → lead_then w (Part c cs) rest ≡ Times ∷ rest
+lead_some : (w : Before) (c : Bound) (cs : Parts) (rest : List Piece) → lead_then w (Part c cs) rest ≡ Times ∷ rest
 lead_some Nothing c cs rest = refl
 lead_some (Run i n) c cs rest = refl
 lead_some Other c cs rest = refl
@@ -78,7 +78,7 @@ input_factor : (w : Before) (j : ℕ) (bs : Parts) (rest : List Piece) (v : Bool
 input_factor w j bs rest v e = ap (λ (u : Bool). cond u (factors_then (run_with w j) bs rest) (ended_then w (times_then w (factors_then (Run j 1) bs rest)))) e
 
 -- one more factor that is no variable
-pub factors-other : (w : Before) (fs : Parts) (b : Size) (rest : List Piece) → is_variable b ≡ false
+pub factors-other : (w : Before) (fs : Parts) (b : Bound) (rest : List Piece) → is_variable b ≡ false
     → factors_then w (with_part fs b) rest ≡ factors_then w fs (lead_then w fs (bracketed_then (is_sum b) (text_then b) rest))
 factors-other w NoParts b rest h = other_factor w b NoParts rest h ∙ ap (ended_then w) (sym (lead_none w (bracketed_then (is_sum b) (text_then b) rest)))
 factors-other w (Part (Input j) cs) b rest h = go (goes_on w j) refl (λ v. factors-other v cs b rest h)
@@ -103,7 +103,7 @@ factors-other w (Part c cs) b rest h =
     ∙ sym (other_factor w c cs (lead_then w (Part c cs) (bracketed_then (is_sum b) (text_then b) rest)) refl)
 
 -- copies behind a factor, and copies alone
-copies-part : (n i : ℕ) (c : Size) (cs : Parts) → with_copies n i (Part c cs) ≡ Part c (with_copies n i cs)
+copies-part : (n i : ℕ) (c : Bound) (cs : Parts) → with_copies n i (Part c cs) ≡ Part c (with_copies n i cs)
 copies-part zero i c cs = refl
 copies-part (suc n) i c cs = ap (λ (gs : Parts). with_part gs (Input i)) (copies-part n i c cs)
 
@@ -141,7 +141,7 @@ ends_same (Run k n) j i (Part c cs) e h = h
 ends_same Other j i cs e h = cc
 
 -- behind a factor that is no variable, it isn't
-ends_other : (w : Before) (c : Size) (cs : Parts) (i : ℕ) → ends_in w (Part c cs) i ≡ false → ends_in Other cs i ≡ false
+ends_other : (w : Before) (c : Bound) (cs : Parts) (i : ℕ) → ends_in w (Part c cs) i ≡ false → ends_in Other cs i ≡ false
 ends_other w c NoParts i h = refl
 ends_other w c (Part d ds) i h = h
 
@@ -184,14 +184,14 @@ term_text (Part (Constant c) NoParts) rest h = refl
 term_text (Part (Input i) NoParts) rest h = refl
 term_text (Part (SumOf bs) NoParts) rest h = cc
 term_text (Part (ProductOf bs) NoParts) rest h = refl
-term_text (Part (GreatestOf bs) NoParts) rest h = refl
+term_text (Part (MaximumOf bs) NoParts) rest h = refl
 term_text (Part (PowerOf c e) NoParts) rest h = refl
 term_text (Part b (Part c bs)) rest h = refl
 
 -- the text of a bound is that of its terms and factors
-pub bound_text : (ts fs : Parts) (rest : List Piece) → can_end fs ≡ true → text_then (bound_of ts fs) rest ≡ each_then plus_between ts (factors_then Nothing fs rest)
+pub bound_text : (ts fs : Parts) (rest : List Piece) → can_end fs ≡ true → text_then (bound_made ts fs) rest ≡ each_then plus_between ts (factors_then Nothing fs rest)
 bound_text NoParts fs rest h = term_text fs rest h
 bound_text (Part c cs) fs rest h =
-    ap (λ (b : Size). text_then b rest) (as_one-with_part c cs (term_of fs))
+    ap (λ (b : Bound). text_then b rest) (as_one-with_part c cs (term_of fs))
     ∙ joined-with_part plus_between (Part c cs) (term_of fs) rest
     ∙ ap (each_then plus_between (Part c cs)) (term_text fs rest h)

@@ -2,7 +2,7 @@
 use Rattle.std.specs.Prelude.{◌≡◌, ◌^◌, ◌-◌, min, List, [], ◌∷◌, ⊤}
 use Rattle.std.proofs.Props.{props}
 use Rattle.model.specs.Bounds.{Parts}
-use Rattle.bound_expr.specs.Views.{sizes_of, parts_of}
+use Rattle.bound_expr.specs.Views.{bounds_of, parts_of}
 use Rattle.bound_text.specs.Fronts as fronts
 use Rattle.bound_text.specs.Fronts.{Outer, Whole, Inside}
 use Rattle.bound_text.specs.declared.measured.Measured.{Measured}
@@ -13,7 +13,7 @@ use Rattle.bound_text.specs.declared.size.Round.{Round}
 
 -- measured bounds as parts
 abbrev pub parts_in : Measured → Parts
-parts_in m = parts_of (sizes_of m.bounds.items)
+parts_in m = parts_of (bounds_of m.bounds.items)
 
 -- what an open bracket belongs to
 abbrev pub bracket_of : Bracket → fronts.Bracket

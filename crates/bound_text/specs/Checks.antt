@@ -1,11 +1,11 @@
 -- Whether a piece can be taken.
-use Rattle.std.specs.Prelude.{ℕ, ◌+◌, ◌^◌, Bool, true, false, if◌then◌else◌, not, ◌&&◌, ◌||◌, nat_lt, nat_le, List, [], ◌∷◌, Option, Some, None}
-use Rattle.model.specs.Bounds.{Size, Constant, Input, Parts}
+use Rattle.std.specs.Prelude.{ℕ, ◌^◌, Bool, true, false, if◌then◌else◌, not, ◌&&◌, ◌||◌, nat_lt, nat_le, List, [], ◌∷◌, Option, Some, None}
+use Rattle.model.specs.Bounds.{Bound, Constant, Input, Parts}
 use Rattle.bound_text.specs.Pieces.{Piece, Variable, Number, Caret}
 use Rattle.bound_text.specs.Fronts.{Front, Place, Begins, ItemRead, last, is_input, nodes_of, inner_levels}
-use Rattle.bound_text.specs.Lexing.{Lexeme}
-use Rattle.bound_text.specs.Steps.{step, finish}
-use Rattle.bound_text.specs.Faults.{Kind, Syntax, NumberTooLarge, UnknownName, TooDeep, TooLarge}
+use Rattle.bound_text.specs.Steps.{step}
+use Rattle.bound_text.specs.Kinds.{Kind, Syntax, NumberTooLarge, UnknownName, TooDeep, TooLarge}
+use Rattle.bound_expr.specs.Limits.{depth_limit, node_limit}
 
 -- what taking a piece comes to: a refusal, or what has been read with it
 pub data Checked : Type 0 where
@@ -14,7 +14,7 @@ pub data Checked : Type 0 where
 
 -- whether what has been read is within the limits
 abbrev pub sized : Front → Checked
-sized f = if nat_lt 200 (inner_levels f) then Refused TooDeep else if nat_lt 4096 (nodes_of f) then Refused TooLarge else Reached f
+sized f = if nat_lt depth_limit (inner_levels f) then Refused TooDeep else if nat_lt node_limit (nodes_of f) then Refused TooLarge else Reached f
 
 -- whether a number is over 2^127-1
 abbrev pub is_large : Piece → Bool
@@ -50,7 +50,7 @@ begins Begins = true
 begins place = false
 
 -- whether a product's last factor is a constant over 2^64-1
-abbrev pub is_large_number : Option Size → Bool
+abbrev pub is_large_number : Option Bound → Bool
 is_large_number (Some (Constant c)) = nat_le (2 ^ 64) c
 is_large_number factor = false
 
@@ -76,7 +76,7 @@ checked n caret f piece =
     else judged (fault_of n (begins f.place && caret) piece) (step f piece)
 
 -- whether `^` can stand behind a product's last factor: it is a constant, or a variable that stands alone
-abbrev pub takes_caret : Parts → Option Size → Bool
+abbrev pub takes_caret : Parts → Option Bound → Bool
 takes_caret fs (Some (Constant c)) = true
 takes_caret fs (Some (Input i)) = not (is_input i (last fs))
 takes_caret fs factor = false
@@ -87,33 +87,6 @@ is_caret Caret = true
 is_caret piece = false
 
 -- whether `^` comes next
-abbrev pub caret_next : List Lexeme → Bool
+abbrev pub caret_next : List Piece → Bool
 caret_next [] = false
-caret_next (next ∷ rest) = is_caret next.piece
-
--- what reading comes to: a refusal at a position, or a bound
-pub data Verdict : Type 0 where
-  Faulty : Kind → ℕ → Verdict
-  Stands : Size → Verdict
-
--- the verdict on a text that ends at a position
-abbrev pub ended : ℕ → Option Size → Verdict
-ended at None = Faulty Syntax at
-ended at (Some b) = Stands b
-
--- how far reading has come: a refusal at a position, or what has been read, up to a position
-pub data Progress : Type 0 where
-  Stopped : Kind → ℕ → Progress
-  Going : ℕ → Front → Progress
-
--- one piece further
-abbrev pub further : ℕ → ℕ → Checked → Progress
-further at len (Refused kind) = Stopped kind at
-further at len (Reached f) = Going (at + len) f
-
--- the verdict on the pieces that are left
-abbrev pub verdict : ℕ → Progress → List Lexeme → Verdict
-verdict n (Stopped kind at) [] = Faulty kind at
-verdict n (Going at f) [] = ended at (finish f)
-verdict n (Stopped kind at) (next ∷ rest) = Faulty kind at
-verdict n (Going at f) (next ∷ rest) = verdict n (further at next.len (checked n (caret_next rest) f next.piece)) rest
+caret_next (piece ∷ rest) = is_caret piece

@@ -1,13 +1,13 @@
 -- The part of a text that has been read, as the tree so far.
 use Rattle.std.specs.Prelude.{ℕ, ◌+◌, ◌≤◌, max, Bool, true, false, if◌then◌else◌, not, ◌&&◌, ◌==◌, List, ◌∷◌, ◌++◌, Option, Some, None, IsTrue, IsFalse, ⊤}
-use Rattle.model.specs.Bounds.{Size, Input, SumOf, ProductOf, Parts, NoParts, Part}
-use Rattle.bound_expr.specs.Measure.{node_count_of_all, greatest_depth}
-use Rattle.bound_expr.specs.Tidy.{IsNoSum, IsNoProduct, IsNoGreatest, EachPart}
-use Rattle.bound_text.specs.Shapes.{is_sum, is_greatest, is_empty, with_part, AreShaped}
-use Rattle.bound_text.specs.Pieces.{Piece, Variable, Number, Greatest, Open, Times, Caret, Plus, Blank, Comma}
+use Rattle.model.specs.Bounds.{Bound, Input, SumOf, ProductOf, Parts, NoParts, Part}
+use Rattle.bound_expr.specs.Measure.{node_count_of_all, maximum_depth}
+use Rattle.bound_expr.specs.Tidy.{IsNoSum, IsNoProduct, IsNoMaximum, EachPart}
+use Rattle.bound_text.specs.Shapes.{is_sum, is_maximum, is_empty, with_part, AreShaped}
+use Rattle.bound_text.specs.Pieces.{Piece, Variable, Number, Maximum, Open, Times, Caret, Plus, Blank, Comma}
 use Rattle.bound_text.specs.Writing.{Nothing, plus_between, comma_between, text_then, factors_then}
 
--- what an open bracket belongs to: a greatest with the arguments so far, a power with this base, or a sum as a factor
+-- what an open bracket belongs to: a maximum with the arguments so far, a power with this base, or a sum as a factor
 pub data Bracket : Type 0 where
   Arguments : Parts → Bracket
   Exponent : ℕ → Bracket
@@ -50,7 +50,7 @@ each_then separator (Part b bs) rest = text_then b (separator ++ each_then separ
 
 -- an open bracket, and then the rest
 abbrev pub bracket_then : Bracket → List Piece → List Piece
-bracket_then (Arguments bs) rest = Greatest ∷ each_then comma_between bs rest
+bracket_then (Arguments bs) rest = Maximum ∷ each_then comma_between bs rest
 bracket_then (Exponent c) rest = Number c ∷ Caret ∷ Open ∷ rest
 bracket_then Factor rest = Open ∷ rest
 
@@ -109,7 +109,7 @@ bracket_nodes Factor = 1
 
 -- the levels of the arguments before
 abbrev pub bracket_depth : Bracket → ℕ
-bracket_depth (Arguments bs) = greatest_depth bs
+bracket_depth (Arguments bs) = maximum_depth bs
 bracket_depth (Exponent c) = 0
 bracket_depth Factor = 0
 
@@ -127,8 +127,8 @@ levels_above (Inside bracket ts fs outer) = levels_above outer + sum_node outer 
 abbrev pub levels_round : Outer → ℕ
 levels_round Whole = 0
 levels_round (Inside bracket ts fs outer) =
-    max (levels_round outer) (max (levels_above outer + sum_node outer ts + greatest_depth ts)
-    (max (levels_above outer + sum_node outer ts + product_node_round bracket fs + greatest_depth fs)
+    max (levels_round outer) (max (levels_above outer + sum_node outer ts + maximum_depth ts)
+    (max (levels_above outer + sum_node outer ts + product_node_round bracket fs + maximum_depth fs)
     (levels_above outer + sum_node outer ts + product_node_round bracket fs + 1 + bracket_depth bracket)))
 
 -- the sum's node, the product's, and the one of an item that has begun, by the place
@@ -156,15 +156,15 @@ nodes_of f = nodes_round f.outer + sum_at f.place f.outer f.terms + node_count_o
 -- the levels of the innermost bound so far, with those above it
 abbrev pub inner_levels : Front → ℕ
 inner_levels f =
-    max (levels_above f.outer + sum_at f.place f.outer f.terms + greatest_depth f.terms)
-    (levels_above f.outer + sum_at f.place f.outer f.terms + product_at f.place f.factors + max (greatest_depth f.factors) (item_at f.place))
+    max (levels_above f.outer + sum_at f.place f.outer f.terms + maximum_depth f.terms)
+    (levels_above f.outer + sum_at f.place f.outer f.terms + product_at f.place f.factors + max (maximum_depth f.factors) (item_at f.place))
 
 -- the levels of the tree so far
 abbrev pub levels_of : Front → ℕ
 levels_of f = max (levels_round f.outer) (inner_levels f)
 
 -- the last part
-abbrev pub last : Parts → Option Size
+abbrev pub last : Parts → Option Bound
 last NoParts = None
 last (Part b NoParts) = Some b
 last (Part b (Part c bs)) = last (Part c bs)
@@ -176,32 +176,32 @@ init (Part b NoParts) = NoParts
 init (Part b (Part c bs)) = Part b (init (Part c bs))
 
 -- whether it is variable i
-abbrev pub is_input : ℕ → Option Size → Bool
+abbrev pub is_input : ℕ → Option Bound → Bool
 is_input i (Some (Input j)) = j == i
 is_input i _ = false
 
 -- a single part by itself, and others as one
-abbrev pub as_one : (Parts → Size) → Parts → Size
+abbrev pub as_one : (Parts → Bound) → Parts → Bound
 as_one whole NoParts = whole NoParts
 as_one whole (Part b NoParts) = b
 as_one whole (Part b (Part c bs)) = whole (Part b (Part c bs))
 
 -- the term that factors make
-abbrev pub term_of : Parts → Size
+abbrev pub term_of : Parts → Bound
 term_of fs = as_one ProductOf fs
 
 -- the bound that terms and the factors of the last one make
-abbrev pub bound_of : Parts → Parts → Size
-bound_of ts fs = as_one SumOf (with_part ts (term_of fs))
+abbrev pub bound_made : Parts → Parts → Bound
+bound_made ts fs = as_one SumOf (with_part ts (term_of fs))
 
 -- the factor that stands alone
-abbrev pub lone : Parts → Option Size
+abbrev pub lone : Parts → Option Bound
 lone NoParts = None
 lone (Part b NoParts) = Some b
 lone (Part b (Part c bs)) = None
 
 -- whether there is one that passes a test
-abbrev pub passes : (Size → Bool) → Option Size → Bool
+abbrev pub passes : (Bound → Bool) → Option Bound → Bool
 passes test None = false
 passes test (Some b) = test b
 
@@ -209,7 +209,7 @@ passes test (Some b) = test b
 abbrev pub can_end : Parts → Bool
 can_end fs = not (is_empty fs) && not (passes is_sum (lone fs))
 
--- terms of a sum, factors of a product, arguments of a greatest
+-- terms of a sum, factors of a product, arguments of a maximum
 pub record AreTerms (ts : Parts) : Type 0 where
   pub no_sums : EachPart IsNoSum ts
   pub shaped : AreShaped ts
@@ -219,7 +219,7 @@ pub record AreFactors (fs : Parts) : Type 0 where
   pub shaped : AreShaped fs
 
 pub record AreArguments (bs : Parts) : Type 0 where
-  pub no_greatests : EachPart IsNoGreatest bs
+  pub no_maximums : EachPart IsNoMaximum bs
   pub shaped : AreShaped bs
 
 -- what a bracket belongs to can become a bound as texts spell them
@@ -232,16 +232,16 @@ abbrev pub IsOuter : Outer → Type 0
 IsOuter Whole = ⊤
 IsOuter (Inside bracket ts fs outer) = IsBracket bracket × AreTerms ts × AreFactors fs × IsOuter outer
 
--- whether a bound stands in the brackets of a greatest
+-- whether a bound stands in the brackets of a maximum
 abbrev pub in_arguments : Outer → Bool
 in_arguments (Inside (Arguments bs) ts fs outer) = true
 in_arguments (Inside (Exponent c) ts fs outer) = false
 in_arguments (Inside Factor ts fs outer) = false
 in_arguments Whole = false
 
--- whether an argument can end here: it is no greatest, and stands in the brackets of one
+-- whether an argument can end here: it is no maximum, and stands in the brackets of one
 abbrev pub can_be_argument : Outer → Parts → Parts → Bool
-can_be_argument outer ts fs = in_arguments outer && (can_end fs && not (is_greatest (bound_of ts fs)))
+can_be_argument outer ts fs = in_arguments outer && (can_end fs && not (is_maximum (bound_made ts fs)))
 
 -- the place can be behind these terms and factors
 abbrev pub IsPlace : Place → Outer → Parts → Parts → Type 0

@@ -1,38 +1,28 @@
--- The pieces that a text begins with.
-use Rattle.std.specs.Prelude.{ℕ, zero, suc, ◌+◌, ◌-◌, Bool, false, List, [], ◌∷◌, length, codes, if◌then◌else◌, ◌==◌, ◌&&◌, nat_lt}
+-- The pieces of a bound's text.
+use Rattle.std.specs.Prelude.{ℕ, ◌+◌, ◌^◌, List, ◌∷◌, length, codes, if◌then◌else◌, ◌==◌}
 use Rattle.std.specs.Char.{is_ascii_digit}
-use Rattle.std.specs.Str.Parse.{digits_value}
 use Rattle.model.specs.Programs.{Name}
-use Rattle.bound_expr.specs.Capped.{capped}
-use Rattle.its_model.specs.Fronts.{front, behind}
-use Rattle.bound_text.specs.Names.{begins_name, continues_name, is_same, place_of}
-use Rattle.bound_text.specs.Pieces.{Piece, Variable, Number, Greatest, Open, Close, Times, Caret, Plus, Blank, Comma, Wrong}
+use Rattle.text_core.specs.Prefixes.{prefix, rest}
+use Rattle.text_core.specs.Names.{begins_name, continues_name, is_same, position_of}
+use Rattle.text_core.specs.Bytes.{begins_with, has_leading_zero, value_up_to}
+use Rattle.text_core.specs.Tokens.{Token, Lexeme, each_piece, tokens_of}
+use Rattle.bound_text.specs.Pieces.{Piece, Variable, Number, Maximum, Open, Close, Times, Caret, Plus, Blank, Comma, Wrong}
 
 -- a piece with the number of its bytes
-pub record Lexeme : Type 0 where
-  pub piece : Piece
-  pub len : ℕ
-
--- the bytes begin with this one
-abbrev pub begins_with : ℕ → List ℕ → Bool
-begins_with c [] = false
-begins_with c (b ∷ bytes) = b == c
+abbrev pub found : Piece → ℕ → Lexeme Piece
+found piece len = record { piece = piece; len = len }
 
 -- what a name is that these bytes follow: before an opening bracket `max` alone is one, and elsewhere it is the
 -- variable of that name; a name that isn't listed counts as the variable behind the last one
-abbrev pub word_at : List Name → Name → List ℕ → Lexeme
-word_at names name rest =
-    if begins_with 40 rest
-    then (if is_same name (codes "max") then record { piece = Greatest; len = length name + 1 } else record { piece = Wrong; len = length name })
-    else record { piece = Variable (place_of name names); len = length name }
-
--- the digits have a zero before another digit
-abbrev pub has_leading_zero : List ℕ → Bool
-has_leading_zero digits = begins_with 48 digits && nat_lt 1 (length digits)
+abbrev pub word_at : List Name → Name → List ℕ → Lexeme Piece
+word_at names name behind =
+    if begins_with 40 behind
+    then (if is_same name (codes "max") then found Maximum (length name + 1) else found Wrong (length name))
+    else found (Variable (position_of name names)) (length name)
 
 -- what digits are: the number that they write, where one over 2^127 counts as 2^127
-abbrev pub number_at : List ℕ → Lexeme
-number_at digits = record { piece = if has_leading_zero digits then Wrong else Number (capped (digits_value 10 digits)); len = length digits }
+abbrev pub number_at : List ℕ → Lexeme Piece
+number_at digits = found (if has_leading_zero digits then Wrong else Number (value_up_to (2 ^ 127) digits)) (length digits)
 
 -- what any other byte is
 abbrev pub mark_at : ℕ → Piece
@@ -47,14 +37,12 @@ mark_at b =
     else Wrong
 
 -- the piece that begins with the first byte; the longest name and the longest row of digits is taken
-abbrev pub lexeme_at : List Name → ℕ → List ℕ → Lexeme
+abbrev pub lexeme_at : List Name → ℕ → List ℕ → Lexeme Piece
 lexeme_at names b bytes =
-    if begins_name b then word_at names (b ∷ front continues_name bytes) (behind continues_name bytes)
-    else if is_ascii_digit b then number_at (b ∷ front is_ascii_digit bytes)
-    else record { piece = mark_at b; len = 1 }
+    if begins_name b then word_at names (b ∷ prefix continues_name bytes) (rest continues_name bytes)
+    else if is_ascii_digit b then number_at (b ∷ prefix is_ascii_digit bytes)
+    else found (mark_at b) 1
 
--- the pieces of a text, behind so many bytes that are passed over
-abbrev pub lexed : List Name → ℕ → List ℕ → List Lexeme
-lexed names skip [] = []
-lexed names zero (b ∷ bytes) = lexeme_at names b bytes ∷ lexed names ((lexeme_at names b bytes).len - 1) bytes
-lexed names (suc skip) (b ∷ bytes) = lexed names skip bytes
+-- the tokens of a text; each byte is one of some token's
+abbrev pub tokens : List Name → List ℕ → List (Token Piece)
+tokens names bytes = tokens_of (each_piece (lexeme_at names)) bytes

@@ -7,7 +7,7 @@ use Rattle.model.specs.Programs.{Name}
 pub data Piece : Type 0 where
   Variable : ℕ → Piece
   Number : ℕ → Piece
-  Greatest : Piece
+  Maximum : Piece
   Open : Piece
   Close : Piece
   Times : Piece
@@ -21,7 +21,7 @@ pub data Piece : Type 0 where
 abbrev pub spelled : List Name → Piece → List ℕ
 spelled names (Variable i) = slice_index_or names i []
 spelled names (Number n) = decimal n
-spelled names Greatest = codes "max("
+spelled names Maximum = codes "max("
 spelled names Open = 40 ∷ []
 spelled names Close = 41 ∷ []
 spelled names Times = 42 ∷ []

@@ -1,7 +1,7 @@
 -- What is written behind a text.
 use Rattle.std.specs.Prelude.{◌≡◌, ℕ, ◌<◌, List, ◌++◌, ⊤}
 use Rattle.model.specs.Programs.{Name}
-use Rattle.model.specs.Bounds.{Size, Parts, Part}
+use Rattle.model.specs.Bounds.{Bound, Parts, Part}
 use Rattle.bound_text.specs.Pieces as plain
 use Rattle.bound_text.specs.Pieces.{bytes_of}
 use Rattle.bound_text.specs.Writing as writing
@@ -17,7 +17,7 @@ use Rattle.bound_text.specs.declared.printing.Before.TheVariants as befores
 abbrev pub piece_of : Piece → plain.Piece
 piece_of (pieces.Variable i) = plain.Variable i
 piece_of (pieces.Number n) = plain.Number n
-piece_of pieces.Greatest = plain.Greatest
+piece_of pieces.Maximum = plain.Maximum
 piece_of pieces.Open = plain.Open
 piece_of pieces.Close = plain.Close
 piece_of pieces.Times = plain.Times
@@ -57,5 +57,5 @@ abbrev pub WritesAll : List Name → List ℕ → List ℕ → (List plain.Piece
 WritesAll names old new text = Writes names old new text (λ rest. rest)
 
 -- a factor was written behind what stands before it, but for the run that it ends with
-pub record WritesFactor (names : List Name) (old new : List ℕ) (before behind : writing.Before) (b : Size) : Type 0 where
+pub record WritesFactor (names : List Name) (old new : List ℕ) (before behind : writing.Before) (b : Bound) : Type 0 where
   pub each : (bs : Parts) (rest : List plain.Piece) → new ++ bytes_of names (factors_then behind bs rest) ≡ old ++ bytes_of names (factors_then before (Part b bs) rest)

@@ -1,13 +1,11 @@
 -- Where each piece leads the reader.
-use Rattle.std.specs.Prelude.{ℕ, zero, suc, Bool, true, false, if◌then◌else◌, not, ◌&&◌, nat_lt, List, [], ◌∷◌, Option, Some, None}
-use Rattle.model.specs.Bounds.{Size, Constant, Input, GreatestOf, PowerOf, Parts, NoParts}
-use Rattle.bound_text.specs.Shapes.{is_sum, is_greatest, is_leaf, is_empty, with_part}
-use Rattle.bound_text.specs.Pieces.{Piece, Variable, Number, Greatest, Open, Close, Times, Caret, Plus, Blank, Comma}
-use Rattle.bound_text.specs.Fronts.{Bracket, Arguments, Exponent, Factor, Outer, Whole, Inside, Place, Begins, RunCaret, PowerCaret, ItemRead, BlankRead, PlusRead, CommaRead, Front, last, init, is_input, term_of, bound_of, can_end, can_be_argument}
-
--- the value where a test passes
-abbrev pub when : {X : Type 0} → Bool → X → Option X
-when test x = if test then Some x else None
+use Rattle.std.specs.Prelude.{ℕ, zero, suc, Bool, true, false, not, ◌&&◌, nat_lt, List, Option, Some, None}
+use Rattle.model.specs.Bounds.{Bound, Constant, Input, MaximumOf, PowerOf, Parts, NoParts}
+pub use Rattle.text_core.specs.Choices.{when}
+use Rattle.text_core.specs.Readers as readers
+use Rattle.bound_text.specs.Shapes.{is_sum, is_maximum, is_leaf, is_empty, with_part}
+use Rattle.bound_text.specs.Pieces.{Piece, Variable, Number, Maximum, Open, Close, Times, Caret, Plus, Blank, Comma}
+use Rattle.bound_text.specs.Fronts.{Bracket, Arguments, Exponent, Factor, Outer, Whole, Inside, Place, Begins, RunCaret, PowerCaret, ItemRead, BlankRead, PlusRead, CommaRead, Front, last, init, is_input, term_of, bound_made, can_end, can_be_argument}
 
 -- n times variable i behind the factors
 abbrev pub with_copies : ℕ → ℕ → Parts → Parts
@@ -27,14 +25,14 @@ abbrev pub inside : Bracket → Outer → Parts → Parts → Front
 inside bracket outer ts fs = front_at (Inside bracket ts fs outer) NoParts NoParts Begins
 
 -- behind one more factor
-abbrev pub behind_factor : Outer → Parts → Parts → Size → Front
+abbrev pub behind_factor : Outer → Parts → Parts → Bound → Front
 behind_factor outer ts fs b = front_at outer ts (with_part fs b) ItemRead
 
 -- an item begins
 abbrev pub begin_item : Outer → Parts → Parts → Piece → Option Front
 begin_item outer ts fs (Variable i) = when (not (is_input i (last fs))) (behind_factor outer ts fs (Input i))
 begin_item outer ts fs (Number c) = Some (behind_factor outer ts fs (Constant c))
-begin_item outer ts fs Greatest = Some (inside (Arguments NoParts) outer ts fs)
+begin_item outer ts fs Maximum = Some (inside (Arguments NoParts) outer ts fs)
 begin_item outer ts fs Open = Some (inside Factor outer ts fs)
 begin_item outer ts fs piece = None
 
@@ -51,20 +49,20 @@ begin_exponent outer ts fs c Open = Some (inside (Exponent c) outer ts fs)
 begin_exponent outer ts fs c piece = None
 
 -- `^` behind a factor, which is a base or the variable of a run
-abbrev pub caret_behind : Outer → Parts → Parts → Option Size → Option Front
+abbrev pub caret_behind : Outer → Parts → Parts → Option Bound → Option Front
 caret_behind outer ts fs (Some (Constant c)) = when (nat_lt 1 c) (front_at outer ts fs (PowerCaret c))
 caret_behind outer ts fs (Some (Input i)) = when (not (is_input i (last fs))) (front_at outer ts fs (RunCaret i))
 caret_behind outer ts fs factor = None
 
 -- whether a bracket can close behind a bound
-abbrev pub can_close : Bracket → Size → Bool
-can_close (Arguments bs) b = not (is_empty bs) && not (is_greatest b)
+abbrev pub can_close : Bracket → Bound → Bool
+can_close (Arguments bs) b = not (is_empty bs) && not (is_maximum b)
 can_close (Exponent c) b = not (is_leaf b)
 can_close Factor b = is_sum b
 
 -- the item that a bracket's bound makes
-abbrev pub item_of : Bracket → Size → Size
-item_of (Arguments bs) b = GreatestOf (with_part bs b)
+abbrev pub item_of : Bracket → Bound → Bound
+item_of (Arguments bs) b = MaximumOf (with_part bs b)
 item_of (Exponent c) b = PowerOf c b
 item_of Factor b = b
 
@@ -72,7 +70,7 @@ item_of Factor b = b
 abbrev pub close_bracket : Outer → Parts → Parts → Option Front
 close_bracket Whole ts fs = None
 close_bracket (Inside bracket ts' fs' outer) ts fs =
-    when (can_end fs && can_close bracket (bound_of ts fs)) (behind_factor outer ts' fs' (item_of bracket (bound_of ts fs)))
+    when (can_end fs && can_close bracket (bound_made ts fs)) (behind_factor outer ts' fs' (item_of bracket (bound_made ts fs)))
 
 -- what follows an item
 abbrev pub follow_item : Outer → Parts → Parts → Piece → Option Front
@@ -85,7 +83,7 @@ follow_item outer ts fs piece = None
 
 -- an argument ends
 abbrev pub end_argument : Outer → Parts → Parts → Option Front
-end_argument (Inside (Arguments bs) ts' fs' outer) ts fs = Some (inside (Arguments (with_part bs (bound_of ts fs))) outer ts' fs')
+end_argument (Inside (Arguments bs) ts' fs' outer) ts fs = Some (inside (Arguments (with_part bs (bound_made ts fs))) outer ts' fs')
 end_argument outer ts fs = None
 
 -- where a piece leads
@@ -105,9 +103,7 @@ step f piece = step_at f.place f.outer f.terms f.factors piece
 
 -- where pieces lead
 abbrev pub walk : Option Front → List Piece → Option Front
-walk reached [] = reached
-walk None (piece ∷ pieces) = None
-walk (Some f) (piece ∷ pieces) = walk (step f piece) pieces
+walk reached pieces = readers.walk step reached pieces
 
 -- whether nothing stands round the bound
 abbrev pub is_whole : Outer → Bool
@@ -115,10 +111,10 @@ is_whole Whole = true
 is_whole (Inside bracket ts fs outer) = false
 
 -- the bound of a text that ends, by the place
-abbrev pub finish_at : Place → Outer → Parts → Parts → Option Size
-finish_at ItemRead outer ts fs = when (is_whole outer && can_end fs) (bound_of ts fs)
+abbrev pub finish_at : Place → Outer → Parts → Parts → Option Bound
+finish_at ItemRead outer ts fs = when (is_whole outer && can_end fs) (bound_made ts fs)
 finish_at place outer ts fs = None
 
 -- the bound of a text that ends here
-abbrev pub finish : Front → Option Size
+abbrev pub finish : Front → Option Bound
 finish f = finish_at f.place f.outer f.terms f.factors

@@ -1,13 +1,15 @@
 -- What has been read of a text, as plain data.
 use Rattle.std.specs.Prelude.{◌≡◌, ℕ, if◌then◌else◌, Bool, true, false, not, Option, Some, None, Result, Ok, Err, ⊤, IsTrue}
-use Rattle.model.specs.Bounds.{Size, Constant, Input, Parts}
+use Rattle.model.specs.Bounds as bounds
+use Rattle.model.specs.Bounds.{Constant, Input, Parts}
 use Rattle.bound_expr.specs.declared.bound.Bound.{Bound}
-use Rattle.bound_expr.specs.Views.{size_of}
+use Rattle.bound_expr.specs.Views.{bound_of}
 use Rattle.bound_text.specs.Fronts as fronts
 use Rattle.bound_text.specs.Fronts.{Front, Outer, Whole, Inside, last, init}
 use Rattle.bound_text.specs.Steps.{front_at, behind_factor}
-use Rattle.bound_text.specs.Faults as plain
-use Rattle.bound_text.specs.Checks.{Checked, Refused, Reached, Verdict, Faulty, Stands, takes_caret}
+use Rattle.text_core.specs.Reading.{Answer, Stands, Refused as RefusedBy}
+use Rattle.bound_text.specs.Kinds as plain
+use Rattle.bound_text.specs.Checks.{Checked, Refused, Reached, takes_caret}
 pub use Rattle.bound_text.specs.Brackets.{parts_in, bracket_of, outer_from, outer_of, IsRound}
 use Rattle.bound_text.specs.declared.brackets.Brackets.{Brackets}
 use Rattle.bound_text.specs.declared.state.Place.{Place}
@@ -47,7 +49,7 @@ is_settled_at place fs = true
 abbrev pub is_settled : Reader → Bool
 is_settled r = is_settled_at r.place (parts_in r.factors)
 
--- whether a bracket is that of a greatest
+-- whether a bracket is that of a maximum
 abbrev pub is_arguments : fronts.Bracket → Bool
 is_arguments (fronts.Arguments bs) = true
 is_arguments bracket = false
@@ -90,8 +92,8 @@ FindsFault (Some kind) (Ok u) = ⊥
 FindsFault (Some kind) (Err fault) = IsKind kind fault
 
 -- the bound that a text that ends here stands for; `Syntax` is answered exactly where there is none, want of memory aside
-abbrev pub Finishes : Option Size → Result Bound Fault → Type 0
-Finishes bound (Ok b) = bound ≡ Some (size_of b)
+abbrev pub Finishes : Option bounds.Bound → Result Bound Fault → Type 0
+Finishes bound (Ok b) = bound ≡ Some (bound_of b)
 Finishes bound (Err faults.Syntax) = bound ≡ None
 Finishes bound (Err faults.Memory) = ⊤
 Finishes bound (Err fault) = ⊥
@@ -106,13 +108,13 @@ IsRefusal plain.TooLarge at (errors.TooLarge p) = p ≡ at
 IsRefusal kind at errors.Memory = ⊤
 IsRefusal kind at error = ⊥
 
--- the answer is the verdict, want of memory aside
-abbrev pub Says : Verdict → Result Bound BoundTextError → Type 0
-Says (Stands b) (Ok a) = size_of a ≡ b
+-- the code answers what reading comes to, want of memory aside
+abbrev pub Says : Answer bounds.Bound plain.Kind → Result Bound BoundTextError → Type 0
+Says (Stands b) (Ok a) = bound_of a ≡ b
 Says (Stands b) (Err errors.Memory) = ⊤
 Says (Stands b) (Err error) = ⊥
-Says (Faulty kind at) (Ok a) = ⊥
-Says (Faulty kind at) (Err error) = IsRefusal kind at error
+Says (RefusedBy x) (Ok a) = ⊥
+Says (RefusedBy x) (Err error) = IsRefusal x.kind x.at error
 
 -- the sum's node, the product's, and the one of an item that has begun, by the place of the code
 abbrev pub sum_here : Place → Outer → Parts → ℕ

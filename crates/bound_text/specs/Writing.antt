@@ -1,8 +1,8 @@
 -- The pieces of a bound, one spelling each.
 use Rattle.std.specs.Prelude.{ℕ, suc, Bool, true, false, List, [], ◌∷◌, ◌++◌, if◌then◌else◌, not, ◌==◌, nat_lt}
-use Rattle.model.specs.Bounds.{Size, Constant, Input, SumOf, ProductOf, GreatestOf, PowerOf, Parts, NoParts, Part}
+use Rattle.model.specs.Bounds.{Bound, Constant, Input, SumOf, ProductOf, MaximumOf, PowerOf, Parts, NoParts, Part}
 use Rattle.bound_text.specs.Shapes.{is_sum, is_leaf}
-use Rattle.bound_text.specs.Pieces.{Piece, Variable, Number, Greatest, Open, Close, Times, Caret, Plus, Blank, Comma}
+use Rattle.bound_text.specs.Pieces.{Piece, Variable, Number, Maximum, Open, Close, Times, Caret, Plus, Blank, Comma}
 
 -- what stands before the next factor of a product: nothing, a run of so many times one variable, or another factor
 pub data Before : Type 0 where
@@ -53,19 +53,19 @@ bracketed_then false text rest = text rest
 abbrev pub plus_between : List Piece
 plus_between = Blank ∷ Plus ∷ Blank ∷ []
 
--- what stands between the arguments of a greatest: `, `
+-- what stands between the arguments of a maximum: `, `
 abbrev pub comma_between : List Piece
 comma_between = Comma ∷ Blank ∷ []
 
 abbrev mutual
-  -- the pieces of a bound, and then the rest: the parts of a sum are joined by ` + `, those of a greatest by `, `, the
+  -- the pieces of a bound, and then the rest: the parts of a sum are joined by ` + `, those of a maximum by `, `, the
   -- factors of a product by `*`; an exponent stands in brackets unless it is a constant or a variable
-  pub text_then : Size → List Piece → List Piece
+  pub text_then : Bound → List Piece → List Piece
   text_then (Constant c) rest = Number c ∷ rest
   text_then (Input i) rest = Variable i ∷ rest
   text_then (SumOf bs) rest = joined_then plus_between bs rest
   text_then (ProductOf bs) rest = factors_then Nothing bs rest
-  text_then (GreatestOf bs) rest = Greatest ∷ joined_then comma_between bs (Close ∷ rest)
+  text_then (MaximumOf bs) rest = Maximum ∷ joined_then comma_between bs (Close ∷ rest)
   text_then (PowerOf c e) rest = Number c ∷ Caret ∷ bracketed_then (not (is_leaf e)) (text_then e) rest
 
   -- parts joined by a separator
@@ -87,5 +87,5 @@ abbrev mutual
   factors_then before (Part b bs) rest = ended_then before (times_then before (bracketed_then (is_sum b) (text_then b) (factors_then Other bs rest)))
 
 -- the pieces of a bound
-abbrev pub pieces_of : Size → List Piece
+abbrev pub pieces_of : Bound → List Piece
 pieces_of b = text_then b []

@@ -24,7 +24,7 @@ impl Brackets {
     ghost use Rattle.bound_text.specs.Views.{parts_in, bracket_of, outer_in, IsRound};
 
     /// No bracket is open.
-    pub fn new(alloc: Global) -> Brackets
+    pub(crate) fn new(alloc: Global) -> Brackets
         ensures { outer_in result ≡ Whole }
     {
         Brackets {
@@ -33,24 +33,24 @@ impl Brackets {
     }
 
     /// Whether no bracket is open.
-    pub fn is_empty(&self) -> bool
+    pub(crate) fn is_empty(&self) -> bool
         ensures { result ≡ is_whole (outer_in self.now) }
     {
         self.opened.is_empty()
     }
 
-    /// Whether the innermost open bracket is that of a greatest.
-    pub fn is_in_arguments(&self) -> bool
+    /// Whether the innermost open bracket is that of a maximum.
+    pub(crate) fn is_in_arguments(&self) -> bool
         ensures { result ≡ in_arguments_of (outer_in self.now) }
     {
         match self.opened.last() {
-            Some(opened) => opened.bracket.is_of_greatest(),
+            Some(opened) => opened.bracket.is_of_maximum(),
             None => false,
         }
     }
 
     /// What stands round the innermost bound.
-    pub fn round(&self) -> Round
+    pub(crate) fn round(&self) -> Round
         ensures { IsRound (outer_in self.now) result }
     {
         match self.opened.last() {
@@ -64,7 +64,7 @@ impl Brackets {
     }
 
     /// A bracket opens, behind these terms and factors.
-    pub fn open(
+    pub(crate) fn open(
         &mut self,
         bracket: Bracket,
         terms: Measured,
@@ -85,7 +85,7 @@ impl Brackets {
     }
 
     /// The innermost bracket closes, if one is open.
-    pub fn close(&mut self) -> Option<Opened>
+    pub(crate) fn close(&mut self) -> Option<Opened>
         ensures { MatchOption result (outer_in self.old ≡ Whole) (λ opened. outer_in self.old ≡ Inside (bracket_of opened.bracket) (parts_in opened.terms) (parts_in opened.factors) (outer_in self.new)) }
     {
         self.opened.pop()

@@ -1,82 +1,80 @@
 // From terms and factors to one bound.
 
-ghost use Rattle.std.specs.Prelude.{◌≡◌, IfOk, MatchOption, if◌then◌else◌};
-ghost use Rattle.model.specs.Bounds.{ProductOf, SumOf, GreatestOf, PowerOf};
-ghost use Rattle.bound_expr.specs.Views.{size_of};
-ghost use Rattle.bound_text.specs.Shapes.{is_sum as is_sum_size, is_greatest as is_greatest_size, is_leaf as is_leaf_size, is_empty as has_none};
-ghost use Rattle.bound_text.specs.Fronts.{as_one, bound_of, can_end as terms_can_end, is_input, last, lone as lone_of, passes, product_node};
+ghost use Rattle.std.specs.Prelude.{◌≡◌, IfOk, MatchOption, MatchResult, if◌then◌else◌};
+ghost use Rattle.model.specs.Bounds as plain;
+ghost use Rattle.model.specs.Bounds.{Parts, ProductOf, SumOf, MaximumOf, PowerOf};
+ghost use Rattle.bound_expr.specs.Views.{bound_of};
+ghost use Rattle.bound_text.specs.Shapes.{is_sum as is_sum_bound, is_maximum as is_maximum_bound, is_leaf as is_leaf_bound, is_empty as has_none};
+ghost use Rattle.bound_text.specs.Fronts.{as_one, bound_made, can_end as terms_can_end, is_input, last, lone as lone_of, passes, product_node};
 ghost use Rattle.bound_text.specs.Views.{parts_in};
 
-use crate::kinds::{is_greatest, is_leaf, is_sum, is_variable};
+use crate::kinds::{is_leaf, is_maximum, is_sum, is_variable};
 use crate::measured::{Counted, Measured};
 use bound_expr::{Bound, Memory};
 use std::alloc::{AllocError, Global};
 
-/// A single factor by itself, and others as a product.
+// A part that stands alone, by itself, and others as they were.
 #[tactic(auto, using(crate::proofs::JoiningLaws::as_one_more))]
-pub fn product_from(factors: Measured) -> Counted
-    ensures { size_of result.bound ≡ as_one ProductOf (parts_in factors) }
+fn alone(parts: Measured) -> Result<Counted, Measured>
+    ensures { (whole : Parts → plain.Bound) → MatchResult result (λ one. bound_of one.bound ≡ as_one whole (parts_in parts)) (λ all. whole (parts_in all) ≡ as_one whole (parts_in parts)) }
 {
+    if parts.bounds.len() != 1 {
+        return Err(parts);
+    }
     let Measured {
         mut bounds,
         nodes,
         depth,
-    } = factors;
-    if bounds.len() != 1 {
-        return Counted {
-            bound: Bound::Prod(bounds),
-            nodes: nodes.saturating_add(1),
-            depth: depth.saturating_add(1),
-        };
-    }
+    } = parts;
     match bounds.pop() {
-        Some(bound) => Counted {
+        Some(bound) => Ok(Counted {
             bound,
             nodes,
             depth,
-        },
+        }),
         None => unreachable!(),
     }
 }
 
-/// A single term by itself, and others as a sum.
-#[tactic(auto, using(crate::proofs::JoiningLaws::as_one_more))]
-pub fn sum_from(terms: Measured) -> Counted
-    ensures { size_of result.bound ≡ as_one SumOf (parts_in terms) }
+/// A single factor by itself, and others as a product.
+pub fn product_from(factors: Measured) -> Counted
+    ensures { bound_of result.bound ≡ as_one ProductOf (parts_in factors) }
 {
-    let Measured {
-        mut bounds,
-        nodes,
-        depth,
-    } = terms;
-    if bounds.len() != 1 {
-        return Counted {
-            bound: Bound::Sum(bounds),
-            nodes: nodes.saturating_add(1),
-            depth: depth.saturating_add(1),
-        };
-    }
-    match bounds.pop() {
-        Some(bound) => Counted {
-            bound,
-            nodes,
-            depth,
+    match alone(factors) {
+        Ok(factor) => factor,
+        Err(all) => Counted {
+            bound: Bound::Prod(all.bounds),
+            nodes: all.nodes.saturating_add(1),
+            depth: all.depth.saturating_add(1),
         },
-        None => unreachable!(),
+    }
+}
+
+/// A single term by itself, and others as a sum.
+pub fn sum_from(terms: Measured) -> Counted
+    ensures { bound_of result.bound ≡ as_one SumOf (parts_in terms) }
+{
+    match alone(terms) {
+        Ok(term) => term,
+        Err(all) => Counted {
+            bound: Bound::Sum(all.bounds),
+            nodes: all.nodes.saturating_add(1),
+            depth: all.depth.saturating_add(1),
+        },
     }
 }
 
 /// The bound that terms and the factors of the last one make.
 pub fn bound_from(mut terms: Measured, factors: Measured) -> Result<Counted, Memory>
-    ensures { IfOk result (λ b. size_of b.bound ≡ bound_of (parts_in terms) (parts_in factors)) }
+    ensures { IfOk result (λ b. bound_of b.bound ≡ bound_made (parts_in terms) (parts_in factors)) }
 {
     terms.push_counted(product_from(factors))?;
     Ok(sum_from(terms))
 }
 
-/// The greatest of arguments.
-pub fn greatest_from(arguments: Measured) -> Counted
-    ensures { size_of result.bound ≡ GreatestOf (parts_in arguments) }
+/// The maximum of arguments.
+pub fn maximum_from(arguments: Measured) -> Counted
+    ensures { bound_of result.bound ≡ MaximumOf (parts_in arguments) }
 {
     let Measured {
         bounds,
@@ -92,7 +90,7 @@ pub fn greatest_from(arguments: Measured) -> Counted
 
 /// The power of a base.
 pub fn power_from(alloc: Global, base: u64, exponent: Counted) -> Result<Counted, AllocError>
-    ensures { IfOk result (λ power. size_of power.bound ≡ PowerOf base (size_of exponent.bound)) }
+    ensures { IfOk result (λ power. bound_of power.bound ≡ PowerOf base (bound_of exponent.bound)) }
 {
     let Counted {
         bound,
@@ -117,7 +115,7 @@ pub fn is_empty(bounds: &Measured) -> bool
 // The bound that stands alone.
 #[tactic(auto, using(crate::proofs::JoiningLaws::lone_many, crate::proofs::JoiningLaws::lone_got))]
 fn lone(bounds: &Measured) -> Option<&Bound>
-    ensures { MatchOption result (lone_of (parts_in bounds.now) ≡ None) (λ b. lone_of (parts_in bounds.now) ≡ Some (size_of b.now)) }
+    ensures { MatchOption result (lone_of (parts_in bounds.now) ≡ None) (λ b. lone_of (parts_in bounds.now) ≡ Some (bound_of b.now)) }
 {
     if bounds.bounds.len() == 1 {
         bounds.bounds.first()
@@ -136,23 +134,23 @@ pub fn can_end(factors: &Measured) -> bool
 /// Whether the bound that terms and factors make is a sum.
 #[tactic(auto, using(crate::proofs::JoiningLaws::kinds))]
 pub fn makes_sum(terms: &Measured, factors: &Measured) -> bool
-    ensures { result ≡ is_sum_size (bound_of (parts_in terms.now) (parts_in factors.now)) }
+    ensures { result ≡ is_sum_bound (bound_made (parts_in terms.now) (parts_in factors.now)) }
 {
     !is_empty(terms) || lone(factors).is_some_and(is_sum)
 }
 
-/// Whether it is a greatest.
+/// Whether it is a maximum.
 #[tactic(auto, using(crate::proofs::JoiningLaws::kinds))]
-pub fn makes_greatest(terms: &Measured, factors: &Measured) -> bool
-    ensures { result ≡ is_greatest_size (bound_of (parts_in terms.now) (parts_in factors.now)) }
+pub fn makes_maximum(terms: &Measured, factors: &Measured) -> bool
+    ensures { result ≡ is_maximum_bound (bound_made (parts_in terms.now) (parts_in factors.now)) }
 {
-    is_empty(terms) && lone(factors).is_some_and(is_greatest)
+    is_empty(terms) && lone(factors).is_some_and(is_maximum)
 }
 
 /// Whether it is a constant or a variable.
 #[tactic(auto, using(crate::proofs::JoiningLaws::kinds))]
 pub fn makes_leaf(terms: &Measured, factors: &Measured) -> bool
-    ensures { result ≡ is_leaf_size (bound_of (parts_in terms.now) (parts_in factors.now)) }
+    ensures { result ≡ is_leaf_bound (bound_made (parts_in terms.now) (parts_in factors.now)) }
 {
     is_empty(terms) && lone(factors).is_some_and(is_leaf)
 }

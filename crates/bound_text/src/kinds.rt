@@ -1,36 +1,36 @@
 // Kinds of bounds.
 
 ghost use Rattle.std.specs.Prelude.{◌≡◌};
-ghost use Rattle.bound_expr.specs.Views.{size_of};
-ghost use Rattle.bound_text.specs.Shapes.{is_leaf as is_leaf_size, is_sum as is_sum_size, is_greatest as is_greatest_size};
+ghost use Rattle.bound_expr.specs.Views.{bound_of};
+ghost use Rattle.bound_text.specs.Shapes.{is_leaf as is_leaf_bound, is_sum as is_sum_bound, is_maximum as is_maximum_bound};
 ghost use Rattle.bound_text.specs.Fronts.{is_input};
 
 use bound_expr::Bound;
 
 /// Whether it is a constant or a variable.
 pub fn is_leaf(bound: &Bound) -> bool
-    ensures { result ≡ is_leaf_size (size_of bound.now) }
+    ensures { result ≡ is_leaf_bound (bound_of bound.now) }
 {
     matches!(bound, Bound::Const(_) | Bound::Var(_))
 }
 
 /// Whether it is a sum.
 pub fn is_sum(bound: &Bound) -> bool
-    ensures { result ≡ is_sum_size (size_of bound.now) }
+    ensures { result ≡ is_sum_bound (bound_of bound.now) }
 {
     matches!(bound, Bound::Sum(_))
 }
 
-/// Whether it is a greatest.
-pub fn is_greatest(bound: &Bound) -> bool
-    ensures { result ≡ is_greatest_size (size_of bound.now) }
+/// Whether it is a maximum.
+pub fn is_maximum(bound: &Bound) -> bool
+    ensures { result ≡ is_maximum_bound (bound_of bound.now) }
 {
     matches!(bound, Bound::Max(_))
 }
 
 /// Whether it is this variable.
 pub fn is_variable(bound: &Bound, variable: u32) -> bool
-    ensures { result ≡ is_input variable (Some (size_of bound.now)) }
+    ensures { result ≡ is_input variable (Some (bound_of bound.now)) }
 {
     match bound {
         Bound::Var(i) => *i == variable,

@@ -1,4 +1,5 @@
-// Bounds as text, in one spelling: what `print` writes `read` reads back, within its limits, and `read` refuses every other spelling.
+// Bounds as text, in one spelling: what `print` writes `read` reads back, within its limits, and `read` refuses every other
+// spelling. A `Reader` takes one piece after the other, for texts that have a bound in their midst.
 // Contract to the layers above: `text_of` is the text of a bound, and a refusal is the first fault of the text.
 #![tactic(auto)]
 
@@ -18,8 +19,8 @@ mod steps;
 mod taking;
 
 pub use error::BoundTextError;
+pub use fault::Fault;
+pub use piece::Piece;
 pub use printing::print;
-pub use reading::{one_bound, read, texts_have_no_fault};
-
-#[cfg(test)]
-mod tests;
+pub use reading::{fronts_are_read, one_bound, read, texts_have_no_fault};
+pub use state::Reader;

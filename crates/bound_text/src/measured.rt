@@ -2,27 +2,27 @@
 
 ghost use Rattle.std.specs.Prelude.{◌≡◌, ◌^◌, ◌-◌, min, OnOk};
 ghost use Rattle.model.specs.Bounds.{NoParts, Input};
-ghost use Rattle.bound_expr.specs.Views.{size_of, sizes_of, parts_of};
-ghost use Rattle.bound_expr.specs.Measure.{node_count, node_count_of_all, depth_of, greatest_depth};
+ghost use Rattle.bound_expr.specs.Views.{bound_of, bounds_of, parts_of};
+ghost use Rattle.bound_expr.specs.Measure.{node_count, node_count_of_all, depth_of, maximum_depth};
 ghost use Rattle.bound_text.specs.Shapes.{with_part};
 
 use bound_expr::{Bound, Memory};
 use std::alloc::Global;
 
-/// Bounds, with the number of their nodes and the greatest of their depths.
+/// Bounds, with the number of their nodes and the maximum of their depths.
 #[derive(Drop)]
 pub struct Measured {
     pub bounds: Vec<Bound>,
     pub nodes: u64,
     pub depth: u32,
-    ghost counted: { nodes ≡ min (node_count_of_all (parts_of (sizes_of bounds.items))) (2 ^ 64 - 1) },
-    ghost deep: { depth ≡ min (greatest_depth (parts_of (sizes_of bounds.items))) (2 ^ 32 - 1) },
+    ghost counted: { nodes ≡ min (node_count_of_all (parts_of (bounds_of bounds.items))) (2 ^ 64 - 1) },
+    ghost deep: { depth ≡ min (maximum_depth (parts_of (bounds_of bounds.items))) (2 ^ 32 - 1) },
 }
 
 impl Measured {
     /// No bounds.
-    pub fn new(alloc: Global) -> Measured
-        ensures { parts_of (sizes_of result.bounds.items) ≡ NoParts }
+    pub(crate) fn new(alloc: Global) -> Measured
+        ensures { parts_of (bounds_of result.bounds.items) ≡ NoParts }
     {
         Measured {
             bounds: Vec::new(alloc),
@@ -32,16 +32,16 @@ impl Measured {
     }
 
     /// One bound more, at the end.
-    pub fn push(&mut self, bound: Bound) -> Result<(), Memory>
-        ensures { OnOk result (parts_of (sizes_of self.new.bounds.items) ≡ with_part (parts_of (sizes_of self.old.bounds.items)) (size_of bound)) }
+    pub(crate) fn push(&mut self, bound: Bound) -> Result<(), Memory>
+        ensures { OnOk result (parts_of (bounds_of self.new.bounds.items) ≡ with_part (parts_of (bounds_of self.old.bounds.items)) (bound_of bound)) }
     {
         self.push_counted(Counted::new(bound))
     }
 
     /// One bound more, at the end, whose measure is known.
     #[tactic(auto, using(crate::proofs::PartLaws::pushes))]
-    pub fn push_counted(&mut self, counted: Counted) -> Result<(), Memory>
-        ensures { OnOk result (parts_of (sizes_of self.new.bounds.items) ≡ with_part (parts_of (sizes_of self.old.bounds.items)) (size_of counted.bound)) }
+    pub(crate) fn push_counted(&mut self, counted: Counted) -> Result<(), Memory>
+        ensures { OnOk result (parts_of (bounds_of self.new.bounds.items) ≡ with_part (parts_of (bounds_of self.old.bounds.items)) (bound_of counted.bound)) }
     {
         let Counted {
             bound,
@@ -61,14 +61,14 @@ pub struct Counted {
     pub bound: Bound,
     pub nodes: u64,
     pub depth: u32,
-    ghost counted: { nodes ≡ min (node_count (size_of bound)) (2 ^ 64 - 1) },
-    ghost deep: { depth ≡ min (depth_of (size_of bound)) (2 ^ 32 - 1) },
+    ghost counted: { nodes ≡ min (node_count (bound_of bound)) (2 ^ 64 - 1) },
+    ghost deep: { depth ≡ min (depth_of (bound_of bound)) (2 ^ 32 - 1) },
 }
 
 impl Counted {
     /// The bound is gone through once.
-    pub fn new(bound: Bound) -> Counted
-        ensures { size_of result.bound ≡ size_of bound }
+    pub(crate) fn new(bound: Bound) -> Counted
+        ensures { bound_of result.bound ≡ bound_of bound }
     {
         let (nodes, depth) = bound.measure();
         Counted {

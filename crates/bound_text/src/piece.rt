@@ -8,7 +8,7 @@ pub enum Piece {
     /// Decimal digits.
     Number(u128),
     /// `max(`
-    Greatest,
+    Maximum,
     /// `(`
     Open,
     /// `)`

@@ -1,8 +1,8 @@
 // From a bound to its text.
 
 ghost use Rattle.std.specs.Prelude.{◌≡◌, ◌++◌, ◌∷◌, ◌+◌, ◌^◌, ◌<◌, ◌≤◌, length, map, not, IfOk, OnOk, IsTrue, IsFalse, MatchOption};
-ghost use Rattle.its_model.specs.Views.{name_of};
-ghost use Rattle.bound_expr.specs.Views.{size_of, sizes_of, parts_of};
+ghost use Rattle.text_core.specs.Names.{name_of};
+ghost use Rattle.bound_expr.specs.Views.{bound_of, bounds_of, parts_of};
 ghost use Rattle.bound_expr.specs.Substitution.{ReadsBelow, AllReadBelow};
 ghost use Rattle.bound_expr.specs.Tidy.{IsTidy};
 ghost use Rattle.bound_text.specs.Pieces.{spelled};
@@ -15,8 +15,8 @@ use crate::kinds::{is_leaf, is_sum};
 use crate::piece::Piece;
 use bound_expr::{Bound, Memory};
 use itoa::Buffer;
-use its_model::Name;
 use std::alloc::Global;
+use text_core::Name;
 
 /// What stands between parts.
 #[derive(Clone, Copy)]
@@ -42,9 +42,9 @@ pub enum Before {
 ///
 /// `Memory` where an allocation fails.
 pub fn print(alloc: Global, names: &[Name], b: &Bound) -> Result<Vec<u8>, Memory>
-    requires tidy { IsTidy (size_of b.now) }
-    requires listed { ReadsBelow (length names.now) (size_of b.now) }
-    ensures { IfOk result (λ text. IsText (map name_of names.now) text.items (size_of b.now)) }
+    requires tidy { IsTidy (bound_of b.now) }
+    requires listed { ReadsBelow (length names.now) (bound_of b.now) }
+    ensures { IfOk result (λ text. IsText (map name_of names.now) text.items (bound_of b.now)) }
 {
     let mut text = Vec::new(alloc);
     write_bound(names, &mut text, b)?;
@@ -59,7 +59,7 @@ fn write_piece(names: &[Name], text: &mut Vec<u8>, piece: Piece) -> Result<(), M
     match piece {
         Piece::Variable(i) => text.extend_from_slice(&names[i as usize].bytes),
         Piece::Number(n) => text.extend_from_slice(Buffer::new().format(n).as_bytes()),
-        Piece::Greatest => text.extend_from_slice(b"max("),
+        Piece::Maximum => text.extend_from_slice(b"max("),
         Piece::Open => text.extend_from_slice(b"("),
         Piece::Close => text.extend_from_slice(b")"),
         Piece::Times => text.extend_from_slice(b"*"),
@@ -91,8 +91,8 @@ fn write_separator(names: &[Name], text: &mut Vec<u8>, join: Join) -> Result<(),
 // A bound without brackets round it.
 #[cycle(write)]
 fn write_bound(names: &[Name], text: &mut Vec<u8>, bound: &Bound) -> Result<(), Memory>
-    requires { ReadsBelow (length names.now) (size_of bound.now) }
-    ensures { OnOk result (WritesAll (map name_of names.now) text.old.items text.new.items (text_then (size_of bound.now))) }
+    requires { ReadsBelow (length names.now) (bound_of bound.now) }
+    ensures { OnOk result (WritesAll (map name_of names.now) text.old.items text.new.items (text_then (bound_of bound.now))) }
 {
     match bound {
         Bound::Const(c) => write_piece(names, text, Piece::Number(*c)),
@@ -100,7 +100,7 @@ fn write_bound(names: &[Name], text: &mut Vec<u8>, bound: &Bound) -> Result<(), 
         Bound::Sum(parts) => write_joined(names, text, Join::Plus, parts),
         Bound::Prod(factors) => write_factors(names, text, factors),
         Bound::Max(parts) => {
-            write_piece(names, text, Piece::Greatest)?;
+            write_piece(names, text, Piece::Maximum)?;
             write_joined(names, text, Join::Comma, parts)?;
             write_piece(names, text, Piece::Close)
         }
@@ -120,8 +120,8 @@ fn write_bracketed(
     bracketed: bool,
     bound: &Bound,
 ) -> Result<(), Memory>
-    requires { ReadsBelow (length names.now) (size_of bound.now) }
-    ensures { OnOk result (WritesAll (map name_of names.now) text.old.items text.new.items (bracketed_then bracketed (text_then (size_of bound.now)))) }
+    requires { ReadsBelow (length names.now) (bound_of bound.now) }
+    ensures { OnOk result (WritesAll (map name_of names.now) text.old.items text.new.items (bracketed_then bracketed (text_then (bound_of bound.now)))) }
 {
     if bracketed {
         write_piece(names, text, Piece::Open)?;
@@ -140,8 +140,8 @@ fn write_joined(
     join: Join,
     parts: &[Bound],
 ) -> Result<(), Memory>
-    requires { AllReadBelow (length names.now) (parts_of (sizes_of parts.now)) }
-    ensures { OnOk result (WritesAll (map name_of names.now) text.old.items text.new.items (joined_then (separator_of join) (parts_of (sizes_of parts.now)))) }
+    requires { AllReadBelow (length names.now) (parts_of (bounds_of parts.now)) }
+    ensures { OnOk result (WritesAll (map name_of names.now) text.old.items text.new.items (joined_then (separator_of join) (parts_of (bounds_of parts.now)))) }
 {
     let Some((first, others)) = parts.split_first() else {
         return Ok(());
@@ -157,8 +157,8 @@ fn write_joined(
 // The factors of a product.
 #[cycle(write)]
 fn write_factors(names: &[Name], text: &mut Vec<u8>, factors: &[Bound]) -> Result<(), Memory>
-    requires { AllReadBelow (length names.now) (parts_of (sizes_of factors.now)) }
-    ensures { OnOk result (WritesAll (map name_of names.now) text.old.items text.new.items (factors_then writing.Nothing (parts_of (sizes_of factors.now)))) }
+    requires { AllReadBelow (length names.now) (parts_of (bounds_of factors.now)) }
+    ensures { OnOk result (WritesAll (map name_of names.now) text.old.items text.new.items (factors_then writing.Nothing (parts_of (bounds_of factors.now)))) }
 {
     let mut before = Before::Nothing;
     for factor in factors {
@@ -175,10 +175,10 @@ fn write_factor(
     before: Before,
     factor: &Bound,
 ) -> Result<Before, Memory>
-    requires listed { ReadsBelow (length names.now) (size_of factor.now) }
+    requires listed { ReadsBelow (length names.now) (bound_of factor.now) }
     requires run { IsListedRun (length names.now) before }
     requires room { count_of (before_of before) < 2 ^ 63 }
-    ensures text { IfOk result (λ behind. WritesFactor (map name_of names.now) text.old.items text.new.items (before_of before) (before_of behind) (size_of factor.now)) }
+    ensures text { IfOk result (λ behind. WritesFactor (map name_of names.now) text.old.items text.new.items (before_of before) (before_of behind) (bound_of factor.now)) }
     ensures run { IfOk result (λ behind. IsListedRun (length names.now) behind) }
     ensures count { IfOk result (λ behind. count_of (before_of behind) ≤ count_of (before_of before) + 1) }
 {

@@ -1,26 +1,26 @@
 // From a text to its bound.
 
 ghost use Rattle.std.specs.Prelude.{length, map};
-ghost use Rattle.model.specs.Bounds.{Size};
-ghost use Rattle.its_model.specs.Views.{name_of};
-ghost use Rattle.bound_text.specs.Faults.{Answers, GivesBack, TextsHaveNoFault};
-ghost use Rattle.bound_text.specs.Lexing.{lexed};
-ghost use Rattle.bound_text.specs.Names.{AreNames};
-ghost use Rattle.bound_text.specs.Steps.{beginning};
-ghost use Rattle.bound_text.specs.Checks.{Going, verdict};
+ghost use Rattle.model.specs.Bounds as plain;
+ghost use Rattle.text_core.specs.Names.{name_of};
+ghost use Rattle.text_core.specs.Names.{AreNames};
+ghost use Rattle.text_core.specs.Reading.{answer};
+ghost use Rattle.bound_text.specs.Faults.{Answers, GivesBack, FrontsAreRead as FrontsRead, TextsHaveNoFault};
+ghost use Rattle.bound_text.specs.Lexing.{tokens};
+ghost use Rattle.bound_text.specs.Reading.{bounds};
 ghost use Rattle.bound_text.specs.Texts.{IsTextWithin, OneBound};
 ghost use Rattle.bound_text.specs.Views.{Says};
 
 use crate::error::BoundTextError;
-use crate::lexer::{begins_with, next};
+use crate::lexer::next;
 use crate::state::Reader;
 use bound_expr::Bound;
-use its_model::Name;
 use std::alloc::Global;
+use text_core::{Listed, Name, begins_with};
 
 /// Reads the bound that a text stands for, over variables with these names.
 ///
-/// There is one spelling. The parts of a sum are joined by ` + `, those of a greatest are written `max(a, b)`, the factors
+/// There is one spelling. The parts of a sum are joined by ` + `, those of a maximum are written `max(a, b)`, the factors
 /// of a product are joined by `*`, and a longest run of n equal neighbouring variables, n at least 2, is written `A^n`. A
 /// power is its base, `^` and the exponent. A sum as a factor stands in brackets, and so does an exponent that is no
 /// constant and no variable. Constants are decimal without leading zeros.
@@ -36,7 +36,7 @@ use std::alloc::Global;
 pub fn read(alloc: Global, names: &[Name], bytes: &[u8]) -> Result<Bound, BoundTextError>
     requires { AreNames (map name_of names.now) }
     ensures answer { Answers (map name_of names.now) bytes.now result }
-    ensures complete { (b : Size) → IsTextWithin (map name_of names.now) bytes.now b → GivesBack b result }
+    ensures complete { (b : plain.Bound) → IsTextWithin (map name_of names.now) bytes.now b → GivesBack b result }
 {
     judge(alloc, names, bytes)
 }
@@ -51,15 +51,23 @@ pub fn texts_have_no_fault()
     ensures { TextsHaveNoFault }
 {}
 
-// The verdict on a text.
+/// A front of the reader tells what has been read: pieces lead to it exactly where it is written as they are, and a base can
+/// stand there exactly where an item begins.
+pub fn fronts_are_read()
+    ensures { FrontsRead }
+{}
+
+// The answer to a text.
 fn judge(alloc: Global, names: &[Name], bytes: &[u8]) -> Result<Bound, BoundTextError>
-    ensures { Says (verdict (length names.now) (Going 0 beginning) (lexed (map name_of names.now) 0 bytes.now)) result }
+    requires { AreNames (map name_of names.now) }
+    ensures { Says (answer (bounds (length (map name_of names.now))) (length bytes.now) (tokens (map name_of names.now) bytes.now)) result }
 {
+    let listed = Listed::new(alloc, names)?;
     let mut reader = Reader::new(alloc);
     let mut rest = bytes;
     while let Some((first, others)) = rest.split_first() {
         let at = (bytes.len() - rest.len()) as u64;
-        let lexeme = next(names, rest, *first, others)?;
+        let lexeme = next(&listed, rest, *first, others)?;
         let (_, behind) = rest.split_at(lexeme.len);
         let caret = begins_with(behind, b'^');
         if let Err(fault) = reader.take(alloc, names.len(), caret, lexeme.piece) {

@@ -10,12 +10,10 @@ use crate::fault::Fault;
 use crate::joining::{is_empty, makes_product};
 use crate::measured::Measured;
 use crate::state::{Bracket, Opened, Place, Reader};
+use bound_expr::{DEPTH_LIMIT, NODE_LIMIT};
 
 /// How many levels a bound may have.
-const MAX_LEVELS: u64 = 200;
-
-/// How many nodes a bound may have.
-const MAX_NODES: u64 = 4096;
+const MAX_LEVELS: u64 = DEPTH_LIMIT as u64;
 
 /// What stands round the innermost bound: its nodes, the levels above the bound, and whether the innermost bracket is that
 /// of a sum as a factor.
@@ -44,7 +42,7 @@ fn product_node(factors: &Measured) -> u64
 
 impl Opened {
     /// What stands round a bound in this bracket, where `round` is what stands round the bracket.
-    pub fn count_in(&self, round: Round) -> Round
+    pub(crate) fn count_in(&self, round: Round) -> Round
         ensures { (outer : Outer) → IsRound outer round → IsRound (Inside (bracket_of self.now.bracket) (parts_in self.now.terms) (parts_in self.now.factors) outer) result }
     {
         let sum = if round.in_factor {
@@ -162,7 +160,7 @@ impl Reader {
 
     /// Whether what has been read is within the limits. `TooDeep` comes exactly where it has more than 200 levels, and
     /// else `TooLarge` exactly where it has more than 4,096 nodes.
-    pub fn check_size(&self) -> Result<(), Fault>
+    pub(crate) fn check_size(&self) -> Result<(), Fault>
         requires { IsTrue (is_settled self.now) }
         ensures { Obeys (sized (front_of self.now)) self.now result }
     {
@@ -170,7 +168,7 @@ impl Reader {
         if self.levels(round) > MAX_LEVELS {
             return Err(Fault::TooDeep);
         }
-        if self.nodes(round) > MAX_NODES {
+        if self.nodes(round) > NODE_LIMIT {
             return Err(Fault::TooLarge);
         }
         Ok(())

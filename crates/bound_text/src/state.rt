@@ -1,8 +1,8 @@
 // What has been read of a text.
 
-ghost use Rattle.std.specs.Prelude.{◌≡◌};
+ghost use Rattle.std.specs.Prelude.{◌≡◌, IsTrue};
 ghost use Rattle.bound_text.specs.Steps.{beginning};
-ghost use Rattle.bound_text.specs.Views.{front_of};
+ghost use Rattle.bound_text.specs.Views.{front_of, is_settled};
 
 use crate::brackets::Brackets;
 use crate::measured::Measured;
@@ -12,7 +12,7 @@ use std::alloc::Global;
 /// What an open bracket belongs to.
 #[derive(Drop)]
 pub enum Bracket {
-    /// A greatest, with its arguments so far.
+    /// A maximum, with its arguments so far.
     Arguments(Measured),
     /// A power, with its base.
     Exponent(u64),
@@ -56,16 +56,17 @@ pub enum Place {
 /// innermost bound, and the place.
 #[derive(Drop)]
 pub struct Reader {
-    pub outer: Brackets,
-    pub terms: Measured,
-    pub factors: Measured,
-    pub place: Place,
+    pub(crate) outer: Brackets,
+    pub(crate) terms: Measured,
+    pub(crate) factors: Measured,
+    pub(crate) place: Place,
 }
 
 impl Reader {
     /// Nothing has been read.
     pub fn new(alloc: Global) -> Reader
-        ensures { front_of result ≡ beginning }
+        ensures front { front_of result ≡ beginning }
+        ensures settled { IsTrue (is_settled result) }
     {
         Reader {
             outer: Brackets::new(alloc),

@@ -6,15 +6,15 @@ ghost use Rattle.bound_text.specs.Steps.{step as step_of, begin_item as item_beg
 ghost use Rattle.bound_text.specs.Fronts as fronts;
 ghost use Rattle.model.specs.Bounds.{Constant, Input, PowerOf, NoParts};
 ghost use Rattle.bound_text.specs.Shapes.{with_part};
-ghost use Rattle.bound_text.specs.Fronts.{term_of, bound_of};
+ghost use Rattle.bound_text.specs.Fronts.{term_of, bound_made};
 ghost use Rattle.bound_text.specs.Printing.{piece_of};
 ghost use Rattle.bound_text.specs.Checks.{is_caret, takes_caret, has_large_base as has_large_base_of};
-ghost use Rattle.bound_expr.specs.Views.{size_of};
+ghost use Rattle.bound_expr.specs.Views.{bound_of};
 ghost use Rattle.bound_text.specs.Views.{is_arguments, parts_in, bracket_of, outer_in, front_of, is_settled, Follows};
 
 use crate::fault::Fault;
 use crate::joining::{
-    bound_from, can_end, ends_with, greatest_from, is_empty, makes_greatest, makes_leaf, makes_sum,
+    bound_from, can_end, ends_with, is_empty, makes_leaf, makes_maximum, makes_sum, maximum_from,
     power_from, product_from,
 };
 use crate::measured::{Counted, Measured};
@@ -28,7 +28,7 @@ use std::mem;
 #[tactic(auto, using(crate::proofs::PartLaws::ends, crate::proofs::ViewLaws::outer_of_push))]
 impl Reader {
     /// Whether this is the `^` behind a base over 2^64-1.
-    pub fn has_large_base(&self, piece: Piece) -> bool
+    pub(crate) fn has_large_base(&self, piece: Piece) -> bool
         requires { IsTrue (is_settled self.now) }
         ensures { result ≡ has_large_base_of (front_of self.now) (piece_of piece) }
     {
@@ -50,7 +50,7 @@ impl Reader {
     }
 
     // An item begins.
-    pub fn begin_item(&mut self, alloc: Global, piece: Piece) -> Result<(), Fault>
+    pub(crate) fn begin_item(&mut self, alloc: Global, piece: Piece) -> Result<(), Fault>
         ensures { Follows (item_begun (outer_in self.old.outer) (parts_in self.old.terms) (parts_in self.old.factors) (piece_of piece)) self.new result }
     {
         match piece {
@@ -65,14 +65,19 @@ impl Reader {
                 self.place = Place::Number(c);
                 Ok(())
             }
-            Piece::Greatest => self.open(alloc, Bracket::Arguments(Measured::new(alloc))),
+            Piece::Maximum => self.open(alloc, Bracket::Arguments(Measured::new(alloc))),
             Piece::Open => self.open(alloc, Bracket::Factor),
             _ => Err(Fault::Syntax),
         }
     }
 
     // An exponent begins.
-    pub fn begin_exponent(&mut self, alloc: Global, base: u64, piece: Piece) -> Result<(), Fault>
+    pub(crate) fn begin_exponent(
+        &mut self,
+        alloc: Global,
+        base: u64,
+        piece: Piece,
+    ) -> Result<(), Fault>
         ensures { Follows (exponent_begun (outer_in self.old.outer) (parts_in self.old.terms) (parts_in self.old.factors) base (piece_of piece)) self.new result }
     {
         match piece {
@@ -85,7 +90,7 @@ impl Reader {
 
     // A power with its exponent.
     fn end_power(&mut self, alloc: Global, base: u64, exponent: Bound) -> Result<(), Fault>
-        ensures { Follows (Some (behind_factor (outer_in self.old.outer) (parts_in self.old.terms) (parts_in self.old.factors) (PowerOf base (size_of exponent)))) self.new result }
+        ensures { Follows (Some (behind_factor (outer_in self.old.outer) (parts_in self.old.terms) (parts_in self.old.factors) (PowerOf base (bound_of exponent)))) self.new result }
     {
         self.factors
             .push(Bound::Power(base, Box::new(alloc, exponent)?))?;
@@ -111,7 +116,7 @@ impl Reader {
     {
         self.outer.is_in_arguments()
             && can_end(&self.factors)
-            && !makes_greatest(&self.terms, &self.factors)
+            && !makes_maximum(&self.terms, &self.factors)
     }
 
     // A bracket closes.
@@ -141,7 +146,7 @@ impl Reader {
     }
 
     // What follows an item that is a factor.
-    pub fn follow_item(&mut self, alloc: Global, piece: Piece) -> Result<(), Fault>
+    pub(crate) fn follow_item(&mut self, alloc: Global, piece: Piece) -> Result<(), Fault>
         requires { IsFalse (is_caret (piece_of piece) && takes_caret (init (parts_in self.old.factors)) (last (parts_in self.old.factors))) }
         ensures { Follows (item_followed (outer_in self.old.outer) (parts_in self.old.terms) (parts_in self.old.factors) (piece_of piece)) self.new result }
     {
@@ -164,7 +169,7 @@ impl Reader {
     }
 
     // A term ends with ` + `.
-    pub fn end_term(&mut self, alloc: Global) -> Result<(), Fault>
+    pub(crate) fn end_term(&mut self, alloc: Global) -> Result<(), Fault>
         ensures { Follows (Some (front_at (outer_in self.old.outer) (with_part (parts_in self.old.terms) (term_of (parts_in self.old.factors))) NoParts fronts.Begins)) self.new result }
     {
         let factors = mem::replace(&mut self.factors, Measured::new(alloc));
@@ -174,7 +179,7 @@ impl Reader {
     }
 
     // An argument ends with `, `.
-    pub fn end_argument(&mut self, alloc: Global) -> Result<(), Fault>
+    pub(crate) fn end_argument(&mut self, alloc: Global) -> Result<(), Fault>
         ensures { Follows (argument_ended (outer_in self.old.outer) (parts_in self.old.terms) (parts_in self.old.factors)) self.new result }
     {
         let Some(
@@ -200,7 +205,12 @@ impl Reader {
     }
 
     // Behind a number that begins an item.
-    pub fn follow_number(&mut self, alloc: Global, number: u128, piece: Piece) -> Result<(), Fault>
+    pub(crate) fn follow_number(
+        &mut self,
+        alloc: Global,
+        number: u128,
+        piece: Piece,
+    ) -> Result<(), Fault>
         requires { IsTrue (is_caret (piece_of piece)) → number < 2 ^ 64 }
         ensures { Follows (item_followed (outer_in self.old.outer) (parts_in self.old.terms) (with_part (parts_in self.old.factors) (Constant number)) (piece_of piece)) self.new result }
     {
@@ -214,7 +224,12 @@ impl Reader {
     }
 
     // Behind a variable that begins an item.
-    pub fn follow_name(&mut self, alloc: Global, variable: u32, piece: Piece) -> Result<(), Fault>
+    pub(crate) fn follow_name(
+        &mut self,
+        alloc: Global,
+        variable: u32,
+        piece: Piece,
+    ) -> Result<(), Fault>
         requires { IsFalse (fronts.is_input variable (last (parts_in self.old.factors))) }
         ensures { Follows (item_followed (outer_in self.old.outer) (parts_in self.old.terms) (with_part (parts_in self.old.factors) (Input variable)) (piece_of piece)) self.new result }
     {
@@ -232,8 +247,8 @@ impl Reader {
 }
 
 impl Bracket {
-    // Whether it is the bracket of a greatest.
-    pub fn is_of_greatest(&self) -> bool
+    // Whether it is the bracket of a maximum.
+    pub(crate) fn is_of_maximum(&self) -> bool
         ensures { result ≡ is_arguments (bracket_of self.now) }
     {
         matches!(self, Bracket::Arguments(_))
@@ -241,11 +256,10 @@ impl Bracket {
 
     // Whether the bracket can close behind the bound that terms and factors make.
     fn can_close(&self, terms: &Measured, factors: &Measured) -> bool
-        ensures { result ≡ bracket_can_close (bracket_of self.now) (bound_of (parts_in terms.now) (parts_in factors.now)) }
+        ensures { result ≡ bracket_can_close (bracket_of self.now) (bound_made (parts_in terms.now) (parts_in factors.now)) }
     {
         match self {
-            Bracket::Arguments(arguments) => !is_empty(arguments)
-                && !makes_greatest(terms, factors),
+            Bracket::Arguments(arguments) => !is_empty(arguments) && !makes_maximum(terms, factors),
             Bracket::Exponent(_) => !makes_leaf(terms, factors),
             Bracket::Factor => makes_sum(terms, factors),
         }
@@ -253,12 +267,12 @@ impl Bracket {
 
     // The item that the bracket's bound makes.
     fn item_from(self, alloc: Global, counted: Counted) -> Result<Counted, Fault>
-        ensures { MatchResult result (λ item. size_of item.bound ≡ item_of (bracket_of self) (size_of counted.bound)) (λ fault. fault ≡ Fault.Memory) }
+        ensures { MatchResult result (λ item. bound_of item.bound ≡ item_of (bracket_of self) (bound_of counted.bound)) (λ fault. fault ≡ Fault.Memory) }
     {
         match self {
             Bracket::Arguments(mut arguments) => {
                 arguments.push_counted(counted)?;
-                Ok(greatest_from(arguments))
+                Ok(maximum_from(arguments))
             }
             Bracket::Exponent(base) => Ok(power_from(alloc, base, counted)?),
             Bracket::Factor => Ok(counted),

@@ -13,17 +13,14 @@ use crate::joining::{bound_from, can_end};
 use crate::measured::Measured;
 use crate::piece::Piece;
 use crate::state::{Place, Reader};
-use bound_expr::{Bound, Memory};
+use bound_expr::{Bound, CAP, Memory, NODE_LIMIT};
 use std::alloc::Global;
-
-/// The least number that is too large: 2^127.
-const TOO_LARGE: u128 = 0x8000_0000_0000_0000_0000_0000_0000_0000;
 
 /// The least base that is too large: 2^64.
 pub const TOO_LARGE_BASE: u128 = 0x1_0000_0000_0000_0000;
 
 /// More copies of a variable than a bound may have nodes.
-const TOO_MANY: u128 = 4097;
+const TOO_MANY: u128 = NODE_LIMIT as u128 + 1;
 
 // The fault of a piece by itself, where n names are listed, and where `base` says whether it would be a base.
 fn fault_of(names: usize, base: bool, piece: Piece) -> Result<(), Fault>
@@ -31,9 +28,7 @@ fn fault_of(names: usize, base: bool, piece: Piece) -> Result<(), Fault>
 {
     match piece {
         Piece::Number(c) if base && c < 2 => Err(Fault::Syntax),
-        Piece::Number(c) if c >= TOO_LARGE || (base && c >= TOO_LARGE_BASE) => Err(
-            Fault::NumberTooLarge,
-        ),
+        Piece::Number(c) if c >= CAP || (base && c >= TOO_LARGE_BASE) => Err(Fault::NumberTooLarge),
         Piece::Variable(i) if names <= i as usize => Err(Fault::UnknownName),
         _ => Ok(()),
     }
@@ -120,7 +115,7 @@ impl Reader {
     {
         match piece {
             Piece::Number(count) if count >= 2 => {
-                if count >= TOO_LARGE {
+                if count >= CAP {
                     return Err(Fault::NumberTooLarge);
                 }
                 self.factors

@@ -5,7 +5,7 @@ use Rattle.std.specs.Prelude.{◌==◌}
 use Rattle.model.specs.Programs.{Name, Symbol, Rule}
 use Rattle.its_reader.specs.Written.{WrittenRule}
 use Rattle.its_reader.specs.Numbering.{is_same, is_among, has_symbol, with_symbol, with_terms, symbol_of, terms_of, number_of, rule_numbered, start_names_of}
-use Rattle.its_model.proofs.NameLaws.{same_equal}
+use Rattle.text_core.proofs.NameLaws.{same_equal}
 use Rattle.its_reader.proofs.SymbolLaws.{Extends, extends_both, extends_symbol, extends_terms, has_with_symbol, has_extended, number_test}
 
 -- the names of the rules' sources

@@ -6,7 +6,7 @@ use Rattle.its_reader.specs.Lexing.{Piece, Word, OpenBracket, CloseBracket, Comm
 use Rattle.its_reader.specs.Written.{WrittenRule, commas_then, arguments_then, rules_then}
 use Rattle.its_reader.specs.Numbering.{is_same}
 use Rattle.its_reader.specs.Places.{State, Beginning, FirstOpen, StartTerm, StartOpen, FunctionSymbols, StartNamed, StartClosed, FirstClosed, SecondOpen, Rules, LeftNamed, LeftOpen, LeftArgument, LeftComma, LeftClosed, RuleArrow, TargetMarked, TargetOpen, RightNamed, RightOpen, RightArgument, RightComma, RightClosed, Ended, is_short, can_be_target, can_add_left, can_add_right, with_update, with_start, when, reached, step, finish}
-use Rattle.its_model.proofs.NameLaws.{same_equal, equal_same}
+use Rattle.text_core.proofs.NameLaws.{same_equal, equal_same}
 use Rattle.its_reader.proofs.TreeReading.{left_read, right_read}
 use Rattle.its_reader.proofs.RuleLaws.{rules_name, name_rules, rules_close, close_rules}
 use Rattle.its_reader.proofs.Completion.{Then, ThenName, ThenArguments, ThenMore, Completes, CompletesAfter, AtLeftClosed, AtRightClosed}

@@ -5,7 +5,7 @@ use Rattle.std.proofs.lemmas.Cmp.{nat_list_eq_equiv}
 use Rattle.model.specs.Programs.{Name, Symbol}
 use Rattle.its_reader.specs.Written.{WrittenTerm}
 use Rattle.its_reader.specs.Numbering.{is_same, has_symbol, with_symbol, with_terms, symbol_of, number_of, arity_of}
-use Rattle.its_model.proofs.NameLaws.{is_same_self, same_equal, equal_same}
+use Rattle.text_core.proofs.NameLaws.{is_same_self, same_equal, equal_same}
 
 -- the symbols are the others, and more
 pub record Extends (symbols others : List Symbol) : Type 0 where

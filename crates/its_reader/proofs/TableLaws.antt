@@ -5,12 +5,13 @@ use Rattle.std.specs.Map.{lookup, keys_of}
 use Rattle.std.specs.List.{position, position_or_len}
 use Rattle.indexmap.specs.IndexMap.{insert_entry}
 use Rattle.its_model.specs.Views.{name_of}
-use Rattle.its_model.specs.declared.name.Name.{Name}
+use Rattle.text_core.specs.declared.name.Name.{Name}
 use Rattle.model.specs.Programs as plain
 use Rattle.its_reader.specs.Numbering.{is_same, place_of, names_of, has_symbol, number_of, arity_of}
 use Rattle.its_reader.specs.Tables.{as_symbol}
-use Rattle.its_model.proofs.NameLaws.{is_same_self}
-use Rattle.its_reader.proofs.KeyLaws.{key_place, position_place, position_within}
+use Rattle.text_core.proofs.NameLaws.{is_same_self}
+use Rattle.text_core.proofs.KeyLaws.{key_position, found_position}
+use Rattle.its_reader.proofs.KeyLaws.{position_within}
 
 -- the symbols that entries stand for
 abbrev pub symbols_at : List (Name × ℕ) → List plain.Symbol
@@ -28,11 +29,11 @@ number_within test es i h = subst (λ n. i < n) (length-map es (λ e. e.0) ∙ s
 module _ (n : plain.Name) (test : Name → Bool) (same : (k : Name) → test k ≡ is_same n (name_of k)) where
   -- the place of the key is the number of the symbol
   pub key_number : (es : List (Name × ℕ)) → position_or_len test (keys_of es) ≡ number_of (symbols_at es) n
-  key_number es = key_place n test same (keys_of es) ∙ ap (place_of n) (sym (names-symbols_at es))
+  key_number es = key_position name_of n test same (keys_of es) ∙ ap (place_of n) (sym (names-symbols_at es))
 
   -- a key that is found is found at the number of the symbol
   pub position_number : (es : List (Name × ℕ)) (i : ℕ) → position test (keys_of es) ≡ Some i → i ≡ number_of (symbols_at es) n
-  position_number es i h = position_place n test same (keys_of es) i h ∙ ap (place_of n) (sym (names-symbols_at es))
+  position_number es i h = found_position name_of n test same (keys_of es) i h ∙ ap (place_of n) (sym (names-symbols_at es))
 
   -- a table without the name stands for symbols without it
   pub lookup_none : (es : List (Name × ℕ)) → lookup test es ≡ None → has_symbol (symbols_at es) n ≡ false

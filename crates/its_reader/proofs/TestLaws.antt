@@ -1,17 +1,8 @@
 -- Tests that pass together, and values that hang on tests.
-use Rattle.std.proofs.Common.{◌≡◌, ℕ, ◌<◌, Bool, true, false, cond, not, ◌&&◌, ◌||◌, refl, ap, ◌∙◌, arith, nat_lt, Option, Some, None}
-use Rattle.std.proofs.lemmas.Bool.Decides.{nat_tests}
+use Rattle.std.proofs.Common.{◌≡◌, Bool, true, false, cond, ◌&&◌, refl, ap, ◌∙◌, Option, Some, None}
+pub use Rattle.std.proofs.lemmas.Bool.{and_parts as both, and_from as and_both, or_parts as neither, not-true as not_holds, lt-ltb as below_passes, ltb-true as passes_below}
 use Rattle.its_reader.specs.Places.{when}
 use Rattle.its_reader.proofs.TreeReading.{and_then}
-
--- two tests pass together where each does
-pub both : (a b : Bool) → a && b ≡ true → (a ≡ true) × (b ≡ true)
-both true b h = (refl, h)
-both false b h = cc
-
--- and back
-pub and_both : (a b : Bool) → a ≡ true → b ≡ true → a && b ≡ true
-and_both a b h k = rw (h, k) refl
 
 -- three tests pass together where each does
 pub all_three : (a b c : Bool) → a && b && c ≡ true → (a ≡ true) × (b ≡ true) × (c ≡ true)
@@ -22,24 +13,6 @@ all_three false b c h = cc
 -- and back
 pub three_all : (a b c : Bool) → a ≡ true → b ≡ true → c ≡ true → a && b && c ≡ true
 three_all a b c h k l = rw (h, k, l) refl
-
--- neither of two tests passes where their alternative doesn't
-pub neither : (a b : Bool) → a || b ≡ false → (a ≡ false) × (b ≡ false)
-neither true b h = cc
-neither false b h = (refl, h)
-
--- a test fails where its negation passes
-pub not_holds : (a : Bool) → not a ≡ true → a ≡ false
-not_holds true h = cc
-not_holds false h = refl
-
--- a number below another passes the test for it
-pub below_passes : (a b : ℕ) → a < b → nat_lt a b ≡ true
-below_passes a b h = grind (arith, nat_tests)
-
--- and back
-pub passes_below : (a b : ℕ) → nat_lt a b ≡ true → a < b
-passes_below a b h = grind (arith, nat_tests)
 
 -- a value that hangs on a test is there where the test passes
 pub when_some : {X : Type 0} (t : Bool) (o : Option X) (x : X) → cond t o None ≡ Some x → (t ≡ true) × (o ≡ Some x)

@@ -1,16 +1,13 @@
 -- The pieces of a program's text: names, brackets, commas and arrows, with white space between them.
-use Rattle.std.specs.Prelude.{◌≡◌, ℕ, Bool, ◌||◌, ◌==◌, List, [], ◌∷◌, ◌++◌, IsTrue, IsFalse, ⊤}
+use Rattle.std.specs.Prelude.{◌≡◌, ℕ, List, [], ◌∷◌, ◌++◌, IsTrue, IsFalse, ⊤}
 use Rattle.std.specs.List.{list_all}
 use Rattle.model.specs.Programs.{Name}
-pub use Rattle.its_model.specs.Names.{begins_name, continues_name, IsName}
-
--- white space: a space, a tab, a carriage return or a line feed
-abbrev pub is_blank : ℕ → Bool
-is_blank b = (b == 32) || (b == 9) || (b == 13) || (b == 10)
+pub use Rattle.text_core.specs.Names.{begins_name, continues_name, IsName}
+pub use Rattle.text_core.specs.Bytes.{is_white_space}
 
 -- the bytes are white space
 abbrev pub AreBlank : List ℕ → Type 0
-AreBlank bytes = IsTrue (list_all is_blank bytes)
+AreBlank bytes = IsTrue (list_all is_white_space bytes)
 
 -- a piece of the text
 pub data Piece : Type 0 where

@@ -1,20 +1,11 @@
 -- What a written program stands for: numbers in place of names.
-use Rattle.std.specs.Prelude.{◌≡◌, ℕ, Bool, nat_eq, List, [], ◌∷◌, ◌++◌, map, length, if◌then◌else◌, ◌&&◌, nat_lt, codes, drop, IsTrue, IsFalse, ⊤}
-use Rattle.std.specs.List.{list_any, list_all, starts_with, AllByRecursion}
+use Rattle.std.specs.Prelude.{◌≡◌, ℕ, Bool, nat_eq, List, [], ◌∷◌, ◌++◌, map, length, if◌then◌else◌, ◌&&◌, nat_lt, codes, drop, IsTrue, IsFalse}
+use Rattle.std.specs.List.{list_all, starts_with, AllByRecursion}
 use Rattle.std.specs.Char.{is_ascii_digit}
 use Rattle.model.specs.Terms.{Variable}
 use Rattle.model.specs.Programs.{Name, Symbol, Rule, Program}
-pub use Rattle.its_model.specs.Names.{is_same, place_of}
+pub use Rattle.text_core.specs.Names.{is_same, is_among, AreDistinct, position_of as place_of}
 use Rattle.its_reader.specs.Written.{WrittenTerm, WrittenRule, WrittenProgram}
-
--- whether a name is among others
-abbrev pub is_among : Name → List Name → Bool
-is_among name names = list_any (is_same name) names
-
--- no name stands twice
-abbrev pub AreDistinct : List Name → Type 0
-AreDistinct [] = ⊤
-AreDistinct (name ∷ names) = IsFalse (is_among name names) × AreDistinct names
 
 -- whether a name is `Com_` and digits, which is no symbol on a right side
 abbrev pub is_com : Name → Bool

@@ -3,6 +3,7 @@ use Rattle.std.specs.Prelude.{ℕ, Bool, List, [], ◌∷◌, ◌++◌, length, 
 use Rattle.std.specs.List.{find}
 use Rattle.model.specs.Terms.{Term, Variable}
 use Rattle.model.specs.Programs.{Name, Symbol, Rule, Program}
+pub use Rattle.text_core.specs.Choices.{when}
 use Rattle.its_reader.specs.Lexing.{Piece, Word, OpenBracket, CloseBracket, Comma, Arrow}
 use Rattle.its_reader.specs.Numbering.{is_same, is_among, place_of, is_com, with_symbol, has_symbol, number_of, arity_of}
 
@@ -48,10 +49,6 @@ pub data State : Type 0 where
 -- whether a name is within the limit
 abbrev pub is_short : Name → Bool
 is_short name = nat_le (length name) 256
-
--- the value where a test passes
-abbrev pub when : {X : Type 0} → Bool → X → Option X
-when test x = if test then Some x else None
 
 -- nothing is known yet
 abbrev pub empty_book : Book

@@ -2,7 +2,7 @@
 use Rattle.std.specs.Prelude.{◌≡◌, ℕ, ◌<◌, length, List, map, IsTrue}
 use Rattle.model.specs.Programs as plain
 use Rattle.its_model.specs.Views.{name_of}
-use Rattle.its_model.specs.declared.name.Name.{Name}
+use Rattle.text_core.specs.declared.name.Name.{Name}
 use Rattle.its_reader.specs.Numbering.{has_symbol, number_of, arity_of}
 use Rattle.its_reader.specs.declared.symbols.Symbols.{Symbols}
 

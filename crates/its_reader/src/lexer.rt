@@ -1,11 +1,10 @@
 // The text's pieces, one after the other.
 
 ghost use Rattle.std.specs.Prelude.{◌≡◌, ◌<◌, ◌≤◌, ◌∷◌, length, IfSome, MatchOption, IsFalse};
-ghost use Rattle.its_reader.specs.Lexing.{is_blank as is_blank_byte, begins_name as begins_name_at, continues_name as continues_name_at, AreBlank};
-ghost use Rattle.its_model.specs.Fronts.{front, behind};
+ghost use Rattle.its_reader.specs.Lexing.{begins_name as begins_name_at, AreBlank};
 ghost use Rattle.its_reader.specs.Lexemes.{BeginsName, Shows, Finds};
 
-use its_model::{begins_name, name_len};
+use text_core::{begins_name, behind_white_space, name_len};
 
 /// A piece of the text, or what stands where a piece should.
 #[derive(Clone, Copy)]
@@ -19,26 +18,6 @@ pub enum Lexeme<'a> {
     Wrong,
     /// A byte over 127.
     Strange,
-}
-
-fn is_blank(byte: u8) -> bool
-    ensures { result ≡ is_blank_byte byte }
-{
-    byte == b' ' || byte == b'\t' || byte == b'\r' || byte == b'\n'
-}
-
-fn behind_blanks(bytes: &[u8]) -> &[u8]
-    ensures value { result.now ≡ behind is_blank_byte bytes.now }
-    ensures shorter { length result.now ≤ length bytes.now }
-{
-    let mut text = bytes;
-    while let [first, rest @ ..] = text {
-        if !is_blank(*first) {
-            break;
-        }
-        text = rest;
-    }
-    text
 }
 
 // The name that a text begins with, and what follows it.
@@ -75,7 +54,7 @@ pub fn next(bytes: &[u8]) -> Option<(Lexeme<'_>, &[u8])>
     ensures found { MatchOption result (AreBlank bytes.now) (λ r. Finds bytes.now r.0 r.1.now) }
     ensures shorter { IfSome result (λ r. length r.1.now < length bytes.now) }
 {
-    let text = behind_blanks(bytes);
+    let text = behind_white_space(bytes);
     let (first, rest) = text.split_first()?;
     if begins_name(*first) {
         Some(word(text))

@@ -12,8 +12,6 @@ mod place;
 mod reading;
 mod steps;
 mod symbols;
-#[cfg(test)]
-mod tests;
 mod variables;
 
 pub use error::ReadError;

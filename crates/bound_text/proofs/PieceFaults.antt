@@ -1,0 +1,119 @@
+-- Taking a piece comes to the first of what stands against it.
+use Rattle.std.proofs.Common.{◌≡◌, ℕ, ◌<◌, ◌≤◌, nat_lt, Bool, true, false, cond, ◌&&◌, List, Option, Some, None, refl, ap, sym, subst, ◌∙◌, inl, inr, arith}
+use Rattle.std.specs.Prelude.{◌⊎◌}
+use Rattle.std.proofs.lemmas.Bool.{ltb-true, ltb-false}
+use Rattle.std.proofs.lemmas.Bool.Decides.{nat_tests}
+use Rattle.bound_text.specs.Pieces.{Piece}
+use Rattle.bound_text.specs.Kinds.{Kind, Syntax, NumberTooLarge, UnknownName, TooDeep, TooLarge, number_of}
+use Rattle.bound_text.specs.Fronts.{Front, IsFront, nodes_of, inner_levels, levels_of}
+use Rattle.bound_text.specs.Steps.{step}
+use Rattle.bound_text.specs.Checks.{Checked, Refused, Reached, fault_of, begins, has_large_base, judged, checked, caret_next}
+use Rattle.bound_text.specs.Reading.{is_deep, has_many, stands}
+use Rattle.bound_text.proofs.StepCases.{step_leads}
+use Rattle.bound_text.proofs.TreeSizes.{grows}
+use Rattle.bound_expr.specs.Limits.{depth_limit, node_limit}
+
+-- a number past a limit passes the test, and one within it doesn't
+past : (a b : ℕ) → a < b → nat_lt a b ≡ true
+past a b h = grind (arith, nat_tests)
+
+within : (a b : ℕ) → b ≤ a → nat_lt a b ≡ false
+within a b h = grind (arith, nat_tests)
+
+module _ (n : ℕ) (f : Front) (piece : Piece) (behind : List Piece) where
+  -- a kind that stands against the piece, or `Syntax` where it leads nowhere
+  pub record IsRefused (kind : Kind) : Type 0 where
+    pub is : (stands n f piece behind kind ≡ true) ⊎ ((step f piece ≡ None) × (kind ≡ Syntax))
+    pub nowhere : step f piece ≡ None → kind ≡ Syntax
+    pub least : (other : Kind) → stands n f piece behind other ≡ true → number_of kind ≤ number_of other
+
+  -- where the piece leads, with nothing against it
+  pub record IsTaken (g : Front) : Type 0 where
+    pub leads : step f piece ≡ Some g
+    pub none : (other : Kind) → stands n f piece behind other ≡ false
+    pub levels : levels_of g ≤ depth_limit
+    pub nodes : nodes_of g ≤ node_limit
+
+  -- what taking the piece comes to
+  abbrev pub IsJudged : Checked → Type 0
+  IsJudged (Refused kind) = IsRefused kind
+  IsJudged (Reached g) = IsTaken g
+
+  -- a step that leads somewhere leads not nowhere
+  somewhere : {X : Type 0} (g : Front) → step f piece ≡ Some g → step f piece ≡ None → X
+  somewhere g e none = cc
+
+  -- the first kind is the least
+  one_least : (other : Kind) → 1 ≤ number_of other
+  one_least Syntax = omega arith
+  one_least NumberTooLarge = omega arith
+  one_least UnknownName = omega arith
+  one_least TooDeep = omega arith
+  one_least TooLarge = omega arith
+
+  -- with the levels of the innermost bound all levels are within the limit
+  shallow_after : IsFront f → levels_of f ≤ depth_limit → (g : Front) → step f piece ≡ Some g → inner_levels g ≤ depth_limit → levels_of g ≤ depth_limit
+  shallow_after is shallow g e h = let r = (grows f g piece (step_leads f g piece is e)).round in omega (arith, r, shallow, h)
+
+  -- with no other fault, the limits decide
+  judge_size : IsFront f → levels_of f ≤ depth_limit → (g : Front) → step f piece ≡ Some g → stands n f piece behind Syntax ≡ false → stands n f piece behind NumberTooLarge ≡ false → stands n f piece behind UnknownName ≡ false
+      → (d m : Bool) → nat_lt depth_limit (inner_levels g) ≡ d → nat_lt node_limit (nodes_of g) ≡ m → IsJudged (cond d (Refused TooDeep) (cond m (Refused TooLarge) (Reached g)))
+  judge_size is shallow g e s l u true m deep big = record { is = inl (ap is_deep e ∙ past depth_limit (levels_of g) (let d = ltb-true depth_limit (inner_levels g) deep in omega (arith, d))); nowhere = somewhere g e; least = least }
+    where
+      least : (other : Kind) → stands n f piece behind other ≡ true → 4 ≤ number_of other
+      least Syntax t = cc
+      least NumberTooLarge t = cc
+      least UnknownName t = cc
+      least TooDeep t = omega arith
+      least TooLarge t = omega arith
+  judge_size is shallow g e s l u false true deep big = record { is = inl (ap has_many e ∙ big); nowhere = somewhere g e; least = least }
+    where
+      few : stands n f piece behind TooDeep ≡ false
+      few = ap is_deep e ∙ within depth_limit (levels_of g) (shallow_after is shallow g e (ltb-false depth_limit (inner_levels g) deep))
+
+      least : (other : Kind) → stands n f piece behind other ≡ true → 5 ≤ number_of other
+      least Syntax t = cc
+      least NumberTooLarge t = cc
+      least UnknownName t = cc
+      least TooDeep t = let k = few in cc
+      least TooLarge t = omega arith
+  judge_size is shallow g e s l u false false deep big = record { leads = e; none = none; levels = few; nodes = ltb-false node_limit (nodes_of g) big }
+    where
+      few : levels_of g ≤ depth_limit
+      few = shallow_after is shallow g e (ltb-false depth_limit (inner_levels g) deep)
+
+      none : (other : Kind) → stands n f piece behind other ≡ false
+      none Syntax = s
+      none NumberTooLarge = l
+      none UnknownName = u
+      none TooDeep = ap is_deep e ∙ within depth_limit (levels_of g) few
+      none TooLarge = ap has_many e ∙ big
+
+  -- the tests of the piece decide before
+  judge : IsFront f → levels_of f ≤ depth_limit → (o : Option Front) → step f piece ≡ o → (s l u : Bool) → stands n f piece behind Syntax ≡ s → stands n f piece behind NumberTooLarge ≡ l → stands n f piece behind UnknownName ≡ u
+      → IsJudged (judged (cond s (Some Syntax) (cond l (Some NumberTooLarge) (cond u (Some UnknownName) None))) o)
+  judge is shallow None e s l u se le ue = record { is = inr (e, refl); nowhere = λ h. refl; least = λ other t. one_least other }
+  judge is shallow (Some g) e true l u se le ue = record { is = inl se; nowhere = somewhere g e; least = λ other t. one_least other }
+  judge is shallow (Some g) e false true u se le ue = record { is = inl le; nowhere = somewhere g e; least = least }
+    where
+      least : (other : Kind) → stands n f piece behind other ≡ true → 2 ≤ number_of other
+      least Syntax t = cc
+      least NumberTooLarge t = omega arith
+      least UnknownName t = omega arith
+      least TooDeep t = omega arith
+      least TooLarge t = omega arith
+  judge is shallow (Some g) e false false true se le ue = record { is = inl ue; nowhere = somewhere g e; least = least }
+    where
+      least : (other : Kind) → stands n f piece behind other ≡ true → 3 ≤ number_of other
+      least Syntax t = cc
+      least NumberTooLarge t = cc
+      least UnknownName t = omega arith
+      least TooDeep t = omega arith
+      least TooLarge t = omega arith
+  judge is shallow (Some g) e false false false se le ue = judge_size is shallow g e se le ue (nat_lt depth_limit (inner_levels g)) (nat_lt node_limit (nodes_of g)) refl refl
+
+  -- what taking the piece comes to
+  pub piece_judged : IsFront f → levels_of f ≤ depth_limit → has_large_base f piece ≡ false → IsJudged (checked n (caret_next behind) f piece)
+  piece_judged is shallow h =
+      subst (λ (v : Bool). IsJudged (cond v (Refused NumberTooLarge) (judged (fault_of n (begins f.place && caret_next behind) piece) (step f piece)))) (sym h)
+      (judge is shallow (step f piece) refl _ _ _ refl refl refl)

@@ -1,0 +1,89 @@
+-- The reader of bounds keeps the laws of a reader, and its fronts tell what has been read.
+use Rattle.std.proofs.Common.{◌≡◌, ℕ, Bool, true, false, cond, List, [], ◌∷◌, Option, Some, None, refl, ap, sym, ◌∙◌, inl, inr}
+use Rattle.std.specs.Prelude.{◌⊎◌}
+use Rattle.model.specs.Bounds.{Bound, Constant, Input, PowerOf, Parts}
+use Rattle.text_core.specs.Readers.{onto, next, reached, IsBeginning}
+use Rattle.text_core.specs.Laws.{Laws}
+use Rattle.text_core.proofs.Walks.{walk-onto, onto-append}
+use Rattle.text_core.proofs.FirstFaults.{nowhere_begins}
+use Rattle.bound_text.specs.Shapes.{with_part}
+use Rattle.bound_text.specs.Pieces.{Piece, Number, Caret}
+use Rattle.bound_text.specs.Fronts.{Outer, Front, Place, Begins, RunCaret, PowerCaret, ItemRead, BlankRead, PlusRead, CommaRead, Whole, IsFront, last, init}
+use Rattle.bound_text.specs.Checks.{begins, takes_caret}
+use Rattle.bound_text.specs.Steps.{step, step_at, walk, beginning, with_copies, front_at, caret_behind}
+use Rattle.bound_text.specs.Faults.{FrontsAreRead}
+use Rattle.bound_text.specs.Reading.{bounds}
+use Rattle.bound_text.proofs.PartLaws.{last-with_part, init-with_part}
+use Rattle.bound_text.proofs.RunLaws.{run_settled}
+use Rattle.bound_text.proofs.CompletenessLaws.{terms_in, factors_in}
+use Rattle.bound_text.proofs.WalkLaws.{walk_read, read_walk, walk_reads, walk_whole, whole_walk, walk_begins}
+
+-- the front that pieces lead to, by a walk through them in order
+walked : (n : ℕ) (done : List Piece) (f : Front) → reached (bounds n) done ≡ Some f → walk (Some beginning) (onto done []) ≡ Some f
+walked n done f e = walk-onto (bounds n) done [] ∙ e
+
+-- what has been read is a front
+pub is_front : (n : ℕ) (done : List Piece) (f : Front) → reached (bounds n) done ≡ Some f → IsFront f
+is_front n done f e = (walk_read (onto done []) f (walked n done f e)).is_front
+
+-- the laws
+pub bound_laws : (n : ℕ) → Laws (bounds n)
+bound_laws n = record {
+  goes_on = λ done f e. let b = walk_begins (onto done []) f (walked n done f e) in (b.0, b.1, (b.2, b.3 ∙ sym (onto-append done [] b.1)));
+  ends = λ done f t e fin. walk_whole (onto done []) f t (walked n done f e) fin;
+  reads = λ t ps w. let x = whole_walk ps t w.0 w.1 in (front_at Whole (terms_in t) (factors_in t) ItemRead, x.0, x.1);
+}
+
+-- where nothing takes `^`, none can follow
+no_caret : (fs : Parts) (b : Option Bound) (o : Outer) (ts : Parts) → takes_caret fs b ≡ false → caret_behind o ts fs b ≡ None
+no_caret fs None o ts h = refl
+no_caret fs (Some (Constant c)) o ts h = cc
+no_caret fs (Some (Input i)) o ts h = ap (λ (v : Bool). cond v (Some (front_at o ts fs (RunCaret i))) None) h
+no_caret fs (Some b) o ts h = refl
+
+-- a base can stand where an item begins alone
+base_begins : (f : Front) → next step (step f (Number 2)) Caret ≡ None ⊎ (begins f.place ≡ true)
+base_begins f = go f.place
+  where
+    go : (place : Place) → next step (step_at place f.outer f.terms f.factors (Number 2)) Caret ≡ None ⊎ (begins place ≡ true)
+    go Begins = inr refl
+    go (RunCaret i) = inl (no_caret (init (with_copies 2 i f.factors)) (last (with_copies 2 i f.factors)) f.outer f.terms (run_settled 0 i f.factors))
+    go (PowerCaret c) = inl (ap (λ (b : Option Bound). caret_behind f.outer f.terms (init (with_part f.factors (PowerOf c (Constant 2)))) b) (last-with_part f.factors (PowerOf c (Constant 2))))
+    go ItemRead = inl refl
+    go BlankRead = inl refl
+    go PlusRead = inl refl
+    go CommaRead = inl refl
+
+-- where an item begins a base can stand
+begins_base : (f : Front) → begins f.place ≡ true → (g : Front) × (next step (step f (Number 2)) Caret ≡ Some g)
+begins_base f h = go f.place h
+  where
+    go : (place : Place) → begins place ≡ true → (g : Front) × (next step (step_at place f.outer f.terms f.factors (Number 2)) Caret ≡ Some g)
+    go Begins h = (
+      front_at f.outer f.terms f.factors (PowerCaret 2),
+      ap (λ (b : Option Bound). caret_behind f.outer f.terms (init (with_part f.factors (Constant 2))) b) (last-with_part f.factors (Constant 2))
+          ∙ ap (λ (gs : Parts). caret_behind f.outer f.terms gs (Some (Constant 2))) (init-with_part f.factors (Constant 2)),
+    )
+    go (RunCaret i) h = cc
+    go (PowerCaret c) h = cc
+    go ItemRead h = cc
+    go BlankRead h = cc
+    go PlusRead h = cc
+    go CommaRead h = cc
+
+-- two more pieces
+two_more : (n : ℕ) (done : List Piece) (f : Front) (a b : Piece) → reached (bounds n) done ≡ Some f → reached (bounds n) (b ∷ a ∷ done) ≡ next step (step f a) b
+two_more n done f a b e = ap (λ (o : Option Front). next step (next step o a) b) e
+
+-- fronts tell what has been read
+pub fronts_are_read : FrontsAreRead
+fronts_are_read = record {
+  read = λ n done f e. let r = walk_reads (onto done []) f (walked n done f e) in (r.is, r.text);
+  leads = λ n done f is e. sym (walk-onto (bounds n) done []) ∙ read_walk (onto done []) f (record { is = is; text = e });
+  base = λ n done f e h. let g = begins_base f h in (bound_laws n).goes_on (Caret ∷ Number 2 ∷ done) g.0 (two_more n done f (Number 2) Caret e ∙ g.1);
+  begins = λ n done f e b. go n done f e b (base_begins f);
+}
+  where
+    go : (n : ℕ) (done : List Piece) (f : Front) → reached (bounds n) done ≡ Some f → IsBeginning (bounds n) (Caret ∷ Number 2 ∷ done) → next step (step f (Number 2)) Caret ≡ None ⊎ (begins f.place ≡ true) → begins f.place ≡ true
+    go n done f e b (inr h) = h
+    go n done f e b (inl none) = absurd (nowhere_begins (bounds n) (bound_laws n) (Caret ∷ Number 2 ∷ done) (two_more n done f (Number 2) Caret e ∙ none) b)

@@ -1,8 +1,0 @@
-use Rattle.std.proofs.Common.{◌≡◌, ◌+◌, length, drop}
-use Rattle.std.specs.Char.{is_ascii_digit}
-use Rattle.its_model.specs.Fronts.{front}
-use Rattle.bound_text.proofs.lexer.digits_len.Given as goal
-
--- the bytes passed are digits, and so are those at the front of what is left
-abbrev pub invariant-loop-i : goal.invariant-loop-i
-invariant-loop-i l = l.i + length (front is_ascii_digit (drop l.i l.bytes)) ≡ length (front is_ascii_digit l.bytes)

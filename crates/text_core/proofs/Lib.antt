@@ -1,0 +1,14 @@
+pub mod PrefixLaws
+pub mod NameLaws
+pub mod PositionLaws
+pub mod NumberLaws
+pub mod KeyLaws
+pub mod Orders
+pub mod Walks
+pub mod FirstFaults
+pub mod ShownFaults
+pub mod Lexing
+pub mod Stopping
+pub mod Limits
+pub mod RowLaws
+pub mod WorkedValues

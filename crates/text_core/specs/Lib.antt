@@ -1,0 +1,14 @@
+pub mod Prefixes
+pub mod Names
+pub mod Choices
+pub mod Bytes
+pub mod Tokens
+pub mod Readers
+pub mod Faults
+pub mod Reading
+pub mod Laws
+pub mod Stopping
+pub mod Limits
+pub mod Listed
+pub mod Rows
+pub mod Worked

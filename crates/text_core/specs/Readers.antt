@@ -1,0 +1,60 @@
+-- A reader: trees with the pieces that they are written as, and how the pieces of a text lead from front to front.
+use Rattle.std.specs.Prelude.{ℕ, List, [], ◌∷◌, Option, Some, None}
+use Rattle.text_core.specs.Tokens.{Token}
+
+-- a refusal of some kind at a position
+pub record Fault (K : Type 0) : Type 0 where
+  pub kind : K
+  pub at : ℕ
+
+-- a reader of trees T that are written in pieces P: a front F tells what has been read so far, and faults have kinds K
+pub record Reader (P T F K : Type 0) : Type 1 where
+  -- the tree is written as these pieces
+  pub Writes : T → List P → Type 0
+  -- nothing has been read
+  pub beginning : F
+  -- where a piece leads, if it can follow
+  pub step : F → P → Option F
+  -- the tree of a text that ends here, if it can
+  pub finish : F → Option T
+  -- of two kinds at one position the one with the lesser number comes first
+  pub number : K → ℕ
+  -- what a front shows against a text of so many bytes, with the tokens before it, the last one first, and those behind it
+  pub shown : ℕ → List (Token P) → F → List (Token P) → List (Fault K)
+  -- the kind of refusal where the text breaks off at the tokens behind a front
+  pub off : F → List (Token P) → K
+
+-- what comes before, the last one first, and then the rest
+abbrev pub onto : {X : Type 0} → List X → List X → List X
+onto [] rest = rest
+onto (x ∷ done) rest = onto done (x ∷ rest)
+
+-- where one more piece leads
+abbrev pub next : {P F : Type 0} → (F → P → Option F) → Option F → P → Option F
+next step None p = None
+next step (Some f) p = step f p
+
+-- where pieces lead
+abbrev pub walk : {P F : Type 0} → (F → P → Option F) → Option F → List P → Option F
+walk step o [] = o
+walk step None (p ∷ ps) = None
+walk step (Some f) (p ∷ ps) = walk step (step f p) ps
+
+module _ {P T F K : Type 0} (r : Reader P T F K) where
+  -- the front that pieces lead to, the last one first
+  abbrev pub reached : List P → Option F
+  reached [] = Some r.beginning
+  reached (p ∷ done) = next r.step (reached done) p
+
+  -- some pieces behind these make a whole text
+  abbrev pub IsBeginning : List P → Type 0
+  IsBeginning done = (t : T) × (more : List P) × r.Writes t (onto done more)
+
+  -- these pieces are a whole text
+  abbrev pub IsWhole : List P → Type 0
+  IsWhole done = (t : T) × r.Writes t (onto done [])
+
+  -- a text begins with what is done and doesn't go on like this: the next piece can't follow, or the text ends too early
+  abbrev pub BreaksOff : List P → List P → Type 0
+  BreaksOff done [] = IsBeginning done × ¬ IsWhole done
+  BreaksOff done (p ∷ rest) = IsBeginning done × ¬ IsBeginning (p ∷ done)

@@ -1,0 +1,62 @@
+-- What a reader does: it keeps the least fault that it is shown, and stops where its step leads nowhere.
+use Rattle.std.specs.Prelude.{◌≡◌, ℕ, Bool, if◌then◌else◌, nat_lt, ◌==◌, ◌&&◌, ◌||◌, List, [], ◌∷◌, Option, Some, None}
+use Rattle.text_core.specs.Tokens.{Token, pieces}
+use Rattle.text_core.specs.Readers.{Fault, Reader}
+use Rattle.text_core.specs.Faults.{off_at, FaultAt, IsFirst}
+
+-- what reading comes to: a tree, or a refusal
+pub data Answer (T K : Type 0) : Type 0 where
+  Stands : T → Answer T K
+  Refused : Fault K → Answer T K
+
+-- how far reading has come: it is over, or stands at a front behind tokens, the last one first, with the least fault so far
+pub data Progress (P F K : Type 0) : Type 0 where
+  Stopped : Fault K → Progress P F K
+  Going : Option (Fault K) → List (Token P) → F → Progress P F K
+
+module _ {P T F K : Type 0} (r : Reader P T F K) where
+  -- whether a fault comes before another
+  abbrev pub is_before : Fault K → Fault K → Bool
+  is_before x y = nat_lt x.at y.at || ((x.at == y.at) && nat_lt (r.number x.kind) (r.number y.kind))
+
+  -- the first of a fault so far and another
+  abbrev pub first_of : Option (Fault K) → Fault K → Fault K
+  first_of None y = y
+  first_of (Some x) y = if is_before y x then y else x
+
+  -- the first of a fault so far and others
+  abbrev pub first_among : Option (Fault K) → List (Fault K) → Option (Fault K)
+  first_among best [] = best
+  first_among best (x ∷ xs) = first_among (Some (first_of best x)) xs
+
+  -- the answer at the end of a text
+  abbrev pub ended : Option (Fault K) → Option T → Fault K → Answer T K
+  ended None (Some t) off = Stands t
+  ended (Some x) (Some t) off = Refused x
+  ended best None off = Refused (first_of best off)
+
+  -- one token further
+  abbrev pub further : Option (Fault K) → List (Token P) → Token P → Option F → Fault K → Progress P F K
+  further best done p None off = Stopped (first_of best off)
+  further best done p (Some g) off = Going best (p ∷ done) g
+
+  -- the answer to a text of n bytes, from the tokens that are left
+  abbrev pub run : ℕ → Progress P F K → List (Token P) → Answer T K
+  run n (Stopped x) [] = Refused x
+  run n (Going best done f) [] = ended (first_among best (r.shown n done f [])) (r.finish f) (off_at r n f [])
+  run n (Stopped x) (p ∷ rest) = Refused x
+  run n (Going best done f) (p ∷ rest) = run n (further (first_among best (r.shown n done f (p ∷ rest))) done p (r.step f p.piece) (off_at r n f (p ∷ rest))) rest
+
+  -- the answer to a text
+  abbrev pub answer : ℕ → List (Token P) → Answer T K
+  answer n ts = run n (Going None [] r.beginning) ts
+
+  -- an answer is right: a tree that is written so, where the text has no fault and stands for no other tree, or its first fault
+  pub record IsTree (n : ℕ) (ts : List (Token P)) (t : T) : Type 0 where
+    pub written : r.Writes t (pieces ts)
+    pub faultless : (x : Fault K) → ¬ FaultAt r n ts x
+    pub only : (u : T) → r.Writes u (pieces ts) → u ≡ t
+
+  abbrev pub Answers : ℕ → List (Token P) → Answer T K → Type 0
+  Answers n ts (Stands t) = IsTree n ts t
+  Answers n ts (Refused x) = IsFirst r n ts x

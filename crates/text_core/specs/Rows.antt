@@ -1,0 +1,94 @@
+-- A small language, on which the definitions of faults are tried: numbers with commas between them, as in `1, 23`.
+use Rattle.std.specs.Prelude.{◌≡◌, ℕ, ◌+◌, ◌-◌, if◌then◌else◌, nat_lt, ◌==◌, Option, Some, None, List, [], ◌∷◌, length}
+use Rattle.std.specs.Char.{is_ascii_digit}
+use Rattle.std.specs.Str.Parse.{digits_value}
+use Rattle.text_core.specs.Prefixes.{prefix}
+use Rattle.text_core.specs.Bytes.{is_white_space}
+use Rattle.text_core.specs.Tokens.{Token, Lexeme}
+use Rattle.text_core.specs.Readers.{Fault, Reader}
+
+-- a number, a comma, or what is no piece of any text
+pub data Piece : Type 0 where
+  Number : ℕ → Piece
+  Comma : Piece
+  Wrong : Piece
+
+-- one number, or one more at the end
+pub data Row : Type 0 where
+  One : ℕ → Row
+  More : Row → ℕ → Row
+
+-- nothing has been read, or a row, or a row and a comma
+pub data Front : Type 0 where
+  Begins : Front
+  Behind : Row → Front
+  Open : Row → Front
+
+-- the kinds of refusals: no text; a number over 9; more than three numbers
+pub data Kind : Type 0 where
+  Syntax : Kind
+  TooLarge : Kind
+  TooMany : Kind
+
+-- the number of a kind
+abbrev pub number_of : Kind → ℕ
+number_of Syntax = 1
+number_of TooLarge = 2
+number_of TooMany = 3
+
+-- the pieces of a row, and then the rest
+abbrev pub row_then : Row → List Piece → List Piece
+row_then (One n) rest = Number n ∷ rest
+row_then (More row n) rest = row_then row (Comma ∷ Number n ∷ rest)
+
+-- the row is written as these pieces
+abbrev pub Writes : Row → List Piece → Type 0
+Writes row ps = row_then row [] ≡ ps
+
+-- where a piece leads
+abbrev pub step : Front → Piece → Option Front
+step Begins (Number n) = Some (Behind (One n))
+step (Behind row) Comma = Some (Open row)
+step (Open row) (Number n) = Some (Behind (More row n))
+step f p = None
+
+-- the row of a text that ends here
+abbrev pub finish : Front → Option Row
+finish (Behind row) = Some row
+finish f = None
+
+-- how many numbers there are
+abbrev pub count : Row → ℕ
+count (One n) = 1
+count (More row n) = count row + 1
+
+-- a number over 9 that comes next shows at its first byte
+abbrev pub large_at : Piece → ℕ → List (Fault Kind)
+large_at (Number n) at = if nat_lt 9 n then record { kind = TooLarge; at = at } ∷ [] else []
+large_at p at = []
+
+abbrev pub large_next : List (Token Piece) → List (Fault Kind)
+large_next [] = []
+large_next (t ∷ rest) = large_at t.piece t.at
+
+-- more than three numbers show at the last byte of the last piece, where the text ends
+abbrev pub many_behind : List (Token Piece) → Front → List (Token Piece) → List (Fault Kind)
+many_behind (t ∷ done) (Behind row) [] = if nat_lt 3 (count row) then record { kind = TooMany; at = t.upto - 1 } ∷ [] else []
+many_behind done f rest = []
+
+-- what a front shows: a large number that could follow, or a row with too many
+abbrev pub shown : ℕ → List (Token Piece) → Front → List (Token Piece) → List (Fault Kind)
+shown n done (Behind row) rest = many_behind done (Behind row) rest
+shown n done f rest = large_next rest
+
+-- the reader of rows
+abbrev pub rows : Reader Piece Row Front Kind
+rows = record { Writes = Writes; beginning = Begins; step = step; finish = finish; number = number_of; shown = shown; off = λ f rest. Syntax }
+
+-- the piece that begins with a byte; white space stands between pieces
+abbrev pub lexeme_at : ℕ → List ℕ → Lexeme (Option Piece)
+lexeme_at b bytes =
+    if is_white_space b then record { piece = None; len = 1 }
+    else if is_ascii_digit b then record { piece = Some (Number (digits_value 10 (b ∷ prefix is_ascii_digit bytes))); len = length (b ∷ prefix is_ascii_digit bytes) }
+    else if b == 44 then record { piece = Some Comma; len = 1 }
+    else record { piece = Some Wrong; len = 1 }

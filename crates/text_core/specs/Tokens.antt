@@ -1,0 +1,48 @@
+-- The pieces of a text with their positions.
+use Rattle.std.specs.Prelude.{ℕ, zero, suc, ◌+◌, ◌-◌, Option, Some, None, List, [], ◌∷◌, length, ◌≤◌, ◌<◌}
+
+-- a piece, the position of its first byte, and the one behind its last byte
+pub record Token (P : Type 0) : Type 0 where
+  pub piece : P
+  pub at : ℕ
+  pub upto : ℕ
+
+-- what a text begins with, and the number of its bytes
+pub record Lexeme (P : Type 0) : Type 0 where
+  pub piece : P
+  pub len : ℕ
+
+-- the pieces of tokens
+abbrev pub pieces : {P : Type 0} → List (Token P) → List P
+pieces [] = []
+pieces (t ∷ ts) = t.piece ∷ pieces ts
+
+-- the token of a piece at a position, before others; bytes that stand between pieces are no piece and make none
+abbrev pub token_then : {P : Type 0} → ℕ → ℕ → Option P → List (Token P) → List (Token P)
+token_then at len None ts = ts
+token_then at len (Some p) ts = record { piece = p; at = at; upto = at + len } ∷ ts
+
+-- the tokens of bytes that stand at a position, behind so many that are passed over: each lexeme begins where the one
+-- before it ends
+abbrev pub tokens_from : {P : Type 0} → (ℕ → List ℕ → Lexeme (Option P)) → ℕ → ℕ → List ℕ → List (Token P)
+tokens_from lexeme_at at skip [] = []
+tokens_from lexeme_at at (suc skip) (b ∷ bytes) = tokens_from lexeme_at (at + 1) skip bytes
+tokens_from lexeme_at at zero (b ∷ bytes) =
+    token_then at (lexeme_at b bytes).len (lexeme_at b bytes).piece (tokens_from lexeme_at (at + 1) ((lexeme_at b bytes).len - 1) bytes)
+
+-- a lexer for texts of pieces alone, with nothing between them
+abbrev pub each_piece : {P : Type 0} → (ℕ → List ℕ → Lexeme P) → ℕ → List ℕ → Lexeme (Option P)
+each_piece lexeme_at b bytes = record { piece = Some (lexeme_at b bytes).piece; len = (lexeme_at b bytes).len }
+
+-- the tokens of a text
+abbrev pub tokens_of : {P : Type 0} → (ℕ → List ℕ → Lexeme (Option P)) → List ℕ → List (Token P)
+tokens_of lexeme_at bytes = tokens_from lexeme_at 0 0 bytes
+
+-- tokens stand one behind the other, from a position on up to another, and each has a byte at least
+abbrev pub AreInOrder : {P : Type 0} → ℕ → List (Token P) → ℕ → Type 0
+AreInOrder from [] upto = from ≤ upto
+AreInOrder from (t ∷ ts) upto = (from ≤ t.at) × (t.at < t.upto) × AreInOrder t.upto ts upto
+
+-- a lexeme has a byte at least, and no more than there are
+pub record LexesWithin {P : Type 0} (lexeme_at : ℕ → List ℕ → Lexeme P) : Type 0 where
+  pub each : (b : ℕ) (bytes : List ℕ) → (0 < (lexeme_at b bytes).len) × ((lexeme_at b bytes).len ≤ length (b ∷ bytes))
