@@ -1,3 +1,4 @@
-pub mod FrontLaws
-pub mod NameLaws
 pub mod WorkedValues
+pub mod ListLaws
+mod StepLaws
+mod RuleLaws

@@ -1,38 +1,13 @@
--- The worked values of names and of the views.
+-- The worked values of the views.
 use Rattle.std.proofs.Common.{◌≡◌, ℕ, true, false, List, [], ◌∷◌, map, refl, ap, ◌∙◌}
 use Rattle.model.specs.Programs as plain
 use Rattle.poly_terms.specs.Views.{term_of}
-use Rattle.its_model.specs.declared.name.Name.{Name}
+use Rattle.text_core.specs.declared.name.Name.{Name}
 use Rattle.its_model.specs.declared.program.Symbol.{Symbol}
 use Rattle.its_model.specs.declared.program.Rule.{Rule}
 use Rattle.its_model.specs.declared.program.Program.{Program}
 use Rattle.its_model.specs.Views.{name_of, atom_of, symbol_of, rule_of, program_of}
-use Rattle.its_model.specs.Worked.{NamesAreTold, PlacesAreFound, GuardsAreRead, ProgramsAreRead, RunsAreRead, IsSymbol, AreSpelled, IsFirstRule, first_rule, IsSecondRule, second_rule, IsWorkedProgram, worked_program}
-
--- a test that fails doesn't pass
-fails : false ≡ true → ⊥
-fails h = cc
-
--- the bytes are names, or none, as was worked out
-pub names : NamesAreTold
-names = record {
-  small_letter = (refl, refl);
-  capital_letter = (refl, refl);
-  underscore = (refl, refl);
-  dollar = (refl, refl);
-  goes_on = (refl, refl);
-  digit_first = λ h. fails h.0;
-  apostrophe_first = λ h. fails h.0;
-  dot_first = λ h. fails h.0;
-  space_in_it = λ h. fails h.1;
-  minus_behind_it = λ h. fails h.1;
-  minus_in_it = λ h. fails h.1;
-  nothing = λ h. h;
-}
-
--- names are the same, and stand at the places, as was worked out
-pub places : PlacesAreFound
-places = record { same = refl; other = refl; small_for_capital = refl; longer = refl; shorter = refl; first = refl; twice = refl; absent = refl; among_none = refl }
+use Rattle.its_model.specs.Worked.{GuardsAreRead, ProgramsAreRead, RunsAreRead, IsSymbol, AreSpelled, IsFirstRule, first_rule, IsSecondRule, second_rule, IsWorkedProgram, worked_program}
 
 -- relations and atoms are read as was worked out
 pub guards : GuardsAreRead

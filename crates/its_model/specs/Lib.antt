@@ -1,4 +1,6 @@
-pub mod Fronts
-pub mod Names
 pub mod Views
 pub mod Worked
+pub mod Valid
+pub mod Steps
+pub mod StepAnswers
+pub mod Ready

@@ -2,9 +2,9 @@
 use Rattle.std.specs.Prelude.{map}
 use Rattle.poly_terms.specs.Views.{term_of}
 use Rattle.model.specs.Programs as plain
+pub use Rattle.text_core.specs.Names.{name_of}
 use Rattle.model.specs.Programs.{AtLeast, MoreThan, AtMost, LessThan, EqualTo}
 use Rattle.model.specs.Runs as runs
-use Rattle.its_model.specs.declared.name.Name.{Name}
 use Rattle.its_model.specs.declared.guard.Rel.{Rel}
 use Rattle.its_model.specs.declared.guard.Rel.TheVariants.{Ge, Gt, Le, Lt, Eq}
 use Rattle.its_model.specs.declared.guard.Atom.{Atom}
@@ -14,10 +14,6 @@ use Rattle.its_model.specs.declared.program.Rule.{Rule}
 use Rattle.its_model.specs.declared.program.Program.{Program}
 use Rattle.its_model.specs.declared.run.Config.{Config}
 use Rattle.its_model.specs.declared.run.Step.{Step}
-
--- a name as its bytes
-abbrev pub name_of : Name → plain.Name
-name_of n = n.bytes.items
 
 -- a relation as plain data
 abbrev pub relation_of : Rel → plain.Relation

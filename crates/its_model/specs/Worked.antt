@@ -1,10 +1,10 @@
--- What was worked out by hand of names, and of how programs, configurations and steps are read.
+-- What was worked out by hand of how programs, configurations and steps are read.
 use Rattle.std.specs.Prelude.{◌≡◌, ℕ, true, false, List, [], ◌∷◌, pos, negsuc, ⊤}
 use Rattle.model.specs.Terms.{Literal, Variable}
 use Rattle.model.specs.Programs as plain
 use Rattle.model.specs.Programs.{AtLeast, MoreThan, AtMost, LessThan, EqualTo}
 use Rattle.poly_terms.specs.declared.expr.Expr.TheVariants.{Num, Var}
-use Rattle.its_model.specs.declared.name.Name.{Name}
+use Rattle.text_core.specs.declared.name.Name.{Name}
 use Rattle.its_model.specs.declared.guard.Rel.TheVariants.{Ge, Gt, Le, Lt, Eq}
 use Rattle.its_model.specs.declared.guard.Atom.TheVariants.{Always, Compare}
 use Rattle.its_model.specs.declared.program.Symbol.{Symbol}
@@ -12,51 +12,11 @@ use Rattle.its_model.specs.declared.program.Rule.{Rule}
 use Rattle.its_model.specs.declared.program.Program.{Program}
 use Rattle.its_model.specs.declared.run.Config.{Config}
 use Rattle.its_model.specs.declared.run.Step.{Step}
-use Rattle.its_model.specs.Names.{IsName, is_same, place_of}
 use Rattle.its_model.specs.Views.{relation_of, atom_of, symbol_of, rule_of, program_of, config_of, step_of}
 
 -- the name with one byte
 abbrev pub letter : ℕ → plain.Name
 letter b = b ∷ []
-
--- which bytes are a name
-pub record NamesAreTold : Type 0 where
-  -- a letter begins a name: `a` and `Z`
-  pub small_letter : IsName (letter 97)
-  pub capital_letter : IsName (letter 90)
-  -- so do `_` and `$`
-  pub underscore : IsName (letter 95)
-  pub dollar : IsName (letter 36)
-  -- letters, digits, `'`, `.`, `_` and `$` go on with it: `A0'._$z`
-  pub goes_on : IsName (65 ∷ 48 ∷ 39 ∷ 46 ∷ 95 ∷ 36 ∷ 122 ∷ [])
-  -- a digit, `'` and `.` begin none: `0A`, `'A` and `.A`
-  pub digit_first : ¬ (IsName (48 ∷ 65 ∷ []))
-  pub apostrophe_first : ¬ (IsName (39 ∷ 65 ∷ []))
-  pub dot_first : ¬ (IsName (46 ∷ 65 ∷ []))
-  -- a space and `-` don't go on with one: `A B`, `A-` and `A'-B`
-  pub space_in_it : ¬ (IsName (65 ∷ 32 ∷ 66 ∷ []))
-  pub minus_behind_it : ¬ (IsName (65 ∷ 45 ∷ []))
-  pub minus_in_it : ¬ (IsName (65 ∷ 39 ∷ 45 ∷ 66 ∷ []))
-  -- no byte at all is no name
-  pub nothing : ¬ (IsName [])
-
--- which names are the same, and at which place among others a name stands
-pub record PlacesAreFound : Type 0 where
-  -- names with the same bytes are the same: `A'` and `A'`
-  pub same : is_same (65 ∷ 39 ∷ []) (65 ∷ 39 ∷ []) ≡ true
-  -- other bytes are another name, a small letter for a capital one too: `A'` and `B'`, `A` and `a`
-  pub other : is_same (65 ∷ 39 ∷ []) (66 ∷ 39 ∷ []) ≡ false
-  pub small_for_capital : is_same (letter 65) (letter 97) ≡ false
-  -- a name is none that it begins, and none that begins it: `A` and `A'`
-  pub longer : is_same (letter 65) (65 ∷ 39 ∷ []) ≡ false
-  pub shorter : is_same (65 ∷ 39 ∷ []) (letter 65) ≡ false
-  -- places count from 0: `A` among `A`, `B`
-  pub first : place_of (letter 65) (letter 65 ∷ letter 66 ∷ []) ≡ 0
-  -- of a name that is there twice the first place counts: `B` among `A`, `B`, `A`, `B`
-  pub twice : place_of (letter 66) (letter 65 ∷ letter 66 ∷ letter 65 ∷ letter 66 ∷ []) ≡ 1
-  -- a name that isn't there is behind the last: `C` among `A`, `B`, and among none
-  pub absent : place_of (letter 67) (letter 65 ∷ letter 66 ∷ []) ≡ 2
-  pub among_none : place_of (letter 67) [] ≡ 0
 
 -- how relations and atoms are read
 pub record GuardsAreRead : Type 0 where
@@ -174,8 +134,6 @@ pub record RunsAreRead : Type 0 where
 
 -- all of it
 pub record WorkedValues : Type 0 where
-  pub names : NamesAreTold
-  pub places : PlacesAreFound
   pub guards : GuardsAreRead
   pub programs : ProgramsAreRead
   pub runs : RunsAreRead

@@ -1,16 +1,20 @@
 // Integer transition systems: programs, configurations and steps as types.
 // Contract to the layer above: a program is read as plain data by `program_of`, small ones as was worked out by hand
-// (`worked_values_hold`), and runs are those of that data.
+// (`worked_values_hold`), runs are those of that data, `IsValid` says what a valid program is, and `step_checked` takes
+// exactly the steps that stay within 128 bits.
 #![tactic(auto)]
 
 mod guard;
 mod law;
-mod name;
 mod program;
 mod run;
+mod step;
+mod step_error;
 
 pub use guard::{Atom, Rel};
 pub use law::worked_values_hold;
-pub use name::{Name, begins_name, continues_name, name_len};
 pub use program::{Program, Rule, Symbol};
 pub use run::{Config, Step};
+pub use step::{step_checked, steps_have_no_fault};
+pub use step_error::StepError;
+pub use text_core::{Name, begins_name, continues_name, name_len};

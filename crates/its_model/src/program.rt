@@ -1,8 +1,8 @@
 // Programs: symbols, rules and where a run starts.
 
 use crate::guard::Atom;
-use crate::name::Name;
 use poly_terms::Expr;
+use text_core::Name;
 
 /// A function symbol, which is a location of the transition system, with the number of its places.
 #[derive(Debug, PartialEq, Eq, Drop)]

@@ -1,0 +1,13 @@
+pub mod Values
+pub mod OrderLaws
+pub mod WideLaws
+mod LoopLaws
+mod PlaceLaws
+mod SumLaws
+mod EntryLaws
+pub mod FaultLaws
+mod CollectLaws
+pub mod RowLaws
+pub mod AnswerLaws
+mod Weights
+pub mod VariableLaws

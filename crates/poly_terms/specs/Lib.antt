@@ -1,1 +1,12 @@
+pub mod Expanding
+pub mod Faults
+pub mod Ordered
 pub mod Views
+pub mod Answers
+pub mod Wide
+pub mod Rows
+pub mod Checked
+pub mod Places
+pub mod Powers
+pub mod Laws
+pub mod Operands

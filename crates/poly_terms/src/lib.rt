@@ -1,13 +1,26 @@
-// Integer expressions as trees. Contract to the layer above: a tree `e` stands for the integer `value (term_of e)` of the
-// plain data that `term_of` reads it as.
+// Integer expressions as trees, and their expanded polynomials. Contract to the layer above: a tree `e` stands for the
+// integer `value (term_of e)` of the plain data that `term_of` reads it as, and so does what `expand` makes of it.
 #![tactic(auto)]
 
+mod checked;
+mod expanding;
 mod expr;
+mod factors;
+mod limits;
 mod make;
+mod nonzero;
+mod poly;
+mod poly_error;
+mod product;
+mod row;
+mod sum;
 #[cfg(test)]
 mod tests;
+mod wide;
 
+pub use checked::{value_checked, value_in_parts};
+pub use expanding::{expand, expand_difference, expand_strict_difference};
 pub use expr::Expr;
-
-/// Want of memory.
-pub type Memory = std::alloc::AllocError;
+pub use model::Memory;
+pub use poly::{Monomial, Poly, Row};
+pub use poly_error::PolyError;

@@ -1,0 +1,48 @@
+-- How large the numbers of rows, multipliers and points may be.
+use Rattle.std.specs.Prelude.{ℕ, ◌+◌, ◌^◌, ◌<◌, ◌≤◌, List, [], ◌∷◌, length, ℤ, unsigned_abs}
+use Rattle.std.specs.List.{All}
+use Rattle.linear_forms.specs.Forms.{Form, at}
+use Rattle.farkas_cert.specs.declared.combination.TheConstants.{LIMIT}
+
+-- multipliers are at most 2^55
+abbrev pub AreMultipliers : List ℕ → Type 0
+AreMultipliers ms = All (λ m. m ≤ LIMIT) ms
+
+-- the absolute numbers of forms, added up
+abbrev pub total_size : (Form → ℤ) → List Form → ℕ
+total_size number [] = 0
+total_size number (f ∷ forms) = unsigned_abs (number f) + total_size number forms
+
+-- what the absolute numbers of a column may add up to
+abbrev pub column_limit : ℕ
+column_limit = 2 ^ 70 + 2 ^ 10
+
+-- the absolute numbers of each column, and those of the constants, add up to at most 2^70 + 2^10
+pub record AreSmall (rows : List Form) : Type 0 where
+  pub coefs : (u : ℕ) → total_size (λ f. at f.coefs u) rows ≤ column_limit
+  pub constants : total_size (λ f. f.constant) rows ≤ column_limit
+
+-- the numbers of a row are below 2^63 in absolute value
+abbrev pub row_limit : ℕ
+row_limit = 2 ^ 63
+
+-- the numbers of a list are
+abbrev pub AreRowNumbers : List ℤ → Type 0
+AreRowNumbers xs = All (λ x. unsigned_abs x < row_limit) xs
+
+-- the coefficients and the constant of a row are
+pub record HasRowNumbers (f : Form) : Type 0 where
+  pub coefs : AreRowNumbers f.coefs
+  pub constant : unsigned_abs f.constant < row_limit
+
+-- the parts of a point, and its denominator, are at most 2^45 in absolute value
+abbrev pub part_limit : ℕ
+part_limit = 2 ^ 45
+
+-- the parts of a list are
+abbrev pub AreParts : List ℤ → Type 0
+AreParts xs = All (λ x. unsigned_abs x ≤ part_limit) xs
+
+-- at most 128 rows with numbers below 2^63 are small
+abbrev pub RowsOfARuleAreSmall : Type 0
+RowsOfARuleAreSmall = (rows : List Form) → length rows ≤ 128 → All HasRowNumbers rows → AreSmall rows

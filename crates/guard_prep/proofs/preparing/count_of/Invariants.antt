@@ -1,0 +1,10 @@
+use Rattle.std.proofs.Common.{◌≡◌, ◌+◌, ◌≤◌, drop}
+use Rattle.guard_prep.specs.Prepared.{count_true}
+use Rattle.guard_prep.proofs.preparing.count_of.Given as goal
+
+-- what is counted and what is left are all
+abbrev pub invariant-loop-b : goal.invariant-loop-b
+invariant-loop-b l = record {
+  whole : l.count + count_true (drop l.b-index l.bent) ≡ count_true l.bent;
+  few : l.count ≤ l.b-index;
+}

@@ -1,0 +1,74 @@
+-- Steps are points of the rows, and tightening keeps whole solutions.
+use Rattle.std.specs.Prelude.{◌≡◌, ◌↔◌, ℕ, ◌+◌, ◌≤◌, ◌<◌, Bool, if◌then◌else◌, List, [], ◌∷◌, ◌++◌, length, map, ℤ, pos, ◌≤ℤ◌, nat_abs, Some, ⊤}
+use Rattle.std.specs.List.{AllByRecursion}
+use Rattle.model.specs.Terms.{Term, value}
+use Rattle.model.specs.Programs.{Rule, Program, rule_at, GuardHolds}
+use Rattle.model.specs.Polynomials.{Polynomial}
+use Rattle.model.specs.Runs.{Config, Step, IsStep}
+use Rattle.linear_forms.specs.Forms.{Form, at, form_value}
+use Rattle.linear_forms.specs.Points.{Meets, IsPoint}
+use Rattle.poly_terms.specs.Expanding.{expanded}
+use Rattle.poly_terms.specs.Faults.{maximum_coefficient}
+use Rattle.its_model.specs.Valid.{IsValid, IsValidAtom, IsValidTerm}
+use Rattle.guard_prep.specs.Tightening.{tightened}
+use Rattle.guard_prep.specs.Prepared.{is_bent, rows_of, news_of, unknowns_of}
+
+-- what the rows of a rule rest on: its guard and updates read its own variables and can be expanded; there are at most 64
+-- variables, 64 atoms and 32 updates
+pub record IsPreparable (r : Rule) : Type 0 where
+  pub few_variables : r.left + r.free ≤ 64
+  pub few_atoms : length r.guard ≤ 64
+  pub few_updates : length r.updates ≤ 32
+  pub guard : AllByRecursion (IsValidAtom (r.left + r.free)) r.guard
+  pub updates : AllByRecursion (IsValidTerm (r.left + r.free)) r.updates
+
+-- the rules of a valid program are preparable
+pub record ValidRulesArePreparable : Type 0 where
+  pub each : (p : Program) (t : ℕ) (r : Rule) → IsValid p → rule_at p t ≡ Some r → IsPreparable r
+
+-- a row and what is left of it when it is tightened have the same whole solutions
+pub record TighteningKeepsWholeSolutions : Type 0 where
+  pub each : (f : Form) (z : ℕ → ℤ) → (pos 0 ≤ℤ form_value f z (pos 1)) ↔ Meets (tightened f) z (pos 1)
+
+-- the values of the bent updates, in order of places
+abbrev pub bent_values : List Term → List ℤ → List ℤ
+bent_values [] env = []
+bent_values (u ∷ us) env = if is_bent (expanded u) then value u env ∷ bent_values us env else bent_values us env
+
+-- the values of all unknowns: those of the variables, then those of the bent updates
+abbrev pub point_of : Rule → List ℤ → List ℤ
+point_of r env = env ++ bent_values r.updates env
+
+-- at the values of its variables that meet its guard, with the values of the bent updates, the rows of a rule have a point
+-- with denominator 1, and the new values there are the values of the updates
+pub record GuardsGivePoints : Type 0 where
+  pub point : (r : Rule) (env : List ℤ) → IsPreparable r → length env ≡ r.left + r.free → GuardHolds env r.guard
+      → IsPoint (rows_of r) (at (point_of r env)) (pos 1)
+  pub news : (r : Rule) (env : List ℤ) → IsPreparable r → length env ≡ r.left + r.free
+      → map (λ f. form_value f (at (point_of r env)) (pos 1)) (news_of r) ≡ map (λ u. value u env) r.updates
+
+-- from c the rule leads to d at the point: a point of its rows with denominator 1, whose first unknowns are the values of c,
+-- and where the new values are those of d
+pub record IsPointOfStep (r : Rule) (c d : Config) (z : List ℤ) : Type 0 where
+  pub unknowns : length z ≡ unknowns_of r
+  pub point : IsPoint (rows_of r) (at z) (pos 1)
+  pub left : (j : ℕ) → j < length c.values → at z j ≡ at c.values j
+  pub news : map (λ f. form_value f (at z) (pos 1)) (news_of r) ≡ d.values
+
+-- each step of a valid program is a point of its rule's rows
+pub record StepsArePoints : Type 0 where
+  pub each : (p : Program) (c d : Config) (s : Step) → IsValid p → (i : IsStep p c s d) → IsPointOfStep i.rule c d (point_of i.rule (c.values ++ s.free))
+
+-- the absolute values of a form's numbers are at most 2^63 - 1, and it has so many coefficients
+pub record IsSmallForm (n : ℕ) (f : Form) : Type 0 where
+  pub width : length f.coefs ≡ n
+  pub coefs : AllByRecursion (λ a. nat_abs a ≤ maximum_coefficient) f.coefs
+  pub constant : nat_abs f.constant ≤ maximum_coefficient
+
+-- the rows and the new values of a rule have a coefficient for each unknown, and numbers of at most 2^63 - 1 in absolute
+-- value; there are at most 128 rows and 96 unknowns
+pub record RowsAreSmall : Type 0 where
+  pub rows : (r : Rule) → IsPreparable r → AllByRecursion (IsSmallForm (unknowns_of r)) (rows_of r)
+  pub news : (r : Rule) → IsPreparable r → AllByRecursion (IsSmallForm (unknowns_of r)) (news_of r)
+  pub few_rows : (r : Rule) → IsPreparable r → length (rows_of r) ≤ 128
+  pub few_unknowns : (r : Rule) → IsPreparable r → unknowns_of r ≤ 96

@@ -1,0 +1,4 @@
+pub mod Tightening
+pub mod Prepared
+pub mod Laws
+pub mod Views

@@ -1,0 +1,97 @@
+-- The linear rows of a rule, its new values, bent places and polynomials.
+use Rattle.std.specs.Prelude.{ℕ, zero, suc, ◌+◌, Bool, true, false, if◌then◌else◌, nat_lt, List, [], ◌∷◌, ◌++◌, map, ℤ, neg_ℤ}
+use Rattle.model.specs.Terms.{Term}
+use Rattle.model.specs.Programs.{Relation, AtLeast, MoreThan, AtMost, LessThan, EqualTo, Atom, Always, Compare, Rule}
+use Rattle.model.specs.Polynomials.{Polynomial, degree_of}
+use Rattle.linear_forms.specs.Forms.{Form}
+use Rattle.poly_terms.specs.Expanding.{expanded, variable_form}
+use Rattle.poly_terms.specs.Rows.{linear_form}
+use Rattle.its_model.specs.Valid.{difference_of}
+use Rattle.guard_prep.specs.Tightening.{tightened}
+
+-- whether a polynomial has degree 2 or more
+abbrev pub is_bent : Polynomial → Bool
+is_bent p = nat_lt 1 (degree_of p)
+
+-- the expanded polynomials of the updates
+abbrev pub polys_of : Rule → List Polynomial
+polys_of r = map expanded r.updates
+
+-- the places whose update has degree 2 or more
+abbrev pub bent_of : Rule → List Bool
+bent_of r = map is_bent (polys_of r)
+
+-- how many are true
+abbrev pub count_true : List Bool → ℕ
+count_true [] = 0
+count_true (true ∷ bs) = suc (count_true bs)
+count_true (false ∷ bs) = count_true bs
+
+-- the unknowns of a rule: its left variables, its free ones, and one for each bent place, in order of places
+abbrev pub unknowns_of : Rule → ℕ
+unknowns_of r = r.left + r.free + count_true (bent_of r)
+
+-- a form with the opposite sign
+abbrev pub opposite_form : Form → Form
+opposite_form f = record { coefs = map neg_ℤ f.coefs; constant = neg_ℤ f.constant }
+
+-- the rows of a comparison by the form of its difference: an equation has the opposite row too
+abbrev pub rows_by : Relation → Form → List Form
+rows_by AtLeast f = f ∷ []
+rows_by MoreThan f = f ∷ []
+rows_by AtMost f = f ∷ []
+rows_by LessThan f = f ∷ []
+rows_by EqualTo f = f ∷ opposite_form f ∷ []
+
+-- the rows of a comparison over so many unknowns by its expanded difference: none where that has degree 2 or more
+abbrev pub rows_of_difference : ℕ → Relation → Polynomial → List Form
+rows_of_difference width r p = if is_bent p then [] else rows_by r (linear_form width p)
+
+-- the rows of an atom
+abbrev pub rows_of_atom : ℕ → Atom → List Form
+rows_of_atom width Always = []
+rows_of_atom width (Compare d r e) = rows_of_difference width r (expanded (difference_of d r e))
+
+-- the rows of a guard, before they are tightened
+abbrev pub rows_of_guard : ℕ → List Atom → List Form
+rows_of_guard width [] = []
+rows_of_guard width (a ∷ atoms) = rows_of_atom width a ++ rows_of_guard width atoms
+
+-- rows tightened, in order
+abbrev pub all_tightened : List Form → List Form
+all_tightened [] = []
+all_tightened (f ∷ rows) = tightened f ++ all_tightened rows
+
+-- the rows of a rule
+abbrev pub rows_of : Rule → List Form
+rows_of r = all_tightened (rows_of_guard (unknowns_of r) r.guard)
+
+-- the new values over so many unknowns: that of a bent place is an unknown of its own, the first of which has the number k
+abbrev pub news_from : ℕ → ℕ → List Polynomial → List Form
+news_from width k [] = []
+news_from width k (p ∷ ps) =
+    if is_bent p then linear_form width (variable_form k) ∷ news_from width (suc k) ps else linear_form width p ∷ news_from width k ps
+
+-- the new value of each place, an affine form in the unknowns
+abbrev pub news_of : Rule → List Form
+news_of r = news_from (unknowns_of r) (r.left + r.free) (polys_of r)
+
+-- what is prepared of a rule
+pub record Prepared : Type 0 where
+  pub left : ℕ
+  pub unknowns : ℕ
+  pub rows : List Form
+  pub news : List Form
+  pub bent : List Bool
+  pub polys : List Polynomial
+
+-- all of it
+abbrev pub prepared : Rule → Prepared
+prepared r = record {
+  left = r.left;
+  unknowns = unknowns_of r;
+  rows = rows_of r;
+  news = news_of r;
+  bent = bent_of r;
+  polys = polys_of r;
+}

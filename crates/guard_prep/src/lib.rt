@@ -1,0 +1,15 @@
+// A rule becomes linear rows here. Contract to the layer above: `rows` gives exactly the rows, new values, bent places and
+// polynomials of the plain rule (`prepared`), and each step of a valid program is a point of its rule's rows.
+#![tactic(auto)]
+
+mod laws;
+mod preparing;
+mod rule_rows;
+mod tighten;
+
+pub use laws::{
+    guards_give_points, rows_are_small, steps_are_points, tightening_keeps_whole_solutions,
+    valid_rules_are_preparable,
+};
+pub use preparing::rows;
+pub use rule_rows::RuleRows;

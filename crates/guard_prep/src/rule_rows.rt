@@ -1,0 +1,20 @@
+// What is prepared of a rule.
+
+use poly_terms::{Poly, Row};
+
+/// The rows of a rule: what its guard says over rational points, and its new values.
+#[derive(Debug, PartialEq, Eq, Drop)]
+pub struct RuleRows {
+    /// How many left variables there are.
+    pub left: u32,
+    /// The left variables, then the free ones, then one unknown for each bent place, in order of places.
+    pub unknowns: u32,
+    /// The linear rows of the guard, each tightened: each is at least 0.
+    pub rows: Vec<Row>,
+    /// The new value of each place of the target, as a form in the unknowns.
+    pub news: Vec<Row>,
+    /// Whether the update of each place has degree 2 or more.
+    pub bent: Vec<bool>,
+    /// The expanded polynomial of each update.
+    pub polys: Vec<Poly>,
+}

@@ -1,0 +1,40 @@
+// A list of monomials, none of which is 0.
+
+ghost use Rattle.std.specs.Prelude.{◌≡◌, ◌++◌, [], ◌∷◌, not, OnOk};
+ghost use Rattle.int_laws.specs.NormalForm.{is_zero};
+ghost use Rattle.poly_terms.specs.Expanding.{without_zeros};
+ghost use Rattle.poly_terms.specs.Views.{monomials_of};
+
+use crate::Memory;
+use crate::poly::Monomial;
+
+/// Appends a monomial, unless its coefficient is 0.
+pub(crate) fn push_nonzero(
+    terms: &mut Vec<Monomial>,
+    coef: i128,
+    vars: Vec<u32>,
+) -> Result<(), Memory>
+    ensures { OnOk result (monomials_of terms.new.items
+        ≡ monomials_of terms.old.items ++ without_zeros (record { coef = coef; vars = vars.items } ∷ [])) }
+{
+    if coef != 0 {
+        terms.push(Monomial { coef, vars })?;
+    }
+    Ok(())
+}
+
+/// The monomials that aren't 0.
+pub(crate) fn nonzero(terms: Vec<Monomial>) -> Vec<Monomial>
+    ensures { monomials_of result.items ≡ without_zeros (monomials_of terms.items) }
+{
+    let mut terms = terms;
+    terms.retain(|m| is_nonzero(m));
+    terms
+}
+
+// Whether the coefficient isn't 0.
+fn is_nonzero(m: &Monomial) -> bool
+    ensures { result ≡ not (is_zero m.now.coef) }
+{
+    m.coef != 0
+}

@@ -1,0 +1,133 @@
+// Sums and opposites of polynomials.
+
+ghost use Rattle.std.specs.Prelude.{◌≡◌, ◌≢◌, ℕ, ◌+◌, ◌<◌, ◌≤◌, ◌^◌, neg_ℤ, nat_abs, length, map, true, false, slice_index_or, slice_set, IfOk, OnOk};
+ghost use Rattle.model.specs.Polynomials as plain;
+ghost use Rattle.poly_terms.specs.declared.poly.Monomial.{Monomial};
+ghost use Rattle.std.specs.Ordering.{is_lt};
+ghost use Rattle.poly_terms.specs.Expanding.{order, added, sum_of, opposite};
+ghost use Rattle.poly_terms.specs.Faults.{fault_in};
+ghost use Rattle.poly_terms.specs.Ordered.{IsAscending, IsBounded, IsSmall};
+ghost use Rattle.poly_terms.specs.Places.{place_in};
+ghost use Rattle.poly_terms.specs.Views.{monomial_of, monomials_of, poly_of};
+ghost use Rattle.poly_terms.specs.Answers.{Answers};
+
+use crate::Memory;
+use crate::limits::limited;
+use crate::nonzero::nonzero;
+use crate::poly::{Monomial, Poly};
+use crate::poly_error::PolyError;
+
+/// The sum, or its least fault.
+pub(crate) fn limited_sum(p: Poly, q: Poly) -> Result<Poly, PolyError>
+    requires ascending { IsAscending (poly_of p) }
+    requires left { IsSmall (poly_of p) }
+    requires right { IsSmall (poly_of q) }
+    ensures { let whole = sum_of (poly_of p) (poly_of q) in Answers result (fault_in whole 1) whole }
+{
+    match sum(p, q) {
+        Ok(whole) => limited(whole, 1),
+        Err(_) => Err(PolyError::Memory),
+    }
+}
+
+// The sum.
+fn sum(p: Poly, q: Poly) -> Result<Poly, Memory>
+    requires ascending { IsAscending (poly_of p) }
+    requires left { IsSmall (poly_of p) }
+    requires right { IsSmall (poly_of q) }
+    ensures { IfOk result (λ whole. poly_of whole ≡ sum_of (poly_of p) (poly_of q)) }
+{
+    let mut terms = p.terms;
+    for m in q.terms {
+        add(&mut terms, m)?;
+    }
+    Ok(Poly {
+        terms: nonzero(terms),
+    })
+}
+
+// Adds a monomial.
+fn add(terms: &mut Vec<Monomial>, m: Monomial) -> Result<(), Memory>
+    requires ascending { IsAscending (monomials_of terms.old.items) }
+    requires before { IsBounded (2 ^ 100) (monomials_of terms.old.items) }
+    requires small { nat_abs m.coef ≤ 2 ^ 100 }
+    ensures { OnOk result (monomials_of terms.new.items ≡ added (monomial_of m) (monomials_of terms.old.items)) }
+{
+    let i = place_of(terms, &m.vars);
+    if has_variables_at(terms, i, &m.vars) {
+        let coef = terms[i].coef + m.coef;
+        set_coefficient(terms, i, coef);
+    } else {
+        terms.insert(i, m)?;
+    }
+    Ok(())
+}
+
+// Whether a monomial stands at i, and has these variables.
+fn has_variables_at(terms: &[Monomial], i: usize, vars: &Vec<u32>) -> bool
+    ensures yes { result ≡ true → i < length terms.now }
+    ensures same { result ≡ true → (d : Monomial) → (slice_index_or terms.now i d).vars.items ≡ vars.now.items }
+    ensures other { result ≡ false → i < length terms.now → (d : Monomial) → (slice_index_or terms.now i d).vars.items ≢ vars.now.items }
+{
+    if i < terms.len() {
+        terms[i].vars == *vars
+    } else {
+        false
+    }
+}
+
+// Gives a monomial another coefficient.
+fn set_coefficient(terms: &mut Vec<Monomial>, i: usize, coef: i128)
+    requires { i < length terms.old.items }
+    ensures { (d : plain.Monomial) → monomials_of terms.new.items
+        ≡ slice_set (monomials_of terms.old.items) i (record { coef = coef; vars = (slice_index_or (monomials_of terms.old.items) i d).vars }) }
+{
+    terms[i].coef = coef;
+}
+
+// Where a list of variables has its place, by halves; one behind the last is seen at once.
+fn place_of(terms: &[Monomial], vars: &Vec<u32>) -> usize
+    requires { IsAscending (monomials_of terms.now) }
+    ensures { result ≡ place_in vars.now.items (monomials_of terms.now) }
+{
+    let mut low = 0;
+    let mut high = terms.len();
+    let mut middle = high.saturating_sub(1);
+    while low < high {
+        if comes_before(&terms[middle], vars) {
+            low = middle + 1;
+        } else {
+            high = middle;
+        }
+        middle = low + (high - low) / 2;
+    }
+    low
+}
+
+// Whether a monomial's variables come before these.
+fn comes_before(m: &Monomial, vars: &Vec<u32>) -> bool
+    ensures { result ≡ is_lt (order m.now.vars.items vars.now.items) }
+{
+    m.vars.cmp(vars).is_lt()
+}
+
+/// The opposite of a polynomial.
+pub(crate) fn opposite_of(p: Poly) -> Poly
+    requires { IsSmall (poly_of p) }
+    ensures { poly_of result ≡ map opposite (poly_of p) }
+{
+    let mut terms = p.terms;
+    for i in 0..terms.len() {
+        let coef = negated(terms[i].coef);
+        set_coefficient(&mut terms, i, coef);
+    }
+    Poly { terms }
+}
+
+// The opposite of a coefficient.
+fn negated(coef: i128) -> i128
+    requires { nat_abs coef ≤ 2 ^ 100 }
+    ensures { result ≡ neg_ℤ coef }
+{
+    -coef
+}
