@@ -1,4 +1,12 @@
 pub mod Acyclic
-pub mod Reach
-pub mod Marks
-pub mod Successors
+pub mod Groups
+pub mod Floods
+pub mod Components
+pub mod Classes
+pub mod Naming
+pub mod Walks
+pub mod Orders
+pub mod Members
+pub mod Links
+pub mod Numbers
+pub mod Graphs

@@ -1,39 +1,65 @@
 // Whether the graph of a program has a cycle.
 
-ghost use Rattle.std.specs.Prelude.{◌≡◌, ℕ, ◌<◌, ◌↔◌, length, All, IfOk, IsTrue};
+ghost use Rattle.std.specs.Prelude.{◌≡◌, ℕ, ◌<◌, ◌≤◌, ◌^◌, ◌↔◌, length, map, All, IfOk, IsTrue, slice_index};
+ghost use Rattle.std.specs.List.{Contains};
 ghost use Rattle.model.specs.Paths.{HasCycle};
 ghost use Rattle.its_model.specs.Views.{program_of};
-ghost use Rattle.its_graph.specs.Successors.{successors_in};
-ghost use Rattle.its_graph.specs.Reach.{Follows};
+ghost use Rattle.its_graph.specs.Groups.{IsPair};
+ghost use Rattle.its_graph.specs.Links.{AreBelow};
+ghost use Rattle.its_graph.specs.Numbers.{AreNumbers, AreApart, HasInside};
 
 use crate::Memory;
-use crate::search::reached_from;
-use crate::successors::{successors_of, symbol_limit};
+use crate::classes::name_all;
+use crate::links::{links_in, symbol_limit};
+use crate::listing::components_below;
 use its_model::Program;
-use std::alloc::Global;
+use std::alloc::{AllocError, Global};
 
-/// Whether the graph of the program has a cycle: a path of one rule or more that leads from a symbol back to it.
+/// Whether the graph of the program has a cycle: whether some component has an edge inside.
 ///
-/// The answer is exact. The only error is want of memory.
+/// The answer is exact. The only error is want of memory. The time is near-linear.
 pub fn has_cycle(alloc: Global, p: &Program) -> Result<bool, Memory>
     ensures { IfOk result (λ found. IsTrue found ↔ HasCycle (program_of p.now)) }
 {
     let symbols = symbol_limit(&p.rules);
-    let successors = successors_of(alloc, &p.rules, symbols)?;
-    for symbol in 0..symbols {
-        if returns_to(alloc, &successors, symbol)? {
-            return Ok(true);
-        }
-    }
-    Ok(false)
+    let links = links_in(alloc, &p.rules)?;
+    let components = components_below(alloc, symbols, &links)?;
+    let numbers = numbers_of(alloc, symbols, &components)?;
+    Ok(has_link_inside(&numbers, &links))
 }
 
-// Whether a path of one edge or more leads from a node back to it.
-fn returns_to(alloc: Global, successors: &[Vec<u32>], node: usize) -> Result<bool, Memory>
-    requires node_in_range { node < length successors.now }
-    requires edges_in_range { (a : ℕ) → All (λ b. b < length successors.now) (successors_in successors.now a) }
-    ensures { IfOk result (λ found. IsTrue found ↔ Follows (successors_in successors.now) (successors_in successors.now node) node) }
+// The number of each node's component.
+fn numbers_of(alloc: Global, nodes: usize, components: &[Vec<u32>]) -> Result<Vec<u32>, AllocError>
+    requires few { length components.now ≤ 2 ^ 32 }
+    requires apart { AreApart nodes components.now }
+    ensures size { IfOk result (λ numbers. length numbers.items ≡ nodes) }
+    ensures numbered { IfOk result (λ numbers. AreNumbers components.now numbers.items) }
 {
-    let seen = reached_from(alloc, successors, &successors[node])?;
-    Ok(seen[node])
+    let mut numbers = vec![in alloc; 0u32; nodes]?;
+    number_all(&mut numbers, components);
+    Ok(numbers)
+}
+
+// The nodes of each component get its number.
+fn number_all(numbers: &mut [u32], components: &[Vec<u32>])
+    requires few { length components.now ≤ 2 ^ 32 }
+    requires apart { AreApart (length numbers.old) components.now }
+    ensures { AreNumbers components.now numbers.new }
+{
+    for (number, component) in components.iter().enumerate() {
+        name_all(numbers, component, number as u32);
+    }
+}
+
+// Whether some link leads to a node of the same component.
+fn has_link_inside(numbers: &[u32], links: &[(u32, u32)]) -> bool
+    requires { All (λ e. (e.0 < length numbers.now) × (e.1 < length numbers.now)) links.now }
+    ensures { IsTrue result ↔ HasInside numbers.now links.now }
+{
+    for (from, to) in links {
+        if numbers[*from as usize] == numbers[*to as usize] {
+            return true;
+        }
+    }
+    false
 }

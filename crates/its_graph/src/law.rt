@@ -1,9 +1,15 @@
-// What the runs of a program without a cycle have in common.
+// What the runs of a program without a cycle have in common, and that components have one order.
 
 ghost use Rattle.its_graph.specs.Acyclic.{WithoutCycleEachRuleAtMostOnce};
+ghost use Rattle.its_graph.specs.Components.{ListingsAreUnique};
 
 /// The law that in each run of a program without a cycle every rule occurs at most once, and that the run has at most as
 /// many steps as there are rules. It has no code: its contract is the law.
 pub fn without_cycle_each_rule_at_most_once()
     ensures { WithoutCycleEachRuleAtMostOnce }
+{}
+
+/// A graph has at most one list of its strongly connected components in their order.
+pub fn listings_are_unique()
+    ensures { ListingsAreUnique }
 {}

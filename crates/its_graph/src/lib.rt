@@ -3,15 +3,22 @@
 // a cycle each rule occurs at most once in every run.
 #![tactic(auto)]
 
+mod classes;
 mod cycle;
+mod flood;
+mod graph;
 mod law;
-mod search;
-mod successors;
-#[cfg(test)]
-mod tests;
+mod links;
+mod listing;
+mod order;
+mod pairs;
+mod roots;
+mod tables;
 
 pub use cycle::has_cycle;
-pub use law::without_cycle_each_rule_at_most_once;
+pub use graph::Graph;
+pub use law::{listings_are_unique, without_cycle_each_rule_at_most_once};
+pub use listing::components;
 
 /// Want of memory.
-pub type Memory = std::alloc::AllocError;
+pub use model::Memory;

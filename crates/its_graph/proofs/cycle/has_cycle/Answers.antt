@@ -1,33 +1,62 @@
-use Rattle.std.proofs.Common.{◌≡◌, ℕ, ◌<◌, List, length, All, arith, sym, ◌∙◌, ap, subst, refl, true, false, Vec, Global}
+use Rattle.std.proofs.Common.{◌≡◌, ◌↔◌, ℕ, ◌<◌, List, All, Vec, length, map, ap, arith, sym, ◌∙◌, subst, IsTrue}
+use Rattle.std.specs.declared.alloc.Global.{Global}
 use Rattle.its_model.specs.declared.program.Rule.{Rule}
-use Rattle.its_graph.specs.Reach.{Follows}
-use Rattle.its_graph.specs.Successors.{targets_from, AreBelow, successors_in}
-use Rattle.its_graph.proofs.Cycles.{AreListed, successors_below, cycle_found, no_cycle}
+use Rattle.its_graph.specs.Groups.{IsPair, items_of}
+use Rattle.its_graph.specs.Components.{IsListing}
+use Rattle.its_graph.specs.Links.{link_of, AreBelow}
+use Rattle.its_graph.specs.Numbers.{AreNumbers, HasInside}
+use Rattle.its_graph.proofs.PairLists.{Pair, pair-within}
+use Rattle.its_graph.proofs.Numbering.{apart, cycle-inside, links-within}
 use Rattle.its_graph.proofs.cycle.has_cycle.Goals as goal
 
--- the targets of rules below the limit are below it
-pub returns_to-requires-clause-edges_in_range : goal.returns_to-requires-clause-edges_in_range
-returns_to-requires-clause-edges_in_range c =
-    let lists = c.in_ok-successors.successors.items in
-    let same : AreListed c.args.p.now lists = λ a. c.in_ok-successors.ensures.targets a ∙ ap (λ (rs : List Rule). targets_from rs a) c.deref-2.ensures.value in
-    let below : AreBelow (length lists) c.args.p.now.rules.items = subst (λ (n : ℕ). AreBelow n c.args.p.now.rules.items) (sym c.in_ok-successors.ensures.one_each) (subst (λ (rs : List Rule). AreBelow c.symbol_limit-symbols.result rs) c.deref.ensures.value c.symbol_limit-symbols.ensures) in
-    subst (λ (ls : List (Vec ℕ Global)). (a : ℕ) → All (λ b. b < length ls) (successors_in ls a)) (sym c.deref-in-loop-symbol.ensures.value) (successors_below c.args.p.now lists (length lists) below same)
+-- the links are within
+pub components_below-requires-clause-within : goal.components_below-requires-clause-within
+components_below-requires-clause-within c =
+    let n : ℕ = c.symbol_limit-symbols.result in
+    let rules = c.args.p.now.rules.items in
+    let below : AreBelow n rules = subst (λ (rs : List Rule). AreBelow n rs) c.deref.ensures.value c.symbol_limit-symbols.ensures.below in
+    let links : c.in_ok-links.links.items ≡ map link_of rules = c.in_ok-links.ensures ∙ ap (λ (rs : List Rule). map link_of rs) c.deref-2.ensures.value in
+    subst (λ (es : List Pair). All (λ (e : Pair). (e.0 < n) × (e.1 < n)) es) (sym (c.deref-3.ensures.value ∙ links)) (links-within n rules below)
 
--- a path that leads back is a cycle
-pub returns-then-branch : goal.returns-then-branch
-returns-then-branch c =
-    let lists = c.in_ok-successors.successors.items in
-    let same : AreListed c.args.p.now lists = λ a. c.in_ok-successors.ensures.targets a ∙ ap (λ (rs : List Rule). targets_from rs a) c.deref-2.ensures.value in
-    let path : Follows (successors_in lists) (successors_in lists c.loop-symbol.symbol) c.loop-symbol.symbol = subst (λ (ls : List (Vec ℕ Global)). Follows (successors_in ls) (successors_in ls c.loop-symbol.symbol) c.loop-symbol.symbol) c.deref-in-loop-symbol.ensures.value (c.in_ok-returns_to.ensures.0 c.if-branch.true) in
-    (λ _. cycle_found c.args.p.now lists same c.loop-symbol.symbol path, λ _. refl)
+-- there are at most as many components as symbols
+pub numbers_of-requires-clause-few : goal.numbers_of-requires-clause-few
+numbers_of-requires-clause-few c = omega (arith, ap length c.deref-4.ensures.value, c.in_ok-components.ensures.few, c.symbol_limit-symbols.ensures.few)
 
--- where no path leads back there is no cycle
+-- no two have a symbol in common
+pub numbers_of-requires-clause-apart : goal.numbers_of-requires-clause-apart
+numbers_of-requires-clause-apart c =
+    let n : ℕ = c.symbol_limit-symbols.result in
+    let rules = c.args.p.now.rules.items in
+    let below : AreBelow n rules = subst (λ (rs : List Rule). AreBelow n rs) c.deref.ensures.value c.symbol_limit-symbols.ensures.below in
+    let links : c.in_ok-links.links.items ≡ map link_of rules = c.in_ok-links.ensures ∙ ap (λ (rs : List Rule). map link_of rs) c.deref-2.ensures.value in
+    let listing : IsListing (IsPair (map link_of rules)) n (map items_of c.deref-4.result.now) =
+    subst (λ (t : List (Vec ℕ Global)). IsListing (IsPair (map link_of rules)) n (map items_of t)) (sym c.deref-4.ensures.value)
+    (subst (λ (es : List Pair). IsListing (IsPair es) n (map items_of c.in_ok-components.components.items)) (c.deref-3.ensures.value ∙ links) c.in_ok-components.ensures.listing) in
+    apart (IsPair (map link_of rules)) n c.deref-4.result.now (λ a b h. (pair-within n (map link_of rules) a b (links-within n rules below) h).1) listing
+
+-- the links are within the numbers
+pub has_link_inside-requires : goal.has_link_inside-requires
+has_link_inside-requires c =
+    let n : ℕ = c.symbol_limit-symbols.result in
+    let rules = c.args.p.now.rules.items in
+    let below : AreBelow n rules = subst (λ (rs : List Rule). AreBelow n rs) c.deref.ensures.value c.symbol_limit-symbols.ensures.below in
+    let links : c.in_ok-links.links.items ≡ map link_of rules = c.in_ok-links.ensures ∙ ap (λ (rs : List Rule). map link_of rs) c.deref-2.ensures.value in
+    let size : length c.deref-5.result.now ≡ n = ap length c.deref-5.ensures.value ∙ c.in_ok-numbers.ensures.size in
+    subst (λ (k : ℕ). All (λ (e : Pair). (e.0 < k) × (e.1 < k)) c.deref-6.result.now) (sym size)
+    (subst (λ (es : List Pair). All (λ (e : Pair). (e.0 < n) × (e.1 < n)) es) (sym (c.deref-6.ensures.value ∙ links)) (links-within n rules below))
+
+-- a link inside a component is a cycle
 pub returns : goal.returns
 returns c =
-    let lists = c.in_ok-successors.successors.items in
-    let same : AreListed c.args.p.now lists = λ a. c.in_ok-successors.ensures.targets a ∙ ap (λ (rs : List Rule). targets_from rs a) c.deref-2.ensures.value in
-    let none : (a : ℕ) → a < length lists → ¬ (Follows (successors_in lists) (successors_in lists a) a) = λ a low. c.loop-symbol.invariant a (omega (arith, low, c.in_ok-successors.ensures.one_each, c.loop-symbol-test.false)) in
-    (λ e. absurd (different e), λ cycle. absurd (no_cycle c.args.p.now lists same none cycle))
-  where
-    different : false ≡ true → ⊥
-    different e = cc
+    let n : ℕ = c.symbol_limit-symbols.result in
+    let rules = c.args.p.now.rules.items in
+    let below : AreBelow n rules = subst (λ (rs : List Rule). AreBelow n rs) c.deref.ensures.value c.symbol_limit-symbols.ensures.below in
+    let links : c.in_ok-links.links.items ≡ map link_of rules = c.in_ok-links.ensures ∙ ap (λ (rs : List Rule). map link_of rs) c.deref-2.ensures.value in
+    let listing : IsListing (IsPair (map link_of rules)) n (map items_of c.deref-4.result.now) =
+    subst (λ (t : List (Vec ℕ Global)). IsListing (IsPair (map link_of rules)) n (map items_of t)) (sym c.deref-4.ensures.value)
+    (subst (λ (es : List Pair). IsListing (IsPair es) n (map items_of c.in_ok-components.components.items)) (c.deref-3.ensures.value ∙ links) c.in_ok-components.ensures.listing) in
+    let numbers : AreNumbers c.deref-4.result.now c.deref-5.result.now = subst (λ (xs : List ℕ). AreNumbers c.deref-4.result.now xs) (sym c.deref-5.ensures.value) c.in_ok-numbers.ensures.numbered in
+    let told : IsTrue c.has_link_inside.result ↔ HasInside c.deref-5.result.now (map link_of rules) =
+    subst (λ (es : List Pair). IsTrue c.has_link_inside.result ↔ HasInside c.deref-5.result.now es) (c.deref-6.ensures.value ∙ links) c.has_link_inside.ensures in
+    let cycle = cycle-inside c.args.p.now n c.deref-4.result.now c.deref-5.result.now below listing numbers in
+    (λ h. cycle.0 (told.0 h), λ h. told.1 (cycle.1 h))

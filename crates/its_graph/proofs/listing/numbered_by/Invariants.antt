@@ -1,0 +1,6 @@
+use Rattle.std.proofs.Common.{◌≡◌, ◌++◌, drop}
+use Rattle.its_graph.specs.Members.{numbered}
+use Rattle.its_graph.proofs.listing.numbered_by.Given as goal
+
+abbrev pub invariant-loop-node : goal.invariant-loop-node
+invariant-loop-node l = l.pairs.items ++ numbered l.places l.node (drop l.node l.leaders) ≡ numbered l.places 0 l.leaders

@@ -1,0 +1,37 @@
+-- The graph of a program, as the code keeps it.
+use Rattle.std.specs.Prelude.{◌≡◌, ℕ, ◌<◌, ◌≤◌, ◌^◌, List, length, map, All, Bool, not, eqb, slice_index_or, false}
+use Rattle.std.specs.List.{list_any}
+use Rattle.model.specs.Programs.{Program, Rule}
+use Rattle.its_graph.specs.declared.graph.Graph.{Graph}
+use Rattle.its_graph.specs.Groups.{values_in, values_of}
+use Rattle.its_graph.specs.Links.{arrivals}
+
+-- from where to where a rule leads
+abbrev pub ends_of : Rule → ℕ × ℕ
+ends_of r = (r.source, r.target)
+
+-- the start symbol and those of the rules are symbols of the program
+pub record HasSymbols (p : Program) : Type 0 where
+  pub start : p.start < length p.symbols
+  pub rules : All (λ (r : Rule). (r.source < length p.symbols) × (r.target < length p.symbols)) p.rules
+
+-- the graph is that of the program: its start, its links, one for each rule, and for each symbol the virtual entry and
+-- the rules that lead to it; it has as many symbols as the program, where this has all that it names
+pub record IsGraphOf (g : Graph) (p : Program) : Type 0 where
+  pub start : g.start ≡ p.start
+  pub links : g.links.items ≡ map ends_of p.rules
+  pub few : length g.links.items < 2 ^ 32
+  pub start_within : g.start < g.symbols
+  pub links_within : All (λ (e : ℕ × ℕ). (e.0 < g.symbols) × (e.1 < g.symbols)) g.links.items
+  pub size : length g.arriving.items ≡ g.symbols
+  pub arriving : (s : ℕ) → values_in g.arriving.items s ≡ values_of (arrivals g.start g.links.items) s
+  pub symbols : length p.symbols ≤ g.symbols
+  pub exact : HasSymbols p → g.symbols ≡ length p.symbols
+
+-- the rules that are none of a list
+abbrev pub none_of : List ℕ → ℕ → Bool
+none_of cut t = not (list_any (eqb t) cut)
+
+-- the rules whose flag is set
+abbrev pub flagged : List Bool → ℕ → Bool
+flagged flags t = slice_index_or flags t false

@@ -1,0 +1,39 @@
+-- The links between symbols.
+use Rattle.std.specs.Prelude.{ℕ, suc, ◌<◌, List, [], ◌∷◌, ◌++◌, All, Bool, false, if◌then◌else◌, ◌==◌, ◌&&◌, ◌||◌, slice_index_or, slice_set}
+use Rattle.its_model.specs.declared.program.Rule.{Rule}
+
+-- the link of a rule: from its source to its target
+abbrev pub link_of : Rule → ℕ × ℕ
+link_of r = (r.source, r.target)
+
+-- each rule leads from a symbol below the number to another below it
+abbrev pub AreBelow : ℕ → List Rule → Type 0
+AreBelow n rules = All (λ (r : Rule). (r.source < n) × (r.target < n)) rules
+
+-- the links whose flag is set, counted from a number on
+abbrev pub kept_links : List Bool → ℕ → List (ℕ × ℕ) → List (ℕ × ℕ)
+kept_links allowed i [] = []
+kept_links allowed i (l ∷ links) = (if slice_index_or allowed i false then l ∷ [] else []) ++ kept_links allowed (suc i) links
+
+-- flags from which those of a list of numbers were taken
+abbrev pub all_cut : List ℕ → List Bool → List Bool
+all_cut [] allowed = allowed
+all_cut (t ∷ cut) allowed = all_cut cut (slice_set allowed t false)
+
+-- the virtual entry and each rule, by the symbol that it leads to
+abbrev pub arrivals_from : ℕ → List (ℕ × ℕ) → List (ℕ × ℕ)
+arrivals_from i [] = []
+arrivals_from i (l ∷ links) = (l.1, i) ∷ arrivals_from (suc i) links
+
+abbrev pub arrivals : ℕ → List (ℕ × ℕ) → List (ℕ × ℕ)
+arrivals start links = (start, 0) ∷ arrivals_from 1 links
+
+-- whether the rule with a number and link is in the set of a rule, where `seen` says from which symbols its source is
+-- reached by untimed rules
+abbrev pub is_member : List Bool → List Bool → ℕ → ℕ → ℕ × ℕ → Bool
+is_member untimed seen rule t link = (t == rule) || (slice_index_or untimed t false && slice_index_or seen link.1 false)
+
+-- the numbers of the rules in the set, counted from a number on
+abbrev pub members_from : List Bool → List Bool → ℕ → ℕ → List (ℕ × ℕ) → List ℕ
+members_from untimed seen rule t [] = []
+members_from untimed seen rule t (l ∷ links) = (if is_member untimed seen rule t l then t ∷ [] else []) ++ members_from untimed seen rule (suc t) links

@@ -1,0 +1,14 @@
+-- The nodes of components by their leaders.
+use Rattle.std.specs.Prelude.{◌≡◌, ◌↔◌, ℕ, suc, ◌<◌, List, [], ◌∷◌, length, slice_index}
+use Rattle.std.specs.List.{Contains}
+use Rattle.std.specs.List.Sorted.{IsStrictlyIncreasing}
+
+-- the place of each leader of a list, with a number that counts up
+abbrev pub numbered : List ℕ → ℕ → List ℕ → List (ℕ × ℕ)
+numbered places node [] = []
+numbered places node (leader ∷ leaders) = (slice_index places leader, node) ∷ numbered places (suc node) leaders
+
+-- the nodes that have the leader, ascending
+pub record AreMembers (leaders : List ℕ) (leader : ℕ) (members : List ℕ) : Type 0 where
+  pub each : (b : ℕ) → Contains members b ↔ ((b < length leaders) × (slice_index leaders b ≡ leader))
+  pub ascending : IsStrictlyIncreasing members

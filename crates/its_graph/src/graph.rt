@@ -1,0 +1,183 @@
+// The graph of a program, made once for many questions.
+
+ghost use Rattle.std.specs.Prelude.{◌≡◌, ◌↔◌, ℕ, ◌+◌, ◌<◌, ◌≤◌, ◌^◌, length, map, All, IfOk, OnOk, slice_index_or, true, false, replicate, ◌==◌, ◌&&◌, ◌||◌, if◌then◌else◌, ◌++◌, ◌∷◌, []};
+ghost use Rattle.std.specs.List.{Contains};
+ghost use Rattle.std.specs.List.Sorted.{IsStrictlyIncreasing};
+ghost use Rattle.model.specs.Programs.{Program as PlainProgram};
+ghost use Rattle.model.specs.Paths.{Path, IsReached, IsInSet, pre};
+ghost use Rattle.its_model.specs.Views.{program_of};
+ghost use Rattle.its_graph.specs.Groups.{values_in, Joins};
+ghost use Rattle.its_graph.specs.Links.{arrivals, members_from};
+ghost use Rattle.its_graph.specs.Graphs.{IsGraphOf, none_of, flagged};
+
+use crate::Memory;
+use crate::flood::{KNOWN, UNKNOWN, fill};
+use crate::links::{allowed_links, links_in, symbol_limit, uncut};
+use crate::pairs::{grouped, swapped};
+use its_model::Program;
+use std::alloc::{AllocError, Global};
+
+/// The graph of a program: its symbols, with an edge from source to target for each rule, and the virtual entry, rule 0,
+/// which leads to the start symbol.
+#[derive(Debug, Drop)]
+pub struct Graph {
+    pub start: u32,
+    /// A number above that of each symbol.
+    pub symbols: usize,
+    /// From where to where rule 1, rule 2 and so on lead.
+    pub links: Vec<(u32, u32)>,
+    /// The virtual entry and the rules that lead to each symbol, ascending.
+    pub arriving: Vec<Vec<u32>>,
+}
+
+impl Graph {
+    /// The graph of a program. The time is linear in its symbols and rules.
+    pub fn new(alloc: Global, p: &Program) -> Result<Graph, Memory>
+        requires { length p.now.rules.items < 2 ^ 32 }
+        ensures { IfOk result (λ graph. IsGraphOf graph (program_of p.now)) }
+    {
+        let symbols = symbol_limit(&p.rules)
+            .max(p.start as usize + 1)
+            .max(p.symbols.len());
+        let links = links_in(alloc, &p.rules)?;
+        let arriving = grouped(alloc, symbols, &arrivals_of(alloc, p.start, &links)?)?;
+        Ok(Graph {
+            start: p.start,
+            symbols,
+            links,
+            arriving,
+        })
+    }
+
+    /// What can come just before a rule, ascending: the rules that lead to where it comes from, and the virtual entry, 0,
+    /// where that is the start symbol.
+    pub fn pre(&self, rule: u32) -> &[u32]
+        requires graph { (p : PlainProgram) × IsGraphOf self.now p }
+        requires number { (0 < rule) × (rule ≤ length self.now.links.items) }
+        ensures { (p : PlainProgram) → IsGraphOf self.now p → result.now ≡ pre p rule }
+    {
+        let (source, _) = self.links[rule as usize - 1];
+        &self.arriving[source as usize]
+    }
+
+    /// Whether a path of rules that aren't cut leads from the start symbol to each symbol. The time is linear in symbols,
+    /// rules and cut.
+    pub fn reached(&self, alloc: Global, cut: &[u32]) -> Result<Vec<bool>, Memory>
+        requires { (p : PlainProgram) × IsGraphOf self.now p }
+        ensures one_each { IfOk result (λ seen. length seen.items ≡ self.now.symbols) }
+        ensures reached { IfOk result (λ seen. (p : PlainProgram) → IsGraphOf self.now p
+            → (b : ℕ) → (slice_index_or seen.items b false ≡ true) ↔ IsReached p (none_of cut.now) b) }
+    {
+        let allowed = uncut(alloc, self.links.len(), cut)?;
+        let links = allowed_links(alloc, &self.links, &allowed)?;
+        let next = grouped(alloc, self.symbols, &links)?;
+        flooded(alloc, &next, self.start)
+    }
+
+    /// The set of an untimed rule, ascending: the rule itself, and each untimed rule from where a path of untimed rules,
+    /// possibly empty, leads to where it comes from. The time is linear in symbols and rules.
+    pub fn back_closure(
+        &self,
+        alloc: Global,
+        untimed: &[bool],
+        rule: u32,
+    ) -> Result<Vec<u32>, Memory>
+        requires graph { (p : PlainProgram) × IsGraphOf self.now p }
+        requires flags { length untimed.now ≡ length self.now.links.items + 1 }
+        requires entry { slice_index_or untimed.now 0 false ≡ false }
+        requires untimed_rule { slice_index_or untimed.now rule false ≡ true }
+        ensures ascending { IfOk result (λ found. IsStrictlyIncreasing found.items) }
+        ensures members { IfOk result (λ found. (p : PlainProgram) → IsGraphOf self.now p
+            → (e : ℕ) → Contains found.items e ↔ IsInSet p (flagged untimed.now) rule e) }
+    {
+        let links = allowed_links(alloc, &self.links, untimed)?;
+        let previous = grouped(alloc, self.symbols, &swapped(alloc, &links)?)?;
+        let (source, _) = self.links[rule as usize - 1];
+        let seen = flooded(alloc, &previous, source)?;
+        members(alloc, &self.links, untimed, &seen, rule)
+    }
+}
+
+// The virtual entry and each rule, by the symbol that it leads to.
+fn arrivals_of(
+    alloc: Global,
+    start: u32,
+    links: &[(u32, u32)],
+) -> Result<Vec<(u32, u32)>, AllocError>
+    requires { length links.now < 2 ^ 32 }
+    ensures { IfOk result (λ pairs. pairs.items ≡ arrivals start links.now) }
+{
+    let mut pairs = Vec::with_capacity(alloc, links.len())?;
+    pairs.push((start, 0))?;
+    for (place, (_, target)) in links.iter().enumerate() {
+        pairs.push((*target, place as u32 + 1))?;
+    }
+    Ok(pairs)
+}
+
+// Which nodes a path, possibly empty, leads to from a node.
+fn flooded(alloc: Global, next: &[Vec<u32>], start: u32) -> Result<Vec<bool>, AllocError>
+    requires within { start < length next.now }
+    requires edges_within { (a : ℕ) → All (λ b. b < length next.now) (values_in next.now a) }
+    ensures one_each { IfOk result (λ seen. length seen.items ≡ length next.now) }
+    ensures reached { IfOk result (λ seen. (b : ℕ) → (slice_index_or seen.items b false ≡ true) ↔ Path (Joins next.now) start b) }
+{
+    let mut colors = no_colors(alloc, next.len())?;
+    fill(alloc, next, &mut colors, start, UNKNOWN, KNOWN)?;
+    are_known(alloc, &colors)
+}
+
+// No node has a colour yet.
+fn no_colors(alloc: Global, count: usize) -> Result<Vec<u8>, AllocError>
+    ensures { IfOk result (λ colors. colors.items ≡ replicate count 0) }
+{
+    vec![in alloc; UNKNOWN; count]
+}
+
+// Which nodes are known.
+fn are_known(alloc: Global, colors: &[u8]) -> Result<Vec<bool>, AllocError>
+    ensures { IfOk result (λ flags. flags.items ≡ map (λ color. color == 2) colors.now) }
+{
+    colors.iter().map(|color| *color == KNOWN).collect(alloc)
+}
+
+// The numbers of the rules in the set of a rule, where `seen` says from which symbols its source is reached.
+fn members(
+    alloc: Global,
+    links: &[(u32, u32)],
+    untimed: &[bool],
+    seen: &[bool],
+    rule: u32,
+) -> Result<Vec<u32>, AllocError>
+    requires few { length links.now < 2 ^ 32 }
+    requires flags { length untimed.now ≡ length links.now + 1 }
+    requires within { All (λ e. e.1 < length seen.now) links.now }
+    ensures { IfOk result (λ found. found.items ≡ members_from untimed.now seen.now rule 1 links.now) }
+{
+    let mut found = Vec::new(alloc);
+    for (place, (_, target)) in links.iter().enumerate() {
+        let number = place as u32 + 1;
+        let is_in = is_in_set(untimed, seen, rule, number, *target);
+        push_member(&mut found, number, is_in)?;
+    }
+    Ok(found)
+}
+
+// Whether a rule is in the set of a rule, by its number and its target.
+fn is_in_set(untimed: &[bool], seen: &[bool], rule: u32, number: u32, target: u32) -> bool
+    requires flag { number < length untimed.now }
+    requires within { target < length seen.now }
+    ensures { result ≡ ((number == rule) || (slice_index_or untimed.now number false && slice_index_or seen.now target false)) }
+{
+    number == rule || (untimed[number as usize] && seen[target as usize])
+}
+
+// A number is added, if it is a member.
+fn push_member(found: &mut Vec<u32>, number: u32, is_member: bool) -> Result<(), AllocError>
+    ensures { OnOk result (found.new.items ≡ found.old.items ++ (if is_member then number ∷ [] else [])) }
+{
+    if is_member {
+        found.push(number)?;
+    }
+    Ok(())
+}

@@ -1,0 +1,51 @@
+// Lists of pairs, grouped by the first of each.
+
+ghost use Rattle.std.specs.Prelude.{◌≡◌, ℕ, ◌<◌, ◌++◌, ◌∷◌, [], length, map, IfOk, OnOk, if◌then◌else◌, ◌==◌, All};
+ghost use Rattle.its_graph.specs.Groups.{values_of, values_in, swap};
+
+use std::alloc::{AllocError, Global};
+
+/// The values of each key below `count`, in the order of the pairs. The time is linear in both.
+pub(crate) fn grouped(
+    alloc: Global,
+    count: usize,
+    pairs: &[(u32, u32)],
+) -> Result<Vec<Vec<u32>>, AllocError>
+    requires { All (λ e. e.0 < count) pairs.now }
+    ensures one_each { IfOk result (λ lists. length lists.items ≡ count) }
+    ensures values { IfOk result (λ lists. (a : ℕ) → values_in lists.items a ≡ values_of pairs.now a) }
+{
+    let mut lists = empty_lists(alloc, count)?;
+    for (key, value) in pairs {
+        add(&mut lists, *key as usize, *value)?;
+    }
+    Ok(lists)
+}
+
+/// An empty list for each number below `count`.
+pub(crate) fn empty_lists(alloc: Global, count: usize) -> Result<Vec<Vec<u32>>, AllocError>
+    ensures one_each { IfOk result (λ lists. length lists.items ≡ count) }
+    ensures empty { IfOk result (λ lists. (a : ℕ) → values_in lists.items a ≡ []) }
+{
+    let mut lists = Vec::with_capacity(alloc, count)?;
+    for _ in 0..count {
+        lists.push(Vec::new(alloc))?;
+    }
+    Ok(lists)
+}
+
+// A key gets one value more.
+fn add(lists: &mut [Vec<u32>], key: usize, value: u32) -> Result<(), AllocError>
+    requires { key < length lists.old }
+    ensures { OnOk result ((a : ℕ) → values_in lists.new a ≡ (if key == a then values_in lists.old a ++ value ∷ [] else values_in lists.old a)) }
+{
+    lists[key].push(value)?;
+    Ok(())
+}
+
+/// Each pair turned round.
+pub(crate) fn swapped(alloc: Global, pairs: &[(u32, u32)]) -> Result<Vec<(u32, u32)>, AllocError>
+    ensures { IfOk result (λ turned. turned.items ≡ map swap pairs.now) }
+{
+    pairs.iter().map(|(a, b)| (*b, *a)).collect(alloc)
+}

@@ -1,0 +1,64 @@
+// Tables of lists, and sets of numbers, changed at one place.
+
+ghost use Rattle.std.specs.Prelude.{◌≡◌, ◌⊎◌, ◌↔◌, ℕ, ◌<◌, ◌++◌, ◌∷◌, [], length, All, IfOk, OnOk, MatchOption, if◌then◌else◌, ◌==◌, replicate, false};
+ghost use Rattle.std.specs.List.{Contains};
+ghost use Rattle.its_graph.specs.Groups.{values_in};
+
+use std::alloc::{AllocError, Global};
+use std::collections::BTreeSet;
+
+/// A key gets one value more.
+pub(crate) fn push_to(lists: &mut Vec<Vec<u32>>, key: usize, value: u32) -> Result<(), AllocError>
+    requires { key < length lists.old.items }
+    ensures size { length lists.new.items ≡ length lists.old.items }
+    ensures values { OnOk result ((a : ℕ) → values_in lists.new.items a ≡ (if key == a then values_in lists.old.items a ++ value ∷ [] else values_in lists.old.items a)) }
+{
+    lists[key].push(value)?;
+    Ok(())
+}
+
+/// The values of a key, which has none then.
+pub(crate) fn take_from(alloc: Global, lists: &mut Vec<Vec<u32>>, key: usize) -> Vec<u32>
+    requires { key < length lists.old.items }
+    ensures taken { result.items ≡ values_in lists.old.items key }
+    ensures size { length lists.new.items ≡ length lists.old.items }
+    ensures values { (a : ℕ) → values_in lists.new.items a ≡ (if key == a then [] else values_in lists.old.items a) }
+{
+    std::mem::replace(&mut lists[key], Vec::new(alloc))
+}
+
+/// A number more is in the set.
+pub(crate) fn add_to(set: &mut BTreeSet<u32>, number: u32) -> Result<(), AllocError>
+    ensures { OnOk result ((q : ℕ) → Contains set.new.keys q ↔ (Contains set.old.keys q ⊎ (q ≡ number))) }
+{
+    set.insert(number)?;
+    Ok(())
+}
+
+/// The least number of the set, which lacks it then.
+pub(crate) fn take_least(set: &mut BTreeSet<u32>) -> Option<u32>
+    ensures { MatchOption result (set.old.keys ≡ []) (λ number. (set.old.keys ≡ number ∷ set.new.keys) × ((q : ℕ) → Contains set.new.keys q → number < q)) }
+{
+    set.pop_first()
+}
+
+/// A 0 for each number below `count`.
+pub(crate) fn zeros(alloc: Global, count: usize) -> Result<Vec<usize>, AllocError>
+    ensures { IfOk result (λ numbers. numbers.items ≡ replicate count 0) }
+{
+    vec![in alloc; 0usize; count]
+}
+
+/// A mark for each number below `count`, none of them set.
+pub(crate) fn no_marks(alloc: Global, count: usize) -> Result<Vec<bool>, AllocError>
+    ensures { IfOk result (λ marks. marks.items ≡ replicate count false) }
+{
+    vec![in alloc; false; count]
+}
+
+/// A set without a number.
+pub(crate) fn empty_set(alloc: Global) -> BTreeSet<u32>
+    ensures { result.keys ≡ [] }
+{
+    BTreeSet::new(alloc)
+}
