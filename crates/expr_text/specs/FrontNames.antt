@@ -1,0 +1,82 @@
+-- The variables of what has been read, and how many tokens it has.
+use Rattle.std.specs.Prelude.{ℕ, Bool, true, false, ◌||◌, codes, List, [], ◌∷◌, length, Option, Some, None}
+use Rattle.model.specs.Programs.{Name}
+use Rattle.text_core.specs.Names.{is_same}
+use Rattle.expr_text.specs.Pieces.{Piece, Word, Digits, Open, Plus, Minus, Times, Caret, Related}
+use Rattle.expr_text.specs.Terms.{with_sum, with_product, with_base}
+use Rattle.expr_text.specs.Fronts.{Summed, NoSum, PlusAfter, MinusAfter, Factored, NoProduct, TimesAfter, Level, Place, Wanted, BaseRead, CaretRead, ExponentRead, Front, front_behind}
+use Rattle.expr_text.specs.Steps as inner
+use Rattle.expr_text.specs.Guards.{with_atoms}
+use Rattle.expr_text.specs.GuardFronts.{Conjoined, NoAtoms, JointAfter, GuardFront, LeftSide, RightSide, expression_in}
+
+-- the variables once each part is read, in order of first occurrence
+abbrev pub with_summed : List Name → Summed → List Name
+with_summed names NoSum = names
+with_summed names (PlusAfter s) = with_sum names s
+with_summed names (MinusAfter s) = with_sum names s
+
+abbrev pub with_factored : List Name → Factored → List Name
+with_factored names NoProduct = names
+with_factored names (TimesAfter p) = with_product names p
+
+abbrev pub with_level : List Name → Level → List Name
+with_level names l = with_factored (with_summed names l.sum) l.product
+
+abbrev pub with_outer : List Name → List Level → List Name
+with_outer names [] = names
+with_outer names (l ∷ outer) = with_level (with_outer names outer) l
+
+abbrev pub with_place : List Name → Place → List Name
+with_place names Wanted = names
+with_place names (BaseRead b) = with_base names b
+with_place names (CaretRead b) = with_base names b
+with_place names (ExponentRead b digits) = with_base names b
+
+abbrev pub with_front : List Name → Front → List Name
+with_front names f = with_place (with_level (with_outer names f.outer) f.level) f.place
+
+abbrev pub with_conjoined : List Name → Conjoined → List Name
+with_conjoined names NoAtoms = names
+with_conjoined names (JointAfter atoms joint) = with_atoms names atoms
+
+-- the variables before the expression that is being read
+abbrev pub before_expression : List Name → GuardFront → List Name
+before_expression names (LeftSide c e) = with_conjoined names c
+before_expression names (RightSide c l sign e) = with_sum (with_conjoined names c) l
+
+abbrev pub with_guard_front : List Name → GuardFront → List Name
+with_guard_front names g = with_front (before_expression names g) (expression_in g)
+
+-- whether a word is that of the atom that always holds
+abbrev pub truth_worded : Name → Bool
+truth_worded name = is_same name (codes "TRUE") || is_same name (codes "true")
+
+-- how many tokens of an expression have been read
+abbrev pub token_count : Front → ℕ
+token_count f = length (front_behind (λ p. p) f [])
+
+-- whether there is one
+abbrev pub is_front : Option Front → Bool
+is_front None = false
+is_front (Some f) = true
+
+-- whether a piece goes on with an expression
+abbrev pub goes_on_with : Front → Piece → Bool
+goes_on_with f p = is_front (inner.step f p)
+
+-- whether a piece stands for an operator or a relation, so that the word before it is a name
+abbrev pub operates : Piece → Bool
+operates Plus = true
+operates Minus = true
+operates Times = true
+operates Caret = true
+operates (Related sign) = true
+operates _ = false
+
+-- whether an expression can begin with a piece
+abbrev pub begins_expression : Piece → Bool
+begins_expression (Word name) = true
+begins_expression (Digits digits) = true
+begins_expression Open = true
+begins_expression Minus = true
+begins_expression _ = false

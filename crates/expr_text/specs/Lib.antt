@@ -1,0 +1,10 @@
+pub mod Pieces
+pub mod Trees
+pub mod Terms
+pub mod Fronts
+pub mod Steps
+pub mod Guards
+pub mod GuardFronts
+pub mod FrontNames
+pub mod Worked
+pub mod TermFronts

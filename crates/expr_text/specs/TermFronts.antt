@@ -1,0 +1,144 @@
+-- The part of an expression that has been read, as terms: brackets are gone, and variables are numbered.
+use Rattle.std.specs.Prelude.{ℕ, zero, suc, min, ◌^◌, List, [], ◌∷◌, map, reverse, pos, Bool, true, false, not}
+use Rattle.model.specs.Programs.{Name}
+use Rattle.model.specs.Terms.{Term, Literal, Variable, Negation, Addition, Subtraction, Multiplication, Exponentiation}
+use Rattle.expr_text.specs.Pieces.{Piece, Digits, Close, Plus, Minus, Times, Caret}
+use Rattle.expr_text.specs.Terms.{number_of, sum_term, product_term, base_term}
+use Rattle.expr_text.specs.Fronts as written
+use Rattle.expr_text.specs.FrontNames.{begins_expression}
+
+-- an exponent over 8 counts as 9: no program has one, and each is refused as 9 is
+abbrev pub limited : Term → Term
+limited (Literal z) = Literal z
+limited (Variable i) = Variable i
+limited (Negation e) = Negation (limited e)
+limited (Addition d e) = Addition (limited d) (limited e)
+limited (Subtraction d e) = Subtraction (limited d) (limited e)
+limited (Multiplication d e) = Multiplication (limited d) (limited e)
+limited (Exponentiation e n) = Exponentiation (limited e) (min n 9)
+
+-- what stands before a product, and before a factor
+pub data Summed : Type 0 where
+  NoSum : Summed
+  PlusAfter : Term → Summed
+  MinusAfter : Term → Summed
+
+pub data Factored : Type 0 where
+  NoProduct : Factored
+  TimesAfter : Term → Factored
+
+pub record Level : Type 0 where
+  pub sum : Summed
+  pub product : Factored
+  pub minuses : ℕ
+
+-- what was read last
+pub data Operand : Type 0 where
+  Wanted : Operand
+  BaseRead : Term → Operand
+  CaretRead : Term → Operand
+  ExponentRead : Term → ℕ → Operand
+
+-- the part that has been read: what stands before each open bracket, the innermost last, what stands before the operand, and
+-- the operand
+pub record Front : Type 0 where
+  pub outer : List Level
+  pub level : Level
+  pub operand : Operand
+
+-- what a written front is as terms over variables with these names
+module _ (names : List Name) where
+  abbrev pub summed_terms : written.Summed → Summed
+  summed_terms written.NoSum = NoSum
+  summed_terms (written.PlusAfter s) = PlusAfter (limited (sum_term names s))
+  summed_terms (written.MinusAfter s) = MinusAfter (limited (sum_term names s))
+
+  abbrev pub factored_terms : written.Factored → Factored
+  factored_terms written.NoProduct = NoProduct
+  factored_terms (written.TimesAfter p) = TimesAfter (limited (product_term names p))
+
+  abbrev pub level_terms : written.Level → Level
+  level_terms l = record { sum = summed_terms l.sum; product = factored_terms l.product; minuses = l.minuses }
+
+  abbrev pub operand_terms : written.Place → Operand
+  operand_terms written.Wanted = Wanted
+  operand_terms (written.BaseRead b) = BaseRead (limited (base_term names b))
+  operand_terms (written.CaretRead b) = CaretRead (limited (base_term names b))
+  operand_terms (written.ExponentRead b digits) = ExponentRead (limited (base_term names b)) (min (number_of digits) 9)
+
+  abbrev pub front_terms : written.Front → Front
+  front_terms f = record { outer = reverse (map level_terms f.outer); level = level_terms f.level; operand = operand_terms f.place }
+
+-- a term behind so many `-`
+abbrev pub negated : ℕ → Term → Term
+negated zero t = t
+negated (suc n) t = negated n (Negation t)
+
+-- the product that a factor ends, and the sum that a product ends
+abbrev pub product_with : Factored → Term → Term
+product_with NoProduct t = t
+product_with (TimesAfter p) t = Multiplication p t
+
+abbrev pub sum_with : Summed → Term → Term
+sum_with NoSum t = t
+sum_with (PlusAfter s) t = Addition s t
+sum_with (MinusAfter s) t = Subtraction s t
+
+-- a base as a factor, or a base with its exponent
+abbrev pub factor_in : Operand → Term
+factor_in Wanted = Literal (pos 0)
+factor_in (BaseRead t) = t
+factor_in (CaretRead t) = t
+factor_in (ExponentRead t n) = Exponentiation t n
+
+-- the product and the sum that an operand ends
+abbrev pub product_made : Level → Operand → Term
+product_made l o = product_with l.product (negated l.minuses (factor_in o))
+
+abbrev pub sum_made : Level → Operand → Term
+sum_made l o = sum_with l.sum (product_made l o)
+
+-- nothing stands before an operand
+abbrev pub empty_level : Level
+empty_level = record { sum = NoSum; product = NoProduct; minuses = 0 }
+
+-- what a word, digits, a `-` or a `^` makes of an operand
+abbrev pub with_digits : Operand → List ℕ → Operand
+with_digits (CaretRead t) digits = ExponentRead t (min (number_of digits) 9)
+with_digits Wanted digits = BaseRead (Literal (pos (min (number_of digits) (2 ^ 63))))
+with_digits (BaseRead t) digits = BaseRead (Literal (pos (min (number_of digits) (2 ^ 63))))
+with_digits (ExponentRead t n) digits = BaseRead (Literal (pos (min (number_of digits) (2 ^ 63))))
+
+abbrev pub with_caret : Operand → Operand
+with_caret (BaseRead t) = CaretRead t
+with_caret Wanted = Wanted
+with_caret (CaretRead t) = CaretRead t
+with_caret (ExponentRead t n) = ExponentRead t n
+
+-- whether a factor has been read
+abbrev pub has_factor : Operand → Bool
+has_factor Wanted = false
+has_factor (BaseRead t) = true
+has_factor (CaretRead t) = false
+has_factor (ExponentRead t n) = true
+
+-- whether a list is empty
+abbrev pub is_empty : List Level → Bool
+is_empty [] = true
+is_empty (l ∷ levels) = false
+
+-- whether a piece goes on behind a factor, and from an operand
+abbrev pub goes_on_behind : List Level → Piece → Bool
+goes_on_behind outer Plus = true
+goes_on_behind outer Minus = true
+goes_on_behind outer Times = true
+goes_on_behind outer Close = not (is_empty outer)
+goes_on_behind outer _ = false
+
+abbrev pub goes_on_from : List Level → Operand → Piece → Bool
+goes_on_from outer Wanted p = begins_expression p
+goes_on_from outer (BaseRead t) Caret = true
+goes_on_from outer (BaseRead t) p = goes_on_behind outer p
+goes_on_from outer (CaretRead t) (Digits digits) = true
+goes_on_from outer (CaretRead t) _ = false
+goes_on_from outer (ExponentRead t n) p = goes_on_behind outer p

@@ -1,0 +1,198 @@
+-- A text goes on from each front that pieces lead to.
+use Rattle.std.specs.Prelude.{◌≡◌, List, [], ◌∷◌, codes, Some, None, refl}
+use Rattle.std.proofs.Common.{◌∙◌, ap}
+use Rattle.model.specs.Programs.{Name}
+use Rattle.text_core.specs.Readers.{next, reached, IsBeginning}
+use Rattle.expr_text.specs.Pieces as inner
+use Rattle.expr_text.specs.Trees.{Sum}
+use Rattle.expr_text.specs.Fronts as expression
+use Rattle.expr_text.specs.Steps as expression_steps
+use Rattle.expr_text.specs.Guards.{Atoms}
+use Rattle.expr_text.specs.GuardFronts as guards
+use Rattle.expr_text.proofs.Ending.{close_ends, close_ends_guard}
+use Rattle.expr_text.proofs.Completing.{expression_completed, guard_completed}
+use Rattle.its_text.specs.Pieces.{Piece, In, Arrow, SquareClose, Remark, word, open_bracket, close_bracket}
+use Rattle.its_text.specs.Written.{RightTerm, Marked, Bare, NoGuard, BehindMark, InSquares, Section, Goal, Start, Variables, Comment}
+use Rattle.its_text.specs.Fronts.{Ruling, Led, Wrap, InCom, Alone, Aimed, Headed, Front, Between, Opened, GoalNamed, GoalSaid, StartNamed, StartOpened, StartListed, StartSaid, StartShut, Listing, CommentNamed, Ruled, SourceNamed, LeftOpened, LeftRead, LeftParted, LeftShut, Arrowed, ComNamed, ComOpened, TargetNamed, RightOpened, Arguing, RightShut, Targeted, GuardMarked, WordRead, MarkGuarding, SquareOpened, SquareGuarding, ruling_with, section_of}
+use Rattle.its_text.specs.Steps.{argued, arguing, guard_ended, guarding, squared, square_ended, shut_by, right_shut, step}
+use Rattle.its_text.specs.Grammar.{programs}
+use Rattle.its_text.proofs.Ends.{ends}
+
+-- pieces lead to a front
+abbrev pub At : List Piece → Front → Type 0
+At done f = reached programs done ≡ Some f
+
+-- where one piece more can go on, so can what is before it
+back : (p : Piece) (done : List Piece) → IsBeginning programs (p ∷ done) → IsBeginning programs done
+back p done b = (b.0, p ∷ b.1, b.2)
+
+-- a step
+pub onward : (done : List Piece) (f g : Front) (p : Piece) → At done f → step f p ≡ Some g → At (p ∷ done) g
+onward done f g p at same = ap (λ o. next step o p) at ∙ same
+
+between_goes : (ss : List Section) (done : List Piece) → At done (Between ss) → IsBeginning programs done
+between_goes ss done at = (ss, [], ends done (Between ss) ss at refl)
+
+goal_said_goes : (ss : List Section) (done : List Piece) → At done (GoalSaid ss) → IsBeginning programs done
+goal_said_goes ss done at = back close_bracket done (between_goes (Goal ∷ ss) (close_bracket ∷ done) (onward done (GoalSaid ss) (Between (Goal ∷ ss)) close_bracket at refl))
+
+goal_named_goes : (ss : List Section) (done : List Piece) → At done (GoalNamed ss) → IsBeginning programs done
+goal_named_goes ss done at = back (word (codes "COMPLEXITY")) done (goal_said_goes ss ((word (codes "COMPLEXITY")) ∷ done) (onward done (GoalNamed ss) (GoalSaid ss) (word (codes "COMPLEXITY")) at refl))
+
+start_shut_goes : (ss : List Section) (name : Name) (done : List Piece) → At done (StartShut ss name) → IsBeginning programs done
+start_shut_goes ss name done at = back close_bracket done (between_goes (Start name ∷ ss) (close_bracket ∷ done) (onward done (StartShut ss name) (Between (Start name ∷ ss)) close_bracket at refl))
+
+start_said_goes : (ss : List Section) (name : Name) (done : List Piece) → At done (StartSaid ss name) → IsBeginning programs done
+start_said_goes ss name done at = back close_bracket done (start_shut_goes ss name (close_bracket ∷ done) (onward done (StartSaid ss name) (StartShut ss name) close_bracket at refl))
+
+start_listed_goes : (ss : List Section) (done : List Piece) → At done (StartListed ss) → IsBeginning programs done
+start_listed_goes ss done at = back (word (codes "f")) done (start_said_goes ss (codes "f") ((word (codes "f")) ∷ done) (onward done (StartListed ss) (StartSaid ss (codes "f")) (word (codes "f")) at refl))
+
+start_opened_goes : (ss : List Section) (done : List Piece) → At done (StartOpened ss) → IsBeginning programs done
+start_opened_goes ss done at = back (word (codes "FUNCTIONSYMBOLS")) done (start_listed_goes ss ((word (codes "FUNCTIONSYMBOLS")) ∷ done) (onward done (StartOpened ss) (StartListed ss) (word (codes "FUNCTIONSYMBOLS")) at refl))
+
+start_named_goes : (ss : List Section) (done : List Piece) → At done (StartNamed ss) → IsBeginning programs done
+start_named_goes ss done at = back open_bracket done (start_opened_goes ss (open_bracket ∷ done) (onward done (StartNamed ss) (StartOpened ss) open_bracket at refl))
+
+listing_goes : (ss : List Section) (names : List Name) (done : List Piece) → At done (Listing ss names) → IsBeginning programs done
+listing_goes ss names done at = back close_bracket done (between_goes (Variables names ∷ ss) (close_bracket ∷ done) (onward done (Listing ss names) (Between (Variables names ∷ ss)) close_bracket at refl))
+
+comment_named_goes : (ss : List Section) (done : List Piece) → At done (CommentNamed ss) → IsBeginning programs done
+comment_named_goes ss done at = back (Remark (41 ∷ [])) done (between_goes (Comment (41 ∷ []) ∷ ss) ((Remark (41 ∷ [])) ∷ done) (onward done (CommentNamed ss) (Between (Comment (41 ∷ []) ∷ ss)) (Remark (41 ∷ [])) at refl))
+
+opened_goes : (ss : List Section) (done : List Piece) → At done (Opened ss) → IsBeginning programs done
+opened_goes ss done at = back (word (codes "VAR")) done (listing_goes ss [] ((word (codes "VAR")) ∷ done) (onward done (Opened ss) (Listing ss []) (word (codes "VAR")) at refl))
+
+ruled_goes : (r : Ruling) (done : List Piece) → At done (Ruled r) → IsBeginning programs done
+ruled_goes r done at = back close_bracket done (between_goes (section_of r) (close_bracket ∷ done) (onward done (Ruled r) (Between (section_of r)) close_bracket at refl))
+
+targeted_goes : (h : Headed) (done : List Piece) → At done (Targeted h) → IsBeginning programs done
+targeted_goes h done at = back close_bracket done (between_goes (section_of (ruling_with h NoGuard)) (close_bracket ∷ done) (onward done (Targeted h) (Between (section_of (ruling_with h NoGuard))) close_bracket at refl))
+
+right_shut_goes : (l : Led) (t : RightTerm) (done : List Piece) → At done (RightShut l t) → IsBeginning programs done
+right_shut_goes l t done at = back close_bracket done (targeted_goes (record { led = l; target = Marked t }) (close_bracket ∷ done) (onward done (RightShut l t) (Targeted (record { led = l; target = Marked t })) close_bracket at refl))
+
+shut_goes : (l : Led) (wrap : Wrap) (t : RightTerm) (done : List Piece) → At done (shut_by l wrap t) → IsBeginning programs done
+shut_goes l InCom t done at = right_shut_goes l t done at
+shut_goes l Alone t done at = targeted_goes (record { led = l; target = Bare t }) done at
+
+right_opened_goes : (a : Aimed) (done : List Piece) → At done (RightOpened a) → IsBeginning programs done
+right_opened_goes a done at = back close_bracket done (shut_goes a.led a.wrap (record { name = a.name; arguments = [] }) (close_bracket ∷ done) (onward done (RightOpened a) (shut_by a.led a.wrap (record { name = a.name; arguments = [] })) close_bracket at refl))
+
+target_named_goes : (a : Aimed) (done : List Piece) → At done (TargetNamed a) → IsBeginning programs done
+target_named_goes a done at = back open_bracket done (right_opened_goes a (open_bracket ∷ done) (onward done (TargetNamed a) (RightOpened a) open_bracket at refl))
+
+com_opened_goes : (l : Led) (done : List Piece) → At done (ComOpened l) → IsBeginning programs done
+com_opened_goes l done at = back (word (codes "f")) done (target_named_goes (record { led = l; wrap = InCom; name = codes "f" }) ((word (codes "f")) ∷ done) (onward done (ComOpened l) (TargetNamed (record { led = l; wrap = InCom; name = codes "f" })) (word (codes "f")) at refl))
+
+com_named_goes : (l : Led) (done : List Piece) → At done (ComNamed l) → IsBeginning programs done
+com_named_goes l done at = back open_bracket done (com_opened_goes l (open_bracket ∷ done) (onward done (ComNamed l) (ComOpened l) open_bracket at refl))
+
+arrowed_goes : (l : Led) (done : List Piece) → At done (Arrowed l) → IsBeginning programs done
+arrowed_goes l done at = back (word (codes "f")) done (target_named_goes (record { led = l; wrap = Alone; name = codes "f" }) ((word (codes "f")) ∷ done) (onward done (Arrowed l) (TargetNamed (record { led = l; wrap = Alone; name = codes "f" })) (word (codes "f")) at refl))
+
+left_shut_goes : (l : Led) (done : List Piece) → At done (LeftShut l) → IsBeginning programs done
+left_shut_goes l done at = back Arrow done (arrowed_goes l (Arrow ∷ done) (onward done (LeftShut l) (Arrowed l) Arrow at refl))
+
+left_opened_goes : (r : Ruling) (name : Name) (done : List Piece) → At done (LeftOpened r name) → IsBeginning programs done
+left_opened_goes r name done at = back close_bracket done (left_shut_goes (record { ruling = r; left = record { name = name; arguments = [] } }) (close_bracket ∷ done) (onward done (LeftOpened r name) (LeftShut (record { ruling = r; left = record { name = name; arguments = [] } })) close_bracket at refl))
+
+left_read_goes : (r : Ruling) (name a : Name) (earlier : List Name) (done : List Piece) → At done (LeftRead r name a earlier) → IsBeginning programs done
+left_read_goes r name a earlier done at = back close_bracket done (left_shut_goes (record { ruling = r; left = record { name = name; arguments = a ∷ earlier } }) (close_bracket ∷ done) (onward done (LeftRead r name a earlier) (LeftShut (record { ruling = r; left = record { name = name; arguments = a ∷ earlier } })) close_bracket at refl))
+
+left_parted_goes : (r : Ruling) (name a : Name) (earlier : List Name) (done : List Piece) → At done (LeftParted r name a earlier) → IsBeginning programs done
+left_parted_goes r name a earlier done at = back (word (codes "f")) done (left_read_goes r name (codes "f") (a ∷ earlier) ((word (codes "f")) ∷ done) (onward done (LeftParted r name a earlier) (LeftRead r name (codes "f") (a ∷ earlier)) (word (codes "f")) at refl))
+
+source_named_goes : (r : Ruling) (name : Name) (done : List Piece) → At done (SourceNamed r name) → IsBeginning programs done
+source_named_goes r name done at = back open_bracket done (left_opened_goes r name (open_bracket ∷ done) (onward done (SourceNamed r name) (LeftOpened r name) open_bracket at refl))
+
+guard_marked_goes : (h : Headed) (done : List Piece) → At done (GuardMarked h) → IsBeginning programs done
+guard_marked_goes h done at = back close_bracket done (between_goes (section_of (ruling_with h (BehindMark None))) (close_bracket ∷ done) (onward done (GuardMarked h) (Between (section_of (ruling_with h (BehindMark None)))) close_bracket at refl))
+
+word_read_goes : (h : Headed) (name : Name) (done : List Piece) → At done (WordRead h name) → IsBeginning programs done
+word_read_goes h name done at = back open_bracket done (left_opened_goes (ruling_with h (BehindMark None)) name (open_bracket ∷ done) (onward done (WordRead h name) (LeftOpened (ruling_with h (BehindMark None)) name) open_bracket at refl))
+
+square_opened_goes : (h : Headed) (done : List Piece) → At done (SquareOpened h) → IsBeginning programs done
+square_opened_goes h done at = back SquareClose done (ruled_goes (ruling_with h (InSquares None)) (SquareClose ∷ done) (onward done (SquareOpened h) (Ruled (ruling_with h (InSquares None))) SquareClose at refl))
+
+-- an argument can be completed, and then the term closes
+arguing_steps : (a : Aimed) (arguments : List Sum) (done : List Piece) (e f : expression.Front) (p : inner.Piece)
+    → At done (Arguing a arguments e) → expression_steps.step e p ≡ Some f → At (In p ∷ done) (Arguing a arguments f)
+arguing_steps a arguments done e f p at same = onward done (Arguing a arguments e) (Arguing a arguments f) (In p) at (ap (λ o. arguing a arguments e o p) same)
+
+-- the closing bracket behind an argument that can end
+pub argument_closes : (a : Aimed) (arguments : List Sum) (e : expression.Front) (s : Sum) → expression_steps.finish e ≡ Some s
+    → step (Arguing a arguments e) close_bracket ≡ Some (right_shut a (s ∷ arguments))
+argument_closes a arguments e s same = ap (λ o. arguing a arguments e o inner.Close) (close_ends e s same) ∙ ap (λ o. argued a arguments o inner.Close) same
+
+arguing_ends : (a : Aimed) (arguments : List Sum) (done : List Piece) (e : expression.Front) (s : Sum)
+    → At done (Arguing a arguments e) → expression_steps.finish e ≡ Some s → IsBeginning programs done
+arguing_ends a arguments done e s at same =
+    back close_bracket done (shut_goes a.led a.wrap (record { name = a.name; arguments = s ∷ arguments }) (close_bracket ∷ done)
+    (onward done (Arguing a arguments e) (right_shut a (s ∷ arguments)) close_bracket at (argument_closes a arguments e s same)))
+
+arguing_goes : (a : Aimed) (arguments : List Sum) (e : expression.Front) (done : List Piece) → At done (Arguing a arguments e) → IsBeginning programs done
+arguing_goes a arguments e done at =
+    expression_completed In (λ behind f. At behind (Arguing a arguments f)) (λ behind. IsBeginning programs behind)
+    (arguing_steps a arguments) back (arguing_ends a arguments) e done at
+
+-- so can atoms, and then the section or the square bracket closes
+mark_steps : (h : Headed) (done : List Piece) (g k : guards.GuardFront) (p : inner.Piece)
+    → At done (MarkGuarding h g) → guards.step g p ≡ Some k → At (In p ∷ done) (MarkGuarding h k)
+mark_steps h done g k p at same = onward done (MarkGuarding h g) (MarkGuarding h k) (In p) at (ap (λ o. guarding h g o p) same)
+
+mark_ends : (h : Headed) (done : List Piece) (g : guards.GuardFront) (atoms : Atoms) → At done (MarkGuarding h g) → guards.finish g ≡ Some atoms → IsBeginning programs done
+mark_ends h done g atoms at same =
+    back close_bracket done (between_goes (section_of (ruling_with h (BehindMark (Some atoms)))) (close_bracket ∷ done)
+    (onward done (MarkGuarding h g) (Between (section_of (ruling_with h (BehindMark (Some atoms))))) close_bracket at
+    (ap (λ o. guarding h g o inner.Close) (close_ends_guard g atoms same) ∙ ap (λ o. guard_ended h o inner.Close) same)))
+
+mark_goes : (h : Headed) (g : guards.GuardFront) (done : List Piece) → At done (MarkGuarding h g) → IsBeginning programs done
+mark_goes h g done at =
+    guard_completed In (λ behind k. At behind (MarkGuarding h k)) (λ behind. IsBeginning programs behind) (mark_steps h) back (mark_ends h) g done at
+
+square_steps : (h : Headed) (done : List Piece) (g k : guards.GuardFront) (p : inner.Piece)
+    → At done (SquareGuarding h g) → guards.step g p ≡ Some k → At (In p ∷ done) (SquareGuarding h k)
+square_steps h done g k p at same = onward done (SquareGuarding h g) (SquareGuarding h k) (In p) at (ap (λ o. squared h o) same)
+
+square_ends : (h : Headed) (done : List Piece) (g : guards.GuardFront) (atoms : Atoms) → At done (SquareGuarding h g) → guards.finish g ≡ Some atoms → IsBeginning programs done
+square_ends h done g atoms at same =
+    back SquareClose done (ruled_goes (ruling_with h (InSquares (Some atoms))) (SquareClose ∷ done)
+    (onward done (SquareGuarding h g) (Ruled (ruling_with h (InSquares (Some atoms)))) SquareClose at (ap (λ o. square_ended h o) same)))
+
+square_goes : (h : Headed) (g : guards.GuardFront) (done : List Piece) → At done (SquareGuarding h g) → IsBeginning programs done
+square_goes h g done at =
+    guard_completed In (λ behind k. At behind (SquareGuarding h k)) (λ behind. IsBeginning programs behind) (square_steps h) back (square_ends h) g done at
+
+-- a text goes on from each front that pieces lead to
+pub goes_on : (done : List Piece) (f : Front) → reached programs done ≡ Some f → IsBeginning programs done
+goes_on done (Between ss) at = between_goes ss done at
+goes_on done (Opened ss) at = opened_goes ss done at
+goes_on done (GoalNamed ss) at = goal_named_goes ss done at
+goes_on done (GoalSaid ss) at = goal_said_goes ss done at
+goes_on done (StartNamed ss) at = start_named_goes ss done at
+goes_on done (StartOpened ss) at = start_opened_goes ss done at
+goes_on done (StartListed ss) at = start_listed_goes ss done at
+goes_on done (StartSaid ss name) at = start_said_goes ss name done at
+goes_on done (StartShut ss name) at = start_shut_goes ss name done at
+goes_on done (Listing ss names) at = listing_goes ss names done at
+goes_on done (CommentNamed ss) at = comment_named_goes ss done at
+goes_on done (Ruled r) at = ruled_goes r done at
+goes_on done (SourceNamed r name) at = source_named_goes r name done at
+goes_on done (LeftOpened r name) at = left_opened_goes r name done at
+goes_on done (LeftRead r name a earlier) at = left_read_goes r name a earlier done at
+goes_on done (LeftParted r name a earlier) at = left_parted_goes r name a earlier done at
+goes_on done (LeftShut l) at = left_shut_goes l done at
+goes_on done (Arrowed l) at = arrowed_goes l done at
+goes_on done (ComNamed l) at = com_named_goes l done at
+goes_on done (ComOpened l) at = com_opened_goes l done at
+goes_on done (TargetNamed a) at = target_named_goes a done at
+goes_on done (RightOpened a) at = right_opened_goes a done at
+goes_on done (Arguing a arguments e) at = arguing_goes a arguments e done at
+goes_on done (RightShut l t) at = right_shut_goes l t done at
+goes_on done (Targeted h) at = targeted_goes h done at
+goes_on done (GuardMarked h) at = guard_marked_goes h done at
+goes_on done (WordRead h name) at = word_read_goes h name done at
+goes_on done (MarkGuarding h g) at = mark_goes h g done at
+goes_on done (SquareOpened h) at = square_opened_goes h done at
+goes_on done (SquareGuarding h g) at = square_goes h g done at

@@ -1,0 +1,39 @@
+-- Where a text can end, its pieces are those of the sections that have been read.
+use Rattle.std.specs.Prelude.{◌≡◌, List, [], ◌∷◌, Option, Some, None, ⊤, refl}
+use Rattle.std.proofs.Common.{◌∙◌, ap, subst}
+use Rattle.text_core.specs.Readers.{onto, next, reached}
+use Rattle.its_text.specs.Pieces.{Piece}
+use Rattle.its_text.specs.Written.{Section}
+use Rattle.its_text.specs.Fronts.{Front, front_pieces}
+use Rattle.its_text.specs.Steps.{step, finish}
+use Rattle.its_text.specs.Grammar.{Writes, programs}
+use Rattle.its_text.proofs.StepLaws.{Leads, step_leads, EndsWritten, finish_leads}
+use Rattle.its_text.proofs.Shapes.{IsFront, Keeps, step_keeps, EndsShaped, finish_keeps}
+
+-- what is known of a front that pieces lead to: it is written as they are, and its targets are as they are to be
+abbrev pub Known : List Piece → Option Front → Type 0
+Known done None = ⊤
+Known done (Some f) = (front_pieces f ≡ done) × IsFront f
+
+step_known : (done : List Piece) (f : Front) (p : Piece) (o : Option Front) → front_pieces f ≡ done → Leads (front_pieces f) p o → Keeps o → Known (p ∷ done) o
+step_known done f p None e l k = tt
+step_known done f p (Some g) e l k = (l ∙ ap (λ before. p ∷ before) e, k)
+
+next_known : (done : List Piece) (p : Piece) (o : Option Front) → Known done o → Known (p ∷ done) (next step o p)
+next_known done p None h = tt
+next_known done p (Some f) h = step_known done f p (step f p) h.0 (step_leads f p) (step_keeps f p h.1)
+
+reached_known : (done : List Piece) → Known done (reached programs done)
+reached_known [] = (refl, tt)
+reached_known (p ∷ done) = next_known done p (reached programs done) (reached_known done)
+
+-- a front that pieces lead to is written as they are
+pub front_known : (done : List Piece) (f : Front) → reached programs done ≡ Some f → (front_pieces f ≡ done) × IsFront f
+front_known done f at = subst (λ o. Known done o) at (reached_known done)
+
+-- the pieces of a text that can end are those of its sections
+pub ends : (done : List Piece) (f : Front) (ss : List Section) → reached programs done ≡ Some f → finish f ≡ Some ss → Writes ss (onto done [])
+ends done f ss at same = record {
+  are = subst (λ o. EndsShaped o) same (finish_keeps f (front_known done f at).1);
+  pieces = ap (λ behind. onto behind []) (subst (λ o. EndsWritten (front_pieces f) o) same (finish_leads f) ∙ (front_known done f at).0);
+}

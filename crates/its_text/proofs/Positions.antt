@@ -1,0 +1,162 @@
+-- What a front shows stands at the last byte that was read or at the next token.
+use Rattle.std.specs.Prelude.{◌≡◌, ℕ, Bool, true, false, nat_le, length, if◌then◌else◌, List, [], ◌∷◌, ◌++◌, Option, Some, None, ◌⊎◌, ⊤, refl}
+use Rattle.std.proofs.Common.{◌∙◌, ap, inl, inr}
+use Rattle.model.specs.Programs.{Name}
+use Rattle.text_core.specs.Readers.{Fault}
+use Rattle.text_core.specs.Faults.{Among, next_at}
+use Rattle.poly_terms.specs.Faults as polynomials
+use Rattle.expr_text.specs.Pieces as inner
+use Rattle.expr_text.specs.Trees.{Sum}
+use Rattle.expr_text.specs.Steps as expression_steps
+use Rattle.expr_text.specs.GuardFronts.{GuardFront, LeftSide, RightSide}
+use Rattle.expr_text.specs.FrontNames.{before_expression, goes_on_with, token_count}
+use Rattle.its_text.specs.Pieces.{Piece, In, Comma, Arrow, GuardMark, SquareOpen, SquareClose, Disjoining, Remark, Wrong, Strange}
+use Rattle.its_text.specs.Fronts.{Front, Between, Opened, GoalNamed, GoalSaid, StartNamed, StartOpened, StartListed, StartSaid, StartShut, Listing, CommentNamed, Ruled, SourceNamed, LeftOpened, LeftRead, LeftParted, LeftShut, Arrowed, ComNamed, ComOpened, TargetNamed, RightOpened, Arguing, RightShut, Targeted, GuardMarked, WordRead, MarkGuarding, SquareOpened, SquareGuarding}
+use Rattle.its_text.specs.FrontNames.{names_with, headed_names}
+use Rattle.text_core.specs.Names.{is_among}
+use Rattle.its_text.specs.Kinds.{Kind, TooManyRules, TooManyArguments, TooManyVariables, TooManyAtoms, LongName, TooManyTokens, Syntax, RepeatedSection, ManyTargets, LeftNotVariable, LeftRepeated, ArityDiffers, NumberTooLarge, Limit}
+use Rattle.its_text.specs.Shown as shown
+use Rattle.its_text.specs.Shown.{Tokens, Found, fault_if, last_byte, next_piece, piece_behind, left_wanted, left_of, going_faults, token_faults, going, Going, expansion_faults, argument_faults, difference_faults, right_side_faults, ends_expression, atom_faults, ended_faults, shown_next, shown_last}
+
+-- each fault of a list stands at a position
+abbrev pub StandAt : ℕ → Found → Type 0
+StandAt at [] = ⊤
+StandAt at (x ∷ xs) = (x.at ≡ at) × StandAt at xs
+
+both : (at : ℕ) (xs ys : Found) → StandAt at xs → StandAt at ys → StandAt at (xs ++ ys)
+both at [] ys a b = b
+both at (x ∷ xs) ys a b = (a.0, both at xs ys a.1 b)
+
+if_at : (test : Bool) (kind : Kind) (at : ℕ) → StandAt at (fault_if test kind at)
+if_at true kind at = (refl, tt)
+if_at false kind at = tt
+
+then_if : (at : ℕ) (xs : Found) (test : Bool) (kind : Kind) → StandAt at xs → StandAt at (xs ++ fault_if test kind at)
+then_if at xs test kind h = both at xs (fault_if test kind at) h (if_at test kind at)
+
+choice_at : (at : ℕ) (test : Bool) (xs : Found) → StandAt at xs → StandAt at (if test then xs else [])
+choice_at at true xs h = h
+choice_at at false xs h = tt
+
+expansion_at : (at : ℕ) (o : Option polynomials.Fault) → StandAt at (expansion_faults at o)
+expansion_at at None = tt
+expansion_at at (Some fault) = (refl, tt)
+
+argument_at : (at : ℕ) (names : List Name) (o : Option Sum) → StandAt at (argument_faults at names o)
+argument_at at names None = tt
+argument_at at names (Some s) = expansion_at at _
+
+right_side_at : (at : ℕ) (names : List Name) (l : Sum) (sign : inner.Sign) (o : Option Sum) → StandAt at (right_side_faults at names l sign o)
+right_side_at at names l sign None = tt
+right_side_at at names l sign (Some r) = expansion_at at _
+
+atom_at : (at : ℕ) (names : List Name) (g : GuardFront) (next : Option Piece) → StandAt at (atom_faults at names g next)
+atom_at at names (LeftSide c e) next = tt
+atom_at at names (RightSide c l sign e) next = choice_at at (ends_expression e next) _ (right_side_at at (before_expression names (RightSide c l sign e)) l sign (expression_steps.finish e))
+
+left_at : (at : ℕ) (o : Option (List Name)) (next behind : Option Piece) → StandAt at (left_of at o next behind)
+left_at at None next behind = tt
+left_at at (Some arguments) None behind = tt
+left_at at (Some arguments) (Some (In (inner.Word name))) behind =
+    then_if at (fault_if (shown.is_operator behind) LeftNotVariable at ++ fault_if (is_among name arguments) LeftRepeated at) (nat_le 32 (length arguments)) (Limit TooManyArguments)
+    (then_if at (fault_if (shown.is_operator behind) LeftNotVariable at) (is_among name arguments) LeftRepeated (if_at (shown.is_operator behind) LeftNotVariable at))
+left_at at (Some arguments) (Some (In (inner.Digits ds))) behind = tt
+left_at at (Some arguments) (Some (In inner.Open)) behind = tt
+left_at at (Some arguments) (Some (In inner.Close)) behind = tt
+left_at at (Some arguments) (Some (In inner.Plus)) behind = tt
+left_at at (Some arguments) (Some (In inner.Minus)) behind = tt
+left_at at (Some arguments) (Some (In inner.Times)) behind = tt
+left_at at (Some arguments) (Some (In inner.Caret)) behind = tt
+left_at at (Some arguments) (Some (In (inner.Related sign))) behind = tt
+left_at at (Some arguments) (Some (In (inner.Joining joint))) behind = tt
+left_at at (Some arguments) (Some Comma) behind = tt
+left_at at (Some arguments) (Some Arrow) behind = tt
+left_at at (Some arguments) (Some GuardMark) behind = tt
+left_at at (Some arguments) (Some SquareOpen) behind = tt
+left_at at (Some arguments) (Some SquareClose) behind = tt
+left_at at (Some arguments) (Some Disjoining) behind = tt
+left_at at (Some arguments) (Some (Remark bytes)) behind = tt
+left_at at (Some arguments) (Some Wrong) behind = tt
+left_at at (Some arguments) (Some Strange) behind = tt
+
+going_at : (at : ℕ) (g : Going) (p : inner.Piece) (behind : Option Piece) → StandAt at (going_faults at g p behind)
+going_at at g p behind =
+    then_if at (fault_if (shown.is_large p) NumberTooLarge at ++ fault_if (shown.is_65th g p behind) (Limit TooManyVariables) at) (nat_le 1024 (token_count g.front)) (Limit TooManyTokens)
+    (then_if at (fault_if (shown.is_large p) NumberTooLarge at) (shown.is_65th g p behind) (Limit TooManyVariables) (if_at (shown.is_large p) NumberTooLarge at))
+
+token_at : (at : ℕ) (o : Option Going) (next behind : Option Piece) → StandAt at (token_faults at o next behind)
+token_at at None next behind = tt
+token_at at (Some g) None behind = tt
+token_at at (Some g) (Some (In p)) behind = choice_at at (goes_on_with g.front p) (going_faults at g p behind) (going_at at g p behind)
+token_at at (Some g) (Some Comma) behind = tt
+token_at at (Some g) (Some Arrow) behind = tt
+token_at at (Some g) (Some GuardMark) behind = tt
+token_at at (Some g) (Some SquareOpen) behind = tt
+token_at at (Some g) (Some SquareClose) behind = tt
+token_at at (Some g) (Some Disjoining) behind = tt
+token_at at (Some g) (Some (Remark bytes)) behind = tt
+token_at at (Some g) (Some Wrong) behind = tt
+token_at at (Some g) (Some Strange) behind = tt
+
+ended_at : (at : ℕ) (f : Front) (next : Option Piece) → StandAt at (ended_faults at f next)
+ended_at at (Between ss) next = tt
+ended_at at (Opened ss) next = tt
+ended_at at (GoalNamed ss) next = tt
+ended_at at (GoalSaid ss) next = tt
+ended_at at (StartNamed ss) next = tt
+ended_at at (StartOpened ss) next = tt
+ended_at at (StartListed ss) next = tt
+ended_at at (StartSaid ss start) next = tt
+ended_at at (StartShut ss start) next = tt
+ended_at at (Listing ss names) next = tt
+ended_at at (CommentNamed ss) next = tt
+ended_at at (Ruled r) next = tt
+ended_at at (SourceNamed r source) next = tt
+ended_at at (LeftOpened r source) next = tt
+ended_at at (LeftRead r source a earlier) next = tt
+ended_at at (LeftParted r source a earlier) next = tt
+ended_at at (LeftShut l) next = tt
+ended_at at (Arrowed l) next = tt
+ended_at at (ComNamed l) next = tt
+ended_at at (ComOpened l) next = tt
+ended_at at (TargetNamed a) next = tt
+ended_at at (RightOpened a) next = tt
+ended_at at (Arguing a arguments e) next = choice_at at (ends_expression e next) _ (argument_at at (names_with a.led arguments) (expression_steps.finish e))
+ended_at at (RightShut l t) next = tt
+ended_at at (Targeted h) next = tt
+ended_at at (GuardMarked h) next = tt
+ended_at at (WordRead h name) next = tt
+ended_at at (MarkGuarding h g) next = atom_at at (headed_names h) g next
+ended_at at (SquareOpened h) next = tt
+ended_at at (SquareGuarding h g) next = atom_at at (headed_names h) g next
+
+last_at : (at : ℕ) (f : Front) (next : Option Piece) → StandAt at (shown_last at f next)
+last_at at f next = both at (fault_if (shown.differs f) ArityDiffers at) (ended_faults at f next) (if_at (shown.differs f) ArityDiffers at) (ended_at at f next)
+
+next_stands : (at : ℕ) (f : Front) (next behind : Option Piece) → StandAt at (shown_next at f next behind)
+next_stands at f next behind =
+    both at (fault_if (shown.targets_again f next behind) Syntax at ++ fault_if (shown.repeats_at f next behind) RepeatedSection at ++ fault_if (shown.targets_many f next behind) ManyTargets at ++ left_of at (left_wanted f) next behind ++ fault_if (shown.too_many_rules f next behind) (Limit TooManyRules) at ++ fault_if (shown.is_33rd f next) (Limit TooManyArguments) at ++ fault_if (shown.another_atom f next) (Limit TooManyAtoms) at ++ fault_if (shown.long_name next) (Limit LongName) at) (token_faults at (going f next behind) next behind)
+    (then_if at (fault_if (shown.targets_again f next behind) Syntax at ++ fault_if (shown.repeats_at f next behind) RepeatedSection at ++ fault_if (shown.targets_many f next behind) ManyTargets at ++ left_of at (left_wanted f) next behind ++ fault_if (shown.too_many_rules f next behind) (Limit TooManyRules) at ++ fault_if (shown.is_33rd f next) (Limit TooManyArguments) at ++ fault_if (shown.another_atom f next) (Limit TooManyAtoms) at) (shown.long_name next) (Limit LongName) (then_if at (fault_if (shown.targets_again f next behind) Syntax at ++ fault_if (shown.repeats_at f next behind) RepeatedSection at ++ fault_if (shown.targets_many f next behind) ManyTargets at ++ left_of at (left_wanted f) next behind ++ fault_if (shown.too_many_rules f next behind) (Limit TooManyRules) at ++ fault_if (shown.is_33rd f next) (Limit TooManyArguments) at) (shown.another_atom f next) (Limit TooManyAtoms) (then_if at (fault_if (shown.targets_again f next behind) Syntax at ++ fault_if (shown.repeats_at f next behind) RepeatedSection at ++ fault_if (shown.targets_many f next behind) ManyTargets at ++ left_of at (left_wanted f) next behind ++ fault_if (shown.too_many_rules f next behind) (Limit TooManyRules) at) (shown.is_33rd f next) (Limit TooManyArguments) (then_if at (fault_if (shown.targets_again f next behind) Syntax at ++ fault_if (shown.repeats_at f next behind) RepeatedSection at ++ fault_if (shown.targets_many f next behind) ManyTargets at ++ left_of at (left_wanted f) next behind) (shown.too_many_rules f next behind) (Limit TooManyRules) (both at (fault_if (shown.targets_again f next behind) Syntax at ++ fault_if (shown.repeats_at f next behind) RepeatedSection at ++ fault_if (shown.targets_many f next behind) ManyTargets at) (left_of at (left_wanted f) next behind) (then_if at (fault_if (shown.targets_again f next behind) Syntax at ++ fault_if (shown.repeats_at f next behind) RepeatedSection at) (shown.targets_many f next behind) ManyTargets (then_if at (fault_if (shown.targets_again f next behind) Syntax at) (shown.repeats_at f next behind) RepeatedSection (if_at (shown.targets_again f next behind) Syntax at))) (left_at at (left_wanted f) next behind))))))
+    (token_at at (going f next behind) next behind)
+
+among_at : (at : ℕ) (x : Fault Kind) (xs : Found) → StandAt at xs → Among x xs → x.at ≡ at
+among_at at x [] h m = absurd m
+among_at at x (y ∷ ys) h (inl same) = ap (λ z. z.at) same ∙ h.0
+among_at at x (y ∷ ys) h (inr more) = among_at at x ys h.1 more
+
+split : (x : Fault Kind) (xs ys : Found) → Among x (xs ++ ys) → (Among x xs) ⊎ (Among x ys)
+split x [] ys m = inr m
+split x (y ∷ xs) ys (inl same) = inl (inl same)
+split x (y ∷ xs) ys (inr more) = go (split x xs ys more)
+  where
+    go : (Among x xs) ⊎ (Among x ys) → (Among x (y ∷ xs)) ⊎ (Among x ys)
+    go (inl m) = inl (inr m)
+    go (inr m) = inr m
+
+-- what a front shows stands at the last byte that was read, or at the next token
+pub stands : (n : ℕ) (done : Tokens) (f : Front) (rest : Tokens) (x : Fault Kind) → Among x (shown.shown n done f rest) → (x.at ≡ last_byte done) ⊎ (x.at ≡ next_at n rest)
+stands n done f rest x m = go (split x (shown_last (last_byte done) f (next_piece rest)) _ m)
+  where
+    go : (Among x (shown_last (last_byte done) f (next_piece rest))) ⊎ (Among x (shown_next (next_at n rest) f (next_piece rest) (piece_behind rest))) → (x.at ≡ last_byte done) ⊎ (x.at ≡ next_at n rest)
+    go (inl a) = inl (among_at (last_byte done) x _ (last_at (last_byte done) f (next_piece rest)) a)
+    go (inr a) = inr (among_at (next_at n rest) x _ (next_stands (next_at n rest) f (next_piece rest) (piece_behind rest)) a)

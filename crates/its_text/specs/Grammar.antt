@@ -1,0 +1,47 @@
+-- The reader of program texts, as trees with the pieces that they are written as.
+use Rattle.std.specs.Prelude.{◌≡◌, codes, List, [], ◌∷◌, IsFalse, ⊤}
+use Rattle.text_core.specs.Names.{is_same}
+use Rattle.text_core.specs.Readers.{Reader, onto}
+use Rattle.its_text.specs.Pieces.{Piece}
+use Rattle.its_text.specs.Written.{Target, Marked, Bare, WrittenRule, Section, Goal, Start, Variables, Rules, Comment, pieces_behind}
+use Rattle.its_text.specs.Fronts.{Front}
+use Rattle.its_text.specs.Steps.{beginning, step, finish}
+use Rattle.its_text.specs.Kinds.{Kind, kind_number}
+use Rattle.its_text.specs.Shown.{shown, off}
+
+-- behind an arrow `Com_1` is no symbol of its own
+abbrev pub IsTarget : Target → Type 0
+IsTarget (Marked t) = ⊤
+IsTarget (Bare t) = IsFalse (is_same t.name (codes "Com_1"))
+
+abbrev pub HaveTargets : List WrittenRule → Type 0
+HaveTargets [] = ⊤
+HaveTargets (r ∷ rules) = IsTarget r.target × HaveTargets rules
+
+abbrev pub IsSection : Section → Type 0
+IsSection Goal = ⊤
+IsSection (Start name) = ⊤
+IsSection (Variables names) = ⊤
+IsSection (Rules rules) = HaveTargets rules
+IsSection (Comment bytes) = ⊤
+
+abbrev pub AreSections : List Section → Type 0
+AreSections [] = ⊤
+AreSections (s ∷ sections) = IsSection s × AreSections sections
+
+-- the sections are written as these pieces
+pub record Writes (sections : List Section) (ps : List Piece) : Type 0 where
+  pub are : AreSections sections
+  pub pieces : onto (pieces_behind sections) [] ≡ ps
+
+-- the reader
+abbrev pub programs : Reader Piece (List Section) Front Kind
+programs = record {
+  Writes = Writes;
+  beginning = beginning;
+  step = step;
+  finish = finish;
+  number = kind_number;
+  shown = shown;
+  off = off;
+}

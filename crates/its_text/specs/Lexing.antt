@@ -1,0 +1,150 @@
+-- The tokens of a program's text: the longest piece is taken, white space stands between pieces, and where a section begins
+-- a comment is passed over up to the bracket that closes it.
+use Rattle.std.specs.Prelude.{ℕ, zero, suc, ◌+◌, ◌-◌, if◌then◌else◌, ◌==◌, ◌&&◌, nat_lt, List, [], ◌∷◌, length, codes, Option, Some, None}
+use Rattle.std.specs.Char.{is_ascii_digit}
+use Rattle.model.specs.Programs.{Name}
+use Rattle.text_core.specs.Prefixes.{prefix}
+use Rattle.text_core.specs.Names.{begins_name, continues_name, is_same}
+use Rattle.text_core.specs.Bytes.{is_white_space, begins_with}
+use Rattle.text_core.specs.Tokens.{Token, Lexeme, token_then}
+use Rattle.expr_text.specs.Pieces as inner
+use Rattle.its_text.specs.Pieces.{Piece, In, Comma, Arrow, GuardMark, SquareOpen, SquareClose, Disjoining, Remark, Wrong, Strange, word, digits, open_bracket, close_bracket}
+
+-- a piece of so many bytes
+abbrev pub lexeme : Piece → ℕ → Lexeme (Option Piece)
+lexeme p len = record { piece = Some p; len = len }
+
+-- what `-`, `>`, `<` and `=` begin, with the bytes behind
+abbrev pub minus_at : List ℕ → Lexeme (Option Piece)
+minus_at bytes =
+    if begins_with 62 bytes then lexeme Arrow 2
+    else if begins_with 123 bytes then lexeme Wrong 1
+    else lexeme (In inner.Minus) 1
+
+-- one of two relations, by whether `=` follows
+abbrev pub related_at : inner.Sign → inner.Sign → List ℕ → Lexeme (Option Piece)
+related_at with_equal alone bytes = if begins_with 61 bytes then lexeme (In (inner.Related with_equal)) 2 else lexeme (In (inner.Related alone)) 1
+
+-- a piece of two bytes, where the second one follows
+abbrev pub pair_at : ℕ → Piece → List ℕ → Lexeme (Option Piece)
+pair_at second p bytes = if begins_with second bytes then lexeme p 2 else lexeme Wrong 1
+
+-- `:|:`, where its other bytes follow
+abbrev pub guard_mark_at : List ℕ → Lexeme (Option Piece)
+guard_mark_at [] = lexeme Wrong 1
+guard_mark_at (b ∷ []) = lexeme Wrong 1
+guard_mark_at (b ∷ c ∷ bytes) = if (b == 124) && (c == 58) then lexeme GuardMark 3 else lexeme Wrong 1
+
+-- what any other byte begins
+abbrev pub mark_at : ℕ → List ℕ → Lexeme (Option Piece)
+mark_at b bytes =
+    if b == 40 then lexeme open_bracket 1
+    else if b == 41 then lexeme close_bracket 1
+    else if b == 44 then lexeme Comma 1
+    else if b == 91 then lexeme SquareOpen 1
+    else if b == 93 then lexeme SquareClose 1
+    else if b == 43 then lexeme (In inner.Plus) 1
+    else if b == 42 then lexeme (In inner.Times) 1
+    else if b == 94 then lexeme (In inner.Caret) 1
+    else if b == 45 then minus_at bytes
+    else if b == 62 then related_at inner.AtLeastSign inner.MoreThanSign bytes
+    else if b == 60 then related_at inner.AtMostSign inner.LessThanSign bytes
+    else if b == 61 then related_at inner.DoubleEqualSign inner.EqualSign bytes
+    else if b == 58 then guard_mark_at bytes
+    else if b == 38 then pair_at 38 (In (inner.Joining inner.Ampersands)) bytes
+    else if b == 47 then pair_at 92 (In (inner.Joining inner.Wedge)) bytes
+    else if b == 124 then pair_at 124 Disjoining bytes
+    else if nat_lt 127 b then lexeme Strange 1
+    else lexeme Wrong 1
+
+-- what the bytes from the first one on begin with
+abbrev pub lexeme_at : ℕ → List ℕ → Lexeme (Option Piece)
+lexeme_at b bytes =
+    if is_white_space b then record { piece = None; len = 1 }
+    else if begins_name b then lexeme (word (b ∷ prefix continues_name bytes)) (1 + length (prefix continues_name bytes))
+    else if is_ascii_digit b then lexeme (digits (b ∷ prefix is_ascii_digit bytes)) (1 + length (prefix is_ascii_digit bytes))
+    else mark_at b bytes
+
+-- what a byte of a comment does: it opens a bracket, closes one, or neither
+pub data Bend : Type 0 where
+  Opening : Bend
+  Closing : Bend
+  Neither : Bend
+
+abbrev pub bend_of : ℕ → Bend
+bend_of b = if b == 40 then Opening else if b == 41 then Closing else Neither
+
+-- one byte more, where there are so many
+abbrev pub one_more : Option ℕ → Option ℕ
+one_more None = None
+one_more (Some n) = Some (suc n)
+
+-- how many bytes there are up to the closing bracket, from a byte on that does something, with so many brackets open in
+-- the comment
+abbrev pub closing_by : Bend → (ℕ → Option ℕ) → ℕ → Option ℕ
+closing_by Opening behind depth = one_more (behind (suc depth))
+closing_by Closing behind zero = Some 1
+closing_by Closing behind (suc depth) = one_more (behind depth)
+closing_by Neither behind depth = one_more (behind depth)
+
+-- how many bytes of a comment there are, with the bracket that closes it, where one does
+abbrev pub closing_at : List ℕ → ℕ → Option ℕ
+closing_at [] depth = None
+closing_at (b ∷ bytes) depth = closing_by (bend_of b) (closing_at bytes) depth
+
+-- what the lexer knows of the place: it stands between sections, behind the bracket that opens one, within one with so many
+-- brackets open in it, or behind the keyword of a comment
+pub data Mode : Type 0 where
+  Outside : Mode
+  AtKeyword : Mode
+  Within : ℕ → Mode
+  InComment : Mode
+
+-- behind a keyword
+abbrev pub behind_keyword : Name → Mode
+behind_keyword name = if is_same name (codes "COMMENT") then InComment else Within 0
+
+-- the mode behind a piece
+abbrev pub mode_behind : Mode → Option Piece → Mode
+mode_behind mode None = mode
+mode_behind Outside (Some (In inner.Open)) = AtKeyword
+mode_behind Outside (Some p) = Outside
+mode_behind AtKeyword (Some (In (inner.Word name))) = behind_keyword name
+mode_behind AtKeyword (Some (In inner.Open)) = Within 1
+mode_behind AtKeyword (Some (In inner.Close)) = Outside
+mode_behind AtKeyword (Some p) = Within 0
+mode_behind (Within depth) (Some (In inner.Open)) = Within (suc depth)
+mode_behind (Within zero) (Some (In inner.Close)) = Outside
+mode_behind (Within (suc depth)) (Some (In inner.Close)) = Within depth
+mode_behind (Within depth) (Some p) = Within depth
+mode_behind InComment (Some p) = Outside
+
+-- so many elements from the front on
+abbrev pub take_front : ℕ → List ℕ → List ℕ
+take_front zero bytes = []
+take_front (suc n) [] = []
+take_front (suc n) (b ∷ bytes) = b ∷ take_front n bytes
+
+-- what a comment says, up to the bracket that closes it; one that isn't closed says nothing, and the text ends with it
+abbrev pub remark_of : ℕ → List ℕ → Option ℕ → Lexeme (Option Piece)
+remark_of b bytes None = record { piece = None; len = 1 + length bytes }
+remark_of b bytes (Some len) = lexeme (Remark (take_front len (b ∷ bytes))) len
+
+-- what the bytes from the first one on begin with, by the mode
+abbrev pub lexeme_in : Mode → ℕ → List ℕ → Lexeme (Option Piece)
+lexeme_in Outside b bytes = lexeme_at b bytes
+lexeme_in AtKeyword b bytes = lexeme_at b bytes
+lexeme_in (Within depth) b bytes = lexeme_at b bytes
+lexeme_in InComment b bytes = remark_of b bytes (closing_at (b ∷ bytes) 0)
+
+-- the tokens of bytes that stand at a position, behind so many that are passed over
+abbrev pub tokens_from : Mode → ℕ → ℕ → List ℕ → List (Token Piece)
+tokens_from mode at skip [] = []
+tokens_from mode at (suc skip) (b ∷ bytes) = tokens_from mode (at + 1) skip bytes
+tokens_from mode at zero (b ∷ bytes) =
+    let l : Lexeme (Option Piece) = lexeme_in mode b bytes in
+    token_then at l.len l.piece (tokens_from (mode_behind mode l.piece) (at + 1) (l.len - 1) bytes)
+
+-- the tokens of a text
+abbrev pub tokens_of : List ℕ → List (Token Piece)
+tokens_of bytes = tokens_from Outside 0 0 bytes

@@ -1,0 +1,13 @@
+pub mod Pieces
+pub mod Lexing
+pub mod Written
+pub mod Numbering
+pub mod Fronts
+pub mod Steps
+pub mod FrontNames
+pub mod Kinds
+pub mod Shown
+pub mod Grammar
+pub mod Spelling
+pub mod Answers
+pub mod Worked

@@ -1,0 +1,31 @@
+-- The pieces of a program's text.
+use Rattle.std.specs.Prelude.{ℕ, List}
+use Rattle.model.specs.Programs.{Name}
+use Rattle.expr_text.specs.Pieces as inner
+
+-- a piece: one of an expression or a guard, a mark of its own, what a comment says with its closing bracket, bytes that
+-- begin no piece, or a byte over 127
+pub data Piece : Type 0 where
+  In : inner.Piece → Piece
+  Comma : Piece
+  Arrow : Piece
+  GuardMark : Piece
+  SquareOpen : Piece
+  SquareClose : Piece
+  Disjoining : Piece
+  Remark : List ℕ → Piece
+  Wrong : Piece
+  Strange : Piece
+
+-- a name, a row of digits, and the round brackets
+abbrev pub word : Name → Piece
+word name = In (inner.Word name)
+
+abbrev pub digits : List ℕ → Piece
+digits ds = In (inner.Digits ds)
+
+abbrev pub open_bracket : Piece
+open_bracket = In inner.Open
+
+abbrev pub close_bracket : Piece
+close_bracket = In inner.Close

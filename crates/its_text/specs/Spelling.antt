@@ -1,0 +1,136 @@
+-- What a text spells, and the limits on texts.
+use Rattle.std.specs.Prelude.{◌≡◌, ℕ, suc, ◌≤◌, Bool, if◌then◌else◌, List, [], ◌∷◌, length, Option, Some, None, IsFalse, ⊤}
+use Rattle.model.specs.Programs.{Name, Symbol, Program}
+use Rattle.poly_terms.specs.Faults as polynomials
+use Rattle.text_core.specs.Names.{AreDistinct}
+use Rattle.text_core.specs.Tokens.{pieces}
+use Rattle.expr_text.specs.Pieces as inner
+use Rattle.expr_text.specs.Trees.{Sum, sum_behind}
+use Rattle.expr_text.specs.Terms.{number_of, sum_term}
+use Rattle.expr_text.specs.Guards.{Atom, Always, Compared, Atoms, First, Joined, count_of, relation_of}
+use Rattle.its_text.specs.Pieces.{Piece, In}
+use Rattle.its_text.specs.Lexing.{tokens_of}
+use Rattle.its_text.specs.Written.{Guard, NoGuard, BehindMark, InSquares, WrittenRule, Section, pieces_behind}
+use Rattle.its_text.specs.Numbering.{is_com, term_in, symbols_of, arity_of, rule_names, rules_of, program_numbered}
+use Rattle.its_text.specs.Grammar.{Writes}
+use Rattle.its_text.specs.Shown.{is_goal, is_start, is_variables, is_rules, differences, first_of_all}
+
+-- how many sections pass a test
+abbrev pub times : (Section → Bool) → List Section → ℕ
+times test [] = 0
+times test (s ∷ sections) = if test s then suc (times test sections) else times test sections
+
+-- sections come in any order; there are the start symbol and the rules, and no kind but comments comes twice
+pub record StandOnce (sections : List Section) : Type 0 where
+  pub goal : times is_goal sections ≤ 1
+  pub start : times is_start sections ≡ 1
+  pub variables : times is_variables sections ≤ 1
+  pub rules : times is_rules sections ≡ 1
+
+-- a term has as many arguments as its symbol has places
+abbrev pub HasArity : List Symbol → Name → ℕ → Type 0
+HasArity symbols name arity = arity_of symbols name ≡ arity
+
+-- no left argument stands twice, the target's symbol isn't `Com_` and digits, and both symbols have their arities
+pub record IsRule (symbols : List Symbol) (r : WrittenRule) : Type 0 where
+  pub left : AreDistinct r.left.arguments
+  pub target : IsFalse (is_com (term_in r.target).name)
+  pub source_arity : HasArity symbols r.left.name (length r.left.arguments)
+  pub target_arity : HasArity symbols (term_in r.target).name (length (term_in r.target).arguments)
+
+-- each is one
+abbrev pub AreRules : List Symbol → List WrittenRule → Type 0
+AreRules symbols [] = ⊤
+AreRules symbols (r ∷ rules) = IsRule symbols r × AreRules symbols rules
+
+-- the rules are those of a program
+abbrev pub HaveRules : Option (List WrittenRule) → Type 0
+HaveRules None = ⊤
+HaveRules (Some rules) = AreRules (symbols_of rules) rules
+
+-- the bytes spell the program: they are the text of sections that stand as they are to, and by numbers the program; the
+-- start symbol is then the source of a rule
+pub record Spells (bytes : List ℕ) (p : Program) : Type 0 where
+  pub written : List Section
+  pub text : Writes written (pieces (tokens_of bytes))
+  pub once : StandOnce written
+  pub rules : HaveRules (rules_of written)
+  pub numbered : program_numbered written ≡ Some p
+
+-- a name has at most 256 bytes, and a literal is at most 2^63 - 1
+abbrev pub IsSmallInner : inner.Piece → Type 0
+IsSmallInner (inner.Word name) = length name ≤ 256
+IsSmallInner (inner.Digits ds) = number_of ds ≤ 9223372036854775807
+IsSmallInner _ = ⊤
+
+abbrev pub IsSmallPiece : Piece → Type 0
+IsSmallPiece (In p) = IsSmallInner p
+IsSmallPiece _ = ⊤
+
+abbrev pub AreSmall : List Piece → Type 0
+AreSmall [] = ⊤
+AreSmall (p ∷ ps) = IsSmallPiece p × AreSmall ps
+
+-- an expression has at most 1,024 tokens
+abbrev pub IsShort : Sum → Type 0
+IsShort s = length (sum_behind (λ p. p) s []) ≤ 1024
+
+-- an argument is short, and can be expanded
+pub record IsArgumentWithin (names : List Name) (s : Sum) : Type 0 where
+  pub tokens : IsShort s
+  pub expanded : polynomials.first_fault (sum_term names s) ≡ None
+
+abbrev pub AreArgumentsWithin : List Name → List Sum → Type 0
+AreArgumentsWithin names [] = ⊤
+AreArgumentsWithin names (s ∷ sums) = IsArgumentWithin names s × AreArgumentsWithin names sums
+
+-- both sides of an atom are short, and its difference can be expanded
+abbrev pub IsAtomWithin : List Name → Atom → Type 0
+IsAtomWithin names (Always t) = ⊤
+IsAtomWithin names (Compared l sign r) =
+    IsShort l × IsShort r × (first_of_all (differences (sum_term names l) (relation_of sign) (sum_term names r)) ≡ None)
+
+abbrev pub AreAtomsWithin : List Name → Atoms → Type 0
+AreAtomsWithin names (First a) = IsAtomWithin names a
+AreAtomsWithin names (Joined atoms joint a) = AreAtomsWithin names atoms × IsAtomWithin names a
+
+-- a guard has at most 64 atoms
+abbrev pub IsMaybeWithin : List Name → Option Atoms → Type 0
+IsMaybeWithin names None = ⊤
+IsMaybeWithin names (Some atoms) = (count_of atoms ≤ 64) × AreAtomsWithin names atoms
+
+abbrev pub IsGuardWithin : List Name → Guard → Type 0
+IsGuardWithin names NoGuard = ⊤
+IsGuardWithin names (BehindMark atoms) = IsMaybeWithin names atoms
+IsGuardWithin names (InSquares atoms) = IsMaybeWithin names atoms
+
+-- a rule has at most 32 arguments on each side and 64 variables
+pub record IsRuleWithin (r : WrittenRule) : Type 0 where
+  pub left : length r.left.arguments ≤ 32
+  pub right : length (term_in r.target).arguments ≤ 32
+  pub variables : length (rule_names r) ≤ 64
+  pub arguments : AreArgumentsWithin (rule_names r) (term_in r.target).arguments
+  pub guard : IsGuardWithin (rule_names r) r.guard
+
+abbrev pub AreRulesWithin : List WrittenRule → Type 0
+AreRulesWithin [] = ⊤
+AreRulesWithin (r ∷ rules) = IsRuleWithin r × AreRulesWithin rules
+
+-- there are at most 1,000 rules
+abbrev pub HaveRulesWithin : Option (List WrittenRule) → Type 0
+HaveRulesWithin None = ⊤
+HaveRulesWithin (Some rules) = (length rules ≤ 1000) × AreRulesWithin rules
+
+-- sections within the limits
+pub record AreWithin (sections : List Section) : Type 0 where
+  pub small : AreSmall (pieces_behind sections)
+  pub rules : HaveRulesWithin (rules_of sections)
+
+-- the bytes spell the program within the limits
+pub record SpellsWithin (bytes : List ℕ) (p : Program) : Type 0 where
+  pub spells : Spells bytes p
+  pub within : AreWithin spells.written
+
+-- one text spells at most one program
+pub record OneProgram : Type 0 where
+  pub each : (bytes : List ℕ) (p q : Program) → Spells bytes p → Spells bytes q → p ≡ q

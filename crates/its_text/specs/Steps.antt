@@ -1,0 +1,162 @@
+-- Where each piece of a program's text leads.
+use Rattle.std.specs.Prelude.{List, [], ◌∷◌, codes, Bool, if◌then◌else◌, Option, Some, None}
+use Rattle.model.specs.Programs.{Name}
+use Rattle.text_core.specs.Names.{is_same}
+use Rattle.expr_text.specs.Pieces as inner
+use Rattle.expr_text.specs.Trees.{Sum, Named}
+use Rattle.expr_text.specs.Fronts as expression
+use Rattle.expr_text.specs.Steps as expression_steps
+use Rattle.expr_text.specs.Guards.{Atoms}
+use Rattle.expr_text.specs.GuardFronts as guards
+use Rattle.its_text.specs.Pieces.{Piece, In, Comma, Arrow, GuardMark, SquareOpen, SquareClose, Remark}
+use Rattle.its_text.specs.Written.{RightTerm, Target, Marked, Bare, NoGuard, BehindMark, InSquares, Section, Goal, Start, Variables, Comment}
+use Rattle.its_text.specs.Fronts.{Ruling, Led, Wrap, InCom, Alone, Aimed, Headed, Front, Between, Opened, GoalNamed, GoalSaid, StartNamed, StartOpened, StartListed, StartSaid, StartShut, Listing, CommentNamed, Ruled, SourceNamed, LeftOpened, LeftRead, LeftParted, LeftShut, Arrowed, ComNamed, ComOpened, TargetNamed, RightOpened, Arguing, RightShut, Targeted, GuardMarked, WordRead, MarkGuarding, SquareOpened, SquareGuarding, ruling_with, section_of}
+
+-- a front where a test passes
+abbrev pub when : Bool → Front → Option Front
+when test f = if test then Some f else None
+
+-- the section that a keyword begins
+abbrev pub section_named : List Section → Name → Option Front
+section_named ss name =
+    if is_same name (codes "GOAL") then Some (GoalNamed ss)
+    else if is_same name (codes "STARTTERM") then Some (StartNamed ss)
+    else if is_same name (codes "VAR") then Some (Listing ss [])
+    else if is_same name (codes "RULES") then Some (Ruled (record { sections = ss; rules = [] }))
+    else if is_same name (codes "COMMENT") then Some (CommentNamed ss)
+    else None
+
+-- the left term ends
+abbrev pub left_shut : Ruling → Name → List Name → Front
+left_shut r name arguments = LeftShut (record { ruling = r; left = record { name = name; arguments = arguments } })
+
+-- a right term's name, by where it stands
+abbrev pub aimed : Led → Wrap → Name → Front
+aimed l wrap name = TargetNamed (record { led = l; wrap = wrap; name = name })
+
+-- `Com_1` behind an arrow, or the name of a term
+abbrev pub behind_arrow : Led → Name → Front
+behind_arrow l name = if is_same name (codes "Com_1") then ComNamed l else aimed l Alone name
+
+-- a rule's target is read
+abbrev pub targeted : Led → Target → Front
+targeted l target = Targeted (record { led = l; target = target })
+
+-- the right term ends, by where it stands
+abbrev pub shut_by : Led → Wrap → RightTerm → Front
+shut_by l InCom t = RightShut l t
+shut_by l Alone t = targeted l (Bare t)
+
+abbrev pub right_shut : Aimed → List Sum → Front
+right_shut a arguments = shut_by a.led a.wrap (record { name = a.name; arguments = arguments })
+
+-- what a rule ends before: the next one, or the end of the section
+abbrev pub behind_rule : Ruling → inner.Piece → Option Front
+behind_rule r (inner.Word name) = Some (SourceNamed r name)
+behind_rule r inner.Close = Some (Between (section_of r))
+behind_rule r _ = None
+
+-- an argument ends, where it can, before a comma or the closing bracket
+abbrev pub parted : Aimed → List Sum → Option Sum → Option Front
+parted a arguments None = None
+parted a arguments (Some s) = Some (Arguing a (s ∷ arguments) expression.beginning)
+
+abbrev pub argued : Aimed → List Sum → Option Sum → inner.Piece → Option Front
+argued a arguments (Some s) inner.Close = Some (right_shut a (s ∷ arguments))
+argued a arguments _ _ = None
+
+-- an argument goes on, where it can, or else ends
+abbrev pub arguing : Aimed → List Sum → expression.Front → Option expression.Front → inner.Piece → Option Front
+arguing a arguments e (Some more) p = Some (Arguing a arguments more)
+arguing a arguments e None p = argued a arguments (expression_steps.finish e) p
+
+-- atoms behind `:|:` end, where they can, before what follows a rule
+abbrev pub guard_ended : Headed → Option Atoms → inner.Piece → Option Front
+guard_ended h None p = None
+guard_ended h (Some atoms) p = behind_rule (ruling_with h (BehindMark (Some atoms))) p
+
+-- atoms behind `:|:` go on, where they can, or else end
+abbrev pub guarding : Headed → guards.GuardFront → Option guards.GuardFront → inner.Piece → Option Front
+guarding h g (Some more) p = Some (MarkGuarding h more)
+guarding h g None p = guard_ended h (guards.finish g) p
+
+-- atoms in square brackets go on, where they can
+abbrev pub squared : Headed → Option guards.GuardFront → Option Front
+squared h None = None
+squared h (Some g) = Some (SquareGuarding h g)
+
+-- atoms in square brackets end, where they can
+abbrev pub square_ended : Headed → Option Atoms → Option Front
+square_ended h None = None
+square_ended h (Some atoms) = Some (Ruled (ruling_with h (InSquares (Some atoms))))
+
+-- a guard that begins with a name
+abbrev pub guard_named : Name → guards.GuardFront
+guard_named name = guards.LeftSide guards.NoAtoms (expression_steps.read [] expression.empty_level (Named name))
+
+-- what follows `:|:`: a name, which begins a rule or an atom, the end of the section, or an atom
+abbrev pub behind_mark : Headed → inner.Piece → Option Front
+behind_mark h (inner.Word name) = Some (WordRead h name)
+behind_mark h inner.Close = Some (Between (section_of (ruling_with h (BehindMark None))))
+behind_mark h p = guarding h guards.no_atoms (guards.step guards.no_atoms p) p
+
+-- what follows a name behind `:|:`: before a bracket it begins the next rule, else an atom
+abbrev pub behind_word : Headed → Name → inner.Piece → Option Front
+behind_word h name inner.Open = Some (LeftOpened (ruling_with h (BehindMark None)) name)
+behind_word h name p = guarding h (guard_named name) (guards.step (guard_named name) p) p
+
+-- what follows the bracket of a right term: its closing bracket, or an argument
+abbrev pub behind_open : Aimed → inner.Piece → Option Front
+behind_open a inner.Close = Some (right_shut a [])
+behind_open a p = arguing a [] expression.beginning (expression_steps.step expression.beginning p) p
+
+-- where a piece leads
+abbrev pub step : Front → Piece → Option Front
+step (Between ss) (In inner.Open) = Some (Opened ss)
+step (Opened ss) (In (inner.Word name)) = section_named ss name
+step (GoalNamed ss) (In (inner.Word name)) = when (is_same name (codes "COMPLEXITY")) (GoalSaid ss)
+step (GoalSaid ss) (In inner.Close) = Some (Between (Goal ∷ ss))
+step (StartNamed ss) (In inner.Open) = Some (StartOpened ss)
+step (StartOpened ss) (In (inner.Word name)) = when (is_same name (codes "FUNCTIONSYMBOLS")) (StartListed ss)
+step (StartListed ss) (In (inner.Word name)) = Some (StartSaid ss name)
+step (StartSaid ss name) (In inner.Close) = Some (StartShut ss name)
+step (StartShut ss name) (In inner.Close) = Some (Between (Start name ∷ ss))
+step (Listing ss names) (In (inner.Word name)) = Some (Listing ss (name ∷ names))
+step (Listing ss names) (In inner.Close) = Some (Between (Variables names ∷ ss))
+step (CommentNamed ss) (Remark bytes) = Some (Between (Comment bytes ∷ ss))
+step (Ruled r) (In p) = behind_rule r p
+step (SourceNamed r name) (In inner.Open) = Some (LeftOpened r name)
+step (LeftOpened r name) (In (inner.Word a)) = Some (LeftRead r name a [])
+step (LeftOpened r name) (In inner.Close) = Some (left_shut r name [])
+step (LeftRead r name a earlier) Comma = Some (LeftParted r name a earlier)
+step (LeftRead r name a earlier) (In inner.Close) = Some (left_shut r name (a ∷ earlier))
+step (LeftParted r name a earlier) (In (inner.Word b)) = Some (LeftRead r name b (a ∷ earlier))
+step (LeftShut l) Arrow = Some (Arrowed l)
+step (Arrowed l) (In (inner.Word name)) = Some (behind_arrow l name)
+step (ComNamed l) (In inner.Open) = Some (ComOpened l)
+step (ComOpened l) (In (inner.Word name)) = Some (aimed l InCom name)
+step (TargetNamed a) (In inner.Open) = Some (RightOpened a)
+step (RightOpened a) (In p) = behind_open a p
+step (Arguing a arguments e) (In p) = arguing a arguments e (expression_steps.step e p) p
+step (Arguing a arguments e) Comma = parted a arguments (expression_steps.finish e)
+step (RightShut l t) (In inner.Close) = Some (targeted l (Marked t))
+step (Targeted h) (In p) = behind_rule (ruling_with h NoGuard) p
+step (Targeted h) GuardMark = Some (GuardMarked h)
+step (Targeted h) SquareOpen = Some (SquareOpened h)
+step (GuardMarked h) (In p) = behind_mark h p
+step (WordRead h name) (In p) = behind_word h name p
+step (MarkGuarding h g) (In p) = guarding h g (guards.step g p) p
+step (SquareOpened h) (In p) = squared h (guards.step guards.no_atoms p)
+step (SquareOpened h) SquareClose = Some (Ruled (ruling_with h (InSquares None)))
+step (SquareGuarding h g) (In p) = squared h (guards.step g p)
+step (SquareGuarding h g) SquareClose = square_ended h (guards.finish g)
+step f p = None
+
+-- nothing has been read
+abbrev pub beginning : Front
+beginning = Between []
+
+-- the sections of a text that ends here, where one can
+abbrev pub finish : Front → Option (List Section)
+finish (Between ss) = Some ss
+finish _ = None

@@ -1,0 +1,155 @@
+-- What was worked out by hand of the texts of programs.
+use Rattle.std.specs.Prelude.{◌≡◌, ℕ, ◌++◌, List, [], ◌∷◌, length, codes, pos}
+use Rattle.model.specs.Terms.{Term, Literal, Variable, Negation, Subtraction, Multiplication, Exponentiation}
+use Rattle.model.specs.Programs.{Name, Symbol, Rule, Program, Atom, Always, Compare, AtLeast, MoreThan, AtMost, LessThan, EqualTo}
+use Rattle.text_core.specs.Reading.{Stands, Refused}
+use Rattle.its_text.specs.Kinds.{Kind, Syntax, MissingSection, RepeatedSection, ManyTargets, LeftNotVariable, LeftRepeated, ArityDiffers, NumberTooLarge, Limit, HighDegree, StartUnknown, Disjunction}
+use Rattle.its_text.specs.Answers.{verdict}
+
+-- the text is refused at a byte
+abbrev pub RefusedAt : List ℕ → ℕ → Kind → Type 0
+RefusedAt bytes at kind = verdict bytes ≡ Refused (record { kind = kind; at = at })
+
+-- rules behind a start symbol
+abbrev pub with_rules : List ℕ → List ℕ
+with_rules rules = codes "(STARTTERM (FUNCTIONSYMBOLS l0))(RULES " ++ rules ++ codes ")"
+
+-- what stands first against texts, and where
+pub record FirstFaults : Type 0 where
+  -- two targets
+  pub many_targets : RefusedAt (with_rules (codes "l0(A) -> Com_2(l1(A),l2(A))")) 48 ManyTargets
+  -- a left argument twice
+  pub left_repeated : RefusedAt (with_rules (codes "l0(A,A) -> Com_1(l0(A,A))")) 44 LeftRepeated
+  -- a left argument that is a number
+  pub left_not_variable : RefusedAt (with_rules (codes "l0(1) -> Com_1(l0(1))")) 42 LeftNotVariable
+  -- two arguments where the symbol has one place
+  pub arity_differs : RefusedAt (with_rules (codes "l0(A) -> Com_1(l0(A,A))")) 60 ArityDiffers
+  -- degree 9
+  pub high_degree : RefusedAt (with_rules (codes "l0(A) -> Com_1(l1(A^9))")) 59 (Limit HighDegree)
+  -- `||`
+  pub disjunction : RefusedAt (with_rules (codes "l0(A) -> Com_1(l1(A)) :|: A >= 1 || A <= 0")) 72 Disjunction
+  -- no rule leaves the start symbol
+  pub start_unknown : RefusedAt (with_rules (codes "l1(A) -> Com_1(l1(A))")) 28 StartUnknown
+  -- a literal over 2^63 - 1
+  pub large_literal : RefusedAt (with_rules (codes "l0(A) -> Com_1(l1(A)) :|: A*A <= 9223372036854775808")) 72 NumberTooLarge
+  -- a literal that is too large directly behind `:|:`, before a bracket that can't follow
+  pub literal_before_bracket : RefusedAt (with_rules (codes "l0(A) -> Com_1(l1(A)) :|: 9223372036854775808 (")) 65 NumberTooLarge
+  -- an argument has ended where the next token can't follow, and stands before it
+  pub ended_argument : RefusedAt (with_rules (codes "l0(A) -> Com_1(l1(A^9 l2")) 59 (Limit HighDegree)
+  -- one that goes on hasn't
+  pub open_argument : RefusedAt (with_rules (codes "l0(A) -> Com_1(l1(A^9+))")) 61 Syntax
+  -- `Com_2` before anything but a bracket: at the next token
+  pub com_without_bracket : RefusedAt (with_rules (codes "l0(A) -> Com_2 l1(A)")) 54 Syntax
+  -- `Com_1(` within `Com_1(`
+  pub com_1_twice : RefusedAt (with_rules (codes "l0(A) -> Com_1(Com_1(l1(A)))")) 54 Syntax
+  -- `Com_2(` within `Com_1(`
+  pub com_2_inside : RefusedAt (with_rules (codes "l0(A) -> Com_1(Com_2(A))")) 54 ManyTargets
+  -- any digits but the one digit 1
+  pub com_01 : RefusedAt (with_rules (codes "l0(A) -> Com_01(l1(A))")) 48 ManyTargets
+  -- a left argument that is a name and more
+  pub left_sum : RefusedAt (with_rules (codes "l0(A+1) -> Com_1(l0(A))")) 42 LeftNotVariable
+  -- one in brackets
+  pub left_bracket : RefusedAt (with_rules (codes "l0((A)) -> Com_1(l0(A))")) 42 LeftNotVariable
+  -- two names are none: at the second
+  pub two_names : RefusedAt (with_rules (codes "l0(A B) -> Com_1(l0(A))")) 44 Syntax
+  -- nor is a symbol: at its bracket
+  pub left_call : RefusedAt (with_rules (codes "l0(f(A)) -> Com_1(l0(A))")) 43 Syntax
+  -- a name before a bracket begins a rule directly behind `:|:` alone
+  pub bracket_in_atom : RefusedAt (with_rules (codes "l0(A) -> Com_1(l1(A)) :|: A >= l0(A)")) 72 Syntax
+  -- 2^9 comes before 2^63, and its exponent is over 8
+  pub lower_powers : RefusedAt (with_rules (codes "l0(A) -> Com_1(l1(2^63))")) 60 (Limit HighDegree)
+  -- of the two faults of 200^9 the lesser one counts
+  pub least_of_two : RefusedAt (with_rules (codes "l0(A) -> Com_1(l1(200^9))")) 61 NumberTooLarge
+  -- of `L <= R` the right side is expanded first
+  pub right_first : RefusedAt (with_rules (codes "l0(A) -> Com_1(l1(A)) :|: A^9 <= 9223372036854775807*2")) 92 NumberTooLarge
+  -- of `L >= R` the left one
+  pub left_first : RefusedAt (with_rules (codes "l0(A) -> Com_1(l1(A)) :|: A^9 >= 9223372036854775807*2")) 92 (Limit HighDegree)
+  -- the -1 of a strict relation counts
+  pub strict : RefusedAt (with_rules (codes "l0(A) -> Com_1(l1(A)) :|: A > 9223372036854775807")) 87 NumberTooLarge
+  -- `-` before a brace is no token
+  pub brace : RefusedAt (with_rules (codes "l0(A) -> Com_1(l1(A -{")) 59 Syntax
+  -- the atom that always holds, and then a bracket
+  pub truth_and_bracket : RefusedAt (with_rules (codes "l0(A) -> Com_1(l1(A)) :|: A > 1 && TRUE (")) 79 Syntax
+  -- a symbol without brackets
+  pub no_brackets : RefusedAt (with_rules (codes "l0(A) -> Com_1(l1)")) 56 Syntax
+  -- `!=` is no relation
+  pub unequal : RefusedAt (with_rules (codes "l0(A) -> Com_1(l1(A)) :|: A != 1")) 67 Syntax
+  -- the text ends too early
+  pub bracket_open : RefusedAt (with_rules (codes "l0(A) -> Com_1(l1((A)")) 61 Syntax
+  -- a section twice
+  pub repeated_section : RefusedAt (codes "(VAR A)(VAR A)") 7 RepeatedSection
+  -- no section at all
+  pub missing_section : RefusedAt [] 0 MissingSection
+  -- the sections that have to be there are missing, at the end
+  pub goal_alone : RefusedAt (codes "(GOAL COMPLEXITY)") 17 MissingSection
+  -- `||` among variables
+  pub bars_in_a_list : RefusedAt (codes "(VAR A || B)") 7 Disjunction
+  -- a comment that isn't closed, at the end
+  pub open_comment : RefusedAt (codes "(COMMENT (a)") 12 Syntax
+  -- a comment is passed over up to the bracket that closes it
+  pub behind_comment : RefusedAt (codes "(COMMENT (||) !))") 16 Syntax
+  -- `COMMENT` where no section begins is a name like others
+  pub word_behind_comment : RefusedAt (codes "(GOAL COMMENT)") 6 Syntax
+
+-- names of one byte, and of the two symbols
+abbrev pub name : ℕ → Name
+name b = b ∷ []
+
+abbrev pub l0 : Name
+l0 = 108 ∷ 48 ∷ []
+
+abbrev pub l1 : Name
+l1 = 108 ∷ 49 ∷ []
+
+abbrev pub symbols : ℕ → ℕ → List Symbol
+symbols a b = record { name = l0; arity = a } ∷ record { name = l1; arity = b } ∷ []
+
+-- a program that starts at l0, with one variable A there
+abbrev pub started : List Symbol → List Rule → Program
+started s rules = record { symbols = s; start = 0; start_names = name 65 ∷ []; rules = rules }
+
+-- a rule from l0 to l1 with the left variable A
+abbrev pub from_l0 : List Name → List Term → List Atom → Rule
+from_l0 free updates guard = record { source = 0; target = 1; left = 1; free = length free; names = name 65 ∷ free; updates = updates; guard = guard }
+
+-- the text spells the program
+abbrev pub IsReadAs : List ℕ → Program → Type 0
+IsReadAs bytes p = verdict bytes ≡ Stands p
+
+-- what texts stand for
+pub record Programs : Type 0 where
+  -- a target within `Com_1(` and one alone
+  pub marked : IsReadAs (with_rules (codes "l0(A) -> Com_1(l1(A))")) (started (symbols 1 1) (from_l0 [] (Variable 0 ∷ []) [] ∷ []))
+  pub bare : IsReadAs (with_rules (codes "l0(A)->l1(A)")) (started (symbols 1 1) (from_l0 [] (Variable 0 ∷ []) [] ∷ []))
+  -- guards of either form, and empty ones; `Com_` without digits is a symbol
+  pub behind_mark : IsReadAs (with_rules (codes "l0(A) -> l1() :|: A >= 1 && A < 2")) (started (symbols 1 0)
+      (from_l0 [] [] (Compare (Variable 0) AtLeast (Literal (pos 1)) ∷ Compare (Variable 0) LessThan (Literal (pos 2)) ∷ []) ∷ []))
+  pub in_squares : IsReadAs (with_rules (codes "l0(A) -> l1() [A = 1 /\\ TRUE]")) (started (symbols 1 0) (from_l0 [] [] (Compare (Variable 0) EqualTo (Literal (pos 1)) ∷ Always ∷ []) ∷ []))
+  pub empty_guards : IsReadAs (with_rules (codes "l0(A) -> l1() :|: l0(A) -> l1() []")) (started (symbols 1 0) (from_l0 [] [] [] ∷ from_l0 [] [] [] ∷ []))
+  -- `TRUE` and `true` are names where a relation or an operator follows
+  pub truth_as_a_name : IsReadAs (with_rules (codes "l0(A) -> l1() :|: TRUE > 1 && true")) (started (symbols 1 0)
+      (from_l0 ((84 ∷ 82 ∷ 85 ∷ 69 ∷ []) ∷ []) [] (Compare (Variable 1) MoreThan (Literal (pos 1)) ∷ Always ∷ []) ∷ []))
+  -- free variables are numbered in order of first occurrence in the rule's text
+  pub free_variables : IsReadAs (with_rules (codes "l0(A) -> l1(C,B) :|: D == C")) (started (symbols 1 2)
+      (from_l0 (name 67 ∷ name 66 ∷ name 68 ∷ []) (Variable 1 ∷ Variable 2 ∷ []) (Compare (Variable 3) EqualTo (Variable 1) ∷ []) ∷ []))
+  -- sums, differences and products group to the left, `-A^2` is `-(A^2)`, and brackets leave no node
+  pub grouping : IsReadAs (with_rules (codes "l0(A) -> l1(A-1-2*A*3,-A^2,-(A)*2)")) (started (symbols 1 3)
+      (from_l0 [] (Subtraction (Subtraction (Variable 0) (Literal (pos 1))) (Multiplication (Multiplication (Literal (pos 2)) (Variable 0)) (Literal (pos 3)))
+      ∷ Negation (Exponentiation (Variable 0) 2) ∷ Multiplication (Negation (Variable 0)) (Literal (pos 2)) ∷ []) [] ∷ []))
+  -- sections in any order, comments raw to the bracket that closes them, a start symbol that rules lead to
+  pub any_order : IsReadAs (codes "(COMMENT (|| !) )(RULES l1(B)->l0(0) l0(A) -> l1(007))(COMMENT)(GOAL COMPLEXITY)(VAR)(STARTTERM(FUNCTIONSYMBOLS l0))")
+      (record {
+        symbols = record { name = l1; arity = 1 } ∷ record { name = l0; arity = 1 } ∷ [];
+        start = 1;
+        start_names = name 65 ∷ [];
+        rules = record { source = 0; target = 1; left = 1; free = 0; names = name 66 ∷ []; updates = Literal (pos 0) ∷ []; guard = [] }
+            ∷ record { source = 1; target = 0; left = 1; free = 0; names = name 65 ∷ []; updates = Literal (pos 7) ∷ []; guard = [] } ∷ [];
+      })
+  -- the largest literal
+  pub largest_literal : IsReadAs (with_rules (codes "l0(A) -> Com_1(l1(A)) :|: A*A <= 9223372036854775807")) (started (symbols 1 1)
+      (from_l0 [] (Variable 0 ∷ []) (Compare (Multiplication (Variable 0) (Variable 0)) AtMost (Literal (pos 9223372036854775807)) ∷ []) ∷ []))
+
+-- all of it
+pub record WorkedValues : Type 0 where
+  pub faults : FirstFaults
+  pub programs : Programs
