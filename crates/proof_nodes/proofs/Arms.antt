@@ -1,0 +1,166 @@
+-- Why an accepted arm is never below the new value on its side.
+use Rattle.std.proofs.Common.{◌≡◌, ◌≢◌, ℕ, zero, suc, ◌+◌, ◌-◌, ◌*◌, ◌<◌, ◌≤◌, not, Bool, true, false, List, ◌++◌, length, Option, Some, refl, sym, ap, ◌∙◌, arith, le_of_mul-le-mul_right}
+use Rattle.std.specs.Prelude.{ℤ, pos, negsuc, ◌+ℤ◌, ◌*ℤ◌, neg_ℤ, ◌≤ℤ◌, nat_abs, ⊤}
+use Rattle.std.proofs.lemmas.Int.{ints}
+use Rattle.std.proofs.lemmas.List.{get_or_append_left}
+use Rattle.int_laws.specs.NormalForm.{is_zero}
+use Rattle.int_laws.proofs.RingLaws.{neg-mul_ℤ, mul_comm_ℤ}
+use Rattle.model.specs.Runs.{Config, place_value}
+use Rattle.model.specs.Bounds.{Bound, val, val_sum}
+use Rattle.model.specs.Polynomials.{Polynomial, polynomial_value}
+use Rattle.linear_forms.specs.Forms.{Form, at, form_value}
+use Rattle.proof_nodes.specs.Nodes.{Spot, Arm, Linear, Poly}
+use Rattle.proof_nodes.specs.Setting.{Setting, StepPoint}
+use Rattle.proof_nodes.specs.ComposedSizes.{poly_of, poly_at, reads, has_variable, monomial_parts, slope_of, offset_of, polynomial_bound}
+use Rattle.proof_nodes.specs.AcceptsSizes.{HasArmShape, HasLinearShape, Side, Up, Low, arm_goal, new_value, AcceptsArm, left_of}
+use Rattle.linear_forms.specs.Combinations.{form_times}
+use Rattle.linear_forms.proofs.CombinationLaws.{form_value-sum, form_value-times}
+use Rattle.linear_forms.proofs.CertificateLaws.{implied_on_points}
+use Rattle.proof_nodes.proofs.Covering.{form-covered, told_zero}
+use Rattle.proof_nodes.proofs.Ranking.{values_at, value_at, value_before}
+use Rattle.proof_nodes.proofs.AbsoluteValues.{abs-up, abs-down, polynomial-covered, reads_left}
+
+-- a new value as its side looks at it
+abbrev pub on_side : Side → ℤ → ℤ
+on_side Up v = v
+on_side Low v = neg_ℤ v
+
+-- a number is at most its absolute value on each side
+on_side-at_most : (side : Side) (v : ℤ) → on_side side v ≤ℤ pos (nat_abs v)
+on_side-at_most Up v = abs-up v
+on_side-at_most Low v = abs-down v
+
+-- a coefficient that isn't 0 is told so
+not_zero_told : (c : ℤ) → c ≢ pos 0 → not (is_zero c) ≡ true
+not_zero_told c h = go (is_zero c) refl
+  where
+    go : (v : Bool) → is_zero c ≡ v → not (is_zero c) ≡ true
+    go true e = absurd (h (told_zero c e))
+    go false e = rw e refl
+
+-- the value at a place from 1 on
+value_at_place : (c : Config) (i : ℕ) → 1 ≤ i → place_value c i ≡ at c.values (i - 1)
+value_at_place c zero h = absurd (omega arith)
+value_at_place c (suc i) h = ap (λ (j : ℕ). at c.values j) back
+  where
+    back : i ≡ suc i - 1
+    back = omega arith
+
+-- the polynomial of a place from 1 on
+poly_back : (s : Setting) (t i : ℕ) (q : Polynomial) → 1 ≤ i → poly_of s t i ≡ Some q → s.poly t (i - 1) ≡ Some q
+poly_back s t zero q h e = absurd (omega arith)
+poly_back s t (suc i) q h e = ap (λ (j : ℕ). s.poly t j) back ∙ e
+  where
+    back : suc i - 1 ≡ i
+    back = omega arith
+
+-- what an accepted goal says: the denominator times the value on its side is at most the form
+goal_says : (side : Side) (den : ℕ) (form value : Form) (z : ℕ → ℤ) (v : ℤ) → form_value value z (pos 1) ≡ v
+    → pos 0 ≤ℤ form_value (arm_goal side den form value) z (pos 1)
+    → (pos den *ℤ on_side side v) ≤ℤ form_value form z (pos 1)
+goal_says Up den form value z v e h =
+    from _ _ _ (form_value-sum form (form_times (neg_ℤ (pos den)) value) z (pos 1))
+    (form_value-times (neg_ℤ (pos den)) value z (pos 1)) e (times v) h
+  where
+    times : (v : ℤ) → neg_ℤ (pos den) *ℤ v ≡ neg_ℤ (pos den *ℤ v)
+    times v = neg-mul_ℤ (pos den) v
+
+    from : (g n y : ℤ) → g ≡ form_value form z (pos 1) +ℤ n → n ≡ neg_ℤ (pos den) *ℤ y → y ≡ v
+        → neg_ℤ (pos den) *ℤ v ≡ neg_ℤ (pos den *ℤ v) → pos 0 ≤ℤ g
+        → (pos den *ℤ v) ≤ℤ form_value form z (pos 1)
+    from g n y a b c d l = omega (arith, ints, a, b ∙ ap (λ (w : ℤ). neg_ℤ (pos den) *ℤ w) c ∙ d, l)
+goal_says Low den form value z v e h =
+    from _ _ _ (form_value-sum form (form_times (pos den) value) z (pos 1))
+    (form_value-times (pos den) value z (pos 1)) e (times v) h
+  where
+    times : (v : ℤ) → pos den *ℤ neg_ℤ v ≡ neg_ℤ (pos den *ℤ v)
+    times v = mul_comm_ℤ (pos den) (neg_ℤ v) ∙ neg-mul_ℤ v (pos den) ∙ ap neg_ℤ (mul_comm_ℤ v (pos den))
+
+    from : (g n y : ℤ) → g ≡ form_value form z (pos 1) +ℤ n → n ≡ pos den *ℤ y → y ≡ v
+        → pos den *ℤ neg_ℤ v ≡ neg_ℤ (pos den *ℤ v) → pos 0 ≤ℤ g
+        → (pos den *ℤ neg_ℤ v) ≤ℤ form_value form z (pos 1)
+    from g n y a b c d l = omega (arith, ints, a, b ∙ ap (λ (w : ℤ). pos den *ℤ w) c, d, l)
+
+-- a denominator is cancelled
+cancelled : (den : ℕ) (x : ℤ) (n : ℕ) → 1 ≤ den → (pos den *ℤ x) ≤ℤ pos (den * n) → x ≤ℤ pos n
+cancelled den (pos x) n h l = let k : x * den ≤ n * den = omega (arith, ints, l) in let m : x ≤ n =
+    le_of_mul-le-mul_right k h in omega (arith, ints, m)
+cancelled den (negsuc x) n h l = omega (arith, ints)
+
+-- a polynomial arm reads no place inside
+abbrev pub StaysOutside : Setting → Spot → (ℕ → Bool) → Arm → Type 0
+StaysOutside s spot inside (Linear den form multipliers) = ⊤
+StaysOutside s spot inside Poly = (j : ℕ) → reads (poly_at s spot) Poly j ≡ true → inside j ≡ false
+
+module _ (s : Setting) (spot : Spot) (b : Config) (free : List ℤ) (c : Config) (x : StepPoint s spot.rule b free c)
+    (one : 1 ≤ spot.place) (places : left_of s.program spot.rule ≡ length b.values)
+    (inside : ℕ → Bool) (g : ℕ) (sizes : ℕ → Bound) (m : List ℕ)
+    (inner : (j : ℕ) → inside j ≡ true → nat_abs (at b.values j) ≤ g) where
+  -- the new value on its side is at most the slope times what bounds the places inside, plus the offset
+  abbrev pub IsCovered : Side → Arm → Type 0
+  IsCovered side arm = on_side side (place_value c spot.place) ≤ℤ pos
+      (slope_of arm inside * g + val (offset_of (poly_at s spot) arm inside sizes) m)
+
+  -- the places outside that an arm reads have their sizes
+  abbrev pub HasSizes : Arm → Type 0
+  HasSizes arm = (j : ℕ) → reads (poly_at s spot) arm j ≡ true → inside j ≡ false
+      → nat_abs (at b.values j) ≤ val (sizes j) m
+
+  linear-covered : (side : Side) (den : ℕ) (form : Form) (multipliers : List ℕ)
+      → HasLinearShape s spot.rule (left_of s.program spot.rule) den form multipliers
+      → AcceptsArm s spot side (Linear den form multipliers) → HasSizes (Linear den form multipliers)
+      → IsCovered side (Linear den form multipliers)
+  linear-covered side den form multipliers shape h outer =
+      let value_is : form_value (new_value s spot) x.z (pos 1) ≡ place_value c spot.place =
+      x.news (spot.place - 1) ∙ sym (value_at_place c spot.place one) in
+      let shown = implied_on_points (s.rows spot.rule) multipliers (arm_goal side den form (new_value s spot)) h x.z
+      (pos 1) x.point in
+      let says = goal_says side den form (new_value s spot) x.z (place_value c spot.place) value_is shown in
+      let before = value_before s spot.rule b free c x form (omega (arith, shape.long, places)) in
+      let covered = form-covered den shape.over m g form inside sizes (values_at b) inner
+      (λ j n e. outer j (not_zero_told (at form.coefs j) n) e) in
+      cancelled den (on_side side (place_value c spot.place))
+      (slope_of (Linear den form multipliers) inside * g + val
+      (offset_of (poly_at s spot) (Linear den form multipliers) inside sizes) m) shape.over
+      (chain (pos den *ℤ on_side side (place_value c spot.place)) (form_value form x.z (pos 1)) (value_at form b) _
+      says before covered)
+    where
+      chain : (u v w : ℤ) (n : ℕ) → u ≤ℤ v → v ≡ w → w ≤ℤ pos n → u ≤ℤ pos n
+      chain u v w n a e d = omega (arith, ints, a, e, d)
+
+  poly-covered : (side : Side) → AcceptsArm s spot side Poly → HasSizes Poly → StaysOutside s spot inside Poly
+      → IsCovered side Poly
+  poly-covered side h outer stays =
+      let size : nat_abs (polynomial_value h.polynomial (b.values ++ free)) ≤ val_sum
+      (monomial_parts h.polynomial sizes) m =
+      polynomial-covered h.polynomial (b.values ++ free) sizes m (λ j k. read j k) in
+      let value_is : polynomial_value h.polynomial (b.values ++ free) ≡ place_value c spot.place =
+      x.bent (spot.place - 1) h.polynomial (poly_back s spot.rule spot.place h.polynomial one h.bent) ∙ sym
+      (value_at_place c spot.place one) in
+      chain (on_side side (place_value c spot.place)) (nat_abs (place_value c spot.place)) _ _
+      (on_side-at_most side (place_value c spot.place)) (ap nat_abs (sym value_is)) size
+      (ap (λ (o : Option Polynomial). val (polynomial_bound o sizes) m) h.bent)
+    where
+      reads_it : (j : ℕ) → has_variable (Some h.polynomial) j ≡ true → reads (poly_at s spot) Poly j ≡ true
+      reads_it j k = ap (λ (o : Option Polynomial). has_variable o j) h.bent ∙ k
+
+      read : (j : ℕ) → has_variable (Some h.polynomial) j ≡ true → nat_abs (at (b.values ++ free) j) ≤ val (sizes j) m
+      read j k =
+          let low : j < length b.values =
+          omega (arith, places, reads_left (left_of s.program spot.rule) h.polynomial h.left_alone j k) in
+          omega (
+            arith,
+            ap nat_abs (get_or_append_left b.values free (pos 0) j low),
+            outer j (reads_it j k)
+                (stays j (reads_it j k)),
+          )
+
+      chain : (v : ℤ) (a n k : ℕ) → v ≤ℤ pos a → a ≡ nat_abs (polynomial_value h.polynomial (b.values ++ free))
+          → nat_abs (polynomial_value h.polynomial (b.values ++ free)) ≤ n → k ≡ n → v ≤ℤ pos (0 * g + k)
+      chain v a n k l e f i = omega (arith, ints, l, e, f, i)
+
+  pub arm-covered : (side : Side) (arm : Arm) → HasArmShape s spot.rule (left_of s.program spot.rule) arm
+      → AcceptsArm s spot side arm → HasSizes arm → StaysOutside s spot inside arm → IsCovered side arm
+  arm-covered side (Linear den form multipliers) shape h outer stays =
+      linear-covered side den form multipliers shape h outer
+  arm-covered side Poly shape h outer stays = poly-covered side h outer stays

@@ -1,0 +1,99 @@
+-- What is in a list of numbers, in a filtered one, and among the numbers of a program's rules.
+use Rattle.std.proofs.Common.{◌≡◌, ◌≢◌, ◌⊎◌, inl, inr, ℕ, zero, suc, ◌<◌, ◌==◌, Bool, true, false, List, [], ◌∷◌, length, filter, Some, None, refl, sym, ap, ◌∙◌, subst, arith, slice_get}
+use Rattle.std.specs.List.{list_any, range_with_len, Contains}
+use Rattle.std.proofs.lemmas.List.FromFn.{length-range_with_len, get_or-range_with_len}
+use Rattle.std.proofs.lemmas.Bool.{or_left, or_right, true≢false}
+use Rattle.std.proofs.lemmas.Bool.Decides.{eqb_tells}
+use Rattle.model.specs.Programs.{Program, Rule, rule_at}
+use Rattle.proof_nodes.specs.Numbers.{is_in}
+use Rattle.model.specs.Paths.{entry_and_rules}
+
+-- a number is itself
+pub same_number : (x : ℕ) → (x == x) ≡ true
+same_number x = go (eqb_tells x x)
+  where
+    go : ((x == x) ≡ true) × (x ≡ x) ⊎ ((x == x) ≡ false) × (x ≢ x) → (x == x) ≡ true
+    go (inl (test, e)) = test
+    go (inr (test, other)) = absurd (other refl)
+
+-- numbers that are told to be the same are the same
+pub told_same : (x y : ℕ) → (x == y) ≡ true → x ≡ y
+told_same x y h = go (eqb_tells x y)
+  where
+    go : ((x == y) ≡ true) × (x ≡ y) ⊎ ((x == y) ≡ false) × (x ≢ y) → x ≡ y
+    go (inl (test, e)) = e
+    go (inr (test, other)) = absurd (true≢false (sym h ∙ test))
+
+-- no is not yes
+pub no_is_not_yes : (v : Bool) → v ≡ false → v ≡ true → ⊥
+no_is_not_yes v n y = true≢false (sym y ∙ n)
+
+-- what is in a list is its first or in the rest
+pub is_in-cases : (x y : ℕ) (ys : List ℕ) → is_in x (y ∷ ys) ≡ true → (x ≡ y) ⊎ (is_in x ys ≡ true)
+is_in-cases x y ys h = go (eqb_tells x y)
+  where
+    go : ((x == y) ≡ true) × (x ≡ y) ⊎ ((x == y) ≡ false) × (x ≢ y) → (x ≡ y) ⊎ (is_in x ys ≡ true)
+    go (inl (test, e)) = inl e
+    go (inr (test, other)) = inr (rw test at h)
+
+-- an element that passes is in the filtered list
+pub is_in-filter : (test : ℕ → Bool) (xs : List ℕ) (x : ℕ) → is_in x xs ≡ true → test x ≡ true
+    → is_in x (filter test xs) ≡ true
+is_in-filter test [] x h k = absurd (no_is_not_yes false refl h)
+is_in-filter test (y ∷ ys) x h k = go (is_in-cases x y ys h) (λ m. is_in-filter test ys x m k)
+  where
+    kept : (v : Bool) → test y ≡ v → (is_in x ys ≡ true → is_in x (filter test ys) ≡ true) → is_in x ys ≡ true
+        → is_in x (filter test (y ∷ ys)) ≡ true
+    kept true e ih m = rw e (or_right (x == y) (is_in x (filter test ys)) (ih m))
+    kept false e ih m = rw e (ih m)
+
+    go : (x ≡ y) ⊎ (is_in x ys ≡ true) → (is_in x ys ≡ true → is_in x (filter test ys) ≡ true)
+        → is_in x (filter test (y ∷ ys)) ≡ true
+    go (inl e) ih = rw (ap test (sym e) ∙ k)
+        (or_left (x == y) (is_in x (filter test ys)) (subst (λ (n : ℕ). (x == n) ≡ true) e (same_number x)))
+    go (inr m) ih = kept (test y) refl ih m
+
+-- a test that an element passes
+pub list_any-from : (test : ℕ → Bool) (xs : List ℕ) (x : ℕ) → is_in x xs ≡ true → test x ≡ true
+    → list_any test xs ≡ true
+list_any-from test [] x h k = absurd (no_is_not_yes false refl h)
+list_any-from test (y ∷ ys) x h k = go (is_in-cases x y ys h) (λ m. list_any-from test ys x m k)
+  where
+    go : (x ≡ y) ⊎ (is_in x ys ≡ true) → (is_in x ys ≡ true → list_any test ys ≡ true) → list_any test (y ∷ ys) ≡ true
+    go (inl e) ih = or_left (test y) (list_any test ys) (ap test (sym e) ∙ k)
+    go (inr m) ih = or_right (test y) (list_any test ys) (ih m)
+
+-- what a list contains is in it
+pub is_in-contained : (xs : List ℕ) (x : ℕ) → Contains xs x → is_in x xs ≡ true
+is_in-contained [] x (k, low, e) = absurd (omega arith)
+is_in-contained (y ∷ ys) x (zero, low, e) =
+    or_left (x == y) (is_in x ys) (subst (λ (n : ℕ). (n == y) ≡ true) e (same_number y))
+is_in-contained (y ∷ ys) x (suc k, low, e) =
+    or_right (x == y) (is_in x ys) (is_in-contained ys x (k, omega arith, e))
+
+-- a number below n is one of the first n
+pub is_in-numbers : (n x : ℕ) → x < n → is_in x (range_with_len 0 n) ≡ true
+is_in-numbers n x h =
+    is_in-contained (range_with_len 0 n) x
+    (x, omega (arith, length-range_with_len 0 n), get_or-range_with_len 0 n x x h ∙ omega arith)
+
+-- a position where a list has something is below its length
+pub slice_get-below : {X : Type 0} (xs : List X) (i : ℕ) (x : X) → slice_get xs i ≡ Some x → i < length xs
+slice_get-below [] i x h = absurd (none_some h)
+  where
+    none_some : None ≡ Some x → ⊥
+    none_some e = cc
+slice_get-below (y ∷ ys) zero x h = omega arith
+slice_get-below (y ∷ ys) (suc i) x h = omega (arith, slice_get-below ys i x h)
+
+-- the number of a rule is among a program's numbers, and so is that of the virtual entry
+pub rule_is_numbered : (p : Program) (t : ℕ) (r : Rule) → rule_at p t ≡ Some r → is_in t (entry_and_rules p) ≡ true
+rule_is_numbered p zero r h = absurd (none_some h)
+  where
+    none_some : None ≡ Some r → ⊥
+    none_some e = cc
+rule_is_numbered p (suc t) r h =
+    is_in-numbers (suc (length p.rules)) (suc t) (omega (arith, slice_get-below p.rules t r h))
+
+pub entry_is_numbered : (p : Program) → is_in 0 (entry_and_rules p) ≡ true
+entry_is_numbered p = is_in-numbers (suc (length p.rules)) 0 (omega arith)

@@ -1,0 +1,5 @@
+use Rattle.proof_nodes.proofs.Looping as lemmas
+use Rattle.proof_nodes.proofs.loops_grow.Goals as goal
+
+pub returns : goal.returns
+returns c = lemmas.loops_grow

@@ -1,0 +1,167 @@
+-- When local bounds, spreads and loops are accepted.
+use Rattle.std.specs.Prelude.{◌≡◌, ℕ, suc, ◌-◌, ◌≤◌, ◌<◌, ◌⊎◌, ◌||◌, true, false, List, [], ◌∷◌, length, pos, neg_ℤ, Option, Some, None, ⊤}
+use Rattle.std.specs.List.{All}
+use Rattle.model.specs.Programs.{Program, Rule, rule_at, arity_of}
+use Rattle.model.specs.Bounds.{Bound}
+use Rattle.model.specs.Facts.{Fact, Size}
+use Rattle.model.specs.Polynomials.{Polynomial}
+use Rattle.linear_forms.specs.Forms.{Form}
+use Rattle.linear_forms.specs.Certificates.{Implies}
+use Rattle.linear_forms.specs.Combinations.{form_sum, form_times}
+use Rattle.proof_nodes.specs.Nodes.{Spot, Arm, Linear, Poly, Member}
+use Rattle.proof_nodes.specs.Numbers.{is_in}
+use Rattle.model.specs.Paths.{pre}
+use Rattle.proof_nodes.specs.Combined.{form_at}
+use Rattle.proof_nodes.specs.Known.{IsKnown, time_in, size_in}
+use Rattle.proof_nodes.specs.ComposedSizes.{poly_at, reads, spread_of, is_member, rules_of, flows, multiplies, adds, cycle_of}
+use Rattle.proof_nodes.specs.Limits.{IsInLimit, IsFormInLimit, IsSmallComposed}
+use Rattle.proof_nodes.specs.AcceptsPlain.{AreMultipliers}
+use Rattle.proof_nodes.specs.Setting.{Setting}
+
+-- a place of the target of a rule
+pub record IsSpot (p : Program) (spot : Spot) : Type 0 where
+  pub rule : Rule
+  pub numbered : rule_at p spot.rule ≡ Some rule
+  pub least : 1 ≤ spot.place
+  pub most : spot.place ≤ arity_of p rule.target
+
+-- the numbers of a linear arm: a denominator of at least 1, one coefficient a left place, a multiplier a row, all
+-- within the limit; a polynomial arm has no number
+pub record HasLinearShape (s : Setting) (t left den : ℕ) (form : Form) (multipliers : List ℕ) : Type 0 where
+  pub over : 1 ≤ den
+  pub den_limit : IsInLimit den
+  pub long : length form.coefs ≡ left
+  pub limit : IsFormInLimit form
+  pub one_each : AreMultipliers s t multipliers
+
+abbrev pub HasArmShape : Setting → ℕ → ℕ → Arm → Type 0
+HasArmShape s t left (Linear den form multipliers) = HasLinearShape s t left den form multipliers
+HasArmShape s t left Poly = ⊤
+
+-- the number of left variables of a rule, where there is one
+abbrev pub left_in : Option Rule → ℕ
+left_in None = 0
+left_in (Some r) = r.left
+
+-- the number of left variables of the rule with a number
+abbrev pub left_of : Program → ℕ → ℕ
+left_of p t = left_in (rule_at p t)
+
+-- what has to be right of a member before anything else
+pub record HasMemberShape (s : Setting) (m : Member) : Type 0 where
+  pub at : IsSpot s.program m.spot
+  pub up : HasArmShape s m.spot.rule (left_of s.program m.spot.rule) m.local.up
+  pub low : HasArmShape s m.spot.rule (left_of s.program m.spot.rule) m.local.low
+
+-- the side of an arm: over the new value, or over its negation
+pub data Side : Type 0 where
+  Up : Side
+  Low : Side
+
+-- what is to be at least 0: the form less den times the new value on the up side, plus it on the low side
+abbrev pub arm_goal : Side → ℕ → Form → Form → Form
+arm_goal Up den form value = form_sum form (form_times (neg_ℤ (pos den)) value)
+arm_goal Low den form value = form_sum form (form_times (pos den) value)
+
+-- the form of the new value at a spot, whose place counts from 1
+abbrev pub new_value : Setting → Spot → Form
+new_value s spot = form_at (s.news spot.rule) (spot.place - 1)
+
+-- each monomial has left variables alone
+abbrev pub ReadsLeft : ℕ → Polynomial → Type 0
+ReadsLeft left q = All (λ m. All (λ v. v < left) m.vars) q
+
+-- the update has degree 2 or more and reads left variables alone
+pub record IsPolynomialUpdate (s : Setting) (spot : Spot) : Type 0 where
+  pub polynomial : Polynomial
+  pub bent : poly_at s spot ≡ Some polynomial
+  pub left_alone : ReadsLeft (left_of s.program spot.rule) polynomial
+
+-- an arm is accepted: the rows imply it, or the update is its own polynomial
+abbrev pub AcceptsArm : Setting → Spot → Side → Arm → Type 0
+AcceptsArm s spot side (Linear den form multipliers) =
+    Implies (s.rows spot.rule) multipliers (arm_goal side den form (new_value s spot))
+AcceptsArm s spot side Poly = IsPolynomialUpdate s spot
+
+-- each of the two arms of a member is accepted
+abbrev pub AcceptsUp : Setting → Member → Type 0
+AcceptsUp s m = AcceptsArm s m.spot Up m.local.up
+
+abbrev pub AcceptsLow : Setting → Member → Type 0
+AcceptsLow s m = AcceptsArm s m.spot Low m.local.low
+
+-- after rule e: each place that an arm reads is a member, or has a size
+abbrev pub ArmHasSizes : Setting → List Fact → List Member → Spot → Arm → ℕ → Type 0
+ArmHasSizes s facts members spot arm e = (j : ℕ) → reads (poly_at s spot) arm j ≡ true → is_member members e j ≡ false
+    → IsKnown (size_in facts e (suc j))
+
+-- after rule e: each place that the up arm reads is a member or has a size, and each that the low arm reads
+pub record HasSizesAfter (s : Setting) (facts : List Fact) (members : List Member) (m : Member) (e : ℕ) : Type 0 where
+  pub up : ArmHasSizes s facts members m.spot m.local.up e
+  pub low : ArmHasSizes s facts members m.spot m.local.low e
+
+-- so it is after each rule that can come before
+abbrev pub HasSizesBefore : Setting → List Fact → List Member → Member → Type 0
+HasSizesBefore s facts members m = (e : ℕ) → is_in e (pre s.program m.spot.rule) ≡ true
+    → HasSizesAfter s facts members m e
+
+-- the size that a spread composes
+abbrev pub spread_size : Setting → List Fact → Member → Bound
+spread_size s facts m = spread_of s m (size_in facts)
+
+-- a size that doesn't loop: both arms are accepted, each place that they read has a size after each rule that can
+-- come before, and the composed bound is small
+pub record AcceptsSpread (s : Setting) (facts : List Fact) (m : Member) : Type 0 where
+  pub shape : HasMemberShape s m
+  pub up : AcceptsUp s m
+  pub low : AcceptsLow s m
+  pub sizes : HasSizesBefore s facts [] m
+  pub small : IsSmallComposed s.rewrite (spread_size s facts m)
+
+-- one spot comes before another: by rule, then by place
+abbrev pub ComesBefore : Spot → Spot → Type 0
+ComesBefore a b = (a.rule < b.rule) ⊎ ((a.rule ≡ b.rule) × (a.place < b.place))
+
+-- the members ascend
+abbrev pub AreAscending : List Member → Type 0
+AreAscending [] = ⊤
+AreAscending (m ∷ []) = ⊤
+AreAscending (m ∷ n ∷ rest) = ComesBefore m.spot n.spot × AreAscending (n ∷ rest)
+
+-- after rule e: a polynomial arm reads no member
+abbrev pub IsStraightArm : Setting → List Member → Member → ℕ → Arm → Type 0
+IsStraightArm s members m e (Linear den form multipliers) = ⊤
+IsStraightArm s members m e Poly = (j : ℕ) → reads (poly_at s m.spot) Poly j ≡ true → is_member members e j ≡ false
+
+-- neither arm of a member is bent
+pub record IsStraight (s : Setting) (members : List Member) (m : Member) : Type 0 where
+  pub up : (e : ℕ) → is_in e (pre s.program m.spot.rule) ≡ true → IsStraightArm s members m e m.local.up
+  pub low : (e : ℕ) → is_in e (pre s.program m.spot.rule) ≡ true → IsStraightArm s members m e m.local.low
+
+-- the size that a loop composes
+abbrev pub cycle_size : Setting → List Fact → List Member → Bound
+cycle_size s facts members = cycle_of s members (time_in facts) (size_in facts)
+
+-- there are members, and they ascend
+pub record HasCycleShape (s : Setting) (members : List Member) : Type 0 where
+  pub some : 1 ≤ length members
+  pub ascending : AreAscending members
+  pub each : All (HasMemberShape s) members
+
+-- a loop: all arms are accepted, each place that they read outside has a size, no polynomial arm reads a member, each
+-- rule that multiplies or adds has a time, and the composed bound is small
+pub record AcceptsCycle (s : Setting) (facts : List Fact) (members : List Member) : Type 0 where
+  pub shape : HasCycleShape s members
+  pub up : All (AcceptsUp s) members
+  pub low : All (AcceptsLow s) members
+  pub sizes : All (HasSizesBefore s facts members) members
+  pub straight : All (IsStraight s members) members
+  pub times : (t : ℕ) → is_in t (rules_of s members) ≡ true
+      → (multiplies (flows s members (size_in facts)) t || adds s (flows s members (size_in facts)) t) ≡ true
+      → IsKnown (time_in facts t)
+  pub small : IsSmallComposed s.rewrite (cycle_size s facts members)
+
+-- the size of each member
+abbrev pub cycle_facts : Bound → List Member → List Fact
+cycle_facts b [] = []
+cycle_facts b (m ∷ ms) = Size m.spot.rule m.spot.place b ∷ cycle_facts b ms

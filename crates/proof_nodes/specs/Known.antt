@@ -1,0 +1,36 @@
+-- Facts as they are looked up: the first that matches.
+use Rattle.std.specs.Prelude.{◌≡◌, ℕ, zero, ◌==◌, ◌&&◌, Bool, true, false, cond, List, [], ◌∷◌, Option, Some, None}
+use Rattle.model.specs.Bounds.{Bound, Constant}
+use Rattle.model.specs.Facts.{Fact, Time, Size}
+
+-- the bound is known
+abbrev pub IsKnown : Option Bound → Type 0
+IsKnown o = (b : Bound) × (o ≡ Some b)
+
+-- the bound that is known; where none is, 0
+abbrev pub known : Option Bound → Bound
+known None = Constant 0
+known (Some b) = b
+
+-- the first time of a rule
+abbrev pub time_in : List Fact → ℕ → Option Bound
+time_in [] t = None
+time_in (Time u b ∷ facts) t = cond (u == t) (Some b) (time_in facts t)
+time_in (Size u i b ∷ facts) t = time_in facts t
+
+-- the first size of a place after a rule
+abbrev pub size_in : List Fact → ℕ → ℕ → Option Bound
+size_in [] t i = None
+size_in (Time u b ∷ facts) t i = size_in facts t i
+size_in (Size u j b ∷ facts) t i = cond ((u == t) && (j == i)) (Some b) (size_in facts t i)
+
+-- the bound is the constant 0
+abbrev pub is_zero_bound : Bound → Bool
+is_zero_bound (Constant zero) = true
+is_zero_bound b = false
+
+-- a time of the rule is 0: some fact says so
+abbrev pub has_zero_time : List Fact → ℕ → Bool
+has_zero_time [] t = false
+has_zero_time (Time u b ∷ facts) t = cond ((u == t) && is_zero_bound b) true (has_zero_time facts t)
+has_zero_time (Size u i b ∷ facts) t = has_zero_time facts t

@@ -1,0 +1,23 @@
+-- The limits on the numbers of a proof and on the size of composed bounds.
+use Rattle.std.specs.Prelude.{◌≡◌, ℕ, ◌^◌, ◌≤◌, false, All, List, nat_abs}
+use Rattle.model.specs.Bounds.{Bound}
+use Rattle.bound_expr.specs.Measure.{is_large}
+use Rattle.linear_forms.specs.Forms.{Form}
+
+-- a multiplier, coefficient, constant or denominator is at most 2^55 in absolute value
+abbrev pub IsInLimit : ℕ → Type 0
+IsInLimit n = n ≤ 2 ^ 55
+
+-- so is each multiplier
+abbrev pub AreInLimit : List ℕ → Type 0
+AreInLimit multipliers = All IsInLimit multipliers
+
+-- so is each number of a form
+pub record IsFormInLimit (f : Form) : Type 0 where
+  pub coefs : All (λ c. IsInLimit (nat_abs c)) f.coefs
+  pub constant : IsInLimit (nat_abs f.constant)
+
+-- a composed bound isn't large, neither before nor after it is rewritten
+pub record IsSmallComposed (rewrite : Bound → Bound) (b : Bound) : Type 0 where
+  pub before : is_large b ≡ false
+  pub after : is_large (rewrite b) ≡ false

@@ -1,0 +1,58 @@
+-- Proof trees as plain data: each node names what it states, with the numbers that show it and the nodes that it
+-- rests on.
+use Rattle.std.specs.Prelude.{ℕ, List}
+use Rattle.model.specs.Bounds.{Bound}
+use Rattle.linear_forms.specs.Forms.{Form}
+
+-- a rule, and a place of its target, numbered from 1
+pub record Spot : Type 0 where
+  pub rule : ℕ
+  pub place : ℕ
+
+-- one side of a bound on a new value: an affine form in the left arguments, as a denominator, a form over the left
+-- places and the multipliers that show it; or the update's own polynomial with absolute coefficients
+pub data Arm : Type 0 where
+  Linear : ℕ → Form → List ℕ → Arm
+  Poly : Arm
+
+-- a local bound: the up arm is never below the new value, the low arm never below its negation
+pub record LocalBound : Type 0 where
+  pub up : Arm
+  pub low : Arm
+
+-- a spot with its local bound
+pub record Member : Type 0 where
+  pub spot : Spot
+  pub local : LocalBound
+
+-- the part of a ranking function at a symbol
+pub record SymbolForm : Type 0 where
+  pub symbol : ℕ
+  pub form : Form
+
+-- what a ranking node holds beside its uses: the rule whose time it bounds, the set of rules, the function as one
+-- form for each symbol over one denominator, the multipliers of each rule of the set, and those of the floor
+pub record RankNode : Type 0 where
+  pub rule : ℕ
+  pub set : List ℕ
+  pub den : ℕ
+  pub forms : List SymbolForm
+  pub moves : List (List ℕ)
+  pub floor : List ℕ
+
+-- a node with all that it rests on, and a list of such nodes
+mutual
+  pub data Proof : Type 0 where
+    Cite : ℕ → Proof
+    Start : Proof
+    Empty : ℕ → List ℕ → Proof
+    Unreached : ℕ → Proofs → Proof
+    Never : Proof → Proof
+    Rank : RankNode → Proofs → Proof
+    Spread : Member → Proofs → Proof
+    Cycle : List Member → Proofs → Proof
+    Weaken : Proof → Bound → Proof
+
+  pub data Proofs : Type 0 where
+    NoProof : Proofs
+    AndProof : Proof → Proofs → Proofs

@@ -1,0 +1,22 @@
+-- Lists of rule numbers, and the rounding of coefficients.
+use Rattle.std.specs.Prelude.{ℕ, ◌+◌, ◌-◌, ◌/◌, ◌<◌, ◌==◌, ◌||◌, Bool, false, List, [], ◌∷◌, ℤ, pos, negsuc, ⊤}
+
+-- whether a number is in a list
+abbrev pub is_in : ℕ → List ℕ → Bool
+is_in x [] = false
+is_in x (y ∷ ys) = (x == y) || is_in x ys
+
+-- each number is less than the next
+abbrev pub IsAscending : List ℕ → Type 0
+IsAscending [] = ⊤
+IsAscending (x ∷ []) = ⊤
+IsAscending (x ∷ y ∷ rest) = (x < y) × IsAscending (y ∷ rest)
+
+-- a number over a denominator, rounded up
+abbrev pub rounded_up : ℕ → ℕ → ℕ
+rounded_up n den = (n + (den - 1)) / den
+
+-- the positive part of an integer
+abbrev pub positive_part : ℤ → ℕ
+positive_part (pos n) = n
+positive_part (negsuc n) = 0

@@ -1,0 +1,43 @@
+// Proof nodes as plain data, when each is accepted, and why what accepted nodes state holds on every run: definitions
+// in `specs/` and their laws. The functions here have no code: the contract of each is a law, or values that were
+// worked out by hand.
+#![tactic(auto)]
+
+ghost use Rattle.proof_nodes.specs.Paying.{EntriesPay};
+ghost use Rattle.proof_nodes.specs.Feeding.{LoopsGrow};
+ghost use Rattle.proof_nodes.specs.Laws.{AcceptedFactsHold, AcceptedBoundsAreBased};
+ghost use Rattle.proof_nodes.specs.Worked.{CountingIsFaithful, FourLemmasAreAccepted, MistakesAreRefused, PlainNodesAreJudged, FormulasAreWhole};
+ghost use Rattle.proof_nodes.specs.WorkedSizes.{SizeNodesAreJudged};
+
+/// Where all lemmas of a list are accepted, every fact of every lemma holds on all runs, whoever made the lemmas.
+pub fn accepted_facts_hold()
+    ensures { AcceptedFactsHold }
+{}
+
+/// Every base in the bounds of these facts is at least 1.
+pub fn accepted_bounds_are_based()
+    ensures { AcceptedBoundsAreBased }
+{}
+
+/// A level that only entries raise, and from which each step by a rule takes at least q, pays for the rule's steps:
+/// it occurs at most as often as the entries do, each times its weight.
+pub fn entries_pay()
+    ensures { EntriesPay }
+{}
+
+/// Members of a loop that each step multiplies by a factor and adds to stay within the factors of all steps, times
+/// the base and all that the steps added.
+pub fn loops_grow()
+    ensures { LoopsGrow }
+{}
+
+/// Four lemmas on a program that counts down are accepted, with the facts and values that were worked out by hand;
+/// mistakes are refused; each formula has all its parts; and the premises of the laws are met.
+pub fn worked_values_hold()
+    ensures faithful { CountingIsFaithful }
+    ensures accepted { FourLemmasAreAccepted }
+    ensures refused { MistakesAreRefused }
+    ensures plain { PlainNodesAreJudged }
+    ensures sizes { SizeNodesAreJudged }
+    ensures whole { FormulasAreWhole }
+{}

@@ -1,0 +1,21 @@
+-- Bounds that are looked up among facts.
+use Rattle.std.specs.Prelude.{ℕ, ◌==◌, ◌&&◌, cond, Option, Some, None, option_map}
+use denote.Ref.{Bor}
+use Rattle.model.specs.Bounds as plain
+use Rattle.model.specs.Facts.{Fact, Time, Size}
+use Rattle.bound_expr.specs.declared.bound.Bound.{Bound}
+use Rattle.bound_expr.specs.Views.{bound_of}
+
+-- a bound that was found, as plain data
+abbrev pub found : Option (Bor Bound) → Option plain.Bound
+found o = option_map (λ b. bound_of b.now) o
+
+-- the bound of a fact that is a time of the rule
+abbrev pub time_by_fact : Fact → ℕ → Option plain.Bound
+time_by_fact (Time u b) t = cond (u == t) (Some b) None
+time_by_fact (Size u i b) t = None
+
+-- the bound of a fact that is a size of the place after the rule
+abbrev pub size_by_fact : Fact → ℕ → ℕ → Option plain.Bound
+size_by_fact (Time u b) t i = None
+size_by_fact (Size u j b) t i = cond ((u == t) && (j == i)) (Some b) None

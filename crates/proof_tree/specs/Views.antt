@@ -1,0 +1,94 @@
+-- What contracts see of facts, proofs and their parts: plain data.
+use Rattle.std.specs.Prelude.{List, [], ◌∷◌, map}
+use Rattle.model.specs.Facts as facts
+use Rattle.bound_expr.specs.Views.{bound_of}
+use Rattle.proof_nodes.specs.Nodes as nodes
+use Rattle.proof_nodes.specs.Nodes.{NoProof, AndProof}
+use Rattle.proof_tree.specs.declared.fact.Fact.{Fact}
+use Rattle.proof_tree.specs.declared.fact.Fact.TheVariants.{Time, Size}
+use Rattle.proof_tree.specs.declared.arm.Spot.{Spot}
+use Rattle.proof_tree.specs.declared.arm.Arm.{Arm}
+use Rattle.proof_tree.specs.declared.arm.Arm.TheVariants as arms
+use Rattle.proof_tree.specs.declared.arm.LocalBound.{LocalBound}
+use Rattle.proof_tree.specs.declared.arm.Member.{Member}
+use Rattle.proof_tree.specs.declared.rank.Form.{Form}
+use Rattle.proof_tree.specs.declared.proof.Proof.{Proof}
+use Rattle.proof_tree.specs.declared.proof.EmptyNode.{EmptyNode}
+use Rattle.proof_tree.specs.declared.proof.Proof.TheOpen.{Proof-F, UnreachedNode-F, SpreadNode-F, CycleNode-F, RankNode-F}
+use Rattle.proof_tree.specs.declared.proof.Proof.TheFolds.{fold-Proof}
+
+-- a fact as plain data
+abbrev pub fact_of : Fact → facts.Fact
+fact_of (Time t b) = facts.Time t (bound_of b)
+fact_of (Size t i b) = facts.Size t i (bound_of b)
+
+-- facts as plain data
+abbrev pub facts_of : List Fact → List facts.Fact
+facts_of fs = map fact_of fs
+
+-- a spot as plain data
+abbrev pub spot_of : Spot → nodes.Spot
+spot_of s = record { rule = s.rule; place = s.place }
+
+-- an arm as plain data
+abbrev pub arm_of : Arm → nodes.Arm
+arm_of (arms.Linear den coefs constant multipliers) =
+    nodes.Linear den (record { coefs = coefs.items; constant = constant }) multipliers.items
+arm_of arms.Poly = nodes.Poly
+
+-- a local bound as plain data
+abbrev pub local_of : LocalBound → nodes.LocalBound
+local_of l = record { up = arm_of l.up; low = arm_of l.low }
+
+-- a member as plain data
+abbrev pub member_of : Member → nodes.Member
+member_of m = record { spot = spot_of m.spot; local = local_of m.local }
+
+-- the part of a ranking function at a symbol as plain data
+abbrev pub form_of : Form → nodes.SymbolForm
+form_of f = record { symbol = f.symbol; form = record { coefs = f.coefs.items; constant = f.constant } }
+
+-- a list of proofs as the uses of one
+abbrev pub uses_of : List nodes.Proof → nodes.Proofs
+uses_of [] = NoProof
+uses_of (p ∷ ps) = AndProof p (uses_of ps)
+
+-- a node without what it rests on
+abbrev pub empty_of : EmptyNode → nodes.Proof
+empty_of n = nodes.Empty n.rule n.multipliers.items
+
+-- one layer of each type, with the plain proof of each child in its place
+abbrev pub proof_step : Proof-F nodes.Proof nodes.Proof nodes.Proof nodes.Proof nodes.Proof → nodes.Proof
+proof_step (Proof-F.Cite n) = nodes.Cite n
+proof_step Proof-F.Start = nodes.Start
+proof_step (Proof-F.Empty n) = empty_of n.value
+proof_step (Proof-F.Unreached n) = n.value
+proof_step (Proof-F.Never child) = nodes.Never child.value
+proof_step (Proof-F.Rank n) = n.value
+proof_step (Proof-F.Spread n) = n.value
+proof_step (Proof-F.Cycle n) = n.value
+proof_step (Proof-F.Weaken child b) = nodes.Weaken child.value (bound_of b)
+
+abbrev pub unreached_step : UnreachedNode-F nodes.Proof nodes.Proof nodes.Proof nodes.Proof nodes.Proof → nodes.Proof
+unreached_step n = nodes.Unreached n.rule (uses_of n.uses.items)
+
+abbrev pub spread_step : SpreadNode-F nodes.Proof nodes.Proof nodes.Proof nodes.Proof nodes.Proof → nodes.Proof
+spread_step n = nodes.Spread (record { spot = spot_of n.spot; local = local_of n.local }) (uses_of n.uses.items)
+
+abbrev pub cycle_step : CycleNode-F nodes.Proof nodes.Proof nodes.Proof nodes.Proof nodes.Proof → nodes.Proof
+cycle_step n = nodes.Cycle (map member_of n.members.items) (uses_of n.uses.items)
+
+abbrev pub rank_step : RankNode-F nodes.Proof nodes.Proof nodes.Proof nodes.Proof nodes.Proof → nodes.Proof
+rank_step n = nodes.Rank (record {
+  rule = n.rule;
+  set = n.set.items;
+  den = n.den;
+  forms = map form_of n.forms.items;
+  moves = map (λ m. m.items) n.moves.items;
+  floor = n.floor.items;
+}) (uses_of n.uses.items)
+
+-- a proof as plain data
+abbrev pub proof_of : Proof → nodes.Proof
+proof_of = fold-Proof nodes.Proof nodes.Proof nodes.Proof nodes.Proof nodes.Proof proof_step cycle_step spread_step
+    unreached_step rank_step

@@ -1,0 +1,61 @@
+// Why a question had no answer, and why a node or a gap is refused.
+
+/// What a linear program was asked.
+#[derive(Clone, Copy, Debug, PartialEq, Eq, Hash)]
+pub enum Question {
+    /// Whether the rows of the rule have a point.
+    Empty { rule: u32 },
+    /// A ranking function for the rule.
+    Rank { rule: u32 },
+    /// A local bound of a place.
+    Local { rule: u32, place: u32 },
+}
+
+/// The limit that a linear program passed.
+#[derive(Clone, Copy, Debug, PartialEq, Eq, Hash)]
+pub enum TripCause {
+    /// After so many pivots a number of the tableau was too large.
+    Range { pivot: u32 },
+    /// So many pivots were allowed, and another one was needed.
+    Budget { pivots: u32 },
+    /// The tableau would have so many entries.
+    Wide { entries: u64 },
+    /// A number of the scaled answer was too large.
+    Scale,
+}
+
+/// A question whose linear program passed a limit.
+#[derive(Clone, Copy, Debug, PartialEq, Eq, Hash)]
+pub struct Trip {
+    pub question: Question,
+    pub cause: TripCause,
+}
+
+/// Why a node is not accepted.
+#[derive(Clone, Copy, Debug, PartialEq, Eq, Hash)]
+pub enum Reason {
+    Shape,
+    Empty,
+    Reached,
+    Zero,
+    Move { rule: u32 },
+    Floor,
+    ArmUp { rule: u32, place: u32 },
+    ArmLow { rule: u32, place: u32 },
+    MissingTime { rule: u32 },
+    MissingSize { rule: u32, place: u32 },
+    Bent { rule: u32, place: u32 },
+    Large { nodes: u64 },
+    Weaker,
+}
+
+/// Why a gap does not hold; place 0 stands for the constant.
+#[derive(Clone, Copy, Debug, PartialEq, Eq, Hash)]
+pub enum GapFault {
+    Shape,
+    Move { rule: u32 },
+    Floor,
+    Kept { rule: u32 },
+    Balance { symbol: u32, place: u32 },
+    Nothing,
+}

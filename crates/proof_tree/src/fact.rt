@@ -1,0 +1,11 @@
+// Facts.
+
+use bound_expr::Bound;
+
+/// A bound on how often a rule occurs, or on the absolute value at a place after a rule. Rule 0 is the virtual entry;
+/// places count from 1.
+#[derive(Debug, PartialEq, Eq, Drop)]
+pub enum Fact {
+    Time { rule: u32, bound: Bound },
+    Size { rule: u32, place: u32, bound: Bound },
+}

@@ -1,0 +1,61 @@
+// Proof trees.
+
+use crate::arm::{LocalBound, Member, Spot};
+use crate::rank::RankNode;
+use bound_expr::Bound;
+
+/// A proof of facts. The nodes that it rests on stand in it.
+#[derive(Debug, PartialEq, Eq, Drop)]
+#[cycle(proof)]
+pub enum Proof {
+    /// An earlier lemma, from 1.
+    Cite(u32),
+    /// The virtual entry occurs once, and its sizes are the start values.
+    Start,
+    /// A rule whose rows no point meets.
+    Empty(Box<EmptyNode>),
+    /// A rule whose source is not reached.
+    Unreached(Box<UnreachedNode>),
+    /// The sizes after a rule that never runs.
+    Never(Box<Proof>),
+    /// A time by a ranking function.
+    Rank(Box<RankNode>),
+    /// The size at a place that does not loop.
+    Spread(Box<SpreadNode>),
+    /// The sizes at the places of a loop.
+    Cycle(Box<CycleNode>),
+    /// A fact with a bound that is not below its own.
+    Weaken(Box<Proof>, Bound),
+}
+
+/// A rule whose rows, each times its multiplier, add up to -1.
+#[derive(Debug, PartialEq, Eq, Drop)]
+pub struct EmptyNode {
+    pub rule: u32,
+    pub multipliers: Vec<u64>,
+}
+
+/// A rule whose source is not reached by rules other than those that the uses show to be dead.
+#[derive(Debug, PartialEq, Eq, Drop)]
+#[cycle(proof)]
+pub struct UnreachedNode {
+    pub rule: u32,
+    pub uses: Vec<Proof>,
+}
+
+/// A place with its local bound, and what its sizes before rest on.
+#[derive(Debug, PartialEq, Eq, Drop)]
+#[cycle(proof)]
+pub struct SpreadNode {
+    pub spot: Spot,
+    pub local: LocalBound,
+    pub uses: Vec<Proof>,
+}
+
+/// The places of a loop with their local bounds, and what their sizes from outside and their times rest on.
+#[derive(Debug, PartialEq, Eq, Drop)]
+#[cycle(proof)]
+pub struct CycleNode {
+    pub members: Vec<Member>,
+    pub uses: Vec<Proof>,
+}
