@@ -3,3 +3,4 @@ pub mod Sayings
 pub mod Exclusions
 pub mod Lines
 pub mod Ones
+pub mod WorkedEnds

@@ -17,7 +17,8 @@ pub one_at_end : (names : List Name) → codes ": " ++ (text_of names (Constant 
 one_at_end names = ap (λ (t : List ℕ). codes ": " ++ (t ++ codes "\n")) (text_of_constant names 1 ∙ decimal_digit 1 (omega arith))
 
 -- the line of a rule that occurs at most once, as it is written
-pub time_line_pushed : (names : List Name) (old : List ℕ) (rule : ℕ) → (old ++ rule_start rule) ++ bound_end names (Constant 1) ≡ old ++ time_line rule
+pub time_line_pushed : (names : List Name) (old : List ℕ) (rule : ℕ)
+    → (old ++ rule_start rule) ++ bound_end names (Constant 1) ≡ old ++ time_line rule
 time_line_pushed names old rule =
     append_assoc old (rule_start rule) (bound_end names (Constant 1))
     ∙ ap (λ (line : List ℕ). old ++ line)
@@ -26,7 +27,8 @@ time_line_pushed names old rule =
     (append_assoc (decimal rule) (codes ": ") (bound_end names (Constant 1)) ∙ ap (λ (line : List ℕ). decimal rule ++ line) (one_at_end names)))
 
 -- the line of the total, as it is written
-pub total_line_pushed : (names : List Name) (old : List ℕ) (n : ℕ) → (old ++ codes "total: ") ++ bound_end names (Constant n) ≡ old ++ total_line n
+pub total_line_pushed : (names : List Name) (old : List ℕ) (n : ℕ)
+    → (old ++ codes "total: ") ++ bound_end names (Constant n) ≡ old ++ total_line n
 total_line_pushed names old n =
     append_assoc old (codes "total: ") (bound_end names (Constant n))
     ∙ ap (λ (t : List ℕ). old ++ (codes "total: " ++ (t ++ codes "\n"))) (text_of_constant names n)

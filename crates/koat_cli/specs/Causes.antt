@@ -1,30 +1,18 @@
 -- Why the program ends with a status, and the text of each.
-use Rattle.std.specs.Prelude.{◌≡◌, ◌⊎◌, ℕ, ◌^◌, ◌≤◌, List, length, Option}
-use Rattle.outside_io.specs.Files.{Files, IsHeld}
+use Rattle.std.specs.Prelude.{◌≡◌, ◌⊎◌, ℕ, ◌^◌, ◌≤◌, List, length}
+use Rattle.outside_io.specs.Files.{IsHeld}
 use Rattle.outside_io.specs.Fetching.{IsTooLong, MayFail}
 use Rattle.model.specs.Programs.{Program}
 use Rattle.model.specs.Paths.{HasCycle}
 use Rattle.its_graph.specs.Acyclic.{EachRuleAtMostOnce}
 use Rattle.its_reader.specs.Spelling.{SpellsWithin}
-use Rattle.koat_cli.specs.Requests.{Words, AsksAnalyse}
+use Rattle.koat_cli.specs.Requests.{AsksAnalyse}
+use Rattle.koat_cli.specs.Calls.{Call}
 use Rattle.koat_cli.specs.Report.{report_text, usage_text, read_fault_text, too_long_text, form_text, cycle_text}
 
 -- a program's text has at most 4,194,304 bytes
 abbrev pub program_limit : ℕ
 program_limit = 2 ^ 22
-
--- what a call was given and saw: its words, what the shelf tells that it holds, the shelf's count of faults before and
--- after, and how many bytes its last fetch took
-pub record Call : Type 0 where
-  pub words : Words
-  pub held : Option Files
-  pub faults_before : ℕ
-  pub faults_after : ℕ
-  pub taken : ℕ
-
--- the call with these words, on a shelf of which this was told before, counted before and after, and taken
-abbrev pub call_of : Words → Option Files → ℕ → ℕ → ℕ → Call
-call_of words held before after taken = record { words = words; held = held; faults_before = before; faults_after = after; taken = taken }
 
 -- these are the bytes of the file that the words ask for, and they aren't too many
 pub record ReadsProgram (call : Call) (bytes : List ℕ) : Type 0 where

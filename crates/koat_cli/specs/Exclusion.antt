@@ -3,7 +3,7 @@ use Rattle.std.specs.Prelude.{◌≡◌, ◌≢◌, List, ℕ, IsSome}
 use Rattle.outside_io.specs.Counts.{Rose}
 use Rattle.koat_cli.specs.declared.status.Status.{Status}
 use Rattle.koat_cli.specs.declared.status.Status.TheVariants.{Usage, ReadFault}
-use Rattle.koat_cli.specs.Causes.{Call}
+use Rattle.koat_cli.specs.Calls.{Call}
 use Rattle.koat_cli.specs.Ends.{Says}
 
 -- other words than a command line have no other cause than that of the usage text. Where the shelf tells what it holds,
@@ -12,5 +12,7 @@ use Rattle.koat_cli.specs.Ends.{Says}
 -- want of memory
 pub record CausesExcludeEachOther : Type 0 where
   pub other_words : (call : Call) (t : Status) (x y : List ℕ) → Says Usage call x → Says t call y → t ≡ Usage
-  pub without_faults : (call : Call) (s t : Status) (x y : List ℕ) → IsSome call.held → ¬ (Rose call.faults_before call.faults_after) → Says s call x → Says t call y → (s ≡ t) × (x ≡ y)
-  pub read_faults_aside : (call : Call) (s t : Status) (x y : List ℕ) → IsSome call.held → s ≢ ReadFault → t ≢ ReadFault → Says s call x → Says t call y → (s ≡ t) × (x ≡ y)
+  pub without_faults : (call : Call) (s t : Status) (x y : List ℕ) → IsSome call.held
+      → ¬ (Rose call.faults_before call.faults_after) → Says s call x → Says t call y → (s ≡ t) × (x ≡ y)
+  pub read_faults_aside : (call : Call) (s t : Status) (x y : List ℕ) → IsSome call.held → s ≢ ReadFault → t ≢ ReadFault
+      → Says s call x → Says t call y → (s ≡ t) × (x ≡ y)

@@ -1,7 +1,13 @@
+-- what the contracts of the program cite: command lines, calls, causes, texts, statuses and how calls end
 pub mod Requests
+pub mod Calls
 pub mod Report
 pub mod Causes
-pub mod Ends
-pub mod Exclusion
-pub mod OfProgram
 pub mod Numbers
+pub mod Ends
+pub mod Processes
+pub mod Exclusion
+-- values that were worked out by hand
+pub mod WorkedEnds
+-- what the contracts of the functions inside cite
+pub mod OfProgram

@@ -1,7 +1,7 @@
 -- The texts that the program writes.
 use Rattle.std.specs.Prelude.{ℕ, zero, suc, List, [], ◌++◌, codes, decimal}
 use Rattle.model.specs.Programs.{Name}
-use Rattle.model.specs.Bounds.{Size}
+use Rattle.model.specs.Bounds.{Bound}
 use Rattle.bound_text.specs.Texts.{text_of}
 
 -- what stands before a rule's bound
@@ -9,7 +9,7 @@ abbrev pub rule_start : ℕ → List ℕ
 rule_start rule = codes "time " ++ (decimal rule ++ codes ": ")
 
 -- the text of a bound, and the end of its line
-abbrev pub bound_end : List Name → Size → List ℕ
+abbrev pub bound_end : List Name → Bound → List ℕ
 bound_end names b = text_of names b ++ codes "\n"
 
 -- the line of a rule that occurs at most once

@@ -1,7 +1,8 @@
 // The analysis of a program's text.
 
 ghost use Rattle.std.specs.Prelude.{◌≡◌, ℕ, List, IfOk};
-ghost use Rattle.koat_cli.specs.Causes.{Call, ReadsProgram};
+ghost use Rattle.koat_cli.specs.Calls.{Call};
+ghost use Rattle.koat_cli.specs.Causes.{ReadsProgram};
 ghost use Rattle.koat_cli.specs.Ends.{Says};
 ghost use Rattle.koat_cli.specs.OfProgram.{SaysOfProgram};
 ghost use Rattle.its_model.specs.Views.{program_of};
@@ -9,14 +10,16 @@ ghost use Rattle.its_model.specs.Views.{program_of};
 use crate::report_lines::report_text;
 use crate::said::{Said, say};
 use crate::status::Status;
-use its_graph::{Memory, has_cycle};
+use its_graph::has_cycle;
 use its_model::Program;
 use its_reader::{ReadError, read};
+use model::Memory;
 use std::alloc::{AllocError, Global};
 
 /// What the program says of a text: its report, or why it is refused.
 pub(crate) fn analyse(alloc: Global, bytes: &[u8]) -> Result<Said, Memory>
-    ensures { IfOk result (λ said. (call : Call) → ReadsProgram call bytes.now → Says said.status call said.text.items) }
+    ensures { IfOk result (λ said. (call : Call)
+        → ReadsProgram call bytes.now → Says said.status call said.text.items) }
 {
     match read(alloc, bytes) {
         Ok(program) => analyse_program(alloc, &program),

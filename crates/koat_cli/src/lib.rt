@@ -5,6 +5,7 @@
 mod analysis;
 mod law;
 mod preparation;
+mod program;
 mod report_lines;
 mod said;
 mod status;
@@ -12,6 +13,7 @@ mod top_call;
 mod total;
 mod words;
 
-pub use law::causes_exclude_each_other;
+pub use law::{causes_exclude_each_other, worked_ends_hold};
+pub use program::run_program;
 pub use status::Status;
 pub use top_call::run;

@@ -1,14 +1,14 @@
 // What the program says, before it is written.
 
-ghost use Rattle.std.specs.Prelude.{◌≡◌, ◌≤◌, map, string_bytes, IfOk};
-ghost use Rattle.koat_cli.specs.Causes.{call_of};
+ghost use Rattle.std.specs.Prelude.{◌≡◌, ◌≤◌, IfOk};
+ghost use Rattle.koat_cli.specs.Calls.{call_of};
 ghost use Rattle.koat_cli.specs.Ends.{Says};
 
 use crate::analysis::analyse;
 use crate::said::{Said, say};
 use crate::status::Status;
 use crate::words::file_to_analyse;
-use its_graph::Memory;
+use model::Memory;
 use outside_io::{FetchError, Shelf};
 use std::alloc::{AllocError, Global};
 
@@ -23,9 +23,8 @@ pub(crate) fn prepare<F: Shelf>(
 ) -> Result<Said, Memory>
     ensures keeps_files { F.held shelf.new ≡ F.held shelf.old }
     ensures keeps_count { F.faults shelf.old ≤ F.faults shelf.new }
-    ensures says { IfOk result (λ said. Says said.status
-        (call_of (map string_bytes words.now) (F.held shelf.old) (F.faults shelf.old) (F.faults shelf.new) (F.taken shelf.new))
-        said.text.items) }
+    ensures says { IfOk result (λ said.
+        Says said.status (call_of F.Shelf words.now shelf.old shelf.new) said.text.items) }
 {
     let Some(file) = file_to_analyse(words) else {
         return say(alloc, Status::Usage, b"usage: koat analyse FILE\n");

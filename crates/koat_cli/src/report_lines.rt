@@ -2,17 +2,18 @@
 
 ghost use Rattle.std.specs.Prelude.{◌≡◌, ◌++◌, length, map, IfOk, OnOk};
 ghost use Rattle.its_model.specs.Views.{name_of};
-ghost use Rattle.bound_expr.specs.Views.{size_of};
-ghost use Rattle.bound_expr.specs.Substitution.{ReadsBelow};
+ghost use Rattle.bound_expr.specs.Views.{bound_of};
+ghost use Rattle.bound_expr.specs.Numbers.{ReadsBelow};
 ghost use Rattle.bound_expr.specs.Tidy.{IsTidy};
-ghost use Rattle.koat_cli.specs.Report.{report_text as text_of_report, time_line, time_lines, total_line, rule_start, bound_end};
+ghost use Rattle.koat_cli.specs.Report.{report_text as text_of_report, time_line, time_lines, total_line, rule_start};
+ghost use Rattle.koat_cli.specs.Report.{bound_end};
 
 use crate::total::total_of;
 use bound_expr::Bound;
 use bound_text::print;
 use itoa::Buffer;
-use its_graph::Memory;
 use its_model::Name;
+use model::Memory;
 use std::alloc::Global;
 
 /// The report on this many rules each of which occurs at most once. Bounds are over variables with these names.
@@ -63,9 +64,9 @@ fn push_bound(
     names: &[Name],
     bound: &Bound,
 ) -> Result<(), Memory>
-    requires tidy { IsTidy (size_of bound.now) }
-    requires listed { ReadsBelow (length names.now) (size_of bound.now) }
-    ensures { OnOk result (text.new.items ≡ text.old.items ++ bound_end (map name_of names.now) (size_of bound.now)) }
+    requires tidy { IsTidy (bound_of bound.now) }
+    requires listed { ReadsBelow (length names.now) (bound_of bound.now) }
+    ensures { OnOk result (text.new.items ≡ text.old.items ++ bound_end (map name_of names.now) (bound_of bound.now)) }
 {
     text.extend_from_slice(&print(alloc, names, bound)?)?;
     text.extend_from_slice(b"\n")

@@ -3,7 +3,7 @@
 ghost use Rattle.std.specs.Prelude.{◌≡◌, IfOk};
 
 use crate::status::Status;
-use its_graph::Memory;
+use model::Memory;
 use std::alloc::Global;
 
 /// A status with its whole text.

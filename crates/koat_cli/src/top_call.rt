@@ -1,8 +1,8 @@
 // The top call.
 
-ghost use Rattle.std.specs.Prelude.{◌≡◌, ◌≤◌, map, string_bytes, IsSome};
-ghost use Rattle.koat_cli.specs.Causes.{IsBounded, IsUsage, IsReadFault, IsProgramRefused, call_of};
-ghost use Rattle.koat_cli.specs.Ends.{Wrote, Broke, IsStatusOfAnalyse};
+ghost use Rattle.std.specs.Prelude.{◌≡◌, ◌≤◌, IsSome};
+ghost use Rattle.koat_cli.specs.Calls.{call_of, put_of};
+ghost use Rattle.koat_cli.specs.Ends.{Ends};
 
 use crate::preparation::prepare;
 use crate::status::Status;
@@ -32,23 +32,8 @@ pub fn run<F: Shelf, S: Sink>(
     shelf: &mut F,
     sink: &mut S,
 ) -> Status
-    ensures done { result ≡ Status.Done → Wrote
-        (IsBounded (call_of (map string_bytes words.now) (F.held shelf.old) (F.faults shelf.old) (F.faults shelf.new) (F.taken shelf.new)))
-        (S.written sink.old) (S.written sink.new) }
-    ensures usage { result ≡ Status.Usage → Wrote
-        (IsUsage (call_of (map string_bytes words.now) (F.held shelf.old) (F.faults shelf.old) (F.faults shelf.new) (F.taken shelf.new)))
-        (S.written sink.old) (S.written sink.new) }
-    ensures read_fault { result ≡ Status.ReadFault → Wrote
-        (IsReadFault (call_of (map string_bytes words.now) (F.held shelf.old) (F.faults shelf.old) (F.faults shelf.new) (F.taken shelf.new)))
-        (S.written sink.old) (S.written sink.new) }
-    ensures program_refused { result ≡ Status.ProgramRefused → Wrote
-        (IsProgramRefused (call_of (map string_bytes words.now) (F.held shelf.old) (F.faults shelf.old) (F.faults shelf.new) (F.taken shelf.new)))
-        (S.written sink.old) (S.written sink.new) }
-    ensures write_fault { result ≡ Status.WriteFault → Broke
-        (call_of (map string_bytes words.now) (F.held shelf.old) (F.faults shelf.old) (F.faults shelf.new) (F.taken shelf.new))
-        (S.faults sink.old) (S.faults sink.new) (S.written sink.old) (S.written sink.new) }
+    ensures ends { Ends result (call_of F.Shelf words.now shelf.old shelf.new) (put_of S.Sink sink.old sink.new) }
     ensures memory { result ≡ Status.Memory → sink.new ≡ sink.old }
-    ensures no_other { IsStatusOfAnalyse result }
 
     ensures keeps_files { F.held shelf.new ≡ F.held shelf.old }
     ensures keeps_shelf_count { F.faults shelf.old ≤ F.faults shelf.new }

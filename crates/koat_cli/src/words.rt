@@ -5,7 +5,8 @@ ghost use Rattle.koat_cli.specs.Requests.{names_file as names_file_at, AsksAnaly
 
 /// The file that `analyse FILE` asks for; none where the words are anything else.
 pub(crate) fn file_to_analyse(words: &[String]) -> Option<&str>
-    ensures { MatchOption result ((file : List ℕ) → ¬ (AsksAnalyse (map string_bytes words.now) file)) (λ file. AsksAnalyse (map string_bytes words.now) file.now) }
+    ensures { MatchOption result ((file : List ℕ) → ¬ (AsksAnalyse (map string_bytes words.now) file))
+        (λ file. AsksAnalyse (map string_bytes words.now) file.now) }
 {
     match words {
         [command, file] if command.as_str() == "analyse" && names_file(file.as_str()) => {

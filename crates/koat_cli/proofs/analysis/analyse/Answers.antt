@@ -2,7 +2,8 @@ use Rattle.std.proofs.Common.{ℕ, List, ap, Err}
 use Rattle.std.proofs.lemmas.Result.{IfOk-weaker}
 use Rattle.its_model.specs.Views.{program_of}
 use Rattle.koat_cli.specs.declared.said.Said.{Said}
-use Rattle.koat_cli.specs.Causes.{Call, ReadsProgram}
+use Rattle.koat_cli.specs.Calls.{Call}
+use Rattle.koat_cli.specs.Causes.{ReadsProgram}
 use Rattle.koat_cli.specs.Ends.{Says}
 use Rattle.koat_cli.specs.OfProgram.{SaysOfProgram}
 use Rattle.koat_cli.proofs.Sayings.{said_of_program, refused_form}

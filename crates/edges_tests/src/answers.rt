@@ -74,13 +74,6 @@ const PROGRAMS: &[(&str, Status, &[u8])] = &[
         Status::Done,
         b"bounded\ntime 1: 1\ntime 2: 1\ntotal: 2\n",
     ),
-    (
-        "l0() -> Com_1(a()) l0() -> Com_1(b()) l0() -> Com_1(c()) l0() -> Com_1(d()) l0() -> Com_1(e()) l0() -> Com_1(f()) \
-         l0() -> Com_1(g()) l0() -> Com_1(h()) l0() -> Com_1(i()) l0() -> Com_1(j()) l0() -> Com_1(k()) l0() -> Com_1(m())",
-        Status::Done,
-        b"bounded\ntime 1: 1\ntime 2: 1\ntime 3: 1\ntime 4: 1\ntime 5: 1\ntime 6: 1\ntime 7: 1\ntime 8: 1\ntime 9: 1\n\
-          time 10: 1\ntime 11: 1\ntime 12: 1\ntotal: 12\n",
-    ),
 ];
 
 #[test]

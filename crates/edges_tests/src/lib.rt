@@ -1,0 +1,14 @@
+//! Tests of public calls: shelves and sinks, and the answers of the program. They stand
+//! here so that the crates that they call are proved without them.
+#![tactic(auto)]
+
+#[cfg(test)]
+mod answers;
+#[cfg(test)]
+mod processes;
+#[cfg(test)]
+mod shelves;
+#[cfg(test)]
+mod sizes;
+#[cfg(test)]
+mod steady;

@@ -1,0 +1,43 @@
+-- What a call of the program was given and saw, and what it did to the sink.
+use Rattle.std.specs.Prelude.{ℕ, List, Option, map, string_bytes}
+use Rattle.std.specs.declared.alloc.Global.{Global}
+use Rattle.std.specs.declared.string.String.{String}
+use Rattle.outside_io.specs.Files.{Files}
+use Rattle.outside_io.specs.declared.shelf.Shelf as shelf
+use Rattle.outside_io.specs.declared.sink.Sink as sink
+use Rattle.koat_cli.specs.Requests.{Words}
+
+-- the words of a call, what the shelf tells that it holds, the shelf's count of faults before and after, and how many
+-- bytes its last fetch took
+pub record Call : Type 0 where
+  pub words : Words
+  pub held : Option Files
+  pub faults_before : ℕ
+  pub faults_after : ℕ
+  pub taken : ℕ
+
+-- the call with these words that found the shelf so and left it so, by what the shelf's type means
+abbrev pub call_of : {F : Type 0} → shelf.Ghosts F → List (String Global) → F → F → Call
+call_of means words before after = record {
+  words = map string_bytes words;
+  held = means.held before;
+  faults_before = means.faults before;
+  faults_after = means.faults after;
+  taken = means.taken after;
+}
+
+-- the sink's count of faults, and what it tells that was written, before and after
+pub record Put : Type 0 where
+  pub faults_before : ℕ
+  pub faults_after : ℕ
+  pub written_before : Option (List ℕ)
+  pub written_after : Option (List ℕ)
+
+-- what was put into a sink that a call found so and left so, by what the sink's type means
+abbrev pub put_of : {S : Type 0} → sink.Ghosts S → S → S → Put
+put_of means before after = record {
+  faults_before = means.faults before;
+  faults_after = means.faults after;
+  written_before = means.written before;
+  written_after = means.written after;
+}

@@ -1,0 +1,14 @@
+-- With which status the process ends.
+use Rattle.std.specs.Prelude.{◌≡◌}
+use Rattle.std.specs.Process.{exit_status}
+use Rattle.std.specs.declared.process.ExitCode.{ExitCode}
+use Rattle.koat_cli.specs.declared.status.Status.{Status}
+use Rattle.koat_cli.specs.Calls.{Call, Put}
+use Rattle.koat_cli.specs.Numbers.{number_of}
+use Rattle.koat_cli.specs.Ends.{Ends}
+
+-- the process ends with the number of the status with which the call ends
+pub record Exits (code : ExitCode) (call : Call) (put : Put) : Type 0 where
+  pub status : Status
+  pub numbered : exit_status code ≡ number_of status
+  pub ends : Ends status call put

@@ -1,0 +1,34 @@
+-- What a fault of the sink leaves, as it was worked out by hand of a call that gets the usage text.
+use Rattle.std.specs.Prelude.{ℕ, List, [], ◌++◌, None, Some, codes}
+use Rattle.koat_cli.specs.Calls.{Call, Put}
+use Rattle.koat_cli.specs.Report.{usage_text}
+use Rattle.koat_cli.specs.Ends.{Broke}
+
+-- a call without words, on a shelf that doesn't tell what it holds and had no fault
+abbrev pub without_words : Call
+without_words = record { words = []; held = None; faults_before = 0; faults_after = 0; taken = 0 }
+
+-- a put that left these bytes behind the text `old`, after which the sink counts so many faults; before it counted 3
+abbrev pub left_with : ℕ → List ℕ → Put
+left_with faults bytes = record {
+  faults_before = 3;
+  faults_after = faults;
+  written_before = Some (codes "old ");
+  written_after = Some bytes;
+}
+
+-- with a rise of the count from 3 to 4 the call without words left these bytes
+abbrev pub Left : List ℕ → Type 0
+Left bytes = Broke without_words (left_with 4 bytes)
+
+-- some first bytes of the usage text, none or all of them, stand behind what was there; no others do, nothing stands
+-- in place of what was there, and without a rise of the count there was no fault
+pub record FaultsLeaveFirstBytes : Type 0 where
+  pub none : Left (codes "old ")
+  pub some : Left (codes "old usa")
+  pub all : Left (codes "old " ++ usage_text)
+  pub other_text : ¬ (Left (codes "old bou"))
+  pub last_bytes : ¬ (Left (codes "old sage"))
+  pub in_place : ¬ (Left (codes "usa"))
+  pub more : ¬ (Left (codes "old " ++ (usage_text ++ codes "u")))
+  pub no_rise : (bytes : List ℕ) → ¬ (Broke without_words (left_with 3 bytes))
