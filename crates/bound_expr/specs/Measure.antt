@@ -1,5 +1,5 @@
 -- How large a bound is.
-use Rattle.std.specs.Prelude.{ℕ, ◌+◌, max, nat_lt, ◌||◌, Bool}
+use Rattle.std.specs.Prelude.{ℕ, ◌+◌, ◌-◌, ◌^◌, max, min, nat_lt, ◌||◌, Bool}
 use Rattle.model.specs.Bounds.{Bound, Constant, Input, SumOf, ProductOf, MaximumOf, PowerOf, Parts, NoParts, Part}
 use Rattle.bound_expr.specs.Limits.{node_limit, depth_limit}
 
@@ -34,3 +34,7 @@ abbrev mutual
 -- a bound is large: it has more than 4,096 nodes, or more than 200 levels
 abbrev pub is_large : Bound → Bool
 is_large b = nat_lt node_limit (node_count b) || nat_lt depth_limit (depth_of b)
+
+-- the number of nodes as it is told: where there are more than its type holds, the maximum number of that
+abbrev pub told_nodes : Bound → ℕ
+told_nodes b = min (node_count b) (2 ^ 64 - 1)

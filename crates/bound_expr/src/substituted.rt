@@ -48,7 +48,8 @@ fn replaced(alloc: Global, b: &Bound, sizes: &[Bound]) -> Result<Bound, Memory>
 #[cycle(replaced)]
 fn all_replaced(alloc: Global, parts: &[Bound], sizes: &[Bound]) -> Result<Vec<Bound>, Memory>
     requires { AllReadBelow (length sizes.now) (parts_of (bounds_of parts.now)) }
-    ensures { IfOk result (λ rs. parts_of (bounds_of rs.items) ≡ all_substituted (parts_of (bounds_of parts.now)) (bounds_of sizes.now)) }
+    ensures { IfOk result (λ rs. parts_of (bounds_of rs.items) ≡ all_substituted (parts_of (bounds_of parts.now))
+        (bounds_of sizes.now)) }
 {
     let mut outcomes = Vec::new(alloc);
     for part in parts {

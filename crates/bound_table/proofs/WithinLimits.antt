@@ -3,7 +3,8 @@ use Rattle.std.proofs.Common.{◌≡◌, Bool, true, false, if◌then◌else◌,
 use Rattle.model.specs.Bounds.{Bound}
 use Rattle.bound_expr.specs.Measure.{is_large}
 use Rattle.bound_table.specs.InForce.{rewritten}
-use Rattle.bound_table.specs.Within.{Answer, Fits, TooLarge, told_nodes, unless_large, rewritten_within, WhereFits}
+use Rattle.bound_expr.specs.Measure.{told_nodes}
+use Rattle.bound_table.specs.Within.{Answer, Fits, TooLarge, unless_large, rewritten_within, WhereFits}
 
 -- a bound is a large one, or it fits
 unless_large-fits : (P : Bound → Type 0) (b : Bound) → (is_large b ≡ false → P b) → WhereFits (unless_large b) P

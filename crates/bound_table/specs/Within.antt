@@ -1,8 +1,8 @@
 -- A bound rewritten where that stays within the limits.
-use Rattle.std.specs.Prelude.{ℕ, ◌-◌, ◌^◌, min, if◌then◌else◌, ⊤}
+use Rattle.std.specs.Prelude.{ℕ, if◌then◌else◌, ⊤}
 use Rattle.model.specs.Bounds.{Bound}
 use Rattle.bound_expr.specs.Views.{bound_of}
-use Rattle.bound_expr.specs.Measure.{node_count, is_large}
+use Rattle.bound_expr.specs.Measure.{told_nodes, is_large}
 use Rattle.bound_table.specs.declared.within.Within as code
 use Rattle.bound_table.specs.declared.within.Within.TheVariants.{Rewritten, Large}
 use Rattle.bound_table.specs.InForce.{rewritten}
@@ -16,10 +16,6 @@ pub data Answer : Type 0 where
 abbrev pub answer_of : code.Within → Answer
 answer_of (Rewritten b) = Fits (bound_of b)
 answer_of (Large nodes) = TooLarge nodes
-
--- the number of nodes of a bound as it is told: where there are more than its type holds, the maximum number of that
-abbrev pub told_nodes : Bound → ℕ
-told_nodes b = min (node_count b) (2 ^ 64 - 1)
 
 -- a bound that is not large
 abbrev pub unless_large : Bound → Answer

@@ -50,7 +50,8 @@ fn push_spread(kind: Kind, part: Bound, flat: &mut Vec<Bound>) -> Result<(), Mem
 
 // The parts of a node of the kind, or the bound itself where it is of another kind.
 fn inner_parts(kind: Kind, part: Bound) -> Result<Vec<Bound>, Bound>
-    ensures { MatchResult result (λ inner. spread kind (bound_of part) ≡ bounds_of inner.items) (λ single. spread kind (bound_of part) ≡ bound_of single ∷ []) }
+    ensures { MatchResult result (λ inner. spread kind (bound_of part) ≡ bounds_of inner.items)
+        (λ single. spread kind (bound_of part) ≡ bound_of single ∷ []) }
 {
     match (kind, part) {
         (Kind::AsSum, Bound::Sum(inner)) => Ok(inner),

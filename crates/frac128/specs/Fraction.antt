@@ -19,7 +19,8 @@ IsExactOrRange result numbers over under =
 -- the same for a comparison: the order of left and right where both are within the limit
 abbrev pub IsOrderOrRange : Result Ordering Range → ℤ → ℤ → Type 0
 IsOrderOrRange result left right =
-    MatchResult result (λ order. AreNarrow (left ∷ right ∷ []) × (order ≡ int_cmp left right)) (λ _. ¬ AreNarrow (left ∷ right ∷ []))
+    MatchResult result (λ order. AreNarrow (left ∷ right ∷ []) × (order ≡ int_cmp left right))
+    (λ _. ¬ AreNarrow (left ∷ right ∷ []))
 
 -- the maximum whole number that is at most the fraction
 pub record IsFloor (f : Frac) (z : ℤ) : Type 0 where

@@ -70,7 +70,7 @@ sum_to-nonneg (suc n) f h = both _ _ (sum_to-nonneg n f (λ j l. h j (omega arit
     both a b e f = omega (arith, ints)
 
 -- an index below n + 1 is n or below n
-last_or_before : (n j : ℕ) → j < suc n → (j ≡ n) ⊎ (j < n)
+pub last_or_before : (n j : ℕ) → j < suc n → (j ≡ n) ⊎ (j < n)
 last_or_before n j l = go (cases_lt j n)
   where
     go : (j < n) ⊎ (n ≤ j) → (j ≡ n) ⊎ (j < n)
@@ -138,15 +138,8 @@ sum_to-apart n k f g l z h =
 -- a sum of terms at least 0 is over 0 where one of them is
 pub sum_to-positive : (n k : ℕ) (f : ℕ → ℤ) → k < n → ((j : ℕ) → j < n → pos 0 ≤ℤ f j) → pos 0 <ℤ f k → pos 0 <ℤ sum_to n f
 sum_to-positive zero k f l h p = absurd (omega arith)
-sum_to-positive (suc n) k f l h p = go (last_or_before l) (λ m. sum_to-positive n k f m (λ j i. h j (omega arith)) p)
+sum_to-positive (suc n) k f l h p = go (last_or_before n k l) (λ m. sum_to-positive n k f m (λ j i. h j (omega arith)) p)
   where
-    last_or_before : k < suc n → (k ≡ n) ⊎ (k < n)
-    last_or_before m = split (cases_lt k n)
-      where
-        split : (k < n) ⊎ (n ≤ k) → (k ≡ n) ⊎ (k < n)
-        split (inl i) = inr i
-        split (inr i) = inl (omega arith)
-
     at_end : (v w z : ℤ) → pos 0 ≤ℤ v → pos 0 <ℤ z → z ≡ w → pos 0 <ℤ (v +ℤ w)
     at_end v w z a b e = omega (arith, ints)
 

@@ -41,7 +41,8 @@ times_each f (nested r s) = nested (f r) (times_each f s)
 -- the product of two forms: p * r + x * (q * r)
 abbrev pub horner_product : Horner → Horner → Horner
 horner_product (number a) r = number_times a r
-horner_product (nested p q) r = horner_sum (times_each (horner_product p) r) (nested (number (pos 0)) (horner_product q r))
+horner_product (nested p q) r = horner_sum (times_each (horner_product p) r)
+    (nested (number (pos 0)) (horner_product q r))
 
 -- the form of a polynomial
 abbrev pub horner_of : Polynomial → Horner

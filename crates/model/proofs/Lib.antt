@@ -4,3 +4,4 @@ pub mod WorkedRuns
 pub mod CountdownRuns
 pub mod WorkedFacts
 pub mod StepLaws
+pub mod PathValues

@@ -1,15 +1,15 @@
 -- What holds of every run, step by step.
-use Rattle.std.proofs.Common.{◌≡◌, ℕ, zero, suc, ◌+◌, ◌<◌, ◌≤◌, List, [], ◌∷◌, ◌++◌, length, map, filter, ℤ, Bool, true, false, Some, None, Option, ◌⊎◌, ◌≢◌, inl, inr, refl, sym, ◌∙◌, ap, subst, arith, ◌==◌}
+use Rattle.std.proofs.Common.{◌≡◌, ℕ, zero, suc, ◌<◌, List, [], ◌∷◌, ◌++◌, length, filter, ℤ, Bool, true, false, Some, None, Option, ◌⊎◌, ◌≢◌, inl, inr, refl, sym, ◌∙◌, ap, subst, arith, ◌==◌}
 use Rattle.std.specs.List.{All, Contains, range_with_len}
 use Rattle.std.proofs.lemmas.List.{length-map}
-use Rattle.std.proofs.lemmas.List.Elements.{All-head, All-tail, Contains-get_or}
+use Rattle.std.proofs.lemmas.List.Elements.{All-head, All-tail}
 use Rattle.std.proofs.lemmas.List.FromFn.{length-range_with_len, get_or-range_with_len}
 use Rattle.std.proofs.lemmas.Option.{slice_get_within}
 use Rattle.std.proofs.lemmas.Bool.Decides.{eqb_tells}
 use Rattle.model.specs.Terms.{value}
 use Rattle.model.specs.Programs.{Program, Rule, rule_at, arity_of}
-use Rattle.model.specs.Runs.{Config, Step, IsStep, IsRun, last_rule}
-use Rattle.model.specs.Paths.{Path, Here, Onward, HasEdge, IsReached, target_in, target_of, source_in, source_of, same_symbol, comes_before, entry_and_rules, pre}
+use Rattle.model.specs.Runs.{Config, Step, IsRun, last_rule}
+use Rattle.model.specs.Paths.{Here, Onward, IsReached, target_in, target_of, source_in, source_of, same_symbol, comes_before, entry_and_rules, pre}
 use Rattle.model.specs.RunLaws.{AritiesAgree, IsSomeRun, RunsGoStepByStep}
 
 -- a beginning of a run is a run

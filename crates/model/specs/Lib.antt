@@ -6,9 +6,11 @@ pub mod Runs
 pub mod Bounds
 pub mod Facts
 pub mod Paths
+pub mod Limits
 -- the laws of these, and values that were worked out by hand
 pub mod RunLaws
 pub mod Laws
 pub mod Worked
 pub mod WorkedRuns
 pub mod WorkedFacts
+pub mod PathValues

@@ -82,7 +82,8 @@ pub record LeadsBackTo (p : Program) (is_untimed : ℕ → Bool) (t e : ℕ) : T
   pub leaves : source_of p t ≡ Some to
   pub path : HasPath p is_untimed from to
 
--- the set of rule t holds t itself, and each untimed rule from where a path of untimed rules leads to where t comes from
+-- the set of rule t holds t itself, and each untimed rule from where a path of untimed rules leads to where t comes
+-- from
 abbrev pub IsInSet : Program → (ℕ → Bool) → ℕ → ℕ → Type 0
 IsInSet p is_untimed t e = (e ≡ t) ⊎ LeadsBackTo p is_untimed t e
 

@@ -14,16 +14,22 @@ pub record AritiesAgree (p : Program) : Type 0 where
 abbrev pub IsSomeRun : Program → List ℤ → List Step → Type 0
 IsSomeRun p start steps = (c : Config) × IsRun p start steps c
 
--- a beginning of a run is a run; a run stands where its last rule leads to, without a step where the virtual entry does,
--- and the rule before can come just before each of its steps; a run by allowed rules alone stands at a symbol that is
--- reached by them; and where arities agree, a run stands at a configuration with one value for each place
+-- a beginning of a run is a run; a run stands where its last rule leads to, without a step where the virtual entry
+-- does, and the rule before can come just before each of its steps; a run by allowed rules alone stands at a symbol
+-- that is reached by them; and where arities agree, a run stands at a configuration with one value for each place
 pub record RunsGoStepByStep (p : Program) : Type 0 where
-  pub beginning : (start : List ℤ) (later earlier : List Step) → IsSomeRun p start (later ++ earlier) → IsSomeRun p start earlier
-  pub stands : (start : List ℤ) (steps : List Step) (c : Config) → IsRun p start steps c → target_of p (last_rule steps) ≡ Some c.at
-  pub before : (start : List ℤ) (s : Step) (earlier : List Step) (c : Config) → IsRun p start (s ∷ earlier) c → comes_before p (last_rule earlier) s.rule ≡ true
-  pub listed : (start : List ℤ) (s : Step) (earlier : List Step) (c : Config) → IsRun p start (s ∷ earlier) c → Contains (pre p s.rule) (last_rule earlier)
-  pub reached : (is_allowed : ℕ → Bool) (start : List ℤ) (steps : List Step) (c : Config) → IsRun p start steps c → All (λ s. is_allowed s.rule ≡ true) steps → IsReached p is_allowed c.at
-  pub values : AritiesAgree p → (start : List ℤ) (steps : List Step) (c : Config) → IsRun p start steps c → length c.values ≡ arity_of p c.at
+  pub beginning : (start : List ℤ) (later earlier : List Step) → IsSomeRun p start (later ++ earlier)
+      → IsSomeRun p start earlier
+  pub stands : (start : List ℤ) (steps : List Step) (c : Config) → IsRun p start steps c
+      → target_of p (last_rule steps) ≡ Some c.at
+  pub before : (start : List ℤ) (s : Step) (earlier : List Step) (c : Config) → IsRun p start (s ∷ earlier) c
+      → comes_before p (last_rule earlier) s.rule ≡ true
+  pub listed : (start : List ℤ) (s : Step) (earlier : List Step) (c : Config) → IsRun p start (s ∷ earlier) c
+      → Contains (pre p s.rule) (last_rule earlier)
+  pub reached : (is_allowed : ℕ → Bool) (start : List ℤ) (steps : List Step) (c : Config) → IsRun p start steps c
+      → All (λ s. is_allowed s.rule ≡ true) steps → IsReached p is_allowed c.at
+  pub values : AritiesAgree p → (start : List ℤ) (steps : List Step) (c : Config) → IsRun p start steps c
+      → length c.values ≡ arity_of p c.at
 
 -- the laws of all programs
 abbrev pub AllRunsGoStepByStep : Type 0

@@ -5,6 +5,7 @@
 // is the error that all these crates share.
 #![tactic(auto)]
 
+mod limits;
 mod runs;
 
 ghost use Rattle.model.specs.Laws.{RunsAreDetermined, EntryOccursOnce};
@@ -13,7 +14,11 @@ ghost use Rattle.model.specs.Worked.{RelationsHold, StepsLead, PlacesAndRulesCou
 ghost use Rattle.model.specs.WorkedRuns.{RelationsHoldBelowZero, StepsAreSteps, RunsAreRuns};
 ghost use Rattle.model.specs.WorkedFacts.{StepsAndPlacesAreCounted, TimesHold, TotalsHold, SizesHold};
 
-pub use runs::runs_go_step_by_step;
+pub use limits::{
+    ATOM_LIMIT, COEFFICIENT_LIMIT, DEGREE_LIMIT, MONOMIAL_LIMIT, NAME_LIMIT, PLACE_LIMIT,
+    RULE_LIMIT, TOKEN_LIMIT, VARIABLE_LIMIT, limits_are_as_defined,
+};
+pub use runs::{paths_are_as_worked_out, runs_go_step_by_step};
 
 /// Want of memory, as an error type of its own.
 pub type Memory = std::alloc::AllocError;

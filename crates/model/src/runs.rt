@@ -1,10 +1,16 @@
-// What holds of every run, step by step.
+// What holds of every run, step by step, and worked values of paths.
 
 ghost use Rattle.model.specs.RunLaws.{AllRunsGoStepByStep};
+ghost use Rattle.model.specs.PathValues.{PathsAreTold};
 
-/// A beginning of a run is a run. A run stands where its last rule leads to, and the rule before can come just before each
-/// of its steps. Allowed rules lead a run to symbols alone that they reach. Where arities agree, a run has one value for
-/// each place of the symbol at which it stands.
+/// A beginning of a run is a run. A run stands where its last rule leads to, and the rule before can come just before
+/// each of its steps. Allowed rules lead a run to symbols alone that they reach. Where arities agree, a run has one
+/// value for each place of the symbol at which it stands.
 pub fn runs_go_step_by_step()
     ensures { AllRunsGoStepByStep }
+{}
+
+/// Paths, what can come just before a rule, sets of untimed rules and entries are what was worked out by hand.
+pub fn paths_are_as_worked_out()
+    ensures { PathsAreTold }
 {}

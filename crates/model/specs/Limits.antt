@@ -1,0 +1,38 @@
+-- the limits of programs; a text whose program passes one of them is refused
+use Rattle.std.specs.Prelude.{ℕ, ◌-◌, ◌^◌}
+
+-- the most rules of a program
+abbrev pub rule_limit : ℕ
+rule_limit = 1000
+
+-- the most places of a symbol, and so the most arguments of a term
+abbrev pub place_limit : ℕ
+place_limit = 32
+
+-- the most variables of a rule, the free ones included
+abbrev pub variable_limit : ℕ
+variable_limit = 64
+
+-- the most atoms of a guard
+abbrev pub atom_limit : ℕ
+atom_limit = 64
+
+-- the most bytes of a name
+abbrev pub name_limit : ℕ
+name_limit = 256
+
+-- the most tokens of an argument, or of a side of an atom
+abbrev pub token_limit : ℕ
+token_limit = 1024
+
+-- the most monomials of an expanded expression
+abbrev pub monomial_limit : ℕ
+monomial_limit = 64
+
+-- the greatest degree of an expanded expression
+abbrev pub degree_limit : ℕ
+degree_limit = 8
+
+-- the greatest absolute value of a literal, and of a coefficient of an expanded expression
+abbrev pub coefficient_limit : ℕ
+coefficient_limit = 2 ^ 63 - 1

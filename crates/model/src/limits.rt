@@ -1,0 +1,45 @@
+// The limits of programs; a text whose program passes one of them is refused.
+
+ghost use Rattle.std.specs.Prelude.{◌≡◌};
+ghost use Rattle.model.specs.Limits.{rule_limit, place_limit, variable_limit, atom_limit, name_limit};
+ghost use Rattle.model.specs.Limits.{token_limit, monomial_limit, degree_limit, coefficient_limit};
+
+/// The most rules of a program.
+pub const RULE_LIMIT: usize = 1000;
+
+/// The most places of a symbol, and so the most arguments of a term.
+pub const PLACE_LIMIT: usize = 32;
+
+/// The most variables of a rule, the free ones included.
+pub const VARIABLE_LIMIT: usize = 64;
+
+/// The most atoms of a guard.
+pub const ATOM_LIMIT: usize = 64;
+
+/// The most bytes of a name.
+pub const NAME_LIMIT: usize = 256;
+
+/// The most tokens of an argument, or of a side of an atom.
+pub const TOKEN_LIMIT: usize = 1024;
+
+/// The most monomials of an expanded expression.
+pub const MONOMIAL_LIMIT: usize = 64;
+
+/// The greatest degree of an expanded expression.
+pub const DEGREE_LIMIT: u32 = 8;
+
+/// The greatest absolute value of a literal, and of a coefficient of an expanded expression.
+pub const COEFFICIENT_LIMIT: u64 = 0x7fff_ffff_ffff_ffff;
+
+/// The law that the constants of the code are the limits of the definitions. It does nothing.
+pub fn limits_are_as_defined()
+    ensures rules { RULE_LIMIT ≡ rule_limit }
+    ensures places { PLACE_LIMIT ≡ place_limit }
+    ensures variables { VARIABLE_LIMIT ≡ variable_limit }
+    ensures atoms { ATOM_LIMIT ≡ atom_limit }
+    ensures names { NAME_LIMIT ≡ name_limit }
+    ensures tokens { TOKEN_LIMIT ≡ token_limit }
+    ensures monomials { MONOMIAL_LIMIT ≡ monomial_limit }
+    ensures degrees { DEGREE_LIMIT ≡ degree_limit }
+    ensures coefficients { COEFFICIENT_LIMIT ≡ coefficient_limit }
+{}
