@@ -140,7 +140,7 @@ form_value-goal g v e z d =
     regroup s a b v w e d f = omega (arith, ints)
 
 -- a sum has no coefficient past those of its parts
-length-sum : (xs ys : List ℤ) (n : ℕ) → length xs ≤ n → length ys ≤ n → length (coefs_sum xs ys) ≤ n
+pub length-sum : (xs ys : List ℤ) (n : ℕ) → length xs ≤ n → length ys ≤ n → length (coefs_sum xs ys) ≤ n
 length-sum [] ys n l m = m
 length-sum (a ∷ xs) [] n l m = l
 length-sum (a ∷ xs) (b ∷ ys) zero l m = absurd (omega arith)

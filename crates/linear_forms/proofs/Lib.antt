@@ -7,6 +7,7 @@ pub mod ElementLaws
 pub mod RefutationLaws
 pub mod WeightLaws
 pub mod WorkedQuestions
+pub mod RuleShapes
 pub mod ProgramLaws
 pub mod FormLaws
 pub mod CertificateLaws

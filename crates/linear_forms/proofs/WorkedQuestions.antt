@@ -4,7 +4,7 @@ use Rattle.std.specs.Prelude.{ℤ, pos, ◌≤ℤ◌}
 use Rattle.std.proofs.lemmas.Int.{ints}
 use Rattle.linear_forms.specs.Forms.{at}
 use Rattle.linear_forms.specs.Questions.{program_of_question}
-use Rattle.linear_forms.specs.QuestionValues.{empty_question, full_question, local_question, rank_question, EmptyValues, FullValues, LocalValues, RankValues, QuestionValues}
+use Rattle.linear_forms.specs.QuestionValues.{entering_rule, free_rule, falling_rule, impossible_rule, sliding_rule, falling_set, shut_set, sliding_set, ImpossibleIsEmpty, SlidingHasPoint, FallingIsRanked, ShutIsNotRanked, SlidingIsNotRanked, FallingStaysBelow, FallingStaysAbove, SlidingIsAffine, FreeIsLoose, QuestionValues}
 
 -- what holds at 0 and at the numbers after it
 below-suc : (P : ℕ → Type 0) (n : ℕ) → P 0 → ((i : ℕ) → i < n → P (suc i)) → (i : ℕ) → i < suc n → P i
@@ -26,36 +26,101 @@ at-natural [] j = omega (arith, ints)
 at-natural (x ∷ xs) zero = omega (arith, ints)
 at-natural (x ∷ xs) (suc j) = at-natural xs j
 
--- the empty rows
-empty-values : EmptyValues
-unfolding program_of_question empty_question
-empty-values = record {
+-- the impossible rule has no point
+impossible : ImpossibleIsEmpty
+unfolding program_of_question impossible_rule
+impossible = record {
   columns = refl;
-  rows = refl;
   equations_are = refl;
   solved = record {
     denominator = omega (arith, ints);
     equations = below-suc _ _ refl (below-suc _ _ refl (below-zero _));
     nonnegative = λ j _. at-natural (1 ∷ 1 ∷ 0 ∷ []) j;
   };
+  unsolved = λ s. let e = s.equations 0 (omega arith) in omega (arith, ints, e);
 }
 
--- the rows with a point
-full-values : FullValues
-unfolding program_of_question full_question
-full-values = record {
+-- the sliding rule has one
+has_point : SlidingHasPoint
+unfolding program_of_question sliding_rule
+has_point = record {
   columns = refl;
   equations_are = refl;
   refuted = record {
     columns = below-suc _ _ (omega (arith, ints)) (below-suc _ _ (omega (arith, ints)) (below-zero _));
     right = omega (arith, ints);
   };
+  not_refuted = λ d. let e = d.columns 0 (omega arith) in omega (arith, ints, e);
 }
 
--- the local question
-local-values : LocalValues
-unfolding program_of_question local_question
-local-values = record {
+-- the falling set is ranked
+ranked : FallingIsRanked
+unfolding program_of_question entering_rule falling_rule falling_set
+ranked = record {
+  columns = refl;
+  entering_lines = refl;
+  first = λ j. refl;
+  second = λ j. refl;
+  solved = record {
+    denominator = omega (arith, ints);
+    equations = below-suc _ _ refl (below-suc _ _ refl (below-suc _ _ refl (below-suc _ _ refl (below-suc _ _ refl (below-suc _ _ refl (below-zero _))))));
+    nonnegative = λ j _. at-natural (1 ∷ 0 ∷ 0 ∷ 0 ∷ 1 ∷ 0 ∷ 0 ∷ 0 ∷ 0 ∷ 0 ∷ 0 ∷ 1 ∷ 0 ∷ []) j;
+  };
+  unsolved = λ s. let e = s.equations 4 (omega arith) in omega (arith, ints, e);
+}
+
+-- with its place shut the falling rule isn't
+shut : ShutIsNotRanked
+unfolding program_of_question falling_rule shut_set
+shut = record {
+  columns = refl;
+  equations_are = refl;
+  refuted = record {
+    columns = below-suc _ _ (omega (arith, ints)) (below-suc _ _ (omega (arith, ints)) (below-suc _ _ (omega (arith, ints)) (below-suc _ _ (omega (arith, ints)) (
+        below-suc _ _ (omega (arith, ints)) (below-suc _ _ (omega (arith, ints)) (below-zero _))))));
+    right = omega (arith, ints);
+  };
+  not_refuted = λ d. let e = d.columns 0 (omega arith) in omega (arith, ints, e);
+}
+
+-- the sliding rule isn't
+not_ranked : SlidingIsNotRanked
+unfolding program_of_question sliding_rule sliding_set
+not_ranked = record {
+  columns = refl;
+  equations_are = refl;
+  first = λ j. refl;
+  second = λ j. refl;
+  refuted = record {
+    columns = below-suc _ _ (omega (arith, ints)) (below-suc _ _ (omega (arith, ints)) (below-suc _ _ (omega (arith, ints)) (below-suc _ _ (omega (arith, ints)) (
+        below-suc _ _ (omega (arith, ints)) (below-suc _ _ (omega (arith, ints)) (below-suc _ _ (omega (arith, ints)) (below-suc _ _ (omega (arith, ints)) (
+        below-suc _ _ (omega (arith, ints)) (below-suc _ _ (omega (arith, ints)) (below-zero _))))))))));
+    right = omega (arith, ints);
+  };
+  not_refuted = λ d. let e = d.columns 1 (omega arith) in omega (arith, ints, e);
+}
+
+-- the falling rule's new value on both sides
+below : FallingStaysBelow
+unfolding program_of_question falling_rule
+below = record {
+  equations_are = refl;
+  solved = record {
+    denominator = omega (arith, ints);
+    equations = below-suc _ _ refl (below-suc _ _ refl (below-zero _));
+    nonnegative = λ j _. at-natural (0 ∷ 1 ∷ []) j;
+  };
+  unsolved = λ s. let e = s.equations 1 (omega arith) in omega (arith, ints, e);
+  opposite_equations_are = refl;
+  refuted = record {
+    columns = below-suc _ _ (omega (arith, ints)) (below-suc _ _ (omega (arith, ints)) (below-zero _));
+    right = omega (arith, ints);
+  };
+}
+
+above : FallingStaysAbove
+unfolding program_of_question falling_rule
+above = record {
   columns = refl;
   equations_are = refl;
   first = λ j. refl;
@@ -63,23 +128,48 @@ local-values = record {
   solved = record {
     denominator = omega (arith, ints);
     equations = below-suc _ _ refl (below-suc _ _ refl (below-zero _));
-    nonnegative = λ j _. at-natural (2 ∷ 0 ∷ 3 ∷ 0 ∷ 0 ∷ 0 ∷ []) j;
+    nonnegative = λ j _. at-natural (0 ∷ 0 ∷ 1 ∷ 0 ∷ []) j;
   };
 }
 
--- the rank question
-rank-values : RankValues
-unfolding program_of_question rank_question
-rank-values = record {
+-- the sliding rule's new value has a bound
+affine : SlidingIsAffine
+unfolding program_of_question sliding_rule
+affine = record {
   columns = refl;
   equations_are = refl;
+  first = λ j. refl;
+  second = λ j. refl;
   solved = record {
     denominator = omega (arith, ints);
-    equations = below-suc _ _ refl (below-suc _ _ refl (below-suc _ _ refl (below-suc _ _ refl (below-zero _))));
-    nonnegative = λ j _. at-natural (1 ∷ 0 ∷ 0 ∷ 0 ∷ 0 ∷ 0 ∷ 1 ∷ 0 ∷ []) j;
+    equations = below-suc _ _ refl (below-suc _ _ refl (below-suc _ _ refl (below-zero _)));
+    nonnegative = λ j _. at-natural (1 ∷ 0 ∷ 1 ∷ 0 ∷ 0 ∷ 0 ∷ 0 ∷ 0 ∷ []) j;
   };
+}
+
+-- the free rule's has none
+loose : FreeIsLoose
+unfolding program_of_question free_rule
+loose = record {
+  equations_are = refl;
+  refuted = record {
+    columns = below-suc _ _ (omega (arith, ints)) (below-suc _ _ (omega (arith, ints)) (below-suc _ _ (omega (arith, ints)) (below-suc _ _ (omega (arith, ints)) (
+        below-suc _ _ (omega (arith, ints)) (below-zero _)))));
+    right = omega (arith, ints);
+  };
+  not_refuted = λ d. let e = d.columns 0 (omega arith) in omega (arith, ints, e);
 }
 
 -- all of them
 pub question-values : QuestionValues
-question-values = record { empty = empty-values; full = full-values; local = local-values; rank = rank-values }
+question-values = record {
+  impossible = impossible;
+  point = has_point;
+  ranked = ranked;
+  shut = shut;
+  not_ranked = not_ranked;
+  below = below;
+  above = above;
+  affine = affine;
+  loose = loose;
+}

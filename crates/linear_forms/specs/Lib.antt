@@ -5,8 +5,11 @@ pub mod Points
 pub mod Certificates
 pub mod LinearProgram
 pub mod Questions
+pub mod RuleQuestions
+pub mod RuleQuestionLaws
 pub mod QuestionLaws
 pub mod QuestionValues
 pub mod ProgramLaws
 pub mod Causes
+pub mod Limits
 pub mod CertificateLaws

@@ -26,10 +26,15 @@ pub record AreSame (n : ℕ) (x : ℕ → ℤ) (d : ℤ) (y : ℕ → ℤ) (e : 
 
 -- a solution, prices, a least point and a dual stay so over any positive scale
 pub record ScalesCarry : Type 0 where
-  pub solutions : (p : LinearProgram) (x : ℕ → ℤ) (d : ℤ) (y : ℕ → ℤ) (e : ℤ) → AreSame p.columns x d y e → IsSolution p x d → IsSolution p y e
-  pub points : (p : LinearProgram) (cost x : ℕ → ℤ) (d : ℤ) (y : ℕ → ℤ) (e q : ℤ) (price : ℕ → ℤ) → AreSame p.columns x d y e
+  pub solutions : (p : LinearProgram) (x : ℕ → ℤ) (d : ℤ) (y : ℕ → ℤ) (e : ℤ) → AreSame p.columns x d y e
+      → IsSolution p x d → IsSolution p y e
+  pub points : (p : LinearProgram) (cost x : ℕ → ℤ) (d : ℤ) (y : ℕ → ℤ) (e q : ℤ) (price : ℕ → ℤ)
+      → AreSame p.columns x d y e
       → ArePrices p cost x d q price → ArePrices p cost y e q price
-  pub prices : (p : LinearProgram) (cost x : ℕ → ℤ) (d q : ℤ) (price : ℕ → ℤ) (s : ℤ) (scaled : ℕ → ℤ) → AreSame p.rows price q scaled s
+  pub prices : (p : LinearProgram) (cost x : ℕ → ℤ) (d q : ℤ) (price : ℕ → ℤ) (s : ℤ) (scaled : ℕ → ℤ)
+      → AreSame p.rows price q scaled s
       → ArePrices p cost x d q price → ArePrices p cost x d s scaled
-  pub least : (p : LinearProgram) (x : ℕ → ℤ) (d : ℤ) (y : ℕ → ℤ) (e : ℤ) → AreSame p.columns x d y e → IsLeast p x d → IsLeast p y e
-  pub duals : (p : LinearProgram) (x : ℕ → ℤ) (d : ℤ) (y : ℕ → ℤ) (e : ℤ) → AreSame p.rows x d y e → IsDual p x → IsDual p y
+  pub least : (p : LinearProgram) (x : ℕ → ℤ) (d : ℤ) (y : ℕ → ℤ) (e : ℤ) → AreSame p.columns x d y e → IsLeast p x d
+      → IsLeast p y e
+  pub duals : (p : LinearProgram) (x : ℕ → ℤ) (d : ℤ) (y : ℕ → ℤ) (e : ℤ) → AreSame p.rows x d y e → IsDual p x
+      → IsDual p y

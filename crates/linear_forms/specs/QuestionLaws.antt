@@ -85,7 +85,8 @@ pub record SolutionsSolve : Type 0 where
 
 -- a dual of the program, cut into elements, refutes the question
 pub record DualsRefute : Type 0 where
-  pub each : (q : Question) (y : ℕ → ℤ) → IsShaped q → IsDual (program_of_question q) y → Refutes q (elements_of y q.groups)
+  pub each : (q : Question) (y : ℕ → ℤ) → IsShaped q → IsDual (program_of_question q) y
+      → Refutes q (elements_of y q.groups)
 
 -- where elements refute a question whose groups have points, no parameters make its goals at least 0 on all points
 pub record RefutedHasNone : Type 0 where
@@ -113,7 +114,8 @@ negative_part (negsuc n) = pos (suc n)
 -- what parameters weigh by costs of their columns: the positive part of each times the cost of its plus column, and the
 -- negative part times that of its minus column, added up
 abbrev pub pair_weight : Question → (ℕ → ℤ) → (ℕ → ℤ) → ℤ
-pair_weight q cost v = sum_to q.parameters (λ p. cost (double p) *ℤ positive_part (v p) +ℤ cost (suc (double p)) *ℤ negative_part (v p))
+pair_weight q cost v =
+    sum_to q.parameters (λ p. cost (double p) *ℤ positive_part (v p) +ℤ cost (suc (double p)) *ℤ negative_part (v p))
 
 -- the columns of multipliers and slacks cost nothing
 pub record IsOnParameters (q : Question) (cost : ℕ → ℤ) : Type 0 where

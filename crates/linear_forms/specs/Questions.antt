@@ -1,15 +1,6 @@
 -- Questions about rows: which parameters make each goal, a form in these parameters, follow from its rows. The linear
 -- program of a question asks for the parameters and for the multipliers of the rows at once.
---
--- * Whether rows have no point: no parameter and one group, which has no goal form and the fixed form -1.
--- * A ranking function of a set of rules: a parameter for each place that isn't shut and for the constant of each symbol
---   of the set, symbol by symbol. There is a group for each rule, over its rows: the goal forms are those of the function
---   at the rule's source less those at its target after the rule, and the fixed form is -1 at the rule that has to
---   decrease, and 0 at the others. One group more is the floor, over the rows of that rule: the goal forms are those of
---   the function at its source, and the fixed form is -1.
--- * A bound on a new value w, or on its negation, in the left places: one group over the rule's rows. The parameters are
---   the coefficients of the bound that are sought, and then its constant; the goal forms are those places and the form 1;
---   the fixed form is the part of the bound that isn't sought, less w.
+-- `RuleQuestions` has the questions that are asked of rules.
 use Rattle.std.specs.Prelude.{◌≡◌, ℕ, zero, suc, ◌+◌, ◌≤◌, nat_lt, if◌then◌else◌, List, [], ◌∷◌, ◌++◌, map, length, replicate, slice_index_or, ℤ, pos, negsuc, neg_ℤ}
 use Rattle.std.specs.List.{All}
 use Rattle.linear_forms.specs.Forms.{Form, at}
@@ -72,8 +63,8 @@ abbrev pub no_equation : Equation
 no_equation = record { numbers = []; right = pos 0 }
 
 -- line u of a group: the goal's number less the multipliers times the rows' numbers, and less the slack on the line of
--- the constant, is 0. The columns are the pairs of the parameters, those of the groups before, one for the multiplier of
--- each row, and the slack
+-- the constant, is 0. The columns are the pairs of the parameters, those of the groups before, one for the multiplier
+-- of each row, and the slack
 abbrev pub line : ℕ → Group → ℕ → Equation
 line before g u = record {
   numbers = signed (map (number g.unknowns u) g.goals)

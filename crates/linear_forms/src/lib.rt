@@ -11,5 +11,5 @@ pub use certificates::{certificates_are_as_worked_out, certificates_hold};
 pub use programs::{agreeing_programs_are_the_same, scales_carry};
 pub use questions::{
     duals_refute, least_weighs_least, prices_bound_weights, questions_have_these_programs,
-    refuted_has_none, solutions_solve,
+    refuted_has_none, rule_questions_are_shaped, solutions_solve,
 };

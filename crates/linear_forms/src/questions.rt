@@ -2,6 +2,7 @@
 
 ghost use Rattle.linear_forms.specs.QuestionLaws.{SolutionsSolve, DualsRefute, RefutedHasNone, PricesBoundWeights, LeastWeighsLeast};
 ghost use Rattle.linear_forms.specs.QuestionValues.{QuestionValues};
+ghost use Rattle.linear_forms.specs.RuleQuestionLaws.{RuleQuestionsAreShaped};
 
 /// A solution of a question's linear program gives parameters, and for each group multipliers by which its goal at these
 /// parameters follows from its rows.
@@ -33,8 +34,14 @@ pub fn least_weighs_least()
     ensures { LeastWeighsLeast }
 {}
 
-/// Worked values of a question's linear program: its columns, equations and costs, with a solution or a dual, for rows
-/// without a point, rows with one, a bound on a new value, and a ranking function of one rule.
+/// Worked values of the questions that are asked of rules and of their linear programs: columns, equations and costs, with a
+/// solution or a dual, and numbers that are none.
 pub fn questions_have_these_programs()
     ensures { QuestionValues }
+{}
+
+/// The questions that are asked of rules have their shape, where the forms of the rules have no coefficient past their
+/// unknowns: so all that is said of questions is said of them.
+pub fn rule_questions_are_shaped()
+    ensures { RuleQuestionsAreShaped }
 {}

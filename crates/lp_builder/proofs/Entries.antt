@@ -1,10 +1,8 @@
--- The entries of lines: each place has the line's number, no place has two, and all lie inside the lines.
-use Rattle.std.proofs.Common.{◌≡◌, ◌≢◌, ℕ, zero, suc, ◌+◌, ◌<◌, ◌≤◌, ap, arith, refl, sym, ◌∙◌, subst, ◌⊎◌, inl, inr, Bool, true, false, List, [], ◌∷◌, ◌++◌, length, map, get_or, replicate, append_assoc, Some}
+-- The entries of lines: each cell has the line's number, no cell has two, and all lie inside the lines.
+use Rattle.std.proofs.Common.{◌≡◌, ◌≢◌, ℕ, zero, suc, ◌+◌, ◌<◌, ◌≤◌, ap, arith, refl, sym, ◌∙◌, subst, ◌⊎◌, inl, inr, Bool, true, false, List, [], ◌∷◌, ◌++◌, length, get_or, replicate, Some}
 use Rattle.std.specs.Prelude.{ℤ, pos, negsuc, if◌then◌else◌, slice_get, nat_eq, ◌&&◌}
 use Rattle.std.specs.List.{All}
-use Rattle.std.proofs.lemmas.Bool.{cases_lt}
 use Rattle.std.proofs.lemmas.Bool.Decides.{eqb_tells}
-use Rattle.std.proofs.lemmas.List.{append-nil}
 use Rattle.std.proofs.lemmas.List.Elements.{All-head, All-tail}
 use Rattle.int_laws.specs.NormalForm.{is_zero}
 use Rattle.linear_forms.specs.Forms.{at}
@@ -55,7 +53,7 @@ pub sparse-zeros : (r c n : ℕ) → sparse r c (replicate n (pos 0)) ≡ []
 sparse-zeros r c zero = refl
 sparse-zeros r c (suc n) = sparse-zeros r (suc c) n
 
--- what an entry is worth at its own place
+-- what an entry is worth in its own cell
 entry-here : (r c : ℕ) (x : ℤ) (es : List Entry) → entry_value (first_of_list r c x es) r c ≡ x
 entry-here r c x es = go (eqb_tells r r) (eqb_tells c c)
   where
@@ -65,7 +63,7 @@ entry-here r c x es = go (eqb_tells r r) (eqb_tells c c)
     go (inl a) (inr b) = absurd (b.1 refl)
     go (inl a) (inl b) = ap (λ (v : Bool). if v && nat_eq c c then x else entry_value es r c) a.0 ∙ ap (λ (v : Bool). if v then x else entry_value es r c) b.0
 
--- and at another place
+-- and in another cell
 entry-other : (r c i j : ℕ) (x : ℤ) (es : List Entry) → (r ≢ i) ⊎ (c ≢ j) → entry_value (first_of_list r c x es) i j ≡ entry_value es i j
 entry-other r c i j x es d = go (eqb_tells r i) (eqb_tells c j) d
   where
@@ -139,7 +137,7 @@ rows-before : (r i j : ℕ) (ls : List (List ℤ)) → i < r → entry_value (en
 rows-before r i j [] l = refl
 rows-before r i j (x ∷ ls) l = row-other r 0 i j x (entries_of (suc r) ls) (λ e. omega arith) ∙ rows-before (suc r) i j ls (omega arith)
 
--- each place has its line's number
+-- each cell has its line's number
 pub lines-value : (r i j : ℕ) (ls : List (List ℤ)) → entry_value (entries_of r ls) (r + i) j ≡ at (get_or ls i []) j
 lines-value r i j [] = refl
 lines-value r zero j (l ∷ ls) =
@@ -208,12 +206,12 @@ lines-inside r w (l ∷ ls) h =
     (λ e i. (let a = i.0 in omega arith, let a = i.1 in omega arith, i.2))
     (lines-inside (suc r) w ls (All-tail (λ (z : List ℤ). length z ≤ w) l ls h)))
 
--- no later entry has an entry's place
+-- no later entry is in an entry's cell
 abbrev pub Distinct : List Entry → Type 0
 Distinct [] = Unit {0}
 Distinct (e ∷ es) = Each (λ f. e.row ≡ f.row → e.col ≢ f.col) es × Distinct es
 
--- two entries of a list without repeated places
+-- two entries of a list without repeated cells
 pub distinct-at : (es : List Entry) (k l : ℕ) (d e : Entry) → Distinct es → k < l → slice_get es k ≡ Some d → slice_get es l ≡ Some e → d.row ≡ e.row → d.col ≢ e.col
 distinct-at [] k l d e h m i j = absurd cc
 distinct-at (f ∷ es) zero zero d e h m i j = absurd (omega arith)
@@ -223,7 +221,7 @@ distinct-at (f ∷ es) zero (suc l) d e h m i j =
 distinct-at (f ∷ es) (suc k) zero d e h m i j = absurd (omega arith)
 distinct-at (f ∷ es) (suc k) (suc l) d e h m i j = distinct-at es k l d e h.1 (omega arith) i j
 
--- the numbers of a row have places of their own, apart from entries behind in later rows
+-- the numbers of a row have cells of their own, apart from entries behind in later rows
 distinct-sparse : (r c : ℕ) (xs : List ℤ) (es : List Entry) → Each (λ e. suc r ≤ e.row) es → Distinct es → Distinct (sparse r c xs ++ es)
 distinct-sparse r c [] es later h = h
 distinct-sparse r c (x ∷ xs) es later h = go (zero_or_not x) (distinct-sparse r (suc c) xs es later h)
@@ -235,7 +233,7 @@ distinct-sparse r c (x ∷ xs) es later h = go (zero_or_not x) (distinct-sparse 
     go (inl e) ih = subst (λ fs. Distinct (fs ++ es)) (sym (sparse-zero r c x xs e.0)) ih
     go (inr e) ih = subst (λ fs. Distinct (fs ++ es)) (sym (sparse-there r c x xs e)) (apart, ih)
 
--- no place of lines has two entries
+-- no cell of lines has two entries
 pub lines-distinct : (r w : ℕ) (ls : List (List ℤ)) → All (λ l. length l ≤ w) ls → Distinct (entries_of r ls)
 lines-distinct r w [] h = tt
 lines-distinct r w (l ∷ ls) h =

@@ -2,3 +2,7 @@
 pub mod Entries
 pub mod Problems
 pub mod SheetLaws
+pub mod Pieces
+pub mod CostLists
+pub mod Groups
+pub mod Built

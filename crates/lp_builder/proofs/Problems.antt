@@ -1,9 +1,8 @@
 -- A problem that holds a question is proper, and its program agrees with the question's.
-use Rattle.std.proofs.Common.{◌≡◌, ◌≢◌, ℕ, zero, suc, ◌+◌, ◌<◌, ◌≤◌, ◌^◌, ap, arith, refl, sym, ◌∙◌, subst, List, [], ◌∷◌, ◌++◌, length, map, get_or, replicate, length-append, Some}
+use Rattle.std.proofs.Common.{◌≡◌, ℕ, zero, suc, ◌+◌, ◌<◌, ◌≤◌, ◌^◌, ap, arith, refl, sym, ◌∙◌, subst, List, [], ◌∷◌, ◌++◌, length, map, replicate, length-append}
 use Rattle.std.specs.Prelude.{ℤ, pos, ◌≤ℤ◌, slice_get}
 use Rattle.std.specs.List.{All}
-use Rattle.std.proofs.lemmas.Int.{ints}
-use Rattle.std.proofs.lemmas.List.{get_or_past, length-replicate}
+use Rattle.std.proofs.lemmas.List.{length-replicate}
 use Rattle.linear_forms.specs.Forms.{at}
 use Rattle.linear_forms.specs.ProgramLaws.{Agree}
 use Rattle.linear_forms.specs.Questions.{Question, IsShaped, Equation, no_equation, equations, group_columns, double, on_both, on_plus, program_of_question}

@@ -1,5 +1,5 @@
 -- What is written on a sheet piece by piece.
-use Rattle.std.proofs.Common.{◌≡◌, ℕ, ◌+◌, ap, arith, sym, ◌∙◌, List, [], ◌∷◌, ◌++◌, length, length-append, append_assoc}
+use Rattle.std.proofs.Common.{◌≡◌, ℕ, ◌+◌, ap, arith, sym, ◌∙◌, List, ◌++◌, length, length-append, append_assoc}
 use Rattle.std.specs.Prelude.{ℤ}
 use Rattle.simplex_core.specs.declared.problem.Entry.{Entry}
 use Rattle.lp_builder.specs.declared.sheet.Sheet.{Sheet}

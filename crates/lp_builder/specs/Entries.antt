@@ -7,7 +7,8 @@ use Rattle.lp_builder.specs.declared.sheet.Sheet.{Sheet}
 -- the entries of numbers that stand in a row from a column on: those that aren't 0, in order
 abbrev pub sparse : ℕ → ℕ → List ℤ → List Entry
 sparse r c [] = []
-sparse r c (x ∷ xs) = if is_zero x then sparse r (suc c) xs else record { row = r; col = c; value = x } ∷ sparse r (suc c) xs
+sparse r c (x ∷ xs) =
+    if is_zero x then sparse r (suc c) xs else record { row = r; col = c; value = x } ∷ sparse r (suc c) xs
 
 -- the entries of lines that stand from a row on
 abbrev pub entries_of : ℕ → List (List ℤ) → List Entry

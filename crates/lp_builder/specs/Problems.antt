@@ -1,5 +1,5 @@
 -- When a problem holds a question.
-use Rattle.std.specs.Prelude.{◌≡◌, ℕ, ◌^◌, ◌+◌, ◌<◌, List, ◌++◌, length, map, replicate, ℤ, pos}
+use Rattle.std.specs.Prelude.{◌≡◌, ◌^◌, ◌+◌, ◌<◌, ◌++◌, length, map, replicate, pos}
 use Rattle.linear_forms.specs.ProgramLaws.{Agree}
 use Rattle.linear_forms.specs.Questions.{Question, IsShaped, equations, group_columns, double, on_both, on_plus, program_of_question}
 use Rattle.simplex_core.specs.declared.problem.Problem.{Problem}
@@ -18,5 +18,7 @@ pub record HoldsQuestion (q : Question) (p : Problem) : Type 0 where
 -- a problem that holds a question of fewer than 2^31 rows and columns meets the condition of `solve`, and its linear
 -- program agrees with the question's
 pub record HeldQuestionsAreProper : Type 0 where
-  pub proper : (q : Question) (p : Problem) → IsShaped q → HoldsQuestion q p → p.rows < 2 ^ 31 → p.cols < 2 ^ 31 → IsProper p
-  pub agrees : (q : Question) (p : Problem) → IsShaped q → HoldsQuestion q p → Agree (program_of p) (program_of_question q)
+  pub proper : (q : Question) (p : Problem) → IsShaped q → HoldsQuestion q p → p.rows < 2 ^ 31 → p.cols < 2 ^ 31
+      → IsProper p
+  pub agrees : (q : Question) (p : Problem) → IsShaped q → HoldsQuestion q p
+      → Agree (program_of p) (program_of_question q)

@@ -6,7 +6,7 @@ ghost use Rattle.lp_builder.specs.Entries.{Writes, GoesOn};
 use simplex_core::Entry;
 use std::alloc::{AllocError, Global};
 
-/// The entries that are written so far, and the place of the next number.
+/// The entries that are written so far, and the position of the next number.
 #[derive(Debug, Drop)]
 pub struct Sheet {
     /// The row of the next number.
@@ -20,7 +20,7 @@ pub struct Sheet {
 impl Sheet {
     /// A sheet with nothing written.
     pub fn new(alloc: Global) -> Sheet
-        ensures place { (result.row ≡ 0) × (result.col ≡ 0) }
+        ensures position { (result.row ≡ 0) × (result.col ≡ 0) }
         ensures entries { result.entries.items ≡ [] }
     {
         Sheet {

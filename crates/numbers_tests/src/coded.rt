@@ -4,9 +4,9 @@ use simplex_core::{Entry, Problem};
 use std::alloc::Global;
 
 // A digit of a number in base 4.
-fn digit(number: u32, place: u32) -> i128 {
+fn digit(number: u32, position: u32) -> i128 {
     let mut rest = number;
-    for _ in 0..place {
+    for _ in 0..position {
         rest /= 4;
     }
     i128::from(rest % 4)
@@ -15,8 +15,8 @@ fn digit(number: u32, place: u32) -> i128 {
 // Digits of a number in base 4, with something taken off.
 fn digits(alloc: Global, number: u32, count: u32, less: bool) -> Option<Vec<i128>> {
     let mut digits = Vec::new(alloc);
-    for place in 0..count {
-        let digit = digit(number, place);
+    for position in 0..count {
+        let digit = digit(number, position);
         digits
             .push(if less { digit.checked_sub(1)? } else { digit })
             .ok()?;
@@ -30,8 +30,8 @@ pub(super) fn coded(alloc: Global, code: u32, cols: u32) -> Option<Problem> {
     let mut entries = Vec::new(alloc);
     for row in 0..2u32 {
         for col in 0..cols {
-            let place = row.checked_mul(cols)?.checked_add(col)?;
-            let value = digit(code, place).checked_sub(1)?;
+            let position = row.checked_mul(cols)?.checked_add(col)?;
+            let value = digit(code, position).checked_sub(1)?;
             entries.push(Entry { row, col, value }).ok()?;
         }
     }

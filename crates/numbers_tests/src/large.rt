@@ -91,9 +91,9 @@ fn flows(alloc: Global) -> Option<Problem> {
 // The cost of a solution.
 fn total(costs: &[i128], at: &[Frac]) -> Option<Frac> {
     let mut sum = Frac::new(0, 1).ok()?;
-    for place in 0..at.len() {
-        let cost = Frac::new(*costs.get(place)?, 1).ok()?;
-        sum = sum.add(cost.mul(at[place]).ok()?).ok()?;
+    for position in 0..at.len() {
+        let cost = Frac::new(*costs.get(position)?, 1).ok()?;
+        sum = sum.add(cost.mul(at[position]).ok()?).ok()?;
     }
     Some(sum)
 }

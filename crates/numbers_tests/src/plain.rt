@@ -69,10 +69,10 @@ fn artificial_cost(problem: &Problem, column: usize) -> Option<Frac> {
 }
 
 // A cost row of the first tableau.
-fn cost_row(alloc: Global, problem: &Problem, place: usize) -> Option<Vec<Frac>> {
+fn cost_row(alloc: Global, problem: &Problem, position: usize) -> Option<Vec<Frac>> {
     let mut numbers = Vec::new(alloc);
     for column in 0..problem.cols as usize {
-        let cost = match place {
+        let cost = match position {
             0 => artificial_cost(problem, column)?,
             1 => whole(*problem.first.get(column)?)?,
             _ => whole(*problem.second.get(column)?)?,
@@ -96,8 +96,8 @@ fn first_tableau(alloc: Global, problem: &Problem) -> Option<Tableau> {
         rows.push(equation(alloc, problem, row)?).ok()?;
         basis.push(unknowns.checked_add(row)?).ok()?;
     }
-    for place in 0..3usize {
-        rows.push(cost_row(alloc, problem, place)?).ok()?;
+    for position in 0..3usize {
+        rows.push(cost_row(alloc, problem, position)?).ok()?;
     }
     Some(Tableau {
         equations,
@@ -114,8 +114,8 @@ impl Tableau {
     }
 
     // The number of a cost row at a column.
-    fn cost(&self, place: usize, column: usize) -> Option<Frac> {
-        self.at(self.equations.checked_add(place)?, column)
+    fn cost(&self, position: usize, column: usize) -> Option<Frac> {
+        self.at(self.equations.checked_add(position)?, column)
     }
 
     // The column of an equation's artificial unknown; behind the last, that of the right sides.
@@ -147,8 +147,8 @@ impl Tableau {
                 return Some(true);
             }
         }
-        for place in 0..3usize {
-            if self.is_row_out(self.equations.checked_add(place)?, columns)? {
+        for position in 0..3usize {
+            if self.is_row_out(self.equations.checked_add(position)?, columns)? {
                 return Some(true);
             }
         }
@@ -156,20 +156,20 @@ impl Tableau {
     }
 
     // Whether a column may enter by a cost row.
-    fn may_enter(&self, place: usize, column: usize) -> Option<bool> {
-        for before in 0..place {
+    fn may_enter(&self, position: usize, column: usize) -> Option<bool> {
+        for before in 0..position {
             if self.cost(before, column)?.num != 0 {
                 return Some(false);
             }
         }
-        Some(self.cost(place, column)?.num < 0)
+        Some(self.cost(position, column)?.num < 0)
     }
 
     // The column that enters, if one does.
     fn entering(&self) -> Option<Option<usize>> {
-        for place in 0..3usize {
+        for position in 0..3usize {
             for column in 0..self.unknowns {
-                if self.may_enter(place, column)? {
+                if self.may_enter(position, column)? {
                     return Some(Some(column));
                 }
             }
@@ -246,7 +246,7 @@ impl Tableau {
     fn pivoted_row(
         &self,
         alloc: Global,
-        place: usize,
+        position: usize,
         row: usize,
         column: usize,
     ) -> Option<Vec<Frac>> {
@@ -254,14 +254,14 @@ impl Tableau {
         if pivot.num == 0 {
             return None;
         }
-        let factor = self.at(place, column)?;
+        let factor = self.at(position, column)?;
         let mut numbers = Vec::new(alloc);
         for other in 0..self.rows.get(row)?.len() {
             let unit = self.at(row, other)?.div(pivot).ok()?;
-            let number = if place == row {
+            let number = if position == row {
                 unit
             } else {
-                self.at(place, other)?.sub(factor.mul(unit).ok()?).ok()?
+                self.at(position, other)?.sub(factor.mul(unit).ok()?).ok()?
             };
             numbers.push(number).ok()?;
         }
@@ -271,16 +271,16 @@ impl Tableau {
     // The tableau after the pivot at a row and a column.
     fn pivoted(&self, alloc: Global, row: usize, column: usize) -> Option<Tableau> {
         let mut rows = Vec::new(alloc);
-        for place in 0..self.rows.len() {
-            rows.push(self.pivoted_row(alloc, place, row, column)?)
+        for position in 0..self.rows.len() {
+            rows.push(self.pivoted_row(alloc, position, row, column)?)
                 .ok()?;
         }
         let mut basis = Vec::new(alloc);
-        for place in 0..self.equations {
-            let basic = if place == row {
+        for position in 0..self.equations {
+            let basic = if position == row {
                 column
             } else {
-                *self.basis.get(place)?
+                *self.basis.get(position)?
             };
             basis.push(basic).ok()?;
         }

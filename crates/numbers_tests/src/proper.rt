@@ -10,33 +10,33 @@ use simplex_core::{Entry, Problem};
 fn are_inside(entries: &[Entry], rows: u32, cols: u32) -> bool
     ensures { IsTrue result → (k : ℕ) (e : Entry) → slice_get entries.now k ≡ Some e → (e.row < rows) × (e.col < cols) }
 {
-    for place in 0..entries.len() {
-        if entries[place].row >= rows || entries[place].col >= cols {
+    for position in 0..entries.len() {
+        if entries[position].row >= rows || entries[position].col >= cols {
             return false;
         }
     }
     true
 }
 
-// Whether none of the first numbers stands at the place of this one.
+// Whether none of the first numbers stands in the cell of this one.
 fn is_new(entries: &[Entry], before: usize, entry: Entry) -> bool
     requires { before < length entries.now }
     ensures { IsTrue result → (k : ℕ) (d : Entry) → k < before → slice_get entries.now k ≡ Some d → d.row ≡ entry.row → d.col ≢ entry.col }
 {
-    for place in 0..before {
-        if entries[place].row == entry.row && entries[place].col == entry.col {
+    for position in 0..before {
+        if entries[position].row == entry.row && entries[position].col == entry.col {
             return false;
         }
     }
     true
 }
 
-// Whether no place has two numbers.
+// Whether no cell has two numbers.
 fn are_apart(entries: &[Entry]) -> bool
     ensures { IsTrue result → (k l : ℕ) (d e : Entry) → k < l → slice_get entries.now k ≡ Some d → slice_get entries.now l ≡ Some e → d.row ≡ e.row → d.col ≢ e.col }
 {
-    for place in 0..entries.len() {
-        if !is_new(entries, place, entries[place]) {
+    for position in 0..entries.len() {
+        if !is_new(entries, position, entries[position]) {
             return false;
         }
     }
@@ -47,8 +47,8 @@ fn are_apart(entries: &[Entry]) -> bool
 fn are_nonnegative(numbers: &[i128]) -> bool
     ensures { IsTrue result → (k : ℕ) → k < length numbers.now → pos 0 ≤ℤ slice_index_or numbers.now k (pos 0) }
 {
-    for place in 0..numbers.len() {
-        if numbers[place] < 0 {
+    for position in 0..numbers.len() {
+        if numbers[position] < 0 {
             return false;
         }
     }

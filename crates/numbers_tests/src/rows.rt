@@ -9,9 +9,9 @@ use std::alloc::{AllocError, Global};
 use std::process::Abort;
 use std::test::Fail;
 
-// A place as a number of 32 bits; no table here is that large.
-fn number_of(place: usize) -> u32 {
-    u32::try_from(place).unwrap_or(u32::MAX)
+// A position as a number of 32 bits; no table here is that large.
+fn number_of(position: usize) -> u32 {
+    u32::try_from(position).unwrap_or(u32::MAX)
 }
 
 // Adds the numbers of an equation that aren't 0.
@@ -87,18 +87,18 @@ pub(super) fn solved(
 }
 
 // Solves the program of a row, and compares the answer.
-fn compare(rt: &impl Abort, alloc: Global, row: &Row, place: usize) -> Result<(), Fail> {
+fn compare(rt: &impl Abort, alloc: Global, row: &Row, position: usize) -> Result<(), Fail> {
     let problem = problem_of(alloc, row)?;
     let got = solved(rt, alloc, &problem, row.pivots);
     let want = answer_of(alloc, row.answer)?;
-    assert_eq!(rt; got, want, "row {place}");
+    assert_eq!(rt; got, want, "row {position}");
     Ok(())
 }
 
 // Compares each row of a table.
 fn compare_all(rt: &impl Abort, alloc: Global, rows: &[Row]) -> Result<(), Fail> {
-    for place in 0..rows.len() {
-        compare(rt, alloc, &rows[place], place)?;
+    for position in 0..rows.len() {
+        compare(rt, alloc, &rows[position], position)?;
     }
     Ok(())
 }

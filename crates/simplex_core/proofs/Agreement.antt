@@ -1,5 +1,5 @@
 -- Programs that agree have the same tableaux, and so the same answers.
-use Rattle.std.proofs.Common.{◌≡◌, ℕ, zero, suc, ◌+◌, ◌-◌, ◌<◌, ◌≤◌, ap, arith, refl, sym, ◌∙◌, subst, ◌⊎◌, inl, inr, Bool, true, false, Option, Some}
+use Rattle.std.proofs.Common.{◌≡◌, ℕ, zero, suc, ◌+◌, ◌-◌, ◌<◌, ◌≤◌, ap, arith, refl, sym, ◌∙◌, subst, ◌⊎◌, inl, inr, Bool, true, false, List, Option, Some}
 use Rattle.std.specs.Prelude.{ℤ, pos, ◌-ℤ◌, ◌*ℤ◌, if◌then◌else◌, nat_lt, nat_eq, Ok, Err, Result}
 use Rattle.std.proofs.lemmas.Bool.{cases_lt, lt-ltb, le-ltb}
 use Rattle.std.proofs.lemmas.Option.{slice_get_within}
@@ -9,13 +9,19 @@ use Rattle.simplex_core.specs.declared.problem.Solved.{Solved}
 use Rattle.simplex_core.specs.declared.problem.Solved.TheVariants.{Optimal, Infeasible}
 use Rattle.simplex_core.specs.declared.problem.SolveError.{SolveError}
 use Rattle.simplex_core.specs.declared.problem.SolveError.TheVariants.{Range, Budget, Wide, Memory}
+use Rattle.simplex_core.specs.declared.answers.Answer.{Answer}
+use Rattle.simplex_core.specs.declared.answers.Answer.TheVariants.{Solution, Dual, Tripped}
+use Rattle.frac128.specs.declared.frac.Frac.{Frac}
 use Rattle.frac128.specs.Fraction.{IsFraction}
+use Rattle.linear_forms.specs.Forms.{at}
+use Rattle.linear_forms.specs.Causes.{Cause, range, budget, wide, scale}
 use Rattle.linear_forms.specs.LinearProgram.{LinearProgram}
 use Rattle.linear_forms.specs.ProgramLaws.{Agree}
 use Rattle.linear_forms.proofs.ProgramLaws.{agree-solutions, agree-least, agree-duals}
 use Rattle.simplex_core.specs.Tableau.{Tableau, cost_row, artificial, sign_of, equation, cost, first_reduced_cost, first_tableau}
 use Rattle.simplex_core.specs.Bland.{next_of, tableau_at}
-use Rattle.simplex_core.specs.Outcome.{IsReached, IsAnswer}
+use Rattle.simplex_core.specs.Outcome.{IsReached, IsAnswer, EndsOptimally, EndsInfeasibly, TripsRange, TripsBudget}
+use Rattle.simplex_core.specs.Trips.{Trips, TripsSolution, TripsDual, IsWholeAnswer, cause_of}
 
 -- functions with the same values are the same
 fun_ext : {A B : Type 0} (f g : A → B) → ((x : A) → f x ≡ g x) → f ≡ g
@@ -103,61 +109,123 @@ module _ (p : LinearProgram) (e : ℕ → ℕ → ℤ) (r f s : ℕ → ℤ) (a 
     before = λ i u l is. record { each = (h.before i u l (tableaux-same i ∙ is)).each };
   }
 
+  -- the sequence ends as optimal
+  optimal-same : (allowed k : ℕ) (point : List Frac) (basis : List ℕ) → EndsOptimally p allowed point basis k → EndsOptimally other allowed point basis k
+  optimal-same allowed k point basis h = record {
+    within = h.within;
+    last = h.last;
+    reached = reached-same k h.last h.reached;
+    in_range = record { each = h.in_range.each };
+    feasible = h.feasible;
+    done = h.done;
+    rows = h.rows;
+    basis_is = h.basis_is;
+    x = h.x;
+    d = h.d;
+    holds = h.holds;
+    solution = agree-solutions p other h.x h.d a h.solution;
+    least = agree-least p other h.x h.d a h.least;
+    basic = h.basic;
+  }
+
+  -- the sequence ends as infeasible
+  infeasible-same : (allowed k : ℕ) (dual : List Frac) → EndsInfeasibly p allowed dual k → EndsInfeasibly other allowed dual k
+  infeasible-same allowed k dual h = record {
+    within = h.within;
+    last = h.last;
+    reached = reached-same k h.last h.reached;
+    in_range = record { each = h.in_range.each };
+    infeasible = h.infeasible;
+    read = record {
+      length_is = h.read.length_is;
+      each = λ j g i. subst (λ (z : ℤ). IsFraction g (sign_of z *ℤ (h.last.scale (cost_row p 0) -ℤ h.last.entry (cost_row p 0) (artificial p j))) (h.last.scale (cost_row p 0)))
+          (a.right j (let l = slice_get_within dual j g i in let m = h.read.length_is in omega arith)) (h.read.each j g i);
+    };
+    y = h.y;
+    d = h.d;
+    positive = h.positive;
+    holds = h.holds;
+    certified = agree-duals p other h.y a h.certified;
+  }
+
+  -- a number is out of range
+  range-same : (allowed k : ℕ) → TripsRange p allowed k → TripsRange other allowed k
+  range-same allowed k h = record { within = h.within; last = h.last; reached = reached-same k h.last h.reached; out = λ i. h.out (record { each = i.each }) }
+
+  -- the allowed pivots don't suffice
+  budget-same : (allowed : ℕ) → TripsBudget p allowed → TripsBudget other allowed
+  budget-same allowed h = record {
+    last = h.last;
+    reached = reached-same allowed h.last h.reached;
+    in_range = record { each = h.in_range.each };
+    following = h.following;
+    goes_on = h.goes_on;
+  }
+
   -- the answer is the same
   answer-same : (allowed : ℕ) (x : Result Solved SolveError) → IsAnswer p allowed x → IsAnswer other allowed x
-  answer-same allowed (Ok (Optimal at basis k)) (w, h) = (
-    w,
-    record {
-      within = h.within;
-      last = h.last;
-      reached = reached-same k h.last h.reached;
-      in_range = record { each = h.in_range.each };
-      feasible = h.feasible;
-      done = h.done;
-      rows = h.rows;
-      basis_is = h.basis_is;
-      x = h.x;
-      d = h.d;
-      holds = h.holds;
-      solution = agree-solutions p other h.x h.d a h.solution;
-      least = agree-least p other h.x h.d a h.least;
-      basic = h.basic;
-    },
-  )
-  answer-same allowed (Ok (Infeasible dual k)) (w, h) = (
-    w,
-    record {
-      within = h.within;
-      last = h.last;
-      reached = reached-same k h.last h.reached;
-      in_range = record { each = h.in_range.each };
-      infeasible = h.infeasible;
-      read = record {
-        length_is = h.read.length_is;
-        each = λ j g i. subst (λ (z : ℤ). IsFraction g (sign_of z *ℤ (h.last.scale (cost_row p 0) -ℤ h.last.entry (cost_row p 0) (artificial p j))) (h.last.scale (cost_row p 0)))
-            (a.right j (let l = slice_get_within dual.items j g i in let m = h.read.length_is in omega arith)) (h.read.each j g i);
-      };
-      y = h.y;
-      d = h.d;
-      positive = h.positive;
-      holds = h.holds;
-      certified = agree-duals p other h.y a h.certified;
-    },
-  )
-  answer-same allowed (Err (Range k)) (w, h) = (w, record { within = h.within; last = h.last; reached = reached-same k h.last h.reached; out = λ i. h.out (record { each = i.each }) })
-  answer-same allowed (Err (Budget k)) (w, (b, h)) = (
-    w,
-    (b, record { last = h.last; reached = reached-same allowed h.last h.reached; in_range = record { each = h.in_range.each }; following = h.following; goes_on = h.goes_on }),
-  )
+  answer-same allowed (Ok (Optimal point basis k)) (w, h) = (w, optimal-same allowed k point.items basis.items h)
+  answer-same allowed (Ok (Infeasible dual k)) (w, h) = (w, infeasible-same allowed k dual.items h)
+  answer-same allowed (Err (Range k)) (w, h) = (w, range-same allowed k h)
+  answer-same allowed (Err (Budget k)) (w, (b, h)) = (w, (b, budget-same allowed h))
   answer-same allowed (Err (Wide n)) h = h
   answer-same allowed (Err Memory) h = tt
 
--- programs that agree have the same answers
-pub answers-agree : (p q : LinearProgram) (allowed : ℕ) (x : Result Solved SolveError) → Agree p q → IsAnswer p allowed x → IsAnswer q allowed x
-answers-agree p q allowed x a h =
-    subst (λ (n : ℕ). IsAnswer (record { rows = n; columns = q.columns; entry = q.entry; right = q.right; first = q.first; second = q.second }) allowed x) a.rows
-    (subst (λ (n : ℕ). IsAnswer (record { rows = p.rows; columns = n; entry = q.entry; right = q.right; first = q.first; second = q.second }) allowed x) a.columns
-    (answer-same p q.entry q.right q.first q.second inside allowed x h))
+  -- what trips is the same
+  trip-same : (allowed : ℕ) (c : Cause) → Trips p allowed c → Trips other allowed c
+  trip-same allowed (range k) h = (h.0, range-same allowed k h.1)
+  trip-same allowed (budget n) h = (h.0, h.1, budget-same allowed h.2)
+  trip-same allowed (wide n) h = h
+  trip-same allowed scale h = (h.0, go h.1)
+    where
+      go : TripsSolution p allowed ⊎ TripsDual p allowed → TripsSolution other allowed ⊎ TripsDual other allowed
+      go (inl t) = inl (record { at = t.at; basis = t.basis; k = t.k; ends = optimal-same allowed t.k t.at t.basis t.ends; exceeds = t.exceeds })
+      go (inr t) = inr (record { dual = t.dual; k = t.k; ends = infeasible-same allowed t.k t.dual t.ends; exceeds = t.exceeds })
+
+  -- the answer in whole numbers is the same
+  whole-answer-same : (allowed : ℕ) (x : Answer) → IsWholeAnswer p allowed x → IsWholeAnswer other allowed x
+  whole-answer-same allowed (Solution s) h = record {
+    fits = h.fits;
+    point = h.point;
+    basis = h.basis;
+    k = h.k;
+    ends = optimal-same allowed h.k h.point h.basis h.ends;
+    scaled = h.scaled;
+    within = h.within;
+    den_within = h.den_within;
+    columns = h.columns;
+    solution = agree-solutions p other (at s.numbers.items) (pos s.den) a h.solution;
+    least = agree-least p other (at s.numbers.items) (pos s.den) a h.least;
+  }
+  whole-answer-same allowed (Dual s) h = record {
+    fits = h.fits;
+    dual = h.dual;
+    k = h.k;
+    ends = infeasible-same allowed h.k h.dual h.ends;
+    scaled = h.scaled;
+    within = h.within;
+    rows = h.rows;
+    certified = agree-duals p other (at s.numbers.items) a h.certified;
+  }
+  whole-answer-same allowed (Tripped c) h = trip-same allowed (cause_of c) h
+
+-- what holds of a program with the numbers of another that agrees holds of that one
+of-agreeing : (P : LinearProgram → Type 0) (p q : LinearProgram) → Agree p q → (Agree p (with_numbers p q.entry q.right q.first q.second) → P (with_numbers p q.entry q.right q.first q.second)) → P q
+of-agreeing P p q a h =
+    subst (λ (n : ℕ). P (record { rows = n; columns = q.columns; entry = q.entry; right = q.right; first = q.first; second = q.second })) a.rows
+    (subst (λ (n : ℕ). P (record { rows = p.rows; columns = n; entry = q.entry; right = q.right; first = q.first; second = q.second })) a.columns (h inside))
   where
     inside : Agree p (with_numbers p q.entry q.right q.first q.second)
     inside = record { rows = refl; columns = refl; entry = a.entry; right = a.right; first = a.first; second = a.second }
+
+-- programs that agree have the same answers
+pub answers-agree : (p q : LinearProgram) (allowed : ℕ) (x : Result Solved SolveError) → Agree p q → IsAnswer p allowed x → IsAnswer q allowed x
+answers-agree p q allowed x a h = of-agreeing (λ r. IsAnswer r allowed x) p q a (λ b. answer-same p q.entry q.right q.first q.second b allowed x h)
+
+-- they trip by the same cause
+pub trips-agree : (p q : LinearProgram) (allowed : ℕ) (c : Cause) → Agree p q → Trips p allowed c → Trips q allowed c
+trips-agree p q allowed c a h = of-agreeing (λ r. Trips r allowed c) p q a (λ b. trip-same p q.entry q.right q.first q.second b allowed c h)
+
+-- they have the same answers in whole numbers
+pub whole-answers-agree : (p q : LinearProgram) (allowed : ℕ) (x : Answer) → Agree p q → IsWholeAnswer p allowed x → IsWholeAnswer q allowed x
+whole-answers-agree p q allowed x a h = of-agreeing (λ r. IsWholeAnswer r allowed x) p q a (λ b. whole-answer-same p q.entry q.right q.first q.second b allowed x h)

@@ -11,7 +11,7 @@ use Rattle.simplex_core.specs.declared.dense_table.DenseTable.{DenseTable}
 use Rattle.linear_forms.specs.LinearProgram.{LinearProgram}
 use Rattle.simplex_core.specs.Tableau.{Tableau, unknowns, cost_row, sign_of, artificial}
 use Rattle.simplex_core.specs.Bland.{dual_of}
-use Rattle.simplex_core.specs.Places.{InTable}
+use Rattle.simplex_core.specs.Positions.{InTable}
 use Rattle.simplex_core.specs.Cells.{cell, IsBasicNumber, HoldsBasic, HoldsDual, Shows}
 use Rattle.simplex_core.specs.Outcome.{HoldsPoint, IsBasicValue}
 use Rattle.simplex_core.specs.TableClauses.{HoldsBasicSolution, AreSides}
@@ -28,8 +28,8 @@ solution-read p a t at shows holds = record { length_is = holds.length_is ∙ sh
         let columns = shows.columns in
         let l : i < p.rows = omega (arith, found.1) in
         let inside : InTable p.rows p.columns i (unknowns p) = record { row = omega arith; column = omega arith; cost = λ k. absurd (omega arith) } in
-        let place : a.columns + a.rows ≡ unknowns p = omega arith in
-        inl (i, l, sym (shows.basis i l) ∙ found.2, shows.numbers i (unknowns p) f inside (ap (λ (k : ℕ). cell a i k) (sym place) ∙ found.3))
+        let position : a.columns + a.rows ≡ unknowns p = omega arith in
+        inl (i, l, sym (shows.basis i l) ∙ found.2, shows.numbers i (unknowns p) f inside (ap (λ (k : ℕ). cell a i k) (sym position) ∙ found.3))
     value j f (inr none) = inr (none.0, λ i l e. none.1 i (let r = shows.rows in omega arith) (shows.basis i l ∙ e))
 
 -- the dual
@@ -56,8 +56,8 @@ dual-read p a t right dual shows sides holds = record { length_is = holds.length
         let x = there.0 in
         let row : a.rows ≡ cost_row p 0 = omega arith in
         let column : a.columns + i ≡ artificial p i = omega arith in
-        let place : InTable p.rows p.columns (cost_row p 0) (artificial p i) = record { row = omega arith; column = omega arith; cost = λ l. omega arith } in
-        let shown = shows.numbers (cost_row p 0) (artificial p i) x place
+        let position : InTable p.rows p.columns (cost_row p 0) (artificial p i) = record { row = omega arith; column = omega arith; cost = λ l. omega arith } in
+        let shown = shows.numbers (cost_row p 0) (artificial p i) x position
         (ap (λ (r : ℕ). cell a r (artificial p i)) (sym row) ∙ (ap (λ (j : ℕ). cell a a.rows j) (sym column) ∙ there.1)) in
         let given = holds.each i y x (omega arith) read there.1 in
         scaled y.num y.den x.num x.den (t.scale (cost_row p 0)) (t.entry (cost_row p 0) (artificial p i)) (sign_of (p.right i)) x.positive shown

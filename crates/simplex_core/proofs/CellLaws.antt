@@ -6,10 +6,10 @@ use Rattle.int_laws.specs.Polynomial.{variable, constant, ◌⊖◌, ◌⊗◌}
 use Rattle.int_laws.proofs.Identities.{identity_by_one}
 use Rattle.simplex_core.specs.declared.dense_table.DenseTable.{DenseTable}
 use Rattle.simplex_core.specs.Cells.{width, cell, ChangesRow, KeepsRow, IsRowBelow, IsRowClearedBy, IsLessMultiple}
-use Rattle.simplex_core.specs.Places.{InTable}
+use Rattle.simplex_core.specs.Positions.{InTable}
 use Rattle.simplex_core.proofs.Invariant.{same_or_other}
 
--- the same place in a table of the same shape
+-- the same position in a table of the same shape
 pub InTable-same : (rows columns rows' columns' i j : ℕ) → rows ≡ rows' → columns ≡ columns' → InTable rows columns i j → InTable rows' columns' i j
 InTable-same rows columns rows' columns' i j e f h = record {
   row = let a = h.row in omega (arith, e);

@@ -12,7 +12,7 @@ use Rattle.simplex_core.specs.Tableau.{sign_of}
 use Rattle.simplex_core.specs.Cells.{cell, IsBasicNumber, HoldsBasic, HoldsDual}
 use Rattle.simplex_core.proofs.Searches.{last_or_before}
 use Rattle.simplex_core.proofs.Invariant.{same_or_other}
-use Rattle.simplex_core.proofs.Places.{slice_get-set_same, slice_get-set_other}
+use Rattle.simplex_core.proofs.Positions.{slice_get-set_same, slice_get-set_other}
 
 -- a number of a column that the next row isn't solved for
 other_number : (table : DenseTable) (m j : ℕ) (f : Frac) → slice_index table.basis.items m ≢ j → IsBasicNumber table m j f → IsBasicNumber table (m + 1) j f

@@ -13,7 +13,7 @@ use Rattle.simplex_core.specs.declared.problem.Problem.{Problem}
 use Rattle.linear_forms.specs.LinearProgram.{LinearProgram}
 use Rattle.simplex_core.specs.Tableau.{artificial, cost_row, sign_of, equation, cost, first_reduced_cost, first_tableau}
 use Rattle.simplex_core.specs.Problem.{entry_value, program_of, IsProper}
-use Rattle.simplex_core.specs.Places.{InTable}
+use Rattle.simplex_core.specs.Positions.{InTable}
 use Rattle.simplex_core.specs.Cells.{cell, Shows}
 use Rattle.simplex_core.specs.Building.{HoldsWhole, HasSmallEquations, signed_entries, with_equations, cost_number, with_costs}
 use Rattle.simplex_core.specs.Numbers.{AreEntriesBelow}
@@ -109,8 +109,8 @@ costs-are q m n r j proper em en few k = go (cases_lt j n)
     columns : p.columns ≡ n
     columns = program-columns q ∙ sym en
 
-    place : (m + r) - m ≡ r
-    place = omega (arith, rows, columns)
+    position : (m + r) - m ≡ r
+    position = omega (arith, rows, columns)
 
     none : (c b : ℤ) (w : ℤ) → c ≡ w → b ≡ pos 0 → w ≡ c -ℤ b
     none c b w e f = omega (arith, ints)
@@ -141,7 +141,7 @@ costs-are q m n r j proper em en few k = go (cases_lt j n)
     go (inl l) =
         choose-above (m + r) m (g (m + r) j) _ (omega (arith, rows, columns))
         ∙ (choose-below j n _ (g (m + r) j) l
-        ∙ (ap (λ (s : ℕ). cost_number m g q.first.items q.second.items s j) place ∙ number r few l))
+        ∙ (ap (λ (s : ℕ). cost_number m g q.first.items q.second.items s j) position ∙ number r few l))
     go (inr l) =
         choose-above (m + r) m (g (m + r) j) _ (omega (arith, rows, columns))
         ∙ (choose-above j n _ (g (m + r) j) l

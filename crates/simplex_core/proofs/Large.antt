@@ -11,7 +11,7 @@ use Rattle.simplex_core.specs.declared.problem.Problem.{Problem}
 use Rattle.linear_forms.specs.LinearProgram.{LinearProgram}
 use Rattle.simplex_core.specs.Tableau.{artificial, unknowns, cost_row, sign_of, equation, cost, first_reduced_cost, first_tableau}
 use Rattle.simplex_core.specs.Problem.{entry_value, program_of, IsProper, table_size}
-use Rattle.simplex_core.specs.Places.{InTable}
+use Rattle.simplex_core.specs.Positions.{InTable}
 use Rattle.simplex_core.specs.Numbers.{IsOneAbove, IsOneEntryAbove}
 use Rattle.simplex_core.specs.Outcome.{IsInRange}
 use Rattle.simplex_core.proofs.Regions.{equation-column, equation-right, cost-first, cost-second, cost-no_artificial, first-row, first-cost}
@@ -39,7 +39,7 @@ out_of_range p i j z inside is above range =
     let size = ap unsigned_abs is in
     omega (arith, small.0, size, above)
 
--- the number of a place that has an entry
+-- the number of a cell that has an entry
 entry_value-at : (es : List Entry) (k : ℕ) (e : Entry) → slice_get es k ≡ Some e
     → ((l : ℕ) (d : Entry) → l < k → slice_get es l ≡ Some d → d.row ≡ e.row → d.col ≡ e.col → ⊥) → entry_value es e.row e.col ≡ e.value
 entry_value-at [] k e is once = cc
@@ -62,10 +62,10 @@ pub large-entry : (q : Problem) → IsProper q → IsOneEntryAbove q.entries.ite
 large-entry q proper large =
     let p = program_of q in
     let e = large.entry in
-    let inside = proper.inside large.place e large.is in
+    let inside = proper.inside large.position e large.is in
     let rows = program-rows q in
     let columns = program-columns q in
-    let value = entry_value-at q.entries.items large.place e large.is (λ l d m at r c. proper.once l large.place d e m at large.is r c) in
+    let value = entry_value-at q.entries.items large.position e large.is (λ l d m at r c. proper.once l large.position d e m at large.is r c) in
     let number = first-row p e.row e.col (omega (arith, inside.0)) ∙ (equation-column p e.row e.col (omega (arith, inside.1))
     ∙ ap (λ (z : ℤ). sign_of (p.right e.row) *ℤ z) (program-entry q e.row e.col ∙ value)) in
     out_of_range p e.row e.col (sign_of (p.right e.row) *ℤ e.value)
@@ -76,7 +76,7 @@ large-entry q proper large =
 pub large-right : (q : Problem) → IsProper q → IsOneAbove q.right.items → ¬ IsInRange (program_of q) (first_tableau (program_of q))
 large-right q proper large =
     let p = program_of q in
-    let i = large.place in
+    let i = large.position in
     let rows = program-rows q in
     let columns = program-columns q in
     let within : i < q.rows = let l = large.within in let s = proper.right in omega arith in
@@ -98,7 +98,7 @@ reduced-is p k j =
 pub large-first : (q : Problem) → IsProper q → IsOneAbove q.first.items → ¬ IsInRange (program_of q) (first_tableau (program_of q))
 large-first q proper large =
     let p = program_of q in
-    let j = large.place in
+    let j = large.position in
     let rows = program-rows q in
     let columns = program-columns q in
     let within : j < p.columns = let l = large.within in let s = proper.first in omega arith in
@@ -110,7 +110,7 @@ large-first q proper large =
 pub large-second : (q : Problem) → IsProper q → IsOneAbove q.second.items → ¬ IsInRange (program_of q) (first_tableau (program_of q))
 large-second q proper large =
     let p = program_of q in
-    let j = large.place in
+    let j = large.position in
     let rows = program-rows q in
     let columns = program-columns q in
     let within : j < p.columns = let l = large.within in let s = proper.second in omega arith in

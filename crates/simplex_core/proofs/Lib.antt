@@ -13,7 +13,7 @@ pub mod Duals
 pub mod Optima
 pub mod Prices
 pub mod FractionSizes
-pub mod Places
+pub mod Positions
 pub mod Differences
 pub mod CellLaws
 pub mod PivotedTable

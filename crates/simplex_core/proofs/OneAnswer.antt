@@ -43,7 +43,7 @@ next-there p k (suc m) t u l here there none = go (cases_lt k m) (tableau_at p m
         let after : next p t ≡ Some u = subst (λ (w : Tableau). next p w ≡ Some u) one h in
         cc
 
--- the sequence stops at one place
+-- the sequence stops after one number of pivots
 stops-once : (p : LinearProgram) (allowed k m : ℕ) (t u : Tableau) → Stops p allowed k t → Stops p allowed m u → ¬ (k < m)
 stops-once p allowed k m t u s r l = go (s.last (r.reached.before k t l s.reached.is))
   where
@@ -51,7 +51,7 @@ stops-once p allowed k m t u s r l = go (s.last (r.reached.before k t l s.reache
     go (inl e) = next-there p k m t u l s.reached.is r.reached.is e
     go (inr e) = let w = r.within in omega arith
 
--- two places where the sequence stops are the same, and so are their tableaux
+-- two numbers of pivots after which the sequence stops are the same, and so are their tableaux
 pub stops-same : (p : LinearProgram) (allowed k m : ℕ) (t u : Tableau) → Stops p allowed k t → Stops p allowed m u → (k ≡ m) × (t ≡ u)
 stops-same p allowed k m t u s r = (same, tableaux)
   where

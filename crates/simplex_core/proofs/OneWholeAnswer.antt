@@ -16,7 +16,7 @@ use Rattle.simplex_core.specs.Outcome.{EndsOptimally, EndsInfeasibly}
 use Rattle.simplex_core.specs.Scaling.{IsCommon, AreOver, AreScaled}
 use Rattle.simplex_core.specs.Agreement.{AreSameFractions}
 use Rattle.simplex_core.specs.Trips.{Trips, TripsSolution, TripsDual, cause_of, IsWholeAnswer, IsScaledSolution, IsScaledDual, IsSameWholeAnswer}
-use Rattle.simplex_core.proofs.Places.{slice_get-there}
+use Rattle.simplex_core.proofs.Positions.{slice_get-there}
 use Rattle.simplex_core.proofs.OneAnswer.{optimal-stops, infeasible-stops, range-stops, budget-stops, stops-same, optimal-same, infeasible-same, ends-apart, range-apart, budget-apart, optimal-last, infeasible-last}
 
 -- whole numbers over a denominator are the same fractions too

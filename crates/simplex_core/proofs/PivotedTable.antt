@@ -12,10 +12,10 @@ use Rattle.simplex_core.specs.declared.dense_table.DenseTable.{DenseTable}
 use Rattle.linear_forms.specs.LinearProgram.{LinearProgram}
 use Rattle.simplex_core.specs.Tableau.{Tableau, pivot}
 use Rattle.simplex_core.specs.Cells.{width, cell, IsPivoted, Shows}
-use Rattle.simplex_core.specs.Places.{InTable}
+use Rattle.simplex_core.specs.Positions.{InTable}
 use Rattle.simplex_core.proofs.Invariant.{same_or_other}
 use Rattle.simplex_core.proofs.Regions.{pivot-row, pivot-other, pivot-scale, pivot-other_scale, pivot-basis, pivot-other_basis}
-use Rattle.simplex_core.proofs.Places.{slice_get-there}
+use Rattle.simplex_core.proofs.Positions.{slice_get-there}
 use Rattle.simplex_core.proofs.CellLaws.{InTable-same}
 
 -- f/g is (n/d) / (m/b), where n/d is x/s and m/b is y/s: so it is x/y

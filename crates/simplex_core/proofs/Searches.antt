@@ -1,16 +1,8 @@
 -- What the searches find.
 use Rattle.std.proofs.Common.{◌≡◌, ℕ, zero, suc, ◌<◌, ◌≤◌, ap, arith, refl, sym, ◌∙◌, ◌⊎◌, inl, inr, Bool, true, false, Option, Some, None}
 use Rattle.std.specs.Prelude.{◌&&◌, ◌||◌, if◌then◌else◌}
-use Rattle.std.proofs.lemmas.Bool.{cases_lt}
+pub use Rattle.int_laws.proofs.SumLaws.{last_or_before}
 use Rattle.simplex_core.specs.Search.{every, some, or_else, least}
-
--- a number below n + 1 is n or below n
-pub last_or_before : (n j : ℕ) → j < suc n → (j ≡ n) ⊎ (j < n)
-last_or_before n j l = go (cases_lt j n)
-  where
-    go : (j < n) ⊎ (n ≤ j) → (j ≡ n) ⊎ (j < n)
-    go (inl m) = inr m
-    go (inr m) = inl (omega arith)
 
 -- both parts of a conjunction hold
 pub and-both : (a b : Bool) → (a && b) ≡ true → (a ≡ true) × (b ≡ true)

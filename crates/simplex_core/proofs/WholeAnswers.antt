@@ -12,18 +12,19 @@ use Rattle.frac128.proofs.LowestTerms.{zero_is_whole}
 use Rattle.int_laws.specs.Polynomial.{variable, constant, ◌⊖◌, ◌⊗◌, negated}
 use Rattle.int_laws.proofs.Identities.{identity, identity_by_two}
 use Rattle.int_laws.proofs.OrderLaws.{mul-cancel_ℤ}
+use Rattle.linear_forms.specs.Limits.{certificate_limit, point_limit}
 use Rattle.linear_forms.specs.Forms.{at}
 use Rattle.linear_forms.specs.LinearProgram.{LinearProgram}
 use Rattle.linear_forms.specs.ProgramLaws.{AreSame}
 use Rattle.linear_forms.proofs.ProgramLaws.{scaled-solution, scaled-least, scaled-dual}
 use Rattle.simplex_core.specs.Problem.{table_size, widest}
-use Rattle.simplex_core.specs.Places.{InTable}
+use Rattle.simplex_core.specs.Positions.{InTable}
 use Rattle.simplex_core.specs.Tableau.{artificial, cost_row, sign_of}
 use Rattle.simplex_core.specs.Outcome.{HoldsPoint, EndsOptimally, EndsInfeasibly}
 use Rattle.simplex_core.specs.Scaling.{IsLeastCommon, HasNoCommonWithin, AreOver, AreWithin, AreScaled, HasNumberOver, HasNoneScaled, ExceedsSolution, ExceedsDual}
 use Rattle.simplex_core.specs.Trips.{IsScaledSolution, IsScaledDual}
 use Rattle.simplex_core.proofs.Regions.{sign_of-square}
-use Rattle.simplex_core.proofs.Places.{slice_get-there}
+use Rattle.simplex_core.proofs.Positions.{slice_get-there}
 use Rattle.simplex_core.proofs.Scalings.{over-common, passes-above}
 
 -- the whole numbers and the point that the fractions hold are the same
@@ -47,7 +48,7 @@ same-point n fs x d numbers den positive holds over = record {
 
 -- a solution that is scaled within the limits
 pub solution-given : (p : LinearProgram) (allowed k : ℕ) (fs : List Frac) (basis : List ℕ) (numbers : List ℤ) (den : ℕ) → table_size p ≤ widest → EndsOptimally p allowed fs basis k
-    → AreScaled fs numbers den → AreWithin (2 ^ 55) (length numbers) numbers → den ≤ 2 ^ 55 → IsScaledSolution p allowed numbers den
+    → AreScaled fs numbers den → AreWithin certificate_limit (length numbers) numbers → den ≤ certificate_limit → IsScaledSolution p allowed numbers den
 solution-given p allowed k fs basis numbers den fits ends scaled within den_within = record {
   fits = fits;
   point = fs;
@@ -67,7 +68,7 @@ solution-given p allowed k fs basis numbers den fits ends scaled within den_with
 
 -- a dual that is scaled within the limit
 pub dual-given : (p : LinearProgram) (allowed k : ℕ) (fs : List Frac) (numbers : List ℤ) (den : ℕ) → table_size p ≤ widest → EndsInfeasibly p allowed fs k
-    → AreScaled fs numbers den → AreWithin (2 ^ 45) (length numbers) numbers → IsScaledDual p allowed numbers den
+    → AreScaled fs numbers den → AreWithin point_limit (length numbers) numbers → IsScaledDual p allowed numbers den
 dual-given p allowed k fs numbers den fits ends scaled within = record {
   fits = fits;
   dual = fs;
@@ -92,21 +93,21 @@ least-exceeds fs den limit least above numbers other over within =
     clash a b l m = omega arith
 
 -- a solution that has no whole numbers within the limits
-pub solution-exceeds : (fs : List Frac) → HasNoneScaled fs (2 ^ 55) (2 ^ 55) → ExceedsSolution fs
+pub solution-exceeds : (fs : List Frac) → HasNoneScaled fs certificate_limit certificate_limit → ExceedsSolution fs
 solution-exceeds fs h numbers den over within small = go h.each
   where
-    go : HasNoCommonWithin fs (length fs) (2 ^ 55) ⊎ ((least : ℕ) × IsLeastCommon fs (length fs) least × HasNumberOver fs least (2 ^ 55)) → ⊥
+    go : HasNoCommonWithin fs (length fs) certificate_limit ⊎ ((least : ℕ) × IsLeastCommon fs (length fs) least × HasNumberOver fs least certificate_limit) → ⊥
     go (inl none) = let l = none.each den over.positive (over-common fs (length fs) numbers den over) in omega arith
-    go (inr found) = least-exceeds fs found.0 (2 ^ 55) found.1 found.2 numbers den over within
+    go (inr found) = least-exceeds fs found.0 certificate_limit found.1 found.2 numbers den over within
 
 -- a fraction with a small denominator is 0 where its number over a large one is small
-small-number : (f : Frac) (n : ℤ) (den : ℕ) → n *ℤ f.den ≡ f.num *ℤ pos den → unsigned_abs n ≤ 2 ^ 45 → unsigned_abs f.den < 2 ^ 31 → 2 ^ 76 < den → f.num ≡ pos 0
+small-number : (f : Frac) (n : ℤ) (den : ℕ) → n *ℤ f.den ≡ f.num *ℤ pos den → unsigned_abs n ≤ point_limit → unsigned_abs f.den < 2 ^ 31 → 2 ^ 76 < den → f.num ≡ pos 0
 small-number f n den e small low large = from_size f.num (zero_size (unsigned_abs f.num) sizes)
   where
     sizes : unsigned_abs n * unsigned_abs f.den ≡ unsigned_abs f.num * den
     sizes = sym (unsigned_abs-mul n f.den) ∙ (ap unsigned_abs e ∙ unsigned_abs-mul f.num (pos den))
 
-    bound : (a b : ℕ) → a ≤ 2 ^ 45 → b < 2 ^ 31 → a * b ≤ 2 ^ 76
+    bound : (a b : ℕ) → a ≤ point_limit → b < 2 ^ 31 → a * b ≤ 2 ^ 76
     bound a b l m = let k = mul-le-mul_right b l in omega (arith, k, m)
 
     zero_size : (a : ℕ) → unsigned_abs n * unsigned_abs f.den ≡ a * den → a ≡ 0
@@ -120,11 +121,11 @@ small-number f n den e small low large = from_size f.num (zero_size (unsigned_ab
     from_size z e = omega (arith, ints, e)
 
 -- a dual with small denominators that has no whole numbers within the limit
-pub dual-exceeds : (fs : List Frac) → ((j : ℕ) (f : Frac) → slice_get fs j ≡ Some f → unsigned_abs f.den < 2 ^ 31) → HasNoneScaled fs (2 ^ 76) (2 ^ 45) → ExceedsDual fs
+pub dual-exceeds : (fs : List Frac) → ((j : ℕ) (f : Frac) → slice_get fs j ≡ Some f → unsigned_abs f.den < 2 ^ 31) → HasNoneScaled fs (2 ^ 76) point_limit → ExceedsDual fs
 dual-exceeds fs low h numbers den over within = go h.each
   where
-    go : HasNoCommonWithin fs (length fs) (2 ^ 76) ⊎ ((least : ℕ) × IsLeastCommon fs (length fs) least × HasNumberOver fs least (2 ^ 45)) → ⊥
-    go (inr found) = least-exceeds fs found.0 (2 ^ 45) found.1 found.2 numbers den over within
+    go : HasNoCommonWithin fs (length fs) (2 ^ 76) ⊎ ((least : ℕ) × IsLeastCommon fs (length fs) least × HasNumberOver fs least point_limit) → ⊥
+    go (inr found) = least-exceeds fs found.0 point_limit found.1 found.2 numbers den over within
     go (inl none) =
         let large = none.each den over.positive (over-common fs (length fs) numbers den over) in
         let one = none.each 1 (omega arith) (record {

@@ -9,7 +9,7 @@ use Rattle.simplex_core.specs.Tableau.{sign_of}
 use Rattle.simplex_core.specs.Problem.{entry_value}
 use Rattle.simplex_core.specs.Cells.{width, cell}
 use Rattle.simplex_core.specs.Building.{HoldsWhole, WritesWhole, signed_entries, with_equations, cost_number, with_costs}
-use Rattle.simplex_core.specs.Numbers.{ArePlaced}
+use Rattle.simplex_core.specs.Numbers.{AreInCells}
 use Rattle.std.proofs.lemmas.Bool.{cases_lt}
 use Rattle.simplex_core.proofs.Invariant.{same_or_other}
 use Rattle.simplex_core.proofs.Regions.{choose-below, choose-above, choose-same, choose-other}
@@ -52,13 +52,13 @@ pub HoldsWhole-written : (a b : DenseTable) (r c : ℕ) (z : ℤ) (g h : ℕ →
 HoldsWhole-written a b r c z g h holds writes here others =
     HoldsWhole-written_within a b r c z g h holds writes here (λ i j _ apart. others i j apart)
 
--- the test of an entry's place, where it passes
-at_place : (e : Entry) (i j : ℕ) → e.row ≡ i → e.col ≡ j → (nat_eq e.row i && nat_eq e.col j) ≡ true
-at_place e i j r c = ap (λ (b : Bool). b && nat_eq e.col j) (eq-eqb e.row i r) ∙ eq-eqb e.col j c
+-- the test of an entry's cell, where it passes
+at_cell : (e : Entry) (i j : ℕ) → e.row ≡ i → e.col ≡ j → (nat_eq e.row i && nat_eq e.col j) ≡ true
+at_cell e i j r c = ap (λ (b : Bool). b && nat_eq e.col j) (eq-eqb e.row i r) ∙ eq-eqb e.col j c
 
--- the test of an entry's place, where it fails
-off_place : (e : Entry) (i j : ℕ) → (e.row ≡ i → e.col ≡ j → ⊥) → (nat_eq e.row i && nat_eq e.col j) ≡ false
-off_place e i j apart = go (nat_eq e.row i) (nat_eq e.col j) refl refl
+-- the test of an entry's cell, where it fails
+off_cell : (e : Entry) (i j : ℕ) → (e.row ≡ i → e.col ≡ j → ⊥) → (nat_eq e.row i && nat_eq e.col j) ≡ false
+off_cell e i j apart = go (nat_eq e.row i) (nat_eq e.col j) refl refl
   where
     go : (a b : Bool) → nat_eq e.row i ≡ a → nat_eq e.col j ≡ b → (a && b) ≡ false
     go true true x y = absurd (apart (eqb-true e.row i x) (eqb-true e.col j y))
@@ -67,23 +67,23 @@ off_place e i j apart = go (nat_eq e.row i) (nat_eq e.col j) refl refl
 
 -- an entry that is added elsewhere
 pub entry_value-other : (es : List Entry) (e : Entry) (i j : ℕ) → (e.row ≡ i → e.col ≡ j → ⊥) → entry_value (es ++ (e ∷ [])) i j ≡ entry_value es i j
-entry_value-other [] e i j apart = ap (λ (b : Bool). if b then e.value else pos 0) (off_place e i j apart)
+entry_value-other [] e i j apart = ap (λ (b : Bool). if b then e.value else pos 0) (off_cell e i j apart)
 entry_value-other (d ∷ es) e i j apart = ap (λ (z : ℤ). if nat_eq d.row i && nat_eq d.col j then d.value else z) (entry_value-other es e i j apart)
 
--- an entry that is added at its place, where none was
+-- an entry that is added in its cell, where none was
 pub entry_value-new : (es : List Entry) (e : Entry) (i j : ℕ) → e.row ≡ i → e.col ≡ j
     → ((k : ℕ) (d : Entry) → slice_get es k ≡ Some d → d.row ≡ i → d.col ≡ j → ⊥) → entry_value (es ++ (e ∷ [])) i j ≡ e.value
-entry_value-new [] e i j r c none = ap (λ (b : Bool). if b then e.value else pos 0) (at_place e i j r c)
+entry_value-new [] e i j r c none = ap (λ (b : Bool). if b then e.value else pos 0) (at_cell e i j r c)
 entry_value-new (d ∷ es) e i j r c none =
-    ap (λ (b : Bool). if b then d.value else entry_value (es ++ (e ∷ [])) i j) (off_place d i j (none 0 d refl))
+    ap (λ (b : Bool). if b then d.value else entry_value (es ++ (e ∷ [])) i j) (off_cell d i j (none 0 d refl))
     ∙ entry_value-new es e i j r c (λ k x is. none (suc k) x is)
 
--- there is no entry at a place outside
+-- there is no entry in a cell outside
 pub entry_value-outside : (rows columns : ℕ) (es : List Entry) (i j : ℕ) → ((k : ℕ) (e : Entry) → slice_get es k ≡ Some e → (e.row < rows) × (e.col < columns))
     → (rows ≤ i) ⊎ (columns ≤ j) → entry_value es i j ≡ pos 0
 entry_value-outside rows columns [] i j inside out = refl
 entry_value-outside rows columns (e ∷ es) i j inside out =
-    ap (λ (b : Bool). if b then e.value else entry_value es i j) (off_place e i j (λ r c. clash r c (inside 0 e refl) out))
+    ap (λ (b : Bool). if b then e.value else entry_value es i j) (off_cell e i j (λ r c. clash r c (inside 0 e refl) out))
     ∙ entry_value-outside rows columns es i j (λ k x is. inside (suc k) x is) out
   where
     clash : e.row ≡ i → e.col ≡ j → (e.row < rows) × (e.col < columns) → (rows ≤ i) ⊎ (columns ≤ j) → ⊥
@@ -105,14 +105,14 @@ slice_get-take (y ∷ ys) (suc m) zero x h = (omega arith, h)
 slice_get-take (y ∷ ys) (suc m) (suc k) x h = let r = slice_get-take ys m k x h in (omega (arith, r.0), r.1)
 
 -- one more entry is written
-pub entries-step : (rows columns : ℕ) (a b : DenseTable) (es : List Entry) (right : List ℤ) (k : ℕ) (e : Entry) → ArePlaced rows columns es → slice_get es k ≡ Some e
+pub entries-step : (rows columns : ℕ) (a b : DenseTable) (es : List Entry) (right : List ℤ) (k : ℕ) (e : Entry) → AreInCells rows columns es → slice_get es k ≡ Some e
     → HoldsWhole a (signed_entries (take k es) right) → WritesWhole a b e.row e.col (sign_of (slice_index_or right e.row (pos 0)) *ℤ e.value)
     → HoldsWhole b (signed_entries (take (k + 1) es) right)
-entries-step rows columns a b es right k e placed is holds writes =
+entries-step rows columns a b es right k e cells is holds writes =
     HoldsWhole-written a b e.row e.col _ (signed_entries (take k es) right) (signed_entries (take (k + 1) es) right) holds writes
     (ap (λ (xs : List Entry). sign_of (slice_index_or right e.row (pos 0)) *ℤ entry_value xs e.row e.col) more
     ∙ ap (λ (z : ℤ). sign_of (slice_index_or right e.row (pos 0)) *ℤ z)
-    (entry_value-new (take k es) e e.row e.col refl refl (λ m d at r c. let within = slice_get-take es k m d at in placed.once m k d e within.0 within.1 is r c)))
+    (entry_value-new (take k es) e e.row e.col refl refl (λ m d at r c. let within = slice_get-take es k m d at in cells.once m k d e within.0 within.1 is r c)))
     (λ i j apart.
     ap (λ (xs : List Entry). sign_of (slice_index_or right i (pos 0)) *ℤ entry_value xs i j) more
     ∙ ap (λ (z : ℤ). sign_of (slice_index_or right i (pos 0)) *ℤ z) (entry_value-other (take k es) e i j (λ r c. apart (sym r) (sym c))))

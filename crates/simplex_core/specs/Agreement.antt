@@ -1,22 +1,27 @@
 -- When two answers are the same, and what trips a linear program.
 use Rattle.std.specs.Prelude.{◌≡◌, ℕ, List, length, slice_get, Some, Result, Ok, Err, ◌⊎◌}
 use Rattle.frac128.specs.declared.frac.Frac.{Frac}
+use Rattle.linear_forms.specs.Causes.{Cause}
 use Rattle.linear_forms.specs.LinearProgram.{LinearProgram}
 use Rattle.linear_forms.specs.ProgramLaws.{Agree}
 use Rattle.simplex_core.specs.declared.problem.Solved.{Solved}
 use Rattle.simplex_core.specs.declared.problem.Solved.TheVariants.{Optimal, Infeasible}
 use Rattle.simplex_core.specs.declared.problem.SolveError.{SolveError}
 use Rattle.simplex_core.specs.declared.problem.SolveError.TheVariants.{Range, Budget, Wide, Memory}
+use Rattle.simplex_core.specs.declared.answers.Answer.{Answer}
 use Rattle.simplex_core.specs.Outcome.{IsAnswer}
+use Rattle.simplex_core.specs.Trips.{Trips, IsWholeAnswer}
 
 -- the lists have the same fractions
 pub record AreSameFractions (fs gs : List Frac) : Type 0 where
   pub lengths : length fs ≡ length gs
-  pub each : (k : ℕ) (f g : Frac) → slice_get fs k ≡ Some f → slice_get gs k ≡ Some g → (f.num ≡ g.num) × (f.den ≡ g.den)
+  pub each : (k : ℕ) (f g : Frac) → slice_get fs k ≡ Some f → slice_get gs k ≡ Some g → (f.num ≡ g.num)
+      × (f.den ≡ g.den)
 
 -- the ends are the same: the same solution with the same basis, or the same dual, after as many pivots
 abbrev pub IsSameEnd : Solved → Solved → Type 0
-IsSameEnd (Optimal at basis k) (Optimal at' basis' k') = AreSameFractions at.items at'.items × (basis.items ≡ basis'.items) × (k ≡ k')
+IsSameEnd (Optimal at basis k) (Optimal at' basis' k') = AreSameFractions at.items at'.items
+    × (basis.items ≡ basis'.items) × (k ≡ k')
 IsSameEnd (Optimal at basis k) (Infeasible dual k') = ⊥
 IsSameEnd (Infeasible dual k) (Optimal at basis k') = ⊥
 IsSameEnd (Infeasible dual k) (Infeasible dual' k') = AreSameFractions dual.items dual'.items × (k ≡ k')
@@ -37,8 +42,13 @@ IsSameAnswer (Err e) (Err e') = (e ≡ e') ⊎ (IsMemory e ⊎ IsMemory e')
 
 -- of one program within one number of pivots there is one answer, but for want of memory
 pub record AnswersAreOne : Type 0 where
-  pub each : (p : LinearProgram) (allowed : ℕ) (a b : Result Solved SolveError) → IsAnswer p allowed a → IsAnswer p allowed b → IsSameAnswer a b
+  pub each : (p : LinearProgram) (allowed : ℕ) (a b : Result Solved SolveError) → IsAnswer p allowed a
+      → IsAnswer p allowed b → IsSameAnswer a b
 
--- programs that agree have the same answers
+-- programs that agree have the same answers, trip by the same causes, and have the same answers in whole numbers
 pub record AgreeingProgramsAnswerTheSame : Type 0 where
-  pub each : (p q : LinearProgram) (allowed : ℕ) (a : Result Solved SolveError) → Agree p q → IsAnswer p allowed a → IsAnswer q allowed a
+  pub each : (p q : LinearProgram) (allowed : ℕ) (a : Result Solved SolveError) → Agree p q → IsAnswer p allowed a
+      → IsAnswer q allowed a
+  pub trips : (p q : LinearProgram) (allowed : ℕ) (c : Cause) → Agree p q → Trips p allowed c → Trips q allowed c
+  pub whole : (p q : LinearProgram) (allowed : ℕ) (a : Answer) → Agree p q → IsWholeAnswer p allowed a
+      → IsWholeAnswer q allowed a

@@ -13,7 +13,8 @@ may_enter p t k j =
 -- the entering column: the least one of the first cost row that has one; artificial columns never enter
 abbrev pub entering : LinearProgram → Tableau → Option ℕ
 entering p t =
-    or_else (least p.columns (may_enter p t 0)) (or_else (least p.columns (may_enter p t 1)) (least p.columns (may_enter p t 2)))
+    or_else (least p.columns (may_enter p t 0)) (or_else (least p.columns (may_enter p t 1))
+    (least p.columns (may_enter p t 2)))
 
 -- whether row i has a lesser quotient of right side by entry in column c than row r, or the same and
 -- a lesser basic column

@@ -41,7 +41,8 @@ with_costs m g first second k i j =
 
 -- the equations' numbers in the program's columns are below 2^31 in absolute value
 pub record HasSmallEquations (table : DenseTable) : Type 0 where
-  pub each : (i j : ℕ) (f : Frac) → i < table.rows → j < table.columns → cell table i j ≡ Some f → unsigned_abs f.num < 2 ^ 31
+  pub each : (i j : ℕ) (f : Frac) → i < table.rows → j < table.columns → cell table i j ≡ Some f
+      → unsigned_abs f.num < 2 ^ 31
 
 -- the equations' numbers are as before
 pub record KeepsEquations (old new : DenseTable) : Type 0 where

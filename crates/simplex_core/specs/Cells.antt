@@ -5,7 +5,7 @@ use Rattle.frac128.specs.Fraction.{IsFraction}
 use Rattle.simplex_core.specs.declared.dense_table.DenseTable.{DenseTable}
 use Rattle.simplex_core.specs.Bland.{IsBest, is_candidate}
 use Rattle.simplex_core.specs.Sizes.{IsBelow}
-use Rattle.simplex_core.specs.Places.{InTable}
+use Rattle.simplex_core.specs.Positions.{InTable}
 use Rattle.linear_forms.specs.LinearProgram.{LinearProgram}
 use Rattle.simplex_core.specs.Tableau.{Tableau, sign_of}
 
@@ -86,12 +86,14 @@ pub record IsRowDivided (old new : DenseTable) (r : ℕ) (by : Frac) : Type 0 wh
 
 -- row i is the old row less a multiple of row r
 pub record IsRowCleared (old new : DenseTable) (i r : ℕ) (factor : Frac) : Type 0 where
-  pub each : (j : ℕ) (f b g : Frac) → InTable old.rows old.columns i j → cell old i j ≡ Some f → cell old r j ≡ Some b → cell new i j ≡ Some g
+  pub each : (j : ℕ) (f b g : Frac) → InTable old.rows old.columns i j → cell old i j ≡ Some f → cell old r j ≡ Some b
+      → cell new i j ≡ Some g
       → IsLessMultiple f factor b g
 
 -- row i is the old row less the multiple of row r that the number in the column shows
 pub record IsRowClearedBy (old new : DenseTable) (i r column : ℕ) : Type 0 where
-  pub each : (j : ℕ) (f factor b g : Frac) → InTable old.rows old.columns i j → cell old i j ≡ Some f → cell old i column ≡ Some factor → cell old r j ≡ Some b
+  pub each : (j : ℕ) (f factor b g : Frac) → InTable old.rows old.columns i j → cell old i j ≡ Some f
+      → cell old i column ≡ Some factor → cell old r j ≡ Some b
       → cell new i j ≡ Some g → IsLessMultiple f factor b g
 
 -- the table is the old one after the pivot at row r and column c
@@ -99,9 +101,11 @@ pub record IsPivoted (old new : DenseTable) (r c : ℕ) : Type 0 where
   pub rows : new.rows ≡ old.rows
   pub columns : new.columns ≡ old.columns
   pub basis : new.basis.items ≡ slice_set old.basis.items r c
-  pub divided : (j : ℕ) (f by g : Frac) → InTable old.rows old.columns r j → cell old r j ≡ Some f → cell old r c ≡ Some by → cell new r j ≡ Some g
+  pub divided : (j : ℕ) (f by g : Frac) → InTable old.rows old.columns r j → cell old r j ≡ Some f
+      → cell old r c ≡ Some by → cell new r j ≡ Some g
       → IsFraction g (f.num *ℤ by.den) (f.den *ℤ by.num)
-  pub cleared : (i j : ℕ) (f factor b g : Frac) → i ≢ r → InTable old.rows old.columns i j → cell old i j ≡ Some f → cell old i c ≡ Some factor
+  pub cleared : (i j : ℕ) (f factor b g : Frac) → i ≢ r → InTable old.rows old.columns i j → cell old i j ≡ Some f
+      → cell old i c ≡ Some factor
       → cell new r j ≡ Some b → cell new i j ≡ Some g → IsLessMultiple f factor b g
 
 -- the table shows the tableau: its fractions are the tableau's, over scales over 0, and its basis is
@@ -109,7 +113,8 @@ pub record Shows (p : LinearProgram) (table : DenseTable) (t : Tableau) : Type 0
   pub rows : table.rows ≡ p.rows
   pub columns : table.columns ≡ p.columns
   pub positive : (i : ℕ) → i < p.rows + 3 → pos 0 <ℤ t.scale i
-  pub numbers : (i j : ℕ) (f : Frac) → InTable p.rows p.columns i j → cell table i j ≡ Some f → IsFraction f (t.entry i j) (t.scale i)
+  pub numbers : (i j : ℕ) (f : Frac) → InTable p.rows p.columns i j → cell table i j ≡ Some f
+      → IsFraction f (t.entry i j) (t.scale i)
   pub basis : (i : ℕ) → i < p.rows → slice_index table.basis.items i ≡ t.basis i
 
 -- the table shows the tableau, and has noted whether all its numbers are below 2^31
@@ -133,7 +138,8 @@ pub record HoldsBasic (table : DenseTable) (m : ℕ) (at : List Frac) : Type 0 w
 -- artificial unknowns, with the sign of the right side
 pub record HoldsDual (table : DenseTable) (right : List ℤ) (m : ℕ) (dual : List Frac) : Type 0 where
   pub length_is : length dual ≡ m
-  pub each : (k : ℕ) (y x : Frac) → k < m → slice_get dual k ≡ Some y → cell table table.rows (table.columns + k) ≡ Some x
+  pub each : (k : ℕ) (y x : Frac) → k < m → slice_get dual k ≡ Some y
+      → cell table table.rows (table.columns + k) ≡ Some x
       → IsFraction y (sign_of (slice_index_or right k (pos 0)) *ℤ (x.den -ℤ x.num)) x.den
 
 -- the row is the best of the first m; no row, where none has an entry over 0

@@ -17,9 +17,11 @@ pub record DualExcludesSolutions : Type 0 where
 -- no solution has lower first costs than a point with prices, nor, at the same first costs, lower
 -- second costs
 pub record LeastCostsLeast : Type 0 where
-  pub first : (p : LinearProgram) (x : ℕ → ℤ) (d : ℤ) (y : ℕ → ℤ) (e : ℤ) → pos 0 <ℤ d → IsLeast p x d → IsSolution p y e
+  pub first : (p : LinearProgram) (x : ℕ → ℤ) (d : ℤ) (y : ℕ → ℤ) (e : ℤ) → pos 0 <ℤ d → IsLeast p x d
+      → IsSolution p y e
       → CostsAtMost p.columns p.first x d y e
-  pub second : (p : LinearProgram) (x : ℕ → ℤ) (d : ℤ) (y : ℕ → ℤ) (e : ℤ) → pos 0 <ℤ d → IsLeast p x d → IsSolution p y e
+  pub second : (p : LinearProgram) (x : ℕ → ℤ) (d : ℤ) (y : ℕ → ℤ) (e : ℤ) → pos 0 <ℤ d → IsLeast p x d
+      → IsSolution p y e
       → CostsTheSame p.columns p.first x d y e → CostsAtMost p.columns p.second x d y e
 
 -- the end is `Infeasible`
@@ -34,7 +36,8 @@ pub record OutcomeTellsSolutions : Type 0 where
       → IsAnswer p allowed (Ok (Optimal at basis k)) → HasSolution p
   pub infeasible : (p : LinearProgram) (allowed : ℕ) (dual : Vec Frac Global) (k : ℕ)
       → IsAnswer p allowed (Ok (Infeasible dual k)) → ¬ HasSolution p
-  pub exactly : (p : LinearProgram) (allowed : ℕ) (s : Solved) → IsAnswer p allowed (Ok s) → ¬ HasSolution p → SaysInfeasible s
+  pub exactly : (p : LinearProgram) (allowed : ℕ) (s : Solved) → IsAnswer p allowed (Ok s) → ¬ HasSolution p
+      → SaysInfeasible s
 
 -- x over d is the basic solution of a tableau, with the artificial unknowns: the right side of each row at the unknown
 -- that it is solved for, and 0 at each other one
@@ -45,7 +48,9 @@ pub record IsBasicPoint (p : LinearProgram) (t : Tableau) (x : ℕ → ℤ) (d :
 
 -- at each tableau of the sequence the test of the artificial unknowns says whether their sum is over 0
 pub record ArtificialSumsAreTold : Type 0 where
-  pub over : (p : LinearProgram) (k : ℕ) (t : Tableau) (x : ℕ → ℤ) (d : ℤ) → tableau_at p k ≡ Some t → IsBasicPoint p t x d → has_artificial p t ≡ true
+  pub over : (p : LinearProgram) (k : ℕ) (t : Tableau) (x : ℕ → ℤ) (d : ℤ) → tableau_at p k ≡ Some t
+      → IsBasicPoint p t x d → has_artificial p t ≡ true
       → pos 0 <ℤ sum_to p.rows (λ i. x (artificial p i))
-  pub none : (p : LinearProgram) (k : ℕ) (t : Tableau) (x : ℕ → ℤ) (d : ℤ) → tableau_at p k ≡ Some t → IsBasicPoint p t x d → has_artificial p t ≡ false
+  pub none : (p : LinearProgram) (k : ℕ) (t : Tableau) (x : ℕ → ℤ) (d : ℤ) → tableau_at p k ≡ Some t
+      → IsBasicPoint p t x d → has_artificial p t ≡ false
       → sum_to p.rows (λ i. x (artificial p i)) ≡ pos 0

@@ -4,7 +4,7 @@ pub mod Search
 pub mod Tableau
 pub mod Bland
 pub mod Sizes
-pub mod Places
+pub mod Positions
 pub mod Cells
 pub mod Problem
 pub mod Outcome

@@ -1,4 +1,4 @@
--- The numbers and the places of a problem.
+-- The numbers and the cells of a problem.
 use Rattle.std.specs.Prelude.{◌≡◌, ◌≢◌, ℕ, ◌<◌, ◌≤◌, ◌^◌, ℤ, pos, unsigned_abs, List, Some, slice_get, slice_index_or, length}
 use Rattle.simplex_core.specs.declared.problem.Entry.{Entry}
 use Rattle.simplex_core.specs.declared.problem.Problem.{Problem}
@@ -9,9 +9,9 @@ pub record AreBelow (numbers : List ℤ) : Type 0 where
 
 -- one of the numbers is 2^31 or more in absolute value
 pub record IsOneAbove (numbers : List ℤ) : Type 0 where
-  pub place : ℕ
-  pub within : place < length numbers
-  pub above : 2 ^ 31 ≤ unsigned_abs (slice_index_or numbers place (pos 0))
+  pub position : ℕ
+  pub within : position < length numbers
+  pub above : 2 ^ 31 ≤ unsigned_abs (slice_index_or numbers position (pos 0))
 
 -- each entry's number is below 2^31 in absolute value
 pub record AreEntriesBelow (entries : List Entry) : Type 0 where
@@ -19,15 +19,16 @@ pub record AreEntriesBelow (entries : List Entry) : Type 0 where
 
 -- one of the entries' numbers is 2^31 or more in absolute value
 pub record IsOneEntryAbove (entries : List Entry) : Type 0 where
-  pub place : ℕ
+  pub position : ℕ
   pub entry : Entry
-  pub is : slice_get entries place ≡ Some entry
+  pub is : slice_get entries position ≡ Some entry
   pub above : 2 ^ 31 ≤ unsigned_abs entry.value
 
--- the entries lie inside the table, and no place has two
-pub record ArePlaced (rows columns : ℕ) (entries : List Entry) : Type 0 where
+-- the entries lie inside the table, and no cell has two
+pub record AreInCells (rows columns : ℕ) (entries : List Entry) : Type 0 where
   pub inside : (k : ℕ) (e : Entry) → slice_get entries k ≡ Some e → (e.row < rows) × (e.col < columns)
-  pub once : (k l : ℕ) (d e : Entry) → k < l → slice_get entries k ≡ Some d → slice_get entries l ≡ Some e → d.row ≡ e.row → d.col ≢ e.col
+  pub once : (k l : ℕ) (d e : Entry) → k < l → slice_get entries k ≡ Some d → slice_get entries l ≡ Some e
+      → d.row ≡ e.row → d.col ≢ e.col
 
 -- the numbers of a problem are below 2^31 in absolute value
 pub record HasSmallNumbers (q : Problem) : Type 0 where

@@ -11,11 +11,12 @@ use Rattle.linear_forms.specs.LinearProgram.{LinearProgram, IsSolution, IsLeast,
 use Rattle.simplex_core.specs.Tableau.{Tableau, unknowns, cost_row}
 use Rattle.simplex_core.specs.Bland.{is_infeasible, entering, dual_of, next, tableau_at}
 use Rattle.simplex_core.specs.Problem.{table_size, widest}
-use Rattle.simplex_core.specs.Places.{InTable}
+use Rattle.simplex_core.specs.Positions.{InTable}
 
 -- in lowest terms, z over s has a numerator and a denominator below 2^31 in absolute value
 pub record IsSmallRatio (z s : ℤ) : Type 0 where
-  pub each : (n d : ℤ) → pos 0 <ℤ d → IsLowest n d → n *ℤ s ≡ z *ℤ d → (unsigned_abs n < 2 ^ 31) × (unsigned_abs d < 2 ^ 31)
+  pub each : (n d : ℤ) → pos 0 <ℤ d → IsLowest n d → n *ℤ s ≡ z *ℤ d → (unsigned_abs n < 2 ^ 31)
+      × (unsigned_abs d < 2 ^ 31)
 
 -- each number of the tableau is in range; a cost row has no right side
 pub record IsInRange (p : LinearProgram) (t : Tableau) : Type 0 where
@@ -56,8 +57,8 @@ pub record EndsOptimally (p : LinearProgram) (allowed : ℕ) (at : List Frac) (b
   pub least : IsLeast p x d
   pub basic : (j : ℕ) (f : Frac) → slice_get at j ≡ Some f → IsBasicValue p last j f
 
--- the sequence ends as infeasible within the allowed pivots: the list is the last tableau's dual, and holds a dual of the
--- program over a scale over 0
+-- the sequence ends as infeasible within the allowed pivots: the list is the last tableau's dual, and holds a dual of
+-- the program over a scale over 0
 pub record EndsInfeasibly (p : LinearProgram) (allowed : ℕ) (dual : List Frac) (k : ℕ) : Type 0 where
   pub within : k ≤ allowed
   pub last : Tableau

@@ -20,13 +20,14 @@ program_of p = record {
   second = λ j. slice_index_or p.second.items j (pos 0);
 }
 
--- rows and columns are below 2^31; each number lies inside the table, and no place has two; there is a
+-- rows and columns are below 2^31; each number lies inside the table, and no cell has two; there is a
 -- right side for each row, and there are two costs at least 0 for each column
 pub record IsProper (p : Problem) : Type 0 where
   pub rows : p.rows < 2 ^ 31
   pub columns : p.cols < 2 ^ 31
   pub inside : (k : ℕ) (e : Entry) → slice_get p.entries.items k ≡ Some e → (e.row < p.rows) × (e.col < p.cols)
-  pub once : (k l : ℕ) (d e : Entry) → k < l → slice_get p.entries.items k ≡ Some d → slice_get p.entries.items l ≡ Some e → (d.row ≡ e.row) → (d.col ≢ e.col)
+  pub once : (k l : ℕ) (d e : Entry) → k < l → slice_get p.entries.items k ≡ Some d
+      → slice_get p.entries.items l ≡ Some e → (d.row ≡ e.row) → (d.col ≢ e.col)
   pub right : length p.right.items ≡ p.rows
   pub first : length p.first.items ≡ p.cols
   pub second : length p.second.items ≡ p.cols

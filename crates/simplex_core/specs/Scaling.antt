@@ -1,8 +1,9 @@
 -- Fractions over a common denominator.
-use Rattle.std.specs.Prelude.{◌≡◌, ℕ, ◌^◌, ◌*◌, ◌<◌, ◌≤◌, ℤ, pos, ◌*ℤ◌, unsigned_abs, List, length, slice_get, Some, ◌⊎◌}
+use Rattle.std.specs.Prelude.{◌≡◌, ℕ, ◌*◌, ◌<◌, ◌≤◌, ℤ, pos, ◌*ℤ◌, unsigned_abs, List, length, slice_get, Some, ◌⊎◌}
 use Rattle.std.specs.Int.{◌∣◌}
 use Rattle.frac128.specs.declared.frac.Frac.{Frac}
 use Rattle.linear_forms.specs.Forms.{at}
+use Rattle.linear_forms.specs.Limits.{certificate_limit, point_limit}
 
 -- n is a common denominator of the first m fractions: each of their denominators divides it
 pub record IsCommon (fs : List Frac) (m n : ℕ) : Type 0 where
@@ -48,21 +49,16 @@ pub record HasNumberOver (fs : List Frac) (den limit : ℕ) : Type 0 where
 -- over no common denominator within one limit do the fractions have numbers within another: none is within, or over the
 -- least one of the fractions is a number over the limit
 pub record HasNoneScaled (fs : List Frac) (den_limit limit : ℕ) : Type 0 where
-  pub each : HasNoCommonWithin fs (length fs) den_limit ⊎ ((den : ℕ) × IsLeastCommon fs (length fs) den × HasNumberOver fs den limit)
+  pub each : HasNoCommonWithin fs (length fs) den_limit
+      ⊎ ((den : ℕ) × IsLeastCommon fs (length fs) den × HasNumberOver fs den limit)
 
--- the most that a number of a scaled solution, or its denominator, may be
-abbrev pub solution_limit : ℕ
-solution_limit = 2 ^ 55
-
--- the most that a number of a scaled dual may be
-abbrev pub dual_limit : ℕ
-dual_limit = 2 ^ 45
-
--- over no common denominator that is within the limit do the fractions have numbers within it
+-- over no common denominator within the limit of certificates do the fractions have numbers within it
 abbrev pub ExceedsSolution : List Frac → Type 0
 ExceedsSolution fs =
-    (numbers : List ℤ) (den : ℕ) → AreOver fs (length fs) numbers den → AreWithin solution_limit (length fs) numbers → ¬ (den ≤ solution_limit)
+    (numbers : List ℤ) (den : ℕ) → AreOver fs (length fs) numbers den → AreWithin certificate_limit (length fs) numbers
+    → ¬ (den ≤ certificate_limit)
 
--- over no common denominator do the fractions have numbers within the limit
+-- over no common denominator do the fractions have numbers within the limit of points
 abbrev pub ExceedsDual : List Frac → Type 0
-ExceedsDual fs = (numbers : List ℤ) (den : ℕ) → AreOver fs (length fs) numbers den → ¬ AreWithin dual_limit (length fs) numbers
+ExceedsDual fs = (numbers : List ℤ) (den : ℕ) → AreOver fs (length fs) numbers den
+    → ¬ AreWithin point_limit (length fs) numbers

@@ -22,15 +22,18 @@ pub record AreSides (p : LinearProgram) (right : List ℤ) : Type 0 where
   pub each : (i : ℕ) → slice_index_or right i (pos 0) ≡ p.right i
 
 -- a tableau that the table shows is in range
-pub record ShowsInRange {Table : Type 0} (shows : LinearProgram → Table → Tableau → Type 0) (table : Table) : Type 0 where
+pub record ShowsInRange {Table : Type 0} (shows : LinearProgram → Table → Tableau → Type 0)
+    (table : Table) : Type 0 where
   pub each : (p : LinearProgram) (t : Tableau) → shows p table t → IsInRange p t
 
 -- a tableau that the table shows is out of range
-pub record ShowsOutOfRange {Table : Type 0} (shows : LinearProgram → Table → Tableau → Type 0) (table : Table) : Type 0 where
+pub record ShowsOutOfRange {Table : Type 0} (shows : LinearProgram → Table → Tableau → Type 0)
+    (table : Table) : Type 0 where
   pub each : (p : LinearProgram) (t : Tableau) → shows p table t → ¬ IsInRange p t
 
 -- the table shows a tableau in range, in which an equation has an entry over 0 in column c
-pub record MayPivot {Table : Type 0} (shows : LinearProgram → Table → Tableau → Type 0) (table : Table) (c : ℕ) : Type 0 where
+pub record MayPivot {Table : Type 0} (shows : LinearProgram → Table → Tableau → Type 0) (table : Table)
+    (c : ℕ) : Type 0 where
   pub p : LinearProgram
   pub t : Tableau
   pub shown : shows p table t
@@ -41,21 +44,25 @@ pub record MayPivot {Table : Type 0} (shows : LinearProgram → Table → Tablea
   pub candidate : is_candidate t c row ≡ true
 
 -- the new table shows the old one's tableau after the pivot at the best row in column c
-pub record IsAdvanced {Table : Type 0} (shows : LinearProgram → Table → Tableau → Type 0) (old new : Table) (c : ℕ) : Type 0 where
+pub record IsAdvanced {Table : Type 0} (shows : LinearProgram → Table → Tableau → Type 0) (old new : Table)
+    (c : ℕ) : Type 0 where
   pub row : ℕ
   pub best : (p : LinearProgram) (t : Tableau) → shows p old t → IsBest p t c p.rows row
   pub pivoted : (p : LinearProgram) (t : Tableau) → shows p old t → shows p new (pivot t row c)
 
 -- the list holds the basic solution of the tableau that the table shows
-pub record GivesSolution {Table : Type 0} (shows : LinearProgram → Table → Tableau → Type 0) (table : Table) (at : List Frac) : Type 0 where
+pub record GivesSolution {Table : Type 0} (shows : LinearProgram → Table → Tableau → Type 0) (table : Table)
+    (at : List Frac) : Type 0 where
   pub each : (p : LinearProgram) (t : Tableau) → shows p table t → HoldsBasicSolution p t at
 
 -- the list holds the basis of the tableau that the table shows
-pub record GivesBasis {Table : Type 0} (shows : LinearProgram → Table → Tableau → Type 0) (table : Table) (basis : List ℕ) : Type 0 where
+pub record GivesBasis {Table : Type 0} (shows : LinearProgram → Table → Tableau → Type 0) (table : Table)
+    (basis : List ℕ) : Type 0 where
   pub each : (p : LinearProgram) (t : Tableau) → shows p table t → HoldsBasis p t basis
 
 -- the table shows a tableau in range of a program with these right sides
-pub record MayGiveDual {Table : Type 0} (shows : LinearProgram → Table → Tableau → Type 0) (table : Table) (right : List ℤ) : Type 0 where
+pub record MayGiveDual {Table : Type 0} (shows : LinearProgram → Table → Tableau → Type 0) (table : Table)
+    (right : List ℤ) : Type 0 where
   pub p : LinearProgram
   pub t : Tableau
   pub shown : shows p table t
@@ -63,5 +70,7 @@ pub record MayGiveDual {Table : Type 0} (shows : LinearProgram → Table → Tab
   pub sides : AreSides p right
 
 -- the list holds the dual of the tableau that the table shows, of a program with these right sides
-pub record GivesDual {Table : Type 0} (shows : LinearProgram → Table → Tableau → Type 0) (table : Table) (right : List ℤ) (dual : List Frac) : Type 0 where
-  pub each : (p : LinearProgram) (t : Tableau) → shows p table t → AreSides p right → HoldsPoint p.rows dual (dual_of p t) (t.scale (cost_row p 0))
+pub record GivesDual {Table : Type 0} (shows : LinearProgram → Table → Tableau → Type 0) (table : Table)
+    (right : List ℤ) (dual : List Frac) : Type 0 where
+  pub each : (p : LinearProgram) (t : Tableau) → shows p table t → AreSides p right
+      → HoldsPoint p.rows dual (dual_of p t) (t.scale (cost_row p 0))

@@ -3,6 +3,7 @@ use Rattle.std.specs.Prelude.{◌≡◌, ℕ, ◌<◌, ◌≤◌, List, length, 
 use Rattle.frac128.specs.declared.frac.Frac.{Frac}
 use Rattle.linear_forms.specs.Forms.{at}
 use Rattle.linear_forms.specs.Causes.{Cause, range, budget, wide, scale}
+use Rattle.linear_forms.specs.Limits.{certificate_limit, point_limit}
 use Rattle.linear_forms.specs.LinearProgram.{LinearProgram, IsSolution, IsLeast, IsDual}
 use Rattle.simplex_core.specs.declared.answers.Cause.{Cause as TripCause}
 use Rattle.simplex_core.specs.declared.answers.Cause.TheVariants.{Range, Budget, Wide, Scale}
@@ -10,7 +11,7 @@ use Rattle.simplex_core.specs.declared.answers.Answer.{Answer}
 use Rattle.simplex_core.specs.declared.answers.Answer.TheVariants.{Solution, Dual, Tripped}
 use Rattle.simplex_core.specs.Problem.{table_size, widest}
 use Rattle.simplex_core.specs.Outcome.{EndsOptimally, EndsInfeasibly, TripsRange, TripsBudget}
-use Rattle.simplex_core.specs.Scaling.{AreScaled, AreWithin, solution_limit, dual_limit, ExceedsSolution, ExceedsDual}
+use Rattle.simplex_core.specs.Scaling.{AreScaled, AreWithin, ExceedsSolution, ExceedsDual}
 
 -- the sequence ends as optimal, and the solution has no whole numbers small enough
 pub record TripsSolution (p : LinearProgram) (allowed : ℕ) : Type 0 where
@@ -43,8 +44,8 @@ cause_of (Budget n) = budget n
 cause_of (Wide n) = wide n
 cause_of Scale = scale
 
--- the numbers over the denominator are the solution of least cost at which the sequence ends, scaled by its least common
--- denominator, and within the limit with it
+-- the numbers over the denominator are the solution of least cost at which the sequence ends, scaled by its least
+-- common denominator, and within the limit with it
 pub record IsScaledSolution (p : LinearProgram) (allowed : ℕ) (numbers : List ℤ) (den : ℕ) : Type 0 where
   pub fits : table_size p ≤ widest
   pub point : List Frac
@@ -52,8 +53,8 @@ pub record IsScaledSolution (p : LinearProgram) (allowed : ℕ) (numbers : List 
   pub k : ℕ
   pub ends : EndsOptimally p allowed point basis k
   pub scaled : AreScaled point numbers den
-  pub within : AreWithin solution_limit (length numbers) numbers
-  pub den_within : den ≤ solution_limit
+  pub within : AreWithin certificate_limit (length numbers) numbers
+  pub den_within : den ≤ certificate_limit
   pub columns : length numbers ≡ p.columns
   pub solution : IsSolution p (at numbers) (pos den)
   pub least : IsLeast p (at numbers) (pos den)
@@ -66,7 +67,7 @@ pub record IsScaledDual (p : LinearProgram) (allowed : ℕ) (numbers : List ℤ)
   pub k : ℕ
   pub ends : EndsInfeasibly p allowed dual k
   pub scaled : AreScaled dual numbers den
-  pub within : AreWithin dual_limit (length numbers) numbers
+  pub within : AreWithin point_limit (length numbers) numbers
   pub rows : length numbers ≡ p.rows
   pub certified : IsDual p (at numbers)
 
@@ -88,9 +89,10 @@ IsSameWholeAnswer (Tripped c) (Solution t) = ⊥
 IsSameWholeAnswer (Tripped c) (Dual t) = ⊥
 IsSameWholeAnswer (Tripped c) (Tripped d) = cause_of c ≡ cause_of d
 
--- of one program within one number of pivots there is one answer in whole numbers: so it trips, and by which cause, or has
--- a solution, or has none; and where one finds numbers for fractions over their least common denominator that aren't
--- within the limits, no other common denominator helps
+-- of one program within one number of pivots there is one answer in whole numbers: so it trips, and by which cause, or
+-- has a solution, or has none; and where one finds numbers for fractions over their least common denominator that
+-- aren't within the limits, no other common denominator helps
 pub record WholeAnswersAreOne : Type 0 where
-  pub each : (p : LinearProgram) (allowed : ℕ) (a b : Answer) → IsWholeAnswer p allowed a → IsWholeAnswer p allowed b → IsSameWholeAnswer a b
+  pub each : (p : LinearProgram) (allowed : ℕ) (a b : Answer) → IsWholeAnswer p allowed a → IsWholeAnswer p allowed b
+      → IsSameWholeAnswer a b
   pub causes : (p : LinearProgram) (allowed : ℕ) (c d : Cause) → Trips p allowed c → Trips p allowed d → c ≡ d

@@ -9,10 +9,10 @@ use crate::scaling::{Scaled, scale_by_least};
 use crate::solving::solve;
 use std::alloc::{AllocError, Global};
 
-/// The most that a number of a scaled solution, or its denominator, may be.
+/// The limit of certificates: the most that a number of a scaled solution, or its denominator, may be.
 const SOLUTION_LIMIT: u64 = 1 << 55;
 
-/// The most that a number of a scaled dual may be.
+/// The limit of points: the most that a number of a scaled dual may be.
 const DUAL_LIMIT: u64 = 1 << 45;
 
 /// What no denominator of a dual whose numbers are within their limit passes.

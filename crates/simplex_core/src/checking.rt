@@ -9,8 +9,8 @@ use crate::problem::Entry;
 pub(crate) fn are_below(numbers: &[i128]) -> bool
     ensures { MatchBool result (AreBelow numbers.now) (IsOneAbove numbers.now) }
 {
-    for place in 0..numbers.len() {
-        if numbers[place].unsigned_abs() >= 1 << 31 {
+    for position in 0..numbers.len() {
+        if numbers[position].unsigned_abs() >= 1 << 31 {
             return false;
         }
     }
@@ -21,8 +21,8 @@ pub(crate) fn are_below(numbers: &[i128]) -> bool
 pub(crate) fn are_entries_below(entries: &[Entry]) -> bool
     ensures { MatchBool result (AreEntriesBelow entries.now) (IsOneEntryAbove entries.now) }
 {
-    for place in 0..entries.len() {
-        if entries[place].value.unsigned_abs() >= 1 << 31 {
+    for position in 0..entries.len() {
+        if entries[position].value.unsigned_abs() >= 1 << 31 {
             return false;
         }
     }

@@ -14,9 +14,9 @@ ghost use Rattle.std.specs.Prelude.{◌≡◌, ℕ, ◌+◌, ◌*◌, ◌<◌, �
 pub(crate) use first::{first_table, tested};
 use frac128::Frac;
 
-/// The fractions of a tableau: a row for each equation, then three cost rows. A row has the
-/// unknowns, with the artificial ones behind, and the right side; of a cost row the last place is unused. `is_small` notes
-/// whether all numbers are below 2^31.
+/// The fractions of a tableau: a row for each equation, then three cost rows. A row has the unknowns, with the artificial
+/// ones behind, and the right side; of a cost row the last column is unused. `is_small` notes whether all numbers are below
+/// 2^31.
 #[derive(Debug, Drop)]
 pub(crate) struct DenseTable {
     numbers: Vec<Frac>,
@@ -53,8 +53,8 @@ impl DenseTable {
         }
     }
 
-    /// The place of a number.
-    fn place(&self, row: usize, column: usize) -> usize
+    /// The position of a number.
+    fn position(&self, row: usize, column: usize) -> usize
         requires row { row < self.now.rows + 3 }
         requires column { column < width self.now }
         ensures is { result ≡ row * width self.now + column }
@@ -69,7 +69,7 @@ impl DenseTable {
         requires column { column < width self.now }
         ensures { cell self.now row column ≡ Some result }
     {
-        self.numbers[self.place(row, column)]
+        self.numbers[self.position(row, column)]
     }
 
     /// Writes a number.
@@ -79,7 +79,7 @@ impl DenseTable {
         ensures changes { ChangesCell self.old self.new row column }
         ensures written { cell self.new row column ≡ Some number }
     {
-        let place = self.place(row, column);
-        self.numbers[place] = number;
+        let position = self.position(row, column);
+        self.numbers[position] = number;
     }
 }

@@ -34,8 +34,9 @@ pub fn answers_are_one()
     ensures { AnswersAreOne }
 {}
 
-/// Linear programs that agree inside their rows and columns have the same answers. That they have the same solutions,
-/// least points and duals is `linear_forms::agreeing_programs_are_the_same`.
+/// Linear programs that agree inside their rows and columns have the same answers, also in whole numbers, and trip by the
+/// same causes. That they have the same solutions, least points and duals is
+/// `linear_forms::agreeing_programs_are_the_same`.
 pub fn agreeing_programs_answer_the_same()
     ensures { AgreeingProgramsAnswerTheSame }
 {}

@@ -2,6 +2,7 @@
 
 ghost use Rattle.std.specs.Prelude.{◌≡◌, ℕ, ◌^◌, ◌*◌, ◌<◌, ◌≤◌, ℤ, pos, ◌*ℤ◌, unsigned_abs, length, MatchOption, IfOk};
 ghost use Rattle.std.specs.Int.{◌∣◌};
+ghost use Rattle.linear_forms.specs.Limits.{certificate_limit};
 ghost use Rattle.simplex_core.specs.Scaling.{IsLeastCommon, HasNoCommonWithin, AreOver, AreWithin, AreScaled, IsNumberOver, HasNoneScaled, HasNumberOver};
 
 use frac128::Frac;
@@ -25,7 +26,7 @@ pub(crate) fn scale_by_least(
     limit: u64,
 ) -> Result<Option<Scaled>, AllocError>
     requires den_limit { (0 < den_limit) × (den_limit < 2 ^ 127) }
-    requires limit { limit ≤ 2 ^ 55 }
+    requires limit { limit ≤ certificate_limit }
     ensures { IfOk result (λ answer. MatchOption answer (HasNoneScaled fractions.now den_limit limit)
         (λ s. AreScaled fractions.now s.numbers.items s.den × AreWithin limit (length s.numbers.items) s.numbers.items × (s.den ≤ den_limit))) }
 {
@@ -60,7 +61,7 @@ fn numbers_over(
 ) -> Result<Option<Vec<i64>>, AllocError>
     requires common { IsLeastCommon fractions.now (length fractions.now) den }
     requires den_limit { den < 2 ^ 127 }
-    requires limit { limit ≤ 2 ^ 55 }
+    requires limit { limit ≤ certificate_limit }
     ensures { IfOk result (λ answer. MatchOption answer (HasNumberOver fractions.now den limit)
         (λ numbers. (length numbers.items ≡ length fractions.now) × AreOver fractions.now (length fractions.now) numbers.items den
         × AreWithin limit (length fractions.now) numbers.items)) }
@@ -80,7 +81,7 @@ fn number_over(number: Frac, den: u128, limit: u64) -> Option<i64>
     requires positive { 0 < den }
     requires den_limit { den < 2 ^ 127 }
     requires divides { unsigned_abs number.den ∣ den }
-    requires limit { limit ≤ 2 ^ 55 }
+    requires limit { limit ≤ certificate_limit }
     ensures { MatchOption result (IsNumberOver number den limit) (λ n. (n *ℤ number.den ≡ number.num *ℤ pos den) × (unsigned_abs n ≤ limit)) }
 {
     let times = den / number.den.unsigned_abs();
@@ -90,10 +91,10 @@ fn number_over(number: Frac, den: u128, limit: u64) -> Option<i64>
     Some(narrow_product(number.num, times))
 }
 
-/// The product of numbers whose absolute values have a product of at most 2^55.
+/// The product of numbers whose absolute values have a product within the limit of certificates.
 fn narrow_product(number: i128, times: u128) -> i64
     requires times { times < 2 ^ 127 }
-    requires narrow { unsigned_abs number * times ≤ 2 ^ 55 }
+    requires narrow { unsigned_abs number * times ≤ certificate_limit }
     ensures { result ≡ number *ℤ pos times }
 {
     (number * times as i128) as i64

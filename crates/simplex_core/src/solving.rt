@@ -32,7 +32,7 @@ fn has_small_numbers(problem: &Problem) -> bool
     are_below(problem.second.as_slice())
 }
 
-/// Condition: rows and columns are below 2^31, entries lie inside the table and no place has two, and there is a right
+/// Condition: rows and columns are below 2^31, entries lie inside the table and no cell has two, and there is a right
 /// side for each row and two costs at least 0 for each column.
 ///
 /// Follows Bland's sequence of tableaux, which starts with artificial unknowns, for at most `pivots`

@@ -5,7 +5,7 @@ ghost use Rattle.int_laws.specs.Sums.{sum_to};
 ghost use Rattle.simplex_core.specs.Tableau.{sign_of};
 ghost use Rattle.simplex_core.specs.Cells.{width};
 ghost use Rattle.simplex_core.specs.Building.{HoldsWhole, WritesWhole, KeepsShape, signed_entries, with_equations, with_costs, HasSmallEquations, KeepsEquations};
-ghost use Rattle.simplex_core.specs.Numbers.{ArePlaced, AreBelow, AreEntriesBelow};
+ghost use Rattle.simplex_core.specs.Numbers.{AreInCells, AreBelow, AreEntriesBelow};
 
 use crate::arithmetic::signed;
 use crate::dense_table::DenseTable;
@@ -39,15 +39,15 @@ impl DenseTable {
 
     /// Writes the entries into a table of zeros, with the signs of the right sides.
     pub(super) fn write_entries(&mut self, entries: &[Entry], right: &[i128])
-        requires placed { ArePlaced self.old.rows self.old.columns entries.now }
+        requires cells { AreInCells self.old.rows self.old.columns entries.now }
         requires small { AreEntriesBelow entries.now }
         requires right { length right.now ≡ self.old.rows }
         requires zeros { HoldsWhole self.old (λ _ _. pos 0) }
         ensures shape { KeepsShape self.old self.new }
         ensures whole { HoldsWhole self.new (signed_entries entries.now right.now) }
     {
-        for place in 0..entries.len() {
-            let entry = entries[place];
+        for position in 0..entries.len() {
+            let entry = entries[position];
             self.write_entry(entry, right[entry.row as usize]);
         }
     }

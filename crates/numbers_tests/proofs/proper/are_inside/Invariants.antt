@@ -4,5 +4,5 @@ use Rattle.simplex_core.specs.declared.problem.Entry.{Entry}
 use Rattle.numbers_tests.proofs.proper.are_inside.Given as goal
 
 -- the numbers before this one lie inside
-abbrev pub invariant-loop-place : goal.invariant-loop-place
-invariant-loop-place l = (k : ℕ) (e : Entry) → k < l.place → slice_get l.entries k ≡ Some e → (e.row < l.rows) × (e.col < l.cols)
+abbrev pub invariant-loop-position : goal.invariant-loop-position
+invariant-loop-position l = (k : ℕ) (e : Entry) → k < l.position → slice_get l.entries k ≡ Some e → (e.row < l.rows) × (e.col < l.cols)

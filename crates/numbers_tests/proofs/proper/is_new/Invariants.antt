@@ -4,5 +4,5 @@ use Rattle.simplex_core.specs.declared.problem.Entry.{Entry}
 use Rattle.numbers_tests.proofs.proper.is_new.Given as goal
 
 -- the numbers before this one stand elsewhere
-abbrev pub invariant-loop-place : goal.invariant-loop-place
-invariant-loop-place l = (k : ℕ) (d : Entry) → k < l.place → slice_get l.entries k ≡ Some d → d.row ≡ l.entry.row → d.col ≢ l.entry.col
+abbrev pub invariant-loop-position : goal.invariant-loop-position
+invariant-loop-position l = (k : ℕ) (d : Entry) → k < l.position → slice_get l.entries k ≡ Some d → d.row ≡ l.entry.row → d.col ≢ l.entry.col

@@ -4,5 +4,5 @@ use Rattle.simplex_core.specs.declared.problem.Entry.{Entry}
 use Rattle.simplex_core.proofs.checking.are_entries_below.Given as goal
 
 -- the numbers of the entries before this one are below the limit
-abbrev pub invariant-loop-place : goal.invariant-loop-place
-invariant-loop-place l = (k : ℕ) (e : Entry) → k < l.place → slice_get l.entries k ≡ Some e → unsigned_abs e.value < 2 ^ 31
+abbrev pub invariant-loop-position : goal.invariant-loop-position
+invariant-loop-position l = (k : ℕ) (e : Entry) → k < l.position → slice_get l.entries k ≡ Some e → unsigned_abs e.value < 2 ^ 31

@@ -1,4 +1,4 @@
-use Rattle.std.proofs.Common.{◌≡◌, ◌+◌, subst, Bool, true, false}
+use Rattle.std.proofs.Common.{◌+◌, subst, Bool}
 use Rattle.std.specs.Prelude.{MatchBool}
 use Rattle.simplex_core.specs.Cells.{AreSmallBut, HasLargeBut}
 use Rattle.simplex_core.proofs.SmallRows.{large-but, small-all}

@@ -14,8 +14,8 @@ returns c p t shows =
     let based = c.args.self.now.based in
     let at = get_or_from_slice_get items c.args.row c.index.result.now 0 (slice_get_read items (length items) c.args.row c.index.result.now refl (omega arith) c.index.ensures) in
     let basis_is = sym at ∙ shows.basis c.args.row (omega arith) in
-    let place : c.args.self.now.columns + c.args.self.now.rows ≡ unknowns p = omega arith in
+    let position : c.args.self.now.columns + c.args.self.now.rows ≡ unknowns p = omega arith in
     let above : p.columns ≤ t.basis c.args.row = omega arith in
     c.is_positive_at.ensures p t shows
-    ∙ (ap (λ (k : ℕ). int_lt (pos 0) (t.entry c.args.row k)) place
+    ∙ (ap (λ (k : ℕ). int_lt (pos 0) (t.entry c.args.row k)) position
     ∙ sym (ap (λ (b : Bool). b && int_lt (pos 0) (t.entry c.args.row (unknowns p))) (le-leb p.columns (t.basis c.args.row) above)))

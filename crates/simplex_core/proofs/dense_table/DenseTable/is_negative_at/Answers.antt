@@ -2,7 +2,7 @@ use Rattle.std.proofs.Common.{◌≡◌, ap, ◌∙◌, to_z, of_z, arith}
 use Rattle.std.specs.Int.{w128}
 use Rattle.std.specs.Prelude.{ℤ, pos, int_lt}
 use Rattle.std.proofs.lemmas.Int.{ints}
-use Rattle.simplex_core.specs.Places.{InTable}
+use Rattle.simplex_core.specs.Positions.{InTable}
 use Rattle.simplex_core.proofs.Signs.{negative-shows}
 use Rattle.simplex_core.proofs.dense_table.DenseTable.is_negative_at.Goals as goal
 

@@ -2,7 +2,7 @@ use Rattle.std.proofs.Common.{◌∙◌, arith}
 use Rattle.std.specs.Int.{w128}
 use Rattle.std.specs.Prelude.{FitsSigned}
 use Rattle.std.proofs.lemmas.Int.{ints}
-use Rattle.simplex_core.specs.Places.{InTable}
+use Rattle.simplex_core.specs.Positions.{InTable}
 use Rattle.simplex_core.proofs.Signs.{zero-shows, zero-test}
 use Rattle.simplex_core.proofs.dense_table.DenseTable.is_zero_at.Goals as goal
 

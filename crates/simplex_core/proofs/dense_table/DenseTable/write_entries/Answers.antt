@@ -9,21 +9,21 @@ use Rattle.simplex_core.specs.Building.{WritesWhole}
 use Rattle.simplex_core.proofs.WrittenNumbers.{entries-step}
 use Rattle.simplex_core.proofs.dense_table.DenseTable.write_entries.Goals as goal
 
-pub loop-place-preserved : goal.loop-place-preserved
-loop-place-preserved c =
-    let inv = c.loop-place.invariant in
+pub loop-position-preserved : goal.loop-position-preserved
+loop-position-preserved c =
+    let inv = c.loop-position.invariant in
     let entries = c.args.entries.now in
     let right = c.args.right.now in
-    let place = c.loop-place.place in
+    let position = c.loop-position.position in
     let none : Entry = record { row = 0; col = 0; value = pos 0 } in
-    let e = get_or entries place none in
-    let within = c.loop-place-test.true in
-    let is = slice_get-get_or entries place none (omega arith) in
+    let e = get_or entries position none in
+    let within = c.loop-position-test.true in
+    let is = slice_get-get_or entries position none (omega arith) in
     let fits : FitsSigned w128 (slice_index_or right e.row (pos 0)) = search rules in
     let value = to_z-of_z w128 (slice_index_or right e.row (pos 0)) fits in
-    let written = subst (λ (z : ℤ). WritesWhole c.loop-place.self c.write_entry.new.self e.row e.col (sign_of z *ℤ e.value)) value c.write_entry.ensures in
+    let written = subst (λ (z : ℤ). WritesWhole c.loop-position.self c.write_entry.new.self e.row e.col (sign_of z *ℤ e.value)) value c.write_entry.ensures in
     let changes = c.write_entry.ensures.changes in
     record {
       shape = record { rows = changes.rows ∙ inv.shape.rows; columns = changes.columns ∙ inv.shape.columns; basis = changes.basis ∙ inv.shape.basis };
-      whole = entries-step c.args.self.now.rows c.args.self.now.columns c.loop-place.self c.write_entry.new.self entries right place e c.requires.placed is inv.whole written;
+      whole = entries-step c.args.self.now.rows c.args.self.now.columns c.loop-position.self c.write_entry.new.self entries right position e c.requires.cells is inv.whole written;
     }

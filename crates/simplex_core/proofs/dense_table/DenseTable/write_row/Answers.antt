@@ -16,9 +16,9 @@ returns-clause-whole c g sides is holds =
     let rows = c.write.ensures.changes.rows in
     let columns = c.write.ensures.changes.columns in
     let right = to_z-of_z w128 c.args.right c.ranges.right in
-    let place : middle.columns + middle.rows ≡ table.columns + table.rows = omega arith in
+    let position : middle.columns + middle.rows ≡ table.columns + table.rows = omega arith in
     let value = c.signed.ensures.value ∙ ap (λ (z : ℤ). sign_of z *ℤ z) (right ∙ sym is) in
     let number : to_z w128 (of_z w128 c.signed.result) ≡ c.signed.result = omega (arith, ints) in
     equations-step table.rows table.columns sides g row table middle last c.requires.row holds c.write.ensures
     (subst (λ (z : ℤ). WritesWhole middle last row (table.columns + table.rows) z) (number ∙ value)
-    (subst (λ (k : ℕ). WritesWhole middle last row k (to_z w128 (of_z w128 c.signed.result))) place c.write-2.ensures))
+    (subst (λ (k : ℕ). WritesWhole middle last row k (to_z w128 (of_z w128 c.signed.result))) position c.write-2.ensures))

@@ -1,6 +1,6 @@
 use Rattle.std.proofs.Common.{arith, ◌∙◌}
 use Rattle.std.specs.Prelude.{pos}
-use Rattle.simplex_core.specs.Places.{InTable}
+use Rattle.simplex_core.specs.Positions.{InTable}
 use Rattle.simplex_core.proofs.Signs.{positive-shows}
 use Rattle.simplex_core.proofs.Choices.{int_lt-true}
 use Rattle.simplex_core.proofs.Ranges.{in_range-small}

@@ -1,12 +1,12 @@
--- The places of a table's numbers in one list.
+-- The positions of a table's numbers in one list.
 use Rattle.std.proofs.Common.{◌≡◌, ◌≢◌, ℕ, zero, suc, ◌+◌, ◌*◌, ◌<◌, ◌≤◌, ap, arith, refl, sym, ◌⊎◌, inl, inr, List, [], ◌∷◌, length, Some}
 use Rattle.std.specs.Prelude.{slice_get, slice_set}
 use Rattle.std.proofs.Math.Nat.{mul-le-mul_right}
 use Rattle.std.proofs.lemmas.Bool.{cases_lt}
 
--- two places are the same only where row and column are
-pub same_place : (w i j r c : ℕ) → j < w → c < w → i * w + j ≡ r * w + c → (i ≡ r) × (j ≡ c)
-same_place w i j r c lj lc e = go (cases_lt i r) (cases_lt r i)
+-- two positions are the same only where row and column are
+pub same_position : (w i j r c : ℕ) → j < w → c < w → i * w + j ≡ r * w + c → (i ≡ r) × (j ≡ c)
+same_position w i j r c lj lc e = go (cases_lt i r) (cases_lt r i)
   where
     apart : (a b x y : ℕ) → a < b → x < w → a * w + x ≡ b * w + y → ⊥
     apart a b x y l lx e = let m = mul-le-mul_right w l in omega (arith, e, m)

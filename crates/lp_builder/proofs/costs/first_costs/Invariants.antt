@@ -1,0 +1,7 @@
+use Rattle.std.proofs.Common.{◌≡◌, map, take}
+use Rattle.linear_forms.specs.Questions.{on_both}
+use Rattle.lp_builder.proofs.costs.first_costs.Given as goal
+
+-- the costs of the parameters so far
+abbrev pub invariant-loop-cost : goal.invariant-loop-cost
+invariant-loop-cost l = l.first.items ≡ on_both (map (λ c. c.size) (take l.cost-index l.costs))

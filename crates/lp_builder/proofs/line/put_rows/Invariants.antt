@@ -1,0 +1,11 @@
+use Rattle.std.proofs.Common.{◌≡◌, ◌+◌, map, take}
+use Rattle.std.specs.Prelude.{neg_ℤ}
+use Rattle.linear_forms.specs.Questions.{number}
+use Rattle.poly_terms.specs.Views.{form_of}
+use Rattle.lp_builder.specs.Entries.{Writes}
+use Rattle.lp_builder.proofs.line.put_rows.Given as goal
+
+-- the rows so far are written
+abbrev pub invariant-loop-row : goal.invariant-loop-row
+invariant-loop-row l =
+    Writes l.initial.sheet l.sheet (map (λ r. neg_ℤ (number l.line.unknowns l.line.number r)) (map form_of (take l.row-index l.rows))) × (l.sheet.col ≡ l.initial.sheet.col + l.row-index)

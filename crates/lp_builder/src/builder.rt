@@ -1,0 +1,99 @@
+//! The problem of a question while its groups are written.
+
+ghost use Rattle.std.specs.Prelude.{◌≡◌, ℕ, ◌+◌, ◌*◌, ◌<◌, ◌^◌, [], length, IfOk};
+
+use crate::costs::{first_costs, second_costs};
+use crate::description::{Cost, Goal};
+use crate::line::{Line, put_line};
+use crate::sheet::Sheet;
+use poly_terms::Row;
+use simplex_core::Problem;
+use std::alloc::{AllocError, Global};
+
+/// The lines of the groups that are written so far, of a question with so many parameters. `columns` are those of the
+/// groups.
+#[derive(Debug, Drop)]
+pub struct Builder {
+    sheet: Sheet,
+    right: Vec<i128>,
+    parameters: u32,
+    columns: u32,
+}
+
+impl Builder {
+    ghost use Rattle.lp_builder.specs.Builders.{parameter_count, row_count, column_count, IsReady, Holds, Adds, IsBuilt};
+    ghost use Rattle.lp_builder.specs.Descriptions.{group_of, AreWritable};
+
+    /// No group is written yet.
+    pub fn new(alloc: Global, parameters: u32) -> Builder
+        requires { parameters < 2 ^ 30 }
+        ensures ready { IsReady result }
+        ensures holds { Holds result [] }
+        ensures parameters { parameter_count result ≡ parameters }
+        ensures rows { row_count result ≡ 0 }
+        ensures columns { column_count result ≡ 2 * parameters }
+    {
+        Builder {
+            sheet: Sheet::new(alloc),
+            right: Vec::new(alloc),
+            parameters,
+            columns: 0,
+        }
+    }
+
+    /// Writes a group: what is to follow from the rows is the sum of the goals, each as often as its parameter says, and
+    /// the fixed form. Error: memory ran out; what is written is then open.
+    pub fn add_group(
+        &mut self,
+        unknowns: u32,
+        rows: &[Row],
+        goals: &[Goal],
+        fixed: &Row,
+    ) -> Result<(), AllocError>
+        requires ready { IsReady self.old }
+        requires writable { AreWritable (parameter_count self.old) unknowns rows.now goals.now fixed.now }
+        requires few_rows { row_count self.old + unknowns + 1 < 2 ^ 31 }
+        requires few_columns { column_count self.old + length rows.now + 1 < 2 ^ 31 }
+        ensures { IfOk result (λ _. Adds self.old self.new (group_of (parameter_count self.old) unknowns rows.now goals.now fixed.now)) }
+    {
+        for number in 0..unknowns + 1 {
+            let line = Line { unknowns, number };
+            put_line(
+                &mut self.sheet,
+                line,
+                self.parameters,
+                self.columns,
+                goals,
+                rows,
+            )?;
+            self.sheet.next_row();
+            self.right.push(line.less(fixed))?;
+        }
+        self.columns += rows.len() as u32 + 1;
+        Ok(())
+    }
+
+    /// The problem whose parameters have these costs. Error: memory ran out.
+    pub fn finish(self, alloc: Global, costs: &[Cost]) -> Result<Problem, AllocError>
+        requires ready { IsReady self }
+        requires costs { length costs.now ≡ parameter_count self }
+        ensures { IfOk result (λ p. IsBuilt self costs.now p) }
+    {
+        let first = first_costs(alloc, costs, self.columns)?;
+        let second = second_costs(alloc, costs, self.columns)?;
+        let Builder {
+            sheet,
+            right,
+            parameters,
+            columns,
+        } = self;
+        Ok(Problem {
+            rows: sheet.row,
+            cols: 2 * parameters + columns,
+            entries: sheet.entries,
+            right,
+            first,
+            second,
+        })
+    }
+}

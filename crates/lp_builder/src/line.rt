@@ -1,0 +1,128 @@
+//! The numbers of one line of a group.
+
+ghost use Rattle.std.specs.Prelude.{◌≡◌, ℕ, ◌+◌, ◌*◌, ◌<◌, ◌^◌, ◌++◌, [], ◌∷◌, pos, negsuc, neg_ℤ, unsigned_abs, map, length, replicate, IfOk};
+ghost use Rattle.std.specs.List.{All};
+ghost use Rattle.linear_forms.specs.Forms.{at};
+ghost use Rattle.linear_forms.specs.Questions.{number, slack, signed};
+ghost use Rattle.poly_terms.specs.Views.{form_of};
+ghost use Rattle.lp_builder.specs.Descriptions.{goal_forms, AreParameters, IsWritable};
+ghost use Rattle.lp_builder.specs.Entries.{Writes};
+
+use crate::description::Goal;
+use crate::sheet::Sheet;
+use poly_terms::Row;
+use std::alloc::AllocError;
+
+/// A line of a group with so many unknowns: that of the unknown of its number, or, behind them, that of the constant.
+#[derive(Clone, Copy, Debug)]
+pub(crate) struct Line {
+    pub(crate) unknowns: u32,
+    pub(crate) number: u32,
+}
+
+impl Line {
+    /// The number of a form on the line.
+    fn of(self, form: &Row) -> i128
+        ensures { result ≡ number self.unknowns self.number (form_of form.now) }
+    {
+        if self.number < self.unknowns {
+            coefficient(&form.coefs, self.number as usize)
+        } else {
+            form.constant
+        }
+    }
+
+    /// Less the number of a form on the line.
+    pub(crate) fn less(self, form: &Row) -> i128
+        requires { IsWritable self.unknowns (form_of form.now) }
+        ensures { result ≡ neg_ℤ (number self.unknowns self.number (form_of form.now)) }
+    {
+        -self.of(form)
+    }
+
+    /// The number of the slack on the line.
+    fn slack(self) -> i128
+        ensures { result ≡ slack self.unknowns self.number }
+    {
+        if self.number < self.unknowns { 0 } else { -1 }
+    }
+}
+
+/// The coefficient of an unknown, 0 where it isn't listed.
+fn coefficient(coefs: &[i128], unknown: usize) -> i128
+    ensures { result ≡ at coefs.now unknown }
+{
+    match coefs.get(unknown) {
+        Some(coef) => *coef,
+        None => 0,
+    }
+}
+
+/// Writes a number and then its negation.
+fn put_pair(sheet: &mut Sheet, value: i128) -> Result<(), AllocError>
+    requires room { sheet.old.col + 2 < 2 ^ 32 }
+    requires narrow { unsigned_abs value < 2 ^ 127 }
+    ensures { IfOk result (λ _. Writes sheet.old sheet.new (value ∷ neg_ℤ value ∷ [])) }
+{
+    sheet.put(value)?;
+    sheet.put(-value)
+}
+
+/// Writes the pairs of the parameters.
+pub(crate) fn put_goals(
+    sheet: &mut Sheet,
+    line: Line,
+    parameters: u32,
+    goals: &[Goal],
+) -> Result<(), AllocError>
+    requires room { sheet.old.col + 2 * parameters < 2 ^ 32 }
+    requires listed { AreParameters parameters goals.now }
+    requires writable { All (λ g. IsWritable line.unknowns (form_of g.form)) goals.now }
+    ensures { IfOk result (λ _. Writes sheet.old sheet.new (signed (map (number line.unknowns line.number) (goal_forms 0 parameters goals.now)))
+        × (sheet.new.col ≡ sheet.old.col + 2 * parameters)) }
+{
+    let mut next = 0;
+    for goal in goals {
+        sheet.skip(2 * (goal.parameter - next));
+        put_pair(sheet, line.of(&goal.form))?;
+        next = goal.parameter + 1;
+    }
+    sheet.skip(2 * (parameters - next));
+    Ok(())
+}
+
+/// Writes the negations of the rows' numbers, one for each multiplier.
+pub(crate) fn put_rows(sheet: &mut Sheet, line: Line, rows: &[Row]) -> Result<(), AllocError>
+    requires room { sheet.old.col + length rows.now < 2 ^ 32 }
+    requires writable { All (λ r. IsWritable line.unknowns (form_of r)) rows.now }
+    ensures { IfOk result (λ _. Writes sheet.old sheet.new (map (λ r. neg_ℤ (number line.unknowns line.number r)) (map form_of rows.now))
+        × (sheet.new.col ≡ sheet.old.col + length rows.now)) }
+{
+    for row in rows {
+        sheet.put(line.less(row))?;
+    }
+    Ok(())
+}
+
+/// Writes a line of a group: the pairs of the parameters, zeros for the columns of the groups before, the rows and the
+/// slack.
+pub(crate) fn put_line(
+    sheet: &mut Sheet,
+    line: Line,
+    parameters: u32,
+    before: u32,
+    goals: &[Goal],
+    rows: &[Row],
+) -> Result<(), AllocError>
+    requires room { sheet.old.col + 2 * parameters + before + length rows.now + 1 < 2 ^ 32 }
+    requires listed { AreParameters parameters goals.now }
+    requires goals_writable { All (λ g. IsWritable line.unknowns (form_of g.form)) goals.now }
+    requires rows_writable { All (λ r. IsWritable line.unknowns (form_of r)) rows.now }
+    ensures { IfOk result (λ _. Writes sheet.old sheet.new (signed (map (number line.unknowns line.number) (goal_forms 0 parameters goals.now))
+        ++ (replicate before (pos 0) ++ (map (λ r. neg_ℤ (number line.unknowns line.number r)) (map form_of rows.now) ++ (slack line.unknowns line.number ∷ []))))) }
+{
+    put_goals(sheet, line, parameters, goals)?;
+    sheet.skip(before);
+    put_rows(sheet, line, rows)?;
+    sheet.put(line.slack())
+}

@@ -1,0 +1,52 @@
+-- Forms that are at least a new value, the least of a kind, and rays along which no form is.
+use Rattle.std.specs.Prelude.{◌≡◌, ℕ, ◌+◌, ◌*◌, ◌<◌, ◌≤◌, List, [], ◌∷◌, ◌++◌, ℤ, pos, negsuc, ◌*ℤ◌, nat_abs, ◌≤ℤ◌, ◌<ℤ◌}
+use Rattle.std.specs.List.{All}
+use Rattle.linear_forms.specs.Forms.{Form, form_value}
+use Rattle.linear_forms.specs.Points.{IsPoint, IsRay}
+use Rattle.rule_forms.specs.Kinds.{Kind, IsOfKind}
+
+-- the form g over q is at least w on every rational point of the rows
+pub record IsAbove (rows : List Form) (w g : Form) (q : ℕ) : Type 0 where
+  pub each : (z : ℕ → ℤ) (d : ℤ) → IsPoint rows z d → (pos q *ℤ form_value w z d) ≤ℤ form_value g z d
+
+-- no form of a kind is
+pub record HasNone (rows : List Form) (left : ℕ) (w : Form) (kind : Kind) : Type 0 where
+  pub each : (g : Form) (q : ℕ) → 1 ≤ q → IsOfKind left kind g q → ¬ (IsAbove rows w g q)
+
+-- the absolute coefficients of a list, added up
+abbrev pub total_size : List ℤ → ℕ
+total_size [] = 0
+total_size (c ∷ cs) = nat_abs c + total_size cs
+
+-- the positive part of the constant
+abbrev pub height : ℤ → ℕ
+height (pos n) = n
+height (negsuc n) = 0
+
+-- g over q weighs at most h over e, by cross products: by the absolute coefficients and, where these are the same, by
+-- the positive part of the constant
+pub record WeighsAtMost (g : Form) (q : ℕ) (h : Form) (e : ℕ) : Type 0 where
+  pub sizes : total_size g.coefs * e ≤ total_size h.coefs * q
+  pub heights : total_size g.coefs * e ≡ total_size h.coefs * q → height g.constant * e ≤ height h.constant * q
+
+-- no form of the kind that is at least w weighs less
+pub record IsLeastOf (rows : List Form) (left : ℕ) (w : Form) (kind : Kind) (g : Form) (q : ℕ) : Type 0 where
+  pub each : (h : Form) (e : ℕ) → 1 ≤ e → IsOfKind left kind h e → IsAbove rows w h e → WeighsAtMost g q h e
+
+-- g over q is the first form that is at least w: it is of a kind of which no kind before has any, and the least of it
+pub record IsFirstOf (rows : List Form) (left : ℕ) (w : Form) (kinds : List Kind) (g : Form) (q : ℕ) : Type 0 where
+  pub kind : Kind
+  pub before : List Kind
+  pub behind : List Kind
+  pub order : kinds ≡ before ++ kind ∷ behind
+  pub none : All (HasNone rows left w) before
+  pub positive : 1 ≤ q
+  pub of_kind : IsOfKind left kind g q
+  pub above : IsAbove rows w g q
+  pub least : IsLeastOf rows left w kind g q
+
+-- a ray of the rows along which w rises and no left argument moves
+pub record IsLooseRay (rows : List Form) (left : ℕ) (w : Form) (z : ℕ → ℤ) : Type 0 where
+  pub ray : IsRay rows z
+  pub still : (j : ℕ) → j < left → z j ≡ pos 0
+  pub rises : pos 0 <ℤ form_value w z (pos 0)

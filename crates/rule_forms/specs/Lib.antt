@@ -1,0 +1,10 @@
+-- bounds on the new value at a place of a rule: the kinds of forms, what it is for one to be a bound, and what a linear
+-- program says of them
+pub mod Kinds
+pub mod Bounds
+pub mod Questions
+pub mod Laws
+pub mod Ranking
+pub mod RankLaws
+pub mod Worked
+pub mod WorkedRanks

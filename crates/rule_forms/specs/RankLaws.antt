@@ -1,0 +1,91 @@
+-- What the linear program of a rank question says of functions.
+use Rattle.std.specs.Prelude.{◌≡◌, ℕ, suc, ◌≤◌, ◌<◌, ◌&&◌, nat_eq, if◌then◌else◌, List, [], ◌∷◌, length, slice_index_or, ℤ, pos, ◌+ℤ◌, nat_abs}
+use Rattle.std.specs.List.{All}
+use Rattle.linear_forms.specs.Forms.{Form}
+use Rattle.linear_forms.specs.Certificates.{Implies}
+use Rattle.linear_forms.specs.Combinations.{form_sum}
+use Rattle.linear_forms.specs.LinearProgram.{IsSolution, IsLeast, IsDual}
+use Rattle.linear_forms.specs.Questions.{listed, double, program_of_question}
+use Rattle.linear_forms.specs.QuestionLaws.{after, parameters_of, multipliers_by_group}
+use Rattle.linear_forms.specs.RuleQuestions.{RuleForms, RankedSet, Coefficient, constant_form, opposite, symbols_of_set, coefficients, rank_question}
+use Rattle.rule_forms.specs.Laws.{HasPoint}
+use Rattle.rule_forms.specs.Ranking.{Function, at_news, Ranks, Fits, NoRank, IsLeastRank}
+
+-- a rule leads between symbols of the program, has a left variable for each place of its source and a new value for
+-- each place of its target, and its forms have no coefficient past its unknowns
+pub record IsRuleOf (b : RankedSet) (r : RuleForms) : Type 0 where
+  pub source : r.source < b.symbols
+  pub target : r.target < b.symbols
+  pub left : r.left ≡ b.arity r.source
+  pub unknowns : r.left ≤ r.unknowns
+  pub values : length r.news ≡ b.arity r.target
+  pub rows_fit : All (λ f. length f.coefs ≤ r.unknowns) r.rows
+  pub news_fit : All (λ f. length f.coefs ≤ r.unknowns) r.news
+
+-- all rules of the set are such rules, and the rule that has to decrease is one of them
+pub record IsSetOf (b : RankedSet) : Type 0 where
+  pub rules : All (λ t. IsRuleOf b (b.rule t)) b.set
+  pub inside : ℕ
+  pub at_inside : inside < length b.set
+  pub strict : slice_index_or b.set inside 0 ≡ b.strict
+
+-- each rule of the set has a rational point
+pub record HavePointsOf (b : RankedSet) : Type 0 where
+  pub each : All (λ t. HasPoint (b.rule t).rows) b.set
+
+-- the parameters of the coefficient of a symbol and a place, added up; the constant is at place 0
+abbrev pub coefficient : List Coefficient → (ℕ → ℤ) → ℕ → ℕ → ℤ
+coefficient [] v s i = pos 0
+coefficient (c ∷ cs) v s i =
+    (if nat_eq c.symbol s && nat_eq c.place i then v 0 else pos 0) +ℤ coefficient cs (λ p. v (suc p)) s i
+
+-- the function that parameters stand for
+abbrev pub function_of : RankedSet → (ℕ → ℤ) → Function
+function_of b v s =
+    record {
+      coefs = listed (b.arity s) (λ j. coefficient (coefficients b (symbols_of_set b)) v s (suc j));
+      constant = coefficient (coefficients b (symbols_of_set b)) v s 0;
+    }
+
+-- a form less another
+abbrev pub less : Form → Form → Form
+less f g = form_sum f (opposite g)
+
+-- what a function loses by a rule, less k
+abbrev pub loss : Function → RuleForms → ℤ → Form
+loss f r k = less (less (f r.source) (at_news r (f r.target))) (constant_form k)
+
+-- for each rule of the list multipliers show what the function loses by it, d by the rule that has to decrease and
+-- nothing by the others; and the last ones show that it is at least d before that rule
+abbrev pub AreShown : RankedSet → Function → ℤ → List ℕ → List (List ℕ) → Type 0
+AreShown b f d [] [] = ⊥
+AreShown b f d [] (m ∷ []) = Implies (b.rule b.strict).rows m (less (f (b.rule b.strict).source) (constant_form d))
+AreShown b f d [] (m ∷ n ∷ ms) = ⊥
+AreShown b f d (t ∷ ts) [] = ⊥
+AreShown b f d (t ∷ ts) (m ∷ ms) =
+    Implies (b.rule t).rows m (loss f (b.rule t) (if nat_eq t b.strict then d else pos 0)) × AreShown b f d ts ms
+
+-- the multipliers that a solution x of the rank question's program gives, for each rule of the set and for the floor
+abbrev pub rank_multipliers : RankedSet → (ℕ → ℤ) → List (List ℕ)
+rank_multipliers b x =
+    multipliers_by_group (after (double (rank_question b).parameters) x) (rank_question b).groups
+
+-- a solution of the rank question's program gives a function that looks at no shut place, with multipliers of the
+-- rules' rows that show that it ranks the rule; and what they show is so
+pub record SolutionsRank : Type 0 where
+  pub shown : (b : RankedSet) (x : ℕ → ℤ) (d : ℤ) → IsSetOf b → IsSolution (program_of_question (rank_question b)) x d
+      → AreShown b (function_of b (parameters_of x)) d b.set (rank_multipliers b x)
+  pub fits : (b : RankedSet) (v : ℕ → ℤ) → Fits b (function_of b v)
+  pub ranks : (b : RankedSet) (f : Function) (q : ℕ) (ms : List (List ℕ)) → IsSetOf b → 1 ≤ q
+      → AreShown b f (pos q) b.set ms → Ranks b f q
+
+-- a dual of the program shows that no function ranks the rule, where each rule of the set has a point
+pub record DualsExcludeRanks : Type 0 where
+  pub each : (b : RankedSet) (y : ℕ → ℤ) → IsSetOf b → HavePointsOf b
+      → IsDual (program_of_question (rank_question b)) y → NoRank b
+
+-- a solution of least cost gives a function of least weight, where each rule of the set has a point
+pub record LeastRanksWeighLeast : Type 0 where
+  pub each : (b : RankedSet) (x : ℕ → ℤ) (d : ℤ) → IsSetOf b → HavePointsOf b
+      → IsSolution (program_of_question (rank_question b)) x d → IsLeast (program_of_question (rank_question b)) x d
+      → IsLeastRank b (function_of b (parameters_of x)) (nat_abs d)

@@ -1,0 +1,62 @@
+-- Functions on configurations, when they rank a rule of a set, which weigh least, and when none does.
+use Rattle.std.specs.Prelude.{◌≡◌, ℕ, suc, ◌+◌, ◌*◌, ◌≤◌, true, Bool, cond, List, [], ◌∷◌, ℤ, pos, ◌+ℤ◌, ◌*ℤ◌, ◌≤ℤ◌}
+use Rattle.std.specs.List.{All}
+use Rattle.linear_forms.specs.Forms.{Form, at, form_value}
+use Rattle.linear_forms.specs.Points.{IsPoint}
+use Rattle.linear_forms.specs.Combinations.{form_sum, combination}
+use Rattle.linear_forms.specs.RuleQuestions.{RuleForms, RankedSet, constant_form, symbols_of_set}
+use Rattle.rule_forms.specs.Bounds.{total_size, height}
+
+-- a form in the places of a symbol, for each symbol
+abbrev pub Function : Type 0
+Function = ℕ → Form
+
+-- a form in the places of a rule's target, in the rule's unknowns: each place has its new value
+abbrev pub at_news : RuleForms → Form → Form
+at_news r f = form_sum (combination r.news (at f.coefs)) (constant_form f.constant)
+
+-- on the rational points of rule t the function after the rule and k more are at most the function before it
+pub record Loses (b : RankedSet) (f : Function) (t k : ℕ) : Type 0 where
+  pub each : (z : ℕ → ℤ) (d : ℤ) → IsPoint (b.rule t).rows z d
+      → (form_value (at_news (b.rule t) (f (b.rule t).target)) z d +ℤ pos k *ℤ d)
+      ≤ℤ form_value (f (b.rule t).source) z d
+
+-- the function over q ranks the rule of the set that has to decrease: no rule of the set raises it, that rule lowers it
+-- by at least q, and it is at least q before that rule, on all rational points of each rule
+pub record Ranks (b : RankedSet) (f : Function) (q : ℕ) : Type 0 where
+  pub positive : 1 ≤ q
+  pub rises : All (λ t. Loses b f t 0) b.set
+  pub falls : Loses b f b.strict q
+  pub floor : (z : ℕ → ℤ) (d : ℤ) → IsPoint (b.rule b.strict).rows z d
+      → (pos q *ℤ d) ≤ℤ form_value (f (b.rule b.strict).source) z d
+
+-- the function looks at no place that is shut, and at places alone
+pub record Fits (b : RankedSet) (f : Function) : Type 0 where
+  pub closed : (s j : ℕ) → b.shut s (suc j) ≡ true → at (f s).coefs j ≡ pos 0
+  pub places : (s j : ℕ) → b.arity s ≤ j → at (f s).coefs j ≡ pos 0
+
+-- no function ranks the rule without looking at a shut place
+pub record NoRank (b : RankedSet) : Type 0 where
+  pub each : (f : Function) (q : ℕ) → Ranks b f q → ¬ (Fits b f)
+
+-- a number for each entered symbol of the set, added up
+abbrev pub over_entered : (ℕ → Bool) → (ℕ → ℕ) → List ℕ → ℕ
+over_entered entered g [] = 0
+over_entered entered g (s ∷ ss) = cond (entered s) (g s) 0 + over_entered entered g ss
+
+-- the absolute coefficients of a function at the entered symbols, added up
+abbrev pub size_of : RankedSet → Function → ℕ
+size_of b f = over_entered b.entered (λ s. total_size (f s).coefs) (symbols_of_set b)
+
+-- the positive parts of its constants there, added up
+abbrev pub height_of : RankedSet → Function → ℕ
+height_of b f = over_entered b.entered (λ s. height (f s).constant) (symbols_of_set b)
+
+-- f over q weighs at most g over e, by cross products: by the sizes and, where these are the same, by the heights
+pub record WeighsNoMore (b : RankedSet) (f : Function) (q : ℕ) (g : Function) (e : ℕ) : Type 0 where
+  pub sizes : size_of b f * e ≤ size_of b g * q
+  pub heights : size_of b f * e ≡ size_of b g * q → height_of b f * e ≤ height_of b g * q
+
+-- no function that ranks the rule without looking at a shut place weighs less
+pub record IsLeastRank (b : RankedSet) (f : Function) (q : ℕ) : Type 0 where
+  pub each : (g : Function) (e : ℕ) → Ranks b g e → Fits b g → WeighsNoMore b f q g e
