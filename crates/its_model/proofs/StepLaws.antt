@@ -1,6 +1,6 @@
 -- The first fault of a use of a rule, and steps.
-use Rattle.std.proofs.Common.{◌≡◌, ℕ, zero, suc, ◌+◌, ◌<◌, ◌≤◌, ◌&&◌, List, [], ◌∷◌, ◌++◌, length, map, Bool, true, false, refl, ap, sym, ◌∙◌, subst, arith, nat_eq, if◌then◌else◌}
-use Rattle.std.specs.Prelude.{ℤ, int_lt, int_le, ◌≤ℤ◌, ◌<ℤ◌, Option, Some, None, slice_get}
+use Rattle.std.proofs.Common.{◌≡◌, ℕ, zero, suc, ◌≤◌, ◌&&◌, List, [], ◌∷◌, ◌++◌, length, map, Bool, true, false, refl, ap, sym, ◌∙◌, subst, arith, nat_eq, if◌then◌else◌}
+use Rattle.std.specs.Prelude.{ℤ, ◌<ℤ◌, Option, Some, None, slice_get}
 use Rattle.std.specs.List.{All, AllByRecursion}
 use Rattle.std.specs.declared.cmp.Ordering.{Ordering}
 use Rattle.std.specs.declared.cmp.Ordering.TheVariants.{Less, Equal, Greater}
@@ -9,10 +9,10 @@ use Rattle.std.proofs.lemmas.Cmp.{int_ranked}
 use Rattle.std.proofs.lemmas.Int.{ints}
 use Rattle.std.proofs.lemmas.Bool.Decides.{nat_tests}
 use Rattle.model.specs.Terms.{Term, value}
-use Rattle.model.specs.Programs.{Relation, AtLeast, MoreThan, AtMost, LessThan, EqualTo, Related, AtomHolds, GuardHolds, Atom, Always, Compare, Symbol, Rule, Program, rule_at, arity_in}
+use Rattle.model.specs.Programs.{Relation, AtLeast, MoreThan, AtMost, LessThan, EqualTo, Related, AtomHolds, Atom, Always, Compare, Symbol, Rule, Program, rule_at, arity_in}
 use Rattle.model.specs.Runs.{Config, Step, Leads, IsStep}
 use Rattle.poly_terms.specs.Checked.{values_fit, value_within}
-use Rattle.its_model.specs.Steps.{StepFault, OtherRule, AtomFails, PastRange, first_of, is_related, atom_fault, guard_fault, updates_fault, body_fault, rule_fault, found_fault, step_fault, AtomFits, RuleFits, maximum_arity, StepsHaveNoFault}
+use Rattle.its_model.specs.Steps.{StepFault, OtherRule, AtomFails, PastRange, first_of, is_related, atom_fault, guard_fault, updates_fault, rule_fault, found_fault, step_fault, AtomFits, RuleFits, maximum_arity, StepsHaveNoFault}
 
 -- a value that is answered is the expression's, and nothing passes 128 bits
 pub within-some : (u : Term) (env : List ℤ) (z : ℤ) → Some z ≡ value_within u env → (values_fit u env ≡ true) × (z ≡ value u env)

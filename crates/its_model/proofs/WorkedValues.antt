@@ -1,5 +1,5 @@
 -- The worked values of the views.
-use Rattle.std.proofs.Common.{◌≡◌, ℕ, true, false, List, [], ◌∷◌, map, refl, ap, ◌∙◌}
+use Rattle.std.proofs.Common.{◌≡◌, ℕ, List, [], ◌∷◌, map, refl, ap, ◌∙◌}
 use Rattle.model.specs.Programs as plain
 use Rattle.poly_terms.specs.Views.{term_of}
 use Rattle.text_core.specs.declared.name.Name.{Name}

@@ -4,3 +4,5 @@ pub mod Valid
 pub mod Steps
 pub mod StepAnswers
 pub mod Ready
+pub mod WorkedPrograms
+pub mod WorkedSteps

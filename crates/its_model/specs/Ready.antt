@@ -1,6 +1,7 @@
 -- What taking a step asks of a rule.
 use Rattle.std.specs.Prelude.{◌+◌, ◌≤◌, length, map}
 use Rattle.std.specs.List.{AllByRecursion}
+use Rattle.model.specs.Limits.{atom_limit}
 use Rattle.poly_terms.specs.Views.{term_of}
 use Rattle.its_model.specs.declared.program.Rule.{Rule}
 use Rattle.its_model.specs.Valid.{IsValidAtom, IsValidTerm}
@@ -8,6 +9,6 @@ use Rattle.its_model.specs.Views.{atom_of}
 
 -- its guard and updates read its own variables and can be expanded, and its guard has at most 64 atoms
 pub record IsReady (r : Rule) : Type 0 where
-  pub few : length r.guard.items ≤ 64
+  pub few : length r.guard.items ≤ atom_limit
   pub guard : AllByRecursion (IsValidAtom (r.left + r.free)) (map atom_of r.guard.items)
   pub updates : AllByRecursion (IsValidTerm (r.left + r.free)) (map term_of r.updates.items)

@@ -19,4 +19,5 @@ comparison_fault None r y n = Some PastRange
 
 -- the answer is that fault
 abbrev pub ComparisonError : Option StepError → Option ℤ → Relation → Option ℤ → ℕ → Type 0
-ComparisonError result x r y n = MatchOption result (comparison_fault x r y n ≡ None) (λ e. comparison_fault x r y n ≡ Some (fault_of e))
+ComparisonError result x r y n = MatchOption result (comparison_fault x r y n ≡ None) (λ e. comparison_fault x r y n
+    ≡ Some (fault_of e))

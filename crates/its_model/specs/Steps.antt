@@ -1,14 +1,14 @@
 -- What keeps a use of a rule from being a step, and what comes first.
-use Rattle.std.specs.Prelude.{◌≡◌, ℕ, zero, suc, Bool, ◌&&◌, if◌then◌else◌, nat_eq, List, [], ◌∷◌, ◌++◌, length, map, max, ℤ, int_lt, int_le, Option, Some, None, true, ⊤}
+use Rattle.std.specs.Prelude.{◌≡◌, ℕ, suc, Bool, ◌&&◌, if◌then◌else◌, nat_eq, List, [], ◌∷◌, ◌++◌, length, map, max, ℤ, int_lt, int_le, Option, Some, None, true, ⊤}
 use Rattle.std.specs.List.{AllByRecursion}
 use Rattle.std.specs.Ordering.{int_eq}
 use Rattle.model.specs.Terms.{Term, value}
-use Rattle.model.specs.Programs.{Relation, AtLeast, MoreThan, AtMost, LessThan, EqualTo, Atom, Always, Compare, Symbol, Rule, Program, rule_at, arity_of}
+use Rattle.model.specs.Programs.{Relation, AtLeast, MoreThan, AtMost, LessThan, EqualTo, Atom, Always, Compare, Symbol, Rule, Program, rule_at}
 use Rattle.model.specs.Runs.{Config, Step, IsStep}
 use Rattle.poly_terms.specs.Checked.{values_fit}
 
--- the faults of a use of a rule: there is no such rule, it leaves another symbol, or has another number of free variables;
--- an atom, counted from 1, doesn't hold; a value passes 128 bits
+-- the faults of a use of a rule: there is no such rule, it leaves another symbol, or has another number of free
+-- variables; an atom, counted from 1, doesn't hold; a value passes 128 bits
 pub data StepFault : Type 0 where
   OtherRule : StepFault
   AtomFails : ℕ → StepFault
@@ -31,7 +31,8 @@ is_related EqualTo x y = int_eq x y
 abbrev pub atom_fault : List ℤ → ℕ → Atom → Option StepFault
 atom_fault env n Always = None
 atom_fault env n (Compare d r e) =
-    if values_fit d env && values_fit e env then (if is_related r (value d env) (value e env) then None else Some (AtomFails n)) else Some PastRange
+    if values_fit d env && values_fit e env then (if is_related r (value d env) (value e env) then None
+    else Some (AtomFails n)) else Some PastRange
 
 -- the first fault of atoms, the first of which has the number n
 abbrev pub guard_fault : List ℤ → ℕ → List Atom → Option StepFault
@@ -81,8 +82,11 @@ pub record RuleFits (r : Rule) (env : List ℤ) : Type 0 where
 -- from a configuration with a value for each left variable, a use of a rule has no fault exactly where it is a step and
 -- no value passes 128 bits on the way
 pub record StepsHaveNoFault : Type 0 where
-  pub step : (p : Program) (c : Config) (s : Step) (r : Rule) → rule_at p s.rule ≡ Some r → length c.values ≡ r.left → step_fault p c s ≡ None
+  pub step : (p : Program) (c : Config) (s : Step) (r : Rule) → rule_at p s.rule ≡ Some r → length c.values ≡ r.left
+      → step_fault p c s ≡ None
       → IsStep p c s (record { at = r.target; values = map (λ u. value u (c.values ++ s.free)) r.updates })
-  pub fits : (p : Program) (c : Config) (s : Step) (r : Rule) → rule_at p s.rule ≡ Some r → step_fault p c s ≡ None → RuleFits r (c.values ++ s.free)
-  pub no_fault : (p : Program) (c d : Config) (s : Step) (r : Rule) → rule_at p s.rule ≡ Some r → IsStep p c s d → RuleFits r (c.values ++ s.free)
+  pub fits : (p : Program) (c : Config) (s : Step) (r : Rule) → rule_at p s.rule ≡ Some r → step_fault p c s ≡ None
+      → RuleFits r (c.values ++ s.free)
+  pub no_fault : (p : Program) (c d : Config) (s : Step) (r : Rule) → rule_at p s.rule ≡ Some r → IsStep p c s d
+      → RuleFits r (c.values ++ s.free)
       → step_fault p c s ≡ None

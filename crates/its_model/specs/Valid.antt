@@ -1,6 +1,7 @@
 -- Valid programs: what every program that is read is, and what callers rely on.
-use Rattle.std.specs.Prelude.{◌≡◌, ℕ, ◌+◌, ◌≤◌, ◌<◌, nat_eq, List, length, map, pos, None, IsTrue, ⊤}
+use Rattle.std.specs.Prelude.{◌≡◌, ℕ, ◌+◌, ◌≤◌, ◌<◌, nat_eq, length, map, pos, None, IsTrue, ⊤}
 use Rattle.std.specs.List.{AllByRecursion, list_any}
+use Rattle.model.specs.Limits.{rule_limit, place_limit, variable_limit, atom_limit}
 use Rattle.model.specs.Terms.{Term, Literal, Subtraction}
 use Rattle.model.specs.Programs.{Relation, AtLeast, MoreThan, AtMost, LessThan, EqualTo, Atom, Always, Compare, Symbol, Rule, Program, arity_of}
 use Rattle.poly_terms.specs.Checked.{ReadsBelow}
@@ -35,10 +36,10 @@ IsValidAtom n (Compare d r e) = IsValidComparison n d r e
 -- a symbol has a name, and at most 32 places
 pub record IsValidSymbol (s : Symbol) : Type 0 where
   pub name : IsName s.name
-  pub arity : s.arity ≤ 32
+  pub arity : s.arity ≤ place_limit
 
--- a rule leads from a symbol of the program to one of it, with a left variable for each place of the source, an update for
--- each place of the target, distinct names of all its variables, at most 64 of them, and at most 64 atoms
+-- a rule leads from a symbol of the program to one of it, with a left variable for each place of the source, an update
+-- for each place of the target, distinct names of all its variables, at most 64 of them, and at most 64 atoms
 pub record IsValidRule (p : Program) (r : Rule) : Type 0 where
   pub source : r.source < length p.symbols
   pub target : r.target < length p.symbols
@@ -47,17 +48,17 @@ pub record IsValidRule (p : Program) (r : Rule) : Type 0 where
   pub named : length r.names ≡ r.left + r.free
   pub names : AllByRecursion IsName r.names
   pub distinct : AreDistinct r.names
-  pub few_variables : r.left + r.free ≤ 64
-  pub few_atoms : length r.guard ≤ 64
+  pub few_variables : r.left + r.free ≤ variable_limit
+  pub few_atoms : length r.guard ≤ atom_limit
   pub updates : AllByRecursion (IsValidTerm (r.left + r.free)) r.updates
   pub guard : AllByRecursion (IsValidAtom (r.left + r.free)) r.guard
 
--- a program is valid: at most 1,000 rules, which are valid as are the symbols; names differ; and the start symbol is the
--- source of some rule and has a name for each of its places
+-- a program is valid: at most 1,000 rules, which are valid as are the symbols; names differ; and the start symbol is
+-- the source of some rule and has a name for each of its places
 pub record IsValid (p : Program) : Type 0 where
   pub symbols : AllByRecursion IsValidSymbol p.symbols
   pub distinct : AreDistinct (map (λ s. s.name) p.symbols)
-  pub few_rules : length p.rules ≤ 1000
+  pub few_rules : length p.rules ≤ rule_limit
   pub rules : AllByRecursion (IsValidRule p) p.rules
   pub start : p.start < length p.symbols
   pub start_is_source : IsTrue (list_any (λ r. nat_eq p.start r.source) p.rules)

@@ -1,5 +1,5 @@
 -- What was worked out by hand of how programs, configurations and steps are read.
-use Rattle.std.specs.Prelude.{◌≡◌, ℕ, true, false, List, [], ◌∷◌, pos, negsuc, ⊤}
+use Rattle.std.specs.Prelude.{◌≡◌, ℕ, List, [], ◌∷◌, pos, negsuc, ⊤}
 use Rattle.model.specs.Terms.{Literal, Variable}
 use Rattle.model.specs.Programs as plain
 use Rattle.model.specs.Programs.{AtLeast, MoreThan, AtMost, LessThan, EqualTo}
@@ -29,7 +29,8 @@ pub record GuardsAreRead : Type 0 where
   -- `TRUE` is the atom that always holds
   pub always : atom_of Always ≡ plain.Always
   -- what stands on the left stays there: `A >= -3`, and `B < A` with B numbered 1 and A numbered 0
-  pub with_literal : atom_of (Compare (Var 0) Ge (Num (negsuc 2))) ≡ plain.Compare (Variable 0) AtLeast (Literal (negsuc 2))
+  pub with_literal : atom_of (Compare (Var 0) Ge (Num (negsuc 2)))
+      ≡ plain.Compare (Variable 0) AtLeast (Literal (negsuc 2))
   pub with_variables : atom_of (Compare (Var 1) Lt (Var 0)) ≡ plain.Compare (Variable 1) LessThan (Variable 0)
 
 -- the symbol has a name with these bytes, and so many places
@@ -108,7 +109,8 @@ pub record IsWorkedProgram (p : Program) : Type 0 where
 -- the same program as plain data
 abbrev pub worked_program : plain.Program
 worked_program = record {
-  symbols = record { name = letter 102; arity = 3 } ∷ record { name = letter 104; arity = 2 } ∷ record { name = letter 103; arity = 2 } ∷ [];
+  symbols = record { name = letter 102; arity = 3 } ∷ record { name = letter 104; arity = 2 }
+      ∷ record { name = letter 103; arity = 2 } ∷ [];
   start = 2;
   start_names = letter 88 ∷ letter 89 ∷ [];
   rules = first_rule ∷ second_rule ∷ [];
@@ -128,9 +130,11 @@ pub record ProgramsAreRead : Type 0 where
 -- how configurations and steps are read, wherever in memory their values stand
 pub record RunsAreRead : Type 0 where
   -- a configuration keeps its symbol, and its values in order: the symbol 2 with 5 and -2
-  pub config : (c : Config) → c.at ≡ 2 → c.values.items ≡ pos 5 ∷ negsuc 1 ∷ [] → config_of c ≡ record { at = 2; values = pos 5 ∷ negsuc 1 ∷ [] }
+  pub config : (c : Config) → c.at ≡ 2 → c.values.items ≡ pos 5 ∷ negsuc 1 ∷ []
+      → config_of c ≡ record { at = 2; values = pos 5 ∷ negsuc 1 ∷ [] }
   -- a step keeps its rule, and the values of the free variables in order: rule 1 with -3 and 4
-  pub step : (s : Step) → s.rule ≡ 1 → s.free.items ≡ negsuc 2 ∷ pos 4 ∷ [] → step_of s ≡ record { rule = 1; free = negsuc 2 ∷ pos 4 ∷ [] }
+  pub step : (s : Step) → s.rule ≡ 1 → s.free.items ≡ negsuc 2 ∷ pos 4 ∷ []
+      → step_of s ≡ record { rule = 1; free = negsuc 2 ∷ pos 4 ∷ [] }
 
 -- all of it
 pub record WorkedValues : Type 0 where

@@ -1,8 +1,21 @@
 // How guards, programs, configurations and steps are read.
 
 ghost use Rattle.its_model.specs.Worked.{WorkedValues};
+ghost use Rattle.its_model.specs.WorkedPrograms.{ProgramsAreWorkedOut};
+ghost use Rattle.its_model.specs.WorkedSteps.{StepsAreWorkedOut};
 
-/// The plain data of relations, atoms, symbols, rules, programs, configurations and steps are what was worked out by hand. It has no code: its contract is the law.
+/// The plain data of relations, atoms, symbols, rules, programs, configurations and steps are what was worked out by
+/// hand. It has no code: its contract is the law.
 pub fn worked_values_hold()
     ensures { WorkedValues }
+{}
+
+/// Which programs are valid, and the differences of comparisons, are what was worked out by hand.
+pub fn programs_are_worked_out()
+    ensures { ProgramsAreWorkedOut }
+{}
+
+/// The faults of steps, and which comes first, are what was worked out by hand.
+pub fn steps_are_worked_out()
+    ensures { StepsAreWorkedOut }
 {}

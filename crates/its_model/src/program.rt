@@ -11,7 +11,8 @@ pub struct Symbol {
     pub arity: u32,
 }
 
-/// A rule. Its variables are numbered from 0, the left ones first, one for each place of the source, then the free ones.
+/// A rule. Its variables are numbered from 0, the left ones first, one for each place of the source, then the free
+/// ones.
 #[derive(Debug, PartialEq, Eq, Drop)]
 pub struct Rule {
     /// The number of the symbol that a step by this rule leaves.

@@ -3,6 +3,7 @@
 ghost use Rattle.std.specs.Prelude.{◌≡◌, ◌+◌, ◌<◌, ◌≤◌, ◌^◌, ◌++◌, ◌∷◌, [], ℕ, length, map, slice_index_or, true, false, MatchResult, MatchOption, IfOk, vec_len, vec_capacity};
 ghost use Rattle.std.specs.List.{AllByRecursion};
 ghost use Rattle.model.specs.Terms.{value};
+ghost use Rattle.model.specs.Limits.{atom_limit};
 ghost use Rattle.model.specs.Programs.{arity_of, rule_at};
 ghost use Rattle.model.specs.Runs.{IsStep};
 ghost use Rattle.poly_terms.specs.Checked.{ReadsBelow};
@@ -37,7 +38,8 @@ pub fn step_checked(
     ensures fault { MatchResult result
         (λ _. step_fault (program_of p.now) (config_of now.now) (step_of step.now) ≡ None)
         (λ e. step_fault (program_of p.now) (config_of now.now) (step_of step.now) ≡ Some (fault_of e)) }
-    ensures step { IfOk result (λ _. IsStep (program_of p.now) (config_of now.now) (step_of step.now) (config_of next.new)) }
+    ensures step { IfOk result (λ _.
+        IsStep (program_of p.now) (config_of now.now) (step_of step.now) (config_of next.new)) }
     ensures room { maximum_arity (program_of p.now).symbols ≤ vec_capacity next.new.values }
 {
     match rule_position(p, step.rule) {
@@ -51,7 +53,8 @@ fn rule_position(p: &Program, number: u32) -> Option<usize>
     ensures { MatchOption result
         (rule_at (program_of p.now) number ≡ None)
         (λ i. (i < length p.now.rules.items)
-        × ((r : Rule) → r ≡ slice_index_or p.now.rules.items i r → rule_at (program_of p.now) number ≡ Some (rule_of r))) }
+        × ((r : Rule) → r ≡ slice_index_or p.now.rules.items i r
+        → rule_at (program_of p.now) number ≡ Some (rule_of r))) }
 {
     if number == 0 {
         return None;
@@ -89,7 +92,8 @@ fn take(rule: &Rule, left: &[i128], free: &[i128], next: &mut Config) -> Result<
         (λ _. body_fault (rule_of rule.now) (left.now ++ free.now) ≡ None)
         (λ e. body_fault (rule_of rule.now) (left.now ++ free.now) ≡ Some (fault_of e)) }
     ensures at { IfOk result (λ _. next.new.at ≡ rule.now.target) }
-    ensures values { IfOk result (λ _. next.new.values.items ≡ map (λ u. value u (left.now ++ free.now)) (rule_of rule.now).updates) }
+    ensures values { IfOk result (λ _. next.new.values.items
+        ≡ map (λ u. value u (left.now ++ free.now)) (rule_of rule.now).updates) }
     ensures room { vec_capacity next.old.values ≤ vec_capacity next.new.values }
 {
     match guard_error(&rule.guard, left, free) {
@@ -107,7 +111,7 @@ fn take(rule: &Rule, left: &[i128], free: &[i128], next: &mut Config) -> Result<
 
 // The first fault of the atoms.
 fn guard_error(atoms: &[Atom], left: &[i128], free: &[i128]) -> Option<StepError>
-    requires few { length atoms.now ≤ 64 }
+    requires few { length atoms.now ≤ atom_limit }
     requires valid { AllByRecursion (IsValidAtom (length left.now + length free.now)) (map atom_of atoms.now) }
     ensures { MatchOption result
         (guard_fault (left.now ++ free.now) 1 (map atom_of atoms.now) ≡ None)
@@ -177,7 +181,8 @@ fn update(updates: &[Expr], left: &[i128], free: &[i128], values: &mut Vec<i128>
     requires valid { AllByRecursion (IsValidTerm (length left.now + length free.now)) (map term_of updates.now) }
     requires room { length updates.now ≤ vec_capacity values.old }
     ensures yes { result ≡ true → updates_fault (left.now ++ free.now) (map term_of updates.now) ≡ None }
-    ensures values { result ≡ true → values.new.items ≡ map (λ u. value u (left.now ++ free.now)) (map term_of updates.now) }
+    ensures values { result ≡ true
+        → values.new.items ≡ map (λ u. value u (left.now ++ free.now)) (map term_of updates.now) }
     ensures no { result ≡ false → updates_fault (left.now ++ free.now) (map term_of updates.now) ≡ Some PastRange }
     ensures room { vec_capacity values.old ≤ vec_capacity values.new }
 {
@@ -200,8 +205,8 @@ fn put(values: &mut Vec<i128>, z: i128)
     let _ = values.push(z);
 }
 
-/// From a configuration with a value for each left variable, a use of a rule has no fault exactly where it is a step and
-/// no value passes 128 bits on the way. It has no code: its contract is the law.
+/// From a configuration with a value for each left variable, a use of a rule has no fault exactly where it is a step
+/// and no value passes 128 bits on the way. It has no code: its contract is the law.
 pub fn steps_have_no_fault()
     ensures { StepsHaveNoFault }
 {}

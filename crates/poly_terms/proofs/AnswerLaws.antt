@@ -6,7 +6,8 @@ use Rattle.model.specs.Polynomials.{Polynomial, degree_of}
 use Rattle.poly_terms.specs.declared.poly.Poly.{Poly}
 use Rattle.poly_terms.specs.declared.poly_error.PolyError.{PolyError}
 use Rattle.poly_terms.specs.Expanding.{opposite, expanded, power_of}
-use Rattle.poly_terms.specs.Faults.{Fault, maximum_coefficient, exponent_of, fault_of, subexpressions, or_else, first_among, first_fault}
+use Rattle.model.specs.Limits.{coefficient_limit}
+use Rattle.poly_terms.specs.Faults.{Fault, exponent_of, fault_of, subexpressions, or_else, first_among, first_fault}
 use Rattle.poly_terms.specs.Powers.{faults_of_powers}
 use Rattle.poly_terms.specs.Ordered.{IsBounded, IsSmall}
 use Rattle.poly_terms.specs.Answers.{Says, Answers}
@@ -56,7 +57,7 @@ opposite-small p h = record {
   degree = omega (arith, same_degree p, h.degree);
 }
   where
-    bounded : (p : Polynomial) → IsBounded maximum_coefficient p → IsBounded maximum_coefficient (map opposite p)
+    bounded : (p : Polynomial) → IsBounded coefficient_limit p → IsBounded coefficient_limit (map opposite p)
     bounded [] b = tt
     bounded (m ∷ p) b = (omega (arith, b.0, nat_abs-neg m.coef), bounded p b.1)
 

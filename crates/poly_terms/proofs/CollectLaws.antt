@@ -9,7 +9,8 @@ use Rattle.std.proofs.lemmas.List.{append_assoc}
 use Rattle.int_laws.specs.NormalForm.{is_zero}
 use Rattle.model.specs.Polynomials.{Monomial, Polynomial}
 use Rattle.poly_terms.specs.Expanding.{all_added, added, without_zeros}
-use Rattle.poly_terms.specs.Faults.{maximum_coefficient, has_large}
+use Rattle.model.specs.Limits.{coefficient_limit}
+use Rattle.poly_terms.specs.Faults.{has_large}
 use Rattle.poly_terms.proofs.Values.{zero_is}
 
 -- the first and the rest apart
@@ -25,13 +26,13 @@ pub taken-more : (ts : Polynomial) (m : Monomial) (ms : Polynomial) → (ts ++ w
 taken-more ts m ms = append_assoc ts (without_zeros (m ∷ [])) (without_zeros ms) ∙ ap (λ (us : Polynomial). ts ++ us) (without_zeros-cons m ms)
 
 -- a coefficient that is too large isn't 0
-large-first : (m : Monomial) (ms : Polynomial) → maximum_coefficient < nat_abs m.coef → has_large (without_zeros (m ∷ ms)) ≡ true
+large-first : (m : Monomial) (ms : Polynomial) → coefficient_limit < nat_abs m.coef → has_large (without_zeros (m ∷ ms)) ≡ true
 large-first m ms h = go (is_zero m.coef) refl
   where
     zero_size : m.coef ≡ pos 0 → ⊥
     zero_size e = omega (arith, ints, h, ap nat_abs e)
 
-    over : nat_lt maximum_coefficient (nat_abs m.coef) ≡ true
+    over : nat_lt coefficient_limit (nat_abs m.coef) ≡ true
     over = grind (arith, nat_tests)
 
     go : (b : Bool) → is_zero m.coef ≡ b → has_large (if b then without_zeros ms else m ∷ without_zeros ms) ≡ true
@@ -39,25 +40,25 @@ large-first m ms h = go (is_zero m.coef) refl
     go false e = ap (λ (t : Bool). t || has_large (without_zeros ms)) over
 
 -- one that is found makes the whole too large
-pub large-among : (ts : Polynomial) (m : Monomial) (ms : Polynomial) → maximum_coefficient < nat_abs m.coef → has_large (ts ++ without_zeros (m ∷ ms)) ≡ true
+pub large-among : (ts : Polynomial) (m : Monomial) (ms : Polynomial) → coefficient_limit < nat_abs m.coef → has_large (ts ++ without_zeros (m ∷ ms)) ≡ true
 large-among [] m ms h = large-first m ms h
-large-among (t ∷ ts) m ms h = ap (λ (b : Bool). nat_lt maximum_coefficient (nat_abs t.coef) || b) (large-among ts m ms h) ∙ or_true (nat_lt maximum_coefficient (nat_abs t.coef))
+large-among (t ∷ ts) m ms h = ap (λ (b : Bool). nat_lt coefficient_limit (nat_abs t.coef) || b) (large-among ts m ms h) ∙ or_true (nat_lt coefficient_limit (nat_abs t.coef))
   where
     or_true : (b : Bool) → (b || true) ≡ true
     or_true true = refl
     or_true false = refl
 
 -- one that isn't keeps the others' answer
-pub small-more : (ts : Polynomial) (m : Monomial) → nat_abs m.coef ≤ maximum_coefficient → has_large (ts ++ without_zeros (m ∷ [])) ≡ has_large ts
+pub small-more : (ts : Polynomial) (m : Monomial) → nat_abs m.coef ≤ coefficient_limit → has_large (ts ++ without_zeros (m ∷ [])) ≡ has_large ts
 small-more [] m h = go (is_zero m.coef)
   where
-    under : nat_lt maximum_coefficient (nat_abs m.coef) ≡ false
+    under : nat_lt coefficient_limit (nat_abs m.coef) ≡ false
     under = grind (arith, nat_tests)
 
     go : (b : Bool) → has_large (if b then [] else m ∷ []) ≡ false
     go true = refl
     go false = ap (λ (t : Bool). t || false) under
-small-more (t ∷ ts) m h = ap (λ (b : Bool). nat_lt maximum_coefficient (nat_abs t.coef) || b) (small-more ts m h)
+small-more (t ∷ ts) m h = ap (λ (b : Bool). nat_lt coefficient_limit (nat_abs t.coef) || b) (small-more ts m h)
 
 -- two lists added one after the other
 pub all_added-append : (ts ms ns : Polynomial) → all_added ts (ms ++ ns) ≡ all_added (all_added ts ms) ns

@@ -7,7 +7,8 @@ use Rattle.model.specs.Polynomials.{Polynomial, degree_of}
 use Rattle.poly_terms.specs.declared.poly_error.PolyError.{PolyError}
 use Rattle.poly_terms.specs.declared.poly_error.PolyError.TheVariants.{CoefTooLarge, TooManyTerms, DegreeTooHigh, Memory}
 use Rattle.poly_terms.specs.Expanding.{expanded, power_of}
-use Rattle.poly_terms.specs.Faults.{Fault, LargeCoefficient, ManyTerms, HighDegree, maximum_coefficient, has_large, fault_in, fault_of, powers, subexpressions, or_else, first_among, first_fault}
+use Rattle.model.specs.Limits.{coefficient_limit, monomial_limit, degree_limit}
+use Rattle.poly_terms.specs.Faults.{Fault, LargeCoefficient, ManyTerms, HighDegree, has_large, fault_in, fault_of, powers, subexpressions, or_else, first_among, first_fault}
 use Rattle.poly_terms.specs.Powers.{faults_of_powers}
 use Rattle.poly_terms.specs.Ordered.{IsBounded, IsSmall}
 use Rattle.poly_terms.specs.Answers.{Says}
@@ -77,29 +78,29 @@ powers-next p n h = subst (λ (k : ℕ). faults_of_powers p k ≡ fault_in (powe
     (ap (λ (f : Option Fault). or_else f (fault_in (power_of p (suc n)) (suc n))) h)
 
 -- a polynomial without a fault has no large coefficient
-no-large : (p : Polynomial) → has_large p ≡ false → IsBounded maximum_coefficient p
+no-large : (p : Polynomial) → has_large p ≡ false → IsBounded coefficient_limit p
 no-large [] h = tt
-no-large (m ∷ p) h = go (nat_lt maximum_coefficient (nat_abs m.coef)) refl h (no-large p)
+no-large (m ∷ p) h = go (nat_lt coefficient_limit (nat_abs m.coef)) refl h (no-large p)
   where
-    small : nat_lt maximum_coefficient (nat_abs m.coef) ≡ false → nat_abs m.coef ≤ maximum_coefficient
+    small : nat_lt coefficient_limit (nat_abs m.coef) ≡ false → nat_abs m.coef ≤ coefficient_limit
     small g = grind (arith, nat_tests)
 
-    go : (b : Bool) → nat_lt maximum_coefficient (nat_abs m.coef) ≡ b → (b || has_large p) ≡ false
-        → (has_large p ≡ false → IsBounded maximum_coefficient p) → IsBounded maximum_coefficient (m ∷ p)
+    go : (b : Bool) → nat_lt coefficient_limit (nat_abs m.coef) ≡ b → (b || has_large p) ≡ false
+        → (has_large p ≡ false → IsBounded coefficient_limit p) → IsBounded coefficient_limit (m ∷ p)
     go true g k ih = cc
     go false g k ih = (small g, ih k)
 
 -- a polynomial without a fault is small
 pub small-from_none : (p : Polynomial) (n : ℕ) → fault_in p n ≡ None → IsSmall p
-small-from_none p n h = go (has_large p) (nat_lt 64 (length p)) (nat_lt 8 n) (nat_lt 8 (degree_of p)) refl refl refl h
+small-from_none p n h = go (has_large p) (nat_lt monomial_limit (length p)) (nat_lt degree_limit n) (nat_lt degree_limit (degree_of p)) refl refl refl h
   where
-    few : nat_lt 64 (length p) ≡ false → length p ≤ 64
+    few : nat_lt monomial_limit (length p) ≡ false → length p ≤ monomial_limit
     few g = grind (arith, nat_tests)
 
-    low : nat_lt 8 (degree_of p) ≡ false → degree_of p ≤ 8
+    low : nat_lt degree_limit (degree_of p) ≡ false → degree_of p ≤ degree_limit
     low g = grind (arith, nat_tests)
 
-    go : (a b c d : Bool) → has_large p ≡ a → nat_lt 64 (length p) ≡ b → nat_lt 8 (degree_of p) ≡ d
+    go : (a b c d : Bool) → has_large p ≡ a → nat_lt monomial_limit (length p) ≡ b → nat_lt degree_limit (degree_of p) ≡ d
         → (if a then Some LargeCoefficient else (if b then Some ManyTerms else (if c || d then Some HighDegree else None))) ≡ None → IsSmall p
     go true b c d e f g k = cc
     go false true c d e f g k = cc

@@ -2,7 +2,7 @@ pub mod Values
 pub mod OrderLaws
 pub mod WideLaws
 mod LoopLaws
-mod PlaceLaws
+mod PositionLaws
 mod SumLaws
 mod EntryLaws
 pub mod FaultLaws
@@ -11,3 +11,4 @@ pub mod RowLaws
 pub mod AnswerLaws
 mod Weights
 pub mod VariableLaws
+mod WorkedForms

@@ -10,7 +10,7 @@ use Rattle.std.proofs.lemmas.Int.{ints}
 use Rattle.int_laws.specs.NormalForm.{is_zero}
 use Rattle.model.specs.Terms.{Term, Literal, Variable, Negation, Addition, Subtraction, Multiplication, Exponentiation}
 use Rattle.model.specs.Polynomials.{Monomial, Polynomial}
-use Rattle.poly_terms.specs.Expanding.{order, added, all_added, without_zeros, sum_of, opposite, placed, all_placed, multiplied, products, product_of, power_of, expanded}
+use Rattle.poly_terms.specs.Expanding.{order, added, all_added, without_zeros, sum_of, opposite, inserted, all_inserted, multiplied, products, product_of, power_of, expanded}
 use Rattle.poly_terms.specs.Ordered.{IsBefore, IsAscending, AreFrom, AscendWeakly, HasNoZero, HasFactorsInOrder, IsOrdered}
 
 -- what is after is not before
@@ -85,22 +85,22 @@ nonzero-without_zeros (m ∷ ms) = go (is_zero m.coef) refl (nonzero-without_zer
     go true e ih = ih
     go false e ih = (isnt_zero m.coef e, ih)
 
--- a variable more at its place keeps the order
+-- a variable more at its position keeps the order
 from-less : (n k : ℕ) (vs : List ℕ) → n ≤ k → AreFrom k vs → AreFrom n vs
 from-less n k [] l h = h
 from-less n k (v ∷ vs) l h = (omega (arith, h.0), from-less n k vs l h.1)
 
-from-placed : (n v : ℕ) (vs : List ℕ) → n ≤ v → AreFrom n vs → AreFrom n (placed v vs)
-from-placed n v [] l h = (l, h)
-from-placed n v (w ∷ ws) l h = go (nat_lt w v) (from-placed n v ws l h.1)
+from-inserted : (n v : ℕ) (vs : List ℕ) → n ≤ v → AreFrom n vs → AreFrom n (inserted v vs)
+from-inserted n v [] l h = (l, h)
+from-inserted n v (w ∷ ws) l h = go (nat_lt w v) (from-inserted n v ws l h.1)
   where
-    go : (b : Bool) → AreFrom n (placed v ws) → AreFrom n (if b then w ∷ placed v ws else v ∷ w ∷ ws)
+    go : (b : Bool) → AreFrom n (inserted v ws) → AreFrom n (if b then w ∷ inserted v ws else v ∷ w ∷ ws)
     go true ih = (h.0, ih)
     go false ih = (l, (h.0, h.1))
 
-ascend-placed : (v : ℕ) (vs : List ℕ) → AscendWeakly vs → AscendWeakly (placed v vs)
-ascend-placed v [] h = (tt, tt)
-ascend-placed v (w ∷ ws) h = go (nat_lt w v) refl (ascend-placed v ws h.1)
+ascend-inserted : (v : ℕ) (vs : List ℕ) → AscendWeakly vs → AscendWeakly (inserted v vs)
+ascend-inserted v [] h = (tt, tt)
+ascend-inserted v (w ∷ ws) h = go (nat_lt w v) refl (ascend-inserted v ws h.1)
   where
     below : nat_lt w v ≡ true → w ≤ v
     below e = grind (arith, nat_tests)
@@ -108,13 +108,13 @@ ascend-placed v (w ∷ ws) h = go (nat_lt w v) refl (ascend-placed v ws h.1)
     above : nat_lt w v ≡ false → v ≤ w
     above e = grind (arith, nat_tests)
 
-    go : (b : Bool) → nat_lt w v ≡ b → AscendWeakly (placed v ws) → AscendWeakly (if b then w ∷ placed v ws else v ∷ w ∷ ws)
-    go true e ih = (from-placed w v ws (below e) h.0, ih)
+    go : (b : Bool) → nat_lt w v ≡ b → AscendWeakly (inserted v ws) → AscendWeakly (if b then w ∷ inserted v ws else v ∷ w ∷ ws)
+    go true e ih = (from-inserted w v ws (below e) h.0, ih)
     go false e ih = ((above e, from-less v w ws (above e) h.0), (h.0, h.1))
 
-ascend-all_placed : (vs ws : List ℕ) → AscendWeakly vs → AscendWeakly (all_placed vs ws)
-ascend-all_placed vs [] h = h
-ascend-all_placed vs (w ∷ ws) h = ascend-all_placed (placed w vs) ws (ascend-placed w vs h)
+ascend-all_inserted : (vs ws : List ℕ) → AscendWeakly vs → AscendWeakly (all_inserted vs ws)
+ascend-all_inserted vs [] h = h
+ascend-all_inserted vs (w ∷ ws) h = ascend-all_inserted (inserted w vs) ws (ascend-inserted w vs h)
 
 factors-added : (m : Monomial) (ts : Polynomial) → AscendWeakly m.vars → HasFactorsInOrder ts → HasFactorsInOrder (added m ts)
 factors-added m [] a h = (a, h)
@@ -140,7 +140,7 @@ factors-without_zeros (m ∷ ms) h = go (is_zero m.coef) (factors-without_zeros 
 
 factors-row : (m : Monomial) (q : Polynomial) → AscendWeakly m.vars → HasFactorsInOrder (map (multiplied m) q)
 factors-row m [] a = tt
-factors-row m (n ∷ q) a = (ascend-all_placed m.vars n.vars a, factors-row m q a)
+factors-row m (n ∷ q) a = (ascend-all_inserted m.vars n.vars a, factors-row m q a)
 
 factors-append : (p q : List Monomial) → HasFactorsInOrder p → HasFactorsInOrder q → HasFactorsInOrder (p ++ q)
 factors-append [] q h k = k

@@ -175,7 +175,7 @@ form-of-more w ms k m f a b l e s h = go m.vars refl
     }
     go (j ∷ us) v = record {
       width = length-set f.coefs j m.coef ∙ h.width;
-      coefs = λ i n. at_place i n (cases_eq i j);
+      coefs = λ i n. at_position i n (cases_eq i j);
       constant = h.constant ∙ other [] (test [] (j ∷ us) false v refl);
       degree = low;
     }
@@ -193,12 +193,12 @@ form-of-more w ms k m f a b l e s h = go m.vars refl
         inside : j < length f.coefs
         inside = omega (arith, (subst (AreBelow w) v below).0, h.width)
 
-        at_place : (i : ℕ) → i < w → (i ≡ j) ⊎ (i ≢ j) → get_or (set f.coefs j m.coef) i (pos 0) ≡ coefficient (i ∷ []) (take (k + 1) ms)
-        at_place i n (inl p) =
+        at_position : (i : ℕ) → i < w → (i ≡ j) ⊎ (i ≢ j) → get_or (set f.coefs j m.coef) i (pos 0) ≡ coefficient (i ∷ []) (take (k + 1) ms)
+        at_position i n (inl p) =
             ap (λ (x : ℕ). get_or (set f.coefs j m.coef) x (pos 0)) p
             ∙ (get_or-set_same f.coefs j m.coef (pos 0) inside
             ∙ here (i ∷ []) (test (i ∷ []) (j ∷ []) true one (one-equal i j p)) (ap (λ (x : ℕ). x ∷ []) p ∙ sym one))
-        at_place i n (inr p) =
+        at_position i n (inr p) =
             get_or-set_other f.coefs j i m.coef (pos 0) p
             ∙ (h.coefs i n ∙ other (i ∷ []) (test (i ∷ []) (j ∷ []) false one (one-other i j p)))
 

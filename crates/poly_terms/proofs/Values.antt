@@ -15,7 +15,7 @@ use Rattle.int_laws.proofs.Identities.{identity}
 use Rattle.int_laws.proofs.RingLaws.{add-mul_ℤ, zero-mul_ℤ, neg-mul_ℤ}
 use Rattle.model.specs.Terms.{Term, Literal, Variable, Negation, Addition, Subtraction, Multiplication, Exponentiation, value}
 use Rattle.model.specs.Polynomials.{Monomial, Polynomial, product_value, monomial_value, polynomial_value}
-use Rattle.poly_terms.specs.Expanding.{order, added, all_added, without_zeros, sum_of, opposite, placed, all_placed, multiplied, products, product_of, power_of, expanded}
+use Rattle.poly_terms.specs.Expanding.{order, added, all_added, without_zeros, sum_of, opposite, inserted, all_inserted, multiplied, products, product_of, power_of, expanded}
 
 -- a coefficient that passes the test is 0
 pub zero_is : (z : ℤ) → is_zero z ≡ true → z ≡ pos 0
@@ -81,29 +81,29 @@ value-opposite (m ∷ p) env = both _ _ _ _ (neg-mul_ℤ m.coef (product_value m
     both a b c d e f = omega (arith, ints)
 
 -- a variable more
-product_value-placed : (v : ℕ) (vs : List ℕ) (env : List ℤ)
-    → product_value (placed v vs) env ≡ slice_index_or env v (pos 0) *ℤ product_value vs env
-product_value-placed v [] env = refl
-product_value-placed v (w ∷ ws) env = go (nat_lt w v) (product_value-placed v ws env)
+product_value-inserted : (v : ℕ) (vs : List ℕ) (env : List ℤ)
+    → product_value (inserted v vs) env ≡ slice_index_or env v (pos 0) *ℤ product_value vs env
+product_value-inserted v [] env = refl
+product_value-inserted v (w ∷ ws) env = go (nat_lt w v) (product_value-inserted v ws env)
   where
     swap : (x y z : ℤ) → x *ℤ (y *ℤ z) ≡ y *ℤ (x *ℤ z)
     swap x y z = identity (x ∷ y ∷ z ∷ []) (variable 0 ⊗ (variable 1 ⊗ variable 2)) (variable 1 ⊗ (variable 0 ⊗ variable 2)) refl
 
-    go : (b : Bool) → product_value (placed v ws) env ≡ slice_index_or env v (pos 0) *ℤ product_value ws env
-        → product_value (if b then w ∷ placed v ws else v ∷ w ∷ ws) env
+    go : (b : Bool) → product_value (inserted v ws) env ≡ slice_index_or env v (pos 0) *ℤ product_value ws env
+        → product_value (if b then w ∷ inserted v ws else v ∷ w ∷ ws) env
         ≡ slice_index_or env v (pos 0) *ℤ (slice_index_or env w (pos 0) *ℤ product_value ws env)
     go true ih = ap (λ (z : ℤ). slice_index_or env w (pos 0) *ℤ z) ih ∙ swap (slice_index_or env w (pos 0)) (slice_index_or env v (pos 0)) (product_value ws env)
     go false ih = refl
 
 -- the variables of a second list more
-product_value-all_placed : (vs ws : List ℕ) (env : List ℤ) → product_value (all_placed vs ws) env ≡ product_value vs env *ℤ product_value ws env
-product_value-all_placed vs [] env = times_one _
+product_value-all_inserted : (vs ws : List ℕ) (env : List ℤ) → product_value (all_inserted vs ws) env ≡ product_value vs env *ℤ product_value ws env
+product_value-all_inserted vs [] env = times_one _
   where
     times_one : (z : ℤ) → z ≡ z *ℤ pos 1
     times_one z = omega (arith, ints)
-product_value-all_placed vs (w ∷ ws) env =
-    product_value-all_placed (placed w vs) ws env
-    ∙ ap (λ (z : ℤ). z *ℤ product_value ws env) (product_value-placed w vs env)
+product_value-all_inserted vs (w ∷ ws) env =
+    product_value-all_inserted (inserted w vs) ws env
+    ∙ ap (λ (z : ℤ). z *ℤ product_value ws env) (product_value-inserted w vs env)
     ∙ swap (slice_index_or env w (pos 0)) (product_value vs env) (product_value ws env)
   where
     swap : (x y z : ℤ) → (x *ℤ y) *ℤ z ≡ y *ℤ (x *ℤ z)
@@ -112,7 +112,7 @@ product_value-all_placed vs (w ∷ ws) env =
 -- a product of monomials
 value-multiplied : (m n : Monomial) (env : List ℤ) → monomial_value (multiplied m n) env ≡ monomial_value m env *ℤ monomial_value n env
 value-multiplied m n env =
-    ap (λ (z : ℤ). (m.coef *ℤ n.coef) *ℤ z) (product_value-all_placed m.vars n.vars env)
+    ap (λ (z : ℤ). (m.coef *ℤ n.coef) *ℤ z) (product_value-all_inserted m.vars n.vars env)
     ∙ swap m.coef n.coef (product_value m.vars env) (product_value n.vars env)
   where
     swap : (a b x y : ℤ) → (a *ℤ b) *ℤ (x *ℤ y) ≡ (a *ℤ x) *ℤ (b *ℤ y)

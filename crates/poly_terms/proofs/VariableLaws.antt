@@ -12,23 +12,23 @@ use Rattle.int_laws.specs.NormalForm.{is_zero}
 use Rattle.model.specs.Terms.{Term, Literal, Variable, Negation, Addition, Subtraction, Multiplication, Exponentiation, value}
 use Rattle.model.specs.Polynomials.{Monomial, Polynomial}
 use Rattle.poly_terms.specs.Checked.{ReadsBelow}
-use Rattle.poly_terms.specs.Expanding.{order, added, all_added, without_zeros, opposite, placed, all_placed, multiplied, products, power_of, expanded}
+use Rattle.poly_terms.specs.Expanding.{order, added, all_added, without_zeros, opposite, inserted, all_inserted, multiplied, products, power_of, expanded}
 use Rattle.poly_terms.specs.Ordered.{IsBefore, IsAscending, IsBounded}
 use Rattle.poly_terms.specs.Rows.{coefficient, AreBelow, HasVariablesBelow}
 use Rattle.poly_terms.proofs.OrderLaws.{before-all}
 
 -- a variable more
-below-placed : (n v : ℕ) (vs : List ℕ) → v < n → AreBelow n vs → AreBelow n (placed v vs)
-below-placed n v [] l h = (l, tt)
-below-placed n v (w ∷ ws) l h = go (nat_lt w v) (below-placed n v ws l h.1)
+below-inserted : (n v : ℕ) (vs : List ℕ) → v < n → AreBelow n vs → AreBelow n (inserted v vs)
+below-inserted n v [] l h = (l, tt)
+below-inserted n v (w ∷ ws) l h = go (nat_lt w v) (below-inserted n v ws l h.1)
   where
-    go : (b : Bool) → AreBelow n (placed v ws) → AreBelow n (if b then w ∷ placed v ws else v ∷ w ∷ ws)
+    go : (b : Bool) → AreBelow n (inserted v ws) → AreBelow n (if b then w ∷ inserted v ws else v ∷ w ∷ ws)
     go true ih = (h.0, ih)
     go false ih = (l, (h.0, h.1))
 
-below-all_placed : (n : ℕ) (vs ws : List ℕ) → AreBelow n vs → AreBelow n ws → AreBelow n (all_placed vs ws)
-below-all_placed n vs [] h k = h
-below-all_placed n vs (w ∷ ws) h k = below-all_placed n (placed w vs) ws (below-placed n w vs k.0 h) k.1
+below-all_inserted : (n : ℕ) (vs ws : List ℕ) → AreBelow n vs → AreBelow n ws → AreBelow n (all_inserted vs ws)
+below-all_inserted n vs [] h k = h
+below-all_inserted n vs (w ∷ ws) h k = below-all_inserted n (inserted w vs) ws (below-inserted n w vs k.0 h) k.1
 
 -- a monomial more
 below-added : (n : ℕ) (m : Monomial) (ts : Polynomial) → AreBelow n m.vars → HasVariablesBelow n ts → HasVariablesBelow n (added m ts)
@@ -62,7 +62,7 @@ below-opposite n (m ∷ p) h = (h.0, below-opposite n p h.1)
 
 below-row : (n : ℕ) (m : Monomial) (q : Polynomial) → AreBelow n m.vars → HasVariablesBelow n q → HasVariablesBelow n (map (multiplied m) q)
 below-row n m [] a h = tt
-below-row n m (k ∷ q) a h = (below-all_placed n m.vars k.vars a h.0, below-row n m q a h.1)
+below-row n m (k ∷ q) a h = (below-all_inserted n m.vars k.vars a h.0, below-row n m q a h.1)
 
 below-append : (n : ℕ) (p q : List Monomial) → HasVariablesBelow n p → HasVariablesBelow n q → HasVariablesBelow n (p ++ q)
 below-append n [] q h k = k

@@ -3,7 +3,7 @@ use Rattle.std.proofs.Common.{◌≡◌, ℕ, zero, suc, ◌*◌, ◌^◌, ◌/�
 use Rattle.std.specs.Prelude.{ℤ, pos, negsuc, ◌+ℤ◌, ◌*ℤ◌, neg_ℤ, nat_abs, int_div}
 use Rattle.std.proofs.lemmas.Int.{ints, unsigned_abs-mul}
 use Rattle.std.proofs.Math.Nat.{mul-le-mul}
-use Rattle.poly_terms.specs.Faults.{maximum_coefficient}
+use Rattle.model.specs.Limits.{coefficient_limit}
 use Rattle.poly_terms.specs.Wide.{base}
 
 -- the opposite has the same absolute value
@@ -18,12 +18,12 @@ quotient-size (pos a) = omega arith
 quotient-size (negsuc a) = subst (λ (n : ℕ). n * base ≤ suc a) (sym (nat_abs-neg (pos (suc a / base)))) (omega arith)
 
 -- a product of coefficients is below 2^126
-pub product-size : (a b : ℤ) → nat_abs a ≤ maximum_coefficient → nat_abs b ≤ maximum_coefficient → nat_abs (a *ℤ b) < 2 ^ 126
-product-size a b h k = omega (arith, unsigned_abs-mul a b, at_most (nat_abs a) (nat_abs b) maximum_coefficient maximum_coefficient h k)
+pub product-size : (a b : ℤ) → nat_abs a ≤ coefficient_limit → nat_abs b ≤ coefficient_limit → nat_abs (a *ℤ b) < 2 ^ 126
+product-size a b h k = omega (arith, unsigned_abs-mul a b, at_most (nat_abs a) (nat_abs b) coefficient_limit coefficient_limit h k)
   where
     at_most : (x y m n : ℕ) → x ≤ m → y ≤ n → x * y ≤ m * n
     at_most x y m n = mul-le-mul
 
 -- where the upper limb isn't -1, 0 or 1 and the lower one is below 2^64, the integer is over 2^63 - 1
-pub high-is-large : (h l : ℤ) → 1 < nat_abs h → nat_abs l < base → maximum_coefficient < nat_abs (h *ℤ pos base +ℤ l)
+pub high-is-large : (h l : ℤ) → 1 < nat_abs h → nat_abs l < base → coefficient_limit < nat_abs (h *ℤ pos base +ℤ l)
 high-is-large h l e f = omega (arith, ints, e, f)

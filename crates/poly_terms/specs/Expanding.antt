@@ -11,11 +11,13 @@ use Rattle.model.specs.Polynomials.{Monomial, Polynomial}
 abbrev pub order : List ℕ → List ℕ → Ordering
 order vs ws = slice_cmp nat_cmp vs ws
 
--- a monomial added to a polynomial: to the coefficient of the one with the same variables, else at its place in the order
+-- a monomial added to a polynomial: to the coefficient of the one with the same variables, else at its position in the
+-- order
 abbrev pub added : Monomial → Polynomial → Polynomial
 added m [] = m ∷ []
 added m (t ∷ ts) =
-    match_ordering (order m.vars t.vars) (m ∷ t ∷ ts) (record { coef = t.coef +ℤ m.coef; vars = t.vars } ∷ ts) (t ∷ added m ts)
+    match_ordering (order m.vars t.vars) (m ∷ t ∷ ts) (record { coef = t.coef +ℤ m.coef; vars = t.vars } ∷ ts) (t
+    ∷ added m ts)
 
 -- all monomials of the second list added to a polynomial, one by one
 abbrev pub all_added : Polynomial → List Monomial → Polynomial
@@ -35,19 +37,19 @@ sum_of p q = without_zeros (all_added p q)
 abbrev pub opposite : Monomial → Monomial
 opposite m = record { coef = neg_ℤ m.coef; vars = m.vars }
 
--- a variable more, at its place among ascending ones
-abbrev pub placed : ℕ → List ℕ → List ℕ
-placed v [] = v ∷ []
-placed v (w ∷ ws) = if nat_lt w v then w ∷ placed v ws else v ∷ w ∷ ws
+-- a variable more, at its position among ascending ones
+abbrev pub inserted : ℕ → List ℕ → List ℕ
+inserted v [] = v ∷ []
+inserted v (w ∷ ws) = if nat_lt w v then w ∷ inserted v ws else v ∷ w ∷ ws
 
 -- the variables of the second list more
-abbrev pub all_placed : List ℕ → List ℕ → List ℕ
-all_placed vs [] = vs
-all_placed vs (w ∷ ws) = all_placed (placed w vs) ws
+abbrev pub all_inserted : List ℕ → List ℕ → List ℕ
+all_inserted vs [] = vs
+all_inserted vs (w ∷ ws) = all_inserted (inserted w vs) ws
 
 -- the product of two monomials
 abbrev pub multiplied : Monomial → Monomial → Monomial
-multiplied m n = record { coef = m.coef *ℤ n.coef; vars = all_placed m.vars n.vars }
+multiplied m n = record { coef = m.coef *ℤ n.coef; vars = all_inserted m.vars n.vars }
 
 -- the products of each monomial of the first list with each of the second
 abbrev pub products : Polynomial → Polynomial → List Monomial

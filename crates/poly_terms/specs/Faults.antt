@@ -1,6 +1,7 @@
 -- What makes an expression too large to be expanded, and where.
 use Rattle.std.specs.Prelude.{ℕ, zero, suc, Bool, false, ◌||◌, if◌then◌else◌, nat_lt, List, [], ◌∷◌, ◌++◌, length, Option, Some, None, nat_abs}
 use Rattle.model.specs.Terms.{Term, Literal, Variable, Negation, Addition, Subtraction, Multiplication, Exponentiation}
+use Rattle.model.specs.Limits.{coefficient_limit, monomial_limit, degree_limit}
 use Rattle.model.specs.Polynomials.{Polynomial, degree_of}
 use Rattle.poly_terms.specs.Expanding.{expanded}
 
@@ -10,22 +11,18 @@ pub data Fault : Type 0 where
   ManyTerms : Fault
   HighDegree : Fault
 
--- the maximum absolute value of a coefficient: 2^63 - 1
-abbrev pub maximum_coefficient : ℕ
-maximum_coefficient = 9223372036854775807
-
 -- some coefficient has an absolute value over 2^63 - 1
 abbrev pub has_large : Polynomial → Bool
 has_large [] = false
-has_large (m ∷ ms) = nat_lt maximum_coefficient (nat_abs m.coef) || has_large ms
+has_large (m ∷ ms) = nat_lt coefficient_limit (nat_abs m.coef) || has_large ms
 
 -- the least fault of a polynomial that stands for a power with this exponent: a coefficient over 2^63 - 1, more than 64
 -- monomials, a degree over 8 or an exponent over 8
 abbrev pub fault_in : Polynomial → ℕ → Option Fault
 fault_in p exponent =
     if has_large p then Some LargeCoefficient
-    else (if nat_lt 64 (length p) then Some ManyTerms
-    else (if nat_lt 8 exponent || nat_lt 8 (degree_of p) then Some HighDegree else None))
+    else (if nat_lt monomial_limit (length p) then Some ManyTerms
+    else (if nat_lt degree_limit exponent || nat_lt degree_limit (degree_of p) then Some HighDegree else None))
 
 -- the exponent of a power; any other expression is its own first power
 abbrev pub exponent_of : Term → ℕ

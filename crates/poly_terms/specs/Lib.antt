@@ -6,7 +6,8 @@ pub mod Answers
 pub mod Wide
 pub mod Rows
 pub mod Checked
-pub mod Places
+pub mod Positions
 pub mod Powers
 pub mod Laws
 pub mod Operands
+pub mod WorkedForms

@@ -1,9 +1,9 @@
 -- What the monomials of an expanded form are like.
 use Rattle.std.specs.Prelude.{◌≡◌, ◌≢◌, ℕ, ◌≤◌, List, [], ◌∷◌, length, pos, nat_abs, ⊤}
 use Rattle.std.specs.declared.cmp.Ordering.TheVariants.{Less}
+use Rattle.model.specs.Limits.{coefficient_limit, monomial_limit, degree_limit}
 use Rattle.model.specs.Polynomials.{Polynomial, degree_of}
 use Rattle.poly_terms.specs.Expanding.{order}
-use Rattle.poly_terms.specs.Faults.{maximum_coefficient}
 
 -- a list of variables comes before those of all monomials
 abbrev pub IsBefore : List ℕ → Polynomial → Type 0
@@ -48,6 +48,6 @@ pub record IsOrdered (p : Polynomial) : Type 0 where
 
 -- at most 64 monomials of degree at most 8, with coefficients of at most 2^63 - 1 in absolute value
 pub record IsSmall (p : Polynomial) : Type 0 where
-  pub coefficients : IsBounded maximum_coefficient p
-  pub terms : length p ≤ 64
-  pub degree : degree_of p ≤ 8
+  pub coefficients : IsBounded coefficient_limit p
+  pub terms : length p ≤ monomial_limit
+  pub degree : degree_of p ≤ degree_limit

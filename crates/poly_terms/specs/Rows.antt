@@ -13,7 +13,11 @@ coefficient vs (m ∷ ms) = if is_eq (order vs m.vars) then m.coef +ℤ coeffici
 
 -- the coefficients of so many variables, and the constant
 abbrev pub linear_form : ℕ → Polynomial → Form
-linear_form width p = record { coefs = map (λ i. coefficient (i ∷ []) p) (range_with_len 0 width); constant = coefficient [] p }
+linear_form width p = record {
+  coefs = map (λ i. coefficient (i
+      ∷ []) p) (range_with_len 0 width);
+  constant = coefficient [] p;
+}
 
 -- each number is below n
 abbrev pub AreBelow : ℕ → List ℕ → Type 0

@@ -25,9 +25,9 @@ use std::alloc::Global;
 ///
 /// # Errors
 ///
-/// The fault of the first subexpression that has one, children before parents, left before right, and the lower powers of
-/// a power's base before the power; of several faults of one subexpression the least in the order of `PolyError`. `Memory`
-/// where an allocation fails.
+/// The fault of the first subexpression that has one, children before parents, left before right, and the lower powers
+/// of a power's base before the power; of several faults of one subexpression the least in the order of `PolyError`.
+/// `Memory` where an allocation fails.
 pub fn expand(alloc: Global, e: &Expr) -> Result<Poly, PolyError>
     ensures exact { Answers result (first_fault (term_of e.now)) (expanded (term_of e.now)) }
     ensures value { IfOk result (λ p. HasTheValueOf (term_of e.now) (poly_of p)) }
@@ -43,7 +43,8 @@ pub fn expand(alloc: Global, e: &Expr) -> Result<Poly, PolyError>
 ///
 /// As those of `expand`.
 pub fn expand_difference(alloc: Global, d: &Expr, e: &Expr) -> Result<Poly, PolyError>
-    ensures { Answers result (first_fault (Subtraction (term_of d.now) (term_of e.now))) (expanded (Subtraction (term_of d.now) (term_of e.now))) }
+    ensures { let whole = Subtraction (term_of d.now) (term_of e.now) in
+        Answers result (first_fault whole) (expanded whole) }
 {
     difference(alloc, d, e)
 }
@@ -94,7 +95,8 @@ fn expansion(alloc: Global, e: &Expr) -> Result<Poly, PolyError>
 // The expanded polynomial of a difference, or its first fault.
 #[cycle(expansion)]
 fn difference(alloc: Global, d: &Expr, e: &Expr) -> Result<Poly, PolyError>
-    ensures { Answers result (first_fault (Subtraction (term_of d.now) (term_of e.now))) (expanded (Subtraction (term_of d.now) (term_of e.now))) }
+    ensures { let whole = Subtraction (term_of d.now) (term_of e.now) in
+        Answers result (first_fault whole) (expanded whole) }
 {
     match both(alloc, d, e) {
         Ok(pair) => limited_sum(pair.left, opposite_of(pair.right)),

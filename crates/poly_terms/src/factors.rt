@@ -1,35 +1,35 @@
 // The variables of a product of monomials.
 
 ghost use Rattle.std.specs.Prelude.{◌≡◌, ◌≤◌, length, IfOk, OnOk, insert};
-ghost use Rattle.poly_terms.specs.Expanding.{placed, all_placed};
+ghost use Rattle.poly_terms.specs.Expanding.{inserted, all_inserted};
 
 use crate::Memory;
 use std::alloc::Global;
 
 /// The variables of both lists in ascending order.
 pub(crate) fn joined(alloc: Global, left: &[u32], right: &[u32]) -> Result<Vec<u32>, Memory>
-    ensures { IfOk result (λ vars. vars.items ≡ all_placed left.now right.now) }
+    ensures { IfOk result (λ vars. vars.items ≡ all_inserted left.now right.now) }
 {
     let mut vars = left.to_vec(alloc)?;
     for v in right {
-        place(&mut vars, *v)?;
+        insert_factor(&mut vars, *v)?;
     }
     Ok(vars)
 }
 
-// Puts a variable at its place.
-fn place(vars: &mut Vec<u32>, v: u32) -> Result<(), Memory>
-    ensures { OnOk result (vars.new.items ≡ placed v vars.old.items) }
+// Puts a variable at its position.
+fn insert_factor(vars: &mut Vec<u32>, v: u32) -> Result<(), Memory>
+    ensures { OnOk result (vars.new.items ≡ inserted v vars.old.items) }
 {
-    let i = place_for(vars, v);
+    let i = position_for(vars, v);
     vars.insert(i, v)?;
     Ok(())
 }
 
-// Where a variable has its place: before the first that is at least as great.
-fn place_for(vars: &[u32], v: u32) -> usize
+// Where a variable has its position: before the first that is at least as great.
+fn position_for(vars: &[u32], v: u32) -> usize
     ensures within { result ≤ length vars.now }
-    ensures place { insert vars.now result v ≡ placed v vars.now }
+    ensures position { insert vars.now result v ≡ inserted v vars.now }
 {
     for (i, w) in vars.iter().enumerate() {
         if *w >= v {

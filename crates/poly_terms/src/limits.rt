@@ -1,6 +1,7 @@
 // The limits of expanded forms.
 
-ghost use Rattle.std.specs.Prelude.{◌≡◌};
+ghost use Rattle.std.specs.Prelude.{◌≡◌, ◌<◌, ◌≤◌, nat_abs, true, false};
+ghost use Rattle.model.specs.Limits.{coefficient_limit};
 ghost use Rattle.model.specs.Polynomials.{degree_of};
 ghost use Rattle.poly_terms.specs.Faults.{has_large, fault_in};
 ghost use Rattle.poly_terms.specs.Views.{poly_of, monomials_of};
@@ -8,9 +9,7 @@ ghost use Rattle.poly_terms.specs.Answers.{Answers};
 
 use crate::poly::{Monomial, Poly};
 use crate::poly_error::PolyError;
-
-/// The maximum absolute value of a coefficient: 2^63-1.
-pub(crate) const MAXIMUM_COEFFICIENT: u128 = 0x7fff_ffff_ffff_ffff;
+use model::{COEFFICIENT_LIMIT, DEGREE_LIMIT, MONOMIAL_LIMIT};
 
 /// The polynomial, or its least fault where it stands for a power with this exponent.
 pub(crate) fn limited(p: Poly, exponent: u32) -> Result<Poly, PolyError>
@@ -18,9 +17,9 @@ pub(crate) fn limited(p: Poly, exponent: u32) -> Result<Poly, PolyError>
 {
     if has_large_coefficient(&p.terms) {
         Err(PolyError::CoefTooLarge)
-    } else if p.terms.len() > 64 {
+    } else if p.terms.len() > MONOMIAL_LIMIT {
         Err(PolyError::TooManyTerms)
-    } else if exponent > 8 || degree(&p.terms) > 8 {
+    } else if exponent > DEGREE_LIMIT || degree(&p.terms) > DEGREE_LIMIT as usize {
         Err(PolyError::DegreeTooHigh)
     } else {
         Ok(p)
@@ -32,11 +31,19 @@ fn has_large_coefficient(terms: &[Monomial]) -> bool
     ensures { result ≡ has_large (monomials_of terms.now) }
 {
     for m in terms {
-        if m.coef.unsigned_abs() > MAXIMUM_COEFFICIENT {
+        if is_large(m.coef) {
             return true;
         }
     }
     false
+}
+
+/// Whether an integer is over 2^63-1 in absolute value.
+pub(crate) fn is_large(z: i128) -> bool
+    ensures yes { result ≡ true → coefficient_limit < nat_abs z }
+    ensures no { result ≡ false → nat_abs z ≤ coefficient_limit }
+{
+    z.unsigned_abs() > COEFFICIENT_LIMIT as u128
 }
 
 /// The most factors of a monomial.

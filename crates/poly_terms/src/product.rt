@@ -4,7 +4,8 @@ ghost use Rattle.std.specs.Prelude.{◌≡◌, ℕ, ◌+◌, ◌≤◌, ◌^◌,
 ghost use Rattle.std.specs.BTreeMap.{is_at};
 ghost use Rattle.std.specs.Map.{lookup};
 ghost use Rattle.poly_terms.specs.Expanding.{added, all_added, without_zeros, multiplied, product_of};
-ghost use Rattle.poly_terms.specs.Faults.{maximum_coefficient, fault_in};
+ghost use Rattle.model.specs.Limits.{coefficient_limit, monomial_limit};
+ghost use Rattle.poly_terms.specs.Faults.{fault_in};
 ghost use Rattle.poly_terms.specs.Ordered.{IsBounded, IsSmall};
 ghost use Rattle.poly_terms.specs.Views.{monomial_of, monomials_of, poly_of};
 ghost use Rattle.poly_terms.specs.Wide.{wide_value, sum_at, key_order, entries_of, IsWithin, AreWithin};
@@ -58,13 +59,14 @@ fn add_row(
     m: &Monomial,
     terms: &[Monomial],
 ) -> Result<(), Memory>
-    requires left { nat_abs m.now.coef ≤ maximum_coefficient }
-    requires right { IsBounded maximum_coefficient (monomials_of terms.now) }
-    requires few { length terms.now ≤ 64 }
+    requires left { nat_abs m.now.coef ≤ coefficient_limit }
+    requires right { IsBounded coefficient_limit (monomials_of terms.now) }
+    requires few { length terms.now ≤ monomial_limit }
     requires within { AreWithin (2 ^ 30) sums.old.entries }
     ensures sums { OnOk result (entries_of sums.new.entries
         ≡ all_added (entries_of sums.old.entries) (map (multiplied (monomial_of m.now)) (monomials_of terms.now))) }
-    ensures within { OnOk result ((n : ℕ) → AreWithin n sums.old.entries → AreWithin (n + length terms.now) sums.new.entries) }
+    ensures within { OnOk result ((n : ℕ) → AreWithin n sums.old.entries
+        → AreWithin (n + length terms.now) sums.new.entries) }
 {
     for n in terms {
         add_product(alloc, sums, m, n)?;
@@ -79,8 +81,8 @@ fn add_product(
     m: &Monomial,
     n: &Monomial,
 ) -> Result<(), Memory>
-    requires left { nat_abs m.now.coef ≤ maximum_coefficient }
-    requires right { nat_abs n.now.coef ≤ maximum_coefficient }
+    requires left { nat_abs m.now.coef ≤ coefficient_limit }
+    requires right { nat_abs n.now.coef ≤ coefficient_limit }
     requires within { AreWithin (2 ^ 31) sums.old.entries }
     ensures sums { OnOk result (entries_of sums.new.entries
         ≡ added (multiplied (monomial_of m.now) (monomial_of n.now)) (entries_of sums.old.entries)) }
@@ -96,7 +98,8 @@ fn add_product(
 fn sum_with(sums: &BTreeMap<Vec<u32>, Wide>, vars: &Vec<u32>, more: Wide) -> Wide
     requires so_far { AreWithin (2 ^ 31) sums.now.entries }
     requires one { IsWithin 1 more }
-    ensures value { wide_value result ≡ sum_at (lookup (is_at (key_order vars.now)) sums.now.entries) +ℤ wide_value more }
+    ensures value { wide_value result
+        ≡ sum_at (lookup (is_at (key_order vars.now)) sums.now.entries) +ℤ wide_value more }
     ensures within { (k : ℕ) → AreWithin k sums.now.entries → IsWithin (k + 1) result }
 {
     match sums.get(vars) {

@@ -7,7 +7,7 @@ ghost use Rattle.std.specs.Ordering.{is_lt};
 ghost use Rattle.poly_terms.specs.Expanding.{order, added, sum_of, opposite};
 ghost use Rattle.poly_terms.specs.Faults.{fault_in};
 ghost use Rattle.poly_terms.specs.Ordered.{IsAscending, IsBounded, IsSmall};
-ghost use Rattle.poly_terms.specs.Places.{place_in};
+ghost use Rattle.poly_terms.specs.Positions.{position_in};
 ghost use Rattle.poly_terms.specs.Views.{monomial_of, monomials_of, poly_of};
 ghost use Rattle.poly_terms.specs.Answers.{Answers};
 
@@ -53,7 +53,7 @@ fn add(terms: &mut Vec<Monomial>, m: Monomial) -> Result<(), Memory>
     requires small { nat_abs m.coef ≤ 2 ^ 100 }
     ensures { OnOk result (monomials_of terms.new.items ≡ added (monomial_of m) (monomials_of terms.old.items)) }
 {
-    let i = place_of(terms, &m.vars);
+    let i = position_of(terms, &m.vars);
     if has_variables_at(terms, i, &m.vars) {
         let coef = terms[i].coef + m.coef;
         set_coefficient(terms, i, coef);
@@ -67,7 +67,8 @@ fn add(terms: &mut Vec<Monomial>, m: Monomial) -> Result<(), Memory>
 fn has_variables_at(terms: &[Monomial], i: usize, vars: &Vec<u32>) -> bool
     ensures yes { result ≡ true → i < length terms.now }
     ensures same { result ≡ true → (d : Monomial) → (slice_index_or terms.now i d).vars.items ≡ vars.now.items }
-    ensures other { result ≡ false → i < length terms.now → (d : Monomial) → (slice_index_or terms.now i d).vars.items ≢ vars.now.items }
+    ensures other { result ≡ false → i < length terms.now
+        → (d : Monomial) → (slice_index_or terms.now i d).vars.items ≢ vars.now.items }
 {
     if i < terms.len() {
         terms[i].vars == *vars
@@ -80,15 +81,18 @@ fn has_variables_at(terms: &[Monomial], i: usize, vars: &Vec<u32>) -> bool
 fn set_coefficient(terms: &mut Vec<Monomial>, i: usize, coef: i128)
     requires { i < length terms.old.items }
     ensures { (d : plain.Monomial) → monomials_of terms.new.items
-        ≡ slice_set (monomials_of terms.old.items) i (record { coef = coef; vars = (slice_index_or (monomials_of terms.old.items) i d).vars }) }
+        ≡ slice_set (monomials_of terms.old.items) i (record {
+          coef = coef;
+          vars = (slice_index_or (monomials_of terms.old.items) i d).vars;
+        }) }
 {
     terms[i].coef = coef;
 }
 
-// Where a list of variables has its place, by halves; one behind the last is seen at once.
-fn place_of(terms: &[Monomial], vars: &Vec<u32>) -> usize
+// Where a list of variables has its position, by halves; one behind the last is seen at once.
+fn position_of(terms: &[Monomial], vars: &Vec<u32>) -> usize
     requires { IsAscending (monomials_of terms.now) }
-    ensures { result ≡ place_in vars.now.items (monomials_of terms.now) }
+    ensures { result ≡ position_in vars.now.items (monomials_of terms.now) }
 {
     let mut low = 0;
     let mut high = terms.len();

@@ -1,10 +1,10 @@
 // Sums of products of coefficients, which may pass 128 bits and cancel all the same.
 
 ghost use Rattle.std.specs.Prelude.{◌≡◌, ℕ, ◌+◌, ◌*◌, ◌<◌, ◌≤◌, ◌^◌, pos, ◌+ℤ◌, ◌*ℤ◌, nat_abs, MatchOption};
-ghost use Rattle.poly_terms.specs.Faults.{maximum_coefficient};
+ghost use Rattle.model.specs.Limits.{coefficient_limit};
 ghost use Rattle.poly_terms.specs.Wide.{base, wide_value, IsWithin};
 
-use crate::limits::MAXIMUM_COEFFICIENT;
+use crate::limits::is_large;
 
 /// An integer in two limbs, `high` times 2^64 and `low`, neither of them normalised.
 #[derive(Clone, Copy)]
@@ -18,8 +18,8 @@ const BASE: i128 = 0x1_0000_0000_0000_0000;
 
 /// The product of two coefficients.
 pub(crate) fn wide_product(a: i128, b: i128) -> Wide
-    requires left { nat_abs a ≤ maximum_coefficient }
-    requires right { nat_abs b ≤ maximum_coefficient }
+    requires left { nat_abs a ≤ coefficient_limit }
+    requires right { nat_abs b ≤ coefficient_limit }
     ensures value { wide_value result ≡ a *ℤ b }
     ensures within { IsWithin 1 result }
 {
@@ -28,8 +28,8 @@ pub(crate) fn wide_product(a: i128, b: i128) -> Wide
 
 // The product of two coefficients, which is below 2^126.
 fn narrow_product(a: i128, b: i128) -> i128
-    requires left { nat_abs a ≤ maximum_coefficient }
-    requires right { nat_abs b ≤ maximum_coefficient }
+    requires left { nat_abs a ≤ coefficient_limit }
+    requires right { nat_abs b ≤ coefficient_limit }
     ensures value { result ≡ a *ℤ b }
     ensures size { nat_abs result < 2 ^ 126 }
 {
@@ -65,15 +65,15 @@ pub(crate) fn wide_sum(a: Wide, b: Wide) -> Wide
 pub(crate) fn narrow(wide: Wide) -> Option<i128>
     requires { IsWithin (2 ^ 32) wide }
     ensures { MatchOption result
-        (maximum_coefficient < nat_abs (wide_value wide))
-        (λ z. (z ≡ wide_value wide) × (nat_abs z ≤ maximum_coefficient)) }
+        (coefficient_limit < nat_abs (wide_value wide))
+        (λ z. (z ≡ wide_value wide) × (nat_abs z ≤ coefficient_limit)) }
 {
     let carried = carried(wide);
     if carried.high.unsigned_abs() > 1 {
         return None;
     }
     let whole = whole(carried.high, carried.low);
-    if whole.unsigned_abs() > MAXIMUM_COEFFICIENT {
+    if is_large(whole) {
         return None;
     }
     Some(whole)

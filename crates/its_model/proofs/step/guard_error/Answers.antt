@@ -1,11 +1,7 @@
-use Rattle.std.proofs.Common.{◌≡◌, ℕ, suc, ◌+◌, ◌++◌, List, length, map, drop, ap, sym, ◌∙◌, subst, arith}
-use Rattle.std.specs.Prelude.{Option, Some, ℤ}
-use Rattle.model.specs.Programs as plain
-use Rattle.its_model.specs.Steps.{StepFault, first_of, atom_fault, guard_fault}
-use Rattle.its_model.specs.StepAnswers.{fault_of}
+use Rattle.std.proofs.Common.{◌+◌, length}
 use Rattle.its_model.specs.Valid.{IsValidAtom}
 use Rattle.its_model.specs.Views.{atom_of}
-use Rattle.its_model.proofs.ListLaws.{mapped-from, mapped-all}
+use Rattle.its_model.proofs.ListLaws.{mapped-all}
 use Rattle.its_model.proofs.step.guard_error.Goals as goal
 
 pub atom_error-requires : goal.atom_error-requires

@@ -1,5 +1,5 @@
-use Rattle.std.proofs.Common.{◌≡◌, ◌≤◌, ◌++◌, ℕ, List, length, map, ap, sym, ◌∙◌, subst, arith}
-use Rattle.std.specs.Prelude.{ℤ, Option, Some, None, Result, Ok, Err, MatchResult, IfOk}
+use Rattle.std.proofs.Common.{◌≡◌, ◌++◌, length, map, ap, sym, ◌∙◌, subst, arith}
+use Rattle.std.specs.Prelude.{Some, None, Result, Ok, Err, MatchResult, IfOk}
 use Rattle.model.specs.Terms.{value}
 use Rattle.model.specs.Programs as plain
 use Rattle.model.specs.Runs as runs
@@ -7,7 +7,7 @@ use Rattle.its_model.specs.declared.step_error.StepError.{StepError}
 use Rattle.its_model.specs.StepAnswers.{fault_of}
 use Rattle.its_model.specs.Steps.{rule_fault}
 use Rattle.its_model.specs.Valid.{IsValidRule}
-use Rattle.its_model.specs.Views.{rule_of, program_of, config_of, step_of}
+use Rattle.its_model.specs.Views.{rule_of, program_of, config_of}
 use Rattle.std.proofs.lemmas.List.{length-map}
 use Rattle.poly_terms.specs.Views.{term_of}
 use Rattle.its_model.proofs.ListLaws.{mapped-all}

@@ -1,8 +1,7 @@
-use Rattle.std.proofs.Common.{◌≡◌, ◌+◌, length, ap, sym, ◌∙◌, subst, arith}
+use Rattle.std.proofs.Common.{◌+◌, length}
 use Rattle.poly_terms.specs.Views.{term_of}
 use Rattle.its_model.specs.Valid.{IsValidTerm}
-use Rattle.its_model.proofs.ListLaws.{mapped-from, mapped-all}
-use Rattle.its_model.proofs.StepLaws.{within-some, within-none}
+use Rattle.its_model.proofs.ListLaws.{mapped-all}
 use Rattle.its_model.proofs.step.update.Goals as goal
 
 pub value_in_parts-requires : goal.value_in_parts-requires

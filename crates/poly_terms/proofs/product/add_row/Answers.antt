@@ -1,7 +1,7 @@
 use Rattle.std.proofs.Common.{◌≡◌, ◌+◌, ◌^◌, map, drop, ap, sym, ◌∙◌, arith, subst, ℕ}
 use Rattle.model.specs.Polynomials as plain
 use Rattle.poly_terms.specs.Expanding.{all_added, multiplied}
-use Rattle.poly_terms.specs.Faults.{maximum_coefficient}
+use Rattle.model.specs.Limits.{coefficient_limit}
 use Rattle.poly_terms.specs.Views.{monomial_of, monomials_of}
 use Rattle.poly_terms.specs.Wide.{entries_of, AreWithin}
 use Rattle.poly_terms.proofs.LoopLaws.{monomials-from}
@@ -11,7 +11,7 @@ use Rattle.poly_terms.proofs.product.add_row.Goals as goal
 
 pub add_product-requires-clause-right : goal.add_product-requires-clause-right
 add_product-requires-clause-right c =
-    bounded-here maximum_coefficient c.args.terms.now c.loop-n.n-index c.n-item.result c.requires.right c.loop-n-test.true c.n-item.is
+    bounded-here coefficient_limit c.args.terms.now c.loop-n.n-index c.n-item.result c.requires.right c.loop-n-test.true c.n-item.is
 
 pub add_product-requires-clause-within : goal.add_product-requires-clause-within
 add_product-requires-clause-within c =

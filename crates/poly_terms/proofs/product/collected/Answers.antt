@@ -4,7 +4,8 @@ use Rattle.std.specs.Int.{w128}
 use Rattle.std.proofs.lemmas.Int.{to_z-of_z, fits_signed_from_abs}
 use Rattle.model.specs.Polynomials as plain
 use Rattle.poly_terms.specs.Expanding.{without_zeros}
-use Rattle.poly_terms.specs.Faults.{maximum_coefficient, has_large}
+use Rattle.model.specs.Limits.{coefficient_limit}
+use Rattle.poly_terms.specs.Faults.{has_large}
 use Rattle.poly_terms.specs.Views.{monomials_of}
 use Rattle.poly_terms.specs.Wide.{entry_of, entries_of, AreWithin}
 use Rattle.poly_terms.proofs.CollectLaws.{taken-more, large-among, small-more}
@@ -33,6 +34,6 @@ loop-vars-preserved c =
       whole = ap (λ (us : plain.Polynomial). us ++ without_zeros rest) pushed
           ∙ (taken-more terms here rest ∙ (sym (ap (λ es. terms ++ without_zeros (entries_of es)) left) ∙ c.loop-vars.invariant.whole));
       small = ap has_large pushed
-          ∙ (small-more terms here (subst (λ (z : ℤ). nat_abs z ≤ maximum_coefficient) c.in-Some-narrow.ensures.0 small) ∙ c.loop-vars.invariant.small);
+          ∙ (small-more terms here (subst (λ (z : ℤ). nat_abs z ≤ coefficient_limit) c.in-Some-narrow.ensures.0 small) ∙ c.loop-vars.invariant.small);
       within = (subst (AreWithin (2 ^ 32)) left c.loop-vars.invariant.within).1;
     }

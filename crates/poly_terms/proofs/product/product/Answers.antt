@@ -2,7 +2,7 @@ use Rattle.std.proofs.Common.{◌≡◌, ◌+◌, ◌*◌, ◌<◌, ◌≤◌, �
 use Rattle.std.proofs.lemmas.List.{length-map}
 use Rattle.model.specs.Polynomials as plain
 use Rattle.poly_terms.specs.Expanding.{all_added, multiplied, products}
-use Rattle.poly_terms.specs.Faults.{maximum_coefficient}
+use Rattle.model.specs.Limits.{coefficient_limit}
 use Rattle.poly_terms.specs.declared.poly.Monomial.{Monomial}
 use Rattle.poly_terms.specs.Views.{monomial_of, monomials_of}
 use Rattle.poly_terms.specs.Wide.{entries_of}
@@ -15,7 +15,7 @@ use Rattle.poly_terms.proofs.product.product.Goals as goal
 pub add_row-requires-clause-left : goal.add_row-requires-clause-left
 add_row-requires-clause-left c =
     let items = c.deref-m-items.ensures.value in
-    bounded-here maximum_coefficient c.args.p.now.terms.items c.loop-m.m-index c.m-item.result c.requires.left.coefficients
+    bounded-here coefficient_limit c.args.p.now.terms.items c.loop-m.m-index c.m-item.result c.requires.left.coefficients
     (subst (λ (ts : List Monomial). c.loop-m.m-index < length ts) items c.loop-m-test.true)
     (subst (λ (ts : List Monomial). c.m-item.result ≡ get_or ts c.loop-m.m-index c.m-item.result) items c.m-item.is)
 

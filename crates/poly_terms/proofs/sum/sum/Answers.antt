@@ -3,7 +3,7 @@ use Rattle.std.proofs.lemmas.List.{length-map}
 use Rattle.model.specs.Polynomials as plain
 use Rattle.poly_terms.specs.declared.poly.Monomial.{Monomial}
 use Rattle.poly_terms.specs.Expanding.{added, all_added, without_zeros}
-use Rattle.poly_terms.specs.Faults.{maximum_coefficient}
+use Rattle.model.specs.Limits.{coefficient_limit}
 use Rattle.poly_terms.specs.Ordered.{IsAscending, IsBounded}
 use Rattle.poly_terms.specs.Views.{monomial_of, poly_of, monomials_of}
 use Rattle.poly_terms.proofs.SumLaws.{bounded-more, bounded-added}
@@ -19,19 +19,19 @@ loop-m-init c =
       whole = ap (λ (ms : List Monomial). all_added (monomials_of c.args.p.terms.items) (monomials_of ms)) all;
       ascending = c.requires.ascending;
       few = few;
-      before = bounded-more maximum_coefficient _ (poly_of c.args.p) (omega (arith, few)) c.requires.left.coefficients;
-      left = subst (λ (ms : List Monomial). IsBounded maximum_coefficient (monomials_of ms)) (sym all) c.requires.right.coefficients;
+      before = bounded-more coefficient_limit _ (poly_of c.args.p) (omega (arith, few)) c.requires.left.coefficients;
+      left = subst (λ (ms : List Monomial). IsBounded coefficient_limit (monomials_of ms)) (sym all) c.requires.right.coefficients;
     }
 
 pub add-requires-clause-ascending : goal.add-requires-clause-ascending
 add-requires-clause-ascending c = c.loop-m.invariant.ascending
 
 pub add-requires-clause-before : goal.add-requires-clause-before
-add-requires-clause-before c = bounded-more (maximum_coefficient * (65 - length c.loop-m.m-iterator.rest.items)) (2 ^ 100) (monomials_of c.loop-m.terms.items) (omega arith) c.loop-m.invariant.before
+add-requires-clause-before c = bounded-more (coefficient_limit * (65 - length c.loop-m.m-iterator.rest.items)) (2 ^ 100) (monomials_of c.loop-m.terms.items) (omega arith) c.loop-m.invariant.before
 
 pub add-requires-clause-small : goal.add-requires-clause-small
 add-requires-clause-small c =
-    let left = subst (λ (ms : List Monomial). IsBounded maximum_coefficient (monomials_of ms)) c.in-Some.ensures.steps.0 c.loop-m.invariant.left in
+    let left = subst (λ (ms : List Monomial). IsBounded coefficient_limit (monomials_of ms)) c.in-Some.ensures.steps.0 c.loop-m.invariant.left in
     omega (arith, left.0)
 
 pub loop-m-preserved : goal.loop-m-preserved
@@ -40,17 +40,17 @@ loop-m-preserved c =
     let terms = monomials_of c.loop-m.terms.items in
     let rest = c.loop-m.m-iterator.rest.items in
     let next = c.next.new.self.rest.items in
-    let left = subst (λ (ms : List Monomial). IsBounded maximum_coefficient (monomials_of ms)) steps c.loop-m.invariant.left in
+    let left = subst (λ (ms : List Monomial). IsBounded coefficient_limit (monomials_of ms)) steps c.loop-m.invariant.left in
     let one : length rest ≡ suc (length next) = ap length steps in
     record {
       whole = ap (λ (ts : plain.Polynomial). all_added ts (monomials_of next)) c.in_ok-add.ensures
           ∙ (sym (ap (λ (ms : List Monomial). all_added terms (monomials_of ms)) steps) ∙ c.loop-m.invariant.whole);
       ascending = subst IsAscending (sym c.in_ok-add.ensures) (ascending-added (monomial_of c.in-Some.m) terms c.loop-m.invariant.ascending);
       few = omega (arith, one, c.loop-m.invariant.few);
-      before = subst (IsBounded (maximum_coefficient * (65 - length next))) (sym c.in_ok-add.ensures)
-          (bounded-more (maximum_coefficient * (65 - length rest) + maximum_coefficient) (maximum_coefficient * (65 - length next)) (added (monomial_of c.in-Some.m) terms)
+      before = subst (IsBounded (coefficient_limit * (65 - length next))) (sym c.in_ok-add.ensures)
+          (bounded-more (coefficient_limit * (65 - length rest) + coefficient_limit) (coefficient_limit * (65 - length next)) (added (monomial_of c.in-Some.m) terms)
           (omega (arith, one, c.loop-m.invariant.few))
-          (bounded-added (maximum_coefficient * (65 - length rest)) maximum_coefficient (monomial_of c.in-Some.m) terms left.0 c.loop-m.invariant.before));
+          (bounded-added (coefficient_limit * (65 - length rest)) coefficient_limit (monomial_of c.in-Some.m) terms left.0 c.loop-m.invariant.before));
       left = left.1;
     }
 

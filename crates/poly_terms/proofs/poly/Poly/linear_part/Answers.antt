@@ -5,7 +5,7 @@ use Rattle.poly_terms.specs.declared.poly.Monomial.{Monomial}
 use Rattle.poly_terms.specs.Rows.{AreBelow, HasValueOf}
 use Rattle.poly_terms.specs.Views.{monomial_of, monomials_of, poly_of, form_of}
 use Rattle.poly_terms.proofs.RowLaws.{IsFormOf, form-of-more, form-of-all, degree-of-all, degree-at, below-at, linear_form-value}
-use Rattle.poly_terms.proofs.PlaceLaws.{at-monomial}
+use Rattle.poly_terms.proofs.PositionLaws.{at-monomial}
 use Rattle.poly_terms.proofs.poly.Poly.linear_part.Goals as goal
 
 -- the monomial that stands at the position

@@ -1,13 +1,13 @@
 use Rattle.std.proofs.Common.{◌-◌, ◌<◌, ◌≤◌, length}
 use Rattle.poly_terms.specs.Views.{monomials_of}
-use Rattle.poly_terms.specs.Places.{place_in}
-use Rattle.poly_terms.proofs.sum.place_of.Given as goal
+use Rattle.poly_terms.specs.Positions.{position_in}
+use Rattle.poly_terms.proofs.sum.position_of.Given as goal
 
--- the place is from `low` to `high`, and so is the middle
+-- the position is from `low` to `high`, and so is the middle
 abbrev pub invariant-loop-low : goal.invariant-loop-low
 invariant-loop-low l = record {
-  from : l.low ≤ place_in l.vars.items (monomials_of l.terms);
-  upto : place_in l.vars.items (monomials_of l.terms) ≤ l.high;
+  from : l.low ≤ position_in l.vars.items (monomials_of l.terms);
+  upto : position_in l.vars.items (monomials_of l.terms) ≤ l.high;
   within : l.high ≤ length l.terms;
   at_least : l.low ≤ l.middle;
   less : l.low < l.high → l.middle < l.high;

@@ -1,10 +1,10 @@
--- Where a list of variables has its place in a polynomial.
+-- Where a list of variables has its position in a polynomial.
 use Rattle.std.specs.Prelude.{ℕ, suc, List, [], ◌∷◌, if◌then◌else◌}
 use Rattle.std.specs.Ordering.{is_lt}
 use Rattle.model.specs.Polynomials.{Polynomial}
 use Rattle.poly_terms.specs.Expanding.{order}
 
 -- how many monomials from the first on have variables before these
-abbrev pub place_in : List ℕ → Polynomial → ℕ
-place_in vs [] = 0
-place_in vs (m ∷ ms) = if is_lt (order m.vars vs) then suc (place_in vs ms) else 0
+abbrev pub position_in : List ℕ → Polynomial → ℕ
+position_in vs [] = 0
+position_in vs (m ∷ ms) = if is_lt (order m.vars vs) then suc (position_in vs ms) else 0

@@ -1,5 +1,5 @@
 use Rattle.std.proofs.Common.{ℕ, ◌<◌, get_or}
-use Rattle.poly_terms.proofs.factors.place_for.Given as goal
+use Rattle.poly_terms.proofs.factors.position_for.Given as goal
 
 -- all before are smaller
 abbrev pub invariant-loop-i : goal.invariant-loop-i

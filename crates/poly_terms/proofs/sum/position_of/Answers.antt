@@ -1,13 +1,13 @@
 use Rattle.std.proofs.Common.{◌<◌, sym, ◌∙◌, arith}
 use Rattle.std.proofs.lemmas.List.{length-map}
 use Rattle.poly_terms.specs.Views.{monomial_of, monomials_of}
-use Rattle.poly_terms.proofs.PlaceLaws.{place-within, behind-at, before-at}
-use Rattle.poly_terms.proofs.sum.place_of.Goals as goal
-use Rattle.poly_terms.proofs.sum.place_of.Goals.{then-comes_before, else-comes_before}
+use Rattle.poly_terms.proofs.PositionLaws.{position-within, behind-at, before-at}
+use Rattle.poly_terms.proofs.sum.position_of.Goals as goal
+use Rattle.poly_terms.proofs.sum.position_of.Goals.{then-comes_before, else-comes_before}
 
 pub loop-low-init : goal.loop-low-init
 loop-low-init c =
-    let p = place-within c.args.vars.now.items (monomials_of c.args.terms.now) in
+    let p = position-within c.args.vars.now.items (monomials_of c.args.terms.now) in
     let n = length-map c.args.terms.now monomial_of in
     record { from = omega arith; upto = omega (arith, p, n); within = omega arith; at_least = omega arith; less = λ h. omega arith }
 

@@ -1,0 +1,152 @@
+-- The worked values of valid programs.
+use Rattle.std.proofs.Common.{ℕ, zero, suc, ◌≤◌, List, [], ◌∷◌, length, replicate, refl, arith}
+use Rattle.std.specs.List.{AllByRecursion}
+use Rattle.std.proofs.lemmas.List.{length-replicate}
+use Rattle.model.specs.Terms.{Variable}
+use Rattle.model.specs.Programs.{Atom, Always, Rule}
+use Rattle.its_model.specs.Valid.{IsValidRule, IsValidAtom}
+use Rattle.its_model.specs.WorkedPrograms.{rule_with, starting_at, ProgramsAreValid, PartsAgree, LimitsAreKept, DifferencesAreTaken, ProgramsAreWorkedOut}
+
+-- the programs are valid, or not, as was worked out
+valid : ProgramsAreValid
+valid = record {
+  small = record {
+    symbols = (record { name = (refl, refl); arity = omega arith }, (record { name = (refl, refl); arity = omega arith }, tt));
+    distinct = (refl, (refl, tt));
+    few_rules = omega arith;
+    rules = (
+      record {
+        source = omega arith;
+        target = omega arith;
+        left = refl;
+        places = refl;
+        named = refl;
+        names = ((refl, refl), ((refl, refl), tt));
+        distinct = (refl, (refl, tt));
+        few_variables = omega arith;
+        few_atoms = omega arith;
+        updates = (record { variables = (omega arith, omega arith); expands = refl }, tt);
+        guard = (record { left = omega arith; right = omega arith; expands = refl }, tt);
+      },
+      tt,
+    );
+    start = omega arith;
+    start_is_source = refl;
+    start_places = refl;
+    start_names = ((refl, refl), ((refl, refl), tt));
+    start_distinct = (refl, (refl, tt));
+  };
+  third_variable = λ h. absurd (let l = h.rules.0.updates.0.variables in omega (arith, l));
+  two_updates = λ h. absurd (let l = h.rules.0.places in omega (arith, l));
+  no_update = λ h. absurd (let l = h.rules.0.places in omega (arith, l));
+  ninth_power = λ h. let e = h.rules.0.updates.0.expands in cc;
+  ninth_power_in_guard = λ h. let e = h.rules.0.guard.0.expands in cc;
+  large_difference = λ h. let e = h.rules.0.guard.0.expands in cc;
+  greatest_literal = record {
+    symbols = (record { name = (refl, refl); arity = omega arith }, (record { name = (refl, refl); arity = omega arith }, tt));
+    distinct = (refl, (refl, tt));
+    few_rules = omega arith;
+    rules = (
+      record {
+        source = omega arith;
+        target = omega arith;
+        left = refl;
+        places = refl;
+        named = refl;
+        names = ((refl, refl), ((refl, refl), tt));
+        distinct = (refl, (refl, tt));
+        few_variables = omega arith;
+        few_atoms = omega arith;
+        updates = (record { variables = omega arith; expands = refl }, tt);
+        guard = (record { left = omega arith; right = tt; expands = refl }, tt);
+      },
+      tt,
+    );
+    start = omega arith;
+    start_is_source = refl;
+    start_places = refl;
+    start_names = ((refl, refl), ((refl, refl), tt));
+    start_distinct = (refl, (refl, tt));
+  };
+  start_is_target = λ h. let e = h.start_is_source in cc;
+  no_rule = λ h. let e = h.start_is_source in cc;
+}
+
+-- what holds of one holds of each of its copies
+copies : {X : Type 0} (P : X → Type 0) (n : ℕ) (x : X) → P x → AllByRecursion P (replicate n x)
+copies P zero x h = tt
+copies P (suc n) x h = (h, copies P n x h)
+
+-- a rule of the program with l0 and l1, from l0(A, B) to l1(A)
+plain_rule : (rules : List Rule) (guard : List Atom) → length guard ≤ 64 → AllByRecursion (IsValidAtom 2) guard → IsValidRule (starting_at 0 rules) (rule_with (Variable 0 ∷ []) guard)
+plain_rule rules guard few each = record {
+  source = omega arith;
+  target = omega arith;
+  left = refl;
+  places = refl;
+  named = refl;
+  names = ((refl, refl), ((refl, refl), tt));
+  distinct = (refl, (refl, tt));
+  few_variables = omega arith;
+  few_atoms = few;
+  updates = (record { variables = omega arith; expands = refl }, tt);
+  guard = each;
+}
+
+-- the parts of rules, symbols and starts
+parts : PartsAgree
+parts = record {
+  free_variable = record {
+    source = omega arith;
+    target = omega arith;
+    left = refl;
+    places = refl;
+    named = refl;
+    names = ((refl, refl), ((refl, refl), ((refl, refl), tt)));
+    distinct = (refl, (refl, (refl, tt)));
+    few_variables = omega arith;
+    few_atoms = omega arith;
+    updates = (record { variables = omega arith; expands = refl }, tt);
+    guard = tt;
+  };
+  no_symbol = λ h. absurd (let l = h.source in omega (arith, l));
+  one_left = λ h. absurd (let l = h.left in omega (arith, l));
+  three_left = λ h. absurd (let l = h.left in omega (arith, l));
+  same_names = λ h. let e = h.distinct.0 in cc;
+  one_name = λ h. absurd (let l = h.named in omega (arith, l));
+  empty_name = λ h. h.names.1.0;
+  digit = λ h. let e = h.names.1.0.0 in cc;
+  same_symbols = λ h. let e = h.distinct.0 in cc;
+  one_start_name = λ h. absurd (let l = h.start_places in omega (arith, l));
+  same_start_names = λ h. let e = h.start_distinct.0 in cc;
+}
+
+-- the limits
+limits : LimitsAreKept
+limits = record {
+  places = record { name = (refl, refl); arity = omega arith };
+  more_places = λ h. absurd (let l = h.arity in omega (arith, l));
+  atoms = plain_rule [] (replicate 64 Always) (omega (arith, length-replicate 64 Always)) (copies (IsValidAtom 2) 64 Always tt);
+  more_atoms = λ h. absurd (let l = h.few_atoms in omega (arith, l, length-replicate 65 Always));
+  rules = record {
+    symbols = (record { name = (refl, refl); arity = omega arith }, (record { name = (refl, refl); arity = omega arith }, tt));
+    distinct = (refl, (refl, tt));
+    few_rules = omega (arith, length-replicate 1000 (rule_with (Variable 0 ∷ []) []));
+    rules = copies (IsValidRule (starting_at 0 (replicate 1000 (rule_with (Variable 0 ∷ []) [])))) 1000 (rule_with (Variable 0 ∷ []) [])
+        (plain_rule (replicate 1000 (rule_with (Variable 0 ∷ []) [])) [] (omega arith) tt);
+    start = omega arith;
+    start_is_source = refl;
+    start_places = refl;
+    start_names = ((refl, refl), ((refl, refl), tt));
+    start_distinct = (refl, (refl, tt));
+  };
+  more_rules = λ h. absurd (let l = h.few_rules in omega (arith, l, length-replicate 1001 (rule_with (Variable 0 ∷ []) [])));
+  more_variables = λ names h. absurd (let l = h.few_variables in omega (arith, l));
+}
+
+-- differences are taken as was worked out
+differences : DifferencesAreTaken
+differences = record { at_least = refl; more_than = refl; at_most = refl; less_than = refl; equal_to = refl }
+
+pub programs-are-worked-out : ProgramsAreWorkedOut
+programs-are-worked-out = record { valid = valid; parts = parts; limits = limits; differences = differences }

@@ -1,0 +1,133 @@
+-- Valid programs, and what keeps a program from being one, worked out by hand.
+use Rattle.std.specs.Prelude.{◌≡◌, ℕ, List, [], ◌∷◌, replicate, pos}
+use Rattle.model.specs.Terms.{Term, Literal, Variable, Addition, Subtraction, Exponentiation}
+use Rattle.model.specs.Programs.{AtLeast, MoreThan, AtMost, LessThan, EqualTo, Atom, Always, Compare, Name, Symbol, Rule, Program}
+use Rattle.its_model.specs.Valid.{difference_of, IsValidSymbol, IsValidRule, IsValid}
+
+-- the rule l0(A, B) -> l1(update) where the atoms hold
+abbrev pub rule_with : List Term → List Atom → Rule
+rule_with updates guard = record {
+  source = 0;
+  target = 1;
+  left = 2;
+  free = 0;
+  names = (65 ∷ []) ∷ (66 ∷ []) ∷ [];
+  updates = updates;
+  guard = guard;
+}
+
+-- a rule to l1(A) without atoms, from a symbol by its number, with so many left and free variables of these names
+abbrev pub rule_from : ℕ → ℕ → ℕ → List Name → Rule
+rule_from source left free names = record {
+  source = source;
+  target = 1;
+  left = left;
+  free = free;
+  names = names;
+  updates = Variable 0 ∷ [];
+  guard = [];
+}
+
+-- the symbols l0 with two places and l1 with one
+abbrev pub two_and_one : List Symbol
+two_and_one = record { name = 108 ∷ 48 ∷ []; arity = 2 } ∷ record { name = 108 ∷ 49 ∷ []; arity = 1 } ∷ []
+
+-- the program with these rules that starts at a symbol with the start arguments A and B
+abbrev pub starting_at : ℕ → List Rule → Program
+starting_at start rules = record {
+  symbols = two_and_one;
+  start = start;
+  start_names = (65 ∷ []) ∷ (66 ∷ [])
+      ∷ [];
+  rules = rules;
+}
+
+-- the program l0(A, B) -> l1(A + B) where A > B
+abbrev pub small_program : Program
+small_program = starting_at 0 (rule_with (Addition (Variable 0) (Variable 1)
+    ∷ []) (Compare (Variable 0) MoreThan (Variable 1) ∷ []) ∷ [])
+
+-- which programs are valid
+pub record ProgramsAreValid : Type 0 where
+  -- the small program
+  pub small : IsValid small_program
+  -- not where the update reads a third variable
+  pub third_variable : ¬ (IsValid (starting_at 0 (rule_with (Variable 2 ∷ []) [] ∷ [])))
+  -- not where the target gets two values in its one place, or none
+  pub two_updates : ¬ (IsValid (starting_at 0 (rule_with (Variable 0 ∷ Variable 1 ∷ []) [] ∷ [])))
+  pub no_update : ¬ (IsValid (starting_at 0 (rule_with [] [] ∷ [])))
+  -- not where an update is A^9, or an atom is A^9 >= 0
+  pub ninth_power : ¬ (IsValid (starting_at 0 (rule_with (Exponentiation (Variable 0) 9 ∷ []) [] ∷ [])))
+  pub ninth_power_in_guard : ¬ (IsValid (starting_at 0 (rule_with (Variable 0
+      ∷ []) (Compare (Exponentiation (Variable 0) 9) AtLeast (Literal (pos 0)) ∷ []) ∷ [])))
+  -- A > 2^63 - 1 has the constant -2^63, while A >= 2^63 - 1 is an atom
+  pub large_difference : ¬ (IsValid (starting_at 0 (rule_with (Variable 0
+      ∷ []) (Compare (Variable 0) MoreThan (Literal (pos 9223372036854775807)) ∷ []) ∷ [])))
+  pub greatest_literal : IsValid (starting_at 0 (rule_with (Variable 0
+      ∷ []) (Compare (Variable 0) AtLeast (Literal (pos 9223372036854775807)) ∷ []) ∷ []))
+  -- not where no rule has the start symbol on its left
+  pub start_is_target : ¬ (IsValid (starting_at 1 (rule_with (Variable 0 ∷ []) [] ∷ [])))
+  -- not without a rule
+  pub no_rule : ¬ (IsValid (starting_at 0 []))
+
+-- what else a rule, a symbol and a start need
+pub record PartsAgree : Type 0 where
+  -- l0(A, B) -> l1(A) with the free variable C; not from a symbol without a number, or with one variable or three on
+  -- its left
+  pub free_variable : IsValidRule (starting_at 0 []) (rule_from 0 2 1 ((65 ∷ []) ∷ (66 ∷ []) ∷ (67 ∷ []) ∷ []))
+  pub no_symbol : ¬ (IsValidRule (starting_at 0 []) (rule_from 2 2 0 ((65 ∷ []) ∷ (66 ∷ []) ∷ [])))
+  pub one_left : ¬ (IsValidRule (starting_at 0 []) (rule_from 0 1 1 ((65 ∷ []) ∷ (66 ∷ []) ∷ [])))
+  pub three_left : ¬ (IsValidRule (starting_at 0 []) (rule_from 0 3 0 ((65 ∷ []) ∷ (66 ∷ []) ∷ (67 ∷ []) ∷ [])))
+  -- not with the names A and A, A alone, A and the empty one, or A and 1
+  pub same_names : ¬ (IsValidRule (starting_at 0 []) (rule_from 0 2 0 ((65 ∷ []) ∷ (65 ∷ []) ∷ [])))
+  pub one_name : ¬ (IsValidRule (starting_at 0 []) (rule_from 0 2 0 ((65 ∷ []) ∷ [])))
+  pub empty_name : ¬ (IsValidRule (starting_at 0 []) (rule_from 0 2 0 ((65 ∷ []) ∷ [] ∷ [])))
+  pub digit : ¬ (IsValidRule (starting_at 0 []) (rule_from 0 2 0 ((65 ∷ []) ∷ (49 ∷ []) ∷ [])))
+  -- two symbols don't share a name, and there is a name for each start argument, each another
+  pub same_symbols : ¬ (IsValid (record {
+    symbols = record { name = 108 ∷ []; arity = 1 } ∷ record { name = 108 ∷ []; arity = 1 } ∷ [];
+    start = 0;
+    start_names = (65 ∷ []) ∷ [];
+    rules = rule_from 0 1 0 ((65 ∷ []) ∷ []) ∷ [];
+  }))
+  pub one_start_name : ¬ (IsValid (record {
+    symbols = two_and_one;
+    start = 0;
+    start_names = (65 ∷ [])
+        ∷ [];
+    rules = small_program.rules;
+  }))
+  pub same_start_names : ¬ (IsValid (record {
+    symbols = two_and_one;
+    start = 0;
+    start_names = (65 ∷ []) ∷ (65 ∷ [])
+        ∷ [];
+    rules = small_program.rules;
+  }))
+
+-- the limits on both of their sides: 32 places, 64 atoms and 1,000 rules; and not 65 variables
+pub record LimitsAreKept : Type 0 where
+  pub places : IsValidSymbol (record { name = 108 ∷ []; arity = 32 })
+  pub more_places : ¬ (IsValidSymbol (record { name = 108 ∷ []; arity = 33 }))
+  pub atoms : IsValidRule (starting_at 0 []) (rule_with (Variable 0 ∷ []) (replicate 64 Always))
+  pub more_atoms : ¬ (IsValidRule (starting_at 0 []) (rule_with (Variable 0 ∷ []) (replicate 65 Always)))
+  pub rules : IsValid (starting_at 0 (replicate 1000 (rule_with (Variable 0 ∷ []) [])))
+  pub more_rules : ¬ (IsValid (starting_at 0 (replicate 1001 (rule_with (Variable 0 ∷ []) []))))
+  pub more_variables : (names : List Name) → ¬ (IsValidRule (starting_at 0 []) (rule_from 0 2 63 names))
+
+-- the difference of A and 3 under each relation
+pub record DifferencesAreTaken : Type 0 where
+  pub at_least : difference_of (Variable 0) AtLeast (Literal (pos 3)) ≡ Subtraction (Variable 0) (Literal (pos 3))
+  pub more_than : difference_of (Variable 0) MoreThan (Literal (pos 3))
+      ≡ Subtraction (Subtraction (Variable 0) (Literal (pos 3))) (Literal (pos 1))
+  pub at_most : difference_of (Variable 0) AtMost (Literal (pos 3)) ≡ Subtraction (Literal (pos 3)) (Variable 0)
+  pub less_than : difference_of (Variable 0) LessThan (Literal (pos 3))
+      ≡ Subtraction (Subtraction (Literal (pos 3)) (Variable 0)) (Literal (pos 1))
+  pub equal_to : difference_of (Variable 0) EqualTo (Literal (pos 3)) ≡ Subtraction (Variable 0) (Literal (pos 3))
+
+-- all of it
+pub record ProgramsAreWorkedOut : Type 0 where
+  pub valid : ProgramsAreValid
+  pub parts : PartsAgree
+  pub limits : LimitsAreKept
+  pub differences : DifferencesAreTaken

@@ -1,0 +1,157 @@
+-- What keeps a use of a rule from being a step, and what comes first, worked out by hand.
+use Rattle.std.specs.Prelude.{◌≡◌, ℕ, Bool, true, false, List, [], ◌∷◌, ℤ, pos, negsuc, Option, Some, None}
+use Rattle.model.specs.Terms.{Term, Literal, Variable, Negation, Addition, Subtraction, Multiplication}
+use Rattle.model.specs.Programs.{Relation, AtLeast, MoreThan, AtMost, LessThan, EqualTo, Atom, Always, Compare, Program}
+use Rattle.model.specs.Runs.{Config, Step}
+use Rattle.its_model.specs.Steps.{StepFault, OtherRule, AtomFails, PastRange, is_related, step_fault, RuleFits, maximum_arity}
+use Rattle.its_model.specs.WorkedPrograms.{two_and_one, rule_with, small_program}
+
+-- 2^127 - 1 and -2^127, the ends of the integers of 128 bits
+abbrev pub maximum : ℤ
+maximum = pos 170141183460469231731687303715884105727
+
+abbrev pub minimum : ℤ
+minimum = negsuc 170141183460469231731687303715884105727
+
+-- the variables A and B of a rule, its free variable C, and 0
+abbrev pub A : Term
+A = Variable 0
+
+abbrev pub B : Term
+B = Variable 1
+
+abbrev pub C : Term
+C = Variable 2
+
+abbrev pub nothing : Term
+nothing = Literal (pos 0)
+
+-- A + 1, which passes 128 bits at the maximum alone
+abbrev pub one_more : Term
+one_more = Addition A (Literal (pos 1))
+
+-- whether a relation holds between 2, 3 and 4 on the left and 3 on the right
+abbrev pub around_3 : Relation → List Bool
+around_3 r = is_related r (pos 2) (pos 3) ∷ is_related r (pos 3) (pos 3) ∷ is_related r (pos 4) (pos 3) ∷ []
+
+-- the five relations, and two between negative integers
+pub record RelationsHold : Type 0 where
+  pub at_least : around_3 AtLeast ≡ false ∷ true ∷ true ∷ []
+  pub more_than : around_3 MoreThan ≡ false ∷ false ∷ true ∷ []
+  pub at_most : around_3 AtMost ≡ true ∷ true ∷ false ∷ []
+  pub less_than : around_3 LessThan ≡ true ∷ false ∷ false ∷ []
+  pub equal_to : around_3 EqualTo ≡ false ∷ true ∷ false ∷ []
+  pub above_below_zero : is_related MoreThan (negsuc 0) (negsuc 1) ≡ true
+  pub less_than_zero : is_related LessThan (negsuc 0) (pos 0) ≡ true
+
+-- where a symbol has two values
+abbrev pub standing_at : ℕ → ℤ → ℤ → Config
+standing_at s x y = record { at = s; values = x ∷ y ∷ [] }
+
+-- a use of a rule with these values of its free variables
+abbrev pub by_rule : ℕ → List ℤ → Step
+by_rule t free = record { rule = t; free = free }
+
+-- which uses of the small program's rule, l0(A, B) -> l1(A + B) where A > B, are one of that rule at all
+pub record RulesAreFound : Type 0 where
+  pub taken : step_fault small_program (standing_at 0 (pos 3) (pos 2)) (by_rule 1 []) ≡ None
+  -- there is no rule 2 and no rule 0
+  pub no_such_rule : step_fault small_program (standing_at 0 (pos 3) (pos 2)) (by_rule 2 []) ≡ Some OtherRule
+  pub rule_0 : step_fault small_program (standing_at 0 (pos 3) (pos 2)) (by_rule 0 []) ≡ Some OtherRule
+  -- it leaves l0 and not l1, and has no free variable, whatever its guard says
+  pub other_symbol : step_fault small_program (standing_at 1 (pos 3) (pos 2)) (by_rule 1 []) ≡ Some OtherRule
+  pub before_guard : step_fault small_program (standing_at 1 (pos 2) (pos 3)) (by_rule 1 []) ≡ Some OtherRule
+  pub free_value : step_fault small_program (standing_at 0 (pos 3) (pos 2)) (by_rule 1 (pos 0 ∷ [])) ≡ Some OtherRule
+  pub free_before_guard : step_fault small_program (standing_at 0 (pos 2) (pos 3)) (by_rule 1 (pos 0 ∷ []))
+      ≡ Some OtherRule
+
+-- the program l0(A, B) -> l0(u, v) where the atoms hold; C is free
+abbrev pub looping : List Atom → Term → Term → Program
+looping guard u v = record {
+  symbols = two_and_one;
+  start = 0;
+  start_names = (65 ∷ []) ∷ (66 ∷ []) ∷ [];
+  rules = record {
+    source = 0;
+    target = 0;
+    left = 2;
+    free = 1;
+    names = (65 ∷ []) ∷ (66 ∷ []) ∷ (67 ∷ []) ∷ [];
+    updates = u ∷ v ∷ [];
+    guard = guard;
+  } ∷ [];
+}
+
+-- the fault of its rule at (x, y), where C is z
+abbrev pub fault_at : ℤ → ℤ → ℤ → List Atom → Term → Term → Option StepFault
+fault_at x y z guard u v = step_fault (looping guard u v) (standing_at 0 x y) (by_rule 1 (z ∷ []))
+
+-- the free variable has its value, and there is one value for each
+pub record FreeValuesAreTaken : Type 0 where
+  -- A > C at A = 3 holds where C is 2 and not where C is 3; C + 1 is no value at the maximum
+  pub less : fault_at (pos 3) (pos 0) (pos 2) (Compare A MoreThan C ∷ []) A B ≡ None
+  pub same : fault_at (pos 3) (pos 0) (pos 3) (Compare A MoreThan C ∷ []) A B ≡ Some (AtomFails 1)
+  pub past : fault_at (pos 3) (pos 0) maximum [] A (Addition C (Literal (pos 1))) ≡ Some PastRange
+  pub missing : step_fault (looping [] A B) (standing_at 0 (pos 3) (pos 0)) (by_rule 1 []) ≡ Some OtherRule
+  pub too_many : step_fault (looping [] A B) (standing_at 0 (pos 3) (pos 0)) (by_rule 1 (pos 0 ∷ pos 0 ∷ []))
+      ≡ Some OtherRule
+
+-- the atoms A > B and B > A, which never hold together
+abbrev pub both_ways : List Atom
+both_ways = Compare A MoreThan B ∷ Compare B MoreThan A ∷ []
+
+-- what comes first where two faults are there
+pub record FaultsComeInOrder : Type 0 where
+  -- the guard before the updates: A > B fails at (maximum, maximum), where A + 1 is no value
+  pub guard_first : fault_at maximum maximum (pos 0) (Compare A MoreThan B ∷ []) one_more B ≡ Some (AtomFails 1)
+  pub then_updates : fault_at maximum maximum (pos 0) (Compare A AtLeast B ∷ []) one_more B ≡ Some PastRange
+  -- the last update is looked at too
+  pub last_update : fault_at maximum (pos 0) (pos 0) [] B one_more ≡ Some PastRange
+  pub no_update : fault_at maximum (pos 0) (pos 0) [] B A ≡ None
+  -- the atoms in order, with `TRUE` as one of them: the first fails, the second, both, or the third
+  pub first_atom : fault_at (pos 2) (pos 3) (pos 0) both_ways A B ≡ Some (AtomFails 1)
+  pub second_atom : fault_at (pos 3) (pos 2) (pos 0) both_ways A B ≡ Some (AtomFails 2)
+  pub both_atoms : fault_at (pos 3) (pos 3) (pos 0) both_ways A B ≡ Some (AtomFails 1)
+  pub third_atom : fault_at (pos 3) (pos 3) (pos 0) (Always ∷ Compare A AtLeast B ∷ Compare B MoreThan A ∷ []) A B
+      ≡ Some (AtomFails 3)
+  -- an atom that fails before one with a side that is no value, and the other way round
+  pub fails_first : fault_at maximum (pos 0) (pos 0) (Compare B MoreThan A ∷ Compare one_more MoreThan B ∷ []) A B
+      ≡ Some (AtomFails 1)
+  pub past_first : fault_at maximum (pos 0) (pos 0) (Compare one_more MoreThan B ∷ Compare B MoreThan A ∷ []) A B
+      ≡ Some PastRange
+  -- both sides before they are compared: A + 1 <= 0 fails and A + 1 > 0 holds, but A + 1 is no value, on either side
+  pub left_side : fault_at maximum (pos 0) (pos 0) (Compare one_more AtMost nothing ∷ []) A B ≡ Some PastRange
+  pub left_side_holds : fault_at maximum (pos 0) (pos 0) (Compare one_more MoreThan nothing ∷ []) A B ≡ Some PastRange
+  pub right_side : fault_at maximum (pos 0) (pos 0) (Compare nothing AtLeast one_more ∷ []) A B ≡ Some PastRange
+  pub right_side_holds : fault_at maximum (pos 0) (pos 0) (Compare nothing LessThan one_more ∷ []) A B ≡ Some PastRange
+
+-- which values pass 128 bits
+pub record ValuesPassRange : Type 0 where
+  -- both ends are values; one more than the one and one less than the other are none, and the opposite of the lower one
+  pub ends : fault_at maximum minimum (pos 0) (Compare A MoreThan B ∷ []) A B ≡ None
+  pub above : fault_at maximum (pos 0) (pos 0) [] one_more B ≡ Some PastRange
+  pub below : fault_at minimum (pos 0) (pos 0) [] (Subtraction A (Literal (pos 1))) B ≡ Some PastRange
+  pub opposite_of_minimum : fault_at minimum (pos 0) (pos 0) [] (Negation A) B ≡ Some PastRange
+  pub opposite_of_maximum : fault_at maximum (pos 0) (pos 0) [] (Negation A) B ≡ None
+  -- a value on the way: (A + 1) - 1, and 0 * (A + 1)
+  pub on_the_way : fault_at maximum (pos 0) (pos 0) [] (Subtraction one_more (Literal (pos 1))) B ≡ Some PastRange
+  pub times_zero : fault_at maximum (pos 0) (pos 0) [] (Multiplication nothing one_more) B ≡ Some PastRange
+  -- the rule l0(A, B) -> l1(A + B) fits at (2^127 - 1, 0), and not at (2^127 - 1, 1); nor does A + 1 > 0 in its guard
+  pub fits : RuleFits (rule_with (Addition A B ∷ []) (Compare A MoreThan B ∷ [])) (maximum ∷ pos 0 ∷ [])
+  pub not_in_update : ¬ (RuleFits (rule_with (Addition A B ∷ []) []) (maximum ∷ pos 1 ∷ []))
+  pub not_in_guard : ¬ (RuleFits (rule_with (A ∷ []) (Compare one_more MoreThan nothing ∷ [])) (maximum ∷ pos 0 ∷ []))
+
+-- the maximum number of places: of l0 with two and l1 with one, in either order, and of no symbol
+pub record AritiesAreWorkedOut : Type 0 where
+  pub two : maximum_arity two_and_one ≡ 2
+  pub later : maximum_arity (record { name = []; arity = 1 } ∷ record { name = []; arity = 2 } ∷ []) ≡ 2
+  pub none_at_all : maximum_arity [] ≡ 0
+
+-- all of it
+pub record StepsAreWorkedOut : Type 0 where
+  pub relations : RelationsHold
+  pub rules : RulesAreFound
+  pub free : FreeValuesAreTaken
+  pub order : FaultsComeInOrder
+  pub range : ValuesPassRange
+  pub arities : AritiesAreWorkedOut

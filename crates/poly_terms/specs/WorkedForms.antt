@@ -1,0 +1,152 @@
+-- Expanded forms, first faults, rows and values that were worked out by hand.
+use Rattle.std.specs.Prelude.{◌≡◌, ℕ, zero, suc, List, [], ◌∷◌, ℤ, pos, negsuc, Some, None}
+use Rattle.model.specs.Terms.{Term, Literal, Variable, Negation, Addition, Subtraction, Multiplication, Exponentiation}
+use Rattle.model.specs.Polynomials.{Monomial, Polynomial}
+use Rattle.linear_forms.specs.Forms.{Form}
+use Rattle.poly_terms.specs.Expanding.{expanded}
+use Rattle.poly_terms.specs.Faults.{LargeCoefficient, ManyTerms, HighDegree, subexpressions, first_fault}
+use Rattle.poly_terms.specs.Ordered.{IsOrdered}
+use Rattle.poly_terms.specs.Rows.{linear_form}
+use Rattle.poly_terms.specs.Checked.{value_within, ReadsBelow}
+
+-- a number times variables
+abbrev pub times : ℤ → List ℕ → Monomial
+times z vs = record { coef = z; vars = vs }
+
+-- the expressions A and B
+abbrev pub A : Term
+A = Variable 0
+
+abbrev pub B : Term
+B = Variable 1
+
+-- the number 2^63 - 1
+abbrev pub maximum : ℤ
+maximum = pos 9223372036854775807
+
+-- 2^127 - 1 and -2^127, the ends of the integers of 128 bits
+abbrev pub greatest_value : ℤ
+greatest_value = pos 170141183460469231731687303715884105727
+
+abbrev pub least_value : ℤ
+least_value = negsuc 170141183460469231731687303715884105727
+
+-- expanded forms
+pub record FormsAreExpanded : Type 0 where
+  -- (A + B) * (A - B) is A*A - B*B
+  pub squares : expanded (Multiplication (Addition A B) (Subtraction A B))
+      ≡ times (pos 1) (0 ∷ 0 ∷ []) ∷ times (negsuc 0) (1 ∷ 1 ∷ []) ∷ []
+  -- (A + B)^2 is A*A + 2*A*B + B*B, and (A + 1)^2 is 1 + 2*A + A*A: a proper prefix comes first
+  pub binomial : expanded (Exponentiation (Addition A B) 2)
+      ≡ times (pos 1) (0 ∷ 0 ∷ []) ∷ times (pos 2) (0 ∷ 1 ∷ []) ∷ times (pos 1) (1 ∷ 1 ∷ []) ∷ []
+  pub prefixes : expanded (Exponentiation (Addition A (Literal (pos 1))) 2)
+      ≡ times (pos 1) [] ∷ times (pos 2) (0 ∷ []) ∷ times (pos 1) (0 ∷ 0 ∷ []) ∷ []
+  -- B*A has its variables in order; A - A is nothing, A^0 is 1, and 0 is nothing
+  pub sorted : expanded (Multiplication B A) ≡ times (pos 1) (0 ∷ 1 ∷ []) ∷ []
+  pub cancelled : expanded (Subtraction A A) ≡ []
+  pub no_power : expanded (Exponentiation A 0) ≡ times (pos 1) [] ∷ []
+  pub nothing : expanded (Literal (pos 0)) ≡ []
+  -- -(A - 2) is 2 - A
+  pub negated : expanded (Negation (Subtraction A (Literal (pos 2))))
+      ≡ times (pos 2) [] ∷ times (negsuc 0) (0 ∷ []) ∷ []
+
+-- which polynomials are ordered
+pub record OrderIsKept : Type 0 where
+  -- 1 + A + A*B + B is, the one without a monomial too
+  pub ordered : IsOrdered (times (pos 1) [] ∷ times (pos 1) (0 ∷ []) ∷ times (pos 1) (0 ∷ 1 ∷ [])
+      ∷ times (pos 1) (1 ∷ []) ∷ [])
+  pub empty : IsOrdered []
+  -- not A + 1, A + A, B*A, or 0*A
+  pub prefix_last : ¬ (IsOrdered (times (pos 1) (0 ∷ []) ∷ times (pos 1) [] ∷ []))
+  pub twice : ¬ (IsOrdered (times (pos 1) (0 ∷ []) ∷ times (pos 1) (0 ∷ []) ∷ []))
+  pub factors : ¬ (IsOrdered (times (pos 1) (1 ∷ 0 ∷ []) ∷ []))
+  pub zero_kept : ¬ (IsOrdered (times (pos 0) (0 ∷ []) ∷ []))
+
+-- the sum of the variables from 0 to n, from left to right
+abbrev pub variables_to : ℕ → Term
+variables_to zero = Variable 0
+variables_to (suc n) = Addition (variables_to n) (Variable (suc n))
+
+-- the limits of expanded forms
+pub record LimitsAreKept : Type 0 where
+  -- 2^63 - 1 is a coefficient, and the next number none; nor is a sum or a product that passes it
+  pub largest : first_fault (Literal maximum) ≡ None
+  pub too_large : first_fault (Literal (pos 9223372036854775808)) ≡ Some LargeCoefficient
+  pub smallest : first_fault (Literal (negsuc 9223372036854775806)) ≡ None
+  pub too_small : first_fault (Literal (negsuc 9223372036854775807)) ≡ Some LargeCoefficient
+  pub sum : first_fault (Addition (Literal maximum) (Literal (pos 1))) ≡ Some LargeCoefficient
+  pub product_of_literals : first_fault (Multiplication (Literal (pos 4294967296)) (Literal (pos 2147483648)))
+      ≡ Some LargeCoefficient
+  -- a sum that cancels: (2^63 - 1) * A - (2^63 - 1) * A
+  pub cancelled : first_fault (Subtraction (Multiplication (Literal maximum) A) (Multiplication (Literal maximum) A))
+      ≡ None
+  -- 64 monomials are taken, and 65 not
+  pub most_terms : first_fault (variables_to 63) ≡ None
+  pub many_terms : first_fault (variables_to 64) ≡ Some ManyTerms
+  -- A^8 has no fault, A^9 has, and A^4 * A^5; so has 1^9, since its exponent is over 8
+  pub eighth : first_fault (Exponentiation A 8) ≡ None
+  pub ninth : first_fault (Exponentiation A 9) ≡ Some HighDegree
+  pub product : first_fault (Multiplication (Exponentiation A 4) (Exponentiation A 5)) ≡ Some HighDegree
+  pub power_of_one : first_fault (Exponentiation (Literal (pos 1)) 9) ≡ Some HighDegree
+
+-- which subexpression's fault comes first
+pub record FaultsComeInOrder : Type 0 where
+  -- (A + B)^2: A, B, A + B, then its powers
+  pub listed : subexpressions (Exponentiation (Addition A B) 2)
+      ≡ A ∷ B ∷ Addition A B ∷ Exponentiation (Addition A B) 0 ∷ Exponentiation (Addition A B) 1
+      ∷ Exponentiation (Addition A B) 2 ∷ []
+  -- (A - A) * A^9 is 0, but A^9 has a fault
+  pub times_zero : first_fault (Multiplication (Subtraction A A) (Exponentiation A 9)) ≡ Some HighDegree
+  -- 2^63 has the exponent 9 among its lower powers, while 200^9 has too large a coefficient, which is the lesser fault
+  pub power_of_two : first_fault (Exponentiation (Literal (pos 2)) 63) ≡ Some HighDegree
+  pub power_of_200 : first_fault (Exponentiation (Literal (pos 200)) 9) ≡ Some LargeCoefficient
+  -- (2^40)^9: already its second power has too large a coefficient
+  pub lower_power : first_fault (Exponentiation (Literal (pos 1099511627776)) 9) ≡ Some LargeCoefficient
+  -- the base comes before its powers: (A^9)^0 and (2^63)^0 as a literal are refused, though they are 1
+  pub base_first : first_fault (Exponentiation (Exponentiation A 9) 0) ≡ Some HighDegree
+  pub literal_base : first_fault (Exponentiation (Literal (pos 9223372036854775808)) 0) ≡ Some LargeCoefficient
+  -- a child's fault comes before its parent's, which is the lesser one, and the left one's before the right one's
+  pub child_first : first_fault (Multiplication (Multiplication (Literal maximum) (Exponentiation A 9))
+      (Literal (pos 2))) ≡ Some HighDegree
+  pub left_first : first_fault (Addition (Literal (pos 9223372036854775808)) (Exponentiation A 9))
+      ≡ Some LargeCoefficient
+  pub right_last : first_fault (Addition (Exponentiation A 9) (Literal (pos 9223372036854775808))) ≡ Some HighDegree
+  -- of two faults of one subexpression the lesser: A^5 * 2^62 times A^4 * 2 has both a degree of 9 and the coefficient
+  -- 2^63
+  pub lesser : first_fault (Multiplication (Multiplication (Literal (pos 4611686018427387904)) (Exponentiation A 5))
+      (Multiplication (Literal (pos 2)) (Exponentiation A 4)))
+      ≡ Some LargeCoefficient
+
+-- linear forms, and values in 128 bits
+pub record RowsAndValues : Type 0 where
+  -- 2*B - 3 over three unknowns
+  pub row : linear_form 3 (times (negsuc 2) [] ∷ times (pos 2) (1 ∷ []) ∷ [])
+      ≡ record { coefs = pos 0 ∷ pos 2 ∷ pos 0 ∷ []; constant = negsuc 2 }
+  -- 2^127 - 1 is a value, one more none; -2^127 is a value, one less none, nor its opposite, also where it is
+  -- multiplied by 0
+  pub maximum_value : value_within A (greatest_value ∷ []) ≡ Some greatest_value
+  pub past_it : value_within (Addition A (Literal (pos 1))) (greatest_value ∷ []) ≡ None
+  pub minimum_value : value_within A (least_value ∷ []) ≡ Some least_value
+  pub below_it : value_within (Subtraction A (Literal (pos 1))) (least_value ∷ []) ≡ None
+  pub opposite : value_within (Negation A) (least_value ∷ []) ≡ None
+  pub times_zero : value_within (Multiplication (Literal (pos 0)) (Negation A)) (least_value ∷ []) ≡ None
+  -- 2^126 + 2^126 is none, though 2^126 + 2^126 - 2^126 is one; -2^126 - 2^126 is -2^127
+  pub on_the_way : value_within (Subtraction (Addition A A) A) (pos 85070591730234615865843651857942052864 ∷ []) ≡ None
+  pub negative_sum : value_within (Addition A A) (negsuc 85070591730234615865843651857942052863 ∷ []) ≡ Some least_value
+  -- 2^127 as a power is none, and (-2)^127 is -2^127; the values of the exponents below aren't looked at
+  pub power : value_within (Exponentiation A 127) (pos 2 ∷ []) ≡ None
+  pub negative_power : value_within (Exponentiation A 127) (negsuc 1 ∷ []) ≡ Some least_value
+  pub no_power : value_within (Exponentiation A 0) (pos 0 ∷ []) ≡ Some (pos 1)
+  -- A - 2*B at A = 7 and B = 3
+  pub small : value_within (Subtraction A (Multiplication (Literal (pos 2)) B)) (pos 7 ∷ pos 3 ∷ []) ≡ Some (pos 1)
+  -- A + B^2 reads variables below 2, and not only those below 1
+  pub reads : ReadsBelow 2 (Addition A (Exponentiation B 2))
+  pub reads_more : ¬ (ReadsBelow 1 (Addition A (Exponentiation B 2)))
+
+-- all of it
+pub record FormsAreWorkedOut : Type 0 where
+  pub forms : FormsAreExpanded
+  pub ordered : OrderIsKept
+  pub limits : LimitsAreKept
+  pub faults : FaultsComeInOrder
+  pub rows : RowsAndValues

@@ -1,0 +1,99 @@
+// Expands an expression of a shape and a size so often, as its words tell; for measuring.
+#![tactic(auto)]
+
+use poly_terms::{Expr, expand};
+use std::alloc::{AllocError, Global};
+use std::env;
+use std::process::ExitCode;
+
+// The sum of so many variables from one on.
+fn variables(alloc: Global, first: u32, count: u32) -> Result<Expr, AllocError> {
+    let mut sum = Expr::Var(first);
+    for i in 1..count {
+        sum = Expr::sum(alloc, sum, Expr::Var(first.saturating_add(i)))?;
+    }
+    Ok(sum)
+}
+
+// The product of two sums of other variables.
+fn product_of_sums(alloc: Global, size: u32) -> Result<Expr, AllocError> {
+    let right = variables(alloc, size, size)?;
+    Expr::product(alloc, variables(alloc, 0, size)?, right)
+}
+
+// The sum of 64 variables, multiplied by 1 so often.
+fn chain_of_products(alloc: Global, size: u32) -> Result<Expr, AllocError> {
+    let mut e = variables(alloc, 0, 64)?;
+    for _ in 0..size {
+        e = Expr::product(alloc, e, Expr::Num(1))?;
+    }
+    Ok(e)
+}
+
+// So many first powers of the sum of 64 variables, one in the other.
+fn chain_of_powers(alloc: Global, size: u32) -> Result<Expr, AllocError> {
+    let mut e = variables(alloc, 0, 64)?;
+    for _ in 0..size {
+        e = Expr::power(alloc, e, 1)?;
+    }
+    Ok(e)
+}
+
+// The sum of so many ones, with brackets to the right.
+fn sum_to_the_right(alloc: Global, size: u32) -> Result<Expr, AllocError> {
+    let mut sum = Expr::Num(0);
+    for _ in 0..size {
+        sum = Expr::sum(alloc, Expr::Num(1), sum)?;
+    }
+    Ok(sum)
+}
+
+// An expression of a shape and a size.
+fn shaped(alloc: Global, shape: u32, size: u32) -> Result<Expr, AllocError> {
+    match shape {
+        0 => product_of_sums(alloc, size),
+        1 => Expr::power(alloc, variables(alloc, 0, 3)?, size),
+        2 => Expr::power(alloc, variables(alloc, 0, size)?, 2),
+        3 => chain_of_products(alloc, size),
+        4 => chain_of_powers(alloc, size),
+        5 => variables(alloc, 0, size),
+        _ => sum_to_the_right(alloc, size),
+    }
+}
+
+// Expands an expression so often; how often there was a polynomial.
+fn repeated(alloc: Global, e: &Expr, times: u32) -> u32 {
+    let mut expanded = 0u32;
+    for _ in 0..times {
+        if expand(alloc, e).is_ok() {
+            expanded = expanded.saturating_add(1);
+        }
+    }
+    expanded
+}
+
+// The number that a word is, or 0.
+fn number(words: &[String], i: usize) -> u32 {
+    match words.get(i) {
+        Some(word) => word.parse::<u32>().unwrap_or(0),
+        None => 0,
+    }
+}
+
+fn main(rt: HostRuntime) -> ExitCode {
+    let alloc = rt.alloc();
+    let words: Vec<String> = match env::args(&rt) {
+        Ok(words) => match words.collect(alloc) {
+            Ok(words) => words,
+            Err(_) => return ExitCode::from(3),
+        },
+        Err(_) => return ExitCode::from(3),
+    };
+    let e = match shaped(alloc, number(&words, 1), number(&words, 2)) {
+        Ok(e) => e,
+        Err(_) => return ExitCode::from(3),
+    };
+    let times = number(&words, 3);
+    let expanded = repeated(alloc, &e, times);
+    ExitCode::from(if expanded == times { 0 } else { 1 })
+}
