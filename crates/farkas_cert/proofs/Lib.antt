@@ -2,3 +2,4 @@ pub mod Products
 pub mod Columns
 pub mod Sums
 pub mod RowLists
+mod WorkedSizes

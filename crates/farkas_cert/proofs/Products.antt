@@ -7,6 +7,8 @@ use Rattle.std.proofs.lemmas.Bool.{cases_lt}
 use Rattle.int_laws.proofs.RingLaws.{mul_comm_ℤ}
 use mir.Syntax.{w64, w128}
 use mir.Val.{SFits, to_z, of_z}
+use Rattle.linear_forms.specs.Limits.{point_limit}
+use Rattle.farkas_cert.specs.Sizes.{row_limit}
 
 -- a product whose factors are small is read as it is
 pub read_product : (a b : ℤ) (m n : ℕ) → SFits w128 a → SFits w128 b → unsigned_abs a ≤ m → unsigned_abs b ≤ n → m * n < 2 ^ 127
@@ -48,7 +50,7 @@ read_sum s p f h =
     ∙ to_z-of_z w128 (s +ℤ p) (fits_signed_from_abs w128 (s +ℤ p) (omega (arith, sum-le s p)))
 
 -- a number of a row times a part, as both are read
-pub read_term : (p a b r : ℤ) → unsigned_abs a < 2 ^ 63 → unsigned_abs b ≤ 2 ^ 45 → r ≡ to_z w64 (of_z w64 b) → p ≡ to_z w128 (of_z w128 a) *ℤ to_z w128 (of_z w128 r) → p ≡ a *ℤ b
+pub read_term : (p a b r : ℤ) → unsigned_abs a < row_limit → unsigned_abs b ≤ point_limit → r ≡ to_z w64 (of_z w64 b) → p ≡ to_z w128 (of_z w128 a) *ℤ to_z w128 (of_z w128 r) → p ≡ a *ℤ b
 read_term p a b r ha hb e f =
     let same : r ≡ b = e ∙ to_z-of_z w64 b (fits_signed_from_abs w64 b (omega arith)) in
     f ∙ (ap (λ (x : ℤ). x *ℤ to_z w128 (of_z w128 r)) (to_z-of_z w128 a (fits_signed_from_abs w128 a (omega arith)))

@@ -2,11 +2,11 @@
 use Rattle.std.specs.Prelude.{ℕ, ◌+◌, ◌^◌, ◌<◌, ◌≤◌, List, [], ◌∷◌, length, ℤ, unsigned_abs}
 use Rattle.std.specs.List.{All}
 use Rattle.linear_forms.specs.Forms.{Form, at}
-use Rattle.farkas_cert.specs.declared.combination.TheConstants.{LIMIT}
+use Rattle.linear_forms.specs.Limits.{certificate_limit, point_limit}
 
 -- multipliers are at most 2^55
 abbrev pub AreMultipliers : List ℕ → Type 0
-AreMultipliers ms = All (λ m. m ≤ LIMIT) ms
+AreMultipliers ms = All (λ m. m ≤ certificate_limit) ms
 
 -- the absolute numbers of forms, added up
 abbrev pub total_size : (Form → ℤ) → List Form → ℕ
@@ -35,13 +35,9 @@ pub record HasRowNumbers (f : Form) : Type 0 where
   pub coefs : AreRowNumbers f.coefs
   pub constant : unsigned_abs f.constant < row_limit
 
--- the parts of a point, and its denominator, are at most 2^45 in absolute value
-abbrev pub part_limit : ℕ
-part_limit = 2 ^ 45
-
--- the parts of a list are
+-- the parts of a list are at most 2^45 in absolute value
 abbrev pub AreParts : List ℤ → Type 0
-AreParts xs = All (λ x. unsigned_abs x ≤ part_limit) xs
+AreParts xs = All (λ x. unsigned_abs x ≤ point_limit) xs
 
 -- at most 128 rows with numbers below 2^63 are small
 abbrev pub RowsOfARuleAreSmall : Type 0

@@ -2,6 +2,7 @@
 
 ghost use Rattle.std.specs.Prelude.{◌≡◌, ◌*◌, ◌^◌, ◌+◌, ◌≤◌, pos, ◌*ℤ◌, map, All, unsigned_abs};
 ghost use Rattle.linear_forms.specs.Forms.{at};
+ghost use Rattle.linear_forms.specs.Limits.{certificate_limit};
 ghost use Rattle.poly_terms.specs.Views.{form_of};
 ghost use Rattle.farkas_cert.specs.Columns.{number_in, combined_in};
 ghost use Rattle.farkas_cert.specs.Sizes.{total_size, column_limit, AreMultipliers};
@@ -41,9 +42,9 @@ fn number(row: &Row, column: Column) -> i128
 // A number of a row times its multiplier.
 fn product(number: i128, multiplier: u64) -> i128
     requires number_small { unsigned_abs number ≤ column_limit }
-    requires multiplier_small { multiplier ≤ LIMIT }
+    requires multiplier_small { multiplier ≤ certificate_limit }
     ensures value { result ≡ pos multiplier *ℤ number }
-    ensures size { unsigned_abs result ≤ LIMIT * unsigned_abs number }
+    ensures size { unsigned_abs result ≤ certificate_limit * unsigned_abs number }
 {
     number * i128::from(multiplier)
 }

@@ -36,7 +36,8 @@ pub fn empty(rows: &[Row], multipliers: &[u64]) -> bool
 fn follows(rows: &[Row], multipliers: &[u64], coefs: &[i128], constant: i128) -> bool
     requires multipliers_small { AreMultipliers multipliers.now }
     requires rows_small { AreSmall (map form_of rows.now) }
-    ensures { IsTrue result ↔ Implies (map form_of rows.now) multipliers.now (record { coefs = coefs.now; constant = constant }) }
+    ensures { IsTrue result
+        ↔ Implies (map form_of rows.now) multipliers.now (record { coefs = coefs.now; constant = constant }) }
 {
     multipliers.len() == rows.len()
         && combined(rows, multipliers, Column::Constants) <= constant
@@ -57,7 +58,7 @@ fn has_coefs(rows: &[Row], multipliers: &[u64], coefs: &[i128]) -> bool
     true
 }
 
-// The greatest number of coefficients in a row.
+// The most coefficients of a row.
 fn widest(rows: &[Row]) -> usize
     ensures { HaveAtMost result (map form_of rows.now) }
 {

@@ -1,9 +1,25 @@
-// The rows of one rule are small enough for certificates.
+// The rows of one rule are small enough for certificates, and limits are what was worked out.
 
+ghost use Rattle.std.specs.Prelude.{◌≡◌};
+ghost use Rattle.linear_forms.specs.Limits.{certificate_limit};
 ghost use Rattle.farkas_cert.specs.Sizes.{RowsOfARuleAreSmall};
+ghost use Rattle.farkas_cert.specs.WorkedSizes.{SizesAreWorkedOut};
 
-/// At most 128 rows, with numbers of at most 2^63-1 in absolute value, meet the condition on sums. So do the rows of any
-/// rule. It has no code: its contract is the law.
+use crate::combination::LIMIT;
+
+/// At most 128 rows, with numbers of at most 2^63-1 in absolute value, meet the condition on sums. So do the rows of
+/// any rule. It has no code: its contract is the law.
 pub fn rows_of_a_rule_are_small()
     ensures { RowsOfARuleAreSmall }
+{}
+
+/// The conditions on multipliers, rows, columns and parts are what was worked out by hand at their limits, on both
+/// sides.
+pub fn sizes_are_as_worked_out()
+    ensures { SizesAreWorkedOut }
+{}
+
+/// The constant of the code is the limit of the definitions.
+pub fn limit_is_as_defined()
+    ensures { LIMIT ≡ certificate_limit }
 {}

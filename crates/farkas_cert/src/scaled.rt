@@ -1,10 +1,12 @@
 // Rational points with one denominator.
 
-ghost use Rattle.std.specs.Prelude.{◌≡◌, ℕ, ◌*◌, ◌^◌, ◌+◌, ◌≤◌, ◌<◌, ◌↔◌, pos, ◌+ℤ◌, ◌*ℤ◌, map, length, All, IsTrue, unsigned_abs};
+ghost use Rattle.std.specs.Prelude.{◌≡◌, ℕ, ◌*◌, ◌^◌, ◌+◌, ◌≤◌, ◌<◌, ◌↔◌, pos, ◌+ℤ◌, ◌*ℤ◌, map, length, All, IsTrue};
+ghost use Rattle.std.specs.Prelude.{unsigned_abs};
 ghost use Rattle.linear_forms.specs.Forms.{list_dot, form_value};
+ghost use Rattle.linear_forms.specs.Limits.{point_limit};
 ghost use Rattle.linear_forms.specs.Points.{Meets};
 ghost use Rattle.poly_terms.specs.Views.{form_of};
-ghost use Rattle.farkas_cert.specs.Sizes.{HasRowNumbers, AreRowNumbers, AreParts, part_limit, row_limit};
+ghost use Rattle.farkas_cert.specs.Sizes.{HasRowNumbers, AreRowNumbers, AreParts, row_limit};
 ghost use Rattle.farkas_cert.specs.Scales.{numbers_at, numerators_of};
 
 use poly_terms::Row;
@@ -23,7 +25,7 @@ pub fn on_rows(rows: &[Row], at: &Scaled) -> bool
     requires unknowns { length at.now.parts.items ≤ 128 }
     requires numbers { All HasRowNumbers (map form_of rows.now) }
     requires parts { AreParts at.now.parts.items }
-    requires denominator { at.now.den ≤ part_limit }
+    requires denominator { at.now.den ≤ point_limit }
     ensures { IsTrue result ↔ Meets (map form_of rows.now) (numerators_of at.now) (pos at.now.den) }
 {
     for row in rows {
@@ -39,7 +41,7 @@ fn value(row: &Row, parts: &[i64], den: u64) -> i128
     requires unknowns { length parts.now ≤ 128 }
     requires numbers { HasRowNumbers (form_of row.now) }
     requires parts_small { AreParts parts.now }
-    requires denominator { den ≤ part_limit }
+    requires denominator { den ≤ point_limit }
     ensures { result ≡ form_value (form_of row.now) (numbers_at parts.now) (pos den) }
 {
     dot(&row.coefs, parts) + product(row.constant, i128::from(den))
@@ -63,7 +65,7 @@ fn dot(coefs: &[i128], parts: &[i64]) -> i128
 // A number of a row times a part or the denominator.
 fn product(number: i128, part: i128) -> i128
     requires number_small { unsigned_abs number < row_limit }
-    requires part_small { unsigned_abs part ≤ part_limit }
+    requires part_small { unsigned_abs part ≤ point_limit }
     ensures value { result ≡ number *ℤ part }
     ensures size { unsigned_abs result ≤ 2 ^ 108 }
 {

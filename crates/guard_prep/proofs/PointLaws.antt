@@ -20,19 +20,20 @@ use Rattle.poly_terms.proofs.VariableLaws.{variables-expanded, variables-more, v
 use Rattle.its_model.specs.Valid.{difference_of, IsValidAtom, IsValidTerm}
 use Rattle.guard_prep.specs.Tightening.{tightened}
 use Rattle.guard_prep.specs.Prepared.{is_bent, count_true, opposite_form, rows_by, rows_of_difference, rows_of_atom, rows_of_guard, all_tightened, rows_of, news_from, news_of, unknowns_of}
-use Rattle.guard_prep.specs.Laws.{IsPreparable, bent_values, point_of, GuardsGivePoints}
+use Rattle.guard_prep.specs.Laws.{IsPreparable, IsLinear, LinearPartHolds, bent_values, point_of, GuardsGivePoints}
 use Rattle.guard_prep.proofs.TighteningLaws.{tightened-keeps}
 
 -- each row is met at whole numbers z
 abbrev pub AreMet : (ℕ → ℤ) → List Form → Type 0
 AreMet z rows = AllByRecursion (λ r. pos 0 ≤ℤ form_value r z (pos 1)) rows
 
+-- two lists of rows, one after the other
 met-append : (z : ℕ → ℤ) (xs ys : List Form) → AreMet z xs → AreMet z ys → AreMet z (xs ++ ys)
 met-append z [] ys h k = k
 met-append z (x ∷ xs) ys h k = (h.0, met-append z xs ys h.1 k)
 
 -- by positions and by recursion
-met-meets : (z : ℕ → ℤ) (rows : List Form) → AreMet z rows → Meets rows z (pos 1)
+pub met-meets : (z : ℕ → ℤ) (rows : List Form) → AreMet z rows → Meets rows z (pos 1)
 met-meets z rows h = record { each = each rows h }
   where
     each : (rows : List Form) → AreMet z rows → All (λ r. pos 0 ≤ℤ form_value r z (pos 1)) rows
@@ -40,7 +41,7 @@ met-meets z rows h = record { each = each rows h }
     each (r ∷ rows) h zero d l = h.0
     each (r ∷ rows) h (suc k) d l = each rows h.1 k d (omega arith)
 
-meets-met : (z : ℕ → ℤ) (rows : List Form) → Meets rows z (pos 1) → AreMet z rows
+pub meets-met : (z : ℕ → ℤ) (rows : List Form) → Meets rows z (pos 1) → AreMet z rows
 meets-met z rows m = each rows m.each
   where
     each : (rows : List Form) → All (λ r. pos 0 ≤ℤ form_value r z (pos 1)) rows → AreMet z rows
@@ -48,13 +49,13 @@ meets-met z rows m = each rows m.each
     each (r ∷ rows) h = (h 0 r (omega arith), each rows (λ k d l. h (suc k) d (omega arith)))
 
 -- rows that are met are met when they are tightened
-met-tightened : (z : ℕ → ℤ) (rows : List Form) → AreMet z rows → AreMet z (all_tightened rows)
+pub met-tightened : (z : ℕ → ℤ) (rows : List Form) → AreMet z rows → AreMet z (all_tightened rows)
 met-tightened z [] h = tt
 met-tightened z (f ∷ rows) h =
     met-append z (tightened f) (all_tightened rows) (meets-met z (tightened f) ((tightened-keeps f z).0 h.0)) (met-tightened z rows h.1)
 
 -- the opposite form has the opposite value
-opposite-value : (f : Form) (z : ℕ → ℤ) (d : ℤ) → form_value (opposite_form f) z d ≡ neg_ℤ (form_value f z d)
+pub opposite-value : (f : Form) (z : ℕ → ℤ) (d : ℤ) → form_value (opposite_form f) z d ≡ neg_ℤ (form_value f z d)
 opposite-value f z d = both _ _ _ _ (dot f.coefs z) (neg-mul_ℤ f.constant d)
   where
     both : (a b x y : ℤ) → a ≡ neg_ℤ x → b ≡ neg_ℤ y → a +ℤ b ≡ neg_ℤ (x +ℤ y)
@@ -104,14 +105,15 @@ not-bent : (p : Polynomial) → is_bent p ≡ false → degree_of p ≤ 1
 not-bent p e = grind (arith, nat_tests)
 
 -- the linear form of an expression that isn't bent has its value, also where more values stand behind
-form-value : (w : ℕ) (t : Term) (env more : List ℤ) → length env ≤ w → ReadsBelow (length env) t → is_bent (expanded t) ≡ false
+pub form-value : (w : ℕ) (t : Term) (env more : List ℤ) → length env ≤ w → ReadsBelow (length env) t → is_bent (expanded t) ≡ false
     → form_value (linear_form w (expanded t)) (at (env ++ more)) (pos 1) ≡ value t env
 form-value w t env more l h b =
     (linear_form-value w (expanded t) (variables-more (length env) w (expanded t) l (variables-expanded (length env) t h)) (not-bent (expanded t) b)).each (env ++ more)
     ∙ (expanded-value t (env ++ more) ∙ value-append_right t env more h)
 
--- the rows of an atom that holds are met
-atom-met : (w : ℕ) (env more : List ℤ) (a : Atom) → length env ≤ w → IsValidAtom (length env) a → AtomHolds env a → AreMet (at (env ++ more)) (rows_of_atom w a)
+-- the rows of an atom are met that holds where it is linear
+atom-met : (w : ℕ) (env more : List ℤ) (a : Atom) → length env ≤ w → IsValidAtom (length env) a → (IsLinear a → AtomHolds env a)
+    → AreMet (at (env ++ more)) (rows_of_atom w a)
 atom-met w env more Always l v h = tt
 atom-met w env more (Compare d r e) l v h = go (is_bent (expanded (difference_of d r e))) refl
   where
@@ -119,19 +121,15 @@ atom-met w env more (Compare d r e) l v h = go (is_bent (expanded (difference_of
         → AreMet (at (env ++ more)) (if b then [] else rows_by r (linear_form w (expanded (difference_of d r e))))
     go true g = tt
     go false g =
-        rows-hold d r e env (linear_form w (expanded (difference_of d r e))) (at (env ++ more)) h
+        rows-hold d r e env (linear_form w (expanded (difference_of d r e))) (at (env ++ more)) (h g)
         (form-value w (difference_of d r e) env more l (reads-difference (length env) d r e v.left v.right) g)
 
-guard-met : (w : ℕ) (env more : List ℤ) (atoms : List Atom) → length env ≤ w → AllByRecursion (IsValidAtom (length env)) atoms
-    → AllByRecursion (AtomHolds env) atoms → AreMet (at (env ++ more)) (rows_of_guard w atoms)
+pub guard-met : (w : ℕ) (env more : List ℤ) (atoms : List Atom) → length env ≤ w → AllByRecursion (IsValidAtom (length env)) atoms
+    → LinearPartHolds env atoms → AreMet (at (env ++ more)) (rows_of_guard w atoms)
 guard-met w env more [] l v h = tt
 guard-met w env more (a ∷ atoms) l v h =
-    met-append (at (env ++ more)) (rows_of_atom w a) (rows_of_guard w atoms) (atom-met w env more a l v.0 h.0) (guard-met w env more atoms l v.1 h.1)
-
--- the atoms hold, by positions and by recursion
-guard-by_recursion : (env : List ℤ) (atoms : List Atom) → GuardHolds env atoms → AllByRecursion (AtomHolds env) atoms
-guard-by_recursion env [] h = tt
-guard-by_recursion env (a ∷ atoms) h = (h 0 a (omega arith), guard-by_recursion env atoms (λ k d l. h (suc k) d (omega arith)))
+    met-append (at (env ++ more)) (rows_of_atom w a) (rows_of_guard w atoms) (atom-met w env more a l v.0 (h 0 a (omega arith)))
+    (guard-met w env more atoms l v.1 (λ k d i. h (suc k) d (omega arith)))
 
 -- the new values at the point are the values of the updates: `front` holds the values before those of the bent updates left
 news-values : (w k : ℕ) (us : List Term) (env front : List ℤ) (z : List ℤ)
@@ -186,7 +184,7 @@ guards-give-points = record { point = point; news = news }
       denominator = record { lt = tt };
       meets = met-meets (at (point_of r env)) (rows_of r) (met-tightened (at (point_of r env)) (rows_of_guard (unknowns_of r) r.guard)
           (guard-met (unknowns_of r) env (bent_values r.updates env) r.guard (omega (arith, l))
-          (subst (λ (n : ℕ). AllByRecursion (IsValidAtom n) r.guard) (sym l) h.guard) (guard-by_recursion env r.guard g)));
+          (subst (λ (n : ℕ). AllByRecursion (IsValidAtom n) r.guard) (sym l) h.guard) (λ k d i _. g k d i)));
     }
 
     news : (r : Rule) (env : List ℤ) → IsPreparable r → length env ≡ r.left + r.free

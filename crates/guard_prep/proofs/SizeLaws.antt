@@ -6,12 +6,13 @@ use Rattle.std.specs.List.{AllByRecursion, range_with_len}
 use Rattle.std.proofs.lemmas.Int.{ints}
 use Rattle.std.proofs.lemmas.List.{length-map, length-append}
 use Rattle.std.proofs.Math.Nat.{div-le_self}
+use Rattle.model.specs.Limits.{coefficient_limit}
 use Rattle.model.specs.Terms.{Term}
 use Rattle.model.specs.Programs.{Relation, AtLeast, MoreThan, AtMost, LessThan, EqualTo, Atom, Always, Compare, Rule}
 use Rattle.model.specs.Polynomials.{Polynomial}
 use Rattle.linear_forms.specs.Forms.{Form}
 use Rattle.poly_terms.specs.Expanding.{expanded, variable_form}
-use Rattle.poly_terms.specs.Faults.{maximum_coefficient, first_fault}
+use Rattle.poly_terms.specs.Faults.{first_fault}
 use Rattle.poly_terms.specs.Ordered.{IsAscending, IsBounded}
 use Rattle.poly_terms.specs.Rows.{coefficient, linear_form}
 use Rattle.poly_terms.proofs.OrderLaws.{expanded-ordered}
@@ -29,20 +30,20 @@ small-append w [] ys h k = k
 small-append w (x ∷ xs) ys h k = (h.0, small-append w xs ys h.1 k)
 
 -- the linear form of a small polynomial is small
-pub linear-small : (w : ℕ) (p : Polynomial) → IsAscending p → IsBounded maximum_coefficient p → IsSmallForm w (linear_form w p)
+pub linear-small : (w : ℕ) (p : Polynomial) → IsAscending p → IsBounded coefficient_limit p → IsSmallForm w (linear_form w p)
 linear-small w p a b = record {
   width = length-map (range_with_len 0 w) (λ (i : ℕ). coefficient (i ∷ []) p) ∙ range-length 0 w;
   coefs = each (range_with_len 0 w);
-  constant = coefficient-bounded maximum_coefficient [] p a b;
+  constant = coefficient-bounded coefficient_limit [] p a b;
 }
   where
     range-length : (x n : ℕ) → length (range_with_len x n) ≡ n
     range-length x zero = refl
     range-length x (suc n) = ap suc (range-length (x + 1) n)
 
-    each : (is : List ℕ) → AllByRecursion (λ z. nat_abs z ≤ maximum_coefficient) (map (λ (i : ℕ). coefficient (i ∷ []) p) is)
+    each : (is : List ℕ) → AllByRecursion (λ z. nat_abs z ≤ coefficient_limit) (map (λ (i : ℕ). coefficient (i ∷ []) p) is)
     each [] = tt
-    each (i ∷ is) = (coefficient-bounded maximum_coefficient (i ∷ []) p a b, each is)
+    each (i ∷ is) = (coefficient-bounded coefficient_limit (i ∷ []) p a b, each is)
 
 -- that of an expression without a fault is
 pub expanded-form-small : (w : ℕ) (t : Term) → first_fault t ≡ None → IsSmallForm w (linear_form w (expanded t))
@@ -53,12 +54,12 @@ pub opposite-form-small : (w : ℕ) (f : Form) → IsSmallForm w f → IsSmallFo
 opposite-form-small w f h = record {
   width = length-map f.coefs neg_ℤ ∙ h.width;
   coefs = each f.coefs h.coefs;
-  constant = subst (λ (n : ℕ). n ≤ maximum_coefficient) (sym (nat_abs-neg f.constant)) h.constant;
+  constant = subst (λ (n : ℕ). n ≤ coefficient_limit) (sym (nat_abs-neg f.constant)) h.constant;
 }
   where
-    each : (xs : List ℤ) → AllByRecursion (λ z. nat_abs z ≤ maximum_coefficient) xs → AllByRecursion (λ z. nat_abs z ≤ maximum_coefficient) (map neg_ℤ xs)
+    each : (xs : List ℤ) → AllByRecursion (λ z. nat_abs z ≤ coefficient_limit) xs → AllByRecursion (λ z. nat_abs z ≤ coefficient_limit) (map neg_ℤ xs)
     each [] k = tt
-    each (x ∷ xs) k = (subst (λ (n : ℕ). n ≤ maximum_coefficient) (sym (nat_abs-neg x)) k.0, each xs k.1)
+    each (x ∷ xs) k = (subst (λ (n : ℕ). n ≤ coefficient_limit) (sym (nat_abs-neg x)) k.0, each xs k.1)
 
 -- quotients by a number that isn't 0 are no greater
 quotient-small : (a : ℤ) (k : ℕ) → nat_abs (int_div a (pos (suc k))) ≤ nat_abs a
@@ -73,8 +74,8 @@ floor-small (negsuc a) k = omega (arith, div-le_self a (suc k))
 tightened-small : (w : ℕ) (f : Form) → IsSmallForm w f → AllByRecursion (IsSmallForm w) (tightened f)
 tightened-small w f h = go (divisor_of f.coefs)
   where
-    each : (k : ℕ) (xs : List ℤ) → AllByRecursion (λ z. nat_abs z ≤ maximum_coefficient) xs
-        → AllByRecursion (λ z. nat_abs z ≤ maximum_coefficient) (map (λ a. int_div a (pos (suc k))) xs)
+    each : (k : ℕ) (xs : List ℤ) → AllByRecursion (λ z. nat_abs z ≤ coefficient_limit) xs
+        → AllByRecursion (λ z. nat_abs z ≤ coefficient_limit) (map (λ a. int_div a (pos (suc k))) xs)
     each k [] l = tt
     each k (x ∷ xs) l = (omega (arith, quotient-small x k, l.0), each k xs l.1)
 

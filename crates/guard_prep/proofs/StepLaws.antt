@@ -13,7 +13,7 @@ use Rattle.guard_prep.specs.Laws.{IsPreparable, ValidRulesArePreparable, bent_va
 use Rattle.guard_prep.proofs.PointLaws.{bent-length, guards-give-points}
 
 -- the rule with a number is valid
-valid-at : (p : Program) (t : ℕ) (r : Rule) → IsValid p → rule_at p t ≡ Some r → IsValidRule p r
+pub valid-at : (p : Program) (t : ℕ) (r : Rule) → IsValid p → rule_at p t ≡ Some r → IsValidRule p r
 valid-at p zero r v e = cc
 valid-at p (suc t) r v e = at p.rules t v.rules e
   where

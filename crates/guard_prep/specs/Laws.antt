@@ -1,24 +1,25 @@
 -- Steps are points of the rows, and tightening keeps whole solutions.
-use Rattle.std.specs.Prelude.{◌≡◌, ◌↔◌, ℕ, ◌+◌, ◌≤◌, ◌<◌, Bool, if◌then◌else◌, List, [], ◌∷◌, ◌++◌, length, map, ℤ, pos, ◌≤ℤ◌, nat_abs, Some, ⊤}
-use Rattle.std.specs.List.{AllByRecursion}
+use Rattle.std.specs.Prelude.{◌≡◌, ◌↔◌, ℕ, ◌+◌, ◌≤◌, ◌<◌, false, if◌then◌else◌, List, [], ◌∷◌, ◌++◌, length, map, ℤ}
+use Rattle.std.specs.Prelude.{pos, ◌≤ℤ◌, nat_abs, Some, ⊤}
+use Rattle.std.specs.List.{All, AllByRecursion}
+use Rattle.model.specs.Limits.{place_limit, variable_limit, atom_limit, coefficient_limit}
 use Rattle.model.specs.Terms.{Term, value}
-use Rattle.model.specs.Programs.{Rule, Program, rule_at, GuardHolds}
-use Rattle.model.specs.Polynomials.{Polynomial}
+use Rattle.model.specs.Programs.{Atom, Always, Compare, Rule, Program, rule_at, AtomHolds, GuardHolds}
 use Rattle.model.specs.Runs.{Config, Step, IsStep}
 use Rattle.linear_forms.specs.Forms.{Form, at, form_value}
 use Rattle.linear_forms.specs.Points.{Meets, IsPoint}
+use Rattle.farkas_cert.specs.Sizes.{HasRowNumbers, AreSmall}
 use Rattle.poly_terms.specs.Expanding.{expanded}
-use Rattle.poly_terms.specs.Faults.{maximum_coefficient}
-use Rattle.its_model.specs.Valid.{IsValid, IsValidAtom, IsValidTerm}
+use Rattle.its_model.specs.Valid.{IsValid, IsValidAtom, IsValidTerm, difference_of}
 use Rattle.guard_prep.specs.Tightening.{tightened}
 use Rattle.guard_prep.specs.Prepared.{is_bent, rows_of, news_of, unknowns_of}
 
--- what the rows of a rule rest on: its guard and updates read its own variables and can be expanded; there are at most 64
--- variables, 64 atoms and 32 updates
+-- what the rows of a rule rest on: its guard and updates read its own variables and can be expanded; there are at most
+-- 64 variables, 64 atoms and 32 updates
 pub record IsPreparable (r : Rule) : Type 0 where
-  pub few_variables : r.left + r.free ≤ 64
-  pub few_atoms : length r.guard ≤ 64
-  pub few_updates : length r.updates ≤ 32
+  pub few_variables : r.left + r.free ≤ variable_limit
+  pub few_atoms : length r.guard ≤ atom_limit
+  pub few_updates : length r.updates ≤ place_limit
   pub guard : AllByRecursion (IsValidAtom (r.left + r.free)) r.guard
   pub updates : AllByRecursion (IsValidTerm (r.left + r.free)) r.updates
 
@@ -39,16 +40,31 @@ bent_values (u ∷ us) env = if is_bent (expanded u) then value u env ∷ bent_v
 abbrev pub point_of : Rule → List ℤ → List ℤ
 point_of r env = env ++ bent_values r.updates env
 
--- at the values of its variables that meet its guard, with the values of the bent updates, the rows of a rule have a point
--- with denominator 1, and the new values there are the values of the updates
+-- at the values of its variables that meet its guard, with the values of the bent updates, the rows of a rule have a
+-- point with denominator 1, and the new values there are the values of the updates
 pub record GuardsGivePoints : Type 0 where
   pub point : (r : Rule) (env : List ℤ) → IsPreparable r → length env ≡ r.left + r.free → GuardHolds env r.guard
       → IsPoint (rows_of r) (at (point_of r env)) (pos 1)
   pub news : (r : Rule) (env : List ℤ) → IsPreparable r → length env ≡ r.left + r.free
       → map (λ f. form_value f (at (point_of r env)) (pos 1)) (news_of r) ≡ map (λ u. value u env) r.updates
 
--- from c the rule leads to d at the point: a point of its rows with denominator 1, whose first unknowns are the values of c,
--- and where the new values are those of d
+-- an atom is linear: its expanded difference has degree at most 1, or it is the one that always holds
+abbrev pub IsLinear : Atom → Type 0
+IsLinear Always = ⊤
+IsLinear (Compare d r e) = is_bent (expanded (difference_of d r e)) ≡ false
+
+-- the linear part of a guard holds: each of its atoms that is linear
+abbrev pub LinearPartHolds : List ℤ → List Atom → Type 0
+LinearPartHolds env atoms = All (λ a. IsLinear a → AtomHolds env a) atoms
+
+-- at whole numbers the rows of a rule say just what the linear part of its guard says of the variables, whatever
+-- numbers stand behind these
+pub record RowsAreTheLinearPart : Type 0 where
+  pub each : (r : Rule) (env more : List ℤ) → IsPreparable r → length env ≡ r.left + r.free
+      → IsPoint (rows_of r) (at (env ++ more)) (pos 1) ↔ LinearPartHolds env r.guard
+
+-- from c the rule leads to d at the point: a point of its rows with denominator 1, whose first unknowns are the values
+-- of c, and where the new values are those of d
 pub record IsPointOfStep (r : Rule) (c d : Config) (z : List ℤ) : Type 0 where
   pub unknowns : length z ≡ unknowns_of r
   pub point : IsPoint (rows_of r) (at z) (pos 1)
@@ -57,18 +73,26 @@ pub record IsPointOfStep (r : Rule) (c d : Config) (z : List ℤ) : Type 0 where
 
 -- each step of a valid program is a point of its rule's rows
 pub record StepsArePoints : Type 0 where
-  pub each : (p : Program) (c d : Config) (s : Step) → IsValid p → (i : IsStep p c s d) → IsPointOfStep i.rule c d (point_of i.rule (c.values ++ s.free))
+  pub each : (p : Program) (c d : Config) (s : Step) → IsValid p → (i : IsStep p c s d)
+      → IsPointOfStep i.rule c d (point_of i.rule (c.values ++ s.free))
 
 -- the absolute values of a form's numbers are at most 2^63 - 1, and it has so many coefficients
 pub record IsSmallForm (n : ℕ) (f : Form) : Type 0 where
   pub width : length f.coefs ≡ n
-  pub coefs : AllByRecursion (λ a. nat_abs a ≤ maximum_coefficient) f.coefs
-  pub constant : nat_abs f.constant ≤ maximum_coefficient
+  pub coefs : AllByRecursion (λ a. nat_abs a ≤ coefficient_limit) f.coefs
+  pub constant : nat_abs f.constant ≤ coefficient_limit
 
--- the rows and the new values of a rule have a coefficient for each unknown, and numbers of at most 2^63 - 1 in absolute
--- value; there are at most 128 rows and 96 unknowns
+-- the rows and the new values of a rule have a coefficient for each unknown, and numbers of at most 2^63 - 1 in
+-- absolute value; there are at most 128 rows and 96 unknowns
 pub record RowsAreSmall : Type 0 where
   pub rows : (r : Rule) → IsPreparable r → AllByRecursion (IsSmallForm (unknowns_of r)) (rows_of r)
   pub news : (r : Rule) → IsPreparable r → AllByRecursion (IsSmallForm (unknowns_of r)) (news_of r)
   pub few_rows : (r : Rule) → IsPreparable r → length (rows_of r) ≤ 128
   pub few_unknowns : (r : Rule) → IsPreparable r → unknowns_of r ≤ 96
+
+-- the rows of a rule are what certificates on them, and points of them, ask for: their numbers are below 2^63 in
+-- absolute value, their columns add up to little enough, and there are at most 128 unknowns
+pub record RowsSuitCertificates : Type 0 where
+  pub numbers : (r : Rule) → IsPreparable r → All HasRowNumbers (rows_of r)
+  pub sums : (r : Rule) → IsPreparable r → AreSmall (rows_of r)
+  pub unknowns : (r : Rule) → IsPreparable r → unknowns_of r ≤ 128

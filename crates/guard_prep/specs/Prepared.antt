@@ -1,5 +1,6 @@
 -- The linear rows of a rule, its new values, bent places and polynomials.
-use Rattle.std.specs.Prelude.{ℕ, zero, suc, ◌+◌, Bool, true, false, if◌then◌else◌, nat_lt, List, [], ◌∷◌, ◌++◌, map, ℤ, neg_ℤ}
+use Rattle.std.specs.Prelude.{ℕ, zero, suc, ◌+◌, Bool, true, false, if◌then◌else◌, nat_lt, List, [], ◌∷◌, ◌++◌, map, ℤ}
+use Rattle.std.specs.Prelude.{neg_ℤ}
 use Rattle.model.specs.Terms.{Term}
 use Rattle.model.specs.Programs.{Relation, AtLeast, MoreThan, AtMost, LessThan, EqualTo, Atom, Always, Compare, Rule}
 use Rattle.model.specs.Polynomials.{Polynomial, degree_of}
@@ -66,11 +67,13 @@ all_tightened (f ∷ rows) = tightened f ++ all_tightened rows
 abbrev pub rows_of : Rule → List Form
 rows_of r = all_tightened (rows_of_guard (unknowns_of r) r.guard)
 
--- the new values over so many unknowns: that of a bent place is an unknown of its own, the first of which has the number k
+-- the new values over so many unknowns: that of a bent place is an unknown of its own, the first of which has the
+-- number k
 abbrev pub news_from : ℕ → ℕ → List Polynomial → List Form
 news_from width k [] = []
 news_from width k (p ∷ ps) =
-    if is_bent p then linear_form width (variable_form k) ∷ news_from width (suc k) ps else linear_form width p ∷ news_from width k ps
+    if is_bent p then linear_form width (variable_form k) ∷ news_from width (suc k) ps
+    else linear_form width p ∷ news_from width k ps
 
 -- the new value of each place, an affine form in the unknowns
 abbrev pub news_of : Rule → List Form

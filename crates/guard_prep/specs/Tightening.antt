@@ -1,5 +1,6 @@
 -- Rows over whole numbers, tightened.
-use Rattle.std.specs.Prelude.{ℕ, zero, suc, ◌+◌, ◌%◌, Bool, true, ◌&&◌, nat_eq, if◌then◌else◌, List, [], ◌∷◌, map, ℤ, pos, negsuc, nat_abs, int_le, int_div}
+use Rattle.std.specs.Prelude.{ℕ, zero, suc, ◌+◌, ◌%◌, Bool, true, ◌&&◌, nat_eq, if◌then◌else◌, List, [], ◌∷◌, map, ℤ}
+use Rattle.std.specs.Prelude.{pos, negsuc, nat_abs, int_le, int_div}
 use Rattle.std.specs.Int.{int_div_euclid}
 use Rattle.linear_forms.specs.Forms.{Form}
 
@@ -8,12 +9,12 @@ abbrev pub divides_all : ℕ → List ℤ → Bool
 divides_all d [] = true
 divides_all d (a ∷ coefs) = nat_eq (nat_abs a % d) 0 && divides_all d coefs
 
--- the greatest number up to n that divides all coefficients, 0 where n is 0
+-- the last of the numbers up to n that divides all coefficients, 0 where n is 0
 abbrev pub divisor_upto : ℕ → List ℤ → ℕ
 divisor_upto zero coefs = 0
 divisor_upto (suc n) coefs = if divides_all (suc n) coefs then suc n else divisor_upto n coefs
 
--- the sum of the absolute values of coefficients, which is 0 where all are 0, and else no common divisor is greater
+-- the sum of the absolute values of coefficients: it is 0 where all are 0, and else no common divisor is above it
 abbrev pub total_size : List ℤ → ℕ
 total_size [] = 0
 total_size (a ∷ coefs) = nat_abs a + total_size coefs
@@ -27,7 +28,10 @@ divisor_of coefs = divisor_upto (total_size coefs) coefs
 abbrev pub tightened_by : ℕ → Form → List Form
 tightened_by zero f = if int_le (pos 0) f.constant then [] else record { coefs = f.coefs; constant = negsuc 0 } ∷ []
 tightened_by (suc k) f =
-    record { coefs = map (λ a. int_div a (pos (suc k))) f.coefs; constant = int_div_euclid f.constant (pos (suc k)) } ∷ []
+    record {
+      coefs = map (λ a. int_div a (pos (suc k))) f.coefs;
+      constant = int_div_euclid f.constant (pos (suc k));
+    } ∷ []
 
 -- what is left of a row that is tightened: it has the same whole solutions
 abbrev pub tightened : Form → List Form

@@ -1,6 +1,10 @@
 // The laws of rows: what the soundness of proofs by them rests on.
 
-ghost use Rattle.guard_prep.specs.Laws.{ValidRulesArePreparable, TighteningKeepsWholeSolutions, GuardsGivePoints, StepsArePoints, RowsAreSmall};
+ghost use Rattle.guard_prep.specs.Laws.{ValidRulesArePreparable, TighteningKeepsWholeSolutions, GuardsGivePoints};
+ghost use Rattle.guard_prep.specs.Laws.{RowsAreTheLinearPart};
+ghost use Rattle.guard_prep.specs.Laws.{StepsArePoints, RowsAreSmall, RowsSuitCertificates};
+ghost use Rattle.guard_prep.specs.WorkedRows.{RowsAreWorkedOut};
+ghost use Rattle.guard_prep.specs.WorkedPoints.{PointsAreWorkedOut};
 
 /// The rules of a valid program have rows. It has no code, as all functions here: its contract is the law.
 pub fn valid_rules_are_preparable()
@@ -12,10 +16,16 @@ pub fn tightening_keeps_whole_solutions()
     ensures { TighteningKeepsWholeSolutions }
 {}
 
-/// Where the guard holds, the values of the variables and of the bent updates are a point with denominator 1, and the new
-/// values there are the values of the updates.
+/// Where the guard holds, the values of the variables and of the bent updates are a point with denominator 1, and the
+/// new values there are the values of the updates.
 pub fn guards_give_points()
     ensures { GuardsGivePoints }
+{}
+
+/// At whole numbers the rows of a rule say just what those atoms of its guard say whose difference has degree at most
+/// 1.
+pub fn rows_are_the_linear_part()
+    ensures { RowsAreTheLinearPart }
 {}
 
 /// Each step of a valid program is a point of its rule's rows.
@@ -26,4 +36,19 @@ pub fn steps_are_points()
 /// Rows and new values have a coefficient for each unknown, and their numbers are at most 2^63-1 in absolute value.
 pub fn rows_are_small()
     ensures { RowsAreSmall }
+{}
+
+/// The rows of a rule meet the conditions of `farkas_cert::implies`, `empty` and `on_rows`.
+pub fn rows_suit_certificates()
+    ensures { RowsSuitCertificates }
+{}
+
+/// Rows, new values and bent places are what was worked out by hand.
+pub fn rows_are_as_worked_out()
+    ensures { RowsAreWorkedOut }
+{}
+
+/// Which rules have rows, and which points are those of steps, is what was worked out by hand, on both sides.
+pub fn points_are_as_worked_out()
+    ensures { PointsAreWorkedOut }
 {}

@@ -1,5 +1,5 @@
-// A rule becomes linear rows here. Contract to the layer above: `rows` gives exactly the rows, new values, bent places and
-// polynomials of the plain rule (`prepared`), and each step of a valid program is a point of its rule's rows.
+// A rule becomes linear rows here. Contract to the layer above: `rows` gives exactly the rows, new values, bent places
+// and polynomials of the plain rule (`prepared`), and each step of a valid program is a point of its rule's rows.
 #![tactic(auto)]
 
 mod laws;
@@ -8,8 +8,9 @@ mod rule_rows;
 mod tighten;
 
 pub use laws::{
-    guards_give_points, rows_are_small, steps_are_points, tightening_keeps_whole_solutions,
-    valid_rules_are_preparable,
+    guards_give_points, points_are_as_worked_out, rows_are_as_worked_out, rows_are_small,
+    rows_are_the_linear_part, rows_suit_certificates, steps_are_points,
+    tightening_keeps_whole_solutions, valid_rules_are_preparable,
 };
 pub use preparing::rows;
 pub use rule_rows::RuleRows;

@@ -2,16 +2,18 @@
 
 ghost use Rattle.std.specs.Prelude.{◌≡◌, ◌+◌, ◌<◌, ◌≤◌, ◌++◌, length, map, nat_abs, IfOk, OnOk, None};
 ghost use Rattle.std.specs.List.{AllByRecursion};
+ghost use Rattle.model.specs.Limits.{place_limit, coefficient_limit};
 ghost use Rattle.model.specs.Programs.{Compare};
 ghost use Rattle.poly_terms.specs.Expanding.{expanded, variable_form};
-ghost use Rattle.poly_terms.specs.Faults.{maximum_coefficient, first_fault};
+ghost use Rattle.poly_terms.specs.Faults.{first_fault};
 ghost use Rattle.poly_terms.specs.Ordered.{IsAscending};
 ghost use Rattle.poly_terms.specs.Rows.{HasVariablesBelow, linear_form};
 ghost use Rattle.poly_terms.specs.Views.{term_of, poly_of, form_of};
 ghost use Rattle.its_model.specs.Valid.{IsValidAtom, IsValidComparison, difference_of};
 ghost use Rattle.its_model.specs.Views.{atom_of, relation_of, rule_of};
 ghost use Rattle.guard_prep.specs.Laws.{IsPreparable};
-ghost use Rattle.guard_prep.specs.Prepared.{is_bent, count_true, opposite_form, rows_by, rows_of_atom, rows_of_guard, all_tightened, news_from, prepared};
+ghost use Rattle.guard_prep.specs.Prepared.{is_bent, count_true, opposite_form, rows_by, rows_of_atom, rows_of_guard};
+ghost use Rattle.guard_prep.specs.Prepared.{all_tightened, news_from, prepared};
 ghost use Rattle.guard_prep.specs.Views.{prepared_of};
 
 use crate::rule_rows::RuleRows;
@@ -25,7 +27,8 @@ use std::alloc::{AllocError, Global};
 /// The rows of a rule of a valid program.
 ///
 /// The unknowns are its left variables, its free ones, and one for each update of degree 2 or more. An atom whose
-/// difference has degree at most 1 gives rows, which are tightened over whole numbers; one of a higher degree gives none.
+/// difference has degree at most 1 gives rows, which are tightened over whole numbers; one of a higher degree gives
+/// none.
 ///
 /// # Errors
 ///
@@ -86,7 +89,7 @@ fn bent_of(alloc: Global, polys: &[Poly]) -> Result<Vec<bool>, Memory>
 
 // How many are true.
 fn count_of(bent: &[bool]) -> u32
-    requires { length bent.now ≤ 32 }
+    requires { length bent.now ≤ place_limit }
     ensures { result ≡ count_true bent.now }
 {
     let mut count = 0;
@@ -136,7 +139,8 @@ fn unit_row(alloc: Global, own: u32, unknowns: u32) -> Result<Row, Memory>
 // The rows of the atoms, tightened.
 fn guard_rows(alloc: Global, atoms: &[Atom], unknowns: u32) -> Result<Vec<Row>, Memory>
     requires { AllByRecursion (IsValidAtom unknowns) (map atom_of atoms.now) }
-    ensures { IfOk result (λ rows. map form_of rows.items ≡ all_tightened (rows_of_guard unknowns (map atom_of atoms.now))) }
+    ensures { IfOk result
+        (λ rows. map form_of rows.items ≡ all_tightened (rows_of_guard unknowns (map atom_of atoms.now))) }
 {
     let mut rows = Vec::new(alloc);
     for atom in atoms {
@@ -148,7 +152,8 @@ fn guard_rows(alloc: Global, atoms: &[Atom], unknowns: u32) -> Result<Vec<Row>, 
 // Appends the rows of an atom, tightened.
 fn push_atom(alloc: Global, rows: &mut Vec<Row>, atom: &Atom, unknowns: u32) -> Result<(), Memory>
     requires { IsValidAtom unknowns (atom_of atom.now) }
-    ensures { OnOk result (map form_of rows.new.items ≡ map form_of rows.old.items ++ all_tightened (rows_of_atom unknowns (atom_of atom.now))) }
+    ensures { OnOk result (map form_of rows.new.items
+        ≡ map form_of rows.old.items ++ all_tightened (rows_of_atom unknowns (atom_of atom.now))) }
 {
     match atom {
         Atom::Always => Ok(()),
@@ -181,7 +186,8 @@ fn push_comparison(
 // The expanded difference of a comparison.
 fn difference(alloc: Global, d: &Expr, rel: Rel, e: &Expr) -> Result<Poly, Memory>
     requires { first_fault (difference_of (term_of d.now) (relation_of rel) (term_of e.now)) ≡ None }
-    ensures { IfOk result (λ p. poly_of p ≡ expanded (difference_of (term_of d.now) (relation_of rel) (term_of e.now))) }
+    ensures { IfOk result
+        (λ p. poly_of p ≡ expanded (difference_of (term_of d.now) (relation_of rel) (term_of e.now))) }
 {
     let made = match rel {
         Rel::Ge | Rel::Eq => expand_difference(alloc, d, e),
@@ -197,9 +203,10 @@ fn difference(alloc: Global, d: &Expr, rel: Rel, e: &Expr) -> Result<Poly, Memor
 
 // Appends the rows of a comparison by its difference's row: an equation has the opposite row too.
 fn push_rows(alloc: Global, rows: &mut Vec<Row>, rel: Rel, row: Row) -> Result<(), Memory>
-    requires coefs { AllByRecursion (λ a. nat_abs a ≤ maximum_coefficient) row.coefs.items }
-    requires constant { nat_abs row.constant ≤ maximum_coefficient }
-    ensures { OnOk result (map form_of rows.new.items ≡ map form_of rows.old.items ++ all_tightened (rows_by (relation_of rel) (form_of row))) }
+    requires coefs { AllByRecursion (λ a. nat_abs a ≤ coefficient_limit) row.coefs.items }
+    requires constant { nat_abs row.constant ≤ coefficient_limit }
+    ensures { OnOk result (map form_of rows.new.items
+        ≡ map form_of rows.old.items ++ all_tightened (rows_by (relation_of rel) (form_of row))) }
 {
     if rel == Rel::Eq {
         let opposite = opposite_row(alloc, &row)?;
@@ -212,8 +219,8 @@ fn push_rows(alloc: Global, rows: &mut Vec<Row>, rel: Rel, row: Row) -> Result<(
 
 // The row with the opposite sign.
 fn opposite_row(alloc: Global, row: &Row) -> Result<Row, Memory>
-    requires coefs { AllByRecursion (λ a. nat_abs a ≤ maximum_coefficient) row.now.coefs.items }
-    requires constant { nat_abs row.now.constant ≤ maximum_coefficient }
+    requires coefs { AllByRecursion (λ a. nat_abs a ≤ coefficient_limit) row.now.coefs.items }
+    requires constant { nat_abs row.now.constant ≤ coefficient_limit }
     ensures { IfOk result (λ opposite. form_of opposite ≡ opposite_form (form_of row.now)) }
 {
     let mut coefs = Vec::new(alloc);

@@ -1,18 +1,20 @@
 // Rows over whole numbers, tightened.
 
-ghost use Rattle.std.specs.Prelude.{◌≡◌, ◌≢◌, ℕ, ◌+◌, ◌*◌, ◌≤◌, ◌<◌, ◌^◌, ◌++◌, length, map, ℤ, pos, ◌<ℤ◌, nat_abs, int_div, slice_set, slice_index_or, IfOk, OnOk};
+ghost use Rattle.std.specs.Prelude.{◌≡◌, ◌≤◌, ◌<◌, ◌++◌, length, map, ℤ, pos, ◌<ℤ◌, nat_abs, int_div, slice_set};
+ghost use Rattle.std.specs.Prelude.{slice_index_or, IfOk, OnOk};
 ghost use Rattle.std.specs.List.{AllByRecursion};
-ghost use Rattle.std.specs.Int.{IsGcd, int_div_euclid};
-ghost use Rattle.poly_terms.specs.Faults.{maximum_coefficient};
+ghost use Rattle.std.specs.Int.{int_div_euclid};
+ghost use Rattle.model.specs.Limits.{coefficient_limit};
 ghost use Rattle.poly_terms.specs.Views.{form_of};
 ghost use Rattle.guard_prep.specs.Tightening.{divisor_of, tightened, tightened_by};
 
+use int_laws::greatest_common_divisor;
 use poly_terms::{Memory, Row};
 
 /// Appends what is left of a row when it is tightened.
 pub(crate) fn push_tightened(rows: &mut Vec<Row>, row: Row) -> Result<(), Memory>
-    requires coefs { AllByRecursion (λ a. nat_abs a ≤ maximum_coefficient) row.coefs.items }
-    requires constant { nat_abs row.constant ≤ maximum_coefficient }
+    requires coefs { AllByRecursion (λ a. nat_abs a ≤ coefficient_limit) row.coefs.items }
+    requires constant { nat_abs row.constant ≤ coefficient_limit }
     ensures { OnOk result (map form_of rows.new.items ≡ map form_of rows.old.items ++ tightened (form_of row)) }
 {
     let divisor = common_divisor(&row.coefs);
@@ -57,7 +59,8 @@ fn divided(row: Row, divisor: i128) -> Row
 fn divide_at(coefs: &mut Vec<i128>, i: usize, divisor: i128)
     requires within { i < length coefs.old.items }
     requires positive { pos 0 <ℤ divisor }
-    ensures { coefs.new.items ≡ slice_set coefs.old.items i (int_div (slice_index_or coefs.old.items i (pos 0)) divisor) }
+    ensures { coefs.new.items
+        ≡ slice_set coefs.old.items i (int_div (slice_index_or coefs.old.items i (pos 0)) divisor) }
 {
     coefs[i] = quotient(coefs[i], divisor);
 }
@@ -72,7 +75,7 @@ fn quotient(a: i128, divisor: i128) -> i128
 
 // The greatest common divisor of coefficients, 0 where all are 0.
 fn common_divisor(coefs: &[i128]) -> i128
-    requires { AllByRecursion (λ a. nat_abs a ≤ maximum_coefficient) coefs.now }
+    requires { AllByRecursion (λ a. nat_abs a ≤ coefficient_limit) coefs.now }
     ensures { result ≡ pos (divisor_of coefs.now) }
 {
     let mut divisor = 0u128;
@@ -80,18 +83,4 @@ fn common_divisor(coefs: &[i128]) -> i128
         divisor = greatest_common_divisor(divisor, a.unsigned_abs());
     }
     divisor as i128
-}
-
-// The greatest common divisor, by Euclid's algorithm.
-fn greatest_common_divisor(a: u128, b: u128) -> u128
-    ensures { IsGcd a b result }
-{
-    let mut x = a;
-    let mut y = b;
-    while y != 0 {
-        let rest = x % y;
-        x = y;
-        y = rest;
-    }
-    x
 }

@@ -33,7 +33,7 @@ distinct-more e xs h d =
     differs y ne (inl (test, same)) = absurd (ne same)
     differs y ne (inr (test, other)) = test
 
--- numbers that differ at all places are distinct
+-- numbers that differ at all positions are distinct
 pub distinct-list : (xs : List ℕ) → ((j k : ℕ) → j < k → k < length xs → get_or xs j 0 ≢ get_or xs k 0) → IsDistinct eqb xs
 unfolding IsDistinct
 distinct-list [] h = tt

@@ -16,4 +16,11 @@ pub mod Occurrences
 pub mod Totals
 pub mod Uniqueness
 pub mod Numbering
-pub mod GraphLaws
+pub mod Reaching
+pub mod KeptLinks
+pub mod Arrivals
+pub mod SetMembers
+mod ListedNodes
+mod WorkedLoop
+mod WorkedBackward
+mod WorkedComponents

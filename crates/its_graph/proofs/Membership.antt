@@ -1,4 +1,4 @@
--- The nodes of each component from the places of the leaders, and the listing that they make.
+-- The nodes of each component from the positions of the leaders, and the listing that they make.
 use Rattle.std.proofs.Common.{◌≡◌, ◌≢◌, ◌⊎◌, inl, inr, ℕ, zero, suc, ◌+◌, ◌-◌, ◌<◌, ◌≤◌, List, [], ◌∷◌, ◌++◌, length, take, map, Contains, Vec, get_or, refl, sym, ◌∙◌, ap, subst, arith, zero-add, add-zero, length-append, Result, Ok, Err, IfOk}
 use Rattle.std.specs.List.{All}
 use Rattle.std.specs.List.Sorted.{IsStrictlyIncreasing}
@@ -26,92 +26,92 @@ increasing-cons x xs h up (suc k) low =
     let next : suc k + 1 ≡ suc (k + 1) = omega arith in
     subst (λ (j : ℕ). get_or xs k 0 < get_or (x ∷ xs) j 0) (sym next) (up k (omega (arith, low)))
 
--- the nodes of a place ascend, from the first number on
-numbered-ascending : (places : List ℕ) (i : ℕ) (ls : List ℕ) (k : ℕ) → IsStrictlyIncreasing (values_of (numbered places i ls) k) × All (λ y. i ≤ y) (values_of (numbered places i ls) k)
-numbered-ascending places i [] k = (λ j low. absurd (omega (arith, low)), All-nil (λ (y : ℕ). i ≤ y))
-numbered-ascending places i (l ∷ ls) k = go (told (get_or places l 0) k) (numbered-ascending places (suc i) ls k)
+-- the nodes of a position ascend, from the first number on
+numbered-ascending : (positions : List ℕ) (i : ℕ) (ls : List ℕ) (k : ℕ) → IsStrictlyIncreasing (values_of (numbered positions i ls) k) × All (λ y. i ≤ y) (values_of (numbered positions i ls) k)
+numbered-ascending positions i [] k = (λ j low. absurd (omega (arith, low)), All-nil (λ (y : ℕ). i ≤ y))
+numbered-ascending positions i (l ∷ ls) k = go (told (get_or positions l 0) k) (numbered-ascending positions (suc i) ls k)
   where
     rest : List ℕ
-    rest = values_of (numbered places (suc i) ls) k
+    rest = values_of (numbered positions (suc i) ls) k
 
-    go : Told (get_or places l 0) k → IsStrictlyIncreasing (values_of (numbered places (suc i) ls) k) × All (λ y. suc i ≤ y) (values_of (numbered places (suc i) ls) k)
-        → IsStrictlyIncreasing (values_of (numbered places i (l ∷ ls)) k) × All (λ y. i ≤ y) (values_of (numbered places i (l ∷ ls)) k)
+    go : Told (get_or positions l 0) k → IsStrictlyIncreasing (values_of (numbered positions (suc i) ls) k) × All (λ y. suc i ≤ y) (values_of (numbered positions (suc i) ls) k)
+        → IsStrictlyIncreasing (values_of (numbered positions i (l ∷ ls)) k) × All (λ y. i ≤ y) (values_of (numbered positions i (l ∷ ls)) k)
     go (inl (test, same)) (up, above) =
         rw test (
-          increasing-cons i (values_of (numbered places (suc i) ls) k) (All-weaker (λ (y : ℕ). suc i ≤ y) (λ (y : ℕ). i < y) (λ y h. omega (arith, h)) (values_of (numbered places (suc i) ls) k) above) up,
-          All-cons (λ (y : ℕ). i ≤ y) i (values_of (numbered places (suc i) ls) k) (omega arith) (All-weaker (λ (y : ℕ). suc i ≤ y) (λ (y : ℕ). i ≤ y) (λ y h. omega (arith, h)) (values_of (numbered places (suc i) ls) k) above),
+          increasing-cons i (values_of (numbered positions (suc i) ls) k) (All-weaker (λ (y : ℕ). suc i ≤ y) (λ (y : ℕ). i < y) (λ y h. omega (arith, h)) (values_of (numbered positions (suc i) ls) k) above) up,
+          All-cons (λ (y : ℕ). i ≤ y) i (values_of (numbered positions (suc i) ls) k) (omega arith) (All-weaker (λ (y : ℕ). suc i ≤ y) (λ (y : ℕ). i ≤ y) (λ y h. omega (arith, h)) (values_of (numbered positions (suc i) ls) k) above),
         )
-    go (inr (test, other)) (up, above) = rw test (up, All-weaker (λ (y : ℕ). suc i ≤ y) (λ (y : ℕ). i ≤ y) (λ y h. omega (arith, h)) (values_of (numbered places (suc i) ls) k) above)
+    go (inr (test, other)) (up, above) = rw test (up, All-weaker (λ (y : ℕ). suc i ≤ y) (λ (y : ℕ). i ≤ y) (λ y h. omega (arith, h)) (values_of (numbered positions (suc i) ls) k) above)
 
--- a node has the place of its leader
-numbered-from : (places : List ℕ) (i : ℕ) (ls : List ℕ) (k b : ℕ) → Contains (numbered places i ls) (k, b) → (i ≤ b) × (b < i + length ls) × (get_or places (get_or ls (b - i) 0) 0 ≡ k)
-numbered-from places i [] k b (j, low, e) = absurd (omega arith)
-numbered-from places i (l ∷ ls) k b h = go (pair-cases (get_or places l 0, i) (numbered places (suc i) ls) (k, b) h) (λ later. numbered-from places (suc i) ls k b later)
+-- a node has the position of its leader
+numbered-from : (positions : List ℕ) (i : ℕ) (ls : List ℕ) (k b : ℕ) → Contains (numbered positions i ls) (k, b) → (i ≤ b) × (b < i + length ls) × (get_or positions (get_or ls (b - i) 0) 0 ≡ k)
+numbered-from positions i [] k b (j, low, e) = absurd (omega arith)
+numbered-from positions i (l ∷ ls) k b h = go (pair-cases (get_or positions l 0, i) (numbered positions (suc i) ls) (k, b) h) (λ later. numbered-from positions (suc i) ls k b later)
   where
-    go : ◌≡◌ {A = Pair} (get_or places l 0, i) (k, b) ⊎ Contains (numbered places (suc i) ls) (k, b)
-        → (Contains (numbered places (suc i) ls) (k, b) → (suc i ≤ b) × (b < suc i + length ls) × (get_or places (get_or ls (b - suc i) 0) 0 ≡ k))
-        → (i ≤ b) × (b < i + length (l ∷ ls)) × (get_or places (get_or (l ∷ ls) (b - i) 0) 0 ≡ k)
+    go : ◌≡◌ {A = Pair} (get_or positions l 0, i) (k, b) ⊎ Contains (numbered positions (suc i) ls) (k, b)
+        → (Contains (numbered positions (suc i) ls) (k, b) → (suc i ≤ b) × (b < suc i + length ls) × (get_or positions (get_or ls (b - suc i) 0) 0 ≡ k))
+        → (i ≤ b) × (b < i + length (l ∷ ls)) × (get_or positions (get_or (l ∷ ls) (b - i) 0) 0 ≡ k)
     go (inl is) ih =
         let same : i ≡ b = ap (λ (p : Pair). p.1) is in
         let first : b - i ≡ 0 = omega (arith, same) in
-        (omega (arith, same), omega (arith, same), ap (λ (x : ℕ). get_or places (get_or (l ∷ ls) x 0) 0) first ∙ ap (λ (p : Pair). p.0) is)
+        (omega (arith, same), omega (arith, same), ap (λ (x : ℕ). get_or positions (get_or (l ∷ ls) x 0) 0) first ∙ ap (λ (p : Pair). p.0) is)
     go (inr later) ih =
         let rest = ih later in
         let next : b - i ≡ suc (b - suc i) = omega (arith, rest.0) in
-        (omega (arith, rest.0), omega (arith, rest.1), ap (λ (x : ℕ). get_or places (get_or (l ∷ ls) x 0) 0) next ∙ rest.2)
+        (omega (arith, rest.0), omega (arith, rest.1), ap (λ (x : ℕ). get_or positions (get_or (l ∷ ls) x 0) 0) next ∙ rest.2)
 
 -- and is listed with it
-numbered-listed : (places : List ℕ) (i : ℕ) (ls : List ℕ) (j : ℕ) → j < length ls → Contains (numbered places i ls) (get_or places (get_or ls j 0) 0, i + j)
-numbered-listed places i [] j low = absurd (omega arith)
-numbered-listed places i (l ∷ ls) zero low = (zero, omega arith, same_pair (get_or places l 0, i) (get_or places l 0) (i + 0) refl (omega arith))
-numbered-listed places i (l ∷ ls) (suc j) low =
-    pair-later (get_or places l 0, i) (numbered places (suc i) ls) (get_or places (get_or ls j 0) 0, i + suc j)
-    (subst (λ (x : ℕ). Contains (numbered places (suc i) ls) (get_or places (get_or ls j 0) 0, x)) (moved i j) (numbered-listed places (suc i) ls j (omega arith)))
+numbered-listed : (positions : List ℕ) (i : ℕ) (ls : List ℕ) (j : ℕ) → j < length ls → Contains (numbered positions i ls) (get_or positions (get_or ls j 0) 0, i + j)
+numbered-listed positions i [] j low = absurd (omega arith)
+numbered-listed positions i (l ∷ ls) zero low = (zero, omega arith, same_pair (get_or positions l 0, i) (get_or positions l 0) (i + 0) refl (omega arith))
+numbered-listed positions i (l ∷ ls) (suc j) low =
+    pair-later (get_or positions l 0, i) (numbered positions (suc i) ls) (get_or positions (get_or ls j 0) 0, i + suc j)
+    (subst (λ (x : ℕ). Contains (numbered positions (suc i) ls) (get_or positions (get_or ls j 0) 0, x)) (moved i j) (numbered-listed positions (suc i) ls j (omega arith)))
   where
     moved : (i j : ℕ) → suc i + j ≡ i + suc j
     moved i j = omega arith
 
--- the values at a place are the members of its leader
-pub members-at : (places leaders order : List ℕ) → ((k : ℕ) → k < length order → get_or places (get_or order k 0) 0 ≡ k)
-    → ((a : ℕ) → a < length leaders → Contains order (get_or leaders a 0)) → (k : ℕ) → k < length order → AreMembers leaders (get_or order k 0) (values_of (numbered places 0 leaders) k)
-members-at places leaders order placed all k low = record {
-  each = λ b. (λ h. from b (numbered-from places 0 leaders k b (value-from (numbered places 0 leaders) k b h)), λ h. value-listed (numbered places 0 leaders) k b (into b h));
-  ascending = (numbered-ascending places 0 leaders k).0;
+-- the values at a position are the members of its leader
+pub members-at : (positions leaders order : List ℕ) → ((k : ℕ) → k < length order → get_or positions (get_or order k 0) 0 ≡ k)
+    → ((a : ℕ) → a < length leaders → Contains order (get_or leaders a 0)) → (k : ℕ) → k < length order → AreMembers leaders (get_or order k 0) (values_of (numbered positions 0 leaders) k)
+members-at positions leaders order placed all k low = record {
+  each = λ b. (λ h. from b (numbered-from positions 0 leaders k b (value-from (numbered positions 0 leaders) k b h)), λ h. value-listed (numbered positions 0 leaders) k b (into b h));
+  ascending = (numbered-ascending positions 0 leaders k).0;
 }
   where
-    -- the place of a leader is where it stands
-    stands : (a : ℕ) → Contains order (get_or leaders a 0) → get_or places (get_or leaders a 0) 0 ≡ k → get_or leaders a 0 ≡ get_or order k 0
+    -- the position of a leader is where it stands
+    stands : (a : ℕ) → Contains order (get_or leaders a 0) → get_or positions (get_or leaders a 0) 0 ≡ k → get_or leaders a 0 ≡ get_or order k 0
     stands a (j, within, e) at =
         let same : get_or order j 0 ≡ get_or leaders a 0 = get_or_default order j 0 (get_or leaders a 0) within ∙ e in
-        let is : j ≡ k = sym (placed j within) ∙ (ap (λ (x : ℕ). get_or places x 0) same ∙ at) in
+        let is : j ≡ k = sym (placed j within) ∙ (ap (λ (x : ℕ). get_or positions x 0) same ∙ at) in
         sym same ∙ ap (λ (x : ℕ). get_or order x 0) is
 
-    from : (b : ℕ) → (0 ≤ b) × (b < 0 + length leaders) × (get_or places (get_or leaders (b - 0) 0) 0 ≡ k) → (b < length leaders) × (get_or leaders b 0 ≡ get_or order k 0)
+    from : (b : ℕ) → (0 ≤ b) × (b < 0 + length leaders) × (get_or positions (get_or leaders (b - 0) 0) 0 ≡ k) → (b < length leaders) × (get_or leaders b 0 ≡ get_or order k 0)
     from b (any, within, at) =
         let inside : b < length leaders = omega (arith, within) in
         let same : b ≡ b - 0 = omega arith in
-        (inside, stands b (all b inside) (ap (λ (x : ℕ). get_or places (get_or leaders x 0) 0) same ∙ at))
+        (inside, stands b (all b inside) (ap (λ (x : ℕ). get_or positions (get_or leaders x 0) 0) same ∙ at))
 
-    into : (b : ℕ) → (b < length leaders) × (get_or leaders b 0 ≡ get_or order k 0) → Contains (numbered places 0 leaders) (k, b)
+    into : (b : ℕ) → (b < length leaders) × (get_or leaders b 0 ≡ get_or order k 0) → Contains (numbered positions 0 leaders) (k, b)
     into b (within, at) =
-        subst (λ (x : ℕ). Contains (numbered places 0 leaders) (x, b)) (ap (λ (x : ℕ). get_or places x 0) at ∙ placed k low)
-        (subst (λ (x : ℕ). Contains (numbered places 0 leaders) (get_or places (get_or leaders b 0) 0, x)) (zero-add b) (numbered-listed places 0 leaders b within))
+        subst (λ (x : ℕ). Contains (numbered positions 0 leaders) (x, b)) (ap (λ (x : ℕ). get_or positions x 0) at ∙ placed k low)
+        (subst (λ (x : ℕ). Contains (numbered positions 0 leaders) (get_or positions (get_or leaders b 0) 0, x)) (zero-add b) (numbered-listed positions 0 leaders b within))
 
 -- keys are within
-pub numbered-keys : (places : List ℕ) (n : ℕ) (leaders : List ℕ) (i : ℕ) → All (λ (l : ℕ). get_or places l 0 < n) leaders → All (λ (e : Pair). e.0 < n) (numbered places i leaders)
-numbered-keys places n [] i h = All-nil (λ (e : Pair). e.0 < n)
-numbered-keys places n (l ∷ ls) i h =
-    let P : ℕ → Type 0 = λ (x : ℕ). get_or places x 0 < n in
-    All-cons (λ (e : Pair). e.0 < n) (get_or places l 0, i) (numbered places (suc i) ls) (All-head P l ls h) (numbered-keys places n ls (suc i) (All-tail P l ls h))
+pub numbered-keys : (positions : List ℕ) (n : ℕ) (leaders : List ℕ) (i : ℕ) → All (λ (l : ℕ). get_or positions l 0 < n) leaders → All (λ (e : Pair). e.0 < n) (numbered positions i leaders)
+numbered-keys positions n [] i h = All-nil (λ (e : Pair). e.0 < n)
+numbered-keys positions n (l ∷ ls) i h =
+    let P : ℕ → Type 0 = λ (x : ℕ). get_or positions x 0 < n in
+    All-cons (λ (e : Pair). e.0 < n) (get_or positions l 0, i) (numbered positions (suc i) ls) (All-head P l ls h) (numbered-keys positions n ls (suc i) (All-tail P l ls h))
 
--- the places of leaders are within
-pub leaders-placed : (places leaders order : List ℕ) → ((k : ℕ) → k < length order → get_or places (get_or order k 0) 0 ≡ k)
-    → ((a : ℕ) → a < length leaders → Contains order (get_or leaders a 0)) → All (λ (l : ℕ). get_or places l 0 < length order) leaders
-leaders-placed places leaders order placed all = All-from_get_or (λ (l : ℕ). get_or places l 0 < length order) leaders 0 (λ a low. within a (all a low))
+-- the positions of leaders are within
+pub leaders-placed : (positions leaders order : List ℕ) → ((k : ℕ) → k < length order → get_or positions (get_or order k 0) 0 ≡ k)
+    → ((a : ℕ) → a < length leaders → Contains order (get_or leaders a 0)) → All (λ (l : ℕ). get_or positions l 0 < length order) leaders
+leaders-placed positions leaders order placed all = All-from_get_or (λ (l : ℕ). get_or positions l 0 < length order) leaders 0 (λ a low. within a (all a low))
   where
-    within : (a : ℕ) → Contains order (get_or leaders a 0) → get_or places (get_or leaders a 0) 0 < length order
+    within : (a : ℕ) → Contains order (get_or leaders a 0) → get_or positions (get_or leaders a 0) 0 < length order
     within a (j, inside, e) =
-        let at : get_or places (get_or leaders a 0) 0 ≡ j = ap (λ (x : ℕ). get_or places x 0) (sym (get_or_default order j 0 (get_or leaders a 0) inside ∙ e)) ∙ placed j inside in
+        let at : get_or positions (get_or leaders a 0) 0 ≡ j = ap (λ (x : ℕ). get_or positions x 0) (sym (get_or_default order j 0 (get_or leaders a 0) inside ∙ e)) ∙ placed j inside in
         omega (arith, at)
 
 -- leaders in order are those of one list with two that differ
@@ -254,7 +254,7 @@ module _ (edges : List Pair) (n : ℕ) (leaders order : List ℕ) (l : AreLeader
           subst (λ (xs : List (List ℕ)). IsListed xs a) whole
           (leader-listed (length order) a (omega arith) inside (subst (λ (xs : List ℕ). Contains xs (get_or leaders a 0)) (sym (take_all (length order) order (omega arith))) (o.all (get_or leaders a 0) (leads-itself Edge leaders l a inside))))
 
--- the items of the lists at a place
+-- the items of the lists at a position
 lists-at : (found : List (Vec ℕ Global)) (k : ℕ) → k < length found → get_or (map items_of found) k [] ≡ values_in found k
 lists-at [] k low = absurd (omega arith)
 lists-at (v ∷ found) zero low = refl

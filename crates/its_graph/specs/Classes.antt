@@ -17,7 +17,8 @@ pub record AreTables (n : ℕ) (next previous : List (Vec ℕ Global)) : Type 0 
 -- the known nodes are whole components, and each has the name of one of its component, the same for all of it
 pub record AreClasses (Edge : ℕ → ℕ → Type 0) (colors names : List ℕ) : Type 0 where
   pub told : (a : ℕ) → (slice_index colors a ≡ UNKNOWN) ⊎ (slice_index colors a ≡ KNOWN)
-  pub whole : (a b : ℕ) → slice_index colors a ≡ KNOWN → IsMutual Edge a b → (slice_index colors b ≡ KNOWN) × (slice_index names b ≡ slice_index names a)
+  pub whole : (a b : ℕ) → slice_index colors a ≡ KNOWN → IsMutual Edge a b → (slice_index colors b ≡ KNOWN)
+      × (slice_index names b ≡ slice_index names a)
   pub named : (a : ℕ) → slice_index colors a ≡ KNOWN → IsMutual Edge a (slice_index names a)
 
 -- the component of a node became known, and nothing became unknown
@@ -42,7 +43,8 @@ pub record AreFirst (names leaders : List ℕ) : Type 0 where
   pub size : length leaders ≡ length names
   pub within : (a : ℕ) → a < length names → slice_index leaders a < length names
   pub alike : (a : ℕ) → a < length names → slice_index names (slice_index leaders a) ≡ slice_index names a
-  pub least : (a b : ℕ) → a < length names → b < length names → slice_index names b ≡ slice_index names a → slice_index leaders a ≤ b
+  pub least : (a b : ℕ) → a < length names → b < length names → slice_index names b ≡ slice_index names a
+      → slice_index leaders a ≤ b
 
 -- each node has the least node of its component
 pub record AreLeaders (Edge : ℕ → ℕ → Type 0) (n : ℕ) (leaders : List ℕ) : Type 0 where

@@ -16,8 +16,8 @@ pub record IsListed (components : List (List ℕ)) (a : ℕ) : Type 0 where
   pub listed : Contains components component
   pub member : Contains component a
 
--- a node may come next, behind components that were listed: it is in none of them, and each node from which a path leads
--- to it is in one of them, or in its own component
+-- a node may come next, behind components that were listed: it is in none of them, and each node from which a path
+-- leads to it is in one of them, or in its own component
 pub record IsReady (Edge : ℕ → ℕ → Type 0) (nodes : ℕ) (before : List (List ℕ)) (a : ℕ) : Type 0 where
   pub node : a < nodes
   pub unlisted : ¬ (IsListed before a)
@@ -31,11 +31,13 @@ pub record IsNext (Edge : ℕ → ℕ → Type 0) (nodes : ℕ) (before : List (
   pub members : (b : ℕ) → Contains component b ↔ IsMutual Edge least b
   pub ascending : IsStrictlyIncreasing component
 
--- the strongly connected components in their order: each is what comes next behind those before it, and each node is listed
+-- the strongly connected components in their order: each is what comes next behind those before it, and each node is
+-- listed
 pub record IsListing (Edge : ℕ → ℕ → Type 0) (nodes : ℕ) (components : List (List ℕ)) : Type 0 where
   pub each : (before after : List (List ℕ)) (c : List ℕ) → components ≡ before ++ c ∷ after → IsNext Edge nodes before c
   pub all : (a : ℕ) → a < nodes → IsListed components a
 
 -- a graph has at most one such list
 abbrev pub ListingsAreUnique : Type 0
-ListingsAreUnique = (edges : List (ℕ × ℕ)) (nodes : ℕ) (cs ds : List (List ℕ)) → IsListing (IsPair edges) nodes cs → IsListing (IsPair edges) nodes ds → cs ≡ ds
+ListingsAreUnique = (edges : List (ℕ × ℕ)) (nodes : ℕ) (cs ds : List (List ℕ)) → IsListing (IsPair edges) nodes cs
+    → IsListing (IsPair edges) nodes ds → cs ≡ ds

@@ -1,5 +1,6 @@
 -- Floods through nodes of one colour.
-use Rattle.std.specs.Prelude.{◌≡◌, ◌⊎◌, ◌↔◌, ℕ, ◌<◌, List, [], ◌∷◌, ◌++◌, length, if◌then◌else◌, ◌==◌, slice_index, slice_set}
+use Rattle.std.specs.Prelude.{◌≡◌, ◌⊎◌, ◌↔◌, ℕ, ◌<◌, List, [], ◌∷◌, ◌++◌, length, if◌then◌else◌, ◌==◌, slice_index}
+use Rattle.std.specs.Prelude.{slice_set}
 use Rattle.std.specs.List.{Contains}
 use Rattle.model.specs.Paths.{Path}
 
@@ -10,7 +11,8 @@ pub record Painting : Type 0 where
 
 -- a node of the old colour gets the new one, and is found
 abbrev pub painted : ℕ → ℕ → ℕ → Painting → Painting
-painted old new b m = if slice_index m.colors b == old then record { colors = slice_set m.colors b new; found = m.found ++ b ∷ [] } else m
+painted old new b m = if slice_index m.colors b == old
+    then record { colors = slice_set m.colors b new; found = m.found ++ b ∷ [] } else m
 
 -- so for each node of a list, in order
 abbrev pub all_painted : ℕ → ℕ → List ℕ → Painting → Painting

@@ -2,6 +2,7 @@ pub mod Acyclic
 pub mod Groups
 pub mod Floods
 pub mod Components
+pub mod WorkedComponents
 pub mod Classes
 pub mod Naming
 pub mod Walks

@@ -1,5 +1,6 @@
 -- The links between symbols.
-use Rattle.std.specs.Prelude.{ℕ, suc, ◌<◌, List, [], ◌∷◌, ◌++◌, All, Bool, false, if◌then◌else◌, ◌==◌, ◌&&◌, ◌||◌, slice_index_or, slice_set}
+use Rattle.std.specs.Prelude.{ℕ, suc, ◌<◌, List, [], ◌∷◌, ◌++◌, All, Bool, false, if◌then◌else◌, ◌==◌, ◌&&◌, ◌||◌}
+use Rattle.std.specs.Prelude.{slice_index_or, slice_set}
 use Rattle.its_model.specs.declared.program.Rule.{Rule}
 
 -- the link of a rule: from its source to its target
@@ -13,7 +14,8 @@ AreBelow n rules = All (λ (r : Rule). (r.source < n) × (r.target < n)) rules
 -- the links whose flag is set, counted from a number on
 abbrev pub kept_links : List Bool → ℕ → List (ℕ × ℕ) → List (ℕ × ℕ)
 kept_links allowed i [] = []
-kept_links allowed i (l ∷ links) = (if slice_index_or allowed i false then l ∷ [] else []) ++ kept_links allowed (suc i) links
+kept_links allowed i (l ∷ links) = (if slice_index_or allowed i false then l ∷ [] else [])
+    ++ kept_links allowed (suc i) links
 
 -- flags from which those of a list of numbers were taken
 abbrev pub all_cut : List ℕ → List Bool → List Bool
@@ -36,4 +38,5 @@ is_member untimed seen rule t link = (t == rule) || (slice_index_or untimed t fa
 -- the numbers of the rules in the set, counted from a number on
 abbrev pub members_from : List Bool → List Bool → ℕ → ℕ → List (ℕ × ℕ) → List ℕ
 members_from untimed seen rule t [] = []
-members_from untimed seen rule t (l ∷ links) = (if is_member untimed seen rule t l then t ∷ [] else []) ++ members_from untimed seen rule (suc t) links
+members_from untimed seen rule t (l ∷ links) = (if is_member untimed seen rule t l then t ∷ [] else [])
+    ++ members_from untimed seen rule (suc t) links

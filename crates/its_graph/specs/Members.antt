@@ -3,10 +3,11 @@ use Rattle.std.specs.Prelude.{◌≡◌, ◌↔◌, ℕ, suc, ◌<◌, List, [],
 use Rattle.std.specs.List.{Contains}
 use Rattle.std.specs.List.Sorted.{IsStrictlyIncreasing}
 
--- the place of each leader of a list, with a number that counts up
+-- the position of each leader of a list, with a number that counts up
 abbrev pub numbered : List ℕ → ℕ → List ℕ → List (ℕ × ℕ)
-numbered places node [] = []
-numbered places node (leader ∷ leaders) = (slice_index places leader, node) ∷ numbered places (suc node) leaders
+numbered positions node [] = []
+numbered positions node (leader ∷ leaders) = (slice_index positions leader, node)
+    ∷ numbered positions (suc node) leaders
 
 -- the nodes that have the leader, ascending
 pub record AreMembers (leaders : List ℕ) (leader : ℕ) (members : List ℕ) : Type 0 where

@@ -1,5 +1,6 @@
 -- The order of components by their leaders.
-use Rattle.std.specs.Prelude.{◌≡◌, ◌≢◌, ◌⊎◌, ◌↔◌, ℕ, ◌<◌, ◌≤◌, List, [], ◌∷◌, ◌++◌, length, take, Bool, true, false, if◌then◌else◌, ◌==◌, Vec, slice_index, slice_index_or, slice_set, replicate}
+use Rattle.std.specs.Prelude.{◌≡◌, ◌≢◌, ◌⊎◌, ◌↔◌, ℕ, ◌<◌, ◌≤◌, List, [], ◌∷◌, ◌++◌, length, take, Bool, true, false}
+use Rattle.std.specs.Prelude.{if◌then◌else◌, ◌==◌, Vec, slice_index, slice_index_or, slice_set, replicate}
 use Rattle.std.specs.List.{Contains}
 use Rattle.std.specs.declared.alloc.Global.{Global}
 use Rattle.std.specs.BTreeSet.{BTreeSet}
@@ -18,7 +19,8 @@ need_of leader need = if need == leader then [] else (leader, need) ∷ []
 -- the pairs of a leader and another one from whose component an edge leads to its own, in the order of the edges
 abbrev pub needs_among : List ℕ → List (ℕ × ℕ) → List (ℕ × ℕ)
 needs_among leaders [] = []
-needs_among leaders (e ∷ edges) = need_of (slice_index leaders e.1) (slice_index leaders e.0) ++ needs_among leaders edges
+needs_among leaders (e ∷ edges) = need_of (slice_index leaders e.1) (slice_index leaders e.0)
+    ++ needs_among leaders edges
 
 -- one leader needs another: an edge leads from the component of the other to its own
 pub record Needs (Edge : ℕ → ℕ → Type 0) (leaders : List ℕ) (c d : ℕ) : Type 0 where
@@ -31,8 +33,8 @@ pub record Needs (Edge : ℕ → ℕ → Type 0) (leaders : List ℕ) (c d : ℕ
   pub leader : slice_index leaders to ≡ c
   pub other : d ≢ c
 
--- the leader that comes next behind others, where `Need c d` says that c needs d before it: the least one that isn't among
--- them while all that it needs is
+-- the leader that comes next behind others, where `Need c d` says that c needs d before it: the least one that isn't
+-- among them while all that it needs is
 pub record IsNextLeader (Need : ℕ → ℕ → Type 0) (leaders before : List ℕ) (c : ℕ) : Type 0 where
   pub leads : IsLeader leaders c
   pub unlisted : ¬ (Contains before c)
@@ -41,7 +43,8 @@ pub record IsNextLeader (Need : ℕ → ℕ → Type 0) (leaders before : List �
 
 -- each leader of the list comes next behind those before it
 abbrev pub EachIsNext : (ℕ → ℕ → Type 0) → List ℕ → List ℕ → Type 0
-EachIsNext Need leaders order = (k : ℕ) → k < length order → IsNextLeader Need leaders (take k order) (slice_index order k)
+EachIsNext Need leaders order = (k : ℕ) → k < length order
+    → IsNextLeader Need leaders (take k order) (slice_index order k)
 
 -- and all leaders are listed
 pub record AreInOrder (Need : ℕ → ℕ → Type 0) (leaders order : List ℕ) : Type 0 where
@@ -69,10 +72,13 @@ pub record IsSorting (needs : List (Vec ℕ Global)) (leaders unsettled : List �
   pub passed_size : length s.passed.items ≡ length leaders
   pub waiting_size : length s.waiting.items ≡ length leaders
   pub listed_size : length s.is_listed.items ≡ length leaders
-  pub passed : (c k : ℕ) → k < slice_index s.passed.items c → IsMarked s.is_listed.items (slice_index (values_in needs c) k)
-  pub ready : (c : ℕ) → Contains s.ready.keys c → IsLeader leaders c × (¬ (IsMarked s.is_listed.items c)) × ((d : ℕ) → Joins needs c d → IsMarked s.is_listed.items d)
+  pub passed : (c k : ℕ) → k < slice_index s.passed.items c
+      → IsMarked s.is_listed.items (slice_index (values_in needs c) k)
+  pub ready : (c : ℕ) → Contains s.ready.keys c → IsLeader leaders c × (¬ (IsMarked s.is_listed.items c))
+      × ((d : ℕ) → Joins needs c d → IsMarked s.is_listed.items d)
   pub waits : (d c : ℕ) → Contains (values_in s.waiting.items d) c → Joins needs c d
-  pub placed : (c : ℕ) → IsLeader leaders c → ¬ (IsMarked s.is_listed.items c) → Contains s.ready.keys c ⊎ (Contains unsettled c ⊎ Waits s.waiting.items s.is_listed.items c)
+  pub placed : (c : ℕ) → IsLeader leaders c → ¬ (IsMarked s.is_listed.items c) → Contains s.ready.keys c
+      ⊎ (Contains unsettled c ⊎ Waits s.waiting.items s.is_listed.items c)
   pub open_ones : (c : ℕ) → Contains unsettled c → IsLeader leaders c × (¬ (IsMarked s.is_listed.items c))
   pub marked : (c : ℕ) → IsMarked s.is_listed.items c ↔ Contains s.order.items c
   pub each : EachIsNext (Joins needs) leaders s.order.items
@@ -100,8 +106,11 @@ pub record Skips (row : List ℕ) (is_listed : List Bool) (from position : ℕ) 
 abbrev pub WaitsOrReady : List ℕ → ℕ → ℕ → Sorting → Sorting → Type 0
 WaitsOrReady row position leader s t =
     ((position < length row) × (t.ready.keys ≡ s.ready.keys)
-    × ((a : ℕ) → values_in t.waiting.items a ≡ (if slice_index row position == a then values_in s.waiting.items a ++ leader ∷ [] else values_in s.waiting.items a)))
-    ⊎ ((length row ≤ position) × (t.waiting.items ≡ s.waiting.items) × ((q : ℕ) → Contains t.ready.keys q ↔ (Contains s.ready.keys q ⊎ (q ≡ leader))))
+    × ((a : ℕ) → values_in t.waiting.items a
+    ≡ (if slice_index row position == a then values_in s.waiting.items a ++ leader ∷ []
+    else values_in s.waiting.items a)))
+    ⊎ ((length row ≤ position) × (t.waiting.items ≡ s.waiting.items)
+    × ((q : ℕ) → Contains t.ready.keys q ↔ (Contains s.ready.keys q ⊎ (q ≡ leader))))
 
 -- a leader settles
 pub record Settles (needs : List (Vec ℕ Global)) (leader : ℕ) (s t : Sorting) : Type 0 where

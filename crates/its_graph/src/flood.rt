@@ -13,8 +13,8 @@ pub(crate) const CANDIDATE: u8 = 1;
 
 pub(crate) const KNOWN: u8 = 2;
 
-/// Gives each node of the colour `old` that a path of such nodes leads to from `start` the colour `new`, and lists them.
-/// `next` has the list of each node's successors. The time is linear in the nodes found and their edges.
+/// Gives each node of the colour `old` that a path of such nodes leads to from `start` the colour `new`, and lists
+/// them. `next` has the list of each node's successors. The time is linear in the nodes found and their edges.
 pub(crate) fn fill(
     alloc: Global,
     next: &[Vec<u32>],
@@ -50,7 +50,9 @@ pub(crate) fn paint_all(
     new: u8,
 ) -> Result<(), AllocError>
     requires { All (λ b. b < length colors.old) nodes.now }
-    ensures { OnOk result (record { colors = colors.new; found = found.new.items } ≡ all_painted old new nodes.now (record { colors = colors.old; found = found.old.items })) }
+    ensures { OnOk result
+        (record { colors = colors.new; found = found.new.items }
+        ≡ all_painted old new nodes.now (record { colors = colors.old; found = found.old.items })) }
 {
     for node in nodes {
         paint(colors, found, *node, old, new)?;
@@ -67,7 +69,9 @@ fn paint(
     new: u8,
 ) -> Result<(), AllocError>
     requires { node < length colors.old }
-    ensures { OnOk result (record { colors = colors.new; found = found.new.items } ≡ painted old new node (record { colors = colors.old; found = found.old.items })) }
+    ensures { OnOk result
+        (record { colors = colors.new; found = found.new.items }
+        ≡ painted old new node (record { colors = colors.old; found = found.old.items })) }
 {
     if colors[node as usize] == old {
         colors[node as usize] = new;

@@ -1,6 +1,7 @@
 // The graph of a program, made once for many questions.
 
-ghost use Rattle.std.specs.Prelude.{◌≡◌, ◌↔◌, ℕ, ◌+◌, ◌<◌, ◌≤◌, ◌^◌, length, map, All, IfOk, OnOk, slice_index_or, true, false, replicate, ◌==◌, ◌&&◌, ◌||◌, if◌then◌else◌, ◌++◌, ◌∷◌, []};
+ghost use Rattle.std.specs.Prelude.{◌≡◌, ◌↔◌, ℕ, ◌+◌, ◌<◌, ◌≤◌, ◌^◌, length, map, All, IfOk, OnOk, slice_index_or};
+ghost use Rattle.std.specs.Prelude.{true, false, replicate, ◌==◌, ◌&&◌, ◌||◌, if◌then◌else◌, ◌++◌, ◌∷◌, []};
 ghost use Rattle.std.specs.List.{Contains};
 ghost use Rattle.std.specs.List.Sorted.{IsStrictlyIncreasing};
 ghost use Rattle.model.specs.Programs.{Program as PlainProgram};
@@ -17,8 +18,8 @@ use crate::pairs::{grouped, swapped};
 use its_model::Program;
 use std::alloc::{AllocError, Global};
 
-/// The graph of a program: its symbols, with an edge from source to target for each rule, and the virtual entry, rule 0,
-/// which leads to the start symbol.
+/// The graph of a program: its symbols, with an edge from source to target for each rule, and the virtual entry, rule
+/// 0, which leads to the start symbol.
 #[derive(Debug, Drop)]
 pub struct Graph {
     pub start: u32,
@@ -49,8 +50,8 @@ impl Graph {
         })
     }
 
-    /// What can come just before a rule, ascending: the rules that lead to where it comes from, and the virtual entry, 0,
-    /// where that is the start symbol.
+    /// What can come just before a rule, ascending: the rules that lead to where it comes from, and the virtual entry,
+    /// 0, where that is the start symbol.
     pub fn pre(&self, rule: u32) -> &[u32]
         requires graph { (p : PlainProgram) × IsGraphOf self.now p }
         requires number { (0 < rule) × (rule ≤ length self.now.links.items) }
@@ -60,8 +61,8 @@ impl Graph {
         &self.arriving[source as usize]
     }
 
-    /// Whether a path of rules that aren't cut leads from the start symbol to each symbol. The time is linear in symbols,
-    /// rules and cut.
+    /// Whether a path of rules that aren't cut leads from the start symbol to each symbol. The time is linear in
+    /// symbols, rules and cut.
     pub fn reached(&self, alloc: Global, cut: &[u32]) -> Result<Vec<bool>, Memory>
         requires { (p : PlainProgram) × IsGraphOf self.now p }
         ensures one_each { IfOk result (λ seen. length seen.items ≡ self.now.symbols) }
@@ -74,8 +75,8 @@ impl Graph {
         flooded(alloc, &next, self.start)
     }
 
-    /// The set of an untimed rule, ascending: the rule itself, and each untimed rule from where a path of untimed rules,
-    /// possibly empty, leads to where it comes from. The time is linear in symbols and rules.
+    /// The set of an untimed rule, ascending: the rule itself, and each untimed rule from where a path of untimed
+    /// rules, possibly empty, leads to where it comes from. The time is linear in symbols and rules.
     pub fn back_closure(
         &self,
         alloc: Global,
@@ -109,8 +110,8 @@ fn arrivals_of(
 {
     let mut pairs = Vec::with_capacity(alloc, links.len())?;
     pairs.push((start, 0))?;
-    for (place, (_, target)) in links.iter().enumerate() {
-        pairs.push((*target, place as u32 + 1))?;
+    for (position, (_, target)) in links.iter().enumerate() {
+        pairs.push((*target, position as u32 + 1))?;
     }
     Ok(pairs)
 }
@@ -120,7 +121,8 @@ fn flooded(alloc: Global, next: &[Vec<u32>], start: u32) -> Result<Vec<bool>, Al
     requires within { start < length next.now }
     requires edges_within { (a : ℕ) → All (λ b. b < length next.now) (values_in next.now a) }
     ensures one_each { IfOk result (λ seen. length seen.items ≡ length next.now) }
-    ensures reached { IfOk result (λ seen. (b : ℕ) → (slice_index_or seen.items b false ≡ true) ↔ Path (Joins next.now) start b) }
+    ensures reached { IfOk result
+        (λ seen. (b : ℕ) → (slice_index_or seen.items b false ≡ true) ↔ Path (Joins next.now) start b) }
 {
     let mut colors = no_colors(alloc, next.len())?;
     fill(alloc, next, &mut colors, start, UNKNOWN, KNOWN)?;
@@ -155,8 +157,8 @@ fn members(
     ensures { IfOk result (λ found. found.items ≡ members_from untimed.now seen.now rule 1 links.now) }
 {
     let mut found = Vec::new(alloc);
-    for (place, (_, target)) in links.iter().enumerate() {
-        let number = place as u32 + 1;
+    for (position, (_, target)) in links.iter().enumerate() {
+        let number = position as u32 + 1;
         let is_in = is_in_set(untimed, seen, rule, number, *target);
         push_member(&mut found, number, is_in)?;
     }
@@ -167,7 +169,8 @@ fn members(
 fn is_in_set(untimed: &[bool], seen: &[bool], rule: u32, number: u32, target: u32) -> bool
     requires flag { number < length untimed.now }
     requires within { target < length seen.now }
-    ensures { result ≡ ((number == rule) || (slice_index_or untimed.now number false && slice_index_or seen.now target false)) }
+    ensures { result
+        ≡ ((number == rule) || (slice_index_or untimed.now number false && slice_index_or seen.now target false)) }
 {
     number == rule || (untimed[number as usize] && seen[target as usize])
 }

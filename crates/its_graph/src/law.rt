@@ -2,9 +2,10 @@
 
 ghost use Rattle.its_graph.specs.Acyclic.{WithoutCycleEachRuleAtMostOnce};
 ghost use Rattle.its_graph.specs.Components.{ListingsAreUnique};
+ghost use Rattle.its_graph.specs.WorkedComponents.{ComponentsAreWorkedOut};
 
-/// The law that in each run of a program without a cycle every rule occurs at most once, and that the run has at most as
-/// many steps as there are rules. It has no code: its contract is the law.
+/// The law that in each run of a program without a cycle every rule occurs at most once, and that the run has at most
+/// as many steps as there are rules. It has no code: its contract is the law.
 pub fn without_cycle_each_rule_at_most_once()
     ensures { WithoutCycleEachRuleAtMostOnce }
 {}
@@ -12,4 +13,10 @@ pub fn without_cycle_each_rule_at_most_once()
 /// A graph has at most one list of its strongly connected components in their order.
 pub fn listings_are_unique()
     ensures { ListingsAreUnique }
+{}
+
+/// Which nodes are in one component, which may come next and which lists are right is what was worked out by hand, on
+/// both sides.
+pub fn components_are_as_worked_out()
+    ensures { ComponentsAreWorkedOut }
 {}

@@ -1,6 +1,8 @@
-// The graph of a program: its symbols, with an edge from source to target for each rule.
-// Contract to the layer above: `has_cycle` answers yes exactly where a path leads from a symbol back to it, and without
-// a cycle each rule occurs at most once in every run.
+// The graph of a program: its symbols, with an edge from source to target for each rule, and strongly connected
+// components. Contract to the layer above: what can come just before a rule, what is reached and the set of an untimed
+// rule are those of the definitions by paths; `components` gives the only list of components in their order;
+// `has_cycle` answers yes exactly where some component has an edge inside; and without a cycle each rule occurs at most
+// once in every run.
 #![tactic(auto)]
 
 mod classes;
@@ -17,7 +19,9 @@ mod tables;
 
 pub use cycle::has_cycle;
 pub use graph::Graph;
-pub use law::{listings_are_unique, without_cycle_each_rule_at_most_once};
+pub use law::{
+    components_are_as_worked_out, listings_are_unique, without_cycle_each_rule_at_most_once,
+};
 pub use listing::components;
 
 /// Want of memory.

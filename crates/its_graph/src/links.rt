@@ -1,6 +1,7 @@
 // The links between symbols: one for each rule, from its source to its target.
 
-ghost use Rattle.std.specs.Prelude.{◌≡◌, ℕ, ◌<◌, ◌≤◌, ◌^◌, map, length, IfOk, OnOk, ◌++◌, ◌∷◌, [], if◌then◌else◌, replicate, suc, true, false};
+ghost use Rattle.std.specs.Prelude.{◌≡◌, ℕ, ◌<◌, ◌≤◌, ◌^◌, map, length, IfOk, OnOk, ◌++◌, ◌∷◌, [], if◌then◌else◌};
+ghost use Rattle.std.specs.Prelude.{replicate, suc, true, false};
 ghost use Rattle.its_graph.specs.Links.{link_of, AreBelow, kept_links, all_cut};
 
 use its_model::Rule;
@@ -42,8 +43,8 @@ pub(crate) fn allowed_links(
     ensures { IfOk result (λ kept. kept.items ≡ kept_links allowed.now 1 links.now) }
 {
     let mut kept = Vec::new(alloc);
-    for (place, link) in links.iter().enumerate() {
-        push_allowed(&mut kept, *link, allowed[place + 1])?;
+    for (position, link) in links.iter().enumerate() {
+        push_allowed(&mut kept, *link, allowed[position + 1])?;
     }
     Ok(kept)
 }

@@ -13,8 +13,8 @@ use crate::order::order_of;
 use crate::pairs::{grouped, swapped};
 use std::alloc::{AllocError, Global};
 
-/// The strongly connected components of the graph with this many nodes and these edges. Each comes after all from which a
-/// path leads to it; among those that may come next the one with the least node comes first. The nodes of a component
+/// The strongly connected components of the graph with this many nodes and these edges. Each comes after all from which
+/// a path leads to it; among those that may come next the one with the least node comes first. The nodes of a component
 /// ascend. The time is near-linear, and no recursion goes along a path.
 pub fn components(alloc: Global, nodes: u32, edges: &[(u32, u32)]) -> Result<Vec<Vec<u32>>, Memory>
     requires { All (λ e. (e.0 < nodes) × (e.1 < nodes)) edges.now }
@@ -59,38 +59,44 @@ fn members_of(alloc: Global, leaders: &[u32], order: &[u32]) -> Result<Vec<Vec<u
     requires distinct { (j k : ℕ) → j < k → k < length order.now → slice_index order.now j ≢ slice_index order.now k }
     requires all { (a : ℕ) → a < length leaders.now → Contains order.now (slice_index leaders.now a) }
     ensures one_each { IfOk result (λ found. length found.items ≡ length order.now) }
-    ensures members { IfOk result (λ found. (k : ℕ) → k < length order.now → AreMembers leaders.now (slice_index order.now k) (values_in found.items k)) }
+    ensures members { IfOk result
+        (λ found. (k : ℕ) → k < length order.now
+        → AreMembers leaders.now (slice_index order.now k) (values_in found.items k)) }
 {
-    let mut places = vec![in alloc; 0u32; leaders.len()]?;
-    place_all(&mut places, order);
-    grouped(alloc, order.len(), &numbered_by(alloc, &places, leaders)?)
+    let mut positions = vec![in alloc; 0u32; leaders.len()]?;
+    note_positions(&mut positions, order);
+    grouped(
+        alloc,
+        order.len(),
+        &numbered_by(alloc, &positions, leaders)?,
+    )
 }
 
-// The place of each leader in their order.
-fn place_all(places: &mut [u32], order: &[u32])
+// The position of each leader in their order.
+fn note_positions(positions: &mut [u32], order: &[u32])
     requires few { length order.now ≤ 2 ^ 32 }
-    requires within { All (λ l. l < length places.old) order.now }
+    requires within { All (λ l. l < length positions.old) order.now }
     requires distinct { (j k : ℕ) → j < k → k < length order.now → slice_index order.now j ≢ slice_index order.now k }
-    ensures { (k : ℕ) → k < length order.now → slice_index places.new (slice_index order.now k) ≡ k }
+    ensures { (k : ℕ) → k < length order.now → slice_index positions.new (slice_index order.now k) ≡ k }
 {
-    for (place, leader) in order.iter().enumerate() {
-        places[*leader as usize] = place as u32;
+    for (position, leader) in order.iter().enumerate() {
+        positions[*leader as usize] = position as u32;
     }
 }
 
-// Each node with the place of its leader.
+// Each node with the position of its leader.
 fn numbered_by(
     alloc: Global,
-    places: &[u32],
+    positions: &[u32],
     leaders: &[u32],
 ) -> Result<Vec<(u32, u32)>, AllocError>
     requires few { length leaders.now ≤ 2 ^ 32 }
-    requires within { All (λ l. l < length places.now) leaders.now }
-    ensures { IfOk result (λ pairs. pairs.items ≡ numbered places.now 0 leaders.now) }
+    requires within { All (λ l. l < length positions.now) leaders.now }
+    ensures { IfOk result (λ pairs. pairs.items ≡ numbered positions.now 0 leaders.now) }
 {
     let mut pairs = Vec::with_capacity(alloc, leaders.len())?;
     for (node, leader) in leaders.iter().enumerate() {
-        pairs.push((places[*leader as usize], node as u32))?;
+        pairs.push((positions[*leader as usize], node as u32))?;
     }
     Ok(pairs)
 }

@@ -1,10 +1,13 @@
-// The order of components, by their leaders: each comes as soon as all that it needs were listed, the least leader first.
+// The order of components, by their leaders: each comes as soon as all that it needs were listed, the least leader
+// first.
 
-ghost use Rattle.std.specs.Prelude.{◌≡◌, ◌↔◌, ℕ, ◌+◌, ◌<◌, ◌≤◌, ◌^◌, ◌∷◌, ◌++◌, [], length, All, IfOk, OnOk, not, count_by, if◌then◌else◌, ◌==◌};
+ghost use Rattle.std.specs.Prelude.{◌≡◌, ◌↔◌, ℕ, ◌+◌, ◌<◌, ◌≤◌, ◌^◌, ◌∷◌, ◌++◌, [], length, All, IfOk, OnOk, not};
+ghost use Rattle.std.specs.Prelude.{count_by, if◌then◌else◌, ◌==◌};
 ghost use Rattle.std.specs.List.{Contains};
 ghost use Rattle.its_graph.specs.Groups.{values_in, IsPair, Joins};
 ghost use Rattle.its_graph.specs.Classes.{AreLeaders};
-ghost use Rattle.its_graph.specs.Orders.{IsLeader, Needs, AreOrderable, IsSorting, AreInOrder, IsPopped, AreSizes, IsFresh, Settles, Skips, needs_among};
+ghost use Rattle.its_graph.specs.Orders.{IsLeader, Needs, AreOrderable, IsSorting, AreInOrder, IsPopped, AreSizes};
+ghost use Rattle.its_graph.specs.Orders.{IsFresh, Settles, Skips, needs_among};
 
 use crate::pairs::{empty_lists, grouped};
 use crate::tables::{add_to, empty_set, no_marks, push_to, take_from, take_least, zeros};
@@ -87,8 +90,8 @@ fn sorted(
     Ok(sorting.order)
 }
 
-// The state of sorting: how many needs of each leader are known to be listed, who waits for whom, who is listed, who may
-// come next, and what came so far.
+// The state of sorting: how many needs of each leader are known to be listed, who waits for whom, who is listed, who
+// may come next, and what came so far.
 #[derive(Debug, Drop)]
 struct Sorting {
     passed: Vec<usize>,
@@ -123,7 +126,8 @@ impl Sorting {
         requires orderable { AreOrderable leaders.now needs.now }
         requires popped { IsPopped needs.now leaders.now leader self.old }
         ensures sorted { OnOk result (IsSorting needs.now leaders.now [] self.new) }
-        ensures fewer { OnOk result (count_by not self.new.is_listed.items + 1 ≡ count_by not self.old.is_listed.items) }
+        ensures fewer { OnOk result (count_by not self.new.is_listed.items + 1
+            ≡ count_by not self.old.is_listed.items) }
     {
         self.order.push(leader)?;
         self.is_listed[leader as usize] = true;

@@ -37,7 +37,8 @@ pub(crate) fn empty_lists(alloc: Global, count: usize) -> Result<Vec<Vec<u32>>, 
 // A key gets one value more.
 fn add(lists: &mut [Vec<u32>], key: usize, value: u32) -> Result<(), AllocError>
     requires { key < length lists.old }
-    ensures { OnOk result ((a : ℕ) → values_in lists.new a ≡ (if key == a then values_in lists.old a ++ value ∷ [] else values_in lists.old a)) }
+    ensures { OnOk result ((a : ℕ) → values_in lists.new a
+        ≡ (if key == a then values_in lists.old a ++ value ∷ [] else values_in lists.old a)) }
 {
     lists[key].push(value)?;
     Ok(())

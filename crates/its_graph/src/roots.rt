@@ -1,5 +1,5 @@
-// In which order nodes are looked at, so that the search for components takes linear time. The order decides nothing but
-// the time.
+// In which order nodes are looked at, so that the search for components takes linear time. The order decides nothing
+// but the time.
 
 ghost use Rattle.std.specs.Prelude.{◌≡◌, ℕ, ◌<◌, ◌≤◌, ◌^◌, length, All, IfOk, OnOk};
 ghost use Rattle.std.specs.List.{Contains};

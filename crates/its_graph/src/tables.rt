@@ -1,6 +1,7 @@
-// Tables of lists, and sets of numbers, changed at one place.
+// Tables of lists, and sets of numbers, changed at one key.
 
-ghost use Rattle.std.specs.Prelude.{◌≡◌, ◌⊎◌, ◌↔◌, ℕ, ◌<◌, ◌++◌, ◌∷◌, [], length, All, IfOk, OnOk, MatchOption, if◌then◌else◌, ◌==◌, replicate, false};
+ghost use Rattle.std.specs.Prelude.{◌≡◌, ◌⊎◌, ◌↔◌, ℕ, ◌<◌, ◌++◌, ◌∷◌, [], length, All, IfOk, OnOk, MatchOption};
+ghost use Rattle.std.specs.Prelude.{if◌then◌else◌, ◌==◌, replicate, false};
 ghost use Rattle.std.specs.List.{Contains};
 ghost use Rattle.its_graph.specs.Groups.{values_in};
 
@@ -11,7 +12,8 @@ use std::collections::BTreeSet;
 pub(crate) fn push_to(lists: &mut Vec<Vec<u32>>, key: usize, value: u32) -> Result<(), AllocError>
     requires { key < length lists.old.items }
     ensures size { length lists.new.items ≡ length lists.old.items }
-    ensures values { OnOk result ((a : ℕ) → values_in lists.new.items a ≡ (if key == a then values_in lists.old.items a ++ value ∷ [] else values_in lists.old.items a)) }
+    ensures values { OnOk result ((a : ℕ) → values_in lists.new.items a
+        ≡ (if key == a then values_in lists.old.items a ++ value ∷ [] else values_in lists.old.items a)) }
 {
     lists[key].push(value)?;
     Ok(())
@@ -37,7 +39,8 @@ pub(crate) fn add_to(set: &mut BTreeSet<u32>, number: u32) -> Result<(), AllocEr
 
 /// The least number of the set, which lacks it then.
 pub(crate) fn take_least(set: &mut BTreeSet<u32>) -> Option<u32>
-    ensures { MatchOption result (set.old.keys ≡ []) (λ number. (set.old.keys ≡ number ∷ set.new.keys) × ((q : ℕ) → Contains set.new.keys q → number < q)) }
+    ensures { MatchOption result (set.old.keys ≡ [])
+        (λ number. (set.old.keys ≡ number ∷ set.new.keys) × ((q : ℕ) → Contains set.new.keys q → number < q)) }
 {
     set.pop_first()
 }

@@ -22,7 +22,7 @@ pub passes_short : (n : Name) → is_short n ≡ true → IsShort n
 passes_short n h = grind (arith, nat_tests)
 
 -- a name is among others and one more where it is among the others or the one
-among_push : (n a : Name) (names : List Name) → is_among n (names ++ a ∷ []) ≡ (is_among n names || is_same n a)
+pub among_push : (n a : Name) (names : List Name) → is_among n (names ++ a ∷ []) ≡ (is_among n names || is_same n a)
 among_push n a [] = go (is_same n a) where
   go : (b : Bool) → b || false ≡ b
   go true = refl

@@ -15,3 +15,5 @@ pub mod ProgramReading
 pub mod SizeLaws
 pub mod ReadingLaws
 pub mod WritingLaws
+pub mod NamingLaws
+pub mod ValidLaws

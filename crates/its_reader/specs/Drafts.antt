@@ -70,7 +70,8 @@ step_by s lexemes.Arrow = step s Arrow
 step_by s lexemes.Wrong = None
 step_by s lexemes.Strange = None
 
--- the reader comes to stand where the step leads; it answers `Form` exactly where it leads nowhere, want of memory aside
+-- the reader comes to stand where the step leads; it answers `Form` exactly where it leads nowhere, want of memory
+-- aside
 abbrev pub Follows : Option State → Draft → Result Place ReadError → Type 0
 Follows reached d (Ok place) = reached ≡ Some (state_of place d)
 Follows reached d (Err Form) = reached ≡ None

@@ -60,7 +60,8 @@ pub record IsRule (r : WrittenRule) : Type 0 where
   pub right : AllByRecursion (λ a. IsTrue (is_among a r.left.arguments)) r.right.arguments
   pub target : IsFalse (is_com r.right.name)
 
--- what is written is a program: each rule is one, each symbol has one arity, and the start symbol is the source of a rule
+-- what is written is a program: each rule is one, each symbol has one arity, and the start symbol is the source of a
+-- rule
 pub record IsProgram (w : WrittenProgram) : Type 0 where
   pub rules : AllByRecursion IsRule w.rules
   pub arities : AllByRecursion (HasArity (symbols_of w.rules)) (terms_of w.rules)

@@ -1,6 +1,7 @@
 -- The places of a text at which the reader can stand, with what it knows there, and where each piece leads.
 use Rattle.std.specs.Prelude.{ℕ, Bool, List, [], ◌∷◌, ◌++◌, length, if◌then◌else◌, not, ◌&&◌, ◌==◌, nat_lt, nat_le, codes, Option, Some, None}
 use Rattle.std.specs.List.{find}
+use Rattle.model.specs.Limits.{rule_limit, place_limit, name_limit}
 use Rattle.model.specs.Terms.{Term, Variable}
 use Rattle.model.specs.Programs.{Name, Symbol, Rule, Program}
 pub use Rattle.text_core.specs.Choices.{when}
@@ -48,7 +49,7 @@ pub data State : Type 0 where
 
 -- whether a name is within the limit
 abbrev pub is_short : Name → Bool
-is_short name = nat_le (length name) 256
+is_short name = nat_le (length name) name_limit
 
 -- nothing is known yet
 abbrev pub empty_book : Book
@@ -60,17 +61,19 @@ with_start b start = record { start = start; symbols = b.symbols; rules = b.rule
 
 -- a book with a symbol, where a new one goes to the end
 abbrev pub with_named : Book → Name → ℕ → Book
-with_named b name arity = record { start = b.start; symbols = with_symbol b.symbols (record { name = name; arity = arity }); rules = b.rules }
+with_named b name arity =
+    record { start = b.start; symbols = with_symbol b.symbols (record { name = name; arity = arity }); rules = b.rules }
 
 -- whether a name can be the next left argument
 abbrev pub can_add_left : List Name → Name → Bool
-can_add_left variables a = is_short a && nat_lt (length variables) 32 && not (is_among a variables)
+can_add_left variables a = is_short a && nat_lt (length variables) place_limit && not (is_among a variables)
 
 -- the left term ends: its symbol has as many places as there are variables
 abbrev pub close_left : Book → Name → List Name → Option Source
 close_left b name variables =
     let c : Book = with_named b name (length variables) in
-    when (arity_of c.symbols name == length variables) (record { book = c; number = number_of c.symbols name; variables = variables })
+    when (arity_of c.symbols name == length variables)
+    (record { book = c; number = number_of c.symbols name; variables = variables })
 
 -- whether a name can be a rule's target
 abbrev pub can_be_target : Name → Bool
@@ -78,7 +81,7 @@ can_be_target name = is_short name && not (is_com name)
 
 -- whether a name can be the next right argument
 abbrev pub can_add_right : Source → List Term → Name → Bool
-can_add_right s updates a = is_short a && nat_lt (length updates) 32 && is_among a s.variables
+can_add_right s updates a = is_short a && nat_lt (length updates) place_limit && is_among a s.variables
 
 -- the updates with the variable of a name
 abbrev pub with_update : Source → List Term → Name → List Term
@@ -97,11 +100,12 @@ close_right s name updates =
       updates = updates;
       guard = [];
     } in
-    when (arity_of c.symbols name == length updates) (record { start = c.start; symbols = c.symbols; rules = c.rules ++ rule ∷ [] })
+    when (arity_of c.symbols name == length updates)
+    (record { start = c.start; symbols = c.symbols; rules = c.rules ++ rule ∷ [] })
 
 -- whether a rule can begin with a name
 abbrev pub can_begin_rule : Book → Name → Bool
-can_begin_rule b name = is_short name && nat_lt (length b.rules) 1000
+can_begin_rule b name = is_short name && nat_lt (length b.rules) rule_limit
 
 -- a place reached, where there is one
 abbrev pub reached : {X : Type 0} → (X → State) → Option X → Option State
@@ -132,22 +136,32 @@ step (RuleArrow s) (Word name) = when (is_same name (codes "Com_1")) (TargetMark
 step (TargetMarked s) OpenBracket = Some (TargetOpen s)
 step (TargetOpen s) (Word name) = when (can_be_target name) (RightNamed s name)
 step (RightNamed s name) OpenBracket = Some (RightOpen s name [])
-step (RightOpen s name updates) (Word a) = when (can_add_right s updates a) (RightArgument s name (with_update s updates a))
+step (RightOpen s name updates) (Word a) =
+    when (can_add_right s updates a) (RightArgument s name (with_update s updates a))
 step (RightOpen s name updates) CloseBracket = reached RightClosed (close_right s name updates)
 step (RightArgument s name updates) Comma = Some (RightComma s name updates)
 step (RightArgument s name updates) CloseBracket = reached RightClosed (close_right s name updates)
-step (RightComma s name updates) (Word a) = when (can_add_right s updates a) (RightArgument s name (with_update s updates a))
+step (RightComma s name updates) (Word a) =
+    when (can_add_right s updates a) (RightArgument s name (with_update s updates a))
 step (RightClosed b) CloseBracket = Some (Rules b)
 step s piece = None
 
 -- the program of a book, whose start arguments have the names of a rule's variables
 abbrev pub program_of_book : Book → Option Rule → Option Program
 program_of_book b None = None
-program_of_book b (Some first) = Some (record { symbols = b.symbols; start = number_of b.symbols b.start; start_names = first.names; rules = b.rules })
+program_of_book b (Some first) =
+    Some (record {
+      symbols = b.symbols;
+      start = number_of b.symbols b.start;
+      start_names = first.names;
+      rules = b.rules;
+    })
 
 -- the program of a book: the first rule that leaves the start symbol names the start arguments
 abbrev pub finished : Book → Option Program
-finished b = if has_symbol b.symbols b.start then program_of_book b (find (λ r. r.source == number_of b.symbols b.start) b.rules) else None
+finished b =
+    if has_symbol b.symbols b.start then program_of_book b (find (λ r. r.source == number_of b.symbols b.start) b.rules)
+    else None
 
 -- the program that a text ends with
 abbrev pub finish : State → Option Program

@@ -48,5 +48,6 @@ rules_then (r ∷ rules) more = rule_then r (rules_then rules more)
 -- the pieces of a program: `(STARTTERM (FUNCTIONSYMBOLS start))` and `(RULES rules)`
 abbrev pub program_pieces : WrittenProgram → List Piece
 program_pieces w =
-    OpenBracket ∷ Word (codes "STARTTERM") ∷ OpenBracket ∷ Word (codes "FUNCTIONSYMBOLS") ∷ Word w.start ∷ CloseBracket ∷ CloseBracket
+    OpenBracket ∷ Word (codes "STARTTERM") ∷ OpenBracket ∷ Word (codes "FUNCTIONSYMBOLS") ∷ Word w.start ∷ CloseBracket
+    ∷ CloseBracket
     ∷ OpenBracket ∷ Word (codes "RULES") ∷ rules_then w.rules (CloseBracket ∷ [])

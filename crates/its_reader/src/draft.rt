@@ -17,18 +17,10 @@ use crate::symbols::Symbols;
 use crate::variables::{add_name, count_of, place_among};
 use indexmap::IndexSet;
 use its_model::{Name, Rule};
+use model::{NAME_LIMIT, PLACE_LIMIT, RULE_LIMIT};
 use poly_terms::Expr;
 use std::alloc::Global;
 use std::mem;
-
-/// How many rules a program may have.
-pub const MAX_RULES: usize = 1000;
-
-/// How many places a symbol may have.
-pub const MAX_ARITY: usize = 32;
-
-/// How many bytes a name may have.
-pub const MAX_NAME: usize = 256;
 
 /// The program so far, and the rule that is being read.
 #[derive(Drop)]
@@ -49,7 +41,7 @@ pub struct Draft {
 fn is_short(name: &[u8]) -> bool
     ensures { result ≡ is_short_name name.now }
 {
-    name.len() <= MAX_NAME
+    name.len() <= NAME_LIMIT
 }
 
 // Whether a name is `Com_` and digits.
@@ -97,7 +89,7 @@ impl Draft {
     pub fn name_source(&mut self, alloc: Global, name: &[u8]) -> Result<Place, ReadError>
         ensures { Follows (step (Rules (book_of self.old)) (Word name.now)) self.new result }
     {
-        if !is_short(name) || self.rules.len() >= MAX_RULES {
+        if !is_short(name) || self.rules.len() >= RULE_LIMIT {
             return Err(ReadError::Form);
         }
         self.name = name_from(alloc, name)?;
@@ -109,7 +101,7 @@ impl Draft {
         ensures { Follows (when (can_add_left (variables_of self.old) name.now)
             (LeftArgument (book_of self.old) (name_of self.old.name) (variables_of self.old ++ name.now ∷ []))) self.new result }
     {
-        if !is_short(name) || self.variables.len() >= MAX_ARITY {
+        if !is_short(name) || self.variables.len() >= PLACE_LIMIT {
             return Err(ReadError::Form);
         }
         if add_name(&mut self.variables, name_from(alloc, name)?)? {
@@ -146,7 +138,7 @@ impl Draft {
         ensures { Follows (when (can_add_right (source_of self.old) (updates_of self.old) name.now)
             (RightArgument (source_of self.old) (name_of self.old.name) (with_update (source_of self.old) (updates_of self.old) name.now))) self.new result }
     {
-        if !is_short(name) || self.updates.len() >= MAX_ARITY {
+        if !is_short(name) || self.updates.len() >= PLACE_LIMIT {
             return Err(ReadError::Form);
         }
         match place_among(&self.variables, &name_from(alloc, name)?) {

@@ -2,6 +2,7 @@
 
 ghost use Rattle.std.specs.Prelude.{IfOk, IsErrOf};
 ghost use Rattle.model.specs.Programs as plain;
+ghost use Rattle.its_model.specs.Valid.{IsValid};
 ghost use Rattle.its_model.specs.Views.{program_of};
 ghost use Rattle.its_reader.specs.Spelling.{SpellsWithin, OneProgram};
 
@@ -19,9 +20,10 @@ use std::alloc::Global;
 /// integer transition system as the KoAT tools read it, without guards and expressions.
 ///
 /// `Form` comes exactly where the bytes spell no program within the limits: 1,000 rules, 32 places a symbol, and 256
-/// bytes a name. `Memory` comes where memory ran out.
+/// bytes a name. `Memory` comes where memory ran out. What is read is a valid program.
 pub fn read(alloc: Global, bytes: &[u8]) -> Result<Program, ReadError>
     ensures ok { IfOk result (λ p. SpellsWithin bytes.now (program_of p)) }
+    ensures valid { IfOk result (λ p. IsValid (program_of p)) }
     ensures form { IsErrOf result ReadError.Form → (p : plain.Program) → ¬ SpellsWithin bytes.now p }
 {
     let mut draft = Draft::new(alloc);

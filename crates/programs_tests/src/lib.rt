@@ -1,7 +1,30 @@
-// Tests of programs, their texts and polynomials by public calls alone, a module for each subject.
+// Tests of programs and their steps, their texts, polynomials, rows, graphs and certificates by public calls alone, a
+// module for each subject.
 #![tactic(auto)]
 
+#[cfg(test)]
+mod certificates;
+#[cfg(test)]
+mod closure;
+#[cfg(test)]
+mod components;
+#[cfg(test)]
+mod expansions;
+#[cfg(test)]
+mod graphs;
 #[cfg(test)]
 mod polynomials;
 #[cfg(test)]
 mod programs;
+#[cfg(test)]
+mod rows;
+#[cfg(test)]
+mod slow;
+#[cfg(test)]
+mod steps;
+#[cfg(test)]
+mod trees;
+#[cfg(test)]
+mod trying;
+#[cfg(test)]
+mod values;

@@ -1,7 +1,8 @@
-use Rattle.std.proofs.Common.{◌≡◌, ◌+◌, ◌*◌, ◌^◌, ◌<◌, ◌≤◌, map, drop, length, ap, arith, get_or, sym, ◌∙◌, to_z}
+use Rattle.std.proofs.Common.{◌≡◌, ◌+◌, ◌*◌, ◌<◌, ◌≤◌, map, drop, length, ap, arith, get_or, sym, ◌∙◌, to_z}
 use Rattle.std.specs.Prelude.{ℤ, pos, ◌+ℤ◌, ◌*ℤ◌, unsigned_abs}
 use Rattle.std.specs.Int.{w128}
 use Rattle.std.proofs.lemmas.Int.{to_z-of_z}
+use Rattle.linear_forms.specs.Limits.{certificate_limit}
 use Rattle.poly_terms.specs.Views.{form_of}
 use Rattle.farkas_cert.specs.Columns.{number_in, combined_in}
 use Rattle.farkas_cert.proofs.Products.{read_sum, sum-le, moved, all_done, one_ends}
@@ -28,7 +29,7 @@ loop-i-preserved c =
     let number = to_z-of_z w128 c.number.result (record { sfits = c.number.type_inv }) ∙ c.number.ensures in
     let term : c.product-sum.result ≡ pos (get_or ms i 0) *ℤ number_in column (form_of r) = c.product-sum.ensures.value ∙ ap (λ (x : ℤ). pos (get_or ms i 0) *ℤ x) number in
     let s = to_z w128 c.loop-i.sum-bits in
-    let size : unsigned_abs c.product-sum.result ≤ 2 ^ 55 * unsigned_abs (number_in column (form_of r)) = omega (arith, c.product-sum.ensures.size, ap unsigned_abs number) in
+    let size : unsigned_abs c.product-sum.result ≤ certificate_limit * unsigned_abs (number_in column (form_of r)) = omega (arith, c.product-sum.ensures.size, ap unsigned_abs number) in
     let left = size-next column rows i r in_rows c.index-rows-i.is in
     let sum = read_sum s c.product-sum.result (record { sfits = c.product-sum.type_inv }) (omega (arith, c.loop-i.invariant.size, c.requires.column_small)) in
     record {

@@ -1,5 +1,6 @@
-use Rattle.std.proofs.Common.{◌≡◌, ◌*◌, ◌^◌, ◌+◌, ◌≤◌, drop, map}
+use Rattle.std.proofs.Common.{◌≡◌, ◌*◌, ◌+◌, ◌≤◌, drop, map}
 use Rattle.std.specs.Prelude.{◌+ℤ◌, unsigned_abs}
+use Rattle.linear_forms.specs.Limits.{certificate_limit}
 use Rattle.poly_terms.specs.Views.{form_of}
 use Rattle.farkas_cert.specs.Columns.{number_in, combined_in}
 use Rattle.farkas_cert.specs.Sizes.{total_size}
@@ -9,5 +10,5 @@ use Rattle.farkas_cert.proofs.combination.combined.Given as goal
 abbrev pub invariant-loop-i : goal.invariant-loop-i
 invariant-loop-i l = record {
   sum : l.sum +ℤ combined_in l.column (drop l.i l.multipliers) (map form_of (drop l.i l.rows)) ≡ combined_in l.column l.multipliers (map form_of l.rows);
-  size : unsigned_abs l.sum + 2 ^ 55 * total_size (number_in l.column) (map form_of (drop l.i l.rows)) ≤ 2 ^ 55 * total_size (number_in l.column) (map form_of l.rows);
+  size : unsigned_abs l.sum + certificate_limit * total_size (number_in l.column) (map form_of (drop l.i l.rows)) ≤ certificate_limit * total_size (number_in l.column) (map form_of l.rows);
 }

@@ -5,7 +5,7 @@ use Rattle.std.proofs.lemmas.List.{with_items_is}
 use Rattle.model.specs.Paths.{Path}
 use Rattle.its_graph.specs.Groups.{Joins}
 use Rattle.its_graph.specs.Floods.{Fills}
-use Rattle.its_graph.proofs.GraphLaws.{flood-reaches}
+use Rattle.its_graph.proofs.Reaching.{flood-reaches}
 use Rattle.its_graph.proofs.graph.flooded.Goals as goal
 
 -- the known nodes are those that are reached

@@ -8,25 +8,25 @@ use Rattle.its_graph.proofs.PairLists.{Pair}
 use Rattle.its_graph.proofs.Membership.{members-at, numbered-keys, leaders-placed}
 use Rattle.its_graph.proofs.listing.members_of.Goals as goal
 
--- the places are within the order
+-- the positions are within the order
 pub grouped-requires : goal.grouped-requires
 grouped-requires c =
     let leaders = c.args.leaders.now in
     let order = c.args.order.now in
-    let places = c.place_all.new.places in
-    let same = with_items_is c.in_ok-places.places places (c.place_all.auto.places ∙ (ap length c.deref_mut.ensures.value ∙ sym c.in_ok-places.places.ok.0)) in
+    let positions = c.note_positions.new.positions in
+    let same = with_items_is c.in_ok-positions.positions positions (c.note_positions.auto.positions ∙ (ap length c.deref_mut.ensures.value ∙ sym c.in_ok-positions.positions.ok.0)) in
     let n : ℕ = length order in
     subst (λ (xs : List Pair). All (λ (e : Pair). e.0 < n) xs) (sym (c.deref-2.ensures.value ∙ (c.in_ok-numbered_by.ensures ∙ ap (λ (xs : List ℕ). numbered xs 0 leaders) (c.deref.ensures.value ∙ same))))
-    (numbered-keys places n leaders 0 (leaders-placed places leaders order c.place_all.ensures c.requires.all))
+    (numbered-keys positions n leaders 0 (leaders-placed positions leaders order c.note_positions.ensures c.requires.all))
 
--- the values at each place are the members
+-- the values at each position are the members
 pub returns-clause-members : goal.returns-clause-members
 returns-clause-members c =
     let leaders = c.args.leaders.now in
     let order = c.args.order.now in
-    let places = c.place_all.new.places in
-    let same = with_items_is c.in_ok-places.places places (c.place_all.auto.places ∙ (ap length c.deref_mut.ensures.value ∙ sym c.in_ok-places.places.ok.0)) in
-    let pairs : c.deref-2.result.now ≡ numbered places 0 leaders = c.deref-2.ensures.value ∙ (c.in_ok-numbered_by.ensures ∙ ap (λ (xs : List ℕ). numbered xs 0 leaders) (c.deref.ensures.value ∙ same)) in
+    let positions = c.note_positions.new.positions in
+    let same = with_items_is c.in_ok-positions.positions positions (c.note_positions.auto.positions ∙ (ap length c.deref_mut.ensures.value ∙ sym c.in_ok-positions.positions.ok.0)) in
+    let pairs : c.deref-2.result.now ≡ numbered positions 0 leaders = c.deref-2.ensures.value ∙ (c.in_ok-numbered_by.ensures ∙ ap (λ (xs : List ℕ). numbered xs 0 leaders) (c.deref.ensures.value ∙ same)) in
     IfOk-weaker c.grouped.result (λ (found : Vec (Vec ℕ Global) Global). (a : ℕ) → values_in found.items a ≡ values_of c.deref-2.result.now a)
     (λ (found : Vec (Vec ℕ Global) Global). (k : ℕ) → k < length order → AreMembers leaders (get_or order k 0) (values_in found.items k))
-    (λ found values k low. subst (λ (xs : List ℕ). AreMembers leaders (get_or order k 0) xs) (sym (values k ∙ ap (λ (xs : List Pair). values_of xs k) pairs)) (members-at places leaders order c.place_all.ensures c.requires.all k low)) c.grouped.ensures.values
+    (λ found values k low. subst (λ (xs : List ℕ). AreMembers leaders (get_or order k 0) xs) (sym (values k ∙ ap (λ (xs : List Pair). values_of xs k) pairs)) (members-at positions leaders order c.note_positions.ensures c.requires.all k low)) c.grouped.ensures.values

@@ -3,4 +3,4 @@ use Rattle.its_graph.specs.Members.{numbered}
 use Rattle.its_graph.proofs.listing.numbered_by.Given as goal
 
 abbrev pub invariant-loop-node : goal.invariant-loop-node
-invariant-loop-node l = l.pairs.items ++ numbered l.places l.node (drop l.node l.leaders) ≡ numbered l.places 0 l.leaders
+invariant-loop-node l = l.pairs.items ++ numbered l.positions l.node (drop l.node l.leaders) ≡ numbered l.positions 0 l.leaders

@@ -1,6 +1,7 @@
 use Rattle.std.proofs.Common.{◌≡◌, Option, None, Err, ap, ◌∙◌}
 use Rattle.std.specs.Prelude.{Result, IsErrOf}
-use Rattle.std.proofs.lemmas.Result.{err_from_is_err_and}
+use Rattle.std.proofs.lemmas.Result.{err_from_is_err_and, IfOk-weaker}
+use Rattle.its_model.specs.Views.{program_of}
 use Rattle.its_model.specs.declared.program.Program.{Program}
 use Rattle.its_reader.specs.Places.{State}
 use Rattle.its_reader.specs.Drafts.{Follows}
@@ -9,6 +10,7 @@ use Rattle.its_reader.specs.declared.error.ReadError.{ReadError}
 use Rattle.its_reader.specs.declared.error.ReadError.TheVariants.{Form, Memory}
 use Rattle.its_reader.proofs.SizeLaws.{bounded_first, bounded_by}
 use Rattle.its_reader.proofs.ReadingLaws.{stays_first, stays_on, stays_not, ends_ok, ends_form}
+use Rattle.its_reader.proofs.ValidLaws.{spelled_valid}
 use Rattle.its_reader.proofs.reading.read.Goals as goal
 
 -- `Form` is handed on where a lexeme leads nowhere
@@ -33,6 +35,11 @@ loop-lexeme-preserved c = record {
 
 pub returns-clause-ok : goal.returns-clause-ok
 returns-clause-ok c = ends_ok c.args.bytes.now _ c.loop-lexeme.rest.now c.loop-lexeme.invariant.stays c.in_default.ensures.found c.finish.result c.finish.ensures
+
+pub returns-clause-valid : goal.returns-clause-valid
+returns-clause-valid c =
+    let spells = ends_ok c.args.bytes.now _ c.loop-lexeme.rest.now c.loop-lexeme.invariant.stays c.in_default.ensures.found c.finish.result c.finish.ensures in
+    IfOk-weaker c.finish.result _ _ (λ p. spelled_valid c.args.bytes.now (program_of p)) spells
 
 pub returns-clause-form : goal.returns-clause-form
 returns-clause-form c = ends_form c.args.bytes.now _ c.loop-lexeme.rest.now c.loop-lexeme.invariant.stays c.in_default.ensures.found c.finish.result c.finish.ensures

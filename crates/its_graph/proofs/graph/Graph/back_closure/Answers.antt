@@ -9,7 +9,10 @@ use Rattle.its_graph.specs.Groups.{values_in, values_of, Joins, swap}
 use Rattle.its_graph.specs.Links.{kept_links, members_from}
 use Rattle.its_graph.specs.Graphs.{IsGraphOf, flagged}
 use Rattle.its_graph.proofs.PairLists.{Pair}
-use Rattle.its_graph.proofs.GraphLaws.{kept-within, swap-within, kept-values, turned-table, turned-paths, in-set, rule-at-link, members-ascending, both-ways, is_rule}
+use Rattle.its_graph.proofs.KeptLinks.{kept-within, swap-within, kept-values, turned-table}
+use Rattle.its_graph.proofs.Reaching.{turned-paths, both-ways}
+use Rattle.its_graph.proofs.SetMembers.{in-set, members-ascending, is_rule}
+use Rattle.its_graph.proofs.Arrivals.{rule-at-link}
 use Rattle.its_graph.proofs.graph.Graph.back_closure.Goals as goal
 
 -- the kept links, turned round, are within

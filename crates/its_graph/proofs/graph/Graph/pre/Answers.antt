@@ -6,7 +6,7 @@ use Rattle.its_graph.specs.Links.{arrivals}
 use Rattle.its_graph.specs.Graphs.{IsGraphOf}
 use Rattle.its_graph.proofs.PairLists.{Pair}
 use Rattle.its_graph.proofs.Filling.{values-at}
-use Rattle.its_graph.proofs.GraphLaws.{arrivals-pre, rule-at-link, symbol-within}
+use Rattle.its_graph.proofs.Arrivals.{arrivals-pre, rule-at-link, symbol-within}
 use Rattle.its_graph.proofs.graph.Graph.pre.Goals as goal
 
 -- what arrives where the rule comes from is what can come just before it

@@ -9,7 +9,8 @@ use Rattle.its_graph.specs.Groups.{values_in, values_of, Joins}
 use Rattle.its_graph.specs.Links.{kept_links, all_cut}
 use Rattle.its_graph.specs.Graphs.{ends_of, IsGraphOf, none_of, flagged}
 use Rattle.its_graph.proofs.PairLists.{Pair}
-use Rattle.its_graph.proofs.GraphLaws.{uncut-size, uncut-flags, kept-within, kept-values, kept-table, same-paths, same-edges, both-ways}
+use Rattle.its_graph.proofs.KeptLinks.{uncut-size, uncut-flags, kept-within, kept-values, kept-table, same-edges}
+use Rattle.its_graph.proofs.Reaching.{same-paths, both-ways}
 use Rattle.its_graph.proofs.graph.Graph.reached.Goals as goal
 
 -- there is a flag for each rule and the entry

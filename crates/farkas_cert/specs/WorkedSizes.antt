@@ -1,0 +1,31 @@
+-- How large numbers may be, worked out by hand at the limits, on both sides.
+use Rattle.std.specs.Prelude.{◌+◌, ◌-◌, ◌^◌, [], ◌∷◌, ℤ, pos, negsuc}
+use Rattle.linear_forms.specs.Forms.{Form}
+use Rattle.farkas_cert.specs.Sizes.{AreMultipliers, AreSmall, HasRowNumbers, AreParts}
+
+-- a form in one unknown
+abbrev pub line : ℤ → ℤ → Form
+line a c = record { coefs = a ∷ []; constant = c }
+
+-- multipliers up to 2^55, and parts up to 2^45 in absolute value; numbers of a row up to 2^63 - 1 in absolute value
+pub record LimitsAreTold : Type 0 where
+  pub multiplier : AreMultipliers ((2 ^ 55) ∷ 0 ∷ [])
+  pub large_multiplier : ¬ (AreMultipliers (0 ∷ (2 ^ 55 + 1) ∷ []))
+  pub part : AreParts (pos (2 ^ 45) ∷ negsuc (2 ^ 45 - 1) ∷ [])
+  pub large_part : ¬ (AreParts (pos 0 ∷ negsuc (2 ^ 45) ∷ []))
+  pub number : HasRowNumbers (line (pos (2 ^ 63 - 1)) (negsuc (2 ^ 63 - 2)))
+  pub large_number : ¬ (HasRowNumbers (line (pos (2 ^ 63)) (pos 0)))
+  pub large_constant : ¬ (HasRowNumbers (line (pos 0) (negsuc (2 ^ 63 - 1))))
+
+-- one number of 2^70 + 2^10 in a column, or two of opposite signs that are together as large; one more in a column or
+-- among the constants is too much
+pub record ColumnsAreTold : Type 0 where
+  pub one : AreSmall (line (pos (2 ^ 70 + 2 ^ 10)) (pos 0) ∷ [])
+  pub two : AreSmall (line (pos (2 ^ 70)) (pos 3) ∷ line (negsuc (2 ^ 10 - 1)) (negsuc 4) ∷ [])
+  pub large_column : ¬ (AreSmall (line (pos (2 ^ 70)) (pos 0) ∷ line (negsuc (2 ^ 10)) (pos 0) ∷ []))
+  pub large_constants : ¬ (AreSmall (line (pos 0) (pos (2 ^ 70)) ∷ line (pos 0) (negsuc (2 ^ 10)) ∷ []))
+
+-- all of it
+pub record SizesAreWorkedOut : Type 0 where
+  pub limits : LimitsAreTold
+  pub columns : ColumnsAreTold

@@ -1,0 +1,107 @@
+-- Which rules have rows, and which points are those of steps: worked values.
+use Rattle.std.proofs.Common.{◌≡◌, ℕ, zero, suc, ◌<◌, ◌≤◌, List, [], ◌∷◌, Bool, true, false, length, map, refl, sym, subst, arith}
+use Rattle.std.specs.Prelude.{ℤ, pos, negsuc, ◌≤ℤ◌, None, Some}
+use Rattle.std.specs.List.{All}
+use Rattle.std.proofs.lemmas.Int.{ints}
+use Rattle.std.proofs.lemmas.List.Elements.{All-nil, All-cons, All-head}
+use Rattle.model.specs.Programs.{Atom, AtomHolds}
+use Rattle.linear_forms.specs.Forms.{Form, at, form_value}
+use Rattle.linear_forms.specs.Points.{IsPoint}
+use Rattle.guard_prep.specs.Tightening.{divisor_of}
+use Rattle.guard_prep.specs.Prepared.{rows_of}
+use Rattle.guard_prep.specs.Laws.{IsPointOfStep, LinearPartHolds, IsLinear}
+use Rattle.guard_prep.specs.WorkedRows.{three}
+use Rattle.guard_prep.specs.WorkedPoints.{at_least_one, square_at_least, worked_rule, worked_source, worked_target, RulesAreTold, LinearPartsAreTold, StepPointsAreTold, SmallFormsAreTold, PointsAreWorkedOut}
+
+-- which rules have rows
+rules : RulesAreTold
+rules = record {
+  worked = record {
+    few_variables = omega arith;
+    few_atoms = omega arith;
+    few_updates = omega arith;
+    guard = (
+      record { left = omega arith; right = tt; expands = refl },
+      (record { left = (omega arith, omega arith); right = omega arith; expands = refl }, tt),
+    );
+    updates = (
+      record { variables = (omega arith, omega arith); expands = refl },
+      (record { variables = (omega arith, omega arith); expands = refl }, tt),
+    );
+  };
+  many_variables = λ h. let few = h.few_variables in omega (arith, few);
+  out_of_range = λ h. let low = h.updates.0.variables in omega (arith, low);
+  high_update = λ h. let none = h.updates.0.expands in cc;
+  high_atom = λ h. let none = h.guard.0.expands in cc;
+}
+
+-- the row A - 1 >= 0
+abbrev row : Form
+row = three (pos 1) (pos 0) (pos 0) (negsuc 0)
+
+-- it is the only row
+worked_rows : rows_of worked_rule ≡ row ∷ []
+unfolding divisor_of
+worked_rows = refl
+
+-- a point of the rows is one where it is at least 0
+is_point : (z : ℕ → ℤ) → pos 0 ≤ℤ form_value row z (pos 1) → IsPoint (rows_of worked_rule) z (pos 1)
+is_point z h =
+    let P : Form → Type 0 = λ (f : Form). pos 0 ≤ℤ form_value f z (pos 1) in
+    subst (λ (rows : List Form). IsPoint rows z (pos 1)) (sym worked_rows)
+    (record { denominator = omega (arith, ints); meets = record { each = All-cons P row [] h (All-nil P) } })
+
+row_met : (z : ℕ → ℤ) → IsPoint (rows_of worked_rule) z (pos 1) → pos 0 ≤ℤ form_value row z (pos 1)
+row_met z h =
+    let k = subst (λ (rows : List Form). IsPoint rows z (pos 1)) worked_rows h in
+    All-head (λ (f : Form). pos 0 ≤ℤ form_value f z (pos 1)) row [] k.meets.each
+
+-- which atoms are linear, and where they hold
+linear_parts : LinearPartsAreTold
+linear_parts = record {
+  linear = refl;
+  bent = λ e. cc;
+  holds = All-cons (λ (a : Atom). IsLinear a → AtomHolds (pos 1 ∷ pos 5 ∷ []) a) at_least_one (square_at_least ∷ []) (λ e. omega (arith, ints))
+      (All-cons (λ (a : Atom). IsLinear a → AtomHolds (pos 1 ∷ pos 5 ∷ []) a) square_at_least [] (λ e. absurd (not_linear e))
+      (All-nil (λ (a : Atom). IsLinear a → AtomHolds (pos 1 ∷ pos 5 ∷ []) a)));
+  more_holds_not = λ h. let second = h 1 at_least_one (omega arith) in omega (arith, ints, second);
+  fails = λ h. let first = h 0 at_least_one (omega arith) refl in omega (arith, ints, first);
+}
+  where
+    not_linear : IsLinear square_at_least → ⊥
+    not_linear e = cc
+
+-- which points are those of the step
+steps : StepPointsAreTold
+steps = record {
+  squares = refl;
+  point = refl;
+  step = record {
+    unknowns = refl;
+    point = is_point (at (pos 3 ∷ pos 2 ∷ pos 9 ∷ [])) (omega (arith, ints));
+    left = left;
+    news = refl;
+  };
+  other_square = λ h. let news = h.news in cc;
+  other_free = λ h. let news = h.news in cc;
+  other_left = λ h. let same = h.left 0 (omega arith) in omega (arith, ints, same);
+  no_square = λ h. let long = h.unknowns in omega (arith, long);
+  row_fails = λ h. let low = row_met (at (pos 0 ∷ pos 0 ∷ pos 0 ∷ [])) h in omega (arith, ints, low);
+}
+  where
+    left : (j : ℕ) → j < 1 → at (pos 3 ∷ pos 2 ∷ pos 9 ∷ []) j ≡ at (pos 3 ∷ []) j
+    left zero l = refl
+    left (suc j) l = absurd (omega arith)
+
+-- which forms are small
+forms : SmallFormsAreTold
+forms = record {
+  largest = record { width = refl; coefs = (omega arith, (omega arith, tt)); constant = omega arith };
+  too_large = λ h. let first = h.coefs.0 in omega (arith, first);
+  constant_too_large = λ h. let last = h.constant in omega (arith, last);
+  other_width = λ h. let long = h.width in omega (arith, long);
+}
+
+-- all of it
+pub points-are-worked-out : PointsAreWorkedOut
+points-are-worked-out = record { rules = rules; linear_parts = linear_parts; steps = steps; forms = forms }

@@ -1,0 +1,78 @@
+-- Which rules have rows, and which points are those of steps, worked out by hand.
+use Rattle.std.specs.Prelude.{◌≡◌, ℕ, List, [], ◌∷◌, ℤ, pos, negsuc}
+use Rattle.model.specs.Terms.{Term, Literal, Variable, Subtraction, Multiplication, Exponentiation}
+use Rattle.model.specs.Programs.{AtLeast, Atom, Compare, Rule, GuardHolds}
+use Rattle.model.specs.Runs.{Config}
+use Rattle.linear_forms.specs.Forms.{at}
+use Rattle.linear_forms.specs.Points.{IsPoint}
+use Rattle.guard_prep.specs.Prepared.{rows_of}
+use Rattle.guard_prep.specs.Laws.{IsPreparable, IsLinear, LinearPartHolds, bent_values, point_of, IsPointOfStep}
+use Rattle.guard_prep.specs.Laws.{IsSmallForm}
+use Rattle.guard_prep.specs.WorkedRows.{square, product, two, with_free}
+
+-- the atoms A >= 1, and A*A >= B
+abbrev pub at_least_one : Atom
+at_least_one = Compare (Variable 0) AtLeast (Literal (pos 1))
+
+abbrev pub square_at_least : Atom
+square_at_least = Compare square AtLeast (Variable 1)
+
+-- the rule l0(A) -> l1(A - B, A*A) where A >= 1 and A*A >= B, with B free; its unknowns are A, B and the new value of
+-- A*A
+abbrev pub worked_rule : Rule
+worked_rule = with_free (Subtraction (Variable 0) (Variable 1) ∷ square ∷ []) (at_least_one ∷ square_at_least ∷ [])
+
+-- the expression A^9
+abbrev pub ninth_power : Term
+ninth_power = Exponentiation (Variable 0) 9
+
+-- the worked rule has rows; none have a rule with 64 free variables, one whose update reads a third variable, one whose
+-- update is A^9, and one whose atom has it
+pub record RulesAreTold : Type 0 where
+  pub worked : IsPreparable worked_rule
+  pub many_variables : ¬ (IsPreparable (record worked_rule { free = 64 }))
+  pub out_of_range : ¬ (IsPreparable (with_free (Variable 2 ∷ []) []))
+  pub high_update : ¬ (IsPreparable (with_free (ninth_power ∷ []) []))
+  pub high_atom : ¬ (IsPreparable (with_free [] (Compare ninth_power AtLeast (Literal (pos 0)) ∷ [])))
+
+-- A >= 1 is linear, and A*A >= B isn't; so at 1 and 5 the linear part of the guard holds, though the guard doesn't, and
+-- at 0 and 0 it doesn't
+pub record LinearPartsAreTold : Type 0 where
+  pub linear : IsLinear at_least_one
+  pub bent : ¬ (IsLinear square_at_least)
+  pub holds : LinearPartHolds (pos 1 ∷ pos 5 ∷ []) worked_rule.guard
+  pub more_holds_not : ¬ (GuardHolds (pos 1 ∷ pos 5 ∷ []) worked_rule.guard)
+  pub fails : ¬ (LinearPartHolds (pos 0 ∷ pos 0 ∷ []) worked_rule.guard)
+
+-- the configurations l0(3) and l1(1, 9)
+abbrev pub worked_source : Config
+worked_source = record { at = 0; values = pos 3 ∷ [] }
+
+abbrev pub worked_target : Config
+worked_target = record { at = 1; values = pos 1 ∷ pos 9 ∷ [] }
+
+-- with B = 2 the rule leads from l0(3) to l1(1, 9) at (3, 2, 9), but not where the square, the free variable or the
+-- left one is another, nor without an unknown for the square; at (0, 0, 0) the row of the rule fails
+pub record StepPointsAreTold : Type 0 where
+  pub squares : bent_values worked_rule.updates (pos 3 ∷ pos 2 ∷ []) ≡ pos 9 ∷ []
+  pub point : point_of worked_rule (pos 3 ∷ pos 2 ∷ []) ≡ pos 3 ∷ pos 2 ∷ pos 9 ∷ []
+  pub step : IsPointOfStep worked_rule worked_source worked_target (pos 3 ∷ pos 2 ∷ pos 9 ∷ [])
+  pub other_square : ¬ (IsPointOfStep worked_rule worked_source worked_target (pos 3 ∷ pos 2 ∷ pos 8 ∷ []))
+  pub other_free : ¬ (IsPointOfStep worked_rule worked_source worked_target (pos 3 ∷ pos 1 ∷ pos 9 ∷ []))
+  pub other_left : ¬ (IsPointOfStep worked_rule worked_source worked_target (pos 4 ∷ pos 3 ∷ pos 9 ∷ []))
+  pub no_square : ¬ (IsPointOfStep worked_rule worked_source worked_target (pos 3 ∷ pos 2 ∷ []))
+  pub row_fails : ¬ (IsPoint (rows_of worked_rule) (at (pos 0 ∷ pos 0 ∷ pos 0 ∷ [])) (pos 1))
+
+-- a form of two numbers with the maximum 2^63 - 1 and the constant -5 is small; one with 2^63 isn't, nor one of three
+pub record SmallFormsAreTold : Type 0 where
+  pub largest : IsSmallForm 2 (two (pos 9223372036854775807) (negsuc 0) (negsuc 4))
+  pub too_large : ¬ (IsSmallForm 2 (two (pos 9223372036854775808) (negsuc 0) (negsuc 4)))
+  pub constant_too_large : ¬ (IsSmallForm 2 (two (pos 0) (pos 0) (negsuc 9223372036854775807)))
+  pub other_width : ¬ (IsSmallForm 3 (two (pos 0) (pos 0) (pos 0)))
+
+-- all of it
+pub record PointsAreWorkedOut : Type 0 where
+  pub rules : RulesAreTold
+  pub linear_parts : LinearPartsAreTold
+  pub steps : StepPointsAreTold
+  pub forms : SmallFormsAreTold

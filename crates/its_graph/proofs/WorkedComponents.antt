@@ -1,0 +1,94 @@
+-- The worked values of components, and of what none is.
+use Rattle.std.proofs.Common.{◌≡◌, ◌⊎◌, inl, inr, ℕ, zero, suc, ◌+◌, ◌<◌, List, [], ◌∷◌, ◌++◌, Contains, refl, sym, subst, arith}
+use Rattle.std.specs.List.Sorted.{IsStrictlyIncreasing}
+use Rattle.its_graph.specs.Components.{IsMutual, IsListed, IsReady, IsNext, IsListing}
+use Rattle.its_graph.specs.WorkedComponents.{Loop, Backward, zero_alone, MutualNodesAreTold, ListedNodesAreTold, ReadyNodesAreTold, NextComponentsAreTold, ListingsAreTold, ComponentsAreWorkedOut}
+use Rattle.its_graph.proofs.Routes.{mutual-self}
+use Rattle.its_graph.proofs.ListedNodes.{in-first, in-one, in-two}
+use Rattle.its_graph.proofs.Elements.{none_in_empty}
+use Rattle.its_graph.proofs.Uniqueness.{one_listing}
+use Rattle.its_graph.proofs.WorkedLoop as loop
+use Rattle.its_graph.proofs.WorkedBackward as backward
+
+mutual_nodes : MutualNodesAreTold
+mutual_nodes = record { both = loop.both; one_way = loop.one_way; itself = mutual-self Loop 0; no_path = λ m. omega (arith, backward.apart 0 2 m) }
+
+-- 3 is in none of two components
+no_three : (c : List ℕ) → Contains ((0 ∷ []) ∷ (2 ∷ 1 ∷ []) ∷ []) c → Contains c 3 → ⊥
+no_three c (zero, low, e) h = omega (arith, in-one 0 3 (subst (λ (d : List ℕ). Contains d 3) (sym e) h))
+no_three c (suc zero, low, e) h = go (in-two 2 1 3 (subst (λ (d : List ℕ). Contains d 3) (sym e) h))
+  where
+    go : (◌≡◌ {A = ℕ} 3 2) ⊎ (◌≡◌ {A = ℕ} 3 1) → ⊥
+    go (inl f) = omega (arith, f)
+    go (inr f) = omega (arith, f)
+no_three c (suc (suc k), low, e) h = omega (arith, low)
+
+listed_nodes : ListedNodesAreTold
+listed_nodes = record {
+  second = record { component = 2 ∷ 1 ∷ []; listed = (1, omega arith, refl); member = (1, omega arith, refl) };
+  none = λ l. no_three l.component l.listed l.member;
+}
+
+ready_nodes : ReadyNodesAreTold
+ready_nodes = record {
+  first = loop.first_ready;
+  behind_another = loop.not_first;
+  past_the_end = λ h. omega (arith, h.node);
+  next = loop.next_ready;
+  next_greater = loop.greater_ready;
+  listed = λ h. h.unlisted in-first;
+  without_edge = backward.without_edge;
+  source = backward.source;
+  target = λ h. backward.zero_waits [] (λ k. none_in_empty 2 k) h;
+}
+
+-- a component that comes first has the least node that may
+too_early : IsNext Loop 3 [] (1 ∷ 2 ∷ []) → ⊥
+too_early h = go (in-two 1 2 h.least ((h.members h.least).1 (mutual-self Loop h.least)))
+  where
+    low : h.least ≡ 0
+    low = omega (arith, h.first 0 loop.first_ready)
+
+    go : (h.least ≡ 1) ⊎ (h.least ≡ 2) → ⊥
+    go (inl e) = omega (arith, low, e)
+    go (inr e) = omega (arith, low, e)
+
+-- 2 is in the component of 1
+a_node_lacks : IsNext Loop 3 zero_alone (1 ∷ []) → ⊥
+a_node_lacks h = omega (arith, in-one 1 2 ((h.members 2).1 (subst (λ (x : ℕ). IsMutual Loop x 2) (sym one) loop.both)))
+  where
+    one : h.least ≡ 1
+    one = in-one 1 h.least ((h.members h.least).1 (mutual-self Loop h.least))
+
+next_components : NextComponentsAreTold
+next_components = record {
+  first = loop.first_next;
+  next = loop.then_next;
+  too_early = too_early;
+  not_ascending = λ h. let up = h.ascending 0 (omega arith) in omega (arith, up);
+  a_node_lacks = a_node_lacks;
+  least = backward.first_next;
+  not_least = λ h. let two = in-one 2 h.least ((h.members h.least).1 (mutual-self Backward h.least)) in omega (arith, two, h.first 1 backward.without_edge);
+}
+
+-- no list but the right one is one
+other_loop : (cs : List (List ℕ)) → ((0 ∷ []) ∷ (1 ∷ 2 ∷ []) ∷ [] ≡ cs → ⊥) → IsListing Loop 3 cs → ⊥
+other_loop cs other l = other (one_listing Loop 3 _ cs loop.loop_listing l)
+
+other_backward : (cs : List (List ℕ)) → ((1 ∷ []) ∷ (2 ∷ []) ∷ (0 ∷ []) ∷ [] ≡ cs → ⊥) → IsListing Backward 3 cs → ⊥
+other_backward cs other l = other (one_listing Backward 3 _ cs backward.backward_listing l)
+
+listings : ListingsAreTold
+listings = record {
+  loop = loop.loop_listing;
+  turned = other_loop ((1 ∷ 2 ∷ []) ∷ (0 ∷ []) ∷ []) (λ e. cc);
+  last_lacks = other_loop zero_alone (λ e. cc);
+  taken_apart = other_loop ((0 ∷ []) ∷ (1 ∷ []) ∷ (2 ∷ []) ∷ []) (λ e. cc);
+  backward = backward.backward_listing;
+  by_numbers = other_backward ((0 ∷ []) ∷ (1 ∷ []) ∷ (2 ∷ []) ∷ []) (λ e. cc);
+  ends_first = other_backward ((2 ∷ []) ∷ (0 ∷ []) ∷ (1 ∷ []) ∷ []) (λ e. cc);
+}
+
+-- all of it
+pub components-are-worked-out : ComponentsAreWorkedOut
+components-are-worked-out = record { mutual_nodes = mutual_nodes; listed_nodes = listed_nodes; ready_nodes = ready_nodes; next_components = next_components; listings = listings }

@@ -1,0 +1,72 @@
+-- Which nodes are in one component, what comes next and which lists are right, worked out by hand on two graphs.
+use Rattle.std.specs.Prelude.{ℕ, List, [], ◌∷◌}
+use Rattle.its_graph.specs.Groups.{IsPair}
+use Rattle.its_graph.specs.Components.{IsMutual, IsListed, IsReady, IsNext, IsListing}
+
+-- the graph with an edge from 0 to 1, and edges from 1 to 2 and back
+abbrev pub Loop : ℕ → ℕ → Type 0
+Loop = IsPair ((0, 1) ∷ (1, 2) ∷ (2, 1) ∷ [])
+
+-- the graph with an edge from 2 to 0 alone
+abbrev pub Backward : ℕ → ℕ → Type 0
+Backward = IsPair ((2, 0) ∷ [])
+
+-- the component of 0 alone
+abbrev pub zero_alone : List (List ℕ)
+zero_alone = (0 ∷ []) ∷ []
+
+-- in the first graph 1 and 2 are in one component, 0 and 1 aren't, and each node is in its own
+pub record MutualNodesAreTold : Type 0 where
+  pub both : IsMutual Loop 1 2
+  pub one_way : ¬ (IsMutual Loop 0 1)
+  pub itself : IsMutual Loop 0 0
+  pub no_path : ¬ (IsMutual Backward 0 2)
+
+-- of the components [0] and [2, 1] the second has 1, and neither has 3
+pub record ListedNodesAreTold : Type 0 where
+  pub second : IsListed ((0 ∷ []) ∷ (2 ∷ 1 ∷ []) ∷ []) 1
+  pub none : ¬ (IsListed ((0 ∷ []) ∷ (2 ∷ 1 ∷ []) ∷ []) 3)
+
+-- in the first graph of three nodes 0 may come first, and 1 may not, nor may a node past the end; behind [0] 1 and 2
+-- may come, and 0 may not; in the second graph 1 and 2 may come first, and 0 may not
+pub record ReadyNodesAreTold : Type 0 where
+  pub first : IsReady Loop 3 [] 0
+  pub behind_another : ¬ (IsReady Loop 3 [] 1)
+  pub past_the_end : ¬ (IsReady Loop 3 [] 3)
+  pub next : IsReady Loop 3 zero_alone 1
+  pub next_greater : IsReady Loop 3 zero_alone 2
+  pub listed : ¬ (IsReady Loop 3 zero_alone 0)
+  pub without_edge : IsReady Backward 3 [] 1
+  pub source : IsReady Backward 3 [] 2
+  pub target : ¬ (IsReady Backward 3 [] 0)
+
+-- in the first graph [0] comes first, and then [1, 2], but neither [2, 1] nor [1]; in the second one [1] comes first,
+-- and [2] doesn't, since 1 is less
+pub record NextComponentsAreTold : Type 0 where
+  pub first : IsNext Loop 3 [] (0 ∷ [])
+  pub next : IsNext Loop 3 zero_alone (1 ∷ 2 ∷ [])
+  pub too_early : ¬ (IsNext Loop 3 [] (1 ∷ 2 ∷ []))
+  pub not_ascending : ¬ (IsNext Loop 3 zero_alone (2 ∷ 1 ∷ []))
+  pub a_node_lacks : ¬ (IsNext Loop 3 zero_alone (1 ∷ []))
+  pub least : IsNext Backward 3 [] (1 ∷ [])
+  pub not_least : ¬ (IsNext Backward 3 [] (2 ∷ []))
+
+-- the components of the first graph are [0], [1, 2] and no other list: not in another order, nor without the last, nor
+-- taken apart; those of the second one are [1], [2], [0], and not in the order of their nodes, nor with the edge's ends
+-- first
+pub record ListingsAreTold : Type 0 where
+  pub loop : IsListing Loop 3 ((0 ∷ []) ∷ (1 ∷ 2 ∷ []) ∷ [])
+  pub turned : ¬ (IsListing Loop 3 ((1 ∷ 2 ∷ []) ∷ (0 ∷ []) ∷ []))
+  pub last_lacks : ¬ (IsListing Loop 3 zero_alone)
+  pub taken_apart : ¬ (IsListing Loop 3 ((0 ∷ []) ∷ (1 ∷ []) ∷ (2 ∷ []) ∷ []))
+  pub backward : IsListing Backward 3 ((1 ∷ []) ∷ (2 ∷ []) ∷ (0 ∷ []) ∷ [])
+  pub by_numbers : ¬ (IsListing Backward 3 ((0 ∷ []) ∷ (1 ∷ []) ∷ (2 ∷ []) ∷ []))
+  pub ends_first : ¬ (IsListing Backward 3 ((2 ∷ []) ∷ (0 ∷ []) ∷ (1 ∷ []) ∷ []))
+
+-- all of it
+pub record ComponentsAreWorkedOut : Type 0 where
+  pub mutual_nodes : MutualNodesAreTold
+  pub listed_nodes : ListedNodesAreTold
+  pub ready_nodes : ReadyNodesAreTold
+  pub next_components : NextComponentsAreTold
+  pub listings : ListingsAreTold

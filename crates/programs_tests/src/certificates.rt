@@ -1,0 +1,216 @@
+// Certificates and points on rows, also at the limits of numbers.
+
+ghost use Rattle.std.specs.Prelude.{All, IsTrue, map};
+ghost use Rattle.poly_terms.specs.Views.{form_of};
+ghost use Rattle.farkas_cert.specs.Sizes.{AreMultipliers, AreParts, AreRowNumbers, AreSmall, HasRowNumbers};
+
+use farkas_cert::{LIMIT, Scaled, empty, implies, on_rows};
+use poly_terms::Row;
+use std::alloc::{AllocError, Global};
+use std::test::Fail;
+
+const LARGEST: i128 = 9_223_372_036_854_775_807;
+
+// Rows of a coefficient and a constant.
+fn rows_of(alloc: Global, parts: &[(i128, i128)]) -> Result<Vec<Row>, AllocError> {
+    let mut rows = Vec::new(alloc);
+    for (coef, constant) in parts {
+        let mut coefs = Vec::new(alloc);
+        coefs.push(*coef)?;
+        rows.push(Row {
+            coefs,
+            constant: *constant,
+        })?;
+    }
+    Ok(rows)
+}
+
+// Whether the numbers of a list are below 2^63.
+fn are_row_numbers(numbers: &[i128]) -> bool
+    ensures { IsTrue result → AreRowNumbers numbers.now }
+{
+    for number in numbers {
+        if number.unsigned_abs() >= 1 << 63 {
+            return false;
+        }
+    }
+    true
+}
+
+// Whether those of a row are.
+fn has_row_numbers(row: &Row) -> bool
+    ensures { IsTrue result → HasRowNumbers (form_of row.now) }
+{
+    are_row_numbers(&row.coefs) && row.constant.unsigned_abs() < 1 << 63
+}
+
+// Whether those of all rows are.
+fn have_row_numbers(rows: &[Row]) -> bool
+    ensures { IsTrue result → All HasRowNumbers (map form_of rows.now) }
+{
+    for row in rows {
+        if !has_row_numbers(row) {
+            return false;
+        }
+    }
+    true
+}
+
+// Whether there are so few rows, with such small numbers, that certificates on them can be looked at.
+fn are_small(rows: &[Row]) -> bool
+    ensures { IsTrue result → AreSmall (map form_of rows.now) }
+{
+    rows.len() <= 128 && have_row_numbers(rows)
+}
+
+// Whether multipliers are within their limit.
+fn are_multipliers(multipliers: &[u64]) -> bool
+    ensures { IsTrue result → AreMultipliers multipliers.now }
+{
+    for multiplier in multipliers {
+        if *multiplier > LIMIT {
+            return false;
+        }
+    }
+    true
+}
+
+// Whether the goal follows, or none where the numbers aren't within their limits.
+fn follows(
+    alloc: Global,
+    rows: &[(i128, i128)],
+    multipliers: &[u64],
+    goal: (i128, i128),
+) -> Result<Option<bool>, AllocError> {
+    let rows = rows_of(alloc, rows)?;
+    let mut coefs = Vec::new(alloc);
+    coefs.push(goal.0)?;
+    let goal = Row {
+        coefs,
+        constant: goal.1,
+    };
+    if are_small(&rows) && are_multipliers(multipliers) {
+        Ok(Some(implies(&rows, multipliers, &goal)))
+    } else {
+        Ok(None)
+    }
+}
+
+// Whether rows are shown to have no point, or none likewise.
+fn contradict(
+    alloc: Global,
+    rows: &[(i128, i128)],
+    multipliers: &[u64],
+) -> Result<Option<bool>, AllocError> {
+    let rows = rows_of(alloc, rows)?;
+    if are_small(&rows) && are_multipliers(multipliers) {
+        Ok(Some(empty(&rows, multipliers)))
+    } else {
+        Ok(None)
+    }
+}
+
+// Whether the parts of a point are within their limit.
+fn are_parts(parts: &[i64]) -> bool
+    ensures { IsTrue result → AreParts parts.now }
+{
+    for part in parts {
+        if part.unsigned_abs() > 1 << 45 {
+            return false;
+        }
+    }
+    true
+}
+
+// Whether a point is on the rows, or none likewise.
+fn stands(
+    alloc: Global,
+    rows: &[(i128, i128)],
+    part: i64,
+    den: u64,
+) -> Result<Option<bool>, AllocError> {
+    let rows = rows_of(alloc, rows)?;
+    let mut parts = Vec::new(alloc);
+    parts.push(part)?;
+    let at = Scaled { parts, den };
+    if have_row_numbers(&rows) && at.parts.len() <= 128 && are_parts(&at.parts) && den <= 1 << 45 {
+        Ok(Some(on_rows(&rows, &at)))
+    } else {
+        Ok(None)
+    }
+}
+
+#[test]
+fn goals_follow_where_the_rest_is_not_negative(rt: HostRuntime) -> Result<(), Fail> {
+    let alloc = rt.alloc();
+    let table: [(&[(i128, i128)], &[u64], (i128, i128), Option<bool>); 11] = [
+        (&[(1, -1)], &[1], (1, 0), Some(true)),
+        (&[(1, -1)], &[1], (1, -1), Some(true)),
+        (&[(1, -1)], &[1], (1, -2), Some(false)),
+        (&[(1, -1)], &[], (1, 0), Some(false)),
+        (&[(1, -1)], &[1, 0], (1, 0), Some(false)),
+        (&[(1, -1)], &[2], (1, 0), Some(false)),
+        (&[(1, -1), (-1, 3)], &[1, 1], (0, 2), Some(true)),
+        (&[(1, -1), (-1, 3)], &[1, 1], (0, 1), Some(false)),
+        (&[], &[], (0, 0), Some(true)),
+        (
+            &[(LARGEST, -LARGEST)],
+            &[LIMIT],
+            (
+                LARGEST * 36_028_797_018_963_968,
+                -LARGEST * 36_028_797_018_963_968,
+            ),
+            Some(true),
+        ),
+        (&[(LARGEST + 1, 0)], &[1], (0, 0), None),
+    ];
+    for (rows, multipliers, goal, want) in table {
+        let found = follows(alloc, rows, multipliers, goal)?;
+        assert_eq!(rt; found, want, "at {rows:?} by {multipliers:?} to {goal:?}");
+    }
+    Ok(())
+}
+
+#[test]
+fn rows_contradict_where_they_add_up_to_less_than_0(rt: HostRuntime) -> Result<(), Fail> {
+    let alloc = rt.alloc();
+    let table: [(&[(i128, i128)], &[u64], Option<bool>); 6] = [
+        (&[(1, -1), (-1, 0)], &[1, 1], Some(true)),
+        (&[(1, -1), (-1, 0)], &[2, 1], Some(false)),
+        (&[(1, -1), (-1, 1)], &[1, 1], Some(false)),
+        (&[(0, -1)], &[1], Some(true)),
+        (&[(0, -1)], &[0], Some(false)),
+        (&[], &[], Some(false)),
+    ];
+    for (rows, multipliers, want) in table {
+        let found = contradict(alloc, rows, multipliers)?;
+        assert_eq!(rt; found, want, "at {rows:?} by {multipliers:?}");
+    }
+    Ok(())
+}
+
+#[test]
+fn points_and_rays_are_on_rows(rt: HostRuntime) -> Result<(), Fail> {
+    let alloc = rt.alloc();
+    let table: [(&[(i128, i128)], i64, u64, Option<bool>); 9] = [
+        (&[(1, -1)], 0, 1, Some(false)),
+        (&[(1, -1)], 1, 1, Some(true)),
+        (&[(1, -1)], 0, 0, Some(true)),
+        (&[(1, -1)], -1, 0, Some(false)),
+        (&[(2, -1)], 1, 2, Some(true)),
+        (&[(2, -1)], 1, 3, Some(false)),
+        (&[], -5, 1, Some(true)),
+        (
+            &[(LARGEST, -LARGEST)],
+            35_184_372_088_832,
+            35_184_372_088_832,
+            Some(true),
+        ),
+        (&[(1, 0)], 35_184_372_088_833, 1, None),
+    ];
+    for (rows, part, den, want) in table {
+        let found = stands(alloc, rows, part, den)?;
+        assert_eq!(rt; found, want, "at {part}/{den} on {rows:?}");
+    }
+    Ok(())
+}

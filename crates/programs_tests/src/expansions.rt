@@ -1,0 +1,208 @@
+//! Expanded polynomials: each limit on both of its sides, which fault comes first, and rows.
+
+use crate::trees::{reads_below, tree};
+use poly_terms::{Expr, Poly, PolyError, Row, expand};
+use std::alloc::{AllocError, Global};
+use std::test::Fail;
+
+// A polynomial as a table writes it: each monomial's coefficient with its variables.
+type Written = &'static [(i128, &'static [u32])];
+
+// The sum of this many variables, the first one numbered 0.
+fn variables(alloc: Global, count: u32) -> Result<Expr, AllocError> {
+    let mut sum = Expr::Var(0);
+    for i in 1..count {
+        sum = Expr::sum(alloc, sum, Expr::Var(i))?;
+    }
+    Ok(sum)
+}
+
+// Whether a polynomial is what was written.
+fn is_as_written(p: &Poly, written: Written) -> bool {
+    if p.terms.len() != written.len() {
+        return false;
+    }
+    for (m, (coef, vars)) in p.terms.iter().zip(written) {
+        if m.coef != *coef || m.vars.as_slice() != *vars {
+            return false;
+        }
+    }
+    true
+}
+
+#[test]
+fn expressions_have_the_polynomials_that_were_worked_out(rt: HostRuntime) -> Result<(), Fail> {
+    let alloc = rt.alloc();
+    let table: [(&str, Written); 19] = [
+        ("AB+AB-*", &[(1, &[0, 0]), (-1, &[1, 1])]),
+        ("AB+2^", &[(1, &[0, 0]), (2, &[0, 1]), (1, &[1, 1])]),
+        ("A1+2^", &[(1, &[]), (2, &[0]), (1, &[0, 0])]),
+        (
+            "A1+3^",
+            &[(1, &[]), (3, &[0]), (3, &[0, 0]), (1, &[0, 0, 0])],
+        ),
+        ("BA*", &[(1, &[0, 1])]),
+        ("CBA**", &[(1, &[0, 1, 2])]),
+        ("BA+C+", &[(1, &[0]), (1, &[1]), (1, &[2])]),
+        ("A2-~", &[(2, &[]), (-1, &[0])]),
+        ("AA-", &[]),
+        ("0", &[]),
+        ("0A*", &[]),
+        ("A0^", &[(1, &[])]),
+        ("AA-0^", &[(1, &[])]),
+        ("A8^", &[(1, &[0, 0, 0, 0, 0, 0, 0, 0])]),
+        ("9223372036854775807", &[(9223372036854775807, &[])]),
+        ("9223372036854775807~", &[(-9223372036854775807, &[])]),
+        ("4611686018427387903 2*1+", &[(9223372036854775807, &[])]),
+        ("9223372036854775807A*9223372036854775807A*-", &[]),
+        ("AB*BA*-", &[]),
+    ];
+    for (text, written) in table {
+        let poly = expand(alloc, &tree(alloc, text)?)
+            .ok()
+            .ok_or("no polynomial")?;
+        assert!(rt; is_as_written(&poly, written), "{text} is {poly:?}");
+    }
+    Ok(())
+}
+
+#[test]
+fn the_first_fault_is_the_answer(rt: HostRuntime) -> Result<(), Fail> {
+    let alloc = rt.alloc();
+    let (large, many, high) = (
+        Some(PolyError::CoefTooLarge),
+        Some(PolyError::TooManyTerms),
+        Some(PolyError::DegreeTooHigh),
+    );
+    let table = [
+        ("9223372036854775807", None),
+        ("9223372036854775808", large),
+        ("9223372036854775807~", None),
+        ("9223372036854775808~", large),
+        ("9223372036854775807 1+", large),
+        ("9223372036854775807~1-", large),
+        ("4294967296 2147483648*", large),
+        ("4294967296 2147483647*", None),
+        ("9223372036854775807A*A+", large),
+        ("9223372036854775807A*9223372036854775807A*-", None),
+        ("170141183460469231731687303715884105727 1+", large),
+        // The eighth power and the ninth, alone and as a product.
+        ("A8^", None),
+        ("A9^", high),
+        ("A4^A4^*", None),
+        ("A4^A5^*", high),
+        ("A2^4^", None),
+        ("A2^5^", high),
+        ("A3^3^", high),
+        ("1 8^", None),
+        ("1 9^", high),
+        ("0 9^", high),
+        ("A4294967295^", high),
+        ("2 4294967295^", high),
+        // 2^63 has the exponent 9 among its lower powers, while 200^9 has too large a coefficient.
+        ("2 63^", high),
+        ("2 62^", high),
+        ("2 8^", None),
+        ("200 8^", None),
+        ("200 9^", large),
+        ("1099511627776 9^", large),
+        ("100 A*9^", high),
+        ("300 A*9^", large),
+        // A base before its powers, and the lower powers before the power.
+        ("A9^0^", high),
+        ("9223372036854775808 0^", large),
+        ("9223372036854775808 9^", large),
+        ("4294967296 A4^*3^", large),
+        ("A4^3^", high),
+        // What stands round a subexpression doesn't help it.
+        ("AA-A9^*", high),
+        ("0A9^*", high),
+        ("A9^A9^-", high),
+        ("9223372036854775808 0*", large),
+        // Children before parents, left before right, and of two faults of one subexpression the least.
+        ("9223372036854775807A9^*2*", high),
+        ("A9^9223372036854775808+", high),
+        ("9223372036854775808A9^+", large),
+        ("A9^9223372036854775808*", high),
+        ("9223372036854775808A9^*", large),
+        ("A9^9223372036854775808-", high),
+        ("9223372036854775808A9^-", large),
+        ("4611686018427387904A5^*2A4^**", large),
+        // The square of 10 variables has 55 monomials, that of 11 has 66; the fifth power of 4 has 56, the sixth 84.
+        ("AB+C+D+E+F+G+H+I+J+2^", None),
+        ("AB+C+D+E+F+G+H+I+J+K+2^", many),
+        ("AB+C+D+5^", None),
+        ("AB+C+D+6^", many),
+        ("AB+C+D+8^", many),
+        ("AB+C+8^", None),
+        ("AB+9^", high),
+        ("AB+C+D+9^", many),
+        ("AB+C+D+E+F+G+H+AB+C+D+E+F+G+H+*", None),
+        ("AB+C+D+E+F+G+H+IJ+K+L+M+N+O+P+*", None),
+        ("AB+C+D+E+F+G+H+IJ+K+L+M+N+O+P+Q+*", many),
+        ("AB+C+D+E+F+G+H+I+J+K+2^9223372036854775808+", many),
+        ("9223372036854775807A*B+C+D+E+F+G+H+I+J+K+2^", large),
+        // Sixteen products of 2^124 at A*B*C*D are 2^128 together, which is no 0.
+        ("4611686018427387904 A1+B1+*C1+*D1+**2^", large),
+    ];
+    for (text, fault) in table {
+        let answer = expand(alloc, &tree(alloc, text)?).err();
+        assert!(rt; answer == fault, "{text}: {answer:?}");
+    }
+    for (count, fault) in [(1, None), (63, None), (64, None), (65, many), (128, many)] {
+        let answer = expand(alloc, &variables(alloc, count)?).err();
+        assert!(rt; answer == fault, "{count} variables: {answer:?}");
+    }
+    Ok(())
+}
+
+// The row of the polynomial of an expression over so many variables, or none where its degree is at least 2.
+#[tactic(auto, using(crate::proofs::Tried::below_of))]
+fn row_of(alloc: Global, e: &Expr, width: u32) -> Result<Option<Row>, Fail> {
+    if !reads_below(width as usize, e) {
+        return Err("a variable has no coefficient")?;
+    }
+    match expand(alloc, e) {
+        Ok(p) => Ok(p.linear_part(alloc, width)?),
+        Err(_) => Err("no polynomial")?,
+    }
+}
+
+// Whether a row, or none, is what was written.
+fn is_row(row: &Option<Row>, written: Option<(&[i128], i128)>) -> bool {
+    match (row, written) {
+        (Some(row), Some((coefs, constant))) => {
+            row.coefs.as_slice() == coefs && row.constant == constant
+        }
+        (None, None) => true,
+        _ => false,
+    }
+}
+
+#[test]
+fn rows_have_a_coefficient_for_each_variable(rt: HostRuntime) -> Result<(), Fail> {
+    let alloc = rt.alloc();
+    let table: [(&str, u32, Option<(&[i128], i128)>); 12] = [
+        ("2B*3-", 3, Some((&[0, 2, 0], -3))),
+        ("AB-C+", 3, Some((&[1, -1, 1], 0))),
+        ("A~", 1, Some((&[-1], 0))),
+        ("7", 0, Some((&[], 7))),
+        ("0", 2, Some((&[0, 0], 0))),
+        ("AA-", 1, Some((&[0], 0))),
+        ("A2^A2^-B+", 2, Some((&[0, 1], 0))),
+        (
+            "9223372036854775807C*9223372036854775807-",
+            3,
+            Some((&[0, 0, 9223372036854775807], -9223372036854775807)),
+        ),
+        ("AA*", 1, None),
+        ("AB*", 2, None),
+        ("AB*A+1+", 2, None),
+        ("A2^B-", 2, None),
+    ];
+    for (text, width, wanted) in table {
+        let row = row_of(alloc, &tree(alloc, text)?, width)?;
+        assert!(rt; is_row(&row, wanted), "{text}: {row:?}");
+    }
+    Ok(())
+}
