@@ -4,7 +4,7 @@ use Rattle.std.specs.Prelude.{IsTrue}
 use Rattle.model.specs.Bounds.{Bound, Constant, SumOf, PowerOf, Parts, NoParts, Part}
 use Rattle.bound_text.specs.Shapes.{is_sum, is_maximum, is_leaf, with_part}
 use Rattle.bound_text.specs.Pieces.{Piece, Number, Close, Times, Plus, Blank, Comma}
-use Rattle.bound_text.specs.Fronts.{Bracket, Arguments, Exponent, Factor, Outer, Whole, Inside, Place, Front, Begins, RunCaret, PowerCaret, ItemRead, BlankRead, PlusRead, CommaRead, IsFront, IsPlace, term_of, bound_made, can_end, can_be_argument}
+use Rattle.bound_text.specs.Fronts.{Bracket, Arguments, Exponent, Factor, Outer, Whole, Inside, Position, Front, Begins, RunCaret, PowerCaret, ItemRead, BlankRead, PlusRead, CommaRead, IsFront, IsPosition, term_of, bound_made, can_end, can_be_argument}
 use Rattle.bound_text.specs.Steps.{with_copies, front_at, behind_factor, can_close, item_of, walk, finish}
 use Rattle.bound_text.proofs.PartLaws.{is_empty-with_part}
 use Rattle.bound_text.proofs.CompletenessLaws.{starts, stands, walk-when}
@@ -83,9 +83,9 @@ begin_completes outer ts fs = let c = item_completes outer ts (with_part fs (Con
 
 -- what has been read can be completed
 pub completes : (f : Front) → IsFront f → Completes (Some f)
-completes f is = go f.place is.place
+completes f is = go f.position is.position
   where
-    go : (place : Place) → IsPlace place f.outer f.terms f.factors → Completes (Some (front_at f.outer f.terms f.factors place))
+    go : (position : Position) → IsPosition position f.outer f.terms f.factors → Completes (Some (front_at f.outer f.terms f.factors position))
     go Begins p = begin_completes f.outer f.terms f.factors
     go (RunCaret i) p = let c = item_completes f.outer f.terms (with_copies 2 i f.factors) in record { pieces = Number 2 ∷ c.pieces; bound = c.bound; ends = c.ends }
     go (PowerCaret b) p = let c = item_completes f.outer f.terms (with_part f.factors (PowerOf b (Constant 0))) in record { pieces = Number 0 ∷ c.pieces; bound = c.bound; ends = c.ends }

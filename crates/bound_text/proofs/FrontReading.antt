@@ -5,7 +5,7 @@ use Rattle.bound_expr.specs.Tidy.{IsNoSum, IsNoMaximum, EachPart}
 use Rattle.bound_text.specs.Shapes.{is_maximum, is_empty, with_part, AreShaped}
 use Rattle.bound_text.specs.Pieces.{Piece, Variable, Number, Open, Times, Caret, Plus, Blank, Comma}
 use Rattle.bound_text.specs.Writing.{Nothing, factors_then, plus_between, comma_between}
-use Rattle.bound_text.specs.Fronts.{Bracket, Arguments, Exponent, Factor, Outer, Whole, Inside, Place, Front, Begins, RunCaret, PowerCaret, ItemRead, BlankRead, PlusRead, CommaRead, IsFront, IsOuter, IsBracket, AreFactors, front_then, outer_then, place_then, star_then, each_then, bracket_then, bound_made, can_end, can_be_argument, in_arguments}
+use Rattle.bound_text.specs.Fronts.{Bracket, Arguments, Exponent, Factor, Outer, Whole, Inside, Position, Front, Begins, RunCaret, PowerCaret, ItemRead, BlankRead, PlusRead, CommaRead, IsFront, IsOuter, IsBracket, AreFactors, front_then, outer_then, position_then, star_then, each_then, bracket_then, bound_made, can_end, can_be_argument, in_arguments}
 use Rattle.bound_text.specs.Steps.{front_at, walk, beginning}
 use Rattle.bound_text.proofs.CompletenessLaws.{starts, stands, walk-when, read_input, read_run_caret, read_base, appended, appended-none, AllRead, term_read, read_plus, argument_read, product_read, all_read}
 
@@ -62,31 +62,31 @@ some_end (Part b bs) h = refl
 -- the part that has been read leads to it
 pub front_read : (f : Front) → IsFront f → (rest : List Piece) → walk (Some beginning) (front_then f rest) ≡ walk (Some f) rest
 front_read f is rest =
-    outer_read f.outer is.outer (each_then plus_between f.terms (factors_then Nothing f.factors (place_then f.place f.factors rest)))
-    ∙ terms_before_read f.terms (all_read f.terms is.terms.shaped) is.terms.no_sums is.terms.shaped f.outer NoParts (factors_then Nothing f.factors (place_then f.place f.factors rest))
-    ∙ ap (λ (us : Parts). walk (starts f.outer us NoParts) (factors_then Nothing f.factors (place_then f.place f.factors rest))) (appended-none f.terms)
-    ∙ go f.place (record { outer = is.outer; terms = is.terms; factors = is.factors; place = is.place })
+    outer_read f.outer is.outer (each_then plus_between f.terms (factors_then Nothing f.factors (position_then f.position f.factors rest)))
+    ∙ terms_before_read f.terms (all_read f.terms is.terms.shaped) is.terms.no_sums is.terms.shaped f.outer NoParts (factors_then Nothing f.factors (position_then f.position f.factors rest))
+    ∙ ap (λ (us : Parts). walk (starts f.outer us NoParts) (factors_then Nothing f.factors (position_then f.position f.factors rest))) (appended-none f.terms)
+    ∙ go f.position (record { outer = is.outer; terms = is.terms; factors = is.factors; position = is.position })
   where
-    go : (place : Place) → IsFront (front_at f.outer f.terms f.factors place)
-        → walk (starts f.outer f.terms NoParts) (factors_then Nothing f.factors (place_then place f.factors rest)) ≡ walk (Some (front_at f.outer f.terms f.factors place)) rest
+    go : (position : Position) → IsFront (front_at f.outer f.terms f.factors position)
+        → walk (starts f.outer f.terms NoParts) (factors_then Nothing f.factors (position_then position f.factors rest)) ≡ walk (Some (front_at f.outer f.terms f.factors position)) rest
     go Begins is = factors_before f.factors is.factors f.outer f.terms rest
     go (RunCaret i) is =
         factors_before f.factors is.factors f.outer f.terms (Variable i ∷ Caret ∷ rest)
-        ∙ read_input f.outer f.terms f.factors i (Caret ∷ rest) is.place
-        ∙ read_run_caret f.outer f.terms f.factors i rest is.place
+        ∙ read_input f.outer f.terms f.factors i (Caret ∷ rest) is.position
+        ∙ read_run_caret f.outer f.terms f.factors i rest is.position
     go (PowerCaret c) is =
         factors_before f.factors is.factors f.outer f.terms (Number c ∷ Caret ∷ rest)
-        ∙ read_base f.outer f.terms f.factors c rest is.place
-    go ItemRead is = factors_at f.factors is.factors is.place f.outer f.terms rest
+        ∙ read_base f.outer f.terms f.factors c rest is.position
+    go ItemRead is = factors_at f.factors is.factors is.position f.outer f.terms rest
     go BlankRead is =
-        factors_at f.factors is.factors (some_end f.factors is.place) f.outer f.terms (Blank ∷ rest)
-        ∙ walk-when (can_end f.factors) (front_at f.outer f.terms f.factors BlankRead) rest is.place
+        factors_at f.factors is.factors (some_end f.factors is.position) f.outer f.terms (Blank ∷ rest)
+        ∙ walk-when (can_end f.factors) (front_at f.outer f.terms f.factors BlankRead) rest is.position
     go PlusRead is =
-        factors_at f.factors is.factors (some_end f.factors is.place) f.outer f.terms (Blank ∷ Plus ∷ rest)
-        ∙ walk-when (can_end f.factors) (front_at f.outer f.terms f.factors BlankRead) (Plus ∷ rest) is.place
+        factors_at f.factors is.factors (some_end f.factors is.position) f.outer f.terms (Blank ∷ Plus ∷ rest)
+        ∙ walk-when (can_end f.factors) (front_at f.outer f.terms f.factors BlankRead) (Plus ∷ rest) is.position
     go CommaRead is =
-        factors_at f.factors is.factors (some_argument f.outer is.place) f.outer f.terms (Comma ∷ rest)
-        ∙ walk-when (can_be_argument f.outer f.terms f.factors) (front_at f.outer f.terms f.factors CommaRead) rest is.place
+        factors_at f.factors is.factors (some_argument f.outer is.position) f.outer f.terms (Comma ∷ rest)
+        ∙ walk-when (can_be_argument f.outer f.terms f.factors) (front_at f.outer f.terms f.factors CommaRead) rest is.position
       where
         some_argument : (outer : Outer) → can_be_argument outer f.terms f.factors ≡ true → is_empty f.factors ≡ false
         some_argument outer h = some (in_arguments outer) (can_end f.factors) (not (is_maximum (bound_made f.terms f.factors))) h (some_end f.factors)

@@ -4,7 +4,7 @@ use Rattle.std.specs.Prelude.{⊤}
 use Rattle.model.specs.Bounds.{Bound, Constant, Input, SumOf, ProductOf, MaximumOf, PowerOf, Parts, NoParts, Part}
 use Rattle.bound_text.specs.Shapes.{with_part}
 use Rattle.bound_text.specs.Pieces.{Piece, Number, Caret}
-use Rattle.bound_text.specs.Fronts.{Bracket, Arguments, Exponent, Factor, Inside, Front, Place, Begins, RunCaret, PowerCaret, ItemRead, BlankRead, PlusRead, CommaRead, IsFront, nodes_of, last, term_of, bound_made}
+use Rattle.bound_text.specs.Fronts.{Bracket, Arguments, Exponent, Factor, Inside, Front, Position, Begins, RunCaret, PowerCaret, ItemRead, BlankRead, PlusRead, CommaRead, IsFront, nodes_of, last, term_of, bound_made}
 use Rattle.bound_text.specs.Steps.{step, with_copies, front_at, behind_factor, item_of}
 use Rattle.bound_text.specs.Checks.{begins}
 use Rattle.bound_text.proofs.PartLaws.{last-with_part}
@@ -50,8 +50,8 @@ keeps_back n f g piece (of_power o ts fs c j) m k = let t = kept-less n fs (Powe
 keeps_back n f g piece (of_power_of o ts fs c i) m k = let t = kept-less n fs (PowerOf c (Input i)) k.factors in (kept_front n o ts fs (PowerCaret c) k.outer k.terms t.0 t.1.0, t.1.1)
 keeps_back n f g piece (of_exponent o ts fs c) m k = (kept_front n o ts fs (PowerCaret c) k.outer.3 k.outer.1 k.outer.2 k.outer.0, tt)
 keeps_back n f g piece (of_times o ts fs e) m k = (kept_front n o ts fs ItemRead k.outer k.terms k.factors tt, tt)
-keeps_back n f g piece (of_base o ts fs c) m k = (kept_front n o ts (with_part fs (Constant c)) ItemRead k.outer k.terms (kept-more n fs (Constant c) k.factors (let p = k.place in omega (arith, p))) tt, tt)
-keeps_back n f g piece (of_caret o ts fs i) m k = (kept_front n o ts (with_part fs (Input i)) ItemRead k.outer k.terms (kept-more n fs (Input i) k.factors k.place) tt, tt)
+keeps_back n f g piece (of_base o ts fs c) m k = (kept_front n o ts (with_part fs (Constant c)) ItemRead k.outer k.terms (kept-more n fs (Constant c) k.factors (let p = k.position in omega (arith, p))) tt, tt)
+keeps_back n f g piece (of_caret o ts fs i) m k = (kept_front n o ts (with_part fs (Input i)) ItemRead k.outer k.terms (kept-more n fs (Input i) k.factors k.position) tt, tt)
 keeps_back n f g piece (of_blank o ts fs e) m k = (kept_front n o ts fs ItemRead k.outer k.terms k.factors tt, tt)
 keeps_back n f g piece (of_comma o ts fs e) m k = (kept_front n o ts fs ItemRead k.outer k.terms k.factors tt, tt)
 keeps_back n f g piece (of_close bracket o ts' fs' ts fs e c) m k =
@@ -83,7 +83,7 @@ pub base_fits : (n : ℕ) (f g : Front) → Leads f Caret g → IsFront g → Ke
 base_fits n f g leads is kept = go f g Caret leads refl is kept
   where
     go : (f g : Front) (piece : Piece) → Leads f piece g → piece ≡ Caret → IsFront g → KeptFront n g → BaseFits (last f.factors)
-    go f g piece (of_base o ts fs c) e is kept = subst BaseFits (sym (last-with_part fs (Constant c))) (is.place, kept.place)
+    go f g piece (of_base o ts fs c) e is kept = subst BaseFits (sym (last-with_part fs (Constant c))) (is.position, kept.position)
     go f g piece (of_caret o ts fs i) e is kept = subst BaseFits (sym (last-with_part fs (Input i))) tt
     go f g piece (of_variable o ts fs i) e is kept = cc
     go f g piece (of_number o ts fs c) e is kept = cc
@@ -102,10 +102,10 @@ base_fits n f g leads is kept = go f g Caret leads refl is kept
     go f g piece (of_argument o bs ts' fs' ts fs h) e is kept = cc
 
 -- where a number begins an item
-pub begin_number : (f g : Front) (c : ℕ) → begins f.place ≡ true → step f (Number c) ≡ Some g → last g.factors ≡ Some (Constant c)
-begin_number f g c b e = go f.place b e
+pub begin_number : (f g : Front) (c : ℕ) → begins f.position ≡ true → step f (Number c) ≡ Some g → last g.factors ≡ Some (Constant c)
+begin_number f g c b e = go f.position b e
   where
-    go : (place : Place) → begins place ≡ true → step (front_at f.outer f.terms f.factors place) (Number c) ≡ Some g → last g.factors ≡ Some (Constant c)
+    go : (position : Position) → begins position ≡ true → step (front_at f.outer f.terms f.factors position) (Number c) ≡ Some g → last g.factors ≡ Some (Constant c)
     go Begins b e = let same : behind_factor f.outer f.terms f.factors (Constant c) ≡ g = cc in ap (λ (h : Front). last h.factors) (sym same) ∙ last-with_part f.factors (Constant c)
     go (RunCaret i) b e = cc
     go (PowerCaret d) b e = cc

@@ -8,7 +8,7 @@ use Rattle.bound_expr.specs.Tidy.{IsTidy, AreTidy}
 use Rattle.bound_text.specs.Shapes.{with_part, IsShaped, AreShaped}
 use Rattle.bound_text.specs.Texts.{HasShortBases, HaveShortBases}
 use Rattle.bound_text.specs.Pieces.{Piece, Variable, Number, Maximum, Open, Close, Times, Caret, Plus, Blank, Comma, Wrong}
-use Rattle.bound_text.specs.Fronts.{Bracket, Arguments, Exponent, Factor, Outer, Whole, Inside, Place, Front, Begins, RunCaret, PowerCaret, ItemRead, BlankRead, PlusRead, CommaRead, last, term_of, bound_made}
+use Rattle.bound_text.specs.Fronts.{Bracket, Arguments, Exponent, Factor, Outer, Whole, Inside, Position, Front, Begins, RunCaret, PowerCaret, ItemRead, BlankRead, PlusRead, CommaRead, last, term_of, bound_made}
 use Rattle.bound_text.specs.Steps.{with_copies, front_at, can_close, item_of}
 use Rattle.bound_text.specs.Checks.{begins, is_large_base, is_large_number, has_large_base}
 use Rattle.bound_text.proofs.PartLaws.{last-with_part}
@@ -40,21 +40,21 @@ abbrev pub KeptOuter : ℕ → Outer → Type 0
 KeptOuter n Whole = ⊤
 KeptOuter n (Inside bracket ts fs outer) = KeptBracket n bracket × AllKept n ts × AllKept n fs × KeptOuter n outer
 
--- and of a place
-abbrev pub KeptPlace : ℕ → Place → Type 0
-KeptPlace n (RunCaret i) = i < n
-KeptPlace n (PowerCaret c) = c < 2 ^ 64
-KeptPlace n Begins = ⊤
-KeptPlace n ItemRead = ⊤
-KeptPlace n BlankRead = ⊤
-KeptPlace n PlusRead = ⊤
-KeptPlace n CommaRead = ⊤
+-- and of a position
+abbrev pub KeptPosition : ℕ → Position → Type 0
+KeptPosition n (RunCaret i) = i < n
+KeptPosition n (PowerCaret c) = c < 2 ^ 64
+KeptPosition n Begins = ⊤
+KeptPosition n ItemRead = ⊤
+KeptPosition n BlankRead = ⊤
+KeptPosition n PlusRead = ⊤
+KeptPosition n CommaRead = ⊤
 
 pub record KeptFront (n : ℕ) (f : Front) : Type 0 where
   pub outer : KeptOuter n f.outer
   pub terms : AllKept n f.terms
   pub factors : AllKept n f.factors
-  pub place : KeptPlace n f.place
+  pub position : KeptPosition n f.position
 
 -- a piece that the checks let through
 abbrev pub KeptPiece : ℕ → Piece → Type 0
@@ -108,8 +108,8 @@ kept_item n (Exponent c) b all here = (all, here)
 kept_item n Factor b all here = here
 
 -- a kept front, put together
-pub kept_front : (n : ℕ) (o : Outer) (ts fs : Parts) (place : Place) → KeptOuter n o → AllKept n ts → AllKept n fs → KeptPlace n place → KeptFront n (front_at o ts fs place)
-kept_front n o ts fs place a b c d = record { outer = a; terms = b; factors = c; place = d }
+pub kept_front : (n : ℕ) (o : Outer) (ts fs : Parts) (position : Position) → KeptOuter n o → AllKept n ts → AllKept n fs → KeptPosition n position → KeptFront n (front_at o ts fs position)
+kept_front n o ts fs position a b c d = record { outer = a; terms = b; factors = c; position = d }
 
 -- a base that isn't too large
 not_large : (c : ℕ) (fs : Parts) → is_large_number (last (with_part fs (Constant c))) ≡ false → c < 2 ^ 64
@@ -121,10 +121,10 @@ keeps n f g piece (of_variable o ts fs i) k p h = kept_front n o ts (with_part f
 keeps n f g piece (of_number o ts fs c) k p h = kept_front n o ts (with_part fs (Constant c)) ItemRead k.outer k.terms (kept-more n fs (Constant c) k.factors p) tt
 keeps n f g piece (of_maximum o ts fs) k p h = kept_front n (Inside (Arguments NoParts) ts fs o) NoParts NoParts Begins (tt, k.terms, k.factors, k.outer) tt tt tt
 keeps n f g piece (of_sum o ts fs) k p h = kept_front n (Inside Factor ts fs o) NoParts NoParts Begins (tt, k.terms, k.factors, k.outer) tt tt tt
-keeps n f g piece (of_run o ts fs i m) k p h = kept_front n o ts (with_copies (suc (suc m)) i fs) ItemRead k.outer k.terms (kept-copies n (suc (suc m)) i fs k.place k.factors) tt
-keeps n f g piece (of_power o ts fs c m) k p h = kept_front n o ts (with_part fs (PowerOf c (Constant m))) ItemRead k.outer k.terms (kept-more n fs (PowerOf c (Constant m)) k.factors (k.place, p)) tt
-keeps n f g piece (of_power_of o ts fs c i) k p h = kept_front n o ts (with_part fs (PowerOf c (Input i))) ItemRead k.outer k.terms (kept-more n fs (PowerOf c (Input i)) k.factors (k.place, p)) tt
-keeps n f g piece (of_exponent o ts fs c) k p h = kept_front n (Inside (Exponent c) ts fs o) NoParts NoParts Begins (k.place, k.terms, k.factors, k.outer) tt tt tt
+keeps n f g piece (of_run o ts fs i m) k p h = kept_front n o ts (with_copies (suc (suc m)) i fs) ItemRead k.outer k.terms (kept-copies n (suc (suc m)) i fs k.position k.factors) tt
+keeps n f g piece (of_power o ts fs c m) k p h = kept_front n o ts (with_part fs (PowerOf c (Constant m))) ItemRead k.outer k.terms (kept-more n fs (PowerOf c (Constant m)) k.factors (k.position, p)) tt
+keeps n f g piece (of_power_of o ts fs c i) k p h = kept_front n o ts (with_part fs (PowerOf c (Input i))) ItemRead k.outer k.terms (kept-more n fs (PowerOf c (Input i)) k.factors (k.position, p)) tt
+keeps n f g piece (of_exponent o ts fs c) k p h = kept_front n (Inside (Exponent c) ts fs o) NoParts NoParts Begins (k.position, k.terms, k.factors, k.outer) tt tt tt
 keeps n f g piece (of_times o ts fs e) k p h = kept_front n o ts fs Begins k.outer k.terms k.factors tt
 keeps n f g piece (of_base o ts fs c) k p h = kept_front n o ts fs (PowerCaret c) k.outer k.terms (kept-less n fs (Constant c) k.factors).0 (not_large c fs h)
 keeps n f g piece (of_caret o ts fs i) k p h = let t = kept-less n fs (Input i) k.factors in kept_front n o ts fs (RunCaret i) k.outer k.terms t.0 t.1
@@ -155,7 +155,7 @@ item_no_number Factor (MaximumOf bs) h = cc
 item_no_number Factor (PowerOf c e) h = cc
 
 -- behind a piece no base that is too large is left
-pub large_after : (f g : Front) (piece : Piece) → Leads f piece g → begins f.place && is_large_base piece ≡ false → has_large_base g Caret ≡ false
+pub large_after : (f g : Front) (piece : Piece) → Leads f piece g → begins f.position && is_large_base piece ≡ false → has_large_base g Caret ≡ false
 large_after f g piece (of_variable o ts fs i) h = no_number (Input i) fs refl
 large_after f g piece (of_number o ts fs c) h = no_number (Constant c) fs h
 large_after f g piece (of_maximum o ts fs) h = refl

@@ -23,3 +23,4 @@ pub mod TextLexing
 pub mod Limits
 pub mod ReadingLaws
 pub mod TextAnswers
+pub mod InsideLaws

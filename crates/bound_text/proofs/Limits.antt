@@ -12,7 +12,7 @@ use Rattle.text_core.proofs.ShownFaults.{no_faults, nothing_passes}
 use Rattle.bound_expr.specs.Measure.{node_count, depth_of}
 use Rattle.bound_text.specs.Pieces.{Piece, Variable, Number, Maximum, Open, Close, Times, Caret, Plus, Blank, Comma, Wrong}
 use Rattle.bound_text.specs.Kinds.{Kind, Syntax, NumberTooLarge, UnknownName, TooDeep, TooLarge, kinds}
-use Rattle.bound_text.specs.Fronts.{Outer, Whole, Inside, Place, Front, Begins, RunCaret, PowerCaret, ItemRead, BlankRead, PlusRead, CommaRead, nodes_of, levels_of, last, bound_made, can_end}
+use Rattle.bound_text.specs.Fronts.{Outer, Whole, Inside, Position, Front, Begins, RunCaret, PowerCaret, ItemRead, BlankRead, PlusRead, CommaRead, nodes_of, levels_of, last, bound_made, can_end}
 use Rattle.bound_text.specs.Steps.{step, step_at, finish_at, front_at}
 use Rattle.bound_text.specs.Checks.{is_large, is_small_base, is_large_base, is_unlisted, begins, has_large_base, has_large_base_at, is_caret, caret_next}
 use Rattle.bound_text.specs.Reading.{is_base, is_deep, has_many, stands, bounds}
@@ -25,16 +25,16 @@ use Rattle.bound_text.proofs.ReaderLaws.{is_front}
 use Rattle.bound_expr.specs.Limits.{depth_limit, node_limit}
 
 -- a base that is too large has no `^` behind it
-pub base_ok : (place : Place) (fs : Parts) (piece : Piece) → (is_caret piece ≡ true → has_large_base_at place fs Caret ≡ false) → has_large_base_at place fs piece ≡ false
-base_ok place fs Caret h = h refl
+pub base_ok : (position : Position) (fs : Parts) (piece : Piece) → (is_caret piece ≡ true → has_large_base_at position fs Caret ≡ false) → has_large_base_at position fs piece ≡ false
+base_ok position fs Caret h = h refl
 base_ok ItemRead fs piece h = refl
-base_ok place fs piece h = refl
+base_ok position fs piece h = refl
 
 -- what is no piece of a text leads nowhere
 wrong_none : (f : Front) → step f Wrong ≡ None
-wrong_none f = go f.place
+wrong_none f = go f.position
   where
-    go : (place : Place) → step_at place f.outer f.terms f.factors Wrong ≡ None
+    go : (position : Position) → step_at position f.outer f.terms f.factors Wrong ≡ None
     go Begins = refl
     go (RunCaret i) = refl
     go (PowerCaret c) = refl
@@ -113,15 +113,15 @@ module _ (n : ℕ) (f g : Front) (piece : Piece) (behind : List Piece) (led : st
 
   -- and behind it `^` follows no base that is too large
   pub base_kept : Leads f piece g → caret_next behind ≡ true → has_large_base g Caret ≡ false
-  base_kept leads h = large_after f g piece leads (sym (ap (λ (v : Bool). v && is_large_base piece) (with_caret (begins f.place) (caret_next behind) h)) ∙ (or_parts (is_large piece) (is_base f behind && is_large_base piece) (none NumberTooLarge)).1)
+  base_kept leads h = large_after f g piece leads (sym (ap (λ (v : Bool). v && is_large_base piece) (with_caret (begins f.position) (caret_next behind) h)) ∙ (or_parts (is_large piece) (is_base f behind && is_large_base piece) (none NumberTooLarge)).1)
     where
       with_caret : (a b : Bool) → b ≡ true → a && b ≡ a
       with_caret true b h = h
       with_caret false b h = refl
 
 -- a bound that a text ends at is no larger than what has been read, and is kept like it
-measures : (n : ℕ) (place : Place) (outer : Outer) (ts fs : Parts) (b : Bound) → finish_at place outer ts fs ≡ Some b
-    → (KeptFront n (front_at outer ts fs place) → Kept n b) × (depth_of b ≤ levels_of (front_at outer ts fs place)) × (node_count b ≤ nodes_of (front_at outer ts fs place))
+measures : (n : ℕ) (position : Position) (outer : Outer) (ts fs : Parts) (b : Bound) → finish_at position outer ts fs ≡ Some b
+    → (KeptFront n (front_at outer ts fs position) → Kept n b) × (depth_of b ≤ levels_of (front_at outer ts fs position)) × (node_count b ≤ nodes_of (front_at outer ts fs position))
 measures n ItemRead Whole ts fs b h =
     let t = when-some (can_end fs) (bound_made ts fs) b h in
     let d = bound_depth ts fs t.0 in
@@ -141,20 +141,20 @@ measures n CommaRead outer ts fs b h = cc
 -- the reader leads to bounds within the limits
 pub keeps_limits : (n : ℕ) → KeepsLimits (bounds n) (IsKeptWithin n) (IsKept n)
 keeps_limits n = record {
-  begins = λ ps. record { kept = record { outer = tt; terms = tt; factors = tt; place = tt }; levels = omega arith; nodes = omega arith; bases = λ h. refl };
+  begins = λ ps. record { kept = record { outer = tt; terms = tt; factors = tt; position = tt }; levels = omega arith; nodes = omega arith; bases = λ h. refl };
   goes_on = λ len done f g t rest e k nothing led.
       let none : (kind : Kind) → stands n f t.piece (pieces rest) kind ≡ false = λ kind. nothing_passes t.at (stands n f t.piece (pieces rest)) kinds kind (each_kind kind) nothing in
       let leads = step_leads f g t.piece (is_front n (pieces done) f e) led in
       record {
-        kept = keeps n f g t.piece leads k.kept (kept_piece n f g t.piece (pieces rest) led none) (base_ok f.place f.factors t.piece (λ h. k.bases (ap is_caret (caret_piece t.piece h))));
+        kept = keeps n f g t.piece leads k.kept (kept_piece n f g t.piece (pieces rest) led none) (base_ok f.position f.factors t.piece (λ h. k.bases (ap is_caret (caret_piece t.piece h))));
         levels = lt_false depth_limit (levels_of g) (sym (ap is_deep led) ∙ none TooDeep);
         nodes = lt_false node_limit (nodes_of g) (sym (ap has_many led) ∙ none TooLarge);
         bases = base_kept n f g t.piece (pieces rest) led none leads;
       };
   ends = λ done f b e k fin.
-      let m = measures n f.place f.outer f.terms f.factors b fin in
+      let m = measures n f.position f.outer f.terms f.factors b fin in
       let l = k.levels in let s = k.nodes in
-      record { kept = m.0 (record { outer = k.kept.outer; terms = k.kept.terms; factors = k.kept.factors; place = k.kept.place }); levels = (let d = m.1 in omega (arith, d, l)); nodes = (let c = m.2 in omega (arith, c, s)) };
+      record { kept = m.0 (record { outer = k.kept.outer; terms = k.kept.terms; factors = k.kept.factors; position = k.kept.position }); levels = (let d = m.1 in omega (arith, d, l)); nodes = (let c = m.2 in omega (arith, c, s)) };
 }
 
 -- nothing stands against the first of these pieces
@@ -175,7 +175,7 @@ module _ (n : ℕ) (f g : Front) (piece : Piece) (behind : List Piece) (led : st
   -- a base fits
   fitting : (c : ℕ) → is_base f behind ≡ true → piece ≡ Number c → BaseFits (Some (Constant c))
   fitting c base e =
-      let t = and_parts (begins f.place) (caret_next behind) base in
+      let t = and_parts (begins f.position) (caret_next behind) base in
       subst BaseFits (begin_number f g c t.0 (sym (ap (step f) e) ∙ led)) (fits t.1)
 
   -- so it isn't under 2
@@ -220,7 +220,7 @@ module _ (n : ℕ) (f g : Front) (piece : Piece) (behind : List Piece) (led : st
   nothing_here shallow small TooLarge = ap has_many led ∙ false_lt node_limit (nodes_of g) small
 
 -- what a bound within the limits ends
-ended_small : (n : ℕ) (place : Place) (outer : Outer) (ts fs : Parts) (b : Bound) → finish_at place outer ts fs ≡ Some b → IsKeptWithin n b → IsSmall n (front_at outer ts fs place) []
+ended_small : (n : ℕ) (position : Position) (outer : Outer) (ts fs : Parts) (b : Bound) → finish_at position outer ts fs ≡ Some b → IsKeptWithin n b → IsSmall n (front_at outer ts fs position) []
 ended_small n ItemRead Whole ts fs b h w =
     let t = when-some (can_end fs) (bound_made ts fs) b h in
     let q = bound_kept n ts fs (subst (Kept n) (sym t.1) w.kept) in
@@ -247,8 +247,8 @@ ended_small n CommaRead outer ts fs b h w = cc
 pub shows_no_limit : (n : ℕ) → ShowsNoLimit (bounds n) (IsKeptWithin n) (IsSmall n)
 shows_no_limit n = record {
   ends = λ done f b e fin w.
-      let s = ended_small n f.place f.outer f.terms f.factors b fin w in
-      record { kept = record { outer = s.kept.outer; terms = s.kept.terms; factors = s.kept.factors; place = s.kept.place }; levels = s.levels; nodes = s.nodes; bases = s.bases; none = tt };
+      let s = ended_small n f.position f.outer f.terms f.factors b fin w in
+      record { kept = record { outer = s.kept.outer; terms = s.kept.terms; factors = s.kept.factors; position = s.kept.position }; levels = s.levels; nodes = s.nodes; bases = s.bases; none = tt };
   goes_back = λ done f g p ps e led s.
       let is = is_front n done f e in
       let leads = step_leads f g p is led in

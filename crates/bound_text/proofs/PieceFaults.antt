@@ -115,5 +115,5 @@ module _ (n : ℕ) (f : Front) (piece : Piece) (behind : List Piece) where
   -- what taking the piece comes to
   pub piece_judged : IsFront f → levels_of f ≤ depth_limit → has_large_base f piece ≡ false → IsJudged (checked n (caret_next behind) f piece)
   piece_judged is shallow h =
-      subst (λ (v : Bool). IsJudged (cond v (Refused NumberTooLarge) (judged (fault_of n (begins f.place && caret_next behind) piece) (step f piece)))) (sym h)
+      subst (λ (v : Bool). IsJudged (cond v (Refused NumberTooLarge) (judged (fault_of n (begins f.position && caret_next behind) piece) (step f piece)))) (sym h)
       (judge is shallow (step f piece) refl _ _ _ refl refl refl)

@@ -1,14 +1,15 @@
 -- The reader of bounds keeps the laws of a reader, and its fronts tell what has been read.
-use Rattle.std.proofs.Common.{◌≡◌, ℕ, Bool, true, false, cond, List, [], ◌∷◌, Option, Some, None, refl, ap, sym, ◌∙◌, inl, inr}
+use Rattle.std.proofs.Common.{◌≡◌, ℕ, Bool, true, false, cond, List, [], ◌∷◌, Option, Some, None, refl, ap, sym, ◌∙◌, inl, inr, arith}
 use Rattle.std.specs.Prelude.{◌⊎◌}
 use Rattle.model.specs.Bounds.{Bound, Constant, Input, PowerOf, Parts}
 use Rattle.text_core.specs.Readers.{onto, next, reached, IsBeginning}
 use Rattle.text_core.specs.Laws.{Laws}
 use Rattle.text_core.proofs.Walks.{walk-onto, onto-append}
 use Rattle.text_core.proofs.FirstFaults.{nowhere_begins}
+use Rattle.bound_text.specs.Kinds.{Kind, Syntax, NumberTooLarge, UnknownName, TooDeep, TooLarge, number_of}
 use Rattle.bound_text.specs.Shapes.{with_part}
 use Rattle.bound_text.specs.Pieces.{Piece, Number, Caret}
-use Rattle.bound_text.specs.Fronts.{Outer, Front, Place, Begins, RunCaret, PowerCaret, ItemRead, BlankRead, PlusRead, CommaRead, Whole, IsFront, last, init}
+use Rattle.bound_text.specs.Fronts.{Outer, Front, Position, Begins, RunCaret, PowerCaret, ItemRead, BlankRead, PlusRead, CommaRead, Whole, IsFront, last, init}
 use Rattle.bound_text.specs.Checks.{begins, takes_caret}
 use Rattle.bound_text.specs.Steps.{step, step_at, walk, beginning, with_copies, front_at, caret_behind}
 use Rattle.bound_text.specs.Faults.{FrontsAreRead}
@@ -26,12 +27,22 @@ walked n done f e = walk-onto (bounds n) done [] ∙ e
 pub is_front : (n : ℕ) (done : List Piece) (f : Front) → reached (bounds n) done ≡ Some f → IsFront f
 is_front n done f e = (walk_read (onto done []) f (walked n done f e)).is_front
 
+-- kinds differ in their numbers
+kinds_differ : (a b : Kind) → number_of a ≡ number_of b → a ≡ b
+kinds_differ Syntax Syntax h = refl
+kinds_differ NumberTooLarge NumberTooLarge h = refl
+kinds_differ UnknownName UnknownName h = refl
+kinds_differ TooDeep TooDeep h = refl
+kinds_differ TooLarge TooLarge h = refl
+kinds_differ a b h = absurd (omega (arith, h))
+
 -- the laws
 pub bound_laws : (n : ℕ) → Laws (bounds n)
 bound_laws n = record {
   goes_on = λ done f e. let b = walk_begins (onto done []) f (walked n done f e) in (b.0, b.1, (b.2, b.3 ∙ sym (onto-append done [] b.1)));
   ends = λ done f t e fin. walk_whole (onto done []) f t (walked n done f e) fin;
   reads = λ t ps w. let x = whole_walk ps t w.0 w.1 in (front_at Whole (terms_in t) (factors_in t) ItemRead, x.0, x.1);
+  differ = kinds_differ;
 }
 
 -- where nothing takes `^`, none can follow
@@ -42,10 +53,10 @@ no_caret fs (Some (Input i)) o ts h = ap (λ (v : Bool). cond v (Some (front_at 
 no_caret fs (Some b) o ts h = refl
 
 -- a base can stand where an item begins alone
-base_begins : (f : Front) → next step (step f (Number 2)) Caret ≡ None ⊎ (begins f.place ≡ true)
-base_begins f = go f.place
+base_begins : (f : Front) → next step (step f (Number 2)) Caret ≡ None ⊎ (begins f.position ≡ true)
+base_begins f = go f.position
   where
-    go : (place : Place) → next step (step_at place f.outer f.terms f.factors (Number 2)) Caret ≡ None ⊎ (begins place ≡ true)
+    go : (position : Position) → next step (step_at position f.outer f.terms f.factors (Number 2)) Caret ≡ None ⊎ (begins position ≡ true)
     go Begins = inr refl
     go (RunCaret i) = inl (no_caret (init (with_copies 2 i f.factors)) (last (with_copies 2 i f.factors)) f.outer f.terms (run_settled 0 i f.factors))
     go (PowerCaret c) = inl (ap (λ (b : Option Bound). caret_behind f.outer f.terms (init (with_part f.factors (PowerOf c (Constant 2)))) b) (last-with_part f.factors (PowerOf c (Constant 2))))
@@ -55,10 +66,10 @@ base_begins f = go f.place
     go CommaRead = inl refl
 
 -- where an item begins a base can stand
-begins_base : (f : Front) → begins f.place ≡ true → (g : Front) × (next step (step f (Number 2)) Caret ≡ Some g)
-begins_base f h = go f.place h
+begins_base : (f : Front) → begins f.position ≡ true → (g : Front) × (next step (step f (Number 2)) Caret ≡ Some g)
+begins_base f h = go f.position h
   where
-    go : (place : Place) → begins place ≡ true → (g : Front) × (next step (step_at place f.outer f.terms f.factors (Number 2)) Caret ≡ Some g)
+    go : (position : Position) → begins position ≡ true → (g : Front) × (next step (step_at position f.outer f.terms f.factors (Number 2)) Caret ≡ Some g)
     go Begins h = (
       front_at f.outer f.terms f.factors (PowerCaret 2),
       ap (λ (b : Option Bound). caret_behind f.outer f.terms (init (with_part f.factors (Constant 2))) b) (last-with_part f.factors (Constant 2))
@@ -84,6 +95,6 @@ fronts_are_read = record {
   begins = λ n done f e b. go n done f e b (base_begins f);
 }
   where
-    go : (n : ℕ) (done : List Piece) (f : Front) → reached (bounds n) done ≡ Some f → IsBeginning (bounds n) (Caret ∷ Number 2 ∷ done) → next step (step f (Number 2)) Caret ≡ None ⊎ (begins f.place ≡ true) → begins f.place ≡ true
+    go : (n : ℕ) (done : List Piece) (f : Front) → reached (bounds n) done ≡ Some f → IsBeginning (bounds n) (Caret ∷ Number 2 ∷ done) → next step (step f (Number 2)) Caret ≡ None ⊎ (begins f.position ≡ true) → begins f.position ≡ true
     go n done f e b (inr h) = h
     go n done f e b (inl none) = absurd (nowhere_begins (bounds n) (bound_laws n) (Caret ∷ Number 2 ∷ done) (two_more n done f (Number 2) Caret e ∙ none) b)

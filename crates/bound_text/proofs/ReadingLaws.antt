@@ -85,15 +85,6 @@ pub caret-tokens : (names : List Name) (at : ℕ) (bytes : List ℕ) → caret_n
 caret-tokens names at [] = refl
 caret-tokens names at (b ∷ bytes) = lexeme_caret names b bytes
 
--- kinds differ in their numbers
-kinds_differ : (a b : Kind) → number_of a ≡ number_of b → a ≡ b
-kinds_differ Syntax Syntax h = refl
-kinds_differ NumberTooLarge NumberTooLarge h = refl
-kinds_differ UnknownName UnknownName h = refl
-kinds_differ TooDeep TooDeep h = refl
-kinds_differ TooLarge TooLarge h = refl
-kinds_differ a b h = absurd (omega (arith, h))
-
 -- everything that is shown stands at the next token
 shown_next : (n len : ℕ) (f : Front) (rest : List (Token Piece)) (x : text.Fault Kind) → Among x (shown n f rest) → x.at ≡ next_at len rest
 shown_next n len f [] x a = absurd a
@@ -111,7 +102,7 @@ run_taken n len done rest f g t is =
 -- a piece that is refused decides
 run_refused : (n len : ℕ) (done rest : List (Token Piece)) (f : Front) (t : Token Piece) (kind : Kind) → reached (bounds n) (pieces done) ≡ Some f → t.at < t.upto → AreInOrder t.upto rest len → IsRefused n f t.piece (pieces rest) kind
     → run (bounds n) len (Going None done f) (t ∷ rest) ≡ RefusedBy (record { kind = kind; at = t.at })
-run_refused n len done rest f t kind led some order is = first_ahead (bounds n) (bound_laws n) kinds_differ len done (t ∷ rest) f (record { kind = kind; at = t.at }) led (here is.is) least
+run_refused n len done rest f t kind led some order is = first_ahead (bounds n) (bound_laws n) len done (t ∷ rest) f (record { kind = kind; at = t.at }) led (here is.is) least
   where
     here : (stands n f t.piece (pieces rest) kind ≡ true) ⊎ ((step f t.piece ≡ None) × (kind ≡ Syntax)) → Ahead (bounds n) len done (Some f) (t ∷ rest) (record { kind = kind; at = t.at })
     here (inl s) = inl (inl (fault_among t.at (stands n f t.piece (pieces rest)) kinds kind (each_kind kind) s))
@@ -227,7 +218,7 @@ module _ (names : List Name) (bytes left others behind : List ℕ) (b : ℕ) (l 
     piece_is : (f : Front) (d : Decides names bytes left f) → IsJudged (length names) f l.piece (pieces (left_tokens names bytes behind)) (checked (length names) (caret_next (pieces (left_tokens names bytes behind))) f l.piece)
     piece_is f d =
         piece_judged (length names) f l.piece (pieces (left_tokens names bytes behind)) (is_front (length names) (pieces d.done) f d.led) d.shallow
-        (base_ok f.place f.factors l.piece (λ h. d.bases (ap (begins_with 94) first ∙ sym (lexeme_caret names b others) ∙ sym (ap (λ (m : Lexeme Piece). is_caret m.piece) found_at) ∙ h)))
+        (base_ok f.position f.factors l.piece (λ h. d.bases (ap (begins_with 94) first ∙ sym (lexeme_caret names b others) ∙ sym (ap (λ (m : Lexeme Piece). is_caret m.piece) found_at) ∙ h)))
 
     module _ (m : ℕ) (f : Front) (r : Reader) (piece : Piece) (caret : Bool) (result : Result (Unit {0}) Fault) (listed : m ≡ length names) (piece_same : piece ≡ l.piece) (caret_same : caret ≡ begins_with 94 behind)
         (obeys : Obeys (checked m caret f piece) r result) where

@@ -6,7 +6,7 @@ use Rattle.bound_expr.specs.Tidy.{part_count, IsNoSum, IsNoProduct, IsNoMaximum,
 use Rattle.bound_text.specs.Shapes.{is_sum, is_maximum, is_empty, with_part, IsShaped, AreShaped}
 use Rattle.bound_text.specs.Pieces.{Piece, Variable, Number, Maximum, Open, Close, Times, Caret, Plus, Blank, Comma}
 use Rattle.bound_text.specs.Writing.{Nothing, bracketed_then, text_then, factors_then, plus_between, comma_between}
-use Rattle.bound_text.specs.Fronts.{Bracket, Arguments, Exponent, Factor, Outer, Whole, Inside, Place, Front, Begins, RunCaret, PowerCaret, ItemRead, BlankRead, PlusRead, CommaRead, IsFront, IsOuter, IsBracket, IsPlace, AreTerms, AreFactors, front_then, outer_then, place_then, star_then, each_then, bracket_then, last, init, is_input, term_of, bound_made, can_end, can_be_argument}
+use Rattle.bound_text.specs.Fronts.{Bracket, Arguments, Exponent, Factor, Outer, Whole, Inside, Position, Front, Begins, RunCaret, PowerCaret, ItemRead, BlankRead, PlusRead, CommaRead, IsFront, IsOuter, IsBracket, IsPosition, AreTerms, AreFactors, front_then, outer_then, position_then, star_then, each_then, bracket_then, last, init, is_input, term_of, bound_made, can_end, can_be_argument}
 use Rattle.bound_text.specs.Steps.{when, with_copies, front_at, inside, behind_factor, begin_item, end_run, begin_exponent, caret_behind, can_close, item_of, close_bracket, follow_item, end_argument, step, step_at, beginning, finish}
 use Rattle.std.proofs.lemmas.Bool.{and_parts, not-true}
 use Rattle.bound_text.proofs.PartLaws.{is_empty-with_part, last-with_part, init-with_part}
@@ -66,10 +66,10 @@ no_factors : AreFactors NoParts
 no_factors = record { no_products = tt; shaped = tt }
 
 -- one more factor
-more_factor : (outer : Outer) (ts fs : Parts) (place : Place) (b : Bound) (piece : Piece) → IsFront (front_at outer ts fs place) → IsShaped b → IsNoProduct b
-    → ((rest : List Piece) → factors_then Nothing (with_part fs b) rest ≡ factors_then Nothing fs (place_then place fs (piece ∷ rest))) → Extends (front_at outer ts fs place) piece (behind_factor outer ts fs b)
-more_factor outer ts fs place b piece is shaped none texts = record {
-  is_front = record { outer = is.outer; terms = is.terms; factors = factors-more fs b is.factors shaped none; place = is_empty-with_part fs b };
+more_factor : (outer : Outer) (ts fs : Parts) (position : Position) (b : Bound) (piece : Piece) → IsFront (front_at outer ts fs position) → IsShaped b → IsNoProduct b
+    → ((rest : List Piece) → factors_then Nothing (with_part fs b) rest ≡ factors_then Nothing fs (position_then position fs (piece ∷ rest))) → Extends (front_at outer ts fs position) piece (behind_factor outer ts fs b)
+more_factor outer ts fs position b piece is shaped none texts = record {
+  is_front = record { outer = is.outer; terms = is.terms; factors = factors-more fs b is.factors shaped none; position = is_empty-with_part fs b };
   text = λ rest. ap (λ (ps : List Piece). outer_then outer (each_then plus_between ts ps)) (texts rest);
 }
 
@@ -91,13 +91,13 @@ begin_sound outer ts fs (Number c) g is h =
 begin_sound outer ts fs Maximum g is h =
     let e : inside (Arguments NoParts) outer ts fs ≡ g = cc in
     subst (Extends (front_at outer ts fs Begins) Maximum) e (record {
-      is_front = record { outer = (record { no_maximums = tt; shaped = tt }, is.terms, is.factors, is.outer); terms = no_parts; factors = no_factors; place = tt };
+      is_front = record { outer = (record { no_maximums = tt; shaped = tt }, is.terms, is.factors, is.outer); terms = no_parts; factors = no_factors; position = tt };
       text = λ rest. refl;
     })
 begin_sound outer ts fs Open g is h =
     let e : inside Factor outer ts fs ≡ g = cc in
     subst (Extends (front_at outer ts fs Begins) Open) e (record {
-      is_front = record { outer = (tt, is.terms, is.factors, is.outer); terms = no_parts; factors = no_factors; place = tt };
+      is_front = record { outer = (tt, is.terms, is.factors, is.outer); terms = no_parts; factors = no_factors; position = tt };
       text = λ rest. refl;
     })
 begin_sound outer ts fs piece g is h = cc
@@ -110,10 +110,10 @@ run_sound outer ts fs i (Number (suc (suc n))) g is h =
     let more : nat_lt 1 (suc (suc n)) ≡ true = grind (arith, nat_tests) in
     let t = when-some (nat_lt 1 (suc (suc n))) (front_at outer ts (with_copies (suc (suc n)) i fs) ItemRead) g h in
     subst (Extends (front_at outer ts fs (RunCaret i)) (Number (suc (suc n)))) t.1 (record {
-      is_front = record { outer = is.outer; terms = is.terms; factors = copies-more (suc (suc n)) i fs is.factors; place = is_empty-with_part (with_copies (suc n) i fs) (Input i) };
+      is_front = record { outer = is.outer; terms = is.terms; factors = copies-more (suc (suc n)) i fs is.factors; position = is_empty-with_part (with_copies (suc n) i fs) (Input i) };
       text = λ rest.
           ap (λ (ps : List Piece). outer_then outer (each_then plus_between ts ps))
-          (factors-run Nothing fs (suc n) i rest (ends_first fs i is.place)
+          (factors-run Nothing fs (suc n) i rest (ends_first fs i is.position)
           ∙ ap (λ (v : Bool). factors_then Nothing fs (star_then fs (Variable i ∷ cond v (Caret ∷ Number (suc (suc n)) ∷ rest) rest))) more);
     })
 run_sound outer ts fs i piece g is h = cc
@@ -124,15 +124,15 @@ exponent_sound : (outer : Outer) (ts fs : Parts) (c : ℕ) (piece : Piece) (g : 
 exponent_sound outer ts fs c (Number n) g is h =
     let e : behind_factor outer ts fs (PowerOf c (Constant n)) ≡ g = cc in
     subst (Extends (front_at outer ts fs (PowerCaret c)) (Number n)) e
-    (more_factor outer ts fs (PowerCaret c) (PowerOf c (Constant n)) (Number n) is (is.place, tt) tt (λ rest. factors-other Nothing fs (PowerOf c (Constant n)) rest refl))
+    (more_factor outer ts fs (PowerCaret c) (PowerOf c (Constant n)) (Number n) is (is.position, tt) tt (λ rest. factors-other Nothing fs (PowerOf c (Constant n)) rest refl))
 exponent_sound outer ts fs c (Variable i) g is h =
     let e : behind_factor outer ts fs (PowerOf c (Input i)) ≡ g = cc in
     subst (Extends (front_at outer ts fs (PowerCaret c)) (Variable i)) e
-    (more_factor outer ts fs (PowerCaret c) (PowerOf c (Input i)) (Variable i) is (is.place, tt) tt (λ rest. factors-other Nothing fs (PowerOf c (Input i)) rest refl))
+    (more_factor outer ts fs (PowerCaret c) (PowerOf c (Input i)) (Variable i) is (is.position, tt) tt (λ rest. factors-other Nothing fs (PowerOf c (Input i)) rest refl))
 exponent_sound outer ts fs c Open g is h =
     let e : inside (Exponent c) outer ts fs ≡ g = cc in
     subst (Extends (front_at outer ts fs (PowerCaret c)) Open) e (record {
-      is_front = record { outer = (is.place, is.terms, is.factors, is.outer); terms = no_parts; factors = no_factors; place = tt };
+      is_front = record { outer = (is.position, is.terms, is.factors, is.outer); terms = no_parts; factors = no_factors; position = tt };
       text = λ rest. refl;
     })
 exponent_sound outer ts fs c piece g is h = cc
@@ -198,7 +198,7 @@ close_sound (Inside bracket ts' fs' outer) ts fs g is h =
     let c = and_parts (can_end fs) (can_close bracket (bound_made ts fs)) t.0 in
     let item = is_item bracket (bound_made ts fs) is.outer.0 (bound_shaped ts fs is.terms is.factors c.0) c.1 in
     subst (Extends (front_at (Inside bracket ts' fs' outer) ts fs ItemRead) Close) t.1 (record {
-      is_front = record { outer = is.outer.3; terms = is.outer.1; factors = factors-more fs' (item_of bracket (bound_made ts fs)) is.outer.2 item.0 item.1; place = is_empty-with_part fs' (item_of bracket (bound_made ts fs)) };
+      is_front = record { outer = is.outer.3; terms = is.outer.1; factors = factors-more fs' (item_of bracket (bound_made ts fs)) is.outer.2 item.0 item.1; position = is_empty-with_part fs' (item_of bracket (bound_made ts fs)) };
       text = λ rest.
           ap (λ (ps : List Piece). outer_then outer (each_then plus_between ts' ps))
           (factors-other Nothing fs' (item_of bracket (bound_made ts fs)) rest item.2
@@ -218,14 +218,14 @@ caret_sound : (outer : Outer) (ts gs : Parts) (b : Bound) (g : Front) → IsFron
 caret_sound outer ts gs (Constant c) g is h =
     let t = when-some (nat_lt 1 c) (front_at outer ts gs (PowerCaret c)) g h in
     subst (Extends (front_at outer ts (with_part gs (Constant c)) ItemRead) Caret) t.1 (record {
-      is_front = record { outer = is.outer; terms = is.terms; factors = record { no_products = each-less IsNoProduct gs (Constant c) is.factors.no_products; shaped = shaped-less gs (Constant c) is.factors.shaped }; place = (let e = t.0 in grind (arith, nat_tests)) };
+      is_front = record { outer = is.outer; terms = is.terms; factors = record { no_products = each-less IsNoProduct gs (Constant c) is.factors.no_products; shaped = shaped-less gs (Constant c) is.factors.shaped }; position = (let e = t.0 in grind (arith, nat_tests)) };
       text = λ rest. ap (λ (ps : List Piece). outer_then outer (each_then plus_between ts ps)) (sym (factors-other Nothing gs (Constant c) (Caret ∷ rest) refl));
     })
 caret_sound outer ts gs (Input i) g is h =
     let t = when-some (not (is_input i (last gs))) (front_at outer ts gs (RunCaret i)) g h in
     let f = not-true (is_input i (last gs)) t.0 in
     subst (Extends (front_at outer ts (with_part gs (Input i)) ItemRead) Caret) t.1 (record {
-      is_front = record { outer = is.outer; terms = is.terms; factors = record { no_products = each-less IsNoProduct gs (Input i) is.factors.no_products; shaped = shaped-less gs (Input i) is.factors.shaped }; place = f };
+      is_front = record { outer = is.outer; terms = is.terms; factors = record { no_products = each-less IsNoProduct gs (Input i) is.factors.no_products; shaped = shaped-less gs (Input i) is.factors.shaped }; position = f };
       text = λ rest. ap (λ (ps : List Piece). outer_then outer (each_then plus_between ts ps)) (sym (factors-run Nothing gs zero i (Caret ∷ rest) (ends_first gs i f)));
     })
 caret_sound outer ts gs b g is h = cc
@@ -240,10 +240,10 @@ follow_sound : (outer : Outer) (ts fs : Parts) (piece : Piece) (g : Front) → I
 follow_sound outer ts fs Times g is h =
     let e : front_at outer ts fs Begins ≡ g = cc in
     subst (Extends (front_at outer ts fs ItemRead) Times) e (record {
-      is_front = record { outer = is.outer; terms = is.terms; factors = is.factors; place = tt };
-      text = λ rest. ap (λ (ps : List Piece). outer_then outer (each_then plus_between ts (factors_then Nothing fs ps))) (star_some fs rest is.place);
+      is_front = record { outer = is.outer; terms = is.terms; factors = is.factors; position = tt };
+      text = λ rest. ap (λ (ps : List Piece). outer_then outer (each_then plus_between ts (factors_then Nothing fs ps))) (star_some fs rest is.position);
     })
-follow_sound outer ts fs Caret g is h = go (unsnoc fs is.place)
+follow_sound outer ts fs Caret g is h = go (unsnoc fs is.position)
   where
     go : ((gs : Parts) × (b : Bound) × (fs ≡ with_part gs b)) → Extends (front_at outer ts fs ItemRead) Caret g
     go t =
@@ -254,20 +254,20 @@ follow_sound outer ts fs Caret g is h = go (unsnoc fs is.place)
         (caret_sound outer ts t.0 t.1 g (subst (λ (ps : Parts). IsFront (front_at outer ts ps ItemRead)) e is) at_end)
 follow_sound outer ts fs Blank g is h =
     let t = when-some (can_end fs) (front_at outer ts fs BlankRead) g h in
-    subst (Extends (front_at outer ts fs ItemRead) Blank) t.1 (record { is_front = record { outer = is.outer; terms = is.terms; factors = is.factors; place = t.0 }; text = λ rest. refl })
+    subst (Extends (front_at outer ts fs ItemRead) Blank) t.1 (record { is_front = record { outer = is.outer; terms = is.terms; factors = is.factors; position = t.0 }; text = λ rest. refl })
 follow_sound outer ts fs Comma g is h =
     let t = when-some (can_be_argument outer ts fs) (front_at outer ts fs CommaRead) g h in
-    subst (Extends (front_at outer ts fs ItemRead) Comma) t.1 (record { is_front = record { outer = is.outer; terms = is.terms; factors = is.factors; place = t.0 }; text = λ rest. refl })
+    subst (Extends (front_at outer ts fs ItemRead) Comma) t.1 (record { is_front = record { outer = is.outer; terms = is.terms; factors = is.factors; position = t.0 }; text = λ rest. refl })
 follow_sound outer ts fs Close g is h = close_sound outer ts fs g is h
 follow_sound outer ts fs piece g is h = cc
 
 -- a term ends
 term_sound : (outer : Outer) (ts fs : Parts) (g : Front) → IsFront (front_at outer ts fs PlusRead) → front_at outer (with_part ts (term_of fs)) NoParts Begins ≡ g → Extends (front_at outer ts fs PlusRead) Blank g
 term_sound outer ts fs g is h =
-    let t = term_shaped fs is.factors is.place in
+    let t = term_shaped fs is.factors is.position in
     subst (Extends (front_at outer ts fs PlusRead) Blank) h (record {
-      is_front = record { outer = is.outer; terms = record { no_sums = each-more IsNoSum ts (term_of fs) is.terms.no_sums t.1; shaped = shaped-more ts (term_of fs) is.terms.shaped t.0 }; factors = no_factors; place = tt };
-      text = λ rest. ap (outer_then outer) (each-with_part plus_between ts (term_of fs) rest ∙ ap (each_then plus_between ts) (term_text fs (plus_between ++ rest) is.place));
+      is_front = record { outer = is.outer; terms = record { no_sums = each-more IsNoSum ts (term_of fs) is.terms.no_sums t.1; shaped = shaped-more ts (term_of fs) is.terms.shaped t.0 }; factors = no_factors; position = tt };
+      text = λ rest. ap (outer_then outer) (each-with_part plus_between ts (term_of fs) rest ∙ ap (each_then plus_between ts) (term_text fs (plus_between ++ rest) is.position));
     })
 
 -- an argument ends
@@ -277,13 +277,13 @@ argument_sound (Inside (Exponent c) ts' fs' outer) ts fs g is h = cc
 argument_sound (Inside Factor ts' fs' outer) ts fs g is h = cc
 argument_sound (Inside (Arguments bs) ts' fs' outer) ts fs g is h =
     let e : inside (Arguments (with_part bs (bound_made ts fs))) outer ts' fs' ≡ g = cc in
-    let c = and_parts (can_end fs) (not (is_maximum (bound_made ts fs))) is.place in
+    let c = and_parts (can_end fs) (not (is_maximum (bound_made ts fs))) is.position in
     subst (Extends (front_at (Inside (Arguments bs) ts' fs' outer) ts fs CommaRead) Blank) e (record {
       is_front = record {
         outer = (record { no_maximums = each-more IsNoMaximum bs (bound_made ts fs) is.outer.0.no_maximums (no_maximum (bound_made ts fs) (not-true (is_maximum (bound_made ts fs)) c.1)); shaped = shaped-more bs (bound_made ts fs) is.outer.0.shaped (bound_shaped ts fs is.terms is.factors c.0) }, is.outer.1, is.outer.2, is.outer.3);
         terms = no_parts;
         factors = no_factors;
-        place = tt;
+        position = tt;
       };
       text = λ rest.
           ap (λ (ps : List Piece). outer_then outer (each_then plus_between ts' (factors_then Nothing fs' (star_then fs' (Maximum ∷ ps)))))
@@ -292,32 +292,32 @@ argument_sound (Inside (Arguments bs) ts' fs' outer) ts fs g is h =
 
 -- a piece that leads somewhere is read
 pub step_sound : (f g : Front) (piece : Piece) → IsFront f → step f piece ≡ Some g → Extends f piece g
-step_sound f g piece is h = go f.place piece (record { outer = is.outer; terms = is.terms; factors = is.factors; place = is.place }) h
+step_sound f g piece is h = go f.position piece (record { outer = is.outer; terms = is.terms; factors = is.factors; position = is.position }) h
   where
-    go : (place : Place) (piece : Piece) → IsFront (front_at f.outer f.terms f.factors place) → step_at place f.outer f.terms f.factors piece ≡ Some g → Extends (front_at f.outer f.terms f.factors place) piece g
+    go : (position : Position) (piece : Piece) → IsFront (front_at f.outer f.terms f.factors position) → step_at position f.outer f.terms f.factors piece ≡ Some g → Extends (front_at f.outer f.terms f.factors position) piece g
     go Begins piece is h = begin_sound f.outer f.terms f.factors piece g is h
     go (RunCaret i) piece is h = run_sound f.outer f.terms f.factors i piece g is h
     go (PowerCaret c) piece is h = exponent_sound f.outer f.terms f.factors c piece g is h
     go ItemRead piece is h = follow_sound f.outer f.terms f.factors piece g is h
     go BlankRead Plus is h =
         let e : front_at f.outer f.terms f.factors PlusRead ≡ g = cc in
-        subst (Extends (front_at f.outer f.terms f.factors BlankRead) Plus) e (record { is_front = record { outer = is.outer; terms = is.terms; factors = is.factors; place = is.place }; text = λ rest. refl })
+        subst (Extends (front_at f.outer f.terms f.factors BlankRead) Plus) e (record { is_front = record { outer = is.outer; terms = is.terms; factors = is.factors; position = is.position }; text = λ rest. refl })
     go PlusRead Blank is h = term_sound f.outer f.terms f.factors g is (let e : front_at f.outer (with_part f.terms (term_of f.factors)) NoParts Begins ≡ g = cc in e)
     go CommaRead Blank is h = argument_sound f.outer f.terms f.factors g is h
-    go place piece is h = cc
+    go position piece is h = cc
 
 -- nothing has been read at first
 pub beginning_front : IsFront beginning
-beginning_front = record { outer = tt; terms = no_parts; factors = no_factors; place = tt }
+beginning_front = record { outer = tt; terms = no_parts; factors = no_factors; position = tt }
 
 -- a text that ends at a bound is its text
 pub finish_sound : (f : Front) (b : Bound) → IsFront f → finish f ≡ Some b → IsShaped b × ((rest : List Piece) → text_then b rest ≡ front_then f rest)
-finish_sound f b is h = go f.place f.outer is.outer is.place h
+finish_sound f b is h = go f.position f.outer is.outer is.position h
   where
-    go : (place : Place) (outer : Outer) → IsOuter outer → IsPlace place outer f.terms f.factors → finish (front_at outer f.terms f.factors place) ≡ Some b
-        → IsShaped b × ((rest : List Piece) → text_then b rest ≡ front_then (front_at outer f.terms f.factors place) rest)
+    go : (position : Position) (outer : Outer) → IsOuter outer → IsPosition position outer f.terms f.factors → finish (front_at outer f.terms f.factors position) ≡ Some b
+        → IsShaped b × ((rest : List Piece) → text_then b rest ≡ front_then (front_at outer f.terms f.factors position) rest)
     go ItemRead Whole o p h =
         let t = when-some (can_end f.factors) (bound_made f.terms f.factors) b h in
         (subst IsShaped t.1 (bound_shaped f.terms f.factors is.terms is.factors t.0), λ rest. ap (λ (c : Bound). text_then c rest) (sym t.1) ∙ bound_text f.terms f.factors rest t.0)
     go ItemRead (Inside bracket ts fs outer) o p h = cc
-    go place outer o p h = cc
+    go position outer o p h = cc

@@ -3,7 +3,7 @@ use Rattle.std.proofs.Common.{◌≡◌, ℕ, zero, suc, nat_lt, true, false, no
 use Rattle.model.specs.Bounds.{Bound, Constant, Input, PowerOf, Parts, NoParts}
 use Rattle.bound_text.specs.Shapes.{is_maximum, is_empty, with_part}
 use Rattle.bound_text.specs.Pieces.{Piece, Variable, Number, Maximum, Open, Close, Times, Caret, Plus, Blank, Comma}
-use Rattle.bound_text.specs.Fronts.{Bracket, Arguments, Exponent, Factor, Outer, Whole, Inside, Place, Front, Begins, RunCaret, PowerCaret, ItemRead, BlankRead, PlusRead, CommaRead, IsFront, last, init, is_input, term_of, bound_made, can_end, can_be_argument}
+use Rattle.bound_text.specs.Fronts.{Bracket, Arguments, Exponent, Factor, Outer, Whole, Inside, Position, Front, Begins, RunCaret, PowerCaret, ItemRead, BlankRead, PlusRead, CommaRead, IsFront, last, init, is_input, term_of, bound_made, can_end, can_be_argument}
 use Rattle.bound_text.specs.Steps.{with_copies, front_at, inside, behind_factor, begin_item, end_run, begin_exponent, caret_behind, can_close, item_of, close_bracket, follow_item, end_argument, step, step_at}
 use Rattle.bound_text.proofs.PartLaws.{last-with_part, init-with_part}
 use Rattle.std.proofs.lemmas.Bool.{and_parts}
@@ -105,16 +105,16 @@ argument_leads (Inside (Arguments bs) ts' fs' o) ts fs g is h =
 
 -- where a step leads, case by case
 pub step_leads : (f g : Front) (piece : Piece) → IsFront f → step f piece ≡ Some g → Leads f piece g
-step_leads f g piece is h = go f.place piece (record { outer = is.outer; terms = is.terms; factors = is.factors; place = is.place }) h
+step_leads f g piece is h = go f.position piece (record { outer = is.outer; terms = is.terms; factors = is.factors; position = is.position }) h
   where
-    go : (place : Place) (piece : Piece) → IsFront (front_at f.outer f.terms f.factors place) → step_at place f.outer f.terms f.factors piece ≡ Some g → Leads (front_at f.outer f.terms f.factors place) piece g
+    go : (position : Position) (piece : Piece) → IsFront (front_at f.outer f.terms f.factors position) → step_at position f.outer f.terms f.factors piece ≡ Some g → Leads (front_at f.outer f.terms f.factors position) piece g
     go Begins piece is h = begin_leads f.outer f.terms f.factors piece g h
     go (RunCaret i) piece is h = run_leads f.outer f.terms f.factors i piece g h
     go (PowerCaret c) piece is h = power_leads f.outer f.terms f.factors c piece g h
-    go ItemRead piece is h = follow_leads f.outer f.terms f.factors piece g is.place h
+    go ItemRead piece is h = follow_leads f.outer f.terms f.factors piece g is.position h
     go BlankRead Plus is h = let e : front_at f.outer f.terms f.factors PlusRead ≡ g = cc in subst (Leads (front_at f.outer f.terms f.factors BlankRead) Plus) e (of_plus f.outer f.terms f.factors)
     go PlusRead Blank is h =
         let e : front_at f.outer (with_part f.terms (term_of f.factors)) NoParts Begins ≡ g = cc in
-        subst (Leads (front_at f.outer f.terms f.factors PlusRead) Blank) e (of_term f.outer f.terms f.factors is.place)
-    go CommaRead Blank is h = argument_leads f.outer f.terms f.factors g (argument_ends f.outer f.terms f.factors is.place) h
-    go place piece is h = cc
+        subst (Leads (front_at f.outer f.terms f.factors PlusRead) Blank) e (of_term f.outer f.terms f.factors is.position)
+    go CommaRead Blank is h = argument_leads f.outer f.terms f.factors g (argument_ends f.outer f.terms f.factors is.position) h
+    go position piece is h = cc

@@ -9,8 +9,8 @@ use Rattle.std.proofs.lemmas.Bool.Decides.{nat_tests}
 use Rattle.bound_text.specs.Pieces.{Piece, Caret}
 use Rattle.bound_text.specs.Checks.{takes_caret, is_caret, has_large_base, is_large_number}
 use Rattle.bound_text.specs.Views.{front_with}
-use Rattle.bound_text.specs.declared.state.Place.{Place}
-use Rattle.bound_text.specs.declared.state.Place.TheVariants as at
+use Rattle.bound_text.specs.declared.state.Position.{Position}
+use Rattle.bound_text.specs.declared.state.Position.TheVariants as at
 use Rattle.bound_text.proofs.PartLaws.{last-with_part, init-with_part}
 
 -- behind a factor that takes no `^` the reader stands settled
@@ -22,9 +22,9 @@ settled_factor outer ts fs behind b e none = (
 )
 
 -- behind a number that isn't too large for one there is a base that isn't
-pub small_base : (place : Place) (outer : Outer) (ts fs : Parts) (n : ℕ) (piece : Piece) → place ≡ at.Number n → has_large_base (front_with place outer ts fs) piece ≡ false
+pub small_base : (position : Position) (outer : Outer) (ts fs : Parts) (n : ℕ) (piece : Piece) → position ≡ at.Number n → has_large_base (front_with position outer ts fs) piece ≡ false
     → IsTrue (is_caret piece) → n < 2 ^ 64
-small_base place outer ts fs n piece e large caret = go piece caret (subst (λ (p : Place). has_large_base (front_with p outer ts fs) piece ≡ false) e large)
+small_base position outer ts fs n piece e large caret = go piece caret (subst (λ (p : Position). has_large_base (front_with p outer ts fs) piece ≡ false) e large)
   where
     go : (piece : Piece) → IsTrue (is_caret piece) → has_large_base (front_with (at.Number n) outer ts fs) piece ≡ false → n < 2 ^ 64
     go Caret caret large =

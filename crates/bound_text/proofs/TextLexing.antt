@@ -17,7 +17,7 @@ use Rattle.text_core.specs.Tokens.{Lexeme, LexesWithin, each_piece, pieces, toke
 use Rattle.text_core.proofs.Lexing.{tokens-first, pieces_at}
 use Rattle.text_core.proofs.Walks.{walk-none}
 use Rattle.bound_text.specs.Lexing.{found, word_at, number_at, mark_at, lexeme_at, tokens}
-use Rattle.bound_text.specs.Fronts.{Front, Place, ItemRead, IsFront}
+use Rattle.bound_text.specs.Fronts.{Front, Position, ItemRead, IsFront}
 use Rattle.bound_text.specs.Steps.{step, step_at, follow_item, walk}
 use Rattle.bound_text.proofs.SoundnessLaws.{step_sound}
 use Rattle.bound_text.proofs.StepCases.{Leads, of_variable, of_number, of_maximum, of_sum, of_run, of_power, of_power_of, of_exponent, of_times, of_base, of_caret, of_blank, of_comma, of_close, of_plus, of_term, of_argument, step_leads}
@@ -264,7 +264,7 @@ piece_found names Comma rest are kept closed = record { first = 44; others = [];
 piece_found names Wrong rest are kept closed = absurd kept
 
 -- a name or a number leads behind an item, and what can follow closes it
-behind_long : (f g : Front) (piece : Piece) → Leads f piece g → IsLong piece → g.place ≡ ItemRead
+behind_long : (f g : Front) (piece : Piece) → Leads f piece g → IsLong piece → g.position ≡ ItemRead
 behind_long f g piece (of_variable o ts fs i) long = refl
 behind_long f g piece (of_number o ts fs c) long = refl
 behind_long f g piece (of_run o ts fs i n) long = refl
@@ -284,8 +284,8 @@ behind_long f g piece (of_term o ts fs e) long = absurd long
 behind_long f g piece (of_argument o bs ts' fs' ts fs e) long = absurd long
 
 -- what can follow an item closes it
-mark_closes : (names : List Name) (f h : Front) (piece : Piece) (rest : List ℕ) → f.place ≡ ItemRead → step f piece ≡ Some h → Closes (spelled names piece ++ rest)
-mark_closes names f h piece rest e on = go piece (ap (λ (p : Place). step_at p f.outer f.terms f.factors piece) (sym e) ∙ on)
+mark_closes : (names : List Name) (f h : Front) (piece : Piece) (rest : List ℕ) → f.position ≡ ItemRead → step f piece ≡ Some h → Closes (spelled names piece ++ rest)
+mark_closes names f h piece rest e on = go piece (ap (λ (p : Position). step_at p f.outer f.terms f.factors piece) (sym e) ∙ on)
   where
     go : (piece : Piece) → follow_item f.outer f.terms f.factors piece ≡ Some h → Closes (spelled names piece ++ rest)
     go Times on = (refl, refl, refl)
@@ -301,7 +301,7 @@ mark_closes names f h piece rest e on = go piece (ap (λ (p : Place). step_at p 
     go Wrong on = cc
 
 -- so do the pieces that lead on
-pieces_close : (names : List Name) (g last_one : Front) (ps : List Piece) → g.place ≡ ItemRead → walk (Some g) ps ≡ Some last_one → Closes (bytes_of names ps)
+pieces_close : (names : List Name) (g last_one : Front) (ps : List Piece) → g.position ≡ ItemRead → walk (Some g) ps ≡ Some last_one → Closes (bytes_of names ps)
 pieces_close names g last_one [] e on = tt
 pieces_close names g last_one (p ∷ ps) e on = go (step g p) refl on
   where

@@ -2,7 +2,7 @@
 use Rattle.std.specs.Prelude.{ℕ, ◌^◌, Bool, true, false, if◌then◌else◌, not, ◌&&◌, ◌||◌, nat_lt, nat_le, List, [], ◌∷◌, Option, Some, None}
 use Rattle.model.specs.Bounds.{Bound, Constant, Input, Parts}
 use Rattle.bound_text.specs.Pieces.{Piece, Variable, Number, Caret}
-use Rattle.bound_text.specs.Fronts.{Front, Place, Begins, ItemRead, last, is_input, nodes_of, inner_levels}
+use Rattle.bound_text.specs.Fronts.{Front, Position, Begins, ItemRead, last, is_input, nodes_of, inner_levels}
 use Rattle.bound_text.specs.Steps.{step}
 use Rattle.bound_text.specs.Kinds.{Kind, Syntax, NumberTooLarge, UnknownName, TooDeep, TooLarge}
 use Rattle.bound_expr.specs.Limits.{depth_limit, node_limit}
@@ -14,7 +14,9 @@ pub data Checked : Type 0 where
 
 -- whether what has been read is within the limits
 abbrev pub sized : Front → Checked
-sized f = if nat_lt depth_limit (inner_levels f) then Refused TooDeep else if nat_lt node_limit (nodes_of f) then Refused TooLarge else Reached f
+sized f =
+    if nat_lt depth_limit (inner_levels f) then Refused TooDeep
+    else if nat_lt node_limit (nodes_of f) then Refused TooLarge else Reached f
 
 -- whether a number is over 2^127-1
 abbrev pub is_large : Piece → Bool
@@ -45,9 +47,9 @@ fault_of n base piece =
     else None
 
 -- whether an item begins
-abbrev pub begins : Place → Bool
+abbrev pub begins : Position → Bool
 begins Begins = true
-begins place = false
+begins position = false
 
 -- whether a product's last factor is a constant over 2^64-1
 abbrev pub is_large_number : Option Bound → Bool
@@ -55,13 +57,13 @@ is_large_number (Some (Constant c)) = nat_le (2 ^ 64) c
 is_large_number factor = false
 
 -- whether a piece is the `^` behind a base over 2^64-1
-abbrev pub has_large_base_at : Place → Parts → Piece → Bool
+abbrev pub has_large_base_at : Position → Parts → Piece → Bool
 has_large_base_at ItemRead fs Caret = is_large_number (last fs)
-has_large_base_at place fs piece = false
+has_large_base_at position fs piece = false
 
 -- the same where what has been read ends
 abbrev pub has_large_base : Front → Piece → Bool
-has_large_base f piece = has_large_base_at f.place f.factors piece
+has_large_base f piece = has_large_base_at f.position f.factors piece
 
 -- what the fault of a piece and where it leads come to
 abbrev pub judged : Option Kind → Option Front → Checked
@@ -73,7 +75,7 @@ judged None (Some f) = sized f
 abbrev pub checked : ℕ → Bool → Front → Piece → Checked
 checked n caret f piece =
     if has_large_base f piece then Refused NumberTooLarge
-    else judged (fault_of n (begins f.place && caret) piece) (step f piece)
+    else judged (fault_of n (begins f.position && caret) piece) (step f piece)
 
 -- whether `^` can stand behind a product's last factor: it is a constant, or a variable that stands alone
 abbrev pub takes_caret : Parts → Option Bound → Bool

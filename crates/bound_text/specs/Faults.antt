@@ -23,15 +23,20 @@ IsFirst names bytes x = first.IsFirst (bounds (length names)) (length bytes) (to
 
 -- over variables whose names are names and all differ, the text of a bound within the limits has no fault
 pub record TextsHaveNoFault : Type 0 where
-  pub each : (names : List Name) → AreNames names → (bytes : List ℕ) (b : plain.Bound) (x : Fault Kind) → IsTextWithin names bytes b → IsFirst names bytes x → ⊥
+  pub each : (names : List Name) → AreNames names → (bytes : List ℕ) (b : plain.Bound) (x : Fault Kind)
+      → IsTextWithin names bytes b → IsFirst names bytes x → ⊥
 
--- a front tells what has been read: pieces lead to it exactly where a text as bounds are spelled can begin with it, and it
--- is written as they are; and an item begins there exactly where a base with its `^` can stand
+-- a front tells what has been read: pieces lead to it exactly where a text as bounds are spelled can begin with it, and
+-- it is written as they are; and an item begins there exactly where a base with its `^` can stand
 pub record FrontsAreRead : Type 0 where
-  pub read : (n : ℕ) (done : List Piece) (f : Front) → reached (bounds n) done ≡ Some f → IsFront f × (front_then f [] ≡ onto done [])
-  pub leads : (n : ℕ) (done : List Piece) (f : Front) → IsFront f → front_then f [] ≡ onto done [] → reached (bounds n) done ≡ Some f
-  pub base : (n : ℕ) (done : List Piece) (f : Front) → reached (bounds n) done ≡ Some f → IsTrue (begins f.place) → IsBeginning (bounds n) (Caret ∷ Number 2 ∷ done)
-  pub begins : (n : ℕ) (done : List Piece) (f : Front) → reached (bounds n) done ≡ Some f → IsBeginning (bounds n) (Caret ∷ Number 2 ∷ done) → IsTrue (begins f.place)
+  pub read : (n : ℕ) (done : List Piece) (f : Front) → reached (bounds n) done ≡ Some f → IsFront f
+      × (front_then f [] ≡ onto done [])
+  pub leads : (n : ℕ) (done : List Piece) (f : Front) → IsFront f → front_then f [] ≡ onto done []
+      → reached (bounds n) done ≡ Some f
+  pub base : (n : ℕ) (done : List Piece) (f : Front) → reached (bounds n) done ≡ Some f → IsTrue (begins f.position)
+      → IsBeginning (bounds n) (Caret ∷ Number 2 ∷ done)
+  pub begins : (n : ℕ) (done : List Piece) (f : Front) → reached (bounds n) done ≡ Some f
+      → IsBeginning (bounds n) (Caret ∷ Number 2 ∷ done) → IsTrue (begins f.position)
 
 -- what reading a text answers: the bound, or the first fault, want of memory aside
 abbrev pub Answers : List Name → List ℕ → Result Bound BoundTextError → Type 0

@@ -19,24 +19,24 @@ pub data Outer : Type 0 where
   Whole : Outer
   Inside : Bracket → Parts → Parts → Outer → Outer
 
--- what was read last in the innermost bound: what an item can follow; the `^` of a run or of a power; an item; or a part
--- of ` + ` or of `, `
-pub data Place : Type 0 where
-  Begins : Place
-  RunCaret : ℕ → Place
-  PowerCaret : ℕ → Place
-  ItemRead : Place
-  BlankRead : Place
-  PlusRead : Place
-  CommaRead : Place
+-- what was read last in the innermost bound: what an item can follow; the `^` of a run or of a power; an item; or a
+-- part of ` + ` or of `, `
+pub data Position : Type 0 where
+  Begins : Position
+  RunCaret : ℕ → Position
+  PowerCaret : ℕ → Position
+  ItemRead : Position
+  BlankRead : Position
+  PlusRead : Position
+  CommaRead : Position
 
 -- the part that has been read: what stands round the innermost bound, the bound's terms and the factors of its last
--- term so far, and the place
+-- term so far, and the position
 pub record Front : Type 0 where
   pub outer : Outer
   pub terms : Parts
   pub factors : Parts
-  pub place : Place
+  pub position : Position
 
 -- `*` behind factors, and then the rest
 abbrev pub star_then : Parts → List Piece → List Piece
@@ -57,21 +57,24 @@ bracket_then Factor rest = Open ∷ rest
 -- what stands round a bound, and then the rest
 abbrev pub outer_then : Outer → List Piece → List Piece
 outer_then Whole rest = rest
-outer_then (Inside bracket ts fs outer) rest = outer_then outer (each_then plus_between ts (factors_then Nothing fs (star_then fs (bracket_then bracket rest))))
+outer_then (Inside bracket ts fs outer) rest =
+    outer_then outer (each_then plus_between ts (factors_then Nothing fs (star_then fs (bracket_then bracket rest))))
 
 -- what was read last, and then the rest
-abbrev pub place_then : Place → Parts → List Piece → List Piece
-place_then Begins fs rest = star_then fs rest
-place_then (RunCaret i) fs rest = star_then fs (Variable i ∷ Caret ∷ rest)
-place_then (PowerCaret c) fs rest = star_then fs (Number c ∷ Caret ∷ rest)
-place_then ItemRead fs rest = rest
-place_then BlankRead fs rest = Blank ∷ rest
-place_then PlusRead fs rest = Blank ∷ Plus ∷ rest
-place_then CommaRead fs rest = Comma ∷ rest
+abbrev pub position_then : Position → Parts → List Piece → List Piece
+position_then Begins fs rest = star_then fs rest
+position_then (RunCaret i) fs rest = star_then fs (Variable i ∷ Caret ∷ rest)
+position_then (PowerCaret c) fs rest = star_then fs (Number c ∷ Caret ∷ rest)
+position_then ItemRead fs rest = rest
+position_then BlankRead fs rest = Blank ∷ rest
+position_then PlusRead fs rest = Blank ∷ Plus ∷ rest
+position_then CommaRead fs rest = Comma ∷ rest
 
 -- the part that has been read, and then the rest
 abbrev pub front_then : Front → List Piece → List Piece
-front_then f rest = outer_then f.outer (each_then plus_between f.terms (factors_then Nothing f.factors (place_then f.place f.factors rest)))
+front_then f rest =
+    outer_then f.outer (each_then plus_between f.terms
+    (factors_then Nothing f.factors (position_then f.position f.factors rest)))
 
 -- whether the innermost bracket is that of a sum as a factor
 abbrev pub in_factor : Outer → Bool
@@ -116,7 +119,9 @@ bracket_depth Factor = 0
 -- the nodes round the innermost bound
 abbrev pub nodes_round : Outer → ℕ
 nodes_round Whole = 0
-nodes_round (Inside bracket ts fs outer) = nodes_round outer + sum_node outer ts + node_count_of_all ts + product_node_round bracket fs + node_count_of_all fs + bracket_nodes bracket
+nodes_round (Inside bracket ts fs outer) =
+    nodes_round outer + sum_node outer ts + node_count_of_all ts + product_node_round bracket fs + node_count_of_all fs
+    + bracket_nodes bracket
 
 -- the levels above the innermost bound
 abbrev pub levels_above : Outer → ℕ
@@ -131,33 +136,36 @@ levels_round (Inside bracket ts fs outer) =
     (max (levels_above outer + sum_node outer ts + product_node_round bracket fs + maximum_depth fs)
     (levels_above outer + sum_node outer ts + product_node_round bracket fs + 1 + bracket_depth bracket)))
 
--- the sum's node, the product's, and the one of an item that has begun, by the place
-abbrev pub sum_at : Place → Outer → Parts → ℕ
+-- the sum's node, the product's, and the one of an item that has begun, by the position
+abbrev pub sum_at : Position → Outer → Parts → ℕ
 sum_at BlankRead outer ts = if in_factor outer then 0 else 1
 sum_at PlusRead outer ts = if in_factor outer then 0 else 1
 sum_at _ outer ts = sum_node outer ts
 
-abbrev pub product_at : Place → Parts → ℕ
+abbrev pub product_at : Position → Parts → ℕ
 product_at ItemRead fs = product_node fs
 product_at BlankRead fs = product_node fs
 product_at PlusRead fs = product_node fs
 product_at CommaRead fs = product_node fs
 product_at _ fs = node_of_any fs
 
-abbrev pub item_at : Place → ℕ
+abbrev pub item_at : Position → ℕ
 item_at (RunCaret i) = 1
 item_at (PowerCaret c) = 1
 item_at _ = 0
 
 -- the nodes of the tree so far
 abbrev pub nodes_of : Front → ℕ
-nodes_of f = nodes_round f.outer + sum_at f.place f.outer f.terms + node_count_of_all f.terms + product_at f.place f.factors + node_count_of_all f.factors + item_at f.place
+nodes_of f =
+    nodes_round f.outer + sum_at f.position f.outer f.terms + node_count_of_all f.terms
+    + product_at f.position f.factors + node_count_of_all f.factors + item_at f.position
 
 -- the levels of the innermost bound so far, with those above it
 abbrev pub inner_levels : Front → ℕ
 inner_levels f =
-    max (levels_above f.outer + sum_at f.place f.outer f.terms + maximum_depth f.terms)
-    (levels_above f.outer + sum_at f.place f.outer f.terms + product_at f.place f.factors + max (maximum_depth f.factors) (item_at f.place))
+    max (levels_above f.outer + sum_at f.position f.outer f.terms + maximum_depth f.terms)
+    (levels_above f.outer + sum_at f.position f.outer f.terms + product_at f.position f.factors
+    + max (maximum_depth f.factors) (item_at f.position))
 
 -- the levels of the tree so far
 abbrev pub levels_of : Front → ℕ
@@ -243,19 +251,19 @@ in_arguments Whole = false
 abbrev pub can_be_argument : Outer → Parts → Parts → Bool
 can_be_argument outer ts fs = in_arguments outer && (can_end fs && not (is_maximum (bound_made ts fs)))
 
--- the place can be behind these terms and factors
-abbrev pub IsPlace : Place → Outer → Parts → Parts → Type 0
-IsPlace Begins outer ts fs = ⊤
-IsPlace (RunCaret i) outer ts fs = IsFalse (is_input i (last fs))
-IsPlace (PowerCaret c) outer ts fs = 2 ≤ c
-IsPlace ItemRead outer ts fs = IsFalse (is_empty fs)
-IsPlace BlankRead outer ts fs = IsTrue (can_end fs)
-IsPlace PlusRead outer ts fs = IsTrue (can_end fs)
-IsPlace CommaRead outer ts fs = IsTrue (can_be_argument outer ts fs)
+-- the position can be behind these terms and factors
+abbrev pub IsPosition : Position → Outer → Parts → Parts → Type 0
+IsPosition Begins outer ts fs = ⊤
+IsPosition (RunCaret i) outer ts fs = IsFalse (is_input i (last fs))
+IsPosition (PowerCaret c) outer ts fs = 2 ≤ c
+IsPosition ItemRead outer ts fs = IsFalse (is_empty fs)
+IsPosition BlankRead outer ts fs = IsTrue (can_end fs)
+IsPosition PlusRead outer ts fs = IsTrue (can_end fs)
+IsPosition CommaRead outer ts fs = IsTrue (can_be_argument outer ts fs)
 
 -- a text as bounds are spelled can begin with the part that has been read
 pub record IsFront (f : Front) : Type 0 where
   pub outer : IsOuter f.outer
   pub terms : AreTerms f.terms
   pub factors : AreFactors f.factors
-  pub place : IsPlace f.place f.outer f.terms f.factors
+  pub position : IsPosition f.position f.outer f.terms f.factors

@@ -22,7 +22,8 @@ word_at names name behind =
 
 -- what digits are: the number that they write, where one over 2^127 counts as 2^127
 abbrev pub number_at : List ℕ → Lexeme Piece
-number_at digits = found (if has_leading_zero digits then Wrong else Number (value_up_to (2 ^ 127) digits)) (length digits)
+number_at digits =
+    found (if has_leading_zero digits then Wrong else Number (value_up_to (2 ^ 127) digits)) (length digits)
 
 -- what any other byte is
 abbrev pub mark_at : ℕ → Piece

@@ -14,3 +14,5 @@ pub mod Faults
 pub mod Verdicts
 pub mod Brackets
 pub mod Views
+pub mod Inside
+pub mod WorkedInside

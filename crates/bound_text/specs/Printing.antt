@@ -48,8 +48,10 @@ abbrev pub IsListedRun : ℕ → Before → Type 0
 IsListedRun n (befores.Run i k) = i < n
 IsListedRun n _ = ⊤
 
--- from the old bytes to the new ones that was written which, with the pieces of `left` behind it, are the pieces of `text`
-pub record Writes (names : List Name) (old new : List ℕ) (text left : List plain.Piece → List plain.Piece) : Type 0 where
+-- from the old bytes to the new ones that was written which, with the pieces of `left` behind it, are the pieces of
+-- `text`
+pub record Writes (names : List Name) (old new : List ℕ)
+    (text left : List plain.Piece → List plain.Piece) : Type 0 where
   pub each : (rest : List plain.Piece) → new ++ bytes_of names (left rest) ≡ old ++ bytes_of names (text rest)
 
 -- behind the old bytes the text was written
@@ -57,5 +59,8 @@ abbrev pub WritesAll : List Name → List ℕ → List ℕ → (List plain.Piece
 WritesAll names old new text = Writes names old new text (λ rest. rest)
 
 -- a factor was written behind what stands before it, but for the run that it ends with
-pub record WritesFactor (names : List Name) (old new : List ℕ) (before behind : writing.Before) (b : Bound) : Type 0 where
-  pub each : (bs : Parts) (rest : List plain.Piece) → new ++ bytes_of names (factors_then behind bs rest) ≡ old ++ bytes_of names (factors_then before (Part b bs) rest)
+pub record WritesFactor (names : List Name) (old new : List ℕ) (before behind : writing.Before)
+    (b : Bound) : Type 0 where
+  pub each : (bs : Parts) (rest : List plain.Piece)
+      → new ++ bytes_of names (factors_then behind bs rest)
+      ≡ old ++ bytes_of names (factors_then before (Part b bs) rest)

@@ -19,7 +19,7 @@ Writes b ps = IsShaped b × (pieces_of b ≡ ps)
 
 -- whether a number that comes next is a base: an item begins there, and `^` stands behind the number
 abbrev pub is_base : Front → List Piece → Bool
-is_base f behind = begins f.place && caret_next behind
+is_base f behind = begins f.position && caret_next behind
 
 -- whether the tree so far has more than 200 levels
 abbrev pub is_deep : Option Front → Bool

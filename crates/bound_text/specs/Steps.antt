@@ -5,7 +5,7 @@ pub use Rattle.text_core.specs.Choices.{when}
 use Rattle.text_core.specs.Readers as readers
 use Rattle.bound_text.specs.Shapes.{is_sum, is_maximum, is_leaf, is_empty, with_part}
 use Rattle.bound_text.specs.Pieces.{Piece, Variable, Number, Maximum, Open, Close, Times, Caret, Plus, Blank, Comma}
-use Rattle.bound_text.specs.Fronts.{Bracket, Arguments, Exponent, Factor, Outer, Whole, Inside, Place, Begins, RunCaret, PowerCaret, ItemRead, BlankRead, PlusRead, CommaRead, Front, last, init, is_input, term_of, bound_made, can_end, can_be_argument}
+use Rattle.bound_text.specs.Fronts.{Bracket, Arguments, Exponent, Factor, Outer, Whole, Inside, Position, Begins, RunCaret, PowerCaret, ItemRead, BlankRead, PlusRead, CommaRead, Front, last, init, is_input, term_of, bound_made, can_end, can_be_argument}
 
 -- n times variable i behind the factors
 abbrev pub with_copies : ℕ → ℕ → Parts → Parts
@@ -13,8 +13,8 @@ with_copies zero i fs = fs
 with_copies (suc n) i fs = with_part (with_copies n i fs) (Input i)
 
 -- the front with these parts
-abbrev pub front_at : Outer → Parts → Parts → Place → Front
-front_at outer ts fs place = record { outer = outer; terms = ts; factors = fs; place = place }
+abbrev pub front_at : Outer → Parts → Parts → Position → Front
+front_at outer ts fs position = record { outer = outer; terms = ts; factors = fs; position = position }
 
 -- nothing has been read
 abbrev pub beginning : Front
@@ -70,7 +70,8 @@ item_of Factor b = b
 abbrev pub close_bracket : Outer → Parts → Parts → Option Front
 close_bracket Whole ts fs = None
 close_bracket (Inside bracket ts' fs' outer) ts fs =
-    when (can_end fs && can_close bracket (bound_made ts fs)) (behind_factor outer ts' fs' (item_of bracket (bound_made ts fs)))
+    when (can_end fs && can_close bracket (bound_made ts fs))
+    (behind_factor outer ts' fs' (item_of bracket (bound_made ts fs)))
 
 -- what follows an item
 abbrev pub follow_item : Outer → Parts → Parts → Piece → Option Front
@@ -83,11 +84,12 @@ follow_item outer ts fs piece = None
 
 -- an argument ends
 abbrev pub end_argument : Outer → Parts → Parts → Option Front
-end_argument (Inside (Arguments bs) ts' fs' outer) ts fs = Some (inside (Arguments (with_part bs (bound_made ts fs))) outer ts' fs')
+end_argument (Inside (Arguments bs) ts' fs' outer) ts fs =
+    Some (inside (Arguments (with_part bs (bound_made ts fs))) outer ts' fs')
 end_argument outer ts fs = None
 
 -- where a piece leads
-abbrev pub step_at : Place → Outer → Parts → Parts → Piece → Option Front
+abbrev pub step_at : Position → Outer → Parts → Parts → Piece → Option Front
 step_at Begins outer ts fs piece = begin_item outer ts fs piece
 step_at (RunCaret i) outer ts fs piece = end_run outer ts fs i piece
 step_at (PowerCaret c) outer ts fs piece = begin_exponent outer ts fs c piece
@@ -95,11 +97,11 @@ step_at ItemRead outer ts fs piece = follow_item outer ts fs piece
 step_at BlankRead outer ts fs Plus = Some (front_at outer ts fs PlusRead)
 step_at PlusRead outer ts fs Blank = Some (front_at outer (with_part ts (term_of fs)) NoParts Begins)
 step_at CommaRead outer ts fs Blank = end_argument outer ts fs
-step_at place outer ts fs piece = None
+step_at position outer ts fs piece = None
 
 -- where a piece leads from the part that has been read
 abbrev pub step : Front → Piece → Option Front
-step f piece = step_at f.place f.outer f.terms f.factors piece
+step f piece = step_at f.position f.outer f.terms f.factors piece
 
 -- where pieces lead
 abbrev pub walk : Option Front → List Piece → Option Front
@@ -110,11 +112,11 @@ abbrev pub is_whole : Outer → Bool
 is_whole Whole = true
 is_whole (Inside bracket ts fs outer) = false
 
--- the bound of a text that ends, by the place
-abbrev pub finish_at : Place → Outer → Parts → Parts → Option Bound
+-- the bound of a text that ends, by the position
+abbrev pub finish_at : Position → Outer → Parts → Parts → Option Bound
 finish_at ItemRead outer ts fs = when (is_whole outer && can_end fs) (bound_made ts fs)
-finish_at place outer ts fs = None
+finish_at position outer ts fs = None
 
 -- the bound of a text that ends here
 abbrev pub finish : Front → Option Bound
-finish f = finish_at f.place f.outer f.terms f.factors
+finish f = finish_at f.position f.outer f.terms f.factors

@@ -12,8 +12,8 @@ use Rattle.bound_text.specs.Kinds as plain
 use Rattle.bound_text.specs.Checks.{Checked, Refused, Reached, takes_caret}
 pub use Rattle.bound_text.specs.Brackets.{parts_in, bracket_of, outer_from, outer_of, IsRound}
 use Rattle.bound_text.specs.declared.brackets.Brackets.{Brackets}
-use Rattle.bound_text.specs.declared.state.Place.{Place}
-use Rattle.bound_text.specs.declared.state.Place.TheVariants as at
+use Rattle.bound_text.specs.declared.state.Position.{Position}
+use Rattle.bound_text.specs.declared.state.Position.TheVariants as at
 use Rattle.bound_text.specs.declared.state.Reader.{Reader}
 use Rattle.bound_text.specs.declared.error.BoundTextError.{BoundTextError}
 use Rattle.bound_text.specs.declared.error.BoundTextError.TheVariants as errors
@@ -24,8 +24,8 @@ use Rattle.bound_text.specs.declared.fault.Fault.TheVariants as faults
 abbrev pub outer_in : Brackets → Outer
 outer_in b = outer_of b.opened.items
 
--- the front at a place of the code
-abbrev pub front_with : Place → Outer → Parts → Parts → Front
+-- the front at a position of the code
+abbrev pub front_with : Position → Outer → Parts → Parts → Front
 front_with at.Begins outer ts fs = front_at outer ts fs fronts.Begins
 front_with (at.Number c) outer ts fs = behind_factor outer ts fs (Constant c)
 front_with (at.Name i) outer ts fs = behind_factor outer ts fs (Input i)
@@ -38,16 +38,16 @@ front_with at.CommaRead outer ts fs = front_at outer ts fs fronts.CommaRead
 
 -- the part that has been read
 abbrev pub front_of : Reader → Front
-front_of r = front_with r.place (outer_in r.outer) (parts_in r.terms) (parts_in r.factors)
+front_of r = front_with r.position (outer_in r.outer) (parts_in r.terms) (parts_in r.factors)
 
 -- behind an item that is a factor already no `^` can come, and a variable that is none yet goes on no run
-abbrev pub is_settled_at : Place → Parts → Bool
+abbrev pub is_settled_at : Position → Parts → Bool
 is_settled_at at.ItemRead fs = not (takes_caret (init fs) (last fs))
 is_settled_at (at.Name i) fs = not (fronts.is_input i (last fs))
-is_settled_at place fs = true
+is_settled_at position fs = true
 
 abbrev pub is_settled : Reader → Bool
-is_settled r = is_settled_at r.place (parts_in r.factors)
+is_settled r = is_settled_at r.position (parts_in r.factors)
 
 -- whether a bracket is that of a maximum
 abbrev pub is_arguments : fronts.Bracket → Bool
@@ -55,9 +55,9 @@ is_arguments (fronts.Arguments bs) = true
 is_arguments bracket = false
 
 -- whether a run's number comes next
-abbrev pub is_in_run : Place → Bool
+abbrev pub is_in_run : Position → Bool
 is_in_run (at.RunCaret i) = true
-is_in_run place = false
+is_in_run position = false
 
 -- a refusal of the code is of this kind, want of memory aside
 abbrev pub IsKind : plain.Kind → Fault → Type 0
@@ -91,7 +91,8 @@ FindsFault None (Err fault) = ⊥
 FindsFault (Some kind) (Ok u) = ⊥
 FindsFault (Some kind) (Err fault) = IsKind kind fault
 
--- the bound that a text that ends here stands for; `Syntax` is answered exactly where there is none, want of memory aside
+-- the bound that a text that ends here stands for; `Syntax` is answered exactly where there is none, want of memory
+-- aside
 abbrev pub Finishes : Option bounds.Bound → Result Bound Fault → Type 0
 Finishes bound (Ok b) = bound ≡ Some (bound_of b)
 Finishes bound (Err faults.Syntax) = bound ≡ None
@@ -116,22 +117,22 @@ Says (Stands b) (Err error) = ⊥
 Says (RefusedBy x) (Ok a) = ⊥
 Says (RefusedBy x) (Err error) = IsRefusal x.kind x.at error
 
--- the sum's node, the product's, and the one of an item that has begun, by the place of the code
-abbrev pub sum_here : Place → Outer → Parts → ℕ
+-- the sum's node, the product's, and the one of an item that has begun, by the position of the code
+abbrev pub sum_here : Position → Outer → Parts → ℕ
 sum_here at.BlankRead outer ts = if fronts.in_factor outer then 0 else 1
 sum_here at.PlusRead outer ts = if fronts.in_factor outer then 0 else 1
-sum_here place outer ts = fronts.sum_node outer ts
+sum_here position outer ts = fronts.sum_node outer ts
 
-abbrev pub product_here : Place → Parts → ℕ
+abbrev pub product_here : Position → Parts → ℕ
 product_here at.ItemRead fs = fronts.product_node fs
 product_here at.BlankRead fs = fronts.product_node fs
 product_here at.PlusRead fs = fronts.product_node fs
 product_here at.CommaRead fs = fronts.product_node fs
-product_here place fs = fronts.node_of_any fs
+product_here position fs = fronts.node_of_any fs
 
-abbrev pub item_here : Place → ℕ
+abbrev pub item_here : Position → ℕ
 item_here (at.Number c) = 1
 item_here (at.Name i) = 1
 item_here (at.RunCaret i) = 1
 item_here (at.PowerCaret c) = 1
-item_here place = 0
+item_here position = 0

@@ -84,7 +84,8 @@ abbrev mutual
   factors_then before (Part (Input i) bs) rest =
       if goes_on before i then factors_then (run_with before i) bs rest
       else ended_then before (times_then before (factors_then (Run i 1) bs rest))
-  factors_then before (Part b bs) rest = ended_then before (times_then before (bracketed_then (is_sum b) (text_then b) (factors_then Other bs rest)))
+  factors_then before (Part b bs) rest =
+      ended_then before (times_then before (bracketed_then (is_sum b) (text_then b) (factors_then Other bs rest)))
 
 -- the pieces of a bound
 abbrev pub pieces_of : Bound → List Piece

@@ -20,19 +20,20 @@ use text_core::{Listed, Name, begins_with};
 
 /// Reads the bound that a text stands for, over variables with these names.
 ///
-/// There is one spelling. The parts of a sum are joined by ` + `, those of a maximum are written `max(a, b)`, the factors
-/// of a product are joined by `*`, and a longest run of n equal neighbouring variables, n at least 2, is written `A^n`. A
-/// power is its base, `^` and the exponent. A sum as a factor stands in brackets, and so does an exponent that is no
-/// constant and no variable. Constants are decimal without leading zeros.
+/// There is one spelling. The parts of a sum are joined by ` + `, those of a maximum are written `max(a, b)`, the
+/// factors of a product are joined by `*`, and a longest run of n equal neighbouring variables, n at least 2, is
+/// written `A^n`. A power is its base, `^` and the exponent. A sum as a factor stands in brackets, and so does an
+/// exponent that is no constant and no variable. Constants are decimal without leading zeros.
 ///
 /// # Errors
 ///
-/// The refusal at the least position is the answer, and at one position the one that comes first here. `Syntax` stands at
-/// the first token that can't follow, at the number of a base under 2, or at the text's length where it ends too early. A
-/// name directly before a bracket is refused at its first byte, unless it is `max`. `NumberTooLarge` stands at a number over 2^127-1, or a base over
-/// 2^64-1; `UnknownName` at a name that isn't listed; `TooDeep` and `TooLarge` at the token with which the tree so far has
-/// more than 200 levels, or more than 4,096 nodes. A sum and a product count from the token on that shows them. `Memory`
-/// comes where memory ran out, or where a listed name has a place over 2^32-1.
+/// The refusal at the least position is the answer, and at one position the one that comes first here. `Syntax` stands
+/// at the first token that can't follow, at the number of a base under 2, or at the text's length where it ends too
+/// early. A name directly before a bracket is refused at its first byte, unless it is `max`. `NumberTooLarge` stands at
+/// a number over 2^127-1, or a base over 2^64-1; `UnknownName` at a name that isn't listed; `TooDeep` and `TooLarge` at
+/// the token with which the tree so far has more than 200 levels, or more than 4,096 nodes. A sum and a product count
+/// from the token on that shows them. `Memory` comes where memory ran out, or where a listed name has a position over
+/// 2^32-1.
 pub fn read(alloc: Global, names: &[Name], bytes: &[u8]) -> Result<Bound, BoundTextError>
     requires { AreNames (map name_of names.now) }
     ensures answer { Answers (map name_of names.now) bytes.now result }
@@ -51,8 +52,8 @@ pub fn texts_have_no_fault()
     ensures { TextsHaveNoFault }
 {}
 
-/// A front of the reader tells what has been read: pieces lead to it exactly where it is written as they are, and a base can
-/// stand there exactly where an item begins.
+/// A front of the reader tells what has been read: pieces lead to it exactly where it is written as they are, and a
+/// base can stand there exactly where an item begins.
 pub fn fronts_are_read()
     ensures { FrontsRead }
 {}

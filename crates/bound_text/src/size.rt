@@ -9,7 +9,7 @@ ghost use Rattle.bound_text.specs.Views.{parts_in, bracket_of, outer_in, front_o
 use crate::fault::Fault;
 use crate::joining::{is_empty, makes_product};
 use crate::measured::Measured;
-use crate::state::{Bracket, Opened, Place, Reader};
+use crate::state::{Bracket, Opened, Position, Reader};
 use bound_expr::{DEPTH_LIMIT, NODE_LIMIT};
 
 /// How many levels a bound may have.
@@ -92,38 +92,40 @@ impl Bracket {
 impl Reader {
     // The node of the innermost sum.
     fn sum_node(&self, round: Round) -> u64
-        ensures value { (outer : Outer) → IsRound outer round → result ≡ sum_here self.now.place outer (parts_in self.now.terms) }
+        ensures value { (outer : Outer) → IsRound outer round → result ≡ sum_here self.now.position outer (parts_in self.now.terms) }
         ensures small { result ≤ 1 }
     {
         if round.in_factor {
             return 0;
         }
-        match self.place {
-            Place::BlankRead | Place::PlusRead => 1,
+        match self.position {
+            Position::BlankRead | Position::PlusRead => 1,
             _ => node_of_any(&self.terms),
         }
     }
 
     // The node of the innermost product.
     fn product_node(&self) -> u64
-        ensures value { result ≡ product_here self.now.place (parts_in self.now.factors) }
+        ensures value { result ≡ product_here self.now.position (parts_in self.now.factors) }
         ensures small { result ≤ 1 }
     {
-        match self.place {
-            Place::ItemRead | Place::BlankRead | Place::PlusRead | Place::CommaRead => product_node(
-                &self.factors,
-            ),
+        match self.position {
+            Position::ItemRead | Position::BlankRead | Position::PlusRead | Position::CommaRead =>
+                product_node(&self.factors),
             _ => node_of_any(&self.factors),
         }
     }
 
     // The node of an item that has begun.
     fn item_node(&self) -> u64
-        ensures value { result ≡ item_here self.now.place }
+        ensures value { result ≡ item_here self.now.position }
         ensures small { result ≤ 1 }
     {
-        match self.place {
-            Place::Number(_) | Place::Name(_) | Place::RunCaret(_) | Place::PowerCaret(_) => 1,
+        match self.position {
+            Position::Number(_)
+            | Position::Name(_)
+            | Position::RunCaret(_)
+            | Position::PowerCaret(_) => 1,
             _ => 0,
         }
     }

@@ -31,7 +31,7 @@ pub struct Opened {
 
 /// What was read last.
 #[derive(Clone, Copy, Debug, PartialEq, Eq)]
-pub enum Place {
+pub enum Position {
     /// What an item can follow.
     Begins,
     /// A number that begins an item, not yet a factor.
@@ -53,13 +53,13 @@ pub enum Place {
 }
 
 /// The part of a text that has been read: the open brackets, the outermost first, then the terms and the factors of the
-/// innermost bound, and the place.
+/// innermost bound, and the position.
 #[derive(Drop)]
 pub struct Reader {
     pub(crate) outer: Brackets,
     pub(crate) terms: Measured,
     pub(crate) factors: Measured,
-    pub(crate) place: Place,
+    pub(crate) position: Position,
 }
 
 impl Reader {
@@ -72,7 +72,7 @@ impl Reader {
             outer: Brackets::new(alloc),
             terms: Measured::new(alloc),
             factors: Measured::new(alloc),
-            place: Place::Begins,
+            position: Position::Begins,
         }
     }
 }

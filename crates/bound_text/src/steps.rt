@@ -19,7 +19,7 @@ use crate::joining::{
 };
 use crate::measured::{Counted, Measured};
 use crate::piece::Piece;
-use crate::state::{Bracket, Opened, Place, Reader};
+use crate::state::{Bracket, Opened, Position, Reader};
 use crate::taking::TOO_LARGE_BASE;
 use bound_expr::Bound;
 use std::alloc::Global;
@@ -32,8 +32,8 @@ impl Reader {
         requires { IsTrue (is_settled self.now) }
         ensures { result ≡ has_large_base_of (front_of self.now) (piece_of piece) }
     {
-        match (self.place, piece) {
-            (Place::Number(c), Piece::Caret) => c >= TOO_LARGE_BASE,
+        match (self.position, piece) {
+            (Position::Number(c), Piece::Caret) => c >= TOO_LARGE_BASE,
             _ => false,
         }
     }
@@ -45,7 +45,7 @@ impl Reader {
         let terms = mem::replace(&mut self.terms, Measured::new(alloc));
         let factors = mem::replace(&mut self.factors, Measured::new(alloc));
         self.outer.open(bracket, terms, factors)?;
-        self.place = Place::Begins;
+        self.position = Position::Begins;
         Ok(())
     }
 
@@ -58,11 +58,11 @@ impl Reader {
                 if ends_with(&self.factors, i) {
                     return Err(Fault::Syntax);
                 }
-                self.place = Place::Name(i);
+                self.position = Position::Name(i);
                 Ok(())
             }
             Piece::Number(c) => {
-                self.place = Place::Number(c);
+                self.position = Position::Number(c);
                 Ok(())
             }
             Piece::Maximum => self.open(alloc, Bracket::Arguments(Measured::new(alloc))),
@@ -94,7 +94,7 @@ impl Reader {
     {
         self.factors
             .push(Bound::Power(base, Box::new(alloc, exponent)?))?;
-        self.place = Place::ItemRead;
+        self.position = Position::ItemRead;
         Ok(())
     }
 
@@ -106,7 +106,7 @@ impl Reader {
         if number < 2 {
             return Err(Fault::Syntax);
         }
-        self.place = Place::PowerCaret(number as u64);
+        self.position = Position::PowerCaret(number as u64);
         Ok(())
     }
 
@@ -141,7 +141,7 @@ impl Reader {
         let factors = mem::replace(&mut self.factors, outer_factors);
         let item = bracket.item_from(alloc, bound_from(terms, factors)?)?;
         self.factors.push_counted(item)?;
-        self.place = Place::ItemRead;
+        self.position = Position::ItemRead;
         Ok(())
     }
 
@@ -152,15 +152,15 @@ impl Reader {
     {
         match piece {
             Piece::Times => {
-                self.place = Place::Begins;
+                self.position = Position::Begins;
                 Ok(())
             }
             Piece::Blank if can_end(&self.factors) => {
-                self.place = Place::BlankRead;
+                self.position = Position::BlankRead;
                 Ok(())
             }
             Piece::Comma if self.can_be_argument() => {
-                self.place = Place::CommaRead;
+                self.position = Position::CommaRead;
                 Ok(())
             }
             Piece::Close => self.close(alloc),
@@ -174,7 +174,7 @@ impl Reader {
     {
         let factors = mem::replace(&mut self.factors, Measured::new(alloc));
         self.terms.push_counted(product_from(factors))?;
-        self.place = Place::Begins;
+        self.position = Position::Begins;
         Ok(())
     }
 
@@ -235,7 +235,7 @@ impl Reader {
     {
         match piece {
             Piece::Caret => {
-                self.place = Place::RunCaret(variable);
+                self.position = Position::RunCaret(variable);
                 Ok(())
             }
             _ => {

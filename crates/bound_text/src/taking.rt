@@ -12,7 +12,7 @@ use crate::fault::Fault;
 use crate::joining::{bound_from, can_end};
 use crate::measured::Measured;
 use crate::piece::Piece;
-use crate::state::{Place, Reader};
+use crate::state::{Position, Reader};
 use bound_expr::{Bound, CAP, Memory, NODE_LIMIT};
 use std::alloc::Global;
 
@@ -58,7 +58,7 @@ impl Reader {
         requires { IsTrue (is_settled self.old) }
         ensures { Obeys (checked names caret (front_of self.old) (piece_of piece)) self.new result }
     {
-        if let Place::RunCaret(variable) = self.place {
+        if let Position::RunCaret(variable) = self.position {
             return self.end_run(variable, piece);
         }
         if self.has_large_base(piece) {
@@ -72,40 +72,40 @@ impl Reader {
 
     // Whether an item begins.
     fn begins(&self) -> bool
-        ensures { result ≡ begins_at (front_of self.now).place }
+        ensures { result ≡ begins_at (front_of self.now).position }
     {
-        matches!(self.place, Place::Begins)
+        matches!(self.position, Position::Begins)
     }
 
     // Where a piece leads, but behind the `^` of a run.
     fn step(&mut self, alloc: Global, piece: Piece) -> Result<(), Fault>
         requires settled { IsTrue (is_settled self.old) }
-        requires no_run { IsFalse (is_in_run self.old.place) }
+        requires no_run { IsFalse (is_in_run self.old.position) }
         requires no_base { IsFalse (has_large_base_of (front_of self.old) (piece_of piece)) }
         ensures { Follows (step_of (front_of self.old) (piece_of piece)) self.new result }
     {
-        match self.place {
-            Place::Begins => self.begin_item(alloc, piece),
-            Place::Number(number) => self.follow_number(alloc, number, piece),
-            Place::Name(variable) => self.follow_name(alloc, variable, piece),
-            Place::PowerCaret(base) => self.begin_exponent(alloc, base, piece),
-            Place::ItemRead => self.follow_item(alloc, piece),
-            Place::BlankRead => match piece {
+        match self.position {
+            Position::Begins => self.begin_item(alloc, piece),
+            Position::Number(number) => self.follow_number(alloc, number, piece),
+            Position::Name(variable) => self.follow_name(alloc, variable, piece),
+            Position::PowerCaret(base) => self.begin_exponent(alloc, base, piece),
+            Position::ItemRead => self.follow_item(alloc, piece),
+            Position::BlankRead => match piece {
                 Piece::Plus => {
-                    self.place = Place::PlusRead;
+                    self.position = Position::PlusRead;
                     Ok(())
                 }
                 _ => Err(Fault::Syntax),
             },
-            Place::PlusRead => match piece {
+            Position::PlusRead => match piece {
                 Piece::Blank => self.end_term(alloc),
                 _ => Err(Fault::Syntax),
             },
-            Place::CommaRead => match piece {
+            Position::CommaRead => match piece {
                 Piece::Blank => self.end_argument(alloc),
                 _ => Err(Fault::Syntax),
             },
-            Place::RunCaret(_) => unreachable!(),
+            Position::RunCaret(_) => unreachable!(),
         }
     }
 
@@ -120,7 +120,7 @@ impl Reader {
                 }
                 self.factors
                     .push_copies(variable, count.min(TOO_MANY) as u32)?;
-                self.place = Place::ItemRead;
+                self.position = Position::ItemRead;
                 self.check_size()
             }
             _ => Err(Fault::Syntax),
@@ -131,16 +131,16 @@ impl Reader {
     pub fn finish(mut self) -> Result<Bound, Fault>
         ensures { Finishes (finish_of (front_of self)) result }
     {
-        match self.place {
-            Place::Number(c) => {
+        match self.position {
+            Position::Number(c) => {
                 self.factors.push(Bound::Const(c))?;
                 self.end()
             }
-            Place::Name(i) => {
+            Position::Name(i) => {
                 self.factors.push(Bound::Var(i))?;
                 self.end()
             }
-            Place::ItemRead => self.end(),
+            Position::ItemRead => self.end(),
             _ => Err(Fault::Syntax),
         }
     }

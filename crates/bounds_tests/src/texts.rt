@@ -264,7 +264,8 @@ fn a_token_that_shows_two_faults_gets_the_first_kind(rt: HostRuntime) -> Result<
     Ok(())
 }
 
-// Texts with a letter for each of their proper prefixes: a text, refused at its end, or ended by a name that isn't listed.
+// Texts with a letter for each of their proper prefixes: a text, refused at its end, or ended by a name that isn't
+// listed.
 const PREFIXES: &[(&str, &str)] = &[
     (
         "max(2^(A + B)*(A + 1), 2*A^2*B + 10, 3^B)*(A + max(A*B, 7)) + B",

@@ -3,7 +3,7 @@ use Rattle.std.specs.Prelude.{◌≡◌, ℕ, List, [], ◌∷◌, Some, refl}
 use Rattle.std.proofs.Common.{ap}
 use Rattle.expr_text.specs.Pieces.{Piece, Digits, Close, Sign, EqualSign, Related}
 use Rattle.expr_text.specs.Trees.{Sum, Plain, Raised, Base, Number, Bracketed}
-use Rattle.expr_text.specs.Fronts.{Level, Place, Wanted, BaseRead, CaretRead, ExponentRead, Front, sum_made, beginning}
+use Rattle.expr_text.specs.Fronts.{Level, Operand, Wanted, BaseRead, CaretRead, ExponentRead, Front, sum_made, beginning}
 use Rattle.expr_text.specs.Steps.{read, step, finish}
 use Rattle.expr_text.specs.Guards.{Atoms, Compared}
 use Rattle.expr_text.specs.GuardFronts as guards
@@ -22,25 +22,25 @@ module _ {P : Type 0} (into : Piece → P) (At : List P → Front → Type 0) (G
       back (into Close) done (behind_base outer l (Bracketed (sum_made level (Plain b))) (into Close ∷ done)
       (steps done (read (l ∷ outer) level b) (read outer l (Bracketed (sum_made level (Plain b)))) Close h refl))
 
-  behind_exponent : (outer : List Level) (level : Level) (b : Base) (ds : List ℕ) (done : List P) → At done (record { outer = outer; level = level; place = ExponentRead b ds }) → Goes done
-  behind_exponent [] level b ds done h = ends done (record { outer = []; level = level; place = ExponentRead b ds }) (sum_made level (Raised b ds)) h refl
+  behind_exponent : (outer : List Level) (level : Level) (b : Base) (ds : List ℕ) (done : List P) → At done (record { outer = outer; level = level; operand = ExponentRead b ds }) → Goes done
+  behind_exponent [] level b ds done h = ends done (record { outer = []; level = level; operand = ExponentRead b ds }) (sum_made level (Raised b ds)) h refl
   behind_exponent (l ∷ outer) level b ds done h =
       back (into Close) done (behind_base outer l (Bracketed (sum_made level (Raised b ds))) (into Close ∷ done)
-      (steps done (record { outer = l ∷ outer; level = level; place = ExponentRead b ds }) (read outer l (Bracketed (sum_made level (Raised b ds)))) Close h refl))
+      (steps done (record { outer = l ∷ outer; level = level; operand = ExponentRead b ds }) (read outer l (Bracketed (sum_made level (Raised b ds)))) Close h refl))
 
-  from_place : (outer : List Level) (level : Level) (place : Place) (done : List P) → At done (record { outer = outer; level = level; place = place }) → Goes done
-  from_place outer level Wanted done h =
+  from_operand : (outer : List Level) (level : Level) (operand : Operand) (done : List P) → At done (record { outer = outer; level = level; operand = operand }) → Goes done
+  from_operand outer level Wanted done h =
       back (into (Digits (49 ∷ []))) done (behind_base outer level (Number (49 ∷ [])) (into (Digits (49 ∷ [])) ∷ done)
-      (steps done (record { outer = outer; level = level; place = Wanted }) (read outer level (Number (49 ∷ []))) (Digits (49 ∷ [])) h refl))
-  from_place outer level (BaseRead b) done h = behind_base outer level b done h
-  from_place outer level (CaretRead b) done h =
+      (steps done (record { outer = outer; level = level; operand = Wanted }) (read outer level (Number (49 ∷ []))) (Digits (49 ∷ [])) h refl))
+  from_operand outer level (BaseRead b) done h = behind_base outer level b done h
+  from_operand outer level (CaretRead b) done h =
       back (into (Digits (49 ∷ []))) done (behind_exponent outer level b (49 ∷ []) (into (Digits (49 ∷ [])) ∷ done)
-      (steps done (record { outer = outer; level = level; place = CaretRead b }) (record { outer = outer; level = level; place = ExponentRead b (49 ∷ []) }) (Digits (49 ∷ [])) h refl))
-  from_place outer level (ExponentRead b ds) done h = behind_exponent outer level b ds done h
+      (steps done (record { outer = outer; level = level; operand = CaretRead b }) (record { outer = outer; level = level; operand = ExponentRead b (49 ∷ []) }) (Digits (49 ∷ [])) h refl))
+  from_operand outer level (ExponentRead b ds) done h = behind_exponent outer level b ds done h
 
   -- each front of an expression can be completed
   pub expression_completed : (e : Front) (done : List P) → At done e → Goes done
-  expression_completed e done h = from_place e.outer e.level e.place done h
+  expression_completed e done h = from_operand e.outer e.level e.operand done h
 
 -- a text stands at a guard's front behind some pieces
 module _ {P : Type 0} (into : Piece → P) (At : List P → GuardFront → Type 0) (Goes : List P → Type 0)

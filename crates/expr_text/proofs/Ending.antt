@@ -4,13 +4,13 @@ use Rattle.std.proofs.Common.{◌∙◌, ap, subst}
 use Rattle.model.specs.Programs.{Name}
 use Rattle.expr_text.specs.Pieces.{Piece, Word, Close, Sign, Related, Joint, Joining}
 use Rattle.expr_text.specs.Trees.{Sum, Number, Named, Bracketed}
-use Rattle.expr_text.specs.Fronts.{Summed, NoSum, PlusAfter, MinusAfter, Factored, NoProduct, TimesAfter, Level, Place, Wanted, BaseRead, CaretRead, ExponentRead, Front, empty_level, beginning}
+use Rattle.expr_text.specs.Fronts.{Summed, NoSum, PlusAfter, MinusAfter, Factored, NoProduct, TimesAfter, Level, Operand, Wanted, BaseRead, CaretRead, ExponentRead, Front, empty_level, beginning}
 use Rattle.expr_text.specs.Steps.{step_from, step, finish_from, finish}
 use Rattle.expr_text.specs.Guards.{Atom, Atoms}
 use Rattle.expr_text.specs.GuardFronts as guards
 use Rattle.expr_text.specs.GuardFronts.{Conjoined, GuardFront, LeftSide, RightSide, JointAfter}
 
-related_from : (outer : List Level) (level : Level) (place : Place) (sign : Sign) → step_from outer level place (Related sign) ≡ None
+related_from : (outer : List Level) (level : Level) (operand : Operand) (sign : Sign) → step_from outer level operand (Related sign) ≡ None
 related_from outer level Wanted sign = refl
 related_from outer level (BaseRead b) sign = refl
 related_from outer level (CaretRead b) sign = refl
@@ -18,9 +18,9 @@ related_from outer level (ExponentRead b ds) sign = refl
 
 -- a relation ends an expression
 pub related_ends : (e : Front) (sign : Sign) → step e (Related sign) ≡ None
-related_ends e sign = related_from e.outer e.level e.place sign
+related_ends e sign = related_from e.outer e.level e.operand sign
 
-joining_from : (outer : List Level) (level : Level) (place : Place) (joint : Joint) → step_from outer level place (Joining joint) ≡ None
+joining_from : (outer : List Level) (level : Level) (operand : Operand) (joint : Joint) → step_from outer level operand (Joining joint) ≡ None
 joining_from outer level Wanted joint = refl
 joining_from outer level (BaseRead b) joint = refl
 joining_from outer level (CaretRead b) joint = refl
@@ -28,7 +28,7 @@ joining_from outer level (ExponentRead b ds) joint = refl
 
 -- what joins atoms ends an expression
 pub joining_ends : (e : Front) (joint : Joint) → step e (Joining joint) ≡ None
-joining_ends e joint = joining_from e.outer e.level e.place joint
+joining_ends e joint = joining_from e.outer e.level e.operand joint
 
 -- behind a left side that can end a relation leads to the right side
 pub related_step : (c : Conjoined) (e : Front) (l : Sum) (sign : Sign) → finish e ≡ Some l → guards.step (LeftSide c e) (Related sign) ≡ Some (RightSide c l sign beginning)
@@ -40,74 +40,74 @@ joining_step (LeftSide c e) atoms joint same = ap (λ o. guards.within (LeftSide
 joining_step (RightSide c l sign e) atoms joint same = ap (λ o. guards.within (RightSide c l sign e) o (Joining joint)) (joining_ends e joint) ∙ ap (λ o. guards.joined joint o) same
 
 -- an expression that can end isn't gone on with by a name or, in no bracket, by a closing one
-abbrev pub Stops : Piece → List Level → Level → Place → Option Sum → Type 0
-Stops p outer level place None = ⊤
-Stops p outer level place (Some s) = step_from outer level place p ≡ None
+abbrev pub Stops : Piece → List Level → Level → Operand → Option Sum → Type 0
+Stops p outer level operand None = ⊤
+Stops p outer level operand (Some s) = step_from outer level operand p ≡ None
 
-word_stops : (name : Name) (outer : List Level) (level : Level) (place : Place) → Stops (Word name) outer level place (finish_from outer level place)
+word_stops : (name : Name) (outer : List Level) (level : Level) (operand : Operand) → Stops (Word name) outer level operand (finish_from outer level operand)
 word_stops name [] level Wanted = tt
 word_stops name [] level (BaseRead b) = refl
 word_stops name [] level (CaretRead b) = tt
 word_stops name [] level (ExponentRead b ds) = refl
-word_stops name (l ∷ outer) level place = tt
+word_stops name (l ∷ outer) level operand = tt
 
-close_stops : (outer : List Level) (level : Level) (place : Place) → Stops Close outer level place (finish_from outer level place)
+close_stops : (outer : List Level) (level : Level) (operand : Operand) → Stops Close outer level operand (finish_from outer level operand)
 close_stops [] level Wanted = tt
 close_stops [] level (BaseRead b) = refl
 close_stops [] level (CaretRead b) = tt
 close_stops [] level (ExponentRead b ds) = refl
-close_stops (l ∷ outer) level place = tt
+close_stops (l ∷ outer) level operand = tt
 
 pub word_ends : (e : Front) (s : Sum) (name : Name) → finish e ≡ Some s → step e (Word name) ≡ None
-word_ends e s name same = subst (λ o. Stops (Word name) e.outer e.level e.place o) same (word_stops name e.outer e.level e.place)
+word_ends e s name same = subst (λ o. Stops (Word name) e.outer e.level e.operand o) same (word_stops name e.outer e.level e.operand)
 
 pub close_ends : (e : Front) (s : Sum) → finish e ≡ Some s → step e Close ≡ None
-close_ends e s same = subst (λ o. Stops Close e.outer e.level e.place o) same (close_stops e.outer e.level e.place)
+close_ends e s same = subst (λ o. Stops Close e.outer e.level e.operand o) same (close_stops e.outer e.level e.operand)
 
 -- nor is the word of the atom that always holds
-abbrev pub TruthStops : Piece → List Level → Level → Place → Option Atom → Type 0
-TruthStops p outer level place None = ⊤
-TruthStops p outer level place (Some a) = step_from outer level place p ≡ None
+abbrev pub TruthStops : Piece → List Level → Level → Operand → Option Atom → Type 0
+TruthStops p outer level operand None = ⊤
+TruthStops p outer level operand (Some a) = step_from outer level operand p ≡ None
 
 truth_word_stops : (p : Piece) (name : Name) (level : Level) (o : Option Atom) → step_from [] level (BaseRead (Named name)) p ≡ None → TruthStops p [] level (BaseRead (Named name)) o
 truth_word_stops p name level None same = tt
 truth_word_stops p name level (Some a) same = same
 
 truth_stops : (p : Piece) (behind : (level : Level) (name : Name) → step_from [] level (BaseRead (Named name)) p ≡ None)
-    → (outer : List Level) (sum : Summed) (factors : Factored) (n : ℕ) (place : Place)
-    → TruthStops p outer (record { sum = sum; product = factors; minuses = n }) place (guards.truth_in outer (record { sum = sum; product = factors; minuses = n }) place)
+    → (outer : List Level) (sum : Summed) (factors : Factored) (n : ℕ) (operand : Operand)
+    → TruthStops p outer (record { sum = sum; product = factors; minuses = n }) operand (guards.truth_in outer (record { sum = sum; product = factors; minuses = n }) operand)
 truth_stops p behind [] NoSum NoProduct zero (BaseRead (Named name)) = truth_word_stops p name empty_level (guards.truth_named name) (behind empty_level name)
 truth_stops p behind [] NoSum NoProduct zero (BaseRead (Number ds)) = tt
 truth_stops p behind [] NoSum NoProduct zero (BaseRead (Bracketed s)) = tt
 truth_stops p behind [] NoSum NoProduct zero Wanted = tt
 truth_stops p behind [] NoSum NoProduct zero (CaretRead b) = tt
 truth_stops p behind [] NoSum NoProduct zero (ExponentRead b ds) = tt
-truth_stops p behind [] NoSum NoProduct (suc n) place = tt
-truth_stops p behind [] NoSum (TimesAfter q) n place = tt
-truth_stops p behind [] (PlusAfter s) factors n place = tt
-truth_stops p behind [] (MinusAfter s) factors n place = tt
-truth_stops p behind (l ∷ outer) sum factors n place = tt
+truth_stops p behind [] NoSum NoProduct (suc n) operand = tt
+truth_stops p behind [] NoSum (TimesAfter q) n operand = tt
+truth_stops p behind [] (PlusAfter s) factors n operand = tt
+truth_stops p behind [] (MinusAfter s) factors n operand = tt
+truth_stops p behind (l ∷ outer) sum factors n operand = tt
 
 -- a guard that can end isn't gone on with by such a piece
 abbrev pub GuardStops : Piece → GuardFront → Option Atoms → Type 0
 GuardStops p g None = ⊤
 GuardStops p g (Some atoms) = step (guards.expression_in g) p ≡ None
 
-left_stops : (p : Piece) (c : Conjoined) (e : Front) (o : Option Atom) → TruthStops p e.outer e.level e.place o → GuardStops p (LeftSide c e) (guards.ended c o)
+left_stops : (p : Piece) (c : Conjoined) (e : Front) (o : Option Atom) → TruthStops p e.outer e.level e.operand o → GuardStops p (LeftSide c e) (guards.ended c o)
 left_stops p c e None w = tt
 left_stops p c e (Some a) w = w
 
-right_stops : (p : Piece) (c : Conjoined) (l : Sum) (sign : Sign) (e : Front) (o : Option Sum) → Stops p e.outer e.level e.place o → GuardStops p (RightSide c l sign e) (guards.ended c (guards.compared l sign o))
+right_stops : (p : Piece) (c : Conjoined) (l : Sum) (sign : Sign) (e : Front) (o : Option Sum) → Stops p e.outer e.level e.operand o → GuardStops p (RightSide c l sign e) (guards.ended c (guards.compared l sign o))
 right_stops p c l sign e None w = tt
 right_stops p c l sign e (Some s) w = w
 
 word_guard_stops : (name : Name) (g : GuardFront) → GuardStops (Word name) g (guards.finish g)
-word_guard_stops name (LeftSide c e) = left_stops (Word name) c e (guards.truth_of e) (truth_stops (Word name) (λ level other. refl) e.outer e.level.sum e.level.product e.level.minuses e.place)
-word_guard_stops name (RightSide c l sign e) = right_stops (Word name) c l sign e (finish e) (word_stops name e.outer e.level e.place)
+word_guard_stops name (LeftSide c e) = left_stops (Word name) c e (guards.truth_of e) (truth_stops (Word name) (λ level other. refl) e.outer e.level.sum e.level.product e.level.minuses e.operand)
+word_guard_stops name (RightSide c l sign e) = right_stops (Word name) c l sign e (finish e) (word_stops name e.outer e.level e.operand)
 
 close_guard_stops : (g : GuardFront) → GuardStops Close g (guards.finish g)
-close_guard_stops (LeftSide c e) = left_stops Close c e (guards.truth_of e) (truth_stops Close (λ level other. refl) e.outer e.level.sum e.level.product e.level.minuses e.place)
-close_guard_stops (RightSide c l sign e) = right_stops Close c l sign e (finish e) (close_stops e.outer e.level e.place)
+close_guard_stops (LeftSide c e) = left_stops Close c e (guards.truth_of e) (truth_stops Close (λ level other. refl) e.outer e.level.sum e.level.product e.level.minuses e.operand)
+close_guard_stops (RightSide c l sign e) = right_stops Close c l sign e (finish e) (close_stops e.outer e.level e.operand)
 
 -- so a name behind a guard that can end leads nowhere within it, and neither does a closing bracket
 within_none : (g : GuardFront) (p : Piece) → guards.step_behind g p ≡ None → step (guards.expression_in g) p ≡ None → guards.step g p ≡ None

@@ -6,7 +6,7 @@ use Rattle.text_core.specs.Names.{is_same}
 use Rattle.text_core.proofs.NameLaws.{same_equal}
 use Rattle.expr_text.specs.Pieces.{Sign, Joint, Piece, Word, Digits, Open, Close, Plus, Minus, Times, Caret, Related, Joining}
 use Rattle.expr_text.specs.Trees.{Sum, Number, Named, Bracketed, sum_behind}
-use Rattle.expr_text.specs.Fronts.{Summed, NoSum, PlusAfter, MinusAfter, Factored, NoProduct, TimesAfter, Level, Place, Wanted, BaseRead, CaretRead, ExponentRead, Front, front_behind}
+use Rattle.expr_text.specs.Fronts.{Summed, NoSum, PlusAfter, MinusAfter, Factored, NoProduct, TimesAfter, Level, Operand, Wanted, BaseRead, CaretRead, ExponentRead, Front, front_behind}
 use Rattle.expr_text.specs.Steps as inner
 use Rattle.expr_text.specs.Guards.{Capitals, Smalls, Atom, Always, Atoms, atom_behind, atoms_behind}
 use Rattle.expr_text.specs.GuardFronts.{Conjoined, NoAtoms, JointAfter, GuardFront, LeftSide, RightSide, conjoined_behind, guard_behind, atoms_with, truth_named, truth_in, truth_of, compared, ended, finish, joined, related, step_behind, within, expression_in, step}
@@ -41,22 +41,22 @@ module _ {P : Type 0} (into : Piece → P) where
       capitals false other = smalls (is_same name (codes "true")) refl
 
   truth_written : (f : Front) (before : List P) → AtomWritten before (front_behind into f before) (truth_of f)
-  truth_written f before = all f.outer f.level.sum f.level.product f.level.minuses f.place
+  truth_written f before = all f.outer f.level.sum f.level.product f.level.minuses f.operand
     where
-      all : (outer : List Level) (sum : Summed) (product : Factored) (n : ℕ) (place : Place) →
-          AtomWritten before (front_behind into (record { outer = outer; level = record { sum = sum; product = product; minuses = n }; place = place }) before)
-          (truth_in outer (record { sum = sum; product = product; minuses = n }) place)
+      all : (outer : List Level) (sum : Summed) (product : Factored) (n : ℕ) (operand : Operand) →
+          AtomWritten before (front_behind into (record { outer = outer; level = record { sum = sum; product = product; minuses = n }; operand = operand }) before)
+          (truth_in outer (record { sum = sum; product = product; minuses = n }) operand)
       all [] NoSum NoProduct zero (BaseRead (Named name)) = truth_named_written name before
       all [] NoSum NoProduct zero (BaseRead (Number ds)) = tt
       all [] NoSum NoProduct zero (BaseRead (Bracketed s)) = tt
       all [] NoSum NoProduct zero Wanted = tt
       all [] NoSum NoProduct zero (CaretRead b) = tt
       all [] NoSum NoProduct zero (ExponentRead b ds) = tt
-      all [] NoSum NoProduct (suc n) place = tt
-      all [] NoSum (TimesAfter p) n place = tt
-      all [] (PlusAfter s) product n place = tt
-      all [] (MinusAfter s) product n place = tt
-      all (l ∷ outer) sum product n place = tt
+      all [] NoSum NoProduct (suc n) operand = tt
+      all [] NoSum (TimesAfter p) n operand = tt
+      all [] (PlusAfter s) product n operand = tt
+      all [] (MinusAfter s) product n operand = tt
+      all (l ∷ outer) sum product n operand = tt
 
   -- the atoms that an atom ends are written behind what stands before it
   with_written : (c : Conjoined) (a : Atom) (before : List P) → atoms_behind into (atoms_with c a) before ≡ atom_behind into a (conjoined_behind into c before)

@@ -6,3 +6,4 @@ pub mod GuardReading
 pub mod Completing
 pub mod WorkedValues
 pub mod Stability
+pub mod LimitedFaults

@@ -11,8 +11,8 @@ at_level sum product n = record { sum = sum; product = product; minuses = n }
 
 -- the front behind a factor, with so many `-` before it
 abbrev pub behind_factor : List Level → Summed → Factored → ℕ → Factor → Front
-behind_factor outer sum product n (Plain b) = record { outer = outer; level = at_level sum product n; place = BaseRead b }
-behind_factor outer sum product n (Raised b digits) = record { outer = outer; level = at_level sum product n; place = ExponentRead b digits }
+behind_factor outer sum product n (Plain b) = record { outer = outer; level = at_level sum product n; operand = BaseRead b }
+behind_factor outer sum product n (Raised b digits) = record { outer = outer; level = at_level sum product n; operand = ExponentRead b digits }
 behind_factor outer sum product n (Negated f) = behind_factor outer sum product (suc n) f
 
 -- the front behind a product and behind a sum
@@ -122,22 +122,22 @@ module _ {P : Type 0} (into : Piece → P) (At : List P → Front → Type 0)
         (steps (product_behind into p done) (behind_product outer sum p) (wanted outer sum (TimesAfter p)) Times (product_from p outer sum done h) (product_times outer sum p))
 
     factor_from : (f : Factor) (outer : List Level) (sum : Summed) (product : Factored) (n : ℕ) (done : List P)
-        → At done (record { outer = outer; level = at_level sum product n; place = Wanted }) → At (factor_behind into f done) (behind_factor outer sum product n f)
+        → At done (record { outer = outer; level = at_level sum product n; operand = Wanted }) → At (factor_behind into f done) (behind_factor outer sum product n f)
     factor_from (Plain b) outer sum product n done h = base_from b outer (at_level sum product n) done h
     factor_from (Raised b digits) outer sum product n done h =
-        steps (into Caret ∷ base_behind into b done) (record { outer = outer; level = at_level sum product n; place = CaretRead b }) _ (Digits digits)
+        steps (into Caret ∷ base_behind into b done) (record { outer = outer; level = at_level sum product n; operand = CaretRead b }) _ (Digits digits)
         (steps (base_behind into b done) (read outer (at_level sum product n) b) _ Caret (base_from b outer (at_level sum product n) done h) refl) refl
     factor_from (Negated f) outer sum product n done h =
         factor_from f outer sum product (suc n) (into Minus ∷ done)
-        (steps done (record { outer = outer; level = at_level sum product n; place = Wanted }) (record { outer = outer; level = at_level sum product (suc n); place = Wanted }) Minus h refl)
+        (steps done (record { outer = outer; level = at_level sum product n; operand = Wanted }) (record { outer = outer; level = at_level sum product (suc n); operand = Wanted }) Minus h refl)
 
-    base_from : (b : Base) (outer : List Level) (level : Level) (done : List P) → At done (record { outer = outer; level = level; place = Wanted }) → At (base_behind into b done) (read outer level b)
-    base_from (Number digits) outer level done h = steps done (record { outer = outer; level = level; place = Wanted }) (read outer level (Number digits)) (Digits digits) h refl
-    base_from (Named name) outer level done h = steps done (record { outer = outer; level = level; place = Wanted }) (read outer level (Named name)) (Word name) h refl
+    base_from : (b : Base) (outer : List Level) (level : Level) (done : List P) → At done (record { outer = outer; level = level; operand = Wanted }) → At (base_behind into b done) (read outer level b)
+    base_from (Number digits) outer level done h = steps done (record { outer = outer; level = level; operand = Wanted }) (read outer level (Number digits)) (Digits digits) h refl
+    base_from (Named name) outer level done h = steps done (record { outer = outer; level = level; operand = Wanted }) (read outer level (Named name)) (Word name) h refl
     base_from (Bracketed s) outer level done h =
         steps (sum_behind into s (into Open ∷ done)) (behind_sum (level ∷ outer) s) (read outer level (Bracketed s)) Close
         (sum_from s (level ∷ outer) (into Open ∷ done)
-        (steps done (record { outer = outer; level = level; place = Wanted }) (wanted (level ∷ outer) NoSum NoProduct) Open h refl))
+        (steps done (record { outer = outer; level = level; operand = Wanted }) (wanted (level ∷ outer) NoSum NoProduct) Open h refl))
         (sum_close level outer s)
 
   -- the pieces of an expression lead from its beginning to where it can end

@@ -3,7 +3,7 @@ use Rattle.std.specs.Prelude.{◌≡◌, ℕ, zero, suc, List, [], ◌∷◌, Op
 use Rattle.std.proofs.Common.{ap}
 use Rattle.expr_text.specs.Pieces.{Piece, Word, Digits, Open, Close, Plus, Minus, Times, Caret, Related, Joining}
 use Rattle.expr_text.specs.Trees.{Sum, Factor, Plain, Raised, Negated, sum_behind, product_behind, factor_behind}
-use Rattle.expr_text.specs.Fronts.{Summed, NoSum, PlusAfter, MinusAfter, Factored, NoProduct, TimesAfter, Level, Place, Wanted, BaseRead, CaretRead, ExponentRead, Front, summed_behind, factored_behind, minuses_behind, level_behind, outer_behind, front_behind, negated, product_with, sum_made}
+use Rattle.expr_text.specs.Fronts.{Summed, NoSum, PlusAfter, MinusAfter, Factored, NoProduct, TimesAfter, Level, Operand, Wanted, BaseRead, CaretRead, ExponentRead, Front, summed_behind, factored_behind, minuses_behind, level_behind, outer_behind, front_behind, negated, product_with, sum_made}
 use Rattle.expr_text.specs.Steps.{closed, step_behind, step_from, step, finish_from, finish}
 
 module _ {P : Type 0} (into : Piece → P) where
@@ -61,8 +61,8 @@ module _ {P : Type 0} (into : Piece → P) where
   step_behind_adds outer level f (Joining joint) before = tt
 
   -- each piece that is taken stands behind
-  step_from_adds : (outer : List Level) (level : Level) (place : Place) (p : Piece) (before : List P) →
-      Adds before (record { outer = outer; level = level; place = place }) p (step_from outer level place p)
+  step_from_adds : (outer : List Level) (level : Level) (operand : Operand) (p : Piece) (before : List P) →
+      Adds before (record { outer = outer; level = level; operand = operand }) p (step_from outer level operand p)
   step_from_adds outer level Wanted (Digits ds) before = refl
   step_from_adds outer level Wanted (Word name) before = refl
   step_from_adds outer level Wanted Open before = refl
@@ -96,16 +96,16 @@ module _ {P : Type 0} (into : Piece → P) where
   step_from_adds outer level (ExponentRead b ds) p before = step_behind_adds outer level (Raised b ds) p before
 
   pub step_adds : (f : Front) (p : Piece) (before : List P) → Adds before f p (step f p)
-  step_adds f p before = step_from_adds f.outer f.level f.place p before
+  step_adds f p before = step_from_adds f.outer f.level f.operand p before
 
-  finish_from_written : (outer : List Level) (level : Level) (place : Place) (before : List P) →
-      IsWritten before (record { outer = outer; level = level; place = place }) (finish_from outer level place)
+  finish_from_written : (outer : List Level) (level : Level) (operand : Operand) (before : List P) →
+      IsWritten before (record { outer = outer; level = level; operand = operand }) (finish_from outer level operand)
   finish_from_written [] level Wanted before = tt
   finish_from_written [] level (BaseRead b) before = sum_pieces level.sum level.product level.minuses (Plain b) before
   finish_from_written [] level (CaretRead b) before = tt
   finish_from_written [] level (ExponentRead b ds) before = sum_pieces level.sum level.product level.minuses (Raised b ds) before
-  finish_from_written (l ∷ outer) level place before = tt
+  finish_from_written (l ∷ outer) level operand before = tt
 
   -- an expression that ends is written as what was read of it
   pub finish_written : (f : Front) (before : List P) → IsWritten before f (finish f)
-  finish_written f before = finish_from_written f.outer f.level f.place before
+  finish_written f before = finish_from_written f.outer f.level f.operand before

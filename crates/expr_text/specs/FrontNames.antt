@@ -4,7 +4,7 @@ use Rattle.model.specs.Programs.{Name}
 use Rattle.text_core.specs.Names.{is_same}
 use Rattle.expr_text.specs.Pieces.{Piece, Word, Digits, Open, Plus, Minus, Times, Caret, Related}
 use Rattle.expr_text.specs.Terms.{with_sum, with_product, with_base}
-use Rattle.expr_text.specs.Fronts.{Summed, NoSum, PlusAfter, MinusAfter, Factored, NoProduct, TimesAfter, Level, Place, Wanted, BaseRead, CaretRead, ExponentRead, Front, front_behind}
+use Rattle.expr_text.specs.Fronts.{Summed, NoSum, PlusAfter, MinusAfter, Factored, NoProduct, TimesAfter, Level, Operand, Wanted, BaseRead, CaretRead, ExponentRead, Front, front_behind}
 use Rattle.expr_text.specs.Steps as inner
 use Rattle.expr_text.specs.Guards.{with_atoms}
 use Rattle.expr_text.specs.GuardFronts.{Conjoined, NoAtoms, JointAfter, GuardFront, LeftSide, RightSide, expression_in}
@@ -26,14 +26,14 @@ abbrev pub with_outer : List Name → List Level → List Name
 with_outer names [] = names
 with_outer names (l ∷ outer) = with_level (with_outer names outer) l
 
-abbrev pub with_place : List Name → Place → List Name
-with_place names Wanted = names
-with_place names (BaseRead b) = with_base names b
-with_place names (CaretRead b) = with_base names b
-with_place names (ExponentRead b digits) = with_base names b
+abbrev pub with_operand : List Name → Operand → List Name
+with_operand names Wanted = names
+with_operand names (BaseRead b) = with_base names b
+with_operand names (CaretRead b) = with_base names b
+with_operand names (ExponentRead b digits) = with_base names b
 
 abbrev pub with_front : List Name → Front → List Name
-with_front names f = with_place (with_level (with_outer names f.outer) f.level) f.place
+with_front names f = with_operand (with_level (with_outer names f.outer) f.level) f.operand
 
 abbrev pub with_conjoined : List Name → Conjoined → List Name
 with_conjoined names NoAtoms = names

@@ -21,18 +21,18 @@ pub record Level : Type 0 where
   pub minuses : ℕ
 
 -- what was read last: what an operand can follow, a base, its `^`, or its exponent
-pub data Place : Type 0 where
-  Wanted : Place
-  BaseRead : Base → Place
-  CaretRead : Base → Place
-  ExponentRead : Base → List ℕ → Place
+pub data Operand : Type 0 where
+  Wanted : Operand
+  BaseRead : Base → Operand
+  CaretRead : Base → Operand
+  ExponentRead : Base → List ℕ → Operand
 
--- the part that has been read: what stands before each open bracket, the innermost first, what stands before the operand,
--- and the place
+-- the part that has been read: what stands before each open bracket, the innermost first, what stands before the
+-- operand, and what was read last of it
 pub record Front : Type 0 where
   pub outer : List Level
   pub level : Level
-  pub place : Place
+  pub operand : Operand
 
 -- nothing stands before an operand
 abbrev pub empty_level : Level
@@ -40,7 +40,7 @@ empty_level = record { sum = NoSum; product = NoProduct; minuses = 0 }
 
 -- nothing has been read
 abbrev pub beginning : Front
-beginning = record { outer = []; level = empty_level; place = Wanted }
+beginning = record { outer = []; level = empty_level; operand = Wanted }
 
 -- the pieces of each part behind those that come before it, the last one first
 module _ {P : Type 0} (into : Piece → P) where
@@ -64,14 +64,14 @@ module _ {P : Type 0} (into : Piece → P) where
   outer_behind [] before = before
   outer_behind (l ∷ outer) before = into Open ∷ level_behind l (outer_behind outer before)
 
-  abbrev pub place_behind : Place → List P → List P
-  place_behind Wanted before = before
-  place_behind (BaseRead b) before = base_behind into b before
-  place_behind (CaretRead b) before = into Caret ∷ base_behind into b before
-  place_behind (ExponentRead b digits) before = into (Digits digits) ∷ into Caret ∷ base_behind into b before
+  abbrev pub operand_behind : Operand → List P → List P
+  operand_behind Wanted before = before
+  operand_behind (BaseRead b) before = base_behind into b before
+  operand_behind (CaretRead b) before = into Caret ∷ base_behind into b before
+  operand_behind (ExponentRead b digits) before = into (Digits digits) ∷ into Caret ∷ base_behind into b before
 
   abbrev pub front_behind : Front → List P → List P
-  front_behind f before = place_behind f.place (level_behind f.level (outer_behind f.outer before))
+  front_behind f before = operand_behind f.operand (level_behind f.level (outer_behind f.outer before))
 
 -- a factor behind so many `-`
 abbrev pub negated : ℕ → Factor → Factor

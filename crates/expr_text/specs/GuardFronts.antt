@@ -4,7 +4,7 @@ use Rattle.model.specs.Programs.{Name}
 use Rattle.text_core.specs.Names.{is_same}
 use Rattle.expr_text.specs.Pieces.{Sign, Joint, Piece, Related, Joining}
 use Rattle.expr_text.specs.Trees.{Sum, Named, sum_behind}
-use Rattle.expr_text.specs.Fronts.{Front, Level, Place, BaseRead, Summed, NoSum, Factored, NoProduct, beginning, front_behind}
+use Rattle.expr_text.specs.Fronts.{Front, Level, Operand, BaseRead, Summed, NoSum, Factored, NoProduct, beginning, front_behind}
 use Rattle.expr_text.specs.Steps as inner
 use Rattle.expr_text.specs.Guards.{Capitals, Smalls, Atom, Always, Compared, Atoms, First, Joined, atoms_behind}
 
@@ -30,7 +30,8 @@ module _ {P : Type 0} (into : Piece → P) where
 
   abbrev pub guard_behind : GuardFront → List P → List P
   guard_behind (LeftSide c e) before = front_behind into e (conjoined_behind c before)
-  guard_behind (RightSide c l sign e) before = front_behind into e (into (Related sign) ∷ sum_behind into l (conjoined_behind c before))
+  guard_behind (RightSide c l sign e) before =
+      front_behind into e (into (Related sign) ∷ sum_behind into l (conjoined_behind c before))
 
 -- the atoms that an atom ends
 abbrev pub atoms_with : Conjoined → Atom → Atoms
@@ -39,19 +40,21 @@ atoms_with (JointAfter atoms joint) a = Joined atoms joint a
 
 -- the atom that always holds, where a name is its word
 abbrev pub truth_named : Name → Option Atom
-truth_named name = if is_same name (codes "TRUE") then Some (Always Capitals) else if is_same name (codes "true") then Some (Always Smalls) else None
+truth_named name =
+    if is_same name (codes "TRUE") then Some (Always Capitals)
+    else if is_same name (codes "true") then Some (Always Smalls) else None
 
 -- the atom that always holds, where its word alone is read
-abbrev pub truth_at : Summed → Factored → ℕ → Place → Option Atom
+abbrev pub truth_at : Summed → Factored → ℕ → Operand → Option Atom
 truth_at NoSum NoProduct zero (BaseRead (Named name)) = truth_named name
 truth_at _ _ _ _ = None
 
-abbrev pub truth_in : List Level → Level → Place → Option Atom
-truth_in [] level place = truth_at level.sum level.product level.minuses place
-truth_in (l ∷ outer) level place = None
+abbrev pub truth_in : List Level → Level → Operand → Option Atom
+truth_in [] level operand = truth_at level.sum level.product level.minuses operand
+truth_in (l ∷ outer) level operand = None
 
 abbrev pub truth_of : Front → Option Atom
-truth_of e = truth_in e.outer e.level e.place
+truth_of e = truth_in e.outer e.level e.operand
 
 -- the atom that two expressions and a relation make, where the right one can end
 abbrev pub compared : Sum → Sign → Option Sum → Option Atom

@@ -8,3 +8,4 @@ pub mod GuardFronts
 pub mod FrontNames
 pub mod Worked
 pub mod TermFronts
+pub mod Limited

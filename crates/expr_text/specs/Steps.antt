@@ -2,15 +2,16 @@
 use Rattle.std.specs.Prelude.{suc, List, [], ◌∷◌, Option, Some, None}
 use Rattle.expr_text.specs.Pieces.{Piece, Word, Digits, Open, Close, Plus, Minus, Times, Caret}
 use Rattle.expr_text.specs.Trees.{Sum, Factor, Plain, Raised, Base, Number, Named, Bracketed}
-use Rattle.expr_text.specs.Fronts.{Summed, PlusAfter, MinusAfter, Factored, NoProduct, TimesAfter, Level, Place, Wanted, BaseRead, CaretRead, ExponentRead, Front, empty_level, product_made, sum_made}
+use Rattle.expr_text.specs.Fronts.{Summed, PlusAfter, MinusAfter, Factored, NoProduct, TimesAfter, Level, Operand, Wanted, BaseRead, CaretRead, ExponentRead, Front, empty_level, product_made, sum_made}
 
 -- an operand is wanted behind a sum and a product
 abbrev pub wanted : List Level → Summed → Factored → Front
-wanted outer sum product = record { outer = outer; level = record { sum = sum; product = product; minuses = 0 }; place = Wanted }
+wanted outer sum product =
+    record { outer = outer; level = record { sum = sum; product = product; minuses = 0 }; operand = Wanted }
 
 -- a base is read
 abbrev pub read : List Level → Level → Base → Front
-read outer level b = record { outer = outer; level = level; place = BaseRead b }
+read outer level b = record { outer = outer; level = level; operand = BaseRead b }
 
 -- the innermost bracket closes behind an expression
 abbrev pub closed : List Level → Sum → Option Front
@@ -25,30 +26,40 @@ step_behind outer level f Minus = Some (wanted outer (MinusAfter (sum_made level
 step_behind outer level f Close = closed outer (sum_made level f)
 step_behind outer level f _ = None
 
--- where a piece leads from a place
-abbrev pub step_from : List Level → Level → Place → Piece → Option Front
+-- where a piece leads from an operand
+abbrev pub step_from : List Level → Level → Operand → Piece → Option Front
 step_from outer level Wanted (Digits digits) = Some (read outer level (Number digits))
 step_from outer level Wanted (Word name) = Some (read outer level (Named name))
-step_from outer level Wanted Open = Some (record { outer = level ∷ outer; level = empty_level; place = Wanted })
-step_from outer level Wanted Minus = Some (record { outer = outer; level = record { sum = level.sum; product = level.product; minuses = suc level.minuses }; place = Wanted })
+step_from outer level Wanted Open = Some (record { outer = level ∷ outer; level = empty_level; operand = Wanted })
+step_from outer level Wanted Minus =
+    Some (record {
+      outer = outer;
+      level = record {
+        sum = level.sum;
+        product = level.product;
+        minuses = suc level.minuses;
+      };
+      operand = Wanted;
+    })
 step_from outer level Wanted _ = None
-step_from outer level (BaseRead b) Caret = Some (record { outer = outer; level = level; place = CaretRead b })
+step_from outer level (BaseRead b) Caret = Some (record { outer = outer; level = level; operand = CaretRead b })
 step_from outer level (BaseRead b) p = step_behind outer level (Plain b) p
-step_from outer level (CaretRead b) (Digits digits) = Some (record { outer = outer; level = level; place = ExponentRead b digits })
+step_from outer level (CaretRead b) (Digits digits) =
+    Some (record { outer = outer; level = level; operand = ExponentRead b digits })
 step_from outer level (CaretRead b) _ = None
 step_from outer level (ExponentRead b digits) p = step_behind outer level (Raised b digits) p
 
 -- where a piece leads
 abbrev pub step : Front → Piece → Option Front
-step f p = step_from f.outer f.level f.place p
+step f p = step_from f.outer f.level f.operand p
 
 -- the expression that ends here, where one can: no bracket is open, and an operand is read
-abbrev pub finish_from : List Level → Level → Place → Option Sum
+abbrev pub finish_from : List Level → Level → Operand → Option Sum
 finish_from [] level (BaseRead b) = Some (sum_made level (Plain b))
 finish_from [] level (ExponentRead b digits) = Some (sum_made level (Raised b digits))
 finish_from [] level Wanted = None
 finish_from [] level (CaretRead b) = None
-finish_from (l ∷ outer) level place = None
+finish_from (l ∷ outer) level operand = None
 
 abbrev pub finish : Front → Option Sum
-finish f = finish_from f.outer f.level f.place
+finish f = finish_from f.outer f.level f.operand

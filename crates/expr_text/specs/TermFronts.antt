@@ -1,13 +1,15 @@
 -- The part of an expression that has been read, as terms: brackets are gone, and variables are numbered.
-use Rattle.std.specs.Prelude.{ℕ, zero, suc, min, ◌^◌, List, [], ◌∷◌, map, reverse, pos, Bool, true, false, not}
+use Rattle.std.specs.Prelude.{ℕ, zero, suc, min, ◌+◌, List, [], ◌∷◌, map, reverse, pos, Bool, true, false, not}
 use Rattle.model.specs.Programs.{Name}
+use Rattle.model.specs.Limits.{degree_limit, coefficient_limit}
 use Rattle.model.specs.Terms.{Term, Literal, Variable, Negation, Addition, Subtraction, Multiplication, Exponentiation}
 use Rattle.expr_text.specs.Pieces.{Piece, Digits, Close, Plus, Minus, Times, Caret}
 use Rattle.expr_text.specs.Terms.{number_of, sum_term, product_term, base_term}
 use Rattle.expr_text.specs.Fronts as written
 use Rattle.expr_text.specs.FrontNames.{begins_expression}
 
--- an exponent over 8 counts as 9: no program has one, and each is refused as 9 is
+-- an exponent over the limit on degrees counts as the one behind it: no program has one, and each is refused as that
+-- one is
 abbrev pub limited : Term → Term
 limited (Literal z) = Literal z
 limited (Variable i) = Variable i
@@ -15,7 +17,7 @@ limited (Negation e) = Negation (limited e)
 limited (Addition d e) = Addition (limited d) (limited e)
 limited (Subtraction d e) = Subtraction (limited d) (limited e)
 limited (Multiplication d e) = Multiplication (limited d) (limited e)
-limited (Exponentiation e n) = Exponentiation (limited e) (min n 9)
+limited (Exponentiation e n) = Exponentiation (limited e) (min n (degree_limit + 1))
 
 -- what stands before a product, and before a factor
 pub data Summed : Type 0 where
@@ -39,8 +41,8 @@ pub data Operand : Type 0 where
   CaretRead : Term → Operand
   ExponentRead : Term → ℕ → Operand
 
--- the part that has been read: what stands before each open bracket, the innermost last, what stands before the operand, and
--- the operand
+-- the part that has been read: what stands before each open bracket, the innermost last, what stands before the
+-- operand, and the operand
 pub record Front : Type 0 where
   pub outer : List Level
   pub level : Level
@@ -60,14 +62,20 @@ module _ (names : List Name) where
   abbrev pub level_terms : written.Level → Level
   level_terms l = record { sum = summed_terms l.sum; product = factored_terms l.product; minuses = l.minuses }
 
-  abbrev pub operand_terms : written.Place → Operand
+  abbrev pub operand_terms : written.Operand → Operand
   operand_terms written.Wanted = Wanted
   operand_terms (written.BaseRead b) = BaseRead (limited (base_term names b))
   operand_terms (written.CaretRead b) = CaretRead (limited (base_term names b))
-  operand_terms (written.ExponentRead b digits) = ExponentRead (limited (base_term names b)) (min (number_of digits) 9)
+  operand_terms (written.ExponentRead b digits) =
+      ExponentRead (limited (base_term names b)) (min (number_of digits) (degree_limit + 1))
 
   abbrev pub front_terms : written.Front → Front
-  front_terms f = record { outer = reverse (map level_terms f.outer); level = level_terms f.level; operand = operand_terms f.place }
+  front_terms f =
+      record {
+        outer = reverse (map level_terms f.outer);
+        level = level_terms f.level;
+        operand = operand_terms f.operand;
+      }
 
 -- a term behind so many `-`
 abbrev pub negated : ℕ → Term → Term
@@ -104,10 +112,10 @@ empty_level = record { sum = NoSum; product = NoProduct; minuses = 0 }
 
 -- what a word, digits, a `-` or a `^` makes of an operand
 abbrev pub with_digits : Operand → List ℕ → Operand
-with_digits (CaretRead t) digits = ExponentRead t (min (number_of digits) 9)
-with_digits Wanted digits = BaseRead (Literal (pos (min (number_of digits) (2 ^ 63))))
-with_digits (BaseRead t) digits = BaseRead (Literal (pos (min (number_of digits) (2 ^ 63))))
-with_digits (ExponentRead t n) digits = BaseRead (Literal (pos (min (number_of digits) (2 ^ 63))))
+with_digits (CaretRead t) digits = ExponentRead t (min (number_of digits) (degree_limit + 1))
+with_digits Wanted digits = BaseRead (Literal (pos (min (number_of digits) (coefficient_limit + 1))))
+with_digits (BaseRead t) digits = BaseRead (Literal (pos (min (number_of digits) (coefficient_limit + 1))))
+with_digits (ExponentRead t n) digits = BaseRead (Literal (pos (min (number_of digits) (coefficient_limit + 1))))
 
 abbrev pub with_caret : Operand → Operand
 with_caret (BaseRead t) = CaretRead t

@@ -56,11 +56,14 @@ pub record Expressions : Type 0 where
   pub name : read_as (a ∷ []) ≡ Some (Variable 0)
   pub number : read_as (one ∷ []) ≡ Some (Literal (pos 1))
   -- `B-A+B` groups to the left, and its variables are numbered as they occur
-  pub left : read_as (b ∷ Minus ∷ a ∷ Plus ∷ b ∷ []) ≡ Some (Addition (Subtraction (Variable 0) (Variable 1)) (Variable 0))
+  pub left : read_as (b ∷ Minus ∷ a ∷ Plus ∷ b ∷ [])
+      ≡ Some (Addition (Subtraction (Variable 0) (Variable 1)) (Variable 0))
   -- `A+B*2` multiplies first
-  pub product : read_as (a ∷ Plus ∷ b ∷ Times ∷ two ∷ []) ≡ Some (Addition (Variable 0) (Multiplication (Variable 1) (Literal (pos 2))))
+  pub product : read_as (a ∷ Plus ∷ b ∷ Times ∷ two ∷ [])
+      ≡ Some (Addition (Variable 0) (Multiplication (Variable 1) (Literal (pos 2))))
   -- `(A+B)*2` adds first, and its brackets leave no node
-  pub brackets : read_as (Open ∷ a ∷ Plus ∷ b ∷ Close ∷ Times ∷ two ∷ []) ≡ Some (Multiplication (Addition (Variable 0) (Variable 1)) (Literal (pos 2)))
+  pub brackets : read_as (Open ∷ a ∷ Plus ∷ b ∷ Close ∷ Times ∷ two ∷ [])
+      ≡ Some (Multiplication (Addition (Variable 0) (Variable 1)) (Literal (pos 2)))
   -- `-A^2` is the opposite of the power, and `--A` of the opposite; `A*-B` has a factor with a `-`
   pub power : read_as (Minus ∷ a ∷ Caret ∷ two ∷ []) ≡ Some (Negation (Exponentiation (Variable 0) 2))
   pub twice : read_as (Minus ∷ Minus ∷ a ∷ []) ≡ Some (Negation (Negation (Variable 0)))
@@ -81,11 +84,15 @@ pub record Expressions : Type 0 where
 pub record Guards : Type 0 where
   -- `A >= 1 && B < A`
   pub two_atoms : guard_read_as (a ∷ Related AtLeastSign ∷ one ∷ Joining Ampersands ∷ b ∷ Related LessThanSign ∷ a ∷ [])
-      ≡ Some (plain.Compare (Variable 0) AtLeast (Literal (pos 1)) ∷ plain.Compare (Variable 1) LessThan (Variable 0) ∷ [])
+      ≡ Some (plain.Compare (Variable 0) AtLeast (Literal (pos 1)) ∷ plain.Compare (Variable 1) LessThan (Variable 0)
+      ∷ [])
   -- `TRUE /\ true` always hold, and `TRUE < true` and `TRUE + 1 < A` compare
-  pub truths : guard_read_as (Word (codes "TRUE") ∷ Joining Wedge ∷ Word (codes "true") ∷ []) ≡ Some (plain.Always ∷ plain.Always ∷ [])
-  pub named : guard_read_as (Word (codes "TRUE") ∷ Related LessThanSign ∷ Word (codes "true") ∷ []) ≡ Some (plain.Compare (Variable 0) LessThan (Variable 1) ∷ [])
-  pub added : guard_read_as (Word (codes "TRUE") ∷ Plus ∷ one ∷ Related LessThanSign ∷ a ∷ []) ≡ Some (plain.Compare (Addition (Variable 0) (Literal (pos 1))) LessThan (Variable 1) ∷ [])
+  pub truths : guard_read_as (Word (codes "TRUE") ∷ Joining Wedge ∷ Word (codes "true") ∷ [])
+      ≡ Some (plain.Always ∷ plain.Always ∷ [])
+  pub named : guard_read_as (Word (codes "TRUE") ∷ Related LessThanSign ∷ Word (codes "true") ∷ [])
+      ≡ Some (plain.Compare (Variable 0) LessThan (Variable 1) ∷ [])
+  pub added : guard_read_as (Word (codes "TRUE") ∷ Plus ∷ one ∷ Related LessThanSign ∷ a ∷ [])
+      ≡ Some (plain.Compare (Addition (Variable 0) (Literal (pos 1))) LessThan (Variable 1) ∷ [])
   -- nothing, `A`, `True`, `(TRUE)`, `A < B < A`, `A < ` and `A < B &&` are none
   pub nothing : guard_read_as [] ≡ None
   pub name : guard_read_as (a ∷ []) ≡ None

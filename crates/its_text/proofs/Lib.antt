@@ -3,6 +3,14 @@ pub mod Shapes
 pub mod Ends
 pub mod Completing
 pub mod Reading
+pub mod KindLaws
+pub mod LexingLaws
 pub mod ReaderLaws
 pub mod WorkedValues
 pub mod Positions
+pub mod NamedPieces
+pub mod DistinctNames
+pub mod ValidRules
+pub mod ValidPrograms
+pub mod WorkedLimits
+pub mod VerdictLaws

@@ -1,9 +1,11 @@
 -- What a front shows stands at the last byte that was read or at the next token.
-use Rattle.std.specs.Prelude.{◌≡◌, ℕ, Bool, true, false, nat_le, length, if◌then◌else◌, List, [], ◌∷◌, ◌++◌, Option, Some, None, ◌⊎◌, ⊤, refl}
-use Rattle.std.proofs.Common.{◌∙◌, ap, inl, inr}
+use Rattle.std.specs.Prelude.{◌≡◌, ℕ, ◌≤◌, Bool, true, false, nat_le, length, if◌then◌else◌, List, [], ◌∷◌, ◌++◌, Option, Some, None, ◌⊎◌, ⊤, refl}
+use Rattle.std.proofs.Common.{◌∙◌, ap, inl, inr, arith}
 use Rattle.model.specs.Programs.{Name}
+use Rattle.model.specs.Limits.{place_limit, token_limit}
 use Rattle.text_core.specs.Readers.{Fault}
 use Rattle.text_core.specs.Faults.{Among, next_at}
+use Rattle.text_core.specs.Stopping.{last_at as last_token_at, IsBehind, ShowsBehind}
 use Rattle.poly_terms.specs.Faults as polynomials
 use Rattle.expr_text.specs.Pieces as inner
 use Rattle.expr_text.specs.Trees.{Sum}
@@ -15,8 +17,9 @@ use Rattle.its_text.specs.Fronts.{Front, Between, Opened, GoalNamed, GoalSaid, S
 use Rattle.its_text.specs.FrontNames.{names_with, headed_names}
 use Rattle.text_core.specs.Names.{is_among}
 use Rattle.its_text.specs.Kinds.{Kind, TooManyRules, TooManyArguments, TooManyVariables, TooManyAtoms, LongName, TooManyTokens, Syntax, RepeatedSection, ManyTargets, LeftNotVariable, LeftRepeated, ArityDiffers, NumberTooLarge, Limit}
+use Rattle.its_text.specs.Grammar.{programs}
 use Rattle.its_text.specs.Shown as shown
-use Rattle.its_text.specs.Shown.{Tokens, Found, fault_if, last_byte, next_piece, piece_behind, left_wanted, left_of, going_faults, token_faults, going, Going, expansion_faults, argument_faults, difference_faults, right_side_faults, ends_expression, atom_faults, ended_faults, shown_next, shown_last}
+use Rattle.its_text.specs.Shown.{Tokens, Found, fault_if, last_byte, next_piece, piece_behind, left_wanted, left_of, going_faults, token_faults, going, Going, expansion_faults, argument_faults, right_side_faults, ends_expression, atom_faults, ended_faults, shown_next, shown_last}
 
 -- each fault of a list stands at a position
 abbrev pub StandAt : ℕ → Found → Type 0
@@ -58,7 +61,7 @@ left_at : (at : ℕ) (o : Option (List Name)) (next behind : Option Piece) → S
 left_at at None next behind = tt
 left_at at (Some arguments) None behind = tt
 left_at at (Some arguments) (Some (In (inner.Word name))) behind =
-    then_if at (fault_if (shown.is_operator behind) LeftNotVariable at ++ fault_if (is_among name arguments) LeftRepeated at) (nat_le 32 (length arguments)) (Limit TooManyArguments)
+    then_if at (fault_if (shown.is_operator behind) LeftNotVariable at ++ fault_if (is_among name arguments) LeftRepeated at) (nat_le place_limit (length arguments)) (Limit TooManyArguments)
     (then_if at (fault_if (shown.is_operator behind) LeftNotVariable at) (is_among name arguments) LeftRepeated (if_at (shown.is_operator behind) LeftNotVariable at))
 left_at at (Some arguments) (Some (In (inner.Digits ds))) behind = tt
 left_at at (Some arguments) (Some (In inner.Open)) behind = tt
@@ -81,8 +84,8 @@ left_at at (Some arguments) (Some Strange) behind = tt
 
 going_at : (at : ℕ) (g : Going) (p : inner.Piece) (behind : Option Piece) → StandAt at (going_faults at g p behind)
 going_at at g p behind =
-    then_if at (fault_if (shown.is_large p) NumberTooLarge at ++ fault_if (shown.is_65th g p behind) (Limit TooManyVariables) at) (nat_le 1024 (token_count g.front)) (Limit TooManyTokens)
-    (then_if at (fault_if (shown.is_large p) NumberTooLarge at) (shown.is_65th g p behind) (Limit TooManyVariables) (if_at (shown.is_large p) NumberTooLarge at))
+    then_if at (fault_if (shown.is_large p) NumberTooLarge at ++ fault_if (shown.passes_variables g p behind) (Limit TooManyVariables) at) (nat_le token_limit (token_count g.front)) (Limit TooManyTokens)
+    (then_if at (fault_if (shown.is_large p) NumberTooLarge at) (shown.passes_variables g p behind) (Limit TooManyVariables) (if_at (shown.is_large p) NumberTooLarge at))
 
 token_at : (at : ℕ) (o : Option Going) (next behind : Option Piece) → StandAt at (token_faults at o next behind)
 token_at at None next behind = tt
@@ -135,8 +138,8 @@ last_at at f next = both at (fault_if (shown.differs f) ArityDiffers at) (ended_
 
 next_stands : (at : ℕ) (f : Front) (next behind : Option Piece) → StandAt at (shown_next at f next behind)
 next_stands at f next behind =
-    both at (fault_if (shown.targets_again f next behind) Syntax at ++ fault_if (shown.repeats_at f next behind) RepeatedSection at ++ fault_if (shown.targets_many f next behind) ManyTargets at ++ left_of at (left_wanted f) next behind ++ fault_if (shown.too_many_rules f next behind) (Limit TooManyRules) at ++ fault_if (shown.is_33rd f next) (Limit TooManyArguments) at ++ fault_if (shown.another_atom f next) (Limit TooManyAtoms) at ++ fault_if (shown.long_name next) (Limit LongName) at) (token_faults at (going f next behind) next behind)
-    (then_if at (fault_if (shown.targets_again f next behind) Syntax at ++ fault_if (shown.repeats_at f next behind) RepeatedSection at ++ fault_if (shown.targets_many f next behind) ManyTargets at ++ left_of at (left_wanted f) next behind ++ fault_if (shown.too_many_rules f next behind) (Limit TooManyRules) at ++ fault_if (shown.is_33rd f next) (Limit TooManyArguments) at ++ fault_if (shown.another_atom f next) (Limit TooManyAtoms) at) (shown.long_name next) (Limit LongName) (then_if at (fault_if (shown.targets_again f next behind) Syntax at ++ fault_if (shown.repeats_at f next behind) RepeatedSection at ++ fault_if (shown.targets_many f next behind) ManyTargets at ++ left_of at (left_wanted f) next behind ++ fault_if (shown.too_many_rules f next behind) (Limit TooManyRules) at ++ fault_if (shown.is_33rd f next) (Limit TooManyArguments) at) (shown.another_atom f next) (Limit TooManyAtoms) (then_if at (fault_if (shown.targets_again f next behind) Syntax at ++ fault_if (shown.repeats_at f next behind) RepeatedSection at ++ fault_if (shown.targets_many f next behind) ManyTargets at ++ left_of at (left_wanted f) next behind ++ fault_if (shown.too_many_rules f next behind) (Limit TooManyRules) at) (shown.is_33rd f next) (Limit TooManyArguments) (then_if at (fault_if (shown.targets_again f next behind) Syntax at ++ fault_if (shown.repeats_at f next behind) RepeatedSection at ++ fault_if (shown.targets_many f next behind) ManyTargets at ++ left_of at (left_wanted f) next behind) (shown.too_many_rules f next behind) (Limit TooManyRules) (both at (fault_if (shown.targets_again f next behind) Syntax at ++ fault_if (shown.repeats_at f next behind) RepeatedSection at ++ fault_if (shown.targets_many f next behind) ManyTargets at) (left_of at (left_wanted f) next behind) (then_if at (fault_if (shown.targets_again f next behind) Syntax at ++ fault_if (shown.repeats_at f next behind) RepeatedSection at) (shown.targets_many f next behind) ManyTargets (then_if at (fault_if (shown.targets_again f next behind) Syntax at) (shown.repeats_at f next behind) RepeatedSection (if_at (shown.targets_again f next behind) Syntax at))) (left_at at (left_wanted f) next behind))))))
+    both at (fault_if (shown.targets_again f next behind) Syntax at ++ fault_if (shown.repeats_at f next behind) RepeatedSection at ++ fault_if (shown.targets_many f next behind) ManyTargets at ++ left_of at (left_wanted f) next behind ++ fault_if (shown.too_many_rules f next behind) (Limit TooManyRules) at ++ fault_if (shown.passes_arguments f next) (Limit TooManyArguments) at ++ fault_if (shown.another_atom f next) (Limit TooManyAtoms) at ++ fault_if (shown.long_name next) (Limit LongName) at) (token_faults at (going f next behind) next behind)
+    (then_if at (fault_if (shown.targets_again f next behind) Syntax at ++ fault_if (shown.repeats_at f next behind) RepeatedSection at ++ fault_if (shown.targets_many f next behind) ManyTargets at ++ left_of at (left_wanted f) next behind ++ fault_if (shown.too_many_rules f next behind) (Limit TooManyRules) at ++ fault_if (shown.passes_arguments f next) (Limit TooManyArguments) at ++ fault_if (shown.another_atom f next) (Limit TooManyAtoms) at) (shown.long_name next) (Limit LongName) (then_if at (fault_if (shown.targets_again f next behind) Syntax at ++ fault_if (shown.repeats_at f next behind) RepeatedSection at ++ fault_if (shown.targets_many f next behind) ManyTargets at ++ left_of at (left_wanted f) next behind ++ fault_if (shown.too_many_rules f next behind) (Limit TooManyRules) at ++ fault_if (shown.passes_arguments f next) (Limit TooManyArguments) at) (shown.another_atom f next) (Limit TooManyAtoms) (then_if at (fault_if (shown.targets_again f next behind) Syntax at ++ fault_if (shown.repeats_at f next behind) RepeatedSection at ++ fault_if (shown.targets_many f next behind) ManyTargets at ++ left_of at (left_wanted f) next behind ++ fault_if (shown.too_many_rules f next behind) (Limit TooManyRules) at) (shown.passes_arguments f next) (Limit TooManyArguments) (then_if at (fault_if (shown.targets_again f next behind) Syntax at ++ fault_if (shown.repeats_at f next behind) RepeatedSection at ++ fault_if (shown.targets_many f next behind) ManyTargets at ++ left_of at (left_wanted f) next behind) (shown.too_many_rules f next behind) (Limit TooManyRules) (both at (fault_if (shown.targets_again f next behind) Syntax at ++ fault_if (shown.repeats_at f next behind) RepeatedSection at ++ fault_if (shown.targets_many f next behind) ManyTargets at) (left_of at (left_wanted f) next behind) (then_if at (fault_if (shown.targets_again f next behind) Syntax at ++ fault_if (shown.repeats_at f next behind) RepeatedSection at) (shown.targets_many f next behind) ManyTargets (then_if at (fault_if (shown.targets_again f next behind) Syntax at) (shown.repeats_at f next behind) RepeatedSection (if_at (shown.targets_again f next behind) Syntax at))) (left_at at (left_wanted f) next behind))))))
     (token_at at (going f next behind) next behind)
 
 among_at : (at : ℕ) (x : Fault Kind) (xs : Found) → StandAt at xs → Among x xs → x.at ≡ at
@@ -160,3 +163,12 @@ stands n done f rest x m = go (split x (shown_last (last_byte done) f (next_piec
     go : (Among x (shown_last (last_byte done) f (next_piece rest))) ⊎ (Among x (shown_next (next_at n rest) f (next_piece rest) (piece_behind rest))) → (x.at ≡ last_byte done) ⊎ (x.at ≡ next_at n rest)
     go (inl a) = inl (among_at (last_byte done) x _ (last_at (last_byte done) f (next_piece rest)) a)
     go (inr a) = inr (among_at (next_at n rest) x _ (next_stands (next_at n rest) f (next_piece rest) (piece_behind rest)) a)
+
+-- against tokens in order nothing is shown before the last token's first byte
+pub shows_behind : ShowsBehind programs
+shows_behind = record { each = λ n done f rest x order m. behind done n rest x order (stands n done f rest x m) }
+  where
+    behind : (done : Tokens) (n : ℕ) (rest : Tokens) (x : Fault Kind) → IsBehind done (next_at n rest) → (x.at ≡ last_byte done) ⊎ (x.at ≡ next_at n rest) → last_token_at done ≤ x.at
+    behind [] n rest x order h = omega arith
+    behind (t ∷ done) n rest x order (inl e) = let some = order.0 in omega (arith, some, e)
+    behind (t ∷ done) n rest x order (inr e) = let some = order.0 in let k = order.1 in omega (arith, some, k, e)

@@ -3,23 +3,28 @@ use Rattle.std.specs.Prelude.{◌≡◌, ℕ, List}
 use Rattle.std.proofs.Common.{sym, ◌∙◌, ap}
 use Rattle.model.specs.Programs.{Program}
 use Rattle.text_core.specs.Tokens.{pieces}
-use Rattle.text_core.specs.Laws.{Laws, AnswersAll}
-use Rattle.text_core.proofs.FirstFaults.{answers_all, one_tree_each}
+use Rattle.text_core.specs.Laws.{Laws, AnswersAll, OneFirst}
+use Rattle.text_core.proofs.FirstFaults.{answers_all, one_tree_each, one_first_each}
 use Rattle.its_text.specs.Lexing.{tokens_of}
 use Rattle.its_text.specs.Numbering.{program_numbered}
 use Rattle.its_text.specs.Grammar.{programs}
 use Rattle.its_text.specs.Spelling.{Spells, OneProgram}
+use Rattle.its_text.proofs.KindLaws.{kinds_differ}
 use Rattle.its_text.proofs.Ends.{ends}
 use Rattle.its_text.proofs.Completing.{goes_on}
 use Rattle.its_text.proofs.Reading.{reads, some_is}
 
 -- the reader keeps the laws
 pub programs_laws : Laws programs
-programs_laws = record { goes_on = goes_on; ends = ends; reads = reads }
+programs_laws = record { goes_on = goes_on; ends = ends; reads = reads; differ = kinds_differ }
 
 -- a text has one answer
 pub answers_all_texts : AnswersAll programs
 answers_all_texts = answers_all programs programs_laws
+
+-- and one first fault at most
+pub one_first_fault : OneFirst programs
+one_first_fault = one_first_each programs programs_laws
 
 one_each : (bytes : List ℕ) (p q : Program) → Spells bytes p → Spells bytes q → p ≡ q
 one_each bytes p q s t =

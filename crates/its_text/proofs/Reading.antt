@@ -114,7 +114,7 @@ target_read l (Bare t) done is at =
     (onward (word t.name ∷ done) (aimed l Alone t.name) _ open_bracket
     (onward done (Arrowed l) (aimed l Alone t.name) (word t.name) at (ap (λ f. Some f) (bare_name l t.name is))) refl)
 
--- a guard behind `:|:`: its front, or the place before it
+-- a guard behind `:|:`: its front, or the front before it
 abbrev pub Marks : Headed → List Piece → guards.GuardFront → Type 0
 Marks h done g = (At done (MarkGuarding h g)) ⊎ (((At done (GuardMarked h)) × (g ≡ guards.no_atoms)) ⊎ ((name : Name) × (At done (WordRead h name)) × (g ≡ guard_named name)))
 
@@ -203,7 +203,7 @@ rules_close : (ss : List Section) (rules : List WrittenRule) (done : List Piece)
 rules_close ss [] done at = onward done (Ruled (record { sections = ss; rules = [] })) _ close_bracket at refl
 rules_close ss (r ∷ rules) done at = closes_behind (headed_at ss rules r.left r.target) r.guard done at
 
--- a guard in square brackets: its front, or the place before it
+-- a guard in square brackets: its front, or the front before it
 abbrev pub Squares : Headed → List Piece → guards.GuardFront → Type 0
 Squares h done g = (At done (SquareGuarding h g)) ⊎ ((At done (SquareOpened h)) × (g ≡ guards.no_atoms))
 

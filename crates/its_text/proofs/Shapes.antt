@@ -11,7 +11,8 @@ use Rattle.expr_text.specs.GuardFronts as guards
 use Rattle.its_text.specs.Pieces.{Piece, In, Comma, Arrow, GuardMark, SquareOpen, SquareClose, Disjoining, Remark, Wrong, Strange}
 use Rattle.its_text.specs.Written.{RightTerm, Guard, NoGuard, BehindMark, InSquares, Section}
 use Rattle.its_text.specs.Fronts.{Ruling, Led, Wrap, InCom, Alone, Aimed, Headed, Front, Between, Opened, GoalNamed, GoalSaid, StartNamed, StartOpened, StartListed, StartSaid, StartShut, Listing, CommentNamed, Ruled, SourceNamed, LeftOpened, LeftRead, LeftParted, LeftShut, Arrowed, ComNamed, ComOpened, TargetNamed, RightOpened, Arguing, RightShut, Targeted, GuardMarked, WordRead, MarkGuarding, SquareOpened, SquareGuarding, ruling_with}
-use Rattle.its_text.specs.Steps.{when, section_named, aimed, shut_by, behind_arrow, behind_rule, parted, argued, arguing, guard_ended, guarding, squared, square_ended, guard_named, behind_mark, behind_word, behind_open, step, finish}
+use Rattle.text_core.specs.Choices.{when}
+use Rattle.its_text.specs.Steps.{section_named, aimed, shut_by, behind_arrow, behind_rule, parted, argued, arguing, guard_ended, guarding, squared, square_ended, guard_named, behind_mark, behind_word, behind_open, step, finish}
 use Rattle.its_text.specs.Grammar.{IsTarget, HaveTargets, AreSections}
 
 abbrev pub IsRuling : Ruling → Type 0

@@ -15,7 +15,8 @@ use Rattle.expr_text.proofs.GuardLaws.{guard_step_adds, guard_finish_written, Gu
 use Rattle.its_text.specs.Pieces.{Piece, In, Comma, Arrow, GuardMark, SquareOpen, SquareClose, Disjoining, Remark, Wrong, Strange, word, open_bracket, close_bracket}
 use Rattle.its_text.specs.Written.{RightTerm, NoGuard, BehindMark, Section, sums_behind, pieces_behind}
 use Rattle.its_text.specs.Fronts.{Ruling, Led, Wrap, InCom, Alone, Aimed, Headed, Front, Between, Opened, GoalNamed, GoalSaid, StartNamed, StartOpened, StartListed, StartSaid, StartShut, Listing, CommentNamed, Ruled, SourceNamed, LeftOpened, LeftRead, LeftParted, LeftShut, Arrowed, ComNamed, ComOpened, TargetNamed, RightOpened, Arguing, RightShut, Targeted, GuardMarked, WordRead, MarkGuarding, SquareOpened, SquareGuarding, ruling_with, ruling_pieces, aimed_pieces, headed_pieces, parted_behind, front_pieces}
-use Rattle.its_text.specs.Steps.{when, section_named, aimed, behind_arrow, shut_by, behind_rule, parted, argued, arguing, guard_ended, guarding, squared, square_ended, guard_named, behind_mark, behind_word, behind_open, step, finish}
+use Rattle.text_core.specs.Choices.{when}
+use Rattle.its_text.specs.Steps.{section_named, aimed, behind_arrow, shut_by, behind_rule, parted, argued, arguing, guard_ended, guarding, squared, square_ended, guard_named, behind_mark, behind_word, behind_open, step, finish}
 
 -- the front that a piece leads to is written with the piece behind what was written
 abbrev pub Leads : List Piece → Piece → Option Front → Type 0

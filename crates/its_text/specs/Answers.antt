@@ -37,9 +37,11 @@ abbrev pub program_or : ℕ → Option Program → Answer Program Kind
 program_or at None = Refused (record { kind = StartUnknown; at = at })
 program_or at (Some p) = Stands p
 
--- a text of n bytes that nothing else stands against: a section is missing, or the start symbol is the source of no rule
+-- a text of n bytes that nothing else stands against: a section is missing, or the start symbol is the source of no
+-- rule
 abbrev pub whole : ℕ → List (Token Piece) → List Section → Option Name → Option (List WrittenRule) → Answer Program Kind
-whole n ts sections (Some start) (Some rules) = program_or (at_maybe ts (start_index sections)) (program_from start rules (first_leaving start rules))
+whole n ts sections (Some start) (Some rules) =
+    program_or (at_maybe ts (start_index sections)) (program_from start rules (first_leaving start rules))
 whole n ts sections _ _ = Refused (record { kind = MissingSection; at = n })
 
 abbrev pub judged : ℕ → List (Token Piece) → Answer (List Section) Kind → Answer Program Kind

@@ -128,16 +128,22 @@ front_pieces (GoalNamed ss) = word (codes "GOAL") ∷ open_bracket ∷ pieces_be
 front_pieces (GoalSaid ss) = word (codes "COMPLEXITY") ∷ word (codes "GOAL") ∷ open_bracket ∷ pieces_behind ss
 front_pieces (StartNamed ss) = word (codes "STARTTERM") ∷ open_bracket ∷ pieces_behind ss
 front_pieces (StartOpened ss) = open_bracket ∷ word (codes "STARTTERM") ∷ open_bracket ∷ pieces_behind ss
-front_pieces (StartListed ss) = word (codes "FUNCTIONSYMBOLS") ∷ open_bracket ∷ word (codes "STARTTERM") ∷ open_bracket ∷ pieces_behind ss
-front_pieces (StartSaid ss name) = word name ∷ word (codes "FUNCTIONSYMBOLS") ∷ open_bracket ∷ word (codes "STARTTERM") ∷ open_bracket ∷ pieces_behind ss
-front_pieces (StartShut ss name) = close_bracket ∷ word name ∷ word (codes "FUNCTIONSYMBOLS") ∷ open_bracket ∷ word (codes "STARTTERM") ∷ open_bracket ∷ pieces_behind ss
+front_pieces (StartListed ss) =
+    word (codes "FUNCTIONSYMBOLS") ∷ open_bracket ∷ word (codes "STARTTERM") ∷ open_bracket ∷ pieces_behind ss
+front_pieces (StartSaid ss name) =
+    word name ∷ word (codes "FUNCTIONSYMBOLS") ∷ open_bracket ∷ word (codes "STARTTERM") ∷ open_bracket
+    ∷ pieces_behind ss
+front_pieces (StartShut ss name) =
+    close_bracket ∷ word name ∷ word (codes "FUNCTIONSYMBOLS") ∷ open_bracket ∷ word (codes "STARTTERM") ∷ open_bracket
+    ∷ pieces_behind ss
 front_pieces (Listing ss names) = words_behind names (word (codes "VAR") ∷ open_bracket ∷ pieces_behind ss)
 front_pieces (CommentNamed ss) = word (codes "COMMENT") ∷ open_bracket ∷ pieces_behind ss
 front_pieces (Ruled r) = ruling_pieces r
 front_pieces (SourceNamed r name) = word name ∷ ruling_pieces r
 front_pieces (LeftOpened r name) = open_bracket ∷ word name ∷ ruling_pieces r
 front_pieces (LeftRead r name a earlier) = names_behind (a ∷ earlier) (open_bracket ∷ word name ∷ ruling_pieces r)
-front_pieces (LeftParted r name a earlier) = Comma ∷ names_behind (a ∷ earlier) (open_bracket ∷ word name ∷ ruling_pieces r)
+front_pieces (LeftParted r name a earlier) =
+    Comma ∷ names_behind (a ∷ earlier) (open_bracket ∷ word name ∷ ruling_pieces r)
 front_pieces (LeftShut l) = led_pieces l
 front_pieces (Arrowed l) = Arrow ∷ led_pieces l
 front_pieces (ComNamed l) = word (codes "Com_1") ∷ Arrow ∷ led_pieces l

@@ -1,12 +1,12 @@
--- The tokens of a program's text: the longest piece is taken, white space stands between pieces, and where a section begins
--- a comment is passed over up to the bracket that closes it.
-use Rattle.std.specs.Prelude.{ℕ, zero, suc, ◌+◌, ◌-◌, if◌then◌else◌, ◌==◌, ◌&&◌, nat_lt, List, [], ◌∷◌, length, codes, Option, Some, None}
+-- The tokens of a program's text: the longest piece is taken, white space stands between pieces, and where a section
+-- begins a comment is passed over up to the bracket that closes it.
+use Rattle.std.specs.Prelude.{ℕ, zero, suc, ◌+◌, if◌then◌else◌, ◌==◌, ◌&&◌, nat_lt, List, [], ◌∷◌, length, codes, Option, Some, None}
 use Rattle.std.specs.Char.{is_ascii_digit}
 use Rattle.model.specs.Programs.{Name}
 use Rattle.text_core.specs.Prefixes.{prefix}
 use Rattle.text_core.specs.Names.{begins_name, continues_name, is_same}
 use Rattle.text_core.specs.Bytes.{is_white_space, begins_with}
-use Rattle.text_core.specs.Tokens.{Token, Lexeme, token_then}
+use Rattle.text_core.specs.Tokens.{Token, Lexeme, Lexer, tokens_in}
 use Rattle.expr_text.specs.Pieces as inner
 use Rattle.its_text.specs.Pieces.{Piece, In, Comma, Arrow, GuardMark, SquareOpen, SquareClose, Disjoining, Remark, Wrong, Strange, word, digits, open_bracket, close_bracket}
 
@@ -23,7 +23,8 @@ minus_at bytes =
 
 -- one of two relations, by whether `=` follows
 abbrev pub related_at : inner.Sign → inner.Sign → List ℕ → Lexeme (Option Piece)
-related_at with_equal alone bytes = if begins_with 61 bytes then lexeme (In (inner.Related with_equal)) 2 else lexeme (In (inner.Related alone)) 1
+related_at with_equal alone bytes =
+    if begins_with 61 bytes then lexeme (In (inner.Related with_equal)) 2 else lexeme (In (inner.Related alone)) 1
 
 -- a piece of two bytes, where the second one follows
 abbrev pub pair_at : ℕ → Piece → List ℕ → Lexeme (Option Piece)
@@ -61,8 +62,10 @@ mark_at b bytes =
 abbrev pub lexeme_at : ℕ → List ℕ → Lexeme (Option Piece)
 lexeme_at b bytes =
     if is_white_space b then record { piece = None; len = 1 }
-    else if begins_name b then lexeme (word (b ∷ prefix continues_name bytes)) (1 + length (prefix continues_name bytes))
-    else if is_ascii_digit b then lexeme (digits (b ∷ prefix is_ascii_digit bytes)) (1 + length (prefix is_ascii_digit bytes))
+    else if begins_name b then lexeme (word (b ∷ prefix continues_name bytes))
+    (1 + length (prefix continues_name bytes))
+    else if is_ascii_digit b then lexeme (digits (b ∷ prefix is_ascii_digit bytes))
+    (1 + length (prefix is_ascii_digit bytes))
     else mark_at b bytes
 
 -- what a byte of a comment does: it opens a bracket, closes one, or neither
@@ -92,7 +95,7 @@ abbrev pub closing_at : List ℕ → ℕ → Option ℕ
 closing_at [] depth = None
 closing_at (b ∷ bytes) depth = closing_by (bend_of b) (closing_at bytes) depth
 
--- what the lexer knows of the place: it stands between sections, behind the bracket that opens one, within one with so many
+-- where the lexer stands: it is between sections, behind the bracket that opens one, within one with so many
 -- brackets open in it, or behind the keyword of a comment
 pub data Mode : Type 0 where
   Outside : Mode
@@ -137,14 +140,10 @@ lexeme_in AtKeyword b bytes = lexeme_at b bytes
 lexeme_in (Within depth) b bytes = lexeme_at b bytes
 lexeme_in InComment b bytes = remark_of b bytes (closing_at (b ∷ bytes) 0)
 
--- the tokens of bytes that stand at a position, behind so many that are passed over
-abbrev pub tokens_from : Mode → ℕ → ℕ → List ℕ → List (Token Piece)
-tokens_from mode at skip [] = []
-tokens_from mode at (suc skip) (b ∷ bytes) = tokens_from mode (at + 1) skip bytes
-tokens_from mode at zero (b ∷ bytes) =
-    let l : Lexeme (Option Piece) = lexeme_in mode b bytes in
-    token_then at l.len l.piece (tokens_from (mode_behind mode l.piece) (at + 1) (l.len - 1) bytes)
+-- how texts of programs are cut
+abbrev pub lexer : Lexer Piece Mode
+lexer = record { lexeme_in = lexeme_in; mode_behind = mode_behind }
 
 -- the tokens of a text
 abbrev pub tokens_of : List ℕ → List (Token Piece)
-tokens_of bytes = tokens_from Outside 0 0 bytes
+tokens_of bytes = tokens_in lexer Outside 0 0 bytes

@@ -11,3 +11,5 @@ pub mod Grammar
 pub mod Spelling
 pub mod Answers
 pub mod Worked
+pub mod WorkedLimits
+pub mod Verdicts

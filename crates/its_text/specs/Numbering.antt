@@ -25,10 +25,11 @@ abbrev pub names_of : List Symbol → List Name
 names_of symbols = map (λ s. s.name) symbols
 
 abbrev pub with_symbol : List Symbol → Name → ℕ → List Symbol
-with_symbol symbols name arity = if is_among name (names_of symbols) then symbols else symbols ++ record { name = name; arity = arity } ∷ []
+with_symbol symbols name arity =
+    if is_among name (names_of symbols) then symbols else symbols ++ record { name = name; arity = arity } ∷ []
 
--- the symbols once a left term, a right term, and rules are read: each is numbered where it first occurs, and has as many
--- places as there are arguments there
+-- the symbols once a left term, a right term, and rules are read: each is numbered where it first occurs, and has as
+-- many places as there are arguments there
 abbrev pub with_left : List Symbol → LeftTerm → List Symbol
 with_left symbols t = with_symbol symbols t.name (length t.arguments)
 

@@ -1,8 +1,10 @@
 -- The faults that a front of a program's text shows against the tokens before it and behind it.
-use Rattle.std.specs.Prelude.{ℕ, ◌-◌, Bool, true, false, not, ◌&&◌, ◌||◌, if◌then◌else◌, nat_lt, nat_le, ◌==◌, List, [], ◌∷◌, ◌++◌, length, codes, Option, Some, None, pos}
-use Rattle.model.specs.Programs.{Name, Symbol, Relation, AtLeast, MoreThan, AtMost, LessThan, EqualTo}
-use Rattle.model.specs.Terms.{Term, Literal, Subtraction}
+use Rattle.std.specs.Prelude.{ℕ, ◌-◌, Bool, true, false, not, ◌&&◌, ◌||◌, if◌then◌else◌, nat_lt, nat_le, ◌==◌, List, [], ◌∷◌, ◌++◌, length, codes, Option, Some, None}
+use Rattle.model.specs.Programs.{Name, Symbol, Relation, EqualTo}
+use Rattle.model.specs.Terms.{Term}
+use Rattle.model.specs.Limits.{rule_limit, place_limit, variable_limit, atom_limit, name_limit, token_limit, coefficient_limit}
 use Rattle.poly_terms.specs.Faults as polynomials
+use Rattle.its_model.specs.Valid.{difference_of}
 use Rattle.text_core.specs.Names.{is_same, is_among}
 use Rattle.text_core.specs.Tokens.{Token}
 use Rattle.text_core.specs.Readers.{Fault}
@@ -17,9 +19,9 @@ use Rattle.expr_text.specs.GuardFronts as guards
 use Rattle.expr_text.specs.GuardFronts.{GuardFront, LeftSide, RightSide, NoAtoms, JointAfter}
 use Rattle.expr_text.specs.FrontNames.{with_front, before_expression, token_count, goes_on_with, operates, begins_expression, truth_worded}
 use Rattle.its_text.specs.Pieces.{Piece, In, Disjoining, Strange}
-use Rattle.its_text.specs.Written.{Target, Marked, Bare, WrittenRule, Section, Goal, Start, Variables, Rules, Comment}
+use Rattle.its_text.specs.Written.{Target, Marked, Bare, NoGuard, WrittenRule, Section, Goal, Start, Variables, Rules, Comment}
 use Rattle.its_text.specs.Numbering.{is_com, arity_of, with_right}
-use Rattle.its_text.specs.Fronts.{Led, Front, Between, Ruled, LeftOpened, LeftParted, LeftShut, Arrowed, ComOpened, RightOpened, Arguing, RightShut, Targeted, GuardMarked, WordRead, MarkGuarding, SquareOpened, SquareGuarding}
+use Rattle.its_text.specs.Fronts.{Led, rule_with, Front, Between, Ruled, LeftOpened, LeftParted, LeftShut, Arrowed, ComOpened, RightOpened, Arguing, RightShut, Targeted, GuardMarked, WordRead, MarkGuarding, SquareOpened, SquareGuarding}
 use Rattle.its_text.specs.Steps.{guard_named}
 use Rattle.its_text.specs.FrontNames.{symbols_behind, names_with, headed_names}
 use Rattle.its_text.specs.Kinds.{TooManyRules, TooManyArguments, TooManyVariables, TooManyAtoms, LongName, TooManyTokens, TooManyTerms, HighDegree, Kind, NotAscii, Syntax, RepeatedSection, ManyTargets, LeftNotVariable, LeftRepeated, ArityDiffers, NumberTooLarge, Limit, Disjunction}
@@ -48,9 +50,9 @@ abbrev pub piece_behind : Tokens → Option Piece
 piece_behind [] = None
 piece_behind (t ∷ rest) = next_piece rest
 
--- a name is longer than 256 bytes
+-- a name has more bytes than the limit
 abbrev pub long_name : Option Piece → Bool
-long_name (Some (In (inner.Word name))) = nat_lt 256 (length name)
+long_name (Some (In (inner.Word name))) = nat_lt name_limit (length name)
 long_name _ = false
 
 -- the section that an opening bracket and a keyword begin is there already
@@ -95,7 +97,7 @@ abbrev pub repeats : List Section → Option Piece → Option Piece → Bool
 repeats ss (Some (In inner.Open)) (Some (In (inner.Word name))) = has_named ss name
 repeats ss _ _ = false
 
--- a rule begins with the next token behind 1,000 rules
+-- a rule begins with the next token behind as many rules as the limit
 abbrev pub is_word : Option Piece → Bool
 is_word (Some (In (inner.Word name))) = true
 is_word _ = false
@@ -105,7 +107,7 @@ is_open (Some (In inner.Open)) = true
 is_open _ = false
 
 abbrev pub are_full : List WrittenRule → Bool
-are_full rules = nat_le 1000 (length rules)
+are_full rules = nat_le rule_limit (length rules)
 
 -- whether the atoms so far can end, so that a name behind them begins a rule
 abbrev pub can_end : Option Atoms → Bool
@@ -119,17 +121,22 @@ ends_expression e _ = true
 
 abbrev pub too_many_rules : Front → Option Piece → Option Piece → Bool
 too_many_rules (Ruled r) next behind = is_word next && are_full r.rules
-too_many_rules (Targeted h) next behind = is_word next && nat_le 999 (length h.led.ruling.rules)
-too_many_rules (GuardMarked h) next behind = is_word next && is_open behind && nat_le 999 (length h.led.ruling.rules)
-too_many_rules (WordRead h name) next behind = is_word next && can_end (guards.finish (guard_named name)) && nat_le 999 (length h.led.ruling.rules)
+too_many_rules (Targeted h) next behind = is_word next && are_full (rule_with h NoGuard ∷ h.led.ruling.rules)
+too_many_rules (GuardMarked h) next behind =
+    is_word next && is_open behind && are_full (rule_with h NoGuard ∷ h.led.ruling.rules)
+too_many_rules (WordRead h name) next behind =
+    is_word next && can_end (guards.finish (guard_named name)) && are_full (rule_with h NoGuard ∷ h.led.ruling.rules)
 too_many_rules (MarkGuarding h g) next behind =
-    is_word next && ends_expression (guards.expression_in g) next && can_end (guards.finish g) && nat_le 999 (length h.led.ruling.rules)
+    is_word next && ends_expression (guards.expression_in g) next && can_end (guards.finish g)
+    && are_full (rule_with h NoGuard ∷ h.led.ruling.rules)
 too_many_rules _ next behind = false
 
 -- the name of a right term before its bracket is `Com_` and digits
 abbrev pub targets_many : Front → Option Piece → Option Piece → Bool
-targets_many (Arrowed l) (Some (In (inner.Word name))) behind = is_com name && not (is_same name (codes "Com_1")) && is_open behind
-targets_many (ComOpened l) (Some (In (inner.Word name))) behind = is_com name && not (is_same name (codes "Com_1")) && is_open behind
+targets_many (Arrowed l) (Some (In (inner.Word name))) behind =
+    is_com name && not (is_same name (codes "Com_1")) && is_open behind
+targets_many (ComOpened l) (Some (In (inner.Word name))) behind =
+    is_com name && not (is_same name (codes "Com_1")) && is_open behind
 targets_many _ _ behind = false
 
 -- that of one within `Com_1(` is `Com_1`
@@ -155,7 +162,7 @@ abbrev pub left_of : ℕ → Option (List Name) → Option Piece → Option Piec
 left_of at (Some arguments) (Some (In (inner.Word name))) behind =
     fault_if (is_operator behind) LeftNotVariable at
     ++ fault_if (is_among name arguments) LeftRepeated at
-    ++ fault_if (nat_le 32 (length arguments)) (Limit TooManyArguments) at
+    ++ fault_if (nat_le place_limit (length arguments)) (Limit TooManyArguments) at
 left_of at _ _ behind = []
 
 -- the term that the last bracket closes has another number of arguments than its symbol has places
@@ -172,8 +179,8 @@ differs (RightShut l t) = other_arity (with_right (symbols_behind l) t) t.name (
 differs (Targeted h) = bare_differs h.led h.target
 differs _ = false
 
--- the expression that the next token can go on with: the variables before it, what of it has been read, and whether it is
--- the left side of an atom
+-- the expression that the next token can go on with: the variables before it, what of it has been read, and whether it
+-- is the left side of an atom
 pub record Going : Type 0 where
   pub names : List Name
   pub front : expression.Front
@@ -184,21 +191,25 @@ leads (LeftSide c e) = true
 leads (RightSide c l sign e) = false
 
 abbrev pub going_in : List Name → GuardFront → Option Going
-going_in names g = Some (record { names = before_expression names g; front = guards.expression_in g; leads_atom = leads g })
+going_in names g =
+    Some (record { names = before_expression names g; front = guards.expression_in g; leads_atom = leads g })
 
 abbrev pub going : Front → Option Piece → Option Piece → Option Going
-going (RightOpened a) next behind = Some (record { names = names_with a.led []; front = expression.beginning; leads_atom = false })
-going (Arguing a arguments e) next behind = Some (record { names = names_with a.led arguments; front = e; leads_atom = false })
-going (GuardMarked h) next behind = if is_word next && is_open behind then None else going_in (headed_names h) guards.no_atoms
+going (RightOpened a) next behind =
+    Some (record { names = names_with a.led []; front = expression.beginning; leads_atom = false })
+going (Arguing a arguments e) next behind =
+    Some (record { names = names_with a.led arguments; front = e; leads_atom = false })
+going (GuardMarked h) next behind =
+    if is_word next && is_open behind then None else going_in (headed_names h) guards.no_atoms
 going (WordRead h name) next behind = going_in (headed_names h) (guard_named name)
 going (MarkGuarding h g) next behind = going_in (headed_names h) g
 going (SquareOpened h) next behind = going_in (headed_names h) guards.no_atoms
 going (SquareGuarding h g) next behind = going_in (headed_names h) g
 going _ next behind = None
 
--- a literal is over 2^63 - 1
+-- a literal is over its limit
 abbrev pub is_large : inner.Piece → Bool
-is_large (inner.Digits ds) = nat_lt 9223372036854775807 (terms.number_of ds)
+is_large (inner.Digits ds) = nat_lt coefficient_limit (terms.number_of ds)
 is_large _ = false
 
 -- an operator or a relation follows
@@ -210,18 +221,19 @@ is_operating _ = false
 abbrev pub is_truth : Going → Name → Option Piece → Bool
 is_truth g name behind = g.leads_atom && (token_count g.front == 0) && truth_worded name && not (is_operating behind)
 
--- a variable is new behind 64 others
-abbrev pub is_65th : Going → inner.Piece → Option Piece → Bool
-is_65th g (inner.Word name) behind =
-    not (is_truth g name behind) && not (is_among name (with_front g.names g.front)) && nat_le 64 (length (with_front g.names g.front))
-is_65th g _ behind = false
+-- a variable is new behind as many as the limit
+abbrev pub passes_variables : Going → inner.Piece → Option Piece → Bool
+passes_variables g (inner.Word name) behind =
+    not (is_truth g name behind) && not (is_among name (with_front g.names g.front))
+    && nat_le variable_limit (length (with_front g.names g.front))
+passes_variables g _ behind = false
 
 -- what the next token of an expression shows: the literal, the variable or the token is one too many
 abbrev pub going_faults : ℕ → Going → inner.Piece → Option Piece → Found
 going_faults at g p behind =
     fault_if (is_large p) NumberTooLarge at
-    ++ fault_if (is_65th g p behind) (Limit TooManyVariables) at
-    ++ fault_if (nat_le 1024 (token_count g.front)) (Limit TooManyTokens) at
+    ++ fault_if (passes_variables g p behind) (Limit TooManyVariables) at
+    ++ fault_if (nat_le token_limit (token_count g.front)) (Limit TooManyTokens) at
 
 abbrev pub token_faults : ℕ → Option Going → Option Piece → Option Piece → Found
 token_faults at (Some g) (Some (In p)) behind = if goes_on_with g.front p then going_faults at g p behind else []
@@ -232,15 +244,16 @@ abbrev pub begins : Option Piece → Bool
 begins (Some (In p)) = begins_expression p
 begins _ = false
 
--- an argument begins with it behind 32 others
-abbrev pub is_33rd : Front → Option Piece → Bool
-is_33rd (Arguing a arguments e) next = (token_count e == 0) && nat_le 32 (length arguments) && begins next
-is_33rd _ next = false
+-- an argument begins with it behind as many as the limit
+abbrev pub passes_arguments : Front → Option Piece → Bool
+passes_arguments (Arguing a arguments e) next =
+    (token_count e == 0) && nat_le place_limit (length arguments) && begins next
+passes_arguments _ next = false
 
--- an atom begins with it behind 64 others
+-- an atom begins with it behind as many as the limit
 abbrev pub is_full : GuardFront → Bool
 is_full (LeftSide NoAtoms e) = false
-is_full (LeftSide (JointAfter atoms joint) e) = (token_count e == 0) && nat_le 64 (count_of atoms)
+is_full (LeftSide (JointAfter atoms joint) e) = (token_count e == 0) && nat_le atom_limit (count_of atoms)
 is_full (RightSide c l sign e) = false
 
 abbrev pub another_atom : Front → Option Piece → Bool
@@ -261,15 +274,13 @@ expansion_faults at (Some fault) = record { kind = expansion_kind fault; at = at
 -- an argument has ended: it can't be expanded
 abbrev pub argument_faults : ℕ → List Name → Option Sum → Found
 argument_faults at names None = []
-argument_faults at names (Some s) = expansion_faults at (polynomials.first_fault (terms.sum_term (terms.with_sum names s) s))
+argument_faults at names (Some s) =
+    expansion_faults at (polynomials.first_fault (terms.sum_term (terms.with_sum names s) s))
 
--- the differences of an atom, those of a strict relation with its -1
+-- the differences of an atom: that of an equation counts both ways round
 abbrev pub differences : Term → Relation → Term → List Term
-differences l AtLeast r = Subtraction l r ∷ []
-differences l MoreThan r = Subtraction (Subtraction l r) (Literal (pos 1)) ∷ []
-differences l AtMost r = Subtraction r l ∷ []
-differences l LessThan r = Subtraction (Subtraction r l) (Literal (pos 1)) ∷ []
-differences l EqualTo r = Subtraction l r ∷ Subtraction r l ∷ []
+differences l EqualTo r = difference_of l EqualTo r ∷ difference_of r EqualTo l ∷ []
+differences l relation r = difference_of l relation r ∷ []
 
 abbrev pub first_of_all : List Term → Option polynomials.Fault
 first_of_all [] = None
@@ -278,7 +289,8 @@ first_of_all (t ∷ ts) = polynomials.or_else (polynomials.first_fault t) (first
 -- an atom has ended: its difference can't be expanded
 abbrev pub difference_faults : ℕ → List Name → Sum → inner.Sign → Sum → Found
 difference_faults at names l sign r =
-    expansion_faults at (first_of_all (differences (terms.sum_term names l) (relation_of sign) (terms.sum_term names r)))
+    expansion_faults at (first_of_all (differences (terms.sum_term names l) (relation_of sign)
+    (terms.sum_term names r)))
 
 abbrev pub right_side_faults : ℕ → List Name → Sum → inner.Sign → Option Sum → Found
 right_side_faults at names l sign None = []
@@ -287,16 +299,18 @@ right_side_faults at names l sign (Some r) = difference_faults at (terms.with_su
 abbrev pub atom_faults : ℕ → List Name → GuardFront → Option Piece → Found
 atom_faults at names (LeftSide c e) next = []
 atom_faults at names (RightSide c l sign e) next =
-    if ends_expression e next then right_side_faults at (before_expression names (RightSide c l sign e)) l sign (expression_steps.finish e) else []
+    if ends_expression e next then right_side_faults at (before_expression names (RightSide c l sign e)) l sign
+    (expression_steps.finish e) else []
 
 -- what has ended behind the last token, an argument or an atom, can't be expanded
 abbrev pub ended_faults : ℕ → Front → Option Piece → Found
-ended_faults at (Arguing a arguments e) next = if ends_expression e next then argument_faults at (names_with a.led arguments) (expression_steps.finish e) else []
+ended_faults at (Arguing a arguments e) next =
+    if ends_expression e next then argument_faults at (names_with a.led arguments) (expression_steps.finish e) else []
 ended_faults at (MarkGuarding h g) next = atom_faults at (headed_names h) g next
 ended_faults at (SquareGuarding h g) next = atom_faults at (headed_names h) g next
 ended_faults at _ next = []
 
--- the sections before, at a place between sections
+-- between sections: one comes again that is there already
 abbrev pub repeats_at : Front → Option Piece → Option Piece → Bool
 repeats_at (Between ss) next behind = repeats ss next behind
 repeats_at _ next behind = false
@@ -309,7 +323,7 @@ shown_next at f next behind =
     ++ fault_if (targets_many f next behind) ManyTargets at
     ++ left_of at (left_wanted f) next behind
     ++ fault_if (too_many_rules f next behind) (Limit TooManyRules) at
-    ++ fault_if (is_33rd f next) (Limit TooManyArguments) at
+    ++ fault_if (passes_arguments f next) (Limit TooManyArguments) at
     ++ fault_if (another_atom f next) (Limit TooManyAtoms) at
     ++ fault_if (long_name next) (Limit LongName) at
     ++ token_faults at (going f next behind) next behind
@@ -320,7 +334,9 @@ shown_last at f next = fault_if (differs f) ArityDiffers at ++ ended_faults at f
 
 -- the faults that a front shows
 abbrev pub shown : ℕ → Tokens → Front → Tokens → Found
-shown n done f rest = shown_last (last_byte done) f (next_piece rest) ++ shown_next (next_at n rest) f (next_piece rest) (piece_behind rest)
+shown n done f rest =
+    shown_last (last_byte done) f (next_piece rest)
+    ++ shown_next (next_at n rest) f (next_piece rest) (piece_behind rest)
 
 -- a left argument begins with what is no name
 abbrev pub is_no_name : inner.Piece → Bool

@@ -1,7 +1,9 @@
 -- What a text spells, and the limits on texts.
 use Rattle.std.specs.Prelude.{◌≡◌, ℕ, suc, ◌≤◌, Bool, if◌then◌else◌, List, [], ◌∷◌, length, Option, Some, None, IsFalse, ⊤}
 use Rattle.model.specs.Programs.{Name, Symbol, Program}
+use Rattle.model.specs.Limits.{rule_limit, place_limit, variable_limit, atom_limit, name_limit, token_limit, coefficient_limit}
 use Rattle.poly_terms.specs.Faults as polynomials
+use Rattle.its_model.specs.Valid.{IsValid}
 use Rattle.text_core.specs.Names.{AreDistinct}
 use Rattle.text_core.specs.Tokens.{pieces}
 use Rattle.expr_text.specs.Pieces as inner
@@ -57,10 +59,10 @@ pub record Spells (bytes : List ℕ) (p : Program) : Type 0 where
   pub rules : HaveRules (rules_of written)
   pub numbered : program_numbered written ≡ Some p
 
--- a name has at most 256 bytes, and a literal is at most 2^63 - 1
+-- names and literals are within their limits
 abbrev pub IsSmallInner : inner.Piece → Type 0
-IsSmallInner (inner.Word name) = length name ≤ 256
-IsSmallInner (inner.Digits ds) = number_of ds ≤ 9223372036854775807
+IsSmallInner (inner.Word name) = length name ≤ name_limit
+IsSmallInner (inner.Digits ds) = number_of ds ≤ coefficient_limit
 IsSmallInner _ = ⊤
 
 abbrev pub IsSmallPiece : Piece → Type 0
@@ -71,9 +73,9 @@ abbrev pub AreSmall : List Piece → Type 0
 AreSmall [] = ⊤
 AreSmall (p ∷ ps) = IsSmallPiece p × AreSmall ps
 
--- an expression has at most 1,024 tokens
+-- an expression has no more tokens than the limit
 abbrev pub IsShort : Sum → Type 0
-IsShort s = length (sum_behind (λ p. p) s []) ≤ 1024
+IsShort s = length (sum_behind (λ p. p) s []) ≤ token_limit
 
 -- an argument is short, and can be expanded
 pub record IsArgumentWithin (names : List Name) (s : Sum) : Type 0 where
@@ -94,21 +96,21 @@ abbrev pub AreAtomsWithin : List Name → Atoms → Type 0
 AreAtomsWithin names (First a) = IsAtomWithin names a
 AreAtomsWithin names (Joined atoms joint a) = AreAtomsWithin names atoms × IsAtomWithin names a
 
--- a guard has at most 64 atoms
+-- a guard has no more atoms than the limit
 abbrev pub IsMaybeWithin : List Name → Option Atoms → Type 0
 IsMaybeWithin names None = ⊤
-IsMaybeWithin names (Some atoms) = (count_of atoms ≤ 64) × AreAtomsWithin names atoms
+IsMaybeWithin names (Some atoms) = (count_of atoms ≤ atom_limit) × AreAtomsWithin names atoms
 
 abbrev pub IsGuardWithin : List Name → Guard → Type 0
 IsGuardWithin names NoGuard = ⊤
 IsGuardWithin names (BehindMark atoms) = IsMaybeWithin names atoms
 IsGuardWithin names (InSquares atoms) = IsMaybeWithin names atoms
 
--- a rule has at most 32 arguments on each side and 64 variables
+-- a rule has no more arguments on each side than a symbol may have places, and no more variables than the limit
 pub record IsRuleWithin (r : WrittenRule) : Type 0 where
-  pub left : length r.left.arguments ≤ 32
-  pub right : length (term_in r.target).arguments ≤ 32
-  pub variables : length (rule_names r) ≤ 64
+  pub left : length r.left.arguments ≤ place_limit
+  pub right : length (term_in r.target).arguments ≤ place_limit
+  pub variables : length (rule_names r) ≤ variable_limit
   pub arguments : AreArgumentsWithin (rule_names r) (term_in r.target).arguments
   pub guard : IsGuardWithin (rule_names r) r.guard
 
@@ -116,10 +118,10 @@ abbrev pub AreRulesWithin : List WrittenRule → Type 0
 AreRulesWithin [] = ⊤
 AreRulesWithin (r ∷ rules) = IsRuleWithin r × AreRulesWithin rules
 
--- there are at most 1,000 rules
+-- there are no more rules than the limit
 abbrev pub HaveRulesWithin : Option (List WrittenRule) → Type 0
 HaveRulesWithin None = ⊤
-HaveRulesWithin (Some rules) = (length rules ≤ 1000) × AreRulesWithin rules
+HaveRulesWithin (Some rules) = (length rules ≤ rule_limit) × AreRulesWithin rules
 
 -- sections within the limits
 pub record AreWithin (sections : List Section) : Type 0 where
@@ -134,3 +136,7 @@ pub record SpellsWithin (bytes : List ℕ) (p : Program) : Type 0 where
 -- one text spells at most one program
 pub record OneProgram : Type 0 where
   pub each : (bytes : List ℕ) (p q : Program) → Spells bytes p → Spells bytes q → p ≡ q
+
+-- what a text spells within the limits is a valid program
+pub record SpelledIsValid : Type 0 where
+  pub each : (bytes : List ℕ) (p : Program) → SpellsWithin bytes p → IsValid p

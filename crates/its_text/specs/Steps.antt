@@ -1,7 +1,8 @@
 -- Where each piece of a program's text leads.
-use Rattle.std.specs.Prelude.{List, [], ◌∷◌, codes, Bool, if◌then◌else◌, Option, Some, None}
+use Rattle.std.specs.Prelude.{List, [], ◌∷◌, codes, if◌then◌else◌, Option, Some, None}
 use Rattle.model.specs.Programs.{Name}
 use Rattle.text_core.specs.Names.{is_same}
+use Rattle.text_core.specs.Choices.{when}
 use Rattle.expr_text.specs.Pieces as inner
 use Rattle.expr_text.specs.Trees.{Sum, Named}
 use Rattle.expr_text.specs.Fronts as expression
@@ -11,10 +12,6 @@ use Rattle.expr_text.specs.GuardFronts as guards
 use Rattle.its_text.specs.Pieces.{Piece, In, Comma, Arrow, GuardMark, SquareOpen, SquareClose, Remark}
 use Rattle.its_text.specs.Written.{RightTerm, Target, Marked, Bare, NoGuard, BehindMark, InSquares, Section, Goal, Start, Variables, Comment}
 use Rattle.its_text.specs.Fronts.{Ruling, Led, Wrap, InCom, Alone, Aimed, Headed, Front, Between, Opened, GoalNamed, GoalSaid, StartNamed, StartOpened, StartListed, StartSaid, StartShut, Listing, CommentNamed, Ruled, SourceNamed, LeftOpened, LeftRead, LeftParted, LeftShut, Arrowed, ComNamed, ComOpened, TargetNamed, RightOpened, Arguing, RightShut, Targeted, GuardMarked, WordRead, MarkGuarding, SquareOpened, SquareGuarding, ruling_with, section_of}
-
--- a front where a test passes
-abbrev pub when : Bool → Front → Option Front
-when test f = if test then Some f else None
 
 -- the section that a keyword begins
 abbrev pub section_named : List Section → Name → Option Front

@@ -31,9 +31,11 @@ pub record FirstFaults : Type 0 where
   -- no rule leaves the start symbol
   pub start_unknown : RefusedAt (with_rules (codes "l1(A) -> Com_1(l1(A))")) 28 StartUnknown
   -- a literal over 2^63 - 1
-  pub large_literal : RefusedAt (with_rules (codes "l0(A) -> Com_1(l1(A)) :|: A*A <= 9223372036854775808")) 72 NumberTooLarge
+  pub large_literal : RefusedAt
+      (with_rules (codes "l0(A) -> Com_1(l1(A)) :|: A*A <= 9223372036854775808")) 72 NumberTooLarge
   -- a literal that is too large directly behind `:|:`, before a bracket that can't follow
-  pub literal_before_bracket : RefusedAt (with_rules (codes "l0(A) -> Com_1(l1(A)) :|: 9223372036854775808 (")) 65 NumberTooLarge
+  pub literal_before_bracket : RefusedAt (with_rules
+      (codes "l0(A) -> Com_1(l1(A)) :|: 9223372036854775808 (")) 65 NumberTooLarge
   -- an argument has ended where the next token can't follow, and stands before it
   pub ended_argument : RefusedAt (with_rules (codes "l0(A) -> Com_1(l1(A^9 l2")) 59 (Limit HighDegree)
   -- one that goes on hasn't
@@ -61,9 +63,11 @@ pub record FirstFaults : Type 0 where
   -- of the two faults of 200^9 the lesser one counts
   pub least_of_two : RefusedAt (with_rules (codes "l0(A) -> Com_1(l1(200^9))")) 61 NumberTooLarge
   -- of `L <= R` the right side is expanded first
-  pub right_first : RefusedAt (with_rules (codes "l0(A) -> Com_1(l1(A)) :|: A^9 <= 9223372036854775807*2")) 92 NumberTooLarge
+  pub right_first : RefusedAt
+      (with_rules (codes "l0(A) -> Com_1(l1(A)) :|: A^9 <= 9223372036854775807*2")) 92 NumberTooLarge
   -- of `L >= R` the left one
-  pub left_first : RefusedAt (with_rules (codes "l0(A) -> Com_1(l1(A)) :|: A^9 >= 9223372036854775807*2")) 92 (Limit HighDegree)
+  pub left_first : RefusedAt (with_rules (codes "l0(A) -> Com_1(l1(A)) :|: A^9 >= 9223372036854775807*2")) 92
+      (Limit HighDegree)
   -- the -1 of a strict relation counts
   pub strict : RefusedAt (with_rules (codes "l0(A) -> Com_1(l1(A)) :|: A > 9223372036854775807")) 87 NumberTooLarge
   -- `-` before a brace is no token
@@ -110,7 +114,16 @@ started s rules = record { symbols = s; start = 0; start_names = name 65 ∷ [];
 
 -- a rule from l0 to l1 with the left variable A
 abbrev pub from_l0 : List Name → List Term → List Atom → Rule
-from_l0 free updates guard = record { source = 0; target = 1; left = 1; free = length free; names = name 65 ∷ free; updates = updates; guard = guard }
+from_l0 free updates guard =
+    record {
+      source = 0;
+      target = 1;
+      left = 1;
+      free = length free;
+      names = name 65 ∷ free;
+      updates = updates;
+      guard = guard;
+    }
 
 -- the text spells the program
 abbrev pub IsReadAs : List ℕ → Program → Type 0
@@ -119,35 +132,62 @@ IsReadAs bytes p = verdict bytes ≡ Stands p
 -- what texts stand for
 pub record Programs : Type 0 where
   -- a target within `Com_1(` and one alone
-  pub marked : IsReadAs (with_rules (codes "l0(A) -> Com_1(l1(A))")) (started (symbols 1 1) (from_l0 [] (Variable 0 ∷ []) [] ∷ []))
+  pub marked : IsReadAs (with_rules (codes "l0(A) -> Com_1(l1(A))"))
+      (started (symbols 1 1) (from_l0 [] (Variable 0 ∷ []) [] ∷ []))
   pub bare : IsReadAs (with_rules (codes "l0(A)->l1(A)")) (started (symbols 1 1) (from_l0 [] (Variable 0 ∷ []) [] ∷ []))
   -- guards of either form, and empty ones; `Com_` without digits is a symbol
   pub behind_mark : IsReadAs (with_rules (codes "l0(A) -> l1() :|: A >= 1 && A < 2")) (started (symbols 1 0)
-      (from_l0 [] [] (Compare (Variable 0) AtLeast (Literal (pos 1)) ∷ Compare (Variable 0) LessThan (Literal (pos 2)) ∷ []) ∷ []))
-  pub in_squares : IsReadAs (with_rules (codes "l0(A) -> l1() [A = 1 /\\ TRUE]")) (started (symbols 1 0) (from_l0 [] [] (Compare (Variable 0) EqualTo (Literal (pos 1)) ∷ Always ∷ []) ∷ []))
-  pub empty_guards : IsReadAs (with_rules (codes "l0(A) -> l1() :|: l0(A) -> l1() []")) (started (symbols 1 0) (from_l0 [] [] [] ∷ from_l0 [] [] [] ∷ []))
+      (from_l0 [] [] (Compare (Variable 0) AtLeast (Literal (pos 1)) ∷ Compare (Variable 0) LessThan (Literal (pos 2))
+      ∷ []) ∷ []))
+  pub in_squares : IsReadAs (with_rules (codes "l0(A) -> l1() [A = 1 /\\ TRUE]"))
+      (started (symbols 1 0) (from_l0 [] [] (Compare (Variable 0) EqualTo (Literal (pos 1)) ∷ Always ∷ []) ∷ []))
+  pub empty_guards : IsReadAs (with_rules (codes "l0(A) -> l1() :|: l0(A) -> l1() []"))
+      (started (symbols 1 0) (from_l0 [] [] [] ∷ from_l0 [] [] [] ∷ []))
   -- `TRUE` and `true` are names where a relation or an operator follows
   pub truth_as_a_name : IsReadAs (with_rules (codes "l0(A) -> l1() :|: TRUE > 1 && true")) (started (symbols 1 0)
       (from_l0 ((84 ∷ 82 ∷ 85 ∷ 69 ∷ []) ∷ []) [] (Compare (Variable 1) MoreThan (Literal (pos 1)) ∷ Always ∷ []) ∷ []))
   -- free variables are numbered in order of first occurrence in the rule's text
   pub free_variables : IsReadAs (with_rules (codes "l0(A) -> l1(C,B) :|: D == C")) (started (symbols 1 2)
-      (from_l0 (name 67 ∷ name 66 ∷ name 68 ∷ []) (Variable 1 ∷ Variable 2 ∷ []) (Compare (Variable 3) EqualTo (Variable 1) ∷ []) ∷ []))
+      (from_l0 (name 67 ∷ name 66 ∷ name 68 ∷ []) (Variable 1 ∷ Variable 2 ∷ [])
+      (Compare (Variable 3) EqualTo (Variable 1) ∷ []) ∷ []))
   -- sums, differences and products group to the left, `-A^2` is `-(A^2)`, and brackets leave no node
   pub grouping : IsReadAs (with_rules (codes "l0(A) -> l1(A-1-2*A*3,-A^2,-(A)*2)")) (started (symbols 1 3)
-      (from_l0 [] (Subtraction (Subtraction (Variable 0) (Literal (pos 1))) (Multiplication (Multiplication (Literal (pos 2)) (Variable 0)) (Literal (pos 3)))
-      ∷ Negation (Exponentiation (Variable 0) 2) ∷ Multiplication (Negation (Variable 0)) (Literal (pos 2)) ∷ []) [] ∷ []))
+      (from_l0 [] (Subtraction (Subtraction (Variable 0) (Literal (pos 1)))
+      (Multiplication (Multiplication (Literal (pos 2)) (Variable 0)) (Literal (pos 3)))
+      ∷ Negation (Exponentiation (Variable 0) 2) ∷ Multiplication (Negation (Variable 0)) (Literal (pos 2)) ∷ []) []
+      ∷ []))
   -- sections in any order, comments raw to the bracket that closes them, a start symbol that rules lead to
-  pub any_order : IsReadAs (codes "(COMMENT (|| !) )(RULES l1(B)->l0(0) l0(A) -> l1(007))(COMMENT)(GOAL COMPLEXITY)(VAR)(STARTTERM(FUNCTIONSYMBOLS l0))")
+  pub any_order : IsReadAs
+      (codes "(COMMENT (|| !) )(RULES l1(B)->l0(0) l0(A) -> l1(007))(COMMENT)(GOAL COMPLEXITY)(VAR)(STARTTERM(FUNCTIONSYMBOLS l0))")
       (record {
         symbols = record { name = l1; arity = 1 } ∷ record { name = l0; arity = 1 } ∷ [];
         start = 1;
         start_names = name 65 ∷ [];
-        rules = record { source = 0; target = 1; left = 1; free = 0; names = name 66 ∷ []; updates = Literal (pos 0) ∷ []; guard = [] }
-            ∷ record { source = 1; target = 0; left = 1; free = 0; names = name 65 ∷ []; updates = Literal (pos 7) ∷ []; guard = [] } ∷ [];
+        rules =
+            record {
+              source = 0;
+              target = 1;
+              left = 1;
+              free = 0;
+              names = name 66 ∷ [];
+              updates = Literal (pos 0) ∷ [];
+              guard = [];
+            }
+            ∷ record {
+              source = 1;
+              target = 0;
+              left = 1;
+              free = 0;
+              names = name 65 ∷ [];
+              updates = Literal (pos 7) ∷ [];
+              guard = [];
+            } ∷ [];
       })
   -- the largest literal
-  pub largest_literal : IsReadAs (with_rules (codes "l0(A) -> Com_1(l1(A)) :|: A*A <= 9223372036854775807")) (started (symbols 1 1)
-      (from_l0 [] (Variable 0 ∷ []) (Compare (Multiplication (Variable 0) (Variable 0)) AtMost (Literal (pos 9223372036854775807)) ∷ []) ∷ []))
+  pub largest_literal : IsReadAs (with_rules (codes "l0(A) -> Com_1(l1(A)) :|: A*A <= 9223372036854775807"))
+      (started (symbols 1 1)
+      (from_l0 [] (Variable 0 ∷ []) (Compare (Multiplication (Variable 0) (Variable 0)) AtMost
+      (Literal (pos 9223372036854775807)) ∷ []) ∷ []))
 
 -- all of it
 pub record WorkedValues : Type 0 where

@@ -84,8 +84,10 @@ words_behind (a ∷ names) before = word a ∷ words_behind names before
 abbrev pub section_behind : Section → List Piece → List Piece
 section_behind Goal before = close_bracket ∷ word (codes "COMPLEXITY") ∷ word (codes "GOAL") ∷ open_bracket ∷ before
 section_behind (Start name) before =
-    close_bracket ∷ close_bracket ∷ word name ∷ word (codes "FUNCTIONSYMBOLS") ∷ open_bracket ∷ word (codes "STARTTERM") ∷ open_bracket ∷ before
-section_behind (Variables names) before = close_bracket ∷ words_behind names (word (codes "VAR") ∷ open_bracket ∷ before)
+    close_bracket ∷ close_bracket ∷ word name ∷ word (codes "FUNCTIONSYMBOLS") ∷ open_bracket ∷ word (codes "STARTTERM")
+    ∷ open_bracket ∷ before
+section_behind (Variables names) before =
+    close_bracket ∷ words_behind names (word (codes "VAR") ∷ open_bracket ∷ before)
 section_behind (Rules rules) before = close_bracket ∷ rules_behind rules (word (codes "RULES") ∷ open_bracket ∷ before)
 section_behind (Comment bytes) before = Remark bytes ∷ word (codes "COMMENT") ∷ open_bracket ∷ before
 

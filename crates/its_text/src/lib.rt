@@ -1,10 +1,15 @@
-// Programs as they are written: the pieces of their texts, the trees, the programs that they stand for, where each piece
-// leads, and the faults of a text.
-// Contract to the layers above: small texts are what was worked out by hand (`worked_values_hold`), a text spells one
-// program at most (`one_program`), and reading its tokens in order answers exactly its sections or its first fault
-// (`texts_have_one_answer`).
+// Programs as they are written: the pieces of their texts, the trees, the programs that they stand for, where each
+// piece leads, and the faults of a text.
+// Contract to the layers above: small texts are what was worked out by hand (`worked_values_hold`, and at the limits
+// `worked_limits_hold`), a text spells one program at most (`one_program`), and reading its tokens in order answers
+// exactly its sections or its first fault (`texts_have_one_answer`), of which there is one
+// (`texts_have_one_first_fault`). The verdict on the bytes says that by numbers (`verdicts_are_right`), and what a text
+// spells within the limits is valid (`spelled_programs_are_valid`).
 #![tactic(auto)]
 
 mod law;
 
-pub use law::{one_program, texts_have_one_answer, worked_values_hold};
+pub use law::{
+    one_program, spelled_programs_are_valid, texts_have_one_answer, texts_have_one_first_fault,
+    verdicts_are_right, worked_limits_hold, worked_values_hold,
+};

@@ -1,11 +1,11 @@
 -- A reader that keeps its laws answers exactly the tree, or exactly the first fault.
-use Rattle.std.proofs.Common.{◌≡◌, ℕ, List, [], ◌∷◌, Option, Some, None, refl, ap, sym, subst, ◌∙◌, inl, inr}
+use Rattle.std.proofs.Common.{◌≡◌, ℕ, List, [], ◌∷◌, Option, Some, None, refl, ap, sym, subst, ◌∙◌, inl, inr, arith}
 use Rattle.std.specs.Prelude.{◌⊎◌}
 use Rattle.text_core.specs.Tokens.{Token, pieces}
 use Rattle.text_core.specs.Readers.{Fault, Reader, onto, next, walk, reached, IsBeginning, IsWhole, BreaksOff}
 use Rattle.text_core.specs.Faults.{Among, off_at, FaultAt, shows, breaks, NotAfter}
 use Rattle.text_core.specs.Reading.{Answer, Stands, Refused, Stopped, Going, first_of, first_among, ended, further, run, answer, Answers}
-use Rattle.text_core.specs.Laws.{Laws, AnswersAll, OneTree}
+use Rattle.text_core.specs.Laws.{Laws, AnswersAll, OneTree, OneFirst}
 use Rattle.text_core.proofs.Orders.{not_after_on, IsFirstOf, first_of_is, IsFirstAmong, first_among_is}
 use Rattle.text_core.proofs.Walks.{walk-none, walk-onto, pieces-onto}
 
@@ -69,6 +69,13 @@ module _ {P T F K : Type 0} (r : Reader P T F K) where
       where
         go : (f : F) → walk r.step (Some r.beginning) ps ≡ Some f → r.finish f ≡ Some a → (g : F) → walk r.step (Some r.beginning) ps ≡ Some g → r.finish g ≡ Some b → a ≡ b
         go f p q g s t = let same : f ≡ g = cc in let u : r.finish f ≡ r.finish g = ap r.finish same in cc
+
+    -- faults that aren't after each other are one
+    pub same_first : (x y : Fault K) → NotAfter r x y → NotAfter r y x → x ≡ y
+    same_first x y a b =
+        let at : x.at ≡ y.at = (let p = a.position in let q = b.position in omega (arith, p, q)) in
+        let kind : x.kind ≡ y.kind = laws.differ x.kind y.kind (let p = a.kind at in let q = b.kind (sym at) in omega (arith, p, q)) in
+        λ i. record { kind = kind i; at = at i }
 
     -- no text begins with pieces that lead nowhere
     pub nowhere_begins : (done : List P) → reached r done ≡ None → ¬ IsBeginning r done
@@ -253,3 +260,6 @@ module _ {P T F K : Type 0} (r : Reader P T F K) where
 
     pub one_tree_each : OneTree r
     one_tree_each = record { each = one_tree }
+
+    pub one_first_each : OneFirst r
+    one_first_each = record { each = λ n ts x y a b. same_first x y (a.least y b.is) (b.least x a.is) }

@@ -12,3 +12,6 @@ pub mod Stopping
 pub mod Limits
 pub mod RowLaws
 pub mod WorkedValues
+pub mod InnerLaws
+pub mod LineLaws
+pub mod WorkedLines

@@ -1,8 +1,8 @@
 -- The reader of rows keeps the laws of a reader.
-use Rattle.std.proofs.Common.{◌≡◌, List, [], ◌∷◌, Option, Some, None, refl, ap, sym, ◌∙◌}
+use Rattle.std.proofs.Common.{◌≡◌, List, [], ◌∷◌, Option, Some, None, refl, ap, sym, ◌∙◌, arith}
 use Rattle.text_core.specs.Readers.{onto, next, walk, reached}
 use Rattle.text_core.specs.Laws.{Laws}
-use Rattle.text_core.specs.Rows.{Piece, Number, Comma, Wrong, Row, One, More, row_then, Front, Begins, Behind, Open, step, finish, rows}
+use Rattle.text_core.specs.Rows.{Piece, Number, Comma, Wrong, Row, One, More, row_then, Front, Begins, Behind, Open, Kind, Syntax, TooLarge, TooMany, number_of, step, finish, rows}
 
 -- the pieces that have been read, and then the rest
 abbrev front_then : Front → List Piece → List Piece
@@ -48,10 +48,18 @@ finished Begins row e = cc
 finished (Behind r) row e = let s : r ≡ row = cc in ap (λ (q : Row). row_then q []) (sym s)
 finished (Open r) row e = cc
 
+-- kinds differ in their numbers
+kinds_differ : (a b : Kind) → number_of a ≡ number_of b → a ≡ b
+kinds_differ Syntax Syntax h = refl
+kinds_differ TooLarge TooLarge h = refl
+kinds_differ TooMany TooMany h = refl
+kinds_differ a b h = absurd (omega (arith, h))
+
 -- the laws
 pub row_laws : Laws rows
 row_laws = record {
   goes_on = λ done f e. let c = completed f in (c.0, c.1, c.2 ∙ sym (read_so done f c.1 e));
   ends = λ done f t e fin. finished f t fin ∙ sym (read_so done f [] e);
   reads = λ t ps w. (Behind t, ap (walk step (Some Begins)) (sym w) ∙ row_read t [], refl);
+  differ = kinds_differ;
 }

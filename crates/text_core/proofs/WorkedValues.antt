@@ -5,7 +5,7 @@ use Rattle.text_core.specs.Readers.{Fault, IsBeginning}
 use Rattle.text_core.specs.Faults.{shows, breaks}
 use Rattle.text_core.specs.Rows.{Number, Comma, One, More, Begins, Behind, Open, Kind, Syntax, TooLarge, TooMany, rows}
 use Rattle.text_core.specs.Worked.{NamesAreTold, PositionsAreFound, DigitsAreTold, TokensAreFound, BreaksAreTold, FaultsAreTold, RowsAreRead, HasFault, tokens}
-use Rattle.text_core.proofs.FirstFaults.{Ahead, answer_is, answers_all, one_tree_each, fault_ahead, nowhere_begins, whole_ends}
+use Rattle.text_core.proofs.FirstFaults.{Ahead, answer_is, answers_all, one_tree_each, one_first_each, fault_ahead, nowhere_begins, whole_ends}
 use Rattle.text_core.proofs.RowLaws.{row_laws}
 
 -- a test that fails doesn't pass
@@ -131,4 +131,4 @@ fault_values = record {
 
 -- the reader of rows
 pub read : RowsAreRead
-read = record { laws = row_laws; answers = answers_all rows row_laws; one_row = one_tree_each rows row_laws }
+read = record { laws = row_laws; answers = answers_all rows row_laws; one_row = one_tree_each rows row_laws; one_first = one_first_each rows row_laws }

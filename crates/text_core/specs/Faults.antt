@@ -16,14 +16,16 @@ next_at n (t ∷ ts) = t.at
 -- the faults at a position of those kinds for which a test passes
 unfoldable pub faults_at : {K : Type 0} → ℕ → (K → Bool) → List K → List (Fault K)
 faults_at at test [] = []
-faults_at at test (kind ∷ kinds) = if test kind then record { kind = kind; at = at } ∷ faults_at at test kinds else faults_at at test kinds
+faults_at at test (kind ∷ kinds) =
+    if test kind then record { kind = kind; at = at } ∷ faults_at at test kinds else faults_at at test kinds
 
 module _ {P T F K : Type 0} (r : Reader P T F K) where
   -- the refusal where a text of n bytes breaks off behind a front
   abbrev pub off_at : ℕ → F → List (Token P) → Fault K
   off_at n f rest = record { kind = r.off f rest; at = next_at n rest }
 
-  -- a fault of a text of n bytes with these tokens: a front that the text leads to shows it, or the text breaks off there
+  -- a fault of a text of n bytes with these tokens: a front that the text leads to shows it, or the text breaks off
+  -- there
   pub data FaultAt (n : ℕ) (ts : List (Token P)) (x : Fault K) : Type 0 where
     shows : (done rest : List (Token P)) (f : F) → onto done rest ≡ ts → reached r (pieces done) ≡ Some f
         → Among x (r.shown n done f rest) → FaultAt n ts x

@@ -1,17 +1,21 @@
 -- The laws of a reader, and what follows from them.
 use Rattle.std.specs.Prelude.{◌≡◌, ℕ, List, [], Some}
 use Rattle.text_core.specs.Tokens.{Token}
-use Rattle.text_core.specs.Readers.{Reader, onto, walk, reached, IsBeginning}
+use Rattle.text_core.specs.Readers.{Fault, Reader, onto, walk, reached, IsBeginning}
+use Rattle.text_core.specs.Faults.{IsFirst}
 use Rattle.text_core.specs.Reading.{answer, Answers}
 
--- the laws of a reader, over pieces alone
+-- the laws of a reader, over pieces and kinds alone
 pub record Laws {P T F K : Type 0} (r : Reader P T F K) : Type 0 where
   -- a text goes on from each front that pieces lead to
   pub goes_on : (done : List P) (f : F) → reached r done ≡ Some f → IsBeginning r done
   -- where a text can end, its pieces are those of the tree
   pub ends : (done : List P) (f : F) (t : T) → reached r done ≡ Some f → r.finish f ≡ Some t → r.Writes t (onto done [])
   -- the pieces of a tree lead to it
-  pub reads : (t : T) (ps : List P) → r.Writes t ps → (f : F) × (walk r.step (Some r.beginning) ps ≡ Some f) × (r.finish f ≡ Some t)
+  pub reads : (t : T) (ps : List P) → r.Writes t ps → (f : F) × (walk r.step (Some r.beginning) ps ≡ Some f)
+      × (r.finish f ≡ Some t)
+  -- two kinds with one number are one
+  pub differ : (a b : K) → r.number a ≡ r.number b → a ≡ b
 
 -- a reader with these laws answers exactly the tree, or exactly the first fault
 pub record AnswersAll {P T F K : Type 0} (r : Reader P T F K) : Type 0 where
@@ -20,3 +24,7 @@ pub record AnswersAll {P T F K : Type 0} (r : Reader P T F K) : Type 0 where
 -- one text stands for one tree
 pub record OneTree {P T F K : Type 0} (r : Reader P T F K) : Type 0 where
   pub each : (a b : T) (ps : List P) → r.Writes a ps → r.Writes b ps → a ≡ b
+
+-- one text has one first fault
+pub record OneFirst {P T F K : Type 0} (r : Reader P T F K) : Type 0 where
+  pub each : (n : ℕ) (ts : List (Token P)) (x y : Fault K) → IsFirst r n ts x → IsFirst r n ts y → x ≡ y

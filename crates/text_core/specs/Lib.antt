@@ -10,5 +10,8 @@ pub mod Laws
 pub mod Stopping
 pub mod Limits
 pub mod Listed
+pub mod Inner
 pub mod Rows
+pub mod Lines
 pub mod Worked
+pub mod WorkedLines

@@ -19,7 +19,8 @@ pub record Reader (P T F K : Type 0) : Type 1 where
   pub finish : F → Option T
   -- of two kinds at one position the one with the lesser number comes first
   pub number : K → ℕ
-  -- what a front shows against a text of so many bytes, with the tokens before it, the last one first, and those behind it
+  -- what a front shows against a text of so many bytes, with the tokens before it, the last one first, and those behind
+  -- it
   pub shown : ℕ → List (Token P) → F → List (Token P) → List (Fault K)
   -- the kind of refusal where the text breaks off at the tokens behind a front
   pub off : F → List (Token P) → K
@@ -54,7 +55,8 @@ module _ {P T F K : Type 0} (r : Reader P T F K) where
   abbrev pub IsWhole : List P → Type 0
   IsWhole done = (t : T) × r.Writes t (onto done [])
 
-  -- a text begins with what is done and doesn't go on like this: the next piece can't follow, or the text ends too early
+  -- a text begins with what is done and doesn't go on like this: the next piece can't follow, or the text ends too
+  -- early
   abbrev pub BreaksOff : List P → List P → Type 0
   BreaksOff done [] = IsBeginning done × ¬ IsWhole done
   BreaksOff done (p ∷ rest) = IsBeginning done × ¬ IsBeginning (p ∷ done)

@@ -9,7 +9,8 @@ pub data Answer (T K : Type 0) : Type 0 where
   Stands : T → Answer T K
   Refused : Fault K → Answer T K
 
--- how far reading has come: it is over, or stands at a front behind tokens, the last one first, with the least fault so far
+-- how far reading has come: it is over, or stands at a front behind tokens, the last one first, with the least fault so
+-- far
 pub data Progress (P F K : Type 0) : Type 0 where
   Stopped : Fault K → Progress P F K
   Going : Option (Fault K) → List (Token P) → F → Progress P F K
@@ -45,13 +46,16 @@ module _ {P T F K : Type 0} (r : Reader P T F K) where
   run n (Stopped x) [] = Refused x
   run n (Going best done f) [] = ended (first_among best (r.shown n done f [])) (r.finish f) (off_at r n f [])
   run n (Stopped x) (p ∷ rest) = Refused x
-  run n (Going best done f) (p ∷ rest) = run n (further (first_among best (r.shown n done f (p ∷ rest))) done p (r.step f p.piece) (off_at r n f (p ∷ rest))) rest
+  run n (Going best done f) (p ∷ rest) =
+      run n (further (first_among best (r.shown n done f (p ∷ rest))) done p (r.step f p.piece)
+      (off_at r n f (p ∷ rest))) rest
 
   -- the answer to a text
   abbrev pub answer : ℕ → List (Token P) → Answer T K
   answer n ts = run n (Going None [] r.beginning) ts
 
-  -- an answer is right: a tree that is written so, where the text has no fault and stands for no other tree, or its first fault
+  -- an answer is right: a tree that is written so, where the text has no fault and stands for no other tree, or its
+  -- first fault
   pub record IsTree (n : ℕ) (ts : List (Token P)) (t : T) : Type 0 where
     pub written : r.Writes t (pieces ts)
     pub faultless : (x : Fault K) → ¬ FaultAt r n ts x

@@ -73,7 +73,8 @@ large_next (t ∷ rest) = large_at t.piece t.at
 
 -- more than three numbers show at the last byte of the last piece, where the text ends
 abbrev pub many_behind : List (Token Piece) → Front → List (Token Piece) → List (Fault Kind)
-many_behind (t ∷ done) (Behind row) [] = if nat_lt 3 (count row) then record { kind = TooMany; at = t.upto - 1 } ∷ [] else []
+many_behind (t ∷ done) (Behind row) [] =
+    if nat_lt 3 (count row) then record { kind = TooMany; at = t.upto - 1 } ∷ [] else []
 many_behind done f rest = []
 
 -- what a front shows: a large number that could follow, or a row with too many
@@ -83,12 +84,25 @@ shown n done f rest = large_next rest
 
 -- the reader of rows
 abbrev pub rows : Reader Piece Row Front Kind
-rows = record { Writes = Writes; beginning = Begins; step = step; finish = finish; number = number_of; shown = shown; off = λ f rest. Syntax }
+rows =
+    record {
+      Writes = Writes;
+      beginning = Begins;
+      step = step;
+      finish = finish;
+      number = number_of;
+      shown = shown;
+      off = λ f rest. Syntax;
+    }
 
 -- the piece that begins with a byte; white space stands between pieces
 abbrev pub lexeme_at : ℕ → List ℕ → Lexeme (Option Piece)
 lexeme_at b bytes =
     if is_white_space b then record { piece = None; len = 1 }
-    else if is_ascii_digit b then record { piece = Some (Number (digits_value 10 (b ∷ prefix is_ascii_digit bytes))); len = length (b ∷ prefix is_ascii_digit bytes) }
+    else if is_ascii_digit b then record {
+      piece =
+          Some (Number (digits_value 10 (b ∷ prefix is_ascii_digit bytes)));
+      len = length (b ∷ prefix is_ascii_digit bytes);
+    }
     else if b == 44 then record { piece = Some Comma; len = 1 }
     else record { piece = Some Wrong; len = 1 }

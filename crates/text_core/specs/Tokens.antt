@@ -1,5 +1,5 @@
 -- The pieces of a text with their positions.
-use Rattle.std.specs.Prelude.{ℕ, zero, suc, ◌+◌, ◌-◌, Option, Some, None, List, [], ◌∷◌, length, ◌≤◌, ◌<◌}
+use Rattle.std.specs.Prelude.{ℕ, zero, suc, ◌+◌, ◌-◌, Option, Some, None, List, [], ◌∷◌, length, ◌≤◌, ◌<◌, ⊤}
 
 -- a piece, the position of its first byte, and the one behind its last byte
 pub record Token (P : Type 0) : Type 0 where
@@ -22,13 +22,28 @@ abbrev pub token_then : {P : Type 0} → ℕ → ℕ → Option P → List (Toke
 token_then at len None ts = ts
 token_then at len (Some p) ts = record { piece = p; at = at; upto = at + len } ∷ ts
 
+-- how texts are cut: what bytes begin with, by the mode that the text before them leaves, and the mode behind that
+pub record Lexer (P M : Type 0) : Type 0 where
+  pub lexeme_in : M → ℕ → List ℕ → Lexeme (Option P)
+  pub mode_behind : M → Option P → M
+
 -- the tokens of bytes that stand at a position, behind so many that are passed over: each lexeme begins where the one
 -- before it ends
+abbrev pub tokens_in : {P M : Type 0} → Lexer P M → M → ℕ → ℕ → List ℕ → List (Token P)
+tokens_in lexer mode at skip [] = []
+tokens_in lexer mode at (suc skip) (b ∷ bytes) = tokens_in lexer mode (at + 1) skip bytes
+tokens_in lexer mode at zero (b ∷ bytes) =
+    token_then at (lexer.lexeme_in mode b bytes).len (lexer.lexeme_in mode b bytes).piece
+    (tokens_in lexer (lexer.mode_behind mode (lexer.lexeme_in mode b bytes).piece) (at + 1)
+    ((lexer.lexeme_in mode b bytes).len - 1) bytes)
+
+-- a lexer with one mode
+abbrev pub plain : {P : Type 0} → (ℕ → List ℕ → Lexeme (Option P)) → Lexer P ⊤
+plain lexeme_at = record { lexeme_in = λ mode. lexeme_at; mode_behind = λ mode piece. mode }
+
+-- the tokens of bytes at a position, with one mode
 abbrev pub tokens_from : {P : Type 0} → (ℕ → List ℕ → Lexeme (Option P)) → ℕ → ℕ → List ℕ → List (Token P)
-tokens_from lexeme_at at skip [] = []
-tokens_from lexeme_at at (suc skip) (b ∷ bytes) = tokens_from lexeme_at (at + 1) skip bytes
-tokens_from lexeme_at at zero (b ∷ bytes) =
-    token_then at (lexeme_at b bytes).len (lexeme_at b bytes).piece (tokens_from lexeme_at (at + 1) ((lexeme_at b bytes).len - 1) bytes)
+tokens_from lexeme_at at skip bytes = tokens_in (plain lexeme_at) tt at skip bytes
 
 -- a lexer for texts of pieces alone, with nothing between them
 abbrev pub each_piece : {P : Type 0} → (ℕ → List ℕ → Lexeme P) → ℕ → List ℕ → Lexeme (Option P)

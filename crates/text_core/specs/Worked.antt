@@ -7,7 +7,7 @@ use Rattle.text_core.specs.Tokens.{Token, tokens_of}
 use Rattle.text_core.specs.Readers.{IsBeginning, IsWhole, BreaksOff}
 use Rattle.text_core.specs.Faults.{FaultAt, IsFirst}
 use Rattle.text_core.specs.Reading.{IsTree}
-use Rattle.text_core.specs.Laws.{Laws, AnswersAll, OneTree}
+use Rattle.text_core.specs.Laws.{Laws, AnswersAll, OneTree, OneFirst}
 use Rattle.text_core.specs.Rows.{Piece, Number, Comma, Wrong, One, More, Kind, Syntax, TooLarge, TooMany, rows, lexeme_at}
 
 -- the name with one byte
@@ -130,6 +130,7 @@ pub record RowsAreRead : Type 0 where
   pub laws : Laws rows
   pub answers : AnswersAll rows
   pub one_row : OneTree rows
+  pub one_first : OneFirst rows
 
 -- all of it
 pub record WorkedValues : Type 0 where

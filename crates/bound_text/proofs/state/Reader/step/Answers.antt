@@ -5,4 +5,4 @@ use Rattle.bound_text.proofs.state.Reader.step.Goals as goal
 
 pub follow_number-requires : goal.follow_number-requires
 follow_number-requires c =
-    small_base c.args.self.now.place (outer_of c.args.self.now.outer.opened.items) (parts_in c.args.self.now.terms) (parts_in c.args.self.now.factors) c.in-Number.number (piece_of c.args.piece) c.in-Number.is c.requires.no_base
+    small_base c.args.self.now.position (outer_of c.args.self.now.outer.opened.items) (parts_in c.args.self.now.terms) (parts_in c.args.self.now.factors) c.in-Number.number (piece_of c.args.piece) c.in-Number.is c.requires.no_base

@@ -1,0 +1,156 @@
+-- Whether an expression can end or go on, and what it is where it ends, is as the written front says.
+use Rattle.std.proofs.Common.{◌≡◌, false, not, ◌&&◌, List, [], ◌∷◌, ◌++◌, refl, ap, sym, subst, ◌∙◌, map, reverse, Option, Some, None, is_some}
+use Rattle.std.specs.Prelude.{⊤}
+use Rattle.model.specs.Programs.{Name}
+use Rattle.model.specs.Terms.{Term}
+use Rattle.expr_text.specs.Pieces.{Piece, Word, Digits, Open, Close, Plus, Minus, Times, Caret, Related, Joining}
+use Rattle.expr_text.specs.Trees.{Sum, Factor, Plain, Raised}
+use Rattle.expr_text.specs.Terms.{with_sum, sum_term}
+use Rattle.expr_text.specs.Fronts.{Level, Operand, Wanted, BaseRead, CaretRead, ExponentRead, Front, sum_made}
+use Rattle.expr_text.specs.Steps.{closed, step_behind, step_from, finish_from, finish}
+use Rattle.expr_text.specs.FrontNames.{with_front, is_front, goes_on_with}
+use Rattle.expr_text.specs.TermFronts as terms
+use Rattle.expr_text.specs.TermFronts.{limited, level_terms, operand_terms}
+use Rattle.expr_reader.specs.declared.expression.Expression.{Expression}
+use Rattle.expr_reader.specs.Views.{front_of, level_of, operand_of, term_in}
+use Rattle.expr_reader.specs.Standing.{Stands, Ends, Clears}
+use Rattle.expr_reader.proofs.FrontNames.{sum_names}
+use Rattle.expr_reader.proofs.TermLaws.{sum_of, reverse_cons}
+
+last_stands : (levels : List terms.Level) (l : terms.Level) → terms.is_empty (levels ++ l ∷ []) ≡ false
+last_stands [] l = refl
+last_stands (k ∷ levels) l = refl
+
+-- a level stands before an open bracket in both
+turned_stands : (names : List Name) (l : Level) (outer : List Level) → terms.is_empty (reverse (map (level_terms names) (l ∷ outer))) ≡ false
+turned_stands names l outer = ap terms.is_empty (reverse_cons (level_terms names l) (map (level_terms names) outer)) ∙ last_stands (reverse (map (level_terms names) outer)) (level_terms names l)
+
+close_goes : (names : List Name) (outer : List Level) (s : Sum) → not (terms.is_empty (reverse (map (level_terms names) outer))) ≡ is_front (closed outer s)
+close_goes names [] s = refl
+close_goes names (l ∷ outer) s = ap not (turned_stands names l outer)
+
+behind_goes : (names : List Name) (outer : List Level) (level : Level) (f : Factor) (p : Piece)
+    → terms.goes_on_behind (reverse (map (level_terms names) outer)) p ≡ is_front (step_behind outer level f p)
+behind_goes names outer level f Plus = refl
+behind_goes names outer level f Minus = refl
+behind_goes names outer level f Times = refl
+behind_goes names outer level f Close = close_goes names outer (sum_made level f)
+behind_goes names outer level f Caret = refl
+behind_goes names outer level f Open = refl
+behind_goes names outer level f (Word n) = refl
+behind_goes names outer level f (Digits ds) = refl
+behind_goes names outer level f (Related s) = refl
+behind_goes names outer level f (Joining j) = refl
+
+from_goes : (names : List Name) (outer : List Level) (level : Level) (operand : Operand) (p : Piece)
+    → terms.goes_on_from (reverse (map (level_terms names) outer)) (operand_terms names operand) p ≡ is_front (step_from outer level operand p)
+from_goes names outer level Wanted (Word n) = refl
+from_goes names outer level Wanted (Digits ds) = refl
+from_goes names outer level Wanted Open = refl
+from_goes names outer level Wanted Close = refl
+from_goes names outer level Wanted Plus = refl
+from_goes names outer level Wanted Minus = refl
+from_goes names outer level Wanted Times = refl
+from_goes names outer level Wanted Caret = refl
+from_goes names outer level Wanted (Related s) = refl
+from_goes names outer level Wanted (Joining j) = refl
+from_goes names outer level (BaseRead b) Caret = refl
+from_goes names outer level (BaseRead b) Plus = refl
+from_goes names outer level (BaseRead b) Minus = refl
+from_goes names outer level (BaseRead b) Times = refl
+from_goes names outer level (BaseRead b) Close = behind_goes names outer level (Plain b) Close
+from_goes names outer level (BaseRead b) Open = refl
+from_goes names outer level (BaseRead b) (Word n) = refl
+from_goes names outer level (BaseRead b) (Digits ds) = refl
+from_goes names outer level (BaseRead b) (Related s) = refl
+from_goes names outer level (BaseRead b) (Joining j) = refl
+from_goes names outer level (CaretRead b) (Digits ds) = refl
+from_goes names outer level (CaretRead b) (Word n) = refl
+from_goes names outer level (CaretRead b) Open = refl
+from_goes names outer level (CaretRead b) Close = refl
+from_goes names outer level (CaretRead b) Plus = refl
+from_goes names outer level (CaretRead b) Minus = refl
+from_goes names outer level (CaretRead b) Times = refl
+from_goes names outer level (CaretRead b) Caret = refl
+from_goes names outer level (CaretRead b) (Related s) = refl
+from_goes names outer level (CaretRead b) (Joining j) = refl
+from_goes names outer level (ExponentRead b ds) p = behind_goes names outer level (Raised b ds) p
+
+-- a piece goes on with the expression where it goes on with the written front
+pub goes_on_is : (before : List Name) (f : Front) (names : List Name) (e : Expression) (p : Piece) → Stands before f names e
+    → terms.goes_on_from (front_of e).outer (front_of e).operand p ≡ goes_on_with f p
+goes_on_is before f names e p stands = ap (λ t. terms.goes_on_from t.outer t.operand p) stands.front_is ∙ from_goes names f.outer f.level f.operand p
+
+from_ends : (names : List Name) (outer : List Level) (level : Level) (operand : Operand)
+    → (terms.is_empty (reverse (map (level_terms names) outer)) && terms.has_factor (operand_terms names operand)) ≡ is_some (finish_from outer level operand)
+from_ends names [] level Wanted = refl
+from_ends names [] level (BaseRead b) = refl
+from_ends names [] level (CaretRead b) = refl
+from_ends names [] level (ExponentRead b ds) = refl
+from_ends names (l ∷ outer) level operand = ap (λ v. v && terms.has_factor (operand_terms names operand)) (turned_stands names l outer)
+
+-- the expression can end where the written front can
+pub can_end_is : (before : List Name) (f : Front) (names : List Name) (e : Expression) → Stands before f names e
+    → (terms.is_empty (front_of e).outer && terms.has_factor (front_of e).operand) ≡ is_some (finish f)
+can_end_is before f names e stands = ap (λ t. terms.is_empty t.outer && terms.has_factor t.operand) stands.front_is ∙ from_ends names f.outer f.level f.operand
+
+-- the term of what ends
+abbrev TermAt : List Name → Term → Option Sum → Type 0
+TermAt names t None = ⊤
+TermAt names t (Some s) = t ≡ limited (sum_term names s)
+
+from_made : (names : List Name) (outer : List Level) (level : Level) (operand : Operand)
+    → TermAt names (terms.sum_made (level_terms names level) (operand_terms names operand)) (finish_from outer level operand)
+from_made names [] level Wanted = tt
+from_made names [] level (BaseRead b) = sym (sum_of names level (Plain b))
+from_made names [] level (CaretRead b) = tt
+from_made names [] level (ExponentRead b ds) = sym (sum_of names level (Raised b ds))
+from_made names (l ∷ outer) level operand = tt
+
+-- no bracket is open where an expression ends
+abbrev OuterAt : List Level → Option Sum → Type 0
+OuterAt outer None = ⊤
+OuterAt outer (Some s) = outer ≡ []
+
+from_outer : (outer : List Level) (level : Level) (operand : Operand) → OuterAt outer (finish_from outer level operand)
+from_outer [] level Wanted = tt
+from_outer [] level (BaseRead b) = refl
+from_outer [] level (CaretRead b) = tt
+from_outer [] level (ExponentRead b ds) = refl
+from_outer (l ∷ outer) level operand = tt
+
+-- the variables once an expression is read are those of the front that it ends
+abbrev NamesAt : List Name → List Name → Option Sum → Type 0
+NamesAt before names None = ⊤
+NamesAt before names (Some s) = names ≡ with_sum before s
+
+from_names : (before : List Name) (outer : List Level) (level : Level) (operand : Operand) → NamesAt before (with_front before (record { outer = outer; level = level; operand = operand })) (finish_from outer level operand)
+from_names before [] level Wanted = tt
+from_names before [] level (BaseRead b) = sym (sum_names before level (Plain b))
+from_names before [] level (CaretRead b) = tt
+from_names before [] level (ExponentRead b ds) = sym (sum_names before level (Raised b ds))
+from_names before (l ∷ outer) level operand = tt
+
+pub finished_names : (before : List Name) (f : Front) (s : Sum) → finish f ≡ Some s → with_front before f ≡ with_sum before s
+finished_names before f s ends = subst (λ o. NamesAt before (with_front before f) o) ends (from_names before f.outer f.level f.operand)
+
+-- the term of an expression that ends
+pub finish_ends : (e : Expression) (t : Term) → t ≡ term_in e → Ends e t
+finish_ends e t made = record {
+  each = λ before names f s stands ends.
+      made ∙ (ap (λ t. terms.sum_made t.level t.operand) stands.front_is ∙ subst (λ o. TermAt names (terms.sum_made (level_terms names f.level) (operand_terms names f.operand)) o) ends (from_made names f.outer f.level f.operand));
+}
+
+-- nothing has been read once it has ended
+pub finish_clears : (e d : Expression) → level_of d.level ≡ terms.empty_level → operand_of d.operand ≡ terms.Wanted → map level_of d.outer.items ≡ map level_of e.outer.items → d.tokens ≡ 0 → Clears e d
+finish_clears e d level operand outer tokens = record {
+  each = λ before names f s stands ends.
+      let none : f.outer ≡ [] = subst (λ o. OuterAt f.outer o) ends (from_outer f.outer f.level f.operand) in
+      let levels : map level_of d.outer.items ≡ [] = outer ∙ (ap (λ t. t.outer) stands.front_is ∙ ap (λ ls. reverse (map (level_terms names) ls)) none) in
+      record { front_is = front_parts levels; tokens_are = tokens };
+}
+  where
+    front_parts : map level_of d.outer.items ≡ [] → front_of d ≡ record { outer = []; level = terms.empty_level; operand = terms.Wanted }
+    front_parts a =
+        let mk : List terms.Level → terms.Level → terms.Operand → terms.Front = λ o l op. record { outer = o; level = l; operand = op } in
+        ap (λ o. mk o (level_of d.level) (operand_of d.operand)) a ∙ (ap (λ l. mk [] l (operand_of d.operand)) level ∙ ap (λ op. mk [] terms.empty_level op) operand)

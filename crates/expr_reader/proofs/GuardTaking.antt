@@ -1,0 +1,404 @@
+-- Each piece of a guard leads in the code where it leads in the written front.
+use Rattle.std.proofs.Common.{◌≡◌, ◌<◌, Bool, true, false, not, ◌&&◌, ◌||◌, if◌then◌else◌, List, [], ◌∷◌, ◌++◌, refl, ap, sym, subst, ◌∙◌, map, Option, Some, None, is_some, codes, IsTrue, IsFalse, arith}
+use Rattle.std.specs.Prelude.{⊤}
+use Rattle.model.specs.Programs as plain
+use Rattle.model.specs.Programs.{Name}
+use Rattle.its_model.specs.Views.{atom_of}
+use Rattle.text_core.specs.Names.{is_same}
+use Rattle.expr_text.specs.Pieces.{Sign, Piece, Word, Digits, Open, Close, Plus, Minus, Times, Caret, Related, Joining}
+use Rattle.expr_text.specs.Trees.{Sum}
+use Rattle.expr_text.specs.Terms.{with_sum, sum_term}
+use Rattle.expr_text.specs.Fronts.{Front, beginning}
+use Rattle.expr_text.specs.Steps as inner
+use Rattle.expr_text.specs.Guards as guards
+use Rattle.expr_text.specs.Guards.{Capitals, Smalls, Always, Atoms, with_atoms}
+use Rattle.expr_text.specs.GuardFronts.{Conjoined, JointAfter, GuardFront, LeftSide, RightSide, truth_named, truth_of, ended, compared, joined, related, step, step_behind, within}
+use Rattle.expr_text.specs.FrontNames.{with_conjoined, operates, is_front, token_count, truth_worded}
+use Rattle.expr_text.specs.TermFronts as terms
+use Rattle.expr_text.specs.TermFronts.{limited}
+use Rattle.expr_text.proofs.Ending.{related_ends, related_step}
+use Rattle.expr_text.proofs.Stability.{extended, sum_extends}
+use Rattle.expr_reader.specs.declared.guard.GuardPlace.TheVariants as places
+use Rattle.expr_reader.specs.declared.guard.GuardReader.{GuardReader}
+use Rattle.expr_reader.specs.Views.{front_of, term_in}
+use Rattle.expr_reader.specs.Standing.{Stands, IsFresh, IsModest, Leads}
+use Rattle.expr_reader.specs.GuardStanding.{atoms_of, atoms_before, atoms_in, Relating, relating_in, is_operating, IsInRight, IsOpen, Reads, reading_none, reading_left, reading_right, reading_truth, IsSettled, settled_none, settled_left, settled_right, settled_end, joined_only, LeadsTo, Takes}
+use Rattle.expr_reader.specs.GuardParts.{is_wanting, is_left, is_read, begun_at, is_joining, sign_read, Relates, names_truth, can_end, IsRelated, IsUnrelated}
+use Rattle.expr_reader.proofs.FrontNames.{Extends, front_extends}
+use Rattle.expr_reader.proofs.AtomNames.{before_kept, sum_kept}
+use Rattle.expr_reader.proofs.Standing.{fresh_stands, token_added}
+use Rattle.expr_reader.proofs.Answering.{goes_on_is, can_end_is, finished_names, finish_ends}
+use Rattle.expr_reader.proofs.GuardSettling.{word_front, truth_word}
+
+-- the word of the atom that always holds is that atom
+named_truth : (n : Name) → truth_worded n ≡ true → (a : guards.Atom) × (truth_named n ≡ Some a)
+named_truth n h = capitals (is_same n (codes "TRUE")) (is_same n (codes "true")) h
+  where
+    capitals : (v w : Bool) → v || w ≡ true → (a : guards.Atom) × ((if v then Some (Always Capitals) else (if w then Some (Always Smalls) else None)) ≡ Some a)
+    capitals true w h = (Always Capitals, refl)
+    capitals false true h = (Always Smalls, refl)
+    capitals false false h = absurd cc
+
+named_untrue : (n : Name) → truth_worded n ≡ false → truth_named n ≡ None
+named_untrue n h = capitals (is_same n (codes "TRUE")) (is_same n (codes "true")) h
+  where
+    capitals : (v w : Bool) → v || w ≡ false → (if v then Some (Always Capitals) else (if w then Some (Always Smalls) else None)) ≡ None
+    capitals true w h = absurd cc
+    capitals false true h = absurd cc
+    capitals false false h = refl
+
+-- three tests
+both_true : (a b c : Bool) → a && b && c ≡ true → (a ≡ true) × (b ≡ true) × (c ≡ true)
+both_true true true true h = (refl, refl, refl)
+both_true true true false h = absurd cc
+both_true true false c h = absurd cc
+both_true false b c h = absurd cc
+
+middle_false : (a b c : Bool) → a && b && c ≡ false → a ≡ true → c ≡ true → b ≡ false
+middle_false a true c h e f = absurd cc
+middle_false a false c h e f = refl
+
+not_true : (v : Bool) → not v ≡ true → v ≡ false
+not_true true h = absurd cc
+not_true false h = refl
+
+-- a step that is taken, and one that isn't
+a_step : (o : Option Front) → is_front o ≡ true → (f : Front) × (o ≡ Some f)
+a_step None h = absurd cc
+a_step (Some f) h = (f, refl)
+
+no_step : (o : Option Front) → is_front o ≡ false → o ≡ None
+no_step None h = refl
+no_step (Some f) h = absurd cc
+
+-- an atom has been read or not
+read_unread : (r : GuardReader) → is_read r.place ≡ false → r.place ≡ places.AtomRead → ⊥
+read_unread r h e = let t = ap is_read e in cc
+
+-- nothing has changed
+unchanged : (behind : Option Piece) (before : List Name) (o : Option GuardFront) (old new : List Name) (r q : GuardReader) → o ≡ None → new ≡ old → q ≡ r → LeadsTo false behind before o old r new q
+unchanged behind before o old new r q none names same = subst (λ o. LeadsTo false behind before o old r new q) (sym none) (names, same)
+
+-- a piece leads to a front that the code stands for
+changed : (behind : Option Piece) (before : List Name) (o : Option GuardFront) (g : GuardFront) (old new : List Name) (r q : GuardReader) → o ≡ Some g → Reads behind before g new q → LeadsTo true behind before o old r new q
+changed behind before o g old new r q to reads = subst (λ o. LeadsTo true behind before o old r new q) (sym to) reads
+
+-- the word of the atom that always holds
+truth_leads : (behind : Option Piece) (before : List Name) (c : Conjoined) (old new : List Name) (r q : GuardReader) (p : Piece)
+    → names_truth p ≡ true → is_operating behind ≡ false → new ≡ with_conjoined before c → q.place ≡ places.AtomRead → atoms_in q ≡ atoms_before new c ++ plain.Always ∷ [] → IsFresh q.expression
+    → LeadsTo true behind before (step (LeftSide c beginning) p) old r new q
+truth_leads behind before c old new r q (Word n) truth follows names place atoms fresh =
+    let named = named_truth n truth in
+    reading_truth (record { conjoined = c; read = word_front n; atom = named.0; front_is = refl; truth_is = named.1; place_is = place; names_are = names; atoms_are = atoms; expression = fresh; follows = follows })
+truth_leads behind before c old new r q (Digits ds) truth follows names place atoms fresh = absurd cc
+truth_leads behind before c old new r q Open truth follows names place atoms fresh = absurd cc
+truth_leads behind before c old new r q Close truth follows names place atoms fresh = absurd cc
+truth_leads behind before c old new r q Plus truth follows names place atoms fresh = absurd cc
+truth_leads behind before c old new r q Minus truth follows names place atoms fresh = absurd cc
+truth_leads behind before c old new r q Times truth follows names place atoms fresh = absurd cc
+truth_leads behind before c old new r q Caret truth follows names place atoms fresh = absurd cc
+truth_leads behind before c old new r q (Related s) truth follows names place atoms fresh = absurd cc
+truth_leads behind before c old new r q (Joining j) truth follows names place atoms fresh = absurd cc
+
+pub takes_truth : (old new : List Name) (r q : GuardReader) (p : Piece) (behind : Option Piece)
+    → is_wanting r.place && names_truth p && not (is_operating behind) ≡ true → new ≡ old → q.place ≡ places.AtomRead → atoms_in q ≡ atoms_in r ++ plain.Always ∷ [] → q.expression ≡ r.expression → Takes old r p behind true new q
+takes_truth old new r q p behind test names place atoms expression = record { each = each }
+  where
+    tests : (is_wanting r.place ≡ true) × (names_truth p ≡ true) × (not (is_operating behind) ≡ true)
+    tests = both_true (is_wanting r.place) (names_truth p) (not (is_operating behind)) test
+
+    misplaced : is_wanting r.place ≡ false → ⊥
+    misplaced e = let t = tests.0 in cc
+
+    each : (before : List Name) (g : GuardFront) → IsSettled (Some p) before g old r → IsModest p → LeadsTo true behind before (step g p) old r new q
+    each before g (settled_none at) modest =
+        subst (λ g. LeadsTo true behind before (step g p) old r new q) (sym at.front_is)
+        (truth_leads behind before at.conjoined old new r q p tests.1 (not_true (is_operating behind) tests.2) (names ∙ at.names_are) place
+        (atoms ∙ (ap (λ found. found ++ plain.Always ∷ []) at.atoms_are ∙ ap (λ ns. atoms_before ns at.conjoined ++ plain.Always ∷ []) (sym names))) (subst IsFresh (sym expression) at.expression))
+    each before g (settled_left at) modest = absurd (misplaced (ap is_wanting at.place_is))
+    each before g (settled_right at) modest = absurd (misplaced (ap is_wanting at.right.place_is))
+    each before g (settled_end at) modest = absurd (misplaced (ap is_wanting at.place_is))
+
+-- what joins
+joint_leads : (behind : Option Piece) (before : List Name) (atoms : Atoms) (old new : List Name) (r q : GuardReader) → new ≡ with_atoms before atoms → atoms_in r ≡ atoms_of new atoms → IsFresh r.expression → new ≡ old
+    → (p : Piece) → (is_joining p ≡ true → q ≡ record { place = places.AtomWanted; atoms = r.atoms; related = r.related; expression = r.expression }) → (is_joining p ≡ false → q ≡ r)
+    → LeadsTo (is_joining p) behind before (joined_only (Some atoms) p) old r new q
+joint_leads behind before atoms old new r q names are fresh same (Joining j) taken kept =
+    let q_is = taken refl in
+    reading_none (record {
+      conjoined = JointAfter atoms j;
+      front_is = refl;
+      place_is = ap (λ (q : GuardReader). q.place) q_is;
+      names_are = names;
+      atoms_are = ap atoms_in q_is ∙ are;
+      expression = subst IsFresh (sym (ap (λ (q : GuardReader). q.expression) q_is)) fresh;
+    })
+joint_leads behind before atoms old new r q names are fresh same (Word n) taken kept = (same, kept refl)
+joint_leads behind before atoms old new r q names are fresh same (Digits ds) taken kept = (same, kept refl)
+joint_leads behind before atoms old new r q names are fresh same Open taken kept = (same, kept refl)
+joint_leads behind before atoms old new r q names are fresh same Close taken kept = (same, kept refl)
+joint_leads behind before atoms old new r q names are fresh same Plus taken kept = (same, kept refl)
+joint_leads behind before atoms old new r q names are fresh same Minus taken kept = (same, kept refl)
+joint_leads behind before atoms old new r q names are fresh same Times taken kept = (same, kept refl)
+joint_leads behind before atoms old new r q names are fresh same Caret taken kept = (same, kept refl)
+joint_leads behind before atoms old new r q names are fresh same (Related s) taken kept = (same, kept refl)
+
+pub takes_joint : (old new : List Name) (r q : GuardReader) (p : Piece) (behind : Option Piece) (b : Bool) → is_read r.place ≡ true → new ≡ old → b ≡ is_joining p
+    → (IsTrue b → q ≡ record { place = places.AtomWanted; atoms = r.atoms; related = r.related; expression = r.expression }) → (IsFalse b → q ≡ r) → Takes old r p behind b new q
+takes_joint old new r q p behind b test names is taken kept = record { each = each }
+  where
+    misplaced : is_read r.place ≡ false → ⊥
+    misplaced e = let t = test in cc
+
+    each : (before : List Name) (g : GuardFront) → IsSettled (Some p) before g old r → IsModest p → LeadsTo b behind before (step g p) old r new q
+    each before g (settled_end at) modest =
+        subst (λ v. LeadsTo v behind before (step g p) old r new q) (sym is)
+        (subst (λ o. LeadsTo (is_joining p) behind before o old r new q) (sym (at.joins p refl ∙ ap (λ o. joined_only o p) at.finish_is))
+        (joint_leads behind before at.atoms old new r q (names ∙ at.names_are) (at.atoms_are ∙ ap (λ ns. atoms_of ns at.atoms) (sym names)) at.expression names p
+        (λ h. taken (is ∙ h)) (λ h. kept (is ∙ h))))
+    each before g (settled_none at) modest = absurd (misplaced (ap is_read at.place_is))
+    each before g (settled_left at) modest = absurd (misplaced (ap is_read at.place_is))
+    each before g (settled_right at) modest = absurd (misplaced (ap is_read at.right.place_is))
+
+-- what is no atom where it is there
+abbrev Untrue : Option Front → Type 0
+Untrue None = ⊤
+Untrue (Some f) = truth_of f ≡ None
+
+-- the first piece of an expression is an atom where it is a word of it
+first_untrue : (p : Piece) (f : Front) → inner.step beginning p ≡ Some f → names_truth p ≡ false → truth_of f ≡ None
+first_untrue p f to h = subst (λ o. Untrue o) to (by p h)
+  where
+    by : (p : Piece) → names_truth p ≡ false → Untrue (inner.step beginning p)
+    by (Word n) h = named_untrue n h
+    by (Digits ds) h = refl
+    by Open h = refl
+    by Minus h = refl
+    by Close h = tt
+    by Plus h = tt
+    by Times h = tt
+    by Caret h = tt
+    by (Related s) h = tt
+    by (Joining j) h = tt
+
+-- an expression of two tokens or more is none
+later_untrue : (e f : Front) (p : Piece) → 0 < token_count e → inner.step e p ≡ Some f → truth_of f ≡ None
+later_untrue e f p begun to = go (truth_of f) refl
+  where
+    go : (o : Option guards.Atom) → truth_of f ≡ o → o ≡ None
+    go None t = refl
+    go (Some a) t =
+        let is = truth_word f a t in
+        let counted = token_added e f p to in
+        let one : token_count f ≡ 1 = ap token_count is.same in
+        absurd (omega (arith, counted, one, begun))
+
+-- a piece goes on with the expression of the written front
+taken_within : (c : Conjoined) (e f : Front) (p : Piece) → inner.step e p ≡ Some f → step (LeftSide c e) p ≡ Some (LeftSide c f)
+taken_within c e f p to = ap (λ o. within (LeftSide c e) o p) to
+
+taken_right : (c : Conjoined) (l : Sum) (sign : Sign) (e f : Front) (p : Piece) → inner.step e p ≡ Some f → step (RightSide c l sign e) p ≡ Some (RightSide c l sign f)
+taken_right c l sign e f p to = ap (λ o. within (RightSide c l sign e) o p) to
+
+module _ (old new : List Name) (r q : GuardReader) (p : Piece) (behind : Option Piece) (test : is_wanting r.place && names_truth p && not (is_operating behind) ≡ false)
+    (leads : Leads old r.expression p new q.expression) (place : q.place ≡ begun_at r.place) (atoms : q.atoms ≡ r.atoms) (related_same : q.related ≡ r.related) where
+  -- the atoms before the one that is being read stay
+  atoms_same : (before : List Name) (c : Conjoined) → Extends (with_conjoined before c) old → Extends (with_conjoined before c) new → atoms_in r ≡ atoms_before old c → atoms_in q ≡ atoms_before new c
+  atoms_same before c a b are = ap (λ (v : _). map atom_of v.items) atoms ∙ (are ∙ before_kept before old new c a b)
+
+  more_left : (before : List Name) (c : Conjoined) (e f : Front) → Stands (with_conjoined before c) e old r.expression → inner.step e p ≡ Some f → IsModest p → q.place ≡ places.LeftSide → atoms_in r ≡ atoms_before old c
+      → (is_operating behind ≡ false → truth_of f ≡ None) → Reads behind before (LeftSide c f) new q
+  more_left before c e f stands to modest at are follows =
+      let holds = leads.each (with_conjoined before c) e f stands to modest in
+      let counted = token_added e f p to in
+      reading_left (record {
+        conjoined = c;
+        read = f;
+        front_is = refl;
+        begun = omega (arith, counted);
+        place_is = at;
+        atoms_are = atoms_same before c (subst (Extends (with_conjoined before c)) (sym stands.names_are) (front_extends (with_conjoined before c) e)) (subst (Extends (with_conjoined before c)) (sym holds.names_are) (front_extends (with_conjoined before c) f)) are;
+        expression = holds;
+        follows = follows;
+      })
+
+  more_right : (before : List Name) (g : GuardFront) (f : Front) (at : IsInRight before g old r) → inner.step at.read p ≡ Some f → IsModest p → Reads behind before (RightSide at.conjoined at.left at.sign f) new q
+  more_right before g f at to modest =
+      let names = with_conjoined before at.conjoined in
+      let sums = with_sum names at.left in
+      let holds = leads.each sums at.read f at.expression to modest in
+      let was : Extends sums old = subst (Extends sums) (sym at.expression.names_are) (front_extends sums at.read) in
+      let is : Extends sums new = subst (Extends sums) (sym holds.names_are) (front_extends sums f) in
+      reading_right (record {
+        conjoined = at.conjoined;
+        left = at.left;
+        sign = at.sign;
+        read = f;
+        front_is = refl;
+        place_is = place ∙ ap begun_at at.place_is;
+        atoms_are = atoms_same before at.conjoined (extended names sums old (sum_extends names at.left) was) (extended names sums new (sum_extends names at.left) is) at.atoms_are;
+        related_is = ap relating_in related_same ∙ (at.related_is ∙ ap (λ t. let x : Relating = record { left = t; relation = guards.relation_of at.sign } in Some x) (sum_kept names old new at.left was is));
+        expression = holds;
+      })
+
+  pub takes_more : is_read r.place ≡ false → terms.goes_on_from (front_of r.expression).outer (front_of r.expression).operand p ≡ true → Takes old r p behind true new q
+  takes_more unread goes = record { each = each }
+    where
+      wanted : (before : List Name) (c : Conjoined) → old ≡ with_conjoined before c → IsFresh r.expression → Stands (with_conjoined before c) beginning old r.expression
+      wanted before c names fresh = subst (λ ns. Stands (with_conjoined before c) beginning ns r.expression) (sym names) (fresh_stands (with_conjoined before c) r.expression fresh)
+
+      stepped : (base : List Name) (e : Front) → Stands base e old r.expression → (f : Front) × (inner.step e p ≡ Some f)
+      stepped base e stands = a_step (inner.step e p) (sym (goes_on_is base e old r.expression p stands) ∙ goes)
+
+      each : (before : List Name) (g : GuardFront) → IsSettled (Some p) before g old r → IsModest p → LeadsTo true behind before (step g p) old r new q
+      each before g (settled_none at) modest =
+          let stands = wanted before at.conjoined at.names_are at.expression in
+          let to = stepped (with_conjoined before at.conjoined) beginning stands in
+          changed behind before (step g p) (LeftSide at.conjoined to.0) old new r q (ap (λ g. step g p) at.front_is ∙ taken_within at.conjoined beginning to.0 p to.1)
+          (more_left before at.conjoined beginning to.0 stands to.1 modest (place ∙ ap begun_at at.place_is) at.atoms_are
+          (λ other. first_untrue p to.0 to.1 (middle_false (is_wanting r.place) (names_truth p) (not (is_operating behind)) test (ap is_wanting at.place_is) (ap not other))))
+      each before g (settled_left at) modest =
+          let to = stepped (with_conjoined before at.conjoined) at.read at.expression in
+          changed behind before (step g p) (LeftSide at.conjoined to.0) old new r q (ap (λ g. step g p) at.front_is ∙ taken_within at.conjoined at.read to.0 p to.1)
+          (more_left before at.conjoined at.read to.0 at.expression to.1 modest (place ∙ ap begun_at at.place_is) at.atoms_are (λ other. later_untrue at.read to.0 p at.begun to.1))
+      each before g (settled_right at) modest =
+          let right = at.right in
+          let to = stepped (with_sum (with_conjoined before right.conjoined) right.left) right.read right.expression in
+          changed behind before (step g p) (RightSide right.conjoined right.left right.sign to.0) old new r q (ap (λ g. step g p) right.front_is ∙ taken_right right.conjoined right.left right.sign right.read to.0 p to.1)
+          (more_right before g to.0 right to.1 modest)
+      each before g (settled_end at) modest = absurd (read_unread r unread at.place_is)
+
+-- a piece that doesn't go on leads nowhere, but a relation behind a left side that can end
+left_stuck : (c : Conjoined) (e : Front) (p : Piece) → inner.step e p ≡ None → sign_read p ≡ None → (operates p ≡ false → truth_of e ≡ None) → step (LeftSide c e) p ≡ None
+left_stuck c e p none other follows = ap (λ o. within (LeftSide c e) o p) none ∙ by p other follows
+  where
+    by : (p : Piece) → sign_read p ≡ None → (operates p ≡ false → truth_of e ≡ None) → step_behind (LeftSide c e) p ≡ None
+    by (Related s) other follows = absurd cc
+    by (Joining j) other follows = ap (λ o. joined j (ended c o)) (follows refl)
+    by (Word n) other follows = refl
+    by (Digits ds) other follows = refl
+    by Open other follows = refl
+    by Close other follows = refl
+    by Plus other follows = refl
+    by Minus other follows = refl
+    by Times other follows = refl
+    by Caret other follows = refl
+
+right_stuck : (c : Conjoined) (l : Sum) (sign : Sign) (e : Front) (p : Piece) → inner.step e p ≡ None → inner.finish e ≡ None → step (RightSide c l sign e) p ≡ None
+right_stuck c l sign e p none unfinished = ap (λ o. within (RightSide c l sign e) o p) none ∙ by p
+  where
+    by : (p : Piece) → step_behind (RightSide c l sign e) p ≡ None
+    by (Related s) = refl
+    by (Joining j) = ap (λ o. joined j (ended c (compared l sign o))) unfinished
+    by (Word n) = refl
+    by (Digits ds) = refl
+    by Open = refl
+    by Close = refl
+    by Plus = refl
+    by Minus = refl
+    by Times = refl
+    by Caret = refl
+
+-- a relation behind a left side that can't end
+unrelated_step : (c : Conjoined) (e : Front) (sign : Sign) → inner.finish e ≡ None → step (LeftSide c e) (Related sign) ≡ None
+unrelated_step c e sign none = ap (λ o. within (LeftSide c e) o (Related sign)) (related_ends e sign) ∙ ap (λ o. related c sign o) none
+
+no_sum : (o : Option Sum) → is_some o ≡ false → o ≡ None
+no_sum None h = refl
+no_sum (Some s) h = absurd cc
+
+a_sum : (o : Option Sum) → is_some o ≡ true → (s : Sum) × (o ≡ Some s)
+a_sum None h = absurd cc
+a_sum (Some s) h = (s, refl)
+
+true_false : (a b : Bool) → a && b ≡ false → a ≡ true → b ≡ false
+true_false true b h e = h
+true_false false b h e = absurd cc
+
+module _ (old : List Name) (r : GuardReader) (p : Piece) (unread : is_read r.place ≡ false) (stops : terms.goes_on_from (front_of r.expression).outer (front_of r.expression).operand p ≡ false) where
+  unstepped : (base : List Name) (e : Front) → Stands base e old r.expression → inner.step e p ≡ None
+  unstepped base e stands = no_step (inner.step e p) (sym (goes_on_is base e old r.expression p stands) ∙ stops)
+
+  right_none : (before : List Name) (g : GuardFront) (at : IsOpen (Some p) before g old r) → step g p ≡ None
+  right_none before g at =
+      let right = at.right in
+      let none = unstepped (with_sum (with_conjoined before right.conjoined) right.left) right.read right.expression in
+      ap (λ g. step g p) right.front_is ∙ right_stuck right.conjoined right.left right.sign right.read p none (at.goes_on (ap (λ o. not (is_front o)) none))
+
+  fresh_none : (before : List Name) (c : Conjoined) → old ≡ with_conjoined before c → IsFresh r.expression → inner.step beginning p ≡ None
+  fresh_none before c names fresh = unstepped (with_conjoined before c) beginning (subst (λ ns. Stands (with_conjoined before c) beginning ns r.expression) (sym names) (fresh_stands (with_conjoined before c) r.expression fresh))
+
+  pub takes_none : (behind : Option Piece) (new : List Name) (q : GuardReader) → sign_read p ≡ None → new ≡ old → q ≡ r → Takes old r p behind false new q
+  takes_none behind new q other names same = record { each = λ before g settled modest. unchanged behind before (step g p) old new r q (none before g settled) names same }
+    where
+      none : (before : List Name) (g : GuardFront) → IsSettled (Some p) before g old r → step g p ≡ None
+      none before g (settled_none at) = ap (λ g. step g p) at.front_is ∙ left_stuck at.conjoined beginning p (fresh_none before at.conjoined at.names_are at.expression) other (λ h. refl)
+      none before g (settled_left at) = ap (λ g. step g p) at.front_is ∙ left_stuck at.conjoined at.read p (unstepped (with_conjoined before at.conjoined) at.read at.expression) other at.follows
+      none before g (settled_right at) = right_none before g at
+      none before g (settled_end at) = absurd (read_unread r unread at.place_is)
+
+-- a relation is taken behind a left side that can end
+takes_related : (old new : List Name) (r q : GuardReader) (sign : Sign) (behind : Option Piece) → new ≡ old → IsRelated r sign q → Takes old r (Related sign) behind true new q
+takes_related old new r q sign behind names is = record { each = each }
+  where
+    misplaced : is_left r.place ≡ false → ⊥
+    misplaced e = let t = ap is_left is.was_left in cc
+
+    each : (before : List Name) (g : GuardFront) → IsSettled (Some (Related sign)) before g old r → IsModest (Related sign) → LeadsTo true behind before (step g (Related sign)) old r new q
+    each before g (settled_left at) modest =
+        let base = with_conjoined before at.conjoined in
+        let s = a_sum (inner.finish at.read) (sym (can_end_is base at.read old r.expression at.expression) ∙ is.ended) in
+        let left : term_in r.expression ≡ limited (sum_term old s.0) = (finish_ends r.expression (term_in r.expression) refl).each base old at.read s.0 at.expression s.1 in
+        let reads : Reads behind before (RightSide at.conjoined s.0 sign beginning) old q = reading_right (record {
+          conjoined = at.conjoined;
+          left = s.0;
+          sign = sign;
+          read = beginning;
+          front_is = refl;
+          place_is = is.place_is;
+          atoms_are = ap (λ (v : _). map atom_of v.items) is.atoms_are ∙ at.atoms_are;
+          related_is = is.related_is ∙ ap (λ t. let x : Relating = record { left = t; relation = guards.relation_of sign } in Some x) left;
+          expression = subst (λ ns. Stands (with_sum base s.0) beginning ns q.expression) (sym (at.expression.names_are ∙ finished_names base at.read s.0 s.1))
+              (fresh_stands (with_sum base s.0) q.expression (is.cleared.each base old at.read s.0 at.expression s.1));
+        }) in
+        changed behind before (step g (Related sign)) (RightSide at.conjoined s.0 sign beginning) old new r q
+        (ap (λ g. step g (Related sign)) at.front_is ∙ related_step at.conjoined at.read s.0 sign s.1) (subst (λ ns. Reads behind before (RightSide at.conjoined s.0 sign beginning) ns q) (sym names) reads)
+    each before g (settled_none at) modest = absurd (misplaced (ap is_left at.place_is))
+    each before g (settled_right at) modest = absurd (misplaced (ap is_left at.right.place_is))
+    each before g (settled_end at) modest = absurd (misplaced (ap is_left at.place_is))
+
+takes_unrelated : (old new : List Name) (r q : GuardReader) (sign : Sign) (behind : Option Piece) → is_read r.place ≡ false
+    → terms.goes_on_from (front_of r.expression).outer (front_of r.expression).operand (Related sign) ≡ false → new ≡ old → IsUnrelated r q → Takes old r (Related sign) behind false new q
+takes_unrelated old new r q sign behind unread stops names is = record { each = λ before g settled modest. unchanged behind before (step g (Related sign)) old new r q (none before g settled) names is.kept }
+  where
+    none : (before : List Name) (g : GuardFront) → IsSettled (Some (Related sign)) before g old r → step g (Related sign) ≡ None
+    none before g (settled_none at) = ap (λ g. step g (Related sign)) at.front_is
+    none before g (settled_left at) =
+        ap (λ g. step g (Related sign)) at.front_is
+        ∙ unrelated_step at.conjoined at.read sign (no_sum (inner.finish at.read)
+        (sym (can_end_is (with_conjoined before at.conjoined) at.read old r.expression at.expression) ∙ true_false (is_left r.place) (can_end r.expression) is.not_left (ap is_left at.place_is)))
+    none before g (settled_right at) = right_none old r (Related sign) unread stops before g at
+    none before g (settled_end at) = absurd (read_unread r unread at.place_is)
+
+-- the piece whose sign is read
+sign_is : (p : Piece) (sign : Sign) → Some sign ≡ sign_read p → p ≡ Related sign
+sign_is (Related s) sign h = cc
+sign_is (Word n) sign h = absurd cc
+sign_is (Digits ds) sign h = absurd cc
+sign_is Open sign h = absurd cc
+sign_is Close sign h = absurd cc
+sign_is Plus sign h = absurd cc
+sign_is Minus sign h = absurd cc
+sign_is Times sign h = absurd cc
+sign_is Caret sign h = absurd cc
+sign_is (Joining j) sign h = absurd cc
+
+pub takes_relation : (old new : List Name) (r q : GuardReader) (p : Piece) (sign : Sign) (behind : Option Piece) (taken : Bool) → is_read r.place ≡ false
+    → terms.goes_on_from (front_of r.expression).outer (front_of r.expression).operand p ≡ false → Some sign ≡ sign_read p → new ≡ old → Relates r sign taken q → Takes old r p behind taken new q
+takes_relation old new r q p sign behind taken unread stops read names relates =
+    let same = sign_is p sign read in
+    subst (λ p. Takes old r p behind taken new q) (sym same) (by taken relates (sym (ap (λ p. terms.goes_on_from (front_of r.expression).outer (front_of r.expression).operand p) same) ∙ stops))
+  where
+    by : (taken : Bool) → Relates r sign taken q → terms.goes_on_from (front_of r.expression).outer (front_of r.expression).operand (Related sign) ≡ false → Takes old r (Related sign) behind taken new q
+    by true is stops = takes_related old new r q sign behind names is
+    by false is stops = takes_unrelated old new r q sign behind unread stops names is

@@ -1,0 +1,12 @@
+pub mod NameSets
+pub mod FrontNames
+pub mod TermLaws
+pub mod Simulation
+pub mod Standing
+pub mod Answering
+pub mod Room
+pub mod AtomNames
+pub mod LimitedFaults
+pub mod GuardSettling
+pub mod GuardTaking
+pub mod WorkedValues

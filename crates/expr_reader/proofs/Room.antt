@@ -1,0 +1,62 @@
+-- What is counted of an expression is no more than its tokens.
+use Rattle.std.proofs.Common.{◌≡◌, ℕ, zero, suc, ◌-◌, ◌<◌, ◌≤◌, ◌^◌, List, [], ◌∷◌, ap, length, arith}
+use Rattle.model.specs.Programs.{Name}
+use Rattle.expr_text.specs.Pieces.{Piece, Open, Plus, Minus, Times}
+use Rattle.expr_text.specs.Trees.{Sum, Alone, Added, Subtracted, Product, Single, Multiplied, Factor, Plain, Raised, Negated, Base, Number, Named, Bracketed, sum_behind, product_behind, factor_behind, base_behind}
+use Rattle.expr_text.specs.Fronts.{Operand, Wanted, BaseRead, CaretRead, ExponentRead, Front, summed_behind, factored_behind, minuses_behind, level_behind, outer_behind, operand_behind}
+use Rattle.expr_text.specs.FrontNames.{token_count}
+use Rattle.expr_reader.specs.declared.expression.Expression.{Expression}
+use Rattle.expr_reader.specs.Standing.{Stands, IsFresh, HasRoom}
+
+mutual
+  -- what is written behind pieces is longer
+  sum_longer : (s : Sum) (before : List Piece) → length before ≤ length (sum_behind (λ p. p) s before)
+  sum_longer (Alone p) before = product_longer p before
+  sum_longer (Added s p) before = let a = sum_longer s before in let b = product_longer p (Plus ∷ sum_behind (λ p. p) s before) in omega (arith, a, b)
+  sum_longer (Subtracted s p) before = let a = sum_longer s before in let b = product_longer p (Minus ∷ sum_behind (λ p. p) s before) in omega (arith, a, b)
+
+  product_longer : (p : Product) (before : List Piece) → length before ≤ length (product_behind (λ p. p) p before)
+  product_longer (Single f) before = factor_longer f before
+  product_longer (Multiplied p f) before = let a = product_longer p before in let b = factor_longer f (Times ∷ product_behind (λ p. p) p before) in omega (arith, a, b)
+
+  factor_longer : (f : Factor) (before : List Piece) → length before ≤ length (factor_behind (λ p. p) f before)
+  factor_longer (Plain b) before = base_longer b before
+  factor_longer (Raised b ds) before = let a = base_longer b before in omega (arith, a)
+  factor_longer (Negated f) before = let a = factor_longer f (Minus ∷ before) in omega (arith, a)
+
+  base_longer : (b : Base) (before : List Piece) → length before ≤ length (base_behind (λ p. p) b before)
+  base_longer (Number ds) before = omega arith
+  base_longer (Named n) before = omega arith
+  base_longer (Bracketed s) before = let a = sum_longer s (Open ∷ before) in omega (arith, a)
+
+operand_longer : (p : Operand) (before : List Piece) → length before ≤ length (operand_behind (λ p. p) p before)
+operand_longer Wanted before = omega arith
+operand_longer (BaseRead b) before = base_longer b before
+operand_longer (CaretRead b) before = let a = base_longer b before in omega (arith, a)
+operand_longer (ExponentRead b ds) before = let a = base_longer b before in omega (arith, a)
+
+minuses_longer : (n : ℕ) (before : List Piece) → n ≤ length (minuses_behind (λ p. p) n before)
+minuses_longer zero before = omega arith
+minuses_longer (suc n) before = let a = minuses_longer n before in omega (arith, a)
+
+-- each `-` before an operand is a token
+pub minuses_counted : (f : Front) → f.level.minuses ≤ token_count f
+minuses_counted f =
+    let a = operand_longer f.operand (level_behind (λ p. p) f.level (outer_behind (λ p. p) f.outer [])) in
+    let b = minuses_longer f.level.minuses (factored_behind (λ p. p) f.level.product (summed_behind (λ p. p) f.level.sum (outer_behind (λ p. p) f.outer []))) in
+    omega (arith, a, b)
+
+-- an expression of fewer than 2^32 - 1 tokens has room, where there are fewer than 2^32 variables
+pub room : (before : List Name) (f : Front) (names : List Name) (e : Expression) → Stands before f names e → token_count f < 2 ^ 32 - 1 → length names < 2 ^ 32 → HasRoom names e
+room before f names e stands few variables =
+    let counted = minuses_counted f in
+    let same : e.level.minuses ≡ f.level.minuses = ap (λ t. t.level.minuses) stands.front_is in
+    let tokens = stands.tokens_are in
+    record { minuses = omega (arith, counted, same, few); tokens = omega (arith, tokens, few); variables = variables }
+
+-- where nothing has been read there is room
+pub fresh_room : (names : List Name) (e : Expression) → IsFresh e → length names < 2 ^ 32 → HasRoom names e
+fresh_room names e fresh variables =
+    let same : e.level.minuses ≡ 0 = ap (λ t. t.level.minuses) fresh.front_is in
+    let tokens = fresh.tokens_are in
+    record { minuses = omega (arith, same); tokens = omega (arith, tokens); variables = variables }

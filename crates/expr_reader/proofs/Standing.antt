@@ -1,0 +1,31 @@
+-- What stands for a written front answers as the front does.
+use Rattle.std.proofs.Common.{◌≡◌, suc, ◌+◌, List, [], refl, ap, subst, length, arith, Some}
+use Rattle.model.specs.Programs.{Name}
+use Rattle.expr_text.specs.Pieces.{Piece}
+use Rattle.expr_text.specs.Fronts.{Front, beginning}
+use Rattle.expr_text.specs.Steps.{step}
+use Rattle.expr_text.specs.FrontNames.{token_count}
+use Rattle.expr_text.proofs.StepLaws.{step_adds, Adds}
+use Rattle.expr_reader.specs.declared.expression.Expression.{Expression}
+use Rattle.expr_reader.specs.Views.{front_of}
+use Rattle.expr_reader.specs.Moves.{Moves, with_piece}
+use Rattle.expr_reader.specs.Standing.{Stands, IsFresh, Leads}
+use Rattle.expr_reader.proofs.Simulation.{simulated}
+
+-- nothing has been read: the beginning, behind any variables
+pub fresh_stands : (names : List Name) (e : Expression) → IsFresh e → Stands names beginning names e
+fresh_stands names e fresh = record { names_are = refl; front_is = fresh.front_is; tokens_are = fresh.tokens_are }
+
+-- one token more is read
+pub token_added : (f g : Front) (p : Piece) → step f p ≡ Some g → token_count g ≡ suc (token_count f)
+token_added f g p to = ap length (subst (λ o. Adds (λ p. p) [] f p o) to (step_adds (λ p. p) f p []))
+
+-- a piece that moves the part as it moves terms leads where it leads within the written front
+pub moves_lead : (old new : List Name) (e d : Expression) (p : Piece) → Moves old (front_of e) p (front_of d) → new ≡ with_piece old p → d.tokens ≡ e.tokens + 1 → Leads old e p new d
+moves_lead old new e d p moves names tokens = record {
+  each = λ before f g stands to modest.
+      let holds = simulated before f g p old new (front_of e) (front_of d) stands.names_are stands.front_is to modest moves names in
+      let counted = token_added f g p to in
+      let was = stands.tokens_are in
+      record { names_are = holds.names_are; front_is = holds.front_is; tokens_are = omega arith };
+}

@@ -1,0 +1,6 @@
+-- It is worked out.
+use Rattle.expr_reader.proofs.WorkedValues.{worked_values}
+use Rattle.expr_reader.proofs.law.worked_values_hold.Goals as goal
+
+pub returns : goal.returns
+returns c = worked_values

@@ -1,0 +1,9 @@
+pub mod Views
+pub mod Variables
+pub mod Operators
+pub mod Moves
+pub mod Faults
+pub mod Standing
+pub mod GuardStanding
+pub mod GuardParts
+pub mod Worked

@@ -1,0 +1,19 @@
+// Expressions and guards while they are read.
+#![tactic(auto)]
+
+mod expansion;
+mod expression;
+mod guard;
+mod law;
+mod piece;
+mod variables;
+
+pub use expansion::{Unexpanded, expansion_fault};
+pub use expression::Expression;
+pub use guard::{GuardPlace, GuardReader, is_truth};
+pub use law::worked_values_hold;
+pub use piece::{Joint, Piece, Sign};
+pub use variables::Variables;
+
+/// Want of memory.
+pub type Memory = std::alloc::AllocError;

@@ -1,0 +1,11 @@
+-- What the limit on exponents changes: nothing of what is refused, and nothing of what isn't.
+use Rattle.std.specs.Prelude.{◌≡◌, None}
+use Rattle.model.specs.Terms.{Term}
+use Rattle.poly_terms.specs.Faults.{first_fault}
+use Rattle.expr_text.specs.TermFronts.{limited}
+
+-- an expression is refused as it is with each exponent over the limit on degrees as the one behind it, and one that
+-- isn't refused has no such exponent
+pub record LimitedAlike : Type 0 where
+  pub refused : (t : Term) → first_fault (limited t) ≡ first_fault t
+  pub itself : (t : Term) → first_fault t ≡ None → limited t ≡ t

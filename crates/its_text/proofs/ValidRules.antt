@@ -1,0 +1,189 @@
+-- What is written within the limits stands for valid expressions and atoms, over the variables of its rule.
+use Rattle.std.proofs.Common.{◌≡◌, ◌+◌, ◌-◌, ◌<◌, ◌≤◌, Bool, true, false, cond, not, ◌||◌, List, [], ◌∷◌, ◌++◌, length, length-append, Option, Some, None, refl, ap, sym, subst, ◌∙◌, arith}
+use Rattle.std.specs.Prelude.{⊤}
+use Rattle.std.specs.List.{AllByRecursion}
+use Rattle.model.specs.Programs as plain
+use Rattle.model.specs.Programs.{Name}
+use Rattle.model.specs.Terms.{Term}
+use Rattle.poly_terms.specs.Checked.{ReadsBelow}
+use Rattle.poly_terms.specs.Faults as polynomials
+use Rattle.its_model.specs.Valid.{difference_of, IsValidTerm, IsValidAtom}
+use Rattle.text_core.specs.Names.{is_same, is_among, position_of}
+use Rattle.expr_text.specs.Pieces as inner
+use Rattle.expr_text.specs.Trees.{Sum, Alone, Added, Subtracted, Product, Single, Multiplied, Factor, Plain, Raised, Negated, Base, Number, Named, Bracketed}
+use Rattle.expr_text.specs.Terms.{with_sum, sum_term, product_term, factor_term, base_term}
+use Rattle.expr_text.specs.Guards.{Atom, Always, Compared, Atoms, First, Joined, count_of, relation_of, with_atom, with_atoms, atom_term, atoms_terms}
+use Rattle.expr_text.proofs.Stability.{SumReads, ProductReads, FactorReads, BaseReads, sum_extends, sum_is_read, sum_reads_more, extended}
+use Rattle.its_text.specs.Written.{Guard, NoGuard, BehindMark, InSquares}
+use Rattle.its_text.specs.Numbering.{with_sums, with_maybe, with_guard, sums_terms, guard_terms}
+use Rattle.its_text.specs.Shown.{differences, first_of_all}
+use Rattle.its_text.specs.Spelling.{AreArgumentsWithin, IsAtomWithin, AreAtomsWithin, IsGuardWithin}
+use Rattle.its_text.proofs.DistinctNames.{all_one_more}
+
+-- a name that is among names stands before their end
+pub position_below : (n : Name) (names : List Name) → is_among n names ≡ true → position_of n names < length names
+position_below n [] h = cc
+position_below n (m ∷ names) h = go (is_same n m) refl h (λ k. position_below n names k)
+  where
+    go : (v : Bool) → is_same n m ≡ v → v || is_among n names ≡ true → (is_among n names ≡ true → position_of n names < length names) → position_of n (m ∷ names) < length (m ∷ names)
+    go true e k ih = let p : position_of n (m ∷ names) ≡ 0 = ap (λ (v : Bool). cond (not v) (1 + position_of n names) 0) e in omega (arith, p)
+    go false e k ih =
+        let p : position_of n (m ∷ names) ≡ 1 + position_of n names = ap (λ (v : Bool). cond (not v) (1 + position_of n names) 0) e in
+        let b = ih k in omega (arith, p, b)
+
+mutual
+  -- an expression whose names are among names reads variables below their number
+  pub sum_below : (names : List Name) (s : Sum) → SumReads names s → ReadsBelow (length names) (sum_term names s)
+  sum_below names (Alone p) h = product_below names p h
+  sum_below names (Added s p) h = (sum_below names s h.0, product_below names p h.1)
+  sum_below names (Subtracted s p) h = (sum_below names s h.0, product_below names p h.1)
+
+  product_below : (names : List Name) (p : Product) → ProductReads names p → ReadsBelow (length names) (product_term names p)
+  product_below names (Single f) h = factor_below names f h
+  product_below names (Multiplied p f) h = (product_below names p h.0, factor_below names f h.1)
+
+  factor_below : (names : List Name) (f : Factor) → FactorReads names f → ReadsBelow (length names) (factor_term names f)
+  factor_below names (Plain b) h = base_below names b h
+  factor_below names (Raised b ds) h = base_below names b h
+  factor_below names (Negated f) h = factor_below names f h
+
+  base_below : (names : List Name) (b : Base) → BaseReads names b → ReadsBelow (length names) (base_term names b)
+  base_below names (Number ds) h = tt
+  base_below names (Named n) h = position_below n names h
+  base_below names (Bracketed s) h = sum_below names s h
+
+-- names go to the end of others
+abbrev pub Extends : List Name → List Name → Type 0
+Extends names last = (new : List Name) × (last ≡ names ++ new)
+
+nothing_new : (names : List Name) → Extends names names
+nothing_new names = ([], sym (append_nil names))
+  where
+    append_nil : (xs : List Name) → xs ++ [] ≡ xs
+    append_nil [] = refl
+    append_nil (x ∷ xs) = ap (λ ys. x ∷ ys) (append_nil xs)
+
+atom_extends : (names : List Name) (a : Atom) → Extends names (with_atom names a)
+atom_extends names (Always t) = nothing_new names
+atom_extends names (Compared l sign r) = extended names (with_sum names l) (with_sum (with_sum names l) r) (sum_extends names l) (sum_extends (with_sum names l) r)
+
+atoms_extends : (names : List Name) (atoms : Atoms) → Extends names (with_atoms names atoms)
+atoms_extends names (First a) = atom_extends names a
+atoms_extends names (Joined atoms joint a) = extended names (with_atoms names atoms) (with_atom (with_atoms names atoms) a) (atoms_extends names atoms) (atom_extends (with_atoms names atoms) a)
+
+pub sums_extends : (names : List Name) (sums : List Sum) → Extends names (with_sums names sums)
+sums_extends names [] = nothing_new names
+sums_extends names (s ∷ sums) = extended names (with_sums names sums) (with_sum (with_sums names sums) s) (sums_extends names sums) (sum_extends (with_sums names sums) s)
+
+maybe_extends : (names : List Name) (o : Option Atoms) → Extends names (with_maybe names o)
+maybe_extends names None = nothing_new names
+maybe_extends names (Some atoms) = atoms_extends names atoms
+
+pub guard_extends : (names : List Name) (g : Guard) → Extends names (with_guard names g)
+guard_extends names NoGuard = nothing_new names
+guard_extends names (BehindMark o) = maybe_extends names o
+guard_extends names (InSquares o) = maybe_extends names o
+
+-- arguments whose names are among names
+abbrev pub AllRead : List Name → List Sum → Type 0
+AllRead names [] = ⊤
+AllRead names (s ∷ sums) = SumReads names s × AllRead names sums
+
+all_read_more : (names last : List Name) (sums : List Sum) → Extends names last → AllRead names sums → AllRead last sums
+all_read_more names last [] e h = tt
+all_read_more names last (s ∷ sums) e h = (subst (λ ns. SumReads ns s) (sym e.1) (sum_reads_more names e.0 s h.0), all_read_more names last sums e h.1)
+
+pub sums_are_read : (names : List Name) (sums : List Sum) → AllRead (with_sums names sums) sums
+sums_are_read names [] = tt
+sums_are_read names (s ∷ sums) =
+    (sum_is_read (with_sums names sums) s, all_read_more (with_sums names sums) (with_sum (with_sums names sums) s) sums (sum_extends (with_sums names sums) s) (sums_are_read names sums))
+
+-- and atoms
+abbrev AtomReads : List Name → Atom → Type 0
+AtomReads names (Always t) = ⊤
+AtomReads names (Compared l sign r) = SumReads names l × SumReads names r
+
+abbrev AtomsRead : List Name → Atoms → Type 0
+AtomsRead names (First a) = AtomReads names a
+AtomsRead names (Joined atoms joint a) = AtomsRead names atoms × AtomReads names a
+
+atom_reads_more : (names last : List Name) (a : Atom) → Extends names last → AtomReads names a → AtomReads last a
+atom_reads_more names last (Always t) e h = tt
+atom_reads_more names last (Compared l sign r) e h =
+    (subst (λ ns. SumReads ns l) (sym e.1) (sum_reads_more names e.0 l h.0), subst (λ ns. SumReads ns r) (sym e.1) (sum_reads_more names e.0 r h.1))
+
+atoms_read_more : (names last : List Name) (atoms : Atoms) → Extends names last → AtomsRead names atoms → AtomsRead last atoms
+atoms_read_more names last (First a) e h = atom_reads_more names last a e h
+atoms_read_more names last (Joined atoms joint a) e h = (atoms_read_more names last atoms e h.0, atom_reads_more names last a e h.1)
+
+atom_is_read : (names : List Name) (a : Atom) → AtomReads (with_atom names a) a
+atom_is_read names (Always t) = tt
+atom_is_read names (Compared l sign r) =
+    let e = sum_extends (with_sum names l) r in
+    (subst (λ ns. SumReads ns l) (sym e.1) (sum_reads_more (with_sum names l) e.0 l (sum_is_read names l)), sum_is_read (with_sum names l) r)
+
+atoms_are_read : (names : List Name) (atoms : Atoms) → AtomsRead (with_atoms names atoms) atoms
+atoms_are_read names (First a) = atom_is_read names a
+atoms_are_read names (Joined atoms joint a) =
+    (atoms_read_more (with_atoms names atoms) (with_atom (with_atoms names atoms) a) atoms (atom_extends (with_atoms names atoms) a) (atoms_are_read names atoms), atom_is_read (with_atoms names atoms) a)
+
+-- arguments within the limits are valid expressions
+pub arguments_valid : (names : List Name) (sums : List Sum) → AllRead names sums → AreArgumentsWithin names sums → AllByRecursion (IsValidTerm (length names)) (sums_terms names sums)
+arguments_valid names [] h w = tt
+arguments_valid names (s ∷ sums) h w =
+    all_one_more (IsValidTerm (length names)) (sums_terms names sums) (sum_term names s) (arguments_valid names sums h.1 w.1) (record { variables = sum_below names s h.0; expands = w.0.expanded })
+
+pub arguments_count : (names : List Name) (sums : List Sum) → length (sums_terms names sums) ≡ length sums
+arguments_count names [] = refl
+arguments_count names (s ∷ sums) =
+    let e = length-append (sums_terms names sums) (sum_term names s ∷ []) in let k = arguments_count names sums in omega (arith, e, k)
+
+-- where none of some expressions has a fault, the first one has none
+first_none : (d : Term) (others : List Term) → first_of_all (d ∷ others) ≡ None → polynomials.first_fault d ≡ None
+first_none d others h = go (polynomials.first_fault d) h
+  where
+    go : (o : Option polynomials.Fault) → polynomials.or_else o (first_of_all others) ≡ None → o ≡ None
+    go None h = refl
+    go (Some x) h = cc
+
+difference_none : (d e : Term) (sign : inner.Sign) → first_of_all (differences d (relation_of sign) e) ≡ None → polynomials.first_fault (difference_of d (relation_of sign) e) ≡ None
+difference_none d e inner.AtLeastSign h = first_none (difference_of d plain.AtLeast e) [] h
+difference_none d e inner.MoreThanSign h = first_none (difference_of d plain.MoreThan e) [] h
+difference_none d e inner.AtMostSign h = first_none (difference_of d plain.AtMost e) [] h
+difference_none d e inner.LessThanSign h = first_none (difference_of d plain.LessThan e) [] h
+difference_none d e inner.EqualSign h = first_none (difference_of d plain.EqualTo e) (difference_of e plain.EqualTo d ∷ []) h
+difference_none d e inner.DoubleEqualSign h = first_none (difference_of d plain.EqualTo e) (difference_of e plain.EqualTo d ∷ []) h
+
+-- atoms within the limits are valid
+atom_valid : (names : List Name) (a : Atom) → AtomReads names a → IsAtomWithin names a → IsValidAtom (length names) (atom_term names a)
+atom_valid names (Always t) h w = tt
+atom_valid names (Compared l sign r) h w =
+    record { left = sum_below names l h.0; right = sum_below names r h.1; expands = difference_none (sum_term names l) (sum_term names r) sign w.2 }
+
+atoms_valid : (names : List Name) (atoms : Atoms) → AtomsRead names atoms → AreAtomsWithin names atoms → AllByRecursion (IsValidAtom (length names)) (atoms_terms names atoms)
+atoms_valid names (First a) h w = (atom_valid names a h w, tt)
+atoms_valid names (Joined atoms joint a) h w =
+    all_one_more (IsValidAtom (length names)) (atoms_terms names atoms) (atom_term names a) (atoms_valid names atoms h.0 w.0) (atom_valid names a h.1 w.1)
+
+atoms_count : (names : List Name) (atoms : Atoms) → length (atoms_terms names atoms) ≡ count_of atoms
+atoms_count names (First a) = refl
+atoms_count names (Joined atoms joint a) =
+    let e = length-append (atoms_terms names atoms) (atom_term names a ∷ []) in let k = atoms_count names atoms in omega (arith, e, k)
+
+-- so is a guard, and it has no more atoms than the limit
+pub guard_valid : (names : List Name) (g : Guard) → IsGuardWithin (with_guard names g) g → AllByRecursion (IsValidAtom (length (with_guard names g))) (guard_terms (with_guard names g) g) × (length (guard_terms (with_guard names g) g) ≤ 64)
+guard_valid names NoGuard w = (tt, omega arith)
+guard_valid names (BehindMark None) w = (tt, omega arith)
+guard_valid names (BehindMark (Some atoms)) w =
+    (atoms_valid (with_atoms names atoms) atoms (atoms_are_read names atoms) w.1, (let e = atoms_count (with_atoms names atoms) atoms in let k = w.0 in omega (arith, e, k)))
+guard_valid names (InSquares None) w = (tt, omega arith)
+guard_valid names (InSquares (Some atoms)) w =
+    (atoms_valid (with_atoms names atoms) atoms (atoms_are_read names atoms) w.1, (let e = atoms_count (with_atoms names atoms) atoms in let k = w.0 in omega (arith, e, k)))
+
+-- the arguments' names are among those of the whole rule
+pub read_in_rule : (names : List Name) (sums : List Sum) (g : Guard) → AllRead (with_guard (with_sums names sums) g) sums
+read_in_rule names sums g = all_read_more (with_sums names sums) (with_guard (with_sums names sums) g) sums (guard_extends (with_sums names sums) g) (sums_are_read names sums)
+
+-- and there are at least as many as left ones
+pub no_fewer : (names last : List Name) → Extends names last → length names ≤ length last
+no_fewer names last e = let k = ap length e.1 ∙ length-append names e.0 in omega (arith, k)

@@ -1,0 +1,20 @@
+-- The worked values at the limits.
+use Rattle.std.specs.Prelude.{refl}
+use Rattle.its_text.specs.WorkedLimits.{LimitsAreTold}
+
+pub limits_are_told : LimitsAreTold
+limits_are_told = record {
+  left_full = tt;
+  left_passed = refl;
+  right_full = tt;
+  right_passed = refl;
+  variables_full = tt;
+  variables_passed = refl;
+  atoms_full = tt;
+  atoms_passed = refl;
+  name_full = tt;
+  name_passed = refl;
+  tokens_full = refl;
+  tokens_passed = refl;
+  degree_full = tt;
+}

@@ -1,0 +1,6 @@
+-- Words are names, and numbers are those of what was read.
+use Rattle.its_text.proofs.ValidPrograms.{spelled_valid}
+use Rattle.its_text.proofs.law.spelled_programs_are_valid.Goals as goal
+
+pub returns : goal.returns
+returns c = record { each = spelled_valid }

@@ -1,0 +1,43 @@
+-- What the verdict on a text says.
+use Rattle.std.specs.Prelude.{◌≡◌, ℕ, ◌⊎◌, List, length, Some}
+use Rattle.model.specs.Programs.{Program}
+use Rattle.text_core.specs.Tokens.{pieces}
+use Rattle.text_core.specs.Readers.{Fault}
+use Rattle.text_core.specs.Faults.{FaultAt, IsFirst}
+use Rattle.text_core.specs.Reading.{Answer, Stands, Refused}
+use Rattle.its_text.specs.Kinds.{Kind}
+use Rattle.its_text.specs.Lexing.{tokens_of}
+use Rattle.its_text.specs.Written.{Section}
+use Rattle.its_text.specs.Numbering.{start_of, rules_of, program_numbered}
+use Rattle.its_text.specs.Grammar.{Writes, programs}
+use Rattle.its_text.specs.Answers.{whole, verdict}
+use Rattle.its_text.specs.Spelling.{Spells}
+
+-- the bytes are the text of sections, and nothing stands against it
+pub record IsFaultless (bytes : List ℕ) (written : List Section) : Type 0 where
+  pub text : Writes written (pieces (tokens_of bytes))
+  pub faultless : (x : Fault Kind) → ¬ FaultAt programs (length bytes) (tokens_of bytes) x
+
+-- so it is with sections that are this program by numbers
+pub record IsTextOf (bytes : List ℕ) (p : Program) : Type 0 where
+  pub written : List Section
+  pub stands : IsFaultless bytes written
+  pub numbered : program_numbered written ≡ Some p
+
+-- so it is with sections that lack one that has to be there, or a rule that leaves the start symbol
+pub record LacksPart (bytes : List ℕ) (x : Fault Kind) : Type 0 where
+  pub written : List Section
+  pub stands : IsFaultless bytes written
+  pub lacks : whole (length bytes) (tokens_of bytes) written (start_of written) (rules_of written) ≡ Refused x
+
+-- a verdict is right: a program that the text is of, or the first fault, or what is lacking where there is no fault
+abbrev pub IsVerdict : List ℕ → Answer Program Kind → Type 0
+IsVerdict bytes (Stands p) = IsTextOf bytes p
+IsVerdict bytes (Refused x) = IsFirst programs (length bytes) (tokens_of bytes) x ⊎ LacksPart bytes x
+
+-- the verdict on each text is right, and a text that spells a program is read as that one or has a first fault
+pub record VerdictsAreRight : Type 0 where
+  pub each : (bytes : List ℕ) → IsVerdict bytes (verdict bytes)
+  pub spelled : (bytes : List ℕ) (p : Program) → Spells bytes p
+      → (verdict bytes ≡ Stands p) ⊎ ((x : Fault Kind) × IsFirst programs (length bytes) (tokens_of bytes) x
+      × (verdict bytes ≡ Refused x))

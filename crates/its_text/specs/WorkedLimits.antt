@@ -1,0 +1,66 @@
+-- What was worked out by hand of texts at the limits and just past them.
+use Rattle.std.specs.Prelude.{ℕ, zero, suc, ◌+◌, ◌/◌, ◌%◌, List, [], ◌∷◌, ◌++◌, codes, replicate, ⊤}
+use Rattle.model.specs.Programs.{Program}
+use Rattle.text_core.specs.Reading.{Answer, Stands, Refused}
+use Rattle.its_text.specs.Kinds.{Kind, Syntax, Limit, TooManyArguments, TooManyVariables, TooManyAtoms, LongName, TooManyTokens}
+use Rattle.its_text.specs.Answers.{verdict}
+use Rattle.its_text.specs.Worked.{RefusedAt, with_rules}
+
+-- the text is read
+abbrev pub IsProgram : Answer Program Kind → Type 0
+IsProgram (Stands p) = ⊤
+IsProgram (Refused x) = ⊥
+
+abbrev pub IsRead : List ℕ → Type 0
+IsRead bytes = IsProgram (verdict bytes)
+
+-- so many texts with a separator between each two, the first one with a number
+abbrev pub joined : (ℕ → List ℕ) → List ℕ → ℕ → ℕ → List ℕ
+joined text separator from zero = []
+joined text separator from (suc zero) = text from
+joined text separator from (suc (suc n)) = text from ++ (separator ++ joined text separator (suc from) (suc n))
+
+-- the variables `V00`, `V01` and so on
+abbrev pub variable : ℕ → List ℕ
+variable i = 86 ∷ (48 + i / 10) ∷ (48 + i % 10) ∷ []
+
+-- rules with so many left arguments, right arguments, variables in one argument, atoms, bytes of a name, and `-`
+abbrev pub left_arguments : ℕ → List ℕ
+left_arguments n = with_rules (codes "l0(" ++ (joined variable (codes ",") 0 n ++ codes ")->l1()"))
+
+abbrev pub right_arguments : ℕ → List ℕ
+right_arguments n = with_rules (codes "l0()->l1(" ++ (joined (λ i. codes "0") (codes ",") 0 n ++ codes ")"))
+
+abbrev pub variables : ℕ → List ℕ
+variables n = with_rules (codes "l0()->l1(" ++ (joined variable (codes "*0*") 0 n ++ codes ")"))
+
+abbrev pub atoms : ℕ → List ℕ
+atoms n = with_rules (codes "l0()->l1():|:" ++ joined (λ i. codes "TRUE") (codes "&&") 0 n)
+
+abbrev pub name_bytes : ℕ → List ℕ
+name_bytes n = with_rules (codes "l0()->" ++ (replicate n 118 ++ codes "()"))
+
+abbrev pub minuses : ℕ → List ℕ
+minuses n = codes "(STARTTERM (FUNCTIONSYMBOLS l0))(RULES l0()->l1(" ++ replicate n 45
+
+-- texts are read at a limit, and past it are refused where what is one too many begins
+pub record LimitsAreTold : Type 0 where
+  -- 32 arguments on the left and on the right
+  pub left_full : IsRead (left_arguments 32)
+  pub left_passed : RefusedAt (left_arguments 33) 170 (Limit TooManyArguments)
+  pub right_full : IsRead (right_arguments 32)
+  pub right_passed : RefusedAt (right_arguments 33) 112 (Limit TooManyArguments)
+  -- 64 variables and 64 atoms
+  pub variables_full : IsRead (variables 64)
+  pub variables_passed : RefusedAt (variables 65) 432 (Limit TooManyVariables)
+  pub atoms_full : IsRead (atoms 64)
+  pub atoms_passed : RefusedAt (atoms 65) 436 (Limit TooManyAtoms)
+  -- a name of 256 bytes
+  pub name_full : IsRead (name_bytes 256)
+  pub name_passed : RefusedAt (name_bytes 257) 45 (Limit LongName)
+  -- an argument of 1,024 tokens that nothing follows is refused as a text that ends too early, and one with a token
+  -- more at that token
+  pub tokens_full : RefusedAt (minuses 1024) 1072 Syntax
+  pub tokens_passed : RefusedAt (minuses 1025) 1072 (Limit TooManyTokens)
+  -- degree 8
+  pub degree_full : IsRead (with_rules (codes "l0(A)->l1(A^8)"))

@@ -1,0 +1,63 @@
+-- A reader inside another one: a part of the outer text is a text of the inner reader.
+use Rattle.std.specs.Prelude.{◌≡◌, ℕ, List, [], ◌∷◌, ◌++◌, map, Option, Some, None}
+use Rattle.text_core.specs.Tokens.{Token}
+use Rattle.text_core.specs.Readers.{Reader, reached}
+
+-- what an inner piece is among the outer ones, and which outer ones are inner; the outer front that an inner one is, by
+-- what is known of the text before it; and where the outer reader goes on behind the inner tree with the piece behind
+-- that
+pub record Inside (P T F Q G C : Type 0) : Type 0 where
+  pub into : P → Q
+  pub inner_of : Q → Option P
+  pub inside : C → F → G
+  pub behind : C → T → Q → Option G
+
+-- an outer piece is the inner one that it counts as
+pub record IsInto {P T F Q G C : Type 0} (i : Inside P T F Q G C) : Type 0 where
+  pub there : (p : P) → i.inner_of (i.into p) ≡ Some p
+  pub back : (q : Q) (p : P) → i.inner_of q ≡ Some p → i.into p ≡ q
+
+module _ {P T F K Q G C : Type 0} (r : Reader P T F K) (i : Inside P T F Q G C) where
+  -- where an outer piece leads the inner reader, if it is one of its pieces
+  abbrev pub inner_step : F → Option P → Option F
+  inner_step f None = None
+  inner_step f (Some p) = r.step f p
+
+  -- where a piece leads behind the inner tree, if the inner text can end
+  abbrev pub step_behind : C → Option T → Q → Option G
+  step_behind c None q = None
+  step_behind c (Some t) q = i.behind c t q
+
+  -- the inner reader goes on where its step leads somewhere; else its text ends
+  abbrev pub step_by : C → F → Option F → Q → Option G
+  step_by c f (Some g) q = Some (i.inside c g)
+  step_by c f None q = step_behind c (r.finish f) q
+
+  -- where a piece leads from a front inside
+  abbrev pub step_inside : C → F → Q → Option G
+  step_inside c f q = step_by c f (inner_step f (i.inner_of q)) q
+
+  -- the inner reader stands at a front behind these pieces: the inner text begins behind the outer pieces before
+  pub record IsInside (before done : List Q) (f : F) : Type 0 where
+    pub inner : List P
+    pub pieces : done ≡ map i.into inner ++ before
+    pub led : reached r inner ≡ Some f
+
+  -- a token that is inner, before others; one that isn't ends them
+  abbrev pub inner_then : Option P → Token Q → List (Token P) → List (Token P)
+  inner_then None t ts = []
+  inner_then (Some p) t ts = record { piece = p; at = t.at; upto = t.upto } ∷ ts
+
+  -- the tokens from the first one on that are inner
+  abbrev pub inner_tokens : List (Token Q) → List (Token P)
+  inner_tokens [] = []
+  inner_tokens (t ∷ ts) = inner_then (i.inner_of t.piece) t (inner_tokens ts)
+
+  -- where they end: at the first token that isn't, or with the text
+  abbrev pub end_by : Option P → ℕ → ℕ → ℕ
+  end_by None at end = at
+  end_by (Some p) at end = end
+
+  abbrev pub inner_end : ℕ → List (Token Q) → ℕ
+  inner_end n [] = n
+  inner_end n (t ∷ ts) = end_by (i.inner_of t.piece) t.at (inner_end n ts)

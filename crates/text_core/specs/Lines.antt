@@ -1,0 +1,77 @@
+-- A small language with another one inside, on which the definitions of inner readers are tried: lines, each a row of
+-- numbers with a semicolon behind it, as in `1, 23;4;`.
+use Rattle.std.specs.Prelude.{◌≡◌, ℕ, if◌then◌else◌, ◌==◌, Option, Some, None, List, [], ◌∷◌, ◌++◌, map}
+use Rattle.text_core.specs.Tokens.{Token, Lexeme}
+use Rattle.text_core.specs.Readers.{Fault, Reader}
+use Rattle.text_core.specs.Inner.{Inside, step_inside, inner_tokens, inner_end}
+use Rattle.text_core.specs.Rows as row
+
+-- a piece of a row, or a semicolon
+pub data Piece : Type 0 where
+  In : row.Piece → Piece
+  Semicolon : Piece
+
+-- the lines before, the last one first, and what has been read of a row
+pub data Front : Type 0 where
+  InLine : List row.Row → row.Front → Front
+
+-- the pieces of lines, and then the rest
+abbrev pub lines_then : List row.Row → List Piece → List Piece
+lines_then [] rest = rest
+lines_then (r ∷ earlier) rest = lines_then earlier (map In (row.row_then r []) ++ Semicolon ∷ rest)
+
+-- the lines are written as these pieces
+abbrev pub Writes : List row.Row → List Piece → Type 0
+Writes lines ps = lines_then lines [] ≡ ps
+
+-- which pieces are those of a row
+abbrev pub inner_of : Piece → Option row.Piece
+inner_of (In p) = Some p
+inner_of Semicolon = None
+
+-- behind a row comes a semicolon, and then another row or nothing
+abbrev pub behind : List row.Row → row.Row → Piece → Option Front
+behind earlier r Semicolon = Some (InLine (r ∷ earlier) row.Begins)
+behind earlier r (In p) = None
+
+-- rows inside lines
+abbrev pub row_inside : Inside row.Piece row.Row row.Front Piece Front (List row.Row)
+row_inside = record { into = In; inner_of = inner_of; inside = InLine; behind = behind }
+
+-- where a piece leads
+abbrev pub step : Front → Piece → Option Front
+step (InLine earlier f) q = step_inside row.rows row_inside earlier f q
+
+-- the lines of a text that ends here
+abbrev pub finish : Front → Option (List row.Row)
+finish (InLine earlier row.Begins) = Some earlier
+finish (InLine earlier f) = None
+
+-- what stands against a row stands against its line
+abbrev pub shown : ℕ → List (Token Piece) → Front → List (Token Piece) → List (Fault row.Kind)
+shown n done (InLine earlier f) rest =
+    row.shown (inner_end row.rows row_inside n rest) (inner_tokens row.rows row_inside done) f
+    (inner_tokens row.rows row_inside rest)
+
+-- the reader of lines
+abbrev pub lines : Reader Piece (List row.Row) Front row.Kind
+lines =
+    record {
+      Writes = Writes;
+      beginning = InLine [] row.Begins;
+      step = step;
+      finish = finish;
+      number = row.number_of;
+      shown = shown;
+      off = λ f rest. row.Syntax;
+    }
+
+-- the piece that begins with a byte
+abbrev pub as_inner : Option row.Piece → Option Piece
+as_inner None = None
+as_inner (Some p) = Some (In p)
+
+abbrev pub lexeme_at : ℕ → List ℕ → Lexeme (Option Piece)
+lexeme_at b bytes =
+    if b == 59 then record { piece = Some Semicolon; len = 1 }
+    else record { piece = as_inner (row.lexeme_at b bytes).piece; len = (row.lexeme_at b bytes).len }

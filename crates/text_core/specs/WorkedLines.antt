@@ -1,0 +1,51 @@
+-- What was worked out by hand of lines, which have rows inside.
+use Rattle.std.specs.Prelude.{ℕ, List, [], ◌∷◌, length, codes}
+use Rattle.text_core.specs.Tokens.{Token, tokens_of}
+use Rattle.text_core.specs.Faults.{FaultAt, IsFirst}
+use Rattle.text_core.specs.Reading.{IsTree}
+use Rattle.text_core.specs.Laws.{Laws, AnswersAll, OneTree, OneFirst}
+use Rattle.text_core.specs.Rows.{One, More, Kind, Syntax, TooLarge, TooMany}
+use Rattle.text_core.specs.Lines.{Piece, lines, lexeme_at}
+
+-- the tokens of a text of lines
+abbrev pub tokens : List ℕ → List (Token Piece)
+tokens bytes = tokens_of lexeme_at bytes
+
+-- a fault of a text of lines, and its first one
+abbrev pub HasFault : List ℕ → Kind → ℕ → Type 0
+HasFault bytes kind at = FaultAt lines (length bytes) (tokens bytes) (record { kind = kind; at = at })
+
+abbrev pub HasFirst : List ℕ → Kind → ℕ → Type 0
+HasFirst bytes kind at = IsFirst lines (length bytes) (tokens bytes) (record { kind = kind; at = at })
+
+-- which faults texts of lines have
+pub record LinesAreTold : Type 0 where
+  -- `1, 2;3;` stands for two lines, and no byte at all for none
+  pub two : IsTree lines 7 (tokens (codes "1, 2;3;")) (One 3 ∷ More (One 1) 2 ∷ [])
+  pub nothing : IsTree lines 0 (tokens []) []
+  -- what stands against the second row does so at its own place in the text, though a later line is broken: `1;12;,`
+  pub second_row : HasFirst (codes "1;12;,") TooLarge 2
+  pub broken_later : HasFault (codes "1;12;,") Syntax 5
+  -- a row shows at its last byte that it has too many numbers where its line ends, or the text: `1;1,2,3,4;` and
+  -- `1;1,2,3,4`
+  pub too_many : HasFirst (codes "1;1,2,3,4;") TooMany 8
+  pub too_many_open : HasFirst (codes "1;1,2,3,4") TooMany 8
+  -- the rows before don't count in: `1,2;3,4;` has not too many
+  pub each_alone : IsTree lines 8 (tokens (codes "1,2;3,4;")) (More (One 3) 4 ∷ More (One 1) 2 ∷ [])
+  -- a text breaks off within a row at what can't go on with it, `1,,`, and behind a row that can't end at the
+  -- semicolon, `1,;` and `1;;`; it ends too early without one, `1;2`
+  pub within_row : HasFirst (codes "1;1,,") Syntax 4
+  pub open_row : HasFirst (codes "1,;") Syntax 2
+  pub no_row : HasFirst (codes "1;;") Syntax 2
+  pub ends_early : HasFirst (codes "1;2") Syntax 3
+
+-- the reader of lines keeps the laws, by those of the reader of rows
+pub record LinesAreRead : Type 0 where
+  pub laws : Laws lines
+  pub answers : AnswersAll lines
+  pub one_tree : OneTree lines
+  pub one_first : OneFirst lines
+
+pub record WorkedLines : Type 0 where
+  pub told : LinesAreTold
+  pub read : LinesAreRead
