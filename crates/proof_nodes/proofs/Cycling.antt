@@ -6,19 +6,19 @@ use Rattle.std.proofs.lemmas.Int.{ints}
 use Rattle.std.proofs.lemmas.List.Elements.{All-nil, All-cons}
 use Rattle.model.specs.Runs.{Config, Step, IsStep, IsRun, last_rule, place_value, sizes_of_start}
 use Rattle.model.specs.Bounds.{Bound, val, IsBased}
-use Rattle.model.specs.Facts.{Fact, Size}
+use Rattle.model.specs.Facts.{Size}
 use Rattle.linear_forms.specs.Forms.{at}
 use Rattle.proof_nodes.specs.Nodes.{Arm, Linear, Poly, Member}
 use Rattle.proof_nodes.specs.Numbers.{is_in}
 use Rattle.model.specs.Paths.{pre, entry_and_rules}
-use Rattle.proof_nodes.specs.Known.{time_in, size_in}
+use Rattle.proof_nodes.specs.Known.{Table}
 use Rattle.proof_nodes.specs.Setting.{Setting, IsFaithful}
 use Rattle.proof_nodes.specs.Composed.{sizes_after}
 use Rattle.proof_nodes.specs.ComposedSizes.{poly_at, reads, is_member, Flow, flow, flows, base_of, addition_of, factor_of, rules_of}
 use Rattle.proof_nodes.specs.AcceptsSizes.{Side, Up, Low, HasMemberShape, HasArmShape, AcceptsArm, AcceptsUp, AcceptsLow, left_of, ArmHasSizes, HasSizesAfter, HasSizesBefore, IsStraightArm, IsStraight, cycle_size, AcceptsCycle, cycle_facts}
 use Rattle.proof_nodes.proofs.Membership.{is_in-filter, rule_is_numbered}
 use Rattle.proof_nodes.proofs.LastSteps.{last_precedes}
-use Rattle.proof_nodes.proofs.GoodFacts.{IsGood, known-time, known-size, known_time-based, known_size-based}
+use Rattle.proof_nodes.proofs.GoodFacts.{IsGood, IsGoodTable, known-time, known-size, known_time-based, known_size-based}
 use Rattle.proof_nodes.proofs.AbsoluteValues.{abs-within}
 use Rattle.proof_nodes.proofs.Arms.{on_side, StaysOutside, arm-covered}
 use Rattle.proof_nodes.proofs.Spreading.{point_of, left_values, no_empty_run}
@@ -33,11 +33,11 @@ stays_straight : (s : Setting) (members : List Member) (m : Member) (e : ℕ) (a
 stays_straight s members m e (Linear den form multipliers) h = tt
 stays_straight s members m e Poly h = h
 
-module _ (s : Setting) (true_to : IsFaithful s) (facts : List Fact) (good : All (IsGood s.program) facts)
-    (members : List Member) (h : AcceptsCycle s facts members) where
+module _ (s : Setting) (true_to : IsFaithful s) (table : Table) (good : IsGoodTable s.program table)
+    (members : List Member) (h : AcceptsCycle s table members) where
   -- all that flows in the loop
   abbrev all_flows : List Flow
-  all_flows = flows s members (size_in facts)
+  all_flows = flows s members table.size
 
   -- a place after a rule is a member
   abbrev IsMember : ℕ → ℕ → Type 0
@@ -55,26 +55,26 @@ module _ (s : Setting) (true_to : IsFaithful s) (facts : List Fact) (good : All 
       → (g : ℕ) → ((j : ℕ) → IsMember (last_rule earlier) j → size_at b j ≤ g)
       → (side : Side) (arm : Arm) → HasArmShape s m.spot.rule (left_of s.program m.spot.rule) arm
       → AcceptsArm s m.spot side arm
-      → ArmHasSizes s facts members m.spot arm (last_rule earlier)
+      → ArmHasSizes s table members m.spot arm (last_rule earlier)
       → IsStraightArm s members m (last_rule earlier) arm
-      → IsAmong (flow s members (size_in facts) m arm (last_rule earlier)) all_flows
+      → IsAmong (flow s members table.size m arm (last_rule earlier)) all_flows
       → on_side side (place_value c m.spot.place) ≤ℤ pos
       (max (val (base_of all_flows) (sizes_of_start start))
       (factor_of all_flows m.spot.rule * g + val (addition_of all_flows m.spot.rule) (sizes_of_start start)))
   cycle_arm start earlier b st c run x m among same before g inner side arm shape accepted sizes straight flows_here =
       let member_shape : HasMemberShape s m = all-among (HasMemberShape s) members m h.shape.each among in
       let size : (j : ℕ) → reads (poly_at s m.spot) arm j ≡ true → is_member members (last_rule earlier) j ≡ false
-      → nat_abs (at b.values j) ≤ val (sizes_after (size_in facts) (last_rule earlier) j) (sizes_of_start start) =
-      λ j k l. let fact = known-size s.program facts good (last_rule earlier) (suc j)
+      → nat_abs (at b.values j) ≤ val (sizes_after table.size (last_rule earlier) j) (sizes_of_start start) =
+      λ j k l. let fact = known-size s.program table good (last_rule earlier) (suc j)
       (sizes j k l) in
       fact.each start earlier b run refl in
       within (on_side side (place_value c m.spot.place)) _ _
       (arm-covered s m.spot b st.free c (point_of s true_to b st c x m.spot.rule same) member_shape.at.least
       (left_values s.program b st c x m.spot.rule same)
-      (is_member members (last_rule earlier)) g (sizes_after (size_in facts) (last_rule earlier))
+      (is_member members (last_rule earlier)) g (sizes_after table.size (last_rule earlier))
       (sizes_of_start start) inner side arm shape accepted size
       (stays_straight s members m (last_rule earlier) arm straight))
-      (flow-covered all_flows (flow s members (size_in facts) m arm (last_rule earlier)) (sizes_of_start start) g
+      (flow-covered all_flows (flow s members table.size m arm (last_rule earlier)) (sizes_of_start start) g
       flows_here)
     where
       within : (v : ℤ) (a b : ℕ) → v ≤ℤ pos a → a ≤ b → v ≤ℤ pos b
@@ -98,9 +98,9 @@ module _ (s : Setting) (true_to : IsFaithful s) (facts : List Fact) (good : All 
       let before : is_in (last_rule earlier) (pre s.program m.spot.rule) ≡ true =
       subst (λ (t : ℕ). is_in (last_rule earlier) (pre s.program t) ≡ true) same
       (last_precedes s.program start earlier b st c run x) in
-      let listed = flows_into-among s members (size_in facts) members m (last_rule earlier) found.1 before in
-      let sizes : HasSizesAfter s facts members m (last_rule earlier) =
-      all-among (HasSizesBefore s facts members) members m h.sizes found.1 (last_rule earlier) before in
+      let listed = flows_into-among s members table.size members m (last_rule earlier) found.1 before in
+      let sizes : HasSizesAfter s table members m (last_rule earlier) =
+      all-among (HasSizesBefore s table members) members m h.sizes found.1 (last_rule earlier) before in
       let up = cycle_arm start earlier b st c run x m found.1 same before g inner Up m.local.up member_shape.up up_arm
       sizes.up (straight.up (last_rule earlier) before) listed.0 in
       let low = cycle_arm start earlier b st c run x m found.1 same before g inner Low m.local.low member_shape.low
@@ -141,17 +141,17 @@ module _ (s : Setting) (true_to : IsFaithful s) (facts : List Fact) (good : All 
 
   -- the flows have bases of at least 1
   flows-based : All (λ (f : Flow). IsBased f.offset) all_flows
-  flows-based = flows_into-based s members (size_in facts) (known_size-based s.program facts good) members
+  flows-based = flows_into-based s members table.size (known_size-based s.program table good) members
 
   -- the size of a member holds after every run that ends with its rule
   cycle_holds : (start : List ℤ) (steps : List Step) (c : Config) → IsRun s.program start steps c → (m : Member)
       → IsAmong m members → last_rule steps ≡ m.spot.rule
-      → nat_abs (place_value c m.spot.place) ≤ val (cycle_size s facts members) (sizes_of_start start)
+      → nat_abs (place_value c m.spot.place) ≤ val (cycle_size s table members) (sizes_of_start start)
   cycle_holds start steps c run m among same =
       le_trans (by_place m.spot.place refl shape.at.least)
-      (loop-bounded s true_to all_flows (addition-based all_flows flows-based) (time_in facts) (sizes_of_start start)
+      (loop-bounded s true_to all_flows (addition-based all_flows flows-based) table.time (sizes_of_start start)
       steps (rules_of s members)
-      (λ t k n. let time = known-time s.program facts good t (h.times t k n) in time.each start steps c run))
+      (λ t k n. let time = known-time s.program table good t (h.times t k n) in time.each start steps c run))
     where
       shape : HasMemberShape s m
       shape = all-among (HasMemberShape s) members m h.shape.each among
@@ -170,29 +170,29 @@ module _ (s : Setting) (true_to : IsFaithful s) (facts : List Fact) (good : All 
           (subst (λ (t : ℕ). is_member members t j ≡ true) (sym same) (member_told members m j among e)))
 
   -- what an accepted loop composes has bases of at least 1
-  cycle_size-based : IsBased (cycle_size s facts members)
-  cycle_size-based = loop_bound-based all_flows flows-based s (time_in facts) (known_time-based s.program facts good)
+  cycle_size-based : IsBased (cycle_size s table members)
+  cycle_size-based = loop_bound-based all_flows flows-based s table.time (known_time-based s.program table good)
       (rules_of s members)
 
   -- the fact of a member is good
   member-good : (m : Member) → IsAmong m members
-      → IsGood s.program (Size m.spot.rule m.spot.place (s.rewrite (cycle_size s facts members)))
+      → IsGood s.program (Size m.spot.rule m.spot.place (s.rewrite (cycle_size s table members)))
   member-good m among = record {
     holds = record {
       each = λ start steps c run last.
           subst (λ (n : ℕ). nat_abs (place_value c m.spot.place) ≤ n)
-          (sym (true_to.values (cycle_size s facts members) cycle_size-based (sizes_of_start start)))
+          (sym (true_to.values (cycle_size s table members) cycle_size-based (sizes_of_start start)))
           (cycle_holds start steps c run m among last);
     };
-    based = true_to.bases (cycle_size s facts members) cycle_size-based;
+    based = true_to.bases (cycle_size s table members) cycle_size-based;
   }
 
   -- the facts of an accepted loop are good
-  pub cycle-good : All (IsGood s.program) (cycle_facts (s.rewrite (cycle_size s facts members)) members)
+  pub cycle-good : All (IsGood s.program) (cycle_facts (s.rewrite (cycle_size s table members)) members)
   cycle-good = all_facts members (λ m k. member-good m k)
     where
       b : Bound
-      b = s.rewrite (cycle_size s facts members)
+      b = s.rewrite (cycle_size s table members)
 
       all_facts : (ms : List Member)
           → ((m : Member) → IsAmong m ms → IsGood s.program (Size m.spot.rule m.spot.place b))

@@ -5,7 +5,7 @@ use Rattle.std.proofs.lemmas.List.Elements.{All-head, All-tail}
 use Rattle.model.specs.Programs.{Program}
 use Rattle.model.specs.Bounds.{Bound, IsBased}
 use Rattle.model.specs.Facts.{Fact, Time, Size, HoldsTime, HoldsSize, Holds}
-use Rattle.proof_nodes.specs.Known.{IsKnown, known, time_in, size_in}
+use Rattle.proof_nodes.specs.Known.{IsKnown, known, time_in, size_in, Table, table_of}
 use Rattle.proof_nodes.specs.Laws.{HasBasedBound}
 use Rattle.proof_nodes.proofs.Membership.{told_same}
 
@@ -65,26 +65,35 @@ size-good p (Size u j c ∷ facts) good t i b h =
         same = cc
     go false e here later = later (rw e at h)
 
-module _ (p : Program) (facts : List Fact) (good : All (IsGood p) facts) where
+-- a table whose bounds are good: each of them holds on all runs, with bases of at least 1
+pub record IsGoodTable (p : Program) (table : Table) : Type 0 where
+  pub times : (t : ℕ) (b : Bound) → table.time t ≡ Some b → IsGood p (Time t b)
+  pub sizes : (t i : ℕ) (b : Bound) → table.size t i ≡ Some b → IsGood p (Size t i b)
+
+-- the table of good facts is good
+pub table-good : (p : Program) (facts : List Fact) → All (IsGood p) facts → IsGoodTable p (table_of facts)
+table-good p facts good = record { times = time-good p facts good; sizes = size-good p facts good }
+
+module _ (p : Program) (table : Table) (good : IsGoodTable p table) where
   -- what is known of a rule's time holds
-  pub known-time : (t : ℕ) → IsKnown (time_in facts t) → HoldsTime p t (known (time_in facts t))
-  known-time t (b, e) = let g : IsGood p (Time t b) = time-good p facts good t b e in rw e (g.holds)
+  pub known-time : (t : ℕ) → IsKnown (table.time t) → HoldsTime p t (known (table.time t))
+  known-time t (b, e) = let g : IsGood p (Time t b) = good.times t b e in rw e (g.holds)
 
   -- what is known of a size holds
-  pub known-size : (t i : ℕ) → IsKnown (size_in facts t i) → HoldsSize p t i (known (size_in facts t i))
-  known-size t i (b, e) = let g : IsGood p (Size t i b) = size-good p facts good t i b e in rw e (g.holds)
+  pub known-size : (t i : ℕ) → IsKnown (table.size t i) → HoldsSize p t i (known (table.size t i))
+  known-size t i (b, e) = let g : IsGood p (Size t i b) = good.sizes t i b e in rw e (g.holds)
 
   -- what is known, or 0, has bases of at least 1
-  pub known_time-based : (t : ℕ) → IsBased (known (time_in facts t))
-  known_time-based t = go (time_in facts t) refl
+  pub known_time-based : (t : ℕ) → IsBased (known (table.time t))
+  known_time-based t = go (table.time t) refl
     where
-      go : (o : Option Bound) → time_in facts t ≡ o → IsBased (known o)
+      go : (o : Option Bound) → table.time t ≡ o → IsBased (known o)
       go None e = tt
-      go (Some b) e = let g : IsGood p (Time t b) = time-good p facts good t b e in g.based
+      go (Some b) e = let g : IsGood p (Time t b) = good.times t b e in g.based
 
-  pub known_size-based : (t i : ℕ) → IsBased (known (size_in facts t i))
-  known_size-based t i = go (size_in facts t i) refl
+  pub known_size-based : (t i : ℕ) → IsBased (known (table.size t i))
+  known_size-based t i = go (table.size t i) refl
     where
-      go : (o : Option Bound) → size_in facts t i ≡ o → IsBased (known o)
+      go : (o : Option Bound) → table.size t i ≡ o → IsBased (known o)
       go None e = tt
-      go (Some b) e = let g : IsGood p (Size t i b) = size-good p facts good t i b e in g.based
+      go (Some b) e = let g : IsGood p (Size t i b) = good.sizes t i b e in g.based

@@ -17,8 +17,15 @@ pub mod Flows
 pub mod LoopBounds
 pub mod Cycling
 pub mod Soundness
+pub mod Stable
+pub mod StableShapes
+pub mod CheckLists
+pub mod FirstReasons
+pub mod SizeReasons
+pub mod ReasonsInLine
 pub mod WorkedFaithful
 pub mod WorkedRefused
 pub mod WorkedAccepted
 pub mod WorkedPlain
 pub mod WorkedSizes
+pub mod WorkedReasons

@@ -7,7 +7,7 @@ use Rattle.std.proofs.lemmas.List.Elements.{All-head, All-tail}
 use Rattle.model.specs.Programs.{Program, Rule, arity_of}
 use Rattle.model.specs.Runs.{Config, Step, IsStep, IsRun, count, one_if_same, last_rule, sizes_of_start}
 use Rattle.model.specs.Bounds.{Bound, val, IsBased}
-use Rattle.model.specs.Facts.{Fact, Time}
+use Rattle.model.specs.Facts.{Time}
 use Rattle.model.proofs.RunLaws.{one_if_same-same, one_if_same-other}
 use Rattle.linear_forms.specs.Forms.{Form, at, form_value}
 use Rattle.linear_forms.specs.Certificates.{Implies}
@@ -17,7 +17,7 @@ use Rattle.proof_nodes.specs.Numbers.{is_in, positive_part}
 use Rattle.model.specs.Paths.{source_of, target_of, same_symbol, entry_and_rules}
 use Rattle.proof_nodes.specs.Graph.{is_left_by, enters, entries}
 use Rattle.proof_nodes.specs.Combined.{number_form, form_at, after_rule, less, loss}
-use Rattle.proof_nodes.specs.Known.{known, time_in, size_in}
+use Rattle.proof_nodes.specs.Known.{known, Table}
 use Rattle.proof_nodes.specs.Setting.{Setting, StepPoint, IsFaithful}
 use Rattle.proof_nodes.specs.Composed.{rank_form, form_bound, no_place, sizes_after, entry_bound}
 use Rattle.proof_nodes.specs.AcceptsRank.{HasFormShape, AcceptsRank, at_source, at_target, moves_of, least_loss, rank_time}
@@ -29,7 +29,7 @@ use Rattle.proof_nodes.proofs.Membership.{told_same, same_number, no_is_not_yes,
 use Rattle.proof_nodes.proofs.LastSteps.{source-step, target-step, last_is_numbered, same_symbol-from}
 use Rattle.model.proofs.StepLaws.{stands}
 use Rattle.proof_nodes.proofs.Covering.{positive_part-covered}
-use Rattle.proof_nodes.proofs.GoodFacts.{IsGood, known-time, known-size, known_time-based, known_size-based}
+use Rattle.proof_nodes.proofs.GoodFacts.{IsGood, IsGoodTable, known-time, known-size, known_time-based, known_size-based}
 use Rattle.proof_nodes.proofs.Bases.{parts_for-based, rest_bound-based}
 
 -- the form at a symbol has at most as many coefficients as the symbol has places
@@ -106,8 +106,8 @@ positive-keeps (pos x) (negsuc y) h = omega arith
 positive-keeps (negsuc x) (pos y) h = absurd (omega (arith, ints, h))
 positive-keeps (negsuc x) (negsuc y) h = omega arith
 
-module _ (s : Setting) (true_to : IsFaithful s) (facts : List Fact) (good : All (IsGood s.program) facts)
-    (node : RankNode) (h : AcceptsRank s facts node) (start : List ℤ) where
+module _ (s : Setting) (true_to : IsFaithful s) (table : Table) (good : IsGoodTable s.program table)
+    (node : RankNode) (h : AcceptsRank s table node) (start : List ℤ) where
   -- the positive part of the function where the run stands at a source of the set, else 0
   abbrev level : Config → ℕ
   level c = cond (is_left_by s.program node.set (Some c.at))
@@ -115,7 +115,7 @@ module _ (s : Setting) (true_to : IsFaithful s) (facts : List Fact) (good : All 
 
   -- the function where an entry leads to, as a bound, and its value
   abbrev entry_weight : ℕ → Bound
-  entry_weight e = form_bound (rank_form node.forms (target_of s.program e)) node.den (sizes_after (size_in facts) e)
+  entry_weight e = form_bound (rank_form node.forms (target_of s.program e)) node.den (sizes_after table.size e)
 
   abbrev weight : ℕ → ℕ
   weight e = val (entry_weight e) (sizes_of_start start)
@@ -153,8 +153,8 @@ module _ (s : Setting) (true_to : IsFaithful s) (facts : List Fact) (good : All 
           node.den * weight (last_rule steps) =
           positive_part-covered node.den h.shape.den (sizes_of_start start)
           (rank_form node.forms (target_of s.program (last_rule steps)))
-          (sizes_after (size_in facts) (last_rule steps)) (values_at c)
-          (λ j n. let size = known-size s.program facts good (last_rule steps) (suc j)
+          (sizes_after table.size (last_rule steps)) (values_at c)
+          (λ j n. let size = known-size s.program table good (last_rule steps) (suc j)
           (h.sizes (last_rule steps) entry j n) in size.each start steps c run refl) in
           rw e (le_trans (subst
           (λ (o : Option ℕ). positive_part (value_at (rank_form node.forms o) c) ≤ node.den * weight
@@ -299,29 +299,29 @@ module _ (s : Setting) (true_to : IsFaithful s) (facts : List Fact) (good : All 
 
   -- the strict rule occurs at most as often as the composed time says
   pub composed_time : (steps : List Step) (c : Config) → RunTo steps c
-      → count node.rule steps ≤ val (rank_time s node facts) (sizes_of_start start)
+      → count node.rule steps ≤ val (rank_time s node table) (sizes_of_start start)
   composed_time steps c run =
       le_trans (cancelled node.den (count node.rule steps) (income weight listed steps) h.shape.den
       (omega (arith, paid RunTo level node.den node.rule weight listed paid_for steps c run)))
-      (income-bounded (λ e. known (time_in facts e)) entry_weight (sizes_of_start start) listed steps
-      (λ e k. let time = known-time s.program facts good e (h.times e k) in time.each start steps c run))
+      (income-bounded (λ e. known (table.time e)) entry_weight (sizes_of_start start) listed steps
+      (λ e k. let time = known-time s.program table good e (h.times e k) in time.each start steps c run))
     where
       cancelled : (q a b : ℕ) → 1 ≤ q → q * a ≤ q * b → a ≤ b
       cancelled q a b l k = let turned : a * q ≤ b * q = omega (arith, k) in le_of_mul-le-mul_right turned l
 
   -- what an accepted ranking node composes has bases of at least 1
-  rank_time-based : IsBased (rank_time s node facts)
+  rank_time-based : IsBased (rank_time s node table)
   rank_time-based = (
     tt,
-    parts_for-based (entry_bound s.program node (time_in facts) (size_in facts))
+    parts_for-based (entry_bound s.program node table.time table.size)
         (λ e. (
           tt,
           (
-            known_time-based s.program facts good e,
+            known_time-based s.program table good e,
             (
               rest_bound-based (rank_form node.forms (target_of s.program e)) node.den no_place
-                  (sizes_after (size_in facts) e)
-                  (λ j. known_size-based s.program facts good e (suc j)),
+                  (sizes_after table.size e)
+                  (λ j. known_size-based s.program table good e (suc j)),
               tt,
             ),
           ),
@@ -329,16 +329,16 @@ module _ (s : Setting) (true_to : IsFaithful s) (facts : List Fact) (good : All 
   )
 
 -- the fact of an accepted ranking node is good
-pub rank-good : (s : Setting) → IsFaithful s → (facts : List Fact) → All (IsGood s.program) facts → (node : RankNode)
-    → AcceptsRank s facts node
-    → IsGood s.program (Time node.rule (s.rewrite (rank_time s node facts)))
-rank-good s true_to facts good node h = record {
+pub rank-good : (s : Setting) → IsFaithful s → (table : Table) → IsGoodTable s.program table → (node : RankNode)
+    → AcceptsRank s table node
+    → IsGood s.program (Time node.rule (s.rewrite (rank_time s node table)))
+rank-good s true_to table good node h = record {
   holds = record {
     each = λ start steps c run.
         subst (λ (n : ℕ). count node.rule steps ≤ n)
-        (sym (true_to.values (rank_time s node facts) (rank_time-based s true_to facts good node h start)
+        (sym (true_to.values (rank_time s node table) (rank_time-based s true_to table good node h start)
         (sizes_of_start start)))
-        (composed_time s true_to facts good node h start steps c run);
+        (composed_time s true_to table good node h start steps c run);
   };
-  based = true_to.bases (rank_time s node facts) (rank_time-based s true_to facts good node h []);
+  based = true_to.bases (rank_time s node table) (rank_time-based s true_to table good node h []);
 }

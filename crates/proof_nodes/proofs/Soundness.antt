@@ -6,11 +6,12 @@ use Rattle.model.specs.Bounds.{Constant}
 use Rattle.model.specs.Facts.{Fact, Time, Size, Holds}
 use Rattle.proof_nodes.specs.Nodes.{Proof, Cite, Start, Empty, Unreached, Never, Rank, Spread, Cycle, Weaken, Proofs, NoProof, AndProof}
 use Rattle.proof_nodes.specs.Setting.{Setting, IsFaithful}
+use Rattle.proof_nodes.specs.Known.{table_of}
 use Rattle.proof_nodes.specs.AcceptsRank.{rank_time}
 use Rattle.proof_nodes.specs.AcceptsSizes.{spread_size}
 use Rattle.proof_nodes.specs.Acceptance.{facts_of_lemma, facts_of, joined_facts, Accepts, AllAccepted, AcceptsFrom, facts_from, AcceptsLemmas, facts_of_lemmas}
 use Rattle.proof_nodes.specs.Laws.{AcceptedFactsHold, HasBasedBound, AcceptedBoundsAreBased}
-use Rattle.proof_nodes.proofs.GoodFacts.{IsGood}
+use Rattle.proof_nodes.proofs.GoodFacts.{IsGood, table-good}
 use Rattle.proof_nodes.proofs.Unrun.{empty-good, unreached-good, never-good}
 use Rattle.proof_nodes.proofs.Weaker.{start-good, weaken-good}
 use Rattle.proof_nodes.proofs.Ranking.{rank-good}
@@ -45,12 +46,12 @@ module _ (s : Setting) (true_to : IsFaithful s) (past : List (List Fact)) (good 
         (unreached-good s.program (joined_facts s past uses) (uses-good uses h.0) t h.1)
     node-good (Never child) h = never-good s.program (facts_of s past child) (node-good child h.0) h.1
     node-good (Rank node uses) h =
-        one_good s.program (Time node.rule (s.rewrite (rank_time s node (joined_facts s past uses))))
-        (rank-good s true_to (joined_facts s past uses) (uses-good uses h.0) node h.1)
+        one_good s.program (Time node.rule (s.rewrite (rank_time s node (table_of (joined_facts s past uses)))))
+        (rank-good s true_to (table_of (joined_facts s past uses)) (table-good s.program (joined_facts s past uses) (uses-good uses h.0)) node h.1)
     node-good (Spread m uses) h =
-        one_good s.program (Size m.spot.rule m.spot.place (s.rewrite (spread_size s (joined_facts s past uses) m)))
-        (spread-good s true_to (joined_facts s past uses) (uses-good uses h.0) m h.1)
-    node-good (Cycle members uses) h = cycle-good s true_to (joined_facts s past uses) (uses-good uses h.0) members h.1
+        one_good s.program (Size m.spot.rule m.spot.place (s.rewrite (spread_size s (table_of (joined_facts s past uses)) m)))
+        (spread-good s true_to (table_of (joined_facts s past uses)) (table-good s.program (joined_facts s past uses) (uses-good uses h.0)) m h.1)
+    node-good (Cycle members uses) h = cycle-good s true_to (table_of (joined_facts s past uses)) (table-good s.program (joined_facts s past uses) (uses-good uses h.0)) members h.1
     node-good (Weaken child b) h = weaken-good s true_to (facts_of s past child) (node-good child h.0) b h.1
 
     uses-good : (uses : Proofs) → AllAccepted s past uses → AreGood s.program (joined_facts s past uses)

@@ -1,24 +1,24 @@
 -- Why the size of an accepted spread holds: what can come before has its sizes, and both arms are over the new value.
-use Rattle.std.proofs.Common.{◌≡◌, ◌⊎◌, inl, inr, ℕ, suc, ◌+◌, ◌*◌, ◌≤◌, max, true, false, List, [], ◌∷◌, length, Option, Some, None, refl, sym, ap, ◌∙◌, subst, arith, All, le_trans}
+use Rattle.std.proofs.Common.{◌≡◌, ◌⊎◌, inl, inr, ℕ, suc, ◌+◌, ◌*◌, ◌≤◌, max, true, false, List, [], ◌∷◌, length, Option, Some, None, refl, sym, ap, ◌∙◌, subst, arith, le_trans}
 use Rattle.std.specs.Prelude.{ℤ, pos, neg_ℤ, ◌≤ℤ◌, nat_abs}
 use Rattle.std.proofs.lemmas.Int.{ints}
 use Rattle.model.specs.Programs.{Program, rule_at}
 use Rattle.model.specs.Runs.{Config, Step, IsStep, IsRun, last_rule, place_value, sizes_of_start}
 use Rattle.model.specs.Bounds.{Bound, val, val_maximum, IsBased}
 use Rattle.model.specs.Polynomials.{Polynomial}
-use Rattle.model.specs.Facts.{Fact, Size}
+use Rattle.model.specs.Facts.{Size}
 use Rattle.linear_forms.specs.Forms.{at}
 use Rattle.proof_nodes.specs.Nodes.{Spot, Arm, Linear, Poly, Member}
 use Rattle.proof_nodes.specs.Numbers.{is_in}
 use Rattle.model.specs.Paths.{pre}
-use Rattle.proof_nodes.specs.Known.{size_in}
+use Rattle.proof_nodes.specs.Known.{Table}
 use Rattle.proof_nodes.specs.Setting.{Setting, StepPoint, IsFaithful}
 use Rattle.proof_nodes.specs.Composed.{parts_for, no_place, sizes_after}
 use Rattle.proof_nodes.specs.ComposedSizes.{poly_at, reads, slope_of, offset_of, arm_bound, spread_part}
 use Rattle.proof_nodes.specs.AcceptsSizes.{Up, Low, Side, IsSpot, HasArmShape, AcceptsArm, left_in, left_of, ArmHasSizes, HasSizesAfter, spread_size, AcceptsSpread}
 use Rattle.proof_nodes.proofs.Membership.{is_in-cases, no_is_not_yes}
 use Rattle.proof_nodes.proofs.LastSteps.{last_precedes}
-use Rattle.proof_nodes.proofs.GoodFacts.{IsGood, known-size, known_size-based}
+use Rattle.proof_nodes.proofs.GoodFacts.{IsGood, IsGoodTable, known-size, known_size-based}
 use Rattle.proof_nodes.proofs.Bases.{parts_for-based, arm_bound-based}
 use Rattle.proof_nodes.proofs.AbsoluteValues.{abs-within}
 use Rattle.proof_nodes.proofs.Arms.{on_side, StaysOutside, arm-covered}
@@ -62,29 +62,29 @@ whole_arm : (o : Option Polynomial) (arm : Arm) (sizes : ℕ → Bound) (m : Lis
 whole_arm o (Linear den form multipliers) sizes m = refl
 whole_arm o Poly sizes m = refl
 
-module _ (s : Setting) (true_to : IsFaithful s) (facts : List Fact) (good : All (IsGood s.program) facts) (m : Member)
-    (h : AcceptsSpread s facts m) where
+module _ (s : Setting) (true_to : IsFaithful s) (table : Table) (good : IsGoodTable s.program table) (m : Member)
+    (h : AcceptsSpread s table m) where
   -- an accepted arm, at the sizes after the rule before, is over the new value on its side
   spread_arm : (start : List ℤ) (earlier : List Step) (b : Config) (st : Step) (c : Config)
       → IsRun s.program start earlier b → IsStep s.program b st c → st.rule ≡ m.spot.rule
       → is_in (last_rule earlier) (pre s.program m.spot.rule) ≡ true
       → (side : Side) (arm : Arm) → HasArmShape s m.spot.rule (left_of s.program m.spot.rule) arm
       → AcceptsArm s m.spot side arm
-      → ArmHasSizes s facts [] m.spot arm (last_rule earlier)
+      → ArmHasSizes s table [] m.spot arm (last_rule earlier)
       → on_side side (place_value c m.spot.place) ≤ℤ pos
-      (val (arm_bound (poly_at s m.spot) arm (sizes_after (size_in facts) (last_rule earlier)))
+      (val (arm_bound (poly_at s m.spot) arm (sizes_after table.size (last_rule earlier)))
       (sizes_of_start start))
   spread_arm start earlier b st c run x same before side arm shape accepted sizes =
       let size : (j : ℕ) → reads (poly_at s m.spot) arm j ≡ true → no_place j ≡ false
-      → nat_abs (at b.values j) ≤ val (sizes_after (size_in facts) (last_rule earlier) j) (sizes_of_start start) =
-      λ j k l. let fact = known-size s.program facts good (last_rule earlier) (suc j)
+      → nat_abs (at b.values j) ≤ val (sizes_after table.size (last_rule earlier) j) (sizes_of_start start) =
+      λ j k l. let fact = known-size s.program table good (last_rule earlier) (suc j)
       (sizes j k refl) in fact.each start earlier b run refl in
       plain (on_side side (place_value c m.spot.place)) (slope_of arm no_place) _ _
       (arm-covered s m.spot b st.free c (point_of s true_to b st c x m.spot.rule same) h.shape.at.least
       (left_values s.program b st c x m.spot.rule same)
-      no_place 0 (sizes_after (size_in facts) (last_rule earlier)) (sizes_of_start start)
+      no_place 0 (sizes_after table.size (last_rule earlier)) (sizes_of_start start)
       (λ j k. absurd (no_is_not_yes false refl k)) side arm shape accepted size (stays_out s m.spot arm))
-      (whole_arm (poly_at s m.spot) arm (sizes_after (size_in facts) (last_rule earlier)) (sizes_of_start start))
+      (whole_arm (poly_at s m.spot) arm (sizes_after table.size (last_rule earlier)) (sizes_of_start start))
     where
       plain : (v : ℤ) (k n o : ℕ) → v ≤ℤ pos (k * 0 + n) → n ≡ o → v ≤ℤ pos o
       plain v k n o l e = omega (arith, ints, l, e)
@@ -92,18 +92,18 @@ module _ (s : Setting) (true_to : IsFaithful s) (facts : List Fact) (good : All 
   -- the new value of a step is within the maximum over what can come before
   spread_step : (start : List ℤ) (earlier : List Step) (b : Config) (st : Step) (c : Config)
       → IsRun s.program start earlier b → IsStep s.program b st c → st.rule ≡ m.spot.rule
-      → nat_abs (place_value c m.spot.place) ≤ val (spread_size s facts m) (sizes_of_start start)
+      → nat_abs (place_value c m.spot.place) ≤ val (spread_size s table m) (sizes_of_start start)
   spread_step start earlier b st c run x same =
       let before : is_in (last_rule earlier) (pre s.program m.spot.rule) ≡ true =
       subst (λ (t : ℕ). is_in (last_rule earlier) (pre s.program t) ≡ true) same
       (last_precedes s.program start earlier b st c run x) in
-      let sizes : HasSizesAfter s facts [] m (last_rule earlier) = h.sizes (last_rule earlier) before in
+      let sizes : HasSizesAfter s table [] m (last_rule earlier) = h.sizes (last_rule earlier) before in
       let up = spread_arm start earlier b st c run x same before Up m.local.up h.shape.up h.up
       sizes.up in
       let low = spread_arm start earlier b st c run x same before Low m.local.low h.shape.low h.low
       sizes.low in
       le_trans (either (place_value c m.spot.place) _ _ up low)
-      (listed_below (spread_part s m (size_in facts)) (pre s.program m.spot.rule) (sizes_of_start start)
+      (listed_below (spread_part s m table.size) (pre s.program m.spot.rule) (sizes_of_start start)
       (last_rule earlier) before)
     where
       either : (v : ℤ) (a b : ℕ) → v ≤ℤ pos a → neg_ℤ v ≤ℤ pos b → nat_abs v ≤ max a (max b 0)
@@ -112,23 +112,23 @@ module _ (s : Setting) (true_to : IsFaithful s) (facts : List Fact) (good : All 
   -- the size holds after every run that ends with the rule
   spread_holds : (start : List ℤ) (steps : List Step) (c : Config) → IsRun s.program start steps c
       → last_rule steps ≡ m.spot.rule
-      → nat_abs (place_value c m.spot.place) ≤ val (spread_size s facts m) (sizes_of_start start)
+      → nat_abs (place_value c m.spot.place) ≤ val (spread_size s table m) (sizes_of_start start)
   spread_holds start [] c run same = absurd (no_empty_run s.program m.spot h.shape.at same)
   spread_holds start (st ∷ earlier) c (b, run, x) same = spread_step start earlier b st c run x same
 
   -- what an accepted spread composes has bases of at least 1
-  spread_size-based : IsBased (spread_size s facts m)
+  spread_size-based : IsBased (spread_size s table m)
   spread_size-based = (
     tt,
-    parts_for-based (spread_part s m (size_in facts))
+    parts_for-based (spread_part s m table.size)
         (λ e. (
           tt,
           (
-            arm_bound-based (poly_at s m.spot) m.local.up (sizes_after (size_in facts) e)
-                (λ j. known_size-based s.program facts good e (suc j)),
+            arm_bound-based (poly_at s m.spot) m.local.up (sizes_after table.size e)
+                (λ j. known_size-based s.program table good e (suc j)),
             (
-              arm_bound-based (poly_at s m.spot) m.local.low (sizes_after (size_in facts) e)
-                  (λ j. known_size-based s.program facts good e (suc j)),
+              arm_bound-based (poly_at s m.spot) m.local.low (sizes_after table.size e)
+                  (λ j. known_size-based s.program table good e (suc j)),
               tt,
             ),
           ),
@@ -136,13 +136,13 @@ module _ (s : Setting) (true_to : IsFaithful s) (facts : List Fact) (good : All 
   )
 
   -- the fact of an accepted spread is good
-  pub spread-good : IsGood s.program (Size m.spot.rule m.spot.place (s.rewrite (spread_size s facts m)))
+  pub spread-good : IsGood s.program (Size m.spot.rule m.spot.place (s.rewrite (spread_size s table m)))
   spread-good = record {
     holds = record {
       each = λ start steps c run last.
           subst (λ (n : ℕ). nat_abs (place_value c m.spot.place) ≤ n)
-          (sym (true_to.values (spread_size s facts m) spread_size-based (sizes_of_start start)))
+          (sym (true_to.values (spread_size s table m) spread_size-based (sizes_of_start start)))
           (spread_holds start steps c run last);
     };
-    based = true_to.bases (spread_size s facts m) spread_size-based;
+    based = true_to.bases (spread_size s table m) spread_size-based;
   }

@@ -113,7 +113,7 @@ steps_may_run p facts good start (s ∷ earlier) c (b, run, step) =
     go false e = not_from_false (has_zero_time facts s.rule) e
 
 -- a rule whose source isn't reached is never used
-pub unreached-good : (p : Program) (facts : List Fact) → All (IsGood p) facts → (t : ℕ) → AcceptsUnreached p facts t
+pub unreached-good : (p : Program) (facts : List Fact) → All (IsGood p) facts → (t : ℕ) → AcceptsUnreached p (may_run facts) t
     → IsGood p (Time t (Constant 0))
 unreached-good p facts good t h = record {
   holds = record {
@@ -136,7 +136,7 @@ unreached-good p facts good t h = record {
     unreached : (start : List ℤ) (earlier : List Step) (b : Config) (st : Step) (d : Config) → IsRun p start earlier b
         → IsStep p b st d → st.rule ≡ t → ⊥
     unreached start earlier b st d r x same =
-        h.reached (subst (λ (a : ℕ). IsReached p (may_run facts) a)
+        h.reached h.shape.rule h.shape.numbered (subst (λ (a : ℕ). IsReached p (may_run facts) a)
         (x.leads.source ∙ ap (λ (q : Rule). q.source)
         (same_rule st.rule t x.rule h.shape.rule same x.numbered h.shape.numbered))
         (reached p (may_run facts) start earlier b r (steps_may_run p facts good start earlier b r)))

@@ -12,7 +12,7 @@ use Rattle.proof_nodes.specs.Nodes.{Arm, SymbolForm, Member, Cite, AndProof}
 use Rattle.proof_nodes.specs.ComposedSizes.{poly_at, reads, Flow, flows, is_member, multiplies, adds}
 use Rattle.proof_nodes.specs.Numbers.{is_in}
 use Rattle.proof_nodes.specs.Limits.{IsInLimit, IsFormInLimit}
-use Rattle.proof_nodes.specs.Known.{IsKnown, time_in, size_in}
+use Rattle.proof_nodes.specs.Known.{IsKnown, time_in, size_in, table_of}
 use Rattle.proof_nodes.specs.Setting.{Setting}
 use Rattle.proof_nodes.specs.Acceptance.{Accepts, AcceptsLemmas}
 use Rattle.proof_nodes.specs.AcceptsPlain.{IsRule, AreMultipliers}
@@ -50,17 +50,17 @@ one_place a c h k = record {
 }
 
 -- no multiplier, and one
-none_needed : (t : ℕ) → length (counting.rows t) ≡ 0 → AreMultipliers counting t []
+pub none_needed : (t : ℕ) → length (counting.rows t) ≡ 0 → AreMultipliers counting t []
 none_needed t h = record { long = sym h; limit = All-nil IsInLimit }
 
-one_needed : (m : ℕ) → m ≤ 1 → AreMultipliers counting 2 (m ∷ [])
+pub one_needed : (m : ℕ) → m ≤ 1 → AreMultipliers counting 2 (m ∷ [])
 one_needed m h = record { long = refl; limit = All-cons IsInLimit m [] (small m h) (All-nil IsInLimit) }
 
 -- the rules of the program
-is_enter : IsRule counting.program 1
+pub is_enter : IsRule counting.program 1
 is_enter = record { rule = enter; numbered = refl }
 
-is_count_down : IsRule counting.program 2
+pub is_count_down : IsRule counting.program 2
 is_count_down = record { rule = count_down; numbered = refl }
 
 -- a certificate over one unknown
@@ -88,12 +88,12 @@ never_yes : {P : Type 0} → false ≡ true → P
 never_yes e = absurd (no_is_not_yes false refl e)
 
 -- a symbol's form with small numbers
-shaped : (symbol : ℕ) (a c : ℤ) → arity_of counting.program symbol ≡ 1 → nat_abs a ≤ 1 → nat_abs c ≤ 1
+pub shaped : (symbol : ℕ) (a c : ℤ) → arity_of counting.program symbol ≡ 1 → nat_abs a ≤ 1 → nat_abs c ≤ 1
     → HasFormShape counting.program (at_symbol symbol a c)
 shaped symbol a c e h k = record { long = sym e; limit = one_place a c h k }
 
 -- two forms
-two_forms : (f g : SymbolForm) → HasFormShape counting.program f → HasFormShape counting.program g
+pub two_forms : (f g : SymbolForm) → HasFormShape counting.program f → HasFormShape counting.program g
     → All (HasFormShape counting.program) (f ∷ g ∷ [])
 two_forms f g h k = All-cons (HasFormShape counting.program) f (g ∷ []) h
     (All-cons (HasFormShape counting.program) g [] k (All-nil (HasFormShape counting.program)))
@@ -103,7 +103,7 @@ abbrev start_facts_here : List Fact
 start_facts_here = Time 0 (Constant 1) ∷ Size 0 1 (Input 0) ∷ []
 
 -- the first lemma
-once_accepted : Accepts counting [] once
+pub once_accepted : Accepts counting [] once
 once_accepted = (
   (tt, tt),
   record {
@@ -132,7 +132,7 @@ once_accepted = (
 )
 
 -- the second lemma
-down_accepted : (past : List (List Fact)) → Accepts counting past (down (0 ∷ []) (1 ∷ []))
+pub down_accepted : (past : List (List Fact)) → Accepts counting past (down (0 ∷ []) (1 ∷ []))
 down_accepted past = (
   (tt, tt),
   record {
@@ -164,7 +164,7 @@ down_accepted past = (
 )
 
 -- the shape of an arm of these members
-arm_shape : (t : ℕ) (a : ℤ) (multipliers : List ℕ) → left_of counting.program t ≡ 1 → nat_abs a ≤ 1
+pub arm_shape : (t : ℕ) (a : ℤ) (multipliers : List ℕ) → left_of counting.program t ≡ 1 → nat_abs a ≤ 1
     → AreMultipliers counting t multipliers
     → HasLinearShape counting t (left_of counting.program t) 1 (form (a ∷ []) (pos 0)) multipliers
 arm_shape t a multipliers e h k =
@@ -188,7 +188,7 @@ pub sized : (s : Setting) (facts : List Fact) (members : List Member) (m : Membe
     → (is_member members e 0 ≡ false → IsKnown (size_in facts e 1))
     → poly_at s m.spot ≡ None
     → ((j : ℕ) → reads None m.local.up (suc j) ≡ false) → ((j : ℕ) → reads None m.local.low (suc j) ≡ false)
-    → HasSizesAfter s facts members m e
+    → HasSizesAfter s (table_of facts) members m e
 sized s facts members m e h flat up low = record {
   up = λ j k l. reads_one m.local.up P h up j (rw flat at k) l;
   low = λ j k l. reads_one m.local.low P h low j (rw flat at k) l;
@@ -198,7 +198,7 @@ sized s facts members m e h flat up low = record {
     P j = is_member members e j ≡ false → IsKnown (size_in facts e (suc j))
 
 -- the third lemma
-entered_accepted : (past : List (List Fact)) → Accepts counting past entered
+pub entered_accepted : (past : List (List Fact)) → Accepts counting past entered
 entered_accepted past = (
   (tt, tt),
   record {
@@ -209,7 +209,7 @@ entered_accepted past = (
     };
     up = implies_one [] [] _ refl refl (λ u. refl) (omega (arith, ints));
     low = implies_one [] [] _ refl refl (λ u. refl) (omega (arith, ints));
-    sizes = of_one (HasSizesAfter counting start_facts_here [] entered_member) 0
+    sizes = of_one (HasSizesAfter counting (table_of start_facts_here) [] entered_member) 0
         (sized counting start_facts_here [] entered_member 0 (λ k. (Input 0, refl)) refl (λ j. refl) (λ j. refl));
     small = record { before = refl; after = refl };
   },
@@ -244,8 +244,8 @@ looped_accepted = (
         (implies_one (counting.rows 2) (0 ∷ []) _ refl refl (λ u. refl) (omega (arith, ints)));
     low = of_member (AcceptsLow counting)
         (implies_one (counting.rows 2) (1 ∷ []) _ refl refl (λ u. refl) (omega (arith, ints)));
-    sizes = of_member (HasSizesBefore counting cited_size (looped_member ∷ []))
-        (of_two (HasSizesAfter counting cited_size (looped_member ∷ []) looped_member) 1 2
+    sizes = of_member (HasSizesBefore counting (table_of cited_size) (looped_member ∷ []))
+        (of_two (HasSizesAfter counting (table_of cited_size) (looped_member ∷ []) looped_member) 1 2
         (sized counting cited_size (looped_member ∷ []) looped_member 1 (λ k. (entered_size, refl)) refl (λ j. refl)
         (λ j. refl))
         (sized counting cited_size (looped_member ∷ []) looped_member 2 (λ k. absurd (no_is_not_yes true k refl)) refl

@@ -1,5 +1,5 @@
 -- Mistakes that acceptance refuses, and what it accepts beside them.
-use Rattle.std.proofs.Common.{◌≡◌, ℕ, zero, suc, ◌<◌, List, [], ◌∷◌, Some, None, refl, ap, subst, arith}
+use Rattle.std.proofs.Common.{◌≡◌, ℕ, zero, suc, ◌<◌, List, [], ◌∷◌, Some, None, refl, sym, ap, subst, arith}
 use Rattle.std.specs.Prelude.{pos, negsuc}
 use Rattle.std.proofs.lemmas.Int.{ints}
 use Rattle.model.specs.Terms.{Variable}
@@ -37,16 +37,9 @@ pub time_of_entry : ¬ (Accepts counting first_and_size (down_alone (AndProof St
 time_of_entry h = let time = h.1.times 1 refl in nothing_known time.0 time.1
 
 pub reached : ¬ (Accepts counting [] (Unreached 2 NoProof))
-reached h = h.1.reached
-    (subst (λ (q : Rule). IsReached counting.program (may_run []) q.source) same
-    (Onward (Here refl)
-    (record { number = 1; rule = enter; numbered = refl; allowed = refl; source = refl; target = refl })))
-  where
-    same : count_down ≡ h.1.shape.rule
-    same = let e : rule_at counting.program 2 ≡ Some h.1.shape.rule = h.1.shape.numbered in some_same e
-      where
-        some_same : Some count_down ≡ Some h.1.shape.rule → count_down ≡ h.1.shape.rule
-        some_same e = cc
+reached h =
+    h.1.reached count_down refl (Onward (Here refl)
+    (record { number = 1; rule = enter; numbered = refl; allowed = refl; source = refl; target = refl }))
 
 -- only the first two symbols are reached
 reached_below : (a : ℕ) → IsReached apart.program (may_run []) a → a < 2
@@ -79,9 +72,18 @@ unreached = (
   record {
     shape = record { rule = rule_over 2 2 0 (Variable 0) []; numbered = refl };
     reached =
-        λ k. omega (arith, reached_below 2 k);
+        λ r e k. omega (arith, reached_below 2 (subst (λ (q : Rule). IsReached apart.program (may_run []) q.source) (same r e) k));
   },
 )
+  where
+    same : (r : Rule) → rule_at apart.program 2 ≡ Some r → r ≡ rule_over 2 2 0 (Variable 0) []
+    same r e = turned (some_same e)
+      where
+        some_same : Some (rule_over 2 2 0 (Variable 0) []) ≡ Some r → rule_over 2 2 0 (Variable 0) [] ≡ r
+        some_same k = cc
+
+        turned : rule_over 2 2 0 (Variable 0) [] ≡ r → r ≡ rule_over 2 2 0 (Variable 0) []
+        turned k = sym k
 
 pub free_is_not_0 : (multipliers : List ℕ)
     → ¬ (AcceptsArm guessing (record { rule = 1; place = 1 }) Up (arm (pos 1) (pos 0) multipliers))

@@ -9,7 +9,7 @@ use Rattle.model.specs.Facts.{Fact, Time, Size}
 use Rattle.linear_forms.specs.Certificates.{combined_coef}
 use Rattle.proof_nodes.specs.Nodes.{Poly, Member, Spread, Cycle, Cite, Start, AndProof}
 use Rattle.proof_nodes.specs.Limits.{IsInLimit}
-use Rattle.proof_nodes.specs.Known.{IsKnown, time_in, size_in}
+use Rattle.proof_nodes.specs.Known.{IsKnown, time_in, size_in, table_of}
 use Rattle.proof_nodes.specs.ComposedSizes.{reads, Flow, flows, multiplies, adds}
 use Rattle.proof_nodes.specs.AcceptsPlain.{start_facts}
 use Rattle.proof_nodes.specs.AcceptsSizes.{HasLinearShape, HasMemberShape, AcceptsUp, AcceptsLow, IsPolynomialUpdate, ArmHasSizes, HasSizesAfter, HasSizesBefore, IsStraight}
@@ -27,9 +27,17 @@ below_one : All (λ (v : ℕ). v < 1) (0 ∷ 0 ∷ [])
 below_one = All-cons (λ (v : ℕ). v < 1) 0 (0 ∷ []) (omega arith)
     (All-cons (λ (v : ℕ). v < 1) 0 [] (omega arith) (All-nil (λ (v : ℕ). v < 1)))
 
--- the update of the first rule is the square
+-- the update of either rule is the square
 is_square : IsPolynomialUpdate squaring (bent_member 1).spot
 is_square = record {
+  polynomial = square;
+  bent = refl;
+  left_alone = All-cons (λ (m : Monomial). All (λ (v : ℕ). v < 1) m.vars) (record { coef = pos 1; vars = 0 ∷ 0 ∷ [] }) []
+      below_one (All-nil (λ (m : Monomial). All (λ (v : ℕ). v < 1) m.vars));
+}
+
+pub is_square_too : IsPolynomialUpdate squaring (bent_member 2).spot
+is_square_too = record {
   polynomial = square;
   bent = refl;
   left_alone = All-cons (λ (m : Monomial). All (λ (v : ℕ). v < 1) m.vars) (record { coef = pos 1; vars = 0 ∷ 0 ∷ [] }) []
@@ -46,7 +54,7 @@ no_other_place j k = go (suc j == 0) refl
         no_is_not_yes (reads (Some square) Poly (suc j)) (ap (λ (v : Bool). (v || (v || false)) || false) e) k
 
 -- that place has its size after the virtual entry
-square_sizes : ArmHasSizes squaring (start_facts squaring.program) [] (bent_member 1).spot Poly 0
+square_sizes : ArmHasSizes squaring (table_of (start_facts squaring.program)) [] (bent_member 1).spot Poly 0
 square_sizes zero k l = (Input 0, refl)
 square_sizes (suc j) k l = absurd (no_other_place j k)
 
@@ -67,7 +75,7 @@ poly = (
     };
     up = is_square;
     low = is_square;
-    sizes = of_one (HasSizesAfter squaring (start_facts squaring.program) [] (bent_member 1)) 0
+    sizes = of_one (HasSizesAfter squaring (table_of (start_facts squaring.program)) [] (bent_member 1)) 0
         (record { up = square_sizes; low = square_sizes });
     small = record { before = refl; after = refl };
   },
@@ -83,8 +91,8 @@ bent h =
 -- a loop without the size that comes in
 loop_size : ¬ (Accepts counting [] (Cycle (looped_member ∷ []) (only Start)))
 loop_size h =
-    let sizes : HasSizesBefore counting (start_facts counting.program) (looped_member ∷ []) looped_member =
-    All-head (HasSizesBefore counting (start_facts counting.program) (looped_member ∷ [])) looped_member [] h.1.sizes in
+    let sizes : HasSizesBefore counting (table_of (start_facts counting.program)) (looped_member ∷ []) looped_member =
+    All-head (HasSizesBefore counting (table_of (start_facts counting.program)) (looped_member ∷ [])) looped_member [] h.1.sizes in
     let size = (sizes 1 refl).up 0 refl refl in nothing_known size.0 size.1
 
 -- the numbers of an arm that doubles are within the limit
@@ -131,8 +139,8 @@ with_time = (
     };
     up = of_doubled (AcceptsUp doubling) (implies_one [] [] _ refl refl (λ u. refl) (omega (arith, ints)));
     low = of_doubled (AcceptsLow doubling) (implies_one [] [] _ refl refl (λ u. refl) (omega (arith, ints)));
-    sizes = of_doubled (HasSizesBefore doubling size_with_time doubled)
-        (of_two (HasSizesAfter doubling size_with_time doubled doubled_member) 1 2
+    sizes = of_doubled (HasSizesBefore doubling (table_of size_with_time) doubled)
+        (of_two (HasSizesAfter doubling (table_of size_with_time) doubled doubled_member) 1 2
         (sized doubling size_with_time doubled doubled_member 1 (λ k. (Input 0, refl)) refl (λ j. refl) (λ j. refl))
         (sized doubling size_with_time doubled doubled_member 2 (λ k. absurd (no_is_not_yes true k refl)) refl
         (λ j. refl) (λ j. refl)));

@@ -3,7 +3,8 @@ use Rattle.std.specs.Prelude.{ℕ, zero, suc, List, [], ◌∷◌, ◌++◌, ⊤
 use Rattle.model.specs.Bounds.{Constant}
 use Rattle.model.specs.Facts.{Fact, Time, Size}
 use Rattle.proof_nodes.specs.Nodes.{Proof, Cite, Start, Empty, Unreached, Never, Rank, Spread, Cycle, Weaken, Proofs, NoProof, AndProof}
-use Rattle.proof_nodes.specs.AcceptsPlain.{AcceptsCite, AcceptsEmpty, AcceptsUnreached, AcceptsNever, AcceptsWeaken, start_facts, never_facts, weakened}
+use Rattle.proof_nodes.specs.Known.{table_of}
+use Rattle.proof_nodes.specs.AcceptsPlain.{AcceptsCite, AcceptsEmpty, AcceptsUnreached, AcceptsNever, AcceptsWeaken, may_run, start_facts, never_facts, weakened}
 use Rattle.proof_nodes.specs.AcceptsRank.{AcceptsRank, rank_time}
 use Rattle.proof_nodes.specs.AcceptsSizes.{AcceptsSpread, AcceptsCycle, spread_size, cycle_size, cycle_facts}
 use Rattle.proof_nodes.specs.Setting.{Setting}
@@ -23,29 +24,42 @@ abbrev mutual
   facts_of s past (Empty t multipliers) = Time t (Constant 0) ∷ []
   facts_of s past (Unreached t uses) = Time t (Constant 0) ∷ []
   facts_of s past (Never child) = never_facts s.program (facts_of s past child)
-  facts_of s past (Rank node uses) = Time node.rule (s.rewrite (rank_time s node (joined_facts s past uses))) ∷ []
+  facts_of s past (Rank node uses) =
+      Time node.rule (s.rewrite (rank_time s node (table_of (joined_facts s past uses)))) ∷ []
   facts_of s past (Spread m uses) =
-      Size m.spot.rule m.spot.place (s.rewrite (spread_size s (joined_facts s past uses) m)) ∷ []
+      Size m.spot.rule m.spot.place (s.rewrite (spread_size s (table_of (joined_facts s past uses)) m)) ∷ []
   facts_of s past (Cycle members uses) =
-      cycle_facts (s.rewrite (cycle_size s (joined_facts s past uses) members)) members
+      cycle_facts (s.rewrite (cycle_size s (table_of (joined_facts s past uses)) members)) members
   facts_of s past (Weaken child b) = weakened (facts_of s past child) b
 
   pub joined_facts : Setting → List (List Fact) → Proofs → List Fact
   joined_facts s past NoProof = []
   joined_facts s past (AndProof proof uses) = facts_of s past proof ++ joined_facts s past uses
 
--- a node is accepted after lemmas with these facts: all that it rests on is, and the node itself is
+-- a node itself is accepted after lemmas with these facts, where all that it rests on is
+abbrev pub AcceptsNode : Setting → List (List Fact) → Proof → Type 0
+AcceptsNode s past (Cite n) = AcceptsCite past n
+AcceptsNode s past Start = ⊤
+AcceptsNode s past (Empty t multipliers) = AcceptsEmpty s t multipliers
+AcceptsNode s past (Unreached t uses) = AcceptsUnreached s.program (may_run (joined_facts s past uses)) t
+AcceptsNode s past (Never child) = AcceptsNever (facts_of s past child)
+AcceptsNode s past (Rank node uses) = AcceptsRank s (table_of (joined_facts s past uses)) node
+AcceptsNode s past (Spread m uses) = AcceptsSpread s (table_of (joined_facts s past uses)) m
+AcceptsNode s past (Cycle members uses) = AcceptsCycle s (table_of (joined_facts s past uses)) members
+AcceptsNode s past (Weaken child b) = AcceptsWeaken s (facts_of s past child) b
+
+-- a proof is accepted after lemmas with these facts: all that it rests on is, and its node itself is
 abbrev mutual
   pub Accepts : Setting → List (List Fact) → Proof → Type 0
-  Accepts s past (Cite n) = AcceptsCite past n
-  Accepts s past Start = ⊤
-  Accepts s past (Empty t multipliers) = AcceptsEmpty s t multipliers
-  Accepts s past (Unreached t uses) = AllAccepted s past uses × AcceptsUnreached s.program (joined_facts s past uses) t
-  Accepts s past (Never child) = Accepts s past child × AcceptsNever (facts_of s past child)
-  Accepts s past (Rank node uses) = AllAccepted s past uses × AcceptsRank s (joined_facts s past uses) node
-  Accepts s past (Spread m uses) = AllAccepted s past uses × AcceptsSpread s (joined_facts s past uses) m
-  Accepts s past (Cycle members uses) = AllAccepted s past uses × AcceptsCycle s (joined_facts s past uses) members
-  Accepts s past (Weaken child b) = Accepts s past child × AcceptsWeaken s (facts_of s past child) b
+  Accepts s past (Cite n) = AcceptsNode s past (Cite n)
+  Accepts s past Start = AcceptsNode s past Start
+  Accepts s past (Empty t multipliers) = AcceptsNode s past (Empty t multipliers)
+  Accepts s past (Unreached t uses) = AllAccepted s past uses × AcceptsNode s past (Unreached t uses)
+  Accepts s past (Never child) = Accepts s past child × AcceptsNode s past (Never child)
+  Accepts s past (Rank node uses) = AllAccepted s past uses × AcceptsNode s past (Rank node uses)
+  Accepts s past (Spread m uses) = AllAccepted s past uses × AcceptsNode s past (Spread m uses)
+  Accepts s past (Cycle members uses) = AllAccepted s past uses × AcceptsNode s past (Cycle members uses)
+  Accepts s past (Weaken child b) = Accepts s past child × AcceptsNode s past (Weaken child b)
 
   pub AllAccepted : Setting → List (List Fact) → Proofs → Type 0
   AllAccepted s past NoProof = ⊤

@@ -41,10 +41,14 @@ pub record AcceptsEmpty (s : Setting) (t : ℕ) (multipliers : List ℕ) : Type 
 abbrev pub may_run : List Fact → ℕ → Bool
 may_run facts t = not (has_zero_time facts t)
 
+-- the source of a rule isn't reached by rules that are allowed
+abbrev pub IsUnreached : Program → (ℕ → Bool) → ℕ → Type 0
+IsUnreached p is_allowed t = (r : Rule) → rule_at p t ≡ Some r → ¬ (IsReached p is_allowed r.source)
+
 -- an unreached rule: its source isn't reached by rules that may run
-pub record AcceptsUnreached (p : Program) (facts : List Fact) (t : ℕ) : Type 0 where
+pub record AcceptsUnreached (p : Program) (is_allowed : ℕ → Bool) (t : ℕ) : Type 0 where
   pub shape : IsRule p t
-  pub reached : ¬ (IsReached p (may_run facts) shape.rule.source)
+  pub reached : IsUnreached p is_allowed t
 
 -- exactly one fact, a time of a rule over 0
 abbrev pub IsOneTime : List Fact → Type 0

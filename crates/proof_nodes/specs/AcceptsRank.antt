@@ -2,7 +2,6 @@
 use Rattle.std.specs.Prelude.{◌≡◌, ◌≢◌, ℕ, suc, ◌≤◌, ◌==◌, true, cond, List, [], ◌∷◌, length, map, All, ℤ, pos}
 use Rattle.model.specs.Programs.{Program, arity_of}
 use Rattle.model.specs.Bounds.{Bound}
-use Rattle.model.specs.Facts.{Fact}
 use Rattle.linear_forms.specs.Forms.{Form, at}
 use Rattle.linear_forms.specs.Certificates.{Implies}
 use Rattle.proof_nodes.specs.Nodes.{SymbolForm, RankNode}
@@ -10,7 +9,7 @@ use Rattle.proof_nodes.specs.Numbers.{is_in, IsAscending}
 use Rattle.model.specs.Paths.{source_of, target_of}
 use Rattle.proof_nodes.specs.Graph.{entries, symbols_of}
 use Rattle.proof_nodes.specs.Combined.{number_form, less, loss}
-use Rattle.proof_nodes.specs.Known.{IsKnown, time_in, size_in}
+use Rattle.proof_nodes.specs.Known.{IsKnown, Table}
 use Rattle.proof_nodes.specs.Composed.{rank_form, time_of}
 use Rattle.proof_nodes.specs.Limits.{IsInLimit, IsFormInLimit, IsSmallComposed}
 use Rattle.proof_nodes.specs.AcceptsPlain.{IsRule, AreMultipliers}
@@ -68,17 +67,17 @@ abbrev pub IsEntry : Setting → RankNode → ℕ → Type 0
 IsEntry s node e = is_in e (entries s.program node.set) ≡ true
 
 -- the time that the node composes
-abbrev pub rank_time : Setting → RankNode → List Fact → Bound
-rank_time s node facts = time_of s.program node (time_in facts) (size_in facts)
+abbrev pub rank_time : Setting → RankNode → Table → Bound
+rank_time s node table = time_of s.program node table.time table.size
 
 -- a ranking function: it doesn't rise by a rule of the set, by the strict rule it falls by at least 1 and is at least
 -- 1 before; each entry has a time, and a size at each place that the function reads after it; and the composed bound
 -- is small
-pub record AcceptsRank (s : Setting) (facts : List Fact) (node : RankNode) : Type 0 where
+pub record AcceptsRank (s : Setting) (table : Table) (node : RankNode) : Type 0 where
   pub shape : HasRankShape s node
   pub moves : (t : ℕ) → is_in t node.set ≡ true → Loses s node t
   pub floor : HasFloor s node
-  pub times : (e : ℕ) → IsEntry s node e → IsKnown (time_in facts e)
+  pub times : (e : ℕ) → IsEntry s node e → IsKnown (table.time e)
   pub sizes : (e : ℕ) → IsEntry s node e → (j : ℕ) → at (at_target s.program node e).coefs j ≢ pos 0
-      → IsKnown (size_in facts e (suc j))
-  pub small : IsSmallComposed s.rewrite (rank_time s node facts)
+      → IsKnown (table.size e (suc j))
+  pub small : IsSmallComposed s.rewrite (rank_time s node table)

@@ -12,7 +12,7 @@ use Rattle.proof_nodes.specs.Nodes.{Spot, Arm, Linear, Poly, Member}
 use Rattle.proof_nodes.specs.Numbers.{is_in}
 use Rattle.model.specs.Paths.{pre}
 use Rattle.proof_nodes.specs.Combined.{form_at}
-use Rattle.proof_nodes.specs.Known.{IsKnown, time_in, size_in}
+use Rattle.proof_nodes.specs.Known.{IsKnown, Table}
 use Rattle.proof_nodes.specs.ComposedSizes.{poly_at, reads, spread_of, is_member, rules_of, flows, multiplies, adds, cycle_of}
 use Rattle.proof_nodes.specs.Limits.{IsInLimit, IsFormInLimit, IsSmallComposed}
 use Rattle.proof_nodes.specs.AcceptsPlain.{AreMultipliers}
@@ -91,32 +91,32 @@ abbrev pub AcceptsLow : Setting → Member → Type 0
 AcceptsLow s m = AcceptsArm s m.spot Low m.local.low
 
 -- after rule e: each place that an arm reads is a member, or has a size
-abbrev pub ArmHasSizes : Setting → List Fact → List Member → Spot → Arm → ℕ → Type 0
-ArmHasSizes s facts members spot arm e = (j : ℕ) → reads (poly_at s spot) arm j ≡ true → is_member members e j ≡ false
-    → IsKnown (size_in facts e (suc j))
+abbrev pub ArmHasSizes : Setting → Table → List Member → Spot → Arm → ℕ → Type 0
+ArmHasSizes s table members spot arm e = (j : ℕ) → reads (poly_at s spot) arm j ≡ true → is_member members e j ≡ false
+    → IsKnown (table.size e (suc j))
 
 -- after rule e: each place that the up arm reads is a member or has a size, and each that the low arm reads
-pub record HasSizesAfter (s : Setting) (facts : List Fact) (members : List Member) (m : Member) (e : ℕ) : Type 0 where
-  pub up : ArmHasSizes s facts members m.spot m.local.up e
-  pub low : ArmHasSizes s facts members m.spot m.local.low e
+pub record HasSizesAfter (s : Setting) (table : Table) (members : List Member) (m : Member) (e : ℕ) : Type 0 where
+  pub up : ArmHasSizes s table members m.spot m.local.up e
+  pub low : ArmHasSizes s table members m.spot m.local.low e
 
 -- so it is after each rule that can come before
-abbrev pub HasSizesBefore : Setting → List Fact → List Member → Member → Type 0
-HasSizesBefore s facts members m = (e : ℕ) → is_in e (pre s.program m.spot.rule) ≡ true
-    → HasSizesAfter s facts members m e
+abbrev pub HasSizesBefore : Setting → Table → List Member → Member → Type 0
+HasSizesBefore s table members m = (e : ℕ) → is_in e (pre s.program m.spot.rule) ≡ true
+    → HasSizesAfter s table members m e
 
 -- the size that a spread composes
-abbrev pub spread_size : Setting → List Fact → Member → Bound
-spread_size s facts m = spread_of s m (size_in facts)
+abbrev pub spread_size : Setting → Table → Member → Bound
+spread_size s table m = spread_of s m table.size
 
 -- a size that doesn't loop: both arms are accepted, each place that they read has a size after each rule that can
 -- come before, and the composed bound is small
-pub record AcceptsSpread (s : Setting) (facts : List Fact) (m : Member) : Type 0 where
+pub record AcceptsSpread (s : Setting) (table : Table) (m : Member) : Type 0 where
   pub shape : HasMemberShape s m
   pub up : AcceptsUp s m
   pub low : AcceptsLow s m
-  pub sizes : HasSizesBefore s facts [] m
-  pub small : IsSmallComposed s.rewrite (spread_size s facts m)
+  pub sizes : HasSizesBefore s table [] m
+  pub small : IsSmallComposed s.rewrite (spread_size s table m)
 
 -- one spot comes before another: by rule, then by place
 abbrev pub ComesBefore : Spot → Spot → Type 0
@@ -139,8 +139,8 @@ pub record IsStraight (s : Setting) (members : List Member) (m : Member) : Type 
   pub low : (e : ℕ) → is_in e (pre s.program m.spot.rule) ≡ true → IsStraightArm s members m e m.local.low
 
 -- the size that a loop composes
-abbrev pub cycle_size : Setting → List Fact → List Member → Bound
-cycle_size s facts members = cycle_of s members (time_in facts) (size_in facts)
+abbrev pub cycle_size : Setting → Table → List Member → Bound
+cycle_size s table members = cycle_of s members table.time table.size
 
 -- there are members, and they ascend
 pub record HasCycleShape (s : Setting) (members : List Member) : Type 0 where
@@ -150,16 +150,16 @@ pub record HasCycleShape (s : Setting) (members : List Member) : Type 0 where
 
 -- a loop: all arms are accepted, each place that they read outside has a size, no polynomial arm reads a member, each
 -- rule that multiplies or adds has a time, and the composed bound is small
-pub record AcceptsCycle (s : Setting) (facts : List Fact) (members : List Member) : Type 0 where
+pub record AcceptsCycle (s : Setting) (table : Table) (members : List Member) : Type 0 where
   pub shape : HasCycleShape s members
   pub up : All (AcceptsUp s) members
   pub low : All (AcceptsLow s) members
-  pub sizes : All (HasSizesBefore s facts members) members
+  pub sizes : All (HasSizesBefore s table members) members
   pub straight : All (IsStraight s members) members
   pub times : (t : ℕ) → is_in t (rules_of s members) ≡ true
-      → (multiplies (flows s members (size_in facts)) t || adds s (flows s members (size_in facts)) t) ≡ true
-      → IsKnown (time_in facts t)
-  pub small : IsSmallComposed s.rewrite (cycle_size s facts members)
+      → (multiplies (flows s members table.size) t || adds s (flows s members table.size) t) ≡ true
+      → IsKnown (table.time t)
+  pub small : IsSmallComposed s.rewrite (cycle_size s table members)
 
 -- the size of each member
 abbrev pub cycle_facts : Bound → List Member → List Fact

@@ -1,4 +1,4 @@
--- Facts as they are looked up: the first that matches.
+-- What is known where a node is judged: a table of bounds, and facts as they are looked up, the first that matches.
 use Rattle.std.specs.Prelude.{◌≡◌, ℕ, zero, ◌==◌, ◌&&◌, Bool, true, false, cond, List, [], ◌∷◌, Option, Some, None}
 use Rattle.model.specs.Bounds.{Bound, Constant}
 use Rattle.model.specs.Facts.{Fact, Time, Size}
@@ -23,6 +23,15 @@ abbrev pub size_in : List Fact → ℕ → ℕ → Option Bound
 size_in [] t i = None
 size_in (Time u b ∷ facts) t i = size_in facts t i
 size_in (Size u j b ∷ facts) t i = cond ((u == t) && (j == i)) (Some b) (size_in facts t i)
+
+-- a table of bounds: each rule has a time or none, and each place after a rule a size or none
+pub record Table : Type 0 where
+  pub time : ℕ → Option Bound
+  pub size : ℕ → ℕ → Option Bound
+
+-- the table of facts: of each rule the first time, and of each place the first size
+abbrev pub table_of : List Fact → Table
+table_of facts = record { time = time_in facts; size = size_in facts }
 
 -- the bound is the constant 0
 abbrev pub is_zero_bound : Bound → Bool

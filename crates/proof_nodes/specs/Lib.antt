@@ -1,4 +1,5 @@
 pub mod Nodes
+pub mod Gaps
 pub mod Numbers
 pub mod Graph
 pub mod Combined
@@ -11,9 +12,13 @@ pub mod AcceptsPlain
 pub mod AcceptsRank
 pub mod AcceptsSizes
 pub mod Acceptance
+pub mod Reasons
+pub mod Checks
+pub mod ReasonLaws
 pub mod Paying
 pub mod Feeding
 pub mod Laws
 pub mod WorkedSettings
 pub mod Worked
 pub mod WorkedSizes
+pub mod WorkedReasons

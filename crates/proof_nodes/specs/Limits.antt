@@ -1,12 +1,13 @@
 -- The limits on the numbers of a proof and on the size of composed bounds.
-use Rattle.std.specs.Prelude.{◌≡◌, ℕ, ◌^◌, ◌≤◌, false, All, List, nat_abs}
+use Rattle.std.specs.Prelude.{◌≡◌, ℕ, ◌≤◌, false, All, List, nat_abs}
 use Rattle.model.specs.Bounds.{Bound}
 use Rattle.bound_expr.specs.Measure.{is_large}
 use Rattle.linear_forms.specs.Forms.{Form}
+use Rattle.linear_forms.specs.Limits.{certificate_limit}
 
 -- a multiplier, coefficient, constant or denominator is at most 2^55 in absolute value
 abbrev pub IsInLimit : ℕ → Type 0
-IsInLimit n = n ≤ 2 ^ 55
+IsInLimit n = n ≤ certificate_limit
 
 -- so is each multiplier
 abbrev pub AreInLimit : List ℕ → Type 0

@@ -5,6 +5,7 @@ use Rattle.model.specs.Bounds.{Constant, Input}
 use Rattle.model.specs.Facts.{Fact, Time, Size}
 use Rattle.model.specs.Polynomials.{Polynomial}
 use Rattle.proof_nodes.specs.Nodes.{Poly, Member, Cite, Start, Spread, Cycle, NoProof, AndProof}
+use Rattle.proof_nodes.specs.Known.{table_of}
 use Rattle.proof_nodes.specs.Setting.{Setting}
 use Rattle.proof_nodes.specs.AcceptsSizes.{HasSizesAfter}
 use Rattle.proof_nodes.specs.Acceptance.{Accepts}
@@ -64,14 +65,15 @@ size_and_time = (Size 1 1 (Input 0) ∷ []) ∷ (Time 2 (Constant 3) ∷ []) ∷
 
 -- a polynomial arm outside a loop is accepted, and one that reads a member isn't; a move whose multipliers don't show
 -- it, an arm that isn't over the negation on the low side, a spread and a loop without the size that they read, on
--- either side, and a loop that multiplies by a rule without a time: none of them is accepted. With that time the loop is accepted
+-- either side, and a loop that multiplies by a rule without a time: none of them is accepted. With that time the loop
+-- is accepted
 pub record SizeNodesAreJudged : Type 0 where
   pub poly : Accepts squaring [] (Spread (bent_member 1) (only Start))
   pub bent : ¬ (Accepts squaring one_size (Cycle (bent_member 2 ∷ []) (only (Cite 1))))
   pub wrong_move : ¬ (Accepts counting [] (down (1 ∷ []) (1 ∷ [])))
   pub wrong_low_arm : (multipliers : List ℕ) → ¬ (Accepts counting [] (Spread (wrong_low multipliers) (only Start)))
   pub spread_size : ¬ (Accepts counting [] (Spread entered_member NoProof))
-  pub size_of_low_arm : ¬ (HasSizesAfter counting [] [] low_reader 0)
+  pub size_of_low_arm : ¬ (HasSizesAfter counting (table_of []) [] low_reader 0)
   pub loop_size : ¬ (Accepts counting [] (Cycle (looped_member ∷ []) (only Start)))
   pub loop_time : ¬ (Accepts doubling one_size (Cycle doubled (only (Cite 1))))
   pub with_time : Accepts doubling size_and_time (Cycle doubled (AndProof (Cite 1) (only (Cite 2))))

@@ -6,8 +6,10 @@
 ghost use Rattle.proof_nodes.specs.Paying.{EntriesPay};
 ghost use Rattle.proof_nodes.specs.Feeding.{LoopsGrow};
 ghost use Rattle.proof_nodes.specs.Laws.{AcceptedFactsHold, AcceptedBoundsAreBased};
+ghost use Rattle.proof_nodes.specs.ReasonLaws.{FirstReasonsAreInLine};
 ghost use Rattle.proof_nodes.specs.Worked.{CountingIsFaithful, FourLemmasAreAccepted, MistakesAreRefused, PlainNodesAreJudged, FormulasAreWhole};
 ghost use Rattle.proof_nodes.specs.WorkedSizes.{SizeNodesAreJudged};
+ghost use Rattle.proof_nodes.specs.WorkedReasons.{ReasonsAreToldInOrder};
 
 /// Where all lemmas of a list are accepted, every fact of every lemma holds on all runs, whoever made the lemmas.
 pub fn accepted_facts_hold()
@@ -40,4 +42,10 @@ pub fn worked_values_hold()
     ensures plain { PlainNodesAreJudged }
     ensures sizes { SizeNodesAreJudged }
     ensures whole { FormulasAreWhole }
+    ensures reasons { ReasonsAreToldInOrder }
+{}
+
+/// A node has no first reason exactly where it is accepted, and it has at most one.
+pub fn first_reasons_are_in_line()
+    ensures { FirstReasonsAreInLine }
 {}

@@ -1,2 +1,4 @@
 pub mod Parts
 pub mod Lookups
+pub mod Rules
+pub mod Spreads

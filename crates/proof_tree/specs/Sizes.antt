@@ -1,28 +1,49 @@
 -- The bounds of places as composing meets them.
-use Rattle.std.specs.Prelude.{ℕ, cond, List, map, slice_index_or, ℤ, nat_abs}
+use Rattle.std.specs.Prelude.{ℕ, ◌+◌, ◌<◌, ◌^◌, ◌==◌, ◌&&◌, ◌||◌, Bool, cond, List, length, ℤ, pos, nat_abs, Option, Some, None}
+use Rattle.std.specs.List.{list_any}
 use Rattle.int_laws.specs.NormalForm.{is_zero}
 use denote.Ref.{Bor}
-use Rattle.model.specs.Bounds as plain
-use Rattle.model.specs.Bounds.{Constant, ProductOf, Parts, NoParts, Part}
-use Rattle.bound_expr.specs.declared.bound.Bound.{Bound}
-use Rattle.bound_expr.specs.Views.{bound_of}
+use Rattle.model.specs.Bounds.{Bound, Constant, ProductOf, Parts, NoParts, Part}
+use Rattle.linear_forms.specs.Forms as forms
+use Rattle.proof_nodes.specs.Nodes.{Member}
+use Rattle.proof_nodes.specs.Known.{Table, known}
 use Rattle.proof_nodes.specs.Numbers.{rounded_up}
+use Rattle.proof_nodes.specs.Combined.{number_form}
 use Rattle.proof_nodes.specs.Composed.{both_parts}
+use Rattle.proof_tree.specs.declared.rank.Form.{Form}
+use Rattle.proof_tree.specs.Views.{form_of}
 
--- borrowed bounds as plain data
-abbrev pub lent : List (Bor Bound) → List plain.Bound
-lent bs = map (λ b. bound_of b.now) bs
+-- a member is the place after the rule; places count from 1
+abbrev pub is_spot_of : ℕ → ℕ → Member → Bool
+is_spot_of rule place m = (m.spot.rule == rule) && (m.spot.place == place)
 
--- the bound of a place, numbered from 0; past the end of the list 0
-abbrev pub size_at : List plain.Bound → ℕ → plain.Bound
-size_at sizes j = slice_index_or sizes j (Constant 0)
+-- one of the members is
+abbrev pub is_spot : List Member → ℕ → ℕ → Bool
+is_spot members rule place = list_any (is_spot_of rule place) members
+
+-- so for the places from one on
+abbrev pub members_from : List Member → ℕ → ℕ → ℕ → Bool
+members_from members rule place j = is_spot members rule (place + j)
+
+-- the sizes of the places from one on, after a rule
+abbrev pub sizes_from : Table → ℕ → ℕ → ℕ → Bound
+sizes_from table rule place j = known (table.size rule (place + j))
 
 -- the parts of one list and then those of the other
 abbrev pub joined : Parts → Parts → Parts
 joined NoParts cs = cs
 joined (Part b bs) cs = Part b (joined bs cs)
 
--- the part of a place: none where its coefficient is 0
-abbrev pub place_part : ℤ → ℕ → plain.Bound → Parts
-place_part c den size =
-    cond (is_zero c) NoParts (Part (ProductOf (both_parts (Constant (rounded_up (nat_abs c) den)) size)) NoParts)
+-- the part of a place: none where its coefficient is 0 or it is left out
+abbrev pub place_part : ℤ → ℕ → Bool → Bound → Parts
+place_part c den is_out b =
+    cond (is_zero c || is_out) NoParts (Part (ProductOf (both_parts (Constant (rounded_up (nat_abs c) den)) b)) NoParts)
+
+-- a form that was found, as plain data; where there is none, 0
+abbrev pub form_found : Option (Bor Form) → forms.Form
+form_found None = number_form (pos 0)
+form_found (Some f) = (form_of f.now).form
+
+-- a form has fewer coefficients than places could be numbered
+abbrev pub IsShort : Form → Type 0
+IsShort f = length f.coefs.items < 2 ^ 31

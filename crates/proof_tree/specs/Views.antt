@@ -12,6 +12,7 @@ use Rattle.proof_tree.specs.declared.arm.Arm.TheVariants as arms
 use Rattle.proof_tree.specs.declared.arm.LocalBound.{LocalBound}
 use Rattle.proof_tree.specs.declared.arm.Member.{Member}
 use Rattle.proof_tree.specs.declared.rank.Form.{Form}
+use Rattle.proof_tree.specs.declared.rank.RankNode.{RankNode}
 use Rattle.proof_tree.specs.declared.proof.Proof.{Proof}
 use Rattle.proof_tree.specs.declared.proof.EmptyNode.{EmptyNode}
 use Rattle.proof_tree.specs.declared.proof.Proof.TheOpen.{Proof-F, UnreachedNode-F, SpreadNode-F, CycleNode-F, RankNode-F}
@@ -47,6 +48,17 @@ member_of m = record { spot = spot_of m.spot; local = local_of m.local }
 -- the part of a ranking function at a symbol as plain data
 abbrev pub form_of : Form → nodes.SymbolForm
 form_of f = record { symbol = f.symbol; form = record { coefs = f.coefs.items; constant = f.constant } }
+
+-- a ranking node without what it rests on
+abbrev pub rank_of : RankNode → nodes.RankNode
+rank_of n = record {
+  rule = n.rule;
+  set = n.set.items;
+  den = n.den;
+  forms = map form_of n.forms.items;
+  moves = map (λ m. m.items) n.moves.items;
+  floor = n.floor.items;
+}
 
 -- a list of proofs as the uses of one
 abbrev pub uses_of : List nodes.Proof → nodes.Proofs

@@ -1,4 +1,7 @@
-// Why a question had no answer, and why a node or a gap is refused.
+// What a question about emptiness is answered, why a question had no answer, and why a node or a gap is refused.
+
+use crate::proof::EmptyNode;
+use farkas_cert::Scaled;
 
 /// What a linear program was asked.
 #[derive(Clone, Copy, Debug, PartialEq, Eq, Hash)]
@@ -29,6 +32,17 @@ pub enum TripCause {
 pub struct Trip {
     pub question: Question,
     pub cause: TripCause,
+}
+
+/// Whether the rows of a rule have a point.
+#[derive(Debug, PartialEq, Eq, Drop)]
+pub enum EmptyAnswer {
+    /// They have none, as the node shows.
+    Empty(EmptyNode),
+    /// They have this one.
+    Point(Scaled),
+    /// The linear program passed a limit.
+    Tripped(Trip),
 }
 
 /// Why a node is not accepted.

@@ -6,16 +6,27 @@
 
 mod answer;
 mod arm;
+mod entering;
 mod fact;
+mod file;
+mod gap;
+mod known;
 mod lookup;
+mod places;
 mod proof;
 mod rank;
 mod ranking;
+mod spreading;
 
-pub use answer::{GapFault, Question, Reason, Trip, TripCause};
+pub use answer::{EmptyAnswer, GapFault, Question, Reason, Trip, TripCause};
 pub use arm::{Arm, LocalBound, Member, Spot};
+pub use entering::{entries, source_of, target_of};
 pub use fact::Fact;
+pub use file::ProofFile;
+pub use gap::Gap;
+pub use known::{Known, Stated};
 pub use lookup::{size_in, time_in};
 pub use proof::{CycleNode, EmptyNode, Proof, SpreadNode, UnreachedNode};
 pub use rank::{Form, RankNode};
-pub use ranking::{entry_part, form_bound};
+pub use ranking::rank_time;
+pub use spreading::{spread_size, spreads_are_over_what_comes_before};

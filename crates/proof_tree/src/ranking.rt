@@ -1,120 +1,129 @@
-ghost use Rattle.std.specs.Prelude.{◌≡◌, ℕ, ◌≤◌, length, IfOk, nat_abs};
-ghost use Rattle.model.specs.Bounds.{Constant, ProductOf};
-ghost use Rattle.bound_expr.specs.Views.{bound_of, bounds_of, parts_of};
-ghost use Rattle.proof_nodes.specs.Numbers.{rounded_up, positive_part};
-ghost use Rattle.proof_nodes.specs.Composed.{both_parts, place_parts, no_place, form_bound as form_bound_of};
-ghost use Rattle.proof_tree.specs.Views.{form_of};
-ghost use Rattle.proof_tree.specs.Sizes.{lent, size_at, joined, place_part};
+// The time that a ranking node composes.
 
-use crate::rank::Form;
+ghost use Rattle.std.specs.Prelude.{◌≡◌, ◌-◌, ◌≤◌, ◌<◌, ◌^◌, ◌∷◌, [], length, map, All, IfOk, IfSome};
+ghost use Rattle.model.specs.Bounds.{ProductOf, SumOf};
+ghost use Rattle.model.specs.Paths.{target_of as target_of_rule};
+ghost use Rattle.bound_expr.specs.Views.{bound_of, bounds_of, parts_of};
+ghost use Rattle.bound_table.specs.Within.{answer_of, rewritten_within};
+ghost use Rattle.its_model.specs.Views.{program_of};
+ghost use Rattle.proof_nodes.specs.Composed.{rank_form as rank_form_of, both_parts, parts_for, entry_bound, time_of};
+ghost use Rattle.proof_tree.specs.Views.{form_of, rank_of};
+ghost use Rattle.proof_tree.specs.Sizes.{form_found, IsShort};
+
+use crate::entering::{entries, target_of};
+use crate::known::Known;
+use crate::places::{form_bound, known_or_zero};
+use crate::rank::{Form, RankNode};
 use bound_expr::{Bound, Memory};
+use bound_table::{Within, rewrite_within};
+use its_model::Program;
 use std::alloc::Global;
 
-// A number over a denominator, rounded up.
-fn rounded(n: u64, den: u64) -> u128
-    requires { 1 ≤ den }
-    ensures { result ≡ rounded_up n den }
+// The first form at a symbol.
+#[tactic(auto, using(crate::proofs::Rules::form_here, crate::proofs::Rules::form_passed))]
+fn rank_form(forms: &[Form], symbol: Option<u32>) -> Option<&Form>
+    ensures first { form_found result ≡ rank_form_of (map form_of forms.now) symbol }
+    ensures few { All IsShort forms.now → IfSome result (λ f. IsShort f.now) }
 {
-    (u128::from(n) + (u128::from(den) - 1)) / u128::from(den)
+    let Some(number) = symbol else {
+        return None;
+    };
+    for form in forms {
+        if form.symbol == number {
+            return Some(form);
+        }
+    }
+    None
 }
 
-// The product of a number and a bound.
-fn times(alloc: Global, n: u128, b: &Bound) -> Result<Bound, Memory>
-    ensures { IfOk result (λ r. bound_of r ≡ ProductOf (both_parts (Constant n) (bound_of b.now))) }
+// The product of two bounds.
+fn product(alloc: Global, first: Bound, second: Bound) -> Result<Bound, Memory>
+    ensures { IfOk result (λ b. bound_of b ≡ ProductOf (both_parts (bound_of first) (bound_of second))) }
 {
     let mut factors = Vec::new(alloc);
-    factors.push(Bound::Const(n))?;
-    factors.push(b.copied(alloc)?)?;
+    factors.push(first)?;
+    factors.push(second)?;
     Ok(Bound::Prod(factors))
 }
 
-// Pushes the part of a place, where its coefficient isn't 0: the absolute coefficient over the denominator, rounded
-// up, times the place's size.
-#[tactic(auto, using(crate::proofs::Parts::pushed, crate::proofs::Parts::not_pushed))]
-fn push_place(
+// How often an entry is taken, times the ranking function where it leads to.
+fn entry_part<K: Known>(
     alloc: Global,
-    parts: &mut Vec<Bound>,
-    coef: &i64,
-    den: u64,
-    size: &Bound,
-) -> Result<(), Memory>
-    requires { 1 ≤ den }
-    ensures { IfOk result (λ _. parts_of (bounds_of parts.new.items) ≡ joined (parts_of (bounds_of parts.old.items)) (place_part coef.now den (bound_of size.now))) }
+    p: &Program,
+    node: &RankNode,
+    known: &K,
+    entry: u32,
+) -> Result<Bound, Memory>
+    requires over { 1 ≤ node.now.den }
+    requires few { All IsShort node.now.forms.items }
+    ensures { IfOk result (λ b. bound_of b ≡ entry_bound (program_of p.now) (rank_of node.now) (K.table
+        known.now).time (K.table known.now).size entry) }
 {
-    if *coef != 0 {
-        let part = times(alloc, rounded(coef.unsigned_abs(), den), size)?;
-        parts.push(part)?;
-    }
-    Ok(())
+    let time = known_or_zero(alloc, known.time(entry))?;
+    let form = match rank_form(&node.forms, target_of(p, entry)) {
+        Some(f) => form_bound(alloc, &f.coefs, f.constant, node.den, known, entry, &[])?,
+        None => form_bound(alloc, &[], 0, node.den, known, entry, &[])?,
+    };
+    product(alloc, time, form)
 }
 
-// Pushes the parts of these places, in order.
-#[tactic(auto, using(crate::proofs::Parts::places_pushed, crate::proofs::Parts::none_pushed))]
-fn push_places(
+// The sum over these entries, in order.
+fn sum_over<K: Known>(
     alloc: Global,
-    parts: &mut Vec<Bound>,
-    coefs: &[i64],
-    den: u64,
-    sizes: &[&Bound],
-) -> Result<(), Memory>
-    requires over { 1 ≤ den }
-    requires long { length coefs.now ≤ length sizes.now }
-    ensures { IfOk result (λ _. parts_of (bounds_of parts.new.items) ≡ joined (parts_of (bounds_of parts.old.items)) (place_parts coefs.now den no_place (size_at (lent sizes.now)))) }
-{
-    let Some((coef, other_coefs)) = coefs.split_first() else {
-        return Ok(());
-    };
-    let Some((size, other_sizes)) = sizes.split_first() else {
-        return Ok(());
-    };
-    push_place(alloc, parts, coef, den, size)?;
-    push_places(alloc, parts, other_coefs, den, other_sizes)
-}
-
-// The positive part of a number.
-fn positive(n: i64) -> u64
-    ensures { result ≡ positive_part n }
-{
-    if n > 0 { n.unsigned_abs() } else { 0 }
-}
-
-/// A ranking function's form over a denominator as a bound, at these sizes of the places: the positive part of the
-/// constant over the denominator, rounded up, and for each place whose coefficient isn't 0 the absolute coefficient
-/// over the denominator, rounded up, times the place's size.
-///
-/// # Errors
-///
-/// `Memory` where an allocation fails.
-pub fn form_bound(alloc: Global, form: &Form, den: u64, sizes: &[&Bound]) -> Result<Bound, Memory>
-    requires over { 1 ≤ den }
-    requires long { length form.now.coefs.items ≤ length sizes.now }
-    ensures { IfOk result (λ b. bound_of b ≡ form_bound_of (form_of form.now).form den (size_at (lent sizes.now))) }
+    p: &Program,
+    node: &RankNode,
+    known: &K,
+    entering: &[u32],
+) -> Result<Bound, Memory>
+    requires over { 1 ≤ node.now.den }
+    requires few { All IsShort node.now.forms.items }
+    ensures { IfOk result (λ b. bound_of b ≡ SumOf (parts_for (entry_bound (program_of p.now) (rank_of node.now)
+        (K.table known.now).time (K.table known.now).size) entering.now)) }
 {
     let mut parts = Vec::new(alloc);
-    parts.push(Bound::Const(rounded(positive(form.constant), den)))?;
-    push_places(alloc, &mut parts, &form.coefs, den, sizes)?;
+    for entry in entering {
+        let part = entry_part(alloc, p, node, known, *entry)?;
+        parts.push(part)?;
+    }
     Ok(Bound::Sum(parts))
 }
 
-/// How often an entry is taken, times the ranking function's form where it leads to: the part of an entry in the time
-/// of a ranking node.
+// The time that a ranking node composes: the sum over the entries of its set.
+fn composed_time<K: Known>(
+    alloc: Global,
+    p: &Program,
+    node: &RankNode,
+    known: &K,
+) -> Result<Bound, Memory>
+    requires rules { length p.now.rules.items < 2 ^ 32 - 1 }
+    requires over { 1 ≤ node.now.den }
+    requires few { All IsShort node.now.forms.items }
+    ensures { IfOk result (λ b. bound_of b ≡ time_of (program_of p.now) (rank_of node.now) (K.table known.now).time
+        (K.table known.now).size) }
+{
+    let entering = entries(alloc, p, &node.set)?;
+    sum_over(alloc, p, node, known, &entering)
+}
+
+/// The time that a ranking node states, rewritten, or how many nodes what is too large has: the sum, over the entries
+/// of its set in order, of how often the entry is taken times the ranking function where it leads to. What isn't known
+/// counts as 0. It is measured before it is rewritten.
 ///
 /// # Errors
 ///
 /// `Memory` where an allocation fails.
-pub fn entry_part(
+pub fn rank_time<K: Known>(
     alloc: Global,
-    time: &Bound,
-    form: &Form,
-    den: u64,
-    sizes: &[&Bound],
-) -> Result<Bound, Memory>
-    requires over { 1 ≤ den }
-    requires long { length form.now.coefs.items ≤ length sizes.now }
-    ensures { IfOk result (λ b. bound_of b ≡ ProductOf (both_parts (bound_of time.now) (form_bound_of (form_of form.now).form den (size_at (lent sizes.now))))) }
+    p: &Program,
+    node: &RankNode,
+    known: &K,
+) -> Result<Within, Memory>
+    requires rules { length p.now.rules.items < 2 ^ 32 - 1 }
+    requires over { 1 ≤ node.now.den }
+    requires few { All IsShort node.now.forms.items }
+    ensures { IfOk result (λ w. answer_of w ≡ rewritten_within (time_of (program_of p.now) (rank_of node.now) (K.table
+        known.now).time (K.table known.now).size)) }
 {
-    let mut factors = Vec::new(alloc);
-    factors.push(time.copied(alloc)?)?;
-    factors.push(form_bound(alloc, form, den, sizes)?)?;
-    Ok(Bound::Prod(factors))
+    let composed = composed_time(alloc, p, node, known)?;
+    rewrite_within(alloc, &composed)
 }

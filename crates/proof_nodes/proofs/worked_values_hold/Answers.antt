@@ -5,6 +5,7 @@ use Rattle.proof_nodes.proofs.WorkedFaithful.{counting_is_faithful}
 use Rattle.proof_nodes.proofs.WorkedAccepted.{four_accepted, alone_accepted}
 use Rattle.proof_nodes.proofs.WorkedPlain.{plain_nodes}
 use Rattle.proof_nodes.proofs.WorkedSizes.{size_nodes}
+use Rattle.proof_nodes.proofs.WorkedReasons.{reasons_told}
 use Rattle.proof_nodes.proofs.WorkedRefused as refused
 use Rattle.proof_nodes.proofs.worked_values_hold.Goals as goal
 
@@ -30,4 +31,5 @@ returns c = record {
   plain = plain_nodes;
   sizes = size_nodes;
   whole = record { both_entries = refl; both_before = refl; both_summed = refl; factor = refl; power = refl };
+  reasons = reasons_told;
 }

@@ -1,0 +1,5 @@
+// Tests of the public calls on proof nodes.
+#![tactic(auto)]
+
+#[cfg(test)]
+mod composed;

@@ -1,0 +1,154 @@
+-- The checks of each kind of node, in the order in which they are made.
+use Rattle.std.specs.Prelude.{ℕ, suc, ◌&&◌, ◌||◌, not, Bool, List, [], ◌∷◌, ◌++◌, length, map, filter, if◌then◌else◌}
+use Rattle.std.specs.List.{range_with_len}
+use Rattle.model.specs.Bounds.{Bound}
+use Rattle.model.specs.Facts.{Fact}
+use Rattle.model.specs.Paths.{pre}
+use Rattle.int_laws.specs.NormalForm.{is_zero}
+use Rattle.bound_expr.specs.Measure.{is_large, told_nodes}
+use Rattle.linear_forms.specs.Forms.{at}
+use Rattle.linear_forms.specs.Certificates.{Implies, minus_one}
+use Rattle.proof_nodes.specs.Nodes.{Spot, Arm, Member, RankNode, Proof, Cite, Start, Empty, Unreached, Never, Rank, Spread, Cycle, Weaken}
+use Rattle.proof_nodes.specs.Known.{IsKnown, Table, table_of}
+use Rattle.proof_nodes.specs.Limits.{IsSmallComposed}
+use Rattle.proof_nodes.specs.Graph.{entries}
+use Rattle.proof_nodes.specs.ComposedSizes.{poly_at, reads, is_member, rules_of, flows, multiplies, adds}
+use Rattle.proof_nodes.specs.AcceptsPlain.{IsRule, AcceptsCite, HasEmptyShape, IsUnreached, may_run, IsOneTime, IsZeroTime, HasWeakenShape, IsWeaker}
+use Rattle.proof_nodes.specs.AcceptsRank.{HasRankShape, Loses, HasFloor, at_target, rank_time}
+use Rattle.proof_nodes.specs.AcceptsSizes.{HasMemberShape, AcceptsUp, AcceptsLow, HasCycleShape, IsStraightArm, left_of, spread_size, cycle_size}
+use Rattle.proof_nodes.specs.Acceptance.{facts_of, joined_facts}
+use Rattle.proof_nodes.specs.Setting.{Setting}
+use Rattle.proof_nodes.specs.Reasons.{Reason, Shape, NotEmpty, Reached, NotZero, Move, Floor, ArmUp, ArmLow, MissingTime, MissingSize, Bent, Large, NotWeaker, Check, check, for_each, IsFirstAmong}
+
+-- the number of nodes of a composed bound that is large: before it is rewritten where it is large then, after it else
+abbrev pub large_nodes : (Bound → Bound) → Bound → ℕ
+large_nodes rewrite b = if is_large b then told_nodes b else told_nodes (rewrite b)
+
+-- the composed bound is small
+abbrev pub check_small : Setting → Bound → Check
+check_small s b = check (Large (large_nodes s.rewrite b)) (IsSmallComposed s.rewrite b)
+
+-- the rule has a time; the place after a rule has a size
+abbrev pub check_time : Table → ℕ → Check
+check_time table t = check (MissingTime t) (IsKnown (table.time t))
+
+abbrev pub check_size : Table → Spot → Check
+check_size table spot = check (MissingSize spot.rule spot.place) (IsKnown (table.size spot.rule spot.place))
+
+-- places after a rule, numbered from 0 before and from 1 after
+abbrev pub spots_after : ℕ → List ℕ → List Spot
+spots_after e js = map (λ j. record { rule = e; place = suc j }) js
+
+-- the sizes that a ranking function needs after rule e: those of the places whose coefficient isn't 0, ascending
+abbrev pub needed_after : Setting → RankNode → ℕ → List Spot
+needed_after s node e =
+    spots_after e
+    (filter (λ j. not (is_zero (at (at_target s.program node e).coefs j)))
+    (range_with_len 0 (length (at_target s.program node e).coefs)))
+
+-- and after each of these rules
+abbrev pub needed_after_each : Setting → RankNode → List ℕ → List Spot
+needed_after_each s node [] = []
+needed_after_each s node (e ∷ es) = needed_after s node e ++ needed_after_each s node es
+
+-- the checks of a ranking node
+abbrev pub rank_checks : Setting → Table → RankNode → List Check
+rank_checks s table node =
+    check Shape (HasRankShape s node) ∷
+    for_each (λ t. check (Move t) (Loses s node t)) node.set
+    (check Floor (HasFloor s node) ∷
+    for_each (check_time table) (entries s.program node.set)
+    (for_each (check_size table) (needed_after_each s node (entries s.program node.set))
+    (check_small s (rank_time s node table) ∷ [])))
+
+-- both arms of each member, all that are up and then all that are low
+abbrev pub check_up : Setting → Member → Check
+check_up s m = check (ArmUp m.spot.rule m.spot.place) (AcceptsUp s m)
+
+abbrev pub check_low : Setting → Member → Check
+check_low s m = check (ArmLow m.spot.rule m.spot.place) (AcceptsLow s m)
+
+-- the sizes that an arm needs after rule e: those of the places that it reads and that aren't members, ascending
+abbrev pub needed_by : Setting → List Member → Member → Arm → ℕ → List Spot
+needed_by s members m arm e =
+    spots_after e
+    (filter (λ j. reads (poly_at s m.spot) arm j && not (is_member members e j))
+    (range_with_len 0 (left_of s.program m.spot.rule)))
+
+-- the sizes that a member needs after these rules, up before low
+abbrev pub needed_from : Setting → List Member → Member → List ℕ → List Spot
+needed_from s members m [] = []
+needed_from s members m (e ∷ es) =
+    needed_by s members m m.local.up e ++ (needed_by s members m m.local.low e ++ needed_from s members m es)
+
+-- the sizes that these members need, after what can come before each
+abbrev pub needed_into : Setting → List Member → List Member → List Spot
+needed_into s members [] = []
+needed_into s members (m ∷ ms) = needed_from s members m (pre s.program m.spot.rule) ++ needed_into s members ms
+
+-- the checks of a spread
+abbrev pub spread_checks : Setting → Table → Member → List Check
+spread_checks s table m =
+    check Shape (HasMemberShape s m) ∷
+    check_up s m ∷
+    check_low s m ∷
+    for_each (check_size table) (needed_into s [] (m ∷ []))
+    (check_small s (spread_size s table m) ∷ [])
+
+-- an arm of a member after rule e reads no member
+abbrev pub check_straight : Setting → List Member → Member → Arm → ℕ → Check
+check_straight s members m arm e = check (Bent m.spot.rule m.spot.place) (IsStraightArm s members m e arm)
+
+-- neither arm of a member does, after these rules
+abbrev pub straight_from : Setting → List Member → Member → List ℕ → List Check → List Check
+straight_from s members m [] rest = rest
+straight_from s members m (e ∷ es) rest =
+    check_straight s members m m.local.up e ∷
+    check_straight s members m m.local.low e ∷ straight_from s members m es rest
+
+-- no arm of these members does, after what can come before each
+abbrev pub straight_into : Setting → List Member → List Member → List Check → List Check
+straight_into s members [] rest = rest
+straight_into s members (m ∷ ms) rest =
+    straight_from s members m (pre s.program m.spot.rule) (straight_into s members ms rest)
+
+-- the rules whose times a loop needs: those that multiply or add, ascending
+abbrev pub needed_times : Setting → Table → List Member → List ℕ
+needed_times s table members =
+    filter (λ t. multiplies (flows s members table.size) t || adds s (flows s members table.size) t)
+    (rules_of s members)
+
+-- the checks of a loop
+abbrev pub cycle_checks : Setting → Table → List Member → List Check
+cycle_checks s table members =
+    check Shape (HasCycleShape s members) ∷
+    for_each (check_up s) members
+    (for_each (check_low s) members
+    (for_each (check_size table) (needed_into s members members)
+    (straight_into s members members
+    (for_each (check_time table) (needed_times s table members)
+    (check_small s (cycle_size s table members) ∷ [])))))
+
+-- the checks of an unreached rule
+abbrev pub unreached_checks : Setting → (ℕ → Bool) → ℕ → List Check
+unreached_checks s is_allowed t =
+    check Shape (IsRule s.program t) ∷ check Reached (IsUnreached s.program is_allowed t) ∷ []
+
+-- the checks of a node after lemmas with these facts, where all that it rests on is accepted
+abbrev pub checks_of : Setting → List (List Fact) → Proof → List Check
+checks_of s past (Cite n) = check Shape (AcceptsCite past n) ∷ []
+checks_of s past Start = []
+checks_of s past (Empty t multipliers) =
+    check Shape (HasEmptyShape s t multipliers) ∷ check NotEmpty (Implies (s.rows t) multipliers minus_one) ∷ []
+checks_of s past (Unreached t uses) = unreached_checks s (may_run (joined_facts s past uses)) t
+checks_of s past (Never child) =
+    check Shape (IsOneTime (facts_of s past child)) ∷ check NotZero (IsZeroTime (facts_of s past child)) ∷ []
+checks_of s past (Rank node uses) = rank_checks s (table_of (joined_facts s past uses)) node
+checks_of s past (Spread m uses) = spread_checks s (table_of (joined_facts s past uses)) m
+checks_of s past (Cycle members uses) = cycle_checks s (table_of (joined_facts s past uses)) members
+checks_of s past (Weaken child b) =
+    check Shape (HasWeakenShape s.program b) ∷ check NotWeaker (IsWeaker s (facts_of s past child) b) ∷ []
+
+-- the first reason why a node isn't accepted, where all that it rests on is
+abbrev pub IsFirstReason : Setting → List (List Fact) → Proof → Reason → Type 0
+IsFirstReason s past proof r = IsFirstAmong (checks_of s past proof) r

@@ -1,0 +1,28 @@
+-- Gaps and proof files as plain data.
+use Rattle.std.specs.Prelude.{ℕ, List, ℤ}
+use Rattle.proof_nodes.specs.Nodes.{Proof}
+
+-- a numerator for each unknown over one denominator; with the denominator 0 it is a ray
+pub record ScaledPoint : Type 0 where
+  pub parts : List ℤ
+  pub den : ℕ
+
+-- a place of a symbol, counted from 1
+pub record SymbolPlace : Type 0 where
+  pub symbol : ℕ
+  pub place : ℕ
+
+-- why no function ranks a rule over a set: the places at which it may not read, a point for each rule of the set, a
+-- second one of the strict rule, and a further point for each rule of the set
+pub record Gap : Type 0 where
+  pub rule : ℕ
+  pub set : List ℕ
+  pub shut : List SymbolPlace
+  pub moves : List ScaledPoint
+  pub floor : ScaledPoint
+  pub kept : List ScaledPoint
+
+-- lemmas, each of which may cite those before it, and gaps
+pub record ProofFile : Type 0 where
+  pub lemmas : List Proof
+  pub gaps : List Gap

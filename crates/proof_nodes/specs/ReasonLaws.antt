@@ -1,0 +1,19 @@
+-- First reasons are in line with acceptance.
+use Rattle.std.specs.Prelude.{◌≡◌, ◌↔◌, List}
+use Rattle.model.specs.Facts.{Fact}
+use Rattle.proof_nodes.specs.Nodes.{Proof}
+use Rattle.proof_nodes.specs.Setting.{Setting}
+use Rattle.proof_nodes.specs.Acceptance.{AcceptsNode}
+use Rattle.proof_nodes.specs.Reasons.{Reason}
+use Rattle.proof_nodes.specs.Checks.{IsFirstReason}
+
+-- no reason is the first one
+pub record HasNoReason (s : Setting) (past : List (List Fact)) (proof : Proof) : Type 0 where
+  pub none : (r : Reason) → ¬ (IsFirstReason s past proof r)
+
+-- a node has no first reason exactly where it is accepted, and it has at most one
+pub record FirstReasonsAreInLine : Type 0 where
+  pub none : (s : Setting) (past : List (List Fact)) (proof : Proof)
+      → AcceptsNode s past proof ↔ HasNoReason s past proof
+  pub one : (s : Setting) (past : List (List Fact)) (proof : Proof) (q r : Reason)
+      → IsFirstReason s past proof q → IsFirstReason s past proof r → q ≡ r

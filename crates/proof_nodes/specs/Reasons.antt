@@ -1,0 +1,46 @@
+-- Why a node isn't accepted: checks that are made one after the other, and the reason of the first that fails.
+use Rattle.std.specs.Prelude.{◌≡◌, ℕ, ◌⊎◌, List, [], ◌∷◌, ⊤}
+
+-- the reasons, in the words of the proof text: wrong lengths, numbers out of range or over their limit, lists that
+-- don't ascend, and no earlier lemma; rows that don't add up to -1; a source that is reached; a time that isn't 0; a
+-- rule by which the function may rise; a function without a floor; an arm of a spot, up or low, that isn't shown; a
+-- time or a size that isn't known; a spot whose polynomial arm reads a member; a composed bound with so many nodes; and
+-- a bound that isn't weaker
+pub data Reason : Type 0 where
+  Shape : Reason
+  NotEmpty : Reason
+  Reached : Reason
+  NotZero : Reason
+  Move : ℕ → Reason
+  Floor : Reason
+  ArmUp : ℕ → ℕ → Reason
+  ArmLow : ℕ → ℕ → Reason
+  MissingTime : ℕ → Reason
+  MissingSize : ℕ → ℕ → Reason
+  Bent : ℕ → ℕ → Reason
+  Large : ℕ → Reason
+  NotWeaker : Reason
+
+-- what has to hold, and the reason where it doesn't
+pub record Check : Type 1 where
+  pub reason : Reason
+  pub holds : Type 0
+
+-- the check that this holds
+abbrev pub check : Reason → Type 0 → Check
+check reason holds = record { reason = reason; holds = holds }
+
+-- a check for each element of a list, and then the others
+abbrev pub for_each : {A : Type 0} → (A → Check) → List A → List Check → List Check
+for_each f [] rest = rest
+for_each f (x ∷ xs) rest = f x ∷ for_each f xs rest
+
+-- all checks pass
+abbrev pub AllPass : List Check → Type 0
+AllPass [] = ⊤
+AllPass (c ∷ cs) = c.holds × AllPass cs
+
+-- the reason of the first check that fails: all before it pass
+abbrev pub IsFirstAmong : List Check → Reason → Type 0
+IsFirstAmong [] r = ⊥
+IsFirstAmong (c ∷ cs) r = (¬ c.holds × (c.reason ≡ r)) ⊎ (c.holds × IsFirstAmong cs r)

@@ -1,0 +1,53 @@
+-- First reasons, worked out by hand.
+use Rattle.std.specs.Prelude.{ℕ, zero, suc, [], ◌∷◌, pos}
+use Rattle.model.specs.Bounds.{Bound, Constant, Input, PowerOf}
+use Rattle.proof_nodes.specs.Nodes.{Member, Cite, Start, Unreached, Never, Spread, Cycle, Weaken, NoProof, AndProof}
+use Rattle.proof_nodes.specs.Setting.{Setting}
+use Rattle.proof_nodes.specs.Reasons.{Shape, NotEmpty, Reached, NotZero, Move, Floor, ArmUp, ArmLow, MissingTime, MissingSize, Bent, Large, NotWeaker}
+use Rattle.proof_nodes.specs.Checks.{IsFirstReason}
+use Rattle.proof_nodes.specs.WorkedSettings.{counting, stuck, counting_rows, counting_news, no_poly, zero_below}
+use Rattle.proof_nodes.specs.Worked.{arm, only, once, down, down_alone, empty_loop, first_fact, first_and_size}
+use Rattle.proof_nodes.specs.WorkedSizes.{squaring, bent_member, wrong_low, one_size}
+
+-- 2 to the power of 2 to the power .. of A
+abbrev pub tower : ℕ → Bound
+tower zero = Input 0
+tower (suc n) = PowerOf 2 (tower n)
+
+-- the program that counts down, with a rewriting that makes every bound 201 levels deep
+abbrev pub towering : Setting
+towering = record {
+  program = counting.program;
+  rows = counting_rows;
+  news = counting_news;
+  poly = no_poly;
+  rewrite = λ b. tower 200;
+  below = zero_below;
+}
+
+-- the place after the first rule that counts down, with 0 on the up side, which A passes
+abbrev pub wrong_up : Member
+wrong_up = record {
+  spot = record { rule = 1; place = 1 };
+  local = record { up = arm (pos 0) (pos 0) []; low = arm (pos 1) (pos 0) [] };
+}
+
+-- of each reason a node for which it is the first; where both arms are wrong the up one is told
+pub record ReasonsAreToldInOrder : Type 0 where
+  pub shape : IsFirstReason counting first_fact (Cite 2) Shape
+  pub not_empty : IsFirstReason stuck [] (empty_loop (1 ∷ 0 ∷ [])) NotEmpty
+  pub reached : IsFirstReason counting [] (Unreached 2 NoProof) Reached
+  pub not_zero : IsFirstReason counting first_fact (Never (Cite 1)) NotZero
+  pub never_of_more : IsFirstReason counting [] (Never Start) Shape
+  pub not_weaker : IsFirstReason counting first_fact (Weaken (Cite 1) (Constant 0)) NotWeaker
+  pub weaken_of_more : IsFirstReason counting [] (Weaken Start (Constant 0)) NotWeaker
+  pub move : IsFirstReason counting [] (down (1 ∷ []) (0 ∷ [])) (Move 2)
+  pub floor : IsFirstReason counting [] (down (0 ∷ []) (0 ∷ [])) Floor
+  pub missing_time :
+      IsFirstReason counting first_and_size (down_alone (AndProof Start (only (Cite 2)))) (MissingTime 1)
+  pub missing_size :
+      IsFirstReason counting first_fact (down_alone (AndProof Start (only (Cite 1)))) (MissingSize 1 1)
+  pub large : IsFirstReason towering [] once (Large 201)
+  pub arm_up : IsFirstReason counting [] (Spread wrong_up NoProof) (ArmUp 1 1)
+  pub arm_low : IsFirstReason counting [] (Spread (wrong_low []) NoProof) (ArmLow 1 1)
+  pub bent : IsFirstReason squaring one_size (Cycle (bent_member 2 ∷ []) (only (Cite 1))) (Bent 2 1)

@@ -1,0 +1,137 @@
+-- Why the setting of a valid program says what is true.
+use Rattle.std.proofs.Common.{◌≡◌, ◌↔◌, ℕ, zero, suc, ◌+◌, ◌≤◌, Bool, true, false, if◌then◌else◌, List, [], ◌∷◌, ◌++◌, map, slice_get, Option, Some, None, refl, sym, ap, ◌∙◌, subst, arith, nat_lt}
+use Rattle.std.specs.Prelude.{ℤ, pos}
+use Rattle.std.proofs.lemmas.Int.{ints}
+use Rattle.std.proofs.lemmas.Bool.Decides.{nat_tests}
+use Rattle.model.specs.Terms.{Term, value}
+use Rattle.model.specs.Programs.{Program, Rule, rule_at, arity_of}
+use Rattle.model.specs.Runs.{Config, Step, IsStep}
+use Rattle.model.specs.Bounds.{Bound}
+use Rattle.model.specs.Polynomials.{Polynomial, polynomial_value, degree_of}
+use Rattle.linear_forms.specs.Forms.{Form, at, form_value}
+use Rattle.linear_forms.specs.Points.{IsPoint}
+use Rattle.poly_terms.specs.Expanding.{expanded}
+use Rattle.poly_terms.proofs.Values.{expanded-value}
+use Rattle.its_model.specs.Valid.{IsValid}
+use Rattle.guard_prep.specs.Prepared.{is_bent, polys_of}
+use Rattle.guard_prep.specs.Laws.{point_of}
+use Rattle.guard_prep.proofs.StepLaws.{valid-at, steps-are-points}
+use Rattle.bound_table.proofs.TableInForce.{rewritten-value, rewritten-numbers}
+use Rattle.bound_table.proofs.BelowSound.{below-sound}
+use Rattle.proof_nodes.specs.Combined.{form_at}
+use Rattle.proof_nodes.specs.Setting.{StepPoint}
+use Rattle.proof_nodes.proofs.Soundness.{accepted_facts_hold}
+use Rattle.proof_setting.specs.Setting.{rows_in, news_in, polys_in, where_bent, bent_at, setting_of}
+use Rattle.proof_setting.specs.Laws.{SettingsAreFaithful, AcceptedFactsHold, IsBentUpdate, PolynomialsAreBent}
+
+-- the value of the form at a position is that position's value
+value-form_at : (fs : List Form) (z : ℕ → ℤ) (i : ℕ)
+    → form_value (form_at fs i) z (pos 1) ≡ at (map (λ f. form_value f z (pos 1)) fs) i
+value-form_at [] z i = refl
+value-form_at (f ∷ fs) z zero = refl
+value-form_at (f ∷ fs) z (suc i) = value-form_at fs z i
+
+-- the polynomial that is told of an update has the update's value
+value-bent_at : (us : List Term) (env : List ℤ) (i : ℕ) (q : Polynomial) → bent_at (map expanded us) i ≡ Some q
+    → polynomial_value q env ≡ at (map (λ u. value u env) us) i
+value-bent_at [] env i q e = absurd (none_some e)
+  where
+    none_some : None ≡ Some q → ⊥
+    none_some h = cc
+value-bent_at (u ∷ us) env zero q e = go (is_bent (expanded u)) e
+  where
+    go : (b : Bool) → (if b then Some (expanded u) else None) ≡ Some q → polynomial_value q env ≡ value u env
+    go true h = subst (λ (x : Polynomial). polynomial_value x env ≡ value u env) same (expanded-value u env)
+      where
+        same : expanded u ≡ q
+        same = cc
+    go false h = absurd (none_some h)
+      where
+        none_some : None ≡ Some q → ⊥
+        none_some k = cc
+value-bent_at (u ∷ us) env (suc i) q e = value-bent_at us env i q e
+
+-- a step is a point of the setting's rows
+step-point : (p : Program) → IsValid p → (c : Config) (s : Step) (d : Config) → IsStep p c s d
+    → StepPoint (setting_of p) s.rule c s.free d
+step-point p v c s d i =
+    let h = steps-are-points.each p c d s v i in
+    let here : (P : Option Rule → Type 0) → P (Some i.rule) → P (rule_at p s.rule) = λ P k. subst P (sym i.numbered) k in
+    let z : ℕ → ℤ = at (point_of i.rule (c.values ++ s.free)) in record {
+      z = z;
+      point = here (λ o. IsPoint (rows_in o) z (pos 1)) h.point;
+      left = h.left;
+      news = here (λ o. (j : ℕ) → form_value (form_at (news_in o) j) z (pos 1) ≡ at d.values j)
+          (λ j. value-form_at (news_in (Some i.rule)) z j ∙ ap (λ (xs : List ℤ). at xs j) h.news);
+      bent = here (λ o. (j : ℕ) (q : Polynomial) → bent_at (polys_in o) j ≡ Some q
+          → polynomial_value q (c.values ++ s.free) ≡ at d.values j)
+          (λ j q e. value-bent_at i.rule.updates (c.values ++ s.free) j q e
+          ∙ ap (λ (xs : List ℤ). at xs j) (sym i.leads.values));
+    }
+
+-- so it says what is true
+pub settings-faithful : SettingsAreFaithful
+settings-faithful = record {
+  each = λ p v. record {
+    places = λ t r e. (valid-at p t r v e).left;
+    steps = λ c s d i. step-point p v c s d i;
+    values = λ b based m. (rewritten-value b based).each m;
+    bases = λ b based. (rewritten-numbers b).bases 1 based;
+    order = λ a b h k below m. (below-sound a b h k below).each m;
+  };
+}
+
+-- and accepted facts hold
+pub accepted-hold : AcceptedFactsHold
+accepted-hold = record {
+  each = λ p v proofs h. accepted_facts_hold.each (setting_of p) (settings-faithful.each p v) proofs h;
+}
+
+-- the polynomial of degree 2 or more at a position
+bent_at-is : (qs : List Polynomial) (i : ℕ) (q : Polynomial) → bent_at qs i ≡ Some q
+    → (slice_get qs i ≡ Some q) × (2 ≤ degree_of q)
+bent_at-is [] i q e = absurd (none_some e)
+  where
+    none_some : None ≡ Some q → ⊥
+    none_some h = cc
+bent_at-is (p ∷ qs) zero q e = go (is_bent p) refl e
+  where
+    go : (b : Bool) → is_bent p ≡ b → (if b then Some p else None) ≡ Some q → (Some p ≡ Some q) × (2 ≤ degree_of q)
+    go true k h = (h, subst (λ (x : Polynomial). 2 ≤ degree_of x) same (let l : 2 ≤ degree_of p = grind (arith, nat_tests) in l))
+      where
+        same : p ≡ q
+        same = cc
+    go false k h = absurd (none_some h)
+      where
+        none_some : None ≡ Some q → ⊥
+        none_some l = cc
+bent_at-is (p ∷ qs) (suc i) q e = bent_at-is qs i q e
+
+is-bent_at : (qs : List Polynomial) (i : ℕ) (q : Polynomial) → slice_get qs i ≡ Some q → 2 ≤ degree_of q
+    → bent_at qs i ≡ Some q
+is-bent_at [] i q e l = absurd (none_some e)
+  where
+    none_some : None ≡ Some q → ⊥
+    none_some h = cc
+is-bent_at (p ∷ qs) zero q e l = go (is_bent p) refl
+  where
+    same : p ≡ q
+    same = cc
+
+    go : (b : Bool) → is_bent p ≡ b → (if b then Some p else None) ≡ Some q
+    go true k = e
+    go false k = absurd (low (subst (λ (x : Polynomial). 2 ≤ degree_of x) (sym same) l))
+      where
+        low : 2 ≤ degree_of p → ⊥
+        low m = grind (arith, nat_tests)
+is-bent_at (p ∷ qs) (suc i) q e l = is-bent_at qs i q e l
+
+pub polynomials-bent : PolynomialsAreBent
+polynomials-bent = record { each = both }
+  where
+    both : (p : Program) (t : ℕ) (r : Rule) → rule_at p t ≡ Some r → (i : ℕ) (q : Polynomial)
+        → ((setting_of p).poly t i ≡ Some q) ↔ IsBentUpdate r i q
+    both p t r e i q = subst (λ (o : Option Rule). (bent_at (polys_in o) i ≡ Some q) ↔ IsBentUpdate r i q) (sym e) (
+      (λ h. let k = bent_at-is (polys_of r) i q h in record { update = k.0; degree = k.1 }),
+      (λ h. is-bent_at (polys_of r) i q h.update h.degree),
+    )

@@ -1,0 +1,74 @@
+-- What a composed bound is rewritten to within the limits is in line with acceptance.
+use Rattle.std.proofs.Common.{◌≡◌, ◌↔◌, ℕ, Bool, true, false, if◌then◌else◌, refl, sym, ap, ◌∙◌}
+use Rattle.std.proofs.lemmas.Bool.{true≢false}
+use Rattle.model.specs.Bounds.{Bound}
+use Rattle.bound_expr.specs.Measure.{is_large, told_nodes}
+use Rattle.bound_table.specs.InForce.{rewritten}
+use Rattle.bound_table.specs.Within.{Answer, Fits, TooLarge, unless_large, rewritten_within}
+use Rattle.proof_nodes.specs.Limits.{IsSmallComposed}
+use Rattle.proof_nodes.specs.Checks.{large_nodes}
+use Rattle.proof_setting.specs.Laws.{SmallBoundsAreRewritten}
+
+-- the same answers
+fits-same : (b c : Bound) → Fits b ≡ Fits c → c ≡ b
+fits-same b c e = sym (back e)
+  where
+    back : Fits b ≡ Fits c → b ≡ c
+    back f = cc
+
+large-same : (m n : ℕ) → TooLarge m ≡ TooLarge n → n ≡ m
+large-same m n e = sym (back e)
+  where
+    back : TooLarge m ≡ TooLarge n → m ≡ n
+    back f = cc
+
+not-both : (b : Bound) (n : ℕ) → Fits b ≡ TooLarge n → ⊥
+not-both b n e = cc
+
+-- the answer by whether the bound is large, and whether its rewriting is
+abbrev told : Bool → Bool → Bound → Answer
+told before after b =
+    if before then TooLarge (told_nodes b) else if after then TooLarge (told_nodes (rewritten b)) else Fits (rewritten b)
+
+-- where a test gives true, it doesn't give false
+refuted : (v : Bool) → v ≡ true → v ≡ false → ⊥
+refuted v e f = true≢false (sym e ∙ f)
+
+module _ (b : Bound) where
+  fits : (v w : Bool) → is_large b ≡ v → is_large (rewritten b) ≡ w → (r : Bound)
+      → (told v w b ≡ Fits r) ↔ (IsSmallComposed rewritten b × (r ≡ rewritten b))
+  fits true w e f r = (
+    (λ h. absurd (not-both r (told_nodes b) (sym h))),
+    (λ h. absurd (refuted (is_large b) e h.0.before)),
+  )
+  fits false true e f r = (
+    (λ h. absurd (not-both r (told_nodes (rewritten b)) (sym h))),
+    (λ h. absurd (refuted (is_large (rewritten b)) f h.0.after)),
+  )
+  fits false false e f r = (
+    (λ h. (record { before = e; after = f }, fits-same (rewritten b) r h)),
+    (λ h. ap Fits (sym h.1)),
+  )
+
+  large : (v w : Bool) → is_large b ≡ v → is_large (rewritten b) ≡ w → (n : ℕ)
+      → (told v w b ≡ TooLarge n)
+      ↔ (¬ (IsSmallComposed rewritten b) × (n ≡ (if v then told_nodes b else told_nodes (rewritten b))))
+  large true w e f n = (
+    (λ h. ((λ small. refuted (is_large b) e small.before), large-same (told_nodes b) n h)),
+    (λ h. ap TooLarge (sym h.1)),
+  )
+  large false true e f n = (
+    (λ h. ((λ small. refuted (is_large (rewritten b)) f small.after), large-same (told_nodes (rewritten b)) n h)),
+    (λ h. ap TooLarge (sym h.1)),
+  )
+  large false false e f n = (
+    (λ h. absurd (not-both (rewritten b) n h)),
+    (λ h. absurd (h.0 (record { before = e; after = f }))),
+  )
+
+pub small-bounds : SmallBoundsAreRewritten
+unfolding rewritten_within
+small-bounds = record {
+  fits = λ b r. fits b (is_large b) (is_large (rewritten b)) refl refl r;
+  large = λ b n. large b (is_large b) (is_large (rewritten b)) refl refl n;
+}

@@ -1,0 +1,17 @@
+use Rattle.std.proofs.Common.{refl}
+use Rattle.guard_prep.specs.Tightening.{divisor_of}
+use Rattle.proof_setting.proofs.laws.settings_are_as_worked_out.Goals as goal
+
+pub returns : goal.returns
+unfolding divisor_of
+returns c = record {
+  rows = refl;
+  news = refl;
+  flat = refl;
+  no_rows = refl;
+  bent_news = refl;
+  bent = refl;
+  past_the_places = refl;
+  no_rule_0 = refl;
+  no_rule_3 = refl;
+}

@@ -1,0 +1,44 @@
+-- What the settings of valid programs say, and what accepted lemmas are worth for them.
+use Rattle.std.specs.Prelude.{◌≡◌, ◌↔◌, ℕ, ◌≤◌, List, All, Some, slice_get}
+use Rattle.model.specs.Bounds.{Bound}
+use Rattle.model.specs.Programs.{Program, Rule, rule_at}
+use Rattle.model.specs.Facts.{Holds}
+use Rattle.model.specs.Polynomials.{Polynomial, degree_of}
+use Rattle.its_model.specs.Valid.{IsValid}
+use Rattle.guard_prep.specs.Prepared.{polys_of}
+use Rattle.bound_table.specs.InForce.{rewritten}
+use Rattle.bound_table.specs.Within.{Fits, TooLarge, rewritten_within}
+use Rattle.proof_nodes.specs.Nodes.{Proof}
+use Rattle.proof_nodes.specs.Limits.{IsSmallComposed}
+use Rattle.proof_nodes.specs.Checks.{large_nodes}
+use Rattle.proof_nodes.specs.Setting.{IsFaithful}
+use Rattle.proof_nodes.specs.Acceptance.{AcceptsLemmas, facts_of_lemmas}
+use Rattle.proof_setting.specs.Setting.{setting_of}
+
+-- the setting of a valid program says what is true: each step is a point of its rule's rows, rewriting keeps values and
+-- bases, and what is below has no greater value
+pub record SettingsAreFaithful : Type 0 where
+  pub each : (p : Program) → IsValid p → IsFaithful (setting_of p)
+
+-- where all lemmas of a list are accepted for a valid program, every fact of every lemma holds on all of its runs,
+-- whoever made the lemmas
+pub record AcceptedFactsHold : Type 0 where
+  pub each : (p : Program) → IsValid p → (proofs : List Proof) → AcceptsLemmas (setting_of p) proofs
+      → All (All (Holds p)) (facts_of_lemmas (setting_of p) proofs)
+
+-- the expanded update at a place, and it has degree 2 or more
+pub record IsBentUpdate (r : Rule) (i : ℕ) (q : Polynomial) : Type 0 where
+  pub update : slice_get (polys_of r) i ≡ Some q
+  pub degree : 2 ≤ degree_of q
+
+-- a polynomial is told of a place of a rule exactly where it is the expanded update there and has degree 2 or more
+pub record PolynomialsAreBent : Type 0 where
+  pub each : (p : Program) (t : ℕ) (r : Rule) → rule_at p t ≡ Some r → (i : ℕ) (q : Polynomial)
+      → ((setting_of p).poly t i ≡ Some q) ↔ IsBentUpdate r i q
+
+-- what a bound is rewritten to within the limits is in line with acceptance: the rewritten bound exactly where the
+-- bound is small, and exactly where it isn't the number of nodes that the reason names
+pub record SmallBoundsAreRewritten : Type 0 where
+  pub fits : (b r : Bound) → (rewritten_within b ≡ Fits r) ↔ (IsSmallComposed rewritten b × (r ≡ rewritten b))
+  pub large : (b : Bound) (n : ℕ)
+      → (rewritten_within b ≡ TooLarge n) ↔ (¬ (IsSmallComposed rewritten b) × (n ≡ large_nodes rewritten b))

@@ -1,0 +1,32 @@
+// What settings say, and what it is worth.
+
+ghost use Rattle.proof_setting.specs.Laws.{SettingsAreFaithful, AcceptedFactsHold, PolynomialsAreBent, SmallBoundsAreRewritten};
+ghost use Rattle.proof_setting.specs.Worked.{SettingsAreAsWorkedOut};
+
+/// The setting of a valid program says what is true of it. It has no code, as all functions here: its contract is the
+/// law.
+pub fn settings_are_faithful()
+    ensures { SettingsAreFaithful }
+{}
+
+/// Where all lemmas of a list are accepted for a valid program, every fact of every lemma holds on all of its runs,
+/// whoever made the lemmas.
+pub fn accepted_facts_hold()
+    ensures { AcceptedFactsHold }
+{}
+
+/// The polynomial of a place is told exactly where the expanded update there has degree 2 or more.
+pub fn polynomials_are_bent()
+    ensures { PolynomialsAreBent }
+{}
+
+/// What a composed bound is rewritten to within the limits is in line with acceptance: the rewritten bound exactly
+/// where the bound is small, and else the number of nodes that the reason of its refusal names.
+pub fn small_bounds_are_rewritten()
+    ensures { SmallBoundsAreRewritten }
+{}
+
+/// The setting of a small program is what was worked out by hand.
+pub fn settings_are_as_worked_out()
+    ensures { SettingsAreAsWorkedOut }
+{}

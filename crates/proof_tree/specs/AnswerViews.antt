@@ -1,0 +1,55 @@
+-- What contracts see of answers, reasons, gaps and proof files: plain data.
+use Rattle.std.specs.Prelude.{map}
+use Rattle.linear_forms.specs.Causes.{Cause, range, budget, wide, scale}
+use Rattle.farkas_cert.specs.declared.scaled.Scaled.{Scaled}
+use Rattle.proof_nodes.specs.Reasons as reasons
+use Rattle.proof_nodes.specs.Gaps as gaps
+use Rattle.proof_tree.specs.declared.answer.TripCause.{TripCause}
+use Rattle.proof_tree.specs.declared.answer.TripCause.TheVariants.{Range, Budget, Wide, Scale}
+use Rattle.proof_tree.specs.declared.answer.Reason.{Reason}
+use Rattle.proof_tree.specs.declared.answer.Reason.TheVariants as told
+use Rattle.proof_tree.specs.declared.gap.Gap.{Gap}
+use Rattle.proof_tree.specs.declared.file.ProofFile.{ProofFile}
+use Rattle.proof_tree.specs.Views.{proof_of}
+
+-- the limit that a linear program passed
+abbrev pub cause_of : TripCause → Cause
+cause_of (Range pivot) = range pivot
+cause_of (Budget pivots) = budget pivots
+cause_of (Wide entries) = wide entries
+cause_of Scale = scale
+
+-- why a node isn't accepted
+abbrev pub reason_of : Reason → reasons.Reason
+reason_of told.Shape = reasons.Shape
+reason_of told.Empty = reasons.NotEmpty
+reason_of told.Reached = reasons.Reached
+reason_of told.Zero = reasons.NotZero
+reason_of (told.Move rule) = reasons.Move rule
+reason_of told.Floor = reasons.Floor
+reason_of (told.ArmUp rule place) = reasons.ArmUp rule place
+reason_of (told.ArmLow rule place) = reasons.ArmLow rule place
+reason_of (told.MissingTime rule) = reasons.MissingTime rule
+reason_of (told.MissingSize rule place) = reasons.MissingSize rule place
+reason_of (told.Bent rule place) = reasons.Bent rule place
+reason_of (told.Large nodes) = reasons.Large nodes
+reason_of told.Weaker = reasons.NotWeaker
+
+-- a scaled point as plain data
+abbrev pub scaled_of : Scaled → gaps.ScaledPoint
+scaled_of z = record { parts = z.parts.items; den = z.den }
+
+-- a gap as plain data
+abbrev pub gap_of : Gap → gaps.Gap
+gap_of g = record {
+  rule = g.rule;
+  set = g.set.items;
+  shut = map (λ p. record { symbol = p.0; place = p.1 }) g.shut.items;
+  moves = map scaled_of g.moves.items;
+  floor = scaled_of g.floor;
+  kept = map scaled_of g.kept.items;
+}
+
+-- a proof file as plain data
+abbrev pub file_of : ProofFile → gaps.ProofFile
+file_of f = record { lemmas = map proof_of f.lemmas.items; gaps = map gap_of f.gaps.items }

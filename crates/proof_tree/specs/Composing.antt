@@ -1,0 +1,46 @@
+-- What composing sizes meets: polynomials that may be there, and arms that can be read as bounds.
+use Rattle.std.specs.Prelude.{◌≡◌, ℕ, ◌<◌, ◌≤◌, ◌^◌, List, length, map, All, Option, option_map, IfSome}
+use denote.Ref.{Bor}
+use Rattle.model.specs.Bounds.{Bound, MaximumOf}
+use Rattle.model.specs.Programs.{Program}
+use Rattle.model.specs.Polynomials.{Polynomial}
+use Rattle.poly_terms.specs.declared.poly.Monomial.{Monomial}
+use Rattle.poly_terms.specs.declared.poly.Poly.{Poly}
+use Rattle.poly_terms.specs.Views.{poly_of}
+use Rattle.guard_prep.specs.declared.rule_rows.RuleRows.{RuleRows}
+use Rattle.guard_prep.specs.Views.{prepared_of}
+use Rattle.guard_prep.specs.Prepared.{prepared}
+use Rattle.proof_nodes.specs.Nodes as nodes
+use Rattle.proof_nodes.specs.Composed.{both_parts, parts_for, sizes_after}
+use Rattle.proof_nodes.specs.ComposedSizes.{arm_bound}
+use Rattle.proof_tree.specs.declared.arm.Arm.{Arm}
+use Rattle.proof_tree.specs.declared.arm.Arm.TheVariants as arms
+
+-- a polynomial that may be there, as plain data
+abbrev pub poly_seen : Option (Bor Poly) → Option Polynomial
+poly_seen o = option_map (λ q. poly_of q.now) o
+
+-- variables that are places of a symbol that could be
+abbrev pub HasFewVariables : Monomial → Type 0
+HasFewVariables m = All (λ v. v < 2 ^ 31) m.vars.items
+
+abbrev pub HasFewPlaces : Option (Bor Poly) → Type 0
+HasFewPlaces o = IfSome o (λ q. All HasFewVariables q.now.terms.items)
+
+-- a linear arm has a denominator of at least 1, and fewer coefficients than places could be numbered
+abbrev pub IsReadable : Arm → Type 0
+IsReadable (arms.Linear den coefs constant multipliers) = (1 ≤ den) × (length coefs.items < 2 ^ 31)
+IsReadable arms.Poly = Unit {0}
+
+-- both arms of a member at the sizes after rule e
+abbrev pub both_arms : Option Polynomial → nodes.LocalBound → (ℕ → ℕ → Option Bound) → ℕ → Bound
+both_arms q local size e =
+    MaximumOf (both_parts (arm_bound q local.up (sizes_after size e)) (arm_bound q local.low (sizes_after size e)))
+
+-- the maximum over these rules
+abbrev pub spread_over : Option Polynomial → nodes.LocalBound → (ℕ → ℕ → Option Bound) → List ℕ → Bound
+spread_over q local size es = MaximumOf (parts_for (both_arms q local size) es)
+
+-- the rows are those of the program's rules, in order
+abbrev pub AreRowsOf : List RuleRows → Program → Type 0
+AreRowsOf preps p = map prepared_of preps ≡ map prepared p.rules

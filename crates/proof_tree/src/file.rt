@@ -1,0 +1,11 @@
+// Proof files.
+
+use crate::gap::Gap;
+use crate::proof::Proof;
+
+/// Lemmas, each of which may cite those before it, and gaps.
+#[derive(Debug, PartialEq, Eq, Drop)]
+pub struct ProofFile {
+    pub lemmas: Vec<Proof>,
+    pub gaps: Vec<Gap>,
+}
