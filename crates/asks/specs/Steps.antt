@@ -1,0 +1,99 @@
+-- How the words behind the command are read one by one.
+use Rattle.std.specs.Prelude.{◌≡◌, ◌≢◌, [], ◌∷◌, ◌++◌, map, string_bytes, IsTrue, IsFalse, codes}
+use Rattle.asks.specs.Lines.{Word, Words, is_plain, is_value, Gives}
+use Rattle.asks.specs.Requests.{AllowsPivots}
+use Rattle.asks.specs.declared.request.Request.{Request}
+use Rattle.asks.specs.declared.request.Request.TheVariants.{Analyse}
+use Rattle.asks.specs.declared.kind.Kind.{Kind}
+use Rattle.asks.specs.declared.kind.Kind.TheVariants as kinds
+use Rattle.asks.specs.declared.line.Next.{Next}
+use Rattle.asks.specs.declared.line.Next.TheVariants as nexts
+use Rattle.asks.specs.declared.line.Line.{Line}
+
+-- no way to write anything begins with this word
+pub record IsOther (word : Word) : Type 0 where
+  pub end : word ≢ codes "--"
+  pub apart : word ≢ codes "--pivots"
+  pub joined : (value : Word) → word ≢ codes "--pivots=" ++ value
+  pub plain : IsFalse (is_plain word)
+
+-- what a word is where options may stand
+abbrev pub IsKind : Kind → Word → Type 0
+IsKind kinds.End word = word ≡ codes "--"
+IsKind kinds.Pivots word = word ≡ codes "--pivots"
+IsKind (kinds.PivotsOf value) word = word ≡ codes "--pivots=" ++ value.now
+IsKind kinds.Plain word = IsTrue (is_plain word)
+IsKind kinds.Other word = IsOther word
+
+-- a word that is the value of the option before it, and what the others give
+pub record GivesValue (words values positionals : Words) : Type 0 where
+  pub value : Word
+  pub others : Words
+  pub more : Words
+  pub first : words ≡ value ∷ others
+  pub proper : IsTrue (is_value value)
+  pub gives : Gives others more positionals
+  pub has_values : values ≡ value ∷ more
+
+-- what the words that are left give, by what stands next
+abbrev pub GivesNext : Next → Words → Words → Words → Type 0
+GivesNext nexts.Word words values positionals = Gives words values positionals
+GivesNext nexts.Value words values positionals = GivesValue words values positionals
+GivesNext nexts.Positional words values positionals = (values ≡ []) × (positionals ≡ words)
+
+-- what was read of a line: what stands next, the values of the option, and the positionals
+pub record State : Type 0 where
+  pub next : Next
+  pub values : Words
+  pub positionals : Words
+
+-- what the words that are left give, beside what was read
+pub record GivesBeside (read : State) (words values positionals : Words) : Type 0 where
+  pub more_values : Words
+  pub more_positionals : Words
+  pub gives : GivesNext read.next words more_values more_positionals
+  pub has_values : values ≡ read.values ++ more_values
+  pub has_positionals : positionals ≡ read.positionals ++ more_positionals
+
+-- the values and the positionals of a line as plain data
+abbrev pub values_in : Line → Words
+values_in line = map (λ value. value.items) line.values.items
+
+abbrev pub positionals_in : Line → Words
+positionals_in line = map string_bytes line.positionals.items
+
+abbrev pub state_of : Line → State
+state_of line = record { next = line.next; values = values_in line; positionals = positionals_in line }
+
+-- reading all words comes to reading these beside what was read
+pub record Leads (all : Words) (read : State) (left : Words) : Type 0 where
+  pub forth : (values positionals : Words) → GivesBeside read left values positionals → Gives all values positionals
+  pub back : (values positionals : Words) → Gives all values positionals → GivesBeside read left values positionals
+
+-- the word is taken: what the words behind it give is then what they give with it before
+pub record Takes (old : State) (word : Word) (new : State) : Type 0 where
+  pub forth : (left values positionals : Words) → GivesBeside new left values positionals
+      → GivesBeside old (word ∷ left) values positionals
+  pub back : (left values positionals : Words) → GivesBeside old (word ∷ left) values positionals
+      → GivesBeside new left values positionals
+
+-- the word can't stand there, whatever stands behind it
+pub record Refuses (old : State) (word : Word) : Type 0 where
+  pub none : (left values positionals : Words) → ¬ (GivesBeside old (word ∷ left) values positionals)
+
+-- the line has one more positional
+pub record HasOnePositional (old : Line) (word : Word) (new : Line) : Type 0 where
+  pub values : values_in new ≡ values_in old
+  pub positionals : positionals_in new ≡ positionals_in old ++ word ∷ []
+  pub next : new.next ≡ old.next
+
+-- the line has one more value of the option, behind which any word stands
+pub record IsValued (old : Line) (value : Word) (new : Line) : Type 0 where
+  pub values : values_in new ≡ values_in old ++ value ∷ []
+  pub positionals : positionals_in new ≡ positionals_in old
+  pub next : new.next ≡ nexts.Word
+
+-- the request is the analysis that these values of the option and these positionals ask for
+abbrev pub IsAnalysis : Words → Words → Request → Type 0
+IsAnalysis values positionals (Analyse pivots file) = AllowsPivots values pivots
+    × (positionals ≡ string_bytes file ∷ [])

@@ -1,0 +1,33 @@
+-- What words ask for, as it was worked out by hand.
+use Rattle.std.specs.Prelude.{[], ◌∷◌, codes}
+use Rattle.asks.specs.Lines.{Words}
+use Rattle.asks.specs.Requests.{Request, Analyse, Asks}
+
+-- the words ask for nothing
+abbrev pub AsksNothing : Words → Type 0
+AsksNothing words = (r : Request) → ¬ (Asks words r)
+
+-- command lines, and what they ask for
+pub record CommandLines : Type 0 where
+  pub file_alone : Asks (codes "analyse" ∷ codes "p" ∷ []) (Analyse 10000 (codes "p"))
+  pub standard_input : Asks (codes "analyse" ∷ codes "-" ∷ []) (Analyse 10000 (codes "-"))
+  pub empty_word : Asks (codes "analyse" ∷ [] ∷ []) (Analyse 10000 [])
+  pub apart : Asks (codes "analyse" ∷ codes "--pivots" ∷ codes "70" ∷ codes "p" ∷ []) (Analyse 70 (codes "p"))
+  pub joined : Asks (codes "analyse" ∷ codes "p" ∷ codes "--pivots=5" ∷ []) (Analyse 5 (codes "p"))
+  pub none : Asks (codes "analyse" ∷ codes "--pivots" ∷ codes "0" ∷ codes "p" ∷ []) (Analyse 0 (codes "p"))
+  pub most : Asks (codes "analyse" ∷ codes "--pivots=1000000" ∷ codes "p" ∷ []) (Analyse 1000000 (codes "p"))
+  pub behind : Asks (codes "analyse" ∷ codes "--" ∷ codes "--pivots" ∷ []) (Analyse 10000 (codes "--pivots"))
+
+-- words that ask for nothing
+pub record OtherWords : Type 0 where
+  pub no_word : AsksNothing []
+  pub other_command : AsksNothing (codes "Analyse" ∷ codes "p" ∷ [])
+  pub no_file : AsksNothing (codes "analyse" ∷ [])
+  pub two_files : AsksNothing (codes "analyse" ∷ codes "p" ∷ codes "p" ∷ [])
+  pub leading_zero : AsksNothing (codes "analyse" ∷ codes "--pivots" ∷ codes "01" ∷ codes "p" ∷ [])
+  pub too_many : AsksNothing (codes "analyse" ∷ codes "--pivots=1000001" ∷ codes "p" ∷ [])
+  pub no_number : AsksNothing (codes "analyse" ∷ codes "--pivots=" ∷ codes "p" ∷ [])
+  pub twice : AsksNothing
+      (codes "analyse" ∷ codes "--pivots=1" ∷ codes "--pivots" ∷ codes "1" ∷ codes "p" ∷ [])
+  pub no_value : AsksNothing (codes "analyse" ∷ codes "p" ∷ codes "--pivots" ∷ [])
+  pub other_option : AsksNothing (codes "analyse" ∷ codes "--help" ∷ codes "p" ∷ [])

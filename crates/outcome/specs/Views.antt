@@ -1,0 +1,84 @@
+-- An outcome as a report, plain data.
+use Rattle.std.specs.Prelude.{ℕ, zero, suc, Bool, true, false, List, [], ◌∷◌, map}
+use Rattle.std.specs.Option.{option_map}
+use Rattle.bound_expr.specs.Views.{bound_of}
+use Rattle.proof_tree.specs.Views.{spot_of}
+use Rattle.proof_tree.specs.declared.gap.Gap as code
+use Rattle.farkas_cert.specs.declared.scaled.Scaled.{Scaled}
+use Rattle.outcome.specs.declared.loose.Loose.{Loose}
+use Rattle.outcome.specs.declared.entry.TimeEntry.{TimeEntry}
+use Rattle.outcome.specs.declared.entry.TimeEntry.TheVariants as times
+use Rattle.outcome.specs.declared.entry.SizeEntry.{SizeEntry}
+use Rattle.outcome.specs.declared.entry.SizeEntry.TheVariants as sizes
+use Rattle.outcome.specs.declared.outcome_of.Outcome.{Outcome}
+use Rattle.outcome.specs.Reports.{Point, ShutPlace, Gap, NoFunction, TimeTripped, TimeLarge}
+use Rattle.outcome.specs.Reports.{Time, Timed, Untimed}
+use Rattle.outcome.specs.Reports.{Side, Up, Low, NoSize, IsLoose, SizeTripped, IsMissing, IsBent, LacksTime, SizeLarge}
+use Rattle.outcome.specs.Reports.{Size, Sized, Unsized, Report}
+
+-- a scaled point as plain data
+abbrev pub point_of : Scaled → Point
+point_of s = record { parts = s.parts.items; den = s.den }
+
+-- a shut place as plain data
+abbrev pub shut_place : ℕ → ℕ → ShutPlace
+shut_place symbol place = record { symbol = symbol; place = place }
+
+abbrev pub shut_of : ℕ × ℕ → ShutPlace
+shut_of s = shut_place s.0 s.1
+
+-- a gap as plain data
+abbrev pub gap_of : code.Gap → Gap
+gap_of g = record {
+  rule = g.rule;
+  set = g.set.items;
+  shut = map shut_of g.shut.items;
+  moves = map point_of g.moves.items;
+  floor = point_of g.floor;
+  kept = map point_of g.kept.items;
+}
+
+-- the gap without points, over no rule
+abbrev pub no_gap : Gap
+no_gap = record { rule = 0; set = []; shut = []; moves = []; floor = record { parts = []; den = 0 }; kept = [] }
+
+-- the gap of this number, from 1
+abbrev pub numbered_gap : List code.Gap → ℕ → Gap
+numbered_gap gaps zero = no_gap
+numbered_gap [] (suc n) = no_gap
+numbered_gap (g ∷ gaps) (suc zero) = gap_of g
+numbered_gap (g ∷ gaps) (suc (suc n)) = numbered_gap gaps (suc n)
+
+-- a time, or why there is none, as plain data
+abbrev pub time_of : List code.Gap → TimeEntry → Time
+time_of gaps (times.Known s) = Timed (bound_of s.bound)
+time_of gaps (times.Gap n) = Untimed (NoFunction (numbered_gap gaps n))
+time_of gaps (times.Tripped t) = Untimed (TimeTripped t)
+time_of gaps (times.Large n) = Untimed (TimeLarge n)
+
+-- the side that a flag names
+abbrev pub side_of : Bool → Side
+side_of true = Up
+side_of false = Low
+
+-- why a loose place has no size
+abbrev pub loose_of : Loose → NoSize
+loose_of l = IsLoose (side_of l.up) l.ray.items (point_of l.kept)
+
+-- a size, or why there is none, as plain data
+abbrev pub size_of : SizeEntry → Size
+size_of (sizes.Known s) = Sized (bound_of s.bound)
+size_of (sizes.Loose l) = Unsized (loose_of l)
+size_of (sizes.Tripped t) = Unsized (SizeTripped t)
+size_of (sizes.Missing s) = Unsized (IsMissing (spot_of s))
+size_of (sizes.Bent s) = Unsized (IsBent (spot_of s))
+size_of (sizes.Untimed t) = Unsized (LacksTime t)
+size_of (sizes.Large n) = Unsized (SizeLarge n)
+
+-- the report of an outcome
+abbrev pub report_of : Outcome → Report
+report_of o = record {
+  times = map (time_of o.gaps.items) o.times.items;
+  total = option_map bound_of o.total;
+  sizes = map (λ places. map size_of places.items) o.sizes.items;
+}

@@ -1,0 +1,16 @@
+// What an analysis found.
+
+use crate::entry::{SizeEntry, TimeEntry};
+use bound_expr::Bound;
+use proof_tree::{Gap, Proof};
+
+/// What an analysis found of a program: an entry for each rule, and one for each place of each rule's target; the
+/// bound on all steps, where each rule has a time; the lemmas that state the bounds; and the gaps.
+#[derive(Debug, PartialEq, Eq, Drop)]
+pub struct Outcome {
+    pub times: Vec<TimeEntry>,
+    pub sizes: Vec<Vec<SizeEntry>>,
+    pub total: Option<Bound>,
+    pub lemmas: Vec<Proof>,
+    pub gaps: Vec<Gap>,
+}

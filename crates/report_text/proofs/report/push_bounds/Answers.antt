@@ -1,0 +1,26 @@
+use Rattle.std.proofs.Common.{map, refl, ◌∙◌, ap}
+use Rattle.std.proofs.lemmas.Result.{on_ok_weaker}
+use Rattle.its_model.specs.Views.{name_of}
+use Rattle.outcome.specs.Views.{size_of}
+use Rattle.report_text.specs.Pieces.{numbered}
+use Rattle.report_text.specs.Reports.{size_line}
+use Rattle.report_text.specs.Conditions.{headline_of, entry_line}
+use Rattle.report_text.proofs.Lists.{four_pushed}
+use Rattle.report_text.proofs.Entries.{headline_same, times_same, sizes_same}
+use Rattle.report_text.proofs.report.push_bounds.Goals as goal
+
+pub returns : goal.returns
+returns c =
+    let names = map name_of c.args.names.now in
+    on_ok_weaker c.push_sizes.result
+    (λ pushed. four_pushed c.args.text.now.items c.push_headline.new.text.items c.push_times.new.text.items c.push_total.new.text.items
+    c.push_sizes.new.text.items _ _ _ _ _ _ _ _
+    c.in_ok-push_headline.ensures
+    (ap headline_of c.deref.ensures.value ∙ headline_same c.args.o.now.gaps.items c.args.o.now.times.items)
+    c.in_ok-push_times.ensures
+    (ap (numbered (entry_line names) 1) c.deref-2.ensures.value ∙ times_same names c.args.o.now.gaps.items c.args.o.now.times.items)
+    c.in_ok-push_total.ensures refl
+    pushed
+    (ap (numbered (λ rule places. numbered (λ place s. size_line names rule place (size_of s)) 1 places.items) 1) c.deref-3.ensures.value
+    ∙ sizes_same (λ places. places.items) names c.args.o.now.sizes.items))
+    c.push_sizes.ensures

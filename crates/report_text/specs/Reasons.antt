@@ -1,0 +1,88 @@
+-- Why a time or a size is missing, as it is printed: what stands behind the colon, and the lines that follow.
+use Rattle.std.specs.Prelude.{ℕ, List, [], ◌∷◌, ◌++◌, Option, Some, None, slice_get, codes, decimal}
+use Rattle.model.specs.Programs.{Name, Symbol}
+use Rattle.proof_tree.specs.declared.answer.Question.{Question}
+use Rattle.proof_tree.specs.declared.answer.Question.TheVariants as questions
+use Rattle.proof_tree.specs.declared.answer.TripCause.{TripCause}
+use Rattle.proof_tree.specs.declared.answer.TripCause.TheVariants as causes
+use Rattle.proof_tree.specs.declared.answer.Trip.{Trip}
+use Rattle.outcome.specs.Reports.{Point, ShutPlace, Gap, NoTime, NoFunction, TimeTripped, TimeLarge, Side, Up, Low}
+use Rattle.outcome.specs.Reports.{NoSize, IsLoose, SizeTripped, IsMissing, IsBent, LacksTime, SizeLarge}
+use Rattle.report_text.specs.Pieces.{rules_text, parts_text, point_text, place_text, spot_text}
+
+-- what a linear program was asked
+abbrev pub question_text : Question → List ℕ
+question_text (questions.Empty rule) = codes "empty " ++ decimal rule
+question_text (questions.Rank rule) = codes "rank " ++ decimal rule
+question_text (questions.Local rule place) = codes "local " ++ place_text rule place
+
+-- the limit that it passed
+abbrev pub cause_text : TripCause → List ℕ
+cause_text (causes.Range pivot) = codes "range at pivot " ++ decimal pivot
+cause_text (causes.Budget pivots) = codes "budget after " ++ (decimal pivots ++ codes " pivots")
+cause_text (causes.Wide entries) = codes "wide " ++ (decimal entries ++ codes " entries")
+cause_text causes.Scale = codes "scale"
+
+abbrev pub trip_text : Trip → List ℕ
+trip_text t = question_text t.question ++ (codes " " ++ cause_text t.cause)
+
+-- the number of nodes of a bound that is too large
+abbrev pub large_text : ℕ → List ℕ
+large_text nodes = codes "large " ++ (decimal nodes ++ codes " nodes")
+
+-- the name of a symbol
+abbrev pub name_in : Option Symbol → Name
+name_in None = []
+name_in (Some s) = s.name
+
+-- a line for each shut place
+abbrev pub shut_line : List Symbol → ShutPlace → List ℕ
+shut_line symbols s =
+    codes "  shut " ++ (name_in (slice_get symbols s.symbol) ++ (codes "." ++ (decimal s.place ++ codes "\n")))
+
+abbrev pub shut_lines : List Symbol → List ShutPlace → List ℕ
+shut_lines symbols [] = []
+shut_lines symbols (s ∷ shut) = shut_line symbols s ++ shut_lines symbols shut
+
+-- a line for the point of a rule; `word` says what the point is
+abbrev pub point_line : List ℕ → ℕ → Point → List ℕ
+point_line word rule p =
+    codes "  " ++ (word ++ (codes " " ++ (decimal rule ++ (codes ": " ++ (point_text p ++ codes "\n")))))
+
+-- a line for the point of each rule of a set
+abbrev pub point_lines : List ℕ → List ℕ → List Point → List ℕ
+point_lines word [] points = []
+point_lines word (rule ∷ set) [] = []
+point_lines word (rule ∷ set) (p ∷ points) = point_line word rule p ++ point_lines word set points
+
+-- the lines of a gap: its shut places, the moves of its rules, the floor of its rule, and the kept points of its rules
+abbrev pub gap_lines : List Symbol → Gap → List ℕ
+gap_lines symbols g =
+    shut_lines symbols g.shut ++ (point_lines (codes "move") g.set g.moves
+    ++ (point_line (codes "floor") g.rule g.floor ++ point_lines (codes "kept") g.set g.kept))
+
+-- no function ranks over the set of the gap
+abbrev pub gap_text : List Symbol → Gap → List ℕ
+gap_text symbols g =
+    codes "no affine ranking function over rules " ++ (rules_text g.set ++ (codes "\n" ++ gap_lines symbols g))
+
+-- why a time is missing
+abbrev pub no_time_text : List Symbol → NoTime → List ℕ
+no_time_text symbols (NoFunction g) = gap_text symbols g
+no_time_text symbols (TimeTripped t) = trip_text t ++ codes "\n"
+no_time_text symbols (TimeLarge nodes) = large_text nodes ++ codes "\n"
+
+-- a loose side, with its ray and the point from which it starts
+abbrev pub side_text : Side → List ℕ
+side_text Up = codes "loose up\n"
+side_text Low = codes "loose low\n"
+
+-- why a size is missing
+abbrev pub no_size_text : NoSize → List ℕ
+no_size_text (IsLoose side ray kept) =
+    side_text side ++ (codes "  ray: " ++ (parts_text ray ++ (codes "\n  kept: " ++ (point_text kept ++ codes "\n"))))
+no_size_text (SizeTripped t) = trip_text t ++ codes "\n"
+no_size_text (IsMissing s) = codes "missing " ++ (spot_text s ++ codes "\n")
+no_size_text (IsBent s) = codes "bent " ++ (spot_text s ++ codes "\n")
+no_size_text (LacksTime rule) = codes "untimed " ++ (decimal rule ++ codes "\n")
+no_size_text (SizeLarge nodes) = large_text nodes ++ codes "\n"

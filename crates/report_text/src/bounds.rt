@@ -1,0 +1,123 @@
+// The lines of bounds in a report.
+
+ghost use Rattle.std.specs.Prelude.{◌≡◌, ◌++◌, length, map, OnOk};
+ghost use Rattle.its_model.specs.Views.{name_of};
+ghost use Rattle.bound_expr.specs.Views.{bound_of};
+ghost use Rattle.outcome.specs.Views.{size_of};
+ghost use Rattle.report_text.specs.Reports.{bound_end, none_end, total_line, size_end, size_line};
+ghost use Rattle.report_text.specs.Conditions.{IsPrintable, IsPrintableTime, IsPrintableSize, IsPrintableTotal};
+ghost use Rattle.report_text.specs.Conditions.{entry_end, entry_line, total_of};
+
+use crate::numbers::{push_number, push_place};
+use bound_expr::Bound;
+use its_model::Name;
+use model::Memory;
+use outcome::{SizeEntry, TimeEntry};
+use std::alloc::Global;
+
+/// The line of a rule.
+pub(crate) fn push_time(
+    alloc: Global,
+    text: &mut Vec<u8>,
+    names: &[Name],
+    rule: u64,
+    entry: &TimeEntry,
+) -> Result<(), Memory>
+    requires { IsPrintableTime (length names.now) entry.now }
+    ensures { OnOk result (text.new.items ≡ text.old.items ++ entry_line (map name_of names.now) rule entry.now) }
+{
+    text.extend_from_slice(b"time ")?;
+    push_number(text, rule)?;
+    text.extend_from_slice(b": ")?;
+    push_time_end(alloc, text, names, entry)
+}
+
+// What stands behind the colon.
+fn push_time_end(
+    alloc: Global,
+    text: &mut Vec<u8>,
+    names: &[Name],
+    entry: &TimeEntry,
+) -> Result<(), Memory>
+    requires { IsPrintableTime (length names.now) entry.now }
+    ensures { OnOk result (text.new.items ≡ text.old.items ++ entry_end (map name_of names.now) entry.now) }
+{
+    match entry {
+        TimeEntry::Known(stored) => push_bound(alloc, text, names, &stored.bound),
+        TimeEntry::Gap { .. } => text.extend_from_slice(b"unknown\n"),
+        TimeEntry::Tripped(_) => text.extend_from_slice(b"unknown\n"),
+        TimeEntry::Large { .. } => text.extend_from_slice(b"unknown\n"),
+    }
+}
+
+/// The line of the total.
+pub(crate) fn push_total(
+    alloc: Global,
+    text: &mut Vec<u8>,
+    names: &[Name],
+    total: &Option<Bound>,
+) -> Result<(), Memory>
+    requires { IsPrintableTotal (length names.now) total.now }
+    ensures { OnOk result
+        (text.new.items ≡ text.old.items ++ total_line (map name_of names.now) (total_of total.now)) }
+{
+    text.extend_from_slice(b"total: ")?;
+    match total {
+        Some(bound) => push_bound(alloc, text, names, bound),
+        None => text.extend_from_slice(b"unknown\n"),
+    }
+}
+
+/// The line of a place.
+pub(crate) fn push_size(
+    alloc: Global,
+    text: &mut Vec<u8>,
+    names: &[Name],
+    rule: u64,
+    place: u64,
+    entry: &SizeEntry,
+) -> Result<(), Memory>
+    requires { IsPrintableSize (length names.now) entry.now }
+    ensures { OnOk result
+        (text.new.items ≡ text.old.items ++ size_line (map name_of names.now) rule place (size_of entry.now)) }
+{
+    text.extend_from_slice(b"size ")?;
+    push_place(text, rule, place)?;
+    text.extend_from_slice(b": ")?;
+    push_size_end(alloc, text, names, entry)
+}
+
+// What stands behind the colon.
+fn push_size_end(
+    alloc: Global,
+    text: &mut Vec<u8>,
+    names: &[Name],
+    entry: &SizeEntry,
+) -> Result<(), Memory>
+    requires { IsPrintableSize (length names.now) entry.now }
+    ensures { OnOk result (text.new.items ≡ text.old.items ++ size_end (map name_of names.now) (size_of entry.now)) }
+{
+    match entry {
+        SizeEntry::Known(stored) => push_bound(alloc, text, names, &stored.bound),
+        SizeEntry::Loose(_) => text.extend_from_slice(b"unknown\n"),
+        SizeEntry::Tripped(_) => text.extend_from_slice(b"unknown\n"),
+        SizeEntry::Missing(_) => text.extend_from_slice(b"unknown\n"),
+        SizeEntry::Bent(_) => text.extend_from_slice(b"unknown\n"),
+        SizeEntry::Untimed { .. } => text.extend_from_slice(b"unknown\n"),
+        SizeEntry::Large { .. } => text.extend_from_slice(b"unknown\n"),
+    }
+}
+
+// The text of a bound, and the end of its line.
+fn push_bound(
+    alloc: Global,
+    text: &mut Vec<u8>,
+    names: &[Name],
+    bound: &Bound,
+) -> Result<(), Memory>
+    requires { IsPrintable (length names.now) bound.now }
+    ensures { OnOk result (text.new.items ≡ text.old.items ++ bound_end (map name_of names.now) (bound_of bound.now)) }
+{
+    text.extend_from_slice(&bound_text::print(alloc, names, bound)?)?;
+    text.extend_from_slice(b"\n")
+}

@@ -1,0 +1,12 @@
+// The report of an analysis as text. Contract to the layer above: `print` gives exactly the text of the outcome's
+// report.
+#![tactic(auto)]
+
+mod bounds;
+mod gaps;
+mod numbers;
+mod reasons;
+mod report;
+mod trips;
+
+pub use report::print;

@@ -1,0 +1,5 @@
+//! Tests of the text of reports by public calls alone.
+#![tactic(auto)]
+
+#[cfg(test)]
+mod reports;

@@ -1,0 +1,10 @@
+-- Each bound in a table made by rounds holds on all runs.
+use Rattle.round_relation.specs.Searches.{searches_of}
+use Rattle.round_relation.specs.Laws.{MadeTablesHold}
+use Rattle.round_relation.proofs.NewBounds.{made_is_good}
+
+pub made_hold : MadeTablesHold
+made_hold = record {
+  times = λ a s true_to right tab made t b e. ((made_is_good (searches_of a) s true_to right tab made).times t b e).holds;
+  sizes = λ a s true_to right tab made t i b e. ((made_is_good (searches_of a) s true_to right tab made).sizes t i b e).holds;
+}

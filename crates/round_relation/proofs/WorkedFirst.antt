@@ -1,0 +1,138 @@
+-- The first round of the program that counts down.
+use Rattle.std.proofs.Common.{◌≡◌, ℕ, zero, suc, ◌≤◌, ◌-◌, ◌⊎◌, inl, inr, Bool, not, true, false, List, [], ◌∷◌, Some, None, refl, sym, ◌∙◌, subst, arith}
+use Rattle.std.specs.List.{Contains}
+use Rattle.model.specs.Programs.{Rule, arity_of}
+use Rattle.model.specs.Bounds.{Bound, Constant, Input}
+use Rattle.model.specs.Paths.{Here, Onward, IsReached}
+use Rattle.proof_nodes.specs.Numbers.{is_in}
+use Rattle.proof_nodes.specs.AcceptsPlain.{IsRule}
+use Rattle.proof_nodes.specs.WorkedSettings.{counting, enter}
+use Rattle.proof_nodes.proofs.Membership.{is_in-cases}
+use Rattle.outcome.specs.Reports.{ShutPlace}
+use Rattle.round_relation.specs.Tables.{IsPlace}
+use Rattle.round_relation.specs.Sets.{IsShut}
+use Rattle.round_relation.specs.Searches.{NoPoint, searches_of, Ranked}
+use Rattle.round_relation.specs.Beginning.{IsDead, IsOpen, First}
+use Rattle.round_relation.specs.Worked.{nothing_known, table_with, entry_sizes, start_size, times_with}
+use Rattle.round_relation.specs.WorkedRounds.{counting_answers, value_ranks, FirstRoundIsTold}
+use Rattle.round_relation.proofs.WorkedSets.{second}
+
+no_some : (b : Bound) → None ≡ Some b → ⊥
+no_some b e = cc
+
+some_number : (a b : ℕ) → Some a ≡ Some b → a ≡ b
+some_number a b e = cc
+
+different : false ≡ true → ⊥
+different x = cc
+
+-- rule 0 is none
+no_rule_0 : IsRule counting.program 0 → ⊥
+no_rule_0 h = none h.rule h.numbered
+  where
+    none : (r : Rule) → None ≡ Some r → ⊥
+    none r e = cc
+
+-- a place after the virtual entry is place 1
+entry_place : (i : ℕ) → IsPlace counting.program 0 i → i ≡ 1
+entry_place i h =
+    let symbol = some_number 0 h.symbol h.target in
+    let last : i ≤ 1 = subst (λ (a : ℕ). i ≤ arity_of counting.program a) (sym symbol) h.last in
+    omega (arith, h.least, last)
+
+times_of : (t : ℕ) (b : Bound) → times_with None None t ≡ Some b → (t ≡ 0) ⊎ IsRule counting.program t
+times_of zero b e = inl refl
+times_of (suc zero) b e = absurd (no_some b e)
+times_of (suc (suc zero)) b e = absurd (no_some b e)
+times_of (suc (suc (suc t))) b e = absurd (no_some b e)
+
+sizes_of : (t i : ℕ) (b : Bound) → entry_sizes t i ≡ Some b → ((t ≡ 0) ⊎ IsRule counting.program t) × IsPlace counting.program t i
+sizes_of zero zero b e = absurd (no_some b e)
+sizes_of zero (suc zero) b e = (inl refl, record { symbol = 0; target = refl; least = omega arith; last = omega arith })
+sizes_of zero (suc (suc i)) b e = absurd (no_some b e)
+sizes_of (suc t) i b e = absurd (no_some b e)
+
+-- both rules are reached
+reached_1 : IsReached counting.program (λ e. true) 1
+reached_1 = Onward (Here refl) (record { number = 1; rule = enter; numbered = refl; allowed = refl; source = refl; target = refl })
+
+alive : (t : ℕ) → IsRule counting.program t → IsDead counting.program (λ e. false) t → ⊥
+alive t rule (inl e) = different e
+alive zero rule (inr u) = no_rule_0 rule
+alive (suc zero) rule (inr u) = u.reached (subst (λ (a : ℕ). IsReached counting.program (λ e. true) a) (some_number 0 u.source u.leaves) (Here refl))
+alive (suc (suc zero)) rule (inr u) = u.reached (subst (λ (a : ℕ). IsReached counting.program (λ e. true) a) (some_number 1 u.source u.leaves) reached_1)
+alive (suc (suc (suc t))) rule (inr u) = none u.source u.leaves
+  where
+    none : (a : ℕ) → None ≡ Some a → ⊥
+    none a e = cc
+
+open_at : (t : ℕ) → IsRule counting.program t → IsOpen counting.program nothing_known t
+open_at zero rule = absurd (no_rule_0 rule)
+open_at (suc zero) rule = record { time = refl; sizes = λ i place. refl }
+open_at (suc (suc zero)) rule = record { time = refl; sizes = λ i place. refl }
+open_at (suc (suc (suc t))) rule = record { time = refl; sizes = λ i place. refl }
+
+first : First (searches_of counting_answers) counting.program nothing_known
+first = record {
+  table = record { times = times_of; sizes = sizes_of };
+  is_empty = λ t. false;
+  empty = λ t rule. (λ e. absurd (different e), λ h. absurd (not_empty h.multipliers h.shown));
+  start = record { time = refl; sizes = λ i place. subst (λ (n : ℕ). start_size n ≡ Some (Input (n - 1))) (sym (entry_place i place)) refl };
+  dead = λ t rule dead. absurd (alive t rule dead);
+  live = λ t rule live. open_at t rule;
+}
+  where
+    not_empty : (m : List ℕ) → counting_answers.empty 0 ≡ NoPoint m → ⊥
+    not_empty m e = cc
+
+-- rule 1 can't have a time before the first round
+rule_1 : IsRule counting.program 1
+rule_1 = record { rule = enter; numbered = refl }
+
+too_early : First (searches_of counting_answers) counting.program (table_with (Some (Constant 1)) None) → ⊥
+too_early h = go (h.is_empty 1) refl
+  where
+    not_empty : (m : List ℕ) → counting_answers.empty 0 ≡ NoPoint m → ⊥
+    not_empty m e = cc
+
+    go : (v : Bool) → h.is_empty 1 ≡ v → ⊥
+    go true e = let is = (h.empty 1 rule_1).0 e in not_empty is.multipliers is.shown
+    go false e = no_some (Constant 1) (sym (h.live 1 rule_1 (λ dead. not_dead dead)).time)
+      where
+        not_dead : IsDead counting.program h.is_empty 1 → ⊥
+        not_dead (inl x) = different (sym e ∙ x)
+        not_dead (inr u) = u.reached (subst (λ (a : ℕ). IsReached counting.program (λ n. not (h.is_empty n)) a) (some_number 0 u.source u.leaves) (Here refl))
+
+-- no place is shut for both rules: the virtual entry has a size at its place
+none_shut : (s : ShutPlace) → IsShut counting.program nothing_known (1 ∷ 2 ∷ []) s → ⊥
+none_shut s h = go (is_in-cases h.entry 0 [] h.enters)
+  where
+    go : (h.entry ≡ 0) ⊎ (is_in h.entry [] ≡ true) → ⊥
+    go (inr m) = different m
+    go (inl e) =
+        let place : IsPlace counting.program 0 s.place = subst (λ (n : ℕ). IsPlace counting.program n s.place) e h.place in
+        let missing : entry_sizes 0 s.place ≡ None = subst (λ (n : ℕ). entry_sizes n s.place ≡ None) e h.missing in
+        no_some (Input 0) (sym (subst (λ (i : ℕ). start_size i ≡ None) (entry_place s.place place) missing))
+
+pub first_round : FirstRoundIsTold
+first_round = record {
+  first = first;
+  known_too_early = too_early;
+  second = record {
+    asked = record {
+      set = 1 ∷ 2 ∷ [];
+      shut = [];
+      answer = Ranked (value_ranks (1 ∷ 2 ∷ []) 2);
+      is_set = second;
+      are_shut = record {
+        order = tt;
+        places = λ s. (λ c. absurd (none_there s c), λ h. absurd (none_shut s h));
+      };
+      answered = refl;
+    };
+    gives = refl;
+  };
+}
+  where
+    none_there : (s : ShutPlace) → Contains [] s → ⊥
+    none_there s (k, low, e) = omega (arith, low)

@@ -1,0 +1,21 @@
+-- tables of bounds, the sets that they leave to search, and what searches answer
+pub mod Tables
+pub mod Sets
+pub mod Searches
+-- how the first table is made, and each from the one before
+pub mod Beginning
+pub mod NewTimes
+pub mod NewSizes
+pub mod Rounds
+-- why bounds are missing in the last one
+pub mod Reasons
+-- what nodes rest on, and the order of lemmas
+pub mod Uses
+pub mod LemmaOrder
+-- when the answers of searches are right
+pub mod Right
+-- laws, and values that were worked out by hand
+pub mod Laws
+pub mod Worked
+pub mod WorkedLemmas
+pub mod WorkedRounds
