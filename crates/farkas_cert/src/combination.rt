@@ -9,9 +9,6 @@ ghost use Rattle.farkas_cert.specs.Sizes.{total_size, column_limit, AreMultiplie
 
 use poly_terms::Row;
 
-/// Multipliers, the numbers of ranking functions and arms, and their denominators are at most this.
-pub const LIMIT: u64 = 1 << 55;
-
 /// A column of rows: that of an unknown, or that of the constants.
 #[derive(Clone, Copy, Debug)]
 pub(crate) enum Column {

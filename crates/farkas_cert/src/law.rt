@@ -5,7 +5,7 @@ ghost use Rattle.linear_forms.specs.Limits.{certificate_limit};
 ghost use Rattle.farkas_cert.specs.Sizes.{RowsOfARuleAreSmall};
 ghost use Rattle.farkas_cert.specs.WorkedSizes.{SizesAreWorkedOut};
 
-use crate::combination::LIMIT;
+use linear_forms::CERTIFICATE_LIMIT as LIMIT;
 
 /// At most 128 rows, with numbers of at most 2^63-1 in absolute value, meet the condition on sums. So do the rows of
 /// any rule. It has no code: its contract is the law.

@@ -9,7 +9,7 @@ mod implication;
 mod law;
 mod scaled;
 
-pub use combination::LIMIT;
 pub use implication::{empty, implies};
 pub use law::{limit_is_as_defined, rows_of_a_rule_are_small, sizes_are_as_worked_out};
+pub use linear_forms::CERTIFICATE_LIMIT as LIMIT;
 pub use scaled::{Scaled, on_rows};

@@ -1,25 +1,25 @@
 -- Where a guard holds, the values of the variables and of the bent updates are a point of the rows.
-use Rattle.std.proofs.Common.{◌≡◌, ℕ, zero, suc, ◌+◌, ◌<◌, ◌≤◌, max, List, [], ◌∷◌, ◌++◌, Bool, true, false, length, map, get_or, refl, ap, sym, ◌∙◌, subst, arith, nat_lt, if◌then◌else◌}
-use Rattle.std.specs.Prelude.{ℤ, pos, negsuc, ◌+ℤ◌, ◌-ℤ◌, ◌*ℤ◌, neg_ℤ, ◌≤ℤ◌, ◌<ℤ◌, ⊤}
+use Rattle.std.proofs.Common.{◌≡◌, ℕ, zero, suc, ◌+◌, ◌<◌, ◌≤◌, List, [], ◌∷◌, ◌++◌, Bool, true, false, length, map, get_or, refl, ap, sym, ◌∙◌, subst, arith, if◌then◌else◌}
+use Rattle.std.specs.Prelude.{ℤ, pos, ◌+ℤ◌, ◌-ℤ◌, ◌*ℤ◌, neg_ℤ, ◌≤ℤ◌, ◌<ℤ◌}
 use Rattle.std.specs.List.{All, AllByRecursion}
 use Rattle.std.proofs.lemmas.Int.{ints}
-use Rattle.std.proofs.lemmas.List.{append_assoc, length-append, get_or_at, get_or_append_left}
+use Rattle.std.proofs.lemmas.List.{append_assoc, length-append, get_or_at}
 use Rattle.std.proofs.lemmas.Bool.Decides.{nat_tests}
 use Rattle.int_laws.proofs.RingLaws.{neg-mul_ℤ}
-use Rattle.model.specs.Terms.{Term, Literal, Subtraction, value}
+use Rattle.model.specs.Terms.{Term, value}
 use Rattle.model.specs.Programs.{Relation, AtLeast, MoreThan, AtMost, LessThan, EqualTo, Related, Atom, Always, Compare, AtomHolds, GuardHolds, Rule}
-use Rattle.model.specs.Polynomials.{Polynomial, polynomial_value, degree_of}
+use Rattle.model.specs.Polynomials.{Polynomial, degree_of}
 use Rattle.linear_forms.specs.Forms.{Form, at, list_dot, form_value}
 use Rattle.linear_forms.specs.Points.{Meets, IsPoint}
 use Rattle.poly_terms.specs.Checked.{ReadsBelow}
 use Rattle.poly_terms.specs.Expanding.{expanded, variable_form}
-use Rattle.poly_terms.specs.Rows.{linear_form, HasVariablesBelow}
+use Rattle.poly_terms.specs.Rows.{linear_form}
 use Rattle.poly_terms.proofs.Values.{expanded-value}
 use Rattle.poly_terms.proofs.RowLaws.{linear_form-value}
 use Rattle.poly_terms.proofs.VariableLaws.{variables-expanded, variables-more, value-append_right}
 use Rattle.its_model.specs.Valid.{difference_of, IsValidAtom, IsValidTerm}
 use Rattle.guard_prep.specs.Tightening.{tightened}
-use Rattle.guard_prep.specs.Prepared.{is_bent, count_true, opposite_form, rows_by, rows_of_difference, rows_of_atom, rows_of_guard, all_tightened, rows_of, news_from, news_of, unknowns_of}
+use Rattle.guard_prep.specs.Prepared.{is_bent, count_true, opposite_form, rows_by, rows_of_atom, rows_of_guard, all_tightened, rows_of, news_from, news_of, unknowns_of}
 use Rattle.guard_prep.specs.Laws.{IsPreparable, IsLinear, LinearPartHolds, bent_values, point_of, GuardsGivePoints}
 use Rattle.guard_prep.proofs.TighteningLaws.{tightened-keeps}
 

@@ -1,9 +1,8 @@
 -- The numbers of rows and new values, and how many there are.
-use Rattle.std.proofs.Common.{◌≡◌, ℕ, zero, suc, ◌+◌, ◌*◌, ◌/◌, ◌<◌, ◌≤◌, max, List, [], ◌∷◌, ◌++◌, Bool, true, false, length, map, refl, ap, sym, ◌∙◌, subst, arith, nat_lt, if◌then◌else◌}
-use Rattle.std.specs.Prelude.{ℤ, pos, negsuc, neg_ℤ, nat_abs, int_le, int_div, Some, None, ⊤}
+use Rattle.std.proofs.Common.{◌≡◌, ℕ, zero, suc, ◌+◌, ◌*◌, ◌/◌, ◌≤◌, List, [], ◌∷◌, ◌++◌, Bool, true, false, length, map, refl, ap, sym, ◌∙◌, subst, arith, if◌then◌else◌}
+use Rattle.std.specs.Prelude.{ℤ, pos, negsuc, neg_ℤ, nat_abs, int_le, int_div, None}
 use Rattle.std.specs.Int.{int_div_euclid}
 use Rattle.std.specs.List.{AllByRecursion, range_with_len}
-use Rattle.std.proofs.lemmas.Int.{ints}
 use Rattle.std.proofs.lemmas.List.{length-map, length-append}
 use Rattle.std.proofs.Math.Nat.{div-le_self}
 use Rattle.model.specs.Limits.{coefficient_limit}
@@ -21,7 +20,7 @@ use Rattle.poly_terms.proofs.WideLaws.{nat_abs-neg}
 use Rattle.poly_terms.proofs.VariableLaws.{coefficient-bounded}
 use Rattle.its_model.specs.Valid.{difference_of, IsValidAtom, IsValidTerm}
 use Rattle.guard_prep.specs.Tightening.{divisor_of, tightened_by, tightened}
-use Rattle.guard_prep.specs.Prepared.{is_bent, count_true, opposite_form, rows_by, rows_of_difference, rows_of_atom, rows_of_guard, all_tightened, rows_of, news_from, news_of, unknowns_of}
+use Rattle.guard_prep.specs.Prepared.{is_bent, count_true, opposite_form, rows_by, rows_of_atom, rows_of_guard, all_tightened, news_from, unknowns_of}
 use Rattle.guard_prep.specs.Laws.{IsPreparable, IsSmallForm, RowsAreSmall}
 
 -- two lists of small forms, one after the other

@@ -1,14 +1,11 @@
 -- Each step of a valid program is a point of its rule's rows.
-use Rattle.std.proofs.Common.{◌≡◌, ℕ, zero, suc, ◌+◌, ◌<◌, ◌≤◌, max, List, [], ◌∷◌, ◌++◌, length, map, get_or, refl, ap, sym, ◌∙◌, subst, arith}
-use Rattle.std.specs.Prelude.{ℤ, pos, Option, Some, None, slice_get}
+use Rattle.std.proofs.Common.{◌≡◌, ℕ, zero, suc, ◌+◌, ◌≤◌, List, [], ◌∷◌, ◌++◌, length, sym, ◌∙◌, subst, arith}
+use Rattle.std.specs.Prelude.{pos, Some, slice_get}
 use Rattle.std.specs.List.{AllByRecursion}
 use Rattle.std.proofs.lemmas.List.{length-append, get_or_append_left}
-use Rattle.model.specs.Terms.{value}
-use Rattle.model.specs.Programs.{Symbol, Rule, Program, rule_at, arity_in, arity_of}
-use Rattle.model.specs.Runs.{Config, Step, Leads, IsStep}
-use Rattle.linear_forms.specs.Forms.{at, form_value}
+use Rattle.model.specs.Programs.{Symbol, Rule, Program, rule_at, arity_in}
+use Rattle.model.specs.Runs.{Config, Step, IsStep}
 use Rattle.its_model.specs.Valid.{IsValid, IsValidRule, IsValidSymbol}
-use Rattle.guard_prep.specs.Prepared.{unknowns_of, news_of}
 use Rattle.guard_prep.specs.Laws.{IsPreparable, ValidRulesArePreparable, bent_values, point_of, IsPointOfStep, StepsArePoints}
 use Rattle.guard_prep.proofs.PointLaws.{bent-length, guards-give-points}
 

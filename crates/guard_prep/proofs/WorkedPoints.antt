@@ -1,7 +1,6 @@
 -- Which rules have rows, and which points are those of steps: worked values.
-use Rattle.std.proofs.Common.{◌≡◌, ℕ, zero, suc, ◌<◌, ◌≤◌, List, [], ◌∷◌, Bool, true, false, length, map, refl, sym, subst, arith}
-use Rattle.std.specs.Prelude.{ℤ, pos, negsuc, ◌≤ℤ◌, None, Some}
-use Rattle.std.specs.List.{All}
+use Rattle.std.proofs.Common.{◌≡◌, ℕ, zero, suc, ◌<◌, List, [], ◌∷◌, refl, sym, subst, arith}
+use Rattle.std.specs.Prelude.{ℤ, pos, negsuc, ◌≤ℤ◌}
 use Rattle.std.proofs.lemmas.Int.{ints}
 use Rattle.std.proofs.lemmas.List.Elements.{All-nil, All-cons, All-head}
 use Rattle.model.specs.Programs.{Atom, AtomHolds}
@@ -9,9 +8,9 @@ use Rattle.linear_forms.specs.Forms.{Form, at, form_value}
 use Rattle.linear_forms.specs.Points.{IsPoint}
 use Rattle.guard_prep.specs.Tightening.{divisor_of}
 use Rattle.guard_prep.specs.Prepared.{rows_of}
-use Rattle.guard_prep.specs.Laws.{IsPointOfStep, LinearPartHolds, IsLinear}
+use Rattle.guard_prep.specs.Laws.{IsLinear}
 use Rattle.guard_prep.specs.WorkedRows.{three}
-use Rattle.guard_prep.specs.WorkedPoints.{at_least_one, square_at_least, worked_rule, worked_source, worked_target, RulesAreTold, LinearPartsAreTold, StepPointsAreTold, SmallFormsAreTold, PointsAreWorkedOut}
+use Rattle.guard_prep.specs.WorkedPoints.{at_least_one, square_at_least, worked_rule, RulesAreTold, LinearPartsAreTold, StepPointsAreTold, SmallFormsAreTold, PointsAreWorkedOut}
 
 -- which rules have rows
 rules : RulesAreTold

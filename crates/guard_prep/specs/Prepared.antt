@@ -1,7 +1,6 @@
 -- The linear rows of a rule, its new values, bent places and polynomials.
-use Rattle.std.specs.Prelude.{ℕ, zero, suc, ◌+◌, Bool, true, false, if◌then◌else◌, nat_lt, List, [], ◌∷◌, ◌++◌, map, ℤ}
+use Rattle.std.specs.Prelude.{ℕ, suc, ◌+◌, Bool, true, false, if◌then◌else◌, nat_lt, List, [], ◌∷◌, ◌++◌, map}
 use Rattle.std.specs.Prelude.{neg_ℤ}
-use Rattle.model.specs.Terms.{Term}
 use Rattle.model.specs.Programs.{Relation, AtLeast, MoreThan, AtMost, LessThan, EqualTo, Atom, Always, Compare, Rule}
 use Rattle.model.specs.Polynomials.{Polynomial, degree_of}
 use Rattle.linear_forms.specs.Forms.{Form}

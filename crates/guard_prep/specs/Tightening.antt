@@ -1,8 +1,9 @@
 -- Rows over whole numbers, tightened.
-use Rattle.std.specs.Prelude.{ℕ, zero, suc, ◌+◌, ◌%◌, Bool, true, ◌&&◌, nat_eq, if◌then◌else◌, List, [], ◌∷◌, map, ℤ}
+use Rattle.std.specs.Prelude.{ℕ, zero, suc, ◌%◌, Bool, true, ◌&&◌, nat_eq, if◌then◌else◌, List, [], ◌∷◌, map, ℤ}
 use Rattle.std.specs.Prelude.{pos, negsuc, nat_abs, int_le, int_div}
 use Rattle.std.specs.Int.{int_div_euclid}
 use Rattle.linear_forms.specs.Forms.{Form}
+use Rattle.linear_forms.specs.Sizes.{total_size}
 
 -- whether a number divides all coefficients
 abbrev pub divides_all : ℕ → List ℤ → Bool
@@ -14,12 +15,7 @@ abbrev pub divisor_upto : ℕ → List ℤ → ℕ
 divisor_upto zero coefs = 0
 divisor_upto (suc n) coefs = if divides_all (suc n) coefs then suc n else divisor_upto n coefs
 
--- the sum of the absolute values of coefficients: it is 0 where all are 0, and else no common divisor is above it
-abbrev pub total_size : List ℤ → ℕ
-total_size [] = 0
-total_size (a ∷ coefs) = nat_abs a + total_size coefs
-
--- the greatest common divisor of coefficients, 0 where all are 0
+-- the greatest common divisor of coefficients, 0 where all are 0; no common divisor is above their total size
 unfoldable pub divisor_of : List ℤ → ℕ
 divisor_of coefs = divisor_upto (total_size coefs) coefs
 

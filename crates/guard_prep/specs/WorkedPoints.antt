@@ -1,6 +1,6 @@
 -- Which rules have rows, and which points are those of steps, worked out by hand.
-use Rattle.std.specs.Prelude.{◌≡◌, ℕ, List, [], ◌∷◌, ℤ, pos, negsuc}
-use Rattle.model.specs.Terms.{Term, Literal, Variable, Subtraction, Multiplication, Exponentiation}
+use Rattle.std.specs.Prelude.{◌≡◌, [], ◌∷◌, pos, negsuc}
+use Rattle.model.specs.Terms.{Term, Literal, Variable, Subtraction, Exponentiation}
 use Rattle.model.specs.Programs.{AtLeast, Atom, Compare, Rule, GuardHolds}
 use Rattle.model.specs.Runs.{Config}
 use Rattle.linear_forms.specs.Forms.{at}
@@ -8,7 +8,7 @@ use Rattle.linear_forms.specs.Points.{IsPoint}
 use Rattle.guard_prep.specs.Prepared.{rows_of}
 use Rattle.guard_prep.specs.Laws.{IsPreparable, IsLinear, LinearPartHolds, bent_values, point_of, IsPointOfStep}
 use Rattle.guard_prep.specs.Laws.{IsSmallForm}
-use Rattle.guard_prep.specs.WorkedRows.{square, product, two, with_free}
+use Rattle.guard_prep.specs.WorkedRows.{square, two, with_free}
 
 -- the atoms A >= 1, and A*A >= B
 abbrev pub at_least_one : Atom

@@ -1,5 +1,5 @@
 -- Rows that were worked out by hand.
-use Rattle.std.specs.Prelude.{◌≡◌, ℕ, List, [], ◌∷◌, ℤ, pos, negsuc, true, false}
+use Rattle.std.specs.Prelude.{◌≡◌, List, [], ◌∷◌, ℤ, pos, negsuc, true, false}
 use Rattle.model.specs.Terms.{Term, Literal, Variable, Addition, Subtraction, Multiplication}
 use Rattle.model.specs.Programs.{AtLeast, MoreThan, AtMost, LessThan, EqualTo, Atom, Always, Compare, Rule}
 use Rattle.linear_forms.specs.Forms.{Form}

@@ -10,9 +10,9 @@ use Rattle.model.specs.Paths.{target_in, target_of, source_of, same_symbol, entr
 use Rattle.its_graph.specs.Groups.{values_of}
 use Rattle.its_model.specs.declared.program.Rule as code
 use Rattle.its_model.specs.Views.{rule_of}
-use Rattle.its_graph.specs.Links.{link_of, AreBelow, arrivals_from, arrivals}
+use Rattle.its_graph.specs.Links.{ends_of, AreBelow, arrivals_from, arrivals}
 use Rattle.its_graph.specs.declared.graph.Graph.{Graph}
-use Rattle.its_graph.specs.Graphs.{ends_of, IsGraphOf}
+use Rattle.its_graph.specs.Graphs.{IsGraphOf}
 use Rattle.its_graph.proofs.PairLists.{Pair}
 
 -- what arrives at a symbol is what leads to it
@@ -62,11 +62,6 @@ arrivals-within n start links low h = let first : Pair = (start, 0) in All-cons 
     rest : (i : ℕ) (links : List Pair) → All (λ (e : Pair). (e.0 < n) × (e.1 < n)) links → All (λ (e : Pair). e.0 < n) (arrivals_from i links)
     rest i [] h = All-nil (λ (e : Pair). e.0 < n)
     rest i (l ∷ links) h = let first : Pair = (l.1, i) in All-cons (λ (e : Pair). e.0 < n) first (arrivals_from (suc i) links) (h 0 l (omega arith)).1 (rest (suc i) links (λ k d lower. h (suc k) d (omega arith)))
-
--- the links of rules are their ends as plain data
-pub links-ends : (rules : List code.Rule) → map link_of rules ≡ map ends_of (map rule_of rules)
-links-ends [] = refl
-links-ends (r ∷ rules) = ap (λ (xs : List Pair). link_of r ∷ xs) (links-ends rules)
 
 -- rules that are below a number as plain data are
 pub below-symbols : (n : ℕ) (rules : List code.Rule) → All (λ (r : Rule). (r.source < n) × (r.target < n)) (map rule_of rules) → AreBelow n rules

@@ -10,9 +10,9 @@ use Rattle.std.proofs.lemmas.List.Elements.{All-nil, All-cons, All-weaker, All-m
 use Rattle.model.specs.Programs.{Program, Rule, rule_at}
 use Rattle.model.specs.Paths.{HasEdge}
 use Rattle.its_graph.specs.Groups.{values_of, values_in, Joins, IsPair, swap}
-use Rattle.its_graph.specs.Links.{kept_links, all_cut}
+use Rattle.its_graph.specs.Links.{ends_of, kept_links, all_cut}
 use Rattle.its_graph.specs.declared.graph.Graph.{Graph}
-use Rattle.its_graph.specs.Graphs.{ends_of, flagged, none_of, IsGraphOf}
+use Rattle.its_graph.specs.Graphs.{flagged, none_of, IsGraphOf}
 use Rattle.its_graph.proofs.Elements.{Told, told}
 use Rattle.its_graph.proofs.PairLists.{Pair, same_pair, pair-cases, pair-later, pair-within, joins-pairs, swap-from, swap-listed}
 

@@ -20,6 +20,8 @@ pub mod Reaching
 pub mod KeptLinks
 pub mod Arrivals
 pub mod SetMembers
+pub mod InnerLinks
+pub mod SymbolLaws
 mod ListedNodes
 mod WorkedLoop
 mod WorkedBackward

@@ -14,7 +14,7 @@ use Rattle.its_model.specs.declared.program.Rule.{Rule}
 use Rattle.its_model.specs.Views.{program_of, rule_of}
 use Rattle.its_graph.specs.Groups.{values_in, items_of, IsPair}
 use Rattle.its_graph.specs.Components.{IsMutual, IsListed, IsNext, IsListing}
-use Rattle.its_graph.specs.Links.{link_of, AreBelow}
+use Rattle.its_graph.specs.Links.{ends_of, link_of, AreBelow}
 use Rattle.its_graph.specs.Naming.{named}
 use Rattle.its_graph.specs.Numbers.{AreApart, AreNumbers, HasInside}
 use Rattle.its_graph.proofs.Naming.{named-each, named-others}
@@ -134,43 +134,52 @@ module _ (Edge : ℕ → ℕ → Type 0) (n : ℕ) (lists : List (Vec ℕ Global
       same m = h ka.0 a ka.1 ∙ sym (h ka.0 b (mutual-inside ka.0 a b ka.1 m))
 
 -- an edge of a program is one of its links
-pub edge-link : (p : Program) (a b : ℕ) → HasEdge (program_of p) any_rule a b ↔ IsPair (map link_of p.rules.items) a b
-edge-link p a b = (λ h. onward h.number h.rule h.numbered h.source h.target, λ h. back h)
+pub edge-pair : (p : plain.Program) (a b : ℕ) → HasEdge p any_rule a b ↔ IsPair (map ends_of p.rules) a b
+edge-pair p a b = (λ h. onward h.number h.rule h.numbered h.source h.target, λ h. back h)
   where
-    onward : (t : ℕ) (r : plain.Rule) → rule_at (program_of p) t ≡ Some r → r.source ≡ a → r.target ≡ b → IsPair (map link_of p.rules.items) a b
+    onward : (t : ℕ) (r : plain.Rule) → rule_at p t ≡ Some r → r.source ≡ a → r.target ≡ b → IsPair (map ends_of p.rules) a b
     onward zero r e source target = absurd (none_some e)
       where
         none_some : None ≡ Some r → ⊥
         none_some x = cc
-    onward (suc t) r e source target = listed p.rules.items t e
+    onward (suc t) r e source target = listed p.rules t e
       where
-        listed : (rules : List Rule) (t : ℕ) → slice_get (map rule_of rules) t ≡ Some r → Contains (map link_of rules) (a, b)
+        listed : (rules : List plain.Rule) (t : ℕ) → slice_get rules t ≡ Some r → Contains (map ends_of rules) (a, b)
         listed [] t e = absurd (none_some e)
           where
             none_some : None ≡ Some r → ⊥
             none_some x = cc
         listed (q ∷ rules) zero e =
-            let same : rule_of q ≡ r = cc in
-            (zero, omega arith, same_pair (link_of q) a b (ap (λ (s : plain.Rule). s.source) same ∙ source) (ap (λ (s : plain.Rule). s.target) same ∙ target))
-        listed (q ∷ rules) (suc t) e = pair-later (link_of q) (map link_of rules) (a, b) (listed rules t e)
+            let same : q ≡ r = cc in
+            (zero, omega arith, same_pair (ends_of q) a b (ap (λ (s : plain.Rule). s.source) same ∙ source) (ap (λ (s : plain.Rule). s.target) same ∙ target))
+        listed (q ∷ rules) (suc t) e = pair-later (ends_of q) (map ends_of rules) (a, b) (listed rules t e)
 
-    back : IsPair (map link_of p.rules.items) a b → HasEdge (program_of p) any_rule a b
-    back (k, low, e) = found p.rules.items k (omega (arith, length-map p.rules.items link_of)) e
+    back : IsPair (map ends_of p.rules) a b → HasEdge p any_rule a b
+    back (k, low, e) = found p.rules k (omega (arith, length-map p.rules ends_of)) e
       where
-        found : (rules : List Rule) (k : ℕ) → k < length rules → get_or (map link_of rules) k (a, b) ≡ (a, b) → HasEdge (record (program_of p) { rules = map rule_of rules }) any_rule a b
+        found : (rules : List plain.Rule) (k : ℕ) → k < length rules → get_or (map ends_of rules) k (a, b) ≡ (a, b) → HasEdge (record p { rules = rules }) any_rule a b
         found [] k low e = absurd (omega arith)
-        found (q ∷ rules) zero low e = record { number = 1; rule = rule_of q; numbered = refl; allowed = refl; source = ap (λ (x : Pair). x.0) e; target = ap (λ (x : Pair). x.1) e }
+        found (q ∷ rules) zero low e = record { number = 1; rule = q; numbered = refl; allowed = refl; source = ap (λ (x : Pair). x.0) e; target = ap (λ (x : Pair). x.1) e }
         found (q ∷ rules) (suc k) low e = later (found rules k (omega arith) e)
           where
-            later : HasEdge (record (program_of p) { rules = map rule_of rules }) any_rule a b → HasEdge (record (program_of p) { rules = map rule_of (q ∷ rules) }) any_rule a b
+            later : HasEdge (record p { rules = rules }) any_rule a b → HasEdge (record p { rules = q ∷ rules }) any_rule a b
             later h = go h.number h.numbered
               where
-                go : (t : ℕ) → rule_at (record (program_of p) { rules = map rule_of rules }) t ≡ Some h.rule → HasEdge (record (program_of p) { rules = map rule_of (q ∷ rules) }) any_rule a b
+                go : (t : ℕ) → rule_at (record p { rules = rules }) t ≡ Some h.rule → HasEdge (record p { rules = q ∷ rules }) any_rule a b
                 go zero x = absurd (none_some x)
                   where
                     none_some : None ≡ Some h.rule → ⊥
                     none_some y = cc
                 go (suc t) x = record { number = suc (suc t); rule = h.rule; numbered = x; allowed = refl; source = h.source; target = h.target }
+
+-- the links of the code's rules are those of the rules as plain data
+pub links-ends : (rules : List Rule) → map link_of rules ≡ map ends_of (map rule_of rules)
+links-ends [] = refl
+links-ends (r ∷ rules) = ap (λ (xs : List Pair). link_of r ∷ xs) (links-ends rules)
+
+-- so it is with the edges of a program of the code
+pub edge-link : (p : Program) (a b : ℕ) → HasEdge (program_of p) any_rule a b ↔ IsPair (map link_of p.rules.items) a b
+edge-link p a b = subst (λ (es : List Pair). HasEdge (program_of p) any_rule a b ↔ IsPair es a b) (sym (links-ends p.rules.items)) (edge-pair (program_of p) a b)
 
 -- the links of rules below a number are within
 pub links-within : (n : ℕ) (rules : List Rule) → AreBelow n rules → All (λ (e : Pair). (e.0 < n) × (e.1 < n)) (map link_of rules)

@@ -9,8 +9,8 @@ use Rattle.std.proofs.lemmas.List.{get_or-map, length-map, get_or_past}
 use Rattle.std.proofs.lemmas.List.Elements.{All-nil, All-cons, All-weaker}
 use Rattle.model.specs.Programs.{Program, Rule, rule_at}
 use Rattle.model.specs.Paths.{Path, HasEdge, IsInSet, target_in, target_of, source_of}
-use Rattle.its_graph.specs.Links.{is_member, members_from}
-use Rattle.its_graph.specs.Graphs.{ends_of, flagged}
+use Rattle.its_graph.specs.Links.{ends_of, is_member, members_from}
+use Rattle.its_graph.specs.Graphs.{flagged}
 use Rattle.its_graph.proofs.Elements.{Contains-cons_cases, Contains-first, Contains-later, none_in_empty, Told, told}
 use Rattle.its_graph.proofs.PairLists.{Pair}
 use Rattle.its_graph.proofs.Membership.{increasing-cons}

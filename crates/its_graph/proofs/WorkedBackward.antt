@@ -1,16 +1,15 @@
 -- The worked values of components of the graph with one edge from its last node to its first.
-use Rattle.std.proofs.Common.{◌≡◌, ◌⊎◌, inl, inr, ℕ, zero, suc, ◌+◌, ◌<◌, ◌≤◌, List, [], ◌∷◌, ◌++◌, Contains, get_or, refl, sym, ◌∙◌, ap, subst, arith}
+use Rattle.std.proofs.Common.{◌≡◌, ◌⊎◌, inl, inr, ℕ, zero, suc, ◌<◌, ◌≤◌, List, [], ◌∷◌, ◌++◌, Contains, refl, sym, ◌∙◌, ap, subst, arith}
 use Rattle.std.specs.Prelude.{◌↔◌}
-use Rattle.std.specs.List.Sorted.{IsStrictlyIncreasing}
 use Rattle.model.specs.Paths.{Path, Here, Onward}
 use Rattle.its_graph.specs.Components.{IsMutual, IsListed, IsReady, IsNext, IsListing}
 use Rattle.its_graph.specs.WorkedComponents.{Backward}
-use Rattle.its_graph.proofs.Routes.{mutual-self, mutual-turned, one_edge}
-use Rattle.its_graph.proofs.Elements.{Contains-cons_cases, none_in_empty}
-use Rattle.its_graph.proofs.ListedNodes.{in-one, in-cons, in-two, alone, increasing-one, Below, below-three}
+use Rattle.its_graph.proofs.Routes.{mutual-self, one_edge}
+use Rattle.its_graph.proofs.Elements.{none_in_empty}
+use Rattle.its_graph.proofs.ListedNodes.{in-one, in-cons, in-two, increasing-one, Below, below-three}
 
 -- an edge of the graph
-edge_of : (a b : ℕ) → Backward a b → (a ≡ 2) × (b ≡ 0)
+pub edge_of : (a b : ℕ) → Backward a b → (a ≡ 2) × (b ≡ 0)
 edge_of a b (zero, low, e) = let same : (2, 0) ≡ (a, b) = e in (sym (ap (λ (p : ℕ × ℕ). p.0) same), sym (ap (λ (p : ℕ × ℕ). p.1) same))
 edge_of a b (suc k, low, e) = absurd (omega (arith, low))
 

@@ -1,8 +1,8 @@
 -- The worked values of components, and of what none is.
-use Rattle.std.proofs.Common.{◌≡◌, ◌⊎◌, inl, inr, ℕ, zero, suc, ◌+◌, ◌<◌, List, [], ◌∷◌, ◌++◌, Contains, refl, sym, subst, arith}
-use Rattle.std.specs.List.Sorted.{IsStrictlyIncreasing}
-use Rattle.its_graph.specs.Components.{IsMutual, IsListed, IsReady, IsNext, IsListing}
-use Rattle.its_graph.specs.WorkedComponents.{Loop, Backward, zero_alone, MutualNodesAreTold, ListedNodesAreTold, ReadyNodesAreTold, NextComponentsAreTold, ListingsAreTold, ComponentsAreWorkedOut}
+use Rattle.std.proofs.Common.{◌≡◌, ◌⊎◌, inl, inr, ℕ, zero, suc, List, [], ◌∷◌, Contains, refl, sym, subst, arith}
+use Rattle.its_graph.specs.Components.{IsMutual, IsNext, IsListing}
+use Rattle.its_graph.specs.WorkedComponents.{Loop, Backward, zero_alone, MutualNodesAreTold, ListedNodesAreTold, ReadyNodesAreTold, NextComponentsAreTold, ListingsAreTold, InnerLinksAreTold, ComponentsAreWorkedOut}
+use Rattle.its_graph.specs.Cycles.{HasInnerLink}
 use Rattle.its_graph.proofs.Routes.{mutual-self}
 use Rattle.its_graph.proofs.ListedNodes.{in-first, in-one, in-two}
 use Rattle.its_graph.proofs.Elements.{none_in_empty}
@@ -89,6 +89,59 @@ listings = record {
   ends_first = other_backward ((2 ∷ []) ∷ (0 ∷ []) ∷ (1 ∷ []) ∷ []) (λ e. cc);
 }
 
+-- no component of one node holds both ends of the edge from 2 to 0
+not_inside : (x a b : ℕ) → Contains (x ∷ []) a → Contains (x ∷ []) b → Backward a b → ⊥
+not_inside x a b ha hb edge =
+    let from = in-one x a ha in
+    let to = in-one x b hb in
+    let ends = backward.edge_of a b edge in
+    let source : a ≡ 2 = ends.0 in
+    let target : b ≡ 0 = ends.1 in
+    omega (arith, from, to, source, target)
+
+-- so none of the second graph does
+no_inner_link : HasInnerLink ((2, 0) ∷ []) ((1 ∷ []) ∷ (2 ∷ []) ∷ (0 ∷ []) ∷ []) → ⊥
+no_inner_link h = go h.component h.listed h.holds_from h.holds_to
+  where
+    go : (c : List ℕ) → Contains ((1 ∷ []) ∷ (2 ∷ []) ∷ (0 ∷ []) ∷ []) c → Contains c h.from → Contains c h.to → ⊥
+    go c (zero, low, e) f t =
+        not_inside 1 h.from h.to (subst (λ (d : List ℕ). Contains d h.from) (sym e) f)
+        (subst (λ (d : List ℕ). Contains d h.to) (sym e) t) h.link
+    go c (suc zero, low, e) f t =
+        not_inside 2 h.from h.to (subst (λ (d : List ℕ). Contains d h.from) (sym e) f)
+        (subst (λ (d : List ℕ). Contains d h.to) (sym e) t) h.link
+    go c (suc (suc zero), low, e) f t =
+        not_inside 0 h.from h.to (subst (λ (d : List ℕ). Contains d h.from) (sym e) f)
+        (subst (λ (d : List ℕ). Contains d h.to) (sym e) t) h.link
+    go c (suc (suc (suc k)), low, e) f t = omega (arith, low)
+
+none_listed : (c : List ℕ) → Contains {X = List ℕ} [] c → ⊥
+none_listed c (k, low, e) = omega (arith, low)
+
+inner_links : InnerLinksAreTold
+inner_links = record {
+  loop = record {
+    component = 1 ∷ 2 ∷ [];
+    listed = (1, omega arith, refl);
+    from = 1;
+    to = 2;
+    link = (1, omega arith, refl);
+    holds_from = (0, omega arith, refl);
+    holds_to = (1, omega arith, refl);
+  };
+  itself = record {
+    component = 0 ∷ [];
+    listed = (0, omega arith, refl);
+    from = 0;
+    to = 0;
+    link = (0, omega arith, refl);
+    holds_from = (0, omega arith, refl);
+    holds_to = (0, omega arith, refl);
+  };
+  backward = no_inner_link;
+  unlisted = λ h. none_listed h.component h.listed;
+}
+
 -- all of it
 pub components-are-worked-out : ComponentsAreWorkedOut
-components-are-worked-out = record { mutual_nodes = mutual_nodes; listed_nodes = listed_nodes; ready_nodes = ready_nodes; next_components = next_components; listings = listings }
+components-are-worked-out = record { mutual_nodes = mutual_nodes; listed_nodes = listed_nodes; ready_nodes = ready_nodes; next_components = next_components; listings = listings; inner_links = inner_links }

@@ -2,18 +2,19 @@
 use Rattle.std.specs.Prelude.{◌≡◌, ℕ, ◌<◌, ◌≤◌, ◌^◌, List, length, map, All, Bool, not, eqb, slice_index_or, false}
 use Rattle.std.specs.List.{list_any}
 use Rattle.model.specs.Programs.{Program, Rule}
+use Rattle.its_model.specs.Valid.{IsValid}
 use Rattle.its_graph.specs.declared.graph.Graph.{Graph}
 use Rattle.its_graph.specs.Groups.{values_in, values_of}
-use Rattle.its_graph.specs.Links.{arrivals}
-
--- from where to where a rule leads
-abbrev pub ends_of : Rule → ℕ × ℕ
-ends_of r = (r.source, r.target)
+use Rattle.its_graph.specs.Links.{ends_of, arrivals}
 
 -- the start symbol and those of the rules are symbols of the program
 pub record HasSymbols (p : Program) : Type 0 where
   pub start : p.start < length p.symbols
   pub rules : All (λ (r : Rule). (r.source < length p.symbols) × (r.target < length p.symbols)) p.rules
+
+-- a valid program has the symbols that it names
+abbrev pub ValidHaveSymbols : Type 0
+ValidHaveSymbols = (p : Program) → IsValid p → HasSymbols p
 
 -- the graph is that of the program: its start, its links, one for each rule, and for each symbol the virtual entry and
 -- the rules that lead to it; it has as many symbols as the program, where this has all that it names

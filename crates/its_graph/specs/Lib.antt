@@ -1,4 +1,5 @@
 pub mod Acyclic
+pub mod Cycles
 pub mod Groups
 pub mod Floods
 pub mod Components

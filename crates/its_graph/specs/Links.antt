@@ -1,11 +1,17 @@
 -- The links between symbols.
 use Rattle.std.specs.Prelude.{ℕ, suc, ◌<◌, List, [], ◌∷◌, ◌++◌, All, Bool, false, if◌then◌else◌, ◌==◌, ◌&&◌, ◌||◌}
 use Rattle.std.specs.Prelude.{slice_index_or, slice_set}
+use Rattle.model.specs.Programs as plain
 use Rattle.its_model.specs.declared.program.Rule.{Rule}
+use Rattle.its_model.specs.Views.{rule_of}
 
 -- the link of a rule: from its source to its target
+abbrev pub ends_of : plain.Rule → ℕ × ℕ
+ends_of r = (r.source, r.target)
+
+-- the same of a rule of the code
 abbrev pub link_of : Rule → ℕ × ℕ
-link_of r = (r.source, r.target)
+link_of r = ends_of (rule_of r)
 
 -- each rule leads from a symbol below the number to another below it
 abbrev pub AreBelow : ℕ → List Rule → Type 0

@@ -1,7 +1,9 @@
--- Which nodes are in one component, what comes next and which lists are right, worked out by hand on two graphs.
+-- Which nodes are in one component, what comes next, which lists are right, and which components have an edge inside,
+-- worked out by hand on two graphs.
 use Rattle.std.specs.Prelude.{ℕ, List, [], ◌∷◌}
 use Rattle.its_graph.specs.Groups.{IsPair}
 use Rattle.its_graph.specs.Components.{IsMutual, IsListed, IsReady, IsNext, IsListing}
+use Rattle.its_graph.specs.Cycles.{HasInnerLink}
 
 -- the graph with an edge from 0 to 1, and edges from 1 to 2 and back
 abbrev pub Loop : ℕ → ℕ → Type 0
@@ -63,6 +65,14 @@ pub record ListingsAreTold : Type 0 where
   pub by_numbers : ¬ (IsListing Backward 3 ((0 ∷ []) ∷ (1 ∷ []) ∷ (2 ∷ []) ∷ []))
   pub ends_first : ¬ (IsListing Backward 3 ((2 ∷ []) ∷ (0 ∷ []) ∷ (1 ∷ []) ∷ []))
 
+-- the second component of the first graph has an edge inside, and so has one whose only node leads to itself; none of
+-- the second graph has, nor has one that holds both ends of a link but isn't listed
+pub record InnerLinksAreTold : Type 0 where
+  pub loop : HasInnerLink ((0, 1) ∷ (1, 2) ∷ (2, 1) ∷ []) ((0 ∷ []) ∷ (1 ∷ 2 ∷ []) ∷ [])
+  pub itself : HasInnerLink ((0, 0) ∷ []) zero_alone
+  pub backward : ¬ (HasInnerLink ((2, 0) ∷ []) ((1 ∷ []) ∷ (2 ∷ []) ∷ (0 ∷ []) ∷ []))
+  pub unlisted : ¬ (HasInnerLink ((0, 0) ∷ []) [])
+
 -- all of it
 pub record ComponentsAreWorkedOut : Type 0 where
   pub mutual_nodes : MutualNodesAreTold
@@ -70,3 +80,4 @@ pub record ComponentsAreWorkedOut : Type 0 where
   pub ready_nodes : ReadyNodesAreTold
   pub next_components : NextComponentsAreTold
   pub listings : ListingsAreTold
+  pub inner_links : InnerLinksAreTold

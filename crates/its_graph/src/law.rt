@@ -1,13 +1,26 @@
-// What the runs of a program without a cycle have in common, and that components have one order.
+// What components say of cycles, what the runs of a program without a cycle have in common, and that components have
+// one order.
 
 ghost use Rattle.its_graph.specs.Acyclic.{WithoutCycleEachRuleAtMostOnce};
 ghost use Rattle.its_graph.specs.Components.{ListingsAreUnique};
+ghost use Rattle.its_graph.specs.Cycles.{CyclesAreInnerLinks};
+ghost use Rattle.its_graph.specs.Graphs.{ValidHaveSymbols};
 ghost use Rattle.its_graph.specs.WorkedComponents.{ComponentsAreWorkedOut};
 
 /// The law that in each run of a program without a cycle every rule occurs at most once, and that the run has at most
 /// as many steps as there are rules. It has no code: its contract is the law.
 pub fn without_cycle_each_rule_at_most_once()
     ensures { WithoutCycleEachRuleAtMostOnce }
+{}
+
+/// The graph of a program has a cycle exactly where some listed component holds both ends of a link.
+pub fn cycles_are_inner_links()
+    ensures { CyclesAreInnerLinks }
+{}
+
+/// A valid program has the symbols that it names, so that its graph has as many symbols as the program.
+pub fn valid_programs_have_symbols()
+    ensures { ValidHaveSymbols }
 {}
 
 /// A graph has at most one list of its strongly connected components in their order.

@@ -20,7 +20,8 @@ mod tables;
 pub use cycle::has_cycle;
 pub use graph::Graph;
 pub use law::{
-    components_are_as_worked_out, listings_are_unique, without_cycle_each_rule_at_most_once,
+    components_are_as_worked_out, cycles_are_inner_links, listings_are_unique,
+    valid_programs_have_symbols, without_cycle_each_rule_at_most_once,
 };
 pub use listing::components;
 

@@ -1,8 +1,9 @@
 // Lists of pairs, grouped by the first of each.
 
-ghost use Rattle.std.specs.Prelude.{◌≡◌, ℕ, ◌<◌, ◌++◌, ◌∷◌, [], length, map, IfOk, OnOk, if◌then◌else◌, ◌==◌, All};
+ghost use Rattle.std.specs.Prelude.{◌≡◌, ℕ, ◌<◌, [], length, map, IfOk, All};
 ghost use Rattle.its_graph.specs.Groups.{values_of, values_in, swap};
 
+use crate::tables::push_to;
 use std::alloc::{AllocError, Global};
 
 /// The values of each key below `count`, in the order of the pairs. The time is linear in both.
@@ -17,7 +18,7 @@ pub(crate) fn grouped(
 {
     let mut lists = empty_lists(alloc, count)?;
     for (key, value) in pairs {
-        add(&mut lists, *key as usize, *value)?;
+        push_to(&mut lists, *key as usize, *value)?;
     }
     Ok(lists)
 }
@@ -32,16 +33,6 @@ pub(crate) fn empty_lists(alloc: Global, count: usize) -> Result<Vec<Vec<u32>>, 
         lists.push(Vec::new(alloc))?;
     }
     Ok(lists)
-}
-
-// A key gets one value more.
-fn add(lists: &mut [Vec<u32>], key: usize, value: u32) -> Result<(), AllocError>
-    requires { key < length lists.old }
-    ensures { OnOk result ((a : ℕ) → values_in lists.new a
-        ≡ (if key == a then values_in lists.old a ++ value ∷ [] else values_in lists.old a)) }
-{
-    lists[key].push(value)?;
-    Ok(())
 }
 
 /// Each pair turned round.

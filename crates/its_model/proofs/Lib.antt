@@ -1,5 +1,6 @@
 pub mod WorkedValues
 pub mod ListLaws
+pub mod ValidLaws
 mod StepLaws
 mod RuleLaws
 mod WorkedPrograms

@@ -1,6 +1,6 @@
--- A step of a loop over a list that contracts read by a map.
+-- A step of a loop over a list that contracts read by a map, and what holds of all elements.
 use Rattle.std.proofs.Common.{◌≡◌, ℕ, zero, suc, ◌+◌, ◌<◌, length, drop, get_or, List, [], ◌∷◌, map, ap, sym, ◌∙◌, subst, arith}
-use Rattle.std.specs.List.{AllByRecursion}
+use Rattle.std.specs.List.{All, AllByRecursion}
 use Rattle.std.proofs.lemmas.List.{drop_more}
 
 -- the elements from i on, x being the one at i
@@ -17,3 +17,13 @@ mapped-all {X} P f xs i x h l e = subst (λ (y : X). P (f y)) (sym e) (at xs i h
     at [] i h l = absurd (omega arith)
     at (y ∷ ys) zero h l = h.0
     at (y ∷ ys) (suc i) h l = at ys i h.1 (omega arith)
+
+-- all, by recursion and by positions
+pub all-to : {X : Type 0} (P : X → Type 0) (xs : List X) → AllByRecursion P xs → All P xs
+all-to P [] h k d l = absurd (omega arith)
+all-to P (x ∷ xs) h zero d l = h.0
+all-to P (x ∷ xs) h (suc k) d l = all-to P xs h.1 k d (omega arith)
+
+pub all-from : {X : Type 0} (P : X → Type 0) (xs : List X) → All P xs → AllByRecursion P xs
+all-from P [] h = tt
+all-from P (x ∷ xs) h = (h 0 x (omega arith), all-from P xs (λ k d l. h (suc k) d (omega arith)))

@@ -1,7 +1,7 @@
 -- The first fault of a use of a rule, and steps.
 use Rattle.std.proofs.Common.{◌≡◌, ℕ, zero, suc, ◌≤◌, ◌&&◌, List, [], ◌∷◌, ◌++◌, length, map, Bool, true, false, refl, ap, sym, ◌∙◌, subst, arith, nat_eq, if◌then◌else◌}
 use Rattle.std.specs.Prelude.{ℤ, ◌<ℤ◌, Option, Some, None, slice_get}
-use Rattle.std.specs.List.{All, AllByRecursion}
+use Rattle.std.specs.List.{AllByRecursion}
 use Rattle.std.specs.declared.cmp.Ordering.{Ordering}
 use Rattle.std.specs.declared.cmp.Ordering.TheVariants.{Less, Equal, Greater}
 use Rattle.std.specs.Ordering.{int_eq, int_cmp, is_eq, MatchOrdering}
@@ -13,6 +13,7 @@ use Rattle.model.specs.Programs.{Relation, AtLeast, MoreThan, AtMost, LessThan, 
 use Rattle.model.specs.Runs.{Config, Step, Leads, IsStep}
 use Rattle.poly_terms.specs.Checked.{values_fit, value_within}
 use Rattle.its_model.specs.Steps.{StepFault, OtherRule, AtomFails, PastRange, first_of, is_related, atom_fault, guard_fault, updates_fault, rule_fault, found_fault, step_fault, AtomFits, RuleFits, maximum_arity, StepsHaveNoFault}
+use Rattle.its_model.proofs.ListLaws.{all-to, all-from}
 
 -- a value that is answered is the expression's, and nothing passes 128 bits
 pub within-some : (u : Term) (env : List ℤ) (z : ℤ) → Some z ≡ value_within u env → (values_fit u env ≡ true) × (z ≡ value u env)
@@ -115,16 +116,6 @@ updates-fit env (u ∷ us) h = go (values_fit u env) refl h (updates-fit env us)
 updates-no_fault : (env : List ℤ) (us : List Term) → AllByRecursion (λ u. values_fit u env ≡ true) us → updates_fault env us ≡ None
 updates-no_fault env [] f = refl
 updates-no_fault env (u ∷ us) f = ap (λ (b : Bool). if b then updates_fault env us else Some PastRange) f.0 ∙ updates-no_fault env us f.1
-
--- all, by recursion and by positions
-all-to : (P : Atom → Type 0) (xs : List Atom) → AllByRecursion P xs → All P xs
-all-to P [] h k d l = absurd (omega arith)
-all-to P (x ∷ xs) h zero d l = h.0
-all-to P (x ∷ xs) h (suc k) d l = all-to P xs h.1 k d (omega arith)
-
-all-from : (P : Atom → Type 0) (xs : List Atom) → All P xs → AllByRecursion P xs
-all-from P [] h = tt
-all-from P (x ∷ xs) h = (h 0 x (omega arith), all-from P xs (λ k d l. h (suc k) d (omega arith)))
 
 -- what a rule without a fault fulfils
 record Sound (r : Rule) (c : Config) (free : List ℤ) : Type 0 where

@@ -1,6 +1,7 @@
 pub mod Views
 pub mod Worked
 pub mod Valid
+pub mod ValidLaws
 pub mod Steps
 pub mod StepAnswers
 pub mod Ready

@@ -1,5 +1,6 @@
-// How guards, programs, configurations and steps are read.
+// How guards, programs, configurations and steps are read, and what holds of valid programs.
 
+ghost use Rattle.its_model.specs.ValidLaws.{AritiesOfValidAgree};
 ghost use Rattle.its_model.specs.Worked.{WorkedValues};
 ghost use Rattle.its_model.specs.WorkedPrograms.{ProgramsAreWorkedOut};
 ghost use Rattle.its_model.specs.WorkedSteps.{StepsAreWorkedOut};
@@ -18,4 +19,10 @@ pub fn programs_are_worked_out()
 /// The faults of steps, and which comes first, are what was worked out by hand.
 pub fn steps_are_worked_out()
     ensures { StepsAreWorkedOut }
+{}
+
+/// Each rule of a valid program has an update for each place of its target, and a left variable for each place of its
+/// source. So in its runs each configuration has one value for each place.
+pub fn arities_of_valid_agree()
+    ensures { AritiesOfValidAgree }
 {}

@@ -12,7 +12,9 @@ mod step;
 mod step_error;
 
 pub use guard::{Atom, Rel};
-pub use law::{programs_are_worked_out, steps_are_worked_out, worked_values_hold};
+pub use law::{
+    arities_of_valid_agree, programs_are_worked_out, steps_are_worked_out, worked_values_hold,
+};
 pub use program::{Program, Rule, Symbol};
 pub use run::{Config, Step};
 pub use step::{step_checked, steps_have_no_fault};

@@ -12,4 +12,5 @@ pub mod QuestionValues
 pub mod ProgramLaws
 pub mod Causes
 pub mod Limits
+pub mod Sizes
 pub mod CertificateLaws

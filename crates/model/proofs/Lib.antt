@@ -5,3 +5,5 @@ pub mod CountdownRuns
 pub mod WorkedFacts
 pub mod StepLaws
 pub mod PathValues
+pub mod Membership
+pub mod Entries

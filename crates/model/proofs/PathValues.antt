@@ -1,8 +1,8 @@
 -- The worked values of paths, sets and entries.
-use Rattle.std.proofs.Common.{◌≡◌, ℕ, zero, suc, ◌≤◌, ◌⊎◌, inl, inr, Bool, true, false, Some, None, ◌≢◌, refl, sym, ◌∙◌, ap, arith, ◌==◌}
-use Rattle.std.proofs.lemmas.Bool.Decides.{eqb_tells}
+use Rattle.std.proofs.Common.{◌≡◌, ℕ, zero, suc, ◌≤◌, ◌⊎◌, inl, inr, Bool, true, false, Some, None, refl, sym, ◌∙◌, ap, arith, [], ◌∷◌, Contains}
 use Rattle.model.specs.Programs.{Rule, rule_at}
-use Rattle.model.specs.Paths.{Here, Onward, HasEdge, HasPath, any_rule, IsInSet, IsEntry, comes_before}
+use Rattle.model.specs.Paths.{Here, Onward, HasEdge, HasPath, any_rule, IsInSet, comes_before}
+use Rattle.model.specs.Entries.{IsEntry}
 use Rattle.model.specs.Worked.{bare_rule}
 use Rattle.model.specs.PathValues.{PathsAreTold, nested, not_second, last_two}
 
@@ -71,25 +71,16 @@ timed (inr h) = different h.untimed
     different : false ≡ true → ⊥
     different x = cc
 
--- only rule 3 is a member, and rule 1 doesn't lead to where it comes from
-not_entry : IsEntry nested (λ t. t == 3) 1 → ⊥
-not_entry h = go (eqb_tells h.member 3)
-  where
-    go : ((h.member == 3) ≡ true) × (h.member ≡ 3) ⊎ ((h.member == 3) ≡ false) × (h.member ≢ 3) → ⊥
-    go (inl (test, same)) = different (ap (λ (t : ℕ). comes_before nested 1 t) (sym same) ∙ h.before)
-      where
-        different : comes_before nested 1 3 ≡ true → ⊥
-        different x = cc
-    go (inr (test, other)) = different (sym test ∙ h.inside)
-      where
-        different : false ≡ true → ⊥
-        different x = cc
+-- what is in a list of one number is that number
+in_one : (a x : ℕ) → Contains (a ∷ []) x → x ≡ a
+in_one a x (zero, low, e) = sym e
+in_one a x (suc k, low, e) = absurd (omega (arith, low))
 
--- a member is no entry
-member_no_entry : IsEntry nested (λ t. t == 3) 3 → ⊥
-member_no_entry h = different h.outside
+-- rule 3 alone is a member, and rule 1 doesn't lead to where it comes from
+not_entry : IsEntry nested (3 ∷ []) 1 → ⊥
+not_entry h = different (ap (λ (t : ℕ). comes_before nested 1 t) (sym (in_one 3 h.member h.inside)) ∙ h.before)
   where
-    different : true ≡ false → ⊥
+    different : comes_before nested 1 3 ≡ true → ⊥
     different x = cc
 
 -- paths, sets and entries are what was worked out
@@ -109,7 +100,16 @@ paths_are_told = record {
   own_set = inl refl;
   not_in_set = not_in_set;
   timed = timed;
-  entry = record { outside = refl; member = 3; inside = refl; before = refl };
+  entry = record {
+    outside = λ c. omega (arith, in_one 3 2 c);
+    member = 3;
+    inside = (zero, omega arith, refl);
+    before = refl;
+  };
   not_entry = not_entry;
-  member_no_entry = member_no_entry;
+  member_no_entry = λ h. h.outside (zero, omega arith, refl);
+  listed_entries = refl;
+  virtual_entry = refl;
+  all_rules = refl;
+  no_set = refl;
 }

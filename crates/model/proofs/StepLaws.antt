@@ -1,15 +1,15 @@
 -- What holds of every run, step by step.
-use Rattle.std.proofs.Common.{◌≡◌, ℕ, zero, suc, ◌<◌, List, [], ◌∷◌, ◌++◌, length, filter, ℤ, Bool, true, false, Some, None, Option, ◌⊎◌, ◌≢◌, inl, inr, refl, sym, ◌∙◌, ap, subst, arith, ◌==◌}
+use Rattle.std.proofs.Common.{◌≡◌, ℕ, zero, suc, ◌<◌, List, [], ◌∷◌, ◌++◌, length, filter, ℤ, Bool, true, false, Some, None, Option, refl, sym, ◌∙◌, ap, subst, arith}
 use Rattle.std.specs.List.{All, Contains, range_with_len}
 use Rattle.std.proofs.lemmas.List.{length-map}
 use Rattle.std.proofs.lemmas.List.Elements.{All-head, All-tail}
 use Rattle.std.proofs.lemmas.List.FromFn.{length-range_with_len, get_or-range_with_len}
 use Rattle.std.proofs.lemmas.Option.{slice_get_within}
-use Rattle.std.proofs.lemmas.Bool.Decides.{eqb_tells}
 use Rattle.model.specs.Terms.{value}
 use Rattle.model.specs.Programs.{Program, Rule, rule_at, arity_of}
 use Rattle.model.specs.Runs.{Config, Step, IsRun, last_rule}
 use Rattle.model.specs.Paths.{Here, Onward, IsReached, target_in, target_of, source_in, source_of, same_symbol, comes_before, entry_and_rules, pre}
+use Rattle.model.proofs.Membership.{same_number}
 use Rattle.model.specs.RunLaws.{AritiesAgree, IsSomeRun, RunsGoStepByStep}
 
 -- a beginning of a run is a run
@@ -33,14 +33,6 @@ source_of-rule p t r h = ap source_in h
 pub stands : (p : Program) (start : List ℤ) (steps : List Step) (c : Config) → IsRun p start steps c → target_of p (last_rule steps) ≡ Some c.at
 stands p start [] c run = ap Some (sym run.at)
 stands p start (s ∷ earlier) c (b, run, step) = target_of-rule p s.rule step.rule step.numbered ∙ ap Some (sym step.leads.target)
-
--- a number is itself
-same_number : (a : ℕ) → (a == a) ≡ true
-same_number a = go (eqb_tells a a)
-  where
-    go : ((a == a) ≡ true) × (a ≡ a) ⊎ ((a == a) ≡ false) × (a ≢ a) → (a == a) ≡ true
-    go (inl (test, same)) = test
-    go (inr (test, other)) = absurd (other refl)
 
 -- symbols that are there and the same are the same symbol
 same_symbol-same : (a b : Option ℕ) (s : ℕ) → a ≡ Some s → b ≡ Some s → same_symbol a b ≡ true

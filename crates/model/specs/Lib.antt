@@ -6,6 +6,7 @@ pub mod Runs
 pub mod Bounds
 pub mod Facts
 pub mod Paths
+pub mod Entries
 pub mod Limits
 -- the laws of these, and values that were worked out by hand
 pub mod RunLaws

@@ -1,7 +1,8 @@
 -- Worked values of paths, of what can come before a rule, and of sets and their entries.
 use Rattle.std.specs.Prelude.{◌≡◌, ℕ, [], ◌∷◌, Bool, not, ◌==◌, ◌||◌, Some, None}
 use Rattle.model.specs.Programs.{Program}
-use Rattle.model.specs.Paths.{IsReached, HasPath, any_rule, target_of, source_of, pre, IsInSet, IsEntry}
+use Rattle.model.specs.Paths.{IsReached, HasPath, any_rule, target_of, source_of, pre, IsInSet}
+use Rattle.model.specs.Entries.{IsEntry, entries}
 use Rattle.model.specs.Worked.{bare_rule, with_rules}
 
 -- two nested loops: rule 1 from 0 to 1, rule 2 from 1 to 2, rule 3 from 2 to itself, and rule 4 from 2 back to 1
@@ -17,7 +18,8 @@ last_two t = (t == 3) || (t == 4)
 
 -- the entry leads to the start and comes from nowhere; 2 is reached, but not without rule 2, and nothing leads back to
 -- 0; with all rules untimed rule 1 is in the set of rule 3, with rules 3 and 4 alone rule 4 isn't, and rule 3 is in its
--- own; rule 2 is an entry of the set of rule 3 alone, and rules 1 and 3 are none
+-- own; rule 2 is an entry of the set of rule 3 alone, and rules 1 and 3 are none; rules 1 and 3 are the entries of the
+-- set of rules 4 and 2, the virtual entry is that of the set of rule 1 and of all rules, and no rules have none
 pub record PathsAreTold : Type 0 where
   pub entry_target : target_of nested 0 ≡ Some 0
   pub entry_source : source_of nested 0 ≡ None
@@ -33,6 +35,10 @@ pub record PathsAreTold : Type 0 where
   pub own_set : IsInSet nested last_two 3 3
   pub not_in_set : ¬ (IsInSet nested last_two 3 4)
   pub timed : ¬ (IsInSet nested last_two 3 2)
-  pub entry : IsEntry nested (λ t. t == 3) 2
-  pub not_entry : ¬ (IsEntry nested (λ t. t == 3) 1)
-  pub member_no_entry : ¬ (IsEntry nested (λ t. t == 3) 3)
+  pub entry : IsEntry nested (3 ∷ []) 2
+  pub not_entry : ¬ (IsEntry nested (3 ∷ []) 1)
+  pub member_no_entry : ¬ (IsEntry nested (3 ∷ []) 3)
+  pub listed_entries : entries nested (4 ∷ 2 ∷ []) ≡ 1 ∷ 3 ∷ []
+  pub virtual_entry : entries nested (1 ∷ []) ≡ 0 ∷ []
+  pub all_rules : entries nested (1 ∷ 2 ∷ 3 ∷ 4 ∷ []) ≡ 0 ∷ []
+  pub no_set : entries nested [] ≡ []

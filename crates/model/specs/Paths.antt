@@ -1,5 +1,6 @@
 -- Paths along the edges of a graph and along the rules of a program, and what is said by them.
-use Rattle.std.specs.Prelude.{◌≡◌, ◌⊎◌, ℕ, zero, suc, ◌==◌, List, length, Bool, true, false, filter, Option, Some, None, slice_get}
+use Rattle.std.specs.Prelude.{◌≡◌, ◌⊎◌, ℕ, zero, suc, ◌==◌, List, length, filter, Bool, true, false}
+use Rattle.std.specs.Prelude.{Option, Some, None, slice_get}
 use Rattle.std.specs.List.{range_with_len}
 use Rattle.model.specs.Programs.{Program, Rule, rule_at}
 
@@ -86,10 +87,3 @@ pub record LeadsBackTo (p : Program) (is_untimed : ℕ → Bool) (t e : ℕ) : T
 -- from
 abbrev pub IsInSet : Program → (ℕ → Bool) → ℕ → ℕ → Type 0
 IsInSet p is_untimed t e = (e ≡ t) ⊎ LeadsBackTo p is_untimed t e
-
--- an entry of a set of rules is a rule outside it, or the virtual entry, that can come just before one of its rules
-pub record IsEntry (p : Program) (is_member : ℕ → Bool) (e : ℕ) : Type 0 where
-  pub outside : is_member e ≡ false
-  pub member : ℕ
-  pub inside : is_member member ≡ true
-  pub before : comes_before p e member ≡ true

@@ -18,7 +18,7 @@ pub use limits::{
     ATOM_LIMIT, COEFFICIENT_LIMIT, DEGREE_LIMIT, MONOMIAL_LIMIT, NAME_LIMIT, PLACE_LIMIT,
     RULE_LIMIT, TOKEN_LIMIT, VARIABLE_LIMIT, limits_are_as_defined,
 };
-pub use runs::{paths_are_as_worked_out, runs_go_step_by_step};
+pub use runs::{entries_are_listed, paths_are_as_worked_out, runs_go_step_by_step};
 
 /// Want of memory, as an error type of its own.
 pub type Memory = std::alloc::AllocError;

@@ -1,6 +1,7 @@
-// What holds of every run, step by step, and worked values of paths.
+// What holds of every run, step by step, the entries of a set of rules, and worked values of paths.
 
 ghost use Rattle.model.specs.RunLaws.{AllRunsGoStepByStep};
+ghost use Rattle.model.specs.Entries.{AllEntriesAreListed};
 ghost use Rattle.model.specs.PathValues.{PathsAreTold};
 
 /// A beginning of a run is a run. A run stands where its last rule leads to, and the rule before can come just before
@@ -8,6 +9,12 @@ ghost use Rattle.model.specs.PathValues.{PathsAreTold};
 /// value for each place of the symbol at which it stands.
 pub fn runs_go_step_by_step()
     ensures { AllRunsGoStepByStep }
+{}
+
+/// A number is in the list of the entries of a set exactly where it is an entry: a rule outside the set, or the virtual
+/// entry, that can come just before a rule of the set. The list ascends.
+pub fn entries_are_listed()
+    ensures { AllEntriesAreListed }
 {}
 
 /// Paths, what can come just before a rule, sets of untimed rules and entries are what was worked out by hand.

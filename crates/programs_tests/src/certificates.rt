@@ -25,6 +25,18 @@ fn rows_of(alloc: Global, parts: &[(i128, i128)]) -> Result<Vec<Row>, AllocError
     Ok(rows)
 }
 
+// Rows of coefficients and a constant.
+fn rows_of_several(alloc: Global, parts: &[(&[i128], i128)]) -> Result<Vec<Row>, AllocError> {
+    let mut rows = Vec::new(alloc);
+    for (coefs, constant) in parts {
+        rows.push(Row {
+            coefs: (*coefs).to_vec(alloc)?,
+            constant: *constant,
+        })?;
+    }
+    Ok(rows)
+}
+
 // Whether the numbers of a list are below 2^63.
 fn are_row_numbers(numbers: &[i128]) -> bool
     ensures { IsTrue result → AreRowNumbers numbers.now }
@@ -76,7 +88,16 @@ fn are_multipliers(multipliers: &[u64]) -> bool
 }
 
 // Whether the goal follows, or none where the numbers aren't within their limits.
-fn follows(
+fn follows(rows: &[Row], multipliers: &[u64], goal: &Row) -> Option<bool> {
+    if are_small(rows) && are_multipliers(multipliers) {
+        Some(implies(rows, multipliers, goal))
+    } else {
+        None
+    }
+}
+
+// The same of rows and a goal of one coefficient.
+fn follows_in_one(
     alloc: Global,
     rows: &[(i128, i128)],
     multipliers: &[u64],
@@ -89,11 +110,22 @@ fn follows(
         coefs,
         constant: goal.1,
     };
-    if are_small(&rows) && are_multipliers(multipliers) {
-        Ok(Some(implies(&rows, multipliers, &goal)))
-    } else {
-        Ok(None)
-    }
+    Ok(follows(&rows, multipliers, &goal))
+}
+
+// The same of rows and a goal of several coefficients.
+fn follows_in_several(
+    alloc: Global,
+    rows: &[(&[i128], i128)],
+    multipliers: &[u64],
+    goal: (&[i128], i128),
+) -> Result<Option<bool>, AllocError> {
+    let rows = rows_of_several(alloc, rows)?;
+    let goal = Row {
+        coefs: goal.0.to_vec(alloc)?,
+        constant: goal.1,
+    };
+    Ok(follows(&rows, multipliers, &goal))
 }
 
 // Whether rows are shown to have no point, or none likewise.
@@ -165,8 +197,40 @@ fn goals_follow_where_the_rest_is_not_negative(rt: HostRuntime) -> Result<(), Fa
         (&[(LARGEST + 1, 0)], &[1], (0, 0), None),
     ];
     for (rows, multipliers, goal, want) in table {
-        let found = follows(alloc, rows, multipliers, goal)?;
+        let found = follows_in_one(alloc, rows, multipliers, goal)?;
         assert_eq!(rt; found, want, "at {rows:?} by {multipliers:?} to {goal:?}");
+    }
+    Ok(())
+}
+
+#[test]
+fn goals_follow_in_each_unknown(rt: HostRuntime) -> Result<(), Fail> {
+    let alloc = rt.alloc();
+    // A >= B and B >= 3; and A >= 0 and C >= 1, of which the first leaves out what it doesn't read.
+    let chain: &[(&[i128], i128)] = &[(&[1, -1], 0), (&[0, 1], -3)];
+    let apart: &[(&[i128], i128)] = &[(&[1], 0), (&[0, 0, 1], -1)];
+    let table: [(&[(&[i128], i128)], &[u64], (&[i128], i128), bool); 13] = [
+        (chain, &[1, 1], (&[1, 0], -3), true),
+        (chain, &[1, 1], (&[1], -3), true),
+        (chain, &[1, 1], (&[1, 0, 0], -2), true),
+        (chain, &[1, 1], (&[1, 0], -4), false),
+        (chain, &[1, 1], (&[1, 1], -3), false),
+        (chain, &[1, 1], (&[0, 0], -3), false),
+        (chain, &[1, 1], (&[1, 0, 1], -3), false),
+        (chain, &[2, 1], (&[2, -1], -3), true),
+        (chain, &[2, 1], (&[1, 0], -3), false),
+        (apart, &[1, 2], (&[1, 0, 2], -2), true),
+        (apart, &[1, 2], (&[1], -2), false),
+        (apart, &[0, 1], (&[0, 0, 1], -1), true),
+        (apart, &[0, 1], (&[0, 1, 0], -1), false),
+    ];
+    for (rows, multipliers, goal, want) in table {
+        let found = follows_in_several(alloc, rows, multipliers, goal)?;
+        assert_eq!(rt;
+            found,
+            Some(want),
+            "at {rows:?} by {multipliers:?} to {goal:?}"
+        );
     }
     Ok(())
 }

@@ -5,8 +5,8 @@ use poly_terms::{Expr, Poly, PolyError, Row, expand};
 use std::alloc::{AllocError, Global};
 use std::test::Fail;
 
-// A polynomial as a table writes it: each monomial's coefficient with its variables.
-type Written = &'static [(i128, &'static [u32])];
+/// A polynomial as a table writes it: each monomial's coefficient with its variables.
+pub(crate) type Written = &'static [(i128, &'static [u32])];
 
 // The sum of this many variables, the first one numbered 0.
 fn variables(alloc: Global, count: u32) -> Result<Expr, AllocError> {
@@ -17,8 +17,8 @@ fn variables(alloc: Global, count: u32) -> Result<Expr, AllocError> {
     Ok(sum)
 }
 
-// Whether a polynomial is what was written.
-fn is_as_written(p: &Poly, written: Written) -> bool {
+/// Whether a polynomial is what was written.
+pub(crate) fn is_as_written(p: &Poly, written: Written) -> bool {
     if p.terms.len() != written.len() {
         return false;
     }

@@ -11,9 +11,9 @@ mod components;
 #[cfg(test)]
 mod expansions;
 #[cfg(test)]
-mod graphs;
+mod graph_closures;
 #[cfg(test)]
-mod polynomials;
+mod graphs;
 #[cfg(test)]
 mod programs;
 #[cfg(test)]

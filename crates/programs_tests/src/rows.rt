@@ -1,19 +1,16 @@
 // The rows and the new values of rules, worked out by hand. The rules have one left variable, A, and one free one, C.
 
-ghost use Rattle.std.specs.Prelude.{◌≡◌, map, true, None, IfOk};
-ghost use Rattle.std.specs.List.{AllByRecursion};
-ghost use Rattle.poly_terms.specs.Checked.{ReadsBelow};
-ghost use Rattle.poly_terms.specs.Faults.{first_fault};
-ghost use Rattle.poly_terms.specs.Views.{term_of};
-ghost use Rattle.its_model.specs.Valid.{IsValidAtom, IsValidTerm, difference_of};
-ghost use Rattle.its_model.specs.Views.{atom_of, relation_of, rule_of};
+ghost use Rattle.std.specs.Prelude.{◌≡◌, true};
+ghost use Rattle.its_model.specs.Views.{rule_of};
 ghost use Rattle.guard_prep.specs.Laws.{IsPreparable};
 
+use crate::expansions::{Written, is_as_written};
+use crate::trees::{are_valid_atoms, are_valid_updates};
 use Part::{Is, True};
 use Rel::{Eq, Ge, Gt, Le, Lt};
 use guard_prep::{RuleRows, rows};
 use its_model::{Atom, Rel, Rule};
-use poly_terms::{Expr, Poly, PolyError, Row, expand, expand_difference, expand_strict_difference};
+use poly_terms::{Expr, Poly, Row};
 use std::alloc::{AllocError, Global};
 use std::test::Fail;
 
@@ -104,100 +101,41 @@ fn forms_in_two(alloc: Global, written: &[[i128; 3]]) -> Result<Vec<Row>, AllocE
     Ok(forms)
 }
 
-// Whether each variable of an expression is below n.
-fn reads_below(n: u32, e: &Expr) -> bool
-    ensures { result ≡ true → ReadsBelow n (term_of e.now) }
-{
-    match e {
-        Expr::Num(_) => true,
-        Expr::Var(i) => *i < n,
-        Expr::Neg(e) => reads_below(n, e),
-        Expr::Add(d, e) => reads_below(n, d) && reads_below(n, e),
-        Expr::Sub(d, e) => reads_below(n, d) && reads_below(n, e),
-        Expr::Mul(d, e) => reads_below(n, d) && reads_below(n, e),
-        Expr::Pow(e, _) => reads_below(n, e),
-    }
-}
-
-// The expanded difference of a comparison.
-fn difference(alloc: Global, d: &Expr, rel: Rel, e: &Expr) -> Result<Poly, PolyError>
-    ensures { IfOk result (λ _. first_fault (difference_of (term_of d.now) (relation_of rel) (term_of e.now)) ≡ None) }
-{
-    match rel {
-        Rel::Ge | Rel::Eq => expand_difference(alloc, d, e),
-        Rel::Gt => expand_strict_difference(alloc, d, e),
-        Rel::Le => expand_difference(alloc, e, d),
-        Rel::Lt => expand_strict_difference(alloc, e, d),
-    }
-}
-
-// Whether an atom that can be expanded reads variables below n alone.
-fn is_valid_atom(alloc: Global, n: u32, atom: &Atom) -> Result<bool, PolyError>
-    ensures { IfOk result (λ yes. yes ≡ true → IsValidAtom n (atom_of atom.now)) }
-{
-    match atom {
-        Atom::Always => Ok(true),
-        Atom::Compare { left, rel, right } => {
-            difference(alloc, left, *rel, right)?;
-            Ok(reads_below(n, left) && reads_below(n, right))
-        }
-    }
-}
-
-// Whether atoms that can be expanded read variables below n alone.
-fn are_valid_atoms(alloc: Global, n: u32, atoms: &[Atom]) -> Result<bool, PolyError>
-    ensures { IfOk result (λ yes. yes ≡ true → AllByRecursion (IsValidAtom n) (map atom_of atoms.now)) }
-{
-    for atom in atoms {
-        if !is_valid_atom(alloc, n, atom)? {
-            return Ok(false);
-        }
-    }
-    Ok(true)
-}
-
-// Whether an update that can be expanded reads variables below n alone.
-fn is_valid_update(alloc: Global, n: u32, u: &Expr) -> Result<bool, PolyError>
-    ensures { IfOk result (λ yes. yes ≡ true → IsValidTerm n (term_of u.now)) }
-{
-    expand(alloc, u)?;
-    Ok(reads_below(n, u))
-}
-
-// Whether updates that can be expanded read variables below n alone.
-fn are_valid_updates(alloc: Global, n: u32, updates: &[Expr]) -> Result<bool, PolyError>
-    ensures { IfOk result (λ yes. yes ≡ true → AllByRecursion (IsValidTerm n) (map term_of updates.now)) }
-{
-    for u in updates {
-        if !is_valid_update(alloc, n, u)? {
-            return Ok(false);
-        }
-    }
-    Ok(true)
-}
-
-// Whether a rule whose atoms and updates can be expanded has rows.
-fn is_preparable(alloc: Global, r: &Rule) -> Result<bool, PolyError>
-    ensures { IfOk result (λ yes. yes ≡ true → IsPreparable (rule_of r.now)) }
+// Whether a rule has rows: its atoms and updates can be expanded.
+fn is_preparable(alloc: Global, r: &Rule) -> bool
+    ensures { result ≡ true → IsPreparable (rule_of r.now) }
 {
     if r.left > 32 || r.free > 32 || r.guard.len() > 64 || r.updates.len() > 32 {
-        return Ok(false);
+        return false;
     }
-    let variables = r.left + r.free;
-    if are_valid_atoms(alloc, variables, &r.guard)? {
+    let variables = (r.left + r.free) as usize;
+    if are_valid_atoms(alloc, variables, &r.guard) {
         are_valid_updates(alloc, variables, &r.updates)
     } else {
-        Ok(false)
+        false
     }
 }
 
 // What is prepared of a rule, or none where it has no rows.
-fn prepared(alloc: Global, r: &Rule) -> Result<Option<RuleRows>, PolyError> {
-    if is_preparable(alloc, r)? {
+fn prepared(alloc: Global, r: &Rule) -> Result<Option<RuleRows>, AllocError> {
+    if is_preparable(alloc, r) {
         Ok(Some(rows(alloc, r)?))
     } else {
         Ok(None)
     }
+}
+
+// Whether polynomials are what was written.
+fn are_as_written(polys: &[Poly], written: &[Written]) -> bool {
+    if polys.len() != written.len() {
+        return false;
+    }
+    for (p, w) in polys.iter().zip(written) {
+        if !is_as_written(p, *w) {
+            return false;
+        }
+    }
+    true
 }
 
 #[test]
@@ -345,54 +283,91 @@ fn guards_have_the_rows_that_were_worked_out(rt: HostRuntime) -> Result<(), Fail
         let found = prepared(alloc, &rule(alloc, &[], guard)?)?.ok_or("no rows")?;
         let wanted = forms_in_two(alloc, wanted)?;
         assert_eq!(rt; found.rows.as_slice(), wanted.as_slice(), "of {text}");
+        assert_eq!(rt; found.left, 1, "of {text}");
     }
     Ok(())
 }
 
+// What is prepared of a rule with the guard A > C: which updates are bent, the row of the guard, the forms of the new
+// values, and the polynomials.
+#[derive(Clone, Copy)]
+struct Case {
+    updates: &'static [&'static [i128]],
+    bent: &'static [bool],
+    row: &'static [i128],
+    news: &'static [&'static [i128]],
+    polys: &'static [Written],
+}
+
+const CASES: [Case; 5] = [
+    Case {
+        updates: &[],
+        bent: &[],
+        row: &[-1, 1, -1],
+        news: &[],
+        polys: &[],
+    },
+    // A + 2*C - 3 and 2^63-1
+    Case {
+        updates: &[&[-3, 1, 2], &[MOST]],
+        bent: &[false, false],
+        row: &[-1, 1, -1],
+        news: &[&[-3, 1, 2], &[MOST, 0, 0]],
+        polys: &[&[(-3, &[]), (1, &[0]), (2, &[1])], &[(MOST, &[])]],
+    },
+    // A*A, A + 2*C - 3 and C - A*A
+    Case {
+        updates: &[&[0, 0, 0, 1], &[-3, 1, 2], &[0, 0, 1, -1]],
+        bent: &[true, false, true],
+        row: &[-1, 1, -1, 0, 0],
+        news: &[&[0, 0, 0, 1, 0], &[-3, 1, 2, 0, 0], &[0, 0, 0, 0, 1]],
+        polys: &[
+            &[(1, &[0, 0])],
+            &[(-3, &[]), (1, &[0]), (2, &[1])],
+            &[(-1, &[0, 0]), (1, &[1])],
+        ],
+    },
+    // C and A*A
+    Case {
+        updates: &[&[0, 0, 1], &[0, 0, 0, 1]],
+        bent: &[false, true],
+        row: &[-1, 1, -1, 0],
+        news: &[&[0, 0, 1, 0], &[0, 0, 0, 1]],
+        polys: &[&[(1, &[1])], &[(1, &[0, 0])]],
+    },
+    // -A + 0*A*A isn't bent.
+    Case {
+        updates: &[&[0, -1, 0, 0]],
+        bent: &[false],
+        row: &[-1, 1, -1],
+        news: &[&[0, -1, 0]],
+        polys: &[&[(-1, &[0])]],
+    },
+];
+
 #[test]
 fn the_unknowns_of_bent_updates_come_last(rt: HostRuntime) -> Result<(), Fail> {
     let alloc = rt.alloc();
-    // The updates, which of them are bent, the row of A > C and the new values.
-    let table: [(&[&[i128]], &[bool], &[i128], &[&[i128]]); 5] = [
-        (&[], &[], &[-1, 1, -1], &[]),
-        // A + 2*C - 3 and 2^63-1
-        (
-            &[&[-3, 1, 2], &[MOST]],
-            &[false, false],
-            &[-1, 1, -1],
-            &[&[-3, 1, 2], &[MOST, 0, 0]],
-        ),
-        // A*A, A + 2*C - 3 and C - A*A
-        (
-            &[&[0, 0, 0, 1], &[-3, 1, 2], &[0, 0, 1, -1]],
-            &[true, false, true],
-            &[-1, 1, -1, 0, 0],
-            &[&[0, 0, 0, 1, 0], &[-3, 1, 2, 0, 0], &[0, 0, 0, 0, 1]],
-        ),
-        // C and A*A
-        (
-            &[&[0, 0, 1], &[0, 0, 0, 1]],
-            &[false, true],
-            &[-1, 1, -1, 0],
-            &[&[0, 0, 1, 0], &[0, 0, 0, 1]],
-        ),
-        // -A + 0*A*A isn't bent.
-        (&[&[0, -1, 0, 0]], &[false], &[-1, 1, -1], &[&[0, -1, 0]]),
-    ];
-    for (updates, bent, row, news) in table {
-        let guard = [Is([0, 1, 0, 0], Gt, [0, 0, 1, 0])];
-        let found = prepared(alloc, &rule(alloc, updates, &guard)?)?.ok_or("no rows")?;
-        assert_eq!(rt; found.unknowns as usize, row.len() - 1, "for {updates:?}");
-        assert_eq!(rt; found.bent.as_slice(), bent, "for {updates:?}");
+    let guard = [Is([0, 1, 0, 0], Gt, [0, 0, 1, 0])];
+    for (i, case) in CASES.iter().enumerate() {
+        let found = prepared(alloc, &rule(alloc, case.updates, &guard)?)?.ok_or("no rows")?;
+        assert_eq!(rt;
+            found.unknowns as usize,
+            case.row.len().saturating_sub(1),
+            "case {i}"
+        );
+        assert_eq!(rt; found.left, 1, "case {i}");
+        assert!(rt; are_as_written(&found.polys, case.polys), "case {i}");
+        assert_eq!(rt; found.bent.as_slice(), case.bent, "case {i}");
         assert_eq!(rt;
             found.rows.as_slice(),
-            forms(alloc, &[row])?.as_slice(),
-            "for {updates:?}"
+            forms(alloc, &[case.row])?.as_slice(),
+            "case {i}"
         );
         assert_eq!(rt;
             found.news.as_slice(),
-            forms(alloc, news)?.as_slice(),
-            "for {updates:?}"
+            forms(alloc, case.news)?.as_slice(),
+            "case {i}"
         );
     }
     Ok(())

@@ -8,11 +8,11 @@ use Rattle.std.proofs.lemmas.List.Elements.{All-head, All-tail}
 use Rattle.model.specs.Bounds.{Bound, val, val_sum, val_product}
 use Rattle.model.specs.Polynomials.{Monomial, Polynomial, product_value, monomial_value, polynomial_value}
 use Rattle.linear_forms.specs.Forms.{at}
-use Rattle.proof_nodes.specs.Numbers.{is_in}
+use Rattle.model.specs.Entries.{is_in}
 use Rattle.proof_nodes.specs.Composed.{parts_for}
 use Rattle.proof_nodes.specs.ComposedSizes.{monomial_parts}
 use Rattle.proof_nodes.specs.AcceptsSizes.{ReadsLeft}
-use Rattle.proof_nodes.proofs.Membership.{same_number, is_in-cases, no_is_not_yes}
+use Rattle.model.proofs.Membership.{same_number, is_in-cases, no_is_not_yes}
 
 -- a number and its negation are at most the absolute value
 pub abs-up : (x : ℤ) → x ≤ℤ pos (nat_abs x)

@@ -1,10 +1,10 @@
 -- Lists of checks: what passes, the first that fails, and what a check for each element of a list says.
-use Rattle.std.proofs.Common.{◌≡◌, ◌⊎◌, inl, inr, ℕ, ◌<◌, ◌==◌, Bool, true, false, List, [], ◌∷◌, ◌++◌, map, filter, refl, sym, ap, ◌∙◌, subst}
+use Rattle.std.proofs.Common.{◌≡◌, ◌⊎◌, inl, inr, ℕ, ◌<◌, ◌==◌, Bool, true, false, List, [], ◌∷◌, ◌++◌, map, filter, refl, sym, ◌∙◌, subst}
 use Rattle.std.specs.List.{AllByRecursion, range_with_len}
-use Rattle.proof_nodes.specs.Numbers.{is_in}
+use Rattle.model.specs.Entries.{is_in}
 use Rattle.proof_nodes.specs.Reasons.{Reason, Check, for_each, AllPass, IsFirstAmong}
 use Rattle.proof_nodes.proofs.Stable.{IsStable}
-use Rattle.proof_nodes.proofs.Membership.{same_number, no_is_not_yes, is_in-cases, is_in-filter, is_in-numbers}
+use Rattle.model.proofs.Membership.{same_number, no_is_not_yes, is_in-cases, is_in-filter, filter-in, is_in-numbers}
 use Rattle.std.proofs.lemmas.Bool.{or_left, or_right}
 
 -- where all pass no reason is the first
@@ -63,28 +63,6 @@ module _ (P : ℕ → Type 0) where
     h y (or_left (y == y) (is_in y ys) (same_number y)),
     in-each ys (λ x k. h x (or_right (x == y) (is_in x ys) k)),
   )
-
--- a number that is in a filtered list is in the list and passes
-pub filter-in : (test : ℕ → Bool) (xs : List ℕ) (x : ℕ) → is_in x (filter test xs) ≡ true
-    → (is_in x xs ≡ true) × (test x ≡ true)
-filter-in test [] x h = absurd (no_is_not_yes false refl h)
-filter-in test (y ∷ ys) x h = go (test y) refl (λ m. filter-in test ys x m)
-  where
-    later : (is_in x (filter test ys) ≡ true → (is_in x ys ≡ true) × (test x ≡ true)) → is_in x (filter test ys) ≡ true
-        → (is_in x (y ∷ ys) ≡ true) × (test x ≡ true)
-    later ih m = let k = ih m in (or_right (x == y) (is_in x ys) k.0, k.1)
-
-    go : (v : Bool) → test y ≡ v → (is_in x (filter test ys) ≡ true → (is_in x ys ≡ true) × (test x ≡ true))
-        → (is_in x (y ∷ ys) ≡ true) × (test x ≡ true)
-    go false e ih = later ih (rw e at h)
-    go true e ih = by (is_in-cases x y (filter test ys) (rw e at h))
-      where
-        by : (x ≡ y) ⊎ (is_in x (filter test ys) ≡ true) → (is_in x (y ∷ ys) ≡ true) × (test x ≡ true)
-        by (inl same) = (
-          or_left (x == y) (is_in x ys) (subst (λ (n : ℕ). (x == n) ≡ true) same (same_number x)),
-          ap test same ∙ e,
-        )
-        by (inr m) = later ih m
 
 -- what holds of each of two lists, and of their join
 pub each-append : {A : Type 0} (P : A → Type 0) (xs ys : List A) → AllByRecursion P xs → AllByRecursion P ys

@@ -9,14 +9,14 @@ use Rattle.model.specs.Bounds.{Bound, val, IsBased}
 use Rattle.model.specs.Facts.{Size}
 use Rattle.linear_forms.specs.Forms.{at}
 use Rattle.proof_nodes.specs.Nodes.{Arm, Linear, Poly, Member}
-use Rattle.proof_nodes.specs.Numbers.{is_in}
+use Rattle.model.specs.Entries.{is_in}
 use Rattle.model.specs.Paths.{pre, entry_and_rules}
 use Rattle.proof_nodes.specs.Known.{Table}
 use Rattle.proof_nodes.specs.Setting.{Setting, IsFaithful}
 use Rattle.proof_nodes.specs.Composed.{sizes_after}
 use Rattle.proof_nodes.specs.ComposedSizes.{poly_at, reads, is_member, Flow, flow, flows, base_of, addition_of, factor_of, rules_of}
 use Rattle.proof_nodes.specs.AcceptsSizes.{Side, Up, Low, HasMemberShape, HasArmShape, AcceptsArm, AcceptsUp, AcceptsLow, left_of, ArmHasSizes, HasSizesAfter, HasSizesBefore, IsStraightArm, IsStraight, cycle_size, AcceptsCycle, cycle_facts}
-use Rattle.proof_nodes.proofs.Membership.{is_in-filter, rule_is_numbered}
+use Rattle.model.proofs.Membership.{is_in-filter, rule_is_numbered}
 use Rattle.proof_nodes.proofs.LastSteps.{last_precedes}
 use Rattle.proof_nodes.proofs.GoodFacts.{IsGood, IsGoodTable, known-time, known-size, known_time-based, known_size-based}
 use Rattle.proof_nodes.proofs.AbsoluteValues.{abs-within}

@@ -7,12 +7,13 @@ use Rattle.int_laws.specs.NormalForm.{is_zero}
 use Rattle.linear_forms.specs.Forms.{at}
 use Rattle.proof_nodes.specs.Nodes.{Spot, RankNode}
 use Rattle.proof_nodes.specs.Known.{IsKnown, Table}
-use Rattle.proof_nodes.specs.Graph.{entries}
+use Rattle.model.specs.Entries.{entries}
 use Rattle.proof_nodes.specs.Setting.{Setting}
 use Rattle.proof_nodes.specs.AcceptsRank.{AcceptsRank, Loses, at_target, rank_time}
 use Rattle.proof_nodes.specs.Reasons.{AllPass}
 use Rattle.proof_nodes.specs.Checks.{needed_after, needed_after_each, rank_checks}
-use Rattle.proof_nodes.proofs.Membership.{no_is_not_yes}
+use Rattle.model.proofs.Membership.{no_is_not_yes}
+use Rattle.model.proofs.Entries.{listed-from, listed-told}
 use Rattle.proof_nodes.proofs.Covering.{told_zero, told_not_zero}
 use Rattle.proof_nodes.proofs.Stable.{stable-known, stable-implies}
 use Rattle.proof_nodes.proofs.StableShapes.{stable-small, stable-rank_shape}
@@ -80,9 +81,11 @@ module _ (s : Setting) (table : Table) (node : RankNode) where
     passes_each _ _ node.set (in-each (λ t. Loses s node t) node.set h.moves) (
       h.floor,
       passes_each _ _ (entries s.program node.set)
-          (in-each (λ e. IsKnown (table.time e)) (entries s.program node.set) h.times)
+          (in-each (λ e. IsKnown (table.time e)) (entries s.program node.set)
+          (λ e i. h.times e (listed-told s.program node.set e i)))
           (passes_each _ _ (needed_after_each s node (entries s.program node.set))
-          (known-each (entries s.program node.set) (in-each Needs (entries s.program node.set) h.sizes))
+          (known-each (entries s.program node.set) (in-each Needs (entries s.program node.set)
+          (λ e i. h.sizes e (listed-told s.program node.set e i))))
           (h.small, tt)),
     ),
   )
@@ -95,8 +98,12 @@ module _ (s : Setting) (table : Table) (node : RankNode) where
         shape = h.0;
         moves = each-in (λ t. Loses s node t) node.set moves.0;
         floor = moves.1.0;
-        times = each-in (λ e. IsKnown (table.time e)) (entries s.program node.set) times.0;
-        sizes = each-in Needs (entries s.program node.set) (each-known (entries s.program node.set) sizes.0);
+        times =
+            λ e i. each-in (λ e. IsKnown (table.time e)) (entries s.program node.set) times.0 e
+            (listed-from s.program node.set e i);
+        sizes =
+            λ e i. each-in Needs (entries s.program node.set) (each-known (entries s.program node.set) sizes.0) e
+            (listed-from s.program node.set e i);
         small = sizes.1.0;
       }
 

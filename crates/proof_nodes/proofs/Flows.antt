@@ -5,11 +5,11 @@ use Rattle.std.proofs.lemmas.Bool.{and_from, and_parts, or_left, or_right, not_f
 use Rattle.std.proofs.lemmas.List.Elements.{All-head, All-tail}
 use Rattle.model.specs.Bounds.{Bound, val, val_maximum}
 use Rattle.proof_nodes.specs.Nodes.{Member}
-use Rattle.proof_nodes.specs.Numbers.{is_in}
+use Rattle.model.specs.Entries.{is_in}
 use Rattle.model.specs.Paths.{pre}
 use Rattle.proof_nodes.specs.Setting.{Setting}
 use Rattle.proof_nodes.specs.ComposedSizes.{is_member, Flow, flow, flows_from, flows_into, is_outer, is_inner, offsets, base_of, addition_of, factor_of}
-use Rattle.proof_nodes.proofs.Membership.{is_in-cases, same_number, told_same, no_is_not_yes}
+use Rattle.model.proofs.Membership.{is_in-cases, same_number, told_same, no_is_not_yes}
 
 -- a list has an element
 abbrev pub IsAmong : {X : Type 0} → X → List X → Type 0

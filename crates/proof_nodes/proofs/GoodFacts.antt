@@ -7,7 +7,7 @@ use Rattle.model.specs.Bounds.{Bound, IsBased}
 use Rattle.model.specs.Facts.{Fact, Time, Size, HoldsTime, HoldsSize, Holds}
 use Rattle.proof_nodes.specs.Known.{IsKnown, known, time_in, size_in, Table, table_of}
 use Rattle.proof_nodes.specs.Laws.{HasBasedBound}
-use Rattle.proof_nodes.proofs.Membership.{told_same}
+use Rattle.model.proofs.Membership.{told_same}
 
 -- a fact that holds on all runs, and whose bound has bases of at least 1
 pub record IsGood (p : Program) (f : Fact) : Type 0 where

@@ -5,8 +5,8 @@ use Rattle.model.specs.Programs.{Program}
 use Rattle.model.specs.Runs.{Config, Step, IsStep, IsRun, last_rule}
 use Rattle.model.specs.Paths.{source_of, target_of, same_symbol, entry_and_rules, pre}
 use Rattle.model.proofs.StepLaws.{source_of-rule, target_of-rule, listed}
-use Rattle.proof_nodes.specs.Numbers.{is_in}
-use Rattle.proof_nodes.proofs.Membership.{same_number, is_in-contained, rule_is_numbered, entry_is_numbered}
+use Rattle.model.specs.Entries.{is_in}
+use Rattle.model.proofs.Membership.{same_number, is_in-contained, rule_is_numbered, entry_is_numbered}
 
 -- a step leaves the source of its rule
 pub source-step : (p : Program) (b : Config) (s : Step) (c : Config) → IsStep p b s c → source_of p s.rule ≡ Some b.at

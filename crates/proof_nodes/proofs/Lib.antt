@@ -1,6 +1,5 @@
 pub mod FormLaws
 pub mod Counting
-pub mod Membership
 pub mod LastSteps
 pub mod Covering
 pub mod GoodFacts

@@ -6,7 +6,7 @@ use Rattle.std.proofs.lemmas.List.Elements.{All-nil, All-cons, All-head, All-tai
 use Rattle.model.specs.Runs.{Step, count}
 use Rattle.model.specs.Bounds.{Bound, val, val_sum, val_product, IsBased, AreBased}
 use Rattle.proof_nodes.specs.Nodes.{Member}
-use Rattle.proof_nodes.specs.Numbers.{is_in}
+use Rattle.model.specs.Entries.{is_in}
 use Rattle.model.specs.Paths.{pre}
 use Rattle.proof_nodes.specs.Known.{known, is_zero_bound}
 use Rattle.proof_nodes.specs.Setting.{Setting, IsFaithful}
@@ -14,7 +14,7 @@ use Rattle.proof_nodes.specs.Composed.{sizes_after}
 use Rattle.proof_nodes.specs.ComposedSizes.{poly_at, is_member, Flow, flow, flows_from, flows_into, is_outer, is_inner, offsets, base_of, addition_of, factor_of, multiplies, adds, growth_parts, addition_parts, loop_bound}
 use Rattle.proof_nodes.specs.Paying.{income}
 use Rattle.proof_nodes.specs.Feeding.{growth}
-use Rattle.proof_nodes.proofs.Membership.{same_number}
+use Rattle.model.proofs.Membership.{same_number}
 use Rattle.proof_nodes.proofs.Flows.{factor-least}
 use Rattle.proof_nodes.proofs.Bases.{offset_of-based}
 use Rattle.proof_nodes.proofs.Unrun.{zero_val}

@@ -4,10 +4,10 @@ use Rattle.std.proofs.lemmas.Bool.{or_left, or_right}
 use Rattle.model.specs.Runs.{Step, count, one_if_same}
 use Rattle.model.specs.Bounds.{Bound, ProductOf, val, val_sum}
 use Rattle.model.proofs.RunLaws.{one_if_same-same}
-use Rattle.proof_nodes.specs.Numbers.{is_in}
+use Rattle.model.specs.Entries.{is_in}
 use Rattle.proof_nodes.specs.Composed.{both_parts, parts_for}
 use Rattle.proof_nodes.specs.Paying.{allowance, income}
-use Rattle.proof_nodes.proofs.Membership.{is_in-cases, same_number, no_is_not_yes}
+use Rattle.model.proofs.Membership.{is_in-cases, same_number, no_is_not_yes}
 
 -- a listed entry is allowed its weight
 pub allowed : (weight : ℕ → ℕ) (es : List ℕ) (e : ℕ) → is_in e es ≡ true → weight e ≤ allowance weight es e

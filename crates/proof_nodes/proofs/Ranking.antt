@@ -13,9 +13,9 @@ use Rattle.linear_forms.specs.Forms.{Form, at, form_value}
 use Rattle.linear_forms.specs.Certificates.{Implies}
 use Rattle.linear_forms.proofs.CertificateLaws.{implied_on_points}
 use Rattle.proof_nodes.specs.Nodes.{SymbolForm, RankNode}
-use Rattle.proof_nodes.specs.Numbers.{is_in, positive_part}
+use Rattle.model.specs.Entries.{is_in, is_left_by, enters, entries}
+use Rattle.proof_nodes.specs.Numbers.{positive_part}
 use Rattle.model.specs.Paths.{source_of, target_of, same_symbol, entry_and_rules}
-use Rattle.proof_nodes.specs.Graph.{is_left_by, enters, entries}
 use Rattle.proof_nodes.specs.Combined.{number_form, form_at, after_rule, less, loss}
 use Rattle.proof_nodes.specs.Known.{known, Table}
 use Rattle.proof_nodes.specs.Setting.{Setting, StepPoint, IsFaithful}
@@ -25,7 +25,8 @@ use Rattle.proof_nodes.proofs.FormLaws.{dot-same, value-less, value-number, valu
 use Rattle.proof_nodes.specs.Paying.{allowance, income, IsPaidFor}
 use Rattle.proof_nodes.proofs.Counting.{paid}
 use Rattle.proof_nodes.proofs.Payments.{allowed, income-bounded}
-use Rattle.proof_nodes.proofs.Membership.{told_same, same_number, no_is_not_yes, list_any-from, is_in-filter}
+use Rattle.model.proofs.Membership.{told_same, same_number, no_is_not_yes, list_any-from, is_in-filter}
+use Rattle.model.proofs.Entries.{listed-told}
 use Rattle.proof_nodes.proofs.LastSteps.{source-step, target-step, last_is_numbered, same_symbol-from}
 use Rattle.model.proofs.StepLaws.{stands}
 use Rattle.proof_nodes.proofs.Covering.{positive_part-covered}
@@ -155,7 +156,7 @@ module _ (s : Setting) (true_to : IsFaithful s) (table : Table) (good : IsGoodTa
           (rank_form node.forms (target_of s.program (last_rule steps)))
           (sizes_after table.size (last_rule steps)) (values_at c)
           (λ j n. let size = known-size s.program table good (last_rule steps) (suc j)
-          (h.sizes (last_rule steps) entry j n) in size.each start steps c run refl) in
+          (h.sizes (last_rule steps) (listed-told s.program node.set (last_rule steps) entry) j n) in size.each start steps c run refl) in
           rw e (le_trans (subst
           (λ (o : Option ℕ). positive_part (value_at (rank_form node.forms o) c) ≤ node.den * weight
           (last_rule steps)) there covered)
@@ -304,7 +305,7 @@ module _ (s : Setting) (true_to : IsFaithful s) (table : Table) (good : IsGoodTa
       le_trans (cancelled node.den (count node.rule steps) (income weight listed steps) h.shape.den
       (omega (arith, paid RunTo level node.den node.rule weight listed paid_for steps c run)))
       (income-bounded (λ e. known (table.time e)) entry_weight (sizes_of_start start) listed steps
-      (λ e k. let time = known-time s.program table good e (h.times e k) in time.each start steps c run))
+      (λ e k. let time = known-time s.program table good e (h.times e (listed-told s.program node.set e k)) in time.each start steps c run))
     where
       cancelled : (q a b : ℕ) → 1 ≤ q → q * a ≤ q * b → a ≤ b
       cancelled q a b l k = let turned : a * q ≤ b * q = omega (arith, k) in le_of_mul-le-mul_right turned l

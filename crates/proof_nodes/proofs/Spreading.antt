@@ -9,14 +9,14 @@ use Rattle.model.specs.Polynomials.{Polynomial}
 use Rattle.model.specs.Facts.{Size}
 use Rattle.linear_forms.specs.Forms.{at}
 use Rattle.proof_nodes.specs.Nodes.{Spot, Arm, Linear, Poly, Member}
-use Rattle.proof_nodes.specs.Numbers.{is_in}
+use Rattle.model.specs.Entries.{is_in}
 use Rattle.model.specs.Paths.{pre}
 use Rattle.proof_nodes.specs.Known.{Table}
 use Rattle.proof_nodes.specs.Setting.{Setting, StepPoint, IsFaithful}
 use Rattle.proof_nodes.specs.Composed.{parts_for, no_place, sizes_after}
 use Rattle.proof_nodes.specs.ComposedSizes.{poly_at, reads, slope_of, offset_of, arm_bound, spread_part}
 use Rattle.proof_nodes.specs.AcceptsSizes.{Up, Low, Side, IsSpot, HasArmShape, AcceptsArm, left_in, left_of, ArmHasSizes, HasSizesAfter, spread_size, AcceptsSpread}
-use Rattle.proof_nodes.proofs.Membership.{is_in-cases, no_is_not_yes}
+use Rattle.model.proofs.Membership.{is_in-cases, no_is_not_yes}
 use Rattle.proof_nodes.proofs.LastSteps.{last_precedes}
 use Rattle.proof_nodes.proofs.GoodFacts.{IsGood, IsGoodTable, known-size, known_size-based}
 use Rattle.proof_nodes.proofs.Bases.{parts_for-based, arm_bound-based}

@@ -15,7 +15,7 @@ use Rattle.model.proofs.StepLaws.{reached}
 use Rattle.proof_nodes.specs.Known.{is_zero_bound, has_zero_time}
 use Rattle.proof_nodes.specs.Setting.{Setting, IsFaithful}
 use Rattle.proof_nodes.specs.AcceptsPlain.{IsRule, may_run, AcceptsEmpty, AcceptsUnreached, AcceptsNever, zero_sizes, places_at, never_facts}
-use Rattle.proof_nodes.proofs.Membership.{told_same}
+use Rattle.model.proofs.Membership.{told_same}
 use Rattle.proof_nodes.proofs.GoodFacts.{IsGood}
 
 -- the virtual entry is no rule

@@ -3,14 +3,14 @@ use Rattle.std.proofs.Common.{◌≡◌, ◌≢◌, ◌⊎◌, inl, inr, ℕ, ze
 use Rattle.std.specs.Prelude.{ℤ, pos, negsuc, ◌≤ℤ◌, nat_abs}
 use Rattle.std.proofs.lemmas.Int.{ints}
 use Rattle.std.proofs.lemmas.List.Elements.{All-nil, All-cons}
-use Rattle.model.specs.Programs.{arity_of}
+use Rattle.model.specs.Programs.{Program, arity_of}
 use Rattle.model.specs.Facts.{Fact, Time, Size}
 use Rattle.model.specs.Bounds.{Constant, Input}
 use Rattle.linear_forms.specs.Forms.{Form, at}
 use Rattle.linear_forms.specs.Certificates.{Implies, combined_coef, combined_constant}
 use Rattle.proof_nodes.specs.Nodes.{Arm, SymbolForm, Member, Cite, AndProof}
 use Rattle.proof_nodes.specs.ComposedSizes.{poly_at, reads, Flow, flows, is_member, multiplies, adds}
-use Rattle.proof_nodes.specs.Numbers.{is_in}
+use Rattle.model.specs.Entries.{is_in, IsEntry, entries}
 use Rattle.proof_nodes.specs.Limits.{IsInLimit, IsFormInLimit}
 use Rattle.proof_nodes.specs.Known.{IsKnown, time_in, size_in, table_of}
 use Rattle.proof_nodes.specs.Setting.{Setting}
@@ -20,7 +20,8 @@ use Rattle.proof_nodes.specs.AcceptsRank.{HasFormShape, moves_of, at_target, Los
 use Rattle.proof_nodes.specs.AcceptsSizes.{HasLinearShape, HasMemberShape, HasSizesAfter, HasSizesBefore, IsStraight, AcceptsUp, AcceptsLow, left_of}
 use Rattle.proof_nodes.specs.WorkedSettings.{form, counting, enter, count_down}
 use Rattle.proof_nodes.specs.Worked.{at_symbol, once_time, down_time, entered_size, once, once_node, down, down_node, entered, entered_member, looped, looped_member, four_lemmas, first_fact, first_and_size, down_alone, alone_node, only}
-use Rattle.proof_nodes.proofs.Membership.{is_in-cases, no_is_not_yes}
+use Rattle.model.proofs.Entries.{listed-from}
+use Rattle.model.proofs.Membership.{is_in-cases, no_is_not_yes}
 
 -- what holds of one number holds of each in its list; the same with two
 pub of_one : (P : ℕ → Type 0) (a : ℕ) → P a → (t : ℕ) → is_in t (a ∷ []) ≡ true → P t
@@ -36,6 +37,12 @@ of_two P a b h i t k = go (is_in-cases t a (b ∷ []) k)
     go : (t ≡ a) ⊎ (is_in t (b ∷ []) ≡ true) → P t
     go (inl e) = subst P (sym e) h
     go (inr e) = of_one P b i t e
+
+-- what holds of the only listed entry holds of each entry
+of_entry : (p : Program) (set : List ℕ) (P : ℕ → Type 0) (a : ℕ) → entries p set ≡ a ∷ [] → P a
+    → (e : ℕ) → IsEntry p set e → P e
+of_entry p set P a only h e i =
+    of_one P a h e (subst (λ (es : List ℕ). is_in e es ≡ true) only (listed-from p set e i))
 
 -- small numbers are within the limit
 pub small : (n : ℕ) → n ≤ 1 → IsInLimit n
@@ -123,9 +130,10 @@ once_accepted = (
     };
     moves = of_one (Loses counting once_node) 1 (implies_one [] [] _ refl refl (λ u. refl) (omega (arith, ints)));
     floor = implies_one [] [] _ refl refl (λ u. refl) (omega (arith, ints));
-    times = of_one (λ e. IsKnown (time_in start_facts_here e)) 0 (Constant 1, refl);
-    sizes = of_one (λ e. (j : ℕ) → at (at_target counting.program once_node e).coefs j ≢ pos 0
-        → IsKnown (size_in start_facts_here e (suc j))) 0
+    times = of_entry counting.program once_node.set (λ e. IsKnown (time_in start_facts_here e)) 0 refl (Constant 1, refl);
+    sizes = of_entry counting.program once_node.set
+        (λ e. (j : ℕ) → at (at_target counting.program once_node e).coefs j ≢ pos 0
+        → IsKnown (size_in start_facts_here e (suc j))) 0 refl
         (λ j n. reads_none (λ i. IsKnown (size_in start_facts_here 0 (suc i))) j n);
     small = record { before = refl; after = refl };
   },
@@ -155,9 +163,10 @@ down_accepted past = (
         (implies_one [] [] _ refl refl (λ u. refl) (omega (arith, ints)))
         (implies_one (counting.rows 2) (0 ∷ []) _ refl refl (λ u. refl) (omega (arith, ints)));
     floor = implies_one (counting.rows 2) (1 ∷ []) _ refl refl (λ u. refl) (omega (arith, ints));
-    times = of_one (λ e. IsKnown (time_in start_facts_here e)) 0 (Constant 1, refl);
-    sizes = of_one (λ e. (j : ℕ) → at (at_target counting.program (down_node (0 ∷ []) (1 ∷ [])) e).coefs j ≢ pos 0
-        → IsKnown (size_in start_facts_here e (suc j))) 0
+    times = of_entry counting.program (1 ∷ 2 ∷ []) (λ e. IsKnown (time_in start_facts_here e)) 0 refl (Constant 1, refl);
+    sizes = of_entry counting.program (1 ∷ 2 ∷ [])
+        (λ e. (j : ℕ) → at (at_target counting.program (down_node (0 ∷ []) (1 ∷ [])) e).coefs j ≢ pos 0
+        → IsKnown (size_in start_facts_here e (suc j))) 0 refl
         (λ j n. reads_first (pos 1) (λ i. IsKnown (size_in start_facts_here 0 (suc i))) (Input 0, refl) j n);
     small = record { before = refl; after = refl };
   },
@@ -297,9 +306,10 @@ alone_accepted = (
     moves = of_one (Loses counting alone_node) 2
         (implies_one (counting.rows 2) (0 ∷ []) _ refl refl (λ u. refl) (omega (arith, ints)));
     floor = implies_one (counting.rows 2) (1 ∷ []) _ refl refl (λ u. refl) (omega (arith, ints));
-    times = of_one (λ e. IsKnown (time_in cited_both e)) 1 (once_time, refl);
-    sizes = of_one (λ e. (j : ℕ) → at (at_target counting.program alone_node e).coefs j ≢ pos 0
-        → IsKnown (size_in cited_both e (suc j))) 1
+    times = of_entry counting.program alone_node.set (λ e. IsKnown (time_in cited_both e)) 1 refl (once_time, refl);
+    sizes = of_entry counting.program alone_node.set
+        (λ e. (j : ℕ) → at (at_target counting.program alone_node e).coefs j ≢ pos 0
+        → IsKnown (size_in cited_both e (suc j))) 1 refl
         (λ j n. reads_first (pos 1) (λ i. IsKnown (size_in cited_both 1 (suc i))) (entered_size, refl) j n);
     small = record { before = refl; after = refl };
   },

@@ -13,7 +13,7 @@ use Rattle.proof_nodes.specs.Worked.{at_symbol, once_time, once_node, down_node}
 use Rattle.proof_nodes.specs.WorkedSizes.{squaring, bent_member, wrong_low}
 use Rattle.model.specs.Terms.{Variable, Multiplication}
 use Rattle.proof_nodes.specs.WorkedReasons.{wrong_up, towering, ReasonsAreToldInOrder}
-use Rattle.proof_nodes.proofs.Membership.{no_is_not_yes}
+use Rattle.model.proofs.Membership.{no_is_not_yes}
 use Rattle.proof_nodes.proofs.WorkedAccepted.{of_two, small, none_needed, one_needed, is_enter, is_count_down, two_forms, shaped, once_accepted, down_accepted, entered_accepted, alone_accepted, arm_shape}
 use Rattle.proof_nodes.proofs.WorkedRefused.{nothing_known, reached}
 use Rattle.proof_nodes.proofs.WorkedPlain.{plain_nodes}

@@ -7,12 +7,13 @@ use Rattle.model.specs.Programs.{Rule, rule_at}
 use Rattle.model.specs.Bounds.{Bound}
 use Rattle.linear_forms.specs.Certificates.{combined_coef}
 use Rattle.model.specs.Paths.{IsReached, Here, Onward}
+use Rattle.model.proofs.Entries.{listed-told}
 use Rattle.proof_nodes.specs.Nodes.{Cite, Start, Unreached, NoProof, AndProof}
 use Rattle.proof_nodes.specs.AcceptsPlain.{may_run}
 use Rattle.proof_nodes.specs.AcceptsSizes.{Up, AcceptsArm}
 use Rattle.proof_nodes.specs.Acceptance.{Accepts}
 use Rattle.proof_nodes.specs.WorkedSettings.{counting, falling, guessing, apart, enter, count_down, rule_over}
-use Rattle.proof_nodes.specs.Worked.{only, arm, down, down_alone, first_fact, first_and_size}
+use Rattle.proof_nodes.specs.Worked.{only, arm, down, down_alone, alone_node, first_fact, first_and_size}
 
 -- without rows nothing is combined
 pub no_rows_combine : (ms : List ℕ) (u : ℕ) → combined_coef ms [] u ≡ pos 0
@@ -31,10 +32,13 @@ floor_is_needed move floor h = let e : pos 1 ≡ combined_coef floor [] 0 =
     h.1.floor.coefs 0 in omega (arith, ints, e, no_rows_combine floor 0)
 
 pub size_after_entry : ¬ (Accepts counting first_fact (down_alone (AndProof Start (only (Cite 1)))))
-size_after_entry h = let size = h.1.sizes 1 refl 0 (λ e. omega (arith, ints, e)) in nothing_known size.0 size.1
+size_after_entry h =
+    let size = h.1.sizes 1 (listed-told counting.program alone_node.set 1 refl) 0 (λ e. omega (arith, ints, e)) in
+    nothing_known size.0 size.1
 
 pub time_of_entry : ¬ (Accepts counting first_and_size (down_alone (AndProof Start (only (Cite 2)))))
-time_of_entry h = let time = h.1.times 1 refl in nothing_known time.0 time.1
+time_of_entry h =
+    let time = h.1.times 1 (listed-told counting.program alone_node.set 1 refl) in nothing_known time.0 time.1
 
 pub reached : ¬ (Accepts counting [] (Unreached 2 NoProof))
 reached h =

@@ -18,7 +18,7 @@ use Rattle.proof_nodes.specs.WorkedSettings.{form, counting, doubling, rule_over
 use Rattle.model.specs.Terms.{Variable, Literal, Multiplication}
 use Rattle.proof_nodes.specs.Worked.{only, looped_member, doubled, doubled_member}
 use Rattle.proof_nodes.specs.WorkedSizes.{square, squaring, bent_member, one_size, size_and_time, SizeNodesAreJudged}
-use Rattle.proof_nodes.proofs.Membership.{no_is_not_yes, told_same}
+use Rattle.model.proofs.Membership.{no_is_not_yes, told_same}
 use Rattle.proof_nodes.proofs.WorkedAccepted.{of_one, of_two, small, implies_one, sized}
 use Rattle.proof_nodes.proofs.WorkedRefused.{no_rows_combine, nothing_known}
 

@@ -5,9 +5,10 @@ use Rattle.model.specs.Bounds.{Bound}
 use Rattle.linear_forms.specs.Forms.{Form, at}
 use Rattle.linear_forms.specs.Certificates.{Implies}
 use Rattle.proof_nodes.specs.Nodes.{SymbolForm, RankNode}
-use Rattle.proof_nodes.specs.Numbers.{is_in, IsAscending}
+use Rattle.model.specs.Entries.{is_in, IsEntry}
+use Rattle.proof_nodes.specs.Numbers.{IsAscending}
 use Rattle.model.specs.Paths.{source_of, target_of}
-use Rattle.proof_nodes.specs.Graph.{entries, symbols_of}
+use Rattle.proof_nodes.specs.Graph.{symbols_of}
 use Rattle.proof_nodes.specs.Combined.{number_form, less, loss}
 use Rattle.proof_nodes.specs.Known.{IsKnown, Table}
 use Rattle.proof_nodes.specs.Composed.{rank_form, time_of}
@@ -62,10 +63,6 @@ abbrev pub HasFloor : Setting → RankNode → Type 0
 HasFloor s node = Implies (s.rows node.rule) node.floor
     (less (at_source s.program node node.rule) (number_form (pos node.den)))
 
--- an entry of the set, with its number
-abbrev pub IsEntry : Setting → RankNode → ℕ → Type 0
-IsEntry s node e = is_in e (entries s.program node.set) ≡ true
-
 -- the time that the node composes
 abbrev pub rank_time : Setting → RankNode → Table → Bound
 rank_time s node table = time_of s.program node table.time table.size
@@ -77,7 +74,7 @@ pub record AcceptsRank (s : Setting) (table : Table) (node : RankNode) : Type 0 
   pub shape : HasRankShape s node
   pub moves : (t : ℕ) → is_in t node.set ≡ true → Loses s node t
   pub floor : HasFloor s node
-  pub times : (e : ℕ) → IsEntry s node e → IsKnown (table.time e)
-  pub sizes : (e : ℕ) → IsEntry s node e → (j : ℕ) → at (at_target s.program node e).coefs j ≢ pos 0
+  pub times : (e : ℕ) → IsEntry s.program node.set e → IsKnown (table.time e)
+  pub sizes : (e : ℕ) → IsEntry s.program node.set e → (j : ℕ) → at (at_target s.program node e).coefs j ≢ pos 0
       → IsKnown (table.size e (suc j))
   pub small : IsSmallComposed s.rewrite (rank_time s node table)

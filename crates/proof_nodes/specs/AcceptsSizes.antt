@@ -9,7 +9,7 @@ use Rattle.linear_forms.specs.Forms.{Form}
 use Rattle.linear_forms.specs.Certificates.{Implies}
 use Rattle.linear_forms.specs.Combinations.{form_sum, form_times}
 use Rattle.proof_nodes.specs.Nodes.{Spot, Arm, Linear, Poly, Member}
-use Rattle.proof_nodes.specs.Numbers.{is_in}
+use Rattle.model.specs.Entries.{is_in}
 use Rattle.model.specs.Paths.{pre}
 use Rattle.proof_nodes.specs.Combined.{form_at}
 use Rattle.proof_nodes.specs.Known.{IsKnown, Table}

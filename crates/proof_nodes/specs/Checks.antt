@@ -11,7 +11,7 @@ use Rattle.linear_forms.specs.Certificates.{Implies, minus_one}
 use Rattle.proof_nodes.specs.Nodes.{Spot, Arm, Member, RankNode, Proof, Cite, Start, Empty, Unreached, Never, Rank, Spread, Cycle, Weaken}
 use Rattle.proof_nodes.specs.Known.{IsKnown, Table, table_of}
 use Rattle.proof_nodes.specs.Limits.{IsSmallComposed}
-use Rattle.proof_nodes.specs.Graph.{entries}
+use Rattle.model.specs.Entries.{entries}
 use Rattle.proof_nodes.specs.ComposedSizes.{poly_at, reads, is_member, rules_of, flows, multiplies, adds}
 use Rattle.proof_nodes.specs.AcceptsPlain.{IsRule, AcceptsCite, HasEmptyShape, IsUnreached, may_run, IsOneTime, IsZeroTime, HasWeakenShape, IsWeaker}
 use Rattle.proof_nodes.specs.AcceptsRank.{HasRankShape, Loses, HasFloor, at_target, rank_time}

@@ -7,7 +7,7 @@ use Rattle.linear_forms.specs.Forms.{Form}
 use Rattle.proof_nodes.specs.Nodes.{SymbolForm, RankNode}
 use Rattle.proof_nodes.specs.Numbers.{rounded_up, positive_part}
 use Rattle.model.specs.Paths.{target_of}
-use Rattle.proof_nodes.specs.Graph.{entries}
+use Rattle.model.specs.Entries.{entries}
 use Rattle.proof_nodes.specs.Combined.{number_form}
 use Rattle.proof_nodes.specs.Known.{known}
 

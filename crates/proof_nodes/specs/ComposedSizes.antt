@@ -7,7 +7,8 @@ use Rattle.model.specs.Bounds.{Bound, Constant, SumOf, ProductOf, MaximumOf, Pow
 use Rattle.model.specs.Polynomials.{Monomial, Polynomial}
 use Rattle.linear_forms.specs.Forms.{at}
 use Rattle.proof_nodes.specs.Nodes.{Spot, Arm, Linear, Poly, Member}
-use Rattle.proof_nodes.specs.Numbers.{rounded_up, is_in}
+use Rattle.model.specs.Entries.{is_in}
+use Rattle.proof_nodes.specs.Numbers.{rounded_up}
 use Rattle.model.specs.Paths.{pre, entry_and_rules}
 use Rattle.proof_nodes.specs.Known.{known, is_zero_bound}
 use Rattle.proof_nodes.specs.Composed.{both_parts, parts_for, rest_bound, form_bound, sizes_after}

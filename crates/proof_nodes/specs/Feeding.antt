@@ -2,7 +2,7 @@
 use Rattle.std.specs.Prelude.{◌≡◌, ℕ, ◌+◌, ◌*◌, ◌^◌, ◌≤◌, max, Bool, true, List, [], ◌∷◌, ℤ}
 use Rattle.model.specs.Programs.{Program}
 use Rattle.model.specs.Runs.{Config, Step, IsRun, count, last_rule}
-use Rattle.proof_nodes.specs.Numbers.{is_in}
+use Rattle.model.specs.Entries.{is_in}
 use Rattle.proof_nodes.specs.Paying.{income}
 
 -- the factor of each rule, once for each of its steps, multiplied

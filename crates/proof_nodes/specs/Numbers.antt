@@ -1,10 +1,5 @@
--- Lists of rule numbers, and the rounding of coefficients.
-use Rattle.std.specs.Prelude.{ℕ, ◌+◌, ◌-◌, ◌/◌, ◌<◌, ◌==◌, ◌||◌, Bool, false, List, [], ◌∷◌, ℤ, pos, negsuc, ⊤}
-
--- whether a number is in a list
-abbrev pub is_in : ℕ → List ℕ → Bool
-is_in x [] = false
-is_in x (y ∷ ys) = (x == y) || is_in x ys
+-- Ascending numbers, and the rounding of coefficients.
+use Rattle.std.specs.Prelude.{ℕ, ◌+◌, ◌-◌, ◌/◌, ◌<◌, List, [], ◌∷◌, ℤ, pos, negsuc, ⊤}
 
 -- each number is less than the next
 abbrev pub IsAscending : List ℕ → Type 0

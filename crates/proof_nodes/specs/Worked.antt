@@ -4,7 +4,7 @@ use Rattle.model.specs.Bounds.{Bound, Constant, Input, SumOf, ProductOf, Maximum
 use Rattle.model.specs.Facts.{Fact, Time, Size}
 use Rattle.proof_nodes.specs.Nodes.{Arm, Linear, Member, SymbolForm, RankNode, Proof, Cite, Start, Empty, Unreached, Never, Rank, Spread, Cycle, Weaken, Proofs, NoProof, AndProof}
 use Rattle.model.specs.Paths.{pre}
-use Rattle.proof_nodes.specs.Graph.{entries}
+use Rattle.model.specs.Entries.{entries}
 use Rattle.proof_nodes.specs.Composed.{both_parts, time_of}
 use Rattle.proof_nodes.specs.ComposedSizes.{flows, factor_of, cycle_of}
 use Rattle.proof_nodes.specs.Setting.{IsFaithful}

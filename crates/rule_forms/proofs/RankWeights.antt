@@ -10,13 +10,14 @@ use Rattle.int_laws.proofs.RingLaws.{mul-zero_ℤ, mul_comm_ℤ}
 use Rattle.int_laws.proofs.OrderLaws.{mul-le-mul_ℤ}
 use Rattle.int_laws.proofs.SumLaws.{sum_to-same, sum_to-zero}
 use Rattle.linear_forms.specs.Forms.{at}
+use Rattle.linear_forms.specs.Sizes.{total_size}
 use Rattle.linear_forms.specs.LinearProgram.{IsSolution, IsLeast}
 use Rattle.linear_forms.specs.Questions.{listed, program_of_question}
 use Rattle.linear_forms.specs.QuestionLaws.{positive_part, size_weight, height_weight, parameters_of}
 use Rattle.linear_forms.specs.RuleQuestions.{RankedSet, Coefficient, has_symbol, symbols_of_set, open_places, coefficients, size_at, height_at, rank_question}
 use Rattle.linear_forms.proofs.ListLaws.{sum_to-first}
 use Rattle.linear_forms.proofs.WeightLaws.{least-sizes, least-heights}
-use Rattle.rule_forms.specs.Bounds.{total_size, height}
+use Rattle.rule_forms.specs.Bounds.{height}
 use Rattle.rule_forms.specs.Ranking.{Function, Ranks, Fits, over_entered, size_of, height_of, WeighsNoMore, IsLeastRank}
 use Rattle.rule_forms.specs.RankLaws.{IsSetOf, HavePointsOf, coefficient, function_of}
 use Rattle.rule_forms.proofs.Forms.{at-listed, at-past}

@@ -6,6 +6,7 @@ use Rattle.std.proofs.Math.Dec.{eqb-suc-zero}
 use Rattle.std.proofs.lemmas.Int.{ints}
 use Rattle.int_laws.specs.Sums.{sum_to}
 use Rattle.linear_forms.specs.Forms.{Form, at}
+use Rattle.linear_forms.specs.Sizes.{total_size}
 use Rattle.linear_forms.specs.Combinations.{form_times}
 use Rattle.linear_forms.specs.LinearProgram.{IsSolution, IsLeast}
 use Rattle.linear_forms.specs.Questions.{listed, program_of_question}
@@ -14,7 +15,7 @@ use Rattle.linear_forms.specs.RuleQuestions.{RuleForms, before_rule, unknown_for
 use Rattle.linear_forms.proofs.ListLaws.{sum_to-first}
 use Rattle.linear_forms.proofs.WeightLaws.{least-sizes, least-heights}
 use Rattle.rule_forms.specs.Kinds.{Kind, Number, Argument, Affine, Sign, Plus, Minus, unit_of, IsOfKind}
-use Rattle.rule_forms.specs.Bounds.{IsLeastOf, WeighsAtMost, total_size, height}
+use Rattle.rule_forms.specs.Bounds.{IsLeastOf, WeighsAtMost, height}
 use Rattle.rule_forms.specs.Questions.{question_of, form_of, IsKindOf, Fits}
 use Rattle.rule_forms.specs.Laws.{HasPoint, solved_form}
 use Rattle.rule_forms.proofs.Shapes.{question-shaped}

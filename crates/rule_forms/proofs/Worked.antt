@@ -4,9 +4,10 @@ use Rattle.std.specs.Prelude.{ℤ, pos, negsuc, ◌+ℤ◌, ◌*ℤ◌, nat_abs,
 use Rattle.std.proofs.lemmas.Int.{ints}
 use Rattle.std.proofs.lemmas.List.Elements.{All-cons, All-nil, All-head}
 use Rattle.linear_forms.specs.Forms.{Form, at, form_value}
+use Rattle.linear_forms.specs.Sizes.{total_size}
 use Rattle.linear_forms.specs.Points.{IsPoint}
 use Rattle.rule_forms.specs.Kinds.{Number, Argument, Affine, Plus, Minus, IsOfKind}
-use Rattle.rule_forms.specs.Bounds.{IsAbove, HasNone, WeighsAtMost, total_size, height}
+use Rattle.rule_forms.specs.Bounds.{IsAbove, HasNone, WeighsAtMost, height}
 use Rattle.rule_forms.proofs.Rays.{unmoved}
 use Rattle.rule_forms.proofs.Weights.{argument-weighs}
 use Rattle.int_laws.proofs.RingLaws.{zero-mul_ℤ}

@@ -1,7 +1,8 @@
 -- Forms that are at least a new value, the least of a kind, and rays along which no form is.
-use Rattle.std.specs.Prelude.{◌≡◌, ℕ, ◌+◌, ◌*◌, ◌<◌, ◌≤◌, List, [], ◌∷◌, ◌++◌, ℤ, pos, negsuc, ◌*ℤ◌, nat_abs, ◌≤ℤ◌, ◌<ℤ◌}
+use Rattle.std.specs.Prelude.{◌≡◌, ℕ, ◌*◌, ◌<◌, ◌≤◌, List, ◌∷◌, ◌++◌, ℤ, pos, negsuc, ◌*ℤ◌, ◌≤ℤ◌, ◌<ℤ◌}
 use Rattle.std.specs.List.{All}
 use Rattle.linear_forms.specs.Forms.{Form, form_value}
+use Rattle.linear_forms.specs.Sizes.{total_size}
 use Rattle.linear_forms.specs.Points.{IsPoint, IsRay}
 use Rattle.rule_forms.specs.Kinds.{Kind, IsOfKind}
 
@@ -12,11 +13,6 @@ pub record IsAbove (rows : List Form) (w g : Form) (q : ℕ) : Type 0 where
 -- no form of a kind is
 pub record HasNone (rows : List Form) (left : ℕ) (w : Form) (kind : Kind) : Type 0 where
   pub each : (g : Form) (q : ℕ) → 1 ≤ q → IsOfKind left kind g q → ¬ (IsAbove rows w g q)
-
--- the absolute coefficients of a list, added up
-abbrev pub total_size : List ℤ → ℕ
-total_size [] = 0
-total_size (c ∷ cs) = nat_abs c + total_size cs
 
 -- the positive part of the constant
 abbrev pub height : ℤ → ℕ

@@ -2,10 +2,11 @@
 use Rattle.std.specs.Prelude.{◌≡◌, ℕ, suc, ◌+◌, ◌*◌, ◌≤◌, true, Bool, cond, List, [], ◌∷◌, ℤ, pos, ◌+ℤ◌, ◌*ℤ◌, ◌≤ℤ◌}
 use Rattle.std.specs.List.{All}
 use Rattle.linear_forms.specs.Forms.{Form, at, form_value}
+use Rattle.linear_forms.specs.Sizes.{total_size}
 use Rattle.linear_forms.specs.Points.{IsPoint}
 use Rattle.linear_forms.specs.Combinations.{form_sum, combination}
 use Rattle.linear_forms.specs.RuleQuestions.{RuleForms, RankedSet, constant_form, symbols_of_set}
-use Rattle.rule_forms.specs.Bounds.{total_size, height}
+use Rattle.rule_forms.specs.Bounds.{height}
 
 -- a form in the places of a symbol, for each symbol
 abbrev pub Function : Type 0

@@ -1,9 +1,7 @@
-use Rattle.std.proofs.Common.{◌≡◌, ◌≤◌, ap, sym, ◌∙◌, subst}
-use Rattle.linear_forms.specs.Forms.{Form}
-use Rattle.poly_terms.specs.Expanding.{expanded}
+use Rattle.std.proofs.Common.{ap, sym, ◌∙◌, subst}
 use Rattle.poly_terms.specs.Ordered.{IsAscending}
 use Rattle.poly_terms.specs.Rows.{HasVariablesBelow, linear_form}
-use Rattle.poly_terms.specs.Views.{term_of, form_of}
+use Rattle.poly_terms.specs.Views.{term_of}
 use Rattle.poly_terms.proofs.OrderLaws.{expanded-ordered}
 use Rattle.poly_terms.proofs.VariableLaws.{variables-expanded}
 use Rattle.its_model.specs.Valid.{difference_of}

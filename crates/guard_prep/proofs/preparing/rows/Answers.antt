@@ -1,7 +1,5 @@
-use Rattle.std.proofs.Common.{◌≡◌, ◌+◌, ◌≤◌, List, Bool, map, ap, sym, ◌∙◌, subst, arith}
+use Rattle.std.proofs.Common.{◌≡◌, ◌+◌, List, map, ap, sym, ◌∙◌, subst, arith}
 use Rattle.std.specs.List.{AllByRecursion}
-use Rattle.model.specs.Programs as plain
-use Rattle.model.specs.Polynomials.{Polynomial}
 use Rattle.poly_terms.specs.declared.expr.Expr.{Expr}
 use Rattle.poly_terms.specs.declared.poly.Poly.{Poly}
 use Rattle.poly_terms.specs.Expanding.{expanded}
@@ -11,9 +9,9 @@ use Rattle.poly_terms.specs.Views.{term_of, poly_of}
 use Rattle.its_model.specs.declared.guard.Atom.{Atom}
 use Rattle.its_model.specs.Valid.{IsValidAtom}
 use Rattle.its_model.specs.Views.{atom_of, rule_of}
-use Rattle.guard_prep.specs.Prepared.{is_bent, count_true, bent_of, polys_of, unknowns_of}
+use Rattle.guard_prep.specs.Prepared.{is_bent, count_true, bent_of, polys_of}
 use Rattle.guard_prep.proofs.SizeLaws.{few-unknowns}
-use Rattle.guard_prep.proofs.RangeLaws.{atoms-more, all-ascending, all-below, no-faults}
+use Rattle.guard_prep.proofs.RangeLaws.{atoms-more, all-ascending, all-below}
 use Rattle.guard_prep.proofs.preparing.rows.Goals as goal
 
 pub overflow_add-unknowns : goal.overflow_add-unknowns

@@ -1,4 +1,4 @@
-use Rattle.std.proofs.Common.{◌≡◌, ◌+◌, ◌++◌, ℕ, ◌≤◌, ◌⊎◌, inl, inr, List, length, take, get_or, ap, sym, ◌∙◌, subst, arith}
+use Rattle.std.proofs.Common.{◌≡◌, ℕ, ◌≤◌, ◌⊎◌, inl, inr, List, length, take, get_or, ap, sym, ◌∙◌, subst, arith}
 use Rattle.std.specs.Prelude.{ℤ, pos, nat_abs}
 use Rattle.std.specs.Int.{IsGcd, w128}
 use Rattle.std.specs.List.{AllByRecursion}
@@ -6,7 +6,7 @@ use Rattle.std.proofs.lemmas.Bool.{cases_eq}
 use Rattle.std.proofs.lemmas.List.{take_more, take_all}
 use Rattle.std.proofs.lemmas.Int.{to_z_pos, to_z-of_z, fits_signed_from_abs}
 use Rattle.model.specs.Limits.{coefficient_limit}
-use Rattle.guard_prep.specs.Tightening.{total_size}
+use Rattle.linear_forms.specs.Sizes.{total_size}
 use Rattle.guard_prep.proofs.DivisorLaws.{IsDivisorOf, divisor-more, divisor-is, divisor-small, divisor-none-left, all-at}
 use Rattle.guard_prep.proofs.tighten.common_divisor.Goals as goal
 

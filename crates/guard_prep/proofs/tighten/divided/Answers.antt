@@ -1,8 +1,8 @@
-use Rattle.std.proofs.Common.{◌≡◌, ℕ, ◌+◌, ◌<◌, ◌≤◌, length, map, ap, sym, ◌∙◌, arith}
+use Rattle.std.proofs.Common.{map, ap, ◌∙◌, arith}
 use Rattle.std.specs.Prelude.{ℤ, int_div}
 use Rattle.std.specs.Int.{w128, cast_signed, cast_unsigned}
 use Rattle.std.proofs.lemmas.Int.{to_z-of_z}
-use Rattle.guard_prep.proofs.TighteningLaws.{divide-step, front-length, front-all}
+use Rattle.guard_prep.proofs.TighteningLaws.{divide-step, front-all}
 use Rattle.guard_prep.proofs.tighten.divided.Goals as goal
 
 pub loop-i-preserved : goal.loop-i-preserved

@@ -7,8 +7,8 @@ use Rattle.its_graph.specs.Groups.{values_of}
 use Rattle.its_graph.specs.Links.{link_of, AreBelow, arrivals}
 use Rattle.its_graph.specs.Graphs.{HasSymbols}
 use Rattle.its_graph.proofs.PairLists.{Pair}
-use Rattle.its_graph.proofs.Numbering.{links-within}
-use Rattle.its_graph.proofs.Arrivals.{arrivals-within, links-ends, below-symbols}
+use Rattle.its_graph.proofs.Numbering.{links-within, links-ends}
+use Rattle.its_graph.proofs.Arrivals.{arrivals-within, below-symbols}
 use Rattle.its_graph.proofs.graph.Graph.new.Goals as goal
 
 -- the keys of the arrivals are symbols

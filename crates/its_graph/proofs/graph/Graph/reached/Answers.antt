@@ -6,8 +6,8 @@ use Rattle.std.proofs.lemmas.List.Elements.{All-weaker}
 use Rattle.model.specs.Programs.{Program}
 use Rattle.model.specs.Paths.{Path, IsReached, HasEdge}
 use Rattle.its_graph.specs.Groups.{values_in, values_of, Joins}
-use Rattle.its_graph.specs.Links.{kept_links, all_cut}
-use Rattle.its_graph.specs.Graphs.{ends_of, IsGraphOf, none_of, flagged}
+use Rattle.its_graph.specs.Links.{ends_of, kept_links, all_cut}
+use Rattle.its_graph.specs.Graphs.{IsGraphOf, none_of, flagged}
 use Rattle.its_graph.proofs.PairLists.{Pair}
 use Rattle.its_graph.proofs.KeptLinks.{uncut-size, uncut-flags, kept-within, kept-values, kept-table, same-edges}
 use Rattle.its_graph.proofs.Reaching.{same-paths, both-ways}

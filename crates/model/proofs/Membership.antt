@@ -5,7 +5,7 @@ use Rattle.std.proofs.lemmas.List.FromFn.{length-range_with_len, get_or-range_wi
 use Rattle.std.proofs.lemmas.Bool.{or_left, or_right, true≢false}
 use Rattle.std.proofs.lemmas.Bool.Decides.{eqb_tells}
 use Rattle.model.specs.Programs.{Program, Rule, rule_at}
-use Rattle.proof_nodes.specs.Numbers.{is_in}
+use Rattle.model.specs.Entries.{is_in}
 use Rattle.model.specs.Paths.{entry_and_rules}
 
 -- a number is itself
@@ -53,6 +53,28 @@ is_in-filter test (y ∷ ys) x h k = go (is_in-cases x y ys h) (λ m. is_in-filt
         (or_left (x == y) (is_in x (filter test ys)) (subst (λ (n : ℕ). (x == n) ≡ true) e (same_number x)))
     go (inr m) ih = kept (test y) refl ih m
 
+-- a number that is in a filtered list is in the list and passes
+pub filter-in : (test : ℕ → Bool) (xs : List ℕ) (x : ℕ) → is_in x (filter test xs) ≡ true
+    → (is_in x xs ≡ true) × (test x ≡ true)
+filter-in test [] x h = absurd (no_is_not_yes false refl h)
+filter-in test (y ∷ ys) x h = go (test y) refl (λ m. filter-in test ys x m)
+  where
+    later : (is_in x (filter test ys) ≡ true → (is_in x ys ≡ true) × (test x ≡ true)) → is_in x (filter test ys) ≡ true
+        → (is_in x (y ∷ ys) ≡ true) × (test x ≡ true)
+    later ih m = let k = ih m in (or_right (x == y) (is_in x ys) k.0, k.1)
+
+    go : (v : Bool) → test y ≡ v → (is_in x (filter test ys) ≡ true → (is_in x ys ≡ true) × (test x ≡ true))
+        → (is_in x (y ∷ ys) ≡ true) × (test x ≡ true)
+    go false e ih = later ih (rw e at h)
+    go true e ih = by (is_in-cases x y (filter test ys) (rw e at h))
+      where
+        by : (x ≡ y) ⊎ (is_in x (filter test ys) ≡ true) → (is_in x (y ∷ ys) ≡ true) × (test x ≡ true)
+        by (inl same) = (
+          or_left (x == y) (is_in x ys) (subst (λ (n : ℕ). (x == n) ≡ true) same (same_number x)),
+          ap test same ∙ e,
+        )
+        by (inr m) = later ih m
+
 -- a test that an element passes
 pub list_any-from : (test : ℕ → Bool) (xs : List ℕ) (x : ℕ) → is_in x xs ≡ true → test x ≡ true
     → list_any test xs ≡ true
@@ -62,6 +84,32 @@ list_any-from test (y ∷ ys) x h k = go (is_in-cases x y ys h) (λ m. list_any-
     go : (x ≡ y) ⊎ (is_in x ys ≡ true) → (is_in x ys ≡ true → list_any test ys ≡ true) → list_any test (y ∷ ys) ≡ true
     go (inl e) ih = or_left (test y) (list_any test ys) (ap test (sym e) ∙ k)
     go (inr m) ih = or_right (test y) (list_any test ys) (ih m)
+
+-- an element that passes the test
+pub list_any-told : (test : ℕ → Bool) (xs : List ℕ) → list_any test xs ≡ true
+    → (x : ℕ) × (is_in x xs ≡ true) × (test x ≡ true)
+list_any-told test [] h = absurd (no_is_not_yes false refl h)
+list_any-told test (y ∷ ys) h = go (test y) refl (list_any-told test ys)
+  where
+    later : ((x : ℕ) × (is_in x ys ≡ true) × (test x ≡ true)) → (x : ℕ) × (is_in x (y ∷ ys) ≡ true) × (test x ≡ true)
+    later (x, m, passes) = (x, or_right (x == y) (is_in x ys) m, passes)
+
+    go : (v : Bool) → test y ≡ v → (list_any test ys ≡ true → (x : ℕ) × (is_in x ys ≡ true) × (test x ≡ true))
+        → (x : ℕ) × (is_in x (y ∷ ys) ≡ true) × (test x ≡ true)
+    go true e ih = (y, or_left (y == y) (is_in y ys) (same_number y), e)
+    go false e ih = later (ih (rw e at h))
+
+-- what is in a list is contained in it
+pub contains-is_in : (xs : List ℕ) (x : ℕ) → is_in x xs ≡ true → Contains xs x
+contains-is_in [] x h = absurd (no_is_not_yes false refl h)
+contains-is_in (y ∷ ys) x h = go (is_in-cases x y ys h) (λ m. contains-is_in ys x m)
+  where
+    later : Contains ys x → Contains (y ∷ ys) x
+    later (k, low, e) = (suc k, omega arith, e)
+
+    go : (x ≡ y) ⊎ (is_in x ys ≡ true) → (is_in x ys ≡ true → Contains ys x) → Contains (y ∷ ys) x
+    go (inl e) ih = (zero, omega arith, sym e)
+    go (inr m) ih = later (ih m)
 
 -- what a list contains is in it
 pub is_in-contained : (xs : List ℕ) (x : ℕ) → Contains xs x → is_in x xs ≡ true

@@ -1,0 +1,8 @@
+-- What holds of every valid program.
+use Rattle.model.specs.Programs.{Program}
+use Rattle.model.specs.RunLaws.{AritiesAgree}
+use Rattle.its_model.specs.Valid.{IsValid}
+
+-- each of its rules has an update for each place of its target, and a left variable for each place of its source
+abbrev pub AritiesOfValidAgree : Type 0
+AritiesOfValidAgree = (p : Program) → IsValid p → AritiesAgree p
