@@ -19,7 +19,7 @@ one_narrow : IsNarrow (pos 1)
 one_narrow = omega arith
 
 -- cross products are equal where both fractions are the same
-cross : (n d over under : ℤ) → over ≡ n → under ≡ d → n *ℤ under ≡ over *ℤ d
+pub cross : (n d over under : ℤ) → over ≡ n → under ≡ d → n *ℤ under ≡ over *ℤ d
 cross n d over under e f = ap (λ (z : ℤ). n *ℤ z) f ∙ sym (ap (λ (z : ℤ). z *ℤ d) e)
 
 -- four narrow numbers, each equal to one that is narrow

@@ -34,5 +34,8 @@ pub(crate) fn exact_quotient(a: i128, divisor: i128) -> i128
     requires divides { unsigned_abs divisor ∣ unsigned_abs a }
     ensures { result *ℤ divisor ≡ a }
 {
+    if divisor == 1 {
+        return a;
+    }
     a / divisor
 }

@@ -43,6 +43,9 @@ impl Frac {
         requires nonzero { under ≢ pos 0 }
         ensures { IsFraction result over under }
     {
+        if under == 1 {
+            return Frac::whole(over);
+        }
         let divisor = signed_divisor(over, under);
         Frac {
             num: exact_quotient(over, divisor),

@@ -54,7 +54,8 @@ impl Builder {
         requires writable { AreWritable (parameter_count self.old) unknowns rows.now goals.now fixed.now }
         requires few_rows { row_count self.old + unknowns + 1 < 2 ^ 31 }
         requires few_columns { column_count self.old + length rows.now + 1 < 2 ^ 31 }
-        ensures { IfOk result (λ _. Adds self.old self.new (group_of (parameter_count self.old) unknowns rows.now goals.now fixed.now)) }
+        ensures { IfOk result (λ _. Adds self.old self.new (group_of (parameter_count self.old) unknowns rows.now
+            goals.now fixed.now)) }
     {
         for number in 0..unknowns + 1 {
             let line = Line { unknowns, number };

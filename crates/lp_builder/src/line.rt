@@ -78,7 +78,8 @@ pub(crate) fn put_goals(
     requires room { sheet.old.col + 2 * parameters < 2 ^ 32 }
     requires listed { AreParameters parameters goals.now }
     requires writable { All (λ g. IsWritable line.unknowns (form_of g.form)) goals.now }
-    ensures { IfOk result (λ _. Writes sheet.old sheet.new (signed (map (number line.unknowns line.number) (goal_forms 0 parameters goals.now)))
+    ensures { IfOk result (λ _. Writes sheet.old sheet.new
+        (signed (map (number line.unknowns line.number) (goal_forms 0 parameters goals.now)))
         × (sheet.new.col ≡ sheet.old.col + 2 * parameters)) }
 {
     let mut next = 0;
@@ -95,7 +96,8 @@ pub(crate) fn put_goals(
 pub(crate) fn put_rows(sheet: &mut Sheet, line: Line, rows: &[Row]) -> Result<(), AllocError>
     requires room { sheet.old.col + length rows.now < 2 ^ 32 }
     requires writable { All (λ r. IsWritable line.unknowns (form_of r)) rows.now }
-    ensures { IfOk result (λ _. Writes sheet.old sheet.new (map (λ r. neg_ℤ (number line.unknowns line.number r)) (map form_of rows.now))
+    ensures { IfOk result (λ _. Writes sheet.old sheet.new (map (λ r. neg_ℤ (number line.unknowns line.number r))
+        (map form_of rows.now))
         × (sheet.new.col ≡ sheet.old.col + length rows.now)) }
 {
     for row in rows {
@@ -118,7 +120,8 @@ pub(crate) fn put_line(
     requires listed { AreParameters parameters goals.now }
     requires goals_writable { All (λ g. IsWritable line.unknowns (form_of g.form)) goals.now }
     requires rows_writable { All (λ r. IsWritable line.unknowns (form_of r)) rows.now }
-    ensures { IfOk result (λ _. Writes sheet.old sheet.new (signed (map (number line.unknowns line.number) (goal_forms 0 parameters goals.now))
+    ensures { IfOk result (λ _. Writes sheet.old sheet.new
+        (signed (map (number line.unknowns line.number) (goal_forms 0 parameters goals.now))
         ++ (replicate before (pos 0) ++ (map (λ r. neg_ℤ (number line.unknowns line.number r)) (map form_of rows.now) ++ (slack line.unknowns line.number ∷ []))))) }
 {
     put_goals(sheet, line, parameters, goals)?;

@@ -1,7 +1,10 @@
-//! Tests of the fractions and of the simplex method through their public calls: fractions beside worked values, programs
-//! with worked answers, the definition's plain reading, and a program at size.
+//! Tests of the fractions and of the simplex method through their public calls: fractions beside worked values,
+//! programs with worked answers, questions as the builder writes them, the definition's plain reading, and a program
+//! at size.
 #![tactic(auto)]
 
+#[cfg(test)]
+mod asked;
 #[cfg(test)]
 mod coded;
 #[cfg(test)]
@@ -13,6 +16,10 @@ mod plain;
 #[cfg(test)]
 mod proper;
 #[cfg(test)]
+mod questions;
+#[cfg(test)]
 mod rows;
+#[cfg(test)]
+mod scaled;
 #[cfg(test)]
 mod tables;

@@ -1,7 +1,7 @@
 //! The worked programs, solved and compared.
 
 use crate::proper::is_proper;
-use crate::tables::{Answer, CHOICES, EXTREMES, Row, SMALL};
+use crate::tables::{Answer, CHOICES, EXTREMES, LONE, Row, SMALL};
 use Answer::{Budget, Infeasible, Optimal, Range};
 use frac128::Frac;
 use simplex_core::{Entry, Problem, SolveError, Solved, solve};
@@ -35,8 +35,8 @@ fn entries_of(alloc: Global, equations: &[&[i128]]) -> Result<Vec<Entry>, AllocE
     Ok(entries)
 }
 
-// The program of a row.
-fn problem_of(alloc: Global, row: &Row) -> Result<Problem, AllocError> {
+/// The program of a row.
+pub(super) fn problem_of(alloc: Global, row: &Row) -> Result<Problem, AllocError> {
     Ok(Problem {
         rows: number_of(row.right.len()),
         cols: number_of(row.first.len()),
@@ -86,8 +86,13 @@ pub(super) fn solved(
     solve(alloc, problem, pivots)
 }
 
-// Solves the program of a row, and compares the answer.
-fn compare(rt: &impl Abort, alloc: Global, row: &Row, position: usize) -> Result<(), Fail> {
+/// Solves the program of a row, and compares the answer.
+pub(super) fn compare(
+    rt: &impl Abort,
+    alloc: Global,
+    row: &Row,
+    position: usize,
+) -> Result<(), Fail> {
     let problem = problem_of(alloc, row)?;
     let got = solved(rt, alloc, &problem, row.pivots);
     let want = answer_of(alloc, row.answer)?;
@@ -116,6 +121,11 @@ fn ties_and_limits_are_decided_by_the_rules(rt: HostRuntime) -> Result<(), Fail>
 #[test]
 fn extreme_numbers_are_out_of_range_at_the_start(rt: HostRuntime) -> Result<(), Fail> {
     compare_all(&rt, rt.alloc(), &EXTREMES)
+}
+
+#[test]
+fn one_number_out_of_range_is_enough_wherever_it_stands(rt: HostRuntime) -> Result<(), Fail> {
+    compare_all(&rt, rt.alloc(), &LONE)
 }
 
 #[test]

@@ -1,11 +1,11 @@
 -- What stays true of the cells of a table while its rows are cleared.
-use Rattle.std.proofs.Common.{◌≡◌, ◌≢◌, ℕ, ◌+◌, ◌<◌, ◌≤◌, arith, refl, sym, ◌∙◌, subst, ◌⊎◌, inl, inr, [], ◌∷◌}
+use Rattle.std.proofs.Common.{◌≡◌, ◌≢◌, ℕ, ◌+◌, ◌<◌, ◌≤◌, arith, refl, sym, ◌∙◌, subst, ◌⊎◌, inl, inr, [], ◌∷◌, Some}
 use Rattle.std.specs.Prelude.{pos}
 use Rattle.frac128.specs.declared.frac.Frac.{Frac}
 use Rattle.int_laws.specs.Polynomial.{variable, constant, ◌⊖◌, ◌⊗◌}
 use Rattle.int_laws.proofs.Identities.{identity_by_one}
 use Rattle.simplex_core.specs.declared.dense_table.DenseTable.{DenseTable}
-use Rattle.simplex_core.specs.Cells.{width, cell, ChangesRow, KeepsRow, IsRowBelow, IsRowClearedBy, IsLessMultiple}
+use Rattle.simplex_core.specs.Cells.{width, cell, ChangesCell, ChangesRow, KeepsRow, IsRowBelow, IsRowClearedBy, IsLessMultiple}
 use Rattle.simplex_core.specs.Positions.{InTable}
 use Rattle.simplex_core.proofs.Invariant.{same_or_other}
 
@@ -77,3 +77,21 @@ cleared-step a b d r c n wide kept changes rest done cleared i apart l = go (sam
         subst (λ (k : ℕ). IsRowClearedBy a d k r c) (sym e)
         (IsRowClearedBy-from a b d n r c wide kept (λ j w. rest n j (omega arith) w) (cleared (λ f. apart (e ∙ f))))
     go (inr f) = IsRowClearedBy-kept a b d i r c n f kept.rows kept.columns changes (done i apart (omega arith))
+
+-- one number more of a row is cleared
+pub number-step : (a b d : DenseTable) (r p n : ℕ) (factor : Frac) → p ≢ r → n < width a → ChangesRow a b r → ChangesCell b d r n
+    → ((j : ℕ) → n ≤ j → j < width a → cell b r j ≡ cell a r j)
+    → ((f y g : Frac) → cell b r n ≡ Some f → cell b p n ≡ Some y → cell d r n ≡ Some g → IsLessMultiple f factor y g)
+    → ((j : ℕ) (f y g : Frac) → j < n → cell a r j ≡ Some f → cell a p j ≡ Some y → cell b r j ≡ Some g → IsLessMultiple f factor y g)
+    → (j : ℕ) (f y g : Frac) → j < n + 1 → cell a r j ≡ Some f → cell a p j ≡ Some y → cell d r j ≡ Some g → IsLessMultiple f factor y g
+number-step a b d r p n factor apart wide changes cell_changes rest cleared done j f y g l is_f is_y is_g = go (same_or_other j n)
+  where
+    go : (j ≡ n) ⊎ (j ≢ n) → IsLessMultiple f factor y g
+    go (inl e) =
+        cleared f y g (rest n (omega arith) wide ∙ subst (λ (k : ℕ). cell a r k ≡ Some f) e is_f)
+        (changes.others p n apart wide ∙ subst (λ (k : ℕ). cell a p k ≡ Some y) e is_y) (subst (λ (k : ℕ). cell d r k ≡ Some g) e is_g)
+    go (inr m) =
+        let below : j < n = omega arith in
+        let rows = changes.rows in
+        let columns = changes.columns in
+        done j f y g below is_f is_y (sym (cell_changes.others r j (omega (arith, wide, below, rows, columns)) (λ _ e. m e)) ∙ is_g)

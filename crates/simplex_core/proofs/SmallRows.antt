@@ -1,11 +1,12 @@
--- Which rows of a table are known to be small while a pivot is made.
-use Rattle.std.proofs.Common.{◌≡◌, ◌≢◌, ℕ, ◌+◌, ◌*◌, ◌<◌, ap, arith, sym, ◌∙◌, subst, ◌⊎◌, inl, inr, Bool, true, false, List, Some}
+-- Which rows and columns of a table are known to be small while a pivot is made.
+use Rattle.std.proofs.Common.{◌≡◌, ◌≢◌, ℕ, ◌+◌, ◌*◌, ◌<◌, ◌≤◌, ap, arith, sym, ◌∙◌, subst, ◌⊎◌, inl, inr, Bool, true, false, List, Some}
 use Rattle.std.specs.Prelude.{MatchBool, ◌&&◌, slice_get}
+use Rattle.std.proofs.lemmas.Bool.{cases_lt}
 use Rattle.frac128.specs.declared.frac.Frac.{Frac}
 use Rattle.simplex_core.specs.declared.dense_table.DenseTable.{DenseTable}
 use Rattle.simplex_core.specs.Sizes.{IsBelow}
 use Rattle.simplex_core.specs.Positions.{InTable}
-use Rattle.simplex_core.specs.Cells.{width, cell, ChangesRow, IsRowBelow, AreSmall, HasLarge, HasLargeIn, HasLargeBut, AreSmallBut}
+use Rattle.simplex_core.specs.Cells.{width, cell, ChangesRow, ChangesCell, IsRowBelow, AreSmall, HasLarge, HasLargeIn, HasLargeBut, AreSmallBut, IsCellSmall, IsCellLarge, AreSmallBefore, HasLargeBefore}
 use Rattle.simplex_core.proofs.CellLaws.{InTable-same, IsRowBelow-same}
 use Rattle.simplex_core.proofs.Invariant.{same_or_other}
 
@@ -67,3 +68,55 @@ small-step b d r n true true changes tested before = record { each = λ i apart 
     go : (i : ℕ) → i ≢ r → i < n + 1 → (i ≡ n) ⊎ (i ≢ n) → IsRowBelow 31 d i
     go i apart l (inl e) = subst (λ (k : ℕ). IsRowBelow 31 d k) (sym e) (tested (λ f. apart (e ∙ f)))
     go i apart l (inr f) = IsRowBelow-same 31 b d i changes.rows changes.columns (λ j w. changes.others i j f w) (before.each i apart (omega arith))
+
+-- a number that is in a cell decides whether the cell is small
+pub cell-tested : (d : DenseTable) (i j : ℕ) (x : Frac) (v : Bool) → cell d i j ≡ Some x → MatchBool v (IsBelow 31 x) (¬ IsBelow 31 x)
+    → MatchBool v (IsCellSmall d i j) (IsCellLarge d i j)
+cell-tested d i j x false is large = record { number = x; is = is; large = large }
+cell-tested d i j x true is small = record { each = λ f at_f. let same : x ≡ f = cc in subst (λ (y : Frac). IsBelow 31 y) same small }
+
+-- one column more is tested
+pub column-step : (b d : DenseTable) (r n : ℕ) (x s : Bool) → n < width b → ChangesCell b d r n → MatchBool x (IsCellSmall d r n) (IsCellLarge d r n)
+    → MatchBool s (AreSmallBefore b r n) (HasLargeBefore b r n) → MatchBool (x && s) (AreSmallBefore d r (n + 1)) (HasLargeBefore d r (n + 1))
+column-step b d r n false s wide changes tested before = record { column = n; within = omega arith; at = tested }
+column-step b d r n true false wide changes tested before = record {
+  column = before.column;
+  within = let l = before.within in omega arith;
+  at = record {
+    number = before.at.number;
+    is = changes.others r before.column (let l = before.within in omega (arith, wide, l)) (λ e f. let l = before.within in omega arith) ∙ before.at.is;
+    large = before.at.large;
+  };
+}
+column-step b d r n true true wide changes tested before = record { each = λ j l. go j l (same_or_other j n) }
+  where
+    go : (j : ℕ) → j < n + 1 → (j ≡ n) ⊎ (j ≢ n) → IsCellSmall d r j
+    go j l (inl e) = subst (λ (k : ℕ). IsCellSmall d r k) (sym e) tested
+    go j l (inr f) = record {
+      each = λ g is.
+          let below : j < n = omega arith in
+          (before.each j below).each g (sym (changes.others r j (omega (arith, wide, below)) (λ _ e. f e)) ∙ is);
+    }
+
+-- where all columns of a row are tested, the row is
+pub columns-all : (a : DenseTable) (r e : ℕ) (v : Bool) → r < a.rows + 3 → (r < a.rows → e ≡ width a) → (a.rows ≤ r → e + 1 ≡ width a)
+    → MatchBool v (AreSmallBefore a r e) (HasLargeBefore a r e) → MatchBool v (IsRowBelow 31 a r) (HasLargeIn a r)
+columns-all a r e v row equation cost h = go v h (cases_lt r a.rows)
+  where
+    go : (v : Bool) → MatchBool v (AreSmallBefore a r e) (HasLargeBefore a r e) → (r < a.rows) ⊎ (a.rows ≤ r) → MatchBool v (IsRowBelow 31 a r) (HasLargeIn a r)
+    go true h (inl l) = record { each = λ j f inside is. (h.each j (let k = inside.column in let m = equation l in omega arith)).each f is }
+    go true h (inr l) = record { each = λ j f inside is. (h.each j (let k = inside.cost l in let m = cost l in omega arith)).each f is }
+    go false h (inl l) = record {
+      column = h.column;
+      number = h.at.number;
+      in_table = record { row = row; column = let k = h.within in let m = equation l in omega arith; cost = λ o. absurd (omega (arith, l, o)) };
+      is = h.at.is;
+      large = h.at.large;
+    }
+    go false h (inr l) = record {
+      column = h.column;
+      number = h.at.number;
+      in_table = record { row = row; column = let k = h.within in let m = cost l in omega arith; cost = λ o. let k = h.within in let m = cost l in omega arith };
+      is = h.at.is;
+      large = h.at.large;
+    }

@@ -68,6 +68,26 @@ pub record HasLargeIn (table : DenseTable) (r : ℕ) : Type 0 where
   pub is : cell table r column ≡ Some number
   pub large : ¬ IsBelow 31 number
 
+-- the number in row i and column j is below 2^31 in numerator and denominator
+pub record IsCellSmall (table : DenseTable) (i j : ℕ) : Type 0 where
+  pub each : (f : Frac) → cell table i j ≡ Some f → IsBelow 31 f
+
+-- the number in row i and column j isn't below 2^31
+pub record IsCellLarge (table : DenseTable) (i j : ℕ) : Type 0 where
+  pub number : Frac
+  pub is : cell table i j ≡ Some number
+  pub large : ¬ IsBelow 31 number
+
+-- the numbers of row r in the columns before column m are below 2^31
+pub record AreSmallBefore (table : DenseTable) (r m : ℕ) : Type 0 where
+  pub each : (j : ℕ) → j < m → IsCellSmall table r j
+
+-- a number of row r in a column before column m isn't below 2^31
+pub record HasLargeBefore (table : DenseTable) (r m : ℕ) : Type 0 where
+  pub column : ℕ
+  pub within : column < m
+  pub at : IsCellLarge table r column
+
 -- a number of the first m rows, but for row r, isn't below 2^31
 pub record HasLargeBut (table : DenseTable) (r m : ℕ) : Type 0 where
   pub row : ℕ

@@ -1,7 +1,7 @@
 //! The arithmetic of a pivot. The fractions of a tableau within the limit are below 2^31, so no
 //! number of a formula is beyond 127 bits.
 
-ghost use Rattle.std.specs.Prelude.{◌≡◌, ℕ, ◌^◌, ◌<◌, ℤ, pos, ◌-ℤ◌, ◌*ℤ◌, ◌<ℤ◌, negsuc, if◌then◌else◌, unsigned_abs, MatchBool};
+ghost use Rattle.std.specs.Prelude.{◌≡◌, ◌≢◌, ℕ, ◌^◌, ◌<◌, ℤ, pos, ◌-ℤ◌, ◌*ℤ◌, ◌<ℤ◌, negsuc, if◌then◌else◌, unsigned_abs, MatchBool};
 ghost use Rattle.frac128.specs.Fraction.{IsFraction};
 ghost use Rattle.simplex_core.specs.Tableau.{sign_of};
 ghost use Rattle.simplex_core.specs.Sizes.{IsBelow};
@@ -44,29 +44,15 @@ pub(crate) fn quotient(a: Frac, b: Frac) -> Frac
     ensures exact { IsFraction result (a.num *ℤ b.den) (a.den *ℤ b.num) }
     ensures bounded { IsBelow 62 result }
 {
-    match a.div(b) {
-        Ok(quotient) => quotient,
-        Err(_) => unreachable!(),
-    }
+    let over = small_product(a.num, b.den);
+    let under = small_product(a.den, b.num);
+    lowest(over, under)
 }
 
-/// The product of a number of a tableau and a quotient of two.
-fn product(a: Frac, b: Frac) -> Frac
-    requires a_small { IsBelow 31 a }
-    requires b_bounded { IsBelow 62 b }
-    ensures exact { IsFraction result (a.num *ℤ b.num) (a.den *ℤ b.den) }
-    ensures bounded { IsBelow 93 result }
-{
-    match a.mul(b) {
-        Ok(product) => product,
-        Err(_) => unreachable!(),
-    }
-}
-
-/// A number of a tableau less a product.
+/// A number of a tableau less another.
 fn difference(a: Frac, b: Frac) -> Frac
     requires a_small { IsBelow 31 a }
-    requires b_bounded { IsBelow 93 b }
+    requires b_small { IsBelow 31 b }
     ensures { IsFraction result (a.num *ℤ b.den -ℤ b.num *ℤ a.den) (a.den *ℤ b.den) }
 {
     match a.sub(b) {
@@ -75,14 +61,45 @@ fn difference(a: Frac, b: Frac) -> Frac
     }
 }
 
-/// A number of a tableau less a multiple of a quotient of two.
+/// A number of a tableau less a multiple of a quotient of two, over all three denominators where one isn't 1.
 pub(crate) fn less_multiple(a: Frac, factor: Frac, b: Frac) -> Frac
     requires a_small { IsBelow 31 a }
     requires factor_small { IsBelow 31 factor }
     requires b_bounded { IsBelow 62 b }
-    ensures { IsFraction result ((a.num *ℤ factor.den) *ℤ b.den -ℤ (factor.num *ℤ b.num) *ℤ a.den) ((a.den *ℤ factor.den) *ℤ b.den) }
+    ensures { IsFraction result ((a.num *ℤ factor.den) *ℤ b.den -ℤ (factor.num *ℤ b.num) *ℤ a.den)
+        ((a.den *ℤ factor.den) *ℤ b.den) }
 {
-    difference(a, product(factor, b))
+    if a.den == 1 && factor.den == 1 && b.den == 1 {
+        return less_whole_multiple(a.num, factor.num, b.num);
+    }
+    let left = triple_product(a.num, factor.den, b.den);
+    let right = triple_product(factor.num, a.den, b.num);
+    let under = triple_product(a.den, factor.den, b.den);
+    lowest(large_difference(left, right), under)
+}
+
+/// A whole number less a multiple of one.
+fn less_whole_multiple(a: i128, factor: i128, b: i128) -> Frac
+    requires a_small { unsigned_abs a < 2 ^ 31 }
+    requires factor_small { unsigned_abs factor < 2 ^ 31 }
+    requires b_bounded { unsigned_abs b < 2 ^ 62 }
+    ensures num { result.num ≡ a -ℤ factor *ℤ b }
+    ensures den { result.den ≡ pos 1 }
+{
+    Frac::whole(large_difference(a, large_product(factor, b)))
+}
+
+/// The fraction `over / under` in lowest terms.
+fn lowest(over: i128, under: i128) -> Frac
+    requires over_bounded { unsigned_abs over < 2 ^ 125 }
+    requires under_bounded { unsigned_abs under < 2 ^ 125 }
+    requires nonzero { under ≢ pos 0 }
+    ensures { IsFraction result over under }
+{
+    match Frac::new(over, under) {
+        Ok(fraction) => fraction,
+        Err(_) => unreachable!(),
+    }
 }
 
 /// The product of two numerators or denominators of a tableau.
@@ -95,13 +112,35 @@ fn small_product(a: i128, b: i128) -> i128
     a * b
 }
 
-/// The product of two such products.
+/// The product of two numbers of twice that size.
 fn large_product(a: i128, b: i128) -> i128
     requires a_small { unsigned_abs a < 2 ^ 62 }
     requires b_small { unsigned_abs b < 2 ^ 62 }
-    ensures { result ≡ a *ℤ b }
+    ensures value { result ≡ a *ℤ b }
+    ensures bounded { unsigned_abs result < 2 ^ 124 }
 {
     a * b
+}
+
+/// The product of two numerators or denominators of a tableau and one of a quotient of two numbers.
+fn triple_product(a: i128, b: i128, c: i128) -> i128
+    requires a_small { unsigned_abs a < 2 ^ 31 }
+    requires b_small { unsigned_abs b < 2 ^ 31 }
+    requires c_bounded { unsigned_abs c < 2 ^ 62 }
+    ensures value { result ≡ (a *ℤ b) *ℤ c }
+    ensures bounded { unsigned_abs result < 2 ^ 124 }
+{
+    large_product(small_product(a, b), c)
+}
+
+/// The difference of two such products.
+fn large_difference(a: i128, b: i128) -> i128
+    requires a_bounded { unsigned_abs a < 2 ^ 124 }
+    requires b_bounded { unsigned_abs b < 2 ^ 124 }
+    ensures value { result ≡ a -ℤ b }
+    ensures bounded { unsigned_abs result < 2 ^ 125 }
+{
+    a - b
 }
 
 /// The numerator of the product of a and b over the denominators of all four.

@@ -14,9 +14,9 @@ ghost use Rattle.std.specs.Prelude.{◌≡◌, ℕ, ◌+◌, ◌*◌, ◌<◌, �
 pub(crate) use first::{first_table, tested};
 use frac128::Frac;
 
-/// The fractions of a tableau: a row for each equation, then three cost rows. A row has the unknowns, with the artificial
-/// ones behind, and the right side; of a cost row the last column is unused. `is_small` notes whether all numbers are below
-/// 2^31.
+/// The fractions of a tableau: a row for each equation, then three cost rows. A row has the unknowns, with the
+/// artificial ones behind, and the right side; of a cost row the last column is unused. `is_small` notes whether all
+/// numbers are below 2^31.
 #[derive(Debug, Drop)]
 pub(crate) struct DenseTable {
     numbers: Vec<Frac>,

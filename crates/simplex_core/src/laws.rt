@@ -34,15 +34,15 @@ pub fn answers_are_one()
     ensures { AnswersAreOne }
 {}
 
-/// Linear programs that agree inside their rows and columns have the same answers, also in whole numbers, and trip by the
-/// same causes. That they have the same solutions, least points and duals is
+/// Linear programs that agree inside their rows and columns have the same answers, also in whole numbers, and trip by
+/// the same causes. That they have the same solutions, least points and duals is
 /// `linear_forms::agreeing_programs_are_the_same`.
 pub fn agreeing_programs_answer_the_same()
     ensures { AgreeingProgramsAnswerTheSame }
 {}
 
-/// Of one linear program within one number of pivots two answers in whole numbers are the same, and so are two causes by
-/// which it trips: it trips by one cause, or has a solution, or a dual.
+/// Of one linear program within one number of pivots two answers in whole numbers are the same, and so are two causes
+/// by which it trips: it trips by one cause, or has a solution, or a dual.
 pub fn whole_answers_are_one()
     ensures { WholeAnswersAreOne }
 {}

@@ -28,7 +28,8 @@ pub(crate) fn scale_by_least(
     requires den_limit { (0 < den_limit) × (den_limit < 2 ^ 127) }
     requires limit { limit ≤ certificate_limit }
     ensures { IfOk result (λ answer. MatchOption answer (HasNoneScaled fractions.now den_limit limit)
-        (λ s. AreScaled fractions.now s.numbers.items s.den × AreWithin limit (length s.numbers.items) s.numbers.items × (s.den ≤ den_limit))) }
+        (λ s. AreScaled fractions.now s.numbers.items s.den × AreWithin limit (length s.numbers.items) s.numbers.items
+        × (s.den ≤ den_limit))) }
 {
     let Some(den) = least_common_denominator(fractions, den_limit) else {
         return Ok(None);
@@ -63,7 +64,8 @@ fn numbers_over(
     requires den_limit { den < 2 ^ 127 }
     requires limit { limit ≤ certificate_limit }
     ensures { IfOk result (λ answer. MatchOption answer (HasNumberOver fractions.now den limit)
-        (λ numbers. (length numbers.items ≡ length fractions.now) × AreOver fractions.now (length fractions.now) numbers.items den
+        (λ numbers. (length numbers.items ≡ length fractions.now)
+        × AreOver fractions.now (length fractions.now) numbers.items den
         × AreWithin limit (length fractions.now) numbers.items)) }
 {
     let mut numbers = Vec::with_capacity(alloc, fractions.len())?;
@@ -82,7 +84,8 @@ fn number_over(number: Frac, den: u128, limit: u64) -> Option<i64>
     requires den_limit { den < 2 ^ 127 }
     requires divides { unsigned_abs number.den ∣ den }
     requires limit { limit ≤ certificate_limit }
-    ensures { MatchOption result (IsNumberOver number den limit) (λ n. (n *ℤ number.den ≡ number.num *ℤ pos den) × (unsigned_abs n ≤ limit)) }
+    ensures { MatchOption result (IsNumberOver number den limit)
+        (λ n. (n *ℤ number.den ≡ number.num *ℤ pos den) × (unsigned_abs n ≤ limit)) }
 {
     let times = den / number.den.unsigned_abs();
     if number.num.unsigned_abs() > u128::from(limit) / times {

@@ -18,7 +18,8 @@ const WIDEST: u64 = 16_000_000;
 /// Whether the numbers of a problem are below 2^31; else the first tableau is out of range.
 fn has_small_numbers(problem: &Problem) -> bool
     requires { IsProper problem.now }
-    ensures { MatchBool result (HasSmallNumbers problem.now) (¬ IsInRange (program_of problem.now) (first_tableau (program_of problem.now))) }
+    ensures { MatchBool result (HasSmallNumbers problem.now)
+        (¬ IsInRange (program_of problem.now) (first_tableau (program_of problem.now))) }
 {
     if !are_entries_below(problem.entries.as_slice()) {
         return false;

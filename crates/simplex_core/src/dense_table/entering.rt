@@ -14,7 +14,8 @@ impl DenseTable {
     /// The least column that may enter by a cost row.
     pub(super) fn least_entering(&self, cost: usize) -> Option<usize>
         requires { cost < 3 }
-        ensures { (p : LinearProgram) (t : Tableau) → Shows p self.now t → result ≡ least p.columns (may_enter p t cost) }
+        ensures { (p : LinearProgram) (t : Tableau) → Shows p self.now t
+            → result ≡ least p.columns (may_enter p t cost) }
     {
         for column in 0..self.columns {
             if self.may_enter(cost, column) {
@@ -30,12 +31,15 @@ impl DenseTable {
         requires column { column < self.now.columns }
         ensures { (p : LinearProgram) (t : Tableau) → Shows p self.now t → result ≡ may_enter p t cost column }
     {
+        if !self.is_negative_at(self.rows + cost, column) {
+            return false;
+        }
         for before in 0..cost {
             if !self.is_zero_at(self.rows + before, column) {
                 return false;
             }
         }
-        self.is_negative_at(self.rows + cost, column)
+        true
     }
 
     /// Whether no column of the program has a negative number in the cost row of the artificial unknowns.
@@ -80,7 +84,8 @@ impl DenseTable {
     fn is_negative_at(&self, row: usize, column: usize) -> bool
         requires row { row < self.now.rows + 3 }
         requires column { column < self.now.columns }
-        ensures { (p : LinearProgram) (t : Tableau) → Shows p self.now t → result ≡ int_lt (t.entry row column) (pos 0) }
+        ensures { (p : LinearProgram) (t : Tableau) → Shows p self.now t
+            → result ≡ int_lt (t.entry row column) (pos 0) }
     {
         self.at(row, column).num < 0
     }
@@ -98,7 +103,8 @@ impl DenseTable {
     pub(super) fn is_positive_at(&self, row: usize, column: usize) -> bool
         requires row { row < self.now.rows }
         requires column { column < width self.now }
-        ensures { (p : LinearProgram) (t : Tableau) → Shows p self.now t → result ≡ int_lt (pos 0) (t.entry row column) }
+        ensures { (p : LinearProgram) (t : Tableau) → Shows p self.now t
+            → result ≡ int_lt (pos 0) (t.entry row column) }
     {
         self.at(row, column).num > 0
     }

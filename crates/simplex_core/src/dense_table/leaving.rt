@@ -75,7 +75,8 @@ impl DenseTable {
         requires r { r < self.now.rows }
         requires column { column < self.now.columns }
         ensures { (p : LinearProgram) (t : Tableau) → Shows p self.now t
-            → result ≡ int_lt (t.entry i (unknowns p) *ℤ t.entry r column) (t.entry r (unknowns p) *ℤ t.entry i column) }
+            → result ≡ int_lt (t.entry i (unknowns p) *ℤ t.entry r column)
+            (t.entry r (unknowns p) *ℤ t.entry i column) }
     {
         let unknowns = self.columns + self.rows;
         let right_i = self.at(i, unknowns);

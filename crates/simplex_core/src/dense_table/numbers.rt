@@ -116,7 +116,8 @@ impl DenseTable {
         requires second_small { unsigned_abs second < 2 ^ 31 }
         ensures shape { KeepsShape self.old self.new }
         ensures equations { KeepsEquations self.old self.new }
-        ensures whole { (g : ℕ → ℕ → ℤ) (f s : List ℤ) → slice_index_or f column (pos 0) ≡ first → slice_index_or s column (pos 0) ≡ second
+        ensures whole { (g : ℕ → ℕ → ℤ) (f s : List ℤ) → slice_index_or f column (pos 0) ≡ first
+            → slice_index_or s column (pos 0) ≡ second
             → HoldsWhole self.old (with_costs self.old.rows g f s column)
             → HoldsWhole self.new (with_costs self.old.rows g f s (column + 1)) }
     {

@@ -4,9 +4,9 @@ ghost use Rattle.std.specs.Prelude.{◌≡◌, ◌≢◌, ℕ, ◌+◌, ◌<◌,
 ghost use Rattle.frac128.specs.Fraction.{IsFraction};
 ghost use Rattle.frac128.specs.declared.frac.Frac.{Frac};
 ghost use Rattle.simplex_core.specs.Sizes.{IsBelow};
-ghost use Rattle.simplex_core.specs.Cells.{width, cell, ChangesCell, IsLessMultiple, AreSmall, ChangesRow, IsRowBelow, IsRowDivided, IsRowCleared, IsRowClearedBy, KeepsRow, IsPivoted, HasLarge, HasLargeIn, HasLargeBut, AreSmallBut};
+ghost use Rattle.simplex_core.specs.Cells.{width, cell, ChangesCell, IsLessMultiple, AreSmall, ChangesRow, IsRowBelow, IsRowDivided, IsRowCleared, IsRowClearedBy, KeepsRow, IsPivoted, HasLarge, HasLargeIn, HasLargeBut, AreSmallBut, IsCellSmall, IsCellLarge};
 
-use crate::arithmetic::{less_multiple, quotient};
+use crate::arithmetic::{is_small, less_multiple, quotient};
 use crate::dense_table::DenseTable;
 use frac128::Frac;
 
@@ -31,7 +31,8 @@ impl DenseTable {
     /// Whether all numbers are below 2^31, where it is known of all rows but one.
     fn are_all_small(&self, row: usize, are_others_small: bool) -> bool
         requires row { row < self.now.rows + 3 }
-        requires others { MatchBool are_others_small (AreSmallBut self.now row (self.now.rows + 3)) (HasLargeBut self.now row (self.now.rows + 3)) }
+        requires others { MatchBool are_others_small (AreSmallBut self.now row (self.now.rows + 3))
+            (HasLargeBut self.now row (self.now.rows + 3)) }
         ensures { MatchBool result (AreSmall self.now) (HasLarge self.now) }
     {
         if !are_others_small {
@@ -80,8 +81,10 @@ impl DenseTable {
         requires small { (i : ℕ) → i ≢ pivot → i < self.old.rows + 3 → IsRowBelow 31 self.old i }
         requires bounded { IsRowBelow 62 self.old pivot }
         ensures kept { KeepsRow self.old self.new pivot }
-        ensures cleared { (i : ℕ) → i ≢ pivot → i < self.old.rows + 3 → IsRowClearedBy self.old self.new i pivot column }
-        ensures tested { MatchBool result (AreSmallBut self.new pivot (self.new.rows + 3)) (HasLargeBut self.new pivot (self.new.rows + 3)) }
+        ensures cleared { (i : ℕ) → i ≢ pivot → i < self.old.rows + 3
+            → IsRowClearedBy self.old self.new i pivot column }
+        ensures tested { MatchBool result (AreSmallBut self.new pivot (self.new.rows + 3))
+            (HasLargeBut self.new pivot (self.new.rows + 3)) }
     {
         let mut are_small = true;
         for row in 0..self.rows + 3 {
@@ -101,7 +104,8 @@ impl DenseTable {
         ensures changes { ChangesRow self.old self.new row }
         ensures pivot_row { row ≡ pivot → KeepsRow self.old self.new row }
         ensures cleared { row ≢ pivot → IsRowClearedBy self.old self.new row pivot column }
-        ensures tested { MatchBool result (row ≢ pivot → IsRowBelow 31 self.new row) ((row ≢ pivot) × HasLargeIn self.new row) }
+        ensures tested { MatchBool result (row ≢ pivot → IsRowBelow 31 self.new row)
+            ((row ≢ pivot) × HasLargeIn self.new row) }
     {
         if row == pivot {
             return true;
@@ -110,12 +114,11 @@ impl DenseTable {
         if factor.num == 0 {
             return true;
         }
-        self.clear_row(row, pivot, factor);
-        self.is_row_small(row)
+        self.clear_row(row, pivot, factor)
     }
 
-    /// Takes a multiple of the pivot row from a row.
-    fn clear_row(&mut self, row: usize, pivot: usize, factor: Frac)
+    /// Takes a multiple of the pivot row from a row. The answer is whether the row's numbers are below 2^31.
+    fn clear_row(&mut self, row: usize, pivot: usize, factor: Frac) -> bool
         requires row { row < self.old.rows + 3 }
         requires pivot { pivot < self.old.rows }
         requires apart { row ≢ pivot }
@@ -124,14 +127,17 @@ impl DenseTable {
         requires factor_small { IsBelow 31 factor }
         ensures changes { ChangesRow self.old self.new row }
         ensures cleared { IsRowCleared self.old self.new row pivot factor }
+        ensures tested { MatchBool result (IsRowBelow 31 self.new row) (HasLargeIn self.new row) }
     {
+        let mut are_small = true;
         for column in 0..self.row_len(row) {
-            self.clear_number(row, column, pivot, factor);
+            are_small = both(self.clear_number(row, column, pivot, factor), are_small);
         }
+        are_small
     }
 
-    /// Takes a multiple of a number of the pivot row from the one in a row.
-    fn clear_number(&mut self, row: usize, column: usize, pivot: usize, factor: Frac)
+    /// Takes a multiple of a number of the pivot row from the one in a row. The answer is whether that is below 2^31.
+    fn clear_number(&mut self, row: usize, column: usize, pivot: usize, factor: Frac) -> bool
         requires row { row < self.old.rows + 3 }
         requires column { column < width self.old }
         requires pivot { pivot < self.old.rows }
@@ -141,12 +147,15 @@ impl DenseTable {
         ensures changes { ChangesCell self.old self.new row column }
         ensures cleared { (f b g : Frac) → cell self.old row column ≡ Some f → cell self.old pivot column ≡ Some b
             → cell self.new row column ≡ Some g → IsLessMultiple f factor b g }
+        ensures tested { MatchBool result (IsCellSmall self.new row column) (IsCellLarge self.new row column) }
     {
         let divided = self.at(pivot, column);
-        if divided.num != 0 {
-            let number = self.at(row, column);
-            self.set(row, column, less_multiple(number, factor, divided));
+        if divided.num == 0 {
+            return true;
         }
+        let number = less_multiple(self.at(row, column), factor, divided);
+        self.set(row, column, number);
+        is_small(number)
     }
 }
 

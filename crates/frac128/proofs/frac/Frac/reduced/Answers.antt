@@ -6,6 +6,7 @@ use Rattle.std.proofs.Common.{refl}
 use Rattle.frac128.specs.Narrow.{IsNarrow}
 use Rattle.frac128.specs.Lowest.{IsLowest}
 use Rattle.frac128.proofs.LowestTerms.{IsGcd-same, quotients_are_lowest, quotient-narrow, quotient-positive, quotients-cross, factor_apart}
+use Rattle.frac128.proofs.ShortWays.{cross}
 use Rattle.frac128.proofs.frac.Frac.reduced.Goals as goal
 
 pub exact_quotient-requires-clause-divides : goal.exact_quotient-requires-clause-divides
@@ -53,3 +54,9 @@ returns c =
     let of_over = ap (λ (z : ℤ). c.exact_quotient.result *ℤ z) (sym divisor) ∙ (c.exact_quotient.ensures ∙ over) in
     let of_under = ap (λ (z : ℤ). c.exact_quotient-2.result *ℤ z) (sym divisor) ∙ (c.exact_quotient-2.ensures ∙ under) in
     ap (λ (z : ℤ). z *ℤ c.args.under) num ∙ (quotients-cross c.args.over c.args.under divisor_is num_is den_is of_over of_under ∙ ap (λ (z : ℤ). c.args.over *ℤ z) (sym den))
+
+pub returns-then-under-eq1 : goal.returns-then-under-eq1
+returns-then-under-eq1 c =
+    let one : c.args.under ≡ pos 1 = omega (arith, ints) in
+    let over = to_z-of_z w128 c.args.over c.ranges.over in
+    cross c.whole.result.num c.whole.result.den c.args.over c.args.under (sym (c.whole.ensures.0 ∙ over)) (one ∙ sym c.whole.ensures.1)

@@ -5,7 +5,7 @@ use Rattle.simplex_core.specs.Tableau.{cost_row}
 use Rattle.simplex_core.specs.Search.{every}
 use Rattle.simplex_core.proofs.Searches.{fails-every}
 use Rattle.std.proofs.Common.{add-one}
-use Rattle.simplex_core.proofs.Searches.{both-and, and_no, and_yes}
+use Rattle.simplex_core.proofs.Searches.{both-and, and_no, no_and}
 use Rattle.simplex_core.proofs.dense_table.DenseTable.may_enter.Goals as goal
 
 pub returns-then-not-is_zero_at : goal.returns-then-not-is_zero_at
@@ -23,10 +23,18 @@ loop-before-preserved c p t shows =
     let at_row = ap (λ (r : ℕ). is_zero (t.entry (r + c.loop-before.before) c.args.column)) (sym shows.rows) ∙ (sym answer ∙ passes) in
     rw (add-one c.loop-before.before) (both-and _ _ (c.loop-before.invariant p t shows) at_row)
 
+pub returns-then-not-is_negative_at : goal.returns-then-not-is_negative_at
+returns-then-not-is_negative_at c p t shows =
+    let answer = c.is_negative_at.ensures p t shows in
+    let fails : c.is_negative_at.result ≡ false = c.if-not-is_negative_at.true in
+    let at_row = ap (λ (r : ℕ). int_lt (t.entry (r + c.args.cost) c.args.column) (pos 0)) (sym shows.rows) ∙ (sym answer ∙ fails) in
+    sym (no_and _ (every c.args.cost (λ l. is_zero (t.entry (cost_row p l) c.args.column))) at_row)
+
 pub returns : goal.returns
 returns c p t shows =
     let done : c.loop-before.before ≡ c.args.cost = omega arith in
     let zeros = subst (λ (k : ℕ). every k (λ l. is_zero (t.entry (cost_row p l) c.args.column)) ≡ true) done (c.loop-before.invariant p t shows) in
-    c.is_negative_at.ensures p t shows
-    ∙ (ap (λ (r : ℕ). int_lt (t.entry (r + c.args.cost) c.args.column) (pos 0)) shows.rows
-    ∙ sym (and_yes (int_lt (t.entry (cost_row p c.args.cost) c.args.column) (pos 0)) _ zeros))
+    let answer = c.is_negative_at.ensures p t shows in
+    let passes : c.is_negative_at.result ≡ true = c.if-not-is_negative_at.false in
+    let at_row = ap (λ (r : ℕ). int_lt (t.entry (r + c.args.cost) c.args.column) (pos 0)) (sym shows.rows) ∙ (sym answer ∙ passes) in
+    sym (both-and _ _ at_row zeros)

@@ -1,0 +1,160 @@
+//! Answers in whole numbers: at the limits of what they may be, on both sides, and what trips.
+
+use crate::proper::is_proper;
+use Whole::{Dual, Solution, Tripped};
+use simplex_core::{Answer, Cause, Entry, Problem, Scaled, solve_scaled};
+use std::alloc::{AllocError, Global};
+use std::process::Abort;
+use std::test::Fail;
+
+// A program by its numbers, at a row and a column each, and its right sides; all costs are 0. And its answer within the
+// allowed pivots.
+#[derive(Clone, Copy)]
+struct Case {
+    numbers: &'static [(u32, u32, i128)],
+    right: &'static [i128],
+    columns: u32,
+    pivots: u32,
+    answer: Whole,
+}
+
+// An answer: the numbers and their denominator, or what trips.
+#[derive(Clone, Copy)]
+enum Whole {
+    Solution(&'static [i64], u128),
+    Dual(&'static [i64], u128),
+    Tripped(Cause),
+}
+
+// 2^55 + 1 is 48912491*736597059, 2^55 - 1 is 644457551*55905617, and 2^45 + 1 is 1867833*18837001.
+const CASES: [Case; 9] = [
+    // x = 2^25 and 2^30*y = 1: over 2^30 the numbers are 2^55 and 1.
+    Case {
+        numbers: &[(0, 0, 1), (1, 1, 1_073_741_824)],
+        right: &[33_554_432, 1],
+        columns: 2,
+        pivots: 9,
+        answer: Solution(&[36_028_797_018_963_968, 1], 1_073_741_824),
+    },
+    // A number is 2^55 + 1.
+    Case {
+        numbers: &[(0, 0, 1), (1, 1, 736_597_059)],
+        right: &[48_912_491, 1],
+        columns: 2,
+        pivots: 9,
+        answer: Tripped(Cause::Scale),
+    },
+    // The denominator is 2^55 - 1.
+    Case {
+        numbers: &[(0, 0, 644_457_551), (1, 1, 55_905_617)],
+        right: &[1, 1],
+        columns: 2,
+        pivots: 9,
+        answer: Solution(&[55_905_617, 644_457_551], 36_028_797_018_963_967),
+    },
+    // The denominator is 2^55 + 1.
+    Case {
+        numbers: &[(0, 0, 48_912_491), (1, 1, 736_597_059)],
+        right: &[1, 1],
+        columns: 2,
+        pivots: 9,
+        answer: Tripped(Cause::Scale),
+    },
+    // 3*x = 0, 2^25*y = 0 and 2^20*x + y = 1: over 3*2^25 the dual's first number is -2^45.
+    Case {
+        numbers: &[(0, 0, 3), (1, 1, 33_554_432), (2, 0, 1_048_576), (2, 1, 1)],
+        right: &[0, 0, 1],
+        columns: 2,
+        pivots: 9,
+        answer: Dual(&[-35_184_372_088_832, -3, 100_663_296], 100_663_296),
+    },
+    // 2*x = 0, 18837001*y = 0 and 1867833*x + y = 1: it would be -2^45 - 1.
+    Case {
+        numbers: &[(0, 0, 2), (1, 1, 18_837_001), (2, 0, 1_867_833), (2, 1, 1)],
+        right: &[0, 0, 1],
+        columns: 2,
+        pivots: 9,
+        answer: Tripped(Cause::Scale),
+    },
+    // A dual's last number is 1, so over the denominator 2^46 - 2^23 it is that.
+    Case {
+        numbers: &[(0, 0, 8_388_608), (1, 1, 8_388_607), (2, 0, 1), (2, 1, 1)],
+        right: &[0, 0, 1],
+        columns: 2,
+        pivots: 9,
+        answer: Tripped(Cause::Scale),
+    },
+    // What trips before any answer.
+    Case {
+        numbers: &[(0, 0, 2_147_483_648)],
+        right: &[1],
+        columns: 1,
+        pivots: 9,
+        answer: Tripped(Cause::Range { pivot: 0 }),
+    },
+    Case {
+        numbers: &[(0, 0, 1)],
+        right: &[1],
+        columns: 1,
+        pivots: 0,
+        answer: Tripped(Cause::Budget { pivots: 0 }),
+    },
+];
+
+// The program of a case. Its rows are as many as its right sides.
+fn problem_of(alloc: Global, case: &Case) -> Result<Problem, AllocError> {
+    let mut entries = Vec::new(alloc);
+    for (row, col, value) in case.numbers {
+        entries.push(Entry {
+            row: *row,
+            col: *col,
+            value: *value,
+        })?;
+    }
+    let columns = case.columns as usize;
+    Ok(Problem {
+        rows: u32::try_from(case.right.len()).unwrap_or(0),
+        cols: case.columns,
+        entries,
+        right: case.right.to_vec(alloc)?,
+        first: vec![in alloc; 0; columns]?,
+        second: vec![in alloc; 0; columns]?,
+    })
+}
+
+// What `solve_scaled` answers to a problem, which has to be proper.
+fn answered(
+    rt: &impl Abort,
+    alloc: Global,
+    problem: &Problem,
+    pivots: u32,
+) -> Result<Answer, AllocError> {
+    assert!(rt; is_proper(problem));
+    solve_scaled(alloc, problem, pivots)
+}
+
+// The answer as `solve_scaled` writes it.
+fn answer_of(alloc: Global, answer: Whole) -> Result<Answer, AllocError> {
+    Ok(match answer {
+        Solution(numbers, den) => Answer::Solution(Scaled {
+            numbers: numbers.to_vec(alloc)?,
+            den,
+        }),
+        Dual(numbers, den) => Answer::Dual(Scaled {
+            numbers: numbers.to_vec(alloc)?,
+            den,
+        }),
+        Tripped(cause) => Answer::Tripped(cause),
+    })
+}
+
+#[test]
+fn answers_are_scaled_up_to_their_limits(rt: HostRuntime) -> Result<(), Fail> {
+    let alloc = rt.alloc();
+    for (position, case) in CASES.iter().enumerate() {
+        let problem = problem_of(alloc, case)?;
+        let got = answered(&rt, alloc, &problem, case.pivots)?;
+        assert_eq!(rt; got, answer_of(alloc, case.answer)?, "case {position}");
+    }
+    Ok(())
+}

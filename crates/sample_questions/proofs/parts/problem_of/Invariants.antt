@@ -1,0 +1,16 @@
+use Rattle.std.proofs.Common.{◌≡◌, ◌<◌, ◌^◌, List}
+use Rattle.linear_forms.specs.Questions.{Group}
+use Rattle.lp_builder.specs.Builders.{parameter_count, row_count, column_count, IsReady, Holds}
+use Rattle.sample_questions.proofs.parts.problem_of.Given as goal
+
+-- the builder holds some groups, and its rows and columns are counted
+abbrev pub invariant-loop-part : goal.invariant-loop-part
+invariant-loop-part l = record {
+  ready : IsReady l.builder;
+  held : (gs : List Group) × Holds l.builder gs;
+  parameters : parameter_count l.builder ≡ l.parameters;
+  rows : row_count l.builder ≡ l.rows;
+  columns : column_count l.builder ≡ l.columns;
+  few_rows : l.rows < 2 ^ 31;
+  few_columns : l.columns < 2 ^ 31;
+}
