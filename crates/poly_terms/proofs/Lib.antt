@@ -4,6 +4,8 @@ pub mod WideLaws
 mod LoopLaws
 mod PositionLaws
 mod SumLaws
+mod MergeLaws
+mod ScaleLaws
 mod EntryLaws
 pub mod FaultLaws
 mod CollectLaws

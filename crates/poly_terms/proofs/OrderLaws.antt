@@ -90,7 +90,7 @@ from-less : (n k : ℕ) (vs : List ℕ) → n ≤ k → AreFrom k vs → AreFrom
 from-less n k [] l h = h
 from-less n k (v ∷ vs) l h = (omega (arith, h.0), from-less n k vs l h.1)
 
-from-inserted : (n v : ℕ) (vs : List ℕ) → n ≤ v → AreFrom n vs → AreFrom n (inserted v vs)
+pub from-inserted : (n v : ℕ) (vs : List ℕ) → n ≤ v → AreFrom n vs → AreFrom n (inserted v vs)
 from-inserted n v [] l h = (l, h)
 from-inserted n v (w ∷ ws) l h = go (nat_lt w v) (from-inserted n v ws l h.1)
   where
@@ -159,7 +159,7 @@ ordered-sum_of p ms a f g = record {
 }
 
 -- so are opposites
-ascending-opposite : (p : Polynomial) → IsAscending p → IsAscending (map opposite p)
+pub ascending-opposite : (p : Polynomial) → IsAscending p → IsAscending (map opposite p)
 ascending-opposite [] h = h
 ascending-opposite (m ∷ p) h = (before-opposite m.vars p h.0, ascending-opposite p h.1)
 

@@ -1,50 +1,51 @@
--- Sums and opposites of polynomials, step by step, and the sizes of their coefficients.
+-- Sums of polynomials and products with a constant, step by step, and the sizes of their coefficients.
 use Rattle.std.proofs.Common.{◌≡◌, ℕ, zero, suc, ◌+◌, ◌<◌, ◌≤◌, List, [], ◌∷◌, length, get_or, set, map, refl, ap, sym, ◌∙◌, subst, arith}
-use Rattle.std.specs.Prelude.{ℤ, ◌+ℤ◌, neg_ℤ, nat_abs}
+use Rattle.std.specs.Prelude.{ℤ, ◌+ℤ◌, ◌*ℤ◌, nat_abs}
 use Rattle.std.specs.declared.cmp.Ordering.{Ordering}
 use Rattle.std.specs.declared.cmp.Ordering.TheVariants.{Less, Equal, Greater}
 use Rattle.std.specs.Ordering.{match_ordering}
 use Rattle.std.proofs.lemmas.Int.{ints}
 use Rattle.std.proofs.lemmas.List.{length-map, get_or-map}
 use Rattle.model.specs.Polynomials.{Monomial, Polynomial}
-use Rattle.poly_terms.specs.Expanding.{order, added, opposite}
+use Rattle.poly_terms.specs.Expanding.{order, added}
 use Rattle.poly_terms.specs.Ordered.{IsBounded}
+use Rattle.poly_terms.specs.Scaling.{times}
 use Rattle.poly_terms.specs.declared.poly.Monomial as code
 use Rattle.poly_terms.specs.Views.{monomial_of, monomials_of}
 
--- the first n monomials opposite, the others as they are
-abbrev pub opposite_front : ℕ → Polynomial → Polynomial
-opposite_front zero p = p
-opposite_front (suc n) [] = []
-opposite_front (suc n) (m ∷ p) = opposite m ∷ opposite_front n p
+-- the first n monomials multiplied by z, the others as they are
+abbrev pub times_front : ℤ → ℕ → Polynomial → Polynomial
+times_front z zero p = p
+times_front z (suc n) [] = []
+times_front z (suc n) (m ∷ p) = times z m ∷ times_front z n p
 
 -- those behind are as they were
-pub front-behind : (p : Polynomial) (i : ℕ) (d : Monomial) → get_or (opposite_front i p) i d ≡ get_or p i d
-front-behind p zero d = refl
-front-behind [] (suc i) d = refl
-front-behind (m ∷ p) (suc i) d = front-behind p i d
+pub front-behind : (z : ℤ) (p : Polynomial) (i : ℕ) (d : Monomial) → get_or (times_front z i p) i d ≡ get_or p i d
+front-behind z p zero d = refl
+front-behind z [] (suc i) d = refl
+front-behind z (m ∷ p) (suc i) d = front-behind z p i d
 
--- one more opposite
-pub front-more : (p : Polynomial) (i : ℕ) (d : Monomial) → i < length p → set (opposite_front i p) i (opposite (get_or p i d)) ≡ opposite_front (i + 1) p
-front-more p i d l = next p i l ∙ ap (λ (k : ℕ). opposite_front k p) (let e : suc i ≡ i + 1 = omega arith in e)
+-- one more multiplied
+pub front-more : (z : ℤ) (p : Polynomial) (i : ℕ) (d : Monomial) → i < length p → set (times_front z i p) i (times z (get_or p i d)) ≡ times_front z (i + 1) p
+front-more z p i d l = next p i l ∙ ap (λ (k : ℕ). times_front z k p) (let e : suc i ≡ i + 1 = omega arith in e)
   where
-    next : (p : Polynomial) (i : ℕ) → i < length p → set (opposite_front i p) i (opposite (get_or p i d)) ≡ opposite_front (suc i) p
+    next : (p : Polynomial) (i : ℕ) → i < length p → set (times_front z i p) i (times z (get_or p i d)) ≡ times_front z (suc i) p
     next [] i l = absurd (omega arith)
     next (m ∷ p) zero l = refl
-    next (m ∷ p) (suc i) l = ap (λ (q : Polynomial). opposite m ∷ q) (next p i (omega arith))
+    next (m ∷ p) (suc i) l = ap (λ (q : Polynomial). times z m ∷ q) (next p i (omega arith))
 
 -- the length stays
-pub front-length : (p : Polynomial) (i : ℕ) → length (opposite_front i p) ≡ length p
-front-length p zero = refl
-front-length [] (suc i) = refl
-front-length (m ∷ p) (suc i) = ap suc (front-length p i)
+pub front-length : (z : ℤ) (p : Polynomial) (i : ℕ) → length (times_front z i p) ≡ length p
+front-length z p zero = refl
+front-length z [] (suc i) = refl
+front-length z (m ∷ p) (suc i) = ap suc (front-length z p i)
 
--- in the end all are opposite
-pub front-all : (p : Polynomial) (i : ℕ) → length p ≤ i → opposite_front i p ≡ map opposite p
-front-all [] zero l = refl
-front-all [] (suc i) l = refl
-front-all (m ∷ p) zero l = absurd (omega arith)
-front-all (m ∷ p) (suc i) l = ap (λ (q : Polynomial). opposite m ∷ q) (front-all p i (omega arith))
+-- in the end all are multiplied
+pub front-all : (z : ℤ) (p : Polynomial) (i : ℕ) → length p ≤ i → times_front z i p ≡ map (times z) p
+front-all z [] zero l = refl
+front-all z [] (suc i) l = refl
+front-all z (m ∷ p) zero l = absurd (omega arith)
+front-all z (m ∷ p) (suc i) l = ap (λ (q : Polynomial). times z m ∷ q) (front-all z p i (omega arith))
 
 -- each coefficient of a bounded polynomial is bounded
 pub bounded-at : (n : ℕ) (p : Polynomial) (i : ℕ) (d : Monomial) → IsBounded n p → i < length p → nat_abs (get_or p i d).coef ≤ n
@@ -79,17 +80,17 @@ bounded-added n k m (t ∷ ts) l h = go (order m.vars t.vars) (bounded-added n k
     go Equal ih = (sum-size t.coef m.coef n k h.0 l, bounded-more n (n + k) ts (omega arith) h.1)
     go Greater ih = (omega (arith, h.0), ih)
 
--- one more opposite in the list as it stands
-pub opposite-step : (p q : Polynomial) (i : ℕ) (d : Monomial) (z : ℤ) → q ≡ opposite_front i p → i < length p → z ≡ neg_ℤ (get_or p i d).coef
-    → set q i (record { coef = z; vars = (get_or q i d).vars }) ≡ opposite_front (i + 1) p
-opposite-step p q i d z e l f =
+-- one more multiplied in the list as it stands
+pub times-step : (f : ℤ) (p q : Polynomial) (i : ℕ) (d : Monomial) (z : ℤ) → q ≡ times_front f i p → i < length p → z ≡ (get_or p i d).coef *ℤ f
+    → set q i (record { coef = z; vars = (get_or q i d).vars }) ≡ times_front f (i + 1) p
+times-step f p q i d z e l g =
     ap (λ (r : Polynomial). set r i (record { coef = z; vars = (get_or r i d).vars })) e
-    ∙ ((λ j. set (opposite_front i p) i (record { coef = f j; vars = (front-behind p i d j).vars })) ∙ front-more p i d l)
+    ∙ ((λ j. set (times_front f i p) i (record { coef = g j; vars = (front-behind f p i d j).vars })) ∙ front-more f p i d l)
 
 -- the monomial at i is as it was
-pub left-behind : (p : Polynomial) (ms : List code.Monomial) (i : ℕ) (m : code.Monomial) → monomials_of ms ≡ opposite_front i p → i < length p
+pub left-behind : (f : ℤ) (p : Polynomial) (ms : List code.Monomial) (i : ℕ) (m : code.Monomial) → monomials_of ms ≡ times_front f i p → i < length p
     → m ≡ get_or ms i m → get_or p i (monomial_of m) ≡ monomial_of m
-left-behind p ms i m e l f =
-    sym (front-behind p i (monomial_of m))
+left-behind f p ms i m e l g =
+    sym (front-behind f p i (monomial_of m))
     ∙ (ap (λ (r : Polynomial). get_or r i (monomial_of m)) (sym e)
-    ∙ (get_or-map monomial_of ms i m (monomial_of m) (omega (arith, l, ap length e, front-length p i, length-map ms monomial_of)) ∙ ap monomial_of (sym f)))
+    ∙ (get_or-map monomial_of ms i m (monomial_of m) (omega (arith, l, ap length e, front-length f p i, length-map ms monomial_of)) ∙ ap monomial_of (sym g)))

@@ -10,4 +10,6 @@ pub mod Positions
 pub mod Powers
 pub mod Laws
 pub mod Operands
+pub mod Scaling
+pub mod Merging
 pub mod WorkedForms

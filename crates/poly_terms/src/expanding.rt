@@ -17,8 +17,9 @@ use crate::limits::limited;
 use crate::nonzero::push_nonzero;
 use crate::poly::{Monomial, Poly};
 use crate::poly_error::PolyError;
-use crate::product::limited_product;
-use crate::sum::{limited_sum, opposite_of};
+use crate::product::{limited_product, multiplied_out};
+use crate::scale::opposite_of;
+use crate::sum::limited_sum;
 use std::alloc::Global;
 
 /// The expanded polynomial of an expression.
@@ -59,7 +60,7 @@ pub fn expand_strict_difference(alloc: Global, d: &Expr, e: &Expr) -> Result<Pol
         Answers result (first_fault strict) (expanded strict) }
 {
     match difference(alloc, d, e) {
-        Ok(p) => limited_sum(p, opposite_of(unit(alloc)?)),
+        Ok(p) => limited_sum(alloc, p, opposite_of(unit(alloc)?)),
         Err(error) => Err(error),
     }
 }
@@ -77,16 +78,16 @@ fn expansion(alloc: Global, e: &Expr) -> Result<Poly, PolyError>
             Err(error) => Err(error),
         },
         Expr::Add(d, e) => match both(alloc, d, e) {
-            Ok(pair) => limited_sum(pair.left, pair.right),
+            Ok(pair) => limited_sum(alloc, pair.left, pair.right),
             Err(error) => Err(error),
         },
         Expr::Sub(d, e) => difference(alloc, d, e),
         Expr::Mul(d, e) => match both(alloc, d, e) {
-            Ok(pair) => limited_product(alloc, &pair.left, &pair.right, 1),
+            Ok(pair) => limited_product(alloc, pair.left, pair.right),
             Err(error) => Err(error),
         },
         Expr::Pow(e, exponent) => match expansion(alloc, e) {
-            Ok(p) => power(alloc, &p, *exponent),
+            Ok(p) => power(alloc, p, *exponent),
             Err(error) => Err(error),
         },
     }
@@ -99,7 +100,7 @@ fn difference(alloc: Global, d: &Expr, e: &Expr) -> Result<Poly, PolyError>
         Answers result (first_fault whole) (expanded whole) }
 {
     match both(alloc, d, e) {
-        Ok(pair) => limited_sum(pair.left, opposite_of(pair.right)),
+        Ok(pair) => limited_sum(alloc, pair.left, opposite_of(pair.right)),
         Err(error) => Err(error),
     }
 }
@@ -156,14 +157,27 @@ fn unit(alloc: Global) -> Result<Poly, Memory>
     Ok(Poly { terms })
 }
 
+// A power, or the first fault among it and the lower powers. The first power is the polynomial itself.
+fn power(alloc: Global, p: Poly, exponent: u32) -> Result<Poly, PolyError>
+    requires small { IsSmall (poly_of p) }
+    requires ordered { IsOrdered (poly_of p) }
+    ensures { Answers result (faults_of_powers (poly_of p) exponent) (power_of (poly_of p) exponent) }
+{
+    if exponent == 1 {
+        limited(p, 1)
+    } else {
+        product_of_factors(alloc, &p, exponent)
+    }
+}
+
 // A power, or the first fault among it and the lower powers. The ninth has one, so at most nine are multiplied out.
-fn power(alloc: Global, p: &Poly, exponent: u32) -> Result<Poly, PolyError>
+fn product_of_factors(alloc: Global, p: &Poly, exponent: u32) -> Result<Poly, PolyError>
     requires { IsSmall (poly_of p.now) }
     ensures { Answers result (faults_of_powers (poly_of p.now) exponent) (power_of (poly_of p.now) exponent) }
 {
     let mut so_far = unit(alloc)?;
     for k in 0..exponent {
-        match limited_product(alloc, &so_far, p, k + 1) {
+        match multiplied_out(alloc, &so_far, p, k + 1) {
             Ok(next) => so_far = next,
             Err(error) => return Err(error),
         }

@@ -10,7 +10,8 @@ use std::alloc::Global;
 pub(crate) fn joined(alloc: Global, left: &[u32], right: &[u32]) -> Result<Vec<u32>, Memory>
     ensures { IfOk result (λ vars. vars.items ≡ all_inserted left.now right.now) }
 {
-    let mut vars = left.to_vec(alloc)?;
+    let mut vars = Vec::with_capacity(alloc, left.len().saturating_add(right.len()))?;
+    vars.extend_from_slice(left)?;
     for v in right {
         insert_factor(&mut vars, *v)?;
     }

@@ -9,11 +9,13 @@ mod factors;
 mod law;
 mod limits;
 mod make;
+mod merge;
 mod nonzero;
 mod poly;
 mod poly_error;
 mod product;
 mod row;
+mod scale;
 mod sum;
 #[cfg(test)]
 mod tests;

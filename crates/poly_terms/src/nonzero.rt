@@ -3,12 +3,12 @@
 ghost use Rattle.std.specs.Prelude.{◌≡◌, ◌++◌, [], ◌∷◌, not, OnOk};
 ghost use Rattle.int_laws.specs.NormalForm.{is_zero};
 ghost use Rattle.poly_terms.specs.Expanding.{without_zeros};
-ghost use Rattle.poly_terms.specs.Views.{monomials_of};
+ghost use Rattle.poly_terms.specs.Views.{monomial_of, monomials_of};
 
 use crate::Memory;
 use crate::poly::Monomial;
 
-/// Appends a monomial, unless its coefficient is 0.
+/// Appends a monomial with these variables, unless its coefficient is 0.
 pub(crate) fn push_nonzero(
     terms: &mut Vec<Monomial>,
     coef: i128,
@@ -19,6 +19,17 @@ pub(crate) fn push_nonzero(
 {
     if coef != 0 {
         terms.push(Monomial { coef, vars })?;
+    }
+    Ok(())
+}
+
+/// Appends a monomial, unless its coefficient is 0.
+pub(crate) fn push_if_nonzero(terms: &mut Vec<Monomial>, m: Monomial) -> Result<(), Memory>
+    ensures { OnOk result (monomials_of terms.new.items
+        ≡ monomials_of terms.old.items ++ without_zeros (monomial_of m ∷ [])) }
+{
+    if is_nonzero(&m) {
+        terms.push(m)?;
     }
     Ok(())
 }

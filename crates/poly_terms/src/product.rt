@@ -6,7 +6,7 @@ ghost use Rattle.std.specs.Map.{lookup};
 ghost use Rattle.poly_terms.specs.Expanding.{added, all_added, without_zeros, multiplied, product_of};
 ghost use Rattle.model.specs.Limits.{coefficient_limit, monomial_limit};
 ghost use Rattle.poly_terms.specs.Faults.{fault_in};
-ghost use Rattle.poly_terms.specs.Ordered.{IsBounded, IsSmall};
+ghost use Rattle.poly_terms.specs.Ordered.{IsBounded, IsOrdered, IsSmall};
 ghost use Rattle.poly_terms.specs.Views.{monomial_of, monomials_of, poly_of};
 ghost use Rattle.poly_terms.specs.Wide.{wide_value, sum_at, key_order, entries_of, IsWithin, AreWithin};
 ghost use Rattle.poly_terms.specs.Answers.{Answers, GivesNarrow};
@@ -17,12 +17,31 @@ use crate::limits::limited;
 use crate::nonzero::push_nonzero;
 use crate::poly::{Monomial, Poly};
 use crate::poly_error::PolyError;
+use crate::scale::{constant_of, scaled};
 use crate::wide::{Wide, narrow, wide_product, wide_sum};
 use std::alloc::Global;
 use std::collections::BTreeMap;
 
-/// The product, or its least fault where it stands for a power with this exponent.
-pub(crate) fn limited_product(
+/// The product, or its least fault. Where an operand is a constant, each coefficient of the other is multiplied in
+/// place.
+pub(crate) fn limited_product(alloc: Global, p: Poly, q: Poly) -> Result<Poly, PolyError>
+    requires left { IsSmall (poly_of p) }
+    requires right { IsSmall (poly_of q) }
+    requires left_ordered { IsOrdered (poly_of p) }
+    requires right_ordered { IsOrdered (poly_of q) }
+    ensures { let whole = product_of (poly_of p) (poly_of q) in Answers result (fault_in whole 1) whole }
+{
+    match constant_of(&q) {
+        Some(factor) => limited(scaled(p, factor), 1),
+        None => match constant_of(&p) {
+            Some(factor) => limited(scaled(q, factor), 1),
+            None => multiplied_out(alloc, &p, &q, 1),
+        },
+    }
+}
+
+/// The product monomial by monomial, or its least fault where it stands for a power with this exponent.
+pub(crate) fn multiplied_out(
     alloc: Global,
     p: &Poly,
     q: &Poly,

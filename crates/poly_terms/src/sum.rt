@@ -1,10 +1,9 @@
-// Sums and opposites of polynomials.
+// Sums of polynomials.
 
-ghost use Rattle.std.specs.Prelude.{◌≡◌, ◌≢◌, ℕ, ◌+◌, ◌<◌, ◌≤◌, ◌^◌, neg_ℤ, nat_abs, length, map, true, false, slice_index_or, slice_set, IfOk, OnOk};
-ghost use Rattle.model.specs.Polynomials as plain;
+ghost use Rattle.std.specs.Prelude.{◌≡◌, ◌≢◌, ◌+◌, ◌<◌, ◌≤◌, ◌^◌, nat_abs, length, true, false, slice_index_or, IfOk, OnOk};
 ghost use Rattle.poly_terms.specs.declared.poly.Monomial.{Monomial};
 ghost use Rattle.std.specs.Ordering.{is_lt};
-ghost use Rattle.poly_terms.specs.Expanding.{order, added, sum_of, opposite};
+ghost use Rattle.poly_terms.specs.Expanding.{order, added, sum_of};
 ghost use Rattle.poly_terms.specs.Faults.{fault_in};
 ghost use Rattle.poly_terms.specs.Ordered.{IsAscending, IsBounded, IsSmall};
 ghost use Rattle.poly_terms.specs.Positions.{position_in};
@@ -13,25 +12,46 @@ ghost use Rattle.poly_terms.specs.Answers.{Answers};
 
 use crate::Memory;
 use crate::limits::limited;
+use crate::merge::merged;
 use crate::nonzero::nonzero;
 use crate::poly::{Monomial, Poly};
 use crate::poly_error::PolyError;
+use crate::scale::set_coefficient;
+use std::alloc::Global;
 
 /// The sum, or its least fault.
-pub(crate) fn limited_sum(p: Poly, q: Poly) -> Result<Poly, PolyError>
+pub(crate) fn limited_sum(alloc: Global, p: Poly, q: Poly) -> Result<Poly, PolyError>
     requires ascending { IsAscending (poly_of p) }
+    requires right_ascending { IsAscending (poly_of q) }
     requires left { IsSmall (poly_of p) }
     requires right { IsSmall (poly_of q) }
     ensures { let whole = sum_of (poly_of p) (poly_of q) in Answers result (fault_in whole 1) whole }
 {
-    match sum(p, q) {
+    match sum(alloc, p, q) {
         Ok(whole) => limited(whole, 1),
         Err(_) => Err(PolyError::Memory),
     }
 }
 
-// The sum.
-fn sum(p: Poly, q: Poly) -> Result<Poly, Memory>
+// The sum: a single monomial is put at its position, and longer lists are merged.
+fn sum(alloc: Global, p: Poly, q: Poly) -> Result<Poly, Memory>
+    requires ascending { IsAscending (poly_of p) }
+    requires right_ascending { IsAscending (poly_of q) }
+    requires left { IsSmall (poly_of p) }
+    requires right { IsSmall (poly_of q) }
+    ensures { IfOk result (λ whole. poly_of whole ≡ sum_of (poly_of p) (poly_of q)) }
+{
+    if q.terms.len() < 2 {
+        sum_by_insertion(p, q)
+    } else if p.terms.len() < 2 {
+        sum_by_insertion(q, p)
+    } else {
+        merged(alloc, p, q)
+    }
+}
+
+// The sum, each monomial of the second polynomial put at its position.
+fn sum_by_insertion(p: Poly, q: Poly) -> Result<Poly, Memory>
     requires ascending { IsAscending (poly_of p) }
     requires left { IsSmall (poly_of p) }
     requires right { IsSmall (poly_of q) }
@@ -77,18 +97,6 @@ fn has_variables_at(terms: &[Monomial], i: usize, vars: &Vec<u32>) -> bool
     }
 }
 
-// Gives a monomial another coefficient.
-fn set_coefficient(terms: &mut Vec<Monomial>, i: usize, coef: i128)
-    requires { i < length terms.old.items }
-    ensures { (d : plain.Monomial) → monomials_of terms.new.items
-        ≡ slice_set (monomials_of terms.old.items) i (record {
-          coef = coef;
-          vars = (slice_index_or (monomials_of terms.old.items) i d).vars;
-        }) }
-{
-    terms[i].coef = coef;
-}
-
 // Where a list of variables has its position, by halves; one behind the last is seen at once.
 fn position_of(terms: &[Monomial], vars: &Vec<u32>) -> usize
     requires { IsAscending (monomials_of terms.now) }
@@ -113,25 +121,4 @@ fn comes_before(m: &Monomial, vars: &Vec<u32>) -> bool
     ensures { result ≡ is_lt (order m.now.vars.items vars.now.items) }
 {
     m.vars.cmp(vars).is_lt()
-}
-
-/// The opposite of a polynomial.
-pub(crate) fn opposite_of(p: Poly) -> Poly
-    requires { IsSmall (poly_of p) }
-    ensures { poly_of result ≡ map opposite (poly_of p) }
-{
-    let mut terms = p.terms;
-    for i in 0..terms.len() {
-        let coef = negated(terms[i].coef);
-        set_coefficient(&mut terms, i, coef);
-    }
-    Poly { terms }
-}
-
-// The opposite of a coefficient.
-fn negated(coef: i128) -> i128
-    requires { nat_abs coef ≤ 2 ^ 100 }
-    ensures { result ≡ neg_ℤ coef }
-{
-    -coef
 }

@@ -26,8 +26,8 @@ pub(crate) fn wide_product(a: i128, b: i128) -> Wide
     split(narrow_product(a, b))
 }
 
-// The product of two coefficients, which is below 2^126.
-fn narrow_product(a: i128, b: i128) -> i128
+/// The product of two coefficients, which is below 2^126.
+pub(crate) fn narrow_product(a: i128, b: i128) -> i128
     requires left { nat_abs a ≤ coefficient_limit }
     requires right { nat_abs b ≤ coefficient_limit }
     ensures value { result ≡ a *ℤ b }

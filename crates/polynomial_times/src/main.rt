@@ -48,6 +48,62 @@ fn sum_to_the_right(alloc: Global, size: u32) -> Result<Expr, AllocError> {
     Ok(sum)
 }
 
+// The sum of 64 variables, and so many ones more on its right.
+fn ones_behind(alloc: Global, size: u32) -> Result<Expr, AllocError> {
+    let mut e = variables(alloc, 0, 64)?;
+    for _ in 0..size {
+        e = Expr::sum(alloc, e, Expr::Num(1))?;
+    }
+    Ok(e)
+}
+
+// The sum of 64 variables, and so many ones more on its left.
+fn ones_before(alloc: Global, size: u32) -> Result<Expr, AllocError> {
+    let mut e = variables(alloc, 0, 64)?;
+    for _ in 0..size {
+        e = Expr::sum(alloc, Expr::Num(1), e)?;
+    }
+    Ok(e)
+}
+
+// The sum of 64 variables, taken from 1, what is left from 1 again, and so on.
+fn taken_from_one(alloc: Global, size: u32) -> Result<Expr, AllocError> {
+    let mut e = variables(alloc, 0, 64)?;
+    for _ in 0..size {
+        e = Expr::difference(alloc, Expr::Num(1), e)?;
+    }
+    Ok(e)
+}
+
+// The sum of 64 variables, and so many sums of two of them more.
+fn pairs_behind(alloc: Global, size: u32) -> Result<Expr, AllocError> {
+    let mut e = variables(alloc, 0, 64)?;
+    for i in 0..size {
+        let pair = Expr::sum(alloc, Expr::Var(i % 32), Expr::Var(32 + i % 32))?;
+        e = Expr::sum(alloc, e, pair)?;
+    }
+    Ok(e)
+}
+
+// The sum of 64 variables, multiplied by -1 from the left so often.
+fn products_before(alloc: Global, size: u32) -> Result<Expr, AllocError> {
+    let mut e = variables(alloc, 0, 64)?;
+    for _ in 0..size {
+        e = Expr::product(alloc, Expr::Num(-1), e)?;
+    }
+    Ok(e)
+}
+
+// The sum of so many eighth powers of a sum of three.
+fn sum_of_powers(alloc: Global, size: u32) -> Result<Expr, AllocError> {
+    let mut sum = Expr::Num(0);
+    for _ in 0..size {
+        let power = Expr::power(alloc, variables(alloc, 0, 3)?, 8)?;
+        sum = Expr::sum(alloc, sum, power)?;
+    }
+    Ok(sum)
+}
+
 // An expression of a shape and a size.
 fn shaped(alloc: Global, shape: u32, size: u32) -> Result<Expr, AllocError> {
     match shape {
@@ -57,7 +113,13 @@ fn shaped(alloc: Global, shape: u32, size: u32) -> Result<Expr, AllocError> {
         3 => chain_of_products(alloc, size),
         4 => chain_of_powers(alloc, size),
         5 => variables(alloc, 0, size),
-        _ => sum_to_the_right(alloc, size),
+        6 => sum_to_the_right(alloc, size),
+        7 => ones_behind(alloc, size),
+        8 => ones_before(alloc, size),
+        9 => taken_from_one(alloc, size),
+        10 => pairs_behind(alloc, size),
+        11 => products_before(alloc, size),
+        _ => sum_of_powers(alloc, size),
     }
 }
 

@@ -8,10 +8,10 @@ use Rattle.poly_terms.specs.declared.poly_error.PolyError.{PolyError}
 use Rattle.poly_terms.specs.Expanding.{opposite, expanded, sum_of, product_of, power_of}
 use Rattle.poly_terms.specs.Faults.{fault_in, first_fault}
 use Rattle.poly_terms.specs.Powers.{faults_of_powers}
-use Rattle.poly_terms.specs.Ordered.{IsAscending, IsSmall}
+use Rattle.poly_terms.specs.Ordered.{IsAscending, IsOrdered, IsSmall}
 use Rattle.poly_terms.specs.Views.{term_of, poly_of}
 use Rattle.poly_terms.specs.Answers.{Says, Answers}
-use Rattle.poly_terms.proofs.OrderLaws.{expanded-ordered}
+use Rattle.poly_terms.proofs.OrderLaws.{expanded-ordered, ascending-opposite}
 use Rattle.poly_terms.proofs.Weights.{weight, weight-positive}
 use Rattle.poly_terms.proofs.AnswerLaws.{expanded-small, opposite-small, one-fails, one-answers, two-fail, two-answer, power-fails, power-answers}
 use Rattle.poly_terms.proofs.expanding.+expansion.Goals as goal
@@ -22,6 +22,9 @@ small_form p t e h = subst IsSmall (sym e) (expanded-small t h)
 
 ascending_form : (p : Polynomial) (t : Term) → p ≡ expanded t → IsAscending p
 ascending_form p t e = subst IsAscending (sym e) (expanded-ordered t).ascending
+
+ordered_form : (p : Polynomial) (t : Term) → p ≡ expanded t → IsOrdered p
+ordered_form p t e = subst IsOrdered (sym e) (expanded-ordered t)
 
 -- what is answered of an expression is answered of the same one
 same_answer : (r : Result Poly PolyError) (t u : Term) → t ≡ u → Answers r (first_fault u) (expanded u) → Answers r (first_fault t) (expanded t)
@@ -57,6 +60,9 @@ expansion-returns-in-Err t c =
 pub expansion-limited_sum-requires-clause-ascending : goal.expansion-limited_sum-requires-clause-ascending
 expansion-limited_sum-requires-clause-ascending t c = ascending_form (poly_of c.in-Ok-both.pair.left) (term_of c.deref-in-Add.result.now) c.in-Ok-both.ensures.left
 
+pub expansion-limited_sum-requires-clause-right_ascending : goal.expansion-limited_sum-requires-clause-right_ascending
+expansion-limited_sum-requires-clause-right_ascending t c = ascending_form (poly_of c.in-Ok-both.pair.right) (term_of c.deref-in-Add-2.result.now) c.in-Ok-both.ensures.right
+
 pub expansion-limited_sum-requires-clause-left : goal.expansion-limited_sum-requires-clause-left
 expansion-limited_sum-requires-clause-left t c = small_form (poly_of c.in-Ok-both.pair.left) (term_of c.deref-in-Add.result.now) c.in-Ok-both.ensures.left c.in-Ok-both.ensures.left_whole
 
@@ -86,6 +92,11 @@ difference-opposite_of-requires t c = small_form (poly_of c.in-Ok.pair.right) (t
 pub difference-limited_sum-requires-clause-ascending : goal.difference-limited_sum-requires-clause-ascending
 difference-limited_sum-requires-clause-ascending t c = ascending_form (poly_of c.in-Ok.pair.left) (term_of c.args.d.now) c.in-Ok.ensures.left
 
+pub difference-limited_sum-requires-clause-right_ascending : goal.difference-limited_sum-requires-clause-right_ascending
+difference-limited_sum-requires-clause-right_ascending t c =
+    subst IsAscending (sym c.opposite_of.ensures)
+    (ascending-opposite (poly_of c.in-Ok.pair.right) (ascending_form (poly_of c.in-Ok.pair.right) (term_of c.args.e.now) c.in-Ok.ensures.right))
+
 pub difference-limited_sum-requires-clause-left : goal.difference-limited_sum-requires-clause-left
 difference-limited_sum-requires-clause-left t c = small_form (poly_of c.in-Ok.pair.left) (term_of c.args.d.now) c.in-Ok.ensures.left c.in-Ok.ensures.left_whole
 
@@ -114,6 +125,12 @@ expansion-limited_product-requires-clause-left t c = small_form (poly_of c.in-Ok
 pub expansion-limited_product-requires-clause-right : goal.expansion-limited_product-requires-clause-right
 expansion-limited_product-requires-clause-right t c = small_form (poly_of c.in-Ok-both-2.pair.right) (term_of c.deref-in-Mul-2.result.now) c.in-Ok-both-2.ensures.right c.in-Ok-both-2.ensures.right_whole
 
+pub expansion-limited_product-requires-clause-left_ordered : goal.expansion-limited_product-requires-clause-left_ordered
+expansion-limited_product-requires-clause-left_ordered t c = ordered_form (poly_of c.in-Ok-both-2.pair.left) (term_of c.deref-in-Mul.result.now) c.in-Ok-both-2.ensures.left
+
+pub expansion-limited_product-requires-clause-right_ordered : goal.expansion-limited_product-requires-clause-right_ordered
+expansion-limited_product-requires-clause-right_ordered t c = ordered_form (poly_of c.in-Ok-both-2.pair.right) (term_of c.deref-in-Mul-2.result.now) c.in-Ok-both-2.ensures.right
+
 pub expansion-returns-in-Ok-both-2 : goal.expansion-returns-in-Ok-both-2
 expansion-returns-in-Ok-both-2 t c =
     let d = term_of c.deref-in-Mul.result.now in
@@ -131,9 +148,12 @@ expansion-returns-in-Err-both-2 t c =
     let same = ap term_of c.in-Mul.is ∙ (λ i. Multiplication (term_of (sym c.deref-in-Mul.ensures i)) (term_of (sym c.deref-in-Mul-2.ensures i))) in
     same_fault c.in-Err-both-2.error (term_of c.args.e.now) (Multiplication d e) same (two-fail c.in-Err-both-2.error d e (Multiplication d e) c.in-Err-both-2.ensures)
 
-pub expansion-power-requires : goal.expansion-power-requires
-expansion-power-requires t c =
+pub expansion-power-requires-clause-small : goal.expansion-power-requires-clause-small
+expansion-power-requires-clause-small t c =
     small_form (poly_of c.in-Ok-expansion.p) (term_of c.deref-in-Pow.result.now) c.in-Ok-expansion.ensures.0 c.in-Ok-expansion.ensures.1
+
+pub expansion-power-requires-clause-ordered : goal.expansion-power-requires-clause-ordered
+expansion-power-requires-clause-ordered t c = ordered_form (poly_of c.in-Ok-expansion.p) (term_of c.deref-in-Pow.result.now) c.in-Ok-expansion.ensures.0
 
 pub expansion-returns-in-Ok-expansion : goal.expansion-returns-in-Ok-expansion
 expansion-returns-in-Ok-expansion t c =

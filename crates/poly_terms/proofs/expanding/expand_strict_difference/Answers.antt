@@ -7,7 +7,7 @@ use Rattle.poly_terms.specs.Faults.{fault_in, first_fault}
 use Rattle.poly_terms.specs.Ordered.{IsAscending, IsSmall}
 use Rattle.poly_terms.specs.Views.{term_of, poly_of}
 use Rattle.poly_terms.specs.Answers.{Answers}
-use Rattle.poly_terms.proofs.OrderLaws.{expanded-ordered}
+use Rattle.poly_terms.proofs.OrderLaws.{expanded-ordered, ascending-opposite}
 use Rattle.poly_terms.proofs.FaultLaws.{says-first}
 use Rattle.poly_terms.proofs.AnswerLaws.{expanded-small, two-fail, two-answer}
 use Rattle.poly_terms.proofs.expanding.expand_strict_difference.Goals as goal
@@ -15,6 +15,10 @@ use Rattle.poly_terms.proofs.expanding.expand_strict_difference.Goals as goal
 pub limited_sum-requires-clause-ascending : goal.limited_sum-requires-clause-ascending
 limited_sum-requires-clause-ascending c =
     subst IsAscending (sym c.in-Ok.ensures.0) (expanded-ordered (Subtraction (term_of c.args.d.now) (term_of c.args.e.now))).ascending
+
+pub limited_sum-requires-clause-right_ascending : goal.limited_sum-requires-clause-right_ascending
+limited_sum-requires-clause-right_ascending c =
+    subst IsAscending (sym (c.opposite_of.ensures ∙ ap (map opposite) c.in_ok-unit-in-Ok.ensures)) (ascending-opposite one (expanded-ordered (Literal (pos 1))).ascending)
 
 pub limited_sum-requires-clause-left : goal.limited_sum-requires-clause-left
 limited_sum-requires-clause-left c =

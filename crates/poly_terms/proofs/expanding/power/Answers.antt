@@ -1,25 +1,22 @@
-use Rattle.std.proofs.Common.{◌≡◌, ◌+◌, ℕ, suc, ap, sym, ◌∙◌, subst, arith}
+use Rattle.std.proofs.Common.{ℕ, sym, subst}
+use Rattle.std.specs.Prelude.{Result}
 use Rattle.model.specs.Polynomials.{Polynomial}
-use Rattle.poly_terms.specs.Expanding.{product_of, power_of}
+use Rattle.poly_terms.specs.declared.poly.Poly.{Poly}
+use Rattle.poly_terms.specs.declared.poly_error.PolyError.{PolyError}
+use Rattle.poly_terms.specs.Expanding.{power_of}
 use Rattle.poly_terms.specs.Faults.{fault_in}
-use Rattle.poly_terms.specs.Ordered.{IsSmall}
+use Rattle.poly_terms.specs.Ordered.{IsOrdered}
+use Rattle.poly_terms.specs.Powers.{faults_of_powers}
 use Rattle.poly_terms.specs.Views.{poly_of}
-use Rattle.poly_terms.specs.Answers.{Says}
-use Rattle.poly_terms.proofs.FaultLaws.{says-powers, powers-next, last-none, small-from_none}
+use Rattle.poly_terms.specs.Answers.{Answers}
+use Rattle.poly_terms.proofs.ScaleLaws.{product-one}
 use Rattle.poly_terms.proofs.expanding.power.Goals as goal
 
-pub limited_product-requires-clause-left : goal.limited_product-requires-clause-left
-limited_product-requires-clause-left c =
-    let p = poly_of c.args.p.now in
-    subst IsSmall (sym c.loop-k.invariant.power) (small-from_none (power_of p c.loop-k.k) c.loop-k.k (last-none p c.loop-k.k c.loop-k.invariant.none))
+-- what is answered of a polynomial is answered of its first power
+first_power : (r : Result Poly PolyError) (p : Polynomial) → IsOrdered p → Answers r (fault_in p 1) p → Answers r (faults_of_powers p 1) (power_of p 1)
+first_power r p h a = subst (λ (q : Polynomial). Answers r (fault_in q 1) q) (sym (product-one p h)) a
 
-pub returns-in-Err : goal.returns-in-Err
-returns-in-Err c =
-    let p = poly_of c.args.p.now in
-    let k = c.loop-k.k in
-    says-powers c.in-Err.error p (k + 1) c.args.exponent (omega arith)
-    (subst (Says c.in-Err.error) (sym (powers-next p k c.loop-k.invariant.none ∙ next p k))
-    (subst (λ (q : Polynomial). Says c.in-Err.error (fault_in (product_of q p) (k + 1))) c.loop-k.invariant.power c.in-Err.ensures))
-  where
-    next : (p : Polynomial) (k : ℕ) → fault_in (power_of p (k + 1)) (k + 1) ≡ fault_in (product_of (power_of p k) p) (k + 1)
-    next p k = ap (λ (n : ℕ). fault_in (power_of p n) (k + 1)) (let e : k + 1 ≡ suc k = omega arith in e)
+pub returns-then-exponent-eq1 : goal.returns-then-exponent-eq1
+returns-then-exponent-eq1 c =
+    subst (λ (n : ℕ). Answers c.limited.result (faults_of_powers (poly_of c.args.p) n) (power_of (poly_of c.args.p) n)) (sym c.if-exponent-eq1.true)
+    (first_power c.limited.result (poly_of c.args.p) c.requires.ordered c.limited.ensures)

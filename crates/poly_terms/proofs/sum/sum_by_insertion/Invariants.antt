@@ -3,7 +3,7 @@ use Rattle.poly_terms.specs.Expanding.{all_added}
 use Rattle.model.specs.Limits.{coefficient_limit}
 use Rattle.poly_terms.specs.Ordered.{IsAscending, IsBounded}
 use Rattle.poly_terms.specs.Views.{poly_of, monomials_of}
-use Rattle.poly_terms.proofs.sum.sum.Given as goal
+use Rattle.poly_terms.proofs.sum.sum_by_insertion.Given as goal
 
 -- what is left makes the whole; each monomial that was added raises the bound by the maximum coefficient
 abbrev pub invariant-loop-m : goal.invariant-loop-m

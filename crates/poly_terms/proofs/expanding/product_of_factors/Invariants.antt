@@ -2,7 +2,7 @@ use Rattle.std.proofs.Common.{◌≡◌, None}
 use Rattle.poly_terms.specs.Expanding.{power_of}
 use Rattle.poly_terms.specs.Powers.{faults_of_powers}
 use Rattle.poly_terms.specs.Views.{poly_of}
-use Rattle.poly_terms.proofs.expanding.power.Given as goal
+use Rattle.poly_terms.proofs.expanding.product_of_factors.Given as goal
 
 -- the power so far, and no fault up to it
 abbrev pub invariant-loop-k : goal.invariant-loop-k

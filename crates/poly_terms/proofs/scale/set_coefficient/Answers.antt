@@ -5,7 +5,7 @@ use Rattle.std.proofs.lemmas.Int.{to_z-of_z}
 use Rattle.std.proofs.lemmas.List.{map-set, get_or-map}
 use Rattle.model.specs.Polynomials as plain
 use Rattle.poly_terms.specs.Views.{monomial_of, monomials_of}
-use Rattle.poly_terms.proofs.sum.set_coefficient.Goals as goal
+use Rattle.poly_terms.proofs.scale.set_coefficient.Goals as goal
 
 pub returns : goal.returns
 returns c = λ d.
