@@ -70,7 +70,8 @@ impl Brackets {
         terms: Measured,
         factors: Measured,
     ) -> Result<(), Memory>
-        ensures { OnOk result (outer_in self.new ≡ Inside (bracket_of bracket) (parts_in terms) (parts_in factors) (outer_in self.old)) }
+        ensures { OnOk result (outer_in self.new ≡ Inside (bracket_of bracket) (parts_in terms) (parts_in factors)
+            (outer_in self.old)) }
     {
         let round = self.round();
         let mut opened = Opened {
@@ -86,7 +87,9 @@ impl Brackets {
 
     /// The innermost bracket closes, if one is open.
     pub(crate) fn close(&mut self) -> Option<Opened>
-        ensures { MatchOption result (outer_in self.old ≡ Whole) (λ opened. outer_in self.old ≡ Inside (bracket_of opened.bracket) (parts_in opened.terms) (parts_in opened.factors) (outer_in self.new)) }
+        ensures { MatchOption result (outer_in self.old ≡ Whole)
+            (λ opened. outer_in self.old ≡ Inside (bracket_of opened.bracket) (parts_in opened.terms)
+            (parts_in opened.factors) (outer_in self.new)) }
     {
         self.opened.pop()
     }

@@ -16,7 +16,9 @@ use std::alloc::{AllocError, Global};
 // A part that stands alone, by itself, and others as they were.
 #[tactic(auto, using(crate::proofs::JoiningLaws::as_one_more))]
 fn alone(parts: Measured) -> Result<Counted, Measured>
-    ensures { (whole : Parts → plain.Bound) → MatchResult result (λ one. bound_of one.bound ≡ as_one whole (parts_in parts)) (λ all. whole (parts_in all) ≡ as_one whole (parts_in parts)) }
+    ensures { (whole : Parts → plain.Bound) → MatchResult result
+        (λ one. bound_of one.bound ≡ as_one whole (parts_in parts))
+        (λ all. whole (parts_in all) ≡ as_one whole (parts_in parts)) }
 {
     if parts.bounds.len() != 1 {
         return Err(parts);
@@ -115,7 +117,8 @@ pub fn is_empty(bounds: &Measured) -> bool
 // The bound that stands alone.
 #[tactic(auto, using(crate::proofs::JoiningLaws::lone_many, crate::proofs::JoiningLaws::lone_got))]
 fn lone(bounds: &Measured) -> Option<&Bound>
-    ensures { MatchOption result (lone_of (parts_in bounds.now) ≡ None) (λ b. lone_of (parts_in bounds.now) ≡ Some (bound_of b.now)) }
+    ensures { MatchOption result (lone_of (parts_in bounds.now) ≡ None)
+        (λ b. lone_of (parts_in bounds.now) ≡ Some (bound_of b.now)) }
 {
     if bounds.bounds.len() == 1 {
         bounds.bounds.first()

@@ -33,7 +33,8 @@ impl Measured {
 
     /// One bound more, at the end.
     pub(crate) fn push(&mut self, bound: Bound) -> Result<(), Memory>
-        ensures { OnOk result (parts_of (bounds_of self.new.bounds.items) ≡ with_part (parts_of (bounds_of self.old.bounds.items)) (bound_of bound)) }
+        ensures { OnOk result (parts_of (bounds_of self.new.bounds.items) ≡ with_part
+            (parts_of (bounds_of self.old.bounds.items)) (bound_of bound)) }
     {
         self.push_counted(Counted::new(bound))
     }
@@ -41,7 +42,8 @@ impl Measured {
     /// One bound more, at the end, whose measure is known.
     #[tactic(auto, using(crate::proofs::PartLaws::pushes))]
     pub(crate) fn push_counted(&mut self, counted: Counted) -> Result<(), Memory>
-        ensures { OnOk result (parts_of (bounds_of self.new.bounds.items) ≡ with_part (parts_of (bounds_of self.old.bounds.items)) (bound_of counted.bound)) }
+        ensures { OnOk result (parts_of (bounds_of self.new.bounds.items) ≡ with_part
+            (parts_of (bounds_of self.old.bounds.items)) (bound_of counted.bound)) }
     {
         let Counted {
             bound,

@@ -73,7 +73,8 @@ fn write_piece(names: &[Name], text: &mut Vec<u8>, piece: Piece) -> Result<(), M
 
 // ` + ` or `, `.
 fn write_separator(names: &[Name], text: &mut Vec<u8>, join: Join) -> Result<(), Memory>
-    ensures { OnOk result (WritesAll (map name_of names.now) text.old.items text.new.items (λ rest. separator_of join ++ rest)) }
+    ensures { OnOk result (WritesAll (map name_of names.now) text.old.items text.new.items
+        (λ rest. separator_of join ++ rest)) }
 {
     match join {
         Join::Plus => {
@@ -92,7 +93,8 @@ fn write_separator(names: &[Name], text: &mut Vec<u8>, join: Join) -> Result<(),
 #[cycle(write)]
 fn write_bound(names: &[Name], text: &mut Vec<u8>, bound: &Bound) -> Result<(), Memory>
     requires { ReadsBelow (length names.now) (bound_of bound.now) }
-    ensures { OnOk result (WritesAll (map name_of names.now) text.old.items text.new.items (text_then (bound_of bound.now))) }
+    ensures { OnOk result (WritesAll (map name_of names.now) text.old.items text.new.items
+        (text_then (bound_of bound.now))) }
 {
     match bound {
         Bound::Const(c) => write_piece(names, text, Piece::Number(*c)),
@@ -121,7 +123,8 @@ fn write_bracketed(
     bound: &Bound,
 ) -> Result<(), Memory>
     requires { ReadsBelow (length names.now) (bound_of bound.now) }
-    ensures { OnOk result (WritesAll (map name_of names.now) text.old.items text.new.items (bracketed_then bracketed (text_then (bound_of bound.now)))) }
+    ensures { OnOk result (WritesAll (map name_of names.now) text.old.items text.new.items
+        (bracketed_then bracketed (text_then (bound_of bound.now)))) }
 {
     if bracketed {
         write_piece(names, text, Piece::Open)?;
@@ -141,7 +144,8 @@ fn write_joined(
     parts: &[Bound],
 ) -> Result<(), Memory>
     requires { AllReadBelow (length names.now) (parts_of (bounds_of parts.now)) }
-    ensures { OnOk result (WritesAll (map name_of names.now) text.old.items text.new.items (joined_then (separator_of join) (parts_of (bounds_of parts.now)))) }
+    ensures { OnOk result (WritesAll (map name_of names.now) text.old.items text.new.items
+        (joined_then (separator_of join) (parts_of (bounds_of parts.now)))) }
 {
     let Some((first, others)) = parts.split_first() else {
         return Ok(());
@@ -158,7 +162,8 @@ fn write_joined(
 #[cycle(write)]
 fn write_factors(names: &[Name], text: &mut Vec<u8>, factors: &[Bound]) -> Result<(), Memory>
     requires { AllReadBelow (length names.now) (parts_of (bounds_of factors.now)) }
-    ensures { OnOk result (WritesAll (map name_of names.now) text.old.items text.new.items (factors_then writing.Nothing (parts_of (bounds_of factors.now)))) }
+    ensures { OnOk result (WritesAll (map name_of names.now) text.old.items text.new.items
+        (factors_then writing.Nothing (parts_of (bounds_of factors.now)))) }
 {
     let mut before = Before::Nothing;
     for factor in factors {
@@ -178,7 +183,8 @@ fn write_factor(
     requires listed { ReadsBelow (length names.now) (bound_of factor.now) }
     requires run { IsListedRun (length names.now) before }
     requires room { count_of (before_of before) < 2 ^ 63 }
-    ensures text { IfOk result (λ behind. WritesFactor (map name_of names.now) text.old.items text.new.items (before_of before) (before_of behind) (bound_of factor.now)) }
+    ensures text { IfOk result (λ behind. WritesFactor (map name_of names.now) text.old.items text.new.items
+        (before_of before) (before_of behind) (bound_of factor.now)) }
     ensures run { IfOk result (λ behind. IsListedRun (length names.now) behind) }
     ensures count { IfOk result (λ behind. count_of (before_of behind) ≤ count_of (before_of before) + 1) }
 {
@@ -201,7 +207,8 @@ fn write_factor(
 // The run with one more of this variable, where it is of this one.
 fn longer(before: Before, variable: u32) -> Option<Before>
     requires { count_of (before_of before) < 2 ^ 63 }
-    ensures { MatchOption result (IsFalse (goes_on (before_of before) variable)) (λ run. IsTrue (goes_on (before_of before) variable) × (before_of run ≡ run_with (before_of before) variable)) }
+    ensures { MatchOption result (IsFalse (goes_on (before_of before) variable))
+        (λ run. IsTrue (goes_on (before_of before) variable) × (before_of run ≡ run_with (before_of before) variable)) }
 {
     match before {
         Before::Run(i, n) if i == variable => Some(Before::Run(i, n + 1)),
@@ -212,7 +219,8 @@ fn longer(before: Before, variable: u32) -> Option<Before>
 // The run before, where there is one.
 fn write_run(names: &[Name], text: &mut Vec<u8>, before: Before) -> Result<(), Memory>
     requires { IsListedRun (length names.now) before }
-    ensures { OnOk result (WritesAll (map name_of names.now) text.old.items text.new.items (ended_then (before_of before))) }
+    ensures { OnOk result (WritesAll (map name_of names.now) text.old.items text.new.items
+        (ended_then (before_of before))) }
 {
     if let Before::Run(i, n) = before {
         write_piece(names, text, Piece::Variable(i))?;
@@ -227,7 +235,8 @@ fn write_run(names: &[Name], text: &mut Vec<u8>, before: Before) -> Result<(), M
 // What stands before a factor: the run, and `*`.
 fn write_times(names: &[Name], text: &mut Vec<u8>, before: Before) -> Result<(), Memory>
     requires { IsListedRun (length names.now) before }
-    ensures { OnOk result (WritesAll (map name_of names.now) text.old.items text.new.items (λ rest. ended_then (before_of before) (times_then (before_of before) rest))) }
+    ensures { OnOk result (WritesAll (map name_of names.now) text.old.items text.new.items
+        (λ rest. ended_then (before_of before) (times_then (before_of before) rest))) }
 {
     write_run(names, text, before)?;
     match before {

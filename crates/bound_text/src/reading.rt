@@ -61,7 +61,8 @@ pub fn fronts_are_read()
 // The answer to a text.
 fn judge(alloc: Global, names: &[Name], bytes: &[u8]) -> Result<Bound, BoundTextError>
     requires { AreNames (map name_of names.now) }
-    ensures { Says (answer (bounds (length (map name_of names.now))) (length bytes.now) (tokens (map name_of names.now) bytes.now)) result }
+    ensures { Says (answer (bounds (length (map name_of names.now))) (length bytes.now)
+        (tokens (map name_of names.now) bytes.now)) result }
 {
     let listed = Listed::new(alloc, names)?;
     let mut reader = Reader::new(alloc);

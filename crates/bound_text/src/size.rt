@@ -43,7 +43,8 @@ fn product_node(factors: &Measured) -> u64
 impl Opened {
     /// What stands round a bound in this bracket, where `round` is what stands round the bracket.
     pub(crate) fn count_in(&self, round: Round) -> Round
-        ensures { (outer : Outer) → IsRound outer round → IsRound (Inside (bracket_of self.now.bracket) (parts_in self.now.terms) (parts_in self.now.factors) outer) result }
+        ensures { (outer : Outer) → IsRound outer round → IsRound
+            (Inside (bracket_of self.now.bracket) (parts_in self.now.terms) (parts_in self.now.factors) outer) result }
     {
         let sum = if round.in_factor {
             0
@@ -92,7 +93,8 @@ impl Bracket {
 impl Reader {
     // The node of the innermost sum.
     fn sum_node(&self, round: Round) -> u64
-        ensures value { (outer : Outer) → IsRound outer round → result ≡ sum_here self.now.position outer (parts_in self.now.terms) }
+        ensures value { (outer : Outer) → IsRound outer round → result ≡ sum_here self.now.position outer
+            (parts_in self.now.terms) }
         ensures small { result ≤ 1 }
     {
         if round.in_factor {

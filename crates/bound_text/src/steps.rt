@@ -40,7 +40,8 @@ impl Reader {
 
     // A bracket that begins an item.
     fn open(&mut self, alloc: Global, bracket: Bracket) -> Result<(), Fault>
-        ensures { Follows (Some (inside (bracket_of bracket) (outer_in self.old.outer) (parts_in self.old.terms) (parts_in self.old.factors))) self.new result }
+        ensures { Follows (Some (inside (bracket_of bracket) (outer_in self.old.outer) (parts_in self.old.terms)
+            (parts_in self.old.factors))) self.new result }
     {
         let terms = mem::replace(&mut self.terms, Measured::new(alloc));
         let factors = mem::replace(&mut self.factors, Measured::new(alloc));
@@ -51,7 +52,8 @@ impl Reader {
 
     // An item begins.
     pub(crate) fn begin_item(&mut self, alloc: Global, piece: Piece) -> Result<(), Fault>
-        ensures { Follows (item_begun (outer_in self.old.outer) (parts_in self.old.terms) (parts_in self.old.factors) (piece_of piece)) self.new result }
+        ensures { Follows (item_begun (outer_in self.old.outer) (parts_in self.old.terms) (parts_in self.old.factors)
+            (piece_of piece)) self.new result }
     {
         match piece {
             Piece::Variable(i) => {
@@ -78,7 +80,8 @@ impl Reader {
         base: u64,
         piece: Piece,
     ) -> Result<(), Fault>
-        ensures { Follows (exponent_begun (outer_in self.old.outer) (parts_in self.old.terms) (parts_in self.old.factors) base (piece_of piece)) self.new result }
+        ensures { Follows (exponent_begun (outer_in self.old.outer) (parts_in self.old.terms)
+            (parts_in self.old.factors) base (piece_of piece)) self.new result }
     {
         match piece {
             Piece::Number(c) => self.end_power(alloc, base, Bound::Const(c)),
@@ -90,7 +93,8 @@ impl Reader {
 
     // A power with its exponent.
     fn end_power(&mut self, alloc: Global, base: u64, exponent: Bound) -> Result<(), Fault>
-        ensures { Follows (Some (behind_factor (outer_in self.old.outer) (parts_in self.old.terms) (parts_in self.old.factors) (PowerOf base (bound_of exponent)))) self.new result }
+        ensures { Follows (Some (behind_factor (outer_in self.old.outer) (parts_in self.old.terms)
+            (parts_in self.old.factors) (PowerOf base (bound_of exponent)))) self.new result }
     {
         self.factors
             .push(Bound::Power(base, Box::new(alloc, exponent)?))?;
@@ -101,7 +105,8 @@ impl Reader {
     // `^` behind a number that begins an item.
     fn begin_power(&mut self, number: u128) -> Result<(), Fault>
         requires { number < 2 ^ 64 }
-        ensures { Follows (caret_behind (outer_in self.old.outer) (parts_in self.old.terms) (parts_in self.old.factors) (Some (Constant number))) self.new result }
+        ensures { Follows (caret_behind (outer_in self.old.outer) (parts_in self.old.terms) (parts_in self.old.factors)
+            (Some (Constant number))) self.new result }
     {
         if number < 2 {
             return Err(Fault::Syntax);
@@ -112,7 +117,8 @@ impl Reader {
 
     // Whether an argument can end here.
     fn can_be_argument(&self) -> bool
-        ensures { result ≡ can_be_argument_of (outer_in self.now.outer) (parts_in self.now.terms) (parts_in self.now.factors) }
+        ensures { result ≡ can_be_argument_of (outer_in self.now.outer) (parts_in self.now.terms)
+            (parts_in self.now.factors) }
     {
         self.outer.is_in_arguments()
             && can_end(&self.factors)
@@ -121,7 +127,8 @@ impl Reader {
 
     // A bracket closes.
     fn close(&mut self, alloc: Global) -> Result<(), Fault>
-        ensures { Follows (bracket_closed (outer_in self.old.outer) (parts_in self.old.terms) (parts_in self.old.factors)) self.new result }
+        ensures { Follows (bracket_closed (outer_in self.old.outer) (parts_in self.old.terms)
+            (parts_in self.old.factors)) self.new result }
     {
         let Some(
             Opened {
@@ -147,8 +154,10 @@ impl Reader {
 
     // What follows an item that is a factor.
     pub(crate) fn follow_item(&mut self, alloc: Global, piece: Piece) -> Result<(), Fault>
-        requires { IsFalse (is_caret (piece_of piece) && takes_caret (init (parts_in self.old.factors)) (last (parts_in self.old.factors))) }
-        ensures { Follows (item_followed (outer_in self.old.outer) (parts_in self.old.terms) (parts_in self.old.factors) (piece_of piece)) self.new result }
+        requires { IsFalse (is_caret (piece_of piece) && takes_caret (init (parts_in self.old.factors))
+            (last (parts_in self.old.factors))) }
+        ensures { Follows (item_followed (outer_in self.old.outer) (parts_in self.old.terms) (parts_in self.old.factors)
+            (piece_of piece)) self.new result }
     {
         match piece {
             Piece::Times => {
@@ -170,7 +179,9 @@ impl Reader {
 
     // A term ends with ` + `.
     pub(crate) fn end_term(&mut self, alloc: Global) -> Result<(), Fault>
-        ensures { Follows (Some (front_at (outer_in self.old.outer) (with_part (parts_in self.old.terms) (term_of (parts_in self.old.factors))) NoParts fronts.Begins)) self.new result }
+        ensures { Follows (Some (front_at (outer_in self.old.outer)
+            (with_part (parts_in self.old.terms) (term_of (parts_in self.old.factors))) NoParts fronts.Begins)) self.new
+            result }
     {
         let factors = mem::replace(&mut self.factors, Measured::new(alloc));
         self.terms.push_counted(product_from(factors))?;
@@ -180,7 +191,8 @@ impl Reader {
 
     // An argument ends with `, `.
     pub(crate) fn end_argument(&mut self, alloc: Global) -> Result<(), Fault>
-        ensures { Follows (argument_ended (outer_in self.old.outer) (parts_in self.old.terms) (parts_in self.old.factors)) self.new result }
+        ensures { Follows (argument_ended (outer_in self.old.outer) (parts_in self.old.terms)
+            (parts_in self.old.factors)) self.new result }
     {
         let Some(
             Opened {
@@ -212,7 +224,8 @@ impl Reader {
         piece: Piece,
     ) -> Result<(), Fault>
         requires { IsTrue (is_caret (piece_of piece)) → number < 2 ^ 64 }
-        ensures { Follows (item_followed (outer_in self.old.outer) (parts_in self.old.terms) (with_part (parts_in self.old.factors) (Constant number)) (piece_of piece)) self.new result }
+        ensures { Follows (item_followed (outer_in self.old.outer) (parts_in self.old.terms)
+            (with_part (parts_in self.old.factors) (Constant number)) (piece_of piece)) self.new result }
     {
         match piece {
             Piece::Caret => self.begin_power(number),
@@ -231,7 +244,8 @@ impl Reader {
         piece: Piece,
     ) -> Result<(), Fault>
         requires { IsFalse (fronts.is_input variable (last (parts_in self.old.factors))) }
-        ensures { Follows (item_followed (outer_in self.old.outer) (parts_in self.old.terms) (with_part (parts_in self.old.factors) (Input variable)) (piece_of piece)) self.new result }
+        ensures { Follows (item_followed (outer_in self.old.outer) (parts_in self.old.terms)
+            (with_part (parts_in self.old.factors) (Input variable)) (piece_of piece)) self.new result }
     {
         match piece {
             Piece::Caret => {
@@ -256,7 +270,8 @@ impl Bracket {
 
     // Whether the bracket can close behind the bound that terms and factors make.
     fn can_close(&self, terms: &Measured, factors: &Measured) -> bool
-        ensures { result ≡ bracket_can_close (bracket_of self.now) (bound_made (parts_in terms.now) (parts_in factors.now)) }
+        ensures { result ≡ bracket_can_close (bracket_of self.now)
+            (bound_made (parts_in terms.now) (parts_in factors.now)) }
     {
         match self {
             Bracket::Arguments(arguments) => !is_empty(arguments) && !makes_maximum(terms, factors),
@@ -267,7 +282,8 @@ impl Bracket {
 
     // The item that the bracket's bound makes.
     fn item_from(self, alloc: Global, counted: Counted) -> Result<Counted, Fault>
-        ensures { MatchResult result (λ item. bound_of item.bound ≡ item_of (bracket_of self) (bound_of counted.bound)) (λ fault. fault ≡ Fault.Memory) }
+        ensures { MatchResult result (λ item. bound_of item.bound ≡ item_of (bracket_of self) (bound_of counted.bound))
+            (λ fault. fault ≡ Fault.Memory) }
     {
         match self {
             Bracket::Arguments(mut arguments) => {

@@ -111,7 +111,9 @@ impl Reader {
 
     // A run ends with its number. More copies than a bound may have nodes are as many as are refused.
     fn end_run(&mut self, variable: u32, piece: Piece) -> Result<(), Fault>
-        ensures { Obeys (judged (fault_of_piece 0 false (piece_of piece)) (run_ended (outer_in self.old.outer) (parts_in self.old.terms) (parts_in self.old.factors) variable (piece_of piece))) self.new result }
+        ensures { Obeys (judged (fault_of_piece 0 false (piece_of piece))
+            (run_ended (outer_in self.old.outer) (parts_in self.old.terms) (parts_in self.old.factors) variable
+            (piece_of piece))) self.new result }
     {
         match piece {
             Piece::Number(count) if count >= 2 => {
@@ -147,7 +149,8 @@ impl Reader {
 
     // The bound of a text that ends with a factor.
     fn end(self) -> Result<Bound, Fault>
-        ensures { Finishes (finish_at fronts.ItemRead (outer_in self.outer) (parts_in self.terms) (parts_in self.factors)) result }
+        ensures { Finishes (finish_at fronts.ItemRead (outer_in self.outer) (parts_in self.terms)
+            (parts_in self.factors)) result }
     {
         if self.outer.is_empty() && can_end(&self.factors) {
             Ok(bound_from(self.terms, self.factors)?.bound)

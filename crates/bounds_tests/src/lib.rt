@@ -10,6 +10,8 @@ mod changed;
 #[cfg(test)]
 mod in_force;
 #[cfg(test)]
+mod inside;
+#[cfg(test)]
 mod kept;
 #[cfg(test)]
 mod lower;

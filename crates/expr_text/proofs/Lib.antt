@@ -7,3 +7,4 @@ pub mod Completing
 pub mod WorkedValues
 pub mod Stability
 pub mod LimitedFaults
+pub mod FrontSteps

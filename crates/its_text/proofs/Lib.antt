@@ -14,3 +14,16 @@ pub mod ValidRules
 pub mod ValidPrograms
 pub mod WorkedLimits
 pub mod VerdictLaws
+pub mod RoomLaws
+pub mod KeptFronts
+pub mod QuietFronts
+pub mod SectionTurns
+pub mod ExpressionRoom
+pub mod LeftTurns
+pub mod ArgumentTurns
+pub mod GuardTurns
+pub mod MadeRules
+pub mod RuleTurns
+pub mod StepTurns
+pub mod SmallPieces
+pub mod SpelledVerdicts

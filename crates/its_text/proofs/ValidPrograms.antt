@@ -22,7 +22,7 @@ use Rattle.its_text.proofs.Reading.{some_is, none_is_some}
 abbrev AreSymbolsGood : List Symbol → Type 0
 AreSymbolsGood symbols = AllByRecursion IsValidSymbol symbols × AreDistinct (names_of symbols)
 
-names_one_more : (symbols : List Symbol) (s : Symbol) → names_of (symbols ++ s ∷ []) ≡ names_of symbols ++ s.name ∷ []
+pub names_one_more : (symbols : List Symbol) (s : Symbol) → names_of (symbols ++ s ∷ []) ≡ names_of symbols ++ s.name ∷ []
 names_one_more [] s = refl
 names_one_more (t ∷ symbols) s = ap (λ ns. t.name ∷ ns) (names_one_more symbols s)
 
@@ -43,14 +43,14 @@ symbols_good (r ∷ rules) n w =
     (symbol_good (symbols_of rules) r.left.name (length r.left.arguments) (symbols_good rules n.1 w.1) n.0.source w.0.left) n.0.target w.0.right
 
 -- a symbol that is there stays there, and a new one is there
-stays_there : (symbols : List Symbol) (n name : Name) (arity : ℕ) → is_among n (names_of symbols) ≡ true → is_among n (names_of (with_symbol symbols name arity)) ≡ true
+pub stays_there : (symbols : List Symbol) (n name : Name) (arity : ℕ) → is_among n (names_of symbols) ≡ true → is_among n (names_of (with_symbol symbols name arity)) ≡ true
 stays_there symbols n name arity h = go (is_among name (names_of symbols))
   where
     go : (v : Bool) → is_among n (names_of (if v then symbols else symbols ++ record { name = name; arity = arity } ∷ [])) ≡ true
     go true = h
     go false = ap (is_among n) (names_one_more symbols (record { name = name; arity = arity })) ∙ among_more n (names_of symbols) (name ∷ []) h
 
-comes_there : (symbols : List Symbol) (name : Name) (arity : ℕ) → is_among name (names_of (with_symbol symbols name arity)) ≡ true
+pub comes_there : (symbols : List Symbol) (name : Name) (arity : ℕ) → is_among name (names_of (with_symbol symbols name arity)) ≡ true
 comes_there symbols name arity = go (is_among name (names_of symbols)) refl
   where
     go : (v : Bool) → is_among name (names_of symbols) ≡ v → is_among name (names_of (if v then symbols else symbols ++ record { name = name; arity = arity } ∷ [])) ≡ true
@@ -58,15 +58,15 @@ comes_there symbols name arity = go (is_among name (names_of symbols)) refl
     go false e = ap (is_among name) (names_one_more symbols (record { name = name; arity = arity })) ∙ among_last name (names_of symbols)
 
 -- both symbols of a rule are among some
-abbrev IsKnown : List Symbol → WrittenRule → Type 0
+abbrev pub IsKnown : List Symbol → WrittenRule → Type 0
 IsKnown symbols r = (is_among r.left.name (names_of symbols) ≡ true) × (is_among (term_in r.target).name (names_of symbols) ≡ true)
 
-all_stay : (symbols : List Symbol) (name : Name) (arity : ℕ) (rules : List WrittenRule) → AllByRecursion (IsKnown symbols) rules → AllByRecursion (IsKnown (with_symbol symbols name arity)) rules
+pub all_stay : (symbols : List Symbol) (name : Name) (arity : ℕ) (rules : List WrittenRule) → AllByRecursion (IsKnown symbols) rules → AllByRecursion (IsKnown (with_symbol symbols name arity)) rules
 all_stay symbols name arity [] h = tt
 all_stay symbols name arity (r ∷ rules) h =
     ((stays_there symbols r.left.name name arity h.0.0, stays_there symbols (term_in r.target).name name arity h.0.1), all_stay symbols name arity rules h.1)
 
-all_known : (rules : List WrittenRule) → AllByRecursion (IsKnown (symbols_of rules)) rules
+pub all_known : (rules : List WrittenRule) → AllByRecursion (IsKnown (symbols_of rules)) rules
 all_known [] = tt
 all_known (r ∷ rules) =
     let left = with_left (symbols_of rules) r.left in (

@@ -1,5 +1,5 @@
 -- What is written within the limits stands for valid expressions and atoms, over the variables of its rule.
-use Rattle.std.proofs.Common.{◌≡◌, ◌+◌, ◌-◌, ◌<◌, ◌≤◌, Bool, true, false, cond, not, ◌||◌, List, [], ◌∷◌, ◌++◌, length, length-append, Option, Some, None, refl, ap, sym, subst, ◌∙◌, arith}
+use Rattle.std.proofs.Common.{◌≡◌, ◌+◌, ◌<◌, ◌≤◌, Bool, true, false, cond, not, ◌||◌, List, [], ◌∷◌, ◌++◌, length, length-append, Option, Some, None, refl, ap, sym, subst, ◌∙◌, arith}
 use Rattle.std.specs.Prelude.{⊤}
 use Rattle.std.specs.List.{AllByRecursion}
 use Rattle.model.specs.Programs as plain
@@ -56,18 +56,18 @@ mutual
 abbrev pub Extends : List Name → List Name → Type 0
 Extends names last = (new : List Name) × (last ≡ names ++ new)
 
-nothing_new : (names : List Name) → Extends names names
+pub nothing_new : (names : List Name) → Extends names names
 nothing_new names = ([], sym (append_nil names))
   where
     append_nil : (xs : List Name) → xs ++ [] ≡ xs
     append_nil [] = refl
     append_nil (x ∷ xs) = ap (λ ys. x ∷ ys) (append_nil xs)
 
-atom_extends : (names : List Name) (a : Atom) → Extends names (with_atom names a)
+pub atom_extends : (names : List Name) (a : Atom) → Extends names (with_atom names a)
 atom_extends names (Always t) = nothing_new names
 atom_extends names (Compared l sign r) = extended names (with_sum names l) (with_sum (with_sum names l) r) (sum_extends names l) (sum_extends (with_sum names l) r)
 
-atoms_extends : (names : List Name) (atoms : Atoms) → Extends names (with_atoms names atoms)
+pub atoms_extends : (names : List Name) (atoms : Atoms) → Extends names (with_atoms names atoms)
 atoms_extends names (First a) = atom_extends names a
 atoms_extends names (Joined atoms joint a) = extended names (with_atoms names atoms) (with_atom (with_atoms names atoms) a) (atoms_extends names atoms) (atom_extends (with_atoms names atoms) a)
 
@@ -89,7 +89,7 @@ abbrev pub AllRead : List Name → List Sum → Type 0
 AllRead names [] = ⊤
 AllRead names (s ∷ sums) = SumReads names s × AllRead names sums
 
-all_read_more : (names last : List Name) (sums : List Sum) → Extends names last → AllRead names sums → AllRead last sums
+pub all_read_more : (names last : List Name) (sums : List Sum) → Extends names last → AllRead names sums → AllRead last sums
 all_read_more names last [] e h = tt
 all_read_more names last (s ∷ sums) e h = (subst (λ ns. SumReads ns s) (sym e.1) (sum_reads_more names e.0 s h.0), all_read_more names last sums e h.1)
 
@@ -99,11 +99,11 @@ sums_are_read names (s ∷ sums) =
     (sum_is_read (with_sums names sums) s, all_read_more (with_sums names sums) (with_sum (with_sums names sums) s) sums (sum_extends (with_sums names sums) s) (sums_are_read names sums))
 
 -- and atoms
-abbrev AtomReads : List Name → Atom → Type 0
+abbrev pub AtomReads : List Name → Atom → Type 0
 AtomReads names (Always t) = ⊤
 AtomReads names (Compared l sign r) = SumReads names l × SumReads names r
 
-abbrev AtomsRead : List Name → Atoms → Type 0
+abbrev pub AtomsRead : List Name → Atoms → Type 0
 AtomsRead names (First a) = AtomReads names a
 AtomsRead names (Joined atoms joint a) = AtomsRead names atoms × AtomReads names a
 
@@ -112,17 +112,17 @@ atom_reads_more names last (Always t) e h = tt
 atom_reads_more names last (Compared l sign r) e h =
     (subst (λ ns. SumReads ns l) (sym e.1) (sum_reads_more names e.0 l h.0), subst (λ ns. SumReads ns r) (sym e.1) (sum_reads_more names e.0 r h.1))
 
-atoms_read_more : (names last : List Name) (atoms : Atoms) → Extends names last → AtomsRead names atoms → AtomsRead last atoms
+pub atoms_read_more : (names last : List Name) (atoms : Atoms) → Extends names last → AtomsRead names atoms → AtomsRead last atoms
 atoms_read_more names last (First a) e h = atom_reads_more names last a e h
 atoms_read_more names last (Joined atoms joint a) e h = (atoms_read_more names last atoms e h.0, atom_reads_more names last a e h.1)
 
-atom_is_read : (names : List Name) (a : Atom) → AtomReads (with_atom names a) a
+pub atom_is_read : (names : List Name) (a : Atom) → AtomReads (with_atom names a) a
 atom_is_read names (Always t) = tt
 atom_is_read names (Compared l sign r) =
     let e = sum_extends (with_sum names l) r in
     (subst (λ ns. SumReads ns l) (sym e.1) (sum_reads_more (with_sum names l) e.0 l (sum_is_read names l)), sum_is_read (with_sum names l) r)
 
-atoms_are_read : (names : List Name) (atoms : Atoms) → AtomsRead (with_atoms names atoms) atoms
+pub atoms_are_read : (names : List Name) (atoms : Atoms) → AtomsRead (with_atoms names atoms) atoms
 atoms_are_read names (First a) = atom_is_read names a
 atoms_are_read names (Joined atoms joint a) =
     (atoms_read_more (with_atoms names atoms) (with_atom (with_atoms names atoms) a) atoms (atom_extends (with_atoms names atoms) a) (atoms_are_read names atoms), atom_is_read (with_atoms names atoms) a)

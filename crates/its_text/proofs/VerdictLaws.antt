@@ -40,11 +40,11 @@ judged_right : (bytes : List ℕ) (a : Answer (List Section) Kind) → Answers p
 judged_right bytes (Stands written) h = of_parts bytes written (record { text = h.written; faultless = h.faultless }) (start_of written) (rules_of written) refl refl
 judged_right bytes (Refused x) h = inl h
 
-verdict_right : (bytes : List ℕ) → IsVerdict bytes (verdict bytes)
+pub verdict_right : (bytes : List ℕ) → IsVerdict bytes (verdict bytes)
 verdict_right bytes = judged_right bytes (answer programs (length bytes) (tokens_of bytes)) (answers_all_texts.each (length bytes) (tokens_of bytes))
 
 -- what sections that are a program by numbers come to
-whole_numbered : (n : ℕ) (ts : List (Token Piece)) (written : List Section) (p : Program) (start : Option Name) (rules : Option (List WrittenRule)) → program_of_parts start rules ≡ Some p → whole n ts written start rules ≡ Stands p
+pub whole_numbered : (n : ℕ) (ts : List (Token Piece)) (written : List Section) (p : Program) (start : Option Name) (rules : Option (List WrittenRule)) → program_of_parts start rules ≡ Some p → whole n ts written start rules ≡ Stands p
 whole_numbered n ts written p None None e = cc
 whole_numbered n ts written p None (Some rules) e = cc
 whole_numbered n ts written p (Some start) None e = cc

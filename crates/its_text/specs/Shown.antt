@@ -1,8 +1,10 @@
 -- The faults that a front of a program's text shows against the tokens before it and behind it.
-use Rattle.std.specs.Prelude.{ℕ, ◌-◌, Bool, true, false, not, ◌&&◌, ◌||◌, if◌then◌else◌, nat_lt, nat_le, ◌==◌, List, [], ◌∷◌, ◌++◌, length, codes, Option, Some, None}
+use Rattle.std.specs.Prelude.{ℕ, ◌-◌, Bool, true, false, not, ◌&&◌, ◌||◌, if◌then◌else◌, nat_lt, nat_le, ◌==◌, List}
+use Rattle.std.specs.Prelude.{[], ◌∷◌, ◌++◌, length, codes, Option, Some, None}
 use Rattle.model.specs.Programs.{Name, Symbol, Relation, EqualTo}
 use Rattle.model.specs.Terms.{Term}
-use Rattle.model.specs.Limits.{rule_limit, place_limit, variable_limit, atom_limit, name_limit, token_limit, coefficient_limit}
+use Rattle.model.specs.Limits.{rule_limit, place_limit, variable_limit, atom_limit, name_limit, token_limit}
+use Rattle.model.specs.Limits.{coefficient_limit}
 use Rattle.poly_terms.specs.Faults as polynomials
 use Rattle.its_model.specs.Valid.{difference_of}
 use Rattle.text_core.specs.Names.{is_same, is_among}
@@ -17,14 +19,21 @@ use Rattle.expr_text.specs.Steps as expression_steps
 use Rattle.expr_text.specs.Guards.{Atoms, count_of, relation_of}
 use Rattle.expr_text.specs.GuardFronts as guards
 use Rattle.expr_text.specs.GuardFronts.{GuardFront, LeftSide, RightSide, NoAtoms, JointAfter}
-use Rattle.expr_text.specs.FrontNames.{with_front, before_expression, token_count, goes_on_with, operates, begins_expression, truth_worded}
+use Rattle.expr_text.specs.FrontNames.{with_front, before_expression, token_count, goes_on_with, operates}
+use Rattle.expr_text.specs.FrontNames.{begins_expression, truth_worded}
 use Rattle.its_text.specs.Pieces.{Piece, In, Disjoining, Strange}
-use Rattle.its_text.specs.Written.{Target, Marked, Bare, NoGuard, WrittenRule, Section, Goal, Start, Variables, Rules, Comment}
+use Rattle.its_text.specs.Written.{Target, Marked, Bare, NoGuard, WrittenRule, Section, Goal, Start, Variables, Rules}
+use Rattle.its_text.specs.Written.{Comment}
 use Rattle.its_text.specs.Numbering.{is_com, arity_of, with_right}
-use Rattle.its_text.specs.Fronts.{Led, rule_with, Front, Between, Ruled, LeftOpened, LeftParted, LeftShut, Arrowed, ComOpened, RightOpened, Arguing, RightShut, Targeted, GuardMarked, WordRead, MarkGuarding, SquareOpened, SquareGuarding}
+use Rattle.its_text.specs.Fronts.{Led, rule_with, Front, Between, Ruled, LeftOpened, LeftParted, LeftShut, Arrowed}
+use Rattle.its_text.specs.Fronts.{ComOpened, RightOpened, Arguing, RightShut, Targeted, GuardMarked, WordRead}
+use Rattle.its_text.specs.Fronts.{MarkGuarding, SquareOpened, SquareGuarding}
 use Rattle.its_text.specs.Steps.{guard_named}
 use Rattle.its_text.specs.FrontNames.{symbols_behind, names_with, headed_names}
-use Rattle.its_text.specs.Kinds.{TooManyRules, TooManyArguments, TooManyVariables, TooManyAtoms, LongName, TooManyTokens, TooManyTerms, HighDegree, Kind, NotAscii, Syntax, RepeatedSection, ManyTargets, LeftNotVariable, LeftRepeated, ArityDiffers, NumberTooLarge, Limit, Disjunction}
+use Rattle.its_text.specs.Kinds.{TooManyRules, TooManyArguments, TooManyVariables, TooManyAtoms, LongName}
+use Rattle.its_text.specs.Kinds.{TooManyTokens, TooManyTerms, HighDegree, Kind, NotAscii, Syntax, RepeatedSection}
+use Rattle.its_text.specs.Kinds.{ManyTargets, LeftNotVariable, LeftRepeated, ArityDiffers, NumberTooLarge, Limit}
+use Rattle.its_text.specs.Kinds.{Disjunction}
 
 abbrev pub Tokens : Type 0
 Tokens = List (Token Piece)

@@ -1,5 +1,5 @@
 -- What the verdict on a text says.
-use Rattle.std.specs.Prelude.{◌≡◌, ℕ, ◌⊎◌, List, length, Some}
+use Rattle.std.specs.Prelude.{◌≡◌, ◌↔◌, ℕ, ◌⊎◌, List, length, Some}
 use Rattle.model.specs.Programs.{Program}
 use Rattle.text_core.specs.Tokens.{pieces}
 use Rattle.text_core.specs.Readers.{Fault}
@@ -11,7 +11,7 @@ use Rattle.its_text.specs.Written.{Section}
 use Rattle.its_text.specs.Numbering.{start_of, rules_of, program_numbered}
 use Rattle.its_text.specs.Grammar.{Writes, programs}
 use Rattle.its_text.specs.Answers.{whole, verdict}
-use Rattle.its_text.specs.Spelling.{Spells}
+use Rattle.its_text.specs.Spelling.{Spells, SpellsWithin}
 
 -- the bytes are the text of sections, and nothing stands against it
 pub record IsFaultless (bytes : List ℕ) (written : List Section) : Type 0 where
@@ -41,3 +41,7 @@ pub record VerdictsAreRight : Type 0 where
   pub spelled : (bytes : List ℕ) (p : Program) → Spells bytes p
       → (verdict bytes ≡ Stands p) ⊎ ((x : Fault Kind) × IsFirst programs (length bytes) (tokens_of bytes) x
       × (verdict bytes ≡ Refused x))
+
+-- a text is read as a program exactly where it spells that one within the limits
+pub record VerdictsAreSpelled : Type 0 where
+  pub stands : (bytes : List ℕ) (p : Program) → (verdict bytes ≡ Stands p) ↔ SpellsWithin bytes p

@@ -3,7 +3,7 @@
 ghost use Rattle.text_core.specs.Laws.{AnswersAll, OneFirst};
 ghost use Rattle.its_text.specs.Grammar.{programs};
 ghost use Rattle.its_text.specs.Spelling.{OneProgram, SpelledIsValid};
-ghost use Rattle.its_text.specs.Verdicts.{VerdictsAreRight};
+ghost use Rattle.its_text.specs.Verdicts.{VerdictsAreRight, VerdictsAreSpelled};
 ghost use Rattle.its_text.specs.Worked.{WorkedValues};
 ghost use Rattle.its_text.specs.WorkedLimits.{LimitsAreTold};
 
@@ -44,4 +44,10 @@ pub fn worked_limits_hold()
 /// first fault.
 pub fn verdicts_are_right()
     ensures { VerdictsAreRight }
+{}
+
+/// A text is read as a program exactly where it spells that program within the limits: what is read keeps each limit, and
+/// nothing stands against what keeps them all.
+pub fn verdicts_are_spelled()
+    ensures { VerdictsAreSpelled }
 {}

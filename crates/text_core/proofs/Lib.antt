@@ -15,3 +15,4 @@ pub mod WorkedValues
 pub mod InnerLaws
 pub mod LineLaws
 pub mod WorkedLines
+pub mod WorkedReaders

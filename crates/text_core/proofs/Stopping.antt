@@ -19,7 +19,7 @@ behind_on [] from to l h = tt
 behind_on (t ∷ done) from to l h = (l.0, (let k = l.1 in omega (arith, h, k)))
 
 -- the last token's first byte is before it
-last_before : {P : Type 0} (done : List (Token P)) (from : ℕ) → IsBehind done from → last_at done ≤ from
+pub last_before : {P : Type 0} (done : List (Token P)) (from : ℕ) → IsBehind done from → last_at done ≤ from
 last_before [] from l = omega arith
 last_before (t ∷ done) from l = let a = l.0 in let b = l.1 in omega (arith, a, b)
 

@@ -15,3 +15,4 @@ pub mod Rows
 pub mod Lines
 pub mod Worked
 pub mod WorkedLines
+pub mod WorkedReaders

@@ -1,0 +1,391 @@
+-- Along each step of a guard what is read is within the limits exactly where it was before, and the guard is quiet.
+use Rattle.std.proofs.Common.{◌≡◌, suc, ◌+◌, ◌≤◌, Bool, true, false, not, if◌then◌else◌, ◌&&◌, ◌↔◌, is_some, List}
+use Rattle.std.proofs.Common.{length, Option, Some, None, refl, ap, sym, subst, ◌∙◌, arith}
+use Rattle.std.specs.Prelude.{⊤}
+use Rattle.model.specs.Programs.{Name}
+use Rattle.model.specs.Limits.{variable_limit, atom_limit}
+use Rattle.expr_text.specs.Pieces as inner
+use Rattle.expr_text.specs.Trees.{Sum}
+use Rattle.expr_text.specs.Terms.{with_sum}
+use Rattle.expr_text.specs.Fronts as expression
+use Rattle.expr_text.specs.Steps as expression_steps
+use Rattle.expr_text.specs.Guards.{Atom, Always, Compared, Atoms, count_of, with_atoms}
+use Rattle.expr_text.specs.GuardFronts as guards
+use Rattle.expr_text.specs.GuardFronts.{Conjoined, NoAtoms, JointAfter, GuardFront, LeftSide, RightSide, atoms_with}
+use Rattle.expr_text.specs.GuardFronts.{truth_of}
+use Rattle.expr_text.specs.FrontNames.{with_front, with_conjoined, goes_on_with, operates, begins_expression}
+use Rattle.expr_text.proofs.Stability.{extended, sum_extends}
+use Rattle.expr_text.proofs.FrontSteps.{token_ended, ended_there, with_piece, names_more, names_ended, begins_truth}
+use Rattle.expr_text.proofs.FrontSteps.{truth_more, truth_goes_on, IsAlways, truth_is_one}
+use Rattle.its_text.specs.Pieces.{Piece, In}
+use Rattle.its_text.specs.Shown as shown
+use Rattle.its_text.specs.Shown.{Going, going_in, is_full, is_operating, ends_expression}
+use Rattle.its_text.specs.Spelling.{IsAtomWithin, AreAtomsWithin}
+use Rattle.its_text.proofs.ValidRules.{Extends, atoms_are_read}
+use Rattle.its_text.proofs.RoomLaws.{contrary, passes_not, and_false, atoms_stay}
+use Rattle.its_text.proofs.KeptFronts.{begun, AreConjoined, conjoined_count, counted, IsLeftKept, IsRightKept}
+use Rattle.its_text.proofs.KeptFronts.{IsGuardKept, IsRightExpanded, IsAtomExpanded, IsGuardQuiet}
+use Rattle.its_text.proofs.ExpressionRoom.{goes_on, goes_off, room_for_token, room_for_piece, room_for_one, some_begun}
+use Rattle.its_text.proofs.ExpressionRoom.{leading, leading_room}
+
+-- a choice whose test fails, and one whose test passes
+chosen_second : {X : Type 0} (v : Bool) (x y : X) → v ≡ false → (if v then x else y) ≡ y
+chosen_second true x y e = cc
+chosen_second false x y e = refl
+
+chosen_first : {X : Type 0} (v : Bool) (x y : X) → v ≡ true → (if v then x else y) ≡ x
+chosen_first true x y e = refl
+chosen_first false x y e = cc
+
+-- the variables that count in behind one more piece
+counted_more : (names : List Name) (c : Conjoined) (e f : expression.Front) (p : inner.Piece) (behind : Option Piece)
+    → expression_steps.step e p ≡ Some f
+    → counted names c f behind
+    ≡ (if begins_truth e p && not (is_operating behind) then with_conjoined names c else with_piece
+    (with_front (with_conjoined names c) e) p)
+counted_more names c e f p behind same =
+    ap (λ v. if v && not (is_operating behind) then with_conjoined names c else with_front (with_conjoined names c) f)
+    (truth_more e f p same)
+    ∙ ap (λ ns. if begins_truth e p && not (is_operating behind) then with_conjoined names c else ns)
+    (names_more (with_conjoined names c) e f p same)
+
+-- and before it
+counted_before : (names : List Name) (c : Conjoined) (e f : expression.Front) (p : inner.Piece)
+    → expression_steps.step e p ≡ Some f
+    → counted names c e (Some (In p)) ≡ with_front (with_conjoined names c) e
+counted_before names c e f p same =
+    chosen_second (is_some (truth_of e) && not (operates p)) (with_conjoined names c)
+    (with_front (with_conjoined names c) e) (truth_goes_on e f p same)
+
+room_in_left : (names : List Name) (c : Conjoined) (e f : expression.Front) (p : inner.Piece) (behind : Option Piece)
+    → expression_steps.step e p ≡ Some f
+    → (length (counted names c f behind) ≤ variable_limit)
+    ↔ ((length (counted names c e (Some (In p))) ≤ variable_limit) ×
+    (shown.passes_variables (leading (with_conjoined names c) e) p behind ≡ false))
+room_in_left names c e f p behind same =
+    let more = ap length (counted_more names c e f p behind same) in
+    let before = ap length (counted_before names c e f p same) in
+    let room = leading_room (with_conjoined names c) e p behind in (
+      λ h.
+          let k = room.0 (subst (λ n. n ≤ variable_limit) more h) in
+          (subst (λ n. n ≤ variable_limit) (sym before) k.0, k.1),
+      λ h. subst (λ n. n ≤ variable_limit) (sym more) (room.1 (subst (λ n. n ≤ variable_limit) before h.0, h.1)),
+    )
+
+-- room for an atom
+room_for_atom : (c : Conjoined) (e f : expression.Front) (p : inner.Piece) → expression_steps.step e p ≡ Some f
+    → (conjoined_count c + begun f ≤ atom_limit)
+    ↔ ((conjoined_count c + begun e ≤ atom_limit) × ((is_full (LeftSide c e) && begins_expression p) ≡ false))
+room_for_atom NoAtoms e f p same = (λ h. (omega arith, refl), λ h. omega arith)
+room_for_atom (JointAfter atoms joint) e f p same = room_for_one atom_limit (count_of atoms) e f p same
+
+-- a piece leads nowhere, or to a guard that keeps the limits exactly where the one before does and is quiet
+abbrev GuardTurns : List Name → GuardFront → inner.Piece → Option Piece → Option GuardFront → Type 0
+GuardTurns names g p behind None = ⊤
+GuardTurns names g p behind (Some k) =
+    IsGuardKept names k behind ↔ (IsGuardKept names g (Some (In p)) × IsGuardQuiet names g (Some (In p)) behind)
+
+module _ (names : List Name) where
+  -- an atom's left side goes on
+  left_goes_on : (c : Conjoined) (e f : expression.Front) (p : inner.Piece) (behind : Option Piece)
+      → expression_steps.step e p ≡ Some f → GuardTurns names (LeftSide c e) p behind (Some (LeftSide c f))
+  left_goes_on c e f p behind same =
+      let few = room_for_atom c e f p same in
+      let tokens = room_for_token e f p same in
+      let variables = room_in_left names c e f p behind same in (
+        λ h.
+            let x = few.0 h.few in
+            let y = tokens.0 h.tokens in
+            let z = variables.0 h.variables in (
+              record { atoms = h.atoms; few = x.0; tokens = y.0; variables = z.0 },
+              record { atom = tt; few = x.1; going = λ k. (z.1, y.1) },
+            ),
+        λ h.
+            let g = h.1.going (goes_on e f p same) in
+            record {
+              atoms = h.0.atoms;
+              few = few.1 (h.0.few, h.1.few);
+              tokens = tokens.1 (h.0.tokens, g.1);
+              variables = variables.1 (h.0.variables, g.0);
+            },
+      )
+
+  -- so does its right side
+  right_goes_on : (c : Conjoined) (l : Sum) (sign : inner.Sign) (e f : expression.Front) (p : inner.Piece)
+      (behind : Option Piece) → expression_steps.step e p ≡ Some f
+      → GuardTurns names (RightSide c l sign e) p behind (Some (RightSide c l sign f))
+  right_goes_on c l sign e f p behind same =
+      let tokens = room_for_token e f p same in
+      let variables = room_for_piece (with_sum (with_conjoined names c) l) e f p behind same in
+      let on = goes_on e f p same in (
+        λ h.
+            let y = tokens.0 h.tokens in
+            let z = variables.0 h.variables in (
+              record { atoms = h.atoms; few = h.few; left = h.left; tokens = y.0; variables = z.0 },
+              record {
+                atom = λ ends. contrary (goes_on_with e p) on (passes_not (goes_on_with e p) ends);
+                few = refl;
+                going = λ k. (z.1, y.1);
+              },
+            ),
+        λ h.
+            let g = h.1.going on in
+            record {
+              atoms = h.0.atoms;
+              few = h.0.few;
+              left = h.0.left;
+              tokens = tokens.1 (h.0.tokens, g.1);
+              variables = variables.1 (h.0.variables, g.0);
+            },
+      )
+
+  -- a relation ends the left side
+  related : (c : Conjoined) (e : expression.Front) (sign : inner.Sign) (behind : Option Piece) (l : Sum)
+      → expression_steps.finish e ≡ Some l → expression_steps.step e (inner.Related sign) ≡ None
+      → GuardTurns names (LeftSide c e) (inner.Related sign) behind (Some (RightSide c l sign expression.beginning))
+  related c e sign behind l same off =
+      let some = some_begun e (ended_there e l same) in
+      let tokens = token_ended e l same in
+      let named = ap length (names_ended (with_conjoined names c) e l same) in
+      let none = and_false (is_some (truth_of e)) in
+      let second = chosen_second _ (with_conjoined names c) (with_front (with_conjoined names c) e) none in
+      let before = ap length second in (
+        λ h. (
+          record {
+            atoms = h.atoms;
+            few = (let few = h.few in omega (arith, few, some));
+            tokens = (let few = h.left in omega (arith, few, tokens));
+            variables = (let few = h.variables in omega (arith, few, named, before));
+          },
+          record {
+            atom = tt;
+            few = and_false _;
+            going = λ k. contrary (goes_on_with e (inner.Related sign)) k (goes_off e (inner.Related sign) off);
+          },
+        ),
+        λ h.
+            record {
+              atoms = h.0.atoms;
+              few = (let few = h.0.few in omega (arith, few, some));
+              left = (let few = h.0.tokens in omega (arith, few, tokens));
+              tokens = omega arith;
+              variables = (let few = h.0.variables in omega (arith, few, named, before));
+            },
+      )
+
+  -- atoms that end are within the limits
+  pub record AreEnded (atoms : Atoms) : Type 0 where
+    pub few : count_of atoms ≤ atom_limit
+    pub within : AreAtomsWithin (with_atoms names atoms) atoms
+    pub variables : length (with_atoms names atoms) ≤ variable_limit
+
+  -- the atom that always holds, behind others
+  always_count : (c : Conjoined) (a : Atom) → count_of (atoms_with c a) ≡ suc (conjoined_count c)
+  always_count NoAtoms a = refl
+  always_count (JointAfter atoms joint) a = refl
+
+  always_names : (c : Conjoined) (a : Atom) → IsAlways a → with_atoms names (atoms_with c a) ≡ with_conjoined names c
+  always_names NoAtoms (Always t) is = refl
+  always_names (JointAfter atoms joint) (Always t) is = refl
+  always_names c (Compared l sign r) is = absurd is
+
+  always_within : (c : Conjoined) (a : Atom) → IsAlways a
+      → AreAtomsWithin (with_atoms names (atoms_with c a)) (atoms_with c a) ↔ AreConjoined (with_conjoined names c) c
+  always_within NoAtoms (Always t) is = (λ h. tt, λ h. tt)
+  always_within (JointAfter atoms joint) (Always t) is = (λ h. h.0, λ h. (h, tt))
+  always_within c (Compared l sign r) is = absurd is
+
+  truth_ends : (c : Conjoined) (e : expression.Front) (a : Atom) (next : Option Piece) → truth_of e ≡ Some a
+      → is_operating next ≡ false → AreEnded (atoms_with c a) ↔ IsLeftKept names c e next
+  truth_ends c e a next same operates =
+      let one = truth_is_one e a same in
+      let test : (is_some (truth_of e) && not (is_operating next)) ≡ true
+      = ap (λ o. is_some o && not (is_operating next)) same ∙ ap not operates in
+      let named =
+      ap length
+      (always_names c a one.1 ∙ sym
+      (chosen_first (is_some (truth_of e) && not (is_operating next)) (with_conjoined names c)
+      (with_front (with_conjoined names c) e) test)) in
+      let counts = always_count c a in
+      let within = always_within c a one.1 in
+      let tokens = one.0 in (
+        λ h.
+            record {
+              atoms = within.0 h.within;
+              few = (let few = h.few in omega (arith, few, counts, tokens));
+              tokens = omega (arith, tokens);
+              variables = subst (λ n. n ≤ variable_limit) named h.variables;
+            },
+        λ h.
+            record {
+              few = (let few = h.few in omega (arith, few, counts, tokens));
+              within = within.1 h.atoms;
+              variables = subst (λ n. n ≤ variable_limit) (sym named) h.variables;
+            },
+      )
+
+  -- two expressions and a relation, behind others
+  compared_names : (c : Conjoined) (l : Sum) (sign : inner.Sign) (r : Sum)
+      → with_atoms names (atoms_with c (Compared l sign r)) ≡ with_sum (with_sum (with_conjoined names c) l) r
+  compared_names NoAtoms l sign r = refl
+  compared_names (JointAfter atoms joint) l sign r = refl
+
+  compared_within : (c : Conjoined) (l : Sum) (sign : inner.Sign) (r : Sum)
+      → AreAtomsWithin (with_atoms names (atoms_with c (Compared l sign r))) (atoms_with c (Compared l sign r))
+      ↔ (AreConjoined (with_conjoined names c) c × IsAtomWithin (with_sum (with_sum (with_conjoined names c) l) r)
+      (Compared l sign r))
+  compared_within NoAtoms l sign r = (λ h. (tt, h), λ h. h.1)
+  compared_within (JointAfter atoms joint) l sign r =
+      let last = with_sum (with_sum (with_atoms names atoms) l) r in
+      let more : Extends (with_atoms names atoms) last
+      = extended (with_atoms names atoms) (with_sum (with_atoms names atoms) l) last
+      (sum_extends (with_atoms names atoms) l) (sum_extends (with_sum (with_atoms names atoms) l) r) in
+      let stay = atoms_stay (with_atoms names atoms) last more atoms (atoms_are_read names atoms) in
+      (λ h. (stay.1 h.0, h.1), λ h. (stay.0 h.0, h.1))
+
+  compared_ends : (c : Conjoined) (l : Sum) (sign : inner.Sign) (e : expression.Front) (r : Sum)
+      → expression_steps.finish e ≡ Some r
+      → AreEnded (atoms_with c (Compared l sign r))
+      ↔ (IsRightKept names c l e × IsRightExpanded (with_sum (with_conjoined names c) l) l sign (Some r))
+  compared_ends c l sign e r same =
+      let tokens = token_ended e r same in
+      let named = ap length (compared_names c l sign r ∙ names_ended (with_sum (with_conjoined names c) l) e r same) in
+      let counts = always_count c (Compared l sign r) in
+      let within = compared_within c l sign r in (
+        λ h.
+            let k = within.0 h.within in (
+              record {
+                atoms = k.0;
+                few = (let few = h.few in omega (arith, few, counts));
+                left = k.1.0;
+                tokens = (let few = k.1.1 in omega (arith, few, tokens));
+                variables = subst (λ n. n ≤ variable_limit) named h.variables;
+              },
+              k.1.2,
+            ),
+        λ h.
+            record {
+              few = (let few = h.0.few in omega (arith, few, counts));
+              within = within.1 (h.0.atoms, (h.0.left, (let few = h.0.tokens in omega (arith, few, tokens)), h.1));
+              variables = subst (λ n. n ≤ variable_limit) (sym named) h.0.variables;
+            },
+      )
+
+  -- a guard ends with atoms that are within the limits exactly where it was, and the last atom can be expanded
+  some_is : {X : Type 0} (P : X → Type 0) (x y : X) → Some x ≡ Some y → P x → P y
+  some_is P x y e h = subst P (let same : x ≡ y = cc in same) h
+
+  left_ends : (c : Conjoined) (e : expression.Front) (atoms : Atoms) (next : Option Piece) (o : Option Atom)
+      → truth_of e ≡ o → guards.ended c o ≡ Some atoms → is_operating next ≡ false
+      → AreEnded atoms ↔ (IsLeftKept names c e next × ⊤)
+  left_ends c e atoms next None same is operates = cc
+  left_ends c e atoms next (Some a) same is operates =
+      let ends = truth_ends c e a next same operates in
+      some_is (λ found. AreEnded found ↔ (IsLeftKept names c e next × ⊤)) (atoms_with c a) atoms is
+      (λ h. (ends.0 h, tt), λ h. ends.1 h.0)
+
+  right_ends : (c : Conjoined) (l : Sum) (sign : inner.Sign) (e : expression.Front) (atoms : Atoms)
+      (next : Option Piece) (o : Option Sum) → expression_steps.finish e ≡ o
+      → guards.ended c (guards.compared l sign o) ≡ Some atoms → ends_expression e next ≡ true
+      → AreEnded atoms ↔ (IsRightKept names c l e × IsAtomExpanded names (RightSide c l sign e) next)
+  right_ends c l sign e atoms next None same is off = cc
+  right_ends c l sign e atoms next (Some r) same is off =
+      let ends = compared_ends c l sign e r same in
+      some_is (λ found. AreEnded found ↔ (IsRightKept names c l e × IsAtomExpanded names (RightSide c l sign e) next))
+      (atoms_with c (Compared l sign r)) atoms is (
+        λ h.
+            let k = ends.0 h in
+            (k.0, λ _. subst (IsRightExpanded (with_sum (with_conjoined names c) l) l sign) (sym same) k.1),
+        λ h. ends.1 (h.0, subst (IsRightExpanded (with_sum (with_conjoined names c) l) l sign) same (h.1 off)),
+      )
+
+  pub guard_ends : (g : GuardFront) (atoms : Atoms) (next : Option Piece) → guards.finish g ≡ Some atoms
+      → is_operating next ≡ false → ends_expression (guards.expression_in g) next ≡ true
+      → AreEnded atoms ↔ (IsGuardKept names g next × IsAtomExpanded names g next)
+  guard_ends (LeftSide c e) atoms next same operates off = left_ends c e atoms next (truth_of e) refl same operates
+  guard_ends (RightSide c l sign e) atoms next same operates off =
+      right_ends c l sign e atoms next (expression_steps.finish e) refl same off
+
+  -- the next atom is wanted
+  atom_wanted : (atoms : Atoms) (joint : inner.Joint) (behind : Option Piece)
+      → IsLeftKept names (JointAfter atoms joint) expression.beginning behind ↔ AreEnded atoms
+  atom_wanted atoms joint behind = (
+    λ h. record { few = (let few = h.few in omega (arith, few)); within = h.atoms; variables = h.variables },
+    λ h. record {
+      atoms = h.within;
+      few = (let few = h.few in omega (arith, few));
+      tokens = omega arith;
+      variables = h.variables;
+    },
+  )
+
+  joined : (g : GuardFront) (joint : inner.Joint) (behind : Option Piece) (o : Option Atoms) → guards.finish g ≡ o
+      → expression_steps.step (guards.expression_in g) (inner.Joining joint) ≡ None
+      → GuardTurns names g (inner.Joining joint) behind (guards.joined joint o)
+  joined g joint behind None same off = tt
+  joined g joint behind (Some atoms) same off =
+      let wanted = atom_wanted atoms joint behind in
+      let ends = guard_ends g atoms (Some (In (inner.Joining joint))) same refl
+      (ap not (goes_off (guards.expression_in g) (inner.Joining joint) off)) in (
+        λ h.
+            let k = ends.0 (wanted.0 h) in (
+              k.0,
+              record {
+                atom = k.1;
+                few = and_false _;
+                going = λ on. contrary (goes_on_with (guards.expression_in g) (inner.Joining joint)) on
+                    (goes_off (guards.expression_in g) (inner.Joining joint) off);
+              },
+            ),
+        λ h. wanted.1 (ends.1 (h.0, h.1.atom)),
+      )
+
+  relates : (c : Conjoined) (e : expression.Front) (sign : inner.Sign) (behind : Option Piece) (o : Option Sum)
+      → expression_steps.finish e ≡ o → expression_steps.step e (inner.Related sign) ≡ None
+      → GuardTurns names (LeftSide c e) (inner.Related sign) behind (guards.related c sign o)
+  relates c e sign behind None same off = tt
+  relates c e sign behind (Some l) same off = related c e sign behind l same off
+
+  -- each step of a guard
+  behind_turns : (g : GuardFront) (p : inner.Piece) (behind : Option Piece)
+      → expression_steps.step (guards.expression_in g) p ≡ None → GuardTurns names g p behind (guards.step_behind g p)
+  behind_turns (LeftSide c e) (inner.Related sign) behind off =
+      relates c e sign behind (expression_steps.finish e) refl off
+  behind_turns (RightSide c l sign e) (inner.Related other) behind off = tt
+  behind_turns (LeftSide c e) (inner.Joining joint) behind off =
+      joined (LeftSide c e) joint behind (guards.finish (LeftSide c e)) refl off
+  behind_turns (RightSide c l sign e) (inner.Joining joint) behind off =
+      joined (RightSide c l sign e) joint behind (guards.finish (RightSide c l sign e)) refl off
+  behind_turns (LeftSide c e) (inner.Word n) behind off = tt
+  behind_turns (LeftSide c e) (inner.Digits ds) behind off = tt
+  behind_turns (LeftSide c e) inner.Open behind off = tt
+  behind_turns (LeftSide c e) inner.Close behind off = tt
+  behind_turns (LeftSide c e) inner.Plus behind off = tt
+  behind_turns (LeftSide c e) inner.Minus behind off = tt
+  behind_turns (LeftSide c e) inner.Times behind off = tt
+  behind_turns (LeftSide c e) inner.Caret behind off = tt
+  behind_turns (RightSide c l sign e) (inner.Word n) behind off = tt
+  behind_turns (RightSide c l sign e) (inner.Digits ds) behind off = tt
+  behind_turns (RightSide c l sign e) inner.Open behind off = tt
+  behind_turns (RightSide c l sign e) inner.Close behind off = tt
+  behind_turns (RightSide c l sign e) inner.Plus behind off = tt
+  behind_turns (RightSide c l sign e) inner.Minus behind off = tt
+  behind_turns (RightSide c l sign e) inner.Times behind off = tt
+  behind_turns (RightSide c l sign e) inner.Caret behind off = tt
+
+  within_turns : (g : GuardFront) (p : inner.Piece) (behind : Option Piece) (o : Option expression.Front)
+      → expression_steps.step (guards.expression_in g) p ≡ o → GuardTurns names g p behind (guards.within g o p)
+  within_turns (LeftSide c e) p behind (Some f) same = left_goes_on c e f p behind same
+  within_turns (RightSide c l sign e) p behind (Some f) same = right_goes_on c l sign e f p behind same
+  within_turns (LeftSide c e) p behind None same = behind_turns (LeftSide c e) p behind same
+  within_turns (RightSide c l sign e) p behind None same = behind_turns (RightSide c l sign e) p behind same
+
+  pub guard_turns : (g k : GuardFront) (p : inner.Piece) (behind : Option Piece) → guards.step g p ≡ Some k
+      → IsGuardKept names k behind ↔ (IsGuardKept names g (Some (In p)) × IsGuardQuiet names g (Some (In p)) behind)
+  guard_turns g k p behind same =
+      subst (GuardTurns names g p behind) same
+      (within_turns g p behind (expression_steps.step (guards.expression_in g) p) refl)
+
+  -- a guard begins within the limits where there aren't too many variables before it
+  pub guard_begins : (next : Option Piece) → length names ≤ variable_limit → IsGuardKept names guards.no_atoms next
+  guard_begins next few = record { atoms = tt; few = omega arith; tokens = omega arith; variables = few }

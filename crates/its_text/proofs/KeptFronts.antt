@@ -1,0 +1,265 @@
+-- What has been read is within the limits, front by front, and what a front has to find next so that it shows nothing.
+use Rattle.std.proofs.Common.{◌≡◌, ℕ, suc, ◌+◌, ◌≤◌, min, true, false, not, if◌then◌else◌, ◌&&◌, is_some, nat_le, List}
+use Rattle.std.proofs.Common.{[], ◌∷◌, length, Option, Some, None}
+use Rattle.std.specs.Prelude.{⊤}
+use Rattle.model.specs.Programs.{Name}
+use Rattle.model.specs.Limits.{rule_limit, place_limit, variable_limit, atom_limit, token_limit}
+use Rattle.poly_terms.specs.Faults as polynomials
+use Rattle.text_core.specs.Names.{is_among, AreDistinct}
+use Rattle.expr_text.specs.Pieces as inner
+use Rattle.expr_text.specs.Trees.{Sum}
+use Rattle.expr_text.specs.Terms.{with_sum, sum_term}
+use Rattle.expr_text.specs.Fronts as expression
+use Rattle.expr_text.specs.Steps as expression_steps
+use Rattle.expr_text.specs.Guards.{count_of, relation_of}
+use Rattle.expr_text.specs.GuardFronts.{Conjoined, NoAtoms, JointAfter, GuardFront, LeftSide, RightSide, truth_of}
+use Rattle.expr_text.specs.FrontNames.{with_front, with_conjoined, token_count, goes_on_with}
+use Rattle.its_text.specs.Pieces.{Piece, In}
+use Rattle.its_text.specs.Written.{RightTerm, Target, Marked, Bare, Section}
+use Rattle.its_text.specs.Numbering.{is_com, arity_of, with_right, symbols_of, term_in, rules_of}
+use Rattle.its_text.specs.Fronts.{Ruling, Led, Aimed, Headed, Front, Between, Opened, GoalNamed, GoalSaid, StartNamed}
+use Rattle.its_text.specs.Fronts.{StartOpened, StartListed, StartSaid, StartShut, Listing, CommentNamed, Ruled}
+use Rattle.its_text.specs.Fronts.{SourceNamed, LeftOpened, LeftRead, LeftParted, LeftShut, Arrowed, ComNamed, ComOpened}
+use Rattle.its_text.specs.Fronts.{TargetNamed, RightOpened, Arguing, RightShut, Targeted, GuardMarked, WordRead}
+use Rattle.its_text.specs.Fronts.{MarkGuarding, SquareOpened, SquareGuarding}
+use Rattle.its_text.specs.Steps.{guard_named}
+use Rattle.its_text.specs.FrontNames.{symbols_behind, names_with, headed_names}
+use Rattle.its_text.specs.Shown as shown
+use Rattle.its_text.specs.Shown.{is_goal, is_start, is_variables, is_rules, has, repeats, is_word, is_open, are_full}
+use Rattle.its_text.specs.Shown.{is_operator, is_operating, other_arity, bare_differs, Going, going_in}
+use Rattle.its_text.specs.Shown.{passes_variables, is_large, ends_expression, is_full, begins, differences}
+use Rattle.its_text.specs.Shown.{first_of_all}
+use Rattle.its_text.specs.Spelling.{times, AreRules, HaveRules, IsShort, AreArgumentsWithin, AreAtomsWithin}
+use Rattle.its_text.specs.Spelling.{AreRulesWithin, HaveRulesWithin}
+
+-- the next of the pieces
+abbrev pub first : List Piece → Option Piece
+first [] = None
+first (p ∷ ps) = Some p
+
+-- sections that don't come twice, with rules that are as they are to be and within the limits
+pub record AreDone (ss : List Section) : Type 0 where
+  pub goal : times is_goal ss ≤ 1
+  pub start : times is_start ss ≤ 1
+  pub variables : times is_variables ss ≤ 1
+  pub rules : times is_rules ss ≤ 1
+  pub named : HaveRules (rules_of ss)
+  pub within : HaveRulesWithin (rules_of ss)
+
+-- so are the rules so far, of the first section of rules
+pub record IsRulingKept (r : Ruling) : Type 0 where
+  pub sections : AreDone r.sections
+  pub once : has is_rules r.sections ≡ false
+  pub few : length r.rules ≤ rule_limit
+  pub rules : AreRules (symbols_of r.rules) r.rules
+  pub within : AreRulesWithin r.rules
+
+-- and another rule may come
+abbrev pub IsOpenRuling : Ruling → Type 0
+IsOpenRuling r = IsRulingKept r × (suc (length r.rules) ≤ rule_limit)
+
+-- left arguments differ, and there aren't too many
+abbrev pub AreLeft : List Name → Type 0
+AreLeft arguments = AreDistinct arguments × (length arguments ≤ place_limit)
+
+-- a left term with as many arguments as its symbol has places
+abbrev pub IsLedOpen : Led → Type 0
+IsLedOpen l = IsOpenRuling l.ruling × AreLeft l.left.arguments
+
+abbrev pub IsLedKept : Led → Type 0
+IsLedKept l = IsLedOpen l × (arity_of (symbols_behind l) l.left.name ≡ length l.left.arguments)
+
+abbrev pub IsAimedKept : Aimed → Type 0
+IsAimedKept a = IsLedKept a.led × (is_com a.name ≡ false)
+
+-- a right term within the limits
+pub record HasRight (l : Led) (t : RightTerm) : Type 0 where
+  pub led : IsLedKept l
+  pub symbol : is_com t.name ≡ false
+  pub few : length t.arguments ≤ place_limit
+  pub arguments : AreArgumentsWithin (names_with l t.arguments) t.arguments
+  pub variables : length (names_with l t.arguments) ≤ variable_limit
+
+-- with as many arguments as its symbol has places
+abbrev pub HasTargetArity : Led → RightTerm → Type 0
+HasTargetArity l t = arity_of (with_right (symbols_behind l) t) t.name ≡ length t.arguments
+
+abbrev pub IsTargetKept : Led → Target → Type 0
+IsTargetKept l (Marked t) = HasRight l t × HasTargetArity l t
+IsTargetKept l (Bare t) = HasRight l t
+
+abbrev pub IsHeadedKept : Headed → Type 0
+IsHeadedKept h = HasRight h.led (term_in h.target) × HasTargetArity h.led (term_in h.target)
+
+-- some of an argument behind others
+abbrev pub begun : expression.Front → ℕ
+begun e = min (token_count e) 1
+
+pub record IsArguingKept (a : Aimed) (arguments : List Sum) (e : expression.Front) : Type 0 where
+  pub aimed : IsAimedKept a
+  pub few : length arguments + begun e ≤ place_limit
+  pub earlier : AreArgumentsWithin (names_with a.led arguments) arguments
+  pub tokens : token_count e ≤ token_limit
+  pub variables : length (with_front (names_with a.led arguments) e) ≤ variable_limit
+
+-- the atoms so far, and how many there are
+abbrev pub AreConjoined : List Name → Conjoined → Type 0
+AreConjoined names NoAtoms = ⊤
+AreConjoined names (JointAfter atoms joint) = AreAtomsWithin names atoms
+
+abbrev pub conjoined_count : Conjoined → ℕ
+conjoined_count NoAtoms = 0
+conjoined_count (JointAfter atoms joint) = count_of atoms
+
+-- the variables that count in: the word of the atom that always holds is none
+abbrev pub counted : List Name → Conjoined → expression.Front → Option Piece → List Name
+counted names c e next =
+    if is_some (truth_of e) && not (is_operating next) then with_conjoined names c else with_front
+    (with_conjoined names c) e
+
+-- some of an atom's left side, and of its right side
+pub record IsLeftKept (names : List Name) (c : Conjoined) (e : expression.Front) (next : Option Piece) : Type 0 where
+  pub atoms : AreConjoined (with_conjoined names c) c
+  pub few : conjoined_count c + begun e ≤ atom_limit
+  pub tokens : token_count e ≤ token_limit
+  pub variables : length (counted names c e next) ≤ variable_limit
+
+pub record IsRightKept (names : List Name) (c : Conjoined) (l : Sum) (e : expression.Front) : Type 0 where
+  pub atoms : AreConjoined (with_conjoined names c) c
+  pub few : suc (conjoined_count c) ≤ atom_limit
+  pub left : IsShort l
+  pub tokens : token_count e ≤ token_limit
+  pub variables : length (with_front (with_sum (with_conjoined names c) l) e) ≤ variable_limit
+
+abbrev pub IsGuardKept : List Name → GuardFront → Option Piece → Type 0
+IsGuardKept names (LeftSide c e) next = IsLeftKept names c e next
+IsGuardKept names (RightSide c l sign e) next = IsRightKept names c l e
+
+-- a name behind `:|:` begins another rule before a bracket, and else an atom
+pub record IsWordKept (h : Headed) (name : Name) (next : Option Piece) : Type 0 where
+  pub rule : is_open next ≡ true → suc (suc (length h.led.ruling.rules)) ≤ rule_limit
+  pub atom : is_open next ≡ false → IsGuardKept (headed_names h) (guard_named name) next
+
+-- what has been read is within the limits, where these pieces follow
+abbrev pub IsKept : Front → List Piece → Type 0
+IsKept (Between ss) ps = AreDone ss
+IsKept (Opened ss) ps = AreDone ss × (repeats ss (Some (In inner.Open)) (first ps) ≡ false)
+IsKept (GoalNamed ss) ps = AreDone ss × (has is_goal ss ≡ false)
+IsKept (GoalSaid ss) ps = AreDone ss × (has is_goal ss ≡ false)
+IsKept (StartNamed ss) ps = AreDone ss × (has is_start ss ≡ false)
+IsKept (StartOpened ss) ps = AreDone ss × (has is_start ss ≡ false)
+IsKept (StartListed ss) ps = AreDone ss × (has is_start ss ≡ false)
+IsKept (StartSaid ss name) ps = AreDone ss × (has is_start ss ≡ false)
+IsKept (StartShut ss name) ps = AreDone ss × (has is_start ss ≡ false)
+IsKept (Listing ss names) ps = AreDone ss × (has is_variables ss ≡ false)
+IsKept (CommentNamed ss) ps = AreDone ss
+IsKept (Ruled r) ps = IsRulingKept r
+IsKept (SourceNamed r name) ps = IsOpenRuling r
+IsKept (LeftOpened r name) ps = IsOpenRuling r
+IsKept (LeftRead r name a earlier) ps = IsOpenRuling r × AreLeft (a ∷ earlier) × (is_operator (first ps) ≡ false)
+IsKept (LeftParted r name a earlier) ps = IsOpenRuling r × AreLeft (a ∷ earlier)
+IsKept (LeftShut l) ps = IsLedOpen l
+IsKept (Arrowed l) ps = IsLedKept l
+IsKept (ComNamed l) ps = IsLedKept l
+IsKept (ComOpened l) ps = IsLedKept l
+IsKept (TargetNamed a) ps = IsLedKept a.led × ((is_com a.name && is_open (first ps)) ≡ false)
+IsKept (RightOpened a) ps = IsAimedKept a
+IsKept (Arguing a arguments e) ps = IsArguingKept a arguments e
+IsKept (RightShut l t) ps = HasRight l t
+IsKept (Targeted h) ps = IsTargetKept h.led h.target
+IsKept (GuardMarked h) ps = IsHeadedKept h
+IsKept (WordRead h name) ps = IsHeadedKept h × IsWordKept h name (first ps)
+IsKept (MarkGuarding h g) ps = IsHeadedKept h × IsGuardKept (headed_names h) g (first ps)
+IsKept (SquareOpened h) ps = IsHeadedKept h
+IsKept (SquareGuarding h g) ps = IsHeadedKept h × IsGuardKept (headed_names h) g (first ps)
+
+-- a name that is wanted as a left argument is new, there is room for it, and no operator follows
+abbrev pub IsLeftQuiet : List Name → Option Piece → Option Piece → Type 0
+IsLeftQuiet arguments (Some (In (inner.Word name))) behind =
+    (is_operator behind ≡ false) × (is_among name arguments ≡ false) × (nat_le place_limit (length arguments) ≡ false)
+IsLeftQuiet arguments _ behind = ⊤
+
+-- the next token of an expression leaves room, and a new variable too
+abbrev pub IsGoingQuiet : Option Going → Option Piece → Option Piece → Type 0
+IsGoingQuiet (Some g) (Some (In p)) behind =
+    goes_on_with g.front p ≡ true → (passes_variables g p behind ≡ false) ×
+    (nat_le token_limit (token_count g.front) ≡ false)
+IsGoingQuiet _ _ behind = ⊤
+
+-- and no literal is too large
+abbrev pub IsGoingSmall : Option Going → Option Piece → Type 0
+IsGoingSmall (Some g) (Some (In p)) = goes_on_with g.front p ≡ true → is_large p ≡ false
+IsGoingSmall _ _ = ⊤
+
+-- an argument that has ended can be expanded
+abbrev pub IsArgumentExpanded : List Name → Option Sum → Type 0
+IsArgumentExpanded names None = ⊤
+IsArgumentExpanded names (Some s) = polynomials.first_fault (sum_term (with_sum names s) s) ≡ None
+
+-- and so can an atom
+abbrev pub IsRightExpanded : List Name → Sum → inner.Sign → Option Sum → Type 0
+IsRightExpanded names l sign None = ⊤
+IsRightExpanded names l sign (Some r) =
+    first_of_all (differences (sum_term (with_sum names r) l) (relation_of sign) (sum_term (with_sum names r) r)) ≡ None
+
+abbrev pub IsAtomExpanded : List Name → GuardFront → Option Piece → Type 0
+IsAtomExpanded names (LeftSide c e) next = ⊤
+IsAtomExpanded names (RightSide c l sign e) next =
+    ends_expression e next ≡ true → IsRightExpanded (with_sum (with_conjoined names c) l) l sign
+    (expression_steps.finish e)
+
+pub record IsGuardQuiet (names : List Name) (g : GuardFront) (next behind : Option Piece) : Type 0 where
+  pub atom : IsAtomExpanded names g next
+  pub few : (is_full g && begins next) ≡ false
+  pub going : IsGoingQuiet (going_in names g) next behind
+
+pub record IsArgumentQuiet (a : Aimed) (arguments : List Sum) (e : expression.Front) (next behind : Option Piece) : Type
+    0 where
+  pub argument : ends_expression e next ≡ true
+      → IsArgumentExpanded (names_with a.led arguments) (expression_steps.finish e)
+  pub few : shown.passes_arguments (Arguing a arguments e) next ≡ false
+  pub going : IsGoingQuiet (shown.going (Arguing a arguments e) next behind) next behind
+
+-- a front shows nothing against the next piece and the one behind it, their length and size aside
+abbrev pub IsQuiet : Front → Option Piece → Option Piece → Type 0
+IsQuiet (Between ss) next behind = repeats ss next behind ≡ false
+IsQuiet (Opened ss) next behind = ⊤
+IsQuiet (GoalNamed ss) next behind = ⊤
+IsQuiet (GoalSaid ss) next behind = ⊤
+IsQuiet (StartNamed ss) next behind = ⊤
+IsQuiet (StartOpened ss) next behind = ⊤
+IsQuiet (StartListed ss) next behind = ⊤
+IsQuiet (StartSaid ss name) next behind = ⊤
+IsQuiet (StartShut ss name) next behind = ⊤
+IsQuiet (Listing ss names) next behind = ⊤
+IsQuiet (CommentNamed ss) next behind = ⊤
+IsQuiet (Ruled r) next behind = (is_word next && are_full r.rules) ≡ false
+IsQuiet (SourceNamed r name) next behind = ⊤
+IsQuiet (LeftOpened r name) next behind = IsLeftQuiet [] next behind
+IsQuiet (LeftRead r name a earlier) next behind = ⊤
+IsQuiet (LeftParted r name a earlier) next behind = IsLeftQuiet (a ∷ earlier) next behind
+IsQuiet (LeftShut l) next behind = other_arity (symbols_behind l) l.left.name (length l.left.arguments) ≡ false
+IsQuiet (Arrowed l) next behind = shown.targets_many (Arrowed l) next behind ≡ false
+IsQuiet (ComNamed l) next behind = ⊤
+IsQuiet (ComOpened l) next behind =
+    (shown.targets_again (ComOpened l) next behind ≡ false) × (shown.targets_many (ComOpened l) next behind ≡ false)
+IsQuiet (TargetNamed a) next behind = ⊤
+IsQuiet (RightOpened a) next behind = IsGoingQuiet (shown.going (RightOpened a) next behind) next behind
+IsQuiet (Arguing a arguments e) next behind = IsArgumentQuiet a arguments e next behind
+IsQuiet (RightShut l t) next behind = other_arity (with_right (symbols_behind l) t) t.name (length t.arguments) ≡ false
+IsQuiet (Targeted h) next behind =
+    (bare_differs h.led h.target ≡ false) × (shown.too_many_rules (Targeted h) next behind ≡ false)
+IsQuiet (GuardMarked h) next behind =
+    (shown.too_many_rules (GuardMarked h) next behind ≡ false)
+    × IsGoingQuiet (shown.going (GuardMarked h) next behind) next behind
+IsQuiet (WordRead h name) next behind =
+    (shown.too_many_rules (WordRead h name) next behind ≡ false)
+    × IsGoingQuiet (shown.going (WordRead h name) next behind) next behind
+IsQuiet (MarkGuarding h g) next behind =
+    (shown.too_many_rules (MarkGuarding h g) next behind ≡ false) × IsGuardQuiet (headed_names h) g next behind
+IsQuiet (SquareOpened h) next behind = IsGoingQuiet (shown.going (SquareOpened h) next behind) next behind
+IsQuiet (SquareGuarding h g) next behind = IsGuardQuiet (headed_names h) g next behind
+
+-- the next piece is within its limits as a word or, where an expression goes on with it, as a literal
+abbrev pub IsNextSmall : Front → Option Piece → Option Piece → Type 0
+IsNextSmall f next behind = (shown.long_name next ≡ false) × IsGoingSmall (shown.going f next behind) next

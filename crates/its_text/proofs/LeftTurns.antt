@@ -1,0 +1,125 @@
+-- Along each step what is read is within the limits exactly where it was before, and the front is quiet: from a
+-- rule's beginning up to the name of its target.
+use Rattle.std.proofs.Common.{◌≡◌, Bool, true, false, not, if◌then◌else◌, ◌&&◌, ◌↔◌, nat_le, codes, List, [], ◌∷◌}
+use Rattle.std.proofs.Common.{length, Some, refl, ap, sym, ◌∙◌, arith}
+use Rattle.model.specs.Programs.{Name}
+use Rattle.model.specs.Limits.{rule_limit, place_limit}
+use Rattle.text_core.specs.Names.{is_same, is_among}
+use Rattle.text_core.proofs.NameLaws.{same_equal}
+use Rattle.expr_text.specs.Pieces as inner
+use Rattle.its_text.specs.Pieces.{Piece, In, Comma, Arrow, word}
+use Rattle.its_text.specs.Numbering.{is_com}
+use Rattle.its_text.specs.Fronts.{Ruling, Led, Alone, Aimed, Ruled, LeftOpened, LeftRead, LeftParted, LeftShut, Arrowed}
+use Rattle.its_text.specs.Fronts.{ComNamed, ComOpened, TargetNamed}
+use Rattle.its_text.specs.Steps.{aimed, behind_rule, step}
+use Rattle.its_text.specs.FrontNames.{symbols_behind}
+use Rattle.its_text.specs.Shown.{is_open}
+use Rattle.its_text.proofs.RoomLaws.{below, not_at, and_true, arity_same}
+use Rattle.its_text.proofs.KeptFronts.{first, IsRulingKept, IsOpenRuling, AreLeft}
+use Rattle.its_text.proofs.SectionTurns.{Turns, rules_done}
+
+-- another rule may come exactly where there are fewer than the limit
+pub room_for_rule : (r : Ruling) → IsOpenRuling r ↔ (IsRulingKept r × (nat_le rule_limit (length r.rules) ≡ false))
+room_for_rule r = (
+  λ h. (h.0, not_at rule_limit (length r.rules) h.1),
+  λ h. (h.0, below rule_limit (length r.rules) h.1),
+)
+
+pub ruled_turns : (r : Ruling) (p : inner.Piece) (ps : List Piece) → Turns (Ruled r) (In p) ps (behind_rule r p)
+ruled_turns r (inner.Word name) ps = room_for_rule r
+ruled_turns r inner.Close ps = (λ h. ((rules_done r).0 h, refl), λ h. (rules_done r).1 h.0)
+ruled_turns r (inner.Digits ds) ps = tt
+ruled_turns r inner.Open ps = tt
+ruled_turns r inner.Plus ps = tt
+ruled_turns r inner.Minus ps = tt
+ruled_turns r inner.Times ps = tt
+ruled_turns r inner.Caret ps = tt
+ruled_turns r (inner.Related sign) ps = tt
+ruled_turns r (inner.Joining joint) ps = tt
+
+-- one left argument more
+left_more : (a : Name) (earlier : List Name) → AreLeft (a ∷ earlier)
+    ↔ (AreLeft earlier × (is_among a earlier ≡ false) × (nat_le place_limit (length earlier) ≡ false))
+left_more a earlier = (
+  λ h. let few = h.1 in ((h.0.1, omega (arith, few)), h.0.0, not_at place_limit (length earlier) (omega (arith, few))),
+  λ h. ((h.1, h.0.0), let few = below place_limit (length earlier) h.2 in omega (arith, few)),
+)
+
+no_left : AreLeft []
+no_left = (tt, omega arith)
+
+pub left_opened_turns : (r : Ruling) (name a : Name) (ps : List Piece)
+    → Turns (LeftOpened r name) (word a) ps (Some (LeftRead r name a []))
+left_opened_turns r name a ps =
+    let more = left_more a [] in (
+      λ h. let k = more.0 h.1 in (h.0, (h.2, k.1, k.2)),
+      λ h. (h.0, more.1 (no_left, h.1.1, h.1.2), h.1.0),
+    )
+
+pub left_closed_turns : (r : Ruling) (name : Name) (ps : List Piece)
+    → Turns (LeftOpened r name) (In inner.Close) ps (step (LeftOpened r name) (In inner.Close))
+left_closed_turns r name ps = (λ h. (h.0, tt), λ h. (h.0, no_left))
+
+pub left_comma_turns : (r : Ruling) (name a : Name) (earlier : List Name) (ps : List Piece)
+    → Turns (LeftRead r name a earlier) Comma ps (Some (LeftParted r name a earlier))
+left_comma_turns r name a earlier ps = (λ h. ((h.0, h.1, refl), tt), λ h. (h.0.0, h.0.1))
+
+pub left_shut_turns : (r : Ruling) (name a : Name) (earlier : List Name) (ps : List Piece)
+    → Turns (LeftRead r name a earlier) (In inner.Close) ps (step (LeftRead r name a earlier) (In inner.Close))
+left_shut_turns r name a earlier ps = (λ h. ((h.0, h.1, refl), tt), λ h. (h.0.0, h.0.1))
+
+pub left_parted_turns : (r : Ruling) (name a b : Name) (earlier : List Name) (ps : List Piece)
+    → Turns (LeftParted r name a earlier) (word b) ps (Some (LeftRead r name b (a ∷ earlier)))
+left_parted_turns r name a b earlier ps =
+    let more = left_more b (a ∷ earlier) in (
+      λ h. let k = more.0 h.1 in ((h.0, k.0), (h.2, k.1, k.2)),
+      λ h. (h.0.0, more.1 (h.0.1, h.1.1, h.1.2), h.1.0),
+    )
+
+-- the left term has as many arguments as its symbol has places
+pub arrow_turns : (l : Led) (ps : List Piece) → Turns (LeftShut l) Arrow ps (Some (Arrowed l))
+arrow_turns l ps =
+    let same = arity_same (symbols_behind l) l.left.name (length l.left.arguments) in
+    (λ h. (h.0, same.1 h.1), λ h. (h.0, same.0 h.1))
+
+-- a name that is `Com_` and digits is no target's, and `Com_1` is none within `Com_1(`
+com_open : (a o : Bool) → (a && not true && o) ≡ false
+com_open true o = refl
+com_open false o = refl
+
+other_open : (a o : Bool) → (a && not false && o) ≡ (a && o)
+other_open true o = refl
+other_open false o = refl
+
+inside_com : (c v o : Bool) → (v ≡ true → c ≡ true) → ((c && o) ≡ false)
+    ↔ (((v && o) ≡ false) × ((c && not v && o) ≡ false))
+inside_com true true o k = (λ h. (h, refl), λ h. h.0)
+inside_com true false o k = (λ h. (refl, h), λ h. h.1)
+inside_com false true o k = let e = k refl in absurd (let f : false ≡ true = e in cc)
+inside_com false false o k = (λ h. (refl, refl), λ h. refl)
+
+pub arrowed_turns : (l : Led) (name : Name) (ps : List Piece) (v : Bool) → is_same name (codes "Com_1") ≡ v
+    → Turns (Arrowed l) (word name) ps (Some (if v then ComNamed l else aimed l Alone name))
+arrowed_turns l name ps true e =
+    let quiet : (is_com name && not (is_same name (codes "Com_1")) && is_open (first ps)) ≡ false
+    = ap (λ (v : Bool). is_com name && not v && is_open (first ps)) e ∙ com_open (is_com name) (is_open (first ps)) in
+    (λ h. (h, quiet), λ h. h.0)
+arrowed_turns l name ps false e =
+    let same : (is_com name && not (is_same name (codes "Com_1")) && is_open (first ps)) ≡
+    (is_com name && is_open (first ps))
+    = ap (λ (v : Bool). is_com name && not v && is_open (first ps)) e ∙ other_open (is_com name) (is_open (first ps)) in
+    (λ h. (h.0, same ∙ h.1), λ h. (h.0, sym same ∙ h.1))
+
+pub com_opened_turns : (l : Led) (name : Name) (ps : List Piece)
+    → Turns (ComOpened l) (word name) ps (step (ComOpened l) (word name))
+com_opened_turns l name ps =
+    let inside =
+    inside_com (is_com name) (is_same name (codes "Com_1")) (is_open (first ps))
+    (λ e. ap is_com (same_equal name (codes "Com_1") e)) in
+    (λ h. (h.0, inside.0 h.1), λ h. (h.0, inside.1 h.1))
+
+pub target_opened_turns : (a : Aimed) (ps : List Piece)
+    → Turns (TargetNamed a) (In inner.Open) ps (step (TargetNamed a) (In inner.Open))
+target_opened_turns a ps =
+    let same = and_true (is_com a.name) in
+    (λ h. ((h.0, same ∙ h.1), tt), λ h. (h.0.0, sym same ∙ h.0.1))

@@ -1,0 +1,134 @@
+-- Rules are within the limits with one more exactly where its head and its guard are: names and symbols that come
+-- later change nothing of what came before.
+use Rattle.std.proofs.Common.{◌≤◌, ◌↔◌, length, Some, None, sym, ◌∙◌, arith}
+use Rattle.model.specs.Limits.{variable_limit}
+use Rattle.expr_text.specs.Guards.{Atoms}
+use Rattle.its_text.specs.Written.{Guard, NoGuard, BehindMark, InSquares}
+use Rattle.its_text.specs.Numbering.{term_in, symbols_of, left_names, rule_names}
+use Rattle.its_text.specs.Fronts.{Headed, rule_with, ruling_with}
+use Rattle.its_text.specs.FrontNames.{symbols_behind, headed_names}
+use Rattle.its_text.specs.Spelling.{IsGuardWithin}
+use Rattle.its_text.proofs.ValidRules.{guard_extends, sums_are_read, no_fewer}
+use Rattle.its_text.proofs.ValidPrograms.{comes_there, all_known, all_stay}
+use Rattle.its_text.proofs.RoomLaws.{arity_stays, rules_stay, arguments_stay}
+use Rattle.its_text.proofs.KeptFronts.{IsRulingKept, IsHeadedKept}
+use Rattle.its_text.proofs.GuardTurns.{AreEnded}
+
+-- a rule with a guard is within the limits
+abbrev pub HasGuard : Headed → Guard → Type 0
+HasGuard h guard =
+    (length (rule_names (rule_with h guard)) ≤ variable_limit)
+    × IsGuardWithin (rule_names (rule_with h guard)) guard
+
+module _ (h : Headed) (guard : Guard) where
+  -- so the rules are with that one exactly where its head and its guard are
+  pub rule_made : IsRulingKept (ruling_with h guard) ↔ (IsHeadedKept h × HasGuard h guard)
+  rule_made =
+      let l = h.led in
+      let t = term_in h.target in
+      let rules = l.ruling.rules in
+      let before = symbols_of rules in
+      let behind = symbols_behind l in
+      let known = all_known rules in
+      let left = rules_stay before l.left.name (length l.left.arguments) rules known in
+      let right =
+      rules_stay behind t.name (length t.arguments) rules
+      (all_stay before l.left.name (length l.left.arguments) rules known) in
+      let arity =
+      arity_stays behind l.left.name t.name (length t.arguments)
+      (comes_there before l.left.name (length l.left.arguments)) in
+      let more = guard_extends (headed_names h) guard in
+      let named =
+      arguments_stay (headed_names h) (rule_names (rule_with h guard)) more t.arguments
+      (sums_are_read (left_names l.left) t.arguments) in
+      let fewer = no_fewer (headed_names h) (rule_names (rule_with h guard)) more in (
+        λ k.
+            let r = k.rules.0 in
+            let w = k.within.0 in
+            let few = k.few in (
+              (
+                record {
+                  led = (
+                    (
+                      (
+                        record {
+                          sections = k.sections;
+                          once = k.once;
+                          few = omega (arith, few);
+                          rules = left.1 (right.1 k.rules.1);
+                          within = k.within.1;
+                        },
+                        omega (arith, few),
+                      ),
+                      (r.left, w.left),
+                    ),
+                    sym arity ∙ r.source_arity,
+                  );
+                  symbol = r.target;
+                  few = w.right;
+                  arguments = named.1 w.arguments;
+                  variables = (let most = w.variables in omega (arith, most, fewer));
+                },
+                r.target_arity,
+              ),
+              (w.variables, w.guard),
+            ),
+        λ k.
+            let head = k.0.0 in
+            let led = head.led.0 in
+            let ruling = led.0 in
+            record {
+              sections = ruling.0.sections;
+              once = ruling.0.once;
+              few = (let few = ruling.1 in omega (arith, few));
+              rules = (
+                record {
+                  left = led.1.0;
+                  target = head.symbol;
+                  source_arity = arity ∙ head.led.1;
+                  target_arity = k.0.1;
+                },
+                right.0 (left.0 ruling.0.rules),
+              );
+              within = (
+                record {
+                  left = led.1.1;
+                  right = head.few;
+                  variables = k.1.0;
+                  arguments = named.0 head.arguments;
+                  guard = k.1.1;
+                },
+                ruling.0.within,
+              );
+            },
+      )
+
+  -- a rule whose guard has no atoms
+  pub empty_made : (IsHeadedKept h → HasGuard h guard) → IsRulingKept (ruling_with h guard) ↔ IsHeadedKept h
+  empty_made has = (λ k. (rule_made.0 k).0, λ k. rule_made.1 (k, has k))
+
+pub no_guard : (h : Headed) → IsRulingKept (ruling_with h NoGuard) ↔ IsHeadedKept h
+no_guard h = empty_made h NoGuard (λ k. (k.0.variables, tt))
+
+pub no_marked : (h : Headed) → IsRulingKept (ruling_with h (BehindMark None)) ↔ IsHeadedKept h
+no_marked h = empty_made h (BehindMark None) (λ k. (k.0.variables, tt))
+
+pub no_squared : (h : Headed) → IsRulingKept (ruling_with h (InSquares None)) ↔ IsHeadedKept h
+no_squared h = empty_made h (InSquares None) (λ k. (k.0.variables, tt))
+
+-- and one whose guard has some
+pub marked : (h : Headed) (atoms : Atoms) → IsRulingKept (ruling_with h (BehindMark (Some atoms)))
+    ↔ (IsHeadedKept h × AreEnded (headed_names h) atoms)
+marked h atoms =
+    let made = rule_made h (BehindMark (Some atoms)) in (
+      λ k. let x = made.0 k in (x.0, record { few = x.1.1.0; within = x.1.1.1; variables = x.1.0 }),
+      λ k. made.1 (k.0, (k.1.variables, (k.1.few, k.1.within))),
+    )
+
+pub in_squares : (h : Headed) (atoms : Atoms) → IsRulingKept (ruling_with h (InSquares (Some atoms)))
+    ↔ (IsHeadedKept h × AreEnded (headed_names h) atoms)
+in_squares h atoms =
+    let made = rule_made h (InSquares (Some atoms)) in (
+      λ k. let x = made.0 k in (x.0, record { few = x.1.1.0; within = x.1.1.1; variables = x.1.0 }),
+      λ k. made.1 (k.0, (k.1.variables, (k.1.few, k.1.within))),
+    )

@@ -1,0 +1,402 @@
+-- Along each step what is read is within the limits exactly where it was before, and the front is quiet: behind a
+-- target, up to the end of the rule.
+use Rattle.std.proofs.Common.{◌≡◌, Bool, true, false, not, if◌then◌else◌, ◌&&◌, ◌==◌, ◌↔◌, nat_le, List, ◌∷◌, length}
+use Rattle.std.proofs.Common.{Option, Some, None, refl, ap, sym, subst, ◌∙◌, arith}
+use Rattle.std.proofs.lemmas.Bool.Decides.{nat_tests}
+use Rattle.model.specs.Programs.{Name}
+use Rattle.model.specs.Limits.{rule_limit, atom_limit}
+use Rattle.expr_text.specs.Pieces as inner
+use Rattle.expr_text.specs.Fronts as expression
+use Rattle.expr_text.specs.Steps as expression_steps
+use Rattle.expr_text.specs.Guards.{Atom, Atoms, count_of}
+use Rattle.expr_text.specs.GuardFronts as guards
+use Rattle.expr_text.specs.GuardFronts.{Conjoined, NoAtoms, JointAfter, GuardFront, LeftSide, RightSide, truth_of}
+use Rattle.expr_text.specs.FrontNames.{token_count, is_front, goes_on_with}
+use Rattle.expr_text.proofs.FrontSteps.{truth_is_one}
+use Rattle.its_text.specs.Pieces.{Piece, In, GuardMark, SquareOpen, SquareClose, word}
+use Rattle.its_text.specs.Written.{NoGuard, BehindMark}
+use Rattle.its_text.specs.Fronts.{Headed, rule_with, ruling_with, Front, Targeted, GuardMarked, WordRead, MarkGuarding}
+use Rattle.its_text.specs.Fronts.{SquareOpened, SquareGuarding}
+use Rattle.its_text.specs.Steps.{behind_rule, guard_ended, guarding, squared, square_ended, guard_named, behind_mark}
+use Rattle.its_text.specs.Steps.{behind_word, step}
+use Rattle.its_text.specs.FrontNames.{headed_names}
+use Rattle.its_text.specs.Shown as shown
+use Rattle.its_text.specs.Shown.{going_in, is_open, can_end, ends_expression, is_full}
+use Rattle.its_text.proofs.RoomLaws.{contrary, and_false}
+use Rattle.its_text.proofs.KeptFronts.{first, IsHeadedKept, IsGuardKept, IsGoingQuiet}
+use Rattle.its_text.proofs.SectionTurns.{Turns, rules_done}
+use Rattle.its_text.proofs.LeftTurns.{room_for_rule}
+use Rattle.its_text.proofs.MadeRules.{no_guard, no_marked, no_squared, marked, in_squares}
+use Rattle.its_text.proofs.ExpressionRoom.{goes_off}
+use Rattle.its_text.proofs.ArgumentTurns.{target_kept}
+use Rattle.its_text.proofs.GuardTurns.{guard_ends, guard_turns, guard_begins}
+
+-- behind a target
+pub targeted_turns : (h : Headed) (p : inner.Piece) (ps : List Piece)
+    → Turns (Targeted h) (In p) ps (behind_rule (ruling_with h NoGuard) p)
+targeted_turns h (inner.Word name) ps =
+    let room = room_for_rule (ruling_with h NoGuard) in
+    let made = no_guard h in
+    let kept = target_kept h.led h.target in (
+      λ k. let x = room.0 k in let y = kept.0 (made.0 x.0) in (y.0, (y.1, x.1)),
+      λ k. room.1 (made.1 (kept.1 (k.0, k.1.0)), k.1.1),
+    )
+targeted_turns h inner.Close ps =
+    let done = rules_done (ruling_with h NoGuard) in
+    let made = no_guard h in
+    let kept = target_kept h.led h.target in (
+      λ k. let y = kept.0 (made.0 (done.0 k)) in (y.0, (y.1, refl)),
+      λ k. done.1 (made.1 (kept.1 (k.0, k.1.0))),
+    )
+targeted_turns h (inner.Digits ds) ps = tt
+targeted_turns h inner.Open ps = tt
+targeted_turns h inner.Plus ps = tt
+targeted_turns h inner.Minus ps = tt
+targeted_turns h inner.Times ps = tt
+targeted_turns h inner.Caret ps = tt
+targeted_turns h (inner.Related sign) ps = tt
+targeted_turns h (inner.Joining joint) ps = tt
+
+pub marks_turns : (h : Headed) (ps : List Piece) → Turns (Targeted h) GuardMark ps (Some (GuardMarked h))
+marks_turns h ps =
+    let kept = target_kept h.led h.target in
+    (λ k. let y = kept.0 k in (y.0, (y.1, refl)), λ k. kept.1 (k.0, k.1.0))
+
+pub square_turns : (h : Headed) (ps : List Piece) → Turns (Targeted h) SquareOpen ps (Some (SquareOpened h))
+square_turns h ps =
+    let kept = target_kept h.led h.target in
+    (λ k. let y = kept.0 k in (y.0, (y.1, refl)), λ k. kept.1 (k.0, k.1.0))
+
+-- the first piece of a guard
+guard_first : (h : Headed) (g : GuardFront) (p : inner.Piece) (behind : Option Piece)
+    → guards.step guards.no_atoms p ≡ Some g
+    → (IsHeadedKept h × IsGuardKept (headed_names h) g behind)
+    ↔ (IsHeadedKept h × IsGoingQuiet (going_in (headed_names h) guards.no_atoms) (Some (In p)) behind)
+guard_first h g p behind same =
+    let turns = guard_turns (headed_names h) guards.no_atoms g p behind same in (
+      λ k. (k.0, (turns.0 k.1).1.going),
+      λ k.
+          let begins = guard_begins (headed_names h) (Some (In p)) k.0.0.variables in
+          (k.0, turns.1 (begins, record { atom = tt; few = refl; going = k.1 })),
+    )
+
+-- a piece that goes on with a guard begins no rule
+off_within : (g : GuardFront) (p : inner.Piece) → guards.step g p ≡ None
+    → expression_steps.step (guards.expression_in g) p ≡ None
+off_within (LeftSide c e) p same = go (expression_steps.step e p) same
+  where
+    go : (o : Option expression.Front) → guards.within (LeftSide c e) o p ≡ None → o ≡ None
+    go None k = refl
+    go (Some f) k = cc
+off_within (RightSide c l sign e) p same = go (expression_steps.step e p) same
+  where
+    go : (o : Option expression.Front) → guards.within (RightSide c l sign e) o p ≡ None → o ≡ None
+    go None k = refl
+    go (Some f) k = cc
+
+pub goes_within : (g k : GuardFront) (p : inner.Piece) → guards.step_behind g p ≡ None → guards.step g p ≡ Some k
+    → goes_on_with (guards.expression_in g) p ≡ true
+goes_within (LeftSide c e) k p behind same = go (expression_steps.step e p) same
+  where
+    go : (o : Option expression.Front) → guards.within (LeftSide c e) o p ≡ Some k → is_front o ≡ true
+    go None s = cc
+    go (Some f) s = refl
+goes_within (RightSide c l sign e) k p behind same = go (expression_steps.step e p) same
+  where
+    go : (o : Option expression.Front) → guards.within (RightSide c l sign e) o p ≡ Some k → is_front o ≡ true
+    go None s = cc
+    go (Some f) s = refl
+
+word_within : (g k : GuardFront) (n : Name) → guards.step g (inner.Word n) ≡ Some k
+    → goes_on_with (guards.expression_in g) (inner.Word n) ≡ true
+word_within (LeftSide c e) k n same = goes_within (LeftSide c e) k (inner.Word n) refl same
+word_within (RightSide c l sign e) k n same = goes_within (RightSide c l sign e) k (inner.Word n) refl same
+
+no_rule_within : (h : Headed) (g k : GuardFront) (p : inner.Piece) (behind : Option Piece) → guards.step g p ≡ Some k
+    → shown.too_many_rules (MarkGuarding h g) (Some (In p)) behind ≡ false
+no_rule_within h g k (inner.Word n) behind same =
+    ap
+    (λ (v : Bool). not v && can_end (guards.finish g) && nat_le rule_limit
+    (length (rule_with h NoGuard ∷ h.led.ruling.rules))) (word_within g k n same)
+no_rule_within h g k (inner.Digits ds) behind same = refl
+no_rule_within h g k inner.Open behind same = refl
+no_rule_within h g k inner.Close behind same = refl
+no_rule_within h g k inner.Plus behind same = refl
+no_rule_within h g k inner.Minus behind same = refl
+no_rule_within h g k inner.Times behind same = refl
+no_rule_within h g k inner.Caret behind same = refl
+no_rule_within h g k (inner.Related sign) behind same = refl
+no_rule_within h g k (inner.Joining joint) behind same = refl
+
+-- atoms that can end don't begin another one
+not_full : (g : GuardFront) (atoms : Atoms) → guards.finish g ≡ Some atoms → is_full g ≡ false
+not_full (LeftSide NoAtoms e) atoms same = refl
+not_full (RightSide c l sign e) atoms same = refl
+not_full (LeftSide (JointAfter earlier joint) e) atoms same = go (truth_of e) refl same
+  where
+    go : (o : Option Atom) → truth_of e ≡ o → guards.ended (JointAfter earlier joint) o ≡ Some atoms
+        → is_full (LeftSide (JointAfter earlier joint) e) ≡ false
+    go None t s = cc
+    go (Some a) t s =
+        let one = (truth_is_one e a t).0 in
+        let some : (token_count e == 0) ≡ false = grind (arith, nat_tests, one) in
+        ap (λ (v : Bool). v && nat_le atom_limit (count_of earlier)) some
+
+-- a guard behind `:|:` that ends before another rule, or before the end of the section
+module _ (h : Headed) (g : GuardFront) (atoms : Atoms) (ends : guards.finish g ≡ Some atoms) (ps : List Piece) where
+  abbrev full : Bool
+  full = nat_le rule_limit (length (rule_with h NoGuard ∷ h.led.ruling.rules))
+
+  off_quiet : (p : inner.Piece) → expression_steps.step (guards.expression_in g) p ≡ None
+      → IsGoingQuiet (going_in (headed_names h) g) (Some (In p)) (first ps)
+  off_quiet p off =
+      λ on. contrary (goes_on_with (guards.expression_in g) p) on (goes_off (guards.expression_in g) p off)
+
+  word_ends : (n : Name) → expression_steps.step (guards.expression_in g) (inner.Word n) ≡ None
+      → Turns (MarkGuarding h g) (word n) ps (behind_rule (ruling_with h (BehindMark (Some atoms))) (inner.Word n))
+  word_ends n off =
+      let room = room_for_rule (ruling_with h (BehindMark (Some atoms))) in
+      let made = marked h atoms in
+      let over : ends_expression (guards.expression_in g) (Some (word n)) ≡ true
+      = ap not (goes_off (guards.expression_in g) (inner.Word n) off) in
+      let ended = guard_ends (headed_names h) g atoms (Some (word n)) ends refl over in
+      let rules : shown.too_many_rules (MarkGuarding h g) (Some (word n)) (first ps) ≡ full
+      = ap (λ (v : Bool). v && can_end (guards.finish g) && full) over ∙ ap (λ o. can_end o && full) ends in (
+        λ k.
+            let x = room.0 k in
+            let y = made.0 x.0 in
+            let z = ended.0 y.1 in (
+              (y.0, z.0),
+              (
+                rules ∙ x.1,
+                record {
+                  atom = z.1;
+                  few = ap (λ (v : Bool). v && true)
+                      (not_full g atoms ends);
+                  going = off_quiet (inner.Word n) off;
+                },
+              ),
+            ),
+        λ k. room.1 (made.1 (k.0.0, ended.1 (k.0.1, k.1.1.atom)), sym rules ∙ k.1.0),
+      )
+
+  close_ends : expression_steps.step (guards.expression_in g) inner.Close ≡ None
+      → Turns (MarkGuarding h g) (In inner.Close) ps (behind_rule (ruling_with h (BehindMark (Some atoms))) inner.Close)
+  close_ends off =
+      let done = rules_done (ruling_with h (BehindMark (Some atoms))) in
+      let made = marked h atoms in
+      let ended = guard_ends (headed_names h) g atoms (Some (In inner.Close)) ends refl
+      (ap not (goes_off (guards.expression_in g) inner.Close off)) in (
+        λ k.
+            let y = made.0 (done.0 k) in
+            let z = ended.0 y.1 in
+            ((y.0, z.0), (refl, record { atom = z.1; few = and_false _; going = off_quiet inner.Close off })),
+        λ k. done.1 (made.1 (k.0.0, ended.1 (k.0.1, k.1.1.atom))),
+      )
+
+  rule_ends : (p : inner.Piece) → expression_steps.step (guards.expression_in g) p ≡ None
+      → Turns (MarkGuarding h g) (In p) ps (behind_rule (ruling_with h (BehindMark (Some atoms))) p)
+  rule_ends (inner.Word n) off = word_ends n off
+  rule_ends inner.Close off = close_ends off
+  rule_ends (inner.Digits ds) off = tt
+  rule_ends inner.Open off = tt
+  rule_ends inner.Plus off = tt
+  rule_ends inner.Minus off = tt
+  rule_ends inner.Times off = tt
+  rule_ends inner.Caret off = tt
+  rule_ends (inner.Related sign) off = tt
+  rule_ends (inner.Joining joint) off = tt
+
+  -- and one in square brackets
+  square_ends : Turns (SquareGuarding h g) SquareClose ps (square_ended h (Some atoms))
+  square_ends =
+      let made = in_squares h atoms in
+      let ended = guard_ends (headed_names h) g atoms (Some SquareClose) ends refl refl in (
+        λ k.
+            let y = made.0 k in
+            let z = ended.0 y.1 in
+            ((y.0, z.0), record { atom = z.1; few = and_false _; going = tt }),
+        λ k. made.1 (k.0.0, ended.1 (k.0.1, k.1.atom)),
+      )
+
+-- atoms behind `:|:`
+guard_ended_turns : (h : Headed) (g : GuardFront) (p : inner.Piece) (ps : List Piece) (o : Option Atoms)
+    → guards.finish g ≡ o → expression_steps.step (guards.expression_in g) p ≡ None
+    → Turns (MarkGuarding h g) (In p) ps (guard_ended h o p)
+guard_ended_turns h g p ps None ends off = tt
+guard_ended_turns h g p ps (Some atoms) ends off = rule_ends h g atoms ends ps p off
+
+guarding_turns : (h : Headed) (g : GuardFront) (p : inner.Piece) (ps : List Piece) (o : Option GuardFront)
+    → guards.step g p ≡ o → Turns (MarkGuarding h g) (In p) ps (guarding h g o p)
+guarding_turns h g p ps (Some k) same =
+    let turns = guard_turns (headed_names h) g k p (first ps) same in (
+      λ x. let y = turns.0 x.1 in ((x.0, y.0), (no_rule_within h g k p (first ps) same, y.1)),
+      λ x. (x.0.0, turns.1 (x.0.1, x.1.1)),
+    )
+guarding_turns h g p ps None same = guard_ended_turns h g p ps (guards.finish g) refl (off_within g p same)
+
+pub mark_guarding_turns : (h : Headed) (g : GuardFront) (p : inner.Piece) (ps : List Piece)
+    → Turns (MarkGuarding h g) (In p) ps (guarding h g (guards.step g p) p)
+mark_guarding_turns h g p ps = guarding_turns h g p ps (guards.step g p) refl
+
+-- atoms in square brackets
+pub square_guarding_turns : (h : Headed) (g : GuardFront) (p : inner.Piece) (ps : List Piece)
+    → Turns (SquareGuarding h g) (In p) ps (squared h (guards.step g p))
+square_guarding_turns h g p ps = go (guards.step g p) refl
+  where
+    go : (o : Option GuardFront) → guards.step g p ≡ o → Turns (SquareGuarding h g) (In p) ps (squared h o)
+    go None same = tt
+    go (Some k) same =
+        let turns = guard_turns (headed_names h) g k p (first ps) same in (
+          λ x. let y = turns.0 x.1 in ((x.0, y.0), y.1),
+          λ x. (x.0.0, turns.1 (x.0.1, x.1)),
+        )
+
+pub square_ended_turns : (h : Headed) (g : GuardFront) (ps : List Piece)
+    → Turns (SquareGuarding h g) SquareClose ps (square_ended h (guards.finish g))
+square_ended_turns h g ps = go (guards.finish g) refl
+  where
+    go : (o : Option Atoms) → guards.finish g ≡ o → Turns (SquareGuarding h g) SquareClose ps (square_ended h o)
+    go None ends = tt
+    go (Some atoms) ends = square_ends h g atoms ends ps
+
+pub square_opened_turns : (h : Headed) (p : inner.Piece) (ps : List Piece)
+    → Turns (SquareOpened h) (In p) ps (squared h (guards.step guards.no_atoms p))
+square_opened_turns h p ps = go (guards.step guards.no_atoms p) refl
+  where
+    go : (o : Option GuardFront) → guards.step guards.no_atoms p ≡ o → Turns (SquareOpened h) (In p) ps (squared h o)
+    go None same = tt
+    go (Some g) same =
+        let begins = guard_first h g p (first ps) same in
+        (begins.0, begins.1)
+
+pub square_closed_turns : (h : Headed) (ps : List Piece)
+    → Turns (SquareOpened h) SquareClose ps (step (SquareOpened h) SquareClose)
+square_closed_turns h ps =
+    let made = no_squared h in
+    (λ k. (made.0 k, tt), λ k. made.1 k.0)
+
+-- a name behind `:|:` begins another rule before a bracket, and else an atom
+abbrev IsWordQuiet : Headed → Name → Option Piece → Bool → Type 0
+IsWordQuiet h name behind opens =
+    IsGoingQuiet (if opens then None else going_in (headed_names h) guards.no_atoms) (Some (word name)) behind
+
+marked_word : (h : Headed) (name : Name) (ps : List Piece) (v : Bool) → is_open (first ps) ≡ v
+    → Turns (GuardMarked h) (word name) ps (Some (WordRead h name))
+marked_word h name ps true e =
+    let full : Bool = nat_le rule_limit (length (rule_with h NoGuard ∷ h.led.ruling.rules)) in
+    let room = room_for_rule (ruling_with h (BehindMark None)) in
+    let made = no_marked h in (
+      λ k.
+          let most = room.0 (made.1 k.0, k.1.rule e) in (
+            k.0,
+            (
+              ap (λ (v : Bool). v && full) e ∙ most.1,
+              subst (IsWordQuiet h name (first ps)) (sym e) tt,
+            ),
+          ),
+      λ k. (
+        k.0,
+        record {
+          rule = λ _. (room.1 (made.1 k.0, sym (ap (λ (v : Bool). v && full) e) ∙ k.1.0)).1;
+          atom = λ off. contrary (is_open (first ps)) e off;
+        },
+      ),
+    )
+marked_word h name ps false e =
+    let full : Bool = nat_le rule_limit (length (rule_with h NoGuard ∷ h.led.ruling.rules)) in
+    let begins = guard_first h (guard_named name) (inner.Word name) (first ps) refl in (
+      λ k. (
+        k.0,
+        (
+          ap (λ (v : Bool). v && full) e,
+          subst (IsWordQuiet h name (first ps)) (sym e) (begins.0 (k.0, k.1.atom e)).1,
+        ),
+      ),
+      λ k. (
+        k.0,
+        record {
+          rule = λ on. contrary (is_open (first ps)) on e;
+          atom = λ _. (begins.1 (k.0, subst (IsWordQuiet h name (first ps)) e k.1.1)).1;
+        },
+      ),
+    )
+
+marked_first : (h : Headed) (g : GuardFront) (p : inner.Piece) (ps : List Piece)
+    → guards.step guards.no_atoms p ≡ Some g
+    → (IsHeadedKept h × IsGuardKept (headed_names h) g (first ps))
+    ↔ (IsHeadedKept h
+    × ((false ≡ false) × IsGoingQuiet (going_in (headed_names h) guards.no_atoms) (Some (In p)) (first ps)))
+marked_first h g p ps same =
+    let begins = guard_first h g p (first ps) same in
+    (λ k. let x = begins.0 k in (x.0, (refl, x.1)), λ k. begins.1 (k.0, k.1.1))
+
+pub guard_marked_turns : (h : Headed) (p : inner.Piece) (ps : List Piece)
+    → Turns (GuardMarked h) (In p) ps (behind_mark h p)
+guard_marked_turns h (inner.Word name) ps = marked_word h name ps (is_open (first ps)) refl
+guard_marked_turns h inner.Close ps =
+    let done = rules_done (ruling_with h (BehindMark None)) in
+    let made = no_marked h in
+    (λ k. (made.0 (done.0 k), (refl, λ on. cc)), λ k. done.1 (made.1 k.0))
+guard_marked_turns h (inner.Digits ds) ps = marked_first h _ (inner.Digits ds) ps refl
+guard_marked_turns h inner.Open ps = marked_first h _ inner.Open ps refl
+guard_marked_turns h inner.Minus ps = marked_first h _ inner.Minus ps refl
+guard_marked_turns h inner.Plus ps = tt
+guard_marked_turns h inner.Times ps = tt
+guard_marked_turns h inner.Caret ps = tt
+guard_marked_turns h (inner.Related sign) ps = tt
+guard_marked_turns h (inner.Joining joint) ps = tt
+
+-- behind that name
+as_guarding : (h : Headed) (name : Name) (p : inner.Piece) (ps : List Piece) → is_open (Some (In p)) ≡ false
+    → shown.too_many_rules (WordRead h name) (Some (In p)) (first ps)
+    ≡ shown.too_many_rules (MarkGuarding h (guard_named name)) (Some (In p)) (first ps)
+    → (o : Option Front) → Turns (MarkGuarding h (guard_named name)) (In p) ps o → Turns (WordRead h name) (In p) ps o
+as_guarding h name p ps closed rules None turns = tt
+as_guarding h name p ps closed rules (Some g) turns = (
+  λ k.
+      let x = turns.0 k in (
+        (x.0.0, record { rule = λ on. contrary (is_open (Some (In p))) on closed; atom = λ _. x.0.1 }),
+        (rules ∙ x.1.0, x.1.1.going),
+      ),
+  λ k. turns.1 ((k.0.0, k.0.1.atom closed), (sym rules ∙ k.1.0, record { atom = tt; few = refl; going = k.1.1 })),
+)
+
+word_opens : (h : Headed) (name : Name) (ps : List Piece)
+    → Turns (WordRead h name) (In inner.Open) ps (behind_word h name inner.Open)
+word_opens h name ps =
+    let made = no_marked h in (
+      λ k. ((made.0 k.0, record { rule = λ _. k.1; atom = λ off. cc }), (refl, λ on. cc)),
+      λ k. (made.1 k.0.0, k.0.1.rule refl),
+    )
+
+pub word_read_turns : (h : Headed) (name : Name) (p : inner.Piece) (ps : List Piece)
+    → Turns (WordRead h name) (In p) ps (behind_word h name p)
+word_read_turns h name inner.Open ps = word_opens h name ps
+word_read_turns h name (inner.Word n) ps =
+    as_guarding h name (inner.Word n) ps refl refl (behind_word h name (inner.Word n))
+    (mark_guarding_turns h (guard_named name) (inner.Word n) ps)
+word_read_turns h name (inner.Digits ds) ps =
+    as_guarding h name (inner.Digits ds) ps refl refl (behind_word h name (inner.Digits ds))
+    (mark_guarding_turns h (guard_named name) (inner.Digits ds) ps)
+word_read_turns h name inner.Close ps =
+    as_guarding h name inner.Close ps refl refl (behind_word h name inner.Close)
+    (mark_guarding_turns h (guard_named name) inner.Close ps)
+word_read_turns h name inner.Plus ps =
+    as_guarding h name inner.Plus ps refl refl (behind_word h name inner.Plus)
+    (mark_guarding_turns h (guard_named name) inner.Plus ps)
+word_read_turns h name inner.Minus ps =
+    as_guarding h name inner.Minus ps refl refl (behind_word h name inner.Minus)
+    (mark_guarding_turns h (guard_named name) inner.Minus ps)
+word_read_turns h name inner.Times ps =
+    as_guarding h name inner.Times ps refl refl (behind_word h name inner.Times)
+    (mark_guarding_turns h (guard_named name) inner.Times ps)
+word_read_turns h name inner.Caret ps =
+    as_guarding h name inner.Caret ps refl refl (behind_word h name inner.Caret)
+    (mark_guarding_turns h (guard_named name) inner.Caret ps)
+word_read_turns h name (inner.Related sign) ps =
+    as_guarding h name (inner.Related sign) ps refl refl (behind_word h name (inner.Related sign))
+    (mark_guarding_turns h (guard_named name) (inner.Related sign) ps)
+word_read_turns h name (inner.Joining joint) ps =
+    as_guarding h name (inner.Joining joint) ps refl refl (behind_word h name (inner.Joining joint))
+    (mark_guarding_turns h (guard_named name) (inner.Joining joint) ps)

@@ -1,0 +1,6 @@
+-- A text is read as what it spells within the limits.
+use Rattle.its_text.proofs.SpelledVerdicts.{verdicts_are_spelled}
+use Rattle.its_text.proofs.law.verdicts_are_spelled.Goals as goal
+
+pub returns : goal.returns
+returns c = verdicts_are_spelled

@@ -1,0 +1,112 @@
+-- What was worked out by hand of the order of faults, of where faults are shown, of limits and of laws, on the reader of
+-- rows and on readers that differ from it in one part.
+use Rattle.std.specs.Prelude.{ℕ, ◌≤◌, List, [], ◌∷◌, Option, Some, None, ◌≡◌, ⊤}
+use Rattle.text_core.specs.Tokens.{Token}
+use Rattle.text_core.specs.Readers.{Fault, Reader, walk}
+use Rattle.text_core.specs.Faults.{NotAfter}
+use Rattle.text_core.specs.Stopping.{ShowsBehind, ShowsNext}
+use Rattle.text_core.specs.Limits.{KeepsLimits, ShowsNoLimit}
+use Rattle.text_core.specs.Laws.{Laws}
+use Rattle.text_core.specs.Rows.{Piece, Comma, Row, One, More, Front, Begins, Behind, Open}
+use Rattle.text_core.specs.Rows.{Kind, Syntax, TooLarge, TooMany, number_of, count, Writes, step, finish}
+use Rattle.text_core.specs.Rows.{large_next, shown, rows}
+
+-- the reader of rows with other steps, other ends, other numbers of kinds, or other faults that are shown
+abbrev pub rows_with : (Front → Piece → Option Front) → (Front → Option Row) → (Kind → ℕ)
+    → (ℕ → List (Token Piece) → Front → List (Token Piece) → List (Fault Kind)) → Reader Piece Row Front Kind
+rows_with steps ends numbers shows = record {
+  Writes = Writes;
+  beginning = Begins;
+  step = steps;
+  finish = ends;
+  number = numbers;
+  shown = shows;
+  off = λ f rest. Syntax;
+}
+
+-- a comma may come first
+abbrev pub leading_comma : Front → Piece → Option Front
+leading_comma Begins Comma = Some Begins
+leading_comma f p = step f p
+
+-- a text may end behind a comma, which is lost
+abbrev pub ending_open : Front → Option Row
+ending_open (Open row) = Some row
+ending_open f = finish f
+
+-- each law fails alone: a front that no row begins with; a tree that isn't written so; a row that isn't read; and kinds
+-- that can't be told apart
+pub record LawsAreTold : Type 0 where
+  pub leads_nowhere : ¬ Laws (rows_with leading_comma finish number_of shown)
+  pub ends_wrongly : ¬ Laws (rows_with step ending_open number_of shown)
+  pub never_ends : ¬ Laws (rows_with step (λ f. None) number_of shown)
+  pub one_number : ¬ Laws (rows_with step finish (λ kind. 1) shown)
+
+-- a fault of a kind at a position
+abbrev pub fault : Kind → ℕ → Fault Kind
+fault kind at = record { kind = kind; at = at }
+
+-- the fault at the lesser position comes first, of two at one the one with the lesser number, and none is after itself
+pub record OrderIsTold : Type 0 where
+  pub earlier : NotAfter rows (fault TooMany 1) (fault Syntax 2)
+  pub lesser_kind : NotAfter rows (fault Syntax 3) (fault TooLarge 3)
+  pub itself : NotAfter rows (fault TooLarge 3) (fault TooLarge 3)
+  pub later : ¬ NotAfter rows (fault Syntax 2) (fault TooMany 1)
+  pub greater_kind : ¬ NotAfter rows (fault TooLarge 3) (fault Syntax 3)
+
+-- a reader that shows large numbers alone, at the next token
+abbrev pub large_alone : Reader Piece Row Front Kind
+large_alone = rows_with step finish number_of (λ n done f rest. large_next rest)
+
+-- a reader that shows a fault at the beginning of the text, wherever it stands
+abbrev pub back_at_beginning : Reader Piece Row Front Kind
+back_at_beginning = rows_with step finish number_of (λ n done f rest. fault TooMany 0 ∷ [])
+
+-- the reader of rows shows nothing before the last token, but too many numbers at that token; large numbers alone are
+-- shown at the next token; and what is shown at the beginning stands before the last token
+pub record PlacesAreTold : Type 0 where
+  pub rows_behind : ShowsBehind rows
+  pub rows_not_next : ¬ ShowsNext rows
+  pub large_next_alone : ShowsNext large_alone
+  pub before_the_last : ¬ ShowsBehind back_at_beginning
+
+-- all numbers of the row are at most 9
+abbrev pub HasSmallNumbers : Row → Type 0
+HasSmallNumbers (One n) = n ≤ 9
+HasSmallNumbers (More row n) = HasSmallNumbers row × (n ≤ 9)
+
+-- those that have been read are
+abbrev pub HasReadSmall : Front → List Piece → Type 0
+HasReadSmall Begins ps = ⊤
+HasReadSmall (Behind row) ps = HasSmallNumbers row
+HasReadSmall (Open row) ps = HasSmallNumbers row
+
+-- a row within both limits
+abbrev pub IsWithin : Row → Type 0
+IsWithin row = HasSmallNumbers row × (count row ≤ 3)
+
+-- the pieces that are left lead to a row within the limits
+pub record LeadsWithin (f : Front) (ps : List Piece) : Type 0 where
+  pub row : Row
+  pub front : Front
+  pub walked : walk step (Some f) ps ≡ Some front
+  pub ended : finish front ≡ Some row
+  pub within : IsWithin row
+
+-- small numbers are kept where nothing is shown, and lead to rows with small numbers, but not to rows of at most three;
+-- a row within both limits leads by fronts that show nothing, while a front of which nothing is known can show
+-- something, and what holds of no front doesn't hold of that of a row within them
+pub record LimitsAreTold : Type 0 where
+  pub small_numbers : KeepsLimits rows HasSmallNumbers HasReadSmall
+  pub unkept_numbers : ¬ KeepsLimits rows HasSmallNumbers (λ f ps. ⊤)
+  pub unkept_count : ¬ KeepsLimits rows (λ row. count row ≤ 3) HasReadSmall
+  pub shows_nothing : ShowsNoLimit rows IsWithin LeadsWithin
+  pub any_front : ¬ ShowsNoLimit rows IsWithin (λ f ps. ⊤)
+  pub no_front : ¬ ShowsNoLimit rows IsWithin (λ f ps. ⊥)
+
+-- all of it
+pub record WorkedReaders : Type 0 where
+  pub laws : LawsAreTold
+  pub order : OrderIsTold
+  pub places : PlacesAreTold
+  pub limits : LimitsAreTold
