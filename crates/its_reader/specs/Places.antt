@@ -1,169 +1,185 @@
--- The places of a text at which the reader can stand, with what it knows there, and where each piece leads.
-use Rattle.std.specs.Prelude.{ℕ, Bool, List, [], ◌∷◌, ◌++◌, length, if◌then◌else◌, not, ◌&&◌, ◌==◌, nat_lt, nat_le, codes, Option, Some, None}
-use Rattle.std.specs.List.{find}
-use Rattle.model.specs.Limits.{rule_limit, place_limit, name_limit}
-use Rattle.model.specs.Terms.{Term, Variable}
-use Rattle.model.specs.Programs.{Name, Symbol, Rule, Program}
-pub use Rattle.text_core.specs.Choices.{when}
-use Rattle.its_reader.specs.Lexing.{Piece, Word, OpenBracket, CloseBracket, Comma, Arrow}
-use Rattle.its_reader.specs.Numbering.{is_same, is_among, place_of, is_com, with_symbol, has_symbol, number_of, arity_of}
+-- Where the code stands: for each place the written fronts that it stands for, with the next piece ahead.
+use Rattle.std.specs.Prelude.{◌≡◌, ◌⊎◌, true, false, List, [], ◌∷◌, length, Option, Some, None, ⊤}
+use Rattle.model.specs.Programs.{Name}
+use Rattle.expr_text.specs.Trees.{Sum}
+use Rattle.expr_text.specs.Fronts as expression
+use Rattle.expr_text.specs.Steps as expression_steps
+use Rattle.expr_text.specs.GuardFronts as guards
+use Rattle.expr_text.specs.GuardFronts.{GuardFront}
+use Rattle.expr_reader.specs.Variables.{names_in}
+use Rattle.expr_reader.specs.Standing as expressions
+use Rattle.expr_reader.specs.GuardStanding.{IsWanting, Reads, IsSettled}
+use Rattle.its_text.specs.Pieces.{Piece, open_bracket}
+use Rattle.its_text.specs.Written.{Section, Start, RightTerm, Marked, BehindMark}
+use Rattle.its_text.specs.Fronts as fronts
+use Rattle.its_text.specs.Fronts.{Front, Ruling, Led, Aimed, Headed, ruling_with}
+use Rattle.its_text.specs.Steps.{guard_named}
+use Rattle.its_text.specs.Shown.{Tokens, other_arity, is_open, ends_expression, bare_differs}
+use Rattle.its_text.specs.Numbering.{with_right, left_names}
+use Rattle.its_text.specs.FrontNames.{symbols_behind, names_with, headed_names}
+use Rattle.its_reader.specs.Tests.{inner_next}
+use Rattle.its_reader.specs.Standing.{KnowsBetween, KnowsRuling, KnowsSource, KnowsLeft, KnowsAimed, KnowsHeaded}
+use Rattle.its_reader.specs.Standing.{IsFreshRule}
+use Rattle.its_reader.specs.declared.draft.Draft.{Draft}
+use Rattle.its_reader.specs.declared.place.Wrap.{Wrap}
+use Rattle.its_reader.specs.declared.place.Wrap.TheVariants as wraps
+use Rattle.its_reader.specs.declared.place.Fence.{Fence}
+use Rattle.its_reader.specs.declared.place.Fence.TheVariants as fences
+use Rattle.its_reader.specs.declared.place.SectionPlace.{SectionPlace}
+use Rattle.its_reader.specs.declared.place.SectionPlace.TheVariants as sections
+use Rattle.its_reader.specs.declared.place.LeftPlace.{LeftPlace}
+use Rattle.its_reader.specs.declared.place.LeftPlace.TheVariants as lefts
+use Rattle.its_reader.specs.declared.place.RightPlace.{RightPlace}
+use Rattle.its_reader.specs.declared.place.RightPlace.TheVariants as rights
+use Rattle.its_reader.specs.declared.place.TailPlace.{TailPlace}
+use Rattle.its_reader.specs.declared.place.TailPlace.TheVariants as tails
+use Rattle.its_reader.specs.declared.place.Place.{Place}
+use Rattle.its_reader.specs.declared.place.Place.TheVariants as places
 
--- what is known of a program: its start symbol's name, its symbols and its rules
-pub record Book : Type 0 where
-  pub start : Name
-  pub symbols : List Symbol
-  pub rules : List Rule
+-- outside rules
+abbrev pub InSections : Tokens → SectionPlace → Draft → Front → Type 0
+InSections ts sections.Between d f = (ss : List Section) × ((f ≡ fronts.Between ss) × KnowsBetween ts ss d)
+InSections ts sections.Opened d f = (ss : List Section) × ((f ≡ fronts.Opened ss) × KnowsBetween ts ss d)
+InSections ts sections.GoalNamed d f = (ss : List Section) × ((f ≡ fronts.GoalNamed ss) × KnowsBetween ts ss d)
+InSections ts sections.GoalSaid d f = (ss : List Section) × ((f ≡ fronts.GoalSaid ss) × KnowsBetween ts ss d)
+InSections ts sections.StartNamed d f = (ss : List Section) × ((f ≡ fronts.StartNamed ss) × KnowsBetween ts ss d)
+InSections ts sections.StartOpened d f = (ss : List Section) × ((f ≡ fronts.StartOpened ss) × KnowsBetween ts ss d)
+InSections ts sections.StartListed d f = (ss : List Section) × ((f ≡ fronts.StartListed ss) × KnowsBetween ts ss d)
+InSections ts sections.StartSaid d f = (ss : List Section) × ((name : Name) × ((f ≡ fronts.StartSaid ss name)
+    × KnowsBetween ts (Start name ∷ ss) d))
+InSections ts sections.StartShut d f = (ss : List Section) × ((name : Name) × ((f ≡ fronts.StartShut ss name)
+    × KnowsBetween ts (Start name ∷ ss) d))
+InSections ts sections.Listing d f = (ss : List Section) × ((names : List Name) × ((f ≡ fronts.Listing ss names)
+    × KnowsBetween ts ss d))
+InSections ts sections.CommentNamed d f = (ss : List Section) × ((f ≡ fronts.CommentNamed ss) × KnowsBetween ts ss d)
 
--- what is known once a rule's left term is read: the source's number, and the variables
-pub record Source : Type 0 where
-  pub book : Book
-  pub number : ℕ
-  pub variables : List Name
+-- a rule's source has been read; behind `:|:` that is known by the bracket that comes next
+abbrev pub IsSource : Option Piece → Ruling → Name → Front → Type 0
+IsSource next r name f = (f ≡ fronts.SourceNamed r name) ⊎ ((h : Headed) × ((f ≡ fronts.WordRead h name)
+    × ((r ≡ ruling_with h (BehindMark None)) × (next ≡ Some open_bracket))))
 
--- the places: what was read last, with what is known
-pub data State : Type 0 where
-  Beginning : Book → State
-  FirstOpen : Book → State
-  StartTerm : Book → State
-  StartOpen : Book → State
-  FunctionSymbols : Book → State
-  StartNamed : Book → State
-  StartClosed : Book → State
-  FirstClosed : Book → State
-  SecondOpen : Book → State
-  Rules : Book → State
-  LeftNamed : Book → Name → State
-  LeftOpen : Book → Name → List Name → State
-  LeftArgument : Book → Name → List Name → State
-  LeftComma : Book → Name → List Name → State
-  LeftClosed : Source → State
-  RuleArrow : Source → State
-  TargetMarked : Source → State
-  TargetOpen : Source → State
-  RightNamed : Source → Name → State
-  RightOpen : Source → Name → List Term → State
-  RightArgument : Source → Name → List Term → State
-  RightComma : Source → Name → List Term → State
-  RightClosed : Book → State
-  Ended : Book → State
+-- from the beginning of a rule to the end of its left term
+abbrev pub InLeft : Tokens → Option Piece → LeftPlace → Draft → Front → Type 0
+InLeft ts next lefts.Ruled d f = (r : Ruling) × ((f ≡ fronts.Ruled r) × (KnowsRuling ts r d × IsFreshRule d.rule))
+InLeft ts next lefts.SourceNamed d f = (r : Ruling) × ((name : Name) × (IsSource next r name f
+    × KnowsSource ts r name [] d))
+InLeft ts next lefts.LeftOpened d f = (r : Ruling) × ((name : Name) × ((f ≡ fronts.LeftOpened r name)
+    × KnowsSource ts r name [] d))
+InLeft ts next lefts.LeftRead d f = (r : Ruling) × ((name : Name) × ((a : Name) × ((earlier : List Name)
+    × ((f ≡ fronts.LeftRead r name a earlier) × KnowsSource ts r name (a ∷ earlier) d))))
+InLeft ts next lefts.LeftParted d f = (r : Ruling) × ((name : Name) × ((a : Name) × ((earlier : List Name)
+    × ((f ≡ fronts.LeftParted r name a earlier) × KnowsSource ts r name (a ∷ earlier) d))))
+InLeft ts next lefts.LeftShut d f = (l : Led) × ((f ≡ fronts.LeftShut l) × (KnowsLeft ts l d
+    × (d.rule.differs ≡ other_arity (symbols_behind l) l.left.name (length l.left.arguments))))
 
--- whether a name is within the limit
-abbrev pub is_short : Name → Bool
-is_short name = nat_le (length name) name_limit
+-- where a right term stands
+abbrev pub wrap_of : Wrap → fronts.Wrap
+wrap_of wraps.InCom = fronts.InCom
+wrap_of wraps.Alone = fronts.Alone
 
--- nothing is known yet
-abbrev pub empty_book : Book
-empty_book = record { start = []; symbols = []; rules = [] }
+-- behind the right term
+abbrev pub behind_wrap : Wrap → Place
+behind_wrap wraps.InCom = places.InRight rights.RightShut
+behind_wrap wraps.Alone = places.InTail tails.Targeted
 
--- a book with the start symbol's name
-abbrev pub with_start : Book → Name → Book
-with_start b start = record { start = start; symbols = b.symbols; rules = b.rules }
+-- the target's name has been read, and no argument
+pub record IsAimed (ts : Tokens) (w : Wrap) (a : Aimed) (d : Draft) : Type 0 where
+  pub wrap_is : a.wrap ≡ wrap_of w
+  pub aimed : KnowsAimed ts a [] d
+  pub names_are : names_in d.rule.variables ≡ left_names a.led.left
+  pub expression : expressions.IsFresh d.rule.expression
 
--- a book with a symbol, where a new one goes to the end
-abbrev pub with_named : Book → Name → ℕ → Book
-with_named b name arity =
-    record { start = b.start; symbols = with_symbol b.symbols (record { name = name; arity = arity }); rules = b.rules }
+-- some of an argument behind others has been read
+pub record IsArguing (ts : Tokens) (w : Wrap) (a : Aimed) (arguments : List Sum) (e : expression.Front)
+    (d : Draft) : Type 0 where
+  pub wrap_is : a.wrap ≡ wrap_of w
+  pub aimed : KnowsAimed ts a arguments d
+  pub expression : expressions.Stands (names_with a.led arguments) e (names_in d.rule.variables) d.rule.expression
 
--- whether a name can be the next left argument
-abbrev pub can_add_left : List Name → Name → Bool
-can_add_left variables a = is_short a && nat_lt (length variables) place_limit && not (is_among a variables)
+-- an argument has ended before the next piece
+pub record IsArgued (ts : Tokens) (next : Option Piece) (w : Wrap) (a : Aimed) (arguments : List Sum)
+    (e : expression.Front) (s : Sum) (d : Draft) : Type 0 where
+  pub wrap_is : a.wrap ≡ wrap_of w
+  pub finish_is : expression_steps.finish e ≡ Some s
+  pub ends : ends_expression e next ≡ true
+  pub aimed : KnowsAimed ts a (s ∷ arguments) d
+  pub names_are : names_in d.rule.variables ≡ names_with a.led (s ∷ arguments)
+  pub expression : expressions.IsFresh d.rule.expression
 
--- the left term ends: its symbol has as many places as there are variables
-abbrev pub close_left : Book → Name → List Name → Option Source
-close_left b name variables =
-    let c : Book = with_named b name (length variables) in
-    when (arity_of c.symbols name == length variables)
-    (record { book = c; number = number_of c.symbols name; variables = variables })
+-- the target has been read, and nothing of a guard
+pub record IsHeaded (ts : Tokens) (h : Headed) (d : Draft) : Type 0 where
+  pub headed : KnowsHeaded ts h d
+  pub names_are : names_in d.rule.variables ≡ headed_names h
+  pub expression : expressions.IsFresh d.rule.expression
+  pub guard : (before : List Name) → IsWanting before guards.no_atoms before d.rule.guard
 
--- whether a name can be a rule's target
-abbrev pub can_be_target : Name → Bool
-can_be_target name = is_short name && not (is_com name)
+-- from the arrow to the end of the target
+abbrev pub InRight : Tokens → Option Piece → RightPlace → Draft → Front → Type 0
+InRight ts next rights.Arrowed d f = (l : Led) × ((f ≡ fronts.Arrowed l) × KnowsLeft ts l d)
+InRight ts next rights.ComNamed d f = (l : Led) × ((f ≡ fronts.ComNamed l) × KnowsLeft ts l d)
+InRight ts next rights.ComOpened d f = (l : Led) × ((f ≡ fronts.ComOpened l) × KnowsLeft ts l d)
+InRight ts next (rights.TargetNamed w) d f = (a : Aimed) × ((f ≡ fronts.TargetNamed a) × IsAimed ts w a d)
+InRight ts next (rights.RightOpened w) d f = (a : Aimed) × ((f ≡ fronts.RightOpened a) × IsAimed ts w a d)
+InRight ts next (rights.Arguing w) d f = (a : Aimed) × ((arguments : List Sum) × ((e : expression.Front)
+    × ((f ≡ fronts.Arguing a arguments e) × IsArguing ts w a arguments e d)))
+InRight ts next (rights.Argued w) d f = ⊥
+InRight ts next rights.RightShut d f =
+    (l : Led) × ((t : RightTerm) × ((f ≡ fronts.RightShut l t) × (IsHeaded ts (record { led = l; target = Marked t }) d
+    × (d.rule.differs ≡ other_arity (with_right (symbols_behind l) t) t.name (length t.arguments)))))
 
--- whether a name can be the next right argument
-abbrev pub can_add_right : Source → List Term → Name → Bool
-can_add_right s updates a = is_short a && nat_lt (length updates) place_limit && is_among a s.variables
+-- some of a guard has been read; behind `:|:` a name begins one where no bracket comes next
+abbrev pub IsGuard : Option Piece → Fence → Headed → GuardFront → Front → Type 0
+IsGuard next fences.Mark h g f = (f ≡ fronts.MarkGuarding h g) ⊎ ((name : Name) × ((f ≡ fronts.WordRead h name)
+    × ((g ≡ guard_named name) × (is_open next ≡ false))))
+IsGuard next fences.Square h g f = f ≡ fronts.SquareGuarding h g
 
--- the updates with the variable of a name
-abbrev pub with_update : Source → List Term → Name → List Term
-with_update s updates a = updates ++ Variable (place_of a s.variables) ∷ []
+-- behind the target, before what ends has ended
+abbrev pub InTail : Tokens → Option Piece → TailPlace → Draft → Front → Type 0
+InTail ts next tails.Targeted d f = (h : Headed) × ((f ≡ fronts.Targeted h) × (IsHeaded ts h d
+    × (d.rule.differs ≡ bare_differs h.led h.target)))
+InTail ts next tails.GuardMarked d f = (h : Headed) × ((f ≡ fronts.GuardMarked h) × IsHeaded ts h d)
+InTail ts next tails.SquareOpened d f = (h : Headed) × ((f ≡ fronts.SquareOpened h) × IsHeaded ts h d)
+InTail ts next (tails.Guarding fence) d f =
+    (h : Headed) × ((g : GuardFront) × (IsGuard next fence h g f × (KnowsHeaded ts h d
+    × (expressions.IsFresh d.rule.expression
+    × Reads (inner_next next) (headed_names h) g (names_in d.rule.variables) d.rule.guard))))
 
--- the right term ends, and the rule is known: its symbol has as many places as there are updates
-abbrev pub close_right : Source → Name → List Term → Option Book
-close_right s name updates =
-    let c : Book = with_named s.book name (length updates) in
-    let rule : Rule = record {
-      source = s.number;
-      target = number_of c.symbols name;
-      left = length s.variables;
-      free = 0;
-      names = s.variables;
-      updates = updates;
-      guard = [];
-    } in
-    when (arity_of c.symbols name == length updates)
-    (record { start = c.start; symbols = c.symbols; rules = c.rules ++ rule ∷ [] })
+-- the same once what ends has ended
+abbrev pub TailSettled : Tokens → Option Piece → TailPlace → Draft → Front → Type 0
+TailSettled ts next tails.Targeted d f = InTail ts next tails.Targeted d f
+TailSettled ts next tails.GuardMarked d f = InTail ts next tails.GuardMarked d f
+TailSettled ts next tails.SquareOpened d f = InTail ts next tails.SquareOpened d f
+TailSettled ts next (tails.Guarding fence) d f =
+    (h : Headed) × ((g : GuardFront) × (IsGuard next fence h g f × (KnowsHeaded ts h d
+    × (expressions.IsFresh d.rule.expression
+    × IsSettled (inner_next next) (headed_names h) g (names_in d.rule.variables) d.rule.guard))))
 
--- whether a rule can begin with a name
-abbrev pub can_begin_rule : Book → Name → Bool
-can_begin_rule b name = is_short name && nat_lt (length b.rules) rule_limit
+-- an argument that doesn't end before the next piece, and one that has ended
+abbrev pub RightSettled : Tokens → Option Piece → RightPlace → Draft → Front → Type 0
+RightSettled ts next (rights.Arguing w) d f =
+    (a : Aimed) × ((arguments : List Sum) × ((e : expression.Front) × ((f ≡ fronts.Arguing a arguments e)
+    × (IsArguing ts w a arguments e d × (ends_expression e next ≡ true → expression_steps.finish e ≡ None)))))
+RightSettled ts next (rights.Argued w) d f =
+    (a : Aimed) × ((arguments : List Sum) × ((e : expression.Front) × ((s : Sum)
+    × ((f ≡ fronts.Arguing a arguments e) × IsArgued ts next w a arguments e s d))))
+RightSettled ts next place d f = InRight ts next place d f
 
--- a place reached, where there is one
-abbrev pub reached : {X : Type 0} → (X → State) → Option X → Option State
-reached place None = None
-reached place (Some x) = Some (place x)
+-- the code stands for a written front, and once what ends has ended
+abbrev pub StandsAt : Tokens → Option Piece → Place → Draft → Front → Type 0
+StandsAt ts next (places.InSections place) d f = InSections ts place d f
+StandsAt ts next (places.InLeft place) d f = InLeft ts next place d f
+StandsAt ts next (places.InRight place) d f = InRight ts next place d f
+StandsAt ts next (places.InTail place) d f = InTail ts next place d f
 
--- the place that a piece leads to, where one can stand
-abbrev pub step : State → Piece → Option State
-step (Beginning b) OpenBracket = Some (FirstOpen b)
-step (FirstOpen b) (Word name) = when (is_same name (codes "STARTTERM")) (StartTerm b)
-step (StartTerm b) OpenBracket = Some (StartOpen b)
-step (StartOpen b) (Word name) = when (is_same name (codes "FUNCTIONSYMBOLS")) (FunctionSymbols b)
-step (FunctionSymbols b) (Word name) = when (is_short name) (StartNamed (with_start b name))
-step (StartNamed b) CloseBracket = Some (StartClosed b)
-step (StartClosed b) CloseBracket = Some (FirstClosed b)
-step (FirstClosed b) OpenBracket = Some (SecondOpen b)
-step (SecondOpen b) (Word name) = when (is_same name (codes "RULES")) (Rules b)
-step (Rules b) (Word name) = when (can_begin_rule b name) (LeftNamed b name)
-step (Rules b) CloseBracket = Some (Ended b)
-step (LeftNamed b name) OpenBracket = Some (LeftOpen b name [])
-step (LeftOpen b name variables) (Word a) = when (can_add_left variables a) (LeftArgument b name (variables ++ a ∷ []))
-step (LeftOpen b name variables) CloseBracket = reached LeftClosed (close_left b name variables)
-step (LeftArgument b name variables) Comma = Some (LeftComma b name variables)
-step (LeftArgument b name variables) CloseBracket = reached LeftClosed (close_left b name variables)
-step (LeftComma b name variables) (Word a) = when (can_add_left variables a) (LeftArgument b name (variables ++ a ∷ []))
-step (LeftClosed s) Arrow = Some (RuleArrow s)
-step (RuleArrow s) (Word name) = when (is_same name (codes "Com_1")) (TargetMarked s)
-step (TargetMarked s) OpenBracket = Some (TargetOpen s)
-step (TargetOpen s) (Word name) = when (can_be_target name) (RightNamed s name)
-step (RightNamed s name) OpenBracket = Some (RightOpen s name [])
-step (RightOpen s name updates) (Word a) =
-    when (can_add_right s updates a) (RightArgument s name (with_update s updates a))
-step (RightOpen s name updates) CloseBracket = reached RightClosed (close_right s name updates)
-step (RightArgument s name updates) Comma = Some (RightComma s name updates)
-step (RightArgument s name updates) CloseBracket = reached RightClosed (close_right s name updates)
-step (RightComma s name updates) (Word a) =
-    when (can_add_right s updates a) (RightArgument s name (with_update s updates a))
-step (RightClosed b) CloseBracket = Some (Rules b)
-step s piece = None
+abbrev pub SettledAt : Tokens → Option Piece → Place → Draft → Front → Type 0
+SettledAt ts next (places.InSections place) d f = InSections ts place d f
+SettledAt ts next (places.InLeft place) d f = InLeft ts next place d f
+SettledAt ts next (places.InRight place) d f = RightSettled ts next place d f
+SettledAt ts next (places.InTail place) d f = TailSettled ts next place d f
 
--- the program of a book, whose start arguments have the names of a rule's variables
-abbrev pub program_of_book : Book → Option Rule → Option Program
-program_of_book b None = None
-program_of_book b (Some first) =
-    Some (record {
-      symbols = b.symbols;
-      start = number_of b.symbols b.start;
-      start_names = first.names;
-      rules = b.rules;
-    })
-
--- the program of a book: the first rule that leaves the start symbol names the start arguments
-abbrev pub finished : Book → Option Program
-finished b =
-    if has_symbol b.symbols b.start then program_of_book b (find (λ r. r.source == number_of b.symbols b.start) b.rules)
-    else None
-
--- the program that a text ends with
-abbrev pub finish : State → Option Program
-finish (Ended b) = finished b
-finish s = None
+-- a piece leads the code where it leads in what is written
+abbrev pub LeadsTo : Tokens → Option Piece → Option Front → Option Place → Draft → Type 0
+LeadsTo ts next None None d = ⊤
+LeadsTo ts next None (Some place) d = ⊥
+LeadsTo ts next (Some g) None d = ⊥
+LeadsTo ts next (Some g) (Some place) d = StandsAt ts next place d g

@@ -6,12 +6,69 @@ ghost use Rattle.its_reader.specs.declared.error.ReadError.TheVariants.{Memory};
 use std::alloc::{AllocError, AllocFailed};
 use thiserror::Error;
 
+/// What there are too many of, or what is too long or too high.
+#[derive(Clone, Copy, Debug, PartialEq, Eq)]
+pub enum LimitKind {
+    /// More than 1,000 rules.
+    Rules,
+    /// More than 32 arguments.
+    Arity,
+    /// More than 64 variables in a rule.
+    Variables,
+    /// More than 64 atoms in a guard.
+    Atoms,
+    /// A name of more than 256 bytes.
+    Name,
+    /// An expression of more than 1,024 tokens.
+    Tokens,
+    /// An expression that expands to more than 64 monomials.
+    Terms,
+    /// An expression of a degree over 8.
+    Degree,
+}
+
 /// Why no program was read.
 #[derive(Debug, PartialEq, Eq, Drop, Error)]
 pub enum ReadError {
-    /// The bytes spell no program within the limits.
-    #[error("form")]
-    Form,
+    /// A byte over 127 outside comments; that byte.
+    #[error("not ascii at {at}")]
+    NotAscii { at: u64 },
+    /// A token that can't follow, or bytes that are no token: the first byte; where the text ends too early, its
+    /// length.
+    #[error("syntax at {at}")]
+    Syntax { at: u64 },
+    /// There is no STARTTERM or no RULES, and nothing else stands against the text: its length.
+    #[error("missing section at {at}")]
+    MissingSection { at: u64 },
+    /// A second section of its kind: its opening bracket.
+    #[error("repeated section at {at}")]
+    RepeatedSection { at: u64 },
+    /// `Com_` and other digits than the one digit 1 before a bracket: its first byte.
+    #[error("many targets at {at}")]
+    ManyTargets { at: u64 },
+    /// A left argument that isn't a single name: its first byte.
+    #[error("left not variable at {at}")]
+    LeftNotVariable { at: u64 },
+    /// A left argument that stands there already: the first byte of the second one.
+    #[error("left repeated at {at}")]
+    LeftRepeated { at: u64 },
+    /// Another number of arguments than at the symbol's first occurrence: the bracket that closes the term.
+    #[error("arity differs at {at}")]
+    ArityDiffers { at: u64 },
+    /// A literal over 2^63-1: its first byte; an expanded coefficient over 2^63-1: the last byte of the argument or
+    /// the atom.
+    #[error("number too large at {at}")]
+    NumberTooLarge { at: u64 },
+    /// A limit is passed: the first byte of what is one too many, or of the name; of an expression that expands to too
+    /// much, the last byte of the argument or the atom.
+    #[error("limit at {at}")]
+    Limit { kind: LimitKind, at: u64 },
+    /// No rule leaves the start symbol, and nothing else stands against the text: the first byte of that symbol.
+    #[error("start unknown at {at}")]
+    StartUnknown { at: u64 },
+    /// `||`: its first byte.
+    #[error("disjunction at {at}")]
+    Disjunction { at: u64 },
     /// Memory ran out.
     #[error("out of memory")]
     Memory,

@@ -1,60 +1,113 @@
-// The program that is known at a text's end.
+// From what is known at the end of a text to the program.
 
-ghost use Rattle.std.specs.Prelude.{◌≡◌, map, MatchOption, ◌==◌, Some, None};
+ghost use Rattle.std.specs.Prelude.{◌≡◌, map, take, MatchOption, IfOk, Some, None};
 ghost use Rattle.std.specs.List.{find};
-ghost use Rattle.its_model.specs.Views.{rule_of};
-ghost use Rattle.its_reader.specs.Places.{finish as finish_of, finished};
-ghost use Rattle.its_reader.specs.Sizes.{IsFew, IsBounded};
-ghost use Rattle.its_reader.specs.Drafts.{state_of, book_of, Gives};
+ghost use Rattle.its_model.specs.Views.{name_of, rule_of, symbol_of};
+ghost use Rattle.expr_reader.specs.Variables.{names_in};
+ghost use Rattle.its_text.specs.Kinds as kinds;
+ghost use Rattle.its_reader.specs.Faults.{fault_in};
+ghost use Rattle.its_reader.specs.Turning.{Finishes};
+ghost use Rattle.its_reader.specs.Finishing.{tabled, leaves, Makes};
 
-use crate::copies::copied_names;
-use crate::draft::Draft;
+use crate::draft::{Draft, Start};
 use crate::error::ReadError;
-use crate::place::Place;
-use its_model::{Program, Rule};
-use std::alloc::Global;
+use crate::fault::Kind;
+use crate::rules::name_from;
+use crate::symbols::Symbols;
+use its_model::{Name, Program, Rule, Symbol};
+use std::alloc::{AllocError, Global};
 
-// The first rule that leaves the symbol with a number.
-fn first_from(rules: &[Rule], number: u32) -> Option<&Rule>
-    ensures { MatchOption result (find (λ r. r.source == number) (map rule_of rules.now) ≡ None)
-        (λ rule. find (λ r. r.source == number) (map rule_of rules.now) ≡ Some (rule_of rule.now)) }
+// The refusal where a section is missing from a text of so many bytes.
+fn missing(len: usize) -> ReadError
+    ensures { fault_in result ≡ Some (record { kind = kinds.MissingSection; at = len }) }
+{
+    Kind::MissingSection.at(len).error()
+}
+
+// The first rule that leaves the symbol with a name.
+fn first_leaving<'r>(rules: &'r [Rule], symbols: &Symbols<'_>, name: &[u8]) -> Option<&'r Rule>
+    ensures { MatchOption result (find (leaves (names_in symbols.now.names) name.now) (map rule_of rules.now) ≡ None)
+        (λ rule. find (leaves (names_in symbols.now.names) name.now) (map rule_of rules.now)
+        ≡ Some (rule_of rule.now)) }
 {
     for rule in rules {
-        if rule.source == number {
+        if symbols.is_named(rule.source, name) {
             return Some(rule);
         }
     }
     None
 }
 
-impl Draft {
-    /// The program. `Form` where the text isn't at its end, or no rule leaves the start symbol.
-    pub fn finish(self, alloc: Global, place: Place) -> Result<Program, ReadError>
-        requires { IsBounded (state_of place self) }
-        ensures { Gives (finish_of (state_of place self)) result }
+// The same names once more.
+fn copied_names(alloc: Global, names: &[Name]) -> Result<Vec<Name>, AllocError>
+    ensures { IfOk result (λ copies. map name_of copies.items ≡ map name_of names.now) }
+{
+    let mut copies = Vec::new(alloc);
+    for name in names {
+        copies.push(name_from(alloc, &name.bytes)?)?;
+    }
+    Ok(copies)
+}
+
+// The left names of a rule once more.
+fn left_names(alloc: Global, rule: &Rule) -> Result<Vec<Name>, AllocError>
+    ensures { IfOk result (λ names. map name_of names.items ≡ take rule.now.left (map name_of rule.now.names.items)) }
+{
+    let mut names = copied_names(alloc, &rule.names)?;
+    names.truncate(rule.left as usize);
+    Ok(names)
+}
+
+// The symbols, each with the number of its places.
+fn symbols_from(alloc: Global, symbols: &Symbols<'_>) -> Result<Vec<Symbol>, AllocError>
+    ensures { IfOk result (λ made. map symbol_of made.items
+        ≡ tabled (names_in symbols.now.names) symbols.now.arities.items) }
+{
+    let mut made = Vec::new(alloc);
+    while let Some(listed) = symbols.get(made.len()) {
+        let name = name_from(alloc, listed.name)?;
+        made.push(Symbol {
+            name,
+            arity: listed.arity,
+        })?;
+    }
+    Ok(made)
+}
+
+impl<'a> Draft<'a> {
+    /// The program of a text of so many bytes, where nothing stands against it but what the whole text shows.
+    pub fn finish(self, alloc: Global, len: usize) -> Result<Program, ReadError>
+        ensures { Finishes self.entry len result }
     {
-        match place {
-            Place::Ended => self.into_program(alloc),
-            _ => Err(ReadError::Form),
+        match self.sections.start {
+            Some(start) => {
+                if self.sections.rules {
+                    self.into_program(alloc, start)
+                } else {
+                    Err(missing(len))
+                }
+            }
+            None => Err(missing(len)),
         }
     }
 
-    fn into_program(self, alloc: Global) -> Result<Program, ReadError>
-        requires { IsFew (book_of self) 0 0 }
-        ensures { Gives (finished (book_of self)) result }
+    // The program, where its start symbol is the source of a rule.
+    fn into_program(self, alloc: Global, start: Start<'a>) -> Result<Program, ReadError>
+        ensures { Makes start.entry.name.now start.entry.at self.entry result }
     {
-        let Some(start) = self.symbols.number_of(&self.start) else {
-            return Err(ReadError::Form);
-        };
-        let start_names = match first_from(&self.rules, start) {
-            Some(first) => copied_names(alloc, &first.names)?,
-            None => return Err(ReadError::Form),
-        };
-        Ok(Program {
-            symbols: self.symbols.into_list(alloc)?,
-            start,
-            start_names,
-            rules: self.rules,
-        })
+        match first_leaving(&self.rules, &self.symbols, start.name) {
+            Some(first) => {
+                let number = first.source;
+                let start_names = left_names(alloc, first)?;
+                let symbols = symbols_from(alloc, &self.symbols)?;
+                Ok(Program {
+                    symbols,
+                    start: number,
+                    start_names,
+                    rules: self.rules,
+                })
+            }
+            None => Err(Kind::StartUnknown.at(start.at).error()),
+        }
     }
 }

@@ -1,42 +1,238 @@
 // From the bytes of a text to its program.
 
-ghost use Rattle.std.specs.Prelude.{IfOk, IsErrOf};
-ghost use Rattle.model.specs.Programs as plain;
+ghost use Rattle.std.specs.Prelude.{◌≡◌, ◌-◌, Some, None, IfOk};
 ghost use Rattle.its_model.specs.Valid.{IsValid};
 ghost use Rattle.its_model.specs.Views.{program_of};
-ghost use Rattle.its_reader.specs.Spelling.{SpellsWithin, OneProgram};
+ghost use Rattle.its_text.specs.Answers.{verdict};
+ghost use Rattle.its_reader.specs.Faults.{fault_of, maybe_fault, Says};
+ghost use Rattle.its_reader.specs.Views.{piece_of as plain_of, maybe_of, token_of};
+ghost use Rattle.its_reader.specs.Turning.{Judges, Advances, Turns, Closes, turn_of, turned, behind_token};
+ghost use Rattle.its_reader.specs.Turning.{is_final as plain_final, least_of};
 
+use crate::ahead::Ahead;
 use crate::draft::Draft;
 use crate::error::ReadError;
-use crate::lexer::next;
-use crate::place::Place;
+use crate::fault::{Fault, Kind};
+use crate::lexer::Lexer;
+use crate::off::off;
+use crate::piece::{Piece, Token, piece_of};
+use crate::place::{Place, SectionPlace};
+use expr_reader::Piece as Inner;
 use its_model::Program;
-use std::alloc::Global;
+use std::alloc::{AllocError, Global};
 
-/// Reads the program that a text spells.
-///
-/// A text has the form `(STARTTERM (FUNCTIONSYMBOLS start))(RULES rules)`. A rule `l(A, B) -> Com_1(m(B))` leads from
-/// the symbol `l` with the variables `A` and `B` to the symbol `m`, whose arguments are left ones. The text is that of an
-/// integer transition system as the KoAT tools read it, without guards and expressions.
-///
-/// `Form` comes exactly where the bytes spell no program within the limits: 1,000 rules, 32 places a symbol, and 256
-/// bytes a name. `Memory` comes where memory ran out. What is read is a valid program.
-pub fn read(alloc: Global, bytes: &[u8]) -> Result<Program, ReadError>
-    ensures ok { IfOk result (λ p. SpellsWithin bytes.now (program_of p)) }
-    ensures valid { IfOk result (λ p. IsValid (program_of p)) }
-    ensures form { IsErrOf result ReadError.Form → (p : plain.Program) → ¬ SpellsWithin bytes.now p }
-{
-    let mut draft = Draft::new(alloc);
-    let mut place = Place::Beginning;
-    let mut rest = bytes;
-    while let Some((lexeme, behind)) = next(rest) {
-        place = draft.advance(alloc, place, lexeme)?;
-        rest = behind;
-    }
-    draft.finish(alloc, place)
+/// Where the reader stands, the last byte that was read, and the refusal so far.
+#[derive(Clone, Copy)]
+pub struct Stand {
+    pub place: Place,
+    pub last: usize,
+    pub best: Option<Fault>,
 }
 
-/// A text spells one program at most.
-pub fn one_program()
-    ensures { OneProgram }
-{}
+/// What a token leads to: where the reader stands behind it, or the first refusal of the text.
+#[derive(Clone, Copy)]
+pub enum Turn {
+    On(Stand),
+    Over(Fault),
+}
+
+// The last byte of a token.
+fn last_of(token: Token<'_>) -> usize
+    ensures { result ≡ (token_of token.entry).upto - 1 }
+{
+    token.upto.saturating_sub(1)
+}
+
+// No refusal behind a token comes before one of this number at the token's last byte.
+fn least_behind(piece: Piece<'_>) -> u8
+    ensures { result ≡ least_of (plain_of piece.entry) }
+{
+    match piece {
+        Piece::In(Inner::Digits(_)) => 9,
+        _ => 8,
+    }
+}
+
+// Whether a refusal so far is the answer behind a token that could follow: none that is still to come is before it.
+fn is_final(fault: Fault, token: Token<'_>) -> bool
+    ensures { result ≡ plain_final (fault_of fault) (token_of token.entry) }
+{
+    let last = last_of(token);
+    let least = least_behind(token.piece);
+    fault.at < last || (fault.at == last && fault.kind.number() <= least)
+}
+
+// What a token leads to that can follow.
+fn goes_on(best: Option<Fault>, place: Place, token: Token<'_>) -> Turn
+    ensures { turn_of result ≡ behind_token (maybe_fault best) place (token_of token.entry) }
+{
+    match best {
+        Some(fault) => goes_on_or_ends(fault, place, token),
+        None => Turn::On(Stand {
+            place,
+            last: last_of(token),
+            best: None,
+        }),
+    }
+}
+
+fn goes_on_or_ends(fault: Fault, place: Place, token: Token<'_>) -> Turn
+    ensures { turn_of result ≡ behind_token (Some (fault_of fault)) place (token_of token.entry) }
+{
+    if is_final(fault, token) {
+        Turn::Over(fault)
+    } else {
+        Turn::On(Stand {
+            place,
+            last: last_of(token),
+            best: Some(fault),
+        })
+    }
+}
+
+// The text breaks off at a token.
+fn breaks_off(place: Place, best: Option<Fault>, token: Token<'_>) -> Turn
+    ensures { turn_of result ≡ turned place (maybe_fault best) (token_of token.entry) None }
+{
+    let fault = off(place, token.piece).at(token.at);
+    Turn::Over(Fault::first_of(best, fault))
+}
+
+// What a token leads to, by the place that it leads to.
+fn turned_by(place: Place, best: Option<Fault>, token: Token<'_>, reached: Option<Place>) -> Turn
+    ensures { turn_of result ≡ turned place (maybe_fault best) (token_of token.entry) reached }
+{
+    match reached {
+        Some(reached) => goes_on(best, reached, token),
+        None => breaks_off(place, best, token),
+    }
+}
+
+impl<'a> Draft<'a> {
+    // What ends before the next token has ended, and the first of a refusal so far and those that stand here.
+    fn judge(&mut self, alloc: Global, stand: Stand, ahead: Ahead<'a>) -> Result<Stand, AllocError>
+        ensures { IfOk result (λ now. Judges stand.place stand.last (maybe_fault stand.best) self.old
+            (maybe_of ahead.entry.next) (maybe_of ahead.entry.behind) ahead.entry.at now.place
+            (maybe_fault now.best) self.new) }
+    {
+        let settled = self.settle(alloc, stand.place, ahead.next)?;
+        let ended = Fault::noted_if(stand.best, settled.refusal, stand.last);
+        let best = self.noted(ended, settled.place, ahead);
+        Ok(Stand {
+            place: settled.place,
+            last: stand.last,
+            best,
+        })
+    }
+
+    // The place that the next token leads to. None where it can't follow.
+    fn advance(
+        &mut self,
+        alloc: Global,
+        place: Place,
+        token: Token<'a>,
+        behind: Option<Piece<'a>>,
+    ) -> Result<Option<Place>, AllocError>
+        ensures { IfOk result (λ reached. Advances place self.old (token_of token.entry)
+            (maybe_of behind.entry) reached self.new) }
+    {
+        match place {
+            Place::InSections(section) => {
+                Ok(self.advance_in_sections(alloc, section, token.piece, token.at))
+            }
+            Place::InLeft(left) => {
+                let led = self.advance_in_left(left, token.piece)?;
+                Ok(led)
+            }
+            Place::InRight(right) => {
+                let aimed = self.advance_in_right(alloc, right, token.piece)?;
+                Ok(aimed)
+            }
+            Place::InTail(tail) => {
+                let guarded = self.advance_in_tail(alloc, tail, token.piece, behind)?;
+                Ok(guarded)
+            }
+        }
+    }
+
+    // One token is read.
+    fn take(
+        &mut self,
+        alloc: Global,
+        stand: Stand,
+        token: Token<'a>,
+        behind: Option<Piece<'a>>,
+    ) -> Result<Turn, AllocError>
+        ensures { IfOk result (λ turn. Turns stand.place stand.last (maybe_fault stand.best) self.old
+            (token_of token.entry) (maybe_of behind.entry) (turn_of turn) self.new) }
+    {
+        let ahead = Ahead {
+            next: Some(token.piece),
+            behind,
+            at: token.at,
+        };
+        let judged = self.judge(alloc, stand, ahead)?;
+        let reached = self.advance(alloc, judged.place, token, behind)?;
+        Ok(turned_by(judged.place, judged.best, token, reached))
+    }
+
+    // The end of a text of so many bytes.
+    fn end(mut self, alloc: Global, stand: Stand, len: usize) -> Result<Program, ReadError>
+        ensures { Closes stand.place stand.last (maybe_fault stand.best) self.entry len result }
+    {
+        let ahead = Ahead {
+            next: None,
+            behind: None,
+            at: len,
+        };
+        let judged = self.judge(alloc, stand, ahead)?;
+        if !judged.place.is_between() {
+            return Err(Fault::first_of(judged.best, Kind::Syntax.at(len)).error());
+        }
+        match judged.best {
+            Some(fault) => Err(fault.error()),
+            None => self.finish(alloc, len),
+        }
+    }
+}
+
+/// Reads the program that a text spells: `Ok` exactly where the bytes spell a program within the limits, and then with
+/// that program by numbers, which is valid.
+///
+/// # Errors
+///
+/// What stands first against the text, with the position of a byte, counted from 0; of two at one byte the one that
+/// `ReadError` lists first. Each variant tells when it comes and at which byte. `Memory` where memory ran out; nothing
+/// is said of the text then.
+pub fn read(alloc: Global, bytes: &[u8]) -> Result<Program, ReadError>
+    ensures says { Says (verdict bytes.now) result }
+    ensures valid { IfOk result (λ program. IsValid (program_of program)) }
+{
+    read_tokens(alloc, bytes)
+}
+
+// Reads the tokens of a text, one after the other.
+fn read_tokens(alloc: Global, bytes: &[u8]) -> Result<Program, ReadError>
+    ensures { Says (verdict bytes.now) result }
+{
+    let mut draft = Draft::new(alloc);
+    let mut lexer = Lexer::new(bytes);
+    let mut stand = Stand {
+        place: Place::InSections(SectionPlace::Between),
+        last: 0,
+        best: None,
+    };
+    let mut next = lexer.next();
+    let mut behind = lexer.next();
+    while let Some(token) = next {
+        let turn = draft.take(alloc, stand, token, piece_of(behind))?;
+        match turn {
+            Turn::On(reached) => stand = reached,
+            Turn::Over(fault) => return Err(fault.error()),
+        }
+        let more = lexer.next();
+        next = behind;
+        behind = more;
+    }
+    draft.end(alloc, stand, bytes.len())
+}

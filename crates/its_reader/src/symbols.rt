@@ -1,91 +1,120 @@
 // The symbols of a text, by name and by number.
 
-ghost use Rattle.std.specs.Prelude.{◌≡◌, ◌==◌, ◌<◌, ◌^◌, ◌∷◌, ◌++◌, [], length, IfOk, IsErrOf, IsTrue, IsFalse, MatchOption, map};
-ghost use Rattle.its_model.specs.Views.{name_of, symbol_of};
-ghost use Rattle.its_reader.specs.Numbering.{with_symbol, number_of, arity_of, has_symbol};
-ghost use Rattle.its_reader.specs.Tables.{symbols_in, as_symbol, Knows};
+ghost use Rattle.std.specs.Prelude.{◌≡◌, ◌∷◌, ◌++◌, [], length, if◌then◌else◌, nat_lt, IfOk, OnOk, slice_index};
+ghost use Rattle.std.specs.Prelude.{slice_get};
+ghost use Rattle.its_reader.specs.Finishing.{is_named, tabled, symbol_in, with_arity};
+ghost use Rattle.text_core.specs.Names.{position_of};
+ghost use Rattle.expr_text.specs.Terms.{with_name};
+ghost use Rattle.expr_reader.specs.Variables.{names_in};
 
 use crate::error::ReadError;
-use indexmap::IndexMap;
-use its_model::{Name, Symbol};
+use expr_reader::Variables;
 use std::alloc::{AllocError, Global};
 
 /// The symbols so far, each with the number of its places, in order of first occurrence.
 #[derive(Drop)]
-pub struct Symbols {
-    pub table: IndexMap<Name, u32>,
+pub struct Symbols<'a> {
+    pub names: Variables<'a>,
+    pub arities: Vec<u32>,
 }
 
-impl Symbols {
+/// A symbol's number, and the number of its places.
+#[derive(Clone, Copy)]
+pub struct Known {
+    pub number: usize,
+    pub arity: u32,
+}
+
+/// A symbol's name, and the number of its places.
+#[derive(Clone, Copy)]
+pub struct Listed<'a> {
+    pub name: &'a [u8],
+    pub arity: u32,
+}
+
+/// A count as a number of 32 bits; no memory holds more.
+pub fn narrow(count: usize) -> Result<u32, AllocError>
+    ensures { IfOk result (λ n. n ≡ count) }
+{
+    u32::try_from(count).map_err(|_| AllocError)
+}
+
+impl<'a> Symbols<'a> {
     /// No symbols.
-    pub fn new(alloc: Global) -> Symbols
-        ensures { symbols_in result ≡ [] }
+    pub fn new(alloc: Global) -> Symbols<'a>
+        ensures names { names_in result.names ≡ [] }
+        ensures arities { result.arities.items ≡ [] }
     {
         Symbols {
-            table: IndexMap::new(alloc),
+            names: Variables::new(alloc),
+            arities: Vec::new(alloc),
         }
     }
 
-    /// The number of the symbol that a term has. A new symbol goes to the end.
-    pub fn number_term(&mut self, name: Name, arity: usize) -> Result<u32, ReadError>
-        requires few { length (symbols_in self.old) < 2 ^ 32 }
-        requires small { arity < 2 ^ 32 }
-        ensures symbols { IfOk result (λ _. symbols_in self.new ≡ with_symbol (symbols_in self.old) (as_symbol name arity)) }
-        ensures number { IfOk result (λ number. number ≡ number_of (symbols_in self.new) (name_of name)) }
-        ensures arity { IfOk result (λ _. IsTrue (arity_of (symbols_in self.new) (name_of name) == arity)) }
-        ensures form { IsErrOf result ReadError.Form → IsFalse (arity_of (with_symbol (symbols_in self.old) (as_symbol name arity)) (name_of name) == arity) }
+    /// The symbol that a term has. A new symbol goes to the end, with so many places.
+    pub fn of_term(&mut self, name: &'a [u8], arity: u32) -> Result<Known, AllocError>
+        ensures number { IfOk result (λ known. known.number ≡ position_of name.now (names_in self.old.names)) }
+        ensures names { OnOk result (names_in self.new.names ≡ with_name (names_in self.old.names) name.now) }
+        ensures arities { OnOk result (self.new.arities.items
+            ≡ (if nat_lt (position_of name.now (names_in self.old.names))
+            (length self.old.arities.items) then self.old.arities.items else self.old.arities.items ++ arity ∷ [])) }
+        ensures arity { IfOk result (λ known. known.arity ≡ slice_index self.new.arities.items known.number) }
     {
-        let places = arity as u32;
-        match self.known(&name) {
-            Some((number, known)) => {
-                if known == places {
-                    Ok(number as u32)
-                } else {
-                    Err(ReadError::Form)
-                }
-            }
-            None => Ok(self.add(name, places)? as u32),
+        let number = self.names.number(name)?;
+        self.keep(number, arity)?;
+        match self.arities.get(number) {
+            Some(arity) => Ok(Known {
+                number,
+                arity: *arity,
+            }),
+            None => Err(AllocError),
         }
     }
 
-    /// The number of the symbol with a name.
-    pub fn number_of(&self, name: &Name) -> Option<u32>
-        requires { length (symbols_in self.now) < 2 ^ 32 }
-        ensures { MatchOption result (IsFalse (has_symbol (symbols_in self.now) (name_of name.now)))
-            (λ number. IsTrue (has_symbol (symbols_in self.now) (name_of name.now)) × (number ≡ number_of (symbols_in self.now) (name_of name.now))) }
+    /// Whether the symbol with a number has this name.
+    pub fn is_named(&self, number: u32, name: &[u8]) -> bool
+        ensures { result ≡ is_named (names_in self.now.names) name.now number }
     {
-        let (number, _) = self.known(name)?;
-        Some(number as u32)
-    }
-
-    /// The symbols in the order of their numbers.
-    pub fn into_list(self, alloc: Global) -> Result<Vec<Symbol>, AllocError>
-        ensures { IfOk result (λ symbols. map symbol_of symbols.items ≡ symbols_in self) }
-    {
-        let mut symbols = Vec::new(alloc);
-        for (name, arity) in self.table {
-            symbols.push(Symbol { name, arity })?;
+        match self.names.names().get_index(number as usize) {
+            Some(known) => name == *known,
+            None => false,
         }
-        Ok(symbols)
     }
 
-    // The number and the places of the symbol with a name.
-    fn known(&self, name: &Name) -> Option<(usize, u32)>
-        ensures { MatchOption result (IsFalse (has_symbol (symbols_in self.now) (name_of name.now))) (Knows (symbols_in self.now) (name_of name.now)) }
+    /// The symbol with a number.
+    pub fn get(&self, number: usize) -> Option<Listed<'a>>
+        ensures { symbol_in result ≡ slice_get (tabled (names_in self.now.names) self.now.arities.items) number }
     {
-        let (number, _, places) = self.table.get_full(name)?;
-        Some((number, *places))
+        match self.names.names().get_index(number) {
+            Some(name) => self.listed(name, number),
+            None => None,
+        }
     }
 
-    // One symbol more.
-    fn add(&mut self, name: Name, places: u32) -> Result<usize, AllocError>
-        requires { IsFalse (has_symbol (symbols_in self.old) (name_of name)) }
-        ensures symbols { IfOk result (λ _. symbols_in self.new ≡ symbols_in self.old ++ as_symbol name places ∷ []) }
-        ensures last { IfOk result (λ number. number ≡ length (symbols_in self.old)) }
-        ensures number { IfOk result (λ number. number ≡ number_of (symbols_in self.new) (name_of name)) }
-        ensures arity { IfOk result (λ _. arity_of (symbols_in self.new) (name_of name) ≡ places) }
+    fn listed(&self, name: &'a [u8], number: usize) -> Option<Listed<'a>>
+        ensures { symbol_in result ≡ with_arity name.now (slice_get self.now.arities.items number) }
     {
-        let (number, _) = self.table.insert_full(name, places)?;
-        Ok(number)
+        match self.arities.get(number) {
+            Some(arity) => Some(Listed {
+                name,
+                arity: *arity,
+            }),
+            None => None,
+        }
+    }
+
+    // A new symbol has so many places.
+    fn keep(&mut self, number: usize, arity: u32) -> Result<(), AllocError>
+        ensures arities { OnOk result (self.new.arities.items
+            ≡ (if nat_lt number (length self.old.arities.items) then self.old.arities.items else
+            self.old.arities.items ++ arity ∷ [])) }
+        ensures names { self.new.names ≡ self.old.names }
+    {
+        if number < self.arities.len() {
+            Ok(())
+        } else {
+            self.arities.push(arity)?;
+            Ok(())
+        }
     }
 }

@@ -1,0 +1,299 @@
+-- Where a piece leads in a guard, and that what doesn't go on with a guard within an atom ends no rule.
+use Rattle.std.specs.Prelude.{◌≡◌, ℕ, ◌≤◌, Bool, true, false, not, ◌&&◌, ◌||◌, nat_lt, List, map, Option, Some, None, refl}
+use Rattle.std.specs.List.{list_all}
+use Rattle.std.specs.Char.{is_ascii_digit}
+use Rattle.std.proofs.Common.{sym, ap, subst, ◌∙◌, arith, inl, inr}
+use Rattle.std.proofs.lemmas.Bool.Decides.{nat_tests}
+use Rattle.model.specs.Programs.{Name}
+use Rattle.model.specs.Limits.{coefficient_limit}
+use Rattle.its_model.specs.Views.{rule_of}
+use Rattle.poly_terms.specs.Views.{term_of}
+use Rattle.expr_text.specs.Pieces as inner
+use Rattle.expr_text.specs.Trees.{Sum}
+use Rattle.expr_text.specs.Terms.{with_sum, number_of}
+use Rattle.expr_text.specs.Fronts as expression
+use Rattle.expr_text.specs.Fronts.{beginning}
+use Rattle.expr_text.specs.Steps as expression_steps
+use Rattle.expr_text.specs.Guards.{Atoms}
+use Rattle.expr_text.specs.GuardFronts as guards
+use Rattle.expr_text.specs.GuardFronts.{GuardFront, LeftSide, RightSide, Conjoined, ended, compared}
+use Rattle.expr_text.specs.FrontNames.{operates, is_front, with_conjoined}
+use Rattle.expr_text.specs.TermFronts.{goes_on_from}
+use Rattle.expr_reader.specs.Variables.{names_in}
+use Rattle.expr_reader.specs.Views.{front_of}
+use Rattle.expr_reader.specs.Standing.{IsFresh, IsModest, Stands}
+use Rattle.expr_reader.specs.GuardParts.{is_read}
+use Rattle.expr_reader.specs.GuardStanding as standing
+use Rattle.expr_reader.specs.GuardStanding.{IsEnded, IsSettled, settled_none, settled_left, settled_right, settled_end, joined_only}
+use Rattle.expr_reader.specs.declared.guard.GuardPlace.TheVariants as guard_places
+use Rattle.expr_reader.specs.declared.guard.GuardReader.{GuardReader}
+use Rattle.expr_reader.proofs.Standing.{fresh_stands}
+use Rattle.expr_reader.proofs.Answering.{goes_on_is}
+use Rattle.its_text.specs.Pieces.{Piece, In, SquareClose}
+use Rattle.its_text.specs.Fronts as fronts
+use Rattle.its_text.specs.Fronts.{Front, Headed, ruling_with}
+use Rattle.its_text.specs.FrontNames.{headed_names}
+use Rattle.its_text.specs.Steps.{step, guarding, guard_ended, guard_named, squared, square_ended}
+use Rattle.its_text.specs.Shown as shown
+use Rattle.its_text.specs.Shown.{Tokens}
+use Rattle.its_reader.specs.Tests as tests
+use Rattle.its_reader.specs.Standing.{KnowsSections, KnowsSymbols, KnowsHeaded, symbols_headed}
+use Rattle.its_reader.specs.Places.{LeadsTo, IsGuard}
+use Rattle.its_reader.specs.Leading.{GoTogether, IsModestPiece}
+use Rattle.its_reader.specs.Tailing.{is_modest, goes_on_in, guarding_if, TakesInner, TakesAtom, TakesPiece, TakesMaybe, AtomTakes}
+use Rattle.its_reader.specs.declared.place.Fence.{Fence}
+use Rattle.its_reader.specs.declared.place.Fence.TheVariants as fences
+use Rattle.its_reader.specs.declared.place.Place.{Place}
+use Rattle.its_reader.specs.declared.draft.Draft.{Draft}
+use Rattle.its_reader.specs.declared.draft.RuleDraft.{RuleDraft}
+use Rattle.its_reader.proofs.LeftLaws.{leads_together}
+
+-- the written front of a guard behind what it stands behind, and that of one that may be there
+abbrev pub guarded : Fence → Headed → GuardFront → Front
+guarded fences.Mark h g = fronts.MarkGuarding h g
+guarded fences.Square h g = fronts.SquareGuarding h g
+
+abbrev pub mapped : Option GuardFront → Fence → Headed → Option Front
+mapped None fence h = None
+mapped (Some g) fence h = Some (guarded fence h g)
+
+-- an atom has been read or not
+read_unread : (r : GuardReader) → is_read r.place ≡ false → r.place ≡ guard_places.AtomRead → ⊥
+read_unread r h e = let t = ap is_read e in cc
+
+-- what is no name and no closing bracket ends no rule
+operator_stays : (h : Headed) (o : Option Atoms) (p : inner.Piece) → operates p ≡ true → guard_ended h o p ≡ None
+operator_stays h None p e = refl
+operator_stays h (Some atoms) (inner.Word name) e = cc
+operator_stays h (Some atoms) inner.Close e = cc
+operator_stays h (Some atoms) _ e = refl
+
+joint_stays : (h : Headed) (o : Option Atoms) (p : inner.Piece) → tests.joins (In p) ≡ true → guard_ended h o p ≡ None
+joint_stays h None p e = refl
+joint_stays h (Some atoms) (inner.Word name) e = cc
+joint_stays h (Some atoms) inner.Close e = cc
+joint_stays h (Some atoms) _ e = refl
+
+-- a right side that a piece doesn't go on with
+right_step : (c : Conjoined) (l : Sum) (sign : inner.Sign) (e : expression.Front) (p : inner.Piece) → guards.step (RightSide c l sign e) p ≡ None → expression_steps.step e p ≡ None
+right_step c l sign e p h = go (expression_steps.step e p) h
+  where
+    go : (o : Option expression.Front) → guards.within (RightSide c l sign e) o p ≡ None → o ≡ None
+    go None h = refl
+    go (Some more) h = cc
+
+module _ (before names : List Name) (r : GuardReader) where
+  -- within an atom a guard doesn't end before what is no piece of one
+  pub unfinished : (g : GuardFront) → IsSettled None before g names r → is_read r.place ≡ false → guards.finish g ≡ None
+  unfinished g (settled_none at) u = ap guards.finish at.front_is
+  unfinished g (settled_left at) u = ap guards.finish at.front_is ∙ ap (ended at.conjoined) (at.follows refl)
+  unfinished g (settled_right at) u = ap guards.finish at.right.front_is ∙ ap (λ o. ended at.right.conjoined (compared at.right.left at.right.sign o)) (at.goes_on refl)
+  unfinished g (settled_end at) u = absurd (read_unread r u at.place_is)
+
+  -- nor before a piece that doesn't go on with it
+  stuck : (h : Headed) (g : GuardFront) (p : inner.Piece) → IsSettled (Some p) before g names r → is_read r.place ≡ false → guards.step g p ≡ None → guard_ended h (guards.finish g) p ≡ None
+  stuck h g p (settled_none at) u n = ap (λ o. guard_ended h o p) (ap guards.finish at.front_is)
+  stuck h g p (settled_left at) u n = go (operates p) refl
+    where
+      go : (v : Bool) → operates p ≡ v → guard_ended h (guards.finish g) p ≡ None
+      go true e = operator_stays h (guards.finish g) p e
+      go false e = ap (λ o. guard_ended h o p) (ap guards.finish at.front_is ∙ ap (ended at.conjoined) (at.follows e))
+  stuck h g p (settled_right at) u n =
+      let none = right_step at.right.conjoined at.right.left at.right.sign at.right.read p (sym (ap (λ g. guards.step g p) at.right.front_is) ∙ n) in
+      ap (λ o. guard_ended h o p)
+      (ap guards.finish at.right.front_is
+      ∙ ap (λ o. ended at.right.conjoined (compared at.right.left at.right.sign o)) (at.goes_on (ap (λ (o : Option expression.Front). not (is_front o)) none)))
+  stuck h g p (settled_end at) u n = absurd (read_unread r u at.place_is)
+
+  ends_nothing : (h : Headed) (g : GuardFront) (p : inner.Piece) → IsSettled (Some p) before g names r → not (is_read r.place) || tests.joins (In p) ≡ true → guards.step g p ≡ None → guard_ended h (guards.finish g) p ≡ None
+  ends_nothing h g p s still n = go (is_read r.place) refl still
+    where
+      go : (v : Bool) → is_read r.place ≡ v → not v || tests.joins (In p) ≡ true → guard_ended h (guards.finish g) p ≡ None
+      go false e o = stuck h g p s e n
+      go true e o = joint_stays h (guards.finish g) p o
+
+  -- so a piece leads on from a written front where it leads on within the guard
+  pub guard_step : (fence : Fence) (h : Headed) (g : GuardFront) (p : inner.Piece) → IsSettled (Some p) before g names r → not (is_read r.place) || tests.joins (In p) ≡ true
+      → step (guarded fence h g) (In p) ≡ mapped (guards.step g p) fence h
+  guard_step fences.Mark h g p s still = go (guards.step g p) refl
+    where
+      go : (o : Option GuardFront) → guards.step g p ≡ o → guarding h g o p ≡ mapped o fences.Mark h
+      go (Some more) e = refl
+      go None e = ends_nothing h g p s still e
+  guard_step fences.Square h g p s still = go (guards.step g p)
+    where
+      go : (o : Option GuardFront) → squared h o ≡ mapped o fences.Square h
+      go (Some more) = refl
+      go None = refl
+
+  -- what is no piece of a guard leads nowhere
+  pub none_behind : (fence : Fence) (h : Headed) (g : GuardFront) (p : Piece) → tests.inner_in p ≡ None → IsSettled None before g names r → is_read r.place ≡ false → step (guarded fence h g) p ≡ None
+  none_behind fences.Mark h g (In p) n s u = cc
+  none_behind fences.Mark h g _ n s u = refl
+  none_behind fences.Square h g (In p) n s u = cc
+  none_behind fences.Square h g SquareClose n s u = ap (square_ended h) (unfinished g s u)
+  none_behind fences.Square h g _ n s u = refl
+
+  -- an atom has ended
+  pub ended_of : (next : Option inner.Piece) (g : GuardFront) → IsSettled next before g names r → is_read r.place ≡ true → IsEnded next before g names r
+  ended_of next g (settled_none at) u = absurd (let t = ap is_read at.place_is in cc)
+  ended_of next g (settled_left at) u = absurd (let t = ap is_read at.place_is in cc)
+  ended_of next g (settled_right at) u = absurd (let t = ap is_read at.right.place_is in cc)
+  ended_of next g (settled_end at) u = at
+
+  -- whether a row of digits goes on with an atom
+  abbrev is_going : Option GuardFront → Bool
+  is_going None = false
+  is_going (Some g) = true
+
+  goes : (p : inner.Piece) → is_read r.place ≡ false → (base : List Name) (e : expression.Front) → Stands base e names r.expression → goes_on_in r p ≡ is_front (expression_steps.step e p)
+  goes p u base e s = ap (λ v. not v && goes_on_from (front_of r.expression).outer (front_of r.expression).operand p) u ∙ goes_on_is base e names r.expression p s
+
+  digits_left : (c : Conjoined) (e : expression.Front) (ds : Name) → is_going (guards.step (LeftSide c e) (inner.Digits ds)) ≡ is_front (expression_steps.step e (inner.Digits ds))
+  digits_left c e ds = go (expression_steps.step e (inner.Digits ds))
+    where
+      go : (o : Option expression.Front) → is_going (guards.within (LeftSide c e) o (inner.Digits ds)) ≡ is_front o
+      go None = refl
+      go (Some more) = refl
+
+  digits_right : (c : Conjoined) (l : Sum) (sign : inner.Sign) (e : expression.Front) (ds : Name) → is_going (guards.step (RightSide c l sign e) (inner.Digits ds)) ≡ is_front (expression_steps.step e (inner.Digits ds))
+  digits_right c l sign e ds = go (expression_steps.step e (inner.Digits ds))
+    where
+      go : (o : Option expression.Front) → is_going (guards.within (RightSide c l sign e) o (inner.Digits ds)) ≡ is_front o
+      go None = refl
+      go (Some more) = refl
+
+  digits_go : (g : GuardFront) (ds : Name) → IsSettled (Some (inner.Digits ds)) before g names r → is_going (guards.step g (inner.Digits ds)) ≡ goes_on_in r (inner.Digits ds)
+  digits_go g ds (settled_none at) =
+      ap (λ g. is_going (guards.step g (inner.Digits ds))) at.front_is
+      ∙ sym (goes (inner.Digits ds) (ap is_read at.place_is) names beginning (fresh_stands names r.expression at.expression))
+  digits_go g ds (settled_left at) =
+      ap (λ g. is_going (guards.step g (inner.Digits ds))) at.front_is
+      ∙ (digits_left at.conjoined at.read ds ∙ sym (goes (inner.Digits ds) (ap is_read at.place_is) (with_conjoined before at.conjoined) at.read at.expression))
+  digits_go g ds (settled_right at) =
+      ap (λ g. is_going (guards.step g (inner.Digits ds))) at.right.front_is
+      ∙ (digits_right at.right.conjoined at.right.left at.right.sign at.right.read ds
+      ∙ sym (goes (inner.Digits ds) (ap is_read at.right.place_is) (with_sum (with_conjoined before at.right.conjoined) at.right.left) at.right.read at.right.expression))
+  digits_go g ds (settled_end at) =
+      ap is_going (at.joins (inner.Digits ds) refl)
+      ∙ sym (ap (λ place. not (is_read place) && goes_on_from (front_of r.expression).outer (front_of r.expression).operand (inner.Digits ds)) at.place_is)
+
+  pub digits_together : (fence : Fence) (h : Headed) (g : GuardFront) (p : inner.Piece) (result : Option Place) → is_modest p ≡ false → IsSettled (Some p) before g names r → result ≡ guarding_if (goes_on_in r p) fence
+      → GoTogether (mapped (guards.step g p) fence h) result
+  digits_together fence h g (inner.Digits ds) result m s e = go (guards.step g (inner.Digits ds)) (goes_on_in r (inner.Digits ds)) (digits_go g ds s) e
+    where
+      go : (o : Option GuardFront) (v : Bool) → is_going o ≡ v → result ≡ guarding_if v fence → GoTogether (mapped o fence h) result
+      go None false t e = rw e tt
+      go None true t e = cc
+      go (Some g) false t e = cc
+      go (Some g) true t e = rw e tt
+  digits_together fence h g _ result m s e = cc
+
+-- a literal is modest where it is within the limit
+at_most : (a b : ℕ) → nat_lt a b ≡ false → b ≤ a
+at_most a b e = grind (arith, nat_tests)
+
+not_below : (a b : ℕ) → b ≤ a → nat_lt a b ≡ false
+not_below a b h = grind (arith, nat_tests)
+
+both_hold : (a b : Bool) → a && not b ≡ true → (a ≡ true) × (b ≡ false)
+both_hold true true e = cc
+both_hold true false e = (refl, refl)
+both_hold false b e = cc
+
+pub modest_is : (p : inner.Piece) → is_modest p ≡ true → IsModest p
+modest_is (inner.Digits ds) m =
+    let b = both_hold (list_all is_ascii_digit ds) (nat_lt coefficient_limit (number_of ds)) m in
+    (b.0, at_most coefficient_limit (number_of ds) b.1)
+modest_is _ m = tt
+
+pub is_modest_is : (p : inner.Piece) → IsModest p → is_modest p ≡ true
+is_modest_is (inner.Digits ds) m = rw (m.0, not_below coefficient_limit (number_of ds) m.1) refl
+is_modest_is _ m = refl
+
+-- what is known of a target stays while a guard is read
+pub headed_stays : (ts : Tokens) (h : Headed) (fence : Fence) (p : Piece) (behind : Option Piece) (result : Option Place) (old new : Draft) → KnowsHeaded ts h old → AtomTakes fence old p behind result new → KnowsHeaded ts h new
+headed_stays ts h fence p behind result old new k a = record {
+  led = record {
+    sections = subst (KnowsSections ts h.led.ruling.sections) (sym a.sections) k.led.sections;
+    rules_are = ap (λ v. map rule_of v.items) a.rules ∙ k.led.rules_are;
+    source_is = a.stays.source ∙ k.led.source_is;
+    left_is = a.stays.left ∙ k.led.left_is;
+  };
+  symbols = subst (KnowsSymbols (symbols_headed h)) (sym a.symbols) k.symbols;
+  target_is = a.stays.target ∙ k.target_is;
+  updates_are = ap (λ v. map term_of v.items) a.stays.updates ∙ k.updates_are;
+}
+
+module _ (ts : Tokens) (h : Headed) (fence : Fence) (behind : Option Piece) (result : Option Place) (old new : Draft) where
+  is_guard : (fence : Fence) (g : GuardFront) → IsGuard behind fence h g (guarded fence h g)
+  is_guard fences.Mark g = inl refl
+  is_guard fences.Square g = refl
+
+  -- a modest piece leads in the code where it leads in the guard
+  guard_leads : (g : GuardFront) (p : inner.Piece) → AtomTakes fence old (In p) behind result new → KnowsHeaded ts h old → IsFresh old.rule.expression
+      → IsSettled (Some p) (headed_names h) g (names_in old.rule.variables) old.rule.guard → IsModest p → TakesInner true fence old.rule p (tests.inner_next behind) result new.rule
+      → LeadsTo ts behind (mapped (guards.step g p) fence h) result new
+  guard_leads g p a k fresh s modest t = go (guards.step g p) t.0 t.1.0 (t.1.1.each (headed_names h) g s modest)
+    where
+      go : (o : Option GuardFront) (taken : Bool) → result ≡ guarding_if taken fence
+          → standing.LeadsTo taken (tests.inner_next behind) (headed_names h) o (names_in old.rule.variables) old.rule.guard (names_in new.rule.variables) new.rule.guard
+          → LeadsTo ts behind (mapped o fence h) result new
+      go None true e l = absurd l
+      go None false e l = rw e tt
+      go (Some more) false e l = absurd l
+      go (Some more) true e l = rw e (h, (more, (is_guard fence more, (headed_stays ts h fence (In p) behind result old new k a, (subst (λ x. IsFresh x) (sym a.stays.expression) fresh, l)))))
+
+  unread : (v : Bool) → not v || false ≡ true → v ≡ false
+  unread false e = refl
+  unread true e = cc
+
+  -- where a piece leads within an atom, or one that joins behind it
+  pub atom_each : (g : GuardFront) (p : Piece) → AtomTakes fence old p behind result new → KnowsHeaded ts h old → IsFresh old.rule.expression
+      → IsSettled (tests.inner_in p) (headed_names h) g (names_in old.rule.variables) old.rule.guard → not (is_read old.rule.guard.place) || tests.joins p ≡ true → IsModestPiece p
+      → LeadsTo ts behind (step (guarded fence h g) p) result new
+  atom_each g (In p) a k fresh s still modest =
+      subst (λ o. LeadsTo ts behind o result new) (sym (guard_step (headed_names h) (names_in old.rule.variables) old.rule.guard fence h g p s still))
+      (guard_leads g p a k fresh s modest (subst (λ v. TakesInner v fence old.rule p (tests.inner_next behind) result new.rule) (is_modest_is p modest) a.takes.by))
+  atom_each g p a k fresh s still modest =
+      rw a.takes.by (subst (λ o. LeadsTo ts behind o None new) (sym (none_behind (headed_names h) (names_in old.rule.variables) old.rule.guard fence h g p refl s (unread (is_read old.rule.guard.place) still))) tt)
+
+  pub atom_together : (g : GuardFront) (p : Piece) → AtomTakes fence old p behind result new → KnowsHeaded ts h old → IsFresh old.rule.expression
+      → IsSettled (tests.inner_in p) (headed_names h) g (names_in old.rule.variables) old.rule.guard → not (is_read old.rule.guard.place) || tests.joins p ≡ true
+      → GoTogether (step (guarded fence h g) p) result
+  atom_together g (In p) a k fresh s still =
+      subst (λ o. GoTogether o result) (sym (guard_step (headed_names h) (names_in old.rule.variables) old.rule.guard fence h g p s still)) (go (is_modest p) refl a.takes.by)
+    where
+      go : (v : Bool) → is_modest p ≡ v → TakesInner v fence old.rule p (tests.inner_next behind) result new.rule → GoTogether (mapped (guards.step g p) fence h) result
+      go true e t = leads_together ts behind (mapped (guards.step g p) fence h) result new (guard_leads g p a k fresh s (modest_is p e) t)
+      go false e t = digits_together (headed_names h) (names_in old.rule.variables) old.rule.guard fence h g p result e s t
+  atom_together g p a k fresh s still =
+      rw a.takes.by (subst (λ o. GoTogether o None) (sym (none_behind (headed_names h) (names_in old.rule.variables) old.rule.guard fence h g p refl s (unread (is_read old.rule.guard.place) still))) tt)
+
+-- a name behind `:|:` that begins an atom stands for the guard
+word_step : (h : Headed) (name : Name) (p : Piece) → shown.is_open (Some p) ≡ false → step (fronts.WordRead h name) p ≡ step (fronts.MarkGuarding h (guard_named name)) p
+word_step h name (In inner.Open) e = cc
+word_step h name (In _) e = refl
+word_step h name _ e = refl
+
+pub front_step : (fence : Fence) (h : Headed) (g : GuardFront) (f : Front) (p : Piece) → IsGuard (Some p) fence h g f → step f p ≡ step (guarded fence h g) p
+front_step fences.Square h g f p e = ap (λ f. step f p) e
+front_step fences.Mark h g f p (inl e) = ap (λ f. step f p) e
+front_step fences.Mark h g f p (inr (name, (e, (is, closed)))) = ap (λ f. step f p) e ∙ (word_step h name p closed ∙ ap (λ g. step (fronts.MarkGuarding h g) p) (sym is))
+
+-- a literal that is too large, a modest piece, and no piece
+pub large_taken : {fence : Fence} {old new : RuleDraft} {p : inner.Piece} {behind : Option inner.Piece} {result : Option Place} → is_modest p ≡ false → result ≡ guarding_if (goes_on_in old.guard p) fence → TakesPiece fence old p behind result new
+large_taken {fence} {old} {new} {p} {behind} {result} m e = record { by = subst (λ v. TakesInner v fence old p behind result new) (sym m) e }
+
+pub modest_taken : {fence : Fence} {old new : RuleDraft} {p : inner.Piece} {behind : Option inner.Piece} {result : Option Place} (taken : Bool) → is_modest p ≡ true → result ≡ guarding_if taken fence
+    → standing.Takes (names_in old.variables) old.guard p behind taken (names_in new.variables) new.guard → TakesPiece fence old p behind result new
+modest_taken {fence} {old} {new} {p} {behind} {result} taken m e t = record { by = subst (λ v. TakesInner v fence old p behind result new) (sym m) (taken, (e, t)) }
+
+pub some_taken : {fence : Fence} {old new : RuleDraft} {p : inner.Piece} {behind : Option inner.Piece} {result : Option Place} (o : Option inner.Piece) → o ≡ Some p → TakesPiece fence old p behind result new → TakesMaybe fence old o behind result new
+some_taken {fence} {old} {new} {p} {behind} {result} o e t = record { by = subst (λ o. TakesAtom fence old o behind result new) (sym e) t.by }
+
+pub none_taken : {fence : Fence} {old new : RuleDraft} {behind : Option inner.Piece} (o : Option inner.Piece) → o ≡ None → TakesMaybe fence old o behind None new
+none_taken {fence} {old} {new} {behind} o e = record { by = subst (λ o. TakesAtom fence old o behind None new) (sym e) refl }
+
+pub taken_alike : {fence : Fence} {old new : RuleDraft} {o p a b : Option inner.Piece} {result : Option Place} → o ≡ p → a ≡ b → TakesMaybe fence old o a result new → TakesMaybe fence old p b result new
+taken_alike {fence} {old} {new} {o} {p} {a} {b} {result} e f t = subst (λ p. TakesMaybe fence old p b result new) e (subst (λ b. TakesMaybe fence old o b result new) f t)

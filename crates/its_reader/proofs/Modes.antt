@@ -1,0 +1,38 @@
+-- The mode behind a piece, by tests of the piece.
+use Rattle.std.specs.Prelude.{◌≡◌, ℕ, zero, suc, if◌then◌else◌, Option, Some, None, refl, List}
+use Rattle.expr_text.specs.Pieces as inner
+use Rattle.its_text.specs.Pieces.{Piece, In}
+use Rattle.its_text.specs.Lexing.{Mode, Outside, AtKeyword, Within, mode_behind, behind_keyword}
+use Rattle.its_reader.specs.Tests as tests
+
+pub outside_behind : (p : Piece) → mode_behind Outside (Some p) ≡ (if tests.opens p then AtKeyword else Outside)
+outside_behind (In inner.Open) = refl
+outside_behind (In _) = refl
+outside_behind _ = refl
+
+abbrev pub beside : Piece → Mode
+beside p = if tests.opens p then Within 1 else if tests.closes p then Outside else Within 0
+
+abbrev pub keyword_or : Piece → Option (List ℕ) → Mode
+keyword_or p (Some w) = behind_keyword w
+keyword_or p None = beside p
+
+pub bracket_behind : (p : Piece) → mode_behind AtKeyword (Some p) ≡ keyword_or p (tests.word p)
+bracket_behind (In (inner.Word w)) = refl
+bracket_behind (In inner.Open) = refl
+bracket_behind (In inner.Close) = refl
+bracket_behind (In _) = refl
+bracket_behind _ = refl
+
+abbrev pub less : ℕ → Mode
+less zero = Outside
+less (suc d) = Within d
+
+pub within_behind : (d : ℕ) (p : Piece) → mode_behind (Within d) (Some p) ≡ (if tests.opens p then Within (suc d) else if tests.closes p then less d else Within d)
+within_behind d (In inner.Open) = refl
+within_behind zero (In inner.Close) = refl
+within_behind (suc d) (In inner.Close) = refl
+within_behind zero (In _) = refl
+within_behind (suc d) (In _) = refl
+within_behind zero _ = refl
+within_behind (suc d) _ = refl

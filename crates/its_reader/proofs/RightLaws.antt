@@ -1,0 +1,424 @@
+-- Where each piece leads from the arrow to the end of a target, by tests of the piece.
+use Rattle.std.specs.Prelude.{◌≡◌, ℕ, suc, ◌==◌, nat_lt, length, Bool, true, false, not, if◌then◌else◌, List, [], ◌∷◌, ◌++◌, map, codes, Option, Some, None, refl}
+use Rattle.std.proofs.Common.{sym, ap, subst, ◌∙◌, get_or}
+use Rattle.model.specs.Programs.{Name, Symbol}
+use Rattle.its_model.specs.Views.{rule_of}
+use Rattle.poly_terms.specs.Views.{term_of}
+use Rattle.text_core.specs.Names.{position_of}
+use Rattle.expr_text.specs.Terms.{with_name}
+use Rattle.expr_reader.proofs.Standing.{fresh_stands}
+use Rattle.its_text.specs.Written.{RightTerm, Target, Marked, Bare}
+use Rattle.its_text.specs.Numbering.{with_symbol, with_right, number_of, left_names, term_in}
+use Rattle.its_text.specs.Shown.{other_arity}
+use Rattle.its_text.specs.Steps.{right_shut}
+use Rattle.its_reader.specs.Standing.{updates_of}
+use Rattle.its_reader.specs.Places.{IsArgued, behind_wrap}
+use Rattle.its_reader.specs.Leading.{AfterRight, RightLeads, Targets, TakesPiece, GoTogether, IsModestPiece}
+use Rattle.expr_text.specs.TermFronts.{goes_on_from}
+use Rattle.expr_reader.specs.Views.{front_of}
+use Rattle.expr_reader.proofs.Answering.{goes_on_is}
+use Rattle.its_reader.specs.declared.place.RightPlace.{RightPlace}
+use Rattle.its_reader.proofs.SymbolTables.{symbols_with, arity_at, number_stays}
+use Rattle.its_reader.proofs.LeftLaws.{leads_together}
+use Rattle.expr_text.specs.Pieces as inner
+use Rattle.expr_text.specs.GuardFronts.{no_atoms}
+use Rattle.expr_reader.specs.Variables.{names_in}
+use Rattle.expr_reader.specs.Standing.{IsFresh, IsModest, Stands}
+use Rattle.expr_text.specs.Trees.{Sum}
+use Rattle.expr_text.specs.Fronts as expression
+use Rattle.expr_text.specs.Steps as expression_steps
+use Rattle.expr_text.specs.FrontNames.{is_front, goes_on_with}
+use Rattle.its_text.specs.FrontNames.{names_with}
+use Rattle.its_text.specs.Shown.{ends_expression}
+use Rattle.its_text.specs.Steps.{arguing}
+use Rattle.its_reader.specs.Places.{IsArguing}
+use Rattle.its_reader.specs.Leading.{GoesOn, Takes}
+use Rattle.expr_reader.specs.GuardStanding.{IsWanting}
+use Rattle.its_text.specs.Pieces.{Piece, In, Comma}
+use Rattle.its_text.specs.Fronts as fronts
+use Rattle.its_text.specs.Fronts.{Front, Led, Aimed}
+use Rattle.its_text.specs.Shown.{Tokens}
+use Rattle.its_text.specs.FrontNames.{symbols_behind}
+use Rattle.its_text.specs.Steps.{step}
+use Rattle.its_reader.specs.Tests as tests
+use Rattle.its_reader.specs.Standing.{KnowsSections, KnowsSymbols, KnowsLed, KnowsLeft, KnowsAimed}
+use Rattle.its_reader.specs.Places.{InRight, RightSettled, LeadsTo, wrap_of, IsAimed, IsHeaded}
+use Rattle.its_reader.specs.Leading.{StaysBut}
+use Rattle.its_reader.specs.declared.draft.Draft.{Draft}
+use Rattle.its_reader.specs.declared.place.Wrap.{Wrap}
+use Rattle.its_reader.specs.declared.place.Wrap.TheVariants as wraps
+use Rattle.its_reader.specs.declared.place.RightPlace.TheVariants as rights
+use Rattle.its_reader.specs.declared.place.TailPlace.TheVariants as tails
+use Rattle.its_reader.specs.declared.place.Place.{Place}
+use Rattle.its_reader.specs.declared.place.Place.TheVariants as places
+
+module _ (ts : Tokens) (next : Option Piece) where
+  pub com_named_leads : (p : Piece) (f : Front) (d : Draft) → InRight ts (Some p) rights.ComNamed d f → LeadsTo ts next (step f p) (if tests.opens p then Some (places.InRight rights.ComOpened) else None) d
+  com_named_leads p f d k = rw k.1.0 (go p)
+    where
+      go : (p : Piece) → LeadsTo ts next (step (fronts.ComNamed k.0) p) (if tests.opens p then Some (places.InRight rights.ComOpened) else None) d
+      go (In inner.Open) = (k.0, (refl, k.1.1))
+      go (In _) = tt
+      go _ = tt
+
+  pub target_named_leads : (w : Wrap) (p : Piece) (f : Front) (d : Draft) → InRight ts (Some p) (rights.TargetNamed w) d f → LeadsTo ts next (step f p) (if tests.opens p then Some (places.InRight (rights.RightOpened w)) else None) d
+  target_named_leads w p f d k = rw k.1.0 (go p)
+    where
+      go : (p : Piece) → LeadsTo ts next (step (fronts.TargetNamed k.0) p) (if tests.opens p then Some (places.InRight (rights.RightOpened w)) else None) d
+      go (In inner.Open) = (k.0, (refl, k.1.1))
+      go (In _) = tt
+      go _ = tt
+
+  pub com_leads : (p : Piece) (f : Front) (d : Draft) → InRight ts (Some p) rights.Arrowed d f → tests.says (codes "Com_1") p ≡ true → LeadsTo ts next (step f p) (Some (places.InRight rights.ComNamed)) d
+  com_leads p f d k h = rw k.1.0 (go p h)
+    where
+      go : (p : Piece) → tests.says (codes "Com_1") p ≡ true → LeadsTo ts next (step (fronts.Arrowed k.0) p) (Some (places.InRight rights.ComNamed)) d
+      go (In (inner.Word name)) h = rw h (k.0, (refl, k.1.1))
+      go (In _) h = cc
+      go _ h = cc
+
+  -- what is known of a left term stays known while the target's name is read
+  led_stays : (l : Led) (old new : Draft) → KnowsLed ts l old → StaysBut old new → KnowsLed ts l new
+  led_stays l old new k s = record {
+    sections = subst (KnowsSections ts l.ruling.sections) (sym s.sections) k.sections;
+    rules_are = ap (λ v. map rule_of v.items) s.rules ∙ k.rules_are;
+    source_is = s.source ∙ k.source_is;
+    left_is = s.left ∙ k.left_is;
+  }
+
+  aimed_known : (l : Led) (w : Wrap) (name : Name) (old new : Draft) → KnowsLeft ts l old → StaysBut old new → new.rule.name.now ≡ name → IsAimed ts w (record { led = l; wrap = wrap_of w; name = name }) new
+  aimed_known l w name old new k s n = record {
+    wrap_is = refl;
+    aimed = record {
+      led = led_stays l old new k.led s;
+      symbols = subst (KnowsSymbols (symbols_behind l)) (sym s.symbols) k.symbols;
+      name_is = n;
+      updates_are = ap (λ v. map term_of v.items) s.updates ∙ ap (map term_of) k.updates;
+      guard = subst (λ g. (before : List Name) → IsWanting before no_atoms before g) (sym s.guard) k.guard;
+    };
+    names_are = ap names_in s.variables ∙ k.arguments_are;
+    expression = subst (λ e. IsFresh e) (sym s.expression) k.expression;
+  }
+
+  pub bare_leads : (p : Piece) (f : Front) (old new : Draft) (name : Name) → InRight ts (Some p) rights.Arrowed old f → tests.says (codes "Com_1") p ≡ false → tests.word p ≡ Some name → StaysBut old new → new.rule.name.now ≡ name
+      → LeadsTo ts next (step f p) (Some (places.InRight (rights.TargetNamed wraps.Alone))) new
+  bare_leads p f old new name k h w s n = rw k.1.0 (go p h w)
+    where
+      go : (p : Piece) → tests.says (codes "Com_1") p ≡ false → tests.word p ≡ Some name → LeadsTo ts next (step (fronts.Arrowed k.0) p) (Some (places.InRight (rights.TargetNamed wraps.Alone))) new
+      go (In (inner.Word m)) h w = rw h (record { led = k.0; wrap = fronts.Alone; name = m }, (refl, aimed_known k.0 wraps.Alone m old new k.1.1 s (let same : name ≡ m = cc in n ∙ same)))
+      go (In _) h w = cc
+      go _ h w = cc
+
+  pub arrowed_stops : (p : Piece) (f : Front) (d : Draft) → InRight ts (Some p) rights.Arrowed d f → tests.word p ≡ None → LeadsTo ts next (step f p) None d
+  arrowed_stops p f d k w = rw k.1.0 (go p w)
+    where
+      go : (p : Piece) → tests.word p ≡ None → LeadsTo ts next (step (fronts.Arrowed k.0) p) None d
+      go (In (inner.Word m)) w = cc
+      go (In _) w = tt
+      go _ w = tt
+
+  pub within_leads : (p : Piece) (f : Front) (old new : Draft) (name : Name) → InRight ts (Some p) rights.ComOpened old f → tests.word p ≡ Some name → StaysBut old new → new.rule.name.now ≡ name
+      → LeadsTo ts next (step f p) (Some (places.InRight (rights.TargetNamed wraps.InCom))) new
+  within_leads p f old new name k w s n = rw k.1.0 (go p w)
+    where
+      go : (p : Piece) → tests.word p ≡ Some name → LeadsTo ts next (step (fronts.ComOpened k.0) p) (Some (places.InRight (rights.TargetNamed wraps.InCom))) new
+      go (In (inner.Word m)) w = (record { led = k.0; wrap = fronts.InCom; name = m }, (refl, aimed_known k.0 wraps.InCom m old new k.1.1 s (let same : name ≡ m = cc in n ∙ same)))
+      go (In _) w = cc
+      go _ w = cc
+
+  pub within_stops : (p : Piece) (f : Front) (d : Draft) → InRight ts (Some p) rights.ComOpened d f → tests.word p ≡ None → LeadsTo ts next (step f p) None d
+  within_stops p f d k w = rw k.1.0 (go p w)
+    where
+      go : (p : Piece) → tests.word p ≡ None → LeadsTo ts next (step (fronts.ComOpened k.0) p) None d
+      go (In (inner.Word m)) w = cc
+      go (In _) w = tt
+      go _ w = tt
+
+  -- an argument goes on, and what is known beside it stays
+  goes_on_known : (w : Wrap) (a : Aimed) (arguments : List Sum) (e more : expression.Front) (p : inner.Piece) (old new : Draft) → a.wrap ≡ wrap_of w → KnowsAimed ts a arguments old
+      → Stands (names_with a.led arguments) e (names_in old.rule.variables) old.rule.expression → expression_steps.step e p ≡ Some more → IsModest p → GoesOn w old p new → IsArguing ts w a arguments more new
+  goes_on_known w a arguments e more p old new wrap k s led modest g = record {
+    wrap_is = wrap;
+    aimed = record {
+      led = record {
+        sections = subst (KnowsSections ts a.led.ruling.sections) (sym g.sections) k.led.sections;
+        rules_are = ap (λ v. map rule_of v.items) g.rules ∙ k.led.rules_are;
+        source_is = g.stays.source ∙ k.led.source_is;
+        left_is = g.stays.left ∙ k.led.left_is;
+      };
+      symbols = subst (KnowsSymbols (symbols_behind a.led)) (sym g.symbols) k.symbols;
+      name_is = ap (λ v. v.now) g.stays.name ∙ k.name_is;
+      updates_are = ap (λ v. map term_of v.items) g.stays.updates ∙ k.updates_are;
+      guard = subst (λ g. (before : List Name) → IsWanting before no_atoms before g) (sym g.stays.guard) k.guard;
+    };
+    expression = g.leads.each (names_with a.led arguments) e more s led modest;
+  }
+
+  -- where an inner piece leads within an argument that doesn't end before it
+  argument_leads : (w : Wrap) (a : Aimed) (arguments : List Sum) (e : expression.Front) (p : inner.Piece) (old new : Draft) (result : Option Place) → a.wrap ≡ wrap_of w → KnowsAimed ts a arguments old
+      → Stands (names_with a.led arguments) e (names_in old.rule.variables) old.rule.expression → (ends_expression e (Some (In p)) ≡ true → expression_steps.finish e ≡ None) → IsModest p
+      → Takes (goes_on_with e p) w old p result new → LeadsTo ts next (arguing a arguments e (expression_steps.step e p) p) result new
+  argument_leads w a arguments e p old new result wrap k s stops modest t = go (expression_steps.step e p) refl t
+    where
+      go : (o : Option expression.Front) → expression_steps.step e p ≡ o → Takes (is_front o) w old p result new → LeadsTo ts next (arguing a arguments e o p) result new
+      go (Some more) h t = rw t.0 (a, (arguments, (more, (refl, goes_on_known w a arguments e more p old new wrap k s h modest t.1))))
+      go None h t =
+          let none : expression_steps.finish e ≡ None = stops (ap (λ (o : Option expression.Front). not (is_front o)) h) in
+          rw (none, t.0) tt
+
+-- there are as many updates as arguments
+length-push : {X : Type 0} (xs : List X) (x : X) → length (xs ++ x ∷ []) ≡ suc (length xs)
+length-push [] x = refl
+length-push (y ∷ xs) x = ap suc (length-push xs x)
+
+pub updates_count : (names : List Name) (arguments : List Sum) → length (updates_of names arguments) ≡ length arguments
+updates_count names [] = refl
+updates_count names (s ∷ earlier) = length-push (updates_of names earlier) _ ∙ ap suc (updates_count names earlier)
+
+pub length-terms : {X Y : Type 0} (f : X → Y) (xs : List X) → length (map f xs) ≡ length xs
+length-terms f [] = refl
+length-terms f (x ∷ xs) = ap suc (length-terms f xs)
+
+module _ (ts : Tokens) (next : Option Piece) where
+  -- the right term has ended
+  headed_known : (a : Aimed) (arguments : List Sum) (target : Target) (old new : Draft) → term_in target ≡ record { name = a.name; arguments = arguments } → KnowsAimed ts a arguments old
+      → names_in old.rule.variables ≡ names_with a.led arguments → IsFresh old.rule.expression → AfterRight old new → IsHeaded ts (record { led = a.led; target = target }) new
+  headed_known a arguments target old new t k names fresh h = record {
+    headed = record {
+      led = record {
+        sections = subst (KnowsSections ts a.led.ruling.sections) (sym h.stays.sections) k.led.sections;
+        rules_are = ap (λ v. map rule_of v.items) h.stays.rules ∙ k.led.rules_are;
+        source_is = h.source ∙ k.led.source_is;
+        left_is = h.left ∙ k.led.left_is;
+      };
+      symbols = subst (λ (r : RightTerm). KnowsSymbols (with_right (symbols_behind a.led) r) new.symbols) (sym t) symbols;
+      target_is = h.target ∙ (ap (λ n. position_of n (names_in old.symbols.names)) k.name_is ∙ (ap (position_of a.name) k.symbols.names ∙ (number_stays (symbols_behind a.led) a.name (length arguments)
+          ∙ ap (λ (r : RightTerm). number_of (with_right (symbols_behind a.led) r) r.name) (sym t))));
+      updates_are = ap (λ v. map term_of v.items) h.stays.updates ∙ (k.updates_are ∙ ap (λ (r : RightTerm). updates_of (left_names a.led.left) r.arguments) (sym t));
+    };
+    names_are = ap names_in h.stays.variables ∙ (names ∙ ap (λ (r : RightTerm). names_with a.led r.arguments) (sym t));
+    expression = subst (λ e. IsFresh e) (sym h.stays.expression) fresh;
+    guard = subst (λ g. (before : List Name) → IsWanting before no_atoms before g) (sym h.stays.guard) k.guard;
+  }
+    where
+      count : length old.rule.updates.items ≡ length arguments
+      count = sym (length-terms term_of old.rule.updates.items) ∙ (ap length k.updates_are ∙ updates_count (left_names a.led.left) arguments)
+
+      symbols : KnowsSymbols (with_symbol (symbols_behind a.led) a.name (length arguments)) new.symbols
+      symbols = symbols_with (symbols_behind a.led) a.name (length arguments) old.symbols new.symbols k.symbols
+          (h.numbered.names ∙ ap (with_name (names_in old.symbols.names)) k.name_is)
+          (subst (λ (n : Name). new.symbols.arities.items ≡ (if nat_lt (position_of n (names_in old.symbols.names)) (length old.symbols.arities.items) then old.symbols.arities.items else old.symbols.arities.items ++ length arguments ∷ [])) k.name_is
+          (subst (λ (m : ℕ). new.symbols.arities.items ≡ (if nat_lt (position_of old.rule.name.now (names_in old.symbols.names)) (length old.symbols.arities.items) then old.symbols.arities.items else old.symbols.arities.items ++ m ∷ [])) count h.numbered.arities))
+
+  -- whether it has another number of arguments than its symbol has places
+  right_differs : (a : Aimed) (arguments : List Sum) (target : Target) (old new : Draft) → term_in target ≡ record { name = a.name; arguments = arguments } → KnowsAimed ts a arguments old → (h : AfterRight old new)
+      → IsHeaded ts (record { led = a.led; target = target }) new
+      → new.rule.differs ≡ other_arity (with_right (symbols_behind a.led) (term_in target)) (term_in target).name (length (term_in target).arguments)
+  right_differs a arguments target old new t k h headed =
+      h.differs
+      ∙ (ap (λ n. not (get_or new.symbols.arities.items new.rule.target 0 == n)) count
+      ∙ (ap (λ xs. not (get_or xs new.rule.target 0 == length (term_in target).arguments)) headed.headed.symbols.arities
+      ∙ (ap (λ n. not (get_or (map (λ (x : Symbol). x.arity) (with_right (symbols_behind a.led) (term_in target))) n 0 == length (term_in target).arguments)) headed.headed.target_is
+      ∙ ap (λ n. not (n == length (term_in target).arguments)) (arity_at (with_right (symbols_behind a.led) (term_in target)) (term_in target).name))))
+    where
+      count : length old.rule.updates.items ≡ length (term_in target).arguments
+      count = sym (length-terms term_of old.rule.updates.items) ∙ (ap length k.updates_are ∙ (updates_count (left_names a.led.left) arguments ∙ ap (λ (r : RightTerm). length r.arguments) (sym t)))
+
+  right_ends : (w : Wrap) (a : Aimed) (arguments : List Sum) (old new : Draft) → a.wrap ≡ wrap_of w → KnowsAimed ts a arguments old → names_in old.rule.variables ≡ names_with a.led arguments → IsFresh old.rule.expression
+      → AfterRight old new → LeadsTo ts next (Some (right_shut a arguments)) (Some (behind_wrap w)) new
+  right_ends wraps.InCom a arguments old new e k names fresh h =
+      let headed = headed_known a arguments (Marked (record { name = a.name; arguments = arguments })) old new refl k names fresh h in
+      rw e (a.led, (record { name = a.name; arguments = arguments }, (refl, (headed, right_differs a arguments (Marked (record { name = a.name; arguments = arguments })) old new refl k h headed))))
+  right_ends wraps.Alone a arguments old new e k names fresh h =
+      let headed = headed_known a arguments (Bare (record { name = a.name; arguments = arguments })) old new refl k names fresh h in
+      rw e (record { led = a.led; target = Bare (record { name = a.name; arguments = arguments }) }, (refl, (headed, right_differs a arguments (Bare (record { name = a.name; arguments = arguments })) old new refl k h headed)))
+
+  pub opened_right_ends : (w : Wrap) (p : Piece) (f : Front) (old new : Draft) → RightSettled ts (Some p) (rights.RightOpened w) old f → tests.closes p ≡ true → AfterRight old new → LeadsTo ts next (step f p) (Some (behind_wrap w)) new
+  opened_right_ends w p f old new k c h = rw k.1.0 (go p c)
+    where
+      go : (p : Piece) → tests.closes p ≡ true → LeadsTo ts next (step (fronts.RightOpened k.0) p) (Some (behind_wrap w)) new
+      go (In inner.Close) c = right_ends w k.0 [] old new k.1.1.wrap_is k.1.1.aimed k.1.1.names_are k.1.1.expression h
+      go (In _) c = cc
+      go _ c = cc
+
+  pub argued_ends : (w : Wrap) (p : Piece) (f : Front) (old new : Draft) → RightSettled ts (Some p) (rights.Argued w) old f → tests.closes p ≡ true → AfterRight old new → LeadsTo ts next (step f p) (Some (behind_wrap w)) new
+  argued_ends w p f old new k c h = rw k.1.1.1.1.0 (go p c k.1.1.1.1.1.ends)
+    where
+      known : IsArgued ts (Some p) w k.0 k.1.0 k.1.1.0 k.1.1.1.0 old
+      known = k.1.1.1.1.1
+
+      go : (p : Piece) → tests.closes p ≡ true → ends_expression k.1.1.0 (Some p) ≡ true → LeadsTo ts next (step (fronts.Arguing k.0 k.1.0 k.1.1.0) p) (Some (behind_wrap w)) new
+      go (In inner.Close) c ends = stopped (expression_steps.step k.1.1.0 inner.Close) ends
+        where
+          stopped : (o : Option expression.Front) → not (is_front o) ≡ true → LeadsTo ts next (arguing k.0 k.1.0 k.1.1.0 o inner.Close) (Some (behind_wrap w)) new
+          stopped (Some more) n = cc
+          stopped None n = rw known.finish_is (right_ends w k.0 (k.1.1.1.0 ∷ k.1.0) old new known.wrap_is known.aimed known.names_are known.expression h)
+      go (In _) c ends = cc
+      go _ c ends = cc
+
+  -- the comma behind an argument
+  pub argued_parts : (w : Wrap) (p : Piece) (f : Front) (d : Draft) → RightSettled ts (Some p) (rights.Argued w) d f → tests.closes p ≡ false → LeadsTo ts next (step f p) (if tests.parts p then Some (places.InRight (rights.Arguing w)) else None) d
+  argued_parts w p f d k c = rw k.1.1.1.1.0 (go p c k.1.1.1.1.1.ends)
+    where
+      known : IsArgued ts (Some p) w k.0 k.1.0 k.1.1.0 k.1.1.1.0 d
+      known = k.1.1.1.1.1
+
+      stopped : (q : inner.Piece) → tests.closes (In q) ≡ false → (o : Option expression.Front) → not (is_front o) ≡ true → LeadsTo ts next (arguing k.0 k.1.0 k.1.1.0 o q) None d
+      stopped q c (Some more) n = cc
+      stopped inner.Close c None n = cc
+      stopped q c None n = rw known.finish_is tt
+
+      go : (p : Piece) → tests.closes p ≡ false → ends_expression k.1.1.0 (Some p) ≡ true → LeadsTo ts next (step (fronts.Arguing k.0 k.1.0 k.1.1.0) p) (if tests.parts p then Some (places.InRight (rights.Arguing w)) else None) d
+      go (In q) c ends = stopped q c (expression_steps.step k.1.1.0 q) ends
+      go Comma c ends = rw known.finish_is (
+        k.0,
+        (
+          k.1.1.1.0 ∷ k.1.0,
+          (
+            expression.beginning,
+            (
+              refl,
+              record {
+                wrap_is = known.wrap_is;
+                aimed = known.aimed;
+                expression = subst (λ (b : List Name). Stands b expression.beginning (names_in d.rule.variables) d.rule.expression) known.names_are (fresh_stands (names_in d.rule.variables) d.rule.expression known.expression);
+              },
+            ),
+          ),
+        ),
+      )
+      go _ c ends = tt
+
+  -- the bracket that closes `Com_1(`
+  pub com_ends : (p : Piece) (f : Front) (old new : Draft) → RightSettled ts (Some p) rights.RightShut old f → tests.closes p ≡ true → new ≡ record old { rule = record old.rule { differs = false } } → LeadsTo ts next (step f p) (Some (places.InTail tails.Targeted)) new
+  com_ends p f old new k c e = rw (k.1.1.0, e) (go p c)
+    where
+      known : IsHeaded ts (record { led = k.0; target = Marked k.1.0 }) old
+      known = k.1.1.1.0
+
+      go : (p : Piece) → tests.closes p ≡ true → LeadsTo ts next (step (fronts.RightShut k.0 k.1.0) p) (Some (places.InTail tails.Targeted)) (record old { rule = record old.rule { differs = false } })
+      go (In inner.Close) c = (
+        record { led = k.0; target = Marked k.1.0 },
+        (
+          refl,
+          (
+            record {
+              headed = record {
+                led = record { sections = known.headed.led.sections; rules_are = known.headed.led.rules_are; source_is = known.headed.led.source_is; left_is = known.headed.led.left_is };
+                symbols = known.headed.symbols;
+                target_is = known.headed.target_is;
+                updates_are = known.headed.updates_are;
+              };
+              names_are = known.names_are;
+              expression = known.expression;
+              guard = known.guard;
+            },
+            refl,
+          ),
+        ),
+      )
+      go (In _) c = cc
+      go _ c = cc
+
+  pub com_stops : (p : Piece) (f : Front) (d : Draft) → RightSettled ts (Some p) rights.RightShut d f → tests.closes p ≡ false → LeadsTo ts next (step f p) None d
+  com_stops p f d k c = rw k.1.1.0 (go p c)
+    where
+      go : (p : Piece) → tests.closes p ≡ false → LeadsTo ts next (step (fronts.RightShut k.0 k.1.0) p) None d
+      go (In inner.Close) c = cc
+      go (In _) c = tt
+      go _ c = tt
+
+-- what the functions of each place promise
+pub always_right : (place : RightPlace) (p : Piece) (old new : Draft) (result : Option Place) → ((ts : Tokens) (next : Option Piece) (f : Front) → RightSettled ts (Some p) place old f → LeadsTo ts next (step f p) result new) → RightLeads place old p result new
+always_right place p old new result h = record {
+  together = λ ts f k. leads_together ts None (step f p) result new (h ts None f k);
+  each = λ ts next f k modest. h ts next f k;
+}
+
+pub in_right_place : (place known : RightPlace) (old new : Draft) (p : Piece) (result : Option Place) → place ≡ known → RightLeads known old p result new → RightLeads place old p result new
+in_right_place place known old new p result e h = subst (λ (q : RightPlace). RightLeads q old p result new) (sym e) h
+
+pub com_named_promise : (p : Piece) (old : Draft) (result : Option Place) (v : Bool) → v ≡ tests.opens p → result ≡ (if v then Some (places.InRight rights.ComOpened) else None) → RightLeads rights.ComNamed old p result old
+com_named_promise p old result v e h = always_right rights.ComNamed p old old result (λ ts next f k. rw (h, e) (com_named_leads ts next p f old k))
+
+pub target_named_promise : (w : Wrap) (p : Piece) (old : Draft) (result : Option Place) (v : Bool) → v ≡ tests.opens p → result ≡ (if v then Some (places.InRight (rights.RightOpened w)) else None) → RightLeads (rights.TargetNamed w) old p result old
+target_named_promise w p old result v e h = always_right (rights.TargetNamed w) p old old result (λ ts next f k. rw (h, e) (target_named_leads ts next w p f old k))
+
+pub argued_promise : (w : Wrap) (p : Piece) (old : Draft) (result : Option Place) (v : Bool) → tests.closes p ≡ false → v ≡ tests.parts p → result ≡ (if v then Some (places.InRight (rights.Arguing w)) else None) → RightLeads (rights.Argued w) old p result old
+argued_promise w p old result v c e h = always_right (rights.Argued w) p old old result (λ ts next f k. rw (h, e) (argued_parts ts next w p f old k c))
+
+pub arrowed_promise : (p : Piece) (old new : Draft) (result : Option Place) → tests.says (codes "Com_1") p ≡ false → Targets (tests.word p) wraps.Alone result old new → RightLeads rights.Arrowed old p result new
+arrowed_promise p old new result c t = go (tests.word p) refl t
+  where
+    go : (o : Option Name) → tests.word p ≡ o → Targets o wraps.Alone result old new → RightLeads rights.Arrowed old p result new
+    go None e t = rw (t.0, t.1) (always_right rights.Arrowed p old old None (λ ts next f k. arrowed_stops ts next p f old k e))
+    go (Some name) e t = rw t.0 (always_right rights.Arrowed p old new _ (λ ts next f k. bare_leads ts next p f old new name k c e t.1.0 t.1.1))
+
+pub within_promise : (p : Piece) (old new : Draft) (result : Option Place) → Targets (tests.word p) wraps.InCom result old new → RightLeads rights.ComOpened old p result new
+within_promise p old new result t = go (tests.word p) refl t
+  where
+    go : (o : Option Name) → tests.word p ≡ o → Targets o wraps.InCom result old new → RightLeads rights.ComOpened old p result new
+    go None e t = rw (t.0, t.1) (always_right rights.ComOpened p old old None (λ ts next f k. within_stops ts next p f old k e))
+    go (Some name) e t = rw t.0 (always_right rights.ComOpened p old new _ (λ ts next f k. within_leads ts next p f old new name k e t.1.0 t.1.1))
+
+-- a piece within an argument leads somewhere in both, or nowhere in both
+argument_together : (w : Wrap) (a : Aimed) (arguments : List Sum) (e : expression.Front) (p : inner.Piece) (old new : Draft) (result : Option Place) → (ends_expression e (Some (In p)) ≡ true → expression_steps.finish e ≡ None)
+    → Takes (goes_on_with e p) w old p result new → GoTogether (arguing a arguments e (expression_steps.step e p) p) result
+argument_together w a arguments e p old new result stops t = go (expression_steps.step e p) refl t
+  where
+    go : (o : Option expression.Front) → expression_steps.step e p ≡ o → Takes (is_front o) w old p result new → GoTogether (arguing a arguments e o p) result
+    go (Some more) h t = rw t.0 tt
+    go None h t =
+        let none : expression_steps.finish e ≡ None = stops (ap (λ (o : Option expression.Front). not (is_front o)) h) in
+        rw (none, t.0) tt
+
+-- what the code takes is what goes on with the written argument
+takes_written : (w : Wrap) (before : List Name) (e : expression.Front) (p : inner.Piece) (old new : Draft) (result : Option Place) → Stands before e (names_in old.rule.variables) old.rule.expression
+    → Takes (goes_on_from (front_of old.rule.expression).outer (front_of old.rule.expression).operand p) w old p result new → Takes (goes_on_with e p) w old p result new
+takes_written w before e p old new result s t = subst (λ (v : Bool). Takes v w old p result new) (goes_on_is before e (names_in old.rule.variables) old.rule.expression p s) t
+
+pub arguing_promise : (w : Wrap) (p : Piece) (old new : Draft) (result : Option Place) → TakesPiece w old p result new → RightLeads (rights.Arguing w) old p result new
+arguing_promise w p old new result t = record {
+  together = λ ts f k. rw k.1.1.1.0 (together p t (k.0) (k.1.0) (k.1.1.0) (k.1.1.1.1.0.expression) (k.1.1.1.1.1));
+  each = λ ts next f k modest. rw k.1.1.1.0 (each ts next p t modest k.0 k.1.0 k.1.1.0 k.1.1.1.1.0 k.1.1.1.1.1);
+}
+  where
+    together : (p : Piece) → TakesPiece w old p result new → (a : Aimed) (arguments : List Sum) (e : expression.Front) → Stands (names_with a.led arguments) e (names_in old.rule.variables) old.rule.expression
+        → (ends_expression e (Some p) ≡ true → expression_steps.finish e ≡ None) → GoTogether (step (fronts.Arguing a arguments e) p) result
+    together (In q) t a arguments e s stops = argument_together w a arguments e q old new result stops (takes_written w (names_with a.led arguments) e q old new result s t)
+    together Comma t a arguments e s stops = rw (stops refl, t.0) tt
+    together _ t a arguments e s stops = rw t.0 tt
+
+    each : (ts : Tokens) (next : Option Piece) (p : Piece) → TakesPiece w old p result new → IsModestPiece p → (a : Aimed) (arguments : List Sum) (e : expression.Front) → IsArguing ts w a arguments e old
+        → (ends_expression e (Some p) ≡ true → expression_steps.finish e ≡ None) → LeadsTo ts next (step (fronts.Arguing a arguments e) p) result new
+    each ts next (In q) t modest a arguments e k stops =
+        argument_leads ts next w a arguments e q old new result k.wrap_is k.aimed k.expression stops modest (takes_written w (names_with a.led arguments) e q old new result k.expression t)
+    each ts next Comma t modest a arguments e k stops = rw (stops refl, t.0) tt
+    each ts next _ t modest a arguments e k stops = rw t.0 tt
+
+-- nothing of an argument has been read
+pub first_stands : (ts : Tokens) (w : Wrap) (a : Aimed) (d : Draft) → IsAimed ts w a d → Stands (names_with a.led []) expression.beginning (names_in d.rule.variables) d.rule.expression
+first_stands ts w a d k = subst (λ (b : List Name). Stands b expression.beginning (names_in d.rule.variables) d.rule.expression) k.names_are (fresh_stands (names_in d.rule.variables) d.rule.expression k.expression)
+
+pub opened_right_promise : (w : Wrap) (p : Piece) (old new : Draft) (result : Option Place) → tests.closes p ≡ false → TakesPiece w old p result new → RightLeads (rights.RightOpened w) old p result new
+opened_right_promise w p old new result c t = record {
+  together = λ ts f k. rw k.1.0 (together p c t k.0 (first_stands ts w k.0 old k.1.1));
+  each = λ ts next f k modest. rw k.1.0 (each ts next p c t modest k.0 k.1.1);
+}
+  where
+    together : (p : Piece) → tests.closes p ≡ false → TakesPiece w old p result new → (a : Aimed) → Stands (names_with a.led []) expression.beginning (names_in old.rule.variables) old.rule.expression → GoTogether (step (fronts.RightOpened a) p) result
+    together (In inner.Close) c t a s = cc
+    together (In q) c t a s = argument_together w a [] expression.beginning q old new result (λ h. refl) (takes_written w (names_with a.led []) expression.beginning q old new result s t)
+    together _ c t a s = rw t.0 tt
+
+    each : (ts : Tokens) (next : Option Piece) (p : Piece) → tests.closes p ≡ false → TakesPiece w old p result new → IsModestPiece p → (a : Aimed) → IsAimed ts w a old → LeadsTo ts next (step (fronts.RightOpened a) p) result new
+    each ts next (In inner.Close) c t modest a k = cc
+    each ts next (In q) c t modest a k =
+        argument_leads ts next w a [] expression.beginning q old new result k.wrap_is k.aimed (first_stands ts w a old k) (λ h. refl) modest (takes_written w (names_with a.led []) expression.beginning q old new result (first_stands ts w a old k) t)
+    each ts next _ c t modest a k = rw t.0 tt
+
+pub opened_right_closes : (w : Wrap) (p : Piece) (old new : Draft) (place : Place) → place ≡ behind_wrap w → tests.closes p ≡ true → AfterRight old new → RightLeads (rights.RightOpened w) old p (Some place) new
+opened_right_closes w p old new place e c h = rw e (always_right (rights.RightOpened w) p old new (Some (behind_wrap w)) (λ ts next f k. opened_right_ends ts next w p f old new k c h))
+
+pub argued_closes : (w : Wrap) (p : Piece) (old new : Draft) (place : Place) → place ≡ behind_wrap w → tests.closes p ≡ true → AfterRight old new → RightLeads (rights.Argued w) old p (Some place) new
+argued_closes w p old new place e c h = rw e (always_right (rights.Argued w) p old new (Some (behind_wrap w)) (λ ts next f k. argued_ends ts next w p f old new k c h))

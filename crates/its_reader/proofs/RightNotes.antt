@@ -1,0 +1,99 @@
+-- What a right term shows at the next token is what the code finds there.
+use Rattle.std.specs.Prelude.{◌≡◌, ℕ, suc, Bool, true, false, not, ◌&&◌, ◌==◌, nat_le, if◌then◌else◌, List, [], ◌∷◌, ◌++◌, length, Option, Some, None, refl}
+use Rattle.std.proofs.Common.{sym, ap, ◌∙◌, append-nil, arith}
+use Rattle.std.proofs.lemmas.Bool.Decides.{nat_tests}
+use Rattle.model.specs.Limits.{place_limit}
+use Rattle.poly_terms.specs.Views.{term_of}
+use Rattle.expr_text.specs.Pieces as inner
+use Rattle.expr_text.specs.Trees.{Sum, Number, Named, Bracketed}
+use Rattle.expr_text.specs.Fronts as expression
+use Rattle.expr_text.specs.Fronts.{Level, Operand, Wanted, BaseRead, CaretRead, ExponentRead}
+use Rattle.expr_text.specs.Steps as expression_steps
+use Rattle.expr_text.specs.FrontNames.{token_count, goes_on_with}
+use Rattle.its_text.specs.Pieces.{Piece, In}
+use Rattle.its_text.specs.Kinds.{ManyTargets, Limit, LongName, TooManyArguments}
+use Rattle.its_text.specs.Numbering.{left_names}
+use Rattle.its_text.specs.Fronts as fronts
+use Rattle.its_text.specs.Fronts.{Front, Led, Aimed}
+use Rattle.its_text.specs.FrontNames.{names_with}
+use Rattle.its_text.specs.Shown.{Tokens, Going, fault_if, long_name, is_open, begins, ends_expression, targets_again, targets_many, passes_arguments, going_faults, token_faults, shown_next}
+use Rattle.its_reader.specs.Places.{RightSettled, IsArguing}
+use Rattle.its_reader.specs.Noting.{names_one, names_many, begins_full, right_found, IsDigital}
+use Rattle.its_reader.specs.declared.place.Wrap.{Wrap}
+use Rattle.its_reader.specs.declared.place.RightPlace.{RightPlace}
+use Rattle.its_reader.specs.declared.place.RightPlace.TheVariants as rights
+use Rattle.its_reader.specs.declared.draft.Draft.{Draft}
+use Rattle.its_reader.proofs.RightLaws.{first_stands, length-terms, updates_count}
+use Rattle.its_reader.proofs.GoingNotes.{going_is}
+
+-- one more than any number isn't 0
+pub not_none : (n : ℕ) → (suc n == 0) ≡ false
+not_none n = grind (arith, nat_tests)
+
+-- an expression that can end has a token
+pub finished_begun : (e : expression.Front) (s : Sum) → expression_steps.finish e ≡ Some s → (token_count e == 0) ≡ false
+finished_begun e s h = go e.outer e.level e.operand h
+  where
+    go : (outer : List Level) (level : Level) (o : Operand) → expression_steps.finish_from outer level o ≡ Some s → (token_count (record { outer = outer; level = level; operand = o }) == 0) ≡ false
+    go [] level (BaseRead (Number digits)) h = not_none _
+    go [] level (BaseRead (Named name)) h = not_none _
+    go [] level (BaseRead (Bracketed t)) h = not_none _
+    go [] level (ExponentRead b digits) h = not_none _
+    go [] level Wanted h = cc
+    go [] level (CaretRead b) h = cc
+    go (l ∷ outer) level o h = cc
+
+module _ (ts : Tokens) (at : ℕ) (next behind : Option Piece) (d : Draft) (f : Front) where
+  many_is : (l : Led) (next : Option Piece) → targets_many (fronts.Arrowed l) next behind ≡ (names_many next && is_open behind)
+  many_is l None = refl
+  many_is l (Some (In (inner.Word name))) = refl
+  many_is l (Some (In _)) = refl
+  many_is l (Some _) = refl
+
+  many_within : (l : Led) (next : Option Piece) → targets_many (fronts.ComOpened l) next behind ≡ (names_many next && is_open behind)
+  many_within l None = refl
+  many_within l (Some (In (inner.Word name))) = refl
+  many_within l (Some (In _)) = refl
+  many_within l (Some _) = refl
+
+  again_is : (l : Led) (next : Option Piece) → targets_again (fronts.ComOpened l) next behind ≡ (names_one next && is_open behind)
+  again_is l None = refl
+  again_is l (Some (In (inner.Word name))) = refl
+  again_is l (Some (In _)) = refl
+  again_is l (Some _) = refl
+
+  -- an argument goes on
+  arguing_full : (w : Wrap) (a : Aimed) (arguments : List Sum) (e : expression.Front) → IsArguing ts w a arguments e d → passes_arguments (fronts.Arguing a arguments e) next ≡ begins_full d.rule next
+  arguing_full w a arguments e k =
+      ap (λ n. (n == 0) && nat_le place_limit (length arguments) && begins next) (sym k.expression.tokens_are)
+      ∙ ap (λ n. (d.rule.expression.tokens == 0) && nat_le place_limit n && begins next) (sym count)
+    where
+      count : length d.rule.updates.items ≡ length arguments
+      count = sym (length-terms term_of d.rule.updates.items) ∙ (ap length k.aimed.updates_are ∙ updates_count (left_names a.led.left) arguments)
+
+  -- an argument that has ended shows nothing but a long name
+  ended_going : (e : expression.Front) (g : Going) (next : Option Piece) → g.front ≡ e → ends_expression e next ≡ true → token_faults at (Some g) next behind ≡ []
+  ended_going e g None same ends = refl
+  ended_going e g (Some (In p)) same ends = ap (λ e. if goes_on_with e p then going_faults at g p behind else []) same ∙ go (goes_on_with e p) ends
+    where
+      go : (v : Bool) → not v ≡ true → (if v then going_faults at g p behind else []) ≡ []
+      go true h = cc
+      go false h = refl
+  ended_going e g (Some _) same ends = refl
+
+  pub right_next : (place : RightPlace) → RightSettled ts next place d f → IsDigital next → shown_next at f next behind ≡ right_found place d.rule at next behind
+  right_next rights.Arrowed k digital = rw k.1.0 (simp append-nil (ap (λ v. fault_if v ManyTargets at ++ fault_if (long_name next) (Limit LongName) at) (many_is k.0 next)))
+  right_next rights.ComNamed k digital = rw k.1.0 (simp append-nil)
+  right_next rights.ComOpened k digital = rw (k.1.0, again_is k.0 next, many_within k.0 next) (simp append-nil)
+  right_next (rights.TargetNamed w) k digital = rw k.1.0 (simp append-nil)
+  right_next (rights.RightOpened w) k digital = rw k.1.0 (ap (λ xs. fault_if (long_name next) (Limit LongName) at ++ xs)
+      (going_is at (record { names = names_with k.0.led []; front = expression.beginning; leads_atom = false }) d.rule d.rule.expression false behind (first_stands ts w k.0 d k.1.1) next digital (λ p name e h. refl)))
+  right_next (rights.Arguing w) k digital = rw (k.1.1.1.0, arguing_full w k.0 k.1.0 k.1.1.0 k.1.1.1.1.0) (ap (λ xs. xs ++ fault_if (long_name next) (Limit LongName) at ++ token_faults at (Some (record { names = names_with k.0.led k.1.0; front = k.1.1.0; leads_atom = false })) next behind) (append-nil (fault_if (begins_full d.rule next) (Limit TooManyArguments) at))
+      ∙ ap (λ xs. fault_if (begins_full d.rule next) (Limit TooManyArguments) at ++ fault_if (long_name next) (Limit LongName) at ++ xs)
+      (going_is at (record { names = names_with k.0.led k.1.0; front = k.1.1.0; leads_atom = false }) d.rule d.rule.expression false behind k.1.1.1.1.0.expression next digital (λ p name e h. refl)))
+  right_next (rights.Argued w) k digital = rw (
+    k.1.1.1.1.0,
+    finished_begun k.1.1.0 k.1.1.1.0 k.1.1.1.1.1.finish_is,
+    ended_going k.1.1.0 (record { names = names_with k.0.led k.1.0; front = k.1.1.0; leads_atom = false }) next refl k.1.1.1.1.1.ends,
+  ) (simp append-nil)
+  right_next rights.RightShut k digital = rw k.1.1.0 (simp append-nil)

@@ -1,0 +1,280 @@
+-- Where each piece leads outside rules, by tests of the piece.
+use Rattle.its_model.specs.Views.{rule_of}
+use Rattle.std.specs.Prelude.{◌≡◌, ℕ, ◌+◌, map, Bool, true, false, if◌then◌else◌, List, [], ◌∷◌, length, codes, Option, Some, None, refl}
+use Rattle.std.proofs.Common.{sym, ap, subst, ◌∙◌, arith}
+use Rattle.model.specs.Programs.{Name}
+use Rattle.text_core.specs.Names.{is_same}
+use Rattle.expr_text.specs.Pieces as inner
+use Rattle.its_text.specs.Pieces.{Piece, In, Remark}
+use Rattle.its_text.specs.Numbering.{rules_of}
+use Rattle.its_text.specs.Written.{WrittenRule, Section, Goal, Start, Variables, Comment, pieces_behind}
+use Rattle.its_text.specs.Fronts as fronts
+use Rattle.its_text.specs.Fronts.{Front, front_pieces, Ruling}
+use Rattle.its_text.specs.Answers.{at_index}
+use Rattle.its_text.specs.Shown.{Tokens}
+use Rattle.its_text.specs.Steps.{step}
+use Rattle.its_reader.specs.Tests as tests
+use Rattle.its_reader.specs.Standing.{KnowsBetween, KnowsSections, KnowsLast, KnowsRules, KnowsSymbols, IsFreshRule, Started, started_of}
+use Rattle.its_reader.specs.Places.{InSections, LeadsTo}
+use Rattle.its_reader.specs.Leading.{SectionLeads, StartLeads}
+use Rattle.its_reader.specs.declared.place.SectionPlace.{SectionPlace}
+use Rattle.its_reader.specs.declared.draft.Draft.{Draft}
+use Rattle.its_reader.specs.declared.place.SectionPlace.TheVariants as sections
+use Rattle.its_reader.specs.declared.place.LeftPlace.TheVariants as lefts
+use Rattle.its_reader.specs.declared.place.Place.{Place}
+use Rattle.its_reader.specs.declared.place.Place.TheVariants as places
+
+module _ (ts : Tokens) (next : Option Piece) where
+  pub between_leads : (p : Piece) (f : Front) (d : Draft) → InSections ts sections.Between d f → LeadsTo ts next (step f p) (if tests.opens p then Some (places.InSections sections.Opened) else None) d
+  between_leads p f d k = rw k.1.0 (go p)
+    where
+      go : (p : Piece) → LeadsTo ts next (step (fronts.Between k.0) p) (if tests.opens p then Some (places.InSections sections.Opened) else None) d
+      go (In inner.Open) = (k.0, (refl, k.1.1))
+      go (In _) = tt
+      go _ = tt
+
+  pub goal_named_leads : (p : Piece) (f : Front) (d : Draft) → InSections ts sections.GoalNamed d f → LeadsTo ts next (step f p) (if tests.says (codes "COMPLEXITY") p then Some (places.InSections sections.GoalSaid) else None) d
+  goal_named_leads p f d k = rw k.1.0 (go p)
+    where
+      word : (v : Bool) → LeadsTo ts next (if v then Some (fronts.GoalSaid k.0) else None) (if v then Some (places.InSections sections.GoalSaid) else None) d
+      word true = (k.0, (refl, k.1.1))
+      word false = tt
+
+      go : (p : Piece) → LeadsTo ts next (step (fronts.GoalNamed k.0) p) (if tests.says (codes "COMPLEXITY") p then Some (places.InSections sections.GoalSaid) else None) d
+      go (In (inner.Word name)) = word (is_same name (codes "COMPLEXITY"))
+      go (In _) = tt
+      go _ = tt
+
+  pub start_named_leads : (p : Piece) (f : Front) (d : Draft) → InSections ts sections.StartNamed d f → LeadsTo ts next (step f p) (if tests.opens p then Some (places.InSections sections.StartOpened) else None) d
+  start_named_leads p f d k = rw k.1.0 (go p)
+    where
+      go : (p : Piece) → LeadsTo ts next (step (fronts.StartNamed k.0) p) (if tests.opens p then Some (places.InSections sections.StartOpened) else None) d
+      go (In inner.Open) = (k.0, (refl, k.1.1))
+      go (In _) = tt
+      go _ = tt
+
+  pub start_opened_leads : (p : Piece) (f : Front) (d : Draft) → InSections ts sections.StartOpened d f → LeadsTo ts next (step f p) (if tests.says (codes "FUNCTIONSYMBOLS") p then Some (places.InSections sections.StartListed) else None) d
+  start_opened_leads p f d k = rw k.1.0 (go p)
+    where
+      word : (v : Bool) → LeadsTo ts next (if v then Some (fronts.StartListed k.0) else None) (if v then Some (places.InSections sections.StartListed) else None) d
+      word true = (k.0, (refl, k.1.1))
+      word false = tt
+
+      go : (p : Piece) → LeadsTo ts next (step (fronts.StartOpened k.0) p) (if tests.says (codes "FUNCTIONSYMBOLS") p then Some (places.InSections sections.StartListed) else None) d
+      go (In (inner.Word name)) = word (is_same name (codes "FUNCTIONSYMBOLS"))
+      go (In _) = tt
+      go _ = tt
+
+  pub start_said_leads : (p : Piece) (f : Front) (d : Draft) → InSections ts sections.StartSaid d f → LeadsTo ts next (step f p) (if tests.closes p then Some (places.InSections sections.StartShut) else None) d
+  start_said_leads p f d k = rw k.1.1.0 (go p)
+    where
+      go : (p : Piece) → LeadsTo ts next (step (fronts.StartSaid k.0 k.1.0) p) (if tests.closes p then Some (places.InSections sections.StartShut) else None) d
+      go (In inner.Close) = (k.0, (k.1.0, (refl, k.1.1.1)))
+      go (In _) = tt
+      go _ = tt
+
+  pub start_shut_leads : (p : Piece) (f : Front) (d : Draft) → InSections ts sections.StartShut d f → LeadsTo ts next (step f p) (if tests.closes p then Some (places.InSections sections.Between) else None) d
+  start_shut_leads p f d k = rw k.1.1.0 (go p)
+    where
+      go : (p : Piece) → LeadsTo ts next (step (fronts.StartShut k.0 k.1.0) p) (if tests.closes p then Some (places.InSections sections.Between) else None) d
+      go (In inner.Close) = (Start k.1.0 ∷ k.0, (refl, k.1.1.1))
+      go (In _) = tt
+      go _ = tt
+
+  -- a comment changes nothing that is known
+  with_comment : (ss : List Section) (bytes : List ℕ) (d : Draft) → KnowsBetween ts ss d → KnowsBetween ts (Comment bytes ∷ ss) d
+  with_comment ss bytes d k = record { sections = record { goal = k.sections.goal; variables = k.sections.variables; rules = k.sections.rules; start = k.sections.start }; last = k.last }
+
+  pub comment_leads : (p : Piece) (f : Front) (d : Draft) → InSections ts sections.CommentNamed d f → LeadsTo ts next (step f p) (if tests.remarks p then Some (places.InSections sections.Between) else None) d
+  comment_leads p f d k = rw k.1.0 (go p)
+    where
+      go : (p : Piece) → LeadsTo ts next (step (fronts.CommentNamed k.0) p) (if tests.remarks p then Some (places.InSections sections.Between) else None) d
+      go (Remark bytes) = (Comment bytes ∷ k.0, (refl, with_comment k.0 bytes d k.1.1))
+      go (In _) = tt
+      go _ = tt
+
+  -- the end of a goal, of the variables
+  pub goal_ends : (p : Piece) (f : Front) (old new : Draft) → InSections ts sections.GoalSaid old f → tests.closes p ≡ true
+      → new ≡ record old { sections = record old.sections { goal = true } } → LeadsTo ts next (step f p) (Some (places.InSections sections.Between)) new
+  goal_ends p f old new k h e = rw (k.1.0, e) (go p h)
+    where
+      go : (p : Piece) → tests.closes p ≡ true → LeadsTo ts next (step (fronts.GoalSaid k.0) p) (Some (places.InSections sections.Between)) (record old { sections = record old.sections { goal = true } })
+      go (In inner.Close) h = (Goal ∷ k.0, (refl, record { sections = record { goal = refl; variables = k.1.1.sections.variables; rules = k.1.1.sections.rules; start = k.1.1.sections.start }; last = last (rules_of k.0) k.1.1.last }))
+        where
+          last : (o : Option (List WrittenRule)) → KnowsLast o old → KnowsLast o (record old { sections = record old.sections { goal = true } })
+          last None h = tt
+          last (Some rules) h = record { symbols = h.symbols; rules_are = h.rules_are }
+      go (In _) h = cc
+      go _ h = cc
+
+  pub goal_goes_on : (p : Piece) (f : Front) (d : Draft) → InSections ts sections.GoalSaid d f → tests.closes p ≡ false → LeadsTo ts next (step f p) None d
+  goal_goes_on p f d k h = rw k.1.0 (go p h)
+    where
+      go : (p : Piece) → tests.closes p ≡ false → LeadsTo ts next (step (fronts.GoalSaid k.0) p) None d
+      go (In inner.Close) h = cc
+      go (In _) h = tt
+      go _ h = tt
+
+  -- what is known doesn't change with what is written beside it
+  same_last : (o : Option (List WrittenRule)) (old new : Draft) → new.symbols ≡ old.symbols → new.rules ≡ old.rules → KnowsLast o old → KnowsLast o new
+  same_last None old new a b h = tt
+  same_last (Some rules) old new a b h = record {
+    symbols = subst (KnowsSymbols _) (sym a) h.symbols;
+    rules_are = ap (λ v. map rule_of v.items) b ∙ h.rules_are;
+  }
+
+  -- the start symbol is named
+  pub start_ends : (p : Piece) (f : Front) (old new : Draft) (s : Started) → InSections ts sections.StartListed old f → tests.word p ≡ Some s.name → s.at ≡ at_index ts (length (front_pieces f))
+      → started_of new.sections.start ≡ Some s → new.sections.goal ≡ old.sections.goal → new.sections.variables ≡ old.sections.variables → new.sections.rules ≡ old.sections.rules
+      → new.symbols ≡ old.symbols → new.rules ≡ old.rules → LeadsTo ts next (step f p) (Some (places.InSections sections.StartSaid)) new
+  start_ends p f old new s k h at e g v r a b = rw k.1.0 (go p h)
+    where
+      stands : s.at ≡ at_index ts (length (pieces_behind k.0) + 4)
+      stands = at ∙ ap (λ (g : Front). at_index ts (length (front_pieces g))) k.1.0 ∙ ap (at_index ts) (omega arith)
+
+      go : (p : Piece) → tests.word p ≡ Some s.name → LeadsTo ts next (step (fronts.StartListed k.0) p) (Some (places.InSections sections.StartSaid)) new
+      go (In (inner.Word name)) h = (
+        k.0,
+        (
+          name,
+          (
+            refl,
+            record {
+              sections = record {
+                goal = g ∙ k.1.1.sections.goal;
+                variables = v ∙ k.1.1.sections.variables;
+                rules = r ∙ k.1.1.sections.rules;
+                start = e ∙ (let same : s.name ≡ name = cc in λ i. Some (record { name = same i; at = stands i }));
+              };
+              last = same_last (rules_of k.0) old new a b k.1.1.last;
+            },
+          ),
+        ),
+      )
+      go (In _) h = cc
+      go _ h = cc
+
+  pub start_goes_on : (p : Piece) (f : Front) (d : Draft) → InSections ts sections.StartListed d f → tests.word p ≡ None → LeadsTo ts next (step f p) None d
+  start_goes_on p f d k h = rw k.1.0 (go p h)
+    where
+      go : (p : Piece) → tests.word p ≡ None → LeadsTo ts next (step (fronts.StartListed k.0) p) None d
+      go (In (inner.Word name)) h = cc
+      go (In _) h = tt
+      go _ h = tt
+
+  -- the variables end
+  pub variables_end : (p : Piece) (f : Front) (old new : Draft) → InSections ts sections.Listing old f → tests.closes p ≡ true
+      → new ≡ record old { sections = record old.sections { variables = true } } → LeadsTo ts next (step f p) (Some (places.InSections sections.Between)) new
+  variables_end p f old new k h e = rw (k.1.1.0, e) (go p h)
+    where
+      go : (p : Piece) → tests.closes p ≡ true → LeadsTo ts next (step (fronts.Listing k.0 k.1.0) p) (Some (places.InSections sections.Between)) (record old { sections = record old.sections { variables = true } })
+      go (In inner.Close) h = (
+        Variables k.1.0 ∷ k.0,
+        (
+          refl,
+          record {
+            sections = record { goal = k.1.1.1.sections.goal; variables = refl; rules = k.1.1.1.sections.rules; start = k.1.1.1.sections.start };
+            last = same_last (rules_of k.0) old (record old { sections = record old.sections { variables = true } }) refl refl k.1.1.1.last;
+          },
+        ),
+      )
+      go (In _) h = cc
+      go _ h = cc
+
+  -- one variable more is listed
+  pub variables_go_on : (p : Piece) (f : Front) (d : Draft) (name : Name) → InSections ts sections.Listing d f → tests.word p ≡ Some name → LeadsTo ts next (step f p) (Some (places.InSections sections.Listing)) d
+  variables_go_on p f d name k h = rw k.1.1.0 (go p h)
+    where
+      go : (p : Piece) → tests.word p ≡ Some name → LeadsTo ts next (step (fronts.Listing k.0 k.1.0) p) (Some (places.InSections sections.Listing)) d
+      go (In (inner.Word n)) h = (k.0, (n ∷ k.1.0, (refl, k.1.1.1)))
+      go (In _) h = cc
+      go _ h = cc
+
+  pub variables_stop : (p : Piece) (f : Front) (d : Draft) → InSections ts sections.Listing d f → tests.closes p ≡ false → tests.word p ≡ None → LeadsTo ts next (step f p) None d
+  variables_stop p f d k c h = rw k.1.1.0 (go p c h)
+    where
+      go : (p : Piece) → tests.closes p ≡ false → tests.word p ≡ None → LeadsTo ts next (step (fronts.Listing k.0 k.1.0) p) None d
+      go (In (inner.Word n)) c h = cc
+      go (In inner.Close) c h = cc
+      go (In _) c h = tt
+      go _ c h = tt
+
+  -- a section's keyword
+  pub goal_begins : (p : Piece) (f : Front) (d : Draft) → InSections ts sections.Opened d f → tests.says (codes "GOAL") p ≡ true → LeadsTo ts next (step f p) (Some (places.InSections sections.GoalNamed)) d
+  goal_begins p f d k h = rw k.1.0 (go p h)
+    where
+      go : (p : Piece) → tests.says (codes "GOAL") p ≡ true → LeadsTo ts next (step (fronts.Opened k.0) p) (Some (places.InSections sections.GoalNamed)) d
+      go (In (inner.Word name)) h = rw h (k.0, (refl, k.1.1))
+      go (In _) h = cc
+      go _ h = cc
+
+  pub start_begins : (p : Piece) (f : Front) (d : Draft) → InSections ts sections.Opened d f → tests.says (codes "GOAL") p ≡ false → tests.says (codes "STARTTERM") p ≡ true → LeadsTo ts next (step f p) (Some (places.InSections sections.StartNamed)) d
+  start_begins p f d k n h = rw k.1.0 (go p n h)
+    where
+      go : (p : Piece) → tests.says (codes "GOAL") p ≡ false → tests.says (codes "STARTTERM") p ≡ true → LeadsTo ts next (step (fronts.Opened k.0) p) (Some (places.InSections sections.StartNamed)) d
+      go (In (inner.Word name)) n h = rw (n, h) (k.0, (refl, k.1.1))
+      go (In _) n h = cc
+      go _ n h = cc
+
+  pub variables_begin : (p : Piece) (f : Front) (d : Draft) → InSections ts sections.Opened d f → tests.says (codes "GOAL") p ≡ false → tests.says (codes "STARTTERM") p ≡ false → tests.says (codes "VAR") p ≡ true → LeadsTo ts next (step f p) (Some (places.InSections sections.Listing)) d
+  variables_begin p f d k n m h = rw k.1.0 (go p n m h)
+    where
+      go : (p : Piece) → tests.says (codes "GOAL") p ≡ false → tests.says (codes "STARTTERM") p ≡ false → tests.says (codes "VAR") p ≡ true → LeadsTo ts next (step (fronts.Opened k.0) p) (Some (places.InSections sections.Listing)) d
+      go (In (inner.Word name)) n m h = rw (n, m, h) (k.0, ([], (refl, k.1.1)))
+      go (In _) n m h = cc
+      go _ n m h = cc
+
+  pub rules_begin : (p : Piece) (f : Front) (old new : Draft) → InSections ts sections.Opened old f → tests.says (codes "GOAL") p ≡ false → tests.says (codes "STARTTERM") p ≡ false → tests.says (codes "VAR") p ≡ false → tests.says (codes "RULES") p ≡ true
+      → new.sections ≡ old.sections → KnowsRules [] new → IsFreshRule new.rule → LeadsTo ts next (step f p) (Some (places.InLeft lefts.Ruled)) new
+  rules_begin p f old new k n m o h s r fresh = rw k.1.0 (go p n m o h)
+    where
+      go : (p : Piece) → tests.says (codes "GOAL") p ≡ false → tests.says (codes "STARTTERM") p ≡ false → tests.says (codes "VAR") p ≡ false → tests.says (codes "RULES") p ≡ true → LeadsTo ts next (step (fronts.Opened k.0) p) (Some (places.InLeft lefts.Ruled)) new
+      go (In (inner.Word name)) n m o h = rw (n, m, o, h) (record { sections = k.0; rules = [] }, (refl, (record { sections = subst (KnowsSections ts k.0) (sym s) k.1.1.sections; rules = r }, fresh)))
+      go (In _) n m o h = cc
+      go _ n m o h = cc
+
+  pub comment_begins : (p : Piece) (f : Front) (d : Draft) → InSections ts sections.Opened d f → tests.says (codes "GOAL") p ≡ false → tests.says (codes "STARTTERM") p ≡ false → tests.says (codes "VAR") p ≡ false → tests.says (codes "RULES") p ≡ false
+      → LeadsTo ts next (step f p) (if tests.says (codes "COMMENT") p then Some (places.InSections sections.CommentNamed) else None) d
+  comment_begins p f d k n m o q = rw k.1.0 (go p n m o q)
+    where
+      word : (v : Bool) → LeadsTo ts next (if v then Some (fronts.CommentNamed k.0) else None) (if v then Some (places.InSections sections.CommentNamed) else None) d
+      word true = (k.0, (refl, k.1.1))
+      word false = tt
+
+      go : (p : Piece) → tests.says (codes "GOAL") p ≡ false → tests.says (codes "STARTTERM") p ≡ false → tests.says (codes "VAR") p ≡ false → tests.says (codes "RULES") p ≡ false
+          → LeadsTo ts next (step (fronts.Opened k.0) p) (if tests.says (codes "COMMENT") p then Some (places.InSections sections.CommentNamed) else None) d
+      go (In (inner.Word name)) n m o q = rw (n, m, o, q) (word (is_same name (codes "COMMENT")))
+      go (In _) n m o q = tt
+      go _ n m o q = tt
+
+-- what each place promises that changes nothing
+pub between_promise : (p : Piece) (d : Draft) (at : ℕ) (result : Option Place) (v : Bool) → v ≡ tests.opens p → result ≡ (if v then Some (places.InSections sections.Opened) else None) → StartLeads sections.Between d p at result d
+between_promise p d at result v e h = record { each = λ ts next f k a. rw (h, e) (between_leads ts next p f d k) }
+
+pub goal_promise : (p : Piece) (d : Draft) (at : ℕ) (result : Option Place) (v : Bool) → v ≡ tests.says (codes "COMPLEXITY") p → result ≡ (if v then Some (places.InSections sections.GoalSaid) else None) → StartLeads sections.GoalNamed d p at result d
+goal_promise p d at result v e h = record { each = λ ts next f k a. rw (h, e) (goal_named_leads ts next p f d k) }
+
+pub start_promise : (p : Piece) (d : Draft) (at : ℕ) (result : Option Place) (v : Bool) → v ≡ tests.opens p → result ≡ (if v then Some (places.InSections sections.StartOpened) else None) → StartLeads sections.StartNamed d p at result d
+start_promise p d at result v e h = record { each = λ ts next f k a. rw (h, e) (start_named_leads ts next p f d k) }
+
+pub symbols_promise : (p : Piece) (d : Draft) (at : ℕ) (result : Option Place) (v : Bool) → v ≡ tests.says (codes "FUNCTIONSYMBOLS") p → result ≡ (if v then Some (places.InSections sections.StartListed) else None) → StartLeads sections.StartOpened d p at result d
+symbols_promise p d at result v e h = record { each = λ ts next f k a. rw (h, e) (start_opened_leads ts next p f d k) }
+
+pub said_promise : (p : Piece) (d : Draft) (at : ℕ) (result : Option Place) (v : Bool) → v ≡ tests.closes p → result ≡ (if v then Some (places.InSections sections.StartShut) else None) → StartLeads sections.StartSaid d p at result d
+said_promise p d at result v e h = record { each = λ ts next f k a. rw (h, e) (start_said_leads ts next p f d k) }
+
+pub shut_promise : (p : Piece) (d : Draft) (at : ℕ) (result : Option Place) (v : Bool) → v ≡ tests.closes p → result ≡ (if v then Some (places.InSections sections.Between) else None) → StartLeads sections.StartShut d p at result d
+shut_promise p d at result v e h = record { each = λ ts next f k a. rw (h, e) (start_shut_leads ts next p f d k) }
+
+pub comment_promise : (p : Piece) (d : Draft) (at : ℕ) (result : Option Place) (v : Bool) → v ≡ tests.remarks p → result ≡ (if v then Some (places.InSections sections.Between) else None) → StartLeads sections.CommentNamed d p at result d
+comment_promise p d at result v e h = record { each = λ ts next f k a. rw (h, e) (comment_leads ts next p f d k) }
+
+pub wherever : (place : SectionPlace) (old new : Draft) (p : Piece) (at : ℕ) (result : Option Place) → SectionLeads place old p result new → StartLeads place old p at result new
+wherever place old new p at result h = record { each = λ ts next f k a. h.each ts next f k }
+
+pub last_promise : (p : Piece) (d : Draft) (result : Option Place) (v : Bool) → tests.says (codes "GOAL") p ≡ false → tests.says (codes "STARTTERM") p ≡ false → tests.says (codes "VAR") p ≡ false → tests.says (codes "RULES") p ≡ false
+    → v ≡ tests.says (codes "COMMENT") p → result ≡ (if v then Some (places.InSections sections.CommentNamed) else None) → SectionLeads sections.Opened d p result d
+last_promise p d result v n m o q e h = record { each = λ ts next f k. rw (h, e) (comment_begins ts next p f d k n m o q) }
+
+pub in_place : (place known : SectionPlace) (old new : Draft) (p : Piece) (at : ℕ) (result : Option Place) → place ≡ known → StartLeads known old p at result new → StartLeads place old p at result new
+in_place place known old new p at result e h = subst (λ (q : SectionPlace). StartLeads q old p at result new) (sym e) h

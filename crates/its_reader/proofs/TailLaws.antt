@@ -1,0 +1,79 @@
+-- A whole rule is one of the rules, and a guard ends where it is written to end.
+use Rattle.std.specs.Prelude.{◌≡◌, ◌-◌, List, [], ◌∷◌, ◌++◌, length, Some, None}
+use Rattle.std.proofs.Common.{sym, ap, subst, ◌∙◌, append-nil}
+use Rattle.model.specs.Programs.{Name}
+use Rattle.expr_text.specs.Fronts.{beginning}
+use Rattle.expr_text.specs.Guards.{Atom, Always, Compared, Atoms, First, Joined, with_atom, with_atoms}
+use Rattle.expr_text.specs.GuardFronts.{LeftSide, Conjoined, NoAtoms, JointAfter, no_atoms}
+use Rattle.expr_text.specs.Terms.{with_sum}
+use Rattle.expr_text.proofs.Stability.{extended, sum_extends}
+use Rattle.expr_reader.specs.Variables.{names_in}
+use Rattle.expr_reader.specs.GuardStanding.{atoms_in, atoms_before}
+use Rattle.expr_reader.specs.declared.guard.GuardReader.{GuardReader}
+use Rattle.its_text.specs.Written.{Guard, NoGuard, BehindMark, InSquares}
+use Rattle.its_text.specs.Numbering.{left_names, term_in, with_guard, rule_names, rule_numbered}
+use Rattle.its_text.specs.Fronts.{Headed, rule_with, ruling_with}
+use Rattle.its_text.specs.FrontNames.{headed_names}
+use Rattle.its_text.specs.Shown.{Tokens}
+use Rattle.its_reader.specs.Standing.{KnowsSections, KnowsSymbols, KnowsRuling, limited_rule, rules_so_far, symbols_headed}
+use Rattle.its_reader.specs.Places.{IsHeaded}
+use Rattle.its_reader.specs.Tailing.{rule_in, KnowsWhole, RuleEnds}
+use Rattle.its_reader.specs.declared.draft.Draft.{Draft}
+use Rattle.its_reader.proofs.Numbers.{GoesOn, updates_stay, source_stays}
+
+-- the variables go on with those of atoms, and of a guard
+atom_goes_on : (names : List Name) (a : Atom) → GoesOn names (with_atom names a)
+atom_goes_on names (Always t) = ([], sym (append-nil names))
+atom_goes_on names (Compared l sign r) = extended names (with_sum names l) (with_sum (with_sum names l) r) (sum_extends names l) (sum_extends (with_sum names l) r)
+
+atoms_go_on : (names : List Name) (atoms : Atoms) → GoesOn names (with_atoms names atoms)
+atoms_go_on names (First a) = atom_goes_on names a
+atoms_go_on names (Joined atoms joint a) = extended names (with_atoms names atoms) (with_atom (with_atoms names atoms) a) (atoms_go_on names atoms) (atom_goes_on (with_atoms names atoms) a)
+
+guard_goes_on : (names : List Name) (guard : Guard) → GoesOn names (with_guard names guard)
+guard_goes_on names NoGuard = ([], sym (append-nil names))
+guard_goes_on names (BehindMark None) = ([], sym (append-nil names))
+guard_goes_on names (BehindMark (Some atoms)) = atoms_go_on names atoms
+guard_goes_on names (InSquares None) = ([], sym (append-nil names))
+guard_goes_on names (InSquares (Some atoms)) = atoms_go_on names atoms
+
+module _ (ts : Tokens) (h : Headed) (guard : Guard) where
+  rule_is : (d : Draft) → KnowsWhole ts h guard d → rule_in d.rule ≡ limited_rule (rule_numbered (symbols_headed h) (rule_with h guard))
+  rule_is d k = λ i. record {
+    source = (k.headed.led.source_is ∙ source_stays (rule_with h guard) h.led.ruling.rules) i;
+    target = k.headed.target_is i;
+    left = k.headed.led.left_is i;
+    free = (ap (λ n. length (names_in d.rule.variables) - n) k.headed.led.left_is ∙ ap (λ ns. length ns - length h.led.left.arguments) k.names_are) i;
+    names = k.names_are i;
+    updates = (k.headed.updates_are ∙ sym (updates_stay (left_names h.led.left) (term_in h.target).arguments (rule_names (rule_with h guard)) (guard_goes_on (headed_names h) guard))) i;
+    guard = k.atoms_are i;
+  }
+
+  -- a whole rule is one of the rules
+  pub whole_rule : (old new : Draft) → KnowsWhole ts h guard old → RuleEnds old new → KnowsRuling ts (ruling_with h guard) new
+  whole_rule old new k e = record {
+    sections = subst (KnowsSections ts h.led.ruling.sections) (sym e.sections) k.headed.led.sections;
+    rules = record {
+      symbols = subst (KnowsSymbols (symbols_headed h)) (sym e.symbols) k.headed.symbols;
+      rules_are = e.rules ∙ (ap (λ rs. rs ++ rule_in old.rule ∷ []) k.headed.led.rules_are ∙ ap (λ r. rules_so_far h.led.ruling.rules ++ r ∷ []) (rule_is old k));
+    };
+  }
+
+-- no atoms have been read
+nothing_before : (c : Conjoined) (ns : List Name) (r : GuardReader) → no_atoms ≡ LeftSide c beginning → atoms_in r ≡ atoms_before ns c → atoms_in r ≡ []
+nothing_before NoAtoms ns r e a = a
+nothing_before (JointAfter atoms joint) ns r e a = cc
+
+module _ (ts : Tokens) (h : Headed) (d : Draft) (k : IsHeaded ts h d) where
+  -- the rule ends without a guard
+  no_guard_known : atoms_in d.rule.guard ≡ []
+  no_guard_known = let w = k.guard [] in nothing_before w.conjoined [] d.rule.guard w.front_is w.atoms_are
+
+  pub whole_bare : KnowsWhole ts h NoGuard d
+  whole_bare = record { headed = k.headed; names_are = k.names_are; atoms_are = no_guard_known }
+
+  pub whole_marked : KnowsWhole ts h (BehindMark None) d
+  whole_marked = record { headed = k.headed; names_are = k.names_are; atoms_are = no_guard_known }
+
+  pub whole_squared : KnowsWhole ts h (InSquares None) d
+  whole_squared = record { headed = k.headed; names_are = k.names_are; atoms_are = no_guard_known }

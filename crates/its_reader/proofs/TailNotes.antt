@@ -1,0 +1,303 @@
+-- What the next token behind a target shows is what the code finds there.
+use Rattle.std.specs.Prelude.{◌≡◌, ℕ, zero, suc, ◌<◌, Bool, true, false, not, ◌&&◌, ◌==◌, nat_le, if◌then◌else◌, List, [], ◌∷◌, ◌++◌, length, Option, Some, None, refl}
+use Rattle.std.proofs.Common.{sym, ap, subst, ◌∙◌, append-nil, append_assoc, arith, inl, inr}
+use Rattle.std.proofs.lemmas.Bool.Decides.{nat_tests}
+use Rattle.model.specs.Programs.{Name}
+use Rattle.model.specs.Limits.{rule_limit, atom_limit}
+use Rattle.its_model.specs.Views.{atom_of}
+use Rattle.expr_text.specs.Pieces as inner
+use Rattle.expr_text.specs.Trees.{Named, Number, Bracketed}
+use Rattle.expr_text.specs.Fronts as expression
+use Rattle.expr_text.specs.Fronts.{Level, Operand, Wanted, BaseRead, CaretRead, ExponentRead, Summed, NoSum, PlusAfter, MinusAfter, Factored, NoProduct, TimesAfter, beginning}
+use Rattle.expr_text.specs.Steps as expression_steps
+use Rattle.expr_text.specs.Guards.{Atom, Atoms, First, Joined, count_of, atoms_terms}
+use Rattle.expr_text.specs.GuardFronts as guards
+use Rattle.expr_text.specs.GuardFronts.{GuardFront, LeftSide, RightSide, Conjoined, NoAtoms, JointAfter, ended, compared, no_atoms, truth_of, truth_in as truth_from, expression_in}
+use Rattle.expr_text.specs.FrontNames.{token_count, goes_on_with, is_front, before_expression, truth_worded}
+use Rattle.expr_reader.specs.Variables.{names_in}
+use Rattle.expr_reader.specs.Faults.{ends_before}
+use Rattle.expr_reader.specs.GuardParts.{is_read, is_wanting}
+use Rattle.expr_reader.specs.GuardStanding as standing
+use Rattle.expr_reader.specs.GuardStanding.{atoms_in, atoms_of, atoms_before, limited_atom, IsWanting, IsInLeft, IsOpen, IsEnded, IsSettled, settled_none, settled_left, settled_right, settled_end, joined_only}
+use Rattle.expr_reader.specs.Standing.{Stands}
+use Rattle.expr_reader.specs.declared.guard.GuardReader.{GuardReader}
+use Rattle.expr_reader.proofs.Standing.{fresh_stands}
+use Rattle.its_text.specs.Pieces.{Piece, In}
+use Rattle.its_text.specs.Written.{NoGuard}
+use Rattle.its_text.specs.Kinds.{Limit, TooManyRules, TooManyAtoms, LongName}
+use Rattle.its_text.specs.Fronts as fronts
+use Rattle.its_text.specs.Fronts.{Front, Headed, rule_with}
+use Rattle.its_text.specs.FrontNames.{headed_names}
+use Rattle.its_text.specs.Steps.{guard_named}
+use Rattle.its_text.specs.Shown as shown
+use Rattle.its_text.specs.Shown.{Tokens, Found, Going, fault_if, long_name, is_word, is_open, begins, are_full, can_end, ends_expression, is_full, going_in, going_faults, is_truth, leads, token_faults, shown_next}
+use Rattle.its_reader.specs.Tests.{inner_next}
+use Rattle.its_reader.specs.Places.{TailSettled, IsGuard, IsHeaded}
+use Rattle.its_reader.specs.Noting.{IsDigital, truth_in, going_found, atom_found, atoms_full, rule_found, marked_found, ended_found, guarding_found, tail_found}
+use Rattle.its_reader.specs.declared.place.Fence.{Fence}
+use Rattle.its_reader.specs.declared.place.Fence.TheVariants as fences
+use Rattle.its_reader.specs.declared.place.TailPlace.{TailPlace}
+use Rattle.its_reader.specs.declared.place.TailPlace.TheVariants as tails
+use Rattle.its_reader.specs.declared.draft.Draft.{Draft}
+use Rattle.its_reader.proofs.LeftNotes.{length-push, length-terms, as_many_rules}
+use Rattle.its_reader.proofs.RightNotes.{not_none}
+use Rattle.its_reader.proofs.GoingNotes.{going_is}
+use Rattle.its_reader.proofs.GuardLaws.{guarded}
+
+-- there are as many atoms as have been written
+atoms_counted : (names : List Name) (atoms : Atoms) → length (atoms_terms names atoms) ≡ count_of atoms
+atoms_counted names (First a) = refl
+atoms_counted names (Joined atoms joint a) = length-push (atoms_terms names atoms) _ ∙ ap suc (atoms_counted names atoms)
+
+as_many_atoms : (names : List Name) (atoms : Atoms) (r : GuardReader) → atoms_in r ≡ atoms_of names atoms → length r.atoms.items ≡ count_of atoms
+as_many_atoms names atoms r e =
+    sym (length-terms atom_of r.atoms.items) ∙ (ap length e ∙ (length-terms limited_atom (atoms_terms names atoms) ∙ atoms_counted names atoms))
+
+-- tests that pass drop out
+kept : (a b : Bool) → a && true && true && b ≡ a && b
+kept true b = refl
+kept false b = refl
+
+-- what follows operates in an atom where it operates in what is written
+operating_is : (behind : Option Piece) → standing.is_operating (inner_next behind) ≡ shown.is_operating behind
+operating_is None = refl
+operating_is (Some (In p)) = refl
+operating_is (Some _) = refl
+
+-- an expression ends before a piece where it ends before the inner one
+ends_is : (e : expression.Front) (next : Option Piece) → ends_expression e next ≡ ends_before e (inner_next next)
+ends_is e None = refl
+ends_is e (Some (In p)) = refl
+ends_is e (Some _) = refl
+
+-- the word of the atom that always holds is a token
+truth_begun : (e : expression.Front) (a : Atom) → truth_of e ≡ Some a → (token_count e == 0) ≡ false
+truth_begun e a h = go e.outer e.level e.operand h
+  where
+    go : (outer : List Level) (level : Level) (o : Operand) → truth_from outer level o ≡ Some a → (token_count (record { outer = outer; level = level; operand = o }) == 0) ≡ false
+    go outer level (BaseRead (Named name)) h = not_none _
+    go outer level (BaseRead (Number digits)) h = not_none _
+    go outer level (BaseRead (Bracketed s)) h = not_none _
+    go outer level (CaretRead b) h = not_none _
+    go outer level (ExponentRead b digits) h = not_none _
+    go (l ∷ outer) level Wanted h = cc
+    go [] level Wanted h = none level.sum level.product level.minuses h
+      where
+        none : (s : Summed) (p : Factored) (n : ℕ) → guards.truth_at s p n Wanted ≡ Some a → (token_count (record { outer = []; level = level; operand = Wanted }) == 0) ≡ false
+        none NoSum NoProduct zero h = cc
+        none NoSum NoProduct (suc n) h = cc
+        none NoSum (TimesAfter q) n h = cc
+        none (PlusAfter s) p n h = cc
+        none (MinusAfter s) p n h = cc
+
+-- an atom that has ended has a token
+full_never : (g : GuardFront) (atoms : Atoms) → guards.finish g ≡ Some atoms → is_full g ≡ false
+full_never (RightSide c l sign e) atoms h = refl
+full_never (LeftSide NoAtoms e) atoms h = refl
+full_never (LeftSide (JointAfter before joint) e) atoms h = go (truth_of e) refl h
+  where
+    go : (o : Option Atom) → truth_of e ≡ o → ended (JointAfter before joint) o ≡ Some atoms → (token_count e == 0) && nat_le atom_limit (count_of before) ≡ false
+    go None t h = cc
+    go (Some a) t h = rw (truth_begun e a t) refl
+
+-- behind atoms that have ended no piece goes on with an expression
+joining_stops : (e : expression.Front) (joint : inner.Joint) → goes_on_with e (inner.Joining joint) ≡ false
+joining_stops e joint = go e.outer e.level e.operand
+  where
+    go : (outer : List Level) (level : Level) (o : Operand) → is_front (expression_steps.step_from outer level o (inner.Joining joint)) ≡ false
+    go outer level Wanted = refl
+    go outer level (BaseRead b) = refl
+    go outer level (CaretRead b) = refl
+    go outer level (ExponentRead b digits) = refl
+
+ended_stops : (g : GuardFront) (p : inner.Piece) → guards.step g p ≡ joined_only (guards.finish g) p → goes_on_with (expression_in g) p ≡ false
+ended_stops g (inner.Joining joint) h = joining_stops (expression_in g) joint
+ended_stops g p h = go g (expression_steps.step (expression_in g) p) h
+  where
+    go : (g : GuardFront) (o : Option expression.Front) → guards.within g o p ≡ None → is_front o ≡ false
+    go g None h = refl
+    go (LeftSide c e) (Some more) h = cc
+    go (RightSide c l sign e) (Some more) h = cc
+
+-- what shows a rule too many
+abbrev rules_shown : Fence → Headed → GuardFront → Option Piece → Bool
+rules_shown fences.Mark h g next = is_word next && ends_expression (expression_in g) next && can_end (guards.finish g) && are_full (rule_with h NoGuard ∷ h.led.ruling.rules)
+rules_shown fences.Square h g next = false
+
+module _ (ts : Tokens) (at : ℕ) (next behind : Option Piece) (d : Draft) (digital : IsDigital next) where
+  -- what a guard shows
+  guarded_shows : (fence : Fence) (h : Headed) (g : GuardFront) → shown_next at (guarded fence h g) next behind
+      ≡ fault_if (rules_shown fence h g next) (Limit TooManyRules) at ++ fault_if (is_full g && begins next) (Limit TooManyAtoms) at ++ fault_if (long_name next) (Limit LongName) at ++ token_faults at (going_in (headed_names h) g) next behind
+  guarded_shows fences.Mark h g = ap (λ xs. xs ++ fault_if (is_full g && begins next) (Limit TooManyAtoms) at ++ fault_if (long_name next) (Limit LongName) at ++ token_faults at (going_in (headed_names h) g) next behind)
+      (append-nil (fault_if (rules_shown fences.Mark h g next) (Limit TooManyRules) at))
+  guarded_shows fences.Square h g = refl
+
+  -- a name behind `:|:` that begins an atom shows what the guard shows
+  word_shows : (h : Headed) (name : Name) (next : Option Piece) → shown_next at (fronts.WordRead h name) next behind ≡ shown_next at (fronts.MarkGuarding h (guard_named name)) next behind
+  word_shows h name None = refl
+  word_shows h name (Some (In (inner.Word n))) = refl
+  word_shows h name (Some (In _)) = refl
+  word_shows h name (Some _) = refl
+
+  -- the word of the atom that always holds
+  truth_shows : (g : Going) → is_wanting d.rule.guard.place ≡ (g.leads_atom && (token_count g.front == 0))
+      → (p : inner.Piece) (name : Name) → next ≡ Some (In p) → p ≡ inner.Word name → truth_in d.rule.guard (inner_next next) (inner_next behind) ≡ is_truth g name behind
+  truth_shows g w p name e is =
+      ap (λ o. truth_in d.rule.guard (inner_next o) (inner_next behind)) e
+      ∙ (ap (λ p. truth_in d.rule.guard (Some p) (inner_next behind)) is
+      ∙ (ap (λ v. is_wanting d.rule.guard.place && truth_worded name && not v) (operating_is behind) ∙ ap (λ v. v && truth_worded name && not (shown.is_operating behind)) w))
+
+  -- an atom
+  atom_shows : (names : List Name) (g : GuardFront) → Stands (before_expression names g) (expression_in g) (names_in d.rule.variables) d.rule.guard.expression
+      → is_wanting d.rule.guard.place ≡ (leads g && (token_count (expression_in g) == 0))
+      → token_faults at (going_in names g) next behind ≡ going_found d.rule d.rule.guard.expression (truth_in d.rule.guard (inner_next next) (inner_next behind)) at (inner_next next)
+  atom_shows names g s w = going_is at now d.rule d.rule.guard.expression (truth_in d.rule.guard (inner_next next) (inner_next behind)) behind s next digital (truth_shows now w)
+    where
+      now : Going
+      now = record { names = before_expression names g; front = expression_in g; leads_atom = leads g }
+
+  -- within an atom
+  unread_shows : (fence : Fence) (h : Headed) (g : GuardFront) → rules_shown fence h g next ≡ false → is_full g && begins next ≡ atoms_full d.rule.guard next → is_read d.rule.guard.place ≡ false
+      → Stands (before_expression (headed_names h) g) (expression_in g) (names_in d.rule.variables) d.rule.guard.expression → is_wanting d.rule.guard.place ≡ (leads g && (token_count (expression_in g) == 0))
+      → shown_next at (guarded fence h g) next behind ≡ guarding_found (is_read d.rule.guard.place) fence d at next behind
+  unread_shows fence h g rules full read s w =
+      guarded_shows fence h g
+      ∙ ((λ i. fault_if (rules i) (Limit TooManyRules) at ++ fault_if (full i) (Limit TooManyAtoms) at ++ fault_if (long_name next) (Limit LongName) at ++ atom_shows (headed_names h) g s w i)
+      ∙ (append_assoc (fault_if (atoms_full d.rule.guard next) (Limit TooManyAtoms) at) (fault_if (long_name next) (Limit LongName) at) (going_found d.rule d.rule.guard.expression (truth_in d.rule.guard (inner_next next) (inner_next behind)) at (inner_next next))
+      ∙ sym (ap (λ v. guarding_found v fence d at next behind) read)))
+
+  -- no rule begins within an atom
+  no_rule : (fence : Fence) (h : Headed) (g : GuardFront) → (is_word next ≡ true → ends_expression (expression_in g) next ≡ true → guards.finish g ≡ None) → rules_shown fence h g next ≡ false
+  no_rule fences.Square h g none = refl
+  no_rule fences.Mark h g none = go (is_word next) refl (ends_expression (expression_in g) next) refl
+    where
+      go : (v : Bool) → is_word next ≡ v → (w : Bool) → ends_expression (expression_in g) next ≡ w → v && w && can_end (guards.finish g) && are_full (rule_with h NoGuard ∷ h.led.ruling.rules) ≡ false
+      go false a w b = refl
+      go true a false b = refl
+      go true a true b = rw (none a b) refl
+
+  -- a name doesn't operate
+  word_rests : (next : Option Piece) → is_word next ≡ true → standing.is_operating (inner_next next) ≡ false
+  word_rests None e = cc
+  word_rests (Some (In (inner.Word name))) e = refl
+  word_rests (Some (In _)) e = cc
+  word_rests (Some _) e = cc
+
+  counted : (n : ℕ) → length d.rule.guard.atoms.items ≡ n → is_wanting d.rule.guard.place ≡ true → nat_le atom_limit n && begins next ≡ atoms_full d.rule.guard next
+  counted n e w = sym (ap (λ v. v && nat_le atom_limit (length d.rule.guard.atoms.items) && begins next) w ∙ ap (λ n. nat_le atom_limit n && begins next) e)
+
+  -- an atom is wanted
+  wanting_full : (names : List Name) (c : Conjoined) → atoms_in d.rule.guard ≡ atoms_before names c → is_wanting d.rule.guard.place ≡ true → is_full (LeftSide c beginning) && begins next ≡ atoms_full d.rule.guard next
+  wanting_full names NoAtoms a w = counted 0 (sym (length-terms atom_of d.rule.guard.atoms.items) ∙ ap length a) w
+  wanting_full names (JointAfter atoms joint) a w = counted (count_of atoms) (as_many_atoms names atoms d.rule.guard a) w
+
+  wanting_shows : (fence : Fence) (h : Headed) (g : GuardFront) → IsWanting (headed_names h) g (names_in d.rule.variables) d.rule.guard → shown_next at (guarded fence h g) next behind ≡ guarding_found (is_read d.rule.guard.place) fence d at next behind
+  wanting_shows fence h g k =
+      subst (λ g. shown_next at (guarded fence h g) next behind ≡ guarding_found (is_read d.rule.guard.place) fence d at next behind) (sym k.front_is)
+      (unread_shows fence h (LeftSide k.conjoined beginning) (no_rule fence h (LeftSide k.conjoined beginning) (λ a b. refl))
+      (wanting_full (names_in d.rule.variables) k.conjoined k.atoms_are (ap is_wanting k.place_is)) (ap is_read k.place_is)
+      (subst (λ ns. Stands ns beginning (names_in d.rule.variables) d.rule.guard.expression) k.names_are (fresh_stands (names_in d.rule.variables) d.rule.guard.expression k.expression))
+      (ap is_wanting k.place_is))
+
+  -- some of a left side
+  positive : (n : ℕ) → 0 < n → (n == 0) ≡ false
+  positive n h = grind (arith, nat_tests)
+
+  begun_full : (c : Conjoined) (e : expression.Front) → (token_count e == 0) ≡ false → is_full (LeftSide c e) ≡ false
+  begun_full NoAtoms e b = refl
+  begun_full (JointAfter atoms joint) e b = rw b refl
+
+  left_shows : (fence : Fence) (h : Headed) (g : GuardFront) → IsInLeft (inner_next next) (headed_names h) g (names_in d.rule.variables) d.rule.guard → shown_next at (guarded fence h g) next behind ≡ guarding_found (is_read d.rule.guard.place) fence d at next behind
+  left_shows fence h g k =
+      subst (λ g. shown_next at (guarded fence h g) next behind ≡ guarding_found (is_read d.rule.guard.place) fence d at next behind) (sym k.front_is)
+      (unread_shows fence h (LeftSide k.conjoined k.read) (no_rule fence h (LeftSide k.conjoined k.read) (λ a b. ap (ended k.conjoined) (k.follows (word_rests next a))))
+      (ap (λ v. v && begins next) (begun_full k.conjoined k.read begun) ∙ sym (ap (λ v. v && nat_le atom_limit (length d.rule.guard.atoms.items) && begins next) wanting)) (ap is_read k.place_is) k.expression
+      (wanting ∙ sym begun))
+    where
+      begun : (token_count k.read == 0) ≡ false
+      begun = positive (token_count k.read) k.begun
+
+      wanting : is_wanting d.rule.guard.place ≡ false
+      wanting = ap is_wanting k.place_is
+
+  -- some of a right side
+  right_shows : (fence : Fence) (h : Headed) (g : GuardFront) → IsOpen (inner_next next) (headed_names h) g (names_in d.rule.variables) d.rule.guard → shown_next at (guarded fence h g) next behind ≡ guarding_found (is_read d.rule.guard.place) fence d at next behind
+  right_shows fence h g k =
+      subst (λ g. shown_next at (guarded fence h g) next behind ≡ guarding_found (is_read d.rule.guard.place) fence d at next behind) (sym k.right.front_is)
+      (unread_shows fence h (RightSide k.right.conjoined k.right.left k.right.sign k.right.read)
+      (no_rule fence h (RightSide k.right.conjoined k.right.left k.right.sign k.right.read)
+      (λ a b. ap (λ o. ended k.right.conjoined (compared k.right.left k.right.sign o)) (k.goes_on (sym (ends_is k.right.read next) ∙ b))))
+      (sym (ap (λ v. v && nat_le atom_limit (length d.rule.guard.atoms.items) && begins next) wanting)) (ap is_read k.right.place_is) k.right.expression wanting)
+    where
+      wanting : is_wanting d.rule.guard.place ≡ false
+      wanting = ap is_wanting k.right.place_is
+
+  -- an atom that has ended
+  ended_silent : (names : List Name) (g : GuardFront) (next : Option Piece) → ((p : inner.Piece) → inner_next next ≡ Some p → goes_on_with (expression_in g) p ≡ false) → token_faults at (going_in names g) next behind ≡ []
+  ended_silent names g None stops = refl
+  ended_silent names g (Some (In p)) stops = rw (stops p refl) refl
+  ended_silent names g (Some _) stops = refl
+
+  word_ends : (e : expression.Front) (next : Option Piece) → ((p : inner.Piece) → inner_next next ≡ Some p → goes_on_with e p ≡ false) → ends_expression e next ≡ true
+  word_ends e None stops = refl
+  word_ends e (Some (In p)) stops = ap not (stops p refl)
+  word_ends e (Some _) stops = refl
+
+  ended_shows : (fence : Fence) (h : Headed) (g : GuardFront) → length d.rules.items ≡ length h.led.ruling.rules
+      → IsEnded (inner_next next) (headed_names h) g (names_in d.rule.variables) d.rule.guard → shown_next at (guarded fence h g) next behind ≡ guarding_found (is_read d.rule.guard.place) fence d at next behind
+  ended_shows fence h g rules k = guarded_shows fence h g ∙ (by fence ∙ sym (ap (λ v. guarding_found v fence d at next behind) (ap is_read k.place_is)))
+    where
+      stops : (p : inner.Piece) → inner_next next ≡ Some p → goes_on_with (expression_in g) p ≡ false
+      stops p e = ended_stops g p (k.joins p e)
+
+      silent : token_faults at (going_in (headed_names h) g) next behind ≡ []
+      silent = ended_silent (headed_names h) g next stops
+
+      shows_rules : rules_shown fences.Mark h g next ≡ (is_word next && nat_le rule_limit (suc (length d.rules.items)))
+      shows_rules =
+          (λ i. is_word next && word_ends (expression_in g) next stops i && can_end (k.finish_is i) && nat_le rule_limit (suc (sym rules i)))
+          ∙ kept (is_word next) (nat_le rule_limit (suc (length d.rules.items)))
+
+      by : (fence : Fence) → fault_if (rules_shown fence h g next) (Limit TooManyRules) at ++ fault_if (is_full g && begins next) (Limit TooManyAtoms) at ++ fault_if (long_name next) (Limit LongName) at ++ token_faults at (going_in (headed_names h) g) next behind
+          ≡ ended_found fence d at next
+      by fences.Mark =
+          (λ i. fault_if (shows_rules i) (Limit TooManyRules) at ++ fault_if (full_never g k.atoms k.finish_is i && begins next) (Limit TooManyAtoms) at ++ fault_if (long_name next) (Limit LongName) at ++ silent i)
+          ∙ (append-nil (rule_found d at next ++ [] ++ fault_if (long_name next) (Limit LongName) at) ∙ ap (λ xs. xs ++ fault_if (long_name next) (Limit LongName) at) (append-nil (rule_found d at next)))
+      by fences.Square =
+          (λ i. fault_if (full_never g k.atoms k.finish_is i && begins next) (Limit TooManyAtoms) at ++ fault_if (long_name next) (Limit LongName) at ++ silent i) ∙ append-nil (fault_if (long_name next) (Limit LongName) at)
+
+  settled_shows : (fence : Fence) (h : Headed) (g : GuardFront) → length d.rules.items ≡ length h.led.ruling.rules → IsSettled (inner_next next) (headed_names h) g (names_in d.rule.variables) d.rule.guard
+      → shown_next at (guarded fence h g) next behind ≡ guarding_found (is_read d.rule.guard.place) fence d at next behind
+  settled_shows fence h g rules (settled_none k) = wanting_shows fence h g k
+  settled_shows fence h g rules (settled_left k) = left_shows fence h g k
+  settled_shows fence h g rules (settled_right k) = right_shows fence h g k
+  settled_shows fence h g rules (settled_end k) = ended_shows fence h g rules k
+
+  -- the front is that of the guard
+  front_shows : (fence : Fence) (h : Headed) (g : GuardFront) (f : Front) → IsGuard next fence h g f → shown_next at f next behind ≡ shown_next at (guarded fence h g) next behind
+  front_shows fences.Square h g f e = ap (λ f. shown_next at f next behind) e
+  front_shows fences.Mark h g f (inl e) = ap (λ f. shown_next at f next behind) e
+  front_shows fences.Mark h g f (inr (name, (e, (is, closed)))) = ap (λ f. shown_next at f next behind) e ∙ (word_shows h name next ∙ ap (λ g. shown_next at (fronts.MarkGuarding h g) next behind) (sym is))
+
+  -- nothing of a guard has been read
+  fresh_shows : (h : Headed) → IsHeaded ts h d → fault_if (long_name next) (Limit LongName) at ++ token_faults at (going_in (headed_names h) no_atoms) next behind ≡ atom_found d.rule at next behind
+  fresh_shows h k = ap (λ xs. fault_if (long_name next) (Limit LongName) at ++ xs) (go (k.guard (headed_names h)))
+    where
+      go : IsWanting (headed_names h) no_atoms (headed_names h) d.rule.guard
+          → token_faults at (going_in (headed_names h) no_atoms) next behind ≡ going_found d.rule d.rule.guard.expression (truth_in d.rule.guard (inner_next next) (inner_next behind)) at (inner_next next)
+      go w = atom_shows (headed_names h) no_atoms
+          (subst (λ ns. Stands ns beginning (names_in d.rule.variables) d.rule.guard.expression) k.names_are (fresh_stands (names_in d.rule.variables) d.rule.guard.expression w.expression))
+          (ap is_wanting w.place_is)
+
+  marked_shows : (h : Headed) → IsHeaded ts h d → length d.rules.items ≡ length h.led.ruling.rules → (v w : Bool) → is_word next ≡ v → is_open behind ≡ w
+      → fault_if (v && w && are_full (rule_with h NoGuard ∷ h.led.ruling.rules)) (Limit TooManyRules) at ++ [] ++ [] ++ fault_if (long_name next) (Limit LongName) at ++ token_faults at (if v && w then None else going_in (headed_names h) no_atoms) next behind
+      ≡ marked_found (v && w) d at next behind
+  marked_shows h k rules true true a b = rw (a, rules) (simp append-nil)
+  marked_shows h k rules true false a b = fresh_shows h k
+  marked_shows h k rules false w a b = fresh_shows h k
+
+  pub tail_next : (place : TailPlace) (f : Front) → TailSettled ts next place d f → shown_next at f next behind ≡ tail_found place d at next behind
+  tail_next tails.Targeted f k = rw (k.1.0, as_many_rules k.0.led.ruling.rules d k.1.1.0.headed.led.rules_are) (simp append-nil)
+  tail_next tails.GuardMarked f k = rw k.1.0 (marked_shows k.0 k.1.1 (as_many_rules k.0.led.ruling.rules d k.1.1.headed.led.rules_are) (is_word next) (is_open behind) refl refl)
+  tail_next tails.SquareOpened f k = rw k.1.0 (fresh_shows k.0 k.1.1)
+  tail_next (tails.Guarding fence) f k = front_shows fence k.0 k.1.0 f k.1.1.0 ∙ settled_shows fence k.0 k.1.0 (as_many_rules k.0.led.ruling.rules d k.1.1.1.0.led.rules_are) k.1.1.1.1.1

@@ -1,0 +1,84 @@
+-- One turn of reading, where what is judged and where the next token leads are as promised.
+use Rattle.std.specs.Prelude.{◌≡◌, ℕ, ◌-◌, Bool, true, false, List, ◌∷◌, length, Option, Some, None, refl}
+use Rattle.std.proofs.Common.{sym, ap, subst, ◌∙◌}
+use Rattle.text_core.specs.Tokens.{Token}
+use Rattle.text_core.specs.Readers.{Fault}
+use Rattle.text_core.specs.Reading.{Refused, first_of, first_among}
+use Rattle.its_text.specs.Pieces.{Piece}
+use Rattle.its_text.specs.Kinds.{Kind}
+use Rattle.its_text.specs.Lexing.{tokens_of}
+use Rattle.its_text.specs.Fronts.{Front}
+use Rattle.its_text.specs.Steps.{step}
+use Rattle.its_text.specs.Grammar.{programs}
+use Rattle.its_text.specs.Answers.{verdict}
+use Rattle.its_text.specs.Shown.{Tokens, next_piece, shown, left_wanted, off}
+use Rattle.its_reader.specs.Tests as tests
+use Rattle.its_reader.specs.Places.{SettledAt, LeadsTo}
+use Rattle.its_reader.specs.Leading.{GoTogether, IsModestPiece}
+use Rattle.its_reader.specs.Reading.{IsReading}
+use Rattle.its_reader.specs.Turning.{Judges, Advances, AllowsName, least_of, is_final, on_or_over, behind_token, Turned, turned, TurnsTo, Turns}
+use Rattle.its_reader.specs.declared.draft.Draft.{Draft}
+use Rattle.its_reader.specs.declared.place.Place.{Place}
+use Rattle.its_reader.proofs.AdvanceLaws.{off_is}
+use Rattle.its_reader.proofs.Finality.{IsFinalIn}
+use Rattle.its_reader.proofs.FollowLaws.{allowed, modest, stops, final_is, unfinal_is}
+use Rattle.its_reader.proofs.ReadingLaws.{position_is, reading_goes_on, reading_breaks}
+
+module _ (bytes : List ℕ) (place now : Place) (last : ℕ) (best first : Option (Fault Kind)) (old middle new : Draft) (t : Token Piece) (rest : Tokens) (r : IsReading bytes place last best old (t ∷ rest))
+    (j : Judges place last best old (Some t.piece) (next_piece rest) t.at now first middle) where
+  -- what ends has ended, and the fault so far is the first that is shown
+  settled_here : SettledAt (tokens_of bytes) (Some t.piece) now middle r.front
+  settled_here = j.settled (tokens_of bytes) r.front r.stands
+
+  noted_here : first ≡ first_among programs best (shown (length bytes) r.done r.front (t ∷ rest))
+  noted_here = j.noted (tokens_of bytes) (length bytes) r.done (t ∷ rest) r.front r.stands refl refl refl (sym r.last_is) r.digital.0
+
+  -- reading goes on
+  pub turn_goes_on : (reached : Place) → Advances now middle t (next_piece rest) (Some reached) new → AllowsName (left_wanted r.front) (tests.word t.piece) → IsModestPiece t.piece → IsReading bytes reached (t.upto - 1) first new rest
+  turn_goes_on reached a allows modest = go (step r.front t.piece) refl (a.each (tokens_of bytes) r.front settled_here (position_is bytes place last best old t rest r) allows modest)
+    where
+      go : (o : Option Front) → step r.front t.piece ≡ o → LeadsTo (tokens_of bytes) (next_piece rest) o (Some reached) new → IsReading bytes reached (t.upto - 1) first new rest
+      go None e h = absurd h
+      go (Some g) e h = reading_goes_on bytes place last best old t rest r first g reached new noted_here e h
+
+  -- the text breaks off
+  pub turn_breaks : Advances now middle t (next_piece rest) None new → verdict bytes ≡ Refused (first_of programs first (record { kind = off r.front (t ∷ rest); at = t.at }))
+  turn_breaks a = go (step r.front t.piece) refl (a.together (tokens_of bytes) r.front settled_here (position_is bytes place last best old t rest r))
+    where
+      go : (o : Option Front) → step r.front t.piece ≡ o → GoTogether o None → verdict bytes ≡ Refused (first_of programs first (record { kind = off r.front (t ∷ rest); at = t.at }))
+      go None e h = reading_breaks bytes place last best old t rest r first noted_here e
+      go (Some g) e h = absurd h
+
+  -- one token is read: reading goes on, or its answer is that of the text
+  pub turn_to : (reached : Option Place) → Advances now middle t (next_piece rest) reached new → TurnsTo bytes rest (turned now first t reached) new
+  turn_to None a =
+      turn_breaks a
+      ∙ ap (λ k. Refused (first_of programs first (record { kind = k; at = t.at }))) (sym (off_is (tokens_of bytes) now middle r.front t.piece settled_here))
+  turn_to (Some reached) a = go (step r.front t.piece) refl (a.together (tokens_of bytes) r.front settled_here (position_is bytes place last best old t rest r))
+    where
+      on : (g : Front) → step r.front t.piece ≡ Some g → (IsFinalIn (least_of t.piece) t first → ⊥) → IsReading bytes reached (t.upto - 1) first new rest
+      on g e never = turn_goes_on reached a (allowed bytes place last best first old t rest r noted_here never) (modest bytes place last best first old t rest r noted_here g e never)
+
+      final : (x : Fault Kind) (g : Front) → first ≡ Some x → step r.front t.piece ≡ Some g → (v : Bool) → is_final x t ≡ v → TurnsTo bytes rest (on_or_over v reached t x) new
+      final x g f e true v = stops bytes place last best first old t rest r noted_here x g f e (final_is x t v)
+      final x g f e false v = subst (λ o. IsReading bytes reached (t.upto - 1) o new rest) f (on g e (λ h. unfinal_is x t v (subst (IsFinalIn (least_of t.piece) t) f h)))
+
+      by : (g : Front) → step r.front t.piece ≡ Some g → (o : Option (Fault Kind)) → first ≡ o → TurnsTo bytes rest (behind_token o reached t) new
+      by g e None f = subst (λ o. IsReading bytes reached (t.upto - 1) o new rest) f (on g e (λ h. subst (IsFinalIn (least_of t.piece) t) f h))
+      by g e (Some x) f = final x g f e (is_final x t) refl
+
+      go : (o : Option Front) → step r.front t.piece ≡ o → GoTogether o (Some reached) → TurnsTo bytes rest (behind_token first reached t) new
+      go None e h = absurd h
+      go (Some g) e h = by g e first refl
+
+-- so it is for each text
+pub turns : (place now : Place) (last : ℕ) (best first : Option (Fault Kind)) (old middle new : Draft) (t : Token Piece) (behind : Option Piece) (reached : Option Place) → Judges place last best old (Some t.piece) behind t.at now first middle
+    → Advances now middle t behind reached new → Turns place last best old t behind (turned now first t reached) new
+turns place now last best first old middle new t behind reached j a = record {
+  each = λ bytes rest e r.
+      turn_to bytes place now last best first old middle new t rest r (subst (λ b. Judges place last best old (Some t.piece) b t.at now first middle) (sym e) j) reached
+      (subst (λ b. Advances now middle t b reached new) (sym e) a);
+}
+
+pub turned_alike : {place : Place} {last : ℕ} {best : Option (Fault Kind)} {old new : Draft} {t : Token Piece} {behind : Option Piece} {a b : Turned} → a ≡ b → Turns place last best old t behind b new → Turns place last best old t behind a new
+turned_alike {place} {last} {best} {old} {new} {t} {behind} {a} {b} e h = subst (λ to. Turns place last best old t behind to new) (sym e) h

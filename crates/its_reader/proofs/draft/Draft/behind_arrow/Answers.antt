@@ -1,0 +1,10 @@
+use Rattle.std.proofs.Common.{sym, ◌∙◌}
+use Rattle.its_reader.specs.declared.place.RightPlace.TheVariants as places
+use Rattle.its_reader.proofs.RightLaws.{always_right, com_leads, arrowed_promise}
+use Rattle.its_reader.proofs.draft.Draft.behind_arrow.Goals as goal
+
+pub returns-then-says : goal.returns-then-says
+returns-then-says c = always_right places.Arrowed _ c.args.self.now _ _ (λ ts next f k. com_leads ts next _ f _ k (sym c.says.ensures ∙ c.if-says.true))
+
+pub returns-else-says : goal.returns-else-says
+returns-else-says c = arrowed_promise _ c.args.self.now _ _ (sym c.says.ensures ∙ c.if-says.false) c.name_target.ensures.each

@@ -1,0 +1,10 @@
+use Rattle.std.proofs.Common.{ap, ◌∙◌}
+use Rattle.text_core.specs.Reading.{first_among}
+use Rattle.its_text.specs.Grammar.{programs}
+use Rattle.its_reader.specs.Faults.{maybe_fault}
+use Rattle.its_text.specs.Kinds.{Limit, TooManyRules}
+use Rattle.its_text.specs.Shown.{fault_if}
+use Rattle.its_reader.proofs.draft.Draft.noted_rule.Goals as goal
+
+pub returns : goal.returns
+returns c = c.noted.ensures ∙ ap (λ v. first_among programs (maybe_fault c.args.best) (fault_if v (Limit TooManyRules) c.args.ahead.at)) c.passes_rules-full.ensures

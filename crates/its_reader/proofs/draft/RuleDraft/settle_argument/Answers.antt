@@ -1,0 +1,9 @@
+use Rattle.std.proofs.Common.{sym, ◌∙◌}
+use Rattle.its_reader.proofs.SettlingLaws.{argument_over, argument_on}
+use Rattle.its_reader.proofs.draft.RuleDraft.settle_argument.Goals as goal
+
+pub returns-in_ok-refusal : goal.returns-in_ok-refusal
+returns-in_ok-refusal c = argument_over (sym c.argument_ends.ensures ∙ c.if-argument_ends.true) c.in_ok-refusal.ensures
+
+pub returns-else-argument_ends : goal.returns-else-argument_ends
+returns-else-argument_ends c = argument_on (sym c.argument_ends.ensures ∙ c.if-argument_ends.false)

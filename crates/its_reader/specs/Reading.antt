@@ -1,0 +1,38 @@
+-- Where the code stands in a text: what is left of it decides.
+use Rattle.std.specs.Prelude.{◌≡◌, ℕ, List, [], ◌∷◌, length, Option, Some, ⊤}
+use Rattle.text_core.specs.Tokens.{pieces, AreInOrder}
+use Rattle.text_core.specs.Readers.{Fault, onto, reached}
+use Rattle.text_core.specs.Reading.{Going, run, answer}
+use Rattle.its_text.specs.Kinds.{Kind}
+use Rattle.its_text.specs.Lexing.{tokens_of}
+use Rattle.its_text.specs.Fronts.{Front}
+use Rattle.its_text.specs.Grammar.{programs}
+use Rattle.its_text.specs.Shown.{Tokens, last_byte, next_piece}
+use Rattle.its_reader.specs.Noting.{IsDigital}
+use Rattle.its_reader.specs.Places.{StandsAt}
+use Rattle.its_reader.specs.declared.draft.Draft.{Draft}
+use Rattle.its_reader.specs.declared.place.Place.{Place}
+
+-- the position behind the tokens that have been read
+abbrev pub after : Tokens → ℕ
+after [] = 0
+after (t ∷ done) = t.upto
+
+-- literals hold digits
+abbrev pub AreDigital : Tokens → Type 0
+AreDigital [] = ⊤
+AreDigital (t ∷ rest) = IsDigital (Some t.piece) × AreDigital rest
+
+-- the code stands for a front that the text leads to, and the answer is that of what is left
+pub record IsReading (bytes : List ℕ) (place : Place) (last : ℕ) (best : Option (Fault Kind)) (d : Draft)
+    (rest : Tokens) : Type 0 where
+  pub done : Tokens
+  pub front : Front
+  pub whole : onto done rest ≡ tokens_of bytes
+  pub led : reached programs (pieces done) ≡ Some front
+  pub last_is : last ≡ last_byte done
+  pub ordered : AreInOrder (after done) rest (length bytes)
+  pub digital : AreDigital rest
+  pub pending : answer programs (length bytes) (tokens_of bytes) ≡ run programs (length bytes)
+      (Going best done front) rest
+  pub stands : StandsAt (tokens_of bytes) (next_piece rest) place d front

@@ -1,0 +1,293 @@
+// The refusals at the next token of a right term.
+
+ghost use Rattle.std.specs.Prelude.{◌≡◌, ◌&&◌, not, IsTrue, nat_lt, nat_le, length, Some};
+ghost use Rattle.text_core.specs.Names.{is_among};
+ghost use Rattle.text_core.specs.Reading.{first_among};
+ghost use Rattle.its_text.specs.Grammar.{programs};
+ghost use Rattle.expr_reader.specs.Variables.{names_in};
+ghost use Rattle.expr_reader.specs.GuardParts.{piece_in};
+ghost use Rattle.its_reader.specs.Faults.{maybe_fault};
+ghost use Rattle.its_reader.specs.Tests.{inner_next};
+ghost use Rattle.its_reader.specs.Views.{maybe_of};
+ghost use Rattle.its_text.specs.Numbering.{is_com as plain_com};
+ghost use Rattle.its_text.specs.Shown.{begins, is_open as is_open_next};
+ghost use Rattle.its_reader.specs.Views.{words_of};
+ghost use Rattle.its_reader.specs.Noting.{is_large_row, passes as plain_passes, inner_found, going_found, right_found};
+ghost use Rattle.its_reader.specs.Noting.{names_one, names_many, is_one_named, is_many_named, begins_full, going_if};
+ghost use Rattle.its_reader.specs.Noting.{is_within, targets, argues};
+ghost use Rattle.std.specs.List.{list_all};
+ghost use Rattle.std.specs.Char.{is_ascii_digit};
+ghost use Rattle.expr_text.specs.Terms.{number_of};
+ghost use Rattle.model.specs.Limits.{coefficient_limit, variable_limit, token_limit};
+ghost use Rattle.expr_reader.specs.Views.{piece_of as inner_plain};
+ghost use Rattle.its_reader.specs.Tailing.{is_modest as plain_modest};
+
+use crate::ahead::{Ahead, noted_name};
+use crate::draft::RuleDraft;
+use crate::error::LimitKind;
+use crate::fault::{Fault, Kind};
+use crate::piece::{Piece, inner_of, is_open, word_of};
+use crate::place::RightPlace;
+use expr_reader::{Expression, Piece as Inner};
+use model::{PLACE_LIMIT, TOKEN_LIMIT, VARIABLE_LIMIT};
+use text_core::value_up_to;
+
+// Whether a name is `Com_` and digits.
+fn is_com(name: &[u8]) -> bool
+    ensures { result ≡ plain_com name.now }
+{
+    if name.starts_with(b"Com_") && name.len() > 4 {
+        are_digits(&name[4..])
+    } else {
+        false
+    }
+}
+
+// Whether the next piece is `Com_1`, and a bracket opens behind it.
+fn opens_one(ahead: Ahead<'_>) -> bool
+    ensures { result ≡ (names_one (maybe_of ahead.entry.next) && is_open_next (maybe_of ahead.entry.behind)) }
+{
+    is_one(word_of(ahead.next)) && is_open(ahead.behind)
+}
+
+fn is_one(name: Option<&[u8]>) -> bool
+    ensures { result ≡ is_one_named (words_of name.entry) }
+{
+    match name {
+        Some(name) => name == b"Com_1".as_slice(),
+        None => false,
+    }
+}
+
+// Whether the next piece is `Com_` and other digits, and a bracket opens behind it.
+fn opens_many(ahead: Ahead<'_>) -> bool
+    ensures { result ≡ (names_many (maybe_of ahead.entry.next) && is_open_next (maybe_of ahead.entry.behind)) }
+{
+    is_many(word_of(ahead.next)) && is_open(ahead.behind)
+}
+
+fn is_many(name: Option<&[u8]>) -> bool
+    ensures { result ≡ is_many_named (words_of name.entry) }
+{
+    match name {
+        Some(name) => is_com(name) && name != b"Com_1".as_slice(),
+        None => false,
+    }
+}
+
+/// Whether a literal is at most 2^63 - 1.
+pub fn is_modest(piece: Inner<'_>) -> bool
+    ensures { result ≡ plain_modest (inner_plain piece.entry) }
+{
+    match piece {
+        Inner::Digits(digits) => are_modest(digits),
+        _ => true,
+    }
+}
+
+fn are_modest(digits: &[u8]) -> bool
+    ensures { result ≡ (list_all is_ascii_digit digits.now && not (nat_lt coefficient_limit (number_of digits.now))) }
+{
+    if are_digits(digits) {
+        !exceeds(digits)
+    } else {
+        false
+    }
+}
+
+// Whether a literal is over 2^63 - 1.
+fn is_large(piece: Inner<'_>) -> bool
+    ensures { result ≡ is_large_row (inner_plain piece.entry) }
+{
+    match piece {
+        Inner::Digits(digits) => are_large(digits),
+        _ => false,
+    }
+}
+
+fn are_large(digits: &[u8]) -> bool
+    ensures { result ≡ (list_all is_ascii_digit digits.now && nat_lt coefficient_limit (number_of digits.now)) }
+{
+    if are_digits(digits) {
+        exceeds(digits)
+    } else {
+        false
+    }
+}
+
+fn are_digits(bytes: &[u8]) -> bool
+    ensures { result ≡ list_all is_ascii_digit bytes.now }
+{
+    bytes.iter().all(|byte| byte.is_ascii_digit())
+}
+
+fn exceeds(digits: &[u8]) -> bool
+    requires { IsTrue (list_all is_ascii_digit digits.now) }
+    ensures { result ≡ nat_lt coefficient_limit (number_of digits.now) }
+{
+    value_up_to(1 << 63, digits) == 1 << 63
+}
+
+/// Whether an expression can begin with a piece.
+pub fn begins_expression(piece: Option<Piece<'_>>) -> bool
+    ensures { result ≡ begins (maybe_of piece.entry) }
+{
+    match piece {
+        Some(piece) => piece.begins_expression(),
+        None => false,
+    }
+}
+
+fn is_again(place: RightPlace, ahead: Ahead<'_>) -> bool
+    ensures { result ≡ (is_within place && (names_one (maybe_of ahead.entry.next) && is_open_next
+        (maybe_of ahead.entry.behind))) }
+{
+    place.is_within() && opens_one(ahead)
+}
+
+fn has_many(place: RightPlace, ahead: Ahead<'_>) -> bool
+    ensures { result ≡ (targets place && (names_many (maybe_of ahead.entry.next) && is_open_next
+        (maybe_of ahead.entry.behind))) }
+{
+    place.targets() && opens_many(ahead)
+}
+
+impl<'a> RuleDraft<'a> {
+    /// The first of a fault so far and those at the next token of a right term.
+    pub fn noted_in_right(
+        &self,
+        best: Option<Fault>,
+        place: RightPlace,
+        ahead: Ahead<'a>,
+    ) -> Option<Fault>
+        ensures { maybe_fault result ≡ first_among programs (maybe_fault best)
+            (right_found place self.now ahead.entry.at (maybe_of ahead.entry.next) (maybe_of ahead.entry.behind)) }
+    {
+        let again = is_again(place, ahead);
+        let repeated = Fault::noted(best, again, Kind::Syntax, ahead.at);
+        let many = has_many(place, ahead);
+        let targeted = Fault::noted(repeated, many, Kind::ManyTargets, ahead.at);
+        let full = self.begins_another(place, ahead.next);
+        let counted = Fault::noted(targeted, full, Kind::Limit(LimitKind::Arity), ahead.at);
+        let named = noted_name(counted, ahead);
+        self.noted_if_going(named, place.goes(), ahead)
+    }
+
+    // Whether an argument begins behind as many as the limit.
+    fn begins_another(&self, place: RightPlace, next: Option<Piece<'a>>) -> bool
+        ensures { result ≡ (argues place && begins_full self.now (maybe_of next.entry)) }
+    {
+        place.argues() && self.begins_full(next)
+    }
+
+    fn begins_full(&self, next: Option<Piece<'a>>) -> bool
+        ensures { result ≡ begins_full self.now (maybe_of next.entry) }
+    {
+        self.expression.tokens() == 0
+            && self.updates.len() >= PLACE_LIMIT
+            && begins_expression(next)
+    }
+
+    fn noted_if_going(&self, best: Option<Fault>, going: bool, ahead: Ahead<'a>) -> Option<Fault>
+        ensures { maybe_fault result ≡ first_among programs (maybe_fault best)
+            (going_if going self.now ahead.entry.at (maybe_of ahead.entry.next)) }
+    {
+        if going {
+            self.noted_going(best, &self.expression, false, ahead)
+        } else {
+            best
+        }
+    }
+
+    /// Those of a token that goes on with an expression, and may be the atom that always holds.
+    pub fn noted_going(
+        &self,
+        best: Option<Fault>,
+        expression: &Expression,
+        truth: bool,
+        ahead: Ahead<'a>,
+    ) -> Option<Fault>
+        ensures { maybe_fault result ≡ first_among programs (maybe_fault best)
+            (going_found self.now expression.now truth ahead.entry.at (inner_next (maybe_of ahead.entry.next))) }
+    {
+        self.noted_next(best, expression, truth, inner_of(ahead.next), ahead.at)
+    }
+
+    fn noted_next(
+        &self,
+        best: Option<Fault>,
+        expression: &Expression,
+        truth: bool,
+        next: Option<Inner<'a>>,
+        at: usize,
+    ) -> Option<Fault>
+        ensures { maybe_fault result ≡ first_among programs (maybe_fault best)
+            (going_found self.now expression.now truth at (piece_in next.entry)) }
+    {
+        match next {
+            Some(piece) => self.noted_piece(best, expression, truth, piece, at),
+            None => best,
+        }
+    }
+
+    fn noted_piece(
+        &self,
+        best: Option<Fault>,
+        expression: &Expression,
+        truth: bool,
+        piece: Inner<'a>,
+        at: usize,
+    ) -> Option<Fault>
+        ensures { maybe_fault result ≡ first_among programs (maybe_fault best)
+            (going_found self.now expression.now truth at (Some (inner_plain piece.entry))) }
+    {
+        if expression.goes_on_with(piece) {
+            self.noted_inner(best, expression.tokens(), truth, piece, at)
+        } else {
+            best
+        }
+    }
+
+    fn noted_inner(
+        &self,
+        best: Option<Fault>,
+        tokens: usize,
+        truth: bool,
+        piece: Inner<'a>,
+        at: usize,
+    ) -> Option<Fault>
+        ensures { maybe_fault result ≡ first_among programs (maybe_fault best) (inner_found self.now tokens truth at
+            (inner_plain piece.entry)) }
+    {
+        let large = is_large(piece);
+        let measured = Fault::noted(best, large, Kind::NumberTooLarge, at);
+        let full = self.passes(truth, piece);
+        let counted = Fault::noted(measured, full, Kind::Limit(LimitKind::Variables), at);
+        let long = are_many(tokens);
+        Fault::noted(counted, long, Kind::Limit(LimitKind::Tokens), at)
+    }
+
+    // Whether a piece is a new variable behind 64 others.
+    fn passes(&self, truth: bool, piece: Inner<'a>) -> bool
+        ensures { result ≡ plain_passes truth self.now (inner_plain piece.entry) }
+    {
+        match piece {
+            Inner::Word(name) => self.passes_named(truth, name),
+            _ => false,
+        }
+    }
+
+    fn passes_named(&self, truth: bool, name: &'a [u8]) -> bool
+        ensures { result ≡ (not truth && not (is_among name.now
+            (names_in self.now.variables)) && nat_le variable_limit (length (names_in self.now.variables))) }
+    {
+        !truth && !self.variables.has(name) && self.variables.count() >= VARIABLE_LIMIT
+    }
+}
+
+// Whether an expression has as many tokens as the limit.
+fn are_many(tokens: usize) -> bool
+    ensures { result ≡ nat_le token_limit tokens }
+{
+    tokens >= TOKEN_LIMIT
+}

@@ -1,0 +1,166 @@
+// Where each piece leads from the beginning of a rule to the end of its left term.
+
+ghost use Rattle.std.specs.Prelude.{◌≡◌, Some, None, if◌then◌else◌, IfOk, OnOk, length, nat_lt, not, ◌==◌, ◌++◌, ◌∷◌};
+ghost use Rattle.std.specs.Prelude.{[], slice_index};
+ghost use Rattle.model.specs.Programs.{Name};
+ghost use Rattle.text_core.specs.Names.{position_of};
+ghost use Rattle.expr_text.specs.Terms.{with_name};
+ghost use Rattle.expr_reader.specs.Variables.{names_in};
+ghost use Rattle.its_reader.specs.Views.{piece_of as plain_of};
+ghost use Rattle.its_reader.specs.Tests as tests;
+ghost use Rattle.its_reader.specs.Leading.{LeftLeads, RuleLeads, ArgumentLeads, AfterLeft};
+
+use crate::draft::{Draft, RuleDraft};
+use crate::piece::Piece;
+use crate::place::{LeftPlace, Place, RightPlace, SectionPlace};
+use crate::symbols::{Symbols, narrow};
+use std::alloc::AllocError;
+
+// A place of a left term, where a test passes.
+fn leads_if(test: bool, behind: LeftPlace) -> Option<Place>
+    ensures { result ≡ (if test then Some (Place.InLeft behind) else None) }
+{
+    if test {
+        Some(Place::InLeft(behind))
+    } else {
+        None
+    }
+}
+
+impl<'a> Draft<'a> {
+    /// The place that a piece leads to up to the end of a left term. None where it can't follow.
+    pub fn advance_in_left(
+        &mut self,
+        place: LeftPlace,
+        piece: Piece<'a>,
+    ) -> Result<Option<Place>, AllocError>
+        ensures { IfOk result (λ reached. LeftLeads place self.old (plain_of piece.entry) reached self.new) }
+    {
+        match place {
+            LeftPlace::Ruled => Ok(self.begin_rule(piece)),
+            LeftPlace::SourceNamed => Ok(leads_if(piece.opens(), LeftPlace::LeftOpened)),
+            LeftPlace::LeftOpened => self.behind_left_bracket(piece),
+            LeftPlace::LeftRead => self.behind_left_argument(piece),
+            LeftPlace::LeftParted => self.behind_left_comma(piece),
+            LeftPlace::LeftShut => Ok(behind_left(piece)),
+        }
+    }
+
+    /// A rule's source, or the end of the section.
+    pub fn begin_rule(&mut self, piece: Piece<'a>) -> Option<Place>
+        ensures leads { RuleLeads self.old (plain_of piece.entry) result self.new }
+        ensures sourced { (name : Name) → tests.word (plain_of piece.entry) ≡ Some name
+            → result ≡ Some (Place.InLeft LeftPlace.SourceNamed) }
+    {
+        match piece.word() {
+            Some(name) => {
+                self.rule.name = name;
+                Some(Place::InLeft(LeftPlace::SourceNamed))
+            }
+            None => self.end_rules(piece),
+        }
+    }
+
+    fn end_rules(&mut self, piece: Piece<'a>) -> Option<Place>
+        ensures { tests.word (plain_of piece.entry) ≡ None → RuleLeads self.old (plain_of piece.entry) result self.new }
+    {
+        if piece.closes() {
+            self.sections.rules = true;
+            Some(Place::InSections(SectionPlace::Between))
+        } else {
+            None
+        }
+    }
+
+    // A left argument, or the end of a term without any.
+    fn behind_left_bracket(&mut self, piece: Piece<'a>) -> Result<Option<Place>, AllocError>
+        ensures { IfOk result (λ reached. LeftLeads LeftPlace.LeftOpened self.old
+            (plain_of piece.entry) reached self.new) }
+    {
+        if piece.closes() {
+            self.shut_left()?;
+            Ok(Some(Place::InLeft(LeftPlace::LeftShut)))
+        } else {
+            let reached = self.name_left(piece)?;
+            Ok(reached)
+        }
+    }
+
+    fn behind_left_argument(&mut self, piece: Piece<'a>) -> Result<Option<Place>, AllocError>
+        ensures { IfOk result (λ reached. LeftLeads LeftPlace.LeftRead self.old
+            (plain_of piece.entry) reached self.new) }
+    {
+        if piece.closes() {
+            self.shut_left()?;
+            Ok(Some(Place::InLeft(LeftPlace::LeftShut)))
+        } else {
+            Ok(leads_if(piece.parts(), LeftPlace::LeftParted))
+        }
+    }
+
+    fn behind_left_comma(&mut self, piece: Piece<'a>) -> Result<Option<Place>, AllocError>
+        ensures { IfOk result (λ reached. LeftLeads LeftPlace.LeftParted self.old
+            (plain_of piece.entry) reached self.new) }
+    {
+        let reached = self.name_left(piece)?;
+        Ok(reached)
+    }
+
+    // A left argument.
+    fn name_left(&mut self, piece: Piece<'a>) -> Result<Option<Place>, AllocError>
+        ensures { IfOk result (λ reached. ArgumentLeads self.old (plain_of piece.entry) reached self.new) }
+    {
+        match piece.word() {
+            Some(name) => {
+                self.rule.variables.number(name)?;
+                Ok(Some(Place::InLeft(LeftPlace::LeftRead)))
+            }
+            None => Ok(None),
+        }
+    }
+
+    // The left term ends.
+    fn shut_left(&mut self) -> Result<(), AllocError>
+        ensures { OnOk result (AfterLeft self.old self.new) }
+    {
+        self.rule.end_left(&mut self.symbols)?;
+        Ok(())
+    }
+}
+
+fn behind_left(piece: Piece<'_>) -> Option<Place>
+    ensures { result ≡ (if tests.leads (plain_of piece.entry) then Some (Place.InRight RightPlace.Arrowed) else None) }
+{
+    if piece.leads() {
+        Some(Place::InRight(RightPlace::Arrowed))
+    } else {
+        None
+    }
+}
+
+impl<'a> RuleDraft<'a> {
+    /// The left term ends: its symbol is numbered.
+    fn end_left(&mut self, symbols: &mut Symbols<'a>) -> Result<(), AllocError>
+        ensures names { OnOk result (names_in symbols.new.names
+            ≡ with_name (names_in symbols.old.names) self.old.name.now) }
+        ensures arities { OnOk result (symbols.new.arities.items
+            ≡ (if nat_lt (position_of self.old.name.now (names_in symbols.old.names))
+            (length symbols.old.arities.items) then symbols.old.arities.items else symbols.old.arities.items
+            ++ length (names_in self.old.variables) ∷ [])) }
+        ensures left { OnOk result (self.new.left ≡ length (names_in self.old.variables)) }
+        ensures source { OnOk result (self.new.source ≡ position_of self.old.name.now (names_in symbols.old.names)) }
+        ensures differs { OnOk result (self.new.differs
+            ≡ not (slice_index symbols.new.arities.items self.new.source == length (names_in self.old.variables))) }
+        ensures variables { self.new.variables ≡ self.old.variables }
+        ensures updates { self.new.updates ≡ self.old.updates }
+        ensures expression { self.new.expression ≡ self.old.expression }
+        ensures guard { self.new.guard ≡ self.old.guard }
+    {
+        let arity = narrow(self.variables.count())?;
+        let known = symbols.of_term(self.name, arity)?;
+        self.left = arity;
+        self.source = narrow(known.number)?;
+        self.differs = known.arity != arity;
+        Ok(())
+    }
+}

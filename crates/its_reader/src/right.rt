@@ -1,0 +1,220 @@
+// Where each piece leads from the arrow to the end of the target.
+
+ghost use Rattle.std.specs.Prelude.{◌≡◌, Some, None, if◌then◌else◌, IfOk, OnOk, length, nat_lt, not, ◌==◌, ◌++◌, ◌∷◌};
+ghost use Rattle.std.specs.Prelude.{[], slice_index};
+ghost use Rattle.text_core.specs.Names.{position_of};
+ghost use Rattle.expr_text.specs.Terms.{with_name};
+ghost use Rattle.expr_reader.specs.Variables.{names_in};
+ghost use Rattle.expr_reader.specs.Standing.{Leads};
+ghost use Rattle.expr_reader.specs.Views.{piece_of as inner_of};
+ghost use Rattle.its_reader.specs.Views.{piece_of as plain_of};
+ghost use Rattle.its_reader.specs.Places.{behind_wrap};
+ghost use Rattle.its_reader.specs.Leading.{RightLeads, TargetNames, AfterRight, ArgumentTakes, StaysInRule};
+
+use crate::draft::{Draft, RuleDraft};
+use crate::piece::Piece;
+use crate::place::{Place, RightPlace, TailPlace, Wrap};
+use crate::room::has_room;
+use crate::symbols::{Symbols, narrow};
+use expr_reader::Piece as Inner;
+use std::alloc::{AllocError, Global};
+
+// A place of a right term, where a test passes.
+fn leads_if(test: bool, behind: RightPlace) -> Option<Place>
+    ensures { result ≡ (if test then Some (Place.InRight behind) else None) }
+{
+    if test {
+        Some(Place::InRight(behind))
+    } else {
+        None
+    }
+}
+
+fn behind_right(wrap: Wrap) -> Place
+    ensures { result ≡ behind_wrap wrap }
+{
+    match wrap {
+        Wrap::InCom => Place::InRight(RightPlace::RightShut),
+        Wrap::Alone => Place::InTail(TailPlace::Targeted),
+    }
+}
+
+impl<'a> Draft<'a> {
+    /// The place that a piece leads to from the arrow to the end of the target. None where it can't follow.
+    pub fn advance_in_right(
+        &mut self,
+        alloc: Global,
+        place: RightPlace,
+        piece: Piece<'a>,
+    ) -> Result<Option<Place>, AllocError>
+        ensures { IfOk result (λ reached. RightLeads place self.old (plain_of piece.entry) reached self.new) }
+    {
+        match place {
+            RightPlace::Arrowed => Ok(self.behind_arrow(piece)),
+            RightPlace::ComNamed => Ok(leads_if(piece.opens(), RightPlace::ComOpened)),
+            RightPlace::ComOpened => Ok(self.behind_com(piece)),
+            RightPlace::TargetNamed(wrap) => {
+                Ok(leads_if(piece.opens(), RightPlace::RightOpened(wrap)))
+            }
+            RightPlace::RightOpened(wrap) => self.behind_right_bracket(alloc, wrap, piece),
+            RightPlace::Arguing(wrap) => self.within_argument(alloc, wrap, piece),
+            RightPlace::Argued(wrap) => self.behind_argument(wrap, piece),
+            RightPlace::RightShut => Ok(self.shut_com(piece)),
+        }
+    }
+
+    // `Com_1`, or the target's name.
+    fn behind_arrow(&mut self, piece: Piece<'a>) -> Option<Place>
+        ensures { RightLeads RightPlace.Arrowed self.old (plain_of piece.entry) result self.new }
+    {
+        if piece.says(b"Com_1") {
+            Some(Place::InRight(RightPlace::ComNamed))
+        } else {
+            self.name_target(Wrap::Alone, piece)
+        }
+    }
+
+    fn behind_com(&mut self, piece: Piece<'a>) -> Option<Place>
+        ensures { RightLeads RightPlace.ComOpened self.old (plain_of piece.entry) result self.new }
+    {
+        self.name_target(Wrap::InCom, piece)
+    }
+
+    fn name_target(&mut self, wrap: Wrap, piece: Piece<'a>) -> Option<Place>
+        ensures { TargetNames wrap self.old (plain_of piece.entry) result self.new }
+    {
+        match piece.word() {
+            Some(name) => {
+                self.rule.name = name;
+                Some(Place::InRight(RightPlace::TargetNamed(wrap)))
+            }
+            None => None,
+        }
+    }
+
+    // A right argument, or the end of a term without any.
+    fn behind_right_bracket(
+        &mut self,
+        alloc: Global,
+        wrap: Wrap,
+        piece: Piece<'a>,
+    ) -> Result<Option<Place>, AllocError>
+        ensures { IfOk result (λ reached. RightLeads (RightPlace.RightOpened wrap) self.old
+            (plain_of piece.entry) reached self.new) }
+    {
+        if piece.closes() {
+            self.shut_right()?;
+            Ok(Some(behind_right(wrap)))
+        } else {
+            let reached = self.take_argument(alloc, wrap, piece)?;
+            Ok(reached)
+        }
+    }
+
+    fn within_argument(
+        &mut self,
+        alloc: Global,
+        wrap: Wrap,
+        piece: Piece<'a>,
+    ) -> Result<Option<Place>, AllocError>
+        ensures { IfOk result (λ reached. RightLeads (RightPlace.Arguing wrap) self.old
+            (plain_of piece.entry) reached self.new) }
+    {
+        let reached = self.take_argument(alloc, wrap, piece)?;
+        Ok(reached)
+    }
+
+    fn behind_argument(&mut self, wrap: Wrap, piece: Piece<'a>) -> Result<Option<Place>, AllocError>
+        ensures { IfOk result (λ reached. RightLeads (RightPlace.Argued wrap) self.old
+            (plain_of piece.entry) reached self.new) }
+    {
+        if piece.closes() {
+            self.shut_right()?;
+            Ok(Some(behind_right(wrap)))
+        } else {
+            Ok(leads_if(piece.parts(), RightPlace::Arguing(wrap)))
+        }
+    }
+
+    // The bracket that closes `Com_1(`: the term within has been judged.
+    fn shut_com(&mut self, piece: Piece<'a>) -> Option<Place>
+        ensures { RightLeads RightPlace.RightShut self.old (plain_of piece.entry) result self.new }
+    {
+        if piece.closes() {
+            self.rule.differs = false;
+            Some(Place::InTail(TailPlace::Targeted))
+        } else {
+            None
+        }
+    }
+
+    // A piece of an argument.
+    fn take_argument(
+        &mut self,
+        alloc: Global,
+        wrap: Wrap,
+        piece: Piece<'a>,
+    ) -> Result<Option<Place>, AllocError>
+        ensures { IfOk result (λ reached. ArgumentTakes wrap self.old (plain_of piece.entry) reached self.new) }
+    {
+        match piece {
+            Piece::In(inner) => {
+                if self.rule.expression.goes_on_with(inner) {
+                    self.rule.take_inner(alloc, inner)?;
+                    Ok(Some(Place::InRight(RightPlace::Arguing(wrap))))
+                } else {
+                    Ok(None)
+                }
+            }
+            _ => Ok(None),
+        }
+    }
+
+    // The right term ends.
+    fn shut_right(&mut self) -> Result<(), AllocError>
+        ensures { OnOk result (AfterRight self.old self.new) }
+    {
+        self.rule.end_right(&mut self.symbols)?;
+        Ok(())
+    }
+}
+
+impl<'a> RuleDraft<'a> {
+    fn take_inner(&mut self, alloc: Global, piece: Inner<'a>) -> Result<(), AllocError>
+        ensures leads { OnOk result (Leads (names_in self.old.variables) self.old.expression (inner_of piece.entry)
+            (names_in self.new.variables) self.new.expression) }
+        ensures stays { StaysInRule self.old self.new }
+    {
+        if has_room(&self.expression, &self.variables) {
+            self.expression.take(alloc, &mut self.variables, piece)?;
+            Ok(())
+        } else {
+            Err(AllocError)
+        }
+    }
+
+    // The right term ends: its symbol is numbered.
+    fn end_right(&mut self, symbols: &mut Symbols<'a>) -> Result<(), AllocError>
+        ensures names { OnOk result (names_in symbols.new.names
+            ≡ with_name (names_in symbols.old.names) self.old.name.now) }
+        ensures arities { OnOk result (symbols.new.arities.items
+            ≡ (if nat_lt (position_of self.old.name.now (names_in symbols.old.names))
+            (length symbols.old.arities.items) then symbols.old.arities.items else symbols.old.arities.items
+            ++ length self.old.updates.items ∷ [])) }
+        ensures target { OnOk result (self.new.target ≡ position_of self.old.name.now (names_in symbols.old.names)) }
+        ensures differs { OnOk result (self.new.differs
+            ≡ not (slice_index symbols.new.arities.items self.new.target == length self.old.updates.items)) }
+        ensures variables { self.new.variables ≡ self.old.variables }
+        ensures left { self.new.left ≡ self.old.left }
+        ensures source { self.new.source ≡ self.old.source }
+        ensures updates { self.new.updates ≡ self.old.updates }
+        ensures expression { self.new.expression ≡ self.old.expression }
+        ensures guard { self.new.guard ≡ self.old.guard }
+    {
+        let arity = narrow(self.updates.len())?;
+        let known = symbols.of_term(self.name, arity)?;
+        self.target = narrow(known.number)?;
+        self.differs = known.arity != arity;
+        Ok(())
+    }
+}

@@ -1,0 +1,65 @@
+// How the parts of a rule are put together.
+
+ghost use Rattle.std.specs.Prelude.{◌≡◌, map, IfOk, OnOk};
+ghost use Rattle.its_model.specs.Views.{name_of, rule_of};
+ghost use Rattle.expr_reader.specs.Variables.{names_in};
+ghost use Rattle.its_reader.specs.Tailing.{rule_in, RuleEnds};
+
+use crate::draft::{Draft, RuleDraft};
+use crate::symbols::narrow;
+use expr_reader::Variables;
+use its_model::{Name, Rule};
+use std::alloc::{AllocError, Global};
+use std::mem;
+
+/// The name with these bytes.
+pub fn name_from(alloc: Global, bytes: &[u8]) -> Result<Name, AllocError>
+    ensures { IfOk result (λ name. name_of name ≡ bytes.now) }
+{
+    Ok(Name {
+        bytes: bytes.to_vec(alloc)?,
+    })
+}
+
+/// The names of variables, in order.
+pub fn names_from(alloc: Global, variables: &Variables<'_>) -> Result<Vec<Name>, AllocError>
+    ensures { IfOk result (λ names. map name_of names.items ≡ names_in variables.now) }
+{
+    let mut names = Vec::new(alloc);
+    while let Some(name) = variables.names().get_index(names.len()) {
+        let copy = name_from(alloc, name)?;
+        names.push(copy)?;
+    }
+    Ok(names)
+}
+
+impl<'a> RuleDraft<'a> {
+    // The rule by numbers.
+    fn into_rule(mut self, alloc: Global) -> Result<Rule, AllocError>
+        ensures { IfOk result (λ rule. rule_of rule ≡ rule_in self.entry) }
+    {
+        let names = names_from(alloc, &self.variables)?;
+        let count = narrow(self.variables.count())?;
+        let guard = self.guard.take_atoms(alloc);
+        Ok(Rule {
+            source: self.source,
+            target: self.target,
+            left: self.left,
+            free: count.saturating_sub(self.left),
+            names,
+            updates: self.updates,
+            guard,
+        })
+    }
+}
+
+impl<'a> Draft<'a> {
+    /// The rule ends.
+    pub fn end_rule(&mut self, alloc: Global) -> Result<(), AllocError>
+        ensures { OnOk result (RuleEnds self.old self.new) }
+    {
+        let rule = mem::replace(&mut self.rule, RuleDraft::new(alloc));
+        self.rules.push(rule.into_rule(alloc)?)?;
+        Ok(())
+    }
+}

@@ -1,0 +1,288 @@
+// Where each piece leads behind the target of a rule.
+
+ghost use Rattle.std.specs.Prelude.{◌≡◌, ◌&&◌, ◌||◌, not, IfOk};
+ghost use Rattle.its_reader.specs.Views.{piece_of as plain_of, maybe_of};
+ghost use Rattle.its_reader.specs.Tests as tests;
+ghost use Rattle.its_reader.specs.Leading.{TailLeads};
+ghost use Rattle.its_reader.specs.Tailing.{WholeLeads, GuardIsEnded, SquareEnds, AtomTakes, TakesMaybe, TakesPiece};
+ghost use Rattle.its_reader.specs.Tailing.{StaysInGuard, guarding_if as plain_guarding, goes_on_in};
+ghost use Rattle.expr_reader.specs.GuardParts.{is_read, piece_in};
+ghost use Rattle.expr_reader.specs.GuardStanding.{Takes};
+ghost use Rattle.expr_reader.specs.Variables.{names_in};
+ghost use Rattle.expr_reader.specs.Views.{piece_of as inner_plain};
+
+use crate::ahead_right::is_modest;
+use crate::draft::{Draft, RuleDraft};
+use crate::piece::{Piece, inner_of, is_open};
+use crate::place::{Fence, LeftPlace, Place, TailPlace};
+use crate::room::has_room;
+use expr_reader::{GuardPlace, Piece as Inner};
+use std::alloc::{AllocError, Global};
+
+impl<'a> Draft<'a> {
+    /// The place that a piece leads to behind a target, with the piece behind it. None where it can't follow.
+    pub fn advance_in_tail(
+        &mut self,
+        alloc: Global,
+        place: TailPlace,
+        piece: Piece<'a>,
+        behind: Option<Piece<'a>>,
+    ) -> Result<Option<Place>, AllocError>
+        ensures { IfOk result (λ reached. TailLeads place self.old (plain_of piece.entry)
+            (maybe_of behind.entry) reached self.new) }
+    {
+        match place {
+            TailPlace::Targeted => self.behind_target(alloc, piece, behind),
+            TailPlace::GuardMarked => self.behind_mark(alloc, piece, behind),
+            TailPlace::SquareOpened => self.behind_square(alloc, piece, behind),
+            TailPlace::Guarding(fence) => self.advance_in_guard(alloc, fence, piece, behind),
+        }
+    }
+
+    fn behind_target(
+        &mut self,
+        alloc: Global,
+        piece: Piece<'a>,
+        behind: Option<Piece<'a>>,
+    ) -> Result<Option<Place>, AllocError>
+        ensures { IfOk result (λ reached. TailLeads TailPlace.Targeted self.old (plain_of piece.entry)
+            (maybe_of behind.entry) reached self.new) }
+    {
+        if piece.marks() {
+            return Ok(Some(Place::InTail(TailPlace::GuardMarked)));
+        }
+        if piece.opens_square() {
+            return Ok(Some(Place::InTail(TailPlace::SquareOpened)));
+        }
+        let reached = self.behind_rule(alloc, piece)?;
+        Ok(reached)
+    }
+
+    // A rule's source, the end of the section, or an atom.
+    fn behind_mark(
+        &mut self,
+        alloc: Global,
+        piece: Piece<'a>,
+        behind: Option<Piece<'a>>,
+    ) -> Result<Option<Place>, AllocError>
+        ensures { IfOk result (λ reached. TailLeads TailPlace.GuardMarked self.old (plain_of piece.entry)
+            (maybe_of behind.entry) reached self.new) }
+    {
+        if ends_mark(piece, behind) {
+            let ruled = self.behind_rule(alloc, piece)?;
+            Ok(ruled)
+        } else {
+            let taken = self.take_atom(alloc, Fence::Mark, piece, behind)?;
+            Ok(taken)
+        }
+    }
+
+    fn behind_square(
+        &mut self,
+        alloc: Global,
+        piece: Piece<'a>,
+        behind: Option<Piece<'a>>,
+    ) -> Result<Option<Place>, AllocError>
+        ensures { IfOk result (λ reached. TailLeads TailPlace.SquareOpened self.old (plain_of piece.entry)
+            (maybe_of behind.entry) reached self.new) }
+    {
+        if piece.closes_square() {
+            self.end_rule(alloc)?;
+            Ok(Some(Place::InLeft(LeftPlace::Ruled)))
+        } else {
+            let taken = self.take_atom(alloc, Fence::Square, piece, behind)?;
+            Ok(taken)
+        }
+    }
+
+    // The rule ends before a rule's source, or the end of the section.
+    fn behind_rule(&mut self, alloc: Global, piece: Piece<'a>) -> Result<Option<Place>, AllocError>
+        ensures { IfOk result (λ reached. WholeLeads self.old (plain_of piece.entry) reached self.new) }
+    {
+        if leaves_rule(piece) {
+            self.end_rule(alloc)?;
+            Ok(self.begin_rule(piece))
+        } else {
+            Ok(None)
+        }
+    }
+
+    // An atom has ended: what joins, or what follows the guard. Elsewhere more of the guard.
+    fn advance_in_guard(
+        &mut self,
+        alloc: Global,
+        fence: Fence,
+        piece: Piece<'a>,
+        behind: Option<Piece<'a>>,
+    ) -> Result<Option<Place>, AllocError>
+        ensures { IfOk result (λ reached. TailLeads (TailPlace.Guarding fence) self.old (plain_of piece.entry)
+            (maybe_of behind.entry) reached self.new) }
+    {
+        if self.rule.guard_goes_on(piece) {
+            let taken = self.take_atom(alloc, fence, piece, behind)?;
+            return Ok(taken);
+        }
+        let reached = self.behind_atoms(alloc, fence, piece)?;
+        Ok(reached)
+    }
+
+    // What follows a guard.
+    fn behind_atoms(
+        &mut self,
+        alloc: Global,
+        fence: Fence,
+        piece: Piece<'a>,
+    ) -> Result<Option<Place>, AllocError>
+        ensures { IfOk result (λ reached. GuardIsEnded fence self.old (plain_of piece.entry) reached self.new) }
+    {
+        match fence {
+            Fence::Mark => {
+                let ruled = self.behind_rule(alloc, piece)?;
+                Ok(ruled)
+            }
+            Fence::Square => {
+                let shut = self.behind_squared(alloc, piece)?;
+                Ok(shut)
+            }
+        }
+    }
+
+    fn behind_squared(
+        &mut self,
+        alloc: Global,
+        piece: Piece<'a>,
+    ) -> Result<Option<Place>, AllocError>
+        ensures { IfOk result (λ reached. SquareEnds self.old (plain_of piece.entry) reached self.new) }
+    {
+        if piece.closes_square() {
+            self.end_rule(alloc)?;
+            Ok(Some(Place::InLeft(LeftPlace::Ruled)))
+        } else {
+            Ok(None)
+        }
+    }
+
+    // A piece of a guard.
+    fn take_atom(
+        &mut self,
+        alloc: Global,
+        fence: Fence,
+        piece: Piece<'a>,
+        behind: Option<Piece<'a>>,
+    ) -> Result<Option<Place>, AllocError>
+        ensures { IfOk result (λ reached. AtomTakes fence self.old (plain_of piece.entry)
+            (maybe_of behind.entry) reached self.new) }
+    {
+        let reached = self
+            .rule
+            .take_guard(alloc, fence, piece.inner(), inner_of(behind))?;
+        Ok(reached)
+    }
+}
+
+// The end of the section, or a rule's source.
+fn leaves_rule(piece: Piece<'_>) -> bool
+    ensures { result ≡ (tests.closes (plain_of piece.entry) || tests.names (plain_of piece.entry)) }
+{
+    piece.closes() || piece.names()
+}
+
+// Behind `:|:` the end of the section, or a rule's source.
+fn ends_mark(piece: Piece<'_>, behind: Option<Piece<'_>>) -> bool
+    ensures { result ≡ (tests.closes (plain_of piece.entry) || (tests.names (plain_of piece.entry) && tests.is_open
+        (maybe_of behind.entry))) }
+{
+    piece.closes() || (piece.names() && is_open(behind))
+}
+
+impl<'a> RuleDraft<'a> {
+    /// An atom has been read.
+    pub fn has_read_atom(&self) -> bool
+        ensures { result ≡ is_read self.now.guard.place }
+    {
+        self.guard.place == GuardPlace::AtomRead
+    }
+
+    // The guard doesn't end before a piece.
+    fn guard_goes_on(&self, piece: Piece<'a>) -> bool
+        ensures { result ≡ (not (is_read self.now.guard.place) || tests.joins (plain_of piece.entry)) }
+    {
+        !self.has_read_atom() || piece.joins()
+    }
+
+    // A piece goes on with the expression of an atom.
+    fn atom_goes_on(&self, piece: Inner<'a>) -> bool
+        ensures { result ≡ goes_on_in self.now.guard (inner_plain piece.entry) }
+    {
+        !self.has_read_atom() && self.guard.expression.goes_on_with(piece)
+    }
+
+    fn take_guard(
+        &mut self,
+        alloc: Global,
+        fence: Fence,
+        piece: Option<Inner<'a>>,
+        behind: Option<Inner<'a>>,
+    ) -> Result<Option<Place>, AllocError>
+        ensures takes { IfOk result (λ reached. TakesMaybe fence self.old (piece_in piece.entry)
+            (piece_in behind.entry) reached self.new) }
+        ensures stays { StaysInGuard self.old self.new }
+    {
+        match piece {
+            Some(inner) => {
+                let reached = self.take_inner_guard(alloc, fence, inner, behind)?;
+                Ok(reached)
+            }
+            None => Ok(None),
+        }
+    }
+
+    // A literal that is too large is as far as reading goes.
+    fn take_inner_guard(
+        &mut self,
+        alloc: Global,
+        fence: Fence,
+        piece: Inner<'a>,
+        behind: Option<Inner<'a>>,
+    ) -> Result<Option<Place>, AllocError>
+        ensures takes { IfOk result (λ reached. TakesPiece fence self.old (inner_plain piece.entry)
+            (piece_in behind.entry) reached self.new) }
+        ensures stays { StaysInGuard self.old self.new }
+    {
+        if !is_modest(piece) {
+            let going = guarding_if(self.atom_goes_on(piece), fence);
+            return Ok(going);
+        }
+        let taken = self.take_modest(alloc, piece, behind)?;
+        let led = guarding_if(taken, fence);
+        Ok(led)
+    }
+
+    fn take_modest(
+        &mut self,
+        alloc: Global,
+        piece: Inner<'a>,
+        behind: Option<Inner<'a>>,
+    ) -> Result<bool, AllocError>
+        ensures takes { IfOk result (λ taken. Takes (names_in self.old.variables) self.old.guard
+            (inner_plain piece.entry) (piece_in behind.entry) taken (names_in self.new.variables) self.new.guard) }
+        ensures stays { StaysInGuard self.old self.new }
+    {
+        if has_room(&self.guard.expression, &self.variables) {
+            let taken = self.guard.take(alloc, &mut self.variables, piece, behind)?;
+            Ok(taken)
+        } else {
+            Err(AllocError)
+        }
+    }
+}
+
+fn guarding_if(test: bool, fence: Fence) -> Option<Place>
+    ensures { result ≡ plain_guarding test fence }
+{
+    if test {
+        Some(Place::InTail(TailPlace::Guarding(fence)))
+    } else {
+        None
+    }
+}

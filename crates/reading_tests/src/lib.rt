@@ -1,0 +1,13 @@
+// Tests of program texts by public calls alone: texts that are read, and each refusal at its byte.
+#![tactic(auto)]
+
+#[cfg(test)]
+mod damaged;
+#[cfg(test)]
+mod edges;
+#[cfg(test)]
+mod prefixes;
+#[cfg(test)]
+mod small;
+#[cfg(test)]
+mod told;
