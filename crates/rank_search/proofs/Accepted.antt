@@ -1,0 +1,415 @@
+-- A node that is found is accepted once the facts that it needs are there.
+use Rattle.std.proofs.Common.{◌≡◌, ℕ, zero, suc, ◌+◌, ◌<◌, ◌≤◌, ◌≢◌, ap, arith, refl, sym, ◌∙◌, subst, Bool, true}
+use Rattle.std.proofs.Common.{false, cond, ◌||◌, ◌⊎◌, inl, inr, List, [], ◌∷◌, ◌++◌, length, map, filter, nat_eq}
+use Rattle.std.proofs.Common.{if◌then◌else◌, Option, Some, None}
+use Rattle.std.specs.Prelude.{ℤ, pos, negsuc, nat_abs, ◌-ℤ◌, ◌≤ℤ◌, ◌<ℤ◌, ◌==◌}
+use Rattle.std.specs.List.{All, list_any, range_with_len}
+use Rattle.std.proofs.lemmas.Int.{ints}
+use Rattle.std.proofs.lemmas.Bool.{cases_lt, eq-eqb, ne_eqb, true≢false}
+use Rattle.std.proofs.lemmas.Bool.Decides.{eqb_tells}
+use Rattle.std.proofs.lemmas.List.{get_or_past}
+use Rattle.std.proofs.lemmas.List.Elements.{All-nil, All-cons, All-head, All-tail, All-map}
+use Rattle.linear_forms.specs.Forms.{Form, at}
+use Rattle.linear_forms.specs.Certificates.{Implies}
+use Rattle.linear_forms.specs.Limits.{certificate_limit}
+use Rattle.linear_forms.specs.Questions.{Group, double}
+use Rattle.linear_forms.specs.QuestionLaws.{after, parameters_of, multipliers_of, multipliers_by_group}
+use Rattle.linear_forms.specs.RuleQuestions.{RankedSet, constant_form, has_symbol, symbols_of_set, rank_question}
+use Rattle.linear_forms.proofs.ListLaws.{length-listed, after-is, All-front, All-behind}
+use Rattle.linear_forms.proofs.SolutionLaws.{All-listed}
+use Rattle.rule_forms.specs.Ranking.{Function}
+use Rattle.rule_forms.specs.RankLaws.{AreShown, loss as loss_shown, less as less_shown}
+use Rattle.rule_forms.proofs.RankFits.{function-fits}
+use Rattle.rule_forms.proofs.RankSolutions.{rank-shown}
+use Rattle.model.specs.Programs.{Program, Rule, rule_at, arity_of}
+use Rattle.model.specs.Paths.{source_in, target_in, source_of, target_of}
+use Rattle.its_model.specs.Valid.{IsValid}
+use Rattle.guard_prep.proofs.StepLaws.{valid-at}
+use Rattle.proof_nodes.specs.AcceptsPlain.{IsRule, AreMultipliers}
+use Rattle.proof_nodes.specs.AcceptsRank.{HasFormShape, HasRankShape, Loses, HasFloor, moves_of, AcceptsRank}
+use Rattle.proof_nodes.specs.Combined.{loss, less, number_form}
+use Rattle.proof_nodes.specs.Composed.{rank_form}
+use Rattle.proof_nodes.specs.Gaps.{SymbolPlace}
+use Rattle.proof_nodes.specs.Graph.{symbols_of}
+use Rattle.proof_nodes.specs.Known.{Table}
+use Rattle.proof_nodes.specs.Limits.{IsInLimit, AreInLimit}
+use Rattle.proof_nodes.specs.Nodes.{SymbolForm, RankNode}
+use Rattle.model.specs.Entries.{is_in}
+use Rattle.proof_nodes.specs.Numbers.{IsAscending}
+use Rattle.proof_setting.specs.Setting.{rows_in, news_in, setting_of}
+use Rattle.rank_search.specs.ProgramQuestions.{forms_in, ranked_set}
+use Rattle.rank_search.specs.RankAnswers.{IsRuleSet, IsRankNode, part_at}
+use Rattle.rank_search.specs.RankLaws.{found, HoldsFacts, IsShown, RankedNodesAreAccepted}
+use Rattle.rank_search.proofs.Numbers.{coefficient-small}
+use Rattle.rank_search.proofs.RankSets.{in-all, set-of, symbols-same}
+
+-- the part at a symbol that passes the test
+pub part-of : (f : Function) (test : ℕ → Bool) (a n s : ℕ) → test s ≡ true → a ≤ s → s < a + n
+    → rank_form (map (part_at f) (filter test (range_with_len a n))) (Some s) ≡ f s
+part-of f test a zero s h l m = absurd (omega (arith, l, m))
+part-of f test a (suc n) s h l m = which (eqb_tells a s) (λ k. part-of f test (a + 1) n s h k (omega (arith, m)))
+  where
+    here : (t : Bool) → test a ≡ t → a ≡ s
+        → rank_form (map (part_at f)
+        (cond t (a ∷ filter test (range_with_len (a + 1) n)) (filter test (range_with_len (a + 1) n)))) (Some s)
+        ≡ f s
+    here true e g =
+        ap (λ (b : Bool). cond b (f a) (rank_form (map (part_at f) (filter test (range_with_len (a + 1) n))) (Some s)))
+        (eq-eqb a s g)
+        ∙ ap f g
+    here false e g = absurd (true≢false (sym h ∙ (ap test (sym g) ∙ e)))
+
+    there : (t : Bool) → a ≢ s
+        → rank_form (map (part_at f) (filter test (range_with_len (a + 1) n))) (Some s) ≡ f s
+        → rank_form (map (part_at f)
+        (cond t (a ∷ filter test (range_with_len (a + 1) n)) (filter test (range_with_len (a + 1) n)))) (Some s)
+        ≡ f s
+    there true d k =
+        ap (λ (b : Bool). cond b (f a) (rank_form (map (part_at f) (filter test (range_with_len (a + 1) n))) (Some s)))
+        (ne_eqb a s d) ∙ k
+    there false d k = k
+
+    which : ((nat_eq a s ≡ true) × (a ≡ s)) ⊎ ((nat_eq a s ≡ false) × (a ≢ s))
+        → (a + 1 ≤ s → rank_form (map (part_at f) (filter test (range_with_len (a + 1) n))) (Some s) ≡ f s)
+        → rank_form (map (part_at f)
+        (cond (test a) (a ∷ filter test (range_with_len (a + 1) n)) (filter test (range_with_len (a + 1) n))))
+        (Some s) ≡ f s
+    which (inl e) later = here (test a) refl e.1
+    which (inr e) later = there (test a) e.1 (later (beyond a s l e.1))
+      where
+        beyond : (a s : ℕ) → a ≤ s → a ≢ s → a + 1 ≤ s
+        beyond a s l d = go (cases_lt a s)
+          where
+            go : (a < s) ⊎ (s ≤ a) → a + 1 ≤ s
+            go (inl k) = omega (arith, k)
+            go (inr k) = absurd (d (omega (arith, k, l)))
+
+-- a test passes for some of a list
+any-of : (test : ℕ → Bool) (x : ℕ) (xs : List ℕ) → is_in x xs ≡ true → test x ≡ true → list_any test xs ≡ true
+any-of test x [] h e = absurd (true≢false (sym h))
+any-of test x (y ∷ ys) h e = which (eqb_tells x y) (λ g. any-of test x ys g e)
+  where
+    or-true : (v : Bool) → (v || true) ≡ true
+    or-true true = refl
+    or-true false = refl
+
+    which : ((nat_eq x y ≡ true) × (x ≡ y)) ⊎ ((nat_eq x y ≡ false) × (x ≢ y)) →
+        (is_in x ys ≡ true → list_any test ys ≡ true)
+        → (test y || list_any test ys) ≡ true
+    which (inl g) later = ap (λ (b : Bool). b || list_any test ys) (ap test (sym g.1) ∙ e)
+    which (inr g) later =
+        ap (λ (b : Bool). test y || b) (later (sym (ap (λ (b : Bool). b || is_in x ys) g.0) ∙ h)) ∙ or-true (test y)
+
+-- the multipliers of groups are within a limit that the columns are within
+limits-of : (rows : List Form) (x : ℕ → ℤ) → ((j : ℕ) → nat_abs (x j) ≤ certificate_limit) → AreInLimit
+    (multipliers_of x rows)
+limits-of [] x h = All-nil IsInLimit
+limits-of (r ∷ rows) x h =
+    All-cons IsInLimit (nat_abs (x 0)) (multipliers_of (λ j. x (suc j)) rows) (h 0)
+    (limits-of rows (λ j. x (suc j)) (λ j. h (suc j)))
+
+limits-by_group : (gs : List Group) (x : ℕ → ℤ) → ((j : ℕ) → nat_abs (x j) ≤ certificate_limit) → All AreInLimit
+    (multipliers_by_group x gs)
+limits-by_group [] x h = All-nil AreInLimit
+limits-by_group (g ∷ gs) x h =
+    All-cons AreInLimit (multipliers_of x g.rows) (multipliers_by_group (after (suc (length g.rows)) x) gs)
+    (limits-of g.rows x h)
+    (limits-by_group gs (after (suc (length g.rows)) x)
+    (λ j. subst (λ (z : ℤ). nat_abs z ≤ certificate_limit) (sym (after-is (suc (length g.rows)) x j))
+    (h (suc (length g.rows) + j))))
+
+-- those of a rule are some of them
+moves-limit : (set : List ℕ) (moves : List (List ℕ)) (t : ℕ) → All AreInLimit moves → AreInLimit (moves_of set moves t)
+moves-limit [] moves t h = All-nil IsInLimit
+moves-limit (u ∷ set) [] t h = All-nil IsInLimit
+moves-limit (u ∷ set) (m ∷ moves) t h =
+    go (u == t) (All-head AreInLimit m moves h) (moves-limit set moves t (All-tail AreInLimit m moves h))
+  where
+    go : (b : Bool) → AreInLimit m → AreInLimit (moves_of set moves t) → AreInLimit (cond b m (moves_of set moves t))
+    go true k l = k
+    go false k l = l
+
+-- what is shown of a rule, and of the floor
+abbrev IsShownAt : RankedSet → Function → ℤ → ℕ → List ℕ → Type 0
+IsShownAt b f d t m = Implies (b.rule t).rows m (loss_shown f (b.rule t) (if nat_eq t b.strict then d else pos 0))
+
+abbrev IsShownFloor : RankedSet → Function → ℤ → List ℕ → Type 0
+IsShownFloor b f d m = Implies (b.rule b.strict).rows m (less_shown (f (b.rule b.strict).source) (constant_form d))
+
+-- what is shown, rule by rule
+record Split (b : RankedSet) (f : Function) (d : ℤ) (set : List ℕ) (moves : List (List ℕ))
+    (floor : List ℕ) : Type 0 where
+  pub long : length moves ≡ length set
+  pub each : (t : ℕ) → is_in t set ≡ true → IsShownAt b f d t (moves_of set moves t)
+  pub last : IsShownFloor b f d floor
+
+module _ (b : RankedSet) (f : Function) (d : ℤ) where
+  split : (set : List ℕ) (moves : List (List ℕ)) (floor : List ℕ) → AreShown b f d set (moves ++ floor ∷ [])
+      → Split b f d set moves floor
+  split [] [] floor h = record { long = refl; each = λ t e. absurd (true≢false (sym e)); last = h }
+  split [] (m ∷ []) floor h = absurd h
+  split [] (m ∷ n ∷ ms) floor h = absurd h
+  split (t ∷ []) [] floor h = absurd h.1
+  split (t ∷ u ∷ set) [] floor h = absurd h.1
+  split (t ∷ set) (m ∷ moves) floor h =
+      let rest = split set moves floor h.1 in record {
+        long = ap (λ (n : ℕ). suc n) rest.long;
+        each = λ u e. which u e rest.each (eqb_tells t u);
+        last = rest.last;
+      }
+    where
+      which : (u : ℕ) → is_in u (t ∷ set) ≡ true →
+          ((v : ℕ) → is_in v set ≡ true → IsShownAt b f d v (moves_of set moves v))
+          → ((nat_eq t u ≡ true) × (t ≡ u)) ⊎ ((nat_eq t u ≡ false) × (t ≢ u)) → IsShownAt b f d u
+          (cond (t == u) m (moves_of set moves u))
+      which u e rest (inl g) =
+          subst (λ (v : Bool). IsShownAt b f d u (cond v m (moves_of set moves u))) (sym g.0)
+          (subst (λ (v : ℕ). IsShownAt b f d v m) g.1 h.0)
+      which u e rest (inr g) =
+          subst (λ (v : Bool). IsShownAt b f d u (cond v m (moves_of set moves u))) (sym g.0)
+          (rest u (sym (ap (λ (v : Bool). v || is_in u set) (ne_eqb u t (λ k. g.1 (sym k)))) ∙ e))
+
+-- the rows and new values of a rule are those of acceptance
+same-rows : (o : Option Rule) → (forms_in o).rows ≡ rows_in o
+same-rows None = refl
+same-rows (Some r) = refl
+
+-- a loss that is shown is one that is accepted
+accepted-loss : (f : Function) (forms : List SymbolForm) (o : Option Rule) (r : Rule) (m : List ℕ) (k : ℤ) → o ≡ Some r
+    → rank_form forms (Some r.source) ≡ f r.source → rank_form forms (Some r.target) ≡ f r.target
+    → Implies (forms_in o).rows m (loss_shown f (forms_in o) k)
+    → Implies (rows_in o) m (loss (rank_form forms (source_in o)) (rank_form forms (target_in o)) (news_in o) k)
+accepted-loss f forms None r m k e s t h = absurd (nothing e)
+  where
+    nothing : None ≡ Some r → ⊥
+    nothing e = cc
+accepted-loss f forms (Some q) r m k e s t h =
+    let same : r ≡ q = cc in
+    subst (λ (g : Form). Implies (rows_in (Some q)) m (loss g (rank_form forms (Some q.target)) (news_in (Some q)) k))
+    (sym (subst (λ (x : Rule). rank_form forms (Some x.source) ≡ f x.source) same s))
+    (subst (λ (g : Form). Implies (rows_in (Some q)) m (loss (f q.source) g (news_in (Some q)) k))
+    (sym (subst (λ (x : Rule). rank_form forms (Some x.target) ≡ f x.target) same t)) h)
+
+accepted-floor : (f : Function) (forms : List SymbolForm) (o : Option Rule) (r : Rule) (m : List ℕ) (d : ℤ) → o ≡ Some r
+    → rank_form forms (Some r.source) ≡ f r.source → Implies (forms_in o).rows m
+    (less_shown (f (forms_in o).source) (constant_form d))
+    → Implies (rows_in o) m (less (rank_form forms (source_in o)) (number_form d))
+accepted-floor f forms None r m d e s h = absurd (nothing e)
+  where
+    nothing : None ≡ Some r → ⊥
+    nothing e = cc
+accepted-floor f forms (Some q) r m d e s h =
+    let same : r ≡ q = cc in
+    subst (λ (g : Form). Implies (rows_in (Some q)) m (less g (number_form d)))
+    (sym (subst (λ (x : Rule). rank_form forms (Some x.source) ≡ f x.source) same s)) h
+
+module _ (p : Program) (set : List ℕ) (strict : ℕ) (shut : List SymbolPlace) (pivots : ℕ) (node : RankNode)
+    (valid : IsValid p)
+    (rules : IsRuleSet p set strict) (n : IsRankNode (ranked_set p set strict shut) pivots node) where
+  abbrev b : RankedSet
+  b = ranked_set p set strict shut
+
+  abbrev f : Function
+  f = found b pivots node n
+
+  abbrev column : ℕ → ℤ
+  column = at n.numbers
+
+  -- each column is within the limit, and at least 0
+  column-small : (j : ℕ) → nat_abs (column j) ≤ certificate_limit
+  column-small j = go (cases_lt j (length n.numbers))
+    where
+      go : (j < length n.numbers) ⊎ (length n.numbers ≤ j) → nat_abs (column j) ≤ certificate_limit
+      go (inl l) = n.solution.within.each j l
+      go (inr l) = subst (λ (z : ℤ). nat_abs z ≤ certificate_limit) (sym (get_or_past n.numbers j (pos 0) l))
+          (let k : 0 ≤ certificate_limit = omega arith in k)
+
+  column-nonneg : (j : ℕ) → pos 0 ≤ℤ column j
+  column-nonneg j = go (cases_lt j (length n.numbers))
+    where
+      go : (j < length n.numbers) ⊎ (length n.numbers ≤ j) → pos 0 ≤ℤ column j
+      go (inl l) = n.solution.solution.nonnegative j (subst (λ (m : ℕ). j < m) n.solution.columns l)
+      go (inr l) = subst (λ (z : ℤ). pos 0 ≤ℤ z) (sym (get_or_past n.numbers j (pos 0) l))
+          (let k : pos 0 ≤ℤ pos 0 = omega (arith, ints) in k)
+
+  -- so are the parameters within it
+  parameter-small : (k : ℕ) → nat_abs (parameters_of column k) ≤ certificate_limit
+  parameter-small k =
+      apart (column (double k)) (column (suc (double k))) certificate_limit (column-nonneg (double k))
+      (column-nonneg (suc (double k)))
+      (column-small (double k)) (column-small (suc (double k)))
+    where
+      apart : (x y : ℤ) (l : ℕ) → pos 0 ≤ℤ x → pos 0 ≤ℤ y → nat_abs x ≤ l → nat_abs y ≤ l → nat_abs (x -ℤ y) ≤ l
+      apart (pos u) (pos v) l g h i j = omega (arith, ints, i, j)
+      apart (pos u) (negsuc v) l g h i j = absurd (omega (arith, ints, h))
+      apart (negsuc u) y l g h i j = absurd (omega (arith, ints, g))
+
+  -- the function's parts are the node's
+  part-is : (s : ℕ) → has_symbol b s ≡ true → s < length p.symbols → rank_form node.forms (Some s) ≡ f s
+  part-is s h l =
+      ap (λ (fs : List SymbolForm). rank_form fs (Some s)) n.forms
+      ∙ part-of f (has_symbol b) 0 (length p.symbols) s h (omega arith) (omega (arith, l))
+
+  form-shaped : (s : ℕ) → HasFormShape p (part_at f s)
+  form-shaped s = record {
+    long = length-listed (arity_of p s) _;
+    limit = record {
+      coefs = All-listed (λ c. IsInLimit (nat_abs c)) (arity_of p s) _
+          (λ j l. coefficient-small certificate_limit b (has_symbol b) 0 (length p.symbols) (parameters_of column) s
+          (suc j) parameter-small);
+      constant = coefficient-small certificate_limit b (has_symbol b) 0 (length p.symbols)
+          (parameters_of column) s 0 parameter-small;
+    };
+  }
+
+  symbols-are : map (λ x. x.symbol) node.forms ≡ symbols_of p node.set
+  symbols-are =
+      ap (λ (fs : List SymbolForm). map (λ x. x.symbol) fs) n.forms
+      ∙ (names (symbols_of_set b) ∙
+      (symbols-same p set strict shut rules.rules ∙ ap (λ (xs : List ℕ). symbols_of p xs) (sym n.same_set)))
+    where
+      names : (ss : List ℕ) → map (λ x. x.symbol) (map (part_at f) ss) ≡ ss
+      names [] = refl
+      names (s ∷ ss) = ap (λ (ys : List ℕ). s ∷ ys) (names ss)
+
+  shown : Split b f (pos node.den) set node.moves node.floor
+  shown =
+      split b f (pos node.den) set node.moves node.floor
+      (subst (λ (ms : List (List ℕ)). AreShown b f (pos node.den) set ms) (sym n.multipliers)
+      (rank-shown b column (pos node.den) (set-of p set strict shut valid rules) n.solution.solution))
+
+  all-limits : All AreInLimit (node.moves ++ node.floor ∷ [])
+  all-limits =
+      subst (λ (ms : List (List ℕ)). All AreInLimit ms) (sym n.multipliers)
+      (limits-by_group (rank_question b).groups (after (double (rank_question b).parameters) column)
+      (λ j. subst (λ (z : ℤ). nat_abs z ≤ certificate_limit)
+      (sym (after-is (double (rank_question b).parameters) column j))
+      (column-small (double (rank_question b).parameters + j))))
+
+  -- the rule with a number of the set
+  rule-at : (t : ℕ) → is_in t set ≡ true → IsRule p t
+  rule-at t h = in-all (IsRule p) t set rules.rules h
+
+  moved : (t : ℕ) → is_in t node.set ≡ true → is_in t set ≡ true
+  moved t h = subst (λ (xs : List ℕ). is_in t xs ≡ true) n.same_set h
+
+  multipliers-are : (t : ℕ) → is_in t set ≡ true → AreMultipliers (setting_of p) t (moves_of set node.moves t)
+  multipliers-are t h = record {
+    long = (shown.each t h).long ∙ ap (λ (fs : List Form). length fs) (same-rows (rule_at p t));
+    limit = moves-limit set node.moves t (All-front AreInLimit node.moves (node.floor ∷ []) all-limits);
+  }
+
+  floor-are : AreMultipliers (setting_of p) strict node.floor
+  floor-are = record {
+    long = shown.last.long ∙ ap (λ (fs : List Form). length fs) (same-rows (rule_at p strict));
+    limit = All-head AreInLimit node.floor [] (All-behind AreInLimit node.moves (node.floor ∷ []) all-limits);
+  }
+
+  -- the parts at the source and at the target of a rule of the set
+  source-part : (t : ℕ) (h : is_in t set ≡ true) (i : IsRule p t) → rank_form node.forms (Some i.rule.source)
+      ≡ f i.rule.source
+  source-part t h i =
+      part-is i.rule.source
+      (any-of (λ u. nat_eq (forms_in (rule_at p u)).source i.rule.source || nat_eq
+      (forms_in (rule_at p u)).target i.rule.source) t set h
+      (subst (λ (o : Option Rule).
+      (nat_eq (forms_in o).source i.rule.source || nat_eq (forms_in o).target i.rule.source) ≡ true)
+      (sym i.numbered)
+      (ap (λ (v : Bool). v || nat_eq i.rule.target i.rule.source) (eq-eqb i.rule.source i.rule.source refl))))
+      (valid-at p t i.rule valid i.numbered).source
+
+  target-part : (t : ℕ) (h : is_in t set ≡ true) (i : IsRule p t) → rank_form node.forms (Some i.rule.target)
+      ≡ f i.rule.target
+  target-part t h i =
+      part-is i.rule.target
+      (any-of (λ u. nat_eq (forms_in (rule_at p u)).source i.rule.target || nat_eq
+      (forms_in (rule_at p u)).target i.rule.target) t set h
+      (subst (λ (o : Option Rule).
+      (nat_eq (forms_in o).source i.rule.target || nat_eq (forms_in o).target i.rule.target) ≡ true)
+      (sym i.numbered)
+      (ap (λ (v : Bool). nat_eq i.rule.source i.rule.target || v) (eq-eqb i.rule.target i.rule.target refl) ∙ or-true
+      (nat_eq i.rule.source i.rule.target))))
+      (valid-at p t i.rule valid i.numbered).target
+    where
+      or-true : (v : Bool) → (v || true) ≡ true
+      or-true true = refl
+      or-true false = refl
+
+  -- where a rule leads
+  led : (t : ℕ) → IsRule p t → target_in (rule_at p t) ≡ target_of p t
+  led zero i = absurd (nothing i.numbered)
+    where
+      nothing : {r : Rule} → None ≡ Some r → ⊥
+      nothing e = cc
+  led (suc t) i = refl
+
+  pub loses : (t : ℕ) → is_in t node.set ≡ true → Loses (setting_of p) node t
+  loses t h =
+      let k = moved t h in
+      let i = rule-at t k in
+      subst (λ (xs : List ℕ). Implies (rows_in (rule_at p t)) (moves_of xs node.moves t)
+      (loss (rank_form node.forms (source_of p t)) (rank_form node.forms (target_of p t)) (news_in (rule_at p t))
+      (cond (t == node.rule) (pos node.den) (pos 0)))) (sym n.same_set)
+      (subst (λ (u : ℕ). Implies (rows_in (rule_at p t)) (moves_of set node.moves t)
+      (loss (rank_form node.forms (source_of p t)) (rank_form node.forms (target_of p t)) (news_in (rule_at p t))
+      (cond (t == u) (pos node.den) (pos 0)))) (sym n.numbered)
+      (subst (λ (o : Option ℕ). Implies (rows_in (rule_at p t)) (moves_of set node.moves t)
+      (loss (rank_form node.forms (source_of p t)) (rank_form node.forms o) (news_in (rule_at p t))
+      (cond (t == strict) (pos node.den) (pos 0)))) (led t i)
+      (accepted-loss f node.forms (rule_at p t) i.rule (moves_of set node.moves t)
+      (cond (t == strict) (pos node.den) (pos 0)) i.numbered
+      (source-part t k i) (target-part t k i) (shown.each t k))))
+
+  pub floor-holds : HasFloor (setting_of p) node
+  floor-holds =
+      let i = rule-at strict rules.inside in
+      subst (λ (u : ℕ). Implies (rows_in (rule_at p u)) node.floor
+      (less (rank_form node.forms (source_of p u)) (number_form (pos node.den)))) (sym n.numbered)
+      (accepted-floor f node.forms (rule_at p strict) i.rule node.floor (pos node.den) i.numbered
+      (source-part strict rules.inside i) shown.last)
+
+  pub shaped : HasRankShape (setting_of p) node
+  shaped = record {
+    ascending = subst IsAscending (sym n.same_set) rules.ascending;
+    rules = λ t h. rule-at t (moved t h);
+    inside = subst (λ (xs : List ℕ). is_in node.rule xs ≡ true) (sym n.same_set)
+        (subst (λ (u : ℕ). is_in u set ≡ true) (sym n.numbered) rules.inside);
+    symbols = symbols-are;
+    forms = subst (λ (fs : List SymbolForm). All (HasFormShape p) fs) (sym n.forms)
+        (All-map (HasFormShape p) (part_at f) (symbols_of_set b) (λ k d l. form-shaped _));
+    den = at-least-one node.den n.solution.solution.denominator;
+    den_limit = n.solution.den_within;
+    one_each = shown.long ∙ ap (λ (xs : List ℕ). length xs) (sym n.same_set);
+    moves = λ t h. subst (λ (xs : List ℕ). AreMultipliers (setting_of p) t (moves_of xs node.moves t)) (sym n.same_set)
+        (multipliers-are t (moved t h));
+    floor = subst (λ (u : ℕ). AreMultipliers (setting_of p) u node.floor) (sym n.numbered) floor-are;
+  }
+    where
+      at-least-one : (d : ℕ) → pos 0 <ℤ pos d → 1 ≤ d
+      at-least-one d l = omega (arith, ints, l)
+
+  pub node-accepted : (table : Table) → HoldsFacts (setting_of p) table node → AcceptsRank (setting_of p) table node
+  node-accepted table facts = record {
+    shape = shaped;
+    moves = loses;
+    floor = floor-holds;
+    times = facts.times;
+    sizes = facts.sizes;
+    small = facts.small;
+  }
+
+  pub node-shown : IsShown (setting_of p) node
+  node-shown = record { shape = shaped; moves = loses; floor = floor-holds }
+
+pub nodes-accepted : RankedNodesAreAccepted
+nodes-accepted = record {
+  shown = λ p set strict shut pivots node valid rules n. node-shown p set strict shut pivots node valid rules n;
+  shut = λ p set strict shut pivots node s j n h l e.
+      ap (λ (g : Form). at g.coefs j)
+      (ap (λ (fs : List SymbolForm). rank_form fs (Some s)) n.forms
+      ∙ part-of (found (ranked_set p set strict shut) pivots node n) (has_symbol (ranked_set p set strict shut)) 0
+      (length p.symbols) s h (omega arith) (omega (arith, l)))
+      ∙ (function-fits (ranked_set p set strict shut) (parameters_of (at n.numbers))).closed s j e;
+  each = λ p set strict shut pivots node valid rules n table facts. node-accepted p set strict shut pivots node valid
+      rules n table facts;
+}

@@ -1,0 +1,318 @@
+-- Multipliers and points of groups, group by group.
+use Rattle.std.proofs.Common.{◌≡◌, ℕ, zero, suc, ◌+◌, ◌<◌, ◌≤◌, ap, arith, refl, sym, ◌∙◌, List, [], ◌∷◌, ◌++◌, length}
+use Rattle.std.proofs.Common.{map, get_or, drop, append_assoc, length-append, Option, Some, None}
+use Rattle.std.specs.Prelude.{ℤ, nat_abs, slice_get, option_map}
+use Rattle.std.specs.List.{All}
+use Rattle.std.proofs.lemmas.List.{drop_more, drop_all}
+use Rattle.std.proofs.lemmas.List.Elements.{All-head, All-tail}
+use Rattle.std.proofs.lemmas.Option.{slice_get-map}
+use Rattle.linear_forms.specs.Forms.{Form}
+use Rattle.linear_forms.specs.Questions.{Group, listed, line, equations, group_columns}
+use Rattle.linear_forms.specs.QuestionLaws.{after, multipliers_of, multipliers_by_group}
+use Rattle.linear_forms.specs.RuleQuestions.{RankedSet, symbols_of_set, coefficients, move_group, floor_group}
+use Rattle.linear_forms.specs.RuleQuestions.{rank_question}
+use Rattle.linear_forms.proofs.ListLaws.{after-add, after-is, length-listed}
+use Rattle.model.specs.Programs.{Program, Rule}
+use Rattle.guard_prep.specs.declared.rule_rows.RuleRows.{RuleRows}
+use Rattle.guard_prep.specs.Prepared.{Prepared, prepared}
+use Rattle.guard_prep.specs.Views.{prepared_of}
+use Rattle.proof_nodes.specs.AcceptsPlain.{IsRule}
+use Rattle.proof_nodes.specs.Gaps.{SymbolPlace, ScaledPoint}
+use Rattle.proof_tree.specs.Composing.{AreRowsOf}
+use Rattle.rank_search.specs.ProgramQuestions.{forms_in, ranked_set}
+use Rattle.rank_search.specs.RankAnswers.{points_of, IsRuleSet}
+use Rattle.rank_search.specs.Reading.{shape_of, shape_at, group_lines, shapes}
+use Rattle.rank_search.proofs.Lists.{listed-agree, multipliers-listed}
+
+-- the numbers after the first ones of those after the first ones
+pub after-more : (n k m : ℕ) (x : ℕ → ℤ) → m ≡ n + k → after k (after n x) ≡ after m x
+after-more n k m x e = sym (after-add n k x) ∙ ap (λ (l : ℕ). after l x) (sym e)
+
+-- the multipliers of one group, and its point
+pub multipliers-one : (x : ℕ → ℤ) (start count : ℕ) (g : Group) (ms : List ℕ) → count ≡ length g.rows
+    → ms ≡ listed count (λ j. nat_abs (x (start + j))) → ms ∷ [] ≡ multipliers_by_group (after start x) (g ∷ [])
+multipliers-one x start count g ms e f =
+    ap (λ (ns : List ℕ). ns ∷ []) (f ∙ (ap (λ (n : ℕ). listed n (λ j. nat_abs (x (start + j)))) e
+    ∙ (listed-agree (length g.rows) _ _ (λ j. ap nat_abs (sym (after-is start x j))) ∙ sym
+    (multipliers-listed g.rows (after start x)))))
+
+pub point-one : (x : ℕ → ℤ) (start count : ℕ) (g : Group) (z : ScaledPoint) → count ≡ g.unknowns
+    → z.parts ≡ listed count (λ u. x (start + u)) → z.den ≡ nat_abs (x (start + count)) → z ∷ [] ≡ points_of
+    (after start x) (g ∷ [])
+point-one x start count g z e f h =
+    ap (λ (ps : List ℤ). made ps z.den)
+    (f ∙ (ap (λ (n : ℕ). listed n (λ u. x (start + u))) e ∙ listed-agree g.unknowns _ _
+    (λ j. sym (after-is start x j))))
+    ∙ ap (λ (d : ℕ). made (listed g.unknowns (after start x)) d)
+    (h ∙ ap nat_abs (ap (λ (n : ℕ). x (start + n)) e ∙ sym (after-is start x g.unknowns)))
+  where
+    made : List ℤ → ℕ → List ScaledPoint
+    made ps d = record { parts = ps; den = d } ∷ []
+
+-- how many there are
+pub multipliers-many : (x : ℕ → ℤ) (g : Group) (ms : List ℕ) → ms ∷ [] ≡ multipliers_by_group x (g ∷ []) → length ms
+    ≡ length g.rows
+multipliers-many x g ms e =
+    ap (λ (ns : List ℕ). length ns) ((let f : ms ≡ multipliers_of x g.rows = cc in f) ∙ multipliers-listed g.rows x)
+    ∙ length-listed (length g.rows) (λ j. nat_abs (x j))
+
+pub parts-many : (x : ℕ → ℤ) (g : Group) (z : ScaledPoint) → z ∷ [] ≡ points_of x (g ∷ []) → length z.parts ≡ g.unknowns
+parts-many x g z e =
+    ap (λ (zs : List ScaledPoint). first zs) e ∙ length-listed g.unknowns x
+  where
+    first : List ScaledPoint → ℕ
+    first [] = 0
+    first (y ∷ ys) = length y.parts
+
+-- the groups that are left, and one of them
+module _ (x : ℕ → ℤ) (preps : List RuleRows) (set : List ℕ) where
+  pub multipliers-more : (i t next then : ℕ) (old new all : List (List ℕ)) (ms : List ℕ) → i < length set → t
+      ≡ get_or set i t
+      → old ++ multipliers_by_group (after next x) (map (shape_at preps) (drop i set)) ≡ all
+      → ms ∷ [] ≡ multipliers_by_group (after next x) (shape_at preps t ∷ []) → new ≡ old ++ ms ∷ []
+      → then ≡ next + suc (length (shape_at preps t).rows)
+      → new ++ multipliers_by_group (after then x) (map (shape_at preps) (drop (i + 1) set)) ≡ all
+  multipliers-more i t next then old new all ms l is kept one e f =
+      ap (λ (ns : List (List ℕ)). ns ++ multipliers_by_group (after then x) (map (shape_at preps) (drop (i + 1) set))) e
+      ∙ (append_assoc old (ms ∷ []) (multipliers_by_group (after then x) (map (shape_at preps) (drop (i + 1) set)))
+      ∙ (ap (λ (ns : List (List ℕ)). old ++
+      (ns ++ multipliers_by_group (after then x) (map (shape_at preps) (drop (i + 1) set)))) one
+      ∙ (ap (λ (y : ℕ → ℤ). old ++ multipliers_of (after next x) (shape_at preps t).rows ∷ multipliers_by_group y
+      (map (shape_at preps) (drop (i + 1) set)))
+      (sym (after-more next (suc (length (shape_at preps t).rows)) then x f))
+      ∙ (sym (ap (λ (ts : List ℕ). old ++ multipliers_by_group (after next x) (map (shape_at preps) ts))
+      (drop_more set i t l ∙ ap (λ (u : ℕ). u ∷ drop (i + 1) set) (sym is))) ∙ kept))))
+
+  pub columns-more : (i t next then all : ℕ) → i < length set → t ≡ get_or set i t
+      → next + group_columns (map (shape_at preps) (drop i set)) ≡ all
+      → then ≡ next + suc (length (shape_at preps t).rows)
+      → then + group_columns (map (shape_at preps) (drop (i + 1) set)) ≡ all
+  columns-more i t next then all l is kept f =
+      let e = ap (λ (ts : List ℕ). group_columns (map (shape_at preps) ts))
+      (drop_more set i t l ∙ ap (λ (u : ℕ). u ∷ drop (i + 1) set) (sym is)) in
+      omega (arith, kept, f, e)
+
+  pub columns-room : (i t next all : ℕ) → i < length set → t ≡ get_or set i t
+      → next + group_columns (map (shape_at preps) (drop i set)) ≡ all → next + group_columns (shape_at preps t ∷ [])
+      ≤ all
+  columns-room i t next all l is kept =
+      let e = ap (λ (ts : List ℕ). group_columns (map (shape_at preps) ts))
+      (drop_more set i t l ∙ ap (λ (u : ℕ). u ∷ drop (i + 1) set) (sym is)) in
+      omega (arith, kept, e)
+
+  pub multipliers-end : (i next : ℕ) (old all : List (List ℕ)) → length set ≤ i
+      → old ++ multipliers_by_group (after next x) (map (shape_at preps) (drop i set)) ≡ all → old ≡ all
+  multipliers-end i next old all l kept =
+      sym (nothing old) ∙ (sym
+      (ap (λ (ts : List ℕ). old ++ multipliers_by_group (after next x) (map (shape_at preps) ts))
+      (drop_all i set l)) ∙ kept)
+    where
+      nothing : (xs : List (List ℕ)) → xs ++ [] ≡ xs
+      nothing [] = refl
+      nothing (y ∷ ys) = ap (λ (zs : List (List ℕ)). y ∷ zs) (nothing ys)
+
+  pub columns-end : (i next all : ℕ) → length set ≤ i → next + group_columns (map (shape_at preps) (drop i set)) ≡ all
+      → next ≡ all
+  columns-end i next all l kept =
+      let e = ap (λ (ts : List ℕ). group_columns (map (shape_at preps) ts)) (drop_all i set l) in omega (arith, kept, e)
+
+  -- the same of points
+  pub points-more : (i t next then : ℕ) (old new all : List ScaledPoint) (z : ScaledPoint) → i < length set → t
+      ≡ get_or set i t
+      → old ++ points_of (after next x) (map (shape_at preps) (drop i set)) ≡ all
+      → z ∷ [] ≡ points_of (after next x) (shape_at preps t ∷ []) → new ≡ old ++ z ∷ []
+      → then ≡ next + suc (shape_at preps t).unknowns
+      → new ++ points_of (after then x) (map (shape_at preps) (drop (i + 1) set)) ≡ all
+  points-more i t next then old new all z l is kept one e f =
+      ap (λ (ns : List ScaledPoint). ns ++ points_of (after then x) (map (shape_at preps) (drop (i + 1) set))) e
+      ∙ (append_assoc old (z ∷ []) (points_of (after then x) (map (shape_at preps) (drop (i + 1) set)))
+      ∙ (ap (λ (ns : List ScaledPoint). old ++
+      (ns ++ points_of (after then x) (map (shape_at preps) (drop (i + 1) set)))) one
+      ∙ (ap (λ (y : ℕ → ℤ). old ++
+      (points_of (after next x) (shape_at preps t ∷ []) ++ points_of y (map (shape_at preps) (drop (i + 1) set))))
+      (sym (after-more next (suc (shape_at preps t).unknowns) then x f))
+      ∙ (sym (ap (λ (ts : List ℕ). old ++ points_of (after next x) (map (shape_at preps) ts))
+      (drop_more set i t l ∙ ap (λ (u : ℕ). u ∷ drop (i + 1) set) (sym is))) ∙ kept))))
+
+  pub lines-more : (i t next then all : ℕ) → i < length set → t ≡ get_or set i t
+      → next + group_lines (map (shape_at preps) (drop i set)) ≡ all
+      → then ≡ next + suc (shape_at preps t).unknowns
+      → then + group_lines (map (shape_at preps) (drop (i + 1) set)) ≡ all
+  lines-more i t next then all l is kept f =
+      let e = ap (λ (ts : List ℕ). group_lines (map (shape_at preps) ts))
+      (drop_more set i t l ∙ ap (λ (u : ℕ). u ∷ drop (i + 1) set) (sym is)) in
+      omega (arith, kept, f, e)
+
+  pub lines-room : (i t next all : ℕ) → i < length set → t ≡ get_or set i t
+      → next + group_lines (map (shape_at preps) (drop i set)) ≡ all → next + group_lines (shape_at preps t ∷ []) ≤ all
+  lines-room i t next all l is kept =
+      let e = ap (λ (ts : List ℕ). group_lines (map (shape_at preps) ts))
+      (drop_more set i t l ∙ ap (λ (u : ℕ). u ∷ drop (i + 1) set) (sym is)) in
+      omega (arith, kept, e)
+
+  pub points-end : (i next : ℕ) (old all : List ScaledPoint) → length set ≤ i
+      → old ++ points_of (after next x) (map (shape_at preps) (drop i set)) ≡ all → old ≡ all
+  points-end i next old all l kept =
+      sym (nothing old) ∙ (sym
+      (ap (λ (ts : List ℕ). old ++ points_of (after next x) (map (shape_at preps) ts)) (drop_all i set l)) ∙ kept)
+    where
+      nothing : (xs : List ScaledPoint) → xs ++ [] ≡ xs
+      nothing [] = refl
+      nothing (y ∷ ys) = ap (λ (zs : List ScaledPoint). y ∷ zs) (nothing ys)
+
+  pub lines-end : (i next all : ℕ) → length set ≤ i → next + group_lines (map (shape_at preps) (drop i set)) ≡ all
+      → next ≡ all
+  lines-end i next all l kept =
+      let e = ap (λ (ts : List ℕ). group_lines (map (shape_at preps) ts)) (drop_all i set l) in omega (arith, kept, e)
+
+-- two lists of groups, one behind the other
+pub multipliers-append : (x : ℕ → ℤ) (gs hs : List Group)
+    → multipliers_by_group x (gs ++ hs) ≡ multipliers_by_group x gs ++ multipliers_by_group
+    (after (group_columns gs) x) hs
+multipliers-append x [] hs = refl
+multipliers-append x (g ∷ gs) hs =
+    ap (λ (ms : List (List ℕ)). multipliers_of x g.rows ∷ ms)
+    (multipliers-append (after (suc (length g.rows)) x) gs hs
+    ∙ ap (λ (y : ℕ → ℤ). multipliers_by_group (after (suc (length g.rows)) x) gs ++ multipliers_by_group y hs)
+    (after-more (suc (length g.rows)) (group_columns gs) (suc (length g.rows) + group_columns gs) x refl))
+
+pub points-append : (x : ℕ → ℤ) (gs hs : List Group)
+    → points_of x (gs ++ hs) ≡ points_of x gs ++ points_of (after (group_lines gs) x) hs
+points-append x [] hs = refl
+points-append x (g ∷ gs) hs =
+    ap (λ (zs : List ScaledPoint). record { parts = listed g.unknowns x; den = nat_abs (x g.unknowns) } ∷ zs)
+    (points-append (after (suc g.unknowns) x) gs hs
+    ∙ ap (λ (y : ℕ → ℤ). points_of (after (suc g.unknowns) x) gs ++ points_of y hs)
+    (after-more (suc g.unknowns) (group_lines gs) (suc g.unknowns + group_lines gs) x refl))
+
+pub columns-append : (gs hs : List Group) → group_columns (gs ++ hs) ≡ group_columns gs + group_columns hs
+columns-append [] hs = omega arith
+columns-append (g ∷ gs) hs = let e = columns-append gs hs in omega (arith, e)
+
+pub lines-append : (gs hs : List Group) → group_lines (gs ++ hs) ≡ group_lines gs + group_lines hs
+lines-append [] hs = omega arith
+lines-append (g ∷ gs) hs = let e = lines-append gs hs in omega (arith, e)
+
+-- a line for each equation
+pub equations-many : (before : ℕ) (gs : List Group) → length (equations before gs) ≡ group_lines gs
+equations-many before [] = refl
+equations-many before (g ∷ gs) =
+    length-append (listed (suc g.unknowns) (line before g)) (equations (before + suc (length g.rows)) gs)
+    ∙ (ap (λ (n : ℕ). n + length (equations (before + suc (length g.rows)) gs))
+    (length-listed (suc g.unknowns) (line before g))
+    ∙ ap (λ (n : ℕ). suc g.unknowns + n) (equations-many (before + suc (length g.rows)) gs))
+
+-- groups with the same unknowns and rows
+pub record AreAlike (g h : Group) : Type 0 where
+  pub unknowns : g.unknowns ≡ h.unknowns
+  pub rows : g.rows ≡ h.rows
+
+abbrev pub AllAlike : List Group → List Group → Type 0
+AllAlike [] [] = Unit {0}
+AllAlike [] (h ∷ hs) = ⊥
+AllAlike (g ∷ gs) [] = ⊥
+AllAlike (g ∷ gs) (h ∷ hs) = AreAlike g h × AllAlike gs hs
+
+-- have the same multipliers, points, columns and lines
+pub alike-multipliers : (x : ℕ → ℤ) (gs hs : List Group) → AllAlike gs hs → multipliers_by_group x gs
+    ≡ multipliers_by_group x hs
+alike-multipliers x [] [] a = refl
+alike-multipliers x [] (h ∷ hs) a = absurd a
+alike-multipliers x (g ∷ gs) [] a = absurd a
+alike-multipliers x (g ∷ gs) (h ∷ hs) a =
+    ap (λ (rows : List Form). multipliers_of x rows ∷ multipliers_by_group (after (suc (length rows)) x) gs) a.0.rows
+    ∙ ap (λ (ms : List (List ℕ)). multipliers_of x h.rows ∷ ms)
+    (alike-multipliers (after (suc (length h.rows)) x) gs hs a.1)
+
+pub alike-points : (x : ℕ → ℤ) (gs hs : List Group) → AllAlike gs hs → points_of x gs ≡ points_of x hs
+alike-points x [] [] a = refl
+alike-points x [] (h ∷ hs) a = absurd a
+alike-points x (g ∷ gs) [] a = absurd a
+alike-points x (g ∷ gs) (h ∷ hs) a =
+    ap (λ (n : ℕ). (record { parts = listed n x; den = nat_abs (x n) } ∷ points_of (after (suc n) x) gs)) a.0.unknowns
+    ∙ ap (λ (zs : List ScaledPoint). record { parts = listed h.unknowns x; den = nat_abs (x h.unknowns) } ∷ zs)
+    (alike-points (after (suc h.unknowns) x) gs hs a.1)
+
+pub alike-columns : (gs hs : List Group) → AllAlike gs hs → group_columns gs ≡ group_columns hs
+alike-columns [] [] a = refl
+alike-columns [] (h ∷ hs) a = absurd a
+alike-columns (g ∷ gs) [] a = absurd a
+alike-columns (g ∷ gs) (h ∷ hs) a =
+    ap (λ (rows : List Form). suc (length rows) + group_columns gs) a.0.rows ∙ ap (λ (n : ℕ). suc (length h.rows) + n)
+    (alike-columns gs hs a.1)
+
+pub alike-lines : (gs hs : List Group) → AllAlike gs hs → group_lines gs ≡ group_lines hs
+alike-lines [] [] a = refl
+alike-lines [] (h ∷ hs) a = absurd a
+alike-lines (g ∷ gs) [] a = absurd a
+alike-lines (g ∷ gs) (h ∷ hs) a =
+    ap (λ (n : ℕ). suc n + group_lines gs) a.0.unknowns ∙ ap (λ (n : ℕ). suc h.unknowns + n) (alike-lines gs hs a.1)
+
+-- the shapes of the rules are those of the question's groups
+module _ (p : Program) (preps : List RuleRows) (rows : AreRowsOf preps p) (set : List ℕ) (strict : ℕ)
+    (shut : List SymbolPlace) where
+  abbrev b : RankedSet
+  b = ranked_set p set strict shut
+
+  shape-alike : (t : ℕ) (fixed : Form) (goals : List Form) → IsRule p t
+      → AreAlike (shape_at preps t)
+      (record { unknowns = (b.rule t).unknowns; rows = (b.rule t).rows; goals = goals; fixed = fixed })
+  shape-alike zero fixed goals i = absurd (none i.numbered)
+    where
+      none : {r : Rule} → None ≡ Some r → ⊥
+      none f = cc
+  shape-alike (suc t) fixed goals i =
+      go (slice_get preps t) (slice_get p.rules t)
+      (sym (slice_get-map prepared_of preps t) ∙
+      (ap (λ (qs : List Prepared). slice_get qs t) rows ∙ slice_get-map prepared p.rules t))
+      i.rule i.numbered
+    where
+      go : (o : Option RuleRows) (q : Option Rule) → option_map prepared_of o ≡ option_map prepared q → (r : Rule) → q
+          ≡ Some r
+          → AreAlike (shape_of o)
+          (record { unknowns = (forms_in q).unknowns; rows = (forms_in q).rows; goals = goals; fixed = fixed })
+      go o None e r f = absurd (none f)
+        where
+          none : None ≡ Some r → ⊥
+          none h = cc
+      go None (Some q) e r f = absurd (none e)
+        where
+          none : None ≡ Some (prepared q) → ⊥
+          none h = cc
+      go (Some m) (Some q) e r f =
+          let same : prepared_of m ≡ prepared q = cc in
+          record { unknowns = ap (λ (x : Prepared). x.unknowns) same; rows = ap (λ (x : Prepared). x.rows) same }
+
+  pub shapes-alike : IsRuleSet p set strict → IsRule p strict → AllAlike (shapes preps set strict)
+      (rank_question b).groups
+  shapes-alike rules i = go set rules.rules
+    where
+      go : (ts : List ℕ) → All (IsRule p) ts
+          → AllAlike (map (shape_at preps) ts ++ shape_at preps strict ∷ [])
+          (map (move_group b (coefficients b (symbols_of_set b))) ts ++ floor_group b
+          (coefficients b (symbols_of_set b)) ∷ [])
+      go [] h = (shape-alike strict _ _ i, tt)
+      go (t ∷ ts) h = (shape-alike t _ _ (All-head (IsRule p) t ts h), go ts (All-tail (IsRule p) t ts h))
+
+-- what is read of groups, and of one more
+pub multipliers-together : (x : ℕ → ℤ) (start next : ℕ) (gs : List Group) (h : Group) (ms : List (List ℕ)) (m : List ℕ)
+    → ms ≡ multipliers_by_group (after start x) gs → next ≡ start + group_columns gs
+    → m ∷ [] ≡ multipliers_by_group (after next x) (h ∷ []) → ms ++ m ∷ [] ≡ multipliers_by_group (after start x)
+    (gs ++ h ∷ [])
+multipliers-together x start next gs h ms m e f g =
+    ap (λ (ns : List (List ℕ)). ns ++ m ∷ []) e
+    ∙ (ap (λ (ns : List (List ℕ)). multipliers_by_group (after start x) gs ++ ns) g
+    ∙ (ap (λ (y : ℕ → ℤ). multipliers_by_group (after start x) gs ++ multipliers_by_group y (h ∷ []))
+    (sym (after-more start (group_columns gs) next x f))
+    ∙ sym (multipliers-append (after start x) gs (h ∷ []))))
+
+pub points-together : (x : ℕ → ℤ) (start next : ℕ) (gs : List Group) (h : Group) (ms : List ScaledPoint)
+    (m : ScaledPoint)
+    → ms ≡ points_of (after start x) gs → next ≡ start + group_lines gs
+    → m ∷ [] ≡ points_of (after next x) (h ∷ []) → ms ++ m ∷ [] ≡ points_of (after start x) (gs ++ h ∷ [])
+points-together x start next gs h ms m e f g =
+    ap (λ (ns : List ScaledPoint). ns ++ m ∷ []) e
+    ∙ (ap (λ (ns : List ScaledPoint). points_of (after start x) gs ++ ns) g
+    ∙ (ap (λ (y : ℕ → ℤ). points_of (after start x) gs ++ points_of y (h ∷ []))
+    (sym (after-more start (group_lines gs) next x f))
+    ∙ sym (points-append (after start x) gs (h ∷ []))))

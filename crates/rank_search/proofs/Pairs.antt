@@ -1,0 +1,18 @@
+-- The columns of a parameter.
+use Rattle.std.proofs.Common.{◌≡◌, ℕ, zero, suc, ◌+◌, ◌*◌, ap, arith, refl, sym, ◌∙◌}
+use Rattle.std.specs.Prelude.{ℤ, ◌-ℤ◌}
+use Rattle.linear_forms.specs.Questions.{double}
+use Rattle.linear_forms.specs.QuestionLaws.{parameters_of}
+
+-- twice a number
+pub double-is : (n : ℕ) → double n ≡ 2 * n
+double-is zero = refl
+double-is (suc n) = let ih = double-is n in omega (arith, ih)
+
+-- a parameter is its plus column less its minus column
+pub parameter-value : (x : ℕ → ℤ) (n plus : ℕ) (a b : ℤ) → plus ≡ 2 * n → a ≡ x plus → b ≡ x (plus + 1) → a -ℤ b
+    ≡ parameters_of x n
+parameter-value x n plus a b e f g =
+    ap (λ (z : ℤ). z -ℤ b) (f ∙ ap x (e ∙ sym (double-is n)))
+    ∙ ap (λ (z : ℤ). x (double n) -ℤ z)
+    (g ∙ ap x (let d = double-is n in let h : plus + 1 ≡ suc (double n) = omega (arith, e, d) in h))

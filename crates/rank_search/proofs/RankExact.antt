@@ -1,0 +1,178 @@
+-- Each answer on ranking functions comes exactly where its cause stands.
+use Rattle.std.proofs.Common.{◌≡◌, ℕ, ◌<◌, ◌≤◌, ap, arith, refl, sym, ◌∙◌, subst, inl, inr, List, [], length, map}
+use Rattle.std.proofs.Common.{get_or, Option, Some, None}
+use Rattle.std.specs.Prelude.{◌↔◌, ◌⊎◌, pos, ◌<ℤ◌}
+use Rattle.std.proofs.lemmas.Int.{ints}
+use Rattle.linear_forms.specs.Forms.{at}
+use Rattle.linear_forms.specs.LinearProgram.{HasSolution}
+use Rattle.linear_forms.specs.RuleQuestions.{RankedSet}
+use Rattle.linear_forms.specs.QuestionLaws.{parameters_of}
+use Rattle.linear_forms.proofs.ColumnLaws.{get_or-map}
+use Rattle.linear_forms.proofs.SolutionLaws.{length-map}
+use Rattle.rule_forms.specs.Laws.{HasPoint}
+use Rattle.rule_forms.specs.Ranking.{Ranks, IsLeastRank, NoRank as NoneRanks}
+use Rattle.rule_forms.specs.RankLaws.{HavePointsOf, rank_multipliers}
+use Rattle.rule_forms.proofs.RankFits.{function-fits}
+use Rattle.rule_forms.proofs.RankSolutions.{rank-shown, shown-ranks}
+use Rattle.rule_forms.proofs.RankExclusion.{dual-excludes_ranks}
+use Rattle.rule_forms.proofs.RankWeights.{least-rank}
+use Rattle.model.specs.Programs.{Program, Rule, rule_at}
+use Rattle.its_model.specs.Valid.{IsValid}
+use Rattle.proof_nodes.specs.AcceptsPlain.{IsRule}
+use Rattle.proof_nodes.specs.Gaps.{SymbolPlace, ScaledPoint}
+use Rattle.proof_nodes.specs.Nodes.{RankNode}
+use Rattle.proof_tree.specs.declared.answer.EmptyAnswer.{EmptyAnswer}
+use Rattle.proof_tree.specs.declared.answer.EmptyAnswer.TheVariants as answers
+use Rattle.proof_tree.specs.declared.answer.Trip.{Trip}
+use Rattle.proof_tree.specs.AnswerViews.{cause_of, gap_of}
+use Rattle.proof_tree.specs.Views.{rank_of}
+use Rattle.rank_search.specs.declared.answer.RankAnswer.{RankAnswer}
+use Rattle.rank_search.specs.declared.answer.RankAnswer.TheVariants.{Ranked, NoRank, Tripped}
+use Rattle.rank_search.specs.ProgramQuestions.{ranked_set, forms_in}
+use Rattle.rank_search.specs.Programs.{NothingTrips}
+use Rattle.rank_search.specs.RankAnswers.{IsRuleSet, AreEmptyAnswers, answer_for, point_in, rank_program, IsRankNode}
+use Rattle.rank_search.specs.RankAnswers.{IsRankAnswer, first_trip, SaysRanked, SaysNoRank, SaysTripped}
+use Rattle.rank_search.specs.RankLaws.{found, RankAnswersAreExact}
+use Rattle.simplex_core.proofs.Certificates.{dual-excludes}
+use Rattle.rank_search.proofs.RankSets.{set-of}
+
+-- a positive denominator is at least 1
+at-least-one : (d : ℕ) → pos 0 <ℤ pos d → 1 ≤ d
+at-least-one d l = omega (arith, ints, l)
+
+module _ (p : Program) (set : List ℕ) (strict : ℕ) (shut : List SymbolPlace) (valid : IsValid p)
+    (rules : IsRuleSet p set strict) where
+  abbrev b : RankedSet
+  b = ranked_set p set strict shut
+
+  -- the function that a node is read off ranks the rule
+  pub node-ranks : (pivots : ℕ) (node : RankNode) (n : IsRankNode b pivots node) → Ranks b
+      (found b pivots node n) node.den
+  node-ranks pivots node n =
+      shown-ranks b (found b pivots node n) node.den (rank_multipliers b (at n.numbers))
+      (set-of p set strict shut valid rules)
+      (at-least-one node.den n.solution.solution.denominator)
+      (rank-shown b (at n.numbers) (pos node.den) (set-of p set strict shut valid rules) n.solution.solution)
+
+  -- and weighs least
+  pub node-least : (pivots : ℕ) (node : RankNode) (n : IsRankNode b pivots node) → HavePointsOf b
+      → IsLeastRank b (found b pivots node n) node.den
+  node-least pivots node n points =
+      least-rank b (at n.numbers) (pos node.den)
+      (set-of p set strict shut valid rules) points n.solution.solution n.solution.least
+
+  -- the points that a gap keeps are points of the rules of the set
+  module _ (pivots : ℕ) (empties : List EmptyAnswer) (known : AreEmptyAnswers p pivots empties) where
+    kept-point : (t : ℕ) (z : ScaledPoint) → IsRule p t → (o : Option EmptyAnswer) → answer_for empties t ≡ o
+        → Some z ≡ point_in o → HasPoint (forms_in (rule_at p t)).rows
+    kept-point t z i None e f = absurd (differ f)
+      where
+        differ : {y : ScaledPoint} → Some y ≡ None → ⊥
+        differ h = cc
+    kept-point t z i (Some (answers.Empty n)) e f = absurd (differ f)
+      where
+        differ : {y : ScaledPoint} → Some y ≡ None → ⊥
+        differ h = cc
+    kept-point t z i (Some (answers.Point w)) e f =
+        subst (λ (o : Option Rule). HasPoint (forms_in o).rows) (sym i.numbered)
+        (record {
+          z = at w.parts.items;
+          d = pos w.den;
+          point =
+              (known.each t i.rule (answers.Point w) i.numbered e).0.point;
+        })
+    kept-point t z i (Some (answers.Tripped w)) e f = absurd (differ f)
+      where
+        differ : {y : ScaledPoint} → Some y ≡ None → ⊥
+        differ h = cc
+
+    kept-points : (kept : List ScaledPoint) → map (λ z. Some z) kept ≡ map (λ t. point_in (answer_for empties t)) set
+        → HavePointsOf b
+    kept-points kept e = record { each = λ k d l. here k d l }
+      where
+        long : length kept ≡ length set
+        long =
+            sym (length-map (λ (z : ScaledPoint). Some z) kept)
+            ∙ (ap (λ (os : List (Option ScaledPoint)). length os) e ∙ length-map
+            (λ (t : ℕ). point_in (answer_for empties t)) set)
+
+        nowhere : ScaledPoint
+        nowhere = record { parts = []; den = 0 }
+
+        here : (k d : ℕ) → k < length set → HasPoint (forms_in (rule_at p (get_or set k d))).rows
+        here k d l =
+            kept-point (get_or set k d) (get_or kept k nowhere) (rules.rules k d l)
+            (answer_for empties (get_or set k d)) refl
+            (sym (get_or-map (λ (z : ScaledPoint). Some z) kept k None nowhere (omega (arith, l, long)))
+            ∙ (ap (λ (os : List (Option ScaledPoint)). get_or os k None) e
+            ∙ get_or-map (λ (t : ℕ). point_in (answer_for empties t)) set k None d l))
+
+    pub none-if : (a : RankAnswer) → IsRankAnswer b shut pivots empties a
+        → SaysNoRank a ↔ (NoneRanks b × NothingTrips (rank_program b) pivots × (first_trip empties set ≡ None))
+    none-if (Ranked node) h = (
+      λ s. absurd s,
+      λ g. g.0.each (found b pivots (rank_of node) h.0) (rank_of node).den (node-ranks pivots (rank_of node) h.0)
+          (function-fits b (parameters_of (at h.0.numbers))),
+    )
+    none-if (NoRank gap) h = (
+      λ s. (
+        dual-excludes_ranks b (at h.0.numbers) (set-of p set strict shut valid rules)
+            (kept-points (gap_of gap).kept h.0.kept) h.0.dual.certified,
+        h.0.untripped,
+        h.1,
+      ),
+      λ g. tt,
+    )
+    none-if (Tripped t) (inl own) = (λ s. absurd s, λ g. g.1.each (cause_of t.cause) own.trips)
+    none-if (Tripped t) (inr other) = (λ s. absurd s, λ g. differ (sym g.2 ∙ other.first))
+      where
+        differ : {y : Trip} → None ≡ Some y → ⊥
+        differ h = cc
+
+-- `Ranked` comes exactly where the linear program has a solution and nothing trips
+ranked-if : (b : RankedSet) (shut : List SymbolPlace) (pivots : ℕ) (empties : List EmptyAnswer) (a : RankAnswer)
+    → IsRankAnswer b shut pivots empties a → SaysRanked a ↔
+    (HasSolution (rank_program b) × NothingTrips (rank_program b) pivots)
+ranked-if b shut pivots empties (Ranked node) h = (
+  λ s. (record { x = at h.0.numbers; d = pos (rank_of node).den; solution = h.0.solution.solution }, h.0.untripped),
+  λ g. tt,
+)
+ranked-if b shut pivots empties (NoRank gap) h =
+    (λ s. absurd s, λ g. dual-excludes (rank_program b) (at h.0.numbers) h.0.dual.certified g.0)
+ranked-if b shut pivots empties (Tripped t) (inl own) = (λ s. absurd s, λ g. g.1.each (cause_of t.cause) own.trips)
+ranked-if b shut pivots empties (Tripped t) (inr other) = (λ s. absurd s, λ g. other.unsolved g.0)
+
+-- and `Tripped` exactly where it trips, or has no solution and the emptiness question of a rule of the set tripped
+tripped-if : (b : RankedSet) (shut : List SymbolPlace) (pivots : ℕ) (empties : List EmptyAnswer) (a : RankAnswer)
+    → IsRankAnswer b shut pivots empties a
+    → SaysTripped a
+    ↔ ((¬ NothingTrips (rank_program b) pivots)
+    ⊎ (NothingTrips (rank_program b) pivots × (¬ HasSolution (rank_program b)) × ¬ (first_trip empties b.set ≡ None)))
+tripped-if b shut pivots empties (Ranked node) h = (λ s. absurd s, λ g. go g)
+  where
+    go : ((¬ NothingTrips (rank_program b) pivots)
+        ⊎ (NothingTrips (rank_program b) pivots × (¬ HasSolution (rank_program b)) × ¬
+        (first_trip empties b.set ≡ None))) → ⊥
+    go (inl g) = g h.0.untripped
+    go (inr g) = g.1 (record { x = at h.0.numbers; d = pos (rank_of node).den; solution = h.0.solution.solution })
+tripped-if b shut pivots empties (NoRank gap) h = (λ s. absurd s, λ g. go g)
+  where
+    go : ((¬ NothingTrips (rank_program b) pivots)
+        ⊎ (NothingTrips (rank_program b) pivots × (¬ HasSolution (rank_program b)) × ¬
+        (first_trip empties b.set ≡ None))) → ⊥
+    go (inl g) = g h.0.untripped
+    go (inr g) = g.2 h.1
+tripped-if b shut pivots empties (Tripped t) (inl own) = (λ s. inl (λ n. n.each (cause_of t.cause) own.trips), λ g. tt)
+tripped-if b shut pivots empties (Tripped t) (inr other) =
+    (λ s. inr (other.untripped, other.unsolved, λ e. differ (sym e ∙ other.first)), λ g. tt)
+  where
+    differ : {y : Trip} → None ≡ Some y → ⊥
+    differ h = cc
+
+pub answers-exact : RankAnswersAreExact
+answers-exact = record {
+  ranked = ranked-if;
+  none = λ p set strict shut pivots empties a valid rules known h. none-if p set strict shut valid rules pivots empties
+      known a h;
+  tripped = tripped-if;
+}

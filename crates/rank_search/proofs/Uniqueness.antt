@@ -1,0 +1,273 @@
+-- A question has one answer.
+use Rattle.std.proofs.Common.{◌≡◌, ℕ, suc, ◌<◌, ap, arith, refl, sym, ◌∙◌, subst, inl, inr, List, [], ◌∷◌, ◌++◌, length}
+use Rattle.std.proofs.Common.{map, Some, None}
+use Rattle.std.specs.Prelude.{ℤ, pos, nat_abs, ◌*ℤ◌, ◌<ℤ◌, unsigned_abs}
+use Rattle.std.specs.Int.{◌∣◌}
+use Rattle.std.proofs.Math.Nat.{dvd_antisymm}
+use Rattle.frac128.specs.declared.frac.Frac.{Frac}
+use Rattle.int_laws.proofs.OrderLaws.{mul-cancel_ℤ}
+use Rattle.int_laws.proofs.RingLaws.{mul_comm_ℤ}
+use Rattle.linear_forms.specs.Forms.{at}
+use Rattle.linear_forms.specs.LinearProgram.{LinearProgram}
+use Rattle.linear_forms.specs.Questions.{listed}
+use Rattle.linear_forms.specs.QuestionLaws.{parameters_of}
+use Rattle.linear_forms.specs.RuleQuestions.{RankedSet, symbols_of_set, rank_question}
+use Rattle.rule_forms.specs.RankLaws.{function_of, rank_multipliers}
+use Rattle.guard_prep.specs.Prepared.{Prepared}
+use Rattle.simplex_core.specs.Agreement.{AreSameFractions}
+use Rattle.simplex_core.specs.Scaling.{IsCommon, AreOver, AreScaled}
+use Rattle.simplex_core.specs.Trips.{IsScaledSolution, IsScaledDual}
+use Rattle.simplex_core.proofs.OneAnswer.{optimal-same, infeasible-same, ends-apart}
+use Rattle.simplex_core.proofs.Positions.{slice_get-there}
+use Rattle.proof_nodes.specs.Gaps.{SymbolPlace, ScaledPoint, Gap}
+use Rattle.proof_nodes.specs.Nodes.{SymbolForm, RankNode}
+use Rattle.proof_tree.specs.declared.answer.EmptyAnswer.{EmptyAnswer}
+use Rattle.proof_tree.specs.declared.answer.EmptyAnswer.TheVariants as empties
+use Rattle.proof_tree.specs.declared.answer.Trip.{Trip}
+use Rattle.proof_tree.specs.AnswerViews.{cause_of, scaled_of, gap_of}
+use Rattle.proof_tree.specs.Views.{rank_of}
+use Rattle.rank_search.specs.declared.answer.RankAnswer.{RankAnswer}
+use Rattle.rank_search.specs.declared.answer.RankAnswer.TheVariants as ranked
+use Rattle.rank_search.specs.EmptyAnswers.{IsEmptyAnswer, empty_program}
+use Rattle.rank_search.specs.OneAnswer.{IsSameEmptyAnswer, EmptyAnswersAreOne, SeeTheSame, IsSameRankAnswer}
+use Rattle.rank_search.specs.OneAnswer.{RankAnswersAreOne}
+use Rattle.rank_search.specs.RankAnswers.{rank_program, part_at, points_of, IsRankAnswer}
+use Rattle.rank_search.proofs.Trips.{causes-same}
+
+-- the same fractions, over a denominator, are the same numbers
+over-same : (fs gs : List Frac) (numbers : List ℤ) (den : ℕ) → AreSameFractions fs gs → AreOver fs
+    (length fs) numbers den
+    → AreOver gs (length gs) numbers den
+over-same fs gs numbers den same over = record {
+  positive = over.positive;
+  each = λ j g l i.
+      let m : j < length fs = let e = same.lengths in omega (arith, l, e) in
+      let found = slice_get-there fs j m in
+      let parts = same.each j found.0 g found.1 i in
+      subst (λ (d : ℤ). at numbers j *ℤ d ≡ g.num *ℤ pos den) parts.1
+      (subst (λ (n : ℤ). at numbers j *ℤ found.0.den ≡ n *ℤ pos den) parts.0 (over.each j found.0 m found.1));
+}
+
+common-same : (fs gs : List Frac) (n : ℕ) → AreSameFractions fs gs → IsCommon fs (length fs) n → IsCommon gs
+    (length gs) n
+common-same fs gs n same c = record {
+  each = λ j g l i.
+      let m : j < length fs = let e = same.lengths in omega (arith, l, e) in
+      let found = slice_get-there fs j m in
+      subst (λ (d : ℤ). unsigned_abs d ∣ n) (same.each j found.0 g found.1 i).1 (c.each j found.0 m found.1);
+}
+
+same-back : (fs gs : List Frac) → AreSameFractions fs gs → AreSameFractions gs fs
+same-back fs gs same = record {
+  lengths = sym same.lengths;
+  each = λ k f g i j. let parts = same.each k g f j i in (sym parts.0, sym parts.1);
+}
+
+numbers-same : (xs ys : List ℤ) → length xs ≡ length ys → ((j : ℕ) → j < length xs → at xs j ≡ at ys j) → xs ≡ ys
+numbers-same [] [] e h = refl
+numbers-same [] (y ∷ ys) e h = absurd (omega (arith, e))
+numbers-same (x ∷ xs) [] e h = absurd (omega (arith, e))
+numbers-same (x ∷ xs) (y ∷ ys) e h =
+    ap (λ (z : ℤ). z ∷ xs) (h 0 (omega arith))
+    ∙ ap (λ (zs : List ℤ). y ∷ zs) (numbers-same xs ys (omega (arith, e)) (λ j l. h (suc j) (omega (arith, l))))
+
+-- so they are scaled in one way
+scaled-once : (fs gs : List Frac) (xs ys : List ℤ) (d e : ℕ) → AreSameFractions fs gs → AreScaled fs xs d
+    → AreScaled gs ys e
+    → (xs ≡ ys) × (d ≡ e)
+scaled-once fs gs xs ys d e same a b = (
+  numbers-same xs ys (a.lengths ∙ (same.lengths ∙ sym b.lengths)) (λ j l.
+      let k = a.lengths in
+      let n = same.lengths in
+      let m : j < length gs = omega (arith, l, k, n) in
+      let found = slice_get-there gs j m in
+      one (at xs j) (at ys j) found.0.den found.0.num found.0.positive
+      ((over-same fs gs xs d same a.over).each j found.0 m found.1) (b.over.each j found.0 m found.1)),
+  dens,
+)
+  where
+    dens : d ≡ e
+    dens = dvd_antisymm (a.least.least e (common-same gs fs e (same-back fs gs same) b.least.common))
+        (b.least.least d (common-same fs gs d same a.least.common))
+
+    one : (v w f n : ℤ) → pos 0 <ℤ f → v *ℤ f ≡ n *ℤ pos d → w *ℤ f ≡ n *ℤ pos e → v ≡ w
+    one v w f n l p q =
+        mul-cancel_ℤ f v w l (mul_comm_ℤ f v ∙ (p ∙ (ap (λ (k : ℕ). n *ℤ pos k) dens ∙ (sym q ∙ mul_comm_ℤ w f))))
+
+module _ (p : LinearProgram) (pivots : ℕ) (xs ys : List ℤ) (d e : ℕ) where
+  solution-once : IsScaledSolution p pivots xs d → IsScaledSolution p pivots ys e → (xs ≡ ys) × (d ≡ e)
+  solution-once a b =
+      scaled-once a.point b.point xs ys d e
+      (optimal-same p pivots a.k b.k a.point b.point a.basis b.basis a.ends b.ends).0 a.scaled b.scaled
+
+  dual-once : IsScaledDual p pivots xs d → IsScaledDual p pivots ys e → (xs ≡ ys) × (d ≡ e)
+  dual-once a b = scaled-once a.dual b.dual xs ys d e
+      (infeasible-same p pivots a.k b.k a.dual b.dual a.ends b.ends).0 a.scaled b.scaled
+
+  apart : IsScaledSolution p pivots xs d → IsScaledDual p pivots ys e → ⊥
+  apart a b = ends-apart p pivots a.k b.k a.point a.basis b.dual a.ends b.ends
+
+-- points with the same numbers are the same
+point_with : List ℤ → ℕ → ScaledPoint
+point_with parts den = record { parts = parts; den = den }
+
+point-same : (z w : ScaledPoint) → z.parts ≡ w.parts → z.den ≡ w.den → z ≡ w
+unfolding point_with
+point-same z w e f = ap (λ (ps : List ℤ). point_with ps z.den) e ∙ ap (λ (d : ℕ). point_with w.parts d) f
+
+-- whether rows have a point
+empties-once : (m : Prepared) (rule pivots : ℕ) (a b : EmptyAnswer) → IsEmptyAnswer m rule pivots a
+    → IsEmptyAnswer m rule pivots b
+    → IsSameEmptyAnswer a b
+empties-once m rule pivots (empties.Empty n) (empties.Empty k) g h = (
+  g.0.numbered ∙ sym h.0.numbered,
+  g.2.read
+      ∙ (ap (λ (xs : List ℤ). listed (length m.rows) (λ j. nat_abs (at xs j)))
+      (solution-once (empty_program m) pivots g.2.numbers h.2.numbers g.2.den h.2.den g.2.solution h.2.solution).0
+      ∙ sym h.2.read),
+)
+empties-once m rule pivots (empties.Empty n) (empties.Point z) g h =
+    apart (empty_program m) pivots g.2.numbers h.2.numbers g.2.den h.2.den g.2.solution h.2.dual
+empties-once m rule pivots (empties.Empty n) (empties.Tripped t) g h = g.1.each (cause_of t.cause) h.1
+empties-once m rule pivots (empties.Point z) (empties.Empty n) g h =
+    apart (empty_program m) pivots h.2.numbers g.2.numbers h.2.den g.2.den h.2.solution g.2.dual
+empties-once m rule pivots (empties.Point z) (empties.Point w) g h =
+    let e = (dual-once (empty_program m) pivots g.2.numbers h.2.numbers g.2.den h.2.den g.2.dual h.2.dual).0 in
+    point-same (scaled_of z) (scaled_of w)
+    (g.2.parts ∙ (ap (λ (xs : List ℤ). listed m.unknowns (at xs)) e ∙ sym h.2.parts))
+    (g.2.over ∙ (ap (λ (xs : List ℤ). nat_abs (at xs m.unknowns)) e ∙ sym h.2.over))
+empties-once m rule pivots (empties.Point z) (empties.Tripped t) g h = g.1.each (cause_of t.cause) h.1
+empties-once m rule pivots (empties.Tripped t) (empties.Empty n) g h = h.1.each (cause_of t.cause) g.1
+empties-once m rule pivots (empties.Tripped t) (empties.Point z) g h = h.1.each (cause_of t.cause) g.1
+empties-once m rule pivots (empties.Tripped t) (empties.Tripped u) g h =
+    (g.0 ∙ sym h.0, causes-same (empty_program m) pivots (cause_of t.cause) (cause_of u.cause) g.1 h.1)
+
+pub empties-one : EmptyAnswersAreOne
+empties-one = record { each = empties-once }
+
+-- lists with one more element behind
+never : {A : Type 0} (ys : List A) (y : A) → [] ≡ ys ++ y ∷ [] → ⊥
+never [] y e = cc
+never (z ∷ ys) y e = cc
+
+last-same : {A : Type 0} (xs ys : List A) (x y : A) → xs ++ x ∷ [] ≡ ys ++ y ∷ [] → (xs ≡ ys) × (x ≡ y)
+last-same [] [] x y e = (refl, cc)
+last-same [] (z ∷ ys) x y e = let t : [] ≡ ys ++ y ∷ [] = cc in absurd (never ys y t)
+last-same (w ∷ xs) [] x y e = let t : xs ++ x ∷ [] ≡ [] = cc in absurd (never xs x (sym t))
+last-same {A} (w ∷ xs) (z ∷ ys) x y e =
+    let h : w ≡ z = cc in
+    let t : xs ++ x ∷ [] ≡ ys ++ y ∷ [] = cc in
+    let r = last-same xs ys x y t in
+    (ap (λ (v : A). v ∷ xs) h ∙ ap (λ (vs : List A). z ∷ vs) r.0, r.1)
+
+-- nodes with the same parts are the same
+node_with : ℕ → List ℕ → ℕ → List SymbolForm → List (List ℕ) → List ℕ → RankNode
+node_with rule set den forms moves floor = record {
+  rule = rule;
+  set = set;
+  den = den;
+  forms = forms;
+  moves = moves;
+  floor = floor;
+}
+
+node-same : (a c : RankNode) → a.rule ≡ c.rule → a.set ≡ c.set → a.den ≡ c.den → a.forms ≡ c.forms
+    → a.moves ++ a.floor ∷ [] ≡ c.moves ++ c.floor ∷ [] → a ≡ c
+unfolding node_with
+node-same a c e f g h i =
+    let r = last-same a.moves c.moves a.floor c.floor i in
+    ap (λ (x : ℕ). node_with x a.set a.den a.forms a.moves a.floor) e
+    ∙ (ap (λ (x : List ℕ). node_with c.rule x a.den a.forms a.moves a.floor) f
+    ∙ (ap (λ (x : ℕ). node_with c.rule c.set x a.forms a.moves a.floor) g
+    ∙ (ap (λ (x : List SymbolForm). node_with c.rule c.set c.den x a.moves a.floor) h
+    ∙ (ap (λ (x : List (List ℕ)). node_with c.rule c.set c.den c.forms x a.floor) r.0
+    ∙ ap (λ (x : List ℕ). node_with c.rule c.set c.den c.forms c.moves x) r.1))))
+
+-- so are gaps
+gap_with : ℕ → List ℕ → List SymbolPlace → List ScaledPoint → ScaledPoint → List ScaledPoint → Gap
+gap_with rule set shut moves floor kept = record {
+  rule = rule;
+  set = set;
+  shut = shut;
+  moves = moves;
+  floor = floor;
+  kept = kept;
+}
+
+some-same : (xs ys : List ScaledPoint) → map (λ z. Some z) xs ≡ map (λ z. Some z) ys → xs ≡ ys
+some-same [] [] e = refl
+some-same [] (y ∷ ys) e = cc
+some-same (x ∷ xs) [] e = cc
+some-same (x ∷ xs) (y ∷ ys) e =
+    let h : x ≡ y = cc in
+    let t : map (λ z. Some z) xs ≡ map (λ z. Some z) ys = cc in
+    ap (λ (v : ScaledPoint). v ∷ xs) h ∙ ap (λ (vs : List ScaledPoint). y ∷ vs) (some-same xs ys t)
+
+gap-same : (a c : Gap) → a.rule ≡ c.rule → a.set ≡ c.set → a.shut ≡ c.shut → a.moves ++ a.floor ∷ [] ≡ c.moves
+    ++ c.floor ∷ []
+    → map (λ z. Some z) a.kept ≡ map (λ z. Some z) c.kept → a ≡ c
+unfolding gap_with
+gap-same a c e f g h i =
+    let r = last-same a.moves c.moves a.floor c.floor h in
+    ap (λ (x : ℕ). gap_with x a.set a.shut a.moves a.floor a.kept) e
+    ∙ (ap (λ (x : List ℕ). gap_with c.rule x a.shut a.moves a.floor a.kept) f
+    ∙ (ap (λ (x : List SymbolPlace). gap_with c.rule c.set x a.moves a.floor a.kept) g
+    ∙ (ap (λ (x : List ScaledPoint). gap_with c.rule c.set c.shut x a.floor a.kept) r.0
+    ∙ (ap (λ (x : ScaledPoint). gap_with c.rule c.set c.shut c.moves x a.kept) r.1
+    ∙ ap (λ (x : List ScaledPoint). gap_with c.rule c.set c.shut c.moves c.floor x) (some-same a.kept c.kept i)))))
+
+some-trip : (t u : Trip) → Some t ≡ Some u → t ≡ u
+some-trip t u e = cc
+
+no-trip : (t : Trip) → None ≡ Some t → ⊥
+no-trip t e = cc
+
+-- which function ranks
+module _ (b : RankedSet) (shut : List SymbolPlace) (pivots : ℕ) (xs ys : List EmptyAnswer)
+    (same : SeeTheSame xs ys b.set) where
+  ranks-once : (a c : RankAnswer) → IsRankAnswer b shut pivots xs a → IsRankAnswer b shut pivots ys c
+      → IsSameRankAnswer a c
+  ranks-once (ranked.Ranked n) (ranked.Ranked k) g h =
+      let r = solution-once (rank_program b) pivots g.0.numbers h.0.numbers (rank_of n).den
+      (rank_of k).den g.0.solution h.0.solution in (
+        node-same (rank_of n) (rank_of k) (g.0.numbered ∙ sym h.0.numbered) (g.0.same_set ∙ sym h.0.same_set) r.1
+            (g.0.forms ∙ (ap (λ (ns : List ℤ). map (part_at (function_of b (parameters_of (at ns))))
+            (symbols_of_set b)) r.0 ∙ sym h.0.forms))
+            (g.0.multipliers ∙ (ap (λ (ns : List ℤ). rank_multipliers b (at ns)) r.0 ∙ sym h.0.multipliers)),
+        g.1 ∙ sym h.1,
+      )
+  ranks-once (ranked.Ranked n) (ranked.NoRank k) g h =
+      apart (rank_program b) pivots g.0.numbers h.0.numbers (rank_of n).den h.0.den g.0.solution h.0.dual
+  ranks-once (ranked.Ranked n) (ranked.Tripped t) g (inl own) = g.0.untripped.each (cause_of t.cause) own.trips
+  ranks-once (ranked.Ranked n) (ranked.Tripped t) g (inr other) =
+      other.unsolved (record { x = at g.0.numbers; d = pos (rank_of n).den; solution = g.0.solution.solution })
+  ranks-once (ranked.NoRank n) (ranked.Ranked k) g h =
+      apart (rank_program b) pivots h.0.numbers g.0.numbers (rank_of k).den g.0.den h.0.solution g.0.dual
+  ranks-once (ranked.NoRank n) (ranked.NoRank k) g h =
+      let r = dual-once (rank_program b) pivots g.0.numbers h.0.numbers g.0.den h.0.den g.0.dual h.0.dual in
+      gap-same (gap_of n) (gap_of k) (g.0.numbered ∙ sym h.0.numbered) (g.0.same_set ∙ sym h.0.same_set)
+      (g.0.same_shut ∙ sym h.0.same_shut)
+      (g.0.points ∙ (ap (λ (ns : List ℤ). points_of (at ns) (rank_question b).groups) r.0 ∙ sym h.0.points))
+      (g.0.kept ∙ (same.points ∙ sym h.0.kept))
+  ranks-once (ranked.NoRank n) (ranked.Tripped t) g (inl own) = g.0.untripped.each (cause_of t.cause) own.trips
+  ranks-once (ranked.NoRank n) (ranked.Tripped t) g (inr other) = no-trip t (sym g.1 ∙ (same.trips ∙ other.first))
+  ranks-once (ranked.Tripped t) (ranked.Ranked k) (inl own) h = h.0.untripped.each (cause_of t.cause) own.trips
+  ranks-once (ranked.Tripped t) (ranked.Ranked k) (inr other) h =
+      other.unsolved (record { x = at h.0.numbers; d = pos (rank_of k).den; solution = h.0.solution.solution })
+  ranks-once (ranked.Tripped t) (ranked.NoRank k) (inl own) h = h.0.untripped.each (cause_of t.cause) own.trips
+  ranks-once (ranked.Tripped t) (ranked.NoRank k) (inr other) h = no-trip t (sym h.1 ∙ (sym same.trips ∙ other.first))
+  ranks-once (ranked.Tripped t) (ranked.Tripped u) (inl own) (inl other) = (
+    own.question ∙ sym other.question,
+    causes-same (rank_program b) pivots (cause_of t.cause)
+        (cause_of u.cause) own.trips other.trips,
+  )
+  ranks-once (ranked.Tripped t) (ranked.Tripped u) (inl own) (inr other) = absurd
+      (other.untripped.each (cause_of t.cause) own.trips)
+  ranks-once (ranked.Tripped t) (ranked.Tripped u) (inr own) (inl other) = absurd
+      (own.untripped.each (cause_of u.cause) other.trips)
+  ranks-once (ranked.Tripped t) (ranked.Tripped u) (inr own) (inr other) =
+      let e = some-trip t u (sym own.first ∙ (same.trips ∙ other.first)) in
+      (ap (λ (v : Trip). v.question) e, ap (λ (v : Trip). cause_of v.cause) e)
+
+pub ranks-one : RankAnswersAreOne
+ranks-one = record { each = ranks-once }

@@ -1,0 +1,13 @@
+use Rattle.std.proofs.Common.{◌≡◌, ◌++◌, map, drop}
+use Rattle.linear_forms.specs.RuleQuestions.{coefficients}
+use Rattle.its_model.specs.Views.{program_of}
+use Rattle.rank_search.specs.Coefficients.{coefficient_of, open_set}
+use Rattle.rank_search.specs.ProgramQuestions.{places_of}
+use Rattle.rank_search.proofs.coefficients.coefficients_of.Given as goal
+
+-- those that are found, and those of the symbols that are left
+abbrev pub invariant-loop-symbol : goal.invariant-loop-symbol
+invariant-loop-symbol l =
+    map coefficient_of l.found.items ++ coefficients (open_set (program_of l.p) (places_of l.shut))
+    (drop l.symbol-index l.symbols)
+    ≡ coefficients (open_set (program_of l.p) (places_of l.shut)) l.symbols

@@ -1,0 +1,11 @@
+use Rattle.std.proofs.Common.{◌≡◌, ◌++◌, map}
+use Rattle.rank_search.specs.Coefficients.{coefficient_of}
+use Rattle.rank_search.specs.ProgramQuestions.{is_shut, places_of}
+use Rattle.rank_search.proofs.OpenPlaces.{block_upto}
+use Rattle.rank_search.proofs.coefficients.push_symbol.Given as goal
+
+-- the places so far
+abbrev pub invariant-loop-before : goal.invariant-loop-before
+invariant-loop-before l =
+    map coefficient_of l.found.items ≡ map coefficient_of l.initial.found.items ++ block_upto
+    (is_shut (places_of l.shut)) l.symbol l.before

@@ -1,0 +1,18 @@
+use Rattle.std.proofs.Common.{◌≡◌, ◌++◌, ◌*◌, ◌≤◌, map, drop}
+use Rattle.linear_forms.specs.Forms.{at}
+use Rattle.linear_forms.specs.QuestionLaws.{parameters_of}
+use Rattle.its_model.specs.Views.{program_of}
+use Rattle.proof_tree.specs.Views.{form_of}
+use Rattle.rank_search.specs.ProgramQuestions.{places_of}
+use Rattle.rank_search.specs.Reading.{read_forms}
+use Rattle.rank_search.proofs.found.forms_from.Given as goal
+
+-- the parts so far, and those of the symbols that are left
+abbrev pub invariant-loop-symbol : goal.invariant-loop-symbol
+invariant-loop-symbol l = record {
+  kept : map form_of l.forms.items
+      ++ read_forms (program_of l.p) (places_of l.shut) (parameters_of (at l.numbers)) l.next
+      (drop l.symbol-index l.symbols)
+      ≡ read_forms (program_of l.p) (places_of l.shut) (parameters_of (at l.numbers)) 0 l.symbols;
+  few : l.next ≤ 33 * l.symbol-index;
+}

@@ -1,0 +1,16 @@
+use Rattle.std.proofs.Common.{◌≡◌, ◌++◌, ◌+◌, map, drop}
+use Rattle.linear_forms.specs.Forms.{at}
+use Rattle.linear_forms.specs.Questions.{group_columns}
+use Rattle.linear_forms.specs.QuestionLaws.{after, multipliers_by_group}
+use Rattle.rank_search.specs.Reading.{shape_at}
+use Rattle.rank_search.proofs.found.moves_from.Given as goal
+
+-- the multipliers so far, and those of the rules that are left
+abbrev pub invariant-loop-rule : goal.invariant-loop-rule
+invariant-loop-rule l = record {
+  kept : map (λ m. m.items) l.moves.items
+      ++ multipliers_by_group (after l.next (at l.numbers)) (map (shape_at l.preps) (drop l.rule-index l.set))
+      ≡ multipliers_by_group (after l.initial.next (at l.numbers)) (map (shape_at l.preps) l.set);
+  left : l.next + group_columns (map (shape_at l.preps) (drop l.rule-index l.set))
+      ≡ l.initial.next + group_columns (map (shape_at l.preps) l.set);
+}

@@ -1,0 +1,10 @@
+use Rattle.std.proofs.Common.{◌≡◌, map, take, Some}
+use Rattle.proof_tree.specs.AnswerViews.{scaled_of}
+use Rattle.rank_search.specs.RankAnswers.{answer_for, point_in}
+use Rattle.rank_search.proofs.gap.kept_points.Given as goal
+
+-- the points so far
+abbrev pub invariant-loop-rule : goal.invariant-loop-rule
+invariant-loop-rule l =
+    map (λ z. Some z) (map scaled_of l.kept.items) ≡ map (λ t. point_in (answer_for l.empties t))
+    (take l.rule-index l.set)

@@ -1,0 +1,17 @@
+use Rattle.std.proofs.Common.{◌≡◌, ◌++◌, ◌+◌, map, drop}
+use Rattle.linear_forms.specs.Forms.{at}
+use Rattle.linear_forms.specs.QuestionLaws.{after}
+use Rattle.proof_tree.specs.AnswerViews.{scaled_of}
+use Rattle.rank_search.specs.RankAnswers.{points_of}
+use Rattle.rank_search.specs.Reading.{group_lines, shape_at}
+use Rattle.rank_search.proofs.gap.moves_of_dual.Given as goal
+
+-- the parts so far, and those of the rules that are left
+abbrev pub invariant-loop-rule : goal.invariant-loop-rule
+invariant-loop-rule l = record {
+  kept : map scaled_of l.moves.items
+      ++ points_of (after l.next (at l.numbers)) (map (shape_at l.preps) (drop l.rule-index l.set))
+      ≡ points_of (after l.initial.next (at l.numbers)) (map (shape_at l.preps) l.set);
+  left : l.next + group_lines (map (shape_at l.preps) (drop l.rule-index l.set))
+      ≡ l.initial.next + group_lines (map (shape_at l.preps) l.set);
+}

@@ -1,0 +1,13 @@
+use Rattle.linear_forms.specs.Forms.{at}
+use Rattle.proof_tree.specs.AnswerViews.{scaled_of}
+use Rattle.rank_search.specs.Reading.{shape_at}
+use Rattle.rank_search.proofs.Answered.{IfOk-from_both}
+use Rattle.rank_search.proofs.Groups.{point-one}
+use Rattle.rank_search.proofs.gap.rule_element.Goals as goal
+
+pub returns : goal.returns
+returns c =
+    IfOk-from_both c.element_from.result _ _ _
+    (λ z e f. point-one (at c.args.numbers.now) c.args.start c.unknowns_at.result
+    (shape_at c.args.preps.now c.args.rule) (scaled_of z) c.unknowns_at.ensures e f)
+    c.element_from.ensures.parts c.element_from.ensures.den

@@ -1,0 +1,26 @@
+-- The coefficients of a function that is sought, as plain data.
+use Rattle.std.specs.Prelude.{◌≡◌, ℕ, not, Bool, List, [], ◌∷◌, ◌++◌, filter, map}
+use Rattle.std.specs.List.{range_with_len}
+use Rattle.linear_forms.specs.RuleQuestions.{RankedSet, Coefficient, symbols_of_set, coefficients}
+use Rattle.model.specs.Programs.{Program}
+use Rattle.proof_nodes.specs.Gaps.{SymbolPlace}
+use Rattle.rank_search.specs.declared.coefficients.Coefficient.{Coefficient as Sought}
+use Rattle.rank_search.specs.ProgramQuestions.{ranked_set}
+
+-- a coefficient as plain data
+abbrev pub coefficient_of : Sought → Coefficient
+coefficient_of c = record { symbol = c.symbol; place = c.place }
+
+-- the coefficients at a symbol with so many places: those of the places that aren't shut, and then the constant's
+abbrev pub open_block : (ℕ → ℕ → Bool) → ℕ → ℕ → List Coefficient
+open_block shut s arity =
+    map (λ i. record { symbol = s; place = i })
+    (filter (λ i. not (shut s i)) (range_with_len 1 arity) ++ (0 ∷ []))
+
+-- no rule of a program, with places that are shut: which coefficients symbols have depends on these alone
+abbrev pub open_set : Program → List SymbolPlace → RankedSet
+open_set p shut = ranked_set p [] 0 shut
+
+-- these are the coefficients of the functions that are sought
+pub record AreCoefficients (b : RankedSet) (cs : List Sought) : Type 0 where
+  pub each : map coefficient_of cs ≡ coefficients b (symbols_of_set b)

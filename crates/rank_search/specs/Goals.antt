@@ -1,0 +1,51 @@
+-- The groups of a rank question, and what follows in each.
+use Rattle.std.specs.Prelude.{◌+◌, ◌≤◌, Bool, true, false, List, length, map, nat_abs}
+use Rattle.std.specs.List.{All}
+use Rattle.linear_forms.specs.Forms.{Form}
+use Rattle.linear_forms.specs.Certificates.{minus_one}
+use Rattle.linear_forms.specs.Combinations.{form_sum, zero_form}
+use Rattle.linear_forms.specs.Questions.{Group}
+use Rattle.linear_forms.specs.RuleQuestions.{RuleForms, Coefficient, opposite, at_source, at_target}
+use Rattle.model.specs.Limits.{coefficient_limit}
+use Rattle.rank_search.specs.declared.goals.Part.{Part}
+use Rattle.rank_search.specs.declared.goals.Part.TheVariants.{Move, Fall, Floor}
+
+-- what a rule loses by a coefficient, and for the floor what it has of it before
+abbrev pub goal_form : Part → RuleForms → Coefficient → Form
+goal_form Move r c = form_sum (at_source r c) (opposite (at_target r c))
+goal_form Fall r c = form_sum (at_source r c) (opposite (at_target r c))
+goal_form Floor r c = at_source r c
+
+-- how much that has to be at least, subtracted
+abbrev pub fixed_form : Part → Form
+fixed_form Move = zero_form
+fixed_form Fall = minus_one
+fixed_form Floor = minus_one
+
+-- the group of a rule
+abbrev pub part_group : Part → RuleForms → List Coefficient → Group
+part_group part r cs = record {
+  unknowns = r.unknowns;
+  rows = r.rows;
+  goals = map (goal_form part r) cs;
+  fixed = fixed_form part;
+}
+
+-- the numbers of a form are those of rows
+pub record IsSmall (f : Form) : Type 0 where
+  pub coefs : All (λ a. nat_abs a ≤ coefficient_limit) f.coefs
+  pub constant : nat_abs f.constant ≤ coefficient_limit
+
+-- or differences of two of these
+pub record IsDifferenceSmall (f : Form) : Type 0 where
+  pub coefs : All (λ a. nat_abs a ≤ coefficient_limit + coefficient_limit) f.coefs
+  pub constant : nat_abs f.constant ≤ coefficient_limit + coefficient_limit
+
+-- the part of a rule of the set, which is the one that has to decrease, or isn't
+abbrev pub part_for : Bool → Part
+part_for true = Fall
+part_for false = Move
+
+-- the goals of a rule have no coefficient past its unknowns
+pub record Fits (part : Part) (r : RuleForms) (cs : List Coefficient) : Type 0 where
+  pub each : All (λ c. length (goal_form part r c).coefs ≤ r.unknowns) cs

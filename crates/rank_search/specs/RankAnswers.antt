@@ -1,0 +1,153 @@
+-- Which function ranks a rule of a set: what each answer says.
+use Rattle.std.specs.Prelude.{◌≡◌, ◌⊎◌, ℕ, zero, suc, List, [], ◌∷◌, ◌++◌, length, map, ℤ, nat_abs, true}
+use Rattle.std.specs.Prelude.{Option, Some, None, slice_get}
+use Rattle.std.specs.List.{All}
+use Rattle.linear_forms.specs.Forms.{at}
+use Rattle.linear_forms.specs.LinearProgram.{LinearProgram, HasSolution}
+use Rattle.linear_forms.specs.Questions.{Group, listed, program_of_question}
+use Rattle.linear_forms.specs.QuestionLaws.{after, parameters_of}
+use Rattle.linear_forms.specs.RuleQuestions.{RankedSet, symbols_of_set, rank_question}
+use Rattle.rule_forms.specs.Ranking.{Function}
+use Rattle.rule_forms.specs.RankLaws.{function_of, rank_multipliers}
+use Rattle.model.specs.Programs.{Program, Rule, rule_at}
+use Rattle.guard_prep.specs.Prepared.{prepared}
+use Rattle.simplex_core.specs.Trips.{Trips, IsScaledSolution, IsScaledDual}
+use Rattle.proof_nodes.specs.AcceptsPlain.{IsRule}
+use Rattle.proof_nodes.specs.Gaps.{ScaledPoint, SymbolPlace, Gap}
+use Rattle.proof_nodes.specs.Nodes.{RankNode, SymbolForm}
+use Rattle.model.specs.Entries.{is_in}
+use Rattle.proof_nodes.specs.Numbers.{IsAscending}
+use Rattle.proof_tree.specs.declared.answer.Trip.{Trip}
+use Rattle.proof_tree.specs.declared.answer.Question.TheVariants as asked
+use Rattle.proof_tree.specs.declared.answer.EmptyAnswer.{EmptyAnswer}
+use Rattle.proof_tree.specs.declared.answer.EmptyAnswer.TheVariants as answers
+use Rattle.proof_tree.specs.AnswerViews.{cause_of, scaled_of, gap_of}
+use Rattle.proof_tree.specs.Views.{rank_of}
+use Rattle.rank_search.specs.declared.answer.RankAnswer.{RankAnswer}
+use Rattle.rank_search.specs.declared.answer.RankAnswer.TheVariants.{Ranked, NoRank, Tripped}
+use Rattle.rank_search.specs.EmptyAnswers.{IsEmptyAnswer, SaysEmpty}
+use Rattle.rank_search.specs.Programs.{NothingTrips}
+
+-- the set ascends, has numbers of rules alone, and holds the rule that has to decrease
+pub record IsRuleSet (p : Program) (set : List ℕ) (strict : ℕ) : Type 0 where
+  pub ascending : IsAscending set
+  pub rules : All (IsRule p) set
+  pub inside : is_in strict set ≡ true
+
+-- the answer for a rule; rules count from 1
+abbrev pub answer_for : List EmptyAnswer → ℕ → Option EmptyAnswer
+answer_for empties zero = None
+answer_for empties (suc t) = slice_get empties t
+
+-- for each rule of the program, in order, the answer whether its rows have a point
+pub record AreEmptyAnswers (p : Program) (pivots : ℕ) (empties : List EmptyAnswer) : Type 0 where
+  pub one_each : length empties ≡ length p.rules
+  pub each : (t : ℕ) (r : Rule) (a : EmptyAnswer) → rule_at p t ≡ Some r → answer_for empties t ≡ Some a
+      → IsEmptyAnswer (prepared r) t pivots a
+
+-- no rule of the set is known to have no point
+pub record MayAllRun (set : List ℕ) (empties : List EmptyAnswer) : Type 0 where
+  pub each : All (λ t. (a : EmptyAnswer) → answer_for empties t ≡ Some a → ¬ SaysEmpty a) set
+
+-- the linear program that asks whether a function ranks the rule
+abbrev pub rank_program : RankedSet → LinearProgram
+rank_program b = program_of_question (rank_question b)
+
+-- the part of a function at a symbol, as a node holds it
+abbrev pub part_at : Function → ℕ → SymbolForm
+part_at f s = record { symbol = s; form = f s }
+
+-- the node is read off the solution at which the linear program's sequence of tableaux ends: its function is that of
+-- the parameters, over the least common denominator, and its multipliers are those of the groups, the floor's last
+pub record IsRankNode (b : RankedSet) (pivots : ℕ) (node : RankNode) : Type 0 where
+  pub numbered : node.rule ≡ b.strict
+  pub same_set : node.set ≡ b.set
+  pub numbers : List ℤ
+  pub solution : IsScaledSolution (rank_program b) pivots numbers node.den
+  pub forms : node.forms ≡ map (part_at (function_of b (parameters_of (at numbers)))) (symbols_of_set b)
+  pub multipliers : node.moves ++ (node.floor ∷ []) ≡ rank_multipliers b (at numbers)
+  pub untripped : NothingTrips (rank_program b) pivots
+
+-- what numbers give groups, one by one: a part for each unknown, and then the denominator
+abbrev pub points_of : (ℕ → ℤ) → List Group → List ScaledPoint
+points_of y [] = []
+points_of y (g ∷ gs) =
+    record { parts = listed g.unknowns y; den = nat_abs (y g.unknowns) } ∷ points_of (after (suc g.unknowns) y) gs
+
+-- the point that an answer has
+abbrev pub point_in : Option EmptyAnswer → Option ScaledPoint
+point_in None = None
+point_in (Some (answers.Empty n)) = None
+point_in (Some (answers.Point z)) = Some (scaled_of z)
+point_in (Some (answers.Tripped t)) = None
+
+-- the gap is read off the dual at which the linear program's sequence of tableaux ends: a move for each rule of the
+-- set, and the floor; and it keeps the point of each rule of the set
+pub record IsReadOff (b : RankedSet) (shut : List SymbolPlace) (pivots : ℕ) (empties : List EmptyAnswer)
+    (g : Gap) : Type 0 where
+  pub numbered : g.rule ≡ b.strict
+  pub same_set : g.set ≡ b.set
+  pub same_shut : g.shut ≡ shut
+  pub numbers : List ℤ
+  pub den : ℕ
+  pub dual : IsScaledDual (rank_program b) pivots numbers den
+  pub points : g.moves ++ (g.floor ∷ []) ≡ points_of (at numbers) (rank_question b).groups
+  pub kept : map (λ z. Some z) g.kept ≡ map (λ t. point_in (answer_for empties t)) b.set
+  pub untripped : NothingTrips (rank_program b) pivots
+
+-- the answer for a rule is a point
+pub record HasPointFor (empties : List EmptyAnswer) (t : ℕ) : Type 0 where
+  pub point : ScaledPoint
+  pub found : point_in (answer_for empties t) ≡ Some point
+
+-- the trip of an answer, where it is one
+abbrev pub trip_in : Option EmptyAnswer → Option Trip
+trip_in None = None
+trip_in (Some (answers.Empty n)) = None
+trip_in (Some (answers.Point z)) = None
+trip_in (Some (answers.Tripped t)) = Some t
+
+-- the first, where there is one, and else the second
+abbrev pub first_of : Option Trip → Option Trip → Option Trip
+first_of None other = other
+first_of (Some t) other = Some t
+
+-- the trip of the first rule of the set whose emptiness question tripped
+abbrev pub first_trip : List EmptyAnswer → List ℕ → Option Trip
+first_trip empties [] = None
+first_trip empties (t ∷ ts) = first_of (trip_in (answer_for empties t)) (first_trip empties ts)
+
+-- the linear program trips, by the cause that is told
+pub record IsOwnTrip (b : RankedSet) (pivots : ℕ) (t : Trip) : Type 0 where
+  pub question : t.question ≡ asked.Rank b.strict
+  pub trips : Trips (rank_program b) pivots (cause_of t.cause)
+
+-- nothing trips it, it has no solution, and the emptiness question of a rule of the set tripped: the first such trip
+pub record IsEmptyTrip (b : RankedSet) (pivots : ℕ) (empties : List EmptyAnswer) (t : Trip) : Type 0 where
+  pub untripped : NothingTrips (rank_program b) pivots
+  pub unsolved : ¬ HasSolution (rank_program b)
+  pub first : first_trip empties b.set ≡ Some t
+
+-- what the answer says, within a number of pivots: a function that ranks the rule, as a node that rests on nothing yet;
+-- that there is none, as a gap shows; or which linear program trips
+abbrev pub IsRankAnswer : RankedSet → List SymbolPlace → ℕ → List EmptyAnswer → RankAnswer → Type 0
+IsRankAnswer b shut pivots empties (Ranked node) = IsRankNode b pivots (rank_of node) × (node.uses.items ≡ [])
+IsRankAnswer b shut pivots empties (NoRank gap) =
+    IsReadOff b shut pivots empties (gap_of gap) × (first_trip empties b.set ≡ None)
+IsRankAnswer b shut pivots empties (Tripped t) = IsOwnTrip b pivots t ⊎ IsEmptyTrip b pivots empties t
+
+-- which answer it is
+abbrev pub SaysRanked : RankAnswer → Type 0
+SaysRanked (Ranked node) = Unit {0}
+SaysRanked (NoRank gap) = ⊥
+SaysRanked (Tripped t) = ⊥
+
+abbrev pub SaysNoRank : RankAnswer → Type 0
+SaysNoRank (Ranked node) = ⊥
+SaysNoRank (NoRank gap) = Unit {0}
+SaysNoRank (Tripped t) = ⊥
+
+abbrev pub SaysTripped : RankAnswer → Type 0
+SaysTripped (Ranked node) = ⊥
+SaysTripped (NoRank gap) = ⊥
+SaysTripped (Tripped t) = Unit {0}

@@ -1,0 +1,94 @@
+-- What the answers on ranking functions are worth.
+use Rattle.std.specs.Prelude.{◌≡◌, ◌↔◌, ◌≢◌, ◌⊎◌, ℕ, suc, List, length, true, pos, ◌<◌, Some, None}
+use Rattle.linear_forms.specs.Forms.{at}
+use Rattle.linear_forms.specs.LinearProgram.{HasSolution}
+use Rattle.linear_forms.specs.QuestionLaws.{parameters_of}
+use Rattle.linear_forms.specs.RuleQuestions.{RankedSet, has_symbol}
+use Rattle.rule_forms.specs.Ranking.{Function, Ranks, Fits, NoRank, IsLeastRank}
+use Rattle.rule_forms.specs.RankLaws.{HavePointsOf, function_of}
+use Rattle.model.specs.Programs.{Program}
+use Rattle.its_model.specs.Valid.{IsValid}
+use Rattle.model.specs.Entries.{is_in, IsEntry}
+use Rattle.proof_nodes.specs.AcceptsRank.{at_target, rank_time, HasRankShape, Loses, HasFloor, AcceptsRank}
+use Rattle.proof_nodes.specs.Composed.{rank_form}
+use Rattle.proof_nodes.specs.Gaps.{SymbolPlace}
+use Rattle.proof_nodes.specs.Known.{IsKnown, Table}
+use Rattle.proof_nodes.specs.Limits.{IsSmallComposed}
+use Rattle.proof_nodes.specs.Nodes.{RankNode}
+use Rattle.proof_nodes.specs.Setting.{Setting}
+use Rattle.proof_setting.specs.Setting.{setting_of}
+use Rattle.proof_tree.specs.declared.answer.EmptyAnswer.{EmptyAnswer}
+use Rattle.rank_search.specs.declared.answer.RankAnswer.{RankAnswer}
+use Rattle.rank_search.specs.ProgramQuestions.{is_shut, ranked_set}
+use Rattle.rank_search.specs.Programs.{NothingTrips}
+use Rattle.rank_search.specs.RankAnswers.{IsRuleSet, AreEmptyAnswers, rank_program, IsRankNode, IsRankAnswer}
+use Rattle.rank_search.specs.RankAnswers.{first_trip, SaysRanked, SaysNoRank, SaysTripped}
+
+-- the function that a node is read off
+abbrev pub found : (b : RankedSet) (pivots : ℕ) (node : RankNode) → IsRankNode b pivots node → Function
+found b pivots node n = function_of b (parameters_of (at n.numbers))
+
+-- the facts that a node needs: a time of each entry and the sizes there at which the function looks, which compose a
+-- small bound
+pub record HoldsFacts (s : Setting) (table : Table) (node : RankNode) : Type 0 where
+  pub times : (e : ℕ) → IsEntry s.program node.set e → IsKnown (table.time e)
+  pub sizes : (e : ℕ) → IsEntry s.program node.set e → (j : ℕ) → at (at_target s.program node e).coefs j ≢ pos 0
+      → IsKnown (table.size e (suc j))
+  pub small : IsSmallComposed s.rewrite (rank_time s node table)
+
+-- a node that is found holds, at each symbol of the set, the part of the function that it is read off; this function
+-- looks at no shut place and ranks the rule over the node's denominator, on all rational points; and where each rule
+-- of the set has a point, none that does weighs less
+pub record RankedNodesRank : Type 0 where
+  pub parts : (b : RankedSet) (pivots : ℕ) (node : RankNode) (n : IsRankNode b pivots node) (s : ℕ)
+      → has_symbol b s ≡ true → s < b.symbols → rank_form node.forms (Some s) ≡ found b pivots node n s
+  pub fits : (b : RankedSet) (pivots : ℕ) (node : RankNode) (n : IsRankNode b pivots node)
+      → Fits b (found b pivots node n)
+  pub ranks : (p : Program) (set : List ℕ) (strict : ℕ) (shut : List SymbolPlace) (pivots : ℕ) (node : RankNode)
+      → IsValid p → IsRuleSet p set strict → (n : IsRankNode (ranked_set p set strict shut) pivots node)
+      → Ranks (ranked_set p set strict shut) (found (ranked_set p set strict shut) pivots node n) node.den
+  pub least : (p : Program) (set : List ℕ) (strict : ℕ) (shut : List SymbolPlace) (pivots : ℕ) (node : RankNode)
+      → IsValid p → IsRuleSet p set strict → (n : IsRankNode (ranked_set p set strict shut) pivots node)
+      → HavePointsOf (ranked_set p set strict shut)
+      → IsLeastRank (ranked_set p set strict shut) (found (ranked_set p set strict shut) pivots node n) node.den
+
+-- what acceptance asks of a node apart from facts: its shape, and that its multipliers show what it loses and its floor
+pub record IsShown (s : Setting) (node : RankNode) : Type 0 where
+  pub shape : HasRankShape s node
+  pub moves : (t : ℕ) → is_in t node.set ≡ true → Loses s node t
+  pub floor : HasFloor s node
+
+-- a node that is found is shown, and accepted once the facts that it needs are there; and at a symbol of the set it has
+-- no coefficient at a shut place
+pub record RankedNodesAreAccepted : Type 0 where
+  pub shown : (p : Program) (set : List ℕ) (strict : ℕ) (shut : List SymbolPlace) (pivots : ℕ) (node : RankNode)
+      → IsValid p → IsRuleSet p set strict → IsRankNode (ranked_set p set strict shut) pivots node
+      → IsShown (setting_of p) node
+  pub shut : (p : Program) (set : List ℕ) (strict : ℕ) (shut : List SymbolPlace) (pivots : ℕ) (node : RankNode)
+      (s j : ℕ)
+      → IsRankNode (ranked_set p set strict shut) pivots node → has_symbol (ranked_set p set strict shut) s ≡ true
+      → s < length p.symbols → is_shut shut s (suc j) ≡ true → at (rank_form node.forms (Some s)).coefs j ≡ pos 0
+  pub each : (p : Program) (set : List ℕ) (strict : ℕ) (shut : List SymbolPlace) (pivots : ℕ) (node : RankNode)
+      → IsValid p → IsRuleSet p set strict → IsRankNode (ranked_set p set strict shut) pivots node
+      → (table : Table) → HoldsFacts (setting_of p) table node → AcceptsRank (setting_of p) table node
+
+-- each answer comes exactly where its cause stands: `Ranked` where the linear program has a solution and nothing trips
+-- it; `NoRank` where no function ranks the rule, nothing trips the linear program, and the emptiness question of no
+-- rule of the set tripped; and `Tripped` where the linear program trips, or has no solution and the emptiness question
+-- of a rule of the set tripped
+pub record RankAnswersAreExact : Type 0 where
+  pub ranked : (b : RankedSet) (shut : List SymbolPlace) (pivots : ℕ) (empties : List EmptyAnswer) (a : RankAnswer)
+      → IsRankAnswer b shut pivots empties a
+      → SaysRanked a ↔ (HasSolution (rank_program b) × NothingTrips (rank_program b) pivots)
+  pub none : (p : Program) (set : List ℕ) (strict : ℕ) (shut : List SymbolPlace) (pivots : ℕ)
+      (empties : List EmptyAnswer) (a : RankAnswer)
+      → IsValid p → IsRuleSet p set strict → AreEmptyAnswers p pivots empties
+      → IsRankAnswer (ranked_set p set strict shut) shut pivots empties a
+      → SaysNoRank a
+      ↔ (NoRank (ranked_set p set strict shut) × NothingTrips (rank_program (ranked_set p set strict shut)) pivots
+      × (first_trip empties set ≡ None))
+  pub tripped : (b : RankedSet) (shut : List SymbolPlace) (pivots : ℕ) (empties : List EmptyAnswer) (a : RankAnswer)
+      → IsRankAnswer b shut pivots empties a
+      → SaysTripped a
+      ↔ ((¬ NothingTrips (rank_program b) pivots)
+      ⊎ (NothingTrips (rank_program b) pivots × (¬ HasSolution (rank_program b)) × ¬ (first_trip empties b.set ≡ None)))

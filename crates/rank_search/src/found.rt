@@ -1,0 +1,192 @@
+// The node that a solution of a rank question's linear program gives.
+
+ghost use Rattle.std.specs.Prelude.{◌≡◌, ◌+◌, ◌*◌, ◌<◌, ◌≤◌, ◌^◌, [], ◌∷◌, length, map, nat_abs, IfOk, OnOk};
+ghost use Rattle.std.specs.List.{All};
+ghost use Rattle.linear_forms.specs.Forms.{at};
+ghost use Rattle.linear_forms.specs.Limits.{certificate_limit};
+ghost use Rattle.linear_forms.specs.Questions.{group_columns};
+ghost use Rattle.linear_forms.specs.QuestionLaws.{after, parameters_of, multipliers_by_group};
+ghost use Rattle.its_model.specs.Views.{program_of};
+ghost use Rattle.model.specs.Programs.{arity_of};
+ghost use Rattle.proof_tree.specs.Views.{form_of as part_of};
+ghost use Rattle.simplex_core.specs.Scaling.{AreWithin};
+ghost use Rattle.rank_search.specs.ProgramQuestions.{is_shut, places_of};
+ghost use Rattle.rank_search.specs.Reading.{open_count, read_form, read_forms, shape_at, shapes, IsNodeRead};
+
+use crate::coefficients::{arity_at, is_among};
+use crate::scaled::multipliers_from;
+use guard_prep::RuleRows;
+use its_model::Program;
+use poly_terms::Memory;
+use proof_tree::{Form, RankNode};
+use simplex_core::Scaled;
+use std::alloc::Global;
+
+/// The node that a solution gives: the function of its parameters over its denominator, symbol by symbol, with the
+/// multipliers of each rule of the set and of the floor.
+pub(crate) fn rank_node(
+    alloc: Global,
+    p: &Program,
+    preps: &[RuleRows],
+    set: &[u32],
+    strict: u32,
+    shut: &[(u32, u32)],
+    symbols: &[u32],
+    parameters: usize,
+    solution: &Scaled,
+) -> Result<RankNode, Memory>
+    requires few { length symbols.now ≤ 2000 }
+    requires few_places { All (λ s. arity_of (program_of p.now) s ≤ 32) symbols.now }
+    requires few_parameters { parameters < 2 ^ 30 }
+    requires within { AreWithin certificate_limit (length solution.now.numbers.items) solution.now.numbers.items }
+    requires den { solution.now.den ≤ certificate_limit }
+    requires room { 2 * parameters + group_columns (shapes preps.now set.now strict)
+        ≤ length solution.now.numbers.items }
+    ensures { IfOk result (λ node. IsNodeRead (program_of p.now) preps.now
+        (record { set = set.now; strict = strict; shut = places_of shut.now }) symbols.now parameters
+        solution.now.numbers.items solution.now.den node) }
+{
+    let forms = forms_from(alloc, p, shut, symbols, &solution.numbers)?;
+    let mut next = 2 * parameters;
+    let moves = moves_from(alloc, preps, set, &solution.numbers, &mut next)?;
+    let floor = rule_multipliers(alloc, preps, strict, &solution.numbers, next)?;
+    Ok(RankNode {
+        rule: strict,
+        set: Vec::from_slice(alloc, set)?,
+        den: solution.den as u64,
+        forms,
+        moves,
+        floor,
+        uses: Vec::new(alloc),
+    })
+}
+
+// The part of the function at each symbol, from the columns in order.
+fn forms_from(
+    alloc: Global,
+    p: &Program,
+    shut: &[(u32, u32)],
+    symbols: &[u32],
+    numbers: &[i64],
+) -> Result<Vec<Form>, Memory>
+    requires few { length symbols.now ≤ 2000 }
+    requires few_places { All (λ s. arity_of (program_of p.now) s ≤ 32) symbols.now }
+    requires within { AreWithin certificate_limit (length numbers.now) numbers.now }
+    ensures { IfOk result (λ forms. map part_of forms.items
+        ≡ read_forms (program_of p.now) (places_of shut.now) (parameters_of (at numbers.now)) 0 symbols.now) }
+{
+    let mut forms = Vec::new(alloc);
+    let mut next = 0;
+    for symbol in symbols {
+        let form = form_from(alloc, p, shut, *symbol, numbers, &mut next)?;
+        forms.push(form)?;
+    }
+    Ok(forms)
+}
+
+// The part of the function at a symbol, from the next parameter on.
+fn form_from(
+    alloc: Global,
+    p: &Program,
+    shut: &[(u32, u32)],
+    symbol: u32,
+    numbers: &[i64],
+    next: &mut u32,
+) -> Result<Form, Memory>
+    requires few_places { arity_of (program_of p.now) symbol ≤ 32 }
+    requires few { next.old ≤ 2 ^ 20 }
+    requires within { AreWithin certificate_limit (length numbers.now) numbers.now }
+    ensures form { IfOk result (λ form. part_of form
+        ≡ read_form (program_of p.now) (places_of shut.now) (parameters_of (at numbers.now)) next.old symbol) }
+    ensures next { OnOk result (next.new
+        ≡ next.old + open_count (is_shut (places_of shut.now) symbol) 1 (arity_of (program_of p.now) symbol) + 1) }
+{
+    let mut coefs = Vec::new(alloc);
+    let mut parameter = *next;
+    for before in 0..arity_at(p, symbol) {
+        let is_shut = is_among(shut, symbol, before + 1);
+        if is_shut {
+            coefs.push(0)?;
+        } else {
+            coefs.push(parameter_at(numbers, parameter))?;
+            parameter += 1;
+        }
+    }
+    *next = parameter + 1;
+    Ok(Form {
+        symbol,
+        coefs,
+        constant: parameter_at(numbers, parameter),
+    })
+}
+
+// A parameter: its plus column less its minus column.
+fn parameter_at(numbers: &[i64], parameter: u32) -> i64
+    requires { AreWithin certificate_limit (length numbers.now) numbers.now }
+    ensures { result ≡ parameters_of (at numbers.now) parameter }
+{
+    let plus = 2 * parameter as usize;
+    column_at(numbers, plus) - column_at(numbers, plus + 1)
+}
+
+// The number of a column, 0 past the last one.
+fn column_at(numbers: &[i64], column: usize) -> i64
+    requires { AreWithin certificate_limit (length numbers.now) numbers.now }
+    ensures value { result ≡ at numbers.now column }
+    ensures small { nat_abs result ≤ certificate_limit }
+{
+    match numbers.get(column) {
+        Some(number) => *number,
+        None => 0,
+    }
+}
+
+// The multipliers of the rows of each rule of the set, from the next column on, which is then the one behind.
+fn moves_from(
+    alloc: Global,
+    preps: &[RuleRows],
+    set: &[u32],
+    numbers: &[i64],
+    next: &mut usize,
+) -> Result<Vec<Vec<u64>>, Memory>
+    requires { next.old + group_columns (map (shape_at preps.now) set.now) ≤ length numbers.now }
+    ensures moves { IfOk result (λ moves. map (λ m. m.items) moves.items
+        ≡ multipliers_by_group (after next.old (at numbers.now)) (map (shape_at preps.now) set.now)) }
+    ensures next { OnOk result (next.new ≡ next.old + group_columns (map (shape_at preps.now) set.now)) }
+{
+    let mut moves = Vec::new(alloc);
+    for rule in set {
+        let multipliers = rule_multipliers(alloc, preps, *rule, numbers, *next)?;
+        *next += multipliers.len() + 1;
+        moves.push(multipliers)?;
+    }
+    Ok(moves)
+}
+
+// The multipliers of the rows of a rule, from a column on.
+fn rule_multipliers(
+    alloc: Global,
+    preps: &[RuleRows],
+    rule: u32,
+    numbers: &[i64],
+    start: usize,
+) -> Result<Vec<u64>, Memory>
+    requires { start + group_columns (shape_at preps.now rule ∷ []) ≤ length numbers.now }
+    ensures { IfOk result (λ m. m.items ∷ []
+        ≡ multipliers_by_group (after start (at numbers.now)) (shape_at preps.now rule ∷ [])) }
+{
+    multipliers_from(alloc, numbers, start, rows_at(preps, rule))
+}
+
+// How many rows a rule has; rules count from 1.
+fn rows_at(preps: &[RuleRows], rule: u32) -> usize
+    ensures { result ≡ length (shape_at preps.now rule).rows }
+{
+    if rule == 0 {
+        return 0;
+    }
+    match preps.get(rule as usize - 1) {
+        Some(prep) => prep.rows.len(),
+        None => 0,
+    }
+}

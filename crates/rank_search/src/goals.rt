@@ -1,0 +1,205 @@
+// The goals of a rule in a rank question: what it loses by each coefficient.
+
+ghost use Rattle.std.specs.Prelude.{◌≡◌, ◌+◌, ◌*ℤ◌, ◌+ℤ◌, ◌<◌, ◌≤◌, ◌^◌, ◌||◌};
+ghost use Rattle.std.specs.Prelude.{nat_eq, [], length, map, nat_abs, negsuc, IfOk};
+ghost use Rattle.std.specs.List.{All};
+ghost use Rattle.linear_forms.specs.Forms.{at};
+ghost use Rattle.linear_forms.specs.Combinations.{form_sum};
+ghost use Rattle.linear_forms.specs.RuleQuestions.{constant_form, unknown_form, opposite, at_source, at_target};
+ghost use Rattle.lp_builder.specs.Descriptions.{goal_forms, AreParameters, IsWritable};
+ghost use Rattle.model.specs.Limits.{coefficient_limit};
+ghost use Rattle.guard_prep.specs.Views.{prepared_of};
+ghost use Rattle.poly_terms.specs.Views.{form_of};
+ghost use Rattle.rank_search.specs.Coefficients.{coefficient_of};
+ghost use Rattle.rank_search.specs.Goals.{fixed_form, goal_form, IsSmall, IsDifferenceSmall};
+ghost use Rattle.rank_search.specs.ProgramQuestions.{forms_of};
+
+use crate::coefficients::Coefficient;
+use guard_prep::RuleRows;
+use lp_builder::{Goal, Row};
+use poly_terms::Memory;
+use std::alloc::Global;
+
+/// What is to follow in a group of a rank question.
+#[derive(Clone, Copy, Debug, PartialEq, Eq)]
+pub enum Part {
+    /// The rule loses nothing less than 0.
+    Move,
+    /// It loses at least 1.
+    Fall,
+    /// There is at least 1 before it.
+    Floor,
+}
+
+/// The goals of a rule from one symbol to another, for each coefficient of one of them.
+pub(crate) fn goals_of(
+    alloc: Global,
+    part: Part,
+    source: u32,
+    target: u32,
+    prep: &RuleRows,
+    coefficients: &[Coefficient],
+) -> Result<Vec<Goal>, Memory>
+    requires few { length coefficients.now < 2 ^ 30 }
+    requires news { All (λ f. IsSmall (form_of f)) prep.now.news.items }
+    requires fit { All (λ c. length (goal_form part (forms_of source target (prepared_of prep.now))
+        (coefficient_of c)).coefs ≤ prep.now.unknowns) coefficients.now }
+    ensures goals { IfOk result (λ goals. goal_forms 0 (length coefficients.now) goals.items
+        ≡ map (λ c. goal_form part (forms_of source target (prepared_of prep.now)) (coefficient_of c))
+        coefficients.now) }
+    ensures listed { IfOk result (λ goals. AreParameters (length coefficients.now) goals.items) }
+    ensures writable { IfOk result (λ goals. All (λ g. IsWritable prep.now.unknowns (form_of g.form)) goals.items) }
+{
+    let mut goals = Vec::new(alloc);
+    for (parameter, c) in coefficients.iter().enumerate() {
+        let counts = concerns(*c, source, target);
+        if counts {
+            let form = goal_of(alloc, part, source, target, prep, *c)?;
+            goals.push(Goal {
+                parameter: parameter as u32,
+                form,
+            })?;
+        }
+    }
+    Ok(goals)
+}
+
+// Whether a coefficient is one of the source or of the target.
+fn concerns(c: Coefficient, source: u32, target: u32) -> bool
+    ensures { result ≡ nat_eq c.symbol source || nat_eq c.symbol target }
+{
+    c.symbol == source || c.symbol == target
+}
+
+// The goal of a coefficient.
+fn goal_of(
+    alloc: Global,
+    part: Part,
+    source: u32,
+    target: u32,
+    prep: &RuleRows,
+    c: Coefficient,
+) -> Result<Row, Memory>
+    requires { All (λ f. IsSmall (form_of f)) prep.now.news.items }
+    ensures same { IfOk result (λ row. form_of row
+        ≡ goal_form part (forms_of source target (prepared_of prep.now)) (coefficient_of c)) }
+    ensures small { IfOk result (λ row. IsDifferenceSmall (form_of row)) }
+{
+    let before = row_before(alloc, source, c)?;
+    match part {
+        Part::Floor => Ok(before),
+        Part::Move | Part::Fall => less_after(alloc, before, target, prep, c),
+    }
+}
+
+// What a coefficient is multiplied by before a rule that comes from this symbol.
+fn row_before(alloc: Global, source: u32, c: Coefficient) -> Result<Row, Memory>
+    ensures same { IfOk result (λ row. form_of row
+        ≡ at_source (record { source = source; target = 0; left = 0; unknowns = 0; rows = []; news = [] })
+        (coefficient_of c)) }
+    ensures small { IfOk result (λ row. IsSmall (form_of row)) }
+{
+    if c.symbol != source {
+        return Ok(constant_row(alloc, 0));
+    }
+    if c.place == 0 {
+        return Ok(constant_row(alloc, 1));
+    }
+    unit_row(alloc, c.place - 1)
+}
+
+// A form less what a coefficient is multiplied by after the rule.
+fn less_after(
+    alloc: Global,
+    before: Row,
+    target: u32,
+    prep: &RuleRows,
+    c: Coefficient,
+) -> Result<Row, Memory>
+    requires news { All (λ f. IsSmall (form_of f)) prep.now.news.items }
+    requires before { IsSmall (form_of before) }
+    ensures same { IfOk result (λ row. form_of row
+        ≡ form_sum (form_of before)
+        (opposite (at_target (forms_of 0 target (prepared_of prep.now)) (coefficient_of c)))) }
+    ensures small { IfOk result (λ row. IsDifferenceSmall (form_of row)) }
+{
+    if c.symbol != target {
+        return Ok(before);
+    }
+    if c.place == 0 {
+        return difference(alloc, &before, &constant_row(alloc, 1));
+    }
+    let position = c.place as usize - 1;
+    if position >= prep.news.len() {
+        return Ok(before);
+    }
+    let after = &prep.news[position];
+    difference(alloc, &before, after)
+}
+
+// The difference of two forms.
+fn difference(alloc: Global, before: &Row, after: &Row) -> Result<Row, Memory>
+    requires before { IsSmall (form_of before.now) }
+    requires after { IsSmall (form_of after.now) }
+    ensures same { IfOk result (λ row. form_of row ≡ form_sum (form_of before.now) (opposite (form_of after.now))) }
+    ensures small { IfOk result (λ row. IsDifferenceSmall (form_of row)) }
+{
+    let mut coefs = Vec::new(alloc);
+    for unknown in 0..before.coefs.len().max(after.coefs.len()) {
+        coefs.push(less(
+            number_at(&before.coefs, unknown),
+            number_at(&after.coefs, unknown),
+        ))?;
+    }
+    let constant = less(before.constant, after.constant);
+    Ok(Row { coefs, constant })
+}
+
+// A number less another one.
+fn less(a: i128, b: i128) -> i128
+    requires first { nat_abs a ≤ coefficient_limit }
+    requires second { nat_abs b ≤ coefficient_limit }
+    ensures value { result ≡ a +ℤ negsuc 0 *ℤ b }
+    ensures small { nat_abs result ≤ coefficient_limit + coefficient_limit }
+{
+    a - b
+}
+
+// A coefficient, 0 where it isn't listed.
+fn number_at(coefs: &[i128], unknown: usize) -> i128
+    ensures { result ≡ at coefs.now unknown }
+{
+    match coefs.get(unknown) {
+        Some(coef) => *coef,
+        None => 0,
+    }
+}
+
+// The form that is an unknown.
+fn unit_row(alloc: Global, unknown: u32) -> Result<Row, Memory>
+    ensures { IfOk result (λ row. form_of row ≡ unknown_form unknown) }
+{
+    let mut coefs = vec![in alloc; 0; unknown as usize]?;
+    coefs.push(1)?;
+    Ok(Row { coefs, constant: 0 })
+}
+
+/// How much is to be subtracted of what follows in a group.
+pub(crate) fn fixed_row(alloc: Global, part: Part) -> Row
+    ensures { form_of result ≡ fixed_form part }
+{
+    match part {
+        Part::Move => constant_row(alloc, 0),
+        Part::Fall | Part::Floor => constant_row(alloc, -1),
+    }
+}
+
+/// The form that is a number everywhere.
+pub(crate) fn constant_row(alloc: Global, constant: i128) -> Row
+    ensures { form_of result ≡ constant_form constant }
+{
+    Row {
+        coefs: Vec::new(alloc),
+        constant,
+    }
+}
