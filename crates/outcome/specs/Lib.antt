@@ -1,4 +1,6 @@
--- what an analysis says of a program
+-- what an analysis says of a program, and when that holds on all runs
 pub mod Reports
--- an outcome as a report
+pub mod Holding
+-- an outcome as a report, and which outcomes can be printed
 pub mod Views
+pub mod Printing

@@ -1,28 +1,9 @@
 -- What an analysis says of a program, as plain data: a bound for each rule and each place, or a reason.
-use Rattle.std.specs.Prelude.{ℕ, List, ℤ, Option}
+use Rattle.std.specs.Prelude.{ℕ, Bool, true, false, List, ℤ, Option}
 use Rattle.model.specs.Bounds.{Bound}
 use Rattle.proof_nodes.specs.Nodes.{Spot}
+use Rattle.proof_nodes.specs.Gaps.{ScaledPoint, Gap}
 use Rattle.proof_tree.specs.declared.answer.Trip.{Trip}
-
--- a number for each unknown over one denominator; over the denominator 0 it is a ray
-pub record Point : Type 0 where
-  pub parts : List ℤ
-  pub den : ℕ
-
--- a symbol, and a place of it, from 1
-pub record ShutPlace : Type 0 where
-  pub symbol : ℕ
-  pub place : ℕ
-
--- points of the rules of a set that show that no affine function ranks a rule over it: a move of each rule, the floor
--- of the rule, and a kept point of each rule; a function may not read the shut places
-pub record Gap : Type 0 where
-  pub rule : ℕ
-  pub set : List ℕ
-  pub shut : List ShutPlace
-  pub moves : List Point
-  pub floor : Point
-  pub kept : List Point
 
 -- why a rule has no time: no function ranks it, a linear program passed a limit, or the bound is too large
 pub data NoTime : Type 0 where
@@ -43,7 +24,7 @@ pub data Side : Type 0 where
 -- why a place has no size: a side is loose, along a ray and from a point; a linear program passed a limit; a size from
 -- outside is missing; a polynomial arm reads a member; a rule has no time; or the bound is too large
 pub data NoSize : Type 0 where
-  IsLoose : Side → List ℤ → Point → NoSize
+  IsLoose : Side → List ℤ → ScaledPoint → NoSize
   SizeTripped : Trip → NoSize
   IsMissing : Spot → NoSize
   IsBent : Spot → NoSize
@@ -61,3 +42,8 @@ pub record Report : Type 0 where
   pub times : List Time
   pub total : Option Bound
   pub sizes : List (List Size)
+
+-- whether a rule has a time
+abbrev pub is_timed : Time → Bool
+is_timed (Timed b) = true
+is_timed (Untimed w) = false

@@ -2,41 +2,20 @@
 use Rattle.std.specs.Prelude.{ℕ, zero, suc, Bool, true, false, List, [], ◌∷◌, map}
 use Rattle.std.specs.Option.{option_map}
 use Rattle.bound_expr.specs.Views.{bound_of}
+use Rattle.proof_nodes.specs.Gaps.{Gap}
 use Rattle.proof_tree.specs.Views.{spot_of}
+use Rattle.proof_tree.specs.AnswerViews.{scaled_of, gap_of}
 use Rattle.proof_tree.specs.declared.gap.Gap as code
-use Rattle.farkas_cert.specs.declared.scaled.Scaled.{Scaled}
 use Rattle.outcome.specs.declared.loose.Loose.{Loose}
 use Rattle.outcome.specs.declared.entry.TimeEntry.{TimeEntry}
 use Rattle.outcome.specs.declared.entry.TimeEntry.TheVariants as times
 use Rattle.outcome.specs.declared.entry.SizeEntry.{SizeEntry}
 use Rattle.outcome.specs.declared.entry.SizeEntry.TheVariants as sizes
 use Rattle.outcome.specs.declared.outcome_of.Outcome.{Outcome}
-use Rattle.outcome.specs.Reports.{Point, ShutPlace, Gap, NoFunction, TimeTripped, TimeLarge}
+use Rattle.outcome.specs.Reports.{NoFunction, TimeTripped, TimeLarge}
 use Rattle.outcome.specs.Reports.{Time, Timed, Untimed}
 use Rattle.outcome.specs.Reports.{Side, Up, Low, NoSize, IsLoose, SizeTripped, IsMissing, IsBent, LacksTime, SizeLarge}
 use Rattle.outcome.specs.Reports.{Size, Sized, Unsized, Report}
-
--- a scaled point as plain data
-abbrev pub point_of : Scaled → Point
-point_of s = record { parts = s.parts.items; den = s.den }
-
--- a shut place as plain data
-abbrev pub shut_place : ℕ → ℕ → ShutPlace
-shut_place symbol place = record { symbol = symbol; place = place }
-
-abbrev pub shut_of : ℕ × ℕ → ShutPlace
-shut_of s = shut_place s.0 s.1
-
--- a gap as plain data
-abbrev pub gap_of : code.Gap → Gap
-gap_of g = record {
-  rule = g.rule;
-  set = g.set.items;
-  shut = map shut_of g.shut.items;
-  moves = map point_of g.moves.items;
-  floor = point_of g.floor;
-  kept = map point_of g.kept.items;
-}
 
 -- the gap without points, over no rule
 abbrev pub no_gap : Gap
@@ -63,7 +42,7 @@ side_of false = Low
 
 -- why a loose place has no size
 abbrev pub loose_of : Loose → NoSize
-loose_of l = IsLoose (side_of l.up) l.ray.items (point_of l.kept)
+loose_of l = IsLoose (side_of l.up) l.ray.items (scaled_of l.kept)
 
 -- a size, or why there is none, as plain data
 abbrev pub size_of : SizeEntry → Size

@@ -10,9 +10,8 @@ use Rattle.model.specs.Paths.{source_in, source_of, target_in, target_of}
 use Rattle.its_model.specs.declared.program.Rule.{Rule}
 use Rattle.its_model.specs.declared.program.Program.{Program}
 use Rattle.its_model.specs.Views.{rule_of, program_of}
-use Rattle.proof_nodes.specs.Numbers.{is_in}
+use Rattle.model.specs.Entries.{is_in, enters, entries}
 use Rattle.proof_nodes.specs.Composed.{rank_form}
-use Rattle.proof_nodes.specs.Graph.{enters, entries}
 use Rattle.proof_tree.specs.declared.rank.Form.{Form}
 use Rattle.proof_tree.specs.Views.{form_of}
 

@@ -1,5 +1,5 @@
 -- What contracts see of answers, reasons, gaps and proof files: plain data.
-use Rattle.std.specs.Prelude.{map}
+use Rattle.std.specs.Prelude.{ℕ, map}
 use Rattle.linear_forms.specs.Causes.{Cause, range, budget, wide, scale}
 use Rattle.farkas_cert.specs.declared.scaled.Scaled.{Scaled}
 use Rattle.proof_nodes.specs.Reasons as reasons
@@ -39,12 +39,19 @@ reason_of told.Weaker = reasons.NotWeaker
 abbrev pub scaled_of : Scaled → gaps.ScaledPoint
 scaled_of z = record { parts = z.parts.items; den = z.den }
 
+-- a place of a symbol as plain data
+abbrev pub symbol_place : ℕ → ℕ → gaps.SymbolPlace
+symbol_place symbol place = record { symbol = symbol; place = place }
+
+abbrev pub shut_of : ℕ × ℕ → gaps.SymbolPlace
+shut_of s = symbol_place s.0 s.1
+
 -- a gap as plain data
 abbrev pub gap_of : Gap → gaps.Gap
 gap_of g = record {
   rule = g.rule;
   set = g.set.items;
-  shut = map (λ p. record { symbol = p.0; place = p.1 }) g.shut.items;
+  shut = map shut_of g.shut.items;
   moves = map scaled_of g.moves.items;
   floor = scaled_of g.floor;
   kept = map scaled_of g.kept.items;

@@ -4,8 +4,7 @@ ghost use Rattle.std.specs.Prelude.{◌≡◌, ◌<◌, ◌-◌, ◌^◌, length
 ghost use Rattle.std.specs.List.{list_any};
 ghost use Rattle.model.specs.Paths.{source_of as source_of_rule, target_of as target_of_rule, same_symbol};
 ghost use Rattle.its_model.specs.Views.{program_of};
-ghost use Rattle.proof_nodes.specs.Graph.{enters as enters_set, entries as entries_of, is_left_by};
-ghost use Rattle.proof_nodes.specs.Numbers.{is_in};
+ghost use Rattle.model.specs.Entries.{enters as enters_set, entries as entries_of, is_left_by, is_in};
 
 use bound_expr::Memory;
 use its_model::Program;

@@ -7,12 +7,15 @@ use Rattle.proof_tree.specs.declared.gap.Gap.{Gap}
 use Rattle.outcome.specs.declared.entry.TimeEntry.{TimeEntry}
 use Rattle.outcome.specs.declared.entry.TimeEntry.TheVariants as times
 use Rattle.outcome.specs.declared.entry.SizeEntry.{SizeEntry}
-use Rattle.outcome.specs.Views.{time_of, size_of, numbered_gap, gap_of}
+use Rattle.proof_tree.specs.AnswerViews.{gap_of}
+use Rattle.outcome.specs.Views.{time_of, size_of, numbered_gap}
 use Rattle.report_text.specs.Pieces.{numbered}
-use Rattle.report_text.specs.Reports.{is_timed, headline, time_line, size_line, size_lines, why_time, why_size, why_sizes}
-use Rattle.report_text.specs.Conditions.{is_known, headline_of, entry_line, HasItsGap}
+use Rattle.outcome.specs.Reports.{is_timed}
+use Rattle.report_text.specs.Reports.{headline, time_line, size_line, size_lines, why_time, why_size, why_sizes}
+use Rattle.outcome.specs.Printing.{HasItsGap}
+use Rattle.report_text.specs.Conditions.{is_known, headline_of, entry_line}
 use Rattle.report_text.specs.Reasons.{gap_text}
-use Rattle.outcome.specs.Reports.{Gap as PlainGap}
+use Rattle.proof_nodes.specs.Gaps.{Gap as PlainGap}
 use Rattle.report_text.proofs.Lists.{numbered_same}
 
 -- the line of an entry is that of its time

@@ -3,7 +3,7 @@ use Rattle.std.proofs.Common.{◌≡◌, ℕ, suc, ◌+◌, ◌<◌, ◌≤◌, 
 use Rattle.std.proofs.lemmas.List.{append-nil, at_drop_more}
 use Rattle.std.proofs.Math.ListN.{drop_of_length-le}
 use Rattle.model.specs.Programs.{Symbol}
-use Rattle.outcome.specs.Reports.{ShutPlace}
+use Rattle.proof_nodes.specs.Gaps.{SymbolPlace}
 use Rattle.report_text.specs.Pieces.{goes_on, numbered}
 use Rattle.report_text.specs.Reasons.{shut_line, shut_lines}
 
@@ -25,7 +25,7 @@ goes_on_end {X} f xs i old all le inv =
     sym (append-nil old) ∙ (ap (λ (t : List ℕ). old ++ t) (sym step) ∙ inv)
 
 -- the line of one more shut place
-pub shut_more : {X : Type 0} (symbols : List Symbol) (f : X → ShutPlace) (xs : List X) (i : ℕ) (d : X) (old new all : List ℕ) → i < length xs
+pub shut_more : {X : Type 0} (symbols : List Symbol) (f : X → SymbolPlace) (xs : List X) (i : ℕ) (d : X) (old new all : List ℕ) → i < length xs
     → old ++ shut_lines symbols (map f (drop i xs)) ≡ all → new ≡ old ++ shut_line symbols (f (get_or xs i d))
     → new ++ shut_lines symbols (map f (drop (i + 1) xs)) ≡ all
 shut_more {X} symbols f xs i d old new all lt inv e =
@@ -34,7 +34,7 @@ shut_more {X} symbols f xs i d old new all lt inv e =
     ap (λ (t : List ℕ). t ++ rest) e
     ∙ (append_assoc old (shut_line symbols (f (get_or xs i d))) rest ∙ (ap (λ (t : List ℕ). old ++ t) (sym step) ∙ inv))
 
-pub shut_end : {X : Type 0} (symbols : List Symbol) (f : X → ShutPlace) (xs : List X) (i : ℕ) (old all : List ℕ) → length xs ≤ i
+pub shut_end : {X : Type 0} (symbols : List Symbol) (f : X → SymbolPlace) (xs : List X) (i : ℕ) (old all : List ℕ) → length xs ≤ i
     → old ++ shut_lines symbols (map f (drop i xs)) ≡ all → old ≡ all
 shut_end {X} symbols f xs i old all le inv =
     let step : shut_lines symbols (map f (drop i xs)) ≡ [] = ap (λ (ys : List X). shut_lines symbols (map f ys)) (drop_of_length-le xs le) in

@@ -2,7 +2,7 @@
 use Rattle.std.specs.Prelude.{ℕ, suc, List, [], ◌∷◌, ◌++◌, ℤ, map, codes, decimal}
 use Rattle.std.specs.Fmt.{signed_decimal}
 use Rattle.proof_nodes.specs.Nodes.{Spot}
-use Rattle.outcome.specs.Reports.{Point}
+use Rattle.proof_nodes.specs.Gaps.{ScaledPoint}
 
 -- a comma and a blank before each word
 abbrev pub goes_on : List (List ℕ) → List ℕ
@@ -23,7 +23,7 @@ abbrev pub parts_text : List ℤ → List ℕ
 parts_text parts = codes "(" ++ (joined (map signed_decimal parts) ++ codes ")")
 
 -- a point: its numbers over their denominator
-abbrev pub point_text : Point → List ℕ
+abbrev pub point_text : ScaledPoint → List ℕ
 point_text p = parts_text p.parts ++ (codes " / " ++ decimal p.den)
 
 -- a rule and a place

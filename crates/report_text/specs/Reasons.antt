@@ -6,7 +6,8 @@ use Rattle.proof_tree.specs.declared.answer.Question.TheVariants as questions
 use Rattle.proof_tree.specs.declared.answer.TripCause.{TripCause}
 use Rattle.proof_tree.specs.declared.answer.TripCause.TheVariants as causes
 use Rattle.proof_tree.specs.declared.answer.Trip.{Trip}
-use Rattle.outcome.specs.Reports.{Point, ShutPlace, Gap, NoTime, NoFunction, TimeTripped, TimeLarge, Side, Up, Low}
+use Rattle.proof_nodes.specs.Gaps.{ScaledPoint, SymbolPlace, Gap}
+use Rattle.outcome.specs.Reports.{NoTime, NoFunction, TimeTripped, TimeLarge, Side, Up, Low}
 use Rattle.outcome.specs.Reports.{NoSize, IsLoose, SizeTripped, IsMissing, IsBent, LacksTime, SizeLarge}
 use Rattle.report_text.specs.Pieces.{rules_text, parts_text, point_text, place_text, spot_text}
 
@@ -36,21 +37,21 @@ name_in None = []
 name_in (Some s) = s.name
 
 -- a line for each shut place
-abbrev pub shut_line : List Symbol → ShutPlace → List ℕ
+abbrev pub shut_line : List Symbol → SymbolPlace → List ℕ
 shut_line symbols s =
     codes "  shut " ++ (name_in (slice_get symbols s.symbol) ++ (codes "." ++ (decimal s.place ++ codes "\n")))
 
-abbrev pub shut_lines : List Symbol → List ShutPlace → List ℕ
+abbrev pub shut_lines : List Symbol → List SymbolPlace → List ℕ
 shut_lines symbols [] = []
 shut_lines symbols (s ∷ shut) = shut_line symbols s ++ shut_lines symbols shut
 
 -- a line for the point of a rule; `word` says what the point is
-abbrev pub point_line : List ℕ → ℕ → Point → List ℕ
+abbrev pub point_line : List ℕ → ℕ → ScaledPoint → List ℕ
 point_line word rule p =
     codes "  " ++ (word ++ (codes " " ++ (decimal rule ++ (codes ": " ++ (point_text p ++ codes "\n")))))
 
 -- a line for the point of each rule of a set
-abbrev pub point_lines : List ℕ → List ℕ → List Point → List ℕ
+abbrev pub point_lines : List ℕ → List ℕ → List ScaledPoint → List ℕ
 point_lines word [] points = []
 point_lines word (rule ∷ set) [] = []
 point_lines word (rule ∷ set) (p ∷ points) = point_line word rule p ++ point_lines word set points

@@ -1,18 +1,13 @@
 -- The text of a report: the headline, a line for each time, the total, a line for each size, and then why each missing
 -- time and each missing size is missing.
-use Rattle.std.specs.Prelude.{ℕ, Bool, true, false, cond, List, [], ◌++◌, Option, Some, None, codes, decimal}
+use Rattle.std.specs.Prelude.{ℕ, cond, List, [], ◌++◌, Option, Some, None, codes, decimal}
 use Rattle.std.specs.List.{list_all}
 use Rattle.model.specs.Programs.{Name, Symbol, Program}
 use Rattle.model.specs.Bounds.{Bound}
 use Rattle.bound_text.specs.Texts.{text_of}
-use Rattle.outcome.specs.Reports.{Time, Timed, Untimed, Size, Sized, Unsized, Report}
+use Rattle.outcome.specs.Reports.{Time, Timed, Untimed, Size, Sized, Unsized, Report, is_timed}
 use Rattle.report_text.specs.Pieces.{place_text, numbered}
 use Rattle.report_text.specs.Reasons.{no_time_text, no_size_text}
-
--- whether a rule has a time
-abbrev pub is_timed : Time → Bool
-is_timed (Timed b) = true
-is_timed (Untimed w) = false
 
 -- the first line says whether every rule has a time
 abbrev pub headline : List Time → List ℕ

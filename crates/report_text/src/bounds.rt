@@ -5,7 +5,7 @@ ghost use Rattle.its_model.specs.Views.{name_of};
 ghost use Rattle.bound_expr.specs.Views.{bound_of};
 ghost use Rattle.outcome.specs.Views.{size_of};
 ghost use Rattle.report_text.specs.Reports.{bound_end, none_end, total_line, size_end, size_line};
-ghost use Rattle.report_text.specs.Conditions.{IsPrintable, IsPrintableTime, IsPrintableSize, IsPrintableTotal};
+ghost use Rattle.outcome.specs.Printing.{IsPrintable, IsPrintableTime, IsPrintableSize, IsPrintableTotal};
 ghost use Rattle.report_text.specs.Conditions.{entry_end, entry_line, total_of};
 
 use crate::numbers::{push_number, push_place};

@@ -2,7 +2,7 @@
 
 ghost use Rattle.std.specs.Prelude.{◌≡◌, ◌++◌, map, slice_get, OnOk};
 ghost use Rattle.its_model.specs.Views.{symbol_of};
-ghost use Rattle.outcome.specs.Views.{point_of, shut_place, shut_of, gap_of};
+ghost use Rattle.proof_tree.specs.AnswerViews.{scaled_of, symbol_place, shut_of, gap_of};
 ghost use Rattle.report_text.specs.Reasons.{shut_line, shut_lines, point_line, point_lines, gap_lines, gap_text};
 ghost use Rattle.report_text.specs.Reasons.{name_in};
 
@@ -55,7 +55,7 @@ fn push_shut_line(
     place: u32,
 ) -> Result<(), Memory>
     ensures { OnOk result (text.new.items ≡ text.old.items
-        ++ shut_line (map symbol_of symbols.now) (shut_place symbol place)) }
+        ++ shut_line (map symbol_of symbols.now) (symbol_place symbol place)) }
 {
     text.extend_from_slice(b"  shut ")?;
     push_name(text, symbols, symbol)?;
@@ -83,7 +83,7 @@ fn push_points(
     points: &[Scaled],
 ) -> Result<(), Memory>
     ensures { OnOk result
-        (text.new.items ≡ text.old.items ++ point_lines word.now set.now (map point_of points.now)) }
+        (text.new.items ≡ text.old.items ++ point_lines word.now set.now (map scaled_of points.now)) }
 {
     let Some((rule, rules)) = set.split_first() else {
         return Ok(());
@@ -97,7 +97,7 @@ fn push_points(
 
 // The line for the point of a rule.
 fn push_point_line(text: &mut Vec<u8>, word: &[u8], rule: u32, point: &Scaled) -> Result<(), Memory>
-    ensures { OnOk result (text.new.items ≡ text.old.items ++ point_line word.now rule (point_of point.now)) }
+    ensures { OnOk result (text.new.items ≡ text.old.items ++ point_line word.now rule (scaled_of point.now)) }
 {
     text.extend_from_slice(b"  ")?;
     text.extend_from_slice(word)?;

@@ -2,7 +2,7 @@
 
 ghost use Rattle.std.specs.Prelude.{◌≡◌, ◌++◌, map, decimal, OnOk};
 ghost use Rattle.std.specs.Fmt.{signed_decimal};
-ghost use Rattle.outcome.specs.Views.{point_of};
+ghost use Rattle.proof_tree.specs.AnswerViews.{scaled_of};
 ghost use Rattle.report_text.specs.Pieces.{joined, goes_on, rules_text, parts_text, point_text, place_text};
 
 use farkas_cert::Scaled;
@@ -87,7 +87,7 @@ fn push_more_parts(text: &mut Vec<u8>, parts: &[i64]) -> Result<(), Memory>
 
 /// A point: its numbers over their denominator.
 pub(crate) fn push_point(text: &mut Vec<u8>, point: &Scaled) -> Result<(), Memory>
-    ensures { OnOk result (text.new.items ≡ text.old.items ++ point_text (point_of point.now)) }
+    ensures { OnOk result (text.new.items ≡ text.old.items ++ point_text (scaled_of point.now)) }
 {
     push_parts(text, &point.parts)?;
     text.extend_from_slice(b" / ")?;

@@ -7,7 +7,7 @@ ghost use Rattle.outcome.specs.Views.{time_of, size_of, side_of, loose_of};
 ghost use Rattle.report_text.specs.Pieces.{place_text, spot_text};
 ghost use Rattle.report_text.specs.Reasons.{trip_text, large_text, side_text, no_size_text};
 ghost use Rattle.report_text.specs.Reports.{why_time, why_size};
-ghost use Rattle.report_text.specs.Conditions.{HasItsGap};
+ghost use Rattle.outcome.specs.Printing.{HasItsGap};
 
 use crate::gaps::push_gap;
 use crate::numbers::{push_number, push_parts, push_place, push_point};

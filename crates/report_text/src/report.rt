@@ -6,7 +6,7 @@ ghost use Rattle.its_model.specs.Views.{name_of, symbol_of, program_of};
 ghost use Rattle.outcome.specs.Views.{time_of, size_of, report_of};
 ghost use Rattle.report_text.specs.Pieces.{numbered};
 ghost use Rattle.report_text.specs.Reports.{size_line, why_time, why_size, bounds_text, reasons_text, text_of_report};
-ghost use Rattle.report_text.specs.Conditions.{IsPrintableTime, IsPrintableSize, IsPrintableOutcome, HasItsGap};
+ghost use Rattle.outcome.specs.Printing.{IsPrintableTime, IsPrintableSize, IsPrintableOutcome, HasItsGap};
 ghost use Rattle.report_text.specs.Conditions.{entry_line, is_known, headline_of};
 
 use crate::bounds::{push_size, push_time, push_total};

@@ -1,5 +1,5 @@
 use Rattle.std.proofs.Common.{◌≡◌, drop}
-use Rattle.proof_nodes.specs.Numbers.{is_in}
+use Rattle.model.specs.Entries.{is_in}
 use Rattle.proof_tree.proofs.entering.has.Given as goal
 
 abbrev pub invariant-loop-other : goal.invariant-loop-other

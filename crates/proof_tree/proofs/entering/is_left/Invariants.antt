@@ -1,6 +1,6 @@
 use Rattle.std.proofs.Common.{◌≡◌, drop}
 use Rattle.its_model.specs.Views.{program_of}
-use Rattle.proof_nodes.specs.Graph.{is_left_by}
+use Rattle.model.specs.Entries.{is_left_by}
 use Rattle.proof_tree.proofs.entering.is_left.Given as goal
 
 abbrev pub invariant-loop-rule : goal.invariant-loop-rule

@@ -1,0 +1,52 @@
+-- Which outcomes can be printed.
+use Rattle.std.specs.Prelude.{ℕ, ◌≤◌, length, Option, Some, None, ⊤}
+use Rattle.std.specs.List.{All}
+use Rattle.bound_expr.specs.Views.{bound_of}
+use Rattle.bound_expr.specs.Numbers.{ReadsBelow}
+use Rattle.bound_expr.specs.Tidy.{IsTidy}
+use Rattle.bound_expr.specs.declared.bound.Bound as code
+use Rattle.outcome.specs.declared.entry.TimeEntry.{TimeEntry}
+use Rattle.outcome.specs.declared.entry.TimeEntry.TheVariants as times
+use Rattle.outcome.specs.declared.entry.SizeEntry.{SizeEntry}
+use Rattle.outcome.specs.declared.entry.SizeEntry.TheVariants as sizes
+use Rattle.outcome.specs.declared.outcome_of.Outcome.{Outcome}
+
+-- a bound is tidy, and its inputs are among the first n
+abbrev pub IsPrintable : ℕ → code.Bound → Type 0
+IsPrintable n b = IsTidy (bound_of b) × ReadsBelow n (bound_of b)
+
+-- the bound of a time, where there is one, is printable
+abbrev pub IsPrintableTime : ℕ → TimeEntry → Type 0
+IsPrintableTime n (times.Known s) = IsPrintable n s.bound
+IsPrintableTime n (times.Gap g) = ⊤
+IsPrintableTime n (times.Tripped t) = ⊤
+IsPrintableTime n (times.Large nodes) = ⊤
+
+-- the gap that a time names, where it names one, is one of so many
+abbrev pub HasItsGap : ℕ → TimeEntry → Type 0
+HasItsGap n (times.Known s) = ⊤
+HasItsGap n (times.Gap g) = (1 ≤ g) × (g ≤ n)
+HasItsGap n (times.Tripped t) = ⊤
+HasItsGap n (times.Large nodes) = ⊤
+
+-- the bound of a size, where there is one, is printable
+abbrev pub IsPrintableSize : ℕ → SizeEntry → Type 0
+IsPrintableSize n (sizes.Known s) = IsPrintable n s.bound
+IsPrintableSize n (sizes.Loose l) = ⊤
+IsPrintableSize n (sizes.Tripped t) = ⊤
+IsPrintableSize n (sizes.Missing s) = ⊤
+IsPrintableSize n (sizes.Bent s) = ⊤
+IsPrintableSize n (sizes.Untimed t) = ⊤
+IsPrintableSize n (sizes.Large nodes) = ⊤
+
+abbrev pub IsPrintableTotal : ℕ → Option code.Bound → Type 0
+IsPrintableTotal n None = ⊤
+IsPrintableTotal n (Some b) = IsPrintable n b
+
+-- all bounds of an outcome are tidy, over the start arguments alone, of which there are n; and it has the gaps that it
+-- names
+pub record IsPrintableOutcome (n : ℕ) (o : Outcome) : Type 0 where
+  pub times : All (IsPrintableTime n) o.times.items
+  pub gaps : All (HasItsGap (length o.gaps.items)) o.times.items
+  pub total : IsPrintableTotal n o.total
+  pub sizes : All (λ places. All (IsPrintableSize n) places.items) o.sizes.items

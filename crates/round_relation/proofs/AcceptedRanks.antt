@@ -1,0 +1,85 @@
+-- The answer to a rank question over a table that is made by rounds is a node that is accepted over it.
+use Rattle.std.proofs.Common.{◌≡◌, inl, inr, ℕ, zero, suc, true, List, Option, Some, None, refl, sym, ◌∙◌, ap, subst}
+use Rattle.std.proofs.Common.{slice_get}
+use Rattle.model.specs.Programs.{Program, Rule}
+use Rattle.model.specs.Bounds.{Constant}
+use Rattle.model.specs.Paths.{IsInSet, target_of, target_in}
+use Rattle.model.proofs.Entries.{listed-from}
+use Rattle.model.proofs.Membership.{no_is_not_yes}
+use Rattle.proof_nodes.specs.Nodes.{RankNode}
+use Rattle.proof_nodes.specs.Known.{Table, IsKnown}
+use Rattle.proof_nodes.specs.Setting.{Setting}
+use Rattle.proof_nodes.specs.Limits.{IsSmallComposed}
+use Rattle.proof_nodes.specs.AcceptsPlain.{IsRule}
+use Rattle.proof_nodes.specs.AcceptsRank.{AcceptsRank, rank_time}
+use Rattle.proof_nodes.specs.Gaps.{SymbolPlace}
+use Rattle.round_relation.specs.Tables.{lacks, is_untimed}
+use Rattle.round_relation.specs.Sets.{IsSetOfRule, AreShutOf}
+use Rattle.round_relation.specs.Searches.{Searches, SizeSearches}
+use Rattle.round_relation.specs.Rounds.{IsMadeByTimes, Begun, Made, IsMade, BegunWhole, MadeWhole}
+use Rattle.round_relation.specs.Right.{IsRanking, IsQuestion}
+use Rattle.round_relation.proofs.EntryBounds.{entry_timed, entry_sized}
+
+-- the virtual entry has a time in each table that is made by rounds
+pub start_known : (q : Searches) (s : Setting) (tab : Table) → IsMadeByTimes q s tab → IsKnown (tab.time 0)
+start_known q s tab (Begun h) = (Constant 1, h.start.time)
+start_known q s tab (Made {old = old} m n) =
+    let before = start_known q s old m in (before.0, n.times.known 0 before.0 before.1)
+
+pub start_known_whole : (q : Searches) (z : SizeSearches) (s : Setting) (tab : Table) → IsMade q z s tab → IsKnown
+    (tab.time 0)
+start_known_whole q z s tab (BegunWhole h) = (Constant 1, h.start.time)
+start_known_whole q z s tab (MadeWhole {old = old} m n) =
+    let before = start_known_whole q z s old m in (before.0, n.rules.known 0 before.0 before.1)
+
+-- a rule, or the virtual entry, that leads somewhere and isn't the virtual entry is a rule
+pub leading_rule : (p : Program) (u a : ℕ) → target_of p u ≡ Some a → (u ≡ 0 → ⊥) → IsRule p u
+leading_rule p zero a leads other = absurd (other refl)
+leading_rule p (suc k) a leads other = go (slice_get p.rules k) refl
+  where
+    go : (o : Option Rule) → slice_get p.rules k ≡ o → IsRule p (suc k)
+    go (Some r) e = record { rule = r; numbered = e }
+    go None e = absurd (none (ap target_in (sym e) ∙ leads))
+      where
+        none : None ≡ Some a → ⊥
+        none x = cc
+
+module _ (s : Setting) (tab : Table) (begun : IsKnown (tab.time 0)) where
+  -- an untimed rule isn't the virtual entry
+  not_the_entry : (u : ℕ) → is_untimed tab u ≡ true → u ≡ 0 → ⊥
+  not_the_entry u untimed e =
+      let zero_untimed : is_untimed tab 0 ≡ true = subst (λ (n : ℕ). is_untimed tab n ≡ true) e untimed in
+      no_is_not_yes (is_untimed tab 0) (ap lacks begun.1) zero_untimed
+
+  -- the set of a rule may be asked about
+  pub is_question : (t : ℕ) (set : List ℕ) → IsRule s.program t → IsSetOfRule s.program tab t set
+      → IsQuestion s.program set t
+  is_question t set rule is = record {
+    ascending = is.ascending;
+    rules = λ u m. member u ((is.members u).0 m);
+    inside = (is.members t).1 (inl refl);
+  }
+    where
+      member : (u : ℕ) → IsInSet s.program (is_untimed tab) t u → IsRule s.program u
+      member u (inl e) = subst (λ (n : ℕ). IsRule s.program n) (sym e) rule
+      member u (inr h) = leading_rule s.program u h.from h.leads (not_the_entry u h.untimed)
+
+  -- what ranks the rule over its set is accepted where it composes a small bound
+  pub accepted_rank : (t : ℕ) (set : List ℕ) (shut : List SymbolPlace) (node : RankNode) → IsRanking s set t shut node
+      → IsSetOfRule s.program tab t set → AreShutOf s.program tab set shut → IsSmallComposed s.rewrite
+      (rank_time s node tab)
+      → AcceptsRank s tab node
+  accepted_rank t set shut node r is are small =
+      let is_there : IsSetOfRule s.program tab t node.set = subst (λ (xs : List ℕ). IsSetOfRule s.program tab t xs)
+      (sym r.same_set) is in
+      let are_there : AreShutOf s.program tab node.set shut = subst (λ (xs : List ℕ). AreShutOf s.program tab xs shut)
+      (sym r.same_set) are in
+      record {
+        shape = r.shape;
+        moves = r.moves;
+        floor = r.floor;
+        times = λ e h. entry_timed s.program tab t node.set is_there e (listed-from s.program node.set e h);
+        sizes = λ e h j reads. entry_sized s.program tab node.set shut are_there node.forms r.shape.forms r.reads e
+            (listed-from s.program node.set e h) j reads;
+        small = small;
+      }

@@ -1,0 +1,29 @@
+-- Telling cases apart.
+use Rattle.std.proofs.Common.{◌≡◌, ◌⊎◌, inl, inr, Bool, true, false, Some, None, refl}
+
+-- one of two facts stands
+pub either : {A B C : Type 0} → A ⊎ B → (A → C) → (B → C) → C
+either (inl a) f g = f a
+either (inr b) f g = g b
+
+-- a test says yes or no
+pub told : {C : Type 0} → (v : Bool) → (v ≡ true → C) → (v ≡ false → C) → C
+told true f g = f refl
+told false f g = g refl
+
+-- what is there isn't missing, and two that are there are the same where they are as options
+pub none_some : {A : Type 0} (x : A) → None ≡ Some x → ⊥
+none_some x e = cc
+
+pub some_none : {A : Type 0} (x : A) → Some x ≡ None → ⊥
+some_none x e = cc
+
+pub some_same : {A : Type 0} (x y : A) → Some x ≡ Some y → x ≡ y
+some_same x y e = cc
+
+-- no isn't yes
+pub false_true : false ≡ true → ⊥
+false_true e = cc
+
+pub true_false : true ≡ false → ⊥
+true_false e = cc

@@ -1,0 +1,271 @@
+-- Where answers are one, so are the tables that rounds of times make.
+use Rattle.std.proofs.Common.{◌≡◌, ◌⊎◌, inl, inr, ℕ, zero, suc, ◌+◌, Bool, not, true, false, List, Option, Some, None}
+use Rattle.std.proofs.Common.{refl, sym, ◌∙◌, ap, subst, arith}
+use Rattle.model.specs.Programs.{Rule, rule_at}
+use Rattle.model.specs.Bounds.{Bound, Constant}
+use Rattle.model.specs.Entries.{is_in}
+use Rattle.model.specs.Paths.{Here, Onward, HasPath, target_of}
+use Rattle.model.proofs.Membership.{no_is_not_yes}
+use Rattle.proof_nodes.specs.Gaps.{SymbolPlace}
+use Rattle.proof_nodes.specs.Known.{Table, is_zero_bound}
+use Rattle.proof_nodes.specs.Setting.{Setting}
+use Rattle.proof_nodes.specs.AcceptsPlain.{IsRule, places_at}
+use Rattle.outcome.specs.Reports.{Time, Timed, Untimed, NoTime}
+use Rattle.round_relation.specs.Tables.{IsPlace}
+use Rattle.round_relation.specs.Sets.{AreShutOf}
+use Rattle.round_relation.specs.Searches.{Searches, Answers, searches_of, Ranking, Ranked, Unranked, RankTripped}
+use Rattle.round_relation.specs.Beginning.{IsDead, First}
+use Rattle.round_relation.specs.NewTimes.{SaysTime, Tells, bound_in}
+use Rattle.round_relation.specs.Reasons.{IsNoTime}
+use Rattle.round_relation.specs.Rounds.{NextTimes, IsMadeByTimes, Begun, Made, IsLastOfTimes}
+use Rattle.round_relation.specs.Right.{AreOne}
+use Rattle.round_relation.specs.Laws.{TablesAreOne}
+use Rattle.round_relation.proofs.Cases.{either, some_none, some_same, told}
+use Rattle.round_relation.proofs.Ends.{same_table}
+use Rattle.round_relation.proofs.Numbered.{place_in, in_places}
+use Rattle.round_relation.proofs.Ordered.{sets_one, shut_one}
+
+-- an answer says one thing of a time
+says_one : (s : Setting) (tab : Table) (answer : Ranking) (x y : Time) → SaysTime s tab answer x
+    → SaysTime s tab answer y → x ≡ y
+says_one s tab (Ranked node) (Timed b) (Timed c) h k = ap (λ (d : Bound). Timed d) (h.1 ∙ sym k.1)
+says_one s tab (Ranked node) (Timed b) (Untimed w) h k = absurd (k.0 h.0)
+says_one s tab (Ranked node) (Untimed v) (Timed c) h k = absurd (h.0 k.0)
+says_one s tab (Ranked node) (Untimed v) (Untimed w) h k = ap (λ (n : NoTime). Untimed n) (h.1 ∙ sym k.1)
+says_one s tab (Unranked g) x y h k = h ∙ sym k
+says_one s tab (RankTripped t) x y h k = h ∙ sym k
+
+pub untimed_one : (v w : NoTime) → Untimed v ≡ Untimed w → v ≡ w
+untimed_one v w e = cc
+
+zero_told : (c : Bound) → is_zero_bound c ≡ true → c ≡ Constant 0
+zero_told (Constant zero) e = refl
+zero_told (Constant (suc n)) e = absurd (no_is_not_yes false refl e)
+zero_told c e = absurd (no_is_not_yes false refl e)
+
+-- two bounds that are 0 where they are known, and of which none is known alone, are the same
+option_one : (x y : Option Bound) → ((c : Bound) → x ≡ Some c → c ≡ Constant 0) →
+    ((c : Bound) → y ≡ Some c → c ≡ Constant 0)
+    → ((c : Bound) → x ≡ Some c → y ≡ None → ⊥) → ((c : Bound) → y ≡ Some c → x ≡ None → ⊥) → x ≡ y
+option_one None None f g h k = refl
+option_one None (Some d) f g h k = absurd (k d refl refl)
+option_one (Some c) None f g h k = absurd (h c refl refl)
+option_one (Some c) (Some d) f g h k = ap (λ (b : Bound). Some b) (f c refl ∙ sym (g d refl))
+
+-- searches that are functions have one answer to each question
+pub answers_one : (a : Answers) → AreOne (searches_of a)
+answers_one a = record { ranks = λ set t shut x y h k. sym h ∙ k }
+
+module _ (q : Searches) (one : AreOne q) (s : Setting) where
+  -- what is told of a time is one
+  pub tells_one : (tab : Table) (t : ℕ) (x y : Time) → Tells q s tab t x → Tells q s tab t y → x ≡ y
+  tells_one tab t x y a b =
+      let set = sets_one s.program tab t a.asked.set b.asked.set a.asked.is_set b.asked.is_set in
+      let there = subst (λ (zs : List ℕ). AreShutOf s.program tab zs a.asked.shut) set a.asked.are_shut in
+      let shut = shut_one s.program tab b.asked.set a.asked.shut b.asked.shut there b.asked.are_shut in
+      let answered = subst (λ (zs : List SymbolPlace). q.Ranks b.asked.set t zs a.asked.answer) shut
+      (subst (λ (zs : List ℕ). q.Ranks zs t a.asked.shut a.asked.answer) set a.asked.answered) in
+      let answer = one.ranks b.asked.set t b.asked.shut a.asked.answer b.asked.answer answered b.asked.answered in
+      says_one s tab b.asked.answer x y (subst (λ (r : Ranking). SaysTime s tab r x) answer a.says) b.says
+
+  -- a table has one next table
+  next_one : (old a b : Table) → NextTimes q s old a → NextTimes q s old b → a ≡ b
+  next_one old a b h k =
+      same_table a b (λ t. time t (rule_at s.program t) refl (old.time t) refl) (λ t i. h.sizes t i ∙ sym (k.sizes t i))
+    where
+      none_some : (r : Rule) → None ≡ Some r → ⊥
+      none_some r e = cc
+
+      time : (t : ℕ) (o : Option Rule) → rule_at s.program t ≡ o → (c : Option Bound) → old.time t ≡ c → a.time t
+          ≡ b.time t
+      time t o e (Some c) known = h.times.known t c known ∙ sym (k.times.known t c known)
+      time t None e None known =
+          let out : IsRule s.program t → ⊥ = λ r. none_some r.rule (sym e ∙ r.numbered) in
+          h.times.others t out ∙ sym (k.times.others t out)
+      time t (Some r) e None known =
+          let rule : IsRule s.program t = record { rule = r; numbered = e } in
+          let x = h.times.tried t rule known in
+          let y = k.times.tried t rule known in
+          x.gives ∙ (ap bound_in (tells_one old t x.time y.time x.tells y.tells) ∙ sym y.gives)
+
+  -- the first table is one
+  module _ (a b : Table) (h : First q s.program a) (k : First q s.program b) where
+    same_empty : (t : ℕ) → IsRule s.program t → h.is_empty t ≡ true → k.is_empty t ≡ true
+    same_empty t rule e = (k.empty t rule).1 ((h.empty t rule).0 e)
+
+    empty_back : (t : ℕ) → IsRule s.program t → k.is_empty t ≡ true → h.is_empty t ≡ true
+    empty_back t rule e = (h.empty t rule).1 ((k.empty t rule).0 e)
+
+    path_on : (x y : ℕ) → HasPath s.program (λ e. not (k.is_empty e)) x y → HasPath s.program
+        (λ e. not (h.is_empty e)) x y
+    path_on x y (Here e) = Here e
+    path_on x y (Onward {b = z} r edge) = Onward (path_on x z r) (record {
+      number = edge.number;
+      rule = edge.rule;
+      numbered = edge.numbered;
+      allowed = allowed (h.is_empty edge.number) refl;
+      source = edge.source;
+      target = edge.target;
+    })
+      where
+        allowed : (v : Bool) → h.is_empty edge.number ≡ v → not (h.is_empty edge.number) ≡ true
+        allowed false e = ap not e
+        allowed true e =
+            let there = same_empty edge.number (record { rule = edge.rule; numbered = edge.numbered }) e in
+            absurd (no_is_not_yes (not (k.is_empty edge.number)) (ap not there) edge.allowed)
+
+    -- a rule that is dead by one is dead by the other
+    dead_on : (t : ℕ) → IsRule s.program t → IsDead s.program h.is_empty t → IsDead s.program k.is_empty t
+    dead_on t rule (inl e) = inl (same_empty t rule e)
+    dead_on t rule (inr u) = inr (λ r numbered way. u r numbered (path_on s.program.start r.source way))
+
+    -- so what has a time by the first has one by the second, and so it is with sizes
+    time_there : (t : ℕ) → IsRule s.program t → (c : Bound) → a.time t ≡ Some c → b.time t ≡ None → ⊥
+    time_there t rule c e none =
+        let alive : ¬ (IsDead s.program h.is_empty t) =
+        λ dead. some_none (Constant 0) (sym (k.dead t rule (dead_on t rule dead)).time ∙ none) in
+        some_none c (sym e ∙ (h.live t rule alive).time)
+
+    size_there : (t i : ℕ) → IsRule s.program t → IsPlace s.program t i → (c : Bound) → a.size t i ≡ Some c → b.size t i
+        ≡ None → ⊥
+    size_there t i rule place c e none =
+        let alive : ¬ (IsDead s.program h.is_empty t) =
+        λ dead. some_none (Constant 0) (sym ((k.dead t rule (dead_on t rule dead)).sizes i place) ∙ none) in
+        some_none c (sym e ∙ (h.live t rule alive).sizes i place)
+
+  -- what is known of a rule before the first round is 0
+  module _ (a : Table) (h : First q s.program a) where
+    time_zero : (t : ℕ) → IsRule s.program t → (c : Bound) → a.time t ≡ Some c → c ≡ Constant 0
+    time_zero t rule c e = told (is_zero_bound c) (zero_told c) other
+      where
+        other : is_zero_bound c ≡ false → c ≡ Constant 0
+        other not_0 =
+            let alive : ¬ (IsDead s.program h.is_empty t) =
+            λ dead. no_is_not_yes (is_zero_bound c) not_0 (ap is_zero_bound
+            (some_same c (Constant 0) (sym e ∙ (h.dead t rule dead).time))) in
+            absurd (some_none c (sym e ∙ (h.live t rule alive).time))
+
+    size_zero : (t i : ℕ) → IsRule s.program t → IsPlace s.program t i → (c : Bound) → a.size t i ≡ Some c → c
+        ≡ Constant 0
+    size_zero t i rule place c e = told (is_zero_bound c) (zero_told c) other
+      where
+        other : is_zero_bound c ≡ false → c ≡ Constant 0
+        other not_0 =
+            let alive : ¬ (IsDead s.program h.is_empty t) =
+            λ dead. no_is_not_yes (is_zero_bound c) not_0
+            (ap is_zero_bound (some_same c (Constant 0) (sym e ∙ (h.dead t rule dead).sizes i place))) in
+            absurd (some_none c (sym e ∙ (h.live t rule alive).sizes i place))
+
+  -- the first table is one
+  first_one : (a b : Table) → First q s.program a → First q s.program b → a ≡ b
+  first_one a b h k = same_table a b time size
+    where
+      none_some : (r : Rule) → None ≡ Some r → ⊥
+      none_some r e = cc
+
+      no_time : (tab : Table) → First q s.program tab → (n : ℕ) → rule_at s.program (suc n) ≡ None → (c : Bound)
+          → tab.time (suc n) ≡ Some c → ⊥
+      no_time tab f n e c known =
+          either (f.table.times (suc n) c known) (λ z. omega (arith, z)) (λ r. none_some r.rule (sym e ∙ r.numbered))
+
+      time_at : (n : ℕ) (o : Option Rule) → rule_at s.program (suc n) ≡ o → a.time (suc n) ≡ b.time (suc n)
+      time_at n None e =
+          option_one (a.time (suc n)) (b.time (suc n)) (λ c x. absurd (no_time a h n e c x))
+          (λ c x. absurd (no_time b k n e c x))
+          (λ c x y. no_time a h n e c x) (λ c x y. no_time b k n e c x)
+      time_at n (Some r) e =
+          let rule : IsRule s.program (suc n) = record { rule = r; numbered = e } in
+          option_one (a.time (suc n)) (b.time (suc n)) (time_zero a h (suc n) rule) (time_zero b k (suc n) rule)
+          (time_there a b h k (suc n) rule) (time_there b a k h (suc n) rule)
+
+      time : (t : ℕ) → a.time t ≡ b.time t
+      time zero = h.start.time ∙ sym k.start.time
+      time (suc n) = time_at n (rule_at s.program (suc n)) refl
+
+      no_size : (tab : Table) → First q s.program tab → (t i : ℕ) → ¬ (IsPlace s.program t i) → (c : Bound)
+          → tab.size t i ≡ Some c → ⊥
+      no_size tab f t i out c known = out (f.table.sizes t i c known).1
+
+      no_rule : (tab : Table) → First q s.program tab → (n i : ℕ) → rule_at s.program (suc n) ≡ None → (c : Bound)
+          → tab.size (suc n) i ≡ Some c → ⊥
+      no_rule tab f n i e c known =
+          either (f.table.sizes (suc n) i c known).0 (λ z. omega (arith, z))
+          (λ r. none_some r.rule (sym e ∙ r.numbered))
+
+      at_place : (t i : ℕ) → IsPlace s.program t i → a.size t i ≡ b.size t i
+      at_place zero i place = h.start.sizes i place ∙ sym (k.start.sizes i place)
+      at_place (suc n) i place = by (rule_at s.program (suc n)) refl
+        where
+          by : (o : Option Rule) → rule_at s.program (suc n) ≡ o → a.size (suc n) i ≡ b.size (suc n) i
+          by None e =
+              option_one (a.size (suc n) i) (b.size (suc n) i) (λ c x. absurd (no_rule a h n i e c x))
+              (λ c x. absurd (no_rule b k n i e c x))
+              (λ c x y. no_rule a h n i e c x) (λ c x y. no_rule b k n i e c x)
+          by (Some r) e =
+              let rule : IsRule s.program (suc n) = record { rule = r; numbered = e } in
+              option_one (a.size (suc n) i) (b.size (suc n) i) (size_zero a h (suc n) i rule place)
+              (size_zero b k (suc n) i rule place)
+              (size_there a b h k (suc n) i rule place) (size_there b a k h (suc n) i rule place)
+
+      size : (t i : ℕ) → a.size t i ≡ b.size t i
+      size t i = told (is_in i (places_at s.program (target_of s.program t)))
+          (λ m. at_place t i (in_places s.program t i m)) elsewhere
+        where
+          elsewhere : is_in i (places_at s.program (target_of s.program t)) ≡ false → a.size t i ≡ b.size t i
+          elsewhere outside =
+              let out : ¬ (IsPlace s.program t i) =
+              λ place. no_is_not_yes (is_in i (places_at s.program (target_of s.program t))) outside
+              (place_in s.program t i place) in
+              option_one (a.size t i) (b.size t i) (λ c x. absurd (no_size a h t i out c x))
+              (λ c x. absurd (no_size b k t i out c x))
+              (λ c x y. no_size a h t i out c x) (λ c x y. no_size b k t i out c x)
+
+  -- the table after so many rounds
+  abbrev IsAfter : ℕ → Table → Type 0
+  IsAfter zero tab = First q s.program tab
+  IsAfter (suc n) tab = (old : Table) × IsAfter n old × NextTimes q s old tab
+
+  made_after : (tab : Table) → IsMadeByTimes q s tab → (n : ℕ) × IsAfter n tab
+  made_after tab (Begun h) = (0, h)
+  made_after tab (Made {old = old} m n) = let before = made_after old m in (suc before.0, (old, before.1, n))
+
+  after_one : (n : ℕ) (a b : Table) → IsAfter n a → IsAfter n b → a ≡ b
+  after_one zero a b h k = first_one a b h k
+  after_one (suc n) a b h k =
+      let before = after_one n h.0 k.0 h.1 k.1 in
+      next_one k.0 a b (subst (λ (tab : Table). NextTimes q s tab a) before h.2) k.2
+
+  -- after a table to which a round gives nothing new, all are that table
+  after_last : (n : ℕ) (a : Table) → IsAfter n a → NextTimes q s a a → (k m : ℕ) → m ≡ k + n → (b : Table) → IsAfter m b
+      → b ≡ a
+  after_last n a h closed zero m e b there =
+      let same : m ≡ n = omega (arith, e) in
+      after_one n b a (subst (λ (i : ℕ). IsAfter i b) same there) h
+  after_last n a h closed (suc k) zero e b there = absurd (omega (arith, e))
+  after_last n a h closed (suc k) (suc m) e b there =
+      let before = after_last n a h closed k m (omega (arith, e)) there.0 there.1 in
+      next_one a b a (subst (λ (tab : Table). NextTimes q s tab b) before there.2) closed
+
+  -- the last table is one
+  pub last_one : (a b : Table) → IsLastOfTimes q s a → IsLastOfTimes q s b → a ≡ b
+  last_one a b h k =
+      let x = made_after a h.made in
+      let y = made_after b k.made in
+      either (order x.0 y.0) (λ l. sym (after_last x.0 a x.1 h.closed l.0 y.0 l.1 b y.1))
+      (λ l. after_last y.0 b y.1 k.closed l.0 x.0 l.1 a x.1)
+    where
+      order : (m n : ℕ) → ((d : ℕ) × (n ≡ d + m)) ⊎ ((d : ℕ) × (m ≡ d + n))
+      order zero n = inl (n, omega arith)
+      order (suc m) zero = inr (suc m, omega arith)
+      order (suc m) (suc n) = either (order m n) (λ l. inl (l.0, omega (arith, l.1)))
+          (λ l. inr (l.0, omega (arith, l.1)))
+
+  -- and so is the reason why a time is missing
+  pub reason_one : (tab : Table) (t : ℕ) (v w : NoTime) → IsNoTime q s tab t v → IsNoTime q s tab t w → v ≡ w
+  reason_one tab t v w h k = untimed_one v w (tells_one tab t (Untimed v) (Untimed w) h.reason k.reason)
+
+pub tables_one : TablesAreOne
+tables_one = record {
+  last = λ a s x y h k. last_one (searches_of a) (answers_one a) s x y h k;
+  reason = λ a s tab t v w h k. reason_one (searches_of a) (answers_one a) s tab t v w h k;
+}

@@ -1,0 +1,116 @@
+-- When the answers of the searches for times are right.
+use Rattle.std.specs.Prelude.{◌≡◌, ◌⊎◌, ℕ, suc, nat_eq, ◌&&◌, Bool, true, List, [], ◌∷◌, length, pos, Option, Some}
+use Rattle.std.specs.Prelude.{None}
+use Rattle.std.specs.List.{list_any}
+use Rattle.model.specs.Programs.{Program, Rule, rule_at, arity_of}
+use Rattle.model.specs.Entries.{is_in}
+use Rattle.linear_forms.specs.Forms.{at}
+use Rattle.linear_forms.specs.Points.{IsPoint}
+use Rattle.linear_forms.specs.RuleQuestions.{RuleForms, RankedSet}
+use Rattle.rule_forms.specs.Ranking.{NoRank}
+use Rattle.proof_nodes.specs.Nodes.{RankNode}
+use Rattle.proof_nodes.specs.Numbers.{IsAscending}
+use Rattle.proof_nodes.specs.Setting.{Setting}
+use Rattle.proof_nodes.specs.Composed.{rank_form}
+use Rattle.proof_nodes.specs.AcceptsPlain.{IsRule, AcceptsEmpty}
+use Rattle.proof_nodes.specs.AcceptsRank.{HasRankShape, Loses, HasFloor}
+use Rattle.proof_tree.specs.declared.answer.Trip.{Trip}
+use Rattle.proof_tree.specs.declared.answer.Question.TheVariants as asked
+use Rattle.proof_nodes.specs.Gaps.{SymbolPlace, Gap}
+use Rattle.round_relation.specs.Searches.{Searches, Emptiness, NoPoint, HasPoint, EmptyTripped, Ranking, Ranked}
+use Rattle.round_relation.specs.Searches.{Unranked, RankTripped}
+
+-- whether the place of a symbol, counted from 1, is shut
+abbrev pub is_shut : List SymbolPlace → ℕ → ℕ → Bool
+is_shut shut a i = list_any (λ c. nat_eq c.symbol a && nat_eq c.place i) shut
+
+-- the function reads no shut place: its coefficients there are 0
+abbrev pub ReadsNoShut : RankNode → List SymbolPlace → Type 0
+ReadsNoShut node shut = (a j : ℕ) → is_shut shut a (suc j) ≡ true
+    → at (rank_form node.forms (Some a)).coefs j ≡ pos 0
+
+-- the node ranks the rule over the set, reads no shut place, and is accepted once its entries have their bounds
+pub record IsRanking (s : Setting) (set : List ℕ) (t : ℕ) (shut : List SymbolPlace) (node : RankNode) : Type 0 where
+  pub rule : node.rule ≡ t
+  pub same_set : node.set ≡ set
+  pub shape : HasRankShape s node
+  pub moves : (u : ℕ) → is_in u node.set ≡ true → Loses s node u
+  pub floor : HasFloor s node
+  pub reads : ReadsNoShut node shut
+
+-- a rule of a setting, where there is one, as a ranking function meets it: its ends, rows and new values
+abbrev pub met_in : Setting → ℕ → Option Rule → RuleForms
+met_in s t None = record { source = 0; target = 0; left = 0; unknowns = 0; rows = s.rows t; news = s.news t }
+met_in s t (Some r) = record {
+  source = r.source;
+  target = r.target;
+  left = 0;
+  unknowns = 0;
+  rows = s.rows t;
+  news = s.news t;
+}
+
+-- a set of rules of a setting, one of which has to decrease, with places that are shut
+abbrev pub set_met : Setting → List ℕ → ℕ → List SymbolPlace → RankedSet
+set_met s set t shut = record {
+  symbols = length s.program.symbols;
+  arity = arity_of s.program;
+  rule = λ u. met_in s u (rule_at s.program u);
+  set = set;
+  strict = t;
+  shut = is_shut shut;
+  entered = λ a. true;
+}
+
+-- a gap of exactly this question; and no function that reads no shut place ranks the rule over the set
+pub record IsGapOf (s : Setting) (set : List ℕ) (t : ℕ) (shut : List SymbolPlace) (g : Gap) : Type 0 where
+  pub rule : g.rule ≡ t
+  pub same_set : g.set ≡ set
+  pub same_shut : g.shut ≡ shut
+  pub none : NoRank (set_met s set t shut)
+
+-- the emptiness question of a rule trips
+abbrev pub EmptyTrips : Searches → ℕ → Type 0
+EmptyTrips q t = (x : Trip) × q.Empties t (EmptyTripped x)
+
+-- the emptiness question of no rule of the set trips
+abbrev pub NoneTrips : Searches → List ℕ → Type 0
+NoneTrips q set = (u : ℕ) → is_in u set ≡ true → ¬ (EmptyTrips q u)
+
+-- the trip is that of the first rule of the set whose emptiness question trips
+abbrev pub IsFirstTrip : Searches → List ℕ → Trip → Type 0
+IsFirstTrip q [] x = ⊥
+IsFirstTrip q (t ∷ ts) x = q.Empties t (EmptyTripped x) ⊎ ((¬ (EmptyTrips q t)) × IsFirstTrip q ts x)
+
+-- what is right of an answer about a rule's emptiness: multipliers are accepted, a point is one of the rule's rows, and
+-- a trip is that of this question
+abbrev pub IsRightEmptiness : Setting → ℕ → Emptiness → Type 0
+IsRightEmptiness s t (NoPoint m) = AcceptsEmpty s t m
+IsRightEmptiness s t (HasPoint z) = IsPoint (s.rows t) (at z.parts) (pos z.den)
+IsRightEmptiness s t (EmptyTripped x) = x.question ≡ asked.Empty t
+
+-- what is right of an answer to a rank question: a function ranks the rule over exactly this set and reads no shut
+-- place; a gap is of exactly this question, which no function answers, and no emptiness question of the set trips; and
+-- a trip is that of this question, or of the first rule of the set whose emptiness question trips
+abbrev pub IsRightRanking : Searches → Setting → List ℕ → ℕ → List SymbolPlace → Ranking → Type 0
+IsRightRanking q s set t shut (Ranked node) = IsRanking s set t shut node
+IsRightRanking q s set t shut (Unranked g) = IsGapOf s set t shut g × NoneTrips q set
+IsRightRanking q s set t shut (RankTripped x) = (x.question ≡ asked.Rank t) ⊎ IsFirstTrip q set x
+
+-- a set that a rank question may be asked of: it ascends, has numbers of rules alone, and holds the rule
+pub record IsQuestion (p : Program) (set : List ℕ) (t : ℕ) : Type 0 where
+  pub ascending : IsAscending set
+  pub rules : (u : ℕ) → is_in u set ≡ true → IsRule p u
+  pub inside : is_in t set ≡ true
+
+-- all answers are right: those about emptiness for each rule, and those to rank questions for each set of rules that
+-- holds the rule
+pub record AreRight (q : Searches) (s : Setting) : Type 0 where
+  pub empty : (t : ℕ) (e : Emptiness) → IsRule s.program t → q.Empties t e → IsRightEmptiness s t e
+  pub rank : (set : List ℕ) (t : ℕ) (shut : List SymbolPlace) (r : Ranking) → IsQuestion s.program set t
+      → q.Ranks set t shut r → IsRightRanking q s set t shut r
+
+-- each rank question has one answer
+pub record AreOne (q : Searches) : Type 0 where
+  pub ranks : (set : List ℕ) (t : ℕ) (shut : List SymbolPlace) (x y : Ranking) → q.Ranks set t shut x
+      → q.Ranks set t shut y → x ≡ y
