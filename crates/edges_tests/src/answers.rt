@@ -11,11 +11,7 @@ const ONE_RULE: &str = "l0(A) -> Com_1(l1(A))";
 
 const BOUNDED: &[u8] = b"bounded\ntime 1: 1\ntotal: 1\n";
 
-const FORM: &[u8] = b"program refused: form\n";
-
-const CYCLE: &[u8] = b"program refused: cycle\n";
-
-const USAGE: &[u8] = b"usage: koat analyse FILE\n";
+const USAGE: &[u8] = b"usage: koat analyse [--pivots N] FILE\n";
 
 // A program's text with these rules.
 fn text_of(alloc: Global, rules: &str) -> Result<Vec<u8>, AllocError> {
@@ -49,30 +45,114 @@ fn words_of(alloc: Global, words: &[&str]) -> Result<Vec<String>, AllocError> {
 }
 
 // Rules, with the status and the text of the answer to them.
-const PROGRAMS: &[(&str, Status, &[u8])] = &[
-    (ONE_RULE, Status::Done, BOUNDED),
-    (
-        "l0(A) -> Com_1(l1(A)) l1(A) -> Com_1(l2(A)) l0(A) -> Com_1(l2(A))",
-        Status::Done,
-        b"bounded\ntime 1: 1\ntime 2: 1\ntime 3: 1\ntotal: 3\n",
-    ),
-    ("l0(A) -> Com_1(l0(A))", Status::ProgramRefused, CYCLE),
-    (
-        "l0(A) -> Com_1(l1(A)) l1(A) -> Com_1(l0(A))",
-        Status::ProgramRefused,
-        CYCLE,
-    ),
+const PROGRAMS: &[(&str, Status, &str)] = &[
+    (ONE_RULE, Status::Done, "bounded\ntime 1: 1\ntotal: 1\n"),
     (
         "l0(A) -> Com_1(l1(A)) l1(A) -> Com_1(l1(A-1)) :|: A >= 1",
-        Status::ProgramRefused,
-        FORM,
+        Status::Done,
+        "bounded\ntime 1: 1\ntime 2: A\ntotal: A + 1\n",
     ),
-    ("l1(A) -> Com_1(l1(A))", Status::ProgramRefused, FORM),
-    ("", Status::ProgramRefused, FORM),
+    (
+        "l0(A) -> Com_1(l0(A-1)) :|: A >= 1",
+        Status::Done,
+        "bounded\ntime 1: A\ntotal: A\n",
+    ),
+    (
+        "l0(A) -> Com_1(l1(A)) l1(A) -> Com_1(l1(A)) :|: A >= 1 && A <= 0",
+        Status::Done,
+        "bounded\ntime 1: 1\ntime 2: 0\ntotal: 1\n",
+    ),
+    (
+        "l0(A) -> Com_1(l1(A)) l7(A) -> Com_1(l7(A))",
+        Status::Done,
+        "bounded\ntime 1: 1\ntime 2: 0\ntotal: 1\n",
+    ),
+    (
+        "l0(A) -> Com_1(l1(A)) l1(A) -> Com_1(l1(A)) :|: 2*A >= 1 && 2*A <= 1",
+        Status::Done,
+        "bounded\ntime 1: 1\ntime 2: 0\ntotal: 1\n",
+    ),
+    (
+        "l0(A) -> Com_1(l1(A*A))",
+        Status::Done,
+        "bounded\ntime 1: 1\ntotal: 1\n",
+    ),
+    (
+        "l0(A,B) -> Com_1(l1(A,B)) l1(A,B) -> Com_1(l1(A-1,B*B)) :|: A >= 1",
+        Status::Done,
+        "bounded\ntime 1: 1\ntime 2: A\ntotal: A + 1\n",
+    ),
+    (
+        "l0(A) -> Com_1(l1(A)) :|: A <= 4000000000",
+        Status::Unknown,
+        "unknown\ntime 1: unknown\ntotal: unknown\nwhy time 1: rank 1 range at pivot 0\n",
+    ),
+    (
+        "l0(A) -> Com_1(l1(A)) :|: A*A <= 9223372036854775807",
+        Status::Done,
+        "bounded\ntime 1: 1\ntotal: 1\n",
+    ),
+    (
+        "l0(A) -> Com_1(l1(A)) l1(A) -> Com_1(l1(A-2)) :|: A >= 1",
+        Status::Done,
+        "bounded\ntime 1: 1\ntime 2: A + 1\ntotal: A + 2\n",
+    ),
+    (
+        "l0(A) -> Com_1(l1(A)) :|: A >= 5",
+        Status::Done,
+        "bounded\ntime 1: 1\ntotal: 1\n",
+    ),
+    (
+        "l0(A) -> Com_1(l1(A)) l1(A) -> Com_1(l1(A))",
+        Status::Unknown,
+        "unknown\ntime 1: 1\ntime 2: unknown\ntotal: unknown\n\
+         why time 2: no affine ranking function over rules 2\n  \
+         move 2: (1) / 1\n  floor 2: (0) / 0\n  kept 2: (1) / 1\n",
+    ),
     (
         "l0(B,A) -> Com_1(l1(A,A,B)) l7() -> Com_1(l8())",
         Status::Done,
-        b"bounded\ntime 1: 1\ntime 2: 1\ntotal: 2\n",
+        "bounded\ntime 1: 1\ntime 2: 0\ntotal: 1\n",
+    ),
+    (
+        "l0(A) -> Com_1(l1(A)) :|: A*A <= 9223372036854775808",
+        Status::ProgramRefused,
+        "program refused at 72: NumberTooLarge\n",
+    ),
+    (
+        "l0(A) -> Com_2(l1(A),l2(A))",
+        Status::ProgramRefused,
+        "program refused at 48: ManyTargets\n",
+    ),
+    (
+        "l0(A,A) -> Com_1(l0(A,A))",
+        Status::ProgramRefused,
+        "program refused at 44: LeftRepeated\n",
+    ),
+    (
+        "l0(1) -> Com_1(l0(1))",
+        Status::ProgramRefused,
+        "program refused at 42: LeftNotVariable\n",
+    ),
+    (
+        "l0(A) -> Com_1(l0(A,A))",
+        Status::ProgramRefused,
+        "program refused at 60: ArityDiffers\n",
+    ),
+    (
+        "l0(A) -> Com_1(l1(A^9))",
+        Status::ProgramRefused,
+        "program refused at 59: Limit Degree\n",
+    ),
+    (
+        "l0(A) -> Com_1(l1(A)) :|: A >= 1 || A <= 0",
+        Status::ProgramRefused,
+        "program refused at 72: Disjunction\n",
+    ),
+    (
+        "l1(A) -> Com_1(l1(A))",
+        Status::ProgramRefused,
+        "program refused at 28: StartUnknown\n",
     ),
 ];
 
@@ -89,16 +169,66 @@ fn programs_are_analysed_or_refused(rt: HostRuntime) -> Result<(), Fail> {
             *status,
             "at {rules}"
         );
-        assert_eq!(rt; sink.bytes(), *output, "at {rules}");
+        assert_eq!(rt; sink.bytes(), output.as_bytes(), "at {rules}");
         assert_eq!(rt; shelf.calls(), 1);
     }
+    Ok(())
+}
+
+// Texts that aren't sections of rules alone, and their refusals.
+#[test]
+fn whole_texts_are_refused_at_their_byte(rt: HostRuntime) -> Result<(), Fail> {
+    let alloc = rt.alloc();
+    let words = words_of(alloc, &["analyse", "p"])?;
+    let table: [(&str, &str); 3] = [
+        ("(VAR A)(VAR A)", "program refused at 7: RepeatedSection\n"),
+        (
+            "(STARTTERM (FUNCTIONSYMBOLS l0))(RULES l0(A) -> Com_1(l1(A)) :|: A >=",
+            "program refused at 69: Syntax\n",
+        ),
+        (
+            "(STARTTERM (FUNCTIONSYMBOLS l0))",
+            "program refused at 32: MissingSection\n",
+        ),
+    ];
+    for (text, output) in table {
+        let files = one_file(alloc, "p", text.as_bytes().to_vec(alloc)?)?;
+        let mut shelf = MemoryShelf::new(files, Vec::new(alloc));
+        let mut sink = MemorySink::new(alloc, 999, Vec::new(alloc))?;
+        assert_eq!(rt;
+            run(alloc, &words, &mut shelf, &mut sink),
+            Status::ProgramRefused,
+            "at {text}"
+        );
+        assert_eq!(rt; sink.bytes(), output.as_bytes(), "at {text}");
+    }
+    Ok(())
+}
+
+// Few pivots are told of where they don't do.
+#[test]
+fn a_budget_of_pivots_is_kept(rt: HostRuntime) -> Result<(), Fail> {
+    let alloc = rt.alloc();
+    let words = words_of(alloc, &["analyse", "--pivots", "0", "p"])?;
+    let rules = "l0(A) -> Com_1(l1(A)) l1(A) -> Com_1(l1(A-1)) :|: A >= 1";
+    let files = one_file(alloc, "p", text_of(alloc, rules)?)?;
+    let mut shelf = MemoryShelf::new(files, Vec::new(alloc));
+    let mut sink = MemorySink::new(alloc, 999, Vec::new(alloc))?;
+    assert_eq!(rt; run(alloc, &words, &mut shelf, &mut sink), Status::Unknown);
+    assert_eq!(rt;
+        sink.bytes(),
+        b"unknown\ntime 1: unknown\ntime 2: unknown\ntotal: unknown\n\
+          why time 1: rank 1 budget after 0 pivots\n\
+          why time 2: rank 2 budget after 0 pivots\n"
+            .as_slice()
+    );
     Ok(())
 }
 
 #[test]
 fn words_are_a_command_line_or_get_the_usage(rt: HostRuntime) -> Result<(), Fail> {
     let alloc = rt.alloc();
-    let table: [(&[&str], Status, &[u8]); 12] = [
+    let table: [(&[&str], Status, &[u8]); 13] = [
         (&["analyse", "p"], Status::Done, BOUNDED),
         (&["analyse", "-"], Status::Done, BOUNDED),
         (&["analyse", ""], Status::Done, BOUNDED),
@@ -108,6 +238,7 @@ fn words_are_a_command_line_or_get_the_usage(rt: HostRuntime) -> Result<(), Fail
         (&["analyse", "--"], Status::Usage, USAGE),
         (&["analyse", "p", "p"], Status::Usage, USAGE),
         (&["analyse", "--pivots", "01", "p"], Status::Usage, USAGE),
+        (&["analyse", "p", "--pivots=5"], Status::Done, BOUNDED),
         (&["Analyse", "p"], Status::Usage, USAGE),
         (&["prove", "p"], Status::Usage, USAGE),
         (&["--help"], Status::Usage, USAGE),
@@ -197,8 +328,18 @@ fn files_that_are_missing_or_too_long_are_told(rt: HostRuntime) -> Result<(), Fa
     let words = words_of(alloc, &["analyse", "p"])?;
     let blanks = |count: usize| vec![in alloc; b' '; count];
     let table: [(&str, usize, Status, &[u8]); 4] = [
-        ("p", 0, Status::ProgramRefused, FORM),
-        ("p", 4_194_304, Status::ProgramRefused, FORM),
+        (
+            "p",
+            0,
+            Status::ProgramRefused,
+            b"program refused at 0: MissingSection\n",
+        ),
+        (
+            "p",
+            4_194_304,
+            Status::ProgramRefused,
+            b"program refused at 4194304: MissingSection\n",
+        ),
         (
             "p",
             4_194_305,

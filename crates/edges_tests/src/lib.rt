@@ -1,4 +1,4 @@
-//! Tests of public calls: shelves and sinks, and the answers of the program. They stand
+//! Tests of public calls: shelves and sinks, words, and the answers of the program. They stand
 //! here so that the crates that they call are proved without them.
 #![tactic(auto)]
 
@@ -12,3 +12,5 @@ mod shelves;
 mod sizes;
 #[cfg(test)]
 mod steady;
+#[cfg(test)]
+mod words;

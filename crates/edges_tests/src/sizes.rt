@@ -5,8 +5,6 @@ use outside_io::{Held, MemoryShelf, MemorySink};
 use std::alloc::{AllocError, Global};
 use std::test::Fail;
 
-const FORM: &[u8] = b"program refused: form\n";
-
 // The program of so many rules, each from a symbol to the next, with so many places each.
 fn chain(alloc: Global, rules: u32, places: u32) -> Result<String, AllocError> {
     let mut text = String::from_str(alloc, "(STARTTERM (FUNCTIONSYMBOLS l0))(RULES")?;
@@ -76,7 +74,7 @@ fn programs_up_to_the_limits_have_their_reports(rt: HostRuntime) -> Result<(), F
                 Status::ProgramRefused,
                 "{rules} rules of {places} places"
             );
-            assert_eq!(rt; sink.bytes(), FORM);
+            assert!(rt; sink.bytes().starts_with(b"program refused at "));
         }
     }
     Ok(())

@@ -4,7 +4,7 @@
 ghost use Rattle.std.specs.Prelude.{◌≡◌, ◌≢◌, ℕ, List, Some, map, string_bytes};
 ghost use Rattle.outside_io.specs.Files.{Lacks};
 ghost use Rattle.outside_io.specs.SteadyShelf.{held_files};
-ghost use Rattle.koat_cli.specs.Requests.{AsksAnalyse};
+ghost use Rattle.asks.specs.Requests.{Asks, Analyse};
 
 use koat_cli::{Status, run};
 use outside_io::{Held, SteadyShelf, SteadySink};
@@ -19,7 +19,8 @@ fn run_steadily(
 ) -> Status
     ensures never_a_write_fault { result ≢ Status.WriteFault }
     ensures read_fault_only_where_lacking { result ≡ Status.ReadFault
-        → (file : List ℕ) × AsksAnalyse (map string_bytes words.now) file × Lacks (Some (held_files shelf.old)) file }
+        → (pivots : ℕ) × ((file : List ℕ) × Asks (map string_bytes words.now) (Analyse pivots file)
+        × Lacks (Some (held_files shelf.old)) file) }
 {
     run(alloc, words, shelf, sink)
 }

@@ -4,8 +4,8 @@ use Rattle.std.proofs.lemmas.List.{length-take-le}
 use Rattle.outside_io.specs.Putting.{AppendsPrefix}
 use Rattle.koat_cli.specs.declared.status.Status.{Status}
 use Rattle.koat_cli.specs.declared.status.Status.TheVariants.{Usage}
-use Rattle.koat_cli.specs.Requests.{AsksAnalyse}
-use Rattle.koat_cli.specs.Report.{usage_text}
+use Rattle.asks.specs.Requests.{Request, Analyse, Asks}
+use Rattle.asks.specs.Usage.{usage_text}
 use Rattle.koat_cli.specs.Causes.{IsUsage}
 use Rattle.koat_cli.specs.Ends.{Says}
 use Rattle.koat_cli.specs.WorkedEnds.{without_words, Left, FaultsLeaveFirstBytes}
@@ -13,10 +13,10 @@ use Rattle.koat_cli.proofs.Exclusions.{only_usage}
 
 -- no words ask for the usage text
 usage : IsUsage without_words usage_text
-usage = record { other = λ file h. none_asks file h; told = refl }
+usage = record { other = λ request h. none_asks request h; told = refl }
   where
-    none_asks : (file : List ℕ) → AsksAnalyse [] file → ⊥
-    none_asks file h = omega (arith, ap length h.command)
+    none_asks : (request : Request) → Asks [] request → ⊥
+    none_asks (Analyse pivots file) h = omega (arith, ap length h.command)
 
 -- so they say nothing else
 only_text : (status : Status) (text : List ℕ) → Says status without_words text → text ≡ usage_text
@@ -52,7 +52,7 @@ first_bytes bytes h = go (left bytes h)
     go (suc k, within, e) = (ap (λ (bs : List ℕ). get_or bs 4 117) e, ap (λ (bs : List ℕ). get_or bs 0 0) e)
 
 -- and there are no more bytes than both have
-few_bytes : (bytes : List ℕ) → Left bytes → length bytes ≤ 29
+few_bytes : (bytes : List ℕ) → Left bytes → length bytes ≤ 42
 few_bytes bytes h = let l = left bytes h in omega (arith, ap length l.2, length-take-le l.0 usage_text l.1, l.1)
 
 -- faults leave what was worked out
@@ -60,7 +60,7 @@ pub faults_leave : FaultsLeaveFirstBytes
 faults_leave = record {
   none = leaves 0 (omega arith);
   some = leaves 3 (omega arith);
-  all = leaves 25 (omega arith);
+  all = leaves 38 (omega arith);
   other_text = λ h. omega (arith, (first_bytes (codes "old bou") h).0);
   last_bytes = λ h. omega (arith, (first_bytes (codes "old sage") h).0);
   in_place = λ h. omega (arith, (first_bytes (codes "usa") h).1);

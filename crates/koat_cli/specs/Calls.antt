@@ -5,7 +5,7 @@ use Rattle.std.specs.declared.string.String.{String}
 use Rattle.outside_io.specs.Files.{Files}
 use Rattle.outside_io.specs.declared.shelf.Shelf as shelf
 use Rattle.outside_io.specs.declared.sink.Sink as sink
-use Rattle.koat_cli.specs.Requests.{Words}
+use Rattle.asks.specs.Lines.{Words}
 
 -- the words of a call, what the shelf tells that it holds, the shelf's count of faults before and after, and how many
 -- bytes its last fetch took

@@ -7,7 +7,7 @@ use Rattle.koat_cli.specs.declared.status.Status.{Status}
 use Rattle.koat_cli.specs.declared.status.Status.TheVariants.{Done, Unknown, Usage, ReadFault, WriteFault, Memory}
 use Rattle.koat_cli.specs.declared.status.Status.TheVariants.{ProgramRefused, ProofRefused, No, RunRefused, NotARun}
 use Rattle.koat_cli.specs.Calls.{Call, Put}
-use Rattle.koat_cli.specs.Causes.{IsBounded, IsUsage, IsReadFault, IsProgramRefused}
+use Rattle.koat_cli.specs.Causes.{IsBounded, IsUnbounded, IsUsage, IsReadFault, IsProgramRefused}
 
 -- the status has its cause, and this is its text; a fault of the sink and want of memory have none
 abbrev pub Says : Status → Call → List ℕ → Type 0
@@ -15,7 +15,7 @@ Says Done call text = IsBounded call text
 Says Usage call text = IsUsage call text
 Says ReadFault call text = IsReadFault call text
 Says ProgramRefused call text = IsProgramRefused call text
-Says Unknown call text = ⊥
+Says Unknown call text = IsUnbounded call text
 Says WriteFault call text = ⊥
 Says Memory call text = ⊥
 Says ProofRefused call text = ⊥
@@ -45,7 +45,7 @@ IsStatusOfAnalyse ReadFault = ⊤
 IsStatusOfAnalyse WriteFault = ⊤
 IsStatusOfAnalyse Memory = ⊤
 IsStatusOfAnalyse ProgramRefused = ⊤
-IsStatusOfAnalyse Unknown = ⊥
+IsStatusOfAnalyse Unknown = ⊤
 IsStatusOfAnalyse ProofRefused = ⊥
 IsStatusOfAnalyse No = ⊥
 IsStatusOfAnalyse RunRefused = ⊥
@@ -54,6 +54,7 @@ IsStatusOfAnalyse NotARun = ⊥
 -- how a call ends with a status: its whole text was written, or the sink had a fault; and no other status comes
 pub record Ends (status : Status) (call : Call) (put : Put) : Type 0 where
   pub done : status ≡ Done → Wrote IsBounded call put
+  pub unknown : status ≡ Unknown → Wrote IsUnbounded call put
   pub usage : status ≡ Usage → Wrote IsUsage call put
   pub read_fault : status ≡ ReadFault → Wrote IsReadFault call put
   pub program_refused : status ≡ ProgramRefused → Wrote IsProgramRefused call put

@@ -1,5 +1,4 @@
 -- what the contracts of the program cite: command lines, calls, causes, texts, statuses and how calls end
-pub mod Requests
 pub mod Calls
 pub mod Report
 pub mod Causes

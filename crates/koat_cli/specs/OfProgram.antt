@@ -1,23 +1,22 @@
 -- What is said of a program that was read, whatever file it came from.
-use Rattle.std.specs.Prelude.{◌≡◌, ◌⊎◌, ℕ, List, length}
+use Rattle.std.specs.Prelude.{◌≡◌, ℕ, if◌then◌else◌, List}
+use Rattle.std.specs.List.{list_all}
 use Rattle.model.specs.Programs.{Program}
-use Rattle.model.specs.Paths.{HasCycle}
+use Rattle.outcome.specs.Reports.{Report, is_timed}
+use Rattle.outcome.specs.Holding.{ReportHolds}
+use Rattle.report_text.specs.States.{States}
+use Rattle.time_bounds.specs.Analysis.{IsAnalysis}
 use Rattle.koat_cli.specs.declared.status.Status.{Status}
-use Rattle.koat_cli.specs.declared.status.Status.TheVariants.{Done, ProgramRefused}
-use Rattle.koat_cli.specs.Report.{report_text, cycle_text}
+use Rattle.koat_cli.specs.declared.status.Status.TheVariants.{Done, Unknown}
 
--- the program has no cycle, and the text is its report
-pub record IsReported (ended : Status) (text : List ℕ) (program : Program) : Type 0 where
-  pub status : ended ≡ Done
-  pub acyclic : ¬ (HasCycle program)
-  pub reported : text ≡ report_text (length program.rules)
+-- the status of a report
+abbrev pub status_of : Report → Status
+status_of report = if list_all is_timed report.times then Done else Unknown
 
--- the program has a cycle, and the text says so
-pub record IsCyclic (ended : Status) (text : List ℕ) (program : Program) : Type 0 where
-  pub status : ended ≡ ProgramRefused
-  pub cycle : HasCycle program
-  pub told : text ≡ cycle_text
-
--- one of the two
-abbrev pub SaysOfProgram : Status → List ℕ → Program → Type 0
-SaysOfProgram status text program = IsReported status text program ⊎ IsCyclic status text program
+-- the text states what the analysis of the program found, which holds on all runs, and the status is that of the report
+pub record SaysOfProgram (program : Program) (pivots : ℕ) (status : Status) (text : List ℕ) : Type 0 where
+  pub report : Report
+  pub found : IsAnalysis program pivots report
+  pub stated : States program text report
+  pub holds : ReportHolds program report
+  pub status_is : status ≡ status_of report

@@ -1,48 +1,48 @@
--- The texts that the program writes.
-use Rattle.std.specs.Prelude.{ℕ, zero, suc, List, [], ◌++◌, codes, decimal}
-use Rattle.model.specs.Programs.{Name}
-use Rattle.model.specs.Bounds.{Bound}
-use Rattle.bound_text.specs.Texts.{text_of}
-
--- what stands before a rule's bound
-abbrev pub rule_start : ℕ → List ℕ
-rule_start rule = codes "time " ++ (decimal rule ++ codes ": ")
-
--- the text of a bound, and the end of its line
-abbrev pub bound_end : List Name → Bound → List ℕ
-bound_end names b = text_of names b ++ codes "\n"
-
--- the line of a rule that occurs at most once
-abbrev pub time_line : ℕ → List ℕ
-time_line rule = codes "time " ++ (decimal rule ++ codes ": 1\n")
-
--- such a line for each rule from 1 to n, in order
-abbrev pub time_lines : ℕ → List ℕ
-time_lines zero = []
-time_lines (suc n) = time_lines n ++ time_line (suc n)
-
--- the line of the total
-abbrev pub total_line : ℕ → List ℕ
-total_line n = codes "total: " ++ (decimal n ++ codes "\n")
-
--- the report on n rules each of which occurs at most once: so there are at most n steps
-unfoldable pub report_text : ℕ → List ℕ
-report_text n = codes "bounded\n" ++ (time_lines n ++ total_line n)
-
--- the text of a command line that asks for nothing
-abbrev pub usage_text : List ℕ
-usage_text = codes "usage: koat analyse FILE\n"
+-- The texts that the program writes, but for its report and the usage text.
+use Rattle.std.specs.Prelude.{ℕ, List, ◌++◌, codes, decimal}
+use Rattle.text_core.specs.Readers.{Fault}
+use Rattle.its_text.specs.Kinds.{LimitKind, TooManyRules, TooManyArguments, TooManyVariables, TooManyAtoms, LongName}
+use Rattle.its_text.specs.Kinds.{TooManyTokens, TooManyTerms, HighDegree}
+use Rattle.its_text.specs.Kinds.{Kind, NotAscii, Syntax, MissingSection, RepeatedSection, ManyTargets, LeftNotVariable}
+use Rattle.its_text.specs.Kinds.{LeftRepeated, ArityDiffers, NumberTooLarge, Limit, StartUnknown, Disjunction}
 
 -- the text where a file can't be had
 abbrev pub read_fault_text : List ℕ
 read_fault_text = codes "read fault\n"
 
--- the texts of the three refusals of a program
+-- the text where a program's file is too long
 abbrev pub too_long_text : List ℕ
 too_long_text = codes "program refused: too long\n"
 
-abbrev pub form_text : List ℕ
-form_text = codes "program refused: form\n"
+-- what there are too many of, or what is too long or too high
+abbrev pub limit_text : LimitKind → List ℕ
+limit_text TooManyRules = codes "Limit Rules"
+limit_text TooManyArguments = codes "Limit Arity"
+limit_text TooManyVariables = codes "Limit Variables"
+limit_text TooManyAtoms = codes "Limit Atoms"
+limit_text LongName = codes "Limit Name"
+limit_text TooManyTokens = codes "Limit Tokens"
+limit_text TooManyTerms = codes "Limit Terms"
+limit_text HighDegree = codes "Limit Degree"
 
-abbrev pub cycle_text : List ℕ
-cycle_text = codes "program refused: cycle\n"
+-- what is wrong with a text
+abbrev pub kind_text : Kind → List ℕ
+kind_text NotAscii = codes "NotAscii"
+kind_text Syntax = codes "Syntax"
+kind_text MissingSection = codes "MissingSection"
+kind_text RepeatedSection = codes "RepeatedSection"
+kind_text ManyTargets = codes "ManyTargets"
+kind_text LeftNotVariable = codes "LeftNotVariable"
+kind_text LeftRepeated = codes "LeftRepeated"
+kind_text ArityDiffers = codes "ArityDiffers"
+kind_text NumberTooLarge = codes "NumberTooLarge"
+kind_text (Limit k) = limit_text k
+kind_text StartUnknown = codes "StartUnknown"
+kind_text Disjunction = codes "Disjunction"
+
+-- the text of a refusal: the byte, from 0, and what is wrong there
+abbrev pub told_at : ℕ → List ℕ → List ℕ
+told_at at kind = codes "program refused at " ++ (decimal at ++ (codes ": " ++ (kind ++ codes "\n")))
+
+abbrev pub refused_text : Fault Kind → List ℕ
+refused_text x = told_at x.at (kind_text x.kind)

@@ -1,7 +1,7 @@
 -- What a fault of the sink leaves, as it was worked out by hand of a call that gets the usage text.
 use Rattle.std.specs.Prelude.{ℕ, List, [], ◌++◌, None, Some, codes}
 use Rattle.koat_cli.specs.Calls.{Call, Put}
-use Rattle.koat_cli.specs.Report.{usage_text}
+use Rattle.asks.specs.Usage.{usage_text}
 use Rattle.koat_cli.specs.Ends.{Broke}
 
 -- a call without words, on a shelf that doesn't tell what it holds and had no fault

@@ -1,42 +1,74 @@
 // The analysis of a program's text.
 
-ghost use Rattle.std.specs.Prelude.{◌≡◌, ℕ, List, IfOk};
+ghost use Rattle.std.specs.Prelude.{◌≡◌, ℕ, if◌then◌else◌, IfOk};
+ghost use Rattle.std.specs.List.{list_all};
+ghost use Rattle.its_model.specs.Valid.{IsValid};
+ghost use Rattle.its_model.specs.Views.{program_of};
+ghost use Rattle.outcome.specs.Views.{report_of};
+ghost use Rattle.report_text.specs.Conditions.{is_known};
 ghost use Rattle.koat_cli.specs.Calls.{Call};
 ghost use Rattle.koat_cli.specs.Causes.{ReadsProgram};
 ghost use Rattle.koat_cli.specs.Ends.{Says};
-ghost use Rattle.koat_cli.specs.OfProgram.{SaysOfProgram};
-ghost use Rattle.its_model.specs.Views.{program_of};
+ghost use Rattle.koat_cli.specs.OfProgram.{SaysOfProgram, status_of as status_of_report};
 
-use crate::report_lines::report_text;
-use crate::said::{Said, say};
+use crate::refusal::refusal;
+use crate::said::Said;
 use crate::status::Status;
-use its_graph::has_cycle;
 use its_model::Program;
-use its_reader::{ReadError, read};
+use its_reader::read;
 use model::Memory;
-use std::alloc::{AllocError, Global};
+use outcome::{Outcome, TimeEntry};
+use report_text::print;
+use std::alloc::Global;
+use time_bounds::analyse;
 
-/// What the program says of a text: its report, or why it is refused.
-pub(crate) fn analyse(alloc: Global, bytes: &[u8]) -> Result<Said, Memory>
-    ensures { IfOk result (λ said. (call : Call)
-        → ReadsProgram call bytes.now → Says said.status call said.text.items) }
+/// What the program says of a text with so many pivots for each linear program: the report on its program, or what
+/// stands first against it.
+pub(crate) fn analyse_text(alloc: Global, bytes: &[u8], pivots: u32) -> Result<Said, Memory>
+    ensures { IfOk result (λ said. (call : Call) → ReadsProgram call bytes.now pivots
+        → Says said.status call said.text.items) }
 {
     match read(alloc, bytes) {
-        Ok(program) => analyse_program(alloc, &program),
-        Err(ReadError::Form) => say(alloc, Status::ProgramRefused, b"program refused: form\n"),
-        Err(ReadError::Memory) => Err(AllocError),
+        Ok(program) => analyse_program(alloc, &program, pivots),
+        Err(error) => Ok(Said {
+            status: Status::ProgramRefused,
+            text: refusal(alloc, &error)?,
+        }),
     }
 }
 
-// What the program says of a program that was read: its report, or that it has a cycle.
-fn analyse_program(alloc: Global, program: &Program) -> Result<Said, Memory>
-    ensures { IfOk result (λ said. SaysOfProgram said.status said.text.items (program_of program.now)) }
+// What the program says of a program that was read.
+fn analyse_program(alloc: Global, program: &Program, pivots: u32) -> Result<Said, Memory>
+    requires { IsValid (program_of program.now) }
+    ensures { IfOk result (λ said. SaysOfProgram (program_of program.now) pivots said.status said.text.items) }
 {
-    if has_cycle(alloc, program)? {
-        return say(alloc, Status::ProgramRefused, b"program refused: cycle\n");
-    }
+    let found = analyse(alloc, program, pivots)?;
+    let text = print(alloc, program, &found)?;
     Ok(Said {
-        status: Status::Done,
-        text: report_text(alloc, &program.start_names, program.rules.len())?,
+        status: status_of(&found),
+        text,
     })
+}
+
+// The status of a report: whether every rule has a time.
+fn status_of(found: &Outcome) -> Status
+    ensures { result ≡ status_of_report (report_of found.now) }
+{
+    status_where(all_known(&found.times))
+}
+
+// The status where every rule has a time, or else.
+fn status_where(all: bool) -> Status
+    ensures { result ≡ (if all then Status.Done else Status.Unknown) }
+{
+    if all { Status::Done } else { Status::Unknown }
+}
+
+// Whether each entry is a time.
+fn all_known(times: &[TimeEntry]) -> bool
+    ensures { result ≡ list_all is_known times.now }
+{
+    times
+        .iter()
+        .all(|entry| matches!(entry, TimeEntry::Known(_)))
 }

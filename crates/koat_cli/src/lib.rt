@@ -6,12 +6,10 @@ mod analysis;
 mod law;
 mod preparation;
 mod program;
-mod report_lines;
+mod refusal;
 mod said;
 mod status;
 mod top_call;
-mod total;
-mod words;
 
 pub use law::{causes_exclude_each_other, worked_ends_hold};
 pub use program::run_program;

@@ -4,10 +4,10 @@ ghost use Rattle.std.specs.Prelude.{◌≡◌, ◌≤◌, IfOk};
 ghost use Rattle.koat_cli.specs.Calls.{call_of};
 ghost use Rattle.koat_cli.specs.Ends.{Says};
 
-use crate::analysis::analyse;
+use crate::analysis::analyse_text;
 use crate::said::{Said, say};
 use crate::status::Status;
-use crate::words::file_to_analyse;
+use asks::{Request, asks, usage};
 use model::Memory;
 use outside_io::{FetchError, Shelf};
 use std::alloc::{AllocError, Global};
@@ -26,11 +26,11 @@ pub(crate) fn prepare<F: Shelf>(
     ensures says { IfOk result (λ said.
         Says said.status (call_of F.Shelf words.now shelf.old shelf.new) said.text.items) }
 {
-    let Some(file) = file_to_analyse(words) else {
-        return say(alloc, Status::Usage, b"usage: koat analyse FILE\n");
+    let Some(Request::Analyse { pivots, file }) = asks(alloc, words)? else {
+        return say(alloc, Status::Usage, usage());
     };
-    match shelf.fetch(alloc, file, PROGRAM_LIMIT) {
-        Ok(bytes) => analyse(alloc, &bytes),
+    match shelf.fetch(alloc, file.as_str(), PROGRAM_LIMIT) {
+        Ok(bytes) => analyse_text(alloc, &bytes, pivots),
         Err(FetchError::Failed) => say(alloc, Status::ReadFault, b"read fault\n"),
         Err(FetchError::TooLong) => say(
             alloc,

@@ -25,7 +25,7 @@ from_one f k (o ∷ os) =
     omega (arith, from_one f (suc k) os, ap (sum_from_one f) e)
 
 -- known parts have a first and others
-first_known : (o : Option Bound) (rest : Option Parts) (ps : Parts) → before o rest ≡ Some ps
+pub first_known : (o : Option Bound) (rest : Option Parts) (ps : Parts) → before o rest ≡ Some ps
     → (b : Bound) × (qs : Parts) × (o ≡ Some b) × (rest ≡ Some qs) × (ps ≡ Part b qs)
 first_known None rest ps e = cc
 first_known (Some b) None ps e = cc
@@ -62,7 +62,7 @@ parts_based (o ∷ os) ps e h =
     (h 0 first.0 (omega arith) first.2, parts_based os first.1 first.3 (λ i b low g. h (suc i) b (omega arith) g))
 
 -- a total is the rewriting of a sum
-total_is : (os : List (Option Bound)) (b : Bound) → total_of os ≡ Some b
+pub total_is : (os : List (Option Bound)) (b : Bound) → total_of os ≡ Some b
     → (ps : Parts) × (known_parts os ≡ Some ps) × (b ≡ rewritten (SumOf ps))
 total_is os b e = go (known_parts os) refl
   where

@@ -1,0 +1,65 @@
+// The text of a refusal of a program.
+
+ghost use Rattle.std.specs.Prelude.{◌≡◌, IfOk, IfSome, IsErr, None};
+ghost use Rattle.its_reader.specs.Faults.{fault_in, limit_of};
+ghost use Rattle.koat_cli.specs.Report.{limit_text as text_of_limit, told_at, refused_text};
+
+use itoa::Buffer;
+use its_reader::{LimitKind, ReadError};
+use model::Memory;
+use std::alloc::{AllocError, Global};
+
+/// What stands first against a program's text, and at which byte.
+///
+/// # Errors
+///
+/// `Memory` where an allocation fails, and where the text wasn't read for want of memory.
+pub(crate) fn refusal(alloc: Global, error: &ReadError) -> Result<Vec<u8>, Memory>
+    ensures told { IfOk result (λ text. IfSome (fault_in error.now) (λ x. text.items ≡ refused_text x)) }
+    ensures memory { fault_in error.now ≡ None → IsErr result }
+{
+    match error {
+        ReadError::NotAscii { at } => refused_at(alloc, *at, b"NotAscii"),
+        ReadError::Syntax { at } => refused_at(alloc, *at, b"Syntax"),
+        ReadError::MissingSection { at } => refused_at(alloc, *at, b"MissingSection"),
+        ReadError::RepeatedSection { at } => refused_at(alloc, *at, b"RepeatedSection"),
+        ReadError::ManyTargets { at } => refused_at(alloc, *at, b"ManyTargets"),
+        ReadError::LeftNotVariable { at } => refused_at(alloc, *at, b"LeftNotVariable"),
+        ReadError::LeftRepeated { at } => refused_at(alloc, *at, b"LeftRepeated"),
+        ReadError::ArityDiffers { at } => refused_at(alloc, *at, b"ArityDiffers"),
+        ReadError::NumberTooLarge { at } => refused_at(alloc, *at, b"NumberTooLarge"),
+        ReadError::Limit { kind, at } => refused_at(alloc, *at, limit_text(*kind)),
+        ReadError::StartUnknown { at } => refused_at(alloc, *at, b"StartUnknown"),
+        ReadError::Disjunction { at } => refused_at(alloc, *at, b"Disjunction"),
+        ReadError::Memory => Err(AllocError),
+    }
+}
+
+// Which limit is passed.
+fn limit_text(kind: LimitKind) -> &'static [u8]
+    ensures { result.now ≡ text_of_limit (limit_of kind) }
+{
+    match kind {
+        LimitKind::Rules => b"Limit Rules",
+        LimitKind::Arity => b"Limit Arity",
+        LimitKind::Variables => b"Limit Variables",
+        LimitKind::Atoms => b"Limit Atoms",
+        LimitKind::Name => b"Limit Name",
+        LimitKind::Tokens => b"Limit Tokens",
+        LimitKind::Terms => b"Limit Terms",
+        LimitKind::Degree => b"Limit Degree",
+    }
+}
+
+// The text of a refusal at this byte.
+fn refused_at(alloc: Global, at: u64, kind: &[u8]) -> Result<Vec<u8>, Memory>
+    ensures { IfOk result (λ text. text.items ≡ told_at at kind.now) }
+{
+    let mut buffer = Buffer::new();
+    let mut text = Vec::from_slice(alloc, b"program refused at ")?;
+    text.extend_from_slice(buffer.format(at).as_bytes())?;
+    text.extend_from_slice(b": ")?;
+    text.extend_from_slice(kind)?;
+    text.extend_from_slice(b"\n")?;
+    Ok(text)
+}

@@ -1,0 +1,96 @@
+-- Fates and empty rules, one more at a time.
+use Rattle.std.proofs.Common.{◌≡◌, ℕ, zero, suc, ◌+◌, ◌<◌, ◌≤◌, Bool, true, false, cond, List, [], ◌∷◌, ◌++◌, length, take, filter, map, replicate, Option, Some, refl, sym, ◌∙◌, ap, subst, arith}
+use Rattle.std.specs.Prelude.{slice_index_or}
+use Rattle.std.specs.List.{range_with_len}
+use Rattle.std.proofs.lemmas.List.{take_more, length-take-le, length-map, map-append}
+use Rattle.std.proofs.lemmas.Option.{slice_get_read}
+use Rattle.model.specs.Programs as plain
+use Rattle.its_model.specs.declared.program.Rule.{Rule}
+use Rattle.its_model.specs.Views.{rule_of}
+use Rattle.proof_tree.specs.declared.answer.EmptyAnswer.{EmptyAnswer}
+use Rattle.rank_search.specs.RankAnswers.{answer_for}
+use Rattle.time_bounds.specs.declared.fates.Fate.{Fate}
+use Rattle.model.specs.Bounds.{Bound, Input}
+use Rattle.time_bounds.specs.Beginning.{zero_by, start_sizes, sizes_by}
+use Rattle.time_bounds.specs.Fates.{says_empty, is_said_empty, fate_of, fates_by}
+
+fates-append : (seen : List Bool) (xs : List EmptyAnswer) (ys : List Rule) (a : EmptyAnswer) (r : Rule) → length xs ≡ length ys
+    → fates_by seen (xs ++ a ∷ []) (ys ++ r ∷ []) ≡ fates_by seen xs ys ++ fate_of a (slice_index_or seen r.source false) ∷ []
+fates-append seen [] [] a r e = refl
+fates-append seen [] (y ∷ ys) a r e = absurd (omega (arith, e))
+fates-append seen (x ∷ xs) [] a r e = absurd (omega (arith, e))
+fates-append seen (x ∷ xs) (y ∷ ys) a r e =
+    ap (λ (fs : List Fate). fate_of x (slice_index_or seen y.source false) ∷ fs)
+    (fates-append seen xs ys a r (let z : length xs ≡ length ys = omega (arith, e) in z))
+
+-- the fate of the next rule
+pub fates-more : (seen : List Bool) (xs : List EmptyAnswer) (ys : List Rule) (i : ℕ) (a : EmptyAnswer) (r : Rule) → length xs ≡ length ys
+    → i < length ys → a ≡ slice_index_or xs i a → r ≡ slice_index_or ys i r
+    → fates_by seen (take (i + 1) xs) (take (i + 1) ys)
+    ≡ fates_by seen (take i xs) (take i ys) ++ fate_of a (slice_index_or seen r.source false) ∷ []
+fates-more seen xs ys i a r e low at_a at_r =
+    ap (λ (zs : List EmptyAnswer). fates_by seen zs (take (i + 1) ys))
+    (take_more xs i a (omega (arith, low, e)) ∙ ap (λ (b : EmptyAnswer). take i xs ++ b ∷ []) (sym at_a))
+    ∙ (ap (λ (zs : List Rule). fates_by seen (take i xs ++ a ∷ []) zs)
+    (take_more ys i r low ∙ ap (λ (b : Rule). take i ys ++ b ∷ []) (sym at_r))
+    ∙ fates-append seen (take i xs) (take i ys) a r
+    (length-take-le i xs (omega (arith, low, e)) ∙ sym (length-take-le i ys (omega (arith, low)))))
+
+-- the next number of a range, where it passes a test and where it doesn't
+filter-append : (test : ℕ → Bool) (xs : List ℕ) (x : ℕ) (v : Bool) → test x ≡ v → filter test (xs ++ x ∷ []) ≡ filter test xs ++ cond v (x ∷ []) []
+filter-append test [] x true e = rw e refl
+filter-append test [] x false e = rw e refl
+filter-append test (y ∷ xs) x v e = go (test y) refl (filter-append test xs x v e)
+  where
+    go : (w : Bool) → test y ≡ w → filter test (xs ++ x ∷ []) ≡ filter test xs ++ cond v (x ∷ []) []
+        → filter test (y ∷ (xs ++ x ∷ [])) ≡ filter test (y ∷ xs) ++ cond v (x ∷ []) []
+    go true k h = rw k (ap (λ (zs : List ℕ). y ∷ zs) h)
+    go false k h = rw k h
+
+range-more : (n a j : ℕ) → a + n ≡ j → range_with_len a (suc n) ≡ range_with_len a n ++ j ∷ []
+range-more zero a j e = let same : a ≡ j = omega (arith, e) in ap (λ (x : ℕ). x ∷ []) same
+range-more (suc n) a j e = ap (λ (xs : List ℕ). a ∷ xs) (range-more n (a + 1) j (omega (arith, e)))
+
+pub kept-more : (test : ℕ → Bool) (i : ℕ) (v : Bool) → test (i + 1) ≡ v
+    → filter test (range_with_len 1 (i + 1)) ≡ filter test (range_with_len 1 i) ++ cond v ((i + 1) ∷ []) []
+kept-more test i v e =
+    let next : i + 1 ≡ suc i = omega arith in
+    ap (λ (n : ℕ). filter test (range_with_len 1 n)) next
+    ∙ (ap (filter test) (range-more i 1 (i + 1) (omega arith)) ∙ filter-append test (range_with_len 1 i) (i + 1) v e)
+
+-- the answer that is read is that for the rule
+pub answer-read : (xs : List EmptyAnswer) (i : ℕ) (a : EmptyAnswer) → i < length xs → a ≡ slice_index_or xs i a
+    → is_said_empty (answer_for xs (i + 1)) ≡ says_empty a
+answer-read xs i a low at_a =
+    let next : i + 1 ≡ suc i = omega arith in
+    ap (λ (n : ℕ). is_said_empty (answer_for xs n)) next
+    ∙ ap is_said_empty (slice_get_read xs (length xs) i a refl low at_a)
+
+-- the size of one start argument more
+pub start-more : (n : ℕ) → start_sizes (n + 1) ≡ start_sizes n ++ Some (Input n) ∷ []
+start-more n =
+    let next : n + 1 ≡ suc n = omega arith in
+    ap (λ (k : ℕ). map (λ i. Some (Input i)) (range_with_len 0 k)) next
+    ∙ (ap (map (λ i. Some (Input i))) (range-more n 0 n (omega arith))
+    ∙ map-append (λ i. Some (Input i)) (range_with_len 0 n) (n ∷ []))
+
+-- the sizes after one rule more
+sizes-append : (p : plain.Program) (fs : List Fate) (rs : List plain.Rule) (f : Fate) (r : plain.Rule) → length fs ≡ length rs
+    → sizes_by p (fs ++ f ∷ []) (rs ++ r ∷ []) ≡ sizes_by p fs rs ++ replicate (plain.arity_of p r.target) (zero_by f) ∷ []
+sizes-append p [] [] f r e = refl
+sizes-append p [] (x ∷ rs) f r e = absurd (omega (arith, e))
+sizes-append p (x ∷ fs) [] f r e = absurd (omega (arith, e))
+sizes-append p (x ∷ fs) (y ∷ rs) f r e =
+    ap (λ (rows : List (List (Option Bound))). replicate (plain.arity_of p y.target) (zero_by x) ∷ rows)
+    (sizes-append p fs rs f r (let z : length fs ≡ length rs = omega (arith, e) in z))
+
+pub sizes-more : (p : plain.Program) (fs : List Fate) (rs : List Rule) (i : ℕ) (d : Fate) (r : Rule) → length fs ≡ length rs → i < length rs
+    → r ≡ slice_index_or rs i r
+    → sizes_by p (take (i + 1) fs) (map rule_of (take (i + 1) rs))
+    ≡ sizes_by p (take i fs) (map rule_of (take i rs)) ++ replicate (plain.arity_of p r.target) (zero_by (slice_index_or fs i d)) ∷ []
+sizes-more p fs rs i d r e low at_r =
+    ap (λ (xs : List Fate). sizes_by p xs (map rule_of (take (i + 1) rs))) (take_more fs i d (omega (arith, low, e)))
+    ∙ (ap (λ (ys : List plain.Rule). sizes_by p (take i fs ++ slice_index_or fs i d ∷ []) ys)
+    (ap (map rule_of) (take_more rs i r low ∙ ap (λ (b : Rule). take i rs ++ b ∷ []) (sym at_r)) ∙ map-append rule_of (take i rs) (r ∷ []))
+    ∙ sizes-append p (take i fs) (map rule_of (take i rs)) (slice_index_or fs i d) (rule_of r)
+    (length-take-le i fs (omega (arith, low, e)) ∙ (sym (length-take-le i rs (omega (arith, low))) ∙ sym (length-map (take i rs) rule_of))))

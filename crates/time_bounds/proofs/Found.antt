@@ -1,0 +1,123 @@
+-- What an analysis finds is what its report is asked to say.
+use Rattle.std.proofs.Common.{◌≡◌, ◌↔◌, ◌⊎◌, inl, inr, ℕ, zero, suc, ◌+◌, ◌<◌, ◌&&◌, Bool, true, false, List, [], ◌∷◌, length, map, Option, Some, None, refl, sym, ◌∙◌, ap, subst, arith}
+use Rattle.std.specs.Prelude.{slice_get, slice_index_or, IsTrue, IsSome, is_some}
+use Rattle.std.specs.List.{list_all}
+use Rattle.std.specs.Option.{option_map}
+use Rattle.std.proofs.lemmas.List.{length-map}
+use Rattle.model.specs.Programs.{Program}
+use Rattle.model.specs.Bounds.{Bound, IsBased, Parts}
+use Rattle.model.specs.Facts.{HoldsTime, HoldsSize, HoldsTotal}
+use Rattle.model.proofs.Membership.{no_is_not_yes}
+use Rattle.its_model.specs.Valid.{IsValid}
+use Rattle.bound_expr.specs.Views.{bound_of}
+use Rattle.outcome.specs.Reports.{Time, Timed, Untimed, Sized, Report, is_timed}
+use Rattle.outcome.specs.Holding.{IsReportOn, ReportHolds, numbered_entry, place_entry}
+use Rattle.outcome.specs.Views.{time_of}
+use Rattle.outcome.specs.declared.entry.TimeEntry.{TimeEntry}
+use Rattle.outcome.specs.declared.entry.TimeEntry.TheVariants as entries
+use Rattle.proof_nodes.specs.Known as nodes
+use Rattle.proof_nodes.proofs.GoodFacts.{IsGoodTable}
+use Rattle.proof_setting.specs.Setting.{setting_of}
+use Rattle.proof_setting.proofs.Faithful.{settings-faithful}
+use Rattle.proof_tree.specs.declared.gap.Gap.{Gap}
+use Rattle.round_relation.specs.Searches.{Searches}
+use Rattle.round_relation.specs.NewTimes.{bound_in}
+use Rattle.round_relation.proofs.NewBounds.{made_by_times_is_good}
+use Rattle.time_bounds.specs.ProgramSearches.{searches_of_program}
+use Rattle.time_bounds.specs.Totals.{time_in, before, known_parts, total_of}
+use Rattle.time_bounds.specs.Laws.{TimesHold}
+use Rattle.time_bounds.specs.Analysis.{IsSaid, AreSaid, IsAnalysis}
+use Rattle.time_bounds.proofs.RightSearches.{program_searches_right}
+use Rattle.time_bounds.proofs.Sums.{totals_hold}
+
+-- an entry's time is that of its report
+pub times_alike : (gaps : List Gap) (times : List TimeEntry) → map bound_in (map (time_of gaps) times) ≡ map time_in times
+times_alike gaps [] = refl
+times_alike gaps (e ∷ times) =
+    ap (λ (o : Option Bound). o ∷ map bound_in (map (time_of gaps) times)) (alike e) ∙ ap (λ (os : List (Option Bound)). time_in e ∷ os) (times_alike gaps times)
+  where
+    alike : (e : TimeEntry) → bound_in (time_of gaps e) ≡ time_in e
+    alike (entries.Known s) = refl
+    alike (entries.Gap g) = refl
+    alike (entries.Tripped t) = refl
+    alike (entries.Large n) = refl
+
+-- there is a total exactly where every rule has a time
+some_mapped : {A B : Type 0} (f : A → B) (o : Option A) → is_some (option_map f o) ≡ is_some o
+some_mapped f None = refl
+some_mapped f (Some a) = refl
+
+all_known : (times : List Time) → list_all is_timed times ≡ is_some (known_parts (map bound_in times))
+all_known [] = refl
+all_known (Timed b ∷ times) = all_known times ∙ sym (kept (known_parts (map bound_in times)))
+  where
+    kept : (o : Option Parts) → is_some (before (Some b) o) ≡ is_some o
+    kept None = refl
+    kept (Some bs) = refl
+all_known (Untimed w ∷ times) = refl
+
+total_told : (times : List Time) → IsTrue (list_all is_timed times) ↔ IsSome (total_of (map bound_in times))
+total_told times =
+    let e = all_known times ∙ sym (some_mapped _ (known_parts (map bound_in times))) in
+    (λ h. sym e ∙ h, λ h. e ∙ h)
+
+-- what is said of each rule
+said_at : (q : Searches) (p : Program) (tab : nodes.Table) (k : ℕ) (times : List Time) (i : ℕ) (x : Time) → AreSaid q p tab k times
+    → slice_get times i ≡ Some x → IsSaid q p tab (k + i) x
+said_at q p tab k [] i x h e = absurd (let f : ⊥ = cc in f)
+said_at q p tab k (y ∷ times) zero x h e =
+    let same : y ≡ x = cc in
+    subst (λ (n : ℕ). IsSaid q p tab n x) (let z : k ≡ k + 0 = omega arith in z) (subst (λ (z : Time). IsSaid q p tab k z) same h.0)
+said_at q p tab k (y ∷ times) (suc i) x h e =
+    subst (λ (n : ℕ). IsSaid q p tab n x) (let z : suc k + i ≡ k + suc i = omega arith in z) (said_at q p tab (suc k) times i x h.1 e)
+
+-- each known time of a list, by its position
+known_at : (times : List Time) (i : ℕ) (b : Bound) → slice_index_or (map bound_in times) i None ≡ Some b → slice_get times i ≡ Some (Timed b)
+known_at [] i b e = absurd (let f : ⊥ = cc in f)
+known_at (Timed c ∷ times) zero b e = let same : c ≡ b = cc in ap (λ (x : Bound). Some (Timed x)) same
+known_at (Untimed w ∷ times) zero b e = absurd (let f : ⊥ = cc in f)
+known_at (x ∷ times) (suc i) b e = known_at times i b e
+
+module _ (p : Program) (pivots : ℕ) (valid : IsValid p) (r : Report) (h : IsAnalysis p pivots r) where
+  good : IsGoodTable p h.table
+  good =
+      made_by_times_is_good (searches_of_program p pivots) (setting_of p) (settings-faithful.each p valid) (program_searches_right.each p pivots valid)
+      h.table h.last.made
+
+  timed_at : (i : ℕ) (b : Bound) → slice_get r.times i ≡ Some (Timed b) → h.table.time (suc i) ≡ Some b
+  timed_at i b e =
+      ap h.table.time (let z : suc i ≡ 1 + i = omega arith in z) ∙ said_at (searches_of_program p pivots) p h.table 1 r.times i (Timed b) h.times e
+
+  times_hold : TimesHold p (map bound_in r.times)
+  times_hold = record {
+    one_each = length-map r.times bound_in ∙ h.one_each;
+    holds = λ i b l e. (good.times (suc i) b (timed_at i b (known_at r.times i b e))).holds;
+    based = λ i b l e. (good.times (suc i) b (timed_at i b (known_at r.times i b e))).based;
+  }
+
+  pub report_holds : ReportHolds p r
+  report_holds = record { times = times; total = total; sizes = sizes }
+    where
+      times : (t : ℕ) (b : Bound) → numbered_entry r.times t ≡ Some (Timed b) → HoldsTime p t b
+      times zero b e = absurd (let f : ⊥ = cc in f)
+      times (suc i) b e = (good.times (suc i) b (timed_at i b e)).holds
+
+      total : (b : Bound) → r.total ≡ Some b → HoldsTotal p b
+      total b e = totals_hold.each p (map bound_in r.times) b times_hold (sym h.total ∙ e)
+
+      no_entry : (t i : ℕ) → place_entry (numbered_entry r.sizes t) i ≡ None
+      no_entry zero i = refl
+      no_entry (suc t) i = ap (λ xs. place_entry (numbered_entry xs (suc t)) i) h.no_sizes
+
+      sizes : (t i : ℕ) (b : Bound) → place_entry (numbered_entry r.sizes t) i ≡ Some (Sized b) → HoldsSize p t i b
+      sizes t i b e = absurd (let f : None ≡ Some (Sized b) = sym (no_entry t i) ∙ e in none_some f)
+        where
+          none_some : None ≡ Some (Sized b) → ⊥
+          none_some x = cc
+
+  pub report_fits : IsReportOn p r
+  report_fits = record {
+    times = h.one_each;
+    total = subst (λ (o : Option Bound). IsTrue (list_all is_timed r.times) ↔ IsSome o) (sym h.total) (total_told r.times);
+    sizes = inl h.no_sizes;
+  }

@@ -1,0 +1,134 @@
+-- The searches of a program have one answer to each rank question, so each program has one analysis.
+use Rattle.std.proofs.Common.{◌≡◌, ◌⊎◌, inl, inr, ℕ, zero, suc, ◌<◌, ◌≤◌, List, [], ◌∷◌, length, map, Option, Some, None, refl, sym, ◌∙◌, ap, arith, slice_get}
+use Rattle.model.specs.Programs.{Program, Rule}
+use Rattle.model.proofs.Membership.{slice_get-below}
+use Rattle.guard_prep.specs.Prepared.{prepared}
+use Rattle.proof_nodes.specs.Gaps.{ScaledPoint, SymbolPlace, Gap}
+use Rattle.proof_nodes.specs.Nodes.{RankNode}
+use Rattle.proof_tree.specs.declared.answer.Trip.{Trip}
+use Rattle.proof_tree.specs.declared.answer.TripCause.{TripCause}
+use Rattle.proof_tree.specs.declared.answer.TripCause.TheVariants.{Range, Budget, Wide, Scale}
+use Rattle.proof_tree.specs.declared.answer.EmptyAnswer.{EmptyAnswer}
+use Rattle.proof_tree.specs.declared.answer.EmptyAnswer.TheVariants as empties
+use Rattle.proof_tree.specs.AnswerViews.{cause_of}
+use Rattle.rank_search.specs.declared.answer.RankAnswer.{RankAnswer}
+use Rattle.rank_search.specs.declared.answer.RankAnswer.TheVariants as ranks
+use Rattle.rank_search.specs.ProgramQuestions.{ranked_set}
+use Rattle.rank_search.specs.RankAnswers.{answer_for, AreEmptyAnswers, point_in, trip_in, first_of, first_trip}
+use Rattle.rank_search.specs.OneAnswer.{IsSameTrip, IsSameEmptyAnswer, EmptyAnswersAreOne, SeeTheSame, IsSameRankAnswer, RankAnswersAreOne}
+use Rattle.round_relation.specs.Searches.{Ranking, Ranked, Unranked, RankTripped}
+use Rattle.round_relation.specs.Right.{AreOne}
+use Rattle.time_bounds.specs.ProgramSearches.{ranking_of, searches_of_program}
+
+-- a cause as plain data is that of one cause
+cause_one : (c d : TripCause) → cause_of c ≡ cause_of d → c ≡ d
+cause_one (Range n) (Range m) e = let same : n ≡ m = cc in ap (λ (k : ℕ). Range k) same
+cause_one (Range n) (Budget m) e = cc
+cause_one (Range n) (Wide m) e = cc
+cause_one (Range n) Scale e = cc
+cause_one (Budget n) (Range m) e = cc
+cause_one (Budget n) (Budget m) e = let same : n ≡ m = cc in ap (λ (k : ℕ). Budget k) same
+cause_one (Budget n) (Wide m) e = cc
+cause_one (Budget n) Scale e = cc
+cause_one (Wide n) (Range m) e = cc
+cause_one (Wide n) (Budget m) e = cc
+cause_one (Wide n) (Wide m) e = let same : n ≡ m = cc in ap (λ (k : ℕ). Wide k) same
+cause_one (Wide n) Scale e = cc
+cause_one Scale (Range m) e = cc
+cause_one Scale (Budget m) e = cc
+cause_one Scale (Wide m) e = cc
+cause_one Scale Scale e = refl
+
+trip_one : (t u : Trip) → IsSameTrip t u → t ≡ u
+trip_one t u h = together t u h.0 (cause_one t.cause u.cause h.1)
+  where
+    together : (x y : Trip) → x.question ≡ y.question → x.cause ≡ y.cause → x ≡ y
+    together x y q c = λ i. record { question = q i; cause = c i }
+
+-- answers that are the same have the same point, and the same trip
+parts_one : (a b : EmptyAnswer) → IsSameEmptyAnswer a b → (point_in (Some a) ≡ point_in (Some b)) × (trip_in (Some a) ≡ trip_in (Some b))
+parts_one (empties.Empty n) (empties.Empty k) h = (refl, refl)
+parts_one (empties.Empty n) (empties.Point z) h = absurd h
+parts_one (empties.Empty n) (empties.Tripped t) h = absurd h
+parts_one (empties.Point z) (empties.Empty k) h = absurd h
+parts_one (empties.Point z) (empties.Point w) h = (ap (λ (x : ScaledPoint). Some x) h, refl)
+parts_one (empties.Point z) (empties.Tripped t) h = absurd h
+parts_one (empties.Tripped t) (empties.Empty k) h = absurd h
+parts_one (empties.Tripped t) (empties.Point w) h = absurd h
+parts_one (empties.Tripped t) (empties.Tripped u) h = (refl, ap (λ (x : Trip). Some x) (trip_one t u h))
+
+ranking_one : (a c : RankAnswer) → IsSameRankAnswer a c → ranking_of a ≡ ranking_of c
+ranking_one (ranks.Ranked n) (ranks.Ranked k) h = ap (λ (x : RankNode). Ranked x) h.0
+ranking_one (ranks.Ranked n) (ranks.NoRank g) h = absurd h
+ranking_one (ranks.Ranked n) (ranks.Tripped t) h = absurd h
+ranking_one (ranks.NoRank g) (ranks.Ranked k) h = absurd h
+ranking_one (ranks.NoRank g) (ranks.NoRank w) h = ap (λ (x : Gap). Unranked x) h
+ranking_one (ranks.NoRank g) (ranks.Tripped t) h = absurd h
+ranking_one (ranks.Tripped t) (ranks.Ranked k) h = absurd h
+ranking_one (ranks.Tripped t) (ranks.NoRank g) h = absurd h
+ranking_one (ranks.Tripped t) (ranks.Tripped u) h = ap (λ (x : Trip). RankTripped x) (trip_one t u h)
+
+at_some : {X : Type 0} (xs : List X) (k : ℕ) → k < length xs → (x : X) × (slice_get xs k ≡ Some x)
+at_some [] k h = absurd (omega arith)
+at_some (x ∷ xs) zero h = (x, refl)
+at_some (x ∷ xs) (suc k) h = at_some xs k (omega arith)
+
+past_end : {X : Type 0} (xs : List X) (k : ℕ) → length xs ≤ k → slice_get xs k ≡ None
+past_end [] k h = refl
+past_end (x ∷ xs) zero h = absurd (omega (arith, h))
+past_end (x ∷ xs) (suc k) h = past_end xs k (omega (arith, h))
+
+some_none : {X : Type 0} (x : X) → Some x ≡ None → ⊥
+some_none x e = cc
+
+module _ (empties_one : EmptyAnswersAreOne) (ranks_one : RankAnswersAreOne) (p : Program) (pivots : ℕ) where
+  module _ (xs ys : List EmptyAnswer) (a : AreEmptyAnswers p pivots xs) (b : AreEmptyAnswers p pivots ys) where
+    -- two lists of answers of a program have the same parts for each number
+    same_parts : (t : ℕ) → (point_in (answer_for xs t) ≡ point_in (answer_for ys t)) × (trip_in (answer_for xs t) ≡ trip_in (answer_for ys t))
+    same_parts zero = (refl, refl)
+    same_parts (suc k) = go (slice_get p.rules k) refl
+      where
+        go : (o : Option Rule) → slice_get p.rules k ≡ o
+            → (point_in (slice_get xs k) ≡ point_in (slice_get ys k)) × (trip_in (slice_get xs k) ≡ trip_in (slice_get ys k))
+        go (Some r) e =
+            let low = slice_get-below p.rules k r e in
+            let x = at_some xs k (omega (arith, low, a.one_each)) in
+            let y = at_some ys k (omega (arith, low, b.one_each)) in
+            let same = parts_one x.0 y.0 (empties_one.each (prepared r) (suc k) pivots x.0 y.0 (a.each (suc k) r x.0 e x.1) (b.each (suc k) r y.0 e y.1)) in
+            (ap point_in x.1 ∙ (same.0 ∙ ap point_in (sym y.1)), ap trip_in x.1 ∙ (same.1 ∙ ap trip_in (sym y.1)))
+        go None e =
+            let high : length p.rules ≤ k = past (order k (length p.rules)) in
+            let x = past_end xs k (omega (arith, high, a.one_each)) in
+            let y = past_end ys k (omega (arith, high, b.one_each)) in
+            (ap point_in (x ∙ sym y), ap trip_in (x ∙ sym y))
+          where
+            order : (m n : ℕ) → (m < n) ⊎ (n ≤ m)
+            order m n = grind arith
+
+            past : (k < length p.rules) ⊎ (length p.rules ≤ k) → length p.rules ≤ k
+            past (inl low) = let there = at_some p.rules k low in absurd (some_none there.0 (sym there.1 ∙ e))
+            past (inr high) = high
+
+    same_points : (set : List ℕ) → map (λ t. point_in (answer_for xs t)) set ≡ map (λ t. point_in (answer_for ys t)) set
+    same_points [] = refl
+    same_points (t ∷ set) =
+        ap (λ (o : Option ScaledPoint). o ∷ map (λ u. point_in (answer_for xs u)) set) (same_parts t).0
+        ∙ ap (λ (os : List (Option ScaledPoint)). point_in (answer_for ys t) ∷ os) (same_points set)
+
+    same_trips : (set : List ℕ) → first_trip xs set ≡ first_trip ys set
+    same_trips [] = refl
+    same_trips (t ∷ set) =
+        ap (λ (o : Option Trip). first_of o (first_trip xs set)) (same_parts t).1
+        ∙ ap (λ (o : Option Trip). first_of (trip_in (answer_for ys t)) o) (same_trips set)
+
+    see_the_same : (set : List ℕ) → SeeTheSame xs ys set
+    see_the_same set = record { points = same_points set; trips = same_trips set }
+
+  -- each rank question of a program has one answer
+  pub searches_one : AreOne (searches_of_program p pivots)
+  searches_one = record { ranks = one }
+    where
+      one : (set : List ℕ) (t : ℕ) (shut : List SymbolPlace) (x y : Ranking) → (searches_of_program p pivots).Ranks set t shut x
+          → (searches_of_program p pivots).Ranks set t shut y → x ≡ y
+      one set t shut x y (xs, a, (v, same, is)) (ys, b, (w, same_too, is_too)) =
+          sym same ∙ (ranking_one v w (ranks_one.each (ranked_set p set t shut) shut pivots xs ys (see_the_same xs ys a b set) v w is is_too) ∙ same_too)

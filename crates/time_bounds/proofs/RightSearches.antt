@@ -1,0 +1,262 @@
+-- The answers of the searches of a valid program are right.
+use Rattle.std.proofs.Common.{◌≡◌, inl, inr, ℕ, zero, suc, ◌<◌, ◌==◌, Bool, true, false, List, [], ◌∷◌, length, map, Option, Some, None, refl, sym, ◌∙◌, ap, subst, arith, slice_get}
+use Rattle.std.specs.Prelude.{ℤ, pos, ◌+ℤ◌, ◌*ℤ◌, ◌≤ℤ◌}
+use Rattle.std.specs.List.{Contains}
+use Rattle.std.proofs.lemmas.Bool.{or_left, or_right}
+use Rattle.std.proofs.lemmas.List.Elements.{All-contains_itself, All-weaker}
+use Rattle.model.specs.Programs.{Program, Rule, rule_at}
+use Rattle.model.specs.Entries.{is_in}
+use Rattle.model.proofs.Membership.{same_number, told_same, no_is_not_yes, is_in-cases, is_in-contained, slice_get-below}
+use Rattle.its_model.specs.Valid.{IsValid}
+use Rattle.linear_forms.specs.Forms.{Form, at, form_value}
+use Rattle.linear_forms.specs.Points.{IsPoint}
+use Rattle.linear_forms.specs.RuleQuestions.{RuleForms, symbols_of_set}
+use Rattle.rule_forms.specs.Ranking.{Function, at_news, Loses, Ranks, NoRank}
+use Rattle.guard_prep.specs.Prepared.{prepared}
+use Rattle.proof_nodes.specs.Composed.{rank_form}
+use Rattle.proof_nodes.specs.Gaps.{ScaledPoint, SymbolPlace}
+use Rattle.proof_nodes.specs.Nodes.{SymbolForm}
+use Rattle.proof_nodes.specs.Setting.{Setting}
+use Rattle.proof_nodes.specs.AcceptsPlain.{IsRule}
+use Rattle.proof_setting.specs.Setting.{setting_of, rows_in, news_in}
+use Rattle.proof_tree.specs.declared.answer.Trip.{Trip}
+use Rattle.proof_tree.specs.declared.answer.EmptyAnswer.{EmptyAnswer}
+use Rattle.proof_tree.specs.declared.answer.EmptyAnswer.TheVariants as empties
+use Rattle.proof_tree.specs.AnswerViews.{cause_of, scaled_of}
+use Rattle.proof_tree.specs.Views.{rank_of}
+use Rattle.rank_search.specs.declared.answer.RankAnswer.{RankAnswer}
+use Rattle.rank_search.specs.declared.answer.RankAnswer.TheVariants as ranks
+use Rattle.rank_search.specs.ProgramQuestions.{forms_in, ranked_set}
+use Rattle.rank_search.specs.EmptyAnswers.{IsEmptyAnswer, EmptyNodesAreAccepted}
+use Rattle.rank_search.specs.RankAnswers.{IsRuleSet, answer_for, AreEmptyAnswers, part_at, trip_in, first_of, first_trip, IsRankAnswer}
+use Rattle.rank_search.specs.RankLaws.{found, RankedNodesRank, RankedNodesAreAccepted, RankAnswersAreExact}
+use Rattle.rank_search.proofs.Exact.{nodes-accepted as empty_nodes-accepted}
+use Rattle.rank_search.proofs.NodeLaws.{nodes-rank}
+use Rattle.rank_search.proofs.Accepted.{nodes-accepted}
+use Rattle.rank_search.proofs.RankExact.{answers-exact}
+use Rattle.round_relation.specs.Searches.{Emptiness, NoPoint, HasPoint, EmptyTripped, Ranking}
+use Rattle.round_relation.specs.Right.{met_in, set_met, EmptyTrips, NoneTrips, IsFirstTrip, IsRightEmptiness, IsRightRanking, IsQuestion, AreRight}
+use Rattle.round_relation.proofs.Cases.{either}
+use Rattle.time_bounds.specs.SearchLaws.{ProgramSearchesAreRight}
+use Rattle.time_bounds.specs.ProgramSearches.{emptiness_of, ranking_of, searches_of_program}
+
+-- a rule without what a ranking function doesn't meet: its unknowns
+abbrev bare : RuleForms → RuleForms
+bare r = record { source = r.source; target = r.target; left = 0; unknowns = 0; rows = r.rows; news = r.news }
+
+-- a rule of a setting is met as a question sees it
+met_bare : (s : Setting) (u : ℕ) (o : Option Rule) → s.rows u ≡ rows_in o → s.news u ≡ news_in o → met_in s u o ≡ bare (forms_in o)
+met_bare s u None rows news =
+    ap (λ (x : List Form). record { source = 0; target = 0; left = 0; unknowns = 0; rows = x; news = s.news u }) rows
+    ∙ ap (λ (x : List Form). record { source = 0; target = 0; left = 0; unknowns = 0; rows = []; news = x }) news
+met_bare s u (Some r) rows news =
+    ap (λ (x : List Form). record { source = r.source; target = r.target; left = 0; unknowns = 0; rows = x; news = s.news u }) rows
+    ∙ ap (λ (x : List Form). record { source = r.source; target = r.target; left = 0; unknowns = 0; rows = rows_in (Some r); news = x }) news
+
+-- the function after a rule and k more are at most the function before it, on the rule's points
+abbrev LosesBy : RuleForms → Function → ℕ → Type 0
+LosesBy r f k = (z : ℕ → ℤ) (d : ℤ) → IsPoint r.rows z d
+    → (form_value (at_news r (f r.target)) z d +ℤ pos k *ℤ d) ≤ℤ form_value (f r.source) z d
+
+abbrev HasFloorBy : RuleForms → Function → ℕ → Type 0
+HasFloorBy r f q = (z : ℕ → ℤ) (d : ℤ) → IsPoint r.rows z d → (pos q *ℤ d) ≤ℤ form_value (f r.source) z d
+
+-- a function that ranks over the rules as they are met ranks over them as questions see them
+ranks_seen : (p : Program) (set : List ℕ) (t : ℕ) (shut : List SymbolPlace) (f : Function) (q : ℕ)
+    → Ranks (set_met (setting_of p) set t shut) f q → Ranks (ranked_set p set t shut) f q
+ranks_seen p set t shut f q h = record {
+  positive = h.positive;
+  rises = All-weaker (λ u. Loses (set_met (setting_of p) set t shut) f u 0) (λ u. Loses (ranked_set p set t shut) f u 0) (λ u l. loses u 0 l) set h.rises;
+  falls = loses t q h.falls;
+  floor = subst (λ (r : RuleForms). HasFloorBy r f q) (met t) h.floor;
+}
+  where
+    met : (u : ℕ) → met_in (setting_of p) u (rule_at p u) ≡ bare (forms_in (rule_at p u))
+    met u = met_bare (setting_of p) u (rule_at p u) refl refl
+
+    loses : (u k : ℕ) → Loses (set_met (setting_of p) set t shut) f u k → Loses (ranked_set p set t shut) f u k
+    loses u k l = record { each = subst (λ (r : RuleForms). LosesBy r f k) (met u) l.each }
+
+-- so where no function ranks over the rules as questions see them, none does as they are met
+none_met : (p : Program) (set : List ℕ) (t : ℕ) (shut : List SymbolPlace) → NoRank (ranked_set p set t shut)
+    → NoRank (set_met (setting_of p) set t shut)
+none_met p set t shut none = record {
+  each = λ f q h fits. none.each f q (ranks_seen p set t shut f q h) (record { closed = fits.closed; places = fits.places });
+}
+
+-- the parts of a function at symbols read no shut place, where the function doesn't
+zero_at : (f : Function) (a j : ℕ) → at (f a).coefs j ≡ pos 0 → (ss : List ℕ) → at (rank_form (map (part_at f) ss) (Some a)).coefs j ≡ pos 0
+zero_at f a j h [] = refl
+zero_at f a j h (x ∷ ss) = go (x == a) refl (zero_at f a j h ss)
+  where
+    go : (v : Bool) → (x == a) ≡ v → at (rank_form (map (part_at f) ss) (Some a)).coefs j ≡ pos 0
+        → at (rank_form (map (part_at f) (x ∷ ss)) (Some a)).coefs j ≡ pos 0
+    go true e rest = rw e (subst (λ (s : ℕ). at (f s).coefs j ≡ pos 0) (sym (told_same x a e)) h)
+    go false e rest = rw e rest
+
+some_trip : (x y : Trip) → Some x ≡ Some y → x ≡ y
+some_trip x y e = cc
+
+none_trip : (x : Trip) → None ≡ Some x → ⊥
+none_trip x e = cc
+
+trip_none : (x : Trip) → Some x ≡ None → ⊥
+trip_none x e = cc
+
+at_some : {X : Type 0} (xs : List X) (k : ℕ) → k < length xs → (x : X) × (slice_get xs k ≡ Some x)
+at_some [] k h = absurd (omega arith)
+at_some (x ∷ xs) zero h = (x, refl)
+at_some (x ∷ xs) (suc k) h = at_some xs k (omega arith)
+
+module _ (accepted : EmptyNodesAreAccepted) (functions : RankedNodesRank) (nodes : RankedNodesAreAccepted) (exact : RankAnswersAreExact)
+    (p : Program) (pivots : ℕ) (valid : IsValid p) where
+  -- what is right of an answer about emptiness
+  empty_right : (t : ℕ) (e : Emptiness) → IsRule p t → (searches_of_program p pivots).Empties t e → IsRightEmptiness (setting_of p) t e
+  empty_right t e rule (r, numbered, (a, same, is)) = subst (λ (x : Emptiness). IsRightEmptiness (setting_of p) t x) same (go a is)
+    where
+      go : (b : EmptyAnswer) → IsEmptyAnswer (prepared r) t pivots b → IsRightEmptiness (setting_of p) t (emptiness_of b)
+      go (empties.Empty n) h = accepted.each p t r n numbered h.0
+      go (empties.Point z) h =
+          subst (λ (o : Option Rule). IsPoint (rows_in o) (at (scaled_of z).parts) (pos (scaled_of z).den)) (sym numbered) h.0.point
+      go (empties.Tripped x) h = h.0
+
+  -- the set of a question is a set of rules
+  rule_set : (set : List ℕ) (t : ℕ) → IsQuestion p set t → IsRuleSet p set t
+  rule_set set t q = record {
+    ascending = q.ascending;
+    rules = All-weaker (Contains set) (IsRule p) (λ u c. q.rules u (is_in-contained set u c)) set (All-contains_itself set);
+    inside = q.inside;
+  }
+
+  -- a rule whose answer isn't a trip doesn't trip
+  no_trip : (t : ℕ) (r : Rule) (a : EmptyAnswer) → rule_at p t ≡ Some r → IsEmptyAnswer (prepared r) t pivots a → trip_in (Some a) ≡ None
+      → EmptyTrips (searches_of_program p pivots) t → ⊥
+  no_trip t r a numbered is untripped (x, (s, there, (b, same, other))) = go a b is other untripped same
+    where
+      one_rule : (u v : Rule) → Some u ≡ Some v → u ≡ v
+      one_rule u v e = cc
+
+      not_empty : (m : List ℕ) → NoPoint m ≡ EmptyTripped x → ⊥
+      not_empty m e = cc
+
+      no_point : (z : ScaledPoint) → HasPoint z ≡ EmptyTripped x → ⊥
+      no_point z e = cc
+
+      same_rule : s ≡ r
+      same_rule = one_rule s r (sym there ∙ numbered)
+
+      go : (c d : EmptyAnswer) → IsEmptyAnswer (prepared r) t pivots c → IsEmptyAnswer (prepared s) t pivots d → trip_in (Some c) ≡ None
+          → emptiness_of d ≡ EmptyTripped x → ⊥
+      go c (empties.Empty n) h k e f = not_empty n.multipliers.items f
+      go c (empties.Point z) h k e f = no_point (scaled_of z) f
+      go (empties.Empty n) (empties.Tripped y) h k e f =
+          let own = subst (λ (u : Rule). IsEmptyAnswer (prepared u) t pivots (empties.Tripped y)) same_rule k in h.1.each (cause_of y.cause) own.1
+      go (empties.Point z) (empties.Tripped y) h k e f =
+          let own = subst (λ (u : Rule). IsEmptyAnswer (prepared u) t pivots (empties.Tripped y)) same_rule k in h.1.each (cause_of y.cause) own.1
+      go (empties.Tripped w) (empties.Tripped y) h k e f = trip_none w e
+
+  module _ (answers : List EmptyAnswer) (are : AreEmptyAnswers p pivots answers) where
+    -- each rule has its answer
+    answered : (t : ℕ) → IsRule p t → (a : EmptyAnswer) × (answer_for answers t ≡ Some a)
+    answered zero rule = absurd (none rule.numbered)
+      where
+        none : None ≡ Some rule.rule → ⊥
+        none e = cc
+    answered (suc k) rule = at_some answers k (omega (arith, slice_get-below p.rules k rule.rule rule.numbered, are.one_each))
+
+    -- where no rule of a set is told to trip, none does
+    none_trips : (ts : List ℕ) → ((u : ℕ) → is_in u ts ≡ true → IsRule p u) → first_trip answers ts ≡ None
+        → NoneTrips (searches_of_program p pivots) ts
+    none_trips [] rules e u m trips = no_is_not_yes false refl m
+    none_trips (t ∷ ts) rules e u m trips =
+        either (is_in-cases u t ts m) (λ same. here (subst (λ (n : ℕ). EmptyTrips (searches_of_program p pivots) n) same trips))
+        (λ later. none_trips ts (λ v k. rules v (or_right (v == t) (is_in v ts) k)) (rest (answered t rule).0 (answered t rule).1) u later trips)
+      where
+        rule : IsRule p t
+        rule = rules t (or_left (t == t) (is_in t ts) (same_number t))
+
+        rest : (a : EmptyAnswer) → answer_for answers t ≡ Some a → first_trip answers ts ≡ None
+        rest a same = by a (rw same at e)
+          where
+            by : (b : EmptyAnswer) → first_of (trip_in (Some b)) (first_trip answers ts) ≡ None → first_trip answers ts ≡ None
+            by (empties.Empty n) h = h
+            by (empties.Point z) h = h
+            by (empties.Tripped x) h = absurd (trip_none x h)
+
+        here : EmptyTrips (searches_of_program p pivots) t → ⊥
+        here x =
+            let a = answered t rule in
+            no_trip t rule.rule a.0 rule.numbered (are.each t rule.rule a.0 rule.numbered a.1) (by a.0 (rw a.1 at e)) x
+          where
+            by : (b : EmptyAnswer) → first_of (trip_in (Some b)) (first_trip answers ts) ≡ None → trip_in (Some b) ≡ None
+            by (empties.Empty n) h = refl
+            by (empties.Point z) h = refl
+            by (empties.Tripped y) h = h
+
+    -- the trip that is told is that of the first rule that trips
+    first_told : (x : Trip) (ts : List ℕ) → ((u : ℕ) → is_in u ts ≡ true → IsRule p u) → first_trip answers ts ≡ Some x
+        → IsFirstTrip (searches_of_program p pivots) ts x
+    first_told x [] rules e = absurd (none_trip x e)
+    first_told x (t ∷ ts) rules e =
+        go (answered t rule).0 (answered t rule).1 (first_told x ts (λ v k. rules v (or_right (v == t) (is_in v ts) k)))
+      where
+        rule : IsRule p t
+        rule = rules t (or_left (t == t) (is_in t ts) (same_number t))
+
+        go : (a : EmptyAnswer) → answer_for answers t ≡ Some a
+            → (first_trip answers ts ≡ Some x → IsFirstTrip (searches_of_program p pivots) ts x)
+            → IsFirstTrip (searches_of_program p pivots) (t ∷ ts) x
+        go a same later = by a (are.each t rule.rule a rule.numbered same) (rw same at e)
+          where
+            by : (b : EmptyAnswer) → IsEmptyAnswer (prepared rule.rule) t pivots b → first_of (trip_in (Some b)) (first_trip answers ts) ≡ Some x
+                → IsFirstTrip (searches_of_program p pivots) (t ∷ ts) x
+            by (empties.Empty n) is h = inr (no_trip t rule.rule (empties.Empty n) rule.numbered is refl, later h)
+            by (empties.Point z) is h = inr (no_trip t rule.rule (empties.Point z) rule.numbered is refl, later h)
+            by (empties.Tripped y) is h =
+                inl (rule.rule, rule.numbered, (empties.Tripped y, ap (λ (w : Trip). EmptyTripped w) (some_trip y x h), is))
+
+    -- what is right of an answer to a rank question
+    rank_right : (set : List ℕ) (t : ℕ) (shut : List SymbolPlace) → IsQuestion p set t → (a : RankAnswer)
+        → IsRankAnswer (ranked_set p set t shut) shut pivots answers a
+        → IsRightRanking (searches_of_program p pivots) (setting_of p) set t shut (ranking_of a)
+    rank_right set t shut q (ranks.Ranked node) h =
+        let shown = nodes.shown p set t shut pivots (rank_of node) valid (rule_set set t q) h.0 in
+        record {
+          rule = h.0.numbered;
+          same_set = h.0.same_set;
+          shape = shown.shape;
+          moves = shown.moves;
+          floor = shown.floor;
+          reads = λ a j closed.
+              subst (λ (fs : List SymbolForm). at (rank_form fs (Some a)).coefs j ≡ pos 0) (sym h.0.forms)
+              (zero_at (found (ranked_set p set t shut) pivots (rank_of node) h.0) a j
+              ((functions.fits (ranked_set p set t shut) pivots (rank_of node) h.0).closed a j closed) (symbols_of_set (ranked_set p set t shut)));
+        }
+    rank_right set t shut q (ranks.NoRank gap) h =
+        let none = (exact.none p set t shut pivots answers (ranks.NoRank gap) valid (rule_set set t q) are h).0 tt in (
+          record {
+            rule = h.0.numbered;
+            same_set = h.0.same_set;
+            same_shut = h.0.same_shut;
+            none = none_met p set t shut none.0;
+          },
+          none_trips set q.rules h.1,
+        )
+    rank_right set t shut q (ranks.Tripped x) (inl own) = inl own.question
+    rank_right set t shut q (ranks.Tripped x) (inr first) = inr (first_told x set q.rules first.first)
+
+  -- all answers are right
+  pub searches_right : AreRight (searches_of_program p pivots) (setting_of p)
+  searches_right = record { empty = empty_right; rank = rank }
+    where
+      rank : (set : List ℕ) (t : ℕ) (shut : List SymbolPlace) (r : Ranking) → IsQuestion p set t
+          → (searches_of_program p pivots).Ranks set t shut r → IsRightRanking (searches_of_program p pivots) (setting_of p) set t shut r
+      rank set t shut r q (answers, are, (a, same, is)) =
+          subst (λ (x : Ranking). IsRightRanking (searches_of_program p pivots) (setting_of p) set t shut x) same
+          (rank_right answers are set t shut q a is)
+
+-- the searches of each valid program are right
+pub program_searches_right : ProgramSearchesAreRight
+program_searches_right = record {
+  each = λ p pivots valid. searches_right empty_nodes-accepted nodes-rank nodes-accepted answers-exact p pivots valid;
+}

@@ -1,0 +1,121 @@
+-- Rows and answers, rule by rule, are those of the program.
+use Rattle.std.proofs.Common.{◌≡◌, ℕ, zero, suc, ◌+◌, ◌<◌, List, [], ◌∷◌, ◌++◌, length, map, get_or, All, Option, Some, None, option_map, refl, sym, ◌∙◌, ap, subst, arith}
+use Rattle.std.specs.Prelude.{slice_get}
+use Rattle.std.proofs.lemmas.List.{length-map}
+use Rattle.std.proofs.lemmas.Option.{slice_get-map, slice_get_read}
+use Rattle.model.specs.Programs as plain
+use Rattle.model.specs.Programs.{rule_at}
+use Rattle.its_model.specs.declared.program.Rule.{Rule}
+use Rattle.its_model.specs.declared.program.Program.{Program}
+use Rattle.its_model.specs.Valid.{IsValid}
+use Rattle.its_model.specs.Views.{rule_of, program_of}
+use Rattle.guard_prep.specs.declared.rule_rows.RuleRows.{RuleRows}
+use Rattle.guard_prep.specs.Prepared.{Prepared, prepared}
+use Rattle.guard_prep.specs.Views.{prepared_of}
+use Rattle.guard_prep.specs.Laws.{IsPreparable}
+use Rattle.guard_prep.proofs.StepLaws.{preparable}
+use Rattle.proof_tree.specs.declared.answer.EmptyAnswer.{EmptyAnswer}
+use Rattle.proof_tree.specs.Composing.{AreRowsOf}
+use Rattle.rank_search.specs.EmptyAnswers.{IsEmptyAnswer, IsPrepared}
+use Rattle.rank_search.specs.RankAnswers.{AreEmptyAnswers, answer_for}
+use Rattle.time_bounds.specs.Questions.{AreAnswersFrom}
+
+-- a rule that is read is the program's
+pub rule_read : (p : Program) (i : ℕ) (r : Rule) → i < length p.rules.items → r ≡ get_or p.rules.items i r
+    → rule_at (program_of p) (suc i) ≡ Some (rule_of r)
+rule_read p i r l e =
+    slice_get-map rule_of p.rules.items i
+    ∙ ap (λ (o : Option Rule). option_map rule_of o) (slice_get_read p.rules.items (length p.rules.items) i r refl l e)
+
+pub rule_preparable : (p : Program) (i : ℕ) (r : Rule) → IsValid (program_of p) → i < length p.rules.items → r ≡ get_or p.rules.items i r
+    → IsPreparable (rule_of r)
+rule_preparable p i r v l e = preparable (program_of p) (suc i) (rule_of r) v (rule_read p i r l e)
+
+first_same : (a b : Prepared) (os bs : List Prepared) → a ∷ os ≡ b ∷ bs → a ≡ b
+first_same a b os bs e = cc
+
+rest_same : (a b : Prepared) (os bs : List Prepared) → a ∷ os ≡ b ∷ bs → os ≡ bs
+rest_same a b os bs e = cc
+
+empty_not : (a : Prepared) (os : List Prepared) → [] ≡ a ∷ os → ⊥
+empty_not a os e = cc
+
+none_some : {A : Type 0} (a : A) → None ≡ Some a → ⊥
+none_some a e = cc
+
+-- the rule whose rows stand at a position
+record RowsAt (rules : List plain.Rule) (k : ℕ) (m : RuleRows) : Type 0 where
+  pub rule : plain.Rule
+  pub numbered : slice_get rules k ≡ Some rule
+  pub same : prepared_of m ≡ prepared rule
+
+rows_at : (preps : List RuleRows) (rules : List plain.Rule) (k : ℕ) (d : RuleRows) → map prepared_of preps ≡ map prepared rules → k < length preps
+    → RowsAt rules k (get_or preps k d)
+rows_at [] rules k d e l = absurd (omega (arith, l))
+rows_at (m ∷ preps) [] k d e l = absurd (empty_not (prepared_of m) (map prepared_of preps) (sym e))
+rows_at (m ∷ preps) (r ∷ rules) zero d e l = record {
+  rule = r;
+  numbered = refl;
+  same = first_same (prepared_of m) (prepared r) (map prepared_of preps) (map prepared rules) e;
+}
+rows_at (m ∷ preps) (r ∷ rules) (suc k) d e l =
+    let h = rows_at preps rules k d (rest_same (prepared_of m) (prepared r) (map prepared_of preps) (map prepared rules) e) (omega (arith, l)) in
+    record { rule = h.rule; numbered = h.numbered; same = h.same }
+
+-- the rows of the program's rules are rows of rules that have some
+pub are_prepared : (p : plain.Program) → IsValid p → (preps : List RuleRows) → AreRowsOf preps p → All IsPrepared preps
+are_prepared p v preps rows k d l =
+    let h = rows_at preps p.rules k d rows l in
+    record { rule = h.rule; preparable = preparable p (suc k) h.rule v h.numbered; same = h.same }
+
+pub rows_length : (p : plain.Program) (preps : List RuleRows) → AreRowsOf preps p → length preps ≡ length p.rules
+rows_length p preps rows = sym (length-map preps prepared_of) ∙ (ap (λ (ms : List Prepared). length ms) rows ∙ length-map p.rules prepared)
+
+-- one answer more
+pub answer_pushed : (pivots k : ℕ) (ms : List RuleRows) (os : List EmptyAnswer) (m : RuleRows) (a : EmptyAnswer) → AreAnswersFrom pivots k ms os
+    → IsEmptyAnswer (prepared_of m) (k + length ms) pivots a → AreAnswersFrom pivots k (ms ++ m ∷ []) (os ++ a ∷ [])
+answer_pushed pivots k [] [] m a h x = (subst (λ (n : ℕ). IsEmptyAnswer (prepared_of m) n pivots a) (let z : k + 0 ≡ k = omega arith in z) x, tt)
+answer_pushed pivots k [] (b ∷ os) m a h x = absurd h
+answer_pushed pivots k (n ∷ ms) [] m a h x = absurd h
+answer_pushed pivots k (n ∷ ms) (b ∷ os) m a h x = (
+  h.0,
+  answer_pushed pivots (suc k) ms os m a h.1
+      (subst (λ (n : ℕ). IsEmptyAnswer (prepared_of m) n pivots a) (let z : k + suc (length ms) ≡ suc k + length ms = omega arith in z) x),
+)
+
+-- the answers for the rows of the program's rules are those for its rules
+answers_long : (pivots k : ℕ) (preps : List RuleRows) (answers : List EmptyAnswer) → AreAnswersFrom pivots k preps answers → length answers ≡ length preps
+answers_long pivots k [] [] h = refl
+answers_long pivots k [] (a ∷ answers) h = absurd h
+answers_long pivots k (m ∷ preps) [] h = absurd h
+answers_long pivots k (m ∷ preps) (a ∷ answers) h = ap (λ (n : ℕ). suc n) (answers_long pivots (suc k) preps answers h.1)
+
+answer_at : (pivots k : ℕ) (preps : List RuleRows) (rules : List plain.Rule) (answers : List EmptyAnswer) (i : ℕ) (r : plain.Rule) (a : EmptyAnswer)
+    → map prepared_of preps ≡ map prepared rules → AreAnswersFrom pivots k preps answers → slice_get rules i ≡ Some r
+    → slice_get answers i ≡ Some a → IsEmptyAnswer (prepared r) (k + i) pivots a
+answer_at pivots k preps [] answers i r a e h f g = absurd (none_some r f)
+answer_at pivots k [] (x ∷ rules) answers i r a e h f g = absurd (empty_not (prepared x) (map prepared rules) e)
+answer_at pivots k (m ∷ preps) (x ∷ rules) [] i r a e h f g = absurd h
+answer_at pivots k (m ∷ preps) (x ∷ rules) (b ∷ answers) zero r a e h f g =
+    let same_rule : x ≡ r = cc in
+    let same_answer : b ≡ a = cc in
+    let first = first_same (prepared_of m) (prepared x) (map prepared_of preps) (map prepared rules) e in
+    subst (λ (n : ℕ). IsEmptyAnswer (prepared r) n pivots a) (let z : k ≡ k + 0 = omega arith in z)
+    (subst (λ (y : EmptyAnswer). IsEmptyAnswer (prepared r) k pivots y) same_answer
+    (subst (λ (q : Prepared). IsEmptyAnswer q k pivots b) (first ∙ ap prepared same_rule) h.0))
+answer_at pivots k (m ∷ preps) (x ∷ rules) (b ∷ answers) (suc i) r a e h f g =
+    subst (λ (n : ℕ). IsEmptyAnswer (prepared r) n pivots a) (let z : suc k + i ≡ k + suc i = omega arith in z)
+    (answer_at pivots (suc k) preps rules answers i r a (rest_same (prepared_of m) (prepared x) (map prepared_of preps) (map prepared rules) e) h.1 f g)
+
+pub answers_of : (p : plain.Program) (pivots : ℕ) (preps : List RuleRows) (answers : List EmptyAnswer) → AreRowsOf preps p
+    → AreAnswersFrom pivots 1 preps answers → AreEmptyAnswers p pivots answers
+answers_of p pivots preps answers rows h = record {
+  one_each = answers_long pivots 1 preps answers h ∙ rows_length p preps rows;
+  each = each;
+}
+  where
+    each : (t : ℕ) (r : plain.Rule) (a : EmptyAnswer) → rule_at p t ≡ Some r → answer_for answers t ≡ Some a → IsEmptyAnswer (prepared r) t pivots a
+    each zero r a f g = absurd (none_some r f)
+    each (suc i) r a f g =
+        subst (λ (n : ℕ). IsEmptyAnswer (prepared r) n pivots a) (let z : 1 + i ≡ suc i = omega arith in z)
+        (answer_at pivots 1 preps p.rules answers i r a rows h f g)

@@ -1,0 +1,148 @@
+-- One more rule that was tried, or one more entry that is said.
+use Rattle.std.proofs.Common.{◌≡◌, ◌⊎◌, inl, inr, ℕ, zero, suc, ◌+◌, ◌<◌, ◌≤◌, ◌||◌, Bool, true, false, List, [], ◌∷◌, ◌++◌, length, map, get_or, All, Option, Some, None, refl, sym, ◌∙◌, ap, subst, arith}
+use Rattle.std.specs.List.{list_any}
+use Rattle.model.proofs.Membership.{no_is_not_yes}
+use Rattle.proof_tree.specs.AnswerViews.{gap_of}
+use Rattle.std.proofs.lemmas.List.{length-append, length-map, map-append}
+use Rattle.std.proofs.lemmas.List.Elements.{All-nil, All-cons, All-head, All-tail}
+use Rattle.model.specs.Programs.{Program}
+use Rattle.outcome.specs.Reports.{Time, Untimed, NoFunction}
+use Rattle.outcome.specs.Views.{numbered_gap, time_of}
+use Rattle.outcome.specs.Printing.{HasItsGap}
+use Rattle.outcome.specs.declared.entry.TimeEntry.{TimeEntry}
+use Rattle.outcome.specs.declared.entry.TimeEntry.TheVariants as entries
+use Rattle.proof_nodes.specs.Known as nodes
+use Rattle.proof_tree.specs.declared.answer.EmptyAnswer.{EmptyAnswer}
+use Rattle.proof_tree.specs.declared.gap.Gap.{Gap}
+use Rattle.round_relation.specs.Searches.{Searches}
+use Rattle.time_bounds.specs.declared.table.Table.{Table}
+use Rattle.time_bounds.specs.declared.trying.Tried.{Tried}
+use Rattle.time_bounds.specs.declared.trying.Tried.TheVariants.{Known, Found, Missing}
+use Rattle.time_bounds.specs.Tries.{IsTried, AreTried, is_found, one_if_found, count_found, IsGrown}
+use Rattle.time_bounds.specs.Analysis.{IsSaid, AreSaid}
+
+pub tried_pushed : (p : Program) (tab : Table) (pivots : ℕ) (empties : List EmptyAnswer) (k : ℕ) (tries : List Tried) (x : Tried)
+    → AreTried p tab pivots empties k tries → IsTried p tab pivots empties (k + length tries) x
+    → AreTried p tab pivots empties k (tries ++ x ∷ [])
+tried_pushed p tab pivots empties k [] x h g = (subst (λ (n : ℕ). IsTried p tab pivots empties n x) (let z : k + 0 ≡ k = omega arith in z) g, tt)
+tried_pushed p tab pivots empties k (y ∷ tries) x h g = (
+  h.0,
+  tried_pushed p tab pivots empties (suc k) tries x h.1
+      (subst (λ (n : ℕ). IsTried p tab pivots empties n x) (let z : k + suc (length tries) ≡ suc k + length tries = omega arith in z) g),
+)
+
+pub found_pushed : (tries : List Tried) (x : Tried) → count_found (tries ++ x ∷ []) ≡ count_found tries + one_if_found x
+found_pushed [] x = omega arith
+found_pushed (y ∷ tries) x = let ih = found_pushed tries x in omega (arith, ih)
+
+pub said_pushed : (q : Searches) (p : Program) (tab : nodes.Table) (k : ℕ) (times : List Time) (x : Time) → AreSaid q p tab k times
+    → IsSaid q p tab (k + length times) x → AreSaid q p tab k (times ++ x ∷ [])
+said_pushed q p tab k [] x h g = (subst (λ (n : ℕ). IsSaid q p tab n x) (let z : k + 0 ≡ k = omega arith in z) g, tt)
+said_pushed q p tab k (y ∷ times) x h g = (
+  h.0,
+  said_pushed q p tab (suc k) times x h.1
+      (subst (λ (n : ℕ). IsSaid q p tab n x) (let z : k + suc (length times) ≡ suc k + length times = omega arith in z) g),
+)
+
+-- a gap keeps its number when there is one more
+pub gap_kept : (gaps more : List Gap) (n : ℕ) → 1 ≤ n → n ≤ length gaps → numbered_gap (gaps ++ more) n ≡ numbered_gap gaps n
+gap_kept gaps more zero low high = absurd (omega (arith, low))
+gap_kept [] more (suc n) low high = absurd (omega (arith, high))
+gap_kept (g ∷ gaps) more (suc zero) low high = refl
+gap_kept (g ∷ gaps) more (suc (suc n)) low high = gap_kept gaps more (suc n) (omega arith) (omega (arith, high))
+
+-- the gap that is added has the last number
+pub gap_added : (gaps : List Gap) (g : Gap) → numbered_gap (gaps ++ g ∷ []) (suc (length gaps)) ≡ numbered_gap (g ∷ []) 1
+gap_added [] g = refl
+gap_added (h ∷ gaps) g = gap_added gaps g
+
+-- so what is said stays
+pub entry_kept : (gaps more : List Gap) (e : TimeEntry) → HasItsGap (length gaps) e → time_of (gaps ++ more) e ≡ time_of gaps e
+entry_kept gaps more (entries.Known s) h = refl
+entry_kept gaps more (entries.Gap n) h = ap (λ g. Untimed (NoFunction g)) (gap_kept gaps more n h.0 h.1)
+entry_kept gaps more (entries.Tripped t) h = refl
+entry_kept gaps more (entries.Large n) h = refl
+
+pub gap_weaker : (n m : ℕ) (e : TimeEntry) → n ≤ m → HasItsGap n e → HasItsGap m e
+gap_weaker n m (entries.Known s) l h = tt
+gap_weaker n m (entries.Gap g) l h = (h.0, omega (arith, l, h.1))
+gap_weaker n m (entries.Tripped t) l h = tt
+gap_weaker n m (entries.Large k) l h = tt
+
+-- where a list of gaps grows, what is said stays, and so does that each gap is there
+grown_long : (gaps new : List Gap) → IsGrown gaps new → length gaps ≤ length new
+grown_long gaps new (inl e) = omega (arith, ap (λ (gs : List Gap). length gs) e)
+grown_long gaps new (inr h) = omega (arith, ap (λ (gs : List Gap). length gs) h.1, length-append gaps (h.0 ∷ []))
+
+entry_grown : (gaps new : List Gap) (e : TimeEntry) → IsGrown gaps new → HasItsGap (length gaps) e → time_of new e ≡ time_of gaps e
+entry_grown gaps new e (inl same) h = ap (λ (gs : List Gap). time_of gs e) same
+entry_grown gaps new e (inr more) h = ap (λ (gs : List Gap). time_of gs e) more.1 ∙ entry_kept gaps (more.0 ∷ []) e h
+
+entries_grown : (gaps new : List Gap) (times : List TimeEntry) → IsGrown gaps new → All (HasItsGap (length gaps)) times
+    → map (time_of new) times ≡ map (time_of gaps) times
+entries_grown gaps new [] g h = refl
+entries_grown gaps new (e ∷ times) g h =
+    ap (λ (x : Time). x ∷ map (time_of new) times) (entry_grown gaps new e g (All-head (HasItsGap (length gaps)) e times h))
+    ∙ ap (λ (xs : List Time). time_of gaps e ∷ xs) (entries_grown gaps new times g (All-tail (HasItsGap (length gaps)) e times h))
+
+pub said_grown : (q : Searches) (p : Program) (tab : nodes.Table) (gaps new : List Gap) (times : List TimeEntry) (x : TimeEntry) (t : ℕ)
+    → IsGrown gaps new → All (HasItsGap (length gaps)) times → AreSaid q p tab 1 (map (time_of gaps) times) → t ≡ 1 + length times
+    → IsSaid q p tab t (time_of new x) → AreSaid q p tab 1 (map (time_of new) (times ++ x ∷ []))
+said_grown q p tab gaps new times x t g h said e is =
+    subst (λ (xs : List Time). AreSaid q p tab 1 xs) (sym (map-append (time_of new) times (x ∷ [])))
+    (said_pushed q p tab 1 (map (time_of new) times) (time_of new x)
+    (subst (λ (xs : List Time). AreSaid q p tab 1 xs) (sym (entries_grown gaps new times g h)) said)
+    (subst (λ (n : ℕ). IsSaid q p tab n (time_of new x)) (e ∙ ap (λ (n : ℕ). 1 + n) (sym (length-map times (time_of new)))) is))
+
+pub gaps_grown : (gaps new : List Gap) (times : List TimeEntry) (x : TimeEntry) → IsGrown gaps new → All (HasItsGap (length gaps)) times
+    → HasItsGap (length new) x → All (HasItsGap (length new)) (times ++ x ∷ [])
+gaps_grown gaps new times x g h last = go times h
+  where
+    go : (times : List TimeEntry) → All (HasItsGap (length gaps)) times → All (HasItsGap (length new)) (times ++ x ∷ [])
+    go [] h = All-cons (HasItsGap (length new)) x [] last (All-nil (HasItsGap (length new)))
+    go (e ∷ times) h =
+        All-cons (HasItsGap (length new)) e (times ++ x ∷ [])
+        (gap_weaker (length gaps) (length new) e (grown_long gaps new g) (All-head (HasItsGap (length gaps)) e times h))
+        (go times (All-tail (HasItsGap (length gaps)) e times h))
+
+-- there is one gap more at most
+pub grown_few : (gaps new : List Gap) → IsGrown gaps new → length new ≤ length gaps + 1
+grown_few gaps new (inl e) = omega (arith, ap (λ (gs : List Gap). length gs) e)
+grown_few gaps new (inr h) = omega (arith, ap (λ (gs : List Gap). length gs) h.1, length-append gaps (h.0 ∷ []))
+
+-- no more were found than tried
+pub found_few : (tries : List Tried) → count_found tries ≤ length tries
+found_few [] = omega arith
+found_few (Known ∷ tries) = let ih = found_few tries in omega (arith, ih)
+found_few (Found s ∷ tries) = let ih = found_few tries in omega (arith, ih)
+found_few (Missing a ∷ tries) = let ih = found_few tries in omega (arith, ih)
+
+-- what was tried of the rule at a position
+pub tried_read : (p : Program) (tab : Table) (pivots : ℕ) (empties : List EmptyAnswer) (k i : ℕ) (tries : List Tried) (x : Tried)
+    → AreTried p tab pivots empties k tries → i < length tries → x ≡ get_or tries i x → IsTried p tab pivots empties (k + i) x
+tried_read p tab pivots empties k i [] x h l e = absurd (omega (arith, l))
+tried_read p tab pivots empties k zero (y ∷ tries) x h l e =
+    subst (λ (n : ℕ). IsTried p tab pivots empties n x) (let z : k ≡ k + 0 = omega arith in z) (subst (λ (z : Tried). IsTried p tab pivots empties k z) (sym e) h.0)
+tried_read p tab pivots empties k (suc i) (y ∷ tries) x h l e =
+    subst (λ (n : ℕ). IsTried p tab pivots empties n x) (let z : suc k + i ≡ k + suc i = omega arith in z)
+    (tried_read p tab pivots empties (suc k) i tries x h.1 (omega (arith, l)) e)
+
+-- what was found of none was not found of one
+pub found_read : (tries : List Tried) (i : ℕ) (x : Tried) → list_any is_found tries ≡ false → i < length tries → x ≡ get_or tries i x → is_found x ≡ false
+found_read [] i x h l e = absurd (omega (arith, l))
+found_read (y ∷ tries) zero x h l e = ap is_found e ∙ first (is_found y) (list_any is_found tries) h
+  where
+    first : (v w : Bool) → (v || w) ≡ false → v ≡ false
+    first true w g = g
+    first false w g = refl
+found_read (y ∷ tries) (suc i) x h l e = found_read tries i x (rest (is_found y) (list_any is_found tries) h) (omega (arith, l)) e
+  where
+    rest : (v w : Bool) → (v || w) ≡ false → w ≡ false
+    rest true w g = absurd (no_is_not_yes true g refl)
+    rest false w g = g
+
+-- the gap that was added has the number of all gaps
+pub gap_last : (old new : List Gap) (g : Gap) (n : ℕ) → new ≡ old ++ g ∷ [] → n ≡ length new → numbered_gap new n ≡ gap_of g
+gap_last old new g n e h =
+    ap (λ (gs : List Gap). numbered_gap gs n) e
+    ∙ (ap (numbered_gap (old ++ g ∷ [])) (let z : n ≡ suc (length old) = omega (arith, h, ap (λ (gs : List Gap). length gs) e, length-append old (g ∷ [])) in z) ∙ gap_added old g)

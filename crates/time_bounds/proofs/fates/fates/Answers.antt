@@ -1,0 +1,44 @@
+use Rattle.std.proofs.Common.{◌≡◌, ◌↔◌, ℕ, ◌<◌, All, Bool, true, false, List, length, sym, ◌∙◌, ap, subst}
+use Rattle.std.specs.Prelude.{slice_index_or}
+use Rattle.std.proofs.lemmas.List.{length-map}
+use Rattle.std.proofs.lemmas.Result.{IfOk-weaker}
+use Rattle.its_model.specs.declared.program.Rule.{Rule}
+use Rattle.its_model.specs.Views.{rule_of, program_of}
+use Rattle.time_bounds.specs.ProgramSearches.{searches_of_program}
+use Rattle.model.specs.Paths.{IsReached}
+use Rattle.its_graph.specs.Graphs.{none_of}
+use Rattle.proof_tree.specs.declared.answer.EmptyAnswer.{EmptyAnswer}
+use Rattle.time_bounds.specs.declared.fates.Fate.{Fate}
+use Rattle.time_bounds.specs.Fates.{said_empty, fates_by, AreFates}
+use Rattle.time_bounds.proofs.Ends.{sources_within}
+use Rattle.time_bounds.proofs.FateLaws.{are_fates}
+use Rattle.time_bounds.proofs.fates.fates.Goals as goal
+
+pub fates_of-requires-clause-sources : goal.fates_of-requires-clause-sources
+fates_of-requires-clause-sources c =
+    let within = sources_within c.args.p.now c.requires.valid c.args.q.now.graph c.requires.questions.graph in
+    let long : c.args.q.now.graph.symbols ≡ length c.deref-5.result.now =
+    sym (c.in_ok-reached.ensures.one_each) ∙ ap length (sym c.deref-5.ensures.value) in
+    subst (λ (n : ℕ). All (λ r. r.source < n) c.deref-3.result.now) long
+    (subst (λ (rs : List Rule). All (λ r. r.source < c.args.q.now.graph.symbols) rs) (sym c.deref-3.ensures.value) within)
+
+pub returns : goal.returns
+returns c =
+    let p = c.args.p.now in
+    let q = c.args.q.now in
+    let cut : c.deref-2.result.now ≡ said_empty q.empties.items =
+    c.deref-2.ensures.value ∙ (c.in_ok-cut.ensures ∙ ap said_empty c.deref.ensures.value) in
+    let reached = subst (λ (xs : List ℕ). (b : ℕ) → (slice_index_or c.in_ok-reached.reached.items b false ≡ true)
+    ↔ IsReached (program_of p) (none_of xs) b) cut
+    (c.in_ok-reached.ensures.reached (program_of p) c.requires.questions.graph) in
+    let long = c.requires.questions.empties.one_each ∙ length-map p.rules.items rule_of in
+    let are = are_fates p q.pivots q.empties.items c.in_ok-reached.reached.items c.requires.questions.empties long reached in
+    let same : fates_by c.deref-5.result.now c.deref-4.result.now c.deref-3.result.now
+    ≡ fates_by c.in_ok-reached.reached.items q.empties.items p.rules.items =
+    ap (λ (xs : List Bool). fates_by xs c.deref-4.result.now c.deref-3.result.now) c.deref-5.ensures.value
+    ∙ (ap (λ (xs : List EmptyAnswer). fates_by c.in_ok-reached.reached.items xs c.deref-3.result.now) c.deref-4.ensures.value
+    ∙ ap (λ (xs : List Rule). fates_by c.in_ok-reached.reached.items q.empties.items xs) c.deref-3.ensures.value) in
+    IfOk-weaker c.fates_of.result (λ f. f.items ≡ fates_by c.deref-5.result.now c.deref-4.result.now c.deref-3.result.now)
+    (λ f. AreFates (searches_of_program (program_of p) q.pivots) (program_of p) f.items)
+    (λ f e. subst (λ (fs : List Fate). AreFates (searches_of_program (program_of p) q.pivots) (program_of p) fs) (sym (e ∙ same)) are)
+    c.fates_of.ensures

@@ -1,0 +1,17 @@
+use Rattle.std.proofs.Common.{◌≡◌, ◌≤◌, map, length, All}
+use Rattle.its_model.specs.Views.{program_of}
+use Rattle.outcome.specs.Views.{time_of}
+use Rattle.outcome.specs.Printing.{HasItsGap}
+use Rattle.time_bounds.specs.ProgramSearches.{searches_of_program}
+use Rattle.time_bounds.specs.Tables.{table_of}
+use Rattle.time_bounds.specs.Analysis.{AreSaid}
+use Rattle.time_bounds.proofs.reasons.said_of.Given as goal
+
+abbrev pub invariant-loop-tried : goal.invariant-loop-tried
+invariant-loop-tried l = record {
+  one_each : length l.times.items ≡ length l.yielded;
+  few : length l.gaps.items ≤ length l.yielded;
+  said : AreSaid (searches_of_program (program_of l.p) l.q.pivots) (program_of l.p) (table_of l.table) 1
+      (map (time_of l.gaps.items) l.times.items);
+  gaps : All (HasItsGap (length l.gaps.items)) l.times.items;
+}

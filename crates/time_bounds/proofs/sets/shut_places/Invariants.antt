@@ -1,0 +1,13 @@
+use Rattle.std.proofs.Common.{◌≡◌, ◌-◌, ◌++◌, length}
+use Rattle.its_model.specs.Views.{program_of}
+use Rattle.rank_search.specs.ProgramQuestions.{places_of}
+use Rattle.time_bounds.specs.Tables.{table_of}
+use Rattle.time_bounds.specs.Shutting.{shut_from}
+use Rattle.time_bounds.proofs.sets.shut_places.Given as goal
+
+-- those so far and those of the symbols that are left make all
+abbrev pub invariant-loop-mark : goal.invariant-loop-mark
+invariant-loop-mark l =
+    places_of l.shut.items
+    ++ shut_from (program_of l.p) (table_of l.table) l.entering l.mark-index (length l.p.symbols.items - l.mark-index)
+    ≡ shut_from (program_of l.p) (table_of l.table) l.entering 0 (length l.p.symbols.items)

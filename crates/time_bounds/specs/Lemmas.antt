@@ -1,0 +1,19 @@
+-- The lemmas that the code writes, as plain data.
+use Rattle.std.specs.Prelude.{ℕ, ◌==◌, cond, List, [], ◌∷◌, ◌++◌, map, ℤ}
+use Rattle.int_laws.specs.NormalForm.{is_zero}
+use Rattle.model.specs.Entries.{is_in}
+use Rattle.proof_nodes.specs.Nodes.{Proofs}
+use Rattle.proof_tree.specs.declared.proof.Proof.{Proof}
+use Rattle.proof_tree.specs.Views.{proof_of, uses_of}
+
+-- what a node rests on, as plain data
+abbrev pub uses_seen : List Proof → Proofs
+uses_seen uses = uses_of (map proof_of uses)
+
+-- a list with a number at its end, where it isn't 0 and isn't there
+abbrev pub with_other : ℕ → List ℕ → List ℕ
+with_other n ns = cond (n == 0) ns (cond (is_in n ns) ns (ns ++ n ∷ []))
+
+-- a place with this coefficient, where it is read
+abbrev pub read_here : ℤ → ℕ → List ℕ
+read_here c i = cond (is_zero c) [] (i ∷ [])

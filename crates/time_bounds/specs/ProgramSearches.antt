@@ -1,0 +1,36 @@
+-- The searches of a program: what `find_empty` and `find_rank` answer within a number of pivots.
+use Rattle.std.specs.Prelude.{◌≡◌, ℕ, List, Some}
+use Rattle.model.specs.Programs.{Program, Rule, rule_at}
+use Rattle.guard_prep.specs.Prepared.{prepared}
+use Rattle.proof_tree.specs.declared.answer.EmptyAnswer.{EmptyAnswer}
+use Rattle.proof_tree.specs.declared.answer.EmptyAnswer.TheVariants as empties
+use Rattle.proof_tree.specs.Views.{rank_of}
+use Rattle.proof_tree.specs.AnswerViews.{scaled_of, gap_of}
+use Rattle.rank_search.specs.declared.answer.RankAnswer.{RankAnswer}
+use Rattle.rank_search.specs.declared.answer.RankAnswer.TheVariants as ranks
+use Rattle.rank_search.specs.ProgramQuestions.{ranked_set}
+use Rattle.rank_search.specs.EmptyAnswers.{IsEmptyAnswer}
+use Rattle.rank_search.specs.RankAnswers.{AreEmptyAnswers, IsRankAnswer}
+use Rattle.round_relation.specs.Searches.{Searches, Emptiness, NoPoint, HasPoint, EmptyTripped, Ranking}
+use Rattle.round_relation.specs.Searches.{Ranked, Unranked, RankTripped}
+
+-- an answer whether a rule's rows have a point, as plain data
+abbrev pub emptiness_of : EmptyAnswer → Emptiness
+emptiness_of (empties.Empty n) = NoPoint n.multipliers.items
+emptiness_of (empties.Point z) = HasPoint (scaled_of z)
+emptiness_of (empties.Tripped t) = EmptyTripped t
+
+-- an answer which function ranks a rule, as plain data
+abbrev pub ranking_of : RankAnswer → Ranking
+ranking_of (ranks.Ranked node) = Ranked (rank_of node)
+ranking_of (ranks.NoRank gap) = Unranked (gap_of gap)
+ranking_of (ranks.Tripped t) = RankTripped t
+
+-- the searches of a program, where each linear program may take so many pivots
+abbrev pub searches_of_program : Program → ℕ → Searches
+searches_of_program p pivots = record {
+  Empties = λ t e. (r : Rule) × (rule_at p t ≡ Some r)
+      × ((a : EmptyAnswer) × (emptiness_of a ≡ e) × IsEmptyAnswer (prepared r) t pivots a);
+  Ranks = λ set t shut r. (empties : List EmptyAnswer) × AreEmptyAnswers p pivots empties
+      × ((a : RankAnswer) × (ranking_of a ≡ r) × IsRankAnswer (ranked_set p set t shut) shut pivots empties a);
+}

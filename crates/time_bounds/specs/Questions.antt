@@ -1,0 +1,85 @@
+-- What the searches of a program stand on, and what is asked of its rules.
+use Rattle.std.specs.Prelude.{◌≡◌, ℕ, suc, ◌≤◌, List, [], ◌∷◌, length, Bool, false, Option, Some, None}
+use Rattle.std.specs.Prelude.{slice_index_or, ⊤}
+use Rattle.model.specs.Programs.{Program}
+use Rattle.guard_prep.specs.declared.rule_rows.RuleRows.{RuleRows}
+use Rattle.guard_prep.specs.Views.{prepared_of}
+use Rattle.its_graph.specs.Graphs.{IsGraphOf}
+use Rattle.proof_nodes.specs.Gaps.{SymbolPlace}
+use Rattle.proof_tree.specs.declared.answer.EmptyAnswer.{EmptyAnswer}
+use Rattle.proof_tree.specs.Composing.{AreRowsOf}
+use Rattle.std.specs.List.{All}
+use Rattle.proof_tree.specs.Sizes.{IsShort}
+use Rattle.rank_search.specs.declared.answer.RankAnswer.{RankAnswer}
+use Rattle.rank_search.specs.declared.answer.RankAnswer.TheVariants as ranks
+use Rattle.rank_search.specs.EmptyAnswers.{IsEmptyAnswer, SaysEmpty}
+use Rattle.rank_search.specs.RankAnswers.{AreEmptyAnswers, IsRankAnswer, answer_for}
+use Rattle.rank_search.specs.ProgramQuestions.{ranked_set, places_of}
+use Rattle.round_relation.specs.Tables.{is_untimed}
+use Rattle.round_relation.specs.Sets.{IsSetOfRule, AreShutOf}
+use Rattle.time_bounds.specs.declared.asking.Asked.{Asked}
+use Rattle.time_bounds.specs.declared.questions.Questions.{Questions}
+use Rattle.time_bounds.specs.declared.table.Table.{Table}
+use Rattle.time_bounds.specs.Tables.{table_of}
+
+-- the answers for these rows, of rule k and those after it, in order
+abbrev pub AreAnswersFrom : ℕ → ℕ → List RuleRows → List EmptyAnswer → Type 0
+AreAnswersFrom pivots k [] [] = ⊤
+AreAnswersFrom pivots k [] (a ∷ answers) = ⊥
+AreAnswersFrom pivots k (m ∷ preps) [] = ⊥
+AreAnswersFrom pivots k (m ∷ preps) (a ∷ answers) =
+    IsEmptyAnswer (prepared_of m) k pivots a × AreAnswersFrom pivots (suc k) preps answers
+
+-- the graph, the rows and the answers are those of the program
+pub record AreQuestionsOf (p : Program) (q : Questions) : Type 0 where
+  pub graph : IsGraphOf q.graph p
+  pub rows : AreRowsOf q.preps.items p
+  pub empties : AreEmptyAnswers p q.pivots q.empties.items
+
+-- the flags of the virtual entry and of all rules say which have no time
+pub record AreUntimed (p : Program) (tab : Table) (flags : List Bool) : Type 0 where
+  pub one_each : length flags ≡ suc (length p.rules)
+  pub each : (t : ℕ) → t ≤ length p.rules → slice_index_or flags t false ≡ is_untimed (table_of tab) t
+
+-- each rule whose rows are known to have no point has a time
+pub record KnowsEmpty (p : Program) (tab : Table) (empties : List EmptyAnswer) : Type 0 where
+  pub each : (t : ℕ) (a : EmptyAnswer) → answer_for empties t ≡ Some a → SaysEmpty a
+      → is_untimed (table_of tab) t ≡ false
+
+-- a node that was found has a denominator of at least 1, and forms with few coefficients
+abbrev pub HasShape : RankAnswer → Type 0
+HasShape (ranks.Ranked node) = (1 ≤ node.den) × All IsShort node.forms.items
+HasShape (ranks.NoRank gap) = ⊤
+HasShape (ranks.Tripped t) = ⊤
+
+-- the answer is one to the question of this set and these shut places
+pub record IsAnswered (p : Program) (pivots : ℕ) (empties : List EmptyAnswer) (t : ℕ) (a : Asked) : Type 0 where
+  pub answer : IsRankAnswer (ranked_set p a.set.items t (places_of a.shut.items)) (places_of a.shut.items) pivots
+      empties
+      a.answer
+  pub shape : HasShape a.answer
+
+-- it was asked before, of this set and these shut places
+pub record IsSameQuestion (before : Option Asked) (set : List ℕ) (shut : List (ℕ × ℕ)) (a : Asked) : Type 0 where
+  pub asked : before ≡ Some a
+  pub same_set : a.set.items ≡ set
+  pub same_shut : a.shut.items ≡ shut
+
+-- and these are the set of the rule, and its shut places
+pub record IsAsked (p : Program) (tab : Table) (t : ℕ) (a : Asked) : Type 0 where
+  pub set : IsSetOfRule p (table_of tab) t a.set.items
+  pub shut : AreShutOf p (table_of tab) a.set.items (places_of a.shut.items)
+
+-- of each rule from k on a question that was answered, or none
+abbrev pub AreKept : Program → ℕ → List EmptyAnswer → ℕ → List (Option Asked) → Type 0
+AreKept p pivots empties k [] = ⊤
+AreKept p pivots empties k (None ∷ kept) = AreKept p pivots empties (suc k) kept
+AreKept p pivots empties k (Some a ∷ kept) =
+    IsAnswered p pivots empties k a × AreKept p pivots empties (suc k) kept
+
+-- a table of a program as rounds meet it: it has a time or none of the virtual entry and of each rule; that of the
+-- virtual entry is known, and so is that of each rule whose rows are known to have no point
+pub record IsTable (p : Program) (tab : Table) (empties : List EmptyAnswer) : Type 0 where
+  pub one_each : length tab.times.items ≡ suc (length p.rules)
+  pub start : is_untimed (table_of tab) 0 ≡ false
+  pub empty : KnowsEmpty p tab empties

@@ -1,0 +1,50 @@
+// The analysis of a program.
+
+ghost use Rattle.std.specs.Prelude.{IfOk, length};
+ghost use Rattle.its_model.specs.Valid.{IsValid};
+ghost use Rattle.its_model.specs.Views.{program_of};
+ghost use Rattle.outcome.specs.Views.{report_of};
+ghost use Rattle.outcome.specs.Holding.{ReportHolds, IsReportOn};
+ghost use Rattle.outcome.specs.Printing.{IsPrintableOutcome};
+ghost use Rattle.time_bounds.specs.Analysis.{IsAnalysis};
+
+use crate::beginning::first_table;
+use crate::fates::fates;
+use crate::first_lemmas::first_lemmas;
+use crate::questions::questions_of;
+use crate::reasons::{Said, said_of};
+use crate::rounds::rounds;
+use crate::totals::total;
+use its_model::Program;
+use model::Memory;
+use outcome::Outcome;
+use std::alloc::Global;
+
+/// What an analysis finds of a program, where each linear program may take so many pivots: of each rule a time or why
+/// there is none, the total where each rule has one, the lemmas that state them, and the gaps. No sizes are searched.
+///
+/// # Errors
+///
+/// `Memory` where an allocation fails.
+pub fn analyse(alloc: Global, p: &Program, pivots: u32) -> Result<Outcome, Memory>
+    requires { IsValid (program_of p.now) }
+    ensures found { IfOk result (λ o. IsAnalysis (program_of p.now) pivots (report_of o)) }
+    ensures holds { IfOk result (λ o. ReportHolds (program_of p.now) (report_of o)) }
+    ensures fits { IfOk result (λ o. IsReportOn (program_of p.now) (report_of o)) }
+    ensures printable { IfOk result (λ o. IsPrintableOutcome (length p.now.start_names.items) o) }
+{
+    let questions = questions_of(alloc, p, pivots)?;
+    let fates = fates(alloc, p, &questions)?;
+    let mut table = first_table(alloc, p, &fates)?;
+    let mut lemmas = first_lemmas(alloc, p, &fates, &questions.empties, &table)?;
+    let tries = rounds(alloc, p, &questions, &mut table, &mut lemmas)?;
+    let Said { times, gaps } = said_of(alloc, p, &questions, &table, tries)?;
+    let total = total(alloc, &times)?;
+    Ok(Outcome {
+        times,
+        sizes: Vec::new(alloc),
+        total,
+        lemmas,
+        gaps,
+    })
+}

@@ -1,0 +1,135 @@
+// The rank question of a rule, and its answer.
+
+ghost use Rattle.std.specs.Prelude.{◌≡◌, ◌<◌, ◌≤◌, length, true, IfOk, IfSome, Some, None, slice_index_or, false};
+ghost use Rattle.its_model.specs.Valid.{IsValid};
+ghost use Rattle.its_model.specs.Views.{program_of};
+ghost use Rattle.rank_search.specs.RankAnswers.{IsRuleSet, MayAllRun};
+ghost use Rattle.time_bounds.specs.Tables.{table_of};
+ghost use Rattle.time_bounds.specs.Questions.{AreQuestionsOf, AreUntimed, IsAnswered, IsAsked};
+ghost use Rattle.time_bounds.specs.Questions.{IsSameQuestion, KnowsEmpty};
+
+use crate::questions::Questions;
+use crate::sets::shut_places;
+use crate::table::Table;
+use its_model::Program;
+use model::Memory;
+use proof_tree::entries;
+use rank_search::{RankAnswer, find_rank};
+use std::alloc::Global;
+
+/// A rank question that was answered: over which set, and which places were shut.
+#[derive(Debug, Drop)]
+pub(crate) struct Asked {
+    pub set: Vec<u32>,
+    pub shut: Vec<(u32, u32)>,
+    pub answer: RankAnswer,
+}
+
+/// The rank question of a rule without a time, over what is known. Where the question is the one that was asked before,
+/// its answer is kept.
+pub(crate) fn ask(
+    alloc: Global,
+    p: &Program,
+    q: &Questions,
+    table: &Table,
+    untimed: &[bool],
+    rule: u32,
+    before: Option<Asked>,
+) -> Result<Asked, Memory>
+    requires valid { IsValid (program_of p.now) }
+    requires questions { AreQuestionsOf (program_of p.now) q.now }
+    requires flags { AreUntimed (program_of p.now) table.now untimed.now }
+    requires start { slice_index_or untimed.now 0 false ≡ false }
+    requires untimed_rule { slice_index_or untimed.now rule false ≡ true }
+    requires empty { KnowsEmpty (program_of p.now) table.now q.now.empties.items }
+    requires kept { IfSome before (λ a. IsAnswered (program_of p.now) q.now.pivots q.now.empties.items rule a) }
+    ensures asked { IfOk result (λ a. IsAsked (program_of p.now) table.now rule a) }
+    ensures answered { IfOk result (λ a. IsAnswered (program_of p.now) q.now.pivots q.now.empties.items rule a) }
+{
+    let set = q.graph.back_closure(alloc, untimed, rule)?;
+    let entering = entries(alloc, p, &set)?;
+    let shut = shut_places(alloc, p, table, &entering)?;
+    answered(alloc, p, q, rule, set, shut, before)
+}
+
+// The answer that is kept, where the question is the same, and else a new one.
+fn answered(
+    alloc: Global,
+    p: &Program,
+    q: &Questions,
+    rule: u32,
+    set: Vec<u32>,
+    shut: Vec<(u32, u32)>,
+    before: Option<Asked>,
+) -> Result<Asked, Memory>
+    requires valid { IsValid (program_of p.now) }
+    requires questions { AreQuestionsOf (program_of p.now) q.now }
+    requires rules { IsRuleSet (program_of p.now) set.items rule }
+    requires may_run { MayAllRun set.items q.now.empties.items }
+    requires kept { IfSome before (λ a. IsAnswered (program_of p.now) q.now.pivots q.now.empties.items rule a) }
+    ensures set { IfOk result (λ a. a.set.items ≡ set.items) }
+    ensures shut { IfOk result (λ a. a.shut.items ≡ shut.items) }
+    ensures answered { IfOk result (λ a. IsAnswered (program_of p.now) q.now.pivots q.now.empties.items rule a) }
+{
+    match same_question(before, &set, &shut) {
+        Some(old) => Ok(old),
+        None => new_answer(alloc, p, q, rule, set, shut),
+    }
+}
+
+// What was asked before, where it is of this set and these shut places.
+fn same_question(before: Option<Asked>, set: &[u32], shut: &[(u32, u32)]) -> Option<Asked>
+    ensures { IfSome result (λ a. IsSameQuestion before set.now shut.now a) }
+{
+    let old = before?;
+    let same_set = are_same_rules(&old.set, set);
+    if !same_set {
+        return None;
+    }
+    let same_shut = are_same_places(&old.shut, shut);
+    if same_shut { Some(old) } else { None }
+}
+
+// Whether two sets are the same.
+fn are_same_rules(first: &[u32], second: &[u32]) -> bool
+    ensures { result ≡ true → first.now ≡ second.now }
+{
+    first == second
+}
+
+// Whether two lists of places are the same.
+fn are_same_places(first: &[(u32, u32)], second: &[(u32, u32)]) -> bool
+    ensures { result ≡ true → first.now ≡ second.now }
+{
+    if first.len() != second.len() {
+        return false;
+    }
+    for i in 0..first.len() {
+        let is_same = first[i].0 == second[i].0 && first[i].1 == second[i].1;
+        if !is_same {
+            return false;
+        }
+    }
+    true
+}
+
+// The answer to a question that wasn't asked before.
+fn new_answer(
+    alloc: Global,
+    p: &Program,
+    q: &Questions,
+    rule: u32,
+    set: Vec<u32>,
+    shut: Vec<(u32, u32)>,
+) -> Result<Asked, Memory>
+    requires valid { IsValid (program_of p.now) }
+    requires questions { AreQuestionsOf (program_of p.now) q.now }
+    requires rules { IsRuleSet (program_of p.now) set.items rule }
+    requires may_run { MayAllRun set.items q.now.empties.items }
+    ensures set { IfOk result (λ a. a.set.items ≡ set.items) }
+    ensures shut { IfOk result (λ a. a.shut.items ≡ shut.items) }
+    ensures answered { IfOk result (λ a. IsAnswered (program_of p.now) q.now.pivots q.now.empties.items rule a) }
+{
+    let answer = find_rank(alloc, p, &q.preps, &set, rule, &shut, &q.empties, q.pivots)?;
+    Ok(Asked { set, shut, answer })
+}
