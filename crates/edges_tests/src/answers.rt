@@ -105,9 +105,7 @@ const PROGRAMS: &[(&str, Status, &str)] = &[
     (
         "l0(A) -> Com_1(l1(A)) l1(A) -> Com_1(l1(A))",
         Status::Unknown,
-        "unknown\ntime 1: 1\ntime 2: unknown\ntotal: unknown\n\
-         why time 2: no affine ranking function over rules 2\n  \
-         move 2: (1) / 1\n  floor 2: (0) / 0\n  kept 2: (1) / 1\n",
+        "unknown\ntime 1: 1\ntime 2: unknown\ntotal: unknown\nwhy time 2: no affine ranking function over rules 2\n  shut l1.1\n  move 2: (1) / 1\n  floor 2: (1) / 0\n  kept 2: (1) / 1\n",
     ),
     (
         "l0(B,A) -> Com_1(l1(A,A,B)) l7() -> Com_1(l8())",

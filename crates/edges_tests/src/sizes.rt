@@ -5,13 +5,15 @@ use outside_io::{Held, MemoryShelf, MemorySink};
 use std::alloc::{AllocError, Global};
 use std::test::Fail;
 
-// The program of so many rules, each from a symbol to the next, with so many places each.
-fn chain(alloc: Global, rules: u32, places: u32) -> Result<String, AllocError> {
+// The program of so many rules with so many places each: a chain, in which each rule leads from a symbol to the next, or
+// a star, in which each leads from the start to a symbol of its own.
+fn program(alloc: Global, is_chain: bool, rules: u32, places: u32) -> Result<String, AllocError> {
     let mut text = String::from_str(alloc, "(STARTTERM (FUNCTIONSYMBOLS l0))(RULES")?;
     for rule in 0..rules {
+        let source = if is_chain { rule } else { 0 };
         let next = rule.saturating_add(1);
         let arguments = arguments(alloc, places)?;
-        text.push_str(&format!(in alloc; " l{rule}{arguments} -> Com_1(l{next}{arguments})")?)?;
+        text.push_str(&format!(in alloc; " l{source}{arguments} -> Com_1(l{next}{arguments})")?)?;
     }
     text.push_str(")")?;
     Ok(text)
@@ -41,23 +43,23 @@ fn report(alloc: Global, rules: u32) -> Result<String, AllocError> {
 #[test]
 fn programs_up_to_the_limits_have_their_reports(rt: HostRuntime) -> Result<(), Fail> {
     let alloc = rt.alloc();
-    // Rules and places, and whether they are within the limits.
-    let table: [(u32, u32, bool); 9] = [
-        (1, 0, true),
-        (12, 1, true),
-        (13, 1, true),
-        (100, 2, true),
-        (999, 1, true),
-        (1000, 1, true),
-        (1001, 1, false),
-        (2, 32, true),
-        (2, 33, false),
+    // Whether the program is a chain, its rules and places, and whether they are within the limits.
+    let table: [(bool, u32, u32, bool); 9] = [
+        (true, 1, 0, true),
+        (true, 12, 1, true),
+        (true, 13, 1, true),
+        (false, 100, 2, true),
+        (false, 999, 1, true),
+        (false, 1000, 1, true),
+        (false, 1001, 1, false),
+        (true, 2, 32, true),
+        (true, 2, 33, false),
     ];
-    for (rules, places, is_within) in table {
+    for (is_chain, rules, places, is_within) in table {
         let mut files = Vec::new(alloc);
         files.push(Held {
             name: String::from_str(alloc, "p")?,
-            bytes: Vec::from_slice(alloc, chain(alloc, rules, places)?.as_bytes())?,
+            bytes: Vec::from_slice(alloc, program(alloc, is_chain, rules, places)?.as_bytes())?,
         })?;
         let mut words = Vec::new(alloc);
         words.push(String::from_str(alloc, "analyse")?)?;

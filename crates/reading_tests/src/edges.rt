@@ -140,6 +140,7 @@ const EDGES: [Edge; 12] = [
 ];
 
 // A text, with the first bytes of its last part and of what stands behind all parts.
+#[derive(Drop)]
 struct Made {
     text: Vec<u8>,
     first: usize,
@@ -161,7 +162,7 @@ fn push_part(text: &mut Vec<u8>, part: &str, number: usize) -> Result<(), AllocE
 }
 
 // The text with so many parts.
-fn made(alloc: Global, edge: &Edge, count: usize) -> Result<Made, AllocError> {
+fn text_with(alloc: Global, edge: &Edge, count: usize) -> Result<Made, AllocError> {
     let mut text = b"(STARTTERM (FUNCTIONSYMBOLS l0))(RULES ".to_vec(alloc)?;
     text.extend_from_slice(edge.before.as_bytes())?;
     let first = text.len();
@@ -185,13 +186,13 @@ fn made(alloc: Global, edge: &Edge, count: usize) -> Result<Made, AllocError> {
 }
 
 // The refusal of a text with one part too many.
-fn refusal(alloc: Global, edge: &Edge, made: &Made) -> Result<Vec<u8>, AllocError> {
+fn refusal(alloc: Global, edge: &Edge, longer: &Made) -> Result<Vec<u8>, AllocError> {
     let mut buffer = Buffer::new();
     let at = match edge.spot {
-        Spot::LastPart => made.last,
-        Spot::FirstPart => made.first,
-        Spot::LastByte => made.behind.saturating_sub(1),
-        Spot::Behind => made.behind,
+        Spot::LastPart => longer.last,
+        Spot::FirstPart => longer.first,
+        Spot::LastByte => longer.behind.saturating_sub(1),
+        Spot::Behind => longer.behind,
     };
     let mut text = edge.refused.as_bytes().to_vec(alloc)?;
     text.extend_from_slice(b" at ")?;
@@ -204,12 +205,12 @@ fn limits_stand_at_their_edges(rt: HostRuntime) -> Result<(), Fail> {
     let alloc = rt.alloc();
     for edge in &EDGES {
         let before = edge.before;
-        let whole = made(alloc, edge, edge.most)?;
+        let whole = text_with(alloc, edge, edge.most)?;
         assert!(rt;
             told(alloc, &whole.text)?.starts_with(b"l0/"),
             "at {before}"
         );
-        let more = made(alloc, edge, edge.most.saturating_add(1))?;
+        let more = text_with(alloc, edge, edge.most.saturating_add(1))?;
         let outcome = refusal(alloc, edge, &more)?;
         assert_eq!(rt; told(alloc, &more.text)?, outcome, "at {before}");
     }

@@ -87,9 +87,24 @@ fn push_expr(out: &mut Vec<u8>, e: &Expr) -> Result<(), AllocError> {
             out.push(b'~')?;
             push_expr(out, d)
         }
-        Expr::Add(d, f) => push_both(out, b'+', d, f),
-        Expr::Sub(d, f) => push_both(out, b'-', d, f),
-        Expr::Mul(d, f) => push_both(out, b'*', d, f),
+        Expr::Add(d, f) => {
+            out.push(b'+')?;
+            push_expr(out, d)?;
+            out.push(b' ')?;
+            push_expr(out, f)
+        }
+        Expr::Sub(d, f) => {
+            out.push(b'-')?;
+            push_expr(out, d)?;
+            out.push(b' ')?;
+            push_expr(out, f)
+        }
+        Expr::Mul(d, f) => {
+            out.push(b'*')?;
+            push_expr(out, d)?;
+            out.push(b' ')?;
+            push_expr(out, f)
+        }
         Expr::Pow(d, n) => {
             out.push(b'^')?;
             push_number(out, *n as i128)?;
@@ -97,13 +112,6 @@ fn push_expr(out: &mut Vec<u8>, e: &Expr) -> Result<(), AllocError> {
             push_expr(out, d)
         }
     }
-}
-
-fn push_both(out: &mut Vec<u8>, operator: u8, left: &Expr, right: &Expr) -> Result<(), AllocError> {
-    out.push(operator)?;
-    push_expr(out, left)?;
-    out.push(b' ')?;
-    push_expr(out, right)
 }
 
 fn push_names(out: &mut Vec<u8>, names: &[Name]) -> Result<(), AllocError> {
