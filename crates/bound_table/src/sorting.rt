@@ -52,7 +52,8 @@ fn move_before(
 ) -> Result<(), Memory>
     ensures moved { OnOk result (bounds_of all.new.items ≡ bounds_of all.old.items
         ++ coming_before kind (bound_of part.now) (bounds_of rest.old.items)) }
-    ensures left { OnOk result (bounds_of rest.new.items ≡ not_before kind (bound_of part.now) (bounds_of rest.old.items)) }
+    ensures left { OnOk result (bounds_of rest.new.items ≡ not_before kind (bound_of part.now)
+        (bounds_of rest.old.items)) }
 {
     while comes_first(kind, rest, part) {
         if let Some(first) = rest.pop_front() {

@@ -35,7 +35,8 @@ pub fn rewrite_within(alloc: Global, b: &Bound) -> Result<Within, Memory>
 
     // What is rewritten isn't large, and has all that a rewriting has.
     ensures small { IfOk result (λ w. WhereFits (answer_of w) (λ r. is_large r ≡ false)) }
-    ensures value { IsBased (bound_of b.now) → IfOk result (λ w. WhereFits (answer_of w) (λ r. HasValueOf r (bound_of b.now))) }
+    ensures value { IsBased (bound_of b.now) → IfOk result
+        (λ w. WhereFits (answer_of w) (λ r. HasValueOf r (bound_of b.now))) }
     ensures reads { IfOk result (λ w. WhereFits (answer_of w) (λ r. ReadsNoMore r (bound_of b.now))) }
     ensures numbers { IfOk result (λ w. WhereFits (answer_of w) (λ r. KeepsNumbers r (bound_of b.now))) }
     ensures tidy { HasTidyNumbers (bound_of b.now) → IfOk result (λ w. WhereFits (answer_of w) (λ r. IsTidy r)) }

@@ -13,7 +13,7 @@ use Rattle.poly_terms.specs.Views.{form_of}
 use Rattle.farkas_cert.specs.declared.combination.Column.{Column}
 use Rattle.farkas_cert.specs.declared.combination.Column.TheVariants.{Unknown, Constants}
 use Rattle.farkas_cert.specs.Columns.{number_in, combined_in, HaveAtMost}
-use Rattle.farkas_cert.specs.Sizes.{total_size, column_limit, AreSmall}
+use Rattle.farkas_cert.specs.Sizes.{column_size, column_limit, AreSmall}
 
 -- the first row and its multiplier, and what is left
 combined_in-next : (c : Column) (m : ℕ) (ms : List ℕ) (f : Form) (rows : List Form) → combined_in c (m ∷ ms) (f ∷ rows) ≡ pos m *ℤ number_in c f +ℤ combined_in c ms rows
@@ -48,13 +48,13 @@ left-end c ms rows i (inr h) = ap (λ (xs : List Row). combined_in c (drop i ms)
 
 -- the absolute numbers that are left, one position on
 pub size-next : (c : Column) (rows : List Row) (i : ℕ) (r : Row) → i < length rows → r ≡ get_or rows i r
-    → total_size (number_in c) (map form_of (drop i rows)) ≡ unsigned_abs (number_in c (form_of r)) + total_size (number_in c) (map form_of (drop (i + 1) rows))
+    → column_size (number_in c) (map form_of (drop i rows)) ≡ unsigned_abs (number_in c (form_of r)) + column_size (number_in c) (map form_of (drop (i + 1) rows))
 size-next c rows i r l e =
-    ap (λ (xs : List Row). total_size (number_in c) (map form_of xs)) (drop_more rows i r l)
-    ∙ ap (λ (x : Row). unsigned_abs (number_in c (form_of x)) + total_size (number_in c) (map form_of (drop (i + 1) rows))) (sym e)
+    ap (λ (xs : List Row). column_size (number_in c) (map form_of xs)) (drop_more rows i r l)
+    ∙ ap (λ (x : Row). unsigned_abs (number_in c (form_of x)) + column_size (number_in c) (map form_of (drop (i + 1) rows))) (sym e)
 
 -- a column of small rows is small
-pub column-small : (c : Column) (rows : List Form) → AreSmall rows → total_size (number_in c) rows ≤ column_limit
+pub column-small : (c : Column) (rows : List Form) → AreSmall rows → column_size (number_in c) rows ≤ column_limit
 column-small (Unknown u) rows h = h.coefs u
 column-small Constants rows h = h.constants
 

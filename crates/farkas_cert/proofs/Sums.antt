@@ -9,11 +9,11 @@ use Rattle.std.proofs.lemmas.List.Elements.{All-head, All-tail, All-get_or}
 use Rattle.int_laws.proofs.RingLaws.{mul-zero_ℤ}
 use Rattle.linear_forms.specs.Forms.{Form, at, list_dot}
 use Rattle.farkas_cert.specs.Scales.{numbers_at}
-use Rattle.farkas_cert.specs.Sizes.{total_size, row_limit, HasRowNumbers, RowsOfARuleAreSmall}
+use Rattle.farkas_cert.specs.Sizes.{column_size, row_limit, HasRowNumbers, RowsOfARuleAreSmall}
 
 -- rows whose number in a column is below 2^63 each
 total_size-le : (number : Form → ℤ) (rows : List Form) → All HasRowNumbers rows → ((f : Form) → HasRowNumbers f → unsigned_abs (number f) + 1 ≤ row_limit)
-    → total_size number rows + length rows ≤ row_limit * length rows
+    → column_size number rows + length rows ≤ row_limit * length rows
 total_size-le number [] h small = omega arith
 total_size-le number (f ∷ rows) h small = omega (arith, small f (All-head HasRowNumbers f rows h), total_size-le number rows (All-tail HasRowNumbers f rows h) small)
 

@@ -3,7 +3,7 @@ use Rattle.std.proofs.Common.{ℕ, zero, suc, ◌+◌, ◌-◌, ◌^◌, ◌<◌
 use Rattle.std.specs.Prelude.{ℤ, pos, negsuc, unsigned_abs}
 use Rattle.std.proofs.lemmas.List.Elements.{All-nil, All-cons}
 use Rattle.linear_forms.specs.Forms.{at}
-use Rattle.farkas_cert.specs.Sizes.{total_size, column_limit, AreParts, AreMultipliers, AreRowNumbers}
+use Rattle.farkas_cert.specs.Sizes.{column_size, column_limit, AreParts, AreWithinLimit, AreRowNumbers}
 use Rattle.farkas_cert.specs.WorkedSizes.{line, LimitsAreTold, ColumnsAreTold, SizesAreWorkedOut}
 
 -- lists of two parts, of two multipliers and of one number
@@ -15,12 +15,12 @@ two_parts x y h k =
 second_part : (x y : ℤ) → AreParts (x ∷ y ∷ []) → unsigned_abs y ≤ 2 ^ 45
 second_part x y h = h 1 (pos 0) (omega arith)
 
-two_multipliers : (x y : ℕ) → x ≤ 2 ^ 55 → y ≤ 2 ^ 55 → AreMultipliers (x ∷ y ∷ [])
+two_multipliers : (x y : ℕ) → x ≤ 2 ^ 55 → y ≤ 2 ^ 55 → AreWithinLimit (x ∷ y ∷ [])
 two_multipliers x y h k =
     let P : ℕ → Type 0 = λ (z : ℕ). z ≤ 2 ^ 55 in
     All-cons P x (y ∷ []) h (All-cons P y [] k (All-nil P))
 
-second_multiplier : (x y : ℕ) → AreMultipliers (x ∷ y ∷ []) → y ≤ 2 ^ 55
+second_multiplier : (x y : ℕ) → AreWithinLimit (x ∷ y ∷ []) → y ≤ 2 ^ 55
 second_multiplier x y h = h 1 0 (omega arith)
 
 one_number : (x : ℤ) → unsigned_abs x < 2 ^ 63 → AreRowNumbers (x ∷ [])
@@ -50,11 +50,11 @@ columns = record {
   large_constants = λ h. let large = h.constants in omega (arith, large);
 }
   where
-    one : (u : ℕ) → total_size (λ f. at f.coefs u) (line (pos (2 ^ 70 + 2 ^ 10)) (pos 0) ∷ []) ≤ column_limit
+    one : (u : ℕ) → column_size (λ f. at f.coefs u) (line (pos (2 ^ 70 + 2 ^ 10)) (pos 0) ∷ []) ≤ column_limit
     one zero = omega arith
     one (suc u) = omega arith
 
-    two : (u : ℕ) → total_size (λ f. at f.coefs u) (line (pos (2 ^ 70)) (pos 3) ∷ line (negsuc (2 ^ 10 - 1)) (negsuc 4) ∷ []) ≤ column_limit
+    two : (u : ℕ) → column_size (λ f. at f.coefs u) (line (pos (2 ^ 70)) (pos 3) ∷ line (negsuc (2 ^ 10 - 1)) (negsuc 4) ∷ []) ≤ column_limit
     two zero = omega arith
     two (suc u) = omega arith
 

@@ -5,13 +5,13 @@ use Rattle.linear_forms.specs.Forms.{Form, at}
 use Rattle.linear_forms.specs.Limits.{certificate_limit, point_limit}
 
 -- multipliers are at most 2^55
-abbrev pub AreMultipliers : List ℕ → Type 0
-AreMultipliers ms = All (λ m. m ≤ certificate_limit) ms
+abbrev pub AreWithinLimit : List ℕ → Type 0
+AreWithinLimit ms = All (λ m. m ≤ certificate_limit) ms
 
 -- the absolute numbers of forms, added up
-abbrev pub total_size : (Form → ℤ) → List Form → ℕ
-total_size number [] = 0
-total_size number (f ∷ forms) = unsigned_abs (number f) + total_size number forms
+abbrev pub column_size : (Form → ℤ) → List Form → ℕ
+column_size number [] = 0
+column_size number (f ∷ forms) = unsigned_abs (number f) + column_size number forms
 
 -- what the absolute numbers of a column may add up to
 abbrev pub column_limit : ℕ
@@ -19,8 +19,8 @@ column_limit = 2 ^ 70 + 2 ^ 10
 
 -- the absolute numbers of each column, and those of the constants, add up to at most 2^70 + 2^10
 pub record AreSmall (rows : List Form) : Type 0 where
-  pub coefs : (u : ℕ) → total_size (λ f. at f.coefs u) rows ≤ column_limit
-  pub constants : total_size (λ f. f.constant) rows ≤ column_limit
+  pub coefs : (u : ℕ) → column_size (λ f. at f.coefs u) rows ≤ column_limit
+  pub constants : column_size (λ f. f.constant) rows ≤ column_limit
 
 -- the numbers of a row are below 2^63 in absolute value
 abbrev pub row_limit : ℕ

@@ -1,7 +1,7 @@
 -- How large numbers may be, worked out by hand at the limits, on both sides.
 use Rattle.std.specs.Prelude.{◌+◌, ◌-◌, ◌^◌, [], ◌∷◌, ℤ, pos, negsuc}
 use Rattle.linear_forms.specs.Forms.{Form}
-use Rattle.farkas_cert.specs.Sizes.{AreMultipliers, AreSmall, HasRowNumbers, AreParts}
+use Rattle.farkas_cert.specs.Sizes.{AreWithinLimit, AreSmall, HasRowNumbers, AreParts}
 
 -- a form in one unknown
 abbrev pub line : ℤ → ℤ → Form
@@ -9,8 +9,8 @@ line a c = record { coefs = a ∷ []; constant = c }
 
 -- multipliers up to 2^55, and parts up to 2^45 in absolute value; numbers of a row up to 2^63 - 1 in absolute value
 pub record LimitsAreTold : Type 0 where
-  pub multiplier : AreMultipliers ((2 ^ 55) ∷ 0 ∷ [])
-  pub large_multiplier : ¬ (AreMultipliers (0 ∷ (2 ^ 55 + 1) ∷ []))
+  pub multiplier : AreWithinLimit ((2 ^ 55) ∷ 0 ∷ [])
+  pub large_multiplier : ¬ (AreWithinLimit (0 ∷ (2 ^ 55 + 1) ∷ []))
   pub part : AreParts (pos (2 ^ 45) ∷ negsuc (2 ^ 45 - 1) ∷ [])
   pub large_part : ¬ (AreParts (pos 0 ∷ negsuc (2 ^ 45) ∷ []))
   pub number : HasRowNumbers (line (pos (2 ^ 63 - 1)) (negsuc (2 ^ 63 - 2)))

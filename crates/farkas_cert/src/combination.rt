@@ -5,7 +5,7 @@ ghost use Rattle.linear_forms.specs.Forms.{at};
 ghost use Rattle.linear_forms.specs.Limits.{certificate_limit};
 ghost use Rattle.poly_terms.specs.Views.{form_of};
 ghost use Rattle.farkas_cert.specs.Columns.{number_in, combined_in};
-ghost use Rattle.farkas_cert.specs.Sizes.{total_size, column_limit, AreMultipliers};
+ghost use Rattle.farkas_cert.specs.Sizes.{column_size, column_limit, AreWithinLimit};
 
 use poly_terms::Row;
 
@@ -48,8 +48,8 @@ fn product(number: i128, multiplier: u64) -> i128
 
 /// A column of the sum of the rows, each times its multiplier.
 pub(crate) fn combined(rows: &[Row], multipliers: &[u64], column: Column) -> i128
-    requires multipliers_small { AreMultipliers multipliers.now }
-    requires column_small { total_size (number_in column) (map form_of rows.now) ≤ column_limit }
+    requires multipliers_small { AreWithinLimit multipliers.now }
+    requires column_small { column_size (number_in column) (map form_of rows.now) ≤ column_limit }
     ensures { result ≡ combined_in column multipliers.now (map form_of rows.now) }
 {
     let mut sum = 0;

@@ -4,7 +4,7 @@ ghost use Rattle.std.specs.Prelude.{◌≡◌, ℕ, ◌<◌, ◌≤◌, ◌↔�
 ghost use Rattle.linear_forms.specs.Forms.{at};
 ghost use Rattle.linear_forms.specs.Certificates.{Implies, combined_coef, minus_one};
 ghost use Rattle.poly_terms.specs.Views.{form_of};
-ghost use Rattle.farkas_cert.specs.Sizes.{AreSmall, AreMultipliers};
+ghost use Rattle.farkas_cert.specs.Sizes.{AreSmall, AreWithinLimit};
 ghost use Rattle.farkas_cert.specs.declared.combination.Column.{Column};
 ghost use Rattle.farkas_cert.specs.Columns.{HaveAtMost};
 
@@ -16,7 +16,7 @@ use poly_terms::Row;
 ///
 /// A row with fewer coefficients than another has 0 for the missing ones. It takes no memory, and no sum wraps.
 pub fn implies(rows: &[Row], multipliers: &[u64], goal: &Row) -> bool
-    requires multipliers_small { AreMultipliers multipliers.now }
+    requires multipliers_small { AreWithinLimit multipliers.now }
     requires rows_small { AreSmall (map form_of rows.now) }
     ensures { IsTrue result ↔ Implies (map form_of rows.now) multipliers.now (form_of goal.now) }
 {
@@ -25,7 +25,7 @@ pub fn implies(rows: &[Row], multipliers: &[u64], goal: &Row) -> bool
 
 /// Whether the multipliers show that the rows have no rational point: the same with the goal -1.
 pub fn empty(rows: &[Row], multipliers: &[u64]) -> bool
-    requires multipliers_small { AreMultipliers multipliers.now }
+    requires multipliers_small { AreWithinLimit multipliers.now }
     requires rows_small { AreSmall (map form_of rows.now) }
     ensures { IsTrue result ↔ Implies (map form_of rows.now) multipliers.now minus_one }
 {
@@ -34,7 +34,7 @@ pub fn empty(rows: &[Row], multipliers: &[u64]) -> bool
 
 // Whether the form with these coefficients and this constant follows from the rows by the multipliers.
 fn follows(rows: &[Row], multipliers: &[u64], coefs: &[i128], constant: i128) -> bool
-    requires multipliers_small { AreMultipliers multipliers.now }
+    requires multipliers_small { AreWithinLimit multipliers.now }
     requires rows_small { AreSmall (map form_of rows.now) }
     ensures { IsTrue result
         ↔ Implies (map form_of rows.now) multipliers.now (record { coefs = coefs.now; constant = constant }) }
@@ -46,7 +46,7 @@ fn follows(rows: &[Row], multipliers: &[u64], coefs: &[i128], constant: i128) ->
 
 // Whether the sum of the rows, each times its multiplier, has these coefficients.
 fn has_coefs(rows: &[Row], multipliers: &[u64], coefs: &[i128]) -> bool
-    requires multipliers_small { AreMultipliers multipliers.now }
+    requires multipliers_small { AreWithinLimit multipliers.now }
     requires rows_small { AreSmall (map form_of rows.now) }
     ensures { IsTrue result ↔ ((u : ℕ) → at coefs.now u ≡ combined_coef multipliers.now (map form_of rows.now) u) }
 {

@@ -1,9 +1,11 @@
 -- What keeps a use of a rule from being a step, and what comes first.
-use Rattle.std.specs.Prelude.{◌≡◌, ℕ, suc, Bool, ◌&&◌, if◌then◌else◌, nat_eq, List, [], ◌∷◌, ◌++◌, length, map, max, ℤ, int_lt, int_le, Option, Some, None, true, ⊤}
+use Rattle.std.specs.Prelude.{◌≡◌, ℕ, suc, Bool, ◌&&◌, if◌then◌else◌, nat_eq, List, [], ◌∷◌, ◌++◌, length, map, max, ℤ}
+use Rattle.std.specs.Prelude.{int_lt, int_le, Option, Some, None, true, ⊤}
 use Rattle.std.specs.List.{AllByRecursion}
 use Rattle.std.specs.Ordering.{int_eq}
 use Rattle.model.specs.Terms.{Term, value}
-use Rattle.model.specs.Programs.{Relation, AtLeast, MoreThan, AtMost, LessThan, EqualTo, Atom, Always, Compare, Symbol, Rule, Program, rule_at}
+use Rattle.model.specs.Programs.{Relation, AtLeast, MoreThan, AtMost, LessThan, EqualTo, Atom, Always, Compare, Symbol}
+use Rattle.model.specs.Programs.{Rule, Program, rule_at}
 use Rattle.model.specs.Runs.{Config, Step, IsStep}
 use Rattle.poly_terms.specs.Checked.{values_fit}
 

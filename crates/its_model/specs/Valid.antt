@@ -3,7 +3,8 @@ use Rattle.std.specs.Prelude.{◌≡◌, ℕ, ◌+◌, ◌≤◌, ◌<◌, nat_e
 use Rattle.std.specs.List.{AllByRecursion, list_any}
 use Rattle.model.specs.Limits.{rule_limit, place_limit, variable_limit, atom_limit}
 use Rattle.model.specs.Terms.{Term, Literal, Subtraction}
-use Rattle.model.specs.Programs.{Relation, AtLeast, MoreThan, AtMost, LessThan, EqualTo, Atom, Always, Compare, Symbol, Rule, Program, arity_of}
+use Rattle.model.specs.Programs.{Relation, AtLeast, MoreThan, AtMost, LessThan, EqualTo, Atom, Always, Compare, Symbol}
+use Rattle.model.specs.Programs.{Rule, Program, arity_of}
 use Rattle.poly_terms.specs.Checked.{ReadsBelow}
 use Rattle.poly_terms.specs.Faults.{first_fault}
 use Rattle.text_core.specs.Names.{IsName, AreDistinct}

@@ -1,7 +1,8 @@
 -- Valid programs, and what keeps a program from being one, worked out by hand.
 use Rattle.std.specs.Prelude.{◌≡◌, ℕ, List, [], ◌∷◌, replicate, pos}
 use Rattle.model.specs.Terms.{Term, Literal, Variable, Addition, Subtraction, Exponentiation}
-use Rattle.model.specs.Programs.{AtLeast, MoreThan, AtMost, LessThan, EqualTo, Atom, Always, Compare, Name, Symbol, Rule, Program}
+use Rattle.model.specs.Programs.{AtLeast, MoreThan, AtMost, LessThan, EqualTo, Atom, Always, Compare, Name, Symbol}
+use Rattle.model.specs.Programs.{Rule, Program}
 use Rattle.its_model.specs.Valid.{difference_of, IsValidSymbol, IsValidRule, IsValid}
 
 -- the rule l0(A, B) -> l1(update) where the atoms hold

@@ -3,7 +3,8 @@ use Rattle.std.specs.Prelude.{◌≡◌, ℕ, Bool, true, false, List, [], ◌�
 use Rattle.model.specs.Terms.{Term, Literal, Variable, Negation, Addition, Subtraction, Multiplication}
 use Rattle.model.specs.Programs.{Relation, AtLeast, MoreThan, AtMost, LessThan, EqualTo, Atom, Always, Compare, Program}
 use Rattle.model.specs.Runs.{Config, Step}
-use Rattle.its_model.specs.Steps.{StepFault, OtherRule, AtomFails, PastRange, is_related, step_fault, RuleFits, maximum_arity}
+use Rattle.its_model.specs.Steps.{StepFault, OtherRule, AtomFails, PastRange, is_related, step_fault, RuleFits}
+use Rattle.its_model.specs.Steps.{maximum_arity}
 use Rattle.its_model.specs.WorkedPrograms.{two_and_one, rule_with, small_program}
 
 -- 2^127 - 1 and -2^127, the ends of the integers of 128 bits

@@ -1,6 +1,7 @@
 // Steps that are taken in 128 bits.
 
-ghost use Rattle.std.specs.Prelude.{◌≡◌, ◌+◌, ◌<◌, ◌≤◌, ◌^◌, ◌++◌, ◌∷◌, [], ℕ, length, map, slice_index_or, true, false, MatchResult, MatchOption, IfOk, vec_len, vec_capacity};
+ghost use Rattle.std.specs.Prelude.{◌≡◌, ◌+◌, ◌<◌, ◌≤◌, ◌^◌, ◌++◌, ◌∷◌, [], ℕ, length, map, slice_index_or, true};
+ghost use Rattle.std.specs.Prelude.{false, MatchResult, MatchOption, IfOk, vec_len, vec_capacity};
 ghost use Rattle.std.specs.List.{AllByRecursion};
 ghost use Rattle.model.specs.Terms.{value};
 ghost use Rattle.model.specs.Limits.{atom_limit};
@@ -8,7 +9,8 @@ ghost use Rattle.model.specs.Programs.{arity_of, rule_at};
 ghost use Rattle.model.specs.Runs.{IsStep};
 ghost use Rattle.poly_terms.specs.Checked.{ReadsBelow};
 ghost use Rattle.poly_terms.specs.Views.{term_of};
-ghost use Rattle.its_model.specs.Steps.{PastRange, is_related, atom_fault, guard_fault, updates_fault, body_fault, rule_fault, step_fault, maximum_arity, StepsHaveNoFault};
+ghost use Rattle.its_model.specs.Steps.{PastRange, is_related, atom_fault, guard_fault, updates_fault, body_fault};
+ghost use Rattle.its_model.specs.Steps.{rule_fault, step_fault, maximum_arity, StepsHaveNoFault};
 ghost use Rattle.its_model.specs.StepAnswers.{ComparisonError, fault_of};
 ghost use Rattle.its_model.specs.Valid.{IsValid, IsValidAtom, IsValidTerm};
 ghost use Rattle.its_model.specs.Ready.{IsReady};

@@ -1,5 +1,5 @@
 -- Sums and multiples of forms.
-use Rattle.std.specs.Prelude.{ℕ, suc, List, [], ◌∷◌, map, ℤ, pos, ◌+ℤ◌, ◌*ℤ◌}
+use Rattle.std.specs.Prelude.{ℕ, suc, List, [], ◌∷◌, map, ℤ, pos, negsuc, ◌+ℤ◌, ◌*ℤ◌}
 use Rattle.linear_forms.specs.Forms.{Form}
 
 -- the sum of two lists of coefficients, number by number; a number that isn't listed is 0
@@ -24,3 +24,7 @@ zero_form = record { coefs = []; constant = pos 0 }
 abbrev pub combination : List Form → (ℕ → ℤ) → Form
 combination [] v = zero_form
 combination (f ∷ fs) v = form_sum (form_times (v 0) f) (combination fs (λ p. v (suc p)))
+
+-- a form less another
+abbrev pub less : Form → Form → Form
+less f g = form_sum f (form_times (negsuc 0) g)

@@ -1,5 +1,6 @@
 -- What solutions, duals and prices of a question's linear program say of the question.
-use Rattle.std.specs.Prelude.{◌≡◌, ℕ, zero, suc, ◌+◌, ◌<◌, List, [], ◌∷◌, length, slice_index_or, ℤ, pos, negsuc, ◌+ℤ◌, ◌-ℤ◌, ◌*ℤ◌, nat_abs, ◌≤ℤ◌, ◌<ℤ◌}
+use Rattle.std.specs.Prelude.{◌≡◌, ℕ, zero, suc, ◌+◌, ◌<◌, List, [], ◌∷◌, length, slice_index_or, ℤ, pos, negsuc, ◌+ℤ◌}
+use Rattle.std.specs.Prelude.{◌-ℤ◌, ◌*ℤ◌, nat_abs, ◌≤ℤ◌, ◌<ℤ◌}
 use Rattle.std.specs.List.{All}
 use Rattle.int_laws.specs.Sums.{sum_to, dot}
 use Rattle.linear_forms.specs.Forms.{Form, form_value}
@@ -39,7 +40,7 @@ pub record Element : Type 0 where
   pub parts : ℕ → ℤ
   pub den : ℤ
 
--- a dual or prices cut into a element for each group: a part for each unknown, and then the denominator
+-- a dual or prices cut into an element for each group: a part for each unknown, and then the denominator
 abbrev pub elements_of : (ℕ → ℤ) → List Group → List Element
 elements_of y [] = []
 elements_of y (g ∷ gs) = record { parts = y; den = y g.unknowns } ∷ elements_of (after (suc g.unknowns) y) gs

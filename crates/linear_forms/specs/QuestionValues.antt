@@ -4,7 +4,8 @@ use Rattle.std.specs.Prelude.{◌≡◌, ℕ, ◌&&◌, Bool, false, nat_eq, if�
 use Rattle.linear_forms.specs.Forms.{Form, at}
 use Rattle.linear_forms.specs.LinearProgram.{IsSolution, IsDual}
 use Rattle.linear_forms.specs.Questions.{Equation, equations, program_of_question}
-use Rattle.linear_forms.specs.RuleQuestions.{RuleForms, RankedSet, empty_question, rank_question, before_rule, opposite, value_up, value_low, constant_question, fixed_question, affine_question}
+use Rattle.linear_forms.specs.RuleQuestions.{RuleForms, RankedSet, empty_question, rank_question, before_rule, opposite}
+use Rattle.linear_forms.specs.RuleQuestions.{value_up, value_low, constant_question, fixed_question, affine_question}
 
 -- forms in one unknown and in two
 abbrev pub line_form : ℤ → ℤ → Form

@@ -1,6 +1,7 @@
 -- The questions that are asked of rules: whether the rows of a rule have no point, whether a function ranks a rule of a
 -- set, and which form bounds a new value.
-use Rattle.std.specs.Prelude.{ℕ, zero, suc, ◌||◌, Bool, not, nat_eq, if◌then◌else◌, List, [], ◌∷◌, ◌++◌, map, filter, length, replicate, slice_index_or, ℤ, pos, negsuc}
+use Rattle.std.specs.Prelude.{ℕ, zero, suc, ◌||◌, Bool, not, nat_eq, if◌then◌else◌, List, [], ◌∷◌, ◌++◌, map, filter}
+use Rattle.std.specs.Prelude.{length, replicate, slice_index_or, ℤ, pos, negsuc}
 use Rattle.std.specs.List.{list_any, range_with_len}
 use Rattle.linear_forms.specs.Forms.{Form}
 use Rattle.linear_forms.specs.Combinations.{form_sum, form_times, zero_form}

@@ -1,9 +1,10 @@
 // What certificates are worth.
 
-ghost use Rattle.linear_forms.specs.CertificateLaws.{CertificatesHold, FormsHaveTheirValues, PointsAreTold, CertificatesAreTold};
+ghost use Rattle.linear_forms.specs.CertificateLaws.{CertificatesHold, FormsHaveTheirValues, PointsAreTold};
+ghost use Rattle.linear_forms.specs.CertificateLaws.{CertificatesAreTold};
 
-/// A goal that is a sum of nonnegative multiples of rows, and more, is at least 0 wherever the rows are: on each of their
-/// rational points and along each of their rays. Where -1 is such a goal, the rows have no point.
+/// A goal that is a sum of nonnegative multiples of rows, and more, is at least 0 wherever the rows are: on each of
+/// their rational points and along each of their rays. Where -1 is such a goal, the rows have no point.
 pub fn certificates_hold()
     ensures { CertificatesHold }
 {}

@@ -1,6 +1,6 @@
 //! Affine forms over numbered unknowns, the rational points and rays of rows, certificates by Farkas' lemma, linear
-//! programs, and questions of which a linear program decides: definitions in `specs/` and their laws. The functions here
-//! have no code: the contract of each is a law. The limits on numbers are constants, as they are defined.
+//! programs, and questions of which a linear program decides: definitions in `specs/` and their laws. The functions
+//! here have no code: the contract of each is a law. The limits on numbers are constants, as they are defined.
 #![tactic(auto)]
 
 mod certificates;

@@ -1,11 +1,12 @@
 //! What a question's linear program says of the question.
 
-ghost use Rattle.linear_forms.specs.QuestionLaws.{SolutionsSolve, DualsRefute, RefutedHasNone, PricesBoundWeights, LeastWeighsLeast};
+ghost use Rattle.linear_forms.specs.QuestionLaws.{SolutionsSolve, DualsRefute, RefutedHasNone, PricesBoundWeights};
+ghost use Rattle.linear_forms.specs.QuestionLaws.{LeastWeighsLeast};
 ghost use Rattle.linear_forms.specs.QuestionValues.{QuestionValues};
 ghost use Rattle.linear_forms.specs.RuleQuestionLaws.{RuleQuestionsAreShaped};
 
-/// A solution of a question's linear program gives parameters, and for each group multipliers by which its goal at these
-/// parameters follows from its rows.
+/// A solution of a question's linear program gives parameters, and for each group multipliers by which its goal at
+/// these parameters follows from its rows.
 pub fn solutions_solve()
     ensures { SolutionsSolve }
 {}
@@ -28,14 +29,14 @@ pub fn prices_bound_weights()
     ensures { PricesBoundWeights }
 {}
 
-/// The parameters of a solution of least cost weigh at most what any others weigh that make every goal at least 0 on all
-/// points of its group, by their sizes and, where these are the same, by their heights.
+/// The parameters of a solution of least cost weigh at most what any others weigh that make every goal at least 0 on
+/// all points of its group, by their sizes and, where these are the same, by their heights.
 pub fn least_weighs_least()
     ensures { LeastWeighsLeast }
 {}
 
-/// Worked values of the questions that are asked of rules and of their linear programs: columns, equations and costs, with a
-/// solution or a dual, and numbers that are none.
+/// Worked values of the questions that are asked of rules and of their linear programs: columns, equations and costs,
+/// with a solution or a dual, and numbers that are none.
 pub fn questions_have_these_programs()
     ensures { QuestionValues }
 {}

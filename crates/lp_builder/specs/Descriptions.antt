@@ -1,5 +1,6 @@
 -- The question that groups, goals and costs as they are handed in stand for.
-use Rattle.std.specs.Prelude.{◌≡◌, ℕ, ◌+◌, ◌-◌, ◌^◌, ◌<◌, ◌≤◌, List, [], ◌∷◌, ◌++◌, map, length, replicate, slice_get, Some, unsigned_abs}
+use Rattle.std.specs.Prelude.{◌≡◌, ℕ, ◌+◌, ◌-◌, ◌^◌, ◌<◌, ◌≤◌, List, [], ◌∷◌, ◌++◌, map, length, replicate, slice_get}
+use Rattle.std.specs.Prelude.{Some, unsigned_abs}
 use Rattle.std.specs.List.{All}
 use Rattle.linear_forms.specs.Forms.{Form}
 use Rattle.linear_forms.specs.Combinations.{zero_form}

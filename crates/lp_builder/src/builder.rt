@@ -41,8 +41,8 @@ impl Builder {
         }
     }
 
-    /// Writes a group: what is to follow from the rows is the sum of the goals, each as often as its parameter says, and
-    /// the fixed form. Error: memory ran out; what is written is then open.
+    /// Writes a group: what is to follow from the rows is the sum of the goals, each as often as its parameter says,
+    /// and the fixed form. Error: memory ran out; what is written is then open.
     pub fn add_group(
         &mut self,
         unknowns: u32,

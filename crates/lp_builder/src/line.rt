@@ -1,6 +1,7 @@
 //! The numbers of one line of a group.
 
-ghost use Rattle.std.specs.Prelude.{◌≡◌, ℕ, ◌+◌, ◌*◌, ◌<◌, ◌^◌, ◌++◌, [], ◌∷◌, pos, negsuc, neg_ℤ, unsigned_abs, map, length, replicate, IfOk};
+ghost use Rattle.std.specs.Prelude.{◌≡◌, ℕ, ◌+◌, ◌*◌, ◌<◌, ◌^◌, ◌++◌, [], ◌∷◌, pos, negsuc, neg_ℤ, unsigned_abs, map};
+ghost use Rattle.std.specs.Prelude.{length, replicate, IfOk};
 ghost use Rattle.std.specs.List.{All};
 ghost use Rattle.linear_forms.specs.Forms.{at};
 ghost use Rattle.linear_forms.specs.Questions.{number, slack, signed};
@@ -122,7 +123,9 @@ pub(crate) fn put_line(
     requires rows_writable { All (λ r. IsWritable line.unknowns (form_of r)) rows.now }
     ensures { IfOk result (λ _. Writes sheet.old sheet.new
         (signed (map (number line.unknowns line.number) (goal_forms 0 parameters goals.now))
-        ++ (replicate before (pos 0) ++ (map (λ r. neg_ℤ (number line.unknowns line.number r)) (map form_of rows.now) ++ (slack line.unknowns line.number ∷ []))))) }
+        ++ (replicate before (pos 0)
+        ++ (map (λ r. neg_ℤ (number line.unknowns line.number r)) (map form_of rows.now)
+        ++ (slack line.unknowns line.number ∷ []))))) }
 {
     put_goals(sheet, line, parameters, goals)?;
     sheet.skip(before);

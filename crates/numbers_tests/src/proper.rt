@@ -21,7 +21,8 @@ fn are_inside(entries: &[Entry], rows: u32, cols: u32) -> bool
 // Whether none of the first numbers stands in the cell of this one.
 fn is_new(entries: &[Entry], before: usize, entry: Entry) -> bool
     requires { before < length entries.now }
-    ensures { IsTrue result → (k : ℕ) (d : Entry) → k < before → slice_get entries.now k ≡ Some d → d.row ≡ entry.row → d.col ≢ entry.col }
+    ensures { IsTrue result → (k : ℕ) (d : Entry) → k < before → slice_get entries.now k ≡ Some d → d.row ≡ entry.row
+        → d.col ≢ entry.col }
 {
     for position in 0..before {
         if entries[position].row == entry.row && entries[position].col == entry.col {
@@ -33,7 +34,8 @@ fn is_new(entries: &[Entry], before: usize, entry: Entry) -> bool
 
 // Whether no cell has two numbers.
 fn are_apart(entries: &[Entry]) -> bool
-    ensures { IsTrue result → (k l : ℕ) (d e : Entry) → k < l → slice_get entries.now k ≡ Some d → slice_get entries.now l ≡ Some e → d.row ≡ e.row → d.col ≢ e.col }
+    ensures { IsTrue result → (k l : ℕ) (d e : Entry) → k < l → slice_get entries.now k ≡ Some d
+        → slice_get entries.now l ≡ Some e → d.row ≡ e.row → d.col ≢ e.col }
 {
     for position in 0..entries.len() {
         if !is_new(entries, position, entries[position]) {

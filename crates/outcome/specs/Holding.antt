@@ -24,8 +24,8 @@ abbrev pub place_entry : Option (List Size) → ℕ → Option Size
 place_entry None i = None
 place_entry (Some sizes) i = numbered_entry sizes i
 
--- every bound that the report gives holds on all runs of the program: each rule occurs at most as often as its time says,
--- a run has at most as many steps as the total says, and the value at a place after a rule is at most its size
+-- every bound that the report gives holds on all runs of the program: each rule occurs at most as often as its time
+-- says, a run has at most as many steps as the total says, and the value at a place after a rule is at most its size
 pub record ReportHolds (p : Program) (r : Report) : Type 0 where
   pub times : (t : ℕ) (b : Bound) → numbered_entry r.times t ≡ Some (Timed b) → HoldsTime p t b
   pub total : (b : Bound) → r.total ≡ Some b → HoldsTotal p b

@@ -16,7 +16,7 @@ use Rattle.model.specs.Polynomials.{Monomial, Polynomial, product_value, polynom
 use Rattle.linear_forms.specs.Forms.{Form, at, list_dot}
 use Rattle.poly_terms.specs.Expanding.{order}
 use Rattle.poly_terms.specs.Ordered.{IsBefore, IsAscending}
-use Rattle.poly_terms.specs.Rows.{coefficient, linear_form, with_coefficient, AreBelow, HasVariablesBelow, HasValueOf}
+use Rattle.poly_terms.specs.Rows.{coefficient, linear_form, with_coefficient, AreVariablesBelow, HasVariablesBelow, HasValueOf}
 use Rattle.poly_terms.proofs.OrderLaws.{order-back}
 
 -- the order of a list and itself
@@ -80,7 +80,7 @@ degree-more ms k n d l a b = subst (λ (j : ℕ). degree_of (take j ms) ≤ n) (
     next (m ∷ ms) (suc k) l a b = omega (arith, next ms k (omega arith) (omega arith) b)
 
 -- the variables of a monomial are below the width
-pub below-at : (w : ℕ) (ms : Polynomial) (k : ℕ) (d : Monomial) → HasVariablesBelow w ms → k < length ms → AreBelow w (get_or ms k d).vars
+pub below-at : (w : ℕ) (ms : Polynomial) (k : ℕ) (d : Monomial) → HasVariablesBelow w ms → k < length ms → AreVariablesBelow w (get_or ms k d).vars
 below-at w [] k d h l = absurd (omega arith)
 below-at w (m ∷ ms) zero d h l = h.0
 below-at w (m ∷ ms) (suc k) d h l = below-at w ms k d h.1 (omega arith)
@@ -149,8 +149,8 @@ form-of-more w ms k m f a b l e s h = go m.vars refl
     low : degree_of (take (k + 1) ms) ≤ 1
     low = degree-more ms k 1 m l h.degree (subst (λ (n : Monomial). length n.vars ≤ 1) (sym e) s)
 
-    below : AreBelow w m.vars
-    below = subst (λ (n : Monomial). AreBelow w n.vars) e (below-at w ms k m b l)
+    below : AreVariablesBelow w m.vars
+    below = subst (λ (n : Monomial). AreVariablesBelow w n.vars) e (below-at w ms k m b l)
 
     alone : (z : ℤ) → z ≡ pos 0 +ℤ z
     alone z = omega (arith, ints)
@@ -191,7 +191,7 @@ form-of-more w ms k m f a b l e s h = go m.vars refl
         one = v ∙ ap (λ (vs : List ℕ). j ∷ vs) nothing
 
         inside : j < length f.coefs
-        inside = omega (arith, (subst (AreBelow w) v below).0, h.width)
+        inside = omega (arith, (subst (AreVariablesBelow w) v below).0, h.width)
 
         at_position : (i : ℕ) → i < w → (i ≡ j) ⊎ (i ≢ j) → get_or (set f.coefs j m.coef) i (pos 0) ≡ coefficient (i ∷ []) (take (k + 1) ms)
         at_position i n (inl p) =
@@ -292,6 +292,6 @@ linear_form-value w p b d = record { each = λ env. whole p env b d }
             ap (λ (vs : List ℕ). list_dot (map (λ (i : ℕ). if is_eq (order (i ∷ []) vs) then m.coef +ℤ coefficient (i ∷ []) p else coefficient (i ∷ []) p) (range_with_len 0 w)) (at env)
             +ℤ (if is_eq (order [] vs) then m.coef +ℤ coefficient [] p else coefficient [] p) *ℤ pos 1) v
             ∙ (linear m.coef (coefficient [] p) (at env j) _ _ _
-            (dot-one 0 w j j m.coef (λ (i : ℕ). coefficient (i ∷ []) p) (at env) (omega arith) (subst (AreBelow w) v b.0).0) ih
+            (dot-one 0 w j j m.coef (λ (i : ℕ). coefficient (i ∷ []) p) (at env) (omega arith) (subst (AreVariablesBelow w) v b.0).0) ih
             ∙ sym (ap (λ (vs : List ℕ). m.coef *ℤ product_value vs env +ℤ polynomial_value p env) v))
         go (j ∷ k ∷ vs) v ih = absurd (omega (arith, d, ap length v))

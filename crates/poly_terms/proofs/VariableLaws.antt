@@ -14,24 +14,24 @@ use Rattle.model.specs.Polynomials.{Monomial, Polynomial}
 use Rattle.poly_terms.specs.Checked.{ReadsBelow}
 use Rattle.poly_terms.specs.Expanding.{order, added, all_added, without_zeros, opposite, inserted, all_inserted, multiplied, products, power_of, expanded}
 use Rattle.poly_terms.specs.Ordered.{IsBefore, IsAscending, IsBounded}
-use Rattle.poly_terms.specs.Rows.{coefficient, AreBelow, HasVariablesBelow}
+use Rattle.poly_terms.specs.Rows.{coefficient, AreVariablesBelow, HasVariablesBelow}
 use Rattle.poly_terms.proofs.OrderLaws.{before-all}
 
 -- a variable more
-below-inserted : (n v : ℕ) (vs : List ℕ) → v < n → AreBelow n vs → AreBelow n (inserted v vs)
+below-inserted : (n v : ℕ) (vs : List ℕ) → v < n → AreVariablesBelow n vs → AreVariablesBelow n (inserted v vs)
 below-inserted n v [] l h = (l, tt)
 below-inserted n v (w ∷ ws) l h = go (nat_lt w v) (below-inserted n v ws l h.1)
   where
-    go : (b : Bool) → AreBelow n (inserted v ws) → AreBelow n (if b then w ∷ inserted v ws else v ∷ w ∷ ws)
+    go : (b : Bool) → AreVariablesBelow n (inserted v ws) → AreVariablesBelow n (if b then w ∷ inserted v ws else v ∷ w ∷ ws)
     go true ih = (h.0, ih)
     go false ih = (l, (h.0, h.1))
 
-below-all_inserted : (n : ℕ) (vs ws : List ℕ) → AreBelow n vs → AreBelow n ws → AreBelow n (all_inserted vs ws)
+below-all_inserted : (n : ℕ) (vs ws : List ℕ) → AreVariablesBelow n vs → AreVariablesBelow n ws → AreVariablesBelow n (all_inserted vs ws)
 below-all_inserted n vs [] h k = h
 below-all_inserted n vs (w ∷ ws) h k = below-all_inserted n (inserted w vs) ws (below-inserted n w vs k.0 h) k.1
 
 -- a monomial more
-below-added : (n : ℕ) (m : Monomial) (ts : Polynomial) → AreBelow n m.vars → HasVariablesBelow n ts → HasVariablesBelow n (added m ts)
+below-added : (n : ℕ) (m : Monomial) (ts : Polynomial) → AreVariablesBelow n m.vars → HasVariablesBelow n ts → HasVariablesBelow n (added m ts)
 below-added n m [] a h = (a, h)
 below-added n m (t ∷ ts) a h = go (order m.vars t.vars) (below-added n m ts a h.1)
   where
@@ -60,7 +60,7 @@ below-opposite : (n : ℕ) (p : Polynomial) → HasVariablesBelow n p → HasVar
 below-opposite n [] h = h
 below-opposite n (m ∷ p) h = (h.0, below-opposite n p h.1)
 
-below-row : (n : ℕ) (m : Monomial) (q : Polynomial) → AreBelow n m.vars → HasVariablesBelow n q → HasVariablesBelow n (map (multiplied m) q)
+below-row : (n : ℕ) (m : Monomial) (q : Polynomial) → AreVariablesBelow n m.vars → HasVariablesBelow n q → HasVariablesBelow n (map (multiplied m) q)
 below-row n m [] a h = tt
 below-row n m (k ∷ q) a h = (below-all_inserted n m.vars k.vars a h.0, below-row n m q a h.1)
 
@@ -89,7 +89,7 @@ variables-expanded n (Multiplication d e) h =
 variables-expanded n (Exponentiation e k) h = below-power n (expanded e) k (variables-expanded n e h)
 
 -- variables below a number are below a greater one
-below-more : (n k : ℕ) (vs : List ℕ) → n ≤ k → AreBelow n vs → AreBelow k vs
+below-more : (n k : ℕ) (vs : List ℕ) → n ≤ k → AreVariablesBelow n vs → AreVariablesBelow k vs
 below-more n k [] l h = h
 below-more n k (v ∷ vs) l h = (omega (arith, h.0), below-more n k vs l h.1)
 

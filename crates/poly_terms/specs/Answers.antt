@@ -3,7 +3,8 @@ use Rattle.std.specs.Prelude.{◌≡◌, ⊤, Option, Some, None, Result, MatchR
 use Rattle.model.specs.Polynomials.{Polynomial}
 use Rattle.poly_terms.specs.declared.poly.Poly.{Poly}
 use Rattle.poly_terms.specs.declared.poly_error.PolyError.{PolyError}
-use Rattle.poly_terms.specs.declared.poly_error.PolyError.TheVariants.{CoefTooLarge, TooManyTerms, DegreeTooHigh, Memory}
+use Rattle.poly_terms.specs.declared.poly_error.PolyError.TheVariants.{CoefTooLarge, TooManyTerms, DegreeTooHigh}
+use Rattle.poly_terms.specs.declared.poly_error.PolyError.TheVariants.{Memory}
 use Rattle.poly_terms.specs.Faults.{Fault, LargeCoefficient, ManyTerms, HighDegree, has_large}
 use Rattle.poly_terms.specs.Views.{poly_of}
 

@@ -1,6 +1,7 @@
 -- Values that stay within 128 bits.
 use Rattle.std.specs.Prelude.{ℕ, Bool, ◌&&◌, ◌<◌, if◌then◌else◌, nat_lt, List, ℤ, pos, negsuc, Option, Some, None, ⊤}
-use Rattle.model.specs.Terms.{Term, Literal, Variable, Negation, Addition, Subtraction, Multiplication, Exponentiation, value}
+use Rattle.model.specs.Terms.{Term, Literal, Variable, Negation, Addition, Subtraction, Multiplication, Exponentiation}
+use Rattle.model.specs.Terms.{value}
 
 -- an integer is one of 128 bits: from -2^127 to 2^127 - 1
 abbrev pub fits : ℤ → Bool

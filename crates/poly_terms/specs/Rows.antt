@@ -20,14 +20,14 @@ linear_form width p = record {
 }
 
 -- each number is below n
-abbrev pub AreBelow : ℕ → List ℕ → Type 0
-AreBelow n [] = ⊤
-AreBelow n (v ∷ vs) = (v < n) × AreBelow n vs
+abbrev pub AreVariablesBelow : ℕ → List ℕ → Type 0
+AreVariablesBelow n [] = ⊤
+AreVariablesBelow n (v ∷ vs) = (v < n) × AreVariablesBelow n vs
 
 -- each variable of a polynomial is below n
 abbrev pub HasVariablesBelow : ℕ → Polynomial → Type 0
 HasVariablesBelow n [] = ⊤
-HasVariablesBelow n (m ∷ ms) = AreBelow n m.vars × HasVariablesBelow n ms
+HasVariablesBelow n (m ∷ ms) = AreVariablesBelow n m.vars × HasVariablesBelow n ms
 
 -- the form has the value of the polynomial wherever each variable has the value env[i]
 pub record HasValueOf (p : Polynomial) (f : Form) : Type 0 where

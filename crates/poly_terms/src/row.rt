@@ -3,7 +3,8 @@
 ghost use Rattle.std.specs.Prelude.{◌≡◌, ◌≤◌, length, IfOk, IfSome, MatchOption};
 ghost use Rattle.model.specs.Polynomials.{degree_of};
 ghost use Rattle.poly_terms.specs.Ordered.{IsAscending};
-ghost use Rattle.poly_terms.specs.Rows.{linear_form, with_coefficient, AreBelow, HasVariablesBelow, HasValueOf};
+ghost use Rattle.poly_terms.specs.Rows.{linear_form, with_coefficient, AreVariablesBelow, HasVariablesBelow};
+ghost use Rattle.poly_terms.specs.Rows.{HasValueOf};
 ghost use Rattle.poly_terms.specs.Views.{poly_of, form_of};
 
 use crate::Memory;
@@ -43,7 +44,7 @@ impl Poly {
 // Puts the coefficient of a monomial of degree at most 1 into a row.
 fn put(row: &mut Row, m: &Monomial)
     requires linear { length m.now.vars.items ≤ 1 }
-    requires in_range { AreBelow (length row.old.coefs.items) m.now.vars.items }
+    requires in_range { AreVariablesBelow (length row.old.coefs.items) m.now.vars.items }
     ensures { form_of row.new ≡ with_coefficient (form_of row.old) m.now.vars.items m.now.coef }
 {
     match m.vars.as_slice() {

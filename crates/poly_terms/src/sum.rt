@@ -1,6 +1,7 @@
 // Sums of polynomials.
 
-ghost use Rattle.std.specs.Prelude.{◌≡◌, ◌≢◌, ◌+◌, ◌<◌, ◌≤◌, ◌^◌, nat_abs, length, true, false, slice_index_or, IfOk, OnOk};
+ghost use Rattle.std.specs.Prelude.{◌≡◌, ◌≢◌, ◌+◌, ◌<◌, ◌≤◌, ◌^◌, nat_abs, length, true, false, slice_index_or, IfOk};
+ghost use Rattle.std.specs.Prelude.{OnOk};
 ghost use Rattle.poly_terms.specs.declared.poly.Monomial.{Monomial};
 ghost use Rattle.std.specs.Ordering.{is_lt};
 ghost use Rattle.poly_terms.specs.Expanding.{order, added, sum_of};

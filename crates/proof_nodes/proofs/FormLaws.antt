@@ -4,9 +4,10 @@ use Rattle.std.specs.Prelude.{ℤ, pos, negsuc, ◌+ℤ◌, ◌-ℤ◌, ◌*ℤ�
 use Rattle.std.proofs.lemmas.Int.{ints}
 use Rattle.int_laws.proofs.RingLaws.{mul-zero_ℤ, mul_comm_ℤ}
 use Rattle.linear_forms.specs.Forms.{Form, at, list_dot, form_value}
-use Rattle.linear_forms.specs.Combinations.{form_times, combination}
+use Rattle.linear_forms.specs.Combinations.{form_times, combination, less}
 use Rattle.linear_forms.proofs.CombinationLaws.{form_value-sum, form_value-times, form_value-combination}
-use Rattle.proof_nodes.specs.Combined.{number_form, form_at, after_rule, less}
+use Rattle.proof_nodes.specs.Combined.{form_at, after_rule}
+use Rattle.linear_forms.specs.RuleQuestions.{constant_form}
 
 -- unknowns that agree where there are coefficients
 pub dot-same : (xs : List ℤ) (z w : ℕ → ℤ) → ((i : ℕ) → i < length xs → z i ≡ w i) → list_dot xs z ≡ list_dot xs w
@@ -27,7 +28,7 @@ dot-zeros (x ∷ xs) z h = both _ _ (mul-zero_ℤ x (z 0) (h 0)) (dot-zeros xs (
     both a b e f = omega (arith, ints)
 
 -- the value of a number
-pub value-number : (k : ℤ) (z : ℕ → ℤ) (d : ℤ) → form_value (number_form k) z d ≡ k *ℤ d
+pub value-number : (k : ℤ) (z : ℕ → ℤ) (d : ℤ) → form_value (constant_form k) z d ≡ k *ℤ d
 value-number k z d = plus _
   where
     plus : (v : ℤ) → pos 0 +ℤ v ≡ v
@@ -62,7 +63,7 @@ dot-turned (f ∷ fs) (c ∷ cs) z d = both _ _ _ _ (mul_comm_ℤ (form_value f 
 pub value-after : (f : Form) (news : List Form) (z : ℕ → ℤ) (d : ℤ)
     → form_value (after_rule f news) z d ≡ form_value f (λ i. form_value (form_at news i) z d) d
 value-after f news z d =
-    regroup _ _ _ _ _ (form_value-sum (combination news (at f.coefs)) (number_form f.constant) z d)
+    regroup _ _ _ _ _ (form_value-sum (combination news (at f.coefs)) (constant_form f.constant) z d)
     (form_value-combination news (at f.coefs) z d ∙ dot-turned news f.coefs z d) (value-number f.constant z d)
   where
     regroup : (s a m b t : ℤ) → s ≡ a +ℤ m → a ≡ b → m ≡ t → s ≡ b +ℤ t

@@ -16,7 +16,9 @@ use Rattle.proof_nodes.specs.Nodes.{SymbolForm, RankNode}
 use Rattle.model.specs.Entries.{is_in, is_left_by, enters, entries}
 use Rattle.proof_nodes.specs.Numbers.{positive_part}
 use Rattle.model.specs.Paths.{source_of, target_of, same_symbol, entry_and_rules}
-use Rattle.proof_nodes.specs.Combined.{number_form, form_at, after_rule, less, loss}
+use Rattle.proof_nodes.specs.Combined.{form_at, after_rule, loss}
+use Rattle.linear_forms.specs.Combinations.{less}
+use Rattle.linear_forms.specs.RuleQuestions.{constant_form}
 use Rattle.proof_nodes.specs.Known.{known, Table}
 use Rattle.proof_nodes.specs.Setting.{Setting, StepPoint, IsFaithful}
 use Rattle.proof_nodes.specs.Composed.{rank_form, form_bound, no_place, sizes_after, entry_bound}
@@ -76,7 +78,7 @@ loses : (s : Setting) (t : ℕ) (b : Config) (free : List ℤ) (c : Config) (x :
     (k : ℤ) → length f.coefs ≤ length b.values
     → pos 0 ≤ℤ form_value (loss f g (s.news t) k) x.z (pos 1) → (value_at g c +ℤ k) ≤ℤ value_at f b
 loses s t b free c x f g k l h =
-    from _ _ _ _ _ _ (value-less (less f (after_rule g (s.news t))) (number_form k) x.z (pos 1))
+    from _ _ _ _ _ _ (value-less (less f (after_rule g (s.news t))) (constant_form k) x.z (pos 1))
     (value-less f (after_rule g (s.news t)) x.z (pos 1))
     (value-number k x.z (pos 1)) (value_before s t b free c x f l) (value_behind s t b free c x g) h
   where
@@ -87,9 +89,9 @@ loses s t b free c x f g k l h =
 -- what the floor's certificate says before a step
 floors : (s : Setting) (t : ℕ) (b : Config) (free : List ℤ) (c : Config) (x : StepPoint s t b free c) (f : Form)
     (k : ℤ) → length f.coefs ≤ length b.values
-    → pos 0 ≤ℤ form_value (less f (number_form k)) x.z (pos 1) → k ≤ℤ value_at f b
+    → pos 0 ≤ℤ form_value (less f (constant_form k)) x.z (pos 1) → k ≤ℤ value_at f b
 floors s t b free c x f k l h =
-    from _ _ _ (value-less f (number_form k) x.z (pos 1)) (value-number k x.z (pos 1))
+    from _ _ _ (value-less f (constant_form k) x.z (pos 1)) (value-number k x.z (pos 1))
     (value_before s t b free c x f l) h
   where
     from : (w n v : ℤ) → w ≡ v -ℤ n → n ≡ k *ℤ pos 1 → v ≡ value_at f b → pos 0 ≤ℤ w → k ≤ℤ value_at f b
@@ -216,14 +218,14 @@ module _ (s : Setting) (true_to : IsFaithful s) (table : Table) (good : IsGoodTa
   floor_by b step c x same =
       let point = true_to.steps b step c x in
       let certificate : Implies (s.rows step.rule) node.floor
-      (less (at_source s.program node step.rule) (number_form (pos node.den))) =
+      (less (at_source s.program node step.rule) (constant_form (pos node.den))) =
       subst (λ (t : ℕ). Implies (s.rows t) node.floor
-      (less (at_source s.program node t) (number_form (pos node.den)))) same h.floor in
+      (less (at_source s.program node t) (constant_form (pos node.den)))) same h.floor in
       let shown = implied_on_points (s.rows step.rule) node.floor
-      (less (at_source s.program node step.rule) (number_form (pos node.den))) certificate point.z (pos 1)
+      (less (at_source s.program node step.rule) (constant_form (pos node.den))) certificate point.z (pos 1)
       point.point in
       floors s step.rule b step.free c point (form_here b) (pos node.den) (fits_before b step c x)
-      (subst (λ (o : Option ℕ). pos 0 ≤ℤ form_value (less (rank_form node.forms o) (number_form (pos node.den)))
+      (subst (λ (o : Option ℕ). pos 0 ≤ℤ form_value (less (rank_form node.forms o) (constant_form (pos node.den)))
       point.z (pos 1)) (source-step s.program b step c x) shown)
 
   -- the level is at most the positive part of the function

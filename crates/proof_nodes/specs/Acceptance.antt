@@ -2,9 +2,11 @@
 use Rattle.std.specs.Prelude.{ℕ, zero, suc, List, [], ◌∷◌, ◌++◌, ⊤}
 use Rattle.model.specs.Bounds.{Constant}
 use Rattle.model.specs.Facts.{Fact, Time, Size}
-use Rattle.proof_nodes.specs.Nodes.{Proof, Cite, Start, Empty, Unreached, Never, Rank, Spread, Cycle, Weaken, Proofs, NoProof, AndProof}
+use Rattle.proof_nodes.specs.Nodes.{Proof, Cite, Start, Empty, Unreached, Never, Rank, Spread, Cycle, Weaken, Proofs}
+use Rattle.proof_nodes.specs.Nodes.{NoProof, AndProof}
 use Rattle.proof_nodes.specs.Known.{table_of}
-use Rattle.proof_nodes.specs.AcceptsPlain.{AcceptsCite, AcceptsEmpty, AcceptsUnreached, AcceptsNever, AcceptsWeaken, may_run, start_facts, never_facts, weakened}
+use Rattle.proof_nodes.specs.AcceptsPlain.{AcceptsCite, AcceptsEmpty, AcceptsUnreached, AcceptsNever, AcceptsWeaken}
+use Rattle.proof_nodes.specs.AcceptsPlain.{may_run, start_facts, never_facts, weakened}
 use Rattle.proof_nodes.specs.AcceptsRank.{AcceptsRank, rank_time}
 use Rattle.proof_nodes.specs.AcceptsSizes.{AcceptsSpread, AcceptsCycle, spread_size, cycle_size, cycle_facts}
 use Rattle.proof_nodes.specs.Setting.{Setting}

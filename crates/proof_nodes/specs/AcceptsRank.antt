@@ -9,7 +9,9 @@ use Rattle.model.specs.Entries.{is_in, IsEntry}
 use Rattle.proof_nodes.specs.Numbers.{IsAscending}
 use Rattle.model.specs.Paths.{source_of, target_of}
 use Rattle.proof_nodes.specs.Graph.{symbols_of}
-use Rattle.proof_nodes.specs.Combined.{number_form, less, loss}
+use Rattle.proof_nodes.specs.Combined.{loss}
+use Rattle.linear_forms.specs.Combinations.{less}
+use Rattle.linear_forms.specs.RuleQuestions.{constant_form}
 use Rattle.proof_nodes.specs.Known.{IsKnown, Table}
 use Rattle.proof_nodes.specs.Composed.{rank_form, time_of}
 use Rattle.proof_nodes.specs.Limits.{IsInLimit, IsFormInLimit, IsSmallComposed}
@@ -61,7 +63,7 @@ Loses s node t = Implies (s.rows t) (moves_of node.set node.moves t)
 -- the rows of the strict rule imply that the function is at least the denominator before it
 abbrev pub HasFloor : Setting → RankNode → Type 0
 HasFloor s node = Implies (s.rows node.rule) node.floor
-    (less (at_source s.program node node.rule) (number_form (pos node.den)))
+    (less (at_source s.program node node.rule) (constant_form (pos node.den)))
 
 -- the time that the node composes
 abbrev pub rank_time : Setting → RankNode → Table → Bound

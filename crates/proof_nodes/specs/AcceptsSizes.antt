@@ -1,5 +1,6 @@
 -- When local bounds, spreads and loops are accepted.
-use Rattle.std.specs.Prelude.{◌≡◌, ℕ, suc, ◌-◌, ◌≤◌, ◌<◌, ◌⊎◌, ◌||◌, true, false, List, [], ◌∷◌, length, pos, neg_ℤ, Option, Some, None, ⊤}
+use Rattle.std.specs.Prelude.{◌≡◌, ℕ, suc, ◌-◌, ◌≤◌, ◌<◌, ◌⊎◌, ◌||◌, true, false, List, [], ◌∷◌, length, pos, neg_ℤ}
+use Rattle.std.specs.Prelude.{Option, Some, None, ⊤}
 use Rattle.std.specs.List.{All}
 use Rattle.model.specs.Programs.{Program, Rule, rule_at, arity_of}
 use Rattle.model.specs.Bounds.{Bound}
@@ -13,7 +14,8 @@ use Rattle.model.specs.Entries.{is_in}
 use Rattle.model.specs.Paths.{pre}
 use Rattle.proof_nodes.specs.Combined.{form_at}
 use Rattle.proof_nodes.specs.Known.{IsKnown, Table}
-use Rattle.proof_nodes.specs.ComposedSizes.{poly_at, reads, spread_of, is_member, rules_of, flows, multiplies, adds, cycle_of}
+use Rattle.proof_nodes.specs.ComposedSizes.{poly_at, reads, spread_of, is_member, rules_of, flows, multiplies, adds}
+use Rattle.proof_nodes.specs.ComposedSizes.{cycle_of}
 use Rattle.proof_nodes.specs.Limits.{IsInLimit, IsFormInLimit, IsSmallComposed}
 use Rattle.proof_nodes.specs.AcceptsPlain.{AreMultipliers}
 use Rattle.proof_nodes.specs.Setting.{Setting}

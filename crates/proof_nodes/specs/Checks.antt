@@ -8,17 +8,22 @@ use Rattle.int_laws.specs.NormalForm.{is_zero}
 use Rattle.bound_expr.specs.Measure.{is_large, told_nodes}
 use Rattle.linear_forms.specs.Forms.{at}
 use Rattle.linear_forms.specs.Certificates.{Implies, minus_one}
-use Rattle.proof_nodes.specs.Nodes.{Spot, Arm, Member, RankNode, Proof, Cite, Start, Empty, Unreached, Never, Rank, Spread, Cycle, Weaken}
+use Rattle.proof_nodes.specs.Nodes.{Spot, Arm, Member, RankNode, Proof, Cite, Start, Empty, Unreached, Never, Rank}
+use Rattle.proof_nodes.specs.Nodes.{Spread, Cycle, Weaken}
 use Rattle.proof_nodes.specs.Known.{IsKnown, Table, table_of}
 use Rattle.proof_nodes.specs.Limits.{IsSmallComposed}
 use Rattle.model.specs.Entries.{entries}
 use Rattle.proof_nodes.specs.ComposedSizes.{poly_at, reads, is_member, rules_of, flows, multiplies, adds}
-use Rattle.proof_nodes.specs.AcceptsPlain.{IsRule, AcceptsCite, HasEmptyShape, IsUnreached, may_run, IsOneTime, IsZeroTime, HasWeakenShape, IsWeaker}
+use Rattle.proof_nodes.specs.AcceptsPlain.{IsRule, AcceptsCite, HasEmptyShape, IsUnreached, may_run, IsOneTime}
+use Rattle.proof_nodes.specs.AcceptsPlain.{IsZeroTime, HasWeakenShape, IsWeaker}
 use Rattle.proof_nodes.specs.AcceptsRank.{HasRankShape, Loses, HasFloor, at_target, rank_time}
-use Rattle.proof_nodes.specs.AcceptsSizes.{HasMemberShape, AcceptsUp, AcceptsLow, HasCycleShape, IsStraightArm, left_of, spread_size, cycle_size}
+use Rattle.proof_nodes.specs.AcceptsSizes.{HasMemberShape, AcceptsUp, AcceptsLow, HasCycleShape, IsStraightArm, left_of}
+use Rattle.proof_nodes.specs.AcceptsSizes.{spread_size, cycle_size}
 use Rattle.proof_nodes.specs.Acceptance.{facts_of, joined_facts}
 use Rattle.proof_nodes.specs.Setting.{Setting}
-use Rattle.proof_nodes.specs.Reasons.{Reason, Shape, NotEmpty, Reached, NotZero, Move, Floor, ArmUp, ArmLow, MissingTime, MissingSize, Bent, Large, NotWeaker, Check, check, for_each, IsFirstAmong}
+use Rattle.proof_nodes.specs.Reasons.{Reason, Shape, NotEmpty, Reached, NotZero, Move, Floor, ArmUp, ArmLow}
+use Rattle.proof_nodes.specs.Reasons.{MissingTime, MissingSize, Bent, Large, NotWeaker, Check, check, for_each}
+use Rattle.proof_nodes.specs.Reasons.{IsFirstAmong}
 
 -- the number of nodes of a composed bound that is large: before it is rewritten where it is large then, after it else
 abbrev pub large_nodes : (Bound → Bound) → Bound → ℕ

@@ -8,7 +8,7 @@ use Rattle.proof_nodes.specs.Nodes.{SymbolForm, RankNode}
 use Rattle.proof_nodes.specs.Numbers.{rounded_up, positive_part}
 use Rattle.model.specs.Paths.{target_of}
 use Rattle.model.specs.Entries.{entries}
-use Rattle.proof_nodes.specs.Combined.{number_form}
+use Rattle.linear_forms.specs.RuleQuestions.{constant_form}
 use Rattle.proof_nodes.specs.Known.{known}
 
 -- two parts
@@ -50,8 +50,8 @@ sizes_after size e j = known (size e (suc j))
 
 -- a ranking function's form at a symbol: the first one; where there is none, 0
 abbrev pub rank_form : List SymbolForm → Option ℕ → Form
-rank_form forms None = number_form (pos 0)
-rank_form [] (Some a) = number_form (pos 0)
+rank_form forms None = constant_form (pos 0)
+rank_form [] (Some a) = constant_form (pos 0)
 rank_form (f ∷ forms) (Some a) = cond (f.symbol == a) f.form (rank_form forms (Some a))
 
 -- how often entry e is taken, times the ranking function where it leads to

@@ -1,6 +1,7 @@
 -- The bounds on sizes that nodes compose: arms as bounds, the maximum over what can come before, and the formula of a
 -- loop.
-use Rattle.std.specs.Prelude.{ℕ, zero, suc, ◌+◌, ◌==◌, ◌&&◌, not, max, nat_lt, Bool, false, cond, List, [], ◌∷◌, ◌++◌, filter, ℤ, nat_abs, Option, Some, None}
+use Rattle.std.specs.Prelude.{ℕ, zero, suc, ◌+◌, ◌==◌, ◌&&◌, not, max, nat_lt, Bool, false, cond, List, [], ◌∷◌, ◌++◌}
+use Rattle.std.specs.Prelude.{filter, ℤ, nat_abs, Option, Some, None}
 use Rattle.std.specs.List.{list_any}
 use Rattle.int_laws.specs.NormalForm.{is_zero}
 use Rattle.model.specs.Bounds.{Bound, Constant, SumOf, ProductOf, MaximumOf, PowerOf, Parts, NoParts, Part}

@@ -2,7 +2,8 @@
 use Rattle.std.specs.Prelude.{◌≡◌, ℕ, List, [], ◌∷◌, ℤ, pos, negsuc, Option, Some}
 use Rattle.model.specs.Bounds.{Bound, Constant, Input, SumOf, ProductOf, MaximumOf, PowerOf, Parts, NoParts, Part, val}
 use Rattle.model.specs.Facts.{Fact, Time, Size}
-use Rattle.proof_nodes.specs.Nodes.{Arm, Linear, Member, SymbolForm, RankNode, Proof, Cite, Start, Empty, Unreached, Never, Rank, Spread, Cycle, Weaken, Proofs, NoProof, AndProof}
+use Rattle.proof_nodes.specs.Nodes.{Arm, Linear, Member, SymbolForm, RankNode, Proof, Cite, Start, Empty, Unreached}
+use Rattle.proof_nodes.specs.Nodes.{Never, Rank, Spread, Cycle, Weaken, Proofs, NoProof, AndProof}
 use Rattle.model.specs.Paths.{pre}
 use Rattle.model.specs.Entries.{entries}
 use Rattle.proof_nodes.specs.Composed.{both_parts, time_of}

@@ -3,7 +3,8 @@ use Rattle.std.specs.Prelude.{ℕ, zero, suc, [], ◌∷◌, pos}
 use Rattle.model.specs.Bounds.{Bound, Constant, Input, PowerOf}
 use Rattle.proof_nodes.specs.Nodes.{Member, Cite, Start, Unreached, Never, Spread, Cycle, Weaken, NoProof, AndProof}
 use Rattle.proof_nodes.specs.Setting.{Setting}
-use Rattle.proof_nodes.specs.Reasons.{Shape, NotEmpty, Reached, NotZero, Move, Floor, ArmUp, ArmLow, MissingTime, MissingSize, Bent, Large, NotWeaker}
+use Rattle.proof_nodes.specs.Reasons.{Shape, NotEmpty, Reached, NotZero, Move, Floor, ArmUp, ArmLow, MissingTime}
+use Rattle.proof_nodes.specs.Reasons.{MissingSize, Bent, Large, NotWeaker}
 use Rattle.proof_nodes.specs.Checks.{IsFirstReason}
 use Rattle.proof_nodes.specs.WorkedSettings.{counting, stuck, counting_rows, counting_news, no_poly, zero_below}
 use Rattle.proof_nodes.specs.Worked.{arm, only, once, down, down_alone, empty_loop, first_fact, first_and_size}

@@ -1,5 +1,6 @@
 -- Small programs with their rows, worked out by hand, over which acceptance is tried.
-use Rattle.std.specs.Prelude.{ℕ, zero, suc, Bool, true, false, cond, ◌&&◌, ◌||◌, List, [], ◌∷◌, ℤ, pos, negsuc, Option, None}
+use Rattle.std.specs.Prelude.{ℕ, zero, suc, Bool, true, false, cond, ◌&&◌, ◌||◌, List, [], ◌∷◌, ℤ, pos, negsuc, Option}
+use Rattle.std.specs.Prelude.{None}
 use Rattle.model.specs.Terms.{Term, Literal, Variable, Subtraction, Multiplication}
 use Rattle.model.specs.Programs.{AtLeast, Atom, Compare, Symbol, Rule, Program}
 use Rattle.model.specs.Polynomials.{Polynomial}

@@ -9,7 +9,8 @@ use Rattle.proof_nodes.specs.Known.{table_of}
 use Rattle.proof_nodes.specs.Setting.{Setting}
 use Rattle.proof_nodes.specs.AcceptsSizes.{HasSizesAfter}
 use Rattle.proof_nodes.specs.Acceptance.{Accepts}
-use Rattle.proof_nodes.specs.WorkedSettings.{rule_over, program_with, no_rows, folded, zero_below, counting, counting_news, doubling}
+use Rattle.proof_nodes.specs.WorkedSettings.{rule_over, program_with, no_rows, folded, zero_below, counting}
+use Rattle.proof_nodes.specs.WorkedSettings.{counting_news, doubling}
 use Rattle.proof_nodes.specs.Worked.{arm, only, down, entered_member, looped_member, doubled}
 
 -- A * A as a polynomial

@@ -7,7 +7,8 @@ ghost use Rattle.proof_nodes.specs.Paying.{EntriesPay};
 ghost use Rattle.proof_nodes.specs.Feeding.{LoopsGrow};
 ghost use Rattle.proof_nodes.specs.Laws.{AcceptedFactsHold, AcceptedBoundsAreBased};
 ghost use Rattle.proof_nodes.specs.ReasonLaws.{FirstReasonsAreInLine};
-ghost use Rattle.proof_nodes.specs.Worked.{CountingIsFaithful, FourLemmasAreAccepted, MistakesAreRefused, PlainNodesAreJudged, FormulasAreWhole};
+ghost use Rattle.proof_nodes.specs.Worked.{CountingIsFaithful, FourLemmasAreAccepted, MistakesAreRefused};
+ghost use Rattle.proof_nodes.specs.Worked.{PlainNodesAreJudged, FormulasAreWhole};
 ghost use Rattle.proof_nodes.specs.WorkedSizes.{SizeNodesAreJudged};
 ghost use Rattle.proof_nodes.specs.WorkedReasons.{ReasonsAreToldInOrder};
 

@@ -1,6 +1,7 @@
 // What settings say, and what it is worth.
 
-ghost use Rattle.proof_setting.specs.Laws.{SettingsAreFaithful, AcceptedFactsHold, PolynomialsAreBent, SmallBoundsAreRewritten};
+ghost use Rattle.proof_setting.specs.Laws.{SettingsAreFaithful, AcceptedFactsHold, PolynomialsAreBent};
+ghost use Rattle.proof_setting.specs.Laws.{SmallBoundsAreRewritten};
 ghost use Rattle.proof_setting.specs.Worked.{SettingsAreAsWorkedOut};
 
 /// The setting of a valid program says what is true of it. It has no code, as all functions here: its contract is the

@@ -9,14 +9,14 @@ use Rattle.int_laws.specs.Polynomial.{variable, constant, ◌⊕◌, ◌⊗◌, 
 use Rattle.int_laws.proofs.Identities.{identity}
 use Rattle.linear_forms.specs.Forms.{Form, at, list_dot}
 use Rattle.linear_forms.specs.Certificates.{minus_one}
-use Rattle.linear_forms.specs.Combinations.{form_sum, form_times, zero_form, combination}
+use Rattle.linear_forms.specs.Combinations.{form_sum, form_times, zero_form, combination, less}
 use Rattle.linear_forms.specs.Questions.{goal_at, listed}
 use Rattle.linear_forms.specs.RuleQuestions.{RuleForms, RankedSet, Coefficient, constant_form, opposite, at_source, at_target, symbols_of_set, open_places, coefficients, move_group, floor_group}
 use Rattle.linear_forms.proofs.CombinationLaws.{at-sum, at-times}
 use Rattle.linear_forms.proofs.SolutionLaws.{length-map}
 use Rattle.rule_forms.specs.Kinds.{AreSame}
 use Rattle.rule_forms.specs.Ranking.{at_news}
-use Rattle.rule_forms.specs.RankLaws.{coefficient, function_of, less, loss}
+use Rattle.rule_forms.specs.RankLaws.{coefficient, function_of, loss}
 use Rattle.rule_forms.proofs.Forms.{at-listed, at-past}
 use Rattle.rule_forms.proofs.Combined.{at-combination, constant-combination}
 use Rattle.rule_forms.proofs.Totals.{dot-agree}

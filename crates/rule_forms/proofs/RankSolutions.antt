@@ -9,7 +9,7 @@ use Rattle.int_laws.proofs.OrderLaws.{mul-nonneg_ℤ}
 use Rattle.linear_forms.specs.Forms.{Form, form_value}
 use Rattle.linear_forms.specs.Points.{IsPoint}
 use Rattle.linear_forms.specs.Certificates.{Implies, minus_one}
-use Rattle.linear_forms.specs.Combinations.{form_sum, zero_form}
+use Rattle.linear_forms.specs.Combinations.{form_sum, zero_form, less}
 use Rattle.linear_forms.specs.LinearProgram.{IsSolution}
 use Rattle.linear_forms.specs.Questions.{IsShaped, IsGroupShaped, program_of_question}
 use Rattle.linear_forms.specs.QuestionLaws.{parameters_of, multipliers_by_group, Follows}
@@ -18,7 +18,7 @@ use Rattle.linear_forms.proofs.SolutionLaws.{length-map, solution-solves}
 use Rattle.linear_forms.proofs.CombinationLaws.{form_value-sum, form_value-times}
 use Rattle.linear_forms.proofs.CertificateLaws.{implied_on_points}
 use Rattle.rule_forms.specs.Ranking.{Function, at_news, Loses, Ranks}
-use Rattle.rule_forms.specs.RankLaws.{IsRuleOf, IsSetOf, function_of, less, loss, AreShown, rank_multipliers}
+use Rattle.rule_forms.specs.RankLaws.{IsRuleOf, IsSetOf, function_of, loss, AreShown, rank_multipliers}
 use Rattle.rule_forms.proofs.Forms.{implies-same}
 use Rattle.rule_forms.proofs.Shapes.{argument_length, sum_length}
 use Rattle.rule_forms.proofs.RankGoals.{coefficients_of, IsPlaced, are-placed, move-same, floor-same}

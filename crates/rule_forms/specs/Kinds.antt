@@ -1,5 +1,6 @@
 -- The kinds of forms that are looked for as a bound on a new value, and the order in which they are.
-use Rattle.std.specs.Prelude.{◌≡◌, ℕ, ◌≤◌, ◌==◌, not, Bool, if◌then◌else◌, List, [], ◌∷◌, ◌++◌, filter, ℤ, pos, negsuc, ◌*ℤ◌}
+use Rattle.std.specs.Prelude.{◌≡◌, ℕ, ◌≤◌, ◌==◌, not, Bool, if◌then◌else◌, List, [], ◌∷◌, ◌++◌, filter, ℤ, pos, negsuc}
+use Rattle.std.specs.Prelude.{◌*ℤ◌}
 use Rattle.std.specs.List.{range_with_len}
 use Rattle.linear_forms.specs.Forms.{Form, at}
 use Rattle.linear_forms.specs.Combinations.{form_times}

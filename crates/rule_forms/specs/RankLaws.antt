@@ -1,13 +1,15 @@
 -- What the linear program of a rank question says of functions.
-use Rattle.std.specs.Prelude.{◌≡◌, ℕ, suc, ◌≤◌, ◌<◌, ◌&&◌, nat_eq, if◌then◌else◌, List, [], ◌∷◌, length, slice_index_or, ℤ, pos, ◌+ℤ◌, nat_abs}
+use Rattle.std.specs.Prelude.{◌≡◌, ℕ, suc, ◌≤◌, ◌<◌, ◌&&◌, nat_eq, if◌then◌else◌, List, [], ◌∷◌, length, slice_index_or}
+use Rattle.std.specs.Prelude.{ℤ, pos, ◌+ℤ◌, nat_abs}
 use Rattle.std.specs.List.{All}
 use Rattle.linear_forms.specs.Forms.{Form}
 use Rattle.linear_forms.specs.Certificates.{Implies}
-use Rattle.linear_forms.specs.Combinations.{form_sum}
+use Rattle.linear_forms.specs.Combinations.{less}
 use Rattle.linear_forms.specs.LinearProgram.{IsSolution, IsLeast, IsDual}
 use Rattle.linear_forms.specs.Questions.{listed, double, program_of_question}
 use Rattle.linear_forms.specs.QuestionLaws.{after, parameters_of, multipliers_by_group}
-use Rattle.linear_forms.specs.RuleQuestions.{RuleForms, RankedSet, Coefficient, constant_form, opposite, symbols_of_set, coefficients, rank_question}
+use Rattle.linear_forms.specs.RuleQuestions.{RuleForms, RankedSet, Coefficient, constant_form, symbols_of_set}
+use Rattle.linear_forms.specs.RuleQuestions.{coefficients, rank_question}
 use Rattle.rule_forms.specs.Laws.{HasPoint}
 use Rattle.rule_forms.specs.Ranking.{Function, at_news, Ranks, Fits, NoRank, IsLeastRank}
 
@@ -46,10 +48,6 @@ function_of b v s =
       coefs = listed (b.arity s) (λ j. coefficient (coefficients b (symbols_of_set b)) v s (suc j));
       constant = coefficient (coefficients b (symbols_of_set b)) v s 0;
     }
-
--- a form less another
-abbrev pub less : Form → Form → Form
-less f g = form_sum f (opposite g)
 
 -- what a function loses by a rule, less k
 abbrev pub loss : Function → RuleForms → ℤ → Form

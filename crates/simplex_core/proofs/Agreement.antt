@@ -20,7 +20,7 @@ use Rattle.linear_forms.specs.ProgramLaws.{Agree}
 use Rattle.linear_forms.proofs.ProgramLaws.{agree-solutions, agree-least, agree-duals}
 use Rattle.simplex_core.specs.Tableau.{Tableau, cost_row, artificial, sign_of, equation, cost, first_reduced_cost, first_tableau}
 use Rattle.simplex_core.specs.Bland.{next_of, tableau_at}
-use Rattle.simplex_core.specs.Outcome.{IsReached, IsAnswer, EndsOptimally, EndsInfeasibly, TripsRange, TripsBudget}
+use Rattle.simplex_core.specs.Outcome.{ComesAfter, IsAnswer, EndsOptimally, EndsInfeasibly, TripsRange, TripsBudget}
 use Rattle.simplex_core.specs.Trips.{Trips, TripsSolution, TripsDual, IsWholeAnswer, cause_of}
 
 -- functions with the same values are the same
@@ -103,7 +103,7 @@ module _ (p : LinearProgram) (e : ℕ → ℕ → ℤ) (r f s : ℕ → ℤ) (a 
   tableaux-same (suc k) = ap (λ (o : Option Tableau). next_of p o) (tableaux-same k)
 
   -- the same tableau is reached
-  reached-same : (k : ℕ) (t : Tableau) → IsReached p k t → IsReached other k t
+  reached-same : (k : ℕ) (t : Tableau) → ComesAfter p k t → ComesAfter other k t
   reached-same k t h = record {
     is = sym (tableaux-same k) ∙ h.is;
     before = λ i u l is. record { each = (h.before i u l (tableaux-same i ∙ is)).each };

@@ -9,7 +9,7 @@ use Rattle.int_laws.proofs.Identities.{identity_by_one}
 use Rattle.linear_forms.specs.LinearProgram.{LinearProgram}
 use Rattle.simplex_core.specs.Tableau.{Tableau, unknowns, cost_row}
 use Rattle.simplex_core.specs.Bland.{is_infeasible, entering, dual_of}
-use Rattle.simplex_core.specs.Outcome.{IsReached, IsInRange, IsBasicValue, HoldsPoint, EndsOptimally, EndsInfeasibly}
+use Rattle.simplex_core.specs.Outcome.{ComesAfter, IsInRange, IsBasicValue, HoldsPoint, EndsOptimally, EndsInfeasibly}
 use Rattle.simplex_core.specs.TableClauses.{HoldsBasicSolution, HoldsBasis}
 use Rattle.simplex_core.proofs.Invariant.{IsTableauOf}
 use Rattle.simplex_core.proofs.Points.{CommonScale, common_scale, point-zero}
@@ -42,7 +42,7 @@ number-holds p t s j f h (inr none) = both_zero f.num (basic_point p t s j) none
         base a b = omega (arith, ints)
 
 -- the end as optimal
-pub optimum-ends : (p : LinearProgram) (t : Tableau) (allowed k : ℕ) (at : List Frac) (basis : List ℕ) → IsReached p k t → k ≤ allowed → IsInRange p t → is_infeasible p t ≡ false
+pub optimum-ends : (p : LinearProgram) (t : Tableau) (allowed k : ℕ) (at : List Frac) (basis : List ℕ) → ComesAfter p k t → k ≤ allowed → IsInRange p t → is_infeasible p t ≡ false
     → entering p t ≡ None → HoldsBasicSolution p t at → HoldsBasis p t basis → EndsOptimally p allowed at basis k
 optimum-ends p t allowed k at basis reached within range feasible done holds solved = record {
   within = within;
@@ -68,7 +68,7 @@ optimum-ends p t allowed k at basis reached within range feasible done holds sol
     s = common_scale p.rows t.scale (λ i m. h.positive i (omega arith))
 
 -- the end as infeasible
-pub infeasibility-ends : (p : LinearProgram) (t : Tableau) (allowed k : ℕ) (dual : List Frac) → IsReached p k t → k ≤ allowed → IsInRange p t → is_infeasible p t ≡ true
+pub infeasibility-ends : (p : LinearProgram) (t : Tableau) (allowed k : ℕ) (dual : List Frac) → ComesAfter p k t → k ≤ allowed → IsInRange p t → is_infeasible p t ≡ true
     → HoldsPoint p.rows dual (dual_of p t) (t.scale (cost_row p 0)) → EndsInfeasibly p allowed dual k
 infeasibility-ends p t allowed k dual reached within range ends holds = record {
   within = within;

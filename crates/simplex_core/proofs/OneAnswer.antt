@@ -17,7 +17,7 @@ use Rattle.linear_forms.specs.LinearProgram.{LinearProgram}
 use Rattle.simplex_core.specs.Tableau.{Tableau, unknowns, cost_row}
 use Rattle.simplex_core.specs.Bland.{dual_of, is_infeasible, entering, step_in, next, next_of, tableau_at}
 use Rattle.simplex_core.specs.Problem.{table_size, widest}
-use Rattle.simplex_core.specs.Outcome.{IsReached, IsInRange, IsBasicValue, HoldsPoint, EndsOptimally, EndsInfeasibly, TripsRange, TripsBudget, IsEnd, IsStop, IsAnswer}
+use Rattle.simplex_core.specs.Outcome.{ComesAfter, IsInRange, IsBasicValue, HoldsPoint, EndsOptimally, EndsInfeasibly, TripsRange, TripsBudget, IsEnd, IsStop, IsAnswer}
 use Rattle.simplex_core.specs.Agreement.{AreSameFractions, IsMemory, IsSameAnswer}
 use Rattle.simplex_core.proofs.Invariant.{IsTableauOf, same_or_other}
 use Rattle.simplex_core.proofs.SequenceLaws.{tableau_at-is_tableau}
@@ -25,7 +25,7 @@ use Rattle.simplex_core.proofs.SequenceLaws.{tableau_at-is_tableau}
 -- the sequence isn't followed past this tableau: it is out of range, nothing follows, or the allowed pivots are made
 pub record Stops (p : LinearProgram) (allowed k : ℕ) (t : Tableau) : Type 0 where
   pub within : k ≤ allowed
-  pub reached : IsReached p k t
+  pub reached : ComesAfter p k t
   pub last : IsInRange p t → (next p t ≡ None) ⊎ (k ≡ allowed)
 
 -- where a later tableau is there, something follows

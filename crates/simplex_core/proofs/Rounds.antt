@@ -4,7 +4,7 @@ use Rattle.std.specs.Prelude.{pos, if◌then◌else◌}
 use Rattle.linear_forms.specs.LinearProgram.{LinearProgram, HasNonnegativeCosts}
 use Rattle.simplex_core.specs.Tableau.{Tableau, pivot}
 use Rattle.simplex_core.specs.Bland.{is_infeasible, entering, leaving, IsBest, is_candidate, step_in, pivot_at, next, next_of, tableau_at}
-use Rattle.simplex_core.specs.Outcome.{IsReached, IsInRange, TripsBudget}
+use Rattle.simplex_core.specs.Outcome.{ComesAfter, IsInRange, TripsBudget}
 use Rattle.simplex_core.proofs.Searches.{last_or_before}
 use Rattle.simplex_core.proofs.Choices.{lt-int_lt}
 use Rattle.simplex_core.proofs.Rays.{has_candidate}
@@ -25,7 +25,7 @@ pub record Candidate (p : LinearProgram) (t : Tableau) (c : ℕ) : Type 0 where
   pub candidate : is_candidate t c row ≡ true
 
 -- the entering column has a candidate
-pub entering-candidate : (p : LinearProgram) (t : Tableau) (k c : ℕ) → HasNonnegativeCosts p → IsReached p k t → entering p t ≡ Some c → Candidate p t c
+pub entering-candidate : (p : LinearProgram) (t : Tableau) (k c : ℕ) → HasNonnegativeCosts p → ComesAfter p k t → entering p t ≡ Some c → Candidate p t c
 entering-candidate p t k c costs reached enters =
     let h = tableau_at-is_tableau p k t reached.is in
     let e = entering-enters p t c enters in
@@ -33,15 +33,15 @@ entering-candidate p t k c costs reached enters =
     record { column = e.column; row = found.0; within = found.1; candidate = lt-int_lt (pos 0) (t.entry found.0 c) found.2 }
 
 -- the allowed pivots are made, and another is needed
-pub budget-trips : (p : LinearProgram) (t : Tableau) (k c : ℕ) → HasNonnegativeCosts p → IsReached p k t → IsInRange p t → is_infeasible p t ≡ false → entering p t ≡ Some c
+pub budget-trips : (p : LinearProgram) (t : Tableau) (k c : ℕ) → HasNonnegativeCosts p → ComesAfter p k t → IsInRange p t → is_infeasible p t ≡ false → entering p t ≡ Some c
     → TripsBudget p k
 budget-trips p t k c costs reached range feasible enters =
     let found = entering-leaving p t c costs (tableau_at-is_tableau p k t reached.is) enters in
     record { last = t; reached = reached; in_range = range; following = pivot t found.0 c; goes_on = next-some p t c found.0 feasible enters found.1 }
 
 -- a pivot at the best row leads to the next tableau
-pub advanced : (p : LinearProgram) (t : Tableau) (k c r : ℕ) → IsReached p k t → IsInRange p t → is_infeasible p t ≡ false → entering p t ≡ Some c → IsBest p t c p.rows r
-    → IsReached p (k + 1) (pivot t r c)
+pub advanced : (p : LinearProgram) (t : Tableau) (k c r : ℕ) → ComesAfter p k t → IsInRange p t → is_infeasible p t ≡ false → entering p t ≡ Some c → IsBest p t c p.rows r
+    → ComesAfter p (k + 1) (pivot t r c)
 advanced p t k c r reached range feasible enters best = record {
   is = rw (add-one k) (ap (λ (o : Option Tableau). next_of p o) reached.is ∙ next-some p t c r feasible enters leaves);
   before = λ i u l is. go i u (last_or_before k i (omega arith)) is;

@@ -1,5 +1,6 @@
 -- Bland's choice of the pivot, and the sequence of tableaux.
-use Rattle.std.specs.Prelude.{◌≡◌, ◌<◌, ℕ, zero, suc, ℤ, pos, ◌-ℤ◌, ◌*ℤ◌, int_lt, nat_lt, nat_le, Bool, true, false, not, ◌&&◌, ◌||◌, if◌then◌else◌, Option, Some, None}
+use Rattle.std.specs.Prelude.{◌≡◌, ◌<◌, ℕ, zero, suc, ℤ, pos, ◌-ℤ◌, ◌*ℤ◌, int_lt, nat_lt, nat_le, Bool, true, false}
+use Rattle.std.specs.Prelude.{not, ◌&&◌, ◌||◌, if◌then◌else◌, Option, Some, None}
 use Rattle.int_laws.specs.NormalForm.{is_zero}
 use Rattle.linear_forms.specs.LinearProgram.{LinearProgram}
 use Rattle.simplex_core.specs.Search.{every, some, or_else, least}

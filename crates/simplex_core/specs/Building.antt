@@ -1,5 +1,6 @@
 -- The table while it is being filled: whole numbers that are known.
-use Rattle.std.specs.Prelude.{◌≡◌, ℕ, zero, suc, ◌+◌, ◌-◌, ◌<◌, ◌^◌, ℤ, pos, ◌-ℤ◌, ◌*ℤ◌, unsigned_abs, nat_lt, nat_eq, if◌then◌else◌, List, Some, slice_index_or}
+use Rattle.std.specs.Prelude.{◌≡◌, ℕ, zero, suc, ◌+◌, ◌-◌, ◌<◌, ◌^◌, ℤ, pos, ◌-ℤ◌, ◌*ℤ◌, unsigned_abs, nat_lt, nat_eq}
+use Rattle.std.specs.Prelude.{if◌then◌else◌, List, Some, slice_index_or}
 use Rattle.int_laws.specs.Sums.{sum_to}
 use Rattle.frac128.specs.declared.frac.Frac.{Frac}
 use Rattle.simplex_core.specs.declared.dense_table.DenseTable.{DenseTable}

@@ -1,5 +1,6 @@
 -- How the code's table of fractions shows a tableau.
-use Rattle.std.specs.Prelude.{◌≡◌, ◌≢◌, ℕ, ◌+◌, ◌*◌, ◌<◌, ℤ, pos, ◌-ℤ◌, ◌*ℤ◌, ◌<ℤ◌, List, Option, Some, None, false, slice_get, slice_index, slice_index_or, slice_set, length, ◌⊎◌, MatchBool}
+use Rattle.std.specs.Prelude.{◌≡◌, ◌≢◌, ℕ, ◌+◌, ◌*◌, ◌<◌, ℤ, pos, ◌-ℤ◌, ◌*ℤ◌, ◌<ℤ◌, List, Option, Some, None, false}
+use Rattle.std.specs.Prelude.{slice_get, slice_index, slice_index_or, slice_set, length, ◌⊎◌, MatchBool}
 use Rattle.frac128.specs.declared.frac.Frac.{Frac}
 use Rattle.frac128.specs.Fraction.{IsFraction}
 use Rattle.simplex_core.specs.declared.dense_table.DenseTable.{DenseTable}

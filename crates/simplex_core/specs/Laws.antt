@@ -5,7 +5,8 @@ use Rattle.frac128.specs.declared.frac.Frac.{Frac}
 use Rattle.int_laws.specs.Sums.{sum_to}
 use Rattle.simplex_core.specs.declared.problem.Solved.{Solved}
 use Rattle.simplex_core.specs.declared.problem.Solved.TheVariants.{Optimal, Infeasible}
-use Rattle.linear_forms.specs.LinearProgram.{LinearProgram, IsSolution, IsLeast, IsDual, HasSolution, CostsAtMost, CostsTheSame}
+use Rattle.linear_forms.specs.LinearProgram.{LinearProgram, IsSolution, IsLeast, IsDual, HasSolution, CostsAtMost}
+use Rattle.linear_forms.specs.LinearProgram.{CostsTheSame}
 use Rattle.simplex_core.specs.Tableau.{Tableau, artificial, unknowns}
 use Rattle.simplex_core.specs.Bland.{has_artificial, tableau_at}
 use Rattle.simplex_core.specs.Outcome.{IsAnswer}

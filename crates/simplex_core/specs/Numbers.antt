@@ -1,10 +1,11 @@
 -- The numbers and the cells of a problem.
-use Rattle.std.specs.Prelude.{◌≡◌, ◌≢◌, ℕ, ◌<◌, ◌≤◌, ◌^◌, ℤ, pos, unsigned_abs, List, Some, slice_get, slice_index_or, length}
+use Rattle.std.specs.Prelude.{◌≡◌, ◌≢◌, ℕ, ◌<◌, ◌≤◌, ◌^◌, ℤ, pos, unsigned_abs, List, Some, slice_get, slice_index_or}
+use Rattle.std.specs.Prelude.{length}
 use Rattle.simplex_core.specs.declared.problem.Entry.{Entry}
 use Rattle.simplex_core.specs.declared.problem.Problem.{Problem}
 
 -- each of the numbers is below 2^31 in absolute value
-pub record AreBelow (numbers : List ℤ) : Type 0 where
+pub record AreNumbersSmall (numbers : List ℤ) : Type 0 where
   pub each : (k : ℕ) → k < length numbers → unsigned_abs (slice_index_or numbers k (pos 0)) < 2 ^ 31
 
 -- one of the numbers is 2^31 or more in absolute value
@@ -33,6 +34,6 @@ pub record AreInCells (rows columns : ℕ) (entries : List Entry) : Type 0 where
 -- the numbers of a problem are below 2^31 in absolute value
 pub record HasSmallNumbers (q : Problem) : Type 0 where
   pub entries : AreEntriesBelow q.entries.items
-  pub right : AreBelow q.right.items
-  pub first : AreBelow q.first.items
-  pub second : AreBelow q.second.items
+  pub right : AreNumbersSmall q.right.items
+  pub first : AreNumbersSmall q.first.items
+  pub second : AreNumbersSmall q.second.items

@@ -1,5 +1,6 @@
 -- What `solve` answers: the end of the sequence of tableaux, or the limit that it trips.
-use Rattle.std.specs.Prelude.{◌≡◌, ℕ, ◌^◌, ◌<◌, ◌≤◌, ℤ, pos, ◌*ℤ◌, ◌<ℤ◌, unsigned_abs, List, length, slice_get, slice_index, Some, None, false, true, Result, MatchResult, ◌≢◌, ◌⊎◌}
+use Rattle.std.specs.Prelude.{◌≡◌, ℕ, ◌^◌, ◌<◌, ◌≤◌, ℤ, pos, ◌*ℤ◌, ◌<ℤ◌, unsigned_abs, List, length, slice_get}
+use Rattle.std.specs.Prelude.{slice_index, Some, None, false, true, Result, MatchResult, ◌≢◌, ◌⊎◌}
 use Rattle.frac128.specs.declared.frac.Frac.{Frac}
 use Rattle.frac128.specs.Fraction.{IsFraction}
 use Rattle.frac128.specs.Lowest.{IsLowest}
@@ -23,7 +24,7 @@ pub record IsInRange (p : LinearProgram) (t : Tableau) : Type 0 where
   pub each : (i j : ℕ) → InTable p.rows p.columns i j → IsSmallRatio (t.entry i j) (t.scale i)
 
 -- after k pivots the tableau is t, and each one before was in range
-pub record IsReached (p : LinearProgram) (k : ℕ) (t : Tableau) : Type 0 where
+pub record ComesAfter (p : LinearProgram) (k : ℕ) (t : Tableau) : Type 0 where
   pub is : tableau_at p k ≡ Some t
   pub before : (i : ℕ) (u : Tableau) → i < k → tableau_at p i ≡ Some u → IsInRange p u
 
@@ -44,7 +45,7 @@ IsBasicValue p t j f =
 pub record EndsOptimally (p : LinearProgram) (allowed : ℕ) (at : List Frac) (basis : List ℕ) (k : ℕ) : Type 0 where
   pub within : k ≤ allowed
   pub last : Tableau
-  pub reached : IsReached p k last
+  pub reached : ComesAfter p k last
   pub in_range : IsInRange p last
   pub feasible : is_infeasible p last ≡ false
   pub done : entering p last ≡ None
@@ -62,7 +63,7 @@ pub record EndsOptimally (p : LinearProgram) (allowed : ℕ) (at : List Frac) (b
 pub record EndsInfeasibly (p : LinearProgram) (allowed : ℕ) (dual : List Frac) (k : ℕ) : Type 0 where
   pub within : k ≤ allowed
   pub last : Tableau
-  pub reached : IsReached p k last
+  pub reached : ComesAfter p k last
   pub in_range : IsInRange p last
   pub infeasible : is_infeasible p last ≡ true
   pub read : HoldsPoint p.rows dual (dual_of p last) (last.scale (cost_row p 0))
@@ -76,13 +77,13 @@ pub record EndsInfeasibly (p : LinearProgram) (allowed : ℕ) (dual : List Frac)
 pub record TripsRange (p : LinearProgram) (allowed k : ℕ) : Type 0 where
   pub within : k ≤ allowed
   pub last : Tableau
-  pub reached : IsReached p k last
+  pub reached : ComesAfter p k last
   pub out : ¬ IsInRange p last
 
 -- the allowed pivots are made, and the sequence goes on
 pub record TripsBudget (p : LinearProgram) (allowed : ℕ) : Type 0 where
   pub last : Tableau
-  pub reached : IsReached p allowed last
+  pub reached : ComesAfter p allowed last
   pub in_range : IsInRange p last
   pub following : Tableau
   pub goes_on : next p last ≡ Some following

@@ -1,5 +1,6 @@
 -- The linear program that a problem as handed in stands for.
-use Rattle.std.specs.Prelude.{◌≡◌, ◌≢◌, ℕ, ◌^◌, ◌<◌, ◌*◌, ◌+◌, ℤ, pos, nat_eq, ◌&&◌, if◌then◌else◌, List, [], ◌∷◌, length, slice_get, slice_index_or, Some}
+use Rattle.std.specs.Prelude.{◌≡◌, ◌≢◌, ℕ, ◌^◌, ◌<◌, ◌*◌, ◌+◌, ℤ, pos, nat_eq, ◌&&◌, if◌then◌else◌, List, [], ◌∷◌}
+use Rattle.std.specs.Prelude.{length, slice_get, slice_index_or, Some}
 use Rattle.simplex_core.specs.declared.problem.Problem.{Problem}
 use Rattle.simplex_core.specs.declared.problem.Entry.{Entry}
 use Rattle.linear_forms.specs.LinearProgram.{LinearProgram, HasNonnegativeCosts}

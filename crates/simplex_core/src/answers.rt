@@ -7,13 +7,8 @@ ghost use Rattle.simplex_core.specs.Trips.{IsWholeAnswer};
 use crate::problem::{Problem, SolveError, Solved};
 use crate::scaling::{Scaled, scale_by_least};
 use crate::solving::solve;
+use linear_forms::{CERTIFICATE_LIMIT, POINT_LIMIT};
 use std::alloc::{AllocError, Global};
-
-/// The limit of certificates: the most that a number of a scaled solution, or its denominator, may be.
-const SOLUTION_LIMIT: u64 = 1 << 55;
-
-/// The limit of points: the most that a number of a scaled dual may be.
-const DUAL_LIMIT: u64 = 1 << 45;
 
 /// What no denominator of a dual whose numbers are within their limit passes.
 const DUAL_DENOMINATOR_LIMIT: u128 = 1 << 76;
@@ -43,8 +38,9 @@ pub enum Answer {
 }
 
 /// Solves a linear program, and scales what it finds by the least common denominator. The condition is that of `solve`.
-/// `Scale` comes exactly where over no common denominator the numbers are small enough: at most 2^55 for those of a
-/// solution and its denominator, and at most 2^45 for those of a dual. Error: memory ran out.
+/// `Scale` comes exactly where over no common denominator the numbers are small enough: within the limit of
+/// certificates, 2^55, for those of a solution and its denominator, and within that of points, 2^45, for those of a
+/// dual. Error: memory ran out.
 pub fn solve_scaled(alloc: Global, problem: &Problem, pivots: u32) -> Result<Answer, AllocError>
     requires { IsProper problem.now }
     ensures { IfOk result (λ answer. IsWholeAnswer (program_of problem.now) pivots answer) }
@@ -54,15 +50,15 @@ pub fn solve_scaled(alloc: Global, problem: &Problem, pivots: u32) -> Result<Ans
             match scale_by_least(
                 alloc,
                 at.as_slice(),
-                u128::from(SOLUTION_LIMIT),
-                SOLUTION_LIMIT,
+                u128::from(CERTIFICATE_LIMIT),
+                CERTIFICATE_LIMIT,
             )? {
                 Some(solution) => Ok(Answer::Solution(solution)),
                 None => Ok(Answer::Tripped(Cause::Scale)),
             }
         }
         Ok(Solved::Infeasible { dual, .. }) => {
-            match scale_by_least(alloc, dual.as_slice(), DUAL_DENOMINATOR_LIMIT, DUAL_LIMIT)? {
+            match scale_by_least(alloc, dual.as_slice(), DUAL_DENOMINATOR_LIMIT, POINT_LIMIT)? {
                 Some(dual) => Ok(Answer::Dual(dual)),
                 None => Ok(Answer::Tripped(Cause::Scale)),
             }

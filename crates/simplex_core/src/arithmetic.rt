@@ -1,7 +1,8 @@
 //! The arithmetic of a pivot. The fractions of a tableau within the limit are below 2^31, so no
 //! number of a formula is beyond 127 bits.
 
-ghost use Rattle.std.specs.Prelude.{◌≡◌, ◌≢◌, ℕ, ◌^◌, ◌<◌, ℤ, pos, ◌-ℤ◌, ◌*ℤ◌, ◌<ℤ◌, negsuc, if◌then◌else◌, unsigned_abs, MatchBool};
+ghost use Rattle.std.specs.Prelude.{◌≡◌, ◌≢◌, ℕ, ◌^◌, ◌<◌, ℤ, pos, ◌-ℤ◌, ◌*ℤ◌, ◌<ℤ◌, negsuc, if◌then◌else◌};
+ghost use Rattle.std.specs.Prelude.{unsigned_abs, MatchBool};
 ghost use Rattle.frac128.specs.Fraction.{IsFraction};
 ghost use Rattle.simplex_core.specs.Tableau.{sign_of};
 ghost use Rattle.simplex_core.specs.Sizes.{IsBelow};

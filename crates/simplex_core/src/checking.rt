@@ -1,13 +1,13 @@
 //! Whether the numbers of a problem are below 2^31, before any sum is made of them.
 
 ghost use Rattle.std.specs.Prelude.{ℕ, MatchBool};
-ghost use Rattle.simplex_core.specs.Numbers.{AreBelow, IsOneAbove, AreEntriesBelow, IsOneEntryAbove};
+ghost use Rattle.simplex_core.specs.Numbers.{AreNumbersSmall, IsOneAbove, AreEntriesBelow, IsOneEntryAbove};
 
 use crate::problem::Entry;
 
 /// Whether each number is below 2^31 in absolute value.
 pub(crate) fn are_below(numbers: &[i128]) -> bool
-    ensures { MatchBool result (AreBelow numbers.now) (IsOneAbove numbers.now) }
+    ensures { MatchBool result (AreNumbersSmall numbers.now) (IsOneAbove numbers.now) }
 {
     for position in 0..numbers.len() {
         if numbers[position].unsigned_abs() >= 1 << 31 {

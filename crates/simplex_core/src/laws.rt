@@ -1,6 +1,7 @@
 //! Laws for callers: what a dual, prices and an answer of `solve` say of all solutions.
 
-ghost use Rattle.simplex_core.specs.Laws.{ArtificialSumsAreTold, DualExcludesSolutions, LeastCostsLeast, OutcomeTellsSolutions};
+ghost use Rattle.simplex_core.specs.Laws.{ArtificialSumsAreTold, DualExcludesSolutions, LeastCostsLeast};
+ghost use Rattle.simplex_core.specs.Laws.{OutcomeTellsSolutions};
 ghost use Rattle.simplex_core.specs.Agreement.{AnswersAreOne, AgreeingProgramsAnswerTheSame};
 ghost use Rattle.simplex_core.specs.Trips.{WholeAnswersAreOne};
 

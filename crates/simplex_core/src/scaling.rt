@@ -3,7 +3,8 @@
 ghost use Rattle.std.specs.Prelude.{◌≡◌, ℕ, ◌^◌, ◌*◌, ◌<◌, ◌≤◌, ℤ, pos, ◌*ℤ◌, unsigned_abs, length, MatchOption, IfOk};
 ghost use Rattle.std.specs.Int.{◌∣◌};
 ghost use Rattle.linear_forms.specs.Limits.{certificate_limit};
-ghost use Rattle.simplex_core.specs.Scaling.{IsLeastCommon, HasNoCommonWithin, AreOver, AreWithin, AreScaled, IsNumberOver, HasNoneScaled, HasNumberOver};
+ghost use Rattle.simplex_core.specs.Scaling.{IsLeastCommon, HasNoCommonWithin, AreOver, AreWithin, AreScaled};
+ghost use Rattle.simplex_core.specs.Scaling.{IsNumberOver, HasNoneScaled, HasNumberOver};
 
 use frac128::Frac;
 use int_laws::least_common_multiple;

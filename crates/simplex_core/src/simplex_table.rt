@@ -4,7 +4,8 @@ ghost use Rattle.std.specs.Prelude.{◌≡◌, ℕ, MatchBool, IfOk};
 ghost use Rattle.linear_forms.specs.LinearProgram.{LinearProgram};
 ghost use Rattle.simplex_core.specs.Tableau.{Tableau};
 ghost use Rattle.simplex_core.specs.Bland.{is_infeasible, entering};
-ghost use Rattle.simplex_core.specs.TableClauses.{ShowsInRange, ShowsOutOfRange, MayPivot, IsAdvanced, MayGiveDual, GivesSolution, GivesBasis, GivesDual};
+ghost use Rattle.simplex_core.specs.TableClauses.{ShowsInRange, ShowsOutOfRange, MayPivot, IsAdvanced, MayGiveDual};
+ghost use Rattle.simplex_core.specs.TableClauses.{GivesSolution, GivesBasis, GivesDual};
 
 use frac128::Frac;
 use std::alloc::{AllocError, Global};

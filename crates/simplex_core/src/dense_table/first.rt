@@ -5,7 +5,7 @@ ghost use Rattle.linear_forms.specs.LinearProgram.{LinearProgram};
 ghost use Rattle.simplex_core.specs.Tableau.{Tableau, first_tableau};
 ghost use Rattle.simplex_core.specs.Problem.{program_of, IsProper};
 ghost use Rattle.simplex_core.specs.Cells.{Shows, ShowsTested};
-ghost use Rattle.simplex_core.specs.Numbers.{AreBelow, AreEntriesBelow};
+ghost use Rattle.simplex_core.specs.Numbers.{AreNumbersSmall, AreEntriesBelow};
 
 use crate::dense_table::DenseTable;
 use crate::problem::Problem;
@@ -15,9 +15,9 @@ use std::alloc::{AllocError, Global};
 pub(crate) fn first_table(alloc: Global, problem: &Problem) -> Result<DenseTable, AllocError>
     requires proper { IsProper problem.now }
     requires entries { AreEntriesBelow problem.now.entries.items }
-    requires right { AreBelow problem.now.right.items }
-    requires first { AreBelow problem.now.first.items }
-    requires second { AreBelow problem.now.second.items }
+    requires right { AreNumbersSmall problem.now.right.items }
+    requires first { AreNumbersSmall problem.now.first.items }
+    requires second { AreNumbersSmall problem.now.second.items }
     ensures { IfOk result (λ table. Shows (program_of problem.now) table (first_tableau (program_of problem.now))) }
 {
     let mut table = DenseTable::zeros(alloc, problem.rows as usize, problem.cols as usize)?;

@@ -1,11 +1,13 @@
 //! The first tableau is written into a table of zeros.
 
-ghost use Rattle.std.specs.Prelude.{◌≡◌, ℕ, ◌+◌, ◌*◌, ◌<◌, ◌^◌, ℤ, pos, ◌*ℤ◌, List, length, IfOk, slice_index, slice_index_or, unsigned_abs};
+ghost use Rattle.std.specs.Prelude.{◌≡◌, ℕ, ◌+◌, ◌*◌, ◌<◌, ◌^◌, ℤ, pos, ◌*ℤ◌, List, length, IfOk, slice_index};
+ghost use Rattle.std.specs.Prelude.{slice_index_or, unsigned_abs};
 ghost use Rattle.int_laws.specs.Sums.{sum_to};
 ghost use Rattle.simplex_core.specs.Tableau.{sign_of};
 ghost use Rattle.simplex_core.specs.Cells.{width};
-ghost use Rattle.simplex_core.specs.Building.{HoldsWhole, WritesWhole, KeepsShape, signed_entries, with_equations, with_costs, HasSmallEquations, KeepsEquations};
-ghost use Rattle.simplex_core.specs.Numbers.{AreInCells, AreBelow, AreEntriesBelow};
+ghost use Rattle.simplex_core.specs.Building.{HoldsWhole, WritesWhole, KeepsShape, signed_entries, with_equations};
+ghost use Rattle.simplex_core.specs.Building.{with_costs, HasSmallEquations, KeepsEquations};
+ghost use Rattle.simplex_core.specs.Numbers.{AreInCells, AreNumbersSmall, AreEntriesBelow};
 
 use crate::arithmetic::signed;
 use crate::dense_table::DenseTable;
@@ -69,7 +71,7 @@ impl DenseTable {
     /// Writes the artificial unknown and the right side of each row.
     pub(super) fn write_rows(&mut self, right: &[i128])
         requires right { length right.now ≡ self.old.rows }
-        requires small { AreBelow right.now }
+        requires small { AreNumbersSmall right.now }
         ensures shape { KeepsShape self.old self.new }
         ensures whole { (g : ℕ → ℕ → ℤ) → HoldsWhole self.old g
             → HoldsWhole self.new (with_equations self.old.rows self.old.columns right.now g self.old.rows) }
@@ -96,9 +98,9 @@ impl DenseTable {
     pub(super) fn write_costs(&mut self, first: &[i128], second: &[i128])
         requires small { HasSmallEquations self.old }
         requires first { length first.now ≡ self.old.columns }
-        requires first_small { AreBelow first.now }
+        requires first_small { AreNumbersSmall first.now }
         requires second { length second.now ≡ self.old.columns }
-        requires second_small { AreBelow second.now }
+        requires second_small { AreNumbersSmall second.now }
         ensures shape { KeepsShape self.old self.new }
         ensures whole { (g : ℕ → ℕ → ℤ) → HoldsWhole self.old g
             → HoldsWhole self.new (with_costs self.old.rows g first.now second.now self.old.columns) }

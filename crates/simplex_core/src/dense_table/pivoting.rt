@@ -4,7 +4,9 @@ ghost use Rattle.std.specs.Prelude.{◌≡◌, ◌≢◌, ℕ, ◌+◌, ◌<◌,
 ghost use Rattle.frac128.specs.Fraction.{IsFraction};
 ghost use Rattle.frac128.specs.declared.frac.Frac.{Frac};
 ghost use Rattle.simplex_core.specs.Sizes.{IsBelow};
-ghost use Rattle.simplex_core.specs.Cells.{width, cell, ChangesCell, IsLessMultiple, AreSmall, ChangesRow, IsRowBelow, IsRowDivided, IsRowCleared, IsRowClearedBy, KeepsRow, IsPivoted, HasLarge, HasLargeIn, HasLargeBut, AreSmallBut, IsCellSmall, IsCellLarge};
+ghost use Rattle.simplex_core.specs.Cells.{width, cell, ChangesCell, IsLessMultiple, AreSmall, ChangesRow, IsRowBelow};
+ghost use Rattle.simplex_core.specs.Cells.{IsRowDivided, IsRowCleared, IsRowClearedBy, KeepsRow, IsPivoted, HasLarge};
+ghost use Rattle.simplex_core.specs.Cells.{HasLargeIn, HasLargeBut, AreSmallBut, IsCellSmall, IsCellLarge};
 
 use crate::arithmetic::{is_small, less_multiple, quotient};
 use crate::dense_table::DenseTable;

@@ -2,7 +2,7 @@ use Rattle.std.proofs.Common.{◌≡◌, ◌<◌, ◌≤◌, ◌+◌, ℕ, List,
 use Rattle.std.proofs.lemmas.List.{length-map}
 use Rattle.model.specs.Polynomials as plain
 use Rattle.poly_terms.specs.declared.poly.Monomial.{Monomial}
-use Rattle.poly_terms.specs.Rows.{AreBelow, HasValueOf}
+use Rattle.poly_terms.specs.Rows.{AreVariablesBelow, HasValueOf}
 use Rattle.poly_terms.specs.Views.{monomial_of, monomials_of, poly_of, form_of}
 use Rattle.poly_terms.proofs.RowLaws.{IsFormOf, form-of-more, form-of-all, degree-of-all, degree-at, below-at, linear_form-value}
 use Rattle.poly_terms.proofs.PositionLaws.{at-monomial}
@@ -28,8 +28,8 @@ put-requires-clause-in_range c =
     let ms = c.args.self.now.terms.items in
     let e = here ms c.deref-m-items.result.now c.loop-m.m-index c.m-item.result c.deref-m-items.ensures.value c.loop-m-test.true c.m-item.is in
     let l = within ms c.deref-m-items.result.now c.loop-m.m-index c.deref-m-items.ensures.value c.loop-m-test.true in
-    subst (λ (w : ℕ). AreBelow w c.m-item.result.vars.items) (sym c.loop-m.invariant.width)
-    (subst (λ (m : plain.Monomial). AreBelow c.args.width m.vars) e (below-at c.args.width (monomials_of ms) c.loop-m.m-index (monomial_of c.m-item.result) c.requires.in_range l))
+    subst (λ (w : ℕ). AreVariablesBelow w c.m-item.result.vars.items) (sym c.loop-m.invariant.width)
+    (subst (λ (m : plain.Monomial). AreVariablesBelow c.args.width m.vars) e (below-at c.args.width (monomials_of ms) c.loop-m.m-index (monomial_of c.m-item.result) c.requires.in_range l))
 
 pub loop-m-preserved : goal.loop-m-preserved
 loop-m-preserved c =
