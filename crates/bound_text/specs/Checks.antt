@@ -1,5 +1,6 @@
 -- Whether a piece can be taken.
-use Rattle.std.specs.Prelude.{ℕ, ◌^◌, Bool, true, false, if◌then◌else◌, not, ◌&&◌, ◌||◌, nat_lt, nat_le, List, [], ◌∷◌, Option, Some, None}
+use Rattle.std.specs.Prelude.{ℕ, ◌^◌, Bool, true, false, if◌then◌else◌, not, ◌&&◌, ◌||◌, nat_lt, nat_le, List, [], ◌∷◌}
+use Rattle.std.specs.Prelude.{Option, Some, None}
 use Rattle.model.specs.Bounds.{Bound, Constant, Input, Parts}
 use Rattle.bound_text.specs.Pieces.{Piece, Variable, Number, Caret}
 use Rattle.bound_text.specs.Fronts.{Front, Position, Begins, ItemRead, last, is_input, nodes_of, inner_levels}

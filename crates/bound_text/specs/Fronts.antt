@@ -1,5 +1,6 @@
 -- The part of a text that has been read, as the tree so far.
-use Rattle.std.specs.Prelude.{ℕ, ◌+◌, ◌≤◌, max, Bool, true, false, if◌then◌else◌, not, ◌&&◌, ◌==◌, List, ◌∷◌, ◌++◌, Option, Some, None, IsTrue, IsFalse, ⊤}
+use Rattle.std.specs.Prelude.{ℕ, ◌+◌, ◌≤◌, max, Bool, true, false, if◌then◌else◌, not, ◌&&◌, ◌==◌, List, ◌∷◌, ◌++◌}
+use Rattle.std.specs.Prelude.{Option, Some, None, IsTrue, IsFalse, ⊤}
 use Rattle.model.specs.Bounds.{Bound, Input, SumOf, ProductOf, Parts, NoParts, Part}
 use Rattle.bound_expr.specs.Measure.{node_count_of_all, maximum_depth}
 use Rattle.bound_expr.specs.Tidy.{IsNoSum, IsNoProduct, IsNoMaximum, EachPart}

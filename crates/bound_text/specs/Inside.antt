@@ -1,6 +1,7 @@
 -- Bounds inside another text: a part that is one level too deep is refused at its own first byte, though what makes it
 -- so deep may come later, as the `*` behind it does.
-use Rattle.std.specs.Prelude.{ℕ, suc, ◌+◌, Bool, true, false, if◌then◌else◌, nat_lt, List, [], ◌∷◌, ◌++◌, Option, Some, None}
+use Rattle.std.specs.Prelude.{ℕ, suc, ◌+◌, Bool, true, false, if◌then◌else◌, nat_lt, List, [], ◌∷◌, ◌++◌, Option, Some}
+use Rattle.std.specs.Prelude.{None}
 use Rattle.model.specs.Bounds.{Bound, Constant, Input, SumOf, ProductOf, MaximumOf, PowerOf, Parts, NoParts, Part}
 use Rattle.text_core.specs.Tokens.{Token, pieces}
 use Rattle.text_core.specs.Readers.{Fault, Reader, onto}
@@ -9,7 +10,9 @@ use Rattle.bound_text.specs.Shapes.{is_sum, is_leaf}
 use Rattle.bound_text.specs.Pieces.{Piece}
 use Rattle.bound_text.specs.Writing.{Before, Nothing, Run, Other, goes_on, run_with, plus_between, comma_between}
 use Rattle.bound_text.specs.Kinds.{Kind, Syntax, NumberTooLarge, UnknownName, TooDeep, TooLarge}
-use Rattle.bound_text.specs.Fronts.{Bracket, Arguments, Exponent, Factor, Outer, Whole, Inside, Position, Begins, RunCaret, PowerCaret, ItemRead, BlankRead, PlusRead, CommaRead, Front, sum_node, product_node_round, levels_above, sum_at, product_at}
+use Rattle.bound_text.specs.Fronts.{Bracket, Arguments, Exponent, Factor, Outer, Whole, Inside, Position, Begins}
+use Rattle.bound_text.specs.Fronts.{RunCaret, PowerCaret, ItemRead, BlankRead, PlusRead, CommaRead, Front, sum_node}
+use Rattle.bound_text.specs.Fronts.{product_node_round, levels_above, sum_at, product_at}
 use Rattle.bound_text.specs.Reading.{stands, bounds}
 
 -- a mark for each piece: the level of the part that begins with it, where one does. A sum and a product begin with

@@ -6,7 +6,8 @@ use Rattle.text_core.specs.Prefixes.{prefix, rest}
 use Rattle.text_core.specs.Names.{begins_name, continues_name, is_same, position_of}
 use Rattle.text_core.specs.Bytes.{begins_with, has_leading_zero, value_up_to}
 use Rattle.text_core.specs.Tokens.{Token, Lexeme, each_piece, tokens_of}
-use Rattle.bound_text.specs.Pieces.{Piece, Variable, Number, Maximum, Open, Close, Times, Caret, Plus, Blank, Comma, Wrong}
+use Rattle.bound_text.specs.Pieces.{Piece, Variable, Number, Maximum, Open, Close, Times, Caret, Plus, Blank, Comma}
+use Rattle.bound_text.specs.Pieces.{Wrong}
 
 -- a piece with the number of its bytes
 abbrev pub found : Piece → ℕ → Lexeme Piece

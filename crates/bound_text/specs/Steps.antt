@@ -5,7 +5,9 @@ pub use Rattle.text_core.specs.Choices.{when}
 use Rattle.text_core.specs.Readers as readers
 use Rattle.bound_text.specs.Shapes.{is_sum, is_maximum, is_leaf, is_empty, with_part}
 use Rattle.bound_text.specs.Pieces.{Piece, Variable, Number, Maximum, Open, Close, Times, Caret, Plus, Blank, Comma}
-use Rattle.bound_text.specs.Fronts.{Bracket, Arguments, Exponent, Factor, Outer, Whole, Inside, Position, Begins, RunCaret, PowerCaret, ItemRead, BlankRead, PlusRead, CommaRead, Front, last, init, is_input, term_of, bound_made, can_end, can_be_argument}
+use Rattle.bound_text.specs.Fronts.{Bracket, Arguments, Exponent, Factor, Outer, Whole, Inside, Position, Begins}
+use Rattle.bound_text.specs.Fronts.{RunCaret, PowerCaret, ItemRead, BlankRead, PlusRead, CommaRead, Front, last, init}
+use Rattle.bound_text.specs.Fronts.{is_input, term_of, bound_made, can_end, can_be_argument}
 
 -- n times variable i behind the factors
 abbrev pub with_copies : ℕ → ℕ → Parts → Parts

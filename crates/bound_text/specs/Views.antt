@@ -1,5 +1,6 @@
 -- What has been read of a text, as plain data.
-use Rattle.std.specs.Prelude.{◌≡◌, ℕ, if◌then◌else◌, Bool, true, false, not, Option, Some, None, Result, Ok, Err, ⊤, IsTrue}
+use Rattle.std.specs.Prelude.{◌≡◌, ℕ, if◌then◌else◌, Bool, true, false, not, Option, Some, None, Result, Ok, Err, ⊤}
+use Rattle.std.specs.Prelude.{IsTrue}
 use Rattle.model.specs.Bounds as bounds
 use Rattle.model.specs.Bounds.{Constant, Input, Parts}
 use Rattle.bound_expr.specs.declared.bound.Bound.{Bound}

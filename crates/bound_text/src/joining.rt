@@ -4,8 +4,10 @@ ghost use Rattle.std.specs.Prelude.{◌≡◌, IfOk, MatchOption, MatchResult, i
 ghost use Rattle.model.specs.Bounds as plain;
 ghost use Rattle.model.specs.Bounds.{Parts, ProductOf, SumOf, MaximumOf, PowerOf};
 ghost use Rattle.bound_expr.specs.Views.{bound_of};
-ghost use Rattle.bound_text.specs.Shapes.{is_sum as is_sum_bound, is_maximum as is_maximum_bound, is_leaf as is_leaf_bound, is_empty as has_none};
-ghost use Rattle.bound_text.specs.Fronts.{as_one, bound_made, can_end as terms_can_end, is_input, last, lone as lone_of, passes, product_node};
+ghost use Rattle.bound_text.specs.Shapes.{is_sum as is_sum_bound, is_maximum as is_maximum_bound};
+ghost use Rattle.bound_text.specs.Shapes.{is_leaf as is_leaf_bound, is_empty as has_none};
+ghost use Rattle.bound_text.specs.Fronts.{as_one, bound_made, can_end as terms_can_end, is_input, last};
+ghost use Rattle.bound_text.specs.Fronts.{lone as lone_of, passes, product_node};
 ghost use Rattle.bound_text.specs.Views.{parts_in};
 
 use crate::kinds::{is_leaf, is_maximum, is_sum, is_variable};

@@ -1,15 +1,18 @@
 // From a bound to its text.
 
-ghost use Rattle.std.specs.Prelude.{◌≡◌, ◌++◌, ◌∷◌, ◌+◌, ◌^◌, ◌<◌, ◌≤◌, length, map, not, IfOk, OnOk, IsTrue, IsFalse, MatchOption};
+ghost use Rattle.std.specs.Prelude.{◌≡◌, ◌++◌, ◌∷◌, ◌+◌, ◌^◌, ◌<◌, ◌≤◌, length, map, not, IfOk, OnOk, IsTrue, IsFalse};
+ghost use Rattle.std.specs.Prelude.{MatchOption};
 ghost use Rattle.text_core.specs.Names.{name_of};
 ghost use Rattle.bound_expr.specs.Views.{bound_of, bounds_of, parts_of};
 ghost use Rattle.bound_expr.specs.Substitution.{ReadsBelow, AllReadBelow};
 ghost use Rattle.bound_expr.specs.Tidy.{IsTidy};
 ghost use Rattle.bound_text.specs.Pieces.{spelled};
 ghost use Rattle.bound_text.specs.Writing as writing;
-ghost use Rattle.bound_text.specs.Writing.{text_then, joined_then, factors_then, bracketed_then, ended_then, times_then, goes_on, run_with, count_of};
+ghost use Rattle.bound_text.specs.Writing.{text_then, joined_then, factors_then, bracketed_then, ended_then};
+ghost use Rattle.bound_text.specs.Writing.{times_then, goes_on, run_with, count_of};
 ghost use Rattle.bound_text.specs.Texts.{IsText};
-ghost use Rattle.bound_text.specs.Printing.{piece_of, separator_of, before_of, IsListed, IsListedRun, WritesAll, WritesFactor};
+ghost use Rattle.bound_text.specs.Printing.{piece_of, separator_of, before_of, IsListed, IsListedRun, WritesAll};
+ghost use Rattle.bound_text.specs.Printing.{WritesFactor};
 
 use crate::kinds::{is_leaf, is_sum};
 use crate::piece::Piece;

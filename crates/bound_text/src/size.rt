@@ -2,9 +2,11 @@
 
 ghost use Rattle.std.specs.Prelude.{◌≡◌, ◌≤◌, ◌^◌, ◌-◌, min, IsTrue};
 ghost use Rattle.bound_text.specs.Fronts as fronts;
-ghost use Rattle.bound_text.specs.Fronts.{Outer, Inside, node_of_any as any_node, product_node as node_of_product, product_node_round, bracket_nodes, inner_levels, nodes_of};
+ghost use Rattle.bound_text.specs.Fronts.{Outer, Inside, node_of_any as any_node, product_node as node_of_product};
+ghost use Rattle.bound_text.specs.Fronts.{product_node_round, bracket_nodes, inner_levels, nodes_of};
 ghost use Rattle.bound_text.specs.Checks.{sized};
-ghost use Rattle.bound_text.specs.Views.{parts_in, bracket_of, outer_in, front_of, is_settled, sum_here, product_here, item_here, IsRound, Obeys};
+ghost use Rattle.bound_text.specs.Views.{parts_in, bracket_of, outer_in, front_of, is_settled, sum_here, product_here};
+ghost use Rattle.bound_text.specs.Views.{item_here, IsRound, Obeys};
 
 use crate::fault::Fault;
 use crate::joining::{is_empty, makes_product};
@@ -15,8 +17,8 @@ use bound_expr::{DEPTH_LIMIT, NODE_LIMIT};
 /// How many levels a bound may have.
 const MAX_LEVELS: u64 = DEPTH_LIMIT as u64;
 
-/// What stands round the innermost bound: its nodes, the levels above the bound, and whether the innermost bracket is that
-/// of a sum as a factor.
+/// What stands round the innermost bound: its nodes, the levels above the bound, and whether the innermost bracket is
+/// that of a sum as a factor.
 #[derive(Clone, Copy)]
 pub struct Round {
     pub nodes: u64,

@@ -1,8 +1,12 @@
 // Where each piece leads the reader.
 
 ghost use Rattle.std.specs.Prelude.{◌≡◌, ◌&&◌, ◌^◌, ◌<◌, IsTrue, IsFalse, OnOk, MatchResult};
-ghost use Rattle.bound_text.specs.Fronts.{last, init, can_be_argument as can_be_argument_of, in_arguments as in_arguments_of};
-ghost use Rattle.bound_text.specs.Steps.{step as step_of, begin_item as item_begun, begin_exponent as exponent_begun, follow_item as item_followed, caret_behind, close_bracket as bracket_closed, end_argument as argument_ended, inside, front_at, behind_factor, can_close as bracket_can_close, item_of};
+ghost use Rattle.bound_text.specs.Fronts.{last, init, can_be_argument as can_be_argument_of};
+ghost use Rattle.bound_text.specs.Fronts.{in_arguments as in_arguments_of};
+ghost use Rattle.bound_text.specs.Steps.{step as step_of, begin_item as item_begun, begin_exponent as exponent_begun};
+ghost use Rattle.bound_text.specs.Steps.{follow_item as item_followed, caret_behind, close_bracket as bracket_closed};
+ghost use Rattle.bound_text.specs.Steps.{end_argument as argument_ended, inside, front_at, behind_factor};
+ghost use Rattle.bound_text.specs.Steps.{can_close as bracket_can_close, item_of};
 ghost use Rattle.bound_text.specs.Fronts as fronts;
 ghost use Rattle.model.specs.Bounds.{Constant, Input, PowerOf, NoParts};
 ghost use Rattle.bound_text.specs.Shapes.{with_part};

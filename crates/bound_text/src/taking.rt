@@ -3,10 +3,13 @@
 ghost use Rattle.std.specs.Prelude.{◌≡◌, ◌&&◌, ◌<◌, ◌^◌, ◌≤◌, IsTrue, IsFalse, OnOk, false};
 ghost use Rattle.bound_text.specs.Fronts as fronts;
 ghost use Rattle.bound_text.specs.Fronts.{last};
-ghost use Rattle.bound_text.specs.Steps.{step as step_of, end_run as run_ended, finish as finish_of, finish_at, is_whole as is_whole_outer, with_copies};
+ghost use Rattle.bound_text.specs.Steps.{step as step_of, end_run as run_ended, finish as finish_of, finish_at};
+ghost use Rattle.bound_text.specs.Steps.{is_whole as is_whole_outer, with_copies};
 ghost use Rattle.bound_text.specs.Printing.{piece_of};
-ghost use Rattle.bound_text.specs.Checks.{begins as begins_at, checked, judged, fault_of as fault_of_piece, has_large_base as has_large_base_of};
-ghost use Rattle.bound_text.specs.Views.{parts_in, outer_in, front_of, is_settled, is_in_run, Follows, FindsFault, Obeys, Finishes};
+ghost use Rattle.bound_text.specs.Checks.{begins as begins_at, checked, judged, fault_of as fault_of_piece};
+ghost use Rattle.bound_text.specs.Checks.{has_large_base as has_large_base_of};
+ghost use Rattle.bound_text.specs.Views.{parts_in, outer_in, front_of, is_settled, is_in_run, Follows, FindsFault};
+ghost use Rattle.bound_text.specs.Views.{Obeys, Finishes};
 
 use crate::fault::Fault;
 use crate::joining::{bound_from, can_end};

@@ -1,5 +1,5 @@
-//! Bounds in the midst of another text, read piece by piece from outside: from another first byte than that of the text,
-//! up to a bracket `]` of the other text, over the names `A` and `B`.
+//! Bounds in the midst of another text, read piece by piece from outside: from another first byte than that of the
+//! text, up to a bracket `]` of the other text, over the names `A` and `B`.
 
 use crate::steps::{Build, built};
 use Build::{C, Max, Pow, Prod, Sum, V};

@@ -13,7 +13,8 @@ use Rattle.expr_text.specs.Fronts.{Front, beginning}
 use Rattle.expr_text.specs.Steps as inner
 use Rattle.expr_text.specs.Guards as guards
 use Rattle.expr_text.specs.Guards.{Atoms, with_atoms, atoms_terms}
-use Rattle.expr_text.specs.GuardFronts.{Conjoined, NoAtoms, JointAfter, GuardFront, LeftSide, RightSide, truth_of, joined, finish, step}
+use Rattle.expr_text.specs.GuardFronts.{Conjoined, NoAtoms, JointAfter, GuardFront, LeftSide, RightSide, truth_of}
+use Rattle.expr_text.specs.GuardFronts.{joined, finish, step}
 use Rattle.expr_text.specs.FrontNames.{with_conjoined, operates, token_count}
 use Rattle.expr_text.specs.TermFronts.{limited}
 use Rattle.expr_reader.specs.declared.guard.GuardPlace.TheVariants as places

@@ -7,7 +7,9 @@ use Rattle.model.specs.Terms.{Variable}
 use Rattle.text_core.specs.Names.{position_of}
 use Rattle.expr_text.specs.Pieces.{Piece, Word, Digits, Open, Close, Plus, Minus, Times, Caret, Related, Joining}
 use Rattle.expr_text.specs.Terms.{with_name}
-use Rattle.expr_text.specs.TermFronts.{Level, Operand, Wanted, BaseRead, CaretRead, ExponentRead, Front, PlusAfter, MinusAfter, NoProduct, TimesAfter, empty_level, product_made, sum_made, with_digits, with_caret, is_empty}
+use Rattle.expr_text.specs.TermFronts.{Level, Operand, Wanted, BaseRead, CaretRead, ExponentRead, Front, PlusAfter}
+use Rattle.expr_text.specs.TermFronts.{MinusAfter, NoProduct, TimesAfter, empty_level, product_made, sum_made}
+use Rattle.expr_text.specs.TermFronts.{with_digits, with_caret, is_empty}
 
 -- the variables once a piece is read
 abbrev pub with_piece : List Name → Piece → List Name

@@ -4,7 +4,8 @@ use Rattle.model.specs.Programs.{Name}
 use Rattle.text_core.specs.Names.{is_same}
 use Rattle.expr_text.specs.Pieces.{Piece, Word, Digits, Open, Plus, Minus, Times, Caret, Related}
 use Rattle.expr_text.specs.Terms.{with_sum, with_product, with_base}
-use Rattle.expr_text.specs.Fronts.{Summed, NoSum, PlusAfter, MinusAfter, Factored, NoProduct, TimesAfter, Level, Operand, Wanted, BaseRead, CaretRead, ExponentRead, Front, front_behind}
+use Rattle.expr_text.specs.Fronts.{Summed, NoSum, PlusAfter, MinusAfter, Factored, NoProduct, TimesAfter, Level}
+use Rattle.expr_text.specs.Fronts.{Operand, Wanted, BaseRead, CaretRead, ExponentRead, Front, front_behind}
 use Rattle.expr_text.specs.Steps as inner
 use Rattle.expr_text.specs.Guards.{with_atoms}
 use Rattle.expr_text.specs.GuardFronts.{Conjoined, NoAtoms, JointAfter, GuardFront, LeftSide, RightSide, expression_in}

@@ -1,7 +1,8 @@
 -- The part of an expression that has been read.
 use Rattle.std.specs.Prelude.{ℕ, zero, suc, List, [], ◌∷◌}
 use Rattle.expr_text.specs.Pieces.{Piece, Digits, Open, Plus, Minus, Times, Caret}
-use Rattle.expr_text.specs.Trees.{Sum, Alone, Added, Subtracted, Product, Single, Multiplied, Factor, Negated, Base, sum_behind, product_behind, base_behind}
+use Rattle.expr_text.specs.Trees.{Sum, Alone, Added, Subtracted, Product, Single, Multiplied, Factor, Negated, Base}
+use Rattle.expr_text.specs.Trees.{sum_behind, product_behind, base_behind}
 
 -- what stands before a product in its brackets: nothing, or a sum and its operator
 pub data Summed : Type 0 where

@@ -4,7 +4,8 @@ use Rattle.model.specs.Programs.{Name}
 use Rattle.text_core.specs.Names.{is_same}
 use Rattle.expr_text.specs.Pieces.{Sign, Joint, Piece, Related, Joining}
 use Rattle.expr_text.specs.Trees.{Sum, Named, sum_behind}
-use Rattle.expr_text.specs.Fronts.{Front, Level, Operand, BaseRead, Summed, NoSum, Factored, NoProduct, beginning, front_behind}
+use Rattle.expr_text.specs.Fronts.{Front, Level, Operand, BaseRead, Summed, NoSum, Factored, NoProduct, beginning}
+use Rattle.expr_text.specs.Fronts.{front_behind}
 use Rattle.expr_text.specs.Steps as inner
 use Rattle.expr_text.specs.Guards.{Capitals, Smalls, Atom, Always, Compared, Atoms, First, Joined, atoms_behind}
 

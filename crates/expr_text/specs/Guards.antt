@@ -2,7 +2,8 @@
 use Rattle.std.specs.Prelude.{ℕ, suc, List, [], ◌∷◌, ◌++◌, codes}
 use Rattle.model.specs.Programs as plain
 use Rattle.model.specs.Programs.{Name, Relation, AtLeast, MoreThan, AtMost, LessThan, EqualTo}
-use Rattle.expr_text.specs.Pieces.{Sign, AtLeastSign, MoreThanSign, AtMostSign, LessThanSign, EqualSign, DoubleEqualSign, Joint, Piece, Word, Related, Joining}
+use Rattle.expr_text.specs.Pieces.{Sign, AtLeastSign, MoreThanSign, AtMostSign, LessThanSign, EqualSign}
+use Rattle.expr_text.specs.Pieces.{DoubleEqualSign, Joint, Piece, Word, Related, Joining}
 use Rattle.expr_text.specs.Trees.{Sum, sum_behind}
 use Rattle.expr_text.specs.Terms.{with_sum, sum_term}
 

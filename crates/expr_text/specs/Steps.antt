@@ -2,7 +2,9 @@
 use Rattle.std.specs.Prelude.{suc, List, [], ◌∷◌, Option, Some, None}
 use Rattle.expr_text.specs.Pieces.{Piece, Word, Digits, Open, Close, Plus, Minus, Times, Caret}
 use Rattle.expr_text.specs.Trees.{Sum, Factor, Plain, Raised, Base, Number, Named, Bracketed}
-use Rattle.expr_text.specs.Fronts.{Summed, PlusAfter, MinusAfter, Factored, NoProduct, TimesAfter, Level, Operand, Wanted, BaseRead, CaretRead, ExponentRead, Front, empty_level, product_made, sum_made}
+use Rattle.expr_text.specs.Fronts.{Summed, PlusAfter, MinusAfter, Factored, NoProduct, TimesAfter, Level, Operand}
+use Rattle.expr_text.specs.Fronts.{Wanted, BaseRead, CaretRead, ExponentRead, Front, empty_level, product_made}
+use Rattle.expr_text.specs.Fronts.{sum_made}
 
 -- an operand is wanted behind a sum and a product
 abbrev pub wanted : List Level → Summed → Factored → Front

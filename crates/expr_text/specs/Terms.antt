@@ -4,7 +4,8 @@ use Rattle.std.specs.Str.Parse.{digits_value}
 use Rattle.model.specs.Programs.{Name}
 use Rattle.model.specs.Terms.{Term, Literal, Variable, Negation, Addition, Subtraction, Multiplication, Exponentiation}
 use Rattle.text_core.specs.Names.{is_among, position_of}
-use Rattle.expr_text.specs.Trees.{Sum, Alone, Added, Subtracted, Product, Single, Multiplied, Factor, Plain, Raised, Negated, Base, Number, Named, Bracketed}
+use Rattle.expr_text.specs.Trees.{Sum, Alone, Added, Subtracted, Product, Single, Multiplied, Factor, Plain, Raised}
+use Rattle.expr_text.specs.Trees.{Negated, Base, Number, Named, Bracketed}
 
 -- the number that digits write; leading zeros are read
 abbrev pub number_of : List ℕ → ℕ

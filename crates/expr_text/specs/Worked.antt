@@ -4,7 +4,8 @@ use Rattle.model.specs.Programs as plain
 use Rattle.model.specs.Programs.{Name, AtLeast, LessThan}
 use Rattle.model.specs.Terms.{Term, Literal, Variable, Negation, Addition, Subtraction, Multiplication, Exponentiation}
 use Rattle.text_core.specs.Readers.{walk}
-use Rattle.expr_text.specs.Pieces.{Piece, Word, Digits, Open, Close, Plus, Minus, Times, Caret, Related, AtLeastSign, LessThanSign, Joining, Ampersands, Wedge}
+use Rattle.expr_text.specs.Pieces.{Piece, Word, Digits, Open, Close, Plus, Minus, Times, Caret, Related, AtLeastSign}
+use Rattle.expr_text.specs.Pieces.{LessThanSign, Joining, Ampersands, Wedge}
 use Rattle.expr_text.specs.Trees.{Sum}
 use Rattle.expr_text.specs.Terms.{with_sum, sum_term}
 use Rattle.expr_text.specs.Fronts.{Front, beginning}

@@ -10,7 +10,7 @@ use Rattle.model.specs.Paths.{target_in, target_of, source_of, same_symbol, entr
 use Rattle.its_graph.specs.Groups.{values_of}
 use Rattle.its_model.specs.declared.program.Rule as code
 use Rattle.its_model.specs.Views.{rule_of}
-use Rattle.its_graph.specs.Links.{ends_of, AreBelow, arrivals_from, arrivals}
+use Rattle.its_graph.specs.Links.{ends_of, LeadBelow, arrivals_from, arrivals}
 use Rattle.its_graph.specs.declared.graph.Graph.{Graph}
 use Rattle.its_graph.specs.Graphs.{IsGraphOf}
 use Rattle.its_graph.proofs.PairLists.{Pair}
@@ -64,7 +64,7 @@ arrivals-within n start links low h = let first : Pair = (start, 0) in All-cons 
     rest i (l ∷ links) h = let first : Pair = (l.1, i) in All-cons (λ (e : Pair). e.0 < n) first (arrivals_from (suc i) links) (h 0 l (omega arith)).1 (rest (suc i) links (λ k d lower. h (suc k) d (omega arith)))
 
 -- rules that are below a number as plain data are
-pub below-symbols : (n : ℕ) (rules : List code.Rule) → All (λ (r : Rule). (r.source < n) × (r.target < n)) (map rule_of rules) → AreBelow n rules
+pub below-symbols : (n : ℕ) (rules : List code.Rule) → All (λ (r : Rule). (r.source < n) × (r.target < n)) (map rule_of rules) → LeadBelow n rules
 below-symbols n rules h k d low = subst (λ (r : Rule). (r.source < n) × (r.target < n)) (get_or-map rule_of rules k d (rule_of d) low) (h k (rule_of d) (omega (arith, length-map rules rule_of)))
 
 -- the rule with a number has the ends that its link has

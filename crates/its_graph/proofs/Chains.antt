@@ -9,7 +9,7 @@ use Rattle.std.proofs.lemmas.Map.Steps.{length-le_from_distinct_below}
 use Rattle.model.specs.Paths.{Path, Here, Onward}
 use Rattle.its_graph.specs.declared.order.Sorting.{Sorting}
 use Rattle.its_graph.specs.Groups.{Joins}
-use Rattle.its_graph.specs.Orders.{IsLeader, AreInOrder, AreOrderable, IsMarked, Waits, IsSorting}
+use Rattle.its_graph.specs.Orders.{IsLeader, AreLeadersInOrder, AreOrderable, IsMarked, Waits, IsSorting}
 use Rattle.its_graph.proofs.Elements.{Contains-cons_cases, Contains-first, Contains-later, none_in_empty, Told, told}
 
 -- an element that a test finds is one of the list
@@ -132,7 +132,7 @@ module _ (needs : List (Vec ℕ Global)) (leaders : List ℕ) (s : Sorting) (o :
       omega (arith, few, long.size)
 
   -- so all leaders are listed
-  pub all_listed : AreInOrder (Joins needs) leaders s.order.items
+  pub all_listed : AreLeadersInOrder (Joins needs) leaders s.order.items
   all_listed = record { each = f.each; all = λ c leads. all c leads (get_or s.is_listed.items c false) refl }
     where
       all : (c : ℕ) → IsLeader leaders c → (v : Bool) → get_or s.is_listed.items c false ≡ v → Contains s.order.items c

@@ -11,7 +11,7 @@ use Rattle.model.specs.Paths.{Path, Here, Onward}
 use Rattle.its_graph.specs.Groups.{values_of, values_in, IsPair, items_of}
 use Rattle.its_graph.specs.Components.{IsMutual, IsListed, IsReady, IsNext, IsListing}
 use Rattle.its_graph.specs.Classes.{AreLeaders}
-use Rattle.its_graph.specs.Orders.{Needs, IsNextLeader, EachIsNext, AreInOrder}
+use Rattle.its_graph.specs.Orders.{Needs, IsNextLeader, EachIsNext, AreLeadersInOrder}
 use Rattle.its_graph.specs.Members.{numbered, AreMembers}
 use Rattle.its_graph.proofs.Elements.{Told, told}
 use Rattle.its_graph.proofs.Chains.{distinct-few}
@@ -125,7 +125,7 @@ pub record AreByLeaders (leaders order : List ℕ) (found : List (Vec ℕ Global
   pub members : (k : ℕ) → k < length order → AreMembers leaders (get_or order k 0) (values_in found k)
 
 module _ (edges : List Pair) (n : ℕ) (leaders order : List ℕ) (l : AreLeaders (IsPair edges) (length leaders) leaders) (size : length leaders ≡ n)
-    (within : (a b : ℕ) → IsPair edges a b → (a < length leaders) × (b < length leaders)) (o : AreInOrder (Needs (IsPair edges) leaders) leaders order) (cs : List (List ℕ))
+    (within : (a b : ℕ) → IsPair edges a b → (a < length leaders) × (b < length leaders)) (o : AreLeadersInOrder (Needs (IsPair edges) leaders) leaders order) (cs : List (List ℕ))
     (same_size : length cs ≡ length order) (members : (k : ℕ) → k < length order → AreMembers leaders (get_or order k 0) (get_or cs k [])) where
   abbrev Edge : ℕ → ℕ → Type 0
   Edge = IsPair edges
@@ -262,7 +262,7 @@ lists-at (v ∷ found) (suc k) low = lists-at found k (omega arith)
 
 -- the listing that was found
 pub found-listing : (edges : List Pair) (n : ℕ) (leaders order : List ℕ) (found : List (Vec ℕ Global)) → AreWithin n edges → AreLeaders (IsPair edges) n leaders
-    → AreInOrder (Needs (IsPair edges) leaders) leaders order → length found ≡ length order
+    → AreLeadersInOrder (Needs (IsPair edges) leaders) leaders order → length found ≡ length order
     → ((k : ℕ) → k < length order → AreMembers leaders (get_or order k 0) (values_in found k)) → IsListing (IsPair edges) n (map items_of found)
 found-listing edges n leaders order found within l o size members =
     listing edges n leaders order (subst (λ (k : ℕ). AreLeaders (IsPair edges) k leaders) (sym l.size) l) l.size
@@ -271,11 +271,11 @@ found-listing edges n leaders order found within l o size members =
     (λ k low. subst (λ (xs : List ℕ). AreMembers leaders (get_or order k 0) xs) (sym (lists-at found k (omega (arith, size)))) (members k low))
 
 -- the leaders of an order are within
-pub order-within : (Need : ℕ → ℕ → Type 0) (leaders order : List ℕ) → AreInOrder Need leaders order → All (λ (x : ℕ). x < length leaders) order
+pub order-within : (Need : ℕ → ℕ → Type 0) (leaders order : List ℕ) → AreLeadersInOrder Need leaders order → All (λ (x : ℕ). x < length leaders) order
 order-within Need leaders order o = All-from_get_or (λ (x : ℕ). x < length leaders) order 0 (λ k low. (o.each k low).leads.0)
 
 -- there are at most as many leaders as nodes
-pub order-few : (Need : ℕ → ℕ → Type 0) (leaders order : List ℕ) → AreInOrder Need leaders order → length order ≤ length leaders
+pub order-few : (Need : ℕ → ℕ → Type 0) (leaders order : List ℕ) → AreLeadersInOrder Need leaders order → length order ≤ length leaders
 order-few Need leaders order o = distinct-few order (length leaders) (order-distinct Need leaders order o.each) (order-within Need leaders order o)
 
 -- the leaders are within
@@ -283,7 +283,7 @@ pub leaders-within : (Edge : ℕ → ℕ → Type 0) (n : ℕ) (leaders : List �
 leaders-within Edge n leaders l = All-from_get_or (λ (x : ℕ). x < length leaders) leaders 0 (λ a low. omega (arith, l.within a (omega (arith, l.size)), l.size))
 
 -- each node's leader is in the order
-pub order-all : (Edge : ℕ → ℕ → Type 0) (n : ℕ) (leaders order : List ℕ) (Need : ℕ → ℕ → Type 0) → AreLeaders Edge n leaders → AreInOrder Need leaders order
+pub order-all : (Edge : ℕ → ℕ → Type 0) (n : ℕ) (leaders order : List ℕ) (Need : ℕ → ℕ → Type 0) → AreLeaders Edge n leaders → AreLeadersInOrder Need leaders order
     → (a : ℕ) → a < length leaders → Contains order (get_or leaders a 0)
 order-all Edge n leaders order Need l o a low = o.all (get_or leaders a 0) (leads-itself Edge leaders (subst (λ (k : ℕ). AreLeaders Edge k leaders) (sym l.size) l) a low)
 

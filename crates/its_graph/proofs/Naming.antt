@@ -4,7 +4,7 @@ use Rattle.std.proofs.lemmas.Bool.{cases_lt}
 use Rattle.std.proofs.lemmas.List.{length-set, get_or_append_left, get_or_push}
 use Rattle.std.proofs.lemmas.List.Elements.{All-head, All-tail, All-from_get_or}
 use Rattle.its_graph.specs.Naming.{named, first_in, first_with}
-use Rattle.its_graph.specs.Classes.{TakesAll, AreNames, AreFirst, AreLeaders}
+use Rattle.its_graph.specs.Classes.{TakesAll, AreClassNames, AreFirst, AreLeaders}
 use Rattle.its_graph.specs.Components.{IsMutual}
 use Rattle.its_graph.proofs.Elements.{Contains-cons_cases, none_in_empty, Told, told}
 use Rattle.its_graph.proofs.Routes.{path-within, mutual-turned, mutual-join}
@@ -148,7 +148,7 @@ first-ends names first leaders i all f = record {
     least a b low same (inr fine) = fine
 
 -- the first node of each name is the least node of the component
-pub leaders-are : (Edge : ℕ → ℕ → Type 0) (n : ℕ) (names leaders : List ℕ) → AreNames Edge n names → AreFirst names leaders → AreLeaders Edge n leaders
+pub leaders-are : (Edge : ℕ → ℕ → Type 0) (n : ℕ) (names leaders : List ℕ) → AreClassNames Edge n names → AreFirst names leaders → AreLeaders Edge n leaders
 leaders-are Edge n names leaders m f = record {
   size = f.size ∙ m.size;
   within = λ a low. omega (arith, f.within a (omega (arith, m.size)), m.size);
@@ -173,7 +173,7 @@ leaders-are Edge n names leaders m f = record {
         omega (arith, one, two)
 
 -- where the components of all nodes are known, their names are those of all nodes
-pub names-are : (Edge : ℕ → ℕ → Type 0) (n : ℕ) (colors names roots : List ℕ) → length names ≡ n → ((a : ℕ) → a < n → Contains roots a) → TakesAll Edge colors names roots → AreNames Edge n names
+pub names-are : (Edge : ℕ → ℕ → Type 0) (n : ℕ) (colors names roots : List ℕ) → length names ≡ n → ((a : ℕ) → a < n → Contains roots a) → TakesAll Edge colors names roots → AreClassNames Edge n names
 names-are Edge n colors names roots size all t = record {
   size = size;
   same = λ a b low m. (t.classes.whole a b (t.known a (all a low)) m).1;
@@ -181,7 +181,7 @@ names-are Edge n colors names roots size all t = record {
 }
 
 -- a name is one of the nodes
-pub names-within : (Edge : ℕ → ℕ → Type 0) (n : ℕ) (names : List ℕ) → ((a b : ℕ) → Edge a b → b < n) → AreNames Edge n names → All (λ name. name < length names) names
+pub names-within : (Edge : ℕ → ℕ → Type 0) (n : ℕ) (names : List ℕ) → ((a b : ℕ) → Edge a b → b < n) → AreClassNames Edge n names → All (λ name. name < length names) names
 names-within Edge n names within m =
     subst (λ (k : ℕ). All (λ name. name < k) names) (sym m.size)
     (All-from_get_or (λ (name : ℕ). name < n) names 0 (λ a low. path-within Edge n within a (get_or names a 0) (omega (arith, m.size)) (m.own a (omega (arith, m.size))).onward))

@@ -4,7 +4,7 @@ use Rattle.std.specs.declared.alloc.Global.{Global}
 use Rattle.model.specs.Paths.{Path, Here, Onward}
 use Rattle.its_graph.specs.Groups.{values_in, Joins, IsPair}
 use Rattle.its_graph.specs.Classes.{AreLeaders}
-use Rattle.its_graph.specs.Orders.{IsLeader, Needs, AreInOrder, AreOrderable}
+use Rattle.its_graph.specs.Orders.{IsLeader, Needs, AreLeadersInOrder, AreOrderable}
 use Rattle.std.specs.List.{All}
 use Rattle.std.proofs.lemmas.List.Elements.{All-from_get_or, Contains-get_or}
 use Rattle.its_graph.specs.Groups.{values_of}
@@ -49,7 +49,7 @@ module _ (Edge : ℕ → ℕ → Type 0) (leaders : List ℕ) (l : AreLeaders Ed
           along x y (Onward {b = z} p h) = join Edge y z x (need-path z y ((same z y).0 h)) (along x z p)
 
   -- an order by the table is one by the edges
-  pub order-by-edges : (Need : ℕ → ℕ → Type 0) → ((c d : ℕ) → Need c d ↔ Needs Edge leaders c d) → (order : List ℕ) → AreInOrder Need leaders order → AreInOrder (Needs Edge leaders) leaders order
+  pub order-by-edges : (Need : ℕ → ℕ → Type 0) → ((c d : ℕ) → Need c d ↔ Needs Edge leaders c d) → (order : List ℕ) → AreLeadersInOrder Need leaders order → AreLeadersInOrder (Needs Edge leaders) leaders order
   order-by-edges Need same order o = record {
     each = λ k low. let at = o.each k low in record {
       leads = at.leads;

@@ -14,7 +14,7 @@ use Rattle.its_model.specs.declared.program.Rule.{Rule}
 use Rattle.its_model.specs.Views.{program_of, rule_of}
 use Rattle.its_graph.specs.Groups.{values_in, items_of, IsPair}
 use Rattle.its_graph.specs.Components.{IsMutual, IsListed, IsNext, IsListing}
-use Rattle.its_graph.specs.Links.{ends_of, link_of, AreBelow}
+use Rattle.its_graph.specs.Links.{ends_of, link_of, LeadBelow}
 use Rattle.its_graph.specs.Naming.{named}
 use Rattle.its_graph.specs.Numbers.{AreApart, AreNumbers, HasInside}
 use Rattle.its_graph.proofs.Naming.{named-each, named-others}
@@ -182,11 +182,11 @@ pub edge-link : (p : Program) (a b : ℕ) → HasEdge (program_of p) any_rule a 
 edge-link p a b = subst (λ (es : List Pair). HasEdge (program_of p) any_rule a b ↔ IsPair es a b) (sym (links-ends p.rules.items)) (edge-pair (program_of p) a b)
 
 -- the links of rules below a number are within
-pub links-within : (n : ℕ) (rules : List Rule) → AreBelow n rules → All (λ (e : Pair). (e.0 < n) × (e.1 < n)) (map link_of rules)
+pub links-within : (n : ℕ) (rules : List Rule) → LeadBelow n rules → All (λ (e : Pair). (e.0 < n) × (e.1 < n)) (map link_of rules)
 links-within n rules h = All-map (λ (e : Pair). (e.0 < n) × (e.1 < n)) link_of rules h
 
 -- a program has a cycle exactly where some link leads to a node of the same component
-pub cycle-inside : (p : Program) (n : ℕ) (lists : List (Vec ℕ Global)) (numbers : List ℕ) → AreBelow n p.rules.items
+pub cycle-inside : (p : Program) (n : ℕ) (lists : List (Vec ℕ Global)) (numbers : List ℕ) → LeadBelow n p.rules.items
     → IsListing (IsPair (map link_of p.rules.items)) n (map items_of lists) → AreNumbers lists numbers
     → HasInside numbers (map link_of p.rules.items) ↔ HasCycle (program_of p)
 cycle-inside p n lists numbers below l h = (λ inside. cycle inside, λ c. inside c)

@@ -33,7 +33,7 @@ pub record TakesAll (Edge : ℕ → ℕ → Type 0) (after names roots : List �
   pub known : (a : ℕ) → Contains roots a → slice_index after a ≡ KNOWN
 
 -- each node has the name of one of its component, the same for all of it
-pub record AreNames (Edge : ℕ → ℕ → Type 0) (n : ℕ) (names : List ℕ) : Type 0 where
+pub record AreClassNames (Edge : ℕ → ℕ → Type 0) (n : ℕ) (names : List ℕ) : Type 0 where
   pub size : length names ≡ n
   pub same : (a b : ℕ) → a < n → IsMutual Edge a b → slice_index names b ≡ slice_index names a
   pub own : (a : ℕ) → a < n → IsMutual Edge a (slice_index names a)

@@ -14,8 +14,8 @@ abbrev pub link_of : Rule → ℕ × ℕ
 link_of r = ends_of (rule_of r)
 
 -- each rule leads from a symbol below the number to another below it
-abbrev pub AreBelow : ℕ → List Rule → Type 0
-AreBelow n rules = All (λ (r : Rule). (r.source < n) × (r.target < n)) rules
+abbrev pub LeadBelow : ℕ → List Rule → Type 0
+LeadBelow n rules = All (λ (r : Rule). (r.source < n) × (r.target < n)) rules
 
 -- the links whose flag is set, counted from a number on
 abbrev pub kept_links : List Bool → ℕ → List (ℕ × ℕ) → List (ℕ × ℕ)

@@ -47,7 +47,7 @@ EachIsNext Need leaders order = (k : ℕ) → k < length order
     → IsNextLeader Need leaders (take k order) (slice_index order k)
 
 -- and all leaders are listed
-pub record AreInOrder (Need : ℕ → ℕ → Type 0) (leaders order : List ℕ) : Type 0 where
+pub record AreLeadersInOrder (Need : ℕ → ℕ → Type 0) (leaders order : List ℕ) : Type 0 where
   pub each : EachIsNext Need leaders order
   pub all : (c : ℕ) → IsLeader leaders c → Contains order c
 

@@ -3,7 +3,7 @@
 ghost use Rattle.std.specs.Prelude.{◌≡◌, ℕ, ◌<◌, ◌≤◌, ◌^◌, length, All, IfOk, OnOk, slice_index, [], replicate};
 ghost use Rattle.std.specs.List.{Contains};
 ghost use Rattle.its_graph.specs.Groups.{values_in, Joins};
-ghost use Rattle.its_graph.specs.Classes.{AreTables, AreClasses, Takes, TakesAll, AreNames, AreFirst, AreLeaders};
+ghost use Rattle.its_graph.specs.Classes.{AreTables, AreClasses, Takes, TakesAll, AreClassNames, AreFirst, AreLeaders};
 ghost use Rattle.its_graph.specs.Naming.{named, first_with};
 
 use crate::flood::{CANDIDATE, KNOWN, UNKNOWN, fill, paint_all};
@@ -28,7 +28,7 @@ pub(crate) fn leaders_of(
 fn names_of(alloc: Global, next: &[Vec<u32>], previous: &[Vec<u32>]) -> Result<Vec<u32>, AllocError>
     requires few { length next.now ≤ 2 ^ 32 }
     requires tables { AreTables (length next.now) next.now previous.now }
-    ensures { IfOk result (λ names. AreNames (Joins next.now) (length next.now) names.items) }
+    ensures { IfOk result (λ names. AreClassNames (Joins next.now) (length next.now) names.items) }
 {
     let roots = roots_of(alloc, next)?;
     let mut colors = vec![in alloc; UNKNOWN; next.len()]?;

@@ -5,7 +5,7 @@ ghost use Rattle.std.specs.List.{Contains};
 ghost use Rattle.model.specs.Paths.{HasCycle};
 ghost use Rattle.its_model.specs.Views.{program_of};
 ghost use Rattle.its_graph.specs.Groups.{IsPair};
-ghost use Rattle.its_graph.specs.Links.{AreBelow};
+ghost use Rattle.its_graph.specs.Links.{LeadBelow};
 ghost use Rattle.its_graph.specs.Numbers.{AreNumbers, AreApart, HasInside};
 
 use crate::Memory;

@@ -2,7 +2,7 @@
 
 ghost use Rattle.std.specs.Prelude.{◌≡◌, ℕ, ◌<◌, ◌≤◌, ◌^◌, map, length, IfOk, OnOk, ◌++◌, ◌∷◌, [], if◌then◌else◌};
 ghost use Rattle.std.specs.Prelude.{replicate, suc, true, false};
-ghost use Rattle.its_graph.specs.Links.{link_of, AreBelow, kept_links, all_cut};
+ghost use Rattle.its_graph.specs.Links.{link_of, LeadBelow, kept_links, all_cut};
 
 use its_model::Rule;
 use std::alloc::{AllocError, Global};
@@ -20,9 +20,9 @@ pub(crate) fn links_in(alloc: Global, rules: &[Rule]) -> Result<Vec<(u32, u32)>,
 
 /// A number above that of each symbol of the rules.
 pub(crate) fn symbol_limit(rules: &[Rule]) -> usize
-    ensures below { AreBelow result rules.now }
+    ensures below { LeadBelow result rules.now }
     ensures few { result ≤ 2 ^ 32 }
-    ensures least { (n : ℕ) → AreBelow n rules.now → result ≤ n }
+    ensures least { (n : ℕ) → LeadBelow n rules.now → result ≤ n }
 {
     let mut limit = 0usize;
     for rule in rules {

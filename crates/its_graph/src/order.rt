@@ -6,7 +6,8 @@ ghost use Rattle.std.specs.Prelude.{count_by, if◌then◌else◌, ◌==◌};
 ghost use Rattle.std.specs.List.{Contains};
 ghost use Rattle.its_graph.specs.Groups.{values_in, IsPair, Joins};
 ghost use Rattle.its_graph.specs.Classes.{AreLeaders};
-ghost use Rattle.its_graph.specs.Orders.{IsLeader, Needs, AreOrderable, IsSorting, AreInOrder, IsPopped, AreSizes};
+ghost use Rattle.its_graph.specs.Orders.{IsLeader, Needs, AreOrderable, IsSorting, AreLeadersInOrder, IsPopped};
+ghost use Rattle.its_graph.specs.Orders.{AreSizes};
 ghost use Rattle.its_graph.specs.Orders.{IsFresh, Settles, Skips, needs_among};
 
 use crate::pairs::{empty_lists, grouped};
@@ -23,7 +24,7 @@ pub(crate) fn order_of(
     requires few { length leaders.now ≤ 2 ^ 32 }
     requires edges_within { All (λ e. (e.0 < length leaders.now) × (e.1 < length leaders.now)) edges.now }
     requires leaders_are { AreLeaders (IsPair edges.now) (length leaders.now) leaders.now }
-    ensures { IfOk result (λ order. AreInOrder (Needs (IsPair edges.now) leaders.now) leaders.now order.items) }
+    ensures { IfOk result (λ order. AreLeadersInOrder (Needs (IsPair edges.now) leaders.now) leaders.now order.items) }
 {
     let needs = grouped(alloc, leaders.len(), &needs_of(alloc, edges, leaders)?)?;
     sorted(alloc, &needs, leaders, &own_leaders(alloc, leaders)?)
@@ -80,7 +81,7 @@ fn sorted(
 ) -> Result<Vec<u32>, AllocError>
     requires orderable { AreOrderable leaders.now needs.now }
     requires own_leaders { (c : ℕ) → Contains own.now c ↔ IsLeader leaders.now c }
-    ensures { IfOk result (λ order. AreInOrder (Joins needs.now) leaders.now order.items) }
+    ensures { IfOk result (λ order. AreLeadersInOrder (Joins needs.now) leaders.now order.items) }
 {
     let mut sorting = Sorting::new(alloc, leaders.len())?;
     sorting.settle_all(needs, leaders, own)?;

@@ -16,5 +16,7 @@ limits_are_told = record {
   name_passed = refl;
   tokens_full = refl;
   tokens_passed = refl;
+  terms_full = tt;
+  terms_passed = refl;
   degree_full = tt;
 }

@@ -5,7 +5,9 @@ use Rattle.expr_text.specs.Trees.{Sum}
 use Rattle.expr_text.specs.Fronts.{Front as ExpressionFront, front_behind as expression_behind}
 use Rattle.expr_text.specs.GuardFronts.{GuardFront, guard_behind as atoms_behind}
 use Rattle.its_text.specs.Pieces.{Piece, In, Comma, Arrow, GuardMark, SquareOpen, word, open_bracket, close_bracket}
-use Rattle.its_text.specs.Written.{LeftTerm, RightTerm, Target, Marked, Bare, Guard, WrittenRule, Section, Rules, names_behind, sums_behind, left_behind, right_behind, target_behind, rules_behind, words_behind, pieces_behind}
+use Rattle.its_text.specs.Written.{LeftTerm, RightTerm, Target, Marked, Bare, Guard, WrittenRule, Section, Rules}
+use Rattle.its_text.specs.Written.{names_behind, sums_behind, left_behind, right_behind, target_behind, rules_behind}
+use Rattle.its_text.specs.Written.{words_behind, pieces_behind}
 
 -- the sections before, and the rules so far of the section that is being read
 pub record Ruling : Type 0 where

@@ -3,7 +3,8 @@ use Rattle.std.specs.Prelude.{◌≡◌, codes, List, [], ◌∷◌, IsFalse, �
 use Rattle.text_core.specs.Names.{is_same}
 use Rattle.text_core.specs.Readers.{Reader, onto}
 use Rattle.its_text.specs.Pieces.{Piece}
-use Rattle.its_text.specs.Written.{Target, Marked, Bare, WrittenRule, Section, Goal, Start, Variables, Rules, Comment, pieces_behind}
+use Rattle.its_text.specs.Written.{Target, Marked, Bare, WrittenRule, Section, Goal, Start, Variables, Rules, Comment}
+use Rattle.its_text.specs.Written.{pieces_behind}
 use Rattle.its_text.specs.Fronts.{Front}
 use Rattle.its_text.specs.Steps.{beginning, step, finish}
 use Rattle.its_text.specs.Kinds.{Kind, kind_number}

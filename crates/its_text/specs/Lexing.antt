@@ -1,6 +1,7 @@
 -- The tokens of a program's text: the longest piece is taken, white space stands between pieces, and where a section
 -- begins a comment is passed over up to the bracket that closes it.
-use Rattle.std.specs.Prelude.{ℕ, zero, suc, ◌+◌, if◌then◌else◌, ◌==◌, ◌&&◌, nat_lt, List, [], ◌∷◌, length, codes, Option, Some, None}
+use Rattle.std.specs.Prelude.{ℕ, zero, suc, ◌+◌, if◌then◌else◌, ◌==◌, ◌&&◌, nat_lt, List, [], ◌∷◌, length, codes}
+use Rattle.std.specs.Prelude.{Option, Some, None}
 use Rattle.std.specs.Char.{is_ascii_digit}
 use Rattle.model.specs.Programs.{Name}
 use Rattle.text_core.specs.Prefixes.{prefix}
@@ -8,7 +9,8 @@ use Rattle.text_core.specs.Names.{begins_name, continues_name, is_same}
 use Rattle.text_core.specs.Bytes.{is_white_space, begins_with}
 use Rattle.text_core.specs.Tokens.{Token, Lexeme, Lexer, tokens_in}
 use Rattle.expr_text.specs.Pieces as inner
-use Rattle.its_text.specs.Pieces.{Piece, In, Comma, Arrow, GuardMark, SquareOpen, SquareClose, Disjoining, Remark, Wrong, Strange, word, digits, open_bracket, close_bracket}
+use Rattle.its_text.specs.Pieces.{Piece, In, Comma, Arrow, GuardMark, SquareOpen, SquareClose, Disjoining, Remark}
+use Rattle.its_text.specs.Pieces.{Wrong, Strange, word, digits, open_bracket, close_bracket}
 
 -- a piece of so many bytes
 abbrev pub lexeme : Piece → ℕ → Lexeme (Option Piece)

@@ -1,5 +1,6 @@
 -- What a written program stands for: numbers in place of names.
-use Rattle.std.specs.Prelude.{ℕ, Bool, nat_eq, List, [], ◌∷◌, ◌++◌, map, reverse, length, if◌then◌else◌, ◌&&◌, nat_lt, codes, drop, ◌-◌, Option, Some, None}
+use Rattle.std.specs.Prelude.{ℕ, Bool, nat_eq, List, [], ◌∷◌, ◌++◌, map, reverse, length, if◌then◌else◌, ◌&&◌, nat_lt}
+use Rattle.std.specs.Prelude.{codes, drop, ◌-◌, Option, Some, None}
 use Rattle.std.specs.List.{list_all, starts_with}
 use Rattle.std.specs.Char.{is_ascii_digit}
 use Rattle.model.specs.Programs as plain
@@ -9,7 +10,8 @@ use Rattle.text_core.specs.Names.{is_same, is_among, position_of}
 use Rattle.expr_text.specs.Trees.{Sum}
 use Rattle.expr_text.specs.Terms.{with_sum, sum_term}
 use Rattle.expr_text.specs.Guards.{Atoms, with_atoms, atoms_terms}
-use Rattle.its_text.specs.Written.{LeftTerm, RightTerm, Target, Marked, Bare, Guard, NoGuard, BehindMark, InSquares, WrittenRule, Section, Goal, Start, Variables, Rules, Comment}
+use Rattle.its_text.specs.Written.{LeftTerm, RightTerm, Target, Marked, Bare, Guard, NoGuard, BehindMark, InSquares}
+use Rattle.its_text.specs.Written.{WrittenRule, Section, Goal, Start, Variables, Rules, Comment}
 
 -- whether a name is `Com_` and digits, which is no symbol on a right side
 abbrev pub is_com : Name → Bool

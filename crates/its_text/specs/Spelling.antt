@@ -1,7 +1,9 @@
 -- What a text spells, and the limits on texts.
-use Rattle.std.specs.Prelude.{◌≡◌, ℕ, suc, ◌≤◌, Bool, if◌then◌else◌, List, [], ◌∷◌, length, Option, Some, None, IsFalse, ⊤}
+use Rattle.std.specs.Prelude.{◌≡◌, ℕ, suc, ◌≤◌, Bool, if◌then◌else◌, List, [], ◌∷◌, length, Option, Some, None, IsFalse}
+use Rattle.std.specs.Prelude.{⊤}
 use Rattle.model.specs.Programs.{Name, Symbol, Program}
-use Rattle.model.specs.Limits.{rule_limit, place_limit, variable_limit, atom_limit, name_limit, token_limit, coefficient_limit}
+use Rattle.model.specs.Limits.{rule_limit, place_limit, variable_limit, atom_limit, name_limit, token_limit}
+use Rattle.model.specs.Limits.{coefficient_limit}
 use Rattle.poly_terms.specs.Faults as polynomials
 use Rattle.its_model.specs.Valid.{IsValid}
 use Rattle.text_core.specs.Names.{AreDistinct}

@@ -10,8 +10,14 @@ use Rattle.expr_text.specs.Steps as expression_steps
 use Rattle.expr_text.specs.Guards.{Atoms}
 use Rattle.expr_text.specs.GuardFronts as guards
 use Rattle.its_text.specs.Pieces.{Piece, In, Comma, Arrow, GuardMark, SquareOpen, SquareClose, Remark}
-use Rattle.its_text.specs.Written.{RightTerm, Target, Marked, Bare, NoGuard, BehindMark, InSquares, Section, Goal, Start, Variables, Comment}
-use Rattle.its_text.specs.Fronts.{Ruling, Led, Wrap, InCom, Alone, Aimed, Headed, Front, Between, Opened, GoalNamed, GoalSaid, StartNamed, StartOpened, StartListed, StartSaid, StartShut, Listing, CommentNamed, Ruled, SourceNamed, LeftOpened, LeftRead, LeftParted, LeftShut, Arrowed, ComNamed, ComOpened, TargetNamed, RightOpened, Arguing, RightShut, Targeted, GuardMarked, WordRead, MarkGuarding, SquareOpened, SquareGuarding, ruling_with, section_of}
+use Rattle.its_text.specs.Written.{RightTerm, Target, Marked, Bare, NoGuard, BehindMark, InSquares, Section, Goal}
+use Rattle.its_text.specs.Written.{Start, Variables, Comment}
+use Rattle.its_text.specs.Fronts.{Ruling, Led, Wrap, InCom, Alone, Aimed, Headed, Front, Between, Opened, GoalNamed}
+use Rattle.its_text.specs.Fronts.{GoalSaid, StartNamed, StartOpened, StartListed, StartSaid, StartShut, Listing}
+use Rattle.its_text.specs.Fronts.{CommentNamed, Ruled, SourceNamed, LeftOpened, LeftRead, LeftParted, LeftShut, Arrowed}
+use Rattle.its_text.specs.Fronts.{ComNamed, ComOpened, TargetNamed, RightOpened, Arguing, RightShut, Targeted}
+use Rattle.its_text.specs.Fronts.{GuardMarked, WordRead, MarkGuarding, SquareOpened, SquareGuarding, ruling_with}
+use Rattle.its_text.specs.Fronts.{section_of}
 
 -- the section that a keyword begins
 abbrev pub section_named : List Section → Name → Option Front

@@ -1,9 +1,12 @@
 -- What was worked out by hand of the texts of programs.
 use Rattle.std.specs.Prelude.{◌≡◌, ℕ, ◌++◌, List, [], ◌∷◌, length, codes, pos}
 use Rattle.model.specs.Terms.{Term, Literal, Variable, Negation, Subtraction, Multiplication, Exponentiation}
-use Rattle.model.specs.Programs.{Name, Symbol, Rule, Program, Atom, Always, Compare, AtLeast, MoreThan, AtMost, LessThan, EqualTo}
+use Rattle.model.specs.Programs.{Name, Symbol, Rule, Program, Atom, Always, Compare, AtLeast, MoreThan, AtMost}
+use Rattle.model.specs.Programs.{LessThan, EqualTo}
 use Rattle.text_core.specs.Reading.{Stands, Refused}
-use Rattle.its_text.specs.Kinds.{Kind, Syntax, MissingSection, RepeatedSection, ManyTargets, LeftNotVariable, LeftRepeated, ArityDiffers, NumberTooLarge, Limit, HighDegree, StartUnknown, Disjunction}
+use Rattle.its_text.specs.Kinds.{Kind, NotAscii, Syntax, MissingSection, RepeatedSection, ManyTargets, LeftNotVariable}
+use Rattle.its_text.specs.Kinds.{LeftRepeated, ArityDiffers, NumberTooLarge, Limit, HighDegree, StartUnknown}
+use Rattle.its_text.specs.Kinds.{Disjunction}
 use Rattle.its_text.specs.Answers.{verdict}
 
 -- the text is refused at a byte
@@ -80,6 +83,10 @@ pub record FirstFaults : Type 0 where
   pub unequal : RefusedAt (with_rules (codes "l0(A) -> Com_1(l1(A)) :|: A != 1")) 67 Syntax
   -- the text ends too early
   pub bracket_open : RefusedAt (with_rules (codes "l0(A) -> Com_1(l1((A)")) 61 Syntax
+  -- a byte over 127
+  pub not_ascii : RefusedAt (with_rules (codes "l0(A" ++ (200 ∷ codes ") -> Com_1(l1(A))"))) 43 NotAscii
+  -- but in a comment, which holds any bytes
+  pub ascii_in_comment : RefusedAt (codes "(COMMENT " ++ (200 ∷ codes ")")) 11 MissingSection
   -- a section twice
   pub repeated_section : RefusedAt (codes "(VAR A)(VAR A)") 7 RepeatedSection
   -- no section at all

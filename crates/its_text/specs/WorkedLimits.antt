@@ -2,7 +2,8 @@
 use Rattle.std.specs.Prelude.{ℕ, zero, suc, ◌+◌, ◌/◌, ◌%◌, List, [], ◌∷◌, ◌++◌, codes, replicate, ⊤}
 use Rattle.model.specs.Programs.{Program}
 use Rattle.text_core.specs.Reading.{Answer, Stands, Refused}
-use Rattle.its_text.specs.Kinds.{Kind, Syntax, Limit, TooManyArguments, TooManyVariables, TooManyAtoms, LongName, TooManyTokens}
+use Rattle.its_text.specs.Kinds.{Kind, Syntax, Limit, TooManyArguments, TooManyVariables, TooManyAtoms, LongName}
+use Rattle.its_text.specs.Kinds.{TooManyTokens, TooManyTerms}
 use Rattle.its_text.specs.Answers.{verdict}
 use Rattle.its_text.specs.Worked.{RefusedAt, with_rules}
 
@@ -43,6 +44,11 @@ name_bytes n = with_rules (codes "l0()->" ++ (replicate n 118 ++ codes "()"))
 abbrev pub minuses : ℕ → List ℕ
 minuses n = codes "(STARTTERM (FUNCTIONSYMBOLS l0))(RULES l0()->l1(" ++ replicate n 45
 
+-- a product of a sum of 8 variables and one of so many others
+abbrev pub products : ℕ → List ℕ
+products n = with_rules (codes "l0()->l1((" ++ (joined variable (codes "+") 0 8
+    ++ (codes ")*(" ++ (joined variable (codes "+") 10 n ++ codes "))"))))
+
 -- texts are read at a limit, and past it are refused where what is one too many begins
 pub record LimitsAreTold : Type 0 where
   -- 32 arguments on the left and on the right
@@ -62,5 +68,8 @@ pub record LimitsAreTold : Type 0 where
   -- more at that token
   pub tokens_full : RefusedAt (minuses 1024) 1072 Syntax
   pub tokens_passed : RefusedAt (minuses 1025) 1072 (Limit TooManyTokens)
+  -- 64 terms; one of more is refused at its last byte
+  pub terms_full : IsRead (products 8)
+  pub terms_passed : RefusedAt (products 9) 118 (Limit TooManyTerms)
   -- degree 8
   pub degree_full : IsRead (with_rules (codes "l0(A)->l1(A^8)"))

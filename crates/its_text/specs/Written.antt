@@ -3,7 +3,8 @@ use Rattle.std.specs.Prelude.{ℕ, List, [], ◌∷◌, codes, Option, Some, Non
 use Rattle.model.specs.Programs.{Name}
 use Rattle.expr_text.specs.Trees.{Sum, sum_behind}
 use Rattle.expr_text.specs.Guards.{Atoms, atoms_behind}
-use Rattle.its_text.specs.Pieces.{Piece, In, Comma, Arrow, GuardMark, SquareOpen, SquareClose, Remark, word, open_bracket, close_bracket}
+use Rattle.its_text.specs.Pieces.{Piece, In, Comma, Arrow, GuardMark, SquareOpen, SquareClose, Remark, word}
+use Rattle.its_text.specs.Pieces.{open_bracket, close_bracket}
 
 -- a rule's left term: a symbol with the names of its arguments
 pub record LeftTerm : Type 0 where

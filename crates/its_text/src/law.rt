@@ -39,15 +39,15 @@ pub fn worked_limits_hold()
     ensures { LimitsAreTold }
 {}
 
-/// The verdict on a text is the program by numbers of the sections that it writes, where nothing stands against it, or its
-/// first fault, or what is lacking where nothing else stands. A text that spells a program is read as that one, or has a
-/// first fault.
+/// The verdict on a text is the program by numbers of the sections that it writes, where nothing stands against it, or
+/// its first fault, or what is lacking where nothing else stands. A text that spells a program is read as that one, or
+/// has a first fault.
 pub fn verdicts_are_right()
     ensures { VerdictsAreRight }
 {}
 
-/// A text is read as a program exactly where it spells that program within the limits: what is read keeps each limit, and
-/// nothing stands against what keeps them all.
+/// A text is read as a program exactly where it spells that program within the limits: what is read keeps each limit,
+/// and nothing stands against what keeps them all.
 pub fn verdicts_are_spelled()
     ensures { VerdictsAreSpelled }
 {}

@@ -2,9 +2,10 @@
 
 ghost use Rattle.std.specs.Prelude.{All, IsTrue, map};
 ghost use Rattle.poly_terms.specs.Views.{form_of};
-ghost use Rattle.farkas_cert.specs.Sizes.{AreMultipliers, AreParts, AreRowNumbers, AreSmall, HasRowNumbers};
+ghost use Rattle.farkas_cert.specs.Sizes.{AreWithinLimit, AreParts, AreRowNumbers, AreSmall, HasRowNumbers};
 
 use farkas_cert::{LIMIT, Scaled, empty, implies, on_rows};
+use linear_forms::POINT_LIMIT;
 use poly_terms::Row;
 use std::alloc::{AllocError, Global};
 use std::test::Fail;
@@ -77,7 +78,7 @@ fn are_small(rows: &[Row]) -> bool
 
 // Whether multipliers are within their limit.
 fn are_multipliers(multipliers: &[u64]) -> bool
-    ensures { IsTrue result → AreMultipliers multipliers.now }
+    ensures { IsTrue result → AreWithinLimit multipliers.now }
 {
     for multiplier in multipliers {
         if *multiplier > LIMIT {
@@ -147,7 +148,7 @@ fn are_parts(parts: &[i64]) -> bool
     ensures { IsTrue result → AreParts parts.now }
 {
     for part in parts {
-        if part.unsigned_abs() > 1 << 45 {
+        if part.unsigned_abs() > POINT_LIMIT {
             return false;
         }
     }
@@ -165,7 +166,11 @@ fn stands(
     let mut parts = Vec::new(alloc);
     parts.push(part)?;
     let at = Scaled { parts, den };
-    if have_row_numbers(&rows) && at.parts.len() <= 128 && are_parts(&at.parts) && den <= 1 << 45 {
+    if have_row_numbers(&rows)
+        && at.parts.len() <= 128
+        && are_parts(&at.parts)
+        && den <= POINT_LIMIT
+    {
         Ok(Some(on_rows(&rows, &at)))
     } else {
         Ok(None)

@@ -29,7 +29,7 @@ fn all_graphs_of_three_symbols_have_the_cycles_of_their_closure(
     let alloc = rt.alloc();
     for bits in 0..512u64 {
         let graph = graph_of_three(bits);
-        let p = program(alloc, &edges(alloc, graph, 3)?)?;
+        let p = program(alloc, 3, &edges(alloc, graph, 3)?)?;
         let found = has_cycle(alloc, &p)?;
         assert!(rt; found == slow_cycle(graph), "at graph {bits}");
     }
@@ -105,16 +105,14 @@ fn untimed_part(graph: u64, nodes: usize, own: u32, rest: u32) -> u64
     part
 }
 
-// Which of the first symbols 0 leads to, as far as a text of flags goes.
-fn slow_reached(alloc: Global, graph: u64, nodes: usize, count: usize) -> Result<String, AllocError>
+// Which of so many symbols 0 leads to, a 1 or a 0 for each.
+fn slow_reached(alloc: Global, graph: u64, nodes: usize) -> Result<String, AllocError>
     requires { nodes ≤ 6 }
 {
     let leads = closure(graph);
     let mut text = String::new(alloc);
     for j in 0..nodes {
-        if j < count {
-            text.push_str(if leads[0][j] { "1" } else { "0" })?;
-        }
+        text.push_str(if leads[0][j] { "1" } else { "0" })?;
     }
     Ok(text)
 }
@@ -140,13 +138,13 @@ fn is_reached_right(alloc: Global, graph: u64, nodes: usize, rest: u32) -> Resul
     if links.len() > 36 {
         return Ok(false);
     }
-    let found = reached(alloc, &links, &timed(alloc, links.len(), rest)?)?;
-    let want = slow_reached(
+    let found = reached(
         alloc,
-        untimed_part(graph, nodes, 0, rest),
-        nodes,
-        found.len(),
+        nodes as u32,
+        &links,
+        &timed(alloc, links.len(), rest)?,
     )?;
+    let want = slow_reached(alloc, untimed_part(graph, nodes, 0, rest), nodes)?;
     Ok(found.as_str() == want.as_str())
 }
 

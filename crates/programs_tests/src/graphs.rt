@@ -1,13 +1,36 @@
-//! The graph of a program: cycles, what can come just before a rule, what is reached, and sets of untimed rules, worked out
-//! by hand.
+//! The graph of a program: cycles, what can come just before a rule, what is reached, and sets of untimed rules, worked
+//! out by hand.
 
+use crate::trying::symbol;
 use its_graph::{Graph, has_cycle};
-use its_model::{Program, Rule};
+use its_model::{Program, Rule, Symbol};
 use std::alloc::{AllocError, Global};
 use std::test::Fail;
 
-/// A program with a rule for each edge, which starts at symbol 0.
-pub(crate) fn program(alloc: Global, edges: &[(u32, u32)]) -> Result<Program, AllocError> {
+// So many symbols without places.
+fn symbols(alloc: Global, count: u32) -> Result<Vec<Symbol>, AllocError> {
+    let mut symbols = Vec::new(alloc);
+    for _ in 0..count {
+        symbols.push(symbol(alloc, b's', 0)?)?;
+    }
+    Ok(symbols)
+}
+
+/// How many symbols there are up to the last one that an edge touches, and the start.
+pub(crate) fn nodes_of(edges: &[(u32, u32)]) -> u32 {
+    let mut last = 0;
+    for (source, target) in edges {
+        last = last.max(*source).max(*target);
+    }
+    last.saturating_add(1)
+}
+
+/// A program with so many symbols and a rule for each edge, which starts at symbol 0.
+pub(crate) fn program(
+    alloc: Global,
+    nodes: u32,
+    edges: &[(u32, u32)],
+) -> Result<Program, AllocError> {
     let mut rules = Vec::new(alloc);
     for (source, target) in edges {
         rules.push(Rule {
@@ -21,7 +44,7 @@ pub(crate) fn program(alloc: Global, edges: &[(u32, u32)]) -> Result<Program, Al
         })?;
     }
     Ok(Program {
-        symbols: Vec::new(alloc),
+        symbols: symbols(alloc, nodes)?,
         start: 0,
         start_names: Vec::new(alloc),
         rules,
@@ -43,7 +66,7 @@ fn cycles_of_small_graphs_are_found(rt: HostRuntime) -> Result<(), Fail> {
         (&[(1, 0), (2, 0), (3, 1), (3, 2), (0, 3)], true),
     ];
     for (edges, want) in table {
-        let found = has_cycle(alloc, &program(alloc, edges)?)?;
+        let found = has_cycle(alloc, &program(alloc, nodes_of(edges), edges)?)?;
         assert_eq!(rt; found, want, "at {edges:?}");
     }
     Ok(())
@@ -66,7 +89,7 @@ fn numbers(alloc: Global, list: &[u32]) -> Result<String, AllocError> {
 
 /// What can come just before a rule, where there is one of that number.
 pub(crate) fn before(alloc: Global, edges: &[(u32, u32)], rule: u32) -> Result<String, AllocError> {
-    let p = program(alloc, edges)?;
+    let p = program(alloc, nodes_of(edges), edges)?;
     if p.rules.len() < 1 << 32 {
         let graph = Graph::new(alloc, &p)?;
         if 0 < rule && rule as usize <= graph.links.len() {
@@ -83,7 +106,7 @@ pub(crate) fn set(
     untimed: &[bool],
     rule: u32,
 ) -> Result<String, AllocError> {
-    let p = program(alloc, edges)?;
+    let p = program(alloc, nodes_of(edges), edges)?;
     if p.rules.len() < 1 << 32 {
         let graph = Graph::new(alloc, &p)?;
         if untimed.len() == graph.links.len() + 1
@@ -98,14 +121,15 @@ pub(crate) fn set(
     String::from_str(alloc, "no flags")
 }
 
-/// Which symbols are reached, a 1 or a 0 for each.
+/// Which of so many symbols are reached, a 1 or a 0 for each.
 pub(crate) fn reached(
     alloc: Global,
+    nodes: u32,
     edges: &[(u32, u32)],
     cut: &[u32],
 ) -> Result<String, AllocError> {
     let mut text = String::new(alloc);
-    let p = program(alloc, edges)?;
+    let p = program(alloc, nodes, edges)?;
     if p.rules.len() < 1 << 32 {
         let graph = Graph::new(alloc, &p)?;
         for is_reached in &graph.reached(alloc, cut)? {
@@ -170,7 +194,7 @@ fn symbols_are_reached_by_rules_that_are_not_cut(rt: HostRuntime) -> Result<(), 
         (NESTED, &[0, 3, 4], "111"),
     ];
     for (edges, cut, want) in table {
-        let found = reached(alloc, edges, cut)?;
+        let found = reached(alloc, want.len() as u32, edges, cut)?;
         assert_eq!(rt; found.as_str(), want, "at {cut:?} of {edges:?}");
     }
     Ok(())

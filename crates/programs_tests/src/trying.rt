@@ -27,7 +27,7 @@ fn letter(alloc: Global, byte: u8) -> Result<Name, AllocError>
 }
 
 // The symbol of one letter.
-fn symbol(alloc: Global, byte: u8, arity: u32) -> Result<Symbol, AllocError>
+pub(crate) fn symbol(alloc: Global, byte: u8, arity: u32) -> Result<Symbol, AllocError>
     ensures { IfOk result (λ s. symbol_of s ≡ record { name = byte ∷ []; arity = arity }) }
 {
     Ok(Symbol {

@@ -1,5 +1,5 @@
-//! Texts that were damaged at random, with what a plain slow reading of the grammar, which collects all refusals and takes
-//! the first, says of each.
+//! Texts that were damaged at random, with what a plain slow reading of the grammar, which collects all refusals and
+//! takes the first, says of each.
 
 use crate::told::told;
 use std::test::Fail;

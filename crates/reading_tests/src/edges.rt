@@ -1,5 +1,5 @@
-//! Each limit at its edge: texts with as many parts as may be are read, and with one more they are refused where the one
-//! too many stands.
+//! Each limit at its edge: texts with as many parts as may be are read, and with one more they are refused where the
+//! one too many stands.
 
 use crate::told::told;
 use itoa::Buffer;

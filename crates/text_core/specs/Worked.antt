@@ -8,7 +8,8 @@ use Rattle.text_core.specs.Readers.{IsBeginning, IsWhole, BreaksOff}
 use Rattle.text_core.specs.Faults.{FaultAt, IsFirst}
 use Rattle.text_core.specs.Reading.{IsTree}
 use Rattle.text_core.specs.Laws.{Laws, AnswersAll, OneTree, OneFirst}
-use Rattle.text_core.specs.Rows.{Piece, Number, Comma, Wrong, One, More, Kind, Syntax, TooLarge, TooMany, rows, lexeme_at}
+use Rattle.text_core.specs.Rows.{Piece, Number, Comma, Wrong, One, More, Kind, Syntax, TooLarge, TooMany, rows}
+use Rattle.text_core.specs.Rows.{lexeme_at}
 
 -- the name with one byte
 abbrev pub letter : ℕ → plain.Name

@@ -1,5 +1,5 @@
--- What was worked out by hand of the order of faults, of where faults are shown, of limits and of laws, on the reader of
--- rows and on readers that differ from it in one part.
+-- What was worked out by hand of the order of faults, of where faults are shown, of limits and of laws, on the reader
+-- of rows and on readers that differ from it in one part.
 use Rattle.std.specs.Prelude.{ℕ, ◌≤◌, List, [], ◌∷◌, Option, Some, None, ◌≡◌, ⊤}
 use Rattle.text_core.specs.Tokens.{Token}
 use Rattle.text_core.specs.Readers.{Fault, Reader, walk}

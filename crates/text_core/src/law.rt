@@ -4,8 +4,8 @@ ghost use Rattle.text_core.specs.Worked.{WorkedValues};
 ghost use Rattle.text_core.specs.WorkedLines.{WorkedLines};
 ghost use Rattle.text_core.specs.WorkedReaders.{WorkedReaders};
 
-/// Names, positions among names, digits, tokens and first faults are what was worked out by hand, and the reader of a small
-/// language answers exactly the tree or exactly the first fault. It has no code: its contract is the law.
+/// Names, positions among names, digits, tokens and first faults are what was worked out by hand, and the reader of a
+/// small language answers exactly the tree or exactly the first fault. It has no code: its contract is the law.
 pub fn worked_values_hold()
     ensures { WorkedValues }
 {}

@@ -29,7 +29,8 @@ impl<'a> Listed<'a> {
 
     /// The position of a name among them, from 0.
     pub fn position(&self, name: &[u8]) -> Option<usize>
-        ensures { MatchOption result (IsFalse (is_among name.now (names_in self.now))) (λ i. (i ≡ position_of name.now (names_in self.now)) × IsTrue (is_among name.now (names_in self.now))) }
+        ensures { MatchOption result (IsFalse (is_among name.now (names_in self.now)))
+            (λ i. (i ≡ position_of name.now (names_in self.now)) × IsTrue (is_among name.now (names_in self.now))) }
     {
         self.names.get_index_of(&name)
     }

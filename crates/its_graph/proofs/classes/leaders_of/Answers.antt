@@ -2,7 +2,7 @@ use Rattle.std.proofs.Common.{ℕ, ◌<◌, List, All, Vec, length, sym, subst}
 use Rattle.std.specs.declared.alloc.Global.{Global}
 use Rattle.std.proofs.lemmas.Result.{IfOk-weaker}
 use Rattle.its_graph.specs.Groups.{Joins}
-use Rattle.its_graph.specs.Classes.{AreNames, AreFirst, AreLeaders}
+use Rattle.its_graph.specs.Classes.{AreClassNames, AreFirst, AreLeaders}
 use Rattle.its_graph.proofs.Filling.{joins-within}
 use Rattle.its_graph.proofs.Naming.{names-within, leaders-are}
 use Rattle.its_graph.proofs.classes.leaders_of.Goals as goal
@@ -18,6 +18,6 @@ first_of_each_name-requires-clause-within c =
 pub returns : goal.returns
 returns c =
     let next = c.args.next.now in
-    let names : AreNames (Joins next) (length next) c.deref.result.now = subst (λ (xs : List ℕ). AreNames (Joins next) (length next) xs) (sym c.deref.ensures.value) c.in_ok-names.ensures in
+    let names : AreClassNames (Joins next) (length next) c.deref.result.now = subst (λ (xs : List ℕ). AreClassNames (Joins next) (length next) xs) (sym c.deref.ensures.value) c.in_ok-names.ensures in
     IfOk-weaker c.first_of_each_name.result (λ (leaders : Vec ℕ Global). AreFirst c.deref.result.now leaders.items) (λ (leaders : Vec ℕ Global). AreLeaders (Joins next) (length next) leaders.items)
     (λ leaders h. leaders-are (Joins next) (length next) c.deref.result.now leaders.items names h) c.first_of_each_name.ensures

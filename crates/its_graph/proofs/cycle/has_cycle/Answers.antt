@@ -3,7 +3,7 @@ use Rattle.std.specs.declared.alloc.Global.{Global}
 use Rattle.its_model.specs.declared.program.Rule.{Rule}
 use Rattle.its_graph.specs.Groups.{IsPair, items_of}
 use Rattle.its_graph.specs.Components.{IsListing}
-use Rattle.its_graph.specs.Links.{link_of, AreBelow}
+use Rattle.its_graph.specs.Links.{link_of, LeadBelow}
 use Rattle.its_graph.specs.Numbers.{AreNumbers, HasInside}
 use Rattle.its_graph.proofs.PairLists.{Pair, pair-within}
 use Rattle.its_graph.proofs.Numbering.{apart, cycle-inside, links-within}
@@ -14,7 +14,7 @@ pub components_below-requires-clause-within : goal.components_below-requires-cla
 components_below-requires-clause-within c =
     let n : ℕ = c.symbol_limit-symbols.result in
     let rules = c.args.p.now.rules.items in
-    let below : AreBelow n rules = subst (λ (rs : List Rule). AreBelow n rs) c.deref.ensures.value c.symbol_limit-symbols.ensures.below in
+    let below : LeadBelow n rules = subst (λ (rs : List Rule). LeadBelow n rs) c.deref.ensures.value c.symbol_limit-symbols.ensures.below in
     let links : c.in_ok-links.links.items ≡ map link_of rules = c.in_ok-links.ensures ∙ ap (λ (rs : List Rule). map link_of rs) c.deref-2.ensures.value in
     subst (λ (es : List Pair). All (λ (e : Pair). (e.0 < n) × (e.1 < n)) es) (sym (c.deref-3.ensures.value ∙ links)) (links-within n rules below)
 
@@ -27,7 +27,7 @@ pub numbers_of-requires-clause-apart : goal.numbers_of-requires-clause-apart
 numbers_of-requires-clause-apart c =
     let n : ℕ = c.symbol_limit-symbols.result in
     let rules = c.args.p.now.rules.items in
-    let below : AreBelow n rules = subst (λ (rs : List Rule). AreBelow n rs) c.deref.ensures.value c.symbol_limit-symbols.ensures.below in
+    let below : LeadBelow n rules = subst (λ (rs : List Rule). LeadBelow n rs) c.deref.ensures.value c.symbol_limit-symbols.ensures.below in
     let links : c.in_ok-links.links.items ≡ map link_of rules = c.in_ok-links.ensures ∙ ap (λ (rs : List Rule). map link_of rs) c.deref-2.ensures.value in
     let listing : IsListing (IsPair (map link_of rules)) n (map items_of c.deref-4.result.now) =
     subst (λ (t : List (Vec ℕ Global)). IsListing (IsPair (map link_of rules)) n (map items_of t)) (sym c.deref-4.ensures.value)
@@ -39,7 +39,7 @@ pub has_link_inside-requires : goal.has_link_inside-requires
 has_link_inside-requires c =
     let n : ℕ = c.symbol_limit-symbols.result in
     let rules = c.args.p.now.rules.items in
-    let below : AreBelow n rules = subst (λ (rs : List Rule). AreBelow n rs) c.deref.ensures.value c.symbol_limit-symbols.ensures.below in
+    let below : LeadBelow n rules = subst (λ (rs : List Rule). LeadBelow n rs) c.deref.ensures.value c.symbol_limit-symbols.ensures.below in
     let links : c.in_ok-links.links.items ≡ map link_of rules = c.in_ok-links.ensures ∙ ap (λ (rs : List Rule). map link_of rs) c.deref-2.ensures.value in
     let size : length c.deref-5.result.now ≡ n = ap length c.deref-5.ensures.value ∙ c.in_ok-numbers.ensures.size in
     subst (λ (k : ℕ). All (λ (e : Pair). (e.0 < k) × (e.1 < k)) c.deref-6.result.now) (sym size)
@@ -50,7 +50,7 @@ pub returns : goal.returns
 returns c =
     let n : ℕ = c.symbol_limit-symbols.result in
     let rules = c.args.p.now.rules.items in
-    let below : AreBelow n rules = subst (λ (rs : List Rule). AreBelow n rs) c.deref.ensures.value c.symbol_limit-symbols.ensures.below in
+    let below : LeadBelow n rules = subst (λ (rs : List Rule). LeadBelow n rs) c.deref.ensures.value c.symbol_limit-symbols.ensures.below in
     let links : c.in_ok-links.links.items ≡ map link_of rules = c.in_ok-links.ensures ∙ ap (λ (rs : List Rule). map link_of rs) c.deref-2.ensures.value in
     let listing : IsListing (IsPair (map link_of rules)) n (map items_of c.deref-4.result.now) =
     subst (λ (t : List (Vec ℕ Global)). IsListing (IsPair (map link_of rules)) n (map items_of t)) (sym c.deref-4.ensures.value)

@@ -4,7 +4,7 @@ use Rattle.std.proofs.lemmas.Result.{IfOk-weaker}
 use Rattle.its_graph.specs.Groups.{IsPair, items_of, values_in}
 use Rattle.its_graph.specs.Components.{IsListing}
 use Rattle.its_graph.specs.Classes.{AreLeaders}
-use Rattle.its_graph.specs.Orders.{Needs, AreInOrder}
+use Rattle.its_graph.specs.Orders.{Needs, AreLeadersInOrder}
 use Rattle.its_graph.specs.Members.{AreMembers}
 use Rattle.its_graph.proofs.Membership.{found-listing, order-few, order-within, leaders-within, order-distinct, order-all, ok-both}
 use Rattle.its_graph.proofs.listing.components_below.Goals as goal
@@ -16,10 +16,10 @@ leaders-read Edge n found leaders e h = subst (λ (xs : List ℕ). AreLeaders Ed
 
 -- and so is their order
 order-read : (Edge : ℕ → ℕ → Type 0) (given leaders found order : List ℕ) → given ≡ leaders → order ≡ found
-    → AreInOrder (Needs Edge given) given found → AreInOrder (Needs Edge leaders) leaders order
+    → AreLeadersInOrder (Needs Edge given) given found → AreLeadersInOrder (Needs Edge leaders) leaders order
 order-read Edge given leaders found order l o h =
-    subst (λ (xs : List ℕ). AreInOrder (Needs Edge leaders) leaders xs) (sym o)
-    (subst (λ (xs : List ℕ). AreInOrder (Needs Edge xs) xs found) l h)
+    subst (λ (xs : List ℕ). AreLeadersInOrder (Needs Edge leaders) leaders xs) (sym o)
+    (subst (λ (xs : List ℕ). AreLeadersInOrder (Needs Edge xs) xs found) l h)
 
 -- there are at most as many leaders as nodes
 pub members_of-requires-clause-order_few : goal.members_of-requires-clause-order_few
@@ -44,7 +44,7 @@ members_of-requires-clause-leaders_within c =
 -- the leaders in order differ
 pub members_of-requires-clause-distinct : goal.members_of-requires-clause-distinct
 members_of-requires-clause-distinct c =
-    let order : AreInOrder (Needs (IsPair c.args.edges.now) c.deref-2.result.now) c.deref-2.result.now
+    let order : AreLeadersInOrder (Needs (IsPair c.args.edges.now) c.deref-2.result.now) c.deref-2.result.now
     c.deref-3.result.now =
     order-read (IsPair c.args.edges.now) _ _ _ _ (c.deref.ensures.value ∙ sym c.deref-2.ensures.value)
     c.deref-3.ensures.value c.in_ok-order.ensures in
@@ -68,7 +68,7 @@ returns-clause-listing c =
     let order = c.deref-3.result.now in
     let l : AreLeaders E c.args.nodes leaders = leaders-read E c.args.nodes _ _ c.deref-2.ensures.value
     c.in_ok-leaders.ensures in
-    let o : AreInOrder (Needs E leaders) leaders order = order-read E _ _ _ _
+    let o : AreLeadersInOrder (Needs E leaders) leaders order = order-read E _ _ _ _
     (c.deref.ensures.value ∙ sym c.deref-2.ensures.value) c.deref-3.ensures.value c.in_ok-order.ensures in
     ok-both c.members_of.result (λ (found : Vec (Vec ℕ Global) Global). length found.items ≡ length order)
     (λ (found : Vec (Vec ℕ Global) Global). (k : ℕ) → k < length order

@@ -2,7 +2,7 @@ use Rattle.std.proofs.Common.{◌≡◌, ◌↔◌, ℕ, ◌<◌, List, All, Con
 use Rattle.std.specs.declared.alloc.Global.{Global}
 use Rattle.std.proofs.lemmas.Result.{IfOk-weaker}
 use Rattle.its_graph.specs.Groups.{values_in, values_of, Joins, IsPair}
-use Rattle.its_graph.specs.Orders.{IsLeader, Needs, AreInOrder, AreOrderable, needs_among}
+use Rattle.its_graph.specs.Orders.{IsLeader, Needs, AreLeadersInOrder, AreOrderable, needs_among}
 use Rattle.its_graph.proofs.PairLists.{Pair}
 use Rattle.its_graph.proofs.Needing.{needs-table, needs-keys, orderable, order-by-edges}
 use Rattle.its_graph.proofs.order.order_of.Goals as goal
@@ -29,5 +29,5 @@ pub returns : goal.returns
 returns c =
     let values : (a : ℕ) → values_in c.deref-2.result.now a ≡ values_of (needs_among c.args.leaders.now c.args.edges.now) a =
     λ a. ap (λ (t : List (Vec ℕ Global)). values_in t a) c.deref-2.ensures.value ∙ (c.in_ok-needs.ensures.values a ∙ ap (λ (xs : List Pair). values_of xs a) (c.deref.ensures.value ∙ c.in_ok-needs_of.ensures)) in
-    IfOk-weaker c.sorted.result (λ (order : Vec ℕ Global). AreInOrder (Joins c.deref-2.result.now) c.args.leaders.now order.items) (λ (order : Vec ℕ Global). AreInOrder (Needs (IsPair c.args.edges.now) c.args.leaders.now) c.args.leaders.now order.items)
+    IfOk-weaker c.sorted.result (λ (order : Vec ℕ Global). AreLeadersInOrder (Joins c.deref-2.result.now) c.args.leaders.now order.items) (λ (order : Vec ℕ Global). AreLeadersInOrder (Needs (IsPair c.args.edges.now) c.args.leaders.now) c.args.leaders.now order.items)
     (λ order h. order-by-edges (IsPair c.args.edges.now) c.args.leaders.now c.requires.leaders_are (Joins c.deref-2.result.now) (needs-table c.args.leaders.now c.args.edges.now c.deref-2.result.now c.requires.edges_within values) order.items h) c.sorted.ensures
