@@ -18,7 +18,7 @@ use Rattle.linear_forms.specs.RuleQuestions.{RankedSet, constant_form, has_symbo
 use Rattle.linear_forms.proofs.ListLaws.{length-listed, after-is, All-front, All-behind}
 use Rattle.linear_forms.proofs.SolutionLaws.{All-listed}
 use Rattle.rule_forms.specs.Ranking.{Function}
-use Rattle.rule_forms.specs.RankLaws.{AreShown, loss as loss_shown, less as less_shown}
+use Rattle.rule_forms.specs.RankLaws.{AreShown, loss as loss_shown}
 use Rattle.rule_forms.proofs.RankFits.{function-fits}
 use Rattle.rule_forms.proofs.RankSolutions.{rank-shown}
 use Rattle.model.specs.Programs.{Program, Rule, rule_at, arity_of}
@@ -27,7 +27,8 @@ use Rattle.its_model.specs.Valid.{IsValid}
 use Rattle.guard_prep.proofs.StepLaws.{valid-at}
 use Rattle.proof_nodes.specs.AcceptsPlain.{IsRule, AreMultipliers}
 use Rattle.proof_nodes.specs.AcceptsRank.{HasFormShape, HasRankShape, Loses, HasFloor, moves_of, AcceptsRank}
-use Rattle.proof_nodes.specs.Combined.{loss, less, number_form}
+use Rattle.proof_nodes.specs.Combined.{loss}
+use Rattle.linear_forms.specs.Combinations.{less}
 use Rattle.proof_nodes.specs.Composed.{rank_form}
 use Rattle.proof_nodes.specs.Gaps.{SymbolPlace}
 use Rattle.proof_nodes.specs.Graph.{symbols_of}
@@ -134,7 +135,7 @@ abbrev IsShownAt : RankedSet → Function → ℤ → ℕ → List ℕ → Type 
 IsShownAt b f d t m = Implies (b.rule t).rows m (loss_shown f (b.rule t) (if nat_eq t b.strict then d else pos 0))
 
 abbrev IsShownFloor : RankedSet → Function → ℤ → List ℕ → Type 0
-IsShownFloor b f d m = Implies (b.rule b.strict).rows m (less_shown (f (b.rule b.strict).source) (constant_form d))
+IsShownFloor b f d m = Implies (b.rule b.strict).rows m (less (f (b.rule b.strict).source) (constant_form d))
 
 -- what is shown, rule by rule
 record Split (b : RankedSet) (f : Function) (d : ℤ) (set : List ℕ) (moves : List (List ℕ))
@@ -192,15 +193,15 @@ accepted-loss f forms (Some q) r m k e s t h =
 
 accepted-floor : (f : Function) (forms : List SymbolForm) (o : Option Rule) (r : Rule) (m : List ℕ) (d : ℤ) → o ≡ Some r
     → rank_form forms (Some r.source) ≡ f r.source → Implies (forms_in o).rows m
-    (less_shown (f (forms_in o).source) (constant_form d))
-    → Implies (rows_in o) m (less (rank_form forms (source_in o)) (number_form d))
+    (less (f (forms_in o).source) (constant_form d))
+    → Implies (rows_in o) m (less (rank_form forms (source_in o)) (constant_form d))
 accepted-floor f forms None r m d e s h = absurd (nothing e)
   where
     nothing : None ≡ Some r → ⊥
     nothing e = cc
 accepted-floor f forms (Some q) r m d e s h =
     let same : r ≡ q = cc in
-    subst (λ (g : Form). Implies (rows_in (Some q)) m (less g (number_form d)))
+    subst (λ (g : Form). Implies (rows_in (Some q)) m (less g (constant_form d)))
     (sym (subst (λ (x : Rule). rank_form forms (Some x.source) ≡ f x.source) same s)) h
 
 module _ (p : Program) (set : List ℕ) (strict : ℕ) (shut : List SymbolPlace) (pivots : ℕ) (node : RankNode)
@@ -364,7 +365,7 @@ module _ (p : Program) (set : List ℕ) (strict : ℕ) (shut : List SymbolPlace)
   floor-holds =
       let i = rule-at strict rules.inside in
       subst (λ (u : ℕ). Implies (rows_in (rule_at p u)) node.floor
-      (less (rank_form node.forms (source_of p u)) (number_form (pos node.den)))) (sym n.numbered)
+      (less (rank_form node.forms (source_of p u)) (constant_form (pos node.den)))) (sym n.numbered)
       (accepted-floor f node.forms (rule_at p strict) i.rule node.floor (pos node.den) i.numbered
       (source-part strict rules.inside i) shown.last)
 

@@ -35,7 +35,7 @@ use Rattle.rank_search.specs.RankAnswers.{rank_program, part_at, points_of, IsRa
 use Rattle.rank_search.proofs.Trips.{causes-same}
 
 -- the same fractions, over a denominator, are the same numbers
-over-same : (fs gs : List Frac) (numbers : List ℤ) (den : ℕ) → AreSameFractions fs gs → AreOver fs
+pub over-same : (fs gs : List Frac) (numbers : List ℤ) (den : ℕ) → AreSameFractions fs gs → AreOver fs
     (length fs) numbers den
     → AreOver gs (length gs) numbers den
 over-same fs gs numbers den same over = record {
@@ -95,16 +95,16 @@ scaled-once fs gs xs ys d e same a b = (
         mul-cancel_ℤ f v w l (mul_comm_ℤ f v ∙ (p ∙ (ap (λ (k : ℕ). n *ℤ pos k) dens ∙ (sym q ∙ mul_comm_ℤ w f))))
 
 module _ (p : LinearProgram) (pivots : ℕ) (xs ys : List ℤ) (d e : ℕ) where
-  solution-once : IsScaledSolution p pivots xs d → IsScaledSolution p pivots ys e → (xs ≡ ys) × (d ≡ e)
+  pub solution-once : IsScaledSolution p pivots xs d → IsScaledSolution p pivots ys e → (xs ≡ ys) × (d ≡ e)
   solution-once a b =
       scaled-once a.point b.point xs ys d e
       (optimal-same p pivots a.k b.k a.point b.point a.basis b.basis a.ends b.ends).0 a.scaled b.scaled
 
-  dual-once : IsScaledDual p pivots xs d → IsScaledDual p pivots ys e → (xs ≡ ys) × (d ≡ e)
+  pub dual-once : IsScaledDual p pivots xs d → IsScaledDual p pivots ys e → (xs ≡ ys) × (d ≡ e)
   dual-once a b = scaled-once a.dual b.dual xs ys d e
       (infeasible-same p pivots a.k b.k a.dual b.dual a.ends b.ends).0 a.scaled b.scaled
 
-  apart : IsScaledSolution p pivots xs d → IsScaledDual p pivots ys e → ⊥
+  pub apart : IsScaledSolution p pivots xs d → IsScaledDual p pivots ys e → ⊥
   apart a b = ends-apart p pivots a.k b.k a.point a.basis b.dual a.ends b.ends
 
 -- points with the same numbers are the same

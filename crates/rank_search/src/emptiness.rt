@@ -7,9 +7,9 @@ ghost use Rattle.rank_search.specs.EmptyAnswers.{IsPrepared, IsEmptyAnswer};
 ghost use Rattle.rank_search.specs.ProgramQuestions.{forms_of};
 ghost use Rattle.rank_search.specs.Programs.{IsProblemOf};
 
+use crate::causes::told;
 use crate::goals::constant_row;
 use crate::scaled::{element_from, multipliers_from};
-use crate::told::told;
 use guard_prep::RuleRows;
 use lp_builder::Builder;
 use poly_terms::Memory;

@@ -120,8 +120,8 @@ fn form_from(
     })
 }
 
-// A parameter: its plus column less its minus column.
-fn parameter_at(numbers: &[i64], parameter: u32) -> i64
+/// A parameter of a solution: its plus column less its minus column.
+pub fn parameter_at(numbers: &[i64], parameter: u32) -> i64
     requires { AreWithin certificate_limit (length numbers.now) numbers.now }
     ensures { result ≡ parameters_of (at numbers.now) parameter }
 {

@@ -137,8 +137,12 @@ fn less_after(
     difference(alloc, &before, after)
 }
 
-// The difference of two forms.
-fn difference(alloc: Global, before: &Row, after: &Row) -> Result<Row, Memory>
+/// The difference of two forms whose numbers are those of rows.
+///
+/// # Errors
+///
+/// `Memory` where an allocation fails.
+pub fn difference(alloc: Global, before: &Row, after: &Row) -> Result<Row, Memory>
     requires before { IsSmall (form_of before.now) }
     requires after { IsSmall (form_of after.now) }
     ensures same { IfOk result (λ row. form_of row ≡ form_sum (form_of before.now) (opposite (form_of after.now))) }
@@ -175,8 +179,12 @@ fn number_at(coefs: &[i128], unknown: usize) -> i128
     }
 }
 
-// The form that is an unknown.
-fn unit_row(alloc: Global, unknown: u32) -> Result<Row, Memory>
+/// The form that is an unknown.
+///
+/// # Errors
+///
+/// `Memory` where an allocation fails.
+pub fn unit_row(alloc: Global, unknown: u32) -> Result<Row, Memory>
     ensures { IfOk result (λ row. form_of row ≡ unknown_form unknown) }
 {
     let mut coefs = vec![in alloc; 0; unknown as usize]?;
@@ -195,7 +203,7 @@ pub(crate) fn fixed_row(alloc: Global, part: Part) -> Row
 }
 
 /// The form that is a number everywhere.
-pub(crate) fn constant_row(alloc: Global, constant: i128) -> Row
+pub fn constant_row(alloc: Global, constant: i128) -> Row
     ensures { form_of result ≡ constant_form constant }
 {
     Row {

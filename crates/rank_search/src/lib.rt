@@ -5,6 +5,7 @@
 #![tactic(auto)]
 
 mod answer;
+mod causes;
 mod coefficients;
 mod emptiness;
 mod found;
@@ -15,12 +16,15 @@ mod problem;
 mod ranking;
 mod scaled;
 mod symbols;
-mod told;
 
 pub use answer::RankAnswer;
+pub use causes::told;
 pub use emptiness::find_empty;
+pub use found::parameter_at;
+pub use goals::{constant_row, difference, unit_row};
 pub use laws::{
     empty_answers_are_exact, empty_answers_are_one, empty_nodes_are_accepted,
     rank_answers_are_exact, rank_answers_are_one, ranked_nodes_are_accepted, ranked_nodes_rank,
 };
 pub use ranking::find_rank;
+pub use scaled::{element_from, multipliers_from};

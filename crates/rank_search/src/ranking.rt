@@ -8,12 +8,12 @@ ghost use Rattle.rank_search.specs.ProgramQuestions.{ranked_set, places_of};
 ghost use Rattle.rank_search.specs.RankAnswers.{IsRuleSet, AreEmptyAnswers, MayAllRun, IsRankAnswer};
 
 use crate::answer::RankAnswer;
+use crate::causes::told;
 use crate::coefficients::coefficients_of;
 use crate::found::rank_node;
 use crate::gap::{first_tripped, gap_of_dual};
 use crate::problem::rank_problem;
 use crate::symbols::symbols_of_set;
-use crate::told::told;
 use guard_prep::RuleRows;
 use its_model::Program;
 use poly_terms::Memory;

@@ -9,7 +9,11 @@ use poly_terms::Memory;
 use std::alloc::Global;
 
 /// The multipliers of so many rows, from the columns that begin at a place.
-pub(crate) fn multipliers_from(
+///
+/// # Errors
+///
+/// `Memory` where an allocation fails.
+pub fn multipliers_from(
     alloc: Global,
     numbers: &[i64],
     start: usize,
@@ -27,7 +31,11 @@ pub(crate) fn multipliers_from(
 
 /// The part of a group with so many unknowns, from the lines that begin at a place: a part for each unknown, and then
 /// the denominator.
-pub(crate) fn element_from(
+///
+/// # Errors
+///
+/// `Memory` where an allocation fails.
+pub fn element_from(
     alloc: Global,
     numbers: &[i64],
     start: usize,

@@ -8,7 +8,7 @@ use proof_tree::TripCause;
 use simplex_core::Cause;
 
 /// The cause as a report tells it.
-pub(crate) fn told(cause: Cause) -> TripCause
+pub fn told(cause: Cause) -> TripCause
     ensures { cause_of result ≡ cause_solved cause }
 {
     match cause {

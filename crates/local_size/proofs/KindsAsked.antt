@@ -1,0 +1,96 @@
+-- Where the search of a side ends, and which kinds it has asked before.
+use Rattle.std.proofs.Common.{◌≡◌, ℕ, zero, suc, ◌+◌, ◌≤◌, ap, arith, refl, inl, inr, Bool, true, false, not, List}
+use Rattle.std.proofs.Common.{[], ◌∷◌, ◌++◌, filter}
+use Rattle.std.specs.Prelude.{ℤ, ◌==◌}
+use Rattle.std.specs.List.{All, range_with_len}
+use Rattle.std.proofs.lemmas.List.Elements.{All-nil, All-cons, All-head, All-tail, All-append, All-filter}
+use Rattle.linear_forms.specs.Forms.{Form}
+use Rattle.linear_forms.specs.RuleQuestions.{RuleForms}
+use Rattle.rule_forms.specs.Kinds.{Kind, Number, Argument, Affine, Plus, Minus, arguments, places_from, kinds_for}
+use Rattle.rule_forms.specs.Questions.{IsKindOf}
+use Rattle.proof_nodes.specs.Nodes.{Arm}
+use Rattle.local_size.specs.Sides.{ArmFound, NoneFound, ComesTo, SearchComesTo}
+
+-- a place of a left argument
+abbrev IsLeft : ℕ → ℕ → Type 0
+IsLeft left place = (1 ≤ place) × (place ≤ left)
+
+-- numbers of a range are such places
+range-left : (left a n : ℕ) → 1 ≤ a → a + n ≤ suc left → All (IsLeft left) (range_with_len a n)
+range-left left a zero l m = All-nil (IsLeft left)
+range-left left a (suc n) l m =
+    All-cons (IsLeft left) a (range_with_len (a + 1) n) (l, omega (arith, m))
+    (range-left left (a + 1) n (omega (arith, l)) (omega (arith, m)))
+
+-- so are those of the arguments, in their order
+places-left : (left place : ℕ) → All (IsLeft left) (places_from left place)
+places-left left place =
+    let all = range-left left 1 left (omega arith) (omega arith) in
+    All-append (IsLeft left) (filter (λ j. j == place) (range_with_len 1 left))
+    (filter (λ j. not (j == place)) (range_with_len 1 left))
+    (All-filter (λ j. j == place) (IsLeft left) (range_with_len 1 left) all)
+    (All-filter (λ j. not (j == place)) (IsLeft left) (range_with_len 1 left) all)
+
+-- arguments at such places are kinds that the rule has
+arguments-fit : (left : ℕ) (places : List ℕ) → All (IsLeft left) places → All (IsKindOf left) (arguments places)
+arguments-fit left [] h = All-nil (IsKindOf left)
+arguments-fit left (place ∷ places) h =
+    let here = All-head (IsLeft left) place places h in
+    All-cons (IsKindOf left) (Argument place Plus) (Argument place Minus ∷ arguments places) here
+    (All-cons (IsKindOf left) (Argument place Minus) (arguments places) here
+    (arguments-fit left places (All-tail (IsLeft left) place places h)))
+
+-- so are all kinds that are looked for
+pub kinds-fit : (bent : Bool) (left place : ℕ) → All (IsKindOf left) (kinds_for bent left place)
+kinds-fit true left place = All-cons (IsKindOf left) Affine [] tt (All-nil (IsKindOf left))
+kinds-fit false left place =
+    All-cons (IsKindOf left) Number (arguments (places_from left place) ++ Affine ∷ []) tt
+    (All-append (IsKindOf left) (arguments (places_from left place)) (Affine ∷ [])
+    (arguments-fit left (places_from left place) (places-left left place))
+    (All-cons (IsKindOf left) Affine [] tt (All-nil (IsKindOf left))))
+
+-- any form is the last kind
+pub kinds-end : (bent : Bool) (left place : ℕ)
+    → (before : List Kind) × (kinds_for bent left place ≡ before ++ Affine ∷ [])
+kinds-end true left place = ([], refl)
+kinds-end false left place = (Number ∷ arguments (places_from left place), refl)
+
+module _ (r : RuleForms) (w : Form) (pivots : ℕ) where
+  -- the question of a kind comes to none
+  abbrev pub HasDual : Kind → Type 0
+  HasDual kind = (ray : List ℤ) × ComesTo r w pivots kind (NoneFound ray)
+
+  -- an arm that is found: the question of its kind comes to it, and those before come to none
+  pub record Found (kinds : List Kind) (arm : Arm) : Type 0 where
+    pub kind : Kind
+    pub before : List Kind
+    pub behind : List Kind
+    pub order : kinds ≡ before ++ kind ∷ behind
+    pub none : All HasDual before
+    pub comes : ComesTo r w pivots kind (ArmFound arm)
+
+  -- an arm that a search comes to is found
+  pub found : (kinds : List Kind) (arm : Arm) → SearchComesTo r w pivots kinds (ArmFound arm) → Found kinds arm
+  found [] arm h = absurd h
+  found (kind ∷ []) arm h =
+      record { kind = kind; before = []; behind = []; order = refl; none = All-nil HasDual; comes = h }
+  found (kind ∷ next ∷ kinds) arm (inl h) =
+      record { kind = kind; before = []; behind = next ∷ kinds; order = refl; none = All-nil HasDual; comes = h.1 }
+  found (kind ∷ next ∷ kinds) arm (inr h) =
+      let f = found (next ∷ kinds) arm h.1 in record {
+        kind = f.kind;
+        before = kind ∷ f.before;
+        behind = f.behind;
+        order = ap (λ (ks : List Kind). kind ∷ ks) f.order;
+        none = All-cons HasDual kind f.before h.0 f.none;
+        comes = f.comes;
+      }
+
+  -- a search that comes to none has asked the last kind
+  pub last-asked : (kinds : List Kind) (kind : Kind) (ray : List ℤ)
+      → SearchComesTo r w pivots (kinds ++ kind ∷ []) (NoneFound ray) → ComesTo r w pivots kind (NoneFound ray)
+  last-asked [] kind ray h = h
+  last-asked (first ∷ []) kind ray (inl h) = absurd h.0
+  last-asked (first ∷ []) kind ray (inr h) = h.1
+  last-asked (first ∷ next ∷ kinds) kind ray (inl h) = absurd h.0
+  last-asked (first ∷ next ∷ kinds) kind ray (inr h) = last-asked (next ∷ kinds) kind ray h.1

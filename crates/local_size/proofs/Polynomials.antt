@@ -1,0 +1,64 @@
+-- An update that is a polynomial of degree 2 or more in left variables alone is accepted as such.
+use Rattle.std.proofs.Common.{◌≡◌, ℕ, zero, suc, ◌<◌, ap, sym, ◌∙◌, subst, Bool, true, false, List, [], ◌∷◌}
+use Rattle.std.proofs.Common.{map, if◌then◌else◌, Option, Some, None}
+use Rattle.std.specs.Prelude.{nat_lt, slice_index_or}
+use Rattle.std.specs.List.{All, list_all}
+use Rattle.std.proofs.lemmas.Bool.{true≢false, and_parts, ltb-true}
+use Rattle.std.proofs.lemmas.List.Elements.{All-nil, All-cons}
+use Rattle.model.specs.Polynomials.{Polynomial}
+use Rattle.model.specs.Programs.{Program, Rule, rule_at}
+use Rattle.guard_prep.specs.Prepared.{is_bent, polys_of, prepared}
+use Rattle.proof_nodes.specs.Nodes.{Spot}
+use Rattle.proof_nodes.specs.AcceptsSizes.{ReadsLeft, left_in, IsPolynomialUpdate}
+use Rattle.proof_nodes.specs.ComposedSizes.{poly_of}
+use Rattle.proof_setting.specs.Setting.{polys_in, bent_at, setting_of}
+use Rattle.local_size.specs.Places.{is_of_left, update_at, is_polynomial_at}
+
+-- what passes a test, one by one
+all-pass : {A : Type 0} (test : A → Bool) (P : A → Type 0) → ((x : A) → test x ≡ true → P x) → (xs : List A)
+    → list_all test xs ≡ true → All P xs
+all-pass test P h [] e = All-nil P
+all-pass test P h (x ∷ xs) e =
+    let parts = and_parts (test x) (list_all test xs) e in
+    All-cons P x xs (h x parts.0) (all-pass test P h xs parts.1)
+
+-- a polynomial that is tested to be of left variables is
+reads-left : (left : ℕ) (q : Polynomial) → is_of_left left q ≡ true → ReadsLeft left q
+reads-left left q e =
+    all-pass (λ m. list_all (λ v. nat_lt v left) m.vars) (λ m. All (λ v. v < left) m.vars)
+    (λ m f. all-pass (λ v. nat_lt v left) (λ v. v < left) (λ v g. ltb-true v left g) m.vars f) q e
+
+-- a bent update is found among the bent ones
+bent-there : (qs : List Polynomial) (i : ℕ) → slice_index_or (map is_bent qs) i false ≡ true
+    → bent_at qs i ≡ Some (slice_index_or qs i [])
+bent-there [] i e = absurd (true≢false (sym e))
+bent-there (q ∷ qs) zero e = ap (λ (b : Bool). if b then Some q else None) e
+bent-there (q ∷ qs) (suc i) e = bent-there qs i e
+
+module _ (p : Program) (r : Rule) (t : ℕ) (numbered : rule_at p t ≡ Some r) where
+  -- the polynomial that acceptance sees
+  poly-seen : (place : ℕ) → is_polynomial_at (prepared r) place ≡ true
+      → poly_of (setting_of p) t place ≡ Some (update_at (prepared r) place)
+  poly-seen zero e = absurd (true≢false (sym e))
+  poly-seen (suc i) e =
+      ap (λ (o : Option Rule). bent_at (polys_in o) i) numbered
+      ∙ bent-there (polys_of r) i
+      (and_parts (slice_index_or (map is_bent (polys_of r)) i false) _ e).0
+
+  -- it reads left variables alone
+  left-read : (place : ℕ) → is_polynomial_at (prepared r) place ≡ true
+      → ReadsLeft (left_in (rule_at p t)) (update_at (prepared r) place)
+  left-read zero e = absurd (true≢false (sym e))
+  left-read (suc i) e =
+      subst (λ (o : Option Rule). ReadsLeft (left_in o) (slice_index_or (polys_of r) i [])) (sym numbered)
+      (reads-left r.left (slice_index_or (polys_of r) i [])
+      (and_parts (slice_index_or (map is_bent (polys_of r)) i false) _ e).1)
+
+-- the update is accepted
+pub polynomial-accepted : (p : Program) (r : Rule) (spot : Spot) → rule_at p spot.rule ≡ Some r
+    → is_polynomial_at (prepared r) spot.place ≡ true → IsPolynomialUpdate (setting_of p) spot
+polynomial-accepted p r spot numbered e = record {
+  polynomial = update_at (prepared r) spot.place;
+  bent = poly-seen p r spot.rule numbered spot.place e;
+  left_alone = left-read p r spot.rule numbered spot.place e;
+}

@@ -1,0 +1,41 @@
+-- The rows that the questions of a place are made of.
+use Rattle.std.proofs.Common.{◌≡◌, ℕ, zero, suc, refl, sym, ap, ◌∙◌, subst, arith, List, [], ◌∷◌, map}
+use Rattle.std.specs.Prelude.{ℤ, pos, ◌*ℤ◌}
+use Rattle.std.proofs.lemmas.Int.{ints}
+use Rattle.linear_forms.specs.Forms.{Form}
+use Rattle.linear_forms.specs.Combinations.{form_times}
+use Rattle.linear_forms.specs.RuleQuestions.{before_rule}
+use Rattle.rule_forms.specs.Kinds as plain
+use Rattle.rule_forms.specs.Kinds.{Number, Argument, Affine, Plus, Minus}
+use Rattle.rule_forms.proofs.Sought.{fixed_part}
+use Rattle.rank_search.specs.Goals.{IsSmall}
+use Rattle.rank_search.proofs.Sums.{constant-small, unknown-small}
+use Rattle.local_size.proofs.Values.{opposite-small}
+
+-- once a form is itself
+once-each : (xs : List ℤ) → map (λ a. pos 1 *ℤ a) xs ≡ xs
+once-each [] = refl
+once-each (x ∷ xs) = ap (λ (y : ℤ). y ∷ map (λ a. pos 1 *ℤ a) xs) (once x) ∙ ap (λ (ys : List ℤ). x ∷ ys) (once-each xs)
+  where
+    once : (a : ℤ) → pos 1 *ℤ a ≡ a
+    once a = omega (arith, ints)
+
+pub once-form : (f : Form) → form_times (pos 1) f ≡ f
+once-form f =
+    ap (λ (xs : List ℤ). record { coefs = xs; constant = pos 1 *ℤ f.constant }) (once-each f.coefs)
+    ∙ ap (λ (z : ℤ). record { coefs = f.coefs; constant = z }) (once f.constant)
+  where
+    once : (a : ℤ) → pos 1 *ℤ a ≡ a
+    once a = omega (arith, ints)
+
+-- an argument and the constant 1 are small
+pub argument-small : (place : ℕ) → IsSmall (before_rule place)
+argument-small zero = constant-small (pos 1) (omega arith)
+argument-small (suc i) = unknown-small i
+
+-- so is what isn't sought
+pub fixed-small : (kind : plain.Kind) → IsSmall (fixed_part kind)
+fixed-small Number = constant-small (pos 0) (omega arith)
+fixed-small (Argument place Plus) = subst IsSmall (sym (once-form (before_rule place))) (argument-small place)
+fixed-small (Argument place Minus) = opposite-small (before_rule place) (argument-small place)
+fixed-small Affine = constant-small (pos 0) (omega arith)

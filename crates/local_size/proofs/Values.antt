@@ -1,0 +1,103 @@
+-- The new values of a rule as forms that are to be bounded.
+use Rattle.std.proofs.Common.{◌≡◌, ℕ, zero, suc, ◌-◌, ◌<◌, ◌≤◌, refl, sym, ap, ◌∙◌, subst, arith, List, length}
+use Rattle.std.proofs.Common.{get_or, true, []}
+use Rattle.std.specs.Prelude.{ℤ, nat_abs, negsuc, ◌*ℤ◌, nat_lt, slice_index_or}
+use Rattle.std.specs.List.{All}
+use Rattle.std.proofs.lemmas.Int.{ints}
+use Rattle.std.proofs.lemmas.Bool.{ltb-true}
+use Rattle.std.proofs.lemmas.List.Elements.{All-weaker, All-map}
+use Rattle.linear_forms.specs.Forms.{Form}
+use Rattle.linear_forms.specs.RuleQuestions.{opposite}
+use Rattle.linear_forms.specs.RuleQuestionLaws.{IsRuleShaped}
+use Rattle.linear_forms.proofs.ColumnLaws.{get_or-map}
+use Rattle.linear_forms.proofs.SolutionLaws.{length-map}
+use Rattle.rule_forms.specs.Questions.{Fits}
+use Rattle.model.specs.Limits.{coefficient_limit}
+use Rattle.poly_terms.specs.declared.poly.Row.{Row}
+use Rattle.poly_terms.specs.declared.poly.Poly.{Poly}
+use Rattle.poly_terms.specs.Views.{form_of, poly_of, monomials_of}
+use Rattle.guard_prep.specs.declared.rule_rows.RuleRows.{RuleRows}
+use Rattle.guard_prep.specs.Prepared.{Prepared}
+use Rattle.guard_prep.specs.Views.{prepared_of}
+use Rattle.proof_nodes.specs.AcceptsSizes.{Up, Low}
+use Rattle.rank_search.specs.EmptyAnswers.{IsPrepared}
+use Rattle.rank_search.specs.Goals.{IsSmall}
+use Rattle.rank_search.specs.ProgramQuestions.{forms_of}
+use Rattle.rank_search.proofs.EmptyLaws.{prepared-shaped}
+use Rattle.rank_search.proofs.EmptyProblems.{rows-all}
+use Rattle.rank_search.proofs.GoalForms.{after-listed}
+use Rattle.rank_search.proofs.RankProblems.{news-small}
+use Rattle.local_size.specs.Asking.{IsValue}
+use Rattle.local_size.specs.Places.{local_forms, value_on, update_at}
+
+-- numbers of rows stay such when they are negated
+opposite-number : (a : ℤ) → nat_abs a ≤ coefficient_limit → nat_abs (negsuc 0 *ℤ a) ≤ coefficient_limit
+opposite-number a l = go a coefficient_limit l
+  where
+    go : (a : ℤ) (n : ℕ) → nat_abs a ≤ n → nat_abs (negsuc 0 *ℤ a) ≤ n
+    go a n l = omega (arith, ints, l)
+
+pub opposite-small : (f : Form) → IsSmall f → IsSmall (opposite f)
+opposite-small f s = record {
+  coefs = All-map (λ a. nat_abs a ≤ coefficient_limit) (λ a. negsuc 0 *ℤ a) f.coefs
+      (All-weaker (λ a. nat_abs a ≤ coefficient_limit) (λ a. nat_abs (negsuc 0 *ℤ a) ≤ coefficient_limit)
+      opposite-number f.coefs s.coefs);
+  constant = opposite-number f.constant s.constant;
+}
+
+-- the negation of a value is one
+pub opposite-value : (m : RuleRows) (f : Form) → IsValue m f → IsValue m (opposite f)
+opposite-value m f v = record {
+  fits = let e = length-map (λ a. negsuc 0 *ℤ a) f.coefs in let l = v.fits in omega (arith, e, l);
+  small = opposite-small f v.small;
+}
+
+module _ (m : RuleRows) (is : IsPrepared m) where
+  pub shaped : IsRuleShaped (local_forms (prepared_of m))
+  shaped = subst (λ (q : Prepared). IsRuleShaped (forms_of 0 0 q)) (sym is.same)
+      (prepared-shaped 0 0 is.rule is.preparable)
+
+  -- the left arguments are among few unknowns
+  pub left-fits : m.left ≤ m.unknowns
+  left-fits = shaped.left_fits
+
+  -- a question on a value fits the rule
+  pub asked-fits : (w : Form) → IsValue m w → Fits (local_forms (prepared_of m)) w
+  asked-fits w v = record { left = shaped.left_fits; rows = shaped.rows_fit; value = v.fits }
+
+  news-width : All (λ r. length (form_of r).coefs ≤ m.unknowns) m.news.items
+  news-width = rows-all (λ f. length f.coefs ≤ m.unknowns) m.news.items shaped.news_fit
+
+  module _ (place : ℕ) (row : Row) (l : 1 ≤ place) (k : place ≤ length m.news.items)
+      (is_read : row ≡ get_or m.news.items (place - 1) row) where
+    inside : place - 1 < length m.news.items
+    inside = omega (arith, l, k)
+
+    -- the new value at a place
+    pub news-value : IsValue m (form_of row)
+    news-value = record {
+      fits = subst (λ (r : Row). length (form_of r).coefs ≤ m.unknowns) (sym is_read)
+          (news-width (place - 1) row inside);
+      small = subst (λ (r : Row). IsSmall (form_of r)) (sym is_read) (news-small m is (place - 1) row inside);
+    }
+
+    pub value-up-is : form_of row ≡ value_on Up (prepared_of m) place
+    value-up-is = after-listed 0 (prepared_of m) m.news.items refl 0 place row refl (positive place l) inside is_read
+      where
+        positive : (n : ℕ) → 1 ≤ n → ¬ (n ≡ 0)
+        positive n h e = omega (arith, h, e)
+
+    pub value-low-is : (f : Form) → f ≡ opposite (form_of row) → f ≡ value_on Low (prepared_of m) place
+    value-low-is f e = e ∙ ap opposite value-up-is
+
+-- the update at a place, as it is read
+pub update-read : (m : RuleRows) (place : ℕ) (polys : List Poly) (update d : Poly) → 1 ≤ place → polys ≡ m.polys.items
+    → true ≡ nat_lt (place - 1) (length polys) → update ≡ slice_index_or polys (place - 1) d
+    → monomials_of update.terms.items ≡ update_at (prepared_of m) place
+update-read m zero polys update d l e f g = absurd (omega (arith, l))
+update-read m (suc i) polys update d l e f g =
+    let k : suc i - 1 ≡ i = omega arith in
+    ap poly_of (g ∙ (ap (λ (j : ℕ). get_or polys j d) k ∙ ap (λ (ps : List Poly). get_or ps i d) e))
+    ∙ sym (get_or-map poly_of m.polys.items i [] d
+    (let h = ltb-true (suc i - 1) (length polys) (sym f) in
+    let n = ap (λ (ps : List Poly). length ps) e in omega (arith, h, n)))

@@ -1,0 +1,155 @@
+-- The worked values of places.
+use Rattle.std.proofs.Common.{◌≡◌, ℕ, zero, suc, ◌<◌, ◌≤◌, arith, refl, sym, subst, true, List, [], ◌∷◌, ◌++◌}
+use Rattle.std.specs.Prelude.{ℤ, pos, negsuc, ◌≤ℤ◌}
+use Rattle.std.specs.List.{All}
+use Rattle.std.proofs.lemmas.Int.{ints}
+use Rattle.std.proofs.lemmas.List.Elements.{All-nil, All-head}
+use Rattle.linear_forms.specs.Forms.{Form, at, form_value}
+use Rattle.rule_forms.specs.Bounds.{HasNone, IsAbove, IsFirstOf, IsLooseRay}
+use Rattle.rule_forms.specs.Kinds.{Kind, Number, Argument, Affine, Plus, Minus, IsOfKind, kinds_at}
+use Rattle.rule_forms.specs.Laws.{HasPoint}
+use Rattle.rule_forms.specs.Worked.{line_form, falling_rows, falling, rising}
+use Rattle.rule_forms.proofs.Rays.{loose-has-none}
+use Rattle.rule_forms.proofs.Worked.{worked}
+use Rattle.model.specs.Terms.{Variable}
+use Rattle.guard_prep.specs.Prepared.{prepared, rows_of}
+use Rattle.guard_prep.specs.Tightening.{divisor_of}
+use Rattle.guard_prep.specs.WorkedRows.{product}
+use Rattle.local_size.specs.Places.{is_polynomial_at}
+use Rattle.local_size.specs.WorkedLocals.{falling_rule, updated, PolynomialsAreTold, KindsOfPlacesAreTold, SidesAreTold}
+use Rattle.local_size.specs.WorkedLocals.{FirstArmsAreTold, LooseSidesAreTold, LocalValuesAreWorkedOut}
+use Rattle.local_size.proofs.First.{fails}
+
+-- what a test tells
+polynomials : PolynomialsAreTold
+polynomials = record {
+  polynomial = refl;
+  free_cancelled = refl;
+  reads_free = refl;
+  straight = refl;
+  square_cancelled = refl;
+  first_place = refl;
+  second_place = refl;
+  no_place = refl;
+  past = refl;
+}
+
+-- the kinds at places
+kinds : KindsOfPlacesAreTold
+kinds = record { straight = refl; bent = refl; first_place = refl; second_place = refl }
+
+-- the values on both sides
+sides : SidesAreTold
+sides = record { up = refl; low = refl }
+
+-- the only row of the falling rule
+rows-are : rows_of falling_rule ≡ falling_rows
+unfolding divisor_of
+rows-are = refl
+
+-- it has degree 1
+straight : ¬ (is_polynomial_at (prepared falling_rule) 1 ≡ true)
+straight = fails (is_polynomial_at (prepared falling_rule) 1) refl
+
+-- lists that are the same begin alike
+head-same : (x y : Kind) (xs ys : List Kind) → x ∷ xs ≡ y ∷ ys → x ≡ y
+head-same x y xs ys e = cc
+
+-- where a constant is a bound, the argument isn't the first
+argument-later : (kind : Kind) (before behind : List Kind) → kinds_at 1 1 ≡ before ++ kind ∷ behind
+    → All (HasNone falling_rows 1 rising) before → IsOfKind 1 kind (line_form (pos 1) (pos 0)) 1 → ⊥
+argument-later kind [] behind e none is =
+    let same : Number ≡ kind = head-same Number kind (Argument 1 Plus ∷ Argument 1 Minus ∷ Affine ∷ []) behind e in
+    one (subst (λ (k : Kind). IsOfKind 1 k (line_form (pos 1) (pos 0)) 1) (sym same) is 0)
+  where
+    one : pos 1 ≡ pos 0 → ⊥
+    one e = omega (arith, ints, e)
+argument-later kind (b ∷ before) behind e none is =
+    let same : Number ≡ b =
+    head-same Number b (Argument 1 Plus ∷ Argument 1 Minus ∷ Affine ∷ []) (before ++ kind ∷ behind) e in
+    worked.first.some_number
+    (subst (λ (k : Kind). HasNone falling_rows 1 rising k) (sym same)
+    (All-head (HasNone falling_rows 1 rising) b before none))
+
+-- first arms
+first : FirstArmsAreTold
+first = record {
+  up = (
+    straight,
+    subst (λ (rows : List Form). IsFirstOf rows 1 falling (kinds_at 1 1) (line_form (pos 1) (pos 0)) 1) (sym rows-are)
+        worked.first.up,
+  );
+  low = (
+    straight,
+    subst (λ (rows : List Form). IsFirstOf rows 1 rising (kinds_at 1 1) (line_form (pos 0) (pos 0)) 1) (sym rows-are)
+        worked.first.low,
+  );
+  too_low = λ h. worked.bounds.number
+      (subst (λ (rows : List Form). IsAbove rows falling (line_form (pos 0) (pos 5)) 1) rows-are h.1.above);
+  later = λ h. argument-later h.1.kind h.1.before h.1.behind h.1.order
+      (subst (λ (rows : List Form). All (HasNone rows 1 rising) h.1.before) rows-are h.1.none) h.1.of_kind;
+  no_polynomial = straight;
+  polynomial = refl;
+  reads_free = fails (is_polynomial_at (updated product) 1) refl;
+  form_of_square = λ h. h.0 refl;
+}
+
+-- without rows there is a point
+no-rows : HasPoint []
+no-rows = record {
+  z = λ j. pos 0;
+  d = pos 1;
+  point = record {
+    denominator = omega (arith, ints);
+    meets = record { each = All-nil (λ r. pos 0 ≤ℤ form_value r (λ j. pos 0) (pos 1)) };
+  };
+}
+
+-- a form in one unknown is affine
+line-affine : (a b : ℤ) → IsOfKind 1 Affine (line_form a b) 1
+line-affine a b = λ u l. past u l
+  where
+    past : (u : ℕ) → 1 ≤ u → at (a ∷ []) u ≡ pos 0
+    past zero l = absurd (omega (arith, l))
+    past (suc u) l = refl
+
+-- the falling rule is loose on neither side
+not-loose : (w g : Form) → IsOfKind 1 Affine g 1 → IsAbove falling_rows w g 1 → HasPoint (rows_of falling_rule)
+    → (z : ℕ → ℤ) → IsLooseRay (rows_of falling_rule) 1 w z → ⊥
+not-loose w g is above point z ray =
+    (loose-has-none (rows_of falling_rule) 1 w z point ray).each g 1 (omega arith) is
+    (subst (λ (rows : List Form). IsAbove rows w g 1) (sym rows-are) above)
+
+-- loose sides
+loose : LooseSidesAreTold
+loose = record {
+  up = record {
+    asked = fails (is_polynomial_at (updated (Variable 1)) 1) refl;
+    point = no-rows;
+    z = at (pos 0 ∷ pos 1 ∷ []);
+    ray = worked.rays.loose;
+  };
+  low = record {
+    asked = fails (is_polynomial_at (updated (Variable 1)) 1) refl;
+    point = no-rows;
+    z = at (pos 0 ∷ negsuc 0 ∷ []);
+    ray = record {
+      ray = record { each = All-nil (λ r. pos 0 ≤ℤ form_value r (at (pos 0 ∷ negsuc 0 ∷ [])) (pos 0)) };
+      still = still;
+      rises = omega (arith, ints);
+    };
+  };
+  bounded_up = λ h. not-loose falling (line_form (pos 1) (pos 0)) (line-affine (pos 1) (pos 0)) worked.bounds.argument
+      h.point h.z h.ray;
+  bounded_low = λ h. not-loose rising (line_form (pos 0) (pos 0)) (line-affine (pos 0) (pos 0)) worked.first.low.above
+      h.point h.z h.ray;
+  polynomial = λ h. h.asked refl;
+}
+  where
+    still : (j : ℕ) → j < 1 → at (pos 0 ∷ negsuc 0 ∷ []) j ≡ pos 0
+    still zero l = refl
+    still (suc j) l = absurd (omega (arith, l))
+
+-- all of these
+pub values-worked : LocalValuesAreWorkedOut
+values-worked = record { polynomials = polynomials; kinds = kinds; sides = sides; first = first; loose = loose }

@@ -1,0 +1,9 @@
+use Rattle.std.proofs.Common.{◌≡◌, ◌++◌, map}
+use Rattle.rule_forms.specs.Kinds.{arguments}
+use Rattle.local_size.specs.Asking.{kind_of, other_places}
+use Rattle.local_size.proofs.kinds.push_others.Given as goal
+
+-- the arguments so far
+abbrev pub invariant-loop-before : goal.invariant-loop-before
+invariant-loop-before l =
+    map kind_of l.kinds.items ≡ map kind_of l.initial.kinds.items ++ arguments (other_places l.before l.place)

@@ -1,0 +1,14 @@
+use Rattle.std.proofs.Common.{◌≡◌, map, take}
+use Rattle.linear_forms.specs.RuleQuestions.{before_rule}
+use Rattle.lp_builder.specs.Descriptions.{goal_forms}
+use Rattle.rank_search.proofs.GoalForms.{Ascend}
+use Rattle.local_size.specs.Asking.{AreWritableWithin}
+use Rattle.local_size.proofs.problem.goals_of.Given as goal
+
+-- the goals so far
+abbrev pub invariant-loop-parameter : goal.invariant-loop-parameter
+invariant-loop-parameter l = record {
+  goals : goal_forms 0 l.parameter l.goals.items ≡ map before_rule (take l.parameter l.places);
+  listed : Ascend 0 l.parameter l.goals.items;
+  writable : AreWritableWithin l.places l.goals.items;
+}

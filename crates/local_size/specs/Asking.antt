@@ -1,0 +1,85 @@
+-- What the code asks for on a side of a place, and what comes of it, as plain data.
+use Rattle.std.specs.Prelude.{◌≡◌, ℕ, suc, ◌≤◌, ◌==◌, not, nat_eq, if◌then◌else◌, List, filter, length, Some}
+use Rattle.std.specs.Prelude.{ℤ, pos, ◌*ℤ◌}
+use Rattle.std.specs.List.{All, range_with_len}
+use Rattle.linear_forms.specs.Forms.{Form}
+use Rattle.rule_forms.specs.Kinds as plain
+use Rattle.rule_forms.specs.Kinds.{unit_of}
+use Rattle.proof_nodes.specs.AcceptsSizes as nodes
+use Rattle.proof_tree.specs.Views.{arm_of}
+use Rattle.proof_tree.specs.AnswerViews.{cause_of}
+use Rattle.proof_tree.specs.declared.answer.EmptyAnswer.{EmptyAnswer}
+use Rattle.guard_prep.specs.declared.rule_rows.RuleRows.{RuleRows}
+use Rattle.poly_terms.specs.Views.{form_of}
+use Rattle.lp_builder.specs.declared.description.Goal.{Goal}
+use Rattle.lp_builder.specs.Descriptions.{IsWritable}
+use Rattle.rank_search.specs.Goals.{IsSmall}
+use Rattle.rank_search.specs.RankAnswers.{point_in, trip_in}
+use Rattle.local_size.specs.declared.kinds.Sign.{Sign}
+use Rattle.local_size.specs.declared.kinds.Sign.TheVariants as signs
+use Rattle.local_size.specs.declared.kinds.Kind.{Kind}
+use Rattle.local_size.specs.declared.kinds.Kind.TheVariants as kinds
+use Rattle.local_size.specs.declared.side.Side.{Side}
+use Rattle.local_size.specs.declared.side.Side.TheVariants as sides
+use Rattle.local_size.specs.declared.search.SideAnswer.{SideAnswer}
+use Rattle.local_size.specs.declared.search.SideAnswer.TheVariants as answers
+use Rattle.local_size.specs.Sides.{Sought, ArmFound, NoneFound, LimitPassed}
+use Rattle.local_size.specs.LocalAnswers.{Local, HasBound, IsLooseOn, HasTripped}
+
+-- a sign as plain data
+abbrev pub sign_of : Sign → plain.Sign
+sign_of signs.Plus = plain.Plus
+sign_of signs.Minus = plain.Minus
+
+-- a kind as plain data
+abbrev pub kind_of : Kind → plain.Kind
+kind_of kinds.Number = plain.Number
+kind_of (kinds.Argument place sign) = plain.Argument place (sign_of sign)
+kind_of kinds.Affine = plain.Affine
+
+-- a side as plain data
+abbrev pub side_of : Side → nodes.Side
+side_of sides.Up = nodes.Up
+side_of sides.Low = nodes.Low
+
+-- what a side's questions come to as plain data
+abbrev pub sought_of : SideAnswer → Sought
+sought_of (answers.Arm arm) = ArmFound (arm_of arm)
+sought_of (answers.Loose ray) = NoneFound ray.items
+sought_of (answers.Tripped cause) = LimitPassed (cause_of cause)
+
+-- the place, where there is such a left argument
+abbrev pub own_places : ℕ → ℕ → List ℕ
+own_places left place = filter (λ j. j == place) (range_with_len 1 left)
+
+-- the places of the left arguments but for one, in order
+abbrev pub other_places : ℕ → ℕ → List ℕ
+other_places left place = filter (λ j. not (j == place)) (range_with_len 1 left)
+
+-- a form whose numbers are those of rows, with no coefficient past the unknowns
+pub record IsValue (m : RuleRows) (w : Form) : Type 0 where
+  pub fits : length w.coefs ≤ m.unknowns
+  pub small : IsSmall w
+
+-- the coefficient of unknown u of the form of a kind that the parameters v over d stand for
+abbrev pub coefficient_of : plain.Kind → (ℕ → ℤ) → ℤ → ℕ → ℤ
+coefficient_of plain.Number v d u = pos 0
+coefficient_of (plain.Argument place sign) v d u = if nat_eq (suc u) place then d *ℤ unit_of sign else pos 0
+coefficient_of plain.Affine v d u = v u
+
+-- the constant of this form, where a rule has so many left arguments
+abbrev pub constant_of : ℕ → plain.Kind → (ℕ → ℤ) → ℤ
+constant_of left plain.Number v = v 0
+constant_of left (plain.Argument place sign) v = pos 0
+constant_of left plain.Affine v = v left
+
+-- goals can be written wherever these places are left arguments among the unknowns
+pub record AreWritableWithin (places : List ℕ) (goals : List Goal) : Type 0 where
+  pub each : (n : ℕ) → All (λ i. i ≤ n) places → All (λ g. IsWritable n (form_of g.form)) goals
+
+-- where a side has no form along a ray, and nothing trips: it is loose, from the point of the rule, or what the
+-- question for that point tripped by
+abbrev pub IsLoosened : nodes.Side → List ℤ → EmptyAnswer → Local → Type 0
+IsLoosened side ray empty (HasBound l) = ⊥
+IsLoosened side ray empty (IsLooseOn s r kept) = (s ≡ side) × (r ≡ ray) × (point_in (Some empty) ≡ Some kept)
+IsLoosened side ray empty (HasTripped t) = trip_in (Some empty) ≡ Some t

@@ -1,0 +1,41 @@
+-- What is asked of a place of a rule: its new value, its update, and the kinds of forms.
+use Rattle.std.specs.Prelude.{ℕ, zero, suc, ◌&&◌, nat_lt, Bool, false, List, [], slice_index_or}
+use Rattle.std.specs.List.{list_all}
+use Rattle.model.specs.Polynomials.{Polynomial}
+use Rattle.linear_forms.specs.Forms.{Form}
+use Rattle.linear_forms.specs.RuleQuestions.{RuleForms, value_up, value_low}
+use Rattle.rule_forms.specs.Kinds.{Kind, kinds_for}
+use Rattle.guard_prep.specs.Prepared.{Prepared}
+use Rattle.proof_nodes.specs.AcceptsSizes.{Side, Up, Low}
+use Rattle.rank_search.specs.ProgramQuestions.{forms_of}
+
+-- what a question sees of a rule; it looks at no symbol
+abbrev pub local_forms : Prepared → RuleForms
+local_forms m = forms_of 0 0 m
+
+-- the new value at a place on the up side, and its negation on the low side; places count from 1
+abbrev pub value_on : Side → Prepared → ℕ → Form
+value_on Up m place = value_up (local_forms m) place
+value_on Low m place = value_low (local_forms m) place
+
+-- whether the update at a place has degree 2 or more
+abbrev pub is_bent_at : Prepared → ℕ → Bool
+is_bent_at m zero = false
+is_bent_at m (suc i) = slice_index_or m.bent i false
+
+-- the expanded update at a place
+abbrev pub update_at : Prepared → ℕ → Polynomial
+update_at m zero = []
+update_at m (suc i) = slice_index_or m.polys i []
+
+-- whether a polynomial has left variables alone, of which there are so many
+abbrev pub is_of_left : ℕ → Polynomial → Bool
+is_of_left left q = list_all (λ m. list_all (λ v. nat_lt v left) m.vars) q
+
+-- whether the update at a place has degree 2 or more and left variables alone
+abbrev pub is_polynomial_at : Prepared → ℕ → Bool
+is_polynomial_at m place = is_bent_at m place && is_of_left m.left (update_at m place)
+
+-- the kinds of forms that are looked for at a place, in their order
+abbrev pub kinds_of : Prepared → ℕ → List Kind
+kinds_of m place = kinds_for (is_bent_at m place) m.left place

@@ -1,0 +1,86 @@
+-- Worked values of what is asked of places, of the first arm on a side, and of loose sides.
+use Rattle.std.specs.Prelude.{◌≡◌, true, false, [], ◌∷◌, pos, negsuc}
+use Rattle.rule_forms.specs.Kinds.{Number, Argument, Affine, Plus, Minus}
+use Rattle.rule_forms.specs.Worked.{line_form}
+use Rattle.model.specs.Terms.{Term, Variable, Literal, Addition, Subtraction}
+use Rattle.model.specs.Programs.{AtLeast, Compare, Rule}
+use Rattle.guard_prep.specs.Prepared.{Prepared, prepared}
+use Rattle.guard_prep.specs.WorkedRows.{with_free, square, successor, product, two}
+use Rattle.proof_nodes.specs.Nodes.{Linear, Poly}
+use Rattle.proof_nodes.specs.AcceptsSizes.{Up, Low}
+use Rattle.local_size.specs.Places.{value_on, is_polynomial_at, kinds_of}
+use Rattle.local_size.specs.LocalLaws.{IsFirstArm, IsLooseSide}
+
+-- the rule l0(A) -> l1(update), with a free variable B and no guard
+abbrev pub updated : Term → Prepared
+updated update = prepared (with_free (update ∷ []) [])
+
+-- the rule l0(A) -> l1(A + 1, A*A)
+abbrev pub both_updated : Prepared
+both_updated = prepared (with_free (successor ∷ square ∷ []) [])
+
+-- the rule l0(A) -> l1(A - 1) :|: A >= 1
+abbrev pub falling_rule : Rule
+falling_rule = record {
+  source = 0;
+  target = 1;
+  left = 1;
+  free = 0;
+  names = (65 ∷ []) ∷ [];
+  updates = Subtraction (Variable 0) (Literal (pos 1)) ∷ [];
+  guard = Compare (Variable 0) AtLeast (Literal (pos 1)) ∷ [];
+}
+
+-- A*A is a polynomial of degree 2 or more over left variables, and so is A*A + B - B; A*B reads a free variable, and
+-- A + 1 and A*A + A - A*A have degree 1; places count from 1
+pub record PolynomialsAreTold : Type 0 where
+  pub polynomial : is_polynomial_at (updated square) 1 ≡ true
+  pub free_cancelled : is_polynomial_at (updated (Subtraction (Addition square (Variable 1)) (Variable 1))) 1 ≡ true
+  pub reads_free : is_polynomial_at (updated product) 1 ≡ false
+  pub straight : is_polynomial_at (updated successor) 1 ≡ false
+  pub square_cancelled : is_polynomial_at (updated (Subtraction (Addition square (Variable 0)) square)) 1 ≡ false
+  pub first_place : is_polynomial_at both_updated 1 ≡ false
+  pub second_place : is_polynomial_at both_updated 2 ≡ true
+  pub no_place : is_polynomial_at both_updated 0 ≡ false
+  pub past : is_polynomial_at both_updated 3 ≡ false
+
+-- all kinds are looked for where the update has degree 1, and any form alone where it has degree 2 or more
+pub record KindsOfPlacesAreTold : Type 0 where
+  pub straight : kinds_of (updated successor) 1 ≡ Number ∷ Argument 1 Plus ∷ Argument 1 Minus ∷ Affine ∷ []
+  pub bent : kinds_of (updated product) 1 ≡ Affine ∷ []
+  pub first_place : kinds_of both_updated 1 ≡ Number ∷ Argument 1 Plus ∷ Argument 1 Minus ∷ Affine ∷ []
+  pub second_place : kinds_of both_updated 2 ≡ Affine ∷ []
+
+-- the value of A + 1, and its negation on the low side
+pub record SidesAreTold : Type 0 where
+  pub up : value_on Up (updated successor) 1 ≡ two (pos 1) (pos 0) (pos 1)
+  pub low : value_on Low (updated successor) 1 ≡ two (negsuc 0) (pos 0) (negsuc 0)
+
+-- where A >= 1, the first arm on the up side of A - 1 is A, and on the low side 0, whatever the multipliers are; 5 is
+-- none on the up side, A isn't the first on the low side, and the polynomial is on neither. The first arm of A*A is the
+-- polynomial, and that of A*B isn't, nor is a form the first of A*A
+pub record FirstArmsAreTold : Type 0 where
+  pub up : IsFirstArm (prepared falling_rule) 1 Up (Linear 1 (line_form (pos 1) (pos 0)) [])
+  pub low : IsFirstArm (prepared falling_rule) 1 Low (Linear 1 (line_form (pos 0) (pos 0)) [])
+  pub too_low : ¬ (IsFirstArm (prepared falling_rule) 1 Up (Linear 1 (line_form (pos 0) (pos 5)) []))
+  pub later : ¬ (IsFirstArm (prepared falling_rule) 1 Low (Linear 1 (line_form (pos 1) (pos 0)) []))
+  pub no_polynomial : ¬ (IsFirstArm (prepared falling_rule) 1 Up Poly)
+  pub polynomial : IsFirstArm (updated square) 1 Low Poly
+  pub reads_free : ¬ (IsFirstArm (updated product) 1 Up Poly)
+  pub form_of_square : ¬ (IsFirstArm (updated square) 1 Up (Linear 1 (line_form (pos 1) (pos 0)) []))
+
+-- a free variable is loose on both sides; A - 1 is on neither, and A*A isn't, since its polynomial bounds it
+pub record LooseSidesAreTold : Type 0 where
+  pub up : IsLooseSide (updated (Variable 1)) 1 Up
+  pub low : IsLooseSide (updated (Variable 1)) 1 Low
+  pub bounded_up : ¬ (IsLooseSide (prepared falling_rule) 1 Up)
+  pub bounded_low : ¬ (IsLooseSide (prepared falling_rule) 1 Low)
+  pub polynomial : ¬ (IsLooseSide (updated square) 1 Up)
+
+-- all of these
+pub record LocalValuesAreWorkedOut : Type 0 where
+  pub polynomials : PolynomialsAreTold
+  pub kinds : KindsOfPlacesAreTold
+  pub sides : SidesAreTold
+  pub first : FirstArmsAreTold
+  pub loose : LooseSidesAreTold

@@ -1,0 +1,67 @@
+// Whether the update at a place is a polynomial that bounds the new value by itself.
+
+ghost use Rattle.std.specs.Prelude.{◌≡◌, ◌≤◌, map, nat_lt};
+ghost use Rattle.std.specs.List.{list_all};
+ghost use Rattle.guard_prep.specs.Views.{prepared_of};
+ghost use Rattle.poly_terms.specs.Views.{monomials_of};
+ghost use Rattle.local_size.specs.Places.{is_bent_at, is_of_left, is_polynomial_at, update_at};
+
+use guard_prep::RuleRows;
+use poly_terms::Monomial;
+
+/// Whether the update at a place has degree 2 or more and left variables alone.
+pub(crate) fn is_polynomial(prep: &RuleRows, place: u32) -> bool
+    requires { 1 ≤ place }
+    ensures { result ≡ is_polynomial_at (prepared_of prep.now) place }
+{
+    if !is_bent(prep, place) {
+        return false;
+    }
+    reads_left_alone(prep, place)
+}
+
+/// Whether the update at a place has degree 2 or more.
+pub(crate) fn is_bent(prep: &RuleRows, place: u32) -> bool
+    requires { 1 ≤ place }
+    ensures { result ≡ is_bent_at (prepared_of prep.now) place }
+{
+    match prep.bent.get(place as usize - 1) {
+        Some(is_bent) => *is_bent,
+        None => false,
+    }
+}
+
+// Whether the update at a place has left variables alone.
+fn reads_left_alone(prep: &RuleRows, place: u32) -> bool
+    requires { 1 ≤ place }
+    ensures { result ≡ is_of_left prep.now.left (update_at (prepared_of prep.now) place) }
+{
+    match prep.polys.get(place as usize - 1) {
+        Some(update) => are_of_left(&update.terms, prep.left),
+        None => true,
+    }
+}
+
+// Whether monomials have left variables alone.
+fn are_of_left(monomials: &[Monomial], left: u32) -> bool
+    ensures { result ≡ is_of_left left (monomials_of monomials.now) }
+{
+    for monomial in monomials {
+        if !are_below(&monomial.vars, left) {
+            return false;
+        }
+    }
+    true
+}
+
+// Whether variables are left ones.
+fn are_below(variables: &[u32], left: u32) -> bool
+    ensures { result ≡ list_all (λ v. nat_lt v left) variables.now }
+{
+    for variable in variables {
+        if *variable >= left {
+            return false;
+        }
+    }
+    true
+}

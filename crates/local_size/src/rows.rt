@@ -1,0 +1,70 @@
+// The rows that the questions of a place are made of.
+
+ghost use Rattle.std.specs.Prelude.{◌≡◌, ◌≤◌, map, negsuc, nat_abs, ◌*ℤ◌, IfOk};
+ghost use Rattle.linear_forms.specs.Combinations.{form_sum, form_times};
+ghost use Rattle.linear_forms.specs.RuleQuestions.{before_rule, opposite};
+ghost use Rattle.rule_forms.specs.Kinds.{unit_of};
+ghost use Rattle.model.specs.Limits.{coefficient_limit};
+ghost use Rattle.poly_terms.specs.Views.{form_of};
+ghost use Rattle.rank_search.specs.Goals.{IsSmall};
+ghost use Rattle.rule_forms.proofs.Sought.{fixed_part};
+ghost use Rattle.local_size.specs.Asking.{kind_of, sign_of};
+
+use crate::kinds::{Kind, Sign};
+use poly_terms::{Memory, Row};
+use rank_search::{constant_row, unit_row};
+use std::alloc::Global;
+
+/// The form with the opposite sign.
+pub(crate) fn negated(alloc: Global, row: &Row) -> Result<Row, Memory>
+    requires { IsSmall (form_of row.now) }
+    ensures { IfOk result (λ r. form_of r ≡ opposite (form_of row.now)) }
+{
+    let mut coefs = Vec::new(alloc);
+    for coef in &row.coefs {
+        coefs.push(opposite_number(*coef))?;
+    }
+    Ok(Row {
+        coefs,
+        constant: opposite_number(row.constant),
+    })
+}
+
+// The number with the opposite sign.
+fn opposite_number(number: i128) -> i128
+    requires { nat_abs number ≤ coefficient_limit }
+    ensures { result ≡ negsuc 0 *ℤ number }
+{
+    -number
+}
+
+/// The left argument at a place; place 0 stands for the constant 1.
+pub(crate) fn argument_row(alloc: Global, place: u32) -> Result<Row, Memory>
+    ensures { IfOk result (λ row. form_of row ≡ before_rule place) }
+{
+    if place == 0 {
+        return Ok(constant_row(alloc, 1));
+    }
+    unit_row(alloc, place - 1)
+}
+
+/// The part of a form of a kind that isn't sought.
+pub(crate) fn fixed_row(alloc: Global, kind: Kind) -> Result<Row, Memory>
+    ensures { IfOk result (λ row. form_of row ≡ fixed_part (kind_of kind)) }
+{
+    match kind {
+        Kind::Number | Kind::Affine => Ok(constant_row(alloc, 0)),
+        Kind::Argument { place, sign } => signed_row(alloc, place, sign),
+    }
+}
+
+// The left argument at a place, or its negation.
+fn signed_row(alloc: Global, place: u32, sign: Sign) -> Result<Row, Memory>
+    ensures { IfOk result (λ row. form_of row ≡ form_times (unit_of (sign_of sign)) (before_rule place)) }
+{
+    let argument = argument_row(alloc, place)?;
+    match sign {
+        Sign::Plus => Ok(argument),
+        Sign::Minus => negated(alloc, &argument),
+    }
+}

@@ -1,0 +1,48 @@
+// One side of a place.
+
+ghost use Rattle.std.specs.Prelude.{◌≡◌, ◌≤◌, length, map, IfOk};
+ghost use Rattle.guard_prep.specs.Views.{prepared_of};
+ghost use Rattle.rank_search.specs.EmptyAnswers.{IsPrepared};
+ghost use Rattle.local_size.specs.Asking.{kind_of, side_of, sought_of};
+ghost use Rattle.local_size.specs.LocalAnswers.{SideComesTo};
+ghost use Rattle.local_size.specs.Places.{kinds_of as kinds_asked};
+
+use crate::kinds::Kind;
+use crate::rows::negated;
+use crate::search::{SideAnswer, search_kinds};
+use guard_prep::RuleRows;
+use poly_terms::Memory;
+use std::alloc::Global;
+
+/// A side of a new value: what it is at most, or what its negation is.
+#[derive(Clone, Copy, Debug, PartialEq, Eq)]
+pub enum Side {
+    Up,
+    Low,
+}
+
+/// What the questions of a side of a place come to: which form of the first of its kinds of which there is one is at
+/// least the new value, or its negation on the low side.
+pub(crate) fn search_side(
+    alloc: Global,
+    prep: &RuleRows,
+    side: Side,
+    place: u32,
+    kinds: &[Kind],
+    pivots: u32,
+) -> Result<SideAnswer, Memory>
+    requires prepared { IsPrepared prep.now }
+    requires place { (1 ≤ place) × (place ≤ length prep.now.news.items) }
+    requires kinds { map kind_of kinds.now ≡ kinds_asked (prepared_of prep.now) place }
+    ensures { IfOk result (λ answer.
+        SideComesTo (prepared_of prep.now) place pivots (side_of side) (sought_of answer)) }
+{
+    let value = &prep.news[place as usize - 1];
+    match side {
+        Side::Up => search_kinds(alloc, prep, value, kinds, pivots),
+        Side::Low => {
+            let negation = negated(alloc, value)?;
+            search_kinds(alloc, prep, &negation, kinds, pivots)
+        }
+    }
+}
