@@ -1,0 +1,9 @@
+pub mod Numbers
+pub mod Places
+pub mod EdgeLists
+pub mod ReadPlaces
+pub mod Given
+pub mod FlowLaws
+pub mod Listings
+pub mod InnerFlows
+pub mod Found

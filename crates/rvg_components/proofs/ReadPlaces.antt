@@ -1,0 +1,132 @@
+-- The listed places are those that the answer reads.
+use Rattle.std.proofs.Common.{◌≡◌, ◌⊎◌, inl, inr, ℕ, zero, suc, ◌+◌, ◌<◌, ◌≤◌, ◌||◌, Bool, true, false, cond, List, [], ◌∷◌, ◌++◌, length, get_or, filter, map, All, Contains, Option, Some, None, nat_lt, refl, sym, ◌∙◌, ap, arith}
+use Rattle.std.specs.List.{range_with_len}
+use Rattle.std.proofs.lemmas.Bool.{or_left, or_right, lt-ltb, ltb-true}
+use Rattle.std.proofs.lemmas.List.Elements.{All-nil, All-append, All-from_get_or, Contains-get_or, filter-append, Contains-append_left, Contains-append_right, Contains-append_cases}
+use Rattle.std.proofs.lemmas.List.FromFn.{length-range_with_len, get_or-range_with_len, map-range_with_len_more}
+use Rattle.std.proofs.lemmas.List.{map-id, append_assoc}
+use Rattle.model.specs.Entries.{is_in}
+use Rattle.model.specs.Polynomials.{Polynomial, degree_of}
+use Rattle.model.proofs.Membership.{is_in-filter, filter-in, contains-is_in, is_in-contained, is_in-numbers, no_is_not_yes}
+use Rattle.poly_terms.specs.declared.poly.Poly.{Poly}
+use Rattle.poly_terms.specs.Views.{poly_of}
+use Rattle.proof_setting.specs.Setting.{bent_at, where_bent}
+use Rattle.proof_nodes.specs.Nodes.{Spot, Arm}
+use Rattle.proof_nodes.specs.Setting.{Setting}
+use Rattle.proof_nodes.specs.ComposedSizes.{reads, poly_at}
+use Rattle.its_graph.proofs.Elements.{none_in_empty}
+use Rattle.local_size.specs.LocalAnswers.{Local, HasBound, IsLooseOn, HasTripped}
+use Rattle.rvg_components.specs.Flows.{local_reads}
+use Rattle.rvg_components.specs.Reading.{places_read, answer_reads}
+
+-- a number among the first n is below n
+below : (n j : ℕ) → is_in j (range_with_len 0 n) ≡ true → j < n
+below n j h = go (contains-is_in (range_with_len 0 n) j h)
+  where
+    go : Contains (range_with_len 0 n) j → j < n
+    go (k, low, e) =
+        let within : k < n = omega (arith, low, length-range_with_len 0 n) in
+        omega (arith, within, get_or-range_with_len 0 n k j within, e)
+
+-- one of two holds
+either : (a b : Bool) → a || b ≡ true → (a ≡ true) ⊎ (b ≡ true)
+either true b h = inl refl
+either false b h = inr h
+
+-- the places that an arm reads
+arm-told : (poly : Option Polynomial) (arm : Arm) (left j : ℕ) → Contains (places_read poly arm left) j → (j < left) × (reads poly arm j ≡ true)
+arm-told poly arm left j h =
+    let k = filter-in (λ i. reads poly arm i) (range_with_len 0 left) j (is_in-contained (places_read poly arm left) j h) in
+    (below left j k.0, k.1)
+
+-- and each place that it reads is listed
+arm-listed : (poly : Option Polynomial) (arm : Arm) (left j : ℕ) → j < left → reads poly arm j ≡ true → Contains (places_read poly arm left) j
+arm-listed poly arm left j low h =
+    contains-is_in (places_read poly arm left) j (is_in-filter (λ i. reads poly arm i) (range_with_len 0 left) j (is_in-numbers left j low) h)
+
+-- what is listed is read
+pub read-told : (s : Setting) (spot : Spot) (a : Local) (left j : ℕ) → Contains (answer_reads (poly_at s spot) a left) j → (j < left) × (local_reads s spot a j ≡ true)
+read-told s spot (HasBound l) left j h =
+    go (Contains-append_cases (places_read (poly_at s spot) l.up left) (places_read (poly_at s spot) l.low left) j h)
+  where
+    go : Contains (places_read (poly_at s spot) l.up left) j ⊎ Contains (places_read (poly_at s spot) l.low left) j
+        → (j < left) × (local_reads s spot (HasBound l) j ≡ true)
+    go (inl c) = let k = arm-told (poly_at s spot) l.up left j c in (k.0, or_left (reads (poly_at s spot) l.up j) (reads (poly_at s spot) l.low j) k.1)
+    go (inr c) = let k = arm-told (poly_at s spot) l.low left j c in (k.0, or_right (reads (poly_at s spot) l.up j) (reads (poly_at s spot) l.low j) k.1)
+read-told s spot (IsLooseOn side ray kept) left j h = absurd (none_in_empty j h)
+read-told s spot (HasTripped t) left j h = absurd (none_in_empty j h)
+
+-- and what is read is listed
+pub read-listed : (s : Setting) (spot : Spot) (a : Local) (left j : ℕ) → j < left → local_reads s spot a j ≡ true → Contains (answer_reads (poly_at s spot) a left) j
+read-listed s spot (HasBound l) left j low h = go (either (reads (poly_at s spot) l.up j) (reads (poly_at s spot) l.low j) h)
+  where
+    go : (reads (poly_at s spot) l.up j ≡ true) ⊎ (reads (poly_at s spot) l.low j ≡ true) → Contains (answer_reads (poly_at s spot) (HasBound l) left) j
+    go (inl e) = Contains-append_left (places_read (poly_at s spot) l.up left) (places_read (poly_at s spot) l.low left) j (arm-listed (poly_at s spot) l.up left j low e)
+    go (inr e) = Contains-append_right (places_read (poly_at s spot) l.up left) (places_read (poly_at s spot) l.low left) j (arm-listed (poly_at s spot) l.low left j low e)
+read-listed s spot (IsLooseOn side ray kept) left j low h = absurd (no_is_not_yes false refl h)
+read-listed s spot (HasTripped t) left j low h = absurd (no_is_not_yes false refl h)
+
+-- the places among one more
+read_more : (poly : Option Polynomial) (arm : Arm) (n : ℕ) → places_read poly arm (n + 1) ≡ places_read poly arm n ++ cond (reads poly arm n) (n ∷ []) []
+read_more poly arm n =
+    ap (filter (λ j. reads poly arm j)) (numbers-more 0 n n (omega arith)) ∙ filter-append (λ j. reads poly arm j) (range_with_len 0 n) (n ∷ [])
+  where
+    numbers-more : (a n j : ℕ) → a + n ≡ j → range_with_len a (n + 1) ≡ range_with_len a n ++ j ∷ []
+    numbers-more a n j e = sym (map-id (range_with_len a (n + 1))) ∙ (map-range_with_len_more (λ i. i) a n j e ∙ ap (λ (xs : List ℕ). xs ++ j ∷ []) (map-id (range_with_len a n)))
+
+-- one place more is looked at
+pub read_pushed : (poly : Option Polynomial) (arm : Arm) (n : ℕ) (first old new : List ℕ) (v : Bool) → old ≡ first ++ places_read poly arm n → v ≡ reads poly arm n
+    → new ≡ old ++ cond v (n ∷ []) [] → new ≡ first ++ places_read poly arm (n + 1)
+read_pushed poly arm n first old new v kept is pushed =
+    pushed
+    ∙ (ap (λ (xs : List ℕ). xs ++ cond v (n ∷ []) []) kept
+    ∙ (append_assoc first (places_read poly arm n) (cond v (n ∷ []) [])
+    ∙ ap (λ (xs : List ℕ). first ++ xs) (ap (λ (w : Bool). places_read poly arm n ++ cond w (n ∷ []) []) is ∙ sym (read_more poly arm n))))
+
+-- all of these places are below the number of left variables
+pub read-few : (poly : Option Polynomial) (a : Local) (left m : ℕ) → left ≤ m → All (λ j. j < m) (answer_reads poly a left)
+read-few poly (HasBound l) left m low =
+    All-append (λ j. j < m) (places_read poly l.up left) (places_read poly l.low left) (few l.up) (few l.low)
+  where
+    few : (arm : Arm) → All (λ j. j < m) (places_read poly arm left)
+    few arm = All-from_get_or (λ j. j < m) (places_read poly arm left) 0
+        (λ i inside. let k = arm-told poly arm left (get_or (places_read poly arm left) i 0) (Contains-get_or (places_read poly arm left) i 0 inside) in omega (arith, low, k.0))
+read-few poly (IsLooseOn side ray kept) left m low = All-nil (λ j. j < m)
+read-few poly (HasTripped t) left m low = All-nil (λ j. j < m)
+
+-- past the last update there is none
+pub update_past : (qs : List Poly) (i : ℕ) → length qs ≤ i → bent_at (map poly_of qs) i ≡ None
+update_past [] i low = refl
+update_past (q ∷ qs) zero low = absurd (omega (arith, low))
+update_past (q ∷ qs) (suc i) low = update_past qs i (omega (arith, low))
+
+-- the update at a position, where it has degree 2 or more
+update-here : (qs : List Poly) (i : ℕ) (q : Poly) → i < length qs → q ≡ get_or qs i q → bent_at (map poly_of qs) i ≡ where_bent (poly_of q)
+update-here [] i q low e = absurd (omega (arith, low))
+update-here (x ∷ qs) zero q low e = ap (λ (y : Poly). where_bent (poly_of y)) (sym e)
+update-here (x ∷ qs) (suc i) q low e = update-here qs i q (omega (arith, low)) e
+
+-- one of degree 2 or more is there
+pub update_bent : (qs : List Poly) (i : ℕ) (q : Poly) → i < length qs → q ≡ get_or qs i q → 1 < degree_of (poly_of q) → bent_at (map poly_of qs) i ≡ Some (poly_of q)
+update_bent qs i q low e h = update-here qs i q low e ∙ go (nat_lt 1 (degree_of (poly_of q))) (lt-ltb 1 (degree_of (poly_of q)) h)
+  where
+    go : (v : Bool) → v ≡ true → cond v (Some (poly_of q)) None ≡ Some (poly_of q)
+    go v is = ap (λ (w : Bool). cond w (Some (poly_of q)) None) is
+
+-- a number that isn't below another is told so
+not-below : (a b : ℕ) → b ≤ a → nat_lt a b ≡ false
+not-below a b h = go (nat_lt a b) refl
+  where
+    go : (v : Bool) → nat_lt a b ≡ v → nat_lt a b ≡ false
+    go true is = absurd (omega (arith, h, ltb-true a b is))
+    go false is = is
+
+-- one of a lower degree isn't
+pub update_straight : (qs : List Poly) (i : ℕ) (q : Poly) → i < length qs → q ≡ get_or qs i q → degree_of (poly_of q) ≤ 1 → bent_at (map poly_of qs) i ≡ None
+update_straight qs i q low e h = update-here qs i q low e ∙ go (nat_lt 1 (degree_of (poly_of q))) (not-below 1 (degree_of (poly_of q)) h)
+  where
+    go : (v : Bool) → v ≡ false → cond v (Some (poly_of q)) None ≡ None
+    go v is = ap (λ (w : Bool). cond w (Some (poly_of q)) None) is
+
+-- the update at a position, in all three cases
+pub ruleset updates = (update_past, update_bent, update_straight)

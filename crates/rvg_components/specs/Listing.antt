@@ -1,0 +1,86 @@
+-- The components of the graph of places, in their order.
+use Rattle.std.specs.Prelude.{◌≡◌, ℕ, zero, suc, ◌<◌, Bool, true, false, List, [], map, length, Option, Some, None}
+use Rattle.std.specs.Prelude.{slice_index_or, slice_get}
+use Rattle.model.specs.Programs.{Program, Rule, rule_at, arity_of}
+use Rattle.proof_nodes.specs.Nodes.{Spot}
+use Rattle.proof_nodes.specs.Setting.{Setting}
+use Rattle.proof_nodes.specs.AcceptsSizes.{Up}
+use Rattle.local_size.specs.LocalAnswers.{Local, IsLooseOn, local_seen}
+use Rattle.local_size.specs.declared.answer.LocalAnswer.{LocalAnswer}
+use Rattle.std.specs.Prelude.{Vec}
+use Rattle.std.specs.declared.alloc.Global.{Global}
+use Rattle.its_model.specs.Valid.{IsValid}
+use Rattle.its_graph.specs.Graphs.{IsGraphOf}
+use Rattle.its_graph.specs.declared.graph.Graph.{Graph}
+use Rattle.guard_prep.specs.declared.rule_rows.RuleRows.{RuleRows}
+use Rattle.proof_tree.specs.Composing.{AreRowsOf}
+use Rattle.its_graph.specs.Components.{IsListing}
+use Rattle.proof_tree.specs.Views.{spot_of}
+use Rattle.rvg_components.specs.declared.component.Component.{Component}
+use Rattle.rvg_components.specs.Flows.{Locals, flows_into, live_spots, loops}
+
+-- the spot at a position
+abbrev pub spot_at : List Spot → ℕ → Spot
+spot_at spots i = slice_index_or spots i (record { rule = 0; place = 0 })
+
+-- a value flows from the place at one position of a list into that at another
+pub record HasFlow (s : Setting) (local : Locals) (spots : List Spot) (a b : ℕ) : Type 0 where
+  pub from : a < length spots
+  pub to : b < length spots
+  pub flow : flows_into s local (spot_at spots a) (spot_at spots b) ≡ true
+
+-- the strongly connected components of the places of live rules, by the positions of these among all of them in order:
+-- each comes after all from which values flow into it, and among those that may come next the one with the least rule
+-- and place comes first; the members of each ascend
+pub record AreComponents (s : Setting) (is_live : ℕ → Bool) (local : Locals) (components : List (List Spot))
+    : Type 0 where
+  pub positions : List (List ℕ)
+  pub listing : IsListing (HasFlow s local (live_spots s.program is_live)) (length (live_spots s.program is_live))
+      positions
+  pub spots : components ≡ map (map (spot_at (live_spots s.program is_live))) positions
+
+-- the members of a component as plain data
+abbrev pub members_of : Component → List Spot
+members_of c = map spot_of c.members.items
+
+-- it says whether it loops
+abbrev pub SaysWhetherItLoops : Setting → Locals → Component → Type 0
+SaysWhetherItLoops s local c = c.looping ≡ loops s local (members_of c)
+
+-- the answer at a position of a list of answers, as plain data; where there is none, nothing flows into the place
+abbrev pub local_in : Option LocalAnswer → Local
+local_in None = IsLooseOn Up [] (record { parts = []; den = 0 })
+local_in (Some a) = local_seen a
+
+-- the answers for the places of a rule, and for its place with a number, from 1, as lists hold them
+abbrev pub answers_for : List (List LocalAnswer) → ℕ → List LocalAnswer
+answers_for locals zero = []
+answers_for locals (suc t) = slice_index_or locals t []
+
+abbrev pub local_from : List (List LocalAnswer) → Locals
+local_from locals t zero = local_in None
+local_from locals t (suc i) = local_in (slice_get (answers_for locals t) i)
+
+-- the flag of a rule
+abbrev pub is_flagged : List Bool → ℕ → Bool
+is_flagged live zero = false
+is_flagged live (suc t) = slice_index_or live t false
+
+-- there is a list of answers and a flag for each rule, and for each place of a live one an answer
+pub record AreLocalsFor (p : Program) (locals : List (List LocalAnswer)) (live : List Bool) : Type 0 where
+  pub lists : length locals ≡ length p.rules
+  pub flags : length live ≡ length p.rules
+  pub places : (t : ℕ) (r : Rule) → rule_at p t ≡ Some r → is_flagged live t ≡ true
+      → length (answers_for locals t) ≡ arity_of p r.target
+
+-- what is handed in: the graph and the rows of a valid program, with answers and flags for its rules
+pub record IsGiven (p : Program) (g : Graph) (preps : List RuleRows) (locals : List (List LocalAnswer))
+    (live : List Bool) : Type 0 where
+  pub valid : IsValid p
+  pub graph : IsGraphOf g p
+  pub rows : AreRowsOf preps p
+  pub locals_for : AreLocalsFor p locals live
+
+-- lists of answers as plain lists
+abbrev pub answer_lists : List (Vec LocalAnswer Global) → List (List LocalAnswer)
+answer_lists lists = map (λ l. l.items) lists

@@ -1,0 +1,25 @@
+-- The places of live rules, numbered in the order of rules and places.
+use Rattle.std.specs.Prelude.{ℕ, suc, ◌+◌, Bool, cond, List, [], ◌∷◌, ◌++◌, map, length}
+use Rattle.std.specs.List.{range_with_len}
+use Rattle.proof_nodes.specs.Nodes.{Spot}
+use Rattle.local_size.specs.declared.answer.LocalAnswer.{LocalAnswer}
+
+-- how many places each rule has: if it is live, as many as answers, and else none
+abbrev pub widths : List (List LocalAnswer) → List Bool → List ℕ
+widths [] live = []
+widths (l ∷ locals) [] = []
+widths (l ∷ locals) (is_live ∷ live) = cond is_live (length l) 0 ∷ widths locals live
+
+-- the number of the first place of each rule, where that of the first rule is k
+abbrev pub firsts_from : ℕ → List ℕ → List ℕ
+firsts_from k [] = []
+firsts_from k (w ∷ ws) = k ∷ firsts_from (k + w) ws
+
+-- so many places of a rule, from one on
+abbrev pub places_of : ℕ → ℕ → ℕ → List Spot
+places_of t i n = map (λ j. record { rule = t; place = j }) (range_with_len i n)
+
+-- the places of rules with these widths, the first of which is rule t
+abbrev pub spots_from : ℕ → List ℕ → List Spot
+spots_from t [] = []
+spots_from t (w ∷ ws) = places_of t 1 w ++ spots_from (suc t) ws

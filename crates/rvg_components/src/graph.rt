@@ -1,0 +1,44 @@
+// The graph of the places of live rules, along which values flow.
+
+ghost use Rattle.std.specs.Prelude.{map, IfOk};
+ghost use Rattle.model.specs.Programs.{Program};
+ghost use Rattle.proof_setting.specs.Setting.{setting_of};
+ghost use Rattle.proof_tree.specs.Views.{spot_of};
+ghost use Rattle.rvg_components.specs.Listing.{IsGiven, answer_lists, is_flagged, local_from};
+ghost use Rattle.rvg_components.specs.FlowGraphs.{IsFlowGraph};
+
+use crate::flowing::edges_of;
+use crate::numbering::{first_places, numbered_places, widths_of};
+use guard_prep::RuleRows;
+use its_graph::Graph;
+use local_size::LocalAnswer;
+use proof_tree::Spot;
+use std::alloc::{AllocError, Global};
+
+/// The places of live rules in order, and the edges along which values flow, by the positions of the places.
+#[derive(Debug, Drop)]
+pub(crate) struct FlowGraph {
+    pub spots: Vec<Spot>,
+    pub edges: Vec<(u32, u32)>,
+}
+
+/// The graph of the places of live rules.
+pub(crate) fn flow_graph(
+    alloc: Global,
+    g: &Graph,
+    preps: &[RuleRows],
+    locals: &[Vec<LocalAnswer>],
+    live: &[bool],
+) -> Result<FlowGraph, AllocError>
+    requires { (p : Program) × IsGiven p g.now preps.now (answer_lists locals.now) live.now }
+    ensures { IfOk result (λ graph. (p : Program)
+        → IsGiven p g.now preps.now (answer_lists locals.now) live.now
+        → IsFlowGraph (setting_of p) (is_flagged live.now) (local_from (answer_lists locals.now))
+        (map spot_of graph.spots.items) graph.edges.items) }
+{
+    let widths = widths_of(alloc, locals, live)?;
+    let firsts = first_places(alloc, &widths)?;
+    let spots = numbered_places(alloc, &widths)?;
+    let edges = edges_of(alloc, g, preps, locals, live, &firsts)?;
+    Ok(FlowGraph { spots, edges })
+}

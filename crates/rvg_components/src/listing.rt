@@ -1,0 +1,50 @@
+// The components of the graph of places.
+
+ghost use Rattle.std.specs.Prelude.{map, All, IfOk};
+ghost use Rattle.model.specs.Programs.{Program};
+ghost use Rattle.its_model.specs.Valid.{IsValid};
+ghost use Rattle.its_graph.specs.Graphs.{IsGraphOf};
+ghost use Rattle.proof_setting.specs.Setting.{setting_of};
+ghost use Rattle.proof_tree.specs.Composing.{AreRowsOf};
+ghost use Rattle.rvg_components.specs.Listing.{AreComponents, AreLocalsFor, SaysWhetherItLoops, is_flagged, local_from};
+ghost use Rattle.rvg_components.specs.Listing.{members_of, answer_lists, IsGiven};
+
+use crate::component::Component;
+use crate::graph::flow_graph;
+use crate::inside::{own_edges, placed};
+use bound_expr::Memory;
+use guard_prep::RuleRows;
+use its_graph::Graph;
+use local_size::LocalAnswer;
+use std::alloc::Global;
+
+/// The strongly connected components of the places of live rules: a value flows from one place into another where the
+/// rule of the first can come just before that of the second and an arm of the second reads the first. Nothing flows
+/// into a place that is loose or whose linear programs tripped. Each component comes after all from which values flow
+/// into it; among those that may come next the one with the least rule and place comes first, and members ascend.
+///
+/// # Errors
+///
+/// `Memory` where an allocation fails.
+pub fn components(
+    alloc: Global,
+    g: &Graph,
+    preps: &[RuleRows],
+    locals: &[Vec<LocalAnswer>],
+    live: &[bool],
+) -> Result<Vec<Component>, Memory>
+    requires { (p : Program) × IsGiven p g.now preps.now (answer_lists locals.now) live.now }
+    ensures components { IfOk result (λ found. (p : Program)
+        → IsGiven p g.now preps.now (answer_lists locals.now) live.now
+        → AreComponents (setting_of p) (is_flagged live.now) (local_from (answer_lists locals.now))
+        (map members_of found.items)) }
+    ensures looping { IfOk result (λ found. (p : Program)
+        → IsGiven p g.now preps.now (answer_lists locals.now) live.now
+        → All (SaysWhetherItLoops (setting_of p) (local_from (answer_lists locals.now))) found.items) }
+{
+    let graph = flow_graph(alloc, g, preps, locals, live)?;
+    let nodes = graph.spots.len();
+    let components = its_graph::components(alloc, nodes as u32, &graph.edges)?;
+    let own = own_edges(alloc, nodes, &graph.edges)?;
+    placed(alloc, &graph.spots, &own, &components)
+}

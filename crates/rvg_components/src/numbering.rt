@@ -1,0 +1,73 @@
+// The places of live rules, numbered in the order of rules and places.
+
+ghost use Rattle.std.specs.Prelude.{◌≡◌, ℕ, ◌++◌, ◌<◌, ◌^◌, cond, map, length, IfOk, OnOk};
+ghost use Rattle.std.specs.List.{sum};
+ghost use Rattle.proof_tree.specs.Views.{spot_of};
+ghost use Rattle.rvg_components.specs.Listing.{answer_lists};
+ghost use Rattle.rvg_components.specs.Numbering.{widths, firsts_from, places_of, spots_from};
+
+use local_size::LocalAnswer;
+use proof_tree::Spot;
+use std::alloc::{AllocError, Global};
+
+// So many places, if the rule is live, and else none.
+fn width_of(is_live: bool, count: usize) -> usize
+    ensures { result ≡ cond is_live count 0 }
+{
+    if is_live { count } else { 0 }
+}
+
+/// How many places each rule has: if it is live, as many as answers, and else none.
+pub(crate) fn widths_of(
+    alloc: Global,
+    locals: &[Vec<LocalAnswer>],
+    live: &[bool],
+) -> Result<Vec<usize>, AllocError>
+    requires { length locals.now ≡ length live.now }
+    ensures { IfOk result (λ found. found.items ≡ widths (answer_lists locals.now) live.now) }
+{
+    let mut found = Vec::with_capacity(alloc, live.len())?;
+    for (position, is_live) in live.iter().enumerate() {
+        found.push(width_of(*is_live, locals[position].len()))?;
+    }
+    Ok(found)
+}
+
+/// The number of the first place of each rule.
+pub(crate) fn first_places(alloc: Global, widths: &[usize]) -> Result<Vec<u32>, AllocError>
+    requires { sum widths.now < 2 ^ 31 }
+    ensures { IfOk result (λ firsts. firsts.items ≡ firsts_from 0 widths.now) }
+{
+    let mut firsts = Vec::with_capacity(alloc, widths.len())?;
+    let mut next = 0u32;
+    for width in widths {
+        firsts.push(next)?;
+        next += *width as u32;
+    }
+    Ok(firsts)
+}
+
+// So many places of a rule, from the first on.
+fn push_places(spots: &mut Vec<Spot>, rule: u32, count: usize) -> Result<(), AllocError>
+    requires { count < 2 ^ 31 }
+    ensures { OnOk result (map spot_of spots.new.items ≡ map spot_of spots.old.items ++ places_of rule 1 count) }
+{
+    for position in 0..count {
+        let place = position as u32 + 1;
+        spots.push(Spot { rule, place })?;
+    }
+    Ok(())
+}
+
+/// The place with each number.
+pub(crate) fn numbered_places(alloc: Global, widths: &[usize]) -> Result<Vec<Spot>, AllocError>
+    requires few { length widths.now < 2 ^ 31 }
+    requires sum { sum widths.now < 2 ^ 31 }
+    ensures { IfOk result (λ spots. map spot_of spots.items ≡ spots_from 1 widths.now) }
+{
+    let mut spots = Vec::new(alloc);
+    for (position, width) in widths.iter().enumerate() {
+        push_places(&mut spots, position as u32 + 1, *width)?;
+    }
+    Ok(spots)
+}
