@@ -1,5 +1,6 @@
 -- The bounds of places as composing meets them.
-use Rattle.std.specs.Prelude.{ℕ, ◌+◌, ◌<◌, ◌^◌, ◌==◌, ◌&&◌, ◌||◌, Bool, cond, List, length, ℤ, pos, nat_abs, Option, Some, None}
+use Rattle.std.specs.Prelude.{ℕ, ◌+◌, ◌<◌, ◌^◌, ◌==◌, ◌&&◌, ◌||◌, Bool, cond, List, length, ℤ, pos, nat_abs, Option}
+use Rattle.std.specs.Prelude.{Some, None}
 use Rattle.std.specs.List.{list_any}
 use Rattle.int_laws.specs.NormalForm.{is_zero}
 use denote.Ref.{Bor}
@@ -8,7 +9,7 @@ use Rattle.linear_forms.specs.Forms as forms
 use Rattle.proof_nodes.specs.Nodes.{Member}
 use Rattle.proof_nodes.specs.Known.{Table, known}
 use Rattle.proof_nodes.specs.Numbers.{rounded_up}
-use Rattle.proof_nodes.specs.Combined.{number_form}
+use Rattle.linear_forms.specs.RuleQuestions.{constant_form}
 use Rattle.proof_nodes.specs.Composed.{both_parts}
 use Rattle.proof_tree.specs.declared.rank.Form.{Form}
 use Rattle.proof_tree.specs.Views.{form_of}
@@ -41,7 +42,7 @@ place_part c den is_out b =
 
 -- a form that was found, as plain data; where there is none, 0
 abbrev pub form_found : Option (Bor Form) → forms.Form
-form_found None = number_form (pos 0)
+form_found None = constant_form (pos 0)
 form_found (Some f) = (form_of f.now).form
 
 -- a form has fewer coefficients than places could be numbered

@@ -15,7 +15,8 @@ use Rattle.proof_tree.specs.declared.rank.Form.{Form}
 use Rattle.proof_tree.specs.declared.rank.RankNode.{RankNode}
 use Rattle.proof_tree.specs.declared.proof.Proof.{Proof}
 use Rattle.proof_tree.specs.declared.proof.EmptyNode.{EmptyNode}
-use Rattle.proof_tree.specs.declared.proof.Proof.TheOpen.{Proof-F, UnreachedNode-F, SpreadNode-F, CycleNode-F, RankNode-F}
+use Rattle.proof_tree.specs.declared.proof.Proof.TheOpen.{Proof-F, UnreachedNode-F, SpreadNode-F, CycleNode-F}
+use Rattle.proof_tree.specs.declared.proof.Proof.TheOpen.{RankNode-F}
 use Rattle.proof_tree.specs.declared.proof.Proof.TheFolds.{fold-Proof}
 
 -- a fact as plain data

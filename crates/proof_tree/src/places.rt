@@ -25,8 +25,8 @@ fn rounded(n: u64, den: u64) -> u128
     (u128::from(n) + (u128::from(den) - 1)) / u128::from(den)
 }
 
-// The absolute value of a coefficient over a denominator, rounded up.
-fn rounded_coefficient(coef: &i64, den: u64) -> u128
+/// The absolute value of a coefficient over a denominator, rounded up.
+pub fn rounded_coefficient(coef: &i64, den: u64) -> u128
     requires { 1 ≤ den }
     ensures { result ≡ rounded_up (nat_abs coef.now) den }
 {
@@ -41,7 +41,11 @@ fn positive(n: i64) -> u64
 }
 
 /// A copy of the bound that is known; where none is, the constant 0.
-pub(crate) fn known_or_zero(alloc: Global, bound: Option<&Bound>) -> Result<Bound, Memory>
+///
+/// # Errors
+///
+/// `Memory` where an allocation fails.
+pub fn known_or_zero(alloc: Global, bound: Option<&Bound>) -> Result<Bound, Memory>
     ensures { IfOk result (λ b. bound_of b ≡ known_bound (found bound.entry)) }
 {
     match bound {
@@ -67,8 +71,8 @@ fn is_at(member: &Member, rule: u32, place: u32) -> bool
     member.spot.rule == rule && member.spot.place == place
 }
 
-// Whether the place after the rule is a member.
-fn has_spot(members: &[Member], rule: u32, place: u32) -> bool
+/// Whether the place after the rule is a member.
+pub fn has_spot(members: &[Member], rule: u32, place: u32) -> bool
     ensures { result ≡ is_spot (map member_of members.now) rule place }
 {
     for member in members {

@@ -19,9 +19,9 @@ use bound_table::{Within, rewrite_within};
 use its_model::Program;
 use std::alloc::Global;
 
-// The first form at a symbol.
+/// The first form at a symbol, where there is one.
 #[tactic(auto, using(crate::proofs::Rules::form_here, crate::proofs::Rules::form_passed))]
-fn rank_form(forms: &[Form], symbol: Option<u32>) -> Option<&Form>
+pub fn rank_form(forms: &[Form], symbol: Option<u32>) -> Option<&Form>
     ensures first { form_found result ≡ rank_form_of (map form_of forms.now) symbol }
     ensures few { All IsShort forms.now → IfSome result (λ f. IsShort f.now) }
 {

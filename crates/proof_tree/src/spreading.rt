@@ -6,10 +6,12 @@ ghost use Rattle.bound_expr.specs.Views.{bound_of};
 ghost use Rattle.bound_table.specs.Within.{answer_of, rewritten_within};
 ghost use Rattle.poly_terms.specs.Views.{monomial_of};
 ghost use Rattle.proof_nodes.specs.Composed.{parts_for, sizes_after};
-ghost use Rattle.proof_nodes.specs.ComposedSizes.{monomial_parts, monomial_bound as monomial_bound_of, polynomial_bound as polynomial_bound_of, offset_of, is_member};
+ghost use Rattle.proof_nodes.specs.ComposedSizes.{monomial_parts, monomial_bound as monomial_bound_of};
+ghost use Rattle.proof_nodes.specs.ComposedSizes.{polynomial_bound as polynomial_bound_of, offset_of, is_member};
 ghost use Rattle.proof_tree.specs.Views.{arm_of, member_of, local_of};
 ghost use Rattle.proof_tree.specs.Laws.{SpreadsAreOverWhatComesBefore};
-ghost use Rattle.proof_tree.specs.Composing.{poly_seen, HasFewVariables, HasFewPlaces, IsReadable, both_arms as both_arms_of, spread_over};
+ghost use Rattle.proof_tree.specs.Composing.{poly_seen, HasFewVariables, HasFewPlaces, IsReadable};
+ghost use Rattle.proof_tree.specs.Composing.{both_arms as both_arms_of, spread_over};
 
 use crate::arm::{Arm, LocalBound, Member};
 use crate::known::Known;
@@ -105,8 +107,12 @@ fn polynomial_bound<K: Known>(
     }
 }
 
-/// An arm as a bound at the sizes after a rule, but for the places that are members.
-pub(crate) fn arm_bound<K: Known>(
+/// An arm as a bound at the sizes after a rule, but for the places that are members. What isn't known counts as 0.
+///
+/// # Errors
+///
+/// `Memory` where an allocation fails.
+pub fn arm_bound<K: Known>(
     alloc: Global,
     arm: &Arm,
     poly: Option<&Poly>,

@@ -1,0 +1,32 @@
+-- what stands at a position
+pub mod Stored
+-- what nodes rest on
+pub mod UseLists
+-- loops over lists
+pub mod Onward
+-- the sizes that arms need
+pub mod NeededSpots
+-- the first of them that isn't known
+pub mod FirstMissing
+-- the updates of degree 2 or more
+pub mod BentUpdates
+-- the rows and arms of members
+pub mod GivenMembers
+-- what is answered of a place that doesn't loop
+pub mod SpreadAnswers
+-- the members after one rule
+pub mod MembersAfter
+-- the graph and the limits of a member of a loop
+pub mod GivenLoops
+-- parts that are pushed
+pub mod Joining
+-- what flows into members
+pub mod LoopFlows
+-- what the rules of a loop do
+pub mod LoopParts
+-- the rules of members
+pub mod MemberRules
+-- the members of which an arm reads a member
+pub mod BentMembers
+-- what is answered of a loop
+pub mod LoopAnswers

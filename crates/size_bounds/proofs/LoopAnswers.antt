@@ -1,0 +1,178 @@
+-- What is answered of a loop is the first reason why it isn't accepted, or the node that is.
+use Rattle.std.proofs.Common.{◌≡◌, inl, inr, ℕ, cond, List, [], ◌∷◌, map, Option, Some, None, refl, sym, ap, ◌∙◌, subst}
+use Rattle.std.specs.List.{AllByRecursion}
+use Rattle.std.proofs.lemmas.List.Elements.{recursion_from_All}
+use Rattle.model.specs.Bounds.{Bound}
+use Rattle.model.specs.Programs.{Program}
+use Rattle.its_graph.specs.declared.graph.Graph.{Graph}
+use Rattle.guard_prep.specs.declared.rule_rows.RuleRows.{RuleRows}
+use Rattle.bound_table.specs.InForce.{rewritten}
+use Rattle.proof_nodes.specs.Nodes.{Spot, Member}
+use Rattle.proof_nodes.specs.Known.{IsKnown, Table}
+use Rattle.proof_nodes.specs.Limits.{IsSmallComposed}
+use Rattle.proof_nodes.specs.ComposedSizes.{Flow, flows, base_of, rules_of}
+use Rattle.proof_nodes.specs.AcceptsSizes.{AcceptsUp, AcceptsLow, AcceptsCycle, cycle_size}
+use Rattle.proof_nodes.specs.Reasons.{Reason, MissingTime, MissingSize, Bent, Large, Check, for_each, IsFirstAmong}
+use Rattle.proof_nodes.specs.Checks.{large_nodes, check_up, check_low, check_size, check_time, check_small, needed_into, needed_times, straight_into, cycle_checks}
+use Rattle.proof_nodes.proofs.CheckLists.{passes_each}
+use Rattle.proof_nodes.proofs.SizeReasons.{passes-cycle}
+use Rattle.proof_setting.specs.Setting.{setting_of}
+use Rattle.round_relation.specs.Uses.{Numbers}
+use Rattle.size_bounds.specs.declared.answer.SizeAnswer.{SizeAnswer}
+use Rattle.size_bounds.specs.declared.answer.SizeAnswer.TheVariants as answers
+use Rattle.size_bounds.specs.Needs.{first_missing}
+use Rattle.size_bounds.specs.Growths.{grown, growing, composed}
+use Rattle.size_bounds.specs.LoopAnswers.{is_unknown, first_unknown, loop_needs, IsTimedAnswer, IsAnswerBy, IsLoopAnswer}
+use Rattle.size_bounds.specs.BentArms.{first_bent}
+use Rattle.size_bounds.specs.SizeAnswers.{AreGiven, IsCycleAnswer}
+use Rattle.size_bounds.proofs.FirstMissing.{all-known, first-missing, behind-each}
+use Rattle.size_bounds.proofs.BentMembers.{straight-first, straight-passes, bent-first}
+use Rattle.size_bounds.proofs.LoopParts.{composed-is, growing-are}
+
+none-some : (t : ℕ) → None ≡ Some t → ⊥
+none-some t e = cc
+
+some-same : (t u : ℕ) → Some t ≡ Some u → t ≡ u
+some-same t u e = cc
+
+no-bound : (b : Bound) → None ≡ Some b → ⊥
+no-bound b e = cc
+
+module _ (tab : Table) where
+  -- where no rule is without a time all times are known
+  times-known : (ts : List ℕ) → first_unknown tab.time ts ≡ None → AllByRecursion (λ t. IsKnown (tab.time t)) ts
+  times-known [] h = tt
+  times-known (t ∷ ts) h = go (tab.time t) refl h (times-known ts)
+    where
+      go : (o : Option Bound) → tab.time t ≡ o → cond (is_unknown o) (Some t) (first_unknown tab.time ts) ≡ None
+          → (first_unknown tab.time ts ≡ None → AllByRecursion (λ u. IsKnown (tab.time u)) ts)
+          → AllByRecursion (λ u. IsKnown (tab.time u)) (t ∷ ts)
+      go None e k later = absurd (none-some t (sym k))
+      go (Some b) e k later = ((b, e), later k)
+
+  -- the first rule without a time is that of the first check that fails
+  first-untimed : (ts : List ℕ) (rest : List Check) (t : ℕ) → first_unknown tab.time ts ≡ Some t
+      → IsFirstAmong (for_each (check_time tab) ts rest) (MissingTime t)
+  first-untimed [] rest t h = absurd (none-some t h)
+  first-untimed (u ∷ ts) rest t h = go (tab.time u) refl h (first-untimed ts rest t)
+    where
+      go : (o : Option Bound) → tab.time u ≡ o → cond (is_unknown o) (Some u) (first_unknown tab.time ts) ≡ Some t
+          → (first_unknown tab.time ts ≡ Some t → IsFirstAmong (for_each (check_time tab) ts rest) (MissingTime t))
+          → IsFirstAmong (for_each (check_time tab) (u ∷ ts) rest) (MissingTime t)
+      go None e k later =
+          inl ((λ known. no-bound known.0 (sym e ∙ known.1)), ap MissingTime (some-same u t k))
+      go (Some b) e k later = inr ((b, e), later k)
+
+module _ (p : Program) (g : Graph) (preps : List RuleRows) (tab : Table) (ms : List Member)
+    (given : AreGiven p g preps ms) where
+  -- what the loop needs
+  abbrev needed : List Spot
+  needed = needed_into (setting_of p) ms ms
+
+  abbrev timed : List ℕ
+  timed = needed_times (setting_of p) tab ms
+
+  abbrev whole : Bound
+  whole = cycle_size (setting_of p) tab ms
+
+  ups : AllByRecursion (AcceptsUp (setting_of p)) ms
+  ups = recursion_from_All (AcceptsUp (setting_of p)) ms given.up
+
+  lows : AllByRecursion (AcceptsLow (setting_of p)) ms
+  lows = recursion_from_All (AcceptsLow (setting_of p)) ms given.low
+
+  -- the checks behind those of the arms, of the sizes, of the bends and of the times
+  abbrev small_checks : List Check
+  small_checks = check_small (setting_of p) whole ∷ []
+
+  abbrev time_checks : List Check
+  time_checks = for_each (check_time tab) timed small_checks
+
+  abbrev bent_checks : List Check
+  bent_checks = straight_into (setting_of p) ms ms time_checks
+
+  abbrev size_checks : List Check
+  size_checks = for_each (check_size tab) needed bent_checks
+
+  behind-arms : (r : Reason) → IsFirstAmong size_checks r → IsFirstAmong (cycle_checks (setting_of p) tab ms) r
+  behind-arms r h =
+      inr (
+        given.shape,
+        behind-each (check_up (setting_of p)) ms (for_each (check_low (setting_of p)) ms size_checks) r ups
+            (behind-each (check_low (setting_of p)) ms size_checks r lows h),
+      )
+
+  -- the first size that is missing
+  pub is-missing : (spot : Spot) → first_missing tab needed ≡ Some spot
+      → IsFirstAmong (cycle_checks (setting_of p) tab ms) (MissingSize spot.rule spot.place)
+  is-missing spot e = behind-arms (MissingSize spot.rule spot.place) (first-missing tab needed bent_checks spot e)
+
+  module _ (none : first_missing tab needed ≡ None) where
+    behind-sizes : (r : Reason) → IsFirstAmong bent_checks r → IsFirstAmong (cycle_checks (setting_of p) tab ms) r
+    behind-sizes r h = behind-arms r (behind-each (check_size tab) needed bent_checks r (all-known tab needed none) h)
+
+    -- where none is, the first member that is bent
+    pub is-bent : (spot : Spot) → first_bent (setting_of p) ms ms ≡ Some spot
+        → IsFirstAmong (cycle_checks (setting_of p) tab ms) (Bent spot.rule spot.place)
+    is-bent spot e =
+        behind-sizes (Bent spot.rule spot.place) (bent-first (setting_of p) ms time_checks ms spot e)
+
+    module _ (straight : first_bent (setting_of p) ms ms ≡ None) where
+      behind-straight : (r : Reason) → IsFirstAmong time_checks r → IsFirstAmong (cycle_checks (setting_of p) tab ms) r
+      behind-straight r h = behind-sizes r (straight-first (setting_of p) ms time_checks ms straight r h)
+
+      -- where none is, the first rule that needs a time and has none
+      is-untimed : (t : ℕ) → first_unknown tab.time timed ≡ Some t
+          → IsFirstAmong (cycle_checks (setting_of p) tab ms) (MissingTime t)
+      is-untimed t e = behind-straight (MissingTime t) (first-untimed tab timed small_checks t e)
+
+      -- where each has one, a bound that is too large
+      is-large : (n : ℕ) → first_unknown tab.time timed ≡ None → ¬ (IsSmallComposed rewritten whole)
+          → n ≡ large_nodes rewritten whole → IsFirstAmong (cycle_checks (setting_of p) tab ms) (Large n)
+      is-large n e h k =
+          behind-straight (Large n)
+          (behind-each (check_time tab) timed small_checks (Large n) (times-known tab timed e)
+          (inl (h, ap Large (sym k))))
+
+      -- and else the node is accepted
+      is-accepted : first_unknown tab.time timed ≡ None → IsSmallComposed rewritten whole
+          → AcceptsCycle (setting_of p) tab ms
+      is-accepted e h = passes-cycle (setting_of p) tab ms (
+        given.shape,
+        passes_each (check_up (setting_of p)) (for_each (check_low (setting_of p)) ms size_checks) ms ups
+            (passes_each (check_low (setting_of p)) size_checks ms lows
+            (passes_each (check_size tab) bent_checks needed (all-known tab needed none)
+            (straight-passes (setting_of p) ms time_checks ms straight
+            (passes_each (check_time tab) small_checks timed (times-known tab timed e) (h, tt))))),
+      )
+
+      timed-answer : (ns : Numbers) (a : SizeAnswer) → first_unknown tab.time timed ≡ None
+          → IsTimedAnswer ns ms (loop_needs needed timed) whole a → IsCycleAnswer (setting_of p) tab ns ms a
+      timed-answer ns (answers.Found node facts) e h = (is-accepted e h.0, h.1, h.2)
+      timed-answer ns (answers.Missing spot) e h = absurd h
+      timed-answer ns (answers.Bent spot) e h = absurd h
+      timed-answer ns (answers.Untimed rule) e h = absurd h
+      timed-answer ns (answers.Large nodes) e h = is-large nodes e h.0 h.1
+
+      answer-by : (ns : Numbers) (a : SizeAnswer) (o : Option ℕ) → first_unknown tab.time timed ≡ o
+          → IsAnswerBy o ns ms (loop_needs needed timed) whole a → IsCycleAnswer (setting_of p) tab ns ms a
+      answer-by ns a None e h = timed-answer ns a e h
+      answer-by ns a (Some t) e h = subst (IsCycleAnswer (setting_of p) tab ns ms) (sym h) (is-untimed t e)
+
+      -- what is answered over the flows and the rules of the loop is answered of it
+      pub is-answered : (ns : Numbers) (a : SizeAnswer) (spots : List Spot) (fs : List Flow) (ts : List ℕ)
+          → spots ≡ needed → fs ≡ flows (setting_of p) ms tab.size → ts ≡ rules_of (setting_of p) ms
+          → IsLoopAnswer tab ns ms spots (base_of fs) (map (grown fs) ts) a → IsCycleAnswer (setting_of p) tab ns ms a
+      is-answered ns a spots fs ts es ef et h =
+          answer-by ns a (first_unknown tab.time timed) refl
+          (subst (λ (ss : List Spot). IsAnswerBy (first_unknown tab.time timed) ns ms (loop_needs ss timed) whole a) es
+          (subst (λ (us : List ℕ). IsAnswerBy (first_unknown tab.time us) ns ms (loop_needs spots us) whole a) times-are
+          (subst (λ (b : Bound). IsAnswerBy (first_unknown tab.time (growing (map (grown fs) ts))) ns ms
+          (loop_needs spots (growing (map (grown fs) ts))) b a) bound-is h)))
+        where
+          times-are : growing (map (grown fs) ts) ≡ timed
+          times-are = (λ i. growing (map (grown (ef i)) (et i))) ∙ growing-are p (flows (setting_of p) ms tab.size) (rules_of (setting_of p) ms)
+
+          bound-is : composed tab.time (base_of fs) (map (grown fs) ts) ≡ whole
+          bound-is = (λ i. composed tab.time (base_of (ef i)) (map (grown (ef i)) (et i)))
+              ∙ composed-is p (flows (setting_of p) ms tab.size) tab.time (rules_of (setting_of p) ms)

@@ -1,0 +1,121 @@
+-- What nodes rest on, one more at a time.
+use Rattle.std.proofs.Common.{◌≡◌, ℕ, ◌==◌, ◌||◌, arith, Bool, not, true, false, cond, List, [], ◌∷◌, ◌++◌, map, filter, refl, sym, ◌∙◌, ap}
+use Rattle.std.proofs.lemmas.List.{append-nil}
+use Rattle.std.specs.BTreeSet.{BTreeSet, contains}
+use Rattle.std.specs.BTreeMap.{is_at}
+use Rattle.std.specs.Cmp.{unsigned_tied}
+use Rattle.std.specs.Ordering.{nat_cmp}
+use Rattle.std.proofs.lemmas.Bool.Decides.{nat_tests}
+use Rattle.model.specs.Entries.{is_in}
+use Rattle.proof_nodes.specs.Nodes.{Proofs, Cite, AndProof}
+use Rattle.proof_tree.specs.Views.{uses_of}
+use Rattle.round_relation.specs.Uses.{once, cites}
+use Rattle.round_relation.proofs.CitedFacts.{in-once, once-in}
+use Rattle.size_bounds.specs.Lemmas.{with_other, HasJust}
+
+-- citations as uses
+pub cites_seen : (ns : List ℕ) → uses_of (map (λ n. Cite n) ns) ≡ cites ns
+cites_seen [] = refl
+cites_seen (n ∷ ns) = ap (λ (us : Proofs). AndProof (Cite n) us) (cites_seen ns)
+
+bool_same : (v w : Bool) → (v ≡ true → w ≡ true) → (w ≡ true → v ≡ true) → v ≡ w
+bool_same true w f g = sym (f refl)
+bool_same false true f g = g refl
+bool_same false false f g = refl
+
+pub filter-append : (test : ℕ → Bool) (xs : List ℕ) (x : ℕ) → filter test (xs ++ x ∷ []) ≡ filter test xs ++ cond (test x) (x ∷ []) []
+filter-append test [] x = go (test x) refl
+  where
+    go : (v : Bool) → test x ≡ v → filter test (x ∷ []) ≡ cond (test x) (x ∷ []) []
+    go true e = rw e refl
+    go false e = rw e refl
+filter-append test (y ∷ xs) x = go (test y) refl (filter-append test xs x)
+  where
+    go : (w : Bool) → test y ≡ w → filter test (xs ++ x ∷ []) ≡ filter test xs ++ cond (test x) (x ∷ []) []
+        → filter test (y ∷ (xs ++ x ∷ [])) ≡ filter test (y ∷ xs) ++ cond (test x) (x ∷ []) []
+    go true k h = rw k (ap (λ (zs : List ℕ). y ∷ zs) h)
+    go false k h = rw k h
+
+-- one number more, each once
+once-append : (xs : List ℕ) (n : ℕ) → once (xs ++ n ∷ []) ≡ cond (is_in n xs) (once xs) (once xs ++ n ∷ [])
+once-append [] n = refl
+once-append (m ∷ xs) n = go (n == m) refl (is_in n xs) refl (once-append xs n)
+  where
+    go : (v : Bool) → (n == m) ≡ v → (w : Bool) → is_in n xs ≡ w → once (xs ++ n ∷ []) ≡ cond (is_in n xs) (once xs) (once xs ++ n ∷ [])
+        → once (m ∷ (xs ++ n ∷ [])) ≡ cond (is_in n (m ∷ xs)) (once (m ∷ xs)) (once (m ∷ xs) ++ n ∷ [])
+    go v e true k ih = rw (k, or_true (n == m)) (ap (λ (zs : List ℕ). m ∷ filter (λ i. not (i == m)) zs) (rw k at ih))
+      where
+        or_true : (u : Bool) → (u || true) ≡ true
+        or_true true = refl
+        or_true false = refl
+    go true e false k ih =
+        rw e (ap (λ (zs : List ℕ). m ∷ filter (λ i. not (i == m)) zs) (rw k at ih)
+        ∙ ap (λ (zs : List ℕ). m ∷ zs) (kept_out ∙ append-nil (filter (λ i. not (i == m)) (once xs))))
+      where
+        kept_out : filter (λ i. not (i == m)) (once xs ++ n ∷ []) ≡ filter (λ i. not (i == m)) (once xs) ++ []
+        kept_out =
+            filter-append (λ i. not (i == m)) (once xs) n
+            ∙ ap (λ (u : Bool). filter (λ i. not (i == m)) (once xs) ++ cond (not u) (n ∷ []) []) e
+    go false e false k ih =
+        rw (e, k) (ap (λ (zs : List ℕ). m ∷ filter (λ i. not (i == m)) zs) (rw k at ih)
+        ∙ ap (λ (zs : List ℕ). m ∷ zs) kept_in)
+      where
+        kept_in : filter (λ i. not (i == m)) (once xs ++ n ∷ []) ≡ filter (λ i. not (i == m)) (once xs) ++ n ∷ []
+        kept_in =
+            filter-append (λ i. not (i == m)) (once xs) n
+            ∙ ap (λ (u : Bool). filter (λ i. not (i == m)) (once xs) ++ cond (not u) (n ∷ []) []) e
+
+-- one lemma more, where it isn't 0 and isn't there
+pub others-append : (xs : List ℕ) (n : ℕ)
+    → with_other n (once (filter (λ i. not (i == 0)) xs)) ≡ once (filter (λ i. not (i == 0)) (xs ++ n ∷ []))
+others-append xs n = go (n == 0) refl
+  where
+    same_in : is_in n (once (filter (λ i. not (i == 0)) xs)) ≡ is_in n (filter (λ i. not (i == 0)) xs)
+    same_in =
+        bool_same (is_in n (once (filter (λ i. not (i == 0)) xs))) (is_in n (filter (λ i. not (i == 0)) xs))
+        (once-in (filter (λ i. not (i == 0)) xs) n) (in-once (filter (λ i. not (i == 0)) xs) n)
+
+    go : (v : Bool) → (n == 0) ≡ v → with_other n (once (filter (λ i. not (i == 0)) xs)) ≡ once (filter (λ i. not (i == 0)) (xs ++ n ∷ []))
+    go true e =
+        rw e (ap once (sym (append-nil (filter (λ i. not (i == 0)) xs)) ∙ sym (rw e at (filter-append (λ i. not (i == 0)) xs n))))
+    go false e =
+        rw e (ap (λ (v : Bool). cond v (once (filter (λ i. not (i == 0)) xs)) (once (filter (λ i. not (i == 0)) xs) ++ n ∷ [])) same_in
+        ∙ (sym (once-append (filter (λ i. not (i == 0)) xs) n) ∙ ap once (sym (rw e at (filter-append (λ i. not (i == 0)) xs n)))))
+
+-- a number is in a list with one more where it is in the list or is that one
+in-more : (q n : ℕ) (ns : List ℕ) → is_in q (ns ++ n ∷ []) ≡ cond (q == n) true (is_in q ns)
+in-more q n [] = go (q == n)
+  where
+    go : (v : Bool) → (v || false) ≡ cond v true false
+    go true = refl
+    go false = refl
+in-more q n (m ∷ ns) = ap (λ (v : Bool). (q == m) || v) (in-more q n ns) ∙ go (q == m) (q == n)
+  where
+    go : (v w : Bool) → (v || cond w true (is_in q ns)) ≡ cond w true (v || is_in q ns)
+    go true true = refl
+    go true false = refl
+    go false true = refl
+    go false false = refl
+
+-- the test whether two numbers are the same, from both sides
+eqb-flip : (a b : ℕ) → (a == b) ≡ (b == a)
+eqb-flip a b = bool_same (a == b) (b == a) (flip a b) (flip b a)
+  where
+    flip : (m n : ℕ) → (m == n) ≡ true → (n == m) ≡ true
+    flip m n h = go (n == m) refl
+      where
+        go : (v : Bool) → (n == m) ≡ v → v ≡ true
+        go true e = refl
+        go false e = absurd (grind (arith, nat_tests))
+
+-- the test of a key is that of its number
+same-key : (n q : ℕ) → is_at (nat_cmp n) q ≡ (q == n)
+same-key n q = unsigned_tied n q ∙ eqb-flip n q
+
+-- a set with one number more has just those of the list with it
+pub set_more : (old new : BTreeSet ℕ) (ns : List ℕ) (n : ℕ) → HasJust old ns
+    → ((q : ℕ) → contains nat_cmp new q ≡ cond (is_at (nat_cmp n) q) true (contains nat_cmp old q))
+    → HasJust new (ns ++ n ∷ [])
+set_more old new ns n h u q =
+    u q ∙ (ap (λ (v : Bool). cond v true (contains nat_cmp old q)) (same-key n q)
+    ∙ (ap (λ (v : Bool). cond (q == n) true v) (h q) ∙ sym (in-more q n ns)))

@@ -1,0 +1,21 @@
+use Rattle.std.proofs.Common.{◌++◌, List, map, get_or, ap, ◌∙◌}
+use Rattle.proof_nodes.specs.ComposedSizes.{Flow}
+use Rattle.proof_tree.specs.Composing.{poly_seen}
+use Rattle.proof_tree.specs.Views.{member_of}
+use Rattle.size_bounds.specs.Tables.{table_of}
+use Rattle.size_bounds.specs.Flows.{flow_of}
+use Rattle.size_bounds.proofs.LoopFlows.{same-flows, flows-more}
+use Rattle.size_bounds.proofs.flow.push_flows.Goals as goal
+
+pub loop-rule-preserved : goal.loop-rule-preserved
+loop-rule-preserved c =
+    let q = poly_seen c.args.poly in
+    let size = (table_of c.args.t.now).size in
+    let m = member_of c.args.member.now in
+    let ms = map member_of c.args.members.now in
+    let done = map flow_of c.loop-rule.flows.items in
+    let e = get_or c.args.before.now c.loop-rule.rule-index 0 in
+    flows-more q size m ms c.args.before.now c.loop-rule.rule-index done (map flow_of c.push_both.new.flows.items) _
+    c.loop-rule-test.true c.loop-rule.invariant
+    (c.in_ok-push_both.ensures {u = tt} ∙ ap (λ (fs : List Flow). done ++ fs)
+    (same-flows q size m (map member_of c.members_after-inside.result.now) ms e c.members_after-inside.ensures))

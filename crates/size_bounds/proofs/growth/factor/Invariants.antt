@@ -1,0 +1,10 @@
+use Rattle.std.proofs.Common.{◌≡◌, ◌≤◌, max, drop, map}
+use Rattle.proof_nodes.specs.ComposedSizes.{factor_of}
+use Rattle.size_bounds.specs.Flows.{flow_of}
+use Rattle.size_bounds.proofs.growth.factor.Given as goal
+
+abbrev pub invariant-loop-flow : goal.invariant-loop-flow
+invariant-loop-flow l = record {
+  least : 1 ≤ l.greatest;
+  whole : max l.greatest (factor_of (map flow_of (drop l.flow-index l.flows)) l.rule) ≡ factor_of (map flow_of l.flows) l.rule;
+}

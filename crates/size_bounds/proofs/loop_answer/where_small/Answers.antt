@@ -1,0 +1,25 @@
+use Rattle.std.proofs.Common.{◌≡◌, ◌∙◌, ap, sym, map}
+use Rattle.model.specs.Bounds.{Bound}
+use Rattle.bound_expr.specs.Views.{bound_of}
+use Rattle.bound_table.specs.Within.{Fits, answer_of, rewritten_within}
+use Rattle.proof_nodes.specs.AcceptsSizes.{cycle_facts}
+use Rattle.proof_setting.proofs.Small.{small-bounds}
+use Rattle.proof_tree.specs.Views.{member_of}
+use Rattle.size_bounds.proofs.loop_answer.where_small.Goals as goal
+
+pub returns-in_ok-size_facts-in-Rewritten : goal.returns-in_ok-size_facts-in-Rewritten
+returns-in_ok-size_facts-in-Rewritten c =
+    let b = bound_of c.args.bound.now in
+    let small : rewritten_within b ≡ Fits (bound_of c.in-Rewritten.small) =
+    sym (ap answer_of (sym c.in-Rewritten.is) ∙ c.in_ok-small.ensures.outcome) in
+    let k = (small-bounds.fits b (bound_of c.in-Rewritten.small)).0 small in (
+      k.0,
+      c.in_ok-cycle_node-in-Rewritten.ensures,
+      c.in_ok-size_facts-in-Rewritten.ensures
+          ∙ ap (λ (r : Bound). cycle_facts r (map member_of c.args.members.now)) k.1,
+    )
+
+pub returns-in-Large : goal.returns-in-Large
+returns-in-Large c =
+    (small-bounds.large (bound_of c.args.bound.now) c.in-Large.nodes).0
+    (sym (ap answer_of (sym c.in-Large.is) ∙ c.in_ok-small.ensures.outcome))

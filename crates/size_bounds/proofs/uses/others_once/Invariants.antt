@@ -1,0 +1,9 @@
+use Rattle.std.proofs.Common.{◌≡◌, ◌==◌, not, filter, take}
+use Rattle.round_relation.specs.Uses.{once}
+use Rattle.size_bounds.specs.Lemmas.{HasJust}
+use Rattle.size_bounds.proofs.uses.others_once.Given as goal
+
+-- those so far, each once, and the set has just them
+abbrev pub invariant-loop-lemma : goal.invariant-loop-lemma
+invariant-loop-lemma l =
+    (l.found.items ≡ once (filter (λ n. not (n == 0)) (take l.lemma-index l.lemmas))) × HasJust l.seen l.found.items

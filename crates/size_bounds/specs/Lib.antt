@@ -1,0 +1,16 @@
+-- tables of bounds as the code keeps them
+pub mod Tables
+-- what is answered of a size
+pub mod SizeAnswers
+-- the lemmas that a node cites
+pub mod Lemmas
+-- the sizes that arms need
+pub mod Needs
+-- what flows into the members of a loop
+pub mod Flows
+-- what its rules make of that
+pub mod Growths
+-- the arms that read members
+pub mod BentArms
+-- what is answered of a loop
+pub mod LoopAnswers

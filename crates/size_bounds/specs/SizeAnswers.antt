@@ -1,0 +1,64 @@
+-- What is answered of a size: a node that states it, or the first reason why there is none.
+use Rattle.std.specs.Prelude.{◌≡◌, List, [], ◌∷◌}
+use Rattle.std.specs.List.{All}
+use Rattle.model.specs.Programs.{Program}
+use Rattle.model.specs.Facts.{Size}
+use Rattle.its_model.specs.Valid.{IsValid}
+use Rattle.its_graph.specs.Graphs.{IsGraphOf}
+use Rattle.its_graph.specs.declared.graph.Graph.{Graph}
+use Rattle.guard_prep.specs.declared.rule_rows.RuleRows.{RuleRows}
+use Rattle.proof_nodes.specs.Nodes.{Member, Spread, Cycle}
+use Rattle.proof_nodes.specs.Setting.{Setting}
+use Rattle.proof_nodes.specs.Known.{Table}
+use Rattle.proof_nodes.specs.AcceptsSizes.{AcceptsSpread, AcceptsCycle, spread_size, cycle_size, cycle_facts}
+use Rattle.proof_nodes.specs.AcceptsSizes.{HasMemberShape, HasCycleShape, AcceptsUp, AcceptsLow}
+use Rattle.proof_nodes.specs.Reasons.{MissingTime, MissingSize, Bent, Large, IsFirstAmong}
+use Rattle.proof_nodes.specs.Checks.{spread_checks, cycle_checks}
+use Rattle.proof_setting.specs.Setting.{setting_of}
+use Rattle.proof_tree.specs.Composing.{AreRowsOf}
+use Rattle.proof_tree.specs.Views.{facts_of, proof_of}
+use Rattle.round_relation.specs.Uses.{Numbers, uses_for, spread_needs, cycle_needs}
+use Rattle.size_bounds.specs.declared.answer.SizeAnswer.{SizeAnswer}
+use Rattle.size_bounds.specs.declared.answer.SizeAnswer.TheVariants as answers
+
+-- what is answered of a place that doesn't loop, over a table whose bounds are those of lemmas with these numbers: the
+-- node that is accepted, with what it rests on, and its size; or the first check of the node that fails
+abbrev pub IsSpreadAnswer : Setting → Table → Numbers → Member → SizeAnswer → Type 0
+IsSpreadAnswer s tab ns m (answers.Found node facts) = AcceptsSpread s tab m
+    × (proof_of node ≡ Spread m (uses_for ns (spread_needs s m)))
+    × (facts_of facts.items ≡ Size m.spot.rule m.spot.place (s.rewrite (spread_size s tab m)) ∷ [])
+IsSpreadAnswer s tab ns m (answers.Missing spot) =
+    IsFirstAmong (spread_checks s tab m) (MissingSize spot.rule spot.place)
+IsSpreadAnswer s tab ns m (answers.Bent spot) = ⊥
+IsSpreadAnswer s tab ns m (answers.Untimed rule) = ⊥
+IsSpreadAnswer s tab ns m (answers.Large nodes) = IsFirstAmong (spread_checks s tab m) (Large nodes)
+
+-- what is answered of the members of a loop: the same, with one size for all
+abbrev pub IsCycleAnswer : Setting → Table → Numbers → List Member → SizeAnswer → Type 0
+IsCycleAnswer s tab ns members (answers.Found node facts) = AcceptsCycle s tab members
+    × (proof_of node ≡ Cycle members (uses_for ns (cycle_needs s tab members)))
+    × (facts_of facts.items ≡ cycle_facts (s.rewrite (cycle_size s tab members)) members)
+IsCycleAnswer s tab ns members (answers.Missing spot) =
+    IsFirstAmong (cycle_checks s tab members) (MissingSize spot.rule spot.place)
+IsCycleAnswer s tab ns members (answers.Bent spot) =
+    IsFirstAmong (cycle_checks s tab members) (Bent spot.rule spot.place)
+IsCycleAnswer s tab ns members (answers.Untimed rule) = IsFirstAmong (cycle_checks s tab members) (MissingTime rule)
+IsCycleAnswer s tab ns members (answers.Large nodes) = IsFirstAmong (cycle_checks s tab members) (Large nodes)
+
+-- the graph and the rows are those of a program, and the arms of a member are accepted
+pub record IsGiven (p : Program) (g : Graph) (preps : List RuleRows) (m : Member) : Type 0 where
+  pub valid : IsValid p
+  pub graph : IsGraphOf g p
+  pub rows : AreRowsOf preps p
+  pub shape : HasMemberShape (setting_of p) m
+  pub up : AcceptsUp (setting_of p) m
+  pub low : AcceptsLow (setting_of p) m
+
+-- so are those of each of these members, which ascend
+pub record AreGiven (p : Program) (g : Graph) (preps : List RuleRows) (members : List Member) : Type 0 where
+  pub valid : IsValid p
+  pub graph : IsGraphOf g p
+  pub rows : AreRowsOf preps p
+  pub shape : HasCycleShape (setting_of p) members
+  pub up : All (AcceptsUp (setting_of p)) members
+  pub low : All (AcceptsLow (setting_of p)) members

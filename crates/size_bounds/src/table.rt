@@ -1,0 +1,99 @@
+// Tables of bounds as the rounds keep them.
+
+ghost use Rattle.std.specs.Prelude.{◌≡◌, ℕ};
+ghost use Rattle.proof_tree.specs.Lookups.{found};
+ghost use Rattle.size_bounds.specs.Tables.{entry_at, seen, bound_stored, lemma_stored, stored_time};
+ghost use Rattle.size_bounds.specs.Tables.{stored_size, table_of, numbers_of};
+
+use bound_expr::Bound;
+use outcome::Stored;
+use proof_tree::Known;
+
+/// What is known: a time of each rule or none, and a size of each place after each rule or none, each with the number
+/// of the lemma that states it. The virtual entry has the index 0.
+#[derive(Debug, Drop)]
+pub struct Table {
+    pub times: Vec<Option<Stored>>,
+    pub sizes: Vec<Vec<Option<Stored>>>,
+}
+
+impl Table {
+    /// The time of a rule with its lemma, where it is known.
+    pub fn stored_time(&self, rule: u32) -> Option<&Stored>
+        ensures { seen result ≡ stored_time self.now rule }
+    {
+        stored_at(&self.times, rule as usize)
+    }
+
+    /// The size of a place after a rule with its lemma, where it is known. Places count from 1.
+    pub fn stored_size(&self, rule: u32, place: u32) -> Option<&Stored>
+        ensures { seen result ≡ stored_size self.now rule place }
+    {
+        if place == 0 {
+            return None;
+        }
+        if rule as usize >= self.sizes.len() {
+            return None;
+        }
+        stored_at(&self.sizes[rule as usize], place as usize - 1)
+    }
+
+    /// The number of the lemma of a rule's time; where it has none, 0.
+    pub fn time_lemma(&self, rule: u32) -> u32
+        ensures { result ≡ (numbers_of self.now).time rule }
+    {
+        lemma_in(self.stored_time(rule))
+    }
+
+    /// The number of the lemma of the size of a place after a rule; where it has none, 0.
+    pub fn size_lemma(&self, rule: u32, place: u32) -> u32
+        ensures { result ≡ (numbers_of self.now).size rule place }
+    {
+        lemma_in(self.stored_size(rule, place))
+    }
+}
+
+impl Known for Table {
+    ghost table = { table_of };
+
+    fn time(&self, rule: u32) -> Option<&Bound> {
+        bound_in(self.stored_time(rule))
+    }
+
+    fn size(&self, rule: u32, place: u32) -> Option<&Bound> {
+        bound_in(self.stored_size(rule, place))
+    }
+}
+
+// What is stored at a position, where something is.
+fn stored_at(bounds: &[Option<Stored>], position: usize) -> Option<&Stored>
+    ensures { seen result ≡ entry_at bounds.now position }
+{
+    if position >= bounds.len() {
+        return None;
+    }
+    match &bounds[position] {
+        Some(stored) => Some(stored),
+        None => None,
+    }
+}
+
+// The bound of what is stored.
+fn bound_in(stored: Option<&Stored>) -> Option<&Bound>
+    ensures { found result ≡ bound_stored (seen stored.entry) }
+{
+    match stored {
+        Some(s) => Some(&s.bound),
+        None => None,
+    }
+}
+
+// The number of its lemma.
+fn lemma_in(stored: Option<&Stored>) -> u32
+    ensures { result ≡ lemma_stored (seen stored.entry) }
+{
+    match stored {
+        Some(s) => s.lemma,
+        None => 0,
+    }
+}

@@ -1,0 +1,148 @@
+// What a node rests on: the lemmas of the bounds that it needs.
+
+ghost use Rattle.std.specs.Prelude.{◌≡◌, ◌==◌, ◌∷◌, ◌++◌, not, map, filter, IfOk, OnOk};
+ghost use Rattle.model.specs.Entries.{is_in};
+ghost use Rattle.proof_nodes.specs.Nodes.{Start, Cite};
+ghost use Rattle.proof_tree.specs.Views.{proof_of, spot_of};
+ghost use Rattle.round_relation.specs.Uses.{NeedsTime, size_needs, number_of, once, uses_from};
+ghost use Rattle.size_bounds.specs.Tables.{numbers_of};
+ghost use Rattle.size_bounds.specs.Lemmas.{uses_seen, with_other, HasJust};
+
+use crate::table::Table;
+use model::Memory;
+use proof_tree::{Proof, Spot};
+use std::alloc::Global;
+use std::collections::BTreeSet;
+
+/// Appends the lemmas of these sizes.
+pub(crate) fn push_size_lemmas(
+    lemmas: &mut Vec<u32>,
+    t: &Table,
+    spots: &[Spot],
+) -> Result<(), Memory>
+    ensures { OnOk result (lemmas.new.items ≡ lemmas.old.items
+        ++ map (number_of (numbers_of t.now)) (size_needs (map spot_of spots.now))) }
+{
+    for spot in spots {
+        lemmas.push(t.size_lemma(spot.rule, spot.place))?;
+    }
+    Ok(())
+}
+
+/// Appends the lemmas of the times of these rules.
+pub(crate) fn push_time_lemmas(
+    lemmas: &mut Vec<u32>,
+    t: &Table,
+    rules: &[u32],
+) -> Result<(), Memory>
+    ensures { OnOk result (lemmas.new.items ≡ lemmas.old.items
+        ++ map (number_of (numbers_of t.now)) (map (λ rule. NeedsTime rule) rules.now)) }
+{
+    for rule in rules {
+        lemmas.push(t.time_lemma(*rule))?;
+    }
+    Ok(())
+}
+
+/// What a node rests on that needs these lemmas: the virtual entry first, where it is among them, and then each other
+/// one once, in the order in which they come first.
+///
+/// # Errors
+///
+/// `Memory` where an allocation fails.
+pub fn cited(alloc: Global, lemmas: &[u32]) -> Result<Vec<Proof>, Memory>
+    ensures { IfOk result (λ uses. uses_seen uses.items ≡ uses_from lemmas.now) }
+{
+    let others = others_once(alloc, lemmas)?;
+    if has(lemmas, 0) {
+        with_start(alloc, &others)
+    } else {
+        without_start(alloc, &others)
+    }
+}
+
+// The virtual entry and these lemmas.
+fn with_start(alloc: Global, lemmas: &[u32]) -> Result<Vec<Proof>, Memory>
+    ensures { IfOk result (λ uses. map proof_of uses.items ≡ Start ∷ map (λ n. Cite n) lemmas.now) }
+{
+    let mut uses = Vec::new(alloc);
+    uses.push(start())?;
+    push_cites(&mut uses, lemmas)?;
+    Ok(uses)
+}
+
+// These lemmas, each cited.
+fn without_start(alloc: Global, lemmas: &[u32]) -> Result<Vec<Proof>, Memory>
+    ensures { IfOk result (λ uses. map proof_of uses.items ≡ map (λ n. Cite n) lemmas.now) }
+{
+    let mut uses = Vec::new(alloc);
+    push_cites(&mut uses, lemmas)?;
+    Ok(uses)
+}
+
+// Appends citations of these lemmas.
+fn push_cites(uses: &mut Vec<Proof>, lemmas: &[u32]) -> Result<(), Memory>
+    ensures { OnOk result (map proof_of uses.new.items
+        ≡ map proof_of uses.old.items ++ map (λ n. Cite n) lemmas.now) }
+{
+    for lemma in lemmas {
+        uses.push(cite(*lemma))?;
+    }
+    Ok(())
+}
+
+// The virtual entry as a node.
+fn start() -> Proof
+    ensures { proof_of result ≡ Start }
+{
+    Proof::Start
+}
+
+// An earlier lemma as a node.
+fn cite(lemma: u32) -> Proof
+    ensures { proof_of result ≡ Cite lemma }
+{
+    Proof::Cite(lemma)
+}
+
+// The lemmas other than 0, each once, in the order in which they come first.
+fn others_once(alloc: Global, lemmas: &[u32]) -> Result<Vec<u32>, Memory>
+    ensures { IfOk result (λ found. found.items ≡ once (filter (λ n. not (n == 0)) lemmas.now)) }
+{
+    let mut found = Vec::new(alloc);
+    let mut seen = BTreeSet::new(alloc);
+    for lemma in lemmas {
+        push_other(&mut found, &mut seen, *lemma)?;
+    }
+    Ok(found)
+}
+
+// Appends a lemma, where it isn't 0 and isn't there, to a list and to the set of its numbers.
+fn push_other(found: &mut Vec<u32>, seen: &mut BTreeSet<u32>, lemma: u32) -> Result<(), Memory>
+    requires { HasJust seen.old found.old.items }
+    ensures found { OnOk result (found.new.items ≡ with_other lemma found.old.items) }
+    ensures seen { OnOk result (HasJust seen.new found.new.items) }
+{
+    if lemma == 0 {
+        return Ok(());
+    }
+    let is_new = seen.insert(lemma)?;
+    if !is_new {
+        return Ok(());
+    }
+    found.push(lemma)?;
+    Ok(())
+}
+
+// Whether a number is in a list.
+fn has(numbers: &[u32], number: u32) -> bool
+    ensures { result ≡ is_in number numbers.now }
+{
+    for other in numbers {
+        let is_same = number == *other;
+        if is_same {
+            return true;
+        }
+    }
+    false
+}
