@@ -1,9 +1,10 @@
 -- The lemmas of a table that is made by rounds of times are accepted, and show the table.
-use Rattle.std.proofs.Common.{◌≡◌, ℕ, ◌≤◌, true, List, [], ◌∷◌, ◌++◌, length, filter, map, Option, Some, None, refl}
+use Rattle.std.proofs.Common.{◌≡◌, ◌⊎◌, inr, ℕ, ◌≤◌, true, List, [], ◌∷◌, ◌++◌, length, filter, map, Option, Some, None, refl}
 use Rattle.std.proofs.Common.{sym, ◌∙◌, ap, subst, All}
 use Rattle.std.specs.List.{Contains}
 use Rattle.std.proofs.lemmas.List.{append-nil}
-use Rattle.std.proofs.lemmas.List.Elements.{All-cons, All-weaker}
+use Rattle.std.proofs.lemmas.List.Elements.{All-weaker}
+use Rattle.model.specs.Programs.{Rule, rule_at}
 use Rattle.model.specs.Bounds.{Bound, Constant}
 use Rattle.model.specs.Facts.{Fact, Time, Size}
 use Rattle.model.specs.Entries.{is_in}
@@ -11,9 +12,9 @@ use Rattle.model.proofs.Membership.{is_in-filter, filter-in}
 use Rattle.proof_nodes.specs.Nodes.{Proof}
 use Rattle.proof_nodes.specs.Known.{Table}
 use Rattle.proof_nodes.specs.Setting.{Setting}
-use Rattle.proof_nodes.specs.AcceptsPlain.{IsRule, places_at, start_sizes, start_facts}
+use Rattle.proof_nodes.specs.AcceptsPlain.{IsRule}
 use Rattle.proof_nodes.specs.Acceptance.{facts_of_lemma, AcceptsFrom, facts_from, AcceptsLemmas, facts_of_lemmas}
-use Rattle.round_relation.specs.Tables.{rule_numbers, IsPlace, KnowsStart}
+use Rattle.round_relation.specs.Tables.{rule_numbers, IsPlace, KnowsStart, IsTableOf}
 use Rattle.round_relation.specs.Searches.{Searches, searches_of}
 use Rattle.round_relation.specs.Beginning.{IsDead}
 use Rattle.round_relation.specs.Rounds.{NextTimes}
@@ -22,12 +23,15 @@ use Rattle.round_relation.specs.LemmaOrder.{AreNumbersOf, never_lemmas, AreFirst
 use Rattle.round_relation.specs.LemmaOrder.{AreLemmasOf, AtFirst, AfterRound}
 use Rattle.round_relation.specs.Laws.{IsStated, IsShown, LemmasAreAccepted}
 use Rattle.round_relation.specs.Right.{AreRight}
-use Rattle.round_relation.proofs.Numbered.{rule_in, in_rules, in_places}
-use Rattle.round_relation.proofs.FactLists.{IsOf, AreOf, numbered-stated, stated-left, stated-right}
+use Rattle.round_relation.specs.Standing.{IsOf, AreOf}
+use Rattle.round_relation.proofs.Cases.{none_some}
+use Rattle.round_relation.proofs.Numbered.{rule_in, in_rules}
+use Rattle.round_relation.proofs.FactLists.{numbered-stated, stated-left, stated-right}
 use Rattle.round_relation.proofs.FirstLemmas.{zero_times, accepts-append, facts-append, zero_lemma, nevers_no_time}
 use Rattle.round_relation.proofs.FirstLemmas.{NeversStand, nevers_stand, zeros_of}
 use Rattle.round_relation.proofs.FirstFacts.{zero_ones, sized_ones, sized_rule, zero_rule, all_stated, all_accepted}
-use Rattle.round_relation.proofs.RoundLemmas.{Keeps, follows-itself, sizes-of, time_alone, times_stated, RoundStands}
+use Rattle.round_relation.proofs.NeededFacts.{Keeps, follows-itself}
+use Rattle.round_relation.proofs.RoundLemmas.{time_alone, times_stated, RoundStands}
 use Rattle.round_relation.proofs.RoundLemmas.{round_stands}
 
 -- numbers over what lemmas state
@@ -37,17 +41,29 @@ pub numbers_from : (s : Setting) (proofs : List Proof) (tab : Table) (ns : Numbe
 unfolding facts_of_lemmas
 numbers_from s proofs tab ns h = h
 
-module _ (q : Searches) (s : Setting) (right : AreRight q s) where
-  -- lemmas are accepted, state bounds of the table alone, and all of those of rules
-  pub record Stands (tab : Table) (proofs : List Proof) : Type 0 where
-    pub accepted : AcceptsFrom s [] proofs
-    pub are : All (AreOf tab) (facts_from s [] proofs)
-    pub start : KnowsStart s.program tab
-    pub times : (t : ℕ) (b : Bound) → IsRule s.program t → tab.time t ≡ Some b → IsStated (facts_from s [] proofs)
-        (Time t b)
-    pub sizes : (t i : ℕ) (b : Bound) → IsRule s.program t → IsPlace s.program t i → tab.size t i ≡ Some b
-        → IsStated (facts_from s [] proofs) (Size t i b)
+-- lemmas are accepted, state bounds of the table alone, and all of those of rules
+pub record Stands (s : Setting) (tab : Table) (proofs : List Proof) : Type 0 where
+  pub accepted : AcceptsFrom s [] proofs
+  pub are : All (AreOf tab) (facts_from s [] proofs)
+  pub table : IsTableOf s.program tab
+  pub start : KnowsStart s.program tab
+  pub times : (t : ℕ) (b : Bound) → IsRule s.program t → tab.time t ≡ Some b → IsStated (facts_from s [] proofs)
+      (Time t b)
+  pub sizes : (t i : ℕ) (b : Bound) → IsRule s.program t → IsPlace s.program t i → tab.size t i ≡ Some b
+      → IsStated (facts_from s [] proofs) (Size t i b)
 
+-- what a table keeps is that of the later one
+pub kept_of : (old new : Table) → Keeps old new → (f : Fact) → IsOf old f → IsOf new f
+kept_of old new keeps (Time t b) h = keeps.times t b h
+kept_of old new keeps (Size t i b) h = keeps.sizes t i b h
+
+pub are_kept : (old new : Table) → Keeps old new → (past : List (List Fact)) → All (AreOf old) past
+    → All (AreOf new) past
+are_kept old new keeps past are =
+    All-weaker (AreOf old) (AreOf new) (λ facts h. All-weaker (IsOf old) (IsOf new) (kept_of old new keeps) facts h)
+    past are
+
+module _ (q : Searches) (s : Setting) (right : AreRight q s) where
   module _ (tab : Table) (proofs : List Proof) (f : AreFirstLemmas q s tab proofs) where
     stated : facts_from s [] proofs
         ≡ facts_from s (zero_times (zero_ones s f.first.is_empty f.is_unreached))
@@ -91,23 +107,19 @@ module _ (q : Searches) (s : Setting) (right : AreRight q s) where
         (zero_rule q s right tab f.first f.is_unreached f.unreached f.empties f.are_empties)))
         (sized_ones s f.first.is_empty f.is_unreached) numbered)
 
-    pub first_stands : Stands tab proofs
+    pub first_stands : Stands s tab proofs
     first_stands = record {
       accepted =
           subst (λ (ps : List Proof). AcceptsFrom s [] ps) (sym f.in_order)
           (all_accepted q s right tab f.first f.is_unreached f.unreached f.empties f.are_empties f.ns nevers.accepted);
       are = subst (λ (past : List (List Fact)). All (AreOf tab) past) (sym stated) nevers.are;
+      table = f.first.table;
       start = f.first.start;
       times = λ t b rule known. numbered-stated (facts_from s [] proofs) (f.ns.time t) (Time t b)
           (numbers.times t b rule known);
       sizes = λ t i b rule place known.
           numbered-stated (facts_from s [] proofs) (f.ns.size t i) (Size t i b) (numbers.sizes t i b rule place known);
     }
-
-  -- what a table keeps is that of the later one
-  kept_of : (old new : Table) → Keeps old new → (f : Fact) → IsOf old f → IsOf new f
-  kept_of old new keeps (Time t b) h = keeps.times t b h
-  kept_of old new keeps (Size t i b) h = keeps.sizes t i b h
 
   keeps_next : (old new : Table) → NextTimes q s old new → Keeps old new
   keeps_next old new n = record { times = n.times.known; sizes = λ t i b e. n.sizes t i ∙ e }
@@ -118,26 +130,30 @@ module _ (q : Searches) (s : Setting) (right : AreRight q s) where
     sizes = λ i place. n.sizes 0 i ∙ start.sizes i place;
   }
 
-  module _ (old new : Table) (earlier proofs : List Proof) (before : Stands old earlier) (n : NextTimes q s old new)
+  table_next : (old new : Table) → NextTimes q s old new → IsTableOf s.program old → IsTableOf s.program new
+  table_next old new n table = record {
+    times = λ t b e. time t b e (rule_at s.program t) refl;
+    sizes = λ t i b e. table.sizes t i b (sym (n.sizes t i) ∙ e);
+  }
+    where
+      time : (t : ℕ) (b : Bound) → new.time t ≡ Some b → (o : Option Rule) → rule_at s.program t ≡ o
+          → (t ≡ 0) ⊎ IsRule s.program t
+      time t b e (Some r) k = inr (record { rule = r; numbered = k })
+      time t b e None k =
+          let out : ¬ (IsRule s.program t) = λ r. none_some r.rule (sym k ∙ r.numbered) in
+          table.times t b (sym (n.times.others t out) ∙ e)
+
+  module _ (old new : Table) (earlier proofs : List Proof) (before : Stands s old earlier) (n : NextTimes q s old new)
       (r : AreRoundLemmas q s earlier old new proofs) where
-    start_of : AreOf new (start_facts s.program)
-    start_of =
-        let start = start_next old new n before.start in
-        All-cons (IsOf new) (Time 0 (Constant 1)) (start_sizes (places_at s.program (Some s.program.start))) start.time
-        (sizes-of new (places_at s.program (Some s.program.start)) (λ i m. start.sizes i (in_places s.program 0 i m)))
-
     are_new : All (AreOf new) (facts_from s [] earlier)
-    are_new =
-        All-weaker (AreOf old) (AreOf new) (λ facts h. All-weaker (IsOf old) (IsOf new)
-        (kept_of old new (keeps_next old new n)) facts h)
-        (facts_from s [] earlier) before.are
+    are_new = are_kept old new (keeps_next old new n) (facts_from s [] earlier) before.are
 
-    round : RoundStands q s right old new before.start (keeps_next old new n) (facts_from s [] earlier) r.ns
-        (numbers_from s earlier old r.ns r.numbers) start_of (facts_from s [] earlier)
+    round : RoundStands q s right old new before.start before.table (keeps_next old new n) (facts_from s [] earlier) r.ns
+        (numbers_from s earlier old r.ns r.numbers) (facts_from s [] earlier)
         (filter (is_new old new) (rule_numbers s.program)) proofs
     round =
-        round_stands q s right old new before.start (keeps_next old new n) (facts_from s [] earlier) r.ns
-        (numbers_from s earlier old r.ns r.numbers) start_of (facts_from s [] earlier)
+        round_stands q s right old new before.start before.table (keeps_next old new n) (facts_from s [] earlier) r.ns
+        (numbers_from s earlier old r.ns r.numbers) (facts_from s [] earlier)
         (follows-itself (facts_from s [] earlier)) are_new
         (filter (is_new old new) (rule_numbers s.program))
         (λ t m. in_rules s.program t (filter-in (is_new old new) (rule_numbers s.program) t m).0) proofs r.each
@@ -148,11 +164,12 @@ module _ (q : Searches) (s : Setting) (right : AreRight q s) where
     round_stated = facts-append s [] earlier proofs ∙ round.stated
 
     -- a round keeps that lemmas stand
-    pub after_round : Stands new (earlier ++ proofs)
+    pub after_round : Stands s new (earlier ++ proofs)
     after_round = record {
       accepted = accepts-append s [] earlier proofs before.accepted round.accepted;
       are = subst (λ (past : List (List Fact)). All (AreOf new) past)
           (sym (facts-append s [] earlier proofs)) round.are;
+      table = table_next old new n before.table;
       start = start_next old new n before.start;
       times = λ t b rule known. subst (λ (past : List (List Fact)). IsStated past (Time t b)) (sym round_stated)
           (time t b rule known (old.time t) refl);
@@ -178,7 +195,7 @@ module _ (q : Searches) (s : Setting) (right : AreRight q s) where
             (is_in-filter (is_new old new) (rule_numbers s.program) t (rule_in s.program t rule.rule rule.numbered)
             (rw (e, known) refl)) known)
 
-  pub lemmas_stand : (tab : Table) (proofs : List Proof) → AreLemmasOf q s tab proofs → Stands tab proofs
+  pub lemmas_stand : (tab : Table) (proofs : List Proof) → AreLemmasOf q s tab proofs → Stands s tab proofs
   lemmas_stand tab proofs (AtFirst f) = first_stands tab proofs f
   lemmas_stand tab all (AfterRound {old = old} {earlier = earlier} {proofs = proofs} l n r) =
       after_round old tab earlier proofs (lemmas_stand old earlier l) n r

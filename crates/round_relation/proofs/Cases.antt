@@ -1,5 +1,7 @@
 -- Telling cases apart.
-use Rattle.std.proofs.Common.{◌≡◌, ◌⊎◌, inl, inr, Bool, true, false, Some, None, refl}
+use Rattle.std.proofs.Common.{◌≡◌, ◌⊎◌, inl, inr, Bool, true, false, Option, Some, None, refl}
+use Rattle.model.specs.Bounds.{Bound}
+use Rattle.round_relation.specs.Tables.{lacks}
 
 -- one of two facts stands
 pub either : {A B C : Type 0} → A ⊎ B → (A → C) → (B → C) → C
@@ -27,3 +29,8 @@ false_true e = cc
 
 pub true_false : true ≡ false → ⊥
 true_false e = cc
+
+-- a bound that is told to be missing is
+pub lacks_none : (o : Option Bound) → lacks o ≡ true → o ≡ None
+lacks_none None h = refl
+lacks_none (Some b) h = absurd (false_true h)

@@ -103,7 +103,7 @@ sizes_cases p old new known (t ∷ ts) =
     go (inr a) (inr b) = let e = a.0 in let f = b.0 in inr (omega arith, (a.1, b.1))
 
 -- a place that is in none of the components keeps its size
-untouched : (z : SizeSearches) (time : ℕ → Option Bound) (old : Sizes) (cs : List (List Spot)) (new : Sizes)
+pub untouched : (z : SizeSearches) (time : ℕ → Option Bound) (old : Sizes) (cs : List (List Spot)) (new : Sizes)
     → TriesSizes z time old cs new
     → (t i : ℕ) → ¬ (IsListed cs t i) → new t i ≡ old t i
 untouched z time old [] new h t i out = h t i

@@ -5,7 +5,6 @@ use Rattle.std.proofs.Common.{sym, ◌∙◌, ap, subst, arith, slice_get}
 use Rattle.std.specs.List.{list_any, range_with_len, Contains}
 use Rattle.std.proofs.lemmas.Bool.{and_parts, or_left, or_right}
 use Rattle.model.specs.Programs.{Program, Symbol, arity_of}
-use Rattle.model.specs.Bounds.{Bound}
 use Rattle.model.specs.Entries.{is_in, entries}
 use Rattle.model.specs.Paths.{HasPath, LeadsBackTo, IsInSet, source_of, target_of, source_in, same_symbol}
 use Rattle.model.proofs.Membership.{same_number, told_same, no_is_not_yes, is_in-cases, is_in-filter, filter-in}
@@ -16,8 +15,8 @@ use Rattle.proof_nodes.specs.Known.{Table, IsKnown}
 use Rattle.proof_nodes.specs.Numbers.{IsAscending}
 use Rattle.proof_nodes.specs.AcceptsPlain.{IsRule, places_at}
 use Rattle.round_relation.specs.Tables.{rule_numbers, lacks, is_untimed}
-use Rattle.round_relation.specs.Sets.{IsSetOfRule, IsShut, StandsBefore, AreInOrder, AreShutOf}
-use Rattle.round_relation.proofs.Cases.{either, some_same, told}
+use Rattle.round_relation.specs.Sets.{IsSetOfRule, IsShut, StandsBefore, ArePlacesInOrder, AreShutOf}
+use Rattle.round_relation.proofs.Cases.{either, some_same, told, lacks_none}
 use Rattle.round_relation.proofs.Numbered.{rule_in, place_in, in_places}
 use Rattle.round_relation.proofs.EntryBounds.{one_symbol}
 use Rattle.round_relation.proofs.AcceptedRanks.{leading_rule}
@@ -200,10 +199,6 @@ module _ (p : Program) (tab : Table) where
             filter-in (is_open s.symbol) (range_with_len 1 (arity_of p s.symbol)) s.place
             (in_all (range_with_len 0 (length p.symbols)) s c).1
 
-        none_there : (o : Option Bound) → lacks o ≡ true → o ≡ None
-        none_there None h = refl
-        none_there (Some b) h = absurd (no_is_not_yes false refl h)
-
         by : ((e : ℕ) × (is_in e (entries p set) ≡ true) ×
             ((same_symbol (Some s.symbol) (target_of p e) && lacks (tab.size e s.place)) ≡ true))
             → IsShut p tab set s
@@ -219,7 +214,7 @@ module _ (p : Program) (tab : Table) where
               enters = m;
               leads = leads;
               place = in_places p e s.place member;
-              missing = none_there
+              missing = lacks_none
                   (tab.size e s.place) both.1;
             }
 
@@ -250,7 +245,7 @@ module _ (p : Program) (tab : Table) where
                 (ap (arity_of p) symbol ∙ nothing) h.place.last in
                 absurd (omega (arith, last, h.place.least))
 
-    chain_order : (xs : List SymbolPlace) → IsChain StandsBefore xs → AreInOrder xs
+    chain_order : (xs : List SymbolPlace) → IsChain StandsBefore xs → ArePlacesInOrder xs
     chain_order [] h = tt
     chain_order (x ∷ []) h = tt
     chain_order (x ∷ y ∷ xs) h = (h.0, chain_order (y ∷ xs) h.1)

@@ -10,6 +10,7 @@ use Rattle.model.proofs.Membership.{same_number, told_same, no_is_not_yes}
 use Rattle.proof_nodes.specs.Known.{Table, time_in, size_in}
 use Rattle.proof_nodes.specs.Acceptance.{facts_of_lemma}
 use Rattle.round_relation.specs.Laws.{IsStated}
+use Rattle.round_relation.specs.Standing.{IsOf, AreOf}
 use Rattle.round_relation.proofs.Cases.{either, none_some}
 
 -- what a list contains is its first element or in the rest
@@ -42,15 +43,6 @@ contains-either x [] ys h = inr h
 contains-either x (y ∷ xs) ys h =
     either (contains-cases x y (xs ++ ys) h) (λ e. inl (zero, omega arith, e))
     (λ m. either (contains-either x xs ys m) (λ l. inl (contains-later x y xs l)) (λ r. inr r))
-
--- the fact is that of a table
-abbrev pub IsOf : Table → Fact → Type 0
-IsOf tab (Time t b) = tab.time t ≡ Some b
-IsOf tab (Size t i b) = tab.size t i ≡ Some b
-
--- all these facts are
-abbrev pub AreOf : Table → List Fact → Type 0
-AreOf tab facts = All (IsOf tab) facts
 
 -- a time that is looked up among facts of a table is that of the table
 time_from : (tab : Table) (facts : List Fact) → AreOf tab facts → (t : ℕ) (b : Bound) → time_in facts t ≡ Some b

@@ -23,9 +23,10 @@ use Rattle.round_relation.specs.Beginning.{First, IsDead}
 use Rattle.round_relation.specs.Uses.{Numbers, cites}
 use Rattle.round_relation.specs.LemmaOrder.{AreEmptyLemmas, unreached_lemmas, never_lemmas}
 use Rattle.round_relation.specs.Right.{AreRight}
+use Rattle.round_relation.specs.Standing.{IsOf, AreOf}
 use Rattle.round_relation.proofs.Cases.{either}
 use Rattle.round_relation.proofs.Numbered.{in_range, in_places}
-use Rattle.round_relation.proofs.FactLists.{contains-cases, contains-none, contains-first, IsOf, AreOf, IsNumbered}
+use Rattle.round_relation.proofs.FactLists.{contains-cases, contains-none, contains-first, IsNumbered}
 use Rattle.round_relation.proofs.CitedFacts.{cites-state, cites-accepted}
 
 -- a time of 0 of a rule alone

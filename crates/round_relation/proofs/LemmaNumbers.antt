@@ -33,7 +33,7 @@ use Rattle.round_relation.proofs.FactLists.{contains-first, contains-later, stat
 use Rattle.round_relation.proofs.FirstLemmas.{zero_time, zero_times, length-zero_times, zero_times-append}
 use Rattle.round_relation.proofs.FirstFacts.{empty_ones, cut_ones, sized_ones, zero_ones, told_dead, all_stated}
 use Rattle.round_relation.proofs.RoundLemmas.{time_alone}
-use Rattle.round_relation.proofs.AcceptedLemmas.{numbers_from, lemmas_stand, round_stated}
+use Rattle.round_relation.proofs.AcceptedLemmas.{numbers_from, Stands, lemmas_stand, round_stated}
 use Rattle.round_relation.proofs.Positions.{passing-filter, filter-both, lemma-right, at_rule, before_below}
 
 -- a place that is among some has its size of 0 among theirs
@@ -249,7 +249,7 @@ module _ (q : Searches) (s : Setting) (right : AreRight q s) (tab : Table) (h : 
       })
 
 -- as many lists of facts as lemmas
-length-from : (s : Setting) (past : List (List Fact)) (proofs : List Proof) → length (facts_from s past proofs)
+pub length-from : (s : Setting) (past : List (List Fact)) (proofs : List Proof) → length (facts_from s past proofs)
     ≡ length past + length proofs
 length-from s past [] = omega arith
 length-from s past (proof ∷ proofs) =
@@ -261,14 +261,14 @@ length-from s past (proof ∷ proofs) =
     )
 
 module _ (q : Searches) (s : Setting) (right : AreRight q s) (old new : Table) (earlier proofs : List Proof)
-    (lemmas : AreLemmasOf q s old earlier) (n : NextTimes q s old new)
+    (before_it : Stands s old earlier) (n : NextTimes q s old new)
     (r : AreRoundLemmas q s earlier old new proofs) where
   numbers : AreNumbersOf s.program (facts_from s [] earlier) old r.ns
   numbers = numbers_from s earlier old r.ns r.numbers
 
   stated_after : facts_from s [] (earlier ++ proofs)
       ≡ facts_from s [] earlier ++ map (time_alone new) (filter (is_new old new) (rule_numbers s.program))
-  stated_after = round_stated q s right old new earlier proofs (lemmas_stand q s right old earlier lemmas) n r
+  stated_after = round_stated q s right old new earlier proofs before_it n r
 
   old_contained : (m : ℕ) (f : Fact) → Contains (facts_of_lemma (facts_from s [] earlier) m) f
       → Contains (facts_of_lemma (facts_from s [] earlier ++ map (time_alone new)
@@ -325,8 +325,7 @@ module _ (q : Searches) (s : Setting) (right : AreRight q s) (old new : Table) (
       entry : (o : Option Bound) → old.time 0 ≡ o → (numbers_after r.ns old new (length earlier)).time 0 ≡ 0
       entry (Some c) e = rw e (numbers.start_time)
       entry None e =
-          let start = (lemmas_stand q s right old earlier lemmas).start in
-          absurd (none (sym e ∙ start.time))
+          absurd (none (sym e ∙ before_it.start.time))
         where
           none : None ≡ Some (Constant 1) → ⊥
           none x = cc
@@ -346,7 +345,7 @@ pub numbers_after_are : (q : Searches) (s : Setting) → AreRight q s → (old n
     → AreNumbersOf s.program (facts_of_lemmas s (earlier ++ proofs)) new (numbers_after r.ns old new (length earlier))
 unfolding facts_of_lemmas
 numbers_after_are q s right old new earlier proofs lemmas n r =
-    after_numbered q s right old new earlier proofs lemmas n r
+    after_numbered q s right old new earlier proofs (lemmas_stand q s right old earlier lemmas) n r
 
 pub numbered : LemmasAreNumbered
 numbered = record {

@@ -18,6 +18,7 @@ pub mod MadeHold
 -- lemmas in order are accepted and show the table
 pub mod FactLists
 pub mod CitedFacts
+pub mod NeededFacts
 pub mod RankUses
 pub mod FirstLemmas
 pub mod FirstFacts
@@ -25,16 +26,29 @@ pub mod RoundLemmas
 pub mod AcceptedLemmas
 pub mod Positions
 pub mod LemmaNumbers
+-- nodes of sizes with what they rest on
+pub mod SameSizes
+pub mod SizeUses
+-- lemmas of whole rounds
+pub mod Uniform
+pub mod ComponentLemmas
+pub mod SizeNumbers
+pub mod WholeLemmas
 -- where answers are one, the last table is
+pub mod SameDead
 pub mod Ordered
+pub mod LastOne
 pub mod OneTable
+pub mod OneWhole
 -- there is a last table
 pub mod Deciding
 pub mod Existing
 pub mod LastTable
+pub mod LastWhole
 -- what was worked out by hand
 pub mod WorkedSets
 pub mod WorkedFirst
 pub mod WorkedLast
 pub mod WorkedApart
 pub mod WorkedWhole
+pub mod WorkedSizeLemmas

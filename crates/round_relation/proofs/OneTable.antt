@@ -1,10 +1,10 @@
 -- Where answers are one, so are the tables that rounds of times make.
-use Rattle.std.proofs.Common.{◌≡◌, ◌⊎◌, inl, inr, ℕ, zero, suc, ◌+◌, Bool, not, true, false, List, Option, Some, None}
+use Rattle.std.proofs.Common.{◌≡◌, ℕ, zero, suc, true, false, List, Option, Some, None}
 use Rattle.std.proofs.Common.{refl, sym, ◌∙◌, ap, subst, arith}
 use Rattle.model.specs.Programs.{Rule, rule_at}
 use Rattle.model.specs.Bounds.{Bound, Constant}
 use Rattle.model.specs.Entries.{is_in}
-use Rattle.model.specs.Paths.{Here, Onward, HasPath, target_of}
+use Rattle.model.specs.Paths.{target_of}
 use Rattle.model.proofs.Membership.{no_is_not_yes}
 use Rattle.proof_nodes.specs.Gaps.{SymbolPlace}
 use Rattle.proof_nodes.specs.Known.{Table, is_zero_bound}
@@ -17,13 +17,15 @@ use Rattle.round_relation.specs.Searches.{Searches, Answers, searches_of, Rankin
 use Rattle.round_relation.specs.Beginning.{IsDead, First}
 use Rattle.round_relation.specs.NewTimes.{SaysTime, Tells, bound_in}
 use Rattle.round_relation.specs.Reasons.{IsNoTime}
-use Rattle.round_relation.specs.Rounds.{NextTimes, IsMadeByTimes, Begun, Made, IsLastOfTimes}
+use Rattle.round_relation.specs.Rounds.{HasNewTimes, NextTimes, IsMadeByTimes, Begun, Made, IsLastOfTimes}
 use Rattle.round_relation.specs.Right.{AreOne}
 use Rattle.round_relation.specs.Laws.{TablesAreOne}
 use Rattle.round_relation.proofs.Cases.{either, some_none, some_same, told}
 use Rattle.round_relation.proofs.Ends.{same_table}
+use Rattle.round_relation.proofs.LastOne.{IsAfter, last_after_one}
 use Rattle.round_relation.proofs.Numbered.{place_in, in_places}
 use Rattle.round_relation.proofs.Ordered.{sets_one, shut_one}
+use Rattle.round_relation.proofs.SameDead.{dead_by}
 
 -- an answer says one thing of a time
 says_one : (s : Setting) (tab : Table) (answer : Ranking) (x y : Time) → SaysTime s tab answer x
@@ -68,56 +70,38 @@ module _ (q : Searches) (one : AreOne q) (s : Setting) where
       let answer = one.ranks b.asked.set t b.asked.shut a.asked.answer b.asked.answer answered b.asked.answered in
       says_one s tab b.asked.answer x y (subst (λ (r : Ranking). SaysTime s tab r x) answer a.says) b.says
 
-  -- a table has one next table
-  next_one : (old a b : Table) → NextTimes q s old a → NextTimes q s old b → a ≡ b
-  next_one old a b h k =
-      same_table a b (λ t. time t (rule_at s.program t) refl (old.time t) refl) (λ t i. h.sizes t i ∙ sym (k.sizes t i))
+  -- the times of a round are one
+  pub times_one : (old : Table) (f g : ℕ → Option Bound) → HasNewTimes q s old f → HasNewTimes q s old g → (t : ℕ)
+      → f t ≡ g t
+  times_one old f g h k t = time (rule_at s.program t) refl (old.time t) refl
     where
       none_some : (r : Rule) → None ≡ Some r → ⊥
       none_some r e = cc
 
-      time : (t : ℕ) (o : Option Rule) → rule_at s.program t ≡ o → (c : Option Bound) → old.time t ≡ c → a.time t
-          ≡ b.time t
-      time t o e (Some c) known = h.times.known t c known ∙ sym (k.times.known t c known)
-      time t None e None known =
+      time : (o : Option Rule) → rule_at s.program t ≡ o → (c : Option Bound) → old.time t ≡ c → f t ≡ g t
+      time o e (Some c) known = h.known t c known ∙ sym (k.known t c known)
+      time None e None known =
           let out : IsRule s.program t → ⊥ = λ r. none_some r.rule (sym e ∙ r.numbered) in
-          h.times.others t out ∙ sym (k.times.others t out)
-      time t (Some r) e None known =
+          h.others t out ∙ sym (k.others t out)
+      time (Some r) e None known =
           let rule : IsRule s.program t = record { rule = r; numbered = e } in
-          let x = h.times.tried t rule known in
-          let y = k.times.tried t rule known in
+          let x = h.tried t rule known in
+          let y = k.tried t rule known in
           x.gives ∙ (ap bound_in (tells_one old t x.time y.time x.tells y.tells) ∙ sym y.gives)
+
+  -- a table has one next table
+  pub next_one : (old a b : Table) → NextTimes q s old a → NextTimes q s old b → a ≡ b
+  next_one old a b h k =
+      same_table a b (times_one old a.time b.time h.times k.times) (λ t i. h.sizes t i ∙ sym (k.sizes t i))
 
   -- the first table is one
   module _ (a b : Table) (h : First q s.program a) (k : First q s.program b) where
     same_empty : (t : ℕ) → IsRule s.program t → h.is_empty t ≡ true → k.is_empty t ≡ true
     same_empty t rule e = (k.empty t rule).1 ((h.empty t rule).0 e)
 
-    empty_back : (t : ℕ) → IsRule s.program t → k.is_empty t ≡ true → h.is_empty t ≡ true
-    empty_back t rule e = (h.empty t rule).1 ((k.empty t rule).0 e)
-
-    path_on : (x y : ℕ) → HasPath s.program (λ e. not (k.is_empty e)) x y → HasPath s.program
-        (λ e. not (h.is_empty e)) x y
-    path_on x y (Here e) = Here e
-    path_on x y (Onward {b = z} r edge) = Onward (path_on x z r) (record {
-      number = edge.number;
-      rule = edge.rule;
-      numbered = edge.numbered;
-      allowed = allowed (h.is_empty edge.number) refl;
-      source = edge.source;
-      target = edge.target;
-    })
-      where
-        allowed : (v : Bool) → h.is_empty edge.number ≡ v → not (h.is_empty edge.number) ≡ true
-        allowed false e = ap not e
-        allowed true e =
-            let there = same_empty edge.number (record { rule = edge.rule; numbered = edge.numbered }) e in
-            absurd (no_is_not_yes (not (k.is_empty edge.number)) (ap not there) edge.allowed)
-
     -- a rule that is dead by one is dead by the other
     dead_on : (t : ℕ) → IsRule s.program t → IsDead s.program h.is_empty t → IsDead s.program k.is_empty t
-    dead_on t rule (inl e) = inl (same_empty t rule e)
-    dead_on t rule (inr u) = inr (λ r numbered way. u r numbered (path_on s.program.start r.source way))
+    dead_on t rule dead = dead_by s.program h.is_empty k.is_empty same_empty t rule dead
 
     -- so what has a time by the first has one by the second, and so it is with sizes
     time_there : (t : ℕ) → IsRule s.program t → (c : Bound) → a.time t ≡ Some c → b.time t ≡ None → ⊥
@@ -157,7 +141,7 @@ module _ (q : Searches) (one : AreOne q) (s : Setting) where
             absurd (some_none c (sym e ∙ (h.live t rule alive).sizes i place))
 
   -- the first table is one
-  first_one : (a b : Table) → First q s.program a → First q s.program b → a ≡ b
+  pub first_one : (a b : Table) → First q s.program a → First q s.program b → a ≡ b
   first_one a b h k = same_table a b time size
     where
       none_some : (r : Rule) → None ≡ Some r → ⊥
@@ -220,45 +204,18 @@ module _ (q : Searches) (one : AreOne q) (s : Setting) where
               (λ c x. absurd (no_size b k t i out c x))
               (λ c x y. no_size a h t i out c x) (λ c x y. no_size b k t i out c x)
 
-  -- the table after so many rounds
-  abbrev IsAfter : ℕ → Table → Type 0
-  IsAfter zero tab = First q s.program tab
-  IsAfter (suc n) tab = (old : Table) × IsAfter n old × NextTimes q s old tab
-
-  made_after : (tab : Table) → IsMadeByTimes q s tab → (n : ℕ) × IsAfter n tab
+  -- a table that is made is that after so many rounds
+  made_after : (tab : Table) → IsMadeByTimes q s tab → (n : ℕ) × IsAfter (First q s.program) (NextTimes q s) first_one
+      next_one n tab
   made_after tab (Begun h) = (0, h)
   made_after tab (Made {old = old} m n) = let before = made_after old m in (suc before.0, (old, before.1, n))
-
-  after_one : (n : ℕ) (a b : Table) → IsAfter n a → IsAfter n b → a ≡ b
-  after_one zero a b h k = first_one a b h k
-  after_one (suc n) a b h k =
-      let before = after_one n h.0 k.0 h.1 k.1 in
-      next_one k.0 a b (subst (λ (tab : Table). NextTimes q s tab a) before h.2) k.2
-
-  -- after a table to which a round gives nothing new, all are that table
-  after_last : (n : ℕ) (a : Table) → IsAfter n a → NextTimes q s a a → (k m : ℕ) → m ≡ k + n → (b : Table) → IsAfter m b
-      → b ≡ a
-  after_last n a h closed zero m e b there =
-      let same : m ≡ n = omega (arith, e) in
-      after_one n b a (subst (λ (i : ℕ). IsAfter i b) same there) h
-  after_last n a h closed (suc k) zero e b there = absurd (omega (arith, e))
-  after_last n a h closed (suc k) (suc m) e b there =
-      let before = after_last n a h closed k m (omega (arith, e)) there.0 there.1 in
-      next_one a b a (subst (λ (tab : Table). NextTimes q s tab b) before there.2) closed
 
   -- the last table is one
   pub last_one : (a b : Table) → IsLastOfTimes q s a → IsLastOfTimes q s b → a ≡ b
   last_one a b h k =
       let x = made_after a h.made in
       let y = made_after b k.made in
-      either (order x.0 y.0) (λ l. sym (after_last x.0 a x.1 h.closed l.0 y.0 l.1 b y.1))
-      (λ l. after_last y.0 b y.1 k.closed l.0 x.0 l.1 a x.1)
-    where
-      order : (m n : ℕ) → ((d : ℕ) × (n ≡ d + m)) ⊎ ((d : ℕ) × (m ≡ d + n))
-      order zero n = inl (n, omega arith)
-      order (suc m) zero = inr (suc m, omega arith)
-      order (suc m) (suc n) = either (order m n) (λ l. inl (l.0, omega (arith, l.1)))
-          (λ l. inr (l.0, omega (arith, l.1)))
+      last_after_one (First q s.program) (NextTimes q s) first_one next_one x.0 y.0 a b x.1 h.closed y.1 k.closed
 
   -- and so is the reason why a time is missing
   pub reason_one : (tab : Table) (t : ℕ) (v w : NoTime) → IsNoTime q s tab t v → IsNoTime q s tab t w → v ≡ w

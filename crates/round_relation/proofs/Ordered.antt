@@ -6,7 +6,7 @@ use Rattle.model.proofs.Membership.{contains-is_in, is_in-contained}
 use Rattle.proof_nodes.specs.Gaps.{SymbolPlace}
 use Rattle.proof_nodes.specs.Known.{Table}
 use Rattle.proof_nodes.specs.Numbers.{IsAscending}
-use Rattle.round_relation.specs.Sets.{IsSetOfRule, StandsBefore, AreInOrder, AreShutOf}
+use Rattle.round_relation.specs.Sets.{IsSetOfRule, StandsBefore, ArePlacesInOrder, AreShutOf}
 use Rattle.round_relation.proofs.Cases.{either}
 use Rattle.round_relation.proofs.FactLists.{contains-cases, contains-none, contains-first, contains-later}
 
@@ -65,7 +65,7 @@ ascending_chain [] h = tt
 ascending_chain (x ∷ []) h = tt
 ascending_chain (x ∷ y ∷ xs) h = (h.0, ascending_chain (y ∷ xs) h.1)
 
-order_chain : (xs : List SymbolPlace) → AreInOrder xs → IsChain StandsBefore xs
+order_chain : (xs : List SymbolPlace) → ArePlacesInOrder xs → IsChain StandsBefore xs
 order_chain [] h = tt
 order_chain (x ∷ []) h = tt
 order_chain (x ∷ y ∷ xs) h = (h.0, order_chain (y ∷ xs) h.1)

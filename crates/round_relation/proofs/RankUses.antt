@@ -2,8 +2,8 @@
 use Rattle.std.proofs.Common.{◌≡◌, ◌≢◌, ◌⊎◌, inl, inr, ℕ, zero, suc, ◌+◌, ◌==◌, Bool, true, false, List, [], ◌∷◌, ◌++◌}
 use Rattle.std.proofs.Common.{map, refl, sym, ◌∙◌, ap, subst, arith}
 use Rattle.std.specs.Prelude.{ℤ, pos, negsuc, nat_abs, Option}
+use Rattle.std.specs.List.{Contains}
 use Rattle.std.proofs.lemmas.Bool.{or_left, or_right}
-use Rattle.std.proofs.lemmas.List.{map-append}
 use Rattle.int_laws.specs.NormalForm.{is_zero}
 use Rattle.model.specs.Programs.{Program}
 use Rattle.model.specs.Bounds.{Bound, SumOf, ProductOf, Constant, Parts, Part}
@@ -13,28 +13,31 @@ use Rattle.model.proofs.Membership.{same_number, is_in-cases, no_is_not_yes}
 use Rattle.linear_forms.specs.Forms.{at}
 use Rattle.proof_nodes.specs.Nodes.{RankNode}
 use Rattle.proof_nodes.specs.Numbers.{rounded_up, positive_part}
-use Rattle.proof_nodes.specs.Known.{Table, known}
+use Rattle.proof_nodes.specs.Known.{Table, IsKnown, known}
 use Rattle.proof_nodes.specs.Composed.{both_parts, parts_for, place_parts, no_place, rank_form, entry_bound, time_of}
 use Rattle.proof_nodes.specs.Composed.{sizes_after}
 use Rattle.round_relation.proofs.Cases.{either, told}
-use Rattle.round_relation.specs.Uses.{NeedsSize, read_places, entry_needs, needs_of_all, rank_needs, Numbers, number_of}
+use Rattle.round_relation.specs.Uses.{Need, NeedsTime, NeedsSize, read_places, entry_needs, needs_of_all, rank_needs}
+use Rattle.round_relation.proofs.FactLists.{contains-cases, contains-none, contains-first, contains-later, contains-left}
+use Rattle.round_relation.proofs.FactLists.{contains-right, contains-either}
+use Rattle.round_relation.proofs.NeededFacts.{IsMet}
 
 -- a number that isn't 0 is told apart
-zero_told : (c : ℤ) → is_zero c ≡ true → c ≡ pos 0
+pub zero_told : (c : ℤ) → is_zero c ≡ true → c ≡ pos 0
 zero_told (pos zero) h = refl
 zero_told (pos (suc n)) h = absurd (no_is_not_yes false refl h)
 zero_told (negsuc n) h = absurd (no_is_not_yes false refl h)
 
--- bounds of places that are the same where a coefficient isn't 0 give the same parts
-place_parts-same : (cs : List ℤ) (den : ℕ) (left_out : ℕ → Bool) (f g : ℕ → Bound) →
-    ((j : ℕ) → at cs j ≢ pos 0 → f j ≡ g j)
+-- bounds of places that are the same where a coefficient isn't 0 and which aren't left out give the same parts
+pub place_parts-same : (cs : List ℤ) (den : ℕ) (left_out : ℕ → Bool) (f g : ℕ → Bound)
+    → ((j : ℕ) → at cs j ≢ pos 0 → left_out j ≡ false → f j ≡ g j)
     → place_parts cs den left_out f ≡ place_parts cs den left_out g
 place_parts-same [] den left_out f g h = refl
 place_parts-same (c ∷ cs) den left_out f g h =
     go (place_parts-same cs den (λ j. left_out (suc j)) (λ j. f (suc j)) (λ j. g (suc j)) (λ j k. h (suc j) k))
     (is_zero c) refl (left_out 0) refl
   where
-    here : is_zero c ≡ false → f 0 ≡ g 0
+    here : is_zero c ≡ false → left_out 0 ≡ false → f 0 ≡ g 0
     here n = h 0 (λ e. no_is_not_yes (is_zero c) n (ap is_zero e))
 
     go : place_parts cs den (λ j. left_out (suc j)) (λ j. f (suc j)) ≡ place_parts cs den (λ j. left_out (suc j))
@@ -45,10 +48,11 @@ place_parts-same (c ∷ cs) den left_out f g h =
     go rest false e true k = rw (e, k) rest
     go rest false e false k =
         rw (e, k) (ap (λ (b : Bound). Part (ProductOf (both_parts (Constant (rounded_up (nat_abs c) den)) b))
-        (place_parts cs den (λ j. left_out (suc j)) (λ j. f (suc j)))) (here e)
+        (place_parts cs den (λ j. left_out (suc j)) (λ j. f (suc j)))) (here e k)
         ∙ ap (λ (bs : Parts). Part (ProductOf (both_parts (Constant (rounded_up (nat_abs c) den)) (g 0))) bs) rest)
 
-parts_for-same : (es : List ℕ) (f g : ℕ → Bound) → ((e : ℕ) → is_in e es ≡ true → f e ≡ g e) → parts_for f es
+-- and so do bounds that are the same at each number of a list
+pub parts_for-same : (es : List ℕ) (f g : ℕ → Bound) → ((e : ℕ) → is_in e es ≡ true → f e ≡ g e) → parts_for f es
     ≡ parts_for g es
 parts_for-same [] f g h = refl
 parts_for-same (e ∷ es) f g h =
@@ -75,7 +79,7 @@ same_rank_time p node a b times sizes =
         ∙ ap (λ (bs : Parts). entry_with (b.time e) bs)
         (place_parts-same (rank_form node.forms (target_of p e)).coefs node.den no_place (sizes_after a.size e)
         (sizes_after b.size e)
-        (λ j reads. ap known (sizes e m j reads)))
+        (λ j reads inside. ap known (sizes e m j reads)))
       where
         entry_with : Option Bound → Parts → Bound
         entry_with o bs =
@@ -84,17 +88,6 @@ same_rank_time p node a b times sizes =
             (target_of p e)).constant) node.den)) bs)))
 
 -- of two lists that are joined
-in-left : (x : ℕ) (xs ys : List ℕ) → is_in x xs ≡ true → is_in x (xs ++ ys) ≡ true
-in-left x [] ys h = absurd (no_is_not_yes false refl h)
-in-left x (y ∷ xs) ys h =
-    either (is_in-cases x y xs h)
-    (λ e. or_left (x == y) (is_in x (xs ++ ys)) (subst (λ (n : ℕ). (x == n) ≡ true) e (same_number x)))
-    (λ m. or_right (x == y) (is_in x (xs ++ ys)) (in-left x xs ys m))
-
-in-right : (x : ℕ) (xs ys : List ℕ) → is_in x ys ≡ true → is_in x (xs ++ ys) ≡ true
-in-right x [] ys h = h
-in-right x (y ∷ xs) ys h = or_right (x == y) (is_in x (xs ++ ys)) (in-right x xs ys h)
-
 pub in-either : (x : ℕ) (xs ys : List ℕ) → is_in x (xs ++ ys) ≡ true → (is_in x xs ≡ true) ⊎ (is_in x ys ≡ true)
 in-either x [] ys h = inr h
 in-either x (y ∷ xs) ys h = either (is_in-cases x y (xs ++ ys) h) first (λ m. more (in-either x xs ys m))
@@ -143,92 +136,71 @@ in-read (c ∷ cs) i n h = go (is_zero c) refl (in-read cs (suc i) n)
     go true e ih = later (ih (rw e at h))
     go false e ih = here e (is_in-cases n i (read_places (suc i) cs) (rw e at h)) ih
 
-module _ (p : Program) (node : RankNode) (ns : Numbers) where
-  -- the numbers of the needs of an entry
-  abbrev numbers_at : ℕ → List ℕ
-  numbers_at e = map (number_of ns) (entry_needs p node e)
-
+module _ (p : Program) (node : RankNode) where
   abbrev coefs_at : ℕ → List ℤ
   coefs_at e = (rank_form node.forms (target_of p e)).coefs
 
-  sized-in : (e i : ℕ) (is : List ℕ) → is_in i is ≡ true → is_in (ns.size e i)
-      (map (number_of ns) (map (λ k. NeedsSize e k) is)) ≡ true
-  sized-in e i [] h = absurd (no_is_not_yes false refl h)
-  sized-in e i (k ∷ is) h =
+  -- the size of a place among some is needed
+  size-in : (e i : ℕ) (is : List ℕ) → is_in i is ≡ true → Contains (map (λ k. NeedsSize e k) is) (NeedsSize e i)
+  size-in e i [] h = absurd (no_is_not_yes false refl h)
+  size-in e i (k ∷ is) h =
       either (is_in-cases i k is h)
-      (λ same. or_left (ns.size e i == ns.size e k) (is_in (ns.size e i)
-      (map (number_of ns) (map (λ k. NeedsSize e k) is)))
-      (subst (λ (n : ℕ). (ns.size e i == ns.size e n) ≡ true) same (same_number (ns.size e i))))
-      (λ m. or_right (ns.size e i == ns.size e k) (is_in (ns.size e i)
-      (map (number_of ns) (map (λ k. NeedsSize e k) is))) (sized-in e i is m))
+      (λ same. subst (λ (n : ℕ). Contains (NeedsSize e k ∷ map (λ n. NeedsSize e n) is) (NeedsSize e n)) (sym same)
+      (contains-first (NeedsSize e k) (map (λ n. NeedsSize e n) is)))
+      (λ m. contains-later (NeedsSize e i) (NeedsSize e k) (map (λ n. NeedsSize e n) is) (size-in e i is m))
 
-  in-sized : (e n : ℕ) (is : List ℕ) → is_in n (map (number_of ns) (map (λ k. NeedsSize e k) is)) ≡ true
-      → (i : ℕ) × (is_in i is ≡ true) × (n ≡ ns.size e i)
-  in-sized e n [] h = absurd (no_is_not_yes false refl h)
-  in-sized e n (k ∷ is) h =
-      either (is_in-cases n (ns.size e k) (map (number_of ns) (map (λ k. NeedsSize e k) is)) h)
-      (λ same. (k, or_left (k == k) (is_in k is) (same_number k), same)) (λ m. later (in-sized e n is m))
-    where
-      later : ((i : ℕ) × (is_in i is ≡ true) × (n ≡ ns.size e i)) → (i : ℕ) × (is_in i (k ∷ is) ≡ true) ×
-          (n ≡ ns.size e i)
-      later (i, m, same) = (i, or_right (i == k) (is_in i is) m, same)
-
-  -- a number among those of an entry is among those of all
-  entry-in : (es : List ℕ) (e n : ℕ) → is_in e es ≡ true → is_in n (numbers_at e) ≡ true
-      → is_in n (map (number_of ns) (needs_of_all p node es)) ≡ true
+  -- what an entry needs is among all needs
+  entry-in : (es : List ℕ) (e : ℕ) (n : Need) → is_in e es ≡ true → Contains (entry_needs p node e) n
+      → Contains (needs_of_all p node es) n
   entry-in [] e n m h = absurd (no_is_not_yes false refl m)
   entry-in (x ∷ es) e n m h =
-      subst (λ (xs : List ℕ). is_in n xs ≡ true) (sym (map-append (number_of ns) (entry_needs p node x)
-      (needs_of_all p node es)))
-      (either (is_in-cases e x es m)
-      (λ same. in-left n (numbers_at x) (map (number_of ns) (needs_of_all p node es))
-      (subst (λ (k : ℕ). is_in n (numbers_at k) ≡ true) same h))
-      (λ later. in-right n (numbers_at x) (map (number_of ns) (needs_of_all p node es)) (entry-in es e n later h)))
+      either (is_in-cases e x es m)
+      (λ same. contains-left n (entry_needs p node x) (needs_of_all p node es)
+      (subst (λ (k : ℕ). Contains (entry_needs p node k) n) same h))
+      (λ later. contains-right n (entry_needs p node x) (needs_of_all p node es) (entry-in es e n later h))
 
-  -- the numbers of what a node needs: of each entry's time, and of its sizes at the places that the function reads
-  pub time_needed : (e : ℕ) → is_in e (entries p node.set) ≡ true → is_in (ns.time e)
-      (map (number_of ns) (rank_needs p node)) ≡ true
+  -- a node needs each entry's time, and its sizes at the places that the function reads
+  pub time_needed : (e : ℕ) → is_in e (entries p node.set) ≡ true → Contains (rank_needs p node) (NeedsTime e)
   time_needed e m =
-      entry-in (entries p node.set) e (ns.time e) m
-      (or_left (ns.time e == ns.time e) (is_in (ns.time e)
-      (map (number_of ns) (map (λ k. NeedsSize e k) (read_places 1 (coefs_at e)))))
-      (same_number (ns.time e)))
+      entry-in (entries p node.set) e (NeedsTime e) m
+      (contains-first (NeedsTime e) (map (λ k. NeedsSize e k) (read_places 1 (coefs_at e))))
 
   pub size_needed : (e j : ℕ) → is_in e (entries p node.set) ≡ true → at
-      (rank_form node.forms (target_of p e)).coefs j ≢ pos 0
-      → is_in (ns.size e (suc j)) (map (number_of ns) (rank_needs p node)) ≡ true
+      (rank_form node.forms (target_of p e)).coefs j ≢ pos 0 → Contains (rank_needs p node) (NeedsSize e (suc j))
   size_needed e j m reads =
-      entry-in (entries p node.set) e (ns.size e (suc j)) m
-      (or_right (ns.size e (suc j) == ns.time e) (is_in (ns.size e (suc j))
-      (map (number_of ns) (map (λ k. NeedsSize e k) (read_places 1 (coefs_at e)))))
-      (sized-in e (suc j) (read_places 1 (coefs_at e))
+      entry-in (entries p node.set) e (NeedsSize e (suc j)) m
+      (contains-later (NeedsSize e (suc j)) (NeedsTime e) (map (λ k. NeedsSize e k) (read_places 1 (coefs_at e)))
+      (size-in e (suc j) (read_places 1 (coefs_at e))
       (subst (λ (k : ℕ). is_in k (read_places 1 (coefs_at e)) ≡ true) (omega arith) (read-in (coefs_at e) 1 j reads))))
 
-  -- and there is no other
-  pub needed_cases : (es : List ℕ) (P : ℕ → Type 0) → ((e : ℕ) → is_in e es ≡ true → P (ns.time e))
-      → ((e : ℕ) → is_in e es ≡ true → (j : ℕ) → at (rank_form node.forms (target_of p e)).coefs j ≢ pos 0 → P
-      (ns.size e (suc j)))
-      → (n : ℕ) → is_in n (map (number_of ns) (needs_of_all p node es)) ≡ true → P n
-  needed_cases [] P times sizes n h = absurd (no_is_not_yes false refl h)
-  needed_cases (x ∷ es) P times sizes n h =
-      either (in-either n (numbers_at x) (map (number_of ns) (needs_of_all p node es))
-      (subst (λ (xs : List ℕ). is_in n xs ≡ true) (map-append (number_of ns) (entry_needs p node x)
-      (needs_of_all p node es)) h))
-      (λ m. here (is_in-cases n (ns.time x) (map (number_of ns)
-      (map (λ k. NeedsSize x k) (read_places 1 (coefs_at x)))) m))
-      (needed_cases es P (λ e k. times e (or_right (e == x) (is_in e es) k))
+  -- and nothing else
+  sizes_met : (tab : Table) (e : ℕ) (is : List ℕ) → ((i : ℕ) → is_in i is ≡ true → IsKnown (tab.size e i)) → (n : Need)
+      → Contains (map (λ k. NeedsSize e k) is) n → IsMet tab n
+  sizes_met tab e [] h n c = absurd (contains-none n c)
+  sizes_met tab e (i ∷ is) h n c =
+      either (contains-cases n (NeedsSize e i) (map (λ k. NeedsSize e k) is) c)
+      (λ same. subst (λ (k : Need). IsMet tab k) same (h i (or_left (i == i) (is_in i is) (same_number i))))
+      (λ later. sizes_met tab e is (λ k m. h k (or_right (k == i) (is_in k is) m)) n later)
+
+  pub needs_met : (tab : Table) (es : List ℕ) → ((e : ℕ) → is_in e es ≡ true → IsKnown (tab.time e))
+      → ((e : ℕ) → is_in e es ≡ true → (j : ℕ) → at (rank_form node.forms (target_of p e)).coefs j ≢ pos 0
+      → IsKnown (tab.size e (suc j)))
+      → (n : Need) → Contains (needs_of_all p node es) n → IsMet tab n
+  needs_met tab [] times sizes n c = absurd (contains-none n c)
+  needs_met tab (x ∷ es) times sizes n c =
+      either (contains-either n (entry_needs p node x) (needs_of_all p node es) c)
+      (λ here. either
+      (contains-cases n (NeedsTime x) (map (λ k. NeedsSize x k) (read_places 1 (coefs_at x))) here)
+      (λ same. subst (λ (k : Need). IsMet tab k) same (times x first))
+      (sizes_met tab x (read_places 1 (coefs_at x)) read n))
+      (needs_met tab es (λ e k. times e (or_right (e == x) (is_in e es) k))
       (λ e k. sizes e (or_right (e == x) (is_in e es) k)) n)
     where
       first : is_in x (x ∷ es) ≡ true
       first = or_left (x == x) (is_in x es) (same_number x)
 
-      sized : ((i : ℕ) × (is_in i (read_places 1 (coefs_at x)) ≡ true) × (n ≡ ns.size x i)) → P n
-      sized (i, m, same) =
-          let read = in-read (coefs_at x) 1 i m in
-          let place : i ≡ suc read.0 = omega (arith, read.1) in
-          subst P (sym same) (subst (λ (k : ℕ). P (ns.size x k)) (sym place) (sizes x first read.0 read.2))
-
-      here : (n ≡ ns.time x) ⊎ (is_in n (map (number_of ns) (map (λ k. NeedsSize x k) (read_places 1 (coefs_at x))))
-          ≡ true) → P n
-      here (inl same) = subst P (sym same) (times x first)
-      here (inr m) = sized (in-sized x n (read_places 1 (coefs_at x)) m)
+      read : (i : ℕ) → is_in i (read_places 1 (coefs_at x)) ≡ true → IsKnown (tab.size x i)
+      read i m =
+          let at_place = in-read (coefs_at x) 1 i m in
+          let place : i ≡ suc at_place.0 = omega (arith, at_place.1) in
+          subst (λ (k : ℕ). IsKnown (tab.size x k)) (sym place) (sizes x first at_place.0 at_place.2)

@@ -47,8 +47,8 @@ no_rule_3 t h = none h.rule h.numbered
     none r e = cc
 
 -- a member of a component of one place is that place
-spot_told : (m : Spot) (t i : ℕ) → has_spot (m ∷ []) t i ≡ true → (m.rule ≡ t) × (m.place ≡ i)
-spot_told m t i h = go ((m.rule == t) && (m.place == i)) refl h
+pub lone_told : (m : Spot) (t i : ℕ) → has_spot (m ∷ []) t i ≡ true → (m.rule ≡ t) × (m.place ≡ i)
+lone_told m t i h = go ((m.rule == t) && (m.place == i)) refl h
   where
     go : (v : Bool) → ((m.rule == t) && (m.place == i)) ≡ v → (((m.rule == t) && (m.place == i)) || false) ≡ true →
         (m.rule ≡ t) × (m.place ≡ i)
@@ -72,12 +72,12 @@ place_2 = record { symbol = 1; target = refl; least = omega arith; last = omega 
 listed : (t i : ℕ) → IsListed alone t i → IsRule counting.program t × (¬ (IsDead counting.program (λ e. false) t))
     × IsPlace counting.program t i
 listed t i (inl m) =
-    let same = spot_told (spot 1 1) t i m in
+    let same = lone_told (spot 1 1) t i m in
     subst (λ (n : ℕ). IsRule counting.program n × (¬ (IsDead counting.program (λ e. false) n))
     × IsPlace counting.program n i) same.0
     (rule_1, alive 1 rule_1, subst (λ (n : ℕ). IsPlace counting.program 1 n) same.1 place_1)
 listed t i (inr (inl m)) =
-    let same = spot_told (spot 2 1) t i m in
+    let same = lone_told (spot 2 1) t i m in
     subst (λ (n : ℕ). IsRule counting.program n × (¬ (IsDead counting.program (λ e. false) n))
     × IsPlace counting.program n i) same.0
     (rule_2, alive 2 rule_2, subst (λ (n : ℕ). IsPlace counting.program 2 n) same.1 place_2)
@@ -92,7 +92,7 @@ is_listed (suc (suc zero)) i rule place = inr (inl
 is_listed (suc (suc (suc t))) i rule place = absurd (no_rule_3 t rule)
 
 apart : (t i : ℕ) → has_spot (spot 1 1 ∷ []) t i ≡ true → IsListed ((spot 2 1 ∷ []) ∷ []) t i → ⊥
-apart t i m (inl k) = omega (arith, (spot_told (spot 1 1) t i m).0, (spot_told (spot 2 1) t i k).0)
+apart t i m (inl k) = omega (arith, (lone_told (spot 1 1) t i m).0, (lone_told (spot 2 1) t i k).0)
 apart t i m (inr x) = x
 
 not_empty : (t : ℕ) (m : List ℕ) → value_where_open.empty t ≡ NoPoint m → ⊥
@@ -161,7 +161,7 @@ first_tried = record { known = known; others = others; tried = λ x. (Found (Inp
 
     given : (t i : ℕ) → has_spot (spot 1 1 ∷ []) t i ≡ true → entry_sizes t i ≡ None → first_sizes t i ≡ Some (Input 0)
     given t i m e =
-        let same = spot_told (spot 1 1) t i m in
+        let same = lone_told (spot 1 1) t i m in
         subst (λ (n : ℕ). first_sizes n i ≡ Some (Input 0)) same.0
         (subst (λ (n : ℕ). first_sizes 1 n ≡ Some (Input 0)) same.1 refl)
 
@@ -184,7 +184,7 @@ second_tried = record { known = known; others = others; tried = λ x. (Found (In
 
     given : (t i : ℕ) → has_spot (spot 2 1 ∷ []) t i ≡ true → first_sizes t i ≡ None → both_sizes t i ≡ Some (Input 0)
     given t i m e =
-        let same = spot_told (spot 2 1) t i m in
+        let same = lone_told (spot 2 1) t i m in
         subst (λ (n : ℕ). both_sizes n i ≡ Some (Input 0)) same.0
         (subst (λ (n : ℕ). both_sizes 2 n ≡ Some (Input 0)) same.1 refl)
 

@@ -1,5 +1,6 @@
 -- Rounds end, and what is known in a table that lemmas show holds on all runs.
-use Rattle.std.specs.Prelude.{◌≡◌, ◌⊎◌, ◌↔◌, ℕ, ◌+◌, ◌<◌, Bool, true, false, not, List, [], ◌∷◌, ◌++◌, length, filter, Some}
+use Rattle.std.specs.Prelude.{◌≡◌, ◌⊎◌, ◌↔◌, ℕ, ◌+◌, ◌<◌, Bool, true, false, not, List, [], ◌∷◌, ◌++◌, length, filter}
+use Rattle.std.specs.Prelude.{Some}
 use Rattle.std.specs.Prelude.{None}
 use Rattle.std.specs.List.{Contains}
 use Rattle.model.specs.Programs.{Program}

@@ -3,8 +3,10 @@ use Rattle.std.specs.Prelude.{ℕ, zero, suc, ◌+◌, ◌-◌, ◌&&◌, Bool, 
 use Rattle.std.specs.List.{range_with_len}
 use Rattle.model.specs.Programs.{Program}
 use Rattle.model.specs.Paths.{target_of}
+use Rattle.proof_nodes.specs.Nodes.{Spot}
 use Rattle.proof_nodes.specs.Known.{Table}
 use Rattle.round_relation.specs.Tables.{rule_numbers}
+use Rattle.round_relation.specs.NewSizes.{has_spot}
 use Rattle.round_relation.specs.Uses.{Numbers}
 use Rattle.round_relation.specs.LemmaOrder.{has_places, is_cut, is_dead, is_new}
 
@@ -50,4 +52,12 @@ abbrev pub numbers_after : Numbers → Table → Table → ℕ → Numbers
 numbers_after ns old new n = record {
   time = λ t. cond (is_new old new t) (suc (n + before (is_new old new) t)) (ns.time t);
   size = ns.size;
+}
+
+-- the numbers after a size is found for the places of a component, before which there are n lemmas: each has that of
+-- its lemma
+abbrev pub numbers_with : Numbers → List Spot → ℕ → Numbers
+numbers_with ns spots n = record {
+  time = ns.time;
+  size = λ t i. cond (has_spot spots t i) (suc n) (ns.size t i);
 }

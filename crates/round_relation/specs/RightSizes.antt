@@ -1,5 +1,5 @@
 -- When the answers of the searches for sizes are right.
-use Rattle.std.specs.Prelude.{◌≡◌, ◌⊎◌, ℕ, ◌<◌, true, List, [], ◌∷◌, map, ℤ, pos, ◌<ℤ◌}
+use Rattle.std.specs.Prelude.{◌≡◌, ◌⊎◌, ℕ, ◌<◌, true, List, [], ◌∷◌, map, ℤ, pos, ◌<ℤ◌, Option}
 use Rattle.model.specs.Bounds.{Bound}
 use Rattle.linear_forms.specs.Forms.{at, form_value}
 use Rattle.linear_forms.specs.Points.{IsPoint, IsRay}
@@ -94,3 +94,9 @@ pub record AreSizesRight (q : Searches) (z : SizeSearches) (s : Setting) : Type 
   pub components : (cs : List (List Spot)) → z.AreComponents cs → AreComponentsOf q s.program cs
   pub sizes : (tab : Table) (members : List Spot) (answer : Sizing) → z.Sizes tab.time tab.size members answer
       → IsRightSizing s tab members answer
+
+-- there is one list of components, and each component has one answer where these times and sizes are known
+pub record AreSizesOne (z : SizeSearches) : Type 0 where
+  pub components : (cs ds : List (List Spot)) → z.AreComponents cs → z.AreComponents ds → cs ≡ ds
+  pub sizes : (time : ℕ → Option Bound) (size : ℕ → ℕ → Option Bound) (members : List Spot) (x y : Sizing)
+      → z.Sizes time size members x → z.Sizes time size members y → x ≡ y

@@ -1,7 +1,7 @@
 -- What searches answer of a program: relations, so that each search says itself when an answer is its own.
-use Rattle.std.specs.Prelude.{◌≡◌, ℕ, List, Option}
+use Rattle.std.specs.Prelude.{◌≡◌, ℕ, List, Option, Some}
 use Rattle.model.specs.Bounds.{Bound}
-use Rattle.proof_nodes.specs.Nodes.{Spot, RankNode}
+use Rattle.proof_nodes.specs.Nodes.{Spot, LocalBound, RankNode}
 use Rattle.proof_tree.specs.declared.answer.Trip.{Trip}
 use Rattle.proof_nodes.specs.Gaps.{ScaledPoint, SymbolPlace, Gap}
 use Rattle.outcome.specs.Reports.{NoSize}
@@ -31,10 +31,11 @@ pub record Searches : Type 1 where
   pub Empties : ℕ → Emptiness → Type 0
   pub Ranks : List ℕ → ℕ → List SymbolPlace → Ranking → Type 0
 
--- the answers of the searches for sizes: the components of the places of live rules, in order; and of a component where
--- these times and sizes are known
+-- the answers of the searches for sizes: the components of the places of live rules, in order; the local bound of a
+-- place, where one is found; and of a component where these times and sizes are known
 pub record SizeSearches : Type 1 where
   pub AreComponents : List (List Spot) → Type 0
+  pub Arms : Spot → LocalBound → Type 0
   pub Sizes : (ℕ → Option Bound) → (ℕ → ℕ → Option Bound) → List Spot → Sizing → Type 0
 
 -- searches that are functions of their questions
@@ -44,6 +45,7 @@ pub record Answers : Type 0 where
 
 pub record SizeAnswers : Type 0 where
   pub components : List (List Spot)
+  pub arms : Spot → Option LocalBound
   pub size : (ℕ → Option Bound) → (ℕ → ℕ → Option Bound) → List Spot → Sizing
 
 -- as relations
@@ -56,5 +58,6 @@ searches_of a = record {
 abbrev pub size_searches_of : SizeAnswers → SizeSearches
 size_searches_of a = record {
   AreComponents = λ cs. a.components ≡ cs;
+  Arms = λ m l. a.arms m ≡ Some l;
   Sizes = λ time size c r. a.size time size c ≡ r;
 }

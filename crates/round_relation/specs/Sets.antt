@@ -26,12 +26,12 @@ pub record IsShut (p : Program) (tab : Table) (set : List ℕ) (s : SymbolPlace)
 abbrev pub StandsBefore : SymbolPlace → SymbolPlace → Type 0
 StandsBefore s q = (s.symbol < q.symbol) ⊎ ((s.symbol ≡ q.symbol) × (s.place < q.place))
 
-abbrev pub AreInOrder : List SymbolPlace → Type 0
-AreInOrder [] = ⊤
-AreInOrder (s ∷ []) = ⊤
-AreInOrder (s ∷ q ∷ rest) = StandsBefore s q × AreInOrder (q ∷ rest)
+abbrev pub ArePlacesInOrder : List SymbolPlace → Type 0
+ArePlacesInOrder [] = ⊤
+ArePlacesInOrder (s ∷ []) = ⊤
+ArePlacesInOrder (s ∷ q ∷ rest) = StandsBefore s q × ArePlacesInOrder (q ∷ rest)
 
 -- the shut places of a set, in order
 pub record AreShutOf (p : Program) (tab : Table) (set : List ℕ) (shut : List SymbolPlace) : Type 0 where
-  pub order : AreInOrder shut
+  pub order : ArePlacesInOrder shut
   pub places : (s : SymbolPlace) → Contains shut s ↔ IsShut p tab set s

@@ -3,7 +3,10 @@ use Rattle.std.specs.Prelude.{ℕ, suc, ◌==◌, not, cond, List, [], ◌∷◌
 use Rattle.int_laws.specs.NormalForm.{is_zero}
 use Rattle.model.specs.Programs.{Program}
 use Rattle.model.specs.Paths.{target_of}
-use Rattle.proof_nodes.specs.Nodes.{RankNode, Proofs, NoProof, AndProof, Start, Cite}
+use Rattle.proof_nodes.specs.Nodes.{Spot, Member, RankNode, Proofs, NoProof, AndProof, Start, Cite}
+use Rattle.proof_nodes.specs.Setting.{Setting}
+use Rattle.proof_nodes.specs.Known.{Table}
+use Rattle.proof_nodes.specs.Checks.{needed_into, needed_times}
 use Rattle.model.specs.Entries.{is_in, entries}
 use Rattle.proof_nodes.specs.Composed.{rank_form}
 
@@ -30,6 +33,20 @@ needs_of_all p node (e ∷ es) = entry_needs p node e ++ needs_of_all p node es
 -- what a ranking node needs: this of each entry of its set, ascending
 abbrev pub rank_needs : Program → RankNode → List Need
 rank_needs p node = needs_of_all p node (entries p node.set)
+
+-- the sizes that are needed
+abbrev pub size_needs : List Spot → List Need
+size_needs spots = map (λ m. NeedsSize m.rule m.place) spots
+
+-- what a spread needs: the sizes that its arms read, after each rule that can come before, up before low
+abbrev pub spread_needs : Setting → Member → List Need
+spread_needs s m = size_needs (needed_into s [] (m ∷ []))
+
+-- what a loop needs: the sizes that its arms read outside of it, member by member, and then the times of the rules that
+-- multiply or add
+abbrev pub cycle_needs : Setting → Table → List Member → List Need
+cycle_needs s tab members =
+    size_needs (needed_into s members members) ++ map (λ t. NeedsTime t) (needed_times s tab members)
 
 -- the numbers of the lemmas that state the bounds of a table; number 0 is the virtual entry's
 pub record Numbers : Type 0 where

@@ -35,10 +35,14 @@ alone = (spot 1 1 ∷ []) ∷ (spot 2 1 ∷ []) ∷ []
 
 -- each has the size of the start argument; or none, as rule 2 has no time
 abbrev pub all_found : SizeAnswers
-all_found = record { components = alone; size = λ time size c. Found (Input 0) }
+all_found = record { components = alone; arms = λ m. None; size = λ time size c. Found (Input 0) }
 
 abbrev pub none_found : SizeAnswers
-none_found = record { components = alone; size = λ time size c. NotFound (LacksTime 2) }
+none_found = record {
+  components = alone;
+  arms = λ m. None;
+  size = λ time size c. NotFound (LacksTime 2);
+}
 
 -- a time of rule 1 and these sizes
 abbrev pub both_sizes : ℕ → ℕ → Option Bound

@@ -5,12 +5,15 @@
 
 ghost use Rattle.round_relation.specs.Laws.{RoundsEnd, MissingBoundsHaveReasons, ShownTablesHold, MadeTablesHold};
 ghost use Rattle.round_relation.specs.Laws.{LemmasAreAccepted, LemmasAreNumbered, TablesAreOne, LastTablesExist};
+ghost use Rattle.round_relation.specs.WholeLaws.{WholeTablesAreOne, LastWholeTablesExist, SizeUsesAreAccepted};
+ghost use Rattle.round_relation.specs.WholeLaws.{ComponentsAreUniform, WholeLemmasAreAccepted, WholeLemmasAreNumbered};
 ghost use Rattle.round_relation.specs.Worked.{SetsOfCounting};
 ghost use Rattle.round_relation.specs.WorkedLemmas.{UsesAreTold};
 ghost use Rattle.round_relation.specs.WorkedRounds.{FirstRoundIsTold};
 ghost use Rattle.round_relation.specs.WorkedLast.{ShutOfCounting, LastRoundIsTold};
 ghost use Rattle.round_relation.specs.WorkedApart.{ApartIsTold};
 ghost use Rattle.round_relation.specs.WorkedWhole.{WholeRoundsAreTold};
+ghost use Rattle.round_relation.specs.WorkedSizeLemmas.{SizeLemmasAreTold};
 
 /// Each round gives a bound that was missing, or a further one gives nothing new.
 pub fn rounds_end()
@@ -53,6 +56,38 @@ pub fn last_tables_exist()
     ensures { LastTablesExist }
 {}
 
+/// Whole rounds make one last table, in which a size that is missing has one reason.
+pub fn whole_tables_are_one()
+    ensures { WholeTablesAreOne }
+{}
+
+/// Each table that is made by whole rounds has a next one, and there is a last one.
+pub fn last_whole_tables_exist()
+    ensures { LastWholeTablesExist }
+{}
+
+/// A node of a size with what it needs is accepted after lemmas that state this, and states the size.
+pub fn size_uses_are_accepted()
+    ensures { SizeUsesAreAccepted }
+{}
+
+/// In each table that is made by whole rounds the members of a component have one size, or none has one.
+pub fn components_are_uniform()
+    ensures { ComponentsAreUniform }
+{}
+
+/// The lemmas of a table that is made by whole rounds, in their order, are accepted and show the table, where the
+/// answers of the searches are right.
+pub fn whole_lemmas_are_accepted()
+    ensures { WholeLemmasAreAccepted }
+{}
+
+/// After the times of a round, and after a size is found for a component, lemmas stand for the table, and the numbers
+/// in their order are those of its bounds.
+pub fn whole_lemmas_are_numbered()
+    ensures { WholeLemmasAreNumbered }
+{}
+
 /// The sets of the rules of a program that counts down are those worked out by hand.
 pub fn sets_are_as_worked_out()
     ensures { SetsOfCounting }
@@ -87,4 +122,9 @@ pub fn first_lemmas_are_as_worked_out()
 /// The whole rounds of the program that counts down, and why a size is missing, are those worked out by hand.
 pub fn whole_rounds_are_as_worked_out()
     ensures { WholeRoundsAreTold }
+{}
+
+/// What nodes of sizes need, and the lemmas of the sizes of a round of that program, are those worked out by hand.
+pub fn size_lemmas_are_as_worked_out()
+    ensures { SizeLemmasAreTold }
 {}

@@ -1,0 +1,39 @@
+-- Where the first table is one, and each has one next, all last tables are the same.
+use Rattle.std.proofs.Common.{◌≡◌, ◌⊎◌, inl, inr, ℕ, zero, suc, ◌+◌, sym, subst, arith}
+use Rattle.proof_nodes.specs.Known.{Table}
+use Rattle.round_relation.proofs.Cases.{either}
+
+module _ (Begins : Table → Type 0) (Follows : Table → Table → Type 0) (begin_one : (a b : Table) → Begins a → Begins b → a
+    ≡ b) (next_one : (old a b : Table) → Follows old a → Follows old b → a ≡ b) where
+  -- the table after so many rounds
+  abbrev pub IsAfter : ℕ → Table → Type 0
+  IsAfter zero tab = Begins tab
+  IsAfter (suc n) tab = (old : Table) × IsAfter n old × Follows old tab
+
+  after_one : (n : ℕ) (a b : Table) → IsAfter n a → IsAfter n b → a ≡ b
+  after_one zero a b h k = begin_one a b h k
+  after_one (suc n) a b h k =
+      let before = after_one n h.0 k.0 h.1 k.1 in
+      next_one k.0 a b (subst (λ (tab : Table). Follows tab a) before h.2) k.2
+
+  -- after a table to which a round gives nothing new, all are that table
+  after_last : (n : ℕ) (a : Table) → IsAfter n a → Follows a a → (k m : ℕ) → m ≡ k + n → (b : Table) → IsAfter m b
+      → b ≡ a
+  after_last n a h closed zero m e b there =
+      let same : m ≡ n = omega (arith, e) in
+      after_one n b a (subst (λ (i : ℕ). IsAfter i b) same there) h
+  after_last n a h closed (suc k) zero e b there = absurd (omega (arith, e))
+  after_last n a h closed (suc k) (suc m) e b there =
+      let before = after_last n a h closed k m (omega (arith, e)) there.0 there.1 in
+      next_one a b a (subst (λ (tab : Table). Follows tab b) before there.2) closed
+
+  order : (m n : ℕ) → ((d : ℕ) × (n ≡ d + m)) ⊎ ((d : ℕ) × (m ≡ d + n))
+  order zero n = inl (n, omega arith)
+  order (suc m) zero = inr (suc m, omega arith)
+  order (suc m) (suc n) = either (order m n) (λ l. inl (l.0, omega (arith, l.1))) (λ l. inr (l.0, omega (arith, l.1)))
+
+  -- so the last table is one
+  pub last_after_one : (m n : ℕ) (a b : Table) → IsAfter m a → Follows a a → IsAfter n b → Follows b b → a ≡ b
+  last_after_one m n a b h closed k done =
+      either (order m n) (λ l. sym (after_last m a h closed l.0 n l.1 b k))
+      (λ l. after_last n b k done l.0 m l.1 a h)
