@@ -2,3 +2,21 @@
 pub mod Lists
 -- entries of an outcome as those of its report
 pub mod Entries
+-- texts that tell what they are of: numbers, lists, points, trips, symbols' places, gaps and reasons
+pub mod Told
+pub mod Digits
+pub mod Commas
+pub mod Points
+pub mod Questions
+pub mod SymbolNames
+pub mod GapLines
+pub mod ReasonLines
+-- lines that are numbered, with bounds, entries and reasons
+pub mod Numbered
+pub mod BoundLines
+pub mod EntryLines
+pub mod WhyLines
+-- a text states one report at most
+pub mod OneReport
+-- small texts worked out by hand
+pub mod WorkedTexts

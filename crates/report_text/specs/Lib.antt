@@ -3,5 +3,9 @@ pub mod Pieces
 pub mod Reasons
 pub mod Reports
 pub mod States
+-- reports that a text tells whole, that it tells one alone, and small texts worked out by hand
+pub mod Printable
+pub mod OneReport
+pub mod WorkedTexts
 -- what the contracts of the functions inside cite
 pub mod Conditions

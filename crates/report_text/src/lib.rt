@@ -4,9 +4,11 @@
 
 mod bounds;
 mod gaps;
+mod law;
 mod numbers;
 mod reasons;
 mod report;
 mod trips;
 
+pub use law::{texts_are_worked_out, texts_state_one_report};
 pub use report::print;

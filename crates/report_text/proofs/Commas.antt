@@ -1,0 +1,67 @@
+-- Lists with commas between their elements tell them.
+use Rattle.std.proofs.Common.{◌≡◌, ℕ, ◌<◌, Bool, true, false, ◌||◌, ◌==◌, List, [], ◌∷◌, ◌++◌, length, map, drop, codes, refl, sym, ◌∙◌, ap, subst, append_assoc, arith}
+use Rattle.std.specs.List.{list_all, AllByRecursion}
+use Rattle.std.proofs.lemmas.Bool.{and_parts}
+use Rattle.text_core.proofs.PrefixLaws.{Stops}
+use Rattle.report_text.specs.Pieces.{goes_on, joined}
+use Rattle.report_text.proofs.Told.{Tells}
+use Rattle.report_text.proofs.Digits.{counts}
+
+-- the bytes of lists of numbers
+abbrev pub lists : ℕ → Bool
+lists b = counts b || (b == 44)
+
+-- what ends a list ends a number
+stops_number : (u : List ℕ) → Stops lists u → Stops counts u
+stops_number [] s = tt
+stops_number (c ∷ u) s = go (counts c) s
+  where
+    go : (v : Bool) → v || (c == 44) ≡ false → v ≡ false
+    go true h = h
+    go false h = refl
+
+-- no comma follows a list
+no_comma : (u w : List ℕ) → Stops lists u → u ≡ 44 ∷ w → ⊥
+no_comma u w s e = let h : true ≡ false = subst (Stops lists) e s in cc
+
+-- no byte of a number does
+no_byte : (u x w : List ℕ) → Stops lists u → 0 < length x → list_all counts x ≡ true → u ≡ x ++ w → ⊥
+no_byte u [] w s some all e = absurd (omega (arith, some))
+no_byte u (c ∷ x) w s some all e =
+    let is : counts c ≡ true = (and_parts (counts c) (list_all counts x) all).0 in
+    let h : counts c || (c == 44) ≡ false = subst (Stops lists) e s in
+    let g : true ≡ false = ap (λ (b : Bool). b || (c == 44)) (sym is) ∙ h in
+    cc
+
+module _ {X : Type 0} {Fits : X → Type 0} {text : X → List ℕ} (told : Tells Fits text (Stops counts)) (counted : (x : X) → list_all counts (text x) ≡ true)
+    (some : (x : X) → Fits x → 0 < length (text x)) where
+  -- an element ends where the next one or the end of the list stands
+  ends : (xs : List X) (u : List ℕ) → Stops lists u → Stops counts (goes_on (map text xs) ++ u)
+  ends [] u s = stops_number u s
+  ends (x ∷ xs) u s = refl
+
+  -- the elements behind the first
+  more_told : (xs ys : List X) (u v : List ℕ) → AllByRecursion Fits xs → AllByRecursion Fits ys → Stops lists u → Stops lists v
+      → goes_on (map text xs) ++ u ≡ goes_on (map text ys) ++ v → (xs ≡ ys) × (u ≡ v)
+  more_told [] [] u v p q s t e = (refl, e)
+  more_told [] (y ∷ ys) u v p q s t e = absurd (no_comma u _ s e)
+  more_told (x ∷ xs) [] u v p q s t e = absurd (no_comma v _ t (sym e))
+  more_told (x ∷ xs) (y ∷ ys) u v p q s t e =
+      let r = told.each x y (goes_on (map text xs) ++ u) (goes_on (map text ys) ++ v) p.0 q.0 (ends xs u s) (ends ys v t)
+      (sym (append_assoc (text x) (goes_on (map text xs)) u) ∙ (ap (drop 2) e ∙ append_assoc (text y) (goes_on (map text ys)) v)) in
+      let l = more_told xs ys u v p.1 q.1 s t r.1 in
+      (λ i. r.0 i ∷ l.0 i, l.1)
+
+  -- two lists with one text are one
+  all_told : (xs ys : List X) (u v : List ℕ) → AllByRecursion Fits xs → AllByRecursion Fits ys → Stops lists u → Stops lists v
+      → joined (map text xs) ++ u ≡ joined (map text ys) ++ v → (xs ≡ ys) × (u ≡ v)
+  all_told [] [] u v p q s t e = (refl, e)
+  all_told [] (y ∷ ys) u v p q s t e =
+      absurd (no_byte u (text y) (goes_on (map text ys) ++ v) s (some y q.0) (counted y) (e ∙ append_assoc (text y) (goes_on (map text ys)) v))
+  all_told (x ∷ xs) [] u v p q s t e =
+      absurd (no_byte v (text x) (goes_on (map text xs) ++ u) t (some x p.0) (counted x) (sym e ∙ append_assoc (text x) (goes_on (map text xs)) u))
+  all_told (x ∷ xs) (y ∷ ys) u v p q s t e = more_told (x ∷ xs) (y ∷ ys) u v p q s t (ap (λ (w : List ℕ). codes ", " ++ w) e)
+
+  -- a list is told by its text
+  pub list_told : Tells (AllByRecursion Fits) (λ xs. joined (map text xs)) (Stops lists)
+  list_told = record { each = all_told }

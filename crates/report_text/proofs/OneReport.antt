@@ -1,0 +1,170 @@
+-- A text states one report at most: it is read line by line from the front.
+use Rattle.std.proofs.Common.{◌≡◌, ℕ, zero, suc, ◌+◌, ◌^◌, ◌≤◌, ◌⊎◌, inl, inr, ◌||◌, List, [], ◌∷◌, ◌++◌, length, map, get_or, drop, nat_lt, slice_get, IsTrue, refl, sym, ◌∙◌, ap, subst, append_assoc, arith}
+use Rattle.std.specs.List.{AllByRecursion, list_all, list_any}
+use Rattle.model.specs.Programs.{Name, Symbol, Rule, Program, arity_in, arity_of}
+use Rattle.text_core.specs.Names.{AreNames}
+use Rattle.its_model.specs.Valid.{IsValid, IsValidSymbol}
+use Rattle.outcome.specs.Reports.{Size, Report, is_timed}
+use Rattle.report_text.specs.Pieces.{numbered}
+use Rattle.report_text.specs.Reports.{headline, time_line, total_line, size_lines, why_time, why_sizes, text_of_report}
+use Rattle.report_text.specs.States.{States}
+use Rattle.report_text.specs.Printable.{IsPrintableSize, IsPrintableReport}
+use Rattle.report_text.specs.OneReport.{TextsStateOneReport}
+use Rattle.report_text.proofs.SymbolNames.{names_of, are_names, valid_names}
+use Rattle.report_text.proofs.GapLines.{Whys}
+use Rattle.report_text.proofs.EntryLines.{SizesSaySame, headline_told, times_say, rows_say, total_told}
+use Rattle.report_text.proofs.WhyLines.{FitsRow, sizes_no_time, whys_times, why_times_told, why_sizes_told}
+use Rattle.report_text.proofs.Numbered.{Pairs}
+
+-- symbols have few places
+arity_small : (symbols : List Symbol) (s : ℕ) → AllByRecursion IsValidSymbol symbols → 1 + arity_in (slice_get symbols s) ≤ 2 ^ 64
+arity_small [] s are = omega arith
+arity_small (x ∷ symbols) zero are = let few = are.0.arity in omega (arith, few)
+arity_small (x ∷ symbols) (suc s) are = arity_small symbols s are.1
+
+-- the rows of sizes have one entry for each place of a target
+abbrev HasPlaces : Program → List (List Size) → List Rule → Type 0
+HasPlaces p rows rules = map length rows ≡ map (λ rule. arity_of p rule.target) rules
+
+-- so they are short
+rows_short : (p : Program) → IsValid p → (rows : List (List Size)) (rules : List Rule) → HasPlaces p rows rules → AllByRecursion (λ row. 1 + length row ≤ 2 ^ 64) rows
+rows_short p valid [] rules e = tt
+rows_short p valid (row ∷ rows) [] e = absurd cc
+rows_short p valid (row ∷ rows) (rule ∷ rules) e =
+    let few = arity_small p.symbols rule.target valid.symbols in
+    let same : length row ≡ arity_of p rule.target = ap (λ (xs : List ℕ). get_or xs 0 0) e in
+    (omega (arith, few, same), rows_short p valid rows rules (ap (drop 1) e))
+
+-- and those of two reports are paired
+rows_paired : (p : Program) (rs ss : List (List Size)) (rules : List Rule) → HasPlaces p rs rules → HasPlaces p ss rules → Pairs (λ r s. length r ≡ length s) rs ss
+rows_paired p [] [] rules a b = tt
+rows_paired p [] (s ∷ ss) [] a b = absurd cc
+rows_paired p [] (s ∷ ss) (rule ∷ rules) a b = absurd cc
+rows_paired p (r ∷ rs) [] [] a b = absurd cc
+rows_paired p (r ∷ rs) [] (rule ∷ rules) a b = absurd cc
+rows_paired p (r ∷ rs) (s ∷ ss) [] a b = absurd cc
+rows_paired p (r ∷ rs) (s ∷ ss) (rule ∷ rules) a b =
+    (ap (λ (xs : List ℕ). get_or xs 0 0) (a ∙ sym b), rows_paired p rs ss rules (ap (drop 1) a) (ap (drop 1) b))
+
+-- there are as many rows as rules
+rows_many : (p : Program) (rows : List (List Size)) (rules : List Rule) → HasPlaces p rows rules → length rows ≡ length rules
+rows_many p [] [] e = refl
+rows_many p [] (rule ∷ rules) e = absurd cc
+rows_many p (row ∷ rows) [] e = absurd cc
+rows_many p (row ∷ rows) (rule ∷ rules) e = ap suc (rows_many p rows rules (ap (drop 1) e))
+
+-- where a target has a place, the lines of places are no reason
+rows_seen : (p : Program) (names : List Name) (n : ℕ) (rows : List (List Size)) (rules : List Rule) → HasPlaces p rows rules
+    → IsTrue (list_any (λ rule. nat_lt 0 (arity_of p rule.target)) rules) → (u v : List ℕ) → Whys u → u ≡ numbered (size_lines names) n rows ++ v → ⊥
+rows_seen p names n rows [] e some u v h same = cc
+rows_seen p names n [] (rule ∷ rules) e some u v h same = cc
+rows_seen p names n ([] ∷ rows) (rule ∷ rules) e some u v h same =
+    let none : 0 ≡ arity_of p rule.target = ap (λ (xs : List ℕ). get_or xs 0 0) e in
+    rows_seen p names (suc n) rows rules (ap (drop 1) e)
+    (ap (λ (k : ℕ). nat_lt 0 k || list_any (λ (rule : Rule). nat_lt 0 (arity_of p rule.target)) rules) none ∙ some) u v h same
+rows_seen p names n ((s ∷ row) ∷ rows) (rule ∷ rules) e some u v h same = let no : 115 ≡ 119 = subst Whys same h in omega (arith, no)
+
+-- entries that fit, and short rows, are rows that fit
+rows_fit : (p : Program) (rows : List (List Size)) → AllByRecursion (AllByRecursion (IsPrintableSize p)) rows → AllByRecursion (λ row. 1 + length row ≤ 2 ^ 64) rows → AllByRecursion (FitsRow p) rows
+rows_fit p [] f g = tt
+rows_fit p (row ∷ rows) f g = ((f.0, g.0), rows_fit p rows f.1 g.1)
+
+-- the lines of a text, one part behind the other
+laid_out : (a b c d w s : List ℕ) → (a ++ (b ++ (c ++ d))) ++ (w ++ s) ≡ a ++ (b ++ (c ++ (d ++ (w ++ s))))
+laid_out a b c d w s =
+    append_assoc a (b ++ (c ++ d)) (w ++ s)
+    ∙ ap (λ (t : List ℕ). a ++ t) (append_assoc b (c ++ d) (w ++ s) ∙ ap (λ (t : List ℕ). b ++ t) (append_assoc c d (w ++ s)))
+
+-- the parts of a report's text
+parts_of : (p : Program) (r : Report) → text_of_report p r
+    ≡ headline r.times ++ (numbered (time_line p.start_names) 1 r.times ++ (total_line p.start_names r.total ++ (numbered (size_lines p.start_names) 1 r.sizes
+    ++ (numbered (why_time p.symbols) 1 r.times ++ numbered why_sizes 1 r.sizes))))
+unfolding text_of_report
+parts_of p r =
+    laid_out (headline r.times) (numbered (time_line p.start_names) 1 r.times) (total_line p.start_names r.total) (numbered (size_lines p.start_names) 1 r.sizes)
+    (numbered (why_time p.symbols) 1 r.times) (numbered why_sizes 1 r.sizes)
+
+-- what the lines of sizes tell: each two entries say the same, they fit, and what follows is the same
+record SizesTold (p : Program) (rs ss : List (List Size)) (u v : List ℕ) : Type 0 where
+  pub say : Pairs (Pairs (SizesSaySame p.start_names)) rs ss
+  pub left : AllByRecursion (FitsRow p) rs
+  pub right : AllByRecursion (FitsRow p) ss
+  pub few : 1 + length rs ≤ 2 ^ 64
+  pub less : 1 + length ss ≤ 2 ^ 64
+  pub rest : u ≡ v
+
+-- where there are none, nothing is said
+none_told : (p : Program) (rs ss : List (List Size)) (u v : List ℕ) → rs ≡ [] → ss ≡ []
+    → numbered (size_lines p.start_names) 1 rs ++ u ≡ numbered (size_lines p.start_names) 1 ss ++ v → SizesTold p rs ss u v
+none_told p [] [] u v a b e = record { say = tt; left = tt; right = tt; few = omega arith; less = omega arith; rest = e }
+none_told p [] (y ∷ ss) u v a b e = absurd cc
+none_told p (x ∷ rs) ss u v a b e = absurd cc
+
+module _ (p : Program) (valid : IsValid p) where
+  -- the names of the start arguments differ
+  starts : AreNames p.start_names
+  starts = are_names p.start_names valid.start_names valid.start_distinct
+
+  -- the names of the symbols differ
+  named : AreNames (names_of p.symbols)
+  named = are_names (names_of p.symbols) (valid_names p.symbols valid.symbols) valid.distinct
+
+  -- the lines of a report's reasons
+  abbrev reasons : Report → List ℕ
+  reasons r = numbered (why_time p.symbols) 1 r.times ++ numbered why_sizes 1 r.sizes
+
+  -- they are reasons
+  reasons_why : (r : Report) → Whys (reasons r)
+  reasons_why r = whys_times p 1 r.times (numbered why_sizes 1 r.sizes) (sizes_no_time 0 1 r.sizes).whys
+
+  -- as many lines as rules are few
+  few_lines : (n : ℕ) → n ≡ length p.rules → 1 + n ≤ 2 ^ 64
+  few_lines n e = let few = valid.few_rules in omega (arith, few, e)
+
+  -- the sizes of two reports that have them
+  rows_told : (r q : Report) → IsPrintableReport p r → IsPrintableReport p q → HasPlaces p r.sizes p.rules → HasPlaces p q.sizes p.rules
+      → numbered (size_lines p.start_names) 1 r.sizes ++ reasons r ≡ numbered (size_lines p.start_names) 1 q.sizes ++ reasons q
+      → SizesTold p r.sizes q.sizes (reasons r) (reasons q)
+  rows_told r q f g a b e =
+      let left = rows_short p valid r.sizes p.rules a in
+      let right = rows_short p valid q.sizes p.rules b in
+      let few = few_lines (length r.sizes) (rows_many p r.sizes p.rules a) in
+      let less = few_lines (length q.sizes) (rows_many p q.sizes p.rules b) in
+      let said = rows_say p.start_names starts r.sizes q.sizes (reasons r) (reasons q) (rows_paired p r.sizes q.sizes p.rules a b) left right few less e in
+      record { say = said.0; left = rows_fit p r.sizes f.sizes left; right = rows_fit p q.sizes g.sizes right; few = few; less = less; rest = said.1 }
+
+  -- the sizes of two reports
+  sizes_told : (r q : Report) → IsPrintableReport p r → IsPrintableReport p q → (r.sizes ≡ []) ⊎ HasPlaces p r.sizes p.rules → (q.sizes ≡ []) ⊎ HasPlaces p q.sizes p.rules
+      → numbered (size_lines p.start_names) 1 r.sizes ++ reasons r ≡ numbered (size_lines p.start_names) 1 q.sizes ++ reasons q
+      → SizesTold p r.sizes q.sizes (reasons r) (reasons q)
+  sizes_told r q f g (inl a) (inl b) e = none_told p r.sizes q.sizes (reasons r) (reasons q) a b e
+  sizes_told r q f g (inl a) (inr b) e =
+      absurd (rows_seen p p.start_names 1 q.sizes p.rules b (f.places a) (reasons r) (reasons q) (reasons_why r)
+      (ap (λ (rows : List (List Size)). numbered (size_lines p.start_names) 1 rows ++ reasons r) (sym a) ∙ e))
+  sizes_told r q f g (inr a) (inl b) e =
+      absurd (rows_seen p p.start_names 1 r.sizes p.rules a (g.places b) (reasons q) (reasons r) (reasons_why q)
+      (ap (λ (rows : List (List Size)). numbered (size_lines p.start_names) 1 rows ++ reasons q) (sym b) ∙ sym e))
+  sizes_told r q f g (inr a) (inr b) e = rows_told r q f g a b e
+
+  -- two reports with one text are one
+  same_report : (text : List ℕ) (r q : Report) → IsPrintableReport p r → IsPrintableReport p q → States p text r → States p text q → r ≡ q
+  same_report text r q f g s t =
+      let names = p.start_names in
+      let sizes = λ (o : Report). numbered (size_lines names) 1 o.sizes ++ reasons o in
+      let total = λ (o : Report). total_line names o.total ++ sizes o in
+      let times = λ (o : Report). numbered (time_line names) 1 o.times ++ total o in
+      let head = headline_told (list_all is_timed r.times) (list_all is_timed q.times) (times r) (times q) (sym (parts_of p r) ∙ (sym s.text_of ∙ (t.text_of ∙ parts_of p q))) in
+      let few = few_lines (length r.times) s.report.times in
+      let less = few_lines (length q.times) t.report.times in
+      let said = times_say names starts r.times q.times (total r) (total q) (s.report.times ∙ sym t.report.times) few head.1 in
+      let whole = total_told p starts r.total q.total (sizes r) (sizes q) f.total g.total
+      (λ there. t.report.total.0 (sym head.0 ∙ s.report.total.1 there)) (λ there. s.report.total.0 (head.0 ∙ t.report.total.1 there)) said.1 in
+      let rows = sizes_told r q f g s.report.sizes t.report.sizes whole.1 in
+      let why = why_times_told p starts named r.times q.times (numbered why_sizes 1 r.sizes) (numbered why_sizes 1 q.sizes) few less f.times g.times said.0
+      (λ n. sizes_no_time n 1 r.sizes) (λ n. sizes_no_time n 1 q.sizes) rows.rest in
+      let places = why_sizes_told p starts named r.sizes q.sizes rows.few rows.less rows.left rows.right rows.say why.1 in
+      λ i. record { times = why.0 i; total = whole.0 i; sizes = places i }
+
+-- a text states one report at most
+pub one_report : TextsStateOneReport
+one_report = record { each = λ p text r q valid f g s t. same_report p valid text r q f g s t }

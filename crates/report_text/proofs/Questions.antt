@@ -1,0 +1,96 @@
+-- The limits that linear programs passed tell what they are.
+use Rattle.std.proofs.Common.{◌≡◌, ℕ, List, ◌++◌, get_or, codes, decimal, refl, sym, ◌∙◌, ap, arith}
+use Rattle.text_core.proofs.PrefixLaws.{Stops}
+use Rattle.proof_tree.specs.declared.answer.Question.{Question}
+use Rattle.proof_tree.specs.declared.answer.Question.TheVariants as questions
+use Rattle.proof_tree.specs.declared.answer.TripCause.{TripCause}
+use Rattle.proof_tree.specs.declared.answer.TripCause.TheVariants as causes
+use Rattle.report_text.specs.Reasons.{question_text, cause_text, trip_text, large_text}
+use Rattle.report_text.specs.Printable.{IsShort, IsPrintableQuestion, IsPrintableCause, IsPrintableTrip}
+use Rattle.report_text.proofs.Told.{Tells, Any, told_behind, told_before, told_both, same_behind}
+use Rattle.report_text.proofs.Digits.{counts, number_told}
+use Rattle.report_text.proofs.Points.{pair_told}
+
+-- a number behind a word
+worded : (w : List ℕ) → Tells IsShort (λ n. w ++ decimal n) (Stops counts)
+worded w = told_behind number_told w
+
+-- a number between two words
+counted : (w c : List ℕ) → ((u : List ℕ) → Stops counts (c ++ u)) → Tells IsShort (λ n. w ++ (decimal n ++ c)) Any
+counted w c stops = told_behind (told_before number_told c Any (λ u s. stops u)) w
+
+-- the first byte of a question
+abbrev first_of : Question → ℕ
+first_of (questions.Empty rule) = 101
+first_of (questions.Rank rule) = 114
+first_of (questions.Local rule place) = 108
+
+-- the first byte of a limit
+abbrev first_of_cause : TripCause → ℕ
+first_of_cause (causes.Range pivot) = 114
+first_of_cause (causes.Budget pivots) = 98
+first_of_cause (causes.Wide entries) = 119
+first_of_cause causes.Scale = 115
+
+-- it is the first of its text
+first_is : (q : Question) (u : List ℕ) → get_or (question_text q ++ u) 0 0 ≡ first_of q
+first_is (questions.Empty rule) u = refl
+first_is (questions.Rank rule) u = refl
+first_is (questions.Local rule place) u = refl
+
+-- so is that of a limit
+first_cause_is : (c : TripCause) (u : List ℕ) → get_or (cause_text c ++ u) 0 0 ≡ first_of_cause c
+first_cause_is (causes.Range pivot) u = refl
+first_cause_is (causes.Budget pivots) u = refl
+first_cause_is (causes.Wide entries) u = refl
+first_cause_is causes.Scale u = refl
+
+-- one text, one question
+question_one : (x y : Question) (u v : List ℕ) → IsPrintableQuestion x → IsPrintableQuestion y → Stops counts u → Stops counts v
+    → question_text x ++ u ≡ question_text y ++ v → first_of x ≡ first_of y → (x ≡ y) × (u ≡ v)
+question_one (questions.Empty a) (questions.Empty b) u v p q s t e k = let r = (worded (codes "empty ")).each a b u v p q s t e in (ap questions.Empty r.0, r.1)
+question_one (questions.Rank a) (questions.Rank b) u v p q s t e k = let r = (worded (codes "rank ")).each a b u v p q s t e in (ap questions.Rank r.0, r.1)
+question_one (questions.Local a i) (questions.Local b j) u v p q s t e k =
+    let r = (told_behind pair_told (codes "local ")).each (a, i) (b, j) u v p q s t e in
+    (ap (λ (z : ℕ × ℕ). questions.Local z.0 z.1) r.0, r.1)
+question_one x y u v p q s t e k = absurd (omega (arith, k))
+
+-- what a linear program was asked
+pub question_told : Tells IsPrintableQuestion question_text (Stops counts)
+question_told = record {
+  each = λ x y u v p q s t e. question_one x y u v p q s t e (sym (first_is x u) ∙ (ap (λ (w : List ℕ). get_or w 0 0) e ∙ first_is y v));
+}
+
+-- one text, one limit
+cause_one : (x y : TripCause) (u v : List ℕ) → IsPrintableCause x → IsPrintableCause y → Stops counts u → Stops counts v
+    → cause_text x ++ u ≡ cause_text y ++ v → first_of_cause x ≡ first_of_cause y → (x ≡ y) × (u ≡ v)
+cause_one (causes.Range a) (causes.Range b) u v p q s t e k = let r = (worded (codes "range at pivot ")).each a b u v p q s t e in (ap causes.Range r.0, r.1)
+cause_one (causes.Budget a) (causes.Budget b) u v p q s t e k =
+    let r = (counted (codes "budget after ") (codes " pivots") (λ w. refl)).each a b u v p q tt tt e in
+    (ap causes.Budget r.0, r.1)
+cause_one (causes.Wide a) (causes.Wide b) u v p q s t e k =
+    let r = (counted (codes "wide ") (codes " entries") (λ w. refl)).each a b u v p q tt tt e in
+    (ap causes.Wide r.0, r.1)
+cause_one causes.Scale causes.Scale u v p q s t e k = (refl, same_behind (codes "scale") u v e)
+cause_one x y u v p q s t e k = absurd (omega (arith, k))
+
+-- the limit that it passed
+pub cause_told : Tells IsPrintableCause cause_text (Stops counts)
+cause_told = record {
+  each = λ x y u v p q s t e. cause_one x y u v p q s t e (sym (first_cause_is x u) ∙ (ap (λ (w : List ℕ). get_or w 0 0) e ∙ first_cause_is y v));
+}
+
+-- both
+pub trip_told : Tells IsPrintableTrip trip_text (Stops counts)
+trip_told =
+    let both : Tells (λ (z : Question × TripCause). IsPrintableQuestion z.0 × IsPrintableCause z.1) (λ (z : Question × TripCause). question_text z.0 ++ (codes " " ++ cause_text z.1)) (Stops counts) =
+    told_both question_told (told_behind cause_told (codes " ")) (λ c w fits after. refl) in
+    record {
+      each = λ x y u v p q s t e.
+          let r = both.each (x.question, x.cause) (y.question, y.cause) u v (p.question, p.cause) (q.question, q.cause) s t e in
+          (ap (λ (z : Question × TripCause). record { question = z.0; cause = z.1 }) r.0, r.1);
+    }
+
+-- the number of nodes of a bound that is too large
+pub large_told : Tells IsShort large_text Any
+large_told = counted (codes "large ") (codes " nodes") (λ w. refl)

@@ -1,0 +1,68 @@
+-- The texts of small reports are worked out.
+use Rattle.std.proofs.Common.{refl, arith}
+use Rattle.std.specs.Fmt.{digits}
+use Rattle.report_text.specs.Reports.{text_of_report}
+use Rattle.report_text.specs.WorkedTexts.{TextsTellApart, TextsDontTell, TextsAreWorkedOut}
+
+-- what texts tell
+told : TextsTellApart
+unfolding text_of_report digits
+told = record {
+  program = record {
+    symbols = (record { name = (refl, refl); arity = omega arith }, (record { name = (refl, refl); arity = omega arith }, tt));
+    distinct = (refl, (refl, tt));
+    few_rules = omega arith;
+    rules = (
+      record {
+        source = omega arith;
+        target = omega arith;
+        left = refl;
+        places = refl;
+        named = refl;
+        names = ((refl, refl), tt);
+        distinct = (refl, tt);
+        few_variables = omega arith;
+        few_atoms = omega arith;
+        updates = (record { variables = omega arith; expands = refl }, tt);
+        guard = tt;
+      },
+      tt,
+    );
+    start = omega arith;
+    start_is_source = refl;
+    start_places = refl;
+    start_names = ((refl, refl), tt);
+    start_distinct = (refl, tt);
+  };
+  variable = record {
+    times = (record { tidy = tt; listed = omega arith; fits = record { bases = tt; nodes = omega arith } }, tt);
+    total = record { tidy = tt; listed = omega arith; fits = record { bases = tt; nodes = omega arith } };
+    sizes = ((record { tidy = tt; listed = omega arith; fits = record { bases = tt; nodes = omega arith } }, tt), tt);
+    places = λ e. refl;
+  };
+  missing = record { times = (omega arith, tt); total = tt; sizes = ((omega arith, tt), tt); places = λ e. refl };
+  of_variable = refl;
+  of_missing = refl;
+}
+
+-- and what they don't
+untold : TextsDontTell
+unfolding text_of_report digits
+untold = record {
+  no_places = refl;
+  left_out = λ h. (let no = h.places refl in cc);
+  given = record {
+    times = (record { tidy = tt; listed = omega arith; fits = record { bases = tt; nodes = omega arith } }, tt);
+    total = record { tidy = tt; listed = omega arith; fits = record { bases = tt; nodes = omega arith } };
+    sizes = (tt, tt);
+    places = λ e. absurd cc;
+  };
+  no_line = refl;
+  move_too_many = λ h. (let no = h.moves_shown in omega (arith, no));
+  no_symbol = refl;
+  unnamed = λ h. (let no = h.shut.0.symbol in omega (arith, no));
+}
+
+-- both
+pub texts_are_worked_out : TextsAreWorkedOut
+texts_are_worked_out = record { told = told; untold = untold }
