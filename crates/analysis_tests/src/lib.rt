@@ -2,4 +2,6 @@
 #![tactic(auto)]
 
 #[cfg(test)]
-mod times;
+mod found;
+#[cfg(test)]
+mod locals;

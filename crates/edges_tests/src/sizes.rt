@@ -5,8 +5,8 @@ use outside_io::{Held, MemoryShelf, MemorySink};
 use std::alloc::{AllocError, Global};
 use std::test::Fail;
 
-// The program of so many rules with so many places each: a chain, in which each rule leads from a symbol to the next, or
-// a star, in which each leads from the start to a symbol of its own.
+// The program of so many rules with so many places each: a chain, in which each rule leads from a symbol to the next,
+// or a star, in which each leads from the start to a symbol of its own.
 fn program(alloc: Global, is_chain: bool, rules: u32, places: u32) -> Result<String, AllocError> {
     let mut text = String::from_str(alloc, "(STARTTERM (FUNCTIONSYMBOLS l0))(RULES")?;
     for rule in 0..rules {
@@ -30,13 +30,19 @@ fn arguments(alloc: Global, places: u32) -> Result<String, AllocError> {
     Ok(text)
 }
 
-// The report on so many rules, each of which occurs at most once.
-fn report(alloc: Global, rules: u32) -> Result<String, AllocError> {
+// The report on so many rules, each of which occurs at most once and keeps its so many arguments.
+fn report(alloc: Global, rules: u32, places: u32) -> Result<String, AllocError> {
     let mut text = String::from_str(alloc, "bounded\n")?;
     for rule in 1..=rules {
         text.push_str(&format!(in alloc; "time {rule}: 1\n")?)?;
     }
     text.push_str(&format!(in alloc; "total: {rules}\n")?)?;
+    for rule in 1..=rules {
+        for argument in 0..places {
+            let place = argument.saturating_add(1);
+            text.push_str(&format!(in alloc; "size {rule}.{place}: A{argument}\n")?)?;
+        }
+    }
     Ok(text)
 }
 
@@ -69,7 +75,7 @@ fn programs_up_to_the_limits_have_their_reports(rt: HostRuntime) -> Result<(), F
         let status = run(alloc, &words, &mut shelf, &mut sink);
         if is_within {
             assert_eq!(rt; status, Status::Done, "{rules} rules of {places} places");
-            assert_eq!(rt; sink.bytes(), report(alloc, rules)?.as_bytes());
+            assert_eq!(rt; sink.bytes(), report(alloc, rules, places)?.as_bytes());
         } else {
             assert_eq!(rt;
                 status,

@@ -24,8 +24,8 @@ use Rattle.koat_cli.specs.Report.{read_fault_text, too_long_text, refused_text}
 abbrev pub program_limit : ℕ
 program_limit = 2 ^ 22
 
--- the words ask for an analysis with so many pivots, and these are the bytes of the file that they name, which aren't too
--- many
+-- the words ask for an analysis with so many pivots, and these are the bytes of the file that they name, which aren't
+-- too many
 pub record ReadsProgram (call : Call) (bytes : List ℕ) (pivots : ℕ) : Type 0 where
   pub file : Word
   pub asked : Asks call.words (Analyse pivots file)

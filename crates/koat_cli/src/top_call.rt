@@ -11,15 +11,17 @@ use std::alloc::Global;
 
 /// Does all that the program does for the words after its name, and answers how it ended.
 ///
-/// `analyse [--pivots N] FILE` fetches the file, of at most 4,194,304 bytes, and writes its report by one put; other words
-/// get the usage text. The program texts are those of integer transition systems in the KoAT format, and the report gives
-/// each rule a bound on how often it occurs in a run, in the absolute values of the inputs, or says why there is none.
-/// N is how many pivots each linear program may take, from 0 to 1,000,000, and 10,000 where it isn't given.
+/// `analyse [--pivots N] FILE` fetches the file, of at most 4,194,304 bytes, and writes its report by one put; other
+/// words get the usage text. The program texts are those of integer transition systems in the KoAT format, and the
+/// report gives each rule a bound on how often it occurs in a run, and each argument after a rule a bound on its
+/// absolute value, in the absolute values of the inputs, or says why there is none. N is how many pivots each linear
+/// program may take, from 0 to 1,000,000, and 10,000 where it isn't given.
 ///
 /// - `Done`: the file spells a program, and its report was written, in which every rule has a time. On every run of the
-///   program, from any integers and by any choice of rules, each rule occurs at most as often as its time says, and there
-///   are at most as many steps as the total says.
-/// - `Unknown`: the same, where some rule has no time; the report says why. Every bound that it gives holds on every run.
+///   program, from any integers and by any choice of rules, each rule occurs at most as often as its time says, there
+///   are at most as many steps as the total says, and each argument after a rule stays within its size.
+/// - `Unknown`: the same, where some rule has no time; the report says why. Every bound that it gives holds on every
+///   run.
 /// - `Usage`: the words are anything but a command line.
 /// - `ReadFault`: the shelf had a fault in this call, or tells that it lacks the file.
 /// - `ProgramRefused`: the file has too many bytes, or something stands against it as the text of a program within the

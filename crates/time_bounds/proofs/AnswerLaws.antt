@@ -29,13 +29,13 @@ use Rattle.round_relation.specs.Searches.{Ranked}
 use Rattle.round_relation.specs.NewTimes.{SaysTime, Tells}
 use Rattle.round_relation.specs.Reasons.{IsNoTime}
 use Rattle.time_bounds.specs.declared.asking.Asked.{Asked}
-use Rattle.time_bounds.specs.declared.table.Table as code_table
+use Rattle.size_bounds.specs.declared.table.Table as code_table
 use Rattle.time_bounds.specs.declared.trying.Tried.{Tried}
 use Rattle.time_bounds.specs.declared.trying.Tried.TheVariants.{Known, Missing}
 use Rattle.proof_tree.specs.declared.rank.RankNode as code_rank
 use Rattle.round_relation.specs.Tables.{lacks, is_untimed}
 use Rattle.time_bounds.specs.ProgramSearches.{searches_of_program, ranking_of}
-use Rattle.time_bounds.specs.Tables.{table_of}
+use Rattle.size_bounds.specs.Tables.{table_of}
 use Rattle.time_bounds.specs.Tries.{IsTried, IsMissing}
 use Rattle.time_bounds.proofs.RoundLaws.{asked_of}
 

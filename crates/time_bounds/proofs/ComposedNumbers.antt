@@ -16,7 +16,8 @@ use Rattle.proof_nodes.specs.Numbers.{rounded_up, positive_part}
 use Rattle.proof_nodes.specs.Limits.{IsInLimit, IsFormInLimit}
 use Rattle.proof_nodes.specs.Known.{Table, known}
 use Rattle.proof_nodes.specs.Setting.{Setting}
-use Rattle.proof_nodes.specs.Composed.{parts_for, place_parts, form_bound, no_place, sizes_after, rank_form, entry_bound}
+use Rattle.proof_nodes.specs.Composed.{parts_for, place_parts, rest_bound, form_bound, no_place, sizes_after}
+use Rattle.proof_nodes.specs.Composed.{rank_form, entry_bound}
 use Rattle.proof_nodes.specs.AcceptsRank.{HasFormShape, HasRankShape, rank_time}
 
 -- a number of a proof over a denominator, rounded up, is a small constant
@@ -48,12 +49,12 @@ rank_form-limit p (f ∷ forms) h (Some a) =
 module _ (F : Bound → Type 0) (constant : (c : ℕ) → c ≤ constant_limit → F (Constant c))
     (sum : (bs : Parts) → F (SumOf bs)) (product : (bs : Parts) → F (ProductOf bs)) where
   -- a bound that is known, or 0
-  known-each : (o : Option Bound) → ((b : Bound) → o ≡ Some b → EachNode F b) → EachNode F (known o)
+  pub known-each : (o : Option Bound) → ((b : Bound) → o ≡ Some b → EachNode F b) → EachNode F (known o)
   known-each None h = constant 0 (omega arith)
   known-each (Some b) h = h b refl
 
   -- a part for each number
-  parts_for-each : (f : ℕ → Bound) → ((n : ℕ) → EachNode F (f n)) → (ns : List ℕ) → EachNodeOfAll F (parts_for f ns)
+  pub parts_for-each : (f : ℕ → Bound) → ((n : ℕ) → EachNode F (f n)) → (ns : List ℕ) → EachNodeOfAll F (parts_for f ns)
   parts_for-each f h [] = tt
   parts_for-each f h (n ∷ ns) = (h n, parts_for-each f h ns)
 
@@ -77,19 +78,23 @@ module _ (F : Bound → Type 0) (constant : (c : ℕ) → c ≤ constant_limit �
       go false e rest =
           rw e ((product _, (constant (rounded_up (nat_abs c) den) small, (h 0, tt))), rest)
 
-  -- a form as a bound
-  form_bound-each : (f : Form) (den : ℕ) (sizes : ℕ → Bound) → IsFormInLimit f → IsInLimit den
-      → ((j : ℕ) → EachNode F (sizes j)) → EachNode F (form_bound f den sizes)
-  form_bound-each f den sizes low few h =
+  -- a form as a bound, but for some places
+  pub rest_bound-each : (f : Form) (den : ℕ) (left_out : ℕ → Bool) (sizes : ℕ → Bound) → IsFormInLimit f → IsInLimit den
+      → ((j : ℕ) → EachNode F (sizes j)) → EachNode F (rest_bound f den left_out sizes)
+  rest_bound-each f den left_out sizes low few h =
       let within : positive_part f.constant ≤ nat_abs f.constant = positive_part-low f.constant in
       let limit : IsInLimit (positive_part f.constant) = omega (arith, within, low.constant) in (
         sum _,
         (
           constant (rounded_up (positive_part f.constant) den)
               (rounded_up-small (positive_part f.constant) den limit few),
-          place_parts-each f.coefs den no_place sizes low.coefs few h,
+          place_parts-each f.coefs den left_out sizes low.coefs few h,
         ),
       )
+
+  pub form_bound-each : (f : Form) (den : ℕ) (sizes : ℕ → Bound) → IsFormInLimit f → IsInLimit den
+      → ((j : ℕ) → EachNode F (sizes j)) → EachNode F (form_bound f den sizes)
+  form_bound-each f den sizes low few h = rest_bound-each f den no_place sizes low few h
 
   -- the time that a ranking function composes of what a table knows
   pub rank_time-each : (s : Setting) (node : RankNode) (tab : Table) → HasRankShape s node

@@ -31,7 +31,7 @@ use Rattle.time_bounds.specs.Fates.{says_empty, is_said_empty, said_empty, fate_
 use Rattle.time_bounds.proofs.Shut.{range_in}
 
 -- tests that pass each where the other does are the same
-bool_same : (v w : Bool) → (v ≡ true → w ≡ true) → (w ≡ true → v ≡ true) → v ≡ w
+pub bool_same : (v w : Bool) → (v ≡ true → w ≡ true) → (w ≡ true → v ≡ true) → v ≡ w
 bool_same true w f g = sym (f refl)
 bool_same false true f g = g refl
 bool_same false false f g = refl
@@ -120,7 +120,7 @@ unsaid (answers.Empty n) h = tt
 unsaid (answers.Point z) h = absurd (no_is_not_yes false refl h)
 unsaid (answers.Tripped t) h = absurd (no_is_not_yes false refl h)
 
-shown_says : (a : EmptyAnswer) (m : List ℕ) → emptiness_of a ≡ NoPoint m → SaysEmpty a
+pub shown_says : (a : EmptyAnswer) (m : List ℕ) → emptiness_of a ≡ NoPoint m → SaysEmpty a
 shown_says (answers.Empty n) m e = tt
 shown_says (answers.Point z) m e = absurd (let f : ⊥ = cc in f)
 shown_says (answers.Tripped t) m e = absurd (let f : ⊥ = cc in f)

@@ -20,20 +20,20 @@ use Rattle.round_relation.specs.Tables.{lacks, is_untimed, IsPlace}
 use Rattle.round_relation.specs.Beginning.{IsDead, IsZero, IsOpen, First}
 use Rattle.time_bounds.specs.declared.fates.Fate.{Fate}
 use Rattle.time_bounds.specs.declared.fates.Fate.TheVariants.{Empty, Unreached, Live}
-use Rattle.time_bounds.specs.declared.table.Table.{Table}
+use Rattle.size_bounds.specs.declared.table.Table.{Table}
 use Rattle.time_bounds.specs.ProgramSearches.{searches_of_program}
-use Rattle.time_bounds.specs.Tables.{entry_at, row_at, bound_stored, table_of}
+use Rattle.size_bounds.specs.Tables.{entry_at, row_at, bound_stored, table_of}
 use Rattle.time_bounds.specs.Questions.{IsTable}
 use Rattle.time_bounds.specs.Fates.{fate_at, is_empty_fate, is_dead_fate, AreFates}
 use Rattle.time_bounds.specs.Beginning.{zero_by, first_times, start_sizes, sizes_by, first_sizes}
-use Rattle.time_bounds.proofs.Stored.{entry_past}
+use Rattle.size_bounds.proofs.Stored.{entry_past}
 use Rattle.time_bounds.proofs.RoundLaws.{rule_there, rule_below}
 use Rattle.time_bounds.proofs.FateLaws.{shown, says}
 
 no_bound : (o : Option Bound) (b : Bound) → o ≡ None → o ≡ Some b → ⊥
 no_bound o b e f = let x : None ≡ Some b = sym e ∙ f in cc
 
-none_some : {A : Type 0} (a : A) → None ≡ Some a → ⊥
+pub none_some : {A : Type 0} (a : A) → None ≡ Some a → ⊥
 none_some a e = cc
 
 -- the bounds of a list, one by one
@@ -92,12 +92,12 @@ no_row p (f ∷ fates) [] k h = refl
 no_row p (f ∷ fates) (x ∷ rules) zero h = absurd (none_some x (sym h))
 no_row p (f ∷ fates) (x ∷ rules) (suc k) h = no_row p fates rules k h
 
-dead_zero : (f : Fate) → is_dead_fate f ≡ true → zero_by f ≡ Some (Constant 0)
+pub dead_zero : (f : Fate) → is_dead_fate f ≡ true → zero_by f ≡ Some (Constant 0)
 dead_zero Empty e = refl
 dead_zero Unreached e = refl
 dead_zero Live e = absurd (no_is_not_yes false refl e)
 
-live_none : (f : Fate) → is_dead_fate f ≡ false → zero_by f ≡ None
+pub live_none : (f : Fate) → is_dead_fate f ≡ false → zero_by f ≡ None
 live_none Empty e = absurd (no_is_not_yes true e refl)
 live_none Unreached e = absurd (no_is_not_yes true e refl)
 live_none Live e = refl
@@ -110,10 +110,10 @@ empty_dead Live e = e
 module _ (q : Searches) (p : Program) (fates : List Fate) (right : AreFates q p fates) (tab : Table)
     (times : map bound_stored tab.times.items ≡ first_times fates)
     (sizes : map (λ (row : Vec (Option Stored) Global). map bound_stored row.items) tab.sizes.items ≡ first_sizes p fates) where
-  time_is : (t : ℕ) → (table_of tab).time t ≡ entry_at (first_times fates) t
+  pub time_is : (t : ℕ) → (table_of tab).time t ≡ entry_at (first_times fates) t
   time_is t = entry_mapped tab.times.items t ∙ ap (λ (os : List (Option Bound)). entry_at os t) times
 
-  time_at : (i : ℕ) → (table_of tab).time (suc i) ≡ zero_by (fate_at fates (suc i))
+  pub time_at : (i : ℕ) → (table_of tab).time (suc i) ≡ zero_by (fate_at fates (suc i))
   time_at i = time_is (suc i) ∙ fate_entry fates i
 
   size_is : (t i : ℕ) → (table_of tab).size t (suc i) ≡ entry_at (row_at (first_sizes p fates) t) i
@@ -123,7 +123,7 @@ module _ (q : Searches) (p : Program) (fates : List Fate) (right : AreFates q p 
       → (table_of tab).size (suc k) (suc i) ≡ entry_at (replicate (arity_of p r.target) (zero_by (fate_at fates (suc k)))) i
   size_at k i r h = size_is (suc k) i ∙ ap (λ (os : List (Option Bound)). entry_at os i) (row_by p fates p.rules k r right.one_each h)
 
-  time_rule : (t : ℕ) (b : Bound) → (table_of tab).time t ≡ Some b → (t ≡ 0) ⊎ IsRule p t
+  pub time_rule : (t : ℕ) (b : Bound) → (table_of tab).time t ≡ Some b → (t ≡ 0) ⊎ IsRule p t
   time_rule zero b e = inl refl
   time_rule (suc i) b e = go (cases_lt i (length p.rules))
     where
@@ -133,7 +133,7 @@ module _ (q : Searches) (p : Program) (fates : List Fate) (right : AreFates q p 
           absurd (no_bound ((table_of tab).time (suc i)) b
           (time_is (suc i) ∙ entry_past (map zero_by fates) i (omega (arith, l, right.one_each, length-map fates zero_by))) e)
 
-  size_rule : (t i : ℕ) (b : Bound) → (table_of tab).size t i ≡ Some b → ((t ≡ 0) ⊎ IsRule p t) × IsPlace p t i
+  pub size_rule : (t i : ℕ) (b : Bound) → (table_of tab).size t i ≡ Some b → ((t ≡ 0) ⊎ IsRule p t) × IsPlace p t i
   size_rule t zero b e = absurd (none_some b e)
   size_rule zero (suc i) b e = go (cases_lt i (arity_of p p.start))
     where
@@ -160,7 +160,7 @@ module _ (q : Searches) (p : Program) (fates : List Fate) (right : AreFates q p 
   some_same : (a b : ℕ) → Some a ≡ Some b → a ≡ b
   some_same a b e = cc
 
-  start_size : (i : ℕ) → IsPlace p 0 i → (table_of tab).size 0 i ≡ Some (Input (i - 1))
+  pub start_size : (i : ℕ) → IsPlace p 0 i → (table_of tab).size 0 i ≡ Some (Input (i - 1))
   start_size zero place = absurd (omega (arith, place.least))
   start_size (suc i) place =
       let symbol : p.start ≡ place.symbol = some_same p.start place.symbol place.target in
@@ -168,14 +168,14 @@ module _ (q : Searches) (p : Program) (fates : List Fate) (right : AreFates q p 
       size_is 0 i ∙ (start_entry 0 (arity_of p p.start) i low ∙ ap (λ (j : ℕ). Some (Input j)) (let z : 0 + i ≡ suc i - 1 = omega arith in z))
 
   -- a place after a rule has what its fate says
-  rule_size : (k i : ℕ) → IsRule p (suc k) → IsPlace p (suc k) i → (table_of tab).size (suc k) i ≡ zero_by (fate_at fates (suc k))
+  pub rule_size : (k i : ℕ) → IsRule p (suc k) → IsPlace p (suc k) i → (table_of tab).size (suc k) i ≡ zero_by (fate_at fates (suc k))
   rule_size k zero rule place = absurd (omega (arith, place.least))
   rule_size k (suc i) rule place =
       let symbol : rule.rule.target ≡ place.symbol = some_same rule.rule.target place.symbol (sym (ap target_in rule.numbered) ∙ place.target) in
       let low : i < arity_of p rule.rule.target = omega (arith, place.last, ap (arity_of p) symbol) in
       size_at k i rule.rule rule.numbered ∙ same_entry (zero_by (fate_at fates (suc k))) (arity_of p rule.rule.target) i low
 
-  pub is_first : First q p (table_of tab)
+  unfoldable pub is_first : First q p (table_of tab)
   is_first = record {
     table = record { times = time_rule; sizes = size_rule };
     is_empty = λ e. is_empty_fate (fate_at fates e);

@@ -5,8 +5,8 @@ use Rattle.model.specs.Programs.{Program}
 use Rattle.outcome.specs.declared.entry.Stored.{Stored}
 use Rattle.proof_tree.specs.declared.answer.EmptyAnswer.{EmptyAnswer}
 use Rattle.round_relation.specs.Tables.{lacks}
-use Rattle.time_bounds.specs.declared.table.Table.{Table}
-use Rattle.time_bounds.specs.Tables.{entry_at, is_unstored, bound_stored}
+use Rattle.size_bounds.specs.declared.table.Table.{Table}
+use Rattle.size_bounds.specs.Tables.{entry_at, is_unstored, bound_stored}
 use Rattle.time_bounds.specs.Questions.{AreUntimed, IsTable}
 
 lacks_stored : (o : Option Stored) → is_unstored o ≡ lacks (bound_stored o)

@@ -10,7 +10,7 @@ use Rattle.model.specs.Facts.{HoldsTime, HoldsSize, HoldsTotal}
 use Rattle.model.proofs.Membership.{no_is_not_yes}
 use Rattle.its_model.specs.Valid.{IsValid}
 use Rattle.bound_expr.specs.Views.{bound_of}
-use Rattle.outcome.specs.Reports.{Time, Timed, Untimed, Sized, Report, is_timed}
+use Rattle.outcome.specs.Reports.{Time, Timed, Untimed, Size, Sized, Unsized, Report, is_timed}
 use Rattle.outcome.specs.Holding.{IsReportOn, ReportHolds, numbered_entry, place_entry}
 use Rattle.outcome.specs.Views.{time_of}
 use Rattle.outcome.specs.declared.entry.TimeEntry.{TimeEntry}
@@ -20,14 +20,16 @@ use Rattle.proof_nodes.proofs.GoodFacts.{IsGoodTable}
 use Rattle.proof_setting.specs.Setting.{setting_of}
 use Rattle.proof_setting.proofs.Faithful.{settings-faithful}
 use Rattle.proof_tree.specs.declared.gap.Gap.{Gap}
-use Rattle.round_relation.specs.Searches.{Searches}
+use Rattle.round_relation.specs.Searches.{Searches, SizeSearches}
 use Rattle.round_relation.specs.NewTimes.{bound_in}
-use Rattle.round_relation.proofs.NewBounds.{made_by_times_is_good}
+use Rattle.round_relation.proofs.NewBounds.{made_is_good}
 use Rattle.time_bounds.specs.ProgramSearches.{searches_of_program}
+use Rattle.time_bounds.specs.ProgramSizes.{sizes_of_program}
 use Rattle.time_bounds.specs.Totals.{time_in, before, known_parts, total_of}
 use Rattle.time_bounds.specs.Laws.{TimesHold}
-use Rattle.time_bounds.specs.Analysis.{IsSaid, AreSaid, IsAnalysis}
+use Rattle.time_bounds.specs.Analysis.{IsSaid, AreSaid, IsSizeSaid, AreSizesSaid, AreRowsSaid, IsAnalysis}
 use Rattle.time_bounds.proofs.RightSearches.{program_searches_right}
+use Rattle.time_bounds.proofs.RightSizings.{program_sizes_right}
 use Rattle.time_bounds.proofs.Sums.{totals_hold}
 
 -- an entry's time is that of its report
@@ -71,6 +73,29 @@ said_at q p tab k (y ∷ times) zero x h e =
 said_at q p tab k (y ∷ times) (suc i) x h e =
     subst (λ (n : ℕ). IsSaid q p tab n x) (let z : suc k + i ≡ k + suc i = omega arith in z) (said_at q p tab (suc k) times i x h.1 e)
 
+-- what is said of each place of a rule, and of each rule's places
+size_said_at : (z : SizeSearches) (tab : nodes.Table) (t k : ℕ) (sizes : List Size) (i : ℕ) (x : Size)
+    → AreSizesSaid z tab t k sizes → slice_get sizes i ≡ Some x → IsSizeSaid z tab t (k + i) x
+size_said_at z tab t k [] i x h e = absurd (let f : ⊥ = cc in f)
+size_said_at z tab t k (y ∷ sizes) zero x h e =
+    let same : y ≡ x = cc in
+    subst (λ (n : ℕ). IsSizeSaid z tab t n x) (let q : k ≡ k + 0 = omega arith in q)
+    (subst (λ (s : Size). IsSizeSaid z tab t k s) same h.0)
+size_said_at z tab t k (y ∷ sizes) (suc i) x h e =
+    subst (λ (n : ℕ). IsSizeSaid z tab t n x) (let q : suc k + i ≡ k + suc i = omega arith in q)
+    (size_said_at z tab t (suc k) sizes i x h.1 e)
+
+row_said_at : (z : SizeSearches) (tab : nodes.Table) (k : ℕ) (rows : List (List Size)) (t : ℕ) (row : List Size)
+    → AreRowsSaid z tab k rows → slice_get rows t ≡ Some row → AreSizesSaid z tab (k + t) 1 row
+row_said_at z tab k [] t row h e = absurd (let f : ⊥ = cc in f)
+row_said_at z tab k (y ∷ rows) zero row h e =
+    let same : y ≡ row = cc in
+    subst (λ (n : ℕ). AreSizesSaid z tab n 1 row) (let q : k ≡ k + 0 = omega arith in q)
+    (subst (λ (s : List Size). AreSizesSaid z tab k 1 s) same h.0)
+row_said_at z tab k (y ∷ rows) (suc t) row h e =
+    subst (λ (n : ℕ). AreSizesSaid z tab n 1 row) (let q : suc k + t ≡ k + suc t = omega arith in q)
+    (row_said_at z tab (suc k) rows t row h.1 e)
+
 -- each known time of a list, by its position
 known_at : (times : List Time) (i : ℕ) (b : Bound) → slice_index_or (map bound_in times) i None ≡ Some b → slice_get times i ≡ Some (Timed b)
 known_at [] i b e = absurd (let f : ⊥ = cc in f)
@@ -81,12 +106,21 @@ known_at (x ∷ times) (suc i) b e = known_at times i b e
 module _ (p : Program) (pivots : ℕ) (valid : IsValid p) (r : Report) (h : IsAnalysis p pivots r) where
   good : IsGoodTable p h.table
   good =
-      made_by_times_is_good (searches_of_program p pivots) (setting_of p) (settings-faithful.each p valid) (program_searches_right.each p pivots valid)
-      h.table h.last.made
+      made_is_good (searches_of_program p pivots) (sizes_of_program p pivots) (setting_of p) (settings-faithful.each p valid)
+      (program_searches_right.each p pivots valid) (program_sizes_right.each p pivots valid) h.table h.last.made
 
   timed_at : (i : ℕ) (b : Bound) → slice_get r.times i ≡ Some (Timed b) → h.table.time (suc i) ≡ Some b
   timed_at i b e =
       ap h.table.time (let z : suc i ≡ 1 + i = omega arith in z) ∙ said_at (searches_of_program p pivots) p h.table 1 r.times i (Timed b) h.times e
+
+  sized_at : (k j : ℕ) (row : List Size) (b : Bound) → slice_get r.sizes k ≡ Some row → slice_get row j ≡ Some (Sized b)
+      → h.table.size (suc k) (suc j) ≡ Some b
+  sized_at k j row b e f =
+      let one : (n : ℕ) → suc n ≡ 1 + n = λ n. omega arith in
+      let said = row_said_at (sizes_of_program p pivots) h.table 1 r.sizes k row h.sizes e in
+      ap (λ (n : ℕ). h.table.size n (suc j)) (one k)
+      ∙ (ap (λ (n : ℕ). h.table.size (1 + k) n) (one j)
+      ∙ size_said_at (sizes_of_program p pivots) h.table (1 + k) 1 row j (Sized b) said f)
 
   times_hold : TimesHold p (map bound_in r.times)
   times_hold = record {
@@ -95,6 +129,7 @@ module _ (p : Program) (pivots : ℕ) (valid : IsValid p) (r : Report) (h : IsAn
     based = λ i b l e. (good.times (suc i) b (timed_at i b (known_at r.times i b e))).based;
   }
 
+  -- all that the report says holds
   pub report_holds : ReportHolds p r
   report_holds = record { times = times; total = total; sizes = sizes }
     where
@@ -105,19 +140,20 @@ module _ (p : Program) (pivots : ℕ) (valid : IsValid p) (r : Report) (h : IsAn
       total : (b : Bound) → r.total ≡ Some b → HoldsTotal p b
       total b e = totals_hold.each p (map bound_in r.times) b times_hold (sym h.total ∙ e)
 
-      no_entry : (t i : ℕ) → place_entry (numbered_entry r.sizes t) i ≡ None
-      no_entry zero i = refl
-      no_entry (suc t) i = ap (λ xs. place_entry (numbered_entry xs (suc t)) i) h.no_sizes
+      place : (k i : ℕ) (b : Bound) (o : Option (List Size)) → slice_get r.sizes k ≡ o → place_entry o i ≡ Some (Sized b)
+          → HoldsSize p (suc k) i b
+      place k i b None e f = absurd (let none : ⊥ = cc in none)
+      place k zero b (Some row) e f = absurd (let none : ⊥ = cc in none)
+      place k (suc j) b (Some row) e f = (good.sizes (suc k) (suc j) b (sized_at k j row b e f)).holds
 
       sizes : (t i : ℕ) (b : Bound) → place_entry (numbered_entry r.sizes t) i ≡ Some (Sized b) → HoldsSize p t i b
-      sizes t i b e = absurd (let f : None ≡ Some (Sized b) = sym (no_entry t i) ∙ e in none_some f)
-        where
-          none_some : None ≡ Some (Sized b) → ⊥
-          none_some x = cc
+      sizes zero i b e = absurd (let none : ⊥ = cc in none)
+      sizes (suc k) i b e = place k i b (slice_get r.sizes k) refl e
 
+  -- it is a report on the program
   pub report_fits : IsReportOn p r
   report_fits = record {
     times = h.one_each;
     total = subst (λ (o : Option Bound). IsTrue (list_all is_timed r.times) ↔ IsSome o) (sym h.total) (total_told r.times);
-    sizes = inl h.no_sizes;
+    sizes = inr h.places;
   }

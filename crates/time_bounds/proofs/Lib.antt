@@ -3,7 +3,6 @@ pub mod Pushed
 -- the steps of a run are at most the sum of all times
 pub mod Sums
 -- what stands at a position
-pub mod Stored
 -- the set of a rule, and its shut places
 pub mod SetLaws
 pub mod Shut
@@ -16,6 +15,7 @@ pub mod FateLaws
 pub mod FateLists
 -- the first table is that of the relation
 pub mod FirstTables
+pub mod FirstPlaces
 -- rows and answers, rule by rule
 pub mod RowLaws
 -- one more rule
@@ -28,7 +28,15 @@ pub mod Steps
 pub mod AnswerLaws
 -- the searches of a program are right
 pub mod RightSearches
+-- and those for sizes
+pub mod SpotLists
+pub mod LiveSpots
+pub mod RightComponents
+pub mod RightSizings
 -- and a program has one analysis
+pub mod SameListings
+pub mod OneSizings
+pub mod OneSizes
 pub mod OneSearches
 pub mod OneAnalysis
 -- times that are written one by one
@@ -37,10 +45,49 @@ pub mod Settling
 pub mod RoundSteps
 -- what a report is asked to say
 pub mod Found
--- what nodes rest on
+-- what stands at places
+pub mod LocalLists
+pub mod LiveLocals
+pub mod LoneComponents
+pub mod CandidateLaws
+pub mod ArmLists
+pub mod FoundComponents
+pub mod PlacedLaws
+pub mod FactWrites
+pub mod SizeSteps
+pub mod TakenAnswers
+pub mod WholeRounds
+pub mod SizeReasons
+pub mod SaidSizes
+pub mod SaidRows
+-- what ranking nodes need
 pub mod UseLists
+-- the numbers of the first lemmas
+pub mod Numbered
+-- and their order
+pub mod FirstOrder
+-- and the first lemmas are those of the relation
+pub mod FirstOnes
+-- the lemmas of a round are those of the relation
+pub mod WrittenTimes
+pub mod WrittenSizes
+pub mod WrittenRounds
+-- so are those before the first round
+pub mod WrittenFirst
+-- one more lemma at a time
+pub mod WrittenSteps
+pub mod WrittenAnswers
+pub mod WrittenCode
+-- entries carry the numbers of their lemmas
+pub mod CarriedTimes
+pub mod CarriedSizes
+-- an analysis has lemmas
+pub mod WrittenAnalysis
 -- what is found of a program is its analysis
 pub mod Analysed
+pub mod WholeAnalysis
 -- what is found can be printed
 pub mod ComposedNumbers
+pub mod SizeNumbers
 pub mod Printables
+pub mod PrintableOutcomes

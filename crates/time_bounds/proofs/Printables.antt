@@ -1,48 +1,54 @@
 -- The bounds that are found of a program are tidy, over the start arguments alone.
-use Rattle.std.proofs.Common.{◌≡◌, ◌⊎◌, inl, inr, ℕ, suc, ◌-◌, ◌≤◌, Bool, not, true, false, List, [], ◌∷◌, length, map}
-use Rattle.std.proofs.Common.{Option, Some, None, refl, sym, ◌∙◌, ap, subst, arith, All}
-use Rattle.std.specs.Option.{option_map}
-use Rattle.std.proofs.lemmas.List.Elements.{All-nil, All-cons}
+use Rattle.std.proofs.Common.{◌≡◌, ◌⊎◌, inl, inr, ℕ, zero, suc, ◌+◌, ◌-◌, ◌≤◌, Bool, not, true, false, if◌then◌else◌, List, [], ◌∷◌}
+use Rattle.std.proofs.Common.{length, map, Option, Some, None, refl, sym, ◌∙◌, ap, subst, arith, slice_get, All}
+use Rattle.std.specs.List.{AllByRecursion}
 use Rattle.model.specs.Programs.{Program, Rule, rule_at, arity_of}
-use Rattle.model.specs.Bounds.{Bound, Constant, Input, SumOf, Parts, NoParts}
+use Rattle.model.specs.Bounds.{Bound, Constant, Input, SumOf, Parts, NoParts, EachNode}
+use Rattle.model.specs.Limits.{coefficient_limit}
+use Rattle.model.specs.Terms.{Term}
+use Rattle.model.specs.Polynomials.{Polynomial}
 use Rattle.model.proofs.Membership.{no_is_not_yes}
-use Rattle.its_model.specs.Valid.{IsValid}
+use Rattle.its_model.specs.Valid.{IsValidTerm, IsValid}
+use Rattle.poly_terms.specs.Expanding.{expanded}
+use Rattle.poly_terms.specs.Ordered.{IsBounded}
+use Rattle.poly_terms.proofs.AnswerLaws.{expanded-small}
+use Rattle.guard_prep.specs.Prepared.{is_bent}
+use Rattle.guard_prep.proofs.StepLaws.{preparable}
 use Rattle.bound_expr.specs.Numbers.{IsTidyNumber, HasTidyNumbers, HaveTidyNumbers}
 use Rattle.bound_expr.specs.Numbers.{IsInputBelow, ReadsBelow, AllReadBelow}
-use Rattle.bound_expr.specs.Views.{bound_of}
-use Rattle.bound_expr.specs.declared.bound.Bound as code
 use Rattle.bound_expr.proofs.Nodes.{IsTidy-numbers}
 use Rattle.bound_table.specs.InForce.{rewritten}
 use Rattle.bound_table.proofs.TableInForce.{rewritten-tidy, rewritten-reads}
-use Rattle.proof_nodes.specs.Nodes.{RankNode}
+use Rattle.proof_nodes.specs.Nodes.{Spot, Member, RankNode}
 use Rattle.proof_nodes.specs.Known as nodes
 use Rattle.proof_nodes.specs.Setting.{Setting}
 use Rattle.proof_nodes.specs.Gaps.{SymbolPlace}
 use Rattle.proof_nodes.specs.AcceptsPlain.{IsRule, IsUnreached}
 use Rattle.proof_nodes.specs.AcceptsRank.{HasRankShape, rank_time}
-use Rattle.proof_setting.specs.Setting.{setting_of}
-use Rattle.proof_tree.specs.declared.gap.Gap.{Gap}
+use Rattle.proof_nodes.specs.AcceptsSizes.{HasMemberShape, spread_size, cycle_size}
+use Rattle.proof_setting.specs.Setting.{setting_of, polys_in, bent_at}
 use Rattle.outcome.specs.Reports as reports
 use Rattle.outcome.specs.Reports.{Timed, Untimed, NoTime, NoFunction, TimeTripped}
-use Rattle.outcome.specs.Views.{time_of, report_of}
-use Rattle.outcome.specs.Printing.{IsPrintableTime, IsPrintableSize, IsPrintableTotal, HasItsGap, IsPrintableOutcome}
-use Rattle.outcome.specs.declared.entry.TimeEntry.{TimeEntry}
-use Rattle.outcome.specs.declared.entry.TimeEntry.TheVariants as entries
-use Rattle.outcome.specs.declared.outcome_of.Outcome.{Outcome}
 use Rattle.round_relation.specs.Tables.{IsPlace}
 use Rattle.round_relation.specs.Beginning.{IsDead, First}
 use Rattle.round_relation.specs.Sets.{IsSetOfRule}
-use Rattle.round_relation.specs.Searches.{Searches, Ranking, Ranked, Unranked, RankTripped}
+use Rattle.round_relation.specs.Searches.{Searches, SizeSearches, Ranking, Ranked, Unranked, RankTripped, Sizing, Found}
+use Rattle.round_relation.specs.Searches.{NotFound}
 use Rattle.round_relation.specs.NewTimes.{SaysTime, bound_in, Tells}
-use Rattle.round_relation.specs.Rounds.{HasNewTimes, IsMadeByTimes, Begun, Made}
+use Rattle.round_relation.specs.NewSizes.{Sizes, has_spot, size_by, TriesSize, TriesSizes}
+use Rattle.round_relation.specs.Rounds.{HasNewTimes, IsMade, BegunWhole, MadeWhole}
 use Rattle.round_relation.specs.Right.{AreRight}
-use Rattle.round_relation.proofs.AcceptedRanks.{start_known, is_question}
+use Rattle.round_relation.specs.RightSizes.{AreSizesRight, IsSizing}
+use Rattle.round_relation.proofs.AcceptedRanks.{start_known_whole, is_question}
+use Rattle.round_relation.proofs.NewBounds.{unsized_by}
 use Rattle.time_bounds.specs.ProgramSearches.{searches_of_program}
+use Rattle.time_bounds.specs.ProgramSizes.{sizes_of_program}
 use Rattle.time_bounds.specs.Totals.{known_parts, total_of}
-use Rattle.time_bounds.specs.Analysis.{IsSaid, AreSaid, IsAnalysis}
 use Rattle.time_bounds.specs.PrintableLaws.{IsPrintableBound, IsPrintableTable, ArePrintable, FoundBoundsArePrintable}
 use Rattle.time_bounds.proofs.ComposedNumbers.{rank_time-each}
+use Rattle.time_bounds.proofs.SizeNumbers.{spread-each, cycle-each}
 use Rattle.time_bounds.proofs.RightSearches.{program_searches_right}
+use Rattle.time_bounds.proofs.RightSizings.{program_sizes_right}
 use Rattle.time_bounds.proofs.Sums.{first_known, total_is}
 
 same_bound : (a b : Bound) → Some a ≡ Some b → a ≡ b
@@ -71,6 +77,30 @@ composed-reads : (s : Setting) (node : RankNode) (tab : nodes.Table) (n : ℕ) �
 composed-reads s node tab n shape h =
     rank_time-each (IsInputBelow n) (λ c low. tt) (λ bs. tt) (λ bs. tt) s node tab shape
     (λ t b e. (h.times t b e).1) (λ t i b e. (h.sizes t i b e).1)
+
+-- a polynomial of an update of a valid program has small coefficients
+bent-bounded : (m : ℕ) (us : List Term) → AllByRecursion (IsValidTerm m) us → (i : ℕ) (q : Polynomial)
+    → bent_at (map expanded us) i ≡ Some q → IsBounded coefficient_limit q
+bent-bounded m [] h i q e = absurd (no_bent q e)
+  where
+    no_bent : (f : Polynomial) → None ≡ Some f → ⊥
+    no_bent f x = cc
+bent-bounded m (u ∷ us) h (suc i) q e = bent-bounded m us h.1 i q e
+bent-bounded m (u ∷ us) h zero q e = go (is_bent (expanded u)) e
+  where
+    go : (v : Bool) → (if v then Some (expanded u) else None) ≡ Some q → IsBounded coefficient_limit q
+    go true k =
+        let same : expanded u ≡ q = cc in
+        subst (IsBounded coefficient_limit) same (expanded-small u h.0.expands).coefficients
+    go false k = absurd (let none : ⊥ = cc in none)
+
+updates-bounded : (p : Program) → IsValid p → (t i : ℕ) (q : Polynomial) → (setting_of p).poly t i ≡ Some q
+    → IsBounded coefficient_limit q
+updates-bounded p valid t i q e = go (rule_at p t) refl e
+  where
+    go : (o : Option Rule) → rule_at p t ≡ o → bent_at (polys_in o) i ≡ Some q → IsBounded coefficient_limit q
+    go None k h = bent-bounded 0 [] tt i q h
+    go (Some r) k h = bent-bounded (r.left + r.free) r.updates (preparable p t r valid k).updates i q h
 
 module _ (q : Searches) (p : Program) (right : AreRight q (setting_of p)) (n : ℕ) (few : arity_of p p.start ≤ n) where
   -- constants that are no more than 1, and the start arguments
@@ -178,22 +208,96 @@ module _ (q : Searches) (p : Program) (right : AreRight q (setting_of p)) (n : �
             subst (IsPrintableBound n) (same_bound c b (sym (new.known t c k) ∙ e)) (good.times t c k)
         before None k = rule (rule_at p t) refl k
 
-  -- a table that is made by rounds of times
-  made_printable : (tab : nodes.Table) → IsMadeByTimes q (setting_of p) tab → IsPrintableTable n tab
-  made_printable tab (Begun h) = first_printable tab h
-  made_printable tab (Made {old = old} made next) =
-      let good = made_printable old made in
-      record {
-        times = times_printable old good (start_known q (setting_of p) old made) tab.time next.times;
-        sizes = λ t i b e. good.sizes t i b (sym (next.sizes t i) ∙ e);
-      }
+  -- with sizes that are searched
+  module _ (z : SizeSearches) (right_sizes : AreSizesRight q z (setting_of p)) (valid : IsValid p) where
+    -- the size that an answer gives
+    module _ (tab : nodes.Table) (good : IsPrintableTable n tab) where
+      spread_printable : (m : Member) → HasMemberShape (setting_of p) m
+          → IsPrintableBound n (rewritten (spread_size (setting_of p) tab m))
+      spread_printable m shape =
+          rewritten_printable n (spread_size (setting_of p) tab m)
+          (spread-each IsTidyNumber (λ c low. low) (λ bs. tt) (λ bs. tt) (λ bs. tt) (λ c e low. low) (setting_of p)
+          (updates-bounded p valid) tab.time tab.size (λ t b e. IsTidy-numbers b (good.times t b e).0)
+          (λ t i b e. IsTidy-numbers b (good.sizes t i b e).0) m shape)
+          (spread-each (IsInputBelow n) (λ c low. tt) (λ bs. tt) (λ bs. tt) (λ bs. tt) (λ c e low. tt) (setting_of p)
+          (updates-bounded p valid) tab.time tab.size (λ t b e. (good.times t b e).1)
+          (λ t i b e. (good.sizes t i b e).1) m shape)
+
+      cycle_printable : (ms : List Member) → All (HasMemberShape (setting_of p)) ms
+          → IsPrintableBound n (rewritten (cycle_size (setting_of p) tab ms))
+      cycle_printable ms shapes =
+          rewritten_printable n (cycle_size (setting_of p) tab ms)
+          (cycle-each IsTidyNumber (λ c low. low) (λ bs. tt) (λ bs. tt) (λ bs. tt) (λ c e low. low) (setting_of p)
+          (updates-bounded p valid) tab.time tab.size (λ t b e. IsTidy-numbers b (good.times t b e).0)
+          (λ t i b e. IsTidy-numbers b (good.sizes t i b e).0) ms shapes)
+          (cycle-each (IsInputBelow n) (λ c low. tt) (λ bs. tt) (λ bs. tt) (λ bs. tt) (λ c e low. tt) (setting_of p)
+          (updates-bounded p valid) tab.time tab.size (λ t b e. (good.times t b e).1)
+          (λ t i b e. (good.sizes t i b e).1) ms shapes)
+
+      sized_printable : (members : List Spot) (b : Bound) → IsSizing (setting_of p) tab members b → IsPrintableBound n b
+      sized_printable members b (inl x) =
+          subst (IsPrintableBound n) (sym x.bound) (spread_printable x.member x.accepted.shape)
+      sized_printable members b (inr x) =
+          subst (IsPrintableBound n) (sym x.bound) (cycle_printable x.all x.accepted.shape.each)
+
+    -- one component, and all of them in order
+    component_printable : (time : ℕ → Option Bound) (old : Sizes)
+        → IsPrintableTable n (record { time = time; size = old }) → (members : List Spot) (new : Sizes)
+        → TriesSize z time old members new → IsPrintableTable n (record { time = time; size = new })
+    component_printable time old good members new h = record { times = good.times; sizes = size }
+      where
+        given : (b : Bound) (answer : Sizing) → z.Sizes time old members answer → size_by answer ≡ Some b
+            → IsPrintableBound n b
+        given b (Found c) answered e =
+            subst (IsPrintableBound n) (same_bound c b e)
+            (sized_printable (record { time = time; size = old }) good members c
+            (right_sizes.sizes (record { time = time; size = old }) members (Found c) answered))
+        given b (NotFound w) answered e = absurd (no_bound None b refl e)
+
+        size : (t i : ℕ) (b : Bound) → new t i ≡ Some b → IsPrintableBound n b
+        size t i b e = before (old t i) refl
+          where
+            inside : (v : Bool) → has_spot members t i ≡ v → old t i ≡ None → IsPrintableBound n b
+            inside false m none = absurd (no_bound (new t i) b (h.others t i m ∙ none) e)
+            inside true m none =
+                let tried = h.tried (unsized_by members old t i m none) in
+                given b tried.0 tried.1 (sym (tried.2 t i m none) ∙ e)
+
+            before : (o : Option Bound) → old t i ≡ o → IsPrintableBound n b
+            before (Some c) k =
+                subst (IsPrintableBound n) (same_bound c b (sym (h.known t i c k) ∙ e)) (good.sizes t i c k)
+            before None k = inside (has_spot members t i) refl k
+
+    components_printable : (time : ℕ → Option Bound) (old : Sizes)
+        → IsPrintableTable n (record { time = time; size = old }) → (cs : List (List Spot)) (new : Sizes)
+        → TriesSizes z time old cs new → IsPrintableTable n (record { time = time; size = new })
+    components_printable time old good [] new h = record {
+      times = good.times;
+      sizes = λ t i b e. good.sizes t i b (sym (h t i) ∙ e);
+    }
+    components_printable time old good (c ∷ cs) new h =
+        components_printable time h.0 (component_printable time old good c h.0 h.1) cs new h.2
+
+    -- a table that is made by whole rounds
+    made_printable : (tab : nodes.Table) → IsMade q z (setting_of p) tab → IsPrintableTable n tab
+    made_printable tab (BegunWhole h) = first_printable tab h
+    made_printable tab (MadeWhole {old = old} made next) =
+        components_printable tab.time old.size (with_times (made_printable old made)) next.places.components tab.size
+        next.places.tried
+      where
+        with_times : IsPrintableTable n old → IsPrintableTable n (record { time = tab.time; size = old.size })
+        with_times good = record {
+          times = times_printable old good (start_known_whole q z (setting_of p) old made) tab.time next.rules;
+          sizes = good.sizes;
+        }
 
 -- a table of a valid program
 pub tables_printable : (p : Program) (pivots : ℕ) (tab : nodes.Table) → IsValid p
-    → IsMadeByTimes (searches_of_program p pivots) (setting_of p) tab → IsPrintableTable (length p.start_names) tab
+    → IsMade (searches_of_program p pivots) (sizes_of_program p pivots) (setting_of p) tab
+    → IsPrintableTable (length p.start_names) tab
 tables_printable p pivots tab valid made =
     made_printable (searches_of_program p pivots) p (program_searches_right.each p pivots valid) (length p.start_names)
-    (omega (arith, valid.start_places)) tab made
+    (omega (arith, valid.start_places)) (sizes_of_program p pivots) (program_sizes_right.each p pivots valid) valid tab made
 
 -- the parts of a total
 parts_printable : (n : ℕ) (os : List (Option Bound)) (ps : Parts) → known_parts os ≡ Some ps → ArePrintable n os
@@ -213,7 +317,7 @@ parts_printable n (Some b ∷ os) ps e h =
     ((IsTidy-numbers first.0 here.0, rest.0), (here.1, rest.1))
 
 -- the total of printable times
-total_printable : (n : ℕ) (times : List (Option Bound)) (b : Bound) → ArePrintable n times → total_of times ≡ Some b
+pub total_printable : (n : ℕ) (times : List (Option Bound)) (b : Bound) → ArePrintable n times → total_of times ≡ Some b
     → IsPrintableBound n b
 total_printable n times b h e =
     let total = total_is times b e in
@@ -222,58 +326,3 @@ total_printable n times b h e =
 
 pub found_printable : FoundBoundsArePrintable
 found_printable = record { tables = tables_printable; totals = total_printable }
-
--- the times that are said of the rules of a printable table
-said_printable : (n : ℕ) (q : Searches) (p : Program) (tab : nodes.Table) → IsPrintableTable n tab → (k : ℕ)
-    (times : List reports.Time) → AreSaid q p tab k times → ArePrintable n (map bound_in times)
-said_printable n q p tab good k [] h = tt
-said_printable n q p tab good k (Timed b ∷ times) h =
-    (good.times k b h.0, said_printable n q p tab good (suc k) times h.1)
-said_printable n q p tab good k (Untimed why ∷ times) h = said_printable n q p tab good (suc k) times h.1
-
--- and their entries
-entry_printable : (n : ℕ) (q : Searches) (p : Program) (tab : nodes.Table) → IsPrintableTable n tab → (k : ℕ)
-    (gaps : List Gap) (x : TimeEntry) → IsSaid q p tab k (time_of gaps x) → IsPrintableTime n x
-entry_printable n q p tab good k gaps (entries.Known s) h = good.times k (bound_of s.bound) h
-entry_printable n q p tab good k gaps (entries.Gap g) h = tt
-entry_printable n q p tab good k gaps (entries.Tripped x) h = tt
-entry_printable n q p tab good k gaps (entries.Large m) h = tt
-
-entries_printable : (n : ℕ) (q : Searches) (p : Program) (tab : nodes.Table) → IsPrintableTable n tab → (k : ℕ)
-    (gaps : List Gap) (times : List TimeEntry) → AreSaid q p tab k (map (time_of gaps) times)
-    → All (IsPrintableTime n) times
-entries_printable n q p tab good k gaps [] h = All-nil (IsPrintableTime n)
-entries_printable n q p tab good k gaps (x ∷ times) h =
-    All-cons (IsPrintableTime n) x times (entry_printable n q p tab good k gaps x h.0)
-    (entries_printable n q p tab good (suc k) gaps times h.1)
-
--- what has no images is empty
-none_mapped : {A B : Type 0} (P : A → Type 0) (f : A → B) (xs : List A) → map f xs ≡ [] → All P xs
-none_mapped P f [] e = All-nil P
-none_mapped P f (x ∷ xs) e = absurd (let none : ⊥ = cc in none)
-
--- what an analysis finds of a valid program can be printed, where the gaps that its times name are there
-pub analysis_printable : (p : Program) (pivots : ℕ) (o : Outcome) → IsValid p → IsAnalysis p pivots (report_of o)
-    → All (HasItsGap (length o.gaps.items)) o.times.items → IsPrintableOutcome (length p.start_names) o
-analysis_printable p pivots o valid h gaps = record {
-  times = entries_printable n q p h.table good 1 o.gaps.items o.times.items h.times;
-  gaps = gaps;
-  total = total o.total h.total;
-  sizes = none_mapped (λ places. All (IsPrintableSize n) places.items) _ o.sizes.items h.no_sizes;
-}
-  where
-    n : ℕ
-    n = length p.start_names
-
-    q : Searches
-    q = searches_of_program p pivots
-
-    good : IsPrintableTable n h.table
-    good = tables_printable p pivots h.table valid h.last.made
-
-    times : List (Option Bound)
-    times = map bound_in (map (time_of o.gaps.items) o.times.items)
-
-    total : (x : Option code.Bound) → option_map bound_of x ≡ total_of times → IsPrintableTotal n x
-    total None e = tt
-    total (Some b) e = total_printable n times (bound_of b) (said_printable n q p h.table good 1 _ h.times) (sym e)

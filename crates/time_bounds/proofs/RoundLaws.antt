@@ -19,14 +19,14 @@ use Rattle.round_relation.specs.Tables.{lacks, is_untimed}
 use Rattle.round_relation.specs.NewTimes.{Asked, TriesTime}
 use Rattle.round_relation.specs.Rounds.{NextTimes}
 use Rattle.time_bounds.specs.declared.asking.Asked as code
-use Rattle.time_bounds.specs.declared.table.Table.{Table}
+use Rattle.size_bounds.specs.declared.table.Table.{Table}
 use Rattle.time_bounds.specs.declared.trying.Tried.{Tried}
 use Rattle.time_bounds.specs.declared.trying.Tried.TheVariants.{Known, Found, Missing}
 use Rattle.time_bounds.specs.ProgramSearches.{searches_of_program, ranking_of}
-use Rattle.time_bounds.specs.Tables.{entry_at, row_at, bound_stored, stored_time, table_of}
+use Rattle.size_bounds.specs.Tables.{entry_at, row_at, bound_stored, stored_time, table_of}
 use Rattle.time_bounds.specs.Questions.{IsAnswered, IsAsked, AreKept, KnowsEmpty, IsTable}
 use Rattle.time_bounds.specs.Tries.{IsMissing, IsTried, AreTried, found_in, kept_in, or_found, after_round, after_tries, is_found, one_if_found, count_found, count_missing}
-use Rattle.time_bounds.proofs.Stored.{entry_past}
+use Rattle.size_bounds.proofs.Stored.{entry_past}
 
 no_bound : (o : Option Bound) (b : Bound) → o ≡ None → o ≡ Some b → ⊥
 no_bound o b e f = let x : None ≡ Some b = sym e ∙ f in cc
@@ -58,7 +58,7 @@ rule_there p i l = let r = at p.rules i l in record { rule = r.0; numbered = r.1
     at (r ∷ rules) zero l = (r, refl)
     at (r ∷ rules) (suc i) l = at rules i (omega (arith, l))
 
-stored_none : (o : Option Stored) → bound_stored o ≡ None → o ≡ None
+pub stored_none : (o : Option Stored) → bound_stored o ≡ None → o ≡ None
 stored_none None e = refl
 stored_none (Some s) e = let x : Some (bound_of s.bound) ≡ None = e in cc
 

@@ -13,11 +13,11 @@ use Rattle.rank_search.specs.RankAnswers.{answer_for, AreEmptyAnswers}
 use Rattle.round_relation.specs.Tables.{lacks, is_untimed}
 use Rattle.round_relation.specs.Rounds.{NextTimes}
 use Rattle.time_bounds.specs.declared.asking.Asked.{Asked}
-use Rattle.time_bounds.specs.declared.table.Table.{Table}
+use Rattle.size_bounds.specs.declared.table.Table.{Table}
 use Rattle.time_bounds.specs.declared.trying.Tried.{Tried}
 use Rattle.time_bounds.specs.declared.trying.Tried.TheVariants.{Known, Found, Missing}
 use Rattle.time_bounds.specs.ProgramSearches.{searches_of_program}
-use Rattle.time_bounds.specs.Tables.{entry_at, bound_stored, stored_time, table_of}
+use Rattle.size_bounds.specs.Tables.{entry_at, bound_stored, stored_time, table_of}
 use Rattle.time_bounds.specs.Questions.{IsAnswered, AreKept, KnowsEmpty, IsTable}
 use Rattle.time_bounds.specs.Tries.{AreTried, after_round, after_tries, is_found, one_if_found, count_found, count_missing}
 use Rattle.time_bounds.proofs.Settling.{tries_long}

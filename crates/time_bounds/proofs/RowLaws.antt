@@ -44,12 +44,12 @@ none_some : {A : Type 0} (a : A) → None ≡ Some a → ⊥
 none_some a e = cc
 
 -- the rule whose rows stand at a position
-record RowsAt (rules : List plain.Rule) (k : ℕ) (m : RuleRows) : Type 0 where
+pub record RowsAt (rules : List plain.Rule) (k : ℕ) (m : RuleRows) : Type 0 where
   pub rule : plain.Rule
   pub numbered : slice_get rules k ≡ Some rule
   pub same : prepared_of m ≡ prepared rule
 
-rows_at : (preps : List RuleRows) (rules : List plain.Rule) (k : ℕ) (d : RuleRows) → map prepared_of preps ≡ map prepared rules → k < length preps
+pub rows_at : (preps : List RuleRows) (rules : List plain.Rule) (k : ℕ) (d : RuleRows) → map prepared_of preps ≡ map prepared rules → k < length preps
     → RowsAt rules k (get_or preps k d)
 rows_at [] rules k d e l = absurd (omega (arith, l))
 rows_at (m ∷ preps) [] k d e l = absurd (empty_not (prepared_of m) (map prepared_of preps) (sym e))

@@ -18,8 +18,8 @@ use Rattle.rank_search.specs.RankAnswers.{IsRuleSet, MayAllRun, answer_for}
 use Rattle.round_relation.specs.Tables.{is_untimed}
 use Rattle.round_relation.specs.Sets.{IsSetOfRule}
 use Rattle.its_graph.proofs.SetMembers.{is_rule}
-use Rattle.time_bounds.specs.declared.table.Table as code
-use Rattle.time_bounds.specs.Tables.{table_of}
+use Rattle.size_bounds.specs.declared.table.Table as code
+use Rattle.size_bounds.specs.Tables.{table_of}
 use Rattle.time_bounds.specs.Questions.{AreUntimed}
 use Rattle.time_bounds.proofs.RoundLaws.{rule_there}
 

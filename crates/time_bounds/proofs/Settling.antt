@@ -5,8 +5,8 @@ use Rattle.model.proofs.Membership.{no_is_not_yes}
 use Rattle.outcome.specs.declared.entry.Stored.{Stored}
 use Rattle.time_bounds.specs.declared.trying.Tried.{Tried}
 use Rattle.time_bounds.specs.declared.trying.Tried.TheVariants.{Known, Found, Missing}
-use Rattle.time_bounds.specs.Tables.{entry_at}
-use Rattle.time_bounds.proofs.Stored.{entry_read}
+use Rattle.size_bounds.specs.Tables.{entry_at}
+use Rattle.size_bounds.proofs.Stored.{entry_read}
 use Rattle.time_bounds.specs.Tries.{found_in, or_found, after_round, after_tries, put_tried}
 
 after_nothing : (times : List (Option Stored)) → after_round times [] ≡ times

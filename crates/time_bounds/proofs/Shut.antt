@@ -13,7 +13,7 @@ use Rattle.model.proofs.Membership.{is_in-cases, slice_get-below, told_same, sam
 use Rattle.proof_nodes.specs.Gaps.{SymbolPlace}
 use Rattle.proof_nodes.specs.Known.{Table}
 use Rattle.round_relation.specs.Tables.{lacks, IsPlace}
-use Rattle.round_relation.specs.Sets.{IsShut, StandsBefore, AreInOrder, AreShutOf}
+use Rattle.round_relation.specs.Sets.{IsShut, StandsBefore, ArePlacesInOrder, AreShutOf}
 use Rattle.time_bounds.specs.Shutting.{lacks_any, at_place, shut_at, into, shut_by, shut_from}
 
 -- the first of a list, where there is one
@@ -25,7 +25,7 @@ head_weaker : (P Q : SymbolPlace → Type 0) → ((s : SymbolPlace) → P s → 
 head_weaker P Q h [] k = tt
 head_weaker P Q h (s ∷ rest) k = h s k
 
-in_order : (s : SymbolPlace) (rest : List SymbolPlace) → AreInOrder rest → Head (StandsBefore s) rest → AreInOrder (s ∷ rest)
+in_order : (s : SymbolPlace) (rest : List SymbolPlace) → ArePlacesInOrder rest → Head (StandsBefore s) rest → ArePlacesInOrder (s ∷ rest)
 in_order s [] h k = tt
 in_order s (q ∷ rest) h k = (k, h)
 
@@ -43,7 +43,7 @@ stands a i q (inr h) = inr (h.0, omega (arith, h.1))
 
 -- a list is in order, and begins no earlier
 record Ordered (P : SymbolPlace → Type 0) (xs : List SymbolPlace) : Type 0 where
-  pub order : AreInOrder xs
+  pub order : ArePlacesInOrder xs
   pub head : Head P xs
 
 -- the places of a symbol, before later symbols

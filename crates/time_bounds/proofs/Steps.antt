@@ -139,7 +139,7 @@ arity_read p a s l e =
     ∙ ap (λ (o : Option Symbol). option_map symbol_of o) (slice_get_read p.symbols.items (length p.symbols.items) a s refl l e))
 
 -- no symbol of a valid program has more than 32 places
-few_places : (symbols : List plain.Symbol) (s : ℕ) → AllByRecursion IsValidSymbol symbols → arity_in (slice_get symbols s) ≤ 32
+pub few_places : (symbols : List plain.Symbol) (s : ℕ) → AllByRecursion IsValidSymbol symbols → arity_in (slice_get symbols s) ≤ 32
 few_places [] s h = omega arith
 few_places (x ∷ symbols) zero h = h.0.arity
 few_places (x ∷ symbols) (suc s) h = few_places symbols s h.1

@@ -15,7 +15,7 @@ use Rattle.proof_nodes.specs.Known as nodes
 use Rattle.proof_tree.specs.declared.answer.EmptyAnswer.{EmptyAnswer}
 use Rattle.proof_tree.specs.declared.gap.Gap.{Gap}
 use Rattle.round_relation.specs.Searches.{Searches}
-use Rattle.time_bounds.specs.declared.table.Table.{Table}
+use Rattle.size_bounds.specs.declared.table.Table.{Table}
 use Rattle.time_bounds.specs.declared.trying.Tried.{Tried}
 use Rattle.time_bounds.specs.declared.trying.Tried.TheVariants.{Known, Found, Missing}
 use Rattle.time_bounds.specs.Tries.{IsTried, AreTried, is_found, one_if_found, count_found, IsGrown}

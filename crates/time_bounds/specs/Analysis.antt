@@ -1,17 +1,18 @@
 -- What an analysis says of a program.
 use Rattle.std.specs.Prelude.{◌≡◌, ℕ, suc, List, [], ◌∷◌, length, map, Some, ⊤}
-use Rattle.model.specs.Programs.{Program}
+use Rattle.model.specs.Programs.{Program, arity_of}
 use Rattle.bound_expr.specs.Views.{bound_of}
 use Rattle.outcome.specs.declared.entry.TimeEntry.{TimeEntry}
 use Rattle.outcome.specs.declared.entry.TimeEntry.TheVariants as entries
-use Rattle.outcome.specs.Reports.{Time, Timed, Untimed, Report}
+use Rattle.outcome.specs.Reports.{Time, Timed, Untimed, Size, Sized, Unsized, Report}
 use Rattle.proof_nodes.specs.Known.{Table}
 use Rattle.proof_setting.specs.Setting.{setting_of}
-use Rattle.round_relation.specs.Searches.{Searches}
+use Rattle.round_relation.specs.Searches.{Searches, SizeSearches}
 use Rattle.round_relation.specs.NewTimes.{bound_in}
-use Rattle.round_relation.specs.Rounds.{IsLastOfTimes}
-use Rattle.round_relation.specs.Reasons.{IsNoTime}
+use Rattle.round_relation.specs.Rounds.{IsLast}
+use Rattle.round_relation.specs.Reasons.{IsNoTime, IsNoSize}
 use Rattle.time_bounds.specs.ProgramSearches.{searches_of_program}
+use Rattle.time_bounds.specs.ProgramSizes.{sizes_of_program}
 use Rattle.time_bounds.specs.Totals.{total_of}
 
 -- what is said of the time of rule t is that of a table of the program: a time that the table has, or why it has none
@@ -31,13 +32,30 @@ IsKnownTime tab t (entries.Gap g) = ⊥
 IsKnownTime tab t (entries.Tripped x) = ⊥
 IsKnownTime tab t (entries.Large n) = ⊥
 
--- the report is that of the last of the rounds of times, over the searches of the program with so many pivots: of each
--- rule the time of the last table, or why it has none; and the rewritten sum of all times, where each rule has one. No
--- sizes are searched
+-- what is said of the size of a place after a rule is that of a table of the program: a size that the table has, or why
+-- it has none
+abbrev pub IsSizeSaid : SizeSearches → Table → ℕ → ℕ → Size → Type 0
+IsSizeSaid z tab t i (Sized b) = tab.size t i ≡ Some b
+IsSizeSaid z tab t i (Unsized why) = IsNoSize z tab t i why
+
+-- so it is of each place of rule t from i on, in order
+abbrev pub AreSizesSaid : SizeSearches → Table → ℕ → ℕ → List Size → Type 0
+AreSizesSaid z tab t i [] = ⊤
+AreSizesSaid z tab t i (x ∷ sizes) = IsSizeSaid z tab t i x × AreSizesSaid z tab t (suc i) sizes
+
+-- and of the places of each rule from t on, in order
+abbrev pub AreRowsSaid : SizeSearches → Table → ℕ → List (List Size) → Type 0
+AreRowsSaid z tab t [] = ⊤
+AreRowsSaid z tab t (row ∷ rows) = AreSizesSaid z tab t 1 row × AreRowsSaid z tab (suc t) rows
+
+-- the report is that of the last of the rounds, over the searches of the program with so many pivots: of each rule the
+-- time of the last table, or why it has none; of each place of its target the size of the last table, or why it has
+-- none; and the rewritten sum of all times, where each rule has one
 pub record IsAnalysis (p : Program) (pivots : ℕ) (r : Report) : Type 0 where
   pub table : Table
-  pub last : IsLastOfTimes (searches_of_program p pivots) (setting_of p) table
+  pub last : IsLast (searches_of_program p pivots) (sizes_of_program p pivots) (setting_of p) table
   pub one_each : length r.times ≡ length p.rules
   pub times : AreSaid (searches_of_program p pivots) p table 1 r.times
   pub total : r.total ≡ total_of (map bound_in r.times)
-  pub no_sizes : r.sizes ≡ []
+  pub places : map length r.sizes ≡ map (λ rule. arity_of p rule.target) p.rules
+  pub sizes : AreRowsSaid (sizes_of_program p pivots) table 1 r.sizes

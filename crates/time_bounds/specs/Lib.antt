@@ -3,19 +3,28 @@ pub mod Totals
 pub mod Laws
 -- the searches of a program, and tables as the code keeps them
 pub mod ProgramSearches
+pub mod ProgramSizes
 pub mod SearchLaws
-pub mod Tables
 -- what is asked of rules, and what a round makes of them
 pub mod Questions
 pub mod Tries
 pub mod Shutting
+-- what is asked of places, and what a round makes of their components
+pub mod Locals
+pub mod Candidates
+pub mod SizeWrites
+pub mod Attempts
+pub mod SizeSaid
+pub mod RoundEnds
 -- what is known before the first round
 pub mod Fates
 pub mod Beginning
 -- what an analysis says
 pub mod Analysis
--- the lemmas that are written
+-- the places that a ranking function reads
 pub mod Lemmas
+pub mod AnalysisLemmas
+pub mod Written
 -- a program has one analysis
 pub mod AnalysisLaws
 -- what is found can be printed

@@ -7,8 +7,9 @@ use Rattle.bound_expr.specs.Numbers.{ReadsBelow}
 use Rattle.bound_expr.specs.Tidy.{IsTidy}
 use Rattle.proof_nodes.specs.Known.{Table}
 use Rattle.proof_setting.specs.Setting.{setting_of}
-use Rattle.round_relation.specs.Rounds.{IsMadeByTimes}
+use Rattle.round_relation.specs.Rounds.{IsMade}
 use Rattle.time_bounds.specs.ProgramSearches.{searches_of_program}
+use Rattle.time_bounds.specs.ProgramSizes.{sizes_of_program}
 use Rattle.time_bounds.specs.Totals.{total_of}
 
 -- a bound is tidy, and its inputs are among the first n
@@ -26,10 +27,11 @@ ArePrintable n [] = ⊤
 ArePrintable n (None ∷ os) = ArePrintable n os
 ArePrintable n (Some b ∷ os) = IsPrintableBound n b × ArePrintable n os
 
--- of a valid program, all bounds of a table that is made by rounds of times are tidy, over the start arguments alone;
--- and the total of such times is one of them
+-- of a valid program, all bounds of a table that is made by whole rounds are tidy, over the start arguments alone; and
+-- the total of such times is one of them
 pub record FoundBoundsArePrintable : Type 0 where
   pub tables : (p : Program) (pivots : ℕ) (tab : Table) → IsValid p
-      → IsMadeByTimes (searches_of_program p pivots) (setting_of p) tab → IsPrintableTable (length p.start_names) tab
+      → IsMade (searches_of_program p pivots) (sizes_of_program p pivots) (setting_of p) tab
+      → IsPrintableTable (length p.start_names) tab
   pub totals : (n : ℕ) (times : List (Option Bound)) (b : Bound) → ArePrintable n times → total_of times ≡ Some b
       → IsPrintableBound n b

@@ -19,8 +19,8 @@ use Rattle.round_relation.specs.Tables.{is_untimed}
 use Rattle.round_relation.specs.Sets.{IsSetOfRule, AreShutOf}
 use Rattle.time_bounds.specs.declared.asking.Asked.{Asked}
 use Rattle.time_bounds.specs.declared.questions.Questions.{Questions}
-use Rattle.time_bounds.specs.declared.table.Table.{Table}
-use Rattle.time_bounds.specs.Tables.{table_of}
+use Rattle.size_bounds.specs.declared.table.Table.{Table}
+use Rattle.size_bounds.specs.Tables.{table_of}
 
 -- the answers for these rows, of rule k and those after it, in order
 abbrev pub AreAnswersFrom : ℕ → ℕ → List RuleRows → List EmptyAnswer → Type 0

@@ -11,10 +11,10 @@ use Rattle.proof_setting.specs.Setting.{setting_of}
 use Rattle.proof_tree.specs.declared.answer.EmptyAnswer.{EmptyAnswer}
 use Rattle.round_relation.specs.NewTimes.{SaysTime, Tells}
 use Rattle.time_bounds.specs.declared.asking.Asked.{Asked}
-use Rattle.time_bounds.specs.declared.table.Table.{Table}
+use Rattle.size_bounds.specs.declared.table.Table.{Table}
 use Rattle.time_bounds.specs.declared.trying.Tried.{Tried}
 use Rattle.time_bounds.specs.declared.trying.Tried.TheVariants.{Known, Found, Missing}
-use Rattle.time_bounds.specs.Tables.{entry_at, table_of}
+use Rattle.size_bounds.specs.Tables.{entry_at, table_of}
 use Rattle.time_bounds.specs.ProgramSearches.{searches_of_program, ranking_of}
 use Rattle.time_bounds.specs.Questions.{IsAnswered, IsAsked}
 

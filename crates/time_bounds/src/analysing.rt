@@ -7,13 +7,16 @@ ghost use Rattle.outcome.specs.Views.{report_of};
 ghost use Rattle.outcome.specs.Holding.{ReportHolds, IsReportOn};
 ghost use Rattle.outcome.specs.Printing.{IsPrintableOutcome};
 ghost use Rattle.time_bounds.specs.Analysis.{IsAnalysis};
+ghost use Rattle.time_bounds.specs.AnalysisLemmas.{HasLemmas};
 
 use crate::beginning::first_table;
+use crate::candidates::candidates;
 use crate::fates::fates;
 use crate::first_lemmas::first_lemmas;
 use crate::questions::questions_of;
 use crate::reasons::{Said, said_of};
-use crate::rounds::rounds;
+use crate::rounds::{LastRound, rounds};
+use crate::size_reasons::said_sizes;
 use crate::totals::total;
 use its_model::Program;
 use model::Memory;
@@ -21,7 +24,8 @@ use outcome::Outcome;
 use std::alloc::Global;
 
 /// What an analysis finds of a program, where each linear program may take so many pivots: of each rule a time or why
-/// there is none, the total where each rule has one, the lemmas that state them, and the gaps. No sizes are searched.
+/// there is none, and of each place after it a size or why there is none; the total where each rule has a time; the
+/// lemmas that state them, and the gaps.
 ///
 /// # Errors
 ///
@@ -32,17 +36,22 @@ pub fn analyse(alloc: Global, p: &Program, pivots: u32) -> Result<Outcome, Memor
     ensures holds { IfOk result (λ o. ReportHolds (program_of p.now) (report_of o)) }
     ensures fits { IfOk result (λ o. IsReportOn (program_of p.now) (report_of o)) }
     ensures printable { IfOk result (λ o. IsPrintableOutcome (length p.now.start_names.items) o) }
+    ensures lemmas { IfOk result (λ o. HasLemmas (program_of p.now) pivots o) }
 {
     let questions = questions_of(alloc, p, pivots)?;
     let fates = fates(alloc, p, &questions)?;
+    let candidates = candidates(alloc, p, &questions, &fates)?;
     let mut table = first_table(alloc, p, &fates)?;
     let mut lemmas = first_lemmas(alloc, p, &fates, &questions.empties, &table)?;
-    let tries = rounds(alloc, p, &questions, &mut table, &mut lemmas)?;
+    let last = rounds(alloc, p, &questions, &candidates, &mut table, &mut lemmas)?;
+    let LastRound { tries, attempts } = last;
+    let mut sizes = said_sizes(alloc, &table, &candidates, &attempts)?;
+    sizes.remove(0);
     let Said { times, gaps } = said_of(alloc, p, &questions, &table, tries)?;
     let total = total(alloc, &times)?;
     Ok(Outcome {
         times,
-        sizes: Vec::new(alloc),
+        sizes,
         total,
         lemmas,
         gaps,

@@ -4,17 +4,17 @@ ghost use Rattle.std.specs.Prelude.{◌≡◌, ◌<◌, ◌≤◌, length, true,
 ghost use Rattle.its_model.specs.Valid.{IsValid};
 ghost use Rattle.its_model.specs.Views.{program_of};
 ghost use Rattle.rank_search.specs.RankAnswers.{IsRuleSet, MayAllRun};
-ghost use Rattle.time_bounds.specs.Tables.{table_of};
+ghost use Rattle.size_bounds.specs.Tables.{table_of};
 ghost use Rattle.time_bounds.specs.Questions.{AreQuestionsOf, AreUntimed, IsAnswered, IsAsked};
 ghost use Rattle.time_bounds.specs.Questions.{IsSameQuestion, KnowsEmpty};
 
 use crate::questions::Questions;
 use crate::sets::shut_places;
-use crate::table::Table;
 use its_model::Program;
 use model::Memory;
 use proof_tree::entries;
 use rank_search::{RankAnswer, find_rank};
+use size_bounds::Table;
 use std::alloc::Global;
 
 /// A rank question that was answered: over which set, and which places were shut.

@@ -15,8 +15,8 @@ pub fn analyses_are_one()
     ensures { AnalysesAreOne }
 {}
 
-/// The law that each bound that rounds of times find of a valid program is tidy, over the start arguments alone, and so
-/// is the total of such times: all of them can be printed. It has no code: its contract is the law.
+/// The law that each bound that rounds find of a valid program is tidy, over the start arguments alone, and so is the
+/// total of such times: all of them can be printed. It has no code: its contract is the law.
 pub fn found_bounds_are_printable()
     ensures { FoundBoundsArePrintable }
 {}

@@ -9,15 +9,15 @@ ghost use Rattle.outcome.specs.Views.{time_of};
 ghost use Rattle.outcome.specs.Printing.{HasItsGap};
 ghost use Rattle.round_relation.specs.Tables.{is_untimed};
 ghost use Rattle.time_bounds.specs.ProgramSearches.{searches_of_program};
-ghost use Rattle.time_bounds.specs.Tables.{table_of};
+ghost use Rattle.size_bounds.specs.Tables.{table_of, numbers_of};
 ghost use Rattle.time_bounds.specs.Questions.{AreQuestionsOf};
 ghost use Rattle.time_bounds.specs.Tries.{IsTried, AreTried, IsMissing, is_found, IsGrown};
 ghost use Rattle.time_bounds.specs.declared.trying.Tried.TheVariants.{Missing};
 ghost use Rattle.time_bounds.specs.Analysis.{IsSaid, AreSaid, IsKnownTime};
+ghost use Rattle.time_bounds.specs.AnalysisLemmas.{CarriesTime, CarryTimes, AreGapsInOrder};
 
 use crate::asking::Asked;
 use crate::questions::Questions;
-use crate::table::Table;
 use crate::trying::Tried;
 use bound_table::Within;
 use its_model::Program;
@@ -25,6 +25,7 @@ use model::Memory;
 use outcome::{Stored, TimeEntry};
 use proof_tree::{Gap, rank_time};
 use rank_search::RankAnswer;
+use size_bounds::Table;
 use std::alloc::Global;
 
 /// What is said of each rule's time, and the gaps that are named.
@@ -52,6 +53,8 @@ pub(crate) fn said_of(
     ensures said { IfOk result (λ said. AreSaid (searches_of_program (program_of p.now) q.now.pivots) (program_of p.now)
         (table_of table.now) 1 (map (time_of said.gaps.items) said.times.items)) }
     ensures gaps { IfOk result (λ said. All (HasItsGap (length said.gaps.items)) said.times.items) }
+    ensures carried { IfOk result (λ said. CarryTimes (numbers_of table.now) 1 said.times.items) }
+    ensures in_order { IfOk result (λ said. AreGapsInOrder 0 said.times.items (length said.gaps.items)) }
 {
     let mut times = Vec::new(alloc);
     let mut gaps = Vec::new(alloc);
@@ -81,6 +84,9 @@ fn said_by(
     ensures said { IfOk result (λ entry. IsSaid (searches_of_program (program_of p.now) q.now.pivots) (program_of p.now)
         (table_of table.now) rule (time_of gaps.new.items entry)) }
     ensures gap { IfOk result (λ entry. HasItsGap (length gaps.new.items) entry) }
+    ensures carries { IfOk result (λ entry. CarriesTime (numbers_of table.now) rule entry) }
+    ensures in_order { IfOk result (λ entry. AreGapsInOrder (length gaps.old.items) (entry ∷ [])
+        (length gaps.new.items)) }
 {
     match tried {
         Tried::Missing(asked) => no_time(alloc, p, q, table, rule, asked, gaps),
@@ -92,7 +98,8 @@ fn said_by(
 // The time that the table has.
 fn known_time(alloc: Global, table: &Table, rule: u32) -> Result<TimeEntry, Memory>
     requires { is_untimed (table_of table.now) rule ≡ false }
-    ensures { IfOk result (λ entry. IsKnownTime (table_of table.now) rule entry) }
+    ensures time { IfOk result (λ entry. IsKnownTime (table_of table.now) rule entry) }
+    ensures carries { IfOk result (λ entry. CarriesTime (numbers_of table.now) rule entry) }
 {
     match table.stored_time(rule) {
         Some(stored) => Ok(TimeEntry::Known(Stored {
@@ -121,6 +128,9 @@ fn no_time(
     ensures said { IfOk result (λ entry. IsSaid (searches_of_program (program_of p.now) q.now.pivots) (program_of p.now)
         (table_of table.now) rule (time_of gaps.new.items entry)) }
     ensures gap { IfOk result (λ entry. HasItsGap (length gaps.new.items) entry) }
+    ensures carries { IfOk result (λ entry. CarriesTime (numbers_of table.now) rule entry) }
+    ensures in_order { IfOk result (λ entry. AreGapsInOrder (length gaps.old.items) (entry ∷ [])
+        (length gaps.new.items)) }
 {
     let Asked { answer, .. } = asked;
     match answer {

@@ -6,53 +6,182 @@ ghost use Rattle.std.specs.List.{list_any};
 ghost use Rattle.its_model.specs.Valid.{IsValid};
 ghost use Rattle.its_model.specs.Views.{program_of};
 ghost use Rattle.proof_setting.specs.Setting.{setting_of};
-ghost use Rattle.round_relation.specs.Rounds.{IsMadeByTimes};
+ghost use Rattle.proof_tree.specs.Views.{proof_of};
+ghost use Rattle.round_relation.specs.Rounds.{IsMade};
 ghost use Rattle.time_bounds.specs.ProgramSearches.{searches_of_program};
-ghost use Rattle.time_bounds.specs.Tables.{table_of};
+ghost use Rattle.time_bounds.specs.ProgramSizes.{sizes_of_program};
+ghost use Rattle.size_bounds.specs.Tables.{table_of};
 ghost use Rattle.time_bounds.specs.Questions.{AreQuestionsOf, AreKept, IsTable};
 ghost use Rattle.time_bounds.specs.Tries.{AreTried, is_found as was_found, count_found, count_missing};
 ghost use Rattle.time_bounds.specs.Tries.{after_tries, put_tried, kept_in};
+ghost use Rattle.time_bounds.specs.Candidates.{AreCandidatesOf};
+ghost use Rattle.time_bounds.specs.SizeWrites.{rows_of, count_unsized};
+ghost use Rattle.time_bounds.specs.Attempts.{HasPlaces, AreAttempts};
+ghost use Rattle.time_bounds.specs.RoundEnds.{IsLastRound, IsRound, missing_in};
+ghost use Rattle.time_bounds.specs.Written.{AreWritten, AreTimed};
 
 use crate::asking::Asked;
+use crate::candidates::Candidate;
 use crate::questions::Questions;
-use crate::table::Table;
+use crate::sizing::{Attempt, has_sized, try_candidates};
 use crate::trying::{Tried, try_rules};
 use its_model::Program;
 use model::Memory;
 use outcome::Stored;
 use proof_tree::Proof;
+use size_bounds::Table;
 use std::alloc::Global;
 
-/// Rounds from what is known before the first. Gives what is known after the last, and what the last made of each rule.
+/// What the last round made of each rule, and of each component.
+#[derive(Debug, Drop)]
+pub(crate) struct LastRound {
+    pub tries: Vec<Tried>,
+    pub attempts: Vec<Attempt>,
+}
+
+/// What a round comes to.
+#[derive(Debug, Drop)]
+pub(crate) enum Round {
+    /// It found nothing.
+    Last(LastRound),
+    /// It found a bound; of the rules that have no time their questions are kept.
+    Further(Vec<Option<Asked>>),
+}
+
+/// Rounds from what is known before the first. Gives what is known after the last, and what the last made of each rule
+/// and of each component.
 pub(crate) fn rounds(
     alloc: Global,
     p: &Program,
     q: &Questions,
+    candidates: &[Candidate],
     table: &mut Table,
     lemmas: &mut Vec<Proof>,
-) -> Result<Vec<Tried>, Memory>
+) -> Result<LastRound, Memory>
     requires valid { IsValid (program_of p.now) }
     requires questions { AreQuestionsOf (program_of p.now) q.now }
+    requires candidates { AreCandidatesOf (program_of p.now) q.now.pivots candidates.now }
     requires table { IsTable (program_of p.now) table.old q.now.empties.items }
-    requires made { IsMadeByTimes (searches_of_program (program_of p.now) q.now.pivots)
-        (setting_of (program_of p.now)) (table_of table.old) }
-    requires few { length lemmas.old.items + length p.now.rules.items < 2 ^ 31 }
-    ensures made { IfOk result (λ tries. IsMadeByTimes (searches_of_program (program_of p.now) q.now.pivots)
-        (setting_of (program_of p.now)) (table_of table.new)) }
-    ensures table { IfOk result (λ tries. IsTable (program_of p.now) table.new q.now.empties.items) }
-    ensures one_each { IfOk result (λ tries. length tries.items ≡ length p.now.rules.items) }
-    ensures tried { IfOk result (λ tries. AreTried (program_of p.now) table.new q.now.pivots q.now.empties.items 1
-        tries.items) }
-    ensures nothing_new { IfOk result (λ tries. list_any was_found tries.items ≡ false) }
+    requires places { HasPlaces (program_of p.now) table.old }
+    requires made { IsMade (searches_of_program (program_of p.now) q.now.pivots)
+        (sizes_of_program (program_of p.now) q.now.pivots) (setting_of (program_of p.now)) (table_of table.old) }
+    requires written { AreWritten (program_of p.now) q.now.pivots table.old (map proof_of lemmas.old.items) }
+    requires few { length lemmas.old.items + missing_in table.old < 2 ^ 31 }
+    ensures made { IfOk result (λ last. IsMade (searches_of_program (program_of p.now) q.now.pivots)
+        (sizes_of_program (program_of p.now) q.now.pivots) (setting_of (program_of p.now)) (table_of table.new)) }
+    ensures last { IfOk result (λ last. IsLastRound (program_of p.now) q.now.pivots q.now.empties.items candidates.now
+        table.new last) }
+    ensures written { IfOk result (λ last. AreWritten (program_of p.now) q.now.pivots table.new
+        (map proof_of lemmas.new.items)) }
 {
     let mut asked = nothing_asked(alloc, p.rules.len())?;
     loop {
-        let tries = try_rules(alloc, p, q, table, asked, lemmas)?;
-        if !has_found(&tries) {
-            return Ok(tries);
+        match next_round(alloc, p, q, candidates, table, lemmas, asked)? {
+            Round::Last(last) => return Ok(last),
+            Round::Further(kept) => asked = kept,
         }
-        asked = settle(alloc, table, tries)?;
     }
+}
+
+// A round: of times, and then of sizes with the new times.
+fn next_round(
+    alloc: Global,
+    p: &Program,
+    q: &Questions,
+    candidates: &[Candidate],
+    table: &mut Table,
+    lemmas: &mut Vec<Proof>,
+    asked: Vec<Option<Asked>>,
+) -> Result<Round, Memory>
+    requires valid { IsValid (program_of p.now) }
+    requires questions { AreQuestionsOf (program_of p.now) q.now }
+    requires candidates { AreCandidatesOf (program_of p.now) q.now.pivots candidates.now }
+    requires table { IsTable (program_of p.now) table.old q.now.empties.items }
+    requires places { HasPlaces (program_of p.now) table.old }
+    requires one_each { length asked.items ≡ length p.now.rules.items }
+    requires kept { AreKept (program_of p.now) q.now.pivots q.now.empties.items 1 asked.items }
+    requires written { AreWritten (program_of p.now) q.now.pivots table.old (map proof_of lemmas.old.items) }
+    requires few { length lemmas.old.items + missing_in table.old < 2 ^ 31 }
+    ensures round { IfOk result (λ r. IsRound (program_of p.now) q.now.pivots q.now.empties.items candidates.now
+        table.old table.new r) }
+    ensures lemmas { IfOk result (λ r. length lemmas.new.items + missing_in table.new
+        ≤ length lemmas.old.items + missing_in table.old) }
+    ensures written { IfOk result (λ r. AreWritten (program_of p.now) q.now.pivots table.new
+        (map proof_of lemmas.new.items)) }
+{
+    let tries = try_rules(alloc, p, q, table, asked, lemmas)?;
+    if has_found(&tries) {
+        further(alloc, p, q, candidates, table, lemmas, tries)
+    } else {
+        maybe_last(alloc, p, q, candidates, table, lemmas, tries)
+    }
+}
+
+// The rest of a round that found a time: the components are tried with the new times.
+fn further(
+    alloc: Global,
+    p: &Program,
+    q: &Questions,
+    candidates: &[Candidate],
+    table: &mut Table,
+    lemmas: &mut Vec<Proof>,
+    tries: Vec<Tried>,
+) -> Result<Round, Memory>
+    requires valid { IsValid (program_of p.now) }
+    requires questions { AreQuestionsOf (program_of p.now) q.now }
+    requires candidates { AreCandidatesOf (program_of p.now) q.now.pivots candidates.now }
+    requires table { IsTable (program_of p.now) table.old q.now.empties.items }
+    requires places { HasPlaces (program_of p.now) table.old }
+    requires one_each { length tries.items ≡ length p.now.rules.items }
+    requires tried { AreTried (program_of p.now) table.old q.now.pivots q.now.empties.items 1 tries.items }
+    requires found { list_any was_found tries.items ≡ true }
+    requires timed { AreTimed (program_of p.now) q.now.pivots table.old tries.items lemmas.old.items }
+    requires few { length lemmas.old.items + count_unsized (rows_of table.old) + 1 < 2 ^ 32 }
+    ensures round { IfOk result (λ r. IsRound (program_of p.now) q.now.pivots q.now.empties.items candidates.now
+        table.old table.new r) }
+    ensures lemmas { IfOk result (λ r. length lemmas.new.items + missing_in table.new + count_found tries.items
+        ≤ length lemmas.old.items + missing_in table.old) }
+    ensures written { IfOk result (λ r. AreWritten (program_of p.now) q.now.pivots table.new
+        (map proof_of lemmas.new.items)) }
+{
+    let kept = settle(alloc, table, tries)?;
+    try_candidates(alloc, p, q, candidates, table, lemmas)?;
+    Ok(Round::Further(kept))
+}
+
+// The rest of a round that found no time: it is the last one where it finds no size either.
+fn maybe_last(
+    alloc: Global,
+    p: &Program,
+    q: &Questions,
+    candidates: &[Candidate],
+    table: &mut Table,
+    lemmas: &mut Vec<Proof>,
+    tries: Vec<Tried>,
+) -> Result<Round, Memory>
+    requires valid { IsValid (program_of p.now) }
+    requires questions { AreQuestionsOf (program_of p.now) q.now }
+    requires candidates { AreCandidatesOf (program_of p.now) q.now.pivots candidates.now }
+    requires table { IsTable (program_of p.now) table.old q.now.empties.items }
+    requires places { HasPlaces (program_of p.now) table.old }
+    requires one_each { length tries.items ≡ length p.now.rules.items }
+    requires tried { AreTried (program_of p.now) table.old q.now.pivots q.now.empties.items 1 tries.items }
+    requires nothing { list_any was_found tries.items ≡ false }
+    requires timed { AreTimed (program_of p.now) q.now.pivots table.old tries.items lemmas.old.items }
+    requires few { length lemmas.old.items + count_unsized (rows_of table.old) + 1 < 2 ^ 32 }
+    ensures round { IfOk result (λ r. IsRound (program_of p.now) q.now.pivots q.now.empties.items candidates.now
+        table.old table.new r) }
+    ensures lemmas { IfOk result (λ r. length lemmas.new.items + missing_in table.new
+        ≤ length lemmas.old.items + missing_in table.old) }
+    ensures written { IfOk result (λ r. AreWritten (program_of p.now) q.now.pivots table.new
+        (map proof_of lemmas.new.items)) }
+{
+    let attempts = try_candidates(alloc, p, q, candidates, table, lemmas)?;
+    if !has_sized(&attempts) {
+        return Ok(Round::Last(LastRound { tries, attempts }));
+    }
+    let kept = settle(alloc, table, tries)?;
+    Ok(Round::Further(kept))
 }
 
 // No question was asked of any rule.

@@ -9,15 +9,15 @@ ghost use Rattle.its_model.specs.Views.{program_of};
 ghost use Rattle.rank_search.specs.ProgramQuestions.{places_of};
 ghost use Rattle.round_relation.specs.Sets.{AreShutOf};
 ghost use Rattle.model.specs.Entries.{entries as entries_of};
-ghost use Rattle.time_bounds.specs.Tables.{table_of, is_unstored};
+ghost use Rattle.size_bounds.specs.Tables.{table_of, is_unstored};
 ghost use Rattle.time_bounds.specs.Questions.{AreUntimed};
 ghost use Rattle.time_bounds.specs.Shutting.{lacks_any, place_if, shut_at, shut_by, shut_from, shut_marked};
 ghost use Rattle.time_bounds.specs.Shutting.{marks_of, put_mark};
 
-use crate::table::Table;
 use its_model::{Program, Symbol};
 use model::Memory;
 use proof_tree::target_of;
+use size_bounds::Table;
 use std::alloc::Global;
 
 /// Which rules have no time; the virtual entry, at 0, has one.

@@ -1,20 +1,24 @@
 // A round: each rule without a time is tried over what was known before.
 
-ghost use Rattle.std.specs.Prelude.{◌≡◌, ◌+◌, ◌-◌, ◌<◌, ◌≤◌, ◌^◌, length, IfOk, OnOk, IfSome, MatchResult};
-ghost use Rattle.std.specs.Prelude.{slice_index_or, false, true};
+ghost use Rattle.std.specs.Prelude.{◌≡◌, ◌+◌, ◌-◌, ◌<◌, ◌≤◌, ◌^◌, ◌∷◌, ◌++◌, [], length, map, IfOk, OnOk, IfSome};
+ghost use Rattle.std.specs.Prelude.{MatchResult, slice_index_or, false, true};
 ghost use Rattle.std.specs.List.{All};
+ghost use Rattle.proof_nodes.specs.Nodes.{Rank};
 ghost use Rattle.proof_tree.specs.Sizes.{IsShort};
+ghost use Rattle.proof_tree.specs.Views.{proof_of, rank_of};
 ghost use Rattle.its_model.specs.Valid.{IsValid};
 ghost use Rattle.its_model.specs.Views.{program_of};
 ghost use Rattle.round_relation.specs.Tables.{is_untimed};
-ghost use Rattle.time_bounds.specs.Tables.{table_of};
+ghost use Rattle.round_relation.specs.Uses.{uses_for, rank_needs};
+ghost use Rattle.size_bounds.specs.Tables.{table_of, numbers_of};
+ghost use Rattle.size_bounds.specs.Lemmas.{uses_seen};
 ghost use Rattle.time_bounds.specs.Questions.{AreQuestionsOf, AreUntimed, IsAnswered, IsAsked, AreKept, IsTable};
 ghost use Rattle.time_bounds.specs.Tries.{IsTried, AreTried, count_found, one_if_found};
+ghost use Rattle.time_bounds.specs.Written.{TimeFollows, TimesFollow};
 
 use crate::asking::{Asked, ask};
 use crate::questions::Questions;
 use crate::sets::untimed_rules;
-use crate::table::Table;
 use crate::uses::uses_of;
 use bound_table::Within;
 use its_model::Program;
@@ -22,6 +26,7 @@ use model::Memory;
 use outcome::Stored;
 use proof_tree::{Proof, RankNode, rank_time};
 use rank_search::RankAnswer;
+use size_bounds::Table;
 use std::alloc::Global;
 
 /// What a round made of a rule.
@@ -56,6 +61,8 @@ pub(crate) fn try_rules(
         tries.items) }
     ensures lemmas { IfOk result (λ tries. length lemmas.new.items
         ≡ length lemmas.old.items + count_found tries.items) }
+    ensures written { IfOk result (λ tries. TimesFollow (program_of p.now) q.now.pivots table.now tries.items
+        lemmas.old.items lemmas.new.items) }
 {
     let untimed = untimed_rules(alloc, table)?;
     let mut tries = Vec::new(alloc);
@@ -86,6 +93,8 @@ fn try_rule(
     requires few { length lemmas.old.items + 1 < 2 ^ 32 }
     ensures tried { IfOk result (λ x. IsTried (program_of p.now) table.now q.now.pivots q.now.empties.items rule x) }
     ensures lemmas { IfOk result (λ x. length lemmas.new.items ≡ length lemmas.old.items + one_if_found x) }
+    ensures written { IfOk result (λ x. TimeFollows (program_of p.now) q.now.pivots table.now rule x lemmas.old.items
+        lemmas.new.items) }
 {
     if !untimed[rule as usize] {
         return Ok(Tried::Known);
@@ -112,6 +121,8 @@ fn try_answer(
     requires few { length lemmas.old.items + 1 < 2 ^ 32 }
     ensures tried { IfOk result (λ x. IsTried (program_of p.now) table.now q.now.pivots q.now.empties.items rule x) }
     ensures lemmas { IfOk result (λ x. length lemmas.new.items ≡ length lemmas.old.items + one_if_found x) }
+    ensures written { IfOk result (λ x. TimeFollows (program_of p.now) q.now.pivots table.now rule x lemmas.old.items
+        lemmas.new.items) }
 {
     let Asked { set, shut, answer } = asked;
     match answer {
@@ -152,8 +163,18 @@ fn push_lemma(
     requires few { length lemmas.old.items + 1 < 2 ^ 32 }
     ensures number { IfOk result (λ n. n ≡ length lemmas.new.items) }
     ensures pushed { IfOk result (λ n. length lemmas.new.items ≡ length lemmas.old.items + 1) }
+    ensures lemma { IfOk result (λ n. map proof_of lemmas.new.items ≡ map proof_of lemmas.old.items
+        ++ Rank (rank_of node) (uses_for (numbers_of table.now) (rank_needs (program_of p.now) (rank_of node))) ∷ []) }
 {
     let uses = uses_of(alloc, p, &node, table)?;
+    lemmas.push(rank_lemma(alloc, node, uses)?)?;
+    Ok(lemmas.len() as u32)
+}
+
+// The lemma of a node, with what it rests on.
+fn rank_lemma(alloc: Global, node: RankNode, uses: Vec<Proof>) -> Result<Proof, Memory>
+    ensures { IfOk result (λ lemma. proof_of lemma ≡ Rank (rank_of node) (uses_seen uses.items)) }
+{
     let RankNode {
         rule,
         set,
@@ -172,6 +193,5 @@ fn push_lemma(
         floor,
         uses,
     };
-    lemmas.push(Proof::Rank(Box::new(alloc, whole)?))?;
-    Ok(lemmas.len() as u32)
+    Ok(Proof::Rank(Box::new(alloc, whole)?))
 }

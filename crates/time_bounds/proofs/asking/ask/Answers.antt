@@ -7,7 +7,7 @@ use Rattle.proof_nodes.specs.Gaps.{SymbolPlace}
 use Rattle.rank_search.specs.ProgramQuestions.{places_of}
 use Rattle.round_relation.specs.Sets.{IsSetOfRule, AreShutOf}
 use Rattle.time_bounds.specs.declared.asking.Asked.{Asked}
-use Rattle.time_bounds.specs.Tables.{table_of}
+use Rattle.size_bounds.specs.Tables.{table_of}
 use Rattle.time_bounds.specs.Questions.{IsAsked}
 use Rattle.time_bounds.proofs.SetLaws.{IsOpenRule, open_rule, set_of_rule, rule_set, may_all_run}
 use Rattle.time_bounds.proofs.Shut.{shut_right}

@@ -1,16 +1,17 @@
-use Rattle.std.proofs.Common.{◌≡◌, ℕ, ◌<◌, List, [], ◌∷◌, ◌++◌, length, map, replicate, get_or, Vec, Option, sym, ◌∙◌, ap, subst, arith}
+use Rattle.std.proofs.Common.{◌≡◌, ℕ, ◌<◌, List, [], ◌∷◌, ◌++◌, length, map, replicate, drop, ◌+◌, get_or, Vec, Option, sym, ◌∙◌, ap, subst, arith}
 use Rattle.std.specs.declared.alloc.Global.{Global}
 use Rattle.std.proofs.lemmas.List.{map-append}
 use Rattle.model.specs.Programs.{arity_of}
 use Rattle.model.specs.Bounds.{Bound}
 use Rattle.its_model.specs.declared.program.Rule.{Rule}
-use Rattle.its_model.specs.Views.{program_of}
+use Rattle.its_model.specs.Views.{rule_of, program_of}
 use Rattle.outcome.specs.declared.entry.Stored.{Stored}
 use Rattle.time_bounds.specs.declared.fates.Fate.TheVariants.{Empty}
-use Rattle.time_bounds.specs.Tables.{bound_stored}
-use Rattle.time_bounds.specs.Beginning.{zero_by, start_sizes}
+use Rattle.size_bounds.specs.Tables.{bound_stored, lemma_stored}
+use Rattle.time_bounds.specs.Beginning.{zero_by, start_sizes, if_zeros, size_number, size_numbers}
 use Rattle.time_bounds.proofs.Ends.{target_read, arity_read}
 use Rattle.time_bounds.proofs.FateLists.{sizes-more}
+use Rattle.time_bounds.proofs.Numbered.{size-number-more}
 use Rattle.time_bounds.proofs.beginning.first_sizes.Goals as goal
 
 pub index-requires-in-loop-position : goal.index-requires-in-loop-position
@@ -31,7 +32,7 @@ loop-position-preserved c =
     c.index-in-loop-position.ensures in
     let row : map bound_stored c.in_ok-sizes_after.field-0.items
     ≡ replicate (arity_of (program_of p) r.target) (zero_by (get_or c.args.fates.now i Empty)) =
-    c.in_ok-sizes_after.ensures ∙ ap (λ (n : ℕ). replicate n (zero_by (get_or c.args.fates.now i Empty))) (sym arity) in
+    c.in_ok-sizes_after.ensures.bounds ∙ ap (λ (n : ℕ). replicate n (zero_by (get_or c.args.fates.now i Empty))) (sym arity) in
     record {
       sizes =
           ap (map (λ (v : Vec (Option Stored) Global). map bound_stored v.items)) c.in_ok-push-2.ensures.items
@@ -41,5 +42,14 @@ loop-position-preserved c =
           rows ++ replicate (arity_of (program_of p) r.target) (zero_by (get_or c.args.fates.now i Empty)) ∷ []) c.loop-position.invariant.sizes
           ∙ ap (λ (rows : List (List (Option Bound))). start_sizes (arity_of (program_of p) p.start) ∷ rows)
           (sym (sizes-more (program_of p) c.args.fates.now p.rules.items i Empty r c.requires.one_each low read)))));
-      last = omega (arith, c.last_after-last.ensures, c.loop-position.invariant.last);
+      last = omega (arith, c.last_after-last.ensures.most, c.loop-position.invariant.last);
+      numbers =
+          ap (λ (rows : List (Vec (Option Stored) Global)). map (λ (v : Vec (Option Stored) Global). map lemma_stored v.items) rows
+          ++ size_numbers (program_of p) c.last_after-last.result (drop (i + 1) c.args.fates.now) (map rule_of (drop (i + 1) p.rules.items)))
+          c.in_ok-push-2.ensures.items
+          ∙ (size-number-more (program_of p) c.args.fates.now p.rules.items i Empty r c.loop-position.last c.last_after-last.result
+          c.loop-position.sizes.items c.in_ok-sizes_after.field-0 c.requires.one_each low read
+          (c.last_after-last.ensures.after ∙ ap (λ (n : ℕ). c.loop-position.last + if_zeros (get_or c.args.fates.now i Empty) n) (sym arity))
+          (c.in_ok-sizes_after.ensures.numbers ∙ ap (λ (n : ℕ). replicate n (size_number (get_or c.args.fates.now i Empty) c.last_after-last.result)) (sym arity))
+          ∙ c.loop-position.invariant.numbers);
     }

@@ -3,7 +3,7 @@ use denote.Ref.{Bor}
 use Rattle.model.proofs.Membership.{no_is_not_yes}
 use Rattle.outcome.specs.declared.entry.Stored.{Stored}
 use Rattle.round_relation.specs.Tables.{lacks}
-use Rattle.time_bounds.specs.Tables.{seen, bound_stored}
+use Rattle.size_bounds.specs.Tables.{seen, bound_stored}
 use Rattle.time_bounds.proofs.reasons.known_time.Goals as goal
 
 pub unreachable-requires : goal.unreachable-requires

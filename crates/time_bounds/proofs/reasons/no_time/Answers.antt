@@ -1,4 +1,5 @@
-use Rattle.std.proofs.Common.{◌≡◌, inr, refl, sym, ap, ◌∙◌, subst, length, arith}
+use Rattle.std.proofs.Common.{◌≡◌, inr, ◌+◌, List, [], ◌∷◌, refl, sym, ap, ◌∙◌, subst, length, arith}
+use Rattle.std.proofs.lemmas.List.{length-append}
 use Rattle.its_model.specs.Views.{program_of}
 use Rattle.bound_expr.specs.Views.{bound_of}
 use Rattle.bound_table.specs.Within.{answer_of}
@@ -7,9 +8,10 @@ use Rattle.outcome.specs.Views.{numbered_gap}
 use Rattle.proof_nodes.specs.Gaps.{Gap}
 use Rattle.proof_setting.specs.Setting.{setting_of}
 use Rattle.proof_tree.specs.Views.{rank_of}
+use Rattle.proof_tree.specs.declared.gap.Gap as code
 use Rattle.rank_search.specs.declared.answer.RankAnswer.{RankAnswer}
 use Rattle.round_relation.specs.NewTimes.{SaysTime}
-use Rattle.time_bounds.specs.Tables.{table_of}
+use Rattle.size_bounds.specs.Tables.{table_of}
 use Rattle.time_bounds.specs.ProgramSearches.{ranking_of}
 use Rattle.time_bounds.proofs.AnswerLaws.{large_says, no_time_of, missing_unfit}
 use Rattle.time_bounds.proofs.TriedLists.{gap_last}
@@ -51,3 +53,9 @@ pub unreachable-requires : goal.unreachable-requires
 unreachable-requires c =
     missing_unfit (program_of c.args.p.now) c.args.table.now c.args.q.now.pivots c.args.q.now.empties.items c.args.rule c.args.asked c.in-Ranked.node
     (bound_of c.in-Rewritten.field-0) c.requires.missing c.in-Ranked.is (sym (ap answer_of c.in-Rewritten.is) ∙ c.in_ok-nodes-in-Ranked.ensures)
+
+pub returns-in-NoRank-clause-in_order : goal.returns-in-NoRank-clause-in_order
+returns-in-NoRank-clause-in_order c =
+    let long = ap (λ (gs : List code.Gap). length gs) c.in_ok-push-in-NoRank.ensures.items
+    ∙ length-append c.args.gaps.now.items (c.in-NoRank.gap ∷ []) in
+    (omega (arith, long, c.len.ensures, c.push.new.self.ok.0), omega (arith, long))

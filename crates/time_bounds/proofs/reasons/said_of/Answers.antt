@@ -4,13 +4,14 @@ use Rattle.std.proofs.lemmas.Iterator.Adapters.{YieldsList-from_vec}
 use Rattle.std.proofs.lemmas.Iterator.Consumers.{YieldsList-turn}
 use Rattle.its_model.specs.Views.{program_of}
 use Rattle.time_bounds.specs.ProgramSearches.{searches_of_program}
-use Rattle.time_bounds.specs.Tables.{table_of}
+use Rattle.size_bounds.specs.Tables.{table_of, numbers_of}
 use Rattle.outcome.specs.Views.{time_of}
 use Rattle.outcome.specs.Printing.{HasItsGap}
 use Rattle.outcome.specs.declared.entry.TimeEntry.{TimeEntry}
 use Rattle.time_bounds.specs.Tries.{IsTried}
 use Rattle.time_bounds.specs.Analysis.{AreSaid}
 use Rattle.time_bounds.proofs.TriedLists.{tried_read, found_read, said_grown, gaps_grown, grown_few}
+use Rattle.time_bounds.proofs.CarriedTimes.{times_carried, gaps_ordered}
 use Rattle.time_bounds.proofs.reasons.said_of.Goals as goal
 
 pub said_by-requires-clause-tried : goal.said_by-requires-clause-tried
@@ -31,6 +32,14 @@ loop-tried-preserved c =
     let pushed = c.in_ok-push.ensures.items in
     let more = length-append c.loop-tried.yielded (c.in-Some.tried ∷ []) in
     record {
+      carried =
+          times_carried (numbers_of c.args.table.now) c.loop-tried.times.items _ c.in_ok-said_by.field-0 (c.len.result + 1)
+          c.loop-tried.invariant.carried pushed
+          (let z : c.len.result + 1 ≡ length c.loop-tried.times.items + 1 = omega (arith, c.len.ensures, c.loop-tried.times.ok.0) in z)
+          c.in_ok-said_by.ensures.carries;
+      in_order =
+          gaps_ordered c.loop-tried.times.items _ c.in_ok-said_by.field-0 (length c.loop-tried.gaps.items) (length c.said_by.new.gaps.items)
+          c.loop-tried.invariant.in_order pushed c.in_ok-said_by.ensures.in_order;
       one_each =
           omega (
             arith,

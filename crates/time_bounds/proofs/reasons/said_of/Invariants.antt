@@ -3,8 +3,9 @@ use Rattle.its_model.specs.Views.{program_of}
 use Rattle.outcome.specs.Views.{time_of}
 use Rattle.outcome.specs.Printing.{HasItsGap}
 use Rattle.time_bounds.specs.ProgramSearches.{searches_of_program}
-use Rattle.time_bounds.specs.Tables.{table_of}
+use Rattle.size_bounds.specs.Tables.{table_of, numbers_of}
 use Rattle.time_bounds.specs.Analysis.{AreSaid}
+use Rattle.time_bounds.specs.AnalysisLemmas.{CarryTimes, AreGapsInOrder}
 use Rattle.time_bounds.proofs.reasons.said_of.Given as goal
 
 abbrev pub invariant-loop-tried : goal.invariant-loop-tried
@@ -14,4 +15,6 @@ invariant-loop-tried l = record {
   said : AreSaid (searches_of_program (program_of l.p) l.q.pivots) (program_of l.p) (table_of l.table) 1
       (map (time_of l.gaps.items) l.times.items);
   gaps : All (HasItsGap (length l.gaps.items)) l.times.items;
+  carried : CarryTimes (numbers_of l.table) 1 l.times.items;
+  in_order : AreGapsInOrder 0 l.times.items (length l.gaps.items);
 }

@@ -1,5 +1,5 @@
 use Rattle.std.proofs.Common.{◌≡◌, drop}
-use Rattle.time_bounds.specs.Tables.{table_of}
+use Rattle.size_bounds.specs.Tables.{table_of}
 use Rattle.time_bounds.specs.Shutting.{lacks_any}
 use Rattle.time_bounds.proofs.sets.lacks_size.Given as goal
 

@@ -1,5 +1,5 @@
 use Rattle.std.proofs.Common.{◌≡◌, map, take}
-use Rattle.time_bounds.specs.Tables.{is_unstored}
+use Rattle.size_bounds.specs.Tables.{is_unstored}
 use Rattle.time_bounds.proofs.sets.untimed_rules.Given as goal
 
 abbrev pub invariant-loop-time : goal.invariant-loop-time

@@ -9,7 +9,19 @@ use Rattle.time_bounds.specs.declared.trying.Tried.{Tried}
 use Rattle.time_bounds.proofs.Flags.{are_untimed}
 use Rattle.time_bounds.proofs.RoundSteps.{kept_read}
 use Rattle.time_bounds.proofs.TriedLists.{tried_pushed, found_pushed, found_few}
+use Rattle.time_bounds.specs.Written.{TimesFollow}
+use Rattle.time_bounds.proofs.WrittenSteps.{no_times, one_time}
 use Rattle.time_bounds.proofs.trying.try_rules.Goals as goal
+
+pub loop-asked-init : goal.loop-asked-init
+loop-asked-init c =
+    let none = c.new-tries.ensures.items in
+    record {
+      one_each = ap (λ (xs : List Tried). length xs) none;
+      tried = subst (λ (xs : List Tried). AreTried (program_of c.args.p.now) c.args.table.now c.args.q.now.pivots c.args.q.now.empties.items 1 xs) (sym none) tt;
+      lemmas = omega (arith, ap count_found none);
+      written = no_times (program_of c.args.p.now) c.args.q.now.pivots c.args.table.now c.new-tries.result.items c.args.lemmas.now.items none;
+    }
 
 pub try_rule-requires-clause-flags : goal.try_rule-requires-clause-flags
 try_rule-requires-clause-flags c =
@@ -47,6 +59,12 @@ loop-asked-preserved c =
     (let z : c.len.result + 1 ≡ 1 + length c.loop-asked.tries.items = omega (arith, c.len.ensures, c.loop-asked.tries.ok.0) in z)
     c.in_ok-try_rule.ensures.tried in
     record {
+      written =
+          subst (λ (xs : List Tried). TimesFollow p c.args.q.now.pivots c.args.table.now xs c.args.lemmas.now.items c.try_rule.new.lemmas.items) (sym pushed)
+          (one_time p c.args.q.now.pivots c.args.table.now c.loop-asked.tries.items c.in_ok-try_rule.field-0 (c.len.result + 1) c.args.lemmas.now.items
+          c.loop-asked.lemmas.items c.try_rule.new.lemmas.items c.loop-asked.invariant.written
+          (let z : c.len.result + 1 ≡ length c.loop-asked.tries.items + 1 = omega (arith, c.len.ensures, c.loop-asked.tries.ok.0) in z)
+          c.in_ok-try_rule.ensures.written);
       one_each =
           omega (
             arith,

@@ -3,7 +3,7 @@ use Rattle.std.specs.Prelude.{ℤ, pos}
 use Rattle.std.proofs.lemmas.List.{take_more, length-take-le, map-append, append_assoc}
 use Rattle.round_relation.specs.Uses.{NeedsSize, Numbers, read_places, number_of}
 use Rattle.time_bounds.specs.Lemmas.{read_here}
-use Rattle.time_bounds.specs.Tables.{numbers_of}
+use Rattle.size_bounds.specs.Tables.{numbers_of}
 use Rattle.time_bounds.proofs.UseLists.{read-more}
 use Rattle.time_bounds.proofs.uses.push_sizes.Goals as goal
 

@@ -1,6 +1,6 @@
 use Rattle.std.proofs.Common.{◌≡◌, ◌++◌, map, take}
 use Rattle.round_relation.specs.Uses.{NeedsSize, read_places, number_of}
-use Rattle.time_bounds.specs.Tables.{numbers_of}
+use Rattle.size_bounds.specs.Tables.{numbers_of}
 use Rattle.time_bounds.proofs.uses.push_sizes.Given as goal
 
 abbrev pub invariant-loop-position : goal.invariant-loop-position

@@ -1,0 +1,441 @@
+// Local bounds that were worked out by a plain slow search over the same questions, and the first ones by hand.
+
+ghost use Rattle.std.specs.Prelude.{IfOk};
+ghost use Rattle.std.specs.List.{All};
+ghost use Rattle.its_model.specs.Valid.{IsValid};
+ghost use Rattle.its_model.specs.Views.{program_of};
+ghost use Rattle.proof_tree.specs.Composing.{AreRowsOf};
+ghost use Rattle.rank_search.specs.EmptyAnswers.{IsPrepared, SaysEmpty};
+
+use guard_prep::{RuleRows, rows};
+use its_model::Program;
+use its_reader::read;
+use local_size::{LocalAnswer, local};
+use outcome::Loose;
+use proof_tree::{Arm, EmptyAnswer, Question, Spot, Trip, TripCause};
+use rank_search::find_empty;
+use std::alloc::{AllocError, Global};
+use std::test::Fail;
+
+const PIVOTS: u32 = 10_000;
+
+// A program with these rules, from l0.
+fn program(alloc: Global, rules: &str) -> Result<Program, Fail>
+    ensures { IfOk result (λ p. IsValid (program_of p)) }
+{
+    let mut text = b"(STARTTERM (FUNCTIONSYMBOLS l0))(RULES ".to_vec(alloc)?;
+    text.extend_from_slice(rules.as_bytes())?;
+    text.push(b')')?;
+    Ok(read(alloc, &text)?)
+}
+
+// The rows of each rule, in order.
+fn all_rows(alloc: Global, p: &Program) -> Result<Vec<RuleRows>, AllocError>
+    requires { IsValid (program_of p.now) }
+    ensures { IfOk result (λ preps. AreRowsOf preps.items (program_of p.now)) }
+{
+    let mut preps = Vec::new(alloc);
+    for rule in &p.rules {
+        preps.push(rows(alloc, rule)?)?;
+    }
+    Ok(preps)
+}
+
+// The answer for a place of a rule, where this is known of the rule's rows, or else what is found of them.
+fn answer(
+    alloc: Global,
+    rules: &str,
+    spot: Spot,
+    pivots: u32,
+    known: Option<Trip>,
+) -> Result<String, Fail> {
+    let p = program(alloc, rules)?;
+    Ok(answer_in(alloc, &p, spot, pivots, known)?)
+}
+
+// The answer for a place of a rule of a program.
+fn answer_in(
+    alloc: Global,
+    p: &Program,
+    spot: Spot,
+    pivots: u32,
+    known: Option<Trip>,
+) -> Result<String, AllocError>
+    requires { IsValid (program_of p.now) }
+{
+    let preps = all_rows(alloc, p)?;
+    answer_by(alloc, &preps, spot, pivots, known)
+}
+
+// The answer for a place of a rule with these rows.
+fn answer_by(
+    alloc: Global,
+    preps: &[RuleRows],
+    spot: Spot,
+    pivots: u32,
+    known: Option<Trip>,
+) -> Result<String, AllocError>
+    requires { All IsPrepared preps.now }
+{
+    if spot.rule == 0 {
+        return String::from_str(alloc, "no rule");
+    }
+    let wanted = spot.rule as usize - 1;
+    if wanted >= preps.len() {
+        return String::from_str(alloc, "no rule");
+    }
+    let prep = &preps[wanted];
+    match known {
+        Some(trip) => asked(alloc, prep, spot, pivots, &EmptyAnswer::Tripped(trip)),
+        None => match find_empty(alloc, prep, spot.rule, pivots)? {
+            EmptyAnswer::Empty(_) => String::from_str(alloc, "empty"),
+            EmptyAnswer::Point(point) => asked(
+                alloc,
+                prep,
+                spot,
+                pivots,
+                &EmptyAnswer::Point(point),
+            ),
+            EmptyAnswer::Tripped(trip) => {
+                asked(alloc, prep, spot, pivots, &EmptyAnswer::Tripped(trip))
+            }
+        },
+    }
+}
+
+// The answer for a place, as text.
+fn asked(
+    alloc: Global,
+    prep: &RuleRows,
+    spot: Spot,
+    pivots: u32,
+    empty: &EmptyAnswer,
+) -> Result<String, AllocError>
+    requires prepared { IsPrepared prep.now }
+    requires may_run { ¬ SaysEmpty empty.now }
+{
+    if spot.place == 0 {
+        return String::from_str(alloc, "no place");
+    }
+    if spot.place as usize > prep.news.len() {
+        return String::from_str(alloc, "no place");
+    }
+    shown(alloc, &local(alloc, prep, spot, empty, pivots)?)
+}
+
+// An answer as text.
+fn shown(alloc: Global, answer: &LocalAnswer) -> Result<String, AllocError> {
+    let mut text = String::new(alloc);
+    match answer {
+        LocalAnswer::Bound(bound) => {
+            text.push_str("up ")?;
+            push_arm(alloc, &mut text, &bound.up)?;
+            text.push_str(" low ")?;
+            push_arm(alloc, &mut text, &bound.low)?;
+        }
+        LocalAnswer::Loose(loose) => push_loose(alloc, &mut text, loose)?,
+        LocalAnswer::Tripped(trip) => push_trip(alloc, &mut text, trip)?,
+    }
+    Ok(text)
+}
+
+fn push_arm(alloc: Global, text: &mut String, arm: &Arm) -> Result<(), AllocError> {
+    match arm {
+        Arm::Poly => text.push_str("poly"),
+        Arm::Linear {
+            den,
+            coefs,
+            constant,
+            multipliers,
+        } => {
+            text.push_str(&format!(in alloc; "lin {den} [")?)?;
+            for coef in coefs {
+                text.push_str(&format!(in alloc; "{coef} ")?)?;
+            }
+            text.push_str(&format!(in alloc; "{constant}] [")?)?;
+            for (position, multiplier) in multipliers.iter().enumerate() {
+                let blank = if position == 0 { "" } else { " " };
+                text.push_str(&format!(in alloc; "{blank}{multiplier}")?)?;
+            }
+            text.push_str("]")
+        }
+    }
+}
+
+fn push_numbers(alloc: Global, text: &mut String, numbers: &[i64]) -> Result<(), AllocError> {
+    text.push_str("(")?;
+    for (position, number) in numbers.iter().enumerate() {
+        let comma = if position == 0 { "" } else { ", " };
+        text.push_str(&format!(in alloc; "{comma}{number}")?)?;
+    }
+    text.push_str(")")
+}
+
+fn push_loose(alloc: Global, text: &mut String, loose: &Loose) -> Result<(), AllocError> {
+    text.push_str(if loose.up { "loose up " } else { "loose low " })?;
+    push_numbers(alloc, text, &loose.ray)?;
+    text.push_str(" ")?;
+    push_numbers(alloc, text, &loose.kept.parts)?;
+    let den = loose.kept.den;
+    text.push_str(&format!(in alloc; " / {den}")?)
+}
+
+fn push_trip(alloc: Global, text: &mut String, trip: &Trip) -> Result<(), AllocError> {
+    match trip.question {
+        Question::Empty { rule } => text.push_str(&format!(in alloc; "empty {rule} ")?)?,
+        Question::Rank { rule } => text.push_str(&format!(in alloc; "rank {rule} ")?)?,
+        Question::Local { rule, place } => {
+            text.push_str(&format!(in alloc; "local {rule}.{place} ")?)?;
+        }
+    }
+    match trip.cause {
+        TripCause::Range { pivot } => text.push_str(&format!(in alloc; "range at pivot {pivot}")?),
+        TripCause::Budget { pivots } => {
+            text.push_str(&format!(in alloc; "budget after {pivots} pivots")?)
+        }
+        TripCause::Wide { entries } => text.push_str(&format!(in alloc; "wide {entries} entries")?),
+        TripCause::Scale => text.push_str("scale"),
+    }
+}
+
+// What is shown, rules, the rule and place that are asked of, and the answer, within many pivots.
+const PLACES: &[(&str, &str, u32, u32, &str)] = &[
+    (
+        "a decrement",
+        "l0(A) -> Com_1(l1(A)) l1(A) -> Com_1(l1(A-1)) :|: A >= 1",
+        2,
+        1,
+        "up lin 1 [1 0] [0] low lin 1 [0 0] [1]",
+    ),
+    (
+        "a free variable",
+        "l0(A) -> Com_1(l1(C)) l1(A) -> Com_1(l1(A-1)) :|: A >= 1",
+        1,
+        1,
+        "loose up (0, 1) (1, 1) / 1",
+    ),
+    (
+        "a square",
+        "l0(A) -> Com_1(l1(A*A))",
+        1,
+        1,
+        "up poly low poly",
+    ),
+    (
+        "a copy",
+        "l0(A) -> Com_1(l1(A))",
+        1,
+        1,
+        "up lin 1 [1 0] [] low lin 1 [-1 0] []",
+    ),
+    (
+        "a number",
+        "l0(A) -> Com_1(l1(5))",
+        1,
+        1,
+        "up lin 1 [0 5] [] low lin 1 [0 -5] []",
+    ),
+    (
+        "a negative number",
+        "l0(A) -> Com_1(l1(0-7))",
+        1,
+        1,
+        "up lin 1 [0 -7] [] low lin 1 [0 7] []",
+    ),
+    (
+        "a value between two numbers",
+        "l0(A) -> Com_1(l1(A)) :|: A <= 9 && A >= 3",
+        1,
+        1,
+        "up lin 1 [0 9] [1 0] low lin 1 [0 -3] [0 1]",
+    ),
+    (
+        "a third at most, rounded by tightening",
+        "l0(A) -> Com_1(l1(A)) :|: 3*A <= 10",
+        1,
+        1,
+        "up lin 1 [0 3] [1] low lin 1 [-1 0] [0]",
+    ),
+    (
+        "the other argument",
+        "l0(A,B) -> Com_1(l1(B,A))",
+        1,
+        1,
+        "up lin 1 [0 1 0] [] low lin 1 [0 -1 0] []",
+    ),
+    (
+        "the other argument, at the second place",
+        "l0(A,B) -> Com_1(l1(B,A))",
+        1,
+        2,
+        "up lin 1 [1 0 0] [] low lin 1 [-1 0 0] []",
+    ),
+    (
+        "its negation",
+        "l0(A) -> Com_1(l1(-A))",
+        1,
+        1,
+        "up lin 1 [-1 0] [] low lin 1 [1 0] []",
+    ),
+    (
+        "another's negation",
+        "l0(A,B) -> Com_1(l1(-B,A))",
+        1,
+        1,
+        "up lin 1 [0 -1 0] [] low lin 1 [0 1 0] []",
+    ),
+    (
+        "below another argument",
+        "l0(A,B) -> Com_1(l1(A,C)) :|: C <= B && C >= 0 - A",
+        1,
+        2,
+        "up lin 1 [0 1 0] [1 0] low lin 1 [1 0 0] [0 1]",
+    ),
+    (
+        "a sum",
+        "l0(A,B) -> Com_1(l1(A+B,0))",
+        1,
+        1,
+        "up lin 1 [1 1 0] [] low lin 1 [-1 -1 0] []",
+    ),
+    (
+        "a double and 3",
+        "l0(A) -> Com_1(l1(2*A+3))",
+        1,
+        1,
+        "up lin 1 [2 3] [] low lin 1 [-2 -3] []",
+    ),
+    (
+        "a half",
+        "l0(A) -> Com_1(l1(C)) :|: 2*C <= A && 2*C >= A",
+        1,
+        1,
+        "up lin 2 [1 0] [1 0] low lin 2 [-1 0] [0 1]",
+    ),
+    (
+        "a third and more",
+        "l0(A,B) -> Com_1(l1(C,B)) :|: 3*C <= A + 2*B + 1 && C >= 0",
+        1,
+        1,
+        "up lin 3 [1 2 1] [1 0] low lin 1 [0 0 0] [0 1]",
+    ),
+    (
+        "a product with a free variable",
+        "l0(A) -> Com_1(l1(A*C))",
+        1,
+        1,
+        "loose up (0, 1, 1) (1, 1, 1) / 1",
+    ),
+    (
+        "the low side alone is loose",
+        "l0(A) -> Com_1(l1(C)) :|: C <= A",
+        1,
+        1,
+        "loose low (0, -1) (1, 1) / 1",
+    ),
+    (
+        "the up side alone is loose",
+        "l0(A) -> Com_1(l1(C)) :|: C >= A",
+        1,
+        1,
+        "loose up (0, 1) (1, 1) / 1",
+    ),
+    (
+        "a square after expanding",
+        "l0(A) -> Com_1(l1(A*A+C-C))",
+        1,
+        1,
+        "up poly low poly",
+    ),
+    (
+        "a square less itself",
+        "l0(A) -> Com_1(l1(A*A-A*A+A))",
+        1,
+        1,
+        "up lin 1 [1 0] [] low lin 1 [-1 0] []",
+    ),
+    (
+        "no argument at the place",
+        "l0(A) -> Com_1(l1(A,A))",
+        1,
+        2,
+        "up lin 1 [1 0] [] low lin 1 [-1 0] []",
+    ),
+    (
+        "no arguments",
+        "l0() -> Com_1(l1(3))",
+        1,
+        1,
+        "up lin 1 [3] [] low lin 1 [-3] []",
+    ),
+    (
+        "out of range",
+        "l0(A) -> Com_1(l1(A)) :|: A <= 4000000000",
+        1,
+        1,
+        "local 1.1 range at pivot 0",
+    ),
+];
+
+#[test]
+fn places_have_their_first_arms_or_are_loose(rt: HostRuntime) -> Result<(), Fail> {
+    let alloc = rt.alloc();
+    for (what, rules, rule, place, want) in PLACES {
+        let spot = Spot {
+            rule: *rule,
+            place: *place,
+        };
+        let found = answer(alloc, rules, spot, PIVOTS, None)?;
+        assert_eq!(rt; found.as_str(), *want, "at {what}");
+    }
+    Ok(())
+}
+
+// Few pivots are told of where they don't do.
+#[test]
+fn a_place_trips_where_a_question_does(rt: HostRuntime) -> Result<(), Fail> {
+    let alloc = rt.alloc();
+    let table: [(&str, u32, &str); 2] = [
+        (
+            "l0(A) -> Com_1(l1(A))",
+            0,
+            "local 1.1 budget after 0 pivots",
+        ),
+        (
+            "l0(A,B) -> Com_1(l1(A+B,0))",
+            2,
+            "local 1.1 budget after 2 pivots",
+        ),
+    ];
+    for (rules, pivots, want) in table {
+        let spot = Spot { rule: 1, place: 1 };
+        let found = answer(alloc, rules, spot, pivots, None)?;
+        assert_eq!(rt; found.as_str(), want, "at {rules}");
+    }
+    Ok(())
+}
+
+// A place without a form is tripped where the question whether the rows have a point was, and one with arms isn't.
+#[test]
+fn the_trip_of_the_emptiness_question_counts_where_no_form_is_found(
+    rt: HostRuntime,
+) -> Result<(), Fail> {
+    let alloc = rt.alloc();
+    let table: [(&str, &str); 2] = [
+        ("l0(A) -> Com_1(l1(C))", "empty 1 budget after 3 pivots"),
+        (
+            "l0(A) -> Com_1(l1(A))",
+            "up lin 1 [1 0] [] low lin 1 [-1 0] []",
+        ),
+    ];
+    for (rules, want) in table {
+        let tripped = Trip {
+            question: Question::Empty { rule: 1 },
+            cause: TripCause::Budget { pivots: 3 },
+        };
+        let spot = Spot { rule: 1, place: 1 };
+        let found = answer(alloc, rules, spot, PIVOTS, Some(tripped))?;
+        assert_eq!(rt; found.as_str(), want, "at {rules}");
+    }
+    Ok(())
+}

@@ -1,0 +1,192 @@
+-- Members with their arms, one by one.
+use Rattle.std.specs.Prelude.{slice_get, slice_index_or}
+use Rattle.std.specs.declared.alloc.Global.{Global}
+use Rattle.std.proofs.Common.{◌≡◌, ℕ, zero, suc, ◌+◌, ◌-◌, ◌<◌, ◌≤◌, Bool, true, false, Vec, get_or, List, [], ◌∷◌, ◌++◌, length, map, Option, Some, None, refl, sym, ◌∙◌, ap, subst, arith}
+use Rattle.std.specs.List.{All}
+use Rattle.std.specs.Option.{option_map}
+use Rattle.std.proofs.lemmas.List.{map-append, length-map, get_or-map}
+use Rattle.std.proofs.lemmas.List.Elements.{All-head, All-tail, All-cons, All-nil}
+use Rattle.local_size.specs.LocalAnswers.{Local, HasBound, IsLooseOn, HasTripped, local_seen}
+use Rattle.local_size.specs.declared.answer.LocalAnswer.{LocalAnswer}
+use Rattle.local_size.specs.declared.answer.LocalAnswer.TheVariants as answers
+use Rattle.outcome.specs.Reports.{NoSize, Unsized}
+use Rattle.outcome.specs.Views.{size_of}
+use Rattle.outcome.specs.declared.entry.SizeEntry.{SizeEntry}
+use Rattle.proof_nodes.specs.Nodes.{Spot, Member}
+use Rattle.proof_tree.specs.Views.{spot_of, member_of}
+use Rattle.proof_tree.specs.declared.arm.Member as code
+use Rattle.proof_tree.specs.declared.arm.Spot as code_spot
+use Rattle.rvg_components.specs.Flows.{Locals}
+use Rattle.rvg_components.specs.Listing.{answer_lists, local_in, local_from}
+use Rattle.rvg_components.specs.declared.component.Component.{Component}
+use Rattle.time_bounds.specs.declared.candidates.Candidate.{Candidate}
+use Rattle.time_bounds.specs.declared.candidates.Arms.{Arms}
+use Rattle.time_bounds.specs.declared.candidates.Arms.TheVariants as arms
+use Rattle.time_bounds.specs.ProgramSizes.{AreMembers, loose_reason, trip_reason, or_else, first_reason, lacks_arms}
+use Rattle.time_bounds.specs.Locals.{answer_in}
+use Rattle.time_bounds.specs.Candidates.{is_bound, IsMember, IsLone, AreArms, IsArmsOf, IsArmed, AreArmed}
+
+none_some : {A : Type 0} (a : A) → None ≡ Some a → ⊥
+none_some a e = cc
+
+-- one candidate more
+pub armed_more : (local : Locals) (found : List Component) (cs : List Candidate) (x : Component) (c : Candidate) → AreArmed local found cs
+    → IsArmed local x c → AreArmed local (found ++ x ∷ []) (cs ++ c ∷ [])
+armed_more local [] [] x c h a = (a, tt)
+armed_more local [] (d ∷ cs) x c h a = absurd h
+armed_more local (y ∷ found) [] x c h a = absurd h
+armed_more local (y ∷ found) (d ∷ cs) x c h a = (h.0, armed_more local found cs x c h.1 a)
+
+-- the answer that is read is that of the place
+pub local_seen_at : (locals : List (List LocalAnswer)) (t i : ℕ) (a : LocalAnswer) → answer_in locals t i ≡ Some a → local_from locals t i ≡ local_seen a
+local_seen_at locals t zero a e = absurd (none_some a e)
+local_seen_at locals t (suc i) a e = ap local_in e
+
+all_bounds : (spots : List Spot) (members : List Member) (local : Locals) (m : Member)
+    → All (λ m. local m.spot.rule m.spot.place ≡ HasBound m.local) members → local m.spot.rule m.spot.place ≡ HasBound m.local
+    → All (λ m. local m.spot.rule m.spot.place ≡ HasBound m.local) (members ++ m ∷ [])
+all_bounds spots [] local m h x =
+    All-cons (λ m. local m.spot.rule m.spot.place ≡ HasBound m.local) m [] x (All-nil (λ m. local m.spot.rule m.spot.place ≡ HasBound m.local))
+all_bounds spots (n ∷ members) local m h x =
+    All-cons (λ m. local m.spot.rule m.spot.place ≡ HasBound m.local) n (members ++ m ∷ [])
+    (All-head (λ m. local m.spot.rule m.spot.place ≡ HasBound m.local) n members h)
+    (all_bounds spots members local m (All-tail (λ m. local m.spot.rule m.spot.place ≡ HasBound m.local) n members h) x)
+
+-- no member yet, and one member more
+pub no_members : (local : Locals) (members : List Member) → members ≡ [] → AreMembers local [] members
+no_members local members e = subst (λ (ms : List Member). AreMembers local [] ms) (sym e) record {
+  spots_are = refl;
+  bounds_are = All-nil (λ m. local m.spot.rule m.spot.place ≡ HasBound m.local);
+}
+
+pub members_more : (local : Locals) (spots : List Spot) (members : List Member) (spot : Spot) (m : Member) → AreMembers local spots members
+    → IsMember local spot m → AreMembers local (spots ++ spot ∷ []) (members ++ m ∷ [])
+members_more local spots members spot m h is = record {
+  spots_are =
+      ap (λ (ss : List Spot). ss ++ spot ∷ []) h.spots_are
+      ∙ (ap (λ (s : Spot). map (λ m. m.spot) members ++ s ∷ []) (sym is.spot_is) ∙ sym (map-append (λ m. m.spot) members (m ∷ [])));
+  bounds_are =
+      all_bounds spots members local m h.bounds_are
+      (subst (λ (s : Spot). local s.rule s.place ≡ HasBound m.local) (sym is.spot_is) is.bound_is);
+}
+
+-- where no place has a reason, each has a local bound
+pub bound_where : (locals : List (List LocalAnswer)) (t i : ℕ) (a : LocalAnswer) → answer_in locals t i ≡ Some a
+    → loose_reason (local_from locals t i) ≡ None → trip_reason (local_from locals t i) ≡ None → is_bound a ≡ true
+bound_where locals t i (answers.Bound l) e no_loose no_trip = refl
+bound_where locals t i (answers.Loose l) e no_loose no_trip =
+    absurd (none_some _ (sym no_loose ∙ ap loose_reason (local_seen_at locals t i (answers.Loose l) e)))
+bound_where locals t i (answers.Tripped x) e no_loose no_trip =
+    absurd (none_some _ (sym no_trip ∙ ap trip_reason (local_seen_at locals t i (answers.Tripped x) e)))
+
+left_none : (a b : Option NoSize) → or_else a b ≡ None → a ≡ None
+left_none None b e = refl
+left_none (Some w) b e = absurd (none_some w (sym e))
+
+right_none : (a b : Option NoSize) → or_else a b ≡ None → b ≡ None
+right_none None b e = e
+right_none (Some w) b e = absurd (none_some w (sym e))
+
+-- of none of the places there is a reason, where there is none of the first
+pub each_none : (reason : Local → Option NoSize) (local : Locals) (spots : List Spot) → first_reason reason local spots ≡ None
+    → All (λ m. reason (local m.rule m.place) ≡ None) spots
+each_none reason local [] e = All-nil (λ (m : Spot). reason (local m.rule m.place) ≡ None)
+each_none reason local (m ∷ spots) e =
+    All-cons (λ (m : Spot). reason (local m.rule m.place) ≡ None) m spots
+    (left_none (reason (local m.rule m.place)) (first_reason reason local spots) e)
+    (each_none reason local spots (right_none (reason (local m.rule m.place)) (first_reason reason local spots) e))
+
+pub none_loose : (local : Locals) (spots : List Spot) → lacks_arms local spots ≡ None → All (λ m. loose_reason (local m.rule m.place) ≡ None) spots
+none_loose local spots e =
+    each_none loose_reason local spots (left_none (first_reason loose_reason local spots) (first_reason trip_reason local spots) e)
+
+pub none_tripped : (local : Locals) (spots : List Spot) → lacks_arms local spots ≡ None → All (λ m. trip_reason (local m.rule m.place) ≡ None) spots
+none_tripped local spots e =
+    each_none trip_reason local spots (right_none (first_reason loose_reason local spots) (first_reason trip_reason local spots) e)
+
+-- members that are alone, or loop
+pub arms_as : (local : Locals) (spots : List Spot) (looping : Bool) (members : List code.Member) (a : Arms) → lacks_arms local spots ≡ None
+    → AreMembers local spots (map member_of members) → IsArmsOf members looping a → AreArms local spots looping a
+arms_as local spots looping members (arms.Lacking entry) armed are h = absurd h
+arms_as local spots looping members (arms.Alone m) armed are (straight, only) =
+    (armed, straight, subst (λ (ms : List code.Member). AreMembers local spots (map member_of ms)) only are)
+arms_as local spots looping members (arms.Loop ms) armed are (turns, all) =
+    (armed, turns, subst (λ (xs : List code.Member). AreMembers local spots (map member_of xs)) (sym all) are)
+
+-- the row of answers that is read, and none past the end
+row_read : (lists : List (Vec LocalAnswer Global)) (u : ℕ) (row : Vec LocalAnswer Global) → u < length lists → row ≡ get_or lists u row
+    → slice_index_or (answer_lists lists) u [] ≡ row.items
+row_read [] u row l e = absurd (omega (arith, l))
+row_read (r ∷ lists) zero row l e = ap (λ (v : Vec LocalAnswer Global). v.items) (sym e)
+row_read (r ∷ lists) (suc u) row l e = row_read lists u row (omega (arith, l)) e
+
+row_short : (lists : List (Vec LocalAnswer Global)) (u : ℕ) (j : ℕ) (a : LocalAnswer) → slice_get (slice_index_or (answer_lists lists) u []) j ≡ Some a
+    → u < length lists
+row_short [] u j a e = absurd (none_some a e)
+row_short (r ∷ lists) zero j a e = omega arith
+row_short (r ∷ lists) (suc u) j a e = let h = row_short lists u j a e in omega (arith, h)
+
+got_short : (xs : List LocalAnswer) (j : ℕ) (a : LocalAnswer) → slice_get xs j ≡ Some a → j < length xs
+got_short [] j a e = absurd (none_some a e)
+got_short (x ∷ xs) zero a e = omega arith
+got_short (x ∷ xs) (suc j) a e = let h = got_short xs j a e in omega (arith, h)
+
+got_read : (xs : List LocalAnswer) (j : ℕ) (a x : LocalAnswer) → slice_get xs j ≡ Some a → x ≡ get_or xs j x → slice_get xs j ≡ Some x
+got_read [] j a x e h = absurd (none_some a e)
+got_read (y ∷ xs) zero a x e h = ap (λ (z : LocalAnswer). Some z) (sym h)
+got_read (y ∷ xs) (suc j) a x e h = got_read xs j a x e h
+
+-- where a place has an answer, it stands in the row of its rule
+pub answer_row : (lists : List (Vec LocalAnswer Global)) (t i : ℕ) (a : LocalAnswer) → answer_in (answer_lists lists) t i ≡ Some a
+    → (1 ≤ t) × (t - 1 < length lists) × (1 ≤ i)
+answer_row lists t zero a e = absurd (none_some a e)
+answer_row lists zero (suc j) a e = absurd (none_some a e)
+answer_row lists (suc u) (suc j) a e = let h = row_short lists u j a e in (omega arith, omega (arith, h), omega arith)
+
+pub answer_place : (lists : List (Vec LocalAnswer Global)) (t i : ℕ) (a : LocalAnswer) (row : Vec LocalAnswer Global)
+    → answer_in (answer_lists lists) t i ≡ Some a → row ≡ get_or lists (t - 1) row → i - 1 < length row.items
+answer_place lists t zero a row e h = absurd (none_some a e)
+answer_place lists zero (suc j) a row e h = absurd (none_some a e)
+answer_place lists (suc u) (suc j) a row e h =
+    let one : suc u - 1 ≡ u = omega arith in
+    let read = row_read lists u row (row_short lists u j a e) (h ∙ ap (λ (n : ℕ). get_or lists n row) one) in
+    let low = got_short row.items j a (ap (λ (xs : List LocalAnswer). slice_get xs j) (sym read) ∙ e) in
+    omega (arith, low)
+
+pub answer_read : (lists : List (Vec LocalAnswer Global)) (t i : ℕ) (a x : LocalAnswer) (row : Vec LocalAnswer Global)
+    → answer_in (answer_lists lists) t i ≡ Some a → row ≡ get_or lists (t - 1) row → x ≡ get_or row.items (i - 1) x
+    → answer_in (answer_lists lists) t i ≡ Some x
+answer_read lists t zero a x row e h k = absurd (none_some a e)
+answer_read lists zero (suc j) a x row e h k = absurd (none_some a e)
+answer_read lists (suc u) (suc j) a x row e h k =
+    let one : suc u - 1 ≡ u = omega arith in
+    let two : suc j - 1 ≡ j = omega arith in
+    let read = row_read lists u row (row_short lists u j a e) (h ∙ ap (λ (n : ℕ). get_or lists n row) one) in
+    ap (λ (xs : List LocalAnswer). slice_get xs j) read
+    ∙ got_read row.items j a x (ap (λ (xs : List LocalAnswer). slice_get xs j) (sym read) ∙ e)
+    (k ∙ ap (λ (n : ℕ). get_or row.items n x) two)
+
+-- what holds of all places holds of the one that is read
+pub of_spots : (P : Spot → Type 0) (spots : List code_spot.Spot) (i : ℕ) (d : code_spot.Spot) → All P (map spot_of spots) → i < length spots
+    → P (spot_of (get_or spots i d))
+of_spots P spots i d h l =
+    subst P (get_or-map spot_of spots i d (spot_of d) l) (h i (spot_of d) (omega (arith, l, length-map spots spot_of)))
+
+-- a reason that is told, and none
+pub lacks_told : (o : Option NoSize) (e : SizeEntry) → Some (size_of e) ≡ option_map Unsized o
+    → (why : NoSize) × (o ≡ Some why) × (size_of e ≡ Unsized why)
+lacks_told None e h = absurd (none_some (size_of e) (sym h))
+lacks_told (Some why) e h = let same : size_of e ≡ Unsized why = cc in (why, refl, same)
+
+pub lacks_not : (o : Option NoSize) → None ≡ option_map Unsized o → o ≡ None
+lacks_not None h = refl
+lacks_not (Some why) h = absurd (none_some (Unsized why) h)
+
+-- members of a list of one place are one
+pub lone_members : (local : Locals) (spots : List Spot) (looping : Bool) (members : List code.Member) → IsLone looping spots
+    → AreMembers local spots (map member_of members) → looping ≡ false → length members ≡ 1
+lone_members local spots looping members lone are straight =
+    let one = lone.only straight in
+    let long : length (map (λ m. m.spot) (map member_of members)) ≡ length (one.0 ∷ []) =
+    ap (λ (ss : List Spot). length ss) (sym are.spots_are ∙ one.1) in
+    omega (arith, long, length-map (map member_of members) (λ m. m.spot), length-map members member_of)

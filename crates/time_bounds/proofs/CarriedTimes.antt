@@ -1,0 +1,43 @@
+-- Entries of times carry the numbers of their lemmas, and gaps are numbered in order, one more at a time.
+use Rattle.std.proofs.Common.{◌≡◌, ℕ, suc, ◌+◌, List, [], ◌∷◌, ◌++◌, length, refl, sym, subst, arith}
+use Rattle.outcome.specs.declared.entry.TimeEntry.{TimeEntry}
+use Rattle.outcome.specs.declared.entry.TimeEntry.TheVariants as times
+use Rattle.proof_nodes.specs.Known.{Table}
+use Rattle.round_relation.specs.Uses.{Numbers}
+use Rattle.time_bounds.specs.Analysis.{IsKnownTime}
+use Rattle.time_bounds.specs.AnalysisLemmas.{CarriesTime, CarryTimes, AreGapsInOrder}
+
+-- one entry more carries its number
+carry_more : (ns : Numbers) (t : ℕ) (xs : List TimeEntry) (x : TimeEntry) → CarryTimes ns t xs → CarriesTime ns (t + length xs) x
+    → CarryTimes ns t (xs ++ x ∷ [])
+carry_more ns t [] x h k = (subst (λ (n : ℕ). CarriesTime ns n x) (let z : t + 0 ≡ t = omega arith in z) k, tt)
+carry_more ns t (y ∷ xs) x h k = (
+  h.0,
+  carry_more ns (suc t) xs x h.1 (subst (λ (n : ℕ). CarriesTime ns n x) (let z : t + suc (length xs) ≡ suc t + length xs = omega arith in z) k),
+)
+
+pub times_carried : (ns : Numbers) (xs new : List TimeEntry) (x : TimeEntry) (t : ℕ) → CarryTimes ns 1 xs → new ≡ xs ++ x ∷ [] → t ≡ length xs + 1
+    → CarriesTime ns t x → CarryTimes ns 1 new
+times_carried ns xs new x t h e at k =
+    subst (λ (ys : List TimeEntry). CarryTimes ns 1 ys) (sym e)
+    (carry_more ns 1 xs x h (subst (λ (n : ℕ). CarriesTime ns n x) (let z : t ≡ 1 + length xs = omega (arith, at) in z) k))
+
+-- one entry more is in the order of gaps
+order_more : (n : ℕ) (xs : List TimeEntry) (m : ℕ) (x : TimeEntry) (k : ℕ) → AreGapsInOrder n xs m → AreGapsInOrder m (x ∷ []) k
+    → AreGapsInOrder n (xs ++ x ∷ []) k
+order_more n [] m x k h g = subst (λ (j : ℕ). AreGapsInOrder j (x ∷ []) k) (sym h) g
+order_more n (times.Known s ∷ xs) m x k h g = order_more n xs m x k h g
+order_more n (times.Gap i ∷ xs) m x k h g = (h.0, order_more (suc n) xs m x k h.1 g)
+order_more n (times.Tripped t ∷ xs) m x k h g = order_more n xs m x k h g
+order_more n (times.Large l ∷ xs) m x k h g = order_more n xs m x k h g
+
+pub gaps_ordered : (xs new : List TimeEntry) (x : TimeEntry) (m k : ℕ) → AreGapsInOrder 0 xs m → new ≡ xs ++ x ∷ [] → AreGapsInOrder m (x ∷ []) k
+    → AreGapsInOrder 0 new k
+gaps_ordered xs new x m k h e g = subst (λ (ys : List TimeEntry). AreGapsInOrder 0 ys k) (sym e) (order_more 0 xs m x k h g)
+
+-- where a time is known the numbers of gaps stay
+pub known_ordered : (tab : Table) (t n : ℕ) (x : TimeEntry) → IsKnownTime tab t x → AreGapsInOrder n (x ∷ []) n
+known_ordered tab t n (times.Known s) h = refl
+known_ordered tab t n (times.Gap g) h = absurd h
+known_ordered tab t n (times.Tripped r) h = absurd h
+known_ordered tab t n (times.Large l) h = absurd h

@@ -1,0 +1,78 @@
+-- The components that are found of a program, and their arms.
+use Rattle.std.proofs.Common.{◌≡◌, ℕ, Bool, List, map, Vec, Some, sym, subst}
+use Rattle.std.specs.List.{All}
+use Rattle.std.specs.declared.alloc.Global.{Global}
+use Rattle.model.specs.Programs.{Program}
+use Rattle.its_model.specs.Valid.{IsValid}
+use Rattle.its_graph.specs.Graphs.{IsGraphOf}
+use Rattle.its_graph.specs.declared.graph.Graph.{Graph}
+use Rattle.guard_prep.specs.declared.rule_rows.RuleRows.{RuleRows}
+use Rattle.local_size.specs.declared.answer.LocalAnswer.{LocalAnswer}
+use Rattle.proof_setting.specs.Setting.{setting_of}
+use Rattle.proof_tree.specs.Composing.{AreRowsOf}
+use Rattle.rvg_components.specs.declared.component.Component.{Component}
+use Rattle.rvg_components.specs.Listing.{answer_lists, is_flagged, local_from, members_of, AreLocalsFor, IsGiven, AreComponents, SaysWhetherItLoops}
+use Rattle.time_bounds.specs.declared.candidates.Candidate.{Candidate}
+use Rattle.time_bounds.specs.declared.fates.Fate.{Fate}
+use Rattle.time_bounds.specs.ProgramSearches.{searches_of_program}
+use Rattle.time_bounds.specs.Fates.{AreFates}
+use Rattle.time_bounds.specs.Locals.{is_live_fate, AreAllAnswers, answer_in}
+use Rattle.time_bounds.specs.Candidates.{IsAnswered, AreArmed, AreCandidatesOf}
+use Rattle.time_bounds.proofs.CandidateLaws.{candidates_of, answered_all, all_answered}
+use Rattle.time_bounds.proofs.LocalLists.{lives, locals, locals_for, answer_here}
+
+-- what the search for components is given of a program
+pub record Handed (p : Program) (pivots : ℕ) (fates : List Fate) (g : Graph) (preps : List RuleRows) (lists : List (Vec LocalAnswer Global))
+    (live : List Bool) : Type 0 where
+  pub valid : IsValid p
+  pub graph : IsGraphOf g p
+  pub rows : AreRowsOf preps p
+  pub fates_are : AreFates (searches_of_program p pivots) p fates
+  pub answers : AreAllAnswers p pivots 1 fates (answer_lists lists)
+  pub live_are : live ≡ map is_live_fate fates
+
+pub handed : (p : Program) (pivots : ℕ) (fates : List Fate) (g : Graph) (old preps : List RuleRows) (had lists : List (Vec LocalAnswer Global))
+    (live : List Bool) → IsValid p → IsGraphOf g p → AreRowsOf old p → AreFates (searches_of_program p pivots) p fates
+    → AreAllAnswers p pivots 1 fates (answer_lists had) → preps ≡ old → lists ≡ had → live ≡ map is_live_fate fates
+    → Handed p pivots fates g preps lists live
+handed p pivots fates g old preps had lists live valid graph rows are all e f h = record {
+  valid = valid;
+  graph = graph;
+  rows = subst (λ (xs : List RuleRows). AreRowsOf xs p) (sym e) rows;
+  fates_are = are;
+  answers = subst (λ (xs : List (Vec LocalAnswer Global)). AreAllAnswers p pivots 1 fates (answer_lists xs)) (sym f) all;
+  live_are = h;
+}
+
+module _ (p : Program) (pivots : ℕ) (fates : List Fate) (g : Graph) (preps : List RuleRows) (lists : List (Vec LocalAnswer Global)) (live : List Bool)
+    (h : Handed p pivots fates g preps lists live) where
+  pub given : IsGiven p g preps (answer_lists lists) live
+  given = record {
+    valid = h.valid;
+    graph = h.graph;
+    rows = h.rows;
+    locals_for = subst (λ (xs : List Bool). AreLocalsFor p (answer_lists lists) xs) (sym h.live_are) (locals_for p pivots fates (answer_lists lists) h.fates_are h.answers);
+  }
+
+  module _ (found : List Component)
+      (components : AreComponents (setting_of p) (is_flagged live) (local_from (answer_lists lists)) (map members_of found))
+      (looping : All (SaysWhetherItLoops (setting_of p) (local_from (answer_lists lists))) found) where
+    of_fates : AreComponents (setting_of p) (is_flagged (map is_live_fate fates)) (local_from (answer_lists lists)) (map members_of found)
+    of_fates =
+        subst (λ (xs : List Bool). AreComponents (setting_of p) (is_flagged xs) (local_from (answer_lists lists)) (map members_of found)) h.live_are components
+
+    -- each of the components has answers
+    pub found_answered : All (IsAnswered (answer_lists lists)) found
+    found_answered =
+        all_answered (setting_of p) (is_flagged (map is_live_fate fates)) (answer_lists lists) found of_fates
+        (answered_all p pivots h.valid (is_flagged (map is_live_fate fates)) (lives p pivots fates (answer_lists lists) h.fates_are h.answers)
+        (local_from (answer_lists lists)) (locals p pivots fates (answer_lists lists) h.fates_are h.answers) found of_fates
+        (λ m. (a : LocalAnswer) × (answer_in (answer_lists lists) m.rule m.place ≡ Some a))
+        (λ t i l place. let x = answer_here p pivots fates (answer_lists lists) h.fates_are h.answers t i l place in (x.0, x.1)))
+        looping
+
+    -- with their arms they are the program's
+    pub found_candidates : (cs : List Candidate) → AreArmed (local_from (answer_lists lists)) found cs → AreCandidatesOf p pivots cs
+    found_candidates cs armed =
+        candidates_of p pivots h.valid (is_flagged (map is_live_fate fates)) (lives p pivots fates (answer_lists lists) h.fates_are h.answers)
+        (local_from (answer_lists lists)) (locals p pivots fates (answer_lists lists) h.fates_are h.answers) found of_fates cs looping armed

@@ -1,0 +1,81 @@
+-- The answers for the places of a live rule, by what is read of the rule.
+use Rattle.std.proofs.Common.{◌≡◌, ℕ, suc, ◌+◌, ◌<◌, List, [], length, map, get_or, Option, Some, refl, sym, ◌∙◌, ap, subst, arith}
+use Rattle.std.specs.Prelude.{slice_get, IfOk}
+use Rattle.std.specs.declared.result.Result.{Result}
+use Rattle.std.specs.declared.result.Result.TheVariants.{Ok, Err}
+use Rattle.std.proofs.lemmas.List.{length-map}
+use Rattle.std.proofs.lemmas.Option.{slice_get_read}
+use Rattle.model.specs.Programs as plain
+use Rattle.model.specs.Programs.{rule_at, arity_of}
+use Rattle.its_model.specs.declared.program.Symbol.{Symbol}
+use Rattle.its_model.specs.declared.program.Rule.{Rule}
+use Rattle.its_model.specs.declared.program.Program.{Program}
+use Rattle.its_model.specs.Valid.{IsValid}
+use Rattle.its_model.specs.Views.{rule_of, program_of}
+use Rattle.guard_prep.specs.declared.rule_rows.RuleRows.{RuleRows}
+use Rattle.guard_prep.specs.Prepared.{Prepared, prepared}
+use Rattle.guard_prep.specs.Views.{prepared_of}
+use Rattle.guard_prep.proofs.StepLaws.{preparable}
+use Rattle.local_size.specs.declared.answer.LocalAnswer.{LocalAnswer}
+use Rattle.poly_terms.specs.Views.{form_of}
+use Rattle.proof_tree.specs.Composing.{AreRowsOf}
+use Rattle.proof_tree.specs.declared.answer.EmptyAnswer.{EmptyAnswer}
+use Rattle.rank_search.specs.EmptyAnswers.{IsPrepared, IsEmptyAnswer}
+use Rattle.rank_search.specs.RankAnswers.{AreEmptyAnswers}
+use Rattle.rank_search.proofs.RankSets.{rule-of}
+use Rattle.time_bounds.specs.declared.fates.Fate.{Fate}
+use Rattle.time_bounds.specs.Locals.{AreAnswersAt, AreAnswersAfter}
+use Rattle.time_bounds.proofs.Ends.{target_read, arity_read}
+use Rattle.time_bounds.proofs.LocalLists.{answers_after}
+use Rattle.time_bounds.proofs.RowLaws.{RowsAt, rows_at, rows_length, rule_read}
+
+some_same : {A : Type 0} (a b : A) → Some a ≡ Some b → a ≡ b
+some_same a b e = cc
+
+-- two clauses of a result together
+pub all_two : {T E : Type 0} (r : Result T E) (P Q S : T → Type 0) → ((x : T) → P x → Q x → S x) → IfOk r P → IfOk r Q → IfOk r S
+all_two (Ok x) P Q S f p q = f x p q
+all_two (Err e) P Q S f p q = tt
+
+module _ (p : Program) (pivots : ℕ) (valid : IsValid (program_of p)) (preps : List RuleRows) (rows : AreRowsOf preps (program_of p))
+    (empties : List EmptyAnswer) (known : AreEmptyAnswers (program_of p) pivots empties) (i : ℕ) (low : i < length p.rules.items) (r : Rule)
+    (r_is : r ≡ get_or p.rules.items i r) (m : RuleRows) (m_is : m ≡ get_or preps i m) (e : EmptyAnswer) (e_is : e ≡ get_or empties i e) where
+  at : RowsAt (program_of p).rules i m
+  at =
+      subst (λ (x : RuleRows). RowsAt (program_of p).rules i x) (sym m_is)
+      (rows_at preps (program_of p).rules i m rows (omega (arith, low, rows_length (program_of p) preps rows, length-map p.rules.items rule_of)))
+
+  numbered : rule_at (program_of p) (suc i) ≡ Some (rule_of r)
+  numbered = rule_read p i r low r_is
+
+  same_rule : at.rule ≡ rule_of r
+  same_rule = some_same at.rule (rule_of r) (sym at.numbered ∙ numbered)
+
+  same : prepared_of m ≡ prepared (rule_of r)
+  same = at.same ∙ ap prepared same_rule
+
+  pub prep_prepared : IsPrepared m
+  prep_prepared = record { rule = rule_of r; preparable = preparable (program_of p) (suc i) (rule_of r) valid numbered; same = same }
+
+  -- the rows have a new value for each place
+  pub prep_places : (x : Symbol) → x ≡ get_or p.symbols.items r.target x → length m.news.items ≡ x.arity
+  prep_places x k =
+      sym (length-map m.news.items form_of)
+      ∙ (ap (λ (y : Prepared). length y.news) same
+      ∙ ((rule-of (program_of p) [] 0 [] (suc i) (rule_of r) valid numbered).values
+      ∙ arity_read p r.target x (target_read p valid i r low r_is) k))
+
+  pub empty_got : slice_get empties i ≡ Some e
+  empty_got =
+      slice_get_read empties (length empties) i e refl (omega (arith, low, known.one_each, length-map p.rules.items rule_of)) e_is
+
+  -- so these answers are those of the rule
+  pub live_after : (f : Fate) (answers : List LocalAnswer) (x : Symbol) → x ≡ get_or p.symbols.items r.target x → length answers ≡ x.arity
+      → AreAnswersAt (prepared_of m) (i + 1) pivots e 1 answers → AreAnswersAfter (program_of p) pivots (i + 1) f answers
+  live_after f answers x k long h =
+      let next : i + 1 ≡ suc i = omega arith in
+      subst (λ (n : ℕ). AreAnswersAfter (program_of p) pivots n f answers) (sym next)
+      (answers_after (program_of p) pivots i (rule_of r) f e answers numbered (known.each (suc i) (rule_of r) e numbered empty_got)
+      (long ∙ sym (arity_read p r.target x (target_read p valid i r low r_is) k))
+      (subst (λ (y : Prepared). AreAnswersAt y (suc i) pivots e 1 answers) same
+      (subst (λ (n : ℕ). AreAnswersAt (prepared_of m) n pivots e 1 answers) next h)))

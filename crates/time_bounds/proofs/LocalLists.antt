@@ -1,0 +1,252 @@
+-- Lists of answers for the places of live rules are what is answered of them.
+use Rattle.std.proofs.Common.{◌≡◌, ◌↔◌, ℕ, zero, suc, ◌+◌, ◌<◌, ◌≤◌, Bool, true, false, not, List, [], ◌∷◌, ◌++◌, length, map, Option, Some, None, refl, sym, ◌∙◌, ap, subst, arith}
+use Rattle.std.specs.Prelude.{slice_get, slice_index_or}
+use Rattle.std.proofs.lemmas.List.{length-map}
+use Rattle.model.specs.Programs.{Program, Rule, rule_at, arity_of}
+use Rattle.model.specs.Paths.{target_of, target_in}
+use Rattle.model.proofs.Membership.{no_is_not_yes}
+use Rattle.its_model.specs.Valid.{IsValid}
+use Rattle.guard_prep.specs.Prepared.{Prepared, prepared}
+use Rattle.proof_nodes.specs.AcceptsPlain.{IsRule}
+use Rattle.proof_tree.specs.declared.answer.EmptyAnswer.{EmptyAnswer}
+use Rattle.proof_tree.specs.declared.answer.EmptyAnswer.TheVariants as empty
+use Rattle.rank_search.specs.EmptyAnswers.{IsEmptyAnswer, SaysEmpty}
+use Rattle.rank_search.specs.RankAnswers.{AreEmptyAnswers}
+use Rattle.local_size.specs.LocalAnswers.{IsLocal, local_seen}
+use Rattle.local_size.specs.declared.answer.LocalAnswer.{LocalAnswer}
+use Rattle.round_relation.specs.Tables.{IsPlace}
+use Rattle.round_relation.specs.Beginning.{IsDead, IsEmpty}
+use Rattle.rvg_components.specs.Listing.{answers_for, local_in, local_from, is_flagged, AreLocalsFor}
+use Rattle.time_bounds.specs.declared.fates.Fate.{Fate}
+use Rattle.time_bounds.specs.declared.fates.Fate.TheVariants.{Empty, Unreached, Live}
+use Rattle.time_bounds.specs.ProgramSearches.{searches_of_program}
+use Rattle.time_bounds.specs.ProgramSizes.{spot, AreLive, IsLocalOf, AreLocals}
+use Rattle.time_bounds.specs.Fates.{AreFates, fate_at, is_empty_fate, is_dead_fate}
+use Rattle.time_bounds.specs.Locals.{is_live_fate, AreAnswersAt, AreAnswersAfter, AreAllAnswers, answer_in}
+use Rattle.time_bounds.proofs.RoundLaws.{rule_below, rule_there}
+
+none_some : {A : Type 0} (a : A) → None ≡ Some a → ⊥
+none_some a e = cc
+
+some_same : {A : Type 0} (a b : A) → Some a ≡ Some b → a ≡ b
+some_same a b e = cc
+
+-- one answer more of a rule
+pub answer_more : (m : Prepared) (t pivots : ℕ) (e : EmptyAnswer) (i : ℕ) (answers : List LocalAnswer) (a : LocalAnswer) → AreAnswersAt m t pivots e i answers
+    → IsLocal m (spot t (i + length answers)) pivots e (local_seen a) → AreAnswersAt m t pivots e i (answers ++ a ∷ [])
+answer_more m t pivots e i [] a h x =
+    (subst (λ (n : ℕ). IsLocal m (spot t n) pivots e (local_seen a)) (let z : i + 0 ≡ i = omega arith in z) x, tt)
+answer_more m t pivots e i (b ∷ answers) a h x = (
+  h.0,
+  answer_more m t pivots e (suc i) answers a h.1
+      (subst (λ (n : ℕ). IsLocal m (spot t n) pivots e (local_seen a)) (let z : i + suc (length answers) ≡ suc i + length answers = omega arith in z) x),
+)
+
+answer_of_place : (m : Prepared) (t pivots : ℕ) (e : EmptyAnswer) (k : ℕ) (answers : List LocalAnswer) (j : ℕ) (a : LocalAnswer)
+    → AreAnswersAt m t pivots e k answers → slice_get answers j ≡ Some a → IsLocal m (spot t (k + j)) pivots e (local_seen a)
+answer_of_place m t pivots e k [] j a h g = absurd (none_some a g)
+answer_of_place m t pivots e k (b ∷ answers) zero a h g =
+    subst (λ (n : ℕ). IsLocal m (spot t n) pivots e (local_seen a)) (let z : k ≡ k + 0 = omega arith in z)
+    (subst (λ (x : LocalAnswer). IsLocal m (spot t k) pivots e (local_seen x)) (some_same b a g) h.0)
+answer_of_place m t pivots e k (b ∷ answers) (suc j) a h g =
+    subst (λ (n : ℕ). IsLocal m (spot t n) pivots e (local_seen a)) (let z : suc k + j ≡ k + suc j = omega arith in z)
+    (answer_of_place m t pivots e (suc k) answers j a h.1 g)
+
+below_get : {A : Type 0} (xs : List A) (i : ℕ) (a : A) → slice_get xs i ≡ Some a → i < length xs
+below_get [] i a e = absurd (none_some a e)
+below_get (x ∷ xs) zero a e = omega arith
+below_get (x ∷ xs) (suc i) a e = let h = below_get xs i a e in omega (arith, h)
+
+get_below : {A : Type 0} (xs : List A) (i : ℕ) → i < length xs → (a : A) × (slice_get xs i ≡ Some a)
+get_below [] i l = absurd (omega (arith, l))
+get_below (x ∷ xs) zero l = (x, refl)
+get_below (x ∷ xs) (suc i) l = get_below xs i (omega (arith, l))
+
+-- the answers of a live rule, by those for its rows
+pub answers_after : (p : Program) (pivots i : ℕ) (r : Rule) (f : Fate) (e : EmptyAnswer) (answers : List LocalAnswer) → rule_at p (suc i) ≡ Some r
+    → IsEmptyAnswer (prepared r) (suc i) pivots e → length answers ≡ arity_of p r.target → AreAnswersAt (prepared r) (suc i) pivots e 1 answers
+    → AreAnswersAfter p pivots (suc i) f answers
+answers_after p pivots i r f e answers numbered is long h = record {
+  long = λ x n live. long ∙ ap (λ (y : Rule). arity_of p y.target) (some_same r x (sym numbered ∙ n));
+  each = λ j a live g. record {
+    rule = r;
+    numbered = numbered;
+    place = record {
+      symbol = r.target;
+      target = ap target_in numbered;
+      least = omega arith;
+      last = let l = below_get answers j a g in omega (arith, l, long);
+    };
+    empty = e;
+    is_empty_answer = is;
+    local =
+        subst (λ (n : ℕ). IsLocal (prepared r) (spot (suc i) n) pivots e (local_seen a)) (let z : 1 + j ≡ suc j = omega arith in z)
+        (answer_of_place (prepared r) (suc i) pivots e 1 answers j a h g);
+  };
+}
+
+-- of a rule that isn't live nothing is asked
+pub none_after : (p : Program) (pivots t : ℕ) (f : Fate) → is_live_fate f ≡ false → AreAnswersAfter p pivots t f []
+none_after p pivots t f h = record {
+  long = λ r n live. absurd (no_is_not_yes (is_live_fate f) h (ap is_live_fate live));
+  each = λ i a live g. absurd (none_some a g);
+}
+
+-- one rule more
+pub all_more : (p : Program) (pivots k : ℕ) (fates : List Fate) (lists : List (List LocalAnswer)) (f : Fate) (answers : List LocalAnswer)
+    → AreAllAnswers p pivots k fates lists → AreAnswersAfter p pivots (k + length fates) f answers
+    → AreAllAnswers p pivots k (fates ++ f ∷ []) (lists ++ answers ∷ [])
+all_more p pivots k [] [] f answers h x = (subst (λ (n : ℕ). AreAnswersAfter p pivots n f answers) (let z : k + 0 ≡ k = omega arith in z) x, tt)
+all_more p pivots k [] (l ∷ lists) f answers h x = absurd h
+all_more p pivots k (g ∷ fates) [] f answers h x = absurd h
+all_more p pivots k (g ∷ fates) (l ∷ lists) f answers h x = (
+  h.0,
+  all_more p pivots (suc k) fates lists f answers h.1
+      (subst (λ (n : ℕ). AreAnswersAfter p pivots n f answers) (let z : k + suc (length fates) ≡ suc k + length fates = omega arith in z) x),
+)
+
+all_long : (p : Program) (pivots k : ℕ) (fates : List Fate) (lists : List (List LocalAnswer)) → AreAllAnswers p pivots k fates lists → length lists ≡ length fates
+all_long p pivots k [] [] h = refl
+all_long p pivots k [] (l ∷ lists) h = absurd h
+all_long p pivots k (f ∷ fates) [] h = absurd h
+all_long p pivots k (f ∷ fates) (l ∷ lists) h = ap (λ (n : ℕ). suc n) (all_long p pivots (suc k) fates lists h.1)
+
+all_at : (p : Program) (pivots k : ℕ) (fates : List Fate) (lists : List (List LocalAnswer)) (i : ℕ) (f : Fate) (answers : List LocalAnswer)
+    → AreAllAnswers p pivots k fates lists → slice_get fates i ≡ Some f → slice_get lists i ≡ Some answers → AreAnswersAfter p pivots (k + i) f answers
+all_at p pivots k [] [] i f answers h e g = absurd (none_some f e)
+all_at p pivots k [] (l ∷ lists) i f answers h e g = absurd h
+all_at p pivots k (x ∷ fates) [] i f answers h e g = absurd h
+all_at p pivots k (x ∷ fates) (l ∷ lists) zero f answers h e g =
+    subst (λ (n : ℕ). AreAnswersAfter p pivots n f answers) (let z : k ≡ k + 0 = omega arith in z)
+    (subst (λ (y : Fate). AreAnswersAfter p pivots k y answers) (some_same x f e)
+    (subst (λ (y : List LocalAnswer). AreAnswersAfter p pivots k x y) (some_same l answers g) h.0))
+all_at p pivots k (x ∷ fates) (l ∷ lists) (suc i) f answers h e g =
+    subst (λ (n : ℕ). AreAnswersAfter p pivots n f answers) (let z : suc k + i ≡ k + suc i = omega arith in z)
+    (all_at p pivots (suc k) fates lists i f answers h.1 e g)
+
+-- a rule that is flagged is live, and one of so many
+flagged_live : (fates : List Fate) (i : ℕ) → slice_index_or (map is_live_fate fates) i false ≡ true → slice_get fates i ≡ Some Live
+flagged_live [] i h = absurd (no_is_not_yes false refl h)
+flagged_live (Live ∷ fates) zero h = refl
+flagged_live (Empty ∷ fates) zero h = absurd (no_is_not_yes false refl h)
+flagged_live (Unreached ∷ fates) zero h = absurd (no_is_not_yes false refl h)
+flagged_live (f ∷ fates) (suc i) h = flagged_live fates i h
+
+flag_fate : (fates : List Fate) (i : ℕ) → i < length fates → slice_index_or (map is_live_fate fates) i false ≡ not (is_dead_fate (fate_at fates (suc i)))
+flag_fate [] i l = absurd (omega (arith, l))
+flag_fate (Live ∷ fates) zero l = refl
+flag_fate (Empty ∷ fates) zero l = refl
+flag_fate (Unreached ∷ fates) zero l = refl
+flag_fate (f ∷ fates) (suc i) l = flag_fate fates i (omega (arith, l))
+
+got_is : (lists : List (List LocalAnswer)) (i : ℕ) (answers : List LocalAnswer) → slice_get lists i ≡ Some answers → slice_index_or lists i [] ≡ answers
+got_is [] i answers e = absurd (none_some answers e)
+got_is (l ∷ lists) zero answers e = some_same l answers e
+got_is (l ∷ lists) (suc i) answers e = got_is lists i answers e
+
+module _ (p : Program) (pivots : ℕ) (fates : List Fate) (lists : List (List LocalAnswer)) (are : AreFates (searches_of_program p pivots) p fates)
+    (all : AreAllAnswers p pivots 1 fates lists) where
+  abbrev pub flags : List Bool
+  flags = map is_live_fate fates
+
+  -- the rules that are flagged are the live ones
+  pub lives : AreLive p pivots (is_flagged (map is_live_fate fates))
+  lives = record {
+    is_empty = λ e. is_empty_fate (fate_at fates e);
+    empty = are.empty;
+    live = λ t. (forth t, λ h. back t h.0 h.1);
+  }
+    where
+      forth : (t : ℕ) → is_flagged (map is_live_fate fates) t ≡ true → IsRule p t × (¬ (IsDead p (λ e. is_empty_fate (fate_at fates e)) t))
+      forth zero h = absurd (no_is_not_yes false refl h)
+      forth (suc i) h =
+          let l : i < length fates = below_get fates i Live (flagged_live fates i h) in
+          let rule = rule_there p i (omega (arith, l, are.one_each)) in (
+            rule,
+            λ dead. no_is_not_yes (not (is_dead_fate (fate_at fates (suc i)))) (ap not ((are.dead (suc i) rule).1 dead))
+                (sym (flag_fate fates i l) ∙ h),
+          )
+
+      back : (t : ℕ) → IsRule p t → ¬ (IsDead p (λ e. is_empty_fate (fate_at fates e)) t) → is_flagged (map is_live_fate fates) t ≡ true
+      back zero rule alive = absurd (let e = rule.numbered in let f : ⊥ = cc in f)
+      back (suc i) rule alive =
+          let l : i < length fates = let b = rule_below p i rule in omega (arith, b, are.one_each) in
+          flag_fate fates i l ∙ by (is_dead_fate (fate_at fates (suc i))) refl
+        where
+          by : (v : Bool) → is_dead_fate (fate_at fates (suc i)) ≡ v → not v ≡ true
+          by true e = absurd (alive ((are.dead (suc i) rule).0 e))
+          by false e = refl
+
+  -- the answers of a rule that is flagged
+  here : (i : ℕ) → is_flagged (map is_live_fate fates) (suc i) ≡ true
+      → (answers : List LocalAnswer) × (slice_get lists i ≡ Some answers) × AreAnswersAfter p pivots (suc i) Live answers
+  here i h =
+      let live = flagged_live fates i h in
+      let l = below_get fates i Live live in
+      let got = get_below lists i (omega (arith, l, all_long p pivots 1 fates lists all)) in (
+        got.0,
+        got.1,
+        subst (λ (n : ℕ). AreAnswersAfter p pivots n Live got.0) (let z : 1 + i ≡ suc i = omega arith in z)
+            (all_at p pivots 1 fates lists i Live got.0 all live got.1),
+      )
+
+  -- the answer of a place of a live rule
+  pub answer_here : (t i : ℕ) → is_flagged (map is_live_fate fates) t ≡ true → IsPlace p t i
+      → (a : LocalAnswer) × (answer_in lists t i ≡ Some a) × IsLocalOf p pivots t i (local_seen a)
+  answer_here zero i h place = absurd (no_is_not_yes false refl h)
+  answer_here (suc u) zero h place = absurd (let l = place.least in omega (arith, l))
+  answer_here (suc u) (suc j) h place =
+      let x = here u h in
+      let rule = ((lives.live (suc u)).0 h).0 in
+      let same : rule.rule.target ≡ place.symbol = some_same rule.rule.target place.symbol (sym (ap target_in rule.numbered) ∙ place.target) in
+      let long = x.2.long rule.rule rule.numbered refl ∙ ap (arity_of p) same in
+      let last = place.last in
+      let a = get_below x.0 j (omega (arith, last, long)) in (
+        a.0,
+        ap (λ (xs : List LocalAnswer). slice_get xs j) (got_is lists u x.0 x.1) ∙ a.1,
+        x.2.each j a.0 refl a.1,
+      )
+
+  pub locals : AreLocals p pivots (is_flagged (map is_live_fate fates)) (local_from lists)
+  locals t i h place =
+      let x = answer_here t i h place in
+      subst (λ l. IsLocalOf p pivots t i l) (sym (at t i x.0 x.1)) x.2
+    where
+      at : (t i : ℕ) (a : LocalAnswer) → answer_in lists t i ≡ Some a → local_from lists t i ≡ local_seen a
+      at t zero a e = absurd (none_some a e)
+      at t (suc i) a e = ap local_in e
+
+  pub locals_for : AreLocalsFor p lists (map is_live_fate fates)
+  locals_for = record {
+    lists = all_long p pivots 1 fates lists all ∙ are.one_each;
+    flags = length-map fates is_live_fate ∙ are.one_each;
+    places = places;
+  }
+    where
+      places : (t : ℕ) (r : Rule) → rule_at p t ≡ Some r → is_flagged (map is_live_fate fates) t ≡ true → length (answers_for lists t) ≡ arity_of p r.target
+      places zero r n h = absurd (no_is_not_yes false refl h)
+      places (suc u) r n h = let x = here u h in ap (λ (xs : List LocalAnswer). length xs) (got_is lists u x.0 x.1) ∙ x.2.long r n refl
+
+-- the fate of the rule at a position
+pub fate_read : (fates : List Fate) (i : ℕ) (d : Fate) → i < length fates → fate_at fates (suc i) ≡ slice_index_or fates i d
+fate_read [] i d l = absurd (omega (arith, l))
+fate_read (x ∷ fates) zero d l = refl
+fate_read (x ∷ fates) (suc i) d l = fate_read fates i d (omega (arith, l))
+
+-- the rows of a live rule aren't known to have no point
+pub live_runs : (p : Program) (pivots : ℕ) (fates : List Fate) (empties : List EmptyAnswer) (i : ℕ) (a : EmptyAnswer)
+    → AreFates (searches_of_program p pivots) p fates → AreEmptyAnswers p pivots empties → i < length p.rules → fate_at fates (suc i) ≡ Live
+    → slice_get empties i ≡ Some a → ¬ (SaysEmpty a)
+live_runs p pivots fates empties i a are answers l live got says = by a got says
+  where
+    rule : IsRule p (suc i)
+    rule = rule_there p i l
+
+    by : (x : EmptyAnswer) → slice_get empties i ≡ Some x → SaysEmpty x → ⊥
+    by (empty.Empty n) e s =
+        let is = answers.each (suc i) rule.rule (empty.Empty n) rule.numbered e in
+        let told = (are.empty (suc i) rule).1
+        (record { multipliers = n.multipliers.items; shown = (rule.rule, rule.numbered, (empty.Empty n, refl, is)) }) in
+        no_is_not_yes (is_empty_fate (fate_at fates (suc i))) (ap is_empty_fate live) told
+    by (empty.Point z) e s = s
+    by (empty.Tripped t) e s = s

@@ -1,0 +1,93 @@
+-- A component that doesn't loop has one member.
+use Rattle.std.proofs.Common.{◌≡◌, ◌⊎◌, inl, inr, ℕ, zero, suc, ◌+◌, ◌<◌, ◌≤◌, ◌||◌, Bool, true, false, List, [], ◌∷◌, ◌++◌, length, map, refl, sym, ◌∙◌, ap, subst, arith, Contains, get_or}
+use Rattle.std.specs.List.{list_any}
+use Rattle.std.specs.List.Sorted.{IsStrictlyIncreasing}
+use Rattle.std.proofs.lemmas.List.{append_assoc}
+use Rattle.model.specs.Paths.{Path, Here, Onward}
+use Rattle.model.proofs.Membership.{no_is_not_yes}
+use Rattle.its_graph.specs.Components.{IsMutual, IsNext, IsListing}
+use Rattle.proof_nodes.specs.Nodes.{Spot}
+use Rattle.proof_nodes.specs.Setting.{Setting}
+use Rattle.round_relation.specs.Components.{IsOneOf}
+use Rattle.rvg_components.specs.Flows.{Locals, flows_into, live_spots, loops}
+use Rattle.rvg_components.specs.Listing.{spot_at, HasFlow, AreComponents}
+
+-- paths one behind the other
+joined : (E : ℕ → ℕ → Type 0) (a b c : ℕ) → Path E a b → Path E b c → Path E a c
+joined E a b c p (Here e) = subst (λ (x : ℕ). Path E a x) e p
+joined E a b c p (Onward {b = z} q e) = Onward (joined E a b z p q) e
+
+-- a path to another node ends with an edge
+record LastEdge (E : ℕ → ℕ → Type 0) (a b : ℕ) : Type 0 where
+  pub from : ℕ
+  pub way : Path E a from
+  pub edge : E from b
+
+last_edge : (E : ℕ → ℕ → Type 0) (a b : ℕ) → Path E a b → (a ≡ b → ⊥) → LastEdge E a b
+last_edge E a b (Here e) h = absurd (h e)
+last_edge E a b (Onward {b = z} q e) h = record { from = z; way = q; edge = e }
+
+-- what holds of one of a list holds of some
+any_of : {A : Type 0} (f : ℕ → A) (g : A → Bool) (ps : List ℕ) (x : ℕ) → Contains ps x → g (f x) ≡ true → list_any g (map f ps) ≡ true
+any_of f g [] x (n, l, same) h = absurd (omega (arith, l))
+any_of f g (p ∷ ps) x (zero, l, same) h = first (g (f p)) (list_any g (map f ps)) (ap (λ (y : ℕ). g (f y)) same ∙ h)
+  where
+    first : (v w : Bool) → v ≡ true → (v || w) ≡ true
+    first true w e = refl
+    first false w e = absurd (no_is_not_yes false refl e)
+any_of f g (p ∷ ps) x (suc n, l, same) h = later (g (f p)) (list_any g (map f ps)) (any_of f g ps x (n, omega (arith, l), same) h)
+  where
+    later : (v w : Bool) → w ≡ true → (v || w) ≡ true
+    later true w e = refl
+    later false w e = e
+
+module _ (s : Setting) (is_live : ℕ → Bool) (local : Locals) where
+  abbrev all : List Spot
+  all = live_spots s.program is_live
+
+  abbrev flow : ℕ → ℕ → Type 0
+  flow = HasFlow s local (live_spots s.program is_live)
+
+  abbrev at : ℕ → Spot
+  at = spot_at (live_spots s.program is_live)
+
+  -- two members of one component loop
+  two_loop : (ps : List ℕ) (nodes : ℕ) (before : List (List ℕ)) → IsNext flow nodes before ps → (a b : ℕ) → Contains ps a → Contains ps b → (a ≡ b → ⊥)
+      → loops s local (map at ps) ≡ true
+  two_loop ps nodes before next a b in_a in_b apart =
+      let to_a = (next.members a).0 in_a in
+      let to_b = (next.members b).0 in_b in
+      let last = last_edge flow a b (joined flow a next.least b to_a.back to_b.onward) apart in
+      let in_from = (next.members last.from).1 record {
+        onward = joined flow next.least a last.from to_a.onward last.way;
+        back = joined flow last.from b next.least (Onward (Here refl) last.edge) to_b.back;
+      } in
+      any_of at (λ n. list_any (λ m. flows_into s local m n) (map at ps)) ps b in_b
+      (any_of at (λ m. flows_into s local m (at b)) ps last.from in_from last.edge.flow)
+
+  -- so one that doesn't has one member
+  one_member : (ps : List ℕ) (nodes : ℕ) (before : List (List ℕ)) → IsNext flow nodes before ps → loops s local (map at ps) ≡ false
+      → (m : Spot) × (map at ps ≡ m ∷ [])
+  one_member [] nodes before next h =
+      absurd (let x = (next.members next.least).1 (record { onward = Here refl; back = Here refl }) in none x)
+    where
+      none : Contains [] next.least → ⊥
+      none (n, l, same) = omega (arith, l)
+  one_member (a ∷ []) nodes before next h = (at a, refl)
+  one_member (a ∷ b ∷ ps) nodes before next h =
+      let less : a < b = next.ascending 0 (omega arith) in
+      absurd (no_is_not_yes (loops s local (map at (a ∷ b ∷ ps))) h
+      (two_loop (a ∷ b ∷ ps) nodes before next a b (0, omega arith, refl) (1, omega arith, refl) (λ e. omega (arith, less, e))))
+
+  found_member : (positions before rest : List (List ℕ)) → positions ≡ before ++ rest → IsListing flow (length all) positions → (c : List Spot)
+      → IsOneOf (map (map at) rest) c → loops s local c ≡ false → (m : Spot) × (c ≡ m ∷ [])
+  found_member positions before [] e listing c one h = absurd one
+  found_member positions before (ps ∷ rest) e listing c (inl same) h =
+      let r = one_member ps (length all) before (listing.each before rest ps e) (ap (loops s local) same ∙ h) in (r.0, sym same ∙ r.1)
+  found_member positions before (ps ∷ rest) e listing c (inr one) h =
+      found_member positions (before ++ ps ∷ []) rest (e ∙ sym (append_assoc before (ps ∷ []) rest)) listing c one h
+
+  pub lone : (cs : List (List Spot)) → AreComponents s is_live local cs → (c : List Spot) → IsOneOf cs c → loops s local c ≡ false
+      → (m : Spot) × (c ≡ m ∷ [])
+  lone cs found c one h =
+      found_member found.positions [] found.positions refl found.listing c (subst (λ (ds : List (List Spot)). IsOneOf ds c) found.spots one) h

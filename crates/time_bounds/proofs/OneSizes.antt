@@ -1,0 +1,135 @@
+-- The searches for sizes of a program have one answer to each question.
+use Rattle.std.proofs.Common.{◌≡◌, ℕ, Bool, true, false, List, [], ◌∷◌, length, map, Option}
+use Rattle.std.proofs.Common.{refl, sym, ◌∙◌, ap, subst}
+use Rattle.std.specs.List.{All, AllByRecursion, range_with_len}
+use Rattle.std.proofs.lemmas.List.Elements.{recursion_from_All}
+use Rattle.model.specs.Programs.{Program, Rule, rule_at}
+use Rattle.model.specs.Bounds.{Bound}
+use Rattle.guard_prep.specs.Prepared.{prepared}
+use Rattle.its_graph.specs.Components.{IsListing}
+use Rattle.its_graph.proofs.Uniqueness.{one_listing}
+use Rattle.proof_nodes.specs.Nodes.{Spot}
+use Rattle.proof_setting.specs.Setting.{setting_of}
+use Rattle.proof_tree.specs.declared.answer.EmptyAnswer.{EmptyAnswer}
+use Rattle.rank_search.specs.EmptyAnswers.{IsEmptyAnswer}
+use Rattle.rank_search.specs.OneAnswer.{EmptyAnswersAreOne}
+use Rattle.local_size.specs.LocalAnswers.{Local, IsLocal}
+use Rattle.local_size.specs.LocalLaws.{LocalAnswersAreOne}
+use Rattle.rvg_components.specs.Flows.{Locals, flows_into, live_spots}
+use Rattle.rvg_components.specs.Listing.{spot_at, HasFlow, AreComponents}
+use Rattle.round_relation.specs.NewSizes.{has_spot}
+use Rattle.round_relation.specs.Searches.{Sizing}
+use Rattle.round_relation.specs.RightSizes.{AreSizesOne}
+use Rattle.round_relation.proofs.Cases.{some_same}
+use Rattle.round_relation.proofs.SameDead.{dead_by}
+use Rattle.time_bounds.specs.ProgramSizes.{spot, AreLive, IsLocalOf, AreLocals, AreLocalsOf, sizes_of_program}
+use Rattle.time_bounds.proofs.SpotLists.{at-member}
+use Rattle.time_bounds.proofs.LiveSpots.{listed-live, live_spots-same}
+use Rattle.time_bounds.proofs.SameListings.{listing-same}
+use Rattle.time_bounds.proofs.OneSizings.{flow_same, sizing_one}
+
+-- two tests that say yes together are the same
+same_test : (v w : Bool) → (v ≡ true → w ≡ true) → (w ≡ true → v ≡ true) → v ≡ w
+same_test true true f g = refl
+same_test true false f g = sym (f refl)
+same_test false true f g = g refl
+same_test false false f g = refl
+
+module _ (p : Program) (pivots : ℕ) where
+  -- the live rules are the same
+  module _ (f g : ℕ → Bool) (h : AreLive p pivots f) (k : AreLive p pivots g) where
+    live_on : (t : ℕ) → f t ≡ true → g t ≡ true
+    live_on t e =
+        let x = (h.live t).0 e in
+        (k.live t).1 (
+          x.0,
+          λ dead. x.1 (dead_by p k.is_empty h.is_empty (λ u rule yes. (h.empty u rule).1 ((k.empty u rule).0 yes)) t x.0 dead),
+        )
+
+  live_one : (f g : ℕ → Bool) → AreLive p pivots f → AreLive p pivots g → (t : ℕ) → f t ≡ g t
+  live_one f g h k t = same_test (f t) (g t) (live_on f g h k t) (live_on g f k h t)
+
+  module _ (empties_one : EmptyAnswersAreOne) (locals_one : LocalAnswersAreOne) where
+    -- what is answered of a place is one
+    local_one : (t i : ℕ) (x y : Local) → IsLocalOf p pivots t i x → IsLocalOf p pivots t i y → x ≡ y
+    local_one t i x y h k =
+        locals_one.each (prepared k.rule) (spot t i) pivots h.empty k.empty x y
+        (empties_one.each (prepared k.rule) t pivots h.empty k.empty
+        (subst (λ (r : Rule). IsEmptyAnswer (prepared r) t pivots h.empty) same h.is_empty_answer) k.is_empty_answer)
+        (subst (λ (r : Rule). IsLocal (prepared r) (spot t i) pivots h.empty x) same h.local) k.local
+      where
+        same : h.rule ≡ k.rule
+        same = some_same h.rule k.rule (sym h.numbered ∙ k.numbered)
+
+    -- so it is of each of these places
+    all_one : (f g : Locals) (spots : List Spot)
+        → AllByRecursion (λ m. IsLocalOf p pivots m.rule m.place (f m.rule m.place)) spots
+        → AllByRecursion (λ m. IsLocalOf p pivots m.rule m.place (g m.rule m.place)) spots
+        → AllByRecursion (λ m. f m.rule m.place ≡ g m.rule m.place) spots
+    all_one f g [] h k = tt
+    all_one f g (m ∷ spots) h k =
+        (local_one m.rule m.place (f m.rule m.place) (g m.rule m.place) h.0 k.0, all_one f g spots h.1 k.1)
+
+    -- the answer about a component is one
+    sizes_one : (time : ℕ → Option Bound) (size : ℕ → ℕ → Option Bound) (spots : List Spot) (x y : Sizing)
+        → (sizes_of_program p pivots).Sizes time size spots x → (sizes_of_program p pivots).Sizes time size spots y
+        → x ≡ y
+    sizes_one time size spots x y (f, fs, is) (g, gs, is_too) =
+        sizing_one (setting_of p) (record { time = time; size = size }) f g spots
+        (all_one f g spots
+        (recursion_from_All (λ m. IsLocalOf p pivots m.rule m.place (f m.rule m.place)) spots fs)
+        (recursion_from_All (λ m. IsLocalOf p pivots m.rule m.place (g m.rule m.place)) spots gs)) x y is is_too
+
+    -- the same live rules with the same answers have the same flows
+    module _ (is_live : ℕ → Bool) (f g : Locals) (fs : AreLocals p pivots is_live f) (gs : AreLocals p pivots is_live g)
+      where
+        same_on : (n : Spot) → has_spot (live_spots p is_live) n.rule n.place ≡ true → f n.rule n.place ≡ g n.rule n.place
+        same_on n h =
+            let x = listed-live p is_live (range_with_len 1 (length p.rules)) n.rule n.place h in
+            local_one n.rule n.place (f n.rule n.place) (g n.rule n.place) (fs n.rule n.place x.0 x.1)
+            (gs n.rule n.place x.0 x.1)
+
+        flow_on : (a b : ℕ) → HasFlow (setting_of p) f (live_spots p is_live) a b
+            → HasFlow (setting_of p) g (live_spots p is_live) a b
+        flow_on a b h =
+            let to = spot_at (live_spots p is_live) b in record {
+              from = h.from;
+              to = h.to;
+              flow =
+                  sym (flow_same (setting_of p) f g (spot_at (live_spots p is_live) a) to
+                  (same_on to (at-member (live_spots p is_live) b to.rule to.place h.to refl))) ∙ h.flow;
+            }
+
+    -- so they have the same components
+    listings_one : (is_live : ℕ → Bool) (f g : Locals) → AreLocals p pivots is_live f → AreLocals p pivots is_live g
+        → (cs ds : List (List Spot)) → AreComponents (setting_of p) is_live f cs → AreComponents (setting_of p) is_live g ds
+        → cs ≡ ds
+    listings_one is_live f g fs gs cs ds h k =
+        let moved =
+        listing-same (HasFlow (setting_of p) g (live_spots p is_live)) (HasFlow (setting_of p) f (live_spots p is_live))
+        (flow_on is_live g f gs fs) (flow_on is_live f g fs gs) (length (live_spots p is_live)) k.positions k.listing in
+        let same =
+        one_listing (HasFlow (setting_of p) f (live_spots p is_live)) (length (live_spots p is_live)) h.positions k.positions
+        h.listing moved in
+        h.spots ∙ (ap (λ (pss : List (List ℕ)). map (map (spot_at (live_spots p is_live))) pss) same ∙ sym k.spots)
+
+    -- by live rules that are the same too
+    components_one : (cs ds : List (List Spot)) → (sizes_of_program p pivots).AreComponents cs
+        → (sizes_of_program p pivots).AreComponents ds → cs ≡ ds
+    components_one cs ds (live, lives, (f, fs, h)) (other, others, (g, gs, k)) =
+        listings_one live f g fs (λ t i e place. gs t i (sym (same t) ∙ e) place) cs ds h record {
+          positions = k.positions;
+          listing = subst (λ (ms : List Spot). IsListing (HasFlow (setting_of p) g ms) (length ms) k.positions)
+              (sym spots) k.listing;
+          spots = subst (λ (ms : List Spot). ds ≡ map (map (spot_at ms)) k.positions) (sym spots) k.spots;
+        }
+      where
+        same : (t : ℕ) → live t ≡ other t
+        same = live_one live other lives others
+
+        spots : live_spots p live ≡ live_spots p other
+        spots = live_spots-same p live other same
+
+    -- each question has one answer
+    pub program_sizes_one : AreSizesOne (sizes_of_program p pivots)
+    program_sizes_one = record { components = components_one; sizes = sizes_one }

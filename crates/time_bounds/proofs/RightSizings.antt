@@ -1,0 +1,247 @@
+-- The answers about sizes of a valid program are right.
+use Rattle.std.proofs.Common.{◌≡◌, ◌⊎◌, inl, inr, ℕ, zero, suc, ◌-◌, ◌<◌, ◌≤◌, ◌==◌, ◌&&◌, Bool, true, false, List, [], ◌∷◌}
+use Rattle.std.proofs.Common.{map, Option, Some, None, refl, sym, ◌∙◌, ap, subst, arith, slice_get, slice_index_or}
+use Rattle.std.specs.Prelude.{ℤ, pos, negsuc, ◌*ℤ◌, ◌<ℤ◌}
+use Rattle.std.specs.List.{All, AllByRecursion}
+use Rattle.std.proofs.lemmas.Bool.{and_from, or_left, or_right}
+use Rattle.std.proofs.lemmas.Int.{ints}
+use Rattle.std.proofs.lemmas.List.Elements.{recursion_from_All}
+use Rattle.model.specs.Programs.{Program, Rule, rule_at, arity_of}
+use Rattle.model.specs.Paths.{target_of, target_in}
+use Rattle.model.proofs.Membership.{same_number}
+use Rattle.its_model.specs.Valid.{IsValid}
+use Rattle.linear_forms.specs.Forms.{Form, at, form_value}
+use Rattle.linear_forms.specs.Combinations.{zero_form}
+use Rattle.linear_forms.specs.Points.{IsPoint, IsRay}
+use Rattle.linear_forms.specs.RuleQuestions.{after_rule, opposite}
+use Rattle.linear_forms.proofs.CombinationLaws.{form_value-times}
+use Rattle.rule_forms.specs.Bounds.{IsLooseRay}
+use Rattle.guard_prep.specs.Prepared.{prepared}
+use Rattle.proof_nodes.specs.Nodes.{Spot, Member}
+use Rattle.proof_nodes.specs.Gaps.{ScaledPoint}
+use Rattle.proof_nodes.specs.Combined.{form_at}
+use Rattle.proof_nodes.specs.AcceptsSizes.{Side, Up, Low, IsSpot, left_in, left_of, new_value}
+use Rattle.proof_nodes.specs.Known.{Table}
+use Rattle.proof_setting.specs.Setting.{setting_of, rows_in, news_in}
+use Rattle.proof_tree.specs.declared.answer.EmptyAnswer.{EmptyAnswer}
+use Rattle.proof_tree.specs.declared.answer.EmptyAnswer.TheVariants as empties
+use Rattle.proof_tree.specs.declared.answer.Question.TheVariants as asked
+use Rattle.proof_tree.specs.declared.answer.Trip.{Trip}
+use Rattle.outcome.specs.Reports.{NoSize, IsLoose, SizeTripped}
+use Rattle.rank_search.specs.EmptyAnswers.{IsEmptyAnswer}
+use Rattle.rank_search.specs.RankAnswers.{trip_in}
+use Rattle.local_size.specs.Places.{local_forms, value_on}
+use Rattle.local_size.specs.LocalAnswers.{Local, HasBound, IsLooseOn, HasTripped, IsLocal, IsOwnTrip, IsEmptyTrip}
+use Rattle.local_size.specs.LocalLaws.{IsSpotOf, LooseAnswersAreLoose}
+use Rattle.local_size.proofs.Loose.{loose-answers}
+use Rattle.rvg_components.specs.Flows.{Locals, loops}
+use Rattle.round_relation.specs.Tables.{IsPlace}
+use Rattle.round_relation.specs.Searches.{Sizing, Found, NotFound}
+use Rattle.round_relation.specs.NewSizes.{has_spot}
+use Rattle.round_relation.specs.RightSizes.{MovesTo, IsLooseAt, IsCause, IsFirstCause, IsRightSizing, IsToldBy}
+use Rattle.round_relation.specs.RightSizes.{AreSizesRight}
+use Rattle.round_relation.proofs.Cases.{some_same, none_some}
+use Rattle.time_bounds.specs.ProgramSearches.{searches_of_program}
+use Rattle.time_bounds.specs.ProgramSizes.{spot, IsLocalOf, AreLocalsOf, told_side, loose_reason, trip_reason, or_else}
+use Rattle.time_bounds.specs.ProgramSizes.{first_reason, lacks_arms, IsSpreadSizing, IsCycleSizing, IsSizingBy}
+use Rattle.time_bounds.specs.ProgramSizes.{IsJudged, IsSizingOf, sizes_of_program}
+use Rattle.time_bounds.specs.SearchLaws.{ProgramSizeSearchesAreRight}
+use Rattle.time_bounds.proofs.RightComponents.{components_right}
+
+-- a form of a list at a position
+form_there : (fs : List Form) (i : ℕ) → slice_index_or fs i zero_form ≡ form_at fs i
+form_there [] i = refl
+form_there (f ∷ fs) zero = refl
+form_there (f ∷ fs) (suc i) = form_there fs i
+
+-- one of two reasons
+one_of : (a b : Option NoSize) (why : NoSize) → or_else a b ≡ Some why → (a ≡ Some why) ⊎ (b ≡ Some why)
+one_of None b why e = inr e
+one_of (Some v) b why e = inl e
+
+-- the first reason is that of one of the places
+reason_told : (P : Spot → Type 0) (reason : Local → Option NoSize) (local : Locals) (spots : List Spot) (why : NoSize)
+    → AllByRecursion P spots → first_reason reason local spots ≡ Some why
+    → (m : Spot) × (has_spot spots m.rule m.place ≡ true) × P m × (reason (local m.rule m.place) ≡ Some why)
+reason_told P reason local [] why h e = absurd (none_some why e)
+reason_told P reason local (m ∷ spots) why h e =
+    go (one_of (reason (local m.rule m.place)) (first_reason reason local spots) why e)
+    (reason_told P reason local spots why h.1)
+  where
+    go : (reason (local m.rule m.place) ≡ Some why) ⊎ (first_reason reason local spots ≡ Some why)
+        → (first_reason reason local spots ≡ Some why
+        → (n : Spot) × (has_spot spots n.rule n.place ≡ true) × P n × (reason (local n.rule n.place) ≡ Some why))
+        → (n : Spot) × (has_spot (m ∷ spots) n.rule n.place ≡ true) × P n × (reason (local n.rule n.place) ≡ Some why)
+    go (inl here) later = (
+      m,
+      or_left ((m.rule == m.rule) && (m.place == m.place)) (has_spot spots m.rule m.place)
+          (and_from (m.rule == m.rule) (m.place == m.place) (same_number m.rule) (same_number m.place)),
+      h.0,
+      here,
+    )
+    go (inr there) later =
+        let x = later there in (
+          x.0,
+          or_right ((m.rule == x.0.rule) && (m.place == x.0.place)) (has_spot spots x.0.rule x.0.place) x.1,
+          x.2,
+          x.3,
+        )
+
+-- a place is a spot of its rule
+spot_of_rule : (p : Program) (m : Spot) (r : Rule) → rule_at p m.rule ≡ Some r → IsPlace p m.rule m.place
+    → IsSpotOf p m r
+spot_of_rule p m r numbered place = record {
+  numbered = numbered;
+  is_spot = record {
+    rule = r;
+    numbered = numbered;
+    least = place.least;
+    most = subst (λ (a : ℕ). m.place ≤ arity_of p a) (symbol m.rule r numbered place.symbol place.target) place.last;
+  };
+}
+  where
+    symbol : (t : ℕ) (q : Rule) → rule_at p t ≡ Some q → (a : ℕ) → target_of p t ≡ Some a → a ≡ q.target
+    symbol zero q e a f = absurd (none_some q e)
+    symbol (suc k) q e a f = some_same a q.target (sym f ∙ ap target_in e)
+
+module _ (loose : LooseAnswersAreLoose) (p : Program) (pivots : ℕ) (valid : IsValid p) where
+  -- a loose answer is right
+  module _ (m : Spot) (r : Rule) (numbered : rule_at p m.rule ≡ Some r) (place : IsPlace p m.rule m.place) where
+    rises : (side : Side) (z : ℕ → ℤ) → pos 0 <ℤ form_value (value_on side (prepared r) m.place) z (pos 0)
+        → MovesTo (told_side side) (form_value (new_value (setting_of p) m) z (pos 0))
+    rises side z h =
+        by side (subst (λ (n : ℕ). pos 0 <ℤ form_value (value_on side (prepared r) n) z (pos 0)) low h)
+      where
+        low : m.place ≡ suc (m.place - 1)
+        low = omega (arith, place.least)
+
+        value : after_rule (local_forms (prepared r)) (suc (m.place - 1)) ≡ new_value (setting_of p) m
+        value =
+            form_there (prepared r).news (m.place - 1)
+            ∙ ap (λ (o : Option Rule). form_at (news_in o) (m.place - 1)) (sym numbered)
+
+        turned : (v w : ℤ) → v ≡ negsuc 0 *ℤ w → pos 0 <ℤ v → w <ℤ pos 0
+        turned v w e k = omega (arith, ints, e, k)
+
+        by : (d : Side) → pos 0 <ℤ form_value (value_on d (prepared r) (suc (m.place - 1))) z (pos 0)
+            → MovesTo (told_side d) (form_value (new_value (setting_of p) m) z (pos 0))
+        by Up k = subst (λ (f : Form). pos 0 <ℤ form_value f z (pos 0)) value k
+        by Low k =
+            subst (λ (f : Form). form_value f z (pos 0) <ℤ pos 0) value
+            (turned _ _ (form_value-times (negsuc 0) (after_rule (local_forms (prepared r)) (suc (m.place - 1))) z (pos 0)) k)
+
+    loose_at : (side : Side) (ray : List ℤ) (kept : ScaledPoint)
+        → IsLooseRay (prepared r).rows (prepared r).left (value_on side (prepared r) m.place) (at ray)
+        → IsPoint (prepared r).rows (at kept.parts) (pos kept.den)
+        → IsLooseAt (setting_of p) m (told_side side) ray kept
+    loose_at side ray kept h point = record {
+      along = subst (λ (o : Option Rule). IsRay (rows_in o) (at ray)) (sym numbered) h.ray;
+      still = λ j l. h.still j (subst (λ (o : Option Rule). j < left_in o) numbered l);
+      moves = rises side (at ray) h.rises;
+      point = subst (λ (o : Option Rule). IsPoint (rows_in o) (at kept.parts) (pos kept.den)) (sym numbered) point;
+    }
+
+  module _ (tab : Table) (spots : List Spot) where
+    -- this is answered of a place
+    abbrev Answered : Spot → Local → Type 0
+    Answered m x = IsLocalOf p pivots m.rule m.place x
+
+    -- a place that is loose is why there is no size
+    loose_cause : (m : Spot) → has_spot spots m.rule m.place ≡ true → (x : Local) → Answered m x → (why : NoSize)
+        → loose_reason x ≡ Some why → IsCause (setting_of p) tab spots why
+    loose_cause m has (HasBound l) is why e = absurd (none_some why e)
+    loose_cause m has (IsLooseOn side ray kept) is why e =
+        let r = is.rule in
+        let here = spot_of_rule p m r is.numbered is.place in
+        let shown = loose.ray p r m pivots is.empty side ray kept valid here is.is_empty_answer is.local in
+        subst (λ (w : NoSize). IsCause (setting_of p) tab spots w) (some_same (IsLoose (told_side side) ray kept) why e)
+        (m, has, loose_at m r is.numbered is.place side ray kept shown.0 shown.1)
+    loose_cause m has (HasTripped t) is why e = absurd (none_some why e)
+
+    -- and so is one that tripped
+    trip_cause : (m : Spot) → has_spot spots m.rule m.place ≡ true → (x : Local) → Answered m x → (why : NoSize)
+        → trip_reason x ≡ Some why → IsCause (setting_of p) tab spots why
+    trip_cause m has (HasBound l) is why e = absurd (none_some why e)
+    trip_cause m has (IsLooseOn side ray kept) is why e = absurd (none_some why e)
+    trip_cause m has (HasTripped t) is why e =
+        subst (λ (w : NoSize). IsCause (setting_of p) tab spots w) (some_same (SizeTripped t) why e)
+        (m, has, question is.local)
+      where
+        emptiness : (a : EmptyAnswer) → IsEmptyAnswer (prepared is.rule) m.rule pivots a → trip_in (Some a) ≡ Some t
+            → t.question ≡ asked.Empty m.rule
+        emptiness (empties.Empty n) h k = absurd (none_some t k)
+        emptiness (empties.Point z) h k = absurd (none_some t k)
+        emptiness (empties.Tripped u) h k = ap (λ (v : Trip). v.question) (sym (some_same u t k)) ∙ h.0
+
+        question : IsOwnTrip (prepared is.rule) m pivots t ⊎ IsEmptyTrip (prepared is.rule) m.place pivots is.empty t
+            → (t.question ≡ asked.Local m.rule m.place) ⊎ (t.question ≡ asked.Empty m.rule)
+        question (inl own) = inl own.question
+        question (inr none) = inr (emptiness is.empty is.is_empty_answer none.trip)
+
+    -- the first check that fails
+    first_cause : (why : NoSize) → IsFirstCause (setting_of p) tab spots why → IsCause (setting_of p) tab spots why
+    first_cause (IsLoose side ray kept) h = absurd h.1
+    first_cause (SizeTripped t) h = absurd h.1
+    first_cause why h = h
+
+    -- what is judged of members with arms is right
+    module _ (members : List Member) (same : spots ≡ map (λ m. m.spot) members) where
+      spread_right : (ms : List Member) → spots ≡ map (λ m. m.spot) ms → (answer : Sizing)
+          → IsSpreadSizing (setting_of p) tab ms answer → IsRightSizing (setting_of p) tab spots answer
+      spread_right [] e answer h = absurd h
+      spread_right (m ∷ []) e (Found b) h = inl record { member = m; only = e; accepted = h.0; bound = h.1 }
+      spread_right (m ∷ []) e (NotFound why) h =
+          first_cause why (h.0, h.1, inl record { member = m; only = e; first = h.2 })
+      spread_right (m ∷ n ∷ ms) e answer h = absurd h
+
+      cycle_right : (answer : Sizing) → IsCycleSizing (setting_of p) tab members answer
+          → IsRightSizing (setting_of p) tab spots answer
+      cycle_right (Found b) h = inr record { all = members; spots = same; accepted = h.0; bound = h.1 }
+      cycle_right (NotFound why) h =
+          first_cause why (h.0, h.1, inr record { all = members; spots = same; first = h.2 })
+
+      judged_right : (v : Bool) (answer : Sizing) → IsSizingBy v (setting_of p) tab members answer
+          → IsRightSizing (setting_of p) tab spots answer
+      judged_right false answer h = spread_right members same answer h
+      judged_right true answer h = cycle_right answer h
+
+    -- each answer of a component is right
+    module _ (local : Locals) (locals : AreLocalsOf p pivots local spots) where
+      abbrev Place : Spot → Type 0
+      Place m = IsLocalOf p pivots m.rule m.place (local m.rule m.place)
+
+      lacking : (why : NoSize) → lacks_arms local spots ≡ Some why → IsCause (setting_of p) tab spots why
+      lacking why e = go (one_of (first_reason loose_reason local spots) (first_reason trip_reason local spots) why e)
+        where
+          each : AllByRecursion Place spots
+          each = recursion_from_All Place spots locals
+
+          go : (first_reason loose_reason local spots ≡ Some why) ⊎ (first_reason trip_reason local spots ≡ Some why)
+              → IsCause (setting_of p) tab spots why
+          go (inl h) =
+              let x = reason_told Place loose_reason local spots why each h in
+              loose_cause x.0 x.1 (local x.0.rule x.0.place) x.2 why x.3
+          go (inr h) =
+              let x = reason_told Place trip_reason local spots why each h in
+              trip_cause x.0 x.1 (local x.0.rule x.0.place) x.2 why x.3
+
+      sizing_right : (o : Option NoSize) → lacks_arms local spots ≡ o → (answer : Sizing)
+          → IsSizingOf (setting_of p) tab local spots o answer → IsRightSizing (setting_of p) tab spots answer
+      sizing_right (Some why) e answer h =
+          subst (λ (a : Sizing). IsRightSizing (setting_of p) tab spots a) (sym h) (lacking why e)
+      sizing_right None e answer h =
+          judged_right h.members h.are_members.spots_are (loops (setting_of p) local spots) answer h.sizing
+
+  -- all answers are right
+  sizes_right : AreSizesRight (searches_of_program p pivots) (sizes_of_program p pivots) (setting_of p)
+  sizes_right = record { components = λ cs h. components_right p pivots cs h; sizes = sizes }
+    where
+      sizes : (tab : Table) (members : List Spot) (answer : Sizing)
+          → (sizes_of_program p pivots).Sizes tab.time tab.size members answer
+          → IsRightSizing (setting_of p) tab members answer
+      sizes tab members answer (local, locals, is) =
+          sizing_right tab members local locals (lacks_arms local members) refl answer is
+
+-- the searches for sizes of each valid program are right
+pub program_sizes_right : ProgramSizeSearchesAreRight
+program_sizes_right = record { each = λ p pivots valid. sizes_right loose-answers p pivots valid }

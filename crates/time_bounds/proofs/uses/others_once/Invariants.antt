@@ -1,6 +1,0 @@
-use Rattle.std.proofs.Common.{◌≡◌, ◌==◌, not, filter, take}
-use Rattle.round_relation.specs.Uses.{once}
-use Rattle.time_bounds.proofs.uses.others_once.Given as goal
-
-abbrev pub invariant-loop-lemma : goal.invariant-loop-lemma
-invariant-loop-lemma l = l.found.items ≡ once (filter (λ n. not (n == 0)) (take l.lemma-index l.lemmas))

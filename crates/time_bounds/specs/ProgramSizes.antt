@@ -1,0 +1,127 @@
+-- The searches for sizes of a program: what `local`, `components`, `spread` and `cycle` answer within some pivots.
+use Rattle.std.specs.Prelude.{◌≡◌, ◌↔◌, ℕ, Bool, true, false, List, [], ◌∷◌, map, Option, Some, None, MatchOption}
+use Rattle.std.specs.List.{All}
+use Rattle.model.specs.Programs.{Program, Rule, rule_at}
+use Rattle.guard_prep.specs.Prepared.{prepared}
+use Rattle.outcome.specs.Reports.{NoSize, IsLoose, SizeTripped}
+use Rattle.outcome.specs.Reports as reports
+use Rattle.proof_nodes.specs.Nodes.{Spot, Member}
+use Rattle.proof_nodes.specs.AcceptsPlain.{IsRule}
+use Rattle.proof_nodes.specs.AcceptsSizes.{Side, Up, Low, AcceptsSpread, AcceptsCycle, spread_size, cycle_size}
+use Rattle.proof_nodes.specs.Checks.{spread_checks, cycle_checks}
+use Rattle.proof_nodes.specs.Known.{Table}
+use Rattle.proof_nodes.specs.Reasons.{Reason, IsFirstAmong}
+use Rattle.proof_nodes.specs.Setting.{Setting}
+use Rattle.proof_setting.specs.Setting.{setting_of}
+use Rattle.proof_tree.specs.declared.answer.EmptyAnswer.{EmptyAnswer}
+use Rattle.rank_search.specs.EmptyAnswers.{IsEmptyAnswer}
+use Rattle.local_size.specs.LocalAnswers.{Local, HasBound, IsLooseOn, HasTripped, IsLocal}
+use Rattle.rvg_components.specs.Flows.{Locals, loops}
+use Rattle.rvg_components.specs.Listing.{AreComponents}
+use Rattle.round_relation.specs.Tables.{IsPlace}
+use Rattle.round_relation.specs.Searches.{SizeSearches, Sizing, Found, NotFound}
+use Rattle.round_relation.specs.Beginning.{IsEmpty, IsDead}
+use Rattle.round_relation.specs.RightSizes.{IsToldBy}
+use Rattle.time_bounds.specs.ProgramSearches.{searches_of_program}
+
+-- the rules that are live: those that don't never run
+pub record AreLive (p : Program) (pivots : ℕ) (is_live : ℕ → Bool) : Type 0 where
+  pub is_empty : ℕ → Bool
+  pub empty : (t : ℕ) → IsRule p t → (is_empty t ≡ true) ↔ IsEmpty (searches_of_program p pivots) t
+  pub live : (t : ℕ) → (is_live t ≡ true) ↔ (IsRule p t × (¬ IsDead p is_empty t))
+
+-- the spot of a place after a rule
+abbrev pub spot : ℕ → ℕ → Spot
+spot t i = record { rule = t; place = i }
+
+-- this is answered of a place after a rule
+pub record IsLocalOf (p : Program) (pivots : ℕ) (t i : ℕ) (x : Local) : Type 0 where
+  pub rule : Rule
+  pub numbered : rule_at p t ≡ Some rule
+  pub place : IsPlace p t i
+  pub empty : EmptyAnswer
+  pub is_empty_answer : IsEmptyAnswer (prepared rule) t pivots empty
+  pub local : IsLocal (prepared rule) (spot t i) pivots empty x
+
+-- so it is of each place after a live rule
+abbrev pub AreLocals : Program → ℕ → (ℕ → Bool) → Locals → Type 0
+AreLocals p pivots is_live local =
+    (t i : ℕ) → is_live t ≡ true → IsPlace p t i → IsLocalOf p pivots t i (local t i)
+
+-- and of each of these places
+abbrev pub AreLocalsOf : Program → ℕ → Locals → List Spot → Type 0
+AreLocalsOf p pivots local spots = All (λ m. IsLocalOf p pivots m.rule m.place (local m.rule m.place)) spots
+
+-- the side that is loose, as a report tells it
+abbrev pub told_side : Side → reports.Side
+told_side Up = reports.Up
+told_side Low = reports.Low
+
+-- the reason of a place that is loose, or tripped
+abbrev pub loose_reason : Local → Option NoSize
+loose_reason (HasBound l) = None
+loose_reason (IsLooseOn side ray kept) = Some (IsLoose (told_side side) ray kept)
+loose_reason (HasTripped t) = None
+
+abbrev pub trip_reason : Local → Option NoSize
+trip_reason (HasBound l) = None
+trip_reason (IsLooseOn side ray kept) = None
+trip_reason (HasTripped t) = Some (SizeTripped t)
+
+-- the first of two reasons
+abbrev pub or_else : Option NoSize → Option NoSize → Option NoSize
+or_else None other = other
+or_else (Some why) other = Some why
+
+-- the reason of the first of these places that has one
+abbrev pub first_reason : (Local → Option NoSize) → Locals → List Spot → Option NoSize
+first_reason reason local [] = None
+first_reason reason local (m ∷ spots) = or_else (reason (local m.rule m.place)) (first_reason reason local spots)
+
+-- why the places have no arms: the first that is loose, or else the first that tripped
+abbrev pub lacks_arms : Locals → List Spot → Option NoSize
+lacks_arms local spots = or_else (first_reason loose_reason local spots) (first_reason trip_reason local spots)
+
+-- the places with their local bounds
+pub record AreMembers (local : Locals) (spots : List Spot) (members : List Member) : Type 0 where
+  pub spots_are : spots ≡ map (λ m. m.spot) members
+  pub bounds_are : All (λ m. local m.spot.rule m.spot.place ≡ HasBound m.local) members
+
+-- what is answered of places that don't loop: of the only one its size, or the first check that fails
+abbrev pub IsSpreadSizing : Setting → Table → List Member → Sizing → Type 0
+IsSpreadSizing s tab [] answer = ⊥
+IsSpreadSizing s tab (m ∷ []) (Found b) = AcceptsSpread s tab m × (b ≡ s.rewrite (spread_size s tab m))
+IsSpreadSizing s tab (m ∷ []) (NotFound why) = (r : Reason) × IsToldBy why r × IsFirstAmong (spread_checks s tab m) r
+IsSpreadSizing s tab (m ∷ n ∷ members) answer = ⊥
+
+-- and of places that do
+abbrev pub IsCycleSizing : Setting → Table → List Member → Sizing → Type 0
+IsCycleSizing s tab members (Found b) = AcceptsCycle s tab members × (b ≡ s.rewrite (cycle_size s tab members))
+IsCycleSizing s tab members (NotFound why) =
+    (r : Reason) × IsToldBy why r × IsFirstAmong (cycle_checks s tab members) r
+
+abbrev pub IsSizingBy : Bool → Setting → Table → List Member → Sizing → Type 0
+IsSizingBy false s tab members answer = IsSpreadSizing s tab members answer
+IsSizingBy true s tab members answer = IsCycleSizing s tab members answer
+
+-- what is answered of a component over a table: that a place of it is loose, or tripped; else its size, or the first
+-- check that fails
+pub record IsJudged (s : Setting) (tab : Table) (local : Locals) (spots : List Spot) (answer : Sizing) : Type 0 where
+  pub members : List Member
+  pub are_members : AreMembers local spots members
+  pub sizing : IsSizingBy (loops s local spots) s tab members answer
+
+abbrev pub IsSizingOf : Setting → Table → Locals → List Spot → Option NoSize → Sizing → Type 0
+IsSizingOf s tab local spots (Some why) answer = answer ≡ NotFound why
+IsSizingOf s tab local spots None answer = IsJudged s tab local spots answer
+
+-- the searches for sizes of a program, where each linear program may take so many pivots
+abbrev pub sizes_of_program : Program → ℕ → SizeSearches
+sizes_of_program p pivots = record {
+  AreComponents = λ components. (is_live : ℕ → Bool) × AreLive p pivots is_live
+      × ((local : Locals) × AreLocals p pivots is_live local
+      × AreComponents (setting_of p) is_live local components);
+  Arms = λ m l. IsLocalOf p pivots m.rule m.place (HasBound l);
+  Sizes = λ time size spots answer. (local : Locals) × AreLocalsOf p pivots local spots
+      × IsSizingOf (setting_of p) (record { time = time; size = size }) local spots (lacks_arms local spots) answer;
+}

@@ -1,0 +1,51 @@
+-- What a whole round comes to: it finds a bound, or nothing.
+use Rattle.std.specs.Prelude.{◌≡◌, ℕ, ◌+◌, ◌<◌, Bool, true, false, List, length, Option}
+use Rattle.std.specs.List.{list_any}
+use Rattle.model.specs.Programs.{Program}
+use Rattle.proof_setting.specs.Setting.{setting_of}
+use Rattle.proof_tree.specs.declared.answer.EmptyAnswer.{EmptyAnswer}
+use Rattle.round_relation.specs.Rounds.{Next}
+use Rattle.size_bounds.specs.declared.table.Table.{Table}
+use Rattle.size_bounds.specs.Tables.{table_of}
+use Rattle.time_bounds.specs.declared.asking.Asked.{Asked}
+use Rattle.time_bounds.specs.declared.candidates.Candidate.{Candidate}
+use Rattle.time_bounds.specs.declared.rounds.LastRound.{LastRound}
+use Rattle.time_bounds.specs.declared.rounds.Round.{Round}
+use Rattle.time_bounds.specs.declared.rounds.Round.TheVariants.{Last, Further}
+use Rattle.time_bounds.specs.ProgramSearches.{searches_of_program}
+use Rattle.time_bounds.specs.ProgramSizes.{sizes_of_program}
+use Rattle.time_bounds.specs.Questions.{AreKept, IsTable}
+use Rattle.time_bounds.specs.Tries.{AreTried, is_found, count_missing}
+use Rattle.time_bounds.specs.SizeWrites.{rows_of, count_unsized}
+use Rattle.time_bounds.specs.Attempts.{HasPlaces, AreAttempts, is_sized}
+
+-- how many bounds are missing in a table
+abbrev pub missing_in : Table → ℕ
+missing_in tab = count_missing tab.times.items + count_unsized (rows_of tab)
+
+-- a round over a table found nothing, and this is what it made of each rule and of each component
+pub record IsLastRound (p : Program) (pivots : ℕ) (empties : List EmptyAnswer) (cs : List Candidate) (tab : Table)
+    (r : LastRound) : Type 0 where
+  pub table : IsTable p tab empties
+  pub places : HasPlaces p tab
+  pub one_each : length r.tries.items ≡ length p.rules
+  pub tried : AreTried p tab pivots empties 1 r.tries.items
+  pub no_time : list_any is_found r.tries.items ≡ false
+  pub attempts : AreAttempts p pivots (table_of tab) cs r.attempts.items
+  pub no_size : list_any is_sized r.attempts.items ≡ false
+
+-- a round found a bound, and these questions are kept
+pub record IsFurther (p : Program) (pivots : ℕ) (empties : List EmptyAnswer) (old new : Table)
+    (kept : List (Option Asked)) : Type 0 where
+  pub next : Next (searches_of_program p pivots) (sizes_of_program p pivots) (setting_of p) (table_of old)
+      (table_of new)
+  pub table : IsTable p new empties
+  pub places : HasPlaces p new
+  pub one_each : length kept ≡ length p.rules
+  pub are_kept : AreKept p pivots empties 1 kept
+  pub fewer : missing_in new < missing_in old
+
+abbrev pub IsRound : Program → ℕ → List EmptyAnswer → List Candidate → Table → Table → Round → Type 0
+IsRound p pivots empties cs old new (Last r) =
+    IsLastRound p pivots empties cs new r × (table_of new ≡ table_of old)
+IsRound p pivots empties cs old new (Further kept) = IsFurther p pivots empties old new kept.items

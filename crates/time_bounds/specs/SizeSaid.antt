@@ -1,0 +1,90 @@
+-- What is said of sizes, row by row.
+use Rattle.std.specs.Prelude.{◌≡◌, ℕ, List, [], ◌∷◌, map, Option, Some, None, ⊤}
+use Rattle.std.specs.Option.{option_map}
+use Rattle.bound_expr.specs.Views.{bound_of}
+use Rattle.outcome.specs.Reports.{NoSize, Size, Sized, Unsized}
+use Rattle.outcome.specs.Views.{size_of}
+use Rattle.outcome.specs.declared.entry.Stored.{Stored}
+use Rattle.outcome.specs.declared.entry.SizeEntry.{SizeEntry}
+use Rattle.outcome.specs.declared.entry.SizeEntry.TheVariants as entries
+use Rattle.proof_nodes.specs.Nodes.{Spot}
+use Rattle.size_bounds.specs.declared.table.Table.{Table}
+use Rattle.size_bounds.specs.Tables.{entry_at, lemma_stored, numbers_of}
+use Rattle.time_bounds.specs.declared.candidates.Candidate.{Candidate}
+use Rattle.time_bounds.specs.declared.sizing.Attempt.{Attempt}
+use Rattle.time_bounds.specs.Candidates.{spots_in}
+use Rattle.time_bounds.specs.Attempts.{why_of}
+use Rattle.time_bounds.specs.SizeWrites.{rows_of, placed, put_place}
+
+-- entries where they are there, as plain data
+abbrev pub seen_row : List (Option SizeEntry) → List (Option Size)
+seen_row row = map (λ o. option_map size_of o) row
+
+abbrev pub seen_rows : List (List (Option SizeEntry)) → List (List (Option Size))
+seen_rows rows = map seen_row rows
+
+-- what a table says of a size
+abbrev pub said_stored : Option Stored → Option Size
+said_stored o = option_map (λ s. Sized (bound_of s.bound)) o
+
+-- the sizes that a table has
+abbrev pub said_table : Table → List (List (Option Size))
+said_table tab = map (λ row. map said_stored row) (rows_of tab)
+
+-- a value that is there is written at a place, where there is none
+abbrev pub put_some : {A : Type 0} → List (List (Option A)) → Spot → Option A → List (List (Option A))
+put_some rows m None = rows
+put_some rows m (Some a) = put_place rows m.rule m.place a
+
+-- a value is written at these places, where there is none
+abbrev pub put_spots : {A : Type 0} → List (List (Option A)) → List Spot → A → List (List (Option A))
+put_spots rows [] a = rows
+put_spots rows (m ∷ spots) a = put_spots (put_place rows m.rule m.place a) spots a
+
+-- why places have no size is written there, where it is known
+abbrev pub put_why : List (List (Option Size)) → List Spot → Option NoSize → List (List (Option Size))
+put_why rows spots None = rows
+put_why rows spots (Some why) = put_spots rows spots (Unsized why)
+
+-- so of the places of each of these candidates, by what the round made of it
+abbrev pub put_whys : List (List (Option Size)) → List Candidate → List Attempt → List (List (Option Size))
+put_whys rows [] attempts = rows
+put_whys rows (c ∷ cs) [] = rows
+put_whys rows (c ∷ cs) (x ∷ attempts) = put_whys (put_why rows (spots_in c) (why_of c x)) cs attempts
+
+-- each of them is there
+abbrev pub AreThere : {A : Type 0} → List (Option A) → Type 0
+AreThere [] = ⊤
+AreThere (None ∷ os) = ⊥
+AreThere (Some a ∷ os) = AreThere os
+
+-- an entry that is a known size carries this number
+abbrev pub CarriesNumber : ℕ → SizeEntry → Type 0
+CarriesNumber n (entries.Known s) = s.lemma ≡ n
+CarriesNumber n (entries.Loose l) = ⊤
+CarriesNumber n (entries.Tripped t) = ⊤
+CarriesNumber n (entries.Missing m) = ⊤
+CarriesNumber n (entries.Bent m) = ⊤
+CarriesNumber n (entries.Untimed r) = ⊤
+CarriesNumber n (entries.Large k) = ⊤
+
+abbrev pub CarriesIfThere : ℕ → Option SizeEntry → Type 0
+CarriesIfThere n None = ⊤
+CarriesIfThere n (Some e) = CarriesNumber n e
+
+-- the known sizes of a row carry the numbers of what is stored there
+pub record CarryRow (row : List (Option Stored)) (said : List (Option SizeEntry)) : Type 0 where
+  pub each : (i : ℕ) (e : SizeEntry) → entry_at said i ≡ Some e → CarriesNumber (lemma_stored (entry_at row i)) e
+
+-- so do those of rows, place by place
+pub record CarryPlaces (tab : Table) (said : List (List (Option SizeEntry))) : Type 0 where
+  pub each : (t i : ℕ) (e : SizeEntry) → placed said t i ≡ Some e → CarriesNumber ((numbers_of tab).size t i) e
+
+-- rows keep that
+pub record KeepPlaces (old new : List (List (Option SizeEntry))) : Type 0 where
+  pub each : (tab : Table) → CarryPlaces tab old → CarryPlaces tab new
+
+-- an entry is a reason, where there is one
+pub record IsReason (entry : Option SizeEntry) : Type 0 where
+  pub why : Option NoSize
+  pub is_why : option_map size_of entry ≡ option_map Unsized why
