@@ -1,57 +1,85 @@
--- A rule that occurs twice in a run closes a cycle; so without a cycle each rule occurs at most once.
-use Rattle.std.proofs.Common.{◌≡◌, ◌≢◌, ℕ, zero, suc, ◌+◌, ◌≤◌, List, [], ◌∷◌, true, false, ℤ, Some, None, refl, sym, ◌∙◌, ap, subst, inl, inr, ◌⊎◌, arith, ◌==◌}
+-- Without a cycle each rule occurs at most once: once it has occurred, no path leads on to where it comes from.
+use Rattle.std.proofs.Common.{◌≡◌, ◌≢◌, ℕ, zero, suc, ◌+◌, ◌*◌, ◌≤◌, List, [], ◌∷◌, true, false, ℤ, Some, refl, sym, ◌∙◌, ap, subst, inl, inr, ◌⊎◌, arith, ◌==◌}
+use Rattle.std.specs.Prelude.{⊤}
 use Rattle.std.proofs.lemmas.Bool.Decides.{eqb_tells}
 use Rattle.model.specs.Programs.{Program, Rule, rule_at}
 use Rattle.model.specs.Runs.{Config, Step, IsStep, IsRun, count, one_if_same}
-use Rattle.model.proofs.RunLaws.{same_rule, one_if_same-same, one_if_same-other}
+use Rattle.model.proofs.RunLaws.{same_rule, one_if_same-same, one_if_same-other, entry_once}
 use Rattle.model.specs.Paths.{HasEdge, HasPath, any_rule, Here, Onward, HasCycle}
+use Rattle.run_counting.specs.Paying.{allowance, IsPaidFor}
+use Rattle.run_counting.proofs.Counting.{paid}
 
 -- a step follows an edge of the graph
 pub step_edge : (p : Program) (b : Config) (s : Step) (c : Config) → IsStep p b s c → HasEdge p any_rule b.at c.at
-step_edge p b s c h = record { number = s.rule; rule = h.rule; numbered = h.numbered; allowed = refl; source = sym h.leads.source; target = sym h.leads.target }
+step_edge p b s c h = record {
+  number = s.rule;
+  rule = h.rule;
+  numbered = h.numbered;
+  allowed = refl;
+  source = sym h.leads.source;
+  target = sym h.leads.target;
+}
 
--- where a rule has occurred, the run stands at its target or at what is reached from there
-pub after_rule : (p : Program) (start : List ℤ) (steps : List Step) (c : Config) (t : ℕ) (r : Rule) → rule_at p t ≡ Some r → 1 ≤ count t steps → IsRun p start steps c → HasPath p any_rule r.target c.at
-after_rule p start [] c zero r h many run = absurd (none_some h)
-  where
-    none_some : None ≡ Some r → ⊥
-    none_some e = cc
-after_rule p start [] c (suc t) r h many run = absurd (omega (arith, one_if_same-other 0 (suc t) (omega arith)))
-after_rule p start (s ∷ earlier) c t r h many (b, run, step) = go (eqb_tells s.rule t) (λ m. after_rule p start earlier b t r h m run)
-  where
-    go : ((s.rule == t) ≡ true) × (s.rule ≡ t) ⊎ ((s.rule == t) ≡ false) × (s.rule ≢ t) → (1 ≤ count t earlier → HasPath p any_rule r.target b.at) → HasPath p any_rule r.target c.at
-    go (inl (test, same)) before = Here (ap (λ (q : Rule). q.target) (same_rule p t r step.rule h (ap (rule_at p) (sym same) ∙ step.numbered)) ∙ sym step.leads.target)
-    go (inr (test, other)) before =
-        let none_now : one_if_same s.rule t ≡ 0 = one_if_same-other s.rule t other in
-        Onward (before (omega (arith, none_now, many))) (step_edge p b s c step)
+-- the levels for rule t: 0 where a path leads from the rule's target to where the run stands, any other one everywhere
+abbrev HasLevel : Program → ℕ → Config → ℕ → Type 0
+HasLevel p t c zero = (r : Rule) × (rule_at p t ≡ Some r) × HasPath p any_rule r.target c.at
+HasLevel p t c (suc l) = ⊤
 
--- without a cycle a step's rule hasn't occurred before
-pub not_before : (p : Program) → ¬ (HasCycle p) → (start : List ℤ) (earlier : List Step) (b : Config) (s : Step) (c : Config) → IsRun p start earlier b → IsStep p b s c → count s.rule earlier ≤ 0
-not_before p acyclic start earlier b s c run step = go (count s.rule earlier) refl
+-- each entry weighs 1
+abbrev one_each : ℕ → ℕ
+one_each e = 1
+
+-- from level k a step leads to a level that is lower by 1 where it is by rule t
+abbrev LeadsOn : Program → ℕ → Step → Config → ℕ → Type 0
+LeadsOn p t s c k = (l : ℕ) × HasLevel p t c l
+    × (l + 1 * one_if_same s.rule t ≤ k + 1 * allowance one_each (0 ∷ []) s.rule)
+
+-- without a cycle each step does: by rule t it leads to 0, and never from there; by any other rule the level stays
+falls : (p : Program) → ¬ (HasCycle p) → (t : ℕ) (b : Config) (s : Step) (c : Config) → IsStep p b s c → (k : ℕ)
+    → HasLevel p t b k → LeadsOn p t s c k
+falls p acyclic t b s c step k level = go (eqb_tells s.rule t) k level
   where
-    go : (n : ℕ) → count s.rule earlier ≡ n → n ≤ 0
-    go zero e = omega arith
-    go (suc n) e = absurd (acyclic (record {
+    its_number : s.rule ≡ t → rule_at p t ≡ Some step.rule
+    its_number same = ap (rule_at p) (sym same) ∙ step.numbered
+
+    go : ((s.rule == t) ≡ true) × (s.rule ≡ t) ⊎ ((s.rule == t) ≡ false) × (s.rule ≢ t) → (k : ℕ) → HasLevel p t b k
+        → LeadsOn p t s c k
+    go (inl (test, same)) zero (r, numbered, path) = absurd (acyclic (record {
       from = b.at;
       to = step.rule.target;
-      edge = record { number = s.rule; rule = step.rule; numbered = step.numbered; allowed = refl; source = sym step.leads.source; target = refl };
-      back = after_rule p start earlier b s.rule step.rule step.numbered (omega (arith, e)) run;
+      edge = record {
+        number = s.rule;
+        rule = step.rule;
+        numbered = step.numbered;
+        allowed = refl;
+        source = sym step.leads.source;
+        target = refl;
+      };
+      back =
+          subst (λ (q : Rule). HasPath p any_rule q.target b.at) (same_rule p t r step.rule numbered (its_number same))
+          path;
     }))
+    go (inl (test, same)) (suc k) level =
+        (0, (step.rule, its_number same, Here (sym step.leads.target)), omega (arith, one_if_same-same s.rule t same))
+    go (inr (test, other)) zero (r, numbered, path) =
+        let onward = Onward path (step_edge p b s c step) in
+        (0, (r, numbered, onward), omega (arith, one_if_same-other s.rule t other))
+    go (inr (test, other)) (suc k) level = (suc k, tt, omega (arith, one_if_same-other s.rule t other))
+
+-- so these levels pay for rule t, where only the virtual entry brings in 1
+pays : (p : Program) → ¬ (HasCycle p) → (start : List ℤ) (t : ℕ) → t ≢ 0
+    → IsPaidFor (λ steps c. IsRun p start steps c) (HasLevel p t) 1 t one_each (0 ∷ [])
+pays p acyclic start t rule = record {
+  rule = rule;
+  start = λ c run. (1, tt, omega arith);
+  step = λ s earlier c run. (run.0, run.1, falls p acyclic t run.0 s c run.2);
+}
 
 -- without a cycle each rule, and the virtual entry, occurs at most once
-pub at_most_once : (p : Program) → ¬ (HasCycle p) → (start : List ℤ) (steps : List Step) (c : Config) (t : ℕ) → IsRun p start steps c → count t steps ≤ 1
-at_most_once p acyclic start [] c t run = go (eqb_tells 0 t)
-  where
-    go : ((0 == t) ≡ true) × (0 ≡ t) ⊎ ((0 == t) ≡ false) × (0 ≢ t) → one_if_same 0 t ≤ 1
-    go (inl (test, same)) = omega (arith, one_if_same-same 0 t same)
-    go (inr (test, other)) = omega (arith, one_if_same-other 0 t other)
-at_most_once p acyclic start (s ∷ earlier) c t (b, run, step) = go (eqb_tells s.rule t) (at_most_once p acyclic start earlier b t run)
-  where
-    go : ((s.rule == t) ≡ true) × (s.rule ≡ t) ⊎ ((s.rule == t) ≡ false) × (s.rule ≢ t) → count t earlier ≤ 1 → one_if_same s.rule t + count t earlier ≤ 1
-    go (inl (test, same)) before =
-        let now : one_if_same s.rule t ≡ 1 = one_if_same-same s.rule t same in
-        let nothing : count t earlier ≤ 0 = subst (λ (u : ℕ). count u earlier ≤ 0) same (not_before p acyclic start earlier b s c run step) in
-        omega (arith, now, nothing)
-    go (inr (test, other)) before =
-        let now : one_if_same s.rule t ≡ 0 = one_if_same-other s.rule t other in
-        omega (arith, now, before)
+pub at_most_once : (p : Program) → ¬ (HasCycle p) → (start : List ℤ) (steps : List Step) (c : Config) (t : ℕ)
+    → IsRun p start steps c → count t steps ≤ 1
+at_most_once p acyclic start steps c zero run = omega (arith, entry_once p start steps c run)
+at_most_once p acyclic start steps c (suc t) run =
+    let levels = pays p acyclic start (suc t) (λ e. omega (arith, e)) in
+    let all_paid = paid (λ ss d. IsRun p start ss d) (HasLevel p (suc t)) 1 (suc t) one_each (0 ∷ []) levels steps c run in
+    omega (arith, all_paid.often (omega arith), entry_once p start steps c run)

@@ -1,5 +1,4 @@
 pub mod FormLaws
-pub mod Counting
 pub mod LastSteps
 pub mod Covering
 pub mod GoodFacts

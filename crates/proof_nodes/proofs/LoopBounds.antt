@@ -12,7 +12,7 @@ use Rattle.proof_nodes.specs.Known.{known, is_zero_bound}
 use Rattle.proof_nodes.specs.Setting.{Setting, IsFaithful}
 use Rattle.proof_nodes.specs.Composed.{sizes_after}
 use Rattle.proof_nodes.specs.ComposedSizes.{poly_at, is_member, Flow, flow, flows_from, flows_into, is_outer, is_inner, offsets, base_of, addition_of, factor_of, multiplies, adds, growth_parts, addition_parts, loop_bound}
-use Rattle.proof_nodes.specs.Paying.{income}
+use Rattle.run_counting.specs.Paying.{income}
 use Rattle.proof_nodes.specs.Feeding.{growth}
 use Rattle.model.proofs.Membership.{same_number}
 use Rattle.proof_nodes.proofs.Flows.{factor-least}

@@ -5,10 +5,9 @@ use Rattle.std.proofs.Common.{pow-suc}
 use Rattle.model.specs.Runs.{Step, IsRun, count, one_if_same, last_rule}
 use Rattle.model.proofs.RunLaws.{one_if_same-same}
 use Rattle.model.specs.Entries.{is_in}
-use Rattle.proof_nodes.specs.Paying.{income}
+use Rattle.run_counting.specs.Paying.{income}
 use Rattle.proof_nodes.specs.Feeding.{growth, grown, IsFed, LoopsGrow}
-use Rattle.proof_nodes.proofs.Counting.{income-step}
-use Rattle.proof_nodes.proofs.Payments.{allowed}
+use Rattle.run_counting.proofs.Counting.{allowed, income-step}
 use Rattle.model.proofs.Membership.{is_in-cases, no_is_not_yes}
 
 module _ (factor : ℕ → ℕ) (least : (t : ℕ) → 1 ≤ factor t) where

@@ -1,5 +1,5 @@
 -- Why the time of an accepted ranking node holds: the positive part of the function pays for the strict rule.
-use Rattle.std.proofs.Common.{◌≡◌, ℕ, suc, ◌+◌, ◌*◌, ◌≤◌, ◌==◌, not, Bool, true, false, cond, List, [], ◌∷◌, length, Option, Some, None, refl, sym, ap, ◌∙◌, subst, arith, All, le_trans, mul-le-mul_left, le_of_mul-le-mul_right}
+use Rattle.std.proofs.Common.{◌≡◌, ℕ, suc, ◌+◌, ◌*◌, ◌≤◌, ◌==◌, not, Bool, true, false, cond, List, [], ◌∷◌, length, Option, Some, None, refl, sym, ap, ◌∙◌, subst, arith, All, le_trans, mul-le-mul_left}
 use Rattle.std.specs.Prelude.{ℤ, pos, negsuc, ◌+ℤ◌, ◌-ℤ◌, ◌*ℤ◌, ◌≤ℤ◌}
 use Rattle.std.proofs.lemmas.Int.{ints}
 use Rattle.std.proofs.lemmas.Bool.{and_from, not_from_false, false_from_ne_true}
@@ -24,9 +24,9 @@ use Rattle.proof_nodes.specs.Setting.{Setting, StepPoint, IsFaithful}
 use Rattle.proof_nodes.specs.Composed.{rank_form, form_bound, no_place, sizes_after, entry_bound}
 use Rattle.proof_nodes.specs.AcceptsRank.{HasFormShape, AcceptsRank, at_source, at_target, moves_of, least_loss, rank_time}
 use Rattle.proof_nodes.proofs.FormLaws.{dot-same, value-less, value-number, value-after}
-use Rattle.proof_nodes.specs.Paying.{allowance, income, IsPaidFor}
-use Rattle.proof_nodes.proofs.Counting.{paid}
-use Rattle.proof_nodes.proofs.Payments.{allowed, income-bounded}
+use Rattle.run_counting.specs.Paying.{allowance, IsPaidFor}
+use Rattle.run_counting.proofs.Counting.{allowed, paid}
+use Rattle.proof_nodes.proofs.Payments.{income-bounded}
 use Rattle.model.proofs.Membership.{told_same, same_number, no_is_not_yes, list_any-from, is_in-filter}
 use Rattle.model.proofs.Entries.{listed-told}
 use Rattle.proof_nodes.proofs.LastSteps.{source-step, target-step, last_is_numbered, same_symbol-from}
@@ -115,6 +115,10 @@ module _ (s : Setting) (true_to : IsFaithful s) (table : Table) (good : IsGoodTa
   abbrev level : Config → ℕ
   level c = cond (is_left_by s.program node.set (Some c.at))
       (positive_part (value_at (rank_form node.forms (Some c.at)) c)) 0
+
+  -- it is the one level that a configuration has
+  abbrev HasLevel : Config → ℕ → Type 0
+  HasLevel c l = l ≡ level c
 
   -- the function where an entry leads to, as a bound, and its value
   abbrev entry_weight : ℕ → Bound
@@ -284,12 +288,16 @@ module _ (s : Setting) (true_to : IsFaithful s) (table : Table) (good : IsGoodTa
       (subst (λ (n : ℕ). is_in n node.set ≡ true) (sym same) h.shape.inside))
 
   -- the level pays for the strict rule
-  paid_for : IsPaidFor RunTo level node.den node.rule weight listed
+  paid_for : IsPaidFor RunTo HasLevel node.den node.rule weight listed
   paid_for = record {
     rule = λ e. no_is_not_yes (is_in 0 node.set) entry_outside
         (subst (λ (n : ℕ). is_in n node.set ≡ true) e h.shape.inside);
-    start = λ c run. arrives [] c run entry_outside;
-    step = λ st earlier d run. (run.0, run.1, by st earlier d run (is_in st.rule node.set) refl);
+    start = λ c run. (level c, refl, arrives [] c run entry_outside);
+    step = λ st earlier d run. (
+      run.0,
+      run.1,
+      λ k told. (level d, refl, omega (arith, told, by st earlier d run (is_in st.rule node.set) refl)),
+    );
   }
     where
       by : (st : Step) (earlier : List Step) (d : Config) (run : RunTo (st ∷ earlier) d) (v : Bool)
@@ -304,13 +312,10 @@ module _ (s : Setting) (true_to : IsFaithful s) (table : Table) (good : IsGoodTa
   pub composed_time : (steps : List Step) (c : Config) → RunTo steps c
       → count node.rule steps ≤ val (rank_time s node table) (sizes_of_start start)
   composed_time steps c run =
-      le_trans (cancelled node.den (count node.rule steps) (income weight listed steps) h.shape.den
-      (omega (arith, paid RunTo level node.den node.rule weight listed paid_for steps c run)))
+      let all_paid = paid RunTo HasLevel node.den node.rule weight listed paid_for steps c run in
+      le_trans (all_paid.often h.shape.den)
       (income-bounded (λ e. known (table.time e)) entry_weight (sizes_of_start start) listed steps
       (λ e k. let time = known-time s.program table good e (h.times e (listed-told s.program node.set e k)) in time.each start steps c run))
-    where
-      cancelled : (q a b : ℕ) → 1 ≤ q → q * a ≤ q * b → a ≤ b
-      cancelled q a b l k = let turned : a * q ≤ b * q = omega (arith, k) in le_of_mul-le-mul_right turned l
 
   -- what an accepted ranking node composes has bases of at least 1
   rank_time-based : IsBased (rank_time s node table)

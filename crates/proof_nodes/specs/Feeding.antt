@@ -3,7 +3,7 @@ use Rattle.std.specs.Prelude.{◌≡◌, ℕ, ◌+◌, ◌*◌, ◌^◌, ◌≤�
 use Rattle.model.specs.Programs.{Program}
 use Rattle.model.specs.Runs.{Config, Step, IsRun, count, last_rule}
 use Rattle.model.specs.Entries.{is_in}
-use Rattle.proof_nodes.specs.Paying.{income}
+use Rattle.run_counting.specs.Paying.{income}
 
 -- the factor of each rule, once for each of its steps, multiplied
 abbrev pub growth : (ℕ → ℕ) → List ℕ → List Step → ℕ

@@ -15,7 +15,6 @@ pub mod Acceptance
 pub mod Reasons
 pub mod Checks
 pub mod ReasonLaws
-pub mod Paying
 pub mod Feeding
 pub mod Laws
 pub mod WorkedSettings

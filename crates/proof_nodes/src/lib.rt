@@ -3,7 +3,6 @@
 // worked out by hand.
 #![tactic(auto)]
 
-ghost use Rattle.proof_nodes.specs.Paying.{EntriesPay};
 ghost use Rattle.proof_nodes.specs.Feeding.{LoopsGrow};
 ghost use Rattle.proof_nodes.specs.Laws.{AcceptedFactsHold, AcceptedBoundsAreBased};
 ghost use Rattle.proof_nodes.specs.ReasonLaws.{FirstReasonsAreInLine};
@@ -20,12 +19,6 @@ pub fn accepted_facts_hold()
 /// Every base in the bounds of these facts is at least 1.
 pub fn accepted_bounds_are_based()
     ensures { AcceptedBoundsAreBased }
-{}
-
-/// A level that only entries raise, and from which each step by a rule takes at least q, pays for the rule's steps:
-/// it occurs at most as often as the entries do, each times its weight.
-pub fn entries_pay()
-    ensures { EntriesPay }
 {}
 
 /// Members of a loop that each step multiplies by a factor and adds to stay within the factors of all steps, times

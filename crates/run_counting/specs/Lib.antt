@@ -1,0 +1,4 @@
+-- the counting lemma: levels that pay for steps, and what they say of how often a rule occurs
+pub mod Paying
+-- values that were worked out by hand
+pub mod Worked
