@@ -1,0 +1,12 @@
+pub mod TestLists
+pub mod NumberTests
+pub mod PlainTests
+pub mod RankTests
+pub mod SizeTests
+pub mod NumberLists
+pub mod ReachTests
+pub mod Decided
+pub mod WorkedLoops
+pub mod WorkedLemmas
+pub mod WorkedOrder
+pub mod WorkedShapes

@@ -1,0 +1,55 @@
+-- The first reasons of nodes with more than one fault, computed.
+use Rattle.std.proofs.Common.{refl}
+use Rattle.bound_table.specs.Below.{below}
+use Rattle.bound_table.specs.InForce.{rewritten}
+use Rattle.bound_table.specs.Rewriting.{simplified, passes_until_same, at_node, parts_passed}
+use Rattle.guard_prep.specs.Tightening.{divisor_of}
+use Rattle.proof_nodes.specs.Acceptance.{facts_of_lemmas}
+use Rattle.proof_decision.specs.WorkedOrder.{RankReasonsAreInOrder, LoopReasonsAreInOrder, SizeReasonsAreInOrder, PlainReasonsAreInOrder}
+
+pub rank_reasons_in_order : RankReasonsAreInOrder
+unfolding rewritten simplified passes_until_same at_node parts_passed divisor_of facts_of_lemmas below
+rank_reasons_in_order = record {
+  shape_before_move = refl;
+  first_move = refl;
+  second_move = refl;
+  floor_before_time = refl;
+  time_before_size = refl;
+  times_before_sizes = refl;
+}
+
+pub loop_reasons_in_order : LoopReasonsAreInOrder
+unfolding rewritten simplified passes_until_same at_node parts_passed divisor_of facts_of_lemmas below
+loop_reasons_in_order = record {
+  up_before_low = refl;
+  up_of_second = refl;
+  low_before_size = refl;
+  size_before_bent = refl;
+  bent_before_time = refl;
+  first_time = refl;
+  size_before_time = refl;
+  time = refl;
+  doubled_size = refl;
+  doubled_time = refl;
+}
+
+pub size_reasons_in_order : SizeReasonsAreInOrder
+unfolding rewritten simplified passes_until_same at_node parts_passed divisor_of facts_of_lemmas below
+size_reasons_in_order = record {
+  up_before_low = refl;
+  first_before = refl;
+  second_before = refl;
+  size_before_large = refl;
+  large = refl;
+  time_before_large = refl;
+  large_loop = refl;
+}
+
+pub plain_reasons_in_order : PlainReasonsAreInOrder
+unfolding rewritten simplified passes_until_same at_node parts_passed divisor_of facts_of_lemmas below
+plain_reasons_in_order = record {
+  never_of_a_size = refl;
+  never_of_the_entry = refl;
+  weaker_start = refl;
+  empty_length = refl;
+}

@@ -1,0 +1,14 @@
+pub mod Tests
+pub mod Numbers
+pub mod Reaching
+pub mod Plain
+pub mod Ranking
+pub mod Sizes
+pub mod Deciding
+pub mod Laws
+pub mod WorkedNodes
+pub mod WorkedPrograms
+pub mod WorkedLoops
+pub mod WorkedLemmas
+pub mod WorkedOrder
+pub mod WorkedShapes

@@ -1,0 +1,117 @@
+-- Tests of spreads and loops.
+use Rattle.std.specs.Prelude.{ℕ, ◌==◌, ◌&&◌, ◌||◌, not, nat_lt, nat_le, Bool, true, false, List, [], ◌∷◌, length}
+use Rattle.std.specs.Prelude.{Option, Some, None}
+use Rattle.std.specs.List.{list_all}
+use Rattle.model.specs.Programs.{Program, Rule, rule_at, arity_of}
+use Rattle.model.specs.Paths.{pre}
+use Rattle.model.specs.Polynomials.{Polynomial}
+use Rattle.proof_nodes.specs.Nodes.{Spot, Arm, Linear, Poly, Member}
+use Rattle.proof_nodes.specs.Known.{Table}
+use Rattle.proof_nodes.specs.Setting.{Setting}
+use Rattle.proof_nodes.specs.ComposedSizes.{poly_at, is_member}
+use Rattle.proof_nodes.specs.AcceptsSizes.{left_of, Side, Up, Low, arm_goal, new_value, spread_size, cycle_size}
+use Rattle.proof_nodes.specs.Reasons.{Shape, ArmUp, ArmLow, Bent}
+use Rattle.proof_nodes.specs.Checks.{needed_into, needed_times}
+use Rattle.proof_decision.specs.Tests.{Test, test, test_each}
+use Rattle.proof_decision.specs.Numbers.{is_in_limit, is_form_in_limit, are_multipliers, implies}
+use Rattle.proof_decision.specs.Ranking.{test_time, test_size, test_small}
+
+-- there is a rule, and this is a place of its target
+abbrev pub is_place_after : Program → Option Rule → ℕ → Bool
+is_place_after p None place = false
+is_place_after p (Some r) place = nat_le 1 place && nat_le place (arity_of p r.target)
+
+-- an arm has a denominator of at least 1, one coefficient a left place and a multiplier a row, all within the limit
+abbrev pub has_arm_shape : Setting → ℕ → ℕ → Arm → Bool
+has_arm_shape s t left (Linear den form multipliers) =
+    nat_le 1 den && is_in_limit den && (length form.coefs == left) && is_form_in_limit form
+    && are_multipliers s t multipliers
+has_arm_shape s t left Poly = true
+
+-- a member is at a place after a rule, and so are its arms
+abbrev pub has_member_shape : Setting → Member → Bool
+has_member_shape s m =
+    is_place_after s.program (rule_at s.program m.spot.rule) m.spot.place
+    && has_arm_shape s m.spot.rule (left_of s.program m.spot.rule) m.local.up
+    && has_arm_shape s m.spot.rule (left_of s.program m.spot.rule) m.local.low
+
+-- there is a polynomial, over left variables alone
+abbrev pub is_over_left : ℕ → Option Polynomial → Bool
+is_over_left left None = false
+is_over_left left (Some q) = list_all (λ m. list_all (λ v. nat_lt v left) m.vars) q
+
+-- the rows imply an arm, or the update is its own polynomial over left variables alone
+abbrev pub accepts_arm : Setting → Spot → Side → Arm → Bool
+accepts_arm s spot side (Linear den form multipliers) =
+    implies (s.rows spot.rule) multipliers (arm_goal side den form (new_value s spot))
+accepts_arm s spot side Poly = is_over_left (left_of s.program spot.rule) (poly_at s spot)
+
+-- each of the two arms of a member
+abbrev pub test_up : Setting → Member → Test
+test_up s m = test (ArmUp m.spot.rule m.spot.place) (accepts_arm s m.spot Up m.local.up)
+
+abbrev pub test_low : Setting → Member → Test
+test_low s m = test (ArmLow m.spot.rule m.spot.place) (accepts_arm s m.spot Low m.local.low)
+
+-- the shape; the up arm; the low arm; a size for each place that an arm reads after what can come before; and that the
+-- composed bound is small
+abbrev pub spread_tests : Setting → Table → Member → List Test
+spread_tests s table m =
+    test Shape (has_member_shape s m) ∷
+    test_up s m ∷
+    test_low s m ∷
+    test_each (test_size table) (needed_into s [] (m ∷ []))
+    (test_small s (spread_size s table m) ∷ [])
+
+-- one spot comes before another: by rule, then by place
+abbrev pub is_before : Spot → Spot → Bool
+is_before a b = nat_lt a.rule b.rule || ((a.rule == b.rule) && nat_lt a.place b.place)
+
+-- the members ascend
+abbrev pub are_ascending : List Member → Bool
+are_ascending [] = true
+are_ascending (m ∷ []) = true
+are_ascending (m ∷ n ∷ rest) = is_before m.spot n.spot && are_ascending (n ∷ rest)
+
+-- there are members, they ascend, and each has its shape
+abbrev pub has_cycle_shape : Setting → List Member → Bool
+has_cycle_shape s members =
+    nat_le 1 (length members) && are_ascending members && list_all (has_member_shape s) members
+
+-- after rule e no variable of a polynomial is a member
+abbrev pub avoids : List Member → ℕ → Option Polynomial → Bool
+avoids members e None = true
+avoids members e (Some q) = list_all (λ m. list_all (λ j. not (is_member members e j)) m.vars) q
+
+-- after rule e a polynomial arm reads no member
+abbrev pub is_straight : Setting → List Member → Member → ℕ → Arm → Bool
+is_straight s members m e (Linear den form multipliers) = true
+is_straight s members m e Poly = avoids members e (poly_at s m.spot)
+
+abbrev pub test_straight : Setting → List Member → Member → Arm → ℕ → Test
+test_straight s members m arm e = test (Bent m.spot.rule m.spot.place) (is_straight s members m e arm)
+
+-- neither arm of a member reads one, after these rules
+abbrev pub straight_after : Setting → List Member → Member → List ℕ → List Test → List Test
+straight_after s members m [] rest = rest
+straight_after s members m (e ∷ es) rest =
+    test_straight s members m m.local.up e ∷
+    test_straight s members m m.local.low e ∷ straight_after s members m es rest
+
+-- no arm of these members reads one, after what can come before each
+abbrev pub all_straight : Setting → List Member → List Member → List Test → List Test
+all_straight s members [] rest = rest
+all_straight s members (m ∷ ms) rest =
+    straight_after s members m (pre s.program m.spot.rule) (all_straight s members ms rest)
+
+-- the shape; all up arms; all low arms; the sizes; that no polynomial arm reads a member; the times; and that the
+-- composed bound is small
+abbrev pub cycle_tests : Setting → Table → List Member → List Test
+cycle_tests s table members =
+    test Shape (has_cycle_shape s members) ∷
+    test_each (test_up s) members
+    (test_each (test_low s) members
+    (test_each (test_size table) (needed_into s members members)
+    (all_straight s members members
+    (test_each (test_time table) (needed_times s table members)
+    (test_small s (cycle_size s table members) ∷ [])))))
