@@ -6,7 +6,7 @@ use Rattle.std.specs.List.{All, range_with_len}
 use Rattle.std.proofs.lemmas.Bool.{true≢false, eq-eqb, eqb-true, eqb-false}
 use Rattle.std.proofs.lemmas.List.{map-append, append-nil}
 use Rattle.rule_forms.specs.Kinds as plain
-use Rattle.rule_forms.specs.Kinds.{Number, Argument, Affine, Plus, Minus, arguments, kinds_at, kinds_for, places_from}
+use Rattle.rule_forms.specs.Kinds.{Number, Argument, Affine, Plus, Minus, arguments, kinds_at, kinds_for}
 use Rattle.rule_forms.specs.Questions.{IsKindOf}
 use Rattle.linear_forms.proofs.SolutionLaws.{length-map}
 use Rattle.linear_forms.proofs.ColumnLaws.{get_or-map}

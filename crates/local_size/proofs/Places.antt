@@ -11,13 +11,13 @@ use Rattle.proof_tree.specs.AnswerViews.{cause_of}
 use Rattle.local_size.specs.declared.search.SideAnswer.{SideAnswer}
 use Rattle.local_size.specs.Asking.{sought_of, IsLoosened}
 use Rattle.local_size.specs.LocalAnswers.{Local, HasBound, IsLooseOn, HasTripped, SideComesTo, PassesNone, LacksForm}
-use Rattle.local_size.specs.LocalAnswers.{polynomial_bound, IsLocal}
+use Rattle.local_size.specs.LocalAnswers.{both_polynomial, IsLocal}
 use Rattle.local_size.specs.Places.{is_polynomial_at}
 use Rattle.local_size.specs.Sides.{Sought, ArmFound, NoneFound, LimitPassed}
 
 module _ (m : Prepared) (spot : Spot) (pivots : ℕ) (empty : EmptyAnswer) where
   -- the update's own polynomial
-  pub by-itself : (l : LocalBound) → is_polynomial_at m spot.place ≡ true → l ≡ polynomial_bound
+  pub by-itself : (l : LocalBound) → is_polynomial_at m spot.place ≡ true → l ≡ both_polynomial
       → IsLocal m spot pivots empty (HasBound l)
   by-itself l e f = inl (e, f)
 

@@ -12,7 +12,7 @@ use Rattle.proof_nodes.specs.Nodes.{Spot}
 use Rattle.proof_nodes.specs.AcceptsSizes.{ReadsLeft, left_in, IsPolynomialUpdate}
 use Rattle.proof_nodes.specs.ComposedSizes.{poly_of}
 use Rattle.proof_setting.specs.Setting.{polys_in, bent_at, setting_of}
-use Rattle.local_size.specs.Places.{is_of_left, update_at, is_polynomial_at}
+use Rattle.local_size.specs.Places.{is_of_left, expanded_at, is_polynomial_at}
 
 -- what passes a test, one by one
 all-pass : {A : Type 0} (test : A → Bool) (P : A → Type 0) → ((x : A) → test x ≡ true → P x) → (xs : List A)
@@ -38,7 +38,7 @@ bent-there (q ∷ qs) (suc i) e = bent-there qs i e
 module _ (p : Program) (r : Rule) (t : ℕ) (numbered : rule_at p t ≡ Some r) where
   -- the polynomial that acceptance sees
   poly-seen : (place : ℕ) → is_polynomial_at (prepared r) place ≡ true
-      → poly_of (setting_of p) t place ≡ Some (update_at (prepared r) place)
+      → poly_of (setting_of p) t place ≡ Some (expanded_at (prepared r) place)
   poly-seen zero e = absurd (true≢false (sym e))
   poly-seen (suc i) e =
       ap (λ (o : Option Rule). bent_at (polys_in o) i) numbered
@@ -47,7 +47,7 @@ module _ (p : Program) (r : Rule) (t : ℕ) (numbered : rule_at p t ≡ Some r) 
 
   -- it reads left variables alone
   left-read : (place : ℕ) → is_polynomial_at (prepared r) place ≡ true
-      → ReadsLeft (left_in (rule_at p t)) (update_at (prepared r) place)
+      → ReadsLeft (left_in (rule_at p t)) (expanded_at (prepared r) place)
   left-read zero e = absurd (true≢false (sym e))
   left-read (suc i) e =
       subst (λ (o : Option Rule). ReadsLeft (left_in o) (slice_index_or (polys_of r) i [])) (sym numbered)
@@ -58,7 +58,7 @@ module _ (p : Program) (r : Rule) (t : ℕ) (numbered : rule_at p t ≡ Some r) 
 pub polynomial-accepted : (p : Program) (r : Rule) (spot : Spot) → rule_at p spot.rule ≡ Some r
     → is_polynomial_at (prepared r) spot.place ≡ true → IsPolynomialUpdate (setting_of p) spot
 polynomial-accepted p r spot numbered e = record {
-  polynomial = update_at (prepared r) spot.place;
+  polynomial = expanded_at (prepared r) spot.place;
   bent = poly-seen p r spot.rule numbered spot.place e;
   left_alone = left-read p r spot.rule numbered spot.place e;
 }

@@ -1,4 +1,5 @@
 -- What the answers of the solver make of a kind's question, and of a side.
+use Rattle.simplex_core.specs.declared.answers.Cause.{Cause as TripCause}
 use Rattle.std.proofs.Common.{◌≡◌, ℕ, ◌+◌, ◌*◌, ◌<◌, ◌≤◌, inl, inr, refl, sym, ap, ◌∙◌, subst, arith, List, [], ◌∷◌, map}
 use Rattle.std.proofs.Common.{length}
 use Rattle.std.specs.Prelude.{ℤ, pos, nat_abs}
@@ -16,7 +17,6 @@ use Rattle.simplex_core.specs.declared.problem.Problem.{Problem}
 use Rattle.simplex_core.specs.declared.scaling.Scaled.{Scaled}
 use Rattle.simplex_core.specs.declared.answers.Answer.{Answer}
 use Rattle.simplex_core.specs.declared.answers.Answer.TheVariants.{Solution, Dual, Tripped}
-use Rattle.simplex_core.specs.declared.answers.Cause.{Cause as TripCause}
 use Rattle.simplex_core.specs.Problem.{program_of}
 use Rattle.simplex_core.specs.Trips.{Trips, IsWholeAnswer, cause_of as cause_solved}
 use Rattle.simplex_core.proofs.Agreement.{whole-answers-agree}

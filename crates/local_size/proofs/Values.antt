@@ -28,7 +28,7 @@ use Rattle.rank_search.proofs.EmptyProblems.{rows-all}
 use Rattle.rank_search.proofs.GoalForms.{after-listed}
 use Rattle.rank_search.proofs.RankProblems.{news-small}
 use Rattle.local_size.specs.Asking.{IsValue}
-use Rattle.local_size.specs.Places.{local_forms, value_on, update_at}
+use Rattle.local_size.specs.Places.{local_forms, value_on, expanded_at}
 
 -- numbers of rows stay such when they are negated
 opposite-number : (a : ℤ) → nat_abs a ≤ coefficient_limit → nat_abs (negsuc 0 *ℤ a) ≤ coefficient_limit
@@ -93,7 +93,7 @@ module _ (m : RuleRows) (is : IsPrepared m) where
 -- the update at a place, as it is read
 pub update-read : (m : RuleRows) (place : ℕ) (polys : List Poly) (update d : Poly) → 1 ≤ place → polys ≡ m.polys.items
     → true ≡ nat_lt (place - 1) (length polys) → update ≡ slice_index_or polys (place - 1) d
-    → monomials_of update.terms.items ≡ update_at (prepared_of m) place
+    → monomials_of update.terms.items ≡ expanded_at (prepared_of m) place
 update-read m zero polys update d l e f g = absurd (omega (arith, l))
 update-read m (suc i) polys update d l e f g =
     let k : suc i - 1 ≡ i = omega arith in

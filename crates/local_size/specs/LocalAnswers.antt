@@ -1,9 +1,10 @@
 -- What is answered of a place: how large its new value can be in terms of the values before, or why that isn't known.
-use Rattle.std.specs.Prelude.{◌≡◌, ◌⊎◌, ℕ, Bool, true, false, List, ℤ, Some}
+use Rattle.std.specs.Prelude.{◌≡◌, ◌⊎◌, ℕ, true, false, List, ℤ, Some}
 use Rattle.guard_prep.specs.Prepared.{Prepared}
 use Rattle.proof_nodes.specs.Nodes.{Spot, Arm, Poly, LocalBound}
 use Rattle.proof_nodes.specs.Gaps.{ScaledPoint}
 use Rattle.proof_nodes.specs.AcceptsSizes.{Side, Up, Low}
+use Rattle.outcome.specs.Views.{side_by}
 use Rattle.proof_tree.specs.Views.{local_of}
 use Rattle.proof_tree.specs.AnswerViews.{cause_of, scaled_of}
 use Rattle.proof_tree.specs.declared.answer.Question.TheVariants as questions
@@ -21,11 +22,6 @@ pub data Local : Type 0 where
   IsLooseOn : Side → List ℤ → ScaledPoint → Local
   HasTripped : Trip → Local
 
--- the side that a flag names
-abbrev pub side_by : Bool → Side
-side_by true = Up
-side_by false = Low
-
 abbrev pub local_seen : LocalAnswer → Local
 local_seen (answers.Bound l) = HasBound (local_of l)
 local_seen (answers.Loose l) = IsLooseOn (side_by l.up) l.ray.items (scaled_of l.kept)
@@ -37,8 +33,8 @@ SideComesTo m place pivots side x =
     SearchComesTo (local_forms m) (value_on side m place) pivots (kinds_of m place) x
 
 -- the polynomial itself bounds both sides: then nothing is asked
-abbrev pub polynomial_bound : LocalBound
-polynomial_bound = record { up = Poly; low = Poly }
+abbrev pub both_polynomial : LocalBound
+both_polynomial = record { up = Poly; low = Poly }
 
 -- both sides have an arm
 pub record HasArms (m : Prepared) (place pivots : ℕ) (l : LocalBound) : Type 0 where
@@ -80,7 +76,7 @@ pub record IsEmptyTrip (m : Prepared) (place pivots : ℕ) (empty : EmptyAnswer)
 -- what the answer for a place says, within a number of pivots, where this is known of the rule's rows: both arms are
 -- the update's own polynomial, or those that the questions of the sides come to; a side is loose; or what tripped
 abbrev pub IsLocal : Prepared → Spot → ℕ → EmptyAnswer → Local → Type 0
-IsLocal m spot pivots empty (HasBound l) = ((is_polynomial_at m spot.place ≡ true) × (l ≡ polynomial_bound))
+IsLocal m spot pivots empty (HasBound l) = ((is_polynomial_at m spot.place ≡ true) × (l ≡ both_polynomial))
     ⊎ HasArms m spot.place pivots l
 IsLocal m spot pivots empty (IsLooseOn side ray kept) = IsLoosePlace m spot.place pivots empty side ray kept
 IsLocal m spot pivots empty (HasTripped t) = IsOwnTrip m spot pivots t ⊎ IsEmptyTrip m spot.place pivots empty t

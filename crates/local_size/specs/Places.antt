@@ -24,9 +24,9 @@ is_bent_at m zero = false
 is_bent_at m (suc i) = slice_index_or m.bent i false
 
 -- the expanded update at a place
-abbrev pub update_at : Prepared → ℕ → Polynomial
-update_at m zero = []
-update_at m (suc i) = slice_index_or m.polys i []
+abbrev pub expanded_at : Prepared → ℕ → Polynomial
+expanded_at m zero = []
+expanded_at m (suc i) = slice_index_or m.polys i []
 
 -- whether a polynomial has left variables alone, of which there are so many
 abbrev pub is_of_left : ℕ → Polynomial → Bool
@@ -34,7 +34,7 @@ is_of_left left q = list_all (λ m. list_all (λ v. nat_lt v left) m.vars) q
 
 -- whether the update at a place has degree 2 or more and left variables alone
 abbrev pub is_polynomial_at : Prepared → ℕ → Bool
-is_polynomial_at m place = is_bent_at m place && is_of_left m.left (update_at m place)
+is_polynomial_at m place = is_bent_at m place && is_of_left m.left (expanded_at m place)
 
 -- the kinds of forms that are looked for at a place, in their order
 abbrev pub kinds_of : Prepared → ℕ → List Kind

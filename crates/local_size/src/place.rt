@@ -7,7 +7,8 @@ ghost use Rattle.proof_tree.specs.Views.{spot_of};
 ghost use Rattle.proof_tree.specs.declared.answer.Question.TheVariants as questions;
 ghost use Rattle.rank_search.specs.EmptyAnswers.{IsPrepared, SaysEmpty};
 ghost use Rattle.local_size.specs.Asking.{side_of, IsLoosened};
-ghost use Rattle.local_size.specs.LocalAnswers.{local_seen, side_by, HasTripped, IsLocal};
+ghost use Rattle.local_size.specs.LocalAnswers.{local_seen, HasTripped, IsLocal};
+ghost use Rattle.outcome.specs.Views.{side_by};
 
 use crate::answer::LocalAnswer;
 use crate::kinds::kinds_of;

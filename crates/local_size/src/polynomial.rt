@@ -4,7 +4,7 @@ ghost use Rattle.std.specs.Prelude.{◌≡◌, ◌≤◌, map, nat_lt};
 ghost use Rattle.std.specs.List.{list_all};
 ghost use Rattle.guard_prep.specs.Views.{prepared_of};
 ghost use Rattle.poly_terms.specs.Views.{monomials_of};
-ghost use Rattle.local_size.specs.Places.{is_bent_at, is_of_left, is_polynomial_at, update_at};
+ghost use Rattle.local_size.specs.Places.{is_bent_at, is_of_left, is_polynomial_at, expanded_at};
 
 use guard_prep::RuleRows;
 use poly_terms::Monomial;
@@ -34,7 +34,7 @@ pub(crate) fn is_bent(prep: &RuleRows, place: u32) -> bool
 // Whether the update at a place has left variables alone.
 fn reads_left_alone(prep: &RuleRows, place: u32) -> bool
     requires { 1 ≤ place }
-    ensures { result ≡ is_of_left prep.now.left (update_at (prepared_of prep.now) place) }
+    ensures { result ≡ is_of_left prep.now.left (expanded_at (prepared_of prep.now) place) }
 {
     match prep.polys.get(place as usize - 1) {
         Some(update) => are_of_left(&update.terms, prep.left),

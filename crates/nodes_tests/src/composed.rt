@@ -10,7 +10,7 @@ use std::alloc::Global;
 use std::test::Fail;
 
 // A rule from one symbol to another, over one variable.
-fn rule(alloc: Global, source: u32, target: u32) -> Rule {
+pub(crate) fn rule(alloc: Global, source: u32, target: u32) -> Rule {
     Rule {
         source,
         target,
@@ -23,7 +23,7 @@ fn rule(alloc: Global, source: u32, target: u32) -> Rule {
 }
 
 // The rules 0 -> 1 and 1 -> 1, from symbol 0.
-fn entering_a_loop(alloc: Global) -> Result<Program, Memory>
+pub(crate) fn entering_a_loop(alloc: Global) -> Result<Program, Memory>
     ensures { IfOk result (λ p. length p.rules.items ≡ 2) }
 {
     Ok(Program {

@@ -1,5 +1,5 @@
 -- Reports on a program, and when what a report says holds on all of its runs.
-use Rattle.std.specs.Prelude.{◌≡◌, ◌⊎◌, ◌↔◌, ℕ, zero, suc, List, [], length, map, Option, Some, None, IsTrue, IsSome}
+use Rattle.std.specs.Prelude.{◌≡◌, ◌↔◌, ℕ, zero, suc, List, length, map, Option, Some, None, IsTrue, IsSome}
 use Rattle.std.specs.Prelude.{slice_get}
 use Rattle.std.specs.List.{list_all}
 use Rattle.model.specs.Programs.{Program, arity_of}
@@ -8,11 +8,11 @@ use Rattle.model.specs.Facts.{HoldsTime, HoldsSize, HoldsTotal}
 use Rattle.outcome.specs.Reports.{Time, Timed, Size, Sized, Report, is_timed}
 
 -- a report on a program: one entry for each rule; a total exactly where every rule has a time; and for each rule an
--- entry for each place of its target, or no sizes at all
+-- entry for each place of its target
 pub record IsReportOn (p : Program) (r : Report) : Type 0 where
   pub times : length r.times ≡ length p.rules
   pub total : IsTrue (list_all is_timed r.times) ↔ IsSome r.total
-  pub sizes : (r.sizes ≡ []) ⊎ (map length r.sizes ≡ map (λ rule. arity_of p rule.target) p.rules)
+  pub sizes : map length r.sizes ≡ map (λ rule. arity_of p rule.target) p.rules
 
 -- the entry of this number, from 1
 abbrev pub numbered_entry : {A : Type 0} → List A → ℕ → Option A

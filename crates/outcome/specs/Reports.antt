@@ -2,6 +2,7 @@
 use Rattle.std.specs.Prelude.{ℕ, Bool, true, false, List, ℤ, Option}
 use Rattle.model.specs.Bounds.{Bound}
 use Rattle.proof_nodes.specs.Nodes.{Spot}
+use Rattle.proof_nodes.specs.AcceptsSizes.{Side}
 use Rattle.proof_nodes.specs.Gaps.{ScaledPoint, Gap}
 use Rattle.proof_tree.specs.declared.answer.Trip.{Trip}
 
@@ -15,11 +16,6 @@ pub data NoTime : Type 0 where
 pub data Time : Type 0 where
   Timed : Bound → Time
   Untimed : NoTime → Time
-
--- which side of a place is loose
-pub data Side : Type 0 where
-  Up : Side
-  Low : Side
 
 -- why a place has no size: a side is loose, along a ray and from a point; a linear program passed a limit; a size from
 -- outside is missing; a polynomial arm reads a member; a rule has no time; or the bound is too large
@@ -37,7 +33,7 @@ pub data Size : Type 0 where
   Unsized : NoSize → Size
 
 -- a time of each rule or why there is none, in order; the total, where there is one; and for each rule, in order, a
--- size of each place or why there is none. A report without sizes has none for any rule
+-- size of each place or why there is none
 pub record Report : Type 0 where
   pub times : List Time
   pub total : Option Bound

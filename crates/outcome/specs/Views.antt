@@ -14,7 +14,8 @@ use Rattle.outcome.specs.declared.entry.SizeEntry.TheVariants as sizes
 use Rattle.outcome.specs.declared.outcome_of.Outcome.{Outcome}
 use Rattle.outcome.specs.Reports.{NoFunction, TimeTripped, TimeLarge}
 use Rattle.outcome.specs.Reports.{Time, Timed, Untimed}
-use Rattle.outcome.specs.Reports.{Side, Up, Low, NoSize, IsLoose, SizeTripped, IsMissing, IsBent, LacksTime, SizeLarge}
+use Rattle.proof_nodes.specs.AcceptsSizes.{Side, Up, Low}
+use Rattle.outcome.specs.Reports.{NoSize, IsLoose, SizeTripped, IsMissing, IsBent, LacksTime, SizeLarge}
 use Rattle.outcome.specs.Reports.{Size, Sized, Unsized, Report}
 
 -- the gap without points, over no rule
@@ -36,13 +37,13 @@ time_of gaps (times.Tripped t) = Untimed (TimeTripped t)
 time_of gaps (times.Large n) = Untimed (TimeLarge n)
 
 -- the side that a flag names
-abbrev pub side_of : Bool → Side
-side_of true = Up
-side_of false = Low
+abbrev pub side_by : Bool → Side
+side_by true = Up
+side_by false = Low
 
 -- why a loose place has no size
 abbrev pub loose_of : Loose → NoSize
-loose_of l = IsLoose (side_of l.up) l.ray.items (scaled_of l.kept)
+loose_of l = IsLoose (side_by l.up) l.ray.items (scaled_of l.kept)
 
 -- a size, or why there is none, as plain data
 abbrev pub size_of : SizeEntry → Size

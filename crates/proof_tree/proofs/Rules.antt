@@ -13,10 +13,11 @@ use Rattle.its_model.specs.Views.{rule_of, program_of}
 use Rattle.model.specs.Entries.{is_in, enters, entries}
 use Rattle.proof_nodes.specs.Composed.{rank_form}
 use Rattle.proof_tree.specs.declared.rank.Form.{Form}
+use Rattle.proof_tree.proofs.Numbers.{numbers-more}
 use Rattle.proof_tree.specs.Views.{form_of}
 
 -- the rule with a number
-rule_here : (p : Program) (t : ℕ) (r : Rule) → 0 < t → t ≤ length p.rules.items → r ≡ get_or p.rules.items (t - 1) r
+pub rule_here : (p : Program) (t : ℕ) (r : Rule) → 0 < t → t ≤ length p.rules.items → r ≡ get_or p.rules.items (t - 1) r
     → rule_at (program_of p) t ≡ Some (rule_of r)
 rule_here p zero r n l e = absurd (omega (arith, n))
 rule_here p (suc t) r n l e =
@@ -98,13 +99,6 @@ pub in_none : (n : ℕ) (xs : List ℕ) (i : ℕ) → length xs ≤ i → is_in 
 in_none n xs i l kept = sym (ap (is_in n) (drop_all i xs l)) ∙ kept
 
 -- the entries up to a number, and one more
-numbers-more : (a n : ℕ) → range_with_len a (n + 1) ≡ range_with_len a n ++ (a + n) ∷ []
-numbers-more a zero = ap (λ (m : ℕ). m ∷ []) (let e : a ≡ a + 0 = omega arith in e)
-numbers-more a (suc n) =
-    ap (range_with_len a) (let k : suc n + 1 ≡ suc (n + 1) = omega arith in k)
-    ∙ ap (λ (ms : List ℕ). a ∷ ms) (numbers-more (a + 1) n
-    ∙ ap (λ (m : ℕ). range_with_len (a + 1) n ++ m ∷ []) (let e : a + 1 + n ≡ a + suc n = omega arith in e))
-
 module _ (p : plain.Program) (set : List ℕ) where
   entries-more : (t : ℕ) → filter (enters p set) (range_with_len 0 (t + 1))
       ≡ filter (enters p set) (range_with_len 0 t) ++ cond (enters p set t) (t ∷ []) []

@@ -3,4 +3,7 @@ pub mod AnswerViews
 pub mod Sizes
 pub mod Lookups
 pub mod Composing
+pub mod Reading
+pub mod Shut
+pub mod NumberSets
 pub mod Laws

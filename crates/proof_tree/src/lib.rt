@@ -6,6 +6,7 @@
 
 mod answer;
 mod arm;
+mod copies;
 mod entering;
 mod fact;
 mod file;
@@ -16,10 +17,12 @@ mod places;
 mod proof;
 mod rank;
 mod ranking;
+mod reading;
 mod spreading;
 
 pub use answer::{EmptyAnswer, GapFault, Question, Reason, Trip, TripCause};
 pub use arm::{Arm, LocalBound, Member, Spot};
+pub use copies::copied_local;
 pub use entering::{entries, source_of, target_of};
 pub use fact::Fact;
 pub use file::ProofFile;
@@ -27,7 +30,8 @@ pub use gap::Gap;
 pub use known::{Known, Stated};
 pub use lookup::{size_in, time_in};
 pub use places::{has_spot, known_or_zero, rounded_coefficient};
-pub use proof::{CycleNode, EmptyNode, Proof, SpreadNode, UnreachedNode};
+pub use proof::{CycleNode, EmptyNode, Proof, SpreadNode, UnreachedNode, cite};
 pub use rank::{Form, RankNode};
 pub use ranking::{rank_form, rank_time};
+pub use reading::{bent_update, places_read};
 pub use spreading::{arm_bound, spread_size, spreads_are_over_what_comes_before};

@@ -1,5 +1,9 @@
 // Proof trees.
 
+ghost use Rattle.std.specs.Prelude.{◌≡◌};
+ghost use Rattle.proof_nodes.specs.Nodes.{Cite};
+ghost use Rattle.proof_tree.specs.Views.{proof_of};
+
 use crate::arm::{LocalBound, Member, Spot};
 use crate::rank::RankNode;
 use bound_expr::Bound;
@@ -58,4 +62,11 @@ pub struct SpreadNode {
 pub struct CycleNode {
     pub members: Vec<Member>,
     pub uses: Vec<Proof>,
+}
+
+/// An earlier lemma as a node.
+pub fn cite(lemma: u32) -> Proof
+    ensures { proof_of result ≡ Cite lemma }
+{
+    Proof::Cite(lemma)
 }

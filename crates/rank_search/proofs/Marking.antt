@@ -1,15 +1,18 @@
 -- Symbols by their numbers: what is done, and what is left.
-use Rattle.std.proofs.Common.{◌≡◌, ℕ, zero, suc, ◌+◌, ◌<◌, ◌≤◌, ◌||◌, Bool, true, false, cond, List, [], ◌∷◌, ◌++◌}
-use Rattle.std.proofs.Common.{length, map, filter, get_or, drop, Some, None, refl, sym, ap, ◌∙◌, arith}
+use Rattle.std.proofs.Common.{◌≡◌, ℕ, zero, suc, ◌+◌, ◌<◌, ◌||◌, Bool, true, false, cond}
+use Rattle.std.proofs.Common.{List, [], ◌∷◌, ◌++◌, length, map, filter, get_or, take, Option, Some, None}
+use Rattle.std.proofs.Common.{is_some, refl, sym, ap, ◌∙◌, arith}
 use Rattle.std.specs.List.{range_with_len}
-use Rattle.std.proofs.lemmas.List.{drop_more, drop_all, length-map}
+use Rattle.std.proofs.Math.Bool.{or_assoc}
+use Rattle.std.proofs.lemmas.List.{length-map}
+use Rattle.std.proofs.lemmas.List.Folds.{list_any_more}
 use Rattle.std.proofs.lemmas.List.Elements.{filter-append}
 use Rattle.model.specs.Programs as plain
 use Rattle.model.specs.Paths.{source_of, target_of, same_symbol}
 use Rattle.its_model.specs.declared.program.Program.{Program}
 use Rattle.its_model.specs.Views.{program_of, symbol_of}
 use Rattle.proof_nodes.specs.Graph.{touches, symbols_of}
-use Rattle.rank_search.specs.Marks.{mark}
+use Rattle.rank_search.specs.Marks.{mark, AreMarks}
 
 -- one number more
 pub numbers-more : (a n : ℕ) → range_with_len a (n + 1) ≡ range_with_len a n ++ (a + n) ∷ []
@@ -79,45 +82,23 @@ symbols-whole p set found n e h =
     h ∙ ap (λ (m : ℕ). filter (touches (program_of p) set) (range_with_len 0 m))
     (let k : n ≡ length (map symbol_of p.symbols.items) = omega (arith, e, length-map p.symbols.items symbol_of) in k)
 
--- a rule that touches the symbol, or one that doesn't
-module _ (p : plain.Program) (set : List ℕ) (n i t : ℕ) (l : i < length set) (is : t ≡ get_or set i t)
-    (kept : touches p (drop i set) n ≡ touches p set n) where
-  next : touches p set n ≡ (same_symbol (Some n) (source_of p t) || same_symbol (Some n) (target_of p t)) || touches p
-      (drop (i + 1) set) n
-  next = sym kept ∙ (ap (λ (xs : List ℕ). touches p xs n) (drop_more set i t l)
-      ∙ ap (λ (u : ℕ). (same_symbol (Some n) (source_of p u) || same_symbol (Some n) (target_of p u)) || touches p
-      (drop (i + 1) set) n) (sym is))
+-- whether a number is marked
+pub mark-there : (b : Bool) (n : ℕ) → is_some (mark b n) ≡ b
+mark-there true n = refl
+mark-there false n = refl
 
-  pub source-touches : (m : ℕ) → Some m ≡ mark (same_symbol (Some n) (source_of p t)) n → Some m ≡ mark
-      (touches p set n) n
-  source-touches m e =
-      let h = mark-some (same_symbol (Some n) (source_of p t)) n m e in
-      ap Some h.1 ∙ sym (ap (λ (b : Bool). mark b n) (next
-      ∙ ap (λ (b : Bool). (b || same_symbol (Some n) (target_of p t)) || touches p (drop (i + 1) set) n) h.0))
+-- marks by one test are those by another that says the same
+pub marks-by : (f g : ℕ → Bool) (marks : List (Option ℕ)) → ((n : ℕ) → f n ≡ g n) → AreMarks f marks → AreMarks g marks
+marks-by f g marks same kept n l = kept n l ∙ ap (λ (b : Bool). mark b n) (same n)
 
-  pub target-touches : (m : ℕ) → None ≡ mark (same_symbol (Some n) (source_of p t)) n
-      → Some m ≡ mark (same_symbol (Some n) (target_of p t)) n → Some m ≡ mark (touches p set n) n
-  target-touches m none e =
-      let h = mark-some (same_symbol (Some n) (target_of p t)) n m e in
-      ap Some h.1 ∙ sym (ap (λ (b : Bool). mark b n) (next
-      ∙ (ap (λ (b : Bool). (b || same_symbol (Some n) (target_of p t)) || touches p (drop (i + 1) set) n)
-      (mark-none (same_symbol (Some n) (source_of p t)) n none)
-      ∙ ap (λ (b : Bool). (false || b) || touches p (drop (i + 1) set) n) h.0)))
-
-  pub touches-later : None ≡ mark (same_symbol (Some n) (source_of p t)) n
-      → None ≡ mark (same_symbol (Some n) (target_of p t)) n → touches p (drop (i + 1) set) n ≡ touches p set n
-  touches-later none other =
-      sym (next
-      ∙ (ap (λ (b : Bool). (b || same_symbol (Some n) (target_of p t)) || touches p (drop (i + 1) set) n)
-      (mark-none (same_symbol (Some n) (source_of p t)) n none)
-      ∙ ap (λ (b : Bool). (false || b) || touches p (drop (i + 1) set) n)
-      (mark-none (same_symbol (Some n) (target_of p t)) n other)))
-
--- no rule is left
-pub touches-none : (p : plain.Program) (set : List ℕ) (n i : ℕ) → length set ≤ i
-    → touches p (drop i set) n ≡ touches p set n → None ≡ mark (touches p set n) n
-touches-none p set n i l kept =
-    ap (λ (b : Bool). mark b n) (sym (ap (λ (xs : List ℕ). touches p xs n) (drop_all i set l)) ∙ kept)
+-- the symbols that the rules so far touch, and one rule more
+pub touches-more : (p : plain.Program) (rules : List ℕ) (i : ℕ) → i < length rules → (n : ℕ)
+    → ((touches p (take i rules) n || same_symbol (Some n) (source_of p (get_or rules i 0)))
+    || same_symbol (Some n) (target_of p (get_or rules i 0))) ≡ touches p (take (i + 1) rules) n
+touches-more p rules i l n =
+    or_assoc (touches p (take i rules) n) (same_symbol (Some n) (source_of p (get_or rules i 0)))
+    (same_symbol (Some n) (target_of p (get_or rules i 0)))
+    ∙ sym (list_any_more (λ t. same_symbol (Some n) (source_of p t) || same_symbol (Some n) (target_of p t)) rules i 0 l)
 
 -- values of all numbers so far, and one more
 pub values-pushed : {A : Type 0} (f : ℕ → A) (n : ℕ) (old new : List A) (x : A) → old ≡ map f (range_with_len 0 n)

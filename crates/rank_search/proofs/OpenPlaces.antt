@@ -8,7 +8,8 @@ use Rattle.model.specs.Programs.{Program, arity_of}
 use Rattle.proof_nodes.specs.Gaps.{SymbolPlace}
 use Rattle.rank_search.specs.declared.coefficients.Coefficient.{Coefficient as Sought}
 use Rattle.rank_search.specs.Coefficients.{coefficient_of, open_block, open_set}
-use Rattle.rank_search.specs.ProgramQuestions.{is_shut, ranked_set}
+use Rattle.proof_tree.specs.Shut.{is_shut}
+use Rattle.rank_search.specs.ProgramQuestions.{ranked_set}
 use Rattle.rank_search.proofs.Marking.{filter-pushed, filter-passed}
 
 -- the coefficient of a place of a symbol

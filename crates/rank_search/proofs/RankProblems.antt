@@ -49,19 +49,10 @@ use Rattle.rank_search.specs.Goals.{goal_form, fixed_form, part_group, part_for,
 use Rattle.rank_search.specs.ProgramQuestions.{forms_of, forms_in, ranked_set, is_entered}
 use Rattle.rank_search.specs.Programs.{IsProblemOf}
 use Rattle.rank_search.specs.RankAnswers.{IsRuleSet}
+use Rattle.proof_tree.proofs.Rules.{rule_here}
 use Rattle.rank_search.proofs.Counts.{rule-inside, coefficients-held, value-at}
 use Rattle.rank_search.proofs.EmptyProblems.{rows-all, rows-writable}
 use Rattle.rank_search.proofs.RankSets.{set-of}
-
--- the rule with a number, as it is read
-rule-read : (p : Program) (t : ℕ) (r : Rule) → 0 < t → t ≤ length p.rules.items → r ≡ get_or p.rules.items (t - 1) r
-    → rule_at (program_of p) t ≡ Some (rule_of r)
-rule-read p zero r n l e = absurd (omega (arith, n))
-rule-read p (suc t) r n l e =
-    slice_get-map rule_of p.rules.items t
-    ∙ ap (λ (o : Option Rule). option_map rule_of o)
-    (slice_get_read p.rules.items (length p.rules.items) t r refl (omega (arith, l))
-    (e ∙ ap (λ (i : ℕ). get_or p.rules.items i r) (let k : suc t - 1 ≡ t = omega arith in k)))
 
 -- each rule has its rows
 pub rows-long : (p : Program) (preps : List RuleRows) → AreRowsOf preps (program_of p) → length preps
@@ -92,7 +83,7 @@ module _ (p : Program) (preps : List RuleRows) (valid : IsValid (program_of p))
   module _ (t : ℕ) (i : IsRule (program_of p) t) (r : Rule) (m : RuleRows) (is : r ≡ get_or p.rules.items (t - 1) r)
       (has : m ≡ get_or preps (t - 1) m) where
     numbered : rule_at (program_of p) t ≡ Some (rule_of r)
-    numbered = rule-read p t r (rule-room t i).0 (rule-room t i).1 is
+    numbered = rule_here p t r (rule-room t i).0 (rule-room t i).1 is
 
     same : prepared_of m ≡ prepared (rule_of r)
     same = rows-read p preps (t - 1) r m rows (let h = rule-room t i in omega (arith, h.0, h.1)) is has

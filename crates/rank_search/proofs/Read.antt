@@ -16,7 +16,8 @@ use Rattle.rule_forms.proofs.Losses.{share, share-other, share-own}
 use Rattle.model.specs.Programs.{Program, arity_of}
 use Rattle.proof_nodes.specs.Gaps.{SymbolPlace}
 use Rattle.proof_nodes.specs.Nodes.{SymbolForm}
-use Rattle.rank_search.specs.ProgramQuestions.{is_shut, ranked_set}
+use Rattle.proof_tree.specs.Shut.{is_shut}
+use Rattle.rank_search.specs.ProgramQuestions.{ranked_set}
 use Rattle.rank_search.specs.RankAnswers.{part_at}
 use Rattle.rank_search.specs.Reading.{open_count, read_coefs, read_form, read_forms}
 use Rattle.rank_search.proofs.Lists.{listed-agree}

@@ -1,6 +1,6 @@
 -- What questions see of the rules of a program: each rule as forms, and sets of rules with their shut places and the
 -- symbols that are entered.
-use Rattle.std.specs.Prelude.{ℕ, nat_eq, ◌&&◌, Bool, List, [], length, map, Option, Some, None}
+use Rattle.std.specs.Prelude.{ℕ, Bool, List, [], length, map, Option, Some, None}
 use Rattle.std.specs.List.{list_any}
 use Rattle.model.specs.Programs.{Program, Rule, rule_at, arity_of}
 use Rattle.model.specs.Paths.{target_of, same_symbol}
@@ -8,6 +8,7 @@ use Rattle.linear_forms.specs.RuleQuestions.{RuleForms, RankedSet}
 use Rattle.guard_prep.specs.Prepared.{Prepared, prepared}
 use Rattle.proof_nodes.specs.Gaps.{SymbolPlace}
 use Rattle.proof_tree.specs.AnswerViews.{shut_of}
+use Rattle.proof_tree.specs.Shut.{is_shut}
 use Rattle.model.specs.Entries.{entries}
 
 -- what a question sees of a rule from one symbol to another, of which this is prepared
@@ -25,10 +26,6 @@ forms_of source target m = record {
 abbrev pub forms_in : Option Rule → RuleForms
 forms_in None = record { source = 0; target = 0; left = 0; unknowns = 0; rows = []; news = [] }
 forms_in (Some r) = forms_of r.source r.target (prepared r)
-
--- the place of a symbol is among the shut ones; places count from 1
-abbrev pub is_shut : List SymbolPlace → ℕ → ℕ → Bool
-is_shut shut s i = list_any (λ c. nat_eq c.symbol s && nat_eq c.place i) shut
 
 -- an entry of the set leads to the symbol: a rule outside it, or the virtual entry, that leads to where a rule of it
 -- comes from

@@ -19,7 +19,8 @@ use Rattle.proof_nodes.specs.Setting.{Setting}
 use Rattle.proof_setting.specs.Setting.{setting_of}
 use Rattle.proof_tree.specs.declared.answer.EmptyAnswer.{EmptyAnswer}
 use Rattle.rank_search.specs.declared.answer.RankAnswer.{RankAnswer}
-use Rattle.rank_search.specs.ProgramQuestions.{is_shut, ranked_set}
+use Rattle.proof_tree.specs.Shut.{is_shut}
+use Rattle.rank_search.specs.ProgramQuestions.{ranked_set}
 use Rattle.rank_search.specs.Programs.{NothingTrips}
 use Rattle.rank_search.specs.RankAnswers.{IsRuleSet, AreEmptyAnswers, rank_program, IsRankNode, IsRankAnswer}
 use Rattle.rank_search.specs.RankAnswers.{first_trip, SaysRanked, SaysNoRank, SaysTripped}

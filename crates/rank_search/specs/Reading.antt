@@ -16,7 +16,7 @@ use Rattle.proof_tree.specs.declared.gap.Gap.{Gap}
 use Rattle.proof_tree.specs.declared.rank.RankNode.{RankNode}
 use Rattle.proof_tree.specs.AnswerViews.{gap_of}
 use Rattle.proof_tree.specs.Views.{rank_of}
-use Rattle.rank_search.specs.ProgramQuestions.{is_shut}
+use Rattle.proof_tree.specs.Shut.{is_shut}
 use Rattle.rank_search.specs.RankAnswers.{answer_for, point_in, points_of}
 
 -- how many of n places from a on aren't shut

@@ -5,7 +5,8 @@ ghost use Rattle.linear_forms.specs.RuleQuestions.{coefficients};
 ghost use Rattle.model.specs.Programs.{arity_of};
 ghost use Rattle.its_model.specs.Views.{program_of};
 ghost use Rattle.rank_search.specs.Coefficients.{coefficient_of, open_set, open_block};
-ghost use Rattle.rank_search.specs.ProgramQuestions.{is_shut, places_of};
+ghost use Rattle.proof_tree.specs.Shut.{is_shut};
+ghost use Rattle.rank_search.specs.ProgramQuestions.{places_of};
 
 use its_model::Program;
 use poly_terms::Memory;

@@ -10,7 +10,8 @@ ghost use Rattle.its_model.specs.Views.{program_of};
 ghost use Rattle.model.specs.Programs.{arity_of};
 ghost use Rattle.proof_tree.specs.Views.{form_of as part_of};
 ghost use Rattle.simplex_core.specs.Scaling.{AreWithin};
-ghost use Rattle.rank_search.specs.ProgramQuestions.{is_shut, places_of};
+ghost use Rattle.proof_tree.specs.Shut.{is_shut};
+ghost use Rattle.rank_search.specs.ProgramQuestions.{places_of};
 ghost use Rattle.rank_search.specs.Reading.{open_count, read_form, read_forms, shape_at, shapes, IsNodeRead};
 
 use crate::coefficients::{arity_at, is_among};

@@ -20,7 +20,7 @@ use Rattle.round_relation.specs.NewSizes.{Sizes, has_spot, is_unsized, size_by}
 use Rattle.round_relation.specs.Uses.{Numbers}
 use Rattle.round_relation.specs.LemmaOrder.{AreNumbersOf}
 use Rattle.round_relation.specs.SizeLemmas.{IsSizeLemma, IsComponentLemma, AreComponentLemmas}
-use Rattle.round_relation.specs.Standing.{IsUniform, IsOf, AreOf, AreLivePlaces, FindsSize}
+use Rattle.round_relation.specs.Standing.{IsUniform, IsOf, AreOf, ArePlacesAfterRules, FindsSize}
 use Rattle.round_relation.specs.Laws.{IsStated}
 use Rattle.round_relation.proofs.Cases.{told, some_same}
 use Rattle.round_relation.proofs.FactLists.{contains-first, contains-later, stated-left, stated-right}
@@ -112,7 +112,7 @@ both_of time size = record { time = time; size = size }
 
 module _ (z : SizeSearches) (s : Setting) (time : ℕ → Option Bound) (old : Sizes) (c : List Spot) (new : Sizes)
     (earlier : List Proof) (before : Stands s (both_of time old) earlier) (uniform : IsUniform old c)
-    (live : AreLivePlaces s.program c) where
+    (live : ArePlacesAfterRules s.program c) where
   -- a size is found: each member gets it, and the lemma states it
   module _ (f : FindsSize z s earlier time old c new) where
     pub own : SizesStand s (facts_from s [] earlier) c f.bound f.proof

@@ -13,7 +13,7 @@ use Rattle.proof_nodes.specs.Known.{Table}
 use Rattle.round_relation.specs.Tables.{lacks, rule_numbers}
 use Rattle.round_relation.specs.Searches.{Searches, SizeSearches, searches_of, size_searches_of}
 use Rattle.round_relation.specs.NewSizes.{Sizes, has_spot, TriesSizes}
-use Rattle.round_relation.specs.Components.{IsListed}
+use Rattle.round_relation.specs.Components.{IsCovered}
 use Rattle.round_relation.specs.Rounds.{HasNewTimes, NextTimes, IsClosedByTimes, HasNewSizes, Next, IsClosed}
 use Rattle.round_relation.specs.Numbering.{passing}
 use Rattle.round_relation.specs.Laws.{unsized, untimed, missing, RoundsEnd}
@@ -105,24 +105,24 @@ sizes_cases p old new known (t ∷ ts) =
 -- a place that is in none of the components keeps its size
 pub untouched : (z : SizeSearches) (time : ℕ → Option Bound) (old : Sizes) (cs : List (List Spot)) (new : Sizes)
     → TriesSizes z time old cs new
-    → (t i : ℕ) → ¬ (IsListed cs t i) → new t i ≡ old t i
+    → (t i : ℕ) → ¬ (IsCovered cs t i) → new t i ≡ old t i
 untouched z time old [] new h t i out = h t i
 untouched z time old (c ∷ cs) new h t i out =
     told (has_spot c t i) (λ e. absurd (out (inl e)))
     (λ e. untouched z time h.0 cs new h.2 t i (λ l. out (inr l)) ∙ h.1.others t i e)
 
 -- a place is in one of the components, or in none
-listed_or_not : (cs : List (List Spot)) (t i : ℕ) → IsListed cs t i ⊎ ¬ (IsListed cs t i)
+listed_or_not : (cs : List (List Spot)) (t i : ℕ) → IsCovered cs t i ⊎ ¬ (IsCovered cs t i)
 listed_or_not [] t i = inr (λ l. l)
 listed_or_not (c ∷ cs) t i = go (has_spot c t i) refl (listed_or_not cs t i)
   where
-    go : (v : Bool) → has_spot c t i ≡ v → IsListed cs t i ⊎ ¬ (IsListed cs t i) → IsListed (c ∷ cs) t i ⊎ ¬
-        (IsListed (c ∷ cs) t i)
+    go : (v : Bool) → has_spot c t i ≡ v → IsCovered cs t i ⊎ ¬ (IsCovered cs t i) → IsCovered (c ∷ cs) t i ⊎ ¬
+        (IsCovered (c ∷ cs) t i)
     go true e rest = inl (inl e)
     go false e (inl l) = inl (inr l)
     go false e (inr out) = inr here
       where
-        here : IsListed (c ∷ cs) t i → ⊥
+        here : IsCovered (c ∷ cs) t i → ⊥
         here (inl m) = no_is_not_yes (has_spot c t i) e m
         here (inr l) = out l
 
@@ -131,7 +131,7 @@ same_sizes : (q : Searches) (z : SizeSearches) (s : Setting) (old new : Table) �
     → AreSameSizes s.program (rule_numbers s.program) old new → (t i : ℕ) → new.size t i ≡ old.size t i
 same_sizes q z s old new n same t i = go (listed_or_not n.components t i)
   where
-    go : IsListed n.components t i ⊎ ¬ (IsListed n.components t i) → new.size t i ≡ old.size t i
+    go : IsCovered n.components t i ⊎ ¬ (IsCovered n.components t i) → new.size t i ≡ old.size t i
     go (inr out) = untouched z new.time old.size n.components new.size n.tried t i out
     go (inl l) =
         let live = (n.live.live t i).0 l in

@@ -20,7 +20,7 @@ use Rattle.model.proofs.Membership.{same_number, told_same, no_is_not_yes, filte
 use Rattle.proof_nodes.specs.Gaps.{SymbolPlace}
 use Rattle.round_relation.specs.Tables.{lacks, is_untimed, IsPlace}
 use Rattle.round_relation.specs.Sets.{IsSetOfRule, IsShut, AreShutOf}
-use Rattle.round_relation.specs.Right.{is_shut}
+use Rattle.proof_tree.specs.Shut.{is_shut}
 
 -- one path after another
 path_then : (Edge : ℕ → ℕ → Type 0) (a b c : ℕ) → Path Edge a b → Path Edge b c → Path Edge a c

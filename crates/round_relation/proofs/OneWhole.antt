@@ -10,7 +10,7 @@ use Rattle.round_relation.specs.Searches.{Searches, SizeSearches, SizeAnswers, s
 use Rattle.round_relation.specs.Searches.{NotFound}
 use Rattle.round_relation.specs.Beginning.{First}
 use Rattle.round_relation.specs.NewSizes.{Sizes, has_spot, size_by, TriesSize, TriesSizes}
-use Rattle.round_relation.specs.Components.{IsListed, IsOneOf, AreApart}
+use Rattle.round_relation.specs.Components.{IsCovered, IsOneOf, AreApart}
 use Rattle.round_relation.specs.Reasons.{IsNoSize}
 use Rattle.round_relation.specs.Rounds.{Next, IsMade, BegunWhole, MadeWhole, IsLast}
 use Rattle.round_relation.specs.Right.{AreOne}
@@ -30,7 +30,7 @@ size_answers_one z = record {
 }
 
 -- a member of one of the components is listed
-pub member_listed : (cs : List (List Spot)) (c : List Spot) (t i : ℕ) → IsOneOf cs c → has_spot c t i ≡ true → IsListed
+pub member_listed : (cs : List (List Spot)) (c : List Spot) (t i : ℕ) → IsOneOf cs c → has_spot c t i ≡ true → IsCovered
     cs t i
 member_listed [] c t i one m = absurd one
 member_listed (d ∷ cs) c t i (inl e) m = inl (subst (λ (x : List Spot). has_spot x t i ≡ true) (sym e) m)

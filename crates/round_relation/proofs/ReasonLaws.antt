@@ -10,7 +10,7 @@ use Rattle.round_relation.specs.Searches.{Searches, SizeSearches, searches_of, s
 use Rattle.round_relation.specs.Searches.{NotFound}
 use Rattle.round_relation.specs.NewTimes.{bound_in, Tells}
 use Rattle.round_relation.specs.NewSizes.{Sizes, has_spot, size_by, TriesSize, TriesSizes}
-use Rattle.round_relation.specs.Components.{IsListed, IsOneOf}
+use Rattle.round_relation.specs.Components.{IsCovered, IsOneOf}
 use Rattle.round_relation.specs.Reasons.{IsNoTime, IsNoSize}
 use Rattle.round_relation.specs.Rounds.{HasNewTimes, IsClosed}
 use Rattle.round_relation.specs.Laws.{MissingBoundsHaveReasons}
@@ -72,7 +72,7 @@ same_between z time old between c cs new one rest same t i = go (old t i) (betwe
 -- a size that is missing where nothing new was found
 listed_why : (z : SizeSearches) (time : ℕ → Option Bound) (old : Sizes) (cs : List (List Spot)) (new : Sizes)
     → TriesSizes z time old cs new
-    → ((t i : ℕ) → new t i ≡ old t i) → (t i : ℕ) → IsListed cs t i → old t i ≡ None → SizeReason z time old cs t i
+    → ((t i : ℕ) → new t i ≡ old t i) → (t i : ℕ) → IsCovered cs t i → old t i ≡ None → SizeReason z time old cs t i
 listed_why z time old [] new h same t i listed missing = absurd listed
 listed_why z time old (c ∷ cs) new h same t i (inl m) missing =
     let tried = h.1.tried (unsized_by c old t i m missing) in
@@ -85,7 +85,7 @@ listed_why z time old (c ∷ cs) new h same t i (inr listed) missing =
     (listed_why z time h.0 cs new h.2 (λ u j. same u j ∙ sym (between u j)) t i listed (between t i ∙ missing)))
 
 pub size_why : (q : Searches) (z : SizeSearches) (s : Setting) (tab : Table) → (closed : IsClosed q z s tab) → (t i : ℕ)
-    → IsListed closed.places.components t i → tab.size t i ≡ None → (why : NoSize) × IsNoSize z tab t i why
+    → IsCovered closed.places.components t i → tab.size t i ≡ None → (why : NoSize) × IsNoSize z tab t i why
 size_why q z s tab closed t i listed missing =
     let r = listed_why z tab.time tab.size closed.places.components tab.size closed.places.tried
     (λ u j. refl) t i listed missing in (

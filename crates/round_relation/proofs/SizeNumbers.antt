@@ -14,7 +14,7 @@ use Rattle.round_relation.specs.Searches.{SizeSearches}
 use Rattle.round_relation.specs.NewSizes.{Sizes, has_spot}
 use Rattle.round_relation.specs.LemmaOrder.{AreNumbersOf}
 use Rattle.round_relation.specs.Numbering.{numbers_with}
-use Rattle.round_relation.specs.Standing.{IsUniform, AreLivePlaces, FindsSize}
+use Rattle.round_relation.specs.Standing.{IsUniform, ArePlacesAfterRules, FindsSize}
 use Rattle.round_relation.proofs.Cases.{told, none_some}
 use Rattle.round_relation.proofs.FactLists.{stating_numbered, lemma-left}
 use Rattle.round_relation.proofs.Positions.{lemma-right}
@@ -24,7 +24,7 @@ use Rattle.round_relation.proofs.ComponentLemmas.{both_of, stated_numbers, own, 
 
 module _ (z : SizeSearches) (s : Setting) (time : ℕ → Option Bound) (old : Sizes) (c : List Spot) (new : Sizes)
     (earlier : List Proof) (before : Stands s (both_of time old) earlier) (uniform : IsUniform old c)
-    (live : AreLivePlaces s.program c) (f : FindsSize z s earlier time old c new) where
+    (live : ArePlacesAfterRules s.program c) (f : FindsSize z s earlier time old c new) where
   -- what the lemma of the component states
   abbrev own_facts : List Fact
   own_facts = cycle_facts f.bound (own z s time old c new earlier before uniform live f).members

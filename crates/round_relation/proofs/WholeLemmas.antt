@@ -18,7 +18,7 @@ use Rattle.round_relation.specs.Numbering.{numbers_after, numbers_with}
 use Rattle.round_relation.specs.SizeLemmas.{AreComponentLemmas, AreSizeLemmas, with_times, AreWholeRoundLemmas}
 use Rattle.round_relation.specs.SizeLemmas.{AreWholeLemmasOf, AtBeginning, AfterWhole}
 use Rattle.round_relation.specs.Laws.{IsShown}
-use Rattle.round_relation.specs.Standing.{IsUniform, AreUniform, AreLivePlaces, FindsSize, StandFor}
+use Rattle.round_relation.specs.Standing.{IsUniform, AreUniform, ArePlacesAfterRules, FindsSize, StandFor}
 use Rattle.round_relation.specs.WholeLaws.{SizeUsesAreAccepted, WholeLemmasAreAccepted, ComponentsAreUniform}
 use Rattle.round_relation.specs.WholeLaws.{WholeLemmasAreNumbered}
 use Rattle.round_relation.proofs.AcceptedLemmas.{Stands, first_stands, after_round}
@@ -91,7 +91,7 @@ size_lemmas-push z s earlier time old (d ∷ cs) between proofs c new more (one,
 -- lemmas stand after components are tried in order
 pub all_stand : (z : SizeSearches) (s : Setting) (time : ℕ → Option Bound) (old : Sizes) (cs : List (List Spot))
     (new : Sizes) (earlier proofs : List Proof) → Stands s (both_of time old) earlier → AreApart cs → AreUniform old cs
-    → ((c : List Spot) → IsOneOf cs c → AreLivePlaces s.program c)
+    → ((c : List Spot) → IsOneOf cs c → ArePlacesAfterRules s.program c)
     → AreSizeLemmas z s earlier time old cs new proofs → Stands s (both_of time new) (earlier ++ proofs)
 all_stand z s time old [] new earlier proofs before apart uniform live (same, none) =
     let sizes : old ≡ new = λ k t i. sym (same t i) k in
@@ -130,7 +130,7 @@ module _ (q : Searches) (z : SizeSearches) (one : AreSizesOne z) (s : Setting) (
       uniform : AreUniform old.size r.next.places.components
       uniform = uniform_made q z one s sized old made r.next.places.components r.next.places.are_components
 
-      live : (c : List Spot) → IsOneOf r.next.places.components c → AreLivePlaces s.program c
+      live : (c : List Spot) → IsOneOf r.next.places.components c → ArePlacesAfterRules s.program c
       live c is t i m =
           let there = (r.next.places.live.live t i).0 (member_listed r.next.places.components c t i is m) in
           (there.0, there.2)
@@ -156,7 +156,7 @@ times_numbered q s right old new earlier proofs before n r =
 
 pub sizes_numbered : (z : SizeSearches) (s : Setting) (time : ℕ → Option Bound) (old : Sizes) (c : List Spot)
     (new : Sizes) (earlier : List Proof) → StandFor s (both_of time old) earlier → IsUniform old c
-    → AreLivePlaces s.program c → (found : FindsSize z s earlier time old c new)
+    → ArePlacesAfterRules s.program c → (found : FindsSize z s earlier time old c new)
     → AreNumbersOf s.program (facts_of_lemmas s (earlier ++ found.proof ∷ [])) (both_of time new)
     (numbers_with found.ns c (length earlier))
 unfolding facts_of_lemmas

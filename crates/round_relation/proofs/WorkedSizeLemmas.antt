@@ -1,12 +1,12 @@
 -- What nodes of sizes need, and the lemmas of the sizes of a round, of the program that counts down.
 use Rattle.std.proofs.Common.{◌≡◌, inl, inr, ℕ, zero, suc, ◌*◌, ◌==◌, ◌&&◌, ◌||◌, true, false, List, [], ◌∷◌, ◌++◌, map, Option}
 use Rattle.std.proofs.Common.{Some, None, refl, sym, ◌∙◌, ap, subst, arith}
-use Rattle.std.specs.List.{Contains}
+use Rattle.std.specs.List.{All, Contains}
 use Rattle.std.proofs.lemmas.Bool.{or_left}
-use Rattle.std.proofs.lemmas.List.Elements.{All-nil, All-cons}
+use Rattle.std.proofs.lemmas.List.Elements.{All-nil, All-cons, All-head}
 use Rattle.model.specs.Bounds.{Bound}
 use Rattle.model.specs.Facts.{Fact, Time, Size}
-use Rattle.proof_nodes.specs.Nodes.{Spot, Member, Proof, Start, Spread, Cycle, Proofs}
+use Rattle.proof_nodes.specs.Nodes.{Spot, Member, LocalBound, Proof, Start, Spread, Cycle, Proofs}
 use Rattle.proof_nodes.specs.Known.{Table, table_of}
 use Rattle.proof_nodes.specs.AcceptsPlain.{IsRule}
 use Rattle.proof_nodes.specs.AcceptsSizes.{AcceptsSpread, AcceptsCycle}
@@ -20,7 +20,8 @@ use Rattle.round_relation.specs.Searches.{size_searches_of, Sizing, Found, NotFo
 use Rattle.round_relation.specs.NewSizes.{has_spot, TriesSize}
 use Rattle.round_relation.specs.Uses.{Numbers}
 use Rattle.round_relation.specs.LemmaOrder.{AreNumbersOf}
-use Rattle.round_relation.specs.SizeLemmas.{IsSizeLemma, IsComponentLemma, AreComponentLemmas, AreSizeLemmas}
+use Rattle.round_relation.specs.SizeLemmas.{IsSpreadLemma, IsCycleLemma, IsSizeLemma, IsComponentLemma, do_loop}
+use Rattle.round_relation.specs.SizeLemmas.{AreComponentLemmas, AreSizeLemmas}
 use Rattle.round_relation.specs.Worked.{entry_sizes}
 use Rattle.round_relation.specs.WorkedWhole.{spot, alone}
 use Rattle.round_relation.specs.WorkedSizeLemmas.{both_sized, once_known, one_sized, two_sized, first_lemma, second_lemma}
@@ -170,6 +171,7 @@ first_component = record {
           member = entered_member;
           only = refl;
           arms = refl;
+          alone = refl;
           accepted = spread_there;
           bound = refl;
           written = refl;
@@ -199,6 +201,7 @@ second_component = record {
           all = refl;
           arms = All-cons (λ (m : Member). (size_searches_of both_sized).Arms m.spot m.local) looped_member [] refl
               (All-nil (λ (m : Member). (size_searches_of both_sized).Arms m.spot m.local));
+          loops = refl;
           accepted = cycle_there;
           bound = refl;
           written = refl;
@@ -287,6 +290,46 @@ not_lacking (between, (first, l, (rest, e, (more, (second, k, (others, f, last))
     nothing : {x : Proof} {xs : List Proof} → [] ≡ x ∷ xs → ⊥
     nothing h = cc
 
+-- the member at a place, where its arms are those that were found
+its_arms : {l k : LocalBound} → Some l ≡ Some k → k ≡ l
+its_arms e = cc
+
+first_member : (m : Member) → spot 1 1 ≡ m.spot → both_sized.arms m.spot ≡ Some m.local → m ≡ entered_member
+first_member m at arms = λ i. record {
+  spot = sym at i;
+  local = its_arms (ap both_sized.arms at ∙ arms) i;
+}
+
+second_member : (m : Member) → spot 2 1 ≡ m.spot → both_sized.arms m.spot ≡ Some m.local → m ≡ looped_member
+second_member m at arms = λ i. record {
+  spot = sym at i;
+  local = its_arms (ap both_sized.arms at ∙ arms) i;
+}
+
+-- the first place has no loop
+no_loop : (tab : Table) (ns : Numbers) (b : Bound) (proof : Proof)
+    → IsCycleLemma (size_searches_of both_sized) counting tab ns (spot 1 1 ∷ []) b proof → ⊥
+no_loop tab ns b proof l = go l.members l.all l.arms l.loops
+  where
+    go : (ms : List Member) → spot 1 1 ∷ [] ≡ map (λ m. m.spot) ms
+        → All (λ m. (size_searches_of both_sized).Arms m.spot m.local) ms → do_loop counting ms ≡ true → ⊥
+    go [] e a turns = let none : ⊥ = cc in none
+    go (m ∷ n ∷ ms) e a turns = let none : ⊥ = cc in none
+    go (m ∷ []) e a turns =
+        let at : spot 1 1 ≡ m.spot = cc in
+        let same = first_member m at (All-head (λ (x : Member). (size_searches_of both_sized).Arms x.spot x.local) m [] a) in
+        false_true (sym (ap (λ (x : Member). do_loop counting (x ∷ [])) same) ∙ turns)
+
+-- and the second one is no place without one
+no_spread : (tab : Table) (ns : Numbers) (b : Bound) (proof : Proof)
+    → IsSpreadLemma (size_searches_of both_sized) counting tab ns (spot 2 1 ∷ []) b proof → ⊥
+no_spread tab ns b proof l =
+    let at = same l.only in
+    true_false (sym (ap (λ (x : Member). do_loop counting (x ∷ [])) (second_member l.member at l.arms)) ∙ l.alone)
+  where
+    same : {m : Spot} → spot 2 1 ∷ [] ≡ m ∷ [] → spot 2 1 ≡ m
+    same e = cc
+
 pub size_lemmas_told : SizeLemmasAreTold
 size_lemmas_told = record {
   of_spread = refl;
@@ -295,4 +338,6 @@ size_lemmas_told = record {
   lemmas = lemmas;
   not_turned = not_turned;
   not_lacking = not_lacking;
+  no_loop = no_loop;
+  no_spread = no_spread;
 }

@@ -19,7 +19,7 @@ use Rattle.round_relation.specs.Searches.{searches_of, size_searches_of, NoPoint
 use Rattle.round_relation.specs.Beginning.{IsDead}
 use Rattle.round_relation.specs.NewTimes.{bound_in, Tells, TriesTime}
 use Rattle.round_relation.specs.NewSizes.{Sizes, has_spot, is_unsized, TriesSize}
-use Rattle.round_relation.specs.Components.{AreAscending, IsListed, IsOneOf, AreComponentsOf}
+use Rattle.round_relation.specs.Components.{AreSpotsAscending, IsCovered, IsOneOf, AreComponentsOf}
 use Rattle.round_relation.specs.Rounds.{Next, IsClosed}
 use Rattle.round_relation.specs.Reasons.{IsNoSize}
 use Rattle.round_relation.specs.Worked.{start_size, times_with, entry_sizes}
@@ -69,7 +69,7 @@ place_1 = record { symbol = 1; target = refl; least = omega arith; last = omega 
 place_2 : IsPlace counting.program 2 1
 place_2 = record { symbol = 1; target = refl; least = omega arith; last = omega arith }
 
-listed : (t i : ℕ) → IsListed alone t i → IsRule counting.program t × (¬ (IsDead counting.program (λ e. false) t))
+listed : (t i : ℕ) → IsCovered alone t i → IsRule counting.program t × (¬ (IsDead counting.program (λ e. false) t))
     × IsPlace counting.program t i
 listed t i (inl m) =
     let same = lone_told (spot 1 1) t i m in
@@ -83,7 +83,7 @@ listed t i (inr (inl m)) =
     (rule_2, alive 2 rule_2, subst (λ (n : ℕ). IsPlace counting.program 2 n) same.1 place_2)
 listed t i (inr (inr x)) = absurd x
 
-is_listed : (t i : ℕ) → IsRule counting.program t → IsPlace counting.program t i → IsListed alone t i
+is_listed : (t i : ℕ) → IsRule counting.program t → IsPlace counting.program t i → IsCovered alone t i
 is_listed zero i rule place = absurd (no_rule_0 rule)
 is_listed (suc zero) i rule place = inl (subst (λ (n : ℕ). has_spot (spot 1 1 ∷ []) 1 n ≡ true)
     (sym (place_of_l i place)) refl)
@@ -91,7 +91,7 @@ is_listed (suc (suc zero)) i rule place = inr (inl
     (subst (λ (n : ℕ). has_spot (spot 2 1 ∷ []) 2 n ≡ true) (sym (place_after_2 i place)) refl))
 is_listed (suc (suc (suc t))) i rule place = absurd (no_rule_3 t rule)
 
-apart : (t i : ℕ) → has_spot (spot 1 1 ∷ []) t i ≡ true → IsListed ((spot 2 1 ∷ []) ∷ []) t i → ⊥
+apart : (t i : ℕ) → has_spot (spot 1 1 ∷ []) t i ≡ true → IsCovered ((spot 2 1 ∷ []) ∷ []) t i → ⊥
 apart t i m (inl k) = omega (arith, (lone_told (spot 1 1) t i m).0, (lone_told (spot 2 1) t i k).0)
 apart t i m (inr x) = x
 
@@ -102,8 +102,8 @@ components : AreComponentsOf (searches_of value_where_open) counting.program alo
 components = record {
   is_empty = λ t. false;
   empty = λ t rule. (λ e. absurd (false_true e), λ h. absurd (not_empty t h.multipliers h.shown));
-  ascending = All-cons AreAscending (spot 1 1 ∷ []) ((spot 2 1 ∷ []) ∷ []) tt
-      (All-cons AreAscending (spot 2 1 ∷ []) [] tt (All-nil AreAscending));
+  ascending = All-cons AreSpotsAscending (spot 1 1 ∷ []) ((spot 2 1 ∷ []) ∷ []) tt
+      (All-cons AreSpotsAscending (spot 2 1 ∷ []) [] tt (All-nil AreSpotsAscending));
   apart = (apart, (λ t i m x. x, tt));
   live = λ t i. (listed t i, λ h. is_listed t i h.0 h.2);
 }
@@ -130,7 +130,7 @@ not_lacking h = by ((h.live 2 1).1 (rule_2, not_dead, place_2))
     not_dead (inl e) = no_is_not_yes (h.is_empty 2) (no_empty 2 rule_2) e
     not_dead (inr u) = u count_down refl way_to_l
 
-    by : IsListed ((spot 1 1 ∷ []) ∷ []) 2 1 → ⊥
+    by : IsCovered ((spot 1 1 ∷ []) ∷ []) 2 1 → ⊥
     by (inl m) = false_true m
     by (inr x) = x
 

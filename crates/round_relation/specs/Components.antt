@@ -1,28 +1,25 @@
 -- The components of the places of live rules.
-use Rattle.std.specs.Prelude.{◌≡◌, ◌⊎◌, ◌↔◌, ℕ, ◌<◌, Bool, true, List, [], ◌∷◌, ⊤}
+use Rattle.std.specs.Prelude.{◌≡◌, ◌⊎◌, ◌↔◌, ℕ, Bool, true, List, [], ◌∷◌, ⊤}
 use Rattle.std.specs.List.{All}
 use Rattle.model.specs.Programs.{Program}
 use Rattle.proof_nodes.specs.Nodes.{Spot}
 use Rattle.proof_nodes.specs.AcceptsPlain.{IsRule}
+use Rattle.proof_nodes.specs.AcceptsSizes.{ComesBefore}
 use Rattle.round_relation.specs.Tables.{IsPlace}
 use Rattle.round_relation.specs.Searches.{Searches}
 use Rattle.round_relation.specs.Beginning.{IsEmpty, IsDead}
 use Rattle.round_relation.specs.NewSizes.{has_spot}
 
--- one place after a rule comes before another: its rule is less, or it is the same and the place is less
-abbrev pub ComesBefore : Spot → Spot → Type 0
-ComesBefore m n = (m.rule < n.rule) ⊎ ((m.rule ≡ n.rule) × (m.place < n.place))
-
 -- the members of a component ascend
-abbrev pub AreAscending : List Spot → Type 0
-AreAscending [] = ⊤
-AreAscending (m ∷ []) = ⊤
-AreAscending (m ∷ n ∷ rest) = ComesBefore m n × AreAscending (n ∷ rest)
+abbrev pub AreSpotsAscending : List Spot → Type 0
+AreSpotsAscending [] = ⊤
+AreSpotsAscending (m ∷ []) = ⊤
+AreSpotsAscending (m ∷ n ∷ rest) = ComesBefore m n × AreSpotsAscending (n ∷ rest)
 
 -- one of the components has the place after the rule as a member
-abbrev pub IsListed : List (List Spot) → ℕ → ℕ → Type 0
-IsListed [] t i = ⊥
-IsListed (c ∷ cs) t i = (has_spot c t i ≡ true) ⊎ IsListed cs t i
+abbrev pub IsCovered : List (List Spot) → ℕ → ℕ → Type 0
+IsCovered [] t i = ⊥
+IsCovered (c ∷ cs) t i = (has_spot c t i ≡ true) ⊎ IsCovered cs t i
 
 -- the component is one of these
 abbrev pub IsOneOf : List (List Spot) → List Spot → Type 0
@@ -32,12 +29,12 @@ IsOneOf (c ∷ cs) members = (c ≡ members) ⊎ IsOneOf cs members
 -- no place is a member of two
 abbrev pub AreApart : List (List Spot) → Type 0
 AreApart [] = ⊤
-AreApart (c ∷ cs) = ((t i : ℕ) → has_spot c t i ≡ true → ¬ (IsListed cs t i)) × AreApart cs
+AreApart (c ∷ cs) = ((t i : ℕ) → has_spot c t i ≡ true → ¬ (IsCovered cs t i)) × AreApart cs
 
 -- lists of the places of live rules, each of which is in one of them, once; inside each list they ascend
 pub record AreComponentsOf (q : Searches) (p : Program) (components : List (List Spot)) : Type 0 where
   pub is_empty : ℕ → Bool
   pub empty : (t : ℕ) → IsRule p t → (is_empty t ≡ true) ↔ IsEmpty q t
-  pub ascending : All AreAscending components
+  pub ascending : All AreSpotsAscending components
   pub apart : AreApart components
-  pub live : (t i : ℕ) → IsListed components t i ↔ (IsRule p t × (¬ (IsDead p is_empty t)) × IsPlace p t i)
+  pub live : (t i : ℕ) → IsCovered components t i ↔ (IsRule p t × (¬ (IsDead p is_empty t)) × IsPlace p t i)

@@ -16,7 +16,7 @@ use Rattle.outcome.specs.Reports.{NoTime, NoSize}
 use Rattle.round_relation.specs.Tables.{lacks, rule_numbers, IsPlace}
 use Rattle.round_relation.specs.Searches.{Answers, SizeAnswers, searches_of, size_searches_of}
 use Rattle.round_relation.specs.Beginning.{First}
-use Rattle.round_relation.specs.Components.{IsListed}
+use Rattle.round_relation.specs.Components.{IsCovered}
 use Rattle.round_relation.specs.Reasons.{IsNoTime, IsNoSize}
 use Rattle.round_relation.specs.Rounds.{NextTimes, IsMadeByTimes, IsClosedByTimes, IsLastOfTimes, Next, IsMade}
 use Rattle.round_relation.specs.Rounds.{IsClosed}
@@ -93,7 +93,7 @@ pub record MissingBoundsHaveReasons : Type 0 where
       → (why : NoTime) × IsNoTime (searches_of a) s tab t why
   pub sizes : (a : Answers) (z : SizeAnswers) (s : Setting) (tab : Table)
       → (closed : IsClosed (searches_of a) (size_searches_of z) s tab) → (t i : ℕ)
-      → IsListed closed.places.components t i → tab.size t i ≡ None
+      → IsCovered closed.places.components t i → tab.size t i ≡ None
       → (why : NoSize) × IsNoSize (size_searches_of z) tab t i why
 
 -- the lemmas of a table that is made by rounds of times are accepted where the answers of the searches are right, and

@@ -1,7 +1,6 @@
 -- When the answers of the searches for times are right.
-use Rattle.std.specs.Prelude.{◌≡◌, ◌⊎◌, ℕ, suc, nat_eq, ◌&&◌, Bool, true, List, [], ◌∷◌, length, pos, Option, Some}
+use Rattle.std.specs.Prelude.{◌≡◌, ◌⊎◌, ℕ, suc, true, List, [], ◌∷◌, length, pos, Option, Some}
 use Rattle.std.specs.Prelude.{None}
-use Rattle.std.specs.List.{list_any}
 use Rattle.model.specs.Programs.{Program, Rule, rule_at, arity_of}
 use Rattle.model.specs.Entries.{is_in}
 use Rattle.linear_forms.specs.Forms.{at}
@@ -14,15 +13,12 @@ use Rattle.proof_nodes.specs.Setting.{Setting}
 use Rattle.proof_nodes.specs.Composed.{rank_form}
 use Rattle.proof_nodes.specs.AcceptsPlain.{IsRule, AcceptsEmpty}
 use Rattle.proof_nodes.specs.AcceptsRank.{HasRankShape, Loses, HasFloor}
+use Rattle.proof_tree.specs.Shut.{is_shut}
 use Rattle.proof_tree.specs.declared.answer.Trip.{Trip}
 use Rattle.proof_tree.specs.declared.answer.Question.TheVariants as asked
 use Rattle.proof_nodes.specs.Gaps.{SymbolPlace, Gap}
 use Rattle.round_relation.specs.Searches.{Searches, Emptiness, NoPoint, HasPoint, EmptyTripped, Ranking, Ranked}
 use Rattle.round_relation.specs.Searches.{Unranked, RankTripped}
-
--- whether the place of a symbol, counted from 1, is shut
-abbrev pub is_shut : List SymbolPlace → ℕ → ℕ → Bool
-is_shut shut a i = list_any (λ c. nat_eq c.symbol a && nat_eq c.place i) shut
 
 -- the function reads no shut place: its coefficients there are 0
 abbrev pub ReadsNoShut : RankNode → List SymbolPlace → Type 0

@@ -11,7 +11,8 @@ use Rattle.proof_nodes.specs.Reasons.{Reason, MissingTime, MissingSize, Bent, La
 use Rattle.proof_nodes.specs.Checks.{spread_checks, cycle_checks}
 use Rattle.proof_tree.specs.declared.answer.Question.TheVariants as asked
 use Rattle.proof_nodes.specs.Gaps.{ScaledPoint}
-use Rattle.outcome.specs.Reports.{Side, Up, Low, NoSize, IsLoose, SizeTripped, IsMissing, IsBent, LacksTime, SizeLarge}
+use Rattle.proof_nodes.specs.AcceptsSizes.{Side, Up, Low}
+use Rattle.outcome.specs.Reports.{NoSize, IsLoose, SizeTripped, IsMissing, IsBent, LacksTime, SizeLarge}
 use Rattle.round_relation.specs.Searches.{Searches, SizeSearches, Sizing, Found, NotFound}
 use Rattle.round_relation.specs.NewSizes.{has_spot}
 use Rattle.round_relation.specs.Components.{AreComponentsOf}

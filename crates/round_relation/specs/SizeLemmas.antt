@@ -1,9 +1,13 @@
 -- The lemmas of the sizes of a round, and all lemmas of a table that is made by whole rounds.
-use Rattle.std.specs.Prelude.{◌≡◌, ◌⊎◌, ℕ, true, false, List, [], ◌∷◌, ◌++◌, map, filter, Option, None}
-use Rattle.std.specs.List.{All}
+use Rattle.std.specs.Prelude.{◌≡◌, ◌⊎◌, ℕ, ◌-◌, ◌&&◌, ◌||◌, Bool, true, false, List, [], ◌∷◌, ◌++◌, map, filter, Option}
+use Rattle.std.specs.Prelude.{None}
+use Rattle.std.specs.List.{All, list_any}
+use Rattle.model.specs.Entries.{is_in}
+use Rattle.model.specs.Paths.{pre}
 use Rattle.proof_nodes.specs.Nodes.{Spot, Member, Proof, Spread, Cycle}
 use Rattle.proof_nodes.specs.Acceptance.{facts_of_lemmas}
 use Rattle.proof_nodes.specs.AcceptsSizes.{AcceptsSpread, AcceptsCycle, spread_size, cycle_size}
+use Rattle.proof_nodes.specs.ComposedSizes.{poly_at, reads}
 use Rattle.proof_nodes.specs.Known.{Table}
 use Rattle.proof_nodes.specs.Setting.{Setting}
 use Rattle.model.specs.Bounds.{Bound}
@@ -18,6 +22,16 @@ use Rattle.round_relation.specs.Uses.{Numbers, uses_for, spread_needs, cycle_nee
 abbrev pub AreFoundArms : SizeSearches → List Member → Type 0
 AreFoundArms z members = All (λ m. z.Arms m.spot m.local) members
 
+-- a member reads one: that one's rule can come just before its own, and one of its arms reads that place
+abbrev pub reads_member : Setting → Member → Member → Bool
+reads_member s n m = is_in m.spot.rule (pre s.program n.spot.rule)
+    && (reads (poly_at s n.spot) n.local.up (m.spot.place - 1)
+    || reads (poly_at s n.spot) n.local.low (m.spot.place - 1))
+
+-- these members loop: one of them reads one of them
+abbrev pub do_loop : Setting → List Member → Bool
+do_loop s members = list_any (λ n. list_any (λ m. reads_member s n m) members) members
+
 -- the lemma of a place that doesn't loop, over a table whose bounds have these numbers: the node with the arms that
 -- were found and with what it rests on, which is accepted and states the size
 pub record IsSpreadLemma (z : SizeSearches) (s : Setting) (tab : Table) (ns : Numbers) (spots : List Spot) (b : Bound)
@@ -25,6 +39,7 @@ pub record IsSpreadLemma (z : SizeSearches) (s : Setting) (tab : Table) (ns : Nu
   pub member : Member
   pub only : spots ≡ member.spot ∷ []
   pub arms : z.Arms member.spot member.local
+  pub alone : do_loop s (member ∷ []) ≡ false
   pub accepted : AcceptsSpread s tab member
   pub bound : b ≡ s.rewrite (spread_size s tab member)
   pub written : proof ≡ Spread member (uses_for ns (spread_needs s member))
@@ -35,6 +50,7 @@ pub record IsCycleLemma (z : SizeSearches) (s : Setting) (tab : Table) (ns : Num
   pub members : List Member
   pub all : spots ≡ map (λ m. m.spot) members
   pub arms : AreFoundArms z members
+  pub loops : do_loop s members ≡ true
   pub accepted : AcceptsCycle s tab members
   pub bound : b ≡ s.rewrite (cycle_size s tab members)
   pub written : proof ≡ Cycle members (uses_for ns (cycle_needs s tab members))

@@ -44,8 +44,8 @@ pub record StandFor (s : Setting) (tab : Table) (proofs : List Proof) : Type 0 w
   pub start : KnowsStart s.program tab
 
 -- all these are places after rules
-abbrev pub AreLivePlaces : Program → List Spot → Type 0
-AreLivePlaces p spots = (t i : ℕ) → has_spot spots t i ≡ true → IsRule p t × IsPlace p t i
+abbrev pub ArePlacesAfterRules : Program → List Spot → Type 0
+ArePlacesAfterRules p spots = (t i : ℕ) → has_spot spots t i ≡ true → IsRule p t × IsPlace p t i
 
 -- a size is found for a component with these times and old sizes, after these lemmas: each member without a size gets
 -- it, and this is its lemma

@@ -21,7 +21,7 @@ use Rattle.round_relation.specs.Uses.{Numbers, uses_for, spread_needs, cycle_nee
 use Rattle.round_relation.specs.LemmaOrder.{AreNumbersOf, AreFirstLemmas, AreRoundLemmas}
 use Rattle.round_relation.specs.SizeLemmas.{AreWholeLemmasOf}
 use Rattle.round_relation.specs.Numbering.{numbers_after, numbers_with}
-use Rattle.round_relation.specs.Standing.{AreOf, IsUniform, AreUniform, AreLivePlaces, FindsSize, StandFor}
+use Rattle.round_relation.specs.Standing.{AreOf, IsUniform, AreUniform, ArePlacesAfterRules, FindsSize, StandFor}
 use Rattle.round_relation.specs.Laws.{IsShown}
 
 -- whole rounds make one last table, and where no place is a member of two components a size that is missing has one
@@ -93,11 +93,11 @@ pub record WholeLemmasAreNumbered : Type 0 where
       → AreNumbersOf s.program (facts_of_lemmas s (earlier ++ proofs)) new (numbers_after r.ns old new (length earlier))
   pub sizes : (a : Answers) (z : SizeAnswers) (s : Setting) (time : ℕ → Option Bound) (old : Sizes) (c : List Spot)
       (new : Sizes) (earlier : List Proof) → StandFor s (record { time = time; size = old }) earlier → IsUniform old c
-      → AreLivePlaces s.program c → (found : FindsSize (size_searches_of z) s earlier time old c new)
+      → ArePlacesAfterRules s.program c → (found : FindsSize (size_searches_of z) s earlier time old c new)
       → StandFor s (record { time = time; size = new }) (earlier ++ found.proof ∷ [])
   pub sizes_numbers : (a : Answers) (z : SizeAnswers) (s : Setting) (time : ℕ → Option Bound) (old : Sizes)
       (c : List Spot) (new : Sizes) (earlier : List Proof) → StandFor s (record { time = time; size = old }) earlier
-      → IsUniform old c → AreLivePlaces s.program c
+      → IsUniform old c → ArePlacesAfterRules s.program c
       → (found : FindsSize (size_searches_of z) s earlier time old c new)
       → AreNumbersOf s.program (facts_of_lemmas s (earlier ++ found.proof ∷ [])) (record { time = time; size = new })
       (numbers_with found.ns c (length earlier))

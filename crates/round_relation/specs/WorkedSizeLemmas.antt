@@ -3,16 +3,17 @@
 use Rattle.std.specs.Prelude.{◌≡◌, ℕ, zero, suc, ◌==◌, cond, List, [], ◌∷◌, Option, Some, None}
 use Rattle.model.specs.Bounds.{Bound}
 use Rattle.proof_nodes.specs.Nodes.{Spot, Proof, Start, Cite, Spread, Cycle}
+use Rattle.proof_nodes.specs.Known.{Table}
 use Rattle.proof_nodes.specs.WorkedSettings.{counting, doubling}
 use Rattle.proof_nodes.specs.Worked.{only, once, once_time, entered_member, entered_size, looped_member, looped_size}
 use Rattle.proof_nodes.specs.Worked.{doubled, three_times, all_inputs}
 use Rattle.outcome.specs.Reports.{LacksTime}
 use Rattle.round_relation.specs.Searches.{SizeAnswers, size_searches_of, Sizing, Found, NotFound}
 use Rattle.round_relation.specs.NewSizes.{Sizes}
-use Rattle.round_relation.specs.Uses.{NeedsTime, NeedsSize, spread_needs, cycle_needs}
-use Rattle.round_relation.specs.SizeLemmas.{AreSizeLemmas}
+use Rattle.round_relation.specs.Uses.{Numbers, NeedsTime, NeedsSize, spread_needs, cycle_needs}
+use Rattle.round_relation.specs.SizeLemmas.{IsSpreadLemma, IsCycleLemma, AreSizeLemmas}
 use Rattle.round_relation.specs.Worked.{start_size, times_with, entry_sizes}
-use Rattle.round_relation.specs.WorkedWhole.{alone}
+use Rattle.round_relation.specs.WorkedWhole.{spot, alone}
 
 -- each place has the size that its node composes
 abbrev pub size_at : List Spot → Sizing
@@ -55,7 +56,8 @@ second_lemma = Cycle (looped_member ∷ []) (only (Cite 2))
 
 -- both arms of rule 1 read what comes before it; of rule 2 the up arm alone reads, and nothing is added, so no time is
 -- needed; where the loop doubles, both arms read, and the time of its rule comes last. After the lemma of rule 1's
--- time, these are the lemmas of the sizes, in this order and no less
+-- time, these are the lemmas of the sizes, in this order and no less. The place after rule 1 has no loop's lemma, and
+-- that after rule 2 no other
 pub record SizeLemmasAreTold : Type 0 where
   pub of_spread : spread_needs counting entered_member ≡ NeedsSize 0 1 ∷ NeedsSize 0 1 ∷ []
   pub of_cycle : cycle_needs counting (record { time = once_known; size = one_sized }) (looped_member ∷ [])
@@ -68,3 +70,7 @@ pub record SizeLemmasAreTold : Type 0 where
       two_sized (second_lemma ∷ first_lemma ∷ []))
   pub not_lacking : ¬ (AreSizeLemmas (size_searches_of both_sized) counting (once ∷ []) once_known entry_sizes alone
       two_sized (first_lemma ∷ []))
+  pub no_loop : (tab : Table) (ns : Numbers) (b : Bound) (proof : Proof)
+      → ¬ (IsCycleLemma (size_searches_of both_sized) counting tab ns (spot 1 1 ∷ []) b proof)
+  pub no_spread : (tab : Table) (ns : Numbers) (b : Bound) (proof : Proof)
+      → ¬ (IsSpreadLemma (size_searches_of both_sized) counting tab ns (spot 2 1 ∷ []) b proof)

@@ -21,9 +21,9 @@ use Rattle.proof_nodes.specs.ComposedSizes.{poly_at}
 use Rattle.proof_setting.specs.Setting.{setting_of, polys_in, bent_at}
 use Rattle.local_size.specs.LocalAnswers.{Local, local_seen}
 use Rattle.local_size.specs.declared.answer.LocalAnswer.{LocalAnswer}
-use Rattle.rvg_components.specs.Flows.{Locals, flows_into, local_reads}
-use Rattle.rvg_components.specs.Listing.{IsGiven, answer_lists, is_flagged, local_from, local_in, spot_at, HasFlow}
-use Rattle.rvg_components.specs.Numbering.{widths, firsts_from, spots_from}
+use Rattle.rvg_components.specs.Flows.{Locals, value_flows, local_reads}
+use Rattle.rvg_components.specs.Listing.{AreAnswersGiven, answer_lists, is_flagged, local_from, local_in, spot_at, HasFlow}
+use Rattle.rvg_components.specs.Numbering.{widths, firsts_from, spots_by_width}
 use Rattle.rvg_components.specs.Reading.{answer_reads}
 use Rattle.rvg_components.specs.Edges.{first_of, firsts_of, edges_at, edges_below, no_rows}
 use Rattle.rvg_components.specs.Fitting.{known_of}
@@ -49,7 +49,7 @@ second-holds true b h = h
 second-holds false b h = absurd (no_is_not_yes false refl h)
 
 module _ (p : Program) (g : Graph) (preps : List RuleRows) (locals : List (Vec LocalAnswer Global)) (live : List Bool)
-    (given : IsGiven p g preps (answer_lists locals) live) where
+    (given : AreAnswersGiven p g preps (answer_lists locals) live) where
   -- how many places each rule has
   abbrev ws : List ℕ
   ws = widths (answer_lists locals) live
@@ -60,7 +60,7 @@ module _ (p : Program) (g : Graph) (preps : List RuleRows) (locals : List (Vec L
 
   -- the places by their numbers
   abbrev spots : List Spot
-  spots = spots_from 1 (widths (answer_lists locals) live)
+  spots = spots_by_width 1 (widths (answer_lists locals) live)
 
   -- what is answered of each place
   abbrev local : Locals
@@ -133,7 +133,7 @@ module _ (p : Program) (g : Graph) (preps : List RuleRows) (locals : List (Vec L
           ∙ (ap (arity_of p) q.meets ∙ sym (rule-valid p (suc k) r given.valid here).left)
 
   -- what it is that a value flows, by places numbered from 0
-  into-plain : (k n e j : ℕ) → flows_into (setting_of p) local (spot_in (suc e) j) (spot_in (suc k) n)
+  into-plain : (k n e j : ℕ) → value_flows (setting_of p) local (spot_in (suc e) j) (spot_in (suc k) n)
       ≡ (is_in (suc e) (pre p (suc k)) && local_reads (setting_of p) (spot_in (suc k) n) (local (suc k) (suc n)) j)
   into-plain k n e j = ap (λ (i : ℕ). is_in (suc e) (pre p (suc k)) && local_reads (setting_of p) (spot_in (suc k) n) (local (suc k) (suc n)) i) back
     where
@@ -143,7 +143,7 @@ module _ (p : Program) (g : Graph) (preps : List RuleRows) (locals : List (Vec L
   -- a value flows from a place that is read
   flow-from : (k n e j : ℕ) (answer : LocalAnswer) → slice_get (answers_at k) n ≡ Some answer → Contains (pre p (suc k)) (suc e)
       → local_reads (setting_of p) (spot_in (suc k) n) (local_seen answer) j ≡ true
-      → flows_into (setting_of p) local (spot_in (suc e) j) (spot_in (suc k) n) ≡ true
+      → value_flows (setting_of p) local (spot_in (suc e) j) (spot_in (suc k) n) ≡ true
   flow-from k n e j answer there among read =
       into-plain k n e j ∙ both (is_in (suc e) (pre p (suc k))) (local_reads (setting_of p) (spot_in (suc k) n) (local (suc k) (suc n)) j)
       (is_in-contained (pre p (suc k)) (suc e) among) (ap (λ (a : Local). local_reads (setting_of p) (spot_in (suc k) n) a j) (answer-here k n answer there) ∙ read)
@@ -162,8 +162,8 @@ module _ (p : Program) (g : Graph) (preps : List RuleRows) (locals : List (Vec L
           record {
             from = source.within;
             to = sink.within;
-            flow = ap (λ (m : Spot). flows_into (setting_of p) local m (spot_at spots b)) source.spot
-                ∙ (ap (λ (m : Spot). flows_into (setting_of p) local (spot_in (suc e) j) m) sink.spot ∙ flow-from k n e j answer there among told.1);
+            flow = ap (λ (m : Spot). value_flows (setting_of p) local m (spot_at spots b)) source.spot
+                ∙ (ap (λ (m : Spot). value_flows (setting_of p) local (spot_in (suc e) j) m) sink.spot ∙ flow-from k n e j answer there among told.1);
           }
 
       before-rule : (k n : ℕ) (answer : LocalAnswer) (r : Rule) → get_or live k false ≡ true → slice_get (answers_at k) n ≡ Some answer → rule_at p (suc k) ≡ Some r
@@ -219,8 +219,8 @@ module _ (p : Program) (g : Graph) (preps : List RuleRows) (locals : List (Vec L
       by q s (before, low) (is, inside) rule (inr (past, none)) = absurd (omega (arith, inside, past))
       by q s (before, low) (is, inside) (r, here) (inl (answer, within, there, same)) =
           let flows : (is_in (suc q.rule) (pre p (suc s.rule)) && local_reads (setting_of p) (spot_in (suc s.rule) s.place) (local (suc s.rule) (suc s.place)) q.place) ≡ true =
-          sym (into-plain s.rule s.place q.rule q.place) ∙ (sym (ap (λ (m : Spot). flows_into (setting_of p) local m (spot_at spots b)) (stands q.rule q.place a q.at)
-          ∙ ap (λ (m : Spot). flows_into (setting_of p) local (spot_in (suc q.rule) q.place) m) (stands s.rule s.place b s.at)) ∙ h.flow) in
+          sym (into-plain s.rule s.place q.rule q.place) ∙ (sym (ap (λ (m : Spot). value_flows (setting_of p) local m (spot_at spots b)) (stands q.rule q.place a q.at)
+          ∙ ap (λ (m : Spot). value_flows (setting_of p) local (spot_in (suc q.rule) q.place) m) (stands s.rule s.place b s.at)) ∙ h.flow) in
           let among : Contains (pre p (suc s.rule)) (suc q.rule) = contains-is_in (pre p (suc s.rule)) (suc q.rule)
           (first-holds (is_in (suc q.rule) (pre p (suc s.rule))) (local_reads (setting_of p) (spot_in (suc s.rule) s.place) (local (suc s.rule) (suc s.place)) q.place) flows) in
           let read : local_reads (setting_of p) (spot_in (suc s.rule) s.place) (local_seen answer) q.place ≡ true =

@@ -23,9 +23,9 @@ use Rattle.local_size.specs.declared.answer.LocalAnswer.{LocalAnswer}
 use Rattle.model.specs.Paths.{entry_and_rules}
 use Rattle.proof_nodes.specs.AcceptsPlain.{places_at}
 use Rattle.proof_nodes.specs.Nodes.{Spot}
-use Rattle.rvg_components.specs.Flows.{live_spots, spots_after, spots_of}
-use Rattle.rvg_components.specs.Listing.{IsGiven, answer_lists, is_flagged}
-use Rattle.rvg_components.specs.Numbering.{widths, firsts_from, places_of, spots_from}
+use Rattle.rvg_components.specs.Flows.{live_spots, target_spots, spots_of}
+use Rattle.rvg_components.specs.Listing.{AreAnswersGiven, answer_lists, is_flagged}
+use Rattle.rvg_components.specs.Numbering.{widths, firsts_from, places_of, spots_by_width}
 use Rattle.rvg_components.specs.Edges.{no_rows, first_of, firsts_of, edges_into, edges_at, live_edges_at}
 use Rattle.rvg_components.specs.Fitting.{known_of, IsFitting}
 use Rattle.rvg_components.proofs.Numbers.{sum-cons, widths-length, widths-at, firsts-length}
@@ -115,7 +115,7 @@ pub record RuleBefore (p : Program) (e : ℕ) (r : Rule) : Type 0 where
   pub meets : rule.target ≡ r.source
 
 module _ (p : Program) (g : Graph) (preps : List RuleRows) (locals : List (Vec LocalAnswer Global)) (live : List Bool)
-    (given : IsGiven p g preps (answer_lists locals) live) where
+    (given : AreAnswersGiven p g preps (answer_lists locals) live) where
   -- there is a list of answers for each flag
   pub lists-long : length (answer_lists locals) ≡ length live
   lists-long = given.locals_for.lists ∙ sym given.locals_for.flags
@@ -170,7 +170,7 @@ module _ (p : Program) (g : Graph) (preps : List RuleRows) (locals : List (Vec L
   widths-few = omega (arith, sum-few (widths (answer_lists locals) live) width-few, widths-length (answer_lists locals) live lists-long, live-few)
 
   -- the places of live rules are those that the widths give
-  pub live-spots : live_spots p (is_flagged live) ≡ spots_from 1 (widths (answer_lists locals) live)
+  pub live-spots : live_spots p (is_flagged live) ≡ spots_by_width 1 (widths (answer_lists locals) live)
   live-spots =
       ap (λ (n : ℕ). spots_of p (is_flagged live) (range_with_len 1 n)) (sym given.locals_for.flags)
       ∙ spots-agree p (is_flagged live) 1 (answer_lists locals) live lists-long flags places
@@ -181,10 +181,10 @@ module _ (p : Program) (g : Graph) (preps : List RuleRows) (locals : List (Vec L
       flags : (k : ℕ) → k < length live → is_flagged live (1 + k) ≡ get_or live k false
       flags k low = ap (is_flagged live) (next k)
 
-      places : (k : ℕ) → get_or live k false ≡ true → spots_after p (1 + k) ≡ places_of (1 + k) 1 (length (get_or (answer_lists locals) k []))
-      places k is = subst (λ (t : ℕ). spots_after p t ≡ places_of t 1 (length (get_or (answer_lists locals) k []))) (sym (next k)) (by (rule-here k (flag-within live k is)))
+      places : (k : ℕ) → get_or live k false ≡ true → target_spots p (1 + k) ≡ places_of (1 + k) 1 (length (get_or (answer_lists locals) k []))
+      places k is = subst (λ (t : ℕ). target_spots p t ≡ places_of t 1 (length (get_or (answer_lists locals) k []))) (sym (next k)) (by (rule-here k (flag-within live k is)))
         where
-          by : (r : Rule) × (rule_at p (suc k) ≡ Some r) → spots_after p (suc k) ≡ places_of (suc k) 1 (length (get_or (answer_lists locals) k []))
+          by : (r : Rule) × (rule_at p (suc k) ≡ Some r) → target_spots p (suc k) ≡ places_of (suc k) 1 (length (get_or (answer_lists locals) k []))
           by (r, e) =
               ap (λ (o : Option Rule). map (λ (i : ℕ). let s : Spot = record { rule = suc k; place = i } in s) (places_at p (target_in o))) e
               ∙ ap (λ (n : ℕ). places_of (suc k) 1 n) (sym (answers-here k r e is))

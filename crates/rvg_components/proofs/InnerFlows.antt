@@ -9,7 +9,7 @@ use Rattle.its_graph.proofs.PairLists.{Pair, same_pair, pair-cases, pair-later}
 use Rattle.its_graph.specs.Components.{IsNext}
 use Rattle.proof_nodes.specs.Nodes.{Spot}
 use Rattle.proof_nodes.specs.Setting.{Setting}
-use Rattle.rvg_components.specs.Flows.{Locals, flows_into, loops}
+use Rattle.rvg_components.specs.Flows.{Locals, value_flows, loops}
 use Rattle.rvg_components.specs.Listing.{spot_at, HasFlow}
 use Rattle.rvg_components.specs.Inside.{marked, has_inside}
 use Rattle.rvg_components.proofs.Listings.{InnerEdge, inner-edge}
@@ -111,12 +111,12 @@ module _ (s : Setting) (local : Locals) (spots : List Spot) where
   -- the places of nodes between two of which a value flows loop
   pub flow-loops : (nodes : List ℕ) → InnerEdge (HasFlow s local spots) nodes → loops s local (map (spot_at spots) nodes) ≡ true
   flow-loops nodes e =
-      any-placed (spot_at spots) (λ n. list_any (λ m. flows_into s local m n) (map (spot_at spots) nodes)) nodes e.to e.holds_to
-      (any-placed (spot_at spots) (λ m. flows_into s local m (spot_at spots e.to)) nodes e.from e.holds_from e.edge.flow)
+      any-placed (spot_at spots) (λ n. list_any (λ m. value_flows s local m n) (map (spot_at spots) nodes)) nodes e.to e.holds_to
+      (any-placed (spot_at spots) (λ m. value_flows s local m (spot_at spots e.to)) nodes e.from e.holds_from e.edge.flow)
 
   -- one place loops where a value flows from it into itself
-  one-loops : (a : ℕ) → loops s local (map (spot_at spots) (a ∷ [])) ≡ flows_into s local (spot_at spots a) (spot_at spots a)
-  one-loops a = go (flows_into s local (spot_at spots a) (spot_at spots a))
+  one-loops : (a : ℕ) → loops s local (map (spot_at spots) (a ∷ [])) ≡ value_flows s local (spot_at spots a) (spot_at spots a)
+  one-loops a = go (value_flows s local (spot_at spots a) (spot_at spots a))
     where
       go : (v : Bool) → ((v || false) || false) ≡ v
       go true = refl
@@ -128,7 +128,7 @@ module _ (s : Setting) (local : Locals) (spots : List Spot) where
       → has_inside own nodes ≡ loops s local (map (spot_at spots) nodes)
   inside-loops own flags before [] within next = refl
   inside-loops own flags before (a ∷ []) within next =
-      same_bool (get_or own a false) (flows_into s local (spot_at spots a) (spot_at spots a)) (λ h. ((flags a low).0 h).flow)
+      same_bool (get_or own a false) (value_flows s local (spot_at spots a) (spot_at spots a)) (λ h. ((flags a low).0 h).flow)
       (λ h. (flags a low).1 (record { from = low; to = low; flow = h })) ∙ sym (one-loops a)
     where
       low : a < length spots

@@ -9,7 +9,7 @@ use Rattle.proof_nodes.specs.Nodes.{Spot}
 use Rattle.proof_tree.specs.declared.arm.Spot as code
 use Rattle.proof_tree.specs.Views.{spot_of}
 use Rattle.local_size.specs.declared.answer.LocalAnswer.{LocalAnswer}
-use Rattle.rvg_components.specs.Numbering.{widths, firsts_from, places_of, spots_from}
+use Rattle.rvg_components.specs.Numbering.{widths, firsts_from, places_of, spots_by_width}
 
 -- the spot that is the place i, numbered from 0, of rule t
 abbrev pub spot_in : ℕ → ℕ → Spot
@@ -32,12 +32,12 @@ pub sum-cons : (w : ℕ) (ws : List ℕ) → sum (w ∷ ws) ≡ w + sum ws
 sum-cons w ws = sum_by-cons (λ x. x) w ws
 
 -- the places of one rule more
-spots-cons : (t w : ℕ) (ws : List ℕ) → length (spots_from t (w ∷ ws)) ≡ w + length (spots_from (suc t) ws)
-spots-cons t w ws = length-append (places_of t 1 w) (spots_from (suc t) ws)
-    ∙ ap (λ (n : ℕ). n + length (spots_from (suc t) ws)) (places-length t 1 w)
+spots-cons : (t w : ℕ) (ws : List ℕ) → length (spots_by_width t (w ∷ ws)) ≡ w + length (spots_by_width (suc t) ws)
+spots-cons t w ws = length-append (places_of t 1 w) (spots_by_width (suc t) ws)
+    ∙ ap (λ (n : ℕ). n + length (spots_by_width (suc t) ws)) (places-length t 1 w)
 
 -- there are as many places as the widths say
-pub spots-length : (t : ℕ) (ws : List ℕ) → length (spots_from t ws) ≡ sum ws
+pub spots-length : (t : ℕ) (ws : List ℕ) → length (spots_by_width t ws) ≡ sum ws
 spots-length t [] = refl
 spots-length t (w ∷ ws) = spots-cons t w ws ∙ (ap (λ (n : ℕ). w + n) (spots-length (suc t) ws) ∙ sym (sum-cons w ws))
 
@@ -49,15 +49,15 @@ firsts-length b (w ∷ ws) = omega (arith, firsts-length (b + w) ws)
 -- the position of place i of the rule at position k among the places from rule t on, where b places come before these
 pub record IsAt (b t : ℕ) (ws : List ℕ) (k i x : ℕ) : Type 0 where
   pub number : get_or (firsts_from b ws) k 0 + i ≡ b + x
-  pub within : x < length (spots_from t ws)
-  pub spot : (d : Spot) → get_or (spots_from t ws) x d ≡ spot_in (t + k) i
+  pub within : x < length (spots_by_width t ws)
+  pub spot : (d : Spot) → get_or (spots_by_width t ws) x d ≡ spot_in (t + k) i
 
 -- a place of the first rule
 at-first : (b t w : ℕ) (ws : List ℕ) (i : ℕ) → i < w → IsAt b t (w ∷ ws) 0 i i
 at-first b t w ws i inside = record {
   number = refl;
   within = omega (arith, spots-cons t w ws, inside);
-  spot = λ d. get_or_append_left (places_of t 1 w) (spots_from (suc t) ws) d i (omega (arith, places-length t 1 w, inside))
+  spot = λ d. get_or_append_left (places_of t 1 w) (spots_by_width (suc t) ws) d i (omega (arith, places-length t 1 w, inside))
       ∙ (places-read t w i d inside ∙ ap (λ (r : ℕ). spot_in r i) plain);
 }
   where
@@ -69,8 +69,8 @@ at-later : (b t w : ℕ) (ws : List ℕ) (k i x : ℕ) → IsAt (b + w) (suc t) 
 at-later b t w ws k i x a = record {
   number = a.number ∙ grouped;
   within = omega (arith, spots-cons t w ws, a.within);
-  spot = λ d. get_or-append_right (places_of t 1 w) (spots_from (suc t) ws) w (w + x) d (places-length t 1 w) (omega arith)
-      ∙ (ap (λ (y : ℕ). get_or (spots_from (suc t) ws) y d) back ∙ (a.spot d ∙ ap (λ (r : ℕ). spot_in r i) moved));
+  spot = λ d. get_or-append_right (places_of t 1 w) (spots_by_width (suc t) ws) w (w + x) d (places-length t 1 w) (omega arith)
+      ∙ (ap (λ (y : ℕ). get_or (spots_by_width (suc t) ws) y d) back ∙ (a.spot d ∙ ap (λ (r : ℕ). spot_in r i) moved));
 }
   where
     grouped : b + w + x ≡ b + (w + x)
@@ -100,7 +100,7 @@ pub record PlaceAt (b t : ℕ) (ws : List ℕ) (x : ℕ) : Type 0 where
   pub at : IsAt b t ws rule place x
 
 -- each position has a place
-pub place-at : (b t : ℕ) (ws : List ℕ) (x : ℕ) → x < length (spots_from t ws) → PlaceAt b t ws x
+pub place-at : (b t : ℕ) (ws : List ℕ) (x : ℕ) → x < length (spots_by_width t ws) → PlaceAt b t ws x
 place-at b t [] x low = absurd (omega (arith, low))
 place-at b t (w ∷ ws) x low = go (cases_lt x w) (λ past. place-at (b + w) (suc t) ws (x - w) (omega (arith, low, past, spots-cons t w ws)))
   where

@@ -1,23 +1,21 @@
 -- The listed places are those that the answer reads.
-use Rattle.std.proofs.Common.{◌≡◌, ◌⊎◌, inl, inr, ℕ, zero, suc, ◌+◌, ◌<◌, ◌≤◌, ◌||◌, Bool, true, false, cond, List, [], ◌∷◌, ◌++◌, length, get_or, filter, map, All, Contains, Option, Some, None, nat_lt, refl, sym, ◌∙◌, ap, arith}
+use Rattle.std.proofs.Common.{◌≡◌, ◌⊎◌, inl, inr, ℕ, ◌+◌, ◌<◌, ◌≤◌, ◌||◌, Bool, true, false, cond, List, [], ◌∷◌, ◌++◌, get_or, filter, All, Contains, Option, refl, sym, ◌∙◌, ap, arith}
 use Rattle.std.specs.List.{range_with_len}
-use Rattle.std.proofs.lemmas.Bool.{or_left, or_right, lt-ltb, ltb-true}
+use Rattle.std.proofs.lemmas.Bool.{or_left, or_right}
 use Rattle.std.proofs.lemmas.List.Elements.{All-nil, All-append, All-from_get_or, Contains-get_or, filter-append, Contains-append_left, Contains-append_right, Contains-append_cases}
 use Rattle.std.proofs.lemmas.List.FromFn.{length-range_with_len, get_or-range_with_len, map-range_with_len_more}
 use Rattle.std.proofs.lemmas.List.{map-id, append_assoc}
 use Rattle.model.specs.Entries.{is_in}
-use Rattle.model.specs.Polynomials.{Polynomial, degree_of}
+use Rattle.model.specs.Polynomials.{Polynomial}
 use Rattle.model.proofs.Membership.{is_in-filter, filter-in, contains-is_in, is_in-contained, is_in-numbers, no_is_not_yes}
-use Rattle.poly_terms.specs.declared.poly.Poly.{Poly}
-use Rattle.poly_terms.specs.Views.{poly_of}
-use Rattle.proof_setting.specs.Setting.{bent_at, where_bent}
 use Rattle.proof_nodes.specs.Nodes.{Spot, Arm}
 use Rattle.proof_nodes.specs.Setting.{Setting}
 use Rattle.proof_nodes.specs.ComposedSizes.{reads, poly_at}
 use Rattle.its_graph.proofs.Elements.{none_in_empty}
 use Rattle.local_size.specs.LocalAnswers.{Local, HasBound, IsLooseOn, HasTripped}
 use Rattle.rvg_components.specs.Flows.{local_reads}
-use Rattle.rvg_components.specs.Reading.{places_read, answer_reads}
+use Rattle.proof_tree.specs.Reading.{places_read}
+use Rattle.rvg_components.specs.Reading.{answer_reads}
 
 -- a number among the first n is below n
 below : (n j : ℕ) → is_in j (range_with_len 0 n) ≡ true → j < n
@@ -93,40 +91,3 @@ read-few poly (HasBound l) left m low =
         (λ i inside. let k = arm-told poly arm left (get_or (places_read poly arm left) i 0) (Contains-get_or (places_read poly arm left) i 0 inside) in omega (arith, low, k.0))
 read-few poly (IsLooseOn side ray kept) left m low = All-nil (λ j. j < m)
 read-few poly (HasTripped t) left m low = All-nil (λ j. j < m)
-
--- past the last update there is none
-pub update_past : (qs : List Poly) (i : ℕ) → length qs ≤ i → bent_at (map poly_of qs) i ≡ None
-update_past [] i low = refl
-update_past (q ∷ qs) zero low = absurd (omega (arith, low))
-update_past (q ∷ qs) (suc i) low = update_past qs i (omega (arith, low))
-
--- the update at a position, where it has degree 2 or more
-update-here : (qs : List Poly) (i : ℕ) (q : Poly) → i < length qs → q ≡ get_or qs i q → bent_at (map poly_of qs) i ≡ where_bent (poly_of q)
-update-here [] i q low e = absurd (omega (arith, low))
-update-here (x ∷ qs) zero q low e = ap (λ (y : Poly). where_bent (poly_of y)) (sym e)
-update-here (x ∷ qs) (suc i) q low e = update-here qs i q (omega (arith, low)) e
-
--- one of degree 2 or more is there
-pub update_bent : (qs : List Poly) (i : ℕ) (q : Poly) → i < length qs → q ≡ get_or qs i q → 1 < degree_of (poly_of q) → bent_at (map poly_of qs) i ≡ Some (poly_of q)
-update_bent qs i q low e h = update-here qs i q low e ∙ go (nat_lt 1 (degree_of (poly_of q))) (lt-ltb 1 (degree_of (poly_of q)) h)
-  where
-    go : (v : Bool) → v ≡ true → cond v (Some (poly_of q)) None ≡ Some (poly_of q)
-    go v is = ap (λ (w : Bool). cond w (Some (poly_of q)) None) is
-
--- a number that isn't below another is told so
-not-below : (a b : ℕ) → b ≤ a → nat_lt a b ≡ false
-not-below a b h = go (nat_lt a b) refl
-  where
-    go : (v : Bool) → nat_lt a b ≡ v → nat_lt a b ≡ false
-    go true is = absurd (omega (arith, h, ltb-true a b is))
-    go false is = is
-
--- one of a lower degree isn't
-pub update_straight : (qs : List Poly) (i : ℕ) (q : Poly) → i < length qs → q ≡ get_or qs i q → degree_of (poly_of q) ≤ 1 → bent_at (map poly_of qs) i ≡ None
-update_straight qs i q low e h = update-here qs i q low e ∙ go (nat_lt 1 (degree_of (poly_of q))) (not-below 1 (degree_of (poly_of q)) h)
-  where
-    go : (v : Bool) → v ≡ false → cond v (Some (poly_of q)) None ≡ None
-    go v is = ap (λ (w : Bool). cond w (Some (poly_of q)) None) is
-
--- the update at a position, in all three cases
-pub ruleset updates = (update_past, update_bent, update_straight)

@@ -22,18 +22,18 @@ local_reads s spot (HasTripped t) j = false
 
 -- a value flows from one place into another: the rule of the first can come just before that of the second, and an arm
 -- of the second reads the first; places count from 1
-abbrev pub flows_into : Setting → Locals → Spot → Spot → Bool
-flows_into s local m n =
+abbrev pub value_flows : Setting → Locals → Spot → Spot → Bool
+value_flows s local m n =
     is_in m.rule (pre s.program n.rule) && local_reads s n (local n.rule n.place) (m.place - 1)
 
 -- the places after a rule, in order
-abbrev pub spots_after : Program → ℕ → List Spot
-spots_after p t = map (λ i. record { rule = t; place = i }) (places_at p (target_of p t))
+abbrev pub target_spots : Program → ℕ → List Spot
+target_spots p t = map (λ i. record { rule = t; place = i }) (places_at p (target_of p t))
 
 -- of these rules the places of those that are live, in order
 abbrev pub spots_of : Program → (ℕ → Bool) → List ℕ → List Spot
 spots_of p is_live [] = []
-spots_of p is_live (t ∷ ts) = cond (is_live t) (spots_after p t) [] ++ spots_of p is_live ts
+spots_of p is_live (t ∷ ts) = cond (is_live t) (target_spots p t) [] ++ spots_of p is_live ts
 
 -- the places of all live rules, in the order of rules and then of places
 abbrev pub live_spots : Program → (ℕ → Bool) → List Spot
@@ -41,4 +41,4 @@ live_spots p is_live = spots_of p is_live (range_with_len 1 (length p.rules))
 
 -- these places loop: a value flows from one of them into one of them
 abbrev pub loops : Setting → Locals → List Spot → Bool
-loops s local spots = list_any (λ n. list_any (λ m. flows_into s local m n) spots) spots
+loops s local spots = list_any (λ n. list_any (λ m. value_flows s local m n) spots) spots

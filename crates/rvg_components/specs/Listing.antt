@@ -17,7 +17,7 @@ use Rattle.proof_tree.specs.Composing.{AreRowsOf}
 use Rattle.its_graph.specs.Components.{IsListing}
 use Rattle.proof_tree.specs.Views.{spot_of}
 use Rattle.rvg_components.specs.declared.component.Component.{Component}
-use Rattle.rvg_components.specs.Flows.{Locals, flows_into, live_spots, loops}
+use Rattle.rvg_components.specs.Flows.{Locals, value_flows, live_spots, loops}
 
 -- the spot at a position
 abbrev pub spot_at : List Spot → ℕ → Spot
@@ -27,7 +27,7 @@ spot_at spots i = slice_index_or spots i (record { rule = 0; place = 0 })
 pub record HasFlow (s : Setting) (local : Locals) (spots : List Spot) (a b : ℕ) : Type 0 where
   pub from : a < length spots
   pub to : b < length spots
-  pub flow : flows_into s local (spot_at spots a) (spot_at spots b) ≡ true
+  pub flow : value_flows s local (spot_at spots a) (spot_at spots b) ≡ true
 
 -- the strongly connected components of the places of live rules, by the positions of these among all of them in order:
 -- each comes after all from which values flow into it, and among those that may come next the one with the least rule
@@ -74,7 +74,7 @@ pub record AreLocalsFor (p : Program) (locals : List (List LocalAnswer)) (live :
       → length (answers_for locals t) ≡ arity_of p r.target
 
 -- what is handed in: the graph and the rows of a valid program, with answers and flags for its rules
-pub record IsGiven (p : Program) (g : Graph) (preps : List RuleRows) (locals : List (List LocalAnswer))
+pub record AreAnswersGiven (p : Program) (g : Graph) (preps : List RuleRows) (locals : List (List LocalAnswer))
     (live : List Bool) : Type 0 where
   pub valid : IsValid p
   pub graph : IsGraphOf g p

@@ -20,6 +20,6 @@ abbrev pub places_of : ℕ → ℕ → ℕ → List Spot
 places_of t i n = map (λ j. record { rule = t; place = j }) (range_with_len i n)
 
 -- the places of rules with these widths, the first of which is rule t
-abbrev pub spots_from : ℕ → List ℕ → List Spot
-spots_from t [] = []
-spots_from t (w ∷ ws) = places_of t 1 w ++ spots_from (suc t) ws
+abbrev pub spots_by_width : ℕ → List ℕ → List Spot
+spots_by_width t [] = []
+spots_by_width t (w ∷ ws) = places_of t 1 w ++ spots_by_width (suc t) ws

@@ -10,10 +10,11 @@ ghost use Rattle.rvg_components.specs.Edges.{edges_from, edges_to, edges_into, f
 ghost use Rattle.rvg_components.specs.Edges.{live_edges_at, edges_below};
 ghost use Rattle.rvg_components.specs.Fitting.{known_of, IsFitting};
 
-use crate::reading::{places_read, update_at};
+use crate::reading::answer_places;
 use guard_prep::RuleRows;
 use its_graph::Graph;
 use local_size::LocalAnswer;
+use proof_tree::bent_update;
 use std::alloc::{AllocError, Global};
 
 // Appends the edges to a place from a place of each rule with one of these first places.
@@ -66,8 +67,8 @@ fn push_into(
         ≡ edges.old.items ++ edges_into (prepared_of prep.now) before.now first 0 answers.now) }
 {
     for (position, answer) in answers.iter().enumerate() {
-        let poly = update_at(prep, position);
-        let places = places_read(alloc, answer, poly, prep.left)?;
+        let poly = bent_update(prep, position);
+        let places = answer_places(alloc, answer, poly, prep.left)?;
         push_to(edges, first + position as u32, before, &places)?;
     }
     Ok(())

@@ -4,7 +4,7 @@ ghost use Rattle.std.specs.Prelude.{map, IfOk};
 ghost use Rattle.model.specs.Programs.{Program};
 ghost use Rattle.proof_setting.specs.Setting.{setting_of};
 ghost use Rattle.proof_tree.specs.Views.{spot_of};
-ghost use Rattle.rvg_components.specs.Listing.{IsGiven, answer_lists, is_flagged, local_from};
+ghost use Rattle.rvg_components.specs.Listing.{AreAnswersGiven, answer_lists, is_flagged, local_from};
 ghost use Rattle.rvg_components.specs.FlowGraphs.{IsFlowGraph};
 
 use crate::flowing::edges_of;
@@ -30,9 +30,9 @@ pub(crate) fn flow_graph(
     locals: &[Vec<LocalAnswer>],
     live: &[bool],
 ) -> Result<FlowGraph, AllocError>
-    requires { (p : Program) × IsGiven p g.now preps.now (answer_lists locals.now) live.now }
+    requires { (p : Program) × AreAnswersGiven p g.now preps.now (answer_lists locals.now) live.now }
     ensures { IfOk result (λ graph. (p : Program)
-        → IsGiven p g.now preps.now (answer_lists locals.now) live.now
+        → AreAnswersGiven p g.now preps.now (answer_lists locals.now) live.now
         → IsFlowGraph (setting_of p) (is_flagged live.now) (local_from (answer_lists locals.now))
         (map spot_of graph.spots.items) graph.edges.items) }
 {

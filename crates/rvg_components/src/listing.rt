@@ -7,7 +7,7 @@ ghost use Rattle.its_graph.specs.Graphs.{IsGraphOf};
 ghost use Rattle.proof_setting.specs.Setting.{setting_of};
 ghost use Rattle.proof_tree.specs.Composing.{AreRowsOf};
 ghost use Rattle.rvg_components.specs.Listing.{AreComponents, AreLocalsFor, SaysWhetherItLoops, is_flagged, local_from};
-ghost use Rattle.rvg_components.specs.Listing.{members_of, answer_lists, IsGiven};
+ghost use Rattle.rvg_components.specs.Listing.{members_of, answer_lists, AreAnswersGiven};
 
 use crate::component::Component;
 use crate::graph::flow_graph;
@@ -33,13 +33,13 @@ pub fn components(
     locals: &[Vec<LocalAnswer>],
     live: &[bool],
 ) -> Result<Vec<Component>, Memory>
-    requires { (p : Program) × IsGiven p g.now preps.now (answer_lists locals.now) live.now }
+    requires { (p : Program) × AreAnswersGiven p g.now preps.now (answer_lists locals.now) live.now }
     ensures components { IfOk result (λ found. (p : Program)
-        → IsGiven p g.now preps.now (answer_lists locals.now) live.now
+        → AreAnswersGiven p g.now preps.now (answer_lists locals.now) live.now
         → AreComponents (setting_of p) (is_flagged live.now) (local_from (answer_lists locals.now))
         (map members_of found.items)) }
     ensures looping { IfOk result (λ found. (p : Program)
-        → IsGiven p g.now preps.now (answer_lists locals.now) live.now
+        → AreAnswersGiven p g.now preps.now (answer_lists locals.now) live.now
         → All (SaysWhetherItLoops (setting_of p) (local_from (answer_lists locals.now))) found.items) }
 {
     let graph = flow_graph(alloc, g, preps, locals, live)?;

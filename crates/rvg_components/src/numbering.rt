@@ -4,7 +4,7 @@ ghost use Rattle.std.specs.Prelude.{◌≡◌, ℕ, ◌++◌, ◌<◌, ◌^◌, 
 ghost use Rattle.std.specs.List.{sum};
 ghost use Rattle.proof_tree.specs.Views.{spot_of};
 ghost use Rattle.rvg_components.specs.Listing.{answer_lists};
-ghost use Rattle.rvg_components.specs.Numbering.{widths, firsts_from, places_of, spots_from};
+ghost use Rattle.rvg_components.specs.Numbering.{widths, firsts_from, places_of, spots_by_width};
 
 use local_size::LocalAnswer;
 use proof_tree::Spot;
@@ -63,7 +63,7 @@ fn push_places(spots: &mut Vec<Spot>, rule: u32, count: usize) -> Result<(), All
 pub(crate) fn numbered_places(alloc: Global, widths: &[usize]) -> Result<Vec<Spot>, AllocError>
     requires few { length widths.now < 2 ^ 31 }
     requires sum { sum widths.now < 2 ^ 31 }
-    ensures { IfOk result (λ spots. map spot_of spots.items ≡ spots_from 1 widths.now) }
+    ensures { IfOk result (λ spots. map spot_of spots.items ≡ spots_by_width 1 widths.now) }
 {
     let mut spots = Vec::new(alloc);
     for (position, width) in widths.iter().enumerate() {

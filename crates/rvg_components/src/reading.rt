@@ -1,89 +1,20 @@
 // Which places an answer reads.
 
-ghost use Rattle.std.specs.Prelude.{◌≡◌, ℕ, ◌++◌, ◌∷◌, [], cond, not, map, IfOk, OnOk};
-ghost use Rattle.std.specs.List.{list_any};
-ghost use Rattle.int_laws.specs.NormalForm.{is_zero};
-ghost use Rattle.linear_forms.specs.Forms.{at};
-ghost use Rattle.model.specs.Entries.{is_in};
-ghost use Rattle.poly_terms.specs.Views.{monomial_of, poly_of};
-ghost use Rattle.proof_nodes.specs.ComposedSizes.{reads as reads_of, has_variable as has_variable_of};
+ghost use Rattle.std.specs.Prelude.{◌≡◌, ◌++◌, IfOk, OnOk};
 ghost use Rattle.proof_tree.specs.Composing.{poly_seen};
+ghost use Rattle.proof_tree.specs.Reading.{places_read as places_of};
 ghost use Rattle.proof_tree.specs.Views.{arm_of};
 ghost use Rattle.local_size.specs.LocalAnswers.{local_seen};
-ghost use Rattle.proof_setting.specs.Setting.{bent_at};
-ghost use Rattle.rvg_components.specs.Reading.{places_read as places_of, answer_reads};
+ghost use Rattle.rvg_components.specs.Reading.{answer_reads};
 
-use guard_prep::RuleRows;
 use local_size::LocalAnswer;
-use poly_terms::{Monomial, Poly};
-use proof_tree::Arm;
+use poly_terms::Poly;
+use proof_tree::{Arm, places_read};
 use std::alloc::{AllocError, Global};
 
-// Whether a number is in a list.
-fn has(numbers: &[u32], number: u32) -> bool
-    ensures { result ≡ is_in number numbers.now }
-{
-    for other in numbers {
-        let is_same = number == *other;
-        if is_same {
-            return true;
-        }
-    }
-    false
-}
-
-// Whether one of these monomials has the variable.
-fn is_among(monomials: &[Monomial], variable: u32) -> bool
-    ensures { result ≡ list_any (λ m. is_in variable m.vars) (map monomial_of monomials.now) }
-{
-    for monomial in monomials {
-        let is_here = has(&monomial.vars, variable);
-        if is_here {
-            return true;
-        }
-    }
-    false
-}
-
-// Whether a polynomial has the variable; where there is none, it hasn't.
-fn has_variable(poly: Option<&Poly>, variable: u32) -> bool
-    ensures { result ≡ has_variable_of (poly_seen poly.entry) variable }
-{
-    match poly {
-        Some(q) => is_among(&q.terms, variable),
-        None => false,
-    }
-}
-
-// Whether a coefficient isn't 0; one that isn't listed is 0.
-fn has_coefficient(coefs: &[i64], position: u32) -> bool
-    ensures { result ≡ not (is_zero (at coefs.now position)) }
-{
-    (position as usize) < coefs.len() && coefs[position as usize] != 0
-}
-
-// Whether an arm reads a place, numbered from 0. `poly` is the update, where it has degree 2 or more.
-fn reads(arm: &Arm, poly: Option<&Poly>, place: u32) -> bool
-    ensures { result ≡ reads_of (poly_seen poly.entry) (arm_of arm.now) place }
-{
-    match arm {
-        Arm::Linear { coefs, .. } => has_coefficient(coefs, place),
-        Arm::Poly => has_variable(poly, place),
-    }
-}
-
-// Appends a place, if it is read.
-fn push_if(places: &mut Vec<u32>, place: u32, is_read: bool) -> Result<(), AllocError>
-    ensures { OnOk result (places.new.items ≡ places.old.items ++ cond is_read (place ∷ []) []) }
-{
-    if is_read {
-        places.push(place)?;
-    }
-    Ok(())
-}
-
-// Appends the places that an arm reads, of so many, ascending and numbered from 0.
+// Appends the places that an arm reads, of so many.
 fn push_read(
+    alloc: Global,
     places: &mut Vec<u32>,
     arm: &Arm,
     poly: Option<&Poly>,
@@ -92,15 +23,13 @@ fn push_read(
     ensures { OnOk result (places.new.items
         ≡ places.old.items ++ places_of (poly_seen poly.entry) (arm_of arm.now) left) }
 {
-    for place in 0..left {
-        push_if(places, place, reads(arm, poly, place))?;
-    }
-    Ok(())
+    let read = places_read(alloc, arm, poly, left)?;
+    places.extend_from_slice(&read)
 }
 
 /// The places that an answer reads, of so many, numbered from 0: those of the up arm and then those of the low arm.
 /// What is loose or tripped has no arms. `poly` is the update, where it has degree 2 or more.
-pub(crate) fn places_read(
+pub(crate) fn answer_places(
     alloc: Global,
     answer: &LocalAnswer,
     poly: Option<&Poly>,
@@ -110,20 +39,8 @@ pub(crate) fn places_read(
 {
     let mut places = Vec::new(alloc);
     if let LocalAnswer::Bound(local) = answer {
-        push_read(&mut places, &local.up, poly, left)?;
-        push_read(&mut places, &local.low, poly, left)?;
+        push_read(alloc, &mut places, &local.up, poly, left)?;
+        push_read(alloc, &mut places, &local.low, poly, left)?;
     }
     Ok(places)
-}
-
-/// The update at a position, numbered from 0, where it has degree 2 or more.
-#[tactic(auto, using(crate::proofs::ReadPlaces::updates))]
-pub(crate) fn update_at(prep: &RuleRows, position: usize) -> Option<&Poly>
-    ensures { poly_seen result ≡ bent_at (map poly_of prep.now.polys.items) position }
-{
-    if position >= prep.polys.len() {
-        return None;
-    }
-    let poly = &prep.polys[position];
-    if poly.degree() > 1 { Some(poly) } else { None }
 }

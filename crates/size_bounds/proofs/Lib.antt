@@ -9,7 +9,6 @@ pub mod NeededSpots
 -- the first of them that isn't known
 pub mod FirstMissing
 -- the updates of degree 2 or more
-pub mod BentUpdates
 -- the rows and arms of members
 pub mod GivenMembers
 -- what is answered of a place that doesn't loop

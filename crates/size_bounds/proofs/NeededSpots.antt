@@ -1,18 +1,19 @@
 -- The sizes that arms need, place by place and rule by rule.
-use Rattle.std.proofs.Common.{◌≡◌, ℕ, zero, suc, ◌+◌, ◌^◌, ◌<◌, ◌≤◌, ◌&&◌, not, Bool, true, false, cond, List, [], ◌∷◌, ◌++◌, map, filter, All, Option, refl, sym, ap, ◌∙◌, arith}
+use Rattle.proof_tree.specs.declared.arm.Spot.{Spot as CodeSpot}
+use Rattle.std.proofs.Common.{◌≡◌, ℕ, zero, suc, ◌+◌, ◌^◌, ◌<◌, ◌≤◌, ◌&&◌, not, Bool, true, false, List, [], ◌∷◌, ◌++◌, map, filter, All, Option, refl, sym, ap, ◌∙◌, arith}
 use Rattle.std.specs.List.{AllByRecursion, range_with_len}
 use Rattle.std.proofs.lemmas.List.{append-nil, map-append}
-use Rattle.std.proofs.lemmas.List.Elements.{filter-append, All-from_recursion}
+use Rattle.std.proofs.lemmas.List.Elements.{All-from_recursion}
 use Rattle.model.specs.Polynomials.{Polynomial}
 use Rattle.proof_nodes.specs.Nodes.{Spot, Arm, Member}
 use Rattle.proof_nodes.specs.Setting.{Setting}
 use Rattle.proof_nodes.specs.ComposedSizes.{poly_at, reads, is_member}
 use Rattle.proof_nodes.specs.AcceptsSizes.{left_of}
 use Rattle.proof_nodes.specs.Checks.{spots_after, needed_by, needed_from}
-use Rattle.proof_tree.specs.declared.arm.Spot.{Spot as CodeSpot}
 use Rattle.proof_tree.specs.Views.{spot_of}
 use Rattle.proof_tree.specs.Sizes.{is_spot}
-use Rattle.size_bounds.specs.Needs.{places_read, spots_outside, spots_from}
+use Rattle.proof_tree.specs.Reading.{places_read}
+use Rattle.size_bounds.specs.Needs.{spots_outside, spots_from}
 
 -- what passes two tests passes the one and then the other
 filter-both : (f g : ℕ → Bool) (xs : List ℕ)
@@ -43,40 +44,6 @@ needed-spots s members m [] = refl
 needed-spots s members m (e ∷ es) =
     λ i. needed-outside s members m m.local.up e i
     ++ (needed-outside s members m m.local.low e i ++ needed-spots s members m es i)
-
--- so many numbers, and one more
-numbers-more : (a n : ℕ) → range_with_len a (n + 1) ≡ range_with_len a n ++ (a + n) ∷ []
-numbers-more a zero = ap (λ (m : ℕ). m ∷ []) (let e : a ≡ a + 0 = omega arith in e)
-numbers-more a (suc n) =
-    ap (range_with_len a) (let k : suc n + 1 ≡ suc (n + 1) = omega arith in k)
-    ∙ ap (λ (ms : List ℕ). a ∷ ms) (numbers-more (a + 1) n
-    ∙ ap (λ (m : ℕ). range_with_len (a + 1) n ++ m ∷ []) (let e : a + 1 + n ≡ a + suc n = omega arith in e))
-
-module _ (poly : Option Polynomial) (arm : Arm) where
-  -- the places that an arm reads, and one more
-  read-more : (t : ℕ) → places_read poly arm (t + 1) ≡ places_read poly arm t ++ cond (reads poly arm t) (t ∷ []) []
-  read-more t =
-      ap (filter (λ j. reads poly arm j)) (numbers-more 0 t)
-      ∙ (filter-append (λ j. reads poly arm j) (range_with_len 0 t) ((0 + t) ∷ [])
-      ∙ (ap (λ (m : ℕ). places_read poly arm t ++ filter (λ j. reads poly arm j) (m ∷ [])) (let e : 0 + t ≡ t = omega arith in e)
-      ∙ ap (λ (ms : List ℕ). places_read poly arm t ++ ms) (one (reads poly arm t) refl)))
-    where
-      one : (v : Bool) → reads poly arm t ≡ v
-          → filter (λ j. reads poly arm j) (t ∷ []) ≡ cond (reads poly arm t) (t ∷ []) []
-      one true e = rw e refl
-      one false e = rw e refl
-
-  pub place_pushed : (t : ℕ) (old new : List ℕ) → old ≡ places_read poly arm t → new ≡ old ++ t ∷ []
-      → true ≡ reads poly arm t → new ≡ places_read poly arm (t + 1)
-  place_pushed t old new eo en h =
-      en ∙ (ap (λ (xs : List ℕ). xs ++ t ∷ []) eo
-      ∙ sym (read-more t ∙ ap (λ (v : Bool). places_read poly arm t ++ cond v (t ∷ []) []) (sym h)))
-
-  pub place_passed : (t : ℕ) (old : List ℕ) → old ≡ places_read poly arm t → false ≡ reads poly arm t
-      → old ≡ places_read poly arm (t + 1)
-  place_passed t old eo h =
-      eo ∙ (sym (append-nil (places_read poly arm t))
-      ∙ sym (read-more t ∙ ap (λ (v : Bool). places_read poly arm t ++ cond v (t ∷ []) []) (sym h)))
 
 -- numbers up to one are below the next
 below-range : (a n b : ℕ) → a + n ≤ b → AllByRecursion (λ j. j < b) (range_with_len a n)

@@ -1,27 +1,18 @@
 -- What nodes rest on, one more at a time.
-use Rattle.std.proofs.Common.{◌≡◌, ℕ, ◌==◌, ◌||◌, arith, Bool, not, true, false, cond, List, [], ◌∷◌, ◌++◌, map, filter, refl, sym, ◌∙◌, ap}
+use Rattle.std.proofs.Common.{◌≡◌, ℕ, ◌==◌, ◌||◌, Bool, not, true, false, cond, List, [], ◌∷◌, ◌++◌, map, filter, refl, sym, ◌∙◌, ap}
 use Rattle.std.proofs.lemmas.List.{append-nil}
-use Rattle.std.specs.BTreeSet.{BTreeSet, contains}
-use Rattle.std.specs.BTreeMap.{is_at}
-use Rattle.std.specs.Cmp.{unsigned_tied}
-use Rattle.std.specs.Ordering.{nat_cmp}
-use Rattle.std.proofs.lemmas.Bool.Decides.{nat_tests}
 use Rattle.model.specs.Entries.{is_in}
 use Rattle.proof_nodes.specs.Nodes.{Proofs, Cite, AndProof}
 use Rattle.proof_tree.specs.Views.{uses_of}
+use Rattle.proof_tree.proofs.NumberSets.{bool_same}
 use Rattle.round_relation.specs.Uses.{once, cites}
 use Rattle.round_relation.proofs.CitedFacts.{in-once, once-in}
-use Rattle.size_bounds.specs.Lemmas.{with_other, HasJust}
+use Rattle.size_bounds.specs.Lemmas.{with_other}
 
 -- citations as uses
 pub cites_seen : (ns : List ℕ) → uses_of (map (λ n. Cite n) ns) ≡ cites ns
 cites_seen [] = refl
 cites_seen (n ∷ ns) = ap (λ (us : Proofs). AndProof (Cite n) us) (cites_seen ns)
-
-bool_same : (v w : Bool) → (v ≡ true → w ≡ true) → (w ≡ true → v ≡ true) → v ≡ w
-bool_same true w f g = sym (f refl)
-bool_same false true f g = g refl
-bool_same false false f g = refl
 
 pub filter-append : (test : ℕ → Bool) (xs : List ℕ) (x : ℕ) → filter test (xs ++ x ∷ []) ≡ filter test xs ++ cond (test x) (x ∷ []) []
 filter-append test [] x = go (test x) refl
@@ -81,41 +72,3 @@ others-append xs n = go (n == 0) refl
     go false e =
         rw e (ap (λ (v : Bool). cond v (once (filter (λ i. not (i == 0)) xs)) (once (filter (λ i. not (i == 0)) xs) ++ n ∷ [])) same_in
         ∙ (sym (once-append (filter (λ i. not (i == 0)) xs) n) ∙ ap once (sym (rw e at (filter-append (λ i. not (i == 0)) xs n)))))
-
--- a number is in a list with one more where it is in the list or is that one
-in-more : (q n : ℕ) (ns : List ℕ) → is_in q (ns ++ n ∷ []) ≡ cond (q == n) true (is_in q ns)
-in-more q n [] = go (q == n)
-  where
-    go : (v : Bool) → (v || false) ≡ cond v true false
-    go true = refl
-    go false = refl
-in-more q n (m ∷ ns) = ap (λ (v : Bool). (q == m) || v) (in-more q n ns) ∙ go (q == m) (q == n)
-  where
-    go : (v w : Bool) → (v || cond w true (is_in q ns)) ≡ cond w true (v || is_in q ns)
-    go true true = refl
-    go true false = refl
-    go false true = refl
-    go false false = refl
-
--- the test whether two numbers are the same, from both sides
-eqb-flip : (a b : ℕ) → (a == b) ≡ (b == a)
-eqb-flip a b = bool_same (a == b) (b == a) (flip a b) (flip b a)
-  where
-    flip : (m n : ℕ) → (m == n) ≡ true → (n == m) ≡ true
-    flip m n h = go (n == m) refl
-      where
-        go : (v : Bool) → (n == m) ≡ v → v ≡ true
-        go true e = refl
-        go false e = absurd (grind (arith, nat_tests))
-
--- the test of a key is that of its number
-same-key : (n q : ℕ) → is_at (nat_cmp n) q ≡ (q == n)
-same-key n q = unsigned_tied n q ∙ eqb-flip n q
-
--- a set with one number more has just those of the list with it
-pub set_more : (old new : BTreeSet ℕ) (ns : List ℕ) (n : ℕ) → HasJust old ns
-    → ((q : ℕ) → contains nat_cmp new q ≡ cond (is_at (nat_cmp n) q) true (contains nat_cmp old q))
-    → HasJust new (ns ++ n ∷ [])
-set_more old new ns n h u q =
-    u q ∙ (ap (λ (v : Bool). cond v true (contains nat_cmp old q)) (same-key n q)
-    ∙ (ap (λ (v : Bool). cond (q == n) true v) (h q) ∙ sym (in-more q n ns)))

@@ -1,7 +1,5 @@
 -- The lemmas that a node cites, as plain data.
-use Rattle.std.specs.Prelude.{◌≡◌, ℕ, ◌==◌, cond, List, [], ◌∷◌, ◌++◌, map}
-use Rattle.std.specs.BTreeSet.{BTreeSet, contains}
-use Rattle.std.specs.Ordering.{nat_cmp}
+use Rattle.std.specs.Prelude.{ℕ, ◌==◌, cond, List, [], ◌∷◌, ◌++◌, map}
 use Rattle.model.specs.Entries.{is_in}
 use Rattle.proof_nodes.specs.Nodes.{Proofs}
 use Rattle.proof_tree.specs.declared.proof.Proof.{Proof}
@@ -14,7 +12,3 @@ uses_seen uses = uses_of (map proof_of uses)
 -- a list with a number at its end, where it isn't 0 and isn't there
 abbrev pub with_other : ℕ → List ℕ → List ℕ
 with_other n ns = cond (n == 0) ns (cond (is_in n ns) ns (ns ++ n ∷ []))
-
--- a set has just the numbers of a list
-abbrev pub HasJust : BTreeSet ℕ → List ℕ → Type 0
-HasJust set ns = (n : ℕ) → contains nat_cmp set n ≡ is_in n ns

@@ -1,22 +1,17 @@
 -- The sizes that arms need: those of the places that they read, but for members; and the first that isn't known.
 use Rattle.std.specs.Prelude.{ℕ, zero, suc, not, List, [], ◌∷◌, ◌++◌, filter, Option, Some, None}
-use Rattle.std.specs.List.{range_with_len}
 use Rattle.model.specs.Bounds.{Bound}
 use Rattle.model.specs.Polynomials.{Polynomial}
 use Rattle.proof_setting.specs.Setting.{bent_at}
-use Rattle.proof_nodes.specs.Nodes.{Spot, Arm, Member}
+use Rattle.proof_nodes.specs.Nodes.{Spot, Member}
 use Rattle.proof_nodes.specs.Known.{Table}
-use Rattle.proof_nodes.specs.ComposedSizes.{reads, is_member}
+use Rattle.proof_nodes.specs.ComposedSizes.{is_member}
 use Rattle.proof_nodes.specs.Checks.{spots_after}
 
 -- the update at a place, where it has degree 2 or more; places count from 1
 abbrev pub update_at : List Polynomial → ℕ → Option Polynomial
 update_at polys zero = None
 update_at polys (suc i) = bent_at polys i
-
--- the places that an arm reads, of so many, ascending and numbered from 0
-abbrev pub places_read : Option Polynomial → Arm → ℕ → List ℕ
-places_read poly arm left = filter (λ j. reads poly arm j) (range_with_len 0 left)
 
 -- these places after a rule, but for the members
 abbrev pub spots_outside : List Member → ℕ → List ℕ → List Spot

@@ -2,6 +2,7 @@
 
 ghost use Rattle.std.specs.Prelude.{◌≡◌, ℕ, ◌+◌, ◌*◌, ◌^◌, ◌≤◌, ◌++◌, ◌∷◌, [], cond, length, map, All};
 ghost use Rattle.std.specs.Prelude.{IfOk, OnOk, nat_abs};
+ghost use Rattle.linear_forms.specs.Limits.{certificate_limit};
 ghost use Rattle.model.specs.Programs.{Program};
 ghost use Rattle.model.specs.Paths.{pre};
 ghost use Rattle.proof_nodes.specs.ComposedSizes.{inner_sum as inner_sum_of, is_member, slope_of, flows_from};
@@ -43,7 +44,7 @@ fn inner(coef: &i64, den: u64, members: &[Member], rule: u32, place: u32) -> u64
     requires over { 1 ≤ den }
     requires limit { IsInLimit (nat_abs coef.now) }
     ensures sum { result ≡ cond (is_spot (map member_of members.now) rule place) (rounded_up (nat_abs coef.now) den) 0 }
-    ensures limit { result ≤ 2 ^ 55 }
+    ensures limit { result ≤ certificate_limit }
 {
     if has_spot(members, rule, place) {
         rounded_coefficient(coef, den) as u64
@@ -59,7 +60,7 @@ fn inner_sum(coefs: &[i64], den: u64, members: &[Member], rule: u32, place: u32)
     requires few { place + length coefs.now ≤ 65 }
     requires limit { All (λ c. IsInLimit (nat_abs c)) coefs.now }
     ensures sum { result ≡ inner_sum_of coefs.now den (members_from (map member_of members.now) rule place) }
-    ensures limit { result ≤ length coefs.now * 2 ^ 55 }
+    ensures limit { result ≤ length coefs.now * certificate_limit }
 {
     let Some((coef, others)) = coefs.split_first() else {
         return 0;

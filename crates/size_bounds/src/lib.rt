@@ -6,7 +6,6 @@
 
 mod answer;
 mod bent;
-mod copies;
 mod flow;
 mod growth;
 mod loop_answer;

@@ -15,7 +15,6 @@ ghost use Rattle.size_bounds.specs.LoopAnswers.{first_unknown, is_unknown, loop_
 ghost use Rattle.size_bounds.specs.LoopAnswers.{IsLoopAnswer, IsTimedAnswer};
 
 use crate::answer::SizeAnswer;
-use crate::copies::copied_local;
 use crate::flow::Flow;
 use crate::growth::{FlowKind, Growth, greatest_offset, growing_rules, growths_by};
 use crate::loop_bound::loop_bound;
@@ -23,7 +22,7 @@ use crate::table::Table;
 use crate::uses::{cited, push_size_lemmas, push_time_lemmas};
 use bound_expr::{Bound, Memory};
 use bound_table::{Within, rewrite_within};
-use proof_tree::{CycleNode, Fact, Known, Member, Proof, Spot};
+use proof_tree::{CycleNode, Fact, Known, Member, Proof, Spot, copied_local};
 use std::alloc::Global;
 
 /// The answer by the flows of a loop and by its rules: `Untimed` where a rule that multiplies or adds has no time,

@@ -14,7 +14,6 @@ ghost use Rattle.size_bounds.specs.Needs.{first_missing as first_missing_of};
 ghost use Rattle.size_bounds.specs.SizeAnswers.{IsGiven, IsSpreadAnswer};
 
 use crate::answer::SizeAnswer;
-use crate::copies::copied_local;
 use crate::missing::first_missing;
 use crate::needs::push_needed;
 use crate::table::Table;
@@ -24,7 +23,7 @@ use bound_expr::{Bound, Memory};
 use bound_table::Within;
 use guard_prep::RuleRows;
 use its_graph::Graph;
-use proof_tree::{Fact, Member, Proof, Spot, SpreadNode, spread_size};
+use proof_tree::{Fact, Member, Proof, Spot, SpreadNode, copied_local, spread_size};
 use std::alloc::Global;
 
 /// The size of a place after a rule where its arms read no place of its own loop: the maximum, over the rules that can

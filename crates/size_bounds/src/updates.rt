@@ -13,7 +13,7 @@ ghost use Rattle.size_bounds.specs.Needs.{update_at as update_at_place};
 
 use guard_prep::RuleRows;
 use poly_terms::Poly;
-use proof_tree::Spot;
+use proof_tree::{Spot, bent_update};
 
 /// The update of a spot, where it has degree 2 or more.
 pub(crate) fn poly_at(preps: &[RuleRows], spot: Spot) -> Option<&Poly>
@@ -26,13 +26,12 @@ pub(crate) fn poly_at(preps: &[RuleRows], spot: Spot) -> Option<&Poly>
 }
 
 // The update at a place, where it has degree 2 or more. Places count from 1.
-#[tactic(auto, using(crate::proofs::BentUpdates::update_none, crate::proofs::BentUpdates::update_flat, crate::proofs::BentUpdates::update_bent))]
+#[tactic(auto, using(crate::proofs::GivenMembers::update_next))]
 fn update_at(prep: &RuleRows, place: u32) -> Option<&Poly>
     ensures { poly_seen result ≡ update_at_place (map poly_of prep.now.polys.items) place }
 {
-    if place == 0 || place as usize > prep.polys.len() {
+    if place == 0 {
         return None;
     }
-    let poly = &prep.polys[place as usize - 1];
-    if poly.degree() > 1 { Some(poly) } else { None }
+    bent_update(prep, place as usize - 1)
 }

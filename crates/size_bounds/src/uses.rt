@@ -3,14 +3,15 @@
 ghost use Rattle.std.specs.Prelude.{◌≡◌, ◌==◌, ◌∷◌, ◌++◌, not, map, filter, IfOk, OnOk};
 ghost use Rattle.model.specs.Entries.{is_in};
 ghost use Rattle.proof_nodes.specs.Nodes.{Start, Cite};
+ghost use Rattle.proof_tree.specs.NumberSets.{HasJust};
 ghost use Rattle.proof_tree.specs.Views.{proof_of, spot_of};
 ghost use Rattle.round_relation.specs.Uses.{NeedsTime, size_needs, number_of, once, uses_from};
 ghost use Rattle.size_bounds.specs.Tables.{numbers_of};
-ghost use Rattle.size_bounds.specs.Lemmas.{uses_seen, with_other, HasJust};
+ghost use Rattle.size_bounds.specs.Lemmas.{uses_seen, with_other};
 
 use crate::table::Table;
 use model::Memory;
-use proof_tree::{Proof, Spot};
+use proof_tree::{Proof, Spot, cite};
 use std::alloc::Global;
 use std::collections::BTreeSet;
 
@@ -96,13 +97,6 @@ fn start() -> Proof
     ensures { proof_of result ≡ Start }
 {
     Proof::Start
-}
-
-// An earlier lemma as a node.
-fn cite(lemma: u32) -> Proof
-    ensures { proof_of result ≡ Cite lemma }
-{
-    Proof::Cite(lemma)
 }
 
 // The lemmas other than 0, each once, in the order in which they come first.

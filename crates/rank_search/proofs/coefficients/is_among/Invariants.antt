@@ -1,5 +1,6 @@
 use Rattle.std.proofs.Common.{◌≡◌, drop}
-use Rattle.rank_search.specs.ProgramQuestions.{is_shut, places_of}
+use Rattle.proof_tree.specs.Shut.{is_shut}
+use Rattle.rank_search.specs.ProgramQuestions.{places_of}
 use Rattle.rank_search.proofs.coefficients.is_among.Given as goal
 
 -- the places that are left decide

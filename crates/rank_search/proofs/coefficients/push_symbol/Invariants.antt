@@ -1,6 +1,7 @@
 use Rattle.std.proofs.Common.{◌≡◌, ◌++◌, map}
 use Rattle.rank_search.specs.Coefficients.{coefficient_of}
-use Rattle.rank_search.specs.ProgramQuestions.{is_shut, places_of}
+use Rattle.proof_tree.specs.Shut.{is_shut}
+use Rattle.rank_search.specs.ProgramQuestions.{places_of}
 use Rattle.rank_search.proofs.OpenPlaces.{block_upto}
 use Rattle.rank_search.proofs.coefficients.push_symbol.Given as goal
 

@@ -4,7 +4,8 @@ use Rattle.linear_forms.specs.Forms.{at}
 use Rattle.linear_forms.specs.QuestionLaws.{parameters_of}
 use Rattle.model.specs.Programs.{arity_of}
 use Rattle.its_model.specs.Views.{program_of}
-use Rattle.rank_search.specs.ProgramQuestions.{is_shut, places_of}
+use Rattle.proof_tree.specs.Shut.{is_shut}
+use Rattle.rank_search.specs.ProgramQuestions.{places_of}
 use Rattle.rank_search.specs.Reading.{open_count, read_coefs}
 use Rattle.rank_search.proofs.Counts.{open-few}
 use Rattle.rank_search.proofs.Read.{place-read, place-left, count-read, count-left}

@@ -6,7 +6,8 @@ use Rattle.model.specs.Programs.{arity_of}
 use Rattle.std.proofs.lemmas.List.Elements.{All-get_or}
 use Rattle.its_model.specs.Views.{program_of}
 use Rattle.proof_tree.specs.Views.{form_of}
-use Rattle.rank_search.specs.ProgramQuestions.{is_shut, places_of}
+use Rattle.proof_tree.specs.Shut.{is_shut}
+use Rattle.rank_search.specs.ProgramQuestions.{places_of}
 use Rattle.rank_search.proofs.Counts.{open-few}
 use Rattle.rank_search.proofs.Read.{form-more}
 use Rattle.rank_search.proofs.Lists.{read-again}

@@ -1,9 +1,12 @@
-use Rattle.std.proofs.Common.{◌≡◌, filter}
-use Rattle.std.specs.List.{range_with_len}
+use Rattle.std.proofs.Common.{◌≡◌, length, take}
 use Rattle.its_model.specs.Views.{program_of}
 use Rattle.proof_nodes.specs.Graph.{touches}
+use Rattle.rank_search.specs.Marks.{AreMarks}
 use Rattle.rank_search.proofs.symbols.symbols_of_set.Given as goal
 
--- the symbols so far
-abbrev pub invariant-loop-number : goal.invariant-loop-number
-invariant-loop-number l = l.symbols.items ≡ filter (touches (program_of l.p) l.set) (range_with_len 0 l.number)
+-- the symbols of the rules so far are marked
+abbrev pub invariant-loop-rule : goal.invariant-loop-rule
+invariant-loop-rule l = record {
+  one_each : length l.marks.items ≡ length l.p.symbols.items;
+  marks : AreMarks (touches (program_of l.p) (take l.rule-index l.set)) l.marks.items;
+}

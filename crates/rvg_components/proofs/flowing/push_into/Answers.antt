@@ -10,5 +10,5 @@ use Rattle.rvg_components.proofs.flowing.push_into.Goals as goal
 pub push_to-requires-clause-few : goal.push_to-requires-clause-few
 push_to-requires-clause-few c =
     All-same (λ (j : ℕ). j < 2 ^ 31) c.deref.result.now
-    (answer_reads (poly_seen c.update_at-poly.result) (local_seen c.index-answers-position.result) c.args.prep.now.left) (c.deref.ensures.value ∙ c.in_ok-places.ensures)
-    (read-few (poly_seen c.update_at-poly.result) (local_seen c.index-answers-position.result) c.args.prep.now.left (2 ^ 31) (omega (arith, c.requires.left_few)))
+    (answer_reads (poly_seen c.bent_update-poly.result) (local_seen c.index-answers-position.result) c.args.prep.now.left) (c.deref.ensures.value ∙ c.in_ok-places.ensures)
+    (read-few (poly_seen c.bent_update-poly.result) (local_seen c.index-answers-position.result) c.args.prep.now.left (2 ^ 31) (omega (arith, c.requires.left_few)))

@@ -2,7 +2,7 @@ use Rattle.std.proofs.Common.{◌≡◌, ℕ, ◌<◌, ◌^◌, List, length, ma
 use Rattle.std.specs.List.{sum}
 use Rattle.proof_tree.specs.Views.{spot_of}
 use Rattle.rvg_components.specs.Listing.{answer_lists}
-use Rattle.rvg_components.specs.Numbering.{widths, firsts_from, spots_from}
+use Rattle.rvg_components.specs.Numbering.{widths, firsts_from, spots_by_width}
 use Rattle.rvg_components.specs.Edges.{edges_below}
 use Rattle.rvg_components.specs.Fitting.{known_of, IsFitting}
 use Rattle.rvg_components.proofs.Numbers.{widths-length}
@@ -48,5 +48,5 @@ returns c = λ p given.
     let firsts : c.deref-3.result.now ≡ firsts_from 0 ws =
     c.deref-3.ensures.value ∙ (c.in_ok-firsts.ensures ∙ ap (firsts_from 0) (c.deref.ensures.value ∙ c.in_ok-widths.ensures)) in
     flow-graph p c.args.g.now c.args.preps.now c.args.locals.now c.args.live.now given (map spot_of c.in_ok-spots.spots.items) c.in_ok-edges.edges.items
-    (c.in_ok-spots.ensures ∙ ap (spots_from 1) (c.deref-2.ensures.value ∙ c.in_ok-widths.ensures))
+    (c.in_ok-spots.ensures ∙ ap (spots_by_width 1) (c.deref-2.ensures.value ∙ c.in_ok-widths.ensures))
     (c.in_ok-edges.ensures p given.graph ∙ ap (λ (fs : List ℕ). edges_below p (known_of c.args.preps.now c.args.locals.now c.args.live.now fs) (length c.args.live.now)) firsts)

@@ -9,7 +9,8 @@ use Rattle.proof_nodes.specs.AcceptsSizes.{left_of}
 use Rattle.proof_setting.specs.Setting.{setting_of}
 use Rattle.proof_tree.specs.Views.{arm_of, spot_of, member_of}
 use Rattle.proof_tree.specs.Composing.{poly_seen}
-use Rattle.size_bounds.specs.Needs.{places_read, spots_from}
+use Rattle.proof_tree.specs.Reading.{places_read}
+use Rattle.size_bounds.specs.Needs.{spots_from}
 use Rattle.size_bounds.specs.SizeAnswers.{IsGiven}
 use Rattle.size_bounds.proofs.NeededSpots.{few_read, needed-spots}
 use Rattle.size_bounds.proofs.GivenMembers.{left_is, few_left}

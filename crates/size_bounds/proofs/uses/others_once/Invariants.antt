@@ -1,6 +1,6 @@
 use Rattle.std.proofs.Common.{◌≡◌, ◌==◌, not, filter, take}
 use Rattle.round_relation.specs.Uses.{once}
-use Rattle.size_bounds.specs.Lemmas.{HasJust}
+use Rattle.proof_tree.specs.NumberSets.{HasJust}
 use Rattle.size_bounds.proofs.uses.others_once.Given as goal
 
 -- those so far, each once, and the set has just them

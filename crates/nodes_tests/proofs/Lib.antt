@@ -1,0 +1,2 @@
+-- variables and monomials that are written out
+pub mod Variables

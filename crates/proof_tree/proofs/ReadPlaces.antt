@@ -1,0 +1,36 @@
+-- The places that an arm reads, place by place.
+use Rattle.std.proofs.Common.{◌≡◌, ℕ, zero, suc, ◌+◌, Bool, true, false, cond, List, [], ◌∷◌, ◌++◌, filter, Option, refl, sym, ap, ◌∙◌, arith}
+use Rattle.std.specs.List.{range_with_len}
+use Rattle.std.proofs.lemmas.List.{append-nil}
+use Rattle.std.proofs.lemmas.List.Elements.{filter-append}
+use Rattle.model.specs.Polynomials.{Polynomial}
+use Rattle.proof_nodes.specs.Nodes.{Arm}
+use Rattle.proof_nodes.specs.ComposedSizes.{reads}
+use Rattle.proof_tree.specs.Reading.{places_read}
+use Rattle.proof_tree.proofs.Numbers.{numbers-more}
+
+module _ (poly : Option Polynomial) (arm : Arm) where
+  -- the places that an arm reads, and one more
+  read-more : (t : ℕ) → places_read poly arm (t + 1) ≡ places_read poly arm t ++ cond (reads poly arm t) (t ∷ []) []
+  read-more t =
+      ap (filter (λ j. reads poly arm j)) (numbers-more 0 t)
+      ∙ (filter-append (λ j. reads poly arm j) (range_with_len 0 t) ((0 + t) ∷ [])
+      ∙ (ap (λ (m : ℕ). places_read poly arm t ++ filter (λ j. reads poly arm j) (m ∷ [])) (let e : 0 + t ≡ t = omega arith in e)
+      ∙ ap (λ (ms : List ℕ). places_read poly arm t ++ ms) (one (reads poly arm t) refl)))
+    where
+      one : (v : Bool) → reads poly arm t ≡ v
+          → filter (λ j. reads poly arm j) (t ∷ []) ≡ cond (reads poly arm t) (t ∷ []) []
+      one true e = rw e refl
+      one false e = rw e refl
+
+  pub place_pushed : (t : ℕ) (old new : List ℕ) → old ≡ places_read poly arm t → new ≡ old ++ t ∷ []
+      → true ≡ reads poly arm t → new ≡ places_read poly arm (t + 1)
+  place_pushed t old new eo en h =
+      en ∙ (ap (λ (xs : List ℕ). xs ++ t ∷ []) eo
+      ∙ sym (read-more t ∙ ap (λ (v : Bool). places_read poly arm t ++ cond v (t ∷ []) []) (sym h)))
+
+  pub place_passed : (t : ℕ) (old : List ℕ) → old ≡ places_read poly arm t → false ≡ reads poly arm t
+      → old ≡ places_read poly arm (t + 1)
+  place_passed t old eo h =
+      eo ∙ (sym (append-nil (places_read poly arm t))
+      ∙ sym (read-more t ∙ ap (λ (v : Bool). places_read poly arm t ++ cond v (t ∷ []) []) (sym h)))

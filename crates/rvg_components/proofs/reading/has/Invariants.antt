@@ -1,7 +1,0 @@
-use Rattle.std.proofs.Common.{◌≡◌, drop}
-use Rattle.model.specs.Entries.{is_in}
-use Rattle.rvg_components.proofs.reading.has.Given as goal
-
--- what is left decides
-abbrev pub invariant-loop-other : goal.invariant-loop-other
-invariant-loop-other l = is_in l.number (drop l.other-index l.numbers) ≡ is_in l.number l.numbers
