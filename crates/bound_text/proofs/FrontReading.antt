@@ -7,7 +7,8 @@ use Rattle.bound_text.specs.Pieces.{Piece, Variable, Number, Open, Times, Caret,
 use Rattle.bound_text.specs.Writing.{Nothing, factors_then, plus_between, comma_between}
 use Rattle.bound_text.specs.Fronts.{Bracket, Arguments, Exponent, Factor, Outer, Whole, Inside, Position, Front, Begins, RunCaret, PowerCaret, ItemRead, BlankRead, PlusRead, CommaRead, IsFront, IsOuter, IsBracket, AreFactors, front_then, outer_then, position_then, star_then, each_then, bracket_then, bound_made, can_end, can_be_argument, in_arguments}
 use Rattle.bound_text.specs.Steps.{front_at, walk, beginning}
-use Rattle.bound_text.proofs.CompletenessLaws.{starts, stands, walk-when, read_input, read_run_caret, read_base, appended, appended-none, AllRead, term_read, read_plus, argument_read, product_read, all_read}
+use Rattle.bound_text.proofs.BoundParts.{appended, appended-none}
+use Rattle.bound_text.proofs.CompletenessLaws.{starts, stands, walk-when, read_input, read_run_caret, read_base, AllRead, term_read, read_plus, argument_read, product_read, all_read}
 
 -- terms with ` + ` behind each
 terms_before_read : (ts : Parts) → AllRead ts → EachPart IsNoSum ts → AreShaped ts → (outer : Outer) (acc : Parts) (rest : List Piece)

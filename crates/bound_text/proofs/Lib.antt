@@ -7,6 +7,7 @@ pub mod SteppingLaws
 pub mod SizeLaws
 pub mod RunLaws
 pub mod WritingLaws
+pub mod BoundParts
 pub mod CompletenessLaws
 pub mod SoundnessLaws
 pub mod FrontReading
@@ -24,3 +25,7 @@ pub mod Limits
 pub mod ReadingLaws
 pub mod TextAnswers
 pub mod InsideLaws
+pub mod MarkLaws
+pub mod DepthLaws
+pub mod CarriedNodes
+pub mod CarryingLaws

@@ -16,7 +16,7 @@ use Rattle.bound_text.specs.Faults.{FrontsAreRead}
 use Rattle.bound_text.specs.Reading.{bounds}
 use Rattle.bound_text.proofs.PartLaws.{last-with_part, init-with_part}
 use Rattle.bound_text.proofs.RunLaws.{run_settled}
-use Rattle.bound_text.proofs.CompletenessLaws.{terms_in, factors_in}
+use Rattle.bound_text.proofs.BoundParts.{terms_in, factors_in}
 use Rattle.bound_text.proofs.WalkLaws.{walk_read, read_walk, walk_reads, walk_whole, whole_walk, walk_begins}
 
 -- the front that pieces lead to, by a walk through them in order

@@ -3,7 +3,7 @@ use Rattle.std.proofs.Common.{◌≡◌, ℕ, zero, suc, ◌+◌, ◌≤◌, nat
 use Rattle.std.proofs.lemmas.Bool.Decides.{nat_tests}
 use Rattle.model.specs.Bounds.{Bound, Constant, Input, SumOf, ProductOf, MaximumOf, PowerOf, Parts, NoParts, Part}
 use Rattle.bound_expr.specs.Tidy.{part_count, IsNoSum, IsNoProduct, IsNoMaximum, EachPart}
-use Rattle.bound_text.specs.Shapes.{is_sum, is_maximum, is_empty, with_part, IsShaped, AreShaped}
+use Rattle.bound_text.specs.Shapes.{is_sum, is_maximum, is_variable, is_empty, with_part, IsShaped, AreShaped}
 use Rattle.bound_text.specs.Pieces.{Piece, Variable, Number, Maximum, Open, Close, Times, Caret, Plus, Blank, Comma}
 use Rattle.bound_text.specs.Writing.{Nothing, bracketed_then, text_then, factors_then, plus_between, comma_between}
 use Rattle.bound_text.specs.Fronts.{Bracket, Arguments, Exponent, Factor, Outer, Whole, Inside, Position, Front, Begins, RunCaret, PowerCaret, ItemRead, BlankRead, PlusRead, CommaRead, IsFront, IsOuter, IsBracket, IsPosition, AreTerms, AreFactors, front_then, outer_then, position_then, star_then, each_then, bracket_then, last, init, is_input, term_of, bound_made, can_end, can_be_argument}
@@ -11,7 +11,7 @@ use Rattle.bound_text.specs.Steps.{when, with_copies, front_at, inside, behind_f
 use Rattle.std.proofs.lemmas.Bool.{and_parts, not-true}
 use Rattle.bound_text.proofs.PartLaws.{is_empty-with_part, last-with_part, init-with_part}
 use Rattle.bound_text.proofs.JoiningLaws.{as_one-with_part}
-use Rattle.bound_text.proofs.WritingLaws.{is_variable, ends_in, joined-with_part, each-with_part, factors-other, factors-run, term_text, bound_text}
+use Rattle.bound_text.proofs.WritingLaws.{ends_in, joined-with_part, each-with_part, factors-other, factors-run, term_text, bound_text}
 
 -- behind the piece the reader has read what it had, and the piece
 pub record Extends (f : Front) (piece : Piece) (g : Front) : Type 0 where

@@ -27,7 +27,7 @@ use Rattle.bound_text.specs.Views.{IsRefusal, Says}
 use Rattle.bound_text.specs.declared.error.BoundTextError.{BoundTextError}
 use Rattle.bound_text.specs.declared.error.BoundTextError.TheVariants as errors
 use Rattle.bound_text.proofs.SoundnessLaws.{beginning_front, step_sound}
-use Rattle.bound_text.proofs.CompletenessLaws.{terms_in, factors_in, bound-parts}
+use Rattle.bound_text.proofs.BoundParts.{terms_in, factors_in, bound-parts}
 use Rattle.bound_text.proofs.StepCases.{step_leads}
 use Rattle.bound_text.proofs.TreeSizes.{grows, bound_nodes, bound_depth}
 use Rattle.bound_text.proofs.KeptBounds.{Kept, KeptFront, AllPiecesKept, kept_front, kept_tidy, tidy_kept}

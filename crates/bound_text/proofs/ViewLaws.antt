@@ -6,10 +6,10 @@ use Rattle.std.specs.Option.{option_to_list}
 use Rattle.std.proofs.lemmas.List.{append-nil}
 use Rattle.bound_text.specs.Fronts.{in_arguments}
 use Rattle.std.proofs.lemmas.Bool.Decides.{nat_tests}
-use Rattle.bound_text.specs.Steps.{is_whole}
+use Rattle.bound_text.specs.Steps.{is_whole, can_close, innermost_can_close}
 use Rattle.bound_text.specs.Views.{is_arguments}
 use Rattle.bound_text.specs.Brackets.{parts_in, bracket_of, outer_from, outer_of, IsRound, AreRoundsFrom, AreRounds}
-use Rattle.model.specs.Bounds.{Parts}
+use Rattle.model.specs.Bounds.{Bound, Parts}
 use Rattle.bound_text.specs.declared.state.Opened.{Opened}
 
 -- one more bracket stands inside the others
@@ -37,6 +37,23 @@ in_arguments_from outer (y ∷ z ∷ xs) x h =
 -- and from the outermost on
 pub in_arguments_last : (xs : List Opened) (x : Opened) → slice_get xs (length xs - 1) ≡ Some x → in_arguments (outer_of xs) ≡ is_arguments (bracket_of x.bracket)
 in_arguments_last xs x h = in_arguments_from Whole xs x h
+
+-- it closes as its own bracket can
+can_close_from : (outer : Outer) (xs : List Opened) (x : Opened) (b : Bound) → slice_get xs (length xs - 1) ≡ Some x → innermost_can_close (outer_from outer xs) b ≡ can_close (bracket_of x.bracket) b
+can_close_from outer [] x b h = cc
+can_close_from outer (y ∷ []) x b h = ap (λ (o : Opened). can_close (bracket_of o.bracket) b) (let e : y ≡ x = cc in e)
+can_close_from outer (y ∷ z ∷ xs) x b h =
+    can_close_from (Inside (bracket_of y.bracket) (parts_in y.terms) (parts_in y.factors) outer) (z ∷ xs) x b
+    (ap (λ (k : ℕ). slice_get (y ∷ z ∷ xs) k) (let e : suc (length (z ∷ xs) - 1) ≡ length (y ∷ z ∷ xs) - 1 = omega arith in e) ∙ h)
+
+-- and from the outermost on
+pub can_close_last : (xs : List Opened) (x : Opened) (b : Bound) → slice_get xs (length xs - 1) ≡ Some x → innermost_can_close (outer_of xs) b ≡ can_close (bracket_of x.bracket) b
+can_close_last xs x b h = can_close_from Whole xs x b h
+
+-- and none does where there is none
+pub can_close_none : (xs : List Opened) (b : Bound) → length xs ≡ 0 → innermost_can_close (outer_of xs) b ≡ false
+can_close_none [] b h = refl
+can_close_none (x ∷ xs) b h = absurd (omega (arith, h))
 
 -- a bracket is open where there is one
 is_whole_from : (bracket : Bracket) (ts fs : Parts) (outer : Outer) (xs : List Opened) → is_whole (outer_from (Inside bracket ts fs outer) xs) ≡ false

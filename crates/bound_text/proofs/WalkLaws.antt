@@ -7,7 +7,8 @@ use Rattle.bound_text.specs.Writing.{pieces_of}
 use Rattle.bound_text.specs.Fronts.{Front, ItemRead, Whole, IsFront, front_then}
 use Rattle.bound_text.specs.Steps.{front_at, step, walk, beginning, finish}
 use Rattle.text_core.proofs.Walks.{walk-none, walk-append}
-use Rattle.bound_text.proofs.CompletenessLaws.{stands, terms_in, factors_in, walk-bound, finish-bound}
+use Rattle.bound_text.proofs.BoundParts.{terms_in, factors_in}
+use Rattle.bound_text.proofs.CompletenessLaws.{stands, walk-bound, finish-bound}
 use Rattle.bound_text.proofs.SoundnessLaws.{step_sound, beginning_front, finish_sound}
 use Rattle.bound_text.proofs.FrontReading.{front_read}
 use Rattle.bound_text.proofs.Completions.{finished, Completes, completes}

@@ -2,7 +2,7 @@
 use Rattle.std.proofs.Common.{◌≡◌, ℕ, zero, suc, ◌+◌, nat_eq, Bool, true, false, cond, List, ◌∷◌, ◌++◌, refl, ap, sym, ◌∙◌, arith}
 use Rattle.std.proofs.lemmas.Bool.Decides.{nat_tests}
 use Rattle.model.specs.Bounds.{Bound, Constant, Input, SumOf, ProductOf, MaximumOf, PowerOf, Parts, NoParts, Part}
-use Rattle.bound_text.specs.Shapes.{is_sum, with_part}
+use Rattle.bound_text.specs.Shapes.{is_sum, is_variable, with_part}
 use Rattle.bound_text.specs.Pieces.{Piece, Times}
 use Rattle.bound_text.specs.Writing.{Before, Nothing, Run, Other, goes_on, run_with, run_then, ended_then, times_then, bracketed_then, text_then, joined_then, more_then, factors_then, plus_between}
 use Rattle.bound_text.specs.Fronts.{last, is_input, star_then, each_then, term_of, bound_made, can_end}
@@ -24,15 +24,6 @@ joined-with_part s (Part c cs) b rest = ap (text_then c) (more-with_part s cs b 
 pub each-with_part : (s : List Piece) (bs : Parts) (b : Bound) (rest : List Piece) → each_then s (with_part bs b) rest ≡ each_then s bs (text_then b (s ++ rest))
 each-with_part s NoParts b rest = refl
 each-with_part s (Part c cs) b rest = ap (λ (ps : List Piece). text_then c (s ++ ps)) (each-with_part s cs b rest)
-
--- whether it is a variable
-abbrev pub is_variable : Bound → Bool
-is_variable (Input i) = true
-is_variable (Constant c) = false
-is_variable (SumOf bs) = false
-is_variable (ProductOf bs) = false
-is_variable (MaximumOf bs) = false
-is_variable (PowerOf c e) = false
 
 -- `*` where something stands before, or among the factors
 abbrev pub lead_then : Before → Parts → List Piece → List Piece
@@ -103,12 +94,12 @@ factors-other w (Part c cs) b rest h =
     ∙ sym (other_factor w c cs (lead_then w (Part c cs) (bracketed_then (is_sum b) (text_then b) rest)) refl)
 
 -- copies behind a factor, and copies alone
-copies-part : (n i : ℕ) (c : Bound) (cs : Parts) → with_copies n i (Part c cs) ≡ Part c (with_copies n i cs)
+pub copies-part : (n i : ℕ) (c : Bound) (cs : Parts) → with_copies n i (Part c cs) ≡ Part c (with_copies n i cs)
 copies-part zero i c cs = refl
 copies-part (suc n) i c cs = ap (λ (gs : Parts). with_part gs (Input i)) (copies-part n i c cs)
 
 -- copies alone
-copies-alone : (n i : ℕ) → with_copies (suc n) i NoParts ≡ Part (Input i) (with_copies n i NoParts)
+pub copies-alone : (n i : ℕ) → with_copies (suc n) i NoParts ≡ Part (Input i) (with_copies n i NoParts)
 copies-alone zero i = refl
 copies-alone (suc n) i = ap (λ (gs : Parts). with_part gs (Input i)) (copies-alone n i)
 
@@ -128,12 +119,12 @@ ends_in w NoParts i = goes_on w i
 ends_in w (Part b bs) i = is_input i (last (Part b bs))
 
 -- behind variable j, it is where j is i
-ends_run : (w : Before) (j i : ℕ) (cs : Parts) → ends_in w (Part (Input j) cs) i ≡ false → ends_in (Run j 1) cs i ≡ false
+pub ends_run : (w : Before) (j i : ℕ) (cs : Parts) → ends_in w (Part (Input j) cs) i ≡ false → ends_in (Run j 1) cs i ≡ false
 ends_run w j i NoParts h = h
 ends_run w j i (Part c cs) h = h
 
 -- behind the same variable it goes on
-ends_same : (w : Before) (j i : ℕ) (cs : Parts) → goes_on w j ≡ true → ends_in w (Part (Input j) cs) i ≡ false → ends_in (run_with w j) cs i ≡ false
+pub ends_same : (w : Before) (j i : ℕ) (cs : Parts) → goes_on w j ≡ true → ends_in w (Part (Input j) cs) i ≡ false → ends_in (run_with w j) cs i ≡ false
 ends_same Nothing j i cs e h = cc
 ends_same (Run k n) j i NoParts e h =
     ap (λ (v : Bool). goes_on (cond v (Run k (suc n)) (Run j 1)) i) e ∙ (let f : nat_eq k i ≡ false = grind (arith, nat_tests) in f)
@@ -141,7 +132,7 @@ ends_same (Run k n) j i (Part c cs) e h = h
 ends_same Other j i cs e h = cc
 
 -- behind a factor that is no variable, it isn't
-ends_other : (w : Before) (c : Bound) (cs : Parts) (i : ℕ) → ends_in w (Part c cs) i ≡ false → ends_in Other cs i ≡ false
+pub ends_other : (w : Before) (c : Bound) (cs : Parts) (i : ℕ) → ends_in w (Part c cs) i ≡ false → ends_in Other cs i ≡ false
 ends_other w c NoParts i h = refl
 ends_other w c (Part d ds) i h = h
 

@@ -15,4 +15,6 @@ pub mod Verdicts
 pub mod Brackets
 pub mod Views
 pub mod Inside
+pub mod Depths
+pub mod Carrying
 pub mod WorkedInside

@@ -11,6 +11,11 @@ is_leaf (Constant c) = true
 is_leaf (Input i) = true
 is_leaf _ = false
 
+-- whether it is a variable
+abbrev pub is_variable : Bound → Bool
+is_variable (Input i) = true
+is_variable _ = false
+
 -- whether there are no parts
 abbrev pub is_empty : Parts → Bool
 is_empty NoParts = true

@@ -62,6 +62,11 @@ can_close (Arguments bs) b = not (is_empty bs) && not (is_maximum b)
 can_close (Exponent c) b = not (is_leaf b)
 can_close Factor b = is_sum b
 
+-- whether the innermost bracket can close behind a bound
+abbrev pub innermost_can_close : Outer → Bound → Bool
+innermost_can_close Whole b = false
+innermost_can_close (Inside bracket ts fs outer) b = can_close bracket b
+
 -- the item that a bracket's bound makes
 abbrev pub item_of : Bracket → Bound → Bound
 item_of (Arguments bs) b = MaximumOf (with_part bs b)

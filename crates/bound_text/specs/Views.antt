@@ -50,6 +50,14 @@ is_settled_at position fs = true
 abbrev pub is_settled : Reader → Bool
 is_settled r = is_settled_at r.position (parts_in r.factors)
 
+-- a variable that is no factor yet goes on no run
+abbrev pub is_fresh_at : Position → Parts → Bool
+is_fresh_at (at.Name i) fs = not (fronts.is_input i (last fs))
+is_fresh_at position fs = true
+
+abbrev pub is_fresh : Reader → Bool
+is_fresh r = is_fresh_at r.position (parts_in r.factors)
+
 -- whether a bracket is that of a maximum
 abbrev pub is_arguments : fronts.Bracket → Bool
 is_arguments (fronts.Arguments bs) = true
@@ -70,12 +78,26 @@ IsKind plain.TooLarge faults.TooLarge = ⊤
 IsKind kind faults.Memory = ⊤
 IsKind kind fault = ⊥
 
+-- a kind of refusal of the code
+abbrev pub fault_from : plain.Kind → Fault
+fault_from plain.Syntax = faults.Syntax
+fault_from plain.NumberTooLarge = faults.NumberTooLarge
+fault_from plain.UnknownName = faults.UnknownName
+fault_from plain.TooDeep = faults.TooDeep
+fault_from plain.TooLarge = faults.TooLarge
+
 -- the reader comes to where the step leads; it answers `Syntax` exactly where it leads nowhere, want of memory aside
 abbrev pub Follows : Option Front → Reader → Result (Unit {0}) Fault → Type 0
 Follows reached r (Ok u) = (reached ≡ Some (front_of r)) × IsTrue (is_settled r)
 Follows reached r (Err faults.Syntax) = reached ≡ None
 Follows reached r (Err faults.Memory) = ⊤
 Follows reached r (Err fault) = ⊥
+
+-- behind `Syntax` what has been read is as before
+abbrev pub Keeps : Front → Reader → Result (Unit {0}) Fault → Type 0
+Keeps f r (Ok u) = ⊤
+Keeps f r (Err faults.Syntax) = (front_of r ≡ f) × IsTrue (is_fresh r)
+Keeps f r (Err fault) = ⊤
 
 -- the reader comes to what taking a piece comes to, or refuses it as that does, want of memory aside
 abbrev pub Obeys : Checked → Reader → Result (Unit {0}) Fault → Type 0
@@ -90,7 +112,7 @@ abbrev pub FindsFault : Option plain.Kind → Result (Unit {0}) Fault → Type 0
 FindsFault None (Ok u) = ⊤
 FindsFault None (Err fault) = ⊥
 FindsFault (Some kind) (Ok u) = ⊥
-FindsFault (Some kind) (Err fault) = IsKind kind fault
+FindsFault (Some kind) (Err fault) = fault ≡ fault_from kind
 
 -- the bound that a text that ends here stands for; `Syntax` is answered exactly where there is none, want of memory
 -- aside

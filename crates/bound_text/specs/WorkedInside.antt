@@ -40,6 +40,9 @@ pub record DepthsAreTold : Type 0 where
   pub pushed : HasFirst 3 (codes "max(1, 2^A)*B") TooDeep 9
   pub pushed_within : StandsFor 4 (codes "max(1, 2^A)*B")
       (ProductOf (Part (MaximumOf (Part (Constant 1) (Part (PowerOf 2 (Input 0)) NoParts))) (Part (Input 1) NoParts)))
+  -- so one part can be too deep behind another that turns out to be so later, and first
+  pub behind_one : HasFirst 3 (codes "max(1, 2^(2^A))*B") TooDeep 10
+  pub one_alone : HasFirst 3 (codes "max(1, 2^(2^A))") TooDeep 12
   -- a sum as a factor begins with its bracket, an exponent behind it
   pub bracket : HasFirst 1 (codes "(A + B)*A") TooDeep 0
   pub in_bracket : HasFirst 2 (codes "(A + B)*A") TooDeep 1

@@ -16,12 +16,13 @@ pub struct Brackets {
     ghost counted: { AreRounds opened.items } by { AreRounds-prop opened.items },
 }
 
-#[tactic(auto, using(crate::proofs::ViewLaws::in_arguments_last, crate::proofs::ViewLaws::is_whole_empty, crate::proofs::ViewLaws::rounds_last))]
+#[tactic(auto, using(crate::proofs::ViewLaws::in_arguments_last, crate::proofs::ViewLaws::can_close_last, crate::proofs::ViewLaws::can_close_none, crate::proofs::ViewLaws::is_whole_empty, crate::proofs::ViewLaws::rounds_last))]
 impl Brackets {
-    ghost use Rattle.std.specs.Prelude.{◌≡◌, OnOk, MatchOption};
-    ghost use Rattle.bound_text.specs.Fronts.{Whole, Inside, in_arguments as in_arguments_of};
-    ghost use Rattle.bound_text.specs.Steps.{is_whole};
+    ghost use Rattle.std.specs.Prelude.{◌≡◌, OnOk, IfOk, MatchOption};
+    ghost use Rattle.bound_text.specs.Fronts.{Whole, Inside, in_arguments as in_arguments_of, bound_made};
+    ghost use Rattle.bound_text.specs.Steps.{is_whole, innermost_can_close};
     ghost use Rattle.bound_text.specs.Views.{parts_in, bracket_of, outer_in, IsRound};
+    ghost use Rattle.bound_text.specs.Depths.{FlagsOuter};
 
     /// No bracket is open.
     pub(crate) fn new(alloc: Global) -> Brackets
@@ -45,6 +46,17 @@ impl Brackets {
     {
         match self.opened.last() {
             Some(opened) => opened.bracket.is_of_maximum(),
+            None => false,
+        }
+    }
+
+    /// Whether the innermost open bracket can close behind the bound that terms and factors make.
+    pub(crate) fn can_close(&self, terms: &Measured, factors: &Measured) -> bool
+        ensures { result ≡ innermost_can_close (outer_in self.now)
+            (bound_made (parts_in terms.now) (parts_in factors.now)) }
+    {
+        match self.opened.last() {
+            Some(opened) => opened.bracket.can_close(terms, factors),
             None => false,
         }
     }
@@ -92,5 +104,19 @@ impl Brackets {
             (parts_in opened.factors) (outer_in self.new)) }
     {
         self.opened.pop()
+    }
+
+    /// All open brackets, with the terms and the factors before each, where a bound may have so many levels. The answer
+    /// is how many the innermost one may have.
+    pub(crate) fn mark(&self, flags: &mut Vec<bool>, most: u64) -> Result<u64, Memory>
+        ensures { IfOk result (λ within. FlagsOuter most within flags.old.items flags.new.items (outer_in self.now)) }
+    {
+        let mut room = most;
+        let mut in_factor = false;
+        for opened in &self.opened {
+            room = opened.mark(flags, room, in_factor)?;
+            in_factor = opened.bracket.is_of_factor();
+        }
+        Ok(room)
     }
 }

@@ -4,6 +4,8 @@
 #![tactic(auto)]
 
 mod brackets;
+mod deep;
+mod depths;
 mod error;
 mod fault;
 mod joining;
@@ -21,7 +23,7 @@ mod taking;
 
 pub use error::BoundTextError;
 pub use fault::Fault;
-pub use law::inner_bounds_are_read;
+pub use law::{carried_fronts_are_marked, inner_bounds_are_read};
 pub use piece::Piece;
 pub use printing::print;
 pub use reading::{fronts_are_read, one_bound, read, texts_have_no_fault};

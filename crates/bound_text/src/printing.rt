@@ -207,8 +207,8 @@ fn write_factor(
     }
 }
 
-// The run with one more of this variable, where it is of this one.
-fn longer(before: Before, variable: u32) -> Option<Before>
+/// The run with one more of this variable, where it is of this one.
+pub(crate) fn longer(before: Before, variable: u32) -> Option<Before>
     requires { count_of (before_of before) < 2 ^ 63 }
     ensures { MatchOption result (IsFalse (goes_on (before_of before) variable))
         (λ run. IsTrue (goes_on (before_of before) variable) × (before_of run ≡ run_with (before_of before) variable)) }

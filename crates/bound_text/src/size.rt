@@ -1,6 +1,6 @@
 // How large the tree so far is.
 
-ghost use Rattle.std.specs.Prelude.{◌≡◌, ◌≤◌, ◌^◌, ◌-◌, min, IsTrue};
+ghost use Rattle.std.specs.Prelude.{◌≡◌, ◌≤◌, ◌^◌, ◌-◌, min, IsTrue, if◌then◌else◌};
 ghost use Rattle.bound_text.specs.Fronts as fronts;
 ghost use Rattle.bound_text.specs.Fronts.{Outer, Inside, node_of_any as any_node, product_node as node_of_product};
 ghost use Rattle.bound_text.specs.Fronts.{product_node_round, bracket_nodes, inner_levels, nodes_of};
@@ -34,6 +34,14 @@ fn node_of_any(parts: &Measured) -> u64
     if is_empty(parts) { 0 } else { 1 }
 }
 
+/// The node of a sum with these terms, unless it is a factor, whose bracket counts it.
+pub(crate) fn node_of_sum(in_factor: bool, terms: &Measured) -> u64
+    ensures value { result ≡ (if in_factor then 0 else any_node (parts_in terms.now)) }
+    ensures small { result ≤ 1 }
+{
+    if in_factor { 0 } else { node_of_any(terms) }
+}
+
 // One node where the factors are a product.
 fn product_node(factors: &Measured) -> u64
     ensures value { result ≡ node_of_product (parts_in factors.now) }
@@ -48,11 +56,7 @@ impl Opened {
         ensures { (outer : Outer) → IsRound outer round → IsRound
             (Inside (bracket_of self.now.bracket) (parts_in self.now.terms) (parts_in self.now.factors) outer) result }
     {
-        let sum = if round.in_factor {
-            0
-        } else {
-            node_of_any(&self.terms)
-        };
+        let sum = node_of_sum(round.in_factor, &self.terms);
         let product = self.product_node();
         let nodes = round
             .nodes
@@ -67,8 +71,8 @@ impl Opened {
         }
     }
 
-    // The node of the product round the bracket.
-    fn product_node(&self) -> u64
+    /// The node of the product round the bracket.
+    pub(crate) fn product_node(&self) -> u64
         ensures value { result ≡ product_node_round (bracket_of self.now.bracket) (parts_in self.now.factors) }
         ensures small { result ≤ 1 }
     {
@@ -93,8 +97,8 @@ impl Bracket {
 
 #[tactic(auto, using(crate::proofs::SizeLaws::here))]
 impl Reader {
-    // The node of the innermost sum.
-    fn sum_node(&self, round: Round) -> u64
+    /// The node of the innermost sum.
+    pub(crate) fn sum_node(&self, round: Round) -> u64
         ensures value { (outer : Outer) → IsRound outer round → result ≡ sum_here self.now.position outer
             (parts_in self.now.terms) }
         ensures small { result ≤ 1 }
@@ -108,8 +112,8 @@ impl Reader {
         }
     }
 
-    // The node of the innermost product.
-    fn product_node(&self) -> u64
+    /// The node of the innermost product.
+    pub(crate) fn product_node(&self) -> u64
         ensures value { result ≡ product_here self.now.position (parts_in self.now.factors) }
         ensures small { result ≤ 1 }
     {
@@ -149,8 +153,8 @@ impl Reader {
         )
     }
 
-    // The nodes of the tree so far.
-    fn nodes(&self, round: Round) -> u64
+    /// The nodes of the tree so far.
+    pub(crate) fn nodes(&self, round: Round) -> u64
         requires { IsRound (outer_in self.now.outer) round }
         ensures { result ≡ min (nodes_of (front_of self.now)) (2 ^ 64 - 1) }
     {

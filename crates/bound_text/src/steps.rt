@@ -14,7 +14,9 @@ ghost use Rattle.bound_text.specs.Fronts.{term_of, bound_made};
 ghost use Rattle.bound_text.specs.Printing.{piece_of};
 ghost use Rattle.bound_text.specs.Checks.{is_caret, takes_caret, has_large_base as has_large_base_of};
 ghost use Rattle.bound_expr.specs.Views.{bound_of};
-ghost use Rattle.bound_text.specs.Views.{is_arguments, parts_in, bracket_of, outer_in, front_of, is_settled, Follows};
+ghost use Rattle.bound_text.specs.Views.{is_arguments, parts_in, bracket_of, outer_in, front_of, is_settled, is_fresh};
+ghost use Rattle.bound_text.specs.Views.{Follows, Keeps};
+ghost use Rattle.bound_text.specs.declared.state.Position.TheVariants as at;
 
 use crate::fault::Fault;
 use crate::joining::{
@@ -56,8 +58,10 @@ impl Reader {
 
     // An item begins.
     pub(crate) fn begin_item(&mut self, alloc: Global, piece: Piece) -> Result<(), Fault>
-        ensures { Follows (item_begun (outer_in self.old.outer) (parts_in self.old.terms) (parts_in self.old.factors)
-            (piece_of piece)) self.new result }
+        requires { IsTrue (is_fresh self.old) }
+        ensures follows { Follows (item_begun (outer_in self.old.outer) (parts_in self.old.terms)
+            (parts_in self.old.factors) (piece_of piece)) self.new result }
+        ensures kept { Keeps (front_of self.old) self.new result }
     {
         match piece {
             Piece::Variable(i) => {
@@ -84,8 +88,10 @@ impl Reader {
         base: u64,
         piece: Piece,
     ) -> Result<(), Fault>
-        ensures { Follows (exponent_begun (outer_in self.old.outer) (parts_in self.old.terms)
+        requires { IsTrue (is_fresh self.old) }
+        ensures follows { Follows (exponent_begun (outer_in self.old.outer) (parts_in self.old.terms)
             (parts_in self.old.factors) base (piece_of piece)) self.new result }
+        ensures kept { Keeps (front_of self.old) self.new result }
     {
         match piece {
             Piece::Number(c) => self.end_power(alloc, base, Bound::Const(c)),
@@ -108,9 +114,11 @@ impl Reader {
 
     // `^` behind a number that begins an item.
     fn begin_power(&mut self, number: u128) -> Result<(), Fault>
-        requires { number < 2 ^ 64 }
-        ensures { Follows (caret_behind (outer_in self.old.outer) (parts_in self.old.terms) (parts_in self.old.factors)
-            (Some (Constant number))) self.new result }
+        requires small { number < 2 ^ 64 }
+        requires fresh { IsTrue (is_fresh self.old) }
+        ensures follows { Follows (caret_behind (outer_in self.old.outer) (parts_in self.old.terms)
+            (parts_in self.old.factors) (Some (Constant number))) self.new result }
+        ensures kept { Keeps (front_of self.old) self.new result }
     {
         if number < 2 {
             return Err(Fault::Syntax);
@@ -131,9 +139,14 @@ impl Reader {
 
     // A bracket closes.
     fn close(&mut self, alloc: Global) -> Result<(), Fault>
-        ensures { Follows (bracket_closed (outer_in self.old.outer) (parts_in self.old.terms)
+        requires { IsTrue (is_fresh self.old) }
+        ensures follows { Follows (bracket_closed (outer_in self.old.outer) (parts_in self.old.terms)
             (parts_in self.old.factors)) self.new result }
+        ensures kept { Keeps (front_of self.old) self.new result }
     {
+        if !can_end(&self.factors) || !self.outer.can_close(&self.terms, &self.factors) {
+            return Err(Fault::Syntax);
+        }
         let Some(
             Opened {
                 bracket,
@@ -145,9 +158,6 @@ impl Reader {
         else {
             return Err(Fault::Syntax);
         };
-        if !can_end(&self.factors) || !bracket.can_close(&self.terms, &self.factors) {
-            return Err(Fault::Syntax);
-        }
         let terms = mem::replace(&mut self.terms, outer_terms);
         let factors = mem::replace(&mut self.factors, outer_factors);
         let item = bracket.item_from(alloc, bound_from(terms, factors)?)?;
@@ -158,10 +168,12 @@ impl Reader {
 
     // What follows an item that is a factor.
     pub(crate) fn follow_item(&mut self, alloc: Global, piece: Piece) -> Result<(), Fault>
-        requires { IsFalse (is_caret (piece_of piece) && takes_caret (init (parts_in self.old.factors))
+        requires fresh { IsTrue (is_fresh self.old) }
+        requires settled { IsFalse (is_caret (piece_of piece) && takes_caret (init (parts_in self.old.factors))
             (last (parts_in self.old.factors))) }
-        ensures { Follows (item_followed (outer_in self.old.outer) (parts_in self.old.terms) (parts_in self.old.factors)
-            (piece_of piece)) self.new result }
+        ensures follows { Follows (item_followed (outer_in self.old.outer) (parts_in self.old.terms)
+            (parts_in self.old.factors) (piece_of piece)) self.new result }
+        ensures kept { Keeps (front_of self.old) self.new result }
     {
         match piece {
             Piece::Times => {
@@ -195,9 +207,14 @@ impl Reader {
 
     // An argument ends with `, `.
     pub(crate) fn end_argument(&mut self, alloc: Global) -> Result<(), Fault>
-        ensures { Follows (argument_ended (outer_in self.old.outer) (parts_in self.old.terms)
+        requires { IsTrue (is_fresh self.old) }
+        ensures follows { Follows (argument_ended (outer_in self.old.outer) (parts_in self.old.terms)
             (parts_in self.old.factors)) self.new result }
+        ensures kept { Keeps (front_of self.old) self.new result }
     {
+        if !self.outer.is_in_arguments() {
+            return Err(Fault::Syntax);
+        }
         let Some(
             Opened {
                 bracket,
@@ -227,14 +244,17 @@ impl Reader {
         number: u128,
         piece: Piece,
     ) -> Result<(), Fault>
-        requires { IsTrue (is_caret (piece_of piece)) → number < 2 ^ 64 }
-        ensures { Follows (item_followed (outer_in self.old.outer) (parts_in self.old.terms)
+        requires number { self.old.position ≡ at.Number number }
+        requires small { IsTrue (is_caret (piece_of piece)) → number < 2 ^ 64 }
+        ensures follows { Follows (item_followed (outer_in self.old.outer) (parts_in self.old.terms)
             (with_part (parts_in self.old.factors) (Constant number)) (piece_of piece)) self.new result }
+        ensures kept { Keeps (front_of self.old) self.new result }
     {
         match piece {
             Piece::Caret => self.begin_power(number),
             _ => {
                 self.factors.push(Bound::Const(number))?;
+                self.position = Position::ItemRead;
                 self.follow_item(alloc, piece)
             }
         }
@@ -247,9 +267,11 @@ impl Reader {
         variable: u32,
         piece: Piece,
     ) -> Result<(), Fault>
-        requires { IsFalse (fronts.is_input variable (last (parts_in self.old.factors))) }
-        ensures { Follows (item_followed (outer_in self.old.outer) (parts_in self.old.terms)
+        requires name { self.old.position ≡ at.Name variable }
+        requires fresh { IsFalse (fronts.is_input variable (last (parts_in self.old.factors))) }
+        ensures follows { Follows (item_followed (outer_in self.old.outer) (parts_in self.old.terms)
             (with_part (parts_in self.old.factors) (Input variable)) (piece_of piece)) self.new result }
+        ensures kept { Keeps (front_of self.old) self.new result }
     {
         match piece {
             Piece::Caret => {
@@ -258,6 +280,7 @@ impl Reader {
             }
             _ => {
                 self.factors.push(Bound::Var(variable))?;
+                self.position = Position::ItemRead;
                 self.follow_item(alloc, piece)
             }
         }
@@ -272,8 +295,8 @@ impl Bracket {
         matches!(self, Bracket::Arguments(_))
     }
 
-    // Whether the bracket can close behind the bound that terms and factors make.
-    fn can_close(&self, terms: &Measured, factors: &Measured) -> bool
+    /// Whether the bracket can close behind the bound that terms and factors make.
+    pub(crate) fn can_close(&self, terms: &Measured, factors: &Measured) -> bool
         ensures { result ≡ bracket_can_close (bracket_of self.now)
             (bound_made (parts_in terms.now) (parts_in factors.now)) }
     {

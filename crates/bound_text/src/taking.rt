@@ -1,6 +1,6 @@
 // Taking one piece after the other.
 
-ghost use Rattle.std.specs.Prelude.{◌≡◌, ◌&&◌, ◌<◌, ◌^◌, ◌≤◌, IsTrue, IsFalse, OnOk, false};
+ghost use Rattle.std.specs.Prelude.{◌≡◌, ◌&&◌, ◌<◌, ◌^◌, ◌≤◌, IsTrue, IsFalse, OnOk, List, Some, false};
 ghost use Rattle.bound_text.specs.Fronts as fronts;
 ghost use Rattle.bound_text.specs.Fronts.{last};
 ghost use Rattle.bound_text.specs.Steps.{step as step_of, end_run as run_ended, finish as finish_of, finish_at};
@@ -8,8 +8,15 @@ ghost use Rattle.bound_text.specs.Steps.{is_whole as is_whole_outer, with_copies
 ghost use Rattle.bound_text.specs.Printing.{piece_of};
 ghost use Rattle.bound_text.specs.Checks.{begins as begins_at, checked, judged, fault_of as fault_of_piece};
 ghost use Rattle.bound_text.specs.Checks.{has_large_base as has_large_base_of};
-ghost use Rattle.bound_text.specs.Views.{parts_in, outer_in, front_of, is_settled, is_in_run, Follows, FindsFault};
-ghost use Rattle.bound_text.specs.Views.{Obeys, Finishes};
+ghost use Rattle.bound_text.specs.Views.{parts_in, outer_in, front_of, is_settled, is_in_run, Follows, Keeps};
+ghost use Rattle.bound_text.specs.Views.{FindsFault, Obeys, Finishes, fault_from};
+ghost use Rattle.std.specs.Option.{option_map};
+ghost use Rattle.bound_text.specs.Pieces as plain;
+ghost use Rattle.bound_text.specs.Fronts.{nodes_of};
+ghost use Rattle.bound_text.specs.Checks.{caret_next};
+ghost use Rattle.bound_text.specs.Reading.{stands, has_many};
+ghost use Rattle.bound_text.specs.Carrying.{copies_kept as kept_copies, kept_at, carried, first_of, early_kinds};
+ghost use Rattle.bound_text.specs.declared.state.Position.TheVariants as at;
 
 use crate::fault::Fault;
 use crate::joining::{bound_from, can_end};
@@ -49,7 +56,76 @@ impl Measured {
     }
 }
 
+// How many copies of a run are carried behind so many nodes.
+fn copies_kept(nodes: u64, count: u128) -> u128
+    ensures { result ≡ kept_copies nodes count }
+{
+    let most = if nodes > NODE_LIMIT { 2 } else { TOO_MANY };
+    count.min(most)
+}
+
 impl Reader {
+    /// Takes one piece wherever it leads, also where a limit is passed, so that reading can go on behind a fault: a
+    /// base over 2^64-1 is carried as 2^64-1, and of a run no more than 4,097 copies, or two where what was read before
+    /// has more than 4,096 nodes already. What is too large is so as carried, and stays so.
+    ///
+    /// # Errors
+    ///
+    /// `Syntax` where the piece leads nowhere; then what has been read is as before. Behind `Memory` the reader is of
+    /// no use.
+    pub fn step(&mut self, alloc: Global, piece: Piece) -> Result<(), Fault>
+        requires { IsTrue (is_settled self.old) }
+        ensures follows { Follows (carried (front_of self.old) (piece_of piece)) self.new result }
+        ensures kept { Keeps (front_of self.old) self.new result }
+    {
+        if let Position::RunCaret(variable) = self.position {
+            return self.follow_run(variable, piece);
+        }
+        if self.has_large_base(piece) {
+            self.position = Position::PowerCaret(u64::MAX);
+            return Ok(());
+        }
+        self.follow(alloc, piece)
+    }
+
+    // The number of a run.
+    fn follow_run(&mut self, variable: u32, piece: Piece) -> Result<(), Fault>
+        requires { self.old.position ≡ at.RunCaret variable }
+        ensures follows { Follows (run_ended (outer_in self.old.outer) (parts_in self.old.terms)
+            (parts_in self.old.factors) variable (kept_at (fronts.RunCaret variable) (nodes_of (front_of self.old))
+            (piece_of piece))) self.new result }
+        ensures kept { Keeps (front_of self.old) self.new result }
+    {
+        match piece {
+            Piece::Number(count) if count > 1 => {
+                let kept = copies_kept(self.nodes(self.outer.round()), count);
+                self.factors.push_copies(variable, kept as u32)?;
+                self.position = Position::ItemRead;
+                Ok(())
+            }
+            _ => Err(Fault::Syntax),
+        }
+    }
+
+    /// The first of the faults `Syntax`, `NumberTooLarge` and `UnknownName` that stands against the next piece by
+    /// itself, where so many names are listed, and where `caret` says whether `^` comes behind it.
+    pub fn fault_of_next(&self, names: usize, caret: bool, piece: Piece) -> Option<Fault>
+        ensures { (behind : List plain.Piece) → caret ≡ caret_next behind → result ≡ option_map fault_from
+            (first_of (stands names (front_of self.now) (piece_of piece) behind) early_kinds) }
+    {
+        match fault_of(names, self.begins() && caret, piece) {
+            Ok(()) => None,
+            Err(fault) => Some(fault),
+        }
+    }
+
+    /// Whether what has been read has more than 4,096 nodes.
+    pub fn is_too_large(&self) -> bool
+        ensures { result ≡ has_many (Some (front_of self.now)) }
+    {
+        self.nodes(self.outer.round()) > NODE_LIMIT
+    }
+
     /// Takes one piece, where so many names are listed, and where `caret` says whether `^` comes next.
     pub fn take(
         &mut self,
@@ -68,7 +144,7 @@ impl Reader {
             return Err(Fault::NumberTooLarge);
         }
         let base = self.begins() && caret;
-        self.step(alloc, piece)?;
+        self.follow(alloc, piece)?;
         fault_of(names, base, piece)?;
         self.check_size()
     }
@@ -81,11 +157,12 @@ impl Reader {
     }
 
     // Where a piece leads, but behind the `^` of a run.
-    fn step(&mut self, alloc: Global, piece: Piece) -> Result<(), Fault>
+    fn follow(&mut self, alloc: Global, piece: Piece) -> Result<(), Fault>
         requires settled { IsTrue (is_settled self.old) }
         requires no_run { IsFalse (is_in_run self.old.position) }
         requires no_base { IsFalse (has_large_base_of (front_of self.old) (piece_of piece)) }
-        ensures { Follows (step_of (front_of self.old) (piece_of piece)) self.new result }
+        ensures follows { Follows (step_of (front_of self.old) (piece_of piece)) self.new result }
+        ensures kept { Keeps (front_of self.old) self.new result }
     {
         match self.position {
             Position::Begins => self.begin_item(alloc, piece),

@@ -1,24 +1,25 @@
 //! Bounds in the midst of another text, read piece by piece from outside: from another first byte than that of the
 //! text, up to a bracket `]` of the other text, over the names `A` and `B`.
 
+use crate::stepped::{DEEP, nests_are_told, stepped_at};
 use crate::steps::{Build, built};
 use Build::{C, Max, Pow, Prod, Sum, V};
 use Outcome::{Refused, Stands};
-use bound_expr::Bound;
+use bound_expr::{Bound, Memory};
 use bound_text::{Fault, Piece, Reader};
 use std::alloc::Global;
 use std::test::Fail;
 
-// What came of a bound: it and the position of the bracket behind it, or why and at which position it is refused.
+/// What came of a bound: it and the position of the bracket behind it, or why and at which position it is refused.
 #[derive(Drop)]
-enum Found {
+pub(crate) enum Found {
     Stands(Bound, usize),
     Refused(Fault, usize),
 }
 
-// The same as a table writes it.
+/// The same as a table writes it.
 #[derive(Clone, Copy)]
-enum Outcome {
+pub(crate) enum Outcome {
     Stands(&'static [Build], usize),
     Refused(Fault, usize),
 }
@@ -90,8 +91,8 @@ fn number(text: &[u8]) -> (Piece, usize) {
     (Piece::Number(value), len)
 }
 
-// The piece that a text begins with, and the number of its bytes.
-fn first_piece(text: &[u8]) -> (Piece, usize) {
+/// The piece that a text begins with, and the number of its bytes.
+pub(crate) fn first_piece(text: &[u8]) -> (Piece, usize) {
     match text {
         [b'm', b'a', b'x', b'(', ..] => (Piece::Maximum, 4),
         [byte, ..] => {
@@ -105,7 +106,7 @@ fn first_piece(text: &[u8]) -> (Piece, usize) {
     }
 }
 
-// Reads the bound that begins at a position.
+// Reads the bound that begins at a position, up to the first piece that can't be taken.
 fn bound_at(alloc: Global, text: &[u8], begins: usize) -> Found {
     let mut reader = Reader::new(alloc);
     let mut at = begins;
@@ -140,23 +141,54 @@ fn behind_bracket(text: &[u8]) -> usize {
     at
 }
 
+// Whether a bound comes to what is wanted.
+fn comes_to(alloc: Global, found: Found, wanted: Outcome) -> Result<bool, Memory> {
+    match (found, wanted) {
+        (Found::Stands(bound, end), Stands(steps, at)) => {
+            Ok(end == at && bound == built(alloc, steps)?)
+        }
+        (Found::Refused(fault, position), Refused(kind, at)) => Ok(fault == kind && position == at),
+        _ => Ok(false),
+    }
+}
+
+// Whether the bound of a text comes to what is wanted, where it may have so many levels.
+fn is_stepped_to(alloc: Global, text: &str, most: u64, wanted: Outcome) -> Result<bool, Memory> {
+    let bytes = text.as_bytes();
+    let found = stepped_at(alloc, bytes, behind_bracket(bytes), most)?;
+    comes_to(alloc, found, wanted)
+}
+
+// The same where it is taken piece by piece, up to the first fault.
+fn is_taken_to(alloc: Global, text: &str, wanted: Outcome) -> Result<bool, Memory> {
+    let bytes = text.as_bytes();
+    comes_to(alloc, bound_at(alloc, bytes, behind_bracket(bytes)), wanted)
+}
+
+// The texts that come to something else than is wanted.
+fn differences(alloc: Global) -> Result<Vec<&'static str>, Memory> {
+    let mut found = Vec::new(alloc);
+    for (text, wanted) in TABLE {
+        if !is_taken_to(alloc, text, *wanted)? || !is_stepped_to(alloc, text, 200, *wanted)? {
+            found.push(*text)?;
+        }
+    }
+    for (text, most, wanted) in DEEP {
+        if !is_stepped_to(alloc, text, *most, *wanted)? {
+            found.push(*text)?;
+        }
+    }
+    if !nests_are_told(alloc)? {
+        found.push("powers inside powers")?;
+    }
+    Ok(found)
+}
+
 #[test]
 fn bounds_within_another_text_are_read_from_their_first_byte_on(
     rt: HostRuntime,
 ) -> Result<(), Fail> {
-    let alloc = rt.alloc();
-    for (text, wanted) in TABLE {
-        let bytes = text.as_bytes();
-        let right = match (bound_at(alloc, bytes, behind_bracket(bytes)), *wanted) {
-            (Found::Stands(bound, end), Stands(steps, at)) => {
-                end == at && bound == built(alloc, steps)?
-            }
-            (Found::Refused(fault, position), Refused(kind, at)) => {
-                fault == kind && position == at
-            }
-            _ => false,
-        };
-        assert!(rt; right, "at {text}");
-    }
+    let none: &[&str] = &[];
+    assert_eq!(rt; differences(rt.alloc())?.as_slice(), none);
     Ok(())
 }

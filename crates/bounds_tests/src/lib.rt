@@ -22,6 +22,8 @@ mod orders;
 #[cfg(test)]
 mod rewritten_texts;
 #[cfg(test)]
+mod stepped;
+#[cfg(test)]
 mod steps;
 #[cfg(test)]
 mod texts;

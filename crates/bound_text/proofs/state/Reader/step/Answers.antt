@@ -1,8 +1,12 @@
+use Rattle.std.proofs.Common.{◌∙◌, refl, sym}
 use Rattle.bound_text.specs.Printing.{piece_of}
-use Rattle.bound_text.specs.Views.{outer_of, parts_in}
-use Rattle.bound_text.proofs.SteppingLaws.{small_base}
+use Rattle.bound_text.specs.Views.{outer_in, parts_in}
+use Rattle.bound_text.proofs.CarryingLaws.{base_carried}
 use Rattle.bound_text.proofs.state.Reader.step.Goals as goal
 
-pub follow_number-requires : goal.follow_number-requires
-follow_number-requires c =
-    small_base c.args.self.now.position (outer_of c.args.self.now.outer.opened.items) (parts_in c.args.self.now.terms) (parts_in c.args.self.now.factors) c.in-Number.number (piece_of c.args.piece) c.in-Number.is c.requires.no_base
+pub returns-then-has_large_base-clause-follows : goal.returns-then-has_large_base-clause-follows
+returns-then-has_large_base-clause-follows c = (
+  base_carried c.args.self.now.position (outer_in c.args.self.now.outer) (parts_in c.args.self.now.terms) (parts_in c.args.self.now.factors)
+      (piece_of c.args.piece) c.requires (sym c.has_large_base.ensures ∙ c.if-has_large_base.true),
+  refl,
+)

@@ -1,0 +1,81 @@
+-- What is carried behind a number that is too large, where reading goes on: no mark hangs on how large a base is, nor
+-- on how long a run is, and a bound that is too large stays so.
+use Rattle.std.specs.Prelude.{◌≡◌, ℕ, ◌≤◌, ◌+◌, ◌-◌, ◌^◌, min, Bool, true, false, if◌then◌else◌, nat_lt, Option, Some}
+use Rattle.std.specs.Prelude.{None, List, [], ◌∷◌}
+use Rattle.std.specs.Option.{option_map}
+use Rattle.model.specs.Bounds.{NoParts}
+use Rattle.bound_text.specs.Pieces.{Piece, Number}
+use Rattle.bound_text.specs.Kinds.{Kind, Syntax, NumberTooLarge, UnknownName}
+use Rattle.bound_text.specs.Fronts.{Front, IsFront, Whole, Position, RunCaret, PowerCaret, init, nodes_of}
+use Rattle.bound_text.specs.Steps.{step, front_at, with_copies}
+use Rattle.bound_text.specs.Checks.{has_large_base}
+use Rattle.bound_text.specs.Reading.{has_many}
+use Rattle.bound_text.specs.Inside.{front_marks}
+use Rattle.bound_expr.specs.Limits.{node_limit}
+
+-- as many copies are carried as a run has, but no more than 4,097, which are too many nodes by themselves, and no more
+-- than two where what was read before has more than 4,096 nodes already
+abbrev pub copies_kept : ℕ → ℕ → ℕ
+copies_kept nodes n = min n (if nat_lt node_limit nodes then 2 else node_limit + 1)
+
+-- the piece that is carried, behind so many nodes
+abbrev pub kept_at : Position → ℕ → Piece → Piece
+kept_at (RunCaret i) nodes (Number n) = Number (copies_kept nodes n)
+kept_at position nodes piece = piece
+
+-- where a piece leads, but that a base over 2^64-1 is carried as 2^64-1, and of a run only so many copies
+abbrev pub carried : Front → Piece → Option Front
+carried f piece =
+    if has_large_base f piece then Some (front_at f.outer f.terms (init f.factors) (PowerCaret (2 ^ 64 - 1)))
+    else step f (kept_at f.position (nodes_of f) piece)
+
+-- the first of these kinds that stands against a piece
+abbrev pub first_of : (Kind → Bool) → List Kind → Option Kind
+first_of against [] = None
+first_of against (kind ∷ kinds) = if against kind then Some kind else first_of against kinds
+
+-- the kinds that are known before a piece is taken
+abbrev pub early_kinds : List Kind
+early_kinds = Syntax ∷ NumberTooLarge ∷ UnknownName ∷ []
+
+-- `A^` at the beginning, and `B^` behind so many times `A`
+abbrev pub begun_run : Front
+begun_run = front_at Whole NoParts NoParts (RunCaret 0)
+
+abbrev pub behind_run : ℕ → Front
+behind_run k = front_at Whole NoParts (with_copies k 0 NoParts) (RunCaret 1)
+
+-- a run of n is carried as one of `kept`, and whether there are too many nodes then is the same for both
+pub record IsCarried (f : Front) (n kept : ℕ) (many : Bool) : Type 0 where
+  pub copies : carried f (Number n) ≡ step f (Number kept)
+  pub written : has_many (step f (Number n)) ≡ many
+  pub told : has_many (carried f (Number n)) ≡ many
+
+-- how runs are carried, as worked out by hand
+pub record RunsAreTold : Type 0 where
+  -- with its product `A^4095` has as many nodes as a bound may have, and `A^4096` one more
+  pub largest : IsCarried begun_run 4095 4095 false
+  pub one_more : IsCarried begun_run 4096 4096 true
+  -- the longest that is carried whole, and one that isn't
+  pub longest : IsCarried begun_run 4097 4097 true
+  pub longer : IsCarried begun_run 5000 4097 true
+  -- behind `A^4093` a `B^2` is within the limit; behind `A^4094` the `B^` is, and no run behind it
+  pub within : IsCarried (behind_run 4093) 2 2 false
+  pub over : IsCarried (behind_run 4094) 2 2 true
+  pub longer_over : IsCarried (behind_run 4094) 5000 4097 true
+  -- behind `A^4095` the `B^` is too large already, and behind what is carried of `A^5000`
+  pub behind_large : IsCarried (behind_run 4095) 5000 2 true
+  pub behind_carried : IsCarried (behind_run 4097) 5000 2 true
+
+-- what is carried leads on exactly where the piece does, with the same marks, and with too many nodes exactly where
+-- there are; what is too large stays so; and where no base is too large, and nodes aren't too many, it is where the
+-- piece leads
+pub record CarriedFrontsAreMarked : Type 0 where
+  pub marks : (f : Front) (piece : Piece) → IsFront f
+      → option_map front_marks (carried f piece) ≡ option_map front_marks (step f piece)
+  pub many : (f : Front) (piece : Piece) → has_many (carried f piece) ≡ has_many (step f piece)
+  pub stays : (f g : Front) (piece : Piece) → IsFront f → carried f piece ≡ Some g → has_many (Some f) ≡ true
+      → has_many (Some g) ≡ true
+  pub within : (f : Front) (piece : Piece) → has_large_base f piece ≡ false → nodes_of f ≤ node_limit
+      → has_many (step f piece) ≡ false → carried f piece ≡ step f piece
+  pub told : RunsAreTold

@@ -1,0 +1,168 @@
+// Where what has been read is too deep.
+
+ghost use Rattle.std.specs.Prelude.{◌≡◌, ◌++◌, ◌∷◌, OnOk, IfOk, IsTrue, Bool, Some, None};
+ghost use Rattle.std.specs.List.{position};
+ghost use Rattle.model.specs.Bounds.{Parts};
+ghost use Rattle.bound_text.specs.Fronts.{Outer, Inside, in_factor as in_factor_of};
+ghost use Rattle.bound_text.specs.Inside.{bracket_marks, star_marks, front_marks};
+ghost use Rattle.bound_text.specs.Views.{parts_in, bracket_of, outer_in, front_of, is_fresh};
+ghost use Rattle.bound_text.specs.Depths.{FlagsAll, FlagsParts, FlagsOpened, Passes, FindsDeep, flags as flags_of};
+ghost use Rattle.bound_text.specs.Depths.{marks_here};
+
+use crate::depths::{mark_each, mark_factors, push_part, push_piece};
+use crate::joining::is_empty;
+use crate::measured::Measured;
+use crate::printing::Join;
+use crate::size::node_of_sum;
+use crate::state::{Bracket, Opened, Position, Reader};
+use bound_expr::Memory;
+use std::alloc::Global;
+
+// Terms, and the factors of the next one, where a part beside the terms may have so many levels if neither a sum nor a
+// product counts as one. The answer is how many a factor may have.
+fn mark_parts(
+    flags: &mut Vec<bool>,
+    room: u64,
+    sum: u64,
+    product: u64,
+    terms: &Measured,
+    factors: &Measured,
+) -> Result<u64, Memory>
+    ensures { IfOk result (λ inner. FlagsParts room sum product inner flags.old.items flags.new.items
+        (parts_in terms.now) (parts_in factors.now)) }
+{
+    let term = room.saturating_sub(sum);
+    mark_each(flags, term, Join::Plus, &terms.bounds)?;
+    let factor = term.saturating_sub(product);
+    mark_factors(flags, factor, &factors.bounds)?;
+    Ok(factor)
+}
+
+// The `*` behind factors that aren't done.
+fn mark_star(flags: &mut Vec<bool>, factors: &Measured) -> Result<(), Memory>
+    ensures { OnOk result (Passes flags.old.items flags.new.items (star_marks (parts_in factors.now))) }
+{
+    if is_empty(factors) {
+        Ok(())
+    } else {
+        push_piece(flags)
+    }
+}
+
+// An item that has begun behind factors, and may have so many levels.
+fn mark_item(flags: &mut Vec<bool>, room: u64, factors: &Measured) -> Result<(), Memory>
+    ensures { OnOk result (FlagsAll room flags.old.items flags.new.items
+        (λ level rest. star_marks (parts_in factors.now) (Some level ∷ rest))) }
+{
+    mark_star(flags, factors)?;
+    push_part(flags, room)
+}
+
+// The first flag that is set.
+fn first_set(flags: &[bool]) -> Option<usize>
+    ensures { result ≡ position (λ (deep : Bool). deep) flags.now }
+{
+    flags.iter().position(|deep| *deep)
+}
+
+impl Bracket {
+    /// Whether it is that of a sum as a factor.
+    pub(crate) fn is_of_factor(&self) -> bool
+        ensures { (ts fs : Parts) (outer : Outer) → result ≡ in_factor_of (Inside (bracket_of self.now) ts fs outer) }
+    {
+        matches!(self, Bracket::Factor)
+    }
+
+    // The bracket, where what it belongs to may have so many levels.
+    fn mark(&self, flags: &mut Vec<bool>, room: u64) -> Result<(), Memory>
+        ensures { OnOk result (FlagsAll room flags.old.items flags.new.items
+            (λ level. bracket_marks level (bracket_of self.now))) }
+    {
+        push_part(flags, room)?;
+        match self {
+            Bracket::Arguments(arguments) => {
+                mark_each(
+                    flags,
+                    room.saturating_sub(1),
+                    Join::Comma,
+                    &arguments.bounds,
+                )
+            }
+            Bracket::Exponent(_) => {
+                push_piece(flags)?;
+                push_piece(flags)
+            }
+            Bracket::Factor => Ok(()),
+        }
+    }
+}
+
+impl Opened {
+    /// The terms and the factors before the bracket, and it. The answer is how many levels a bound in it may have.
+    pub(crate) fn mark(
+        &self,
+        flags: &mut Vec<bool>,
+        room: u64,
+        in_factor: bool,
+    ) -> Result<u64, Memory>
+        ensures { IfOk result (λ within. FlagsOpened room in_factor within flags.old.items flags.new.items
+            (bracket_of self.now.bracket) (parts_in self.now.terms) (parts_in self.now.factors)) }
+    {
+        let sum = node_of_sum(in_factor, &self.terms);
+        let product = self.product_node();
+        let inner = mark_parts(flags, room, sum, product, &self.terms, &self.factors)?;
+        mark_star(flags, &self.factors)?;
+        self.bracket.mark(flags, inner)?;
+        Ok(inner.saturating_sub(1))
+    }
+}
+
+impl Reader {
+    /// Which of the pieces that have been read is the first with which a part begins that has more than so many levels
+    /// above and with it, where one is. It goes through all that has been read.
+    ///
+    /// # Errors
+    ///
+    /// `Memory` where an allocation fails.
+    pub fn deep_part(&self, alloc: Global, most: u64) -> Result<Option<usize>, Memory>
+        requires { IsTrue (is_fresh self.now) }
+        ensures { IfOk result (FindsDeep most (front_of self.now)) }
+    {
+        let mut flags = Vec::new(alloc);
+        self.mark(&mut flags, most)?;
+        Ok(first_set(&flags))
+    }
+
+    // All that has been read.
+    fn mark(&self, flags: &mut Vec<bool>, most: u64) -> Result<(), Memory>
+        requires { IsTrue (is_fresh self.now) }
+        ensures { OnOk result (flags.new.items ≡ flags.old.items ++ flags_of most (front_marks (front_of self.now))) }
+    {
+        let room = self.outer.mark(flags, most)?;
+        let sum = self.sum_node(self.outer.round());
+        let product = self.product_node();
+        let inner = mark_parts(flags, room, sum, product, &self.terms, &self.factors)?;
+        self.mark_position(flags, inner)
+    }
+
+    // What was read last behind the factors.
+    fn mark_position(&self, flags: &mut Vec<bool>, room: u64) -> Result<(), Memory>
+        ensures { OnOk result (FlagsAll room flags.old.items flags.new.items
+            (λ level. marks_here level self.now.position (parts_in self.now.factors))) }
+    {
+        match self.position {
+            Position::ItemRead => Ok(()),
+            Position::BlankRead | Position::CommaRead => push_piece(flags),
+            Position::PlusRead => {
+                push_piece(flags)?;
+                push_piece(flags)
+            }
+            Position::Begins => mark_star(flags, &self.factors),
+            Position::Number(_) | Position::Name(_) => mark_item(flags, room, &self.factors),
+            Position::RunCaret(_) | Position::PowerCaret(_) => {
+                mark_item(flags, room, &self.factors)?;
+                push_piece(flags)
+            }
+        }
+    }
+}
