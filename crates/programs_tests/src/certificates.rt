@@ -4,11 +4,11 @@ ghost use Rattle.std.specs.Prelude.{All, IsTrue, map};
 ghost use Rattle.poly_terms.specs.Views.{form_of};
 ghost use Rattle.farkas_cert.specs.Sizes.{AreWithinLimit, AreParts, AreRowNumbers, AreSmall, HasRowNumbers};
 
+use crate::wrong::note_unless;
 use farkas_cert::{LIMIT, Scaled, empty, implies, on_rows};
 use linear_forms::POINT_LIMIT;
 use poly_terms::Row;
 use std::alloc::{AllocError, Global};
-use std::test::Fail;
 
 const LARGEST: i128 = 9_223_372_036_854_775_807;
 
@@ -177,109 +177,115 @@ fn stands(
     }
 }
 
-#[test]
-fn goals_follow_where_the_rest_is_not_negative(rt: HostRuntime) -> Result<(), Fail> {
-    let alloc = rt.alloc();
-    let table: [(&[(i128, i128)], &[u64], (i128, i128), Option<bool>); 11] = [
-        (&[(1, -1)], &[1], (1, 0), Some(true)),
-        (&[(1, -1)], &[1], (1, -1), Some(true)),
-        (&[(1, -1)], &[1], (1, -2), Some(false)),
-        (&[(1, -1)], &[], (1, 0), Some(false)),
-        (&[(1, -1)], &[1, 0], (1, 0), Some(false)),
-        (&[(1, -1)], &[2], (1, 0), Some(false)),
-        (&[(1, -1), (-1, 3)], &[1, 1], (0, 2), Some(true)),
-        (&[(1, -1), (-1, 3)], &[1, 1], (0, 1), Some(false)),
-        (&[], &[], (0, 0), Some(true)),
+// Rows, multipliers, a goal, and whether it follows.
+const GOALS: &[(&[(i128, i128)], &[u64], (i128, i128), Option<bool>)] = &[
+    (&[(1, -1)], &[1], (1, 0), Some(true)),
+    (&[(1, -1)], &[1], (1, -1), Some(true)),
+    (&[(1, -1)], &[1], (1, -2), Some(false)),
+    (&[(1, -1)], &[], (1, 0), Some(false)),
+    (&[(1, -1)], &[1, 0], (1, 0), Some(false)),
+    (&[(1, -1)], &[2], (1, 0), Some(false)),
+    (&[(1, -1), (-1, 3)], &[1, 1], (0, 2), Some(true)),
+    (&[(1, -1), (-1, 3)], &[1, 1], (0, 1), Some(false)),
+    (&[], &[], (0, 0), Some(true)),
+    (
+        &[(LARGEST, -LARGEST)],
+        &[LIMIT],
         (
-            &[(LARGEST, -LARGEST)],
-            &[LIMIT],
-            (
-                LARGEST * 36_028_797_018_963_968,
-                -LARGEST * 36_028_797_018_963_968,
-            ),
-            Some(true),
+            LARGEST * 36_028_797_018_963_968,
+            -LARGEST * 36_028_797_018_963_968,
         ),
-        (&[(LARGEST + 1, 0)], &[1], (0, 0), None),
-    ];
-    for (rows, multipliers, goal, want) in table {
-        let found = follows_in_one(alloc, rows, multipliers, goal)?;
-        assert_eq!(rt; found, want, "at {rows:?} by {multipliers:?} to {goal:?}");
+        Some(true),
+    ),
+    (&[(LARGEST + 1, 0)], &[1], (0, 0), None),
+];
+
+fn check_goals(alloc: Global, wrong: &mut String) -> Result<(), AllocError> {
+    for (i, (rows, multipliers, goal, want)) in GOALS.iter().enumerate() {
+        let found = follows_in_one(alloc, rows, multipliers, *goal)?;
+        note_unless(alloc, wrong, found == *want, "goal", i)?;
     }
     Ok(())
 }
 
-#[test]
-fn goals_follow_in_each_unknown(rt: HostRuntime) -> Result<(), Fail> {
-    let alloc = rt.alloc();
-    // A >= B and B >= 3; and A >= 0 and C >= 1, of which the first leaves out what it doesn't read.
-    let chain: &[(&[i128], i128)] = &[(&[1, -1], 0), (&[0, 1], -3)];
-    let apart: &[(&[i128], i128)] = &[(&[1], 0), (&[0, 0, 1], -1)];
-    let table: [(&[(&[i128], i128)], &[u64], (&[i128], i128), bool); 13] = [
-        (chain, &[1, 1], (&[1, 0], -3), true),
-        (chain, &[1, 1], (&[1], -3), true),
-        (chain, &[1, 1], (&[1, 0, 0], -2), true),
-        (chain, &[1, 1], (&[1, 0], -4), false),
-        (chain, &[1, 1], (&[1, 1], -3), false),
-        (chain, &[1, 1], (&[0, 0], -3), false),
-        (chain, &[1, 1], (&[1, 0, 1], -3), false),
-        (chain, &[2, 1], (&[2, -1], -3), true),
-        (chain, &[2, 1], (&[1, 0], -3), false),
-        (apart, &[1, 2], (&[1, 0, 2], -2), true),
-        (apart, &[1, 2], (&[1], -2), false),
-        (apart, &[0, 1], (&[0, 0, 1], -1), true),
-        (apart, &[0, 1], (&[0, 1, 0], -1), false),
-    ];
-    for (rows, multipliers, goal, want) in table {
-        let found = follows_in_several(alloc, rows, multipliers, goal)?;
-        assert_eq!(rt;
-            found,
-            Some(want),
-            "at {rows:?} by {multipliers:?} to {goal:?}"
-        );
+// A >= B and B >= 3.
+const CHAIN: &[(&[i128], i128)] = &[(&[1, -1], 0), (&[0, 1], -3)];
+
+// A >= 0 and C >= 1, of which the first leaves out what it doesn't read.
+const APART: &[(&[i128], i128)] = &[(&[1], 0), (&[0, 0, 1], -1)];
+
+const GOALS_IN_SEVERAL: &[(&[(&[i128], i128)], &[u64], (&[i128], i128), bool)] = &[
+    (CHAIN, &[1, 1], (&[1, 0], -3), true),
+    (CHAIN, &[1, 1], (&[1], -3), true),
+    (CHAIN, &[1, 1], (&[1, 0, 0], -2), true),
+    (CHAIN, &[1, 1], (&[1, 0], -4), false),
+    (CHAIN, &[1, 1], (&[1, 1], -3), false),
+    (CHAIN, &[1, 1], (&[0, 0], -3), false),
+    (CHAIN, &[1, 1], (&[1, 0, 1], -3), false),
+    (CHAIN, &[2, 1], (&[2, -1], -3), true),
+    (CHAIN, &[2, 1], (&[1, 0], -3), false),
+    (APART, &[1, 2], (&[1, 0, 2], -2), true),
+    (APART, &[1, 2], (&[1], -2), false),
+    (APART, &[0, 1], (&[0, 0, 1], -1), true),
+    (APART, &[0, 1], (&[0, 1, 0], -1), false),
+];
+
+fn check_goals_in_several(alloc: Global, wrong: &mut String) -> Result<(), AllocError> {
+    for (i, (rows, multipliers, goal, want)) in GOALS_IN_SEVERAL.iter().enumerate() {
+        let found = follows_in_several(alloc, rows, multipliers, *goal)?;
+        note_unless(alloc, wrong, found == Some(*want), "goal in several", i)?;
     }
     Ok(())
 }
 
-#[test]
-fn rows_contradict_where_they_add_up_to_less_than_0(rt: HostRuntime) -> Result<(), Fail> {
-    let alloc = rt.alloc();
-    let table: [(&[(i128, i128)], &[u64], Option<bool>); 6] = [
-        (&[(1, -1), (-1, 0)], &[1, 1], Some(true)),
-        (&[(1, -1), (-1, 0)], &[2, 1], Some(false)),
-        (&[(1, -1), (-1, 1)], &[1, 1], Some(false)),
-        (&[(0, -1)], &[1], Some(true)),
-        (&[(0, -1)], &[0], Some(false)),
-        (&[], &[], Some(false)),
-    ];
-    for (rows, multipliers, want) in table {
+// Rows, multipliers, and whether they show that the rows have no point.
+const CONTRADICTIONS: &[(&[(i128, i128)], &[u64], Option<bool>)] = &[
+    (&[(1, -1), (-1, 0)], &[1, 1], Some(true)),
+    (&[(1, -1), (-1, 0)], &[2, 1], Some(false)),
+    (&[(1, -1), (-1, 1)], &[1, 1], Some(false)),
+    (&[(0, -1)], &[1], Some(true)),
+    (&[(0, -1)], &[0], Some(false)),
+    (&[], &[], Some(false)),
+];
+
+fn check_contradictions(alloc: Global, wrong: &mut String) -> Result<(), AllocError> {
+    for (i, (rows, multipliers, want)) in CONTRADICTIONS.iter().enumerate() {
         let found = contradict(alloc, rows, multipliers)?;
-        assert_eq!(rt; found, want, "at {rows:?} by {multipliers:?}");
+        note_unless(alloc, wrong, found == *want, "contradiction", i)?;
     }
     Ok(())
 }
 
-#[test]
-fn points_and_rays_are_on_rows(rt: HostRuntime) -> Result<(), Fail> {
-    let alloc = rt.alloc();
-    let table: [(&[(i128, i128)], i64, u64, Option<bool>); 9] = [
-        (&[(1, -1)], 0, 1, Some(false)),
-        (&[(1, -1)], 1, 1, Some(true)),
-        (&[(1, -1)], 0, 0, Some(true)),
-        (&[(1, -1)], -1, 0, Some(false)),
-        (&[(2, -1)], 1, 2, Some(true)),
-        (&[(2, -1)], 1, 3, Some(false)),
-        (&[], -5, 1, Some(true)),
-        (
-            &[(LARGEST, -LARGEST)],
-            35_184_372_088_832,
-            35_184_372_088_832,
-            Some(true),
-        ),
-        (&[(1, 0)], 35_184_372_088_833, 1, None),
-    ];
-    for (rows, part, den, want) in table {
-        let found = stands(alloc, rows, part, den)?;
-        assert_eq!(rt; found, want, "at {part}/{den} on {rows:?}");
+// Rows, a point, and whether it is on them.
+const POINTS: &[(&[(i128, i128)], i64, u64, Option<bool>)] = &[
+    (&[(1, -1)], 0, 1, Some(false)),
+    (&[(1, -1)], 1, 1, Some(true)),
+    (&[(1, -1)], 0, 0, Some(true)),
+    (&[(1, -1)], -1, 0, Some(false)),
+    (&[(2, -1)], 1, 2, Some(true)),
+    (&[(2, -1)], 1, 3, Some(false)),
+    (&[], -5, 1, Some(true)),
+    (
+        &[(LARGEST, -LARGEST)],
+        35_184_372_088_832,
+        35_184_372_088_832,
+        Some(true),
+    ),
+    (&[(1, 0)], 35_184_372_088_833, 1, None),
+];
+
+fn check_points(alloc: Global, wrong: &mut String) -> Result<(), AllocError> {
+    for (i, (rows, part, den, want)) in POINTS.iter().enumerate() {
+        let found = stands(alloc, rows, *part, *den)?;
+        note_unless(alloc, wrong, found == *want, "point", i)?;
     }
     Ok(())
+}
+
+/// Notes what is wrong in the tables of this module.
+pub(crate) fn check(alloc: Global, wrong: &mut String) -> Result<(), AllocError> {
+    check_goals(alloc, wrong)?;
+    check_goals_in_several(alloc, wrong)?;
+    check_contradictions(alloc, wrong)?;
+    check_points(alloc, wrong)
 }

@@ -4,9 +4,9 @@
 ghost use Rattle.std.specs.Prelude.{◌<◌, ◌≤◌, All, IsTrue};
 
 use crate::closure::{NODES, closure, edges, graph_of_three, next_random, random_graph};
+use crate::wrong::note_unless;
 use its_graph::components;
 use std::alloc::{AllocError, Global};
-use std::test::Fail;
 
 // Whether the edges are between nodes below the number.
 fn are_within(nodes: u32, edges: &[(u32, u32)]) -> bool
@@ -56,30 +56,30 @@ fn text(alloc: Global, nodes: u32, edges: &[(u32, u32)]) -> Result<String, Alloc
     Ok(text)
 }
 
-#[test]
-fn small_graphs_have_the_components_that_were_worked_out(rt: HostRuntime) -> Result<(), Fail> {
-    let alloc = rt.alloc();
-    let table: [(u32, &[(u32, u32)], &str); 12] = [
-        (0, &[], ""),
-        (1, &[], " 0;"),
-        (1, &[(0, 0)], " 0;"),
-        (3, &[], " 0; 1; 2;"),
-        (3, &[(0, 1), (1, 2), (2, 1)], " 0; 1 2;"),
-        (3, &[(2, 1), (1, 0)], " 2; 1; 0;"),
-        (3, &[(2, 0)], " 1; 2; 0;"),
-        (4, &[(3, 0), (1, 2)], " 1; 2; 3; 0;"),
-        (4, &[(0, 3), (3, 0), (2, 1)], " 0 3; 2; 1;"),
-        (4, &[(0, 1), (1, 2), (2, 3), (3, 0)], " 0 1 2 3;"),
-        (
-            5,
-            &[(4, 0), (0, 4), (4, 2), (3, 2), (2, 1)],
-            " 0 4; 3; 2; 1;",
-        ),
-        (2, &[(0, 2)], "out of range"),
-    ];
-    for (nodes, edges, want) in table {
-        let found = text(alloc, nodes, edges)?;
-        assert_eq!(rt; found.as_str(), want, "at {edges:?}");
+// How many nodes there are, edges, and the components.
+const SMALL: &[(u32, &[(u32, u32)], &str)] = &[
+    (0, &[], ""),
+    (1, &[], " 0;"),
+    (1, &[(0, 0)], " 0;"),
+    (3, &[], " 0; 1; 2;"),
+    (3, &[(0, 1), (1, 2), (2, 1)], " 0; 1 2;"),
+    (3, &[(2, 1), (1, 0)], " 2; 1; 0;"),
+    (3, &[(2, 0)], " 1; 2; 0;"),
+    (4, &[(3, 0), (1, 2)], " 1; 2; 3; 0;"),
+    (4, &[(0, 3), (3, 0), (2, 1)], " 0 3; 2; 1;"),
+    (4, &[(0, 1), (1, 2), (2, 3), (3, 0)], " 0 1 2 3;"),
+    (
+        5,
+        &[(4, 0), (0, 4), (4, 2), (3, 2), (2, 1)],
+        " 0 4; 3; 2; 1;",
+    ),
+    (2, &[(0, 2)], "out of range"),
+];
+
+fn check_small(alloc: Global, wrong: &mut String) -> Result<(), AllocError> {
+    for (i, (nodes, edges, want)) in SMALL.iter().enumerate() {
+        let found = text(alloc, *nodes, edges)?;
+        note_unless(alloc, wrong, found.as_str() == *want, "small", i)?;
     }
     Ok(())
 }
@@ -159,30 +159,29 @@ fn slow_text(alloc: Global, graph: u64, nodes: usize) -> Result<String, AllocErr
     Ok(text)
 }
 
-#[test]
-fn all_graphs_of_three_nodes_have_the_components_of_their_closure(
-    rt: HostRuntime,
-) -> Result<(), Fail> {
-    let alloc = rt.alloc();
-    for bits in 0..512u64 {
-        let graph = graph_of_three(bits);
-        let found = text(alloc, 3, &edges(alloc, graph, 3)?)?;
-        let want = slow_text(alloc, graph, 3)?;
-        assert_eq!(rt; found.as_str(), want.as_str(), "at graph {bits}");
+// Whether the components between the first nodes of a graph are those of its closure.
+fn has_closed_components(alloc: Global, graph: u64, nodes: usize) -> Result<bool, AllocError>
+    requires { nodes ≤ 6 }
+{
+    let found = text(alloc, nodes as u32, &edges(alloc, graph, nodes)?)?;
+    let want = slow_text(alloc, graph, nodes)?;
+    Ok(found.as_str() == want.as_str())
+}
+
+fn check_graphs_of_three(alloc: Global, wrong: &mut String) -> Result<(), AllocError> {
+    for bits in 0..512u16 {
+        let right = has_closed_components(alloc, graph_of_three(bits as u64), 3)?;
+        note_unless(alloc, wrong, right, "of three", bits as usize)?;
     }
     Ok(())
 }
 
-#[test]
-fn random_graphs_have_the_components_of_their_closure(rt: HostRuntime) -> Result<(), Fail> {
-    let alloc = rt.alloc();
+fn check_random_graphs(alloc: Global, wrong: &mut String) -> Result<(), AllocError> {
     let mut state: u64 = 88172645463325252;
     for round in 0..400u32 {
         state = next_random(state);
-        let graph = random_graph(state, round);
-        let found = text(alloc, 6, &edges(alloc, graph, NODES)?)?;
-        let want = slow_text(alloc, graph, NODES)?;
-        assert_eq!(rt; found.as_str(), want.as_str(), "at graph {graph}");
+        let right = has_closed_components(alloc, random_graph(state, round), NODES)?;
+        note_unless(alloc, wrong, right, "random", round as usize)?;
     }
     Ok(())
 }
@@ -196,17 +195,31 @@ fn path(alloc: Global, nodes: u32) -> Result<Vec<(u32, u32)>, AllocError> {
     Ok(edges)
 }
 
-#[test]
-fn a_path_of_32000_nodes_has_each_node_alone_from_its_beginning_on(
-    rt: HostRuntime,
-) -> Result<(), Fail> {
-    let alloc = rt.alloc();
-    let found = listed(alloc, 32000, &path(alloc, 32000)?)?.ok_or("out of range")?;
-    assert_eq!(rt; found.len(), 32000);
-    let mut node = 32000u32;
-    for component in &found {
+// Whether each component is the node before the last one, alone.
+fn are_alone_backwards(components: &[Vec<u32>], last: u32) -> bool {
+    let mut node = last;
+    for component in components {
         node = node.saturating_sub(1);
-        assert!(rt; component.len() == 1 && component[0] == node, "at {node}");
+        if component.as_slice() != [node].as_slice() {
+            return false;
+        }
     }
-    Ok(())
+    node == 0
+}
+
+// A path of 32,000 nodes has each node alone, from its beginning on.
+fn check_path(alloc: Global, wrong: &mut String) -> Result<(), AllocError> {
+    let right = match listed(alloc, 32000, &path(alloc, 32000)?)? {
+        Some(found) => found.len() == 32000 && are_alone_backwards(&found, 32000),
+        None => false,
+    };
+    note_unless(alloc, wrong, right, "path", 32000)
+}
+
+/// Notes what is wrong in the tables of this module.
+pub(crate) fn check(alloc: Global, wrong: &mut String) -> Result<(), AllocError> {
+    check_small(alloc, wrong)?;
+    check_graphs_of_three(alloc, wrong)?;
+    check_random_graphs(alloc, wrong)?;
+    check_path(alloc, wrong)
 }

@@ -5,9 +5,9 @@ ghost use Rattle.std.specs.Prelude.{◌<◌, ◌≤◌, ◌^◌};
 
 use crate::closure::{NODES, closure, edges, graph_of_three, is_edge, next_random, random_graph};
 use crate::graphs::{before, program, push_number, reached, set};
+use crate::wrong::note_unless;
 use its_graph::has_cycle;
 use std::alloc::{AllocError, Global};
-use std::test::Fail;
 
 // Whether a graph of three nodes has a cycle: some node leads back to where an edge to it begins.
 fn slow_cycle(graph: u64) -> bool {
@@ -20,20 +20,6 @@ fn slow_cycle(graph: u64) -> bool {
         }
     }
     false
-}
-
-#[test]
-fn all_graphs_of_three_symbols_have_the_cycles_of_their_closure(
-    rt: HostRuntime,
-) -> Result<(), Fail> {
-    let alloc = rt.alloc();
-    for bits in 0..512u64 {
-        let graph = graph_of_three(bits);
-        let p = program(alloc, 3, &edges(alloc, graph, 3)?)?;
-        let found = has_cycle(alloc, &p)?;
-        assert!(rt; found == slow_cycle(graph), "at graph {bits}");
-    }
-    Ok(())
 }
 
 // What can come just before a rule that comes from a symbol, by the definition.
@@ -64,21 +50,6 @@ fn are_before_right(alloc: Global, links: &[(u32, u32)]) -> Result<bool, AllocEr
         }
     }
     Ok(true)
-}
-
-#[test]
-fn random_graphs_have_the_rules_before_a_rule_of_the_definition(
-    rt: HostRuntime,
-) -> Result<(), Fail> {
-    let alloc = rt.alloc();
-    let mut state: u64 = 88172645463325252;
-    for round in 0..200u32 {
-        state = next_random(state);
-        let graph = random_graph(state, round);
-        let right = are_before_right(alloc, &edges(alloc, graph, NODES)?)?;
-        assert!(rt; right, "at graph {graph}");
-    }
-    Ok(())
 }
 
 // Whether a rule is untimed: the one whose set is looked for, and each whose number doesn't leave this rest by 3.
@@ -148,31 +119,6 @@ fn is_reached_right(alloc: Global, graph: u64, nodes: usize, rest: u32) -> Resul
     Ok(found.as_str() == want.as_str())
 }
 
-#[test]
-fn all_graphs_of_three_symbols_reach_what_their_closure_does(rt: HostRuntime) -> Result<(), Fail> {
-    let alloc = rt.alloc();
-    for bits in 0..512u64 {
-        for rest in 0..4u32 {
-            let right = is_reached_right(alloc, graph_of_three(bits), 3, rest)?;
-            assert!(rt; right, "at graph {bits}, rest {rest}");
-        }
-    }
-    Ok(())
-}
-
-#[test]
-fn random_graphs_reach_what_their_closure_does(rt: HostRuntime) -> Result<(), Fail> {
-    let alloc = rt.alloc();
-    let mut state: u64 = 88172645463325252;
-    for round in 0..200u32 {
-        state = next_random(state);
-        let graph = random_graph(state, round);
-        let right = is_reached_right(alloc, graph, NODES, round % 4)?;
-        assert!(rt; right, "at graph {graph}");
-    }
-    Ok(())
-}
-
 // A flag for the virtual entry and for each rule: whether it is untimed.
 fn flags(alloc: Global, count: usize, own: u32, rest: u32) -> Result<Vec<bool>, AllocError>
     requires { count < 2 ^ 32 }
@@ -233,27 +179,53 @@ fn are_sets_right(alloc: Global, graph: u64, nodes: usize, rest: u32) -> Result<
     Ok(true)
 }
 
-#[test]
-fn all_graphs_of_three_symbols_have_the_sets_of_their_closure(rt: HostRuntime) -> Result<(), Fail> {
-    let alloc = rt.alloc();
-    for bits in 0..512u64 {
+// Whether a graph of three symbols is said to have a cycle where its closure has one.
+fn is_cycle_right(alloc: Global, graph: u64) -> Result<bool, AllocError> {
+    let p = program(alloc, 3, &edges(alloc, graph, 3)?)?;
+    Ok(has_cycle(alloc, &p)? == slow_cycle(graph))
+}
+
+fn check_cycles_of_three(alloc: Global, wrong: &mut String) -> Result<(), AllocError> {
+    for bits in 0..512u16 {
+        let right = is_cycle_right(alloc, graph_of_three(bits as u64))?;
+        note_unless(alloc, wrong, right, "cycle of three", bits as usize)?;
+    }
+    Ok(())
+}
+
+// Whether what is reached and the sets are right where the rules that leave this rest by 3 are cut and timed.
+fn is_right(alloc: Global, graph: u64, nodes: usize, rest: u32) -> Result<bool, AllocError>
+    requires { nodes ≤ 6 }
+{
+    Ok(is_reached_right(alloc, graph, nodes, rest)? && are_sets_right(alloc, graph, nodes, rest)?)
+}
+
+fn check_graphs_of_three(alloc: Global, wrong: &mut String) -> Result<(), AllocError> {
+    for bits in 0..512u16 {
         for rest in 0..4u32 {
-            let right = are_sets_right(alloc, graph_of_three(bits), 3, rest)?;
-            assert!(rt; right, "at graph {bits}, rest {rest}");
+            let right = is_right(alloc, graph_of_three(bits as u64), 3, rest)?;
+            note_unless(alloc, wrong, right, "of three", bits as usize)?;
         }
     }
     Ok(())
 }
 
-#[test]
-fn random_graphs_have_the_sets_of_their_closure(rt: HostRuntime) -> Result<(), Fail> {
-    let alloc = rt.alloc();
+fn check_random_graphs(alloc: Global, wrong: &mut String) -> Result<(), AllocError> {
     let mut state: u64 = 88172645463325252;
     for round in 0..200u32 {
         state = next_random(state);
         let graph = random_graph(state, round);
-        let right = are_sets_right(alloc, graph, NODES, round % 4)?;
-        assert!(rt; right, "at graph {graph}");
+        let before = are_before_right(alloc, &edges(alloc, graph, NODES)?)?;
+        note_unless(alloc, wrong, before, "random, before", round as usize)?;
+        let right = is_right(alloc, graph, NODES, round % 4)?;
+        note_unless(alloc, wrong, right, "random", round as usize)?;
     }
     Ok(())
+}
+
+/// Notes what is wrong in the tables of this module.
+pub(crate) fn check(alloc: Global, wrong: &mut String) -> Result<(), AllocError> {
+    check_cycles_of_three(alloc, wrong)?;
+    check_graphs_of_three(alloc, wrong)?;
+    check_random_graphs(alloc, wrong)
 }

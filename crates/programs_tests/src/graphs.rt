@@ -2,10 +2,10 @@
 //! out by hand.
 
 use crate::trying::symbol;
+use crate::wrong::note_unless;
 use its_graph::{Graph, has_cycle};
 use its_model::{Program, Rule, Symbol};
 use std::alloc::{AllocError, Global};
-use std::test::Fail;
 
 // So many symbols without places.
 fn symbols(alloc: Global, count: u32) -> Result<Vec<Symbol>, AllocError> {
@@ -49,27 +49,6 @@ pub(crate) fn program(
         start_names: Vec::new(alloc),
         rules,
     })
-}
-
-#[test]
-fn cycles_of_small_graphs_are_found(rt: HostRuntime) -> Result<(), Fail> {
-    let alloc = rt.alloc();
-    let table: [(&[(u32, u32)], bool); 9] = [
-        (&[], false),
-        (&[(0, 1)], false),
-        (&[(0, 0)], true),
-        (&[(0, 1), (1, 2), (0, 2)], false),
-        (&[(0, 1), (1, 0)], true),
-        (&[(5, 4), (4, 3), (3, 5)], true),
-        (&[(0, 1), (0, 1)], false),
-        (&[(2, 1), (1, 0), (3, 3)], true),
-        (&[(1, 0), (2, 0), (3, 1), (3, 2), (0, 3)], true),
-    ];
-    for (edges, want) in table {
-        let found = has_cycle(alloc, &program(alloc, nodes_of(edges), edges)?)?;
-        assert_eq!(rt; found, want, "at {edges:?}");
-    }
-    Ok(())
 }
 
 /// A number more in a list as text, a blank before it.
@@ -142,60 +121,89 @@ pub(crate) fn reached(
 // Two nested loops: from 0 to 1, from 1 to 2, from 2 to itself, and from 2 back to 1.
 const NESTED: &[(u32, u32)] = &[(0, 1), (1, 2), (2, 2), (2, 1)];
 
-#[test]
-fn what_can_come_before_a_rule_is_listed(rt: HostRuntime) -> Result<(), Fail> {
-    let alloc = rt.alloc();
-    let table: [(&[(u32, u32)], u32, &str); 7] = [
-        (NESTED, 1, " 0"),
-        (NESTED, 2, " 1 4"),
-        (NESTED, 3, " 2 3"),
-        (NESTED, 4, " 2 3"),
-        (&[(0, 0)], 1, " 0 1"),
-        (&[(0, 1), (2, 0)], 2, ""),
-        (NESTED, 5, "no rule"),
-    ];
-    for (edges, rule, want) in table {
-        let found = before(alloc, edges, rule)?;
-        assert_eq!(rt; found.as_str(), want, "at rule {rule} of {edges:?}");
+// Edges, and whether there is a cycle.
+const CYCLES: &[(&[(u32, u32)], bool)] = &[
+    (&[], false),
+    (&[(0, 1)], false),
+    (&[(0, 0)], true),
+    (&[(0, 1), (1, 2), (0, 2)], false),
+    (&[(0, 1), (1, 0)], true),
+    (&[(5, 4), (4, 3), (3, 5)], true),
+    (&[(0, 1), (0, 1)], false),
+    (&[(2, 1), (1, 0), (3, 3)], true),
+    (&[(1, 0), (2, 0), (3, 1), (3, 2), (0, 3)], true),
+];
+
+fn check_cycles(alloc: Global, wrong: &mut String) -> Result<(), AllocError> {
+    for (i, (edges, want)) in CYCLES.iter().enumerate() {
+        let found = has_cycle(alloc, &program(alloc, nodes_of(edges), edges)?)?;
+        note_unless(alloc, wrong, found == *want, "cycle", i)?;
     }
     Ok(())
 }
 
-#[test]
-fn sets_of_untimed_rules_go_backwards(rt: HostRuntime) -> Result<(), Fail> {
-    let alloc = rt.alloc();
-    let table: [(&[(u32, u32)], &[bool], u32, &str); 6] = [
-        (NESTED, &[false, true, true, true, true], 3, " 1 2 3 4"),
-        (NESTED, &[false, false, false, true, true], 3, " 3"),
-        (NESTED, &[false, false, true, true, true], 3, " 2 3 4"),
-        (NESTED, &[false, true, true, true, true], 1, " 1"),
-        (&[(0, 1), (1, 2)], &[false, true, true], 2, " 1 2"),
-        (NESTED, &[false, true, true, true, false], 4, "no flags"),
-    ];
-    for (edges, untimed, rule, want) in table {
-        let found = set(alloc, edges, untimed, rule)?;
-        assert_eq!(rt; found.as_str(), want, "at rule {rule} of {edges:?}");
+// Edges, a rule, and what can come just before it.
+const BEFORE: &[(&[(u32, u32)], u32, &str)] = &[
+    (NESTED, 1, " 0"),
+    (NESTED, 2, " 1 4"),
+    (NESTED, 3, " 2 3"),
+    (NESTED, 4, " 2 3"),
+    (&[(0, 0)], 1, " 0 1"),
+    (&[(0, 1), (2, 0)], 2, ""),
+    (NESTED, 5, "no rule"),
+];
+
+fn check_before(alloc: Global, wrong: &mut String) -> Result<(), AllocError> {
+    for (i, (edges, rule, want)) in BEFORE.iter().enumerate() {
+        let found = before(alloc, edges, *rule)?;
+        note_unless(alloc, wrong, found.as_str() == *want, "before", i)?;
     }
     Ok(())
 }
 
-#[test]
-fn symbols_are_reached_by_rules_that_are_not_cut(rt: HostRuntime) -> Result<(), Fail> {
-    let alloc = rt.alloc();
-    let table: [(&[(u32, u32)], &[u32], &str); 8] = [
-        (&[], &[], "1"),
-        // A symbol that only its own rules enter.
-        (&[(0, 1), (2, 2)], &[], "110"),
-        (&[(0, 1), (2, 1)], &[], "110"),
-        (&[(0, 1), (2, 1)], &[1], "100"),
-        (&[(0, 1), (2, 1)], &[2, 9], "110"),
-        (NESTED, &[], "111"),
-        (NESTED, &[2], "110"),
-        (NESTED, &[0, 3, 4], "111"),
-    ];
-    for (edges, cut, want) in table {
+// Edges, which rules are untimed, a rule, and its set.
+const SETS: &[(&[(u32, u32)], &[bool], u32, &str)] = &[
+    (NESTED, &[false, true, true, true, true], 3, " 1 2 3 4"),
+    (NESTED, &[false, false, false, true, true], 3, " 3"),
+    (NESTED, &[false, false, true, true, true], 3, " 2 3 4"),
+    (NESTED, &[false, true, true, true, true], 1, " 1"),
+    (&[(0, 1), (1, 2)], &[false, true, true], 2, " 1 2"),
+    (NESTED, &[false, true, true, true, false], 4, "no flags"),
+];
+
+fn check_sets(alloc: Global, wrong: &mut String) -> Result<(), AllocError> {
+    for (i, (edges, untimed, rule, want)) in SETS.iter().enumerate() {
+        let found = set(alloc, edges, untimed, *rule)?;
+        note_unless(alloc, wrong, found.as_str() == *want, "set", i)?;
+    }
+    Ok(())
+}
+
+// Edges, the rules that are cut, and which symbols are reached.
+const REACHED: &[(&[(u32, u32)], &[u32], &str)] = &[
+    (&[], &[], "1"),
+    // A symbol that only its own rules enter.
+    (&[(0, 1), (2, 2)], &[], "110"),
+    (&[(0, 1), (2, 1)], &[], "110"),
+    (&[(0, 1), (2, 1)], &[1], "100"),
+    (&[(0, 1), (2, 1)], &[2, 9], "110"),
+    (NESTED, &[], "111"),
+    (NESTED, &[2], "110"),
+    (NESTED, &[0, 3, 4], "111"),
+];
+
+fn check_reached(alloc: Global, wrong: &mut String) -> Result<(), AllocError> {
+    for (i, (edges, cut, want)) in REACHED.iter().enumerate() {
         let found = reached(alloc, want.len() as u32, edges, cut)?;
-        assert_eq!(rt; found.as_str(), want, "at {cut:?} of {edges:?}");
+        note_unless(alloc, wrong, found.as_str() == *want, "reached", i)?;
     }
     Ok(())
+}
+
+/// Notes what is wrong in the tables of this module.
+pub(crate) fn check(alloc: Global, wrong: &mut String) -> Result<(), AllocError> {
+    check_cycles(alloc, wrong)?;
+    check_before(alloc, wrong)?;
+    check_sets(alloc, wrong)?;
+    check_reached(alloc, wrong)
 }

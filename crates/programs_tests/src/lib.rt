@@ -1,4 +1,4 @@
-// Tests of programs and their steps, their texts, polynomials, rows, graphs and certificates by public calls alone, a
+// Tests of programs and their steps, polynomials, rows, graphs and certificates by public calls alone, a
 // module for each subject.
 #![tactic(auto)]
 
@@ -15,8 +15,6 @@ mod graph_closures;
 #[cfg(test)]
 mod graphs;
 #[cfg(test)]
-mod programs;
-#[cfg(test)]
 mod rows;
 #[cfg(test)]
 mod slow;
@@ -28,3 +26,5 @@ mod trees;
 mod trying;
 #[cfg(test)]
 mod values;
+#[cfg(test)]
+mod wrong;

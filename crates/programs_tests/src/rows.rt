@@ -6,13 +6,13 @@ ghost use Rattle.guard_prep.specs.Laws.{IsPreparable};
 
 use crate::expansions::{Written, is_as_written};
 use crate::trees::{are_valid_atoms, are_valid_updates};
+use crate::wrong::note_unless;
 use Part::{Is, True};
 use Rel::{Eq, Ge, Gt, Le, Lt};
 use guard_prep::{RuleRows, rows};
 use its_model::{Atom, Rel, Rule};
 use poly_terms::{Expr, Poly, Row};
 use std::alloc::{AllocError, Global};
-use std::test::Fail;
 
 /// The maximum of a number, 2^63-1.
 const MOST: i128 = 0x7fff_ffff_ffff_ffff;
@@ -138,152 +138,157 @@ fn are_as_written(polys: &[Poly], written: &[Written]) -> bool {
     true
 }
 
-#[test]
-fn guards_have_the_rows_that_were_worked_out(rt: HostRuntime) -> Result<(), Fail> {
-    let alloc = rt.alloc();
-    let table: [(&str, &[Part], &[[i128; 3]]); 28] = [
-        ("no atom", &[], &[]),
-        ("TRUE", &[True], &[]),
-        (
-            "A >= 3",
-            &[Is([0, 1, 0, 0], Ge, [3, 0, 0, 0])],
-            &[[-3, 1, 0]],
-        ),
-        (
-            "A > 3",
-            &[Is([0, 1, 0, 0], Gt, [3, 0, 0, 0])],
-            &[[-4, 1, 0]],
-        ),
-        (
-            "A <= 3",
-            &[Is([0, 1, 0, 0], Le, [3, 0, 0, 0])],
-            &[[3, -1, 0]],
-        ),
-        (
-            "A < 3",
-            &[Is([0, 1, 0, 0], Lt, [3, 0, 0, 0])],
-            &[[2, -1, 0]],
-        ),
-        (
-            "A = 3",
-            &[Is([0, 1, 0, 0], Eq, [3, 0, 0, 0])],
-            &[[-3, 1, 0], [3, -1, 0]],
-        ),
-        (
-            "3 = A",
-            &[Is([3, 0, 0, 0], Eq, [0, 1, 0, 0])],
-            &[[3, -1, 0], [-3, 1, 0]],
-        ),
-        (
-            "A < C",
-            &[Is([0, 1, 0, 0], Lt, [0, 0, 1, 0])],
-            &[[-1, -1, 1]],
-        ),
-        // Divided by the greatest common divisor of the coefficients, the constant is rounded down.
-        (
-            "2*A >= 1 and 2*A <= 1",
-            &[
-                Is([0, 2, 0, 0], Ge, [1, 0, 0, 0]),
-                Is([0, 2, 0, 0], Le, [1, 0, 0, 0]),
-            ],
-            &[[-1, 1, 0], [0, -1, 0]],
-        ),
-        (
-            "2*A = 1",
-            &[Is([0, 2, 0, 0], Eq, [1, 0, 0, 0])],
-            &[[-1, 1, 0], [0, -1, 0]],
-        ),
-        (
-            "2*A > 2",
-            &[Is([0, 2, 0, 0], Gt, [2, 0, 0, 0])],
-            &[[-2, 1, 0]],
-        ),
-        (
-            "2*A < 2",
-            &[Is([0, 2, 0, 0], Lt, [2, 0, 0, 0])],
-            &[[0, -1, 0]],
-        ),
-        (
-            "3*A + 2 >= 0",
-            &[Is([2, 3, 0, 0], Ge, [0, 0, 0, 0])],
-            &[[0, 1, 0]],
-        ),
-        (
-            "-2*A - 3 >= 0",
-            &[Is([-3, -2, 0, 0], Ge, [0, 0, 0, 0])],
-            &[[-2, -1, 0]],
-        ),
-        (
-            "9*C - 6*A - 10 >= 0",
-            &[Is([-10, -6, 9, 0], Ge, [0, 0, 0, 0])],
-            &[[-4, -2, 3]],
-        ),
-        (
-            "6*A + 5*C >= 6*A + 1",
-            &[Is([0, 6, 5, 0], Ge, [1, 6, 0, 0])],
-            &[[-1, 0, 1]],
-        ),
-        // Where no coefficient is left the row says nothing, or no point meets it.
-        (
-            "0 >= 1",
-            &[Is([0, 0, 0, 0], Ge, [1, 0, 0, 0])],
-            &[[-1, 0, 0]],
-        ),
-        (
-            "0 >= 5",
-            &[Is([0, 0, 0, 0], Ge, [5, 0, 0, 0])],
-            &[[-1, 0, 0]],
-        ),
-        (
-            "0 > 0",
-            &[Is([0, 0, 0, 0], Gt, [0, 0, 0, 0])],
-            &[[-1, 0, 0]],
-        ),
-        ("0 < 1", &[Is([0, 0, 0, 0], Lt, [1, 0, 0, 0])], &[]),
-        ("0 = 0", &[Is([0, 0, 0, 0], Eq, [0, 0, 0, 0])], &[]),
-        (
-            "0 = 2",
-            &[Is([0, 0, 0, 0], Eq, [2, 0, 0, 0])],
-            &[[-1, 0, 0]],
-        ),
-        // Degree 2 gives no row, unless the squares cancel.
-        ("A*A >= 4", &[Is([0, 0, 0, 1], Ge, [4, 0, 0, 0])], &[]),
-        (
-            "A*A + 2*A > A*A",
-            &[Is([0, 2, 0, 1], Gt, [0, 0, 0, 1])],
-            &[[-1, 1, 0]],
-        ),
-        (
-            "C >= 0 and TRUE and A*A = C and A < C",
-            &[
-                Is([0, 0, 1, 0], Ge, [0, 0, 0, 0]),
-                True,
-                Is([0, 0, 0, 1], Eq, [0, 0, 1, 0]),
-                Is([0, 1, 0, 0], Lt, [0, 0, 1, 0]),
-            ],
-            &[[0, 0, 1], [-1, -1, 1]],
-        ),
-        // Numbers at 2^63-1.
-        (
-            "m*A >= 1 and m*A <= m and A >= m",
-            &[
-                Is([0, MOST, 0, 0], Ge, [1, 0, 0, 0]),
-                Is([0, MOST, 0, 0], Le, [MOST, 0, 0, 0]),
-                Is([0, 1, 0, 0], Ge, [MOST, 0, 0, 0]),
-            ],
-            &[[-1, 1, 0], [1, -1, 0], [LEAST, 1, 0]],
-        ),
-        (
-            "m*A - C = m",
-            &[Is([0, MOST, -1, 0], Eq, [MOST, 0, 0, 0])],
-            &[[LEAST, MOST, -1], [MOST, LEAST, 1]],
-        ),
-    ];
-    for (text, guard, wanted) in table {
-        let found = prepared(alloc, &rule(alloc, &[], guard)?)?.ok_or("no rows")?;
-        let wanted = forms_in_two(alloc, wanted)?;
-        assert_eq!(rt; found.rows.as_slice(), wanted.as_slice(), "of {text}");
-        assert_eq!(rt; found.left, 1, "of {text}");
+// A guard, as text and as atoms, and its rows.
+const GUARDS: &[(&str, &[Part], &[[i128; 3]])] = &[
+    ("no atom", &[], &[]),
+    ("TRUE", &[True], &[]),
+    (
+        "A >= 3",
+        &[Is([0, 1, 0, 0], Ge, [3, 0, 0, 0])],
+        &[[-3, 1, 0]],
+    ),
+    (
+        "A > 3",
+        &[Is([0, 1, 0, 0], Gt, [3, 0, 0, 0])],
+        &[[-4, 1, 0]],
+    ),
+    (
+        "A <= 3",
+        &[Is([0, 1, 0, 0], Le, [3, 0, 0, 0])],
+        &[[3, -1, 0]],
+    ),
+    (
+        "A < 3",
+        &[Is([0, 1, 0, 0], Lt, [3, 0, 0, 0])],
+        &[[2, -1, 0]],
+    ),
+    (
+        "A = 3",
+        &[Is([0, 1, 0, 0], Eq, [3, 0, 0, 0])],
+        &[[-3, 1, 0], [3, -1, 0]],
+    ),
+    (
+        "3 = A",
+        &[Is([3, 0, 0, 0], Eq, [0, 1, 0, 0])],
+        &[[3, -1, 0], [-3, 1, 0]],
+    ),
+    (
+        "A < C",
+        &[Is([0, 1, 0, 0], Lt, [0, 0, 1, 0])],
+        &[[-1, -1, 1]],
+    ),
+    // Divided by the greatest common divisor of the coefficients, the constant is rounded down.
+    (
+        "2*A >= 1 and 2*A <= 1",
+        &[
+            Is([0, 2, 0, 0], Ge, [1, 0, 0, 0]),
+            Is([0, 2, 0, 0], Le, [1, 0, 0, 0]),
+        ],
+        &[[-1, 1, 0], [0, -1, 0]],
+    ),
+    (
+        "2*A = 1",
+        &[Is([0, 2, 0, 0], Eq, [1, 0, 0, 0])],
+        &[[-1, 1, 0], [0, -1, 0]],
+    ),
+    (
+        "2*A > 2",
+        &[Is([0, 2, 0, 0], Gt, [2, 0, 0, 0])],
+        &[[-2, 1, 0]],
+    ),
+    (
+        "2*A < 2",
+        &[Is([0, 2, 0, 0], Lt, [2, 0, 0, 0])],
+        &[[0, -1, 0]],
+    ),
+    (
+        "3*A + 2 >= 0",
+        &[Is([2, 3, 0, 0], Ge, [0, 0, 0, 0])],
+        &[[0, 1, 0]],
+    ),
+    (
+        "-2*A - 3 >= 0",
+        &[Is([-3, -2, 0, 0], Ge, [0, 0, 0, 0])],
+        &[[-2, -1, 0]],
+    ),
+    (
+        "9*C - 6*A - 10 >= 0",
+        &[Is([-10, -6, 9, 0], Ge, [0, 0, 0, 0])],
+        &[[-4, -2, 3]],
+    ),
+    (
+        "6*A + 5*C >= 6*A + 1",
+        &[Is([0, 6, 5, 0], Ge, [1, 6, 0, 0])],
+        &[[-1, 0, 1]],
+    ),
+    // Where no coefficient is left the row says nothing, or no point meets it.
+    (
+        "0 >= 1",
+        &[Is([0, 0, 0, 0], Ge, [1, 0, 0, 0])],
+        &[[-1, 0, 0]],
+    ),
+    (
+        "0 >= 5",
+        &[Is([0, 0, 0, 0], Ge, [5, 0, 0, 0])],
+        &[[-1, 0, 0]],
+    ),
+    (
+        "0 > 0",
+        &[Is([0, 0, 0, 0], Gt, [0, 0, 0, 0])],
+        &[[-1, 0, 0]],
+    ),
+    ("0 < 1", &[Is([0, 0, 0, 0], Lt, [1, 0, 0, 0])], &[]),
+    ("0 = 0", &[Is([0, 0, 0, 0], Eq, [0, 0, 0, 0])], &[]),
+    (
+        "0 = 2",
+        &[Is([0, 0, 0, 0], Eq, [2, 0, 0, 0])],
+        &[[-1, 0, 0]],
+    ),
+    // Degree 2 gives no row, unless the squares cancel.
+    ("A*A >= 4", &[Is([0, 0, 0, 1], Ge, [4, 0, 0, 0])], &[]),
+    (
+        "A*A + 2*A > A*A",
+        &[Is([0, 2, 0, 1], Gt, [0, 0, 0, 1])],
+        &[[-1, 1, 0]],
+    ),
+    (
+        "C >= 0 and TRUE and A*A = C and A < C",
+        &[
+            Is([0, 0, 1, 0], Ge, [0, 0, 0, 0]),
+            True,
+            Is([0, 0, 0, 1], Eq, [0, 0, 1, 0]),
+            Is([0, 1, 0, 0], Lt, [0, 0, 1, 0]),
+        ],
+        &[[0, 0, 1], [-1, -1, 1]],
+    ),
+    // Numbers at 2^63-1.
+    (
+        "m*A >= 1 and m*A <= m and A >= m",
+        &[
+            Is([0, MOST, 0, 0], Ge, [1, 0, 0, 0]),
+            Is([0, MOST, 0, 0], Le, [MOST, 0, 0, 0]),
+            Is([0, 1, 0, 0], Ge, [MOST, 0, 0, 0]),
+        ],
+        &[[-1, 1, 0], [1, -1, 0], [LEAST, 1, 0]],
+    ),
+    (
+        "m*A - C = m",
+        &[Is([0, MOST, -1, 0], Eq, [MOST, 0, 0, 0])],
+        &[[LEAST, MOST, -1], [MOST, LEAST, 1]],
+    ),
+];
+
+// Whether a guard has these rows.
+fn has_rows(alloc: Global, guard: &[Part], wanted: &[[i128; 3]]) -> Result<bool, AllocError> {
+    match prepared(alloc, &rule(alloc, &[], guard)?)? {
+        Some(found) => Ok(found.left == 1 && found.rows == forms_in_two(alloc, wanted)?),
+        None => Ok(false),
+    }
+}
+
+fn check_guards(alloc: Global, wrong: &mut String) -> Result<(), AllocError> {
+    for (i, (text, guard, wanted)) in GUARDS.iter().enumerate() {
+        note_unless(alloc, wrong, has_rows(alloc, guard, wanted)?, text, i)?;
     }
     Ok(())
 }
@@ -299,7 +304,7 @@ struct Case {
     polys: &'static [Written],
 }
 
-const CASES: [Case; 5] = [
+const CASES: &[Case] = &[
     Case {
         updates: &[],
         bent: &[],
@@ -345,30 +350,34 @@ const CASES: [Case; 5] = [
     },
 ];
 
-#[test]
-fn the_unknowns_of_bent_updates_come_last(rt: HostRuntime) -> Result<(), Fail> {
-    let alloc = rt.alloc();
+// Whether what is prepared of a rule is as a table writes it.
+fn is_case(alloc: Global, found: &RuleRows, case: &Case) -> Result<bool, AllocError> {
+    let rows = forms(alloc, &[case.row])?;
+    let news = forms(alloc, case.news)?;
+    let counted = found.left == 1 && found.unknowns as usize == case.row.len().saturating_sub(1);
+    let formed = found.rows == rows && found.news == news;
+    Ok(
+        counted
+            && formed
+            && found.bent.as_slice() == case.bent
+            && are_as_written(&found.polys, case.polys),
+    )
+}
+
+fn check_updates(alloc: Global, wrong: &mut String) -> Result<(), AllocError> {
     let guard = [Is([0, 1, 0, 0], Gt, [0, 0, 1, 0])];
     for (i, case) in CASES.iter().enumerate() {
-        let found = prepared(alloc, &rule(alloc, case.updates, &guard)?)?.ok_or("no rows")?;
-        assert_eq!(rt;
-            found.unknowns as usize,
-            case.row.len().saturating_sub(1),
-            "case {i}"
-        );
-        assert_eq!(rt; found.left, 1, "case {i}");
-        assert!(rt; are_as_written(&found.polys, case.polys), "case {i}");
-        assert_eq!(rt; found.bent.as_slice(), case.bent, "case {i}");
-        assert_eq!(rt;
-            found.rows.as_slice(),
-            forms(alloc, &[case.row])?.as_slice(),
-            "case {i}"
-        );
-        assert_eq!(rt;
-            found.news.as_slice(),
-            forms(alloc, case.news)?.as_slice(),
-            "case {i}"
-        );
+        let right = match prepared(alloc, &rule(alloc, case.updates, &guard)?)? {
+            Some(found) => is_case(alloc, &found, case)?,
+            None => false,
+        };
+        note_unless(alloc, wrong, right, "updates", i)?;
     }
     Ok(())
+}
+
+/// Notes what is wrong in the tables of this module.
+pub(crate) fn check(alloc: Global, wrong: &mut String) -> Result<(), AllocError> {
+    check_guards(alloc, wrong)?;
+    check_updates(alloc, wrong)
 }

@@ -1,8 +1,8 @@
 //! Expansion beside a plain and slow one: the same polynomial, or the same fault, for many trees.
 
+use crate::wrong::note_unless;
 use poly_terms::{Expr, Monomial, Poly, PolyError, expand};
 use std::alloc::{AllocError, Global};
-use std::test::Fail;
 
 // The monomials of an expanded expression, in any order, or its first fault.
 fn plain(alloc: Global, e: &Expr) -> Result<Vec<Monomial>, PolyError> {
@@ -205,31 +205,61 @@ fn any_tree(alloc: Global, seed: &mut u32, choices: u32) -> Result<Expr, AllocEr
     Ok(operand(&mut stack, seed))
 }
 
-#[test]
-fn many_trees_expand_as_a_plain_expansion_does(rt: HostRuntime) -> Result<(), Fail> {
-    let alloc = rt.alloc();
-    let (mut whole, mut large, mut other) = (0u32, 0u32, 0u32);
+// How often trees expanded to a polynomial, to too large a coefficient and to another fault.
+#[derive(Clone, Copy)]
+struct Tally {
+    whole: u32,
+    large: u32,
+    other: u32,
+}
+
+// Whether an answer is what a plain expansion gives.
+fn is_plain(answer: &Result<Poly, PolyError>, wanted: &Result<Vec<Monomial>, PolyError>) -> bool {
+    match (answer, wanted) {
+        (Ok(p), Ok(terms)) => is_same(p, terms),
+        (Err(error), Err(other)) => error == other,
+        _ => false,
+    }
+}
+
+// The tally with one answer more.
+fn tallied(tally: Tally, answer: &Result<Poly, PolyError>) -> Tally {
+    let mut more = tally;
+    match answer {
+        Ok(_) => more.whole = tally.whole.saturating_add(1),
+        Err(PolyError::CoefTooLarge) => more.large = tally.large.saturating_add(1),
+        Err(_) => more.other = tally.other.saturating_add(1),
+    }
+    more
+}
+
+// Expands 2,000 trees.
+fn check_trees(alloc: Global, wrong: &mut String) -> Result<Tally, AllocError> {
+    let mut tally = Tally {
+        whole: 0,
+        large: 0,
+        other: 0,
+    };
     let mut seed = 1;
     for i in 0..2000u32 {
         let e = any_tree(alloc, &mut seed, i % 40)?;
         let answer = expand(alloc, &e);
-        let wanted = plain(alloc, &e);
-        let agree = match (&answer, &wanted) {
-            (Ok(p), Ok(terms)) => is_same(p, terms),
-            (Err(error), Err(other)) => error == other,
-            _ => false,
-        };
-        assert!(rt; agree, "{e:?}: {answer:?}, {wanted:?}");
-        match answer {
-            Ok(_) => whole = whole.saturating_add(1),
-            Err(PolyError::CoefTooLarge) => large = large.saturating_add(1),
-            Err(_) => other = other.saturating_add(1),
-        }
+        note_unless(
+            alloc,
+            wrong,
+            is_plain(&answer, &plain(alloc, &e)),
+            "tree",
+            i as usize,
+        )?;
+        tally = tallied(tally, &answer);
     }
-    // Each answer comes often enough to tell something.
-    assert!(rt;
-        whole > 200 && large > 50 && other > 50,
-        "{whole}, {large}, {other}"
-    );
-    Ok(())
+    Ok(tally)
+}
+
+/// Notes which trees expand to something else than by a plain expansion, and whether an answer comes too rarely to tell
+/// something.
+pub(crate) fn check(alloc: Global, wrong: &mut String) -> Result<(), AllocError> {
+    let tally = check_trees(alloc, wrong)?;
+    let often = tally.whole > 200 && tally.large > 50 && tally.other > 50;
+    note_unless(alloc, wrong, often, "tally", 0)
 }

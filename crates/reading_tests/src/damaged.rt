@@ -1,7 +1,7 @@
 //! Texts that were damaged at random, with what a plain slow reading of the grammar, which collects all refusals and
-//! takes the first, says of each.
+//! takes the first, says of each; `bench/reading_check` compares many more.
 
-use crate::told::told;
+use crate::made::{Frame, differences};
 use std::test::Fail;
 
 const FIRST: &[(&[u8], &str)] = &[
@@ -419,14 +419,11 @@ const FOURTH: &[(&[u8], &str)] = &[
 #[test]
 fn damaged_texts_come_to_what_a_slow_reading_says(rt: HostRuntime) -> Result<(), Fail> {
     let alloc = rt.alloc();
-    for table in [FIRST, SECOND, THIRD, FOURTH] {
-        for (text, outcome) in table {
-            assert_eq!(rt;
-                told(alloc, text)?.as_slice(),
-                outcome.as_bytes(),
-                "at {outcome}"
-            );
-        }
+    for rows in [FIRST, SECOND, THIRD, FOURTH] {
+        assert_eq!(rt;
+            differences(alloc, Frame::Whole, rows)?.as_slice(),
+            b"".as_slice()
+        );
     }
     Ok(())
 }

@@ -1,218 +1,139 @@
 //! Each limit at its edge: texts with as many parts as may be are read, and with one more they are refused where the
 //! one too many stands.
 
-use crate::told::told;
-use itoa::Buffer;
-use std::alloc::{AllocError, Global};
+use crate::made::{Frame, differences};
 use std::test::Fail;
 
-// Which byte a refusal names: the first of the last part, the first of all parts, the last of all parts, or the first
-// behind them.
-#[derive(Clone, Copy)]
-enum Spot {
-    LastPart,
-    FirstPart,
-    LastByte,
-    Behind,
-}
-
-// A text of parts: what stands before them, a part, where `#` stands for its number, and between two parts; as many as
-// may be; what stands behind; and how one more is refused.
-struct Edge {
-    before: &'static str,
-    part: &'static str,
-    between: &'static str,
-    most: usize,
-    behind: &'static str,
-    refused: &'static str,
-    spot: Spot,
-}
-
-const EDGES: [Edge; 12] = [
-    Edge {
-        before: "",
-        part: "l0()->l0()",
-        between: " ",
-        most: 1000,
-        behind: "",
-        refused: "Limit Rules",
-        spot: Spot::LastPart,
-    },
-    Edge {
-        before: "l0(",
-        part: "A#",
-        between: ",",
-        most: 32,
-        behind: ")->l1()",
-        refused: "Limit Arity",
-        spot: Spot::LastPart,
-    },
-    Edge {
-        before: "l0(A)->l1(",
-        part: "A",
-        between: ",",
-        most: 32,
-        behind: ")",
-        refused: "Limit Arity",
-        spot: Spot::LastPart,
-    },
-    Edge {
-        before: "l0()->l1()[0<=",
-        part: "A#",
-        between: "+",
-        most: 64,
-        behind: "]",
-        refused: "Limit Variables",
-        spot: Spot::LastPart,
-    },
-    Edge {
-        before: "l0(A)->l1():|:",
-        part: "A>#",
-        between: "&&",
-        most: 64,
-        behind: "",
-        refused: "Limit Atoms",
-        spot: Spot::LastPart,
-    },
-    Edge {
-        before: "l0(",
-        part: "A",
-        between: "",
-        most: 256,
-        behind: ")->l1()",
-        refused: "Limit Name",
-        spot: Spot::FirstPart,
-    },
-    Edge {
-        before: "l0(A)->l1(",
-        part: "-",
-        between: "",
-        most: 1023,
-        behind: "1)",
-        refused: "Limit Tokens",
-        spot: Spot::Behind,
-    },
-    Edge {
-        before: "l0(A)->l1(A)[0>=",
-        part: "1",
-        between: "+",
-        most: 512,
-        behind: "]",
-        refused: "Limit Tokens",
-        spot: Spot::LastPart,
-    },
-    Edge {
-        before: "l0(A,B,C,D,E,F,G,H,I,J,K,L,M,N,O)->l1((A+B+C+D+E+F+G+H)*(",
-        part: "I*A#",
-        between: "+",
-        most: 8,
-        behind: "))",
-        refused: "Limit Terms",
-        spot: Spot::Behind,
-    },
-    Edge {
-        before: "l0(A)->l1(",
-        part: "A",
-        between: "*",
-        most: 8,
-        behind: ")",
-        refused: "Limit Degree",
-        spot: Spot::LastByte,
-    },
-    Edge {
-        before: "l0(A)->l1(9223372036854775805",
-        part: "+1",
-        between: "",
-        most: 2,
-        behind: ")",
-        refused: "NumberTooLarge",
-        spot: Spot::LastByte,
-    },
-    Edge {
-        before: "l0(A)->l1(A)[1>A+",
-        part: "4611686018427387904",
-        between: "+",
-        most: 1,
-        behind: "]",
-        refused: "NumberTooLarge",
-        spot: Spot::LastByte,
-    },
+const RULES: &[(&[u8], &str)] = &[
+    // Rules, also behind guards.
+    (b"%1000:l0()->l0() %", ""),
+    (b"%1000:l0()->l0() %@l0()->l0()", "Limit Rules"),
+    (b"%1000:l0()->l0() :|: %@l0()->l0()", "Limit Rules"),
+    (
+        b"%999:l0()->l0() %l0()->l0() :|: TRUE @l0()->l0()",
+        "Limit Rules",
+    ),
+    (
+        b"%999:l0()->l0() %l0()->l0() :|: 0<1 @l0()->l0()",
+        "Limit Rules",
+    ),
+    (b"%999:l0()->l0() %l0()->l0() [] @l0()->l0()", "Limit Rules"),
+    // Arguments on the left and on the right.
+    (b"l0(A%31:,A#%)->l1()", ""),
+    (b"l0(A%31:,A#%,@B)->l1()", "Limit Arity"),
+    (b"l0(A)->l1(A%31:,A%)", ""),
+    (b"l0(A)->l1(A%31:,A%,@A+1)", "Limit Arity"),
+    (b"l0(A)->Com_1(l1(A%31:,A%,@-A))", "Limit Arity"),
+    // Variables on the left, on the right and in guards.
+    (b"l0()->l1()[0<=0%64:+A#%]", ""),
+    (b"l0()->l1()[0<=0%64:+A#%+@B]", "Limit Variables"),
+    (b"l0(A%31:,A#%)->l1(B%31:+B#%,A+B)", ""),
+    (b"l0(A%31:,A#%)->l1(B%31:+B#%,@C)", "Limit Variables"),
+    (
+        b"l0(A%31:,A#%)->l1(B%30:+B#%):|:C>0&&@D>0",
+        "Limit Variables",
+    ),
+    (b"l0(A%31:,A#%)->l1(B%30:+B#%):|:true>0&&true", ""),
+    (
+        b"l0(A%31:,A#%)->l1(B%30:+B#%):|:true>0&&@TRUE>0",
+        "Limit Variables",
+    ),
+    // Atoms.
+    (b"l0(A)->l1():|:A>0%63:&&A>#%", ""),
+    (b"l0(A)->l1():|:A>0%63:&&A>#%&&@A>0", "Limit Atoms"),
+    (b"l0(A)->l1()[TRUE%63:/\\TRUE%]", ""),
+    (b"l0(A)->l1()[TRUE%63:/\\TRUE%/\\@TRUE]", "Limit Atoms"),
+    // Names of symbols and of variables.
+    (
+        b"l0(%256:a%)->%256:b%(%256:c%) %256:d%()->l0(0)[%256:e%>0]",
+        "",
+    ),
+    (b"l0(@%257:a%)->l1()", "Limit Name"),
+    (b"l0(A)->@%257:a%()", "Limit Name"),
+    (b"l0(A)->Com_1(@%257:a%())", "Limit Name"),
+    (b"l0(A)->l1()@%257:a%()->l1()", "Limit Name"),
+    (b"l0(A)->l1(A+@%257:a%)", "Limit Name"),
+    (b"l0(A)->l1():|:@%257:a%>0", "Limit Name"),
+    (b"l0(A)->l1()[A>@%257:a%]", "Limit Name"),
+    // Tokens of an argument and of a side of an atom.
+    (
+        b"l0(A)->l1(%1023:-%1,%1023:-%1)[%1023:-%1>=%1023:-%1&&0<=1]",
+        "",
+    ),
+    (b"l0(A)->l1(%1024:-%@1)", "Limit Tokens"),
+    (b"l0(A)->l1(%512:1+%@1)", "Limit Tokens"),
+    (b"l0(A)->l1(-%511:1+%1@+1)", "Limit Tokens"),
+    (b"l0(A)->l1(%1024:(%@A%1024:)%)", "Limit Tokens"),
+    (b"l0(A)->l1(%511:(%1*A%510:)%@)", "Limit Tokens"),
+    (b"l0(A)->l1(%510:(%1*-A%510:)%)", ""),
+    (b"l0(A)->l1()[%1024:-%@1>=1]", "Limit Tokens"),
+    (b"l0(A)->l1()[1>=%1024:-%@1]", "Limit Tokens"),
+    // Monomials.
+    (
+        b"l0(%15:A#,%B)->l1((A0+A1+A2+A3+A4+A5+A6+A7)*(A8+A9+A10+A11+A12+A13+A14)%8:+B#%)",
+        "",
+    ),
+    (
+        b"l0(%15:A#,%B)->l1((A0+A1+A2+A3+A4+A5+A6+A7)*(A8+A9+A10+A11+A12+A13+A14)%8:+B#%+@B)",
+        "Limit Terms",
+    ),
+    (b"l0(A)->l1()[A%62:+B#%>0]", ""),
+    (b"l0(A)->l1()[A%63:+B#%>@1]", "Limit Terms"),
+    (b"l0(A)->l1()[A%63:+B#%>@0]", "Limit Terms"),
+    (b"l0(A)->l1()[A%63:+B#%>=0]", ""),
+    // The degree.
+    (
+        b"l0(A)->l1(A*A*A*A*A*A*A*A,A^8,(A^4)^2,(A*B)^4)[A^4*B^4>0]",
+        "",
+    ),
+    (b"l0(A)->l1(A*A*A*A*A*A*A*A*@A)", "Limit Degree"),
+    (b"l0(A)->l1(A^@9)", "Limit Degree"),
+    (b"l0(A)->l1((A^3)^@3)", "Limit Degree"),
+    (b"l0(A)->l1((A*B)^@5)", "Limit Degree"),
+    (b"l0(A)->l1()[A^8>B^@9]", "Limit Degree"),
+    // Literals, and coefficients that are expanded.
+    (
+        b"l0(A)->l1(9223372036854775807,0009223372036854775807,A*9223372036854775807)[9223372036854775807>A]",
+        "",
+    ),
+    (b"l0(A)->l1(@9223372036854775808)", "NumberTooLarge"),
+    (b"l0(A)->l1(@0009223372036854775808)", "NumberTooLarge"),
+    (b"l0(A)->l1(-@9223372036854775808)", "NumberTooLarge"),
+    (b"l0(A)->l1(A^@9223372036854775808)", "NumberTooLarge"),
+    (b"l0(A)->l1()[A<@9223372036854775808]", "NumberTooLarge"),
+    (b"l0(A)->l1(9223372036854775806+1)", ""),
+    (b"l0(A)->l1(9223372036854775806+@2)", "NumberTooLarge"),
+    (b"l0(A)->l1(A-9223372036854775807,-9223372036854775807)", ""),
+    (b"l0(A)->l1(-9223372036854775807-@1)", "NumberTooLarge"),
+    (b"l0(A)->l1(3037000499*3037000499*A)", ""),
+    (b"l0(A)->l1(3037000500*3037000500*@A)", "NumberTooLarge"),
+    (b"l0(A)->l1()[A>9223372036854775806]", ""),
+    (b"l0(A)->l1()[A>922337203685477580@7]", "NumberTooLarge"),
+    (b"l0(A)->l1()[1>A+4611686018427387904]", ""),
+    (
+        b"l0(A)->l1()[1>A+4611686018427387904+461168601842738790@4]",
+        "NumberTooLarge",
+    ),
 ];
 
-// A text, with the first bytes of its last part and of what stands behind all parts.
-#[derive(Drop)]
-struct Made {
-    text: Vec<u8>,
-    first: usize,
-    last: usize,
-    behind: usize,
-}
-
-// A part; `#` stands for its number.
-fn push_part(text: &mut Vec<u8>, part: &str, number: usize) -> Result<(), AllocError> {
-    let mut buffer = Buffer::new();
-    for byte in part.as_bytes() {
-        if *byte == b'#' {
-            text.extend_from_slice(buffer.format(number).as_bytes())?;
-        } else {
-            text.push(*byte)?;
-        }
-    }
-    Ok(())
-}
-
-// The text with so many parts.
-fn text_with(alloc: Global, edge: &Edge, count: usize) -> Result<Made, AllocError> {
-    let mut text = b"(STARTTERM (FUNCTIONSYMBOLS l0))(RULES ".to_vec(alloc)?;
-    text.extend_from_slice(edge.before.as_bytes())?;
-    let first = text.len();
-    let mut last = first;
-    for number in 0..count {
-        if number > 0 {
-            text.extend_from_slice(edge.between.as_bytes())?;
-        }
-        last = text.len();
-        push_part(&mut text, edge.part, number)?;
-    }
-    let behind = text.len();
-    text.extend_from_slice(edge.behind.as_bytes())?;
-    text.push(b')')?;
-    Ok(Made {
-        text,
-        first,
-        last,
-        behind,
-    })
-}
-
-// The refusal of a text with one part too many.
-fn refusal(alloc: Global, edge: &Edge, longer: &Made) -> Result<Vec<u8>, AllocError> {
-    let mut buffer = Buffer::new();
-    let at = match edge.spot {
-        Spot::LastPart => longer.last,
-        Spot::FirstPart => longer.first,
-        Spot::LastByte => longer.behind.saturating_sub(1),
-        Spot::Behind => longer.behind,
-    };
-    let mut text = edge.refused.as_bytes().to_vec(alloc)?;
-    text.extend_from_slice(b" at ")?;
-    text.extend_from_slice(buffer.format(at).as_bytes())?;
-    Ok(text)
-}
+const WHOLE: &[(&[u8], &str)] = &[
+    // The start symbol, and a listed name.
+    (
+        b"(STARTTERM(FUNCTIONSYMBOLS %256:a%))(VAR %256:b%)(RULES %256:a%()->l0())",
+        "",
+    ),
+    (
+        b"(STARTTERM(FUNCTIONSYMBOLS @%257:a%))(RULES l0()->l0())",
+        "Limit Name",
+    ),
+    (b"(VAR A @%257:a%)", "Limit Name"),
+];
 
 #[test]
 fn limits_stand_at_their_edges(rt: HostRuntime) -> Result<(), Fail> {
     let alloc = rt.alloc();
-    for edge in &EDGES {
-        let before = edge.before;
-        let whole = text_with(alloc, edge, edge.most)?;
-        assert!(rt;
-            told(alloc, &whole.text)?.starts_with(b"l0/"),
-            "at {before}"
-        );
-        let more = text_with(alloc, edge, edge.most.saturating_add(1))?;
-        let outcome = refusal(alloc, edge, &more)?;
-        assert_eq!(rt; told(alloc, &more.text)?, outcome, "at {before}");
+    for (frame, rows) in [(Frame::Rules, RULES), (Frame::Whole, WHOLE)] {
+        assert_eq!(rt; differences(alloc, frame, rows)?.as_slice(), b"".as_slice());
     }
     Ok(())
 }

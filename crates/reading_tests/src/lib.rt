@@ -6,6 +6,14 @@ mod damaged;
 #[cfg(test)]
 mod edges;
 #[cfg(test)]
+mod forms;
+#[cfg(test)]
+mod full;
+#[cfg(test)]
+mod made;
+#[cfg(test)]
+mod pairs;
+#[cfg(test)]
 mod prefixes;
 #[cfg(test)]
 mod small;

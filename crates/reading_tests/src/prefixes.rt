@@ -1,15 +1,17 @@
 //! Every beginning of three long texts: with it the text breaks off, or the first refusal stands inside it.
 
+use crate::made::wanted_at;
 use crate::told::told;
-use itoa::Buffer;
-use std::alloc::Global;
+use std::alloc::{AllocError, Global};
 use std::test::Fail;
 
 const FIRST: &[u8] =
-    b"(GOAL COMPLEXITY)\n(COMMENT nested (loops))\n(STARTTERM (FUNCTIONSYMBOLS f))\n(VAR A B)\n(RULES\n f(A, B) -> Com_1(g(A, B)) [ TRUE ]\n g(A,B) -> g(B*(A-1)^2, -A) :|: TRUE && A+1 == B-C /\\ true\n h() -> f(1,2) :|: \n i(A)-> h() []\n)";
+    b"(GOAL COMPLEXITY)\n(COMMENT nested (loops))\n(STARTTERM (FUNCTIONSYMBOLS f))\n(VAR A B)\n(RULES\n \
+      f(A, B) -> Com_1(g(A, B)) [ TRUE ]\n g(A,B) -> g(B*(A-1)^2, -A) :|: TRUE && A+1 == B-C /\\ true\n \
+      h() -> f(1,2) :|: \n i(A)-> h() []\n)";
 
 // Up to beginnings of so many bytes: what stands first, and at which byte; none where that is the end.
-const FIRST_ENDS: &[(usize, &str, Option<u64>)] = &[
+const FIRST_ENDS: &[(usize, &str, Option<usize>)] = &[
     (0, "MissingSection", None),
     (1, "Syntax", None),
     (4, "Syntax", Some(1)),
@@ -53,10 +55,11 @@ const FIRST_ENDS: &[(usize, &str, Option<u64>)] = &[
 ];
 
 const SECOND: &[u8] =
-    b"(STARTTERM (FUNCTIONSYMBOLS l0))(RULES l0(A,B) -> Com_1(l1(A,B)) l1(A,B) -> Com_1(l2(A,A)) :|: A >= 1 l2(A,B) -> Com_1(l2(A,B-1)) :|: B >= 1 && A > C /\\ D = 2 l2(A,B) -> Com_1(l1(A-1,B)) [B <= 0])";
+    b"(STARTTERM (FUNCTIONSYMBOLS l0))(RULES l0(A,B) -> Com_1(l1(A,B)) l1(A,B) -> Com_1(l2(A,A)) :|: A >= 1 \
+      l2(A,B) -> Com_1(l2(A,B-1)) :|: B >= 1 && A > C /\\ D = 2 l2(A,B) -> Com_1(l1(A-1,B)) [B <= 0])";
 
 // Up to beginnings of so many bytes: what stands first, and at which byte; none where that is the end.
-const SECOND_ENDS: &[(usize, &str, Option<u64>)] = &[
+const SECOND_ENDS: &[(usize, &str, Option<usize>)] = &[
     (0, "MissingSection", None),
     (1, "Syntax", None),
     (9, "Syntax", Some(1)),
@@ -89,7 +92,7 @@ const THIRD: &[u8] =
     b"(RULES f(A) -> f(A*3037000500*3037000500 + 1) [A < 2] g(Q) -> Com_2(f(Q), f(Q)))(STARTTERM (FUNCTIONSYMBOLS f))";
 
 // Up to beginnings of so many bytes: what stands first, and at which byte; none where that is the end.
-const THIRD_ENDS: &[(usize, &str, Option<u64>)] = &[
+const THIRD_ENDS: &[(usize, &str, Option<usize>)] = &[
     (0, "MissingSection", None),
     (1, "Syntax", None),
     (5, "Syntax", Some(1)),
@@ -101,40 +104,45 @@ const THIRD_ENDS: &[(usize, &str, Option<u64>)] = &[
     (110, "NumberTooLarge", Some(43)),
 ];
 
-// What a beginning of so many bytes comes to.
-fn expected(
+// What a beginning of so many bytes is to come to.
+fn wanted_of(
     alloc: Global,
-    ends: &[(usize, &str, Option<u64>)],
+    ends: &[(usize, &str, Option<usize>)],
     length: usize,
-) -> Result<Vec<u8>, Fail> {
+) -> Result<Vec<u8>, AllocError> {
     for (last, kind, at) in ends {
         if length <= *last {
-            let mut buffer = Buffer::new();
-            let mut text = kind.as_bytes().to_vec(alloc)?;
-            text.extend_from_slice(b" at ")?;
-            let byte = at.unwrap_or(length as u64);
-            text.extend_from_slice(buffer.format(byte).as_bytes())?;
-            return Ok(text);
+            return wanted_at(alloc, kind, Some(at.unwrap_or(length)));
         }
     }
     Ok(Vec::new(alloc))
 }
 
+// How many beginnings of a text come to something else than is wanted.
+fn count_of_others(
+    alloc: Global,
+    text: &[u8],
+    ends: &[(usize, &str, Option<usize>)],
+) -> Result<usize, Fail> {
+    let mut others = 0usize;
+    for length in 0..text.len() {
+        let told = told(alloc, &text[..length])?;
+        if told != wanted_of(alloc, ends, length)? {
+            others = others.saturating_add(1);
+        }
+    }
+    Ok(others)
+}
+
 #[test]
 fn beginnings_are_refused_where_they_break_off(rt: HostRuntime) -> Result<(), Fail> {
     let alloc = rt.alloc();
-    for (text, ends) in [
-        (FIRST, FIRST_ENDS),
-        (SECOND, SECOND_ENDS),
-        (THIRD, THIRD_ENDS),
-    ] {
-        for length in 0..text.len() {
-            let Some(beginning) = text.get(..length) else {
-                continue;
-            };
-            let outcome = expected(alloc, ends, length)?;
-            assert_eq!(rt; told(alloc, beginning)?, outcome, "at {length}");
-        }
-    }
+    let first = count_of_others(alloc, FIRST, FIRST_ENDS)?;
+    let second = count_of_others(alloc, SECOND, SECOND_ENDS)?;
+    let third = count_of_others(alloc, THIRD, THIRD_ENDS)?;
+    assert!(rt;
+        first == 0 && second == 0 && third == 0,
+        "{first}, {second}, {third}"
+    );
     Ok(())
 }

@@ -167,6 +167,11 @@ fn limit(kind: LimitKind) -> &'static [u8] {
 
 fn push_refusal(out: &mut Vec<u8>, kind: &[u8], at: u64) -> Result<(), AllocError> {
     out.extend_from_slice(kind)?;
+    push_at(out, at)
+}
+
+/// The byte of a refusal.
+pub(crate) fn push_at(out: &mut Vec<u8>, at: u64) -> Result<(), AllocError> {
     out.extend_from_slice(b" at ")?;
     push_number(out, at as i128)
 }
