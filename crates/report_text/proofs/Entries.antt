@@ -1,4 +1,5 @@
 -- The lines of an outcome's entries are those of its report.
+use Rattle.proof_nodes.specs.Gaps.{Gap as PlainGap}
 use Rattle.std.proofs.Common.{◌≡◌, ℕ, zero, suc, ◌≤◌, ◌-◌, get_or, arith, Bool, cond, List, [], ◌∷◌, ◌++◌, length, map, codes, refl, sym, ◌∙◌, ap, subst, append_assoc}
 use Rattle.std.specs.Prelude.{decimal}
 use Rattle.std.specs.List.{list_all}
@@ -15,7 +16,6 @@ use Rattle.report_text.specs.Reports.{headline, time_line, size_line, size_lines
 use Rattle.outcome.specs.Printing.{HasItsGap}
 use Rattle.report_text.specs.Conditions.{is_known, headline_of, entry_line}
 use Rattle.report_text.specs.Reasons.{gap_text}
-use Rattle.proof_nodes.specs.Gaps.{Gap as PlainGap}
 use Rattle.report_text.proofs.Lists.{numbered_same}
 
 -- the line of an entry is that of its time

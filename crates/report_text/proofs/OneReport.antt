@@ -1,7 +1,7 @@
 -- A text states one report at most: it is read line by line from the front.
-use Rattle.std.proofs.Common.{◌≡◌, ℕ, zero, suc, ◌+◌, ◌^◌, ◌≤◌, ◌⊎◌, inl, inr, ◌||◌, List, [], ◌∷◌, ◌++◌, length, map, get_or, drop, nat_lt, slice_get, IsTrue, refl, sym, ◌∙◌, ap, subst, append_assoc, arith}
-use Rattle.std.specs.List.{AllByRecursion, list_all, list_any}
-use Rattle.model.specs.Programs.{Name, Symbol, Rule, Program, arity_in, arity_of}
+use Rattle.std.proofs.Common.{◌≡◌, ℕ, zero, suc, ◌+◌, ◌^◌, ◌≤◌, List, [], ◌∷◌, ◌++◌, length, map, get_or, drop, slice_get, refl, sym, ◌∙◌, ap, append_assoc, arith}
+use Rattle.std.specs.List.{AllByRecursion, list_all}
+use Rattle.model.specs.Programs.{Symbol, Rule, Program, arity_in, arity_of}
 use Rattle.text_core.specs.Names.{AreNames}
 use Rattle.its_model.specs.Valid.{IsValid, IsValidSymbol}
 use Rattle.outcome.specs.Reports.{Size, Report, is_timed}
@@ -11,9 +11,8 @@ use Rattle.report_text.specs.States.{States}
 use Rattle.report_text.specs.Printable.{IsPrintableSize, IsPrintableReport}
 use Rattle.report_text.specs.OneReport.{TextsStateOneReport}
 use Rattle.report_text.proofs.SymbolNames.{names_of, are_names, valid_names}
-use Rattle.report_text.proofs.GapLines.{Whys}
 use Rattle.report_text.proofs.EntryLines.{SizesSaySame, headline_told, times_say, rows_say, total_told}
-use Rattle.report_text.proofs.WhyLines.{FitsRow, sizes_no_time, whys_times, why_times_told, why_sizes_told}
+use Rattle.report_text.proofs.WhyLines.{FitsRow, sizes_no_time, why_times_told, why_sizes_told}
 use Rattle.report_text.proofs.Numbered.{Pairs}
 
 -- symbols have few places
@@ -53,17 +52,6 @@ rows_many p [] (rule ∷ rules) e = absurd cc
 rows_many p (row ∷ rows) [] e = absurd cc
 rows_many p (row ∷ rows) (rule ∷ rules) e = ap suc (rows_many p rows rules (ap (drop 1) e))
 
--- where a target has a place, the lines of places are no reason
-rows_seen : (p : Program) (names : List Name) (n : ℕ) (rows : List (List Size)) (rules : List Rule) → HasPlaces p rows rules
-    → IsTrue (list_any (λ rule. nat_lt 0 (arity_of p rule.target)) rules) → (u v : List ℕ) → Whys u → u ≡ numbered (size_lines names) n rows ++ v → ⊥
-rows_seen p names n rows [] e some u v h same = cc
-rows_seen p names n [] (rule ∷ rules) e some u v h same = cc
-rows_seen p names n ([] ∷ rows) (rule ∷ rules) e some u v h same =
-    let none : 0 ≡ arity_of p rule.target = ap (λ (xs : List ℕ). get_or xs 0 0) e in
-    rows_seen p names (suc n) rows rules (ap (drop 1) e)
-    (ap (λ (k : ℕ). nat_lt 0 k || list_any (λ (rule : Rule). nat_lt 0 (arity_of p rule.target)) rules) none ∙ some) u v h same
-rows_seen p names n ((s ∷ row) ∷ rows) (rule ∷ rules) e some u v h same = let no : 115 ≡ 119 = subst Whys same h in omega (arith, no)
-
 -- entries that fit, and short rows, are rows that fit
 rows_fit : (p : Program) (rows : List (List Size)) → AllByRecursion (AllByRecursion (IsPrintableSize p)) rows → AllByRecursion (λ row. 1 + length row ≤ 2 ^ 64) rows → AllByRecursion (FitsRow p) rows
 rows_fit p [] f g = tt
@@ -93,13 +81,6 @@ record SizesTold (p : Program) (rs ss : List (List Size)) (u v : List ℕ) : Typ
   pub less : 1 + length ss ≤ 2 ^ 64
   pub rest : u ≡ v
 
--- where there are none, nothing is said
-none_told : (p : Program) (rs ss : List (List Size)) (u v : List ℕ) → rs ≡ [] → ss ≡ []
-    → numbered (size_lines p.start_names) 1 rs ++ u ≡ numbered (size_lines p.start_names) 1 ss ++ v → SizesTold p rs ss u v
-none_told p [] [] u v a b e = record { say = tt; left = tt; right = tt; few = omega arith; less = omega arith; rest = e }
-none_told p [] (y ∷ ss) u v a b e = absurd cc
-none_told p (x ∷ rs) ss u v a b e = absurd cc
-
 module _ (p : Program) (valid : IsValid p) where
   -- the names of the start arguments differ
   starts : AreNames p.start_names
@@ -113,15 +94,11 @@ module _ (p : Program) (valid : IsValid p) where
   abbrev reasons : Report → List ℕ
   reasons r = numbered (why_time p.symbols) 1 r.times ++ numbered why_sizes 1 r.sizes
 
-  -- they are reasons
-  reasons_why : (r : Report) → Whys (reasons r)
-  reasons_why r = whys_times p 1 r.times (numbered why_sizes 1 r.sizes) (sizes_no_time 0 1 r.sizes).whys
-
   -- as many lines as rules are few
   few_lines : (n : ℕ) → n ≡ length p.rules → 1 + n ≤ 2 ^ 64
   few_lines n e = let few = valid.few_rules in omega (arith, few, e)
 
-  -- the sizes of two reports that have them
+  -- the sizes of two reports
   rows_told : (r q : Report) → IsPrintableReport p r → IsPrintableReport p q → HasPlaces p r.sizes p.rules → HasPlaces p q.sizes p.rules
       → numbered (size_lines p.start_names) 1 r.sizes ++ reasons r ≡ numbered (size_lines p.start_names) 1 q.sizes ++ reasons q
       → SizesTold p r.sizes q.sizes (reasons r) (reasons q)
@@ -132,19 +109,6 @@ module _ (p : Program) (valid : IsValid p) where
       let less = few_lines (length q.sizes) (rows_many p q.sizes p.rules b) in
       let said = rows_say p.start_names starts r.sizes q.sizes (reasons r) (reasons q) (rows_paired p r.sizes q.sizes p.rules a b) left right few less e in
       record { say = said.0; left = rows_fit p r.sizes f.sizes left; right = rows_fit p q.sizes g.sizes right; few = few; less = less; rest = said.1 }
-
-  -- the sizes of two reports
-  sizes_told : (r q : Report) → IsPrintableReport p r → IsPrintableReport p q → (r.sizes ≡ []) ⊎ HasPlaces p r.sizes p.rules → (q.sizes ≡ []) ⊎ HasPlaces p q.sizes p.rules
-      → numbered (size_lines p.start_names) 1 r.sizes ++ reasons r ≡ numbered (size_lines p.start_names) 1 q.sizes ++ reasons q
-      → SizesTold p r.sizes q.sizes (reasons r) (reasons q)
-  sizes_told r q f g (inl a) (inl b) e = none_told p r.sizes q.sizes (reasons r) (reasons q) a b e
-  sizes_told r q f g (inl a) (inr b) e =
-      absurd (rows_seen p p.start_names 1 q.sizes p.rules b (f.places a) (reasons r) (reasons q) (reasons_why r)
-      (ap (λ (rows : List (List Size)). numbered (size_lines p.start_names) 1 rows ++ reasons r) (sym a) ∙ e))
-  sizes_told r q f g (inr a) (inl b) e =
-      absurd (rows_seen p p.start_names 1 r.sizes p.rules a (g.places b) (reasons q) (reasons r) (reasons_why q)
-      (ap (λ (rows : List (List Size)). numbered (size_lines p.start_names) 1 rows ++ reasons q) (sym b) ∙ sym e))
-  sizes_told r q f g (inr a) (inr b) e = rows_told r q f g a b e
 
   -- two reports with one text are one
   same_report : (text : List ℕ) (r q : Report) → IsPrintableReport p r → IsPrintableReport p q → States p text r → States p text q → r ≡ q
@@ -159,7 +123,7 @@ module _ (p : Program) (valid : IsValid p) where
       let said = times_say names starts r.times q.times (total r) (total q) (s.report.times ∙ sym t.report.times) few head.1 in
       let whole = total_told p starts r.total q.total (sizes r) (sizes q) f.total g.total
       (λ there. t.report.total.0 (sym head.0 ∙ s.report.total.1 there)) (λ there. s.report.total.0 (head.0 ∙ t.report.total.1 there)) said.1 in
-      let rows = sizes_told r q f g s.report.sizes t.report.sizes whole.1 in
+      let rows = rows_told r q f g s.report.sizes t.report.sizes whole.1 in
       let why = why_times_told p starts named r.times q.times (numbered why_sizes 1 r.sizes) (numbered why_sizes 1 q.sizes) few less f.times g.times said.0
       (λ n. sizes_no_time n 1 r.sizes) (λ n. sizes_no_time n 1 q.sizes) rows.rest in
       let places = why_sizes_told p starts named r.sizes q.sizes rows.few rows.less rows.left rows.right rows.say why.1 in

@@ -7,7 +7,8 @@ use Rattle.text_core.specs.Names.{AreNames}
 use Rattle.proof_tree.specs.declared.answer.Question.{Question}
 use Rattle.proof_tree.specs.declared.answer.Question.TheVariants as questions
 use Rattle.proof_nodes.specs.Gaps.{ScaledPoint}
-use Rattle.outcome.specs.Reports.{NoTime, NoFunction, TimeTripped, TimeLarge, Side, Up, Low}
+use Rattle.proof_nodes.specs.AcceptsSizes.{Side, Up, Low}
+use Rattle.outcome.specs.Reports.{NoTime, NoFunction, TimeTripped, TimeLarge}
 use Rattle.outcome.specs.Reports.{NoSize, IsLoose, SizeTripped, IsMissing, IsBent, LacksTime, SizeLarge}
 use Rattle.report_text.specs.Pieces.{parts_text, point_text, spot_text}
 use Rattle.report_text.specs.Reasons.{question_text, cause_text, trip_text, large_text, side_text, no_time_text, no_size_text}

@@ -38,9 +38,8 @@ told = record {
     times = (record { tidy = tt; listed = omega arith; fits = record { bases = tt; nodes = omega arith } }, tt);
     total = record { tidy = tt; listed = omega arith; fits = record { bases = tt; nodes = omega arith } };
     sizes = ((record { tidy = tt; listed = omega arith; fits = record { bases = tt; nodes = omega arith } }, tt), tt);
-    places = λ e. refl;
   };
-  missing = record { times = (omega arith, tt); total = tt; sizes = ((omega arith, tt), tt); places = λ e. refl };
+  missing = record { times = (omega arith, tt); total = tt; sizes = ((omega arith, tt), tt) };
   of_variable = refl;
   of_missing = refl;
 }
@@ -50,13 +49,8 @@ untold : TextsDontTell
 unfolding text_of_report digits
 untold = record {
   no_places = refl;
-  left_out = λ h. (let no = h.places refl in cc);
-  given = record {
-    times = (record { tidy = tt; listed = omega arith; fits = record { bases = tt; nodes = omega arith } }, tt);
-    total = record { tidy = tt; listed = omega arith; fits = record { bases = tt; nodes = omega arith } };
-    sizes = (tt, tt);
-    places = λ e. absurd cc;
-  };
+  left_out = λ h. (let no = h.sizes in cc);
+  given = record { times = refl; total = (λ e. refl, λ e. refl); sizes = refl };
   no_line = refl;
   move_too_many = λ h. (let no = h.moves_shown in omega (arith, no));
   no_symbol = refl;

@@ -1,11 +1,10 @@
 -- Reports that a text tells whole: their numbers fit the types that hold them, their bounds are tidy and over the start
 -- arguments, and their gaps have no points that no line shows. What an analysis reports is printable: its bounds are
 -- rewritten, over the start arguments and at most 4,096 nodes large; a gap has one move and one kept point for each
--- rule of its set, and its shut places are places of the program's symbols; and each place of each rule has an entry.
-use Rattle.std.specs.Prelude.{◌≡◌, ℕ, ◌^◌, ◌<◌, ◌≤◌, [], length, ℤ, nat_abs, nat_lt, Option, Some, None, IsTrue}
-use Rattle.std.specs.Prelude.{⊤}
-use Rattle.std.specs.List.{AllByRecursion, list_any}
-use Rattle.model.specs.Programs.{Program, arity_of}
+-- rule of its set, and its shut places are places of the program's symbols.
+use Rattle.std.specs.Prelude.{ℕ, ◌^◌, ◌<◌, ◌≤◌, length, ℤ, nat_abs, Option, Some, None, ⊤}
+use Rattle.std.specs.List.{AllByRecursion}
+use Rattle.model.specs.Programs.{Program}
 use Rattle.model.specs.Bounds.{Bound}
 use Rattle.bound_expr.specs.Tidy.{IsTidy}
 use Rattle.bound_expr.specs.Numbers.{ReadsBelow}
@@ -110,10 +109,8 @@ abbrev pub IsPrintableTotal : Program → Option Bound → Type 0
 IsPrintableTotal p (Some b) = IsPrintableBound (length p.start_names) b
 IsPrintableTotal p None = ⊤
 
--- a report is printable on a program: its entries are, and the sizes are left out only where there are places to have
--- them
+-- a report is printable on a program: its entries are
 pub record IsPrintableReport (p : Program) (r : Report) : Type 0 where
   pub times : AllByRecursion (IsPrintableTime p) r.times
   pub total : IsPrintableTotal p r.total
   pub sizes : AllByRecursion (AllByRecursion (IsPrintableSize p)) r.sizes
-  pub places : r.sizes ≡ [] → IsTrue (list_any (λ rule. nat_lt 0 (arity_of p rule.target)) p.rules)

@@ -7,7 +7,8 @@ use Rattle.proof_tree.specs.declared.answer.TripCause.{TripCause}
 use Rattle.proof_tree.specs.declared.answer.TripCause.TheVariants as causes
 use Rattle.proof_tree.specs.declared.answer.Trip.{Trip}
 use Rattle.proof_nodes.specs.Gaps.{ScaledPoint, SymbolPlace, Gap}
-use Rattle.outcome.specs.Reports.{NoTime, NoFunction, TimeTripped, TimeLarge, Side, Up, Low}
+use Rattle.proof_nodes.specs.AcceptsSizes.{Side, Up, Low}
+use Rattle.outcome.specs.Reports.{NoTime, NoFunction, TimeTripped, TimeLarge}
 use Rattle.outcome.specs.Reports.{NoSize, IsLoose, SizeTripped, IsMissing, IsBent, LacksTime, SizeLarge}
 use Rattle.report_text.specs.Pieces.{rules_text, parts_text, point_text, place_text, spot_text}
 

@@ -5,6 +5,7 @@ use Rattle.model.specs.Programs.{Program}
 use Rattle.model.specs.Bounds.{Input}
 use Rattle.its_model.specs.Valid.{IsValid}
 use Rattle.proof_nodes.specs.Gaps.{ScaledPoint, SymbolPlace, Gap}
+use Rattle.outcome.specs.Holding.{IsReportOn}
 use Rattle.outcome.specs.Reports.{TimeLarge, Timed, Untimed, LacksTime, Size, Sized, Unsized, Report}
 use Rattle.report_text.specs.Reasons.{gap_text}
 use Rattle.report_text.specs.Reports.{text_of_report}
@@ -61,13 +62,14 @@ pub record TextsTellApart : Type 0 where
       ≡ codes "unknown\ntime 1: unknown\ntotal: unknown\nsize 1.1: unknown\n"
       ++ codes "why time 1: large 5000 nodes\nwhy size 1.1: untimed 1\n"
 
--- where no target has a place, no text tells whether sizes are left out; of a gap no text tells a move that is one too
--- many, or the number of a symbol that there isn't. Such reports aren't printable
+-- where no target has a place, no text tells whether sizes are left out, but then it is no report on the program; of a
+-- gap no text tells a move that is one too many, or the number of a symbol that there isn't. Such reports aren't
+-- printable
 pub record TextsDontTell : Type 0 where
   pub no_places : text_of_report (leading_to 0) (timed_by_variable [])
       ≡ text_of_report (leading_to 0) (timed_by_variable ([] ∷ []))
-  pub left_out : ¬ (IsPrintableReport (leading_to 0) (timed_by_variable []))
-  pub given : IsPrintableReport (leading_to 0) (timed_by_variable ([] ∷ []))
+  pub left_out : ¬ (IsReportOn (leading_to 0) (timed_by_variable []))
+  pub given : IsReportOn (leading_to 0) (timed_by_variable ([] ∷ []))
   pub no_line : gap_text [] (bare_gap [] (record { parts = []; den = 1 } ∷ [])) ≡ gap_text [] (bare_gap [] [])
   pub move_too_many : ¬ (IsPrintableGap 2 (bare_gap [] (record { parts = []; den = 1 } ∷ [])))
   pub no_symbol : gap_text [] (bare_gap (record { symbol = 0; place = 1 } ∷ []) [])

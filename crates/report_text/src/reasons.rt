@@ -3,7 +3,7 @@
 ghost use Rattle.std.specs.Prelude.{◌≡◌, ◌++◌, codes, decimal, length, map, OnOk};
 ghost use Rattle.its_model.specs.Views.{symbol_of};
 ghost use Rattle.proof_tree.specs.Views.{spot_of};
-ghost use Rattle.outcome.specs.Views.{time_of, size_of, side_of, loose_of};
+ghost use Rattle.outcome.specs.Views.{time_of, size_of, side_by, loose_of};
 ghost use Rattle.report_text.specs.Pieces.{place_text, spot_text};
 ghost use Rattle.report_text.specs.Reasons.{trip_text, large_text, side_text, no_size_text};
 ghost use Rattle.report_text.specs.Reports.{why_time, why_size};
@@ -117,7 +117,7 @@ fn push_loose(text: &mut Vec<u8>, loose: &Loose) -> Result<(), Memory>
 
 // Which side is loose.
 fn push_side(text: &mut Vec<u8>, up: bool) -> Result<(), Memory>
-    ensures { OnOk result (text.new.items ≡ text.old.items ++ side_text (side_of up)) }
+    ensures { OnOk result (text.new.items ≡ text.old.items ++ side_text (side_by up)) }
 {
     if up {
         text.extend_from_slice(b"loose up\n")
