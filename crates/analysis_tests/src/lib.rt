@@ -5,3 +5,15 @@
 mod found;
 #[cfg(test)]
 mod locals;
+#[cfg(test)]
+mod loops;
+#[cfg(test)]
+mod members;
+#[cfg(test)]
+mod places;
+#[cfg(test)]
+mod programs;
+#[cfg(test)]
+mod sizes;
+#[cfg(test)]
+mod tables;

@@ -1,15 +1,14 @@
 // Local bounds that were worked out by a plain slow search over the same questions, and the first ones by hand.
 
-ghost use Rattle.std.specs.Prelude.{IfOk};
 ghost use Rattle.std.specs.List.{All};
 ghost use Rattle.its_model.specs.Valid.{IsValid};
 ghost use Rattle.its_model.specs.Views.{program_of};
-ghost use Rattle.proof_tree.specs.Composing.{AreRowsOf};
 ghost use Rattle.rank_search.specs.EmptyAnswers.{IsPrepared, SaysEmpty};
 
-use guard_prep::{RuleRows, rows};
+use crate::places::{PLACES, TRIPS};
+use crate::programs::{all_rows, program};
+use guard_prep::RuleRows;
 use its_model::Program;
-use its_reader::read;
 use local_size::{LocalAnswer, local};
 use outcome::Loose;
 use proof_tree::{Arm, EmptyAnswer, Question, Spot, Trip, TripCause};
@@ -18,28 +17,6 @@ use std::alloc::{AllocError, Global};
 use std::test::Fail;
 
 const PIVOTS: u32 = 10_000;
-
-// A program with these rules, from l0.
-fn program(alloc: Global, rules: &str) -> Result<Program, Fail>
-    ensures { IfOk result (λ p. IsValid (program_of p)) }
-{
-    let mut text = b"(STARTTERM (FUNCTIONSYMBOLS l0))(RULES ".to_vec(alloc)?;
-    text.extend_from_slice(rules.as_bytes())?;
-    text.push(b')')?;
-    Ok(read(alloc, &text)?)
-}
-
-// The rows of each rule, in order.
-fn all_rows(alloc: Global, p: &Program) -> Result<Vec<RuleRows>, AllocError>
-    requires { IsValid (program_of p.now) }
-    ensures { IfOk result (λ preps. AreRowsOf preps.items (program_of p.now)) }
-{
-    let mut preps = Vec::new(alloc);
-    for rule in &p.rules {
-        preps.push(rows(alloc, rule)?)?;
-    }
-    Ok(preps)
-}
 
 // The answer for a place of a rule, where this is known of the rule's rows, or else what is found of them.
 fn answer(
@@ -198,185 +175,6 @@ fn push_trip(alloc: Global, text: &mut String, trip: &Trip) -> Result<(), AllocE
     }
 }
 
-// What is shown, rules, the rule and place that are asked of, and the answer, within many pivots.
-const PLACES: &[(&str, &str, u32, u32, &str)] = &[
-    (
-        "a decrement",
-        "l0(A) -> Com_1(l1(A)) l1(A) -> Com_1(l1(A-1)) :|: A >= 1",
-        2,
-        1,
-        "up lin 1 [1 0] [0] low lin 1 [0 0] [1]",
-    ),
-    (
-        "a free variable",
-        "l0(A) -> Com_1(l1(C)) l1(A) -> Com_1(l1(A-1)) :|: A >= 1",
-        1,
-        1,
-        "loose up (0, 1) (1, 1) / 1",
-    ),
-    (
-        "a square",
-        "l0(A) -> Com_1(l1(A*A))",
-        1,
-        1,
-        "up poly low poly",
-    ),
-    (
-        "a copy",
-        "l0(A) -> Com_1(l1(A))",
-        1,
-        1,
-        "up lin 1 [1 0] [] low lin 1 [-1 0] []",
-    ),
-    (
-        "a number",
-        "l0(A) -> Com_1(l1(5))",
-        1,
-        1,
-        "up lin 1 [0 5] [] low lin 1 [0 -5] []",
-    ),
-    (
-        "a negative number",
-        "l0(A) -> Com_1(l1(0-7))",
-        1,
-        1,
-        "up lin 1 [0 -7] [] low lin 1 [0 7] []",
-    ),
-    (
-        "a value between two numbers",
-        "l0(A) -> Com_1(l1(A)) :|: A <= 9 && A >= 3",
-        1,
-        1,
-        "up lin 1 [0 9] [1 0] low lin 1 [0 -3] [0 1]",
-    ),
-    (
-        "a third at most, rounded by tightening",
-        "l0(A) -> Com_1(l1(A)) :|: 3*A <= 10",
-        1,
-        1,
-        "up lin 1 [0 3] [1] low lin 1 [-1 0] [0]",
-    ),
-    (
-        "the other argument",
-        "l0(A,B) -> Com_1(l1(B,A))",
-        1,
-        1,
-        "up lin 1 [0 1 0] [] low lin 1 [0 -1 0] []",
-    ),
-    (
-        "the other argument, at the second place",
-        "l0(A,B) -> Com_1(l1(B,A))",
-        1,
-        2,
-        "up lin 1 [1 0 0] [] low lin 1 [-1 0 0] []",
-    ),
-    (
-        "its negation",
-        "l0(A) -> Com_1(l1(-A))",
-        1,
-        1,
-        "up lin 1 [-1 0] [] low lin 1 [1 0] []",
-    ),
-    (
-        "another's negation",
-        "l0(A,B) -> Com_1(l1(-B,A))",
-        1,
-        1,
-        "up lin 1 [0 -1 0] [] low lin 1 [0 1 0] []",
-    ),
-    (
-        "below another argument",
-        "l0(A,B) -> Com_1(l1(A,C)) :|: C <= B && C >= 0 - A",
-        1,
-        2,
-        "up lin 1 [0 1 0] [1 0] low lin 1 [1 0 0] [0 1]",
-    ),
-    (
-        "a sum",
-        "l0(A,B) -> Com_1(l1(A+B,0))",
-        1,
-        1,
-        "up lin 1 [1 1 0] [] low lin 1 [-1 -1 0] []",
-    ),
-    (
-        "a double and 3",
-        "l0(A) -> Com_1(l1(2*A+3))",
-        1,
-        1,
-        "up lin 1 [2 3] [] low lin 1 [-2 -3] []",
-    ),
-    (
-        "a half",
-        "l0(A) -> Com_1(l1(C)) :|: 2*C <= A && 2*C >= A",
-        1,
-        1,
-        "up lin 2 [1 0] [1 0] low lin 2 [-1 0] [0 1]",
-    ),
-    (
-        "a third and more",
-        "l0(A,B) -> Com_1(l1(C,B)) :|: 3*C <= A + 2*B + 1 && C >= 0",
-        1,
-        1,
-        "up lin 3 [1 2 1] [1 0] low lin 1 [0 0 0] [0 1]",
-    ),
-    (
-        "a product with a free variable",
-        "l0(A) -> Com_1(l1(A*C))",
-        1,
-        1,
-        "loose up (0, 1, 1) (1, 1, 1) / 1",
-    ),
-    (
-        "the low side alone is loose",
-        "l0(A) -> Com_1(l1(C)) :|: C <= A",
-        1,
-        1,
-        "loose low (0, -1) (1, 1) / 1",
-    ),
-    (
-        "the up side alone is loose",
-        "l0(A) -> Com_1(l1(C)) :|: C >= A",
-        1,
-        1,
-        "loose up (0, 1) (1, 1) / 1",
-    ),
-    (
-        "a square after expanding",
-        "l0(A) -> Com_1(l1(A*A+C-C))",
-        1,
-        1,
-        "up poly low poly",
-    ),
-    (
-        "a square less itself",
-        "l0(A) -> Com_1(l1(A*A-A*A+A))",
-        1,
-        1,
-        "up lin 1 [1 0] [] low lin 1 [-1 0] []",
-    ),
-    (
-        "no argument at the place",
-        "l0(A) -> Com_1(l1(A,A))",
-        1,
-        2,
-        "up lin 1 [1 0] [] low lin 1 [-1 0] []",
-    ),
-    (
-        "no arguments",
-        "l0() -> Com_1(l1(3))",
-        1,
-        1,
-        "up lin 1 [3] [] low lin 1 [-3] []",
-    ),
-    (
-        "out of range",
-        "l0(A) -> Com_1(l1(A)) :|: A <= 4000000000",
-        1,
-        1,
-        "local 1.1 range at pivot 0",
-    ),
-];
-
 #[test]
 fn places_have_their_first_arms_or_are_loose(rt: HostRuntime) -> Result<(), Fail> {
     let alloc = rt.alloc();
@@ -395,34 +193,30 @@ fn places_have_their_first_arms_or_are_loose(rt: HostRuntime) -> Result<(), Fail
 #[test]
 fn a_place_trips_where_a_question_does(rt: HostRuntime) -> Result<(), Fail> {
     let alloc = rt.alloc();
-    let table: [(&str, u32, &str); 2] = [
-        (
-            "l0(A) -> Com_1(l1(A))",
-            0,
-            "local 1.1 budget after 0 pivots",
-        ),
-        (
-            "l0(A,B) -> Com_1(l1(A+B,0))",
-            2,
-            "local 1.1 budget after 2 pivots",
-        ),
-    ];
-    for (rules, pivots, want) in table {
-        let spot = Spot { rule: 1, place: 1 };
-        let found = answer(alloc, rules, spot, pivots, None)?;
-        assert_eq!(rt; found.as_str(), want, "at {rules}");
+    for (rules, place, pivots, want) in TRIPS {
+        let spot = Spot {
+            rule: 1,
+            place: *place,
+        };
+        let found = answer(alloc, rules, spot, *pivots, None)?;
+        assert_eq!(rt; found.as_str(), *want, "at {rules}");
     }
     Ok(())
 }
 
-// A place without a form is tripped where the question whether the rows have a point was, and one with arms isn't.
+// A place without a form on some side is tripped where the question whether the rows have a point was, and one with
+// arms isn't.
 #[test]
 fn the_trip_of_the_emptiness_question_counts_where_no_form_is_found(
     rt: HostRuntime,
 ) -> Result<(), Fail> {
     let alloc = rt.alloc();
-    let table: [(&str, &str); 2] = [
+    let table: [(&str, &str); 3] = [
         ("l0(A) -> Com_1(l1(C))", "empty 1 budget after 3 pivots"),
+        (
+            "l0(A) -> Com_1(l1(C)) :|: C <= A",
+            "empty 1 budget after 3 pivots",
+        ),
         (
             "l0(A) -> Com_1(l1(A))",
             "up lin 1 [1 0] [] low lin 1 [-1 0] []",

@@ -7,6 +7,8 @@ mod answers;
 #[cfg(test)]
 mod processes;
 #[cfg(test)]
+mod programs;
+#[cfg(test)]
 mod shelves;
 #[cfg(test)]
 mod sizes;

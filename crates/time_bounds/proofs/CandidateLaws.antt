@@ -1,39 +1,36 @@
 -- Components with the arms of their members are those of the program.
-use Rattle.std.proofs.Common.{◌≡◌, ◌⊎◌, inl, inr, ℕ, zero, suc, ◌+◌, ◌<◌, ◌≤◌, ◌==◌, ◌&&◌, ◌||◌, Bool, true, false, List, [], ◌∷◌, length, map, Option, Some, None, refl, sym, ◌∙◌, ap, subst, arith}
-use Rattle.std.specs.List.{All, list_any}
+use Rattle.std.proofs.Common.{◌≡◌, inl, inr, ℕ, zero, suc, ◌≤◌, ◌==◌, ◌&&◌, ◌||◌, Bool, true, false, List, [], ◌∷◌, length, map, Some, refl, sym, ◌∙◌, ap, subst, arith}
+use Rattle.std.specs.List.{All}
 use Rattle.std.proofs.lemmas.Bool.{and_from, or_left}
-use Rattle.std.proofs.lemmas.List.{length-map}
 use Rattle.std.proofs.lemmas.List.Elements.{All-head, All-tail, All-cons, All-nil, All-weaker}
 use Rattle.model.specs.Programs.{Program, rule_at, arity_of}
 use Rattle.model.specs.Paths.{target_of, target_in}
 use Rattle.model.proofs.Membership.{same_number, no_is_not_yes}
 use Rattle.its_model.specs.Valid.{IsValid}
-use Rattle.guard_prep.specs.Prepared.{prepared}
-use Rattle.local_size.specs.LocalAnswers.{Local, HasBound, IsLocal, local_seen}
+use Rattle.local_size.specs.LocalAnswers.{Local, HasBound}
 use Rattle.local_size.specs.LocalLaws.{IsSpotOf}
 use Rattle.local_size.specs.declared.answer.LocalAnswer.{LocalAnswer}
 use Rattle.local_size.proofs.Accepted.{bounds-accepted}
 use Rattle.proof_nodes.specs.Nodes.{Spot, Member}
-use Rattle.proof_nodes.specs.AcceptsPlain.{IsRule}
 use Rattle.proof_nodes.specs.AcceptsSizes as accepts
-use Rattle.proof_nodes.specs.AcceptsSizes.{HasMemberShape, HasCycleShape, AcceptsUp, AcceptsLow}
+use Rattle.proof_nodes.specs.AcceptsSizes.{HasMemberShape, AcceptsUp, AcceptsLow}
 use Rattle.proof_setting.specs.Setting.{setting_of}
 use Rattle.proof_tree.specs.Views.{member_of}
 use Rattle.round_relation.specs.Tables.{IsPlace}
 use Rattle.round_relation.specs.NewSizes.{has_spot}
 use Rattle.proof_nodes.specs.Setting.{Setting}
-use Rattle.round_relation.specs.Components.{IsListed, IsOneOf, AreAscending, AreComponentsOf}
+use Rattle.round_relation.specs.Components.{IsCovered, IsOneOf, AreSpotsAscending, AreComponentsOf}
 use Rattle.round_relation.proofs.SameDead.{dead_by}
 use Rattle.rvg_components.specs.declared.component.Component.{Component}
-use Rattle.rvg_components.specs.Flows.{Locals, loops, flows_into}
+use Rattle.rvg_components.specs.Flows.{Locals, loops}
 use Rattle.rvg_components.specs.Listing.{AreComponents, SaysWhetherItLoops, members_of, local_from}
 use Rattle.time_bounds.specs.declared.candidates.Candidate.{Candidate}
 use Rattle.time_bounds.specs.declared.candidates.Arms.{Arms}
 use Rattle.time_bounds.specs.declared.candidates.Arms.TheVariants as arms
 use Rattle.time_bounds.specs.ProgramSearches.{searches_of_program}
 use Rattle.time_bounds.specs.ProgramSizes.{spot, AreLive, IsLocalOf, AreLocals, AreLocalsOf, AreMembers}
-use Rattle.time_bounds.specs.Locals.{answer_in, AreAnswered}
-use Rattle.time_bounds.specs.Candidates.{spots_in, IsLone, IsAnswered, AreArms, IsArmed, AreArmed, IsAccepted, AreAccepted, HasAccepted, IsCandidate, AreCandidatesOf}
+use Rattle.time_bounds.specs.Locals.{AreAnswered}
+use Rattle.time_bounds.specs.Candidates.{spots_in, IsAnswered, AreArms, IsArmed, AreArmed, IsAccepted, AreAccepted, HasAccepted, IsCandidate, AreCandidatesOf}
 use Rattle.time_bounds.proofs.LoneComponents.{lone}
 use Rattle.time_bounds.proofs.RightComponents.{components_of}
 
@@ -58,7 +55,7 @@ module _ (p : Program) (pivots : ℕ) (valid : IsValid p) (is_live : ℕ → Boo
   live_places = components_of p pivots is_live lives local (map members_of found) components
 
   -- a listed place is one of a live rule
-  listed_live : (t i : ℕ) → IsListed (map members_of found) t i → (is_live t ≡ true) × IsPlace p t i
+  listed_live : (t i : ℕ) → IsCovered (map members_of found) t i → (is_live t ≡ true) × IsPlace p t i
   listed_live t i l =
       let x = (live_places.live t i).0 l in (
         (lives.live t).1 (
@@ -72,7 +69,7 @@ module _ (p : Program) (pivots : ℕ) (valid : IsValid p) (is_live : ℕ → Boo
   pub answered_all : (P : Spot → Type 0) → ((t i : ℕ) → is_live t ≡ true → IsPlace p t i → P (spot t i)) → All (λ (c : Component). All P (members_of c)) found
   answered_all P f = go found listed_live
     where
-      go : (cs : List Component) → ((t i : ℕ) → IsListed (map members_of cs) t i → (is_live t ≡ true) × IsPlace p t i)
+      go : (cs : List Component) → ((t i : ℕ) → IsCovered (map members_of cs) t i → (is_live t ≡ true) × IsPlace p t i)
           → All (λ (c : Component). All P (members_of c)) cs
       go [] g = All-nil (λ (c : Component). All P (members_of c))
       go (c ∷ cs) g =
@@ -115,19 +112,19 @@ module _ (p : Program) (pivots : ℕ) (valid : IsValid p) (is_live : ℕ → Boo
       (each_accepted spots members rest (All-tail (λ m. IsLocalOf p pivots m.rule m.place (local m.rule m.place)) x spots h)
       (All-tail (λ m. local m.spot.rule m.spot.place ≡ HasBound m.local) m members b))
 
-  ascend : (members : List Member) → AreAscending (map (λ m. m.spot) members) → accepts.AreAscending members
+  ascend : (members : List Member) → AreSpotsAscending (map (λ m. m.spot) members) → accepts.AreAscending members
   ascend [] h = tt
   ascend (m ∷ []) h = tt
   ascend (m ∷ n ∷ members) h = (h.0, ascend (n ∷ members) h.1)
 
   -- the members of a loop are accepted together
-  together : (spots : List Spot) (members : List Member) → AreAscending spots → AreLocalsOf p pivots local spots → AreMembers local spots members
+  together : (spots : List Spot) (members : List Member) → AreSpotsAscending spots → AreLocalsOf p pivots local spots → AreMembers local spots members
       → loops (setting_of p) local spots ≡ true → AreAccepted p members
   together spots members up h are turns =
       let all = each_accepted spots members are.spots_are h are.bounds_are in record {
         shape = record {
           some = some members are.spots_are;
-          ascending = ascend members (subst AreAscending are.spots_are up);
+          ascending = ascend members (subst AreSpotsAscending are.spots_are up);
           each = All-weaker (IsAccepted p) (HasMemberShape (setting_of p)) (λ m a. a.shape) members all;
         };
         up = All-weaker (IsAccepted p) (AcceptsUp (setting_of p)) (λ m a. a.up) members all;
@@ -139,7 +136,7 @@ module _ (p : Program) (pivots : ℕ) (valid : IsValid p) (is_live : ℕ → Boo
       some (m ∷ members) e = omega arith
 
   -- a component with its arms is a candidate
-  candidate_of : (x : Component) (c : Candidate) → AreLocalsOf p pivots local (members_of x) → AreAscending (members_of x)
+  candidate_of : (x : Component) (c : Candidate) → AreLocalsOf p pivots local (members_of x) → AreSpotsAscending (members_of x)
       → SaysWhetherItLoops (setting_of p) local x → IsArmed local x c → IsCandidate p pivots local c
   candidate_of x c answered up says armed = record {
     answered = subst (λ (ms : List Spot). AreLocalsOf p pivots local ms) (sym armed.spots_are) answered;
@@ -173,14 +170,14 @@ module _ (p : Program) (pivots : ℕ) (valid : IsValid p) (is_live : ℕ → Boo
       same (x ∷ xs) (d ∷ ds) h =
           ap (λ (m : List Spot). m ∷ map spots_in ds) h.0.spots_are ∙ ap (λ (ms : List (List Spot)). members_of x ∷ ms) (same xs ds h.1)
 
-      ups : (xs : List Component) → All AreAscending (map members_of xs) → All (λ x. AreAscending (members_of x)) xs
-      ups [] h = All-nil (λ (x : Component). AreAscending (members_of x))
+      ups : (xs : List Component) → All AreSpotsAscending (map members_of xs) → All (λ x. AreSpotsAscending (members_of x)) xs
+      ups [] h = All-nil (λ (x : Component). AreSpotsAscending (members_of x))
       ups (x ∷ xs) h =
-          All-cons (λ (x : Component). AreAscending (members_of x)) x xs (All-head AreAscending (members_of x) (map members_of xs) h)
-          (ups xs (All-tail AreAscending (members_of x) (map members_of xs) h))
+          All-cons (λ (x : Component). AreSpotsAscending (members_of x)) x xs (All-head AreSpotsAscending (members_of x) (map members_of xs) h)
+          (ups xs (All-tail AreSpotsAscending (members_of x) (map members_of xs) h))
 
       each : (xs : List Component) (ds : List Candidate) → All (λ (c : Component). AreLocalsOf p pivots local (members_of c)) xs
-          → All (λ x. AreAscending (members_of x)) xs → All (SaysWhetherItLoops (setting_of p) local) xs → AreArmed local xs ds
+          → All (λ x. AreSpotsAscending (members_of x)) xs → All (SaysWhetherItLoops (setting_of p) local) xs → AreArmed local xs ds
           → All (IsCandidate p pivots local) ds
       each [] [] a u s h = All-nil (IsCandidate p pivots local)
       each [] (d ∷ ds) a u s h = absurd h
@@ -188,9 +185,9 @@ module _ (p : Program) (pivots : ℕ) (valid : IsValid p) (is_live : ℕ → Boo
       each (x ∷ xs) (d ∷ ds) a u s h =
           All-cons (IsCandidate p pivots local) d ds
           (candidate_of x d (All-head (λ (c : Component). AreLocalsOf p pivots local (members_of c)) x xs a)
-          (All-head (λ (x : Component). AreAscending (members_of x)) x xs u) (All-head (SaysWhetherItLoops (setting_of p) local) x xs s) h.0)
+          (All-head (λ (x : Component). AreSpotsAscending (members_of x)) x xs u) (All-head (SaysWhetherItLoops (setting_of p) local) x xs s) h.0)
           (each xs ds (All-tail (λ (c : Component). AreLocalsOf p pivots local (members_of c)) x xs a)
-          (All-tail (λ (x : Component). AreAscending (members_of x)) x xs u) (All-tail (SaysWhetherItLoops (setting_of p) local) x xs s) h.1)
+          (All-tail (λ (x : Component). AreSpotsAscending (members_of x)) x xs u) (All-tail (SaysWhetherItLoops (setting_of p) local) x xs s) h.1)
 
 -- each of these components has an answer for each member, and is lone where it doesn't loop
 pub all_answered : (s : Setting) (is_live : ℕ → Bool) (lists : List (List LocalAnswer)) (found : List Component)

@@ -2,7 +2,7 @@
 use Rattle.std.proofs.Common.{◌≡◌, ◌⊎◌, inl, inr, ℕ, zero, suc, ◌+◌, ◌<◌, List, [], ◌∷◌, ◌++◌, length, map, get_or, Vec, Option, Some, None, option_map, refl, sym, ◌∙◌, ap, subst, arith}
 use Rattle.std.specs.declared.alloc.Global.{Global}
 use Rattle.std.proofs.lemmas.List.{map-append, length-map}
-use Rattle.outcome.specs.Reports.{NoSize, Size, Unsized}
+use Rattle.outcome.specs.Reports.{NoSize, Unsized}
 use Rattle.outcome.specs.Views.{size_of}
 use Rattle.outcome.specs.declared.entry.Stored.{Stored}
 use Rattle.outcome.specs.declared.entry.SizeEntry.{SizeEntry}
@@ -11,7 +11,7 @@ use Rattle.round_relation.specs.Uses.{Numbers}
 use Rattle.size_bounds.specs.declared.table.Table.{Table}
 use Rattle.size_bounds.specs.Tables.{entry_at, row_at, lemma_stored, numbers_of}
 use Rattle.time_bounds.specs.AnalysisLemmas.{CarriesSize, CarrySizes, CarryRows}
-use Rattle.time_bounds.specs.SizeWrites.{rows_of, placed, or_value, put_entry, put_place}
+use Rattle.time_bounds.specs.SizeWrites.{placed, put_entry, put_place}
 use Rattle.time_bounds.specs.SizeSaid.{CarriesNumber, CarriesIfThere, CarryRow, CarryPlaces, KeepPlaces, IsReason}
 
 some_same : {A : Type 0} (a b : A) → Some a ≡ Some b → a ≡ b

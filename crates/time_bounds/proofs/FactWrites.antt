@@ -1,7 +1,7 @@
 -- What stands in a table after the sizes that facts state were written.
-use Rattle.std.proofs.Common.{◌≡◌, ◌⊎◌, inl, inr, ℕ, zero, suc, ◌+◌, ◌<◌, ◌≤◌, ◌==◌, ◌&&◌, ◌||◌, Bool, true, false, List, [], ◌∷◌, ◌++◌, length, map, Option, Some, None, refl, sym, ◌∙◌, ap, subst, arith}
+use Rattle.std.proofs.Common.{◌≡◌, ℕ, zero, suc, ◌+◌, ◌≤◌, ◌==◌, ◌&&◌, ◌||◌, Bool, true, false, List, [], ◌∷◌, ◌++◌, length, map, Option, Some, None, refl, sym, ◌∙◌, ap, subst, arith}
 use Rattle.std.specs.List.{All}
-use Rattle.std.proofs.lemmas.Bool.{and_parts, and_from, or_left}
+use Rattle.std.proofs.lemmas.Bool.{and_parts, and_from}
 use Rattle.std.proofs.lemmas.List.Elements.{All-head, All-tail}
 use Rattle.model.specs.Bounds.{Bound}
 use Rattle.model.specs.Facts as plain
@@ -11,7 +11,7 @@ use Rattle.bound_expr.specs.declared.bound.Bound as code
 use Rattle.outcome.specs.declared.entry.Stored.{Stored}
 use Rattle.proof_nodes.specs.Nodes.{Spot, Member}
 use Rattle.proof_nodes.specs.AcceptsSizes.{cycle_facts}
-use Rattle.proof_tree.specs.Views.{facts_of, fact_of}
+use Rattle.proof_tree.specs.Views.{facts_of}
 use Rattle.proof_tree.specs.declared.fact.Fact.{Fact}
 use Rattle.proof_tree.specs.declared.fact.Fact.TheVariants.{Time, Size}
 use Rattle.round_relation.specs.Tables.{lacks}

@@ -1,5 +1,5 @@
 -- The fates that are found are those of the program's rules.
-use Rattle.std.proofs.Common.{◌≡◌, ◌↔◌, ◌⊎◌, inl, inr, ℕ, zero, suc, ◌+◌, ◌<◌, ◌≤◌, ◌==◌, ◌||◌, Bool, true, false, not, cond, eqb, List, [], ◌∷◌, length, map, filter, Option, Some, None, option_map, refl, sym, ◌∙◌, ap, subst, arith}
+use Rattle.std.proofs.Common.{◌≡◌, ◌↔◌, inl, inr, ℕ, zero, suc, ◌<◌, ◌==◌, ◌||◌, Bool, true, false, not, cond, eqb, List, [], ◌∷◌, length, map, Option, Some, None, option_map, refl, sym, ◌∙◌, ap, subst, arith}
 use Rattle.std.specs.Prelude.{slice_get, slice_index_or}
 use Rattle.std.specs.List.{list_any, range_with_len}
 use Rattle.std.proofs.lemmas.Option.{slice_get-map}
@@ -7,7 +7,7 @@ use Rattle.std.proofs.lemmas.List.{length-map}
 use Rattle.model.specs.Programs as plain
 use Rattle.model.specs.Programs.{rule_at}
 use Rattle.model.specs.Entries.{is_in}
-use Rattle.model.specs.Paths.{HasEdge, HasPath, IsReached}
+use Rattle.model.specs.Paths.{HasEdge, IsReached}
 use Rattle.model.proofs.Membership.{no_is_not_yes, slice_get-below, is_in-filter, filter-in}
 use Rattle.its_model.specs.declared.program.Rule.{Rule}
 use Rattle.its_model.specs.declared.program.Program.{Program}
@@ -16,7 +16,7 @@ use Rattle.guard_prep.specs.Prepared.{prepared}
 use Rattle.its_graph.specs.Graphs.{none_of}
 use Rattle.its_graph.proofs.KeptLinks.{same-edges}
 use Rattle.its_graph.proofs.Reaching.{same-paths}
-use Rattle.proof_nodes.specs.AcceptsPlain.{IsRule, IsUnreached}
+use Rattle.proof_nodes.specs.AcceptsPlain.{IsRule}
 use Rattle.proof_tree.specs.declared.answer.EmptyAnswer.{EmptyAnswer}
 use Rattle.proof_tree.specs.declared.answer.EmptyAnswer.TheVariants as answers
 use Rattle.rank_search.specs.EmptyAnswers.{IsEmptyAnswer, SaysEmpty}
@@ -24,7 +24,6 @@ use Rattle.rank_search.specs.RankAnswers.{answer_for, AreEmptyAnswers}
 use Rattle.rank_search.proofs.Exact.{answers-exact}
 use Rattle.round_relation.specs.Searches.{NoPoint}
 use Rattle.round_relation.specs.Beginning.{IsEmpty, IsDead}
-use Rattle.time_bounds.specs.declared.fates.Fate.{Fate}
 use Rattle.time_bounds.specs.declared.fates.Fate.TheVariants.{Empty, Unreached, Live}
 use Rattle.time_bounds.specs.ProgramSearches.{emptiness_of, searches_of_program}
 use Rattle.time_bounds.specs.Fates.{says_empty, is_said_empty, said_empty, fate_of, fates_by, fate_at, is_empty_fate, is_dead_fate, AreFates}

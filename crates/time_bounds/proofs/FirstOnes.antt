@@ -1,14 +1,13 @@
 -- The first table and the lemmas that are written first are those of the relation.
-use Rattle.std.proofs.Common.{◌≡◌, ◌↔◌, ◌⊎◌, inl, inr, ℕ, zero, suc, ◌+◌, ◌-◌, ◌<◌, ◌≤◌, Bool, true, false, not, cond, List, [], ◌∷◌, ◌++◌, length, map, filter, replicate, Vec, Option, Some, None, refl, sym, ◌∙◌, ap, subst, arith}
+use Rattle.std.proofs.Common.{◌≡◌, ◌↔◌, inl, inr, ℕ, zero, suc, ◌+◌, ◌-◌, ◌<◌, Bool, true, false, not, cond, List, [], ◌∷◌, ◌++◌, length, map, filter, replicate, Vec, Option, Some, None, refl, sym, ◌∙◌, ap, subst, arith}
 use Rattle.std.specs.Prelude.{slice_get, slice_index_or, nat_lt}
 use Rattle.std.specs.List.{range_with_len, Contains}
 use Rattle.std.specs.declared.alloc.Global.{Global}
-use Rattle.model.specs.Programs.{Program, Rule, rule_at, arity_of}
+use Rattle.model.specs.Programs.{Program, Rule, arity_of}
 use Rattle.model.specs.Paths.{target_in, target_of}
 use Rattle.model.specs.Bounds.{Bound}
-use Rattle.model.specs.Facts.{Fact, Time, Size}
+use Rattle.model.specs.Facts.{Time, Size}
 use Rattle.model.proofs.Membership.{no_is_not_yes, slice_get-below}
-use Rattle.guard_prep.specs.Prepared.{prepared}
 use Rattle.outcome.specs.declared.entry.Stored.{Stored}
 use Rattle.proof_nodes.specs.Nodes.{Proof}
 use Rattle.proof_nodes.specs.Acceptance.{facts_of_lemma, facts_of_lemmas}
@@ -17,8 +16,8 @@ use Rattle.proof_setting.specs.Setting.{setting_of}
 use Rattle.proof_tree.specs.declared.answer.EmptyAnswer.{EmptyAnswer}
 use Rattle.proof_tree.specs.declared.answer.EmptyAnswer.TheVariants as answers
 use Rattle.proof_tree.specs.declared.proof.EmptyNode.{EmptyNode}
-use Rattle.rank_search.specs.RankAnswers.{answer_for, AreEmptyAnswers}
-use Rattle.round_relation.specs.Searches.{Searches, NoPoint}
+use Rattle.rank_search.specs.RankAnswers.{AreEmptyAnswers}
+use Rattle.round_relation.specs.Searches.{NoPoint}
 use Rattle.round_relation.specs.Right.{AreRight}
 use Rattle.round_relation.specs.Tables.{rule_numbers, IsPlace}
 use Rattle.round_relation.specs.Beginning.{IsDead, First}

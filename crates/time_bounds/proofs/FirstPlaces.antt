@@ -1,5 +1,5 @@
 -- The first table has a row for each rule, and few bounds are missing in it.
-use Rattle.std.proofs.Common.{◌≡◌, ℕ, suc, ◌+◌, ◌*◌, ◌≤◌, List, [], ◌∷◌, length, map, replicate, Vec, Option, Some, None, refl, sym, ◌∙◌, ap, arith}
+use Rattle.std.proofs.Common.{◌≡◌, ℕ, ◌*◌, ◌≤◌, List, [], ◌∷◌, length, map, Vec, Option, Some, refl, sym, ◌∙◌, ap, arith}
 use Rattle.std.specs.List.{range_with_len}
 use Rattle.std.specs.declared.alloc.Global.{Global}
 use Rattle.std.proofs.lemmas.List.{length-map, length-replicate}
@@ -14,7 +14,6 @@ use Rattle.size_bounds.specs.Tables.{bound_stored}
 use Rattle.time_bounds.specs.declared.fates.Fate.{Fate}
 use Rattle.time_bounds.specs.Beginning.{zero_by, start_sizes, sizes_by, first_sizes}
 use Rattle.time_bounds.specs.Questions.{IsTable}
-use Rattle.time_bounds.specs.Tries.{count_missing}
 use Rattle.time_bounds.specs.SizeWrites.{rows_of, count_unsized}
 use Rattle.time_bounds.specs.Attempts.{HasPlaces}
 use Rattle.time_bounds.specs.RoundEnds.{missing_in}

@@ -1,16 +1,15 @@
 -- The table that is made first is the first one of the relation.
-use Rattle.std.proofs.Common.{◌≡◌, ◌⊎◌, inl, inr, ℕ, zero, suc, ◌+◌, ◌-◌, ◌<◌, ◌≤◌, Bool, true, false, List, [], ◌∷◌, length, map, replicate, Vec, Option, Some, None, refl, sym, ◌∙◌, ap, subst, arith}
+use Rattle.std.proofs.Common.{◌≡◌, ◌⊎◌, inl, inr, ℕ, zero, suc, ◌+◌, ◌-◌, ◌<◌, ◌≤◌, Bool, true, false, List, [], ◌∷◌, length, map, replicate, Vec, Option, Some, None, refl, sym, ◌∙◌, ap, arith}
 use Rattle.std.specs.Prelude.{slice_get}
 use Rattle.std.specs.List.{range_with_len}
 use Rattle.std.specs.declared.alloc.Global.{Global}
 use Rattle.std.proofs.lemmas.Bool.{cases_lt}
 use Rattle.std.proofs.lemmas.List.{length-map}
-use Rattle.model.specs.Programs.{Program, Rule, rule_at, arity_of}
+use Rattle.model.specs.Programs.{Program, Rule, arity_of}
 use Rattle.model.specs.Bounds.{Bound, Constant, Input}
-use Rattle.model.specs.Paths.{target_in, target_of}
+use Rattle.model.specs.Paths.{target_in}
 use Rattle.model.proofs.Membership.{no_is_not_yes, slice_get-below}
 use Rattle.outcome.specs.declared.entry.Stored.{Stored}
-use Rattle.guard_prep.specs.Prepared.{prepared}
 use Rattle.proof_nodes.specs.AcceptsPlain.{IsRule}
 use Rattle.proof_tree.specs.declared.answer.EmptyAnswer.{EmptyAnswer}
 use Rattle.rank_search.specs.EmptyAnswers.{SaysEmpty}
@@ -25,9 +24,9 @@ use Rattle.time_bounds.specs.ProgramSearches.{searches_of_program}
 use Rattle.size_bounds.specs.Tables.{entry_at, row_at, bound_stored, table_of}
 use Rattle.time_bounds.specs.Questions.{IsTable}
 use Rattle.time_bounds.specs.Fates.{fate_at, is_empty_fate, is_dead_fate, AreFates}
-use Rattle.time_bounds.specs.Beginning.{zero_by, first_times, start_sizes, sizes_by, first_sizes}
+use Rattle.time_bounds.specs.Beginning.{zero_by, first_times, sizes_by, first_sizes}
 use Rattle.size_bounds.proofs.Stored.{entry_past}
-use Rattle.time_bounds.proofs.RoundLaws.{rule_there, rule_below}
+use Rattle.time_bounds.proofs.RoundLaws.{rule_there}
 use Rattle.time_bounds.proofs.FateLaws.{shown, says}
 
 no_bound : (o : Option Bound) (b : Bound) → o ≡ None → o ≡ Some b → ⊥

@@ -1,16 +1,14 @@
 -- What an analysis finds is what its report is asked to say.
-use Rattle.std.proofs.Common.{◌≡◌, ◌↔◌, ◌⊎◌, inl, inr, ℕ, zero, suc, ◌+◌, ◌<◌, ◌&&◌, Bool, true, false, List, [], ◌∷◌, length, map, Option, Some, None, refl, sym, ◌∙◌, ap, subst, arith}
+use Rattle.std.proofs.Common.{◌≡◌, ◌↔◌, ℕ, zero, suc, ◌+◌, List, [], ◌∷◌, map, Option, Some, None, refl, sym, ◌∙◌, ap, subst, arith}
 use Rattle.std.specs.Prelude.{slice_get, slice_index_or, IsTrue, IsSome, is_some}
 use Rattle.std.specs.List.{list_all}
 use Rattle.std.specs.Option.{option_map}
 use Rattle.std.proofs.lemmas.List.{length-map}
 use Rattle.model.specs.Programs.{Program}
-use Rattle.model.specs.Bounds.{Bound, IsBased, Parts}
+use Rattle.model.specs.Bounds.{Bound, Parts}
 use Rattle.model.specs.Facts.{HoldsTime, HoldsSize, HoldsTotal}
-use Rattle.model.proofs.Membership.{no_is_not_yes}
 use Rattle.its_model.specs.Valid.{IsValid}
-use Rattle.bound_expr.specs.Views.{bound_of}
-use Rattle.outcome.specs.Reports.{Time, Timed, Untimed, Size, Sized, Unsized, Report, is_timed}
+use Rattle.outcome.specs.Reports.{Time, Timed, Untimed, Size, Sized, Report, is_timed}
 use Rattle.outcome.specs.Holding.{IsReportOn, ReportHolds, numbered_entry, place_entry}
 use Rattle.outcome.specs.Views.{time_of}
 use Rattle.outcome.specs.declared.entry.TimeEntry.{TimeEntry}
@@ -155,5 +153,5 @@ module _ (p : Program) (pivots : ℕ) (valid : IsValid p) (r : Report) (h : IsAn
   report_fits = record {
     times = h.one_each;
     total = subst (λ (o : Option Bound). IsTrue (list_all is_timed r.times) ↔ IsSome o) (sym h.total) (total_told r.times);
-    sizes = inr h.places;
+    sizes = h.places;
   }

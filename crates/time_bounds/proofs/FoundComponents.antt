@@ -11,7 +11,7 @@ use Rattle.local_size.specs.declared.answer.LocalAnswer.{LocalAnswer}
 use Rattle.proof_setting.specs.Setting.{setting_of}
 use Rattle.proof_tree.specs.Composing.{AreRowsOf}
 use Rattle.rvg_components.specs.declared.component.Component.{Component}
-use Rattle.rvg_components.specs.Listing.{answer_lists, is_flagged, local_from, members_of, AreLocalsFor, IsGiven, AreComponents, SaysWhetherItLoops}
+use Rattle.rvg_components.specs.Listing.{answer_lists, is_flagged, local_from, members_of, AreLocalsFor, AreAnswersGiven, AreComponents, SaysWhetherItLoops}
 use Rattle.time_bounds.specs.declared.candidates.Candidate.{Candidate}
 use Rattle.time_bounds.specs.declared.fates.Fate.{Fate}
 use Rattle.time_bounds.specs.ProgramSearches.{searches_of_program}
@@ -46,7 +46,7 @@ handed p pivots fates g old preps had lists live valid graph rows are all e f h 
 
 module _ (p : Program) (pivots : ℕ) (fates : List Fate) (g : Graph) (preps : List RuleRows) (lists : List (Vec LocalAnswer Global)) (live : List Bool)
     (h : Handed p pivots fates g preps lists live) where
-  pub given : IsGiven p g preps (answer_lists lists) live
+  pub given : AreAnswersGiven p g preps (answer_lists lists) live
   given = record {
     valid = h.valid;
     graph = h.graph;

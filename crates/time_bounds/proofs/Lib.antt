@@ -34,7 +34,6 @@ pub mod LiveSpots
 pub mod RightComponents
 pub mod RightSizings
 -- and a program has one analysis
-pub mod SameListings
 pub mod OneSizings
 pub mod OneSizes
 pub mod OneSearches

@@ -1,12 +1,11 @@
 -- The answers for the places of a live rule, by what is read of the rule.
-use Rattle.std.proofs.Common.{◌≡◌, ℕ, suc, ◌+◌, ◌<◌, List, [], length, map, get_or, Option, Some, refl, sym, ◌∙◌, ap, subst, arith}
+use Rattle.std.proofs.Common.{◌≡◌, ℕ, suc, ◌+◌, ◌<◌, List, [], length, get_or, Some, refl, sym, ◌∙◌, ap, subst, arith}
 use Rattle.std.specs.Prelude.{slice_get, IfOk}
 use Rattle.std.specs.declared.result.Result.{Result}
 use Rattle.std.specs.declared.result.Result.TheVariants.{Ok, Err}
 use Rattle.std.proofs.lemmas.List.{length-map}
 use Rattle.std.proofs.lemmas.Option.{slice_get_read}
-use Rattle.model.specs.Programs as plain
-use Rattle.model.specs.Programs.{rule_at, arity_of}
+use Rattle.model.specs.Programs.{rule_at}
 use Rattle.its_model.specs.declared.program.Symbol.{Symbol}
 use Rattle.its_model.specs.declared.program.Rule.{Rule}
 use Rattle.its_model.specs.declared.program.Program.{Program}
@@ -20,7 +19,7 @@ use Rattle.local_size.specs.declared.answer.LocalAnswer.{LocalAnswer}
 use Rattle.poly_terms.specs.Views.{form_of}
 use Rattle.proof_tree.specs.Composing.{AreRowsOf}
 use Rattle.proof_tree.specs.declared.answer.EmptyAnswer.{EmptyAnswer}
-use Rattle.rank_search.specs.EmptyAnswers.{IsPrepared, IsEmptyAnswer}
+use Rattle.rank_search.specs.EmptyAnswers.{IsPrepared}
 use Rattle.rank_search.specs.RankAnswers.{AreEmptyAnswers}
 use Rattle.rank_search.proofs.RankSets.{rule-of}
 use Rattle.time_bounds.specs.declared.fates.Fate.{Fate}

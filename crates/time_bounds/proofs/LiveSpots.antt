@@ -9,7 +9,7 @@ use Rattle.model.specs.Paths.{target_of}
 use Rattle.model.proofs.Membership.{same_number, told_same, no_is_not_yes, is_in-cases}
 use Rattle.proof_nodes.specs.Nodes.{Spot}
 use Rattle.proof_nodes.specs.AcceptsPlain.{IsRule, places_at}
-use Rattle.rvg_components.specs.Flows.{spots_after, spots_of, live_spots}
+use Rattle.rvg_components.specs.Flows.{target_spots, spots_of, live_spots}
 use Rattle.round_relation.specs.Tables.{IsPlace}
 use Rattle.round_relation.specs.NewSizes.{has_spot}
 use Rattle.round_relation.proofs.Numbered.{rule_in, place_in, in_places}
@@ -54,7 +54,7 @@ row-from t (i ∷ is) = (omega arith, row-from t is)
 module _ (p : Program) (is_live : ℕ → Bool) where
   -- the places after a rule, where it is live
   abbrev row : ℕ → Bool → List Spot
-  row t v = cond v (spots_after p t) []
+  row t v = cond v (target_spots p t) []
 
   row-ascends : (t : ℕ) (v : Bool) → Ascend (row t v)
   row-ascends t false = tt
@@ -164,5 +164,5 @@ live_spots-same p f g same = by (range_with_len 1 (length p.rules))
     by : (ts : List ℕ) → spots_of p f ts ≡ spots_of p g ts
     by [] = refl
     by (t ∷ ts) =
-        ap (λ (v : Bool). cond v (spots_after p t) [] ++ spots_of p f ts) (same t)
-        ∙ ap (λ (ms : List Spot). cond (g t) (spots_after p t) [] ++ ms) (by ts)
+        ap (λ (v : Bool). cond v (target_spots p t) [] ++ spots_of p f ts) (same t)
+        ∙ ap (λ (ms : List Spot). cond (g t) (target_spots p t) [] ++ ms) (by ts)

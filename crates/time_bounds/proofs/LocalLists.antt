@@ -1,11 +1,10 @@
 -- Lists of answers for the places of live rules are what is answered of them.
-use Rattle.std.proofs.Common.{◌≡◌, ◌↔◌, ℕ, zero, suc, ◌+◌, ◌<◌, ◌≤◌, Bool, true, false, not, List, [], ◌∷◌, ◌++◌, length, map, Option, Some, None, refl, sym, ◌∙◌, ap, subst, arith}
+use Rattle.std.proofs.Common.{◌≡◌, ℕ, zero, suc, ◌+◌, ◌<◌, Bool, true, false, not, List, [], ◌∷◌, ◌++◌, length, map, Some, None, refl, sym, ◌∙◌, ap, subst, arith}
 use Rattle.std.specs.Prelude.{slice_get, slice_index_or}
 use Rattle.std.proofs.lemmas.List.{length-map}
 use Rattle.model.specs.Programs.{Program, Rule, rule_at, arity_of}
-use Rattle.model.specs.Paths.{target_of, target_in}
+use Rattle.model.specs.Paths.{target_in}
 use Rattle.model.proofs.Membership.{no_is_not_yes}
-use Rattle.its_model.specs.Valid.{IsValid}
 use Rattle.guard_prep.specs.Prepared.{Prepared, prepared}
 use Rattle.proof_nodes.specs.AcceptsPlain.{IsRule}
 use Rattle.proof_tree.specs.declared.answer.EmptyAnswer.{EmptyAnswer}
@@ -15,7 +14,7 @@ use Rattle.rank_search.specs.RankAnswers.{AreEmptyAnswers}
 use Rattle.local_size.specs.LocalAnswers.{IsLocal, local_seen}
 use Rattle.local_size.specs.declared.answer.LocalAnswer.{LocalAnswer}
 use Rattle.round_relation.specs.Tables.{IsPlace}
-use Rattle.round_relation.specs.Beginning.{IsDead, IsEmpty}
+use Rattle.round_relation.specs.Beginning.{IsDead}
 use Rattle.rvg_components.specs.Listing.{answers_for, local_in, local_from, is_flagged, AreLocalsFor}
 use Rattle.time_bounds.specs.declared.fates.Fate.{Fate}
 use Rattle.time_bounds.specs.declared.fates.Fate.TheVariants.{Empty, Unreached, Live}

@@ -1,15 +1,14 @@
 -- A component that doesn't loop has one member.
-use Rattle.std.proofs.Common.{◌≡◌, ◌⊎◌, inl, inr, ℕ, zero, suc, ◌+◌, ◌<◌, ◌≤◌, ◌||◌, Bool, true, false, List, [], ◌∷◌, ◌++◌, length, map, refl, sym, ◌∙◌, ap, subst, arith, Contains, get_or}
+use Rattle.std.proofs.Common.{◌≡◌, inl, inr, ℕ, zero, suc, ◌+◌, ◌<◌, ◌||◌, Bool, true, false, List, [], ◌∷◌, ◌++◌, length, map, refl, sym, ◌∙◌, ap, subst, arith, Contains}
 use Rattle.std.specs.List.{list_any}
-use Rattle.std.specs.List.Sorted.{IsStrictlyIncreasing}
 use Rattle.std.proofs.lemmas.List.{append_assoc}
 use Rattle.model.specs.Paths.{Path, Here, Onward}
 use Rattle.model.proofs.Membership.{no_is_not_yes}
-use Rattle.its_graph.specs.Components.{IsMutual, IsNext, IsListing}
+use Rattle.its_graph.specs.Components.{IsNext, IsListing}
 use Rattle.proof_nodes.specs.Nodes.{Spot}
 use Rattle.proof_nodes.specs.Setting.{Setting}
 use Rattle.round_relation.specs.Components.{IsOneOf}
-use Rattle.rvg_components.specs.Flows.{Locals, flows_into, live_spots, loops}
+use Rattle.rvg_components.specs.Flows.{Locals, value_flows, live_spots, loops}
 use Rattle.rvg_components.specs.Listing.{spot_at, HasFlow, AreComponents}
 
 -- paths one behind the other
@@ -62,8 +61,8 @@ module _ (s : Setting) (is_live : ℕ → Bool) (local : Locals) where
         onward = joined flow next.least a last.from to_a.onward last.way;
         back = joined flow last.from b next.least (Onward (Here refl) last.edge) to_b.back;
       } in
-      any_of at (λ n. list_any (λ m. flows_into s local m n) (map at ps)) ps b in_b
-      (any_of at (λ m. flows_into s local m (at b)) ps last.from in_from last.edge.flow)
+      any_of at (λ n. list_any (λ m. value_flows s local m n) (map at ps)) ps b in_b
+      (any_of at (λ m. value_flows s local m (at b)) ps last.from in_from last.edge.flow)
 
   -- so one that doesn't has one member
   one_member : (ps : List ℕ) (nodes : ℕ) (before : List (List ℕ)) → IsNext flow nodes before ps → loops s local (map at ps) ≡ false

@@ -1,6 +1,6 @@
 -- Where each question has one answer, each program has one analysis.
 use Rattle.std.proofs.Common.{◌≡◌, ℕ, suc, List, [], ◌∷◌, length, map, Some, None, refl, sym, ◌∙◌, ap, subst, arith}
-use Rattle.model.specs.Programs.{Program, arity_of}
+use Rattle.model.specs.Programs.{Program}
 use Rattle.model.specs.Bounds.{Bound}
 use Rattle.outcome.specs.Reports.{Time, Timed, Untimed, NoTime, Size, Sized, Unsized, NoSize, Report}
 use Rattle.proof_nodes.specs.Nodes.{Spot}

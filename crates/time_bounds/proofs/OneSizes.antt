@@ -1,31 +1,30 @@
 -- The searches for sizes of a program have one answer to each question.
 use Rattle.std.proofs.Common.{◌≡◌, ℕ, Bool, true, false, List, [], ◌∷◌, length, map, Option}
 use Rattle.std.proofs.Common.{refl, sym, ◌∙◌, ap, subst}
-use Rattle.std.specs.List.{All, AllByRecursion, range_with_len}
+use Rattle.std.specs.List.{AllByRecursion, range_with_len}
 use Rattle.std.proofs.lemmas.List.Elements.{recursion_from_All}
-use Rattle.model.specs.Programs.{Program, Rule, rule_at}
+use Rattle.model.specs.Programs.{Program, Rule}
 use Rattle.model.specs.Bounds.{Bound}
 use Rattle.guard_prep.specs.Prepared.{prepared}
 use Rattle.its_graph.specs.Components.{IsListing}
 use Rattle.its_graph.proofs.Uniqueness.{one_listing}
 use Rattle.proof_nodes.specs.Nodes.{Spot}
 use Rattle.proof_setting.specs.Setting.{setting_of}
-use Rattle.proof_tree.specs.declared.answer.EmptyAnswer.{EmptyAnswer}
 use Rattle.rank_search.specs.EmptyAnswers.{IsEmptyAnswer}
 use Rattle.rank_search.specs.OneAnswer.{EmptyAnswersAreOne}
 use Rattle.local_size.specs.LocalAnswers.{Local, IsLocal}
 use Rattle.local_size.specs.LocalLaws.{LocalAnswersAreOne}
-use Rattle.rvg_components.specs.Flows.{Locals, flows_into, live_spots}
+use Rattle.rvg_components.specs.Flows.{Locals, live_spots}
 use Rattle.rvg_components.specs.Listing.{spot_at, HasFlow, AreComponents}
 use Rattle.round_relation.specs.NewSizes.{has_spot}
 use Rattle.round_relation.specs.Searches.{Sizing}
 use Rattle.round_relation.specs.RightSizes.{AreSizesOne}
 use Rattle.round_relation.proofs.Cases.{some_same}
 use Rattle.round_relation.proofs.SameDead.{dead_by}
-use Rattle.time_bounds.specs.ProgramSizes.{spot, AreLive, IsLocalOf, AreLocals, AreLocalsOf, sizes_of_program}
+use Rattle.time_bounds.specs.ProgramSizes.{spot, AreLive, IsLocalOf, AreLocals, sizes_of_program}
 use Rattle.time_bounds.proofs.SpotLists.{at-member}
 use Rattle.time_bounds.proofs.LiveSpots.{listed-live, live_spots-same}
-use Rattle.time_bounds.proofs.SameListings.{listing-same}
+use Rattle.rvg_components.proofs.Listings.{listing-same}
 use Rattle.time_bounds.proofs.OneSizings.{flow_same, sizing_one}
 
 -- two tests that say yes together are the same

@@ -1,7 +1,7 @@
 -- What is answered of a component is one, where what is answered of its places is.
-use Rattle.std.proofs.Common.{◌≡◌, ℕ, ◌-◌, ◌&&◌, ◌||◌, Bool, true, false, List, [], ◌∷◌, map, Option, Some, None, refl, sym}
+use Rattle.std.proofs.Common.{◌≡◌, ◌-◌, ◌&&◌, ◌||◌, Bool, true, false, List, [], ◌∷◌, map, Option, Some, None, refl, sym}
 use Rattle.std.proofs.Common.{◌∙◌, ap, subst}
-use Rattle.std.specs.List.{All, AllByRecursion, list_any}
+use Rattle.std.specs.List.{AllByRecursion, list_any}
 use Rattle.std.proofs.lemmas.List.Elements.{recursion_from_All}
 use Rattle.model.specs.Bounds.{Bound}
 use Rattle.model.specs.Entries.{is_in}
@@ -16,11 +16,11 @@ use Rattle.proof_nodes.proofs.CheckLists.{passed_has_none, first_is_one}
 use Rattle.proof_nodes.proofs.SizeReasons.{spread-passes, cycle-passes}
 use Rattle.outcome.specs.Reports.{NoSize, IsLoose, SizeTripped, IsMissing, IsBent, LacksTime, SizeLarge}
 use Rattle.local_size.specs.LocalAnswers.{Local, HasBound}
-use Rattle.rvg_components.specs.Flows.{Locals, local_reads, flows_into, loops}
+use Rattle.rvg_components.specs.Flows.{Locals, local_reads, value_flows, loops}
 use Rattle.round_relation.specs.Searches.{Sizing, Found, NotFound}
 use Rattle.round_relation.specs.RightSizes.{IsToldBy}
 use Rattle.round_relation.proofs.Cases.{some_same}
-use Rattle.time_bounds.specs.ProgramSizes.{loose_reason, trip_reason, or_else, first_reason, lacks_arms, AreMembers}
+use Rattle.time_bounds.specs.ProgramSizes.{loose_reason, trip_reason, or_else, first_reason, lacks_arms}
 use Rattle.time_bounds.specs.ProgramSizes.{IsSpreadSizing, IsCycleSizing, IsSizingBy, IsJudged, IsSizingOf}
 
 -- a test that is the same for each element
@@ -62,7 +62,7 @@ same_arms l k e = cc
 
 -- a value flows by one list of answers where it does by another with the same answer for the place that it flows into
 pub flow_same : (s : Setting) (f g : Locals) (m n : Spot) → f n.rule n.place ≡ g n.rule n.place
-    → flows_into s f m n ≡ flows_into s g m n
+    → value_flows s f m n ≡ value_flows s g m n
 flow_same s f g m n e =
     ap (λ (x : Local). is_in m.rule (pre s.program n.rule) && local_reads s n x (m.place - 1)) e
 
@@ -104,19 +104,19 @@ module _ (s : Setting) (tab : Table) where
 
     loops_same : (spots : List Spot) → AllByRecursion IsSameAt spots → loops s f spots ≡ loops s g spots
     loops_same spots h =
-        any_same (λ n. list_any (λ m. flows_into s f m n) spots) (λ n. list_any (λ m. flows_into s g m n) spots) spots
+        any_same (λ n. list_any (λ m. value_flows s f m n) spots) (λ n. list_any (λ m. value_flows s g m n) spots) spots
         (outer spots h)
       where
         inner : (n : Spot) → IsSameAt n → (ms : List Spot)
-            → AllByRecursion (λ m. flows_into s f m n ≡ flows_into s g m n) ms
+            → AllByRecursion (λ m. value_flows s f m n ≡ value_flows s g m n) ms
         inner n e [] = tt
         inner n e (m ∷ ms) = (flow_same s f g m n e, inner n e ms)
 
         outer : (ns : List Spot) → AllByRecursion IsSameAt ns
-            → AllByRecursion (λ n. list_any (λ m. flows_into s f m n) spots ≡ list_any (λ m. flows_into s g m n) spots) ns
+            → AllByRecursion (λ n. list_any (λ m. value_flows s f m n) spots ≡ list_any (λ m. value_flows s g m n) spots) ns
         outer [] k = tt
         outer (n ∷ ns) k =
-            (any_same (λ m. flows_into s f m n) (λ m. flows_into s g m n) spots (inner n k.0 spots), outer ns k.1)
+            (any_same (λ m. value_flows s f m n) (λ m. value_flows s g m n) spots (inner n k.0 spots), outer ns k.1)
 
     reason_same : (reason : Local → Option NoSize) (spots : List Spot) → AllByRecursion IsSameAt spots
         → first_reason reason f spots ≡ first_reason reason g spots

@@ -1,9 +1,9 @@
 -- The bounds that are found of a program are tidy, over the start arguments alone.
 use Rattle.std.proofs.Common.{◌≡◌, ◌⊎◌, inl, inr, ℕ, zero, suc, ◌+◌, ◌-◌, ◌≤◌, Bool, not, true, false, if◌then◌else◌, List, [], ◌∷◌}
-use Rattle.std.proofs.Common.{length, map, Option, Some, None, refl, sym, ◌∙◌, ap, subst, arith, slice_get, All}
+use Rattle.std.proofs.Common.{length, map, Option, Some, None, refl, sym, ◌∙◌, ap, subst, arith, All}
 use Rattle.std.specs.List.{AllByRecursion}
 use Rattle.model.specs.Programs.{Program, Rule, rule_at, arity_of}
-use Rattle.model.specs.Bounds.{Bound, Constant, Input, SumOf, Parts, NoParts, EachNode}
+use Rattle.model.specs.Bounds.{Bound, Constant, Input, SumOf, Parts, NoParts}
 use Rattle.model.specs.Limits.{coefficient_limit}
 use Rattle.model.specs.Terms.{Term}
 use Rattle.model.specs.Polynomials.{Polynomial}

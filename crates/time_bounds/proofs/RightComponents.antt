@@ -1,12 +1,12 @@
 -- The components that are found of a program are those of the places of live rules.
-use Rattle.std.proofs.Common.{◌≡◌, ◌⊎◌, inl, inr, ℕ, zero, suc, ◌<◌, Bool, true, List, [], ◌∷◌, ◌++◌, length, map, refl, sym, ◌∙◌}
+use Rattle.std.proofs.Common.{◌≡◌, inl, inr, ℕ, zero, suc, ◌<◌, Bool, true, List, [], ◌∷◌, ◌++◌, length, map, refl, sym, ◌∙◌}
 use Rattle.std.proofs.Common.{ap, subst, arith, append_assoc, Contains, All}
 use Rattle.std.proofs.lemmas.List.Elements.{All-nil, All-cons}
 use Rattle.std.specs.List.{range_with_len}
 use Rattle.model.specs.Programs.{Program}
 use Rattle.proof_nodes.specs.Nodes.{Spot}
 use Rattle.proof_nodes.specs.AcceptsPlain.{IsRule}
-use Rattle.its_graph.specs.Components.{IsMutual, IsNext, IsListing}
+use Rattle.its_graph.specs.Components.{IsMutual, IsListing}
 use Rattle.its_graph.proofs.Routes.{join, path-within}
 use Rattle.rvg_components.specs.Flows.{Locals, live_spots}
 use Rattle.rvg_components.specs.Listing.{spot_at, HasFlow, AreComponents}
@@ -14,9 +14,9 @@ use Rattle.proof_setting.specs.Setting.{setting_of}
 use Rattle.round_relation.specs.Tables.{IsPlace}
 use Rattle.round_relation.specs.Beginning.{IsDead}
 use Rattle.round_relation.specs.NewSizes.{has_spot}
-use Rattle.round_relation.specs.Components.{AreAscending, IsListed, AreApart, AreComponentsOf}
+use Rattle.round_relation.specs.Components.{AreSpotsAscending, IsCovered, AreApart, AreComponentsOf}
 use Rattle.time_bounds.specs.ProgramSearches.{searches_of_program}
-use Rattle.time_bounds.specs.ProgramSizes.{spot, AreLive, sizes_of_program}
+use Rattle.time_bounds.specs.ProgramSizes.{AreLive, sizes_of_program}
 use Rattle.time_bounds.proofs.SpotLists.{Ascend, at-one, member-at, at-member, ascending-chosen, chosen-told, told-chosen}
 use Rattle.time_bounds.proofs.LiveSpots.{live-ascend, listed-live, live-listed}
 
@@ -44,10 +44,10 @@ module _ (spots : List Spot) (up : Ascend spots) (Edge : ℕ → ℕ → Type 0)
       path-within Edge (length spots) within next.least b next.ready.node ((next.members b).0 h).onward
 
   -- members of each component ascend
-  ascends : (before rest : List (List ℕ)) → positions ≡ before ++ rest → All AreAscending (all_places rest)
-  ascends before [] e = All-nil AreAscending
+  ascends : (before rest : List (List ℕ)) → positions ≡ before ++ rest → All AreSpotsAscending (all_places rest)
+  ascends before [] e = All-nil AreSpotsAscending
   ascends before (c ∷ rest) e =
-      All-cons AreAscending (places c) (all_places rest)
+      All-cons AreSpotsAscending (places c) (all_places rest)
       (ascending-chosen spots up c (listing.each before rest c e).ascending (member-within before rest c e))
       (ascends (before ++ c ∷ []) rest (e ∙ sym (append_assoc before (c ∷ []) rest)))
 
@@ -79,7 +79,7 @@ module _ (spots : List Spot) (up : Ascend spots) (Edge : ℕ → ℕ → Type 0)
 
   elsewhere : (before : List (List ℕ)) (c : List ℕ) (between rest : List (List ℕ))
       → positions ≡ before ++ c ∷ (between ++ rest) → (t i : ℕ) → has_spot (places c) t i ≡ true
-      → IsListed (all_places rest) t i → ⊥
+      → IsCovered (all_places rest) t i → ⊥
   elsewhere before c between [] e t i h l = l
   elsewhere before c between (d ∷ rest) e t i h (inl k) = twice before between c d rest e t i h k
   elsewhere before c between (d ∷ rest) e t i h (inr l) =
@@ -94,7 +94,7 @@ module _ (spots : List Spot) (up : Ascend spots) (Edge : ℕ → ℕ → Type 0)
   )
 
   -- a member of a component is one of the places
-  is_place : (before rest : List (List ℕ)) → positions ≡ before ++ rest → (t i : ℕ) → IsListed (all_places rest) t i
+  is_place : (before rest : List (List ℕ)) → positions ≡ before ++ rest → (t i : ℕ) → IsCovered (all_places rest) t i
       → has_spot spots t i ≡ true
   is_place before [] e t i l = absurd l
   is_place before (c ∷ rest) e t i (inl h) =
@@ -105,28 +105,28 @@ module _ (spots : List Spot) (up : Ascend spots) (Edge : ℕ → ℕ → Type 0)
 
   -- and each of the places is a member of one
   listed_in : (pss : List (List ℕ)) (c : List ℕ) (t i : ℕ) → Contains pss c → has_spot (places c) t i ≡ true
-      → IsListed (all_places pss) t i
+      → IsCovered (all_places pss) t i
   listed_in [] c t i (n, l, same) h = absurd (omega (arith, l))
   listed_in (d ∷ pss) c t i (zero, l, same) h =
       inl (subst (λ (ps : List ℕ). has_spot (places ps) t i ≡ true) (sym same) h)
   listed_in (d ∷ pss) c t i (suc n, l, same) h = inr (listed_in pss c t i (n, omega (arith, l), same) h)
 
-  place_listed : (t i : ℕ) → has_spot spots t i ≡ true → IsListed (all_places positions) t i
+  place_listed : (t i : ℕ) → has_spot spots t i ≡ true → IsCovered (all_places positions) t i
   place_listed t i h =
       let x = member-at spots t i h in
       let there = listing.all x.0 x.1 in
       listed_in positions there.component t i there.listed (told-chosen spots there.component x.0 t i there.member x.2)
 
-  pub chosen_ascend : All AreAscending (all_places positions)
+  pub chosen_ascend : All AreSpotsAscending (all_places positions)
   chosen_ascend = ascends [] positions refl
 
   pub chosen_apart : AreApart (all_places positions)
   chosen_apart = apart [] positions refl
 
-  pub chosen_place : (t i : ℕ) → IsListed (all_places positions) t i → has_spot spots t i ≡ true
+  pub chosen_place : (t i : ℕ) → IsCovered (all_places positions) t i → has_spot spots t i ≡ true
   chosen_place t i l = is_place [] positions refl t i l
 
-  pub place_chosen : (t i : ℕ) → has_spot spots t i ≡ true → IsListed (all_places positions) t i
+  pub place_chosen : (t i : ℕ) → has_spot spots t i ≡ true → IsCovered (all_places positions) t i
   place_chosen t i h = place_listed t i h
 
 module _ (p : Program) (pivots : ℕ) (is_live : ℕ → Bool) (lives : AreLive p pivots is_live) (local : Locals)

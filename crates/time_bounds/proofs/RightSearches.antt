@@ -1,4 +1,5 @@
 -- The answers of the searches of a valid program are right.
+use Rattle.rank_search.proofs.Exact.{nodes-accepted as empty_nodes-accepted}
 use Rattle.std.proofs.Common.{◌≡◌, inl, inr, ℕ, zero, suc, ◌<◌, ◌==◌, Bool, true, false, List, [], ◌∷◌, length, map, Option, Some, None, refl, sym, ◌∙◌, ap, subst, arith, slice_get}
 use Rattle.std.specs.Prelude.{ℤ, pos, ◌+ℤ◌, ◌*ℤ◌, ◌≤ℤ◌}
 use Rattle.std.specs.List.{Contains}
@@ -30,7 +31,6 @@ use Rattle.rank_search.specs.ProgramQuestions.{forms_in, ranked_set}
 use Rattle.rank_search.specs.EmptyAnswers.{IsEmptyAnswer, EmptyNodesAreAccepted}
 use Rattle.rank_search.specs.RankAnswers.{IsRuleSet, answer_for, AreEmptyAnswers, part_at, trip_in, first_of, first_trip, IsRankAnswer}
 use Rattle.rank_search.specs.RankLaws.{found, RankedNodesRank, RankedNodesAreAccepted, RankAnswersAreExact}
-use Rattle.rank_search.proofs.Exact.{nodes-accepted as empty_nodes-accepted}
 use Rattle.rank_search.proofs.NodeLaws.{nodes-rank}
 use Rattle.rank_search.proofs.Accepted.{nodes-accepted}
 use Rattle.rank_search.proofs.RankExact.{answers-exact}

@@ -1,8 +1,8 @@
 -- The answers about sizes of a valid program are right.
 use Rattle.std.proofs.Common.{◌≡◌, ◌⊎◌, inl, inr, ℕ, zero, suc, ◌-◌, ◌<◌, ◌≤◌, ◌==◌, ◌&&◌, Bool, true, false, List, [], ◌∷◌}
-use Rattle.std.proofs.Common.{map, Option, Some, None, refl, sym, ◌∙◌, ap, subst, arith, slice_get, slice_index_or}
+use Rattle.std.proofs.Common.{map, Option, Some, None, refl, sym, ◌∙◌, ap, subst, arith, slice_index_or}
 use Rattle.std.specs.Prelude.{ℤ, pos, negsuc, ◌*ℤ◌, ◌<ℤ◌}
-use Rattle.std.specs.List.{All, AllByRecursion}
+use Rattle.std.specs.List.{AllByRecursion}
 use Rattle.std.proofs.lemmas.Bool.{and_from, or_left, or_right}
 use Rattle.std.proofs.lemmas.Int.{ints}
 use Rattle.std.proofs.lemmas.List.Elements.{recursion_from_All}
@@ -13,14 +13,14 @@ use Rattle.its_model.specs.Valid.{IsValid}
 use Rattle.linear_forms.specs.Forms.{Form, at, form_value}
 use Rattle.linear_forms.specs.Combinations.{zero_form}
 use Rattle.linear_forms.specs.Points.{IsPoint, IsRay}
-use Rattle.linear_forms.specs.RuleQuestions.{after_rule, opposite}
+use Rattle.linear_forms.specs.RuleQuestions.{after_rule}
 use Rattle.linear_forms.proofs.CombinationLaws.{form_value-times}
 use Rattle.rule_forms.specs.Bounds.{IsLooseRay}
 use Rattle.guard_prep.specs.Prepared.{prepared}
 use Rattle.proof_nodes.specs.Nodes.{Spot, Member}
 use Rattle.proof_nodes.specs.Gaps.{ScaledPoint}
 use Rattle.proof_nodes.specs.Combined.{form_at}
-use Rattle.proof_nodes.specs.AcceptsSizes.{Side, Up, Low, IsSpot, left_in, left_of, new_value}
+use Rattle.proof_nodes.specs.AcceptsSizes.{Side, Up, Low, left_in, new_value}
 use Rattle.proof_nodes.specs.Known.{Table}
 use Rattle.proof_setting.specs.Setting.{setting_of, rows_in, news_in}
 use Rattle.proof_tree.specs.declared.answer.EmptyAnswer.{EmptyAnswer}
@@ -31,20 +31,20 @@ use Rattle.outcome.specs.Reports.{NoSize, IsLoose, SizeTripped}
 use Rattle.rank_search.specs.EmptyAnswers.{IsEmptyAnswer}
 use Rattle.rank_search.specs.RankAnswers.{trip_in}
 use Rattle.local_size.specs.Places.{local_forms, value_on}
-use Rattle.local_size.specs.LocalAnswers.{Local, HasBound, IsLooseOn, HasTripped, IsLocal, IsOwnTrip, IsEmptyTrip}
+use Rattle.local_size.specs.LocalAnswers.{Local, HasBound, IsLooseOn, HasTripped, IsOwnTrip, IsEmptyTrip}
 use Rattle.local_size.specs.LocalLaws.{IsSpotOf, LooseAnswersAreLoose}
 use Rattle.local_size.proofs.Loose.{loose-answers}
 use Rattle.rvg_components.specs.Flows.{Locals, loops}
 use Rattle.round_relation.specs.Tables.{IsPlace}
 use Rattle.round_relation.specs.Searches.{Sizing, Found, NotFound}
 use Rattle.round_relation.specs.NewSizes.{has_spot}
-use Rattle.round_relation.specs.RightSizes.{MovesTo, IsLooseAt, IsCause, IsFirstCause, IsRightSizing, IsToldBy}
+use Rattle.round_relation.specs.RightSizes.{MovesTo, IsLooseAt, IsCause, IsFirstCause, IsRightSizing}
 use Rattle.round_relation.specs.RightSizes.{AreSizesRight}
 use Rattle.round_relation.proofs.Cases.{some_same, none_some}
 use Rattle.time_bounds.specs.ProgramSearches.{searches_of_program}
-use Rattle.time_bounds.specs.ProgramSizes.{spot, IsLocalOf, AreLocalsOf, told_side, loose_reason, trip_reason, or_else}
+use Rattle.time_bounds.specs.ProgramSizes.{spot, IsLocalOf, AreLocalsOf, loose_reason, trip_reason, or_else}
 use Rattle.time_bounds.specs.ProgramSizes.{first_reason, lacks_arms, IsSpreadSizing, IsCycleSizing, IsSizingBy}
-use Rattle.time_bounds.specs.ProgramSizes.{IsJudged, IsSizingOf, sizes_of_program}
+use Rattle.time_bounds.specs.ProgramSizes.{IsSizingOf, sizes_of_program}
 use Rattle.time_bounds.specs.SearchLaws.{ProgramSizeSearchesAreRight}
 use Rattle.time_bounds.proofs.RightComponents.{components_right}
 
@@ -108,7 +108,7 @@ module _ (loose : LooseAnswersAreLoose) (p : Program) (pivots : ℕ) (valid : Is
   -- a loose answer is right
   module _ (m : Spot) (r : Rule) (numbered : rule_at p m.rule ≡ Some r) (place : IsPlace p m.rule m.place) where
     rises : (side : Side) (z : ℕ → ℤ) → pos 0 <ℤ form_value (value_on side (prepared r) m.place) z (pos 0)
-        → MovesTo (told_side side) (form_value (new_value (setting_of p) m) z (pos 0))
+        → MovesTo side (form_value (new_value (setting_of p) m) z (pos 0))
     rises side z h =
         by side (subst (λ (n : ℕ). pos 0 <ℤ form_value (value_on side (prepared r) n) z (pos 0)) low h)
       where
@@ -124,7 +124,7 @@ module _ (loose : LooseAnswersAreLoose) (p : Program) (pivots : ℕ) (valid : Is
         turned v w e k = omega (arith, ints, e, k)
 
         by : (d : Side) → pos 0 <ℤ form_value (value_on d (prepared r) (suc (m.place - 1))) z (pos 0)
-            → MovesTo (told_side d) (form_value (new_value (setting_of p) m) z (pos 0))
+            → MovesTo d (form_value (new_value (setting_of p) m) z (pos 0))
         by Up k = subst (λ (f : Form). pos 0 <ℤ form_value f z (pos 0)) value k
         by Low k =
             subst (λ (f : Form). form_value f z (pos 0) <ℤ pos 0) value
@@ -133,7 +133,7 @@ module _ (loose : LooseAnswersAreLoose) (p : Program) (pivots : ℕ) (valid : Is
     loose_at : (side : Side) (ray : List ℤ) (kept : ScaledPoint)
         → IsLooseRay (prepared r).rows (prepared r).left (value_on side (prepared r) m.place) (at ray)
         → IsPoint (prepared r).rows (at kept.parts) (pos kept.den)
-        → IsLooseAt (setting_of p) m (told_side side) ray kept
+        → IsLooseAt (setting_of p) m side ray kept
     loose_at side ray kept h point = record {
       along = subst (λ (o : Option Rule). IsRay (rows_in o) (at ray)) (sym numbered) h.ray;
       still = λ j l. h.still j (subst (λ (o : Option Rule). j < left_in o) numbered l);
@@ -154,7 +154,7 @@ module _ (loose : LooseAnswersAreLoose) (p : Program) (pivots : ℕ) (valid : Is
         let r = is.rule in
         let here = spot_of_rule p m r is.numbered is.place in
         let shown = loose.ray p r m pivots is.empty side ray kept valid here is.is_empty_answer is.local in
-        subst (λ (w : NoSize). IsCause (setting_of p) tab spots w) (some_same (IsLoose (told_side side) ray kept) why e)
+        subst (λ (w : NoSize). IsCause (setting_of p) tab spots w) (some_same (IsLoose side ray kept) why e)
         (m, has, loose_at m r is.numbered is.place side ray kept shown.0 shown.1)
     loose_cause m has (HasTripped t) is why e = absurd (none_some why e)
 

@@ -4,7 +4,7 @@ use Rattle.std.specs.Prelude.{slice_get}
 use Rattle.std.specs.List.{list_any}
 use Rattle.std.specs.declared.alloc.Global.{Global}
 use Rattle.std.proofs.lemmas.Bool.{cases_lt}
-use Rattle.model.specs.Programs.{Program, Rule, rule_at}
+use Rattle.model.specs.Programs.{Program, Rule}
 use Rattle.model.specs.Bounds.{Bound}
 use Rattle.model.proofs.Membership.{no_is_not_yes, slice_get-below}
 use Rattle.bound_expr.specs.Views.{bound_of}
@@ -15,7 +15,6 @@ use Rattle.proof_setting.specs.Setting.{setting_of}
 use Rattle.proof_tree.specs.declared.answer.EmptyAnswer.{EmptyAnswer}
 use Rattle.rank_search.specs.ProgramQuestions.{places_of}
 use Rattle.rank_search.specs.RankAnswers.{AreEmptyAnswers}
-use Rattle.round_relation.specs.Tables.{lacks, is_untimed}
 use Rattle.round_relation.specs.NewTimes.{Asked, TriesTime}
 use Rattle.round_relation.specs.Rounds.{NextTimes}
 use Rattle.time_bounds.specs.declared.asking.Asked as code
@@ -24,8 +23,8 @@ use Rattle.time_bounds.specs.declared.trying.Tried.{Tried}
 use Rattle.time_bounds.specs.declared.trying.Tried.TheVariants.{Known, Found, Missing}
 use Rattle.time_bounds.specs.ProgramSearches.{searches_of_program, ranking_of}
 use Rattle.size_bounds.specs.Tables.{entry_at, row_at, bound_stored, stored_time, table_of}
-use Rattle.time_bounds.specs.Questions.{IsAnswered, IsAsked, AreKept, KnowsEmpty, IsTable}
-use Rattle.time_bounds.specs.Tries.{IsMissing, IsTried, AreTried, found_in, kept_in, or_found, after_round, after_tries, is_found, one_if_found, count_found, count_missing}
+use Rattle.time_bounds.specs.Questions.{IsAnswered, IsAsked, AreKept}
+use Rattle.time_bounds.specs.Tries.{IsTried, AreTried, found_in, kept_in, or_found, after_round, after_tries, is_found, one_if_found, count_found, count_missing}
 use Rattle.size_bounds.proofs.Stored.{entry_past}
 
 no_bound : (o : Option Bound) (b : Bound) → o ≡ None → o ≡ Some b → ⊥

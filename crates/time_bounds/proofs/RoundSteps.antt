@@ -1,5 +1,5 @@
 -- What a round makes of a table that rounds meet.
-use Rattle.std.proofs.Common.{◌≡◌, ◌⊎◌, inl, inr, ℕ, zero, suc, ◌+◌, ◌<◌, ◌≤◌, ◌||◌, Bool, true, false, List, [], ◌∷◌, length, map, replicate, get_or, Option, Some, None, refl, sym, ◌∙◌, ap, subst, arith}
+use Rattle.std.proofs.Common.{◌≡◌, ℕ, zero, suc, ◌+◌, ◌<◌, ◌≤◌, true, false, List, [], ◌∷◌, length, replicate, get_or, Option, Some, None, refl, sym, ◌∙◌, ap, subst, arith}
 use Rattle.std.specs.Prelude.{IfSome}
 use Rattle.std.specs.List.{list_any}
 use Rattle.model.specs.Programs.{Program}
@@ -8,8 +8,7 @@ use Rattle.model.proofs.Membership.{no_is_not_yes}
 use Rattle.outcome.specs.declared.entry.Stored.{Stored}
 use Rattle.proof_setting.specs.Setting.{setting_of}
 use Rattle.proof_tree.specs.declared.answer.EmptyAnswer.{EmptyAnswer}
-use Rattle.rank_search.specs.EmptyAnswers.{SaysEmpty}
-use Rattle.rank_search.specs.RankAnswers.{answer_for, AreEmptyAnswers}
+use Rattle.rank_search.specs.RankAnswers.{AreEmptyAnswers}
 use Rattle.round_relation.specs.Tables.{lacks, is_untimed}
 use Rattle.round_relation.specs.Rounds.{NextTimes}
 use Rattle.time_bounds.specs.declared.asking.Asked.{Asked}
@@ -17,9 +16,9 @@ use Rattle.size_bounds.specs.declared.table.Table.{Table}
 use Rattle.time_bounds.specs.declared.trying.Tried.{Tried}
 use Rattle.time_bounds.specs.declared.trying.Tried.TheVariants.{Known, Found, Missing}
 use Rattle.time_bounds.specs.ProgramSearches.{searches_of_program}
-use Rattle.size_bounds.specs.Tables.{entry_at, bound_stored, stored_time, table_of}
-use Rattle.time_bounds.specs.Questions.{IsAnswered, AreKept, KnowsEmpty, IsTable}
-use Rattle.time_bounds.specs.Tries.{AreTried, after_round, after_tries, is_found, one_if_found, count_found, count_missing}
+use Rattle.size_bounds.specs.Tables.{entry_at, stored_time, table_of}
+use Rattle.time_bounds.specs.Questions.{IsAnswered, AreKept, IsTable}
+use Rattle.time_bounds.specs.Tries.{AreTried, after_round, after_tries, is_found, count_found, count_missing}
 use Rattle.time_bounds.proofs.Settling.{tries_long}
 use Rattle.time_bounds.proofs.RoundLaws.{known, next, closed, fewer_missing}
 

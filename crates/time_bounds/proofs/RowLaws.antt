@@ -1,14 +1,14 @@
 -- Rows and answers, rule by rule, are those of the program.
-use Rattle.std.proofs.Common.{◌≡◌, ℕ, zero, suc, ◌+◌, ◌<◌, List, [], ◌∷◌, ◌++◌, length, map, get_or, All, Option, Some, None, option_map, refl, sym, ◌∙◌, ap, subst, arith}
+use Rattle.std.proofs.Common.{◌≡◌, ℕ, zero, suc, ◌+◌, ◌-◌, ◌<◌, List, [], ◌∷◌, ◌++◌, length, map, get_or, All, Some, None, refl, sym, ◌∙◌, ap, subst, arith}
 use Rattle.std.specs.Prelude.{slice_get}
 use Rattle.std.proofs.lemmas.List.{length-map}
-use Rattle.std.proofs.lemmas.Option.{slice_get-map, slice_get_read}
 use Rattle.model.specs.Programs as plain
 use Rattle.model.specs.Programs.{rule_at}
 use Rattle.its_model.specs.declared.program.Rule.{Rule}
 use Rattle.its_model.specs.declared.program.Program.{Program}
 use Rattle.its_model.specs.Valid.{IsValid}
 use Rattle.its_model.specs.Views.{rule_of, program_of}
+use Rattle.proof_tree.proofs.Rules.{rule_here}
 use Rattle.guard_prep.specs.declared.rule_rows.RuleRows.{RuleRows}
 use Rattle.guard_prep.specs.Prepared.{Prepared, prepared}
 use Rattle.guard_prep.specs.Views.{prepared_of}
@@ -24,8 +24,7 @@ use Rattle.time_bounds.specs.Questions.{AreAnswersFrom}
 pub rule_read : (p : Program) (i : ℕ) (r : Rule) → i < length p.rules.items → r ≡ get_or p.rules.items i r
     → rule_at (program_of p) (suc i) ≡ Some (rule_of r)
 rule_read p i r l e =
-    slice_get-map rule_of p.rules.items i
-    ∙ ap (λ (o : Option Rule). option_map rule_of o) (slice_get_read p.rules.items (length p.rules.items) i r refl l e)
+    rule_here p (suc i) r (omega arith) (omega (arith, l)) (e ∙ ap (λ (j : ℕ). get_or p.rules.items j r) (let k : i ≡ suc i - 1 = omega arith in k))
 
 pub rule_preparable : (p : Program) (i : ℕ) (r : Rule) → IsValid (program_of p) → i < length p.rules.items → r ≡ get_or p.rules.items i r
     → IsPreparable (rule_of r)

@@ -1,11 +1,10 @@
 -- Each place after a rule has an entry, and all entries are right.
-use Rattle.std.proofs.Common.{◌≡◌, ◌⊎◌, inl, inr, ℕ, zero, suc, ◌+◌, ◌-◌, ◌<◌, ◌≤◌, true, false, List, [], ◌∷◌, length, map, Vec, Option, Some, None, option_map, refl, sym, ◌∙◌, ap, subst, arith}
-use Rattle.std.specs.Prelude.{slice_get}
+use Rattle.std.proofs.Common.{◌≡◌, ℕ, zero, suc, ◌+◌, ◌-◌, ◌<◌, ◌≤◌, true, false, List, [], ◌∷◌, length, map, Vec, Option, Some, None, refl, sym, ◌∙◌, ap, subst, arith}
 use Rattle.std.specs.List.{All, list_any}
 use Rattle.std.specs.declared.alloc.Global.{Global}
 use Rattle.std.proofs.lemmas.List.{length-map}
 use Rattle.std.proofs.lemmas.List.Elements.{All-cons, All-nil}
-use Rattle.model.specs.Programs.{Program, Rule, rule_at, arity_of}
+use Rattle.model.specs.Programs.{Program, Rule, arity_of}
 use Rattle.model.specs.Bounds.{Bound, Constant, Input}
 use Rattle.model.specs.Paths.{target_in}
 use Rattle.outcome.specs.Reports.{Size, Sized}
@@ -36,7 +35,7 @@ use Rattle.time_bounds.specs.Attempts.{AreAttempts, is_sized, HasPlaces}
 use Rattle.time_bounds.specs.SizeSaid.{said_stored, said_table, put_whys, AreThere}
 use Rattle.time_bounds.proofs.FactWrites.{row_long}
 use Rattle.time_bounds.proofs.RoundLaws.{rule_there}
-use Rattle.time_bounds.proofs.SizeReasons.{IsFair, said_fair, listed_there, whys_long}
+use Rattle.time_bounds.proofs.SizeReasons.{said_fair, listed_there, whys_long}
 use Rattle.time_bounds.proofs.SizeSteps.{long_at, row_of_rule, place_within}
 use Rattle.time_bounds.proofs.WholeRounds.{live_components}
 

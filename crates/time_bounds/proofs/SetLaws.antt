@@ -1,11 +1,11 @@
 -- The set of a rule that the graph gives is that of the rounds, and a question may be asked of it.
-use Rattle.std.proofs.Common.{◌≡◌, ◌↔◌, ◌⊎◌, inl, inr, ℕ, zero, suc, ◌+◌, ◌<◌, ◌≤◌, Bool, true, false, List, [], ◌∷◌, length, get_or, Contains, All, Option, Some, None, refl, sym, ◌∙◌, ap, subst, arith}
+use Rattle.std.proofs.Common.{◌≡◌, ◌↔◌, ◌⊎◌, inl, inr, ℕ, zero, suc, ◌+◌, ◌<◌, ◌≤◌, Bool, true, false, List, [], ◌∷◌, length, get_or, Contains, Option, Some, None, refl, sym, ◌∙◌, ap, subst, arith}
 use Rattle.std.specs.Prelude.{slice_get, slice_index_or}
 use Rattle.std.specs.List.Sorted.{IsStrictlyIncreasing}
 use Rattle.std.proofs.lemmas.List.Elements.{Contains-get_or}
 use Rattle.model.specs.Programs.{Program, Rule, rule_at}
 use Rattle.model.specs.Entries.{is_in}
-use Rattle.model.specs.Paths.{HasEdge, HasPath, IsInSet, LeadsBackTo, target_in, target_of, source_of}
+use Rattle.model.specs.Paths.{HasEdge, IsInSet, target_in, target_of}
 use Rattle.model.proofs.Membership.{contains-is_in, is_in-contained, no_is_not_yes, slice_get-below}
 use Rattle.its_graph.specs.Graphs.{flagged}
 use Rattle.its_graph.proofs.Routes.{path-map}

@@ -1,10 +1,10 @@
 -- Times that are written one by one are those after the round.
-use Rattle.std.proofs.Common.{◌≡◌, ℕ, zero, suc, ◌+◌, ◌<◌, ◌≤◌, List, [], ◌∷◌, ◌++◌, length, get_or, set, Option, Some, None, refl, sym, ◌∙◌, ap, arith}
+use Rattle.std.proofs.Common.{◌≡◌, ℕ, zero, suc, ◌+◌, ◌<◌, List, [], ◌∷◌, ◌++◌, length, get_or, set, Option, Some, None, refl, sym, ◌∙◌, ap, arith}
 use Rattle.std.specs.Prelude.{true, false, is_some}
 use Rattle.model.proofs.Membership.{no_is_not_yes}
 use Rattle.outcome.specs.declared.entry.Stored.{Stored}
 use Rattle.time_bounds.specs.declared.trying.Tried.{Tried}
-use Rattle.time_bounds.specs.declared.trying.Tried.TheVariants.{Known, Found, Missing}
+use Rattle.time_bounds.specs.declared.trying.Tried.TheVariants.{Found}
 use Rattle.size_bounds.specs.Tables.{entry_at}
 use Rattle.size_bounds.proofs.Stored.{entry_read}
 use Rattle.time_bounds.specs.Tries.{found_in, or_found, after_round, after_tries, put_tried}

@@ -1,7 +1,7 @@
 -- The shut places of a set, symbol by symbol, are all of them, in order.
-use Rattle.std.proofs.Common.{◌≡◌, ◌↔◌, ◌⊎◌, ◌≢◌, ◌==◌, ◌||◌, inl, inr, ℕ, zero, suc, ◌+◌, ◌<◌, ◌≤◌, Bool, true, false, cond, List, [], ◌∷◌, ◌++◌, length, map, filter, Contains, Option, Some, None, refl, sym, ◌∙◌, ap, subst, arith}
+use Rattle.std.proofs.Common.{◌≡◌, ◌⊎◌, ◌≢◌, ◌==◌, ◌||◌, inl, inr, ℕ, zero, suc, ◌+◌, ◌<◌, ◌≤◌, Bool, true, false, cond, List, [], ◌∷◌, ◌++◌, length, map, filter, Contains, Option, Some, None, refl, sym, ◌∙◌, ap, subst, arith}
 use Rattle.std.specs.Prelude.{⊤, slice_get}
-use Rattle.std.specs.List.{list_any, range_with_len}
+use Rattle.std.specs.List.{range_with_len}
 use Rattle.std.proofs.lemmas.List.Elements.{Contains-append_left, Contains-append_right, Contains-append_cases}
 use Rattle.std.proofs.lemmas.Bool.{or_left, or_right}
 use Rattle.std.proofs.lemmas.Bool.Decides.{eqb_tells}
@@ -12,9 +12,9 @@ use Rattle.model.specs.Paths.{target_of, same_symbol}
 use Rattle.model.proofs.Membership.{is_in-cases, slice_get-below, told_same, same_number, no_is_not_yes, is_in-filter, filter-in, list_any-from, list_any-told}
 use Rattle.proof_nodes.specs.Gaps.{SymbolPlace}
 use Rattle.proof_nodes.specs.Known.{Table}
-use Rattle.round_relation.specs.Tables.{lacks, IsPlace}
+use Rattle.round_relation.specs.Tables.{lacks}
 use Rattle.round_relation.specs.Sets.{IsShut, StandsBefore, ArePlacesInOrder, AreShutOf}
-use Rattle.time_bounds.specs.Shutting.{lacks_any, at_place, shut_at, into, shut_by, shut_from}
+use Rattle.time_bounds.specs.Shutting.{lacks_any, at_place, shut_at, into, shut_from}
 
 -- the first of a list, where there is one
 abbrev Head : (SymbolPlace → Type 0) → List SymbolPlace → Type 0

@@ -1,5 +1,5 @@
 -- What is said of the numbers of known bounds holds of those of the sizes that are composed of them.
-use Rattle.std.proofs.Common.{◌≡◌, ℕ, zero, suc, ◌<◌, ◌≤◌, ◌==◌, Bool, true, false, cond, List, [], ◌∷◌, ◌++◌}
+use Rattle.std.proofs.Common.{◌≡◌, ℕ, zero, suc, ◌<◌, ◌≤◌, Bool, true, false, cond, List, [], ◌∷◌}
 use Rattle.std.proofs.Common.{Option, Some, None, refl, arith, All}
 use Rattle.std.specs.Prelude.{nat_abs}
 use Rattle.std.specs.List.{AllByRecursion}
@@ -17,8 +17,8 @@ use Rattle.proof_nodes.specs.Known.{known}
 use Rattle.proof_nodes.specs.Setting.{Setting}
 use Rattle.proof_nodes.specs.Composed.{sizes_after}
 use Rattle.proof_nodes.specs.ComposedSizes.{monomial_bound, monomial_parts, polynomial_bound, arm_bound, poly_at}
-use Rattle.proof_nodes.specs.ComposedSizes.{spread_part, spread_of, is_member, offset_of, Flow, flow, flows_from}
-use Rattle.proof_nodes.specs.ComposedSizes.{flows_into, flows, offsets, is_outer, base_of, is_inner, addition_of}
+use Rattle.proof_nodes.specs.ComposedSizes.{spread_part, spread_of, is_member, offset_of, Flow, flows_from}
+use Rattle.proof_nodes.specs.ComposedSizes.{flows_into, flows, offsets, is_outer, is_inner}
 use Rattle.proof_nodes.specs.ComposedSizes.{factor_of, rules_of, multiplies, adds, growth_parts, addition_parts}
 use Rattle.proof_nodes.specs.ComposedSizes.{loop_bound, cycle_of}
 use Rattle.proof_nodes.specs.AcceptsSizes.{HasArmShape, HasMemberShape, left_of}

@@ -1,46 +1,33 @@
 -- What is said of each size is the size that the table has, or why it has none.
-use Rattle.std.proofs.Common.{◌≡◌, ◌⊎◌, inl, inr, ℕ, zero, suc, ◌+◌, ◌<◌, ◌≤◌, ◌==◌, ◌&&◌, ◌||◌, Bool, true, false, List, [], ◌∷◌, length, map, Option, Some, None, option_map, refl, sym, ◌∙◌, ap, subst, arith}
-use Rattle.std.specs.List.{All, list_any}
+use Rattle.std.proofs.Common.{◌≡◌, ◌⊎◌, inl, inr, ℕ, zero, suc, ◌≤◌, ◌==◌, ◌&&◌, ◌||◌, Bool, true, false, List, [], ◌∷◌, length, map, Option, Some, None, refl, sym, ◌∙◌, ap, subst}
+use Rattle.std.specs.List.{list_any}
 use Rattle.std.proofs.lemmas.Bool.{and_parts, and_from, or_left}
-use Rattle.std.proofs.lemmas.List.Elements.{All-cons, All-nil}
-use Rattle.model.specs.Programs.{Program, Rule, rule_at, arity_of}
+use Rattle.model.specs.Programs.{Program}
 use Rattle.model.specs.Bounds.{Bound}
-use Rattle.model.specs.Paths.{target_of}
 use Rattle.model.proofs.Membership.{same_number, told_same, no_is_not_yes}
 use Rattle.bound_expr.specs.Views.{bound_of}
 use Rattle.outcome.specs.Reports.{NoSize, Size, Sized, Unsized}
 use Rattle.outcome.specs.declared.entry.Stored.{Stored}
 use Rattle.proof_nodes.specs.Nodes.{Spot}
-use Rattle.proof_nodes.specs.Known as nodes
-use Rattle.proof_nodes.specs.AcceptsPlain.{IsRule}
-use Rattle.proof_nodes.specs.Setting.{Setting}
-use Rattle.proof_setting.specs.Setting.{setting_of}
-use Rattle.round_relation.specs.Searches.{Searches, SizeSearches, NotFound}
-use Rattle.round_relation.specs.Tables.{IsPlace, lacks}
-use Rattle.round_relation.specs.Beginning.{IsDead, First}
-use Rattle.round_relation.specs.Components.{IsListed, IsOneOf, AreComponentsOf}
+use Rattle.round_relation.specs.Searches.{SizeSearches, NotFound}
+use Rattle.round_relation.specs.Components.{IsCovered, IsOneOf}
 use Rattle.round_relation.specs.NewSizes.{has_spot, is_unsized}
-use Rattle.round_relation.specs.Rounds.{IsMade, BegunWhole, MadeWhole}
-use Rattle.round_relation.specs.Reasons.{IsNoSize}
-use Rattle.round_relation.proofs.Kept.{sizes_kept}
 use Rattle.round_relation.proofs.NewBounds.{unsized_by}
-use Rattle.round_relation.proofs.SameDead.{dead_by}
 use Rattle.size_bounds.specs.declared.table.Table.{Table}
 use Rattle.size_bounds.specs.Tables.{entry_at, row_at, bound_stored, table_of}
 use Rattle.time_bounds.specs.declared.candidates.Candidate.{Candidate}
 use Rattle.time_bounds.specs.declared.sizing.Attempt.{Attempt}
 use Rattle.time_bounds.specs.declared.sizing.Attempt.TheVariants as attempts
 use Rattle.time_bounds.specs.Analysis.{IsSizeSaid}
-use Rattle.time_bounds.specs.ProgramSearches.{searches_of_program}
 use Rattle.time_bounds.specs.ProgramSizes.{sizes_of_program}
 use Rattle.time_bounds.specs.Candidates.{spots_in, AreCandidatesOf}
 use Rattle.time_bounds.specs.SizeWrites.{rows_of, placed, put_place}
-use Rattle.time_bounds.specs.Attempts.{LacksSize, IsAttempt, AreAttempts, is_sized, why_of, HasPlaces}
-use Rattle.time_bounds.specs.SizeSaid.{said_stored, said_table, put_spots, put_why, put_whys, AreThere}
+use Rattle.time_bounds.specs.Attempts.{LacksSize, IsAttempt, AreAttempts, is_sized, why_of}
+use Rattle.time_bounds.specs.SizeSaid.{said_stored, said_table, put_spots, put_why, put_whys}
 use Rattle.time_bounds.proofs.PlacedLaws.{Wrote, place_known, place_cases, place_here, place_long}
 use Rattle.time_bounds.proofs.FactWrites.{row_long}
 use Rattle.time_bounds.proofs.SizeSteps.{size_is}
-use Rattle.time_bounds.proofs.WholeRounds.{are_components, live_components}
+use Rattle.time_bounds.proofs.WholeRounds.{are_components}
 
 none_some : {A : Type 0} (a : A) → None ≡ Some a → ⊥
 none_some a e = cc
@@ -240,7 +227,7 @@ module _ (p : Program) (pivots : ℕ) (tab : Table) (all : List Candidate) (foun
       go false e w later = later w
 
   pub listed_there : (rows : List (List (Option Size))) (cs : List Candidate) (xs : List Attempt) (t i : ℕ) → AreAttempts p pivots (table_of tab) cs xs
-      → list_any is_sized xs ≡ false → IsListed (map spots_in cs) t i → (table_of tab).size t i ≡ None → 1 ≤ i → i ≤ length (row_at rows t)
+      → list_any is_sized xs ≡ false → IsCovered (map spots_in cs) t i → (table_of tab).size t i ≡ None → 1 ≤ i → i ≤ length (row_at rows t)
       → (x : Size) × (placed (put_whys rows cs xs) t i ≡ Some x)
   listed_there rows [] xs t i h n listed none l k = absurd listed
   listed_there rows (c ∷ cs) [] t i h n listed none l k = absurd h
@@ -268,8 +255,8 @@ module _ (p : Program) (pivots : ℕ) (tab : Table) (all : List Candidate) (foun
           by None = refl
           by (Some why) = spots_long rows (spots_in c) (Unsized why)
 
-      go : (has_spot (spots_in c) t i ≡ true) ⊎ IsListed (map spots_in cs) t i
-          → (IsListed (map spots_in cs) t i → list_any is_sized xs ≡ false → i ≤ length (row_at (put_why rows (spots_in c) (why_of c x)) t)
+      go : (has_spot (spots_in c) t i ≡ true) ⊎ IsCovered (map spots_in cs) t i
+          → (IsCovered (map spots_in cs) t i → list_any is_sized xs ≡ false → i ≤ length (row_at (put_why rows (spots_in c) (why_of c x)) t)
           → (y : Size) × (placed (put_whys (put_why rows (spots_in c) (why_of c x)) cs xs) t i ≡ Some y))
           → (y : Size) × (placed (put_whys rows (c ∷ cs) (x ∷ xs)) t i ≡ Some y)
       go (inl m) later =

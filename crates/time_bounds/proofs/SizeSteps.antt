@@ -1,5 +1,5 @@
 -- What a round makes of a component, and of the table.
-use Rattle.std.proofs.Common.{◌≡◌, ◌⊎◌, inl, inr, ℕ, zero, suc, ◌+◌, ◌<◌, ◌≤◌, ◌==◌, ◌&&◌, ◌||◌, Bool, true, false, List, [], ◌∷◌, ◌++◌, length, map, Option, Some, None, refl, sym, ◌∙◌, ap, subst, arith}
+use Rattle.std.proofs.Common.{◌≡◌, ℕ, zero, suc, ◌+◌, ◌≤◌, ◌==◌, ◌&&◌, ◌||◌, Bool, true, false, List, [], ◌∷◌, ◌++◌, length, map, Option, Some, None, refl, sym, ◌∙◌, ap, subst, arith}
 use Rattle.std.specs.Prelude.{slice_get, slice_index_or}
 use Rattle.std.specs.List.{All, list_any}
 use Rattle.std.proofs.lemmas.Bool.{and_parts}
@@ -7,7 +7,7 @@ use Rattle.std.proofs.lemmas.List.{map-append}
 use Rattle.std.proofs.lemmas.List.Elements.{All-head, All-tail, All-weaker}
 use Rattle.model.specs.Programs.{Program, Rule, arity_of, rule_at}
 use Rattle.model.specs.Bounds.{Bound}
-use Rattle.model.specs.Paths.{target_of, target_in}
+use Rattle.model.specs.Paths.{target_in}
 use Rattle.model.proofs.Membership.{told_same, no_is_not_yes}
 use Rattle.bound_expr.specs.Views.{bound_of}
 use Rattle.outcome.specs.Reports.{NoSize}
@@ -17,9 +17,9 @@ use Rattle.proof_nodes.specs.Known as nodes
 use Rattle.proof_nodes.specs.AcceptsPlain.{IsRule}
 use Rattle.proof_tree.specs.Views.{facts_of}
 use Rattle.proof_tree.specs.declared.fact.Fact.{Fact}
-use Rattle.round_relation.specs.Searches.{SizeSearches, Sizing, Found, NotFound}
+use Rattle.round_relation.specs.Searches.{SizeSearches, Found, NotFound}
 use Rattle.round_relation.specs.Tables.{IsPlace}
-use Rattle.round_relation.specs.NewSizes.{Sizes, has_spot, is_unsized, size_by, TriesSize, TriesSizes}
+use Rattle.round_relation.specs.NewSizes.{Sizes, has_spot, is_unsized, TriesSize, TriesSizes}
 use Rattle.size_bounds.specs.declared.table.Table.{Table}
 use Rattle.size_bounds.specs.Tables.{entry_at, row_at, bound_stored, table_of}
 use Rattle.time_bounds.specs.declared.candidates.Candidate.{Candidate}
@@ -28,8 +28,8 @@ use Rattle.time_bounds.specs.declared.sizing.Attempt.TheVariants as attempts
 use Rattle.time_bounds.specs.Candidates.{spots_in}
 use Rattle.time_bounds.specs.ProgramSizes.{spot, sizes_of_program}
 use Rattle.time_bounds.specs.SizeWrites.{rows_of, placed, put_facts, count_unsized}
-use Rattle.time_bounds.specs.Attempts.{LacksSize, IsAttempt, AreAttempts, is_sized, one_if_sized, count_sized, HasPlaces, ArePlacesOf, IsSizeStep, AreSizeSteps}
-use Rattle.time_bounds.proofs.FactWrites.{facts_at, sized, facts_known, facts_long, facts_few, facts_other, facts_here, facts_fewer}
+use Rattle.time_bounds.specs.Attempts.{IsAttempt, AreAttempts, is_sized, one_if_sized, count_sized, HasPlaces, ArePlacesOf, IsSizeStep, AreSizeSteps}
+use Rattle.time_bounds.proofs.FactWrites.{facts_at, sized, facts_known, facts_long, facts_other, facts_here, facts_fewer}
 
 -- the sizes of a table are those of its rows
 pub size_is : (tab : Table) (t i : ℕ) → (table_of tab).size t i ≡ sized (rows_of tab) t i

@@ -9,7 +9,8 @@ use Rattle.model.proofs.Membership.{same_number, told_same, no_is_not_yes}
 use Rattle.proof_nodes.specs.Nodes.{Spot}
 use Rattle.rvg_components.specs.Listing.{spot_at}
 use Rattle.round_relation.specs.NewSizes.{has_spot}
-use Rattle.round_relation.specs.Components.{ComesBefore, AreAscending}
+use Rattle.proof_nodes.specs.AcceptsSizes.{ComesBefore}
+use Rattle.round_relation.specs.Components.{AreSpotsAscending}
 use Rattle.time_bounds.specs.ProgramSizes.{spot}
 
 -- a place comes before each of these
@@ -135,7 +136,7 @@ append-right (x ∷ xs) ys t i h = or_right (is_spot x t i) (has_spot (xs ++ ys)
 -- what stands at these positions ascends, where the positions do
 module _ (spots : List Spot) where
   ascending-by : (ms : List Spot) → ((k : ℕ) → suc k < length ms → ComesBefore (spot_at ms k) (spot_at ms (suc k)))
-      → AreAscending ms
+      → AreSpotsAscending ms
   ascending-by [] h = tt
   ascending-by (m ∷ []) h = tt
   ascending-by (m ∷ n ∷ ms) h = (h 0 (omega arith), ascending-by (n ∷ ms) (λ k l. h (suc k) (omega (arith, l))))
@@ -145,7 +146,7 @@ module _ (spots : List Spot) where
   chosen ps k l = get_or-map (spot_at spots) ps k 0 (spot 0 0) l
 
   pub ascending-chosen : Ascend spots → (ps : List ℕ) → IsStrictlyIncreasing ps
-      → ((b : ℕ) → Contains ps b → b < length spots) → AreAscending (map (spot_at spots) ps)
+      → ((b : ℕ) → Contains ps b → b < length spots) → AreSpotsAscending (map (spot_at spots) ps)
   ascending-chosen up ps rises within = ascending-by (map (spot_at spots) ps) next
     where
       long : (xs : List ℕ) → length (map (spot_at spots) xs) ≡ length xs

@@ -1,9 +1,9 @@
 -- The steps of a run are at most the sum of all times.
-use Rattle.std.proofs.Common.{◌≡◌, ℕ, zero, suc, ◌+◌, ◌<◌, ◌≤◌, List, [], ◌∷◌, length, Option, Some, None, refl, sym, ◌∙◌, ap, subst, arith}
+use Rattle.std.proofs.Common.{◌≡◌, ℕ, suc, ◌+◌, ◌<◌, ◌≤◌, List, [], ◌∷◌, length, Option, Some, None, refl, sym, ◌∙◌, ap, subst, arith}
 use Rattle.std.specs.Prelude.{slice_index_or}
 use Rattle.model.specs.Programs.{Program}
 use Rattle.model.specs.Bounds.{Bound, SumOf, Parts, NoParts, Part, val, val_sum, IsBased, AreBased}
-use Rattle.model.specs.Facts.{HoldsTime, HoldsTotal}
+use Rattle.model.specs.Facts.{HoldsTotal}
 use Rattle.model.specs.Runs.{count, sizes_of_start}
 use Rattle.its_graph.proofs.Totals.{sum_from_one, steps_by_rule}
 use Rattle.bound_table.specs.InForce.{rewritten}

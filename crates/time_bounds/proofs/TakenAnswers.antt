@@ -1,21 +1,18 @@
 -- What the answer for a component makes of the table.
-use Rattle.std.proofs.Common.{◌≡◌, ℕ, suc, ◌+◌, ◌≤◌, Bool, true, false, List, [], ◌∷◌, length, map, Option, Some, None, refl, sym, ◌∙◌, ap, subst, arith}
+use Rattle.std.proofs.Common.{◌≡◌, ℕ, Bool, true, false, List, [], ◌∷◌, map, Option, None, refl, sym, ◌∙◌, ap, subst}
 use Rattle.std.specs.Prelude.{Vec, IfOk}
 use Rattle.std.specs.declared.result.Result.{Result}
 use Rattle.std.specs.declared.result.Result.TheVariants.{Ok, Err}
 use Rattle.std.specs.declared.alloc.Global.{Global}
 use Rattle.model.specs.Programs.{Program}
 use Rattle.model.specs.Bounds.{Bound}
-use Rattle.model.specs.Facts as plain
 use Rattle.its_model.specs.Valid.{IsValid}
 use Rattle.its_graph.specs.declared.graph.Graph.{Graph}
 use Rattle.its_graph.specs.Graphs.{IsGraphOf}
 use Rattle.guard_prep.specs.declared.rule_rows.RuleRows.{RuleRows}
-use Rattle.outcome.specs.Reports.{NoSize, Size, Unsized, IsMissing, IsBent, LacksTime, SizeLarge}
-use Rattle.outcome.specs.Views.{size_of}
-use Rattle.outcome.specs.declared.entry.Stored.{Stored}
+use Rattle.outcome.specs.Reports.{NoSize, IsMissing, IsBent, LacksTime, SizeLarge}
 use Rattle.outcome.specs.declared.entry.SizeEntry.{SizeEntry}
-use Rattle.proof_nodes.specs.Nodes.{Spot, Member}
+use Rattle.proof_nodes.specs.Nodes.{Member}
 use Rattle.proof_nodes.specs.Known as nodes
 use Rattle.proof_nodes.specs.AcceptsSizes.{spread_size, cycle_size}
 use Rattle.proof_setting.specs.Setting.{setting_of}
@@ -37,9 +34,9 @@ use Rattle.time_bounds.specs.declared.candidates.Arms.TheVariants as arms
 use Rattle.time_bounds.specs.declared.sizing.Attempt.{Attempt}
 use Rattle.time_bounds.specs.declared.sizing.Attempt.TheVariants as attempts
 use Rattle.time_bounds.specs.Candidates.{spots_in, AreArms, HasAccepted, IsCandidate}
-use Rattle.time_bounds.specs.ProgramSizes.{AreMembers, IsSizingBy, IsJudged, IsSizingOf, lacks_arms, sizes_of_program}
+use Rattle.time_bounds.specs.ProgramSizes.{AreMembers, IsSizingBy, IsSizingOf, lacks_arms, sizes_of_program}
 use Rattle.time_bounds.specs.SizeWrites.{rows_of}
-use Rattle.time_bounds.specs.Attempts.{why_in, why_armless, LacksSize, attempt_by, rows_by, HasPlaces, ArePlacesOf, IsSizeStep}
+use Rattle.time_bounds.specs.Attempts.{why_in, why_armless, attempt_by, rows_by, HasPlaces, ArePlacesOf, IsSizeStep}
 use Rattle.time_bounds.proofs.FactWrites.{facts_at, cycle_facts-at}
 use Rattle.time_bounds.proofs.SizeSteps.{passed, written}
 

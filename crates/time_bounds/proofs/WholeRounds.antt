@@ -1,16 +1,14 @@
 -- A whole round of the code is one of the relation.
-use Rattle.std.proofs.Common.{◌≡◌, ◌⊎◌, inl, inr, ℕ, zero, suc, ◌+◌, ◌<◌, ◌≤◌, ◌==◌, ◌&&◌, ◌||◌, Bool, true, false, List, [], ◌∷◌, length, map, Option, Some, None, refl, sym, ◌∙◌, ap, subst, arith}
+use Rattle.std.proofs.Common.{◌≡◌, inl, inr, ℕ, suc, ◌+◌, ◌<◌, ◌≤◌, ◌||◌, Bool, true, false, List, [], ◌∷◌, length, map, Option, Some, None, refl, sym, ◌∙◌, ap, subst, arith}
 use Rattle.std.specs.List.{All, list_any}
-use Rattle.std.proofs.lemmas.Bool.{and_from, or_left}
 use Rattle.std.proofs.lemmas.List.{length-map}
-use Rattle.std.proofs.lemmas.List.Elements.{All-head, All-tail, All-cons, All-nil}
+use Rattle.std.proofs.lemmas.List.Elements.{All-cons, All-nil}
 use Rattle.model.specs.Programs.{Program}
 use Rattle.model.specs.Bounds.{Bound}
-use Rattle.model.proofs.Membership.{same_number, no_is_not_yes}
+use Rattle.model.proofs.Membership.{no_is_not_yes}
 use Rattle.bound_expr.specs.Views.{bound_of}
 use Rattle.outcome.specs.Reports.{Timed, Untimed}
 use Rattle.outcome.specs.declared.entry.Stored.{Stored}
-use Rattle.proof_nodes.specs.Nodes.{Spot}
 use Rattle.proof_nodes.specs.Known as nodes
 use Rattle.proof_nodes.specs.AcceptsPlain.{IsRule}
 use Rattle.proof_setting.specs.Setting.{setting_of}
@@ -21,11 +19,11 @@ use Rattle.rank_search.specs.ProgramQuestions.{places_of}
 use Rattle.round_relation.specs.Tables.{lacks, IsPlace}
 use Rattle.round_relation.specs.NewTimes.{SaysTime, Tells}
 use Rattle.round_relation.specs.Sets.{IsSetOfRule, AreShutOf}
-use Rattle.round_relation.specs.Components.{IsListed, AreComponentsOf}
-use Rattle.round_relation.specs.NewSizes.{Sizes, has_spot, is_unsized, TriesSizes}
-use Rattle.round_relation.specs.Rounds.{HasNewTimes, HasNewSizes, Next, IsClosed}
+use Rattle.round_relation.specs.Components.{IsCovered, AreComponentsOf}
+use Rattle.round_relation.specs.NewSizes.{Sizes, TriesSizes}
+use Rattle.round_relation.specs.Rounds.{HasNewTimes, HasNewSizes, IsClosed}
 use Rattle.size_bounds.specs.declared.table.Table.{Table}
-use Rattle.size_bounds.specs.Tables.{entry_at, table_of}
+use Rattle.size_bounds.specs.Tables.{table_of}
 use Rattle.time_bounds.specs.declared.asking.Asked.{Asked}
 use Rattle.time_bounds.specs.declared.candidates.Candidate.{Candidate}
 use Rattle.time_bounds.specs.declared.rounds.LastRound.{LastRound}
@@ -35,11 +33,11 @@ use Rattle.time_bounds.specs.declared.trying.Tried.{Tried}
 use Rattle.time_bounds.specs.declared.trying.Tried.TheVariants.{Known, Found, Missing}
 use Rattle.time_bounds.specs.ProgramSearches.{searches_of_program, ranking_of}
 use Rattle.time_bounds.specs.ProgramSizes.{sizes_of_program}
-use Rattle.time_bounds.specs.Questions.{IsAsked, AreKept, KnowsEmpty, IsTable}
-use Rattle.time_bounds.specs.Tries.{IsTried, AreTried, IsMissing, after_round, after_tries, or_found, kept_in, is_found, count_found, count_missing}
+use Rattle.time_bounds.specs.Questions.{AreKept, IsTable}
+use Rattle.time_bounds.specs.Tries.{AreTried, after_round, after_tries, or_found, kept_in, is_found, count_found, count_missing}
 use Rattle.time_bounds.specs.Candidates.{spots_in, AreCandidatesOf}
 use Rattle.time_bounds.specs.SizeWrites.{rows_of, count_unsized}
-use Rattle.time_bounds.specs.Attempts.{LacksSize, IsAttempt, AreAttempts, is_sized, one_if_sized, count_sized, HasPlaces, ArePlacesOf, AreSizeSteps}
+use Rattle.time_bounds.specs.Attempts.{AreAttempts, is_sized, count_sized, HasPlaces, ArePlacesOf, AreSizeSteps}
 use Rattle.time_bounds.specs.RoundEnds.{missing_in, IsLastRound, IsFurther}
 use Rattle.time_bounds.proofs.CandidateLaws.{of_all}
 use Rattle.time_bounds.proofs.RightComponents.{components_of}
@@ -60,7 +58,7 @@ live_components p pivots cs h = components_of p pivots h.is_live h.live h.local 
 pub within_all : (p : Program) (pivots : ℕ) (cs : List Candidate) → AreCandidatesOf p pivots cs → All (ArePlacesOf p) cs
 within_all p pivots cs h = go cs (λ t i l. let x = ((live_components p pivots cs h).live t i).0 l in (x.0, x.2))
   where
-    go : (ds : List Candidate) → ((t i : ℕ) → IsListed (map spots_in ds) t i → IsRule p t × IsPlace p t i) → All (ArePlacesOf p) ds
+    go : (ds : List Candidate) → ((t i : ℕ) → IsCovered (map spots_in ds) t i → IsRule p t × IsPlace p t i) → All (ArePlacesOf p) ds
     go [] f = All-nil (ArePlacesOf p)
     go (d ∷ ds) f =
         All-cons (ArePlacesOf p) d ds (record { each = of_all (λ m. IsRule p m.rule × IsPlace p m.rule m.place) (spots_in d) (λ t i e. f t i (inl e)) }) (go ds (λ t i l. f t i (inr l)))

@@ -1,40 +1,39 @@
 -- What an answer writes of lemmas and numbers.
-use Rattle.std.proofs.Common.{◌≡◌, inl, inr, ℕ, zero, suc, ◌+◌, ◌≤◌, Bool, true, false, List, [], ◌∷◌, ◌++◌, length, map, Vec, Option, Some, None, refl, sym, ◌∙◌, ap, subst, arith}
+use Rattle.std.proofs.Common.{◌≡◌, inl, inr, ℕ, zero, suc, ◌+◌, ◌-◌, ◌&&◌, ◌||◌, Bool, true, false, List, [], ◌∷◌, ◌++◌, length, map, Vec, Some, None, refl, sym, ◌∙◌, ap, subst, arith}
 use Rattle.std.specs.Prelude.{⊤}
-use Rattle.std.specs.List.{All}
+use Rattle.std.specs.List.{All, AllByRecursion, list_any}
 use Rattle.std.specs.declared.alloc.Global.{Global}
-use Rattle.std.proofs.lemmas.List.Elements.{All-nil, All-cons, All-head, All-tail, All-weaker}
+use Rattle.std.proofs.lemmas.List.Elements.{All-nil, All-cons, All-head, All-tail, recursion_from_All}
 use Rattle.model.specs.Programs.{Program}
 use Rattle.model.specs.Bounds.{Bound}
+use Rattle.model.specs.Entries.{is_in}
+use Rattle.model.specs.Paths.{pre}
 use Rattle.bound_expr.specs.Views.{bound_of}
 use Rattle.local_size.specs.LocalAnswers.{Local, HasBound}
 use Rattle.outcome.specs.Reports.{Timed}
 use Rattle.outcome.specs.declared.entry.Stored.{Stored}
-use Rattle.proof_nodes.specs.AcceptsPlain.{IsRule}
 use Rattle.proof_nodes.specs.AcceptsRank.{rank_time}
 use Rattle.proof_nodes.specs.AcceptsSizes.{spread_size, cycle_size}
-use Rattle.proof_nodes.specs.Known as known
 use Rattle.proof_nodes.specs.Nodes.{Spot, Member, RankNode}
 use Rattle.proof_nodes.specs.Nodes as nodes
+use Rattle.proof_nodes.specs.Setting.{Setting}
 use Rattle.proof_setting.specs.Setting.{setting_of}
 use Rattle.proof_tree.specs.declared.answer.EmptyAnswer.{EmptyAnswer}
 use Rattle.proof_tree.specs.declared.arm.Member as code
-use Rattle.proof_tree.specs.declared.fact.Fact.{Fact}
 use Rattle.proof_tree.specs.declared.proof.Proof.{Proof}
 use Rattle.proof_tree.specs.Views.{member_of, facts_of, proof_of}
 use Rattle.rank_search.specs.RankAnswers.{AreEmptyAnswers}
 use Rattle.round_relation.specs.Searches as searches
-use Rattle.round_relation.specs.NewSizes.{has_spot, is_unsized}
+use Rattle.round_relation.specs.NewSizes.{has_spot}
 use Rattle.round_relation.specs.NewTimes.{Composes}
-use Rattle.round_relation.specs.SizeLemmas.{IsSizeLemma}
-use Rattle.round_relation.specs.Tables.{IsPlace}
+use Rattle.round_relation.specs.SizeLemmas.{IsSizeLemma, reads_member, do_loop}
 use Rattle.round_relation.specs.Uses.{uses_for, rank_needs}
-use Rattle.rvg_components.specs.Flows.{Locals, loops}
+use Rattle.rvg_components.specs.Flows.{Locals, local_reads, value_flows, loops}
 use Rattle.size_bounds.specs.SizeAnswers.{IsSpreadAnswer, IsCycleAnswer}
 use Rattle.size_bounds.specs.declared.answer.SizeAnswer.{SizeAnswer}
 use Rattle.size_bounds.specs.declared.answer.SizeAnswer.TheVariants as answers
 use Rattle.size_bounds.specs.declared.table.Table.{Table}
-use Rattle.size_bounds.specs.Tables.{row_at, bound_stored, lemma_stored, table_of, numbers_of}
+use Rattle.size_bounds.specs.Tables.{bound_stored, lemma_stored, table_of, numbers_of}
 use Rattle.time_bounds.specs.declared.asking.Asked.{Asked}
 use Rattle.time_bounds.specs.declared.candidates.Candidate.{Candidate}
 use Rattle.time_bounds.specs.declared.candidates.Arms.TheVariants as arms
@@ -45,11 +44,11 @@ use Rattle.time_bounds.specs.declared.trying.Tried.TheVariants.{Found, Missing, 
 use Rattle.time_bounds.specs.Attempts.{attempt_by, rows_by, is_sized, HasPlaces, ArePlacesOf}
 use Rattle.time_bounds.specs.Candidates.{spots_in, AreArms, IsCandidate}
 use Rattle.time_bounds.specs.ProgramSearches.{ranking_of}
-use Rattle.time_bounds.specs.ProgramSizes.{spot, IsLocalOf, AreLocalsOf, sizes_of_program}
+use Rattle.time_bounds.specs.ProgramSizes.{spot, IsLocalOf, AreLocalsOf, AreMembers, sizes_of_program}
 use Rattle.time_bounds.specs.Questions.{IsAsked, IsAnswered}
 use Rattle.time_bounds.specs.SizeWrites.{rows_of, placed, put_facts}
 use Rattle.time_bounds.specs.Tries.{is_found}
-use Rattle.time_bounds.specs.Written.{WritesSize, WritesAttempt, Follow, TimeFollows, SizeFollows, lemmas_by}
+use Rattle.time_bounds.specs.Written.{TimeFollows, SizeFollows, lemmas_by}
 use Rattle.time_bounds.proofs.FactWrites.{facts_at, cycle_facts-at, StoredAt, stored_here, facts_other}
 use Rattle.time_bounds.proofs.RoundLaws.{stored_none, asked_of}
 use Rattle.time_bounds.proofs.SizeSteps.{size_is, of_member, InRow, in_rows}
@@ -122,6 +121,33 @@ GivesLemma p pivots tab c (answers.Bent m) = ⊤
 GivesLemma p pivots tab c (answers.Untimed t) = ⊤
 GivesLemma p pivots tab c (answers.Large n) = ⊤
 
+-- a member has the local bound that is answered of its place
+abbrev HasItsBound : Locals → Member → Type 0
+HasItsBound local m = local m.spot.rule m.spot.place ≡ HasBound m.local
+
+-- members loop exactly where their places do
+loop_told : (s : Setting) (local : Locals) (spots : List Spot) (members : List Member) → AreMembers local spots members
+    → do_loop s members ≡ loops s local spots
+loop_told s local spots members are =
+    sym (ap (loops s local) are.spots_are ∙ outer members (recursion_from_All (HasItsBound local) members are.bounds_are))
+  where
+    inner : (n : Member) → HasItsBound local n → (ms : List Member)
+        → list_any (λ m. value_flows s local m n.spot) (map (λ m. m.spot) ms) ≡ list_any (λ m. reads_member s n m) ms
+    inner n e [] = refl
+    inner n e (m ∷ ms) =
+        ap (λ (l : Local). (is_in m.spot.rule (pre s.program n.spot.rule) && local_reads s n.spot l (m.spot.place - 1))
+        || list_any (λ m. value_flows s local m n.spot) (map (λ m. m.spot) ms)) e
+        ∙ ap (λ (v : Bool). reads_member s n m || v) (inner n e ms)
+
+    outer : (ns : List Member) → AllByRecursion (HasItsBound local) ns
+        → list_any (λ n. list_any (λ m. value_flows s local m n) (map (λ m. m.spot) members)) (map (λ m. m.spot) ns)
+        ≡ list_any (λ n. list_any (λ m. reads_member s n m) members) ns
+    outer [] h = refl
+    outer (n ∷ ns) h =
+        ap (λ (v : Bool). v || list_any (λ n. list_any (λ m. value_flows s local m n) (map (λ m. m.spot) members))
+        (map (λ m. m.spot) ns)) (inner n h.0 members)
+        ∙ ap (λ (v : Bool). list_any (λ m. reads_member s n m) members || v) (outer ns h.1)
+
 -- the answer for the only member
 pub spread_lemma : (p : Program) (pivots : ℕ) (local : Locals) (c : Candidate) (m : code.Member) (tab : Table) (a : SizeAnswer)
     → IsCandidate p pivots local c → c.arms ≡ arms.Alone m → IsSpreadAnswer (setting_of p) (table_of tab) (numbers_of tab) (member_of m) a
@@ -144,6 +170,7 @@ spread_lemma p pivots local c m tab a h e says = go a says
             member = member_of m;
             only = seen.2.spots_are;
             arms = All-head (IsFound p pivots) (member_of m) [] found;
+            alone = loop_told (setting_of p) local (spots_in c) (member_of m ∷ []) seen.2 ∙ seen.1;
             accepted = accepted;
             bound = refl;
             written = node_is;
@@ -176,6 +203,7 @@ cycle_lemma p pivots local c ms tab a h e says = go a says
             members = map member_of ms.items;
             all = seen.2.spots_are;
             arms = found;
+            loops = loop_told (setting_of p) local (spots_in c) (map member_of ms.items) seen.2 ∙ seen.1;
             accepted = accepted;
             bound = refl;
             written = node_is;

@@ -1,7 +1,7 @@
 -- What rounds write, by what follows in the code's list of lemmas.
-use Rattle.std.proofs.Common.{◌≡◌, ℕ, zero, suc, ◌+◌, ◌||◌, Bool, true, false, List, [], ◌∷◌, ◌++◌, length, map, refl, sym, ◌∙◌, ap, subst, arith}
+use Rattle.std.proofs.Common.{◌≡◌, ℕ, suc, ◌+◌, ◌||◌, Bool, true, false, List, [], ◌∷◌, ◌++◌, length, map, refl, sym, ◌∙◌, ap, subst, arith}
 use Rattle.std.specs.List.{list_any}
-use Rattle.std.proofs.lemmas.List.{append-nil, append_assoc, length-append, length-map}
+use Rattle.std.proofs.lemmas.List.{append-nil, length-map}
 use Rattle.model.specs.Programs.{Program}
 use Rattle.model.proofs.Membership.{no_is_not_yes}
 use Rattle.its_model.specs.Valid.{IsValid}

@@ -1,10 +1,9 @@
 -- The lemmas after a whole round are those of the relation, and the numbers of the table are theirs.
-use Rattle.std.proofs.Common.{◌≡◌, ℕ, suc, List, [], ◌∷◌, ◌++◌, length, map, filter, Option, refl, sym, ◌∙◌, ap, subst}
+use Rattle.std.proofs.Common.{◌≡◌, ℕ, suc, List, ◌++◌, length, map, filter, Option, refl, sym, ◌∙◌, ap, subst}
 use Rattle.std.proofs.lemmas.List.{append_assoc}
 use Rattle.model.specs.Programs.{Program}
 use Rattle.model.specs.Bounds.{Bound}
 use Rattle.its_model.specs.Valid.{IsValid}
-use Rattle.outcome.specs.declared.entry.Stored.{Stored}
 use Rattle.local_size.proofs.OneLocal.{locals-one}
 use Rattle.proof_nodes.specs.Acceptance.{facts_of_lemmas}
 use Rattle.proof_nodes.specs.Known as nodes
@@ -22,7 +21,7 @@ use Rattle.round_relation.specs.RightSizes.{AreSizesRight, AreSizesOne}
 use Rattle.round_relation.specs.Rounds.{NextTimes, Next}
 use Rattle.round_relation.specs.Searches.{Searches, SizeSearches}
 use Rattle.round_relation.specs.SizeLemmas.{AreSizeLemmas, AreWholeLemmasOf, AfterWhole, with_times}
-use Rattle.round_relation.specs.Standing.{StandFor, AreUniform, AreLivePlaces}
+use Rattle.round_relation.specs.Standing.{StandFor, AreUniform, ArePlacesAfterRules}
 use Rattle.round_relation.proofs.AcceptedLemmas.{after_round}
 use Rattle.round_relation.proofs.ComponentLemmas.{both_of}
 use Rattle.round_relation.proofs.OneWhole.{member_listed}
@@ -122,7 +121,7 @@ module _ (p : Program) (pivots : ℕ) (valid : IsValid p) where
         (uniform_made q z one (setting_of p) sized (table_of old) (made_of q z one (setting_of p) right sized (table_of old) earlier h.lemmas_are)
         (map spots_in cs) (are_components p pivots cs candidates))
 
-    live : (c : List Spot) → IsOneOf (map spots_in cs) c → AreLivePlaces p c
+    live : (c : List Spot) → IsOneOf (map spots_in cs) c → ArePlacesAfterRules p c
     live c is t i m =
         let there = ((live_components p pivots cs candidates).live t i).0 (member_listed (map spots_in cs) c t i is m) in
         (there.0, there.2)

@@ -1,10 +1,9 @@
 -- The lemmas of the sizes of a round are those of the relation, and its numbers are theirs.
-use Rattle.std.proofs.Common.{◌≡◌, inl, inr, ℕ, zero, suc, ◌+◌, Bool, true, false, cond, List, [], ◌∷◌, ◌++◌, length, map, Option, Some, None, refl, sym, ◌∙◌, ap, subst, arith}
+use Rattle.std.proofs.Common.{◌≡◌, inl, inr, ℕ, zero, suc, ◌+◌, Bool, true, false, cond, List, [], ◌∷◌, ◌++◌, length, map, Option, refl, sym, ◌∙◌, ap, subst}
 use Rattle.std.proofs.lemmas.List.{append-nil, append_assoc, length-append}
 use Rattle.model.specs.Programs.{Program}
 use Rattle.model.specs.Bounds.{Bound}
 use Rattle.model.proofs.Membership.{no_is_not_yes}
-use Rattle.outcome.specs.Reports.{NoSize}
 use Rattle.outcome.specs.declared.entry.Stored.{Stored}
 use Rattle.proof_nodes.specs.Acceptance.{facts_of_lemmas}
 use Rattle.proof_nodes.specs.Known as nodes
@@ -12,11 +11,11 @@ use Rattle.proof_nodes.specs.Nodes.{Spot, Proof}
 use Rattle.proof_setting.specs.Setting.{setting_of}
 use Rattle.round_relation.specs.Components.{IsOneOf, AreApart}
 use Rattle.round_relation.specs.Searches.{SizeSearches, Found, NotFound}
-use Rattle.round_relation.specs.NewSizes.{Sizes, has_spot, is_unsized}
+use Rattle.round_relation.specs.NewSizes.{has_spot, is_unsized}
 use Rattle.round_relation.specs.LemmaOrder.{AreNumbersOf}
 use Rattle.round_relation.specs.Numbering.{numbers_with}
 use Rattle.round_relation.specs.SizeLemmas.{AreComponentLemmas, AreSizeLemmas}
-use Rattle.round_relation.specs.Standing.{StandFor, IsUniform, AreUniform, AreLivePlaces, FindsSize}
+use Rattle.round_relation.specs.Standing.{StandFor, IsUniform, AreUniform, ArePlacesAfterRules}
 use Rattle.round_relation.proofs.Cases.{told}
 use Rattle.round_relation.proofs.ComponentLemmas.{both_of, component_stands}
 use Rattle.round_relation.proofs.Uniform.{unsized_all, apart_uniform}
@@ -30,7 +29,7 @@ use Rattle.time_bounds.specs.Candidates.{spots_in}
 use Rattle.time_bounds.specs.ProgramSizes.{sizes_of_program}
 use Rattle.time_bounds.specs.SizeWrites.{rows_of}
 use Rattle.time_bounds.specs.Attempts.{IsSizeStep, is_sized}
-use Rattle.time_bounds.specs.Written.{WritesSize, WritesAttempt, WritesStep, WriteSizes}
+use Rattle.time_bounds.specs.Written.{WritesSize, WritesAttempt, WriteSizes}
 use Rattle.time_bounds.proofs.SizeSteps.{same_times, same_table, unsized_answer}
 use Rattle.time_bounds.proofs.WrittenTimes.{numbers_same}
 
@@ -56,7 +55,7 @@ module _ (p : Program) (pivots : ℕ) where
     pub numbers : Numbered (earlier ++ proofs) new
 
   module _ (old new : Table) (c : Candidate) (earlier proofs : List Proof) (stand : StandFor (setting_of p) (table_of old) earlier)
-      (numbers : Numbered earlier old) (uniform : IsUniform (table_of old).size (spots_in c)) (live : AreLivePlaces p (spots_in c)) where
+      (numbers : Numbered earlier old) (uniform : IsUniform (table_of old).size (spots_in c)) (live : ArePlacesAfterRules p (spots_in c)) where
     -- where no size was found
     passed : (x : Attempt) → IsSizeStep p pivots old c x new → is_sized x ≡ false → proofs ≡ [] → IsRight earlier old c new proofs
     passed x step none nothing = record {
@@ -151,7 +150,7 @@ module _ (p : Program) (pivots : ℕ) where
 
   pub sizes_written : (cs : List Candidate) (old new : Table) (earlier proofs : List Proof) → StandFor (setting_of p) (table_of old) earlier
       → Numbered earlier old → AreApart (map spots_in cs) → AreUniform (table_of old).size (map spots_in cs)
-      → ((c : List Spot) → IsOneOf (map spots_in cs) c → AreLivePlaces p c) → WriteSizes p pivots (length earlier) old cs new proofs
+      → ((c : List Spot) → IsOneOf (map spots_in cs) c → ArePlacesAfterRules p c) → WriteSizes p pivots (length earlier) old cs new proofs
       → AreSizesWritten earlier old cs new proofs
   sizes_written [] old new earlier proofs stand numbers apart uniform live (same, nothing) = record {
     lemmas = (λ t i. ap (λ (tab : Table). (table_of tab).size t i) same, nothing);

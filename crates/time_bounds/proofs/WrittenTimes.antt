@@ -1,5 +1,5 @@
 -- The lemmas of the times of a round are those of the relation, and its numbers are theirs.
-use Rattle.std.proofs.Common.{◌≡◌, ℕ, zero, suc, ◌+◌, ◌-◌, ◌<◌, ◌≤◌, ◌&&◌, Bool, true, false, not, cond, List, [], ◌∷◌, ◌++◌, length, map, filter, Option, Some, None, refl, sym, ◌∙◌, ap, subst, arith}
+use Rattle.std.proofs.Common.{◌≡◌, ℕ, zero, suc, ◌+◌, ◌-◌, ◌<◌, ◌&&◌, Bool, true, false, not, cond, List, [], ◌∷◌, ◌++◌, length, map, filter, Option, Some, None, refl, sym, ◌∙◌, ap, subst, arith}
 use Rattle.std.specs.Prelude.{⊤}
 use Rattle.std.specs.List.{range_with_len, Contains}
 use Rattle.model.specs.Programs.{Program}
@@ -13,7 +13,7 @@ use Rattle.proof_nodes.specs.Known as nodes
 use Rattle.proof_nodes.specs.Nodes.{Proof}
 use Rattle.proof_setting.specs.Setting.{setting_of}
 use Rattle.proof_tree.specs.declared.answer.EmptyAnswer.{EmptyAnswer}
-use Rattle.round_relation.specs.Tables.{lacks, rule_numbers, IsPlace}
+use Rattle.round_relation.specs.Tables.{lacks, rule_numbers}
 use Rattle.round_relation.specs.Right.{AreRight}
 use Rattle.round_relation.specs.Rounds.{NextTimes}
 use Rattle.round_relation.specs.Standing.{StandFor}

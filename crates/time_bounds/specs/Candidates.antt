@@ -1,5 +1,5 @@
 -- Components of places with what the local answers of their members give once and for all.
-use Rattle.std.specs.Prelude.{◌≡◌, ℕ, Bool, true, false, List, [], ◌∷◌, map, Option, Some, None, ⊤}
+use Rattle.std.specs.Prelude.{◌≡◌, ℕ, Bool, true, false, List, [], ◌∷◌, map, Some, None, ⊤}
 use Rattle.std.specs.List.{All}
 use Rattle.model.specs.Programs.{Program}
 use Rattle.outcome.specs.Reports.{NoSize, Unsized}
@@ -14,7 +14,7 @@ use Rattle.proof_tree.specs.Views.{spot_of, member_of}
 use Rattle.proof_tree.specs.declared.arm.Member as code
 use Rattle.rvg_components.specs.declared.component.Component.{Component}
 use Rattle.rvg_components.specs.Flows.{Locals, loops}
-use Rattle.rvg_components.specs.Listing.{AreComponents, members_of, local_from}
+use Rattle.rvg_components.specs.Listing.{AreComponents, members_of}
 use Rattle.time_bounds.specs.declared.candidates.Candidate.{Candidate}
 use Rattle.time_bounds.specs.declared.candidates.Arms.{Arms}
 use Rattle.time_bounds.specs.declared.candidates.Arms.TheVariants as arms

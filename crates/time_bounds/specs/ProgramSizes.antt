@@ -1,13 +1,12 @@
 -- The searches for sizes of a program: what `local`, `components`, `spread` and `cycle` answer within some pivots.
-use Rattle.std.specs.Prelude.{◌≡◌, ◌↔◌, ℕ, Bool, true, false, List, [], ◌∷◌, map, Option, Some, None, MatchOption}
+use Rattle.std.specs.Prelude.{◌≡◌, ◌↔◌, ℕ, Bool, true, false, List, [], ◌∷◌, map, Option, Some, None}
 use Rattle.std.specs.List.{All}
 use Rattle.model.specs.Programs.{Program, Rule, rule_at}
 use Rattle.guard_prep.specs.Prepared.{prepared}
 use Rattle.outcome.specs.Reports.{NoSize, IsLoose, SizeTripped}
-use Rattle.outcome.specs.Reports as reports
 use Rattle.proof_nodes.specs.Nodes.{Spot, Member}
 use Rattle.proof_nodes.specs.AcceptsPlain.{IsRule}
-use Rattle.proof_nodes.specs.AcceptsSizes.{Side, Up, Low, AcceptsSpread, AcceptsCycle, spread_size, cycle_size}
+use Rattle.proof_nodes.specs.AcceptsSizes.{AcceptsSpread, AcceptsCycle, spread_size, cycle_size}
 use Rattle.proof_nodes.specs.Checks.{spread_checks, cycle_checks}
 use Rattle.proof_nodes.specs.Known.{Table}
 use Rattle.proof_nodes.specs.Reasons.{Reason, IsFirstAmong}
@@ -52,15 +51,10 @@ AreLocals p pivots is_live local =
 abbrev pub AreLocalsOf : Program → ℕ → Locals → List Spot → Type 0
 AreLocalsOf p pivots local spots = All (λ m. IsLocalOf p pivots m.rule m.place (local m.rule m.place)) spots
 
--- the side that is loose, as a report tells it
-abbrev pub told_side : Side → reports.Side
-told_side Up = reports.Up
-told_side Low = reports.Low
-
 -- the reason of a place that is loose, or tripped
 abbrev pub loose_reason : Local → Option NoSize
 loose_reason (HasBound l) = None
-loose_reason (IsLooseOn side ray kept) = Some (IsLoose (told_side side) ray kept)
+loose_reason (IsLooseOn side ray kept) = Some (IsLoose side ray kept)
 loose_reason (HasTripped t) = None
 
 abbrev pub trip_reason : Local → Option NoSize

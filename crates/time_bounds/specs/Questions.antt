@@ -5,7 +5,6 @@ use Rattle.model.specs.Programs.{Program}
 use Rattle.guard_prep.specs.declared.rule_rows.RuleRows.{RuleRows}
 use Rattle.guard_prep.specs.Views.{prepared_of}
 use Rattle.its_graph.specs.Graphs.{IsGraphOf}
-use Rattle.proof_nodes.specs.Gaps.{SymbolPlace}
 use Rattle.proof_tree.specs.declared.answer.EmptyAnswer.{EmptyAnswer}
 use Rattle.proof_tree.specs.Composing.{AreRowsOf}
 use Rattle.std.specs.List.{All}

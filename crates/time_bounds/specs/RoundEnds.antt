@@ -1,5 +1,5 @@
 -- What a whole round comes to: it finds a bound, or nothing.
-use Rattle.std.specs.Prelude.{◌≡◌, ℕ, ◌+◌, ◌<◌, Bool, true, false, List, length, Option}
+use Rattle.std.specs.Prelude.{◌≡◌, ℕ, ◌+◌, ◌<◌, false, List, length, Option}
 use Rattle.std.specs.List.{list_any}
 use Rattle.model.specs.Programs.{Program}
 use Rattle.proof_setting.specs.Setting.{setting_of}

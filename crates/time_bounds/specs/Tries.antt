@@ -1,5 +1,5 @@
 -- What a round makes of each rule, and of the table.
-use Rattle.std.specs.Prelude.{◌≡◌, ◌⊎◌, ℕ, zero, suc, ◌+◌, Bool, true, false, List, [], ◌∷◌, ◌++◌, Option}
+use Rattle.std.specs.Prelude.{◌≡◌, ◌⊎◌, ℕ, suc, ◌+◌, Bool, true, false, List, [], ◌∷◌, ◌++◌, Option}
 use Rattle.std.specs.Prelude.{Some, None, ⊤, slice_set}
 use Rattle.proof_tree.specs.declared.gap.Gap.{Gap}
 use Rattle.model.specs.Programs.{Program}

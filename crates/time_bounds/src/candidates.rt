@@ -19,7 +19,7 @@ ghost use Rattle.time_bounds.specs.Candidates.{spots_in, is_bound, IsMember, IsL
 ghost use Rattle.time_bounds.specs.Candidates.{IsArmed};
 ghost use Rattle.time_bounds.specs.Candidates.{AreArmed, AreCandidatesOf};
 
-use crate::copies::{copied_local, copied_loose};
+use crate::copies::copied_loose;
 use crate::fates::Fate;
 use crate::locals::{all_locals, live_rules};
 use crate::questions::Questions;
@@ -27,7 +27,7 @@ use its_model::Program;
 use local_size::LocalAnswer;
 use model::Memory;
 use outcome::{Loose, SizeEntry};
-use proof_tree::{Member, Spot, Trip};
+use proof_tree::{Member, Spot, Trip, copied_local};
 use rvg_components::{Component, components};
 use std::alloc::Global;
 

@@ -1,48 +1,13 @@
-// Copies of what is answered of places.
+// Copies of loose sides.
 
 ghost use Rattle.std.specs.Prelude.{◌≡◌, IfOk};
 ghost use Rattle.outcome.specs.Views.{loose_of};
-ghost use Rattle.proof_tree.specs.Views.{arm_of, local_of};
 ghost use Rattle.proof_tree.specs.AnswerViews.{scaled_of};
 
 use farkas_cert::Scaled;
 use model::Memory;
 use outcome::Loose;
-use proof_tree::{Arm, LocalBound};
 use std::alloc::Global;
-
-/// The same local bound.
-pub(crate) fn copied_local(alloc: Global, local: &LocalBound) -> Result<LocalBound, Memory>
-    ensures { IfOk result (λ l. local_of l ≡ local_of local.now) }
-{
-    let up = copied_arm(alloc, &local.up)?;
-    let low = copied_arm(alloc, &local.low)?;
-    Ok(LocalBound { up, low })
-}
-
-// The same arm.
-fn copied_arm(alloc: Global, arm: &Arm) -> Result<Arm, Memory>
-    ensures { IfOk result (λ a. arm_of a ≡ arm_of arm.now) }
-{
-    match arm {
-        Arm::Linear {
-            den,
-            coefs,
-            constant,
-            multipliers,
-        } => {
-            let coefs = Vec::from_slice(alloc, coefs)?;
-            let multipliers = Vec::from_slice(alloc, multipliers)?;
-            Ok(Arm::Linear {
-                den: *den,
-                coefs,
-                constant: *constant,
-                multipliers,
-            })
-        }
-        Arm::Poly => Ok(Arm::Poly),
-    }
-}
 
 /// The same loose side.
 pub(crate) fn copied_loose(alloc: Global, loose: &Loose) -> Result<Loose, Memory>

@@ -17,7 +17,7 @@ use crate::beginning::count_empty;
 use crate::fates::Fate;
 use its_model::Program;
 use model::Memory;
-use proof_tree::{EmptyAnswer, EmptyNode, Proof, UnreachedNode};
+use proof_tree::{EmptyAnswer, EmptyNode, Proof, UnreachedNode, cite};
 use size_bounds::Table;
 use std::alloc::Global;
 
@@ -199,11 +199,4 @@ fn never_lemma(alloc: Global, lemma: u32) -> Result<Proof, Memory>
     ensures { IfOk result (λ x. proof_of x ≡ Never (Cite lemma)) }
 {
     Ok(Proof::Never(Box::new(alloc, cite(lemma))?))
-}
-
-// An earlier lemma as a node.
-fn cite(lemma: u32) -> Proof
-    ensures { proof_of result ≡ Cite lemma }
-{
-    Proof::Cite(lemma)
 }

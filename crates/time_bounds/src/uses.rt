@@ -1,13 +1,11 @@
 // What a ranking node rests on: the lemmas of the bounds that it needs.
 
 ghost use Rattle.std.specs.Prelude.{◌≡◌, ◌-◌, ◌<◌, ◌^◌, ◌++◌, length, map};
-ghost use Rattle.std.specs.Prelude.{IfOk, OnOk, IfSome};
+ghost use Rattle.std.specs.Prelude.{IfOk, OnOk};
 ghost use Rattle.its_model.specs.Views.{program_of};
 ghost use Rattle.std.specs.List.{All};
 ghost use Rattle.proof_tree.specs.Views.{rank_of};
-ghost use Rattle.proof_nodes.specs.Composed.{rank_form as rank_form_of};
-ghost use Rattle.proof_tree.specs.Views.{form_of};
-ghost use Rattle.proof_tree.specs.Sizes.{form_found, IsShort};
+ghost use Rattle.proof_tree.specs.Sizes.{IsShort};
 ghost use Rattle.round_relation.specs.Uses.{NeedsSize, read_places, entry_needs, rank_needs, number_of};
 ghost use Rattle.round_relation.specs.Uses.{uses_for};
 ghost use Rattle.size_bounds.specs.Tables.{numbers_of};
@@ -16,7 +14,7 @@ ghost use Rattle.time_bounds.specs.Lemmas.{read_here};
 
 use its_model::Program;
 use model::Memory;
-use proof_tree::{Form, Proof, RankNode, entries, target_of};
+use proof_tree::{Proof, RankNode, entries, rank_form, target_of};
 use size_bounds::{Table, cited};
 use std::alloc::Global;
 
@@ -75,23 +73,6 @@ fn push_needed(
         Some(form) => push_sizes(lemmas, &form.coefs, table, entry),
         None => Ok(()),
     }
-}
-
-// The first form at a symbol.
-#[tactic(auto, using(proof_tree::proofs::Rules::form_here, proof_tree::proofs::Rules::form_passed))]
-fn rank_form(forms: &[Form], symbol: Option<u32>) -> Option<&Form>
-    ensures first { form_found result ≡ rank_form_of (map form_of forms.now) symbol }
-    ensures few { All IsShort forms.now → IfSome result (λ f. IsShort f.now) }
-{
-    let Some(number) = symbol else {
-        return None;
-    };
-    for form in forms {
-        if form.symbol == number {
-            return Some(form);
-        }
-    }
-    None
 }
 
 // Appends the lemmas of the sizes after an entry at the places with a coefficient.

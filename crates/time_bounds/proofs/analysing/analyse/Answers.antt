@@ -1,4 +1,4 @@
-use Rattle.std.proofs.Common.{◌≡◌, ℕ, ◌+◌, ◌<◌, ◌≤◌, ◌^◌, List, [], ◌∷◌, ◌++◌, length, map, replicate, Vec, Option, Some, refl, sym, ◌∙◌, ap, subst, arith}
+use Rattle.std.proofs.Common.{ℕ, ◌+◌, List, ◌∷◌, ◌++◌, length, map, replicate, Vec, Option, Some, sym, ◌∙◌, ap, subst, arith}
 use Rattle.std.specs.List.{All}
 use Rattle.std.specs.declared.alloc.Global.{Global}
 use Rattle.std.proofs.lemmas.List.{length-map}
@@ -18,7 +18,7 @@ use Rattle.time_bounds.specs.Beginning.{first_times, first_sizes, count_empty, c
 use Rattle.time_bounds.specs.SizeSaid.{said_table, put_whys, AreThere}
 use Rattle.time_bounds.specs.Totals.{time_in, total_of}
 use Rattle.time_bounds.specs.Analysis.{IsAnalysis}
-use Rattle.time_bounds.specs.RoundEnds.{missing_in, IsLastRound}
+use Rattle.time_bounds.specs.RoundEnds.{IsLastRound}
 use Rattle.time_bounds.proofs.FirstTables.{is_first, is_table}
 use Rattle.time_bounds.proofs.FirstPlaces.{first_places, few_missing}
 use Rattle.time_bounds.proofs.Found.{report_holds, report_fits}

@@ -1,4 +1,4 @@
-use Rattle.std.proofs.Common.{◌≡◌, ◌<◌, arith}
+use Rattle.std.proofs.Common.{◌<◌, arith}
 use Rattle.std.proofs.lemmas.List.{ext_get_or}
 use Rattle.time_bounds.proofs.asking.are_same_places.Goals as goal
 

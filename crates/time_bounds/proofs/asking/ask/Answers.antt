@@ -1,15 +1,13 @@
 use Rattle.std.proofs.Common.{◌≡◌, ℕ, List, length, sym, ap, ◌∙◌, subst}
 use Rattle.std.proofs.lemmas.List.{length-map}
 use Rattle.its_model.specs.Views.{symbol_of, program_of}
-use Rattle.model.specs.Programs.{Program}
 use Rattle.model.specs.Entries.{entries}
-use Rattle.proof_nodes.specs.Gaps.{SymbolPlace}
 use Rattle.rank_search.specs.ProgramQuestions.{places_of}
 use Rattle.round_relation.specs.Sets.{IsSetOfRule, AreShutOf}
 use Rattle.time_bounds.specs.declared.asking.Asked.{Asked}
 use Rattle.size_bounds.specs.Tables.{table_of}
 use Rattle.time_bounds.specs.Questions.{IsAsked}
-use Rattle.time_bounds.proofs.SetLaws.{IsOpenRule, open_rule, set_of_rule, rule_set, may_all_run}
+use Rattle.time_bounds.proofs.SetLaws.{open_rule, set_of_rule, rule_set, may_all_run}
 use Rattle.time_bounds.proofs.Shut.{shut_right}
 use Rattle.time_bounds.proofs.AnswerLaws.{both}
 use Rattle.time_bounds.proofs.asking.ask.Goals as goal

@@ -1,4 +1,3 @@
-use Rattle.std.proofs.Common.{◌≡◌}
 use Rattle.its_model.specs.Views.{program_of}
 use Rattle.time_bounds.proofs.AnswerLaws.{answered_of}
 use Rattle.time_bounds.proofs.asking.new_answer.Goals as goal

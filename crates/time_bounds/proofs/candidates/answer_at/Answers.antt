@@ -1,4 +1,4 @@
-use Rattle.std.proofs.Common.{◌≡◌, ◌-◌, ◌<◌, length, arith}
+use Rattle.std.proofs.Common.{arith}
 use Rattle.time_bounds.proofs.ArmLists.{answer_place, answer_read}
 use Rattle.time_bounds.proofs.candidates.answer_at.Goals as goal
 

@@ -1,4 +1,4 @@
-use Rattle.std.proofs.Common.{◌≡◌, Option, sym, ◌∙◌, ap, map, option_map}
+use Rattle.std.proofs.Common.{Option, sym, ◌∙◌, ap, map, option_map}
 use Rattle.outcome.specs.Views.{size_of}
 use Rattle.outcome.specs.declared.entry.SizeEntry.{SizeEntry}
 use Rattle.proof_tree.specs.Views.{spot_of}

@@ -1,4 +1,4 @@
-use Rattle.std.proofs.Common.{◌≡◌, ℕ, ◌+◌, ◌<◌, sym, ◌∙◌, ap, subst, length, List, [], ◌∷◌, ◌++◌, map, drop, get_or, arith}
+use Rattle.std.proofs.Common.{ℕ, ◌+◌, ◌<◌, sym, ◌∙◌, ap, subst, length, List, ◌++◌, map, drop, get_or, arith}
 use Rattle.model.specs.Programs.{arity_of}
 use Rattle.its_model.specs.Views.{rule_of, program_of}
 use Rattle.proof_nodes.specs.Nodes as nodes

@@ -1,4 +1,4 @@
-use Rattle.std.proofs.Common.{◌≡◌, take}
+use Rattle.std.proofs.Common.{take}
 use Rattle.its_model.specs.Views.{program_of}
 use Rattle.rvg_components.specs.Listing.{answer_lists}
 use Rattle.time_bounds.specs.Locals.{AreAllAnswers}

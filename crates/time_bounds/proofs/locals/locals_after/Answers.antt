@@ -1,4 +1,4 @@
-use Rattle.std.proofs.Common.{◌≡◌, ◌+◌, ◌<◌, List, [], length, sym, ap, subst, arith}
+use Rattle.std.proofs.Common.{◌≡◌, ◌+◌, List, length, sym, ap, subst, arith}
 use Rattle.its_model.specs.Views.{program_of}
 use Rattle.guard_prep.specs.Views.{prepared_of}
 use Rattle.local_size.specs.declared.answer.LocalAnswer.{LocalAnswer}

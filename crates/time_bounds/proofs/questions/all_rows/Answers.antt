@@ -1,4 +1,4 @@
-use Rattle.std.proofs.Common.{◌≡◌, ◌∙◌, ap, subst, ◌<◌, length, List, get_or}
+use Rattle.std.proofs.Common.{◌∙◌, ap, subst, ◌<◌, length, List, get_or}
 use Rattle.its_model.specs.declared.program.Rule.{Rule}
 use Rattle.time_bounds.proofs.RowLaws.{rule_preparable}
 use Rattle.time_bounds.proofs.questions.all_rows.Goals as goal

@@ -1,5 +1,5 @@
-use Rattle.std.proofs.Common.{◌≡◌, ◌⊎◌, inl, inr, ℕ, ◌+◌, ◌<◌, ◌≤◌, List, [], ◌∷◌, length, map, get_or, All, ap, sym, subst, ◌∙◌, arith}
-use Rattle.std.proofs.lemmas.List.{length-append, length_push}
+use Rattle.std.proofs.Common.{◌≡◌, ℕ, ◌+◌, List, [], ◌∷◌, length, map, All, ap, sym, subst, ◌∙◌, arith}
+use Rattle.std.proofs.lemmas.List.{length-append}
 use Rattle.std.proofs.lemmas.Iterator.Adapters.{YieldsList-from_vec}
 use Rattle.std.proofs.lemmas.Iterator.Consumers.{YieldsList-turn}
 use Rattle.its_model.specs.Views.{program_of}
@@ -10,7 +10,7 @@ use Rattle.outcome.specs.Printing.{HasItsGap}
 use Rattle.outcome.specs.declared.entry.TimeEntry.{TimeEntry}
 use Rattle.time_bounds.specs.Tries.{IsTried}
 use Rattle.time_bounds.specs.Analysis.{AreSaid}
-use Rattle.time_bounds.proofs.TriedLists.{tried_read, found_read, said_grown, gaps_grown, grown_few}
+use Rattle.time_bounds.proofs.TriedLists.{tried_read, said_grown, gaps_grown, grown_few}
 use Rattle.time_bounds.proofs.CarriedTimes.{times_carried, gaps_ordered}
 use Rattle.time_bounds.proofs.reasons.said_of.Goals as goal
 

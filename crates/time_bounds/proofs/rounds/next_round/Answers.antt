@@ -1,8 +1,8 @@
-use Rattle.std.proofs.Common.{◌≡◌, ℕ, ◌+◌, ◌<◌, ◌≤◌, ◌^◌, List, false, length, sym, ◌∙◌, ap, arith}
+use Rattle.std.proofs.Common.{◌≡◌, ◌+◌, ◌≤◌, List, false, length, sym, ◌∙◌, ap, arith}
 use Rattle.std.specs.List.{list_any}
 use Rattle.std.proofs.lemmas.Result.{IfOk-weaker}
 use Rattle.std.proofs.lemmas.List.{length-map}
-use Rattle.its_model.specs.Views.{rule_of, program_of}
+use Rattle.its_model.specs.Views.{rule_of}
 use Rattle.time_bounds.specs.declared.trying.Tried.{Tried}
 use Rattle.time_bounds.specs.RoundEnds.{missing_in}
 use Rattle.time_bounds.specs.Tries.{is_found}

@@ -1,16 +1,15 @@
-use Rattle.std.proofs.Common.{◌≡◌, ℕ, ◌+◌, ◌<◌, ◌≤◌, ◌^◌, List, length, map, Option, None, refl, sym, ◌∙◌, ap, subst, arith}
+use Rattle.std.proofs.Common.{◌≡◌, List, length, Option, None, sym, ◌∙◌, ap, subst, arith}
 use Rattle.std.proofs.lemmas.List.{length-map, length-replicate}
 use Rattle.its_model.specs.Views.{rule_of, program_of}
 use Rattle.proof_nodes.specs.Known as nodes
 use Rattle.proof_setting.specs.Setting.{setting_of}
 use Rattle.round_relation.specs.Rounds.{IsMade, MadeWhole}
-use Rattle.size_bounds.specs.Tables.{table_of}
 use Rattle.time_bounds.specs.declared.asking.Asked.{Asked}
 use Rattle.time_bounds.specs.declared.rounds.Round.{Round}
 use Rattle.time_bounds.specs.ProgramSearches.{searches_of_program}
 use Rattle.time_bounds.specs.ProgramSizes.{sizes_of_program}
 use Rattle.time_bounds.specs.Questions.{AreKept}
-use Rattle.time_bounds.specs.RoundEnds.{missing_in, IsRound}
+use Rattle.time_bounds.specs.RoundEnds.{IsRound}
 use Rattle.time_bounds.proofs.RoundSteps.{none_kept}
 use Rattle.time_bounds.proofs.rounds.rounds.Goals as goal
 

@@ -1,4 +1,4 @@
-use Rattle.std.proofs.Common.{◌≡◌, map, length}
+use Rattle.std.proofs.Common.{◌≡◌, map}
 use Rattle.time_bounds.specs.Tries.{after_tries, kept_in}
 use Rattle.time_bounds.proofs.rounds.settle.Given as goal
 

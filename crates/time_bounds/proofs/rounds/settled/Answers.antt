@@ -1,4 +1,4 @@
-use Rattle.std.proofs.Common.{◌≡◌, refl, sym, ◌∙◌, ap}
+use Rattle.std.proofs.Common.{sym, ◌∙◌, ap}
 use Rattle.time_bounds.specs.Tries.{found_in, put_tried}
 use Rattle.time_bounds.proofs.Settling.{unfound, taken_if, written_if}
 use Rattle.time_bounds.proofs.rounds.settled.Goals as goal

@@ -1,4 +1,4 @@
-use Rattle.std.proofs.Common.{◌≡◌, ◌<◌, ℕ, List, length, replicate, get_or, None, sym, ap, ◌∙◌, arith}
+use Rattle.std.proofs.Common.{List, length, replicate, get_or, None, sym, ap, ◌∙◌}
 use Rattle.std.proofs.lemmas.List.{length-map}
 use Rattle.its_model.specs.declared.program.Symbol.{Symbol}
 use Rattle.its_model.specs.Views.{symbol_of, program_of}

@@ -1,4 +1,4 @@
-use Rattle.std.proofs.Common.{◌≡◌, ◌∙◌, length, arith}
+use Rattle.std.proofs.Common.{◌∙◌, length, arith}
 use Rattle.its_model.specs.Views.{program_of}
 use Rattle.size_bounds.specs.Tables.{table_of}
 use Rattle.time_bounds.proofs.Steps.{mark_if, mark_pushed, marks_long, symbols_whole}

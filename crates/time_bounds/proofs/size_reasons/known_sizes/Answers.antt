@@ -1,9 +1,9 @@
-use Rattle.std.proofs.Common.{◌≡◌, ℕ, ◌+◌, ◌<◌, List, [], ◌∷◌, Option, Vec, length, take, map, get_or, sym, ◌∙◌, ap, subst, arith}
+use Rattle.std.proofs.Common.{◌≡◌, ◌+◌, ◌<◌, List, [], ◌∷◌, Option, Vec, length, take, map, get_or, sym, ◌∙◌, ap, subst, arith}
 use Rattle.std.proofs.lemmas.List.{length-append}
 use Rattle.std.specs.declared.alloc.Global.{Global}
 use Rattle.outcome.specs.declared.entry.SizeEntry.{SizeEntry}
 use Rattle.outcome.specs.declared.entry.Stored.{Stored}
-use Rattle.time_bounds.specs.SizeSaid.{seen_row, seen_rows, said_stored, CarryRow}
+use Rattle.time_bounds.specs.SizeSaid.{seen_rows, said_stored, CarryRow}
 use Rattle.time_bounds.proofs.SaidRows.{row_more}
 use Rattle.time_bounds.proofs.CarriedSizes.{places_nothing, rows_carried}
 use Rattle.time_bounds.proofs.size_reasons.known_sizes.Goals as goal

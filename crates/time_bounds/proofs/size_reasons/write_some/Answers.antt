@@ -1,4 +1,4 @@
-use Rattle.std.proofs.Common.{◌≡◌, subst, sym, ◌∙◌, ap, map, Option, Some, None, option_map, refl}
+use Rattle.std.proofs.Common.{subst, sym, ◌∙◌, ap, map, Option, option_map}
 use Rattle.outcome.specs.declared.entry.SizeEntry.{SizeEntry}
 use Rattle.outcome.specs.Views.{size_of}
 use Rattle.proof_tree.specs.Views.{spot_of}

@@ -1,4 +1,4 @@
-use Rattle.std.proofs.Common.{◌≡◌, ap, sym, ◌∙◌, subst, refl}
+use Rattle.std.proofs.Common.{ap, sym, ◌∙◌, subst, refl}
 use Rattle.its_model.specs.Views.{program_of}
 use Rattle.bound_expr.specs.Views.{bound_of}
 use Rattle.bound_table.specs.Within.{answer_of}

@@ -1,7 +1,6 @@
-use Rattle.std.proofs.Common.{◌≡◌, ◌<◌, ℕ, ◌+◌, ◌∙◌, ap, sym, List, ◌++◌, map, take, get_or, length, arith}
-use Rattle.std.specs.Prelude.{ℤ, pos}
-use Rattle.std.proofs.lemmas.List.{take_more, length-take-le, map-append, append_assoc}
-use Rattle.round_relation.specs.Uses.{NeedsSize, Numbers, read_places, number_of}
+use Rattle.std.proofs.Common.{ℕ, ◌+◌, ◌∙◌, ap, List, ◌++◌, map, get_or}
+use Rattle.std.specs.Prelude.{pos}
+use Rattle.round_relation.specs.Uses.{NeedsSize, number_of}
 use Rattle.time_bounds.specs.Lemmas.{read_here}
 use Rattle.size_bounds.specs.Tables.{numbers_of}
 use Rattle.time_bounds.proofs.UseLists.{read-more}

@@ -1,4 +1,4 @@
-use Rattle.std.proofs.Common.{◌≡◌, sym, ◌∙◌, arith}
+use Rattle.std.proofs.Common.{sym, ◌∙◌, arith}
 use Rattle.time_bounds.proofs.PlacedLaws.{entry_past, entry_filled, entry_set}
 use Rattle.time_bounds.proofs.writing.write_entry.Goals as goal
 

@@ -1,4 +1,4 @@
-use Rattle.std.proofs.Common.{◌≡◌, sym, ◌∙◌, ap, List, Option}
+use Rattle.std.proofs.Common.{sym, ◌∙◌, ap, List, Option}
 use Rattle.outcome.specs.declared.entry.Stored.{Stored}
 use Rattle.time_bounds.specs.SizeWrites.{put_fact}
 use Rattle.time_bounds.proofs.FactWrites.{facts_more}

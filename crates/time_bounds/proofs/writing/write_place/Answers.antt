@@ -1,4 +1,4 @@
-use Rattle.std.proofs.Common.{◌≡◌, ℕ, suc, ◌-◌, ◌<◌, length, map, sym, ◌∙◌, ap, subst, arith}
+use Rattle.std.proofs.Common.{◌≡◌, ℕ, suc, ◌-◌, ◌<◌, length, map, sym, ◌∙◌, ap, arith}
 use Rattle.time_bounds.specs.SizeWrites.{put_place}
 use Rattle.time_bounds.proofs.PlacedLaws.{place_zero, place_none, place_set}
 use Rattle.time_bounds.proofs.writing.write_place.Goals as goal

@@ -2,7 +2,7 @@ use Rattle.std.proofs.Common.{◌≡◌, map, take}
 use Rattle.its_model.specs.Views.{rule_of}
 use Rattle.guard_prep.specs.Prepared.{prepared}
 use Rattle.guard_prep.specs.Views.{prepared_of}
-use Rattle.analysis_tests.proofs.locals.all_rows.Given as goal
+use Rattle.analysis_tests.proofs.programs.all_rows.Given as goal
 
 -- the rows of the rules so far
 abbrev pub invariant-loop-rule : goal.invariant-loop-rule

@@ -1,7 +1,7 @@
-use Rattle.std.proofs.Common.{◌≡◌, ◌∙◌, ap, subst, ◌<◌, length, List, get_or}
+use Rattle.std.proofs.Common.{◌∙◌, ap, subst, ◌<◌, length, List, get_or}
 use Rattle.its_model.specs.declared.program.Rule.{Rule}
 use Rattle.time_bounds.proofs.RowLaws.{rule_preparable}
-use Rattle.analysis_tests.proofs.locals.all_rows.Goals as goal
+use Rattle.analysis_tests.proofs.programs.all_rows.Goals as goal
 
 pub rows-requires : goal.rows-requires
 rows-requires c =

@@ -1,0 +1,78 @@
+-- Local bounds that are found are accepted, and members that have them are what the searches for sizes are given.
+use Rattle.std.proofs.Common.{◌≡◌, ℕ, suc, ◌<◌, ◌≤◌, List, [], ◌∷◌, ◌++◌, length, map, get_or, Some, sym, ◌∙◌, ap, subst, arith}
+use Rattle.std.specs.List.{All}
+use Rattle.std.proofs.lemmas.List.{length-map, map-append, get_or-map}
+use Rattle.std.proofs.lemmas.List.Elements.{All-push, All-weaker}
+use Rattle.model.specs.Programs.{Program, rule_at, arity_of}
+use Rattle.its_graph.specs.declared.graph.Graph.{Graph}
+use Rattle.its_graph.specs.Graphs.{IsGraphOf}
+use Rattle.its_model.specs.Valid.{IsValid}
+use Rattle.guard_prep.specs.declared.rule_rows.RuleRows.{RuleRows}
+use Rattle.guard_prep.specs.Prepared.{Prepared}
+use Rattle.guard_prep.specs.Views.{prepared_of}
+use Rattle.local_size.specs.LocalAnswers.{HasBound, IsLocal}
+use Rattle.local_size.specs.LocalLaws.{IsSpotOf}
+use Rattle.local_size.proofs.Accepted.{bounds-accepted}
+use Rattle.poly_terms.specs.Views.{form_of}
+use Rattle.proof_nodes.specs.Nodes.{Spot, LocalBound, Member}
+use Rattle.proof_nodes.specs.AcceptsSizes.{HasMemberShape, AcceptsUp, AcceptsLow, AreAscending}
+use Rattle.proof_setting.specs.Setting.{setting_of}
+use Rattle.proof_tree.specs.Composing.{AreRowsOf}
+use Rattle.proof_tree.specs.Views.{member_of}
+use Rattle.proof_tree.specs.declared.arm.Member as code
+use Rattle.proof_tree.specs.declared.answer.EmptyAnswer.{EmptyAnswer}
+use Rattle.rank_search.proofs.RankSets.{rule-of}
+use Rattle.size_bounds.specs.SizeAnswers.{IsGiven, AreGiven}
+use Rattle.time_bounds.specs.Candidates.{IsAccepted}
+use Rattle.time_bounds.proofs.RowLaws.{RowsAt, rows_at}
+
+-- both arms that are found of a place of a rule are accepted
+pub accepted : (p : Program) (preps : List RuleRows) (k pivots : ℕ) (m : RuleRows) (spot : Spot) (e : EmptyAnswer) (l : LocalBound)
+    → IsValid p → AreRowsOf preps p → k < length preps → m ≡ get_or preps k m → spot.rule ≡ suc k → 1 ≤ spot.place
+    → spot.place ≤ length m.news.items → IsLocal (prepared_of m) spot pivots e (HasBound l) → IsAccepted p (record { spot = spot; local = l })
+accepted p preps k pivots m spot e l valid rows low is number least most h =
+    let at : RowsAt p.rules k m = subst (λ (x : RuleRows). RowsAt p.rules k x) (sym is) (rows_at preps p.rules k m rows low) in
+    let numbered : rule_at p spot.rule ≡ Some at.rule = ap (rule_at p) number ∙ at.numbered in
+    let places : length m.news.items ≡ arity_of p at.rule.target =
+    sym (length-map m.news.items form_of)
+    ∙ (ap (λ (y : Prepared). length y.news) at.same ∙ (rule-of p [] 0 [] (suc k) at.rule valid at.numbered).values) in
+    let of : IsSpotOf p spot at.rule = record {
+      numbered = numbered;
+      is_spot = record { rule = at.rule; numbered = numbered; least = least; most = subst (λ (n : ℕ). spot.place ≤ n) places most };
+    } in
+    let local = subst (λ (y : Prepared). IsLocal y spot pivots e (HasBound l)) at.same h in record {
+      shape = bounds-accepted.shape p at.rule spot pivots e l valid of local;
+      up = bounds-accepted.up p at.rule spot pivots e l valid of local;
+      low = bounds-accepted.low p at.rule spot pivots e l valid of local;
+    }
+
+-- one member more
+pub accepted_more : (p : Program) (ms : List code.Member) (m : code.Member) → All (IsAccepted p) (map member_of ms) → IsAccepted p (member_of m)
+    → All (IsAccepted p) (map member_of (ms ++ m ∷ []))
+accepted_more p ms m all one =
+    subst (λ (xs : List Member). All (IsAccepted p) xs) (sym (map-append member_of ms (m ∷ [])))
+    (All-push (IsAccepted p) (map member_of ms) (member_of m) all one)
+
+-- what the search for the size of the first member is given
+pub given_alone : (p : Program) (g : Graph) (preps : List RuleRows) (ms : List code.Member) (m : code.Member) → IsValid p → IsGraphOf g p
+    → AreRowsOf preps p → All (IsAccepted p) (map member_of ms) → 0 < length ms → m ≡ get_or ms 0 m → IsGiven p g preps (member_of m)
+given_alone p g preps ms m valid graph rows all some is =
+    let first : get_or (map member_of ms) 0 (member_of m) ≡ member_of m = get_or-map member_of ms 0 m (member_of m) some ∙ ap member_of (sym is) in
+    let k = subst (IsAccepted p) first (all 0 (member_of m) (omega (arith, some, length-map ms member_of))) in
+    record { valid = valid; graph = graph; rows = rows; shape = k.shape; up = k.up; low = k.low }
+
+-- and that for the size of the members of a loop
+pub given_loop : (p : Program) (g : Graph) (preps : List RuleRows) (ms : List code.Member) → IsValid p → IsGraphOf g p → AreRowsOf preps p
+    → All (IsAccepted p) (map member_of ms) → 0 < length ms → AreAscending (map member_of ms) → AreGiven p g preps (map member_of ms)
+given_loop p g preps ms valid graph rows all some ascending = record {
+  valid = valid;
+  graph = graph;
+  rows = rows;
+  shape = record {
+    some = omega (arith, some, length-map ms member_of);
+    ascending = ascending;
+    each = All-weaker (IsAccepted p) (HasMemberShape (setting_of p)) (λ m a. a.shape) (map member_of ms) all;
+  };
+  up = All-weaker (IsAccepted p) (AcceptsUp (setting_of p)) (λ m a. a.up) (map member_of ms) all;
+  low = All-weaker (IsAccepted p) (AcceptsLow (setting_of p)) (λ m a. a.low) (map member_of ms) all;
+}

@@ -1,0 +1,34 @@
+// Programs of some rules, and what the searches are given of them.
+
+ghost use Rattle.std.specs.Prelude.{IfOk};
+ghost use Rattle.its_model.specs.Valid.{IsValid};
+ghost use Rattle.its_model.specs.Views.{program_of};
+ghost use Rattle.proof_tree.specs.Composing.{AreRowsOf};
+
+use guard_prep::{RuleRows, rows};
+use its_model::Program;
+use its_reader::read;
+use std::alloc::{AllocError, Global};
+use std::test::Fail;
+
+// A program with these rules, from l0.
+pub(crate) fn program(alloc: Global, rules: &str) -> Result<Program, Fail>
+    ensures { IfOk result (λ p. IsValid (program_of p)) }
+{
+    let mut text = b"(STARTTERM (FUNCTIONSYMBOLS l0))(RULES ".to_vec(alloc)?;
+    text.extend_from_slice(rules.as_bytes())?;
+    text.push(b')')?;
+    Ok(read(alloc, &text)?)
+}
+
+// The rows of each rule, in order.
+pub(crate) fn all_rows(alloc: Global, p: &Program) -> Result<Vec<RuleRows>, AllocError>
+    requires { IsValid (program_of p.now) }
+    ensures { IfOk result (λ preps. AreRowsOf preps.items (program_of p.now)) }
+{
+    let mut preps = Vec::new(alloc);
+    for rule in &p.rules {
+        preps.push(rows(alloc, rule)?)?;
+    }
+    Ok(preps)
+}

@@ -1,0 +1,189 @@
+// Programs by their rules, each with its status and its whole answer, worked out by hand.
+
+use koat_cli::Status;
+
+/// The rule of the smallest program.
+pub(crate) const ONE_RULE: &str = "l0(A) -> Com_1(l1(A))";
+
+/// Rules, with the status and the text of the answer to them.
+pub(crate) const PROGRAMS: &[(&str, Status, &str)] = &[
+    (
+        ONE_RULE,
+        Status::Done,
+        "bounded\ntime 1: 1\ntotal: 1\nsize 1.1: A\n",
+    ),
+    (
+        "l0(A) -> Com_1(l1(A)) l1(A) -> Com_1(l1(A-1)) :|: A >= 1",
+        Status::Done,
+        "bounded\ntime 1: 1\ntime 2: A\ntotal: A + 1\nsize 1.1: A\nsize 2.1: A\n",
+    ),
+    (
+        "l0(A) -> Com_1(l0(A-1)) :|: A >= 1",
+        Status::Done,
+        "bounded\ntime 1: A\ntotal: A\nsize 1.1: A\n",
+    ),
+    (
+        "l0(A) -> Com_1(l1(A)) l1(A) -> Com_1(l1(A)) :|: A >= 1 && A <= 0",
+        Status::Done,
+        "bounded\ntime 1: 1\ntime 2: 0\ntotal: 1\nsize 1.1: A\nsize 2.1: 0\n",
+    ),
+    (
+        "l0(A) -> Com_1(l1(A)) l7(A) -> Com_1(l7(A))",
+        Status::Done,
+        "bounded\ntime 1: 1\ntime 2: 0\ntotal: 1\nsize 1.1: A\nsize 2.1: 0\n",
+    ),
+    (
+        "l0(A) -> Com_1(l1(A)) l1(A) -> Com_1(l1(A)) :|: 2*A >= 1 && 2*A <= 1",
+        Status::Done,
+        "bounded\ntime 1: 1\ntime 2: 0\ntotal: 1\nsize 1.1: A\nsize 2.1: 0\n",
+    ),
+    (
+        "l0(A) -> Com_1(l1(A*A))",
+        Status::Done,
+        "bounded\ntime 1: 1\ntotal: 1\nsize 1.1: A^2\n",
+    ),
+    (
+        "l0(A,B) -> Com_1(l1(A,B)) l1(A,B) -> Com_1(l1(A-1,B*B)) :|: A >= 1",
+        Status::Done,
+        "bounded\ntime 1: 1\ntime 2: A\ntotal: A + 1\nsize 1.1: A\nsize 1.2: B\nsize 2.1: A\n\
+         size 2.2: unknown\nwhy size 2.2: bent 2.2\n",
+    ),
+    (
+        "l0(A) -> Com_1(l1(A)) :|: A <= 4000000000",
+        Status::Unknown,
+        "unknown\ntime 1: unknown\ntotal: unknown\nsize 1.1: unknown\n\
+         why time 1: rank 1 range at pivot 0\nwhy size 1.1: local 1.1 range at pivot 0\n",
+    ),
+    (
+        "l0(A) -> Com_1(l1(A)) :|: A*A <= 9223372036854775807",
+        Status::Done,
+        "bounded\ntime 1: 1\ntotal: 1\nsize 1.1: A\n",
+    ),
+    (
+        "l0(A) -> Com_1(l1(A)) l1(A) -> Com_1(l1(A-2)) :|: A >= 1",
+        Status::Done,
+        "bounded\ntime 1: 1\ntime 2: A + 1\ntotal: A + 2\nsize 1.1: A\nsize 2.1: max(A, 1)\n",
+    ),
+    (
+        "l0(A) -> Com_1(l1(A)) :|: A >= 5",
+        Status::Done,
+        "bounded\ntime 1: 1\ntotal: 1\nsize 1.1: A\n",
+    ),
+    (
+        "l0(A) -> Com_1(l1(A)) l1(A) -> Com_1(l1(A))",
+        Status::Unknown,
+        "unknown\ntime 1: 1\ntime 2: unknown\ntotal: unknown\nsize 1.1: A\nsize 2.1: A\n\
+         why time 2: no affine ranking function over rules 2\n  move 2: (1) / 1\n  floor 2: (0) / 0\n\
+         \x20 kept 2: (1) / 1\n",
+    ),
+    (
+        "l0(B,A) -> Com_1(l1(A,A,B)) l7() -> Com_1(l8())",
+        Status::Done,
+        "bounded\ntime 1: 1\ntime 2: 0\ntotal: 1\nsize 1.1: A\nsize 1.2: A\nsize 1.3: B\n",
+    ),
+    (
+        "l0(A,B) -> Com_1(l1(A,B)) l1(A,B) -> Com_1(l2(A,A)) :|: A >= 1 \
+         l2(A,B) -> Com_1(l2(A,B-1)) :|: B >= 1 l2(A,B) -> Com_1(l1(A-1,B)) :|: B <= 0",
+        Status::Done,
+        "bounded\ntime 1: 1\ntime 2: A\ntime 3: 2*A^2\ntime 4: A\ntotal: 2*A^2 + 2*A + 1\n\
+         size 1.1: A\nsize 1.2: B\nsize 2.1: 2*A\nsize 2.2: 2*A\nsize 3.1: 2*A\nsize 3.2: 2*A\n\
+         size 4.1: 2*A\nsize 4.2: 2*A\n",
+    ),
+    (
+        "l0(A,B) -> Com_1(l1(A,B)) l1(A,B) -> Com_1(l1(A-1,2*B)) :|: A >= 1 \
+         l1(A,B) -> Com_1(l2(B,B)) l2(A,B) -> Com_1(l2(A-1,B)) :|: A >= 1",
+        Status::Done,
+        "bounded\ntime 1: 1\ntime 2: A\ntime 3: 1\ntime 4: 2*2^A*B\ntotal: 2*2^A*B + A + 2\n\
+         size 1.1: A\nsize 1.2: B\nsize 2.1: A\nsize 2.2: 2*2^A*B\nsize 3.1: 2*2^A*B\n\
+         size 3.2: 2*2^A*B\nsize 4.1: 2*2^A*B\nsize 4.2: 2*2^A*B\n",
+    ),
+    (
+        "l0(A,B) -> Com_1(l1(A,B)) l1(A,B) -> Com_1(l1(A+B,B-1)) :|: A >= 1",
+        Status::Unknown,
+        "unknown\ntime 1: 1\ntime 2: unknown\ntotal: unknown\nsize 1.1: A\nsize 1.2: B\n\
+         size 2.1: unknown\nsize 2.2: unknown\n\
+         why time 2: no affine ranking function over rules 2\n  move 2: (1, 1) / 1\n  floor 2: (1, -1) / 0\n\
+         \x20 kept 2: (1, 1) / 1\nwhy size 2.1: missing 2.2\n\
+         why size 2.2: untimed 2\n",
+    ),
+    (
+        "l0(A) -> Com_1(l1(C)) l1(A) -> Com_1(l1(A-1)) :|: A >= 1",
+        Status::Unknown,
+        "unknown\ntime 1: 1\ntime 2: unknown\ntotal: unknown\nsize 1.1: unknown\n\
+         size 2.1: unknown\nwhy time 2: no affine ranking function over rules 2\n  shut l1.1\n  move 2: (1) / 1\n\
+         \x20 floor 2: (1) / 0\n  kept 2: (1) / 1\nwhy size 1.1: loose up\n  ray: (0, 1)\n  kept: (1, 1) / 1\n\
+         why size 2.1: missing 1.1\n",
+    ),
+    (
+        "l0(A) -> l1(A^8) l1(A) -> l2(A^8) l2(A) -> l3(A^8) l3(A) -> l4(A^8)",
+        Status::Done,
+        "bounded\ntime 1: 1\ntime 2: 1\ntime 3: 1\ntime 4: 1\ntotal: 4\nsize 1.1: A^8\n\
+         size 2.1: A^64\nsize 3.1: A^512\nsize 4.1: unknown\nwhy size 4.1: large 8216 nodes\n",
+    ),
+    (
+        "l0(A) -> Com_1(l1(C)) :|: C >= A l1(A) -> Com_1(l2(C)) :|: C <= A",
+        Status::Done,
+        "bounded\ntime 1: 1\ntime 2: 1\ntotal: 2\nsize 1.1: unknown\nsize 2.1: unknown\n\
+         why size 1.1: loose up\n  ray: (0, 1)\n  kept: (1, 1) / 1\nwhy size 2.1: loose low\n  ray: (0, -1)\n\
+         \x20 kept: (1, 1) / 1\n",
+    ),
+    (
+        "l0(A,B) -> Com_1(l1(A,B)) l1(A,B) -> Com_1(l1(B,A)) \
+         l1(A,B) -> Com_1(l1(A+1,B)) :|: A <= 5",
+        Status::Unknown,
+        "unknown\ntime 1: 1\ntime 2: unknown\ntime 3: unknown\ntotal: unknown\nsize 1.1: A\n\
+         size 1.2: B\nsize 2.1: max(A, B, 6)\nsize 2.2: max(A, B, 6)\nsize 3.1: max(A, B, 6)\n\
+         size 3.2: max(A, B, 6)\nwhy time 2: no affine ranking function over rules 2, 3\n  move 2: (1, 0) / 1\n\
+         \x20 move 3: (1, 1) / 1\n  floor 2: (0, 1) / 0\n  kept 2: (1, 1) / 1\n  kept 3: (1, 1) / 1\n\
+         why time 3: no affine ranking function over rules 2, 3\n  move 2: (1, 0) / 1\n  move 3: (1, 1) / 1\n\
+         \x20 floor 3: (0, 1) / 0\n  kept 2: (1, 1) / 1\n  kept 3: (1, 1) / 1\n",
+    ),
+    (
+        "l0(A,B) -> Com_1(l1(A,B)) l1(A,B) -> Com_1(l1(A-1,B+A)) :|: A >= 1 \
+         l1(A,B) -> Com_1(l2(B,A)) l2(A,B) -> Com_1(l2(A-1,B)) :|: A >= 1",
+        Status::Done,
+        "bounded\ntime 1: 1\ntime 2: A\ntime 3: 1\ntime 4: A^2 + A + B\ntotal: A^2 + 2*A + B + 2\n\
+         size 1.1: A\nsize 1.2: B\nsize 2.1: A\nsize 2.2: A^2 + A + B\nsize 3.1: A^2 + A + B\n\
+         size 3.2: A\nsize 4.1: A^2 + A + B\nsize 4.2: A\n",
+    ),
+    (
+        "l0(A) -> Com_1(l1(A)) :|: A*A <= 9223372036854775808",
+        Status::ProgramRefused,
+        "program refused at 72: NumberTooLarge\n",
+    ),
+    (
+        "l0(A) -> Com_2(l1(A),l2(A))",
+        Status::ProgramRefused,
+        "program refused at 48: ManyTargets\n",
+    ),
+    (
+        "l0(A,A) -> Com_1(l0(A,A))",
+        Status::ProgramRefused,
+        "program refused at 44: LeftRepeated\n",
+    ),
+    (
+        "l0(1) -> Com_1(l0(1))",
+        Status::ProgramRefused,
+        "program refused at 42: LeftNotVariable\n",
+    ),
+    (
+        "l0(A) -> Com_1(l0(A,A))",
+        Status::ProgramRefused,
+        "program refused at 60: ArityDiffers\n",
+    ),
+    (
+        "l0(A) -> Com_1(l1(A^9))",
+        Status::ProgramRefused,
+        "program refused at 59: Limit Degree\n",
+    ),
+    (
+        "l0(A) -> Com_1(l1(A)) :|: A >= 1 || A <= 0",
+        Status::ProgramRefused,
+        "program refused at 72: Disjunction\n",
+    ),
+    (
+        "l1(A) -> Com_1(l1(A))",
+        Status::ProgramRefused,
+        "program refused at 28: StartUnknown\n",
+    ),
+];
