@@ -129,7 +129,7 @@ pub record IsEmptyTrip (b : RankedSet) (pivots : ℕ) (empties : List EmptyAnswe
   pub first : first_trip empties b.set ≡ Some t
 
 -- what the answer says, within a number of pivots: a function that ranks the rule, as a node that rests on nothing yet;
--- that there is none, as a gap shows; or which linear program trips
+-- that there is none, with a gap; or which linear program trips
 abbrev pub IsRankAnswer : RankedSet → List SymbolPlace → ℕ → List EmptyAnswer → RankAnswer → Type 0
 IsRankAnswer b shut pivots empties (Ranked node) = IsRankNode b pivots (rank_of node) × (node.uses.items ≡ [])
 IsRankAnswer b shut pivots empties (NoRank gap) =

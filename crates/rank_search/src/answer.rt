@@ -7,7 +7,7 @@ use proof_tree::{Gap, RankNode, Trip};
 pub enum RankAnswer {
     /// This one, as a node that rests on nothing yet.
     Ranked(RankNode),
-    /// None does, as the gap shows.
+    /// None does. The gap has the parts of the dual that excludes every function, and a point of each rule of the set.
     NoRank(Gap),
     /// A linear program passed a limit.
     Tripped(Trip),

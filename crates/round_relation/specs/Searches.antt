@@ -13,7 +13,7 @@ pub data Emptiness : Type 0 where
   HasPoint : ScaledPoint → Emptiness
   EmptyTripped : Trip → Emptiness
 
--- which function ranks a rule over a set: one of least weight, or none as a gap shows, or a linear program passed a
+-- which function ranks a rule over a set: one of least weight, or none, with a gap, or a linear program passed a
 -- limit
 pub data Ranking : Type 0 where
   Ranked : RankNode → Ranking
