@@ -3,7 +3,7 @@ use Rattle.std.proofs.Common.{ℕ, zero, suc, ◌≤◌, List, [], ◌∷◌, le
 use Rattle.std.specs.List.{AllByRecursion}
 use Rattle.std.proofs.lemmas.List.{length-replicate}
 use Rattle.model.specs.Terms.{Variable}
-use Rattle.model.specs.Programs.{Atom, Always, Rule}
+use Rattle.model.specs.Programs.{AtLeast, Atom, Always, Compare, Rule}
 use Rattle.its_model.specs.Valid.{IsValidRule, IsValidAtom}
 use Rattle.its_model.specs.WorkedPrograms.{rule_with, starting_at, ProgramsAreValid, PartsAgree, LimitsAreKept, DifferencesAreTaken, ProgramsAreWorkedOut}
 
@@ -112,10 +112,32 @@ parts = record {
   no_symbol = λ h. absurd (let l = h.source in omega (arith, l));
   one_left = λ h. absurd (let l = h.left in omega (arith, l));
   three_left = λ h. absurd (let l = h.left in omega (arith, l));
+  to_start = record {
+    source = omega arith;
+    target = omega arith;
+    left = refl;
+    places = refl;
+    named = refl;
+    names = ((refl, refl), ((refl, refl), tt));
+    distinct = (refl, (refl, tt));
+    few_variables = omega arith;
+    few_atoms = omega arith;
+    updates = (record { variables = omega arith; expands = refl }, (record { variables = omega arith; expands = refl }, tt));
+    guard = tt;
+  };
+  no_target = λ h. absurd (let l = h.target in omega (arith, l));
+  second_in_guard = plain_rule [] (Compare (Variable 1) AtLeast (Variable 0) ∷ []) (omega arith)
+      (record { left = omega arith; right = omega arith; expands = refl }, tt);
+  third_in_guard = λ h. absurd (let l = h.guard.0.left in omega (arith, l));
+  third_behind_sign = λ h. absurd (let l = h.guard.0.right in omega (arith, l));
   same_names = λ h. let e = h.distinct.0 in cc;
   one_name = λ h. absurd (let l = h.named in omega (arith, l));
   empty_name = λ h. h.names.1.0;
   digit = λ h. let e = h.names.1.0.0 in cc;
+  digit_symbol = λ h. let e = h.symbols.0.name.0 in cc;
+  nameless_symbol = λ h. h.symbols.0.name;
+  digit_start_name = λ h. let e = h.start_names.1.0.0 in cc;
+  nameless_start = λ h. h.start_names.1.0;
   same_symbols = λ h. let e = h.distinct.0 in cc;
   one_start_name = λ h. absurd (let l = h.start_places in omega (arith, l));
   same_start_names = λ h. let e = h.start_distinct.0 in cc;

@@ -5,17 +5,21 @@ use Rattle.model.specs.Programs.{AtLeast, MoreThan, AtMost, LessThan, EqualTo, A
 use Rattle.model.specs.Programs.{Rule, Program}
 use Rattle.its_model.specs.Valid.{difference_of, IsValidSymbol, IsValidRule, IsValid}
 
--- the rule l0(A, B) -> l1(update) where the atoms hold
-abbrev pub rule_with : List Term → List Atom → Rule
-rule_with updates guard = record {
+-- the rule from l0(A, B) to the symbol with this number, with these updates, where the atoms hold
+abbrev pub rule_to : ℕ → List Term → List Atom → Rule
+rule_to target updates guard = record {
   source = 0;
-  target = 1;
+  target = target;
   left = 2;
   free = 0;
   names = (65 ∷ []) ∷ (66 ∷ []) ∷ [];
   updates = updates;
   guard = guard;
 }
+
+-- the rule l0(A, B) -> l1(update) where the atoms hold
+abbrev pub rule_with : List Term → List Atom → Rule
+rule_with updates guard = rule_to 1 updates guard
 
 -- a rule to l1(A) without atoms, from a symbol by its number, with so many left and free variables of these names
 abbrev pub rule_from : ℕ → ℕ → ℕ → List Name → Rule
@@ -48,6 +52,15 @@ abbrev pub small_program : Program
 small_program = starting_at 0 (rule_with (Addition (Variable 0) (Variable 1)
     ∷ []) (Compare (Variable 0) MoreThan (Variable 1) ∷ []) ∷ [])
 
+-- the small program, with this name for l0 and these for the start arguments
+abbrev pub named_by : Name → List Name → Program
+named_by name start_names = record {
+  symbols = record { name = name; arity = 2 } ∷ record { name = 108 ∷ 49 ∷ []; arity = 1 } ∷ [];
+  start = 0;
+  start_names = start_names;
+  rules = small_program.rules;
+}
+
 -- which programs are valid
 pub record ProgramsAreValid : Type 0 where
   -- the small program
@@ -79,11 +92,26 @@ pub record PartsAgree : Type 0 where
   pub no_symbol : ¬ (IsValidRule (starting_at 0 []) (rule_from 2 2 0 ((65 ∷ []) ∷ (66 ∷ []) ∷ [])))
   pub one_left : ¬ (IsValidRule (starting_at 0 []) (rule_from 0 1 1 ((65 ∷ []) ∷ (66 ∷ []) ∷ [])))
   pub three_left : ¬ (IsValidRule (starting_at 0 []) (rule_from 0 3 0 ((65 ∷ []) ∷ (66 ∷ []) ∷ (67 ∷ []) ∷ [])))
+  -- l0(A, B) -> l0(B, A); not to a symbol without a number, which has no place that would need an update
+  pub to_start : IsValidRule (starting_at 0 []) (rule_to 0 (Variable 1 ∷ Variable 0 ∷ []) [])
+  pub no_target : ¬ (IsValidRule (starting_at 0 []) (rule_to 2 [] []))
+  -- an atom is B >= A; not one that reads a third variable on either side
+  pub second_in_guard : IsValidRule (starting_at 0 [])
+      (rule_with (Variable 0 ∷ []) (Compare (Variable 1) AtLeast (Variable 0) ∷ []))
+  pub third_in_guard : ¬ (IsValidRule (starting_at 0 [])
+      (rule_with (Variable 0 ∷ []) (Compare (Variable 2) AtLeast (Variable 0) ∷ [])))
+  pub third_behind_sign : ¬ (IsValidRule (starting_at 0 [])
+      (rule_with (Variable 0 ∷ []) (Compare (Variable 1) AtLeast (Variable 2) ∷ [])))
   -- not with the names A and A, A alone, A and the empty one, or A and 1
   pub same_names : ¬ (IsValidRule (starting_at 0 []) (rule_from 0 2 0 ((65 ∷ []) ∷ (65 ∷ []) ∷ [])))
   pub one_name : ¬ (IsValidRule (starting_at 0 []) (rule_from 0 2 0 ((65 ∷ []) ∷ [])))
   pub empty_name : ¬ (IsValidRule (starting_at 0 []) (rule_from 0 2 0 ((65 ∷ []) ∷ [] ∷ [])))
   pub digit : ¬ (IsValidRule (starting_at 0 []) (rule_from 0 2 0 ((65 ∷ []) ∷ (49 ∷ []) ∷ [])))
+  -- a symbol isn't named 1 or by nothing, and neither is a start argument
+  pub digit_symbol : ¬ (IsValid (named_by (49 ∷ []) ((65 ∷ []) ∷ (66 ∷ []) ∷ [])))
+  pub nameless_symbol : ¬ (IsValid (named_by [] ((65 ∷ []) ∷ (66 ∷ []) ∷ [])))
+  pub digit_start_name : ¬ (IsValid (named_by (108 ∷ 48 ∷ []) ((65 ∷ []) ∷ (49 ∷ []) ∷ [])))
+  pub nameless_start : ¬ (IsValid (named_by (108 ∷ 48 ∷ []) ((65 ∷ []) ∷ [] ∷ [])))
   -- two symbols don't share a name, and there is a name for each start argument, each another
   pub same_symbols : ¬ (IsValid (record {
     symbols = record { name = 108 ∷ []; arity = 1 } ∷ record { name = 108 ∷ []; arity = 1 } ∷ [];
@@ -91,20 +119,8 @@ pub record PartsAgree : Type 0 where
     start_names = (65 ∷ []) ∷ [];
     rules = rule_from 0 1 0 ((65 ∷ []) ∷ []) ∷ [];
   }))
-  pub one_start_name : ¬ (IsValid (record {
-    symbols = two_and_one;
-    start = 0;
-    start_names = (65 ∷ [])
-        ∷ [];
-    rules = small_program.rules;
-  }))
-  pub same_start_names : ¬ (IsValid (record {
-    symbols = two_and_one;
-    start = 0;
-    start_names = (65 ∷ []) ∷ (65 ∷ [])
-        ∷ [];
-    rules = small_program.rules;
-  }))
+  pub one_start_name : ¬ (IsValid (named_by (108 ∷ 48 ∷ []) ((65 ∷ []) ∷ [])))
+  pub same_start_names : ¬ (IsValid (named_by (108 ∷ 48 ∷ []) ((65 ∷ []) ∷ (65 ∷ []) ∷ [])))
 
 -- the limits on both of their sides: 32 places, 64 atoms and 1,000 rules; and not 65 variables
 pub record LimitsAreKept : Type 0 where
