@@ -6,6 +6,7 @@ pub mod Certificates
 pub mod LinearProgram
 pub mod Questions
 pub mod RuleQuestions
+pub mod Losses
 pub mod RuleQuestionLaws
 pub mod QuestionLaws
 pub mod QuestionValues

@@ -7,9 +7,9 @@ use Rattle.model.specs.Entries.{is_in, entries}
 use Rattle.bound_expr.specs.Measure.{is_large}
 use Rattle.linear_forms.specs.Combinations.{less}
 use Rattle.linear_forms.specs.RuleQuestions.{constant_form}
+use Rattle.linear_forms.specs.Losses.{loss}
 use Rattle.proof_nodes.specs.Nodes.{Spot, SymbolForm, RankNode}
 use Rattle.proof_nodes.specs.Graph.{symbols_of}
-use Rattle.proof_nodes.specs.Combined.{loss}
 use Rattle.proof_nodes.specs.Known.{Table}
 use Rattle.proof_nodes.specs.Setting.{Setting}
 use Rattle.proof_nodes.specs.AcceptsRank.{moves_of, at_source, at_target, least_loss, rank_time}

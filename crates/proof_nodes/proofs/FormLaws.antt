@@ -6,7 +6,8 @@ use Rattle.int_laws.proofs.RingLaws.{mul-zero_ℤ, mul_comm_ℤ}
 use Rattle.linear_forms.specs.Forms.{Form, at, list_dot, form_value}
 use Rattle.linear_forms.specs.Combinations.{form_times, combination, less}
 use Rattle.linear_forms.proofs.CombinationLaws.{form_value-sum, form_value-times, form_value-combination}
-use Rattle.proof_nodes.specs.Combined.{form_at, after_rule}
+use Rattle.linear_forms.specs.Losses.{at_new_values}
+use Rattle.proof_nodes.specs.Combined.{form_at}
 use Rattle.linear_forms.specs.RuleQuestions.{constant_form}
 
 -- unknowns that agree where there are coefficients
@@ -61,7 +62,7 @@ dot-turned (f ∷ fs) (c ∷ cs) z d = both _ _ _ _ (mul_comm_ℤ (form_value f 
 
 -- the value of a form after a rule is its value at the new values
 pub value-after : (f : Form) (news : List Form) (z : ℕ → ℤ) (d : ℤ)
-    → form_value (after_rule f news) z d ≡ form_value f (λ i. form_value (form_at news i) z d) d
+    → form_value (at_new_values f news) z d ≡ form_value f (λ i. form_value (form_at news i) z d) d
 value-after f news z d =
     regroup _ _ _ _ _ (form_value-sum (combination news (at f.coefs)) (constant_form f.constant) z d)
     (form_value-combination news (at f.coefs) z d ∙ dot-turned news f.coefs z d) (value-number f.constant z d)

@@ -16,7 +16,8 @@ use Rattle.proof_nodes.specs.Nodes.{SymbolForm, RankNode}
 use Rattle.model.specs.Entries.{is_in, is_left_by, enters, entries}
 use Rattle.proof_nodes.specs.Numbers.{positive_part}
 use Rattle.model.specs.Paths.{source_of, target_of, same_symbol, entry_and_rules}
-use Rattle.proof_nodes.specs.Combined.{form_at, after_rule, loss}
+use Rattle.linear_forms.specs.Losses.{at_new_values, loss}
+use Rattle.proof_nodes.specs.Combined.{form_at}
 use Rattle.linear_forms.specs.Combinations.{less}
 use Rattle.linear_forms.specs.RuleQuestions.{constant_form}
 use Rattle.proof_nodes.specs.Known.{known, Table}
@@ -67,7 +68,7 @@ value_before s t b free c x f l =
 -- a form at the new values of a step's point has the value that it has at the configuration after it
 pub value_behind : (s : Setting) (t : ℕ) (b : Config) (free : List ℤ) (c : Config) (x : StepPoint s t b free c)
     (f : Form)
-    → form_value (after_rule f (s.news t)) x.z (pos 1) ≡ value_at f c
+    → form_value (at_new_values f (s.news t)) x.z (pos 1) ≡ value_at f c
 value_behind s t b free c x f =
     value-after f (s.news t) x.z (pos 1)
     ∙ ap (λ (v : ℤ). v +ℤ f.constant *ℤ pos 1)
@@ -78,8 +79,8 @@ loses : (s : Setting) (t : ℕ) (b : Config) (free : List ℤ) (c : Config) (x :
     (k : ℤ) → length f.coefs ≤ length b.values
     → pos 0 ≤ℤ form_value (loss f g (s.news t) k) x.z (pos 1) → (value_at g c +ℤ k) ≤ℤ value_at f b
 loses s t b free c x f g k l h =
-    from _ _ _ _ _ _ (value-less (less f (after_rule g (s.news t))) (constant_form k) x.z (pos 1))
-    (value-less f (after_rule g (s.news t)) x.z (pos 1))
+    from _ _ _ _ _ _ (value-less (less f (at_new_values g (s.news t))) (constant_form k) x.z (pos 1))
+    (value-less f (at_new_values g (s.news t)) x.z (pos 1))
     (value-number k x.z (pos 1)) (value_before s t b free c x f l) (value_behind s t b free c x g) h
   where
     from : (w d n v y z : ℤ) → w ≡ d -ℤ n → d ≡ v -ℤ y → n ≡ k *ℤ pos 1 → v ≡ value_at f b → y ≡ z → pos 0 ≤ℤ w

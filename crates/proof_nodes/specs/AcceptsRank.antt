@@ -9,9 +9,9 @@ use Rattle.model.specs.Entries.{is_in, IsEntry}
 use Rattle.proof_nodes.specs.Numbers.{IsAscending}
 use Rattle.model.specs.Paths.{source_of, target_of}
 use Rattle.proof_nodes.specs.Graph.{symbols_of}
-use Rattle.proof_nodes.specs.Combined.{loss}
 use Rattle.linear_forms.specs.Combinations.{less}
 use Rattle.linear_forms.specs.RuleQuestions.{constant_form}
+use Rattle.linear_forms.specs.Losses.{loss}
 use Rattle.proof_nodes.specs.Known.{IsKnown, Table}
 use Rattle.proof_nodes.specs.Composed.{rank_form, time_of}
 use Rattle.proof_nodes.specs.Limits.{IsInLimit, IsFormInLimit, IsSmallComposed}

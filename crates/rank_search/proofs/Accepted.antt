@@ -18,7 +18,7 @@ use Rattle.linear_forms.specs.RuleQuestions.{RankedSet, constant_form, has_symbo
 use Rattle.linear_forms.proofs.ListLaws.{length-listed, after-is, All-front, All-behind}
 use Rattle.linear_forms.proofs.SolutionLaws.{All-listed}
 use Rattle.rule_forms.specs.Ranking.{Function}
-use Rattle.rule_forms.specs.RankLaws.{AreShown, loss as loss_shown}
+use Rattle.rule_forms.specs.RankLaws.{AreShown, lost_by}
 use Rattle.rule_forms.proofs.RankFits.{function-fits}
 use Rattle.rule_forms.proofs.RankSolutions.{rank-shown}
 use Rattle.model.specs.Programs.{Program, Rule, rule_at, arity_of}
@@ -27,8 +27,8 @@ use Rattle.its_model.specs.Valid.{IsValid}
 use Rattle.guard_prep.proofs.StepLaws.{valid-at}
 use Rattle.proof_nodes.specs.AcceptsPlain.{IsRule, AreMultipliers}
 use Rattle.proof_nodes.specs.AcceptsRank.{HasFormShape, HasRankShape, Loses, HasFloor, moves_of, AcceptsRank}
-use Rattle.proof_nodes.specs.Combined.{loss}
 use Rattle.linear_forms.specs.Combinations.{less}
+use Rattle.linear_forms.specs.Losses.{loss}
 use Rattle.proof_nodes.specs.Composed.{rank_form}
 use Rattle.proof_nodes.specs.Gaps.{SymbolPlace}
 use Rattle.proof_nodes.specs.Graph.{symbols_of}
@@ -132,7 +132,7 @@ moves-limit (u ∷ set) (m ∷ moves) t h =
 
 -- what is shown of a rule, and of the floor
 abbrev IsShownAt : RankedSet → Function → ℤ → ℕ → List ℕ → Type 0
-IsShownAt b f d t m = Implies (b.rule t).rows m (loss_shown f (b.rule t) (if nat_eq t b.strict then d else pos 0))
+IsShownAt b f d t m = Implies (b.rule t).rows m (lost_by f (b.rule t) (if nat_eq t b.strict then d else pos 0))
 
 abbrev IsShownFloor : RankedSet → Function → ℤ → List ℕ → Type 0
 IsShownFloor b f d m = Implies (b.rule b.strict).rows m (less (f (b.rule b.strict).source) (constant_form d))
@@ -178,7 +178,7 @@ same-rows (Some r) = refl
 -- a loss that is shown is one that is accepted
 accepted-loss : (f : Function) (forms : List SymbolForm) (o : Option Rule) (r : Rule) (m : List ℕ) (k : ℤ) → o ≡ Some r
     → rank_form forms (Some r.source) ≡ f r.source → rank_form forms (Some r.target) ≡ f r.target
-    → Implies (forms_in o).rows m (loss_shown f (forms_in o) k)
+    → Implies (forms_in o).rows m (lost_by f (forms_in o) k)
     → Implies (rows_in o) m (loss (rank_form forms (source_in o)) (rank_form forms (target_in o)) (news_in o) k)
 accepted-loss f forms None r m k e s t h = absurd (nothing e)
   where

@@ -16,7 +16,7 @@ use Rattle.linear_forms.proofs.CombinationLaws.{at-sum, at-times}
 use Rattle.linear_forms.proofs.SolutionLaws.{length-map}
 use Rattle.rule_forms.specs.Kinds.{AreSame}
 use Rattle.rule_forms.specs.Ranking.{at_news}
-use Rattle.rule_forms.specs.RankLaws.{coefficient, function_of, loss}
+use Rattle.rule_forms.specs.RankLaws.{coefficient, function_of, lost_by}
 use Rattle.rule_forms.proofs.Forms.{at-listed, at-past}
 use Rattle.rule_forms.proofs.Combined.{at-combination, constant-combination}
 use Rattle.rule_forms.proofs.Totals.{dot-agree}
@@ -154,7 +154,7 @@ move-reading : (h : Form → ℤ) → IsLinear h → (b : RankedSet) (t : ℕ) (
     → length (b.rule t).news ≡ b.arity (b.rule t).target
     → h (function_of b v (b.rule t).source) ≡ list_dot (map (λ c. h (at_source (b.rule t) c)) (coefficients_of b)) v
     → h (goal_at (move_group b (coefficients_of b) t) v d)
-    ≡ h (loss (function_of b v) (b.rule t) (if nat_eq t b.strict then d else pos 0))
+    ≡ h (lost_by (function_of b v) (b.rule t) (if nat_eq t b.strict then d else pos 0))
 move-reading h linear b t v d long source =
     linear.sum _ _ ∙ (sums _ _ _ _
     (linear.combined (map (λ c. form_sum (at_source (b.rule t) c) (opposite (at_target (b.rule t) c)))
@@ -197,7 +197,7 @@ move-reading h linear b t v d long source =
 -- so the goal of a rule is what the function loses by it
 pub move-same : (b : RankedSet) (t : ℕ) (v : ℕ → ℤ) (d : ℤ) → length (b.rule t).news ≡ b.arity (b.rule t).target
     → AreSame (goal_at (move_group b (coefficients_of b) t) v d)
-    (loss (function_of b v) (b.rule t) (if nat_eq t b.strict then d else pos 0))
+    (lost_by (function_of b v) (b.rule t) (if nat_eq t b.strict then d else pos 0))
 move-same b t v d long = record {
   coefs = λ u. move-reading (λ f. at f.coefs u) (unknown-linear u) b t v d long (source-is b (b.rule t) v u);
   constant =

@@ -18,7 +18,7 @@ use Rattle.linear_forms.proofs.SolutionLaws.{length-map, solution-solves}
 use Rattle.linear_forms.proofs.CombinationLaws.{form_value-sum, form_value-times}
 use Rattle.linear_forms.proofs.CertificateLaws.{implied_on_points}
 use Rattle.rule_forms.specs.Ranking.{Function, at_news, Loses, Ranks}
-use Rattle.rule_forms.specs.RankLaws.{IsRuleOf, IsSetOf, function_of, loss, AreShown, rank_multipliers}
+use Rattle.rule_forms.specs.RankLaws.{IsRuleOf, IsSetOf, function_of, lost_by, AreShown, rank_multipliers}
 use Rattle.rule_forms.proofs.Forms.{implies-same}
 use Rattle.rule_forms.proofs.Shapes.{argument_length, sum_length}
 use Rattle.rule_forms.proofs.RankGoals.{coefficients_of, IsPlaced, are-placed, move-same, floor-same}
@@ -155,7 +155,7 @@ number-value k z d = plus _
 shown-at : (b : RankedSet) (f : Function) (d : ℤ) (set : List ℕ) (ms : List (List ℕ)) → AreShown b f d set ms → (i : ℕ)
     → i < length set
     → (m : List ℕ) × Implies (b.rule (get_or set i 0)).rows m
-    (loss f (b.rule (get_or set i 0)) (if nat_eq (get_or set i 0) b.strict then d else pos 0))
+    (lost_by f (b.rule (get_or set i 0)) (if nat_eq (get_or set i 0) b.strict then d else pos 0))
 shown-at b f d [] ms h i l = absurd (omega (arith, l))
 shown-at b f d (t ∷ set) [] h i l = absurd h
 shown-at b f d (t ∷ set) (m ∷ ms) h zero l = (m, h.0)
@@ -170,13 +170,13 @@ shown-floor b f d (t ∷ set) [] h = absurd h
 shown-floor b f d (t ∷ set) (m ∷ ms) h = shown-floor b f d set ms h.1
 
 -- a loss that is shown holds on points
-loses-by : (b : RankedSet) (f : Function) (t k : ℕ) (m : List ℕ) → Implies (b.rule t).rows m (loss f (b.rule t) (pos k))
+loses-by : (b : RankedSet) (f : Function) (t k : ℕ) (m : List ℕ) → Implies (b.rule t).rows m (lost_by f (b.rule t) (pos k))
     → Loses b f t k
 loses-by b f t k m implies = record {
   each = λ z d point. below _ _ _ _ _
       (less-value (less (f (b.rule t).source) (at_news (b.rule t) (f (b.rule t).target))) (constant_form (pos k)) z d)
       (less-value (f (b.rule t).source) (at_news (b.rule t) (f (b.rule t).target)) z d) (number-value (pos k) z d)
-      (implied_on_points (b.rule t).rows m (loss f (b.rule t) (pos k)) implies z d point);
+      (implied_on_points (b.rule t).rows m (lost_by f (b.rule t) (pos k)) implies z d point);
 }
   where
     below : (s a b n p : ℤ) → {m : ℤ} → s ≡ p +ℤ neg_ℤ m → p ≡ a +ℤ neg_ℤ b → m ≡ n → pos 0 ≤ℤ s → (b +ℤ n) ≤ℤ a
@@ -212,20 +212,20 @@ shown-ranks b f q ms is l shown = record {
 }
   where
     rises : (t : ℕ) → ((m : List ℕ) × Implies (b.rule t).rows m
-        (loss f (b.rule t) (if nat_eq t b.strict then pos q else pos 0))) → Loses b f t 0
+        (lost_by f (b.rule t) (if nat_eq t b.strict then pos q else pos 0))) → Loses b f t 0
     rises t h = go (nat_eq t b.strict) h.1
       where
-        go : (s : Bool) → Implies (b.rule t).rows h.0 (loss f (b.rule t) (if s then pos q else pos 0)) → Loses b f t 0
+        go : (s : Bool) → Implies (b.rule t).rows h.0 (lost_by f (b.rule t) (if s then pos q else pos 0)) → Loses b f t 0
         go true i = loses-less b f t q (loses-by b f t q h.0 i)
         go false i = loses-by b f t 0 h.0 i
 
     falls : ((m : List ℕ) × Implies (b.rule (get_or b.set is.inside 0)).rows m
-        (loss f (b.rule (get_or b.set is.inside 0))
+        (lost_by f (b.rule (get_or b.set is.inside 0))
         (if nat_eq (get_or b.set is.inside 0) b.strict then pos q else pos 0)))
         → Loses b f b.strict q
     falls h = subst (λ (t : ℕ). Loses b f t q) is.strict (loses-by b f (get_or b.set is.inside 0) q h.0
         (subst (λ (s : Bool). Implies (b.rule (get_or b.set is.inside 0)).rows h.0
-        (loss f (b.rule (get_or b.set is.inside 0)) (if s then pos q else pos 0)))
+        (lost_by f (b.rule (get_or b.set is.inside 0)) (if s then pos q else pos 0)))
         (eq-eqb (get_or b.set is.inside 0) b.strict is.strict) h.1))
 
     floor : (z : ℕ → ℤ) (d : ℤ) → IsPoint (b.rule b.strict).rows z d

@@ -10,8 +10,9 @@ use Rattle.linear_forms.specs.Questions.{listed, double, program_of_question}
 use Rattle.linear_forms.specs.QuestionLaws.{after, parameters_of, multipliers_by_group}
 use Rattle.linear_forms.specs.RuleQuestions.{RuleForms, RankedSet, Coefficient, constant_form, symbols_of_set}
 use Rattle.linear_forms.specs.RuleQuestions.{coefficients, rank_question}
+use Rattle.linear_forms.specs.Losses.{loss}
 use Rattle.rule_forms.specs.Laws.{HasPoint}
-use Rattle.rule_forms.specs.Ranking.{Function, at_news, Ranks, Fits, NoRank, IsLeastRank}
+use Rattle.rule_forms.specs.Ranking.{Function, Ranks, Fits, NoRank, IsLeastRank}
 
 -- a rule leads between symbols of the program, has a left variable for each place of its source and a new value for
 -- each place of its target, and its forms have no coefficient past its unknowns
@@ -50,8 +51,8 @@ function_of b v s =
     }
 
 -- what a function loses by a rule, less k
-abbrev pub loss : Function → RuleForms → ℤ → Form
-loss f r k = less (less (f r.source) (at_news r (f r.target))) (constant_form k)
+abbrev pub lost_by : Function → RuleForms → ℤ → Form
+lost_by f r k = loss (f r.source) (f r.target) r.news k
 
 -- for each rule of the list multipliers show what the function loses by it, d by the rule that has to decrease and
 -- nothing by the others; and the last ones show that it is at least d before that rule
@@ -61,7 +62,7 @@ AreShown b f d [] (m ∷ []) = Implies (b.rule b.strict).rows m (less (f (b.rule
 AreShown b f d [] (m ∷ n ∷ ms) = ⊥
 AreShown b f d (t ∷ ts) [] = ⊥
 AreShown b f d (t ∷ ts) (m ∷ ms) =
-    Implies (b.rule t).rows m (loss f (b.rule t) (if nat_eq t b.strict then d else pos 0)) × AreShown b f d ts ms
+    Implies (b.rule t).rows m (lost_by f (b.rule t) (if nat_eq t b.strict then d else pos 0)) × AreShown b f d ts ms
 
 -- the multipliers that a solution x of the rank question's program gives, for each rule of the set and for the floor
 abbrev pub rank_multipliers : RankedSet → (ℕ → ℤ) → List (List ℕ)

@@ -4,8 +4,8 @@ use Rattle.std.specs.List.{All}
 use Rattle.linear_forms.specs.Forms.{Form, at, form_value}
 use Rattle.linear_forms.specs.Sizes.{total_size}
 use Rattle.linear_forms.specs.Points.{IsPoint}
-use Rattle.linear_forms.specs.Combinations.{form_sum, combination}
-use Rattle.linear_forms.specs.RuleQuestions.{RuleForms, RankedSet, constant_form, symbols_of_set}
+use Rattle.linear_forms.specs.RuleQuestions.{RuleForms, RankedSet, symbols_of_set}
+use Rattle.linear_forms.specs.Losses.{at_new_values}
 use Rattle.rule_forms.specs.Bounds.{height}
 
 -- a form in the places of a symbol, for each symbol
@@ -14,7 +14,7 @@ Function = ℕ → Form
 
 -- a form in the places of a rule's target, in the rule's unknowns: each place has its new value
 abbrev pub at_news : RuleForms → Form → Form
-at_news r f = form_sum (combination r.news (at f.coefs)) (constant_form f.constant)
+at_news r f = at_new_values f r.news
 
 -- on the rational points of rule t the function after the rule and k more are at most the function before it
 pub record Loses (b : RankedSet) (f : Function) (t k : ℕ) : Type 0 where
