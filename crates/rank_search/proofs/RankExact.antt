@@ -15,7 +15,7 @@ use Rattle.rule_forms.specs.RankLaws.{HavePointsOf, rank_multipliers}
 use Rattle.rule_forms.proofs.RankFits.{function-fits}
 use Rattle.rule_forms.proofs.RankSolutions.{rank-shown, shown-ranks}
 use Rattle.rule_forms.proofs.RankExclusion.{dual-excludes_ranks}
-use Rattle.rule_forms.proofs.RankWeights.{least-rank}
+use Rattle.rule_forms.proofs.LeastRanks.{least-rank}
 use Rattle.model.specs.Programs.{Program, Rule, rule_at}
 use Rattle.its_model.specs.Valid.{IsValid}
 use Rattle.proof_nodes.specs.AcceptsPlain.{IsRule}

@@ -14,5 +14,6 @@ pub mod RankSolutions
 pub mod RankValues
 pub mod RankExclusion
 pub mod RankWeights
+pub mod LeastRanks
 pub mod WorkedRanks
 pub mod RankFits
