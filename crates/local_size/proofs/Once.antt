@@ -5,7 +5,7 @@ use Rattle.linear_forms.specs.Forms.{Form, at}
 use Rattle.linear_forms.specs.Questions.{listed}
 use Rattle.linear_forms.specs.RuleQuestions.{RuleForms}
 use Rattle.rule_forms.specs.Kinds.{Kind}
-use Rattle.rank_search.proofs.Trips.{causes-same}
+use Rattle.simplex_core.proofs.OneWholeAnswer.{causes-same}
 use Rattle.rank_search.proofs.Uniqueness.{solution-once, dual-once, apart}
 use Rattle.local_size.specs.Sides.{Sought, ArmFound, NoneFound, LimitPassed, kind_program, solved_arm, ComesTo, IsEnd}
 use Rattle.local_size.specs.Sides.{SearchComesTo}

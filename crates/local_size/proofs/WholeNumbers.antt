@@ -6,7 +6,7 @@ use Rattle.linear_forms.specs.LinearProgram.{LinearProgram}
 use Rattle.simplex_core.specs.Trips.{Trips, TripsSolution, TripsDual, IsScaledSolution, IsScaledDual}
 use Rattle.simplex_core.proofs.OneAnswer.{optimal-stops, infeasible-stops, optimal-same, infeasible-same, ends-apart}
 use Rattle.simplex_core.proofs.OneAnswer.{range-apart, budget-apart, optimal-last, infeasible-last}
-use Rattle.rank_search.proofs.Uniqueness.{over-same}
+use Rattle.simplex_core.proofs.OneWholeAnswer.{over-same}
 
 module _ (p : LinearProgram) (allowed : ℕ) (numbers : List ℤ) (den : ℕ) where
   -- the numbers of a solution are within the limits

@@ -1,5 +1,5 @@
 -- Where a linear program has an answer in whole numbers, nothing trips it.
-use Rattle.std.proofs.Common.{◌≡◌, ℕ, refl, sym, ◌∙◌, subst}
+use Rattle.std.proofs.Common.{◌≡◌, ℕ, refl, sym, subst}
 use Rattle.linear_forms.specs.Causes.{Cause, range, budget, wide, scale}
 use Rattle.linear_forms.specs.LinearProgram.{LinearProgram}
 use Rattle.simplex_core.specs.declared.answers.Cause.{Cause as TripCause}
@@ -35,10 +35,3 @@ pub dual-untripped : (p : LinearProgram) (pivots : ℕ) (s : Scaled) → IsWhole
 dual-untripped p pivots s h = record {
   each = λ c t. whole-same p pivots (Dual s) (Tripped (named c)) h (subst (Trips p pivots) (sym (named-is c)) t);
 }
-
--- a linear program trips by one cause
-pub causes-same : (p : LinearProgram) (pivots : ℕ) (c d : Cause) → Trips p pivots c → Trips p pivots d → c ≡ d
-causes-same p pivots c d g h =
-    sym (named-is c)
-    ∙ (whole-same p pivots (Tripped (named c)) (Tripped (named d)) (subst (Trips p pivots) (sym (named-is c)) g)
-    (subst (Trips p pivots) (sym (named-is d)) h) ∙ named-is d)

@@ -1,12 +1,7 @@
 -- A question has one answer.
-use Rattle.std.proofs.Common.{◌≡◌, ℕ, suc, ◌<◌, ap, arith, refl, sym, ◌∙◌, subst, inl, inr, List, [], ◌∷◌, ◌++◌, length}
+use Rattle.std.proofs.Common.{◌≡◌, ℕ, ap, refl, sym, ◌∙◌, inl, inr, List, [], ◌∷◌, ◌++◌, length}
 use Rattle.std.proofs.Common.{map, Some, None}
-use Rattle.std.specs.Prelude.{ℤ, pos, nat_abs, ◌*ℤ◌, ◌<ℤ◌, unsigned_abs}
-use Rattle.std.specs.Int.{◌∣◌}
-use Rattle.std.proofs.Math.Nat.{dvd_antisymm}
-use Rattle.frac128.specs.declared.frac.Frac.{Frac}
-use Rattle.int_laws.proofs.OrderLaws.{mul-cancel_ℤ}
-use Rattle.int_laws.proofs.RingLaws.{mul_comm_ℤ}
+use Rattle.std.specs.Prelude.{ℤ, pos, nat_abs}
 use Rattle.linear_forms.specs.Forms.{at}
 use Rattle.linear_forms.specs.LinearProgram.{LinearProgram}
 use Rattle.linear_forms.specs.Questions.{listed}
@@ -14,11 +9,9 @@ use Rattle.linear_forms.specs.QuestionLaws.{parameters_of}
 use Rattle.linear_forms.specs.RuleQuestions.{RankedSet, symbols_of_set, rank_question}
 use Rattle.rule_forms.specs.RankLaws.{function_of, rank_multipliers}
 use Rattle.guard_prep.specs.Prepared.{Prepared}
-use Rattle.simplex_core.specs.Agreement.{AreSameFractions}
-use Rattle.simplex_core.specs.Scaling.{IsCommon, AreOver, AreScaled}
 use Rattle.simplex_core.specs.Trips.{IsScaledSolution, IsScaledDual}
 use Rattle.simplex_core.proofs.OneAnswer.{optimal-same, infeasible-same, ends-apart}
-use Rattle.simplex_core.proofs.Positions.{slice_get-there}
+use Rattle.simplex_core.proofs.OneWholeAnswer.{scaled-once, causes-same}
 use Rattle.proof_nodes.specs.Gaps.{SymbolPlace, ScaledPoint, Gap}
 use Rattle.proof_nodes.specs.Nodes.{SymbolForm, RankNode}
 use Rattle.proof_tree.specs.declared.answer.EmptyAnswer.{EmptyAnswer}
@@ -32,68 +25,8 @@ use Rattle.rank_search.specs.EmptyAnswers.{IsEmptyAnswer, empty_program}
 use Rattle.rank_search.specs.OneAnswer.{IsSameEmptyAnswer, EmptyAnswersAreOne, SeeTheSame, IsSameRankAnswer}
 use Rattle.rank_search.specs.OneAnswer.{RankAnswersAreOne}
 use Rattle.rank_search.specs.RankAnswers.{rank_program, part_at, points_of, IsRankAnswer}
-use Rattle.rank_search.proofs.Trips.{causes-same}
 
--- the same fractions, over a denominator, are the same numbers
-pub over-same : (fs gs : List Frac) (numbers : List ℤ) (den : ℕ) → AreSameFractions fs gs → AreOver fs
-    (length fs) numbers den
-    → AreOver gs (length gs) numbers den
-over-same fs gs numbers den same over = record {
-  positive = over.positive;
-  each = λ j g l i.
-      let m : j < length fs = let e = same.lengths in omega (arith, l, e) in
-      let found = slice_get-there fs j m in
-      let parts = same.each j found.0 g found.1 i in
-      subst (λ (d : ℤ). at numbers j *ℤ d ≡ g.num *ℤ pos den) parts.1
-      (subst (λ (n : ℤ). at numbers j *ℤ found.0.den ≡ n *ℤ pos den) parts.0 (over.each j found.0 m found.1));
-}
-
-common-same : (fs gs : List Frac) (n : ℕ) → AreSameFractions fs gs → IsCommon fs (length fs) n → IsCommon gs
-    (length gs) n
-common-same fs gs n same c = record {
-  each = λ j g l i.
-      let m : j < length fs = let e = same.lengths in omega (arith, l, e) in
-      let found = slice_get-there fs j m in
-      subst (λ (d : ℤ). unsigned_abs d ∣ n) (same.each j found.0 g found.1 i).1 (c.each j found.0 m found.1);
-}
-
-same-back : (fs gs : List Frac) → AreSameFractions fs gs → AreSameFractions gs fs
-same-back fs gs same = record {
-  lengths = sym same.lengths;
-  each = λ k f g i j. let parts = same.each k g f j i in (sym parts.0, sym parts.1);
-}
-
-numbers-same : (xs ys : List ℤ) → length xs ≡ length ys → ((j : ℕ) → j < length xs → at xs j ≡ at ys j) → xs ≡ ys
-numbers-same [] [] e h = refl
-numbers-same [] (y ∷ ys) e h = absurd (omega (arith, e))
-numbers-same (x ∷ xs) [] e h = absurd (omega (arith, e))
-numbers-same (x ∷ xs) (y ∷ ys) e h =
-    ap (λ (z : ℤ). z ∷ xs) (h 0 (omega arith))
-    ∙ ap (λ (zs : List ℤ). y ∷ zs) (numbers-same xs ys (omega (arith, e)) (λ j l. h (suc j) (omega (arith, l))))
-
--- so they are scaled in one way
-scaled-once : (fs gs : List Frac) (xs ys : List ℤ) (d e : ℕ) → AreSameFractions fs gs → AreScaled fs xs d
-    → AreScaled gs ys e
-    → (xs ≡ ys) × (d ≡ e)
-scaled-once fs gs xs ys d e same a b = (
-  numbers-same xs ys (a.lengths ∙ (same.lengths ∙ sym b.lengths)) (λ j l.
-      let k = a.lengths in
-      let n = same.lengths in
-      let m : j < length gs = omega (arith, l, k, n) in
-      let found = slice_get-there gs j m in
-      one (at xs j) (at ys j) found.0.den found.0.num found.0.positive
-      ((over-same fs gs xs d same a.over).each j found.0 m found.1) (b.over.each j found.0 m found.1)),
-  dens,
-)
-  where
-    dens : d ≡ e
-    dens = dvd_antisymm (a.least.least e (common-same gs fs e (same-back fs gs same) b.least.common))
-        (b.least.least d (common-same fs gs d same a.least.common))
-
-    one : (v w f n : ℤ) → pos 0 <ℤ f → v *ℤ f ≡ n *ℤ pos d → w *ℤ f ≡ n *ℤ pos e → v ≡ w
-    one v w f n l p q =
-        mul-cancel_ℤ f v w l (mul_comm_ℤ f v ∙ (p ∙ (ap (λ (k : ℕ). n *ℤ pos k) dens ∙ (sym q ∙ mul_comm_ℤ w f))))
-
+-- the numbers of solutions, and of duals, are the same, and no program has both
 module _ (p : LinearProgram) (pivots : ℕ) (xs ys : List ℤ) (d e : ℕ) where
   pub solution-once : IsScaledSolution p pivots xs d → IsScaledSolution p pivots ys e → (xs ≡ ys) × (d ≡ e)
   solution-once a b =

@@ -1,8 +1,9 @@
 -- Of one program within one number of pivots there is one answer.
-use Rattle.std.proofs.Common.{◌≡◌, ◌≢◌, ℕ, zero, suc, ◌<◌, ◌≤◌, ap, arith, refl, sym, ◌∙◌, subst, ◌⊎◌, inl, inr, Bool, true, false, Option, Some, None, List, [], ◌∷◌, length}
-use Rattle.std.specs.Prelude.{ℤ, pos, ◌*ℤ◌, ◌<ℤ◌, if◌then◌else◌, slice_index, Ok, Err, Result}
+use Rattle.std.proofs.Common.{◌≡◌, ◌≢◌, ℕ, zero, suc, ◌<◌, ◌≤◌, ap, arith, refl, sym, ◌∙◌, subst, ◌⊎◌, inl, inr, Bool, true, false, Option, Some, None, List, [], ◌∷◌}
+use Rattle.std.specs.Prelude.{ℤ, pos, ◌*ℤ◌, ◌<ℤ◌, if◌then◌else◌, Ok, Err, Result}
 use Rattle.std.proofs.lemmas.Int.{ints}
 use Rattle.std.proofs.lemmas.Bool.{cases_lt}
+use Rattle.std.proofs.lemmas.List.{ext_get_or}
 use Rattle.frac128.specs.declared.frac.Frac.{Frac}
 use Rattle.frac128.specs.Fraction.{IsFraction}
 use Rattle.frac128.proofs.Uniqueness.{same_parts}
@@ -132,15 +133,6 @@ basic-same p t j f g h (inr a) (inr b) =
     nothing : (a b : ℤ) → pos 0 *ℤ a ≡ pos 0 *ℤ b
     nothing a b = omega (arith, ints)
 
--- lists of numbers that are the same one by one are the same
-lists-same : (n : ℕ) (xs ys : List ℕ) → length xs ≡ n → length ys ≡ n → ((i : ℕ) → i < n → slice_index xs i ≡ slice_index ys i) → xs ≡ ys
-lists-same n [] [] l m h = refl
-lists-same n [] (y ∷ ys) l m h = absurd (omega arith)
-lists-same n (x ∷ xs) [] l m h = absurd (omega arith)
-lists-same zero (x ∷ xs) (y ∷ ys) l m h = absurd (omega arith)
-lists-same (suc n) (x ∷ xs) (y ∷ ys) l m h =
-    ap (λ (z : ℕ). z ∷ xs) (h 0 (omega arith)) ∙ ap (λ (zs : List ℕ). y ∷ zs) (lists-same n xs ys (omega arith) (omega arith) (λ i k. h (suc i) (omega arith)))
-
 -- two ends as optimal are the same
 pub optimal-same : (p : LinearProgram) (allowed k m : ℕ) (at at' : List Frac) (basis basis' : List ℕ)
     → EndsOptimally p allowed at basis k → EndsOptimally p allowed at' basis' m → AreSameFractions at at' × (basis ≡ basis') × (k ≡ m)
@@ -151,7 +143,7 @@ optimal-same p allowed k m at at' basis basis' a b =
         each = λ j f g e h. basic-same p b.last j f g (tableau_at-is_tableau p m b.last b.reached.is)
             (subst (λ (t : Tableau). IsBasicValue p t j f) same.1 (a.basic j f e)) (b.basic j g h);
       },
-      lists-same p.rows basis basis' a.rows b.rows (λ i l. a.basis_is i l ∙ (ap (λ (t : Tableau). t.basis i) same.1 ∙ sym (b.basis_is i l))),
+      ext_get_or 0 basis basis' (a.rows ∙ sym b.rows) (λ i l. let m : i < p.rows = omega (arith, l, a.rows) in a.basis_is i m ∙ (ap (λ (t : Tableau). t.basis i) same.1 ∙ sym (b.basis_is i m))),
       same.0,
     )
 

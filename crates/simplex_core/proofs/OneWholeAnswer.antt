@@ -1,8 +1,9 @@
 -- Of one program within one number of pivots there is one answer in whole numbers.
-use Rattle.std.proofs.Common.{◌≡◌, ℕ, suc, ◌<◌, ◌≤◌, ap, arith, refl, sym, ◌∙◌, subst, inl, inr, List, [], ◌∷◌, length}
+use Rattle.std.proofs.Common.{◌≡◌, ℕ, ◌<◌, ◌≤◌, ap, arith, refl, sym, ◌∙◌, subst, inl, inr, List, length}
 use Rattle.std.specs.Prelude.{ℤ, pos, ◌*ℤ◌, ◌<ℤ◌, unsigned_abs}
 use Rattle.std.specs.Int.{◌∣◌}
 use Rattle.std.proofs.Math.Nat.{dvd_antisymm}
+use Rattle.std.proofs.lemmas.List.{ext_get_or}
 use Rattle.frac128.specs.declared.frac.Frac.{Frac}
 use Rattle.int_laws.proofs.OrderLaws.{mul-cancel_ℤ}
 use Rattle.int_laws.proofs.RingLaws.{mul_comm_ℤ}
@@ -20,7 +21,7 @@ use Rattle.simplex_core.proofs.Positions.{slice_get-there}
 use Rattle.simplex_core.proofs.OneAnswer.{optimal-stops, infeasible-stops, range-stops, budget-stops, stops-same, optimal-same, infeasible-same, ends-apart, range-apart, budget-apart, optimal-last, infeasible-last}
 
 -- whole numbers over a denominator are the same fractions too
-over-same : (fs gs : List Frac) (numbers : List ℤ) (den : ℕ) → AreSameFractions fs gs → AreOver fs (length fs) numbers den → AreOver gs (length gs) numbers den
+pub over-same : (fs gs : List Frac) (numbers : List ℤ) (den : ℕ) → AreSameFractions fs gs → AreOver fs (length fs) numbers den → AreOver gs (length gs) numbers den
 over-same fs gs numbers den same over = record {
   positive = over.positive;
   each = λ j g l i.
@@ -46,18 +47,10 @@ same-back fs gs same = record {
   each = λ k f g i j. let parts = same.each k g f j i in (sym parts.0, sym parts.1);
 }
 
--- lists of the same numbers
-numbers-same : (xs ys : List ℤ) → length xs ≡ length ys → ((j : ℕ) → j < length xs → at xs j ≡ at ys j) → xs ≡ ys
-numbers-same [] [] e h = refl
-numbers-same [] (y ∷ ys) e h = absurd (omega arith)
-numbers-same (x ∷ xs) [] e h = absurd (omega arith)
-numbers-same (x ∷ xs) (y ∷ ys) e h =
-    ap (λ (z : ℤ). z ∷ xs) (h 0 (omega arith)) ∙ ap (λ (zs : List ℤ). y ∷ zs) (numbers-same xs ys (omega arith) (λ j l. h (suc j) (omega arith)))
-
 -- fractions are scaled in one way
-scaled-once : (fs gs : List Frac) (xs ys : List ℤ) (d e : ℕ) → AreSameFractions fs gs → AreScaled fs xs d → AreScaled gs ys e → (xs ≡ ys) × (d ≡ e)
+pub scaled-once : (fs gs : List Frac) (xs ys : List ℤ) (d e : ℕ) → AreSameFractions fs gs → AreScaled fs xs d → AreScaled gs ys e → (xs ≡ ys) × (d ≡ e)
 scaled-once fs gs xs ys d e same a b = (
-  numbers-same xs ys (a.lengths ∙ (same.lengths ∙ sym b.lengths)) (λ j l.
+  ext_get_or (pos 0) xs ys (a.lengths ∙ (same.lengths ∙ sym b.lengths)) (λ j l.
       let m : j < length gs = omega (arith, l, a.lengths, same.lengths) in
       let found = slice_get-there gs j m in
       let f = found.0 in
