@@ -1,5 +1,5 @@
 -- What the searches find.
-use Rattle.std.proofs.Common.{◌≡◌, ℕ, zero, suc, ◌<◌, ◌≤◌, ap, arith, refl, sym, ◌∙◌, ◌⊎◌, inl, inr, Bool, true, false, Option, Some, None}
+use Rattle.std.proofs.Common.{◌≡◌, ℕ, zero, suc, ◌<◌, ap, arith, refl, sym, ◌∙◌, ◌⊎◌, inl, inr, Bool, true, false, Option, Some, None}
 use Rattle.std.specs.Prelude.{◌&&◌, ◌||◌, if◌then◌else◌}
 pub use Rattle.int_laws.proofs.SumLaws.{last_or_before}
 use Rattle.simplex_core.specs.Search.{every, some, or_else, least}

@@ -1,6 +1,6 @@
-use Rattle.std.proofs.Common.{◌≡◌, ◌≢◌, arith, sym, ap, ◌∙◌, to_z, of_z}
+use Rattle.std.proofs.Common.{◌≡◌, arith, to_z, of_z}
 use Rattle.std.specs.Int.{w128}
-use Rattle.std.specs.Prelude.{pos, ◌*ℤ◌}
+use Rattle.std.specs.Prelude.{◌*ℤ◌}
 use Rattle.std.proofs.lemmas.Int.{ints}
 use Rattle.int_laws.proofs.OrderLaws.{mul-positive_ℤ}
 use Rattle.simplex_core.proofs.Differences.{less_by_formula, less_by_whole, same_triple, same_difference, same_fraction, same_less}

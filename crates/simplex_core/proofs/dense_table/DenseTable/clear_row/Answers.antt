@@ -1,6 +1,6 @@
-use Rattle.std.proofs.Common.{◌≡◌, ℕ, ◌+◌, arith, rules, sym, ◌∙◌, subst, Bool}
+use Rattle.std.proofs.Common.{◌≡◌, ℕ, ◌+◌, arith, rules, sym, subst, Bool}
 use Rattle.std.specs.Prelude.{MatchBool}
-use Rattle.simplex_core.specs.Cells.{width, IsRowBelow, HasLargeIn, AreSmallBefore, HasLargeBefore}
+use Rattle.simplex_core.specs.Cells.{AreSmallBefore, HasLargeBefore}
 use Rattle.simplex_core.proofs.CellLaws.{number-step}
 use Rattle.simplex_core.proofs.SmallRows.{column-step, columns-all}
 use Rattle.simplex_core.proofs.dense_table.DenseTable.clear_row.Goals as goal
