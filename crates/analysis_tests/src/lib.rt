@@ -14,6 +14,8 @@ mod places;
 #[cfg(test)]
 mod programs;
 #[cfg(test)]
+mod shown;
+#[cfg(test)]
 mod sizes;
 #[cfg(test)]
 mod tables;

@@ -13,12 +13,13 @@ ghost use Rattle.time_bounds.specs.Candidates.{IsAccepted};
 
 use crate::members::{ascend, members_at};
 use crate::programs::{all_rows, program};
+use crate::shown::shown_answer;
 use crate::tables::Told::{C, V, Wide};
 use crate::tables::{Entry, table};
 use guard_prep::RuleRows;
 use its_graph::Graph;
 use its_model::Program;
-use proof_tree::{Fact, Member, Proof};
+use proof_tree::Member;
 use size_bounds::{SizeAnswer, Table, cited, cycle, spread};
 use std::alloc::{AllocError, Global};
 use std::process::Abort;
@@ -100,7 +101,7 @@ fn answer_by(
 {
     let members = members_at(alloc, preps, spots)?;
     let found = asked_of(rt, alloc, g, preps, t, &members, asked)?;
-    shown(alloc, &found, &members)
+    shown_answer(alloc, &found, &members)
 }
 
 // The answer for these places of a program, as text.
@@ -117,62 +118,6 @@ fn answer(
     let graph = Graph::new(alloc, p)?;
     let preps = all_rows(alloc, p)?;
     answer_by(rt, alloc, &graph, &preps, t, asked, spots)
-}
-
-// An answer as text.
-fn shown(alloc: Global, answer: &SizeAnswer, members: &[Member]) -> Result<String, AllocError> {
-    match answer {
-        SizeAnswer::Found { node, facts } => shown_node(alloc, node, facts, members),
-        SizeAnswer::Missing(spot) => { format!(in alloc; "missing {}.{}", spot.rule, spot.place) }
-        SizeAnswer::Bent(spot) => format!(in alloc; "bent {}.{}", spot.rule, spot.place),
-        SizeAnswer::Untimed { rule } => format!(in alloc; "untimed {rule}"),
-        SizeAnswer::Large { nodes } => format!(in alloc; "large {nodes}"),
-    }
-}
-
-// A node of these members with its facts as text.
-fn shown_node(
-    alloc: Global,
-    node: &Proof,
-    facts: &[Fact],
-    members: &[Member],
-) -> Result<String, AllocError> {
-    match node {
-        Proof::Spread(spread) => {
-            let is_same =
-                matches!(members, [only] if only.spot == spread.spot && only.local == spread.local);
-            let kind = if is_same {
-                "spread"
-            } else {
-                "spread of another"
-            };
-            shown_facts(alloc, kind, &spread.uses, facts)
-        }
-        Proof::Cycle(cycle) => {
-            let is_same = cycle.members.as_slice() == members;
-            let kind = if is_same { "cycle" } else { "cycle of others" };
-            shown_facts(alloc, kind, &cycle.uses, facts)
-        }
-        _ => String::from_str(alloc, "another node"),
-    }
-}
-
-fn shown_facts(
-    alloc: Global,
-    kind: &str,
-    uses: &[Proof],
-    facts: &[Fact],
-) -> Result<String, AllocError> {
-    let mut text = format!(in alloc; "{kind} by {uses:?}")?;
-    for fact in facts {
-        match fact {
-            Fact::Size { rule, place, bound } => {
-                text.push_str(&format!(in alloc; " {rule}.{place} {bound:?}")?)?;
-            }
-            Fact::Time { rule, .. } => text.push_str(&format!(in alloc; " time {rule}")?)?,
-        }
-    }
-    Ok(text)
 }
 
 // Rules, a place, what is known, and the answer for the place.

@@ -8,6 +8,8 @@ mod asked;
 #[cfg(test)]
 mod coded;
 #[cfg(test)]
+mod extremes;
+#[cfg(test)]
 mod fractions;
 #[cfg(test)]
 mod large;

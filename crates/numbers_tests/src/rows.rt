@@ -1,7 +1,8 @@
 //! The worked programs, solved and compared.
 
+use crate::extremes::{EXTREMES, LONE};
 use crate::proper::is_proper;
-use crate::tables::{Answer, CHOICES, EXTREMES, LONE, Row, SMALL};
+use crate::tables::{Answer, CHOICES, Row, SMALL};
 use Answer::{Budget, Infeasible, Optimal, Range};
 use frac128::Frac;
 use simplex_core::{Entry, Problem, SolveError, Solved, solve};

@@ -76,7 +76,6 @@ const WRONG: Result<&[i128], StepError> = Err(StepError::WrongRule);
 
 const CASES: &[Case] = &[
     // The guard, and the free variable.
-    // The guard, and the free variable.
     Case {
         guard: &[],
         updates: &["AB+", "C"],

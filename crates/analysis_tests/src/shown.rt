@@ -1,0 +1,66 @@
+// Sizes of places and of loops as text.
+
+use proof_tree::{Fact, Member, Proof};
+use size_bounds::SizeAnswer;
+use std::alloc::{AllocError, Global};
+
+/// An answer as text.
+pub(crate) fn shown_answer(
+    alloc: Global,
+    answer: &SizeAnswer,
+    members: &[Member],
+) -> Result<String, AllocError> {
+    match answer {
+        SizeAnswer::Found { node, facts } => shown_node(alloc, node, facts, members),
+        SizeAnswer::Missing(spot) => { format!(in alloc; "missing {}.{}", spot.rule, spot.place) }
+        SizeAnswer::Bent(spot) => format!(in alloc; "bent {}.{}", spot.rule, spot.place),
+        SizeAnswer::Untimed { rule } => format!(in alloc; "untimed {rule}"),
+        SizeAnswer::Large { nodes } => format!(in alloc; "large {nodes}"),
+    }
+}
+
+// A node of these members with its facts as text.
+fn shown_node(
+    alloc: Global,
+    node: &Proof,
+    facts: &[Fact],
+    members: &[Member],
+) -> Result<String, AllocError> {
+    match node {
+        Proof::Spread(spread) => {
+            let is_same =
+                matches!(members, [only] if only.spot == spread.spot && only.local == spread.local);
+            let kind = if is_same {
+                "spread"
+            } else {
+                "spread of another"
+            };
+            shown_facts(alloc, kind, &spread.uses, facts)
+        }
+        Proof::Cycle(cycle) => {
+            let is_same = cycle.members.as_slice() == members;
+            let kind = if is_same { "cycle" } else { "cycle of others" };
+            shown_facts(alloc, kind, &cycle.uses, facts)
+        }
+        _ => String::from_str(alloc, "another node"),
+    }
+}
+
+// How a node is named, what it rests on, and its facts.
+fn shown_facts(
+    alloc: Global,
+    kind: &str,
+    uses: &[Proof],
+    facts: &[Fact],
+) -> Result<String, AllocError> {
+    let mut text = format!(in alloc; "{kind} by {uses:?}")?;
+    for fact in facts {
+        match fact {
+            Fact::Size { rule, place, bound } => {
+                text.push_str(&format!(in alloc; " {rule}.{place} {bound:?}")?)?;
+            }
+            Fact::Time { rule, .. } => text.push_str(&format!(in alloc; " time {rule}")?)?,
+        }
+    }
+    Ok(text)
+}
