@@ -7,6 +7,7 @@ pub mod Exact
 pub mod RankSets
 pub mod RankExact
 pub mod Numbers
+pub mod ShownParts
 pub mod Accepted
 pub mod NodeLaws
 pub mod Marking

@@ -7,7 +7,7 @@ use Rattle.rule_forms.proofs.RankFits.{function-fits}
 use Rattle.proof_nodes.specs.Composed.{rank_form}
 use Rattle.proof_nodes.specs.Nodes.{SymbolForm}
 use Rattle.rank_search.specs.RankLaws.{found, RankedNodesRank}
-use Rattle.rank_search.proofs.Accepted.{part-of}
+use Rattle.rank_search.proofs.ShownParts.{part-of}
 use Rattle.rank_search.proofs.RankExact.{node-ranks, node-least}
 
 pub nodes-rank : RankedNodesRank
