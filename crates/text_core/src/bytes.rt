@@ -4,28 +4,13 @@ ghost use Rattle.std.specs.Prelude.{◌≡◌, ◌<◌, ◌≤◌, ◌-◌, ◌+
 ghost use Rattle.std.specs.List.{list_all};
 ghost use Rattle.std.specs.Char.{is_ascii_digit};
 ghost use Rattle.text_core.specs.Bytes as bytes_at;
-ghost use Rattle.text_core.specs.Prefixes.{prefix, rest};
+ghost use Rattle.text_core.specs.Prefixes.{prefix};
 
 /// Whether a byte is white space: a space, a tab, a carriage return or a line feed.
 pub fn is_white_space(byte: u8) -> bool
     ensures { result ≡ bytes_at.is_white_space byte }
 {
     byte == b' ' || byte == b'\t' || byte == b'\r' || byte == b'\n'
-}
-
-/// The bytes behind the white space that they begin with.
-pub fn behind_white_space(bytes: &[u8]) -> &[u8]
-    ensures value { result.now ≡ rest bytes_at.is_white_space bytes.now }
-    ensures shorter { length result.now ≤ length bytes.now }
-{
-    let mut text = bytes;
-    while let [first, others @ ..] = text {
-        if !is_white_space(*first) {
-            break;
-        }
-        text = others;
-    }
-    text
 }
 
 /// Whether the bytes begin with this one.

@@ -8,9 +8,7 @@ mod law;
 mod listed;
 mod name;
 
-pub use bytes::{
-    begins_with, behind_white_space, digits_len, has_leading_zero, is_white_space, value_up_to,
-};
+pub use bytes::{begins_with, digits_len, has_leading_zero, is_white_space, value_up_to};
 pub use law::{worked_lines_hold, worked_readers_hold, worked_values_hold};
 pub use listed::Listed;
 pub use name::{Name, begins_name, continues_name, name_len};
