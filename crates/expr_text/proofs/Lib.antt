@@ -6,5 +6,6 @@ pub mod GuardReading
 pub mod Completing
 pub mod WorkedValues
 pub mod Stability
+pub mod NamesRead
 pub mod LimitedFaults
 pub mod FrontSteps

@@ -9,3 +9,4 @@ pub mod FrontNames
 pub mod Worked
 pub mod TermFronts
 pub mod Limited
+pub mod Differences

@@ -1,7 +1,7 @@
 -- What was worked out by hand of expressions and guards as they are written.
 use Rattle.std.specs.Prelude.{◌≡◌, List, [], ◌∷◌, codes, pos, Option, Some, None}
 use Rattle.model.specs.Programs as plain
-use Rattle.model.specs.Programs.{Name, AtLeast, LessThan}
+use Rattle.model.specs.Programs.{AtLeast, LessThan}
 use Rattle.model.specs.Terms.{Term, Literal, Variable, Negation, Addition, Subtraction, Multiplication, Exponentiation}
 use Rattle.text_core.specs.Readers.{walk}
 use Rattle.expr_text.specs.Pieces.{Piece, Word, Digits, Open, Close, Plus, Minus, Times, Caret, Related, AtLeastSign}

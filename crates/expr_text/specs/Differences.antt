@@ -1,0 +1,16 @@
+-- The differences of an atom, and what stands in the way of expanding them.
+use Rattle.std.specs.Prelude.{List, [], ◌∷◌, Option, None}
+use Rattle.model.specs.Programs.{Relation, EqualTo}
+use Rattle.model.specs.Terms.{Term}
+use Rattle.poly_terms.specs.Faults.{Fault, first_fault, or_else}
+use Rattle.its_model.specs.Valid.{difference_of}
+
+-- the differences of an atom: that of an equation counts both ways round
+abbrev pub differences : Term → Relation → Term → List Term
+differences l EqualTo r = difference_of l EqualTo r ∷ difference_of r EqualTo l ∷ []
+differences l relation r = difference_of l relation r ∷ []
+
+-- the fault of the first of some expressions that has one
+abbrev pub first_of_all : List Term → Option Fault
+first_of_all [] = None
+first_of_all (t ∷ ts) = or_else (first_fault t) (first_of_all ts)
