@@ -1,5 +1,5 @@
 -- The names of a front are among the variables once it is read: names that come later change none of its terms.
-use Rattle.std.proofs.Common.{◌≡◌, ℕ, zero, suc, List, [], ◌∷◌, ◌++◌, refl, ap, sym, subst, map, append-nil}
+use Rattle.std.proofs.Common.{◌≡◌, ℕ, zero, suc, List, [], ◌∷◌, ◌++◌, refl, ap, sym, subst, map}
 use Rattle.std.specs.Prelude.{⊤}
 use Rattle.model.specs.Programs.{Name}
 use Rattle.expr_text.specs.Trees.{Alone, Single, Factor, Plain, Negated}
@@ -9,13 +9,7 @@ use Rattle.expr_text.specs.FrontNames.{with_summed, with_factored, with_level, w
 use Rattle.expr_text.specs.TermFronts as terms
 use Rattle.expr_text.specs.TermFronts.{limited, summed_terms, factored_terms, level_terms}
 use Rattle.expr_text.proofs.Stability.{extended, sum_extends, SumReads, sum_reads_more, sum_is_read, sum_term_stays}
-
--- some names behind others
-abbrev pub Extends : List Name → List Name → Type 0
-Extends names more = (new : List Name) × (more ≡ names ++ new)
-
-pub extends_self : (names : List Name) → Extends names names
-extends_self names = ([], sym (append-nil names))
+use Rattle.expr_text.proofs.NamesRead.{Extends, extends_self}
 
 -- the names of each part are among names
 abbrev pub SummedReads : List Name → Summed → Type 0

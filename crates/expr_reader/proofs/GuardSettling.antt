@@ -23,7 +23,8 @@ use Rattle.expr_reader.specs.declared.guard.GuardPlace.TheVariants as places
 use Rattle.expr_reader.specs.declared.guard.GuardReader.{GuardReader}
 use Rattle.expr_reader.specs.declared.expression.Expression.{Expression}
 use Rattle.expr_reader.specs.Views.{term_in}
-use Rattle.expr_reader.specs.Faults.{differences, ends_before, first_of_all, compared_fault, atom_fault}
+use Rattle.expr_text.specs.Differences.{differences, first_of_all}
+use Rattle.expr_reader.specs.Faults.{ends_before, compared_fault, atom_fault}
 use Rattle.expr_reader.specs.Standing.{Stands, Clears}
 use Rattle.expr_reader.specs.GuardStanding.{limited_atom, atoms_of, atoms_before, atoms_in, Relating, relating_of, relating_in, is_operating, IsInRight, IsAtTruth, IsEnded, Reads, reading_none, reading_left, reading_right, reading_truth, IsSettled, settled_none, settled_left, settled_right, settled_end, joined_only, Settles}
 use Rattle.expr_reader.specs.GuardParts.{is_right, can_end, goes_on, ends_right}

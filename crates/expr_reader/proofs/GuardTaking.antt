@@ -24,7 +24,8 @@ use Rattle.expr_reader.specs.Views.{front_of, term_in}
 use Rattle.expr_reader.specs.Standing.{Stands, IsFresh, IsModest, Leads}
 use Rattle.expr_reader.specs.GuardStanding.{atoms_of, atoms_before, atoms_in, Relating, relating_in, is_operating, IsInRight, IsOpen, Reads, reading_none, reading_left, reading_right, reading_truth, IsSettled, settled_none, settled_left, settled_right, settled_end, joined_only, LeadsTo, Takes}
 use Rattle.expr_reader.specs.GuardParts.{is_wanting, is_left, is_read, begun_at, is_joining, sign_read, Relates, names_truth, can_end, IsRelated, IsUnrelated}
-use Rattle.expr_reader.proofs.FrontNames.{Extends, front_extends}
+use Rattle.expr_text.proofs.NamesRead.{Extends}
+use Rattle.expr_reader.proofs.FrontNames.{front_extends}
 use Rattle.expr_reader.proofs.AtomNames.{before_kept, sum_kept}
 use Rattle.expr_reader.proofs.Standing.{fresh_stands, token_added}
 use Rattle.expr_reader.proofs.Answering.{goes_on_is, can_end_is, finished_names, finish_ends}

@@ -9,7 +9,7 @@ use Rattle.model.specs.Polynomials.{Polynomial, degree_of}
 use Rattle.poly_terms.specs.Expanding.{expanded}
 use Rattle.poly_terms.specs.Faults.{Fault, LargeCoefficient, ManyTerms, HighDegree, has_large, fault_in, fault_of, powers, subexpressions, or_else, first_among, first_fault}
 use Rattle.expr_text.specs.TermFronts.{limited}
-use Rattle.expr_reader.specs.Faults.{differences, first_of_all}
+use Rattle.expr_text.specs.Differences.{differences, first_of_all}
 
 -- the first fault of two lists
 or_else-assoc : (a b c : Option Fault) → or_else (or_else a b) c ≡ or_else a (or_else b c)

@@ -1,8 +1,8 @@
 -- What stands in the way of expanding an expression or an atom, as plain data.
-use Rattle.std.specs.Prelude.{Bool, true, false, not, List, [], ◌∷◌, Option, Some, None, if◌then◌else◌}
-use Rattle.model.specs.Programs.{Name, Relation, EqualTo}
+use Rattle.std.specs.Prelude.{Bool, true, false, not, List, Option, Some, None, if◌then◌else◌}
+use Rattle.model.specs.Programs.{Name}
 use Rattle.model.specs.Terms.{Term, Literal, Variable, Negation, Addition, Subtraction, Multiplication, Exponentiation}
-use Rattle.poly_terms.specs.Faults.{Fault, LargeCoefficient, ManyTerms, HighDegree, first_fault, or_else}
+use Rattle.poly_terms.specs.Faults.{Fault, LargeCoefficient, ManyTerms, HighDegree}
 use Rattle.expr_text.specs.Pieces.{Sign, Piece}
 use Rattle.expr_text.specs.Trees.{Sum}
 use Rattle.expr_text.specs.Terms.{sum_term}
@@ -11,7 +11,7 @@ use Rattle.expr_text.specs.Guards.{relation_of}
 use Rattle.expr_text.specs.GuardFronts.{GuardFront, LeftSide, RightSide}
 use Rattle.expr_text.specs.Fronts.{Front}
 use Rattle.expr_text.specs.FrontNames.{goes_on_with}
-use Rattle.its_model.specs.Valid.{difference_of}
+use Rattle.expr_text.specs.Differences.{differences, first_of_all}
 use Rattle.expr_reader.specs.declared.expansion.Unexpanded.{Unexpanded}
 use Rattle.expr_reader.specs.declared.expansion.Unexpanded.TheVariants.{CoefTooLarge, TooManyTerms, DegreeTooHigh}
 
@@ -35,16 +35,6 @@ is_difference (Negation e) = false
 is_difference (Addition l r) = false
 is_difference (Multiplication l r) = false
 is_difference (Exponentiation e n) = false
-
--- the fault of the first of some expressions that has one
-abbrev pub first_of_all : List Term → Option Fault
-first_of_all [] = None
-first_of_all (t ∷ ts) = or_else (first_fault t) (first_of_all ts)
-
--- the differences of an atom: that of an equation counts both ways round
-abbrev pub differences : Term → Relation → Term → List Term
-differences l EqualTo r = difference_of l EqualTo r ∷ difference_of r EqualTo l ∷ []
-differences l relation r = difference_of l relation r ∷ []
 
 -- an expression ends before what doesn't go on with it
 abbrev pub ends_before : Front → Option Piece → Bool

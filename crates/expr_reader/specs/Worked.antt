@@ -7,7 +7,8 @@ use Rattle.expr_text.specs.Pieces.{Close, Plus, Caret, Sign, AtLeastSign, Joinin
 use Rattle.expr_text.specs.Trees.{Sum, Alone, Single, Plain, Number, Named, Base}
 use Rattle.expr_text.specs.Fronts.{Operand, BaseRead, CaretRead, ExponentRead, empty_level}
 use Rattle.expr_text.specs.GuardFronts.{GuardFront, LeftSide, RightSide, NoAtoms}
-use Rattle.expr_reader.specs.Faults.{differences, atom_fault}
+use Rattle.expr_text.specs.Differences.{differences}
+use Rattle.expr_reader.specs.Faults.{atom_fault}
 
 -- the variable A, the number 1, and the left side 1
 abbrev pub a : Base

@@ -5,7 +5,8 @@ ghost use Rattle.model.specs.Terms.{Literal, Subtraction};
 ghost use Rattle.poly_terms.specs.Views.{term_of};
 ghost use Rattle.poly_terms.specs.Faults.{first_fault, or_else};
 ghost use Rattle.its_model.specs.Views.{relation_of};
-ghost use Rattle.expr_reader.specs.Faults.{fault_of, differences, first_of_all, is_difference};
+ghost use Rattle.expr_text.specs.Differences.{differences, first_of_all};
+ghost use Rattle.expr_reader.specs.Faults.{fault_of, is_difference};
 
 use crate::Memory;
 use its_model::Rel;

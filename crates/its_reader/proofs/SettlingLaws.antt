@@ -1,11 +1,11 @@
 -- What ends before the next piece ends in what is written, and what its last byte shows is found.
-use Rattle.std.specs.Prelude.{◌≡◌, ℕ, Bool, true, false, not, ◌&&◌, if◌then◌else◌, is_some, List, [], ◌∷◌, ◌++◌, map, Option, Some, None, refl}
+use Rattle.std.specs.Prelude.{◌≡◌, ℕ, Bool, true, false, not, ◌&&◌, if◌then◌else◌, is_some, List, [], ◌∷◌, ◌++◌, map}
+use Rattle.std.specs.Prelude.{Option, Some, None, refl}
 use Rattle.std.proofs.Common.{sym, ap, subst, ◌∙◌, append-nil, inl, inr}
-use Rattle.model.specs.Programs.{Name, Relation, AtLeast, MoreThan, AtMost, LessThan, EqualTo}
-use Rattle.model.specs.Terms.{Term}
+use Rattle.model.specs.Programs.{Name}
 use Rattle.poly_terms.specs.Views.{term_of}
 use Rattle.poly_terms.specs.Faults as polynomials
-use Rattle.poly_terms.specs.Faults.{first_fault, or_else}
+use Rattle.poly_terms.specs.Faults.{first_fault}
 use Rattle.expr_text.specs.Pieces as inner
 use Rattle.expr_text.specs.Trees.{Sum}
 use Rattle.expr_text.specs.Terms.{with_sum, sum_term}
@@ -16,12 +16,14 @@ use Rattle.expr_text.specs.GuardFronts.{GuardFront, RightSide, Conjoined, no_ato
 use Rattle.expr_text.specs.FrontNames.{with_conjoined}
 use Rattle.expr_text.specs.TermFronts.{limited}
 use Rattle.expr_text.proofs.LimitedFaults.{limited_fault}
+use Rattle.expr_text.specs.Differences.{differences, first_of_all}
 use Rattle.expr_reader.specs.Variables.{names_in}
 use Rattle.expr_reader.specs.Faults as found
 use Rattle.expr_reader.specs.Standing.{IsFresh, Stands}
 use Rattle.expr_reader.specs.GuardParts.{can_end, goes_on}
 use Rattle.expr_reader.specs.GuardStanding as standing
-use Rattle.expr_reader.specs.GuardStanding.{IsWanting, Reads, reading_none, reading_left, reading_right, reading_truth, IsSettled}
+use Rattle.expr_reader.specs.GuardStanding.{IsWanting, Reads, reading_none, reading_left, reading_right, reading_truth}
+use Rattle.expr_reader.specs.GuardStanding.{IsSettled}
 use Rattle.expr_reader.specs.declared.expression.Expression.{Expression}
 use Rattle.expr_reader.specs.declared.guard.GuardReader.{GuardReader}
 use Rattle.expr_reader.proofs.Answering.{goes_on_is, can_end_is, finished_names}
@@ -31,15 +33,18 @@ use Rattle.its_text.specs.Numbering.{left_names}
 use Rattle.its_text.specs.Fronts as fronts
 use Rattle.its_text.specs.Fronts.{Front, Aimed, Headed}
 use Rattle.its_text.specs.FrontNames.{names_with, headed_names}
-use Rattle.its_text.specs.Shown as shown
-use Rattle.its_text.specs.Shown.{Tokens, Found, fault_if, expansion_faults, argument_faults, atom_faults, right_side_faults, ends_expression, shown_last}
+use Rattle.its_text.specs.Shown.{Tokens, Found, fault_if, expansion_faults, argument_faults, atom_faults}
+use Rattle.its_text.specs.Shown.{right_side_faults, ends_expression, shown_last}
 use Rattle.its_reader.specs.Tests.{inner_next}
 use Rattle.its_reader.specs.Standing.{KnowsHeaded, updates_of}
-use Rattle.its_reader.specs.Places.{InLeft, InRight, InTail, RightSettled, TailSettled, SettledAt, IsArguing, IsArgued, IsGuard, IsSource}
+use Rattle.its_reader.specs.Places.{InLeft, InRight, InTail, RightSettled, TailSettled, SettledAt, IsArguing, IsArgued}
+use Rattle.its_reader.specs.Places.{IsGuard, IsSource}
 use Rattle.its_reader.specs.Faults.{maybe_kind}
 use Rattle.its_reader.specs.Turning.{Settles}
 use Rattle.its_reader.specs.Tailing.{StaysInGuard}
-use Rattle.its_reader.specs.Settling.{shuts_left, shuts_right, shuts_target, argued_in, is_guarding, ends_in, IsStill, AfterArgument, ArgumentSettles, ArgumentIsSettled, RightSettlesBy, RightSettles, GuardStands, TailSettlesBy, TailSettles}
+use Rattle.its_reader.specs.Settling.{shuts_left, shuts_right, shuts_target, argued_in, is_guarding, ends_in, IsStill}
+use Rattle.its_reader.specs.Settling.{AfterArgument, ArgumentSettles, ArgumentIsSettled, RightSettlesBy, RightSettles}
+use Rattle.its_reader.specs.Settling.{GuardStands, TailSettlesBy, TailSettles}
 use Rattle.its_reader.specs.declared.fault.Kind.{Kind}
 use Rattle.its_reader.specs.declared.place.Fence.{Fence}
 use Rattle.its_reader.specs.declared.place.Fence.TheVariants as fences
@@ -235,18 +240,7 @@ tail_shows ts at next tails.GuardMarked d f e k = rw k.1.0 refl
 tail_shows ts at next tails.SquareOpened d f e k = rw k.1.0 refl
 tail_shows ts at next (tails.Guarding fence) d f e k = cc
 
--- the faults of an atom are named alike
-differences_alike : (l : Term) (relation : Relation) (r : Term) → found.differences l relation r ≡ shown.differences l relation r
-differences_alike l AtLeast r = refl
-differences_alike l MoreThan r = refl
-differences_alike l AtMost r = refl
-differences_alike l LessThan r = refl
-differences_alike l EqualTo r = refl
-
-all_alike : (ts : List Term) → found.first_of_all ts ≡ shown.first_of_all ts
-all_alike [] = refl
-all_alike (t ∷ ts) = ap (or_else (first_fault t)) (all_alike ts)
-
+-- an expression ends alike before what follows
 ends_alike : (e : expression.Front) (next : Option Piece) → found.ends_before e (inner_next next) ≡ ends_expression e next
 ends_alike e None = refl
 ends_alike e (Some (In p)) = refl
@@ -265,9 +259,7 @@ module _ (at : ℕ) (next : Option Piece) (before names : List Name) (r : GuardR
       go false o h = refl
       go true None h = refl
       go true (Some s) h =
-          ap (λ ns. expansion_faults at (found.first_of_all (found.differences (sum_term ns l) (relation_of sign) (sum_term ns s)))) (known s h)
-          ∙ (ap (λ ts. expansion_faults at (found.first_of_all ts)) (differences_alike (sum_term (with_sum (with_sum (with_conjoined before c) l) s) l) (relation_of sign) (sum_term (with_sum (with_sum (with_conjoined before c) l) s) s))
-          ∙ ap (expansion_faults at) (all_alike (shown.differences (sum_term (with_sum (with_sum (with_conjoined before c) l) s) l) (relation_of sign) (sum_term (with_sum (with_sum (with_conjoined before c) l) s) s))))
+          ap (λ ns. expansion_faults at (first_of_all (differences (sum_term ns l) (relation_of sign) (sum_term ns s)))) (known s h)
 
   atom_shows : (g : GuardFront) → Reads (inner_next next) before g names r → expansion_faults at (found.atom_fault names g (inner_next next)) ≡ atom_faults at before g next
   atom_shows g (reading_none k) = rw k.front_is refl

@@ -19,9 +19,9 @@ use Rattle.expr_text.proofs.FrontSteps.{token_ended, ended_there, with_piece, na
 use Rattle.expr_text.proofs.FrontSteps.{truth_more, truth_goes_on, IsAlways, truth_is_one}
 use Rattle.its_text.specs.Pieces.{Piece, In}
 use Rattle.its_text.specs.Shown as shown
-use Rattle.its_text.specs.Shown.{Going, going_in, is_full, is_operating, ends_expression}
+use Rattle.its_text.specs.Shown.{is_full, is_operating, ends_expression}
 use Rattle.its_text.specs.Spelling.{IsAtomWithin, AreAtomsWithin}
-use Rattle.its_text.proofs.ValidRules.{Extends, atoms_are_read}
+use Rattle.expr_text.proofs.NamesRead.{Extends, atoms_are_read}
 use Rattle.its_text.proofs.RoomLaws.{contrary, passes_not, and_false, atoms_stay}
 use Rattle.its_text.proofs.KeptFronts.{begun, AreConjoined, conjoined_count, counted, IsLeftKept, IsRightKept}
 use Rattle.its_text.proofs.KeptFronts.{IsGuardKept, IsRightExpanded, IsAtomExpanded, IsGuardQuiet}

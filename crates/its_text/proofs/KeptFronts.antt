@@ -27,8 +27,8 @@ use Rattle.its_text.specs.FrontNames.{symbols_behind, names_with, headed_names}
 use Rattle.its_text.specs.Shown as shown
 use Rattle.its_text.specs.Shown.{is_goal, is_start, is_variables, is_rules, has, repeats, is_word, is_open, are_full}
 use Rattle.its_text.specs.Shown.{is_operator, is_operating, other_arity, bare_differs, Going, going_in}
-use Rattle.its_text.specs.Shown.{passes_variables, is_large, ends_expression, is_full, begins, differences}
-use Rattle.its_text.specs.Shown.{first_of_all}
+use Rattle.expr_text.specs.Differences.{differences, first_of_all}
+use Rattle.its_text.specs.Shown.{passes_variables, is_large, ends_expression, is_full, begins}
 use Rattle.its_text.specs.Spelling.{times, AreRules, HaveRules, IsShort, AreArgumentsWithin, AreAtomsWithin}
 use Rattle.its_text.specs.Spelling.{AreRulesWithin, HaveRulesWithin}
 

@@ -9,13 +9,15 @@ use Rattle.text_core.specs.Names.{is_same, is_among}
 use Rattle.expr_text.specs.Trees.{Sum}
 use Rattle.expr_text.specs.Terms.{sum_term}
 use Rattle.expr_text.specs.Guards.{Atom, Always, Compared, Atoms, First, Joined, relation_of}
-use Rattle.expr_text.proofs.Stability.{SumReads, sum_term_stays}
+use Rattle.expr_text.proofs.Stability.{SumReads}
 use Rattle.its_text.specs.Written.{WrittenRule}
 use Rattle.its_text.specs.Numbering.{names_of, with_symbol, arity_of, term_in}
-use Rattle.its_text.specs.Shown.{other_arity, differences, first_of_all}
+use Rattle.expr_text.specs.Differences.{differences, first_of_all}
+use Rattle.its_text.specs.Shown.{other_arity}
 use Rattle.its_text.specs.Spelling.{IsArgumentWithin, AreArgumentsWithin, IsAtomWithin, AreAtomsWithin, IsRule}
 use Rattle.its_text.specs.Spelling.{AreRules}
-use Rattle.its_text.proofs.ValidRules.{Extends, AllRead, AtomReads, AtomsRead}
+use Rattle.expr_text.proofs.NamesRead.{Extends, term_along, AtomReads, AtomsRead}
+use Rattle.its_text.proofs.ValidRules.{AllRead}
 use Rattle.its_text.proofs.ValidPrograms.{IsKnown}
 
 -- tests of numbers
@@ -103,12 +105,7 @@ rules_stay symbols name arity (r ∷ rules) known =
       λ h. (rule_same (with_symbol symbols name arity) symbols r (sym a) (sym b) h.0, ih.1 h.1),
     )
 
--- the term of an expression that is read doesn't change with more names
-term_along : (names last : List Name) (s : Sum) → Extends names last → SumReads names s
-    → sum_term last s ≡ sum_term names s
-term_along names last s e h = ap (λ ns. sum_term ns s) e.1 ∙ sum_term_stays names e.0 s h
-
--- so arguments are within the limits exactly where they were
+-- arguments are within the limits over more names exactly where they were
 module _ (names last : List Name) (e : Extends names last) where
   argument_stays : (s : Sum) → SumReads names s → IsArgumentWithin names s ↔ IsArgumentWithin last s
   argument_stays s h =

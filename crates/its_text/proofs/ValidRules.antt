@@ -1,5 +1,5 @@
 -- What is written within the limits stands for valid expressions and atoms, over the variables of its rule.
-use Rattle.std.proofs.Common.{◌≡◌, ◌+◌, ◌<◌, ◌≤◌, Bool, true, false, cond, not, ◌||◌, List, [], ◌∷◌, ◌++◌, length, length-append, Option, Some, None, refl, ap, sym, subst, ◌∙◌, arith}
+use Rattle.std.proofs.Common.{◌≡◌, ◌+◌, ◌<◌, ◌≤◌, Bool, true, false, cond, not, ◌||◌, List, [], ◌∷◌, length, length-append, Option, Some, None, refl, ap, ◌∙◌, arith}
 use Rattle.std.specs.Prelude.{⊤}
 use Rattle.std.specs.List.{AllByRecursion}
 use Rattle.model.specs.Programs as plain
@@ -12,11 +12,12 @@ use Rattle.text_core.specs.Names.{is_same, is_among, position_of}
 use Rattle.expr_text.specs.Pieces as inner
 use Rattle.expr_text.specs.Trees.{Sum, Alone, Added, Subtracted, Product, Single, Multiplied, Factor, Plain, Raised, Negated, Base, Number, Named, Bracketed}
 use Rattle.expr_text.specs.Terms.{with_sum, sum_term, product_term, factor_term, base_term}
-use Rattle.expr_text.specs.Guards.{Atom, Always, Compared, Atoms, First, Joined, count_of, relation_of, with_atom, with_atoms, atom_term, atoms_terms}
-use Rattle.expr_text.proofs.Stability.{SumReads, ProductReads, FactorReads, BaseReads, sum_extends, sum_is_read, sum_reads_more, extended}
+use Rattle.expr_text.specs.Guards.{Atom, Always, Compared, Atoms, First, Joined, count_of, relation_of, with_atoms, atom_term, atoms_terms}
+use Rattle.expr_text.proofs.Stability.{SumReads, ProductReads, FactorReads, BaseReads, sum_extends, sum_is_read, extended}
+use Rattle.expr_text.proofs.NamesRead.{Extends, extends_self, sum_along, AtomReads, AtomsRead, atoms_extends, atoms_are_read}
 use Rattle.its_text.specs.Written.{Guard, NoGuard, BehindMark, InSquares}
 use Rattle.its_text.specs.Numbering.{with_sums, with_maybe, with_guard, sums_terms, guard_terms}
-use Rattle.its_text.specs.Shown.{differences, first_of_all}
+use Rattle.expr_text.specs.Differences.{differences, first_of_all}
 use Rattle.its_text.specs.Spelling.{AreArgumentsWithin, IsAtomWithin, AreAtomsWithin, IsGuardWithin}
 use Rattle.its_text.proofs.DistinctNames.{all_one_more}
 
@@ -52,35 +53,17 @@ mutual
   base_below names (Named n) h = position_below n names h
   base_below names (Bracketed s) h = sum_below names s h
 
--- names go to the end of others
-abbrev pub Extends : List Name → List Name → Type 0
-Extends names last = (new : List Name) × (last ≡ names ++ new)
-
-pub nothing_new : (names : List Name) → Extends names names
-nothing_new names = ([], sym (append_nil names))
-  where
-    append_nil : (xs : List Name) → xs ++ [] ≡ xs
-    append_nil [] = refl
-    append_nil (x ∷ xs) = ap (λ ys. x ∷ ys) (append_nil xs)
-
-pub atom_extends : (names : List Name) (a : Atom) → Extends names (with_atom names a)
-atom_extends names (Always t) = nothing_new names
-atom_extends names (Compared l sign r) = extended names (with_sum names l) (with_sum (with_sum names l) r) (sum_extends names l) (sum_extends (with_sum names l) r)
-
-pub atoms_extends : (names : List Name) (atoms : Atoms) → Extends names (with_atoms names atoms)
-atoms_extends names (First a) = atom_extends names a
-atoms_extends names (Joined atoms joint a) = extended names (with_atoms names atoms) (with_atom (with_atoms names atoms) a) (atoms_extends names atoms) (atom_extends (with_atoms names atoms) a)
-
+-- names that are read go to the end
 pub sums_extends : (names : List Name) (sums : List Sum) → Extends names (with_sums names sums)
-sums_extends names [] = nothing_new names
+sums_extends names [] = extends_self names
 sums_extends names (s ∷ sums) = extended names (with_sums names sums) (with_sum (with_sums names sums) s) (sums_extends names sums) (sum_extends (with_sums names sums) s)
 
 maybe_extends : (names : List Name) (o : Option Atoms) → Extends names (with_maybe names o)
-maybe_extends names None = nothing_new names
+maybe_extends names None = extends_self names
 maybe_extends names (Some atoms) = atoms_extends names atoms
 
 pub guard_extends : (names : List Name) (g : Guard) → Extends names (with_guard names g)
-guard_extends names NoGuard = nothing_new names
+guard_extends names NoGuard = extends_self names
 guard_extends names (BehindMark o) = maybe_extends names o
 guard_extends names (InSquares o) = maybe_extends names o
 
@@ -91,41 +74,12 @@ AllRead names (s ∷ sums) = SumReads names s × AllRead names sums
 
 pub all_read_more : (names last : List Name) (sums : List Sum) → Extends names last → AllRead names sums → AllRead last sums
 all_read_more names last [] e h = tt
-all_read_more names last (s ∷ sums) e h = (subst (λ ns. SumReads ns s) (sym e.1) (sum_reads_more names e.0 s h.0), all_read_more names last sums e h.1)
+all_read_more names last (s ∷ sums) e h = (sum_along names last s e h.0, all_read_more names last sums e h.1)
 
 pub sums_are_read : (names : List Name) (sums : List Sum) → AllRead (with_sums names sums) sums
 sums_are_read names [] = tt
 sums_are_read names (s ∷ sums) =
     (sum_is_read (with_sums names sums) s, all_read_more (with_sums names sums) (with_sum (with_sums names sums) s) sums (sum_extends (with_sums names sums) s) (sums_are_read names sums))
-
--- and atoms
-abbrev pub AtomReads : List Name → Atom → Type 0
-AtomReads names (Always t) = ⊤
-AtomReads names (Compared l sign r) = SumReads names l × SumReads names r
-
-abbrev pub AtomsRead : List Name → Atoms → Type 0
-AtomsRead names (First a) = AtomReads names a
-AtomsRead names (Joined atoms joint a) = AtomsRead names atoms × AtomReads names a
-
-atom_reads_more : (names last : List Name) (a : Atom) → Extends names last → AtomReads names a → AtomReads last a
-atom_reads_more names last (Always t) e h = tt
-atom_reads_more names last (Compared l sign r) e h =
-    (subst (λ ns. SumReads ns l) (sym e.1) (sum_reads_more names e.0 l h.0), subst (λ ns. SumReads ns r) (sym e.1) (sum_reads_more names e.0 r h.1))
-
-pub atoms_read_more : (names last : List Name) (atoms : Atoms) → Extends names last → AtomsRead names atoms → AtomsRead last atoms
-atoms_read_more names last (First a) e h = atom_reads_more names last a e h
-atoms_read_more names last (Joined atoms joint a) e h = (atoms_read_more names last atoms e h.0, atom_reads_more names last a e h.1)
-
-pub atom_is_read : (names : List Name) (a : Atom) → AtomReads (with_atom names a) a
-atom_is_read names (Always t) = tt
-atom_is_read names (Compared l sign r) =
-    let e = sum_extends (with_sum names l) r in
-    (subst (λ ns. SumReads ns l) (sym e.1) (sum_reads_more (with_sum names l) e.0 l (sum_is_read names l)), sum_is_read (with_sum names l) r)
-
-pub atoms_are_read : (names : List Name) (atoms : Atoms) → AtomsRead (with_atoms names atoms) atoms
-atoms_are_read names (First a) = atom_is_read names a
-atoms_are_read names (Joined atoms joint a) =
-    (atoms_read_more (with_atoms names atoms) (with_atom (with_atoms names atoms) a) atoms (atom_extends (with_atoms names atoms) a) (atoms_are_read names atoms), atom_is_read (with_atoms names atoms) a)
 
 -- arguments within the limits are valid expressions
 pub arguments_valid : (names : List Name) (sums : List Sum) → AllRead names sums → AreArgumentsWithin names sums → AllByRecursion (IsValidTerm (length names)) (sums_terms names sums)

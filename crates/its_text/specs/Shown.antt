@@ -1,12 +1,10 @@
 -- The faults that a front of a program's text shows against the tokens before it and behind it.
 use Rattle.std.specs.Prelude.{ℕ, ◌-◌, Bool, true, false, not, ◌&&◌, ◌||◌, if◌then◌else◌, nat_lt, nat_le, ◌==◌, List}
 use Rattle.std.specs.Prelude.{[], ◌∷◌, ◌++◌, length, codes, Option, Some, None}
-use Rattle.model.specs.Programs.{Name, Symbol, Relation, EqualTo}
-use Rattle.model.specs.Terms.{Term}
+use Rattle.model.specs.Programs.{Name, Symbol}
 use Rattle.model.specs.Limits.{rule_limit, place_limit, variable_limit, atom_limit, name_limit, token_limit}
 use Rattle.model.specs.Limits.{coefficient_limit}
 use Rattle.poly_terms.specs.Faults as polynomials
-use Rattle.its_model.specs.Valid.{difference_of}
 use Rattle.text_core.specs.Names.{is_same, is_among}
 use Rattle.text_core.specs.Tokens.{Token}
 use Rattle.text_core.specs.Readers.{Fault}
@@ -17,6 +15,7 @@ use Rattle.expr_text.specs.Terms as terms
 use Rattle.expr_text.specs.Fronts as expression
 use Rattle.expr_text.specs.Steps as expression_steps
 use Rattle.expr_text.specs.Guards.{Atoms, count_of, relation_of}
+use Rattle.expr_text.specs.Differences.{differences, first_of_all}
 use Rattle.expr_text.specs.GuardFronts as guards
 use Rattle.expr_text.specs.GuardFronts.{GuardFront, LeftSide, RightSide, NoAtoms, JointAfter}
 use Rattle.expr_text.specs.FrontNames.{with_front, before_expression, token_count, goes_on_with, operates}
@@ -285,15 +284,6 @@ abbrev pub argument_faults : ℕ → List Name → Option Sum → Found
 argument_faults at names None = []
 argument_faults at names (Some s) =
     expansion_faults at (polynomials.first_fault (terms.sum_term (terms.with_sum names s) s))
-
--- the differences of an atom: that of an equation counts both ways round
-abbrev pub differences : Term → Relation → Term → List Term
-differences l EqualTo r = difference_of l EqualTo r ∷ difference_of r EqualTo l ∷ []
-differences l relation r = difference_of l relation r ∷ []
-
-abbrev pub first_of_all : List Term → Option polynomials.Fault
-first_of_all [] = None
-first_of_all (t ∷ ts) = polynomials.or_else (polynomials.first_fault t) (first_of_all ts)
 
 -- an atom has ended: its difference can't be expanded
 abbrev pub difference_faults : ℕ → List Name → Sum → inner.Sign → Sum → Found

@@ -17,7 +17,8 @@ use Rattle.its_text.specs.Lexing.{tokens_of}
 use Rattle.its_text.specs.Written.{Guard, NoGuard, BehindMark, InSquares, WrittenRule, Section, pieces_behind}
 use Rattle.its_text.specs.Numbering.{is_com, term_in, symbols_of, arity_of, rule_names, rules_of, program_numbered}
 use Rattle.its_text.specs.Grammar.{Writes}
-use Rattle.its_text.specs.Shown.{is_goal, is_start, is_variables, is_rules, differences, first_of_all}
+use Rattle.expr_text.specs.Differences.{differences, first_of_all}
+use Rattle.its_text.specs.Shown.{is_goal, is_start, is_variables, is_rules}
 
 -- how many sections pass a test
 abbrev pub times : (Section → Bool) → List Section → ℕ
