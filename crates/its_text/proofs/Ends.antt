@@ -7,8 +7,9 @@ use Rattle.its_text.specs.Written.{Section}
 use Rattle.its_text.specs.Fronts.{Front, front_pieces}
 use Rattle.its_text.specs.Steps.{step, finish}
 use Rattle.its_text.specs.Grammar.{Writes, programs}
-use Rattle.its_text.proofs.StepLaws.{Leads, step_leads, EndsWritten, finish_leads}
-use Rattle.its_text.proofs.Shapes.{IsFront, Keeps, step_keeps, EndsShaped, finish_keeps}
+use Rattle.its_text.proofs.EveryStep.{ended}
+use Rattle.its_text.proofs.StepLaws.{Leads, step_leads}
+use Rattle.its_text.proofs.Shapes.{IsFront, Keeps, step_keeps}
 
 -- what is known of a front that pieces lead to: it is written as they are, and its targets are as they are to be
 abbrev pub Known : List Piece → Option Front → Type 0
@@ -34,6 +35,6 @@ front_known done f at = subst (λ o. Known done o) at (reached_known done)
 -- the pieces of a text that can end are those of its sections
 pub ends : (done : List Piece) (f : Front) (ss : List Section) → reached programs done ≡ Some f → finish f ≡ Some ss → Writes ss (onto done [])
 ends done f ss at same = record {
-  are = subst (λ o. EndsShaped o) same (finish_keeps f (front_known done f at).1);
-  pieces = ap (λ behind. onto behind []) (subst (λ o. EndsWritten (front_pieces f) o) same (finish_leads f) ∙ (front_known done f at).0);
+  are = subst IsFront (ended f ss same) (front_known done f at).1;
+  pieces = ap (λ behind. onto behind []) (subst (λ g. front_pieces g ≡ done) (ended f ss same) (front_known done f at).0);
 }

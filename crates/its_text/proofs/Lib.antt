@@ -1,3 +1,7 @@
+pub mod StepCases
+pub mod SectionCases
+pub mod RuleCases
+pub mod EveryStep
 pub mod StepLaws
 pub mod Shapes
 pub mod Ends
@@ -8,6 +12,7 @@ pub mod LexingLaws
 pub mod ReaderLaws
 pub mod WorkedValues
 pub mod Positions
+pub mod LexemeCases
 pub mod NamedPieces
 pub mod DistinctNames
 pub mod ValidRules
@@ -24,6 +29,7 @@ pub mod ArgumentTurns
 pub mod GuardTurns
 pub mod MadeRules
 pub mod RuleTurns
+pub mod WordTurns
 pub mod StepTurns
 pub mod SmallPieces
 pub mod SpelledVerdicts

@@ -1,7 +1,7 @@
 -- Along each step what is read is within the limits exactly where it was before, and the front is quiet: behind a
 -- target, up to the end of the rule.
-use Rattle.std.proofs.Common.{◌≡◌, Bool, true, false, not, if◌then◌else◌, ◌&&◌, ◌==◌, ◌↔◌, nat_le, List, ◌∷◌, length}
-use Rattle.std.proofs.Common.{Option, Some, None, refl, ap, sym, subst, ◌∙◌, arith}
+use Rattle.std.proofs.Common.{◌≡◌, Bool, true, false, not, ◌&&◌, ◌==◌, ◌↔◌, nat_le, List, ◌∷◌, length}
+use Rattle.std.proofs.Common.{Option, Some, None, refl, ap, sym, ◌∙◌, arith}
 use Rattle.std.proofs.lemmas.Bool.Decides.{nat_tests}
 use Rattle.model.specs.Programs.{Name}
 use Rattle.model.specs.Limits.{rule_limit, atom_limit}
@@ -10,23 +10,22 @@ use Rattle.expr_text.specs.Fronts as expression
 use Rattle.expr_text.specs.Steps as expression_steps
 use Rattle.expr_text.specs.Guards.{Atom, Atoms, count_of}
 use Rattle.expr_text.specs.GuardFronts as guards
-use Rattle.expr_text.specs.GuardFronts.{Conjoined, NoAtoms, JointAfter, GuardFront, LeftSide, RightSide, truth_of}
+use Rattle.expr_text.specs.GuardFronts.{NoAtoms, JointAfter, GuardFront, LeftSide, RightSide, truth_of}
 use Rattle.expr_text.specs.FrontNames.{token_count, is_front, goes_on_with}
 use Rattle.expr_text.proofs.FrontSteps.{truth_is_one}
 use Rattle.its_text.specs.Pieces.{Piece, In, GuardMark, SquareOpen, SquareClose, word}
 use Rattle.its_text.specs.Written.{NoGuard, BehindMark}
-use Rattle.its_text.specs.Fronts.{Headed, rule_with, ruling_with, Front, Targeted, GuardMarked, WordRead, MarkGuarding}
+use Rattle.its_text.specs.Fronts.{Headed, rule_with, ruling_with, Front, Targeted, GuardMarked, MarkGuarding}
 use Rattle.its_text.specs.Fronts.{SquareOpened, SquareGuarding}
-use Rattle.its_text.specs.Steps.{behind_rule, guard_ended, guarding, squared, square_ended, guard_named, behind_mark}
-use Rattle.its_text.specs.Steps.{behind_word, step}
+use Rattle.its_text.specs.Steps.{behind_rule, guard_ended, guarding, squared, square_ended, step}
 use Rattle.its_text.specs.FrontNames.{headed_names}
 use Rattle.its_text.specs.Shown as shown
-use Rattle.its_text.specs.Shown.{going_in, is_open, can_end, ends_expression, is_full}
+use Rattle.its_text.specs.Shown.{going_in, can_end, ends_expression, is_full}
 use Rattle.its_text.proofs.RoomLaws.{contrary, and_false}
 use Rattle.its_text.proofs.KeptFronts.{first, IsHeadedKept, IsGuardKept, IsGoingQuiet}
 use Rattle.its_text.proofs.SectionTurns.{Turns, rules_done}
 use Rattle.its_text.proofs.LeftTurns.{room_for_rule}
-use Rattle.its_text.proofs.MadeRules.{no_guard, no_marked, no_squared, marked, in_squares}
+use Rattle.its_text.proofs.MadeRules.{no_guard, no_squared, marked, in_squares}
 use Rattle.its_text.proofs.ExpressionRoom.{goes_off}
 use Rattle.its_text.proofs.ArgumentTurns.{target_kept}
 use Rattle.its_text.proofs.GuardTurns.{guard_ends, guard_turns, guard_begins}
@@ -68,7 +67,7 @@ square_turns h ps =
     (λ k. let y = kept.0 k in (y.0, (y.1, refl)), λ k. kept.1 (k.0, k.1.0))
 
 -- the first piece of a guard
-guard_first : (h : Headed) (g : GuardFront) (p : inner.Piece) (behind : Option Piece)
+pub guard_first : (h : Headed) (g : GuardFront) (p : inner.Piece) (behind : Option Piece)
     → guards.step guards.no_atoms p ≡ Some g
     → (IsHeadedKept h × IsGuardKept (headed_names h) g behind)
     ↔ (IsHeadedKept h × IsGoingQuiet (going_in (headed_names h) guards.no_atoms) (Some (In p)) behind)
@@ -275,128 +274,3 @@ pub square_closed_turns : (h : Headed) (ps : List Piece)
 square_closed_turns h ps =
     let made = no_squared h in
     (λ k. (made.0 k, tt), λ k. made.1 k.0)
-
--- a name behind `:|:` begins another rule before a bracket, and else an atom
-abbrev IsWordQuiet : Headed → Name → Option Piece → Bool → Type 0
-IsWordQuiet h name behind opens =
-    IsGoingQuiet (if opens then None else going_in (headed_names h) guards.no_atoms) (Some (word name)) behind
-
-marked_word : (h : Headed) (name : Name) (ps : List Piece) (v : Bool) → is_open (first ps) ≡ v
-    → Turns (GuardMarked h) (word name) ps (Some (WordRead h name))
-marked_word h name ps true e =
-    let full : Bool = nat_le rule_limit (length (rule_with h NoGuard ∷ h.led.ruling.rules)) in
-    let room = room_for_rule (ruling_with h (BehindMark None)) in
-    let made = no_marked h in (
-      λ k.
-          let most = room.0 (made.1 k.0, k.1.rule e) in (
-            k.0,
-            (
-              ap (λ (v : Bool). v && full) e ∙ most.1,
-              subst (IsWordQuiet h name (first ps)) (sym e) tt,
-            ),
-          ),
-      λ k. (
-        k.0,
-        record {
-          rule = λ _. (room.1 (made.1 k.0, sym (ap (λ (v : Bool). v && full) e) ∙ k.1.0)).1;
-          atom = λ off. contrary (is_open (first ps)) e off;
-        },
-      ),
-    )
-marked_word h name ps false e =
-    let full : Bool = nat_le rule_limit (length (rule_with h NoGuard ∷ h.led.ruling.rules)) in
-    let begins = guard_first h (guard_named name) (inner.Word name) (first ps) refl in (
-      λ k. (
-        k.0,
-        (
-          ap (λ (v : Bool). v && full) e,
-          subst (IsWordQuiet h name (first ps)) (sym e) (begins.0 (k.0, k.1.atom e)).1,
-        ),
-      ),
-      λ k. (
-        k.0,
-        record {
-          rule = λ on. contrary (is_open (first ps)) on e;
-          atom = λ _. (begins.1 (k.0, subst (IsWordQuiet h name (first ps)) e k.1.1)).1;
-        },
-      ),
-    )
-
-marked_first : (h : Headed) (g : GuardFront) (p : inner.Piece) (ps : List Piece)
-    → guards.step guards.no_atoms p ≡ Some g
-    → (IsHeadedKept h × IsGuardKept (headed_names h) g (first ps))
-    ↔ (IsHeadedKept h
-    × ((false ≡ false) × IsGoingQuiet (going_in (headed_names h) guards.no_atoms) (Some (In p)) (first ps)))
-marked_first h g p ps same =
-    let begins = guard_first h g p (first ps) same in
-    (λ k. let x = begins.0 k in (x.0, (refl, x.1)), λ k. begins.1 (k.0, k.1.1))
-
-pub guard_marked_turns : (h : Headed) (p : inner.Piece) (ps : List Piece)
-    → Turns (GuardMarked h) (In p) ps (behind_mark h p)
-guard_marked_turns h (inner.Word name) ps = marked_word h name ps (is_open (first ps)) refl
-guard_marked_turns h inner.Close ps =
-    let done = rules_done (ruling_with h (BehindMark None)) in
-    let made = no_marked h in
-    (λ k. (made.0 (done.0 k), (refl, λ on. cc)), λ k. done.1 (made.1 k.0))
-guard_marked_turns h (inner.Digits ds) ps = marked_first h _ (inner.Digits ds) ps refl
-guard_marked_turns h inner.Open ps = marked_first h _ inner.Open ps refl
-guard_marked_turns h inner.Minus ps = marked_first h _ inner.Minus ps refl
-guard_marked_turns h inner.Plus ps = tt
-guard_marked_turns h inner.Times ps = tt
-guard_marked_turns h inner.Caret ps = tt
-guard_marked_turns h (inner.Related sign) ps = tt
-guard_marked_turns h (inner.Joining joint) ps = tt
-
--- behind that name
-as_guarding : (h : Headed) (name : Name) (p : inner.Piece) (ps : List Piece) → is_open (Some (In p)) ≡ false
-    → shown.too_many_rules (WordRead h name) (Some (In p)) (first ps)
-    ≡ shown.too_many_rules (MarkGuarding h (guard_named name)) (Some (In p)) (first ps)
-    → (o : Option Front) → Turns (MarkGuarding h (guard_named name)) (In p) ps o → Turns (WordRead h name) (In p) ps o
-as_guarding h name p ps closed rules None turns = tt
-as_guarding h name p ps closed rules (Some g) turns = (
-  λ k.
-      let x = turns.0 k in (
-        (x.0.0, record { rule = λ on. contrary (is_open (Some (In p))) on closed; atom = λ _. x.0.1 }),
-        (rules ∙ x.1.0, x.1.1.going),
-      ),
-  λ k. turns.1 ((k.0.0, k.0.1.atom closed), (sym rules ∙ k.1.0, record { atom = tt; few = refl; going = k.1.1 })),
-)
-
-word_opens : (h : Headed) (name : Name) (ps : List Piece)
-    → Turns (WordRead h name) (In inner.Open) ps (behind_word h name inner.Open)
-word_opens h name ps =
-    let made = no_marked h in (
-      λ k. ((made.0 k.0, record { rule = λ _. k.1; atom = λ off. cc }), (refl, λ on. cc)),
-      λ k. (made.1 k.0.0, k.0.1.rule refl),
-    )
-
-pub word_read_turns : (h : Headed) (name : Name) (p : inner.Piece) (ps : List Piece)
-    → Turns (WordRead h name) (In p) ps (behind_word h name p)
-word_read_turns h name inner.Open ps = word_opens h name ps
-word_read_turns h name (inner.Word n) ps =
-    as_guarding h name (inner.Word n) ps refl refl (behind_word h name (inner.Word n))
-    (mark_guarding_turns h (guard_named name) (inner.Word n) ps)
-word_read_turns h name (inner.Digits ds) ps =
-    as_guarding h name (inner.Digits ds) ps refl refl (behind_word h name (inner.Digits ds))
-    (mark_guarding_turns h (guard_named name) (inner.Digits ds) ps)
-word_read_turns h name inner.Close ps =
-    as_guarding h name inner.Close ps refl refl (behind_word h name inner.Close)
-    (mark_guarding_turns h (guard_named name) inner.Close ps)
-word_read_turns h name inner.Plus ps =
-    as_guarding h name inner.Plus ps refl refl (behind_word h name inner.Plus)
-    (mark_guarding_turns h (guard_named name) inner.Plus ps)
-word_read_turns h name inner.Minus ps =
-    as_guarding h name inner.Minus ps refl refl (behind_word h name inner.Minus)
-    (mark_guarding_turns h (guard_named name) inner.Minus ps)
-word_read_turns h name inner.Times ps =
-    as_guarding h name inner.Times ps refl refl (behind_word h name inner.Times)
-    (mark_guarding_turns h (guard_named name) inner.Times ps)
-word_read_turns h name inner.Caret ps =
-    as_guarding h name inner.Caret ps refl refl (behind_word h name inner.Caret)
-    (mark_guarding_turns h (guard_named name) inner.Caret ps)
-word_read_turns h name (inner.Related sign) ps =
-    as_guarding h name (inner.Related sign) ps refl refl (behind_word h name (inner.Related sign))
-    (mark_guarding_turns h (guard_named name) (inner.Related sign) ps)
-word_read_turns h name (inner.Joining joint) ps =
-    as_guarding h name (inner.Joining joint) ps refl refl (behind_word h name (inner.Joining joint))
-    (mark_guarding_turns h (guard_named name) (inner.Joining joint) ps)

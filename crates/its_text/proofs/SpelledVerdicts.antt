@@ -10,11 +10,7 @@ use Rattle.text_core.proofs.Limits.{answered_within, within_answered}
 use Rattle.its_text.specs.Pieces.{Piece}
 use Rattle.its_text.specs.Written.{WrittenRule, Section, Goal, Start, Variables, Rules, Comment, pieces_behind}
 use Rattle.its_text.specs.Numbering.{start_of, rules_of, program_of_parts}
-use Rattle.its_text.specs.Fronts.{Front, Between, Opened, GoalNamed, GoalSaid, StartNamed, StartOpened, StartListed}
-use Rattle.its_text.specs.Fronts.{StartSaid, StartShut, Listing, CommentNamed, Ruled, SourceNamed, LeftOpened, LeftRead}
-use Rattle.its_text.specs.Fronts.{LeftParted, LeftShut, Arrowed, ComNamed, ComOpened, TargetNamed, RightOpened, Arguing}
-use Rattle.its_text.specs.Fronts.{RightShut, Targeted, GuardMarked, WordRead, MarkGuarding, SquareOpened}
-use Rattle.its_text.specs.Fronts.{SquareGuarding, front_pieces}
+use Rattle.its_text.specs.Fronts.{Front, Between, front_pieces}
 use Rattle.its_text.specs.Steps.{step, finish}
 use Rattle.its_text.specs.Lexing.{tokens_of}
 use Rattle.its_text.specs.Kinds.{Kind}
@@ -29,6 +25,7 @@ use Rattle.its_text.proofs.VerdictLaws.{verdict_right, whole_numbered}
 use Rattle.its_text.proofs.KeptFronts.{first, AreDone, IsKept, IsQuiet, IsNextSmall}
 use Rattle.its_text.proofs.QuietFronts.{shows_nothing}
 use Rattle.its_text.proofs.SectionTurns.{Turns}
+use Rattle.its_text.proofs.EveryStep.{ended}
 use Rattle.its_text.proofs.StepTurns.{turns}
 use Rattle.its_text.proofs.SmallPieces.{next_small, small_next}
 
@@ -85,39 +82,6 @@ silent_shown n done f t rest =
 pub record AreSectionsWithin (ss : List Section) : Type 0 where
   pub small : AreSmall (pieces_behind ss)
   pub done : AreDone ss
-
--- where a text can end, what has been read are its sections
-ended : (f : Front) (ss : List Section) → finish f ≡ Some ss → f ≡ Between ss
-ended (Between ts) ss same = let e : ts ≡ ss = cc in ap Between e
-ended (Opened ts) ss same = cc
-ended (GoalNamed ts) ss same = cc
-ended (GoalSaid ts) ss same = cc
-ended (StartNamed ts) ss same = cc
-ended (StartOpened ts) ss same = cc
-ended (StartListed ts) ss same = cc
-ended (StartSaid ts start) ss same = cc
-ended (StartShut ts start) ss same = cc
-ended (Listing ts names) ss same = cc
-ended (CommentNamed ts) ss same = cc
-ended (Ruled r) ss same = cc
-ended (SourceNamed r source) ss same = cc
-ended (LeftOpened r source) ss same = cc
-ended (LeftRead r source a earlier) ss same = cc
-ended (LeftParted r source a earlier) ss same = cc
-ended (LeftShut l) ss same = cc
-ended (Arrowed l) ss same = cc
-ended (ComNamed l) ss same = cc
-ended (ComOpened l) ss same = cc
-ended (TargetNamed a) ss same = cc
-ended (RightOpened a) ss same = cc
-ended (Arguing a arguments e) ss same = cc
-ended (RightShut l t) ss same = cc
-ended (Targeted h) ss same = cc
-ended (GuardMarked h) ss same = cc
-ended (WordRead h name) ss same = cc
-ended (MarkGuarding h g) ss same = cc
-ended (SquareOpened h) ss same = cc
-ended (SquareGuarding h g) ss same = cc
 
 nothing_done : AreDone []
 nothing_done =

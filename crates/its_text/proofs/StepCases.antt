@@ -1,0 +1,111 @@
+-- The steps of a program's text that lead somewhere: what holds of each of them holds of every step.
+use Rattle.std.specs.Prelude.{ℕ, List, [], ◌∷◌, codes, Option, Some, None}
+use Rattle.model.specs.Programs.{Name}
+use Rattle.text_core.specs.Names.{is_same}
+use Rattle.text_core.specs.Choices.{when}
+use Rattle.expr_text.specs.Pieces as inner
+use Rattle.expr_text.specs.Trees.{Sum}
+use Rattle.expr_text.specs.Fronts as expression
+use Rattle.expr_text.specs.Steps as expression_steps
+use Rattle.expr_text.specs.GuardFronts as guards
+use Rattle.its_text.specs.Pieces.{Piece, In, Comma, Arrow, GuardMark, SquareOpen, SquareClose, Remark}
+use Rattle.its_text.specs.Written.{RightTerm, Marked, NoGuard, InSquares, Section, Goal, Start, Variables, Comment}
+use Rattle.its_text.specs.Fronts.{Ruling, Led, InCom, Aimed, Headed, Front, Between, Opened, GoalNamed, GoalSaid}
+use Rattle.its_text.specs.Fronts.{StartNamed, StartOpened, StartListed, StartSaid, StartShut, Listing, CommentNamed}
+use Rattle.its_text.specs.Fronts.{Ruled, SourceNamed, LeftOpened, LeftRead, LeftParted, LeftShut, Arrowed, ComNamed}
+use Rattle.its_text.specs.Fronts.{ComOpened, TargetNamed, RightOpened, Arguing, RightShut, Targeted, GuardMarked}
+use Rattle.its_text.specs.Fronts.{WordRead, MarkGuarding, SquareOpened, SquareGuarding, ruling_with}
+use Rattle.its_text.specs.Steps.{section_named, left_shut, aimed, behind_arrow, targeted, behind_rule, parted, arguing}
+use Rattle.its_text.specs.Steps.{guarding, squared, square_ended, behind_mark, behind_word, behind_open}
+
+-- it holds where a piece leads nowhere, and of each step that leads somewhere
+pub record HoldsOfSteps (P : Front → Piece → Option Front → Type 0) : Type 0 where
+  pub nowhere : (f : Front) (p : Piece) → P f p None
+  -- between sections
+  pub between_open : (ss : List Section) → P (Between ss) (In inner.Open) (Some (Opened ss))
+  -- behind the bracket that opens a section
+  pub opened_word : (ss : List Section) (name : Name) → P (Opened ss) (In (inner.Word name)) (section_named ss name)
+  -- behind `(GOAL`
+  pub goal_named_word : (ss : List Section) (name : Name)
+      → P (GoalNamed ss) (In (inner.Word name)) (when (is_same name (codes "COMPLEXITY")) (GoalSaid ss))
+  -- behind `(GOAL COMPLEXITY`
+  pub goal_said_close : (ss : List Section) → P (GoalSaid ss) (In inner.Close) (Some (Between (Goal ∷ ss)))
+  -- behind `(STARTTERM`
+  pub start_named_open : (ss : List Section) → P (StartNamed ss) (In inner.Open) (Some (StartOpened ss))
+  -- behind the bracket after `STARTTERM`
+  pub start_opened_word : (ss : List Section) (name : Name)
+      → P (StartOpened ss) (In (inner.Word name)) (when (is_same name (codes "FUNCTIONSYMBOLS")) (StartListed ss))
+  -- behind `FUNCTIONSYMBOLS`
+  pub start_listed_word : (ss : List Section) (name : Name)
+      → P (StartListed ss) (In (inner.Word name)) (Some (StartSaid ss name))
+  -- behind the start symbol
+  pub start_said_close : (ss : List Section) (name : Name)
+      → P (StartSaid ss name) (In inner.Close) (Some (StartShut ss name))
+  -- behind the bracket that closes on the start symbol
+  pub start_shut_close : (ss : List Section) (name : Name)
+      → P (StartShut ss name) (In inner.Close) (Some (Between (Start name ∷ ss)))
+  -- behind `(VAR` and names
+  pub listing_word : (ss : List Section) (names : List Name) (name : Name)
+      → P (Listing ss names) (In (inner.Word name)) (Some (Listing ss (name ∷ names)))
+  pub listing_close : (ss : List Section) (names : List Name)
+      → P (Listing ss names) (In inner.Close) (Some (Between (Variables names ∷ ss)))
+  -- behind `(COMMENT`
+  pub comment_named_remark : (ss : List Section) (bytes : List ℕ)
+      → P (CommentNamed ss) (Remark bytes) (Some (Between (Comment bytes ∷ ss)))
+  -- behind `(RULES` and whole rules
+  pub ruled_piece : (r : Ruling) (p : inner.Piece) → P (Ruled r) (In p) (behind_rule r p)
+  -- behind a rule's source
+  pub source_named_open : (r : Ruling) (name : Name) → P (SourceNamed r name) (In inner.Open) (Some (LeftOpened r name))
+  -- behind the bracket that opens left arguments
+  pub left_opened_word : (r : Ruling) (name : Name) (a : Name)
+      → P (LeftOpened r name) (In (inner.Word a)) (Some (LeftRead r name a []))
+  pub left_opened_close : (r : Ruling) (name : Name)
+      → P (LeftOpened r name) (In inner.Close) (Some (left_shut r name []))
+  -- behind a left argument
+  pub left_read_comma : (r : Ruling) (name a : Name) (earlier : List Name)
+      → P (LeftRead r name a earlier) Comma (Some (LeftParted r name a earlier))
+  pub left_read_close : (r : Ruling) (name a : Name) (earlier : List Name)
+      → P (LeftRead r name a earlier) (In inner.Close) (Some (left_shut r name (a ∷ earlier)))
+  -- behind the comma after a left argument
+  pub left_parted_word : (r : Ruling) (name a : Name) (earlier : List Name) (b : Name)
+      → P (LeftParted r name a earlier) (In (inner.Word b)) (Some (LeftRead r name b (a ∷ earlier)))
+  -- behind the left term
+  pub left_shut_arrow : (l : Led) → P (LeftShut l) Arrow (Some (Arrowed l))
+  -- behind `->`
+  pub arrowed_word : (l : Led) (name : Name) → P (Arrowed l) (In (inner.Word name)) (Some (behind_arrow l name))
+  -- behind `Com_1`
+  pub com_named_open : (l : Led) → P (ComNamed l) (In inner.Open) (Some (ComOpened l))
+  -- behind `Com_1(`
+  pub com_opened_word : (l : Led) (name : Name) → P (ComOpened l) (In (inner.Word name)) (Some (aimed l InCom name))
+  -- behind the name of a right term
+  pub target_named_open : (a : Aimed) → P (TargetNamed a) (In inner.Open) (Some (RightOpened a))
+  -- behind the bracket that opens right arguments
+  pub right_opened_piece : (a : Aimed) (p : inner.Piece) → P (RightOpened a) (In p) (behind_open a p)
+  -- in an argument
+  pub in_argument_piece : (a : Aimed) (arguments : List Sum) (e : expression.Front) (p : inner.Piece)
+      → P (Arguing a arguments e) (In p) (arguing a arguments e (expression_steps.step e p) p)
+  pub in_argument_comma : (a : Aimed) (arguments : List Sum) (e : expression.Front)
+      → P (Arguing a arguments e) Comma (parted a arguments (expression_steps.finish e))
+  -- behind the right term within `Com_1(`
+  pub right_shut_close : (l : Led) (t : RightTerm) → P (RightShut l t) (In inner.Close) (Some (targeted l (Marked t)))
+  -- behind the target
+  pub targeted_piece : (h : Headed) (p : inner.Piece) → P (Targeted h) (In p) (behind_rule (ruling_with h NoGuard) p)
+  pub targeted_mark : (h : Headed) → P (Targeted h) GuardMark (Some (GuardMarked h))
+  pub targeted_square : (h : Headed) → P (Targeted h) SquareOpen (Some (SquareOpened h))
+  -- behind `:|:`
+  pub guard_marked_piece : (h : Headed) (p : inner.Piece) → P (GuardMarked h) (In p) (behind_mark h p)
+  -- behind a name after `:|:`
+  pub word_read_piece : (h : Headed) (name : Name) (p : inner.Piece) → P (WordRead h name) (In p) (behind_word h name p)
+  -- in the atoms after `:|:`
+  pub mark_guarding_piece : (h : Headed) (g : guards.GuardFront) (p : inner.Piece)
+      → P (MarkGuarding h g) (In p) (guarding h g (guards.step g p) p)
+  -- behind `[`
+  pub square_opened_piece : (h : Headed) (p : inner.Piece)
+      → P (SquareOpened h) (In p) (squared h (guards.step guards.no_atoms p))
+  pub square_opened_square_close : (h : Headed)
+      → P (SquareOpened h) SquareClose (Some (Ruled (ruling_with h (InSquares None))))
+  -- in the atoms after `[`
+  pub square_guarding_piece : (h : Headed) (g : guards.GuardFront) (p : inner.Piece)
+      → P (SquareGuarding h g) (In p) (squared h (guards.step g p))
+  pub square_guarding_square_close : (h : Headed) (g : guards.GuardFront)
+      → P (SquareGuarding h g) SquareClose (square_ended h (guards.finish g))
