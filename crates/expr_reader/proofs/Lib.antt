@@ -9,4 +9,5 @@ pub mod AtomNames
 pub mod LimitedFaults
 pub mod GuardSettling
 pub mod GuardTaking
+pub mod GuardStops
 pub mod WorkedValues

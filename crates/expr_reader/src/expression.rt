@@ -15,6 +15,7 @@ ghost use Rattle.expr_reader.specs.Standing.{Leads, Ends, Clears, IsFresh, HasRo
 ghost use Rattle.expr_reader.specs.Views.{summed_of, factored_of, level_of, operand_of, front_of, piece_of, term_in};
 
 use crate::Memory;
+use crate::making::{empty_level, factor_of, negated, product_with, sum_with};
 use crate::piece::Piece;
 use crate::variables::Variables;
 use model::{COEFFICIENT_LIMIT, DEGREE_LIMIT};
@@ -63,62 +64,6 @@ pub struct Expression {
     pub level: Level,
     pub operand: Operand,
     pub tokens: usize,
-}
-
-fn empty_level() -> Level
-    ensures { level_of result ≡ terms.empty_level }
-{
-    Level {
-        sum: Summed::NoSum,
-        product: Factored::NoProduct,
-        minuses: 0,
-    }
-}
-
-// An expression behind so many `-`.
-fn negated(alloc: Global, minuses: u32, e: Expr) -> Result<Expr, Memory>
-    ensures { IfOk result (λ made. term_of made ≡ terms.negated minuses (term_of e)) }
-{
-    let mut made = e;
-    let mut left = minuses;
-    while left > 0 {
-        made = Expr::negation(alloc, made)?;
-        left -= 1;
-    }
-    Ok(made)
-}
-
-// The product that a factor ends.
-fn product_with(alloc: Global, product: Factored, factor: Expr) -> Result<Expr, Memory>
-    ensures { IfOk result (λ made. term_of made ≡ terms.product_with (factored_of product) (term_of factor)) }
-{
-    match product {
-        Factored::NoProduct => Ok(factor),
-        Factored::TimesAfter(before) => Expr::product(alloc, before, factor),
-    }
-}
-
-// The sum that a product ends.
-fn sum_with(alloc: Global, sum: Summed, product: Expr) -> Result<Expr, Memory>
-    ensures { IfOk result (λ made. term_of made ≡ terms.sum_with (summed_of sum) (term_of product)) }
-{
-    match sum {
-        Summed::NoSum => Ok(product),
-        Summed::PlusAfter(before) => Expr::sum(alloc, before, product),
-        Summed::MinusAfter(before) => Expr::difference(alloc, before, product),
-    }
-}
-
-// A base as a factor, or a base with its exponent.
-fn factor_of(alloc: Global, operand: Operand) -> Result<Expr, Memory>
-    ensures { IfOk result (λ made. term_of made ≡ terms.factor_in (operand_of operand)) }
-{
-    match operand {
-        Operand::Wanted => Ok(Expr::Num(0)),
-        Operand::BaseRead(e) => Ok(e),
-        Operand::CaretRead(e) => Ok(e),
-        Operand::ExponentRead(e, exponent) => Expr::power(alloc, e, exponent),
-    }
 }
 
 // Whether each byte is a digit.

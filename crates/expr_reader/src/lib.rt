@@ -5,6 +5,7 @@ mod expansion;
 mod expression;
 mod guard;
 mod law;
+mod making;
 mod piece;
 mod variables;
 

@@ -9,6 +9,7 @@ pub mod LeftLaws
 pub mod Stopping
 pub mod NotingLaws
 pub mod RightLaws
+pub mod RightPromises
 pub mod Numbers
 pub mod DigitLaws
 pub mod JudgeLaws

@@ -1,5 +1,5 @@
 -- Where each piece leads from the arrow to the end of a target, by tests of the piece.
-use Rattle.std.specs.Prelude.{◌≡◌, ℕ, suc, ◌==◌, nat_lt, length, Bool, true, false, not, if◌then◌else◌, List, [], ◌∷◌, ◌++◌, map, codes, Option, Some, None, refl}
+use Rattle.std.specs.Prelude.{◌≡◌, ℕ, suc, ◌==◌, nat_lt, length, true, false, not, if◌then◌else◌, List, [], ◌∷◌, ◌++◌, map, codes, Option, Some, None, refl}
 use Rattle.std.proofs.Common.{sym, ap, subst, ◌∙◌, get_or}
 use Rattle.model.specs.Programs.{Name, Symbol}
 use Rattle.its_model.specs.Views.{rule_of}
@@ -13,13 +13,8 @@ use Rattle.its_text.specs.Shown.{other_arity}
 use Rattle.its_text.specs.Steps.{right_shut}
 use Rattle.its_reader.specs.Standing.{updates_of}
 use Rattle.its_reader.specs.Places.{IsArgued, behind_wrap}
-use Rattle.its_reader.specs.Leading.{AfterRight, RightLeads, Targets, TakesPiece, GoTogether, IsModestPiece}
-use Rattle.expr_text.specs.TermFronts.{goes_on_from}
-use Rattle.expr_reader.specs.Views.{front_of}
-use Rattle.expr_reader.proofs.Answering.{goes_on_is}
-use Rattle.its_reader.specs.declared.place.RightPlace.{RightPlace}
+use Rattle.its_reader.specs.Leading.{AfterRight}
 use Rattle.its_reader.proofs.SymbolTables.{symbols_with, arity_at, number_stays}
-use Rattle.its_reader.proofs.LeftLaws.{leads_together}
 use Rattle.expr_text.specs.Pieces as inner
 use Rattle.expr_text.specs.GuardFronts.{no_atoms}
 use Rattle.expr_reader.specs.Variables.{names_in}
@@ -155,7 +150,7 @@ module _ (ts : Tokens) (next : Option Piece) where
   }
 
   -- where an inner piece leads within an argument that doesn't end before it
-  argument_leads : (w : Wrap) (a : Aimed) (arguments : List Sum) (e : expression.Front) (p : inner.Piece) (old new : Draft) (result : Option Place) → a.wrap ≡ wrap_of w → KnowsAimed ts a arguments old
+  pub argument_leads : (w : Wrap) (a : Aimed) (arguments : List Sum) (e : expression.Front) (p : inner.Piece) (old new : Draft) (result : Option Place) → a.wrap ≡ wrap_of w → KnowsAimed ts a arguments old
       → Stands (names_with a.led arguments) e (names_in old.rule.variables) old.rule.expression → (ends_expression e (Some (In p)) ≡ true → expression_steps.finish e ≡ None) → IsModest p
       → Takes (goes_on_with e p) w old p result new → LeadsTo ts next (arguing a arguments e (expression_steps.step e p) p) result new
   argument_leads w a arguments e p old new result wrap k s stops modest t = go (expression_steps.step e p) refl t
@@ -327,98 +322,3 @@ module _ (ts : Tokens) (next : Option Piece) where
       go (In inner.Close) c = cc
       go (In _) c = tt
       go _ c = tt
-
--- what the functions of each place promise
-pub always_right : (place : RightPlace) (p : Piece) (old new : Draft) (result : Option Place) → ((ts : Tokens) (next : Option Piece) (f : Front) → RightSettled ts (Some p) place old f → LeadsTo ts next (step f p) result new) → RightLeads place old p result new
-always_right place p old new result h = record {
-  together = λ ts f k. leads_together ts None (step f p) result new (h ts None f k);
-  each = λ ts next f k modest. h ts next f k;
-}
-
-pub in_right_place : (place known : RightPlace) (old new : Draft) (p : Piece) (result : Option Place) → place ≡ known → RightLeads known old p result new → RightLeads place old p result new
-in_right_place place known old new p result e h = subst (λ (q : RightPlace). RightLeads q old p result new) (sym e) h
-
-pub com_named_promise : (p : Piece) (old : Draft) (result : Option Place) (v : Bool) → v ≡ tests.opens p → result ≡ (if v then Some (places.InRight rights.ComOpened) else None) → RightLeads rights.ComNamed old p result old
-com_named_promise p old result v e h = always_right rights.ComNamed p old old result (λ ts next f k. rw (h, e) (com_named_leads ts next p f old k))
-
-pub target_named_promise : (w : Wrap) (p : Piece) (old : Draft) (result : Option Place) (v : Bool) → v ≡ tests.opens p → result ≡ (if v then Some (places.InRight (rights.RightOpened w)) else None) → RightLeads (rights.TargetNamed w) old p result old
-target_named_promise w p old result v e h = always_right (rights.TargetNamed w) p old old result (λ ts next f k. rw (h, e) (target_named_leads ts next w p f old k))
-
-pub argued_promise : (w : Wrap) (p : Piece) (old : Draft) (result : Option Place) (v : Bool) → tests.closes p ≡ false → v ≡ tests.parts p → result ≡ (if v then Some (places.InRight (rights.Arguing w)) else None) → RightLeads (rights.Argued w) old p result old
-argued_promise w p old result v c e h = always_right (rights.Argued w) p old old result (λ ts next f k. rw (h, e) (argued_parts ts next w p f old k c))
-
-pub arrowed_promise : (p : Piece) (old new : Draft) (result : Option Place) → tests.says (codes "Com_1") p ≡ false → Targets (tests.word p) wraps.Alone result old new → RightLeads rights.Arrowed old p result new
-arrowed_promise p old new result c t = go (tests.word p) refl t
-  where
-    go : (o : Option Name) → tests.word p ≡ o → Targets o wraps.Alone result old new → RightLeads rights.Arrowed old p result new
-    go None e t = rw (t.0, t.1) (always_right rights.Arrowed p old old None (λ ts next f k. arrowed_stops ts next p f old k e))
-    go (Some name) e t = rw t.0 (always_right rights.Arrowed p old new _ (λ ts next f k. bare_leads ts next p f old new name k c e t.1.0 t.1.1))
-
-pub within_promise : (p : Piece) (old new : Draft) (result : Option Place) → Targets (tests.word p) wraps.InCom result old new → RightLeads rights.ComOpened old p result new
-within_promise p old new result t = go (tests.word p) refl t
-  where
-    go : (o : Option Name) → tests.word p ≡ o → Targets o wraps.InCom result old new → RightLeads rights.ComOpened old p result new
-    go None e t = rw (t.0, t.1) (always_right rights.ComOpened p old old None (λ ts next f k. within_stops ts next p f old k e))
-    go (Some name) e t = rw t.0 (always_right rights.ComOpened p old new _ (λ ts next f k. within_leads ts next p f old new name k e t.1.0 t.1.1))
-
--- a piece within an argument leads somewhere in both, or nowhere in both
-argument_together : (w : Wrap) (a : Aimed) (arguments : List Sum) (e : expression.Front) (p : inner.Piece) (old new : Draft) (result : Option Place) → (ends_expression e (Some (In p)) ≡ true → expression_steps.finish e ≡ None)
-    → Takes (goes_on_with e p) w old p result new → GoTogether (arguing a arguments e (expression_steps.step e p) p) result
-argument_together w a arguments e p old new result stops t = go (expression_steps.step e p) refl t
-  where
-    go : (o : Option expression.Front) → expression_steps.step e p ≡ o → Takes (is_front o) w old p result new → GoTogether (arguing a arguments e o p) result
-    go (Some more) h t = rw t.0 tt
-    go None h t =
-        let none : expression_steps.finish e ≡ None = stops (ap (λ (o : Option expression.Front). not (is_front o)) h) in
-        rw (none, t.0) tt
-
--- what the code takes is what goes on with the written argument
-takes_written : (w : Wrap) (before : List Name) (e : expression.Front) (p : inner.Piece) (old new : Draft) (result : Option Place) → Stands before e (names_in old.rule.variables) old.rule.expression
-    → Takes (goes_on_from (front_of old.rule.expression).outer (front_of old.rule.expression).operand p) w old p result new → Takes (goes_on_with e p) w old p result new
-takes_written w before e p old new result s t = subst (λ (v : Bool). Takes v w old p result new) (goes_on_is before e (names_in old.rule.variables) old.rule.expression p s) t
-
-pub arguing_promise : (w : Wrap) (p : Piece) (old new : Draft) (result : Option Place) → TakesPiece w old p result new → RightLeads (rights.Arguing w) old p result new
-arguing_promise w p old new result t = record {
-  together = λ ts f k. rw k.1.1.1.0 (together p t (k.0) (k.1.0) (k.1.1.0) (k.1.1.1.1.0.expression) (k.1.1.1.1.1));
-  each = λ ts next f k modest. rw k.1.1.1.0 (each ts next p t modest k.0 k.1.0 k.1.1.0 k.1.1.1.1.0 k.1.1.1.1.1);
-}
-  where
-    together : (p : Piece) → TakesPiece w old p result new → (a : Aimed) (arguments : List Sum) (e : expression.Front) → Stands (names_with a.led arguments) e (names_in old.rule.variables) old.rule.expression
-        → (ends_expression e (Some p) ≡ true → expression_steps.finish e ≡ None) → GoTogether (step (fronts.Arguing a arguments e) p) result
-    together (In q) t a arguments e s stops = argument_together w a arguments e q old new result stops (takes_written w (names_with a.led arguments) e q old new result s t)
-    together Comma t a arguments e s stops = rw (stops refl, t.0) tt
-    together _ t a arguments e s stops = rw t.0 tt
-
-    each : (ts : Tokens) (next : Option Piece) (p : Piece) → TakesPiece w old p result new → IsModestPiece p → (a : Aimed) (arguments : List Sum) (e : expression.Front) → IsArguing ts w a arguments e old
-        → (ends_expression e (Some p) ≡ true → expression_steps.finish e ≡ None) → LeadsTo ts next (step (fronts.Arguing a arguments e) p) result new
-    each ts next (In q) t modest a arguments e k stops =
-        argument_leads ts next w a arguments e q old new result k.wrap_is k.aimed k.expression stops modest (takes_written w (names_with a.led arguments) e q old new result k.expression t)
-    each ts next Comma t modest a arguments e k stops = rw (stops refl, t.0) tt
-    each ts next _ t modest a arguments e k stops = rw t.0 tt
-
--- nothing of an argument has been read
-pub first_stands : (ts : Tokens) (w : Wrap) (a : Aimed) (d : Draft) → IsAimed ts w a d → Stands (names_with a.led []) expression.beginning (names_in d.rule.variables) d.rule.expression
-first_stands ts w a d k = subst (λ (b : List Name). Stands b expression.beginning (names_in d.rule.variables) d.rule.expression) k.names_are (fresh_stands (names_in d.rule.variables) d.rule.expression k.expression)
-
-pub opened_right_promise : (w : Wrap) (p : Piece) (old new : Draft) (result : Option Place) → tests.closes p ≡ false → TakesPiece w old p result new → RightLeads (rights.RightOpened w) old p result new
-opened_right_promise w p old new result c t = record {
-  together = λ ts f k. rw k.1.0 (together p c t k.0 (first_stands ts w k.0 old k.1.1));
-  each = λ ts next f k modest. rw k.1.0 (each ts next p c t modest k.0 k.1.1);
-}
-  where
-    together : (p : Piece) → tests.closes p ≡ false → TakesPiece w old p result new → (a : Aimed) → Stands (names_with a.led []) expression.beginning (names_in old.rule.variables) old.rule.expression → GoTogether (step (fronts.RightOpened a) p) result
-    together (In inner.Close) c t a s = cc
-    together (In q) c t a s = argument_together w a [] expression.beginning q old new result (λ h. refl) (takes_written w (names_with a.led []) expression.beginning q old new result s t)
-    together _ c t a s = rw t.0 tt
-
-    each : (ts : Tokens) (next : Option Piece) (p : Piece) → tests.closes p ≡ false → TakesPiece w old p result new → IsModestPiece p → (a : Aimed) → IsAimed ts w a old → LeadsTo ts next (step (fronts.RightOpened a) p) result new
-    each ts next (In inner.Close) c t modest a k = cc
-    each ts next (In q) c t modest a k =
-        argument_leads ts next w a [] expression.beginning q old new result k.wrap_is k.aimed (first_stands ts w a old k) (λ h. refl) modest (takes_written w (names_with a.led []) expression.beginning q old new result (first_stands ts w a old k) t)
-    each ts next _ c t modest a k = rw t.0 tt
-
-pub opened_right_closes : (w : Wrap) (p : Piece) (old new : Draft) (place : Place) → place ≡ behind_wrap w → tests.closes p ≡ true → AfterRight old new → RightLeads (rights.RightOpened w) old p (Some place) new
-opened_right_closes w p old new place e c h = rw e (always_right (rights.RightOpened w) p old new (Some (behind_wrap w)) (λ ts next f k. opened_right_ends ts next w p f old new k c h))
-
-pub argued_closes : (w : Wrap) (p : Piece) (old new : Draft) (place : Place) → place ≡ behind_wrap w → tests.closes p ≡ true → AfterRight old new → RightLeads (rights.Argued w) old p (Some place) new
-argued_closes w p old new place e c h = rw e (always_right (rights.Argued w) p old new (Some (behind_wrap w)) (λ ts next f k. argued_ends ts next w p f old new k c h))

@@ -23,7 +23,8 @@ use Rattle.its_reader.specs.declared.place.Wrap.{Wrap}
 use Rattle.its_reader.specs.declared.place.RightPlace.{RightPlace}
 use Rattle.its_reader.specs.declared.place.RightPlace.TheVariants as rights
 use Rattle.its_reader.specs.declared.draft.Draft.{Draft}
-use Rattle.its_reader.proofs.RightLaws.{first_stands, length-terms, updates_count}
+use Rattle.its_reader.proofs.RightLaws.{length-terms, updates_count}
+use Rattle.its_reader.proofs.RightPromises.{first_stands}
 use Rattle.its_reader.proofs.GoingNotes.{going_is}
 
 -- one more than any number isn't 0

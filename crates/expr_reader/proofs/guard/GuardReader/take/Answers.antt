@@ -1,6 +1,7 @@
 -- Each piece leads where it leads in the written front.
 use Rattle.std.proofs.Common.{refl, sym, ◌∙◌}
-use Rattle.expr_reader.proofs.GuardTaking.{takes_truth, takes_joint, takes_more, takes_relation, takes_none}
+use Rattle.expr_reader.proofs.GuardTaking.{takes_truth, takes_joint, takes_more}
+use Rattle.expr_reader.proofs.GuardStops.{takes_relation, takes_none}
 use Rattle.expr_reader.proofs.guard.GuardReader.take.Goals as goal
 
 pub returns-then-reads_truth : goal.returns-then-reads_truth

@@ -1,5 +1,5 @@
 use Rattle.its_reader.specs.declared.place.RightPlace.TheVariants as places
-use Rattle.its_reader.proofs.RightLaws.{in_right_place, com_named_promise, target_named_promise}
+use Rattle.its_reader.proofs.RightPromises.{in_right_place, com_named_promise, target_named_promise}
 use Rattle.its_reader.proofs.draft.Draft.advance_in_right.Goals as goal
 
 pub returns-in-ComNamed : goal.returns-in-ComNamed

@@ -1,5 +1,5 @@
 use Rattle.std.proofs.Common.{sym, ◌∙◌}
-use Rattle.its_reader.proofs.RightLaws.{argued_closes, argued_promise}
+use Rattle.its_reader.proofs.RightPromises.{argued_closes, argued_promise}
 use Rattle.its_reader.proofs.draft.Draft.behind_argument.Goals as goal
 
 pub returns-in_ok-shut_right : goal.returns-in_ok-shut_right

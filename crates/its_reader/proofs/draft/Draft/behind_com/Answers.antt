@@ -1,4 +1,4 @@
-use Rattle.its_reader.proofs.RightLaws.{within_promise}
+use Rattle.its_reader.proofs.RightPromises.{within_promise}
 use Rattle.its_reader.proofs.draft.Draft.behind_com.Goals as goal
 
 pub returns : goal.returns

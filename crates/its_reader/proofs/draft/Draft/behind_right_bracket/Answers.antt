@@ -1,5 +1,5 @@
 use Rattle.std.proofs.Common.{sym, ◌∙◌}
-use Rattle.its_reader.proofs.RightLaws.{opened_right_closes, opened_right_promise}
+use Rattle.its_reader.proofs.RightPromises.{opened_right_closes, opened_right_promise}
 use Rattle.its_reader.proofs.draft.Draft.behind_right_bracket.Goals as goal
 
 pub returns-in_ok-shut_right : goal.returns-in_ok-shut_right

@@ -1,6 +1,7 @@
 use Rattle.std.proofs.Common.{refl, sym, ◌∙◌}
 use Rattle.its_reader.specs.declared.place.RightPlace.TheVariants as places
-use Rattle.its_reader.proofs.RightLaws.{always_right, com_ends, com_stops}
+use Rattle.its_reader.proofs.RightLaws.{com_ends, com_stops}
+use Rattle.its_reader.proofs.RightPromises.{always_right}
 use Rattle.its_reader.proofs.draft.Draft.shut_com.Goals as goal
 
 pub returns-then-closes : goal.returns-then-closes

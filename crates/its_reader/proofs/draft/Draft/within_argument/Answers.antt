@@ -1,4 +1,4 @@
-use Rattle.its_reader.proofs.RightLaws.{arguing_promise}
+use Rattle.its_reader.proofs.RightPromises.{arguing_promise}
 use Rattle.its_reader.proofs.draft.Draft.within_argument.Goals as goal
 
 pub returns : goal.returns
