@@ -9,7 +9,7 @@ use Rattle.expr_text.specs.Pieces as inner
 use Rattle.expr_reader.specs.Variables.{names_in}
 use Rattle.its_text.specs.Pieces.{Piece, In, Disjoining, Strange}
 use Rattle.its_text.specs.Fronts as fronts
-use Rattle.its_text.specs.Fronts.{Front, Ruling, Headed, front_pieces}
+use Rattle.its_text.specs.Fronts.{Front, Ruling, Headed}
 use Rattle.expr_text.specs.GuardFronts.{GuardFront}
 use Rattle.its_text.specs.Steps.{step}
 use Rattle.its_text.specs.Shown.{Tokens, left_wanted, off_left, off_by}

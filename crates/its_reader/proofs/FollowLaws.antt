@@ -13,11 +13,10 @@ use Rattle.expr_text.specs.Pieces as inner
 use Rattle.expr_text.specs.Terms.{number_of}
 use Rattle.expr_text.specs.Trees.{Sum}
 use Rattle.expr_text.specs.Fronts as expression
-use Rattle.expr_text.specs.Fronts.{beginning}
 use Rattle.expr_text.specs.Steps as expression_steps
 use Rattle.expr_text.specs.Guards.{Atoms}
 use Rattle.expr_text.specs.GuardFronts as guards
-use Rattle.expr_text.specs.GuardFronts.{GuardFront, LeftSide, RightSide, no_atoms, expression_in}
+use Rattle.expr_text.specs.GuardFronts.{GuardFront, LeftSide, RightSide, expression_in}
 use Rattle.expr_text.specs.FrontNames.{goes_on_with, is_front}
 use Rattle.its_text.specs.Pieces.{Piece, In}
 use Rattle.its_text.specs.Kinds.{Kind, kind_number, Syntax, RepeatedSection, ManyTargets, LeftNotVariable, LeftRepeated, NumberTooLarge, Limit, TooManyRules, TooManyArguments, TooManyAtoms, LongName}

@@ -24,14 +24,14 @@ use Rattle.expr_reader.specs.Views.{front_of}
 use Rattle.expr_reader.specs.Standing.{IsFresh, IsModest, Stands}
 use Rattle.expr_reader.specs.GuardParts.{is_read}
 use Rattle.expr_reader.specs.GuardStanding as standing
-use Rattle.expr_reader.specs.GuardStanding.{IsEnded, IsSettled, settled_none, settled_left, settled_right, settled_end, joined_only}
+use Rattle.expr_reader.specs.GuardStanding.{IsEnded, IsSettled, settled_none, settled_left, settled_right, settled_end}
 use Rattle.expr_reader.specs.declared.guard.GuardPlace.TheVariants as guard_places
 use Rattle.expr_reader.specs.declared.guard.GuardReader.{GuardReader}
 use Rattle.expr_reader.proofs.Standing.{fresh_stands}
 use Rattle.expr_reader.proofs.Answering.{goes_on_is}
 use Rattle.its_text.specs.Pieces.{Piece, In, SquareClose}
 use Rattle.its_text.specs.Fronts as fronts
-use Rattle.its_text.specs.Fronts.{Front, Headed, ruling_with}
+use Rattle.its_text.specs.Fronts.{Front, Headed}
 use Rattle.its_text.specs.FrontNames.{headed_names}
 use Rattle.its_text.specs.Steps.{step, guarding, guard_ended, guard_named, squared, square_ended}
 use Rattle.its_text.specs.Shown as shown

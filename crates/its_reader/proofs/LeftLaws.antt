@@ -13,7 +13,7 @@ use Rattle.its_text.specs.Pieces.{Piece, In, Comma, Arrow, open_bracket}
 use Rattle.its_text.specs.Written.{BehindMark}
 use Rattle.its_text.specs.Numbering.{symbols_of, with_symbol, number_of, names_of}
 use Rattle.its_text.specs.Fronts as fronts
-use Rattle.its_text.specs.Fronts.{Front, Ruling, Led, Headed, ruling_with, section_of}
+use Rattle.its_text.specs.Fronts.{Front, Ruling, Headed, ruling_with, section_of}
 use Rattle.its_text.specs.Shown.{Tokens, other_arity}
 use Rattle.its_text.specs.Steps.{step, left_shut}
 use Rattle.its_reader.specs.Tests as tests

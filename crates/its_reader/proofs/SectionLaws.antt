@@ -9,7 +9,7 @@ use Rattle.its_text.specs.Pieces.{Piece, In, Remark}
 use Rattle.its_text.specs.Numbering.{rules_of}
 use Rattle.its_text.specs.Written.{WrittenRule, Section, Goal, Start, Variables, Comment, pieces_behind}
 use Rattle.its_text.specs.Fronts as fronts
-use Rattle.its_text.specs.Fronts.{Front, front_pieces, Ruling}
+use Rattle.its_text.specs.Fronts.{Front, front_pieces}
 use Rattle.its_text.specs.Answers.{at_index}
 use Rattle.its_text.specs.Shown.{Tokens}
 use Rattle.its_text.specs.Steps.{step}

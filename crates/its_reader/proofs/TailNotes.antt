@@ -30,7 +30,7 @@ use Rattle.its_text.specs.Fronts.{Front, Headed, rule_with}
 use Rattle.its_text.specs.FrontNames.{headed_names}
 use Rattle.its_text.specs.Steps.{guard_named}
 use Rattle.its_text.specs.Shown as shown
-use Rattle.its_text.specs.Shown.{Tokens, Found, Going, fault_if, long_name, is_word, is_open, begins, are_full, can_end, ends_expression, is_full, going_in, going_faults, is_truth, leads, token_faults, shown_next}
+use Rattle.its_text.specs.Shown.{Tokens, Going, fault_if, long_name, is_word, is_open, begins, are_full, can_end, ends_expression, is_full, going_in, is_truth, leads, token_faults, shown_next}
 use Rattle.its_reader.specs.Tests.{inner_next}
 use Rattle.its_reader.specs.Places.{TailSettled, IsGuard, IsHeaded}
 use Rattle.its_reader.specs.Noting.{IsDigital, truth_in, going_found, atom_found, atoms_full, rule_found, marked_found, ended_found, guarding_found, tail_found}

@@ -23,7 +23,7 @@ use Rattle.its_text.specs.FrontNames.{names_with, headed_names}
 use Rattle.its_text.specs.Kinds.{TooManyArguments, TooManyVariables, TooManyTokens, Kind, LeftNotVariable, LeftRepeated}
 use Rattle.its_text.specs.Kinds.{NumberTooLarge, Limit}
 use Rattle.its_text.specs.Shown as shown
-use Rattle.its_text.specs.Shown.{Found, fault_if, left_of, left_wanted, Going, going_in, going_faults, token_faults}
+use Rattle.its_text.specs.Shown.{Found, fault_if, left_of, left_wanted, Going, going_faults, token_faults}
 use Rattle.its_text.specs.Shown.{ends_expression, expansion_faults, argument_faults, right_side_faults, atom_faults}
 use Rattle.its_text.specs.Shown.{ended_faults, shown_last, shown_next}
 use Rattle.its_text.proofs.KeptFronts.{IsLeftQuiet, IsGoingQuiet, IsGoingSmall, IsArgumentExpanded, IsRightExpanded}
