@@ -4,6 +4,7 @@ ghost use Rattle.std.specs.Prelude.{◌≡◌, ◌-◌, Some, None, IfOk};
 ghost use Rattle.its_model.specs.Valid.{IsValid};
 ghost use Rattle.its_model.specs.Views.{program_of};
 ghost use Rattle.its_text.specs.Answers.{verdict};
+ghost use Rattle.its_text.specs.Verdicts.{IsOnlyVerdict};
 ghost use Rattle.its_reader.specs.Faults.{fault_of, maybe_fault, Says};
 ghost use Rattle.its_reader.specs.Views.{piece_of as plain_of, maybe_of, token_of};
 ghost use Rattle.its_reader.specs.Turning.{Judges, Advances, Turns, Closes, turn_of, turned, behind_token};
@@ -206,6 +207,7 @@ impl<'a> Draft<'a> {
 /// is said of the text then.
 pub fn read(alloc: Global, bytes: &[u8]) -> Result<Program, ReadError>
     ensures says { Says (verdict bytes.now) result }
+    ensures only { IsOnlyVerdict bytes.now (verdict bytes.now) }
     ensures valid { IfOk result (λ program. IsValid (program_of program)) }
 {
     read_tokens(alloc, bytes)

@@ -1,5 +1,5 @@
--- The verdict on a text is right, since the reader's answer is.
-use Rattle.std.proofs.Common.{◌≡◌, ℕ, List, length, Option, Some, None, refl, ap, subst, ◌∙◌, inl, inr}
+-- The verdict on a text is the only right one, since the reader's answer is.
+use Rattle.std.proofs.Common.{◌≡◌, ℕ, List, length, Option, Some, None, refl, ap, sym, subst, ◌∙◌, inl, inr}
 use Rattle.std.specs.Prelude.{◌⊎◌}
 use Rattle.model.specs.Programs.{Name, Program}
 use Rattle.text_core.specs.Tokens.{Token}
@@ -14,8 +14,8 @@ use Rattle.its_text.specs.Numbering.{start_of, rules_of, first_leaving, program_
 use Rattle.its_text.specs.Grammar.{programs}
 use Rattle.its_text.specs.Answers.{start_index, at_maybe, program_or, whole, judged, verdict}
 use Rattle.its_text.specs.Spelling.{Spells}
-use Rattle.its_text.specs.Verdicts.{IsFaultless, IsVerdict, VerdictsAreRight}
-use Rattle.its_text.proofs.ReaderLaws.{answers_all_texts}
+use Rattle.its_text.specs.Verdicts.{IsFaultless, IsVerdict, IsOnlyVerdict, VerdictsAreRight}
+use Rattle.its_text.proofs.ReaderLaws.{answers_all_texts, one_first_fault}
 
 -- sections against which nothing stands are a program, or lack a part
 module _ (bytes : List ℕ) (written : List Section) (stands : IsFaultless bytes written) where
@@ -57,8 +57,29 @@ spelled_judged bytes p s (Stands written) h =
     let same : s.written ≡ written = h.only s.written s.text in
     inl (whole_numbered (length bytes) (tokens_of bytes) written p (start_of written) (rules_of written) (subst (λ w. program_numbered w ≡ Some p) same s.numbered))
 
+-- a right verdict is what the right answer of the reader comes to
+only_judged : (bytes : List ℕ) (b : Answer Program Kind) (a : Answer (List Section) Kind) → Answers programs (length bytes) (tokens_of bytes) a → IsVerdict bytes b → b ≡ judged (length bytes) (tokens_of bytes) a
+only_judged bytes (Stands p) (Stands written) h t =
+    sym (whole_numbered (length bytes) (tokens_of bytes) written p (start_of written) (rules_of written) (subst (λ w. program_numbered w ≡ Some p) (h.only t.written t.stands.text) t.numbered))
+only_judged bytes (Stands p) (Refused y) h t = absurd (t.stands.faultless y h.is)
+only_judged bytes (Refused x) (Stands written) h (inl first) = absurd (h.faultless x first.is)
+only_judged bytes (Refused x) (Stands written) h (inr l) =
+    sym (subst (λ w. whole (length bytes) (tokens_of bytes) w (start_of w) (rules_of w) ≡ Refused x) (h.only l.written l.stands.text) l.lacks)
+only_judged bytes (Refused x) (Refused y) h (inl first) = ap Refused (one_first_fault.each (length bytes) (tokens_of bytes) x y first h)
+only_judged bytes (Refused x) (Refused y) h (inr l) = absurd (l.stands.faultless y h.is)
+
+-- a right verdict is the verdict
+verdict_only : (bytes : List ℕ) (b : Answer Program Kind) → IsVerdict bytes b → b ≡ verdict bytes
+verdict_only bytes b right = only_judged bytes b (answer programs (length bytes) (tokens_of bytes)) (answers_all_texts.each (length bytes) (tokens_of bytes)) right
+
+-- so the verdict is the only right one
+pub only_verdict : (bytes : List ℕ) → IsOnlyVerdict bytes (verdict bytes)
+only_verdict bytes = record { right = verdict_right bytes; only = verdict_only bytes }
+
+-- as a law
 pub verdicts_are_right : VerdictsAreRight
 verdicts_are_right = record {
   each = verdict_right;
+  only = verdict_only;
   spelled = λ bytes p s. spelled_judged bytes p s (answer programs (length bytes) (tokens_of bytes)) (answers_all_texts.each (length bytes) (tokens_of bytes));
 }

@@ -35,12 +35,19 @@ abbrev pub IsVerdict : List ℕ → Answer Program Kind → Type 0
 IsVerdict bytes (Stands p) = IsTextOf bytes p
 IsVerdict bytes (Refused x) = IsFirst programs (length bytes) (tokens_of bytes) x ⊎ LacksPart bytes x
 
--- the verdict on each text is right, and a text that spells a program is read as that one or has a first fault
+-- the verdict on each text is right and no other one is, and a text that spells a program is read as that one or has a
+-- first fault
 pub record VerdictsAreRight : Type 0 where
   pub each : (bytes : List ℕ) → IsVerdict bytes (verdict bytes)
+  pub only : (bytes : List ℕ) (a : Answer Program Kind) → IsVerdict bytes a → a ≡ verdict bytes
   pub spelled : (bytes : List ℕ) (p : Program) → Spells bytes p
       → (verdict bytes ≡ Stands p) ⊎ ((x : Fault Kind) × IsFirst programs (length bytes) (tokens_of bytes) x
       × (verdict bytes ≡ Refused x))
+
+-- a verdict is right, and no other one is
+pub record IsOnlyVerdict (bytes : List ℕ) (a : Answer Program Kind) : Type 0 where
+  pub right : IsVerdict bytes a
+  pub only : (b : Answer Program Kind) → IsVerdict bytes b → b ≡ a
 
 -- a text is read as a program exactly where it spells that one within the limits
 pub record VerdictsAreSpelled : Type 0 where

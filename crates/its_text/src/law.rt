@@ -40,8 +40,8 @@ pub fn worked_limits_hold()
 {}
 
 /// The verdict on a text is the program by numbers of the sections that it writes, where nothing stands against it, or
-/// its first fault, or what is lacking where nothing else stands. A text that spells a program is read as that one, or
-/// has a first fault.
+/// its first fault, or what is lacking where nothing else stands; no other verdict is right. A text that spells a
+/// program is read as that one, or has a first fault.
 pub fn verdicts_are_right()
     ensures { VerdictsAreRight }
 {}
