@@ -2,6 +2,9 @@ pub mod Elements
 pub mod Painting
 pub mod Filling
 pub mod Routes
+pub mod SharedLeaders
+pub mod NamedParts
+pub mod SameSets
 pub mod TakingClasses
 pub mod Naming
 pub mod Sorting
@@ -26,3 +29,4 @@ mod ListedNodes
 mod WorkedLoop
 mod WorkedBackward
 mod WorkedComponents
+mod WorkedParts

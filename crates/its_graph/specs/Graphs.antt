@@ -1,9 +1,12 @@
 -- The graph of a program, as the code keeps it.
-use Rattle.std.specs.Prelude.{◌≡◌, ℕ, ◌<◌, ◌≤◌, ◌^◌, List, length, map, All, Bool, not, eqb, slice_index_or, false}
+use Rattle.std.specs.Prelude.{◌≡◌, ◌↔◌, ℕ, ◌<◌, ◌≤◌, ◌^◌, List, length, map, All, Bool, not, eqb, slice_index_or, true, false}
+use Rattle.std.specs.Prelude.{Option, Some, None}
 use Rattle.std.specs.List.{list_any}
 use Rattle.model.specs.Programs.{Program, Rule}
+use Rattle.model.specs.Paths.{HasEdge, IsInSet, source_of, target_of}
 use Rattle.its_model.specs.Valid.{IsValid}
 use Rattle.its_graph.specs.declared.graph.Graph.{Graph}
+use Rattle.its_graph.specs.Components.{IsMutual}
 use Rattle.its_graph.specs.Groups.{values_in, values_of}
 use Rattle.its_graph.specs.Links.{ends_of, arrivals}
 
@@ -36,3 +39,27 @@ none_of cut t = not (list_any (eqb t) cut)
 -- the rules whose flag is set
 abbrev pub flagged : List Bool → ℕ → Bool
 flagged flags t = slice_index_or flags t false
+
+-- rule t leads from and to the component, along allowed rules, whose least symbol is m
+pub record StaysIn (p : Program) (is_allowed : ℕ → Bool) (t m : ℕ) : Type 0 where
+  pub source : ℕ
+  pub leaves : source_of p t ≡ Some source
+  pub target : ℕ
+  pub leads : target_of p t ≡ Some target
+  pub source_there : IsMutual (HasEdge p is_allowed) source m
+  pub target_there : IsMutual (HasEdge p is_allowed) target m
+  pub least : (b : ℕ) → IsMutual (HasEdge p is_allowed) m b → m ≤ b
+
+-- each rule has the name of the component that it stays in, its least symbol, and has none where it stays in none
+abbrev pub ArePartsOf : Program → (ℕ → Bool) → List (Option ℕ) → Type 0
+ArePartsOf p is_untimed parts = (t m : ℕ) → (slice_index_or parts t None ≡ Some m) ↔ StaysIn p is_untimed t m
+
+-- the names of parts are below a number
+abbrev pub ArePartsBelow : ℕ → List (Option ℕ) → Type 0
+ArePartsBelow n parts = (t m : ℕ) → slice_index_or parts t None ≡ Some m → m < n
+
+-- untimed rules of one part have the same set
+abbrev pub HaveSameSets : Program → (ℕ → Bool) → List (Option ℕ) → Type 0
+HaveSameSets p is_untimed parts = (t u m : ℕ) → is_untimed t ≡ true → is_untimed u ≡ true
+    → slice_index_or parts t None ≡ Some m → slice_index_or parts u None ≡ Some m
+    → (e : ℕ) → IsInSet p is_untimed t e → IsInSet p is_untimed u e

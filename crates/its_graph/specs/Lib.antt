@@ -12,3 +12,4 @@ pub mod Members
 pub mod Links
 pub mod Numbers
 pub mod Graphs
+pub mod WorkedParts

@@ -1,6 +1,6 @@
 -- The links between symbols.
 use Rattle.std.specs.Prelude.{ℕ, suc, ◌<◌, List, [], ◌∷◌, ◌++◌, All, Bool, false, if◌then◌else◌, ◌==◌, ◌&&◌, ◌||◌}
-use Rattle.std.specs.Prelude.{slice_index_or, slice_set}
+use Rattle.std.specs.Prelude.{Option, Some, None, slice_index, slice_index_or, slice_set}
 use Rattle.model.specs.Programs as plain
 use Rattle.its_model.specs.declared.program.Rule.{Rule}
 use Rattle.its_model.specs.Views.{rule_of}
@@ -46,3 +46,8 @@ abbrev pub members_from : List Bool → List Bool → ℕ → ℕ → List (ℕ 
 members_from untimed seen rule t [] = []
 members_from untimed seen rule t (l ∷ links) = (if is_member untimed seen rule t l then t ∷ [] else [])
     ++ members_from untimed seen rule (suc t) links
+
+-- the leader of both ends of a link, where they have the same
+abbrev pub shared_leader : List ℕ → ℕ × ℕ → Option ℕ
+shared_leader leaders link = if slice_index leaders link.0 == slice_index leaders link.1
+    then Some (slice_index leaders link.0) else None

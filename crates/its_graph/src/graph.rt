@@ -1,19 +1,20 @@
 // The graph of a program, made once for many questions.
 
 ghost use Rattle.std.specs.Prelude.{◌≡◌, ◌↔◌, ℕ, ◌+◌, ◌<◌, ◌≤◌, ◌^◌, length, map, All, IfOk, OnOk, slice_index_or};
-ghost use Rattle.std.specs.Prelude.{true, false, replicate, ◌==◌, ◌&&◌, ◌||◌, if◌then◌else◌, ◌++◌, ◌∷◌, []};
+ghost use Rattle.std.specs.Prelude.{None, true, false, replicate, ◌==◌, ◌&&◌, ◌||◌, if◌then◌else◌, ◌++◌, ◌∷◌, []};
 ghost use Rattle.std.specs.List.{Contains};
 ghost use Rattle.std.specs.List.Sorted.{IsStrictlyIncreasing};
 ghost use Rattle.model.specs.Programs.{Program as PlainProgram};
 ghost use Rattle.model.specs.Paths.{Path, IsReached, IsInSet, pre};
 ghost use Rattle.its_model.specs.Views.{program_of};
 ghost use Rattle.its_graph.specs.Groups.{values_in, Joins};
-ghost use Rattle.its_graph.specs.Links.{arrivals, members_from};
-ghost use Rattle.its_graph.specs.Graphs.{IsGraphOf, none_of, flagged};
+ghost use Rattle.its_graph.specs.Links.{arrivals, members_from, shared_leader};
+ghost use Rattle.its_graph.specs.Graphs.{IsGraphOf, none_of, flagged, ArePartsBelow, ArePartsOf, HaveSameSets};
 
 use crate::Memory;
 use crate::flood::{KNOWN, UNKNOWN, fill};
-use crate::links::{allowed_links, links_in, symbol_limit, uncut};
+use crate::links::{allowed_links, link_limit, links_in, symbol_limit, uncut};
+use crate::listing::leaders_in;
 use crate::pairs::{grouped, swapped};
 use its_model::Program;
 use std::alloc::{AllocError, Global};
@@ -96,6 +97,25 @@ impl Graph {
         let (source, _) = self.links[rule as usize - 1];
         let seen = flooded(alloc, &previous, source)?;
         members(alloc, &self.links, untimed, &seen, rule)
+    }
+
+    /// For each rule, by its number, the strongly connected component of the graph of the untimed rules that it leads
+    /// from and to, named by its least symbol; there is none where it leads from one to another, nor for the virtual
+    /// entry, 0. The untimed rules of a component have the same set. The time is near-linear in symbols and rules.
+    pub fn parts(&self, alloc: Global, untimed: &[bool]) -> Result<Vec<Option<u32>>, Memory>
+        requires graph { (p : PlainProgram) × IsGraphOf self.now p }
+        requires flags { length untimed.now ≡ length self.now.links.items + 1 }
+        ensures one_each { IfOk result (λ parts. length parts.items ≡ length untimed.now) }
+        ensures within { IfOk result (λ parts. ArePartsBelow self.now.symbols parts.items) }
+        ensures named { IfOk result (λ parts. (p : PlainProgram) → IsGraphOf self.now p
+            → ArePartsOf p (flagged untimed.now) parts.items) }
+        ensures sets { IfOk result (λ parts. (p : PlainProgram) → IsGraphOf self.now p
+            → HaveSameSets p (flagged untimed.now) parts.items) }
+    {
+        let links = allowed_links(alloc, &self.links, untimed)?;
+        let leaders = leaders_in(alloc, link_limit(&self.links), &links)?;
+        let parts = shared_leaders(alloc, &self.links, &leaders)?;
+        Ok(parts)
     }
 }
 
@@ -183,4 +203,33 @@ fn push_member(found: &mut Vec<u32>, number: u32, is_member: bool) -> Result<(),
         found.push(number)?;
     }
     Ok(())
+}
+
+// For each link the leader of both its ends, where they have the same, and before it none for the virtual entry.
+fn shared_leaders(
+    alloc: Global,
+    links: &[(u32, u32)],
+    leaders: &[u32],
+) -> Result<Vec<Option<u32>>, AllocError>
+    requires { All (λ e. (e.0 < length leaders.now) × (e.1 < length leaders.now)) links.now }
+    ensures { IfOk result (λ parts. parts.items ≡ None ∷ map (shared_leader leaders.now) links.now) }
+{
+    let mut parts = Vec::new(alloc);
+    parts.push(None)?;
+    for link in links {
+        parts.push(leader_of_both(leaders, *link))?;
+    }
+    Ok(parts)
+}
+
+// The leader of both ends of a link, where they have the same.
+fn leader_of_both(leaders: &[u32], link: (u32, u32)) -> Option<u32>
+    requires from { link.0 < length leaders.now }
+    requires to { link.1 < length leaders.now }
+    ensures { result ≡ shared_leader leaders.now link }
+{
+    let (from, to) = link;
+    let leader = leaders[from as usize];
+    let is_same = leader == leaders[to as usize];
+    if is_same { Some(leader) } else { None }
 }

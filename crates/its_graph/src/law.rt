@@ -6,6 +6,7 @@ ghost use Rattle.its_graph.specs.Components.{ListingsAreUnique};
 ghost use Rattle.its_graph.specs.Cycles.{CyclesAreInnerLinks};
 ghost use Rattle.its_graph.specs.Graphs.{ValidHaveSymbols};
 ghost use Rattle.its_graph.specs.WorkedComponents.{ComponentsAreWorkedOut};
+ghost use Rattle.its_graph.specs.WorkedParts.{PartsAreWorkedOut};
 
 /// The law that in each run of a program without a cycle every rule occurs at most once, and that the run has at most
 /// as many steps as there are rules. It has no code: its contract is the law.
@@ -32,4 +33,9 @@ pub fn listings_are_unique()
 /// both sides.
 pub fn components_are_as_worked_out()
     ensures { ComponentsAreWorkedOut }
+{}
+
+/// Which rules may be in one part, since they have the same set, is what was worked out by hand, on both sides.
+pub fn parts_are_as_worked_out()
+    ensures { PartsAreWorkedOut }
 {}

@@ -1,6 +1,6 @@
 // The links between symbols: one for each rule, from its source to its target.
 
-ghost use Rattle.std.specs.Prelude.{◌≡◌, ℕ, ◌<◌, ◌≤◌, ◌^◌, map, length, IfOk, OnOk, ◌++◌, ◌∷◌, [], if◌then◌else◌};
+ghost use Rattle.std.specs.Prelude.{◌≡◌, ℕ, ◌<◌, ◌≤◌, ◌^◌, map, length, All, IfOk, OnOk, ◌++◌, ◌∷◌, [], if◌then◌else◌};
 ghost use Rattle.std.specs.Prelude.{replicate, suc, true, false};
 ghost use Rattle.its_graph.specs.Links.{link_of, LeadBelow, kept_links, all_cut};
 
@@ -29,6 +29,19 @@ pub(crate) fn symbol_limit(rules: &[Rule]) -> usize
         limit = limit
             .max(rule.source as usize + 1)
             .max(rule.target as usize + 1);
+    }
+    limit
+}
+
+/// A number above both ends of each link.
+pub(crate) fn link_limit(links: &[(u32, u32)]) -> usize
+    ensures below { All (λ e. (e.0 < result) × (e.1 < result)) links.now }
+    ensures few { result ≤ 2 ^ 32 }
+    ensures least { (n : ℕ) → All (λ e. (e.0 < n) × (e.1 < n)) links.now → result ≤ n }
+{
+    let mut limit = 0usize;
+    for (from, to) in links {
+        limit = limit.max(*from as usize + 1).max(*to as usize + 1);
     }
     limit
 }

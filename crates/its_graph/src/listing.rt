@@ -39,8 +39,12 @@ pub(crate) fn components_below(
     members_of(alloc, &leaders, &order)
 }
 
-// The least node of each node's component.
-fn leaders_in(alloc: Global, nodes: usize, edges: &[(u32, u32)]) -> Result<Vec<u32>, AllocError>
+/// The least node of each node's component.
+pub(crate) fn leaders_in(
+    alloc: Global,
+    nodes: usize,
+    edges: &[(u32, u32)],
+) -> Result<Vec<u32>, AllocError>
     requires few { nodes ≤ 2 ^ 32 }
     requires within { All (λ e. (e.0 < nodes) × (e.1 < nodes)) edges.now }
     ensures { IfOk result (λ leaders. AreLeaders (IsPair edges.now) nodes leaders.items) }
