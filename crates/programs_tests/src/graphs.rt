@@ -1,5 +1,5 @@
-//! The graph of a program: cycles, what can come just before a rule, what is reached, and sets of untimed rules, worked
-//! out by hand.
+//! The graph of a program: cycles, what can come just before a rule, what is reached, and the sets and components of
+//! untimed rules, worked out by hand.
 
 use crate::trying::symbol;
 use crate::wrong::note_unless;
@@ -100,6 +100,24 @@ pub(crate) fn set(
     String::from_str(alloc, "no flags")
 }
 
+// The name of the component that each rule stays in, and a dash for none, where the flags are those of a graph.
+fn parts(alloc: Global, edges: &[(u32, u32)], untimed: &[bool]) -> Result<String, AllocError> {
+    let mut text = String::new(alloc);
+    let p = program(alloc, nodes_of(edges), edges)?;
+    if p.rules.len() < 1 << 32 {
+        let graph = Graph::new(alloc, &p)?;
+        if untimed.len() == graph.links.len() + 1 {
+            for part in &graph.parts(alloc, untimed)? {
+                match part {
+                    Some(name) => push_number(alloc, &mut text, *name)?,
+                    None => text.push_str(" -")?,
+                }
+            }
+        }
+    }
+    Ok(text)
+}
+
 /// Which of so many symbols are reached, a 1 or a 0 for each.
 pub(crate) fn reached(
     alloc: Global,
@@ -179,6 +197,28 @@ fn check_sets(alloc: Global, wrong: &mut String) -> Result<(), AllocError> {
     Ok(())
 }
 
+// Edges, which rules are untimed, and the component that the virtual entry and each rule stays in.
+const PARTS: &[(&[(u32, u32)], &[bool], &str)] = &[
+    (NESTED, &[false, true, true, true, true], " - - 1 1 1"),
+    (NESTED, &[false, true, true, false, true], " - - 1 1 1"),
+    (NESTED, &[false, false, false, true, true], " - - - 2 -"),
+    (NESTED, &[false, true, true, true, false], " - - - 2 -"),
+    (
+        &[(0, 1), (1, 0), (2, 1)],
+        &[false, true, true, true],
+        " - 0 0 -",
+    ),
+    (&[], &[false], " -"),
+];
+
+fn check_parts(alloc: Global, wrong: &mut String) -> Result<(), AllocError> {
+    for (i, (edges, untimed, want)) in PARTS.iter().enumerate() {
+        let found = parts(alloc, edges, untimed)?;
+        note_unless(alloc, wrong, found.as_str() == *want, "part", i)?;
+    }
+    Ok(())
+}
+
 // Edges, the rules that are cut, and which symbols are reached.
 const REACHED: &[(&[(u32, u32)], &[u32], &str)] = &[
     (&[], &[], "1"),
@@ -205,5 +245,6 @@ pub(crate) fn check(alloc: Global, wrong: &mut String) -> Result<(), AllocError>
     check_cycles(alloc, wrong)?;
     check_before(alloc, wrong)?;
     check_sets(alloc, wrong)?;
+    check_parts(alloc, wrong)?;
     check_reached(alloc, wrong)
 }
