@@ -12,4 +12,5 @@ pub mod Laws
 pub mod Operands
 pub mod Scaling
 pub mod Merging
+pub mod Totals
 pub mod WorkedForms
