@@ -13,4 +13,5 @@ pub mod RowLaws
 pub mod AnswerLaws
 mod Weights
 pub mod VariableLaws
+pub mod TotalLaws
 mod WorkedForms

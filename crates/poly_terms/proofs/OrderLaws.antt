@@ -59,7 +59,7 @@ before-without_zeros vs (m ∷ ms) h = go (is_zero m.coef) (before-without_zeros
     go true ih = ih
     go false ih = (h.0, ih)
 
-ascending-without_zeros : (ms : Polynomial) → IsAscending ms → IsAscending (without_zeros ms)
+pub ascending-without_zeros : (ms : Polynomial) → IsAscending ms → IsAscending (without_zeros ms)
 ascending-without_zeros [] h = h
 ascending-without_zeros (m ∷ ms) h = go (is_zero m.coef) (ascending-without_zeros ms h.1)
   where
@@ -77,7 +77,7 @@ isnt_zero (pos zero) h = λ e. cc
 isnt_zero (pos (suc n)) h = λ e. omega (arith, ints, e)
 isnt_zero (negsuc n) h = λ e. cc
 
-nonzero-without_zeros : (ms : Polynomial) → HasNoZero (without_zeros ms)
+pub nonzero-without_zeros : (ms : Polynomial) → HasNoZero (without_zeros ms)
 nonzero-without_zeros [] = tt
 nonzero-without_zeros (m ∷ ms) = go (is_zero m.coef) refl (nonzero-without_zeros ms)
   where
