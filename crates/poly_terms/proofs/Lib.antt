@@ -14,4 +14,5 @@ pub mod AnswerLaws
 mod Weights
 pub mod VariableLaws
 pub mod TotalLaws
+pub mod FormLaws
 mod WorkedForms
