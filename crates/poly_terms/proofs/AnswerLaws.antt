@@ -7,8 +7,8 @@ use Rattle.poly_terms.specs.declared.poly.Poly.{Poly}
 use Rattle.poly_terms.specs.declared.poly_error.PolyError.{PolyError}
 use Rattle.poly_terms.specs.Expanding.{opposite, expanded, power_of}
 use Rattle.model.specs.Limits.{coefficient_limit}
-use Rattle.poly_terms.specs.Faults.{Fault, exponent_of, fault_of, subexpressions, or_else, first_among, first_fault}
-use Rattle.poly_terms.specs.Powers.{faults_of_powers}
+use Rattle.poly_terms.specs.Faults.{Fault, fault_in, exponent_of, fault_of, subexpressions, or_else, first_among, first_fault}
+use Rattle.poly_terms.specs.Powers.{faults_of_powers, IsPowerWithout}
 use Rattle.poly_terms.specs.Ordered.{IsBounded, IsSmall}
 use Rattle.poly_terms.specs.Answers.{Says, Answers}
 use Rattle.poly_terms.proofs.FaultLaws.{first-one, first-two, first-power, says-first, small-from_none, last-none}
@@ -100,3 +100,9 @@ pub power-answers : (r : Result Poly PolyError) (e : Term) (n : ℕ) → first_f
     → Answers r (first_fault (Exponentiation e n)) (power_of (expanded e) n)
 power-answers r e n h a =
     subst (λ (f : Option Fault). Answers r f (power_of (expanded e) n)) (sym (first-power e n ∙ ap (λ (f : Option Fault). or_else f (faults_of_powers (expanded e) n)) h)) a
+
+-- what is answered of a power below which no other has a fault is answered of it and the lower ones
+pub last-answers : (r : Result Poly PolyError) (p q : Polynomial) (n : ℕ) → IsPowerWithout p n q → Answers r (fault_in q n) q
+    → Answers r (faults_of_powers p n) (power_of p n)
+last-answers r p q n h a =
+    subst (λ (f : Option Fault). Answers r f (power_of p n)) (sym h.faults) (subst (λ (s : Polynomial). Answers r (fault_in q n) s) h.power a)

@@ -15,4 +15,7 @@ mod Weights
 pub mod VariableLaws
 pub mod TotalLaws
 pub mod FormLaws
+mod FactorLaws
+mod KeyLaws
+mod UnpackingLaws
 mod WorkedForms

@@ -86,7 +86,7 @@ nonzero-without_zeros (m ∷ ms) = go (is_zero m.coef) refl (nonzero-without_zer
     go false e ih = (isnt_zero m.coef e, ih)
 
 -- a variable more at its position keeps the order
-from-less : (n k : ℕ) (vs : List ℕ) → n ≤ k → AreFrom k vs → AreFrom n vs
+pub from-less : (n k : ℕ) (vs : List ℕ) → n ≤ k → AreFrom k vs → AreFrom n vs
 from-less n k [] l h = h
 from-less n k (v ∷ vs) l h = (omega (arith, h.0), from-less n k vs l h.1)
 

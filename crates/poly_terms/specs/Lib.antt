@@ -14,3 +14,4 @@ pub mod Scaling
 pub mod Merging
 pub mod Totals
 pub mod WorkedForms
+pub mod Keys

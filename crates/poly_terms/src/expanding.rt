@@ -13,6 +13,7 @@ ghost use Rattle.poly_terms.specs.Operands.{GivesBoth};
 
 use crate::Memory;
 use crate::expr::Expr;
+use crate::key_power::power_by_keys;
 use crate::limits::limited;
 use crate::nonzero::push_nonzero;
 use crate::poly::{Monomial, Poly};
@@ -166,7 +167,19 @@ fn power(alloc: Global, p: Poly, exponent: u32) -> Result<Poly, PolyError>
     if exponent == 1 {
         limited(p, 1)
     } else {
-        product_of_factors(alloc, &p, exponent)
+        power_in_steps(alloc, &p, exponent)
+    }
+}
+
+// A power, or the first fault among it and the lower powers.
+fn power_in_steps(alloc: Global, p: &Poly, exponent: u32) -> Result<Poly, PolyError>
+    requires { IsSmall (poly_of p.now) }
+    ensures { Answers result (faults_of_powers (poly_of p.now) exponent) (power_of (poly_of p.now) exponent) }
+{
+    match power_by_keys(alloc, p, exponent) {
+        Ok(Some(whole)) => limited(whole, exponent),
+        Ok(None) => product_of_factors(alloc, p, exponent),
+        Err(_) => Err(PolyError::Memory),
     }
 }
 

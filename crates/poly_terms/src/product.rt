@@ -13,6 +13,7 @@ ghost use Rattle.poly_terms.specs.Answers.{Answers, GivesNarrow};
 
 use crate::Memory;
 use crate::factors::joined;
+use crate::key_product::product_by_keys;
 use crate::limits::limited;
 use crate::nonzero::push_nonzero;
 use crate::poly::{Monomial, Poly};
@@ -40,7 +41,7 @@ pub(crate) fn limited_product(alloc: Global, p: Poly, q: Poly) -> Result<Poly, P
     }
 }
 
-/// The product monomial by monomial, or its least fault where it stands for a power with this exponent.
+/// The product by packed exponents or monomial by monomial, or its least fault where it stands for a power with this exponent.
 pub(crate) fn multiplied_out(
     alloc: Global,
     p: &Poly,
@@ -52,9 +53,13 @@ pub(crate) fn multiplied_out(
     ensures { let whole = product_of (poly_of p.now) (poly_of q.now) in
         Answers result (fault_in whole exponent) whole }
 {
-    match product(alloc, p, q) {
-        Ok(whole) => limited(whole, exponent),
-        Err(error) => Err(error),
+    match product_by_keys(alloc, p, q) {
+        Ok(Some(whole)) => limited(whole, exponent),
+        Ok(None) => match product(alloc, p, q) {
+            Ok(whole) => limited(whole, exponent),
+            Err(error) => Err(error),
+        },
+        Err(_) => Err(PolyError::Memory),
     }
 }
 

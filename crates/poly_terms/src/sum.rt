@@ -67,8 +67,8 @@ fn sum_by_insertion(p: Poly, q: Poly) -> Result<Poly, Memory>
     })
 }
 
-// Adds a monomial.
-fn add(terms: &mut Vec<Monomial>, m: Monomial) -> Result<(), Memory>
+/// Adds a monomial.
+pub(crate) fn add(terms: &mut Vec<Monomial>, m: Monomial) -> Result<(), Memory>
     requires ascending { IsAscending (monomials_of terms.old.items) }
     requires before { IsBounded (2 ^ 100) (monomials_of terms.old.items) }
     requires small { nat_abs m.coef ≤ 2 ^ 100 }

@@ -1,0 +1,188 @@
+-- Sums over packed monomials, whose rows of products are merged.
+use Rattle.std.proofs.Common.{◌≡◌, ℕ, ◌+◌, ◌<◌, ◌≤◌, List, [], ◌∷◌, ◌++◌, map, length, drop, get_or}
+use Rattle.std.proofs.Common.{refl, ap, sym, ◌∙◌, subst, arith, true, append_assoc}
+use Rattle.std.specs.Prelude.{ℤ, pos, ◌+ℤ◌, ◌*ℤ◌}
+use Rattle.std.proofs.lemmas.Int.{ints}
+use Rattle.std.proofs.lemmas.List.{drop_more}
+use Rattle.int_laws.proofs.RingLaws.{add-mul_ℤ, mul_comm_ℤ}
+use Rattle.model.specs.Polynomials as plain
+use Rattle.model.specs.Polynomials.{degree_of}
+use Rattle.poly_terms.specs.declared.keyed.Keyed.{Keyed}
+use Rattle.poly_terms.specs.Expanding.{products, product_of, sum_of}
+use Rattle.poly_terms.specs.Keys.{factors_at, monomials_at, ascend_from, product_at, all_products, total_at, HasSameTotals}
+use Rattle.poly_terms.specs.Totals.{total, IsSamePolynomial}
+use Rattle.poly_terms.proofs.FactorLaws.{products-at}
+use Rattle.poly_terms.proofs.TotalLaws.{same-sums}
+
+-- the totals of two lists, one after the other
+total-at-append : (h : ℕ → ℤ) (es fs : List Keyed) → total_at h (es ++ fs) ≡ total_at h es +ℤ total_at h fs
+total-at-append h [] fs = nothing _
+  where
+    nothing : (z : ℤ) → z ≡ pos 0 +ℤ z
+    nothing z = omega (arith, ints)
+total-at-append h (e ∷ es) fs = regroup _ _ _ _ (total-at-append h es fs)
+  where
+    regroup : (a b c d : ℤ) → a ≡ b +ℤ c → d +ℤ a ≡ (d +ℤ b) +ℤ c
+    regroup a b c d e = omega (arith, ints)
+
+-- the same list
+pub same-list : (es fs : List Keyed) → es ≡ fs → HasSameTotals es fs
+same-list es fs e = record { totals = λ h. ap (total_at h) e }
+
+-- one after the other
+pub same-then : (es fs gs : List Keyed) → HasSameTotals es fs → HasSameTotals fs gs → HasSameTotals es gs
+same-then es fs gs p q = record { totals = λ h. p.totals h ∙ q.totals h }
+
+-- a monomial put behind others
+pub put-behind : (ms rest : List Keyed) (f : Keyed) → HasSameTotals ((ms ++ f ∷ []) ++ rest) (f ∷ (ms ++ rest))
+put-behind ms rest f = record {
+  totals = λ h. regroup _ _ _ _ _ _ (total-at-append h (ms ++ f ∷ []) rest) (total-at-append h ms (f ∷ [])) (total-at-append h ms rest);
+}
+  where
+    regroup : (a b c d e f : ℤ) → a ≡ b +ℤ c → b ≡ d +ℤ (e +ℤ pos 0) → f ≡ d +ℤ c → a ≡ e +ℤ f
+    regroup a b c d e f p q r = omega (arith, ints, p, q, r)
+
+-- others behind both
+pub others-behind : (ns ms rest : List Keyed) (e f : Keyed) → HasSameTotals ns (f ∷ (ms ++ e ∷ []))
+    → HasSameTotals (ns ++ rest) (f ∷ (ms ++ e ∷ rest))
+others-behind ns ms rest e f p = record {
+  totals = λ h. regroup _ _ _ _ _ _ _ _ (total-at-append h ns rest) (p.totals h) (total-at-append h ms (e ∷ [])) (total-at-append h ms (e ∷ rest));
+}
+  where
+    regroup : (a b c d x y z w : ℤ) → a ≡ b +ℤ c → b ≡ d +ℤ x → x ≡ y +ℤ (z +ℤ pos 0) → w ≡ y +ℤ (z +ℤ c) → a ≡ d +ℤ w
+    regroup a b c d x y z w p q r s = omega (arith, ints, p, q, r, s)
+
+-- two monomials with the same key whose sum is 0
+pub sum-gone : (ms : List Keyed) (e f : Keyed) → e.key ≡ f.key → e.coef +ℤ f.coef ≡ pos 0 → HasSameTotals ms (f ∷ (ms ++ e ∷ []))
+sum-gone ms e f k z = record {
+  totals = λ h. regroup (total_at h ms) _ e.coef f.coef (h e.key) (h f.key) (ap h k) z (total-at-append h ms (e ∷ []));
+}
+  where
+    regroup : (a b x y v w : ℤ) → v ≡ w → x +ℤ y ≡ pos 0 → b ≡ a +ℤ ((x *ℤ v) +ℤ pos 0) → a ≡ (y *ℤ w) +ℤ b
+    regroup a b x y v w e g r = omega (arith, ints, r, add-mul_ℤ x y w, ap (λ (z : ℤ). z *ℤ w) g, ap (λ (z : ℤ). x *ℤ z) e)
+
+-- and whose sum is put behind
+pub sum-behind : (ms : List Keyed) (e f s : Keyed) → e.key ≡ f.key → s.key ≡ f.key → s.coef ≡ e.coef +ℤ f.coef
+    → HasSameTotals (ms ++ s ∷ []) (f ∷ (ms ++ e ∷ []))
+sum-behind ms e f s k l z = record {
+  totals = λ h. regroup (total_at h ms) _ _ e.coef f.coef s.coef (h e.key) (h f.key) (h s.key) (ap h k) (ap h l) z
+      (total-at-append h ms (e ∷ [])) (total-at-append h ms (s ∷ []));
+}
+  where
+    regroup : (a b c x y t u v w : ℤ) → u ≡ v → w ≡ v → t ≡ x +ℤ y → b ≡ a +ℤ ((x *ℤ u) +ℤ pos 0) → c ≡ a +ℤ ((t *ℤ w) +ℤ pos 0)
+        → c ≡ (y *ℤ v) +ℤ b
+    regroup a b c x y t u v w e f g r s =
+        omega (arith, ints, r, s, add-mul_ℤ x y v, ap (λ (z : ℤ). z *ℤ v) g, ap (λ (z : ℤ). x *ℤ z) e, ap (λ (z : ℤ). t *ℤ z) f)
+
+-- a step along a row: the next product is put in
+pub row-step : (xs ys zs rest whole : List Keyed) (f : Keyed) → ys ≡ xs → HasSameTotals zs (f ∷ ys)
+    → HasSameTotals (xs ++ f ∷ rest) whole → HasSameTotals (zs ++ rest) whole
+row-step xs ys zs rest whole f e p q = record {
+  totals = λ h. regroup _ _ _ _ _ _ _ (total-at-append h zs rest) (p.totals h) (ap (total_at h) e) (total-at-append h xs (f ∷ rest))
+      ∙ q.totals h;
+}
+  where
+    regroup : (a b c d x y w : ℤ) → a ≡ b +ℤ c → b ≡ d +ℤ x → x ≡ y → w ≡ y +ℤ (d +ℤ c) → a ≡ w
+    regroup a b c d x y w p q r s = omega (arith, ints, p, q, r, s)
+
+-- a step along the rows: the next row is merged in
+pub rows-step : (xs row zs rest whole : List Keyed) → HasSameTotals zs (xs ++ row) → HasSameTotals (xs ++ (row ++ rest)) whole
+    → HasSameTotals (zs ++ rest) whole
+rows-step xs row zs rest whole p q = record {
+  totals = λ h. total-at-append h zs rest
+      ∙ (ap (λ (z : ℤ). z +ℤ total_at h rest) (p.totals h)
+      ∙ (sym (total-at-append h (xs ++ row) rest) ∙ (ap (total_at h) (append_assoc xs row rest) ∙ q.totals h)));
+}
+
+-- what is left from i on is the one at i and the rest
+pub keyed-from : (es : List Keyed) (i : ℕ) (e : Keyed) → i < length es → e ≡ get_or es i e → drop i es ≡ e ∷ drop (i + 1) es
+keyed-from es i e l f = drop_more es i e l ∙ ap (λ (d : Keyed). d ∷ drop (i + 1) es) (sym f)
+
+-- one more is moved
+pub moved : (ms es : List Keyed) (i : ℕ) (e : Keyed) → i < length es → e ≡ get_or es i e
+    → (ms ++ e ∷ []) ++ drop (i + 1) es ≡ ms ++ drop i es
+moved ms es i e l f = append_assoc ms (e ∷ []) (drop (i + 1) es) ∙ ap (λ (us : List Keyed). ms ++ us) (sym (keyed-from es i e l f))
+
+-- one of them put together with the next product
+pub others-at : (ns ms es : List Keyed) (i : ℕ) (f d : Keyed) → i < length es → HasSameTotals ns (f ∷ (ms ++ get_or es i d ∷ []))
+    → HasSameTotals (ns ++ drop (i + 1) es) (f ∷ (ms ++ drop i es))
+others-at ns ms es i f d l p =
+    subst (λ (rest : List Keyed). HasSameTotals (ns ++ drop (i + 1) es) (f ∷ (ms ++ rest))) (sym (drop_more es i d l))
+    (others-behind ns ms (drop (i + 1) es) (get_or es i d) f p)
+
+-- a column more: one monomial more in the second list
+total-column : (h : ℕ → ℤ) (es fs : List Keyed) (f : Keyed)
+    → total_at h (all_products es (f ∷ fs)) ≡ total_at h (map (product_at f) es) +ℤ total_at h (all_products es fs)
+total-column h [] fs f = omega (arith, ints)
+total-column h (e ∷ es) fs f =
+    regroup _ _ _ _ _ _ _ _ (cell e.coef f.coef (h (e.key + f.key)) (h (f.key + e.key)) (ap h (let k : e.key + f.key ≡ f.key + e.key = omega arith in k)))
+    (total-at-append h (map (product_at e) fs) (all_products es (f ∷ fs)))
+    (total-at-append h (map (product_at e) fs) (all_products es fs)) (total-column h es fs f)
+  where
+    cell : (a b x y : ℤ) → x ≡ y → (a *ℤ b) *ℤ x ≡ (b *ℤ a) *ℤ y
+    cell a b x y e = λ i. mul_comm_ℤ a b i *ℤ e i
+
+    regroup : (a b c d x y z v : ℤ) → a ≡ b → c ≡ d +ℤ x → y ≡ d +ℤ z → x ≡ v +ℤ z → a +ℤ c ≡ (b +ℤ v) +ℤ y
+    regroup a b c d x y z v p q r s = omega (arith, ints, p, q, r, s)
+
+-- no products with nothing
+total-none : (h : ℕ → ℤ) (es : List Keyed) → total_at h (all_products es []) ≡ pos 0
+total-none h [] = refl
+total-none h (e ∷ es) = total-none h es
+
+-- the order of the factors doesn't count
+total-swapped : (h : ℕ → ℤ) (es fs : List Keyed) → total_at h (all_products es fs) ≡ total_at h (all_products fs es)
+total-swapped h es [] = total-none h es
+total-swapped h es (f ∷ fs) =
+    total-column h es fs f
+    ∙ (ap (λ (z : ℤ). total_at h (map (product_at f) es) +ℤ z) (total-swapped h es fs)
+    ∙ sym (total-at-append h (map (product_at f) es) (all_products fs es)))
+
+pub same-swapped : (es fs : List Keyed) → HasSameTotals (all_products es fs) (all_products fs es)
+same-swapped es fs = record { totals = λ h. total-swapped h es fs }
+
+-- a sum over packed monomials is one over the monomials
+total-monomials : (g : List ℕ → ℤ) (table : List ℕ) (es : List Keyed)
+    → total g (monomials_at table es) ≡ total_at (λ k. g (factors_at table k)) es
+total-monomials g table [] = refl
+total-monomials g table (e ∷ es) = ap (λ (z : ℤ). (e.coef *ℤ g (factors_at table e.key)) +ℤ z) (total-monomials g table es)
+
+-- with the same sums they are the same polynomial
+same-at : (table : List ℕ) (es fs : List Keyed) → HasSameTotals es fs → IsSamePolynomial (monomials_at table es) (monomials_at table fs)
+same-at table es fs h = record {
+  totals = λ g. total-monomials g table es ∙ (h.totals (λ k. g (factors_at table k)) ∙ sym (total-monomials g table fs));
+}
+
+-- a list with the sums of all products is the polynomial that these are
+pub same-products-at : (table : List ℕ) (es fs ks : List Keyed) → ascend_from 0 table ≡ true
+    → degree_of (monomials_at table es) + degree_of (monomials_at table fs) ≤ 15 → HasSameTotals ks (all_products es fs)
+    → IsSamePolynomial (monomials_at table ks) (products (monomials_at table es) (monomials_at table fs))
+same-products-at table es fs ks h l s =
+    subst (IsSamePolynomial (monomials_at table ks)) (products-at table es fs h l) (same-at table ks (all_products es fs) s)
+
+-- and its sum is the product
+pub product-at : (table : List ℕ) (es fs ks : List Keyed) (p q : plain.Polynomial) → monomials_at table es ≡ p → monomials_at table fs ≡ q
+    → ascend_from 0 table ≡ true → degree_of p + degree_of q ≤ 15 → HasSameTotals ks (all_products es fs)
+    → sum_of [] (monomials_at table ks) ≡ product_of p q
+product-at table es fs ks p q e f h l s =
+    same-sums (monomials_at table ks) (products (monomials_at table es) (monomials_at table fs))
+    (same-products-at table es fs ks h (omega (arith, l, ap degree_of e, ap degree_of f)) s)
+    ∙ (λ i. sum_of [] (products (e i) (f i)))
+
+-- the next product of a row is the next to be put in
+pub row-next : (xs right whole : List Keyed) (e d f : Keyed) (k : ℕ) → k < length right → f ≡ product_at e (get_or right k d)
+    → HasSameTotals (xs ++ map (product_at e) (drop k right)) whole
+    → HasSameTotals (xs ++ f ∷ map (product_at e) (drop (k + 1) right)) whole
+row-next xs right whole e d f k l is p =
+    subst (λ (g : Keyed). HasSameTotals (xs ++ g ∷ map (product_at e) (drop (k + 1) right)) whole) (sym is)
+    (subst (λ (es : List Keyed). HasSameTotals (xs ++ map (product_at e) es) whole) (drop_more right k d l) p)
+
+-- the next row is the next to be merged in
+pub rows-next : (xs ys left right zs whole : List Keyed) (d : Keyed) (k : ℕ) → k < length left → ys ≡ xs
+    → HasSameTotals zs (ys ++ map (product_at (get_or left k d)) right)
+    → HasSameTotals (xs ++ all_products (drop k left) right) whole
+    → HasSameTotals (zs ++ all_products (drop (k + 1) left) right) whole
+rows-next xs ys left right zs whole d k l is p q =
+    rows-step xs (map (product_at (get_or left k d)) right) zs (all_products (drop (k + 1) left) right) whole
+    (subst (λ (us : List Keyed). HasSameTotals zs (us ++ map (product_at (get_or left k d)) right)) is p)
+    (subst (λ (es : List Keyed). HasSameTotals (xs ++ all_products es right) whole) (drop_more left k d l) q)

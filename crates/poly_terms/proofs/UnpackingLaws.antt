@@ -1,0 +1,117 @@
+-- Packed monomials added one by one, and what packed powers say of the powers.
+use Rattle.std.proofs.Common.{◌≡◌, ℕ, zero, suc, ◌+◌, ◌<◌, ◌≤◌, ◌||◌, List, [], ◌∷◌, length, drop, get_or}
+use Rattle.std.proofs.Common.{Bool, true, false, refl, ap, sym, ◌∙◌, subst, arith, nat_lt, if◌then◌else◌}
+use Rattle.std.specs.Prelude.{Option, Some, None, nat_abs, pos}
+use Rattle.std.proofs.lemmas.Bool.Decides.{nat_tests}
+use Rattle.std.proofs.lemmas.List.{drop_more, length-map}
+use Rattle.model.specs.Limits.{monomial_limit, degree_limit}
+use Rattle.model.specs.Polynomials.{Monomial, Polynomial, degree_of}
+use Rattle.poly_terms.specs.declared.keyed.Keyed.{Keyed}
+use Rattle.poly_terms.specs.Expanding.{added, all_added, sum_of, products, product_of, power_of}
+use Rattle.poly_terms.specs.Faults.{Fault, LargeCoefficient, ManyTerms, HighDegree, has_large, fault_in, or_else}
+use Rattle.poly_terms.specs.Powers.{faults_of_powers, IsPowerWithout}
+use Rattle.poly_terms.specs.Keys.{factors_at, monomial_at, monomials_at, ascend_from, norm_at, IsModest, IsPowerAt}
+use Rattle.poly_terms.specs.Totals.{norm}
+use Rattle.poly_terms.proofs.KeyLaws.{same-products-at}
+use Rattle.poly_terms.proofs.TotalLaws.{same-sums, same-from_sum, same-products}
+use Rattle.poly_terms.proofs.FormLaws.{shorter-sum_of, narrow-sum_of, degree-sum_of}
+
+-- the next packed monomial is the next to be added
+pub unpacked-next : (table : List ℕ) (es : List Keyed) (d : Keyed) (k : ℕ) (m : Monomial) (ts us whole : Polynomial) → k < length es
+    → m ≡ monomial_at table (get_or es k d) → us ≡ added m ts
+    → all_added ts (monomials_at table (drop k es)) ≡ whole → all_added us (monomials_at table (drop (k + 1) es)) ≡ whole
+unpacked-next table es d k m ts us whole l is e w =
+    ap (λ (ns : Polynomial). all_added ns (monomials_at table (drop (k + 1) es))) e
+    ∙ (ap (λ (n : Monomial). all_added (added n ts) (monomials_at table (drop (k + 1) es))) is
+    ∙ (sym (ap (λ (fs : List Keyed). all_added ts (monomials_at table fs)) (drop_more es k d l)) ∙ w))
+
+-- the key 0 has no variables
+factors-zero : (table : List ℕ) → factors_at table 0 ≡ []
+factors-zero [] = refl
+factors-zero (v ∷ vs) = factors-zero vs
+
+-- the sum of the absolute values is that of the monomials
+norm-monomials : (table : List ℕ) (es : List Keyed) → norm (monomials_at table es) ≡ norm_at es
+norm-monomials table [] = refl
+norm-monomials table (e ∷ es) = ap (λ (n : ℕ). nat_abs e.coef + n) (norm-monomials table es)
+
+-- a polynomial within the limits has no fault
+none-within : (q : Polynomial) (k : ℕ) → has_large q ≡ false → length q ≤ monomial_limit → degree_of q ≤ degree_limit → k ≤ degree_limit
+    → fault_in q k ≡ None
+none-within q k h l d e = go (has_large q) (nat_lt monomial_limit (length q)) (nat_lt degree_limit k) (nat_lt degree_limit (degree_of q)) h few low high
+  where
+    few : nat_lt monomial_limit (length q) ≡ false
+    few = grind (arith, nat_tests)
+
+    low : nat_lt degree_limit k ≡ false
+    low = grind (arith, nat_tests)
+
+    high : nat_lt degree_limit (degree_of q) ≡ false
+    high = grind (arith, nat_tests)
+
+    go : (a b c d : Bool) → a ≡ false → b ≡ false → c ≡ false → d ≡ false
+        → (if a then Some LargeCoefficient else (if b then Some ManyTerms else (if c || d then Some HighDegree else None))) ≡ None
+    go a b c d e f g h =
+        λ i. if e i then Some LargeCoefficient else (if f i then Some ManyTerms else (if g i || h i then Some HighDegree else None))
+
+-- a list that stands for a power has the power as its sum
+power-at : (table : List ℕ) (factor : List Keyed) (n : ℕ) (es : List Keyed) → ascend_from 0 table ≡ true
+    → degree_of (monomials_at table factor) ≤ degree_limit → IsPowerAt table factor n es
+    → sum_of [] (monomials_at table es) ≡ power_of (monomials_at table factor) n
+power-at table factor zero es a d h =
+    ap (λ (fs : List Keyed). sum_of [] (monomials_at table fs)) h
+    ∙ ap (λ (vs : List ℕ). sum_of [] (record { coef = pos 1; vars = vs } ∷ [])) (factors-zero table)
+power-at table factor (suc n) es a d h =
+    let p = monomials_at table factor in
+    let ms = monomials_at table h.before in
+    let lower = power-at table factor n h.before a d h.lower in
+    same-sums (monomials_at table es) (products ms p)
+    (same-products-at table h.before factor es a (omega (arith, d, h.modest.degree)) h.product)
+    ∙ multiplied-sums ms p (power_of p n) lower
+  where
+    multiplied-sums : (ms p q : Polynomial) → sum_of [] ms ≡ q → sum_of [] (products ms p) ≡ product_of q p
+    multiplied-sums ms p q e =
+        same-sums (products ms p) (products q p)
+        (same-products ms q p p (same-from_sum ms q e) (record { totals = λ g. refl }))
+
+-- the sum of a modest list has no fault
+none-modest : (table : List ℕ) (es : List Keyed) (q : Polynomial) (k : ℕ) → IsModest table es → sum_of [] (monomials_at table es) ≡ q
+    → k ≤ degree_limit → fault_in q k ≡ None
+none-modest table es q k h e l =
+    let ms = monomials_at table es in
+    subst (λ (r : Polynomial). fault_in r k ≡ None) e
+    (none-within (sum_of [] ms) k (narrow-sum_of ms (omega (arith, norm-monomials table es, h.coefficients)))
+    (omega (arith, shorter-sum_of ms, length-map es (monomial_at table), h.terms))
+    (omega (arith, degree-sum_of ms, h.degree)) l)
+
+-- the powers below one that a list stands for have no fault
+none-below : (table : List ℕ) (factor : List Keyed) (n : ℕ) (es : List Keyed) → ascend_from 0 table ≡ true
+    → degree_of (monomials_at table factor) ≤ degree_limit → n ≤ degree_limit → IsPowerAt table factor (suc n) es
+    → faults_of_powers (monomials_at table factor) n ≡ None
+none-below table factor zero es a d l h = refl
+none-below table factor (suc n) es a d l h =
+    let p = monomials_at table factor in
+    (λ i. or_else (none-below table factor n h.before a d (omega arith) h.lower i)
+    (none-modest table h.before (power_of p (suc n)) (suc n) h.modest (power-at table factor (suc n) h.before a d h.lower) l i))
+
+-- a list that stands for a power from the first on has it as its sum, and no lower one has a fault
+pub power-without : (table : List ℕ) (factor : List Keyed) (n : ℕ) (es : List Keyed) (p q : Polynomial) → ascend_from 0 table ≡ true
+    → monomials_at table factor ≡ p → degree_of p ≤ degree_limit → 1 ≤ n → n ≤ degree_limit → IsPowerAt table factor n es
+    → q ≡ sum_of [] (monomials_at table es) → IsPowerWithout p n q
+power-without table factor zero es p q a e d k l h is = absurd (omega arith)
+power-without table factor (suc n) es p q a e d k l h is =
+    subst (λ (r : Polynomial). IsPowerWithout r (suc n) q) e
+    (record {
+      power = power;
+      faults = ap (λ (f : Option Fault). or_else f (fault_in (power_of (monomials_at table factor) (suc n)) (suc n))) none
+          ∙ ap (λ (r : Polynomial). fault_in r (suc n)) (sym power);
+    })
+  where
+    low : degree_of (monomials_at table factor) ≤ degree_limit
+    low = omega (arith, d, ap degree_of e)
+
+    none : faults_of_powers (monomials_at table factor) n ≡ None
+    none = none-below table factor n es a low (omega (arith, l)) h
+
+    power : q ≡ power_of (monomials_at table factor) (suc n)
+    power = is ∙ power-at table factor (suc n) es a low h

@@ -1,0 +1,68 @@
+-- Monomials whose exponents are packed into one number, the key, and their products.
+use Rattle.std.specs.Prelude.{◌≡◌, ℕ, zero, suc, ◌≤◌, ◌+◌, ◌/◌, ◌%◌, Bool, true, false, nat_lt, if◌then◌else◌}
+use Rattle.std.specs.Prelude.{List, [], ◌∷◌, ◌++◌, map, length, replicate, ℤ, pos, ◌+ℤ◌, ◌*ℤ◌, nat_abs}
+use Rattle.model.specs.Limits.{coefficient_limit, monomial_limit}
+use Rattle.model.specs.Polynomials as plain
+use Rattle.model.specs.Polynomials.{degree_of}
+use Rattle.poly_terms.specs.declared.keyed.Keyed.{Keyed}
+
+-- the variables of a key: its digits in base 16, the last digit first, are how often each variable of the table is a
+-- factor
+abbrev pub factors_at : List ℕ → ℕ → List ℕ
+factors_at [] k = []
+factors_at (v ∷ vs) k = replicate (k % 16) v ++ factors_at vs (k / 16)
+
+-- the monomial that is packed
+abbrev pub monomial_at : List ℕ → Keyed → plain.Monomial
+monomial_at table e = record { coef = e.coef; vars = factors_at table e.key }
+
+-- the monomials that are packed
+abbrev pub monomials_at : List ℕ → List Keyed → List plain.Monomial
+monomials_at table es = map (monomial_at table) es
+
+-- the first number is at least n, and each other one is greater than the one before
+abbrev pub ascend_from : ℕ → List ℕ → Bool
+ascend_from n [] = true
+ascend_from n (v ∷ vs) = if nat_lt v n then false else ascend_from (suc v) vs
+
+-- the product of two packed monomials: the exponents are added where no digit carries
+abbrev pub product_at : Keyed → Keyed → Keyed
+product_at e f = record { key = e.key + f.key; coef = e.coef *ℤ f.coef }
+
+-- the products of each packed monomial of the first list with each of the second
+abbrev pub all_products : List Keyed → List Keyed → List Keyed
+all_products [] fs = []
+all_products (e ∷ es) fs = map (product_at e) fs ++ all_products es fs
+
+-- the sum of the coefficients of packed monomials, each times a number that stands for its key
+abbrev pub total_at : (ℕ → ℤ) → List Keyed → ℤ
+total_at h [] = pos 0
+total_at h (e ∷ es) = (e.coef *ℤ h e.key) +ℤ total_at h es
+
+-- two lists of packed monomials have the same sums, whatever number stands for each key
+pub record HasSameTotals (es fs : List Keyed) : Type 0 where
+  pub totals : (h : ℕ → ℤ) → total_at h es ≡ total_at h fs
+
+-- the sum of the absolute values of the coefficients
+abbrev pub norm_at : List Keyed → ℕ
+norm_at [] = 0
+norm_at (e ∷ es) = nat_abs e.coef + norm_at es
+
+-- a list of packed monomials has few monomials, factors and small coefficients, so that its sum is without a fault and
+-- may be multiplied by a polynomial of degree 8
+pub record IsModest (table : List ℕ) (es : List Keyed) : Type 0 where
+  pub terms : length es ≤ monomial_limit
+  pub coefficients : norm_at es ≤ coefficient_limit
+  pub degree : degree_of (monomials_at table es) ≤ 7
+
+-- a list stands for the product of another one, which is modest, with a factor
+pub record IsNextPower (IsLower : List Keyed → Type 0) (table : List ℕ) (factor es : List Keyed) : Type 0 where
+  pub before : List Keyed
+  pub lower : IsLower before
+  pub modest : IsModest table before
+  pub product : HasSameTotals es (all_products before factor)
+
+-- a list stands for a power of a factor, and those for the lower powers are modest
+abbrev pub IsPowerAt : List ℕ → List Keyed → ℕ → List Keyed → Type 0
+IsPowerAt table factor zero es = es ≡ record { key = 0; coef = pos 1 } ∷ []
+IsPowerAt table factor (suc n) es = IsNextPower (IsPowerAt table factor n) table factor es

@@ -1,0 +1,67 @@
+// The variables that packed exponents belong to, one for each digit of a key.
+
+ghost use Rattle.std.specs.Prelude.{◌≡◌, IfOk, true};
+ghost use Rattle.poly_terms.specs.Keys.{ascend_from};
+
+use crate::factors::position_for;
+use crate::key_error::KeyError;
+use crate::poly::Monomial;
+use std::alloc::Global;
+
+/// The most variables of a table: the digits of a key.
+const VARIABLE_LIMIT: usize = 32;
+
+/// The variables of two polynomials, in ascending order.
+pub(crate) fn table_of(
+    alloc: Global,
+    left: &[Monomial],
+    right: &[Monomial],
+) -> Result<Vec<u32>, KeyError>
+    ensures { IfOk result (λ table. ascend_from 0 table.items ≡ true) }
+{
+    let mut table = Vec::new(alloc);
+    add_variables(&mut table, left)?;
+    add_variables(&mut table, right)?;
+    if ascends(&table) {
+        Ok(table)
+    } else {
+        Err(KeyError::Unfit)
+    }
+}
+
+// Adds the variables of monomials.
+fn add_variables(table: &mut Vec<u32>, terms: &[Monomial]) -> Result<(), KeyError> {
+    for m in terms {
+        for v in &m.vars {
+            add_variable(table, *v)?;
+        }
+    }
+    Ok(())
+}
+
+// Adds a variable that isn't there.
+fn add_variable(table: &mut Vec<u32>, v: u32) -> Result<(), KeyError> {
+    let i = position_for(table, v);
+    if i < table.len() && table[i] == v {
+        return Ok(());
+    }
+    if table.len() >= VARIABLE_LIMIT {
+        return Err(KeyError::Unfit);
+    }
+    table.insert(i, v)?;
+    Ok(())
+}
+
+// Whether each variable is greater than the one before.
+fn ascends(table: &[u32]) -> bool
+    ensures { result ≡ ascend_from 0 table.now }
+{
+    let mut next = 0u64;
+    for v in table {
+        if (*v as u64) < next {
+            return false;
+        }
+        next = *v as u64 + 1;
+    }
+    true
+}
