@@ -104,6 +104,26 @@ fn sum_of_powers(alloc: Global, size: u32) -> Result<Expr, AllocError> {
     Ok(sum)
 }
 
+// The sum of 64 variables under so many unary minuses.
+fn minuses(alloc: Global, size: u32) -> Result<Expr, AllocError> {
+    let mut e = variables(alloc, 0, 64)?;
+    for _ in 0..size {
+        e = Expr::negation(alloc, e)?;
+    }
+    Ok(e)
+}
+
+// The sum of so many products of two fourth powers of a sum of three.
+fn sum_of_products(alloc: Global, size: u32) -> Result<Expr, AllocError> {
+    let mut sum = Expr::Num(0);
+    for _ in 0..size {
+        let left = Expr::power(alloc, variables(alloc, 0, 3)?, 4)?;
+        let right = Expr::power(alloc, variables(alloc, 0, 3)?, 4)?;
+        sum = Expr::sum(alloc, sum, Expr::product(alloc, left, right)?)?;
+    }
+    Ok(sum)
+}
+
 // An expression of a shape and a size.
 fn shaped(alloc: Global, shape: u32, size: u32) -> Result<Expr, AllocError> {
     match shape {
@@ -119,7 +139,9 @@ fn shaped(alloc: Global, shape: u32, size: u32) -> Result<Expr, AllocError> {
         9 => taken_from_one(alloc, size),
         10 => pairs_behind(alloc, size),
         11 => products_before(alloc, size),
-        _ => sum_of_powers(alloc, size),
+        12 => sum_of_powers(alloc, size),
+        13 => minuses(alloc, size),
+        _ => sum_of_products(alloc, size),
     }
 }
 
