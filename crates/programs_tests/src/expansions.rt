@@ -9,8 +9,8 @@ use std::test::Fail;
 /// A polynomial as a table writes it: each monomial's coefficient with its variables.
 pub(crate) type Written = &'static [(i128, &'static [u32])];
 
-// The sum of this many variables, the first one numbered 0.
-fn variables(alloc: Global, count: u32) -> Result<Expr, AllocError> {
+/// The sum of this many variables, the first one numbered 0.
+pub(crate) fn variables(alloc: Global, count: u32) -> Result<Expr, AllocError> {
     let mut sum = Expr::Var(0);
     for i in 1..count {
         sum = Expr::sum(alloc, sum, Expr::Var(i))?;
@@ -55,6 +55,10 @@ const POLYNOMIALS: &[(&str, Written)] = &[
     ("4611686018427387903 2*1+", &[(9223372036854775807, &[])]),
     ("9223372036854775807A*9223372036854775807A*-", &[]),
     ("AB*BA*-", &[]),
+    (
+        "AB+C+AB-C+*",
+        &[(1, &[0, 0]), (2, &[0, 2]), (-1, &[1, 1]), (1, &[2, 2])],
+    ),
 ];
 
 fn check_polynomials(alloc: Global, wrong: &mut String) -> Result<(), Fail> {
@@ -109,6 +113,12 @@ const FAULTS: &[(&str, Option<PolyError>)] = &[
     ("1099511627776 9^", LARGE),
     ("100 A*9^", HIGH),
     ("300 A*9^", LARGE),
+    // The coefficients of the eighth power make 300^8 together, which is over 2^63, and each is below.
+    ("100A*100B*+100C*+8^", None),
+    ("200A*100B*+100C*+8^", LARGE),
+    // The coefficients of the square make 2^63 together, or one of them is 2^64.
+    ("3037000499A*B+3^", LARGE),
+    ("4294967296A*B+C+3^", LARGE),
     // A base before its powers, and the lower powers before the power.
     ("A9^0^", HIGH),
     ("9223372036854775808 0^", LARGE),

@@ -1,5 +1,6 @@
 //! Expansion beside a plain and slow one: the same polynomial, or the same fault, for many trees.
 
+use crate::expansions::variables;
 use crate::wrong::note_unless;
 use poly_terms::{Expr, Monomial, Poly, PolyError, expand};
 use std::alloc::{AllocError, Global};
@@ -256,9 +257,22 @@ fn check_trees(alloc: Global, wrong: &mut String) -> Result<Tally, AllocError> {
     Ok(tally)
 }
 
+// Expands products in which so many variables stand, with monomials that cancel.
+fn check_variables(alloc: Global, wrong: &mut String) -> Result<(), AllocError> {
+    for last in 30..34u32 {
+        let left = variables(alloc, last.saturating_add(1))?;
+        let right = Expr::difference(alloc, Expr::Var(last), Expr::Var(0))?;
+        let e = Expr::product(alloc, left, right)?;
+        let right = is_plain(&expand(alloc, &e), &plain(alloc, &e));
+        note_unless(alloc, wrong, right, "last variable", last as usize)?;
+    }
+    Ok(())
+}
+
 /// Notes which trees expand to something else than by a plain expansion, and whether an answer comes too rarely to tell
 /// something.
 pub(crate) fn check(alloc: Global, wrong: &mut String) -> Result<(), AllocError> {
+    check_variables(alloc, wrong)?;
     let tally = check_trees(alloc, wrong)?;
     let often = tally.whole > 200 && tally.large > 50 && tally.other > 50;
     note_unless(alloc, wrong, often, "tally", 0)
