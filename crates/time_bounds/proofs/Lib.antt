@@ -55,6 +55,10 @@ pub mod PlacedLaws
 pub mod FactWrites
 pub mod SizeSteps
 pub mod TakenAnswers
+-- answers of earlier rounds stand
+pub mod GrownBounds
+pub mod GrownChecks
+pub mod StandingAnswers
 pub mod WholeRounds
 pub mod SizeReasons
 pub mod SaidSizes

@@ -26,6 +26,7 @@ use Rattle.size_bounds.specs.declared.table.Table.{Table}
 use Rattle.size_bounds.specs.Tables.{table_of}
 use Rattle.time_bounds.specs.declared.asking.Asked.{Asked}
 use Rattle.time_bounds.specs.declared.candidates.Candidate.{Candidate}
+use Rattle.time_bounds.specs.declared.rounds.Kept.{Kept}
 use Rattle.time_bounds.specs.declared.rounds.LastRound.{LastRound}
 use Rattle.time_bounds.specs.declared.sizing.Attempt.{Attempt}
 use Rattle.time_bounds.specs.declared.sizing.Attempt.TheVariants as attempts
@@ -38,10 +39,11 @@ use Rattle.time_bounds.specs.Tries.{AreTried, after_round, after_tries, or_found
 use Rattle.time_bounds.specs.Candidates.{spots_in, AreCandidatesOf}
 use Rattle.time_bounds.specs.SizeWrites.{rows_of, count_unsized}
 use Rattle.time_bounds.specs.Attempts.{AreAttempts, is_sized, count_sized, HasPlaces, ArePlacesOf, AreSizeSteps}
-use Rattle.time_bounds.specs.RoundEnds.{missing_in, IsLastRound, IsFurther}
+use Rattle.time_bounds.specs.Standing.{HasGrown, WereAttempts}
+use Rattle.time_bounds.specs.RoundEnds.{missing_in, IsLastRound, AreKeptFor, IsFurther}
 use Rattle.time_bounds.proofs.CandidateLaws.{of_all}
 use Rattle.time_bounds.proofs.RightComponents.{components_of}
-use Rattle.time_bounds.proofs.RoundLaws.{kept}
+use Rattle.time_bounds.proofs.RoundLaws.{kept as kept_questions}
 use Rattle.time_bounds.proofs.RoundSteps.{round_of, last_of, found_some}
 use Rattle.time_bounds.proofs.SizeSteps.{same_times, same_sizes, same_table, unsized_answer}
 
@@ -167,13 +169,25 @@ new_sizes p pivots cs xs old mid new h rows steps = record {
       (sym (same_times new mid steps.times)) steps.tried);
 }
 
+-- what is kept of a round
+kept_for : (p : Program) (pivots : ℕ) (empties : List EmptyAnswer) (cs : List Candidate) (old new : Table) (tries : List Tried) (kept : Kept)
+    → length tries ≡ length p.rules → AreTried p old pivots empties 1 tries → WereAttempts p pivots (table_of new) cs kept.attempts.items
+    → kept.asked.items ≡ map kept_in tries → AreKeptFor p pivots empties cs new kept
+kept_for p pivots empties cs old new tries kept long tried were kept_are = record {
+  one_each = ap (λ (os : List (Option Asked)). length os) kept_are ∙ (length-map tries kept_in ∙ long);
+  answered =
+      subst (λ (os : List (Option Asked)). AreKept p pivots empties 1 os) (sym kept_are) (kept_questions p old pivots empties 1 tries tried);
+  attempts = were;
+}
+
 -- a round that found a time
 pub further_round : (p : Program) (pivots : ℕ) (empties : List EmptyAnswer) (cs : List Candidate) (old mid new : Table) (tries : List Tried)
-    (xs : List Attempt) (asked : List (Option Asked)) → AreEmptyAnswers p pivots empties → AreCandidatesOf p pivots cs → IsTable p old empties
+    (kept : Kept) → AreEmptyAnswers p pivots empties → AreCandidatesOf p pivots cs → IsTable p old empties
     → length tries ≡ length p.rules → AreTried p old pivots empties 1 tries → list_any is_found tries ≡ true
-    → mid.times.items ≡ after_tries old.times.items tries → mid.sizes.items ≡ old.sizes.items → AreSizeSteps p pivots mid cs xs new
-    → asked ≡ map kept_in tries → IsFurther p pivots empties old new asked
-further_round p pivots empties cs old mid new tries xs asked answers candidates table long tried found times sizes steps kept_are =
+    → mid.times.items ≡ after_tries old.times.items tries → mid.sizes.items ≡ old.sizes.items
+    → AreSizeSteps p pivots mid cs kept.attempts.items new → WereAttempts p pivots (table_of new) cs kept.attempts.items
+    → kept.asked.items ≡ map kept_in tries → IsFurther p pivots empties cs old new kept
+further_round p pivots empties cs old mid new tries kept answers candidates table long tried found times sizes steps were kept_are =
     let round = round_of p pivots empties old tries mid table answers long tried times sizes in
     let rows : rows_of mid ≡ rows_of old = ap (λ vs. map (λ row. row.items) vs) sizes in
     let fewer : missing_in new < missing_in old =
@@ -190,22 +204,22 @@ further_round p pivots empties cs old mid new tries xs asked answers candidates 
         rules =
             subst (λ (time : ℕ → Option Bound). HasNewTimes (searches_of_program p pivots) (setting_of p) (table_of old) time)
             (sym (same_times new mid steps.times)) round.next_is.times;
-        places = new_sizes p pivots cs xs old mid new candidates rows steps;
+        places = new_sizes p pivots cs kept.attempts.items old mid new candidates rows steps;
       };
       table = table_by_times p mid new empties steps.times round.table;
       places = steps.places;
-      one_each = ap (λ (os : List (Option Asked)). length os) kept_are ∙ (length-map tries kept_in ∙ long);
-      are_kept = subst (λ (os : List (Option Asked)). AreKept p pivots empties 1 os) (sym kept_are) (kept p old pivots empties 1 tries tried);
+      are_kept = kept_for p pivots empties cs old new tries kept long tried were kept_are;
       fewer = fewer;
     }
 
 -- a round that found no time, and a size
 pub sized_round : (p : Program) (pivots : ℕ) (empties : List EmptyAnswer) (cs : List Candidate) (old mid new : Table) (tries : List Tried)
-    (xs : List Attempt) (asked : List (Option Asked)) → AreEmptyAnswers p pivots empties → AreCandidatesOf p pivots cs → IsTable p old empties
-    → length tries ≡ length p.rules → AreTried p old pivots empties 1 tries → list_any is_found tries ≡ false → AreSizeSteps p pivots old cs xs mid
-    → list_any is_sized xs ≡ true → new.times.items ≡ after_tries mid.times.items tries → new.sizes.items ≡ mid.sizes.items
-    → asked ≡ map kept_in tries → IsFurther p pivots empties old new asked
-sized_round p pivots empties cs old mid new tries xs asked answers candidates table long tried none steps found times sizes kept_are =
+    (kept : Kept) → AreEmptyAnswers p pivots empties → AreCandidatesOf p pivots cs → IsTable p old empties
+    → length tries ≡ length p.rules → AreTried p old pivots empties 1 tries → list_any is_found tries ≡ false
+    → AreSizeSteps p pivots old cs kept.attempts.items mid → WereAttempts p pivots (table_of mid) cs kept.attempts.items
+    → list_any is_sized kept.attempts.items ≡ true → new.times.items ≡ after_tries mid.times.items tries → new.sizes.items ≡ mid.sizes.items
+    → kept.asked.items ≡ map kept_in tries → IsFurther p pivots empties cs old new kept
+sized_round p pivots empties cs old mid new tries kept answers candidates table long tried none steps were found times sizes kept_are =
     let still : new.times.items ≡ mid.times.items = times ∙ nothing_after mid.times.items tries none in
     let same : new.times.items ≡ old.times.items = still ∙ steps.times in
     let rows : rows_of new ≡ rows_of mid = ap (λ vs. map (λ row. row.items) vs) sizes in
@@ -213,7 +227,7 @@ sized_round p pivots empties cs old mid new tries xs asked answers candidates ta
     let fewer : missing_in new < missing_in old =
     omega (
       arith,
-      sized_some xs found,
+      sized_some kept.attempts.items found,
       steps.fewer,
       ap count_unsized rows,
       ap count_missing same,
@@ -225,12 +239,13 @@ sized_round p pivots empties cs old mid new tries xs asked answers candidates ta
             (sym (same_times new old same)) closed.times;
         places =
             subst (λ (t : nodes.Table). HasNewSizes (searches_of_program p pivots) (sizes_of_program p pivots) (setting_of p) (table_of old) t)
-            (sym (same_table new mid still rows)) (new_sizes p pivots cs xs old old mid candidates refl steps);
+            (sym (same_table new mid still rows)) (new_sizes p pivots cs kept.attempts.items old old mid candidates refl steps);
       };
       table = table_by_times p old new empties same table;
       places = record { rows = ap (λ (rs : List (List (Option Stored))). map (λ (row : List (Option Stored)). length row) rs) rows ∙ steps.places.rows };
-      one_each = ap (λ (os : List (Option Asked)). length os) kept_are ∙ (length-map tries kept_in ∙ long);
-      are_kept = subst (λ (os : List (Option Asked)). AreKept p pivots empties 1 os) (sym kept_are) (kept p old pivots empties 1 tries tried);
+      are_kept =
+          kept_for p pivots empties cs old new tries kept long tried
+          (subst (λ (t : nodes.Table). WereAttempts p pivots t cs kept.attempts.items) (sym (same_table new mid still rows)) were) kept_are;
       fewer = fewer;
     }
 
@@ -275,6 +290,14 @@ pub places_stay : (p : Program) (a b : Table) → b.sizes.items ≡ a.sizes.item
 places_stay p a b e h = record {
   rows = ap (λ (rs : List (List (Option Stored))). map (λ (row : List (Option Stored)). length row) rs) (rows_stay a b e) ∙ h.rows;
 }
+
+-- a table grows by the times of a round
+pub settled_grown : (p : Program) (pivots : ℕ) (empties : List EmptyAnswer) (old mid : Table) (tries : List Tried) → AreEmptyAnswers p pivots empties
+    → IsTable p old empties → length tries ≡ length p.rules → AreTried p old pivots empties 1 tries
+    → mid.times.items ≡ after_tries old.times.items tries → mid.sizes.items ≡ old.sizes.items → HasGrown (table_of old) (table_of mid)
+settled_grown p pivots empties old mid tries answers table long tried times sizes =
+    let round = round_of p pivots empties old tries mid table answers long tried times sizes in
+    record { times = round.next_is.times.known; sizes = λ t i b e. round.next_is.sizes t i ∙ e }
 
 -- how many times are missing after a round
 pub times_fewer : (p : Program) (pivots : ℕ) (empties : List EmptyAnswer) (old mid : Table) (tries : List Tried) → AreEmptyAnswers p pivots empties

@@ -15,7 +15,10 @@ pub mod Candidates
 pub mod SizeWrites
 pub mod Attempts
 pub mod SizeSaid
+-- what stands of earlier rounds, what rounds begin with, and what they come to
+pub mod Standing
 pub mod RoundEnds
+pub mod RoundStarts
 -- what is known before the first round
 pub mod Fates
 pub mod Beginning

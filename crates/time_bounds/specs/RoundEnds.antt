@@ -1,5 +1,5 @@
 -- What a whole round comes to: it finds a bound, or nothing.
-use Rattle.std.specs.Prelude.{◌≡◌, ℕ, ◌+◌, ◌<◌, false, List, length, Option}
+use Rattle.std.specs.Prelude.{◌≡◌, ℕ, ◌+◌, ◌<◌, false, List, length}
 use Rattle.std.specs.List.{list_any}
 use Rattle.model.specs.Programs.{Program}
 use Rattle.proof_setting.specs.Setting.{setting_of}
@@ -7,8 +7,8 @@ use Rattle.proof_tree.specs.declared.answer.EmptyAnswer.{EmptyAnswer}
 use Rattle.round_relation.specs.Rounds.{Next}
 use Rattle.size_bounds.specs.declared.table.Table.{Table}
 use Rattle.size_bounds.specs.Tables.{table_of}
-use Rattle.time_bounds.specs.declared.asking.Asked.{Asked}
 use Rattle.time_bounds.specs.declared.candidates.Candidate.{Candidate}
+use Rattle.time_bounds.specs.declared.rounds.Kept.{Kept}
 use Rattle.time_bounds.specs.declared.rounds.LastRound.{LastRound}
 use Rattle.time_bounds.specs.declared.rounds.Round.{Round}
 use Rattle.time_bounds.specs.declared.rounds.Round.TheVariants.{Last, Further}
@@ -18,6 +18,7 @@ use Rattle.time_bounds.specs.Questions.{AreKept, IsTable}
 use Rattle.time_bounds.specs.Tries.{AreTried, is_found, count_missing}
 use Rattle.time_bounds.specs.SizeWrites.{rows_of, count_unsized}
 use Rattle.time_bounds.specs.Attempts.{HasPlaces, AreAttempts, is_sized}
+use Rattle.time_bounds.specs.Standing.{WereAttempts}
 
 -- how many bounds are missing in a table
 abbrev pub missing_in : Table → ℕ
@@ -34,18 +35,25 @@ pub record IsLastRound (p : Program) (pivots : ℕ) (empties : List EmptyAnswer)
   pub attempts : AreAttempts p pivots (table_of tab) cs r.attempts.items
   pub no_size : list_any is_sized r.attempts.items ≡ false
 
--- a round found a bound, and these questions are kept
-pub record IsFurther (p : Program) (pivots : ℕ) (empties : List EmptyAnswer) (old new : Table)
-    (kept : List (Option Asked)) : Type 0 where
+-- of each rule there is a question that was answered, or none; and this was made of components, over tables that have
+-- grown to this one
+pub record AreKeptFor (p : Program) (pivots : ℕ) (empties : List EmptyAnswer) (cs : List Candidate) (tab : Table)
+    (kept : Kept) : Type 0 where
+  pub one_each : length kept.asked.items ≡ length p.rules
+  pub answered : AreKept p pivots empties 1 kept.asked.items
+  pub attempts : WereAttempts p pivots (table_of tab) cs kept.attempts.items
+
+-- a round found a bound, and this is kept
+pub record IsFurther (p : Program) (pivots : ℕ) (empties : List EmptyAnswer) (cs : List Candidate) (old new : Table)
+    (kept : Kept) : Type 0 where
   pub next : Next (searches_of_program p pivots) (sizes_of_program p pivots) (setting_of p) (table_of old)
       (table_of new)
   pub table : IsTable p new empties
   pub places : HasPlaces p new
-  pub one_each : length kept ≡ length p.rules
-  pub are_kept : AreKept p pivots empties 1 kept
+  pub are_kept : AreKeptFor p pivots empties cs new kept
   pub fewer : missing_in new < missing_in old
 
 abbrev pub IsRound : Program → ℕ → List EmptyAnswer → List Candidate → Table → Table → Round → Type 0
 IsRound p pivots empties cs old new (Last r) =
     IsLastRound p pivots empties cs new r × (table_of new ≡ table_of old)
-IsRound p pivots empties cs old new (Further kept) = IsFurther p pivots empties old new kept.items
+IsRound p pivots empties cs old new (Further kept) = IsFurther p pivots empties cs old new kept

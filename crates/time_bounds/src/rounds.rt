@@ -1,24 +1,15 @@
 // Rounds, up to the first that gives nothing new.
 
-ghost use Rattle.std.specs.Prelude.{◌≡◌, ℕ, ◌+◌, ◌*◌, ◌<◌, ◌≤◌, ◌^◌, length, map, Bool, true, false, Option};
-ghost use Rattle.std.specs.Prelude.{None, replicate, IfOk};
+ghost use Rattle.std.specs.Prelude.{◌≡◌, ℕ, ◌+◌, ◌<◌, ◌≤◌, length, map, [], true, false, None, replicate, IfOk};
 ghost use Rattle.std.specs.List.{list_any};
-ghost use Rattle.its_model.specs.Valid.{IsValid};
 ghost use Rattle.its_model.specs.Views.{program_of};
-ghost use Rattle.proof_setting.specs.Setting.{setting_of};
 ghost use Rattle.proof_tree.specs.Views.{proof_of};
-ghost use Rattle.round_relation.specs.Rounds.{IsMade};
-ghost use Rattle.time_bounds.specs.ProgramSearches.{searches_of_program};
-ghost use Rattle.time_bounds.specs.ProgramSizes.{sizes_of_program};
 ghost use Rattle.size_bounds.specs.Tables.{table_of};
-ghost use Rattle.time_bounds.specs.Questions.{AreQuestionsOf, AreKept, IsTable};
-ghost use Rattle.time_bounds.specs.Tries.{AreTried, is_found as was_found, count_found, count_missing};
-ghost use Rattle.time_bounds.specs.Tries.{after_tries, put_tried, kept_in};
-ghost use Rattle.time_bounds.specs.Candidates.{AreCandidatesOf};
-ghost use Rattle.time_bounds.specs.SizeWrites.{rows_of, count_unsized};
-ghost use Rattle.time_bounds.specs.Attempts.{HasPlaces, AreAttempts};
-ghost use Rattle.time_bounds.specs.RoundEnds.{IsLastRound, IsRound, missing_in};
-ghost use Rattle.time_bounds.specs.Written.{AreWritten, AreTimed};
+ghost use Rattle.time_bounds.specs.Tries.{is_found as was_found, count_found, after_tries, put_tried, kept_in};
+ghost use Rattle.time_bounds.specs.Standing.{WereAttempts};
+ghost use Rattle.time_bounds.specs.RoundStarts.{AreRoundsReady, AreLemmasReady, AreTimesTried, IsMadeOf};
+ghost use Rattle.time_bounds.specs.RoundEnds.{IsLastRound, IsRound, AreKeptFor, missing_in};
+ghost use Rattle.time_bounds.specs.Written.{AreWritten};
 
 use crate::asking::Asked;
 use crate::candidates::Candidate;
@@ -39,13 +30,21 @@ pub(crate) struct LastRound {
     pub attempts: Vec<Attempt>,
 }
 
+/// What is kept of a round for the next one: of each rule without a time the question that was asked of it, and what
+/// was made of each component.
+#[derive(Debug, Drop)]
+pub(crate) struct Kept {
+    pub asked: Vec<Option<Asked>>,
+    pub attempts: Vec<Attempt>,
+}
+
 /// What a round comes to.
 #[derive(Debug, Drop)]
 pub(crate) enum Round {
     /// It found nothing.
     Last(LastRound),
-    /// It found a bound; of the rules that have no time their questions are kept.
-    Further(Vec<Option<Asked>>),
+    /// It found a bound, and this is kept.
+    Further(Kept),
 }
 
 /// Rounds from what is known before the first. Gives what is known after the last, and what the last made of each rule
@@ -58,27 +57,20 @@ pub(crate) fn rounds(
     table: &mut Table,
     lemmas: &mut Vec<Proof>,
 ) -> Result<LastRound, Memory>
-    requires valid { IsValid (program_of p.now) }
-    requires questions { AreQuestionsOf (program_of p.now) q.now }
-    requires candidates { AreCandidatesOf (program_of p.now) q.now.pivots candidates.now }
-    requires table { IsTable (program_of p.now) table.old q.now.empties.items }
-    requires places { HasPlaces (program_of p.now) table.old }
-    requires made { IsMade (searches_of_program (program_of p.now) q.now.pivots)
-        (sizes_of_program (program_of p.now) q.now.pivots) (setting_of (program_of p.now)) (table_of table.old) }
-    requires written { AreWritten (program_of p.now) q.now.pivots table.old (map proof_of lemmas.old.items) }
-    requires few { length lemmas.old.items + missing_in table.old < 2 ^ 31 }
-    ensures made { IfOk result (λ last. IsMade (searches_of_program (program_of p.now) q.now.pivots)
-        (sizes_of_program (program_of p.now) q.now.pivots) (setting_of (program_of p.now)) (table_of table.new)) }
+    requires ready { AreRoundsReady (program_of p.now) q.now candidates.now table.old }
+    requires lemmas { AreLemmasReady (program_of p.now) q.now.pivots table.old lemmas.old.items }
+    requires made { IsMadeOf (program_of p.now) q.now.pivots table.old }
+    ensures made { IfOk result (λ last. IsMadeOf (program_of p.now) q.now.pivots table.new) }
     ensures last { IfOk result (λ last. IsLastRound (program_of p.now) q.now.pivots q.now.empties.items candidates.now
         table.new last) }
     ensures written { IfOk result (λ last. AreWritten (program_of p.now) q.now.pivots table.new
         (map proof_of lemmas.new.items)) }
 {
-    let mut asked = nothing_asked(alloc, p.rules.len())?;
+    let mut kept = nothing_kept(alloc, p.rules.len())?;
     loop {
-        match next_round(alloc, p, q, candidates, table, lemmas, asked)? {
+        match next_round(alloc, p, q, candidates, table, lemmas, kept)? {
             Round::Last(last) => return Ok(last),
-            Round::Further(kept) => asked = kept,
+            Round::Further(next) => kept = next,
         }
     }
 }
@@ -91,17 +83,11 @@ fn next_round(
     candidates: &[Candidate],
     table: &mut Table,
     lemmas: &mut Vec<Proof>,
-    asked: Vec<Option<Asked>>,
+    kept: Kept,
 ) -> Result<Round, Memory>
-    requires valid { IsValid (program_of p.now) }
-    requires questions { AreQuestionsOf (program_of p.now) q.now }
-    requires candidates { AreCandidatesOf (program_of p.now) q.now.pivots candidates.now }
-    requires table { IsTable (program_of p.now) table.old q.now.empties.items }
-    requires places { HasPlaces (program_of p.now) table.old }
-    requires one_each { length asked.items ≡ length p.now.rules.items }
-    requires kept { AreKept (program_of p.now) q.now.pivots q.now.empties.items 1 asked.items }
-    requires written { AreWritten (program_of p.now) q.now.pivots table.old (map proof_of lemmas.old.items) }
-    requires few { length lemmas.old.items + missing_in table.old < 2 ^ 31 }
+    requires ready { AreRoundsReady (program_of p.now) q.now candidates.now table.old }
+    requires lemmas { AreLemmasReady (program_of p.now) q.now.pivots table.old lemmas.old.items }
+    requires kept { AreKeptFor (program_of p.now) q.now.pivots q.now.empties.items candidates.now table.old kept }
     ensures round { IfOk result (λ r. IsRound (program_of p.now) q.now.pivots q.now.empties.items candidates.now
         table.old table.new r) }
     ensures lemmas { IfOk result (λ r. length lemmas.new.items + missing_in table.new
@@ -109,34 +95,31 @@ fn next_round(
     ensures written { IfOk result (λ r. AreWritten (program_of p.now) q.now.pivots table.new
         (map proof_of lemmas.new.items)) }
 {
+    let Kept { asked, attempts } = kept;
     let tries = try_rules(alloc, p, q, table, asked, lemmas)?;
     if has_found(&tries) {
-        further(alloc, p, q, candidates, table, lemmas, tries)
+        further(alloc, p, q, candidates, &attempts, table, lemmas, tries)
     } else {
-        maybe_last(alloc, p, q, candidates, table, lemmas, tries)
+        maybe_last(alloc, p, q, candidates, &attempts, table, lemmas, tries)
     }
 }
 
-// The rest of a round that found a time: the components are tried with the new times.
+// The rest of a round that found a time: the components are tried with the new times; `before` has what earlier rounds
+// made of them.
 fn further(
     alloc: Global,
     p: &Program,
     q: &Questions,
     candidates: &[Candidate],
+    before: &[Attempt],
     table: &mut Table,
     lemmas: &mut Vec<Proof>,
     tries: Vec<Tried>,
 ) -> Result<Round, Memory>
-    requires valid { IsValid (program_of p.now) }
-    requires questions { AreQuestionsOf (program_of p.now) q.now }
-    requires candidates { AreCandidatesOf (program_of p.now) q.now.pivots candidates.now }
-    requires table { IsTable (program_of p.now) table.old q.now.empties.items }
-    requires places { HasPlaces (program_of p.now) table.old }
-    requires one_each { length tries.items ≡ length p.now.rules.items }
-    requires tried { AreTried (program_of p.now) table.old q.now.pivots q.now.empties.items 1 tries.items }
+    requires ready { AreRoundsReady (program_of p.now) q.now candidates.now table.old }
+    requires tried { AreTimesTried (program_of p.now) q.now table.old tries.items lemmas.old.items }
     requires found { list_any was_found tries.items ≡ true }
-    requires timed { AreTimed (program_of p.now) q.now.pivots table.old tries.items lemmas.old.items }
-    requires few { length lemmas.old.items + count_unsized (rows_of table.old) + 1 < 2 ^ 32 }
+    requires before { WereAttempts (program_of p.now) q.now.pivots (table_of table.old) candidates.now before.now }
     ensures round { IfOk result (λ r. IsRound (program_of p.now) q.now.pivots q.now.empties.items candidates.now
         table.old table.new r) }
     ensures lemmas { IfOk result (λ r. length lemmas.new.items + missing_in table.new + count_found tries.items
@@ -144,31 +127,27 @@ fn further(
     ensures written { IfOk result (λ r. AreWritten (program_of p.now) q.now.pivots table.new
         (map proof_of lemmas.new.items)) }
 {
-    let kept = settle(alloc, table, tries)?;
-    try_candidates(alloc, p, q, candidates, table, lemmas)?;
-    Ok(Round::Further(kept))
+    let asked = settle(alloc, table, tries)?;
+    let attempts = try_candidates(alloc, p, q, candidates, before, table, lemmas)?;
+    Ok(Round::Further(Kept { asked, attempts }))
 }
 
-// The rest of a round that found no time: it is the last one where it finds no size either.
+// The rest of a round that found no time: it is the last one where it finds no size either. `before` has what earlier
+// rounds made of the components.
 fn maybe_last(
     alloc: Global,
     p: &Program,
     q: &Questions,
     candidates: &[Candidate],
+    before: &[Attempt],
     table: &mut Table,
     lemmas: &mut Vec<Proof>,
     tries: Vec<Tried>,
 ) -> Result<Round, Memory>
-    requires valid { IsValid (program_of p.now) }
-    requires questions { AreQuestionsOf (program_of p.now) q.now }
-    requires candidates { AreCandidatesOf (program_of p.now) q.now.pivots candidates.now }
-    requires table { IsTable (program_of p.now) table.old q.now.empties.items }
-    requires places { HasPlaces (program_of p.now) table.old }
-    requires one_each { length tries.items ≡ length p.now.rules.items }
-    requires tried { AreTried (program_of p.now) table.old q.now.pivots q.now.empties.items 1 tries.items }
+    requires ready { AreRoundsReady (program_of p.now) q.now candidates.now table.old }
+    requires tried { AreTimesTried (program_of p.now) q.now table.old tries.items lemmas.old.items }
     requires nothing { list_any was_found tries.items ≡ false }
-    requires timed { AreTimed (program_of p.now) q.now.pivots table.old tries.items lemmas.old.items }
-    requires few { length lemmas.old.items + count_unsized (rows_of table.old) + 1 < 2 ^ 32 }
+    requires before { WereAttempts (program_of p.now) q.now.pivots (table_of table.old) candidates.now before.now }
     ensures round { IfOk result (λ r. IsRound (program_of p.now) q.now.pivots q.now.empties.items candidates.now
         table.old table.new r) }
     ensures lemmas { IfOk result (λ r. length lemmas.new.items + missing_in table.new
@@ -176,12 +155,22 @@ fn maybe_last(
     ensures written { IfOk result (λ r. AreWritten (program_of p.now) q.now.pivots table.new
         (map proof_of lemmas.new.items)) }
 {
-    let attempts = try_candidates(alloc, p, q, candidates, table, lemmas)?;
+    let attempts = try_candidates(alloc, p, q, candidates, before, table, lemmas)?;
     if !has_sized(&attempts) {
         return Ok(Round::Last(LastRound { tries, attempts }));
     }
-    let kept = settle(alloc, table, tries)?;
-    Ok(Round::Further(kept))
+    let asked = settle(alloc, table, tries)?;
+    Ok(Round::Further(Kept { asked, attempts }))
+}
+
+// No question was asked of any rule, and no component was tried.
+fn nothing_kept(alloc: Global, count: usize) -> Result<Kept, Memory>
+    ensures asked { IfOk result (λ kept. kept.asked.items ≡ replicate count None) }
+    ensures attempts { IfOk result (λ kept. kept.attempts.items ≡ []) }
+{
+    let asked = nothing_asked(alloc, count)?;
+    let attempts = Vec::new(alloc);
+    Ok(Kept { asked, attempts })
 }
 
 // No question was asked of any rule.

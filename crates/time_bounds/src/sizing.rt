@@ -1,7 +1,7 @@
 // The sizes of a round: each component of which a place has no size is tried, with the sizes found so far.
 
-ghost use Rattle.std.specs.Prelude.{◌≡◌, ℕ, ◌+◌, ◌<◌, ◌^◌, ◌++◌, length, map, IfOk, true, false};
-ghost use Rattle.std.specs.List.{All};
+ghost use Rattle.std.specs.Prelude.{◌≡◌, ◌+◌, ◌<◌, ◌^◌, ◌++◌, length, map, IfOk, IfSome, true};
+ghost use Rattle.std.specs.List.{list_any};
 ghost use Rattle.its_model.specs.Valid.{IsValid};
 ghost use Rattle.its_model.specs.Views.{program_of};
 ghost use Rattle.proof_tree.specs.Views.{spot_of, proof_of};
@@ -9,12 +9,12 @@ ghost use Rattle.rvg_components.specs.Flows.{Locals};
 ghost use Rattle.round_relation.specs.NewSizes.{is_unsized as is_unsized_of};
 ghost use Rattle.size_bounds.specs.Tables.{table_of};
 ghost use Rattle.time_bounds.specs.Questions.{AreQuestionsOf};
-ghost use Rattle.time_bounds.specs.Candidates.{IsCandidate, AreCandidatesOf};
+ghost use Rattle.time_bounds.specs.Candidates.{IsCandidate, AreCandidatesOf, spots_in};
 ghost use Rattle.time_bounds.specs.SizeWrites.{rows_of, count_unsized};
 ghost use Rattle.time_bounds.specs.Attempts.{HasPlaces, IsSizeStep, AreSizeSteps, attempt_by, rows_by, one_if_sized};
 ghost use Rattle.time_bounds.specs.Attempts.{count_sized, is_sized, ArePlacesOf};
+ghost use Rattle.time_bounds.specs.Standing.{Stands, StandsAt, IsStanding, WereAttempts};
 ghost use Rattle.time_bounds.specs.Written.{lemmas_by, SizeFollows, SizesFollow};
-ghost use Rattle.std.specs.List.{list_any};
 
 use crate::candidates::{Arms, Candidate};
 use crate::questions::Questions;
@@ -39,22 +39,27 @@ pub(crate) enum Attempt {
 }
 
 /// Tries each component of which a place has no size, in order, writes the sizes that are found into the table, and
-/// appends a lemma for each of them.
+/// appends a lemma for each of them. `before` has what the last round made of the components, if there was one: an
+/// answer of it whose reason still stands is given again.
 pub(crate) fn try_candidates(
     alloc: Global,
     p: &Program,
     q: &Questions,
     candidates: &[Candidate],
+    before: &[Attempt],
     table: &mut Table,
     lemmas: &mut Vec<Proof>,
 ) -> Result<Vec<Attempt>, Memory>
     requires valid { IsValid (program_of p.now) }
     requires questions { AreQuestionsOf (program_of p.now) q.now }
     requires candidates { AreCandidatesOf (program_of p.now) q.now.pivots candidates.now }
+    requires before { WereAttempts (program_of p.now) q.now.pivots (table_of table.old) candidates.now before.now }
     requires places { HasPlaces (program_of p.now) table.old }
     requires few { length lemmas.old.items + count_unsized (rows_of table.old) + 1 < 2 ^ 32 }
     ensures steps { IfOk result (λ attempts. AreSizeSteps (program_of p.now) q.now.pivots table.old candidates.now
         attempts.items table.new) }
+    ensures kept { IfOk result (λ attempts. WereAttempts (program_of p.now) q.now.pivots (table_of table.new)
+        candidates.now attempts.items) }
     ensures lemmas { IfOk result (λ attempts. length lemmas.new.items
         ≡ length lemmas.old.items + count_sized attempts.items) }
     ensures written { IfOk result (λ attempts. SizesFollow (program_of p.now) q.now.pivots table.old candidates.now
@@ -62,13 +67,80 @@ pub(crate) fn try_candidates(
 {
     let mut attempts = Vec::new(alloc);
     for candidate in candidates {
-        attempts.push(try_candidate(alloc, p, q, candidate, table, lemmas)?)?;
+        let again = standing(table, before, attempts.len());
+        attempts.push(try_candidate(alloc, p, q, candidate, again, table, lemmas)?)?;
     }
     Ok(attempts)
 }
 
-// Tries a component, where a place of it has no size.
+// The earlier answer for the component at a position, where there is one and its reason stands over the table.
+fn standing(table: &Table, before: &[Attempt], position: usize) -> Option<SizeAnswer>
+    ensures { IfSome result (λ a. StandsAt (table_of table.now) before.now position a) }
+{
+    if position >= before.len() {
+        return None;
+    }
+    match &before[position] {
+        Attempt::Known => None,
+        Attempt::Found => None,
+        Attempt::Armless => None,
+        Attempt::Failed(answer) => again(table, answer),
+    }
+}
+
+// An answer by which there was no size, where its reason stands over the table.
+fn again(table: &Table, answer: &SizeAnswer) -> Option<SizeAnswer>
+    ensures { IfSome result (λ a. (a ≡ answer.now) × Stands (table_of table.now) a) }
+{
+    match answer {
+        SizeAnswer::Found { .. } => None,
+        SizeAnswer::Missing(spot) => match table.stored_size(spot.rule, spot.place) {
+            Some(_) => None,
+            None => Some(SizeAnswer::Missing(*spot)),
+        },
+        SizeAnswer::Bent(spot) => Some(SizeAnswer::Bent(*spot)),
+        SizeAnswer::Untimed { rule } => match table.stored_time(*rule) {
+            Some(_) => None,
+            None => Some(SizeAnswer::Untimed { rule: *rule }),
+        },
+        SizeAnswer::Large { nodes } => Some(SizeAnswer::Large { nodes: *nodes }),
+    }
+}
+
+// Tries a component, where a place of it has no size and there is no earlier answer for it that stands.
 fn try_candidate(
+    alloc: Global,
+    p: &Program,
+    q: &Questions,
+    candidate: &Candidate,
+    again: Option<SizeAnswer>,
+    table: &mut Table,
+    lemmas: &mut Vec<Proof>,
+) -> Result<Attempt, Memory>
+    requires valid { IsValid (program_of p.now) }
+    requires questions { AreQuestionsOf (program_of p.now) q.now }
+    requires candidate { (local : Locals) × IsCandidate (program_of p.now) q.now.pivots local candidate.now }
+    requires within { ArePlacesOf (program_of p.now) candidate.now }
+    requires again { IfSome again (λ a. IsStanding (program_of p.now) q.now.pivots (table_of table.old) candidate.now
+        a) }
+    requires places { HasPlaces (program_of p.now) table.old }
+    requires few { length lemmas.old.items + count_unsized (rows_of table.old) + 1 < 2 ^ 32 }
+    ensures step { IfOk result (λ x. IsSizeStep (program_of p.now) q.now.pivots table.old candidate.now x table.new) }
+    ensures lemmas { IfOk result (λ x. length lemmas.new.items ≡ length lemmas.old.items + one_if_sized x) }
+    ensures written { IfOk result (λ x. SizeFollows (program_of p.now) q.now.pivots table.old candidate.now x table.new
+        lemmas.old.items lemmas.new.items) }
+{
+    if !is_unsized(table, &candidate.spots) {
+        return Ok(Attempt::Known);
+    }
+    match again {
+        Some(answer) => Ok(Attempt::Failed(answer)),
+        None => try_arms(alloc, p, q, candidate, table, lemmas),
+    }
+}
+
+// Tries a component of which a place has no size, by the arms of its members.
+fn try_arms(
     alloc: Global,
     p: &Program,
     q: &Questions,
@@ -80,6 +152,7 @@ fn try_candidate(
     requires questions { AreQuestionsOf (program_of p.now) q.now }
     requires candidate { (local : Locals) × IsCandidate (program_of p.now) q.now.pivots local candidate.now }
     requires within { ArePlacesOf (program_of p.now) candidate.now }
+    requires lacking { is_unsized_of (table_of table.old).size (spots_in candidate.now) ≡ true }
     requires places { HasPlaces (program_of p.now) table.old }
     requires few { length lemmas.old.items + count_unsized (rows_of table.old) + 1 < 2 ^ 32 }
     ensures step { IfOk result (λ x. IsSizeStep (program_of p.now) q.now.pivots table.old candidate.now x table.new) }
@@ -87,9 +160,6 @@ fn try_candidate(
     ensures written { IfOk result (λ x. SizeFollows (program_of p.now) q.now.pivots table.old candidate.now x table.new
         lemmas.old.items lemmas.new.items) }
 {
-    if !is_unsized(table, &candidate.spots) {
-        return Ok(Attempt::Known);
-    }
     match &candidate.arms {
         Arms::Lacking(_) => Ok(Attempt::Armless),
         Arms::Alone(member) => {

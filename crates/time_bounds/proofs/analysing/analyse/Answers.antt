@@ -12,6 +12,7 @@ use Rattle.outcome.specs.Printing.{IsPrintableOutcome}
 use Rattle.round_relation.specs.Rounds.{BegunWhole}
 use Rattle.size_bounds.specs.Tables.{table_of, numbers_of}
 use Rattle.time_bounds.specs.declared.candidates.Candidate.{Candidate}
+use Rattle.time_bounds.specs.Candidates.{AreCandidatesOf}
 use Rattle.time_bounds.specs.declared.sizing.Attempt.{Attempt}
 use Rattle.time_bounds.specs.ProgramSearches.{searches_of_program}
 use Rattle.time_bounds.specs.Beginning.{first_times, first_sizes, count_empty, count_unreached, time_numbers, size_numbers}
@@ -39,40 +40,29 @@ use Rattle.time_bounds.proofs.WrittenFirst.{begun}
 use Rattle.time_bounds.proofs.WrittenAnalysis.{rows_left, has_lemmas}
 use Rattle.time_bounds.proofs.analysing.analyse.Goals as goal
 
-pub rounds-requires-clause-table : goal.rounds-requires-clause-table
-rounds-requires-clause-table c =
+pub rounds-requires-clause-ready : goal.rounds-requires-clause-ready
+rounds-requires-clause-ready c =
     let p = program_of c.args.p.now in
-    is_table p c.in_ok-questions.questions.pivots c.in_ok-fates.fates.items c.in_ok-fates.ensures c.in_ok-table.table
-    (c.in_ok-table.ensures.times ∙ ap first_times c.deref-2.ensures.value) (c.in_ok-table.ensures.sizes ∙ ap (first_sizes p) c.deref-2.ensures.value)
-    c.in_ok-questions.questions.empties.items c.in_ok-questions.ensures.questions.empties
-
-pub rounds-requires-clause-places : goal.rounds-requires-clause-places
-rounds-requires-clause-places c =
-    let p = program_of c.args.p.now in
-    first_places p c.in_ok-fates.fates.items c.in_ok-table.table c.in_ok-fates.ensures.one_each
-    (c.in_ok-table.ensures.sizes ∙ ap (first_sizes p) c.deref-2.ensures.value)
+    let seen = c.deref-2.ensures.value in
+    record {
+      valid = c.requires;
+      questions = c.in_ok-questions.ensures.questions;
+      candidates =
+          subst (λ (cs : List Candidate). AreCandidatesOf p c.in_ok-questions.questions.pivots cs) (sym c.deref-5.ensures.value) c.in_ok-candidates.ensures;
+      table =
+          is_table p c.in_ok-questions.questions.pivots c.in_ok-fates.fates.items c.in_ok-fates.ensures c.in_ok-table.table
+          (c.in_ok-table.ensures.times ∙ ap first_times seen) (c.in_ok-table.ensures.sizes ∙ ap (first_sizes p) seen)
+          c.in_ok-questions.questions.empties.items c.in_ok-questions.ensures.questions.empties;
+      places =
+          first_places p c.in_ok-fates.fates.items c.in_ok-table.table c.in_ok-fates.ensures.one_each
+          (c.in_ok-table.ensures.sizes ∙ ap (first_sizes p) seen);
+    }
 
 pub rounds-requires-clause-made : goal.rounds-requires-clause-made
 rounds-requires-clause-made c =
     let p = program_of c.args.p.now in
     BegunWhole (is_first (searches_of_program p c.in_ok-questions.questions.pivots) p c.in_ok-fates.fates.items c.in_ok-fates.ensures c.in_ok-table.table
     (c.in_ok-table.ensures.times ∙ ap first_times c.deref-2.ensures.value) (c.in_ok-table.ensures.sizes ∙ ap (first_sizes p) c.deref-2.ensures.value))
-
-pub rounds-requires-clause-few : goal.rounds-requires-clause-few
-rounds-requires-clause-few c =
-    let p = program_of c.args.p.now in
-    let sizes = c.in_ok-table.ensures.sizes ∙ ap (first_sizes p) c.deref-2.ensures.value in
-    let table = is_table p c.in_ok-questions.questions.pivots c.in_ok-fates.fates.items c.in_ok-fates.ensures c.in_ok-table.table
-    (c.in_ok-table.ensures.times ∙ ap first_times c.deref-2.ensures.value) sizes c.in_ok-questions.questions.empties.items
-    c.in_ok-questions.ensures.questions.empties in
-    let few = few_missing p c.in_ok-table.table c.in_ok-questions.questions.empties.items c.requires table
-    (first_places p c.in_ok-fates.fates.items c.in_ok-table.table c.in_ok-fates.ensures.one_each sizes) in
-    let lemmas = c.in_ok-lemmas.ensures.most in
-    let fates = ap (λ (n : ℕ). n) c.in_ok-fates.ensures.one_each in
-    let empties = c.in_ok-questions.ensures.questions.empties.one_each in
-    let one = ap length c.deref-3.ensures.value in
-    let two = ap length c.deref-4.ensures.value in
-    omega (arith, few, lemmas, fates, empties, one, two, c.requires.few_rules, length-map c.args.p.now.rules.items rule_of)
 
 pub said_sizes-requires-clause-one_each : goal.said_sizes-requires-clause-one_each
 said_sizes-requires-clause-one_each c =
@@ -153,25 +143,45 @@ returns-clause-printable c =
     }) (length-map c.args.p.now.start_names.items name_of)
     (analysis_printable (program_of c.args.p.now) c.args.pivots _ c.requires (returns-clause-found c) c.in_ok-times.ensures.gaps)
 
-pub rounds-requires-clause-written : goal.rounds-requires-clause-written
-rounds-requires-clause-written c =
+pub rounds-requires-clause-lemmas : goal.rounds-requires-clause-lemmas
+rounds-requires-clause-lemmas c =
     let p = program_of c.args.p.now in
     let fates = c.in_ok-fates.fates.items in
     let empties = c.in_ok-questions.questions.empties.items in
     let tab = c.in_ok-table.table in
     let seen = c.deref-2.ensures.value in
     let table = c.in_ok-table.ensures in
-    begun p c.in_ok-questions.questions.pivots fates empties tab (map proof_of c.in_ok-lemmas.lemmas.items) c.requires c.in_ok-fates.ensures
-    c.in_ok-questions.ensures.questions.empties (table.times ∙ ap first_times seen) (table.sizes ∙ ap (first_sizes p) seen)
-    (table.time_numbers ∙ ap (λ (fs : List Fate). 0 ∷ time_numbers 0 (count_empty fs) fs) seen)
-    (table.size_numbers
-    ∙ ap (λ (fs : List Fate). replicate (arity_of p p.start) 0 ∷ size_numbers p (count_empty fs + count_unreached fs) fs p.rules) seen)
-    (c.in_ok-lemmas.ensures.lemmas
-    ∙ (ap (λ (es : List EmptyAnswer). empty_lemmas es
-    ++ (unreached_by (count_empty c.deref-3.result.now) 1 c.deref-3.result.now ++ never_by p (numbers_of tab) 1 c.deref-3.result.now p.rules))
-    c.deref-4.ensures.value
-    ∙ ap (λ (fs : List Fate). empty_lemmas empties ++ (unreached_by (count_empty fs) 1 fs ++ never_by p (numbers_of tab) 1 fs p.rules))
-    c.deref-3.ensures.value))
+    let sizes = table.sizes ∙ ap (first_sizes p) seen in
+    let is = is_table p c.in_ok-questions.questions.pivots fates c.in_ok-fates.ensures tab (table.times ∙ ap first_times seen) sizes empties
+    c.in_ok-questions.ensures.questions.empties in
+    let missing = few_missing p tab empties c.requires is (first_places p fates tab c.in_ok-fates.ensures.one_each sizes) in
+    let one = ap length c.deref-3.ensures.value in
+    let two = ap length c.deref-4.ensures.value in
+    record {
+      written =
+          begun p c.in_ok-questions.questions.pivots fates empties tab (map proof_of c.in_ok-lemmas.lemmas.items) c.requires c.in_ok-fates.ensures
+          c.in_ok-questions.ensures.questions.empties (table.times ∙ ap first_times seen) (table.sizes ∙ ap (first_sizes p) seen)
+          (table.time_numbers ∙ ap (λ (fs : List Fate). 0 ∷ time_numbers 0 (count_empty fs) fs) seen)
+          (table.size_numbers
+          ∙ ap (λ (fs : List Fate). replicate (arity_of p p.start) 0 ∷ size_numbers p (count_empty fs + count_unreached fs) fs p.rules) seen)
+          (c.in_ok-lemmas.ensures.lemmas
+          ∙ (ap (λ (es : List EmptyAnswer). empty_lemmas es
+          ++ (unreached_by (count_empty c.deref-3.result.now) 1 c.deref-3.result.now ++ never_by p (numbers_of tab) 1 c.deref-3.result.now p.rules))
+          c.deref-4.ensures.value
+          ∙ ap (λ (fs : List Fate). empty_lemmas empties ++ (unreached_by (count_empty fs) 1 fs ++ never_by p (numbers_of tab) 1 fs p.rules))
+          c.deref-3.ensures.value));
+      few = omega (
+        arith,
+        missing,
+        c.in_ok-lemmas.ensures.most,
+        c.in_ok-fates.ensures.one_each,
+        c.in_ok-questions.ensures.questions.empties.one_each,
+        one,
+        two,
+        c.requires.few_rules,
+        length-map c.args.p.now.rules.items rule_of,
+      );
+    }
 
 pub returns-clause-lemmas : goal.returns-clause-lemmas
 returns-clause-lemmas c =

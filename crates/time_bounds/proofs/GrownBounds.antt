@@ -1,0 +1,187 @@
+-- A composed bound stays over a table that has grown, where each bound that it reads was known.
+use Rattle.std.proofs.Common.{◌≡◌, ℕ, suc, ◌||◌, not, Bool, true, false, List, [], ◌∷◌, ◌++◌, ℤ, nat_abs, filter, Option, Some, None, refl, sym, ◌∙◌, ap}
+use Rattle.std.specs.List.{AllByRecursion, list_any}
+use Rattle.std.proofs.lemmas.Bool.{or_left, or_right}
+use Rattle.int_laws.specs.NormalForm.{is_zero}
+use Rattle.model.specs.Bounds.{Bound, Constant, SumOf, ProductOf, MaximumOf, PowerOf, Parts, Part}
+use Rattle.model.specs.Entries.{is_in}
+use Rattle.model.specs.Paths.{pre}
+use Rattle.model.specs.Polynomials.{Polynomial}
+use Rattle.model.proofs.Membership.{is_in-filter}
+use Rattle.linear_forms.specs.Forms.{at}
+use Rattle.proof_nodes.specs.Nodes.{Arm, Linear, Poly, Member}
+use Rattle.proof_nodes.specs.Known.{IsKnown, Table, known}
+use Rattle.proof_nodes.specs.Numbers.{rounded_up, positive_part}
+use Rattle.proof_nodes.specs.Composed.{both_parts, parts_for, place_parts, no_place, sizes_after}
+use Rattle.proof_nodes.specs.ComposedSizes.{monomial_parts, polynomial_bound, arm_bound, has_variable, reads, poly_at, spread_part, is_member, slope_of, offset_of, Flow, flow, flows_from, flows_into, flows, factor_of, addition_of, base_of, rules_of, multiplies, adds, growth_parts, addition_parts, loop_bound}
+use Rattle.proof_nodes.specs.AcceptsSizes.{ArmHasSizes, HasSizesAfter, HasSizesBefore, IsStraightArm, IsStraight, spread_size, cycle_size}
+use Rattle.proof_nodes.specs.Setting.{Setting}
+use Rattle.proof_nodes.proofs.CheckLists.{each-in, in-each}
+use Rattle.time_bounds.specs.Standing.{HasGrown}
+
+-- the parts of places agree where the bounds of those agree that have a coefficient and aren't left out
+place_parts-agree : (cs : List ℤ) (den : ℕ) (left_out : ℕ → Bool) (a b : ℕ → Bound)
+    → ((j : ℕ) → not (is_zero (at cs j)) ≡ true → left_out j ≡ false → a j ≡ b j)
+    → place_parts cs den left_out a ≡ place_parts cs den left_out b
+place_parts-agree [] den left_out a b h = refl
+place_parts-agree (c ∷ cs) den left_out a b h =
+    go (is_zero c) (left_out 0) refl refl
+    (place_parts-agree cs den (λ j. left_out (suc j)) (λ j. a (suc j)) (λ j. b (suc j)) (λ j r n. h (suc j) r n))
+  where
+    go : (v w : Bool) → is_zero c ≡ v → left_out 0 ≡ w
+        → place_parts cs den (λ j. left_out (suc j)) (λ j. a (suc j)) ≡ place_parts cs den (λ j. left_out (suc j)) (λ j. b (suc j))
+        → place_parts (c ∷ cs) den left_out a ≡ place_parts (c ∷ cs) den left_out b
+    go true w e f ih = rw e ih
+    go false true e f ih = rw (e, f) ih
+    go false false e f ih =
+        let here : a 0 ≡ b 0 = h 0 (ap not e) f in
+        rw (e, f) (λ i. Part (ProductOf (both_parts (Constant (rounded_up (nat_abs c) den)) (here i))) (ih i))
+
+-- the parts of numbers agree where those of each do
+parts_for-agree : (a b : ℕ → Bound) (ns : List ℕ) → AllByRecursion (λ n. a n ≡ b n) ns → parts_for a ns ≡ parts_for b ns
+parts_for-agree a b [] h = refl
+parts_for-agree a b (n ∷ ns) h = λ i. Part (h.0 i) (parts_for-agree a b ns h.1 i)
+
+-- a polynomial's bounds agree where those of its variables do
+monomials-agree : (q : Polynomial) (a b : ℕ → Bound) → ((j : ℕ) → list_any (λ m. is_in j m.vars) q ≡ true → a j ≡ b j)
+    → monomial_parts q a ≡ monomial_parts q b
+monomials-agree [] a b h = refl
+monomials-agree (m ∷ ms) a b h =
+    let vars = parts_for-agree a b m.vars
+    (in-each (λ n. a n ≡ b n) m.vars (λ j k. h j (or_left (is_in j m.vars) (list_any (λ n. is_in j n.vars) ms) k))) in
+    let rest = monomials-agree ms a b (λ j k. h j (or_right (is_in j m.vars) (list_any (λ n. is_in j n.vars) ms) k)) in
+    λ i. Part (ProductOf (Part (Constant (nat_abs m.coef)) (vars i))) (rest i)
+
+polynomial-agrees : (o : Option Polynomial) (a b : ℕ → Bound) → ((j : ℕ) → has_variable o j ≡ true → a j ≡ b j)
+    → polynomial_bound o a ≡ polynomial_bound o b
+polynomial-agrees None a b h = refl
+polynomial-agrees (Some q) a b h = ap SumOf (monomials-agree q a b h)
+
+-- so do an arm's where those of the places that it reads do
+arm-agrees : (o : Option Polynomial) (arm : Arm) (a b : ℕ → Bound) → ((j : ℕ) → reads o arm j ≡ true → a j ≡ b j)
+    → arm_bound o arm a ≡ arm_bound o arm b
+arm-agrees o (Linear den form multipliers) a b h =
+    let places = place_parts-agree form.coefs den no_place a b (λ j r n. h j r) in
+    λ i. SumOf (Part (Constant (rounded_up (positive_part form.constant) den)) (places i))
+arm-agrees o Poly a b h = polynomial-agrees o a b h
+
+module _ (s : Setting) (old new : Table) (grown : HasGrown old new) where
+  -- a known size stays, and so does a known time
+  size-stays : (e j : ℕ) → IsKnown (old.size e (suc j)) → sizes_after old.size e j ≡ sizes_after new.size e j
+  size-stays e j k = ap known (k.1 ∙ sym (grown.sizes e (suc j) k.0 k.1))
+
+  time-stays : (t : ℕ) → IsKnown (old.time t) → known (old.time t) ≡ known (new.time t)
+  time-stays t k = ap known (k.1 ∙ sym (grown.times t k.0 k.1))
+
+  -- the size of a place that doesn't loop stays
+  pub spread-stays : (m : Member) → HasSizesBefore s old [] m → spread_size s old m ≡ spread_size s new m
+  spread-stays m h =
+      ap MaximumOf (parts_for-agree (spread_part s m old.size) (spread_part s m new.size) (pre s.program m.spot.rule)
+      (in-each (λ e. spread_part s m old.size e ≡ spread_part s m new.size e) (pre s.program m.spot.rule)
+      (λ e k. part e (h e k))))
+    where
+      part : (e : ℕ) → HasSizesAfter s old [] m e → spread_part s m old.size e ≡ spread_part s m new.size e
+      part e k =
+          let up = arm-agrees (poly_at s m.spot) m.local.up (sizes_after old.size e) (sizes_after new.size e)
+          (λ j r. size-stays e j (k.up j r refl)) in
+          let low = arm-agrees (poly_at s m.spot) m.local.low (sizes_after old.size e) (sizes_after new.size e)
+          (λ j r. size-stays e j (k.low j r refl)) in
+          λ i. MaximumOf (both_parts (up i) (low i))
+
+  module _ (members : List Member) where
+    -- neither arm of a member is bent after a rule
+    abbrev pub AreStraight : Member → ℕ → Type 0
+    AreStraight m e = IsStraightArm s members m e m.local.up × IsStraightArm s members m e m.local.low
+
+    -- what an arm adds stays, and so does what flows by it
+    offset-stays : (m : Member) (arm : Arm) (e : ℕ) → ArmHasSizes s old members m.spot arm e → IsStraightArm s members m e arm
+        → offset_of (poly_at s m.spot) arm (is_member members e) (sizes_after old.size e)
+        ≡ offset_of (poly_at s m.spot) arm (is_member members e) (sizes_after new.size e)
+    offset-stays m (Linear den form multipliers) e h k =
+        let places = place_parts-agree form.coefs den (is_member members e) (sizes_after old.size e) (sizes_after new.size e)
+        (λ j r n. size-stays e j (h j r n)) in
+        λ i. SumOf (Part (Constant (rounded_up (positive_part form.constant) den)) (places i))
+    offset-stays m Poly e h k =
+        polynomial-agrees (poly_at s m.spot) (sizes_after old.size e) (sizes_after new.size e)
+        (λ j r. size-stays e j (h j r (k j r)))
+
+    flow-stays : (m : Member) (arm : Arm) (e : ℕ) → ArmHasSizes s old members m.spot arm e → IsStraightArm s members m e arm
+        → flow s members old.size m arm e ≡ flow s members new.size m arm e
+    flow-stays m arm e h k =
+        let offset = offset-stays m arm e h k in
+        λ i. record { rule = m.spot.rule; slope = slope_of arm (is_member members e); offset = offset i }
+
+    from-stays : (m : Member) (es : List ℕ) → AllByRecursion (HasSizesAfter s old members m) es → AllByRecursion (AreStraight m) es
+        → flows_from s members old.size m es ≡ flows_from s members new.size m es
+    from-stays m [] h k = refl
+    from-stays m (e ∷ es) h k =
+        let up = flow-stays m m.local.up e h.0.up k.0.0 in
+        let low = flow-stays m m.local.low e h.0.low k.0.1 in
+        let rest = from-stays m es h.1 k.1 in
+        λ i. up i ∷ low i ∷ rest i
+
+    -- what flows into members stays
+    pub into-stays : (ms : List Member) → AllByRecursion (HasSizesBefore s old members) ms → AllByRecursion (IsStraight s members) ms
+        → flows_into s members old.size ms ≡ flows_into s members new.size ms
+    into-stays [] h k = refl
+    into-stays (m ∷ ms) h k =
+        let es = pre s.program m.spot.rule in
+        let here = from-stays m es (in-each (HasSizesAfter s old members m) es h.0)
+        (in-each (AreStraight m) es (λ e l. (k.0.up e l, k.0.low e l))) in
+        let rest = into-stays ms h.1 k.1 in
+        λ i. here i ++ rest i
+
+  -- a rule that multiplies or adds has a time
+  abbrev HasItsTime : List Flow → ℕ → Type 0
+  HasItsTime fs t = (multiplies fs t || adds s fs t) ≡ true → IsKnown (old.time t)
+
+  growth-stays : (fs : List Flow) (ts : List ℕ) (last : Bound) → AllByRecursion (HasItsTime fs) ts
+      → growth_parts fs old.time ts last ≡ growth_parts fs new.time ts last
+  growth-stays fs [] last h = refl
+  growth-stays fs (t ∷ ts) last h = go (multiplies fs t) refl (growth-stays fs ts last h.1)
+    where
+      go : (v : Bool) → multiplies fs t ≡ v → growth_parts fs old.time ts last ≡ growth_parts fs new.time ts last
+          → growth_parts fs old.time (t ∷ ts) last ≡ growth_parts fs new.time (t ∷ ts) last
+      go true e ih =
+          let time = time-stays t (h.0 (or_left (multiplies fs t) (adds s fs t) e)) in
+          rw e (λ i. Part (PowerOf (factor_of fs t) (time i)) (ih i))
+      go false e ih = rw e ih
+
+  additions-stay : (fs : List Flow) (ts : List ℕ) → AllByRecursion (HasItsTime fs) ts
+      → addition_parts s fs old.time ts ≡ addition_parts s fs new.time ts
+  additions-stay fs [] h = refl
+  additions-stay fs (t ∷ ts) h = go (adds s fs t) refl (additions-stay fs ts h.1)
+    where
+      go : (v : Bool) → adds s fs t ≡ v → addition_parts s fs old.time ts ≡ addition_parts s fs new.time ts
+          → addition_parts s fs old.time (t ∷ ts) ≡ addition_parts s fs new.time (t ∷ ts)
+      go true e ih =
+          let time = time-stays t (h.0 (or_right (multiplies fs t) (adds s fs t) e)) in
+          rw e (λ i. Part (ProductOf (both_parts (time i) (addition_of fs t))) (ih i))
+      go false e ih = rw e ih
+
+  -- the size of the members of a loop stays
+  pub cycle-stays : (ms : List Member) → flows s ms old.size ≡ flows s ms new.size
+      → AllByRecursion (λ t. IsKnown (old.time t))
+      (filter (λ t. multiplies (flows s ms old.size) t || adds s (flows s ms old.size) t) (rules_of s ms))
+      → cycle_size s old ms ≡ cycle_size s new ms
+  cycle-stays ms same h =
+      (λ i. loop_with (additions i)) ∙ (grown_with ∙ ap (λ (fs : List Flow). loop_bound s fs new.time (rules_of s ms)) same)
+    where
+      fs : List Flow
+      fs = flows s ms old.size
+
+      needs : ℕ → Bool
+      needs t = multiplies fs t || adds s fs t
+
+      timed : AllByRecursion (HasItsTime fs) (rules_of s ms)
+      timed = in-each (HasItsTime fs) (rules_of s ms)
+          (λ t i k. each-in (λ u. IsKnown (old.time u)) (filter needs (rules_of s ms)) h t (is_in-filter needs (rules_of s ms) t i k))
+
+      additions : addition_parts s fs old.time (rules_of s ms) ≡ addition_parts s fs new.time (rules_of s ms)
+      additions = additions-stay fs (rules_of s ms) timed
+
+      loop_with : Parts → Bound
+      loop_with parts = ProductOf (growth_parts fs old.time (rules_of s ms) (SumOf (Part (base_of fs) parts)))
+
+      grown_with : loop_with (addition_parts s fs new.time (rules_of s ms)) ≡ loop_bound s fs new.time (rules_of s ms)
+      grown_with = ap ProductOf (growth-stays fs (rules_of s ms) (SumOf (Part (base_of fs) (addition_parts s fs new.time (rules_of s ms)))) timed)
