@@ -1,6 +1,7 @@
 -- what an analysis says of a program, and when that holds on all runs
 pub mod Reports
 pub mod Holding
+pub mod WorkedReports
 -- an outcome as a report, and which outcomes can be printed
 pub mod Views
 pub mod Printing

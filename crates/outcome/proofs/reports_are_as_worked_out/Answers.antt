@@ -1,0 +1,5 @@
+use Rattle.outcome.proofs.WorkedReports.{entries_found, reports_hold, reasons_hold}
+use Rattle.outcome.proofs.reports_are_as_worked_out.Goals as goal
+
+pub returns : goal.returns
+returns c = record { entries = entries_found; reports = reports_hold; reasons = reasons_hold }
