@@ -51,4 +51,5 @@ pub mod WorkedFirst
 pub mod WorkedLast
 pub mod WorkedApart
 pub mod WorkedWhole
+pub mod WorkedNewSizes
 pub mod WorkedSizeLemmas

@@ -15,18 +15,19 @@ use Rattle.proof_nodes.specs.WorkedSettings.{counting, enter, count_down}
 use Rattle.outcome.specs.Reports.{NoFunction, LacksTime, Timed, Untimed}
 use Rattle.round_relation.specs.Tables.{IsPlace}
 use Rattle.round_relation.specs.Sets.{IsShut}
-use Rattle.round_relation.specs.Searches.{searches_of, size_searches_of, NoPoint, Ranked, Unranked, Found, NotFound}
+use Rattle.round_relation.specs.Searches.{SizeAnswers, searches_of, size_searches_of}
+use Rattle.round_relation.specs.Searches.{NoPoint, Ranked, Unranked, Found, NotFound}
 use Rattle.round_relation.specs.Beginning.{IsDead}
 use Rattle.round_relation.specs.NewTimes.{bound_in, Tells, TriesTime}
-use Rattle.round_relation.specs.NewSizes.{Sizes, has_spot, is_unsized, TriesSize}
+use Rattle.round_relation.specs.NewSizes.{has_spot, is_unsized, TriesSize}
 use Rattle.round_relation.specs.Components.{AreSpotsAscending, IsCovered, IsOneOf, AreComponentsOf}
 use Rattle.round_relation.specs.Rounds.{Next, IsClosed}
 use Rattle.round_relation.specs.Reasons.{IsNoSize}
-use Rattle.round_relation.specs.Worked.{start_size, times_with, entry_sizes}
+use Rattle.round_relation.specs.Worked.{start_size, entry_sizes}
 use Rattle.round_relation.specs.WorkedRounds.{value_ranks, once_the_start}
 use Rattle.round_relation.specs.WorkedLast.{place, gap_over}
 use Rattle.round_relation.specs.WorkedWhole.{value_where_open, spot, alone, all_found, none_found, both_sizes, entered}
-use Rattle.round_relation.specs.WorkedWhole.{sized, timed, WholeRoundsAreTold}
+use Rattle.round_relation.specs.WorkedWhole.{first_sizes, sized, timed, WholeRoundsAreTold}
 use Rattle.round_relation.proofs.Cases.{false_true, none_some, some_none, some_same, told, true_false}
 use Rattle.round_relation.proofs.FactLists.{contains-none}
 use Rattle.round_relation.proofs.OneTable.{answers_one, tells_one}
@@ -98,7 +99,8 @@ apart t i m (inr x) = x
 not_empty : (t : ℕ) (m : List ℕ) → value_where_open.empty t ≡ NoPoint m → ⊥
 not_empty t m e = cc
 
-components : AreComponentsOf (searches_of value_where_open) counting.program alone
+-- each place of a live rule is in one of them
+pub components : AreComponentsOf (searches_of value_where_open) counting.program alone
 components = record {
   is_empty = λ t. false;
   empty = λ t rule. (λ e. absurd (false_true e), λ h. absurd (not_empty t h.multipliers h.shown));
@@ -138,15 +140,11 @@ not_twice : AreComponentsOf (searches_of value_where_open) counting.program
     ((spot 1 1 ∷ []) ∷ (spot 1 1 ∷ []) ∷ (spot 2 1 ∷ []) ∷ []) → ⊥
 not_twice h = h.apart.0 1 1 refl (inl refl)
 
--- the sizes once the first component is tried
-abbrev first_sizes : Sizes
-first_sizes zero i = start_size i
-first_sizes (suc zero) i = start_size i
-first_sizes (suc (suc t)) i = None
-
-first_tried : TriesSize (size_searches_of all_found) (times_with (Some (Constant 1)) None) entry_sizes
-    (spot 1 1 ∷ []) first_sizes
-first_tried = record { known = known; others = others; tried = λ x. (Found (Input 0), refl, given) }
+-- the first component is tried, and a size is found
+pub first_tried : (z : SizeAnswers) (time : ℕ → Option Bound)
+    → z.size time entry_sizes (spot 1 1 ∷ []) ≡ Found (Input 0)
+    → TriesSize (size_searches_of z) time entry_sizes (spot 1 1 ∷ []) first_sizes
+first_tried z time found = record { known = known; others = others; tried = λ x. (Found (Input 0), found, given) }
   where
     known : (t i : ℕ) (b : Bound) → entry_sizes t i ≡ Some b → first_sizes t i ≡ Some b
     known zero i b e = e
@@ -165,9 +163,11 @@ first_tried = record { known = known; others = others; tried = λ x. (Found (Inp
         subst (λ (n : ℕ). first_sizes n i ≡ Some (Input 0)) same.0
         (subst (λ (n : ℕ). first_sizes 1 n ≡ Some (Input 0)) same.1 refl)
 
-second_tried : TriesSize (size_searches_of all_found) (times_with (Some (Constant 1)) None) first_sizes
-    (spot 2 1 ∷ []) both_sizes
-second_tried = record { known = known; others = others; tried = λ x. (Found (Input 0), refl, given) }
+-- so is the second
+pub second_tried : (z : SizeAnswers) (time : ℕ → Option Bound)
+    → z.size time first_sizes (spot 2 1 ∷ []) ≡ Found (Input 0)
+    → TriesSize (size_searches_of z) time first_sizes (spot 2 1 ∷ []) both_sizes
+second_tried z time found = record { known = known; others = others; tried = λ x. (Found (Input 0), found, given) }
   where
     known : (t i : ℕ) (b : Bound) → first_sizes t i ≡ Some b → both_sizes t i ≡ Some b
     known zero i b e = e
@@ -210,8 +210,11 @@ first = record {
     components = alone;
     are_components = refl;
     live = components;
-    tried =
-        (first_sizes, first_tried, (both_sizes, second_tried, λ t i. refl));
+    tried = (
+      first_sizes,
+      first_tried all_found sized.time refl,
+      (both_sizes, second_tried all_found sized.time refl, λ t i. refl),
+    );
   };
 }
   where

@@ -1,17 +1,19 @@
 -- Whole rounds, as they were worked out by hand: k(A) -> l(A), and l(A) -> l(A - 1) where A >= 1.
-use Rattle.std.specs.Prelude.{ℕ, zero, suc, List, [], ◌∷◌, Option, Some, None}
+use Rattle.std.specs.Prelude.{ℕ, zero, suc, ◌==◌, ◌&&◌, cond, List, [], ◌∷◌, Option, Some, None}
 use Rattle.model.specs.Bounds.{Bound, Constant, Input}
 use Rattle.proof_nodes.specs.Gaps.{SymbolPlace}
 use Rattle.proof_nodes.specs.Nodes.{Spot}
 use Rattle.proof_nodes.specs.Known.{Table}
 use Rattle.proof_nodes.specs.WorkedSettings.{counting}
-use Rattle.outcome.specs.Reports.{LacksTime}
+use Rattle.outcome.specs.Reports.{LacksTime, IsMissing}
 use Rattle.round_relation.specs.Searches.{Answers, SizeAnswers, HasPoint, Ranking, Ranked, Unranked, Found, NotFound}
-use Rattle.round_relation.specs.Searches.{searches_of, size_searches_of}
+use Rattle.round_relation.specs.Searches.{Sizing, searches_of, size_searches_of}
+use Rattle.round_relation.specs.Tables.{lacks}
+use Rattle.round_relation.specs.NewSizes.{Sizes, TriesSizes}
 use Rattle.round_relation.specs.Components.{AreComponentsOf}
-use Rattle.round_relation.specs.Rounds.{Next, IsClosed}
+use Rattle.round_relation.specs.Rounds.{HasNewSizes, Next, IsClosed}
 use Rattle.round_relation.specs.Reasons.{IsNoSize}
-use Rattle.round_relation.specs.Worked.{start_size, times_with, table_with}
+use Rattle.round_relation.specs.Worked.{start_size, entry_sizes, times_with, nothing_known, table_with}
 use Rattle.round_relation.specs.WorkedRounds.{value_ranks, once_the_start}
 use Rattle.round_relation.specs.WorkedLast.{gap_over}
 
@@ -75,3 +77,51 @@ pub record WholeRoundsAreTold : Type 0 where
   pub not_by_rule_1 : ¬ (IsNoSize (size_searches_of none_found) entered 2 1 (LacksTime 1))
   pub not_known : ¬ (IsNoSize (size_searches_of none_found) sized 2 1 (LacksTime 2))
   pub not_elsewhere : ¬ (IsNoSize (size_searches_of none_found) entered 2 2 (LacksTime 2))
+
+-- each is found only where the time of rule 1 is known
+abbrev pub found_by_time : SizeAnswers
+found_by_time = record {
+  components = alone;
+  arms = λ m. None;
+  size = λ time size c. cond (lacks (time 1)) (NotFound (LacksTime 1)) (Found (Input 0));
+}
+
+-- that after rule 2 is found only where that after rule 1 is known
+abbrev pub after_the_first : Sizes → List Spot → Sizing
+after_the_first size [] = NotFound (LacksTime 2)
+after_the_first size (m ∷ c) =
+    cond ((m.rule == 2) && lacks (size 1 1)) (NotFound (IsMissing (spot 1 1))) (Found (Input 0))
+
+abbrev pub found_by_size : SizeAnswers
+found_by_size = record { components = alone; arms = λ m. None; size = λ time size c. after_the_first size c }
+
+-- the components turned round
+abbrev pub turned : List (List Spot)
+turned = (spot 2 1 ∷ []) ∷ (spot 1 1 ∷ []) ∷ []
+
+-- the sizes with that after rule 1 alone
+abbrev pub first_sizes : Sizes
+first_sizes zero i = start_size i
+first_sizes (suc zero) i = start_size i
+first_sizes (suc (suc t)) i = None
+
+-- no times, and both sizes
+abbrev pub sizes_alone : Table
+sizes_alone = record { time = times_with None None; size = both_sizes }
+
+-- sizes are found with the times of the round: where it gives rule 1 a time, which the table before doesn't have, both
+-- sizes are found, and else none is. They are found with the sizes found so far: where the place after rule 1 comes
+-- first, that after rule 2 is found too, and where it comes last, it isn't
+pub record NewSizesAreTold : Type 0 where
+  pub new_time : HasNewSizes (searches_of value_where_open) (size_searches_of found_by_time) counting nothing_known
+      sized
+  pub not_by_old_time : ¬ (HasNewSizes (searches_of value_where_open) (size_searches_of found_by_time) counting
+      nothing_known entered)
+  pub no_time : HasNewSizes (searches_of value_where_open) (size_searches_of found_by_time) counting nothing_known
+      nothing_known
+  pub not_without_time : ¬ (HasNewSizes (searches_of value_where_open) (size_searches_of found_by_time) counting
+      nothing_known sizes_alone)
+  pub so_far : TriesSizes (size_searches_of found_by_size) entered.time entry_sizes alone both_sizes
+  pub not_by_old_sizes : ¬ (TriesSizes (size_searches_of found_by_size) entered.time entry_sizes alone first_sizes)
+  pub turned_round : TriesSizes (size_searches_of found_by_size) entered.time entry_sizes turned first_sizes
+  pub not_too_early : ¬ (TriesSizes (size_searches_of found_by_size) entered.time entry_sizes turned both_sizes)

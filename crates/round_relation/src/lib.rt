@@ -12,7 +12,7 @@ ghost use Rattle.round_relation.specs.WorkedLemmas.{UsesAreTold};
 ghost use Rattle.round_relation.specs.WorkedRounds.{FirstRoundIsTold};
 ghost use Rattle.round_relation.specs.WorkedLast.{ShutOfCounting, LastRoundIsTold};
 ghost use Rattle.round_relation.specs.WorkedApart.{ApartIsTold};
-ghost use Rattle.round_relation.specs.WorkedWhole.{WholeRoundsAreTold};
+ghost use Rattle.round_relation.specs.WorkedWhole.{WholeRoundsAreTold, NewSizesAreTold};
 ghost use Rattle.round_relation.specs.WorkedSizeLemmas.{SizeLemmasAreTold};
 
 /// Each round gives a bound that was missing, or a further one gives nothing new.
@@ -119,9 +119,11 @@ pub fn first_lemmas_are_as_worked_out()
     ensures { ApartIsTold }
 {}
 
-/// The whole rounds of the program that counts down, and why a size is missing, are those worked out by hand.
+/// The whole rounds of the program that counts down, why a size is missing, and which times and sizes the sizes of a
+/// round are found with, are those worked out by hand.
 pub fn whole_rounds_are_as_worked_out()
-    ensures { WholeRoundsAreTold }
+    ensures rounds { WholeRoundsAreTold }
+    ensures sizes { NewSizesAreTold }
 {}
 
 /// What nodes of sizes need, and the lemmas of the sizes of a round of that program, are those worked out by hand.
