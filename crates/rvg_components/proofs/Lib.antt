@@ -7,3 +7,4 @@ pub mod FlowLaws
 pub mod Listings
 pub mod InnerFlows
 pub mod Found
+pub mod WorkedFlows

@@ -7,3 +7,5 @@ pub mod Edges
 pub mod Inside
 pub mod Fitting
 pub mod FlowGraphs
+-- values that were worked out by hand
+pub mod WorkedFlows

@@ -7,9 +7,11 @@ mod component;
 mod flowing;
 mod graph;
 mod inside;
+mod laws;
 mod listing;
 mod numbering;
 mod reading;
 
 pub use component::Component;
+pub use laws::flows_are_as_worked_out;
 pub use listing::components;

@@ -1,0 +1,125 @@
+-- Which places are nodes, where values flow, what loops, and the components in their order, as they were worked out by
+-- hand of small programs.
+use Rattle.std.specs.Prelude.{◌≡◌, ℕ, ◌==◌, Bool, true, false, cond, [], ◌∷◌, pos, negsuc, Some}
+use Rattle.model.specs.Terms.{Variable}
+use Rattle.model.specs.WorkedRuns.{countdown}
+use Rattle.proof_nodes.specs.Nodes.{Spot, Poly}
+use Rattle.proof_nodes.specs.AcceptsSizes.{Up}
+use Rattle.proof_nodes.specs.Setting.{Setting}
+use Rattle.proof_nodes.specs.WorkedSettings.{counting, program_with, rule_over}
+use Rattle.proof_nodes.specs.Worked.{arm}
+use Rattle.proof_tree.specs.declared.answer.Question.TheVariants as asked
+use Rattle.proof_tree.specs.declared.answer.TripCause.TheVariants as causes
+use Rattle.local_size.specs.LocalAnswers.{Local, HasBound, IsLooseOn, HasTripped}
+use Rattle.rvg_components.specs.Flows.{Locals, value_flows, live_spots, loops}
+use Rattle.rvg_components.specs.Listing.{AreComponents}
+
+-- a place after a rule
+abbrev pub spot : ℕ → ℕ → Spot
+spot t i = record { rule = t; place = i }
+
+-- answers whose arms read the place before: both, the up arm, the low arm, and none
+abbrev pub reads_both : Local
+reads_both = HasBound (record { up = arm (pos 1) (pos 0) []; low = arm (negsuc 0) (pos 0) [] })
+
+abbrev pub reads_up : Local
+reads_up = HasBound (record { up = arm (pos 1) (pos 0) []; low = arm (pos 0) (pos 7) [] })
+
+abbrev pub reads_low : Local
+reads_low = HasBound (record { up = arm (pos 0) (pos 7) []; low = arm (negsuc 0) (pos 0) [] })
+
+abbrev pub reads_none : Local
+reads_none = HasBound (record { up = arm (pos 0) (pos 7) []; low = arm (pos 0) (pos 7) [] })
+
+-- an answer of the polynomial itself
+abbrev pub reads_poly : Local
+reads_poly = HasBound (record { up = Poly; low = Poly })
+
+-- answers without arms
+abbrev pub is_loose : Local
+is_loose = IsLooseOn Up (pos 1 ∷ []) (record { parts = []; den = 0 })
+
+abbrev pub has_tripped : Local
+has_tripped = HasTripped (record { question = asked.Local 2 1; cause = causes.Scale })
+
+-- this answer for rule 2, and for all others one that reads the place before
+abbrev pub after_2 : Local → Locals
+after_2 l t i = cond (t == 2) l reads_both
+
+abbrev pub all_read : Locals
+all_read t i = reads_both
+
+-- all rules are live
+abbrev pub all_live : ℕ → Bool
+all_live t = true
+
+-- the program that counts down where the new value of rule 2 is the square of A
+abbrev pub squared : Setting
+squared = record counting { poly = λ t i. Some (record { coef = pos 1; vars = 0 ∷ 0 ∷ [] } ∷ []) }
+
+-- k(A) -> l(A), and l(A) -> l(A - 1): a value flows from the first place into the second, and from that into itself,
+-- but not back. It flows by either arm that reads the place before, also by a polynomial, and by no other one; into a
+-- place without arms nothing flows
+pub record FlowsAreTold : Type 0 where
+  pub onward : value_flows counting all_read (spot 1 1) (spot 2 1) ≡ true
+  pub back : value_flows counting all_read (spot 2 1) (spot 1 1) ≡ false
+  pub into_itself : value_flows counting all_read (spot 2 1) (spot 2 1) ≡ true
+  pub not_into_itself : value_flows counting all_read (spot 1 1) (spot 1 1) ≡ false
+  pub by_up : value_flows counting (after_2 reads_up) (spot 1 1) (spot 2 1) ≡ true
+  pub by_low : value_flows counting (after_2 reads_low) (spot 1 1) (spot 2 1) ≡ true
+  pub by_none : value_flows counting (after_2 reads_none) (spot 1 1) (spot 2 1) ≡ false
+  pub by_poly : value_flows squared (after_2 reads_poly) (spot 1 1) (spot 2 1) ≡ true
+  pub other_place : value_flows counting all_read (spot 1 2) (spot 2 1) ≡ false
+  pub other_place_by_poly : value_flows squared (after_2 reads_poly) (spot 1 2) (spot 2 1) ≡ false
+  pub into_loose : value_flows counting (after_2 is_loose) (spot 1 1) (spot 2 1) ≡ false
+  pub into_tripped : value_flows counting (after_2 has_tripped) (spot 1 1) (spot 2 1) ≡ false
+
+-- the places of live rules alone, in the order of rules and then of places
+pub record LivePlacesAreTold : Type 0 where
+  pub all : live_spots counting.program all_live ≡ spot 1 1 ∷ spot 2 1 ∷ []
+  pub first : live_spots counting.program (λ t. t == 1) ≡ spot 1 1 ∷ []
+  pub second : live_spots counting.program (λ t. t == 2) ≡ spot 2 1 ∷ []
+  pub none : live_spots counting.program (λ t. false) ≡ []
+  pub two_places : live_spots countdown all_live ≡ spot 1 1 ∷ spot 1 2 ∷ spot 2 1 ∷ spot 2 2 ∷ []
+
+-- k(A) -> l(A), l(A) -> m(A), and m(A) -> l(A): the last two go round
+abbrev pub ring : Setting
+ring = record counting {
+  program = program_with (rule_over 0 1 0 (Variable 0) [] ∷ rule_over 1 2 0 (Variable 0) []
+      ∷ rule_over 2 1 0 (Variable 0) [] ∷ []);
+}
+
+-- the place after rule 1 doesn't loop, and that after rule 2 of the program that counts down does, unless it has no
+-- arms; of those that go round none does alone, and both do together
+pub record LoopsAreTold : Type 0 where
+  pub none : loops counting all_read [] ≡ false
+  pub first : loops counting all_read (spot 1 1 ∷ []) ≡ false
+  pub second : loops counting all_read (spot 2 1 ∷ []) ≡ true
+  pub loose : loops counting (after_2 is_loose) (spot 2 1 ∷ []) ≡ false
+  pub one_of_two : loops ring all_read (spot 2 1 ∷ []) ≡ false
+  pub other_of_two : loops ring all_read (spot 3 1 ∷ []) ≡ false
+  pub two : loops ring all_read (spot 2 1 ∷ spot 3 1 ∷ []) ≡ true
+
+-- l(A) -> m(A), k(A) -> m(A), and k(A) -> l(A): a value flows from the last place into the first, and else nowhere
+abbrev pub last_first : Setting
+last_first = record counting {
+  program = program_with (rule_over 1 2 0 (Variable 0) [] ∷ rule_over 0 2 0 (Variable 0) []
+      ∷ rule_over 0 1 0 (Variable 0) [] ∷ []);
+}
+
+-- the components of the first: the place that comes in, and then the two that go round together; in no other order, nor
+-- taken apart, nor without one of them. Those of the second: each place for itself, but the first one last
+pub record FlowComponentsAreTold : Type 0 where
+  pub round : AreComponents ring all_live all_read ((spot 1 1 ∷ []) ∷ (spot 2 1 ∷ spot 3 1 ∷ []) ∷ [])
+  pub turned : ¬ (AreComponents ring all_live all_read ((spot 2 1 ∷ spot 3 1 ∷ []) ∷ (spot 1 1 ∷ []) ∷ []))
+  pub descending : ¬ (AreComponents ring all_live all_read ((spot 1 1 ∷ []) ∷ (spot 3 1 ∷ spot 2 1 ∷ []) ∷ []))
+  pub taken_apart : ¬ (AreComponents ring all_live all_read
+      ((spot 1 1 ∷ []) ∷ (spot 2 1 ∷ []) ∷ (spot 3 1 ∷ []) ∷ []))
+  pub together : ¬ (AreComponents ring all_live all_read ((spot 1 1 ∷ spot 2 1 ∷ spot 3 1 ∷ []) ∷ []))
+  pub lacking : ¬ (AreComponents ring all_live all_read ((spot 1 1 ∷ []) ∷ []))
+  pub each_alone : AreComponents last_first all_live all_read
+      ((spot 2 1 ∷ []) ∷ (spot 3 1 ∷ []) ∷ (spot 1 1 ∷ []) ∷ [])
+  pub by_rules : ¬ (AreComponents last_first all_live all_read
+      ((spot 1 1 ∷ []) ∷ (spot 2 1 ∷ []) ∷ (spot 3 1 ∷ []) ∷ []))
+  pub ends_first : ¬ (AreComponents last_first all_live all_read
+      ((spot 3 1 ∷ []) ∷ (spot 1 1 ∷ []) ∷ (spot 2 1 ∷ []) ∷ []))
