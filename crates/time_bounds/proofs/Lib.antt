@@ -6,6 +6,7 @@ pub mod Sums
 -- the set of a rule, and its shut places
 pub mod SetLaws
 pub mod Shut
+pub mod PartSets
 -- a round of the code is one of the relation
 pub mod RoundLaws
 -- the ends of rules

@@ -56,7 +56,7 @@ leading_within p t (inl e) = omega (arith, e)
 leading_within p t (inr r) = rule_within p t r.rule r.numbered
 
 -- sets by tests that agree at the program's numbers are the same
-in_set : (p : Program) (f g : ℕ → Bool) → ((t : ℕ) → t ≤ length p.rules → f t ≡ g t) → (t e : ℕ) → IsInSet p f t e → IsInSet p g t e
+pub in_set : (p : Program) (f g : ℕ → Bool) → ((t : ℕ) → t ≤ length p.rules → f t ≡ g t) → (t e : ℕ) → IsInSet p f t e → IsInSet p g t e
 in_set p f g h t e (inl same) = inl same
 in_set p f g h t e (inr l) =
     inr (record {

@@ -9,6 +9,7 @@ pub mod SearchLaws
 pub mod Questions
 pub mod Tries
 pub mod Shutting
+pub mod Parts
 -- what is asked of places, and what a round makes of their components
 pub mod Locals
 pub mod Candidates

@@ -1,18 +1,18 @@
 // The rank question of a rule, and its answer.
 
-ghost use Rattle.std.specs.Prelude.{◌≡◌, ◌<◌, ◌≤◌, length, true, IfOk, IfSome, Some, None, slice_index_or, false};
+ghost use Rattle.std.specs.Prelude.{◌≡◌, ◌<◌, ◌≤◌, length, true, IfOk, IfSome, OnOk, Some, None, slice_index_or, false};
 ghost use Rattle.its_model.specs.Valid.{IsValid};
 ghost use Rattle.its_model.specs.Views.{program_of};
 ghost use Rattle.rank_search.specs.RankAnswers.{IsRuleSet, MayAllRun};
 ghost use Rattle.size_bounds.specs.Tables.{table_of};
+ghost use Rattle.time_bounds.specs.Parts.{AreParts};
 ghost use Rattle.time_bounds.specs.Questions.{AreQuestionsOf, AreUntimed, IsAnswered, IsAsked};
 ghost use Rattle.time_bounds.specs.Questions.{IsSameQuestion, KnowsEmpty};
 
+use crate::parts::{OpenSet, Parts, open_set};
 use crate::questions::Questions;
-use crate::sets::shut_places;
 use its_model::Program;
 use model::Memory;
-use proof_tree::entries;
 use rank_search::{RankAnswer, find_rank};
 use size_bounds::Table;
 use std::alloc::Global;
@@ -33,6 +33,7 @@ pub(crate) fn ask(
     q: &Questions,
     table: &Table,
     untimed: &[bool],
+    parts: &mut Parts,
     rule: u32,
     before: Option<Asked>,
 ) -> Result<Asked, Memory>
@@ -41,14 +42,15 @@ pub(crate) fn ask(
     requires flags { AreUntimed (program_of p.now) table.now untimed.now }
     requires start { slice_index_or untimed.now 0 false ≡ false }
     requires untimed_rule { slice_index_or untimed.now rule false ≡ true }
+    requires parts { AreParts (program_of p.now) table.now parts.old }
     requires empty { KnowsEmpty (program_of p.now) table.now q.now.empties.items }
     requires kept { IfSome before (λ a. IsAnswered (program_of p.now) q.now.pivots q.now.empties.items rule a) }
     ensures asked { IfOk result (λ a. IsAsked (program_of p.now) table.now rule a) }
     ensures answered { IfOk result (λ a. IsAnswered (program_of p.now) q.now.pivots q.now.empties.items rule a) }
+    ensures parts { OnOk result (AreParts (program_of p.now) table.now parts.new) }
 {
-    let set = q.graph.back_closure(alloc, untimed, rule)?;
-    let entering = entries(alloc, p, &set)?;
-    let shut = shut_places(alloc, p, table, &entering)?;
+    let found = open_set(alloc, p, q, table, untimed, parts, rule)?;
+    let OpenSet { set, shut } = found;
     answered(alloc, p, q, rule, set, shut, before)
 }
 

@@ -14,6 +14,7 @@ mod fates;
 mod first_lemmas;
 mod law;
 mod locals;
+mod parts;
 mod questions;
 mod reasons;
 mod rounds;

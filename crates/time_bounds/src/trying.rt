@@ -12,11 +12,13 @@ ghost use Rattle.round_relation.specs.Tables.{is_untimed};
 ghost use Rattle.round_relation.specs.Uses.{uses_for, rank_needs};
 ghost use Rattle.size_bounds.specs.Tables.{table_of, numbers_of};
 ghost use Rattle.size_bounds.specs.Lemmas.{uses_seen};
+ghost use Rattle.time_bounds.specs.Parts.{AreParts};
 ghost use Rattle.time_bounds.specs.Questions.{AreQuestionsOf, AreUntimed, IsAnswered, IsAsked, AreKept, IsTable};
 ghost use Rattle.time_bounds.specs.Tries.{IsTried, AreTried, count_found, one_if_found};
 ghost use Rattle.time_bounds.specs.Written.{TimeFollows, TimesFollow};
 
 use crate::asking::{Asked, ask};
+use crate::parts::{Parts, parts_of};
 use crate::questions::Questions;
 use crate::sets::untimed_rules;
 use crate::uses::uses_of;
@@ -65,10 +67,13 @@ pub(crate) fn try_rules(
         lemmas.old.items lemmas.new.items) }
 {
     let untimed = untimed_rules(alloc, table)?;
+    let mut parts = parts_of(alloc, p, q, table, &untimed)?;
     let mut tries = Vec::new(alloc);
     for asked in before {
         let rule = tries.len() as u32 + 1;
-        tries.push(try_rule(alloc, p, q, table, &untimed, rule, asked, lemmas)?)?;
+        tries.push(try_rule(
+            alloc, p, q, table, &untimed, &mut parts, rule, asked, lemmas,
+        )?)?;
     }
     Ok(tries)
 }
@@ -80,6 +85,7 @@ fn try_rule(
     q: &Questions,
     table: &Table,
     untimed: &[bool],
+    parts: &mut Parts,
     rule: u32,
     before: Option<Asked>,
     lemmas: &mut Vec<Proof>,
@@ -88,6 +94,7 @@ fn try_rule(
     requires questions { AreQuestionsOf (program_of p.now) q.now }
     requires table { IsTable (program_of p.now) table.now q.now.empties.items }
     requires flags { AreUntimed (program_of p.now) table.now untimed.now }
+    requires parts { AreParts (program_of p.now) table.now parts.old }
     requires rule { (1 ≤ rule) × (rule ≤ length p.now.rules.items) }
     requires kept { IfSome before (λ a. IsAnswered (program_of p.now) q.now.pivots q.now.empties.items rule a) }
     requires few { length lemmas.old.items + 1 < 2 ^ 32 }
@@ -95,11 +102,12 @@ fn try_rule(
     ensures lemmas { IfOk result (λ x. length lemmas.new.items ≡ length lemmas.old.items + one_if_found x) }
     ensures written { IfOk result (λ x. TimeFollows (program_of p.now) q.now.pivots table.now rule x lemmas.old.items
         lemmas.new.items) }
+    ensures parts { OnOk result (AreParts (program_of p.now) table.now parts.new) }
 {
     if !untimed[rule as usize] {
         return Ok(Tried::Known);
     }
-    let asked = ask(alloc, p, q, table, untimed, rule, before)?;
+    let asked = ask(alloc, p, q, table, untimed, parts, rule, before)?;
     try_answer(alloc, p, table, q, rule, asked, lemmas)
 }
 

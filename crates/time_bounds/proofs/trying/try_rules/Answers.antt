@@ -20,12 +20,18 @@ loop-asked-init c =
       one_each = ap (λ (xs : List Tried). length xs) none;
       tried = subst (λ (xs : List Tried). AreTried (program_of c.args.p.now) c.args.table.now c.args.q.now.pivots c.args.q.now.empties.items 1 xs) (sym none) tt;
       lemmas = omega (arith, ap count_found none);
+      parts = c.in_ok-parts.ensures;
       written = no_times (program_of c.args.p.now) c.args.q.now.pivots c.args.table.now c.new-tries.result.items c.args.lemmas.now.items none;
     }
 
+pub parts_of-requires-clause-flags : goal.parts_of-requires-clause-flags
+parts_of-requires-clause-flags c =
+    subst (λ (xs : List Bool). AreUntimed (program_of c.args.p.now) c.args.table.now xs) (sym (c.deref.ensures.value ∙ c.in_ok-untimed.ensures))
+    (are_untimed (program_of c.args.p.now) c.args.table.now c.args.q.now.empties.items c.requires.table)
+
 pub try_rule-requires-clause-flags : goal.try_rule-requires-clause-flags
 try_rule-requires-clause-flags c =
-    subst (λ (xs : List Bool). AreUntimed (program_of c.args.p.now) c.args.table.now xs) (sym (c.deref.ensures.value ∙ c.in_ok-untimed.ensures))
+    subst (λ (xs : List Bool). AreUntimed (program_of c.args.p.now) c.args.table.now xs) (sym (c.deref-in-loop-asked.ensures.value ∙ c.in_ok-untimed.ensures))
     (are_untimed (program_of c.args.p.now) c.args.table.now c.args.q.now.empties.items c.requires.table)
 
 pub try_rule-requires-clause-kept : goal.try_rule-requires-clause-kept
@@ -59,6 +65,7 @@ loop-asked-preserved c =
     (let z : c.len.result + 1 ≡ 1 + length c.loop-asked.tries.items = omega (arith, c.len.ensures, c.loop-asked.tries.ok.0) in z)
     c.in_ok-try_rule.ensures.tried in
     record {
+      parts = c.in_ok-try_rule.ensures.parts;
       written =
           subst (λ (xs : List Tried). TimesFollow p c.args.q.now.pivots c.args.table.now xs c.args.lemmas.now.items c.try_rule.new.lemmas.items) (sym pushed)
           (one_time p c.args.q.now.pivots c.args.table.now c.loop-asked.tries.items c.in_ok-try_rule.field-0 (c.len.result + 1) c.args.lemmas.now.items

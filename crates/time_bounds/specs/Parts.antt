@@ -1,0 +1,26 @@
+-- The sets of a round, of which those of a component are made once.
+use Rattle.std.specs.Prelude.{◌≡◌, ℕ, suc, ◌<◌, length, true, Some, None, slice_index_or}
+use Rattle.model.specs.Programs.{Program}
+use Rattle.its_graph.specs.Graphs.{HaveSameSets}
+use Rattle.rank_search.specs.ProgramQuestions.{places_of}
+use Rattle.round_relation.specs.Tables.{is_untimed}
+use Rattle.round_relation.specs.Sets.{IsSetOfRule, AreShutOf}
+use Rattle.size_bounds.specs.declared.table.Table.{Table}
+use Rattle.size_bounds.specs.Tables.{table_of}
+use Rattle.time_bounds.specs.declared.parts.OpenSet.{OpenSet}
+use Rattle.time_bounds.specs.declared.parts.Parts.{Parts}
+
+-- this is the set of the rule, with its shut places
+pub record IsOpenSet (p : Program) (tab : Table) (t : ℕ) (s : OpenSet) : Type 0 where
+  pub set : IsSetOfRule p (table_of tab) t s.set.items
+  pub shut : AreShutOf p (table_of tab) s.set.items (places_of s.shut.items)
+
+-- rules without a time that are in one component have the same set, and what was found of a component is the set of
+-- each of them, with its shut places
+pub record AreParts (p : Program) (tab : Table) (parts : Parts) : Type 0 where
+  pub one_each : length parts.of_rules.items ≡ suc (length p.rules)
+  pub within : (t m : ℕ) → slice_index_or parts.of_rules.items t None ≡ Some m → m < length parts.found.items
+  pub same : HaveSameSets p (is_untimed (table_of tab)) parts.of_rules.items
+  pub found : (t m : ℕ) (s : OpenSet) → is_untimed (table_of tab) t ≡ true
+      → slice_index_or parts.of_rules.items t None ≡ Some m → slice_index_or parts.found.items m None ≡ Some s
+      → IsOpenSet p tab t s
