@@ -1,3 +1,4 @@
 pub mod Sayings
 pub mod Exclusions
 pub mod WorkedEnds
+pub mod ToldReports

@@ -6,6 +6,7 @@ pub mod Numbers
 pub mod Ends
 pub mod Processes
 pub mod Exclusion
+pub mod ToldReports
 -- values that were worked out by hand
 pub mod WorkedEnds
 -- what the contracts of the functions inside cite

@@ -1,6 +1,8 @@
-// What the causes of the statuses have to do with each other, and values that were worked out by hand.
+// What the causes of the statuses have to do with each other, what the text of an analysis tells, and values that were
+// worked out by hand.
 
 ghost use Rattle.koat_cli.specs.Exclusion.{CausesExcludeEachOther};
+ghost use Rattle.koat_cli.specs.ToldReports.{ReportsAreTold};
 ghost use Rattle.koat_cli.specs.WorkedEnds.{FaultsLeaveFirstBytes};
 
 /// The law that no two statuses have their causes in one call of `run` on a shelf that tells what it holds. So each
@@ -8,6 +10,13 @@ ghost use Rattle.koat_cli.specs.WorkedEnds.{FaultsLeaveFirstBytes};
 /// the law.
 pub fn causes_exclude_each_other()
     ensures { CausesExcludeEachOther }
+{}
+
+/// The law that the report of an analysis of a valid program, whose numbers fit the types that hold them, can be told
+/// from its text: the text states no other report that can be printed, and none of another analysis of the program. It
+/// has no code: its contract is the law.
+pub fn reports_are_told()
+    ensures { ReportsAreTold }
 {}
 
 /// What a fault of the sink leaves of a text was worked out by hand. It has no code: its contract is these values.

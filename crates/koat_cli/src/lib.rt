@@ -11,7 +11,7 @@ mod said;
 mod status;
 mod top_call;
 
-pub use law::{causes_exclude_each_other, worked_ends_hold};
+pub use law::{causes_exclude_each_other, reports_are_told, worked_ends_hold};
 pub use program::run_program;
 pub use status::Status;
 pub use top_call::run;
