@@ -1,5 +1,5 @@
 -- Answers for as many places as the rows of each rule have are what the search for components is given.
-use Rattle.std.proofs.Common.{◌≡◌, ℕ, zero, suc, Bool, List, [], ◌∷◌, length, map, Vec, Some, None, sym, ◌∙◌, ap}
+use Rattle.std.proofs.Common.{◌≡◌, ℕ, zero, suc, Bool, List, [], ◌∷◌, length, map, Vec, Some, sym, ◌∙◌, ap}
 use Rattle.std.specs.Prelude.{slice_get, slice_index_or, true}
 use Rattle.std.specs.declared.alloc.Global.{Global}
 use Rattle.std.proofs.lemmas.List.{length-map}
@@ -14,6 +14,7 @@ use Rattle.proof_tree.specs.Composing.{AreRowsOf}
 use Rattle.rank_search.proofs.RankSets.{rule-of}
 use Rattle.rvg_components.specs.Listing.{answer_lists, answers_for, is_flagged, AreLocalsFor}
 use Rattle.time_bounds.proofs.RowLaws.{rows_length}
+use Rattle.model.proofs.Cases.{none_some, some_same}
 
 -- how many answers there are for each rule, and how many new values
 abbrev pub how_many : List (Vec LocalAnswer Global) → List ℕ
@@ -30,12 +31,6 @@ rest_same a b xs ys e = cc
 
 empty_not : {A : Type 0} (a : A) (xs : List A) → [] ≡ a ∷ xs → ⊥
 empty_not a xs e = cc
-
-none_some : {A : Type 0} (a : A) → None ≡ Some a → ⊥
-none_some a e = cc
-
-some_same : {A : Type 0} (a b : A) → Some a ≡ Some b → a ≡ b
-some_same a b e = cc
 
 -- a rule has as many answers as its rows have new values
 places_at : (locals : List (Vec LocalAnswer Global)) (preps : List RuleRows) (rules : List Rule) (k : ℕ) (r : Rule)

@@ -13,7 +13,7 @@ pub data First (word : Word) (words values positionals : Words) : Type 0 where
       → First word words values positionals
 
 -- what the words of these items give
-gives_of : (items : List Item) (behind : Option Words) → AreItems items
+pub gives_of : (items : List Item) (behind : Option Words) → AreItems items
     → Gives (written items behind) (values_of items) (positionals_of items behind)
 gives_of items behind proper = record {
   items = items;

@@ -1,14 +1,10 @@
 -- Command lines, and what they ask for.
-use Rattle.std.proofs.Common.{ℕ, List, [], ◌∷◌, Option, Some, None, refl, arith, codes}
-use Rattle.asks.specs.Lines.{Word, Words, Item, Apart, Joined, Positional, AreItems, written, values_of, positionals_of, Gives}
+use Rattle.std.proofs.Common.{ℕ, [], ◌∷◌, Some, None, refl, arith, codes}
+use Rattle.asks.specs.Lines.{Word, Words, Apart, Joined, Positional, Gives}
 use Rattle.asks.specs.Numerals.{IsNumber}
 use Rattle.asks.specs.Requests.{Analyse, Asks, AllowsPivots}
 use Rattle.asks.specs.Worked.{CommandLines}
-
--- words are written of these items
-line : (items : List Item) (behind : Option Words) → AreItems items
-    → Gives (written items behind) (values_of items) (positionals_of items behind)
-line items behind proper = record { items = items; behind = behind; proper = proper; spelled = refl; has_values = refl; has_positionals = refl }
+use Rattle.asks.proofs.Firsts.{gives_of as line}
 
 asked : (others values : Words) (n : ℕ) (file : Word) → Gives others values (file ∷ []) → AllowsPivots values n
     → Asks (codes "analyse" ∷ others) (Analyse n file)

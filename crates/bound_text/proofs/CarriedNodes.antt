@@ -14,6 +14,7 @@ use Rattle.bound_text.proofs.RunLaws.{product_two, node_count-with_copies}
 use Rattle.bound_text.proofs.PartLaws.{product_node-with_part}
 use Rattle.bound_text.proofs.StepCases.{of_run}
 use Rattle.bound_text.proofs.TreeSizes.{grows}
+pub use Rattle.bound_text.proofs.RunLaws.{is_over as over}
 
 -- of up to two copies all are carried
 pub kept_few : (nodes n : ℕ) → n ≤ 2 → copies_kept nodes n ≡ n
@@ -42,10 +43,6 @@ are_two n h = grind (arith, nat_tests)
 -- or one at most
 pub are_few : (n : ℕ) → nat_lt 1 n ≡ false → n ≤ 2
 are_few n h = grind (arith, nat_tests)
-
--- over the limit, as the test says
-pub over : (m : ℕ) → node_limit < m → nat_lt node_limit m ≡ true
-over m h = grind (arith, nat_tests)
 
 -- and the other way round
 pub are_over : (m : ℕ) → nat_lt node_limit m ≡ true → node_limit < m

@@ -11,6 +11,7 @@ use Rattle.bound_text.specs.Fronts.{Bracket, Arguments, Exponent, Factor, Outer,
 use Rattle.bound_text.specs.Steps.{when, with_copies, front_at, behind_factor, caret_behind, can_close, item_of, walk, beginning, finish}
 use Rattle.bound_text.proofs.PartLaws.{is_empty-with_part, last-with_part, init-with_part}
 use Rattle.bound_text.proofs.BoundParts.{factors_of, terms_from, last_factors, terms_in, factors_in, term-factors, appended, appended-none, bound-parts}
+use Rattle.std.proofs.lemmas.Bool.{eqb-true as same_number}
 
 -- where an item can begin, and behind one
 abbrev pub starts : Outer → Parts → Parts → Option Front
@@ -149,10 +150,6 @@ factor_read (Constant c) r shaped none h outer ts fs rest = r.each outer ts fs r
 factor_read (Input i) r shaped none h outer ts fs rest = cc
 factor_read (MaximumOf bs) r shaped none h outer ts fs rest = r.each outer ts fs rest tt
 factor_read (PowerOf c e) r shaped none h outer ts fs rest = r.each outer ts fs rest tt
-
--- a run's number 1 more
-same_number : (i j : ℕ) → nat_eq i j ≡ true → i ≡ j
-same_number i j h = grind (arith, nat_tests)
 
 -- the last of copies is the variable
 last-copies : (n i j : ℕ) (fs : Parts) → is_input j (last (with_copies (suc n) i fs)) ≡ nat_eq i j

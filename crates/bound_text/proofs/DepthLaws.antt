@@ -9,7 +9,7 @@ use Rattle.std.specs.declared.alloc.Global.{Global}
 use Rattle.std.specs.declared.vec.Vec.{Vec}
 use Rattle.std.specs.declared.boxed.Box.{Box}
 use Rattle.model.specs.Bounds as plain
-use Rattle.model.specs.Bounds.{SumOf, ProductOf, MaximumOf, PowerOf, Parts, Part}
+use Rattle.model.specs.Bounds.{SumOf, ProductOf, MaximumOf, PowerOf, Parts}
 use Rattle.text_core.specs.Tokens.{Token}
 use Rattle.bound_expr.specs.declared.bound.Bound.{Bound, Sum, Prod, Max, Power}
 use Rattle.bound_expr.specs.Views.{bound_of, bounds_of, parts_of}

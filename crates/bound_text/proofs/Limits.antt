@@ -1,9 +1,8 @@
 -- The limits on bounds, as the reader's fronts tell them: what is read is within them, and against what is within them
 -- nothing stands.
-use Rattle.std.proofs.Common.{◌≡◌, ℕ, ◌^◌, ◌<◌, ◌≤◌, nat_le, nat_lt, Bool, true, false, ◌&&◌, List, [], ◌∷◌, Some, None, refl, ap, sym, subst, ◌∙◌, inl, inr, arith}
+use Rattle.std.proofs.Common.{◌≡◌, ℕ, ◌^◌, ◌≤◌, Bool, true, false, ◌&&◌, List, [], ◌∷◌, Some, None, refl, ap, sym, subst, ◌∙◌, inl, inr, arith}
 use Rattle.std.specs.Prelude.{⊤}
-use Rattle.std.proofs.lemmas.Bool.{and_parts, or_parts, or_from}
-use Rattle.std.proofs.lemmas.Bool.Decides.{nat_tests}
+use Rattle.std.proofs.lemmas.Bool.{and_parts, or_parts, or_from, leb-false as le_false, ltb-false as lt_false, lt-leb as false_le, le-ltb as false_lt}
 use Rattle.model.specs.Bounds.{Bound, Constant, Parts}
 use Rattle.text_core.specs.Tokens.{Token, pieces}
 use Rattle.text_core.specs.Faults.{Among}
@@ -64,20 +63,6 @@ each_kind NumberTooLarge = inr (inl refl)
 each_kind UnknownName = inr (inr (inl refl))
 each_kind TooDeep = inr (inr (inr (inl refl)))
 each_kind TooLarge = inr (inr (inr (inr (inl refl))))
-
--- a number within a limit, as the test says
-le_false : (a b : ℕ) → nat_le a b ≡ false → b < a
-le_false a b h = grind (arith, nat_tests)
-
-lt_false : (a b : ℕ) → nat_lt a b ≡ false → b ≤ a
-lt_false a b h = grind (arith, nat_tests)
-
--- and the other way round
-false_le : (a b : ℕ) → b < a → nat_le a b ≡ false
-false_le a b h = grind (arith, nat_tests)
-
-false_lt : (a b : ℕ) → b ≤ a → nat_lt a b ≡ false
-false_lt a b h = grind (arith, nat_tests)
 
 -- what is written so, and is kept and within the limits
 pub record IsKeptWithin (n : ℕ) (b : Bound) : Type 0 where

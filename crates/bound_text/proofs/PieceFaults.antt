@@ -1,8 +1,7 @@
 -- Taking a piece comes to the first of what stands against it.
-use Rattle.std.proofs.Common.{◌≡◌, ℕ, ◌<◌, ◌≤◌, nat_lt, Bool, true, false, cond, ◌&&◌, List, Option, Some, None, refl, ap, sym, subst, ◌∙◌, inl, inr, arith}
+use Rattle.std.proofs.Common.{◌≡◌, ℕ, ◌≤◌, nat_lt, Bool, true, false, cond, ◌&&◌, List, Option, Some, None, refl, ap, sym, subst, ◌∙◌, inl, inr, arith}
 use Rattle.std.specs.Prelude.{◌⊎◌}
-use Rattle.std.proofs.lemmas.Bool.{ltb-true, ltb-false}
-use Rattle.std.proofs.lemmas.Bool.Decides.{nat_tests}
+use Rattle.std.proofs.lemmas.Bool.{ltb-true, ltb-false, lt-ltb as past, le-ltb as within}
 use Rattle.bound_text.specs.Pieces.{Piece}
 use Rattle.bound_text.specs.Kinds.{Kind, Syntax, NumberTooLarge, UnknownName, TooDeep, TooLarge, number_of}
 use Rattle.bound_text.specs.Fronts.{Front, IsFront, nodes_of, inner_levels, levels_of}
@@ -12,13 +11,6 @@ use Rattle.bound_text.specs.Reading.{is_deep, has_many, stands}
 use Rattle.bound_text.proofs.StepCases.{step_leads}
 use Rattle.bound_text.proofs.TreeSizes.{grows}
 use Rattle.bound_expr.specs.Limits.{depth_limit, node_limit}
-
--- a number past a limit passes the test, and one within it doesn't
-past : (a b : ℕ) → a < b → nat_lt a b ≡ true
-past a b h = grind (arith, nat_tests)
-
-within : (a b : ℕ) → b ≤ a → nat_lt a b ≡ false
-within a b h = grind (arith, nat_tests)
 
 module _ (n : ℕ) (f : Front) (piece : Piece) (behind : List Piece) where
   -- a kind that stands against the piece, or `Syntax` where it leads nowhere

@@ -62,7 +62,7 @@ refused_by true b f e = refl
 refused_by false b f e = ap (λ (v : Bool). cond v (Refused TooLarge) (Reached f)) e
 
 -- more than the limit, as the test says
-is_over : (m : ℕ) → node_limit < m → nat_lt node_limit m ≡ true
+pub is_over : (m : ℕ) → node_limit < m → nat_lt node_limit m ≡ true
 is_over m h = grind (arith, nat_tests)
 
 -- with more copies than a bound may have nodes the refusal is the same

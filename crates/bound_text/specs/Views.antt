@@ -6,7 +6,7 @@ use Rattle.model.specs.Bounds.{Constant, Input, Parts}
 use Rattle.bound_expr.specs.declared.bound.Bound.{Bound}
 use Rattle.bound_expr.specs.Views.{bound_of}
 use Rattle.bound_text.specs.Fronts as fronts
-use Rattle.bound_text.specs.Fronts.{Front, Outer, Whole, Inside, last, init}
+use Rattle.bound_text.specs.Fronts.{Front, Outer, last, init}
 use Rattle.bound_text.specs.Steps.{front_at, behind_factor}
 use Rattle.text_core.specs.Reading.{Answer, Stands, Refused as RefusedBy}
 use Rattle.bound_text.specs.Kinds as plain

@@ -28,6 +28,7 @@ use Rattle.expr_reader.proofs.AtomNames.{before_kept, sum_kept}
 use Rattle.expr_reader.proofs.Standing.{fresh_stands, token_added}
 use Rattle.expr_reader.proofs.Answering.{goes_on_is}
 use Rattle.expr_reader.proofs.GuardSettling.{word_front, truth_word}
+use Rattle.std.proofs.lemmas.Bool.{not-true as not_true}
 
 -- the word of the atom that always holds is that atom
 named_truth : (n : Name) → truth_worded n ≡ true → (a : guards.Atom) × (truth_named n ≡ Some a)
@@ -56,10 +57,6 @@ both_true false b c h = absurd cc
 middle_false : (a b c : Bool) → a && b && c ≡ false → a ≡ true → c ≡ true → b ≡ false
 middle_false a true c h e f = absurd cc
 middle_false a false c h e f = refl
-
-not_true : (v : Bool) → not v ≡ true → v ≡ false
-not_true true h = absurd cc
-not_true false h = refl
 
 -- a step that is taken, and one that isn't
 a_step : (o : Option Front) → is_front o ≡ true → (f : Front) × (o ≡ Some f)

@@ -8,23 +8,7 @@ use Rattle.poly_terms.specs.Expanding.{expanded}
 use Rattle.poly_terms.specs.Faults.{Fault, LargeCoefficient, ManyTerms, HighDegree, has_large, fault_in, fault_of, powers, subexpressions, or_else, first_among, first_fault}
 use Rattle.expr_text.specs.TermFronts.{limited}
 use Rattle.expr_text.specs.Limited.{LimitedAlike}
-
--- the first fault of expressions and then others
-among_append : (xs ys : List Term) → first_among (xs ++ ys) ≡ or_else (first_among xs) (first_among ys)
-among_append [] ys = refl
-among_append (x ∷ xs) ys = go (fault_of x) (among_append xs ys)
-  where
-    go : (o : Option Fault) → first_among (xs ++ ys) ≡ or_else (first_among xs) (first_among ys) → or_else o (first_among (xs ++ ys)) ≡ or_else (or_else o (first_among xs)) (first_among ys)
-    go None ih = ih
-    go (Some x) ih = refl
-
-alone : (o : Option Fault) → or_else o None ≡ o
-alone None = refl
-alone (Some x) = refl
-
--- those of one expression, or of two, and then the whole
-one_part : (xs : List Term) (t : Term) → first_among (xs ++ t ∷ []) ≡ or_else (first_among xs) (fault_of t)
-one_part xs t = among_append xs (t ∷ []) ∙ ap (or_else (first_among xs)) (alone (fault_of t))
+use Rattle.poly_terms.proofs.FaultLaws.{first-append as among_append, first-snoc as one_part}
 
 two_parts : (xs ys : List Term) (t : Term) → first_among (xs ++ (ys ++ t ∷ [])) ≡ or_else (first_among xs) (or_else (first_among ys) (fault_of t))
 two_parts xs ys t = among_append xs (ys ++ t ∷ []) ∙ ap (or_else (first_among xs)) (one_part ys t)

@@ -1,26 +1,17 @@
 -- Each step of a valid program is a point of its rule's rows.
-use Rattle.std.proofs.Common.{◌≡◌, ℕ, zero, suc, ◌+◌, ◌≤◌, List, [], ◌∷◌, ◌++◌, length, sym, ◌∙◌, subst, arith}
+use Rattle.std.proofs.Common.{◌≡◌, ℕ, zero, suc, ◌+◌, ◌≤◌, List, [], ◌∷◌, ◌++◌, length, sym, ◌∙◌, arith}
 use Rattle.std.specs.Prelude.{pos, Some, slice_get}
 use Rattle.std.specs.List.{AllByRecursion}
 use Rattle.std.proofs.lemmas.List.{length-append, get_or_append_left}
 use Rattle.model.specs.Programs.{Symbol, Rule, Program, rule_at, arity_in}
 use Rattle.model.specs.Runs.{Config, Step, IsStep}
-use Rattle.its_model.specs.Valid.{IsValid, IsValidRule, IsValidSymbol}
+use Rattle.its_model.specs.Valid.{IsValid, IsValidSymbol}
 use Rattle.guard_prep.specs.Laws.{IsPreparable, ValidRulesArePreparable, bent_values, point_of, IsPointOfStep, StepsArePoints}
 use Rattle.guard_prep.proofs.PointLaws.{bent-length, guards-give-points}
-
--- the rule with a number is valid
-pub valid-at : (p : Program) (t : ℕ) (r : Rule) → IsValid p → rule_at p t ≡ Some r → IsValidRule p r
-valid-at p zero r v e = cc
-valid-at p (suc t) r v e = at p.rules t v.rules e
-  where
-    at : (rs : List Rule) (i : ℕ) → AllByRecursion (IsValidRule p) rs → slice_get rs i ≡ Some r → IsValidRule p r
-    at [] i h e = cc
-    at (q ∷ rs) zero h e = subst (IsValidRule p) (let f : q ≡ r = cc in f) h.0
-    at (q ∷ rs) (suc i) h e = at rs i h.1 e
+pub use Rattle.its_model.proofs.ValidLaws.{rule-valid as valid-at}
 
 -- no symbol of a valid program has more than 32 places
-few-places : (symbols : List Symbol) (s : ℕ) → AllByRecursion IsValidSymbol symbols → arity_in (slice_get symbols s) ≤ 32
+pub few-places : (symbols : List Symbol) (s : ℕ) → AllByRecursion IsValidSymbol symbols → arity_in (slice_get symbols s) ≤ 32
 few-places [] s h = omega arith
 few-places (x ∷ symbols) zero h = h.0.arity
 few-places (x ∷ symbols) (suc s) h = few-places symbols s h.1

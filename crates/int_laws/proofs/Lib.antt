@@ -8,3 +8,4 @@ pub mod DotLaws
 pub mod Duality
 pub mod Coprime
 pub mod LeastMultiples
+pub mod ZeroLaws

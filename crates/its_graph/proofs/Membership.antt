@@ -1,5 +1,5 @@
 -- The nodes of each component from the positions of the leaders, and the listing that they make.
-use Rattle.std.proofs.Common.{◌≡◌, ◌≢◌, ◌⊎◌, inl, inr, ℕ, zero, suc, ◌+◌, ◌-◌, ◌<◌, ◌≤◌, List, [], ◌∷◌, ◌++◌, length, take, map, Contains, Vec, get_or, refl, sym, ◌∙◌, ap, subst, arith, zero-add, add-zero, length-append, Result, Ok, Err, IfOk}
+use Rattle.std.proofs.Common.{◌≡◌, ◌≢◌, ◌⊎◌, inl, inr, ℕ, zero, suc, ◌+◌, ◌-◌, ◌<◌, ◌≤◌, List, [], ◌∷◌, ◌++◌, length, take, map, Contains, Vec, get_or, refl, sym, ◌∙◌, ap, subst, arith, zero-add, add-zero, length-append}
 use Rattle.std.specs.List.{All}
 use Rattle.std.specs.List.Sorted.{IsStrictlyIncreasing}
 use Rattle.std.specs.declared.alloc.Global.{Global}
@@ -18,6 +18,7 @@ use Rattle.its_graph.proofs.Chains.{distinct-few}
 use Rattle.its_graph.proofs.PairLists.{AreWithin, pair-within, Pair, pair-cases, pair-later, same_pair, value-listed, value-from}
 use Rattle.its_graph.proofs.Needing.{leads-itself}
 use Rattle.its_graph.proofs.Routes.{edge_then, path-within, mutual-turned, mutual-join}
+pub use Rattle.model.proofs.Cases.{IfOk-both as ok-both}
 
 -- a number before larger ones that ascend
 pub increasing-cons : (x : ℕ) (xs : List ℕ) → All (λ y. x < y) xs → IsStrictlyIncreasing xs → IsStrictlyIncreasing (x ∷ xs)
@@ -255,7 +256,7 @@ module _ (edges : List Pair) (n : ℕ) (leaders order : List ℕ) (l : AreLeader
           (leader-listed (length order) a (omega arith) inside (subst (λ (xs : List ℕ). Contains xs (get_or leaders a 0)) (sym (take_all (length order) order (omega arith))) (o.all (get_or leaders a 0) (leads-itself Edge leaders l a inside))))
 
 -- the items of the lists at a position
-lists-at : (found : List (Vec ℕ Global)) (k : ℕ) → k < length found → get_or (map items_of found) k [] ≡ values_in found k
+pub lists-at : (found : List (Vec ℕ Global)) (k : ℕ) → k < length found → get_or (map items_of found) k [] ≡ values_in found k
 lists-at [] k low = absurd (omega arith)
 lists-at (v ∷ found) zero low = refl
 lists-at (v ∷ found) (suc k) low = lists-at found k (omega arith)
@@ -286,8 +287,3 @@ leaders-within Edge n leaders l = All-from_get_or (λ (x : ℕ). x < length lead
 pub order-all : (Edge : ℕ → ℕ → Type 0) (n : ℕ) (leaders order : List ℕ) (Need : ℕ → ℕ → Type 0) → AreLeaders Edge n leaders → AreLeadersInOrder Need leaders order
     → (a : ℕ) → a < length leaders → Contains order (get_or leaders a 0)
 order-all Edge n leaders order Need l o a low = o.all (get_or leaders a 0) (leads-itself Edge leaders (subst (λ (k : ℕ). AreLeaders Edge k leaders) (sym l.size) l) a low)
-
--- what follows from two facts at one value
-pub ok-both : {T X : Type 0} (r : Result T X) (P Q R : T → Type 0) → ((x : T) → P x → Q x → R x) → IfOk r P → IfOk r Q → IfOk r R
-ok-both (Ok x) P Q R f p q = f x p q
-ok-both (Err e) P Q R f p q = tt

@@ -20,6 +20,7 @@ use Rattle.its_graph.specs.Numbers.{AreApart, AreNumbers, HasInside}
 use Rattle.its_graph.proofs.Naming.{named-each, named-others}
 use Rattle.its_graph.proofs.PairLists.{Pair, same_pair, pair-later, pair-within}
 use Rattle.its_graph.proofs.Routes.{path-map, path-within, mutual-turned, mutual-join, one_edge}
+use Rattle.its_graph.proofs.Membership.{lists-at as component-at}
 
 -- the nodes of one component more get its number
 pub number-more : (components : List (Vec ℕ Global)) (numbers : List ℕ) (i : ℕ) → AreApart (length numbers) components
@@ -49,12 +50,6 @@ pub values-past : (lists : List (Vec ℕ Global)) (k b : ℕ) → Contains (valu
 values-past [] k b (j, low, e) = absurd (omega arith)
 values-past (v ∷ lists) zero b h = omega arith
 values-past (v ∷ lists) (suc k) b h = omega (arith, values-past lists k b h)
-
--- the component of a position, as the listing has it
-component-at : (lists : List (Vec ℕ Global)) (k : ℕ) → k < length lists → get_or (map items_of lists) k [] ≡ values_in lists k
-component-at [] k low = absurd (omega arith)
-component-at (v ∷ lists) zero low = refl
-component-at (v ∷ lists) (suc k) low = component-at lists k (omega arith)
 
 module _ (Edge : ℕ → ℕ → Type 0) (n : ℕ) (lists : List (Vec ℕ Global)) (edges_within : (a b : ℕ) → Edge a b → b < n) (l : IsListing Edge n (map items_of lists)) where
   -- what each component is

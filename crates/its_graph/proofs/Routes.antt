@@ -2,11 +2,7 @@
 use Rattle.std.proofs.Common.{ℕ, ◌<◌, refl, sym, subst}
 use Rattle.model.specs.Paths.{Path, Here, Onward}
 use Rattle.its_graph.specs.Components.{IsMutual}
-
--- one path after the other
-pub join : (Edge : ℕ → ℕ → Type 0) (a b c : ℕ) → Path Edge a b → Path Edge b c → Path Edge a c
-join Edge a b c p (Here e) = subst (λ (x : ℕ). Path Edge a x) e p
-join Edge a b c p (Onward {b = x} q edge) = Onward (join Edge a b x p q) edge
+pub use Rattle.model.proofs.PathLaws.{Path-then as join}
 
 -- an edge is a path
 pub one_edge : (Edge : ℕ → ℕ → Type 0) (a b : ℕ) → Edge a b → Path Edge a b

@@ -37,6 +37,7 @@ use Rattle.its_reader.specs.declared.place.Place.{Place}
 use Rattle.its_reader.proofs.Finality.{IsFinal, IsFinalIn, found_final, among_left, among_right, large_shown, digits_differ}
 use Rattle.its_reader.proofs.Stopping.{last_least, last_least_9}
 use Rattle.its_reader.proofs.ReadingLaws.{reading_stops}
+use Rattle.std.proofs.lemmas.Bool.{ltb-false as at_most}
 
 -- whether a refusal is final is decided by a test
 final_split : (x : Fault Kind) (t : Token Piece) (v w u : Bool) → nat_lt x.at (t.upto - 1) ≡ v → (x.at == t.upto - 1) ≡ w → nat_le (kind_number x.kind) (least_of t.piece) ≡ u → v || (w && u) ≡ true → IsFinal (least_of t.piece) t x
@@ -104,10 +105,6 @@ digits_follow (fronts.MarkGuarding h k) ds behind g e = (_, (refl, guarding_goes
 digits_follow (fronts.SquareOpened h) ds behind g e = (_, (refl, refl))
 digits_follow (fronts.SquareGuarding h k) ds behind g e = (_, (refl, squared_goes h k ds g e))
 digits_follow _ ds behind g e = cc
-
--- no more than a limit where it isn't passed
-at_most : (a b : ℕ) → nat_lt a b ≡ false → b ≤ a
-at_most a b e = grind (arith, nat_tests)
 
 -- what a left argument shows is shown
 left_shown : (at : ℕ) (f : Front) (next behind : Option Piece) (y : Fault Kind) → Among y (left_of at (left_wanted f) next behind) → Among y (shown_next at f next behind)

@@ -1,9 +1,8 @@
 -- Where a piece leads in a guard, and that what doesn't go on with a guard within an atom ends no rule.
-use Rattle.std.specs.Prelude.{◌≡◌, ℕ, ◌≤◌, Bool, true, false, not, ◌&&◌, ◌||◌, nat_lt, List, map, Option, Some, None, refl}
+use Rattle.std.specs.Prelude.{◌≡◌, Bool, true, false, not, ◌&&◌, ◌||◌, nat_lt, List, map, Option, Some, None, refl}
 use Rattle.std.specs.List.{list_all}
 use Rattle.std.specs.Char.{is_ascii_digit}
-use Rattle.std.proofs.Common.{sym, ap, subst, ◌∙◌, arith, inl, inr}
-use Rattle.std.proofs.lemmas.Bool.Decides.{nat_tests}
+use Rattle.std.proofs.Common.{sym, ap, subst, ◌∙◌, inl, inr}
 use Rattle.model.specs.Programs.{Name}
 use Rattle.model.specs.Limits.{coefficient_limit}
 use Rattle.its_model.specs.Views.{rule_of}
@@ -47,6 +46,7 @@ use Rattle.its_reader.specs.declared.place.Place.{Place}
 use Rattle.its_reader.specs.declared.draft.Draft.{Draft}
 use Rattle.its_reader.specs.declared.draft.RuleDraft.{RuleDraft}
 use Rattle.its_reader.proofs.LeftLaws.{leads_together}
+use Rattle.std.proofs.lemmas.Bool.{ltb-false as at_most, le-ltb as not_below}
 
 -- the written front of a guard behind what it stands behind, and that of one that may be there
 abbrev pub guarded : Fence → Headed → GuardFront → Front
@@ -188,13 +188,6 @@ module _ (before names : List Name) (r : GuardReader) where
       go (Some g) false t e = cc
       go (Some g) true t e = rw e tt
   digits_together fence h g _ result m s e = cc
-
--- a literal is modest where it is within the limit
-at_most : (a b : ℕ) → nat_lt a b ≡ false → b ≤ a
-at_most a b e = grind (arith, nat_tests)
-
-not_below : (a b : ℕ) → b ≤ a → nat_lt a b ≡ false
-not_below a b h = grind (arith, nat_tests)
 
 both_hold : (a b : Bool) → a && not b ≡ true → (a ≡ true) × (b ≡ false)
 both_hold true true e = cc

@@ -61,6 +61,7 @@ use Rattle.its_reader.specs.declared.place.Place.TheVariants as places
 use Rattle.its_reader.specs.declared.draft.RuleDraft.{RuleDraft}
 use Rattle.its_reader.specs.declared.draft.Draft.{Draft}
 use Rattle.its_reader.proofs.NotingLaws.{section_silent}
+use Rattle.std.proofs.lemmas.Bool.{and_parts as both}
 
 -- outside rules nothing ends
 pub section_settles : (place : SectionPlace) (d : Draft) (next : Option Piece) → Settles (places.InSections place) d next (places.InSections place) (maybe_kind None) d
@@ -118,11 +119,6 @@ a_sum (Some s) h = (s, refl)
 no_sum : (o : Option Sum) → is_some o ≡ false → o ≡ None
 no_sum None h = refl
 no_sum (Some s) h = cc
-
-both : (a b : Bool) → a && b ≡ true → (a ≡ true) × (b ≡ true)
-both true true e = (refl, refl)
-both true false e = cc
-both false b e = cc
 
 first_false : (a b : Bool) → a && b ≡ false → b ≡ true → a ≡ false
 first_false true b e t = cc

@@ -35,6 +35,7 @@ use Rattle.its_reader.specs.declared.draft.Draft.{Draft}
 use Rattle.its_reader.proofs.LeftLaws.{leads_together, ruled_stops}
 use Rattle.its_reader.proofs.TailLaws.{whole_rule, whole_bare, whole_marked, whole_squared}
 use Rattle.its_reader.proofs.GuardLaws.{guarded, ended_of, front_step, atom_each, atom_together, headed_stays}
+use Rattle.std.proofs.lemmas.Bool.{or_parts as neither}
 
 -- where a piece leads whatever its number is
 always_tail : (place : TailPlace) (p : Piece) (behind : Option Piece) (old new : Draft) (result : Option Place)
@@ -127,10 +128,6 @@ mark_step h (In inner.Close) c n = cc
 mark_step h (In (inner.Word name)) c n = cc
 mark_step h (In _) c n = refl
 mark_step h _ c n = refl
-
-neither : (v w : Bool) → v || w ≡ false → (v ≡ false) × (w ≡ false)
-neither true w e = cc
-neither false w e = (refl, e)
 
 module _ (ts : Tokens) (behind : Option Piece) (old new : Draft) (result : Option Place) (h : Headed) (k : IsHeaded ts h old) where
   -- it begins with a name

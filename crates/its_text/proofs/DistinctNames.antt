@@ -1,5 +1,5 @@
 -- The variables of a rule are names, and differ: each is numbered once.
-use Rattle.std.proofs.Common.{◌≡◌, Bool, true, false, if◌then◌else◌, ◌||◌, List, [], ◌∷◌, ◌++◌, reverse, Option, Some, None, refl, ap, sym, subst, ◌∙◌}
+use Rattle.std.proofs.Common.{◌≡◌, Bool, true, false, if◌then◌else◌, List, [], ◌∷◌, ◌++◌, reverse, Option, Some, None, refl, ap, sym, subst, ◌∙◌}
 use Rattle.std.specs.Prelude.{⊤, codes}
 use Rattle.std.specs.List.{AllByRecursion}
 use mathlib.Core.List.{reverse-cons}
@@ -14,15 +14,12 @@ use Rattle.its_text.specs.Pieces.{Piece, In, Comma, Arrow, GuardMark, SquareOpen
 use Rattle.its_text.specs.Written.{LeftTerm, RightTerm, Target, Marked, Bare, Guard, NoGuard, BehindMark, InSquares, WrittenRule, Section, Goal, Start, Variables, Rules, Comment, names_behind, sums_behind, left_behind, right_behind, target_behind, maybe_behind, guard_behind, rule_behind, rules_behind, words_behind, section_behind, pieces_behind}
 use Rattle.its_text.specs.Numbering.{term_in, with_sums, with_maybe, with_guard, left_names, rule_names, or_rules, rules_of}
 use Rattle.its_text.proofs.NamedPieces.{AreNamed}
+use Rattle.std.proofs.lemmas.Bool.{or_parts as neither}
 
 -- one more at the end
 pub all_one_more : {X : Type 0} (P : X → Type 0) (xs : List X) (x : X) → AllByRecursion P xs → P x → AllByRecursion P (xs ++ x ∷ [])
 all_one_more P [] x h p = (p, tt)
 all_one_more P (y ∷ xs) x h p = (h.0, all_one_more P xs x h.1 p)
-
-neither : (a b : Bool) → a || b ≡ false → (a ≡ false) × (b ≡ false)
-neither true b h = cc
-neither false b h = (refl, h)
 
 -- two names differ both ways round
 pub differ_back : (n m : Name) → is_same n m ≡ false → is_same m n ≡ false

@@ -19,6 +19,7 @@ use Rattle.its_text.specs.Spelling.{AreRules}
 use Rattle.expr_text.proofs.NamesRead.{Extends, term_along, AtomReads, AtomsRead}
 use Rattle.its_text.proofs.ValidRules.{AllRead}
 use Rattle.its_text.proofs.ValidPrograms.{IsKnown}
+pub use Rattle.std.proofs.lemmas.Bool.{not-true as passes_not}
 
 -- tests of numbers
 pub below : (a b : ℕ) → nat_le a b ≡ false → suc b ≤ a
@@ -47,10 +48,6 @@ not_zero a h = grind (arith, nat_tests, h)
 pub contrary : {X : Type 0} (v : Bool) → v ≡ true → v ≡ false → X
 contrary true on off = cc
 contrary false on off = cc
-
-pub passes_not : (v : Bool) → not v ≡ true → v ≡ false
-passes_not true h = cc
-passes_not false h = refl
 
 -- both of two tests pass, or one fails
 pub and_false : (v : Bool) → (v && false) ≡ false

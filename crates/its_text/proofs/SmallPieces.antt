@@ -1,6 +1,5 @@
 -- The next piece is within its limits exactly where the front shows nothing against its length and its size.
-use Rattle.std.proofs.Common.{◌≡◌, ℕ, ◌≤◌, true, false, nat_lt, List, length, Option, Some, None, refl, arith}
-use Rattle.std.proofs.lemmas.Bool.Decides.{nat_tests}
+use Rattle.std.proofs.Common.{◌≡◌, ℕ, true, false, List, length, Option, Some, None, refl}
 use Rattle.model.specs.Limits.{name_limit, coefficient_limit}
 use Rattle.expr_text.specs.Pieces as inner
 use Rattle.expr_text.specs.Trees.{Sum}
@@ -24,13 +23,7 @@ use Rattle.its_text.specs.Shown.{Going, is_large, long_name}
 use Rattle.its_text.specs.Spelling.{IsSmallInner, IsSmallPiece}
 use Rattle.its_text.proofs.KeptFronts.{IsGoingSmall, IsNextSmall}
 use Rattle.its_text.proofs.RuleTurns.{goes_within}
-
--- tests of sizes
-within : (limit n : ℕ) → nat_lt limit n ≡ false → n ≤ limit
-within limit n h = grind (arith, nat_tests, h)
-
-not_past : (limit n : ℕ) → n ≤ limit → nat_lt limit n ≡ false
-not_past limit n h = grind (arith, nat_tests, h)
+use Rattle.std.proofs.lemmas.Bool.{ltb-false as within, le-ltb as not_past}
 
 -- a piece within its limits shows nothing
 not_large : (p : inner.Piece) → IsSmallInner p → is_large p ≡ false

@@ -1,5 +1,5 @@
 -- The causes of two statuses don't stand together, where the shelf tells what it holds.
-use Rattle.std.proofs.Common.{◌≡◌, ◌⊎◌, ℕ, ◌≤◌, ◌<◌, List, [], ◌∷◌, length, Option, Some, None, IsSome, IfSome, refl, sym, ◌∙◌, ap, subst, inl, inr, arith, codes, true, false, Bool, if◌then◌else◌}
+use Rattle.std.proofs.Common.{◌≡◌, ◌⊎◌, ℕ, ◌≤◌, ◌<◌, List, length, Option, Some, None, IsSome, IfSome, refl, sym, ◌∙◌, ap, subst, inl, inr, arith, true, false, Bool, if◌then◌else◌}
 use Rattle.std.specs.Prelude.{IsSomeAnd}
 use Rattle.std.specs.List.{list_all}
 use Rattle.std.specs.FinMap.{get}
@@ -14,7 +14,7 @@ use Rattle.its_text.specs.Spelling.{Spells, SpellsWithin, OneProgram}
 use Rattle.its_text.specs.Answers.{verdict}
 use Rattle.its_text.specs.Verdicts.{VerdictsAreSpelled}
 use Rattle.asks.specs.Lines.{Word, Words}
-use Rattle.asks.specs.Requests.{Request, Analyse, Asks}
+use Rattle.asks.specs.Requests.{Analyse, Asks}
 use Rattle.asks.specs.Laws.{WordsAreReadInOneWay}
 use Rattle.outcome.specs.Reports.{Report, is_timed}
 use Rattle.report_text.specs.Reports.{text_of_report}
@@ -24,7 +24,7 @@ use Rattle.koat_cli.specs.declared.status.Status.{Status}
 use Rattle.koat_cli.specs.declared.status.Status.TheVariants.{Done, Unknown, Usage, ReadFault, WriteFault, Memory, ProgramRefused, ProofRefused, No, RunRefused, NotARun}
 use Rattle.koat_cli.specs.Report.{read_fault_text, refused_text}
 use Rattle.koat_cli.specs.Calls.{Call}
-use Rattle.koat_cli.specs.Causes.{program_limit, ReadsProgram, IsReported, IsBounded, IsUnbounded, IsUsage, IsRefusedTooLong, IsRefusedAt}
+use Rattle.koat_cli.specs.Causes.{program_limit, ReadsProgram, IsReported, IsUsage, IsRefusedTooLong, IsRefusedAt}
 use Rattle.koat_cli.specs.Ends.{Says}
 use Rattle.koat_cli.specs.OfProgram.{status_of}
 use Rattle.koat_cli.specs.Exclusion.{CausesExcludeEachOther}

@@ -1,5 +1,5 @@
 -- What is said of a program, or with a fixed text, is said with its cause.
-use Rattle.std.proofs.Common.{◌≡◌, ℕ, Bool, true, false, if◌then◌else◌, List, [], ◌∷◌, map, Option, Some, None, Result, Ok, Err, IfOk, IfSome, refl, inl, inr, sym, ◌∙◌, ap, subst}
+use Rattle.std.proofs.Common.{◌≡◌, ℕ, Bool, true, false, if◌then◌else◌, List, Option, Some, None, Result, Ok, Err, IfOk, IfSome, refl, inr, sym, ◌∙◌, ap, subst}
 use Rattle.std.specs.List.{list_all}
 use Rattle.model.specs.Programs.{Program}
 use Rattle.text_core.specs.Readers.{Fault}
@@ -9,14 +9,11 @@ use Rattle.its_text.specs.Spelling.{SpellsWithin}
 use Rattle.its_text.specs.Answers.{verdict}
 use Rattle.its_text.specs.Verdicts.{IsVerdict}
 use Rattle.its_text.proofs.VerdictLaws.{verdicts_are_right}
-use Rattle.proof_tree.specs.declared.gap.Gap.{Gap}
-use Rattle.outcome.specs.declared.entry.TimeEntry.{TimeEntry}
 use Rattle.outcome.specs.declared.entry.TimeEntry.TheVariants as times
 use Rattle.outcome.specs.declared.outcome_of.Outcome.{Outcome}
 use Rattle.outcome.specs.Reports.{Report, is_timed}
-use Rattle.outcome.specs.Views.{time_of, report_of}
+use Rattle.outcome.specs.Views.{report_of}
 use Rattle.report_text.specs.Conditions.{is_known}
-use Rattle.time_bounds.specs.Analysis.{IsAnalysis}
 use Rattle.its_model.specs.declared.program.Program as code
 use Rattle.its_model.specs.Views.{program_of}
 use Rattle.its_reader.specs.Faults as reader
@@ -30,6 +27,7 @@ use Rattle.koat_cli.specs.Causes.{ReadsProgram, IsReported, IsProgramRefused}
 use Rattle.koat_cli.specs.Report.{refused_text}
 use Rattle.koat_cli.specs.Ends.{Says}
 use Rattle.koat_cli.specs.OfProgram.{SaysOfProgram, status_of}
+use Rattle.report_text.proofs.Entries.{all_known as all_timed}
 
 -- a text that states a report is said with the status of the report
 pub said_with_report : (call : Call) (text : List ℕ) (report : Report) → IsReported call text report
@@ -102,17 +100,6 @@ refused_first call bytes pivots e text says told given read =
     let text_is : text ≡ refused_text fault.0 = subst (λ (o : Option (Fault Kind)). IfSome o (λ x. text ≡ refused_text x)) fault.1 told in
     let refused : verdict bytes ≡ Refused fault.0 = read_refused (verdict bytes) e fault.0 fault.1 says in
     inr (record { bytes = bytes; pivots = pivots; read = read; fault = fault.0; refused = refused; first = subst (λ (a : Answer Program Kind). IsVerdict bytes a) refused (verdicts_are_right.each bytes); told = text_is })
-
--- an entry is a time exactly where its time is one
-known_is_timed : (gaps : List Gap) (e : TimeEntry) → is_known e ≡ is_timed (time_of gaps e)
-known_is_timed gaps (times.Known s) = refl
-known_is_timed gaps (times.Gap g) = refl
-known_is_timed gaps (times.Tripped t) = refl
-known_is_timed gaps (times.Large nodes) = refl
-
-all_timed : (gaps : List Gap) (es : List TimeEntry) → list_all is_known es ≡ list_all is_timed (map (time_of gaps) es)
-all_timed gaps [] = refl
-all_timed gaps (e ∷ es) = cc (known_is_timed gaps e, all_timed gaps es)
 
 -- the status of an outcome in which each entry is a time, and of one in which some isn't
 pub status_is : (o : Outcome) (v : Bool) → v ≡ list_all is_known o.times.items

@@ -64,12 +64,12 @@ target-fits : (b : RankedSet) (t : ℕ) (c : Coefficient) → AreRulesShaped b �
 target-fits b t c s = either-fits (b.rule t).unknowns (nat_eq c.symbol (b.rule t).target) (after_rule (b.rule t) c.place) (λ e. after-fits (b.rule t) c.place (s.each t))
 
 -- the places of a range are below its end
-range-below : (a n m : ℕ) → a + n ≤ suc m → All (λ i. i ≤ m) (range_with_len a n)
+pub range-below : (a n m : ℕ) → a + n ≤ suc m → All (λ i. i ≤ m) (range_with_len a n)
 range-below a zero m l = All-nil (λ (i : ℕ). i ≤ m)
 range-below a (suc n) m l = All-cons (λ (i : ℕ). i ≤ m) a (range_with_len (a + 1) n) (omega (arith, l)) (range-below (a + 1) n m (omega (arith, l)))
 
 -- all coefficients are placed
-coefficients-placed : (b : RankedSet) (ss : List ℕ) → All (IsPlaced b) (coefficients b ss)
+pub coefficients-placed : (b : RankedSet) (ss : List ℕ) → All (IsPlaced b) (coefficients b ss)
 coefficients-placed b [] = All-nil (IsPlaced b)
 coefficients-placed b (s ∷ ss) =
     All-append (IsPlaced b) (map named (open_places b s ++ (0 ∷ []))) (coefficients b ss)

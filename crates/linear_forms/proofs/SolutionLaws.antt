@@ -83,7 +83,7 @@ constants-of_multipliers (r ∷ rows) x h =
     regroup a (negsuc n) v w l e = absurd (omega (arith, ints, l))
 
 -- there is a multiplier for each row
-length-multipliers : (rows : List Form) (x : ℕ → ℤ) → length (multipliers_of x rows) ≡ length rows
+pub length-multipliers : (rows : List Form) (x : ℕ → ℤ) → length (multipliers_of x rows) ≡ length rows
 length-multipliers [] x = refl
 length-multipliers (r ∷ rows) x = ap (λ (n : ℕ). suc n) (length-multipliers rows (λ j. x (suc j)))
 

@@ -1,8 +1,7 @@
 -- Both arms of an answer are accepted.
-use Rattle.std.proofs.Common.{ℕ, ◌-◌, ◌≤◌, ap, arith, sym, ◌∙◌, subst, inl, inr, List, ◌∷◌, length, Option}
-use Rattle.std.specs.Prelude.{ℤ, pos, ◌<ℤ◌}
+use Rattle.std.proofs.Common.{ℕ, ◌-◌, ap, sym, ◌∙◌, subst, inl, inr, List, ◌∷◌, length, Option}
+use Rattle.std.specs.Prelude.{ℤ, pos}
 use Rattle.std.specs.List.{All}
-use Rattle.std.proofs.lemmas.Int.{ints}
 use Rattle.std.proofs.lemmas.List.Elements.{All-head}
 use Rattle.linear_forms.specs.Forms.{Form, at}
 use Rattle.linear_forms.specs.Certificates.{Implies}
@@ -32,10 +31,7 @@ use Rattle.local_size.proofs.Columns.{form-long, form-small, parameter-small, mu
 use Rattle.local_size.proofs.Polynomials.{polynomial-accepted}
 use Rattle.local_size.proofs.KindsAsked.{Found, found, kinds-fit}
 use Rattle.local_size.proofs.NewValues.{value-fits, goal-is}
-
--- a positive denominator is at least 1
-pub at-least-one : (d : ℕ) → pos 0 <ℤ pos d → 1 ≤ d
-at-least-one d l = omega (arith, ints, l)
+pub use Rattle.rank_search.proofs.RankExact.{at-least-one}
 
 -- the kind of an arm that is found is one that the rule has
 pub found-fits : (m : Prepared) (place pivots : ℕ) (side : Side) (arm : Arm)

@@ -18,6 +18,7 @@ use Rattle.rule_forms.specs.Questions.{form_of}
 use Rattle.simplex_core.specs.Trips.{IsScaledSolution}
 use Rattle.proof_nodes.specs.Limits.{IsInLimit, IsFormInLimit, AreInLimit}
 use Rattle.rank_search.proofs.Lists.{multipliers-listed}
+pub use Rattle.linear_forms.proofs.SolutionLaws.{length-multipliers as multipliers-long}
 
 -- 0 is within the limit
 zero-small : IsInLimit (nat_abs (pos 0))
@@ -102,8 +103,3 @@ module _ (p : LinearProgram) (pivots : ℕ) (numbers : List ℤ) (den : ℕ)
       subst AreInLimit (sym (multipliers-listed rows (after n (at numbers))))
       (All-listed IsInLimit (length rows) (λ j. nat_abs (after n (at numbers) j))
       (λ j l. subst (λ (z : ℤ). IsInLimit (nat_abs z)) (sym (after-is n (at numbers) j)) (column-small (n + j))))
-
--- there is one multiplier for each row
-pub multipliers-long : (rows : List Form) (x : ℕ → ℤ) → length (multipliers_of x rows) ≡ length rows
-multipliers-long rows x =
-    ap (λ (ms : List ℕ). length ms) (multipliers-listed rows x) ∙ length-listed (length rows) (λ j. nat_abs (x j))

@@ -1,8 +1,7 @@
 -- Where the rule has a point, each arm is the first on its side.
-use Rattle.std.proofs.Common.{◌≡◌, ℕ, ap, sym, ◌∙◌, subst, inl, inr, Bool, true, false, List, get_or}
+use Rattle.std.proofs.Common.{◌≡◌, ℕ, ap, sym, subst, inl, inr, false, List, get_or}
 use Rattle.std.specs.Prelude.{pos}
 use Rattle.std.specs.List.{All}
-use Rattle.std.proofs.lemmas.Bool.{true≢false}
 use Rattle.linear_forms.specs.Forms.{Form, at}
 use Rattle.linear_forms.specs.QuestionLaws.{parameters_of}
 use Rattle.rule_forms.specs.Kinds.{Kind, IsOfKind}
@@ -24,10 +23,7 @@ use Rattle.local_size.specs.LocalAnswers.{HasBound, SideComesTo, IsLocal}
 use Rattle.local_size.specs.LocalLaws.{IsSpotOf, IsFirstArm, LocalBoundsAreFirst}
 use Rattle.local_size.proofs.Accepted.{at-least-one, fits, found-fits}
 use Rattle.local_size.proofs.KindsAsked.{HasDual, Found, found}
-
--- a test that fails doesn't pass
-pub fails : (b : Bool) → b ≡ false → ¬ (b ≡ true)
-fails b e f = true≢false (sym f ∙ e)
+pub use Rattle.std.proofs.lemmas.Bool.{both_ways as fails}
 
 module _ (p : Program) (r : Rule) (spot : Spot) (pivots : ℕ) (valid : IsValid p) (is : IsSpotOf p spot r)
     (side : Side) where

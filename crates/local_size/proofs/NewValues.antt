@@ -44,7 +44,7 @@ module _ (m : Prepared) (shaped : IsRuleShaped (local_forms m)) where
   }
 
 -- the form at a position, whichever reads it
-form_at-is : (fs : List Form) (i : ℕ) → slice_index_or fs i zero_form ≡ form_at fs i
+pub form_at-is : (fs : List Form) (i : ℕ) → slice_index_or fs i zero_form ≡ form_at fs i
 form_at-is [] i = refl
 form_at-is (f ∷ fs) zero = refl
 form_at-is (f ∷ fs) (suc i) = form_at-is fs i

@@ -22,6 +22,7 @@ use Rattle.local_size.specs.LocalAnswers.{Local, HasBound, IsLooseOn, HasTripped
 use Rattle.local_size.specs.LocalAnswers.{PassesNone, LacksForm, IsLocal}
 use Rattle.local_size.specs.LocalLaws.{LocalAnswersAreOne}
 use Rattle.local_size.proofs.Once.{search-once}
+use Rattle.model.proofs.Cases.{some_same as some-trip, none_some as no-trip}
 
 -- the cause that is told
 told : Cause → TripCause
@@ -65,14 +66,6 @@ some-point z w e = cc
 -- none is no point
 no-point : (z : ScaledPoint) → None ≡ Some z → ⊥
 no-point z e = cc
-
--- a trip is told by its only part
-some-trip : (t u : Trip) → Some t ≡ Some u → t ≡ u
-some-trip t u e = cc
-
--- none is no trip
-no-trip : (t : Trip) → None ≡ Some t → ⊥
-no-trip t e = cc
 
 -- an arm that is found is determined
 arm-same : (a b : Arm) → ArmFound a ≡ ArmFound b → a ≡ b

@@ -13,7 +13,7 @@ use Rattle.lp_builder.specs.Problems.{HoldsQuestion}
 use Rattle.lp_builder.proofs.Problems.{held-proper, held-agrees}
 
 -- twice a number
-double-is : (n : ℕ) → double n ≡ 2 * n
+pub double-is : (n : ℕ) → double n ≡ 2 * n
 double-is zero = refl
 double-is (suc n) = let ih = double-is n in omega (arith, ih)
 

@@ -1,3 +1,5 @@
+pub mod Cases
+pub mod PathLaws
 pub mod RunLaws
 pub mod WorkedValues
 pub mod WorkedRuns

@@ -7,6 +7,7 @@ use Rattle.std.proofs.lemmas.Bool.Decides.{eqb_tells}
 use Rattle.model.specs.Programs.{Program, Rule, rule_at}
 use Rattle.model.specs.Entries.{is_in}
 use Rattle.model.specs.Paths.{entry_and_rules}
+pub use Rattle.std.proofs.lemmas.Bool.{both_ways as no_is_not_yes}
 
 -- a number is itself
 pub same_number : (x : ℕ) → (x == x) ≡ true
@@ -23,10 +24,6 @@ told_same x y h = go (eqb_tells x y)
     go : ((x == y) ≡ true) × (x ≡ y) ⊎ ((x == y) ≡ false) × (x ≢ y) → x ≡ y
     go (inl (test, e)) = e
     go (inr (test, other)) = absurd (true≢false (sym h ∙ test))
-
--- no is not yes
-pub no_is_not_yes : (v : Bool) → v ≡ false → v ≡ true → ⊥
-no_is_not_yes v n y = true≢false (sym y ∙ n)
 
 -- what is in a list is its first or in the rest
 pub is_in-cases : (x y : ℕ) (ys : List ℕ) → is_in x (y ∷ ys) ≡ true → (x ≡ y) ⊎ (is_in x ys ≡ true)

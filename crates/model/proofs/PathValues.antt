@@ -5,6 +5,7 @@ use Rattle.model.specs.Paths.{Here, Onward, HasEdge, HasPath, any_rule, IsInSet,
 use Rattle.model.specs.Entries.{IsEntry}
 use Rattle.model.specs.Worked.{bare_rule}
 use Rattle.model.specs.PathValues.{PathsAreTold, nested, not_second, last_two}
+use Rattle.model.proofs.Cases.{some_same}
 
 -- an edge of the program is by one of its four rules
 edge_of : (f : ℕ → Bool) (a b : ℕ) → HasEdge nested f a b
@@ -50,10 +51,6 @@ no_edge_back a b (Onward {b = x} p edge) low = go (edge_of any_rule x b edge)
     go (inr (inl (ok, s, t))) = omega (arith, t)
     go (inr (inr (inl (ok, s, t)))) = omega (arith, t)
     go (inr (inr (inr (ok, s, t)))) = omega (arith, t)
-
--- the number in an option
-some_same : (a b : ℕ) → Some a ≡ Some b → a ≡ b
-some_same a b e = cc
 
 -- rule 4 leads to 1, from where rules 3 and 4 don't lead to 2
 not_in_set : IsInSet nested last_two 3 4 → ⊥

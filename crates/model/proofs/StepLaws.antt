@@ -35,7 +35,7 @@ stands p start [] c run = ap Some (sym run.at)
 stands p start (s ∷ earlier) c (b, run, step) = target_of-rule p s.rule step.rule step.numbered ∙ ap Some (sym step.leads.target)
 
 -- symbols that are there and the same are the same symbol
-same_symbol-same : (a b : Option ℕ) (s : ℕ) → a ≡ Some s → b ≡ Some s → same_symbol a b ≡ true
+pub same_symbol-same : (a b : Option ℕ) (s : ℕ) → a ≡ Some s → b ≡ Some s → same_symbol a b ≡ true
 same_symbol-same a b s e f = ap (λ (x : Option ℕ). same_symbol x b) e ∙ (ap (λ (x : Option ℕ). same_symbol (Some s) x) f ∙ same_number s)
 
 -- the rule before can come just before a step

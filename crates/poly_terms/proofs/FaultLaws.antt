@@ -14,7 +14,7 @@ use Rattle.poly_terms.specs.Ordered.{IsBounded, IsSmall}
 use Rattle.poly_terms.specs.Answers.{Says}
 
 -- the first fault of two lists, one after the other
-first-append : (xs ys : List Term) → first_among (xs ++ ys) ≡ or_else (first_among xs) (first_among ys)
+pub first-append : (xs ys : List Term) → first_among (xs ++ ys) ≡ or_else (first_among xs) (first_among ys)
 first-append [] ys = refl
 first-append (x ∷ xs) ys = ap (or_else (fault_of x)) (first-append xs ys) ∙ regroup (fault_of x)
   where
@@ -23,12 +23,12 @@ first-append (x ∷ xs) ys = ap (or_else (fault_of x)) (first-append xs ys) ∙ 
     regroup (Some f) = refl
 
 -- nothing else after a fault
-or_else-none : (f : Option Fault) → or_else f None ≡ f
+pub or_else-none : (f : Option Fault) → or_else f None ≡ f
 or_else-none None = refl
 or_else-none (Some f) = refl
 
 -- a list and one expression more
-first-snoc : (xs : List Term) (t : Term) → first_among (xs ++ t ∷ []) ≡ or_else (first_among xs) (fault_of t)
+pub first-snoc : (xs : List Term) (t : Term) → first_among (xs ++ t ∷ []) ≡ or_else (first_among xs) (fault_of t)
 first-snoc xs t = first-append xs (t ∷ []) ∙ ap (or_else (first_among xs)) (or_else-none (fault_of t))
 
 -- the first fault of an expression with one child

@@ -1,6 +1,6 @@
 -- The monomials of an expanded form ascend, and none is 0.
-use Rattle.std.proofs.Common.{◌≡◌, ◌≢◌, ℕ, zero, suc, ◌≤◌, List, [], ◌∷◌, ◌++◌, map, Bool, true, false, refl, ap, ◌∙◌, arith, nat_lt, if◌then◌else◌}
-use Rattle.std.specs.Prelude.{ℤ, pos, negsuc, ◌+ℤ◌, neg_ℤ}
+use Rattle.std.proofs.Common.{◌≡◌, ℕ, zero, suc, ◌≤◌, List, [], ◌∷◌, ◌++◌, map, Bool, true, false, refl, ap, ◌∙◌, arith, nat_lt, if◌then◌else◌}
+use Rattle.std.specs.Prelude.{ℤ, pos, ◌+ℤ◌, neg_ℤ}
 use Rattle.std.specs.declared.cmp.Ordering.{Ordering}
 use Rattle.std.specs.declared.cmp.Ordering.TheVariants.{Less, Equal, Greater}
 use Rattle.std.specs.Ordering.{match_ordering, ordering_reverse}
@@ -12,6 +12,7 @@ use Rattle.model.specs.Terms.{Term, Literal, Variable, Negation, Addition, Subtr
 use Rattle.model.specs.Polynomials.{Monomial, Polynomial}
 use Rattle.poly_terms.specs.Expanding.{order, added, all_added, without_zeros, sum_of, opposite, inserted, all_inserted, multiplied, products, product_of, power_of, expanded}
 use Rattle.poly_terms.specs.Ordered.{IsBefore, IsAscending, AreFrom, AscendWeakly, HasNoZero, HasFactorsInOrder, IsOrdered}
+use Rattle.int_laws.proofs.ZeroLaws.{is_zero-false as isnt_zero}
 
 -- what is after is not before
 pub order-flip : (vs ws : List ℕ) → order vs ws ≡ Greater → order ws vs ≡ Less
@@ -70,12 +71,6 @@ ascending-without_zeros (m ∷ ms) h = go (is_zero m.coef) (ascending-without_ze
 before-opposite : (vs : List ℕ) (ms : Polynomial) → IsBefore vs ms → IsBefore vs (map opposite ms)
 before-opposite vs [] h = h
 before-opposite vs (m ∷ ms) h = (h.0, before-opposite vs ms h.1)
-
--- no coefficient 0 is left
-isnt_zero : (z : ℤ) → is_zero z ≡ false → z ≢ pos 0
-isnt_zero (pos zero) h = λ e. cc
-isnt_zero (pos (suc n)) h = λ e. omega (arith, ints, e)
-isnt_zero (negsuc n) h = λ e. cc
 
 pub nonzero-without_zeros : (ms : Polynomial) → HasNoZero (without_zeros ms)
 nonzero-without_zeros [] = tt

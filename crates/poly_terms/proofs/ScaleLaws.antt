@@ -5,8 +5,7 @@ use Rattle.std.proofs.lemmas.Bool.Decides.{nat_tests}
 use Rattle.std.proofs.lemmas.Int.{ints, unsigned_abs-mul}
 use Rattle.std.proofs.Math.Nat.{mul-le-mul}
 use Rattle.int_laws.specs.NormalForm.{is_zero}
-use Rattle.int_laws.specs.Polynomial.{variable, ◌⊗◌}
-use Rattle.int_laws.proofs.Identities.{identity}
+use Rattle.int_laws.specs.Polynomial.{variable}
 use Rattle.model.specs.Polynomials.{Polynomial}
 use Rattle.poly_terms.specs.Expanding.{all_added, without_zeros, opposite, inserted, all_inserted, multiplied, products, product_of, one}
 use Rattle.poly_terms.specs.Ordered.{IsBefore, IsAscending, AreFrom, AscendWeakly, HasNoZero, HasFactorsInOrder, IsOrdered}
@@ -14,10 +13,7 @@ use Rattle.poly_terms.specs.Scaling.{times, constant}
 use Rattle.poly_terms.proofs.Values.{zero_is}
 use Rattle.poly_terms.proofs.OrderLaws.{from-inserted}
 use Rattle.poly_terms.proofs.MergeLaws.{added-to-none}
-
--- the factors of a product may change places
-swap : (x y : ℤ) → x *ℤ y ≡ y *ℤ x
-swap x y = identity (x ∷ y ∷ []) (variable 0 ⊗ variable 1) (variable 1 ⊗ variable 0) refl
+use Rattle.int_laws.proofs.RingLaws.{mul_comm_ℤ as swap}
 
 -- a variable that is at most as great as the others is inserted before them
 inserted-first : (v : ℕ) (us : List ℕ) → AreFrom v us → inserted v us ≡ v ∷ us

@@ -16,12 +16,7 @@ use Rattle.int_laws.proofs.RingLaws.{add-mul_ℤ, zero-mul_ℤ, neg-mul_ℤ}
 use Rattle.model.specs.Terms.{Term, Literal, Variable, Negation, Addition, Subtraction, Multiplication, Exponentiation, value}
 use Rattle.model.specs.Polynomials.{Monomial, Polynomial, product_value, monomial_value, polynomial_value}
 use Rattle.poly_terms.specs.Expanding.{order, added, all_added, without_zeros, sum_of, opposite, inserted, all_inserted, multiplied, products, product_of, power_of, expanded}
-
--- a coefficient that passes the test is 0
-pub zero_is : (z : ℤ) → is_zero z ≡ true → z ≡ pos 0
-zero_is (pos zero) h = refl
-zero_is (pos (suc n)) h = cc
-zero_is (negsuc n) h = cc
+pub use Rattle.int_laws.proofs.ZeroLaws.{is_zero-true as zero_is}
 
 -- a monomial more
 pub value-added : (m : Monomial) (ts : Polynomial) (env : List ℤ)

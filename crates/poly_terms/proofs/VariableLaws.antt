@@ -1,6 +1,6 @@
 -- Which variables an expanded form has, and that values rest on these alone.
-use Rattle.std.proofs.Common.{◌≡◌, ℕ, zero, suc, ◌<◌, ◌≤◌, List, [], ◌∷◌, ◌++◌, map, length, get_or, Bool, true, false, refl, ap, sym, ◌∙◌, arith, nat_lt, if◌then◌else◌}
-use Rattle.std.specs.Prelude.{ℤ, pos, ◌+ℤ◌, ◌-ℤ◌, ◌*ℤ◌, neg_ℤ, slice_index_or, nat_abs}
+use Rattle.std.proofs.Common.{◌≡◌, ℕ, zero, suc, ◌<◌, ◌≤◌, List, [], ◌∷◌, ◌++◌, map, length, Bool, true, false, refl, ap, ◌∙◌, arith, nat_lt, if◌then◌else◌}
+use Rattle.std.specs.Prelude.{ℤ, pos, ◌+ℤ◌, ◌-ℤ◌, ◌*ℤ◌, neg_ℤ, nat_abs}
 use Rattle.std.specs.Int.{int_pow}
 use Rattle.std.specs.declared.cmp.Ordering.{Ordering}
 use Rattle.std.specs.declared.cmp.Ordering.TheVariants.{Less, Equal, Greater}
@@ -15,7 +15,6 @@ use Rattle.poly_terms.specs.Checked.{ReadsBelow}
 use Rattle.poly_terms.specs.Expanding.{order, added, all_added, without_zeros, opposite, inserted, all_inserted, multiplied, products, power_of, expanded}
 use Rattle.poly_terms.specs.Ordered.{IsBefore, IsAscending, IsBounded}
 use Rattle.poly_terms.specs.Rows.{coefficient, AreVariablesBelow, HasVariablesBelow}
-use Rattle.poly_terms.proofs.OrderLaws.{before-all}
 
 -- a variable more
 below-inserted : (n v : ℕ) (vs : List ℕ) → v < n → AreVariablesBelow n vs → AreVariablesBelow n (inserted v vs)

@@ -1,5 +1,5 @@
 -- The worked values of expanded forms, first faults, rows and values.
-use Rattle.std.proofs.Common.{◌≡◌, refl, arith}
+use Rattle.std.proofs.Common.{refl, arith}
 use Rattle.poly_terms.specs.WorkedForms.{FormsAreExpanded, OrderIsKept, LimitsAreKept, FaultsComeInOrder, RowsAndValues, FormsAreWorkedOut}
 
 forms : FormsAreExpanded

@@ -1,8 +1,7 @@
 -- Expanded forms, first faults, rows and values that were worked out by hand.
 use Rattle.std.specs.Prelude.{◌≡◌, ℕ, zero, suc, List, [], ◌∷◌, ℤ, pos, negsuc, Some, None}
 use Rattle.model.specs.Terms.{Term, Literal, Variable, Negation, Addition, Subtraction, Multiplication, Exponentiation}
-use Rattle.model.specs.Polynomials.{Monomial, Polynomial}
-use Rattle.linear_forms.specs.Forms.{Form}
+use Rattle.model.specs.Polynomials.{Monomial}
 use Rattle.poly_terms.specs.Expanding.{expanded}
 use Rattle.poly_terms.specs.Faults.{LargeCoefficient, ManyTerms, HighDegree, subexpressions, first_fault}
 use Rattle.poly_terms.specs.Ordered.{IsOrdered}

@@ -1,9 +1,8 @@
 -- Why an accepted arm is never below the new value on its side.
-use Rattle.std.proofs.Common.{◌≡◌, ◌≢◌, ℕ, zero, suc, ◌+◌, ◌-◌, ◌*◌, ◌<◌, ◌≤◌, not, Bool, true, false, List, ◌++◌, length, Option, Some, refl, sym, ap, ◌∙◌, arith, le_of_mul-le-mul_right}
+use Rattle.std.proofs.Common.{◌≡◌, ℕ, zero, suc, ◌+◌, ◌-◌, ◌*◌, ◌<◌, ◌≤◌, Bool, true, false, List, ◌++◌, length, Option, Some, sym, ap, ◌∙◌, arith, le_of_mul-le-mul_right}
 use Rattle.std.specs.Prelude.{ℤ, pos, negsuc, ◌+ℤ◌, ◌*ℤ◌, neg_ℤ, ◌≤ℤ◌, nat_abs, ⊤}
 use Rattle.std.proofs.lemmas.Int.{ints}
 use Rattle.std.proofs.lemmas.List.{get_or_append_left}
-use Rattle.int_laws.specs.NormalForm.{is_zero}
 use Rattle.int_laws.proofs.RingLaws.{neg-mul_ℤ, mul_comm_ℤ}
 use Rattle.model.specs.Runs.{Config, place_value}
 use Rattle.model.specs.Bounds.{Bound, val, val_sum}
@@ -16,9 +15,10 @@ use Rattle.proof_nodes.specs.AcceptsSizes.{HasArmShape, HasLinearShape, Side, Up
 use Rattle.linear_forms.specs.Combinations.{form_times}
 use Rattle.linear_forms.proofs.CombinationLaws.{form_value-sum, form_value-times}
 use Rattle.linear_forms.proofs.CertificateLaws.{implied_on_points}
-use Rattle.proof_nodes.proofs.Covering.{form-covered, told_zero}
+use Rattle.proof_nodes.proofs.Covering.{form-covered}
 use Rattle.proof_nodes.proofs.Ranking.{values_at, value_at, value_before}
 use Rattle.proof_nodes.proofs.AbsoluteValues.{abs-up, abs-down, polynomial-covered, reads_left}
+use Rattle.int_laws.proofs.ZeroLaws.{not_zero-told as not_zero_told}
 
 -- a new value as its side looks at it
 abbrev pub on_side : Side → ℤ → ℤ
@@ -29,14 +29,6 @@ on_side Low v = neg_ℤ v
 on_side-at_most : (side : Side) (v : ℤ) → on_side side v ≤ℤ pos (nat_abs v)
 on_side-at_most Up v = abs-up v
 on_side-at_most Low v = abs-down v
-
--- a coefficient that isn't 0 is told so
-not_zero_told : (c : ℤ) → c ≢ pos 0 → not (is_zero c) ≡ true
-not_zero_told c h = go (is_zero c) refl
-  where
-    go : (v : Bool) → is_zero c ≡ v → not (is_zero c) ≡ true
-    go true e = absurd (h (told_zero c e))
-    go false e = rw e refl
 
 -- the value at a place from 1 on
 value_at_place : (c : Config) (i : ℕ) → 1 ≤ i → place_value c i ≡ at c.values (i - 1)

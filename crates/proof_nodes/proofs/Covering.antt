@@ -1,5 +1,5 @@
 -- A form over a denominator, read as a bound, is never below the form's value.
-use Rattle.std.proofs.Common.{◌≡◌, ◌≢◌, ℕ, zero, suc, ◌+◌, ◌*◌, ◌≤◌, Bool, true, false, List, [], ◌∷◌, refl, sym, ap, ◌∙◌, subst, arith, mul-le-mul, mul_assoc, mul-add, add-mul}
+use Rattle.std.proofs.Common.{◌≡◌, ◌≢◌, ℕ, suc, ◌+◌, ◌*◌, ◌≤◌, Bool, true, false, List, [], ◌∷◌, refl, sym, ap, subst, arith, mul-le-mul, mul_assoc, mul-add, add-mul}
 use Rattle.std.specs.Prelude.{ℤ, pos, negsuc, ◌+ℤ◌, ◌*ℤ◌, ◌≤ℤ◌, nat_abs}
 use Rattle.std.proofs.lemmas.Int.{ints}
 use Rattle.std.proofs.lemmas.Bool.{true≢false}
@@ -9,6 +9,7 @@ use Rattle.linear_forms.specs.Forms.{Form, at, list_dot, form_value}
 use Rattle.proof_nodes.specs.Numbers.{rounded_up, positive_part}
 use Rattle.proof_nodes.specs.Composed.{place_parts, rest_bound, form_bound, no_place}
 use Rattle.proof_nodes.specs.ComposedSizes.{inner_sum}
+pub use Rattle.int_laws.proofs.ZeroLaws.{is_zero-true as told_zero, is_zero-false as told_not_zero}
 
 -- a product is at most the product of the absolute values
 pub product-at_most : (c z : ℤ) → (c *ℤ z) ≤ℤ pos (nat_abs c * nat_abs z)
@@ -20,16 +21,6 @@ product-at_most (negsuc a) (negsuc b) = omega (arith, ints)
 -- rounding up loses nothing
 pub rounds_up : (n den : ℕ) → 1 ≤ den → n ≤ den * rounded_up n den
 rounds_up n den h = omega arith
-
--- a number that is told to be 0 is 0
-pub told_zero : (c : ℤ) → is_zero c ≡ true → c ≡ pos 0
-told_zero (pos zero) h = refl
-told_zero (pos (suc n)) h = absurd (true≢false (sym h))
-told_zero (negsuc n) h = absurd (true≢false (sym h))
-
--- and one that isn't is not
-pub told_not_zero : (c : ℤ) → is_zero c ≡ false → c ≢ pos 0
-told_not_zero c h e = true≢false (sym (ap is_zero e) ∙ h)
 
 -- an absolute coefficient times a size is at most the denominator times what stands in the bound
 coefficient-covered : (c z : ℤ) (den w : ℕ) → 1 ≤ den → nat_abs z ≤ w

@@ -14,24 +14,17 @@ use Rattle.proof_nodes.specs.Reasons.{AllPass}
 use Rattle.proof_nodes.specs.Checks.{needed_after, needed_after_each, rank_checks}
 use Rattle.model.proofs.Membership.{no_is_not_yes}
 use Rattle.model.proofs.Entries.{listed-from, listed-told}
-use Rattle.proof_nodes.proofs.Covering.{told_zero, told_not_zero}
+use Rattle.proof_nodes.proofs.Covering.{told_not_zero}
 use Rattle.proof_nodes.proofs.Stable.{stable-known, stable-implies}
 use Rattle.proof_nodes.proofs.StableShapes.{stable-small, stable-rank_shape}
 use Rattle.proof_nodes.proofs.CheckLists.{AreStable, each_passes, passes_each, each_stable, each-in, in-each, each-append, append-each, map-each, each-map, below-each, each-below}
+use Rattle.int_laws.proofs.ZeroLaws.{not_zero-told}
 
 -- a coefficient that isn't 0 is listed
 pub listed_coefficient : (cs : List ℤ) (j : ℕ) → at cs j ≢ pos 0 → j < length cs
 listed_coefficient [] j n = absurd (n refl)
 listed_coefficient (c ∷ cs) zero n = omega arith
 listed_coefficient (c ∷ cs) (suc j) n = omega (arith, listed_coefficient cs j n)
-
--- the test that a coefficient isn't 0
-not_zero-told : (c : ℤ) → c ≢ pos 0 → not (is_zero c) ≡ true
-not_zero-told c n = go (is_zero c) refl
-  where
-    go : (v : Bool) → is_zero c ≡ v → not v ≡ true
-    go true e = absurd (n (told_zero c e))
-    go false e = refl
 
 pub told-not_zero : (c : ℤ) → not (is_zero c) ≡ true → c ≢ pos 0
 told-not_zero c h = go (is_zero c) refl h

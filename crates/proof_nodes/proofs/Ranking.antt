@@ -37,7 +37,7 @@ use Rattle.proof_nodes.proofs.GoodFacts.{IsGood, IsGoodTable, known-time, known-
 use Rattle.proof_nodes.proofs.Bases.{parts_for-based, rest_bound-based}
 
 -- the form at a symbol has at most as many coefficients as the symbol has places
-rank_form-long : (p : Program) (forms : List SymbolForm) → All (HasFormShape p) forms → (a : ℕ)
+pub rank_form-long : (p : Program) (forms : List SymbolForm) → All (HasFormShape p) forms → (a : ℕ)
     → length (rank_form forms (Some a)).coefs ≤ arity_of p a
 rank_form-long p [] h a = omega arith
 rank_form-long p (f ∷ forms) h a =

@@ -1,6 +1,6 @@
 -- The updates of rules, where they have degree 2 or more.
 use Rattle.std.proofs.Common.{◌≡◌, ℕ, zero, suc, ◌<◌, ◌≤◌, Bool, true, false, cond, List, [], ◌∷◌, length, get_or, map, Some, None, nat_lt, refl, sym, ◌∙◌, ap, arith}
-use Rattle.std.proofs.lemmas.Bool.{lt-ltb, ltb-true}
+use Rattle.std.proofs.lemmas.Bool.{lt-ltb, le-ltb as not-below}
 use Rattle.model.specs.Polynomials.{degree_of}
 use Rattle.poly_terms.specs.declared.poly.Poly.{Poly}
 use Rattle.poly_terms.specs.Views.{poly_of}
@@ -24,14 +24,6 @@ update_bent qs i q low e h = update-here qs i q low e ∙ go (nat_lt 1 (degree_o
   where
     go : (v : Bool) → v ≡ true → cond v (Some (poly_of q)) None ≡ Some (poly_of q)
     go v is = ap (λ (w : Bool). cond w (Some (poly_of q)) None) is
-
--- a number that isn't below another is told so
-not-below : (a b : ℕ) → b ≤ a → nat_lt a b ≡ false
-not-below a b h = go (nat_lt a b) refl
-  where
-    go : (v : Bool) → nat_lt a b ≡ v → nat_lt a b ≡ false
-    go true is = absurd (omega (arith, h, ltb-true a b is))
-    go false is = is
 
 -- one of a lower degree isn't
 pub update_straight : (qs : List Poly) (i : ℕ) (q : Poly) → i < length qs → q ≡ get_or qs i q → degree_of (poly_of q) ≤ 1 → bent_at (map poly_of qs) i ≡ None

@@ -10,12 +10,7 @@ use Rattle.std.proofs.lemmas.Bool.Decides.{nat_tests}
 use Rattle.model.specs.Programs.{Program}
 use Rattle.model.specs.Entries.{is_in, is_left_by}
 use Rattle.proof_tree.specs.NumberSets.{HasJust}
-
--- two tests that tell the same are the same
-pub bool_same : (v w : Bool) → (v ≡ true → w ≡ true) → (w ≡ true → v ≡ true) → v ≡ w
-bool_same true w f g = sym (f refl)
-bool_same false true f g = g refl
-bool_same false false f g = refl
+pub use Rattle.model.proofs.Cases.{same_tests as bool_same}
 
 -- a number is in a list with one more where it is in the list or is that one
 in-more : (q n : ℕ) (ns : List ℕ) → is_in q (ns ++ n ∷ []) ≡ cond (q == n) true (is_in q ns)

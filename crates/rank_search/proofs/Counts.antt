@@ -11,9 +11,8 @@ use Rattle.linear_forms.specs.RuleQuestions.{RankedSet, Coefficient, has_symbol,
 use Rattle.linear_forms.specs.RuleQuestions.{coefficients}
 use Rattle.linear_forms.proofs.SolutionLaws.{length-map}
 use Rattle.model.specs.Limits.{rule_limit}
-use Rattle.model.specs.Programs.{Program, Rule, arity_in, Symbol}
-use Rattle.its_model.specs.Valid.{IsValid, IsValidSymbol}
-use Rattle.std.specs.List.{AllByRecursion}
+use Rattle.model.specs.Programs.{Program, Rule}
+use Rattle.its_model.specs.Valid.{IsValid}
 use Rattle.proof_nodes.specs.AcceptsPlain.{IsRule}
 use Rattle.proof_nodes.specs.Gaps.{SymbolPlace}
 use Rattle.proof_nodes.specs.Numbers.{IsAscending}
@@ -21,6 +20,7 @@ use Rattle.rank_search.specs.declared.coefficients.Coefficient.{Coefficient as S
 use Rattle.rank_search.specs.Coefficients.{coefficient_of, AreCoefficients}
 use Rattle.rank_search.specs.ProgramQuestions.{ranked_set}
 use Rattle.rank_search.specs.RankAnswers.{IsRuleSet}
+pub use Rattle.guard_prep.proofs.StepLaws.{few-places}
 
 -- an ascending list is as short as its greatest number allows
 ascending-short : (x : ℕ) (xs : List ℕ) (m : ℕ) → IsAscending (x ∷ xs) → All (λ y. y ≤ m) (x ∷ xs) → x + length (x ∷ xs)
@@ -142,12 +142,6 @@ few-coefficients b (s ∷ ss) h =
     let f = range-length 1 (b.arity s) in
     let g = few-coefficients b ss h in
     let k = h s in omega (arith, a, c, d, e, f, g, k)
-
-pub few-places : (symbols : List Symbol) (s : ℕ) → AllByRecursion IsValidSymbol symbols → arity_in (slice_get symbols s)
-    ≤ 32
-few-places [] s h = omega arith
-few-places (x ∷ symbols) zero h = h.0.arity
-few-places (x ∷ symbols) (suc s) h = few-places symbols s h.1
 
 pub few-in-all : (p : Program) (set : List ℕ) (strict : ℕ) (shut : List SymbolPlace) → IsValid p
     → IsRuleSet p set strict

@@ -1,5 +1,5 @@
 -- Symbols by their numbers: what is done, and what is left.
-use Rattle.std.proofs.Common.{◌≡◌, ℕ, zero, suc, ◌+◌, ◌<◌, ◌||◌, Bool, true, false, cond}
+use Rattle.std.proofs.Common.{◌≡◌, ℕ, ◌+◌, ◌<◌, ◌||◌, Bool, true, false, cond}
 use Rattle.std.proofs.Common.{List, [], ◌∷◌, ◌++◌, length, map, filter, get_or, take, Option, Some, None}
 use Rattle.std.proofs.Common.{is_some, refl, sym, ap, ◌∙◌, arith}
 use Rattle.std.specs.List.{range_with_len}
@@ -13,14 +13,7 @@ use Rattle.its_model.specs.declared.program.Program.{Program}
 use Rattle.its_model.specs.Views.{program_of, symbol_of}
 use Rattle.proof_nodes.specs.Graph.{touches, symbols_of}
 use Rattle.rank_search.specs.Marks.{mark, AreMarks}
-
--- one number more
-pub numbers-more : (a n : ℕ) → range_with_len a (n + 1) ≡ range_with_len a n ++ (a + n) ∷ []
-numbers-more a zero = ap (λ (m : ℕ). m ∷ []) (let e : a ≡ a + 0 = omega arith in e)
-numbers-more a (suc n) =
-    ap (range_with_len a) (let k : suc n + 1 ≡ suc (n + 1) = omega arith in k)
-    ∙ ap (λ (ms : List ℕ). a ∷ ms) (numbers-more (a + 1) n
-    ∙ ap (λ (m : ℕ). range_with_len (a + 1) n ++ m ∷ []) (let e : a + 1 + n ≡ a + suc n = omega arith in e))
+pub use Rattle.proof_tree.proofs.Numbers.{numbers-more}
 
 append-nothing : {A : Type 0} (xs : List A) → xs ++ [] ≡ xs
 append-nothing [] = refl

@@ -1,13 +1,9 @@
 -- The columns of a parameter.
-use Rattle.std.proofs.Common.{◌≡◌, ℕ, zero, suc, ◌+◌, ◌*◌, ap, arith, refl, sym, ◌∙◌}
+use Rattle.std.proofs.Common.{◌≡◌, ℕ, suc, ◌+◌, ◌*◌, ap, arith, sym, ◌∙◌}
 use Rattle.std.specs.Prelude.{ℤ, ◌-ℤ◌}
 use Rattle.linear_forms.specs.Questions.{double}
 use Rattle.linear_forms.specs.QuestionLaws.{parameters_of}
-
--- twice a number
-pub double-is : (n : ℕ) → double n ≡ 2 * n
-double-is zero = refl
-double-is (suc n) = let ih = double-is n in omega (arith, ih)
+pub use Rattle.lp_builder.proofs.Built.{double-is}
 
 -- a parameter is its plus column less its minus column
 pub parameter-value : (x : ℕ → ℤ) (n plus : ℕ) (a b : ℤ) → plus ≡ 2 * n → a ≡ x plus → b ≡ x (plus + 1) → a -ℤ b

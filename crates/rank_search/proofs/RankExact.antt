@@ -37,7 +37,7 @@ use Rattle.simplex_core.proofs.Certificates.{dual-excludes}
 use Rattle.rank_search.proofs.RankSets.{set-of}
 
 -- a positive denominator is at least 1
-at-least-one : (d : ℕ) → pos 0 <ℤ pos d → 1 ≤ d
+pub at-least-one : (d : ℕ) → pos 0 <ℤ pos d → 1 ≤ d
 at-least-one d l = omega (arith, ints, l)
 
 module _ (p : Program) (set : List ℕ) (strict : ℕ) (shut : List SymbolPlace) (valid : IsValid p)

@@ -1,6 +1,6 @@
 -- A question has one answer.
 use Rattle.std.proofs.Common.{◌≡◌, ℕ, ap, refl, sym, ◌∙◌, inl, inr, List, [], ◌∷◌, ◌++◌, length}
-use Rattle.std.proofs.Common.{map, Some, None}
+use Rattle.std.proofs.Common.{map, Some}
 use Rattle.std.specs.Prelude.{ℤ, pos, nat_abs}
 use Rattle.linear_forms.specs.Forms.{at}
 use Rattle.linear_forms.specs.LinearProgram.{LinearProgram}
@@ -25,6 +25,7 @@ use Rattle.rank_search.specs.EmptyAnswers.{IsEmptyAnswer, empty_program}
 use Rattle.rank_search.specs.OneAnswer.{IsSameEmptyAnswer, EmptyAnswersAreOne, SeeTheSame, IsSameRankAnswer}
 use Rattle.rank_search.specs.OneAnswer.{RankAnswersAreOne}
 use Rattle.rank_search.specs.RankAnswers.{rank_program, part_at, points_of, IsRankAnswer}
+use Rattle.model.proofs.Cases.{some_same as some-trip, none_some as no-trip}
 
 -- the numbers of solutions, and of duals, are the same, and no program has both
 module _ (p : LinearProgram) (pivots : ℕ) (xs ys : List ℤ) (d e : ℕ) where
@@ -148,12 +149,6 @@ gap-same a c e f g h i =
     ∙ (ap (λ (x : List ScaledPoint). gap_with c.rule c.set c.shut x a.floor a.kept) r.0
     ∙ (ap (λ (x : ScaledPoint). gap_with c.rule c.set c.shut c.moves x a.kept) r.1
     ∙ ap (λ (x : List ScaledPoint). gap_with c.rule c.set c.shut c.moves c.floor x) (some-same a.kept c.kept i)))))
-
-some-trip : (t u : Trip) → Some t ≡ Some u → t ≡ u
-some-trip t u e = cc
-
-no-trip : (t : Trip) → None ≡ Some t → ⊥
-no-trip t e = cc
 
 -- which function ranks
 module _ (b : RankedSet) (shut : List SymbolPlace) (pivots : ℕ) (xs ys : List EmptyAnswer)

@@ -2,6 +2,7 @@
 use Rattle.std.proofs.Common.{◌≡◌, ◌⊎◌, inl, inr, Bool, true, false, Option, Some, None, refl}
 use Rattle.model.specs.Bounds.{Bound}
 use Rattle.round_relation.specs.Tables.{lacks}
+pub use Rattle.model.proofs.Cases.{none_some, some_none, some_same}
 
 -- one of two facts stands
 pub either : {A B C : Type 0} → A ⊎ B → (A → C) → (B → C) → C
@@ -12,16 +13,6 @@ either (inr b) f g = g b
 pub told : {C : Type 0} → (v : Bool) → (v ≡ true → C) → (v ≡ false → C) → C
 told true f g = f refl
 told false f g = g refl
-
--- what is there isn't missing, and two that are there are the same where they are as options
-pub none_some : {A : Type 0} (x : A) → None ≡ Some x → ⊥
-none_some x e = cc
-
-pub some_none : {A : Type 0} (x : A) → Some x ≡ None → ⊥
-some_none x e = cc
-
-pub some_same : {A : Type 0} (x y : A) → Some x ≡ Some y → x ≡ y
-some_same x y e = cc
 
 -- no isn't yes
 pub false_true : false ≡ true → ⊥

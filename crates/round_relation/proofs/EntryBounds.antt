@@ -1,14 +1,13 @@
 -- The entries of the set of a rule have times, and sizes at each place that isn't shut.
-use Rattle.std.proofs.Common.{◌≡◌, ◌≢◌, ◌⊎◌, inl, inr, ℕ, zero, suc, ◌<◌, ◌≤◌, ◌==◌, ◌&&◌, Bool, not, true, false, List}
+use Rattle.std.proofs.Common.{◌≡◌, ◌≢◌, ◌⊎◌, inl, inr, ℕ, zero, suc, ◌<◌, ◌≤◌, ◌&&◌, Bool, not, true, false, List}
 use Rattle.std.proofs.Common.{[], ◌∷◌, length, Option, Some, None, refl, sym, ap, subst, arith, slice_get, All}
 use Rattle.std.specs.Prelude.{ℤ, pos}
 use Rattle.std.specs.List.{Contains}
 use Rattle.std.specs.Prelude.{nat_eq}
 use Rattle.std.proofs.lemmas.Bool.{and_parts, or_left, or_right}
-use Rattle.std.proofs.lemmas.List.Elements.{All-head, All-tail}
 use Rattle.model.specs.Programs.{Program, Rule, arity_of}
 use Rattle.model.specs.Bounds.{Bound}
-use Rattle.model.specs.Paths.{Path, Here, Onward, HasEdge, IsInSet, source_of, target_of, source_in, target_in}
+use Rattle.model.specs.Paths.{Here, Onward, HasEdge, IsInSet, source_of, target_of, source_in, target_in}
 use Rattle.model.specs.Paths.{same_symbol, entry_and_rules}
 use Rattle.linear_forms.specs.Forms.{at}
 use Rattle.proof_nodes.specs.Nodes.{SymbolForm}
@@ -21,11 +20,8 @@ use Rattle.proof_nodes.specs.Gaps.{SymbolPlace}
 use Rattle.round_relation.specs.Tables.{lacks, is_untimed, IsPlace}
 use Rattle.round_relation.specs.Sets.{IsSetOfRule, IsShut, AreShutOf}
 use Rattle.proof_tree.specs.Shut.{is_shut}
-
--- one path after another
-path_then : (Edge : ℕ → ℕ → Type 0) (a b c : ℕ) → Path Edge a b → Path Edge b c → Path Edge a c
-path_then Edge a b c p (Here e) = subst (λ (x : ℕ). Path Edge a x) e p
-path_then Edge a b c p (Onward {b = x} r edge) = Onward (path_then Edge a b x p r) edge
+use Rattle.model.proofs.PathLaws.{Path-then as path_then}
+use Rattle.proof_nodes.proofs.Ranking.{rank_form-long as form_long}
 
 -- two symbols that are the same are one
 pub one_symbol : (x y : Option ℕ) → same_symbol x y ≡ true → (a : ℕ) × (x ≡ Some a) × (y ≡ Some a)
@@ -100,18 +96,6 @@ entry_timed p tab t set is e h = go (tab.time e) refl
         (would_be_in p (is_untimed tab) t e parts.1.0 parts.1.2.0 untimed parts.1.2.1 parts.1.2.2
         ((is.members parts.1.0).0 parts.1.1)) in
         absurd (no_is_not_yes (not (is_in e set)) (ap not inside) parts.0)
-
--- the form at a symbol has at most as many coefficients as the symbol has places
-form_long : (p : Program) (forms : List SymbolForm) → All (HasFormShape p) forms → (a : ℕ)
-    → length (rank_form forms (Some a)).coefs ≤ arity_of p a
-form_long p [] h a = omega arith
-form_long p (f ∷ forms) h a = go (f.symbol == a) refl (All-head (HasFormShape p) f forms h)
-    (form_long p forms (All-tail (HasFormShape p) f forms h) a)
-  where
-    go : (v : Bool) → (f.symbol == a) ≡ v → HasFormShape p f → length (rank_form forms (Some a)).coefs ≤ arity_of p a
-        → length (rank_form (f ∷ forms) (Some a)).coefs ≤ arity_of p a
-    go true e here later = rw e (omega (arith, here.long, ap (λ (x : ℕ). arity_of p x) (told_same f.symbol a e)))
-    go false e here later = rw e later
 
 -- past the end of a list every coefficient is 0
 at_end : (cs : List ℤ) (j : ℕ) → length cs ≤ j → at cs j ≡ pos 0

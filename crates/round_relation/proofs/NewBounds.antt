@@ -31,9 +31,7 @@ use Rattle.round_relation.specs.RightSizes.{AreSizesRight, IsSizing}
 use Rattle.round_relation.proofs.AcceptedRanks.{start_known, start_known_whole, is_question, accepted_rank}
 use Rattle.round_relation.proofs.BeginningHolds.{first_is_good}
 use Rattle.round_relation.proofs.Cases.{some_same}
-
-no_bound : (o : Option Bound) (b : Bound) → o ≡ None → o ≡ Some b → ⊥
-no_bound o b e f = let x : None ≡ Some b = sym e ∙ f in cc
+use Rattle.model.proofs.Cases.{missing_some as no_bound}
 
 -- a member without a size makes a component one without sizes
 pub unsized_by : (members : List Spot) (size : Sizes) (t i : ℕ) → has_spot members t i ≡ true → size t i ≡ None

@@ -1,6 +1,6 @@
 -- Rules are among the numbers of rules, and places after them among those of their targets.
-use Rattle.std.proofs.Common.{◌≡◌, ℕ, zero, suc, ◌-◌, ◌<◌, ◌≤◌, true, false, length, List, [], ◌∷◌, Option, Some, None}
-use Rattle.std.proofs.Common.{refl, sym, ◌∙◌, subst, arith, slice_get}
+use Rattle.std.proofs.Common.{◌≡◌, ℕ, zero, suc, ◌-◌, ◌<◌, ◌≤◌, true, false, length, Option, Some, None}
+use Rattle.std.proofs.Common.{refl, sym, ◌∙◌, subst, arith}
 use Rattle.std.specs.List.{range_with_len, Contains}
 use Rattle.std.proofs.lemmas.List.FromFn.{length-range_with_len, get_or-range_with_len}
 use Rattle.model.specs.Programs.{Program, Rule, rule_at, arity_of}
@@ -9,6 +9,7 @@ use Rattle.model.specs.Paths.{target_of}
 use Rattle.model.proofs.Membership.{is_in-contained, contains-is_in, no_is_not_yes, slice_get-below}
 use Rattle.proof_nodes.specs.AcceptsPlain.{IsRule, places_at}
 use Rattle.round_relation.specs.Tables.{rule_numbers, IsPlace}
+use Rattle.model.proofs.Cases.{slice_get-there as at_some}
 
 -- a number from 1 up to a count is among those
 pub in_range : (n i : ℕ) → 1 ≤ i → i ≤ n → is_in i (range_with_len 1 n) ≡ true
@@ -52,12 +53,6 @@ in_places p t i m = go (target_of p t) refl
               last = omega
                   (arith, same, number, below);
             }
-
--- the numbers of rules are those of rules
-at_some : {X : Type 0} (xs : List X) (k : ℕ) → k < length xs → (x : X) × (slice_get xs k ≡ Some x)
-at_some [] k h = absurd (omega arith)
-at_some (x ∷ xs) zero h = (x, refl)
-at_some (x ∷ xs) (suc k) h = at_some xs k (omega arith)
 
 pub in_rules : (p : Program) (t : ℕ) → is_in t (rule_numbers p) ≡ true → IsRule p t
 in_rules p t h = go t (contains-is_in (rule_numbers p) t h)

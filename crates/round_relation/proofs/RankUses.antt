@@ -1,7 +1,7 @@
 -- What a ranking node rests on states all that it needs, so that it composes the same time as over the table.
 use Rattle.std.proofs.Common.{◌≡◌, ◌≢◌, ◌⊎◌, inl, inr, ℕ, zero, suc, ◌+◌, ◌==◌, Bool, true, false, List, [], ◌∷◌, ◌++◌}
 use Rattle.std.proofs.Common.{map, refl, sym, ◌∙◌, ap, subst, arith}
-use Rattle.std.specs.Prelude.{ℤ, pos, negsuc, nat_abs, Option}
+use Rattle.std.specs.Prelude.{ℤ, pos, nat_abs, Option}
 use Rattle.std.specs.List.{Contains}
 use Rattle.std.proofs.lemmas.Bool.{or_left, or_right}
 use Rattle.int_laws.specs.NormalForm.{is_zero}
@@ -21,12 +21,7 @@ use Rattle.round_relation.specs.Uses.{Need, NeedsTime, NeedsSize, read_places, e
 use Rattle.round_relation.proofs.FactLists.{contains-cases, contains-none, contains-first, contains-later, contains-left}
 use Rattle.round_relation.proofs.FactLists.{contains-right, contains-either}
 use Rattle.round_relation.proofs.NeededFacts.{IsMet}
-
--- a number that isn't 0 is told apart
-pub zero_told : (c : ℤ) → is_zero c ≡ true → c ≡ pos 0
-zero_told (pos zero) h = refl
-zero_told (pos (suc n)) h = absurd (no_is_not_yes false refl h)
-zero_told (negsuc n) h = absurd (no_is_not_yes false refl h)
+pub use Rattle.int_laws.proofs.ZeroLaws.{is_zero-true as zero_told}
 
 -- bounds of places that are the same where a coefficient isn't 0 and which aren't left out give the same parts
 pub place_parts-same : (cs : List ℤ) (den : ℕ) (left_out : ℕ → Bool) (f g : ℕ → Bound)

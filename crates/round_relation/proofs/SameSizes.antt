@@ -1,11 +1,10 @@
 -- Over tables with the same bounds where a node of a size looks, it composes the same size and is accepted alike.
-use Rattle.std.proofs.Common.{◌≡◌, ◌≢◌, ℕ, suc, ◌==◌, ◌&&◌, ◌||◌, not, Bool, true, false, cond, List, [], ◌∷◌, ◌++◌}
+use Rattle.std.proofs.Common.{◌≡◌, ◌≢◌, ℕ, suc, ◌==◌, ◌&&◌, ◌||◌, Bool, true, false, cond, List, [], ◌∷◌, ◌++◌}
 use Rattle.std.proofs.Common.{Option, Some, None, refl, sym, ◌∙◌, ap, subst}
-use Rattle.std.specs.Prelude.{ℤ, pos, nat_abs}
+use Rattle.std.specs.Prelude.{pos, nat_abs}
 use Rattle.std.specs.List.{AllByRecursion, list_any}
 use Rattle.std.proofs.lemmas.Bool.{and_from, or_left, or_right}
 use Rattle.std.proofs.lemmas.List.Elements.{All-from_recursion, recursion_from_All}
-use Rattle.int_laws.specs.NormalForm.{is_zero}
 use Rattle.model.specs.Bounds.{Bound, Constant, SumOf, ProductOf, MaximumOf, PowerOf, Parts, Part}
 use Rattle.model.specs.Entries.{is_in}
 use Rattle.model.specs.Paths.{pre}
@@ -29,7 +28,8 @@ use Rattle.proof_nodes.proofs.FirstReasons.{HasSize}
 use Rattle.proof_nodes.proofs.SizeReasons.{members-known, known-members}
 use Rattle.round_relation.specs.NewSizes.{has_spot}
 use Rattle.round_relation.proofs.Cases.{told}
-use Rattle.round_relation.proofs.RankUses.{zero_told, place_parts-same, parts_for-same}
+use Rattle.round_relation.proofs.RankUses.{place_parts-same, parts_for-same}
+use Rattle.int_laws.proofs.ZeroLaws.{not_zero-told as not_zero_told}
 
 -- a spot of a list is told to be one
 pub spot_told : (x : Spot) (xs : List Spot) → has_spot (x ∷ xs) x.rule x.place ≡ true
@@ -62,10 +62,6 @@ rest-same : (form : Form) (den : ℕ) (left_out : ℕ → Bool) (f g : ℕ → B
 rest-same form den left_out f g h =
     ap (λ (bs : Parts). SumOf (Part (Constant (rounded_up (positive_part form.constant) den)) bs))
     (place_parts-same form.coefs den left_out f g h)
-
--- what isn't 0 is told so
-not_zero_told : (c : ℤ) → c ≢ pos 0 → not (is_zero c) ≡ true
-not_zero_told c h = told (is_zero c) (λ e. absurd (h (zero_told c e))) (λ e. ap not e)
 
 -- an arm with the same bounds where it reads
 arm-same : (o : Option Polynomial) (arm : Arm) (f g : ℕ → Bound) → ((j : ℕ) → reads o arm j ≡ true → f j ≡ g j)

@@ -1,8 +1,8 @@
 -- The goals of a rank question at parameters are what the function that they stand for loses by a rule.
-use Rattle.std.proofs.Common.{◌≡◌, ℕ, suc, ◌<◌, ◌≤◌, ap, arith, refl, sym, ◌∙◌, Bool, true, false, not, List, [], ◌∷◌, ◌++◌, length, map, ◌⊎◌, inl, inr, if◌then◌else◌, nat_eq}
+use Rattle.std.proofs.Common.{◌≡◌, ℕ, suc, ◌<◌, ◌≤◌, ap, arith, refl, sym, ◌∙◌, Bool, true, false, List, [], ◌∷◌, length, map, ◌⊎◌, inl, inr, if◌then◌else◌, nat_eq}
 use Rattle.std.specs.Prelude.{ℤ, pos, negsuc, ◌+ℤ◌, ◌*ℤ◌, neg_ℤ}
-use Rattle.std.specs.List.{All, range_with_len}
-use Rattle.std.proofs.lemmas.List.Elements.{All-nil, All-cons, All-append, All-filter, All-map, All-head, All-tail}
+use Rattle.std.specs.List.{All}
+use Rattle.std.proofs.lemmas.List.Elements.{All-head, All-tail}
 use Rattle.std.proofs.lemmas.Int.{ints}
 use Rattle.std.proofs.lemmas.Bool.{cases_lt, eqb-true}
 use Rattle.int_laws.specs.Polynomial.{variable, constant, ◌⊕◌, ◌⊗◌, negated}
@@ -11,7 +11,7 @@ use Rattle.linear_forms.specs.Forms.{Form, at, list_dot}
 use Rattle.linear_forms.specs.Certificates.{minus_one}
 use Rattle.linear_forms.specs.Combinations.{form_sum, form_times, zero_form, combination, less}
 use Rattle.linear_forms.specs.Questions.{goal_at, listed}
-use Rattle.linear_forms.specs.RuleQuestions.{RuleForms, RankedSet, Coefficient, constant_form, opposite, at_source, at_target, symbols_of_set, open_places, coefficients, move_group, floor_group}
+use Rattle.linear_forms.specs.RuleQuestions.{RuleForms, RankedSet, Coefficient, constant_form, opposite, at_source, at_target, symbols_of_set, coefficients, move_group, floor_group}
 use Rattle.linear_forms.proofs.CombinationLaws.{at-sum, at-times}
 use Rattle.linear_forms.proofs.SolutionLaws.{length-map}
 use Rattle.rule_forms.specs.Kinds.{AreSame}
@@ -20,8 +20,8 @@ use Rattle.rule_forms.specs.RankLaws.{coefficient, function_of, lost_by}
 use Rattle.rule_forms.proofs.Forms.{at-listed, at-past}
 use Rattle.rule_forms.proofs.Combined.{at-combination, constant-combination}
 use Rattle.rule_forms.proofs.Totals.{dot-agree}
-use Rattle.rule_forms.proofs.Shapes.{ranged}
 use Rattle.rule_forms.proofs.Losses.{target-sum, source-sum, source-constants, share, share-elsewhere, share-other}
+pub use Rattle.linear_forms.proofs.RuleShapes.{coefficients-placed as are-placed}
 
 -- a reading of forms that takes sums to sums and multiples to multiples
 pub record IsLinear (h : Form → ℤ) : Type 0 where
@@ -102,18 +102,6 @@ target-is h linear b r v long =
 -- a coefficient is of a place of its symbol, or of its constant
 abbrev pub IsPlaced : RankedSet → Coefficient → Type 0
 IsPlaced b c = c.place ≤ b.arity c.symbol
-
-pub are-placed : (b : RankedSet) (ss : List ℕ) → All (IsPlaced b) (coefficients b ss)
-are-placed b [] = All-nil (IsPlaced b)
-are-placed b (s ∷ ss) =
-    All-append (IsPlaced b) (map (λ i. record { symbol = s; place = i }) (open_places b s ++ 0 ∷ []))
-    (coefficients b ss)
-    (All-map (IsPlaced b) (λ i. record { symbol = s; place = i }) (open_places b s ++ 0 ∷ [])
-    (All-append (λ i. i ≤ b.arity s) (open_places b s) (0 ∷ [])
-    (All-filter (λ i. not (b.shut s i)) (λ i. i ≤ b.arity s) (range_with_len 1 (b.arity s))
-    (ranged 1 (b.arity s) (b.arity s) (omega arith)))
-    (All-cons (λ i. i ≤ b.arity s) 0 [] (omega arith) (All-nil (λ i. i ≤ b.arity s)))))
-    (are-placed b ss)
 
 -- no parameter is of a place past the arity of its symbol
 pub past-none : (b : RankedSet) (cs : List Coefficient) (v : ℕ → ℤ) (s u : ℕ) → All (IsPlaced b) cs → b.arity s ≤ u

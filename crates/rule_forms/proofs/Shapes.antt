@@ -1,23 +1,18 @@
 -- The questions of all kinds have their shape, and one group.
-use Rattle.std.proofs.Common.{ℕ, zero, suc, ◌+◌, ◌≤◌, arith, refl, List, [], ◌∷◌, length, replicate, length-append}
+use Rattle.std.proofs.Common.{ℕ, zero, suc, ◌≤◌, arith, refl, [], ◌∷◌, length, replicate, length-append}
 use Rattle.std.specs.Prelude.{ℤ, pos, negsuc, ◌*ℤ◌}
 use Rattle.std.specs.List.{All, range_with_len}
 use Rattle.std.proofs.lemmas.List.{length-replicate}
 use Rattle.std.proofs.lemmas.List.Elements.{All-cons, All-nil, All-append, All-map, All-weaker}
 use Rattle.linear_forms.specs.Forms.{Form}
-use Rattle.linear_forms.specs.Combinations.{coefs_sum}
 use Rattle.linear_forms.specs.Questions.{IsShaped, IsGroupShaped}
 use Rattle.linear_forms.specs.RuleQuestions.{RuleForms, before_rule}
 use Rattle.linear_forms.proofs.SolutionLaws.{length-map}
 use Rattle.rule_forms.specs.Kinds.{Kind, Number, Argument, Affine, unit_of}
 use Rattle.rule_forms.specs.Questions.{question_of, IsKindOf, Fits}
 use Rattle.rule_forms.proofs.Sought.{sought_places, fixed_part, group_of}
-
--- the places from b on, n of them, are at most m
-pub ranged : (b n m : ℕ) → b + n ≤ suc m → All (λ p. p ≤ m) (range_with_len b n)
-ranged b zero m l = All-nil (λ p. p ≤ m)
-ranged b (suc n) m l =
-    All-cons (λ p. p ≤ m) b (range_with_len (b + 1) n) (omega (arith, l)) (ranged (b + 1) n m (omega (arith, l)))
+pub use Rattle.linear_forms.proofs.RuleShapes.{range-below as ranged}
+pub use Rattle.linear_forms.proofs.CombinationLaws.{length-sum as sum_length}
 
 -- the places that are sought are places of left arguments, or 0
 pub places-within : (left : ℕ) (kind : Kind) → All (λ p. p ≤ left) (sought_places left kind)
@@ -32,16 +27,6 @@ pub argument_length : (p left n : ℕ) → p ≤ left → left ≤ n → length 
 argument_length zero left n l m = omega arith
 argument_length (suc i) left n l m =
     omega (arith, l, m, length-append (replicate i (pos 0)) (pos 1 ∷ []), length-replicate i (pos 0))
-
--- a sum has no coefficient past those of its parts
-pub sum_length : (xs ys : List ℤ) (n : ℕ) → length xs ≤ n → length ys ≤ n → length (coefs_sum xs ys) ≤ n
-sum_length [] ys n l m = m
-sum_length (a ∷ xs) [] n l m = l
-sum_length (a ∷ xs) (b ∷ ys) zero l m = absurd (omega (arith, l))
-sum_length (a ∷ xs) (b ∷ ys) (suc n) l m = more (sum_length xs ys n (omega (arith, l)) (omega (arith, m)))
-  where
-    more : length (coefs_sum xs ys) ≤ n → suc (length (coefs_sum xs ys)) ≤ suc n
-    more h = omega (arith, h)
 
 -- nor has the fixed part
 fixed_length : (left n : ℕ) (kind : Kind) → IsKindOf left kind → left ≤ n → length (fixed_part kind).coefs ≤ n

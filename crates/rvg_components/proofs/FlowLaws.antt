@@ -32,11 +32,7 @@ use Rattle.rvg_components.proofs.Numbers.{spot_in, spots-length, widths-length, 
 use Rattle.rvg_components.proofs.EdgeLists.{EdgeTo, read_at, EdgeInto, into-told, into-listed, FirstOf, firsts-told, firsts-listed, EdgeBelow, below-told, below-listed}
 use Rattle.rvg_components.proofs.ReadPlaces.{read-told, read-listed}
 use Rattle.rvg_components.proofs.Given.{flag-within, RuleBefore, lists-long, rule-here, rows-here, answers-here, widths-few, live-spots, rule-before}
-
--- both hold
-both : (a b : Bool) → a ≡ true → b ≡ true → (a && b) ≡ true
-both true b h k = k
-both false b h k = absurd (no_is_not_yes false refl h)
+use Rattle.std.proofs.lemmas.Bool.{and_from as both}
 
 -- the first of two that hold
 first-holds : (a b : Bool) → (a && b) ≡ true → a ≡ true

@@ -13,6 +13,7 @@ use Rattle.rvg_components.specs.Flows.{Locals, value_flows, loops}
 use Rattle.rvg_components.specs.Listing.{spot_at, HasFlow}
 use Rattle.rvg_components.specs.Inside.{marked, has_inside}
 use Rattle.rvg_components.proofs.Listings.{InnerEdge, inner-edge}
+use Rattle.model.proofs.Cases.{same_tests as same_bool}
 
 -- flags stay as many
 pub marked-length : (edges : List Pair) (own : List Bool) → length (marked edges own) ≡ length own
@@ -100,12 +101,6 @@ any-placed f test (b ∷ nodes) a h passes = go (Contains-cons_cases b nodes a h
     go : (a ≡ b) ⊎ Contains nodes a → (Contains nodes a → list_any test (map f nodes) ≡ true) → (test (f b) || list_any test (map f nodes)) ≡ true
     go (inl e) ih = or_left (test (f b)) (list_any test (map f nodes)) (ap (λ (i : ℕ). test (f i)) (sym e) ∙ passes)
     go (inr l) ih = or_right (test (f b)) (list_any test (map f nodes)) (ih l)
-
--- two that hold together are the same
-same_bool : (v w : Bool) → (v ≡ true → w ≡ true) → (w ≡ true → v ≡ true) → v ≡ w
-same_bool true w onward back = sym (onward refl)
-same_bool false true onward back = back refl
-same_bool false false onward back = refl
 
 module _ (s : Setting) (local : Locals) (spots : List Spot) where
   -- the places of nodes between two of which a value flows loop

@@ -11,6 +11,7 @@ use Rattle.simplex_core.specs.Tableau.{Tableau, unknowns}
 use Rattle.simplex_core.specs.Bland.{goes_before, is_candidate, leaving}
 use Rattle.simplex_core.proofs.Searches.{and-both, and_no, no_and, second_fails, both-and, every-each, each-every, least-found, least-none, last_or_before}
 use Rattle.simplex_core.proofs.Pivots.{IsPivot}
+pub use Rattle.std.proofs.lemmas.Bool.{not-true, not_from_false as not-false}
 
 -- a test of an order on ℤ that holds
 pub int_lt-true : (a b : ℤ) → int_lt a b ≡ true → a <ℤ b
@@ -197,16 +198,6 @@ best_of p t c (suc m) = go (best_of p t c m) (is_candidate t c m) refl
                 (λ cand b. after_and i found.0 (is_candidate t c i) (goes_before p t c i found.0) refl (found.3 i l) cand
                 (before_trans (ratio p t c i) (ratio p t c m) (ratio p t c found.0) (candidate-positive t c i cand) (candidate-positive t c m e)
                 (candidate-positive t c found.0 found.2) b (goes_before-true p t c m found.0 f)))
-
--- where the negation of a test holds, the test fails
-pub not-true : (a : Bool) → not a ≡ true → a ≡ false
-not-true true h = cc
-not-true false h = refl
-
--- where a test fails, its negation holds
-pub not-false : (a : Bool) → a ≡ false → not a ≡ true
-not-false true h = cc
-not-false false h = refl
 
 -- where there is a candidate, there is a leaving row
 pub leaving-there : (p : LinearProgram) (t : Tableau) (c i : ℕ) → i < p.rows → pos 0 <ℤ t.entry i c → (r : ℕ) × (leaving p t c ≡ Some r)

@@ -1,22 +1,12 @@
 -- A fraction in lowest terms has no larger numbers than any other form of it.
-use Rattle.std.proofs.Common.{◌≡◌, ◌≢◌, ℕ, ◌+◌, ◌*◌, ◌<◌, ◌≤◌, ap, arith, sym, ◌∙◌, subst, ◌⊎◌, inl, inr}
-use Rattle.std.specs.Int.{◌∣◌}
+use Rattle.std.proofs.Common.{◌≡◌, ◌≢◌, ℕ, ◌+◌, ◌*◌, ◌<◌, ◌≤◌, ap, arith, sym, ◌∙◌, ◌⊎◌, inl, inr}
 use Rattle.std.specs.Prelude.{ℤ, pos, unsigned_abs, ◌-ℤ◌, ◌*ℤ◌, ◌<ℤ◌}
-use Rattle.std.proofs.Math.Nat.{le_of_dvd, dvd-mul_left, mul-le-mul_left, mul-le-mul_right}
+use Rattle.std.proofs.Math.Nat.{le_of_dvd, mul-le-mul_left, mul-le-mul_right}
 use Rattle.std.proofs.lemmas.Nat.{mul-lt}
 use Rattle.std.proofs.lemmas.Int.{ints, unsigned_abs-mul}
 use Rattle.std.proofs.lemmas.Bool.{cases_lt}
-use Rattle.int_laws.proofs.Coprime.{euclid}
-use Rattle.int_laws.proofs.RingLaws.{mul_comm_ℤ}
 use Rattle.frac128.specs.Lowest.{IsLowest}
-
--- the denominator in lowest terms divides every other
-denominator-divides : (n d over under : ℤ) → IsLowest n d → n *ℤ under ≡ over *ℤ d → unsigned_abs d ∣ unsigned_abs under
-denominator-divides n d over under lowest same =
-    euclid (unsigned_abs n) (unsigned_abs under) (unsigned_abs d) lowest
-    (subst (λ (m : ℕ). unsigned_abs d ∣ m)
-    (sym (unsigned_abs-mul over d) ∙ (ap unsigned_abs (sym same ∙ mul_comm_ℤ n under) ∙ unsigned_abs-mul under n))
-    (dvd-mul_left (unsigned_abs d) (unsigned_abs over)))
+use Rattle.frac128.proofs.Uniqueness.{divides_other as denominator-divides}
 
 -- the numbers in lowest terms are no larger than those of another form
 pub lowest-least : (n d over under : ℤ) → IsLowest n d → under ≢ pos 0 → n *ℤ under ≡ over *ℤ d

@@ -3,21 +3,7 @@ use Rattle.std.proofs.Common.{◌≡◌, ℕ, zero, suc, ◌<◌, ap, arith, ref
 use Rattle.std.specs.Prelude.{◌&&◌, ◌||◌, if◌then◌else◌}
 pub use Rattle.int_laws.proofs.SumLaws.{last_or_before}
 use Rattle.simplex_core.specs.Search.{every, some, or_else, least}
-
--- both parts of a conjunction hold
-pub and-both : (a b : Bool) → (a && b) ≡ true → (a ≡ true) × (b ≡ true)
-and-both true b h = (refl, h)
-and-both false b h = cc
-
--- a conjunction whose second part fails
-pub and_no : (a b : Bool) → b ≡ false → (a && b) ≡ false
-and_no true b h = h
-and_no false b h = refl
-
--- a conjunction whose first part fails
-pub no_and : (a b : Bool) → a ≡ false → (a && b) ≡ false
-no_and true b h = cc
-no_and false b h = refl
+pub use Rattle.std.proofs.lemmas.Bool.{and_parts as and-both, and_right as and_no, and_left as no_and, and_from as both-and}
 
 -- a conjunction that fails, and whose first part holds
 pub second_fails : (a b : Bool) → (a && b) ≡ false → a ≡ true → b ≡ false
@@ -28,10 +14,6 @@ second_fails false b h k = cc
 pub and_yes : (a b : Bool) → b ≡ true → (a && b) ≡ a
 and_yes true b h = h
 and_yes false b h = refl
-
--- a conjunction of what holds
-pub both-and : (a b : Bool) → a ≡ true → b ≡ true → (a && b) ≡ true
-both-and a b h k = ap (λ (x : Bool). x && b) h ∙ k
 
 -- what each number below n passes, a number below n passes
 pub every-each : (n : ℕ) (f : ℕ → Bool) → every n f ≡ true → (j : ℕ) → j < n → f j ≡ true

@@ -1,6 +1,6 @@
 -- A fraction that shows a number over a scale has its sign.
-use Rattle.std.proofs.Common.{◌≡◌, zero, suc, ap, arith, refl, sym, ◌∙◌, Bool, true, false}
-use Rattle.std.specs.Prelude.{ℤ, pos, negsuc, ◌*ℤ◌, ◌<ℤ◌, int_lt}
+use Rattle.std.proofs.Common.{◌≡◌, ap, arith, refl, sym, ◌∙◌, Bool, true, false}
+use Rattle.std.specs.Prelude.{ℤ, pos, ◌*ℤ◌, ◌<ℤ◌, int_lt}
 use Rattle.std.proofs.lemmas.Int.{ints}
 use Rattle.std.specs.Prelude.{nat_eq}
 use Rattle.std.specs.Int.{w128}
@@ -14,18 +14,13 @@ use Rattle.std.specs.Prelude.{[], ◌∷◌}
 use Rattle.int_laws.specs.Polynomial.{variable, ◌⊗◌}
 use Rattle.int_laws.proofs.Identities.{identity_by_one}
 use Rattle.simplex_core.proofs.Choices.{int_lt-true, lt-int_lt}
+pub use Rattle.int_laws.proofs.ZeroLaws.{is_zero-true}
 
 -- tests that imply each other are the same
 pub same_test : (a b : Bool) → (a ≡ true → b ≡ true) → (b ≡ true → a ≡ true) → a ≡ b
 same_test true b h k = sym (h refl)
 same_test false true h k = k refl
 same_test false false h k = refl
-
--- a test for 0 that passes
-pub is_zero-true : (z : ℤ) → is_zero z ≡ true → z ≡ pos 0
-is_zero-true (pos zero) h = refl
-is_zero-true (pos (suc n)) h = cc
-is_zero-true (negsuc n) h = cc
 
 -- with positive factors, where n is below 0 so is e
 below_zero : (n d e s : ℤ) → pos 0 <ℤ d → pos 0 <ℤ s → n *ℤ s ≡ e *ℤ d → n <ℤ pos 0 → e <ℤ pos 0

@@ -1,7 +1,7 @@
 -- The checks that no polynomial arm reads a member, and the first member of which one does.
 use Rattle.std.proofs.Common.{◌≡◌, inl, inr, ℕ, ◌+◌, ◌<◌, ◌||◌, cond, length, map, get_or, drop, Bool, true, false, List, [], ◌∷◌, Option, Some, None, refl, sym, ap, ◌∙◌, subst}
 use Rattle.std.specs.List.{list_any}
-use Rattle.std.proofs.lemmas.Bool.{or_left, or_right}
+use Rattle.std.proofs.lemmas.Bool.{or_left, or_right, or_parts as neither}
 use Rattle.std.proofs.lemmas.List.{drop_more}
 use Rattle.model.specs.Entries.{is_in}
 use Rattle.model.specs.Paths.{pre}
@@ -16,11 +16,6 @@ use Rattle.proof_nodes.specs.Setting.{Setting}
 use Rattle.proof_tree.specs.declared.arm.Member as code
 use Rattle.proof_tree.specs.Views.{member_of, spot_of}
 use Rattle.size_bounds.specs.BentArms.{is_bent_arm, is_bent_over, is_bent_by, first_bent}
-
--- neither of two tests holds
-neither : (v w : Bool) → (v || w) ≡ false → (v ≡ false) × (w ≡ false)
-neither true w h = absurd (no_is_not_yes true h refl)
-neither false w h = (refl, h)
 
 -- where one test fails the other decides
 pub other-decides : (u v w : Bool) → v ≡ false → u ≡ w → u ≡ (v || w)

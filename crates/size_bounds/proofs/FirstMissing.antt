@@ -8,14 +8,7 @@ use Rattle.proof_nodes.specs.Reasons.{Reason, MissingSize, Check, for_each, IsFi
 use Rattle.proof_nodes.specs.Checks.{check_size}
 use Rattle.proof_nodes.proofs.FirstReasons.{HasSize}
 use Rattle.size_bounds.specs.Needs.{this_or, first_missing}
-
--- nothing is something
-none-some : {A : Type 0} (x : A) → None ≡ Some x → ⊥
-none-some x e = cc
-
--- the same thing
-some-same : {A : Type 0} (x y : A) → Some x ≡ Some y → x ≡ y
-some-same x y e = cc
+use Rattle.model.proofs.Cases.{none_some as none-some, some_same as some-same}
 
 -- where a check for each element passes, the first that fails is the first behind them
 pub behind-each : {A : Type 0} (f : A → Check) (xs : List A) (rest : List Check) (r : Reason)

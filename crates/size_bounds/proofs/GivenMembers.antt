@@ -31,14 +31,12 @@ use Rattle.proof_tree.specs.Views.{member_of}
 use Rattle.proof_tree.specs.Composing.{poly_seen, HasFewVariables, HasFewPlaces, AreRowsOf}
 use Rattle.size_bounds.specs.Needs.{update_at}
 use Rattle.size_bounds.specs.SizeAnswers.{IsGiven, AreGiven}
+use Rattle.model.proofs.Cases.{some_same as some-same}
 
 -- the update at a place is that at the position before it
 pub update_next : (polys : List Polynomial) (place : ℕ) → 0 < place → bent_at polys (place - 1) ≡ update_at polys place
 update_next polys zero l = absurd (omega (arith, l))
 update_next polys (suc i) l = ap (bent_at polys) (let k : suc i - 1 ≡ i = omega arith in k)
-
-some-same : {A : Type 0} (x y : A) → Some x ≡ Some y → x ≡ y
-some-same x y e = cc
 
 module _ (p : Program) (preps : List RuleRows) (rows : AreRowsOf preps p) where
   -- there are as many rows as rules

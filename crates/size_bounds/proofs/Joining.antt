@@ -1,7 +1,6 @@
 -- Parts that are pushed element by element: what is done and what is left make the whole.
-use Rattle.std.proofs.Common.{◌≡◌, ℕ, ◌+◌, ◌<◌, ◌≤◌, max, nat_lt, ◌==◌, Bool, true, false, cond, List, [], ◌∷◌, ◌++◌, length, map, get_or, drop, refl, sym, ap, ◌∙◌, arith}
+use Rattle.std.proofs.Common.{◌≡◌, ℕ, ◌+◌, ◌<◌, ◌≤◌, max, Bool, true, false, cond, List, [], ◌∷◌, ◌++◌, length, map, get_or, drop, refl, sym, ap, ◌∙◌, arith}
 use Rattle.std.proofs.lemmas.List.{drop_more, drop_all}
-use Rattle.std.proofs.lemmas.Bool.Decides.{nat_tests}
 use Rattle.model.specs.Bounds as plain
 use Rattle.model.specs.Bounds.{Parts, NoParts, Part}
 use Rattle.bound_expr.specs.declared.bound.Bound.{Bound}
@@ -10,6 +9,8 @@ use Rattle.proof_nodes.specs.ComposedSizes.{Flow, offsets, factor_of}
 use Rattle.proof_tree.specs.Sizes.{joined}
 use Rattle.proof_tree.proofs.Parts.{joined-nothing, joined_assoc, parts_of-more}
 use Rattle.size_bounds.specs.Growths.{offset_part, all_joined}
+use Rattle.proof_nodes.proofs.Flows.{factor-least}
+pub use Rattle.std.proofs.lemmas.Bool.{lt-ltb as less_told, le-ltb as not_less_told}
 
 module _ {A : Type 0} (f : A → Parts) (xs : List A) (i : ℕ) where
   -- the parts of one more element
@@ -62,22 +63,6 @@ pushed_where v xs new x b h en ex =
 
 pub kept_where : (v : Bool) (ps : Parts) (b : plain.Bound) → v ≡ false → ps ≡ joined ps (cond v (Part b NoParts) NoParts)
 kept_where v ps b h = none_pushed ps ∙ ap (λ (w : Bool). joined ps (cond w (Part b NoParts) NoParts)) (sym h)
-
--- whether one number is less than another
-pub less_told : (m n : ℕ) → m < n → nat_lt m n ≡ true
-less_told m n h = grind (arith, nat_tests)
-
-pub not_less_told : (m n : ℕ) → n ≤ m → nat_lt m n ≡ false
-not_less_told m n h = grind (arith, nat_tests)
-
--- a factor is at least 1
-factor-least : (fs : List Flow) (t : ℕ) → 1 ≤ factor_of fs t
-factor-least [] t = omega arith
-factor-least (f ∷ fs) t = go (f.rule == t) refl (factor-least fs t)
-  where
-    go : (v : Bool) → (f.rule == t) ≡ v → 1 ≤ factor_of fs t → 1 ≤ factor_of (f ∷ fs) t
-    go true e h = rw e (omega (arith, h))
-    go false e h = rw e h
 
 pub factor-begun : (fs : List Flow) (t : ℕ) → max 1 (factor_of fs t) ≡ factor_of fs t
 factor-begun fs t = omega (arith, factor-least fs t)

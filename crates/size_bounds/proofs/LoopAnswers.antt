@@ -28,15 +28,10 @@ use Rattle.size_bounds.specs.SizeAnswers.{AreGiven, IsCycleAnswer}
 use Rattle.size_bounds.proofs.FirstMissing.{all-known, first-missing, behind-each}
 use Rattle.size_bounds.proofs.BentMembers.{straight-first, straight-passes, bent-first}
 use Rattle.size_bounds.proofs.LoopParts.{composed-is, growing-are}
+use Rattle.model.proofs.Cases.{some_same as some-same, none_some as no-bound}
 
 none-some : (t : ℕ) → None ≡ Some t → ⊥
 none-some t e = cc
-
-some-same : (t u : ℕ) → Some t ≡ Some u → t ≡ u
-some-same t u e = cc
-
-no-bound : (b : Bound) → None ≡ Some b → ⊥
-no-bound b e = cc
 
 module _ (tab : Table) where
   -- where no rule is without a time all times are known

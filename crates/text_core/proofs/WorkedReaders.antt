@@ -1,7 +1,6 @@
 -- The worked values of the order of faults, of where faults are shown, of limits and of laws.
 use Rattle.std.proofs.Common.{◌≡◌, ℕ, ◌-◌, ◌<◌, ◌≤◌, nat_lt, Bool, true, false, List, [], ◌∷◌, Option, Some, None, refl, sym, ap, subst, ◌∙◌, inl, inr, arith}
 use Rattle.std.specs.Prelude.{if◌then◌else◌}
-use Rattle.std.proofs.lemmas.Bool.Decides.{nat_tests}
 use Rattle.text_core.specs.Tokens.{Token, pieces}
 use Rattle.text_core.specs.Readers.{Fault, walk}
 use Rattle.text_core.specs.Faults.{Among, next_at}
@@ -10,10 +9,8 @@ use Rattle.text_core.specs.Rows.{Piece, Number, Comma, Wrong, Row, One, More, ro
 use Rattle.text_core.specs.WorkedReaders.{LawsAreTold, fault, OrderIsTold, PlacesAreTold, HasSmallNumbers, HasReadSmall, LeadsWithin, LimitsAreTold, WorkedReaders}
 use Rattle.text_core.proofs.Walks.{walk-none}
 use Rattle.text_core.proofs.Stopping.{last_before}
-
--- nothing is something
-none_some : {X : Type 0} (x : X) → None ≡ Some x → ⊥
-none_some x e = cc
+use Rattle.model.proofs.Cases.{none_some}
+use Rattle.std.proofs.lemmas.Bool.{ltb-false as lt_false, le-ltb as false_lt}
 
 -- no row begins with a comma
 no_comma_first : (row : Row) (rest more : List Piece) → row_then row rest ≡ Comma ∷ more → ⊥
@@ -105,13 +102,6 @@ places_told = record {
       (fault TooMany 0) (omega arith, omega arith) (inl refl) in
       omega (arith, e);
 }
-
--- what a test says where it fails, and when it does
-lt_false : (a b : ℕ) → nat_lt a b ≡ false → b ≤ a
-lt_false a b h = grind (arith, nat_tests)
-
-false_lt : (a b : ℕ) → b ≤ a → nat_lt a b ≡ false
-false_lt a b h = grind (arith, nat_tests)
 
 -- a number that isn't shown is small
 unshown_small : (m at : ℕ) → large_at (Number m) at ≡ [] → m ≤ 9

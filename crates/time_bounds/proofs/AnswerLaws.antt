@@ -1,10 +1,8 @@
 -- What an answer gives, by what its composed time is rewritten to.
-use Rattle.std.proofs.Common.{◌≡◌, ℕ, zero, suc, ◌≤◌, List, [], ◌∷◌, map, All, false, sym, ap, subst, arith}
-use Rattle.std.specs.Prelude.{slice_get, Result, Ok, Err, IfOk}
-use Rattle.std.specs.List.{AllByRecursion}
+use Rattle.std.proofs.Common.{◌≡◌, ℕ, List, [], ◌∷◌, map, All, false, sym, ap, subst, arith}
 use Rattle.std.proofs.lemmas.List.Elements.{All-nil, All-cons, All-head, All-tail}
-use Rattle.model.specs.Programs.{Program, Symbol, arity_in}
-use Rattle.its_model.specs.Valid.{IsValid, IsValidSymbol}
+use Rattle.model.specs.Programs.{Program}
+use Rattle.its_model.specs.Valid.{IsValid}
 use Rattle.proof_nodes.specs.AcceptsRank.{HasFormShape}
 use Rattle.proof_nodes.specs.Gaps.{SymbolPlace}
 use Rattle.proof_tree.specs.declared.answer.EmptyAnswer.{EmptyAnswer}
@@ -38,6 +36,8 @@ use Rattle.time_bounds.specs.ProgramSearches.{searches_of_program, ranking_of}
 use Rattle.size_bounds.specs.Tables.{table_of}
 use Rattle.time_bounds.specs.Tries.{IsTried, IsMissing}
 use Rattle.time_bounds.proofs.RoundLaws.{asked_of}
+use Rattle.guard_prep.proofs.StepLaws.{few-places as few_places}
+pub use Rattle.model.proofs.Cases.{IfOk-both as both}
 
 -- a composed time that fits is the rule's time
 pub found_says : (p : Program) (tab : Table) (node : RankNode) (b : Bound) → Fits b ≡ rewritten_within (time_of p node tab.time tab.size)
@@ -49,12 +49,6 @@ pub large_says : (p : Program) (tab : Table) (node : RankNode) (n : ℕ) → Too
     → SaysTime (setting_of p) tab (Ranked node) (Untimed (TimeLarge n))
 large_says p tab node n e =
     let h = (small-bounds.large (time_of p node tab.time tab.size) n).0 (sym e) in (h.0, ap TimeLarge h.1)
-
--- no symbol of a valid program has more than 32 places
-few_places : (symbols : List Symbol) (s : ℕ) → AllByRecursion IsValidSymbol symbols → arity_in (slice_get symbols s) ≤ 32
-few_places [] s h = omega arith
-few_places (x ∷ symbols) zero h = h.0.arity
-few_places (x ∷ symbols) (suc s) h = few_places symbols s h.1
 
 short_forms : (p : Program) (fs : List code.Form) → IsValid p → All (HasFormShape p) (map form_of fs) → All IsShort fs
 short_forms p [] v h = All-nil IsShort
@@ -90,11 +84,6 @@ pub told_time : (p : Program) (tab : code_table.Table) (pivots : ℕ) (empties :
     → Tells (searches_of_program p pivots) (setting_of p) (table_of tab) t (Timed b)
 unfolding asked_of
 told_time p tab pivots empties t a b answers asked answered says = record { asked = asked_of p tab pivots empties t a answers asked answered; says = says }
-
--- what two clauses say of a value together
-pub both : {T E : Type 0} (r : Result T E) (P Q R : T → Type 0) → ((x : T) → P x → Q x → R x) → IfOk r P → IfOk r Q → IfOk r R
-both (Ok x) P Q R h p q = h x p q
-both (Err e) P Q R h p q = tt
 
 -- an answer to a question is one to a question that is the same
 pub answered_of : (p : Program) (pivots t : ℕ) (a : Asked) (empties : List EmptyAnswer) (set : List ℕ) (shut : List (ℕ × ℕ)) (answers : List EmptyAnswer)

@@ -25,9 +25,7 @@ use Rattle.time_bounds.specs.declared.candidates.Arms.TheVariants as arms
 use Rattle.time_bounds.specs.ProgramSizes.{AreMembers, loose_reason, trip_reason, or_else, first_reason, lacks_arms}
 use Rattle.time_bounds.specs.Locals.{answer_in}
 use Rattle.time_bounds.specs.Candidates.{is_bound, IsMember, IsLone, AreArms, IsArmsOf, IsArmed, AreArmed}
-
-none_some : {A : Type 0} (a : A) → None ≡ Some a → ⊥
-none_some a e = cc
+use Rattle.model.proofs.Cases.{none_some}
 
 -- one candidate more
 pub armed_more : (local : Locals) (found : List Component) (cs : List Candidate) (x : Component) (c : Candidate) → AreArmed local found cs

@@ -13,12 +13,7 @@ use Rattle.size_bounds.specs.Tables.{entry_at, row_at, lemma_stored, numbers_of}
 use Rattle.time_bounds.specs.AnalysisLemmas.{CarriesSize, CarrySizes, CarryRows}
 use Rattle.time_bounds.specs.SizeWrites.{placed, put_entry, put_place}
 use Rattle.time_bounds.specs.SizeSaid.{CarriesNumber, CarriesIfThere, CarryRow, CarryPlaces, KeepPlaces, IsReason}
-
-some_same : {A : Type 0} (a b : A) → Some a ≡ Some b → a ≡ b
-some_same a b e = cc
-
-no_entry : {A : Type 0} (a : A) → None ≡ Some a → ⊥
-no_entry a e = cc
+use Rattle.model.proofs.Cases.{none_some as no_entry, some_same}
 
 -- what stands at a position after one more was pushed
 entry_pushed : {A : Type 0} (xs : List (Option A)) (x : Option A) (i : ℕ) (a : A) → entry_at (xs ++ x ∷ []) i ≡ Some a

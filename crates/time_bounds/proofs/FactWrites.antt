@@ -19,6 +19,7 @@ use Rattle.round_relation.specs.NewSizes.{has_spot, is_unsized}
 use Rattle.size_bounds.specs.Tables.{row_at, bound_stored}
 use Rattle.time_bounds.specs.SizeWrites.{placed, put_place, put_fact, put_facts, count_unsized}
 use Rattle.time_bounds.proofs.PlacedLaws.{place_known, place_other, place_here, place_long, place_same, place_fewer, place_few}
+use Rattle.model.proofs.Cases.{none_some}
 
 -- the same size at each of these places
 abbrev pub facts_at : Bound → List Spot → List plain.Fact
@@ -38,9 +39,6 @@ facts_more rows n (g ∷ facts) f = facts_more (put_fact rows n g) n facts f
 -- the size at a place
 abbrev pub sized : List (List (Option Stored)) → ℕ → ℕ → Option Bound
 sized rows t i = bound_stored (placed rows t i)
-
-none_some : {A : Type 0} (a : A) → None ≡ Some a → ⊥
-none_some a e = cc
 
 unsized_none : (o : Option Stored) → bound_stored o ≡ None → o ≡ None
 unsized_none None e = refl

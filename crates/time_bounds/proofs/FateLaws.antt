@@ -28,12 +28,8 @@ use Rattle.time_bounds.specs.declared.fates.Fate.TheVariants.{Empty, Unreached, 
 use Rattle.time_bounds.specs.ProgramSearches.{emptiness_of, searches_of_program}
 use Rattle.time_bounds.specs.Fates.{says_empty, is_said_empty, said_empty, fate_of, fates_by, fate_at, is_empty_fate, is_dead_fate, AreFates}
 use Rattle.time_bounds.proofs.Shut.{range_in}
-
--- tests that pass each where the other does are the same
-pub bool_same : (v w : Bool) → (v ≡ true → w ≡ true) → (w ≡ true → v ≡ true) → v ≡ w
-bool_same true w f g = sym (f refl)
-bool_same false true f g = g refl
-bool_same false false f g = refl
+pub use Rattle.model.proofs.Cases.{same_tests as bool_same}
+use Rattle.model.proofs.Cases.{none_some}
 
 any_is_in : (t : ℕ) (xs : List ℕ) → list_any (eqb t) xs ≡ is_in t xs
 any_is_in t [] = refl
@@ -82,9 +78,6 @@ at_place seen (a ∷ empties) (r ∷ rules) (suc i) e l =
       answered = h.answered;
       fate = h.fate;
     }
-
-none_some : {A : Type 0} (a : A) → None ≡ Some a → ⊥
-none_some a e = cc
 
 at_rule : (p : Program) (empties : List EmptyAnswer) (seen : List Bool) (t : ℕ) → length empties ≡ length p.rules.items → IsRule (program_of p) t
     → AtRule p empties seen t

@@ -1,5 +1,5 @@
 -- The first table and the lemmas that are written first are those of the relation.
-use Rattle.std.proofs.Common.{◌≡◌, ◌↔◌, inl, inr, ℕ, zero, suc, ◌+◌, ◌-◌, ◌<◌, Bool, true, false, not, cond, List, [], ◌∷◌, ◌++◌, length, map, filter, replicate, Vec, Option, Some, None, refl, sym, ◌∙◌, ap, subst, arith}
+use Rattle.std.proofs.Common.{◌≡◌, ◌↔◌, inl, inr, ℕ, zero, suc, ◌+◌, ◌-◌, ◌<◌, Bool, true, false, not, cond, List, [], ◌∷◌, ◌++◌, length, map, filter, replicate, Vec, Option, Some, refl, sym, ◌∙◌, ap, subst, arith}
 use Rattle.std.specs.Prelude.{slice_get, slice_index_or, nat_lt}
 use Rattle.std.specs.List.{range_with_len, Contains}
 use Rattle.std.specs.declared.alloc.Global.{Global}
@@ -36,12 +36,7 @@ use Rattle.time_bounds.specs.Lemmas.{empty_lemmas, unreached_by, never_by}
 use Rattle.time_bounds.proofs.FirstTables.{is_first, time_at, rule_size}
 use Rattle.time_bounds.proofs.RoundLaws.{rule_there, rule_below}
 use Rattle.time_bounds.proofs.FirstOrder.{is_unreached_fate, some_places, AreTold, unreached_are, never_are, empty_count, unreached_count, time_here, zeros_told, size_row, empties_are, empties_count, never_same}
-
-some_same : {A : Type 0} (a b : A) → Some a ≡ Some b → a ≡ b
-some_same a b e = cc
-
-none_some : {A : Type 0} (a : A) → None ≡ Some a → ⊥
-none_some a e = cc
+use Rattle.model.proofs.Cases.{none_some, some_same}
 
 positive : (n : ℕ) → nat_lt 0 n ≡ some_places n
 positive zero = refl

@@ -1,5 +1,5 @@
 -- The first lemmas by fates are those in the order of the relation.
-use Rattle.std.proofs.Common.{◌≡◌, ℕ, zero, suc, ◌+◌, ◌&&◌, Bool, true, false, cond, List, [], ◌∷◌, ◌++◌, length, filter, replicate, Some, None, refl, sym, ◌∙◌, ap, subst, arith}
+use Rattle.std.proofs.Common.{◌≡◌, ℕ, zero, suc, ◌+◌, ◌&&◌, Bool, true, false, cond, List, [], ◌∷◌, ◌++◌, length, filter, replicate, Some, refl, sym, ◌∙◌, ap, subst, arith}
 use Rattle.std.specs.Prelude.{slice_get, slice_index_or}
 use Rattle.std.specs.List.{range_with_len}
 use Rattle.model.specs.Programs as plain
@@ -19,6 +19,7 @@ use Rattle.size_bounds.specs.Tables.{row_at}
 use Rattle.time_bounds.specs.Fates.{says_empty, is_empty_fate, is_dead_fate}
 use Rattle.time_bounds.specs.Beginning.{if_empty, if_unreached, if_zeros, count_empty, count_unreached, time_number, time_numbers, size_number, size_numbers}
 use Rattle.time_bounds.specs.Lemmas.{empty_lemmas, unreached_by, never_here, never_by}
+use Rattle.model.proofs.Cases.{none_some, some_same}
 
 abbrev pub is_unreached_fate : Fate → Bool
 is_unreached_fate Empty = false
@@ -29,12 +30,6 @@ is_unreached_fate Live = false
 abbrev pub some_places : ℕ → Bool
 some_places zero = false
 some_places (suc n) = true
-
-some_same : {A : Type 0} (a b : A) → Some a ≡ Some b → a ≡ b
-some_same a b e = cc
-
-none_some : {A : Type 0} (a : A) → None ≡ Some a → ⊥
-none_some a e = cc
 
 module _ (ie iu : ℕ → Bool) where
   -- what tests tell of a rule with this fate

@@ -28,12 +28,8 @@ use Rattle.time_bounds.specs.Beginning.{zero_by, first_times, sizes_by, first_si
 use Rattle.size_bounds.proofs.Stored.{entry_past}
 use Rattle.time_bounds.proofs.RoundLaws.{rule_there}
 use Rattle.time_bounds.proofs.FateLaws.{shown, says}
-
-no_bound : (o : Option Bound) (b : Bound) → o ≡ None → o ≡ Some b → ⊥
-no_bound o b e f = let x : None ≡ Some b = sym e ∙ f in cc
-
-pub none_some : {A : Type 0} (a : A) → None ≡ Some a → ⊥
-none_some a e = cc
+pub use Rattle.model.proofs.Cases.{none_some}
+use Rattle.model.proofs.Cases.{missing_some as no_bound}
 
 -- the bounds of a list, one by one
 entry_mapped : (xs : List (Option Stored)) (i : ℕ) → bound_stored (entry_at xs i) ≡ entry_at (map bound_stored xs) i

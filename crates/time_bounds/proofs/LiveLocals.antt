@@ -1,8 +1,6 @@
 -- The answers for the places of a live rule, by what is read of the rule.
 use Rattle.std.proofs.Common.{◌≡◌, ℕ, suc, ◌+◌, ◌<◌, List, [], length, get_or, Some, refl, sym, ◌∙◌, ap, subst, arith}
-use Rattle.std.specs.Prelude.{slice_get, IfOk}
-use Rattle.std.specs.declared.result.Result.{Result}
-use Rattle.std.specs.declared.result.Result.TheVariants.{Ok, Err}
+use Rattle.std.specs.Prelude.{slice_get}
 use Rattle.std.proofs.lemmas.List.{length-map}
 use Rattle.std.proofs.lemmas.Option.{slice_get_read}
 use Rattle.model.specs.Programs.{rule_at}
@@ -27,14 +25,8 @@ use Rattle.time_bounds.specs.Locals.{AreAnswersAt, AreAnswersAfter}
 use Rattle.time_bounds.proofs.Ends.{target_read, arity_read}
 use Rattle.time_bounds.proofs.LocalLists.{answers_after}
 use Rattle.time_bounds.proofs.RowLaws.{RowsAt, rows_at, rows_length, rule_read}
-
-some_same : {A : Type 0} (a b : A) → Some a ≡ Some b → a ≡ b
-some_same a b e = cc
-
--- two clauses of a result together
-pub all_two : {T E : Type 0} (r : Result T E) (P Q S : T → Type 0) → ((x : T) → P x → Q x → S x) → IfOk r P → IfOk r Q → IfOk r S
-all_two (Ok x) P Q S f p q = f x p q
-all_two (Err e) P Q S f p q = tt
+pub use Rattle.model.proofs.Cases.{IfOk-both as all_two}
+use Rattle.model.proofs.Cases.{some_same}
 
 module _ (p : Program) (pivots : ℕ) (valid : IsValid (program_of p)) (preps : List RuleRows) (rows : AreRowsOf preps (program_of p))
     (empties : List EmptyAnswer) (known : AreEmptyAnswers (program_of p) pivots empties) (i : ℕ) (low : i < length p.rules.items) (r : Rule)

@@ -1,10 +1,10 @@
 -- Lists of answers for the places of live rules are what is answered of them.
-use Rattle.std.proofs.Common.{◌≡◌, ℕ, zero, suc, ◌+◌, ◌<◌, Bool, true, false, not, List, [], ◌∷◌, ◌++◌, length, map, Some, None, refl, sym, ◌∙◌, ap, subst, arith}
+use Rattle.std.proofs.Common.{◌≡◌, ℕ, zero, suc, ◌+◌, ◌<◌, Bool, true, false, not, List, [], ◌∷◌, ◌++◌, length, map, Some, refl, sym, ◌∙◌, ap, subst, arith}
 use Rattle.std.specs.Prelude.{slice_get, slice_index_or}
 use Rattle.std.proofs.lemmas.List.{length-map}
 use Rattle.model.specs.Programs.{Program, Rule, rule_at, arity_of}
 use Rattle.model.specs.Paths.{target_in}
-use Rattle.model.proofs.Membership.{no_is_not_yes}
+use Rattle.model.proofs.Membership.{no_is_not_yes, slice_get-below as below_get}
 use Rattle.guard_prep.specs.Prepared.{Prepared, prepared}
 use Rattle.proof_nodes.specs.AcceptsPlain.{IsRule}
 use Rattle.proof_tree.specs.declared.answer.EmptyAnswer.{EmptyAnswer}
@@ -23,12 +23,7 @@ use Rattle.time_bounds.specs.ProgramSizes.{spot, AreLive, IsLocalOf, AreLocals}
 use Rattle.time_bounds.specs.Fates.{AreFates, fate_at, is_empty_fate, is_dead_fate}
 use Rattle.time_bounds.specs.Locals.{is_live_fate, AreAnswersAt, AreAnswersAfter, AreAllAnswers, answer_in}
 use Rattle.time_bounds.proofs.RoundLaws.{rule_below, rule_there}
-
-none_some : {A : Type 0} (a : A) → None ≡ Some a → ⊥
-none_some a e = cc
-
-some_same : {A : Type 0} (a b : A) → Some a ≡ Some b → a ≡ b
-some_same a b e = cc
+use Rattle.model.proofs.Cases.{slice_get-there as get_below, none_some, some_same}
 
 -- one answer more of a rule
 pub answer_more : (m : Prepared) (t pivots : ℕ) (e : EmptyAnswer) (i : ℕ) (answers : List LocalAnswer) (a : LocalAnswer) → AreAnswersAt m t pivots e i answers
@@ -50,16 +45,6 @@ answer_of_place m t pivots e k (b ∷ answers) zero a h g =
 answer_of_place m t pivots e k (b ∷ answers) (suc j) a h g =
     subst (λ (n : ℕ). IsLocal m (spot t n) pivots e (local_seen a)) (let z : suc k + j ≡ k + suc j = omega arith in z)
     (answer_of_place m t pivots e (suc k) answers j a h.1 g)
-
-below_get : {A : Type 0} (xs : List A) (i : ℕ) (a : A) → slice_get xs i ≡ Some a → i < length xs
-below_get [] i a e = absurd (none_some a e)
-below_get (x ∷ xs) zero a e = omega arith
-below_get (x ∷ xs) (suc i) a e = let h = below_get xs i a e in omega (arith, h)
-
-get_below : {A : Type 0} (xs : List A) (i : ℕ) → i < length xs → (a : A) × (slice_get xs i ≡ Some a)
-get_below [] i l = absurd (omega (arith, l))
-get_below (x ∷ xs) zero l = (x, refl)
-get_below (x ∷ xs) (suc i) l = get_below xs i (omega (arith, l))
 
 -- the answers of a live rule, by those for its rows
 pub answers_after : (p : Program) (pivots i : ℕ) (r : Rule) (f : Fate) (e : EmptyAnswer) (answers : List LocalAnswer) → rule_at p (suc i) ≡ Some r

@@ -10,11 +10,7 @@ use Rattle.proof_nodes.specs.Setting.{Setting}
 use Rattle.round_relation.specs.Components.{IsOneOf}
 use Rattle.rvg_components.specs.Flows.{Locals, value_flows, live_spots, loops}
 use Rattle.rvg_components.specs.Listing.{spot_at, HasFlow, AreComponents}
-
--- paths one behind the other
-joined : (E : ℕ → ℕ → Type 0) (a b c : ℕ) → Path E a b → Path E b c → Path E a c
-joined E a b c p (Here e) = subst (λ (x : ℕ). Path E a x) e p
-joined E a b c p (Onward {b = z} q e) = Onward (joined E a b z p q) e
+use Rattle.model.proofs.PathLaws.{Path-then as joined}
 
 -- a path to another node ends with an edge
 record LastEdge (E : ℕ → ℕ → Type 0) (a b : ℕ) : Type 0 where

@@ -15,6 +15,7 @@ use Rattle.proof_nodes.specs.Nodes as nodes
 use Rattle.proof_tree.specs.declared.answer.EmptyAnswer.{EmptyAnswer}
 use Rattle.round_relation.specs.Uses.{Numbers}
 use Rattle.time_bounds.specs.Lemmas.{empty_here, empty_lemmas, unreached_here, unreached_by, never_here, never_by}
+use Rattle.time_bounds.proofs.FateLists.{range-more}
 
 -- one more of the same number
 pub same-more : (x n : ℕ) → replicate (n + 1) x ≡ replicate n x ++ x ∷ []
@@ -79,10 +80,6 @@ never-left p ns j fs rs i d r e low at_r =
     ap (λ (xs : List Fate). never_by p ns j xs (map rule_of (drop i rs))) (drop_more fs i d (omega (arith, low, e)))
     ∙ ap (λ (ys : List Rule). never_by p ns j (slice_index_or fs i d ∷ drop (i + 1) fs) (map rule_of ys))
     (drop_more rs i r low ∙ ap (λ (b : Rule). b ∷ drop (i + 1) rs) (sym at_r))
-
-range-more : (n a j : ℕ) → a + n ≡ j → range_with_len a (suc n) ≡ range_with_len a n ++ j ∷ []
-range-more zero a j e = let same : a ≡ j = omega (arith, e) in ap (λ (x : ℕ). x ∷ []) same
-range-more (suc n) a j e = ap (λ (xs : List ℕ). a ∷ xs) (range-more n (a + 1) j (omega (arith, e)))
 
 -- the first lemmas, with one more
 pub range-next : (n : ℕ) → map (λ k. nodes.Cite k) (range_with_len 1 (n + 1)) ≡ map (λ k. nodes.Cite k) (range_with_len 1 n) ++ nodes.Cite (n + 1) ∷ []

@@ -16,9 +16,7 @@ use Rattle.time_bounds.specs.ProgramSearches.{searches_of_program}
 use Rattle.time_bounds.specs.ProgramSizes.{sizes_of_program}
 use Rattle.time_bounds.specs.Analysis.{IsSaid, AreSaid, IsSizeSaid, AreSizesSaid, AreRowsSaid, IsAnalysis}
 use Rattle.time_bounds.specs.Totals.{total_of}
-
-same_bound : (b c : Bound) → Some b ≡ Some c → b ≡ c
-same_bound b c e = cc
+use Rattle.model.proofs.Cases.{some_same as same_bound}
 
 some_none : (b : Bound) → Some b ≡ None → ⊥
 some_none b e = cc

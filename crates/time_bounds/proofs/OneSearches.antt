@@ -19,6 +19,7 @@ use Rattle.rank_search.specs.OneAnswer.{IsSameTrip, IsSameEmptyAnswer, EmptyAnsw
 use Rattle.round_relation.specs.Searches.{Ranking, Ranked, Unranked, RankTripped}
 use Rattle.round_relation.specs.Right.{AreOne}
 use Rattle.time_bounds.specs.ProgramSearches.{ranking_of, searches_of_program}
+use Rattle.model.proofs.Cases.{slice_get-there as at_some, some_none}
 
 -- a cause as plain data is that of one cause
 cause_one : (c d : TripCause) → cause_of c ≡ cause_of d → c ≡ d
@@ -68,18 +69,10 @@ ranking_one (ranks.Tripped t) (ranks.Ranked k) h = absurd h
 ranking_one (ranks.Tripped t) (ranks.NoRank g) h = absurd h
 ranking_one (ranks.Tripped t) (ranks.Tripped u) h = ap (λ (x : Trip). RankTripped x) (trip_one t u h)
 
-at_some : {X : Type 0} (xs : List X) (k : ℕ) → k < length xs → (x : X) × (slice_get xs k ≡ Some x)
-at_some [] k h = absurd (omega arith)
-at_some (x ∷ xs) zero h = (x, refl)
-at_some (x ∷ xs) (suc k) h = at_some xs k (omega arith)
-
 past_end : {X : Type 0} (xs : List X) (k : ℕ) → length xs ≤ k → slice_get xs k ≡ None
 past_end [] k h = refl
 past_end (x ∷ xs) zero h = absurd (omega (arith, h))
 past_end (x ∷ xs) (suc k) h = past_end xs k (omega (arith, h))
-
-some_none : {X : Type 0} (x : X) → Some x ≡ None → ⊥
-some_none x e = cc
 
 module _ (empties_one : EmptyAnswersAreOne) (ranks_one : RankAnswersAreOne) (p : Program) (pivots : ℕ) where
   module _ (xs ys : List EmptyAnswer) (a : AreEmptyAnswers p pivots xs) (b : AreEmptyAnswers p pivots ys) where

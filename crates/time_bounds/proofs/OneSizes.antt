@@ -1,5 +1,5 @@
 -- The searches for sizes of a program have one answer to each question.
-use Rattle.std.proofs.Common.{◌≡◌, ℕ, Bool, true, false, List, [], ◌∷◌, length, map, Option}
+use Rattle.std.proofs.Common.{◌≡◌, ℕ, Bool, true, List, [], ◌∷◌, length, map, Option}
 use Rattle.std.proofs.Common.{refl, sym, ◌∙◌, ap, subst}
 use Rattle.std.specs.List.{AllByRecursion, range_with_len}
 use Rattle.std.proofs.lemmas.List.Elements.{recursion_from_All}
@@ -26,13 +26,7 @@ use Rattle.time_bounds.proofs.SpotLists.{at-member}
 use Rattle.time_bounds.proofs.LiveSpots.{listed-live, live_spots-same}
 use Rattle.rvg_components.proofs.Listings.{listing-same}
 use Rattle.time_bounds.proofs.OneSizings.{flow_same, sizing_one}
-
--- two tests that say yes together are the same
-same_test : (v w : Bool) → (v ≡ true → w ≡ true) → (w ≡ true → v ≡ true) → v ≡ w
-same_test true true f g = refl
-same_test true false f g = sym (f refl)
-same_test false true f g = g refl
-same_test false false f g = refl
+use Rattle.model.proofs.Cases.{same_tests as same_test}
 
 module _ (p : Program) (pivots : ℕ) where
   -- the live rules are the same

@@ -8,9 +8,7 @@ use Rattle.outcome.specs.declared.entry.Stored.{Stored}
 use Rattle.size_bounds.specs.Tables.{entry_at, row_at}
 use Rattle.time_bounds.specs.Tries.{count_missing}
 use Rattle.time_bounds.specs.SizeWrites.{or_value, placed, put_entry, put_place, count_unsized}
-
-none_some : {A : Type 0} (a : A) → None ≡ Some a → ⊥
-none_some a e = cc
+use Rattle.model.proofs.Cases.{none_some}
 
 or_known : {A : Type 0} (o : Option A) (a b : A) → o ≡ Some b → or_value o a ≡ Some b
 or_known None a b e = absurd (none_some b e)

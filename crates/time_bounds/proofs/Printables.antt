@@ -50,12 +50,7 @@ use Rattle.time_bounds.proofs.SizeNumbers.{spread-each, cycle-each}
 use Rattle.time_bounds.proofs.RightSearches.{program_searches_right}
 use Rattle.time_bounds.proofs.RightSizings.{program_sizes_right}
 use Rattle.time_bounds.proofs.Sums.{first_known, total_is}
-
-same_bound : (a b : Bound) → Some a ≡ Some b → a ≡ b
-same_bound a b e = cc
-
-no_bound : (o : Option Bound) (b : Bound) → o ≡ None → o ≡ Some b → ⊥
-no_bound o b e f = let x : None ≡ Some b = sym e ∙ f in cc
+use Rattle.model.proofs.Cases.{some_same as same_bound, missing_some as no_bound}
 
 -- a time that is known isn't one that is missing
 not_both : (b : Bound) (why : NoTime) → Timed b ≡ Untimed why → ⊥

@@ -1,6 +1,6 @@
 -- The answers of the searches of a valid program are right.
 use Rattle.rank_search.proofs.Exact.{nodes-accepted as empty_nodes-accepted}
-use Rattle.std.proofs.Common.{◌≡◌, inl, inr, ℕ, zero, suc, ◌<◌, ◌==◌, Bool, true, false, List, [], ◌∷◌, length, map, Option, Some, None, refl, sym, ◌∙◌, ap, subst, arith, slice_get}
+use Rattle.std.proofs.Common.{◌≡◌, inl, inr, ℕ, zero, suc, ◌==◌, Bool, true, false, List, [], ◌∷◌, map, Option, Some, None, refl, sym, ◌∙◌, ap, subst, arith}
 use Rattle.std.specs.Prelude.{ℤ, pos, ◌+ℤ◌, ◌*ℤ◌, ◌≤ℤ◌}
 use Rattle.std.specs.List.{Contains}
 use Rattle.std.proofs.lemmas.Bool.{or_left, or_right}
@@ -39,6 +39,7 @@ use Rattle.round_relation.specs.Right.{met_in, set_met, EmptyTrips, NoneTrips, I
 use Rattle.round_relation.proofs.Cases.{either}
 use Rattle.time_bounds.specs.SearchLaws.{ProgramSearchesAreRight}
 use Rattle.time_bounds.specs.ProgramSearches.{emptiness_of, ranking_of, searches_of_program}
+use Rattle.model.proofs.Cases.{slice_get-there as at_some, some_same as some_trip, none_some as none_trip}
 
 -- a rule without what a ranking function doesn't meet: its unknowns
 abbrev bare : RuleForms → RuleForms
@@ -94,19 +95,8 @@ zero_at f a j h (x ∷ ss) = go (x == a) refl (zero_at f a j h ss)
     go true e rest = rw e (subst (λ (s : ℕ). at (f s).coefs j ≡ pos 0) (sym (told_same x a e)) h)
     go false e rest = rw e rest
 
-some_trip : (x y : Trip) → Some x ≡ Some y → x ≡ y
-some_trip x y e = cc
-
-none_trip : (x : Trip) → None ≡ Some x → ⊥
-none_trip x e = cc
-
 trip_none : (x : Trip) → Some x ≡ None → ⊥
 trip_none x e = cc
-
-at_some : {X : Type 0} (xs : List X) (k : ℕ) → k < length xs → (x : X) × (slice_get xs k ≡ Some x)
-at_some [] k h = absurd (omega arith)
-at_some (x ∷ xs) zero h = (x, refl)
-at_some (x ∷ xs) (suc k) h = at_some xs k (omega arith)
 
 module _ (accepted : EmptyNodesAreAccepted) (functions : RankedNodesRank) (nodes : RankedNodesAreAccepted) (exact : RankAnswersAreExact)
     (p : Program) (pivots : ℕ) (valid : IsValid p) where

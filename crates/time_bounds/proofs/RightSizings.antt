@@ -1,6 +1,6 @@
 -- The answers about sizes of a valid program are right.
 use Rattle.std.proofs.Common.{◌≡◌, ◌⊎◌, inl, inr, ℕ, zero, suc, ◌-◌, ◌<◌, ◌≤◌, ◌==◌, ◌&&◌, Bool, true, false, List, [], ◌∷◌}
-use Rattle.std.proofs.Common.{map, Option, Some, None, refl, sym, ◌∙◌, ap, subst, arith, slice_index_or}
+use Rattle.std.proofs.Common.{map, Option, Some, None, refl, sym, ◌∙◌, ap, subst, arith}
 use Rattle.std.specs.Prelude.{ℤ, pos, negsuc, ◌*ℤ◌, ◌<ℤ◌}
 use Rattle.std.specs.List.{AllByRecursion}
 use Rattle.std.proofs.lemmas.Bool.{and_from, or_left, or_right}
@@ -11,7 +11,6 @@ use Rattle.model.specs.Paths.{target_of, target_in}
 use Rattle.model.proofs.Membership.{same_number}
 use Rattle.its_model.specs.Valid.{IsValid}
 use Rattle.linear_forms.specs.Forms.{Form, at, form_value}
-use Rattle.linear_forms.specs.Combinations.{zero_form}
 use Rattle.linear_forms.specs.Points.{IsPoint, IsRay}
 use Rattle.linear_forms.specs.RuleQuestions.{after_rule}
 use Rattle.linear_forms.proofs.CombinationLaws.{form_value-times}
@@ -47,12 +46,7 @@ use Rattle.time_bounds.specs.ProgramSizes.{first_reason, lacks_arms, IsSpreadSiz
 use Rattle.time_bounds.specs.ProgramSizes.{IsSizingOf, sizes_of_program}
 use Rattle.time_bounds.specs.SearchLaws.{ProgramSizeSearchesAreRight}
 use Rattle.time_bounds.proofs.RightComponents.{components_right}
-
--- a form of a list at a position
-form_there : (fs : List Form) (i : ℕ) → slice_index_or fs i zero_form ≡ form_at fs i
-form_there [] i = refl
-form_there (f ∷ fs) zero = refl
-form_there (f ∷ fs) (suc i) = form_there fs i
+use Rattle.local_size.proofs.NewValues.{form_at-is as form_there}
 
 -- one of two reasons
 one_of : (a b : Option NoSize) (why : NoSize) → or_else a b ≡ Some why → (a ≡ Some why) ⊎ (b ≡ Some why)

@@ -1,10 +1,9 @@
 -- A round of the code is one of the relation, and it keeps what rounds ask of tables.
 use Rattle.std.proofs.Common.{◌≡◌, ◌⊎◌, inl, inr, ℕ, zero, suc, ◌+◌, ◌<◌, ◌≤◌, ◌||◌, Bool, true, false, List, [], ◌∷◌, length, map, Vec, Option, Some, None, refl, sym, ◌∙◌, ap, subst, arith}
-use Rattle.std.specs.Prelude.{slice_get}
 use Rattle.std.specs.List.{list_any}
 use Rattle.std.specs.declared.alloc.Global.{Global}
 use Rattle.std.proofs.lemmas.Bool.{cases_lt}
-use Rattle.model.specs.Programs.{Program, Rule}
+use Rattle.model.specs.Programs.{Program}
 use Rattle.model.specs.Bounds.{Bound}
 use Rattle.model.proofs.Membership.{no_is_not_yes, slice_get-below}
 use Rattle.bound_expr.specs.Views.{bound_of}
@@ -26,9 +25,8 @@ use Rattle.size_bounds.specs.Tables.{entry_at, row_at, bound_stored, stored_time
 use Rattle.time_bounds.specs.Questions.{IsAnswered, IsAsked, AreKept}
 use Rattle.time_bounds.specs.Tries.{IsTried, AreTried, found_in, kept_in, or_found, after_round, after_tries, is_found, one_if_found, count_found, count_missing}
 use Rattle.size_bounds.proofs.Stored.{entry_past}
-
-no_bound : (o : Option Bound) (b : Bound) → o ≡ None → o ≡ Some b → ⊥
-no_bound o b e f = let x : None ≡ Some b = sym e ∙ f in cc
+pub use Rattle.round_relation.proofs.Numbered.{rule_numbered as rule_there}
+use Rattle.model.proofs.Cases.{missing_some as no_bound}
 
 -- a question that was answered is one of the relation
 unfoldable pub asked_of : (p : Program) (tab : Table) (pivots : ℕ) (empties : List EmptyAnswer) (t : ℕ) (a : code.Asked) → AreEmptyAnswers p pivots empties
@@ -48,14 +46,6 @@ rule_below p i r = slice_get-below p.rules i r.rule r.numbered
 
 not_zero : (p : Program) → IsRule p 0 → ⊥
 not_zero p r = let e : None ≡ Some r.rule = r.numbered in cc
-
-pub rule_there : (p : Program) (i : ℕ) → i < length p.rules → IsRule p (suc i)
-rule_there p i l = let r = at p.rules i l in record { rule = r.0; numbered = r.1 }
-  where
-    at : (rules : List Rule) (i : ℕ) → i < length rules → (r : Rule) × (slice_get rules i ≡ Some r)
-    at [] i l = absurd (omega (arith, l))
-    at (r ∷ rules) zero l = (r, refl)
-    at (r ∷ rules) (suc i) l = at rules i (omega (arith, l))
 
 pub stored_none : (o : Option Stored) → bound_stored o ≡ None → o ≡ None
 stored_none None e = refl

@@ -1,5 +1,5 @@
 -- Rows and answers, rule by rule, are those of the program.
-use Rattle.std.proofs.Common.{◌≡◌, ℕ, zero, suc, ◌+◌, ◌-◌, ◌<◌, List, [], ◌∷◌, ◌++◌, length, map, get_or, All, Some, None, refl, sym, ◌∙◌, ap, subst, arith}
+use Rattle.std.proofs.Common.{◌≡◌, ℕ, zero, suc, ◌+◌, ◌-◌, ◌<◌, List, [], ◌∷◌, ◌++◌, length, map, get_or, All, Some, refl, sym, ◌∙◌, ap, subst, arith}
 use Rattle.std.specs.Prelude.{slice_get}
 use Rattle.std.proofs.lemmas.List.{length-map}
 use Rattle.model.specs.Programs as plain
@@ -19,6 +19,7 @@ use Rattle.proof_tree.specs.Composing.{AreRowsOf}
 use Rattle.rank_search.specs.EmptyAnswers.{IsEmptyAnswer, IsPrepared}
 use Rattle.rank_search.specs.RankAnswers.{AreEmptyAnswers, answer_for}
 use Rattle.time_bounds.specs.Questions.{AreAnswersFrom}
+use Rattle.model.proofs.Cases.{none_some}
 
 -- a rule that is read is the program's
 pub rule_read : (p : Program) (i : ℕ) (r : Rule) → i < length p.rules.items → r ≡ get_or p.rules.items i r
@@ -38,9 +39,6 @@ rest_same a b os bs e = cc
 
 empty_not : (a : Prepared) (os : List Prepared) → [] ≡ a ∷ os → ⊥
 empty_not a os e = cc
-
-none_some : {A : Type 0} (a : A) → None ≡ Some a → ⊥
-none_some a e = cc
 
 -- the rule whose rows stand at a position
 pub record RowsAt (rules : List plain.Rule) (k : ℕ) (m : RuleRows) : Type 0 where

@@ -38,9 +38,7 @@ use Rattle.time_bounds.proofs.RoundLaws.{rule_there}
 use Rattle.time_bounds.proofs.SizeReasons.{said_fair, listed_there, whys_long}
 use Rattle.time_bounds.proofs.SizeSteps.{long_at, row_of_rule, place_within}
 use Rattle.time_bounds.proofs.WholeRounds.{live_components}
-
-none_some : {A : Type 0} (a : A) → None ≡ Some a → ⊥
-none_some a e = cc
+use Rattle.model.proofs.Cases.{none_some}
 
 -- the first table behind a table that is made by rounds, whose sizes stay
 record Behind (q : Searches) (s : Setting) (tab : nodes.Table) : Type 0 where

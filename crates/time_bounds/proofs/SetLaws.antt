@@ -22,6 +22,7 @@ use Rattle.size_bounds.specs.declared.table.Table as code
 use Rattle.size_bounds.specs.Tables.{table_of}
 use Rattle.time_bounds.specs.Questions.{AreUntimed}
 use Rattle.time_bounds.proofs.RoundLaws.{rule_there}
+use Rattle.model.proofs.Cases.{none_some}
 
 -- numbers that increase ascend
 pub ascending : (xs : List ℕ) → IsStrictlyIncreasing xs → IsAscending xs
@@ -33,9 +34,6 @@ ascending (x ∷ y ∷ rest) h = (h 0 (omega arith), ascending (y ∷ rest) late
     later k l =
         let next : suc k + 1 ≡ suc (k + 1) = omega arith in
         subst (λ (j : ℕ). get_or (y ∷ rest) k 0 < get_or (x ∷ y ∷ rest) j 0) next (h (suc k) (omega (arith, l)))
-
-none_some : {A : Type 0} (a : A) → None ≡ Some a → ⊥
-none_some a e = cc
 
 -- a number of a rule is at most how many there are
 pub rule_within : (p : Program) (t : ℕ) (r : Rule) → rule_at p t ≡ Some r → t ≤ length p.rules

@@ -6,7 +6,6 @@ use Rattle.std.proofs.lemmas.List.Elements.{Contains-append_left, Contains-appen
 use Rattle.std.proofs.lemmas.Bool.{or_left, or_right}
 use Rattle.std.proofs.lemmas.Bool.Decides.{eqb_tells}
 use Rattle.model.specs.Programs.{Program, Symbol, arity_in, arity_of}
-use Rattle.model.specs.Bounds.{Bound}
 use Rattle.model.specs.Entries.{is_in, entries}
 use Rattle.model.specs.Paths.{target_of, same_symbol}
 use Rattle.model.proofs.Membership.{is_in-cases, slice_get-below, told_same, same_number, no_is_not_yes, is_in-filter, filter-in, list_any-from, list_any-told}
@@ -15,6 +14,7 @@ use Rattle.proof_nodes.specs.Known.{Table}
 use Rattle.round_relation.specs.Tables.{lacks}
 use Rattle.round_relation.specs.Sets.{IsShut, StandsBefore, ArePlacesInOrder, AreShutOf}
 use Rattle.time_bounds.specs.Shutting.{lacks_any, at_place, shut_at, into, shut_from}
+pub use Rattle.round_relation.proofs.Cases.{lacks_none as lacking_is_none}
 
 -- the first of a list, where there is one
 abbrev Head : (SymbolPlace → Type 0) → List SymbolPlace → Type 0
@@ -118,10 +118,6 @@ same_told (Some b) a h = ap Some (told_same b a h)
 
 same_there : (o : Option ℕ) (a : ℕ) → o ≡ Some a → same_symbol o (Some a) ≡ true
 same_there o a e = ap (λ (q : Option ℕ). same_symbol q (Some a)) e ∙ same_number a
-
-pub lacking_is_none : (o : Option Bound) → lacks o ≡ true → o ≡ None
-lacking_is_none None h = refl
-lacking_is_none (Some b) h = absurd (no_is_not_yes false refl h)
 
 -- a symbol with a place is one of the program
 within_symbols : (p : Program) (a i : ℕ) → 1 ≤ i → i ≤ arity_of p a → a < length p.symbols

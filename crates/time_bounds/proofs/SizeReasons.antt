@@ -28,12 +28,7 @@ use Rattle.time_bounds.proofs.PlacedLaws.{Wrote, place_known, place_cases, place
 use Rattle.time_bounds.proofs.FactWrites.{row_long}
 use Rattle.time_bounds.proofs.SizeSteps.{size_is}
 use Rattle.time_bounds.proofs.WholeRounds.{are_components}
-
-none_some : {A : Type 0} (a : A) → None ≡ Some a → ⊥
-none_some a e = cc
-
-some_same : {A : Type 0} (a b : A) → Some a ≡ Some b → a ≡ b
-some_same a b e = cc
+use Rattle.model.proofs.Cases.{none_some, some_same}
 
 -- a list of rows, mapped
 entry_mapped : {A B : Type 0} (f : Option A → Option B) (row : List (Option A)) (i : ℕ) → f None ≡ None → entry_at (map f row) i ≡ f (entry_at row i)

@@ -20,14 +20,7 @@ use Rattle.its_model.specs.Views.{symbol_of, program_of}
 use Rattle.proof_nodes.specs.Gaps.{SymbolPlace}
 use Rattle.proof_nodes.specs.Known.{Table}
 use Rattle.time_bounds.specs.Shutting.{lacks_any, at_place, place_if, shut_at, into, shut_by, shut_from, shut_marked, mark_of, marks_of, put_mark}
-
--- one number more
-pub numbers_more : (a n : ℕ) → range_with_len a (n + 1) ≡ range_with_len a n ++ (a + n) ∷ []
-numbers_more a zero = ap (λ (m : ℕ). m ∷ []) (let e : a ≡ a + 0 = omega arith in e)
-numbers_more a (suc n) =
-    ap (range_with_len a) (let k : suc n + 1 ≡ suc (n + 1) = omega arith in k)
-    ∙ ap (λ (ms : List ℕ). a ∷ ms) (numbers_more (a + 1) n
-    ∙ ap (λ (m : ℕ). range_with_len (a + 1) n ++ m ∷ []) (let e : a + 1 + n ≡ a + suc n = omega arith in e))
+pub use Rattle.proof_tree.proofs.Numbers.{numbers-more as numbers_more}
 
 -- one number more that is tested
 pub filter_more : (test : ℕ → Bool) (a n : ℕ) → filter test (range_with_len a (n + 1)) ≡ filter test (range_with_len a n) ++ cond (test (a + n)) ((a + n) ∷ []) []

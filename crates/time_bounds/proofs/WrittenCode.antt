@@ -1,5 +1,5 @@
 -- What rounds write, by what follows in the code's list of lemmas.
-use Rattle.std.proofs.Common.{◌≡◌, ℕ, suc, ◌+◌, ◌||◌, Bool, true, false, List, [], ◌∷◌, ◌++◌, length, map, refl, sym, ◌∙◌, ap, subst, arith}
+use Rattle.std.proofs.Common.{◌≡◌, ℕ, suc, ◌+◌, true, false, List, [], ◌∷◌, ◌++◌, length, map, refl, sym, ◌∙◌, ap, subst, arith}
 use Rattle.std.specs.List.{list_any}
 use Rattle.std.proofs.lemmas.List.{append-nil, length-map}
 use Rattle.model.specs.Programs.{Program}
@@ -32,10 +32,7 @@ use Rattle.time_bounds.proofs.SizeSteps.{same_table}
 use Rattle.time_bounds.proofs.WholeRounds.{nothing_after}
 use Rattle.time_bounds.proofs.WrittenRounds.{written_same, round_written}
 use Rattle.time_bounds.proofs.WrittenSteps.{follow-long, follow-on}
-
-both_not : (v w : Bool) → (v || w) ≡ false → (v ≡ false) × (w ≡ false)
-both_not true w e = absurd (no_is_not_yes true e refl)
-both_not false w e = (refl, e)
+use Rattle.std.proofs.lemmas.Bool.{or_parts as both_not}
 
 -- where no time was found no lemma is written
 none_written : (p : Program) (pivots n : ℕ) (tab : Table) (k : ℕ) (tries : List Tried) (proofs : List nodes.Proof)

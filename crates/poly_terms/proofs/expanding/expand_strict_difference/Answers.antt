@@ -1,11 +1,11 @@
-use Rattle.std.proofs.Common.{◌≡◌, refl, map, ap, sym, ◌∙◌, subst, arith}
-use Rattle.std.specs.Prelude.{pos, None, Result}
-use Rattle.model.specs.Terms.{Term, Literal, Subtraction}
+use Rattle.std.proofs.Common.{refl, map, ap, sym, ◌∙◌, subst}
+use Rattle.std.specs.Prelude.{pos}
+use Rattle.model.specs.Terms.{Literal, Subtraction}
 use Rattle.model.specs.Polynomials.{Polynomial}
 use Rattle.poly_terms.specs.Expanding.{opposite, expanded, one, sum_of}
 use Rattle.poly_terms.specs.Faults.{fault_in, first_fault}
 use Rattle.poly_terms.specs.Ordered.{IsAscending, IsSmall}
-use Rattle.poly_terms.specs.Views.{term_of, poly_of}
+use Rattle.poly_terms.specs.Views.{term_of}
 use Rattle.poly_terms.specs.Answers.{Answers}
 use Rattle.poly_terms.proofs.OrderLaws.{expanded-ordered, ascending-opposite}
 use Rattle.poly_terms.proofs.FaultLaws.{says-first}
