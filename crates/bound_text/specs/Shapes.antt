@@ -1,7 +1,7 @@
 -- The shapes of bounds that texts tell apart.
 use Rattle.std.specs.Prelude.{◌≤◌, Bool, true, false, ⊤}
 use Rattle.model.specs.Bounds.{Bound, Constant, Input, SumOf, ProductOf, MaximumOf, PowerOf, Parts, NoParts, Part}
-pub use Rattle.bound_expr.specs.Kinds.{is_sum, is_maximum}
+pub use Rattle.bound_expr.specs.Kinds.{is_sum, is_maximum, is_input as is_variable}
 pub use Rattle.bound_expr.specs.Views.{with_part}
 use Rattle.bound_expr.specs.Tidy.{part_count, IsNoSum, IsNoProduct, IsNoMaximum, EachPart}
 
@@ -10,11 +10,6 @@ abbrev pub is_leaf : Bound → Bool
 is_leaf (Constant c) = true
 is_leaf (Input i) = true
 is_leaf _ = false
-
--- whether it is a variable
-abbrev pub is_variable : Bound → Bool
-is_variable (Input i) = true
-is_variable _ = false
 
 -- whether there are no parts
 abbrev pub is_empty : Parts → Bool

@@ -1,6 +1,6 @@
 // Where each piece leads the reader.
 
-ghost use Rattle.std.specs.Prelude.{◌≡◌, ◌&&◌, ◌^◌, ◌<◌, IsTrue, IsFalse, OnOk, MatchResult};
+ghost use Rattle.std.specs.Prelude.{◌≡◌, ◌&&◌, ◌^◌, ◌<◌, IsTrue, IsFalse, OnOk, MatchOption, MatchResult};
 ghost use Rattle.bound_text.specs.Fronts.{last, init, can_be_argument as can_be_argument_of};
 ghost use Rattle.bound_text.specs.Fronts.{in_arguments as in_arguments_of};
 ghost use Rattle.bound_text.specs.Steps.{step as step_of, begin_item as item_begun, begin_exponent as exponent_begun};
@@ -137,6 +137,19 @@ impl Reader {
             && !makes_maximum(&self.terms, &self.factors)
     }
 
+    // The innermost bracket with what stands in it is left, if one is open; what stood before it stands again.
+    fn leave(&mut self) -> Option<Opened>
+        ensures { MatchOption result (outer_in self.old.outer ≡ fronts.Whole)
+            (λ left. (outer_in self.old.outer ≡ fronts.Inside (bracket_of left.bracket) (parts_in self.new.terms)
+            (parts_in self.new.factors) (outer_in self.new.outer)) × (parts_in left.terms ≡ parts_in self.old.terms)
+            × (parts_in left.factors ≡ parts_in self.old.factors)) }
+    {
+        let mut opened = self.outer.close()?;
+        mem::swap(&mut self.terms, &mut opened.terms);
+        mem::swap(&mut self.factors, &mut opened.factors);
+        Some(opened)
+    }
+
     // A bracket closes.
     fn close(&mut self, alloc: Global) -> Result<(), Fault>
         requires { IsTrue (is_fresh self.old) }
@@ -150,16 +163,14 @@ impl Reader {
         let Some(
             Opened {
                 bracket,
-                terms: outer_terms,
-                factors: outer_factors,
+                terms,
+                factors,
                 ..
             },
-        ) = self.outer.close()
+        ) = self.leave()
         else {
             return Err(Fault::Syntax);
         };
-        let terms = mem::replace(&mut self.terms, outer_terms);
-        let factors = mem::replace(&mut self.factors, outer_factors);
         let item = bracket.item_from(alloc, bound_from(terms, factors)?)?;
         self.factors.push_counted(item)?;
         self.position = Position::ItemRead;
@@ -218,16 +229,14 @@ impl Reader {
         let Some(
             Opened {
                 bracket,
-                terms: outer_terms,
-                factors: outer_factors,
+                terms,
+                factors,
                 ..
             },
-        ) = self.outer.close()
+        ) = self.leave()
         else {
             return Err(Fault::Syntax);
         };
-        let terms = mem::replace(&mut self.terms, outer_terms);
-        let factors = mem::replace(&mut self.factors, outer_factors);
         match bracket {
             Bracket::Arguments(mut arguments) => {
                 arguments.push_counted(bound_from(terms, factors)?)?;
