@@ -12,13 +12,13 @@ abbrev pub default_pivots : ℕ
 default_pivots = 10000
 
 -- and so many can be allowed at most
-abbrev pub greatest_pivots : ℕ
-greatest_pivots = 1000000
+abbrev pub maximum_pivots : ℕ
+maximum_pivots = 1000000
 
 -- how many pivots the values of the option allow: the option is given once at most, and then with a number in its range
 abbrev pub AllowsPivots : Words → ℕ → Type 0
 AllowsPivots [] n = n ≡ default_pivots
-AllowsPivots (value ∷ []) n = IsNumber greatest_pivots value n
+AllowsPivots (value ∷ []) n = IsNumber maximum_pivots value n
 AllowsPivots (value ∷ other ∷ values) n = ⊥
 
 -- the words are `analyse`, and then the option, once at most, and one positional, in any order

@@ -17,7 +17,7 @@ use std::alloc::Global;
 const DEFAULT_PIVOTS: u32 = 10_000;
 
 /// How many pivots can be allowed at most.
-const GREATEST_PIVOTS: u32 = 1_000_000;
+const MAXIMUM_PIVOTS: u32 = 1_000_000;
 
 /// What the program is asked for.
 #[derive(Debug, PartialEq, Eq, Drop)]
@@ -75,7 +75,7 @@ fn pivots_of(values: &[Vec<u8>]) -> Option<u32>
 {
     match values {
         [] => Some(DEFAULT_PIVOTS),
-        [value] => number(value, GREATEST_PIVOTS),
+        [value] => number(value, MAXIMUM_PIVOTS),
         _ => None,
     }
 }

@@ -29,7 +29,7 @@ use Rattle.expr_reader.specs.Standing.{Stands, Clears}
 use Rattle.expr_reader.specs.GuardStanding.{limited_atom, atoms_of, atoms_before, atoms_in, Relating, relating_of, relating_in, is_operating, IsInRight, IsAtTruth, IsEnded, Reads, reading_none, reading_left, reading_right, reading_truth, IsSettled, settled_none, settled_left, settled_right, settled_end, joined_only, Settles}
 use Rattle.expr_reader.specs.GuardParts.{is_right, can_end, goes_on, ends_right}
 use Rattle.expr_reader.proofs.LimitedFaults.{limited_differences}
-use Rattle.expr_reader.proofs.Answering.{goes_on_is, can_end_is, finished_names, finish_ends}
+use Rattle.expr_reader.proofs.Endings.{goes_on_is, can_end_is, finished_names, finish_ends}
 
 -- a word that is an atom is the one that always holds
 pub record IsAlways (a : guards.Atom) : Type 0 where

@@ -22,7 +22,7 @@ use Rattle.expr_reader.specs.GuardStanding.{Relating, IsOpen, Reads, reading_rig
 use Rattle.expr_reader.specs.GuardStanding.{settled_left, settled_right, settled_end, LeadsTo, Takes}
 use Rattle.expr_reader.specs.GuardParts.{is_left, is_read, sign_read, Relates, can_end, IsRelated, IsUnrelated}
 use Rattle.expr_reader.proofs.Standing.{fresh_stands}
-use Rattle.expr_reader.proofs.Answering.{goes_on_is, can_end_is, finished_names, finish_ends}
+use Rattle.expr_reader.proofs.Endings.{goes_on_is, can_end_is, finished_names, finish_ends}
 use Rattle.expr_reader.proofs.GuardTaking.{no_step, read_unread, unchanged, changed}
 
 -- a piece that doesn't go on leads nowhere, but a relation behind a left side that can end

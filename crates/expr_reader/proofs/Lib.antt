@@ -3,7 +3,7 @@ pub mod FrontNames
 pub mod TermLaws
 pub mod Simulation
 pub mod Standing
-pub mod Answering
+pub mod Endings
 pub mod Room
 pub mod AtomNames
 pub mod LimitedFaults

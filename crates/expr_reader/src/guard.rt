@@ -57,7 +57,7 @@ pub struct GuardReader {
 }
 
 /// Whether a word is that of the atom that always holds.
-pub fn is_truth(word: &[u8]) -> bool
+pub(crate) fn is_truth(word: &[u8]) -> bool
     ensures { result ≡ truth_worded word.now }
 {
     word == b"TRUE".as_slice() || word == b"true".as_slice()

@@ -11,10 +11,9 @@ mod variables;
 
 pub use expansion::{Unexpanded, expansion_fault};
 pub use expression::Expression;
-pub use guard::{GuardPlace, GuardReader, is_truth};
+pub use guard::{GuardPlace, GuardReader};
 pub use law::worked_values_hold;
 pub use piece::{Joint, Piece, Sign};
 pub use variables::Variables;
 
-/// Want of memory.
-pub type Memory = std::alloc::AllocError;
+pub use model::Memory;

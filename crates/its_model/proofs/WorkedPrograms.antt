@@ -42,7 +42,7 @@ valid = record {
   ninth_power = λ h. let e = h.rules.0.updates.0.expands in cc;
   ninth_power_in_guard = λ h. let e = h.rules.0.guard.0.expands in cc;
   large_difference = λ h. let e = h.rules.0.guard.0.expands in cc;
-  greatest_literal = record {
+  maximum_literal = record {
     symbols = (record { name = (refl, refl); arity = omega arith }, (record { name = (refl, refl); arity = omega arith }, tt));
     distinct = (refl, (refl, tt));
     few_rules = omega arith;

@@ -77,7 +77,7 @@ pub record ProgramsAreValid : Type 0 where
   -- A > 2^63 - 1 has the constant -2^63, while A >= 2^63 - 1 is an atom
   pub large_difference : ¬ (IsValid (starting_at 0 (rule_with (Variable 0
       ∷ []) (Compare (Variable 0) MoreThan (Literal (pos 9223372036854775807)) ∷ []) ∷ [])))
-  pub greatest_literal : IsValid (starting_at 0 (rule_with (Variable 0
+  pub maximum_literal : IsValid (starting_at 0 (rule_with (Variable 0
       ∷ []) (Compare (Variable 0) AtLeast (Literal (pos 9223372036854775807)) ∷ []) ∷ []))
   -- not where no rule has the start symbol on its left
   pub start_is_target : ¬ (IsValid (starting_at 1 (rule_with (Variable 0 ∷ []) [] ∷ [])))

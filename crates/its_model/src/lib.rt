@@ -19,4 +19,4 @@ pub use program::{Program, Rule, Symbol};
 pub use run::{Config, Step};
 pub use step::{step_checked, steps_have_no_fault};
 pub use step_error::StepError;
-pub use text_core::{Name, begins_name, continues_name, name_len};
+pub use text_core::{Name, begins_name, name_len};

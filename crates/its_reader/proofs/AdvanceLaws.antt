@@ -15,7 +15,7 @@ use Rattle.its_text.specs.Steps.{step}
 use Rattle.its_text.specs.Shown.{Tokens, left_wanted, off_left, off_by}
 use Rattle.its_reader.specs.Tests as tests
 use Rattle.its_reader.specs.Places.{InSections, InLeft, RightSettled, TailSettled, SettledAt, LeadsTo, IsSource, IsGuard}
-use Rattle.its_reader.specs.Leading.{GoTogether, IsNew, StartLeads, LeftLeads, RightLeads, TailLeads}
+use Rattle.its_reader.specs.PlaceSteps.{GoTogether, IsNew, StartLeads, LeftLeads, RightLeads, TailLeads}
 use Rattle.its_reader.specs.Turning.{Advances, AllowsName}
 use Rattle.its_reader.specs.declared.draft.Draft.{Draft}
 use Rattle.its_reader.specs.Noting.{wants_argument, wants_left, off_in}

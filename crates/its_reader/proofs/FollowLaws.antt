@@ -29,7 +29,7 @@ use Rattle.its_text.specs.Shown.{Tokens, Going, going, fault_if, long_name, targ
 use Rattle.its_text.proofs.Ends.{front_known}
 use Rattle.its_reader.specs.Tests as tests
 use Rattle.its_reader.specs.Noting.{IsDigital}
-use Rattle.its_reader.specs.Leading.{IsModestPiece}
+use Rattle.its_reader.specs.PlaceSteps.{IsModestPiece}
 use Rattle.its_reader.specs.Reading.{IsReading}
 use Rattle.its_reader.specs.Turning.{AllowsName, least_of, is_final}
 use Rattle.its_reader.specs.declared.draft.Draft.{Draft}

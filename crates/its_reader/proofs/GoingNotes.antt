@@ -12,7 +12,7 @@ use Rattle.expr_reader.specs.Variables.{names_in}
 use Rattle.expr_reader.specs.Views.{front_of}
 use Rattle.expr_reader.specs.Standing.{Stands}
 use Rattle.expr_reader.specs.declared.expression.Expression.{Expression}
-use Rattle.expr_reader.proofs.Answering.{goes_on_is}
+use Rattle.expr_reader.proofs.Endings.{goes_on_is}
 use Rattle.its_text.specs.Pieces.{Piece, In}
 use Rattle.its_text.specs.Kinds.{NumberTooLarge, Limit, TooManyVariables, TooManyTokens}
 use Rattle.its_text.specs.Shown.{fault_if, Going, is_large, is_truth, passes_variables, going_faults, token_faults}

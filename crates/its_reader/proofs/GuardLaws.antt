@@ -27,7 +27,7 @@ use Rattle.expr_reader.specs.GuardStanding.{IsEnded, IsSettled, settled_none, se
 use Rattle.expr_reader.specs.declared.guard.GuardPlace.TheVariants as guard_places
 use Rattle.expr_reader.specs.declared.guard.GuardReader.{GuardReader}
 use Rattle.expr_reader.proofs.Standing.{fresh_stands}
-use Rattle.expr_reader.proofs.Answering.{goes_on_is}
+use Rattle.expr_reader.proofs.Endings.{goes_on_is}
 use Rattle.its_text.specs.Pieces.{Piece, In, SquareClose}
 use Rattle.its_text.specs.Fronts as fronts
 use Rattle.its_text.specs.Fronts.{Front, Headed}
@@ -38,7 +38,7 @@ use Rattle.its_text.specs.Shown.{Tokens}
 use Rattle.its_reader.specs.Tests as tests
 use Rattle.its_reader.specs.Standing.{KnowsSections, KnowsSymbols, KnowsHeaded, symbols_headed}
 use Rattle.its_reader.specs.Places.{LeadsTo, IsGuard}
-use Rattle.its_reader.specs.Leading.{GoTogether, IsModestPiece}
+use Rattle.its_reader.specs.PlaceSteps.{GoTogether, IsModestPiece}
 use Rattle.its_reader.specs.Tailing.{is_modest, goes_on_in, guarding_if, TakesInner, TakesAtom, TakesPiece, TakesMaybe, AtomTakes}
 use Rattle.its_reader.specs.declared.place.Fence.{Fence}
 use Rattle.its_reader.specs.declared.place.Fence.TheVariants as fences

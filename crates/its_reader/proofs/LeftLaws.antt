@@ -20,7 +20,7 @@ use Rattle.its_reader.specs.Tests as tests
 use Rattle.its_reader.specs.Standing.{KnowsSections, KnowsRuling, KnowsSource, KnowsLeft, KnowsSymbols, IsFreshRule}
 use Rattle.its_reader.specs.Places.{InLeft, IsSource, LeadsTo}
 use Rattle.its_reader.specs.declared.place.LeftPlace.{LeftPlace}
-use Rattle.its_reader.specs.Leading.{GoTogether, Named, LeftLeads, RuleLeads, IsNew, StaysAround, AfterLeft}
+use Rattle.its_reader.specs.PlaceSteps.{GoTogether, Named, LeftLeads, RuleLeads, IsNew, StaysAround, AfterLeft}
 use Rattle.its_reader.specs.declared.draft.Draft.{Draft}
 use Rattle.its_reader.specs.declared.place.SectionPlace.TheVariants as sections
 use Rattle.its_reader.specs.declared.place.LeftPlace.TheVariants as lefts

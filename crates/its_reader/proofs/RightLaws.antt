@@ -13,7 +13,7 @@ use Rattle.its_text.specs.Shown.{other_arity}
 use Rattle.its_text.specs.Steps.{right_shut}
 use Rattle.its_reader.specs.Standing.{updates_of}
 use Rattle.its_reader.specs.Places.{IsArgued, behind_wrap}
-use Rattle.its_reader.specs.Leading.{AfterRight}
+use Rattle.its_reader.specs.PlaceSteps.{AfterRight}
 use Rattle.its_reader.proofs.SymbolTables.{symbols_with, arity_at, number_stays}
 use Rattle.expr_text.specs.Pieces as inner
 use Rattle.expr_text.specs.GuardFronts.{no_atoms}
@@ -27,7 +27,7 @@ use Rattle.its_text.specs.FrontNames.{names_with}
 use Rattle.its_text.specs.Shown.{ends_expression}
 use Rattle.its_text.specs.Steps.{arguing}
 use Rattle.its_reader.specs.Places.{IsArguing}
-use Rattle.its_reader.specs.Leading.{GoesOn, Takes}
+use Rattle.its_reader.specs.PlaceSteps.{GoesOn, Takes}
 use Rattle.expr_reader.specs.GuardStanding.{IsWanting}
 use Rattle.its_text.specs.Pieces.{Piece, In, Comma}
 use Rattle.its_text.specs.Fronts as fronts
@@ -38,7 +38,7 @@ use Rattle.its_text.specs.Steps.{step}
 use Rattle.its_reader.specs.Tests as tests
 use Rattle.its_reader.specs.Standing.{KnowsSections, KnowsSymbols, KnowsLed, KnowsLeft, KnowsAimed}
 use Rattle.its_reader.specs.Places.{InRight, RightSettled, LeadsTo, wrap_of, IsAimed, IsHeaded}
-use Rattle.its_reader.specs.Leading.{StaysBut}
+use Rattle.its_reader.specs.PlaceSteps.{StaysBut}
 use Rattle.its_reader.specs.declared.draft.Draft.{Draft}
 use Rattle.its_reader.specs.declared.place.Wrap.{Wrap}
 use Rattle.its_reader.specs.declared.place.Wrap.TheVariants as wraps

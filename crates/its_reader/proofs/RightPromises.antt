@@ -4,10 +4,10 @@ use Rattle.std.proofs.Common.{sym, ap, subst}
 use Rattle.model.specs.Programs.{Name}
 use Rattle.expr_reader.proofs.Standing.{fresh_stands}
 use Rattle.its_reader.specs.Places.{behind_wrap}
-use Rattle.its_reader.specs.Leading.{AfterRight, RightLeads, Targets, TakesPiece, GoTogether, IsModestPiece}
+use Rattle.its_reader.specs.PlaceSteps.{AfterRight, RightLeads, Targets, TakesPiece, GoTogether, IsModestPiece}
 use Rattle.expr_text.specs.TermFronts.{goes_on_from}
 use Rattle.expr_reader.specs.Views.{front_of}
-use Rattle.expr_reader.proofs.Answering.{goes_on_is}
+use Rattle.expr_reader.proofs.Endings.{goes_on_is}
 use Rattle.its_reader.specs.declared.place.RightPlace.{RightPlace}
 use Rattle.its_reader.proofs.LeftLaws.{leads_together}
 use Rattle.expr_text.specs.Pieces as inner
@@ -21,7 +21,7 @@ use Rattle.its_text.specs.FrontNames.{names_with}
 use Rattle.its_text.specs.Shown.{ends_expression}
 use Rattle.its_text.specs.Steps.{arguing}
 use Rattle.its_reader.specs.Places.{IsArguing}
-use Rattle.its_reader.specs.Leading.{Takes}
+use Rattle.its_reader.specs.PlaceSteps.{Takes}
 use Rattle.its_text.specs.Pieces.{Piece, In, Comma}
 use Rattle.its_text.specs.Fronts as fronts
 use Rattle.its_text.specs.Fronts.{Front, Aimed}

@@ -16,7 +16,7 @@ use Rattle.its_text.specs.Steps.{step}
 use Rattle.its_reader.specs.Tests as tests
 use Rattle.its_reader.specs.Standing.{KnowsBetween, KnowsSections, KnowsLast, KnowsRules, KnowsSymbols, IsFreshRule, Started, started_of}
 use Rattle.its_reader.specs.Places.{InSections, LeadsTo}
-use Rattle.its_reader.specs.Leading.{SectionLeads, StartLeads}
+use Rattle.its_reader.specs.PlaceSteps.{SectionLeads, StartLeads}
 use Rattle.its_reader.specs.declared.place.SectionPlace.{SectionPlace}
 use Rattle.its_reader.specs.declared.draft.Draft.{Draft}
 use Rattle.its_reader.specs.declared.place.SectionPlace.TheVariants as sections

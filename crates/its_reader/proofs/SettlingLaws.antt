@@ -26,7 +26,7 @@ use Rattle.expr_reader.specs.GuardStanding.{IsWanting, Reads, reading_none, read
 use Rattle.expr_reader.specs.GuardStanding.{IsSettled}
 use Rattle.expr_reader.specs.declared.expression.Expression.{Expression}
 use Rattle.expr_reader.specs.declared.guard.GuardReader.{GuardReader}
-use Rattle.expr_reader.proofs.Answering.{goes_on_is, can_end_is, finished_names}
+use Rattle.expr_reader.proofs.Endings.{goes_on_is, can_end_is, finished_names}
 use Rattle.its_text.specs.Pieces.{Piece, In}
 use Rattle.its_text.specs.Kinds.{ArityDiffers}
 use Rattle.its_text.specs.Numbering.{left_names}

@@ -22,7 +22,7 @@ use Rattle.its_text.specs.Shown.{Tokens}
 use Rattle.its_reader.specs.Tests as tests
 use Rattle.its_reader.specs.Standing.{KnowsHeaded, KnowsSource}
 use Rattle.its_reader.specs.Places.{TailSettled, LeadsTo, IsHeaded, IsSource}
-use Rattle.its_reader.specs.Leading.{GoTogether, IsModestPiece, TailLeads, RuleLeads}
+use Rattle.its_reader.specs.PlaceSteps.{GoTogether, IsModestPiece, TailLeads, RuleLeads}
 use Rattle.its_reader.specs.Tailing.{KnowsWhole, RuleEnds, WholeLeads, guarding_if, AtomTakes, ShutsIf, SquareEnds, GuardEnds, GuardIsEnded}
 use Rattle.its_reader.specs.declared.place.Fence.{Fence}
 use Rattle.its_reader.specs.declared.place.Fence.TheVariants as fences

@@ -14,7 +14,7 @@ use Rattle.its_text.specs.Answers.{verdict}
 use Rattle.its_text.specs.Shown.{Tokens, next_piece, shown, left_wanted, off}
 use Rattle.its_reader.specs.Tests as tests
 use Rattle.its_reader.specs.Places.{SettledAt, LeadsTo}
-use Rattle.its_reader.specs.Leading.{GoTogether, IsModestPiece}
+use Rattle.its_reader.specs.PlaceSteps.{GoTogether, IsModestPiece}
 use Rattle.its_reader.specs.Reading.{IsReading}
 use Rattle.its_reader.specs.Turning.{Judges, Advances, AllowsName, least_of, is_final, on_or_over, behind_token, Turned, turned, TurnsTo, Turns}
 use Rattle.its_reader.specs.declared.draft.Draft.{Draft}

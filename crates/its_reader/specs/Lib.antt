@@ -3,7 +3,7 @@ pub mod Tests
 pub mod Faults
 pub mod Standing
 pub mod Places
-pub mod Leading
+pub mod PlaceSteps
 pub mod Noting
 pub mod Reading
 pub mod Turning

@@ -26,7 +26,7 @@ use Rattle.its_reader.specs.Tests as tests
 use Rattle.its_reader.specs.Places.{StandsAt, SettledAt, LeadsTo}
 use Rattle.its_reader.specs.Standing.{KnowsBetween}
 use Rattle.its_reader.specs.Faults.{fault_of, maybe_fault, Says}
-use Rattle.its_reader.specs.Leading.{GoTogether, IsModestPiece}
+use Rattle.its_reader.specs.PlaceSteps.{GoTogether, IsModestPiece}
 use Rattle.its_reader.specs.Reading.{IsReading}
 use Rattle.its_reader.specs.declared.draft.Draft.{Draft}
 use Rattle.its_reader.specs.declared.error.ReadError.{ReadError}

@@ -8,7 +8,7 @@ ghost use Rattle.expr_text.specs.Terms.{with_name};
 ghost use Rattle.expr_reader.specs.Variables.{names_in};
 ghost use Rattle.its_reader.specs.Views.{piece_of as plain_of};
 ghost use Rattle.its_reader.specs.Tests as tests;
-ghost use Rattle.its_reader.specs.Leading.{LeftLeads, RuleLeads, ArgumentLeads, AfterLeft};
+ghost use Rattle.its_reader.specs.PlaceSteps.{LeftLeads, RuleLeads, ArgumentLeads, AfterLeft};
 
 use crate::draft::{Draft, RuleDraft};
 use crate::piece::Piece;

@@ -9,7 +9,7 @@ ghost use Rattle.expr_reader.specs.Standing.{Leads};
 ghost use Rattle.expr_reader.specs.Views.{piece_of as inner_of};
 ghost use Rattle.its_reader.specs.Views.{piece_of as plain_of};
 ghost use Rattle.its_reader.specs.Places.{behind_wrap};
-ghost use Rattle.its_reader.specs.Leading.{RightLeads, TargetNames, AfterRight, ArgumentTakes, StaysInRule};
+ghost use Rattle.its_reader.specs.PlaceSteps.{RightLeads, TargetNames, AfterRight, ArgumentTakes, StaysInRule};
 
 use crate::draft::{Draft, RuleDraft};
 use crate::piece::Piece;

@@ -2,7 +2,7 @@
 
 ghost use Rattle.std.specs.Prelude.{◌≡◌, Some, None, if◌then◌else◌, codes};
 ghost use Rattle.its_reader.specs.Views.{piece_of as plain_of};
-ghost use Rattle.its_reader.specs.Leading.{SectionLeads, StartLeads, IsOther};
+ghost use Rattle.its_reader.specs.PlaceSteps.{SectionLeads, StartLeads, IsOther};
 
 use crate::draft::{Draft, Start};
 use crate::piece::Piece;

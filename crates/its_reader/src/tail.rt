@@ -3,7 +3,7 @@
 ghost use Rattle.std.specs.Prelude.{◌≡◌, ◌&&◌, ◌||◌, not, IfOk};
 ghost use Rattle.its_reader.specs.Views.{piece_of as plain_of, maybe_of};
 ghost use Rattle.its_reader.specs.Tests as tests;
-ghost use Rattle.its_reader.specs.Leading.{TailLeads};
+ghost use Rattle.its_reader.specs.PlaceSteps.{TailLeads};
 ghost use Rattle.its_reader.specs.Tailing.{WholeLeads, GuardIsEnded, SquareEnds, AtomTakes, TakesMaybe, TakesPiece};
 ghost use Rattle.its_reader.specs.Tailing.{StaysInGuard, guarding_if as plain_guarding, goes_on_in};
 ghost use Rattle.expr_reader.specs.GuardParts.{is_read, piece_in};

@@ -29,10 +29,10 @@ token_limit = 1024
 abbrev pub monomial_limit : ℕ
 monomial_limit = 64
 
--- the greatest degree of an expanded expression
+-- the maximum degree of an expanded expression
 abbrev pub degree_limit : ℕ
 degree_limit = 8
 
--- the greatest absolute value of a literal, and of a coefficient of an expanded expression
+-- the maximum absolute value of a literal, and of a coefficient of an expanded expression
 abbrev pub coefficient_limit : ℕ
 coefficient_limit = 2 ^ 63 - 1

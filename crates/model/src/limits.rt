@@ -25,10 +25,10 @@ pub const TOKEN_LIMIT: usize = 1024;
 /// The most monomials of an expanded expression.
 pub const MONOMIAL_LIMIT: usize = 64;
 
-/// The greatest degree of an expanded expression.
+/// The maximum degree of an expanded expression.
 pub const DEGREE_LIMIT: u32 = 8;
 
-/// The greatest absolute value of a literal, and of a coefficient of an expanded expression.
+/// The maximum absolute value of a literal, and of a coefficient of an expanded expression.
 pub const COEFFICIENT_LIMIT: u64 = 0x7fff_ffff_ffff_ffff;
 
 /// The law that the constants of the code are the limits of the definitions. It does nothing.

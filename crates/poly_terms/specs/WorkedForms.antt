@@ -24,8 +24,8 @@ abbrev pub maximum : ℤ
 maximum = pos 9223372036854775807
 
 -- 2^127 - 1 and -2^127, the ends of the integers of 128 bits
-abbrev pub greatest_value : ℤ
-greatest_value = pos 170141183460469231731687303715884105727
+abbrev pub maximum_integer : ℤ
+maximum_integer = pos 170141183460469231731687303715884105727
 
 abbrev pub least_value : ℤ
 least_value = negsuc 170141183460469231731687303715884105727
@@ -123,8 +123,8 @@ pub record RowsAndValues : Type 0 where
       ≡ record { coefs = pos 0 ∷ pos 2 ∷ pos 0 ∷ []; constant = negsuc 2 }
   -- 2^127 - 1 is a value, one more none; -2^127 is a value, one less none, nor its opposite, also where it is
   -- multiplied by 0
-  pub maximum_value : value_within A (greatest_value ∷ []) ≡ Some greatest_value
-  pub past_it : value_within (Addition A (Literal (pos 1))) (greatest_value ∷ []) ≡ None
+  pub maximum_value : value_within A (maximum_integer ∷ []) ≡ Some maximum_integer
+  pub past_it : value_within (Addition A (Literal (pos 1))) (maximum_integer ∷ []) ≡ None
   pub minimum_value : value_within A (least_value ∷ []) ≡ Some least_value
   pub below_it : value_within (Subtraction A (Literal (pos 1))) (least_value ∷ []) ≡ None
   pub opposite : value_within (Negation A) (least_value ∷ []) ≡ None

@@ -23,8 +23,6 @@ mod row;
 mod scale;
 mod sum;
 mod table;
-#[cfg(test)]
-mod tests;
 mod wide;
 
 pub use checked::{value_checked, value_in_parts};

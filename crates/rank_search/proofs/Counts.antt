@@ -22,7 +22,7 @@ use Rattle.rank_search.specs.ProgramQuestions.{ranked_set}
 use Rattle.rank_search.specs.RankAnswers.{IsRuleSet}
 pub use Rattle.guard_prep.proofs.StepLaws.{few-places}
 
--- an ascending list is as short as its greatest number allows
+-- an ascending list is as short as its maximum allows
 ascending-short : (x : ℕ) (xs : List ℕ) (m : ℕ) → IsAscending (x ∷ xs) → All (λ y. y ≤ m) (x ∷ xs) → x + length (x ∷ xs)
     ≤ m + 1
 ascending-short x [] m a h = let l = All-head (λ y. y ≤ m) x [] h in omega (arith, l)

@@ -70,7 +70,7 @@ fn push_offset(
 /// # Errors
 ///
 /// `Memory` where an allocation fails.
-pub(crate) fn greatest_offset(
+pub(crate) fn maximum_offset(
     alloc: Global,
     flows: &[Flow],
     kind: FlowKind,
@@ -88,13 +88,13 @@ pub(crate) fn greatest_offset(
 fn factor(flows: &[Flow], rule: u32) -> u64
     ensures { result ≡ factor_of (map flow_of flows.now) rule }
 {
-    let mut greatest = 1;
+    let mut maximum = 1;
     for flow in flows {
         if flow.rule == rule {
-            greatest = greatest.max(flow.slope);
+            maximum = maximum.max(flow.slope);
         }
     }
-    greatest
+    maximum
 }
 
 // Whether a bound is the constant 0.
@@ -111,7 +111,7 @@ fn is_zero(b: &Bound) -> bool
 fn growth_by(alloc: Global, flows: &[Flow], rule: u32) -> Result<Growth, Memory>
     ensures { IfOk result (λ g. growth_of g ≡ grown (map flow_of flows.now) rule) }
 {
-    let addition = greatest_offset(alloc, flows, FlowKind::Inner(rule))?;
+    let addition = maximum_offset(alloc, flows, FlowKind::Inner(rule))?;
     let outcome = rewrite(alloc, &addition)?;
     Ok(Growth {
         rule,

@@ -16,7 +16,7 @@ ghost use Rattle.size_bounds.specs.LoopAnswers.{IsLoopAnswer, IsTimedAnswer};
 
 use crate::answer::SizeAnswer;
 use crate::flow::Flow;
-use crate::growth::{FlowKind, Growth, greatest_offset, growing_rules, growths_by};
+use crate::growth::{FlowKind, Growth, maximum_offset, growing_rules, growths_by};
 use crate::loop_bound::loop_bound;
 use crate::table::Table;
 use crate::uses::{cited, push_size_lemmas, push_time_lemmas};
@@ -43,7 +43,7 @@ pub(crate) fn answered(
         spot_of needed.now) (base_of (map flow_of flows.now)) (map (grown (map flow_of flows.now)) rules.now) a) }
 {
     let growths = growths_by(alloc, flows, rules)?;
-    let base = greatest_offset(alloc, flows, FlowKind::Outer)?;
+    let base = maximum_offset(alloc, flows, FlowKind::Outer)?;
     by_growths(alloc, t, members, needed, base, &growths)
 }
 

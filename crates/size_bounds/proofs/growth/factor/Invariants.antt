@@ -5,6 +5,6 @@ use Rattle.size_bounds.proofs.growth.factor.Given as goal
 
 abbrev pub invariant-loop-flow : goal.invariant-loop-flow
 invariant-loop-flow l = record {
-  least : 1 ≤ l.greatest;
-  whole : max l.greatest (factor_of (map flow_of (drop l.flow-index l.flows)) l.rule) ≡ factor_of (map flow_of l.flows) l.rule;
+  least : 1 ≤ l.maximum;
+  whole : max l.maximum (factor_of (map flow_of (drop l.flow-index l.flows)) l.rule) ≡ factor_of (map flow_of l.flows) l.rule;
 }

@@ -1,7 +1,7 @@
 -- The term is the sum that the front ends, and nothing is left of the front.
 use Rattle.std.proofs.Common.{refl, ap, map}
 use Rattle.expr_reader.specs.Views.{level_of}
-use Rattle.expr_reader.proofs.Answering.{finish_ends, finish_clears}
+use Rattle.expr_reader.proofs.Endings.{finish_ends, finish_clears}
 use Rattle.expr_reader.proofs.expression.Expression.finish.Goals as goal
 
 pub returns-clause-ends : goal.returns-clause-ends

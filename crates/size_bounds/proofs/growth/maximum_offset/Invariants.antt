@@ -3,7 +3,7 @@ use Rattle.bound_expr.specs.Views.{bounds_of, parts_of}
 use Rattle.proof_tree.specs.Sizes.{joined}
 use Rattle.size_bounds.specs.Flows.{flow_of}
 use Rattle.size_bounds.specs.Growths.{is_of, offset_part, all_joined}
-use Rattle.size_bounds.proofs.growth.greatest_offset.Given as goal
+use Rattle.size_bounds.proofs.growth.maximum_offset.Given as goal
 
 abbrev pub invariant-loop-flow : goal.invariant-loop-flow
 invariant-loop-flow l =

@@ -6,7 +6,7 @@ use Rattle.size_bounds.specs.declared.flow.Flow.{Flow}
 use Rattle.size_bounds.specs.Flows.{flow_of}
 use Rattle.size_bounds.specs.Growths.{is_of, offset_part}
 use Rattle.size_bounds.proofs.Joining.{parts_more, parts_done, joined-map, offsets-joined}
-use Rattle.size_bounds.proofs.growth.greatest_offset.Goals as goal
+use Rattle.size_bounds.proofs.growth.maximum_offset.Goals as goal
 
 pub loop-flow-preserved : goal.loop-flow-preserved
 loop-flow-preserved c =
