@@ -1,20 +1,23 @@
+-- what the contracts of this crate, and of those above it, cite
 pub mod Shapes
 pub mod Pieces
-pub mod Writing
 pub mod Texts
 pub mod Printing
 pub mod Lexing
 pub mod Lexemes
 pub mod Fronts
 pub mod Steps
-pub mod Kinds
 pub mod Checks
 pub mod Reading
 pub mod Faults
 pub mod Verdicts
-pub mod Brackets
 pub mod Views
-pub mod Inside
 pub mod Depths
 pub mod Carrying
+-- laws, and values that were worked out by hand
 pub mod WorkedInside
+-- the machinery of the functions inside and of the proofs
+pub mod Writing
+pub mod Kinds
+pub mod Brackets
+pub mod Inside

@@ -1,9 +1,12 @@
+-- what the contracts of this crate, and of those above it, cite
 pub mod Views
 pub mod Variables
 pub mod Operators
-pub mod Moves
 pub mod Faults
 pub mod Standing
 pub mod GuardStanding
 pub mod GuardParts
+-- laws, and values that were worked out by hand
 pub mod Worked
+-- the machinery of the functions inside and of the proofs
+pub mod Moves

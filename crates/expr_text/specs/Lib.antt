@@ -1,3 +1,4 @@
+-- what the contracts of this crate, and of those above it, cite
 pub mod Pieces
 pub mod Trees
 pub mod Terms
@@ -6,7 +7,8 @@ pub mod Steps
 pub mod Guards
 pub mod GuardFronts
 pub mod FrontNames
-pub mod Worked
 pub mod TermFronts
 pub mod Limited
 pub mod Differences
+-- laws, and values that were worked out by hand
+pub mod Worked

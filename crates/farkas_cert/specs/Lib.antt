@@ -1,4 +1,7 @@
-pub mod Columns
+-- what the contracts of this crate, and of those above it, cite
 pub mod Sizes
 pub mod Scales
+-- laws, and values that were worked out by hand
 pub mod WorkedSizes
+-- the machinery of the functions inside and of the proofs
+pub mod Columns

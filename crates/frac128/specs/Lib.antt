@@ -1,4 +1,4 @@
--- Numbers within the limit, fractions in lowest terms, and what the calls answer.
+-- what the contracts of this crate, and of those above it, cite
 pub mod Narrow
 pub mod Lowest
 pub mod Fraction

@@ -1,6 +1,7 @@
--- Sums and dot products, polynomials over ℤ, and the laws that the crate's functions state.
+-- what the contracts of this crate, and of those above it, cite
 pub mod Sums
 pub mod Polynomial
 pub mod NormalForm
-pub mod Laws
 pub mod Divisors
+-- laws, and values that were worked out by hand
+pub mod Laws

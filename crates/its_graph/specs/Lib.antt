@@ -1,9 +1,14 @@
+-- what the contracts of this crate, and of those above it, cite
 pub mod Acyclic
 pub mod Cycles
 pub mod Groups
-pub mod Floods
 pub mod Components
+pub mod Graphs
+-- laws, and values that were worked out by hand
 pub mod WorkedComponents
+pub mod WorkedParts
+-- the machinery of the functions inside and of the proofs
+pub mod Floods
 pub mod Classes
 pub mod Naming
 pub mod Walks
@@ -11,5 +16,3 @@ pub mod Orders
 pub mod Members
 pub mod Links
 pub mod Numbers
-pub mod Graphs
-pub mod WorkedParts

@@ -1,3 +1,4 @@
+-- what the contracts of this crate, and of those above it, cite
 pub mod Pieces
 pub mod Lexing
 pub mod Written
@@ -10,6 +11,7 @@ pub mod Shown
 pub mod Grammar
 pub mod Spelling
 pub mod Answers
+pub mod Verdicts
+-- laws, and values that were worked out by hand
 pub mod Worked
 pub mod WorkedLimits
-pub mod Verdicts

@@ -1,4 +1,4 @@
--- Affine forms, points and rays of rows, certificates, linear programs, and questions with their linear programs.
+-- what the contracts of this crate, and of those above it, cite
 pub mod Forms
 pub mod Combinations
 pub mod Points
@@ -7,11 +7,12 @@ pub mod LinearProgram
 pub mod Questions
 pub mod RuleQuestions
 pub mod Losses
+pub mod Causes
+pub mod Limits
+pub mod Sizes
+-- laws, and values that were worked out by hand
 pub mod RuleQuestionLaws
 pub mod QuestionLaws
 pub mod QuestionValues
 pub mod ProgramLaws
-pub mod Causes
-pub mod Limits
-pub mod Sizes
 pub mod CertificateLaws

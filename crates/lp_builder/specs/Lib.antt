@@ -1,4 +1,4 @@
--- The entries of lines of numbers, and the problem of a question.
+-- what the contracts of this crate, and of those above it, cite
 pub mod Entries
 pub mod Descriptions
 pub mod Builders

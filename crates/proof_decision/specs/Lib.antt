@@ -1,10 +1,6 @@
-pub mod Tests
-pub mod Numbers
-pub mod Reaching
-pub mod Plain
-pub mod Ranking
-pub mod Sizes
+-- what the contracts of this crate, and of those above it, cite
 pub mod Deciding
+-- laws, and values that were worked out by hand
 pub mod Laws
 pub mod WorkedNodes
 pub mod WorkedPrograms
@@ -12,3 +8,10 @@ pub mod WorkedLoops
 pub mod WorkedLemmas
 pub mod WorkedOrder
 pub mod WorkedShapes
+-- the machinery of the functions inside and of the proofs
+pub mod Tests
+pub mod Numbers
+pub mod Reaching
+pub mod Plain
+pub mod Ranking
+pub mod Sizes

@@ -1,8 +1,8 @@
+-- what the contracts of this crate, and of those above it, cite
 pub mod Nodes
 pub mod Gaps
 pub mod Numbers
 pub mod Graph
-pub mod Combined
 pub mod Known
 pub mod Setting
 pub mod Composed
@@ -14,10 +14,13 @@ pub mod AcceptsSizes
 pub mod Acceptance
 pub mod Reasons
 pub mod Checks
-pub mod ReasonLaws
 pub mod Feeding
+-- laws, and values that were worked out by hand
+pub mod ReasonLaws
 pub mod Laws
 pub mod WorkedSettings
 pub mod Worked
 pub mod WorkedSizes
 pub mod WorkedReasons
+-- the machinery of the functions inside and of the proofs
+pub mod Combined

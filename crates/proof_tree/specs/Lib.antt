@@ -1,3 +1,4 @@
+-- what the contracts of this crate, and of those above it, cite
 pub mod Views
 pub mod AnswerViews
 pub mod Sizes
@@ -6,4 +7,5 @@ pub mod Composing
 pub mod Reading
 pub mod Shut
 pub mod NumberSets
+-- laws, and values that were worked out by hand
 pub mod Laws

@@ -1,11 +1,13 @@
--- The questions that are asked of the rules of a program, and what their answers say.
+-- what the contracts of this crate, and of those above it, cite
 pub mod ProgramQuestions
 pub mod Programs
 pub mod EmptyAnswers
 pub mod RankAnswers
-pub mod RankLaws
-pub mod Coefficients
 pub mod Goals
+pub mod OneAnswer
+-- laws, and values that were worked out by hand
+pub mod RankLaws
+-- the machinery of the functions inside and of the proofs
+pub mod Coefficients
 pub mod Marks
 pub mod Reading
-pub mod OneAnswer

@@ -1,11 +1,12 @@
--- the graph of places, its components in their order, and what the code makes on the way
+-- what the contracts of this crate, and of those above it, cite
 pub mod Flows
 pub mod Listing
+-- laws, and values that were worked out by hand
+pub mod WorkedFlows
+-- the machinery of the functions inside and of the proofs
 pub mod Reading
 pub mod Numbering
 pub mod Edges
 pub mod Inside
 pub mod Fitting
 pub mod FlowGraphs
--- values that were worked out by hand
-pub mod WorkedFlows

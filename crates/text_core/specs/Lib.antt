@@ -1,3 +1,4 @@
+-- what the contracts of this crate, and of those above it, cite
 pub mod Prefixes
 pub mod Names
 pub mod Choices
@@ -6,13 +7,15 @@ pub mod Tokens
 pub mod Readers
 pub mod Faults
 pub mod Reading
-pub mod Laws
-pub mod Stopping
-pub mod Limits
 pub mod Listed
-pub mod Inner
-pub mod Rows
-pub mod Lines
+-- laws, and values that were worked out by hand
+pub mod Laws
 pub mod Worked
 pub mod WorkedLines
 pub mod WorkedReaders
+-- the machinery of the functions inside and of the proofs
+pub mod Stopping
+pub mod Limits
+pub mod Inner
+pub mod Rows
+pub mod Lines
