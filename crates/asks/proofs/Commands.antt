@@ -20,6 +20,7 @@ none_behind w p h rest e = other_text (take (length p) w) p (sym h) (ap (take (l
     take_first [] rest = refl
     take_first (p ∷ ps) rest = ap (λ (qs : List ℕ). p ∷ qs) (take_first ps rest)
 
+-- a word that begins with these bytes is these bytes and what is left of it behind them
 pub some_behind : (w p x : List ℕ) → pointwise nat_eq (take (length p) w) p ≡ true → x ≡ drop (length p) w → w ≡ p ++ x
 some_behind w p x h e =
     let first : take (length p) w ≡ p = same_text (take (length p) w) p (sym h) in

@@ -67,6 +67,7 @@ first_of_items word words values positionals (Positional x ∷ items) behind pro
     Alone (positionals_of items behind) (subst (λ (w : Word). IsTrue (is_plain w)) (sym head) proper.0)
     (gives_along _ _ _ _ _ _ tail v refl (gives_of items behind proper.1)) same
 
+-- where words give something, the first of them is one of the four kinds that can stand there
 pub first : (word : Word) (words values positionals : Words) → Gives (word ∷ words) values positionals → First word words values positionals
 first word words values positionals h =
     first_of_items word words values positionals h.items h.behind h.proper h.spelled h.has_values h.has_positionals

@@ -25,6 +25,7 @@ one (Positional x ∷ items) behind proper values positionals h =
     let rest = one items behind proper.1 values g.0 g.1 in
     (rest.0, g.2 ∙ ap (λ (ws : Words). x ∷ ws) rest.1)
 
+-- the same words give the same values and the same positionals
 pub one_line : (words v p w q : Words) → Gives words v p → Gives words w q → (v ≡ w) × (p ≡ q)
 one_line words v p w q g h =
     let same = one g.items g.behind g.proper w q (gives_along _ _ _ _ _ _ (sym g.spelled) refl refl h) in
@@ -43,5 +44,6 @@ one_request words (Analyse m f) (Analyse n g) a b =
     let numbers : m ≡ n = one_number b.values m n (subst (λ (vs : Words). AllowsPivots vs m) same.0 a.allowed) b.allowed in
     ap (λ (k : ℕ). Analyse k f) numbers ∙ ap (λ (w : Word). Analyse n w) files
 
+-- words are read in one way, and ask for one thing at most
 pub read_in_one_way : WordsAreReadInOneWay
 read_in_one_way = record { one_line = one_line; one_request = one_request }

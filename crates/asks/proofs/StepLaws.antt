@@ -209,6 +209,7 @@ plain_taken old new word e is h =
     (with_one old new word h ∙ ap (λ (m : Next). state m (values_in old) (positionals_in old ++ word ∷ [])) e)
     (takes_plain word (values_in old) (positionals_in old) is)
 
+-- behind `--` any word is taken as a positional
 pub positional_taken : (old new : Line) (word : Word) → old.next ≡ nexts.Positional → HasOnePositional old word new
     → Takes (state_of old) word (state_of new)
 positional_taken old new word e h =
@@ -216,21 +217,25 @@ positional_taken old new word e h =
     (with_one old new word h ∙ ap (λ (m : Next). state m (values_in old) (positionals_in old ++ word ∷ [])) e)
     (takes_positional word (values_in old) (positionals_in old))
 
+-- `--` is taken where any word may stand, and only positionals stand behind it
 pub end_taken : (old new : Line) (word : Word) → old.next ≡ nexts.Word → word ≡ codes "--"
     → state_of new ≡ state nexts.Positional (values_in old) (positionals_in old) → Takes (state_of old) word (state_of new)
 end_taken old new word e f g =
     along _ _ _ _ _ _ (state_at old nexts.Word e) f g (takes_end (values_in old) (positionals_in old))
 
+-- `--pivots` is taken where any word may stand, and its value stands next
 pub pivots_taken : (old new : Line) (word : Word) → old.next ≡ nexts.Word → word ≡ codes "--pivots"
     → state_of new ≡ state nexts.Value (values_in old) (positionals_in old) → Takes (state_of old) word (state_of new)
 pivots_taken old new word e f g =
     along _ _ _ _ _ _ (state_at old nexts.Word e) f g (takes_pivots (values_in old) (positionals_in old))
 
+-- behind `--pivots` a word that can be a value is taken as one
 pub value_taken : (old new : Line) (word : Word) → old.next ≡ nexts.Value → IsTrue (is_value word) → IsValued old word new
     → Takes (state_of old) word (state_of new)
 value_taken old new word e is h =
     along _ _ _ _ _ _ (state_at old nexts.Value e) refl (valued old new word h) (takes_value word (values_in old) (positionals_in old) is)
 
+-- `--pivots=` with what can be a value in the same word is taken as the option with that value
 pub joined_taken : (old new : Line) (word value : Word) → old.next ≡ nexts.Word → word ≡ codes "--pivots=" ++ value
     → IsTrue (is_value value) → IsValued old value new → Takes (state_of old) word (state_of new)
 joined_taken old new word value e f is h =
@@ -240,6 +245,7 @@ joined_taken old new word value e f is h =
 no_value : (word : Word) → IsFalse (is_value word) → IsTrue (is_value word) → ⊥
 no_value word f t = let e : false ≡ true = sym f ∙ t in cc
 
+-- behind `--pivots` a word that can't be a value is refused
 pub value_refused : (old : Line) (word : Word) → old.next ≡ nexts.Value → IsFalse (is_value word) → Refuses (state_of old) word
 value_refused old word e f = subst (λ (s : State). Refuses s word) (sym (state_at old nexts.Value e)) (record { none = λ left values positionals h. go left h.more_values h.more_positionals h.gives })
   where
@@ -248,12 +254,14 @@ value_refused old word e f = subst (λ (s : State). Refuses s word) (sym (state_
         let head : word ≡ g.value = cc (g.first) in
         no_value word f (subst (λ (w : Word). IsTrue (is_value w)) (sym head) g.proper)
 
+-- `--pivots=` is refused where what stands behind it in the word can't be a value
 pub joined_refused : (old : Line) (word value : Word) → old.next ≡ nexts.Word → word ≡ codes "--pivots=" ++ value
     → IsFalse (is_value value) → Refuses (state_of old) word
 joined_refused old word value e f other = subst (λ (s : State). Refuses s word) (sym (state_at old nexts.Word e)) (record {
   none = λ left values positionals h. no_value value other ((joined_first word value left h.more_values h.more_positionals f h.gives).1);
 })
 
+-- a word that begins nothing which can be written is refused
 pub other_refused : (old : Line) (word : Word) → old.next ≡ nexts.Word → IsOther word → Refuses (state_of old) word
 other_refused old word e o = subst (λ (s : State). Refuses s word) (sym (state_at old nexts.Word e)) (record {
   none = λ left values positionals h. other_first word left h.more_values h.more_positionals o h.gives;
@@ -274,6 +282,7 @@ leads_from_none all = record {
   back = λ values positionals h. record { more_values = values; more_positionals = positionals; gives = h; has_values = refl; has_positionals = refl };
 }
 
+-- where no values and no positionals are told to have been read, all words are still left
 pub leads_first : (all vs ps : Words) → vs ≡ [] → ps ≡ [] → Leads all (state nexts.Word vs ps) all
 leads_first all vs ps e f =
     subst (λ (ws : Words). Leads all (state nexts.Word ws ps) all) (sym e)
@@ -297,6 +306,7 @@ leads_to_end all line l e =
       has_positionals = sym (append-nil (positionals_in line));
     }))
 
+-- where the words end behind `--`, all of them give what was read
 pub leads_behind : (all : Words) (line : Line) → Leads all (state_of line) [] → line.next ≡ nexts.Positional
     → Gives all (values_in line) (positionals_in line)
 leads_behind all line l e =
@@ -309,6 +319,7 @@ leads_behind all line l e =
       has_positionals = sym (append-nil (positionals_in line));
     }))
 
+-- where the words end at an option that has no value yet, all of them give nothing
 pub leads_to_value : (all : Words) (line : Line) → Leads all (state_of line) [] → line.next ≡ nexts.Value
     → (values positionals : Words) → ¬ (Gives all values positionals)
 leads_to_value all line l e values positionals h =
@@ -336,6 +347,7 @@ pub taken_here : (t : Bool) (old : State) (word : Word) (new : State) → t ≡ 
     → Takes old word new
 taken_here t old word new e h = subst (λ (b : Bool). MatchBool b (Takes old word new) (Refuses old word)) e h
 
+-- a word that wasn't taken was refused
 pub refused_here : (t : Bool) (old : State) (word : Word) (new : State) → t ≡ false → MatchBool t (Takes old word new) (Refuses old word)
     → Refuses old word
 refused_here t old word new e h = subst (λ (b : Bool). MatchBool b (Takes old word new) (Refuses old word)) e h

@@ -6,6 +6,7 @@ use Rattle.model.specs.Bounds.{val_sum, val_product, val_maximum, IsBased, AreBa
 use Rattle.bound_expr.specs.Growth.{IsBelow, GrowsWithInputs}
 
 mutual
+  -- with bases of at least 1 the value of a bound grows with its inputs
   pub val-grows : (b : Bound) → IsBased b → (m n : List ℕ) → IsBelow m n → val b m ≤ val b n
   val-grows (Constant c) based m n below = omega arith
   val-grows (Input i) based m n below = below i
@@ -14,17 +15,20 @@ mutual
   val-grows (MaximumOf bs) based m n below = val_maximum-grows bs based.1 m n below
   val-grows (PowerOf c e) based m n below = pow-le-pow_right based.0 (val-grows e based.1 m n below)
 
+  -- so does the sum of several such bounds
   pub val_sum-grows : (bs : Parts) → AreBased bs → (m n : List ℕ) → IsBelow m n → val_sum bs m ≤ val_sum bs n
   val_sum-grows NoParts based m n below = omega arith
   val_sum-grows (Part b bs) based m n below =
       omega (arith, val-grows b based.0 m n below, val_sum-grows bs based.1 m n below)
 
+  -- so does their product
   pub val_product-grows : (bs : Parts) → AreBased bs → (m n : List ℕ) → IsBelow m n
       → val_product bs m ≤ val_product bs n
   val_product-grows NoParts based m n below = omega arith
   val_product-grows (Part b bs) based m n below =
       mul-le-mul (val-grows b based.0 m n below) (val_product-grows bs based.1 m n below)
 
+  -- and so does their maximum
   pub val_maximum-grows : (bs : Parts) → AreBased bs → (m n : List ℕ) → IsBelow m n
       → val_maximum bs m ≤ val_maximum bs n
   val_maximum-grows NoParts based m n below = omega arith

@@ -9,6 +9,7 @@ use Rattle.bound_expr.specs.Substitution.{substituted, all_substituted, Substitu
 
 -- what holds of each node holds, too, where every node that has it has another fact
 mutual
+  -- what follows from a fact at any node holds of all nodes of a bound that have the fact
   pub EachNode-weaker : (P Q : Bound → Type 0) → ((b : Bound) → P b → Q b) → (b : Bound) → EachNode P b → EachNode Q b
   EachNode-weaker P Q step (Constant c) each = step (Constant c) each
   EachNode-weaker P Q step (Input i) each = step (Input i) each
@@ -17,6 +18,7 @@ mutual
   EachNode-weaker P Q step (MaximumOf bs) each = (step (MaximumOf bs) each.0, EachNodeOfAll-weaker P Q step bs each.1)
   EachNode-weaker P Q step (PowerOf c e) each = (step (PowerOf c e) each.0, EachNode-weaker P Q step e each.1)
 
+  -- and of all nodes of several bounds that have it
   pub EachNodeOfAll-weaker : (P Q : Bound → Type 0) → ((b : Bound) → P b → Q b) → (bs : Parts) → EachNodeOfAll P bs
       → EachNodeOfAll Q bs
   EachNodeOfAll-weaker P Q step NoParts each = tt
@@ -111,6 +113,7 @@ IsAny b = Unit {0}
 
 -- which holds of every bound
 mutual
+  -- each node of a bound has the fact that asks nothing
   pub EachNode-any : (b : Bound) → EachNode IsAny b
   EachNode-any (Constant c) = tt
   EachNode-any (Input i) = tt

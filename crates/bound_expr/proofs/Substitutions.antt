@@ -13,6 +13,7 @@ val-slice_index (s ∷ sizes) zero m = refl
 val-slice_index (s ∷ sizes) (suc i) m = val-slice_index sizes i m
 
 mutual
+  -- a bound with sizes put for its inputs has the value that it has at the values of the sizes
   pub val-substituted : (b : Bound) (sizes : List Bound) (m : List ℕ)
       → val (substituted b sizes) m ≡ val b (values_of sizes m)
   val-substituted (Constant c) sizes m = refl
@@ -22,11 +23,13 @@ mutual
   val-substituted (MaximumOf bs) sizes m = val_maximum-substituted bs sizes m
   val-substituted (PowerOf c e) sizes m = ap (λ (v : ℕ). c ^ v) (val-substituted e sizes m)
 
+  -- so has a sum whose parts have sizes put for their inputs
   pub val_sum-substituted : (bs : Parts) (sizes : List Bound) (m : List ℕ)
       → val_sum (all_substituted bs sizes) m ≡ val_sum bs (values_of sizes m)
   val_sum-substituted NoParts sizes m = refl
   val_sum-substituted (Part b bs) sizes m = omega (arith, val-substituted b sizes m, val_sum-substituted bs sizes m)
 
+  -- so has a product of such parts
   pub val_product-substituted : (bs : Parts) (sizes : List Bound) (m : List ℕ)
       → val_product (all_substituted bs sizes) m ≡ val_product bs (values_of sizes m)
   val_product-substituted NoParts sizes m = refl
@@ -34,6 +37,7 @@ mutual
       ap (λ (v : ℕ). v * val_product (all_substituted bs sizes) m) (val-substituted b sizes m)
       ∙ ap (λ (v : ℕ). val b (values_of sizes m) * v) (val_product-substituted bs sizes m)
 
+  -- and so has a maximum of such parts
   pub val_maximum-substituted : (bs : Parts) (sizes : List Bound) (m : List ℕ)
       → val_maximum (all_substituted bs sizes) m ≡ val_maximum bs (values_of sizes m)
   val_maximum-substituted NoParts sizes m = refl

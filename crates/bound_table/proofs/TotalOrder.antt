@@ -160,6 +160,7 @@ nat_cmp-Equal c d e =
     subst (λ (o : Ordering). MatchOrdering o (c < d) (c ≡ d) (d < c)) e (ranked c d (nat_cmp c d) refl)
 
 mutual
+  -- bounds that are equal in the structural order are the same
   pub compared-same : (a b : Bound) → compared a b ≡ Equal → a ≡ b
   compared-same (Constant c) (Constant d) e = ap Constant (nat_cmp-Equal c d e)
   compared-same (Input i) (Input j) e = ap Input (nat_cmp-Equal i j e)
@@ -171,6 +172,7 @@ mutual
       ap (λ (n : ℕ). PowerOf n e) (nat_cmp-Equal c d both.0) ∙ ap (PowerOf d) (compared-same e f both.1)
   compared-same a b e = cc
 
+  -- lists of parts that are equal in the structural order are the same
   pub all_compared-same : (ps qs : Parts) → all_compared ps qs ≡ Equal → ps ≡ qs
   all_compared-same NoParts NoParts e = refl
   all_compared-same NoParts (Part q qs) e = cc

@@ -200,6 +200,7 @@ stays_large f g piece None is leads marks many large = cc
 stays_large f g piece (Some h) is leads marks many large =
     many ∙ over (nodes_of h) (let more = (grows f h piece (step_leads f h piece is leads)).nodes in let before = are_over (nodes_of f) large in omega (arith, more, before))
 
+-- what is carried leads on where the piece does, with the same marks, and is too large where that is
 pub carried_fronts_are_marked : CarriedFrontsAreMarked
 carried_fronts_are_marked = record {
   marks = λ f piece is. marks_alike f.position f.outer f.terms f.factors (nodes_of f) piece is.position;

@@ -283,6 +283,7 @@ mutual
         ∙ exponent_read c e (reads e shaped.1) shaped.1 outer ts fs rest;
   }
 
+  -- each of several parts with the shape of a text is read as it is written
   pub all_read : (bs : Parts) → AreShaped bs → AllRead bs
   all_read NoParts shaped = tt
   all_read (Part b bs) shaped = (reads b shaped.0, all_read bs shaped.1)

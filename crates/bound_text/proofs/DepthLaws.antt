@@ -32,6 +32,7 @@ use Rattle.bound_text.proofs.MarkLaws.{other_factor, front_here}
 abbrev pub Answer : Type 0
 Answer = Result (Unit {0}) AllocError
 
+-- where a fact holds unless something fails, so does what follows from it
 pub on_ok : (P Q : Type 0) (r : Answer) → (P → Q) → OnOk r P → OnOk r Q
 on_ok P Q (Err e) f h = tt
 on_ok P Q (Ok u) f h = f h
@@ -41,6 +42,7 @@ pub two_passed : (old a new : List Bool) → Passes old a (λ rest. None ∷ res
     → Passes old new (unmarked comma_between)
 two_passed old a new g h = record { each = λ most rest. h.each most rest ∙ g.each most (None ∷ rest) }
 
+-- three pieces with which no part begins are put as those between two terms of a sum
 pub three_passed : (old a b new : List Bool) → Passes old a (λ rest. None ∷ rest) → Passes a b (λ rest. None ∷ rest)
     → Passes b new (λ rest. None ∷ rest) → Passes old new (unmarked plus_between)
 three_passed old a b new g h k = record {
@@ -82,6 +84,7 @@ sum_marked room lower old new b v items r is low same =
     (ap (λ (xs : List Bound). SumOf (parts_of (bounds_of xs))) same ∙ sym (ap bound_of is ∙ bound_of-Sum v))
     (record { each = λ most level rest e. h.each most (suc level) rest (less room lower most level low e) }))
 
+-- the factors of a product are a level below it
 pub product_marked : (room lower : ℕ) (old new : List Bool) (b : Bound) (v : Vec Bound Global) (items : List Bound) (r : Answer) → b ≡ Prod v
     → lower ≡ room - 1 → items ≡ v.items
     → OnOk r (FlagsAll lower old new (λ level. factors_marks level writing.Nothing (parts_of (bounds_of items))))

@@ -42,6 +42,7 @@ told = record {
   number_alone = judged 3 (codes "max(A, 170141183460469231731687303715884105728)*B");
 }
 
+-- the reader of bounds inside another text keeps the laws of a reader, whatever the limit on levels
 pub inner_bounds_are_read : InnerBoundsAreRead
 inner_bounds_are_read = record {
   laws = inner_laws;

@@ -17,6 +17,7 @@ use Rattle.bound_text.proofs.StepCases.{Leads, of_variable, of_number, of_maximu
 
 -- constants below 2^127, bases below 2^64, and variables among the first n
 abbrev mutual
+  -- the checks keep large constants, large bases and unlisted variables out of a bound
   pub Kept : ℕ → Bound → Type 0
   Kept n (Constant c) = c < 2 ^ 127
   Kept n (Input i) = i < n
@@ -25,6 +26,7 @@ abbrev mutual
   Kept n (MaximumOf bs) = AllKept n bs
   Kept n (PowerOf c e) = (c < 2 ^ 64) × Kept n e
 
+  -- they keep them out of each of several parts
   pub AllKept : ℕ → Parts → Type 0
   AllKept n NoParts = ⊤
   AllKept n (Part b bs) = Kept n b × AllKept n bs
@@ -176,6 +178,7 @@ large_after f g piece (of_argument o bs ts' fs' ts fs e) h = refl
 
 -- what is kept, with the shape of a text, is tidy, reads the first n variables, and has short bases
 mutual
+  -- a shaped bound that the checks let through is tidy, reads listed variables alone, and has short bases
   pub kept_tidy : (n : ℕ) (b : Bound) → IsShaped b → Kept n b → IsTidy b × ReadsBelow n b × HasShortBases b
   kept_tidy n (Constant c) shaped kept = (omega (arith, kept), tt, tt)
   kept_tidy n (Input i) shaped kept = (tt, kept, tt)
@@ -194,6 +197,7 @@ mutual
 
 -- and the other way round
 mutual
+  -- a tidy bound that reads listed variables alone, with short bases, is shaped, and the checks let it through
   pub tidy_kept : (n : ℕ) (b : Bound) → IsTidy b → ReadsBelow n b → HasShortBases b → IsShaped b × Kept n b
   tidy_kept n (Constant c) tidy listed short = (tt, omega (arith, tidy))
   tidy_kept n (Input i) tidy listed short = (tt, listed)

@@ -25,6 +25,7 @@ before_stay : (before names : List Name) (c : Conjoined) → Extends (with_conjo
 before_stay before names NoAtoms e = refl
 before_stay before names (JointAfter atoms joint) e = ap (map limited_atom) (atoms_stay (with_atoms before atoms) names atoms e (atoms_are_read before atoms))
 
+-- the atoms before an atom are the same over any two lists of variables to which theirs extend
 pub before_kept : (before names more : List Name) (c : Conjoined) → Extends (with_conjoined before c) names → Extends (with_conjoined before c) more → atoms_before names c ≡ atoms_before more c
 before_kept before names more c a b = before_stay before names c a ∙ sym (before_stay before more c b)
 

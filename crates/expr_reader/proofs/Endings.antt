@@ -131,6 +131,7 @@ from_names before [] level (CaretRead b) = tt
 from_names before [] level (ExponentRead b ds) = sym (sum_names before level (Raised b ds))
 from_names before (l ∷ outer) level operand = tt
 
+-- an expression has the variables of the front that it ends
 pub finished_names : (before : List Name) (f : Front) (s : Sum) → finish f ≡ Some s → with_front before f ≡ with_sum before s
 finished_names before f s ends = subst (λ o. NamesAt before (with_front before f) o) ends (from_names before f.outer f.level f.operand)
 

@@ -55,19 +55,23 @@ factored_extends : (names : List Name) (p : Factored) → Extends names (with_fa
 factored_extends names NoProduct = extends_self names
 factored_extends names (TimesAfter p) = sum_extends names (Alone p)
 
+-- the names of a level go to the end of those before it
 pub level_extends : (names : List Name) (l : Level) → Extends names (with_level names l)
 level_extends names l = extended names (with_summed names l.sum) (with_level names l) (summed_extends names l.sum) (factored_extends (with_summed names l.sum) l.product)
 
+-- the names of the levels round go to the end of those before them
 pub outer_extends : (names : List Name) (outer : List Level) → Extends names (with_outer names outer)
 outer_extends names [] = extends_self names
 outer_extends names (l ∷ outer) = extended names (with_outer names outer) (with_outer names (l ∷ outer)) (outer_extends names outer) (level_extends (with_outer names outer) l)
 
+-- the names of an operand go to the end of those before it
 pub operand_extends : (names : List Name) (p : Operand) → Extends names (with_operand names p)
 operand_extends names Wanted = extends_self names
 operand_extends names (BaseRead b) = sum_extends names (Alone (Single (Plain b)))
 operand_extends names (CaretRead b) = sum_extends names (Alone (Single (Plain b)))
 operand_extends names (ExponentRead b ds) = sum_extends names (Alone (Single (Plain b)))
 
+-- so all names of a front go to the end of those before it
 pub front_extends : (names : List Name) (f : Front) → Extends names (with_front names f)
 front_extends names f =
     extended names (with_level (with_outer names f.outer) f.level) (with_front names f)
@@ -84,17 +88,21 @@ factored_is_read : (names : List Name) (p : Factored) → FactoredReads (with_fa
 factored_is_read names NoProduct = tt
 factored_is_read names (TimesAfter p) = sum_is_read names (Alone p)
 
+-- the names of a level are among the variables once it is read
 pub level_is_read : (names : List Name) (l : Level) → LevelReads (with_level names l) l
 level_is_read names l =
     let e = factored_extends (with_summed names l.sum) l.product in
     (subst (λ ns. SummedReads ns l.sum) (sym e.1) (summed_more (with_summed names l.sum) e.0 l.sum (summed_is_read names l.sum)), factored_is_read (with_summed names l.sum) l.product)
 
+-- the names of the levels round are among any variables to which theirs extend
 pub outer_along : (names more : List Name) (outer : List Level) → Extends names more → OuterReads names outer → OuterReads more outer
 outer_along names more outer e h = subst (λ ns. OuterReads ns outer) (sym e.1) (outer_more names e.0 outer h)
 
+-- the names of a level are among any variables to which its own extend
 pub level_along : (names more : List Name) (l : Level) → Extends names more → LevelReads names l → LevelReads more l
 level_along names more l e h = subst (λ ns. LevelReads ns l) (sym e.1) (level_more names e.0 l h)
 
+-- the names of the levels round are among the variables once they are read
 pub outer_is_read : (names : List Name) (outer : List Level) → OuterReads (with_outer names outer) outer
 outer_is_read names [] = tt
 outer_is_read names (l ∷ outer) =
@@ -110,9 +118,11 @@ factored_stay : (names more : List Name) (p : Factored) → FactoredReads names 
 factored_stay names more NoProduct h = refl
 factored_stay names more (TimesAfter p) h = ap (λ t. terms.TimesAfter (limited t)) (sum_term_stays names more (Alone p) h)
 
+-- the terms of a level don't change with more names
 pub level_stays : (names more : List Name) (l : Level) → LevelReads names l → level_terms (names ++ more) l ≡ level_terms names l
 level_stays names more l h = rw (summed_stay names more l.sum h.0, factored_stay names more l.product h.1) refl
 
+-- nor do the terms of the levels round
 pub outer_stays : (names more : List Name) (outer : List Level) → OuterReads names outer → map (level_terms (names ++ more)) outer ≡ map (level_terms names) outer
 outer_stays names more [] h = refl
 outer_stays names more (l ∷ outer) h = rw (level_stays names more l h.1, outer_stays names more outer h.0) refl
@@ -122,10 +132,12 @@ negated_names : (names : List Name) (n : ℕ) (f : Factor) → with_factor names
 negated_names names zero f = refl
 negated_names names (suc n) f = negated_names names n (Negated f)
 
+-- the product that a factor ends has the variables read before it, and then the factor's own
 pub product_names : (names : List Name) (p : Factored) (n : ℕ) (f : Factor) → with_product names (product_with p (negated n f)) ≡ with_factor (with_factored names p) f
 product_names names NoProduct n f = negated_names names n f
 product_names names (TimesAfter p) n f = negated_names (with_product names p) n f
 
+-- the sum that a factor ends has the variables of the level before it, and then the factor's own
 pub sum_names : (names : List Name) (l : Level) (f : Factor) → with_sum names (sum_made l f) ≡ with_factor (with_level names l) f
 sum_names names l f = go l.sum
   where

@@ -53,6 +53,7 @@ pub record IsWord (e : Front) (a : guards.Atom) : Type 0 where
   pub same : e ≡ word_front word
   pub always : IsAlways a
 
+-- a front that is the atom that always holds is its word alone
 pub truth_word : (e : Front) (a : guards.Atom) → truth_of e ≡ Some a → IsWord e a
 truth_word e a t = all e.outer e.level.sum e.level.product e.level.minuses e.operand t refl
   where
@@ -156,6 +157,7 @@ truth_ended next before g names r at =
       joins = joins;
     }
 
+-- where no right side ends the reader stays as it is, and there is no fault
 pub stays : (next : Option Piece) (r : GuardReader) → ends_right r next ≡ false → Settles next r None r
 stays next r h = record { settled = settled; fault_is = fault }
   where
@@ -247,6 +249,7 @@ module _ (next : Option Piece) (before : List Name) (g : GuardFront) (names : Li
       ∙ (ap (λ v. if v then compared_fault names at.left at.sign (inner.finish at.read) else None) (ending (inner.finish at.read) (ends_before at.read next) tests)
       ∙ ap (compared_fault names at.left at.sign) done.same))))
 
+-- where a right side ends its atom is one more, and the fault is the first of its differences
 pub ends : (next : Option Piece) (r q : GuardReader) (rel : code.Related) (fault : Option Fault) → ends_right r next ≡ true → r.related ≡ Some rel → q.place ≡ places.AtomRead
     → atoms_in q ≡ atoms_in r ++ plain.Compare (term_of rel.left) (relation_of rel.rel) (term_in r.expression) ∷ [] → Clears r.expression q.expression
     → fault ≡ first_of_all (differences (term_of rel.left) (relation_of rel.rel) (term_in r.expression)) → Settles next r fault q

@@ -85,6 +85,7 @@ module _ (old : List Name) (r : GuardReader) (p : Piece) (unread : is_read r.pla
   fresh_none : (before : List Name) (c : Conjoined) → old ≡ with_conjoined before c → IsFresh r.expression → inner.step beginning p ≡ None
   fresh_none before c names fresh = unstepped (with_conjoined before c) beginning (subst (λ ns. Stands (with_conjoined before c) beginning ns r.expression) (sym names) (fresh_stands (with_conjoined before c) r.expression fresh))
 
+  -- a piece that is no relation and goes on with nothing isn't taken, and nothing changes
   pub takes_none : (behind : Option Piece) (new : List Name) (q : GuardReader) → sign_read p ≡ None → new ≡ old → q ≡ r → Takes old r p behind false new q
   takes_none behind new q other names same = record { each = λ before g settled modest. unchanged behind before (step g p) old new r q (none before g settled) names same }
     where
@@ -150,6 +151,7 @@ sign_is Times sign h = absurd cc
 sign_is Caret sign h = absurd cc
 sign_is (Joining j) sign h = absurd cc
 
+-- a relation is taken behind a left side that can end, and elsewhere nothing changes
 pub takes_relation : (old new : List Name) (r q : GuardReader) (p : Piece) (sign : Sign) (behind : Option Piece) (taken : Bool) → is_read r.place ≡ false
     → terms.goes_on_from (front_of r.expression).outer (front_of r.expression).operand p ≡ false → Some sign ≡ sign_read p → new ≡ old → Relates r sign taken q → Takes old r p behind taken new q
 takes_relation old new r q p sign behind taken unread stops read names relates =

@@ -96,6 +96,7 @@ truth_leads behind before c old new r q Caret truth follows names place atoms fr
 truth_leads behind before c old new r q (Related s) truth follows names place atoms fresh = absurd cc
 truth_leads behind before c old new r q (Joining j) truth follows names place atoms fresh = absurd cc
 
+-- where an atom is wanted, a word of the one that always holds is taken unless an operator follows
 pub takes_truth : (old new : List Name) (r q : GuardReader) (p : Piece) (behind : Option Piece)
     → is_wanting r.place && names_truth p && not (is_operating behind) ≡ true → new ≡ old → q.place ≡ places.AtomRead → atoms_in q ≡ atoms_in r ++ plain.Always ∷ [] → q.expression ≡ r.expression → Takes old r p behind true new q
 takes_truth old new r q p behind test names place atoms expression = record { each = each }
@@ -139,6 +140,7 @@ joint_leads behind before atoms old new r q names are fresh same Times taken kep
 joint_leads behind before atoms old new r q names are fresh same Caret taken kept = (same, kept refl)
 joint_leads behind before atoms old new r q names are fresh same (Related s) taken kept = (same, kept refl)
 
+-- behind an atom only what joins is taken, and then the next atom is wanted
 pub takes_joint : (old new : List Name) (r q : GuardReader) (p : Piece) (behind : Option Piece) (b : Bool) → is_read r.place ≡ true → new ≡ old → b ≡ is_joining p
     → (IsTrue b → q ≡ record { place = places.AtomWanted; atoms = r.atoms; related = r.related; expression = r.expression }) → (IsFalse b → q ≡ r) → Takes old r p behind b new q
 takes_joint old new r q p behind b test names is taken kept = record { each = each }
@@ -237,6 +239,7 @@ module _ (old new : List Name) (r q : GuardReader) (p : Piece) (behind : Option 
         expression = holds;
       })
 
+  -- a piece that goes on with the expression of a side is taken
   pub takes_more : is_read r.place ≡ false → terms.goes_on_from (front_of r.expression).outer (front_of r.expression).operand p ≡ true → Takes old r p behind true new q
   takes_more unread goes = record { each = each }
     where

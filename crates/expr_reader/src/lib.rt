@@ -13,7 +13,6 @@ pub use expansion::{Unexpanded, expansion_fault};
 pub use expression::Expression;
 pub use guard::{GuardPlace, GuardReader};
 pub use law::worked_values_hold;
+pub use model::Memory;
 pub use piece::{Joint, Piece, Sign};
 pub use variables::Variables;
-
-pub use model::Memory;

@@ -58,9 +58,11 @@ close_stops [] level (CaretRead b) = tt
 close_stops [] level (ExponentRead b ds) = refl
 close_stops (l ∷ outer) level operand = tt
 
+-- no name goes on with an expression that can end
 pub word_ends : (e : Front) (s : Sum) (name : Name) → finish e ≡ Some s → step e (Word name) ≡ None
 word_ends e s name same = subst (λ o. Stops (Word name) e.outer e.level e.operand o) same (word_stops name e.outer e.level e.operand)
 
+-- no closing bracket goes on with an expression that can end
 pub close_ends : (e : Front) (s : Sum) → finish e ≡ Some s → step e Close ≡ None
 close_ends e s same = subst (λ o. Stops Close e.outer e.level e.operand o) same (close_stops e.outer e.level e.operand)
 
@@ -122,8 +124,10 @@ close_behind_none : (g : GuardFront) → guards.step_behind g Close ≡ None
 close_behind_none (LeftSide c e) = refl
 close_behind_none (RightSide c l sign e) = refl
 
+-- no name goes on with a guard that can end
 pub word_ends_guard : (g : GuardFront) (atoms : Atoms) (name : Name) → guards.finish g ≡ Some atoms → guards.step g (Word name) ≡ None
 word_ends_guard g atoms name same = within_none g (Word name) (word_behind_none g name) (subst (λ o. GuardStops (Word name) g o) same (word_guard_stops name g))
 
+-- no closing bracket goes on with a guard that can end
 pub close_ends_guard : (g : GuardFront) (atoms : Atoms) → guards.finish g ≡ Some atoms → guards.step g Close ≡ None
 close_ends_guard g atoms same = within_none g Close (close_behind_none g) (subst (λ o. GuardStops Close g o) same (close_guard_stops g))

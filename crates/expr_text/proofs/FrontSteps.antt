@@ -48,6 +48,7 @@ nothing_in outer sum factors n (BaseRead b) h = absurd (base_there b _ h)
 nothing_in outer sum factors n (CaretRead b) h = absurd (omega (arith, h))
 nothing_in outer sum factors n (ExponentRead b ds) h = absurd (omega (arith, h))
 
+-- a front of which no token has been read is the beginning
 pub nothing_read : (e : Front) → token_count e ≡ 0 → e ≡ beginning
 nothing_read e h = nothing_in e.outer e.level.sum e.level.product e.level.minuses e.operand h
 
@@ -71,6 +72,7 @@ begins_from Caret f same = cc
 begins_from (Related sign) f same = cc
 begins_from (Joining joint) f same = cc
 
+-- the first piece that is taken is one that an expression can begin with
 pub first_begins : (e f : Front) (p : Piece) → token_count e ≡ 0 → step e p ≡ Some f → begins_expression p ≡ true
 first_begins e f p h same = begins_from p f (subst (λ g. step g p ≡ Some f) (nothing_read e h) same)
 
@@ -167,6 +169,7 @@ module _ (names : List Name) where
   names_from outer level (CaretRead b) (Joining joint) = tt
   names_from outer level (ExponentRead b ds) p = behind_names outer level (Raised b ds) p
 
+  -- a piece that is taken adds no variable but its name, where that is new
   pub names_more : (e f : Front) (p : Piece) → step e p ≡ Some f
       → with_front names f ≡ with_piece (with_front names e) p
   names_more e f p same =
@@ -186,6 +189,7 @@ module _ (names : List Name) where
   ended_from [] level (ExponentRead b ds) = sum_names names level (Raised b ds)
   ended_from (l ∷ outer) level operand = tt
 
+  -- the variables of an expression are those of the front that it ends
   pub names_ended : (e : Front) (s : Sum) → finish e ≡ Some s → with_sum names s ≡ with_front names e
   names_ended e s same = subst (λ o. EndsNamed (with_front names e) o) same (ended_from e.outer e.level e.operand)
 
@@ -355,6 +359,7 @@ goes_from [] (PlusAfter s) factors n operand p f same = refl
 goes_from [] (MinusAfter s) factors n operand p f same = refl
 goes_from (l ∷ outer) sum factors n operand p f same = refl
 
+-- only an operator goes on with the word of the atom that always holds
 pub truth_goes_on : (e f : Front) (p : Piece) → step e p ≡ Some f → (is_some (truth_of e) && not (operates p)) ≡ false
 truth_goes_on e f p same = goes_from e.outer e.level.sum e.level.product e.level.minuses e.operand p f same
 
@@ -392,5 +397,6 @@ truth_tokens [] (PlusAfter s) factors n operand a same = cc
 truth_tokens [] (MinusAfter s) factors n operand a same = cc
 truth_tokens (l ∷ outer) sum factors n operand a same = cc
 
+-- a front that is an atom by itself has one token, and the atom is the one that always holds
 pub truth_is_one : (e : Front) (a : Atom) → truth_of e ≡ Some a → (token_count e ≡ 1) × IsAlways a
 truth_is_one e a same = truth_tokens e.outer e.level.sum e.level.product e.level.minuses e.operand a same

@@ -125,5 +125,6 @@ limited_fault t = go (first_fault t) refl (holds t)
 pub limited_itself : (t : Term) → first_fault t ≡ None → limited t ≡ t
 limited_itself t is = subst (Holds t) is (holds t)
 
+-- limiting its exponents changes neither how an expression is refused nor one that isn't refused
 pub limited_alike : LimitedAlike
 limited_alike = record { refused = limited_fault; itself = limited_itself }

@@ -12,6 +12,7 @@ use Rattle.expr_text.proofs.Stability.{extended, sum_extends, SumReads, sum_read
 abbrev pub Extends : List Name → List Name → Type 0
 Extends names more = (new : List Name) × (more ≡ names ++ new)
 
+-- names extend to themselves
 pub extends_self : (names : List Name) → Extends names names
 extends_self names = ([], sym (append-nil names))
 
@@ -19,6 +20,7 @@ extends_self names = ([], sym (append-nil names))
 pub sum_along : (names more : List Name) (s : Sum) → Extends names more → SumReads names s → SumReads more s
 sum_along names more s e h = subst (λ ns. SumReads ns s) (sym e.1) (sum_reads_more names e.0 s h)
 
+-- the term of an expression is the same over any names to which its own extend
 pub term_along : (names more : List Name) (s : Sum) → Extends names more → SumReads names s
     → sum_term more s ≡ sum_term names s
 term_along names more s e h = ap (λ ns. sum_term ns s) e.1 ∙ sum_term_stays names e.0 s h
@@ -37,6 +39,7 @@ atom_along : (names more : List Name) (a : Atom) → Extends names more → Atom
 atom_along names more (Always t) e h = tt
 atom_along names more (Compared l sign r) e h = (sum_along names more l e h.0, sum_along names more r e h.1)
 
+-- the names of several atoms are among any names to which theirs extend
 pub atoms_along : (names more : List Name) (atoms : Atoms) → Extends names more → AtomsRead names atoms
     → AtomsRead more atoms
 atoms_along names more (First a) e h = atom_along names more a e h
@@ -49,6 +52,7 @@ atom_extends names (Compared l sign r) =
     extended names (with_sum names l) (with_sum (with_sum names l) r) (sum_extends names l)
     (sum_extends (with_sum names l) r)
 
+-- the names of several atoms go to the end of those before them
 pub atoms_extends : (names : List Name) (atoms : Atoms) → Extends names (with_atoms names atoms)
 atoms_extends names (First a) = atom_extends names a
 atoms_extends names (Joined atoms joint a) =
@@ -64,6 +68,7 @@ atom_is_read names (Compared l sign r) = (
   sum_is_read (with_sum names l) r,
 )
 
+-- the names of several atoms are among the variables once they are read
 pub atoms_are_read : (names : List Name) (atoms : Atoms) → AtomsRead (with_atoms names atoms) atoms
 atoms_are_read names (First a) = atom_is_read names a
 atoms_are_read names (Joined atoms joint a) = (

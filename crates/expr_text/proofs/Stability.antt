@@ -36,6 +36,7 @@ among_last n (m ∷ names) = go (is_same n m) (among_last n names)
     go true e = refl
     go false e = e
 
+-- a name is among the variables once it is read, whether it was new or not
 pub among_with : (n : Name) (names : List Name) → is_among n (with_name names n) ≡ true
 among_with n names = go (is_among n names) refl
   where
@@ -56,6 +57,7 @@ pub extended : (names middle last : List Name) → (a : (new : List Name) × (mi
 extended names middle last a b = (a.0 ++ b.0, b.1 ∙ (ap (λ ns. ns ++ b.0) a.1 ∙ append_assoc names a.0 b.0))
 
 mutual
+  -- the names of an expression go to the end of those before it
   pub sum_extends : (names : List Name) (s : Sum) → (new : List Name) × (with_sum names s ≡ names ++ new)
   sum_extends names (Alone p) = product_extends names p
   sum_extends names (Added s p) = extended names (with_sum names s) (with_product (with_sum names s) p) (sum_extends names s) (product_extends (with_sum names s) p)
@@ -77,20 +79,24 @@ mutual
 
 -- the names of an expression are among names
 abbrev mutual
+  -- the names of a sum are among names
   pub SumReads : List Name → Sum → Type 0
   SumReads names (Alone p) = ProductReads names p
   SumReads names (Added s p) = SumReads names s × ProductReads names p
   SumReads names (Subtracted s p) = SumReads names s × ProductReads names p
 
+  -- the names of a product are among names
   pub ProductReads : List Name → Product → Type 0
   ProductReads names (Single f) = FactorReads names f
   ProductReads names (Multiplied p f) = ProductReads names p × FactorReads names f
 
+  -- the names of a factor are among names
   pub FactorReads : List Name → Factor → Type 0
   FactorReads names (Plain b) = BaseReads names b
   FactorReads names (Raised b digits) = BaseReads names b
   FactorReads names (Negated f) = FactorReads names f
 
+  -- a base that is a name, or the names in its bracket, are among names
   pub BaseReads : List Name → Base → Type 0
   BaseReads names (Number digits) = ⊤
   BaseReads names (Named n) = is_among n names ≡ true

@@ -95,6 +95,7 @@ module _ {P : Type 0} (into : Piece → P) where
   step_from_adds outer level (CaretRead b) (Joining joint) before = tt
   step_from_adds outer level (ExponentRead b ds) p before = step_behind_adds outer level (Raised b ds) p before
 
+  -- a front that a piece leads to is written as the front before it with the piece behind
   pub step_adds : (f : Front) (p : Piece) (before : List P) → Adds before f p (step f p)
   step_adds f p before = step_from_adds f.outer f.level f.operand p before
 

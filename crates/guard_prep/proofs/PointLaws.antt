@@ -41,6 +41,7 @@ met-meets z rows h = record { each = each rows h }
     each (r ∷ rows) h zero d l = h.0
     each (r ∷ rows) h (suc k) d l = each rows h.1 k d (omega arith)
 
+-- rows that are met at every position are met one after the other
 pub meets-met : (z : ℕ → ℤ) (rows : List Form) → Meets rows z (pos 1) → AreMet z rows
 meets-met z rows m = each rows m.each
   where
@@ -124,6 +125,7 @@ atom-met w env more (Compare d r e) l v h = go (is_bent (expanded (difference_of
         rows-hold d r e env (linear_form w (expanded (difference_of d r e))) (at (env ++ more)) (h g)
         (form-value w (difference_of d r e) env more l (reads-difference (length env) d r e v.left v.right) g)
 
+-- where the linear part of a guard holds, its rows are met, whatever values stand behind
 pub guard-met : (w : ℕ) (env more : List ℤ) (atoms : List Atom) → length env ≤ w → AllByRecursion (IsValidAtom (length env)) atoms
     → LinearPartHolds env atoms → AreMet (at (env ++ more)) (rows_of_guard w atoms)
 guard-met w env more [] l v h = tt

@@ -28,6 +28,7 @@ atom-more : (n w : ℕ) (a : Atom) → n ≤ w → IsValidAtom n a → IsValidAt
 atom-more n w Always l h = tt
 atom-more n w (Compare d r e) l h = record { left = reads-more n w d l h.left; right = reads-more n w e l h.right; expands = h.expands }
 
+-- atoms that are valid for some variables are valid for more
 pub atoms-more : (n w : ℕ) (atoms : List Atom) → n ≤ w → AllByRecursion (IsValidAtom n) atoms → AllByRecursion (IsValidAtom w) atoms
 atoms-more n w [] l h = tt
 atoms-more n w (a ∷ atoms) l h = (atom-more n w a l h.0, atoms-more n w atoms l h.1)
@@ -37,6 +38,7 @@ pub all-ascending : (us : List Term) → AllByRecursion IsAscending (map expande
 all-ascending [] = tt
 all-ascending (u ∷ us) = ((expanded-ordered u).ascending, all-ascending us)
 
+-- expanded updates of few variables have their variables below any greater number
 pub all-below : (n w : ℕ) (us : List Term) → n ≤ w → AllByRecursion (IsValidTerm n) us → AllByRecursion (HasVariablesBelow w) (map expanded us)
 all-below n w [] l h = tt
 all-below n w (u ∷ us) l h = (variables-more n w (expanded u) l (variables-expanded n u h.0.variables), all-below n w us l h.1)

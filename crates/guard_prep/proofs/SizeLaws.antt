@@ -169,6 +169,7 @@ count-at-most [] = omega arith
 count-at-most (true ∷ bs) = omega (arith, count-at-most bs)
 count-at-most (false ∷ bs) = omega (arith, count-at-most bs)
 
+-- a preparable rule has at most 96 unknowns
 pub few-unknowns : (r : Rule) → IsPreparable r → unknowns_of r ≤ 96
 few-unknowns r h =
     omega (arith, count-at-most (map is_bent (map expanded r.updates)), length-map (map expanded r.updates) is_bent, length-map r.updates expanded, h.few_variables, h.few_updates)

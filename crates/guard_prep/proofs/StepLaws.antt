@@ -27,6 +27,7 @@ preparable p t r v e =
       updates = h.updates;
     }
 
+-- all rules of a valid program are preparable
 pub rules-are-preparable : ValidRulesArePreparable
 rules-are-preparable = record { each = preparable }
 
@@ -44,5 +45,6 @@ step-point p c d s v i =
       news = guards-give-points.news r env h l ∙ sym i.leads.values;
     }
 
+-- each step of a valid program is a point of its rule's rows
 pub steps-are-points : StepsArePoints
 steps-are-points = record { each = step-point }

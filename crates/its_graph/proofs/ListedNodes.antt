@@ -9,6 +9,7 @@ use Rattle.its_graph.proofs.Elements.{Contains-cons_cases, only_element}
 abbrev pub Below : ℕ → Type 0
 Below a = (a ≡ 0) ⊎ ((a ≡ 1) ⊎ (a ≡ 2))
 
+-- each number below three is 0, 1 or 2
 pub below-three : (a : ℕ) → a < 3 → Below a
 below-three zero low = inl refl
 below-three (suc zero) low = inr (inl refl)
@@ -23,6 +24,7 @@ in-first = record { component = 0 ∷ []; listed = (0, omega arith, refl); membe
 pub in-one : (x b : ℕ) → Contains (x ∷ []) b → b ≡ x
 in-one x b h = only_element x b h
 
+-- an element of a list of two is the one or the other
 pub in-two : (x y b : ℕ) → Contains (x ∷ y ∷ []) b → (b ≡ x) ⊎ (b ≡ y)
 in-two x y b h = go (Contains-cons_cases x (y ∷ []) b h)
   where
@@ -46,6 +48,7 @@ in-cons x xs e = cc
 pub increasing-one : (x : ℕ) → IsStrictlyIncreasing (x ∷ [])
 increasing-one x k low = absurd (omega (arith, low))
 
+-- a list of a number and a greater one ascends
 pub increasing-two : (x y : ℕ) → x < y → IsStrictlyIncreasing (x ∷ y ∷ [])
 increasing-two x y l zero low = l
 increasing-two x y l (suc k) low = absurd (omega (arith, low))

@@ -64,6 +64,7 @@ swap-listed (e ∷ pairs) a b h = go (pair-cases e pairs (a, b) h) (λ later. sw
     go (inl is) ih = (zero, omega arith, ap swap is)
     go (inr later) ih = pair-later (swap e) (map swap pairs) (b, a) (ih later)
 
+-- a pair that is listed turned round comes from a pair of the list
 pub swap-from : (pairs : List Pair) (a b : ℕ) → Contains (map swap pairs) (b, a) → Contains pairs (a, b)
 swap-from [] a b (k, low, e) = absurd (omega arith)
 swap-from (e ∷ pairs) a b h = go (pair-cases (swap e) (map swap pairs) (b, a) h) (λ later. swap-from pairs a b later)

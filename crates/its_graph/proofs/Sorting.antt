@@ -60,6 +60,7 @@ marked-here marks l low = get_or-set_same marks l true false low
 abbrev unmarked_one : Bool → ℕ
 unmarked_one v = cond (not v) 1 0
 
+-- setting a mark that wasn't set leaves one less to be set
 pub fewer-unmarked : (marks : List Bool) (l : ℕ) → l < length marks → ¬ (IsMarked marks l) → count_by not (set marks l true) + 1 ≡ count_by not marks
 fewer-unmarked marks l low h = go (get_or marks l false) refl
   where

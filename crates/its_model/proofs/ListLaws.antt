@@ -24,6 +24,7 @@ all-to P [] h k d l = absurd (omega arith)
 all-to P (x ∷ xs) h zero d l = h.0
 all-to P (x ∷ xs) h (suc k) d l = all-to P xs h.1 k d (omega arith)
 
+-- what holds at every position holds by recursion
 pub all-from : {X : Type 0} (P : X → Type 0) (xs : List X) → All P xs → AllByRecursion P xs
 all-from P [] h = tt
 all-from P (x ∷ xs) h = (h 0 x (omega arith), all-from P xs (λ k d l. h (suc k) d (omega arith)))

@@ -33,9 +33,11 @@ use Rattle.its_reader.specs.declared.place.Place.{Place}
 use Rattle.its_reader.specs.declared.place.Place.TheVariants as places
 use Rattle.its_reader.proofs.LeftLaws.{leads_together}
 
+-- the place of the reader may be told by an equation
 pub in_advanced_place : (place known : Place) (old new : Draft) (t : Token Piece) (behind : Option Piece) (result : Option Place) → place ≡ known → Advances known old t behind result new → Advances place old t behind result new
 in_advanced_place place known old new t behind result e h = subst (λ (q : Place). Advances q old t behind result new) (sym e) h
 
+-- outside rules the next token leads where its piece leads in what is written
 pub sections_advance : (place : SectionPlace) (old new : Draft) (t : Token Piece) (behind : Option Piece) (result : Option Place) → StartLeads place old t.piece t.at result new → Advances (places.InSections place) old t behind result new
 sections_advance place old new t behind result h = record {
   together = λ ts f k at. leads_together ts behind (step f t.piece) result new (h.each ts behind f k at);
@@ -112,18 +114,21 @@ left_each lefts.LeftShut old new p behind result h ts f k a = go (tests.word p) 
     go None e = h.each ts behind f k (subst (IsNew (names_in old.rule.variables)) (sym e) tt)
     go (Some name) e = nowhere ts behind (step f p) result new (shut_stops f p name ts old k e) (h.together ts f k)
 
+-- so it does up to the end of a left term
 pub left_advances : (place : LeftPlace) (old new : Draft) (t : Token Piece) (behind : Option Piece) (result : Option Place) → LeftLeads place old t.piece result new → Advances (places.InLeft place) old t behind result new
 left_advances place old new t behind result h = record {
   together = λ ts f k at. h.together ts f k;
   each = λ ts f k at allows modest. left_each place old new t.piece behind result h ts f k allows;
 }
 
+-- so it does from the arrow to the end of the target
 pub right_advances : (place : RightPlace) (old new : Draft) (t : Token Piece) (behind : Option Piece) (result : Option Place) → RightLeads place old t.piece result new → Advances (places.InRight place) old t behind result new
 right_advances place old new t behind result h = record {
   together = λ ts f k at. h.together ts f k;
   each = λ ts f k at allows modest. h.each ts behind f k modest;
 }
 
+-- and so it does behind the target
 pub tail_advances : (place : TailPlace) (old new : Draft) (t : Token Piece) (behind : Option Piece) (result : Option Place) → TailLeads place old t.piece behind result new → Advances (places.InTail place) old t behind result new
 tail_advances place old new t behind result h = record {
   together = λ ts f k at. h.together ts f k;
@@ -194,5 +199,6 @@ off_alike f Disjoining = refl
 off_alike f Strange = refl
 off_alike f _ = refl
 
+-- why a text breaks off at a piece is told by the place as it is by the written front
 pub off_is : (ts : Tokens) (place : Place) (d : Draft) (f : Front) (p : Piece) → SettledAt ts (Some p) place d f → off_in (wants_left place) p ≡ off_by f (Some p)
 off_is ts place d f p k = ap (λ v. off_in v p) (sym (is_wanted ts (Some p) d f place k)) ∙ off_alike f p

@@ -44,10 +44,12 @@ pub refusal_said : (x : Fault Kind) (e : ReadError) → fault_in e ≡ Some x �
 refusal_said x errors.Memory h = tt
 refusal_said x _ h = h
 
+-- want of memory contradicts no answer
 pub memory_said : (a : Answer Program Kind) → Says a (Err errors.Memory)
 memory_said (Stands p) = refl
 memory_said (Refused x) = tt
 
+-- at the end of a text want of memory contradicts no answer
 pub closes_memory : (place : Place) (last : ℕ) (best : Option (Fault Kind)) (d : Draft) (n : ℕ) → Closes place last best d n (Err errors.Memory)
 closes_memory place last best d n = record { each = λ bytes e r. memory_said (verdict bytes) }
 

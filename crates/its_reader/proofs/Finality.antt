@@ -50,11 +50,13 @@ found_final k t best xs y a at some n = go (first_among programs best xs) (first
     go None h = h.1 y a
     go (Some x) h = split x (h.1 y (inr a))
 
+-- what is among some faults is among them with others behind
 pub among_left : (y : Fault Kind) (xs ys : Found) → Among y xs → Among y (xs ++ ys)
 among_left y [] ys a = absurd a
 among_left y (x ∷ xs) ys (inl e) = inl e
 among_left y (x ∷ xs) ys (inr a) = inr (among_left y xs ys a)
 
+-- what is among some faults is among others with them behind
 pub among_right : (y : Fault Kind) (xs ys : Found) → Among y ys → Among y (xs ++ ys)
 among_right y [] ys a = a
 among_right y (x ∷ xs) ys a = inr (among_right y xs ys a)

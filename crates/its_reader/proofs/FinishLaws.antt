@@ -129,6 +129,7 @@ module _ (start : Name) (at : ℕ) (rules : List WrittenRule) (d : Draft) (k : K
       rule_is : first ≡ limited_rule (rule_numbered (symbols_of rules) r)
       rule_is = ap (or_else_this first) e
 
+  -- where a rule leaves the start symbol, the program made of the first such rule is what was written
   pub makes_found : (first : plain.Rule) (q : code.Program) → find (leaves (names_in d.symbols.names) start) (map rule_of d.rules.items) ≡ Some first
       → map symbol_of q.symbols.items ≡ tabled (names_in d.symbols.names) d.symbols.arities.items → q.start ≡ first.source → map name_of q.start_names.items ≡ take first.left first.names → map rule_of q.rules.items ≡ map rule_of d.rules.items
       → Says (program_or at (limited_program (program_from start rules (first_leaving start rules)))) (Ok q)
@@ -136,6 +137,7 @@ module _ (start : Name) (at : ℕ) (rules : List WrittenRule) (d : Draft) (k : K
       subst (λ o. Says (program_or at o) (Ok q))
       (sym (made first (program_of q) symbols number names same (first_leaving start rules) (subst (FoundAs start (symbols_of rules) (first_leaving start rules)) e found_here))) refl
 
+  -- where no rule leaves the start symbol, it is refused as unknown
   pub makes_none : (e : ReadError) → find (leaves (names_in d.symbols.names) start) (map rule_of d.rules.items) ≡ None → fault_in e ≡ Some (record { kind = StartUnknown; at = at })
       → Says (program_or at (limited_program (program_from start rules (first_leaving start rules)))) (Err e)
   makes_none e none h = go (first_leaving start rules) (subst (FoundAs start (symbols_of rules) (first_leaving start rules)) none found_here)
@@ -178,6 +180,7 @@ no_rules n ts ss (Some start) None e = refl
 no_rules n ts ss (Some start) (Some rules) e = cc
 
 module _ (d : Draft) (n : ℕ) where
+  -- a text without a start symbol is refused at its end for a missing section
   pub finishes_unstarted : (e : ReadError) → started_of d.sections.start ≡ None → fault_in e ≡ Some (record { kind = MissingSection; at = n }) → Finishes d n (Err e)
   finishes_unstarted e none h = record {
     each = λ bytes ss l k v.
@@ -185,6 +188,7 @@ module _ (d : Draft) (n : ℕ) where
         (refusal_said (record { kind = MissingSection; at = length bytes }) e (h ∙ ap (λ i. Some (record { kind = MissingSection; at = i })) l));
   }
 
+  -- so is a text without rules
   pub finishes_ruleless : (e : ReadError) → d.sections.rules ≡ false → fault_in e ≡ Some (record { kind = MissingSection; at = n }) → Finishes d n (Err e)
   finishes_ruleless e none h = record {
     each = λ bytes ss l k v.
@@ -192,6 +196,7 @@ module _ (d : Draft) (n : ℕ) where
         (refusal_said (record { kind = MissingSection; at = length bytes }) e (h ∙ ap (λ i. Some (record { kind = MissingSection; at = i })) l));
   }
 
+  -- a text with a start symbol and rules comes to what is made of these
   pub finishes_made : (start : Name) (at : ℕ) (result : Result code.Program ReadError) → started_of d.sections.start ≡ Some (record { name = start; at = at }) → d.sections.rules ≡ true → Makes start at d result → Finishes d n result
   finishes_made start at result started_here there m = record { each = λ bytes ss l k v. of_rules bytes ss k v (rules_of ss) refl (rules_there ss ∙ (sym k.sections.rules ∙ there)) k.last }
     where

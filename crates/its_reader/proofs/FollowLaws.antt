@@ -46,6 +46,7 @@ final_split x t false true true a b c e = inr ((grind (arith, nat_tests)), (grin
 final_split x t false true false a b c e = cc
 final_split x t false false u a b c e = cc
 
+-- a refusal that passes the test is final behind the token
 pub final_is : (x : Fault Kind) (t : Token Piece) → is_final x t ≡ true → IsFinal (least_of t.piece) t x
 final_is x t e = final_split x t (nat_lt x.at (t.upto - 1)) (x.at == t.upto - 1) (nat_le (kind_number x.kind) (least_of t.piece)) refl refl refl e
 
@@ -56,6 +57,7 @@ unfinal_split x t false w u a b c e (inl h) = absurd (grind (arith, nat_tests))
 unfinal_split x t false false u a b c e (inr h) = let p = h.0 in absurd (grind (arith, nat_tests))
 unfinal_split x t false true false a b c e (inr h) = let p = h.1 in absurd (grind (arith, nat_tests))
 
+-- a refusal that fails the test isn't final behind the token
 pub unfinal_is : (x : Fault Kind) (t : Token Piece) → is_final x t ≡ false → IsFinal (least_of t.piece) t x → ⊥
 unfinal_is x t e = unfinal_split x t (nat_lt x.at (t.upto - 1)) (x.at == t.upto - 1) (nat_le (kind_number x.kind) (least_of t.piece)) refl refl refl e
 
@@ -142,6 +144,7 @@ module _ (bytes : List ℕ) (place : Place) (last : ℕ) (best first : Option (F
       (subst (λ o. Among (record { kind = LeftRepeated; at = t.at }) (left_of t.at o (Some t.piece) (next_piece rest))) (sym w)
       (subst (λ (p : Piece). Among (record { kind = LeftRepeated; at = t.at }) (left_of t.at (Some arguments) (Some p) (next_piece rest))) (sym p) (repeated_shown arguments name (next_piece rest) e)))
 
+  -- where the refusal so far isn't final, the next token names no left argument again
   pub allowed : (IsFinalIn (least_of t.piece) t first → ⊥) → AllowsName (left_wanted r.front) (tests.word t.piece)
   allowed never = go (left_wanted r.front) refl t.piece refl
     where

@@ -178,6 +178,7 @@ module _ (before names : List Name) (r : GuardReader) where
       ap is_going (at.joins (inner.Digits ds) refl)
       ∙ sym (ap (λ place. not (is_read place) && goes_on_from (front_of r.expression).outer (front_of r.expression).operand (inner.Digits ds)) at.place_is)
 
+  -- a literal that is too large leads on in the code exactly where it does in the guard
   pub digits_together : (fence : Fence) (h : Headed) (g : GuardFront) (p : inner.Piece) (result : Option Place) → is_modest p ≡ false → IsSettled (Some p) before g names r → result ≡ guarding_if (goes_on_in r p) fence
       → GoTogether (mapped (guards.step g p) fence h) result
   digits_together fence h g (inner.Digits ds) result m s e = go (guards.step g (inner.Digits ds)) (goes_on_in r (inner.Digits ds)) (digits_go g ds s) e
@@ -200,6 +201,7 @@ modest_is (inner.Digits ds) m =
     (b.0, at_most coefficient_limit (number_of ds) b.1)
 modest_is _ m = tt
 
+-- a piece that is modest passes the test for it
 pub is_modest_is : (p : inner.Piece) → IsModest p → is_modest p ≡ true
 is_modest_is (inner.Digits ds) m = rw (m.0, not_below coefficient_limit (number_of ds) m.1) refl
 is_modest_is _ m = refl
@@ -251,6 +253,7 @@ module _ (ts : Tokens) (h : Headed) (fence : Fence) (behind : Option Piece) (res
   atom_each g p a k fresh s still modest =
       rw a.takes.by (subst (λ o. LeadsTo ts behind o None new) (sym (none_behind (headed_names h) (names_in old.rule.variables) old.rule.guard fence h g p refl s (unread (is_read old.rule.guard.place) still))) tt)
 
+  -- a piece within an atom, or one that joins behind it, leads on where it does in what is written
   pub atom_together : (g : GuardFront) (p : Piece) → AtomTakes fence old p behind result new → KnowsHeaded ts h old → IsFresh old.rule.expression
       → IsSettled (tests.inner_in p) (headed_names h) g (names_in old.rule.variables) old.rule.guard → not (is_read old.rule.guard.place) || tests.joins p ≡ true
       → GoTogether (step (guarded fence h g) p) result
@@ -269,6 +272,7 @@ word_step h name (In inner.Open) e = cc
 word_step h name (In _) e = refl
 word_step h name _ e = refl
 
+-- a front that stands for a guard leads where the guard behind its fence does
 pub front_step : (fence : Fence) (h : Headed) (g : GuardFront) (f : Front) (p : Piece) → IsGuard (Some p) fence h g f → step f p ≡ step (guarded fence h g) p
 front_step fences.Square h g f p e = ap (λ f. step f p) e
 front_step fences.Mark h g f p (inl e) = ap (λ f. step f p) e
@@ -282,11 +286,14 @@ pub modest_taken : {fence : Fence} {old new : RuleDraft} {p : inner.Piece} {behi
     → standing.Takes (names_in old.variables) old.guard p behind taken (names_in new.variables) new.guard → TakesPiece fence old p behind result new
 modest_taken {fence} {old} {new} {p} {behind} {result} taken m e t = record { by = subst (λ v. TakesInner v fence old p behind result new) (sym m) (taken, (e, t)) }
 
+-- a piece that is told to be there is taken as it is
 pub some_taken : {fence : Fence} {old new : RuleDraft} {p : inner.Piece} {behind : Option inner.Piece} {result : Option Place} (o : Option inner.Piece) → o ≡ Some p → TakesPiece fence old p behind result new → TakesMaybe fence old o behind result new
 some_taken {fence} {old} {new} {p} {behind} {result} o e t = record { by = subst (λ o. TakesAtom fence old o behind result new) (sym e) t.by }
 
+-- where no piece is told to be there, nothing leads on
 pub none_taken : {fence : Fence} {old new : RuleDraft} {behind : Option inner.Piece} (o : Option inner.Piece) → o ≡ None → TakesMaybe fence old o behind None new
 none_taken {fence} {old} {new} {behind} o e = record { by = subst (λ o. TakesAtom fence old o behind None new) (sym e) refl }
 
+-- the piece that is taken and the one behind it may be told by equations
 pub taken_alike : {fence : Fence} {old new : RuleDraft} {o p a b : Option inner.Piece} {result : Option Place} → o ≡ p → a ≡ b → TakesMaybe fence old o a result new → TakesMaybe fence old p b result new
 taken_alike {fence} {old} {new} {o} {p} {a} {b} {result} e f t = subst (λ p. TakesMaybe fence old p b result new) e (subst (λ b. TakesMaybe fence old o b result new) f t)

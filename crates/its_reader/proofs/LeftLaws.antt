@@ -40,6 +40,7 @@ leads_together ts next (Some g) None d h = h
 leads_together ts next (Some g) (Some place) d h = tt
 
 module _ (ts : Tokens) (next : Option Piece) where
+  -- behind the source of a rule only an opening bracket leads on
   pub source_leads : (p : Piece) (f : Front) (d : Draft) → InLeft ts (Some p) lefts.SourceNamed d f → LeadsTo ts next (step f p) (if tests.opens p then Some (places.InLeft lefts.LeftOpened) else None) d
   source_leads p f d k = either k.1.1.0
     where
@@ -57,6 +58,7 @@ module _ (ts : Tokens) (next : Option Piece) where
           let same : p ≡ open_bracket = cc in
           subst (λ (q : Piece). LeadsTo ts next (step f q) (if tests.opens q then Some (places.InLeft lefts.LeftOpened) else None) d) (sym same) (rw e (mark h r))
 
+  -- behind a left term only the arrow leads on
   pub shut_leads : (p : Piece) (f : Front) (d : Draft) → InLeft ts (Some p) lefts.LeftShut d f → LeadsTo ts next (step f p) (if tests.leads p then Some (places.InRight rights.Arrowed) else None) d
   shut_leads p f d k = rw k.1.0 (go p)
     where
@@ -65,6 +67,7 @@ module _ (ts : Tokens) (next : Option Piece) where
       go (In _) = tt
       go _ = tt
 
+  -- behind a left argument only a comma leads on, but for the bracket that closes
   pub parted_leads : (p : Piece) (f : Front) (d : Draft) → InLeft ts (Some p) lefts.LeftRead d f → tests.closes p ≡ false → LeadsTo ts next (step f p) (if tests.parts p then Some (places.InLeft lefts.LeftParted) else None) d
   parted_leads p f d k h = rw k.1.1.1.1.0 (go p h)
     where
@@ -89,6 +92,7 @@ module _ (ts : Tokens) (next : Option Piece) where
     guard = subst (λ g. (before : List Name) → IsWanting before no_atoms before g) (sym s.guard) k.guard;
   }
 
+  -- behind the opening bracket a new name leads on as the first left argument
   pub opened_named : (p : Piece) (f : Front) (old new : Draft) (a : Name) → InLeft ts (Some p) lefts.LeftOpened old f → tests.word p ≡ Some a → StaysAround old new → names_in new.rule.variables ≡ with_name (names_in old.rule.variables) a
       → is_among a (names_in old.rule.variables) ≡ false → LeadsTo ts next (step f p) (Some (places.InLeft lefts.LeftRead)) new
   opened_named p f old new a k h s n fresh = rw k.1.1.0 (go p h)
@@ -98,6 +102,7 @@ module _ (ts : Tokens) (next : Option Piece) where
       go (In _) h = cc
       go _ h = cc
 
+  -- behind a comma a new name leads on as the next left argument
   pub parted_named : (p : Piece) (f : Front) (old new : Draft) (a : Name) → InLeft ts (Some p) lefts.LeftParted old f → tests.word p ≡ Some a → StaysAround old new → names_in new.rule.variables ≡ with_name (names_in old.rule.variables) a
       → is_among a (names_in old.rule.variables) ≡ false → LeadsTo ts next (step f p) (Some (places.InLeft lefts.LeftRead)) new
   parted_named p f old new a k h s n fresh = rw k.1.1.1.1.0 (go p h)
@@ -107,6 +112,7 @@ module _ (ts : Tokens) (next : Option Piece) where
       go (In _) h = cc
       go _ h = cc
 
+  -- behind a comma nothing but a name leads on
   pub parted_stops : (p : Piece) (f : Front) (d : Draft) → InLeft ts (Some p) lefts.LeftParted d f → tests.word p ≡ None → LeadsTo ts next (step f p) None d
   parted_stops p f d k h = rw k.1.1.1.1.0 (go p h)
     where
@@ -115,6 +121,7 @@ module _ (ts : Tokens) (next : Option Piece) where
       go (In _) h = tt
       go _ h = tt
 
+  -- behind the opening bracket nothing but a name and a closing bracket leads on
   pub opened_stops : (p : Piece) (f : Front) (d : Draft) → InLeft ts (Some p) lefts.LeftOpened d f → tests.closes p ≡ false → tests.word p ≡ None → LeadsTo ts next (step f p) None d
   opened_stops p f d k c h = rw k.1.1.0 (go p c h)
     where
@@ -167,6 +174,7 @@ module _ (ts : Tokens) (next : Option Piece) where
       let left = left_known r name arguments old new k h in
       (record { ruling = r; left = record { name = name; arguments = arguments } }, (refl, (left, left_differs r name arguments old new k h left)))
 
+  -- a closing bracket right behind the opening one ends a left term without arguments
   pub opened_ends : (p : Piece) (f : Front) (old new : Draft) → InLeft ts (Some p) lefts.LeftOpened old f → tests.closes p ≡ true → AfterLeft old new → LeadsTo ts next (step f p) (Some (places.InLeft lefts.LeftShut)) new
   opened_ends p f old new k c h = rw k.1.1.0 (go p c)
     where
@@ -175,6 +183,7 @@ module _ (ts : Tokens) (next : Option Piece) where
       go (In _) c = cc
       go _ c = cc
 
+  -- a closing bracket behind a left argument ends the left term
   pub read_ends : (p : Piece) (f : Front) (old new : Draft) → InLeft ts (Some p) lefts.LeftRead old f → tests.closes p ≡ true → AfterLeft old new → LeadsTo ts next (step f p) (Some (places.InLeft lefts.LeftShut)) new
   read_ends p f old new k c h = rw k.1.1.1.1.0 (go p c)
     where
@@ -232,6 +241,7 @@ module _ (ts : Tokens) (next : Option Piece) where
       go (In _) c = cc
       go _ c = cc
 
+  -- between rules nothing but a name and a closing bracket leads on
   pub ruled_stops : (p : Piece) (r : Ruling) (d : Draft) → tests.word p ≡ None → tests.closes p ≡ false → LeadsTo ts next (step (fronts.Ruled r) p) None d
   ruled_stops (In (inner.Word n)) r d w c = cc
   ruled_stops (In inner.Close) r d w c = cc
@@ -269,6 +279,7 @@ opened_promise p old new result c h = go (tests.word p) refl h
       each = λ ts next f k fresh. opened_named ts next p f old new a k e h.1.0 h.1.1 (subst (IsNew (names_in old.rule.variables)) e fresh);
     })
 
+-- behind a comma between left arguments the code leads where what is written does
 pub parted_promise : (p : Piece) (old new : Draft) (result : Option Place) → Named (tests.word p) result old new → LeftLeads lefts.LeftParted old p result new
 parted_promise p old new result h = go (tests.word p) refl h
   where
@@ -289,17 +300,22 @@ always place p old new result h = record {
   each = λ ts next f k fresh. h ts next f k;
 }
 
+-- so it does behind a left argument where no bracket closes
 pub read_promise : (p : Piece) (old : Draft) (result : Option Place) (v : Bool) → tests.closes p ≡ false → v ≡ tests.parts p → result ≡ (if v then Some (places.InLeft lefts.LeftParted) else None) → LeftLeads lefts.LeftRead old p result old
 read_promise p old result v c e h = always lefts.LeftRead p old old result (λ ts next f k. rw (h, e) (parted_leads ts next p f old k c))
 
+-- so it does behind the source of a rule
 pub source_promise : (p : Piece) (old : Draft) (result : Option Place) (v : Bool) → v ≡ tests.opens p → result ≡ (if v then Some (places.InLeft lefts.LeftOpened) else None) → LeftLeads lefts.SourceNamed old p result old
 source_promise p old result v e h = always lefts.SourceNamed p old old result (λ ts next f k. rw (h, e) (source_leads ts next p f old k))
 
+-- so it does behind a left term
 pub shut_promise : (p : Piece) (old : Draft) (result : Option Place) → result ≡ (if tests.leads p then Some (places.InRight rights.Arrowed) else None) → LeftLeads lefts.LeftShut old p result old
 shut_promise p old result h = always lefts.LeftShut p old old result (λ ts next f k. rw h (shut_leads ts next p f old k))
 
+-- and so it does between rules
 pub ruled_promise : (p : Piece) (old new : Draft) (result : Option Place) → RuleLeads old p result new → LeftLeads lefts.Ruled old p result new
 ruled_promise p old new result h = always lefts.Ruled p old new result (λ ts next f k. rw k.1.0 (h.each ts next k.0 k.1.1.0 k.1.1.1))
 
+-- the place up to the end of a left term may be told by an equation
 pub in_left_place : (place known : LeftPlace) (old new : Draft) (p : Piece) (result : Option Place) → place ≡ known → LeftLeads known old p result new → LeftLeads place old p result new
 in_left_place place known old new p result e h = subst (λ (q : LeftPlace). LeftLeads q old p result new) (sym e) h

@@ -28,6 +28,7 @@ pub length-push : {X : Type 0} (xs : List X) (x : X) → length (xs ++ x ∷ [])
 length-push [] x = refl
 length-push (y ∷ xs) x = ap suc (length-push xs x)
 
+-- what is made of a list, element by element, has as many elements
 pub length-terms : {X Y : Type 0} (f : X → Y) (xs : List X) → length (map f xs) ≡ length xs
 length-terms f [] = refl
 length-terms f (x ∷ xs) = ap suc (length-terms f xs)
@@ -36,6 +37,7 @@ rules_counted : (rules : List WrittenRule) → length (rules_so_far rules) ≡ l
 rules_counted [] = refl
 rules_counted (r ∷ earlier) = length-push (rules_so_far earlier) _ ∙ ap suc (rules_counted earlier)
 
+-- the code has as many rules as have been written so far
 pub as_many_rules : (rules : List WrittenRule) (d : Draft) → map rule_of d.rules.items ≡ rules_so_far rules → length d.rules.items ≡ length rules
 as_many_rules rules d e = sym (length-terms rule_of d.rules.items) ∙ (ap length e ∙ rules_counted rules)
 
@@ -76,6 +78,7 @@ module _ (ts : Tokens) (at : ℕ) (next behind : Option Piece) (d : Draft) (f : 
       → left_of at (Some arguments) next behind ++ fault_if (long_name next) (Limit LongName) at ≡ argument_found d.rule at (tests.word_of next) behind ++ fault_if (long_name next) (Limit LongName) at
   wanted_shows arguments e = ap (λ xs. xs ++ fault_if (long_name next) (Limit LongName) at) (argument_is at arguments d.rule next behind e)
 
+  -- what a front of a left term shows at the next token is what the code finds there
   pub left_next : (place : LeftPlace) → InLeft ts next place d f → shown_next at f next behind ≡ left_found place d at next behind
   left_next lefts.Ruled k = rw k.1.0 (simp append-nil
       (ap (λ n. fault_if (is_word next && nat_le rule_limit n) (Limit TooManyRules) at ++ fault_if (long_name next) (Limit LongName) at) (sym (as_many_rules k.0.rules d k.1.1.0.rules.rules_are))))

@@ -57,6 +57,7 @@ rules_same : (p : Program) (rs : List plain.Rule) → AllByRecursion (IsValidRul
 rules_same p [] h = refl
 rules_same p (r ∷ rs) h = λ i. rule_same p r h.0 i ∷ rules_same p rs h.1 i
 
+-- with its exponents limited a valid program is itself
 pub valid_limited : (p : Program) → IsValid p → limited_program (Some p) ≡ Some p
 valid_limited p v = λ i. Some (record p { rules = rules_same p p.rules v.rules i })
 
@@ -64,6 +65,7 @@ valid_limited p v = λ i. Some (record p { rules = rules_same p p.rules v.rules 
 pub stands_valid : (bytes : List ℕ) (p : Program) → verdict bytes ≡ Stands p → IsValid p
 stands_valid bytes p h = spelled_valid bytes p (verdict_spells bytes p h)
 
+-- with its exponents limited a program that a text stands for is itself
 pub program_limited : (bytes : List ℕ) (p : Program) → verdict bytes ≡ Stands p → limited_program (Some p) ≡ Some p
 program_limited bytes p h = valid_limited p (stands_valid bytes p h)
 

@@ -14,6 +14,7 @@ key_found [] n k e = cc
 key_found (x ∷ keys) zero k e = let same : x ≡ k = cc in ap (λ (x : Bor (List ℕ)). Some x.now) same
 key_found (x ∷ keys) (suc n) k e = key_found keys n k e
 
+-- where no name is at a place, none is there as plain data
 pub key_missing : (keys : List (Bor (List ℕ))) (n : ℕ) → slice_get keys n ≡ None → slice_get (map (λ k. k.now) keys) n ≡ None
 key_missing [] n e = refl
 key_missing (x ∷ keys) zero e = cc
@@ -26,12 +27,14 @@ tabled_at (m ∷ names) [] n name e = refl
 tabled_at (m ∷ names) (a ∷ arities) zero name e = let same : name ≡ m = cc in ap (λ (m : Name). Some (record { name = m; arity = a })) same
 tabled_at (m ∷ names) (a ∷ arities) (suc n) name e = tabled_at names arities n name e
 
+-- where the names have ended, so has the table
 pub tabled_none : (names : List Name) (arities : List ℕ) (n : ℕ) → slice_get names n ≡ None → None ≡ slice_get (tabled names arities) n
 tabled_none [] arities n e = refl
 tabled_none (m ∷ names) [] n e = refl
 tabled_none (m ∷ names) (a ∷ arities) zero e = cc
 tabled_none (m ∷ names) (a ∷ arities) (suc n) e = tabled_none names arities n e
 
+-- the first of what is made of a list are made of its first elements
 pub map-take : {X Y : Type 0} (f : X → Y) (n : ℕ) (xs : List X) → map f (take n xs) ≡ take n (map f xs)
 map-take f zero xs = refl
 map-take f (suc n) [] = refl
@@ -43,14 +46,17 @@ map-self (x ∷ xs) = ap (λ ys. x ∷ ys) (map-self xs)
 
 -- symbols are made from a table, one by one
 module _ (table : List Symbol) (done : List code.Symbol) where
+  -- with the symbol of the next entry one more has been made of the table
   pub made_more : (z : code.Symbol) (k : Symbol) → map symbol_of done ++ drop (length done) table ≡ table → slice_get table (length done) ≡ Some k → symbol_of z ≡ k
       → map symbol_of (done ++ z ∷ []) ++ drop (length (done ++ z ∷ [])) table ≡ table
   made_more z k h found same =
       subst (λ l. map symbol_of (done ++ z ∷ []) ++ drop (length (done ++ z ∷ [])) l ≡ l) (map-self table)
       (made_further (λ s. s) symbol_of table done z k (subst (λ l. map symbol_of done ++ drop (length done) l ≡ l) (sym (map-self table)) h) found same)
 
+  -- where the table has no further entry, all its symbols have been made
   pub made_all : map symbol_of done ++ drop (length done) table ≡ table → slice_get table (length done) ≡ None → map symbol_of done ≡ table
   made_all h ended = made_whole (λ s. s) symbol_of table done (subst (λ l. map symbol_of done ++ drop (length done) l ≡ l) (sym (map-self table)) h) ended ∙ map-self table
 
+  -- with one symbol more, less of the table is left to be made
   pub made_less : (new : List code.Symbol) (z : code.Symbol) (k : Symbol) → slice_get table (length done) ≡ Some k → new ≡ done ++ z ∷ [] → length table - length new < length table - length done
   made_less new z k found e = made_smaller (λ s. s) symbol_of table done new z k table (map-self table) found e

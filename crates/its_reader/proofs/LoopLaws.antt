@@ -48,6 +48,7 @@ pub turned_on : {bytes : List ℕ} {place : Place} {last : ℕ} {best : Option (
     → Turns place last best old t behind (turn_of turn) new → next_piece rest ≡ behind → IsReading bytes place last best old (t ∷ rest) → IsReading bytes s.place s.last (maybe_fault s.best) new rest
 turned_on {bytes} {place} {last} {best} {old} {new} {t} {behind} {rest} turn s e h n r = subst (λ turn. TurnsTo bytes rest (turn_of turn) new) e (h.each bytes rest n r)
 
+-- where a token decides, the refusal that it ends with is the answer to the text
 pub turned_over : {bytes : List ℕ} {place : Place} {last : ℕ} {best : Option (Fault Kind)} {old new : Draft} {t : Token Piece} {behind : Option Piece} {rest : Tokens} (turn : Turn) (x : found.Fault) (error : ReadError) → turn ≡ turns.Over x
     → fault_in error ≡ Some (fault_of x) → Turns place last best old t behind (turn_of turn) new → next_piece rest ≡ behind → IsReading bytes place last best old (t ∷ rest) → Says (verdict bytes) (Err error)
 turned_over {bytes} {place} {last} {best} {old} {new} {t} {behind} {rest} turn x error e f h n r =

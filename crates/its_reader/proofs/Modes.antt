@@ -5,6 +5,7 @@ use Rattle.its_text.specs.Pieces.{Piece, In}
 use Rattle.its_text.specs.Lexing.{Mode, Outside, AtKeyword, Within, mode_behind, behind_keyword}
 use Rattle.its_reader.specs.Tests as tests
 
+-- outside sections an opening bracket leads to the keyword, and nothing else changes the mode
 pub outside_behind : (p : Piece) → mode_behind Outside (Some p) ≡ (if tests.opens p then AtKeyword else Outside)
 outside_behind (In inner.Open) = refl
 outside_behind (In _) = refl
@@ -17,6 +18,7 @@ abbrev pub keyword_or : Piece → Option (List ℕ) → Mode
 keyword_or p (Some w) = behind_keyword w
 keyword_or p None = beside p
 
+-- at the keyword a word tells the mode, and other pieces lead on by whether they open or close
 pub bracket_behind : (p : Piece) → mode_behind AtKeyword (Some p) ≡ keyword_or p (tests.word p)
 bracket_behind (In (inner.Word w)) = refl
 bracket_behind (In inner.Open) = refl
@@ -28,6 +30,7 @@ abbrev pub less : ℕ → Mode
 less zero = Outside
 less (suc d) = Within d
 
+-- within a section the mode counts the brackets that are open, and ends where the last is closed
 pub within_behind : (d : ℕ) (p : Piece) → mode_behind (Within d) (Some p) ≡ (if tests.opens p then Within (suc d) else if tests.closes p then less d else Within d)
 within_behind d (In inner.Open) = refl
 within_behind zero (In inner.Close) = refl

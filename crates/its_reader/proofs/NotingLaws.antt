@@ -22,6 +22,7 @@ use Rattle.its_reader.specs.declared.draft.Start as code
 use Rattle.its_reader.specs.declared.place.SectionPlace.{SectionPlace}
 use Rattle.its_reader.specs.declared.place.SectionPlace.TheVariants as sections
 
+-- faults that are noted one list after the other are noted together
 pub both_noted : (best : Option (Fault Kind)) (xs ys : Found) → first_among programs best (xs ++ ys) ≡ first_among programs (first_among programs best xs) ys
 both_noted best [] ys = refl
 both_noted best (x ∷ xs) ys = both_noted (Some (first_of programs best x)) xs ys
@@ -41,9 +42,11 @@ pub four_noted : (best one two three four : Option (Fault Kind)) (xs ys zs ws : 
     → four ≡ first_among programs best (xs ++ ys ++ zs ++ ws)
 four_noted best one two three four xs ys zs ws a b c d = one_more best three four (xs ++ ys ++ zs) ws (three_noted best one two three xs ys zs a b c) d
 
+-- a list that is noted behind four others is noted together with them
 pub one_more_behind : (best one two : Option (Fault Kind)) (xs ys zs ws vs : Found) → one ≡ first_among programs best (xs ++ ys ++ zs ++ ws) → two ≡ first_among programs one vs → two ≡ first_among programs best (xs ++ ys ++ zs ++ ws ++ vs)
 one_more_behind best one two xs ys zs ws vs a b = one_more best one two (xs ++ ys ++ zs ++ ws) vs a b
 
+-- whether a name is too long is tested as in what is written
 pub long_is : (o : Option Piece) → long_name o ≡ is_long (tests.word_of o)
 long_is None = refl
 long_is (Some (In (inner.Word name))) = refl
@@ -82,6 +85,7 @@ module _ (ts : Tokens) (at : ℕ) (next behind : Option Piece) where
   between_shows : (ss : List Section) (s : Sections) → KnowsSections ts ss s → shown_next at (fronts.Between ss) next behind ≡ fault_if (repeats_in sections.Between s next behind) RepeatedSection at ++ fault_if (long_name next) (Limit LongName) at
   between_shows ss s k = simp append-nil (ap (λ v. fault_if v RepeatedSection at ++ fault_if (long_name next) (Limit LongName) at) (repeats_is ts ss s k next behind))
 
+  -- at the next token a front outside rules shows a repeated section and a name that is too long
   pub section_shows : (place : SectionPlace) (d : Draft) (f : Front) → InSections ts place d f → shown_next at f next behind ≡ fault_if (repeats_in place d.sections next behind) RepeatedSection at ++ fault_if (long_name next) (Limit LongName) at
   section_shows sections.Between d f k = rw k.1.0 (between_shows k.0 d.sections k.1.1.sections)
   section_shows sections.Opened d f k = rw k.1.0 (simp append-nil)

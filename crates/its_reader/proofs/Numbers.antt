@@ -16,6 +16,7 @@ use Rattle.its_reader.proofs.SymbolTables.{names_with}
 abbrev pub GoesOn : List Name → List Name → Type 0
 GoesOn names more = (new : List Name) × (more ≡ names ++ new)
 
+-- what is made of a list with one more element behind it is what is made of both, one behind the other
 pub map-push : {X Y : Type 0} (f : X → Y) (xs : List X) (x : X) → map f (xs ++ x ∷ []) ≡ map f xs ++ f x ∷ []
 map-push f [] x = refl
 map-push f (y ∷ xs) x = ap (λ ys. f y ∷ ys) (map-push f xs x)
@@ -32,6 +33,7 @@ updates_stay names (s ∷ earlier) all h =
 pub symbol_goes_on : (symbols : List Symbol) (name : Name) (arity : ℕ) → GoesOn (names_of symbols) (names_of (with_symbol symbols name arity))
 symbol_goes_on symbols name arity = let e = name_extends (names_of symbols) name in (e.0, sym (names_with symbols name arity) ∙ e.1)
 
+-- the name of a symbol is among those of all symbols once it is read
 pub symbol_among : (symbols : List Symbol) (name : Name) (arity : ℕ) → is_among name (names_of (with_symbol symbols name arity)) ≡ true
 symbol_among symbols name arity = ap (is_among name) (sym (names_with symbols name arity)) ∙ among_with name (names_of symbols)
 
@@ -39,6 +41,7 @@ symbol_among symbols name arity = ap (is_among name) (sym (names_with symbols na
 number_stays_on : (name : Name) (names all : List Name) → is_among name names ≡ true → GoesOn names all → position_of name all ≡ position_of name names
 number_stays_on name names all h g = ap (position_of name) g.1 ∙ position_stays name names g.0 h
 
+-- a name that is among names is among any that go on with them
 pub among_stays_on : (name : Name) (names all : List Name) → is_among name names ≡ true → GoesOn names all → is_among name all ≡ true
 among_stays_on name names all h g = ap (is_among name) g.1 ∙ among_more name names g.0 h
 

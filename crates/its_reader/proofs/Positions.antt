@@ -5,6 +5,7 @@ use Rattle.std.proofs.lemmas.Bool.Decides.{nat_tests}
 use Rattle.model.specs.Programs.{Name}
 use Rattle.text_core.specs.Names.{is_same, is_among, position_of}
 
+-- the position of a name is below the number of names exactly where it is among them
 pub below_is : (n : Name) (names : List Name) → nat_lt (position_of n names) (length names) ≡ is_among n names
 below_is n [] = refl
 below_is n (m ∷ names) = go (is_same n m) refl (below_is n names)

@@ -48,6 +48,7 @@ use Rattle.its_reader.specs.declared.place.Place.{Place}
 use Rattle.its_reader.specs.declared.place.Place.TheVariants as places
 
 module _ (ts : Tokens) (next : Option Piece) where
+  -- behind `Com_1` only an opening bracket leads on
   pub com_named_leads : (p : Piece) (f : Front) (d : Draft) → InRight ts (Some p) rights.ComNamed d f → LeadsTo ts next (step f p) (if tests.opens p then Some (places.InRight rights.ComOpened) else None) d
   com_named_leads p f d k = rw k.1.0 (go p)
     where
@@ -56,6 +57,7 @@ module _ (ts : Tokens) (next : Option Piece) where
       go (In _) = tt
       go _ = tt
 
+  -- behind the target's name only an opening bracket leads on
   pub target_named_leads : (w : Wrap) (p : Piece) (f : Front) (d : Draft) → InRight ts (Some p) (rights.TargetNamed w) d f → LeadsTo ts next (step f p) (if tests.opens p then Some (places.InRight (rights.RightOpened w)) else None) d
   target_named_leads w p f d k = rw k.1.0 (go p)
     where
@@ -64,6 +66,7 @@ module _ (ts : Tokens) (next : Option Piece) where
       go (In _) = tt
       go _ = tt
 
+  -- behind the arrow `Com_1` leads on to its bracket
   pub com_leads : (p : Piece) (f : Front) (d : Draft) → InRight ts (Some p) rights.Arrowed d f → tests.says (codes "Com_1") p ≡ true → LeadsTo ts next (step f p) (Some (places.InRight rights.ComNamed)) d
   com_leads p f d k h = rw k.1.0 (go p h)
     where
@@ -95,6 +98,7 @@ module _ (ts : Tokens) (next : Option Piece) where
     expression = subst (λ e. IsFresh e) (sym s.expression) k.expression;
   }
 
+  -- behind the arrow any other name leads on as that of the target
   pub bare_leads : (p : Piece) (f : Front) (old new : Draft) (name : Name) → InRight ts (Some p) rights.Arrowed old f → tests.says (codes "Com_1") p ≡ false → tests.word p ≡ Some name → StaysBut old new → new.rule.name.now ≡ name
       → LeadsTo ts next (step f p) (Some (places.InRight (rights.TargetNamed wraps.Alone))) new
   bare_leads p f old new name k h w s n = rw k.1.0 (go p h w)
@@ -104,6 +108,7 @@ module _ (ts : Tokens) (next : Option Piece) where
       go (In _) h w = cc
       go _ h w = cc
 
+  -- behind the arrow nothing but a name leads on
   pub arrowed_stops : (p : Piece) (f : Front) (d : Draft) → InRight ts (Some p) rights.Arrowed d f → tests.word p ≡ None → LeadsTo ts next (step f p) None d
   arrowed_stops p f d k w = rw k.1.0 (go p w)
     where
@@ -112,6 +117,7 @@ module _ (ts : Tokens) (next : Option Piece) where
       go (In _) w = tt
       go _ w = tt
 
+  -- within `Com_1` a name leads on as that of the target
   pub within_leads : (p : Piece) (f : Front) (old new : Draft) (name : Name) → InRight ts (Some p) rights.ComOpened old f → tests.word p ≡ Some name → StaysBut old new → new.rule.name.now ≡ name
       → LeadsTo ts next (step f p) (Some (places.InRight (rights.TargetNamed wraps.InCom))) new
   within_leads p f old new name k w s n = rw k.1.0 (go p w)
@@ -121,6 +127,7 @@ module _ (ts : Tokens) (next : Option Piece) where
       go (In _) w = cc
       go _ w = cc
 
+  -- within `Com_1` nothing but a name leads on
   pub within_stops : (p : Piece) (f : Front) (d : Draft) → InRight ts (Some p) rights.ComOpened d f → tests.word p ≡ None → LeadsTo ts next (step f p) None d
   within_stops p f d k w = rw k.1.0 (go p w)
     where
@@ -166,10 +173,12 @@ length-push : {X : Type 0} (xs : List X) (x : X) → length (xs ++ x ∷ []) ≡
 length-push [] x = refl
 length-push (y ∷ xs) x = ap suc (length-push xs x)
 
+-- there are as many updates as right arguments
 pub updates_count : (names : List Name) (arguments : List Sum) → length (updates_of names arguments) ≡ length arguments
 updates_count names [] = refl
 updates_count names (s ∷ earlier) = length-push (updates_of names earlier) _ ∙ ap suc (updates_count names earlier)
 
+-- what is made of a list, element by element, has as many elements
 pub length-terms : {X Y : Type 0} (f : X → Y) (xs : List X) → length (map f xs) ≡ length xs
 length-terms f [] = refl
 length-terms f (x ∷ xs) = ap suc (length-terms f xs)
@@ -228,6 +237,7 @@ module _ (ts : Tokens) (next : Option Piece) where
       let headed = headed_known a arguments (Bare (record { name = a.name; arguments = arguments })) old new refl k names fresh h in
       rw e (record { led = a.led; target = Bare (record { name = a.name; arguments = arguments }) }, (refl, (headed, right_differs a arguments (Bare (record { name = a.name; arguments = arguments })) old new refl k h headed)))
 
+  -- a closing bracket right behind the opening one ends a right term without arguments
   pub opened_right_ends : (w : Wrap) (p : Piece) (f : Front) (old new : Draft) → RightSettled ts (Some p) (rights.RightOpened w) old f → tests.closes p ≡ true → AfterRight old new → LeadsTo ts next (step f p) (Some (behind_wrap w)) new
   opened_right_ends w p f old new k c h = rw k.1.0 (go p c)
     where
@@ -236,6 +246,7 @@ module _ (ts : Tokens) (next : Option Piece) where
       go (In _) c = cc
       go _ c = cc
 
+  -- a closing bracket behind an argument that has ended ends the right term
   pub argued_ends : (w : Wrap) (p : Piece) (f : Front) (old new : Draft) → RightSettled ts (Some p) (rights.Argued w) old f → tests.closes p ≡ true → AfterRight old new → LeadsTo ts next (step f p) (Some (behind_wrap w)) new
   argued_ends w p f old new k c h = rw k.1.1.1.1.0 (go p c k.1.1.1.1.1.ends)
     where
@@ -315,6 +326,7 @@ module _ (ts : Tokens) (next : Option Piece) where
       go (In _) c = cc
       go _ c = cc
 
+  -- behind the right term in `Com_1` nothing but the closing bracket leads on
   pub com_stops : (p : Piece) (f : Front) (d : Draft) → RightSettled ts (Some p) rights.RightShut d f → tests.closes p ≡ false → LeadsTo ts next (step f p) None d
   com_stops p f d k c = rw k.1.1.0 (go p c)
     where

@@ -82,6 +82,7 @@ module _ (ts : Tokens) (at : ℕ) (next behind : Option Piece) (d : Draft) (f : 
       go false h = refl
   ended_going e g (Some _) same ends = refl
 
+  -- what a front of a right term shows at the next token is what the code finds there
   pub right_next : (place : RightPlace) → RightSettled ts next place d f → IsDigital next → shown_next at f next behind ≡ right_found place d.rule at next behind
   right_next rights.Arrowed k digital = rw k.1.0 (simp append-nil (ap (λ v. fault_if v ManyTargets at ++ fault_if (long_name next) (Limit LongName) at) (many_is k.0 next)))
   right_next rights.ComNamed k digital = rw k.1.0 (simp append-nil)

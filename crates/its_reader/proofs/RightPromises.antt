@@ -45,18 +45,23 @@ always_right place p old new result h = record {
   each = λ ts next f k modest. h ts next f k;
 }
 
+-- the place from the arrow to the end of the target may be told by an equation
 pub in_right_place : (place known : RightPlace) (old new : Draft) (p : Piece) (result : Option Place) → place ≡ known → RightLeads known old p result new → RightLeads place old p result new
 in_right_place place known old new p result e h = subst (λ (q : RightPlace). RightLeads q old p result new) (sym e) h
 
+-- behind `Com_1` the code leads where what is written does
 pub com_named_promise : (p : Piece) (old : Draft) (result : Option Place) (v : Bool) → v ≡ tests.opens p → result ≡ (if v then Some (places.InRight rights.ComOpened) else None) → RightLeads rights.ComNamed old p result old
 com_named_promise p old result v e h = always_right rights.ComNamed p old old result (λ ts next f k. rw (h, e) (com_named_leads ts next p f old k))
 
+-- so it does behind the target's name
 pub target_named_promise : (w : Wrap) (p : Piece) (old : Draft) (result : Option Place) (v : Bool) → v ≡ tests.opens p → result ≡ (if v then Some (places.InRight (rights.RightOpened w)) else None) → RightLeads (rights.TargetNamed w) old p result old
 target_named_promise w p old result v e h = always_right (rights.TargetNamed w) p old old result (λ ts next f k. rw (h, e) (target_named_leads ts next w p f old k))
 
+-- so it does behind an argument that has ended, where no bracket closes
 pub argued_promise : (w : Wrap) (p : Piece) (old : Draft) (result : Option Place) (v : Bool) → tests.closes p ≡ false → v ≡ tests.parts p → result ≡ (if v then Some (places.InRight (rights.Arguing w)) else None) → RightLeads (rights.Argued w) old p result old
 argued_promise w p old result v c e h = always_right (rights.Argued w) p old old result (λ ts next f k. rw (h, e) (argued_parts ts next w p f old k c))
 
+-- so it does behind the arrow, at any piece but `Com_1`
 pub arrowed_promise : (p : Piece) (old new : Draft) (result : Option Place) → tests.says (codes "Com_1") p ≡ false → Targets (tests.word p) wraps.Alone result old new → RightLeads rights.Arrowed old p result new
 arrowed_promise p old new result c t = go (tests.word p) refl t
   where
@@ -64,6 +69,7 @@ arrowed_promise p old new result c t = go (tests.word p) refl t
     go None e t = rw (t.0, t.1) (always_right rights.Arrowed p old old None (λ ts next f k. arrowed_stops ts next p f old k e))
     go (Some name) e t = rw t.0 (always_right rights.Arrowed p old new _ (λ ts next f k. bare_leads ts next p f old new name k c e t.1.0 t.1.1))
 
+-- so it does within `Com_1`
 pub within_promise : (p : Piece) (old new : Draft) (result : Option Place) → Targets (tests.word p) wraps.InCom result old new → RightLeads rights.ComOpened old p result new
 within_promise p old new result t = go (tests.word p) refl t
   where
@@ -87,6 +93,7 @@ takes_written : (w : Wrap) (before : List Name) (e : expression.Front) (p : inne
     → Takes (goes_on_from (front_of old.rule.expression).outer (front_of old.rule.expression).operand p) w old p result new → Takes (goes_on_with e p) w old p result new
 takes_written w before e p old new result s t = subst (λ (v : Bool). Takes v w old p result new) (goes_on_is before e (names_in old.rule.variables) old.rule.expression p s) t
 
+-- so it does in an argument that goes on
 pub arguing_promise : (w : Wrap) (p : Piece) (old new : Draft) (result : Option Place) → TakesPiece w old p result new → RightLeads (rights.Arguing w) old p result new
 arguing_promise w p old new result t = record {
   together = λ ts f k. rw k.1.1.1.0 (together p t (k.0) (k.1.0) (k.1.1.0) (k.1.1.1.1.0.expression) (k.1.1.1.1.1));
@@ -110,6 +117,7 @@ arguing_promise w p old new result t = record {
 pub first_stands : (ts : Tokens) (w : Wrap) (a : Aimed) (d : Draft) → IsAimed ts w a d → Stands (names_with a.led []) expression.beginning (names_in d.rule.variables) d.rule.expression
 first_stands ts w a d k = subst (λ (b : List Name). Stands b expression.beginning (names_in d.rule.variables) d.rule.expression) k.names_are (fresh_stands (names_in d.rule.variables) d.rule.expression k.expression)
 
+-- so it does behind the opening bracket of the target, where none closes it at once
 pub opened_right_promise : (w : Wrap) (p : Piece) (old new : Draft) (result : Option Place) → tests.closes p ≡ false → TakesPiece w old p result new → RightLeads (rights.RightOpened w) old p result new
 opened_right_promise w p old new result c t = record {
   together = λ ts f k. rw k.1.0 (together p c t k.0 (first_stands ts w k.0 old k.1.1));
@@ -127,8 +135,10 @@ opened_right_promise w p old new result c t = record {
         argument_leads ts next w a [] expression.beginning q old new result k.wrap_is k.aimed (first_stands ts w a old k) (λ h. refl) modest (takes_written w (names_with a.led []) expression.beginning q old new result (first_stands ts w a old k) t)
     each ts next _ c t modest a k = rw t.0 tt
 
+-- so it does behind that bracket, where one closes it at once
 pub opened_right_closes : (w : Wrap) (p : Piece) (old new : Draft) (place : Place) → place ≡ behind_wrap w → tests.closes p ≡ true → AfterRight old new → RightLeads (rights.RightOpened w) old p (Some place) new
 opened_right_closes w p old new place e c h = rw e (always_right (rights.RightOpened w) p old new (Some (behind_wrap w)) (λ ts next f k. opened_right_ends ts next w p f old new k c h))
 
+-- and so it does behind an argument that has ended, where the bracket closes
 pub argued_closes : (w : Wrap) (p : Piece) (old new : Draft) (place : Place) → place ≡ behind_wrap w → tests.closes p ≡ true → AfterRight old new → RightLeads (rights.Argued w) old p (Some place) new
 argued_closes w p old new place e c h = rw e (always_right (rights.Argued w) p old new (Some (behind_wrap w)) (λ ts next f k. argued_ends ts next w p f old new k c h))

@@ -25,6 +25,7 @@ use Rattle.its_reader.specs.declared.place.Place.{Place}
 use Rattle.its_reader.specs.declared.place.Place.TheVariants as places
 
 module _ (ts : Tokens) (next : Option Piece) where
+  -- between sections only an opening bracket leads on
   pub between_leads : (p : Piece) (f : Front) (d : Draft) → InSections ts sections.Between d f → LeadsTo ts next (step f p) (if tests.opens p then Some (places.InSections sections.Opened) else None) d
   between_leads p f d k = rw k.1.0 (go p)
     where
@@ -33,6 +34,7 @@ module _ (ts : Tokens) (next : Option Piece) where
       go (In _) = tt
       go _ = tt
 
+  -- behind `GOAL` only `COMPLEXITY` leads on
   pub goal_named_leads : (p : Piece) (f : Front) (d : Draft) → InSections ts sections.GoalNamed d f → LeadsTo ts next (step f p) (if tests.says (codes "COMPLEXITY") p then Some (places.InSections sections.GoalSaid) else None) d
   goal_named_leads p f d k = rw k.1.0 (go p)
     where
@@ -45,6 +47,7 @@ module _ (ts : Tokens) (next : Option Piece) where
       go (In _) = tt
       go _ = tt
 
+  -- behind `STARTTERM` only an opening bracket leads on
   pub start_named_leads : (p : Piece) (f : Front) (d : Draft) → InSections ts sections.StartNamed d f → LeadsTo ts next (step f p) (if tests.opens p then Some (places.InSections sections.StartOpened) else None) d
   start_named_leads p f d k = rw k.1.0 (go p)
     where
@@ -53,6 +56,7 @@ module _ (ts : Tokens) (next : Option Piece) where
       go (In _) = tt
       go _ = tt
 
+  -- behind that bracket only `FUNCTIONSYMBOLS` leads on
   pub start_opened_leads : (p : Piece) (f : Front) (d : Draft) → InSections ts sections.StartOpened d f → LeadsTo ts next (step f p) (if tests.says (codes "FUNCTIONSYMBOLS") p then Some (places.InSections sections.StartListed) else None) d
   start_opened_leads p f d k = rw k.1.0 (go p)
     where
@@ -65,6 +69,7 @@ module _ (ts : Tokens) (next : Option Piece) where
       go (In _) = tt
       go _ = tt
 
+  -- behind the start symbol only a closing bracket leads on
   pub start_said_leads : (p : Piece) (f : Front) (d : Draft) → InSections ts sections.StartSaid d f → LeadsTo ts next (step f p) (if tests.closes p then Some (places.InSections sections.StartShut) else None) d
   start_said_leads p f d k = rw k.1.1.0 (go p)
     where
@@ -73,6 +78,7 @@ module _ (ts : Tokens) (next : Option Piece) where
       go (In _) = tt
       go _ = tt
 
+  -- behind that one only the bracket that closes the section leads on
   pub start_shut_leads : (p : Piece) (f : Front) (d : Draft) → InSections ts sections.StartShut d f → LeadsTo ts next (step f p) (if tests.closes p then Some (places.InSections sections.Between) else None) d
   start_shut_leads p f d k = rw k.1.1.0 (go p)
     where
@@ -85,6 +91,7 @@ module _ (ts : Tokens) (next : Option Piece) where
   with_comment : (ss : List Section) (bytes : List ℕ) (d : Draft) → KnowsBetween ts ss d → KnowsBetween ts (Comment bytes ∷ ss) d
   with_comment ss bytes d k = record { sections = record { goal = k.sections.goal; variables = k.sections.variables; rules = k.sections.rules; start = k.sections.start }; last = k.last }
 
+  -- behind `COMMENT` only the remark leads on, which ends the section
   pub comment_leads : (p : Piece) (f : Front) (d : Draft) → InSections ts sections.CommentNamed d f → LeadsTo ts next (step f p) (if tests.remarks p then Some (places.InSections sections.Between) else None) d
   comment_leads p f d k = rw k.1.0 (go p)
     where
@@ -107,6 +114,7 @@ module _ (ts : Tokens) (next : Option Piece) where
       go (In _) h = cc
       go _ h = cc
 
+  -- behind `COMPLEXITY` nothing but a closing bracket leads on
   pub goal_goes_on : (p : Piece) (f : Front) (d : Draft) → InSections ts sections.GoalSaid d f → tests.closes p ≡ false → LeadsTo ts next (step f p) None d
   goal_goes_on p f d k h = rw k.1.0 (go p h)
     where
@@ -154,6 +162,7 @@ module _ (ts : Tokens) (next : Option Piece) where
       go (In _) h = cc
       go _ h = cc
 
+  -- behind `FUNCTIONSYMBOLS` nothing but a name leads on
   pub start_goes_on : (p : Piece) (f : Front) (d : Draft) → InSections ts sections.StartListed d f → tests.word p ≡ None → LeadsTo ts next (step f p) None d
   start_goes_on p f d k h = rw k.1.0 (go p h)
     where
@@ -190,6 +199,7 @@ module _ (ts : Tokens) (next : Option Piece) where
       go (In _) h = cc
       go _ h = cc
 
+  -- in a list of variables nothing but a name and a closing bracket leads on
   pub variables_stop : (p : Piece) (f : Front) (d : Draft) → InSections ts sections.Listing d f → tests.closes p ≡ false → tests.word p ≡ None → LeadsTo ts next (step f p) None d
   variables_stop p f d k c h = rw k.1.1.0 (go p c h)
     where
@@ -208,6 +218,7 @@ module _ (ts : Tokens) (next : Option Piece) where
       go (In _) h = cc
       go _ h = cc
 
+  -- `STARTTERM` begins the section of the start symbol
   pub start_begins : (p : Piece) (f : Front) (d : Draft) → InSections ts sections.Opened d f → tests.says (codes "GOAL") p ≡ false → tests.says (codes "STARTTERM") p ≡ true → LeadsTo ts next (step f p) (Some (places.InSections sections.StartNamed)) d
   start_begins p f d k n h = rw k.1.0 (go p n h)
     where
@@ -216,6 +227,7 @@ module _ (ts : Tokens) (next : Option Piece) where
       go (In _) n h = cc
       go _ n h = cc
 
+  -- `VAR` begins the section of the variables
   pub variables_begin : (p : Piece) (f : Front) (d : Draft) → InSections ts sections.Opened d f → tests.says (codes "GOAL") p ≡ false → tests.says (codes "STARTTERM") p ≡ false → tests.says (codes "VAR") p ≡ true → LeadsTo ts next (step f p) (Some (places.InSections sections.Listing)) d
   variables_begin p f d k n m h = rw k.1.0 (go p n m h)
     where
@@ -224,6 +236,7 @@ module _ (ts : Tokens) (next : Option Piece) where
       go (In _) n m h = cc
       go _ n m h = cc
 
+  -- `RULES` begins the section of the rules, with no rule and nothing of one
   pub rules_begin : (p : Piece) (f : Front) (old new : Draft) → InSections ts sections.Opened old f → tests.says (codes "GOAL") p ≡ false → tests.says (codes "STARTTERM") p ≡ false → tests.says (codes "VAR") p ≡ false → tests.says (codes "RULES") p ≡ true
       → new.sections ≡ old.sections → KnowsRules [] new → IsFreshRule new.rule → LeadsTo ts next (step f p) (Some (places.InLeft lefts.Ruled)) new
   rules_begin p f old new k n m o h s r fresh = rw k.1.0 (go p n m o h)
@@ -233,6 +246,7 @@ module _ (ts : Tokens) (next : Option Piece) where
       go (In _) n m o h = cc
       go _ n m o h = cc
 
+  -- of all other pieces only `COMMENT` begins a section
   pub comment_begins : (p : Piece) (f : Front) (d : Draft) → InSections ts sections.Opened d f → tests.says (codes "GOAL") p ≡ false → tests.says (codes "STARTTERM") p ≡ false → tests.says (codes "VAR") p ≡ false → tests.says (codes "RULES") p ≡ false
       → LeadsTo ts next (step f p) (if tests.says (codes "COMMENT") p then Some (places.InSections sections.CommentNamed) else None) d
   comment_begins p f d k n m o q = rw k.1.0 (go p n m o q)
@@ -251,30 +265,39 @@ module _ (ts : Tokens) (next : Option Piece) where
 pub between_promise : (p : Piece) (d : Draft) (at : ℕ) (result : Option Place) (v : Bool) → v ≡ tests.opens p → result ≡ (if v then Some (places.InSections sections.Opened) else None) → StartLeads sections.Between d p at result d
 between_promise p d at result v e h = record { each = λ ts next f k a. rw (h, e) (between_leads ts next p f d k) }
 
+-- behind `GOAL` the code leads where what is written does
 pub goal_promise : (p : Piece) (d : Draft) (at : ℕ) (result : Option Place) (v : Bool) → v ≡ tests.says (codes "COMPLEXITY") p → result ≡ (if v then Some (places.InSections sections.GoalSaid) else None) → StartLeads sections.GoalNamed d p at result d
 goal_promise p d at result v e h = record { each = λ ts next f k a. rw (h, e) (goal_named_leads ts next p f d k) }
 
+-- so it does behind `STARTTERM`
 pub start_promise : (p : Piece) (d : Draft) (at : ℕ) (result : Option Place) (v : Bool) → v ≡ tests.opens p → result ≡ (if v then Some (places.InSections sections.StartOpened) else None) → StartLeads sections.StartNamed d p at result d
 start_promise p d at result v e h = record { each = λ ts next f k a. rw (h, e) (start_named_leads ts next p f d k) }
 
+-- so it does behind the bracket that opens there
 pub symbols_promise : (p : Piece) (d : Draft) (at : ℕ) (result : Option Place) (v : Bool) → v ≡ tests.says (codes "FUNCTIONSYMBOLS") p → result ≡ (if v then Some (places.InSections sections.StartListed) else None) → StartLeads sections.StartOpened d p at result d
 symbols_promise p d at result v e h = record { each = λ ts next f k a. rw (h, e) (start_opened_leads ts next p f d k) }
 
+-- so it does behind the start symbol
 pub said_promise : (p : Piece) (d : Draft) (at : ℕ) (result : Option Place) (v : Bool) → v ≡ tests.closes p → result ≡ (if v then Some (places.InSections sections.StartShut) else None) → StartLeads sections.StartSaid d p at result d
 said_promise p d at result v e h = record { each = λ ts next f k a. rw (h, e) (start_said_leads ts next p f d k) }
 
+-- so it does behind the bracket that closes there
 pub shut_promise : (p : Piece) (d : Draft) (at : ℕ) (result : Option Place) (v : Bool) → v ≡ tests.closes p → result ≡ (if v then Some (places.InSections sections.Between) else None) → StartLeads sections.StartShut d p at result d
 shut_promise p d at result v e h = record { each = λ ts next f k a. rw (h, e) (start_shut_leads ts next p f d k) }
 
+-- and so it does behind `COMMENT`
 pub comment_promise : (p : Piece) (d : Draft) (at : ℕ) (result : Option Place) (v : Bool) → v ≡ tests.remarks p → result ≡ (if v then Some (places.InSections sections.Between) else None) → StartLeads sections.CommentNamed d p at result d
 comment_promise p d at result v e h = record { each = λ ts next f k a. rw (h, e) (comment_leads ts next p f d k) }
 
+-- what leads on without the position of the piece does so at any position
 pub wherever : (place : SectionPlace) (old new : Draft) (p : Piece) (at : ℕ) (result : Option Place) → SectionLeads place old p result new → StartLeads place old p at result new
 wherever place old new p at result h = record { each = λ ts next f k a. h.each ts next f k }
 
+-- at a keyword that is none of the others the code leads where what is written does
 pub last_promise : (p : Piece) (d : Draft) (result : Option Place) (v : Bool) → tests.says (codes "GOAL") p ≡ false → tests.says (codes "STARTTERM") p ≡ false → tests.says (codes "VAR") p ≡ false → tests.says (codes "RULES") p ≡ false
     → v ≡ tests.says (codes "COMMENT") p → result ≡ (if v then Some (places.InSections sections.CommentNamed) else None) → SectionLeads sections.Opened d p result d
 last_promise p d result v n m o q e h = record { each = λ ts next f k. rw (h, e) (comment_begins ts next p f d k n m o q) }
 
+-- the place outside rules may be told by an equation
 pub in_place : (place known : SectionPlace) (old new : Draft) (p : Piece) (at : ℕ) (result : Option Place) → place ≡ known → StartLeads known old p at result new → StartLeads place old p at result new
 in_place place known old new p at result e h = subst (λ (q : SectionPlace). StartLeads q old p at result new) (sym e) h

@@ -80,6 +80,7 @@ left_shows ts at next lefts.LeftRead d f k = rw k.1.1.1.1.0 refl
 left_shows ts at next lefts.LeftParted d f k = rw k.1.1.1.1.0 refl
 left_shows ts at next lefts.LeftShut d f k = rw k.1.0 (ap (λ v. fault_if v ArityDiffers at) k.1.1.1 ∙ sym (append-nil _))
 
+-- up to the end of a left term nothing ends, and what its last byte shows is found
 pub left_settles : (place : LeftPlace) (d : Draft) (next : Option Piece) (refusal : Option Kind) → ((at : ℕ) → maybe_kind refusal at ≡ fault_if (shuts_left place && d.rule.differs) ArityDiffers at)
     → Settles (places.InLeft place) d next (places.InLeft place) (maybe_kind refusal) d
 left_settles place d next refusal h = record { settled = λ ts f k. k; found_is = λ ts at f k. h at ∙ left_shows ts at next place d f k }
@@ -208,6 +209,7 @@ still_settles place old rule next now refusal e h = rw (h.now_is, h.new_is) (rec
   found_is = λ ts at f k. h.found_is at ∙ right_shows ts at next place old f e k;
 })
 
+-- what ends in a right term ends in what is written, and what its last byte shows is found
 pub right_settles : (place : RightPlace) (old : Draft) (rule : RuleDraft) (next : Option Piece) (now : Place) (refusal : Option Kind) → RightSettles place old.rule next now refusal rule
     → Settles (places.InRight place) old next now (maybe_kind refusal) (record old { rule = rule })
 right_settles (rights.Arguing w) old rule next now refusal h = record {
@@ -312,6 +314,7 @@ guard_settles fence old rule next now refusal h = record {
       ∙ guard_shows at next fence k.0 k.1.0 f (names_in old.rule.variables) old.rule.guard k.1.1.0 k.1.1.1.1.1);
 }
 
+-- what ends behind a target ends in what is written, and what its last byte shows is found
 pub tail_settles : (place : TailPlace) (old : Draft) (rule : RuleDraft) (next : Option Piece) (now : Place) (refusal : Option Kind) → TailSettles place old.rule next now refusal rule
     → Settles (places.InTail place) old next now (maybe_kind refusal) (record old { rule = rule })
 tail_settles tails.Targeted old rule next now refusal h = tail_stays tails.Targeted old rule next now refusal refl h.by
@@ -319,9 +322,11 @@ tail_settles tails.GuardMarked old rule next now refusal h = tail_stays tails.Gu
 tail_settles tails.SquareOpened old rule next now refusal h = tail_stays tails.SquareOpened old rule next now refusal refl h.by
 tail_settles (tails.Guarding fence) old rule next now refusal h = guard_settles fence old rule next now refusal h.by
 
+-- the place from which something settles may be told by an equation
 pub in_settled_place : (place known : Place) (old new : Draft) (next : Option Piece) (now : Place) (faults : ℕ → Found) → place ≡ known → Settles known old next now faults new → Settles place old next now faults new
 in_settled_place place known old new next now faults e h = subst (λ (q : Place). Settles q old next now faults new) (sym e) h
 
+-- so may a place that stays what it is while something settles
 pub in_same_place : (place known : Place) (old new : Draft) (next : Option Piece) (faults : ℕ → Found) → place ≡ known → Settles known old next known faults new → Settles place old next place faults new
 in_same_place place known old new next faults e h = subst (λ (q : Place). Settles q old next q faults new) (sym e) h
 
@@ -330,6 +335,7 @@ pub argument_over : {w : Wrap} {old new : RuleDraft} {next : Option inner.Piece}
     → ArgumentIsSettled w old next (places.InRight (rights.Argued w)) refusal new
 argument_over {w} {old} {new} {next} {refusal} e a = record { by = subst (λ v. ArgumentSettles v w old (places.InRight (rights.Argued w)) refusal new) (sym e) (refl, a) }
 
+-- an argument that doesn't end before the next piece stays as it is
 pub argument_on : {w : Wrap} {old : RuleDraft} {next : Option inner.Piece} → ends_in old.expression next ≡ false → ArgumentIsSettled w old next (places.InRight (rights.Arguing w)) None old
 argument_on {w} {old} {next} e = record { by = subst (λ v. ArgumentSettles v w old (places.InRight (rights.Arguing w)) None old) (sym e) (refl, (refl, refl)) }
 
@@ -340,13 +346,16 @@ right_argued {place} {w} {old} {new} {n} {next} {now} {refusal} e same a = recor
   by = subst (λ o. RightSettlesBy o place old next now refusal new) (sym e) (subst (λ n. ArgumentSettles (ends_in old.expression n) w old now refusal new) same a.by);
 }
 
+-- in a right term where no argument is read nothing ends
 pub right_holds : {place : RightPlace} {old new : RuleDraft} {next : Option Piece} {now : Place} {refusal : Option Kind} → argued_in place ≡ None
     → IsStill (places.InRight place) (λ at. fault_if (shuts_right place && old.differs) ArityDiffers at) old now refusal new → RightSettles place old next now refusal new
 right_holds {place} {old} {new} {next} {now} {refusal} e a = record { by = subst (λ o. RightSettlesBy o place old next now refusal new) (sym e) a }
 
+-- behind a target what settles is the guard, where one is read
 pub tail_guarding : {place : TailPlace} {old new : RuleDraft} {next : Option Piece} {now : Place} {refusal : Option Kind} → is_guarding place ≡ true → GuardStands place old next now refusal new → TailSettles place old next now refusal new
 tail_guarding {place} {old} {new} {next} {now} {refusal} e a = record { by = subst (λ v. TailSettlesBy v place old next now refusal new) (sym e) a }
 
+-- and where none is read nothing ends
 pub tail_holds : {place : TailPlace} {old new : RuleDraft} {next : Option Piece} {now : Place} {refusal : Option Kind} → is_guarding place ≡ false
     → IsStill (places.InTail place) (λ at. fault_if (shuts_target place && old.differs) ArityDiffers at) old now refusal new → TailSettles place old next now refusal new
 tail_holds {place} {old} {new} {next} {now} {refusal} e a = record { by = subst (λ v. TailSettlesBy v place old next now refusal new) (sym e) a }

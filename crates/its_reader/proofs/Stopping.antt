@@ -56,6 +56,7 @@ none_of : (x : Fault Kind) (ys : Found) → ((y : Fault Kind) → Among y ys →
 none_of x [] h = tt
 none_of x (y ∷ ys) h = (h y (inl refl), none_of x ys (λ z a. h z (inr a)))
 
+-- once a fault has stopped the reading it is the answer, whatever is left
 pub stopped_is : (n : ℕ) (x : Fault Kind) (rest : Tokens) → run programs n (Stopped x) rest ≡ Refused x
 stopped_is n x [] = refl
 stopped_is n x (t ∷ rest) = refl
@@ -140,6 +141,7 @@ last_least at f next y a = go (shown.differs f) a
     go true (inr b) = let k = among_least 9 y (ended_faults at f next) (ended_least at f next) b in omega (arith, k)
     go false b = let k = among_least 9 y (ended_faults at f next) (ended_least at f next) b in omega (arith, k)
 
+-- what is shown at the last byte has a number of 9 at least where no arity differs
 pub last_least_9 : (at : ℕ) (f : Front) (next : Option Piece) (y : Fault Kind) → shown.differs f ≡ false → Among y (shown_last at f next) → 9 ≤ kind_number y.kind
 last_least_9 at f next y e a = go (shown.differs f) e a
   where

@@ -23,6 +23,7 @@ arities_push : (symbols : List Symbol) (s : Symbol) → arities_of symbols ++ s.
 arities_push [] s = refl
 arities_push (t ∷ symbols) s = ap (λ ns. t.arity ∷ ns) (arities_push symbols s)
 
+-- the names of symbols with one more that is read are theirs with its name
 pub names_with : (symbols : List Symbol) (name : Name) (arity : ℕ) → with_name (names_of symbols) name ≡ names_of (with_symbol symbols name arity)
 names_with symbols name arity = go (is_among name (names_of symbols))
   where
@@ -83,5 +84,6 @@ position_with n names = go (is_among n names) refl
     go true e = refl
     go false e = position_push n names e
 
+-- the number of a symbol that is read is its name's position among the names before
 pub number_stays : (symbols : List Symbol) (name : Name) (arity : ℕ) → position_of name (names_of symbols) ≡ number_of (with_symbol symbols name arity) name
 number_stays symbols name arity = position_with name (names_of symbols) ∙ ap (position_of name) (names_with symbols name arity)

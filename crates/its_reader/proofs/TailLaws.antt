@@ -69,11 +69,14 @@ module _ (ts : Tokens) (h : Headed) (d : Draft) (k : IsHeaded ts h d) where
   no_guard_known : atoms_in d.rule.guard ≡ []
   no_guard_known = let w = k.guard [] in nothing_before w.conjoined [] d.rule.guard w.front_is w.atoms_are
 
+  -- a rule whose target has been read is whole without a guard
   pub whole_bare : KnowsWhole ts h NoGuard d
   whole_bare = record { headed = k.headed; names_are = k.names_are; atoms_are = no_guard_known }
 
+  -- so it is with nothing behind `:|:`
   pub whole_marked : KnowsWhole ts h (BehindMark None) d
   whole_marked = record { headed = k.headed; names_are = k.names_are; atoms_are = no_guard_known }
 
+  -- and so it is with nothing between `[` and `]`
   pub whole_squared : KnowsWhole ts h (InSquares None) d
   whole_squared = record { headed = k.headed; names_are = k.names_are; atoms_are = no_guard_known }

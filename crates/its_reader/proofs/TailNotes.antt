@@ -296,6 +296,7 @@ module _ (ts : Tokens) (at : ℕ) (next behind : Option Piece) (d : Draft) (digi
   marked_shows h k rules true false a b = fresh_shows h k
   marked_shows h k rules false w a b = fresh_shows h k
 
+  -- what a front behind a target shows at the next token is what the code finds there
   pub tail_next : (place : TailPlace) (f : Front) → TailSettled ts next place d f → shown_next at f next behind ≡ tail_found place d at next behind
   tail_next tails.Targeted f k = rw (k.1.0, as_many_rules k.0.led.ruling.rules d k.1.1.0.headed.led.rules_are) (simp append-nil)
   tail_next tails.GuardMarked f k = rw k.1.0 (marked_shows k.0 k.1.1 (as_many_rules k.0.led.ruling.rules d k.1.1.headed.led.rules_are) (is_word next) (is_open behind) refl refl)

@@ -45,6 +45,7 @@ always_tail place p behind old new result h = record {
   each = λ ts f k modest. h ts f k;
 }
 
+-- the place behind a target may be told by an equation
 pub in_tail_place : (place known : TailPlace) (old new : Draft) (p : Piece) (behind : Option Piece) (result : Option Place) → place ≡ known → TailLeads known old p behind result new → TailLeads place old p behind result new
 in_tail_place place known old new p behind result e h = subst (λ (q : TailPlace). TailLeads q old p behind result new) (sym e) h
 
@@ -56,6 +57,7 @@ targeted_marks p behind d m = always_tail tails.Targeted p behind d d _ (λ ts f
     go ts h k GuardMark m = (h, (refl, k))
     go ts h k _ m = cc
 
+-- a `[` behind a target opens a guard
 pub targeted_squares : (p : Piece) (behind : Option Piece) (d : Draft) → tests.opens_square p ≡ true → TailLeads tails.Targeted d p behind (Some (places.InTail tails.SquareOpened)) d
 targeted_squares p behind d m = always_tail tails.Targeted p behind d d _ (λ ts f k. rw k.1.0 (go ts k.0 k.1.1.0 p m))
   where
@@ -70,6 +72,7 @@ targeted_step h SquareOpen m s = cc
 targeted_step h (In _) m s = refl
 targeted_step h _ m s = refl
 
+-- what follows a target and begins no guard leads on as behind a whole rule
 pub targeted_ends : (p : Piece) (behind : Option Piece) (old new : Draft) (result : Option Place) → tests.marks p ≡ false → tests.opens_square p ≡ false → WholeLeads old p result new → TailLeads tails.Targeted old p behind result new
 targeted_ends p behind old new result m s w = always_tail tails.Targeted p behind old new result (λ ts f k.
     subst (λ o. LeadsTo ts behind o result new) (sym (ap (λ f. step f p) k.1.0 ∙ targeted_step k.0 p m s)) (w.each ts behind k.0 NoGuard (whole_bare ts k.0 old k.1.1.0)))
@@ -165,6 +168,7 @@ module _ (ts : Tokens) (behind : Option Piece) (old new : Draft) (result : Optio
   marked_together (In (inner.Word name)) c a = leads_together ts behind (Some (fronts.WordRead h name)) result new (named_leads name c a)
   marked_together p c a = other_together p (neither (tests.closes p) (tests.names p && tests.is_open behind) c).0 refl a
 
+-- directly behind `:|:` an atom begins where no rule begins and the section doesn't end
 pub marked_goes_on : (p : Piece) (behind : Option Piece) (old new : Draft) (result : Option Place) → tests.closes p || (tests.names p && tests.is_open behind) ≡ false → AtomTakes fences.Mark old p behind result new
     → TailLeads tails.GuardMarked old p behind result new
 marked_goes_on p behind old new result c a = record {
@@ -178,6 +182,7 @@ square_step h SquareClose c = cc
 square_step h (In _) c = refl
 square_step h _ c = refl
 
+-- directly behind `[` an atom begins where no `]` closes
 pub square_goes_on : (p : Piece) (behind : Option Piece) (old new : Draft) (result : Option Place) → tests.closes_square p ≡ false → AtomTakes fences.Square old p behind result new → TailLeads tails.SquareOpened old p behind result new
 square_goes_on p behind old new result c a = record {
   together = λ ts f k. subst (λ o. GoTogether o result) (sym (ap (λ f. step f p) k.1.0 ∙ square_step k.0 p c))
@@ -264,6 +269,7 @@ guard_stops p behind old still c = always_tail (tails.Guarding fences.Square) p 
     let at = ended_of (headed_names k.0) (names_in old.rule.variables) old.rule.guard (tests.inner_in p) k.1.0 k.1.1.1.1.1 shut.0 in
     subst (λ o. LeadsTo ts behind o None old) (sym (front_step fences.Square k.0 k.1.0 f p k.1.1.0 ∙ square_stops ts k.0 k.1.0 old k.1.1.1.0 p at shut.1 c)) tt)
 
+-- behind an atom a piece that joins no other leads on as what follows a guard does
 pub behind_atoms : (fence : Fence) (p : Piece) (behind : Option Piece) (old new : Draft) (result : Option Place) → not (is_read old.rule.guard.place) || tests.joins p ≡ false → GuardIsEnded fence old p result new
     → TailLeads (tails.Guarding fence) old p behind result new
 behind_atoms fences.Mark p behind old new result still w = guard_ends p behind old new result still w.by
@@ -279,6 +285,7 @@ word_none (In (inner.Word name)) e = cc
 word_none (In _) e = refl
 word_none _ e = refl
 
+-- behind a whole rule nothing but a name and a closing bracket leads on
 pub rule_stops : (p : Piece) (d : Draft) → tests.closes p || tests.names p ≡ false → WholeLeads d p None d
 rule_stops p d e = record { each = λ ts next h guard k. ruled_stops ts next p (ruling_with h guard) d none shut.0; sourced = λ name w. sourceless name w }
   where
@@ -291,6 +298,7 @@ rule_stops p d e = record { each = λ ts next h guard k. ruled_stops ts next p (
     sourceless : (name : Name) → tests.word p ≡ Some name → None ≡ Some (places.InLeft lefts.SourceNamed)
     sourceless name w = let n = word_none p shut.1 in cc
 
+-- once a whole rule has become one of the rules, what follows leads on from these
 pub rule_leads : (p : Piece) (old middle new : Draft) (result : Option Place) → RuleEnds old middle → RuleLeads middle p result new → ((name : Name) → tests.word p ≡ Some name → result ≡ Some (places.InLeft lefts.SourceNamed)) → WholeLeads old p result new
 rule_leads p old middle new result e l s = record { each = λ ts next h guard k. l.each ts next (ruling_with h guard) (whole_rule ts h guard old middle k e) e.fresh; sourced = s }
 
@@ -298,11 +306,14 @@ rule_leads p old middle new result e l s = record { each = λ ts next h guard k.
 pub mark_over : {old new : Draft} {p : Piece} {result : Option Place} (fence : Fence) → fence ≡ fences.Mark → WholeLeads old p result new → GuardIsEnded fence old p result new
 mark_over {old} {new} {p} {result} fence e w = record { by = subst (λ f. GuardEnds f old p result new) (sym e) w }
 
+-- what follows a guard in square brackets is told by whether these shut
 pub square_over : {old new : Draft} {p : Piece} {result : Option Place} (fence : Fence) → fence ≡ fences.Square → SquareEnds old p result new → GuardIsEnded fence old p result new
 square_over {old} {new} {p} {result} fence e w = record { by = subst (λ f. GuardEnds f old p result new) (sym e) w }
 
+-- a `]` shuts them, and the rule ends with them
 pub square_shut : {old new : Draft} {p : Piece} → tests.closes_square p ≡ true → RuleEnds old new → SquareEnds old p (Some (places.InLeft lefts.Ruled)) new
 square_shut {old} {new} {p} e r = record { shuts = subst (λ v. ShutsIf v old (Some (places.InLeft lefts.Ruled)) new) (sym e) (refl, r) }
 
+-- no other piece shuts them, and none leads on
 pub square_open : {old : Draft} {p : Piece} → tests.closes_square p ≡ false → SquareEnds old p None old
 square_open {old} {p} e = record { shuts = subst (λ v. ShutsIf v old None old) (sym e) (refl, refl) }

@@ -41,6 +41,7 @@ all_left n xs = ap (λ k. take k (drop n xs)) (sym (length-drop n xs)) ∙ whole
 pub record ClosesWithin (o : Option ℕ) (n : ℕ) : Type 0 where
   pub each : (len : ℕ) → o ≡ Some len → (0 < len) × (len ≤ n)
 
+-- the bytes up to the bracket that closes a comment are some, and no more than there are
 pub closing_within : (bytes : List ℕ) (depth : ℕ) → ClosesWithin (closing_at bytes depth) (length bytes)
 closing_within [] depth = record { each = λ len e. cc }
 closing_within (b ∷ bytes) depth = go (bend_of b) depth (λ d. closing_within bytes d)
@@ -94,6 +95,7 @@ depth_is modes.AtKeyword = refl
 depth_is (modes.Within depth) = refl
 depth_is modes.InComment = refl
 
+-- behind a piece at most one bracket more is open
 pub behind_depth : (old new : code.Mode) (o : Option Piece) → mode_of new ≡ mode_behind (mode_of old) o → depth_of new ≤ depth_of old + 1
 behind_depth old new o e =
     let a = depth_is old in let b = depth_is new in let k : depth_in (mode_of new) ≡ depth_in (mode_behind (mode_of old) o) = ap depth_in e in let h = depth_behind (mode_of old) o in

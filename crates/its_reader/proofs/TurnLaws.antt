@@ -80,5 +80,6 @@ turns place now last best first old middle new t behind reached j a = record {
       (subst (λ b. Advances now middle t b reached new) (sym e) a);
 }
 
+-- what a token leads to may be told by an equation
 pub turned_alike : {place : Place} {last : ℕ} {best : Option (Fault Kind)} {old new : Draft} {t : Token Piece} {behind : Option Piece} {a b : Turned} → a ≡ b → Turns place last best old t behind b new → Turns place last best old t behind a new
 turned_alike {place} {last} {best} {old} {new} {t} {behind} {a} {b} e h = subst (λ to. Turns place last best old t behind to new) (sym e) h

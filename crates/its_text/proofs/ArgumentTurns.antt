@@ -79,6 +79,7 @@ argument_wanted a arguments = (
   },
 )
 
+-- a right term without arguments is within the limits exactly where what was read before it is
 pub no_argument : (a : Aimed) → HasRight a.led (record { name = a.name; arguments = [] }) ↔ IsAimedKept a
 no_argument a = (
   λ h. (h.led, h.symbol),
@@ -145,6 +146,7 @@ opened a f p ps same =
       λ h. on.1 (wanted.1 (none.1 h.0), record { argument = λ ends. tt; few = refl; going = h.1 }),
     )
 
+-- behind the bracket of a right term each step keeps the limits exactly where the front is quiet
 pub opened_turns : (a : Aimed) (p : inner.Piece) (ps : List Piece) → Turns (RightOpened a) (In p) ps (behind_open a p)
 opened_turns a (inner.Word n) ps = opened a _ (inner.Word n) ps refl
 opened_turns a (inner.Digits ds) ps = opened a _ (inner.Digits ds) ps refl
@@ -206,6 +208,7 @@ arguing_by : (a : Aimed) (arguments : List Sum) (e : expression.Front) (p : inne
 arguing_by a arguments e p ps (Some f) same = argument_goes_on a arguments e f p (first ps) same
 arguing_by a arguments e p ps None same = argued_by a arguments e p ps (expression_steps.finish e) refl same
 
+-- within an argument each step keeps the limits exactly where the front is quiet
 pub arguing_turns : (a : Aimed) (arguments : List Sum) (e : expression.Front) (p : inner.Piece) (ps : List Piece)
     → Turns (Arguing a arguments e) (In p) ps (step (Arguing a arguments e) (In p))
 arguing_turns a arguments e p ps = arguing_by a arguments e p ps (expression_steps.step e p) refl
@@ -228,6 +231,7 @@ parted_by a arguments e ps (Some s) same =
       λ h. wanted.1 (ends.1 (h.0, subst (IsArgumentExpanded (names_with a.led arguments)) same (h.1.argument refl))),
     )
 
+-- a comma behind an argument keeps the limits exactly where the front is quiet
 pub parted_turns : (a : Aimed) (arguments : List Sum) (e : expression.Front) (ps : List Piece)
     → Turns (Arguing a arguments e) Comma ps (parted a arguments (expression_steps.finish e))
 parted_turns a arguments e ps = parted_by a arguments e ps (expression_steps.finish e) refl

@@ -48,10 +48,12 @@ none_in_reverse m (n ∷ names) h =
     let x = neither (is_same m n) (is_among m names) h in
     ap (is_among m) (reverse-cons n names) ∙ none_of_more m n (reverse names) (none_in_reverse m names x.1) x.0
 
+-- names that differ do so in the other order
 pub distinct_reverse : (names : List Name) → AreDistinct names → AreDistinct (reverse names)
 distinct_reverse [] h = tt
 distinct_reverse (n ∷ names) h = subst AreDistinct (sym (reverse-cons n names)) (distinct_one_more (reverse names) n (distinct_reverse names h.1) (none_in_reverse n names h.0))
 
+-- what holds of each element of a list does so in the other order
 pub all_reverse : {X : Type 0} (P : X → Type 0) (xs : List X) → AllByRecursion P xs → AllByRecursion P (reverse xs)
 all_reverse P [] h = tt
 all_reverse P (x ∷ xs) h = subst (AllByRecursion P) (sym (reverse-cons x xs)) (all_one_more P (reverse xs) x (all_reverse P xs h.1) h.0)
@@ -60,6 +62,7 @@ all_reverse P (x ∷ xs) h = subst (AllByRecursion P) (sym (reverse-cons x xs)) 
 abbrev pub AreGood : List Name → Type 0
 AreGood names = AllByRecursion IsName names × AreDistinct names
 
+-- names that are names and differ do so with one more that is read
 pub good_with : (names : List Name) (n : Name) → AreGood names → IsName n → AreGood (with_name names n)
 good_with names n g is = go (is_among n names) refl
   where
@@ -232,6 +235,7 @@ section_named (Variables names) found before h ih = ih (words_peel names (word (
 section_named (Rules rules) found before h ih = (rules_named rules (word (codes "RULES") ∷ open_bracket ∷ before) h.1).0
 section_named (Comment bytes) found before h ih = ih h.1.1.1
 
+-- in sections whose words are names the rules have names for symbols and variables
 pub sections_named : (sections : List Section) → AreNamed (pieces_behind sections) → AreRulesNamed (rules_of sections)
 sections_named [] h = tt
 sections_named (s ∷ sections) h = section_named s (rules_of sections) (pieces_behind sections) h (λ k. sections_named sections k)

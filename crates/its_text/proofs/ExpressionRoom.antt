@@ -22,6 +22,7 @@ use Rattle.its_text.proofs.KeptFronts.{begun}
 pub goes_on : (e f : expression.Front) (p : inner.Piece) → expression_steps.step e p ≡ Some f → goes_on_with e p ≡ true
 goes_on e f p same = ap is_front same
 
+-- where its step leads nowhere a piece doesn't go on with an expression
 pub goes_off : (e : expression.Front) (p : inner.Piece) → expression_steps.step e p ≡ None → goes_on_with e p ≡ false
 goes_off e p same = ap is_front same
 
@@ -51,6 +52,7 @@ name_room names n false e =
       λ h. let few = below variable_limit (length names) h.1 in omega (arith, few, same),
     )
 
+-- with a name the variables are within the limit exactly where they were and there was room for it
 pub room_for_name : (names : List Name) (n : Name)
     → (length (with_name names n) ≤ variable_limit)
     ↔ ((length names ≤ variable_limit) × ((not (is_among n names) && nat_le variable_limit (length names)) ≡ false))
@@ -76,6 +78,7 @@ piece_room names e inner.Caret behind = (λ h. (h, refl), λ h. h.0)
 piece_room names e (inner.Related sign) behind = (λ h. (h, refl), λ h. h.0)
 piece_room names e (inner.Joining joint) behind = (λ h. (h, refl), λ h. h.0)
 
+-- with a piece the variables are within the limit exactly where they were and the test for it fails
 pub room_for_piece : (names : List Name) (e f : expression.Front) (p : inner.Piece) (behind : Option Piece)
     → expression_steps.step e p ≡ Some f
     → (length (with_front names f) ≤ variable_limit)
@@ -111,6 +114,7 @@ begun_room limit n e f p same false e0 =
     let some = not_zero (token_count e) e0 in
     (λ h. (omega (arith, h, some, more), refl), λ h. let few = h.0 in omega (arith, few, some, more))
 
+-- with one more that a piece begins a limit is kept exactly where it was and there was room
 pub room_for_one : (limit n : ℕ) (e f : expression.Front) (p : inner.Piece) → expression_steps.step e p ≡ Some f
     → (n + begun f ≤ limit)
     ↔ ((n + begun e ≤ limit) × (((token_count e == 0) && nat_le limit n && begins_expression p) ≡ false))
@@ -145,6 +149,7 @@ word_room names e n behind true is =
     (λ h. (omega (arith, h, same), refl), λ h. let few = h.0 in omega (arith, few, same))
 word_room names e n behind false is = room_for_name (with_front names e) n
 
+-- where the atom that always holds can come, there is room exactly where there was and the test for it fails
 pub leading_room : (names : List Name) (e : expression.Front) (p : inner.Piece) (behind : Option Piece)
     → (length (if begins_truth e p && not (is_operating behind) then names else with_piece (with_front names e) p) ≤
     variable_limit)

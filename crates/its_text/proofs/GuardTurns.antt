@@ -299,6 +299,7 @@ module _ (names : List Name) where
         λ h. ends.1 (h.0, subst (IsRightExpanded (with_sum (with_conjoined names c) l) l sign) same (h.1 off)),
       )
 
+  -- atoms that end are within the limits exactly where the guard was, and the last can be expanded
   pub guard_ends : (g : GuardFront) (atoms : Atoms) (next : Option Piece) → guards.finish g ≡ Some atoms
       → is_operating next ≡ false → ends_expression (guards.expression_in g) next ≡ true
       → AreEnded atoms ↔ (IsGuardKept names g next × IsAtomExpanded names g next)
@@ -380,6 +381,7 @@ module _ (names : List Name) where
   within_turns (LeftSide c e) p behind None same = behind_turns (LeftSide c e) p behind same
   within_turns (RightSide c l sign e) p behind None same = behind_turns (RightSide c l sign e) p behind same
 
+  -- along each step a guard is within the limits exactly where it was before, and it is quiet
   pub guard_turns : (g k : GuardFront) (p : inner.Piece) (behind : Option Piece) → guards.step g p ≡ Some k
       → IsGuardKept names k behind ↔ (IsGuardKept names g (Some (In p)) × IsGuardQuiet names g (Some (In p)) behind)
   guard_turns g k p behind same =

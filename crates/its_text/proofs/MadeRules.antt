@@ -107,12 +107,15 @@ module _ (h : Headed) (guard : Guard) where
   pub empty_made : (IsHeadedKept h → HasGuard h guard) → IsRulingKept (ruling_with h guard) ↔ IsHeadedKept h
   empty_made has = (λ k. (rule_made.0 k).0, λ k. rule_made.1 (k, has k))
 
+-- a rule without a guard is within the limits exactly where its head is
 pub no_guard : (h : Headed) → IsRulingKept (ruling_with h NoGuard) ↔ IsHeadedKept h
 no_guard h = empty_made h NoGuard (λ k. (k.0.variables, tt))
 
+-- so is a rule with nothing behind `:|:`
 pub no_marked : (h : Headed) → IsRulingKept (ruling_with h (BehindMark None)) ↔ IsHeadedKept h
 no_marked h = empty_made h (BehindMark None) (λ k. (k.0.variables, tt))
 
+-- and one with nothing in square brackets
 pub no_squared : (h : Headed) → IsRulingKept (ruling_with h (InSquares None)) ↔ IsHeadedKept h
 no_squared h = empty_made h (InSquares None) (λ k. (k.0.variables, tt))
 
@@ -125,6 +128,7 @@ marked h atoms =
       λ k. made.1 (k.0, (k.1.variables, (k.1.few, k.1.within))),
     )
 
+-- a rule with atoms in square brackets is within the limits exactly where its head and these are
 pub in_squares : (h : Headed) (atoms : Atoms) → IsRulingKept (ruling_with h (InSquares (Some atoms)))
     ↔ (IsHeadedKept h × AreEnded (headed_names h) atoms)
 in_squares h atoms =

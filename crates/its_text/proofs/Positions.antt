@@ -133,20 +133,24 @@ ended_at at (MarkGuarding h g) next = atom_at at (headed_names h) g next
 ended_at at (SquareOpened h) next = tt
 ended_at at (SquareGuarding h g) next = atom_at at (headed_names h) g next
 
+-- each fault that is shown at the last byte stands there
 pub last_at : (at : ℕ) (f : Front) (next : Option Piece) → StandAt at (shown_last at f next)
 last_at at f next = both at (fault_if (shown.differs f) ArityDiffers at) (ended_faults at f next) (if_at (shown.differs f) ArityDiffers at) (ended_at at f next)
 
+-- each fault that is shown at the next token stands there
 pub next_stands : (at : ℕ) (f : Front) (next behind : Option Piece) → StandAt at (shown_next at f next behind)
 next_stands at f next behind =
     both at (fault_if (shown.targets_again f next behind) Syntax at ++ fault_if (shown.repeats_at f next behind) RepeatedSection at ++ fault_if (shown.targets_many f next behind) ManyTargets at ++ left_of at (left_wanted f) next behind ++ fault_if (shown.too_many_rules f next behind) (Limit TooManyRules) at ++ fault_if (shown.passes_arguments f next) (Limit TooManyArguments) at ++ fault_if (shown.another_atom f next) (Limit TooManyAtoms) at ++ fault_if (shown.long_name next) (Limit LongName) at) (token_faults at (going f next behind) next behind)
     (then_if at (fault_if (shown.targets_again f next behind) Syntax at ++ fault_if (shown.repeats_at f next behind) RepeatedSection at ++ fault_if (shown.targets_many f next behind) ManyTargets at ++ left_of at (left_wanted f) next behind ++ fault_if (shown.too_many_rules f next behind) (Limit TooManyRules) at ++ fault_if (shown.passes_arguments f next) (Limit TooManyArguments) at ++ fault_if (shown.another_atom f next) (Limit TooManyAtoms) at) (shown.long_name next) (Limit LongName) (then_if at (fault_if (shown.targets_again f next behind) Syntax at ++ fault_if (shown.repeats_at f next behind) RepeatedSection at ++ fault_if (shown.targets_many f next behind) ManyTargets at ++ left_of at (left_wanted f) next behind ++ fault_if (shown.too_many_rules f next behind) (Limit TooManyRules) at ++ fault_if (shown.passes_arguments f next) (Limit TooManyArguments) at) (shown.another_atom f next) (Limit TooManyAtoms) (then_if at (fault_if (shown.targets_again f next behind) Syntax at ++ fault_if (shown.repeats_at f next behind) RepeatedSection at ++ fault_if (shown.targets_many f next behind) ManyTargets at ++ left_of at (left_wanted f) next behind ++ fault_if (shown.too_many_rules f next behind) (Limit TooManyRules) at) (shown.passes_arguments f next) (Limit TooManyArguments) (then_if at (fault_if (shown.targets_again f next behind) Syntax at ++ fault_if (shown.repeats_at f next behind) RepeatedSection at ++ fault_if (shown.targets_many f next behind) ManyTargets at ++ left_of at (left_wanted f) next behind) (shown.too_many_rules f next behind) (Limit TooManyRules) (both at (fault_if (shown.targets_again f next behind) Syntax at ++ fault_if (shown.repeats_at f next behind) RepeatedSection at ++ fault_if (shown.targets_many f next behind) ManyTargets at) (left_of at (left_wanted f) next behind) (then_if at (fault_if (shown.targets_again f next behind) Syntax at ++ fault_if (shown.repeats_at f next behind) RepeatedSection at) (shown.targets_many f next behind) ManyTargets (then_if at (fault_if (shown.targets_again f next behind) Syntax at) (shown.repeats_at f next behind) RepeatedSection (if_at (shown.targets_again f next behind) Syntax at))) (left_at at (left_wanted f) next behind))))))
     (token_at at (going f next behind) next behind)
 
+-- a fault that is among those at one position stands there
 pub among_at : (at : ℕ) (x : Fault Kind) (xs : Found) → StandAt at xs → Among x xs → x.at ≡ at
 among_at at x [] h m = absurd m
 among_at at x (y ∷ ys) h (inl same) = ap (λ z. z.at) same ∙ h.0
 among_at at x (y ∷ ys) h (inr more) = among_at at x ys h.1 more
 
+-- a fault that is among two lists is among the one or the other
 pub split : (x : Fault Kind) (xs ys : Found) → Among x (xs ++ ys) → (Among x xs) ⊎ (Among x ys)
 split x [] ys m = inr m
 split x (y ∷ xs) ys (inl same) = inl (inl same)

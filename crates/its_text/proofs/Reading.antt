@@ -26,9 +26,11 @@ abbrev pub Is : {X : Type 0} → X → Option X → Type 0
 Is x None = ⊥
 Is x (Some y) = x ≡ y
 
+-- an answer that holds nothing isn't one that holds something
 pub none_is_some : {X : Type 0} {x : X} → None ≡ Some x → ⊥
 none_is_some {x = x} e = subst (λ o. Is x o) (sym e) refl
 
+-- answers that are the same hold the same
 pub some_is : {X : Type 0} {x y : X} → Some x ≡ Some y → x ≡ y
 some_is {x = x} e = subst (λ o. Is x o) e refl
 

@@ -25,9 +25,11 @@ pub use Rattle.std.proofs.lemmas.Bool.{not-true as passes_not}
 pub below : (a b : ℕ) → nat_le a b ≡ false → suc b ≤ a
 below a b h = grind (arith, nat_tests, h)
 
+-- a greater number isn't at most a lesser one
 pub not_at : (a b : ℕ) → suc b ≤ a → nat_le a b ≡ false
 not_at a b h = grind (arith, nat_tests, h)
 
+-- numbers that the test doesn't tell apart are the same
 pub same_number : (a b : ℕ) → not (a == b) ≡ false → a ≡ b
 same_number a b h = go (a == b) refl h
   where
@@ -35,12 +37,15 @@ same_number a b h = go (a == b) refl h
     go true e k = grind (arith, nat_tests, e)
     go false e k = cc
 
+-- the same numbers aren't told apart by the test
 pub number_same : (a b : ℕ) → a ≡ b → not (a == b) ≡ false
 number_same a b h = ap not (let e : (a == b) ≡ true = grind (arith, nat_tests, h) in e)
 
+-- a number that passes the test for 0 is 0
 pub is_zero : (a : ℕ) → (a == 0) ≡ true → a ≡ 0
 is_zero a h = grind (arith, nat_tests, h)
 
+-- a number that fails it is at least 1
 pub not_zero : (a : ℕ) → (a == 0) ≡ false → 1 ≤ a
 not_zero a h = grind (arith, nat_tests, h)
 
@@ -54,6 +59,7 @@ pub and_false : (v : Bool) → (v && false) ≡ false
 and_false true = refl
 and_false false = refl
 
+-- a test beside one that passes is as it is by itself
 pub and_true : (v : Bool) → (v && true) ≡ v
 and_true true = refl
 and_true false = refl
@@ -75,6 +81,7 @@ arity_append (t ∷ symbols) s n h = go (is_same n t.name) refl h (λ k. arity_a
     go true e k ih = rw e refl
     go false e k ih = rw (e, ih k) refl
 
+-- a symbol that is there keeps its number of places when one more is read
 pub arity_stays : (symbols : List Symbol) (n name : Name) (arity : ℕ) → is_among n (names_of symbols) ≡ true
     → arity_of (with_symbol symbols name arity) n ≡ arity_of symbols n
 arity_stays symbols n name arity h = go (is_among name (names_of symbols))
@@ -91,6 +98,7 @@ rule_same : (symbols last : List Symbol) (r : WrittenRule) → arity_of last r.l
 rule_same symbols last r a b h =
     record { left = h.left; target = h.target; source_arity = a ∙ h.source_arity; target_arity = b ∙ h.target_arity }
 
+-- rules whose symbols are there are as they are to be exactly where they are so with one symbol more
 pub rules_stay : (symbols : List Symbol) (name : Name) (arity : ℕ) (rules : List WrittenRule)
     → AllByRecursion (IsKnown symbols) rules → AreRules symbols rules ↔ AreRules (with_symbol symbols name arity) rules
 rules_stay symbols name arity [] known = (λ h. tt, λ h. tt)
@@ -114,6 +122,7 @@ module _ (names last : List Name) (e : Extends names last) where
         λ w. record { tokens = w.tokens; expanded = sym same ∙ w.expanded },
       )
 
+  -- arguments are within the limits over their variables exactly where they are over more
   pub arguments_stay : (sums : List Sum) → AllRead names sums → AreArgumentsWithin names sums
       ↔ AreArgumentsWithin last sums
   arguments_stay [] h = (λ w. tt, λ w. tt)
@@ -134,6 +143,7 @@ module _ (names last : List Name) (e : Extends names last) where
       ∙ ap (λ t. first_of_all (differences (sum_term names l) (relation_of sign) t)) right in
       (λ w. (w.0, w.1, same ∙ w.2), λ w. (w.0, w.1, sym same ∙ w.2))
 
+  -- atoms are within the limits over their variables exactly where they are over more
   pub atoms_stay : (atoms : Atoms) → AtomsRead names atoms → AreAtomsWithin names atoms ↔ AreAtomsWithin last atoms
   atoms_stay (First a) h = atom_stays a h
   atoms_stay (Joined atoms joint a) h =

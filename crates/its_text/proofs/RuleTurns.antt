@@ -56,11 +56,13 @@ targeted_turns h inner.Caret ps = tt
 targeted_turns h (inner.Related sign) ps = tt
 targeted_turns h (inner.Joining joint) ps = tt
 
+-- `:|:` behind a target keeps the limits exactly where the front is quiet
 pub marks_turns : (h : Headed) (ps : List Piece) → Turns (Targeted h) GuardMark ps (Some (GuardMarked h))
 marks_turns h ps =
     let kept = target_kept h.led h.target in
     (λ k. let y = kept.0 k in (y.0, (y.1, refl)), λ k. kept.1 (k.0, k.1.0))
 
+-- `[` behind a target keeps the limits exactly where the front is quiet
 pub square_turns : (h : Headed) (ps : List Piece) → Turns (Targeted h) SquareOpen ps (Some (SquareOpened h))
 square_turns h ps =
     let kept = target_kept h.led h.target in
@@ -93,6 +95,7 @@ off_within (RightSide c l sign e) p same = go (expression_steps.step e p) same
     go None k = refl
     go (Some f) k = cc
 
+-- a piece that leads on within an atom goes on with the expression that is read there
 pub goes_within : (g k : GuardFront) (p : inner.Piece) → guards.step_behind g p ≡ None → guards.step g p ≡ Some k
     → goes_on_with (guards.expression_in g) p ≡ true
 goes_within (LeftSide c e) k p behind same = go (expression_steps.step e p) same
@@ -234,6 +237,7 @@ guarding_turns h g p ps (Some k) same =
     )
 guarding_turns h g p ps None same = guard_ended_turns h g p ps (guards.finish g) refl (off_within g p same)
 
+-- in a guard behind `:|:` each step keeps the limits exactly where the front is quiet
 pub mark_guarding_turns : (h : Headed) (g : GuardFront) (p : inner.Piece) (ps : List Piece)
     → Turns (MarkGuarding h g) (In p) ps (guarding h g (guards.step g p) p)
 mark_guarding_turns h g p ps = guarding_turns h g p ps (guards.step g p) refl
@@ -251,6 +255,7 @@ square_guarding_turns h g p ps = go (guards.step g p) refl
           λ x. (x.0.0, turns.1 (x.0.1, x.1)),
         )
 
+-- `]` behind atoms keeps the limits exactly where the front is quiet
 pub square_ended_turns : (h : Headed) (g : GuardFront) (ps : List Piece)
     → Turns (SquareGuarding h g) SquareClose ps (square_ended h (guards.finish g))
 square_ended_turns h g ps = go (guards.finish g) refl
@@ -259,6 +264,7 @@ square_ended_turns h g ps = go (guards.finish g) refl
     go None ends = tt
     go (Some atoms) ends = square_ends h g atoms ends ps
 
+-- the first piece in square brackets keeps the limits exactly where the front is quiet
 pub square_opened_turns : (h : Headed) (p : inner.Piece) (ps : List Piece)
     → Turns (SquareOpened h) (In p) ps (squared h (guards.step guards.no_atoms p))
 square_opened_turns h p ps = go (guards.step guards.no_atoms p) refl
@@ -269,6 +275,7 @@ square_opened_turns h p ps = go (guards.step guards.no_atoms p) refl
         let begins = guard_first h g p (first ps) same in
         (begins.0, begins.1)
 
+-- `]` right behind `[` keeps the limits exactly where the front is quiet
 pub square_closed_turns : (h : Headed) (ps : List Piece)
     → Turns (SquareOpened h) SquareClose ps (step (SquareOpened h) SquareClose)
 square_closed_turns h ps =

@@ -22,6 +22,7 @@ abbrev pub Turns : Front → Piece → List Piece → Option Front → Type 0
 Turns f p ps None = ⊤
 Turns f p ps (Some g) = IsKept g ps ↔ (IsKept f (p ∷ ps) × IsQuiet f (Some p) (first ps))
 
+-- a step that keeps the limits as it is to does so, too, where a test may stop it
 pub when_turns : (v : Bool) (f : Front) (p : Piece) (ps : List Piece) (g : Front) → Turns f p ps (Some g)
     → Turns f p ps (when v g)
 when_turns true f p ps g h = h
@@ -88,6 +89,7 @@ goal_done ss = (
   },
 )
 
+-- sections with one more of a start symbol are as they are to be exactly where they were and had none
 pub start_done : (ss : List Section) (name : Name) → AreDone (Start name ∷ ss)
     ↔ (AreDone ss × (has is_start ss ≡ false))
 start_done ss name = (
@@ -112,6 +114,7 @@ start_done ss name = (
   },
 )
 
+-- sections with one more of variables are as they are to be exactly where they were and had none
 pub variables_done : (ss : List Section) (names : List Name) → AreDone (Variables names ∷ ss)
     ↔ (AreDone ss × (has is_variables ss ≡ false))
 variables_done ss names = (
@@ -136,6 +139,7 @@ variables_done ss names = (
   },
 )
 
+-- sections with a comment more are as they are to be exactly where they were
 pub comment_done : (ss : List Section) (bytes : List ℕ) → AreDone (Comment bytes ∷ ss) ↔ AreDone ss
 comment_done ss bytes = (
   λ h. record {
@@ -156,6 +160,7 @@ comment_done ss bytes = (
   },
 )
 
+-- sections that end with rules are as they are to be exactly where the rules so far are
 pub rules_done : (r : Ruling) → AreDone (section_of r) ↔ IsRulingKept r
 rules_done r = (
   λ h.

@@ -72,6 +72,7 @@ going_small (Some g) (Remark bytes) h = tt
 going_small (Some g) Wrong h = tt
 going_small (Some g) Strange h = tt
 
+-- nothing is shown against the length and the size of a small piece
 pub next_small : (f : Front) (p : Piece) (behind : Option Piece) → IsSmallPiece p → IsNextSmall f (Some p) behind
 next_small f p behind h = (not_long p h, going_small (shown.going f (Some p) behind) p h)
 

@@ -204,6 +204,7 @@ text_spells bytes p t =
       within = record { small = within.small; rules = done.within };
     }
 
+-- a program that a text is read as is spelled by it within the limits
 pub verdict_spells : (bytes : List ℕ) (p : Program) → verdict bytes ≡ Stands p → SpellsWithin bytes p
 verdict_spells bytes p same = text_spells bytes p (subst (IsVerdict bytes) same (verdict_right bytes))
 
@@ -231,5 +232,6 @@ spelled_stands bytes p s =
     ap (judged (length bytes) (tokens_of bytes)) read
     ∙ whole_numbered (length bytes) (tokens_of bytes) w p (start_of w) (rules_of w) s.spells.numbered
 
+-- a text is read as a program exactly where it spells that one within the limits
 pub verdicts_are_spelled : VerdictsAreSpelled
 verdicts_are_spelled = record { stands = λ bytes p. (verdict_spells bytes p, spelled_stands bytes p) }

@@ -22,6 +22,7 @@ use Rattle.its_text.proofs.Reading.{some_is, none_is_some}
 abbrev AreSymbolsGood : List Symbol → Type 0
 AreSymbolsGood symbols = AllByRecursion IsValidSymbol symbols × AreDistinct (names_of symbols)
 
+-- the names of symbols with one more at the end are theirs with its name at the end
 pub names_one_more : (symbols : List Symbol) (s : Symbol) → names_of (symbols ++ s ∷ []) ≡ names_of symbols ++ s.name ∷ []
 names_one_more [] s = refl
 names_one_more (t ∷ symbols) s = ap (λ ns. t.name ∷ ns) (names_one_more symbols s)
@@ -50,6 +51,7 @@ stays_there symbols n name arity h = go (is_among name (names_of symbols))
     go true = h
     go false = ap (is_among n) (names_one_more symbols (record { name = name; arity = arity })) ∙ among_more n (names_of symbols) (name ∷ []) h
 
+-- a symbol is there once it is read
 pub comes_there : (symbols : List Symbol) (name : Name) (arity : ℕ) → is_among name (names_of (with_symbol symbols name arity)) ≡ true
 comes_there symbols name arity = go (is_among name (names_of symbols)) refl
   where
@@ -61,11 +63,13 @@ comes_there symbols name arity = go (is_among name (names_of symbols)) refl
 abbrev pub IsKnown : List Symbol → WrittenRule → Type 0
 IsKnown symbols r = (is_among r.left.name (names_of symbols) ≡ true) × (is_among (term_in r.target).name (names_of symbols) ≡ true)
 
+-- rules whose symbols are all there have them there with one symbol more
 pub all_stay : (symbols : List Symbol) (name : Name) (arity : ℕ) (rules : List WrittenRule) → AllByRecursion (IsKnown symbols) rules → AllByRecursion (IsKnown (with_symbol symbols name arity)) rules
 all_stay symbols name arity [] h = tt
 all_stay symbols name arity (r ∷ rules) h =
     ((stays_there symbols r.left.name name arity h.0.0, stays_there symbols (term_in r.target).name name arity h.0.1), all_stay symbols name arity rules h.1)
 
+-- the symbols of rules are all among those that the rules have
 pub all_known : (rules : List WrittenRule) → AllByRecursion (IsKnown (symbols_of rules)) rules
 all_known [] = tt
 all_known (r ∷ rules) =

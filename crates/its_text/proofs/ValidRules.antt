@@ -62,6 +62,7 @@ maybe_extends : (names : List Name) (o : Option Atoms) → Extends names (with_m
 maybe_extends names None = extends_self names
 maybe_extends names (Some atoms) = atoms_extends names atoms
 
+-- the names of a guard go to the end of those before it
 pub guard_extends : (names : List Name) (g : Guard) → Extends names (with_guard names g)
 guard_extends names NoGuard = extends_self names
 guard_extends names (BehindMark o) = maybe_extends names o
@@ -72,10 +73,12 @@ abbrev pub AllRead : List Name → List Sum → Type 0
 AllRead names [] = ⊤
 AllRead names (s ∷ sums) = SumReads names s × AllRead names sums
 
+-- the names of arguments are among any names to which theirs extend
 pub all_read_more : (names last : List Name) (sums : List Sum) → Extends names last → AllRead names sums → AllRead last sums
 all_read_more names last [] e h = tt
 all_read_more names last (s ∷ sums) e h = (sum_along names last s e h.0, all_read_more names last sums e h.1)
 
+-- the names of arguments are among the variables once these are read
 pub sums_are_read : (names : List Name) (sums : List Sum) → AllRead (with_sums names sums) sums
 sums_are_read names [] = tt
 sums_are_read names (s ∷ sums) =
@@ -87,6 +90,7 @@ arguments_valid names [] h w = tt
 arguments_valid names (s ∷ sums) h w =
     all_one_more (IsValidTerm (length names)) (sums_terms names sums) (sum_term names s) (arguments_valid names sums h.1 w.1) (record { variables = sum_below names s h.0; expands = w.0.expanded })
 
+-- there are as many terms as arguments
 pub arguments_count : (names : List Name) (sums : List Sum) → length (sums_terms names sums) ≡ length sums
 arguments_count names [] = refl
 arguments_count names (s ∷ sums) =

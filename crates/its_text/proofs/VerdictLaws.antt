@@ -40,6 +40,7 @@ judged_right : (bytes : List ℕ) (a : Answer (List Section) Kind) → Answers p
 judged_right bytes (Stands written) h = of_parts bytes written (record { text = h.written; faultless = h.faultless }) (start_of written) (rules_of written) refl refl
 judged_right bytes (Refused x) h = inl h
 
+-- the verdict on a text is a right one
 pub verdict_right : (bytes : List ℕ) → IsVerdict bytes (verdict bytes)
 verdict_right bytes = judged_right bytes (answer programs (length bytes) (tokens_of bytes)) (answers_all_texts.each (length bytes) (tokens_of bytes))
 

@@ -76,6 +76,7 @@ marked_first h g p ps same =
     let begins = guard_first h g p (first ps) same in
     (λ k. let x = begins.0 k in (x.0, (refl, x.1)), λ k. begins.1 (k.0, k.1.1))
 
+-- directly behind `:|:` each step keeps the limits exactly where the front is quiet
 pub guard_marked_turns : (h : Headed) (p : inner.Piece) (ps : List Piece)
     → Turns (GuardMarked h) (In p) ps (behind_mark h p)
 guard_marked_turns h (inner.Word name) ps = marked_word h name ps (is_open (first ps)) refl
@@ -115,6 +116,7 @@ word_opens h name ps =
       λ k. (made.1 k.0.0, k.0.1.rule refl),
     )
 
+-- behind a name directly behind `:|:` each step keeps the limits exactly where the front is quiet
 pub word_read_turns : (h : Headed) (name : Name) (p : inner.Piece) (ps : List Piece)
     → Turns (WordRead h name) (In p) ps (behind_word h name p)
 word_read_turns h name inner.Open ps = word_opens h name ps

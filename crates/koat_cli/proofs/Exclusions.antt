@@ -45,6 +45,7 @@ same_file laws words m n f g hf hg = inside (laws.words.one_request words (Analy
     inside : Analyse m f ≡ Analyse n g → f ≡ g
     inside e = cc
 
+-- the same words ask for the same number of pivots
 pub same_pivots : Determined → (words : Words) (m n : ℕ) (f g : Word) → Asks words (Analyse m f)
     → Asks words (Analyse n g) → m ≡ n
 same_pivots laws words m n f g hf hg = inside (laws.words.one_request words (Analyse m f) (Analyse n g) hf hg)
@@ -149,6 +150,7 @@ same_report laws call files x y r q e a b =
     let pivots : a.pivots ≡ b.pivots = same_pivots laws call.words a.pivots b.pivots a.read.file b.read.file a.read.asked b.read.asked in
     laws.reports.each b.program b.pivots r q (subst (λ (n : ℕ). IsAnalysis b.program n r) pivots (subst (λ (p : Program). IsAnalysis p a.pivots r) program a.found)) b.found
 
+-- reports on the same call, from a shelf that tells its files, have the same text
 pub same_text : Determined → (call : Call) (files : Files) (x y : List ℕ) (r q : Report) → call.held ≡ Some files
     → IsReported call x r → IsReported call y q → x ≡ y
 same_text laws call files x y r q e a b =
@@ -200,6 +202,7 @@ one_cause laws call files s t x y e (Faulty a) (Faulty b) = (refl, a.told ∙ (a
 pub done_is : (r : Report) → list_all is_timed r.times ≡ true → Done ≡ status_of r
 done_is r e = sym (ap (λ (v : Bool). if v then Done else Unknown) e)
 
+-- where some rule has no time, the status of the report says so
 pub unknown_is : (r : Report) → list_all is_timed r.times ≡ false → Unknown ≡ status_of r
 unknown_is r e = sym (ap (λ (v : Bool). if v then Done else Unknown) e)
 

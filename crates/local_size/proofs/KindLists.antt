@@ -63,6 +63,7 @@ among-one p b (suc n) l m = go (nat_eq b p) refl (among-one p (b + 1) n)
 pub own-there : (left place : ℕ) → 1 ≤ place → place ≤ left → own_places left place ≡ place ∷ []
 own-there left place l m = among-one place 1 left l (omega (arith, m))
 
+-- a place past the left arguments has no argument of its own
 pub own-missing : (left place : ℕ) → left < place → own_places left place ≡ []
 own-missing left place l = behind-none place 1 left (omega (arith, l))
 
@@ -75,6 +76,7 @@ other-pushed n place h =
     differ true e = absurd (h (eqb-true (n + 1) place e))
     differ false e = refl
 
+-- where the next place is the place itself, the other places stay as they are
 pub other-passed : (n place : ℕ) → n + 1 ≡ place → other_places (n + 1) place ≡ other_places n place
 other-passed n place h =
     filter-passed (λ j. not (j == place)) 1 n (n + 1) (omega arith) (ap not (eq-eqb (n + 1) place h))
@@ -91,6 +93,7 @@ others-pushed first n place old new h kept e =
     (sym (arguments-append (other_places n place) ((n + 1) ∷ []))
     ∙ ap arguments (sym (other-pushed n place h)))))
 
+-- where the next place is the place itself, no argument is pushed
 pub others-passed : (first : List plain.Kind) (n place : ℕ) (old : List Kind) → n + 1 ≡ place
     → map kind_of old ≡ first ++ arguments (other_places n place)
     → map kind_of old ≡ first ++ arguments (other_places (n + 1) place)
@@ -137,6 +140,7 @@ pub own-pushed : (left place : ℕ) (old new : List plain.Kind) → 1 ≤ place 
 own-pushed left place old new l m e =
     e ∙ ap (λ (ps : List ℕ). old ++ arguments ps) (sym (own-there left place l m))
 
+-- where the place is past the left arguments, no argument of its own is pushed
 pub own-passed : (left place : ℕ) (old : List plain.Kind) → left < place
     → old ≡ old ++ arguments (own_places left place)
 own-passed left place old l =

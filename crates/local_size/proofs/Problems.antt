@@ -56,6 +56,7 @@ sought-affine left =
     length-append (range_with_len 1 left) (0 ∷ [])
     ∙ ap (λ (n : ℕ). n + 1) (length-range_with_len 1 left)
 
+-- at most 97 places are sought where there are at most 96 left arguments
 pub sought-few : (left : ℕ) (kind : plain.Kind) → left ≤ 96 → length (sought_places left kind) ≤ 97
 sought-few left Number l = omega arith
 sought-few left (Argument place sign) l = omega arith

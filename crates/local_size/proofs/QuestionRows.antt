@@ -20,6 +20,7 @@ once-each (x ∷ xs) = ap (λ (y : ℤ). y ∷ map (λ a. pos 1 *ℤ a) xs) (onc
     once : (a : ℤ) → pos 1 *ℤ a ≡ a
     once a = omega (arith, ints)
 
+-- a form taken once is itself
 pub once-form : (f : Form) → form_times (pos 1) f ≡ f
 once-form f =
     ap (λ (xs : List ℤ). record { coefs = xs; constant = pos 1 *ℤ f.constant }) (once-each f.coefs)

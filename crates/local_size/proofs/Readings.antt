@@ -40,6 +40,7 @@ constant-is left Number v d = refl
 constant-is left (Argument place sign) v d = refl
 constant-is left Affine v d = refl
 
+-- the coefficients and the constant that are read make the form of the kind
 pub form-is : (left : ℕ) (kind : plain.Kind) (v : ℕ → ℤ) (d : ℤ) (coefs : List ℤ) (constant : ℤ)
     → coefs ≡ listed left (coefficient_of kind v d) → constant ≡ constant_of left kind v
     → record { coefs = coefs; constant = constant } ≡ form_of left kind v d
@@ -59,6 +60,7 @@ module _ (r : RuleForms) (w : Form) (kind : plain.Kind) where
   parameters-are : (question_of r w kind).parameters ≡ length (sought_places r.left kind)
   parameters-are = ap (λ (q : Question). q.parameters) (question-is r w kind)
 
+  -- the form and the multipliers that are read off a solution make the arm that it gives
   pub solved-is : (numbers : List ℤ) (den rows : ℕ) → rows ≡ length r.rows
       → Linear den (form_of r.left kind (parameters_of (at numbers)) (pos den))
       (listed rows (λ j. nat_abs (at numbers (2 * length (sought_places r.left kind) + j))))
@@ -91,6 +93,7 @@ module _ (r : RuleForms) (w : Form) (kind : plain.Kind) where
   unfolding program_of_question
   lines-are q = equations-many 0 q.groups
 
+  -- a dual has more numbers than the rule has unknowns
   pub dual-room : (pivots : ℕ) (numbers : List ℤ) (den : ℕ) → IsScaledDual (kind_program r w kind) pivots numbers den
       → 0 + r.unknowns < length numbers
   dual-room pivots numbers den s =

@@ -44,6 +44,7 @@ module _ (r : RuleForms) (w : Form) (kind : plain.Kind) (pivots : ℕ) (problem 
       let l = readings.solution-room r w kind pivots s.numbers.items s.den (moved (Solution s) h)
       in omega (arith, l, e)
 
+  -- where the solver gives a solution, the question comes to the arm that is read off it
   pub arm-found : (s : Scaled) (rows : ℕ) (arm : Arm) → IsWholeAnswer (program_of problem) pivots (Solution s)
       → rows ≡ length r.rows
       → arm ≡ Linear s.den (form_of r.left kind (parameters_of (at s.numbers.items)) (pos s.den))
@@ -59,6 +60,7 @@ module _ (r : RuleForms) (w : Form) (kind : plain.Kind) (pivots : ℕ) (problem 
       let l = readings.dual-room r w kind pivots s.numbers.items s.den (moved (Dual s) h) in
       let f = ap (λ (xs : List ℤ). length xs) e in omega (arith, l, f)
 
+  -- where the solver gives a dual, the question comes to none, with the ray that is read off it
   pub none-found : (s : Scaled) (ns ray : List ℤ) → IsWholeAnswer (program_of problem) pivots (Dual s)
       → ns ≡ s.numbers.items → ray ≡ listed r.unknowns (λ u. at ns (0 + u)) → ComesTo r w pivots kind (NoneFound ray)
   none-found s ns ray h e f = (

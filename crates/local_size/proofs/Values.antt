@@ -37,6 +37,7 @@ opposite-number a l = go a coefficient_limit l
     go : (a : ℤ) (n : ℕ) → nat_abs a ≤ n → nat_abs (negsuc 0 *ℤ a) ≤ n
     go a n l = omega (arith, ints, l)
 
+-- the opposite of a small form is small
 pub opposite-small : (f : Form) → IsSmall f → IsSmall (opposite f)
 opposite-small f s = record {
   coefs = All-map (λ a. nat_abs a ≤ coefficient_limit) (λ a. negsuc 0 *ℤ a) f.coefs
@@ -53,6 +54,7 @@ opposite-value m f v = record {
 }
 
 module _ (m : RuleRows) (is : IsPrepared m) where
+  -- what the questions see of a prepared rule has the shape of a rule
   pub shaped : IsRuleShaped (local_forms (prepared_of m))
   shaped = subst (λ (q : Prepared). IsRuleShaped (forms_of 0 0 q)) (sym is.same)
       (prepared-shaped 0 0 is.rule is.preparable)

@@ -140,5 +140,6 @@ rule_is_numbered p zero r h = absurd (none_some h)
 rule_is_numbered p (suc t) r h =
     is_in-numbers (suc (length p.rules)) (suc t) (omega (arith, slice_get-below p.rules t r h))
 
+-- the virtual entry is among the numbers of the entry and the rules
 pub entry_is_numbered : (p : Program) → is_in 0 (entry_and_rules p) ≡ true
 entry_is_numbered p = is_in-numbers (suc (length p.rules)) 0 (omega arith)

@@ -86,6 +86,7 @@ two-fail error d e t h =
     regroup None g k = refl
     regroup (Some f) g k = refl
 
+-- where no operand has a fault the whole answers with its own
 pub two-answer : (r : Result Poly PolyError) (p : Polynomial) (d e t : Term) → first_fault d ≡ None → first_fault e ≡ None → Answers r (fault_of t) p
     → Answers r (first_among (subexpressions d ++ (subexpressions e ++ t ∷ []))) p
 two-answer r p d e t h k a =
@@ -96,6 +97,7 @@ two-answer r p d e t h k a =
 pub power-fails : (error : PolyError) (e : Term) (n : ℕ) → Says error (first_fault e) → Says error (first_fault (Exponentiation e n))
 power-fails error e n h = subst (Says error) (sym (first-power e n)) (says-first error (first_fault e) (faults_of_powers (expanded e) n) h)
 
+-- where its base has no fault a power answers with its own
 pub power-answers : (r : Result Poly PolyError) (e : Term) (n : ℕ) → first_fault e ≡ None → Answers r (faults_of_powers (expanded e) n) (power_of (expanded e) n)
     → Answers r (first_fault (Exponentiation e n)) (power_of (expanded e) n)
 power-answers r e n h a =

@@ -133,6 +133,7 @@ pub some-left : (p q : Polynomial) → front_order p q ≡ Equal → length p �
 some-left [] q e l = cc
 some-left (m ∷ p) q e l = omega (arith, l)
 
+-- where the first monomials have the same variables, the right list isn't empty
 pub some-right : (p q : Polynomial) → front_order p q ≡ Equal → length q ≢ 0
 some-right [] q e l = cc
 some-right (m ∷ p) [] e l = cc

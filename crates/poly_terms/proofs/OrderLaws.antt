@@ -18,6 +18,7 @@ use Rattle.int_laws.proofs.ZeroLaws.{is_zero-false as isnt_zero}
 pub order-flip : (vs ws : List ℕ) → order vs ws ≡ Greater → order ws vs ≡ Less
 order-flip vs ws e = nat_list_cmp_total.antisymm ws vs ∙ ap ordering_reverse e
 
+-- what has another before it is after that one
 pub order-back : (vs ws : List ℕ) → order vs ws ≡ Less → order ws vs ≡ Greater
 order-back vs ws e = nat_list_cmp_total.antisymm ws vs ∙ ap ordering_reverse e
 
@@ -48,6 +49,7 @@ ascending-added m (t ∷ ts) h = go (order m.vars t.vars) refl (ascending-added 
     go Equal e ih = (h.0, h.1)
     go Greater e ih = (before-added t.vars m ts (order-flip m.vars t.vars e) h.0, ih)
 
+-- several monomials more keep the order
 pub ascending-all_added : (ts : Polynomial) (ms : List Monomial) → IsAscending ts → IsAscending (all_added ts ms)
 ascending-all_added ts [] h = h
 ascending-all_added ts (m ∷ ms) h = ascending-all_added (added m ts) ms (ascending-added m ts h)
@@ -60,6 +62,7 @@ before-without_zeros vs (m ∷ ms) h = go (is_zero m.coef) (before-without_zeros
     go true ih = ih
     go false ih = (h.0, ih)
 
+-- leaving out what has the coefficient 0 keeps the order
 pub ascending-without_zeros : (ms : Polynomial) → IsAscending ms → IsAscending (without_zeros ms)
 ascending-without_zeros [] h = h
 ascending-without_zeros (m ∷ ms) h = go (is_zero m.coef) (ascending-without_zeros ms h.1)
@@ -72,6 +75,7 @@ before-opposite : (vs : List ℕ) (ms : Polynomial) → IsBefore vs ms → IsBef
 before-opposite vs [] h = h
 before-opposite vs (m ∷ ms) h = (h.0, before-opposite vs ms h.1)
 
+-- once those with the coefficient 0 are left out, no coefficient is 0
 pub nonzero-without_zeros : (ms : Polynomial) → HasNoZero (without_zeros ms)
 nonzero-without_zeros [] = tt
 nonzero-without_zeros (m ∷ ms) = go (is_zero m.coef) refl (nonzero-without_zeros ms)
@@ -85,6 +89,7 @@ pub from-less : (n k : ℕ) (vs : List ℕ) → n ≤ k → AreFrom k vs → Are
 from-less n k [] l h = h
 from-less n k (v ∷ vs) l h = (omega (arith, h.0), from-less n k vs l h.1)
 
+-- variables that are at least some number are so with one more inserted that is
 pub from-inserted : (n v : ℕ) (vs : List ℕ) → n ≤ v → AreFrom n vs → AreFrom n (inserted v vs)
 from-inserted n v [] l h = (l, h)
 from-inserted n v (w ∷ ws) l h = go (nat_lt w v) (from-inserted n v ws l h.1)

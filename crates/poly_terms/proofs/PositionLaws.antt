@@ -151,6 +151,7 @@ pub at-monomial : (ms : List code.Monomial) (i : ℕ) (m : code.Monomial) (d : M
     → get_or (monomials_of ms) i d ≡ monomial_of m
 at-monomial ms i m d l e = get_or-map monomial_of ms i m d l ∙ ap monomial_of (sym e)
 
+-- the position of variables is behind each monomial of the code whose variables come before them
 pub behind-at : (vs : List ℕ) (ms : List code.Monomial) (i : ℕ) (m : code.Monomial) → IsAscending (monomials_of ms) → i < length ms → m ≡ get_or ms i m
     → is_lt (order m.vars.items vs) ≡ true → i < position_in vs (monomials_of ms)
 behind-at vs ms i m a l e f =
@@ -162,6 +163,7 @@ behind-at vs ms i m a l e f =
     less Equal g = cc
     less Greater g = cc
 
+-- the position of variables isn't behind a monomial of the code whose variables don't come before them
 pub before-at : (vs : List ℕ) (ms : List code.Monomial) (i : ℕ) (m : code.Monomial) → i < length ms → m ≡ get_or ms i m
     → is_lt (order m.vars.items vs) ≡ false → position_in vs (monomials_of ms) ≤ i
 before-at vs ms i m l e f =

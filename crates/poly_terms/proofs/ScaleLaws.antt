@@ -88,11 +88,13 @@ collected-times : (z : ℤ) (p : Polynomial) → IsOrdered p → z ≢ pos 0 →
 collected-times z p h k =
     ap without_zeros (added-to-none (map (times z) p) (ascending-times z p h.ascending)) ∙ all-left (map (times z) p) (nonzero-times z p k h.nonzero)
 
+-- a product with a constant on the right is each coefficient multiplied by it
 pub times-right : (z : ℤ) (p q : Polynomial) → q ≡ constant z ∷ [] → IsOrdered p → IsOrdered q → product_of p q ≡ map (times z) p
 times-right z p q e h k =
     ap (product_of p) e
     ∙ (ap (λ (ms : Polynomial). without_zeros (all_added [] ms)) (products-right z p) ∙ collected-times z p h (subst HasNoZero e k.nonzero).0)
 
+-- so is a product with a constant on the left
 pub times-left : (z : ℤ) (p q : Polynomial) → p ≡ constant z ∷ [] → IsOrdered p → IsOrdered q → product_of p q ≡ map (times z) q
 times-left z p q e h k =
     ap (λ (r : Polynomial). product_of r q) e

@@ -92,6 +92,7 @@ below-more : (n k : ℕ) (vs : List ℕ) → n ≤ k → AreVariablesBelow n vs 
 below-more n k [] l h = h
 below-more n k (v ∷ vs) l h = (omega (arith, h.0), below-more n k vs l h.1)
 
+-- a polynomial whose variables are below a number has them below a greater one
 pub variables-more : (n k : ℕ) (p : Polynomial) → n ≤ k → HasVariablesBelow n p → HasVariablesBelow k p
 variables-more n k [] l h = h
 variables-more n k (m ∷ p) l h = (below-more n k m.vars l h.0, variables-more n k p l h.1)

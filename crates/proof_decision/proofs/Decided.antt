@@ -105,6 +105,7 @@ module _ (s : Setting) where
 pub first-reasons-decided : FirstReasonsAreDecided
 first-reasons-decided = record { some = reason-decided; none = none-decided }
 
+-- the computed test of a list of lemmas says yes exactly where all are accepted
 pub lemmas-decided : LemmasAreDecided
 unfolding AcceptsLemmas
 lemmas-decided = record { each = λ s proofs. decides-from s [] proofs }

@@ -9,9 +9,11 @@ use Rattle.model.proofs.Membership.{same_number, no_is_not_yes, is_in-cases, con
 pub in-left : (xs ys : List ℕ) (x : ℕ) → is_in x xs ≡ true → is_in x (xs ++ ys) ≡ true
 in-left xs ys x h = is_in-contained (xs ++ ys) x (Contains-append_left xs ys x (contains-is_in xs x h))
 
+-- what is in the second of two lists is in their join
 pub in-right : (xs ys : List ℕ) (x : ℕ) → is_in x ys ≡ true → is_in x (xs ++ ys) ≡ true
 in-right xs ys x h = is_in-contained (xs ++ ys) x (Contains-append_right xs ys x (contains-is_in ys x h))
 
+-- what is in the join of two lists is in one of them
 pub in-either : (xs ys : List ℕ) (x : ℕ) → is_in x (xs ++ ys) ≡ true → (is_in x xs ≡ true) ⊎ (is_in x ys ≡ true)
 in-either [] ys x h = inr h
 in-either (y ∷ xs) ys x h = go (is_in-cases x y (xs ++ ys) h) (in-either xs ys x)
@@ -28,6 +30,7 @@ in-either (y ∷ xs) ys x h = go (is_in-cases x y (xs ++ ys) h) (in-either xs ys
 
 -- what is in the images of a list is the image of one of its numbers
 module _ (f : ℕ → Option ℕ) where
+  -- a number among the images comes from a number of the list
   pub image-told : (ts : List ℕ) (a : ℕ) → is_in a (filter_map f ts) ≡ true → (t : ℕ) × (is_in t ts ≡ true) × (f t ≡ Some a)
   image-told [] a h = absurd (no_is_not_yes false refl h)
   image-told (t ∷ ts) a h = go (f t) refl (image-told ts a)
@@ -45,6 +48,7 @@ module _ (f : ℕ → Option ℕ) where
           by (inl same) = (t, or_left (t == t) (is_in t ts) (same_number t), e ∙ ap Some (sym same))
           by (inr k) = later (ih k)
 
+  -- the image of a number of the list is among the images
   pub image-in : (ts : List ℕ) (a t : ℕ) → is_in t ts ≡ true → f t ≡ Some a → is_in a (filter_map f ts) ≡ true
   image-in [] a t h e = absurd (no_is_not_yes false refl h)
   image-in (u ∷ ts) a t h e = by (is_in-cases t u ts h) (λ k. image-in ts a t k e)
@@ -83,6 +87,7 @@ all-passing test (u ∷ ts) h t i = go (test u) refl h (is_in-cases t u ts i) (�
 
 -- a test that more numbers pass
 module _ (p q : ℕ → Bool) (more : (t : ℕ) → p t ≡ true → q t ≡ true) where
+  -- where one test implies another, no more numbers pass the first than the second
   pub passing-more : (ts : List ℕ) → length (filter p ts) ≤ length (filter q ts)
   passing-more [] = omega arith
   passing-more (t ∷ ts) = go (p t) (q t) refl refl (passing-more ts)

@@ -27,6 +27,7 @@ use Rattle.proof_decision.specs.Numbers.{is_in_limit, are_in_limit, is_form_in_l
 pub decides-yes : {P : Type 0} → P → Decides true P
 decides-yes h = (λ e. h, λ k. refl)
 
+-- no decides what doesn't hold
 pub decides-no : {P : Type 0} → ¬ P → Decides false P
 decides-no n = (λ e. absurd (true≢false (sym e)), λ k. absurd (n k))
 
@@ -66,11 +67,13 @@ decides-limit n = decides-le n certificate_limit
 decides-limits : (ns : List ℕ) → Decides (are_in_limit ns) (AreInLimit ns)
 decides-limits ns = decides-all is_in_limit IsInLimit decides-limit ns
 
+-- whether the numbers of a form are within the limit is decided
 pub decides-form : (f : Form) → Decides (is_form_in_limit f) (IsFormInLimit f)
 decides-form f =
     Decides-like (is_form_in_limit f) (λ h. record { coefs = h.0; constant = h.1 }) (λ h. (h.coefs, h.constant))
     (Decides-and _ _ (decides-all _ _ (λ c. decides-limit (nat_abs c)) f.coefs) (decides-limit (nat_abs f.constant)))
 
+-- whether there is a multiplier within the limit for each row of a rule is decided
 pub decides-multipliers : (s : Setting) (t : ℕ) (ms : List ℕ) → Decides (are_multipliers s t ms) (AreMultipliers s t ms)
 decides-multipliers s t ms =
     Decides-like (are_multipliers s t ms) (λ h. record { long = h.0; limit = h.1 }) (λ h. (h.long, h.limit))
@@ -110,6 +113,7 @@ module _ (rows : List Form) (ms : List ℕ) (goal : Form) where
           get_or_past goal.coefs u (pos 0) (le_trans (le-max_left (length goal.coefs) (longest rows)) high)
           ∙ sym (past-rows ms rows u (le_trans (le-max_right (length goal.coefs) (longest rows)) high))
 
+  -- whether rows, each times its multiplier, imply a form is decided
   pub decides-implies : Decides (implies rows ms goal) (Implies rows ms goal)
   decides-implies =
       Decides-like (implies rows ms goal)

@@ -24,11 +24,13 @@ decides-rule p t = go (rule_at p t) refl
         no : (r : Rule) → None ≡ Some r → ⊥
         no r k = cc
 
+-- whether a lemma that is cited is an earlier one is decided
 pub decides-earlier : (past : List (List Fact)) (n : ℕ) → Decides (is_earlier past n) (AcceptsCite past n)
 decides-earlier past n =
     Decides-like (is_earlier past n) (λ h. record { least = h.0; earlier = h.1 }) (λ h. (h.least, h.earlier))
     (Decides-and _ _ (decides-le 1 n) (decides-le n (length past)))
 
+-- whether an empty node has a rule, and a multiplier for each of its rows, is decided
 pub decides-empty_shape : (s : Setting) (t : ℕ) (ms : List ℕ)
     → Decides (is_rule s.program t && are_multipliers s t ms) (HasEmptyShape s t ms)
 decides-empty_shape s t ms =
@@ -43,6 +45,7 @@ decides-one_time (Time zero b ∷ facts) = decides-no (λ h. h)
 decides-one_time (Time (suc t) b ∷ []) = decides-yes tt
 decides-one_time (Time (suc t) b ∷ f ∷ facts) = decides-no (λ h. h)
 
+-- whether the first fact is a time that is 0 is decided
 pub decides-zero_time : (facts : List Fact) → Decides (is_zero_time facts) (IsZeroTime facts)
 decides-zero_time [] = decides-no (λ h. h)
 decides-zero_time (Size t i b ∷ facts) = decides-no (λ h. h)
@@ -83,6 +86,7 @@ decides-tidy (SumOf bs) = decides-yes tt
 decides-tidy (ProductOf bs) = decides-yes tt
 decides-tidy (MaximumOf bs) = decides-yes tt
 
+-- whether a bound may be written as a weaker one, by its inputs and numbers, is decided
 pub decides-weaken_shape : (p : Program) (b : Bound) → Decides (has_weaken_shape p b) (HasWeakenShape p b)
 decides-weaken_shape p b =
     Decides-like (has_weaken_shape p b) (λ h. record { inputs = h.0; numbers = h.1 }) (λ h. (h.inputs, h.numbers))
@@ -91,6 +95,7 @@ decides-weaken_shape p b =
     (decides-input (arity_of p p.start)) b)
     (decides-nodes is_tidy_number IsTidyNumber decides-tidy b))
 
+-- whether the only fact of a child is below a bound is decided
 pub decides-weaker : (s : Setting) (facts : List Fact) (b : Bound) → Decides (is_weaker s facts b) (IsWeaker s facts b)
 decides-weaker s [] b = decides-no (λ h. h)
 decides-weaker s (Time t a ∷ []) b = ((λ e. e), (λ e. e))

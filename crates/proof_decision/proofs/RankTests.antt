@@ -38,14 +38,17 @@ decides-small rewrite b =
 
 -- the last tests of a node: its times, its sizes, and that its bound is small
 module _ (s : Setting) (table : Table) where
+  -- the last test decides whether the composed bound is small
   pub small-last : (b : Bound) → AllDecide (check_small s b ∷ []) (test_small s b ∷ [])
   small-last b = (refl, (decides-small s.rewrite b, tt))
 
+  -- tests that rules have times decide the checks for them, before further ones that decide
   pub times-decide : (ts : List ℕ) (cs : List Check) (rest : List Test) → AllDecide cs rest
       → AllDecide (for_each (check_time table) ts cs) (test_each (test_time table) ts rest)
   times-decide ts cs rest h =
       each-decides (check_time table) (test_time table) cs rest (λ t. refl) (λ t. decides-known (table.time t)) h ts
 
+  -- tests that places have sizes decide the checks for them, before further ones that decide
   pub sizes-decide : (spots : List Spot) (cs : List Check) (rest : List Test) → AllDecide cs rest
       → AllDecide (for_each (check_size table) spots cs) (test_each (test_size table) spots rest)
   sizes-decide spots cs rest h =

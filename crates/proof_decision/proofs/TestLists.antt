@@ -48,6 +48,7 @@ first-told (c ∷ cs) (t ∷ ts) h r k = go t.passes refl (first-told cs ts h.1.
 
 -- a test for each element decides a check for each element
 module _ {X : Type 0} (f : X → Check) (g : X → Test) (cs : List Check) (ts : List Test) where
+  -- tests for each element, with the reasons of its checks, decide them, before further ones that decide
   pub each-decides : ((x : X) → (f x).reason ≡ (g x).reason) → ((x : X) → Decides (g x).passes (f x).holds)
       → AllDecide cs ts → (xs : List X) → AllDecide (for_each f xs cs) (test_each g xs ts)
   each-decides same decides rest [] = rest

@@ -19,6 +19,7 @@ pub abs-up : (x : ℤ) → x ≤ℤ pos (nat_abs x)
 abs-up (pos n) = omega (arith, ints)
 abs-up (negsuc n) = omega (arith, ints)
 
+-- the negation of a number is at most its absolute value
 pub abs-down : (x : ℤ) → neg_ℤ x ≤ℤ pos (nat_abs x)
 abs-down (pos n) = omega (arith, ints)
 abs-down (negsuc n) = omega (arith, ints)
@@ -36,6 +37,7 @@ abs-product (negsuc a) (pos b) = abs-within (negsuc a *ℤ pos b) (suc a * b) (o
 abs-product (negsuc a) (negsuc b) =
     abs-within (negsuc a *ℤ negsuc b) (suc a * suc b) (omega (arith, ints)) (omega (arith, ints))
 
+-- the absolute value of a sum is at most the sum of the absolute values
 pub abs-sum : (a b : ℤ) → nat_abs (a +ℤ b) ≤ nat_abs a + nat_abs b
 abs-sum a b = abs-within (a +ℤ b) (nat_abs a + nat_abs b) (omega (arith, ints, abs-up a, abs-up b))
     (omega (arith, ints, abs-down a, abs-down b))

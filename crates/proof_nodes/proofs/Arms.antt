@@ -151,6 +151,7 @@ module _ (s : Setting) (spot : Spot) (b : Config) (free : List ℤ) (c : Config)
           → nat_abs (polynomial_value h.polynomial (b.values ++ free)) ≤ n → k ≡ n → v ≤ℤ pos (0 * g + k)
       chain v a n k l e f i = omega (arith, ints, l, e, f, i)
 
+  -- an accepted arm's slope times the members, plus its offset, is never below the new value on its side
   pub arm-covered : (side : Side) (arm : Arm) → HasArmShape s spot.rule (left_of s.program spot.rule) arm
       → AcceptsArm s spot side arm → HasSizes arm → StaysOutside s spot inside arm → IsCovered side arm
   arm-covered side (Linear den form multipliers) shape h outer stays =

@@ -26,6 +26,7 @@ listed_coefficient [] j n = absurd (n refl)
 listed_coefficient (c ∷ cs) zero n = omega arith
 listed_coefficient (c ∷ cs) (suc j) n = omega (arith, listed_coefficient cs j n)
 
+-- a coefficient that is told not to be 0 isn't 0
 pub told-not_zero : (c : ℤ) → not (is_zero c) ≡ true → c ≢ pos 0
 told-not_zero c h = go (is_zero c) refl h
   where
@@ -83,6 +84,7 @@ module _ (s : Setting) (table : Table) (node : RankNode) where
     ),
   )
 
+  -- a ranking node whose checks all pass is accepted
   pub passes-rank : AllPass (rank_checks s table node) → AcceptsRank s table node
   passes-rank h =
       let moves = each_passes _ _ node.set h.1 in
@@ -100,6 +102,7 @@ module _ (s : Setting) (table : Table) (node : RankNode) where
         small = sizes.1.0;
       }
 
+  -- no check of a ranking node can fail without being false
   pub rank-stable : AreStable (rank_checks s table node)
   rank-stable = (
     stable-rank_shape s node,

@@ -91,6 +91,7 @@ module _ (p : Program) (table : Table) (good : IsGoodTable p table) where
       go None e = tt
       go (Some b) e = let g : IsGood p (Time t b) = good.times t b e in g.based
 
+  -- a size that a good table has, or 0 where it has none, has bases of at least 1
   pub known_size-based : (t i : ℕ) → IsBased (known (table.size t i))
   known_size-based t i = go (table.size t i) refl
     where

@@ -130,6 +130,7 @@ module _ (s : Setting) (members : List Member) (size : ℕ → ℕ → Option Bo
       (flows_into s members size ms) (flows_from-based m (pre s.program m.spot.rule)) (flows_into-based ms)
 
 module _ (fs : List Flow) (h : All HasBasedOffset fs) where
+  -- what a rule adds has bases of at least 1 where all offsets have
   pub addition-based : (t : ℕ) → IsBased (addition_of fs t)
   addition-based t = (tt, offsets-based (is_inner t) fs h)
 

@@ -115,6 +115,7 @@ module _ (s : Setting) (table : Table) (members : List Member) where
         members-known ms shape.1 up.1 low.1 a.1,
       )
 
+  -- where arms have their sizes before each member, all sizes that the members need are known
   pub known-members : (ms : List Member) → AllByRecursion (HasSizesBefore s table members) ms
       → AllByRecursion (HasSize table) (needed_into s members ms)
   known-members [] h = tt
@@ -179,6 +180,7 @@ module _ (s : Setting) (table : Table) (members : List Member) where
   abbrev needs_time : ℕ → Bool
   needs_time t = multiplies (flows s members table.size) t || adds s (flows s members table.size) t
 
+  -- all checks of an accepted loop pass
   pub cycle-passes : AcceptsCycle s table members → AllPass (cycle_checks s table members)
   cycle-passes h = (
     h.shape,
@@ -193,6 +195,7 @@ module _ (s : Setting) (table : Table) (members : List Member) where
         (h.small, tt))))),
   )
 
+  -- a loop whose checks all pass is accepted
   pub passes-cycle : AllPass (cycle_checks s table members) → AcceptsCycle s table members
   passes-cycle h =
       let up = each_passes _ _ members h.1 in
@@ -211,6 +214,7 @@ module _ (s : Setting) (table : Table) (members : List Member) where
         small = times.1.0;
       }
 
+  -- no check of a loop can fail without being false
   pub cycle-stable : AreStable (cycle_checks s table members)
   cycle-stable = (
     stable-cycle_shape s members,
@@ -224,6 +228,7 @@ module _ (s : Setting) (table : Table) (members : List Member) where
 
 -- a spread's checks pass exactly where it is accepted
 module _ (s : Setting) (table : Table) (m : Member) where
+  -- all checks of an accepted spread pass
   pub spread-passes : AcceptsSpread s table m → AllPass (spread_checks s table m)
   spread-passes h = (
     h.shape,
@@ -237,6 +242,7 @@ module _ (s : Setting) (table : Table) (m : Member) where
     ),
   )
 
+  -- a spread whose checks all pass is accepted
   pub passes-spread : AllPass (spread_checks s table m) → AcceptsSpread s table m
   passes-spread h =
       let sizes = each_passes _ _ (needed_into s [] (m ∷ [])) h.1.1.1 in record {
@@ -247,6 +253,7 @@ module _ (s : Setting) (table : Table) (m : Member) where
         small = sizes.1.0;
       }
 
+  -- no check of a spread can fail without being false
   pub spread-stable : AreStable (spread_checks s table m)
   spread-stable = (
     stable-member_shape s m,

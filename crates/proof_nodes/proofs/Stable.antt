@@ -18,6 +18,7 @@ pub stable-told : (X : Type 0) → X ⊎ (¬ X) → IsStable X
 stable-told X (inl x) h = x
 stable-told X (inr n) h = absurd (h n)
 
+-- what never holds can fail
 pub stable-never : IsStable ⊥
 stable-never h = h (λ x. x)
 
@@ -29,6 +30,7 @@ stable-le m n h = go (order n m)
     go (inr k) = k
     go (inl k) = absurd (h (λ l. omega (arith, l, k)))
 
+-- numbers that can't differ are the same
 pub stable-nat : (m n : ℕ) → IsStable (m ≡ n)
 stable-nat m n h = go (eqb_tells m n)
   where
@@ -36,12 +38,14 @@ stable-nat m n h = go (eqb_tells m n)
     go (inl (e, k)) = k
     go (inr (e, k)) = absurd (h k)
 
+-- answers of tests that can't differ are the same
 pub stable-bool : (u v : Bool) → IsStable (u ≡ v)
 stable-bool true true h = refl
 stable-bool false false h = refl
 stable-bool true false h = absurd (h (λ (e : true ≡ false). let no : ⊥ = cc in no))
 stable-bool false true h = absurd (h (λ (e : false ≡ true). let no : ⊥ = cc in no))
 
+-- integers that can't differ are the same
 pub stable-int : (x y : ℤ) → IsStable (x ≡ y)
 stable-int (pos m) (pos n) h = ap pos (stable-nat m n (λ k. h (λ e. k (same e))))
   where
@@ -69,6 +73,7 @@ int_order (negsuc m) (negsuc n) = by (order m n)
     by (inr k) = inl (omega (arith, ints, k))
     by (inl k) = inr (omega (arith, ints, k))
 
+-- an integer that can't be greater than another is at most the other
 pub stable-int_le : (x y : ℤ) → IsStable (x ≤ℤ y)
 stable-int_le x y h = go (int_order x y)
   where
@@ -106,6 +111,7 @@ stable-All P each (x ∷ xs) h = λ k d l. each _ (λ n. h (λ all. n (all k d l
 
 -- what is true of each node of a bound
 mutual
+  -- what can't fail of a bound without being false can't fail of all its nodes without being false
   pub stable-nodes : (P : Bound → Type 0) → ((b : Bound) → IsStable (P b)) → (b : Bound) → IsStable (EachNode P b)
   stable-nodes P each (Constant c) h = each (Constant c) h
   stable-nodes P each (Input i) h = each (Input i) h

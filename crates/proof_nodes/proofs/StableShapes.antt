@@ -42,9 +42,11 @@ stable-rule p t h = go (rule_at p t) refl
         no : (r : Rule) → None ≡ Some r → ⊥
         no r f = cc
 
+-- that the source of a rule isn't reached can't fail without being false
 pub stable-unreached : (p : Program) (is_allowed : ℕ → Bool) (t : ℕ) → IsStable (IsUnreached p is_allowed t)
 stable-unreached p is_allowed t h = λ r e reached. h (λ k. k r e reached)
 
+-- that there is a multiplier within the limit for each row can't fail without being false
 pub stable-multipliers : (s : Setting) (t : ℕ) (ms : List ℕ) → IsStable (AreMultipliers s t ms)
 stable-multipliers s t ms h = record {
   long = stable-nat _ _ (λ n. h (λ k. n k.long));
@@ -58,12 +60,14 @@ stable-cite past n h = record {
   earlier = stable-le _ _ (λ m. h (λ k. m k.earlier));
 }
 
+-- the shape of an empty node can't fail without being false
 pub stable-empty_shape : (s : Setting) (t : ℕ) (ms : List ℕ) → IsStable (HasEmptyShape s t ms)
 stable-empty_shape s t ms h = record {
   rule = stable-rule s.program t (λ n. h (λ k. n k.rule));
   one_each = stable-multipliers s t ms (λ n. h (λ k. n k.one_each));
 }
 
+-- that there is exactly one fact, a time of a rule, can't fail without being false
 pub stable-one_time : (facts : List Fact) → IsStable (IsOneTime facts)
 stable-one_time [] h = stable-never h
 stable-one_time (Size t i b ∷ facts) h = stable-never h
@@ -71,6 +75,7 @@ stable-one_time (Time zero b ∷ facts) h = stable-never h
 stable-one_time (Time (suc t) b ∷ []) h = tt
 stable-one_time (Time (suc t) b ∷ f ∷ facts) h = stable-never h
 
+-- that the first fact is a time that is 0 can't fail without being false
 pub stable-zero_time : (facts : List Fact) → IsStable (IsZeroTime facts)
 stable-zero_time [] h = stable-never h
 stable-zero_time (Size t i b ∷ facts) h = stable-never h
@@ -92,6 +97,7 @@ stable-tidy (SumOf bs) h = tt
 stable-tidy (ProductOf bs) h = tt
 stable-tidy (MaximumOf bs) h = tt
 
+-- that a bound may be written as a weaker one can't fail without being false
 pub stable-weaken_shape : (p : Program) (b : Bound) → IsStable (HasWeakenShape p b)
 stable-weaken_shape p b h = record {
   inputs = stable-nodes (IsInputBelow (arity_of p p.start)) (stable-input (arity_of p p.start)) b
@@ -99,6 +105,7 @@ stable-weaken_shape p b h = record {
   numbers = stable-nodes IsTidyNumber stable-tidy b (λ n. h (λ k. n k.numbers));
 }
 
+-- that the only fact of a child is below a bound can't fail without being false
 pub stable-weaker : (s : Setting) (facts : List Fact) (b : Bound) → IsStable (IsWeaker s facts b)
 stable-weaker s [] b h = stable-never h
 stable-weaker s (Time t a ∷ []) b h = stable-bool _ _ h
@@ -106,6 +113,7 @@ stable-weaker s (Size t i a ∷ []) b h = stable-bool _ _ h
 stable-weaker s (Time t a ∷ f ∷ facts) b h = stable-never h
 stable-weaker s (Size t i a ∷ f ∷ facts) b h = stable-never h
 
+-- that a composed bound is small can't fail without being false
 pub stable-small : (rewrite : Bound → Bound) (b : Bound) → IsStable (IsSmallComposed rewrite b)
 stable-small rewrite b h = record {
   before = stable-bool _ _ (λ n. h (λ k. n k.before));
@@ -125,6 +133,7 @@ stable-form_shape p f h = record {
   limit = stable-form f.form (λ n. h (λ k. n k.limit));
 }
 
+-- the shape of a ranking node can't fail without being false
 pub stable-rank_shape : (s : Setting) (node : RankNode) → IsStable (HasRankShape s node)
 stable-rank_shape s node h = record {
   ascending = stable-ascending node.set (λ n. h (λ k. n k.ascending));
@@ -172,6 +181,7 @@ stable-arm_shape s t left (Linear den form ms) h = record {
   one_each = stable-multipliers s t ms (λ n. h (λ k. n k.one_each));
 }
 
+-- the shape of a member can't fail without being false
 pub stable-member_shape : (s : Setting) (m : Member) → IsStable (HasMemberShape s m)
 stable-member_shape s m h = record {
   at = stable-spot s.program m.spot (λ n. h (λ k. n k.at));
@@ -206,6 +216,7 @@ stable-polynomial s spot h = go (poly_at s spot) refl
             back : Some q ≡ Some x → q ≡ x
             back g = cc
 
+-- that an arm is accepted can't fail without being false
 pub stable-arm : (s : Setting) (spot : Spot) (side : Side) (arm : Arm) → IsStable (AcceptsArm s spot side arm)
 stable-arm s spot side (Linear den form ms) h = stable-implies _ ms _ h
 stable-arm s spot side Poly h = stable-polynomial s spot h
@@ -237,6 +248,7 @@ stable-members (m ∷ []) h = tt
 stable-members (m ∷ n ∷ rest) h =
     (stable-before m.spot n.spot (λ x. h (λ k. x k.0)), stable-members (n ∷ rest) (λ x. h (λ k. x k.1)))
 
+-- that there are members, which ascend and have their shapes, can't fail without being false
 pub stable-cycle_shape : (s : Setting) (ms : List Member) → IsStable (HasCycleShape s ms)
 stable-cycle_shape s ms h = record {
   some = stable-le _ _ (λ n. h (λ k. n k.some));
@@ -244,6 +256,7 @@ stable-cycle_shape s ms h = record {
   each = stable-All (HasMemberShape s) (stable-member_shape s) ms (λ n. h (λ k. n k.each));
 }
 
+-- that an arm, where it is polynomial, reads no member can't fail without being false
 pub stable-straight : (s : Setting) (ms : List Member) (m : Member) (e : ℕ) (arm : Arm) → IsStable (IsStraightArm s ms m e arm)
 stable-straight s ms m e (Linear den form multipliers) h = tt
 stable-straight s ms m e Poly h = λ j r. stable-bool _ _ (λ n. h (λ k. n (k j r)))

@@ -126,6 +126,7 @@ is-bent_at (p ∷ qs) zero q e l = go (is_bent p) refl
         low m = grind (arith, nat_tests)
 is-bent_at (p ∷ qs) (suc i) q e l = is-bent_at qs i q e l
 
+-- a polynomial is told of a place exactly where its expanded update has degree 2 or more
 pub polynomials-bent : PolynomialsAreBent
 polynomials-bent = record { each = both }
   where

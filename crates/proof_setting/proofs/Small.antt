@@ -66,6 +66,7 @@ module _ (b : Bound) where
     (λ h. absurd (h.0 (record { before = e; after = f }))),
   )
 
+-- rewriting within the limits gives the rewritten bound where it is small, and else how large it is
 pub small-bounds : SmallBoundsAreRewritten
 unfolding rewritten_within
 small-bounds = record {

@@ -71,10 +71,12 @@ module _ (fs : List Fact) (i : ℕ) (t : ℕ) where
       → Some b ≡ time_in (facts_of fs) t
   time_found f b low e kept h = time_here (fact_of f) (facts_of (drop (i + 1) fs)) t b h ∙ (sym (ap (λ (gs : List facts.Fact). time_in gs t) (facts_of-drop fs i f low e)) ∙ kept)
 
+  -- a fact that isn't the time leaves it to the facts behind
   pub time_passed : (f : Fact) → i < length fs → f ≡ get_or fs i f → time_in (facts_of (drop i fs)) t ≡ time_in (facts_of fs) t → None ≡ time_by_fact (fact_of f) t
       → time_in (facts_of (drop (i + 1) fs)) t ≡ time_in (facts_of fs) t
   time_passed f low e kept h = sym (time_later (fact_of f) (facts_of (drop (i + 1) fs)) t h) ∙ (sym (ap (λ (gs : List facts.Fact). time_in gs t) (facts_of-drop fs i f low e)) ∙ kept)
 
+  -- where no fact is left there is no time
   pub time_none : length fs ≤ i → time_in (facts_of (drop i fs)) t ≡ time_in (facts_of fs) t → None ≡ time_in (facts_of fs) t
   time_none low kept = sym (ap (λ (gs : List Fact). time_in (facts_of gs) t) (drop_all i fs low)) ∙ kept
 
@@ -83,9 +85,11 @@ module _ (fs : List Fact) (i : ℕ) (t : ℕ) where
       → Some b ≡ size_in (facts_of fs) t j
   size_found j f b low e kept h = size_here (fact_of f) (facts_of (drop (i + 1) fs)) t j b h ∙ (sym (ap (λ (gs : List facts.Fact). size_in gs t j) (facts_of-drop fs i f low e)) ∙ kept)
 
+  -- a fact that isn't the size leaves it to the facts behind
   pub size_passed : (j : ℕ) (f : Fact) → i < length fs → f ≡ get_or fs i f → size_in (facts_of (drop i fs)) t j ≡ size_in (facts_of fs) t j → None ≡ size_by_fact (fact_of f) t j
       → size_in (facts_of (drop (i + 1) fs)) t j ≡ size_in (facts_of fs) t j
   size_passed j f low e kept h = sym (size_later (fact_of f) (facts_of (drop (i + 1) fs)) t j h) ∙ (sym (ap (λ (gs : List facts.Fact). size_in gs t j) (facts_of-drop fs i f low e)) ∙ kept)
 
+  -- where no fact is left there is no size
   pub size_none : (j : ℕ) → length fs ≤ i → size_in (facts_of (drop i fs)) t j ≡ size_in (facts_of fs) t j → None ≡ size_in (facts_of fs) t j
   size_none j low kept = sym (ap (λ (gs : List Fact). size_in (facts_of gs) t j) (drop_all i fs low)) ∙ kept

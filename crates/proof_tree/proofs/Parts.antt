@@ -20,6 +20,7 @@ pub joined-nothing : (ps : Parts) → joined ps NoParts ≡ ps
 joined-nothing NoParts = refl
 joined-nothing (Part b bs) = ap (Part b) (joined-nothing bs)
 
+-- of three lists of parts it doesn't matter which two are joined first
 pub joined_assoc : (a b c : Parts) → joined (joined a b) c ≡ joined a (joined b c)
 joined_assoc NoParts b c = refl
 joined_assoc (Part x xs) b c = ap (Part x) (joined_assoc xs b c)
@@ -91,6 +92,7 @@ module _ (members : List Member) (table : Table) (rule : ℕ) where
       step : (j : ℕ) → sizes_from table rule 1 j ≡ sizes_after table.size rule j
       step j = ap (λ (n : ℕ). known (table.size rule n)) (let e : 1 + j ≡ suc j = omega arith in e)
 
+  -- the parts from the first place on are those of all places after the rule
   pub all_places : (cs : List ℤ) (den : ℕ) → place_parts cs den (members_from members rule 1) (sizes_from table rule 1)
       ≡ place_parts cs den (is_member members rule) (sizes_after table.size rule)
   all_places cs den = λ i. place_parts cs den (all-members i) (all-sizes i)
@@ -120,6 +122,7 @@ not_pushed ps c den out b h = sym (ap (joined ps) (ap (λ (v : Bool). cond v NoP
 pub out_by_zero : (c : ℤ) (v : Bool) → c ≡ pos 0 → true ≡ is_zero c || v
 out_by_zero c v e = sym (ap (λ (z : ℤ). is_zero z || v) e)
 
+-- a place whose coefficient isn't 0 is left out exactly where it is a member
 pub out_by_member : (c : ℤ) (u v : Bool) → c ≢ pos 0 → u ≡ v → u ≡ is_zero c || v
 out_by_member c u v other e = go (is_zero c) refl
   where

@@ -23,12 +23,14 @@ module _ (poly : Option Polynomial) (arm : Arm) where
       one true e = rw e refl
       one false e = rw e refl
 
+  -- a place that the arm reads is pushed behind those that it reads so far
   pub place_pushed : (t : ℕ) (old new : List ℕ) → old ≡ places_read poly arm t → new ≡ old ++ t ∷ []
       → true ≡ reads poly arm t → new ≡ places_read poly arm (t + 1)
   place_pushed t old new eo en h =
       en ∙ (ap (λ (xs : List ℕ). xs ++ t ∷ []) eo
       ∙ sym (read-more t ∙ ap (λ (v : Bool). places_read poly arm t ++ cond v (t ∷ []) []) (sym h)))
 
+  -- a place that the arm doesn't read leaves those that it reads so far as they are
   pub place_passed : (t : ℕ) (old : List ℕ) → old ≡ places_read poly arm t → false ≡ reads poly arm t
       → old ≡ places_read poly arm (t + 1)
   place_passed t old eo h =

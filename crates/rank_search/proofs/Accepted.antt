@@ -218,6 +218,7 @@ module _ (p : Program) (set : List ℕ) (strict : ℕ) (shut : List SymbolPlace)
       nothing e = cc
   led (suc t) i = refl
 
+  -- by each rule of its set a found node loses what it has to, as its multipliers show
   pub loses : (t : ℕ) → is_in t node.set ≡ true → Loses (setting_of p) node t
   loses t h =
       let k = moved t h in
@@ -235,6 +236,7 @@ module _ (p : Program) (set : List ℕ) (strict : ℕ) (shut : List SymbolPlace)
       (cond (t == strict) (pos node.den) (pos 0)) i.numbered
       (source-part t k i) (target-part t k i) (shown.each t k))))
 
+  -- before its rule a found node's function is at least the denominator, as its multipliers show
   pub floor-holds : HasFloor (setting_of p) node
   floor-holds =
       let i = rule-at strict rules.inside in
@@ -243,6 +245,7 @@ module _ (p : Program) (set : List ℕ) (strict : ℕ) (shut : List SymbolPlace)
       (accepted-floor f node.forms (rule_at p strict) i.rule node.floor (pos node.den) i.numbered
       (source-part strict rules.inside i) shown.last)
 
+  -- a found node has the shape that acceptance asks for
   pub shaped : HasRankShape (setting_of p) node
   shaped = record {
     ascending = subst IsAscending (sym n.same_set) rules.ascending;
@@ -263,6 +266,7 @@ module _ (p : Program) (set : List ℕ) (strict : ℕ) (shut : List SymbolPlace)
       at-least-one : (d : ℕ) → pos 0 <ℤ pos d → 1 ≤ d
       at-least-one d l = omega (arith, ints, l)
 
+  -- a found node is accepted over a table that has the facts that it needs
   pub node-accepted : (table : Table) → HoldsFacts (setting_of p) table node → AcceptsRank (setting_of p) table node
   node-accepted table facts = record {
     shape = shaped;
@@ -273,9 +277,11 @@ module _ (p : Program) (set : List ℕ) (strict : ℕ) (shut : List SymbolPlace)
     small = facts.small;
   }
 
+  -- a found node has its shape, its losses and its floor, whatever a table knows
   pub node-shown : IsShown (setting_of p) node
   node-shown = record { shape = shaped; moves = loses; floor = floor-holds }
 
+-- found nodes are shown, are accepted with the facts that they need, and look at no shut place
 pub nodes-accepted : RankedNodesAreAccepted
 nodes-accepted = record {
   shown = λ p set strict shut pivots node valid rules n. node-shown p set strict shut pivots node valid rules n;

@@ -39,6 +39,7 @@ read-inside [] k r e = absurd (none e)
 read-inside (q ∷ rs) zero r e = omega arith
 read-inside (q ∷ rs) (suc k) r e = let l = read-inside rs k r e in omega (arith, l)
 
+-- the number of a rule is one from 1 up to how many rules there are
 pub rule-inside : (p : Program) (t : ℕ) → IsRule p t → (0 < t) × (t ≤ length p.rules)
 rule-inside p zero i = absurd (none i.numbered)
   where
@@ -116,6 +117,7 @@ few-marked f g (t ∷ set) n =
     let d = only-one (g t) 0 n in
     let e = few-marked f g set n in omega (arith, a, b, c, d, e)
 
+-- no more numbers pass a test than the list has
 pub filter-short : (test : ℕ → Bool) (xs : List ℕ) → length (filter test xs) ≤ length xs
 filter-short test [] = omega arith
 filter-short test (x ∷ xs) = go (test x) (filter-short test xs)
@@ -125,6 +127,7 @@ filter-short test (x ∷ xs) = go (test x) (filter-short test xs)
     go true l = omega (arith, l)
     go false l = omega (arith, l)
 
+-- a range has as many numbers as it is made of
 pub range-length : (a n : ℕ) → length (range_with_len a n) ≡ n
 range-length a zero = refl
 range-length a (suc n) = ap (λ (m : ℕ). suc m) (range-length (a + 1) n)
@@ -143,6 +146,7 @@ few-coefficients b (s ∷ ss) h =
     let g = few-coefficients b ss h in
     let k = h s in omega (arith, a, c, d, e, f, g, k)
 
+-- a set of rules of a valid program has at most 66,000 coefficients
 pub few-in-all : (p : Program) (set : List ℕ) (strict : ℕ) (shut : List SymbolPlace) → IsValid p
     → IsRuleSet p set strict
     → length (coefficients (ranked_set p set strict shut) (symbols_of_set (ranked_set p set strict shut))) ≤ 66000
@@ -168,6 +172,7 @@ symbols-held P b (s ∷ ss) h =
     (λ k d l. All-head P s ss h))
     (symbols-held P b ss (All-tail P s ss h))
 
+-- what holds of all symbols of a program holds of the symbol of each coefficient of a set
 pub coefficients-held : (P : ℕ → Type 0) (b : RankedSet) → ((s : ℕ) → s < b.symbols → P s)
     → All (λ c. P c.symbol) (coefficients b (symbols_of_set b))
 coefficients-held P b h =

@@ -65,10 +65,12 @@ module _ (m : RuleRows) (is : IsPrepared m) where
   rows-are : map form_of m.rows.items ≡ rows_of is.rule
   rows-are = ap (λ (q : Prepared). q.rows) is.same
 
+  -- prepared rows have at most 96 unknowns
   pub few-unknowns : m.unknowns ≤ 96
   few-unknowns = let e = unknowns-are in let l = rows-are-small.few_unknowns is.rule is.preparable in omega
       (arith, e, l)
 
+  -- at most 128 rows are prepared for a rule
   pub few-rows : length m.rows.items ≤ 128
   few-rows =
       let e = length-map form_of m.rows.items in

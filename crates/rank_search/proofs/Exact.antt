@@ -20,6 +20,7 @@ use Rattle.rank_search.specs.Programs.{NothingTrips}
 node-empty : (m : Prepared) (rule : ℕ) (n : EmptyNode) → IsEmptyNode m rule n → ¬ HasPoint m.rows
 node-empty m rule n h p = no_point m.rows n.multipliers.items h.shows p.z p.d p.point
 
+-- each answer whether rows have a point comes exactly where its cause stands
 pub answers-exact : EmptyAnswersAreExact
 answers-exact = record {
   empty = λ m rule pivots a h. empty-if m rule pivots a h;
@@ -47,6 +48,7 @@ answers-exact = record {
     tripped-if m rule pivots (Point z) h = (λ s. absurd s, λ g. g h.1)
     tripped-if m rule pivots (Tripped t) h = (λ _ g. g.each (cause_of t.cause) h.1, λ _. tt)
 
+-- the node of a rule whose rows have no point is accepted
 pub nodes-accepted : EmptyNodesAreAccepted
 nodes-accepted = record {
   each = λ p t r n numbered h. record {

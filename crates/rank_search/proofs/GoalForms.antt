@@ -99,6 +99,7 @@ apart k n (y ∷ gs) h zero (suc j) g x l e f =
     (let r = (inside (y.parameter + 1) n gs h.1 j x f).0 in omega (arith, r))
 apart k n (y ∷ gs) h (suc i) (suc j) g x l e f = apart (y.parameter + 1) n gs h.1 i j g x (omega (arith, l)) e f
 
+-- goals that ascend below a number are goals of so many parameters
 pub are-parameters : (n : ℕ) (gs : List Goal) → Ascend 0 n gs → AreParameters n gs
 are-parameters n gs h = record {
   below = λ i g e. (inside 0 n gs h i g e).1;
@@ -111,6 +112,7 @@ module _ {A : Type 0} (goal : A → Form) (xs : List A) (i : ℕ) (d : A) (l : i
   more : map goal (take (i + 1) xs) ≡ map goal (take i xs) ++ goal (get_or xs i d) ∷ []
   more = ap (map goal) (take_more xs i d l) ∙ map-append goal (take i xs) (get_or xs i d ∷ [])
 
+  -- when the goal of the next coefficient is pushed, the forms are those of one coefficient more
   pub goal-pushed : (new : List Goal) (x : Goal) → new ≡ gs ++ x ∷ [] → x.parameter ≡ i → form_of x.form ≡ goal
       (get_or xs i d)
       → goal_forms 0 (i + 1) new ≡ map goal (take (i + 1) xs)
@@ -120,6 +122,7 @@ module _ {A : Type 0} (goal : A → Form) (xs : List A) (i : ℕ) (d : A) (l : i
       ∙ (ap (λ (fs : List Form). fs ++ form_of x.form ∷ []) kept
       ∙ (ap (λ (z : Form). map goal (take i xs) ++ z ∷ []) g ∙ sym more)))
 
+  -- where the form of the next coefficient is 0, the forms need no goal for it
   pub goal-passed : zero_form ≡ goal (get_or xs i d) → goal_forms 0 (i + 1) gs ≡ map goal (take (i + 1) xs)
   goal-passed g =
       forms-passed 0 i gs ascend
@@ -138,6 +141,7 @@ unmoved r c e = go (nat_eq c.symbol r.source) (nat_eq c.symbol r.target) e
     go true t e = absurd (true≢false e)
     go false true e = absurd (true≢false e)
 
+-- the form of a coefficient neither of the source nor of the target is 0
 pub unconcerned : (part : Part) (r : RuleForms) (c : Coefficient) →
     (nat_eq c.symbol r.source || nat_eq c.symbol r.target) ≡ false
     → zero_form ≡ goal_form part r c
@@ -156,6 +160,7 @@ module _ (target : ℕ) (q : Prepared) (news : List Row) (same : q.news ≡ map 
   target-after c e =
       ap (λ (b : Bool). if b then after_rule (forms_of 0 target q) c.place else zero_form) (eq-eqb c.symbol target e)
 
+  -- at the target, the coefficient of a place with a new value is multiplied by that value
   pub after-listed : (s i : ℕ) (row : Row) → s ≡ target → ¬ (i ≡ 0) → i - 1 < length news → row ≡ get_or news
       (i - 1) row
       → form_of row ≡ at_target (forms_of 0 target q) (record { symbol = s; place = i })
@@ -167,6 +172,7 @@ module _ (target : ℕ) (q : Prepared) (news : List Row) (same : q.news ≡ map 
       ∙ (sym (ap (λ (fs : List Form). slice_index_or fs i zero_form) same) ∙ sym
       (target-after (record { symbol = s; place = suc i }) e)))
 
+  -- at the target, the coefficient of a place past the new values is multiplied by 0
   pub after-past : (s i : ℕ) → s ≡ target → ¬ (i ≡ 0) → length news ≤ i - 1
       → zero_form ≡ at_target (forms_of 0 target q) (record { symbol = s; place = i })
   after-past s zero e n l = absurd (n refl)

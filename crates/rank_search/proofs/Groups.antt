@@ -36,6 +36,7 @@ multipliers-one x start count g ms e f =
     ∙ (listed-agree (length g.rows) _ _ (λ j. ap nat_abs (sym (after-is start x j))) ∙ sym
     (multipliers-listed g.rows (after start x)))))
 
+-- the parts and the denominator that are read of one group make its point
 pub point-one : (x : ℕ → ℤ) (start count : ℕ) (g : Group) (z : ScaledPoint) → count ≡ g.unknowns
     → z.parts ≡ listed count (λ u. x (start + u)) → z.den ≡ nat_abs (x (start + count)) → z ∷ [] ≡ points_of
     (after start x) (g ∷ [])
@@ -56,6 +57,7 @@ multipliers-many x g ms e =
     ap (λ (ns : List ℕ). length ns) ((let f : ms ≡ multipliers_of x g.rows = cc in f) ∙ multipliers-listed g.rows x)
     ∙ length-listed (length g.rows) (λ j. nat_abs (x j))
 
+-- the point of a group has a part for each unknown
 pub parts-many : (x : ℕ → ℤ) (g : Group) (z : ScaledPoint) → z ∷ [] ≡ points_of x (g ∷ []) → length z.parts ≡ g.unknowns
 parts-many x g z e =
     ap (λ (zs : List ScaledPoint). first zs) e ∙ length-listed g.unknowns x
@@ -66,6 +68,7 @@ parts-many x g z e =
 
 -- the groups that are left, and one of them
 module _ (x : ℕ → ℤ) (preps : List RuleRows) (set : List ℕ) where
+  -- with the multipliers of the next group pushed, those of the groups that are left still make all
   pub multipliers-more : (i t next then : ℕ) (old new all : List (List ℕ)) (ms : List ℕ) → i < length set → t
       ≡ get_or set i t
       → old ++ multipliers_by_group (after next x) (map (shape_at preps) (drop i set)) ≡ all
@@ -83,6 +86,7 @@ module _ (x : ℕ → ℤ) (preps : List RuleRows) (set : List ℕ) where
       ∙ (sym (ap (λ (ts : List ℕ). old ++ multipliers_by_group (after next x) (map (shape_at preps) ts))
       (drop_more set i t l ∙ ap (λ (u : ℕ). u ∷ drop (i + 1) set) (sym is))) ∙ kept))))
 
+  -- behind the columns of the next group, those of the groups that are left still make all
   pub columns-more : (i t next then all : ℕ) → i < length set → t ≡ get_or set i t
       → next + group_columns (map (shape_at preps) (drop i set)) ≡ all
       → then ≡ next + suc (length (shape_at preps t).rows)
@@ -92,6 +96,7 @@ module _ (x : ℕ → ℤ) (preps : List RuleRows) (set : List ℕ) where
       (drop_more set i t l ∙ ap (λ (u : ℕ). u ∷ drop (i + 1) set) (sym is)) in
       omega (arith, kept, f, e)
 
+  -- the columns of the next group end within all
   pub columns-room : (i t next all : ℕ) → i < length set → t ≡ get_or set i t
       → next + group_columns (map (shape_at preps) (drop i set)) ≡ all → next + group_columns (shape_at preps t ∷ [])
       ≤ all
@@ -100,6 +105,7 @@ module _ (x : ℕ → ℤ) (preps : List RuleRows) (set : List ℕ) where
       (drop_more set i t l ∙ ap (λ (u : ℕ). u ∷ drop (i + 1) set) (sym is)) in
       omega (arith, kept, e)
 
+  -- where no group is left, the multipliers so far are all
   pub multipliers-end : (i next : ℕ) (old all : List (List ℕ)) → length set ≤ i
       → old ++ multipliers_by_group (after next x) (map (shape_at preps) (drop i set)) ≡ all → old ≡ all
   multipliers-end i next old all l kept =
@@ -111,6 +117,7 @@ module _ (x : ℕ → ℤ) (preps : List RuleRows) (set : List ℕ) where
       nothing [] = refl
       nothing (y ∷ ys) = ap (λ (zs : List (List ℕ)). y ∷ zs) (nothing ys)
 
+  -- where no group is left, the columns so far are all
   pub columns-end : (i next all : ℕ) → length set ≤ i → next + group_columns (map (shape_at preps) (drop i set)) ≡ all
       → next ≡ all
   columns-end i next all l kept =
@@ -134,6 +141,7 @@ module _ (x : ℕ → ℤ) (preps : List RuleRows) (set : List ℕ) where
       ∙ (sym (ap (λ (ts : List ℕ). old ++ points_of (after next x) (map (shape_at preps) ts))
       (drop_more set i t l ∙ ap (λ (u : ℕ). u ∷ drop (i + 1) set) (sym is))) ∙ kept))))
 
+  -- behind the lines of the next group, those of the groups that are left still make all
   pub lines-more : (i t next then all : ℕ) → i < length set → t ≡ get_or set i t
       → next + group_lines (map (shape_at preps) (drop i set)) ≡ all
       → then ≡ next + suc (shape_at preps t).unknowns
@@ -143,6 +151,7 @@ module _ (x : ℕ → ℤ) (preps : List RuleRows) (set : List ℕ) where
       (drop_more set i t l ∙ ap (λ (u : ℕ). u ∷ drop (i + 1) set) (sym is)) in
       omega (arith, kept, f, e)
 
+  -- the lines of the next group end within all
   pub lines-room : (i t next all : ℕ) → i < length set → t ≡ get_or set i t
       → next + group_lines (map (shape_at preps) (drop i set)) ≡ all → next + group_lines (shape_at preps t ∷ []) ≤ all
   lines-room i t next all l is kept =
@@ -150,6 +159,7 @@ module _ (x : ℕ → ℤ) (preps : List RuleRows) (set : List ℕ) where
       (drop_more set i t l ∙ ap (λ (u : ℕ). u ∷ drop (i + 1) set) (sym is)) in
       omega (arith, kept, e)
 
+  -- where no group is left, the points so far are all
   pub points-end : (i next : ℕ) (old all : List ScaledPoint) → length set ≤ i
       → old ++ points_of (after next x) (map (shape_at preps) (drop i set)) ≡ all → old ≡ all
   points-end i next old all l kept =
@@ -160,6 +170,7 @@ module _ (x : ℕ → ℤ) (preps : List RuleRows) (set : List ℕ) where
       nothing [] = refl
       nothing (y ∷ ys) = ap (λ (zs : List ScaledPoint). y ∷ zs) (nothing ys)
 
+  -- where no group is left, the lines so far are all
   pub lines-end : (i next all : ℕ) → length set ≤ i → next + group_lines (map (shape_at preps) (drop i set)) ≡ all
       → next ≡ all
   lines-end i next all l kept =
@@ -176,6 +187,7 @@ multipliers-append x (g ∷ gs) hs =
     ∙ ap (λ (y : ℕ → ℤ). multipliers_by_group (after (suc (length g.rows)) x) gs ++ multipliers_by_group y hs)
     (after-more (suc (length g.rows)) (group_columns gs) (suc (length g.rows) + group_columns gs) x refl))
 
+-- the points of two lists of groups are those of the first, and behind its lines those of the second
 pub points-append : (x : ℕ → ℤ) (gs hs : List Group)
     → points_of x (gs ++ hs) ≡ points_of x gs ++ points_of (after (group_lines gs) x) hs
 points-append x [] hs = refl
@@ -185,10 +197,12 @@ points-append x (g ∷ gs) hs =
     ∙ ap (λ (y : ℕ → ℤ). points_of (after (suc g.unknowns) x) gs ++ points_of y hs)
     (after-more (suc g.unknowns) (group_lines gs) (suc g.unknowns + group_lines gs) x refl))
 
+-- two lists of groups have together as many columns as each has
 pub columns-append : (gs hs : List Group) → group_columns (gs ++ hs) ≡ group_columns gs + group_columns hs
 columns-append [] hs = omega arith
 columns-append (g ∷ gs) hs = let e = columns-append gs hs in omega (arith, e)
 
+-- two lists of groups have together as many lines as each has
 pub lines-append : (gs hs : List Group) → group_lines (gs ++ hs) ≡ group_lines gs + group_lines hs
 lines-append [] hs = omega arith
 lines-append (g ∷ gs) hs = let e = lines-append gs hs in omega (arith, e)
@@ -224,6 +238,7 @@ alike-multipliers x (g ∷ gs) (h ∷ hs) a =
     ∙ ap (λ (ms : List (List ℕ)). multipliers_of x h.rows ∷ ms)
     (alike-multipliers (after (suc (length h.rows)) x) gs hs a.1)
 
+-- groups with the same unknowns and rows have the same points
 pub alike-points : (x : ℕ → ℤ) (gs hs : List Group) → AllAlike gs hs → points_of x gs ≡ points_of x hs
 alike-points x [] [] a = refl
 alike-points x [] (h ∷ hs) a = absurd a
@@ -233,6 +248,7 @@ alike-points x (g ∷ gs) (h ∷ hs) a =
     ∙ ap (λ (zs : List ScaledPoint). record { parts = listed h.unknowns x; den = nat_abs (x h.unknowns) } ∷ zs)
     (alike-points (after (suc h.unknowns) x) gs hs a.1)
 
+-- groups with the same unknowns and rows have as many columns
 pub alike-columns : (gs hs : List Group) → AllAlike gs hs → group_columns gs ≡ group_columns hs
 alike-columns [] [] a = refl
 alike-columns [] (h ∷ hs) a = absurd a
@@ -241,6 +257,7 @@ alike-columns (g ∷ gs) (h ∷ hs) a =
     ap (λ (rows : List Form). suc (length rows) + group_columns gs) a.0.rows ∙ ap (λ (n : ℕ). suc (length h.rows) + n)
     (alike-columns gs hs a.1)
 
+-- groups with the same unknowns and rows have as many lines
 pub alike-lines : (gs hs : List Group) → AllAlike gs hs → group_lines gs ≡ group_lines hs
 alike-lines [] [] a = refl
 alike-lines [] (h ∷ hs) a = absurd a
@@ -283,6 +300,7 @@ module _ (p : Program) (preps : List RuleRows) (rows : AreRowsOf preps p) (set :
           let same : prepared_of m ≡ prepared q = cc in
           record { unknowns = ap (λ (x : Prepared). x.unknowns) same; rows = ap (λ (x : Prepared). x.rows) same }
 
+  -- the shapes of a set and of its strict rule have the unknowns and rows of the question's groups
   pub shapes-alike : IsRuleSet p set strict → IsRule p strict → AllAlike (shapes preps set strict)
       (rank_question b).groups
   shapes-alike rules i = go set rules.rules
@@ -306,6 +324,7 @@ multipliers-together x start next gs h ms m e f g =
     (sym (after-more start (group_columns gs) next x f))
     ∙ sym (multipliers-append (after start x) gs (h ∷ []))))
 
+-- the points of groups and the point that is read behind them are the points of one group more
 pub points-together : (x : ℕ → ℤ) (start next : ℕ) (gs : List Group) (h : Group) (ms : List ScaledPoint)
     (m : ScaledPoint)
     → ms ≡ points_of (after start x) gs → next ≡ start + group_lines gs

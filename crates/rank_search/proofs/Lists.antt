@@ -11,6 +11,7 @@ listed-next : {A : Type 0} (n : ℕ) (f : ℕ → A) → listed (suc n) f ≡ li
 listed-next zero f = refl
 listed-next {A} (suc n) f = ap (λ (xs : List A). f 0 ∷ xs) (listed-next n (λ i. f (suc i)))
 
+-- a list of one value more ends with the next value
 pub listed-more : {A : Type 0} (n : ℕ) (f : ℕ → A) → listed (n + 1) f ≡ listed n f ++ f n ∷ []
 listed-more n f = ap (λ (m : ℕ). listed m f) (let e : n + 1 ≡ suc n = omega arith in e) ∙ listed-next n f
 

@@ -25,6 +25,7 @@ module _ (test : ℕ → Bool) (a : ℕ) where
       ≡ filter test (range_with_len a n) ++ cond (test (a + n)) ((a + n) ∷ []) []
   filter-more n = ap (filter test) (numbers-more a n) ∙ filter-append test (range_with_len a n) ((a + n) ∷ [])
 
+  -- a next number that passes the test stands behind those so far
   pub filter-pushed : (n m : ℕ) → m ≡ a + n → test m ≡ true
       → filter test (range_with_len a (n + 1)) ≡ filter test (range_with_len a n) ++ m ∷ []
   filter-pushed n m e h =
@@ -32,6 +33,7 @@ module _ (test : ℕ → Bool) (a : ℕ) where
       ∙ (ap (λ (v : Bool). filter test (range_with_len a n) ++ cond v ((a + n) ∷ []) []) (ap test (sym e) ∙ h)
       ∙ ap (λ (k : ℕ). filter test (range_with_len a n) ++ k ∷ []) (sym e))
 
+  -- a next number that doesn't pass the test leaves those so far as they are
   pub filter-passed : (n m : ℕ) → m ≡ a + n → test m ≡ false
       → filter test (range_with_len a (n + 1)) ≡ filter test (range_with_len a n)
   filter-passed n m e h =
@@ -47,6 +49,7 @@ mark-some false n m e = absurd (differ e)
     differ : Some m ≡ None → ⊥
     differ h = cc
 
+-- what has no mark doesn't pass the test
 pub mark-none : (b : Bool) (n : ℕ) → None ≡ mark b n → b ≡ false
 mark-none false n e = refl
 mark-none true n e = absurd (differ e)
@@ -56,6 +59,7 @@ mark-none true n e = absurd (differ e)
 
 -- the symbols so far, and one number more: it is one of them, or isn't
 module _ (test : ℕ → Bool) (n : ℕ) (old : List ℕ) (kept : old ≡ filter test (range_with_len 0 n)) where
+  -- where the next number is marked, it is one more of the symbols
   pub marked-pushed : (m : ℕ) (new : List ℕ) → Some m ≡ mark (test n) n → new ≡ old ++ m ∷ []
       → new ≡ filter test (range_with_len 0 (n + 1))
   marked-pushed m new e f =
@@ -64,6 +68,7 @@ module _ (test : ℕ → Bool) (n : ℕ) (old : List ℕ) (kept : old ≡ filter
       ∙ (ap (λ (k : ℕ). filter test (range_with_len 0 n) ++ k ∷ []) h.1
       ∙ sym (filter-pushed test 0 n n (let z : n ≡ 0 + n = omega arith in z) h.0)))
 
+  -- where the next number has no mark, the symbols stay as they are
   pub marked-passed : None ≡ mark (test n) n → old ≡ filter test (range_with_len 0 (n + 1))
   marked-passed e =
       kept ∙ sym (filter-passed test 0 n n (let z : n ≡ 0 + n = omega arith in z) (mark-none (test n) n e))

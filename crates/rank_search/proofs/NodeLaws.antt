@@ -10,6 +10,7 @@ use Rattle.rank_search.specs.RankLaws.{found, RankedNodesRank}
 use Rattle.rank_search.proofs.ShownParts.{part-of}
 use Rattle.rank_search.proofs.RankExact.{node-ranks, node-least}
 
+-- the function that a node is read off ranks the rule, and weighs least where all rules have points
 pub nodes-rank : RankedNodesRank
 nodes-rank = record {
   parts = λ b pivots node n s h l.

@@ -38,6 +38,7 @@ module _ (shut : ℕ → ℕ → Bool) (s : ℕ) (first : List Coefficient) wher
       (filter-pushed (λ i. not (shut s i)) 1 n (n + 1) (let z : n + 1 ≡ 1 + n = omega arith in z) (ap not h))
       ∙ map-append (at_symbol s) (filter (λ i. not (shut s i)) (range_with_len 1 n)) ((n + 1) ∷ [])))))))
 
+  -- a shut place adds no coefficient to those of the symbol so far
   pub place-passed : (n : ℕ) (old : List Sought) → map coefficient_of old ≡ first ++ block_upto shut s n
       → shut s (n + 1) ≡ true → map coefficient_of old ≡ first ++ block_upto shut s (n + 1)
   place-passed n old kept h =
@@ -75,6 +76,7 @@ symbol-done p shut symbols i s old new all l is kept e =
     ∙ (sym (ap (λ (ss : List ℕ). old ++ coefficients (open_set p shut) ss)
     (drop_more symbols i s l ∙ ap (λ (t : ℕ). t ∷ drop (i + 1) symbols) (sym is))) ∙ kept))
 
+-- where no symbol is left, the coefficients so far are all
 pub symbols-done : (p : Program) (shut : List SymbolPlace) (symbols : List ℕ) (i : ℕ) (old all : List Coefficient)
     → length symbols ≤ i → old ++ coefficients (open_set p shut) (drop i symbols) ≡ all → old ≡ all
 symbols-done p shut symbols i old all l kept =

@@ -169,6 +169,7 @@ tripped-if b shut pivots empties (Tripped t) (inr other) =
     differ : {y : Trip} → None ≡ Some y → ⊥
     differ h = cc
 
+-- each answer on ranking functions comes exactly where its cause stands
 pub answers-exact : RankAnswersAreExact
 answers-exact = record {
   ranked = ranked-if;

@@ -137,6 +137,7 @@ group-is part source target m coefs rows goals fixed n long e g f =
 unfoldable pub set_group : plain.Program → ℕ → List Coefficient → ℕ → Group
 set_group p strict cs t = part_group (part_for (nat_eq t strict)) (forms_in (rule_at p t)) cs
 
+-- the group of the part that a rule has by being the strict one or not is its group of the set
 pub set_group-is : (p : plain.Program) (strict : ℕ) (cs : List Coefficient) (t : ℕ) (part : Part) → part ≡ part_for
     (nat_eq t strict)
     → part_group part (forms_in (rule_at p t)) cs ≡ set_group p strict cs t
@@ -331,6 +332,7 @@ fixed-writable Floor n = record {
   constant = omega arith;
 }
 
+-- the prepared rows of a rule can be written with the fixed form of a part and with goals that can be
 pub part-writable : (part : Part) (m : RuleRows) (n many : ℕ) (rows : List Row) (goals gs : List Goal) (fixed : Row)
     → IsPrepared m
     → n ≡ many → rows ≡ m.rows.items → goals ≡ gs → AreParameters many gs → All

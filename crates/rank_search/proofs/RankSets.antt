@@ -68,6 +68,7 @@ module _ (p : Program) (set : List ℕ) (strict : ℕ) (shut : List SymbolPlace)
         news_fit = s.news_fit;
       }
 
+  -- a rule of a valid program leads between symbols, and has forms that fit their places
   pub rule-in : (t : ℕ) → IsValid p → IsRule p t
       → IsRuleOf (ranked_set p set strict shut) (forms_in (rule_at p t))
   rule-in t v i =

@@ -252,6 +252,7 @@ module _ (shut : ℕ → Bool) (v : ℕ → ℤ) where
   left-places : (before n : ℕ) → before < n → n - before ≡ suc (n - (before + 1))
   left-places before n l = omega (arith, l)
 
+  -- a place that isn't shut takes the next parameter, and those that are left still make the form
   pub place-read : (k before n : ℕ) (old new all : List ℤ) (x : ℤ) → before < n → old ++ read_coefs shut v k
       (before + 1) (n - before) ≡ all
       → new ≡ old ++ x ∷ [] → shut (before + 1) ≡ false → x ≡ v k
@@ -265,6 +266,7 @@ module _ (shut : ℕ → Bool) (v : ℕ → ℤ) where
       (if c then pos 0 ∷ read_coefs shut v k (before + 1 + 1) (n - (before + 1)) else v k ∷ read_coefs shut v
       (k + 1) (before + 1 + 1) (n - (before + 1)))) opened) ∙ kept)))
 
+  -- a shut place takes 0 and no parameter, and those that are left still make the form
   pub place-left : (k before n : ℕ) (old new all : List ℤ) (x : ℤ) → before < n → old ++ read_coefs shut v k
       (before + 1) (n - before) ≡ all
       → new ≡ old ++ x ∷ [] → shut (before + 1) ≡ true → x ≡ pos 0
@@ -290,6 +292,7 @@ module _ (shut : ℕ → Bool) (v : ℕ → ℤ) where
       (filter (λ i. not (shut i)) (range_with_len (before + 1 + 1) (n - (before + 1)))))) opened in
       omega (arith, kept, e)
 
+  -- a shut place adds nothing to the number of the constant's parameter
   pub count-left : (k before n all : ℕ) → before < n → k + open_count shut (before + 1) (n - before) ≡ all → shut
       (before + 1) ≡ true
       → k + open_count shut (before + 1 + 1) (n - (before + 1)) ≡ all
@@ -303,6 +306,7 @@ module _ (shut : ℕ → Bool) (v : ℕ → ℤ) where
 
 -- the parts so far, and those of the symbols that are left
 module _ (p : Program) (shut : List SymbolPlace) (v : ℕ → ℤ) (symbols : List ℕ) where
+  -- with the part at the next symbol pushed, those of the symbols that are left still make the function
   pub form-more : (i s k onward : ℕ) (old new all : List SymbolForm) (f : SymbolForm) → i < length symbols → s
       ≡ get_or symbols i s
       → old ++ read_forms p shut v k (drop i symbols) ≡ all → f ≡ read_form p shut v k s → new ≡ old ++ f ∷ []
@@ -316,6 +320,7 @@ module _ (p : Program) (shut : List SymbolPlace) (v : ℕ → ℤ) (symbols : Li
       ∙ (sym (ap (λ (ss : List ℕ). old ++ read_forms p shut v k ss)
       (drop_more symbols i s l ∙ ap (λ (t : ℕ). t ∷ drop (i + 1) symbols) (sym is))) ∙ kept))))
 
+  -- where no symbol is left, the parts so far are the function's
   pub forms-end : (i k : ℕ) (old all : List SymbolForm) → length symbols ≤ i
       → old ++ read_forms p shut v k (drop i symbols) ≡ all → old ≡ all
   forms-end i k old all l kept =

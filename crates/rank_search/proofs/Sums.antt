@@ -21,6 +21,7 @@ pub sum-nothing : (xs : List ℤ) → coefs_sum xs [] ≡ xs
 sum-nothing [] = refl
 sum-nothing (a ∷ xs) = refl
 
+-- a form less the form 0 is itself
 pub less-zero : (f : Form) → form_sum f (opposite zero_form) ≡ f
 less-zero f =
     ap (λ (xs : List ℤ). record { coefs = xs; constant = f.constant +ℤ negsuc 0 *ℤ pos 0 }) (sum-nothing f.coefs)
@@ -68,6 +69,7 @@ at-small [] u h = omega arith
 at-small (x ∷ xs) zero h = All-head (λ a. nat_abs a ≤ coefficient_limit) x xs h
 at-small (x ∷ xs) (suc u) h = at-small xs u (All-tail (λ a. nat_abs a ≤ coefficient_limit) x xs h)
 
+-- the difference of two numbers within the limit is at most twice the limit
 pub less-small : (a b : ℤ) → nat_abs a ≤ coefficient_limit → nat_abs b ≤ coefficient_limit
     → nat_abs (a +ℤ negsuc 0 *ℤ b) ≤ coefficient_limit + coefficient_limit
 less-small a b l m = go a b (nat_abs a) (nat_abs b) coefficient_limit refl refl l m
@@ -102,6 +104,7 @@ small-difference f s = record {
 pub constant-small : (z : ℤ) → nat_abs z ≤ 1 → IsSmall (constant_form z)
 constant-small z l = record { coefs = All-nil (λ (a : ℤ). nat_abs a ≤ coefficient_limit); constant = omega (arith, l) }
 
+-- the form that is an unknown is small
 pub unknown-small : (u : ℕ) → IsSmall (unknown_form u)
 unknown-small u = record {
   coefs = All-append (λ (a : ℤ). nat_abs a ≤ coefficient_limit) (replicate u (pos 0)) (pos 1 ∷ [])

@@ -24,12 +24,14 @@ named-is (budget n) = refl
 named-is (wide n) = refl
 named-is scale = refl
 
+-- a linear program that is answered by a solution isn't tripped
 pub solution-untripped : (p : LinearProgram) (pivots : ℕ) (s : Scaled) → IsWholeAnswer p pivots (Solution s)
     → NothingTrips p pivots
 solution-untripped p pivots s h = record {
   each = λ c t. whole-same p pivots (Solution s) (Tripped (named c)) h (subst (Trips p pivots) (sym (named-is c)) t);
 }
 
+-- a linear program that is answered by a dual isn't tripped
 pub dual-untripped : (p : LinearProgram) (pivots : ℕ) (s : Scaled) → IsWholeAnswer p pivots (Dual s)
     → NothingTrips p pivots
 dual-untripped p pivots s h = record {

@@ -29,15 +29,18 @@ use Rattle.model.proofs.Cases.{some_same as some-trip, none_some as no-trip}
 
 -- the numbers of solutions, and of duals, are the same, and no program has both
 module _ (p : LinearProgram) (pivots : ℕ) (xs ys : List ℤ) (d e : ℕ) where
+  -- a linear program has its solution in one list of numbers over one denominator
   pub solution-once : IsScaledSolution p pivots xs d → IsScaledSolution p pivots ys e → (xs ≡ ys) × (d ≡ e)
   solution-once a b =
       scaled-once a.point b.point xs ys d e
       (optimal-same p pivots a.k b.k a.point b.point a.basis b.basis a.ends b.ends).0 a.scaled b.scaled
 
+  -- a linear program has its dual in one list of numbers over one denominator
   pub dual-once : IsScaledDual p pivots xs d → IsScaledDual p pivots ys e → (xs ≡ ys) × (d ≡ e)
   dual-once a b = scaled-once a.dual b.dual xs ys d e
       (infeasible-same p pivots a.k b.k a.dual b.dual a.ends b.ends).0 a.scaled b.scaled
 
+  -- no linear program ends at a solution and at a dual
   pub apart : IsScaledSolution p pivots xs d → IsScaledDual p pivots ys e → ⊥
   apart a b = ends-apart p pivots a.k b.k a.point a.basis b.dual a.ends b.ends
 
@@ -76,6 +79,7 @@ empties-once m rule pivots (empties.Tripped t) (empties.Point z) g h = h.1.each 
 empties-once m rule pivots (empties.Tripped t) (empties.Tripped u) g h =
     (g.0 ∙ sym h.0, causes-same (empty_program m) pivots (cause_of t.cause) (cause_of u.cause) g.1 h.1)
 
+-- of a rule's rows, within a number of pivots, there is one answer whether they have a point
 pub empties-one : EmptyAnswersAreOne
 empties-one = record { each = empties-once }
 
@@ -197,5 +201,6 @@ module _ (b : RankedSet) (shut : List SymbolPlace) (pivots : ℕ) (xs ys : List 
       let e = some-trip t u (sym own.first ∙ (same.trips ∙ other.first)) in
       (ap (λ (v : Trip). v.question) e, ap (λ (v : Trip). cause_of v.cause) e)
 
+-- of a set, its shut places and a number of pivots there is one answer on ranking functions
 pub ranks-one : RankAnswersAreOne
 ranks-one = record { each = ranks-once }

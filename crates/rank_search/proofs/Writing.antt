@@ -34,6 +34,7 @@ pub record Written (p : Program) (strict : ℕ) (cs : List Coefficient) (n : ℕ
   pub columns : column_count b ≤ 2 * n + 129 * i
 
 module _ (p : Program) (strict : ℕ) (cs : List Coefficient) (n : ℕ) (set : List ℕ) where
+  -- in a builder that holds the parameters alone the groups of no rule are written
   pub written-none : (b : Builder) → IsReady b → Holds b [] → parameter_count b ≡ n → row_count b ≡ 0 → column_count b
       ≡ 2 * n
       → Written p strict cs n set 0 b
@@ -45,6 +46,7 @@ module _ (p : Program) (strict : ℕ) (cs : List Coefficient) (n : ℕ) (set : L
     columns = omega (arith, columns);
   }
 
+  -- with the group of the next rule added, the groups of one rule more are written
   pub written-more : (i t : ℕ) (old new : Builder) → IsValid p → IsRule p t → i < length set → t ≡ get_or set i t
       → Written p strict cs n set i old → Adds old new (set_group p strict cs t) → Written p strict cs n set (i + 1) new
   unfolding set_group
@@ -62,6 +64,7 @@ module _ (p : Program) (strict : ℕ) (cs : List Coefficient) (n : ℕ) (set : L
           sym (map-append (set_group p strict cs) (take i set) (t ∷ []))
           ∙ ap (map (set_group p strict cs)) (ap (λ (x : ℕ). take i set ++ x ∷ []) is ∙ sym (take_more set i t l))
 
+  -- where no rule is left, the groups of the whole set are written
   pub written-all : (i : ℕ) (b : Builder) → length set ≤ i → Written p strict cs n set i b → Holds b
       (map (set_group p strict cs) set)
   written-all i b l w = subst (λ (xs : List ℕ). Holds b (map (set_group p strict cs) xs)) (take_all i set l) w.holds

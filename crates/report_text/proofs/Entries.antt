@@ -44,6 +44,7 @@ pub times_same : (names : List Name) (gaps : List Gap) (es : List TimeEntry)
     → numbered (entry_line names) 1 es ≡ numbered (time_line names) 1 (map (time_of gaps) es)
 times_same names gaps es = numbered_same (entry_line names) (time_line names) (time_of gaps) (line_of names gaps) 1 es
 
+-- the lines that say why rules have their times are those of the report
 pub why_times_same : (symbols : List Symbol) (gaps : List Gap) (es : List TimeEntry)
     → numbered (λ rule t. why_time symbols rule (time_of gaps t)) 1 es ≡ numbered (why_time symbols) 1 (map (time_of gaps) es)
 why_times_same symbols gaps es =
@@ -59,6 +60,7 @@ sizes_same {R} items names rows =
     (λ rule row. numbered_same (λ place s. size_line names rule place (size_of s)) (size_line names rule) size_of (λ place s. refl) 1 (items row))
     1 rows
 
+-- the lines that say why places have their sizes are those of the report
 pub why_sizes_same : {R : Type 0} (items : R → List SizeEntry) (rows : List R)
     → numbered (λ rule row. numbered (λ place s. why_size rule place (size_of s)) 1 (items row)) 1 rows
     ≡ numbered why_sizes 1 (map (λ row. map size_of (items row)) rows)

@@ -18,6 +18,7 @@ goes_on_more {X} f xs i d old new all lt inv e =
     ∙ (append_assoc (old ++ codes ", ") (f (get_or xs i d)) rest
     ∙ (append_assoc old (codes ", ") (f (get_or xs i d) ++ rest) ∙ (ap (λ (t : List ℕ). old ++ t) (sym step) ∙ inv)))
 
+-- behind the last element the text with commas is whole
 pub goes_on_end : {X : Type 0} (f : X → List ℕ) (xs : List X) (i : ℕ) (old all : List ℕ) → length xs ≤ i
     → old ++ goes_on (map f (drop i xs)) ≡ all → old ≡ all
 goes_on_end {X} f xs i old all le inv =
@@ -34,6 +35,7 @@ shut_more {X} symbols f xs i d old new all lt inv e =
     ap (λ (t : List ℕ). t ++ rest) e
     ∙ (append_assoc old (shut_line symbols (f (get_or xs i d))) rest ∙ (ap (λ (t : List ℕ). old ++ t) (sym step) ∙ inv))
 
+-- behind the last shut place the lines are whole
 pub shut_end : {X : Type 0} (symbols : List Symbol) (f : X → SymbolPlace) (xs : List X) (i : ℕ) (old all : List ℕ) → length xs ≤ i
     → old ++ shut_lines symbols (map f (drop i xs)) ≡ all → old ≡ all
 shut_end {X} symbols f xs i old all le inv =
@@ -52,6 +54,7 @@ numbered_more {X} lines xs i d old new all lt inv e =
     ∙ (ap (λ (t : List ℕ). t ++ rest) e
     ∙ (append_assoc old (lines (i + 1) (get_or xs i d)) rest ∙ (ap (λ (t : List ℕ). old ++ t) (sym step) ∙ inv)))
 
+-- behind the last element the lines by numbers are whole
 pub numbered_end : {X : Type 0} (lines : ℕ → X → List ℕ) (xs : List X) (i : ℕ) (old all : List ℕ) → length xs ≤ i
     → old ++ numbered lines (i + 1) (drop i xs) ≡ all → old ≡ all
 numbered_end {X} lines xs i old all le inv =
@@ -81,12 +84,14 @@ two_pushed old p q a b c d ep ea eq eb =
     let whole : q ≡ (old ++ c) ++ d = cc in
     whole ∙ append_assoc old c d
 
+-- four pieces that are put behind what stands follow it in order, each told by equations
 pub four_pushed : (old p q r s a b c d e f g h : List ℕ) → p ≡ old ++ a → a ≡ e → q ≡ p ++ b → b ≡ f → r ≡ q ++ c → c ≡ g
     → s ≡ r ++ d → d ≡ h → s ≡ old ++ (e ++ (f ++ (g ++ h)))
 four_pushed old p q r s a b c d e f g h ep ea eq eb er ec es ed =
     let whole : s ≡ ((old ++ e) ++ f) ++ g ++ h = cc in
     whole ∙ (append_assoc ((old ++ e) ++ f) g h ∙ (append_assoc (old ++ e) f (g ++ h) ∙ append_assoc old e (f ++ (g ++ h))))
 
+-- two pieces that are put behind nothing are the whole, each told by equations
 pub whole_pushed : (old p q a b c d : List ℕ) → old ≡ [] → p ≡ old ++ a → a ≡ c → q ≡ p ++ b → b ≡ d → q ≡ c ++ d
 whole_pushed old p q a b c d none ep ea eq eb =
     two_pushed old p q a b c d ep ea eq eb ∙ ap (λ (t : List ℕ). t ++ (c ++ d)) none

@@ -57,6 +57,7 @@ pub kept_of : (old new : Table) → Keeps old new → (f : Fact) → IsOf old f 
 kept_of old new keeps (Time t b) h = keeps.times t b h
 kept_of old new keeps (Size t i b) h = keeps.sizes t i b h
 
+-- lemmas that state bounds of a table alone state bounds of any that keeps what it knows
 pub are_kept : (old new : Table) → Keeps old new → (past : List (List Fact)) → All (AreOf old) past
     → All (AreOf new) past
 are_kept old new keeps past are =
@@ -195,21 +196,25 @@ module _ (q : Searches) (s : Setting) (right : AreRight q s) where
             (is_in-filter (is_new old new) (rule_numbers s.program) t (rule_in s.program t rule.rule rule.numbered)
             (rw (e, known) refl)) known)
 
+  -- the lemmas of a table that is made by rounds of times stand for it
   pub lemmas_stand : (tab : Table) (proofs : List Proof) → AreLemmasOf q s tab proofs → Stands s tab proofs
   lemmas_stand tab proofs (AtFirst f) = first_stands tab proofs f
   lemmas_stand tab all (AfterRound {old = old} {earlier = earlier} {proofs = proofs} l n r) =
       after_round old tab earlier proofs (lemmas_stand old earlier l) n r
 
+  -- the lemmas of a table that is made by rounds of times are accepted
   pub lemmas_accepted : (tab : Table) (proofs : List Proof) → AreLemmasOf q s tab proofs → AcceptsLemmas s proofs
   unfolding AcceptsLemmas
   lemmas_accepted tab proofs l = (lemmas_stand tab proofs l).accepted
 
+  -- the lemmas of a table that is made by rounds of times show it
   pub lemmas_shown : (tab : Table) (proofs : List Proof) → AreLemmasOf q s tab proofs → IsShown s proofs tab
   unfolding facts_of_lemmas
   lemmas_shown tab proofs l =
       let stands = lemmas_stand tab proofs l in
       record { times = stands.times; sizes = stands.sizes }
 
+-- where the searches' answers are right, the lemmas of a table of rounds of times are accepted and show it
 pub laws : LemmasAreAccepted
 laws = record {
   accepted = λ a s right tab proofs l. lemmas_accepted (searches_of a) s right tab proofs l;

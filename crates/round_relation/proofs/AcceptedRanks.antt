@@ -26,6 +26,7 @@ start_known q s tab (Begun h) = (Constant 1, h.start.time)
 start_known q s tab (Made {old = old} m n) =
     let before = start_known q s old m in (before.0, n.times.known 0 before.0 before.1)
 
+-- the virtual entry has a time in each table that is made by whole rounds
 pub start_known_whole : (q : Searches) (z : SizeSearches) (s : Setting) (tab : Table) → IsMade q z s tab → IsKnown
     (tab.time 0)
 start_known_whole q z s tab (BegunWhole h) = (Constant 1, h.start.time)

@@ -18,6 +18,7 @@ told false f g = g refl
 pub false_true : false ≡ true → ⊥
 false_true e = cc
 
+-- yes isn't no
 pub true_false : true ≡ false → ⊥
 true_false e = cc
 

@@ -39,6 +39,7 @@ in-once (m ∷ ns) n h = go (eqb_tells n m) (is_in-cases n m ns h) (in-once ns n
         or_right (n == m) (is_in n (filter (λ k. not (k == m)) (once ns)))
         (is_in-filter (λ k. not (k == m)) (once ns) n (ih later) (ap not t))
 
+-- what is in a list of which each number is taken once is in the list itself
 pub once-in : (ns : List ℕ) (n : ℕ) → is_in n (once ns) ≡ true → is_in n ns ≡ true
 once-in [] n h = h
 once-in (m ∷ ns) n h = go (is_in-cases n m (filter (λ k. not (k == m)) (once ns)) h) (eqb_tells n m) (once-in ns n)

@@ -73,6 +73,7 @@ pub record SizesStand (s : Setting) (past : List (List Fact)) (spots : List Spot
 
 module _ (z : SizeSearches) (s : Setting) (tab : Table) (earlier : List Proof) (before : Stands s tab earlier)
     (ns : Numbers) (numbers : AreNumbersOf s.program (facts_of_lemmas s earlier) tab ns) where
+  -- numbers over lemmas are numbers over the facts that these state from the first on
   pub stated_numbers : AreNumbersOf s.program (facts_from s [] earlier) tab ns
   stated_numbers = numbers_from s earlier tab ns numbers
 

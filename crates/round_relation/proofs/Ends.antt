@@ -161,6 +161,7 @@ whole_end q z s old new n =
         inr (subst (λ (tab : Table). Next q z s tab new)
         (same_table old new a.1 (λ t i. sym (same_sizes q z s old new n.places b.1 t i))) n)
 
+-- each round gives a bound that was missing, or a further one gives nothing new
 pub ends : RoundsEnd
 ends = record {
   times = λ a s old new n. times_end (searches_of a) s old new n;

@@ -18,12 +18,15 @@ pub contains-cases : {A : Type 0} (x y : A) (ys : List A) → Contains (y ∷ ys
 contains-cases x y ys (zero, low, e) = inl e
 contains-cases x y ys (suc k, low, e) = inr (k, omega (arith, low), e)
 
+-- an empty list contains nothing
 pub contains-none : {A : Type 0} (x : A) → Contains [] x → ⊥
 contains-none x (k, low, e) = omega (arith, low)
 
+-- a list contains its first element
 pub contains-first : {A : Type 0} (x : A) (xs : List A) → Contains (x ∷ xs) x
 contains-first x xs = (zero, omega arith, refl)
 
+-- a list contains what its rest does
 pub contains-later : {A : Type 0} (x y : A) (ys : List A) → Contains ys x → Contains (y ∷ ys) x
 contains-later x y ys (k, low, e) = (suc k, omega (arith, low), e)
 
@@ -34,10 +37,12 @@ contains-left x (y ∷ xs) ys h =
     either (contains-cases x y xs h) (λ e. (zero, omega arith, e))
     (λ m. contains-later x y (xs ++ ys) (contains-left x xs ys m))
 
+-- joined lists contain what the second does
 pub contains-right : {A : Type 0} (x : A) (xs ys : List A) → Contains ys x → Contains (xs ++ ys) x
 contains-right x [] ys h = h
 contains-right x (y ∷ xs) ys h = contains-later x y (xs ++ ys) (contains-right x xs ys h)
 
+-- what joined lists contain is in the first or in the second
 pub contains-either : {A : Type 0} (x : A) (xs ys : List A) → Contains (xs ++ ys) x → Contains xs x ⊎ Contains ys x
 contains-either x [] ys h = inr h
 contains-either x (y ∷ xs) ys h =
@@ -159,6 +164,7 @@ pub same_time : (tab : Table) (facts : List Fact) → AreOf tab facts → (t : �
 same_time tab facts are t b h = let found = time_found facts t b h in found.1 ∙ sym
     (time_from tab facts are t found.0 found.1)
 
+-- among facts of a table, a size that is stated is looked up as the table has it
 pub same_size : (tab : Table) (facts : List Fact) → AreOf tab facts → (t i : ℕ) (b : Bound) → Contains facts
     (Size t i b)
     → size_in facts t i ≡ tab.size t i
@@ -170,6 +176,7 @@ pub record IsNumbered (past : List (List Fact)) (n : ℕ) : Type 0 where
   pub least : 1 ≤ n
   pub earlier : n ≤ length past
 
+-- a lemma that states a fact has a number from 1 up to how many lemmas there are
 pub stating_numbered : (past : List (List Fact)) (n : ℕ) (f : Fact) → Contains (facts_of_lemma past n) f
     → IsNumbered past n
 stating_numbered past zero f h = absurd (contains-none f h)
@@ -203,11 +210,13 @@ numbered-stated [] (suc n) f h = absurd (contains-none f h)
 numbered-stated (facts ∷ past) (suc zero) f h = inl h
 numbered-stated (facts ∷ past) (suc (suc n)) f h = inr (numbered-stated past (suc n) f h)
 
+-- what lemmas state is stated when more follow
 pub stated-left : (past more : List (List Fact)) (f : Fact) → IsStated past f → IsStated (past ++ more) f
 stated-left [] more f h = absurd h
 stated-left (facts ∷ past) more f (inl h) = inl h
 stated-left (facts ∷ past) more f (inr h) = inr (stated-left past more f h)
 
+-- what lemmas state is stated when others come before
 pub stated-right : (past more : List (List Fact)) (f : Fact) → IsStated more f → IsStated (past ++ more) f
 stated-right [] more f h = h
 stated-right (facts ∷ past) more f h = inr (stated-right past more f h)

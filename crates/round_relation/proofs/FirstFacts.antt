@@ -43,6 +43,7 @@ zero_ones s is_empty is_unreached = empty_ones s is_empty ++ cut_ones s is_empty
 module _ (q : Searches) (s : Setting) (right : AreRight q s) (tab : Table) (h : First q s.program tab) (out : ℕ → Bool)
     (unreached : (t : ℕ) → IsRule s.program t → h.is_empty t ≡ false → (out t ≡ true) ↔ IsUnreached s.program (λ e. not (h.is_empty e)) t)
     (empties : List Proof) (are : AreEmptyLemmas q (filter h.is_empty (rule_numbers s.program)) empties) where
+  -- the lemmas of the empty rules are accepted, and state a time of 0 for each
   pub empties_stand : StateZeros q s right tab h [] (empty_ones s h.is_empty) empties
   empties_stand =
       empties_state q s right tab h [] (empty_ones s h.is_empty)
@@ -79,6 +80,7 @@ module _ (q : Searches) (s : Setting) (right : AreRight q s) (tab : Table) (h : 
       go true e = inl e
       go false e = inr ((unreached t rule e).0 (rw e at told))
 
+  -- those whose sizes are 0 before the first round are rules that never run
   pub sized_rule : (t : ℕ) → is_in t (sized_ones s h.is_empty out) ≡ true → IsRule s.program t
       × IsDead s.program h.is_empty t
   sized_rule t m =
@@ -88,6 +90,7 @@ module _ (q : Searches) (s : Setting) (right : AreRight q s) (tab : Table) (h : 
       let rule = in_rules s.program t kept.0 in
       (rule, told_dead t rule kept.1)
 
+  -- those whose time is 0 before the first round are rules that never run
   pub zero_rule : (t : ℕ) → is_in t (zero_ones s h.is_empty out) ≡ true → IsRule s.program t
       × IsDead s.program h.is_empty t
   zero_rule t m = go (in-either t (empty_ones s h.is_empty) (cut_ones s h.is_empty out) m)

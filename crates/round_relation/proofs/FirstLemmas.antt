@@ -37,10 +37,12 @@ zero_time t = Time t (Constant 0) ∷ []
 abbrev pub zero_times : List ℕ → List (List Fact)
 zero_times ts = map zero_time ts
 
+-- there are as many lists of times of 0 as rules
 pub length-zero_times : (ts : List ℕ) → length (zero_times ts) ≡ length ts
 length-zero_times [] = refl
 length-zero_times (t ∷ ts) = ap suc (length-zero_times ts)
 
+-- the times of 0 of two lists of rules are those of the first and then those of the second
 pub zero_times-append : (ts us : List ℕ) → zero_times (ts ++ us) ≡ zero_times ts ++ zero_times us
 zero_times-append ts us = map-append zero_time ts us
 
@@ -50,6 +52,7 @@ pub accepts-append : (s : Setting) (past : List (List Fact)) (xs ys : List Proof
 accepts-append s past [] ys h k = k
 accepts-append s past (x ∷ xs) ys h k = (h.0, accepts-append s (past ++ facts_of s past x ∷ []) xs ys h.1 k)
 
+-- what two lists of lemmas state is what the second does after the first
 pub facts-append : (s : Setting) (past : List (List Fact)) (xs ys : List Proof)
     → facts_from s past (xs ++ ys) ≡ facts_from s (facts_from s past xs) ys
 facts-append s past [] ys = refl
@@ -305,6 +308,7 @@ module _ (q : Searches) (s : Setting) (right : AreRight q s) (tab : Table) (h : 
     pub stated : facts_from s past proofs ≡ past ++ more
     pub none : HaveNoTimes more
 
+  -- lemmas of sizes of rules that never run state no times, whatever numbers they cite
   pub nevers_no_time : (past : List (List Fact)) (ns : Numbers) (ts : List ℕ) → StateNoTimes past (never_lemmas ns ts)
   nevers_no_time past ns [] = record { more = []; stated = sym (append-nil past); none = tt }
   nevers_no_time past ns (t ∷ ts) =

@@ -60,6 +60,7 @@ one_more n ns f g known h = record {
       (AreSameAt ns g f) known h.cases;
 }
 
+-- where a second list of bounds knows what the first does, it lacks fewer, or they are the same
 pub fewer_or_same : (ns : List ℕ) (f g : ℕ → Option Bound) → ((n : ℕ) (b : Bound) → f n ≡ Some b → g n ≡ Some b)
     → FewerOrSame ns f g
 fewer_or_same [] f g known = record { cases = inr (refl, tt) }

@@ -99,6 +99,7 @@ module _ (a : Answers) (s : Setting) where
         others = λ out. sym e;
       }
 
+  -- a table that has a time for the virtual entry has a next one by a round of times
   pub next_there : (old : Table) → IsKnown (old.time 0) → (new : Table) × NextTimes (searches_of a) s old new
   next_there old begun = (
     record { time = λ t. (becomes old begun t).value; size = old.size },
@@ -241,6 +242,7 @@ module _ (a : Answers) (s : Setting) where
       is_told = told (is_dead (suc n) rule.rule) (λ e. absurd (live (dead_told (suc n) rule.rule rule.numbered e)))
           (λ e. e)
 
+  -- there is a table from which the rounds begin
   pub first_there : (tab : Table) × First (searches_of a) s.program tab
   first_there = (
     record { time = first_time; size = first_size },
@@ -254,9 +256,11 @@ module _ (a : Answers) (s : Setting) where
     },
   )
 
+  -- there is a table to which a further round of times gives nothing new
   pub last_there : (tab : Table) × IsLastOfTimes (searches_of a) s tab
   last_there = let first = first_there in ends (untimed s.program first.0) first.0 (Begun first.1) (omega arith)
 
+-- there is a first table, after each made by rounds of times a next one, and a last one
 pub last_tables : LastTablesExist
 last_tables = record {
   first = λ a s. first_there a s;

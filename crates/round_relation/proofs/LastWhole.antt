@@ -89,6 +89,7 @@ module _ (z : SizeAnswers) where
         let first = first_there a s in
         ends (missing s.program first.0) first.0 (BegunWhole first.1) (omega arith)
 
+-- after each table that is made by whole rounds there is a next one, and there is a last one
 pub last_whole_tables : LastWholeTablesExist
 last_whole_tables = record {
   next = λ a z s components old made. next_whole_there z a s components old

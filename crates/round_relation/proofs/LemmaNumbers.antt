@@ -236,6 +236,7 @@ module _ (q : Searches) (s : Setting) (right : AreRight q s) (tab : Table) (h : 
           (rule_numbers s.program))
           ∙ at_rule s.program (leaves_zeros s.program h.is_empty out) (sizes_alone s.program) (suc k) rule passes)
 
+  -- the numbers before the first round are those of the bounds of the first table
   pub first_numbered : AreNumbersOf s.program
       (facts_from s [] (first_lemmas s.program h.is_empty out (first_numbers s.program h.is_empty out) empties)) tab
       (first_numbers s.program h.is_empty out)
@@ -310,6 +311,7 @@ module _ (q : Searches) (s : Setting) (right : AreRight q s) (old new : Table) (
           (subst (λ (fs : List Fact). Contains fs (Time t b)) (sym own)
           (subst (λ (c : Bound). Contains (Time t c ∷ []) (Time t b)) bound (contains-first (Time t b) [])))
 
+  -- the numbers after a round are those of the bounds of the new table
   pub after_numbered : AreNumbersOf s.program (facts_from s [] (earlier ++ proofs)) new
       (numbers_after r.ns old new (length earlier))
   after_numbered =
@@ -340,6 +342,7 @@ pub first_numbers_are : (q : Searches) (s : Setting) → AreRight q s → (tab :
 unfolding facts_of_lemmas
 first_numbers_are q s right tab h out unreached empties are = first_numbered q s right tab h out unreached empties are
 
+-- over what all lemmas state, the numbers after a round are those of the bounds of the new table
 pub numbers_after_are : (q : Searches) (s : Setting) → AreRight q s → (old new : Table) (earlier proofs : List Proof)
     → AreLemmasOf q s old earlier → NextTimes q s old new → (r : AreRoundLemmas q s earlier old new proofs)
     → AreNumbersOf s.program (facts_of_lemmas s (earlier ++ proofs)) new (numbers_after r.ns old new (length earlier))
@@ -347,6 +350,7 @@ unfolding facts_of_lemmas
 numbers_after_are q s right old new earlier proofs lemmas n r =
     after_numbered q s right old new earlier proofs (lemmas_stand q s right old earlier lemmas) n r
 
+-- before the first round and after each, the numbers are those of the bounds of the table
 pub numbered : LemmasAreNumbered
 numbered = record {
   first = λ a s right tab h out unreached empties are. first_numbers_are

@@ -3,6 +3,7 @@ use Rattle.round_relation.specs.Searches.{searches_of, size_searches_of}
 use Rattle.round_relation.specs.Laws.{MadeTablesHold}
 use Rattle.round_relation.proofs.NewBounds.{made_by_times_is_good, made_is_good}
 
+-- where the searches' answers are right, each bound in a table made by rounds holds on all runs
 pub made_hold : MadeTablesHold
 made_hold = record {
   times = λ a s true_to right tab made t b e.

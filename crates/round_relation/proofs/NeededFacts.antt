@@ -29,9 +29,11 @@ pub record Follows (earlier past : List (List Fact)) : Type 0 where
   pub same : (n : ℕ) → n ≤ length earlier → facts_of_lemma past n ≡ facts_of_lemma earlier n
   pub long : length earlier ≤ length past
 
+-- lemmas begin with themselves
 pub follows-itself : (past : List (List Fact)) → Follows past past
 follows-itself past = record { same = λ n h. refl; long = omega arith }
 
+-- lemmas that begin with earlier ones do so when more follow
 pub follows-more : (earlier past more : List (List Fact)) → Follows earlier past → Follows earlier (past ++ more)
 follows-more earlier past more h = record {
   same = λ n low. lemma-left past more n (omega (arith, low, h.long)) ∙ h.same n low;
@@ -66,6 +68,7 @@ pub record Keeps (old new : Table) : Type 0 where
   pub times : (t : ℕ) (b : Bound) → old.time t ≡ Some b → new.time t ≡ Some b
   pub sizes : (t i : ℕ) (b : Bound) → old.size t i ≡ Some b → new.size t i ≡ Some b
 
+-- a table keeps what it knows itself
 pub keeps-itself : (tab : Table) → Keeps tab tab
 keeps-itself tab = record { times = λ t b e. e; sizes = λ t i b e. e }
 

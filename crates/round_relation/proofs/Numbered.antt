@@ -54,6 +54,7 @@ in_places p t i m = go (target_of p t) refl
                   (arith, same, number, below);
             }
 
+-- a number that is among those of rules is that of a rule
 pub in_rules : (p : Program) (t : ℕ) → is_in t (rule_numbers p) ≡ true → IsRule p t
 in_rules p t h = go t (contains-is_in (rule_numbers p) t h)
   where

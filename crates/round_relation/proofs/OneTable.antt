@@ -37,6 +37,7 @@ says_one s tab (Ranked node) (Untimed v) (Untimed w) h k = ap (λ (n : NoTime). 
 says_one s tab (Unranked g) x y h k = h ∙ sym k
 says_one s tab (RankTripped t) x y h k = h ∙ sym k
 
+-- missing times that are the same have the same reason
 pub untimed_one : (v w : NoTime) → Untimed v ≡ Untimed w → v ≡ w
 untimed_one v w e = cc
 
@@ -221,6 +222,7 @@ module _ (q : Searches) (one : AreOne q) (s : Setting) where
   pub reason_one : (tab : Table) (t : ℕ) (v w : NoTime) → IsNoTime q s tab t v → IsNoTime q s tab t w → v ≡ w
   reason_one tab t v w h k = untimed_one v w (tells_one tab t (Untimed v) (Untimed w) h.reason k.reason)
 
+-- rounds of times make one last table, and a missing time has one reason
 pub tables_one : TablesAreOne
 tables_one = record {
   last = λ a s x y h k. last_one (searches_of a) (answers_one a) s x y h k;

@@ -129,6 +129,7 @@ module _ (q : Searches) (one_time : AreOne q) (z : SizeSearches) (one : AreSizes
       last_after_one (First q s.program) (Next q z s) (first_one q one_time s) next_whole_one x.0 y.0 a b x.1
       h.closed y.1 k.closed
 
+-- whole rounds make one last table, and a missing size has one reason where components are apart
 pub whole_tables_one : WholeTablesAreOne
 whole_tables_one = record {
   last = λ a z s x y h k. whole_one (searches_of a) (answers_one a) (size_searches_of z) (size_answers_one z) s x y h k;

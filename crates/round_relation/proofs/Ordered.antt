@@ -47,6 +47,7 @@ module _ {A : Type 0} (R : A → A → Type 0) (irreflexive : (x : A) → ¬ (R 
       (λ same. absurd (irreflexive x (subst (λ (w : A). R x w) (sym (e ∙ same)) (first_before x xs chain z c))))
       (λ m. m)
 
+  -- two lists in a strict order that contain the same are one
   pub ordered_one : (xs ys : List A) → IsChain R xs → IsChain R ys → ((z : A) → Contains xs z → Contains ys z)
       → ((z : A) → Contains ys z → Contains xs z) → xs ≡ ys
   ordered_one [] [] a b f g = refl

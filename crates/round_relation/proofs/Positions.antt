@@ -55,6 +55,7 @@ one_further facts past n k e = ap (facts_of_lemma (facts ∷ past)) e
 
 -- of lemmas of the numbers that pass a test, the one of a number comes after those of the passing numbers before it
 module _ (test : ℕ → Bool) (alone : ℕ → List Fact) where
+  -- the lemma of a number that passes comes after those of the passing numbers before it
   pub at_its_number : (n a t k : ℕ) → t ≡ a + k → k < n → test t ≡ true
       → facts_of_lemma (map alone (filter test (range_with_len a n))) (suc (passing test (range_with_len a k)))
       ≡ alone t

@@ -160,6 +160,7 @@ module _ (p : Program) (node : RankNode) where
       entry-in (entries p node.set) e (NeedsTime e) m
       (contains-first (NeedsTime e) (map (λ k. NeedsSize e k) (read_places 1 (coefs_at e))))
 
+  -- a node needs an entry's size at each place whose coefficient isn't 0 there
   pub size_needed : (e j : ℕ) → is_in e (entries p node.set) ≡ true → at
       (rank_form node.forms (target_of p e)).coefs j ≢ pos 0 → Contains (rank_needs p node) (NeedsSize e (suc j))
   size_needed e j m reads =
@@ -177,6 +178,7 @@ module _ (p : Program) (node : RankNode) where
       (λ same. subst (λ (k : Need). IsMet tab k) same (h i (or_left (i == i) (is_in i is) (same_number i))))
       (λ later. sizes_met tab e is (λ k m. h k (or_right (k == i) (is_in k is) m)) n later)
 
+  -- a table with the entries' times, and with their sizes where the function reads, has all that is needed
   pub needs_met : (tab : Table) (es : List ℕ) → ((e : ℕ) → is_in e es ≡ true → IsKnown (tab.time e))
       → ((e : ℕ) → is_in e es ≡ true → (j : ℕ) → at (rank_form node.forms (target_of p e)).coefs j ≢ pos 0
       → IsKnown (tab.size e (suc j)))

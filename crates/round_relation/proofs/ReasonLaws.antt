@@ -84,6 +84,7 @@ listed_why z time old (c ∷ cs) new h same t i (inr listed) missing =
     one_more z time old c cs t i (subst (λ (size : Sizes). SizeReason z time size cs t i) whole
     (listed_why z time h.0 cs new h.2 (λ u j. same u j ∙ sym (between u j)) t i listed (between t i ∙ missing)))
 
+-- where a round gives nothing new, a missing size of a member of a component has a reason
 pub size_why : (q : Searches) (z : SizeSearches) (s : Setting) (tab : Table) → (closed : IsClosed q z s tab) → (t i : ℕ)
     → IsCovered closed.places.components t i → tab.size t i ≡ None → (why : NoSize) × IsNoSize z tab t i why
 size_why q z s tab closed t i listed missing =
@@ -101,6 +102,7 @@ size_why q z s tab closed t i listed missing =
       },
     )
 
+-- where a round gives nothing new, each missing time and each missing size of a member has a reason
 pub reasons_stand : MissingBoundsHaveReasons
 reasons_stand = record {
   times = λ a s tab closed t rule missing. time_why (searches_of a) s tab closed.times t rule missing;

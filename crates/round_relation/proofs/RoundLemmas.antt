@@ -140,6 +140,7 @@ module _ (q : Searches) (s : Setting) (right : AreRight q s) (old new : Table) (
     pub are : All (AreOf new) (facts_from s past proofs)
     pub stated : facts_from s past proofs ≡ past ++ map (time_alone new) ts
 
+  -- the lemmas of some rules are accepted after what is stated so far, and state their new times, one each
   pub round_stands : (past : List (List Fact)) → Follows earlier past → All (AreOf new) past → (ts : List ℕ)
       → ((t : ℕ) → is_in t ts ≡ true → IsRule s.program t) → (proofs : List Proof)
       → AreTimeLemmas q s old new ns ts proofs

@@ -24,6 +24,7 @@ module _ (p : Program) (f g : ℕ → Bool) (there : (t : ℕ) → IsRule p t �
           let also = there edge.number (record { rule = edge.rule; numbered = edge.numbered }) e in
           absurd (no_is_not_yes (not (g edge.number)) (ap not also) edge.allowed)
 
+  -- a rule that never runs by one list of empty rules never runs by a longer one
   pub dead_by : (t : ℕ) → IsRule p t → IsDead p f t → IsDead p g t
   dead_by t rule (inl e) = inl (there t rule e)
   dead_by t rule (inr u) = inr (λ r numbered way. u r numbered (path_on p.start r.source way))

@@ -37,6 +37,7 @@ spot_told x xs =
     or_left ((x.rule == x.rule) && (x.place == x.place)) (has_spot xs x.rule x.place)
     (and_from (x.rule == x.rule) (x.place == x.place) (same_number x.rule) (same_number x.place))
 
+-- a spot of the rest of a list is told to be one of the list
 pub spot_later : (x : Spot) (xs : List Spot) (t i : ℕ) → has_spot xs t i ≡ true → has_spot (x ∷ xs) t i ≡ true
 spot_later x xs t i m = or_right ((x.rule == t) && (x.place == i)) (has_spot xs t i) m
 
@@ -123,6 +124,7 @@ module _ (s : Setting) (members : List Member) (a b : ℕ → ℕ → Option Bou
     agree_each all k ms h.1,
   )
 
+  -- tables that agree on all sizes that members need agree where the members' arms read
   pub agree_all : (ms : List Member) → AllByRecursion (HasMemberShape s) ms → AllByRecursion (AcceptsUp s) ms
       → AllByRecursion (AcceptsLow s) ms
       → ((t i : ℕ) → has_spot (needed_into s members ms) t i ≡ true → a t i ≡ b t i)
@@ -167,6 +169,7 @@ module _ (s : Setting) (members : List Member) (a b : ℕ → ℕ → Option Bou
       (flows_from-same m es (λ x k. h x (or_right (x == e) (is_in x es) k))
       (λ x k. up x (or_right (x == e) (is_in x es) k)) (λ x k. low x (or_right (x == e) (is_in x es) k))))
 
+  -- tables that agree where the arms read outside have the same flows into members
   pub flows_into-same : (ms : List Member) → AllByRecursion AgreeBefore ms
       → AllByRecursion (IsStraight s members) ms → flows_into s members a ms ≡ flows_into s members b ms
   flows_into-same [] h straight = refl
@@ -231,6 +234,7 @@ loop-same s fs f g ts h =
 -- accepted where it is over the first
 module _ (s : Setting) (a b : Table) (m : Member) (ok : AcceptsSpread s a m)
     (sizes : (t i : ℕ) → has_spot (needed_into s [] (m ∷ [])) t i ≡ true → b.size t i ≡ a.size t i) where
+  -- a spread composes the same size over a table that agrees on the sizes that it needs
   pub spread_size-same : spread_size s b m ≡ spread_size s a m
   spread_size-same =
       ap (λ (bs : Parts). MaximumOf bs)
@@ -250,6 +254,7 @@ module _ (s : Setting) (a b : Table) (m : Member) (ok : AcceptsSpread s a m)
           (arm-same (poly_at s m.spot) m.local.low (sizes_after b.size e) (sizes_after a.size e)
           (λ j r. ap known (both.1 j r refl)))
 
+  -- a spread that is accepted over a table is so over one that agrees on the sizes that it needs
   pub spread_accepted : AcceptsSpread s b m
   spread_accepted = record {
     shape = ok.shape;
@@ -272,6 +277,7 @@ module _ (s : Setting) (a b : Table) (members : List Member) (ok : AcceptsCycle 
   lows : AllByRecursion (AcceptsLow s) members
   lows = recursion_from_All (AcceptsLow s) members ok.low
 
+  -- all that flows in a loop is the same over a table that agrees on the sizes that it needs
   pub flows-same : flows s members b.size ≡ flows s members a.size
   flows-same =
       flows_into-same s members b.size a.size members (agree_all s members b.size a.size members shapes ups lows sizes)
@@ -281,11 +287,13 @@ module _ (s : Setting) (a b : Table) (members : List Member) (ok : AcceptsCycle 
       ≡ a.time t
   time-same t i n = times t (is_in-filter (needs_time s (flows s members a.size)) (rules_of s members) t i n)
 
+  -- a loop composes the same size over a table that agrees on the sizes and times that it needs
   pub cycle_size-same : cycle_size s b members ≡ cycle_size s a members
   cycle_size-same =
       ap (λ (fs : List Flow). loop_bound s fs b.time (rules_of s members)) flows-same
       ∙ loop-same s (flows s members a.size) b.time a.time (rules_of s members) time-same
 
+  -- a loop that is accepted over a table is so over one that agrees on the sizes and times that it needs
   pub cycle_accepted : AcceptsCycle s b members
   cycle_accepted = record {
     shape = ok.shape;

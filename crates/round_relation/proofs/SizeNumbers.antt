@@ -74,6 +74,7 @@ module _ (z : SizeSearches) (s : Setting) (time : ℕ → Option Bound) (old : S
       told (has_spot c 0 i) (λ m. let rule = (live 0 i m).0 in absurd (none_some rule.rule rule.numbered))
       (λ m. number_out 0 i m ∙ numbers.start_sizes i place)
 
+  -- after a size is found for a component, the numbers are those of the bounds of the table
   pub found_numbered : AreNumbersOf s.program (facts_from s [] (earlier ++ f.proof ∷ [])) (both_of time new)
       (numbers_with f.ns c (length earlier))
   found_numbered =

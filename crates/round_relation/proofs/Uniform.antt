@@ -104,6 +104,7 @@ module _ (q : Searches) (z : SizeSearches) (one : AreSizesOne z) (s : Setting) (
           (h.live t live.0 (λ dead. live.1 (dead_by s.program h.is_empty are.is_empty
           (λ e rule k. (are.empty e rule).1 ((h.empty e rule).0 k)) t live.0 dead))).sizes i live.2
 
+  -- in a table that is made by whole rounds, the members of each component have one size, or none has one
   pub uniform_made : (tab : Table) → IsMade q z s tab → (cs : List (List Spot)) → z.AreComponents cs
       → AreUniform tab.size cs
   uniform_made tab (BegunWhole h) cs are = uniform_first tab h cs (right.components cs are)

@@ -41,6 +41,7 @@ stands_for s tab proofs h = record {
   start = h.start;
 }
 
+-- lemmas that stand for a table in the one form do so in the other
 pub for_stands : (s : Setting) (tab : Table) (proofs : List Proof) → StandFor s tab proofs → Stands s tab proofs
 unfolding AcceptsLemmas facts_of_lemmas
 for_stands s tab proofs h = record {
@@ -135,14 +136,17 @@ module _ (q : Searches) (z : SizeSearches) (one : AreSizesOne z) (s : Setting) (
           let there = (r.next.places.live.live t i).0 (member_listed r.next.places.components c t i is m) in
           (there.0, there.2)
 
+  -- the lemmas of a table that is made by whole rounds stand for it
   pub whole_stand : (tab : Table) (proofs : List Proof) → AreWholeLemmasOf q z s tab proofs → Stands s tab proofs
   whole_stand tab proofs (AtBeginning f) = first_stands q s right tab proofs f
   whole_stand tab all (AfterWhole {old = old} {earlier = earlier} {proofs = proofs} l r) =
       after_whole old tab earlier proofs (whole_stand old earlier l) (made_of old earlier l) r
 
+  -- the lemmas of a table that is made by whole rounds are accepted
   pub whole_accepted : (tab : Table) (proofs : List Proof) → AreWholeLemmasOf q z s tab proofs → AcceptsLemmas s proofs
   whole_accepted tab proofs l = (stands_for s tab proofs (whole_stand tab proofs l)).accepted
 
+  -- the lemmas of a table that is made by whole rounds show it
   pub whole_shown : (tab : Table) (proofs : List Proof) → AreWholeLemmasOf q z s tab proofs → IsShown s proofs tab
   whole_shown tab proofs l = (stands_for s tab proofs (whole_stand tab proofs l)).shown
 
@@ -154,6 +158,7 @@ unfolding facts_of_lemmas
 times_numbered q s right old new earlier proofs before n r =
     after_numbered q s right old new earlier proofs (for_stands s old earlier before) n r
 
+-- after a size is found for a component, the numbers over all lemmas are those of the table's bounds
 pub sizes_numbered : (z : SizeSearches) (s : Setting) (time : ℕ → Option Bound) (old : Sizes) (c : List Spot)
     (new : Sizes) (earlier : List Proof) → StandFor s (both_of time old) earlier → IsUniform old c
     → ArePlacesAfterRules s.program c → (found : FindsSize z s earlier time old c new)
@@ -171,6 +176,7 @@ uses_accepted = record {
   cycle_states = cycle_lemma_states;
 }
 
+-- where the searches' answers are right, the lemmas of a table of whole rounds are accepted and show it
 pub lemmas_accepted : WholeLemmasAreAccepted
 lemmas_accepted = record {
   accepted = λ a z s right sized tab proofs l. whole_accepted (searches_of a) (size_searches_of z)
@@ -179,12 +185,14 @@ lemmas_accepted = record {
       (size_answers_one z) s right sized tab proofs l;
 }
 
+-- in tables that are made by whole rounds, the members of each component have one size or none
 pub components_uniform : ComponentsAreUniform
 components_uniform = record {
   made = λ a z s sized tab made. uniform_made (searches_of a) (size_searches_of z) (size_answers_one z) s sized tab
       made z.components refl;
 }
 
+-- before the first round and in the middle of one, lemmas stand for the table, by the numbers of its bounds
 pub lemmas_numbered : WholeLemmasAreNumbered
 lemmas_numbered = record {
   first = λ a s right tab proofs f. stands_for s tab proofs (first_stands (searches_of a) s right tab proofs f);

@@ -32,6 +32,7 @@ share c x s i = if nat_eq c.symbol s && nat_eq c.place i then x else pos 0
 pub share-elsewhere : (c : Coefficient) (x : ℤ) (s i : ℕ) → nat_eq c.symbol s ≡ false → share c x s i ≡ pos 0
 share-elsewhere c x s i e = ap (λ b. if b && nat_eq c.place i then x else pos 0) e
 
+-- of another place a coefficient takes nothing from the parameter
 pub share-other : (c : Coefficient) (x : ℤ) (s i : ℕ) → (c.place ≡ i → ⊥) → share c x s i ≡ pos 0
 share-other c x s i h = go (nat_eq c.symbol s)
   where
@@ -172,6 +173,7 @@ source-sum r (c ∷ cs) v u = both _ _ _ _ (source-share r c (v 0) u) (source-su
     both : (a b c d : ℤ) → a ≡ c → b ≡ d → a +ℤ b ≡ c +ℤ d
     both a b c d e f = omega (arith, ints, e, f)
 
+-- the constant of the function at the source is the sum of those of the goal forms, each by its parameter
 pub source-constants : (r : RuleForms) (cs : List Coefficient) (v : ℕ → ℤ)
     → coefficient cs v r.source 0 ≡ list_dot (map (λ c. (at_source r c).constant) cs) v
 source-constants r [] v = refl

@@ -116,6 +116,7 @@ numbers-size b g fits =
     ∙ blocks b g (λ i. if nat_eq i 0 then 0 else 1) (λ x. pos (nat_abs x)) (λ s. total_size (g s).coefs)
     (symbols_of_set b) (λ s. places-weigh b g s fits)
 
+-- the numbers of a function have the height that it has
 pub numbers-height : (b : RankedSet) (g : Function) → Fits b g
     → height_weight (rank_question b) (numbers_of b g) ≡ pos (height_of b g)
 numbers-height b g fits =

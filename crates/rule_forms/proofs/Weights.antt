@@ -105,6 +105,7 @@ affine-heights b a (suc n) v s =
 pub from-products : (a e b q : ℕ) → (pos a *ℤ pos e) ≤ℤ (pos b *ℤ pos q) → a * e ≤ b * q
 from-products a e b q l = omega (arith, ints, l)
 
+-- products of numbers that are the same are the same as integers
 pub to-products : (a e b q : ℕ) → a * e ≡ b * q → pos a *ℤ pos e ≡ pos b *ℤ pos q
 to-products a e b q h = omega (arith, ints, h)
 

@@ -51,6 +51,7 @@ one_pushed xs new x b en ex =
     ap (λ (ys : List Bound). parts_of (bounds_of ys)) en
     ∙ (parts_of-more xs x ∙ ap (λ (c : plain.Bound). joined (parts_of (bounds_of xs)) (Part c NoParts)) ex)
 
+-- where nothing is pushed the parts are as they were
 pub none_pushed : (ps : Parts) → ps ≡ joined ps NoParts
 none_pushed ps = sym (joined-nothing ps)
 
@@ -61,8 +62,10 @@ pushed_where v xs new x b h en ex =
     one_pushed xs new x b en ex
     ∙ ap (λ (w : Bool). joined (parts_of (bounds_of xs)) (cond w (Part b NoParts) NoParts)) (sym h)
 
+-- where a test fails no part is pushed
 pub kept_where : (v : Bool) (ps : Parts) (b : plain.Bound) → v ≡ false → ps ≡ joined ps (cond v (Part b NoParts) NoParts)
 kept_where v ps b h = none_pushed ps ∙ ap (λ (w : Bool). joined ps (cond w (Part b NoParts) NoParts)) (sym h)
 
+-- a maximum that begins at 1 comes to the factor itself
 pub factor-begun : (fs : List Flow) (t : ℕ) → max 1 (factor_of fs t) ≡ factor_of fs t
 factor-begun fs t = omega (arith, factor-least fs t)

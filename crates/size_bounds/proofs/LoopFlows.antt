@@ -27,6 +27,7 @@ module _ (q : Option Polynomial) (size : ℕ → ℕ → Option Bound) (m : Memb
     offset = offset_of q arm (h i) (sizes_after size e);
   }
 
+  -- what flows in by both arms from a rule is the same where the same places after it are members
   pub same-flows : (xs ys : List Member) (e : ℕ) → is_member xs e ≡ is_member ys e
       → flows_over q xs size m (e ∷ []) ≡ flows_over q ys size m (e ∷ [])
   same-flows xs ys e h = λ i. same-flow xs ys m.local.up e h i ∷ same-flow xs ys m.local.low e h i ∷ []

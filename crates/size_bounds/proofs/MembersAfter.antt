@@ -28,6 +28,7 @@ rules-adjacent (m ∷ n ∷ ms) h (suc k) d l =
     (let e : suc (k + 1) ≡ suc k + 1 = omega arith in e)
     (rules-adjacent (n ∷ ms) h.1 k d (omega (arith, l)))
 
+-- of members that ascend none has a lesser rule than one before it
 pub rules-ascend : (ms : List Member) → AreAscending (map member_of ms) → IsNonDecreasingBy (λ m. m.spot.rule) ms
 rules-ascend ms h = IsNonDecreasingBy-from_all_adjacent (λ m. m.spot.rule) ms (rules-adjacent ms h)
 
@@ -75,6 +76,7 @@ pub behind-lesser : (ms : List Member) (rule i : ℕ) → AllWithin (λ (m : Mem
 behind-lesser ms rule i h = λ t j. any-drop (λ m. (m.spot.rule == rule) && (m.spot.place == suc j)) ms i (λ k d l n.
     other-rule (get_or ms k d).spot.rule rule ((get_or ms k d).spot.place == suc j) (λ e. omega (arith, e, h k d l n))) t
 
+-- members after greater rules don't decide which places after a rule are members
 pub before-greater : (ms : List Member) (rule i : ℕ) → AllWithin (λ (m : Member). rule + 1 ≤ m.spot.rule) ms i (length ms)
     → is_member (map member_of (take i ms)) rule ≡ is_member (map member_of ms) rule
 before-greater ms rule i h = λ t j. any-take (λ m. (m.spot.rule == rule) && (m.spot.place == suc j)) ms i (λ k d l n.

@@ -69,6 +69,7 @@ module _ (members : List Member) (rule : ℕ) where
   same-spot : (position : ℕ) → is_spot members rule (position + 1) ≡ is_member members rule position
   same-spot position = ap (λ (n : ℕ). is_spot members rule n) (let e : position + 1 ≡ suc position = omega arith in e)
 
+  -- a place that is a member adds no spot to those that are needed
   pub inside_left_out : (position : ℕ) (spots : List Spot) → true ≡ is_spot members rule (position + 1)
       → spots ≡ spots ++ spots_outside members rule (position ∷ [])
   inside_left_out position spots h =
@@ -77,6 +78,7 @@ module _ (members : List Member) (rule : ℕ) where
       none : is_member members rule position ≡ true → spots_outside members rule (position ∷ []) ≡ []
       none e = rw e refl
 
+  -- a place that is no member has its spot pushed to those that are needed
   pub outside_pushed : (position : ℕ) (old new : List CodeSpot) (spot : CodeSpot) → new ≡ old ++ spot ∷ []
       → spot_of spot ≡ record { rule = rule; place = position + 1 } → false ≡ is_spot members rule (position + 1)
       → map spot_of new ≡ map spot_of old ++ spots_outside members rule (position ∷ [])

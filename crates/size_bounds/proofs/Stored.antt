@@ -25,6 +25,7 @@ row_read [] i r l e = absurd (omega (arith, l))
 row_read {A = A} (q ∷ rows) zero r l e = ap (λ (v : Vec A Global). v.items) (sym e)
 row_read (q ∷ rows) (suc i) r l e = row_read rows i r (omega (arith, l)) e
 
+-- past the last row there is an empty one
 pub row_past : {A : Type 0} (rows : List (Vec A Global)) (i : ℕ) → length rows ≤ i
     → row_at (map (λ (row : Vec A Global). row.items) rows) i ≡ []
 row_past [] i l = refl
@@ -39,6 +40,7 @@ size_read tab t (suc i) row n l e =
     ap (λ (os : List (Option Stored)). entry_at os i) (row_read tab.sizes.items t row l e)
     ∙ ap (entry_at row.items) (let z : i ≡ suc i - 1 = omega arith in z)
 
+-- past the last row no size is stored
 pub size_past : (tab : Table) (t i : ℕ) → length tab.sizes.items ≤ t → stored_size tab t i ≡ None
 size_past tab t zero l = refl
 size_past tab t (suc i) l = ap (λ (os : List (Option Stored)). entry_at os i) (row_past tab.sizes.items t l)

@@ -70,11 +70,7 @@ fn push_offset(
 /// # Errors
 ///
 /// `Memory` where an allocation fails.
-pub(crate) fn maximum_offset(
-    alloc: Global,
-    flows: &[Flow],
-    kind: FlowKind,
-) -> Result<Bound, Memory>
+pub(crate) fn maximum_offset(alloc: Global, flows: &[Flow], kind: FlowKind) -> Result<Bound, Memory>
     ensures { IfOk result (λ b. bound_of b ≡ MaximumOf (offsets (is_of kind) (map flow_of flows.now))) }
 {
     let mut parts = Vec::new(alloc);

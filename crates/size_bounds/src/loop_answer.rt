@@ -16,7 +16,7 @@ ghost use Rattle.size_bounds.specs.LoopAnswers.{IsLoopAnswer, IsTimedAnswer};
 
 use crate::answer::SizeAnswer;
 use crate::flow::Flow;
-use crate::growth::{FlowKind, Growth, maximum_offset, growing_rules, growths_by};
+use crate::growth::{FlowKind, Growth, growing_rules, growths_by, maximum_offset};
 use crate::loop_bound::loop_bound;
 use crate::table::Table;
 use crate::uses::{cited, push_size_lemmas, push_time_lemmas};

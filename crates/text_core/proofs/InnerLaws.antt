@@ -45,6 +45,7 @@ module _ {P T F K Q G C : Type 0} (r : Reader P T F K) (laws : Laws r) (i : Insi
     pub writes : r.Writes t inner
     pub text : (rest : List Q) → onto done rest ≡ onto before (map i.into inner ++ rest)
 
+  -- where the inner text can end, the pieces since it began are those of its tree
   pub ends_inside : (before done : List Q) (f : F) (t : T) → IsInside r i before done f → r.finish f ≡ Some t → IsRead before done t
   ends_inside before done f t s e = record { inner = onto s.inner []; writes = laws.ends s.inner f t s.led e; text = λ rest. text_inside before done f s [] rest }
 
@@ -56,6 +57,7 @@ module _ {P T F K Q G C : Type 0} (r : Reader P T F K) (laws : Laws r) (i : Insi
     pub writes : r.Writes tree inner
     pub text : (rest : List Q) → onto done (map i.into more ++ rest) ≡ onto before (map i.into inner ++ rest)
 
+  -- from each front inside, inner pieces complete the inner text
   pub completes_inside : (before done : List Q) (f : F) → IsInside r i before done f → Completes before done
   completes_inside before done f s =
       let b = laws.goes_on s.inner f s.led in

@@ -35,6 +35,7 @@ module _ {P T F K : Type 0} (r : Reader P T F K) where
     pub other : NotAfter r x y
     pub so_far : (z : Fault K) → best ≡ Some z → NotAfter r x z
 
+  -- the first of a fault so far and another is one of them and not after them
   pub first_of_is : (best : Option (Fault K)) (y : Fault K) → IsFirstOf best y (first_of r best y)
   first_of_is None y = record { one = inr refl; other = not_after_self y; so_far = λ z e. cc }
   first_of_is (Some x) y = go (is_before r y x) refl
@@ -54,6 +55,7 @@ module _ {P T F K : Type 0} (r : Reader P T F K) where
   IsFirstAmong best xs None = (best ≡ None) × ((y : Fault K) → ¬ Among y xs)
   IsFirstAmong best xs (Some x) = ((best ≡ Some x) ⊎ Among x xs) × ((y : Fault K) → (best ≡ Some y) ⊎ Among y xs → NotAfter r x y)
 
+  -- the first of a fault so far and others is one of them and not after them, and none where there are none
   pub first_among_is : (xs : List (Fault K)) (best : Option (Fault K)) → IsFirstAmong best xs (first_among r best xs)
   first_among_is [] None = (refl, λ y h. h)
   first_among_is [] (Some x) = (inl refl, λ y h. same y h)

@@ -39,6 +39,7 @@ module _ {P T F K : Type 0} (r : Reader P T F K) where
 -- reader from front to front lead the outer one so, whatever follows
 module _ {P Q F G : Type 0} (inner : F → P → Option F) (outer : G → Q → Option G) (inside : F → G) (as_outer : P → Q)
     (stays : (f g : F) (p : P) → inner f p ≡ Some g → outer (inside f) (as_outer p) ≡ Some (inside g)) where
+  -- pieces that lead the inner reader from front to front lead the outer one so, whatever follows
   pub inner-walk : (ps : List P) (rest : List Q) (f g : F) → walk inner (Some f) ps ≡ Some g → walk outer (Some (inside f)) (map as_outer ps ++ rest) ≡ walk outer (Some (inside g)) rest
   inner-walk [] rest f g e = let same : f ≡ g = cc in ap (λ (h : F). walk outer (Some (inside h)) rest) same
   inner-walk (p ∷ ps) rest f g e = go (inner f p) refl e (λ h k. inner-walk ps rest h g k)

@@ -57,6 +57,7 @@ no_members local members e = subst (λ (ms : List Member). AreMembers local [] m
   bounds_are = All-nil (λ m. local m.spot.rule m.spot.place ≡ HasBound m.local);
 }
 
+-- a place with its local bound is one member more
 pub members_more : (local : Locals) (spots : List Spot) (members : List Member) (spot : Spot) (m : Member) → AreMembers local spots members
     → IsMember local spot m → AreMembers local (spots ++ spot ∷ []) (members ++ m ∷ [])
 members_more local spots members spot m h is = record {
@@ -94,10 +95,12 @@ each_none reason local (m ∷ spots) e =
     (left_none (reason (local m.rule m.place)) (first_reason reason local spots) e)
     (each_none reason local spots (right_none (reason (local m.rule m.place)) (first_reason reason local spots) e))
 
+-- where places lack no arms, none of them is loose
 pub none_loose : (local : Locals) (spots : List Spot) → lacks_arms local spots ≡ None → All (λ m. loose_reason (local m.rule m.place) ≡ None) spots
 none_loose local spots e =
     each_none loose_reason local spots (left_none (first_reason loose_reason local spots) (first_reason trip_reason local spots) e)
 
+-- where places lack no arms, none of their questions tripped
 pub none_tripped : (local : Locals) (spots : List Spot) → lacks_arms local spots ≡ None → All (λ m. trip_reason (local m.rule m.place) ≡ None) spots
 none_tripped local spots e =
     each_none trip_reason local spots (right_none (first_reason loose_reason local spots) (first_reason trip_reason local spots) e)
@@ -141,6 +144,7 @@ answer_row lists t zero a e = absurd (none_some a e)
 answer_row lists zero (suc j) a e = absurd (none_some a e)
 answer_row lists (suc u) (suc j) a e = let h = row_short lists u j a e in (omega arith, omega (arith, h), omega arith)
 
+-- where a place has an answer, it is within the row of its rule
 pub answer_place : (lists : List (Vec LocalAnswer Global)) (t i : ℕ) (a : LocalAnswer) (row : Vec LocalAnswer Global)
     → answer_in (answer_lists lists) t i ≡ Some a → row ≡ get_or lists (t - 1) row → i - 1 < length row.items
 answer_place lists t zero a row e h = absurd (none_some a e)
@@ -151,6 +155,7 @@ answer_place lists (suc u) (suc j) a row e h =
     let low = got_short row.items j a (ap (λ (xs : List LocalAnswer). slice_get xs j) (sym read) ∙ e) in
     omega (arith, low)
 
+-- where a place has an answer, it is the one that is read in the row of its rule
 pub answer_read : (lists : List (Vec LocalAnswer Global)) (t i : ℕ) (a x : LocalAnswer) (row : Vec LocalAnswer Global)
     → answer_in (answer_lists lists) t i ≡ Some a → row ≡ get_or lists (t - 1) row → x ≡ get_or row.items (i - 1) x
     → answer_in (answer_lists lists) t i ≡ Some x
@@ -176,6 +181,7 @@ pub lacks_told : (o : Option NoSize) (e : SizeEntry) → Some (size_of e) ≡ op
 lacks_told None e h = absurd (none_some (size_of e) (sym h))
 lacks_told (Some why) e h = let same : size_of e ≡ Unsized why = cc in (why, refl, same)
 
+-- where no reason is told of a size, there was none
 pub lacks_not : (o : Option NoSize) → None ≡ option_map Unsized o → o ≡ None
 lacks_not None h = refl
 lacks_not (Some why) h = absurd (none_some (Unsized why) h)

@@ -66,6 +66,7 @@ row_nothing row said none = record {
   each = λ i e there. absurd (no_entry e (sym (ap (λ (os : List (Option SizeEntry)). entry_at os i) none) ∙ there));
 }
 
+-- where nothing is said of any place, all that is said carries the numbers of the table
 pub places_nothing : (tab : Table) (said : List (Vec (Option SizeEntry) Global)) → said ≡ [] → CarryPlaces tab (map (λ row. row.items) said)
 places_nothing tab said none = record {
   each = λ t i e there. absurd (nowhere t i e (sym (ap (λ (vs : List (Vec (Option SizeEntry) Global)). placed (map (λ row. row.items) vs) t i) none) ∙ there));
@@ -156,9 +157,11 @@ reason_kept old new u j x is reason = record { each = λ tab h. record { each = 
         go (inl h2) = h.each t i e h2
         go (inr same) = subst (CarriesNumber ((numbers_of tab).size t i)) same (reason_carries x reason ((numbers_of tab).size t i))
 
+-- rows keep the numbers that they carry themselves
 pub kept_all : (rows : List (List (Option SizeEntry))) → KeepPlaces rows rows
 kept_all rows = record { each = λ tab h. h }
 
+-- where second rows keep the numbers of first ones, and third rows theirs, the third keep those of the first
 pub kept_on : (a b c : List (List (Option SizeEntry))) → KeepPlaces a b → KeepPlaces b c → KeepPlaces a c
 kept_on a b c h k = record { each = λ tab x. k.each tab (h.each tab x) }
 
@@ -193,6 +196,7 @@ rows_all ns t (row ∷ rows) h = (
       (λ u j e there. subst (λ (n : ℕ). CarriesNumber (ns.size n (suc j)) e) (let z : t + suc u ≡ suc t + u = omega arith in z) (h (suc u) j e there)),
 )
 
+-- rows in which all entries are said carry the numbers of the table, rule by rule
 pub all_carried : (tab : Table) (rows : List (Vec SizeEntry Global)) (said : List (List (Option SizeEntry)))
     → map (λ row. map (λ x. Some x) row.items) rows ≡ said → CarryPlaces tab said → CarryRows (numbers_of tab) 0 (map (λ row. row.items) rows)
 all_carried tab rows said same h =

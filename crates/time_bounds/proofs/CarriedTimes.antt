@@ -16,6 +16,7 @@ carry_more ns t (y ∷ xs) x h k = (
   carry_more ns (suc t) xs x h.1 (subst (λ (n : ℕ). CarriesTime ns n x) (let z : t + suc (length xs) ≡ suc t + length xs = omega arith in z) k),
 )
 
+-- one time more that carries the number of its lemma stands behind those that do
 pub times_carried : (ns : Numbers) (xs new : List TimeEntry) (x : TimeEntry) (t : ℕ) → CarryTimes ns 1 xs → new ≡ xs ++ x ∷ [] → t ≡ length xs + 1
     → CarriesTime ns t x → CarryTimes ns 1 new
 times_carried ns xs new x t h e at k =
@@ -31,6 +32,7 @@ order_more n (times.Gap i ∷ xs) m x k h g = (h.0, order_more (suc n) xs m x k 
 order_more n (times.Tripped t ∷ xs) m x k h g = order_more n xs m x k h g
 order_more n (times.Large l ∷ xs) m x k h g = order_more n xs m x k h g
 
+-- one entry more leaves the gaps numbered in the order of rules
 pub gaps_ordered : (xs new : List TimeEntry) (x : TimeEntry) (m k : ℕ) → AreGapsInOrder 0 xs m → new ≡ xs ++ x ∷ [] → AreGapsInOrder m (x ∷ []) k
     → AreGapsInOrder 0 new k
 gaps_ordered xs new x m k h e g = subst (λ (ys : List TimeEntry). AreGapsInOrder 0 ys k) (sym e) (order_more 0 xs m x k h g)

@@ -92,6 +92,7 @@ module _ (F : Bound → Type 0) (constant : (c : ℕ) → c ≤ constant_limit �
         ),
       )
 
+  -- what holds of all nodes of the places' bounds holds of those of a form as a bound
   pub form_bound-each : (f : Form) (den : ℕ) (sizes : ℕ → Bound) → IsFormInLimit f → IsInLimit den
       → ((j : ℕ) → EachNode F (sizes j)) → EachNode F (form_bound f den sizes)
   form_bound-each f den sizes low few h = rest_bound-each f den no_place sizes low few h

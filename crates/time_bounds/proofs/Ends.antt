@@ -17,6 +17,7 @@ each_rule : (P : plain.Rule → Type 0) (rules : List Rule) → All P (map rule_
 each_rule P rules h k d low =
     subst P (get_or-map rule_of rules k d (rule_of d) low) (h k (rule_of d) (omega (arith, low, length-map rules rule_of)))
 
+-- the rules of a valid program lead to its symbols
 pub targets_within : (p : Program) → IsValid (program_of p) → All (λ r. r.target < length p.symbols.items) p.rules.items
 targets_within p valid k d low =
     let h = each_rule (λ r. (r.source < length (map symbol_of p.symbols.items)) × (r.target < length (map symbol_of p.symbols.items)))
@@ -24,6 +25,7 @@ targets_within p valid k d low =
     let target = h.1 in
     omega (arith, target, length-map p.symbols.items symbol_of)
 
+-- the rules of a valid program lead from symbols of its graph
 pub sources_within : (p : Program) → IsValid (program_of p) → (g : Graph) → IsGraphOf g (program_of p)
     → All (λ r. r.source < g.symbols) p.rules.items
 sources_within p valid g is k d low =

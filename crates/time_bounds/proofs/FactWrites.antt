@@ -26,6 +26,7 @@ abbrev pub facts_at : Bound → List Spot → List plain.Fact
 facts_at b [] = []
 facts_at b (m ∷ spots) = plain.Size m.rule m.place b ∷ facts_at b spots
 
+-- the facts of a loop state the same size at the place of each member
 pub cycle_facts-at : (b : Bound) (members : List Member) → cycle_facts b members ≡ facts_at b (map (λ m. m.spot) members)
 cycle_facts-at b [] = refl
 cycle_facts-at b (m ∷ members) = ap (λ (fs : List plain.Fact). plain.Size m.spot.rule m.spot.place b ∷ fs) (cycle_facts-at b members)
@@ -50,6 +51,7 @@ pub fact_known : (rows : List (List (Option Stored))) (n : ℕ) (f : Fact) (t i 
 fact_known rows n (Time u b) t i s e = e
 fact_known rows n (Size u j b) t i s e = place_known rows u j t i _ s e
 
+-- a size that is known stays when facts are written
 pub facts_known : (rows : List (List (Option Stored))) (n : ℕ) (facts : List Fact) (t i : ℕ) (s : Stored) → placed rows t i ≡ Some s
     → placed (put_facts rows n facts) t i ≡ Some s
 facts_known rows n [] t i s e = e
@@ -61,6 +63,7 @@ fact_long : (rows : List (List (Option Stored))) (n : ℕ) (f : Fact)
 fact_long rows n (Time u b) = refl
 fact_long rows n (Size u j b) = place_long rows u j _
 
+-- rows are as long as before when facts are written
 pub facts_long : (rows : List (List (Option Stored))) (n : ℕ) (facts : List Fact)
     → map (λ (row : List (Option Stored)). length row) (put_facts rows n facts) ≡ map (λ (row : List (Option Stored)). length row) rows
 facts_long rows n [] = refl
@@ -71,6 +74,7 @@ fact_few : (rows : List (List (Option Stored))) (n : ℕ) (f : Fact) → count_u
 fact_few rows n (Time u b) = omega arith
 fact_few rows n (Size u j b) = place_few rows u j _
 
+-- no more sizes are missing than before when facts are written
 pub facts_few : (rows : List (List (Option Stored))) (n : ℕ) (facts : List Fact) → count_unsized (put_facts rows n facts) ≤ count_unsized rows
 facts_few rows n [] = omega arith
 facts_few rows n (f ∷ facts) = let h = facts_few (put_fact rows n f) n facts in let g = fact_few rows n f in omega (arith, h, g)
@@ -162,6 +166,7 @@ stored_here b (m ∷ spots) rows n (Size u j c ∷ facts) t i e h none l k =
         (subst (λ (z : ℕ). (m.place == z) ≡ true) (sym fr.place ∙ y) (same_number m.place)))) ∙ none in
         later w same (subst (λ (z : ℕ). i ≤ z) (sym long) k)
 
+-- a place of the facts that had no size has the one that they state when they are written
 pub facts_here : (b : Bound) (spots : List Spot) (rows : List (List (Option Stored))) (n : ℕ) (facts : List Fact) (t i : ℕ)
     → facts_of facts ≡ facts_at b spots → has_spot spots t i ≡ true → placed rows t i ≡ None → 1 ≤ i → i ≤ length (row_at rows t)
     → sized (put_facts rows n facts) t i ≡ Some b

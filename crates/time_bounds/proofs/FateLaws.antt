@@ -102,6 +102,7 @@ dead_told true b = refl
 dead_told false true = refl
 dead_told false false = refl
 
+-- an answer that says that rows have no point is told to
 pub says : (a : EmptyAnswer) → SaysEmpty a → says_empty a ≡ true
 says (answers.Empty n) h = refl
 says (answers.Point z) h = absurd h
@@ -112,6 +113,7 @@ unsaid (answers.Empty n) h = tt
 unsaid (answers.Point z) h = absurd (no_is_not_yes false refl h)
 unsaid (answers.Tripped t) h = absurd (no_is_not_yes false refl h)
 
+-- an answer that has multipliers which leave no point says that rows have none
 pub shown_says : (a : EmptyAnswer) (m : List ℕ) → emptiness_of a ≡ NoPoint m → SaysEmpty a
 shown_says (answers.Empty n) m e = tt
 shown_says (answers.Point z) m e = absurd (let f : ⊥ = cc in f)

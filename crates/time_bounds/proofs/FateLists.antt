@@ -51,6 +51,7 @@ pub range-more : (n a j : ℕ) → a + n ≡ j → range_with_len a (suc n) ≡ 
 range-more zero a j e = let same : a ≡ j = omega (arith, e) in ap (λ (x : ℕ). x ∷ []) same
 range-more (suc n) a j e = ap (λ (xs : List ℕ). a ∷ xs) (range-more n (a + 1) j (omega (arith, e)))
 
+-- the next number of those from 1 on is kept exactly where it passes the test
 pub kept-more : (test : ℕ → Bool) (i : ℕ) (v : Bool) → test (i + 1) ≡ v
     → filter test (range_with_len 1 (i + 1)) ≡ filter test (range_with_len 1 i) ++ cond v ((i + 1) ∷ []) []
 kept-more test i v e =
@@ -84,6 +85,7 @@ sizes-append p (x ∷ fs) (y ∷ rs) f r e =
     ap (λ (rows : List (List (Option Bound))). replicate (plain.arity_of p y.target) (zero_by x) ∷ rows)
     (sizes-append p fs rs f r (let z : length fs ≡ length rs = omega (arith, e) in z))
 
+-- at one rule more, each place of its target has the size that the rule's fate gives
 pub sizes-more : (p : plain.Program) (fs : List Fate) (rs : List Rule) (i : ℕ) (d : Fate) (r : Rule) → length fs ≡ length rs → i < length rs
     → r ≡ slice_index_or rs i r
     → sizes_by p (take (i + 1) fs) (map rule_of (take (i + 1) rs))

@@ -85,6 +85,7 @@ dead_number Empty n e = refl
 dead_number Unreached n e = refl
 dead_number Live n e = absurd (no_is_not_yes false refl e)
 
+-- a rule that never runs, and whose target has a place, has one lemma of sizes
 pub dead_zeros : (f : Fate) (a : ℕ) → is_dead_fate f ≡ true → 0 < a → if_zeros f a ≡ 1
 dead_zeros Empty zero e l = absurd (omega (arith, l))
 dead_zeros Empty (suc a) e l = refl
@@ -279,6 +280,7 @@ module _ (p : Program) (pivots : ℕ) (right : AreRight (searches_of_program p p
       (sym (ap (λ (ps : List Proof). empty_lemmas empties ++ (unreached_by (count_empty fates) 1 fates ++ ps)) cited_same ∙ order ns))
       (first_numbers_are (searches_of_program p pivots) (setting_of p) right (table_of tab) first iu unreached (empty_lemmas empties) empties_right)
 
+  -- the numbers of the first table are those of its bounds among the lemmas that are written first
   pub numbers_right : AreNumbersOf p (facts_of_lemmas (setting_of p) written) (table_of tab) (numbers_of tab)
   numbers_right = record {
     start_time = number_at tab.times.items 0 ∙ ap (λ (xs : List ℕ). slice_index_or xs 0 0) numbered;
@@ -311,6 +313,7 @@ module _ (p : Program) (pivots : ℕ) (right : AreRight (searches_of_program p p
           (sym (size_same k i (fate_at fates (suc k)) rule.rule (fate_in k rule) rule.numbered (dead_size k (suc i) b rule place known) low))
           (base.sizes (suc k) (suc i) b rule place known)
 
+  -- the lemmas that are written first are those of the first table
   pub first_lemmas_are : AreFirstLemmas (searches_of_program p pivots) (setting_of p) (table_of tab) written
   unfolding first is_first
   first_lemmas_are = record {

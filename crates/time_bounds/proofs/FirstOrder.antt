@@ -56,6 +56,7 @@ module _ (ie iu : ℕ → Bool) where
   one_unreached t Unreached h = rw (h.0, h.1) refl
   one_unreached t Live h = rw (h.0, h.1) refl
 
+  -- the lemmas of unreached rules by fates are those of the rules that tests tell to be cut off
   pub unreached_are : (k t : ℕ) (fs : List Fate) → AreTold t fs
       → unreached_by k t fs ≡ unreached_lemmas k (filter (is_cut ie iu) (range_with_len t (length fs)))
   unreached_are k t [] h = refl
@@ -67,6 +68,7 @@ module _ (ie iu : ℕ → Bool) where
       go Unreached a ih = rw (a.0, a.1) (ap (λ (ps : List Proof). nodes.Unreached t (cites (range_with_len 1 k)) ∷ ps) ih)
       go Live a ih = rw (a.0, a.1) ih
 
+  -- the lemmas of sizes by fates are those of the rules told to be dead whose targets have places
   pub never_are : (p : plain.Program) (ns : Numbers) (has : ℕ → Bool) (t : ℕ) (fs : List Fate) (rs : List plain.Rule) → length fs ≡ length rs
       → AreTold t fs → ((i : ℕ) (r : plain.Rule) → slice_get rs i ≡ Some r → has (t + i) ≡ some_places (plain.arity_of p r.target))
       → never_by p ns t fs rs ≡ never_lemmas ns (filter has (filter (is_dead ie iu) (range_with_len t (length fs))))
@@ -88,12 +90,14 @@ module _ (ie iu : ℕ → Bool) where
       go Unreached (suc a) b k ih = rw (b.0, b.1, k) (ap (λ (ps : List Proof). nodes.Never (nodes.Cite (ns.time t)) ∷ ps) ih)
       go Live a b k ih = rw (b.0, b.1) ih
 
+  -- as many fates are of empty rules as rules are told to be empty
   pub empty_count : (t : ℕ) (fs : List Fate) → AreTold t fs → count_empty fs ≡ passing ie (range_with_len t (length fs))
   empty_count t [] h = refl
   empty_count t (f ∷ fs) h =
       ap (λ (n : ℕ). if_empty f + n) (empty_count (t + 1) fs (told_rest t f fs h))
       ∙ ap (λ (n : ℕ). n + passing ie (range_with_len (t + 1) (length fs))) (sym (one_empty t f (told_head t f fs h)))
 
+  -- as many fates are of unreached rules as rules are told to be cut off
   pub unreached_count : (t : ℕ) (fs : List Fate) → AreTold t fs → count_unreached fs ≡ passing (is_cut ie iu) (range_with_len t (length fs))
   unreached_count t [] h = refl
   unreached_count t (f ∷ fs) h =
@@ -135,6 +139,7 @@ module _ (ie iu : ℕ → Bool) where
       same_u : u + if_unreached g + pu ≡ u + (cond (is_cut ie iu t) 1 0 + pu)
       same_u = let one = one_unreached t g (told_head t g fs h) in omega (arith, one)
 
+  -- a rule has a lemma of sizes by its fate exactly where it is told to be dead and to have places
   pub zeros_told : (t : ℕ) (f : Fate) (a : ℕ) (has : Bool) → Told t f → has ≡ some_places a → cond (is_dead ie iu t && has) 1 0 ≡ if_zeros f a
   zeros_told t Empty zero has b k = rw (b.0, k) refl
   zeros_told t Empty (suc a) has b k = rw (b.0, k) refl
@@ -199,6 +204,7 @@ empties_are q test t (a ∷ xs) h g =
     go (answers.Point z) e shown ih = rw e ih
     go (answers.Tripped x) e shown ih = rw e ih
 
+-- there are as many lemmas of empty rules as rules that a test tells to be empty
 pub empties_count : (test : ℕ → Bool) (t : ℕ) (xs : List EmptyAnswer)
     → ((i : ℕ) (a : EmptyAnswer) → slice_get xs i ≡ Some a → test (t + i) ≡ says_empty a)
     → length (empty_lemmas xs) ≡ passing test (range_with_len t (length xs))

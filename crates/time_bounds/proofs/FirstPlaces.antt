@@ -65,6 +65,7 @@ few_sizes p v (row ∷ rows) (r ∷ rules) e =
     let ih = few_sizes p v rows rules rest in
     omega (arith, long, few, some, ih)
 
+-- at most 40,000 bounds are missing in a table of a valid program
 pub few_missing : (p : Program) (tab : Table) (empties : List EmptyAnswer) → IsValid p → IsTable p tab empties → HasPlaces p tab → missing_in tab ≤ 40000
 few_missing p tab empties v h places = go (rows_of tab) refl places.rows
   where

@@ -87,11 +87,13 @@ no_row p (f ∷ fates) [] k h = refl
 no_row p (f ∷ fates) (x ∷ rules) zero h = absurd (none_some x (sym h))
 no_row p (f ∷ fates) (x ∷ rules) (suc k) h = no_row p fates rules k h
 
+-- a rule that never runs has the bound 0
 pub dead_zero : (f : Fate) → is_dead_fate f ≡ true → zero_by f ≡ Some (Constant 0)
 dead_zero Empty e = refl
 dead_zero Unreached e = refl
 dead_zero Live e = absurd (no_is_not_yes false refl e)
 
+-- a live rule has no bound before the first round
 pub live_none : (f : Fate) → is_dead_fate f ≡ false → zero_by f ≡ None
 live_none Empty e = absurd (no_is_not_yes true e refl)
 live_none Unreached e = absurd (no_is_not_yes true e refl)
@@ -105,9 +107,11 @@ empty_dead Live e = e
 module _ (q : Searches) (p : Program) (fates : List Fate) (right : AreFates q p fates) (tab : Table)
     (times : map bound_stored tab.times.items ≡ first_times fates)
     (sizes : map (λ (row : Vec (Option Stored) Global). map bound_stored row.items) tab.sizes.items ≡ first_sizes p fates) where
+  -- the times of the first table are those that are listed
   pub time_is : (t : ℕ) → (table_of tab).time t ≡ entry_at (first_times fates) t
   time_is t = entry_mapped tab.times.items t ∙ ap (λ (os : List (Option Bound)). entry_at os t) times
 
+  -- the time of a rule in the first table is the one that its fate gives
   pub time_at : (i : ℕ) → (table_of tab).time (suc i) ≡ zero_by (fate_at fates (suc i))
   time_at i = time_is (suc i) ∙ fate_entry fates i
 
@@ -118,6 +122,7 @@ module _ (q : Searches) (p : Program) (fates : List Fate) (right : AreFates q p 
       → (table_of tab).size (suc k) (suc i) ≡ entry_at (replicate (arity_of p r.target) (zero_by (fate_at fates (suc k)))) i
   size_at k i r h = size_is (suc k) i ∙ ap (λ (os : List (Option Bound)). entry_at os i) (row_by p fates p.rules k r right.one_each h)
 
+  -- only the virtual entry and rules have times in the first table
   pub time_rule : (t : ℕ) (b : Bound) → (table_of tab).time t ≡ Some b → (t ≡ 0) ⊎ IsRule p t
   time_rule zero b e = inl refl
   time_rule (suc i) b e = go (cases_lt i (length p.rules))
@@ -128,6 +133,7 @@ module _ (q : Searches) (p : Program) (fates : List Fate) (right : AreFates q p 
           absurd (no_bound ((table_of tab).time (suc i)) b
           (time_is (suc i) ∙ entry_past (map zero_by fates) i (omega (arith, l, right.one_each, length-map fates zero_by))) e)
 
+  -- only places after the virtual entry and after rules have sizes in the first table
   pub size_rule : (t i : ℕ) (b : Bound) → (table_of tab).size t i ≡ Some b → ((t ≡ 0) ⊎ IsRule p t) × IsPlace p t i
   size_rule t zero b e = absurd (none_some b e)
   size_rule zero (suc i) b e = go (cases_lt i (arity_of p p.start))
@@ -155,6 +161,7 @@ module _ (q : Searches) (p : Program) (fates : List Fate) (right : AreFates q p 
   some_same : (a b : ℕ) → Some a ≡ Some b → a ≡ b
   some_same a b e = cc
 
+  -- a place after the virtual entry has its start argument as its size in the first table
   pub start_size : (i : ℕ) → IsPlace p 0 i → (table_of tab).size 0 i ≡ Some (Input (i - 1))
   start_size zero place = absurd (omega (arith, place.least))
   start_size (suc i) place =

@@ -31,6 +31,7 @@ pub record Handed (p : Program) (pivots : ℕ) (fates : List Fate) (g : Graph) (
   pub answers : AreAllAnswers p pivots 1 fates (answer_lists lists)
   pub live_are : live ≡ map is_live_fate fates
 
+-- rows, answers and flags that are the program's are what the search for components is given
 pub handed : (p : Program) (pivots : ℕ) (fates : List Fate) (g : Graph) (old preps : List RuleRows) (had lists : List (Vec LocalAnswer Global))
     (live : List Bool) → IsValid p → IsGraphOf g p → AreRowsOf old p → AreFates (searches_of_program p pivots) p fates
     → AreAllAnswers p pivots 1 fates (answer_lists had) → preps ≡ old → lists ≡ had → live ≡ map is_live_fate fates
@@ -46,6 +47,7 @@ handed p pivots fates g old preps had lists live valid graph rows are all e f h 
 
 module _ (p : Program) (pivots : ℕ) (fates : List Fate) (g : Graph) (preps : List RuleRows) (lists : List (Vec LocalAnswer Global)) (live : List Bool)
     (h : Handed p pivots fates g preps lists live) where
+  -- what the search for components is given has an answer for each place of a live rule
   pub given : AreAnswersGiven p g preps (answer_lists lists) live
   given = record {
     valid = h.valid;

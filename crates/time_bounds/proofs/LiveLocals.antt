@@ -45,6 +45,7 @@ module _ (p : Program) (pivots : ℕ) (valid : IsValid (program_of p)) (preps : 
   same : prepared_of m ≡ prepared (rule_of r)
   same = at.same ∙ ap prepared same_rule
 
+  -- the rows that are read are prepared from a rule
   pub prep_prepared : IsPrepared m
   prep_prepared = record { rule = rule_of r; preparable = preparable (program_of p) (suc i) (rule_of r) valid numbered; same = same }
 
@@ -56,6 +57,7 @@ module _ (p : Program) (pivots : ℕ) (valid : IsValid (program_of p)) (preps : 
       ∙ ((rule-of (program_of p) [] 0 [] (suc i) (rule_of r) valid numbered).values
       ∙ arity_read p r.target x (target_read p valid i r low r_is) k))
 
+  -- the answer that is read is the one at the rule's position
   pub empty_got : slice_get empties i ≡ Some e
   empty_got =
       slice_get_read empties (length empties) i e refl (omega (arith, low, known.one_each, length-map p.rules.items rule_of)) e_is

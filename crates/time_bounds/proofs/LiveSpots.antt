@@ -153,6 +153,7 @@ module _ (p : Program) (is_live : ℕ → Bool) where
           (subst (λ (n : ℕ). has_spot (row n (is_live n)) t i ≡ true) e here)
       go (inr m) later = append-right (row u (is_live u)) (spots_of p is_live ts) t i (later m)
 
+  -- each place after a live rule is among the places of live rules
   pub live-listed : (t i : ℕ) → IsRule p t → is_live t ≡ true → IsPlace p t i → has_spot (live_spots p is_live) t i ≡ true
   live-listed t i rule live place =
       among (range_with_len 1 (length p.rules)) t i (rule_in p t rule.rule rule.numbered) live place

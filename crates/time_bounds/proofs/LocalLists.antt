@@ -191,6 +191,7 @@ module _ (p : Program) (pivots : ℕ) (fates : List Fate) (lists : List (List Lo
         x.2.each j a.0 refl a.1,
       )
 
+  -- of each place after a live rule the answer that is read is its local bound, or why it has none
   pub locals : AreLocals p pivots (is_flagged (map is_live_fate fates)) (local_from lists)
   locals t i h place =
       let x = answer_here t i h place in
@@ -200,6 +201,7 @@ module _ (p : Program) (pivots : ℕ) (fates : List Fate) (lists : List (List Lo
       at t zero a e = absurd (none_some a e)
       at t (suc i) a e = ap local_in e
 
+  -- there is a list of answers and a flag for each rule, and an answer for each place of a live one
   pub locals_for : AreLocalsFor p lists (map is_live_fate fates)
   locals_for = record {
     lists = all_long p pivots 1 fates lists all ∙ are.one_each;

@@ -82,6 +82,7 @@ module _ (s : Setting) (is_live : ℕ → Bool) (local : Locals) where
   found_member positions before (ps ∷ rest) e listing c (inr one) h =
       found_member positions (before ++ ps ∷ []) rest (e ∙ sym (append_assoc before (ps ∷ []) rest)) listing c one h
 
+  -- a component that doesn't loop has one member
   pub lone : (cs : List (List Spot)) → AreComponents s is_live local cs → (c : List Spot) → IsOneOf cs c → loops s local c ≡ false
       → (m : Spot) × (c ≡ m ∷ [])
   lone cs found c one h =

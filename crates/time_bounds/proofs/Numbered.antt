@@ -63,14 +63,17 @@ size-number-more p fs rs i d r last next rows row e low at_r after here =
 pub more : {A : Type 0} (done new here rest whole : List A) → new ≡ done ++ here → done ++ (here ++ rest) ≡ whole → new ++ rest ≡ whole
 more done new here rest whole e h = ap (λ xs. xs ++ rest) e ∙ (append_assoc done here rest ∙ h)
 
+-- of the empty rules that are left, the lemmas are that of the next one and those of the others
 pub empties-left : (xs : List EmptyAnswer) (i : ℕ) (d : EmptyAnswer) → i < length xs
     → empty_lemmas (drop i xs) ≡ empty_here (slice_index_or xs i d) ++ empty_lemmas (drop (i + 1) xs)
 empties-left xs i d low = ap empty_lemmas (drop_more xs i d low)
 
+-- of the unreached rules that are left, the lemmas are that of the next one and those of the others
 pub unreached-left : (k j : ℕ) (fs : List Fate) (i : ℕ) (d : Fate) → i < length fs
     → unreached_by k j (drop i fs) ≡ unreached_here k j (slice_index_or fs i d) ++ unreached_by k (j + 1) (drop (i + 1) fs)
 unreached-left k j fs i d low = ap (unreached_by k j) (drop_more fs i d low)
 
+-- of the rules that are left, the lemmas of sizes are that of the next one and those of the others
 pub never-left : (p : plain.Program) (ns : Numbers) (j : ℕ) (fs : List Fate) (rs : List Rule) (i : ℕ) (d : Fate) (r : Rule)
     → length fs ≡ length rs → i < length rs → r ≡ slice_index_or rs i r
     → never_by p ns j (drop i fs) (map rule_of (drop i rs))

@@ -81,6 +81,7 @@ module _ (p : Program) (pivots : ℕ) (one : AreOne (searches_of_program p pivot
         let rest : map length xs ≡ map length ys = cc in
         joined x y xs ys (places_one t 1 x y first h.0 g.0) (rows_one (suc t) xs ys rest h.1 g.1)
 
+  -- two analyses of a program, within the same number of pivots, are the same
   pub analysis_one : (r q : Report) → IsAnalysis p pivots r → IsAnalysis p pivots q → r ≡ q
   analysis_one r q h k =
       let table =

@@ -76,6 +76,7 @@ entry_fewer (Some b ∷ os) zero s l e = absurd (none_some b (sym e))
 entry_fewer (None ∷ os) (suc n) s l e = ap (λ (k : ℕ). suc k) (entry_fewer os n s (omega (arith, l)) e)
 entry_fewer (Some b ∷ os) (suc n) s l e = entry_fewer os n s (omega (arith, l)) e
 
+-- writing an entry leaves no more entries missing
 pub entry_few : (os : List (Option Stored)) (n : ℕ) (s : Stored) → count_missing (put_entry os n s) ≤ count_missing os
 entry_few [] n s = omega arith
 entry_few (None ∷ os) zero s = omega arith
@@ -152,6 +153,7 @@ place_fewer [] t (suc i) s l m e = absurd (omega (arith, m))
 place_fewer (row ∷ rows) zero (suc i) s l m e = let h = entry_fewer row i s (omega (arith, m)) e in omega (arith, h)
 place_fewer (row ∷ rows) (suc t) (suc i) s l m e = let h = place_fewer rows t (suc i) s l m e in omega (arith, h)
 
+-- writing a size at a place leaves no more sizes missing
 pub place_few : (rows : List (List (Option Stored))) (t i : ℕ) (s : Stored) → count_unsized (put_place rows t i s) ≤ count_unsized rows
 place_few [] t i s = omega arith
 place_few (row ∷ rows) zero zero s = omega arith
@@ -165,6 +167,7 @@ pub record Wrote {A : Type 0} (rows : List (List (Option A))) (u j t i : ℕ) (a
   pub none : placed rows t i ≡ None
   pub value : b ≡ a
 
+-- what stands at a place after a value was written stood there, or is the value where nothing stood
 pub place_cases : {A : Type 0} (rows : List (List (Option A))) (u j t i : ℕ) (a b : A) → placed (put_place rows u j a) t i ≡ Some b
     → (placed rows t i ≡ Some b) ⊎ Wrote rows u j t i a b
 place_cases {A} rows u j t i a b e = go (placed rows t i) refl
@@ -220,6 +223,7 @@ entry_filled (Some b ∷ os) zero a o l e h = refl
 entry_filled (None ∷ os) zero a o l e h = absurd (no_is_not_yes true (sym h ∙ ap is_some e) refl)
 entry_filled (x ∷ os) (suc n) a o l e h = ap (λ (rest : List (Option _)). x ∷ rest) (entry_filled os n a o (omega (arith, l)) e h)
 
+-- where nothing is read at a position, setting the value there writes it
 pub entry_set : {A : Type 0} (os : List (Option A)) (n : ℕ) (a : A) (o : Option A) → n < length os → o ≡ get_or os n o → is_some o ≡ false
     → slice_set os n (Some a) ≡ put_entry os n a
 entry_set [] n a o l e h = absurd (omega (arith, l))
@@ -241,6 +245,7 @@ place_none items [] t i a l = refl
 place_none items (r ∷ rows) zero i a l = absurd (omega (arith, l))
 place_none items (r ∷ rows) (suc t) i a l = ap (λ rest. items r ∷ rest) (place_none items rows t i a (omega (arith, l)))
 
+-- at the place 0 nothing is written
 pub place_zero : {A : Type 0} (rows : List (List (Option A))) (t : ℕ) (a : A) → rows ≡ put_place rows t 0 a
 place_zero [] t a = refl
 place_zero (r ∷ rows) zero a = refl

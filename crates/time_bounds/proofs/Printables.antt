@@ -319,5 +319,6 @@ total_printable n times b h e =
     let parts = parts_printable n times total.0 total.1 h in
     subst (IsPrintableBound n) (sym total.2) (rewritten_printable n (SumOf total.0) (tt, parts.0) (tt, parts.1))
 
+-- the bounds that are found of a valid program, and their total, are tidy and over start arguments alone
 pub found_printable : FoundBoundsArePrintable
 found_printable = record { tables = tables_printable; totals = total_printable }

@@ -64,5 +64,6 @@ pub total_some : (times : List (Option plain.Bound)) (ps : Parts) (r : plain.Bou
 total_some times ps r e f =
     ap (λ (b : plain.Bound). Some b) f ∙ sym (ap (option_map (λ (parts : Parts). rewritten (SumOf parts))) e)
 
+-- where a time is missing there is no total
 pub total_none : (times : List (Option plain.Bound)) → known_parts times ≡ None → None ≡ total_of times
 total_none times e = sym (ap (option_map (λ (parts : Parts). rewritten (SumOf parts))) e)

@@ -117,15 +117,19 @@ module _ (spots : List Spot) (up : Ascend spots) (Edge : ℕ → ℕ → Type 0)
       let there = listing.all x.0 x.1 in
       listed_in positions there.component t i there.listed (told-chosen spots there.component x.0 t i there.member x.2)
 
+  -- the members of each component ascend
   pub chosen_ascend : All AreSpotsAscending (all_places positions)
   chosen_ascend = ascends [] positions refl
 
+  -- no place is a member of two components
   pub chosen_apart : AreApart (all_places positions)
   chosen_apart = apart [] positions refl
 
+  -- each member of a component is one of the places
   pub chosen_place : (t i : ℕ) → IsCovered (all_places positions) t i → has_spot spots t i ≡ true
   chosen_place t i l = is_place [] positions refl t i l
 
+  -- each of the places is a member of a component
   pub place_chosen : (t i : ℕ) → has_spot spots t i ≡ true → IsCovered (all_places positions) t i
   place_chosen t i h = place_listed t i h
 

@@ -47,6 +47,7 @@ rule_below p i r = slice_get-below p.rules i r.rule r.numbered
 not_zero : (p : Program) → IsRule p 0 → ⊥
 not_zero p r = let e : None ≡ Some r.rule = r.numbered in cc
 
+-- where no bound is stored nothing is
 pub stored_none : (o : Option Stored) → bound_stored o ≡ None → o ≡ None
 stored_none None e = refl
 stored_none (Some s) e = let x : Some (bound_of s.bound) ≡ None = e in cc

@@ -32,6 +32,7 @@ timed : (o : Option Bound) → lacks o ≡ false → (b : Bound) × (o ≡ Some 
 timed None h = absurd (no_is_not_yes true h refl)
 timed (Some b) h = (b, refl)
 
+-- what was tried of all rules, written into a table that rounds meet, makes a round of it
 pub round_of : (p : Program) (pivots : ℕ) (empties : List EmptyAnswer) (tab : Table) (tries : List Tried) (new : Table) → IsTable p tab empties
     → AreEmptyAnswers p pivots empties → length tries ≡ length p.rules → AreTried p tab pivots empties 1 tries
     → new.times.items ≡ after_tries tab.times.items tries → new.sizes.items ≡ tab.sizes.items → IsRound p pivots empties tab tries new

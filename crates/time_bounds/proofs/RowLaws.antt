@@ -27,6 +27,7 @@ pub rule_read : (p : Program) (i : ℕ) (r : Rule) → i < length p.rules.items 
 rule_read p i r l e =
     rule_here p (suc i) r (omega arith) (omega (arith, l)) (e ∙ ap (λ (j : ℕ). get_or p.rules.items j r) (let k : i ≡ suc i - 1 = omega arith in k))
 
+-- a rule that is read of a valid program is preparable
 pub rule_preparable : (p : Program) (i : ℕ) (r : Rule) → IsValid (program_of p) → i < length p.rules.items → r ≡ get_or p.rules.items i r
     → IsPreparable (rule_of r)
 rule_preparable p i r v l e = preparable (program_of p) (suc i) (rule_of r) v (rule_read p i r l e)
@@ -46,6 +47,7 @@ pub record RowsAt (rules : List plain.Rule) (k : ℕ) (m : RuleRows) : Type 0 wh
   pub numbered : slice_get rules k ≡ Some rule
   pub same : prepared_of m ≡ prepared rule
 
+-- the rows at a position are those of the rule there
 pub rows_at : (preps : List RuleRows) (rules : List plain.Rule) (k : ℕ) (d : RuleRows) → map prepared_of preps ≡ map prepared rules → k < length preps
     → RowsAt rules k (get_or preps k d)
 rows_at [] rules k d e l = absurd (omega (arith, l))
@@ -65,6 +67,7 @@ are_prepared p v preps rows k d l =
     let h = rows_at preps p.rules k d rows l in
     record { rule = h.rule; preparable = preparable p (suc k) h.rule v h.numbered; same = h.same }
 
+-- there are as many prepared rows as rules
 pub rows_length : (p : plain.Program) (preps : List RuleRows) → AreRowsOf preps p → length preps ≡ length p.rules
 rows_length p preps rows = sym (length-map preps prepared_of) ∙ (ap (λ (ms : List Prepared). length ms) rows ∙ length-map p.rules prepared)
 
@@ -104,6 +107,7 @@ answer_at pivots k (m ∷ preps) (x ∷ rules) (b ∷ answers) (suc i) r a e h f
     subst (λ (n : ℕ). IsEmptyAnswer (prepared r) n pivots a) (let z : suc k + i ≡ k + suc i = omega arith in z)
     (answer_at pivots (suc k) preps rules answers i r a (rest_same (prepared_of m) (prepared x) (map prepared_of preps) (map prepared rules) e) h.1 f g)
 
+-- the answers for the rows of a program's rules are those for its rules
 pub answers_of : (p : plain.Program) (pivots : ℕ) (preps : List RuleRows) (answers : List EmptyAnswer) → AreRowsOf preps p
     → AreAnswersFrom pivots 1 preps answers → AreEmptyAnswers p pivots answers
 answers_of p pivots preps answers rows h = record {

@@ -38,6 +38,7 @@ pub why_more : (rows : List (List (Option Size))) (spots : List Spot) (m : Spot)
 why_more rows spots m None = refl
 why_more rows spots m (Some why) = spots_more rows spots m (Unsized why)
 
+-- where there are no places no reason is written
 pub why_nowhere : (rows : List (List (Option Size))) (o : Option NoSize) → put_why rows [] o ≡ rows
 why_nowhere rows None = refl
 why_nowhere rows (Some why) = refl

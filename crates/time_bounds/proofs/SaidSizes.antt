@@ -83,6 +83,7 @@ row_said z tab t i (e ∷ es) f = (
   row_said z tab t (suc i) es (λ j x q. subst (λ (n : ℕ). IsSizeSaid z tab t n x) (let h : i + suc j ≡ suc i + j = omega arith in h) (f (suc j) x q)),
 )
 
+-- rows of which each entry is right for its place are right rule by rule
 pub rows_said : (z : SizeSearches) (tab : nodes.Table) (k : ℕ) (rows : List (Vec SizeEntry Global))
     → ((t i : ℕ) (x : Size) → placed (map (λ row. map (λ e. Some (size_of e)) row.items) rows) t i ≡ Some x → IsSizeSaid z tab (k + t) i x)
     → AreRowsSaid z tab k (map (λ places. map size_of places.items) rows)
@@ -137,6 +138,7 @@ module _ (p : Program) (pivots : ℕ) (tab : Table) (all : List Candidate) (foun
     (said_fair p pivots tab all found xs attempts).known 0 i (Input (i - 1)) (first.stays 0 i (Input (i - 1)) (first.is_first.start.sizes i place)),
   )
 
+  -- there is a row of what is said for the virtual entry and for each rule
   pub many : length (put_whys (said_table tab) all xs) ≡ suc (length p.rules)
   many =
       sym (length-map said (λ (row : List (Option Size)). length row))

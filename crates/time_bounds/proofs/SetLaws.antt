@@ -94,6 +94,7 @@ pub member_untimed : (p : Program) (tab : Table) (t : ℕ) → is_untimed tab t 
 member_untimed p tab t untimed e (inl same) = ap (is_untimed tab) same ∙ untimed
 member_untimed p tab t untimed e (inr l) = l.untimed
 
+-- what is in the set of a rule is a rule, where the virtual entry has a time
 pub member_rule : (p : Program) (tab : Table) (t : ℕ) → is_untimed tab 0 ≡ false → IsRule p t → (e : ℕ) → IsInSet p (is_untimed tab) t e
     → IsRule p e
 member_rule p tab t start rule e (inl same) = subst (IsRule p) (sym same) rule
@@ -116,6 +117,7 @@ rule_set p tab t set start rule h = record {
   inside = (h.members t).1 (inl refl);
 }
 
+-- no rule of a set is known to have no point, where each that is known to has a time
 pub may_all_run : (p : Program) (tab : Table) (t : ℕ) (set : List ℕ) (empties : List EmptyAnswer) → is_untimed tab t ≡ true
     → IsSetOfRule p tab t set
     → ((u : ℕ) (a : EmptyAnswer) → answer_for empties u ≡ Some a → SaysEmpty a → is_untimed tab u ≡ false)
@@ -132,6 +134,7 @@ pub record IsOpenRule (p : Program) (tab : Table) (t : ℕ) : Type 0 where
   pub rule : IsRule p t
   pub untimed : is_untimed tab t ≡ true
 
+-- a rule whose flag is set, where that of the virtual entry isn't, is a rule without a time
 pub open_rule : (p : Program) (tab : code.Table) (flags : List Bool) (t : ℕ) → AreUntimed p tab flags → get_or flags 0 false ≡ false
     → get_or flags t false ≡ true → IsOpenRule p (table_of tab) t
 open_rule p tab flags t h entry flag = go t (is_rule flags (length p.rules) t (omega (arith, h.one_each)) entry flag) flag

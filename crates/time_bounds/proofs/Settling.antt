@@ -13,6 +13,7 @@ after_nothing : (times : List (Option Stored)) → after_round times [] ≡ time
 after_nothing [] = refl
 after_nothing (o ∷ times) = refl
 
+-- where nothing was tried the times are as they were
 pub tries_nothing : (times : List (Option Stored)) → after_tries times [] ≡ times
 tries_nothing [] = refl
 tries_nothing (o ∷ times) = ap (λ (os : List (Option Stored)). o ∷ os) (after_nothing times)
@@ -24,6 +25,7 @@ after_more [] ys x l = absurd (omega (arith, l))
 after_more (o ∷ times) [] x l = ap (λ (os : List (Option Stored)). or_found o x ∷ os) (sym (after_nothing times))
 after_more (o ∷ times) (y ∷ ys) x l = ap (λ (os : List (Option Stored)). or_found o y ∷ os) (after_more times ys x (omega (arith, l)))
 
+-- the times after one rule more are those before it with what was tried of it written
 pub tries_more : (times : List (Option Stored)) (ys : List Tried) (x : Tried) → length ys + 1 < length times
     → put_tried (after_tries times ys) (length ys + 1) x ≡ after_tries times (ys ++ x ∷ [])
 tries_more [] ys x l = absurd (omega (arith, l))
@@ -36,6 +38,7 @@ after_long [] ys = refl
 after_long (o ∷ times) [] = refl
 after_long (o ∷ times) (y ∷ ys) = ap (λ (n : ℕ). suc n) (after_long times ys)
 
+-- there are as many times after what was tried as before
 pub tries_long : (times : List (Option Stored)) (ys : List Tried) → length (after_tries times ys) ≡ length times
 tries_long [] ys = refl
 tries_long (o ∷ times) ys = ap (λ (n : ℕ). suc n) (after_long times ys)
@@ -58,6 +61,7 @@ unfound times t x h = sym (ap (set times t) (same (entry_at times t) h) ∙ put_
 pub taken : (times : List (Option Stored)) (t : ℕ) (x : Tried) (s : Stored) → entry_at times t ≡ Some s → times ≡ put_tried times t x
 taken times t x s h = sym (ap (λ (o : Option Stored). set times t (or_found o x)) h ∙ (ap (set times t) (sym h) ∙ put_same times t))
 
+-- setting a time where none is stored writes the one that was found
 pub written : (times : List (Option Stored)) (t : ℕ) (s : Stored) → entry_at times t ≡ None → set times t (Some s) ≡ put_tried times t (Found s)
 written times t s h = sym (ap (λ (o : Option Stored). set times t (or_found o (Found s))) h)
 
@@ -67,6 +71,7 @@ pub taken_if : (times : List (Option Stored)) (t : ℕ) (o : Option Stored) (x :
 taken_if times t None x l e h = absurd (no_is_not_yes false refl h)
 taken_if times t (Some s) x l e h = taken times t x s (entry_read times t (Some s) l e)
 
+-- setting a time where none is read writes the one that was found
 pub written_if : (times : List (Option Stored)) (t : ℕ) (o : Option Stored) (s : Stored) → t < length times → o ≡ get_or times t o → is_some o ≡ false
     → set times t (Some s) ≡ put_tried times t (Found s)
 written_if times t None s l e h = written times t s (entry_read times t None l e)

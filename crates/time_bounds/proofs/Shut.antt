@@ -80,6 +80,7 @@ in_range a (suc n) i h = go (is_in-cases i a (range_with_len (a + 1) n) h) (λ m
     go (inl e) ih = (omega (arith, e), omega (arith, e))
     go (inr m) ih = let r = ih m in (omega (arith, r.0), omega (arith, r.1))
 
+-- a number from the first of a range up to its end is in it
 pub range_in : (a n i : ℕ) → a ≤ i → i < a + n → is_in i (range_with_len a n) ≡ true
 range_in a zero i low high = absurd (omega (arith, low, high))
 range_in a (suc n) i low high = go (eqb_tells i a) (λ l. range_in (a + 1) n i l (omega (arith, high)))

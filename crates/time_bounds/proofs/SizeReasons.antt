@@ -80,6 +80,7 @@ spots_long : {A : Type 0} (rows : List (List (Option A))) (spots : List Spot) (a
 spots_long rows [] a = refl
 spots_long rows (m ∷ spots) a = spots_long (put_place rows m.rule m.place a) spots a ∙ place_long rows m.rule m.place a
 
+-- rows are as long as before when reasons are written
 pub whys_long : (rows : List (List (Option Size))) (cs : List Candidate) (xs : List Attempt)
     → map (λ (row : List (Option Size)). length row) (put_whys rows cs xs) ≡ map (λ (row : List (Option Size)). length row) rows
 whys_long rows [] xs = refl
@@ -221,6 +222,7 @@ module _ (p : Program) (pivots : ℕ) (tab : Table) (all : List Candidate) (foun
           stands (placed rows t i) refl (told_same s.rule t both.0) (told_same s.place i both.1)
       go false e w later = later w
 
+  -- where no size was found, something is said at each member without a size once reasons are written
   pub listed_there : (rows : List (List (Option Size))) (cs : List Candidate) (xs : List Attempt) (t i : ℕ) → AreAttempts p pivots (table_of tab) cs xs
       → list_any is_sized xs ≡ false → IsCovered (map spots_in cs) t i → (table_of tab).size t i ≡ None → 1 ≤ i → i ≤ length (row_at rows t)
       → (x : Size) × (placed (put_whys rows cs xs) t i ≡ Some x)

@@ -36,6 +36,7 @@ pub size_is : (tab : Table) (t i : ℕ) → (table_of tab).size t i ≡ sized (r
 size_is tab t zero = refl
 size_is tab t (suc i) = refl
 
+-- the sizes of a table, taken together, are those of its rows
 pub sizes_are : (tab : Table) → (table_of tab).size ≡ sized (rows_of tab)
 sizes_are tab = λ j t i. size_is tab t i j
 
@@ -43,11 +44,13 @@ sizes_are tab = λ j t i. size_is tab t i j
 pub same_times : (a b : Table) → a.times.items ≡ b.times.items → (table_of a).time ≡ (table_of b).time
 same_times a b e = λ j t. bound_stored (entry_at (e j) t)
 
+-- tables with the same rows have the same sizes
 pub same_sizes : (a b : Table) → rows_of a ≡ rows_of b → (table_of a).size ≡ (table_of b).size
 same_sizes a b e =
     let mid : sized (rows_of a) ≡ sized (rows_of b) = (λ j. sized (e j)) in
     sizes_are a ∙ (mid ∙ sym (sizes_are b))
 
+-- tables with the same times and rows have the same bounds
 pub same_table : (a b : Table) → a.times.items ≡ b.times.items → rows_of a ≡ rows_of b → table_of a ≡ table_of b
 same_table a b e f = together (same_times a b e) (same_sizes a b f)
   where
@@ -75,6 +78,7 @@ pub row_of_rule : (p : Program) (tab : Table) (t : ℕ) (r : Rule) → HasPlaces
 row_of_rule p tab zero r h e = absurd (let f : ⊥ = cc in f)
 row_of_rule p tab (suc t) r h e = long_at (rows_of tab) _ (suc t) h.rows ∙ arity_at p p.rules t r e
 
+-- a place after a rule is within the row of its rule
 pub place_within : (p : Program) (tab : Table) (t i : ℕ) → HasPlaces p tab → IsRule p t → IsPlace p t i → i ≤ length (row_at (rows_of tab) t)
 place_within p tab zero i h rule place = absurd (let e = rule.numbered in let f : ⊥ = cc in f)
 place_within p tab (suc t) i h rule place =
@@ -134,6 +138,7 @@ passed p pivots old new c x places times rows none attempt = record {
 abbrev pub InRow : Table → Spot → Type 0
 InRow tab m = (1 ≤ m.place) × (m.place ≤ length (row_at (rows_of tab) m.rule))
 
+-- the places of a candidate are within the rows of their rules
 pub in_rows : (p : Program) (tab : Table) (c : Candidate) → HasPlaces p tab → ArePlacesOf p c → All (InRow tab) (spots_in c)
 in_rows p tab c places within =
     All-weaker (λ m. IsRule p m.rule × IsPlace p m.rule m.place) (InRow tab)
@@ -228,6 +233,7 @@ attempts_more p pivots tab [] (y ∷ xs) c x h a = absurd h
 attempts_more p pivots tab (d ∷ cs) [] c x h a = absurd h
 attempts_more p pivots tab (d ∷ cs) (y ∷ xs) c x h a = (h.0, attempts_more p pivots tab cs xs c x h.1 a)
 
+-- one attempt more counts where it found a size
 pub count_more : (xs : List Attempt) (x : Attempt) → count_sized (xs ++ x ∷ []) ≡ count_sized xs + one_if_sized x
 count_more [] x = omega arith
 count_more (y ∷ xs) x = let ih = count_more xs x in omega (arith, ih)

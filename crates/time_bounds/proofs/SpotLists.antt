@@ -120,6 +120,7 @@ member-append (x ∷ xs) ys t i h = go (is_spot x t i) refl h (member-append xs 
         by (inl m) = inl (or_right (is_spot x t i) (has_spot xs t i) m)
         by (inr m) = inr m
 
+-- a member of the first of two lists is one of the two together
 pub append-left : (xs ys : List Spot) (t i : ℕ) → has_spot xs t i ≡ true → has_spot (xs ++ ys) t i ≡ true
 append-left [] ys t i h = absurd (no_is_not_yes false refl h)
 append-left (x ∷ xs) ys t i h = go (is_spot x t i) refl h (append-left xs ys t i)
@@ -129,6 +130,7 @@ append-left (x ∷ xs) ys t i h = go (is_spot x t i) refl h (append-left xs ys t
     go true e k later = or_left (is_spot x t i) (has_spot (xs ++ ys) t i) e
     go false e k later = or_right (is_spot x t i) (has_spot (xs ++ ys) t i) (later k)
 
+-- a member of the second of two lists is one of the two together
 pub append-right : (xs ys : List Spot) (t i : ℕ) → has_spot ys t i ≡ true → has_spot (xs ++ ys) t i ≡ true
 append-right [] ys t i h = h
 append-right (x ∷ xs) ys t i h = or_right (is_spot x t i) (has_spot (xs ++ ys) t i) (append-right xs ys t i h)
@@ -145,6 +147,7 @@ module _ (spots : List Spot) where
   pub chosen : (ps : List ℕ) (k : ℕ) → k < length ps → spot_at (map (spot_at spots) ps) k ≡ spot_at spots (get_or ps k 0)
   chosen ps k l = get_or-map (spot_at spots) ps k 0 (spot 0 0) l
 
+  -- of places that ascend, those at positions that increase do
   pub ascending-chosen : Ascend spots → (ps : List ℕ) → IsStrictlyIncreasing ps
       → ((b : ℕ) → Contains ps b → b < length spots) → AreSpotsAscending (map (spot_at spots) ps)
   ascending-chosen up ps rises within = ascending-by (map (spot_at spots) ps) next
@@ -182,6 +185,7 @@ module _ (spots : List Spot) where
               → (j : ℕ) × Contains (p ∷ ps) j × (spot_at spots j ≡ spot t i)
           deeper (j, (n, l, same), m) = (j, (suc n, omega (arith, l), same), m)
 
+  -- what stands at one of these positions is a member of what stands at them
   pub told-chosen : (ps : List ℕ) (k t i : ℕ) → Contains ps k → spot_at spots k ≡ spot t i
       → has_spot (map (spot_at spots) ps) t i ≡ true
   told-chosen [] k t i (n, l, same) e = absurd (omega (arith, l))

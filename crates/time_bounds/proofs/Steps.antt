@@ -42,6 +42,7 @@ place_more tab rules a n =
     mapped true = refl
     mapped false = refl
 
+-- the next place, where it is shut, stands behind the shut ones so far
 pub place_pushed : (tab : Table) (rules : List ℕ) (a n : ℕ) (first old new : List SymbolPlace) → old ≡ first ++ shut_at tab rules a n
     → new ≡ old ++ place_if tab rules a (n + 1) → new ≡ first ++ shut_at tab rules a (n + 1)
 place_pushed tab rules a n first old new h g =
@@ -74,6 +75,7 @@ none_lacking : (tab : Table) (is : List ℕ) → filter (lacks_any tab []) is �
 none_lacking tab [] = refl
 none_lacking tab (i ∷ is) = none_lacking tab is
 
+-- a symbol to which no entry leads adds no shut place
 pub symbol_passed : (p : plain.Program) (tab : Table) (es : List ℕ) (a n : ℕ) (old all : List SymbolPlace) → a < n
     → old ++ shut_from p tab es a (n - a) ≡ all → list_any (λ e. same_symbol (target_of p e) (Some a)) es ≡ false
     → old ++ shut_from p tab es (a + 1) (n - (a + 1)) ≡ all
@@ -83,6 +85,7 @@ symbol_passed p tab es a n old all l e none =
     ∙ ap (map (at_place a)) (none_lacking tab (range_with_len 1 (arity_of p a))) in
     symbol_pushed p tab es a n old old all l e (sym (ap (λ (xs : List SymbolPlace). old ++ xs) nothing ∙ append-nil old))
 
+-- where no symbol is left, the shut places so far are all
 pub symbols_whole : (p : plain.Program) (tab : Table) (es : List ℕ) (a n : ℕ) (old all : List SymbolPlace) → n ≤ a
     → old ++ shut_from p tab es a (n - a) ≡ all → old ≡ all
 symbols_whole p tab es a n old all l e =
@@ -121,6 +124,7 @@ mark_within p es n i a marks l m e =
     go true h = let same : a ≡ i = cc in omega (arith, l, same)
     go false h = absurd (let f : ⊥ = cc in f)
 
+-- there are as many marks as symbols
 pub marks_long : (p : plain.Program) (es : List ℕ) (n : ℕ) (marks : List (Option ℕ)) → marks ≡ marks_of p es n → length marks ≡ n
 marks_long p es n marks m =
     ap (λ (xs : List (Option ℕ)). length xs) m ∙ (length-map (range_with_len 0 n) (mark_of p es) ∙ length-range_with_len 0 n)
@@ -137,6 +141,7 @@ few_places [] s h = omega arith
 few_places (x ∷ symbols) zero h = h.0.arity
 few_places (x ∷ symbols) (suc s) h = few_places symbols s h.1
 
+-- a symbol that is read of a valid program has at most 32 places
 pub arity_few : (p : Program) (a : ℕ) (s : Symbol) → IsValid (program_of p) → a < length p.symbols.items → s ≡ get_or p.symbols.items a s → s.arity ≤ 32
 arity_few p a s v l e = omega (arith, few_places (map symbol_of p.symbols.items) a v.symbols, arity_read p a s l e)
 
@@ -192,6 +197,7 @@ any_more test (x ∷ es) e = go (test x) (any_more test es e)
     go true h = refl
     go false h = h
 
+-- an entry more that leads to a symbol marks it with its number
 pub entry_marked : (p : plain.Program) (es : List ℕ) (e a n : ℕ) → target_of p e ≡ Some a → a < n
     → set (marks_of p es n) a (Some a) ≡ marks_of p (es ++ e ∷ []) n
 entry_marked p es e a n t l = set_mapped (mark_of p es) (mark_of p (es ++ e ∷ [])) 0 n a (Some a) here others l
@@ -223,6 +229,7 @@ entry_marked p es e a n t l = set_mapped (mark_of p es) (mark_of p (es ++ e ∷ 
         (ne_eqb a b (λ same. d (let z : b ≡ 0 + a = omega (arith, same) in z)))
         ∙ ap (λ (v : Bool). cond v (Some b) None) (or-false (list_any (λ u. same_symbol (target_of p u) (Some b)) es))))
 
+-- an entry more that leads nowhere leaves the marks as they are
 pub entry_unmarked : (p : plain.Program) (es : List ℕ) (e n : ℕ) → target_of p e ≡ None → marks_of p es n ≡ marks_of p (es ++ e ∷ []) n
 entry_unmarked p es e n t = map_agree (mark_of p es) (mark_of p (es ++ e ∷ [])) 0 n at
   where

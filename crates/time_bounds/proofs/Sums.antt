@@ -73,6 +73,7 @@ total_is os b e = go (known_parts os) refl
         let same : b ≡ rewritten (SumOf ps) = cc in
         (ps, f, same)
 
+-- where the times of all rules hold, every run has at most as many steps as their total says
 pub totals_hold : TotalsHold
 totals_hold = record { each = λ p times b h e. holds p times b h (total_is times b e) }
   where

@@ -21,6 +21,7 @@ use Rattle.time_bounds.specs.declared.trying.Tried.TheVariants.{Known, Found, Mi
 use Rattle.time_bounds.specs.Tries.{IsTried, AreTried, is_found, one_if_found, count_found, IsGrown}
 use Rattle.time_bounds.specs.Analysis.{IsSaid, AreSaid}
 
+-- what was tried of the next rule stands behind what was tried of those before it
 pub tried_pushed : (p : Program) (tab : Table) (pivots : ℕ) (empties : List EmptyAnswer) (k : ℕ) (tries : List Tried) (x : Tried)
     → AreTried p tab pivots empties k tries → IsTried p tab pivots empties (k + length tries) x
     → AreTried p tab pivots empties k (tries ++ x ∷ [])
@@ -31,10 +32,12 @@ tried_pushed p tab pivots empties k (y ∷ tries) x h g = (
       (subst (λ (n : ℕ). IsTried p tab pivots empties n x) (let z : k + suc (length tries) ≡ suc k + length tries = omega arith in z) g),
 )
 
+-- one rule more counts where its time was found
 pub found_pushed : (tries : List Tried) (x : Tried) → count_found (tries ++ x ∷ []) ≡ count_found tries + one_if_found x
 found_pushed [] x = omega arith
 found_pushed (y ∷ tries) x = let ih = found_pushed tries x in omega (arith, ih)
 
+-- what is said of the next rule stands behind what is said of those before it
 pub said_pushed : (q : Searches) (p : Program) (tab : nodes.Table) (k : ℕ) (times : List Time) (x : Time) → AreSaid q p tab k times
     → IsSaid q p tab (k + length times) x → AreSaid q p tab k (times ++ x ∷ [])
 said_pushed q p tab k [] x h g = (subst (λ (n : ℕ). IsSaid q p tab n x) (let z : k + 0 ≡ k = omega arith in z) g, tt)
@@ -63,6 +66,7 @@ entry_kept gaps more (entries.Gap n) h = ap (λ g. Untimed (NoFunction g)) (gap_
 entry_kept gaps more (entries.Tripped t) h = refl
 entry_kept gaps more (entries.Large n) h = refl
 
+-- an entry whose gap is one of so many has it among more
 pub gap_weaker : (n m : ℕ) (e : TimeEntry) → n ≤ m → HasItsGap n e → HasItsGap m e
 gap_weaker n m (entries.Known s) l h = tt
 gap_weaker n m (entries.Gap g) l h = (h.0, omega (arith, l, h.1))
@@ -85,6 +89,7 @@ entries_grown gaps new (e ∷ times) g h =
     ap (λ (x : Time). x ∷ map (time_of new) times) (entry_grown gaps new e g (All-head (HasItsGap (length gaps)) e times h))
     ∙ ap (λ (xs : List Time). time_of gaps e ∷ xs) (entries_grown gaps new times g (All-tail (HasItsGap (length gaps)) e times h))
 
+-- where the list of gaps grows, what is said stays, and what is said of the next rule stands behind it
 pub said_grown : (q : Searches) (p : Program) (tab : nodes.Table) (gaps new : List Gap) (times : List TimeEntry) (x : TimeEntry) (t : ℕ)
     → IsGrown gaps new → All (HasItsGap (length gaps)) times → AreSaid q p tab 1 (map (time_of gaps) times) → t ≡ 1 + length times
     → IsSaid q p tab t (time_of new x) → AreSaid q p tab 1 (map (time_of new) (times ++ x ∷ []))
@@ -94,6 +99,7 @@ said_grown q p tab gaps new times x t g h said e is =
     (subst (λ (xs : List Time). AreSaid q p tab 1 xs) (sym (entries_grown gaps new times g h)) said)
     (subst (λ (n : ℕ). IsSaid q p tab n (time_of new x)) (e ∙ ap (λ (n : ℕ). 1 + n) (sym (length-map times (time_of new)))) is))
 
+-- where the list of gaps grows, each entry still has its gap there, and so has one entry more
 pub gaps_grown : (gaps new : List Gap) (times : List TimeEntry) (x : TimeEntry) → IsGrown gaps new → All (HasItsGap (length gaps)) times
     → HasItsGap (length new) x → All (HasItsGap (length new)) (times ++ x ∷ [])
 gaps_grown gaps new times x g h last = go times h

@@ -52,6 +52,7 @@ pub are_components : (p : Program) (pivots : ℕ) (cs : List Candidate) → AreC
     → (sizes_of_program p pivots).AreComponents (map spots_in cs)
 are_components p pivots cs h = (h.is_live, h.live, (h.local, h.locals, h.components))
 
+-- the components of a program's candidates are those of the places of live rules
 pub live_components : (p : Program) (pivots : ℕ) (cs : List Candidate) → AreCandidatesOf p pivots cs
     → AreComponentsOf (searches_of_program p pivots) p (map spots_in cs)
 live_components p pivots cs h = components_of p pivots h.is_live h.live h.local (map spots_in cs) h.components
@@ -286,6 +287,7 @@ round_closed p pivots empties cs tab r answers candidates h = record {
 pub rows_stay : (a b : Table) → b.sizes.items ≡ a.sizes.items → rows_of b ≡ rows_of a
 rows_stay a b e = ap (λ vs. map (λ row. row.items) vs) e
 
+-- a table whose sizes stay still has a position for each place
 pub places_stay : (p : Program) (a b : Table) → b.sizes.items ≡ a.sizes.items → HasPlaces p a → HasPlaces p b
 places_stay p a b e h = record {
   rows = ap (λ (rs : List (List (Option Stored))). map (λ (row : List (Option Stored)). length row) rs) (rows_stay a b e) ∙ h.rows;

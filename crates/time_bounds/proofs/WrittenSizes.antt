@@ -37,6 +37,7 @@ use Rattle.time_bounds.proofs.WrittenTimes.{numbers_same}
 pub same_time_numbers : (a b : Table) → a.times.items ≡ b.times.items → (t : ℕ) → (numbers_of a).time t ≡ (numbers_of b).time t
 same_time_numbers a b e t = ap (λ (os : List (Option Stored)). lemma_stored (entry_at os t)) e
 
+-- tables with the same rows have the same numbers of sizes
 pub same_size_numbers : (a b : Table) → rows_of a ≡ rows_of b → (t i : ℕ) → (numbers_of a).size t i ≡ (numbers_of b).size t i
 same_size_numbers a b e t zero = refl
 same_size_numbers a b e t (suc i) = ap (λ (rows : List (List (Option Stored))). lemma_stored (entry_at (row_at rows t) i)) e
@@ -148,6 +149,7 @@ module _ (p : Program) (pivots : ℕ) where
     pub numbers : Numbered (earlier ++ proofs) new
     pub times : new.times.items ≡ old.times.items
 
+  -- the lemmas that are written of all components are those of the relation, and their numbers are right
   pub sizes_written : (cs : List Candidate) (old new : Table) (earlier proofs : List Proof) → StandFor (setting_of p) (table_of old) earlier
       → Numbered earlier old → AreApart (map spots_in cs) → AreUniform (table_of old).size (map spots_in cs)
       → ((c : List Spot) → IsOneOf (map spots_in cs) c → ArePlacesAfterRules p c) → WriteSizes p pivots (length earlier) old cs new proofs

@@ -55,10 +55,12 @@ times_more p pivots n tab k (y ∷ tries) x proofs more (first, here, (rest, e, 
   ),
 )
 
+-- where nothing was tried of any rule no lemma follows
 pub no_times : (p : Program) (pivots : ℕ) (tab : Table) (tries : List Tried) (all : List Proof) → tries ≡ [] → TimesFollow p pivots tab tries all all
 no_times p pivots tab tries all none =
     subst (λ (xs : List Tried). TimesFollow p pivots tab xs all all) (sym none) record { proofs = []; follow = follow-nothing all; write = refl }
 
+-- what was tried of one rule more writes its lemmas behind those so far
 pub one_time : (p : Program) (pivots : ℕ) (tab : Table) (tries : List Tried) (x : Tried) (t : ℕ) (earlier all more : List Proof)
     → TimesFollow p pivots tab tries earlier all → t ≡ length tries + 1 → TimeFollows p pivots tab t x all more
     → TimesFollow p pivots tab (tries ++ x ∷ []) earlier more
@@ -101,9 +103,11 @@ sizes_more p pivots n old between new (d ∷ cs) c proofs more (mid, (first, her
   ),
 )
 
+-- where no component was tried no lemma follows
 pub no_sizes : (p : Program) (pivots : ℕ) (tab : Table) (all : List Proof) → SizesFollow p pivots tab [] tab all all
 no_sizes p pivots tab all = record { proofs = []; follow = follow-nothing all; write = (refl, refl) }
 
+-- what was tried of one component more writes its lemmas behind those so far
 pub one_size : (p : Program) (pivots : ℕ) (old between new : Table) (cs : List Candidate) (c : Candidate) (x : Attempt) (earlier all more : List Proof)
     → SizesFollow p pivots old cs between earlier all → IsSizeStep p pivots between c x new → SizeFollows p pivots between c x new all more
     → SizesFollow p pivots old (cs ++ c ∷ []) new earlier more
