@@ -1,8 +1,7 @@
 // Products of polynomials by packed exponents. The keys of a row, the products of one monomial with each of a list in
 // ascending order, ascend as the list does: so rows are merged. Where no list ascends the result is the same, but longer.
 
-ghost use Rattle.std.specs.Prelude.{◌≡◌, ◌+ℤ◌, ◌++◌, ◌∷◌, ◌<◌, length, drop, map, IfOk, IfSome, []};
-ghost use Rattle.std.specs.Prelude.{OnOk};
+ghost use Rattle.std.specs.Prelude.{◌≡◌, ◌+ℤ◌, ◌++◌, ◌∷◌, drop, map, IfOk, IfSome, OnOk, []};
 ghost use Rattle.poly_terms.specs.Expanding.{product_of};
 ghost use Rattle.poly_terms.specs.Keys.{product_at, all_products, HasSameTotals};
 ghost use Rattle.poly_terms.specs.Views.{monomials_of, poly_of};
