@@ -1,7 +1,8 @@
 -- Reports that a text tells whole: their numbers fit the types that hold them, their bounds are tidy and over the start
--- arguments, and their gaps have no points that no line shows. What an analysis reports is printable: its bounds are
--- rewritten, over the start arguments and at most 4,096 nodes large; a gap has one move and one kept point for each
--- rule of its set, and its shut places are places of the program's symbols.
+-- arguments, and their gaps have no points that no line shows. What an analysis reports is printable where its numbers
+-- fit these types, which is a law of the crate above that knows both: its bounds are rewritten and over the start
+-- arguments; a gap has one move and one kept point for each rule of its set, and its shut places are places of the
+-- program's symbols.
 use Rattle.std.specs.Prelude.{ℕ, ◌^◌, ◌<◌, ◌≤◌, length, ℤ, nat_abs, Option, Some, None, ⊤}
 use Rattle.std.specs.List.{AllByRecursion}
 use Rattle.model.specs.Programs.{Program}
