@@ -9,6 +9,7 @@ use Rattle.std.proofs.lemmas.List.Elements.{All-nil, All-cons, All-head, All-tai
 use Rattle.std.proofs.lemmas.List.Elements.{All-map}
 use Rattle.linear_forms.specs.RuleQuestions.{RankedSet, Coefficient, has_symbol, symbols_of_set, open_places}
 use Rattle.linear_forms.specs.RuleQuestions.{coefficients}
+use Rattle.linear_forms.proofs.ColumnLaws.{get_or-map}
 use Rattle.linear_forms.proofs.SolutionLaws.{length-map}
 use Rattle.model.specs.Limits.{rule_limit}
 use Rattle.model.specs.Programs.{Program, Rule}
@@ -178,6 +179,16 @@ pub coefficients-held : (P : ℕ → Type 0) (b : RankedSet) → ((s : ℕ) → 
 coefficients-held P b h =
     symbols-held P b (symbols_of_set b)
     (All-filter (has_symbol b) P (range_with_len 0 b.symbols) (ranged P 0 b.symbols b.symbols (omega arith) h))
+
+-- the symbol of each coefficient that is sought is one of the program
+pub sought-inside : (p : Program) (set : List ℕ) (strict : ℕ) (shut : List SymbolPlace) (coefs : List Sought)
+    → AreCoefficients (ranked_set p set strict shut) coefs → (n : ℕ) → length p.symbols ≡ n
+    → All (λ (c : Sought). c.symbol < n) coefs
+sought-inside p set strict shut coefs are n e k d l =
+    subst (λ (c : Coefficient). c.symbol < n) (get_or-map coefficient_of coefs k (coefficient_of d) d l)
+    (subst (λ (cs : List Coefficient). All (λ (c : Coefficient). c.symbol < n) cs) (sym are.each)
+    (coefficients-held (λ s. s < n) (ranked_set p set strict shut) (λ s m. omega (arith, m, e))) k (coefficient_of d)
+    (let f = length-map coefficient_of coefs in omega (arith, l, f)))
 
 -- a value of a range
 pub value-at : {A : Type 0} (f : ℕ → A) (a n i : ℕ) (d : A) → i < n → slice_index_or (map f (range_with_len a n)) i d

@@ -18,15 +18,11 @@ use Rattle.lp_builder.specs.declared.description.Goal.{Goal}
 use Rattle.lp_builder.specs.Descriptions.{goal_forms, AreParameters}
 use Rattle.rank_search.specs.declared.goals.Part.{Part}
 use Rattle.rank_search.specs.declared.goals.Part.TheVariants.{Move, Fall, Floor}
+pub use Rattle.rank_search.specs.Goals.{Ascend}
 use Rattle.rank_search.specs.Goals.{goal_form}
 use Rattle.rank_search.specs.ProgramQuestions.{forms_of}
 
--- the parameters of goals ascend from k on, and are below n
-abbrev pub Ascend : ℕ → ℕ → List Goal → Type 0
-Ascend k n [] = k ≤ n
-Ascend k n (g ∷ gs) = (k ≤ g.parameter) × Ascend (g.parameter + 1) n gs
-
--- so k is at most n
+-- where the parameters of goals ascend from k on, and are below n, k is at most n
 ascend-room : (k n : ℕ) (gs : List Goal) → Ascend k n gs → k ≤ n
 ascend-room k n [] h = h
 ascend-room k n (g ∷ gs) h = let l = ascend-room (g.parameter + 1) n gs h.1 in let m = h.0 in omega (arith, l, m)

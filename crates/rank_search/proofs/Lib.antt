@@ -23,3 +23,6 @@ pub mod RankFound
 pub mod Pairs
 pub mod Answered
 pub mod Uniqueness
+pub mod ShutSets
+pub mod BlockLaws
+pub mod BlockGoals

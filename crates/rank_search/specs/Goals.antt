@@ -1,14 +1,19 @@
 -- The groups of a rank question, and what follows in each.
-use Rattle.std.specs.Prelude.{◌+◌, ◌≤◌, Bool, true, false, List, length, map, nat_abs}
+use Rattle.std.specs.Prelude.{◌≡◌, ℕ, ◌+◌, ◌≤◌, Bool, true, false, List, [], ◌∷◌, length, map, take, nat_abs}
 use Rattle.std.specs.List.{All}
 use Rattle.linear_forms.specs.Forms.{Form}
 use Rattle.linear_forms.specs.Certificates.{minus_one}
 use Rattle.linear_forms.specs.Combinations.{form_sum, zero_form}
 use Rattle.linear_forms.specs.Questions.{Group}
 use Rattle.linear_forms.specs.RuleQuestions.{RuleForms, Coefficient, opposite, at_source, at_target}
+use Rattle.lp_builder.specs.declared.description.Goal.{Goal}
+use Rattle.lp_builder.specs.Descriptions.{goal_forms, IsWritable}
 use Rattle.model.specs.Limits.{coefficient_limit}
+use Rattle.poly_terms.specs.Views.{form_of}
+use Rattle.rank_search.specs.declared.coefficients.Coefficient.{Coefficient as Sought}
 use Rattle.rank_search.specs.declared.goals.Part.{Part}
 use Rattle.rank_search.specs.declared.goals.Part.TheVariants.{Move, Fall, Floor}
+use Rattle.rank_search.specs.Coefficients.{coefficient_of}
 
 -- what a rule loses by a coefficient, and for the floor what it has of it before
 abbrev pub goal_form : Part → RuleForms → Coefficient → Form
@@ -49,3 +54,14 @@ part_for false = Move
 -- the goals of a rule have no coefficient past its unknowns
 pub record Fits (part : Part) (r : RuleForms) (cs : List Coefficient) : Type 0 where
   pub each : All (λ c. length (goal_form part r c).coefs ≤ r.unknowns) cs
+
+-- the parameters of goals ascend from k on, and are below n
+abbrev pub Ascend : ℕ → ℕ → List Goal → Type 0
+Ascend k n [] = k ≤ n
+Ascend k n (g ∷ gs) = (k ≤ g.parameter) × Ascend (g.parameter + 1) n gs
+
+-- the goals of a rule for the first n coefficients, which can be written over its unknowns
+pub record AreGoalsUpTo (part : Part) (r : RuleForms) (cs : List Sought) (n : ℕ) (gs : List Goal) : Type 0 where
+  pub forms : goal_forms 0 n gs ≡ map (λ c. goal_form part r (coefficient_of c)) (take n cs)
+  pub listed : Ascend 0 n gs
+  pub writable : All (λ g. IsWritable r.unknowns (form_of g.form)) gs

@@ -9,5 +9,7 @@ pub mod OneAnswer
 pub mod RankLaws
 -- the machinery of the functions inside and of the proofs
 pub mod Coefficients
+pub mod Blocks
+pub mod ShutPlaces
 pub mod Marks
 pub mod Reading

@@ -29,15 +29,20 @@ read_coefs shut v k a zero = []
 read_coefs shut v k a (suc n) =
     if shut a then pos 0 ∷ read_coefs shut v k (a + 1) n else v k ∷ read_coefs shut v (k + 1) (a + 1) n
 
--- the part of the function at a symbol, from parameter k on: its places, and then its constant
-abbrev pub read_form : Program → List SymbolPlace → (ℕ → ℤ) → ℕ → ℕ → SymbolForm
-read_form p shut v k s = record {
+-- the part of the function at a symbol, from parameter k on, by which places are shut: its places, and then its
+-- constant
+abbrev pub form_by : (ℕ → ℕ → Bool) → Program → (ℕ → ℤ) → ℕ → ℕ → SymbolForm
+form_by closed p v k s = record {
   symbol = s;
   form = record {
-    coefs = read_coefs (is_shut shut s) v k 1 (arity_of p s);
-    constant = v (k + open_count (is_shut shut s) 1 (arity_of p s));
+    coefs = read_coefs (closed s) v k 1 (arity_of p s);
+    constant = v (k + open_count (closed s) 1 (arity_of p s));
   };
 }
+
+-- and by the list of these places
+abbrev pub read_form : Program → List SymbolPlace → (ℕ → ℤ) → ℕ → ℕ → SymbolForm
+read_form p shut v k s = form_by (is_shut shut) p v k s
 
 -- the parts at symbols, one after the other
 abbrev pub read_forms : Program → List SymbolPlace → (ℕ → ℤ) → ℕ → List ℕ → List SymbolForm

@@ -10,18 +10,20 @@ ghost use Rattle.its_model.specs.Views.{program_of};
 ghost use Rattle.model.specs.Programs.{arity_of};
 ghost use Rattle.proof_tree.specs.Views.{form_of as part_of};
 ghost use Rattle.simplex_core.specs.Scaling.{AreWithin};
-ghost use Rattle.proof_tree.specs.Shut.{is_shut};
+ghost use Rattle.rank_search.specs.ShutPlaces.{is_listed};
 ghost use Rattle.rank_search.specs.ProgramQuestions.{places_of};
-ghost use Rattle.rank_search.specs.Reading.{open_count, read_form, read_forms, shape_at, shapes, IsNodeRead};
+ghost use Rattle.rank_search.specs.Reading.{open_count, form_by, read_forms, shape_at, shapes, IsNodeRead};
 
-use crate::coefficients::{arity_at, is_among};
+use crate::coefficients::arity_at;
 use crate::scaled::multipliers_from;
+use crate::shut::{is_among, shut_set};
 use guard_prep::RuleRows;
 use its_model::Program;
 use poly_terms::Memory;
 use proof_tree::{Form, RankNode};
 use simplex_core::Scaled;
 use std::alloc::Global;
+use std::collections::BTreeSet;
 
 /// The node that a solution gives: the function of its parameters over its denominator, symbol by symbol, with the
 /// multipliers of each rule of the set and of the floor.
@@ -76,10 +78,11 @@ fn forms_from(
     ensures { IfOk result (λ forms. map part_of forms.items
         ≡ read_forms (program_of p.now) (places_of shut.now) (parameters_of (at numbers.now)) 0 symbols.now) }
 {
+    let closed = shut_set(alloc, shut)?;
     let mut forms = Vec::new(alloc);
     let mut next = 0;
     for symbol in symbols {
-        let form = form_from(alloc, p, shut, *symbol, numbers, &mut next)?;
+        let form = form_from(alloc, p, &closed, *symbol, numbers, &mut next)?;
         forms.push(form)?;
     }
     Ok(forms)
@@ -89,7 +92,7 @@ fn forms_from(
 fn form_from(
     alloc: Global,
     p: &Program,
-    shut: &[(u32, u32)],
+    closed: &BTreeSet<(u32, u32)>,
     symbol: u32,
     numbers: &[i64],
     next: &mut u32,
@@ -98,14 +101,14 @@ fn form_from(
     requires few { next.old ≤ 2 ^ 20 }
     requires within { AreWithin certificate_limit (length numbers.now) numbers.now }
     ensures form { IfOk result (λ form. part_of form
-        ≡ read_form (program_of p.now) (places_of shut.now) (parameters_of (at numbers.now)) next.old symbol) }
+        ≡ form_by (is_listed closed.now) (program_of p.now) (parameters_of (at numbers.now)) next.old symbol) }
     ensures next { OnOk result (next.new
-        ≡ next.old + open_count (is_shut (places_of shut.now) symbol) 1 (arity_of (program_of p.now) symbol) + 1) }
+        ≡ next.old + open_count (is_listed closed.now symbol) 1 (arity_of (program_of p.now) symbol) + 1) }
 {
     let mut coefs = Vec::new(alloc);
     let mut parameter = *next;
     for before in 0..arity_at(p, symbol) {
-        let is_shut = is_among(shut, symbol, before + 1);
+        let is_shut = is_among(closed, symbol, before + 1);
         if is_shut {
             coefs.push(0)?;
         } else {

@@ -1,7 +1,7 @@
 // The goals of a rule in a rank question: what it loses by each coefficient.
 
 ghost use Rattle.std.specs.Prelude.{◌≡◌, ◌+◌, ◌*ℤ◌, ◌+ℤ◌, ◌<◌, ◌≤◌, ◌^◌, ◌||◌};
-ghost use Rattle.std.specs.Prelude.{nat_eq, [], length, map, nat_abs, negsuc, IfOk};
+ghost use Rattle.std.specs.Prelude.{max, nat_eq, [], length, map, nat_abs, negsuc, IfOk, OnOk};
 ghost use Rattle.std.specs.List.{All};
 ghost use Rattle.linear_forms.specs.Forms.{at};
 ghost use Rattle.linear_forms.specs.Combinations.{form_sum};
@@ -11,9 +11,11 @@ ghost use Rattle.model.specs.Limits.{coefficient_limit};
 ghost use Rattle.guard_prep.specs.Views.{prepared_of};
 ghost use Rattle.poly_terms.specs.Views.{form_of};
 ghost use Rattle.rank_search.specs.Coefficients.{coefficient_of};
-ghost use Rattle.rank_search.specs.Goals.{fixed_form, goal_form, IsSmall, IsDifferenceSmall};
+ghost use Rattle.rank_search.specs.Blocks.{AreBlocks, HoldGoals};
+ghost use Rattle.rank_search.specs.Goals.{fixed_form, goal_form, AreGoalsUpTo, IsSmall, IsDifferenceSmall};
 ghost use Rattle.rank_search.specs.ProgramQuestions.{forms_of};
 
+use crate::blocks::{Block, block_of};
 use crate::coefficients::Coefficient;
 use guard_prep::RuleRows;
 use lp_builder::{Goal, Row};
@@ -31,7 +33,8 @@ pub enum Part {
     Floor,
 }
 
-/// The goals of a rule from one symbol to another, for each coefficient of one of them.
+/// The goals of a rule from one symbol to another, for each coefficient of one of them. The time is linear in the
+/// coefficients of the two.
 pub(crate) fn goals_of(
     alloc: Global,
     part: Part,
@@ -39,29 +42,118 @@ pub(crate) fn goals_of(
     target: u32,
     prep: &RuleRows,
     coefficients: &[Coefficient],
+    blocks: &[Block],
 ) -> Result<Vec<Goal>, Memory>
     requires few { length coefficients.now < 2 ^ 30 }
     requires news { All (λ f. IsSmall (form_of f)) prep.now.news.items }
     requires fit { All (λ c. length (goal_form part (forms_of source target (prepared_of prep.now))
         (coefficient_of c)).coefs ≤ prep.now.unknowns) coefficients.now }
+    requires blocks { AreBlocks (length coefficients.now) blocks.now coefficients.now }
     ensures goals { IfOk result (λ goals. goal_forms 0 (length coefficients.now) goals.items
         ≡ map (λ c. goal_form part (forms_of source target (prepared_of prep.now)) (coefficient_of c))
         coefficients.now) }
     ensures listed { IfOk result (λ goals. AreParameters (length coefficients.now) goals.items) }
     ensures writable { IfOk result (λ goals. All (λ g. IsWritable prep.now.unknowns (form_of g.form)) goals.items) }
 {
+    let own = block_of(blocks, source);
+    let other = block_of(blocks, target);
+    if own.first <= other.first {
+        goals_in(alloc, part, source, target, prep, coefficients, own, other)
+    } else {
+        goals_in(alloc, part, source, target, prep, coefficients, other, own)
+    }
+}
+
+// The goals of a rule, whose coefficients stand in two blocks, the second of which doesn't begin before the first.
+fn goals_in(
+    alloc: Global,
+    part: Part,
+    source: u32,
+    target: u32,
+    prep: &RuleRows,
+    coefficients: &[Coefficient],
+    first: Block,
+    second: Block,
+) -> Result<Vec<Goal>, Memory>
+    requires few { length coefficients.now < 2 ^ 30 }
+    requires news { All (λ f. IsSmall (form_of f)) prep.now.news.items }
+    requires fit { All (λ c. length (goal_form part (forms_of source target (prepared_of prep.now))
+        (coefficient_of c)).coefs ≤ prep.now.unknowns) coefficients.now }
+    requires blocks { HoldGoals source target coefficients.now first second }
+    ensures goals { IfOk result (λ goals. goal_forms 0 (length coefficients.now) goals.items
+        ≡ map (λ c. goal_form part (forms_of source target (prepared_of prep.now)) (coefficient_of c))
+        coefficients.now) }
+    ensures listed { IfOk result (λ goals. AreParameters (length coefficients.now) goals.items) }
+    ensures writable { IfOk result (λ goals. All (λ g. IsWritable prep.now.unknowns (form_of g.form)) goals.items) }
+{
+    let behind = block_behind(first, second);
     let mut goals = Vec::new(alloc);
-    for (parameter, c) in coefficients.iter().enumerate() {
-        let counts = concerns(*c, source, target);
+    push_goals(
+        alloc,
+        &mut goals,
+        part,
+        source,
+        target,
+        prep,
+        coefficients,
+        first,
+    )?;
+    push_goals(
+        alloc,
+        &mut goals,
+        part,
+        source,
+        target,
+        prep,
+        coefficients,
+        behind,
+    )?;
+    Ok(goals)
+}
+
+// What of the second block stands behind the first.
+fn block_behind(first: Block, second: Block) -> Block
+    ensures first { result.first ≡ max first.upto second.first }
+    ensures upto { result.upto ≡ max second.upto result.first }
+{
+    let start = first.upto.max(second.first);
+    Block {
+        first: start,
+        upto: second.upto.max(start),
+    }
+}
+
+// Appends the goals for the coefficients of a block to those before it.
+fn push_goals(
+    alloc: Global,
+    goals: &mut Vec<Goal>,
+    part: Part,
+    source: u32,
+    target: u32,
+    prep: &RuleRows,
+    coefficients: &[Coefficient],
+    block: Block,
+) -> Result<(), Memory>
+    requires few { length coefficients.now < 2 ^ 30 }
+    requires news { All (λ f. IsSmall (form_of f)) prep.now.news.items }
+    requires fit { All (λ c. length (goal_form part (forms_of source target (prepared_of prep.now))
+        (coefficient_of c)).coefs ≤ prep.now.unknowns) coefficients.now }
+    requires ordered { block.first ≤ block.upto }
+    requires below { block.upto ≤ length coefficients.now }
+    requires before { AreGoalsUpTo part (forms_of source target (prepared_of prep.now)) coefficients.now block.first
+        goals.old.items }
+    ensures { OnOk result (AreGoalsUpTo part (forms_of source target (prepared_of prep.now)) coefficients.now block.upto
+        goals.new.items) }
+{
+    for parameter in block.first..block.upto {
+        let c = coefficients[parameter as usize];
+        let counts = concerns(c, source, target);
         if counts {
-            let form = goal_of(alloc, part, source, target, prep, *c)?;
-            goals.push(Goal {
-                parameter: parameter as u32,
-                form,
-            })?;
+            let form = goal_of(alloc, part, source, target, prep, c)?;
+            goals.push(Goal { parameter, form })?;
         }
     }
-    Ok(goals)
+    Ok(())
 }
 
 // Whether a coefficient is one of the source or of the target.

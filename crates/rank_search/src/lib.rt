@@ -5,6 +5,7 @@
 #![tactic(auto)]
 
 mod answer;
+mod blocks;
 mod causes;
 mod coefficients;
 mod emptiness;
@@ -15,6 +16,7 @@ mod laws;
 mod problem;
 mod ranking;
 mod scaled;
+mod shut;
 mod symbols;
 
 pub use answer::RankAnswer;

@@ -10,12 +10,14 @@ ghost use Rattle.model.specs.Programs.{rule_at};
 ghost use Rattle.lp_builder.specs.Builders.{parameter_count, row_count, column_count, IsReady, Adds};
 ghost use Rattle.proof_nodes.specs.AcceptsPlain.{IsRule};
 ghost use Rattle.proof_tree.specs.Composing.{AreRowsOf};
+ghost use Rattle.rank_search.specs.Blocks.{AreBlocks};
 ghost use Rattle.rank_search.specs.Coefficients.{coefficient_of, AreCoefficients};
 ghost use Rattle.rank_search.specs.Goals.{part_group, part_for, goal_form, Fits};
 ghost use Rattle.rank_search.specs.ProgramQuestions.{ranked_set, places_of, is_entered, forms_in};
 ghost use Rattle.rank_search.specs.Programs.{IsProblemOf};
 ghost use Rattle.rank_search.specs.RankAnswers.{IsRuleSet};
 
+use crate::blocks::{Block, blocks_of};
 use crate::coefficients::Coefficient;
 use crate::goals::{Part, fixed_row, goals_of};
 use crate::symbols::entered;
@@ -46,10 +48,20 @@ pub(crate) fn rank_problem(
 {
     let marks = entered(alloc, p, set)?;
     let costs = costs_of(alloc, coefficients, &marks)?;
+    let blocks = blocks_of(alloc, p.symbols.len(), coefficients)?;
     let mut builder = Builder::new(alloc, coefficients.len() as u32);
     for rule in set {
         let part = part_of(*rule, strict);
-        add_part(alloc, &mut builder, part, p, preps, *rule, coefficients)?;
+        add_part(
+            alloc,
+            &mut builder,
+            part,
+            p,
+            preps,
+            *rule,
+            coefficients,
+            &blocks,
+        )?;
     }
     add_part(
         alloc,
@@ -59,6 +71,7 @@ pub(crate) fn rank_problem(
         preps,
         strict,
         coefficients,
+        &blocks,
     )?;
     builder.finish(alloc, &costs)
 }
@@ -83,6 +96,7 @@ fn add_part(
     preps: &[RuleRows],
     rule: u32,
     coefficients: &[Coefficient],
+    blocks: &[Block],
 ) -> Result<(), Memory>
     requires valid { IsValid (program_of p.now) }
     requires rows { AreRowsOf preps.now (program_of p.now) }
@@ -93,12 +107,13 @@ fn add_part(
     requires few_rows { row_count builder.old + 97 < 2 ^ 31 }
     requires few_columns { column_count builder.old + 129 < 2 ^ 31 }
     requires fit { Fits part (forms_in (rule_at (program_of p.now) rule)) (map coefficient_of coefficients.now) }
+    requires blocks { AreBlocks (length coefficients.now) blocks.now coefficients.now }
     ensures { IfOk result (λ _. Adds builder.old builder.new
         (part_group part (forms_in (rule_at (program_of p.now) rule)) (map coefficient_of coefficients.now))) }
 {
     let r = &p.rules[rule as usize - 1];
     let prep = &preps[rule as usize - 1];
-    let goals = goals_of(alloc, part, r.source, r.target, prep, coefficients)?;
+    let goals = goals_of(alloc, part, r.source, r.target, prep, coefficients, blocks)?;
     let fixed = fixed_row(alloc, part);
     builder.add_group(prep.unknowns, &prep.rows, &goals, &fixed)
 }

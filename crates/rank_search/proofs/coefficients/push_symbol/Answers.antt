@@ -1,14 +1,13 @@
 use Rattle.std.proofs.Common.{◌≡◌, ◌+◌, ◌++◌, map, refl, sym, ◌∙◌, subst}
 use Rattle.rank_search.specs.Coefficients.{coefficient_of}
-use Rattle.proof_tree.specs.Shut.{is_shut}
-use Rattle.rank_search.specs.ProgramQuestions.{places_of}
+use Rattle.rank_search.specs.ShutPlaces.{is_listed}
 use Rattle.rank_search.proofs.OpenPlaces.{block_upto, place-pushed, place-passed}
 use Rattle.rank_search.proofs.coefficients.push_symbol.Goals as goal
 use Rattle.rank_search.proofs.coefficients.push_symbol.Goals.{then-not-is_shut+in_ok-push, else-not-is_shut}
 
 pub loop-before-preserved : goal.loop-before-preserved
 loop-before-preserved c =
-    let shut = is_shut (places_of c.args.shut.now) in
+    let shut = is_listed c.args.closed.now in
     let first = map coefficient_of c.args.found.now.items in
     elim c.if-not-is_shut.branch [
       | then-not-is_shut+in_ok-push w ↦

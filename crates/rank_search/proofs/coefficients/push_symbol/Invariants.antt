@@ -1,7 +1,6 @@
 use Rattle.std.proofs.Common.{◌≡◌, ◌++◌, map}
 use Rattle.rank_search.specs.Coefficients.{coefficient_of}
-use Rattle.proof_tree.specs.Shut.{is_shut}
-use Rattle.rank_search.specs.ProgramQuestions.{places_of}
+use Rattle.rank_search.specs.ShutPlaces.{is_listed}
 use Rattle.rank_search.proofs.OpenPlaces.{block_upto}
 use Rattle.rank_search.proofs.coefficients.push_symbol.Given as goal
 
@@ -9,4 +8,4 @@ use Rattle.rank_search.proofs.coefficients.push_symbol.Given as goal
 abbrev pub invariant-loop-before : goal.invariant-loop-before
 invariant-loop-before l =
     map coefficient_of l.found.items ≡ map coefficient_of l.initial.found.items ++ block_upto
-    (is_shut (places_of l.shut)) l.symbol l.before
+    (is_listed l.closed) l.symbol l.before

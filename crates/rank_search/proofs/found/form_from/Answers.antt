@@ -4,8 +4,7 @@ use Rattle.linear_forms.specs.Forms.{at}
 use Rattle.linear_forms.specs.QuestionLaws.{parameters_of}
 use Rattle.model.specs.Programs.{arity_of}
 use Rattle.its_model.specs.Views.{program_of}
-use Rattle.proof_tree.specs.Shut.{is_shut}
-use Rattle.rank_search.specs.ProgramQuestions.{places_of}
+use Rattle.rank_search.specs.ShutPlaces.{is_listed}
 use Rattle.rank_search.specs.Reading.{open_count, read_coefs}
 use Rattle.rank_search.proofs.Counts.{open-few}
 use Rattle.rank_search.proofs.Read.{place-read, place-left, count-read, count-left}
@@ -15,7 +14,7 @@ use Rattle.rank_search.proofs.found.form_from.Goals.{then-is_shut+in_ok-push, el
 pub overflow_add-parameter : goal.overflow_add-parameter
 overflow_add-parameter c =
     let k = c.loop-before.invariant.count in
-    let l = open-few (is_shut (places_of c.args.shut.now) c.args.symbol) 1
+    let l = open-few (is_listed c.args.closed.now c.args.symbol) 1
     (arity_of (program_of c.args.p.now) c.args.symbol) in
     let m = c.requires.few_places in
     let n = c.requires.few in omega (arith, k, l, m, n)
@@ -23,14 +22,14 @@ overflow_add-parameter c =
 pub overflow_add-next : goal.overflow_add-next
 overflow_add-next c =
     let k = c.loop-before.invariant.count in
-    let l = open-few (is_shut (places_of c.args.shut.now) c.args.symbol) 1
+    let l = open-few (is_listed c.args.closed.now c.args.symbol) 1
     (arity_of (program_of c.args.p.now) c.args.symbol) in
     let m = c.requires.few_places in
     let n = c.requires.few in omega (arith, k, l, m, n)
 
 pub loop-before-preserved : goal.loop-before-preserved
 loop-before-preserved c =
-    let shut = is_shut (places_of c.args.shut.now) c.args.symbol in
+    let shut = is_listed c.args.closed.now c.args.symbol in
     let v = parameters_of (at c.args.numbers.now) in
     let n = arity_of (program_of c.args.p.now) c.args.symbol in
     let i = c.loop-before.before in

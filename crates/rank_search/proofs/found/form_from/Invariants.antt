@@ -3,8 +3,7 @@ use Rattle.linear_forms.specs.Forms.{at}
 use Rattle.linear_forms.specs.QuestionLaws.{parameters_of}
 use Rattle.model.specs.Programs.{arity_of}
 use Rattle.its_model.specs.Views.{program_of}
-use Rattle.proof_tree.specs.Shut.{is_shut}
-use Rattle.rank_search.specs.ProgramQuestions.{places_of}
+use Rattle.rank_search.specs.ShutPlaces.{is_listed}
 use Rattle.rank_search.specs.Reading.{open_count, read_coefs}
 use Rattle.rank_search.proofs.found.form_from.Given as goal
 
@@ -12,11 +11,11 @@ use Rattle.rank_search.proofs.found.form_from.Given as goal
 abbrev pub invariant-loop-before : goal.invariant-loop-before
 invariant-loop-before l = record {
   kept : l.coefs.items
-      ++ read_coefs (is_shut (places_of l.shut) l.symbol) (parameters_of (at l.numbers)) l.parameter (l.before + 1)
+      ++ read_coefs (is_listed l.closed l.symbol) (parameters_of (at l.numbers)) l.parameter (l.before + 1)
       (arity_of (program_of l.p) l.symbol - l.before)
-      ≡ read_coefs (is_shut (places_of l.shut) l.symbol) (parameters_of (at l.numbers)) l.initial.parameter 1
+      ≡ read_coefs (is_listed l.closed l.symbol) (parameters_of (at l.numbers)) l.initial.parameter 1
       (arity_of (program_of l.p) l.symbol);
-  count : l.parameter + open_count (is_shut (places_of l.shut) l.symbol) (l.before + 1)
+  count : l.parameter + open_count (is_listed l.closed l.symbol) (l.before + 1)
       (arity_of (program_of l.p) l.symbol - l.before)
-      ≡ l.initial.parameter + open_count (is_shut (places_of l.shut) l.symbol) 1 (arity_of (program_of l.p) l.symbol);
+      ≡ l.initial.parameter + open_count (is_listed l.closed l.symbol) 1 (arity_of (program_of l.p) l.symbol);
 }

@@ -1,4 +1,4 @@
-use Rattle.std.proofs.Common.{ℕ, ◌≤◌, ◌∙◌, ap, map, get_or, arith, ◌∷◌, []}
+use Rattle.std.proofs.Common.{◌≡◌, ℕ, ◌≤◌, ◌+◌, ◌∙◌, Bool, ap, map, get_or, arith, subst, ◌∷◌, []}
 use Rattle.std.proofs.lemmas.List.{map-append}
 use Rattle.linear_forms.specs.Forms.{at}
 use Rattle.linear_forms.specs.QuestionLaws.{parameters_of}
@@ -8,29 +8,38 @@ use Rattle.its_model.specs.Views.{program_of}
 use Rattle.proof_tree.specs.Views.{form_of}
 use Rattle.proof_tree.specs.Shut.{is_shut}
 use Rattle.rank_search.specs.ProgramQuestions.{places_of}
+use Rattle.rank_search.specs.Reading.{open_count, form_by}
+use Rattle.rank_search.specs.ShutPlaces.{is_listed}
 use Rattle.rank_search.proofs.Counts.{open-few}
 use Rattle.rank_search.proofs.Read.{form-more}
 use Rattle.rank_search.proofs.Lists.{read-again}
+use Rattle.rank_search.proofs.ShutSets.{same-test}
 use Rattle.rank_search.proofs.found.forms_from.Goals as goal
 
 pub loop-symbol-preserved : goal.loop-symbol-preserved
-loop-symbol-preserved c = record {
-  kept = form-more (program_of c.args.p.now) (places_of c.args.shut.now)
-      (parameters_of (at c.args.numbers.now)) c.args.symbols.now
-      c.loop-symbol.symbol-index
-      (get_or c.args.symbols.now c.loop-symbol.symbol-index 0) c.loop-symbol.next c.form_from.new.next
-      (map form_of c.loop-symbol.forms.items) (map form_of c.push.new.self.items) _ (form_of c.in_ok-form.form)
-      c.loop-symbol-test.true
-      (read-again c.args.symbols.now c.loop-symbol.symbol-index 0 _ c.loop-symbol-test.true)
-      c.loop-symbol.invariant.kept c.in_ok-form.ensures.form
-      (ap (map form_of) c.in_ok-push.ensures.items ∙ map-append form_of c.loop-symbol.forms.items
-      (c.in_ok-form.form ∷ [])) c.in_ok-form.ensures.next;
-  few =
-      let e = c.in_ok-form.ensures.next in
-      let k = c.loop-symbol.invariant.few in
-      let m = All-get_or (λ (s : ℕ). arity_of (program_of c.args.p.now) s
-      ≤ 32) c.args.symbols.now c.loop-symbol.symbol-index 0 c.loop-symbol-test.true c.requires.few_places in
-      let s = get_or c.args.symbols.now c.loop-symbol.symbol-index 0 in
-      let n = open-few (is_shut (places_of c.args.shut.now) s) 1 (arity_of (program_of c.args.p.now) s) in omega
-      (arith, e, k, m, n);
-}
+loop-symbol-preserved c =
+    let p = program_of c.args.p.now in
+    let shut = places_of c.args.shut.now in
+    let v = parameters_of (at c.args.numbers.now) in
+    let k = c.loop-symbol.next in
+    let s = get_or c.args.symbols.now c.loop-symbol.symbol-index 0 in
+    let same : is_listed c.in_ok-closed.closed ≡ is_shut shut =
+    same-test c.in_ok-closed.closed shut c.in_ok-closed.ensures in
+    record {
+      kept = form-more p shut v c.args.symbols.now c.loop-symbol.symbol-index s k c.form_from.new.next
+          (map form_of c.loop-symbol.forms.items) (map form_of c.push.new.self.items) _ (form_of c.in_ok-form.form)
+          c.loop-symbol-test.true (read-again c.args.symbols.now c.loop-symbol.symbol-index 0 _ c.loop-symbol-test.true)
+          c.loop-symbol.invariant.kept
+          (subst (λ (closed : ℕ → ℕ → Bool). form_of c.in_ok-form.form ≡ form_by closed p v k s) same
+          c.in_ok-form.ensures.form)
+          (ap (map form_of) c.in_ok-push.ensures.items ∙ map-append form_of c.loop-symbol.forms.items
+          (c.in_ok-form.form ∷ []))
+          (subst (λ (closed : ℕ → ℕ → Bool). c.form_from.new.next ≡ k + open_count (closed s) 1 (arity_of p s) + 1) same
+          c.in_ok-form.ensures.next);
+      few =
+          let e = c.in_ok-form.ensures.next in
+          let i = c.loop-symbol.invariant.few in
+          let m = All-get_or (λ (s : ℕ). arity_of p s
+          ≤ 32) c.args.symbols.now c.loop-symbol.symbol-index 0 c.loop-symbol-test.true c.requires.few_places in
+          let n = open-few (is_listed c.in_ok-closed.closed s) 1 (arity_of p s) in omega (arith, e, i, m, n);
+    }

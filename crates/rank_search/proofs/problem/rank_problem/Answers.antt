@@ -11,7 +11,7 @@ use Rattle.rank_search.specs.declared.goals.Part.{Part}
 use Rattle.rank_search.specs.Coefficients.{coefficient_of}
 use Rattle.rank_search.specs.Goals.{Fits}
 use Rattle.rank_search.specs.ProgramQuestions.{forms_in, places_of, is_entered}
-use Rattle.rank_search.proofs.Counts.{few-rules, few-sought}
+use Rattle.rank_search.proofs.Counts.{few-rules, few-sought, sought-inside}
 use Rattle.rank_search.proofs.Lists.{read-again}
 use Rattle.rank_search.proofs.RankProblems.{set_group-is, move-fits, floor-fits, costs-are, problem-built}
 use Rattle.rank_search.proofs.RankSets.{in-all}
@@ -29,6 +29,19 @@ new-builder-requires c =
     let l = few-sought (program_of c.args.p.now) c.args.set.now c.args.strict
     (places_of c.args.shut.now) c.requires.valid c.requires.rules c.args.coefficients.now c.requires.coefficients
     in omega (arith, l)
+
+pub blocks_of-requires-clause-few : goal.blocks_of-requires-clause-few
+blocks_of-requires-clause-few c =
+    let l = few-sought (program_of c.args.p.now) c.args.set.now c.args.strict
+    (places_of c.args.shut.now) c.requires.valid c.requires.rules c.args.coefficients.now c.requires.coefficients
+    in omega (arith, l)
+
+pub blocks_of-requires-clause-inside : goal.blocks_of-requires-clause-inside
+blocks_of-requires-clause-inside c =
+    sought-inside (program_of c.args.p.now) c.args.set.now c.args.strict (places_of c.args.shut.now)
+    c.args.coefficients.now c.requires.coefficients _
+    (let e = c.len.ensures in let l = length-map symbol_of c.args.p.now.symbols.items in
+    let o = c.args.p.now.symbols.ok.0 in omega (arith, e, l, o))
 
 pub add_part-requires-clause-few_rows : goal.add_part-requires-clause-few_rows
 add_part-requires-clause-few_rows c =
@@ -121,5 +134,5 @@ returns c =
     (written-all (program_of c.args.p.now) c.args.strict (map coefficient_of c.args.coefficients.now)
     (length c.args.coefficients.now) c.args.set.now c.loop-rule.rule-index c.loop-rule.builder
     c.loop-rule-test.false c.loop-rule.invariant))
-    (subst (λ (ks : List Cost). IsBuilt c.add_part-2.new.builder ks problem) c.deref-2.ensures.value built))
+    (subst (λ (ks : List Cost). IsBuilt c.add_part-2.new.builder ks problem) c.deref-3.ensures.value built))
     c.finish.ensures

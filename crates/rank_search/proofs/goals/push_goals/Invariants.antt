@@ -1,0 +1,9 @@
+use Rattle.guard_prep.specs.Views.{prepared_of}
+use Rattle.rank_search.specs.Goals.{AreGoalsUpTo}
+use Rattle.rank_search.specs.ProgramQuestions.{forms_of}
+use Rattle.rank_search.proofs.goals.push_goals.Given as goal
+
+-- the goals so far
+abbrev pub invariant-loop-parameter : goal.invariant-loop-parameter
+invariant-loop-parameter l =
+    AreGoalsUpTo l.part (forms_of l.source l.target (prepared_of l.prep)) l.coefficients l.parameter l.goals.items

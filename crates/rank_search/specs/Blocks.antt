@@ -1,0 +1,39 @@
+-- Blocks of positions in which the coefficients of each symbol stand.
+use Rattle.std.specs.Prelude.{◌≡◌, ◌||◌, ◌⊎◌, ℕ, ◌+◌, ◌<◌, ◌≤◌, nat_eq, if◌then◌else◌, true, List, length}
+use Rattle.std.specs.Prelude.{get_or, slice_index_or}
+use Rattle.rank_search.specs.declared.blocks.Block.{Block}
+use Rattle.rank_search.specs.declared.coefficients.Coefficient.{Coefficient}
+
+-- no position
+abbrev pub empty_block : Block
+empty_block = record { first = 0; upto = 0 }
+
+-- the block of a symbol, which is empty where none is listed
+abbrev pub block_at : List Block → ℕ → Block
+block_at blocks s = slice_index_or blocks s empty_block
+
+-- the position is one of the block
+abbrev pub IsInside : Block → ℕ → Type 0
+IsInside b i = (b.first ≤ i) × (i < b.upto)
+
+-- the block up to and with a position, or of it alone where the block is empty
+abbrev pub with_position : Block → ℕ → Block
+with_position b i =
+    if nat_eq b.first b.upto then record { first = i; upto = i + 1 } else record { first = b.first; upto = i + 1 }
+
+-- each symbol has a block of positions below n, in which those of the first n coefficients stand that are its own
+pub record AreBlocks (n : ℕ) (blocks : List Block) (cs : List Coefficient) : Type 0 where
+  pub ordered : (s : ℕ) → (block_at blocks s).first ≤ (block_at blocks s).upto
+  pub below : (s : ℕ) → (block_at blocks s).upto ≤ n
+  pub each : (i : ℕ) (d : Coefficient) → i < n → i < length cs → IsInside (block_at blocks (get_or cs i d).symbol) i
+
+-- the first block doesn't begin behind the second, and the coefficients of the source and of the target stand in them
+pub record HoldGoals (source target : ℕ) (cs : List Coefficient) (first second : Block) : Type 0 where
+  pub order : first.first ≤ second.first
+  pub first_ordered : first.first ≤ first.upto
+  pub second_ordered : second.first ≤ second.upto
+  pub first_below : first.upto ≤ length cs
+  pub second_below : second.upto ≤ length cs
+  pub each : (i : ℕ) (d : Coefficient) → i < length cs
+      → (nat_eq (get_or cs i d).symbol source || nat_eq (get_or cs i d).symbol target) ≡ true
+      → IsInside first i ⊎ IsInside second i
