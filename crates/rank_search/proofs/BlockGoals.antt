@@ -1,6 +1,6 @@
 -- The goals of a rule, whose coefficients stand in two blocks: those before, between and behind them have none.
-use Rattle.std.proofs.Common.{◌≡◌, ◌≢◌, ◌⊎◌, inl, inr, ℕ, zero, suc, ◌+◌, ◌-◌, ◌<◌, ◌≤◌, ◌||◌, max, nat_eq, arith, refl, sym}
-use Rattle.std.proofs.Common.{ap, subst, ◌∙◌, Bool, true, false, List, [], length, map, get_or}
+use Rattle.std.proofs.Common.{◌≡◌, ◌≢◌, ◌⊎◌, inl, inr, ℕ, zero, suc, ◌+◌, ◌-◌, ◌<◌, ◌≤◌, ◌||◌, max, nat_eq, arith, refl}
+use Rattle.std.proofs.Common.{sym, ap, subst, ◌∙◌, Bool, true, false, List, [], length, map, get_or}
 use Rattle.std.proofs.lemmas.Bool.{true≢false, eqb-true}
 use Rattle.std.proofs.lemmas.List.{take_all}
 use Rattle.std.proofs.lemmas.List.Elements.{All-nil}
@@ -24,9 +24,13 @@ concerned source target c = nat_eq c.symbol source || nat_eq c.symbol target
 module _ (part : Part) (r : RuleForms) (cs : List Coefficient) where
   -- for none
   pub goals-begun : AreGoalsUpTo part r cs 0 []
-  goals-begun = record { forms = refl; listed = omega arith; writable = All-nil (λ g. IsWritable r.unknowns (form_of g.form)) }
+  goals-begun = record {
+    forms = refl;
+    listed = omega arith;
+    writable = All-nil (λ g. IsWritable r.unknowns (form_of g.form));
+  }
 
-  -- one coefficient that has none is passed by, and several
+  -- one coefficient that has none is passed by
   goal-skipped : (i : ℕ) (gs : List Goal) → i < length cs
       → ((d : Coefficient) → concerned r.source r.target (get_or cs i d) ≡ false)
       → AreGoalsUpTo part r cs i gs → AreGoalsUpTo part r cs (i + 1) gs
@@ -39,6 +43,7 @@ module _ (part : Part) (r : RuleForms) (cs : List Coefficient) where
         writable = h.writable;
       }
 
+  -- and several
   several-skipped : (n i : ℕ) (gs : List Goal) → i + n ≤ length cs
       → ((k : ℕ) (d : Coefficient) → i ≤ k → k < i + n → concerned r.source r.target (get_or cs k d) ≡ false)
       → AreGoalsUpTo part r cs i gs → AreGoalsUpTo part r cs (i + n) gs
@@ -49,6 +54,7 @@ module _ (part : Part) (r : RuleForms) (cs : List Coefficient) where
       (several-skipped n (i + 1) gs (omega (arith, l)) (λ k d a b. none k d (omega (arith, a)) (omega (arith, b)))
       (goal-skipped i gs (omega (arith, l)) (λ d. none i d (omega arith) (omega arith)) h))
 
+  -- up to a position
   pub goals-skipped : (i j : ℕ) (gs : List Goal) → i ≤ j → j ≤ length cs
       → ((k : ℕ) (d : Coefficient) → i ≤ k → k < j → concerned r.source r.target (get_or cs k d) ≡ false)
       → AreGoalsUpTo part r cs i gs → AreGoalsUpTo part r cs j gs
@@ -59,6 +65,7 @@ module _ (part : Part) (r : RuleForms) (cs : List Coefficient) where
 
   -- where all that have one stand in two blocks
   module _ (b c : Block) (h : HoldGoals r.source r.target cs b c) where
+    -- a coefficient outside both has none
     outside : (k : ℕ) (d : Coefficient) → k < length cs → ¬ IsInside b k → ¬ IsInside c k
         → concerned r.source r.target (get_or cs k d) ≡ false
     outside k d l f g = go (concerned r.source r.target (get_or cs k d)) (λ e. h.each k d l e)
@@ -109,8 +116,9 @@ module _ (part : Part) (r : RuleForms) (cs : List Coefficient) where
   forms-whole gs h =
       h.forms ∙ ap (map (λ c. goal_form part r (coefficient_of c))) (take_all (length cs) cs (omega arith))
 
--- the blocks of the source and of the target, the lesser first
+-- the blocks of the source and of the target
 module _ (blocks : List Block) (cs : List Coefficient) (h : AreBlocks (length cs) blocks cs) (source target : ℕ) where
+  -- a coefficient of either stands in one of them
   either : (i : ℕ) (d : Coefficient) → i < length cs → concerned source target (get_or cs i d) ≡ true
       → IsInside (block_at blocks source) i ⊎ IsInside (block_at blocks target) i
   either i d l e = go (nat_eq (get_or cs i d).symbol source) refl (nat_eq (get_or cs i d).symbol target) refl
@@ -129,6 +137,7 @@ module _ (blocks : List Block) (cs : List Coefficient) (h : AreBlocks (length cs
       go false f false g =
           absurd (true≢false (sym e ∙ (ap (λ (v : Bool). v || nat_eq (get_or cs i d).symbol target) f ∙ g)))
 
+  -- the source's first
   pub source-first : (b c : Block) → b ≡ block_at blocks source → c ≡ block_at blocks target → b.first ≤ c.first
       → HoldGoals source target cs b c
   source-first b c e f l = record {
@@ -141,6 +150,7 @@ module _ (blocks : List Block) (cs : List Coefficient) (h : AreBlocks (length cs
         (subst (λ (x : Block). IsInside (block_at blocks source) i ⊎ IsInside x i) (sym f) (either i d m n));
   }
 
+  -- the target's first
   pub target-first : (b c : Block) → b ≡ block_at blocks target → c ≡ block_at blocks source → b.first ≤ c.first
       → HoldGoals source target cs b c
   target-first b c e f l = record {

@@ -1,6 +1,6 @@
 -- Blocks in which the coefficients of symbols stand, one coefficient more at a time.
-use Rattle.std.proofs.Common.{◌≡◌, ◌≢◌, ◌⊎◌, inl, inr, ℕ, zero, suc, ◌+◌, ◌<◌, ◌≤◌, nat_eq, if◌then◌else◌, arith, refl, sym}
-use Rattle.std.proofs.Common.{subst, Bool, true, false, List, length, get_or, replicate}
+use Rattle.std.proofs.Common.{◌≡◌, ◌≢◌, ◌⊎◌, inl, inr, ℕ, zero, suc, ◌+◌, ◌<◌, ◌≤◌, nat_eq, if◌then◌else◌, arith, refl}
+use Rattle.std.proofs.Common.{sym, subst, Bool, true, false, List, length, get_or, replicate}
 use Rattle.std.specs.Prelude.{slice_set}
 use Rattle.std.proofs.lemmas.Bool.Decides.{eqb_tells}
 use Rattle.std.proofs.lemmas.List.{get_or-set_same, get_or-set_other}
@@ -24,35 +24,35 @@ blocks-begun n cs = record {
 
 -- a block that a position before i ends, and position i
 module _ (b : Block) (i : ℕ) (ordered : b.first ≤ b.upto) (below : b.upto ≤ i) where
+  -- the block that is made of it, by whether it is empty
   abbrev made : Bool → Block
   made v = if v then record { first = i; upto = i + 1 } else record { first = b.first; upto = i + 1 }
 
+  -- its positions are still in order
   grown-ordered : (with_position b i).first ≤ (with_position b i).upto
   grown-ordered = go (nat_eq b.first b.upto)
     where
-      go : (v : Bool)
-          → (made v).first
-          ≤ (made v).upto
+      go : (v : Bool) → (made v).first ≤ (made v).upto
       go true = omega arith
       go false = omega (arith, ordered, below)
 
+  -- and below the next one
   grown-below : (with_position b i).upto ≤ i + 1
   grown-below = go (nat_eq b.first b.upto)
     where
-      go : (v : Bool)
-          → (made v).upto ≤ i + 1
+      go : (v : Bool) → (made v).upto ≤ i + 1
       go true = omega arith
       go false = omega arith
 
-  -- it has the position, and those that it had
+  -- it has the position
   grown-new : IsInside (with_position b i) i
   grown-new = go (nat_eq b.first b.upto)
     where
-      go : (v : Bool)
-          → IsInside (made v) i
+      go : (v : Bool) → IsInside (made v) i
       go true = (omega arith, omega arith)
       go false = (omega (arith, ordered, below), omega arith)
 
+  -- and those that it had
   grown-old : (k : ℕ) → IsInside b k → IsInside (with_position b i) k
   grown-old k h = go (eqb_tells b.first b.upto)
     where
@@ -62,13 +62,12 @@ module _ (b : Block) (i : ℕ) (ordered : b.first ≤ b.upto) (below : b.upto �
       high : k < b.upto
       high = h.1
 
-      go : ((nat_eq b.first b.upto ≡ true) × (b.first ≡ b.upto)) ⊎ ((nat_eq b.first b.upto ≡ false) × (b.first ≢ b.upto))
+      go : ((nat_eq b.first b.upto ≡ true) × (b.first ≡ b.upto))
+          ⊎ ((nat_eq b.first b.upto ≡ false) × (b.first ≢ b.upto))
           → IsInside (with_position b i) k
       go (inl e) = absurd (let f = e.1 in omega (arith, f, low, high))
       go (inr e) =
-          subst (λ (v : Bool). IsInside
-          (made v) k) (sym e.0)
-          (low, omega (arith, high, below))
+          subst (λ (v : Bool). IsInside (made v) k) (sym e.0) (low, omega (arith, high, below))
 
 -- the coefficient at position i is one of this symbol, whose block is made to hold the position
 module _ (blocks : List Block) (cs : List Coefficient) (i s : ℕ) (h : AreBlocks i blocks cs) (l : s < length blocks)
@@ -89,6 +88,7 @@ module _ (blocks : List Block) (cs : List Coefficient) (i s : ℕ) (h : AreBlock
           (subst P (sym (get_or-set_same blocks s grown empty_block l)) (same e.1))
       go (inr e) = subst P (sym (get_or-set_other blocks s t grown empty_block (λ f. e.1 (sym f)))) (other e.1)
 
+  -- so there are blocks for one position more
   pub blocks-grown : AreBlocks (i + 1) new cs
   blocks-grown = record {
     ordered = λ t. by-symbol (λ (b : Block). b.first ≤ b.upto) t
