@@ -7,6 +7,7 @@ use Rattle.bounds_tests.specs.Based.{bases_are_some, all_bases_are_some}
 
 -- of a bound, and of parts
 mutual
+  -- a bound whose bases pass the test is based
   pub is_based : (b : Bound) → bases_are_some b ≡ true → IsBased b
   is_based (Constant c) says = tt
   is_based (Input i) says = tt

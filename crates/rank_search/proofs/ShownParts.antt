@@ -88,6 +88,7 @@ limits-of (r ∷ rows) x h =
     All-cons IsInLimit (nat_abs (x 0)) (multipliers_of (λ j. x (suc j)) rows) (h 0)
     (limits-of rows (λ j. x (suc j)) (λ j. h (suc j)))
 
+-- multipliers by their groups are within the limit where all numbers are
 pub limits-by_group : (gs : List Group) (x : ℕ → ℤ) → ((j : ℕ) → nat_abs (x j) ≤ certificate_limit) → All AreInLimit
     (multipliers_by_group x gs)
 limits-by_group [] x h = All-nil AreInLimit
@@ -124,6 +125,7 @@ pub record Split (b : RankedSet) (f : Function) (d : ℤ) (set : List ℕ) (move
   pub last : IsShownFloor b f d floor
 
 module _ (b : RankedSet) (f : Function) (d : ℤ) where
+  -- what is shown of moves and the floor together is shown of each move and of the floor
   pub split : (set : List ℕ) (moves : List (List ℕ)) (floor : List ℕ) → AreShown b f d set (moves ++ floor ∷ [])
       → Split b f d set moves floor
   split [] [] floor h = record { long = refl; each = λ t e. absurd (true≢false (sym e)); last = h }

@@ -25,12 +25,14 @@ line_of names gaps n (times.Gap g) = refl
 line_of names gaps n (times.Tripped t) = refl
 line_of names gaps n (times.Large nodes) = refl
 
+-- an entry is known exactly where its time is one
 pub known_is_timed : (gaps : List Gap) (e : TimeEntry) → is_known e ≡ is_timed (time_of gaps e)
 known_is_timed gaps (times.Known s) = refl
 known_is_timed gaps (times.Gap g) = refl
 known_is_timed gaps (times.Tripped t) = refl
 known_is_timed gaps (times.Large nodes) = refl
 
+-- so all entries are known exactly where all times are
 pub all_known : (gaps : List Gap) (es : List TimeEntry) → list_all is_known es ≡ list_all is_timed (map (time_of gaps) es)
 all_known gaps [] = refl
 all_known gaps (e ∷ es) = cc (known_is_timed gaps e, all_known gaps es)

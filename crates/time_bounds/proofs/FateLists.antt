@@ -47,6 +47,7 @@ filter-append test (y ∷ xs) x v e = go (test y) refl (filter-append test xs x 
     go true k h = rw k (ap (λ (zs : List ℕ). y ∷ zs) h)
     go false k h = rw k h
 
+-- a range with one number more ends with that number
 pub range-more : (n a j : ℕ) → a + n ≡ j → range_with_len a (suc n) ≡ range_with_len a n ++ j ∷ []
 range-more zero a j e = let same : a ≡ j = omega (arith, e) in ap (λ (x : ℕ). x ∷ []) same
 range-more (suc n) a j e = ap (λ (xs : List ℕ). a ∷ xs) (range-more n (a + 1) j (omega (arith, e)))

@@ -93,6 +93,7 @@ standing-step p pivots tab c a places unsized h =
 pub grown-itself : (tab : nodes.Table) → HasGrown tab tab
 grown-itself tab = record { times = λ t b e. e; sizes = λ t i b e. e }
 
+-- a table that has grown from one that had grown has grown from the first
 pub grown-on : (a b c : nodes.Table) → HasGrown a b → HasGrown b c → HasGrown a c
 grown-on a b c h k = record { times = λ t x e. k.times t x (h.times t x e); sizes = λ t i x e. k.sizes t i x (h.sizes t i x e) }
 
@@ -114,6 +115,7 @@ tried-known : (z : SizeSearches) (time : ℕ → Option Bound) (old : Sizes) (cs
 tried-known z time old [] new h t i b e = h t i ∙ e
 tried-known z time old (c ∷ cs) new (between, first, rest) t i b e = tried-known z time between cs new rest t i b (first.known t i b e)
 
+-- the steps of a round make a table grow
 pub grown-steps : (p : Program) (pivots : ℕ) (old : Table) (cs : List Candidate) (xs : List Attempt) (new : Table)
     → AreSizeSteps p pivots old cs xs new → HasGrown (table_of old) (table_of new)
 grown-steps p pivots old cs xs new steps =
@@ -125,6 +127,7 @@ module _ (p : Program) (pivots : ℕ) where
   pub was-before : (old new : nodes.Table) (c : Candidate) (x : Attempt) → HasGrown old new → WasAttempt p pivots old c x → WasAttempt p pivots new c x
   was-before old new c x grown h = record { earlier = h.earlier; grown = grown-on h.earlier old new h.grown grown; attempt = h.attempt }
 
+  -- what was answered over a table was answered over one that the new table has grown from
   pub were-before : (old new : nodes.Table) (cs : List Candidate) (xs : List Attempt) → HasGrown old new → WereAttempts p pivots old cs xs
       → WereAttempts p pivots new cs xs
   were-before old new [] [] grown h = tt
