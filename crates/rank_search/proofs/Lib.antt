@@ -24,5 +24,4 @@ pub mod Pairs
 pub mod Answered
 pub mod Uniqueness
 pub mod ShutSets
-pub mod BlockLaws
 pub mod BlockGoals
