@@ -9,6 +9,10 @@ constant_limit = 2 ^ 127 - 1
 abbrev pub cap : ℕ
 cap = constant_limit + 1
 
+-- the number behind the maximum base of a power
+abbrev pub too_large_base : ℕ
+too_large_base = 2 ^ 64
+
 -- the maximum number of nodes
 abbrev pub node_limit : ℕ
 node_limit = 4096

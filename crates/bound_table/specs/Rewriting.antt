@@ -61,6 +61,10 @@ unfoldable pub passes_until_same : ℕ → List Case → Bound → Bound
 passes_until_same zero cs b = b
 passes_until_same (suc n) cs b = cond (is_eq (compared (one_pass cs b) b)) b (passes_until_same n cs (one_pass cs b))
 
+-- the most passes
+abbrev pub pass_limit : ℕ
+pass_limit = 16
+
 -- passes until one changes nothing, at most sixteen
 unfoldable pub simplified : List Case → Bound → Bound
-simplified cs b = passes_until_same 16 cs b
+simplified cs b = passes_until_same pass_limit cs b

@@ -18,7 +18,7 @@ use bound_expr::{Bound, Memory};
 use std::alloc::Global;
 
 // How many passes are made at most.
-const PASSES: u32 = 16;
+const PASS_LIMIT: u32 = 16;
 
 // The arms of a match on the case: each case by its name, with what it makes of the parts.
 macro_rules! cases {
@@ -70,7 +70,7 @@ fn rewritten(alloc: Global, cases: &[Case], b: &Bound) -> Result<Bound, Memory>
     ensures { IfOk result (λ r. bound_of r ≡ simplified cases.now (bound_of b.now)) }
 {
     let mut now = b.copied(alloc)?;
-    for _ in 0..PASSES {
+    for _ in 0..PASS_LIMIT {
         let next = pass(alloc, cases, &now)?;
         if is_same(&next, &now) {
             return Ok(next);

@@ -1,6 +1,6 @@
 -- What is carried behind a number that is too large, where reading goes on: no mark hangs on how large a base is, nor
 -- on how long a run is, and a bound that is too large stays so.
-use Rattle.std.specs.Prelude.{◌≡◌, ℕ, ◌≤◌, ◌+◌, ◌-◌, ◌^◌, min, Bool, true, false, if◌then◌else◌, nat_lt, Option, Some}
+use Rattle.std.specs.Prelude.{◌≡◌, ℕ, ◌≤◌, ◌+◌, ◌-◌, min, Bool, true, false, if◌then◌else◌, nat_lt, Option, Some}
 use Rattle.std.specs.Prelude.{None, List, [], ◌∷◌}
 use Rattle.std.specs.Option.{option_map}
 use Rattle.model.specs.Bounds.{NoParts}
@@ -11,7 +11,7 @@ use Rattle.bound_text.specs.Steps.{step, front_at, with_copies}
 use Rattle.bound_text.specs.Checks.{has_large_base}
 use Rattle.bound_text.specs.Reading.{has_many}
 use Rattle.bound_text.specs.Inside.{front_marks}
-use Rattle.bound_expr.specs.Limits.{node_limit}
+use Rattle.bound_expr.specs.Limits.{too_large_base, node_limit}
 
 -- as many copies are carried as a run has, but no more than 4,097, which are too many nodes by themselves, and no more
 -- than two where what was read before has more than 4,096 nodes already
@@ -26,7 +26,7 @@ kept_at position nodes piece = piece
 -- where a piece leads, but that a base over 2^64-1 is carried as 2^64-1, and of a run only so many copies
 abbrev pub carried : Front → Piece → Option Front
 carried f piece =
-    if has_large_base f piece then Some (front_at f.outer f.terms (init f.factors) (PowerCaret (2 ^ 64 - 1)))
+    if has_large_base f piece then Some (front_at f.outer f.terms (init f.factors) (PowerCaret (too_large_base - 1)))
     else step f (kept_at f.position (nodes_of f) piece)
 
 -- the first of these kinds that stands against a piece

@@ -1,12 +1,12 @@
 -- Whether a piece can be taken.
-use Rattle.std.specs.Prelude.{ℕ, ◌^◌, Bool, true, false, if◌then◌else◌, not, ◌&&◌, ◌||◌, nat_lt, nat_le, List, [], ◌∷◌}
+use Rattle.std.specs.Prelude.{ℕ, Bool, true, false, if◌then◌else◌, not, ◌&&◌, ◌||◌, nat_lt, nat_le, List, [], ◌∷◌}
 use Rattle.std.specs.Prelude.{Option, Some, None}
 use Rattle.model.specs.Bounds.{Bound, Constant, Input, Parts}
 use Rattle.bound_text.specs.Pieces.{Piece, Variable, Number, Caret}
 use Rattle.bound_text.specs.Fronts.{Front, Position, Begins, ItemRead, last, is_input, nodes_of, inner_levels}
 use Rattle.bound_text.specs.Steps.{step}
 use Rattle.bound_text.specs.Kinds.{Kind, Syntax, NumberTooLarge, UnknownName, TooDeep, TooLarge}
-use Rattle.bound_expr.specs.Limits.{depth_limit, node_limit}
+use Rattle.bound_expr.specs.Limits.{cap, too_large_base, depth_limit, node_limit}
 
 -- what taking a piece comes to: a refusal, or what has been read with it
 pub data Checked : Type 0 where
@@ -21,7 +21,7 @@ sized f =
 
 -- whether a number is over 2^127-1
 abbrev pub is_large : Piece → Bool
-is_large (Number c) = nat_le (2 ^ 127) c
+is_large (Number c) = nat_le cap c
 is_large piece = false
 
 -- whether a base is under 2
@@ -31,7 +31,7 @@ is_small_base piece = false
 
 -- whether a base is over 2^64-1
 abbrev pub is_large_base : Piece → Bool
-is_large_base (Number c) = nat_le (2 ^ 64) c
+is_large_base (Number c) = nat_le too_large_base c
 is_large_base piece = false
 
 -- whether a variable is none of the first n
@@ -54,7 +54,7 @@ begins position = false
 
 -- whether a product's last factor is a constant over 2^64-1
 abbrev pub is_large_number : Option Bound → Bool
-is_large_number (Some (Constant c)) = nat_le (2 ^ 64) c
+is_large_number (Some (Constant c)) = nat_le too_large_base c
 is_large_number factor = false
 
 -- whether a piece is the `^` behind a base over 2^64-1

@@ -1,11 +1,12 @@
 -- The pieces of a bound's text.
-use Rattle.std.specs.Prelude.{ℕ, ◌+◌, ◌^◌, List, ◌∷◌, length, codes, if◌then◌else◌, ◌==◌}
+use Rattle.std.specs.Prelude.{ℕ, ◌+◌, List, ◌∷◌, length, codes, if◌then◌else◌, ◌==◌}
 use Rattle.std.specs.Char.{is_ascii_digit}
 use Rattle.model.specs.Programs.{Name}
 use Rattle.text_core.specs.Prefixes.{prefix, rest}
 use Rattle.text_core.specs.Names.{begins_name, continues_name, is_same, position_of}
 use Rattle.text_core.specs.Bytes.{begins_with, has_leading_zero, value_up_to}
 use Rattle.text_core.specs.Tokens.{Token, Lexeme, each_piece, tokens_of}
+use Rattle.bound_expr.specs.Limits.{cap}
 use Rattle.bound_text.specs.Pieces.{Piece, Variable, Number, Maximum, Open, Close, Times, Caret, Plus, Blank, Comma}
 use Rattle.bound_text.specs.Pieces.{Wrong}
 
@@ -24,7 +25,7 @@ word_at names name behind =
 -- what digits are: the number that they write, where one over 2^127 counts as 2^127
 abbrev pub number_at : List ℕ → Lexeme Piece
 number_at digits =
-    found (if has_leading_zero digits then Wrong else Number (value_up_to (2 ^ 127) digits)) (length digits)
+    found (if has_leading_zero digits then Wrong else Number (value_up_to cap digits)) (length digits)
 
 -- what any other byte is
 abbrev pub mark_at : ℕ → Piece

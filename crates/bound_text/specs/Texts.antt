@@ -8,7 +8,7 @@ use Rattle.bound_expr.specs.Tidy.{IsTidy}
 use Rattle.text_core.specs.Names.{AreNames}
 use Rattle.bound_text.specs.Pieces.{bytes_of}
 use Rattle.bound_text.specs.Writing.{pieces_of}
-use Rattle.bound_expr.specs.Limits.{depth_limit, node_limit}
+use Rattle.bound_expr.specs.Limits.{too_large_base, depth_limit, node_limit}
 
 -- the text of a bound over variables with these names
 abbrev pub text_of : List Name → Bound → List ℕ
@@ -28,7 +28,7 @@ abbrev mutual
   HasShortBases (SumOf bs) = HaveShortBases bs
   HasShortBases (ProductOf bs) = HaveShortBases bs
   HasShortBases (MaximumOf bs) = HaveShortBases bs
-  HasShortBases (PowerOf c e) = (c < 2 ^ 64) × HasShortBases e
+  HasShortBases (PowerOf c e) = (c < too_large_base) × HasShortBases e
 
   pub HaveShortBases : Parts → Type 0
   HaveShortBases NoParts = ⊤

@@ -29,7 +29,7 @@ use crate::fault::{Fault, Kind};
 use crate::piece::{Piece, inner_of, is_open, word_of};
 use crate::place::RightPlace;
 use expr_reader::{Expression, Piece as Inner};
-use model::{PLACE_LIMIT, TOKEN_LIMIT, VARIABLE_LIMIT};
+use model::{COEFFICIENT_LIMIT, PLACE_LIMIT, TOKEN_LIMIT, VARIABLE_LIMIT};
 use text_core::value_up_to;
 
 // Whether a name is `Com_` and digits.
@@ -125,7 +125,8 @@ fn exceeds(digits: &[u8]) -> bool
     requires { IsTrue (list_all is_ascii_digit digits.now) }
     ensures { result ≡ nat_lt coefficient_limit (number_of digits.now) }
 {
-    value_up_to(1 << 63, digits) == 1 << 63
+    let behind = COEFFICIENT_LIMIT as u128 + 1;
+    value_up_to(behind, digits) == behind
 }
 
 /// Whether an expression can begin with a piece.

@@ -3,10 +3,14 @@ use Rattle.std.specs.Prelude.{ℕ, Bool, ◌&&◌, ◌<◌, if◌then◌else◌,
 use Rattle.model.specs.Terms.{Term, Literal, Variable, Negation, Addition, Subtraction, Multiplication, Exponentiation}
 use Rattle.model.specs.Terms.{value}
 
+-- what an integer of 128 bits is below, and at least the opposite of: 2^127
+abbrev pub value_limit : ℕ
+value_limit = 170141183460469231731687303715884105728
+
 -- an integer is one of 128 bits: from -2^127 to 2^127 - 1
 abbrev pub fits : ℤ → Bool
-fits (pos n) = nat_lt n 170141183460469231731687303715884105728
-fits (negsuc n) = nat_lt n 170141183460469231731687303715884105728
+fits (pos n) = nat_lt n value_limit
+fits (negsuc n) = nat_lt n value_limit
 
 -- the value of each subexpression is an integer of 128 bits
 abbrev pub values_fit : Term → List ℤ → Bool

@@ -1,5 +1,5 @@
 -- The table while it is being filled: whole numbers that are known.
-use Rattle.std.specs.Prelude.{◌≡◌, ℕ, zero, suc, ◌+◌, ◌-◌, ◌<◌, ◌^◌, ℤ, pos, ◌-ℤ◌, ◌*ℤ◌, unsigned_abs, nat_lt, nat_eq}
+use Rattle.std.specs.Prelude.{◌≡◌, ℕ, zero, suc, ◌+◌, ◌-◌, ◌<◌, ℤ, pos, ◌-ℤ◌, ◌*ℤ◌, unsigned_abs, nat_lt, nat_eq}
 use Rattle.std.specs.Prelude.{if◌then◌else◌, List, Some, slice_index_or}
 use Rattle.int_laws.specs.Sums.{sum_to}
 use Rattle.frac128.specs.declared.frac.Frac.{Frac}
@@ -7,6 +7,7 @@ use Rattle.simplex_core.specs.declared.dense_table.DenseTable.{DenseTable}
 use Rattle.simplex_core.specs.declared.problem.Entry.{Entry}
 use Rattle.simplex_core.specs.Tableau.{sign_of}
 use Rattle.simplex_core.specs.Problem.{entry_value}
+use Rattle.simplex_core.specs.Sizes.{number_limit}
 use Rattle.simplex_core.specs.Cells.{width, cell, ChangesCell}
 
 -- each number of the table is the whole number g i j
@@ -43,7 +44,7 @@ with_costs m g first second k i j =
 -- the equations' numbers in the program's columns are below 2^31 in absolute value
 pub record HasSmallEquations (table : DenseTable) : Type 0 where
   pub each : (i j : ℕ) (f : Frac) → i < table.rows → j < table.columns → cell table i j ≡ Some f
-      → unsigned_abs f.num < 2 ^ 31
+      → unsigned_abs f.num < number_limit
 
 -- the equations' numbers are as before
 pub record KeepsEquations (old new : DenseTable) : Type 0 where

@@ -1,29 +1,30 @@
 -- The numbers and the cells of a problem.
-use Rattle.std.specs.Prelude.{◌≡◌, ◌≢◌, ℕ, ◌<◌, ◌≤◌, ◌^◌, ℤ, pos, unsigned_abs, List, Some, slice_get, slice_index_or}
+use Rattle.std.specs.Prelude.{◌≡◌, ◌≢◌, ℕ, ◌<◌, ◌≤◌, ℤ, pos, unsigned_abs, List, Some, slice_get, slice_index_or}
 use Rattle.std.specs.Prelude.{length}
 use Rattle.simplex_core.specs.declared.problem.Entry.{Entry}
 use Rattle.simplex_core.specs.declared.problem.Problem.{Problem}
+use Rattle.simplex_core.specs.Sizes.{number_limit}
 
 -- each of the numbers is below 2^31 in absolute value
 pub record AreNumbersSmall (numbers : List ℤ) : Type 0 where
-  pub each : (k : ℕ) → k < length numbers → unsigned_abs (slice_index_or numbers k (pos 0)) < 2 ^ 31
+  pub each : (k : ℕ) → k < length numbers → unsigned_abs (slice_index_or numbers k (pos 0)) < number_limit
 
 -- one of the numbers is 2^31 or more in absolute value
 pub record IsOneAbove (numbers : List ℤ) : Type 0 where
   pub position : ℕ
   pub within : position < length numbers
-  pub above : 2 ^ 31 ≤ unsigned_abs (slice_index_or numbers position (pos 0))
+  pub above : number_limit ≤ unsigned_abs (slice_index_or numbers position (pos 0))
 
 -- each entry's number is below 2^31 in absolute value
 pub record AreEntriesBelow (entries : List Entry) : Type 0 where
-  pub each : (k : ℕ) (e : Entry) → slice_get entries k ≡ Some e → unsigned_abs e.value < 2 ^ 31
+  pub each : (k : ℕ) (e : Entry) → slice_get entries k ≡ Some e → unsigned_abs e.value < number_limit
 
 -- one of the entries' numbers is 2^31 or more in absolute value
 pub record IsOneEntryAbove (entries : List Entry) : Type 0 where
   pub position : ℕ
   pub entry : Entry
   pub is : slice_get entries position ≡ Some entry
-  pub above : 2 ^ 31 ≤ unsigned_abs entry.value
+  pub above : number_limit ≤ unsigned_abs entry.value
 
 -- the entries lie inside the table, and no cell has two
 pub record AreInCells (rows columns : ℕ) (entries : List Entry) : Type 0 where

@@ -1,5 +1,5 @@
 -- What `solve` answers: the end of the sequence of tableaux, or the limit that it trips.
-use Rattle.std.specs.Prelude.{◌≡◌, ℕ, ◌^◌, ◌<◌, ◌≤◌, ℤ, pos, ◌*ℤ◌, ◌<ℤ◌, unsigned_abs, List, length, slice_get}
+use Rattle.std.specs.Prelude.{◌≡◌, ℕ, ◌<◌, ◌≤◌, ℤ, pos, ◌*ℤ◌, ◌<ℤ◌, unsigned_abs, List, length, slice_get}
 use Rattle.std.specs.Prelude.{slice_index, Some, None, false, true, Result, MatchResult, ◌≢◌, ◌⊎◌}
 use Rattle.frac128.specs.declared.frac.Frac.{Frac}
 use Rattle.frac128.specs.Fraction.{IsFraction}
@@ -13,11 +13,12 @@ use Rattle.simplex_core.specs.Tableau.{Tableau, unknowns, cost_row}
 use Rattle.simplex_core.specs.Bland.{is_infeasible, entering, dual_of, next, tableau_at}
 use Rattle.simplex_core.specs.Problem.{table_size, widest}
 use Rattle.simplex_core.specs.Positions.{InTable}
+use Rattle.simplex_core.specs.Sizes.{number_limit}
 
 -- in lowest terms, z over s has a numerator and a denominator below 2^31 in absolute value
 pub record IsSmallRatio (z s : ℤ) : Type 0 where
-  pub each : (n d : ℤ) → pos 0 <ℤ d → IsLowest n d → n *ℤ s ≡ z *ℤ d → (unsigned_abs n < 2 ^ 31)
-      × (unsigned_abs d < 2 ^ 31)
+  pub each : (n d : ℤ) → pos 0 <ℤ d → IsLowest n d → n *ℤ s ≡ z *ℤ d → (unsigned_abs n < number_limit)
+      × (unsigned_abs d < number_limit)
 
 -- each number of the tableau is in range; a cost row has no right side
 pub record IsInRange (p : LinearProgram) (t : Tableau) : Type 0 where

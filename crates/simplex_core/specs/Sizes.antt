@@ -2,6 +2,10 @@
 use Rattle.std.specs.Prelude.{ℕ, ◌^◌, ◌<◌, unsigned_abs}
 use Rattle.frac128.specs.declared.frac.Frac.{Frac}
 
+-- what the numbers of a problem, and the numerators and denominators of a tableau, are below in absolute value
+abbrev pub number_limit : ℕ
+number_limit = 2 ^ 31
+
 -- numerator and denominator are below 2^bits in absolute value
 pub record IsBelow (bits : ℕ) (f : Frac) : Type 0 where
   pub num : unsigned_abs f.num < 2 ^ bits

@@ -5,22 +5,25 @@ ghost use Rattle.std.specs.Prelude.{◌≡◌, ◌≢◌, ℕ, ◌^◌, ◌<◌,
 ghost use Rattle.std.specs.Prelude.{unsigned_abs, MatchBool};
 ghost use Rattle.frac128.specs.Fraction.{IsFraction};
 ghost use Rattle.simplex_core.specs.Tableau.{sign_of};
-ghost use Rattle.simplex_core.specs.Sizes.{IsBelow};
+ghost use Rattle.simplex_core.specs.Sizes.{number_limit, IsBelow};
 
 use frac128::Frac;
+
+/// What the numbers of a problem, and the numerators and denominators of a tableau, are below in absolute value: 2^31.
+pub(crate) const NUMBER_LIMIT: u128 = 1 << 31;
 
 /// Whether numerator and denominator are below 2^31.
 pub(crate) fn is_small(number: Frac) -> bool
     ensures { MatchBool result (IsBelow 31 number) (¬ IsBelow 31 number) }
 {
-    number.num.unsigned_abs() < 1 << 31 && number.den.unsigned_abs() < 1 << 31
+    number.num.unsigned_abs() < NUMBER_LIMIT && number.den.unsigned_abs() < NUMBER_LIMIT
 }
 
 /// A number of a problem, with the sign that makes its row's right side at least 0.
 pub(crate) fn signed(value: i128, right: i128) -> i128
-    requires { unsigned_abs value < 2 ^ 31 }
+    requires { unsigned_abs value < number_limit }
     ensures value { result ≡ sign_of right *ℤ value }
-    ensures bounded { unsigned_abs result < 2 ^ 31 }
+    ensures bounded { unsigned_abs result < number_limit }
 {
     if right < 0 { -value } else { value }
 }
