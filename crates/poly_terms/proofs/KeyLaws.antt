@@ -1,6 +1,6 @@
 -- Sums over packed monomials, whose rows of products are merged.
 use Rattle.std.proofs.Common.{◌≡◌, ℕ, ◌+◌, ◌<◌, ◌≤◌, List, [], ◌∷◌, ◌++◌, map, length, drop, get_or}
-use Rattle.std.proofs.Common.{refl, ap, sym, ◌∙◌, subst, arith, true, append_assoc}
+use Rattle.std.proofs.Common.{refl, ap, sym, ◌∙◌, subst, arith, true, append_assoc, max}
 use Rattle.std.specs.Prelude.{ℤ, pos, ◌+ℤ◌, ◌*ℤ◌}
 use Rattle.std.proofs.lemmas.Int.{ints}
 use Rattle.std.proofs.lemmas.List.{drop_more}
@@ -9,9 +9,11 @@ use Rattle.model.specs.Polynomials as plain
 use Rattle.model.specs.Polynomials.{degree_of}
 use Rattle.poly_terms.specs.declared.keyed.Keyed.{Keyed}
 use Rattle.poly_terms.specs.Expanding.{products, product_of, sum_of}
-use Rattle.poly_terms.specs.Keys.{factors_at, monomials_at, ascend_from, product_at, all_products, total_at, HasSameTotals}
+use Rattle.poly_terms.specs.Keys.{factors_at, monomials_at, ascend_from, product_at, all_products, total_at}
+use Rattle.poly_terms.specs.Keys.{reach_at, IsMergedFrom}
 use Rattle.poly_terms.specs.Totals.{total, IsSamePolynomial}
 use Rattle.poly_terms.proofs.FactorLaws.{products-at}
+use Rattle.poly_terms.proofs.FormLaws.{degree-products}
 use Rattle.poly_terms.proofs.TotalLaws.{same-sums}
 
 -- the totals of two lists, one after the other
@@ -25,37 +27,48 @@ total-at-append h (e ∷ es) fs = regroup _ _ _ _ (total-at-append h es fs)
     regroup : (a b c d : ℤ) → a ≡ b +ℤ c → d +ℤ a ≡ (d +ℤ b) +ℤ c
     regroup a b c d e = omega (arith, ints)
 
+-- the reach of two lists, one after the other
+reach-append : (d : ℕ → ℕ) (es fs : List Keyed) → reach_at d (es ++ fs) ≡ max (reach_at d es) (reach_at d fs)
+reach-append d [] fs = omega arith
+reach-append d (e ∷ es) fs = omega (arith, reach-append d es fs)
+
 -- the same list
-pub same-list : (es fs : List Keyed) → es ≡ fs → HasSameTotals es fs
-same-list es fs e = record { totals = λ h. ap (total_at h) e }
+pub same-list : (es fs : List Keyed) → es ≡ fs → IsMergedFrom es fs
+same-list es fs e = record { totals = λ h. ap (total_at h) e; reach = λ d. omega (arith, ap (reach_at d) e) }
 
 -- one after the other
-pub same-then : (es fs gs : List Keyed) → HasSameTotals es fs → HasSameTotals fs gs → HasSameTotals es gs
-same-then es fs gs p q = record { totals = λ h. p.totals h ∙ q.totals h }
+pub same-then : (es fs gs : List Keyed) → IsMergedFrom es fs → IsMergedFrom fs gs → IsMergedFrom es gs
+same-then es fs gs p q = record {
+  totals = λ h. p.totals h ∙ q.totals h;
+  reach = λ d. omega (arith, p.reach d, q.reach d);
+}
 
 -- a monomial put behind others
-pub put-behind : (ms rest : List Keyed) (f : Keyed) → HasSameTotals ((ms ++ f ∷ []) ++ rest) (f ∷ (ms ++ rest))
+pub put-behind : (ms rest : List Keyed) (f : Keyed) → IsMergedFrom ((ms ++ f ∷ []) ++ rest) (f ∷ (ms ++ rest))
 put-behind ms rest f = record {
   totals = λ h. regroup _ _ _ _ _ _ (total-at-append h (ms ++ f ∷ []) rest) (total-at-append h ms (f ∷ [])) (total-at-append h ms rest);
+  reach = λ d. omega (arith, reach-append d (ms ++ f ∷ []) rest, reach-append d ms (f ∷ []), reach-append d ms rest);
 }
   where
     regroup : (a b c d e f : ℤ) → a ≡ b +ℤ c → b ≡ d +ℤ (e +ℤ pos 0) → f ≡ d +ℤ c → a ≡ e +ℤ f
     regroup a b c d e f p q r = omega (arith, ints, p, q, r)
 
 -- others behind both
-pub others-behind : (ns ms rest : List Keyed) (e f : Keyed) → HasSameTotals ns (f ∷ (ms ++ e ∷ []))
-    → HasSameTotals (ns ++ rest) (f ∷ (ms ++ e ∷ rest))
+pub others-behind : (ns ms rest : List Keyed) (e f : Keyed) → IsMergedFrom ns (f ∷ (ms ++ e ∷ []))
+    → IsMergedFrom (ns ++ rest) (f ∷ (ms ++ e ∷ rest))
 others-behind ns ms rest e f p = record {
   totals = λ h. regroup _ _ _ _ _ _ _ _ (total-at-append h ns rest) (p.totals h) (total-at-append h ms (e ∷ [])) (total-at-append h ms (e ∷ rest));
+  reach = λ d. omega (arith, reach-append d ns rest, p.reach d, reach-append d ms (e ∷ []), reach-append d ms (e ∷ rest));
 }
   where
     regroup : (a b c d x y z w : ℤ) → a ≡ b +ℤ c → b ≡ d +ℤ x → x ≡ y +ℤ (z +ℤ pos 0) → w ≡ y +ℤ (z +ℤ c) → a ≡ d +ℤ w
     regroup a b c d x y z w p q r s = omega (arith, ints, p, q, r, s)
 
 -- two monomials with the same key whose sum is 0
-pub sum-gone : (ms : List Keyed) (e f : Keyed) → e.key ≡ f.key → e.coef +ℤ f.coef ≡ pos 0 → HasSameTotals ms (f ∷ (ms ++ e ∷ []))
+pub sum-gone : (ms : List Keyed) (e f : Keyed) → e.key ≡ f.key → e.coef +ℤ f.coef ≡ pos 0 → IsMergedFrom ms (f ∷ (ms ++ e ∷ []))
 sum-gone ms e f k z = record {
   totals = λ h. regroup (total_at h ms) _ e.coef f.coef (h e.key) (h f.key) (ap h k) z (total-at-append h ms (e ∷ []));
+  reach = λ d. omega (arith, reach-append d ms (e ∷ []));
 }
   where
     regroup : (a b x y v w : ℤ) → v ≡ w → x +ℤ y ≡ pos 0 → b ≡ a +ℤ ((x *ℤ v) +ℤ pos 0) → a ≡ (y *ℤ w) +ℤ b
@@ -63,10 +76,11 @@ sum-gone ms e f k z = record {
 
 -- and whose sum is put behind
 pub sum-behind : (ms : List Keyed) (e f s : Keyed) → e.key ≡ f.key → s.key ≡ f.key → s.coef ≡ e.coef +ℤ f.coef
-    → HasSameTotals (ms ++ s ∷ []) (f ∷ (ms ++ e ∷ []))
+    → IsMergedFrom (ms ++ s ∷ []) (f ∷ (ms ++ e ∷ []))
 sum-behind ms e f s k l z = record {
   totals = λ h. regroup (total_at h ms) _ _ e.coef f.coef s.coef (h e.key) (h f.key) (h s.key) (ap h k) (ap h l) z
       (total-at-append h ms (e ∷ [])) (total-at-append h ms (s ∷ []));
+  reach = λ d. omega (arith, reach-append d ms (s ∷ []), reach-append d ms (e ∷ []), ap d l);
 }
   where
     regroup : (a b c x y t u v w : ℤ) → u ≡ v → w ≡ v → t ≡ x +ℤ y → b ≡ a +ℤ ((x *ℤ u) +ℤ pos 0) → c ≡ a +ℤ ((t *ℤ w) +ℤ pos 0)
@@ -75,23 +89,25 @@ sum-behind ms e f s k l z = record {
         omega (arith, ints, r, s, add-mul_ℤ x y v, ap (λ (z : ℤ). z *ℤ v) g, ap (λ (z : ℤ). x *ℤ z) e, ap (λ (z : ℤ). t *ℤ z) f)
 
 -- a step along a row: the next product is put in
-pub row-step : (xs ys zs rest whole : List Keyed) (f : Keyed) → ys ≡ xs → HasSameTotals zs (f ∷ ys)
-    → HasSameTotals (xs ++ f ∷ rest) whole → HasSameTotals (zs ++ rest) whole
+pub row-step : (xs ys zs rest whole : List Keyed) (f : Keyed) → ys ≡ xs → IsMergedFrom zs (f ∷ ys)
+    → IsMergedFrom (xs ++ f ∷ rest) whole → IsMergedFrom (zs ++ rest) whole
 row-step xs ys zs rest whole f e p q = record {
   totals = λ h. regroup _ _ _ _ _ _ _ (total-at-append h zs rest) (p.totals h) (ap (total_at h) e) (total-at-append h xs (f ∷ rest))
       ∙ q.totals h;
+  reach = λ d. omega (arith, reach-append d zs rest, p.reach d, ap (reach_at d) e, reach-append d xs (f ∷ rest), q.reach d);
 }
   where
     regroup : (a b c d x y w : ℤ) → a ≡ b +ℤ c → b ≡ d +ℤ x → x ≡ y → w ≡ y +ℤ (d +ℤ c) → a ≡ w
     regroup a b c d x y w p q r s = omega (arith, ints, p, q, r, s)
 
 -- a step along the rows: the next row is merged in
-pub rows-step : (xs row zs rest whole : List Keyed) → HasSameTotals zs (xs ++ row) → HasSameTotals (xs ++ (row ++ rest)) whole
-    → HasSameTotals (zs ++ rest) whole
+pub rows-step : (xs row zs rest whole : List Keyed) → IsMergedFrom zs (xs ++ row) → IsMergedFrom (xs ++ (row ++ rest)) whole
+    → IsMergedFrom (zs ++ rest) whole
 rows-step xs row zs rest whole p q = record {
   totals = λ h. total-at-append h zs rest
       ∙ (ap (λ (z : ℤ). z +ℤ total_at h rest) (p.totals h)
       ∙ (sym (total-at-append h (xs ++ row) rest) ∙ (ap (total_at h) (append_assoc xs row rest) ∙ q.totals h)));
+  reach = λ d. omega (arith, reach-append d zs rest, p.reach d, reach-append d xs row, reach-append d xs (row ++ rest), reach-append d row rest, q.reach d);
 }
 
 -- what is left from i on is the one at i and the rest
@@ -104,10 +120,10 @@ pub moved : (ms es : List Keyed) (i : ℕ) (e : Keyed) → i < length es → e �
 moved ms es i e l f = append_assoc ms (e ∷ []) (drop (i + 1) es) ∙ ap (λ (us : List Keyed). ms ++ us) (sym (keyed-from es i e l f))
 
 -- one of them put together with the next product
-pub others-at : (ns ms es : List Keyed) (i : ℕ) (f d : Keyed) → i < length es → HasSameTotals ns (f ∷ (ms ++ get_or es i d ∷ []))
-    → HasSameTotals (ns ++ drop (i + 1) es) (f ∷ (ms ++ drop i es))
+pub others-at : (ns ms es : List Keyed) (i : ℕ) (f d : Keyed) → i < length es → IsMergedFrom ns (f ∷ (ms ++ get_or es i d ∷ []))
+    → IsMergedFrom (ns ++ drop (i + 1) es) (f ∷ (ms ++ drop i es))
 others-at ns ms es i f d l p =
-    subst (λ (rest : List Keyed). HasSameTotals (ns ++ drop (i + 1) es) (f ∷ (ms ++ rest))) (sym (drop_more es i d l))
+    subst (λ (rest : List Keyed). IsMergedFrom (ns ++ drop (i + 1) es) (f ∷ (ms ++ rest))) (sym (drop_more es i d l))
     (others-behind ns ms (drop (i + 1) es) (get_or es i d) f p)
 
 -- a column more: one monomial more in the second list
@@ -138,8 +154,31 @@ total-swapped h es (f ∷ fs) =
     ∙ (ap (λ (z : ℤ). total_at h (map (product_at f) es) +ℤ z) (total-swapped h es fs)
     ∙ sym (total-at-append h (map (product_at f) es) (all_products fs es)))
 
-pub same-swapped : (es fs : List Keyed) → HasSameTotals (all_products es fs) (all_products fs es)
-same-swapped es fs = record { totals = λ h. total-swapped h es fs }
+-- nor does it for the reach
+reach-none : (d : ℕ → ℕ) (es : List Keyed) → reach_at d (all_products es []) ≡ 0
+reach-none d [] = refl
+reach-none d (e ∷ es) = reach-none d es
+
+reach-column : (d : ℕ → ℕ) (es fs : List Keyed) (f : Keyed)
+    → reach_at d (all_products es (f ∷ fs)) ≡ max (reach_at d (map (product_at f) es)) (reach_at d (all_products es fs))
+reach-column d [] fs f = omega arith
+reach-column d (e ∷ es) fs f =
+    omega (
+      arith,
+      ap d (let k : e.key + f.key ≡ f.key + e.key = omega arith in k),
+      reach-append d (map (product_at e) fs) (all_products es (f ∷ fs)),
+      reach-append d (map (product_at e) fs) (all_products es fs),
+      reach-column d es fs f,
+    )
+
+reach-swapped : (d : ℕ → ℕ) (es fs : List Keyed) → reach_at d (all_products es fs) ≡ reach_at d (all_products fs es)
+reach-swapped d es [] = reach-none d es
+reach-swapped d es (f ∷ fs) =
+    omega (arith, reach-column d es fs f, reach-swapped d es fs, reach-append d (map (product_at f) es) (all_products fs es))
+
+-- the products are the same the other way round
+pub same-swapped : (es fs : List Keyed) → IsMergedFrom (all_products es fs) (all_products fs es)
+same-swapped es fs = record { totals = λ h. total-swapped h es fs; reach = λ d. omega (arith, reach-swapped d es fs) }
 
 -- a sum over packed monomials is one over the monomials
 total-monomials : (g : List ℕ → ℤ) (table : List ℕ) (es : List Keyed)
@@ -147,22 +186,45 @@ total-monomials : (g : List ℕ → ℤ) (table : List ℕ) (es : List Keyed)
 total-monomials g table [] = refl
 total-monomials g table (e ∷ es) = ap (λ (z : ℤ). (e.coef *ℤ g (factors_at table e.key)) +ℤ z) (total-monomials g table es)
 
+-- the reach of the numbers of factors is the degree
+degree-reach : (table : List ℕ) (es : List Keyed) → degree_of (monomials_at table es) ≡ reach_at (λ k. length (factors_at table k)) es
+degree-reach table [] = refl
+degree-reach table (e ∷ es) = ap (max (length (factors_at table e.key))) (degree-reach table es)
+
+-- what is merged has no higher degree
+pub degree-merged : (table : List ℕ) (es fs : List Keyed) → IsMergedFrom es fs
+    → degree_of (monomials_at table es) ≤ degree_of (monomials_at table fs)
+degree-merged table es fs h =
+    omega (arith, degree-reach table es, degree-reach table fs, h.reach (λ k. length (factors_at table k)))
+
+-- what is merged from products has at most the sum of the degrees
+pub degree-merged-products : (table : List ℕ) (es fs ks : List Keyed) → ascend_from 0 table ≡ true
+    → degree_of (monomials_at table es) + degree_of (monomials_at table fs) ≤ 15 → IsMergedFrom ks (all_products es fs)
+    → degree_of (monomials_at table ks) ≤ degree_of (monomials_at table es) + degree_of (monomials_at table fs)
+degree-merged-products table es fs ks h l s =
+    omega (
+      arith,
+      degree-merged table ks (all_products es fs) s,
+      ap degree_of (products-at table es fs h l),
+      degree-products (monomials_at table es) (monomials_at table fs),
+    )
+
 -- with the same sums they are the same polynomial
-same-at : (table : List ℕ) (es fs : List Keyed) → HasSameTotals es fs → IsSamePolynomial (monomials_at table es) (monomials_at table fs)
+pub same-at : (table : List ℕ) (es fs : List Keyed) → IsMergedFrom es fs → IsSamePolynomial (monomials_at table es) (monomials_at table fs)
 same-at table es fs h = record {
   totals = λ g. total-monomials g table es ∙ (h.totals (λ k. g (factors_at table k)) ∙ sym (total-monomials g table fs));
 }
 
 -- a list with the sums of all products is the polynomial that these are
 pub same-products-at : (table : List ℕ) (es fs ks : List Keyed) → ascend_from 0 table ≡ true
-    → degree_of (monomials_at table es) + degree_of (monomials_at table fs) ≤ 15 → HasSameTotals ks (all_products es fs)
+    → degree_of (monomials_at table es) + degree_of (monomials_at table fs) ≤ 15 → IsMergedFrom ks (all_products es fs)
     → IsSamePolynomial (monomials_at table ks) (products (monomials_at table es) (monomials_at table fs))
 same-products-at table es fs ks h l s =
     subst (IsSamePolynomial (monomials_at table ks)) (products-at table es fs h l) (same-at table ks (all_products es fs) s)
 
 -- and its sum is the product
 pub product-at : (table : List ℕ) (es fs ks : List Keyed) (p q : plain.Polynomial) → monomials_at table es ≡ p → monomials_at table fs ≡ q
-    → ascend_from 0 table ≡ true → degree_of p + degree_of q ≤ 15 → HasSameTotals ks (all_products es fs)
+    → ascend_from 0 table ≡ true → degree_of p + degree_of q ≤ 15 → IsMergedFrom ks (all_products es fs)
     → sum_of [] (monomials_at table ks) ≡ product_of p q
 product-at table es fs ks p q e f h l s =
     same-sums (monomials_at table ks) (products (monomials_at table es) (monomials_at table fs))
@@ -171,18 +233,18 @@ product-at table es fs ks p q e f h l s =
 
 -- the next product of a row is the next to be put in
 pub row-next : (xs right whole : List Keyed) (e d f : Keyed) (k : ℕ) → k < length right → f ≡ product_at e (get_or right k d)
-    → HasSameTotals (xs ++ map (product_at e) (drop k right)) whole
-    → HasSameTotals (xs ++ f ∷ map (product_at e) (drop (k + 1) right)) whole
+    → IsMergedFrom (xs ++ map (product_at e) (drop k right)) whole
+    → IsMergedFrom (xs ++ f ∷ map (product_at e) (drop (k + 1) right)) whole
 row-next xs right whole e d f k l is p =
-    subst (λ (g : Keyed). HasSameTotals (xs ++ g ∷ map (product_at e) (drop (k + 1) right)) whole) (sym is)
-    (subst (λ (es : List Keyed). HasSameTotals (xs ++ map (product_at e) es) whole) (drop_more right k d l) p)
+    subst (λ (g : Keyed). IsMergedFrom (xs ++ g ∷ map (product_at e) (drop (k + 1) right)) whole) (sym is)
+    (subst (λ (es : List Keyed). IsMergedFrom (xs ++ map (product_at e) es) whole) (drop_more right k d l) p)
 
 -- the next row is the next to be merged in
 pub rows-next : (xs ys left right zs whole : List Keyed) (d : Keyed) (k : ℕ) → k < length left → ys ≡ xs
-    → HasSameTotals zs (ys ++ map (product_at (get_or left k d)) right)
-    → HasSameTotals (xs ++ all_products (drop k left) right) whole
-    → HasSameTotals (zs ++ all_products (drop (k + 1) left) right) whole
+    → IsMergedFrom zs (ys ++ map (product_at (get_or left k d)) right)
+    → IsMergedFrom (xs ++ all_products (drop k left) right) whole
+    → IsMergedFrom (zs ++ all_products (drop (k + 1) left) right) whole
 rows-next xs ys left right zs whole d k l is p q =
     rows-step xs (map (product_at (get_or left k d)) right) zs (all_products (drop (k + 1) left) right) whole
-    (subst (λ (us : List Keyed). HasSameTotals zs (us ++ map (product_at (get_or left k d)) right)) is p)
-    (subst (λ (es : List Keyed). HasSameTotals (xs ++ all_products es right) whole) (drop_more left k d l) q)
+    (subst (λ (us : List Keyed). IsMergedFrom zs (us ++ map (product_at (get_or left k d)) right)) is p)
+    (subst (λ (es : List Keyed). IsMergedFrom (xs ++ all_products es right) whole) (drop_more left k d l) q)

@@ -16,6 +16,7 @@ pub mod VariableLaws
 pub mod TotalLaws
 pub mod FormLaws
 mod FactorLaws
+mod KeyFormLaws
 mod KeyLaws
 mod UnpackingLaws
 mod WorkedForms

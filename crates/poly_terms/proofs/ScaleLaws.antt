@@ -5,9 +5,8 @@ use Rattle.std.proofs.lemmas.Bool.Decides.{nat_tests}
 use Rattle.std.proofs.lemmas.Int.{ints, unsigned_abs-mul}
 use Rattle.std.proofs.Math.Nat.{mul-le-mul}
 use Rattle.int_laws.specs.NormalForm.{is_zero}
-use Rattle.int_laws.specs.Polynomial.{variable}
 use Rattle.model.specs.Polynomials.{Polynomial}
-use Rattle.poly_terms.specs.Expanding.{all_added, without_zeros, opposite, inserted, all_inserted, multiplied, products, product_of, one}
+use Rattle.poly_terms.specs.Expanding.{all_added, without_zeros, opposite, inserted, all_inserted, products, product_of, one}
 use Rattle.poly_terms.specs.Ordered.{IsBefore, IsAscending, AreFrom, AscendWeakly, HasNoZero, HasFactorsInOrder, IsOrdered}
 use Rattle.poly_terms.specs.Scaling.{times, constant}
 use Rattle.poly_terms.proofs.Values.{zero_is}

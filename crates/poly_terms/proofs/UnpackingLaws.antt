@@ -1,5 +1,5 @@
 -- Packed monomials added one by one, and what packed powers say of the powers.
-use Rattle.std.proofs.Common.{◌≡◌, ℕ, zero, suc, ◌+◌, ◌<◌, ◌≤◌, ◌||◌, List, [], ◌∷◌, length, drop, get_or}
+use Rattle.std.proofs.Common.{◌≡◌, ℕ, zero, suc, ◌+◌, ◌*◌, ◌<◌, ◌≤◌, ◌||◌, List, [], ◌∷◌, length, drop, get_or}
 use Rattle.std.proofs.Common.{Bool, true, false, refl, ap, sym, ◌∙◌, subst, arith, nat_lt, if◌then◌else◌}
 use Rattle.std.specs.Prelude.{Option, Some, None, nat_abs, pos}
 use Rattle.std.proofs.lemmas.Bool.Decides.{nat_tests}
@@ -7,12 +7,12 @@ use Rattle.std.proofs.lemmas.List.{drop_more, length-map}
 use Rattle.model.specs.Limits.{monomial_limit, degree_limit}
 use Rattle.model.specs.Polynomials.{Monomial, Polynomial, degree_of}
 use Rattle.poly_terms.specs.declared.keyed.Keyed.{Keyed}
-use Rattle.poly_terms.specs.Expanding.{added, all_added, sum_of, products, product_of, power_of}
+use Rattle.poly_terms.specs.Expanding.{added, all_added, sum_of, products, power_of}
 use Rattle.poly_terms.specs.Faults.{Fault, LargeCoefficient, ManyTerms, HighDegree, has_large, fault_in, or_else}
 use Rattle.poly_terms.specs.Powers.{faults_of_powers, IsPowerWithout}
 use Rattle.poly_terms.specs.Keys.{factors_at, monomial_at, monomials_at, ascend_from, norm_at, IsModest, IsPowerAt}
-use Rattle.poly_terms.specs.Totals.{norm}
-use Rattle.poly_terms.proofs.KeyLaws.{same-products-at}
+use Rattle.poly_terms.specs.Totals.{norm, IsSamePolynomial}
+use Rattle.poly_terms.proofs.KeyLaws.{degree-merged-products, same-products-at}
 use Rattle.poly_terms.proofs.TotalLaws.{same-sums, same-from_sum, same-products}
 use Rattle.poly_terms.proofs.FormLaws.{shorter-sum_of, narrow-sum_of, degree-sum_of}
 
@@ -54,51 +54,61 @@ none-within q k h l d e = go (has_large q) (nat_lt monomial_limit (length q)) (n
     go a b c d e f g h =
         λ i. if e i then Some LargeCoefficient else (if f i then Some ManyTerms else (if g i || h i then Some HighDegree else None))
 
--- a list that stands for a power has the power as its sum
-power-at : (table : List ℕ) (factor : List Keyed) (n : ℕ) (es : List Keyed) → ascend_from 0 table ≡ true
-    → degree_of (monomials_at table factor) ≤ degree_limit → IsPowerAt table factor n es
-    → sum_of [] (monomials_at table es) ≡ power_of (monomials_at table factor) n
-power-at table factor zero es a d h =
+-- a list that stands for a power has at most so many times the factor's degree
+pub degree-power-at : (table : List ℕ) (factor : List Keyed) (n : ℕ) (es : List Keyed) → ascend_from 0 table ≡ true
+    → n * degree_of (monomials_at table factor) ≤ degree_limit → IsPowerAt factor n es
+    → degree_of (monomials_at table es) ≤ n * degree_of (monomials_at table factor)
+degree-power-at table factor zero es a d h =
+    omega (arith, ap (λ (fs : List Keyed). degree_of (monomials_at table fs)) h, ap length (factors-zero table))
+degree-power-at table factor (suc n) es a d h =
+    let lower = degree-power-at table factor n h.before a (omega (arith, d)) h.lower in
+    omega (arith, lower, degree-merged-products table h.before factor es a (omega (arith, d, lower)) h.product)
+
+-- its sum is the power of the polynomial that the factor is
+pub power-at : (table : List ℕ) (factor : List Keyed) (p : Polynomial) (n : ℕ) (es : List Keyed) → ascend_from 0 table ≡ true
+    → IsSamePolynomial (monomials_at table factor) p → n * degree_of (monomials_at table factor) ≤ degree_limit → IsPowerAt factor n es
+    → sum_of [] (monomials_at table es) ≡ power_of p n
+power-at table factor p zero es a s d h =
     ap (λ (fs : List Keyed). sum_of [] (monomials_at table fs)) h
     ∙ ap (λ (vs : List ℕ). sum_of [] (record { coef = pos 1; vars = vs } ∷ [])) (factors-zero table)
-power-at table factor (suc n) es a d h =
-    let p = monomials_at table factor in
+power-at table factor p (suc n) es a s d h =
+    let q = monomials_at table factor in
     let ms = monomials_at table h.before in
-    let lower = power-at table factor n h.before a d h.lower in
-    same-sums (monomials_at table es) (products ms p)
-    (same-products-at table h.before factor es a (omega (arith, d, h.modest.degree)) h.product)
-    ∙ multiplied-sums ms p (power_of p n) lower
-  where
-    multiplied-sums : (ms p q : Polynomial) → sum_of [] ms ≡ q → sum_of [] (products ms p) ≡ product_of q p
-    multiplied-sums ms p q e =
-        same-sums (products ms p) (products q p)
-        (same-products ms q p p (same-from_sum ms q e) (record { totals = λ g. refl }))
+    let below : n * degree_of q ≤ degree_limit = omega (arith, d) in
+    let lower = power-at table factor p n h.before a s below h.lower in
+    let few : degree_of ms + degree_of q ≤ 15 = omega (arith, d, degree-power-at table factor n h.before a below h.lower) in
+    same-sums (monomials_at table es) (products (power_of p n) p)
+    (record {
+      totals = λ g. (same-products-at table h.before factor es a few h.product).totals g
+          ∙ (same-products ms (power_of p n) q p (same-from_sum ms (power_of p n) lower) s).totals g;
+    })
 
--- the sum of a modest list has no fault
-none-modest : (table : List ℕ) (es : List Keyed) (q : Polynomial) (k : ℕ) → IsModest table es → sum_of [] (monomials_at table es) ≡ q
-    → k ≤ degree_limit → fault_in q k ≡ None
-none-modest table es q k h e l =
+-- the sum of a modest list of low degree has no fault
+pub none-modest : (table : List ℕ) (es : List Keyed) (q : Polynomial) (k : ℕ) → IsModest es → sum_of [] (monomials_at table es) ≡ q
+    → degree_of (monomials_at table es) ≤ degree_limit → k ≤ degree_limit → fault_in q k ≡ None
+none-modest table es q k h e d l =
     let ms = monomials_at table es in
     subst (λ (r : Polynomial). fault_in r k ≡ None) e
     (none-within (sum_of [] ms) k (narrow-sum_of ms (omega (arith, norm-monomials table es, h.coefficients)))
     (omega (arith, shorter-sum_of ms, length-map es (monomial_at table), h.terms))
-    (omega (arith, degree-sum_of ms, h.degree)) l)
+    (omega (arith, degree-sum_of ms, d)) l)
 
 -- the powers below one that a list stands for have no fault
-none-below : (table : List ℕ) (factor : List Keyed) (n : ℕ) (es : List Keyed) → ascend_from 0 table ≡ true
-    → degree_of (monomials_at table factor) ≤ degree_limit → n ≤ degree_limit → IsPowerAt table factor (suc n) es
-    → faults_of_powers (monomials_at table factor) n ≡ None
-none-below table factor zero es a d l h = refl
-none-below table factor (suc n) es a d l h =
-    let p = monomials_at table factor in
-    (λ i. or_else (none-below table factor n h.before a d (omega arith) h.lower i)
-    (none-modest table h.before (power_of p (suc n)) (suc n) h.modest (power-at table factor (suc n) h.before a d h.lower) l i))
+pub none-below : (table : List ℕ) (factor : List Keyed) (p : Polynomial) (n : ℕ) (es : List Keyed) → ascend_from 0 table ≡ true
+    → IsSamePolynomial (monomials_at table factor) p → suc n * degree_of (monomials_at table factor) ≤ degree_limit → n ≤ degree_limit
+    → IsPowerAt factor (suc n) es → faults_of_powers p n ≡ None
+none-below table factor p zero es a s d l h = refl
+none-below table factor p (suc n) es a s d l h =
+    let below : suc n * degree_of (monomials_at table factor) ≤ degree_limit = omega (arith, d) in
+    (λ i. or_else (none-below table factor p n h.before a s below (omega (arith, l)) h.lower i)
+    (none-modest table h.before (power_of p (suc n)) (suc n) h.modest (power-at table factor p (suc n) h.before a s below h.lower)
+    (omega (arith, below, degree-power-at table factor (suc n) h.before a below h.lower)) l i))
 
 -- a list that stands for a power from the first on has it as its sum, and no lower one has a fault
 pub power-without : (table : List ℕ) (factor : List Keyed) (n : ℕ) (es : List Keyed) (p q : Polynomial) → ascend_from 0 table ≡ true
-    → monomials_at table factor ≡ p → degree_of p ≤ degree_limit → 1 ≤ n → n ≤ degree_limit → IsPowerAt table factor n es
+    → monomials_at table factor ≡ p → n * degree_of p ≤ degree_limit → 1 ≤ n → n ≤ degree_limit → IsPowerAt factor n es
     → q ≡ sum_of [] (monomials_at table es) → IsPowerWithout p n q
-power-without table factor zero es p q a e d k l h is = absurd (omega arith)
+power-without table factor zero es p q a e d k l h is = absurd (omega (arith, k))
 power-without table factor (suc n) es p q a e d k l h is =
     subst (λ (r : Polynomial). IsPowerWithout r (suc n) q) e
     (record {
@@ -107,11 +117,14 @@ power-without table factor (suc n) es p q a e d k l h is =
           ∙ ap (λ (r : Polynomial). fault_in r (suc n)) (sym power);
     })
   where
-    low : degree_of (monomials_at table factor) ≤ degree_limit
-    low = omega (arith, d, ap degree_of e)
+    itself : IsSamePolynomial (monomials_at table factor) (monomials_at table factor)
+    itself = record { totals = λ g. refl }
+
+    low : suc n * degree_of (monomials_at table factor) ≤ degree_limit
+    low = subst (λ (r : Polynomial). suc n * degree_of r ≤ degree_limit) (sym e) d
 
     none : faults_of_powers (monomials_at table factor) n ≡ None
-    none = none-below table factor n es a low (omega (arith, l)) h
+    none = none-below table factor (monomials_at table factor) n es a itself low (omega (arith, l)) h
 
     power : q ≡ power_of (monomials_at table factor) (suc n)
-    power = is ∙ power-at table factor (suc n) es a low h
+    power = is ∙ power-at table factor (monomials_at table factor) (suc n) es a itself low h

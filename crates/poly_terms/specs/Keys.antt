@@ -1,9 +1,8 @@
 -- Monomials whose exponents are packed into one number, the key, and their products.
 use Rattle.std.specs.Prelude.{◌≡◌, ℕ, zero, suc, ◌≤◌, ◌+◌, ◌/◌, ◌%◌, Bool, true, false, nat_lt, if◌then◌else◌}
-use Rattle.std.specs.Prelude.{List, [], ◌∷◌, ◌++◌, map, length, replicate, ℤ, pos, ◌+ℤ◌, ◌*ℤ◌, nat_abs}
+use Rattle.std.specs.Prelude.{List, [], ◌∷◌, ◌++◌, map, length, replicate, max, ℤ, pos, ◌+ℤ◌, ◌*ℤ◌, nat_abs}
 use Rattle.model.specs.Limits.{coefficient_limit, monomial_limit}
 use Rattle.model.specs.Polynomials as plain
-use Rattle.model.specs.Polynomials.{degree_of}
 use Rattle.poly_terms.specs.declared.keyed.Keyed.{Keyed}
 
 -- the variables of a key: its digits in base 16, the last digit first, are how often each variable of the table is a
@@ -39,30 +38,35 @@ abbrev pub total_at : (ℕ → ℤ) → List Keyed → ℤ
 total_at h [] = pos 0
 total_at h (e ∷ es) = (e.coef *ℤ h e.key) +ℤ total_at h es
 
--- two lists of packed monomials have the same sums, whatever number stands for each key
-pub record HasSameTotals (es fs : List Keyed) : Type 0 where
+-- the greatest of a measure of the keys
+abbrev pub reach_at : (ℕ → ℕ) → List Keyed → ℕ
+reach_at d [] = 0
+reach_at d (e ∷ es) = max (d e.key) (reach_at d es)
+
+-- the first list is made from the second one by putting together and reordering: they have the same sums, whatever number
+-- stands for each key, and whatever measures a key, the first one's keys don't reach farther
+pub record IsMergedFrom (es fs : List Keyed) : Type 0 where
   pub totals : (h : ℕ → ℤ) → total_at h es ≡ total_at h fs
+  pub reach : (d : ℕ → ℕ) → reach_at d es ≤ reach_at d fs
 
 -- the sum of the absolute values of the coefficients
 abbrev pub norm_at : List Keyed → ℕ
 norm_at [] = 0
 norm_at (e ∷ es) = nat_abs e.coef + norm_at es
 
--- a list of packed monomials has few monomials, factors and small coefficients, so that its sum is without a fault and
--- may be multiplied by a polynomial of degree 8
-pub record IsModest (table : List ℕ) (es : List Keyed) : Type 0 where
+-- a list of packed monomials has few monomials and small coefficients, so that its sum has no fault but its degree
+pub record IsModest (es : List Keyed) : Type 0 where
   pub terms : length es ≤ monomial_limit
   pub coefficients : norm_at es ≤ coefficient_limit
-  pub degree : degree_of (monomials_at table es) ≤ 7
 
 -- a list stands for the product of another one, which is modest, with a factor
-pub record IsNextPower (IsLower : List Keyed → Type 0) (table : List ℕ) (factor es : List Keyed) : Type 0 where
+pub record IsNextPower (IsLower : List Keyed → Type 0) (factor es : List Keyed) : Type 0 where
   pub before : List Keyed
   pub lower : IsLower before
-  pub modest : IsModest table before
-  pub product : HasSameTotals es (all_products before factor)
+  pub modest : IsModest before
+  pub product : IsMergedFrom es (all_products before factor)
 
 -- a list stands for a power of a factor, and those for the lower powers are modest
-abbrev pub IsPowerAt : List ℕ → List Keyed → ℕ → List Keyed → Type 0
-IsPowerAt table factor zero es = es ≡ record { key = 0; coef = pos 1 } ∷ []
-IsPowerAt table factor (suc n) es = IsNextPower (IsPowerAt table factor n) table factor es
+abbrev pub IsPowerAt : List Keyed → ℕ → List Keyed → Type 0
+IsPowerAt factor zero es = es ≡ record { key = 0; coef = pos 1 } ∷ []
+IsPowerAt factor (suc n) es = IsNextPower (IsPowerAt factor n) factor es

@@ -18,3 +18,4 @@ pub mod Scaling
 pub mod Merging
 pub mod Totals
 pub mod Keys
+pub mod KeyForms

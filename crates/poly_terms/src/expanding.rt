@@ -13,6 +13,7 @@ ghost use Rattle.poly_terms.specs.Operands.{GivesBoth};
 
 use crate::Memory;
 use crate::expr::Expr;
+use crate::key_form::{difference_by_keys, expansion_by_keys};
 use crate::key_power::power_by_keys;
 use crate::limits::limited;
 use crate::nonzero::push_nonzero;
@@ -36,7 +37,7 @@ pub fn expand(alloc: Global, e: &Expr) -> Result<Poly, PolyError>
     ensures ordered { IfOk result (λ p. IsOrdered (poly_of p)) }
     ensures small { IfOk result (λ p. IsSmall (poly_of p)) }
 {
-    expansion(alloc, e)
+    whole_expansion(alloc, e)
 }
 
 /// The expanded polynomial of the difference of two expressions, as `expand` would give it.
@@ -48,7 +49,7 @@ pub fn expand_difference(alloc: Global, d: &Expr, e: &Expr) -> Result<Poly, Poly
     ensures { let whole = Subtraction (term_of d.now) (term_of e.now) in
         Answers result (first_fault whole) (expanded whole) }
 {
-    difference(alloc, d, e)
+    whole_difference(alloc, d, e)
 }
 
 /// The expanded polynomial of the difference of two expressions and 1, as `expand` would give it.
@@ -60,9 +61,32 @@ pub fn expand_strict_difference(alloc: Global, d: &Expr, e: &Expr) -> Result<Pol
     ensures { let strict = Subtraction (Subtraction (term_of d.now) (term_of e.now)) (Literal (pos 1)) in
         Answers result (first_fault strict) (expanded strict) }
 {
-    match difference(alloc, d, e) {
+    match whole_difference(alloc, d, e) {
         Ok(p) => limited_sum(alloc, p, opposite_of(unit(alloc)?)),
         Err(error) => Err(error),
+    }
+}
+
+// The expanded polynomial of an expression, or its first fault: by packed exponents where all fits.
+fn whole_expansion(alloc: Global, e: &Expr) -> Result<Poly, PolyError>
+    ensures { Answers result (first_fault (term_of e.now)) (expanded (term_of e.now)) }
+{
+    match expansion_by_keys(alloc, e) {
+        Ok(Some(p)) => Ok(p),
+        Ok(None) => expansion(alloc, e),
+        Err(_) => Err(PolyError::Memory),
+    }
+}
+
+// The expanded polynomial of a difference, or its first fault: by packed exponents where all fits.
+fn whole_difference(alloc: Global, d: &Expr, e: &Expr) -> Result<Poly, PolyError>
+    ensures { let whole = Subtraction (term_of d.now) (term_of e.now) in
+        Answers result (first_fault whole) (expanded whole) }
+{
+    match difference_by_keys(alloc, d, e) {
+        Ok(Some(p)) => Ok(p),
+        Ok(None) => difference(alloc, d, e),
+        Err(_) => Err(PolyError::Memory),
     }
 }
 

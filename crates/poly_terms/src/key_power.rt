@@ -1,9 +1,8 @@
 // Powers of polynomials by packed exponents.
 
-ghost use Rattle.std.specs.Prelude.{◌≡◌, ◌≤◌, length, nat_abs, true, IfOk, IfSome};
+ghost use Rattle.std.specs.Prelude.{◌≡◌, ◌≤◌, nat_abs, true, IfOk, IfSome};
 ghost use Rattle.model.specs.Limits.{coefficient_limit};
-ghost use Rattle.model.specs.Polynomials.{degree_of};
-ghost use Rattle.poly_terms.specs.Keys.{factors_at, monomials_at, norm_at, IsModest, IsPowerAt};
+ghost use Rattle.poly_terms.specs.Keys.{norm_at, IsModest, IsPowerAt};
 ghost use Rattle.poly_terms.specs.Ordered.{IsSmall};
 ghost use Rattle.poly_terms.specs.Powers.{IsPowerWithout};
 ghost use Rattle.poly_terms.specs.Views.{monomials_of, poly_of};
@@ -18,9 +17,6 @@ use crate::poly::{Monomial, Poly};
 use crate::table::table_of;
 use model::{DEGREE_LIMIT, MONOMIAL_LIMIT};
 use std::alloc::{AllocError, Global};
-
-/// The most factors of a monomial of a lower power.
-const FACTOR_LIMIT: u128 = 7;
 
 /// The most that the absolute values of a lower power's coefficients make together: 2^63-1.
 const NORM_LIMIT: u64 = 0x7fff_ffff_ffff_ffff;
@@ -50,22 +46,21 @@ fn power_by_table(alloc: Global, p: &[Monomial], exponent: u32) -> Result<Poly, 
     }
     let table = table_of(alloc, p, &[])?;
     let factor = packed(alloc, &table, p)?;
-    let whole = power_of_list(alloc, &table, &factor, exponent)?;
+    let whole = power_of_list(alloc, &factor, exponent)?;
     unpacked_sum(alloc, &table, &whole)
 }
 
-// A power of a list, multiplied out factor by factor while the lower powers are modest.
-fn power_of_list(
+/// A power of a list, multiplied out factor by factor while the lower powers are modest.
+pub(crate) fn power_of_list(
     alloc: Global,
-    table: &[u32],
     factor: &[Keyed],
     exponent: u32,
 ) -> Result<Vec<Keyed>, KeyError>
-    ensures { IfOk result (λ es. IsPowerAt table.now factor.now exponent es.items) }
+    ensures { IfOk result (λ es. IsPowerAt factor.now exponent es.items) }
 {
     let mut so_far = vec![in alloc; Keyed { key: 0, coef: 1 }]?;
     for k in 0..exponent {
-        if !is_modest(table, &so_far) {
+        if !is_modest(&so_far) {
             return Err(KeyError::Unfit);
         }
         so_far = product_of_lists(alloc, &so_far, factor)?;
@@ -73,11 +68,11 @@ fn power_of_list(
     Ok(so_far)
 }
 
-// Whether a list has few monomials and factors, and small coefficients.
-fn is_modest(table: &[u32], es: &[Keyed]) -> bool
-    ensures { result ≡ true → IsModest table.now es.now }
+/// Whether a list has few monomials and small coefficients.
+pub(crate) fn is_modest(es: &[Keyed]) -> bool
+    ensures { result ≡ true → IsModest es.now }
 {
-    es.len() <= MONOMIAL_LIMIT && is_narrow(es) && are_low(table, es)
+    es.len() <= MONOMIAL_LIMIT && is_narrow(es)
 }
 
 // Whether the absolute values of the coefficients make at most 2^63-1 together.
@@ -100,33 +95,4 @@ fn size_of(e: Keyed) -> u64
     ensures { result ≡ nat_abs e.coef }
 {
     e.coef.unsigned_abs()
-}
-
-// Whether no monomial has more than seven factors.
-fn are_low(table: &[u32], es: &[Keyed]) -> bool
-    ensures { result ≡ true → degree_of (monomials_at table.now es.now) ≤ 7 }
-{
-    for e in es {
-        if !is_low(table, e.key) {
-            return false;
-        }
-    }
-    true
-}
-
-// Whether a key has no more than seven factors.
-fn is_low(table: &[u32], key: u128) -> bool
-    ensures { result ≡ true → length (factors_at table.now key) ≤ 7 }
-{
-    let mut rest = key;
-    let mut left = FACTOR_LIMIT;
-    for i in 0..table.len() {
-        let digit = rest % 16;
-        if digit > left {
-            return false;
-        }
-        left -= digit;
-        rest /= 16;
-    }
-    true
 }

@@ -3,7 +3,7 @@
 
 ghost use Rattle.std.specs.Prelude.{◌≡◌, ◌+ℤ◌, ◌++◌, ◌∷◌, drop, map, IfOk, IfSome, OnOk, []};
 ghost use Rattle.poly_terms.specs.Expanding.{product_of};
-ghost use Rattle.poly_terms.specs.Keys.{product_at, all_products, HasSameTotals};
+ghost use Rattle.poly_terms.specs.Keys.{product_at, all_products, IsMergedFrom};
 ghost use Rattle.poly_terms.specs.Views.{monomials_of, poly_of};
 
 use crate::Memory;
@@ -53,7 +53,7 @@ pub(crate) fn product_of_lists(
     left: &[Keyed],
     right: &[Keyed],
 ) -> Result<Vec<Keyed>, KeyError>
-    ensures { IfOk result (λ es. HasSameTotals es.items (all_products left.now right.now)) }
+    ensures { IfOk result (λ es. IsMergedFrom es.items (all_products left.now right.now)) }
 {
     if left.len() < right.len() {
         rows_merged(alloc, left, right)
@@ -64,7 +64,7 @@ pub(crate) fn product_of_lists(
 
 // The rows of the products of two lists, merged.
 fn rows_merged(alloc: Global, left: &[Keyed], right: &[Keyed]) -> Result<Vec<Keyed>, KeyError>
-    ensures { IfOk result (λ es. HasSameTotals es.items (all_products left.now right.now)) }
+    ensures { IfOk result (λ es. IsMergedFrom es.items (all_products left.now right.now)) }
 {
     let mut so_far = Vec::new(alloc);
     for e in left {
@@ -73,14 +73,14 @@ fn rows_merged(alloc: Global, left: &[Keyed], right: &[Keyed]) -> Result<Vec<Key
     Ok(so_far)
 }
 
-// A row more: the products of a monomial with each of a list.
-fn with_row(
+/// A row more: the products of a monomial with each of a list.
+pub(crate) fn with_row(
     alloc: Global,
     so_far: &[Keyed],
     e: Keyed,
     right: &[Keyed],
 ) -> Result<Vec<Keyed>, KeyError>
-    ensures { IfOk result (λ es. HasSameTotals es.items (so_far.now ++ map (product_at e) right.now)) }
+    ensures { IfOk result (λ es. IsMergedFrom es.items (so_far.now ++ map (product_at e) right.now)) }
 {
     let mut merged = Vec::with_capacity(alloc, so_far.len().saturating_add(right.len()))?;
     let mut i = 0;
@@ -140,7 +140,7 @@ fn put(
     i: usize,
     product: Keyed,
 ) -> Result<usize, KeyError>
-    ensures { IfOk result (λ j. HasSameTotals (merged.new.items ++ drop j so_far.now)
+    ensures { IfOk result (λ j. IsMergedFrom (merged.new.items ++ drop j so_far.now)
         (product ∷ (merged.old.items ++ drop i so_far.now))) }
 {
     if i < so_far.len() && so_far[i].key == product.key {
@@ -155,7 +155,7 @@ fn put(
 // Appends the sum of two monomials with the same key, unless it is 0.
 fn put_sum(merged: &mut Vec<Keyed>, e: Keyed, f: Keyed) -> Result<(), KeyError>
     requires { e.key ≡ f.key }
-    ensures { OnOk result (HasSameTotals merged.new.items (f ∷ (merged.old.items ++ e ∷ []))) }
+    ensures { OnOk result (IsMergedFrom merged.new.items (f ∷ (merged.old.items ++ e ∷ []))) }
 {
     let sum = combined(e, f)?;
     if sum.coef != 0 {

@@ -7,6 +7,7 @@ mod expanding;
 mod expr;
 mod factors;
 mod key_error;
+mod key_form;
 mod key_power;
 mod key_product;
 mod keyed;

@@ -35,8 +35,8 @@ pub(crate) fn packed(
     Ok(es)
 }
 
-// A monomial packed. Whether it fits shows when it is unpacked.
-fn packed_monomial(alloc: Global, table: &[u32], m: &Monomial) -> Result<Keyed, KeyError>
+/// A monomial packed. Whether it fits shows when it is unpacked.
+pub(crate) fn packed_monomial(alloc: Global, table: &[u32], m: &Monomial) -> Result<Keyed, KeyError>
     ensures { IfOk result (λ e. monomial_at table.now e ≡ monomial_of m.now) }
 {
     let key = key_of(table, &m.vars);

@@ -41,7 +41,8 @@ pub(crate) fn limited_product(alloc: Global, p: Poly, q: Poly) -> Result<Poly, P
     }
 }
 
-/// The product by packed exponents or monomial by monomial, or its least fault where it stands for a power with this exponent.
+/// The product by packed exponents or monomial by monomial, or its least fault where it stands for a power with this
+/// exponent.
 pub(crate) fn multiplied_out(
     alloc: Global,
     p: &Poly,

@@ -22,6 +22,13 @@ pub(crate) fn table_of(
     let mut table = Vec::new(alloc);
     add_variables(&mut table, left)?;
     add_variables(&mut table, right)?;
+    ascending(table)
+}
+
+/// The table, which ascends; where a variable was left out or stands twice this shows here and when one is packed.
+pub(crate) fn ascending(table: Vec<u32>) -> Result<Vec<u32>, KeyError>
+    ensures { IfOk result (λ ascending. ascend_from 0 ascending.items ≡ true) }
+{
     if ascends(&table) {
         Ok(table)
     } else {
@@ -39,8 +46,8 @@ fn add_variables(table: &mut Vec<u32>, terms: &[Monomial]) -> Result<(), KeyErro
     Ok(())
 }
 
-// Adds a variable that isn't there.
-fn add_variable(table: &mut Vec<u32>, v: u32) -> Result<(), KeyError> {
+/// Adds a variable that isn't there.
+pub(crate) fn add_variable(table: &mut Vec<u32>, v: u32) -> Result<(), KeyError> {
     let i = position_for(table, v);
     if i < table.len() && table[i] == v {
         return Ok(());

@@ -124,6 +124,16 @@ fn sum_of_products(alloc: Global, size: u32) -> Result<Expr, AllocError> {
     Ok(sum)
 }
 
+// The sum of 40 variables, and so many eighth powers of a sum of two others.
+fn powers_behind(alloc: Global, size: u32) -> Result<Expr, AllocError> {
+    let mut sum = variables(alloc, 0, 40)?;
+    for _ in 0..size {
+        let power = Expr::power(alloc, variables(alloc, 40, 2)?, 8)?;
+        sum = Expr::sum(alloc, sum, power)?;
+    }
+    Ok(sum)
+}
+
 // An expression of a shape and a size.
 fn shaped(alloc: Global, shape: u32, size: u32) -> Result<Expr, AllocError> {
     match shape {
@@ -141,7 +151,8 @@ fn shaped(alloc: Global, shape: u32, size: u32) -> Result<Expr, AllocError> {
         11 => products_before(alloc, size),
         12 => sum_of_powers(alloc, size),
         13 => minuses(alloc, size),
-        _ => sum_of_products(alloc, size),
+        14 => sum_of_products(alloc, size),
+        _ => powers_behind(alloc, size),
     }
 }
 

@@ -22,12 +22,12 @@ holds P t (Err e) a h = tt
 
 pub returns-clause-value : goal.returns-clause-value
 returns-clause-value c =
-    let t = term_of c.args.e.now in holds (HasTheValueOf t) t c.expansion.result c.expansion.ensures (λ n. record { each = expanded-value t })
+    let t = term_of c.args.e.now in holds (HasTheValueOf t) t c.whole_expansion.result c.whole_expansion.ensures (λ n. record { each = expanded-value t })
 
 pub returns-clause-ordered : goal.returns-clause-ordered
 returns-clause-ordered c =
-    let t = term_of c.args.e.now in holds IsOrdered t c.expansion.result c.expansion.ensures (λ n. expanded-ordered t)
+    let t = term_of c.args.e.now in holds IsOrdered t c.whole_expansion.result c.whole_expansion.ensures (λ n. expanded-ordered t)
 
 pub returns-clause-small : goal.returns-clause-small
 returns-clause-small c =
-    let t = term_of c.args.e.now in holds IsSmall t c.expansion.result c.expansion.ensures (expanded-small t)
+    let t = term_of c.args.e.now in holds IsSmall t c.whole_expansion.result c.whole_expansion.ensures (expanded-small t)

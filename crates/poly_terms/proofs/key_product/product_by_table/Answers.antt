@@ -3,7 +3,7 @@ use Rattle.std.proofs.lemmas.Result.{IfOk-weaker}
 use Rattle.model.specs.Polynomials.{degree_of}
 use Rattle.poly_terms.specs.declared.keyed.Keyed.{Keyed}
 use Rattle.poly_terms.specs.Expanding.{sum_of, product_of}
-use Rattle.poly_terms.specs.Keys.{monomials_at, all_products, HasSameTotals}
+use Rattle.poly_terms.specs.Keys.{monomials_at, all_products, IsMergedFrom}
 use Rattle.poly_terms.specs.Views.{monomials_of, poly_of}
 use Rattle.poly_terms.proofs.KeyLaws.{product-at}
 use Rattle.poly_terms.proofs.key_product.product_by_table.Goals as goal
@@ -18,9 +18,9 @@ returns c =
     let whole = c.in_ok-whole.whole.items in
     let left-is : monomials_at table left ≡ p = (λ i. monomials_at (sym c.deref.ensures.value i) left) ∙ c.in_ok-left.ensures in
     let right-is : monomials_at table right ≡ q = (λ i. monomials_at (sym c.deref-2.ensures.value i) right) ∙ c.in_ok-right.ensures in
-    let same : HasSameTotals whole (all_products left right) =
-    subst (λ (es : List Keyed). HasSameTotals whole (all_products es right)) c.deref-3.ensures.value
-    (subst (λ (fs : List Keyed). HasSameTotals whole (all_products c.deref-3.result.now fs)) c.deref-4.ensures.value c.in_ok-whole.ensures) in
+    let same : IsMergedFrom whole (all_products left right) =
+    subst (λ (es : List Keyed). IsMergedFrom whole (all_products es right)) c.deref-3.ensures.value
+    (subst (λ (fs : List Keyed). IsMergedFrom whole (all_products c.deref-3.result.now fs)) c.deref-4.ensures.value c.in_ok-whole.ensures) in
     let few : degree_of p + degree_of q ≤ 15 =
     omega (arith, c.degree.ensures, c.degree-2.ensures, c.saturating_add-factors.ensures, c.if-factors-gt-DIGIT_LIMIT.false) in
     IfOk-weaker c.unpacked_sum.result

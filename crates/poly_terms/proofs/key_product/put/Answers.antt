@@ -1,6 +1,6 @@
 use Rattle.std.proofs.Common.{◌++◌, ◌∷◌, List, drop, sym, subst}
 use Rattle.poly_terms.specs.declared.keyed.Keyed.{Keyed}
-use Rattle.poly_terms.specs.Keys.{HasSameTotals}
+use Rattle.poly_terms.specs.Keys.{IsMergedFrom}
 use Rattle.poly_terms.proofs.KeyLaws.{put-behind, others-at}
 use Rattle.poly_terms.proofs.key_product.put.Goals as goal
 
@@ -10,5 +10,5 @@ returns-in_ok-put_sum c =
 
 pub returns-in_ok-push : goal.returns-in_ok-push
 returns-in_ok-push c =
-    subst (λ (ms : List Keyed). HasSameTotals (ms ++ drop c.args.i c.args.so_far.now) (c.args.product ∷ (c.args.merged.now.items ++ drop c.args.i c.args.so_far.now)))
+    subst (λ (ms : List Keyed). IsMergedFrom (ms ++ drop c.args.i c.args.so_far.now) (c.args.product ∷ (c.args.merged.now.items ++ drop c.args.i c.args.so_far.now)))
     (sym c.in_ok-push.ensures.items) (put-behind c.args.merged.now.items (drop c.args.i c.args.so_far.now) c.args.product)

@@ -2,13 +2,13 @@ use Rattle.std.proofs.Common.{◌≡◌, ◌++◌, ◌∷◌, [], List, sym, sub
 use Rattle.std.specs.Prelude.{pos, ◌+ℤ◌}
 use Rattle.std.proofs.lemmas.Int.{ints}
 use Rattle.poly_terms.specs.declared.keyed.Keyed.{Keyed}
-use Rattle.poly_terms.specs.Keys.{HasSameTotals}
+use Rattle.poly_terms.specs.Keys.{IsMergedFrom}
 use Rattle.poly_terms.proofs.KeyLaws.{sum-gone, sum-behind}
 use Rattle.poly_terms.proofs.key_product.put_sum.Goals as goal
 
 pub returns-in_ok-push : goal.returns-in_ok-push
 returns-in_ok-push c =
-    subst (λ (ms : List Keyed). HasSameTotals ms (c.args.f ∷ (c.args.merged.now.items ++ c.args.e ∷ []))) (sym c.in_ok-push.ensures.items)
+    subst (λ (ms : List Keyed). IsMergedFrom ms (c.args.f ∷ (c.args.merged.now.items ++ c.args.e ∷ []))) (sym c.in_ok-push.ensures.items)
     (sum-behind c.args.merged.now.items c.args.e c.args.f c.in_ok-sum.sum c.requires c.in_ok-sum.ensures.key c.in_ok-sum.ensures.coefficient)
 
 pub returns-else-sum-ne0 : goal.returns-else-sum-ne0

@@ -1,0 +1,222 @@
+-- From the forms of an expression's operands to that of the whole.
+use Rattle.std.proofs.Common.{◌≡◌, ℕ, zero, suc, ◌+◌, ◌*◌, ◌≤◌, List, [], ◌∷◌, ◌++◌, map, length, max}
+use Rattle.std.proofs.Common.{refl, ap, sym, ◌∙◌, subst, arith, true, mul-le-mul}
+use Rattle.std.specs.Prelude.{None, ℤ, pos, negsuc, ◌+ℤ◌, ◌*ℤ◌}
+use Rattle.std.proofs.lemmas.Int.{ints}
+use Rattle.std.proofs.lemmas.List.{map-append}
+use Rattle.int_laws.specs.Polynomial.{variable, ◌⊕◌, ◌⊗◌}
+use Rattle.int_laws.proofs.Identities.{identity}
+use Rattle.int_laws.proofs.RingLaws.{mul_comm_ℤ}
+use Rattle.model.specs.Limits.{degree_limit}
+use Rattle.model.specs.Polynomials.{Monomial, Polynomial, degree_of}
+use Rattle.model.specs.Terms.{Term, Literal, Variable, Negation, Addition, Subtraction, Multiplication, Exponentiation}
+use Rattle.poly_terms.specs.declared.key_form.KeyForm.{KeyForm}
+use Rattle.poly_terms.specs.declared.keyed.Keyed.{Keyed}
+use Rattle.poly_terms.specs.Expanding.{all_added, sum_of, opposite, products, power_of, expanded}
+use Rattle.poly_terms.specs.Faults.{fault_in, fault_of, first_fault, or_else}
+use Rattle.poly_terms.specs.Powers.{faults_of_powers}
+use Rattle.poly_terms.specs.Keys.{factors_at, monomial_at, monomials_at, ascend_from, product_at, all_products, IsMergedFrom, IsPowerAt}
+use Rattle.poly_terms.specs.KeyForms.{IsExpansion, IsWithinLimits, StandsFor}
+use Rattle.poly_terms.specs.Scaling.{times}
+use Rattle.poly_terms.specs.Totals.{total, IsSamePolynomial}
+use Rattle.poly_terms.proofs.FaultLaws.{first-one, first-two, first-power, or_else-none}
+use Rattle.poly_terms.proofs.FormLaws.{degree-append}
+use Rattle.poly_terms.proofs.KeyLaws.{degree-merged, degree-merged-products, same-at, same-products-at}
+use Rattle.poly_terms.proofs.OrderLaws.{expanded-ordered}
+use Rattle.poly_terms.proofs.ScaleLaws.{opposite-times}
+use Rattle.poly_terms.proofs.TotalLaws.{same-sums, same-from_sum, same-sum_of, same-products, sum-of-ordered, total-append}
+use Rattle.poly_terms.proofs.TotalLaws.{total-all_added, total-without_zeros}
+use Rattle.poly_terms.proofs.UnpackingLaws.{degree-power-at, none-below, none-modest, power-at}
+
+-- the sum of packed monomials is the expanded form that they make together
+whole-form : (table : List ℕ) (t : Term) (es : List Keyed) → IsSamePolynomial (monomials_at table es) (expanded t)
+    → sum_of [] (monomials_at table es) ≡ expanded t
+whole-form table t es h = same-sums (monomials_at table es) (expanded t) h ∙ sum-of-ordered (expanded t) (expanded-ordered t)
+
+-- the polynomial of a form
+pub expansion-stands : (table : List ℕ) (t : Term) (f : KeyForm) (p : Polynomial) → StandsFor table t f
+    → p ≡ sum_of [] (monomials_at table f.terms.items) → IsExpansion t p
+expansion-stands table t f p h e = record { form = e ∙ whole-form table t f.terms.items h.whole; none = h.none }
+
+-- monomials within the limits that make an expanded form together stand for it, where it has no other fault than its own
+stands : (table : List ℕ) (t : Term) (es : List Keyed) (n k : ℕ) (f : KeyForm) → IsWithinLimits es n f
+    → IsSamePolynomial (monomials_at table es) (expanded t) → degree_of (monomials_at table es) ≤ n → k ≤ degree_limit
+    → (fault_in (expanded t) k ≡ None → first_fault t ≡ None) → StandsFor table t f
+stands table t es n k f w same d l first = record {
+  whole = subst (λ (ks : List Keyed). IsSamePolynomial (monomials_at table ks) (expanded t)) (sym w.terms) same;
+  none = first (none-modest table es (expanded t) k w.modest (whole-form table t es same) (omega (arith, d, w.low)) l);
+  factors = omega (arith, d, w.degree, ap (λ (ks : List Keyed). degree_of (monomials_at table ks)) w.terms);
+  low = omega (arith, w.degree, w.low);
+}
+
+-- a literal
+pub literal-stands : (table : List ℕ) (z : ℤ) (e : Keyed) (f : KeyForm) → monomial_at table e ≡ record { coef = z; vars = [] }
+    → IsWithinLimits (e ∷ []) 0 f → StandsFor table (Literal z) f
+literal-stands table z e f h w =
+    stands table (Literal z) (e ∷ []) 0 1 f w
+    (subst (λ (m : Monomial). IsSamePolynomial (m ∷ []) (expanded (Literal z))) (sym h)
+    (record { totals = λ g. sym ((same-sum_of (record { coef = z; vars = [] } ∷ [])).totals g) }))
+    (omega (arith, ap (λ (m : Monomial). length m.vars) h)) (omega arith)
+    (λ n. or_else-none (fault_of (Literal z)) ∙ n)
+
+-- a variable
+pub variable-stands : (table : List ℕ) (i : ℕ) (e : Keyed) (f : KeyForm) → monomial_at table e ≡ record { coef = pos 1; vars = i ∷ [] }
+    → IsWithinLimits (e ∷ []) 1 f → StandsFor table (Variable i) f
+variable-stands table i e f h w =
+    stands table (Variable i) (e ∷ []) 1 1 f w
+    (subst (λ (m : Monomial). IsSamePolynomial (m ∷ []) (expanded (Variable i))) (sym h) (record { totals = λ g. refl }))
+    (omega (arith, ap (λ (m : Monomial). length m.vars) h)) (omega arith)
+    (λ n. or_else-none (fault_of (Variable i)) ∙ n)
+
+-- a row of a constant is each coefficient multiplied by it
+constant-row : (table : List ℕ) (z : ℤ) (fs : List Keyed)
+    → monomials_at table (map (product_at (record { key = 0; coef = z })) fs) ≡ map (times z) (monomials_at table fs)
+constant-row table z [] = refl
+constant-row table z (f ∷ fs) = λ i. record { coef = mul_comm_ℤ z f.coef i; vars = factors_at table (same f.key i) } ∷ constant-row table z fs i
+  where
+    same : (k : ℕ) → 0 + k ≡ k
+    same k = omega arith
+
+-- its total and its degree
+total-times : (g : List ℕ → ℤ) (z : ℤ) (p : Polynomial) → total g (map (times z) p) ≡ z *ℤ total g p
+total-times g z [] = nothing z
+  where
+    nothing : (x : ℤ) → pos 0 ≡ x *ℤ pos 0
+    nothing x = omega (arith, ints)
+total-times g z (m ∷ p) = ap (λ (r : ℤ). ((m.coef *ℤ z) *ℤ g m.vars) +ℤ r) (total-times g z p) ∙ distribute m.coef z (g m.vars) (total g p)
+  where
+    distribute : (x y v r : ℤ) → ((x *ℤ y) *ℤ v) +ℤ (y *ℤ r) ≡ y *ℤ ((x *ℤ v) +ℤ r)
+    distribute x y v r = identity (x ∷ y ∷ v ∷ r ∷ [])
+        ((variable 0 ⊗ variable 1) ⊗ variable 2 ⊕ variable 1 ⊗ variable 3)
+        (variable 1 ⊗ (variable 0 ⊗ variable 2 ⊕ variable 3)) refl
+
+degree-times : (z : ℤ) (p : Polynomial) → degree_of (map (times z) p) ≡ degree_of p
+degree-times z [] = refl
+degree-times z (m ∷ p) = ap (max (length m.vars)) (degree-times z p)
+
+-- the monomials of a list and those of another one multiplied by a constant, merged: their total and their degree
+merged-total : (table : List ℕ) (z : ℤ) (ls rs es : List Keyed) → IsMergedFrom es (ls ++ map (product_at (record { key = 0; coef = z })) rs)
+    → (g : List ℕ → ℤ) → total g (monomials_at table es) ≡ total g (monomials_at table ls) +ℤ (z *ℤ total g (monomials_at table rs))
+merged-total table z ls rs es h g =
+    let row = map (product_at (record { key = 0; coef = z })) rs in
+    (same-at table es (ls ++ row) h).totals g
+    ∙ (ap (total g) (map-append (monomial_at table) ls row)
+    ∙ (total-append g (monomials_at table ls) (monomials_at table row)
+    ∙ ap (λ (x : ℤ). total g (monomials_at table ls) +ℤ x) (ap (total g) (constant-row table z rs) ∙ total-times g z (monomials_at table rs))))
+
+merged-degree : (table : List ℕ) (z : ℤ) (ls rs es : List Keyed) → IsMergedFrom es (ls ++ map (product_at (record { key = 0; coef = z })) rs)
+    → degree_of (monomials_at table es) ≤ max (degree_of (monomials_at table ls)) (degree_of (monomials_at table rs))
+merged-degree table z ls rs es h =
+    let row = map (product_at (record { key = 0; coef = z })) rs in
+    omega (
+      arith,
+      degree-merged table es (ls ++ row) h,
+      ap degree_of (map-append (monomial_at table) ls row),
+      degree-append (monomials_at table ls) (monomials_at table row),
+      ap degree_of (constant-row table z rs),
+      degree-times z (monomials_at table rs),
+    )
+
+-- the total of a sum of two polynomials
+total-sum_of : (g : List ℕ → ℤ) (p q : Polynomial) → total g (sum_of p q) ≡ total g p +ℤ total g q
+total-sum_of g p q = total-without_zeros g (all_added p q) ∙ total-all_added g p q
+
+-- of an opposite
+total-opposite : (g : List ℕ → ℤ) (p : Polynomial) → total g (map opposite p) ≡ negsuc 0 *ℤ total g p
+total-opposite g p = ap (total g) (sym (opposite-times p)) ∙ total-times g (negsuc 0) p
+
+-- a negation
+pub negation-stands : (table : List ℕ) (e : Term) (form f : KeyForm) (es : List Keyed) → StandsFor table e form
+    → IsMergedFrom es ([] ++ map (product_at (record { key = 0; coef = negsuc 0 })) form.terms.items)
+    → IsWithinLimits es form.degree f → StandsFor table (Negation e) f
+negation-stands table e form f es h m w =
+    stands table (Negation e) es form.degree 1 f w
+    (record {
+      totals = λ g. merged-total table (negsuc 0) [] form.terms.items es m g
+          ∙ (alone (negsuc 0 *ℤ total g (monomials_at table form.terms.items))
+          ∙ (ap (λ (x : ℤ). negsuc 0 *ℤ x) (h.whole.totals g) ∙ sym (total-opposite g (expanded e))));
+    })
+    (omega (arith, merged-degree table (negsuc 0) [] form.terms.items es m, h.factors)) (omega arith)
+    (λ n. first-one e (Negation e) ∙ (λ i. or_else (h.none i) (n i)))
+  where
+    alone : (x : ℤ) → pos 0 +ℤ x ≡ x
+    alone x = omega (arith, ints)
+
+-- a sum
+pub sum-stands : (table : List ℕ) (d e : Term) (left right f : KeyForm) (es : List Keyed) → StandsFor table d left → StandsFor table e right
+    → IsMergedFrom es (left.terms.items ++ map (product_at (record { key = 0; coef = pos 1 })) right.terms.items)
+    → IsWithinLimits es (max left.degree right.degree) f → StandsFor table (Addition d e) f
+sum-stands table d e left right f es h k m w =
+    stands table (Addition d e) es (max left.degree right.degree) 1 f w
+    (record {
+      totals = λ g. merged-total table (pos 1) left.terms.items right.terms.items es m g
+          ∙ ((λ i. h.whole.totals g i +ℤ (pos 1 *ℤ k.whole.totals g i))
+          ∙ (once (total g (expanded d)) (total g (expanded e)) ∙ sym (total-sum_of g (expanded d) (expanded e))));
+    })
+    (omega (arith, merged-degree table (pos 1) left.terms.items right.terms.items es m, h.factors, k.factors)) (omega arith)
+    (λ n. first-two d e (Addition d e) ∙ (λ i. or_else (h.none i) (or_else (k.none i) (n i))))
+  where
+    once : (x y : ℤ) → x +ℤ (pos 1 *ℤ y) ≡ x +ℤ y
+    once x y = omega (arith, ints)
+
+-- a difference
+pub difference-stands : (table : List ℕ) (d e : Term) (left right f : KeyForm) (es : List Keyed) → StandsFor table d left → StandsFor table e right
+    → IsMergedFrom es (left.terms.items ++ map (product_at (record { key = 0; coef = negsuc 0 })) right.terms.items)
+    → IsWithinLimits es (max left.degree right.degree) f → StandsFor table (Subtraction d e) f
+difference-stands table d e left right f es h k m w =
+    stands table (Subtraction d e) es (max left.degree right.degree) 1 f w
+    (record {
+      totals = λ g. merged-total table (negsuc 0) left.terms.items right.terms.items es m g
+          ∙ ((λ i. h.whole.totals g i +ℤ (negsuc 0 *ℤ k.whole.totals g i))
+          ∙ (ap (λ (x : ℤ). total g (expanded d) +ℤ x) (sym (total-opposite g (expanded e)))
+          ∙ sym (total-sum_of g (expanded d) (map opposite (expanded e)))));
+    })
+    (omega (arith, merged-degree table (negsuc 0) left.terms.items right.terms.items es m, h.factors, k.factors)) (omega arith)
+    (λ n. first-two d e (Subtraction d e) ∙ (λ i. or_else (h.none i) (or_else (k.none i) (n i))))
+
+-- a product
+pub product-stands : (table : List ℕ) (d e : Term) (left right f : KeyForm) (es : List Keyed) (n : ℕ) → ascend_from 0 table ≡ true
+    → StandsFor table d left → StandsFor table e right → IsMergedFrom es (all_products left.terms.items right.terms.items)
+    → n ≡ left.degree + right.degree → IsWithinLimits es n f → StandsFor table (Multiplication d e) f
+product-stands table d e left right f es n a h k m is w =
+    let ls = monomials_at table left.terms.items in
+    let rs = monomials_at table right.terms.items in
+    let few : degree_of ls + degree_of rs ≤ 15 = omega (arith, h.factors, k.factors, is, w.low) in
+    stands table (Multiplication d e) es n 1 f w
+    (record {
+      totals = λ g. (same-products-at table left.terms.items right.terms.items es a few m).totals g
+          ∙ ((same-products ls (expanded d) rs (expanded e) h.whole k.whole).totals g
+          ∙ sym ((same-sum_of (products (expanded d) (expanded e))).totals g));
+    })
+    (omega (arith, degree-merged-products table left.terms.items right.terms.items es a few m, h.factors, k.factors, is)) (omega arith)
+    (λ n. first-two d e (Multiplication d e) ∙ (λ i. or_else (h.none i) (or_else (k.none i) (n i))))
+
+-- a power
+pub power-stands : (table : List ℕ) (e : Term) (base f : KeyForm) (es : List Keyed) (n k : ℕ) → ascend_from 0 table ≡ true
+    → StandsFor table e base → IsPowerAt base.terms.items k es → k ≤ degree_limit → k * base.degree ≤ n
+    → IsWithinLimits es n f → StandsFor table (Exponentiation e k) f
+power-stands table e base f es n k a h p l is w =
+    stands table (Exponentiation e k) es n k f w (same-from_sum (monomials_at table es) (power_of (expanded e) k) (power-at table base.terms.items (expanded e) k es a h.whole low p))
+    (omega (arith, degree-power-at table base.terms.items k es a low p, most)) l
+    (λ none. first-power e k ∙ (λ i. or_else (h.none i) (powers k es p low l none i)))
+  where
+    d : ℕ
+    d = degree_of (monomials_at table base.terms.items)
+
+    most : k * d ≤ n
+    most = below k d base.degree h.factors is
+      where
+        at_most : (a b c d : ℕ) → a ≤ c → b ≤ d → a * b ≤ c * d
+        at_most a b c d = mul-le-mul
+
+        below : (k x y : ℕ) → x ≤ y → k * y ≤ n → k * x ≤ n
+        below k x y l m = omega (arith, at_most k x k y (omega arith) l, m)
+
+    low : k * d ≤ degree_limit
+    low = omega (arith, most, w.low)
+
+    powers : (k : ℕ) (es : List Keyed) → IsPowerAt base.terms.items k es → k * d ≤ degree_limit → k ≤ degree_limit
+        → fault_in (power_of (expanded e) k) k ≡ None → faults_of_powers (expanded e) k ≡ None
+    powers zero es p few l none = none
+    powers (suc k) es p few l none =
+        λ i. or_else (none-below table base.terms.items (expanded e) k es a h.whole few (omega (arith, l)) p i) (none i)
