@@ -17,12 +17,13 @@ use Rattle.proof_nodes.specs.Checks.{large_nodes, check_up, check_low, check_siz
 use Rattle.proof_nodes.proofs.CheckLists.{passes_each}
 use Rattle.proof_nodes.proofs.SizeReasons.{passes-cycle}
 use Rattle.proof_setting.specs.Setting.{setting_of}
+use Rattle.round_relation.specs.Tables.{lacks}
 use Rattle.round_relation.specs.Uses.{Numbers}
 use Rattle.size_bounds.specs.declared.answer.SizeAnswer.{SizeAnswer}
 use Rattle.size_bounds.specs.declared.answer.SizeAnswer.TheVariants as answers
 use Rattle.size_bounds.specs.Needs.{first_missing}
 use Rattle.size_bounds.specs.Growths.{grown, growing, composed}
-use Rattle.size_bounds.specs.LoopAnswers.{is_unknown, first_unknown, loop_needs, IsTimedAnswer, IsAnswerBy, IsLoopAnswer}
+use Rattle.size_bounds.specs.LoopAnswers.{first_unknown, loop_needs, IsTimedAnswer, IsAnswerBy, IsLoopAnswer}
 use Rattle.size_bounds.specs.BentArms.{first_bent}
 use Rattle.size_bounds.specs.SizeAnswers.{AreGiven, IsCycleAnswer}
 use Rattle.size_bounds.proofs.FirstMissing.{all-known, first-missing, behind-each}
@@ -39,7 +40,7 @@ module _ (tab : Table) where
   times-known [] h = tt
   times-known (t ∷ ts) h = go (tab.time t) refl h (times-known ts)
     where
-      go : (o : Option Bound) → tab.time t ≡ o → cond (is_unknown o) (Some t) (first_unknown tab.time ts) ≡ None
+      go : (o : Option Bound) → tab.time t ≡ o → cond (lacks o) (Some t) (first_unknown tab.time ts) ≡ None
           → (first_unknown tab.time ts ≡ None → AllByRecursion (λ u. IsKnown (tab.time u)) ts)
           → AllByRecursion (λ u. IsKnown (tab.time u)) (t ∷ ts)
       go None e k later = absurd (none-some t (sym k))
@@ -51,7 +52,7 @@ module _ (tab : Table) where
   first-untimed [] rest t h = absurd (none-some t h)
   first-untimed (u ∷ ts) rest t h = go (tab.time u) refl h (first-untimed ts rest t)
     where
-      go : (o : Option Bound) → tab.time u ≡ o → cond (is_unknown o) (Some u) (first_unknown tab.time ts) ≡ Some t
+      go : (o : Option Bound) → tab.time u ≡ o → cond (lacks o) (Some u) (first_unknown tab.time ts) ≡ Some t
           → (first_unknown tab.time ts ≡ Some t → IsFirstAmong (for_each (check_time tab) ts rest) (MissingTime t))
           → IsFirstAmong (for_each (check_time tab) (u ∷ ts) rest) (MissingTime t)
       go None e k later =

@@ -1,5 +1,5 @@
 -- What is answered of a loop whose needed sizes are known and that isn't bent.
-use Rattle.std.specs.Prelude.{◌≡◌, ℕ, Bool, true, false, cond, List, [], ◌∷◌, ◌++◌, map, Option, Some, None}
+use Rattle.std.specs.Prelude.{◌≡◌, ℕ, cond, List, [], ◌∷◌, ◌++◌, map, Option, Some, None}
 use Rattle.model.specs.Bounds.{Bound}
 use Rattle.bound_table.specs.InForce.{rewritten}
 use Rattle.proof_nodes.specs.Nodes.{Spot, Member, Cycle}
@@ -8,20 +8,16 @@ use Rattle.proof_nodes.specs.Limits.{IsSmallComposed}
 use Rattle.proof_nodes.specs.Checks.{large_nodes}
 use Rattle.proof_nodes.specs.AcceptsSizes.{cycle_facts}
 use Rattle.proof_tree.specs.Views.{proof_of, facts_of}
+use Rattle.round_relation.specs.Tables.{lacks}
 use Rattle.round_relation.specs.Uses.{Numbers, Need, NeedsTime, size_needs, uses_for}
 use Rattle.size_bounds.specs.declared.answer.SizeAnswer.{SizeAnswer}
 use Rattle.size_bounds.specs.declared.answer.SizeAnswer.TheVariants as answers
 use Rattle.size_bounds.specs.Growths.{Growth, growing, composed}
 
--- the bound isn't known
-abbrev pub is_unknown : Option Bound → Bool
-is_unknown None = true
-is_unknown (Some b) = false
-
 -- the first of these rules without a time
 abbrev pub first_unknown : (ℕ → Option Bound) → List ℕ → Option ℕ
 first_unknown time [] = None
-first_unknown time (t ∷ ts) = cond (is_unknown (time t)) (Some t) (first_unknown time ts)
+first_unknown time (t ∷ ts) = cond (lacks (time t)) (Some t) (first_unknown time ts)
 
 -- what a loop needs: the sizes of these spots, and then the times of these rules
 abbrev pub loop_needs : List Spot → List ℕ → List Need

@@ -7,11 +7,12 @@ ghost use Rattle.proof_nodes.specs.Nodes.{Cycle};
 ghost use Rattle.proof_nodes.specs.ComposedSizes.{base_of};
 ghost use Rattle.proof_nodes.specs.AcceptsSizes.{cycle_facts};
 ghost use Rattle.proof_tree.specs.Views.{facts_of, member_of, proof_of, spot_of};
+ghost use Rattle.round_relation.specs.Tables.{lacks};
 ghost use Rattle.round_relation.specs.Uses.{uses_for};
 ghost use Rattle.size_bounds.specs.Tables.{table_of, numbers_of};
 ghost use Rattle.size_bounds.specs.Flows.{flow_of};
 ghost use Rattle.size_bounds.specs.Growths.{growth_of, grown, growing, composed};
-ghost use Rattle.size_bounds.specs.LoopAnswers.{first_unknown, is_unknown, loop_needs};
+ghost use Rattle.size_bounds.specs.LoopAnswers.{first_unknown, loop_needs};
 ghost use Rattle.size_bounds.specs.LoopAnswers.{IsLoopAnswer, IsTimedAnswer};
 
 use crate::answer::SizeAnswer;
@@ -92,7 +93,7 @@ fn where_small(
 
 // Whether a rule has no time.
 fn is_untimed(t: &Table, rule: u32) -> bool
-    ensures { result ≡ is_unknown ((table_of t.now).time rule) }
+    ensures { result ≡ lacks ((table_of t.now).time rule) }
 {
     match t.time(rule) {
         Some(_) => false,
