@@ -15,7 +15,7 @@ use Rattle.proof_nodes.specs.AcceptsRank.{HasFormShape, moves_of, HasRankShape, 
 use Rattle.proof_nodes.specs.Checks.{check_time, check_size, check_small, needed_after_each, rank_checks}
 use Rattle.proof_nodes.specs.Reasons.{Check, for_each}
 use Rattle.proof_nodes.specs.Setting.{Setting}
-use Rattle.proof_decision.specs.Tests.{Test, test_each}
+use Rattle.proof_decision.specs.Tests.{Test}
 use Rattle.proof_decision.specs.Numbers.{are_multipliers}
 use Rattle.proof_decision.specs.Plain.{is_rule}
 use Rattle.proof_decision.specs.Ranking.{test_time, test_size, test_small, is_small, are_same, has_form_shape, has_set_shape, has_function_shape, has_certificate_shape, rank_tests}
@@ -44,13 +44,13 @@ module _ (s : Setting) (table : Table) where
 
   -- tests that rules have times decide the checks for them, before further ones that decide
   pub times-decide : (ts : List ℕ) (cs : List Check) (rest : List Test) → AllDecide cs rest
-      → AllDecide (for_each (check_time table) ts cs) (test_each (test_time table) ts rest)
+      → AllDecide (for_each (check_time table) ts cs) (for_each (test_time table) ts rest)
   times-decide ts cs rest h =
       each-decides (check_time table) (test_time table) cs rest (λ t. refl) (λ t. decides-known (table.time t)) h ts
 
   -- tests that places have sizes decide the checks for them, before further ones that decide
   pub sizes-decide : (spots : List Spot) (cs : List Check) (rest : List Test) → AllDecide cs rest
-      → AllDecide (for_each (check_size table) spots cs) (test_each (test_size table) spots rest)
+      → AllDecide (for_each (check_size table) spots cs) (for_each (test_size table) spots rest)
   sizes-decide spots cs rest h =
       each-decides (check_size table) (test_size table) cs rest (λ spot. refl)
       (λ spot. decides-known (table.size spot.rule spot.place)) h spots

@@ -3,7 +3,7 @@ use Rattle.std.proofs.Common.{◌≡◌, inl, inr, Bool, true, false, cond, List
 use Rattle.std.specs.Bool.{Decides}
 use Rattle.model.proofs.Membership.{no_is_not_yes}
 use Rattle.proof_nodes.specs.Reasons.{Reason, Check, for_each, IsFirstAmong}
-use Rattle.proof_decision.specs.Tests.{Test, test_each, first_failing}
+use Rattle.proof_decision.specs.Tests.{Test, first_failing}
 
 -- each test decides its check, and has its reason
 abbrev pub AllDecide : List Check → List Test → Type 0
@@ -50,6 +50,6 @@ first-told (c ∷ cs) (t ∷ ts) h r k = go t.passes refl (first-told cs ts h.1.
 module _ {X : Type 0} (f : X → Check) (g : X → Test) (cs : List Check) (ts : List Test) where
   -- tests for each element, with the reasons of its checks, decide them, before further ones that decide
   pub each-decides : ((x : X) → (f x).reason ≡ (g x).reason) → ((x : X) → Decides (g x).passes (f x).holds)
-      → AllDecide cs ts → (xs : List X) → AllDecide (for_each f xs cs) (test_each g xs ts)
+      → AllDecide cs ts → (xs : List X) → AllDecide (for_each f xs cs) (for_each g xs ts)
   each-decides same decides rest [] = rest
   each-decides same decides rest (x ∷ xs) = (same x, (decides x, each-decides same decides rest xs))

@@ -13,9 +13,9 @@ use Rattle.proof_nodes.specs.Graph.{symbols_of}
 use Rattle.proof_nodes.specs.Known.{Table}
 use Rattle.proof_nodes.specs.Setting.{Setting}
 use Rattle.proof_nodes.specs.AcceptsRank.{moves_of, at_source, at_target, least_loss, rank_time}
-use Rattle.proof_nodes.specs.Reasons.{Shape, Move, Floor, MissingTime, MissingSize, Large}
+use Rattle.proof_nodes.specs.Reasons.{Shape, Move, Floor, MissingTime, MissingSize, Large, for_each}
 use Rattle.proof_nodes.specs.Checks.{large_nodes, needed_after_each}
-use Rattle.proof_decision.specs.Tests.{Test, test, test_each}
+use Rattle.proof_decision.specs.Tests.{Test, test}
 use Rattle.proof_decision.specs.Numbers.{is_in_limit, is_form_in_limit, are_multipliers, is_ascending, implies}
 use Rattle.proof_decision.specs.Plain.{is_rule}
 
@@ -79,8 +79,8 @@ has_floor s node =
 abbrev pub rank_tests : Setting → Table → RankNode → List Test
 rank_tests s table node =
     test Shape (has_set_shape s.program node && has_function_shape s.program node && has_certificate_shape s node) ∷
-    test_each (λ t. test (Move t) (loses s node t)) node.set
+    for_each (λ t. test (Move t) (loses s node t)) node.set
     (test Floor (has_floor s node) ∷
-    test_each (test_time table) (entries s.program node.set)
-    (test_each (test_size table) (needed_after_each s node (entries s.program node.set))
+    for_each (test_time table) (entries s.program node.set)
+    (for_each (test_size table) (needed_after_each s node (entries s.program node.set))
     (test_small s (rank_time s node table) ∷ [])))

@@ -10,9 +10,9 @@ use Rattle.proof_nodes.specs.Known.{Table}
 use Rattle.proof_nodes.specs.Setting.{Setting}
 use Rattle.proof_nodes.specs.ComposedSizes.{poly_at, is_member}
 use Rattle.proof_nodes.specs.AcceptsSizes.{left_of, Side, Up, Low, arm_goal, new_value, spread_size, cycle_size}
-use Rattle.proof_nodes.specs.Reasons.{Shape, ArmUp, ArmLow, Bent}
+use Rattle.proof_nodes.specs.Reasons.{Shape, ArmUp, ArmLow, Bent, for_each}
 use Rattle.proof_nodes.specs.Checks.{needed_into, needed_times}
-use Rattle.proof_decision.specs.Tests.{Test, test, test_each}
+use Rattle.proof_decision.specs.Tests.{Test, test}
 use Rattle.proof_decision.specs.Numbers.{is_in_limit, is_form_in_limit, are_multipliers, implies}
 use Rattle.proof_decision.specs.Ranking.{test_time, test_size, test_small}
 
@@ -60,7 +60,7 @@ spread_tests s table m =
     test Shape (has_member_shape s m) ∷
     test_up s m ∷
     test_low s m ∷
-    test_each (test_size table) (needed_into s [] (m ∷ []))
+    for_each (test_size table) (needed_into s [] (m ∷ []))
     (test_small s (spread_size s table m) ∷ [])
 
 -- one spot comes before another: by rule, then by place
@@ -109,9 +109,9 @@ all_straight s members (m ∷ ms) rest =
 abbrev pub cycle_tests : Setting → Table → List Member → List Test
 cycle_tests s table members =
     test Shape (has_cycle_shape s members) ∷
-    test_each (test_up s) members
-    (test_each (test_low s) members
-    (test_each (test_size table) (needed_into s members members)
+    for_each (test_up s) members
+    (for_each (test_low s) members
+    (for_each (test_size table) (needed_into s members members)
     (all_straight s members members
-    (test_each (test_time table) (needed_times s table members)
+    (for_each (test_time table) (needed_times s table members)
     (test_small s (cycle_size s table members) ∷ [])))))

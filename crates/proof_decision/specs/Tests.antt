@@ -11,11 +11,6 @@ pub record Test : Type 0 where
 abbrev pub test : Reason → Bool → Test
 test reason passes = record { reason = reason; passes = passes }
 
--- a test for each element of a list, and then the others
-abbrev pub test_each : {A : Type 0} → (A → Test) → List A → List Test → List Test
-test_each f [] rest = rest
-test_each f (x ∷ xs) rest = f x ∷ test_each f xs rest
-
 -- the reason of the first test that fails, where one does
 abbrev pub first_failing : List Test → Option Reason
 first_failing [] = None

@@ -30,8 +30,8 @@ pub record Check : Type 1 where
 abbrev pub check : Reason → Type 0 → Check
 check reason holds = record { reason = reason; holds = holds }
 
--- a check for each element of a list, and then the others
-abbrev pub for_each : {A : Type 0} → (A → Check) → List A → List Check → List Check
+-- what a function makes of each element of a list, as a check or a test, and then the others
+abbrev pub for_each {ℓ} : {A : Type 0} {B : Type ℓ} → (A → B) → List A → List B → List B
 for_each f [] rest = rest
 for_each f (x ∷ xs) rest = f x ∷ for_each f xs rest
 
