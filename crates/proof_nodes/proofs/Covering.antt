@@ -6,7 +6,8 @@ use Rattle.std.proofs.lemmas.Bool.{true≢false}
 use Rattle.int_laws.specs.NormalForm.{is_zero}
 use Rattle.model.specs.Bounds.{Bound, val, val_sum}
 use Rattle.linear_forms.specs.Forms.{Form, at, list_dot, form_value}
-use Rattle.proof_nodes.specs.Numbers.{rounded_up, positive_part}
+use Rattle.rule_forms.specs.Bounds.{height}
+use Rattle.proof_nodes.specs.Numbers.{rounded_up}
 use Rattle.proof_nodes.specs.Composed.{place_parts, rest_bound, form_bound, no_place}
 use Rattle.proof_nodes.specs.ComposedSizes.{inner_sum}
 pub use Rattle.int_laws.proofs.ZeroLaws.{is_zero-true as told_zero, is_zero-false as told_not_zero}
@@ -92,14 +93,14 @@ module _ (den : ℕ) (over : 1 ≤ den) (m : List ℕ) (g : ℕ) where
       → form_value f z (pos 1) ≤ℤ pos (den * (inner_sum f.coefs den inside * g + val (rest_bound f den inside sizes) m))
   form-covered f inside sizes z inner outer =
       let places = val_sum (place_parts f.coefs den inside sizes) m in
-      let constant : (f.constant *ℤ pos 1) ≤ℤ pos (den * rounded_up (positive_part f.constant) den) =
+      let constant : (f.constant *ℤ pos 1) ≤ℤ pos (den * rounded_up (height f.constant) den) =
       constant-covered f.constant in
       both_covered (list_dot f.coefs z) (f.constant *ℤ pos 1) (inner_sum f.coefs den inside * g + places)
-      (rounded_up (positive_part f.constant) den)
-      (inner_sum f.coefs den inside * g + (rounded_up (positive_part f.constant) den + places))
+      (rounded_up (height f.constant) den)
+      (inner_sum f.coefs den inside * g + (rounded_up (height f.constant) den + places))
       (dot-covered f.coefs inside sizes z inner outer) constant (omega arith)
     where
-      constant-covered : (c : ℤ) → (c *ℤ pos 1) ≤ℤ pos (den * rounded_up (positive_part c) den)
+      constant-covered : (c : ℤ) → (c *ℤ pos 1) ≤ℤ pos (den * rounded_up (height c) den)
       constant-covered (pos n) = let l : n ≤ den * rounded_up n den = rounds_up n den over in omega (arith, ints, l)
       constant-covered (negsuc n) = omega (arith, ints)
 
@@ -109,15 +110,15 @@ no_inner_sum [] den = refl
 no_inner_sum (c ∷ cs) den = let e : inner_sum cs den (λ j. false) ≡ 0 = no_inner_sum cs den in omega (arith, e)
 
 -- the positive part of a form's value is at most the denominator times the form as a bound
-pub positive_part-covered : (den : ℕ) → 1 ≤ den → (m : List ℕ) (f : Form) (sizes : ℕ → Bound) (z : ℕ → ℤ)
+pub height-covered : (den : ℕ) → 1 ≤ den → (m : List ℕ) (f : Form) (sizes : ℕ → Bound) (z : ℕ → ℤ)
     → ((j : ℕ) → at f.coefs j ≢ pos 0 → nat_abs (z j) ≤ val (sizes j) m)
-    → positive_part (form_value f z (pos 1)) ≤ den * val (form_bound f den sizes) m
-positive_part-covered den over m f sizes z h =
+    → height (form_value f z (pos 1)) ≤ den * val (form_bound f den sizes) m
+height-covered den over m f sizes z h =
     positive (form_value f z (pos 1)) _
     (form-covered den over m 0 f no_place sizes z (λ j e. absurd (true≢false (sym e))) (λ j n e. h j n))
     (no_inner_sum f.coefs den)
   where
     positive : (x : ℤ) (k : ℕ) → x ≤ℤ pos (den * (k * 0 + val (form_bound f den sizes) m)) → k ≡ 0
-        → positive_part x ≤ den * val (form_bound f den sizes) m
+        → height x ≤ den * val (form_bound f den sizes) m
     positive (pos n) k l e = omega (arith, ints, l)
     positive (negsuc n) k l e = omega arith

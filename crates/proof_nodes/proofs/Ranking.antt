@@ -12,9 +12,9 @@ use Rattle.model.proofs.RunLaws.{one_if_same-same, one_if_same-other}
 use Rattle.linear_forms.specs.Forms.{Form, at, form_value}
 use Rattle.linear_forms.specs.Certificates.{Implies}
 use Rattle.linear_forms.proofs.CertificateLaws.{implied_on_points}
+use Rattle.rule_forms.specs.Bounds.{height}
 use Rattle.proof_nodes.specs.Nodes.{SymbolForm, RankNode}
 use Rattle.model.specs.Entries.{is_in, is_left_by, enters, entries}
-use Rattle.proof_nodes.specs.Numbers.{positive_part}
 use Rattle.model.specs.Paths.{source_of, target_of, same_symbol, entry_and_rules}
 use Rattle.linear_forms.specs.Losses.{at_new_values, loss}
 use Rattle.proof_nodes.specs.Combined.{form_at}
@@ -32,7 +32,7 @@ use Rattle.model.proofs.Membership.{told_same, same_number, no_is_not_yes, list_
 use Rattle.model.proofs.Entries.{listed-told}
 use Rattle.proof_nodes.proofs.LastSteps.{source-step, target-step, last_is_numbered, same_symbol-from}
 use Rattle.model.proofs.StepLaws.{stands}
-use Rattle.proof_nodes.proofs.Covering.{positive_part-covered}
+use Rattle.proof_nodes.proofs.Covering.{height-covered}
 use Rattle.proof_nodes.proofs.GoodFacts.{IsGood, IsGoodTable, known-time, known-size, known_time-based, known_size-based}
 use Rattle.proof_nodes.proofs.Bases.{parts_for-based, rest_bound-based}
 
@@ -99,12 +99,12 @@ floors s t b free c x f k l h =
     from w n v a b' c' h' = omega (arith, ints, a, b', c', h')
 
 -- positive parts fall as the integers do, down to 0
-positive-falls : (x y : ℤ) (k : ℕ) → (y +ℤ pos k) ≤ℤ x → pos k ≤ℤ x → positive_part y + k ≤ positive_part x
+positive-falls : (x y : ℤ) (k : ℕ) → (y +ℤ pos k) ≤ℤ x → pos k ≤ℤ x → height y + k ≤ height x
 positive-falls (pos x) (pos y) k h l = omega (arith, ints, h)
 positive-falls (pos x) (negsuc y) k h l = omega (arith, ints, l)
 positive-falls (negsuc x) y k h l = absurd (omega (arith, ints, l))
 
-positive-keeps : (x y : ℤ) → (y +ℤ pos 0) ≤ℤ x → positive_part y ≤ positive_part x
+positive-keeps : (x y : ℤ) → (y +ℤ pos 0) ≤ℤ x → height y ≤ height x
 positive-keeps (pos x) (pos y) h = omega (arith, ints, h)
 positive-keeps (pos x) (negsuc y) h = omega arith
 positive-keeps (negsuc x) (pos y) h = absurd (omega (arith, ints, h))
@@ -115,7 +115,7 @@ module _ (s : Setting) (true_to : IsFaithful s) (table : Table) (good : IsGoodTa
   -- the positive part of the function where the run stands at a source of the set, else 0
   abbrev level : Config → ℕ
   level c = cond (is_left_by s.program node.set (Some c.at))
-      (positive_part (value_at (rank_form node.forms (Some c.at)) c)) 0
+      (height (value_at (rank_form node.forms (Some c.at)) c)) 0
 
   -- it is the one level that a configuration has
   abbrev HasLevel : Config → ℕ → Type 0
@@ -157,15 +157,15 @@ module _ (s : Setting) (true_to : IsFaithful s) (table : Table) (good : IsGoodTa
       go true e =
           let entry = entry_listed steps c run out e in
           let there = stands s.program start steps c run in
-          let covered : positive_part (value_at (rank_form node.forms (target_of s.program (last_rule steps))) c) ≤
+          let covered : height (value_at (rank_form node.forms (target_of s.program (last_rule steps))) c) ≤
           node.den * weight (last_rule steps) =
-          positive_part-covered node.den h.shape.den (sizes_of_start start)
+          height-covered node.den h.shape.den (sizes_of_start start)
           (rank_form node.forms (target_of s.program (last_rule steps)))
           (sizes_after table.size (last_rule steps)) (values_at c)
           (λ j n. let size = known-size s.program table good (last_rule steps) (suc j)
           (h.sizes (last_rule steps) (listed-told s.program node.set (last_rule steps) entry) j n) in size.each start steps c run refl) in
           rw e (le_trans (subst
-          (λ (o : Option ℕ). positive_part (value_at (rank_form node.forms o) c) ≤ node.den * weight
+          (λ (o : Option ℕ). height (value_at (rank_form node.forms o) c) ≤ node.den * weight
           (last_rule steps)) there covered)
           (mul-le-mul_left node.den (allowed weight listed (last_rule steps) entry)))
 
@@ -234,11 +234,11 @@ module _ (s : Setting) (true_to : IsFaithful s) (table : Table) (good : IsGoodTa
       point.z (pos 1)) (source-step s.program b step c x) shown)
 
   -- the level is at most the positive part of the function
-  level-at_most : (c : Config) → level c ≤ positive_part (value_at (form_here c) c)
+  level-at_most : (c : Config) → level c ≤ height (value_at (form_here c) c)
   level-at_most c = go (is_left_by s.program node.set (Some c.at)) refl
     where
       go : (v : Bool) → is_left_by s.program node.set (Some c.at) ≡ v
-          → level c ≤ positive_part (value_at (form_here c) c)
+          → level c ≤ height (value_at (form_here c) c)
       go true e = rw e (omega arith)
       go false e = rw e (omega arith)
 
@@ -247,7 +247,7 @@ module _ (s : Setting) (true_to : IsFaithful s) (table : Table) (good : IsGoodTa
       → level c + node.den * one_if_same step.rule node.rule ≤ level b
   pays b step c x inside = go (step.rule == node.rule) refl
     where
-      here : level b ≡ positive_part (value_at (form_here b) b)
+      here : level b ≡ height (value_at (form_here b) b)
       here = let left = source_left b step c x inside in rw left refl
 
       go : (v : Bool) → (step.rule == node.rule) ≡ v → level c + node.den * one_if_same step.rule node.rule ≤ level b

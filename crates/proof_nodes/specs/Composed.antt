@@ -4,8 +4,9 @@ use Rattle.int_laws.specs.NormalForm.{is_zero}
 use Rattle.model.specs.Programs.{Program}
 use Rattle.model.specs.Bounds.{Bound, Constant, SumOf, ProductOf, Parts, NoParts, Part}
 use Rattle.linear_forms.specs.Forms.{Form}
+use Rattle.rule_forms.specs.Bounds.{height}
 use Rattle.proof_nodes.specs.Nodes.{SymbolForm, RankNode}
-use Rattle.proof_nodes.specs.Numbers.{rounded_up, positive_part}
+use Rattle.proof_nodes.specs.Numbers.{rounded_up}
 use Rattle.model.specs.Paths.{target_of}
 use Rattle.model.specs.Entries.{entries}
 use Rattle.linear_forms.specs.RuleQuestions.{constant_form}
@@ -34,7 +35,7 @@ place_parts (c ∷ cs) den left_out sizes =
 -- rounded up, and the parts of the places
 abbrev pub rest_bound : Form → ℕ → (ℕ → Bool) → (ℕ → Bound) → Bound
 rest_bound f den left_out sizes =
-    SumOf (Part (Constant (rounded_up (positive_part f.constant) den)) (place_parts f.coefs den left_out sizes))
+    SumOf (Part (Constant (rounded_up (height f.constant) den)) (place_parts f.coefs den left_out sizes))
 
 -- no place
 abbrev pub no_place : ℕ → Bool

@@ -1,5 +1,5 @@
 -- Ascending numbers, and the rounding of coefficients.
-use Rattle.std.specs.Prelude.{ℕ, ◌+◌, ◌-◌, ◌/◌, ◌<◌, List, [], ◌∷◌, ℤ, pos, negsuc, ⊤}
+use Rattle.std.specs.Prelude.{ℕ, ◌+◌, ◌-◌, ◌/◌, ◌<◌, List, [], ◌∷◌, ⊤}
 
 -- each number is less than the next
 abbrev pub IsAscending : List ℕ → Type 0
@@ -10,8 +10,3 @@ IsAscending (x ∷ y ∷ rest) = (x < y) × IsAscending (y ∷ rest)
 -- a number over a denominator, rounded up
 abbrev pub rounded_up : ℕ → ℕ → ℕ
 rounded_up n den = (n + (den - 1)) / den
-
--- the positive part of an integer
-abbrev pub positive_part : ℤ → ℕ
-positive_part (pos n) = n
-positive_part (negsuc n) = 0

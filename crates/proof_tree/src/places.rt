@@ -4,8 +4,9 @@ ghost use Rattle.std.specs.Prelude.{◌≡◌, ℕ, ◌+◌, ◌≤◌, ◌<◌,
 ghost use Rattle.int_laws.specs.NormalForm.{is_zero};
 ghost use Rattle.model.specs.Bounds.{Constant, ProductOf};
 ghost use Rattle.bound_expr.specs.Views.{bound_of, bounds_of, parts_of};
+ghost use Rattle.rule_forms.specs.Bounds.{height};
 ghost use Rattle.proof_nodes.specs.Known.{known as known_bound};
-ghost use Rattle.proof_nodes.specs.Numbers.{rounded_up, positive_part};
+ghost use Rattle.proof_nodes.specs.Numbers.{rounded_up};
 ghost use Rattle.proof_nodes.specs.Composed.{both_parts, place_parts, rest_bound, sizes_after};
 ghost use Rattle.proof_nodes.specs.ComposedSizes.{is_member};
 ghost use Rattle.proof_tree.specs.Views.{member_of};
@@ -35,7 +36,7 @@ pub fn rounded_coefficient(coef: &i64, den: u64) -> u128
 
 // The positive part of a number.
 fn positive(n: i64) -> u64
-    ensures { result ≡ positive_part n }
+    ensures { result ≡ height n }
 {
     if n > 0 { n.unsigned_abs() } else { 0 }
 }

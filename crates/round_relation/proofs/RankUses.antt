@@ -11,8 +11,9 @@ use Rattle.model.specs.Entries.{is_in, entries}
 use Rattle.model.specs.Paths.{target_of}
 use Rattle.model.proofs.Membership.{same_number, is_in-cases, no_is_not_yes}
 use Rattle.linear_forms.specs.Forms.{at}
+use Rattle.rule_forms.specs.Bounds.{height}
 use Rattle.proof_nodes.specs.Nodes.{RankNode}
-use Rattle.proof_nodes.specs.Numbers.{rounded_up, positive_part}
+use Rattle.proof_nodes.specs.Numbers.{rounded_up}
 use Rattle.proof_nodes.specs.Known.{Table, IsKnown, known}
 use Rattle.proof_nodes.specs.Composed.{both_parts, parts_for, place_parts, no_place, rank_form, entry_bound, time_of}
 use Rattle.proof_nodes.specs.Composed.{sizes_after}
@@ -79,7 +80,7 @@ same_rank_time p node a b times sizes =
         entry_with : Option Bound → Parts → Bound
         entry_with o bs =
             ProductOf (both_parts (known o)
-            (SumOf (Part (Constant (rounded_up (positive_part (rank_form node.forms
+            (SumOf (Part (Constant (rounded_up (height (rank_form node.forms
             (target_of p e)).constant) node.den)) bs)))
 
 -- of two lists that are joined

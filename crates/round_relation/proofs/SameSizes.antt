@@ -11,8 +11,9 @@ use Rattle.model.specs.Paths.{pre}
 use Rattle.model.specs.Polynomials.{Polynomial}
 use Rattle.model.proofs.Membership.{same_number, is_in-filter}
 use Rattle.linear_forms.specs.Forms.{Form, at}
+use Rattle.rule_forms.specs.Bounds.{height}
 use Rattle.proof_nodes.specs.Nodes.{Spot, Arm, Linear, Poly, Member}
-use Rattle.proof_nodes.specs.Numbers.{rounded_up, positive_part}
+use Rattle.proof_nodes.specs.Numbers.{rounded_up}
 use Rattle.proof_nodes.specs.Known.{Table, IsKnown, known}
 use Rattle.proof_nodes.specs.Setting.{Setting}
 use Rattle.proof_nodes.specs.Limits.{IsSmallComposed}
@@ -61,7 +62,7 @@ rest-same : (form : Form) (den : ℕ) (left_out : ℕ → Bool) (f g : ℕ → B
     → ((j : ℕ) → at form.coefs j ≢ pos 0 → left_out j ≡ false → f j ≡ g j)
     → rest_bound form den left_out f ≡ rest_bound form den left_out g
 rest-same form den left_out f g h =
-    ap (λ (bs : Parts). SumOf (Part (Constant (rounded_up (positive_part form.constant) den)) bs))
+    ap (λ (bs : Parts). SumOf (Part (Constant (rounded_up (height form.constant) den)) bs))
     (place_parts-same form.coefs den left_out f g h)
 
 -- an arm with the same bounds where it reads

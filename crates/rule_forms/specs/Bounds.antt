@@ -14,7 +14,7 @@ pub record IsAbove (rows : List Form) (w g : Form) (q : ℕ) : Type 0 where
 pub record HasNone (rows : List Form) (left : ℕ) (w : Form) (kind : Kind) : Type 0 where
   pub each : (g : Form) (q : ℕ) → 1 ≤ q → IsOfKind left kind g q → ¬ (IsAbove rows w g q)
 
--- the positive part of the constant
+-- the positive part of an integer, as of the constant of a form
 abbrev pub height : ℤ → ℕ
 height (pos n) = n
 height (negsuc n) = 0

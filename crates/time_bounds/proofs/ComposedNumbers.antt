@@ -11,8 +11,9 @@ use Rattle.model.specs.Paths.{target_of}
 use Rattle.model.specs.Entries.{entries}
 use Rattle.linear_forms.specs.Forms.{Form}
 use Rattle.bound_expr.specs.Limits.{constant_limit}
+use Rattle.rule_forms.specs.Bounds.{height}
 use Rattle.proof_nodes.specs.Nodes.{SymbolForm, RankNode}
-use Rattle.proof_nodes.specs.Numbers.{rounded_up, positive_part}
+use Rattle.proof_nodes.specs.Numbers.{rounded_up}
 use Rattle.proof_nodes.specs.Limits.{IsInLimit, IsFormInLimit}
 use Rattle.proof_nodes.specs.Known.{Table, known}
 use Rattle.proof_nodes.specs.Setting.{Setting}
@@ -27,9 +28,9 @@ rounded_up-small n den low few =
     omega (arith, less, low, few)
 
 -- the positive part of an integer is at most its absolute value
-positive_part-low : (c : ℤ) → positive_part c ≤ nat_abs c
-positive_part-low (pos n) = omega arith
-positive_part-low (negsuc n) = omega arith
+height-low : (c : ℤ) → height c ≤ nat_abs c
+height-low (pos n) = omega arith
+height-low (negsuc n) = omega arith
 
 -- the numbers of a ranking function at a symbol are within the limit
 rank_form-limit : (p : Program) (forms : List SymbolForm) → All (HasFormShape p) forms → (a : Option ℕ)
@@ -82,12 +83,12 @@ module _ (F : Bound → Type 0) (constant : (c : ℕ) → c ≤ constant_limit �
   pub rest_bound-each : (f : Form) (den : ℕ) (left_out : ℕ → Bool) (sizes : ℕ → Bound) → IsFormInLimit f → IsInLimit den
       → ((j : ℕ) → EachNode F (sizes j)) → EachNode F (rest_bound f den left_out sizes)
   rest_bound-each f den left_out sizes low few h =
-      let within : positive_part f.constant ≤ nat_abs f.constant = positive_part-low f.constant in
-      let limit : IsInLimit (positive_part f.constant) = omega (arith, within, low.constant) in (
+      let within : height f.constant ≤ nat_abs f.constant = height-low f.constant in
+      let limit : IsInLimit (height f.constant) = omega (arith, within, low.constant) in (
         sum _,
         (
-          constant (rounded_up (positive_part f.constant) den)
-              (rounded_up-small (positive_part f.constant) den limit few),
+          constant (rounded_up (height f.constant) den)
+              (rounded_up-small (height f.constant) den limit few),
           place_parts-each f.coefs den left_out sizes low.coefs few h,
         ),
       )

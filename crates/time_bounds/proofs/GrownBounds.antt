@@ -9,9 +9,10 @@ use Rattle.model.specs.Paths.{pre}
 use Rattle.model.specs.Polynomials.{Polynomial}
 use Rattle.model.proofs.Membership.{is_in-filter}
 use Rattle.linear_forms.specs.Forms.{at}
+use Rattle.rule_forms.specs.Bounds.{height}
 use Rattle.proof_nodes.specs.Nodes.{Arm, Linear, Poly, Member}
 use Rattle.proof_nodes.specs.Known.{IsKnown, Table, known}
-use Rattle.proof_nodes.specs.Numbers.{rounded_up, positive_part}
+use Rattle.proof_nodes.specs.Numbers.{rounded_up}
 use Rattle.proof_nodes.specs.Composed.{both_parts, parts_for, place_parts, no_place, sizes_after}
 use Rattle.proof_nodes.specs.ComposedSizes.{monomial_parts, polynomial_bound, arm_bound, has_variable, reads, poly_at, spread_part, is_member, slope_of, offset_of, Flow, flow, flows_from, flows_into, flows, factor_of, addition_of, base_of, rules_of, multiplies, adds, growth_parts, addition_parts, loop_bound}
 use Rattle.proof_nodes.specs.AcceptsSizes.{ArmHasSizes, HasSizesAfter, HasSizesBefore, IsStraightArm, IsStraight, spread_size, cycle_size}
@@ -62,7 +63,7 @@ arm-agrees : (o : Option Polynomial) (arm : Arm) (a b : ℕ → Bound) → ((j :
     → arm_bound o arm a ≡ arm_bound o arm b
 arm-agrees o (Linear den form multipliers) a b h =
     let places = place_parts-agree form.coefs den no_place a b (λ j r n. h j r) in
-    λ i. SumOf (Part (Constant (rounded_up (positive_part form.constant) den)) (places i))
+    λ i. SumOf (Part (Constant (rounded_up (height form.constant) den)) (places i))
 arm-agrees o Poly a b h = polynomial-agrees o a b h
 
 module _ (s : Setting) (old new : Table) (grown : HasGrown old new) where
@@ -100,7 +101,7 @@ module _ (s : Setting) (old new : Table) (grown : HasGrown old new) where
     offset-stays m (Linear den form multipliers) e h k =
         let places = place_parts-agree form.coefs den (is_member members e) (sizes_after old.size e) (sizes_after new.size e)
         (λ j r n. size-stays e j (h j r n)) in
-        λ i. SumOf (Part (Constant (rounded_up (positive_part form.constant) den)) (places i))
+        λ i. SumOf (Part (Constant (rounded_up (height form.constant) den)) (places i))
     offset-stays m Poly e h k =
         polynomial-agrees (poly_at s m.spot) (sizes_after old.size e) (sizes_after new.size e)
         (λ j r. size-stays e j (h j r (k j r)))
