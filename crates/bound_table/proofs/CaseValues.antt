@@ -1,7 +1,7 @@
 -- Each case keeps the value of a node.
 use Rattle.std.proofs.Common.{◌≡◌, ℕ, zero, suc, ◌*◌, ◌≤◌, nat_le, Bool, true, false, cond, ◌&&◌, ◌||◌, List}
 use Rattle.std.proofs.Common.{[], ◌∷◌, ◌++◌, refl, ap, sym, ◌∙◌, arith}
-use Rattle.std.specs.List.{list_any}
+use Rattle.std.specs.List.{list_any, count_by}
 use Rattle.std.specs.Ordering.{is_lt}
 use Rattle.std.proofs.lemmas.Bool.{eqb-true, leb-true}
 use Rattle.std.proofs.Math.Nat.{mul_assoc, mul_comm}
@@ -10,7 +10,6 @@ use Rattle.bound_expr.specs.Kinds.{is_constant}
 use Rattle.bound_expr.specs.Limits.{constant_limit}
 use Rattle.bound_table.specs.declared.kinds.Kind.{Kind}
 use Rattle.bound_table.specs.declared.kinds.Kind.TheVariants.{AsSum, AsProd, AsMax}
-use Rattle.bound_table.specs.Counting.{how_many}
 use Rattle.bound_table.specs.Kinds.{whole, unit_of, joined, all_joined, is_zero}
 use Rattle.bound_table.specs.Folding.{spread, spliced, constants_in, without_constants, with_one_constant, folded}
 use Rattle.bound_table.specs.Folding.{zeroed, is_neutral, without_neutral, simple}
@@ -88,7 +87,7 @@ parts_at-constants k (p ∷ ps) m =
     ∙ joined-swap k (val p m) (all_joined k (constants_in ps)) (parts_at k (without_constants ps) m)
 
 -- one constant in place of all comes to it and the others
-parts_at-with_one_constant : (k : Kind) (c : ℕ) (ps : List Bound) (m : List ℕ) → 1 ≤ how_many is_constant ps
+parts_at-with_one_constant : (k : Kind) (c : ℕ) (ps : List Bound) (m : List ℕ) → 1 ≤ count_by is_constant ps
     → parts_at k (with_one_constant c ps) m ≡ joined k c (parts_at k (without_constants ps) m)
 parts_at-with_one_constant k c [] m some = absurd (omega arith)
 parts_at-with_one_constant k c (Constant d ∷ ps) m some = refl
@@ -99,14 +98,14 @@ parts_at-with_one_constant k c (p ∷ ps) m some =
 -- folding keeps the value
 pub parts_at-folded : (k : Kind) (ps : List Bound) (m : List ℕ) → parts_at k (folded k ps) m ≡ parts_at k ps m
 parts_at-folded k ps m =
-    go (nat_le 2 (how_many is_constant ps)) (nat_le (all_joined k (constants_in ps)) constant_limit) refl
+    go (nat_le 2 (count_by is_constant ps)) (nat_le (all_joined k (constants_in ps)) constant_limit) refl
   where
-    go : (many small : Bool) → nat_le 2 (how_many is_constant ps) ≡ many
+    go : (many small : Bool) → nat_le 2 (count_by is_constant ps) ≡ many
         → parts_at k (cond (many && small) (with_one_constant (all_joined k (constants_in ps)) ps) ps) m
         ≡ parts_at k ps m
     go true true is =
         parts_at-with_one_constant k (all_joined k (constants_in ps)) ps m
-        (omega (arith, leb-true 2 (how_many is_constant ps) is))
+        (omega (arith, leb-true 2 (count_by is_constant ps) is))
         ∙ sym (parts_at-constants k ps m)
     go true false is = refl
     go false small is = refl

@@ -1,6 +1,6 @@
 -- What holds of every part before a case holds of every part after it.
 use Rattle.std.proofs.Common.{◌≡◌, ℕ, ◌≤◌, nat_le, Bool, true, false, cond, ◌&&◌, List, [], ◌∷◌, ◌++◌, refl}
-use Rattle.std.specs.List.{list_any}
+use Rattle.std.specs.List.{list_any, count_by}
 use Rattle.std.specs.Ordering.{is_lt}
 use Rattle.std.proofs.lemmas.Bool.{leb-true}
 use Rattle.model.specs.Bounds.{Bound, Constant}
@@ -8,7 +8,6 @@ use Rattle.bound_expr.specs.Limits.{constant_limit}
 use Rattle.bound_expr.specs.Kinds.{is_constant}
 use Rattle.bound_table.specs.declared.kinds.Kind.{Kind}
 use Rattle.bound_table.specs.declared.kinds.Kind.TheVariants.{AsSum, AsProd, AsMax}
-use Rattle.bound_table.specs.Counting.{how_many}
 use Rattle.bound_table.specs.Kinds.{all_joined}
 use Rattle.bound_table.specs.Terms.{factors_of}
 use Rattle.bound_table.specs.Folding.{spread, spliced, constants_in, without_constants, with_one_constant, folded}
@@ -57,7 +56,7 @@ Each-with_one_constant P c (p ∷ ps) here each = go (is_constant p) (Each-with_
 -- so folding keeps it
 pub Each-folded : (k : Kind) (P : Bound → Type 0) (ps : List Bound) → ((c : ℕ) → c ≤ constant_limit → P (Constant c))
     → Each P ps → Each P (folded k ps)
-Each-folded k P ps constant each = go (nat_le 2 (how_many is_constant ps)) (nat_le total constant_limit) refl
+Each-folded k P ps constant each = go (nat_le 2 (count_by is_constant ps)) (nat_le total constant_limit) refl
   where
     total : ℕ
     total = all_joined k (constants_in ps)

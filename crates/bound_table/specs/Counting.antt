@@ -1,5 +1,5 @@
--- How many of a list are of one sort.
-use Rattle.std.specs.Prelude.{ℕ, ◌+◌, cond, Bool, List, [], ◌∷◌}
+-- The sorts of bounds that are counted.
+use Rattle.std.specs.Prelude.{Bool}
 use Rattle.model.specs.Bounds.{Bound}
 use Rattle.bound_expr.specs.Kinds.{is_constant, is_power, is_input}
 use Rattle.bound_table.specs.declared.kinds.Counted.{Counted}
@@ -13,8 +13,3 @@ is_counted Zeros = is_zero
 is_counted Powers = is_power
 is_counted Nests = is_nest
 is_counted Inputs = is_input
-
--- how many of the list pass the test
-abbrev pub how_many : (Bound → Bool) → List Bound → ℕ
-how_many test [] = 0
-how_many test (p ∷ ps) = cond (test p) 1 0 + how_many test ps

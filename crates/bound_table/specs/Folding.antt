@@ -1,6 +1,6 @@
 -- The cases that splice, fold and drop parts.
 use Rattle.std.specs.Prelude.{ℕ, ◌==◌, nat_le, ◌&&◌, cond, Bool, false, List, [], ◌∷◌, ◌++◌}
-use Rattle.std.specs.List.{list_any}
+use Rattle.std.specs.List.{list_any, count_by}
 use Rattle.model.specs.Bounds.{Bound, Constant, SumOf, ProductOf, MaximumOf}
 use Rattle.bound_expr.specs.Views.{list_of}
 use Rattle.bound_expr.specs.Limits.{constant_limit}
@@ -8,7 +8,6 @@ use Rattle.bound_expr.specs.Capped.{capped}
 use Rattle.bound_expr.specs.Kinds.{is_constant}
 use Rattle.bound_table.specs.declared.kinds.Kind.{Kind}
 use Rattle.bound_table.specs.declared.kinds.Kind.TheVariants.{AsSum, AsProd, AsMax}
-use Rattle.bound_table.specs.Counting.{how_many}
 use Rattle.bound_table.specs.Kinds.{whole, unit_of, joined, all_joined, is_zero}
 
 -- the parts of a node of the kind; any other bound is its own only part
@@ -47,7 +46,7 @@ with_one_constant c (p ∷ ps) = cond (is_constant p) (Constant c ∷ without_co
 -- two or more constants become one, where the first one stands, where what they make is at most 2^127 - 1
 abbrev pub folded : Kind → List Bound → List Bound
 folded k ps =
-    cond (nat_le 2 (how_many is_constant ps) && nat_le (all_joined k (constants_in ps)) constant_limit)
+    cond (nat_le 2 (count_by is_constant ps) && nat_le (all_joined k (constants_in ps)) constant_limit)
     (with_one_constant (all_joined k (constants_in ps)) ps) ps
 
 -- a product with a part 0 becomes 0

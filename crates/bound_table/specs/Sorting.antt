@@ -1,5 +1,6 @@
 -- The order of parts, and sorting by it.
 use Rattle.std.specs.Prelude.{ℕ, cond, Bool, false, List, [], ◌∷◌, ◌++◌}
+use Rattle.std.specs.List.{count_by}
 use Rattle.std.specs.declared.cmp.Ordering.{Ordering}
 use Rattle.std.specs.Ordering.{nat_cmp, ordering_then, is_lt}
 use Rattle.std.specs.Cmp.Lexicographic.{slice_cmp}
@@ -8,7 +9,7 @@ use Rattle.bound_table.specs.declared.kinds.Kind.{Kind}
 use Rattle.bound_table.specs.declared.kinds.Kind.TheVariants.{AsSum, AsProd, AsMax}
 use Rattle.bound_table.specs.declared.kinds.Counted.{Counted}
 use Rattle.bound_table.specs.declared.kinds.Counted.TheVariants.{Powers, Nests, Inputs}
-use Rattle.bound_table.specs.Counting.{how_many, is_counted}
+use Rattle.bound_table.specs.Counting.{is_counted}
 use Rattle.bound_table.specs.Terms.{constant_of, factors_of}
 use Rattle.bound_table.specs.Comparison.{compared}
 
@@ -27,7 +28,7 @@ factors_compared p q = ordering_then (nat_cmp (factor_rank p) (factor_rank q)) (
 
 -- how many factors of a part are counted
 abbrev pub count_in : Counted → Bound → ℕ
-count_in c p = how_many (is_counted c) (factors_of p)
+count_in c p = count_by (is_counted c) (factors_of p)
 
 -- the parts of a sum or maximum go by these three counts, greater first, then by the factors, least first, then by the
 -- constant, greater first

@@ -1,7 +1,7 @@
 ghost use Rattle.std.specs.Prelude.{◌≡◌};
-ghost use Rattle.std.specs.List.{list_any};
+ghost use Rattle.std.specs.List.{list_any, count_by};
 ghost use Rattle.bound_expr.specs.Views.{bound_of, bounds_of};
-ghost use Rattle.bound_table.specs.Counting.{is_counted as counts, how_many as number_of};
+ghost use Rattle.bound_table.specs.Counting.{is_counted as counts};
 
 use crate::kinds::Counted;
 use crate::terms::{is_const, is_zero};
@@ -9,7 +9,7 @@ use bound_expr::Bound;
 
 // How many of the parts are counted.
 pub(crate) fn how_many(counted: Counted, parts: &[Bound]) -> usize
-    ensures { result ≡ number_of (counts counted) (bounds_of parts.now) }
+    ensures { result ≡ count_by (counts counted) (bounds_of parts.now) }
 {
     let mut number = 0usize;
     for part in parts {

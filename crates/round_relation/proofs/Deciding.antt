@@ -1,21 +1,21 @@
 -- Whether a path of allowed rules leads from one symbol to another can be told.
 use Rattle.std.proofs.Common.{◌≡◌, ◌⊎◌, ◌↔◌, inl, inr, ℕ, zero, suc, ◌+◌, ◌<◌, ◌≤◌, ◌==◌, ◌&&◌, ◌||◌, Bool, true, false}
 use Rattle.std.proofs.Common.{cond, List, [], ◌∷◌, length, Option, Some, None, refl, sym, ◌∙◌, ap, subst, arith}
-use Rattle.std.specs.List.{list_any}
+use Rattle.std.specs.List.{list_any, count_by}
 use Rattle.std.proofs.lemmas.Bool.{and_parts, or_left, or_right}
+use Rattle.std.proofs.lemmas.List.Sums.{count_by-le-length}
 use Rattle.model.specs.Programs.{Program, rule_at}
 use Rattle.model.specs.Entries.{is_in}
 use Rattle.model.specs.Paths.{Here, Onward, HasEdge, HasPath, source_of, target_of, source_in, target_in, same_symbol}
 use Rattle.model.proofs.Membership.{same_number, told_same, no_is_not_yes, is_in-cases, list_any-from, list_any-told}
 use Rattle.round_relation.specs.Tables.{rule_numbers}
-use Rattle.round_relation.specs.Numbering.{passing}
-use Rattle.round_relation.proofs.Cases.{either, told}
+use Rattle.round_relation.proofs.Cases.{either, told, counts-first}
 use Rattle.round_relation.proofs.Numbered.{rule_in}
 use Rattle.round_relation.proofs.EntryBounds.{edge_by, one_symbol}
 
 -- of two tests of which the second passes what the first does, the second passes more, or the same
 record MoreOrSame (ns : List ℕ) (f g : ℕ → Bool) : Type 0 where
-  pub cases : (passing f ns < passing g ns) ⊎ ((passing f ns ≡ passing g ns) ×
+  pub cases : (count_by f ns < count_by g ns) ⊎ ((count_by f ns ≡ count_by g ns) ×
       ((n : ℕ) → is_in n ns ≡ true → g n ≡ f n))
 
 one_test : (v w : Bool) → (v ≡ true → w ≡ true) → (a b : ℕ) (Same : Type 0) → (a < b) ⊎ ((a ≡ b) × Same)
@@ -31,28 +31,21 @@ one_test false false h a b Same (inr x) = inr (ap (λ (n : ℕ). 0 + n) x.0, (re
 more_or_same : (ns : List ℕ) (f g : ℕ → Bool) → ((n : ℕ) → f n ≡ true → g n ≡ true) → MoreOrSame ns f g
 more_or_same [] f g h = record { cases = inr (refl, λ n m. absurd (no_is_not_yes false refl m)) }
 more_or_same (k ∷ ns) f g h = record {
-  cases = widen (one_test (f k) (g k) (h k) (passing f ns) (passing g ns) ((n : ℕ) → is_in n ns ≡ true → g n ≡ f n)
-      (more_or_same ns f g h).cases);
+  cases = widen (counts-first f g k ns ((g k ≡ f k) × ((n : ℕ) → is_in n ns ≡ true → g n ≡ f n))
+      (one_test (f k) (g k) (h k) (count_by f ns) (count_by g ns) ((n : ℕ) → is_in n ns ≡ true → g n ≡ f n)
+      (more_or_same ns f g h).cases));
 }
   where
-    widen : (passing f (k ∷ ns) < passing g (k ∷ ns))
-        ⊎ ((passing f (k ∷ ns) ≡ passing g (k ∷ ns)) × ((g k ≡ f k) × ((n : ℕ) → is_in n ns ≡ true → g n ≡ f n)))
-        → (passing f (k ∷ ns) < passing g (k ∷ ns))
-        ⊎ ((passing f (k ∷ ns) ≡ passing g (k ∷ ns)) × ((n : ℕ) → is_in n (k ∷ ns) ≡ true → g n ≡ f n))
+    widen : (count_by f (k ∷ ns) < count_by g (k ∷ ns))
+        ⊎ ((count_by f (k ∷ ns) ≡ count_by g (k ∷ ns)) × ((g k ≡ f k) × ((n : ℕ) → is_in n ns ≡ true → g n ≡ f n)))
+        → (count_by f (k ∷ ns) < count_by g (k ∷ ns))
+        ⊎ ((count_by f (k ∷ ns) ≡ count_by g (k ∷ ns)) × ((n : ℕ) → is_in n (k ∷ ns) ≡ true → g n ≡ f n))
     widen (inl x) = inl x
     widen (inr x) = inr (
       x.0,
       λ n m. either (is_in-cases n k ns m) (λ e. subst (λ (i : ℕ). g i ≡ f i) (sym e) x.1.0)
           (λ l. x.1.1 n l),
     )
-
-passing_few : (f : ℕ → Bool) (ns : List ℕ) → passing f ns ≤ length ns
-passing_few f [] = omega arith
-passing_few f (k ∷ ns) = go (f k) refl (passing_few f ns)
-  where
-    go : (v : Bool) → f k ≡ v → passing f ns ≤ length ns → passing f (k ∷ ns) ≤ length (k ∷ ns)
-    go true e h = rw e (omega (arith, h))
-    go false e h = rw e (omega (arith, h))
 
 -- whether a symbol, where there is one, passes
 abbrev pub passes_at : (ℕ → Bool) → Option ℕ → Bool
@@ -152,11 +145,11 @@ module _ (p : Program) (f : ℕ → Bool) (a : ℕ) where
       from None m = m
       from (Some x) m = onward k x m
 
-  settles : (fuel k : ℕ) → length (rule_numbers p) ≤ fuel + passing (leaves (reaches k)) (rule_numbers p)
+  settles : (fuel k : ℕ) → length (rule_numbers p) ≤ fuel + count_by (leaves (reaches k)) (rule_numbers p)
       → (m : ℕ) × ((t : ℕ) → is_in t (rule_numbers p) ≡ true → leaves (reaches (suc m)) t ≡ leaves (reaches m) t)
   settles zero k h =
       either (more_or_same (rule_numbers p) (leaves (reaches k)) (leaves (reaches (suc k))) (leaves_more k)).cases
-      (λ more. absurd (omega (arith, h, more, passing_few (leaves (reaches (suc k))) (rule_numbers p))))
+      (λ more. absurd (omega (arith, h, more, count_by-le-length (leaves (reaches (suc k))) (rule_numbers p))))
       (λ same. (k, same.1))
   settles (suc fuel) k h =
       either (more_or_same (rule_numbers p) (leaves (reaches k)) (leaves (reaches (suc k))) (leaves_more k)).cases

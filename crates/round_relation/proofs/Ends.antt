@@ -1,6 +1,7 @@
 -- Each round gives a bound that was missing, or a further one gives nothing new.
 use Rattle.std.proofs.Common.{◌≡◌, ◌⊎◌, inl, inr, ℕ, ◌<◌, Bool, true, false, List, [], ◌∷◌, Option, Some, None, refl}
 use Rattle.std.proofs.Common.{sym, ◌∙◌, subst, arith}
+use Rattle.std.specs.List.{count_by}
 use Rattle.model.specs.Programs.{Program, Rule, rule_at}
 use Rattle.model.specs.Bounds.{Bound}
 use Rattle.model.specs.Entries.{is_in}
@@ -15,7 +16,6 @@ use Rattle.round_relation.specs.Searches.{Searches, SizeSearches, searches_of, s
 use Rattle.round_relation.specs.NewSizes.{Sizes, has_spot, TriesSizes}
 use Rattle.round_relation.specs.Components.{IsCovered}
 use Rattle.round_relation.specs.Rounds.{HasNewTimes, NextTimes, IsClosedByTimes, HasNewSizes, Next, IsClosed}
-use Rattle.round_relation.specs.Numbering.{passing}
 use Rattle.round_relation.specs.Laws.{unsized, untimed, missing, RoundsEnd}
 use Rattle.round_relation.proofs.Cases.{either, told}
 use Rattle.round_relation.proofs.Kept.{AreSameAt, AreSameSizes, sizes_kept, fewer_or_same}
@@ -45,18 +45,18 @@ same_table old new times sizes =
 
 -- times: fewer are missing, or all stay
 pub times_cases : (q : Searches) (s : Setting) (old : Table) (time : ℕ → Option Bound) → HasNewTimes q s old time
-    → (passing (λ t. lacks (time t)) (rule_numbers s.program) < untimed s.program old)
-    ⊎ ((passing (λ t. lacks (time t)) (rule_numbers s.program) ≡ untimed s.program old) ×
+    → (count_by (λ t. lacks (time t)) (rule_numbers s.program) < untimed s.program old)
+    ⊎ ((count_by (λ t. lacks (time t)) (rule_numbers s.program) ≡ untimed s.program old) ×
     ((t : ℕ) → old.time t ≡ time t))
 times_cases q s old time n = go ((fewer_or_same (rule_numbers s.program) old.time time n.known).cases)
   where
-    go : ((passing (λ t. lacks (time t)) (rule_numbers s.program) < passing (λ t. lacks (old.time t))
+    go : ((count_by (λ t. lacks (time t)) (rule_numbers s.program) < count_by (λ t. lacks (old.time t))
         (rule_numbers s.program))
-        ⊎ ((passing (λ t. lacks (time t)) (rule_numbers s.program) ≡ passing (λ t. lacks (old.time t))
+        ⊎ ((count_by (λ t. lacks (time t)) (rule_numbers s.program) ≡ count_by (λ t. lacks (old.time t))
         (rule_numbers s.program))
         × AreSameAt (rule_numbers s.program) time old.time))
-        → (passing (λ t. lacks (time t)) (rule_numbers s.program) < untimed s.program old)
-        ⊎ ((passing (λ t. lacks (time t)) (rule_numbers s.program) ≡ untimed s.program old) ×
+        → (count_by (λ t. lacks (time t)) (rule_numbers s.program) < untimed s.program old)
+        ⊎ ((count_by (λ t. lacks (time t)) (rule_numbers s.program) ≡ untimed s.program old) ×
         ((t : ℕ) → old.time t ≡ time t))
     go (inl less) = inl less
     go (inr same) = inr (same.0, λ t. at t (rule_at s.program t) refl)
@@ -89,9 +89,9 @@ sizes_cases p old new known (t ∷ ts) =
     go ((fewer_or_same (places_at p (target_of p t)) (old.size t) (new.size t) (known t)).cases)
     (sizes_cases p old new known ts)
   where
-    go : ((passing (λ i. lacks (new.size t i)) (places_at p (target_of p t)) < passing (λ i. lacks (old.size t i))
+    go : ((count_by (λ i. lacks (new.size t i)) (places_at p (target_of p t)) < count_by (λ i. lacks (old.size t i))
         (places_at p (target_of p t)))
-        ⊎ ((passing (λ i. lacks (new.size t i)) (places_at p (target_of p t)) ≡ passing (λ i. lacks (old.size t i))
+        ⊎ ((count_by (λ i. lacks (new.size t i)) (places_at p (target_of p t)) ≡ count_by (λ i. lacks (old.size t i))
         (places_at p (target_of p t)))
         × AreSameAt (places_at p (target_of p t)) (new.size t) (old.size t)))
         → ((unsized p new ts < unsized p old ts) ⊎ ((unsized p new ts ≡ unsized p old ts) × AreSameSizes p ts old new))

@@ -1,6 +1,7 @@
 -- Known bounds stay in a round.
 use Rattle.std.proofs.Common.{◌≡◌, ◌⊎◌, inl, inr, ℕ, ◌+◌, ◌<◌, cond, List, [], ◌∷◌, Option, Some, None, refl, ◌∙◌, ap}
 use Rattle.std.proofs.Common.{arith}
+use Rattle.std.specs.List.{count_by}
 use Rattle.model.specs.Programs.{Program}
 use Rattle.model.specs.Bounds.{Bound}
 use Rattle.model.specs.Paths.{target_of}
@@ -10,7 +11,7 @@ use Rattle.proof_nodes.specs.Nodes.{Spot}
 use Rattle.round_relation.specs.Tables.{lacks}
 use Rattle.round_relation.specs.Searches.{SizeSearches}
 use Rattle.round_relation.specs.NewSizes.{Sizes, TriesSizes}
-use Rattle.round_relation.specs.Numbering.{passing}
+use Rattle.round_relation.proofs.Cases.{counts-first}
 
 -- two tables have the same bounds at these numbers
 abbrev pub AreSameAt : List ℕ → (ℕ → Option Bound) → (ℕ → Option Bound) → Type 0
@@ -33,8 +34,8 @@ sizes_kept z time old (c ∷ cs) new h t i b e = sizes_kept z time h.0 cs new h.
 -- of two lists of bounds of which the second knows what the first does, fewer are missing in the second, or both are
 -- the same
 pub record FewerOrSame (ns : List ℕ) (f g : ℕ → Option Bound) : Type 0 where
-  pub cases : (passing (λ n. lacks (g n)) ns < passing (λ n. lacks (f n)) ns)
-      ⊎ ((passing (λ n. lacks (g n)) ns ≡ passing (λ n. lacks (f n)) ns) × AreSameAt ns g f)
+  pub cases : (count_by (λ n. lacks (g n)) ns < count_by (λ n. lacks (f n)) ns)
+      ⊎ ((count_by (λ n. lacks (g n)) ns ≡ count_by (λ n. lacks (f n)) ns) × AreSameAt ns g f)
 
 -- one bound more
 with_one : (x y : Option Bound) (a b : ℕ) (Same : Type 0) → ((c : Bound) → x ≡ Some c → y ≡ Some c)
@@ -56,8 +57,9 @@ one_more : (n : ℕ) (ns : List ℕ) (f g : ℕ → Option Bound) → ((b : Boun
     → FewerOrSame ns f g
     → FewerOrSame (n ∷ ns) f g
 one_more n ns f g known h = record {
-  cases = with_one (f n) (g n) (passing (λ m. lacks (f m)) ns) (passing (λ m. lacks (g m)) ns)
-      (AreSameAt ns g f) known h.cases;
+  cases = counts-first (λ m. lacks (g m)) (λ m. lacks (f m)) n ns (AreSameAt (n ∷ ns) g f)
+      (with_one (f n) (g n) (count_by (λ m. lacks (f m)) ns) (count_by (λ m. lacks (g m)) ns)
+      (AreSameAt ns g f) known h.cases);
 }
 
 -- where a second list of bounds knows what the first does, it lacks fewer, or they are the same

@@ -3,9 +3,10 @@ use Rattle.std.proofs.Common.{◌≡◌, ◌↔◌, inl, inr, ℕ, zero, suc, �
 use Rattle.std.proofs.Common.{cond, List, [], ◌∷◌, ◌++◌, length, filter, map, Option, Some, None, refl, sym, ◌∙◌, ap}
 use Rattle.std.proofs.Common.{subst, arith}
 use Rattle.std.specs.Prelude.{nat_lt}
-use Rattle.std.specs.List.{Contains}
+use Rattle.std.specs.List.{Contains, count_by}
 use Rattle.std.proofs.lemmas.Bool.{or_left, or_right}
 use Rattle.std.proofs.lemmas.List.{length-append, append_assoc, append-nil}
+use Rattle.std.proofs.lemmas.List.Sums.{length-filter}
 use Rattle.model.specs.Programs.{Program, arity_of}
 use Rattle.model.specs.Bounds.{Bound, Constant}
 use Rattle.model.specs.Facts.{Fact, Time, Size}
@@ -23,7 +24,7 @@ use Rattle.round_relation.specs.Beginning.{First, IsDead}
 use Rattle.round_relation.specs.Rounds.{NextTimes}
 use Rattle.round_relation.specs.LemmaOrder.{AreEmptyLemmas, has_places, never_lemmas, is_cut, is_dead, first_lemmas}
 use Rattle.round_relation.specs.LemmaOrder.{AreNumbersOf, is_new, AreRoundLemmas, AreLemmasOf}
-use Rattle.round_relation.specs.Numbering.{passing, before, leaves_zeros, first_time, first_size, first_numbers}
+use Rattle.round_relation.specs.Numbering.{before, leaves_zeros, first_time, first_size, first_numbers}
 use Rattle.round_relation.specs.Numbering.{numbers_after}
 use Rattle.round_relation.specs.Laws.{LemmasAreNumbered}
 use Rattle.round_relation.specs.Right.{AreRight}
@@ -34,7 +35,7 @@ use Rattle.round_relation.proofs.FirstLemmas.{zero_time, zero_times, length-zero
 use Rattle.round_relation.proofs.FirstFacts.{empty_ones, cut_ones, sized_ones, zero_ones, told_dead, all_stated}
 use Rattle.round_relation.proofs.RoundLemmas.{time_alone}
 use Rattle.round_relation.proofs.AcceptedLemmas.{numbers_from, Stands, lemmas_stand, round_stated}
-use Rattle.round_relation.proofs.Positions.{passing-filter, filter-both, lemma-right, at_rule, before_below}
+use Rattle.round_relation.proofs.Positions.{filter-both, lemma-right, at_rule, before_below}
 
 -- a place that is among some has its size of 0 among theirs
 zero_among : (t : ℕ) (is : List ℕ) (i : ℕ) → is_in i is ≡ true → Contains (zero_sizes t is) (Size t i (Constant 0))
@@ -97,11 +98,11 @@ module _ (q : Searches) (s : Setting) (right : AreRight q s) (tab : Table) (h : 
           let low = before_below s.program (is_cut h.is_empty out) (suc k) rule passes in
           rw e (lemma-right (zero_times (empty_ones s h.is_empty)) (zero_times (cut_ones s h.is_empty out) ++ others)
           (before (is_cut h.is_empty out) (suc k))
-          (suc (passing h.is_empty (rule_numbers s.program) + before (is_cut h.is_empty out) (suc k)))
+          (suc (count_by h.is_empty (rule_numbers s.program) + before (is_cut h.is_empty out) (suc k)))
           (omega (
             arith,
             length-zero_times (empty_ones s h.is_empty),
-            passing-filter h.is_empty
+            length-filter h.is_empty
                 (rule_numbers s.program),
           ))
           ∙ (lemma-left (zero_times (cut_ones s h.is_empty out)) others (suc (before (is_cut h.is_empty out) (suc k)))
@@ -219,8 +220,8 @@ module _ (q : Searches) (s : Setting) (right : AreRight q s) (tab : Table) (h : 
             arith,
             length-zero_times (zero_ones s h.is_empty out),
             length-append (empty_ones s h.is_empty) (cut_ones s h.is_empty out),
-            passing-filter h.is_empty (rule_numbers s.program),
-            passing-filter (is_cut h.is_empty out) (rule_numbers s.program),
+            length-filter h.is_empty (rule_numbers s.program),
+            length-filter (is_cut h.is_empty out) (rule_numbers s.program),
           ))
 
       own : facts_of_lemma (zero_times (zero_ones s h.is_empty out) ++ map (sizes_alone s.program)

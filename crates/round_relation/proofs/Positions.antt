@@ -2,7 +2,7 @@
 use Rattle.std.proofs.Common.{◌≡◌, ℕ, zero, suc, ◌+◌, ◌-◌, ◌<◌, ◌≤◌, ◌&&◌, Bool, true, false}
 use Rattle.std.proofs.Common.{cond, List, [], ◌∷◌, ◌++◌, length, filter, map, Some, None, refl, sym, ◌∙◌, ap}
 use Rattle.std.proofs.Common.{subst, arith}
-use Rattle.std.specs.List.{range_with_len, Contains}
+use Rattle.std.specs.List.{range_with_len, Contains, count_by}
 use Rattle.model.specs.Programs.{Program}
 use Rattle.model.specs.Bounds.{Constant}
 use Rattle.model.specs.Facts.{Fact, Time}
@@ -10,19 +10,10 @@ use Rattle.model.proofs.Membership.{slice_get-below}
 use Rattle.proof_nodes.specs.AcceptsPlain.{IsRule}
 use Rattle.proof_nodes.specs.Acceptance.{facts_of_lemma}
 use Rattle.round_relation.specs.Tables.{rule_numbers}
-use Rattle.round_relation.specs.Numbering.{passing, before}
+use Rattle.round_relation.specs.Numbering.{before}
+use Rattle.round_relation.proofs.Cases.{count-first}
 use Rattle.round_relation.proofs.FactLists.{contains-first, stating_numbered}
 use Rattle.round_relation.proofs.FirstLemmas.{zero_time, zero_times, length-zero_times}
-
--- how many pass is how many are kept
-pub passing-filter : (test : ℕ → Bool) (xs : List ℕ) → length (filter test xs) ≡ passing test xs
-passing-filter test [] = refl
-passing-filter test (x ∷ xs) = go (test x) refl (passing-filter test xs)
-  where
-    go : (v : Bool) → test x ≡ v → length (filter test xs) ≡ passing test xs → length (filter test (x ∷ xs))
-        ≡ passing test (x ∷ xs)
-    go true e ih = rw e (omega (arith, ih))
-    go false e ih = rw e (omega (arith, ih))
 
 -- two tests one after the other
 pub filter-both : (first second : ℕ → Bool) (xs : List ℕ) → filter second (filter first xs) ≡ filter
@@ -57,7 +48,7 @@ one_further facts past n k e = ap (facts_of_lemma (facts ∷ past)) e
 module _ (test : ℕ → Bool) (alone : ℕ → List Fact) where
   -- the lemma of a number that passes comes after those of the passing numbers before it
   pub at_its_number : (n a t k : ℕ) → t ≡ a + k → k < n → test t ≡ true
-      → facts_of_lemma (map alone (filter test (range_with_len a n))) (suc (passing test (range_with_len a k)))
+      → facts_of_lemma (map alone (filter test (range_with_len a n))) (suc (count_by test (range_with_len a k)))
       ≡ alone t
   at_its_number zero a t k e low passes = absurd (omega (arith, low))
   at_its_number (suc n) a t zero e low passes =
@@ -65,17 +56,19 @@ module _ (test : ℕ → Bool) (alone : ℕ → List Fact) where
       let here : test a ≡ true = ap test same ∙ passes in
       rw here (ap alone same)
   at_its_number (suc n) a t (suc k) e low passes =
-      go (test a) refl (at_its_number n (a + 1) t k (omega (arith, e)) (omega (arith, low)) passes)
+      ap (λ (m : ℕ). facts_of_lemma (map alone (filter test (range_with_len a (suc n)))) (suc m))
+      (count-first test a (range_with_len (a + 1) k))
+      ∙ go (test a) refl (at_its_number n (a + 1) t k (omega (arith, e)) (omega (arith, low)) passes)
     where
       go : (v : Bool) → test a ≡ v
           → facts_of_lemma (map alone (filter test (range_with_len (a + 1) n)))
-          (suc (passing test (range_with_len (a + 1) k))) ≡ alone t
+          (suc (count_by test (range_with_len (a + 1) k))) ≡ alone t
           → facts_of_lemma (map alone (filter test (range_with_len a (suc n))))
-          (suc (passing test (range_with_len a (suc k)))) ≡ alone t
+          (suc (cond (test a) 1 0 + count_by test (range_with_len (a + 1) k))) ≡ alone t
       go true x later =
           rw x (one_further (alone a) (map alone (filter test (range_with_len (a + 1) n)))
-          (suc (1 + passing test (range_with_len (a + 1) k)))
-          (passing test (range_with_len (a + 1) k)) (omega arith) ∙ later)
+          (suc (1 + count_by test (range_with_len (a + 1) k)))
+          (count_by test (range_with_len (a + 1) k)) (omega arith) ∙ later)
       go false x later =
           rw x (ap (λ (m : ℕ). facts_of_lemma (map alone (filter test (range_with_len (a + 1) n))) (suc m))
           (omega arith) ∙ later)

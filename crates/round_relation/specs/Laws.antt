@@ -2,7 +2,7 @@
 use Rattle.std.specs.Prelude.{◌≡◌, ◌⊎◌, ◌↔◌, ℕ, ◌+◌, ◌<◌, Bool, true, false, not, List, [], ◌∷◌, ◌++◌, length, filter}
 use Rattle.std.specs.Prelude.{Some}
 use Rattle.std.specs.Prelude.{None}
-use Rattle.std.specs.List.{Contains}
+use Rattle.std.specs.List.{Contains, count_by}
 use Rattle.model.specs.Programs.{Program}
 use Rattle.model.specs.Bounds.{Bound}
 use Rattle.model.specs.Facts.{Fact, Time, Size, HoldsTime, HoldsSize}
@@ -23,16 +23,16 @@ use Rattle.round_relation.specs.Rounds.{IsClosed}
 use Rattle.round_relation.specs.Right.{AreRight}
 use Rattle.round_relation.specs.RightSizes.{AreSizesRight}
 use Rattle.round_relation.specs.LemmaOrder.{AreEmptyLemmas, first_lemmas, AreNumbersOf, AreRoundLemmas, AreLemmasOf}
-use Rattle.round_relation.specs.Numbering.{passing, first_numbers, numbers_after}
+use Rattle.round_relation.specs.Numbering.{first_numbers, numbers_after}
 
 -- how many places after these rules have no size
 abbrev pub unsized : Program → Table → List ℕ → ℕ
 unsized p tab [] = 0
-unsized p tab (t ∷ ts) = passing (λ i. lacks (tab.size t i)) (places_at p (target_of p t)) + unsized p tab ts
+unsized p tab (t ∷ ts) = count_by (λ i. lacks (tab.size t i)) (places_at p (target_of p t)) + unsized p tab ts
 
 -- how many times of rules are missing in a table
 abbrev pub untimed : Program → Table → ℕ
-untimed p tab = passing (λ t. lacks (tab.time t)) (rule_numbers p)
+untimed p tab = count_by (λ t. lacks (tab.time t)) (rule_numbers p)
 
 -- how many bounds are missing in a table
 abbrev pub missing : Program → Table → ℕ

@@ -1,6 +1,6 @@
 -- The numbers of lemmas in their order.
-use Rattle.std.specs.Prelude.{ℕ, zero, suc, ◌+◌, ◌-◌, ◌&&◌, Bool, cond, List, [], ◌∷◌}
-use Rattle.std.specs.List.{range_with_len}
+use Rattle.std.specs.Prelude.{ℕ, zero, suc, ◌+◌, ◌-◌, ◌&&◌, Bool, cond, List}
+use Rattle.std.specs.List.{range_with_len, count_by}
 use Rattle.model.specs.Programs.{Program}
 use Rattle.model.specs.Paths.{target_of}
 use Rattle.proof_nodes.specs.Nodes.{Spot}
@@ -10,14 +10,9 @@ use Rattle.round_relation.specs.NewSizes.{has_spot}
 use Rattle.round_relation.specs.Uses.{Numbers}
 use Rattle.round_relation.specs.LemmaOrder.{has_places, is_cut, is_dead, is_new}
 
--- how many numbers of a list pass a test
-abbrev pub passing : (ℕ → Bool) → List ℕ → ℕ
-passing test [] = 0
-passing test (n ∷ ns) = cond (test n) 1 0 + passing test ns
-
 -- how many rules before a rule pass it
 abbrev pub before : (ℕ → Bool) → ℕ → ℕ
-before test t = passing test (range_with_len 1 (t - 1))
+before test t = count_by test (range_with_len 1 (t - 1))
 
 -- whether a rule never runs and its target has a place
 abbrev pub leaves_zeros : Program → (ℕ → Bool) → (ℕ → Bool) → ℕ → Bool
@@ -30,13 +25,13 @@ first_time p is_empty is_unreached zero = 0
 first_time p is_empty is_unreached (suc k) =
     cond (is_empty (suc k))
     (suc (before is_empty (suc k)))
-    (suc (passing is_empty (rule_numbers p) + before (is_cut is_empty is_unreached) (suc k)))
+    (suc (count_by is_empty (rule_numbers p) + before (is_cut is_empty is_unreached) (suc k)))
 
 -- the number of the lemma of the sizes after it: these come after all times
 abbrev pub first_size : Program → (ℕ → Bool) → (ℕ → Bool) → ℕ → ℕ
 first_size p is_empty is_unreached zero = 0
 first_size p is_empty is_unreached (suc k) =
-    suc ((passing is_empty (rule_numbers p) + passing (is_cut is_empty is_unreached) (rule_numbers p))
+    suc ((count_by is_empty (rule_numbers p) + count_by (is_cut is_empty is_unreached) (rule_numbers p))
     + before (leaves_zeros p is_empty is_unreached) (suc k))
 
 -- the numbers of the lemmas before the first round

@@ -1,7 +1,7 @@
 -- The first table and the lemmas that are written first are those of the relation.
 use Rattle.std.proofs.Common.{◌≡◌, ◌↔◌, inl, inr, ℕ, zero, suc, ◌+◌, ◌-◌, ◌<◌, Bool, true, false, not, cond, List, [], ◌∷◌, ◌++◌, length, map, filter, replicate, Vec, Option, Some, refl, sym, ◌∙◌, ap, subst, arith}
 use Rattle.std.specs.Prelude.{slice_get, slice_index_or, nat_lt}
-use Rattle.std.specs.List.{range_with_len, Contains}
+use Rattle.std.specs.List.{range_with_len, Contains, count_by}
 use Rattle.std.specs.declared.alloc.Global.{Global}
 use Rattle.model.specs.Programs.{Program, Rule, arity_of}
 use Rattle.model.specs.Paths.{target_in, target_of}
@@ -23,7 +23,7 @@ use Rattle.round_relation.specs.Tables.{rule_numbers, IsPlace}
 use Rattle.round_relation.specs.Beginning.{IsDead, First}
 use Rattle.round_relation.specs.Uses.{Numbers}
 use Rattle.round_relation.specs.LemmaOrder.{AreNumbersOf, AreEmptyLemmas, AreFirstLemmas, first_lemmas, unreached_lemmas, never_lemmas, has_places, is_cut, is_dead}
-use Rattle.round_relation.specs.Numbering.{passing, before, leaves_zeros, first_time, first_size, first_numbers}
+use Rattle.round_relation.specs.Numbering.{before, leaves_zeros, first_time, first_size, first_numbers}
 use Rattle.round_relation.proofs.LemmaNumbers.{first_numbers_are}
 use Rattle.time_bounds.specs.declared.fates.Fate.{Fate}
 use Rattle.time_bounds.specs.declared.fates.Fate.TheVariants.{Empty, Unreached, Live}
@@ -139,27 +139,27 @@ module _ (p : Program) (pivots : ℕ) (right : AreRight (searches_of_program p p
       number_at tab.times.items (suc k)
       ∙ (ap (λ (xs : List ℕ). slice_index_or xs (suc k) 0) numbered
       ∙ (time_here ie iu 0 (count_empty fates) 1 fates k f told e d
-      ∙ (ap (λ (n : ℕ). cond (ie n) (suc (0 + passing ie (range_with_len 1 k))) (suc (count_empty fates + passing (is_cut ie iu) (range_with_len 1 k))))
+      ∙ (ap (λ (n : ℕ). cond (ie n) (suc (0 + count_by ie (range_with_len 1 k))) (suc (count_empty fates + count_by (is_cut ie iu) (range_with_len 1 k))))
       (let at_k : 1 + k ≡ suc k = omega arith in at_k)
-      ∙ (ap (λ (n : ℕ). cond (ie (suc k)) (suc n) (suc (count_empty fates + passing (is_cut ie iu) (range_with_len 1 k)))) at_e
+      ∙ (ap (λ (n : ℕ). cond (ie (suc k)) (suc n) (suc (count_empty fates + count_by (is_cut ie iu) (range_with_len 1 k)))) at_e
       ∙ ap (λ (n : ℕ). cond (ie (suc k)) (suc (before ie (suc k))) (suc n)) at_u))))
     where
       less : k ≡ suc k - 1
       less = omega arith
 
-      at_e : 0 + passing ie (range_with_len 1 k) ≡ before ie (suc k)
+      at_e : 0 + count_by ie (range_with_len 1 k) ≡ before ie (suc k)
       at_e =
-          let same = ap (λ (m : ℕ). passing ie (range_with_len 1 m)) less in
-          let drop0 : 0 + passing ie (range_with_len 1 k) ≡ passing ie (range_with_len 1 k) = omega arith in
+          let same = ap (λ (m : ℕ). count_by ie (range_with_len 1 m)) less in
+          let drop0 : 0 + count_by ie (range_with_len 1 k) ≡ count_by ie (range_with_len 1 k) = omega arith in
           drop0 ∙ same
 
-      all : count_empty fates ≡ passing ie (rule_numbers p)
-      all = empty_count ie iu 1 fates told ∙ ap (λ (m : ℕ). passing ie (range_with_len 1 m)) are.one_each
+      all : count_empty fates ≡ count_by ie (rule_numbers p)
+      all = empty_count ie iu 1 fates told ∙ ap (λ (m : ℕ). count_by ie (range_with_len 1 m)) are.one_each
 
-      at_u : count_empty fates + passing (is_cut ie iu) (range_with_len 1 k) ≡ passing ie (rule_numbers p) + before (is_cut ie iu) (suc k)
+      at_u : count_empty fates + count_by (is_cut ie iu) (range_with_len 1 k) ≡ count_by ie (rule_numbers p) + before (is_cut ie iu) (suc k)
       at_u =
-          ap (λ (n : ℕ). n + passing (is_cut ie iu) (range_with_len 1 k)) all
-          ∙ ap (λ (m : ℕ). passing ie (rule_numbers p) + passing (is_cut ie iu) (range_with_len 1 m)) less
+          ap (λ (n : ℕ). n + count_by (is_cut ie iu) (range_with_len 1 k)) all
+          ∙ ap (λ (m : ℕ). count_by ie (rule_numbers p) + count_by (is_cut ie iu) (range_with_len 1 m)) less
 
   zeros_are : (i : ℕ) (g : Fate) (s : Rule) → slice_get fates i ≡ Some g → slice_get p.rules i ≡ Some s
       → cond (leaves_zeros p ie iu (1 + i)) 1 0 ≡ if_zeros g (arity_of p s.target)
@@ -179,17 +179,17 @@ module _ (p : Program) (pivots : ℕ) (right : AreRight (searches_of_program p p
       all_first = count_empty fates + count_unreached fates
 
       here : ℕ
-      here = passing (leaves_zeros p ie iu) (range_with_len 1 k)
+      here = count_by (leaves_zeros p ie iu) (range_with_len 1 k)
 
-      sums : count_empty fates + count_unreached fates + passing (leaves_zeros p ie iu) (range_with_len 1 k) + if_zeros f (arity_of p r.target)
-          ≡ suc ((passing ie (rule_numbers p) + passing (is_cut ie iu) (rule_numbers p)) + before (leaves_zeros p ie iu) (suc k))
+      sums : count_empty fates + count_unreached fates + count_by (leaves_zeros p ie iu) (range_with_len 1 k) + if_zeros f (arity_of p r.target)
+          ≡ suc ((count_by ie (rule_numbers p) + count_by (is_cut ie iu) (rule_numbers p)) + before (leaves_zeros p ie iu) (suc k))
       sums =
           let one = dead_zeros f (arity_of p r.target) d (omega (arith, low)) in
-          let e1 : count_empty fates ≡ passing ie (rule_numbers p) = empty_count ie iu 1 fates told ∙ ap (λ (m : ℕ). passing ie (range_with_len 1 m)) are.one_each in
-          let u1 : count_unreached fates ≡ passing (is_cut ie iu) (rule_numbers p) =
-          unreached_count ie iu 1 fates told ∙ ap (λ (m : ℕ). passing (is_cut ie iu) (range_with_len 1 m)) are.one_each in
-          let b1 : passing (leaves_zeros p ie iu) (range_with_len 1 k) ≡ before (leaves_zeros p ie iu) (suc k) =
-          ap (λ (m : ℕ). passing (leaves_zeros p ie iu) (range_with_len 1 m)) (let less : k ≡ suc k - 1 = omega arith in less) in
+          let e1 : count_empty fates ≡ count_by ie (rule_numbers p) = empty_count ie iu 1 fates told ∙ ap (λ (m : ℕ). count_by ie (range_with_len 1 m)) are.one_each in
+          let u1 : count_unreached fates ≡ count_by (is_cut ie iu) (rule_numbers p) =
+          unreached_count ie iu 1 fates told ∙ ap (λ (m : ℕ). count_by (is_cut ie iu) (range_with_len 1 m)) are.one_each in
+          let b1 : count_by (leaves_zeros p ie iu) (range_with_len 1 k) ≡ before (leaves_zeros p ie iu) (suc k) =
+          ap (λ (m : ℕ). count_by (leaves_zeros p ie iu) (range_with_len 1 m)) (let less : k ≡ suc k - 1 = omega arith in less) in
           omega (arith, one, e1, u1, b1)
 
   -- a rule with a bound never runs
@@ -243,7 +243,7 @@ module _ (p : Program) (pivots : ℕ) (right : AreRight (searches_of_program p p
   counted : count_empty fates ≡ length (empty_lemmas empties)
   counted =
       empty_count ie iu 1 fates told
-      ∙ (ap (λ (m : ℕ). passing ie (range_with_len 1 m)) (are.one_each ∙ sym answered.one_each)
+      ∙ (ap (λ (m : ℕ). count_by ie (range_with_len 1 m)) (are.one_each ∙ sym answered.one_each)
       ∙ sym (empties_count ie 1 empties tests))
 
   -- the lemmas that are written, whatever numbers are cited

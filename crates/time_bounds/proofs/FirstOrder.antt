@@ -1,7 +1,7 @@
 -- The first lemmas by fates are those in the order of the relation.
 use Rattle.std.proofs.Common.{◌≡◌, ℕ, zero, suc, ◌+◌, ◌&&◌, Bool, true, false, cond, List, [], ◌∷◌, ◌++◌, length, filter, replicate, Some, refl, sym, ◌∙◌, ap, subst, arith}
 use Rattle.std.specs.Prelude.{slice_get, slice_index_or}
-use Rattle.std.specs.List.{range_with_len}
+use Rattle.std.specs.List.{range_with_len, count_by}
 use Rattle.model.specs.Programs as plain
 use Rattle.model.proofs.Membership.{no_is_not_yes}
 use Rattle.proof_nodes.specs.Nodes.{Proof}
@@ -12,7 +12,7 @@ use Rattle.proof_tree.specs.declared.proof.EmptyNode.{EmptyNode}
 use Rattle.round_relation.specs.Searches.{Searches, NoPoint}
 use Rattle.round_relation.specs.Uses.{Numbers, cites}
 use Rattle.round_relation.specs.LemmaOrder.{AreEmptyLemmas, unreached_lemmas, never_lemmas, is_cut, is_dead}
-use Rattle.round_relation.specs.Numbering.{passing}
+use Rattle.round_relation.proofs.Cases.{count-first}
 use Rattle.time_bounds.specs.declared.fates.Fate.{Fate}
 use Rattle.time_bounds.specs.declared.fates.Fate.TheVariants.{Empty, Unreached, Live}
 use Rattle.size_bounds.specs.Tables.{row_at}
@@ -91,23 +91,25 @@ module _ (ie iu : ℕ → Bool) where
       go Live a b k ih = rw (b.0, b.1) ih
 
   -- as many fates are of empty rules as rules are told to be empty
-  pub empty_count : (t : ℕ) (fs : List Fate) → AreTold t fs → count_empty fs ≡ passing ie (range_with_len t (length fs))
+  pub empty_count : (t : ℕ) (fs : List Fate) → AreTold t fs → count_empty fs ≡ count_by ie (range_with_len t (length fs))
   empty_count t [] h = refl
   empty_count t (f ∷ fs) h =
       ap (λ (n : ℕ). if_empty f + n) (empty_count (t + 1) fs (told_rest t f fs h))
-      ∙ ap (λ (n : ℕ). n + passing ie (range_with_len (t + 1) (length fs))) (sym (one_empty t f (told_head t f fs h)))
+      ∙ ap (λ (n : ℕ). n + count_by ie (range_with_len (t + 1) (length fs))) (sym (one_empty t f (told_head t f fs h)))
+      ∙ sym (count-first ie t (range_with_len (t + 1) (length fs)))
 
   -- as many fates are of unreached rules as rules are told to be cut off
-  pub unreached_count : (t : ℕ) (fs : List Fate) → AreTold t fs → count_unreached fs ≡ passing (is_cut ie iu) (range_with_len t (length fs))
+  pub unreached_count : (t : ℕ) (fs : List Fate) → AreTold t fs → count_unreached fs ≡ count_by (is_cut ie iu) (range_with_len t (length fs))
   unreached_count t [] h = refl
   unreached_count t (f ∷ fs) h =
       ap (λ (n : ℕ). if_unreached f + n) (unreached_count (t + 1) fs (told_rest t f fs h))
-      ∙ ap (λ (n : ℕ). n + passing (is_cut ie iu) (range_with_len (t + 1) (length fs))) (sym (one_unreached t f (told_head t f fs h)))
+      ∙ ap (λ (n : ℕ). n + count_by (is_cut ie iu) (range_with_len (t + 1) (length fs))) (sym (one_unreached t f (told_head t f fs h)))
+      ∙ sym (count-first (is_cut ie iu) t (range_with_len (t + 1) (length fs)))
 
   -- the number of the time of a rule that never runs
   pub time_here : (e u t : ℕ) (fs : List Fate) (i : ℕ) (f : Fate) → AreTold t fs → slice_get fs i ≡ Some f → is_dead_fate f ≡ true
       → slice_index_or (time_numbers e u fs) i 0
-      ≡ cond (ie (t + i)) (suc (e + passing ie (range_with_len t i))) (suc (u + passing (is_cut ie iu) (range_with_len t i)))
+      ≡ cond (ie (t + i)) (suc (e + count_by ie (range_with_len t i))) (suc (u + count_by (is_cut ie iu) (range_with_len t i)))
   time_here e u t [] i f h k d = absurd (none_some f k)
   time_here e u t (g ∷ fs) zero f h k d = go g (h 0 g refl) (subst (λ (x : Fate). is_dead_fate x ≡ true) (sym (some_same g f k)) d)
     where
@@ -125,19 +127,25 @@ module _ (ie iu : ℕ → Bool) where
       time_here (e + if_empty g) (u + if_unreached g) (t + 1) fs i f (told_rest t g fs h) k d
       ∙ (ap (λ (n : ℕ). cond (ie n) (suc (e + if_empty g + pe)) (suc (u + if_unreached g + pu))) (let z : t + 1 + i ≡ t + suc i = omega arith in z)
       ∙ (ap (λ (n : ℕ). cond (ie (t + suc i)) (suc n) (suc (u + if_unreached g + pu))) same_e
-      ∙ ap (λ (n : ℕ). cond (ie (t + suc i)) (suc (e + (cond (ie t) 1 0 + pe))) (suc n)) same_u))
+      ∙ ap (λ (n : ℕ). cond (ie (t + suc i)) (suc (e + count_by ie (range_with_len t (suc i)))) (suc n)) same_u))
     where
       pe : ℕ
-      pe = passing ie (range_with_len (t + 1) i)
+      pe = count_by ie (range_with_len (t + 1) i)
 
       pu : ℕ
-      pu = passing (is_cut ie iu) (range_with_len (t + 1) i)
+      pu = count_by (is_cut ie iu) (range_with_len (t + 1) i)
 
-      same_e : e + if_empty g + pe ≡ e + (cond (ie t) 1 0 + pe)
-      same_e = let one = one_empty t g (told_head t g fs h) in omega (arith, one)
+      same_e : e + if_empty g + pe ≡ e + count_by ie (range_with_len t (suc i))
+      same_e =
+          let one = one_empty t g (told_head t g fs h) in
+          let more : e + if_empty g + pe ≡ e + (cond (ie t) 1 0 + pe) = omega (arith, one) in
+          more ∙ ap (λ (n : ℕ). e + n) (sym (count-first ie t (range_with_len (t + 1) i)))
 
-      same_u : u + if_unreached g + pu ≡ u + (cond (is_cut ie iu t) 1 0 + pu)
-      same_u = let one = one_unreached t g (told_head t g fs h) in omega (arith, one)
+      same_u : u + if_unreached g + pu ≡ u + count_by (is_cut ie iu) (range_with_len t (suc i))
+      same_u =
+          let one = one_unreached t g (told_head t g fs h) in
+          let more : u + if_unreached g + pu ≡ u + (cond (is_cut ie iu t) 1 0 + pu) = omega (arith, one) in
+          more ∙ ap (λ (n : ℕ). u + n) (sym (count-first (is_cut ie iu) t (range_with_len (t + 1) i)))
 
   -- a rule has a lemma of sizes by its fate exactly where it is told to be dead and to have places
   pub zeros_told : (t : ℕ) (f : Fate) (a : ℕ) (has : Bool) → Told t f → has ≡ some_places a → cond (is_dead ie iu t && has) 1 0 ≡ if_zeros f a
@@ -153,7 +161,7 @@ pub size_row : (p : plain.Program) (zeros : ℕ → Bool) (n t : ℕ) (fs : List
     → cond (zeros (t + i)) 1 0 ≡ if_zeros g (plain.arity_of p s.target))
     → slice_get fs k ≡ Some f → slice_get rs k ≡ Some r
     → row_at (size_numbers p n fs rs) k
-    ≡ replicate (plain.arity_of p r.target) (size_number f (n + passing zeros (range_with_len t k) + if_zeros f (plain.arity_of p r.target)))
+    ≡ replicate (plain.arity_of p r.target) (size_number f (n + count_by zeros (range_with_len t k) + if_zeros f (plain.arity_of p r.target)))
 size_row p zeros n t [] rs k f r h e g = absurd (none_some f e)
 size_row p zeros n t (x ∷ fs) [] k f r h e g = absurd (none_some r g)
 size_row p zeros n t (x ∷ fs) (y ∷ rs) zero f r h e g =
@@ -173,9 +181,12 @@ size_row p zeros n t (x ∷ fs) (y ∷ rs) (suc k) f r h e g =
     head =
         subst (λ (m : ℕ). cond (zeros m) 1 0 ≡ if_zeros x (plain.arity_of p y.target)) (let z : t + 0 ≡ t = omega arith in z) (h 0 x y refl refl)
 
-    same : n + if_zeros x (plain.arity_of p y.target) + passing zeros (range_with_len (t + 1) k)
-        ≡ n + (cond (zeros t) 1 0 + passing zeros (range_with_len (t + 1) k))
-    same = omega (arith, head)
+    same : n + if_zeros x (plain.arity_of p y.target) + count_by zeros (range_with_len (t + 1) k)
+        ≡ n + count_by zeros (range_with_len t (suc k))
+    same =
+        let more : n + if_zeros x (plain.arity_of p y.target) + count_by zeros (range_with_len (t + 1) k)
+        ≡ n + (cond (zeros t) 1 0 + count_by zeros (range_with_len (t + 1) k)) = omega (arith, head) in
+        more ∙ ap (λ (m : ℕ). n + m) (sym (count-first zeros t (range_with_len (t + 1) k)))
 
 -- the lemmas of empty rules by their answers
 pub empties_are : (q : Searches) (test : ℕ → Bool) (t : ℕ) (xs : List EmptyAnswer)
@@ -207,17 +218,18 @@ empties_are q test t (a ∷ xs) h g =
 -- there are as many lemmas of empty rules as rules that a test tells to be empty
 pub empties_count : (test : ℕ → Bool) (t : ℕ) (xs : List EmptyAnswer)
     → ((i : ℕ) (a : EmptyAnswer) → slice_get xs i ≡ Some a → test (t + i) ≡ says_empty a)
-    → length (empty_lemmas xs) ≡ passing test (range_with_len t (length xs))
+    → length (empty_lemmas xs) ≡ count_by test (range_with_len t (length xs))
 empties_count test t [] h = refl
 empties_count test t (a ∷ xs) h =
     go a (subst (λ (n : ℕ). test n ≡ says_empty a) (let z : t + 0 ≡ t = omega arith in z) (h 0 a refl))
     (empties_count test (t + 1) xs (λ i b e. subst (λ (n : ℕ). test n ≡ says_empty b) (let z : t + suc i ≡ t + 1 + i = omega arith in z) (h (suc i) b e)))
+    ∙ sym (count-first test t (range_with_len (t + 1) (length xs)))
   where
-    go : (b : EmptyAnswer) → test t ≡ says_empty b → length (empty_lemmas xs) ≡ passing test (range_with_len (t + 1) (length xs))
-        → length (empty_lemmas (b ∷ xs)) ≡ passing test (range_with_len t (suc (length xs)))
-    go (answers.Empty n) e ih = rw e (let more : suc (length (empty_lemmas xs)) ≡ 1 + passing test (range_with_len (t + 1) (length xs)) = omega (arith, ih) in more)
-    go (answers.Point z) e ih = rw e (let same : length (empty_lemmas xs) ≡ 0 + passing test (range_with_len (t + 1) (length xs)) = omega (arith, ih) in same)
-    go (answers.Tripped x) e ih = rw e (let same : length (empty_lemmas xs) ≡ 0 + passing test (range_with_len (t + 1) (length xs)) = omega (arith, ih) in same)
+    go : (b : EmptyAnswer) → test t ≡ says_empty b → length (empty_lemmas xs) ≡ count_by test (range_with_len (t + 1) (length xs))
+        → length (empty_lemmas (b ∷ xs)) ≡ cond (test t) 1 0 + count_by test (range_with_len (t + 1) (length xs))
+    go (answers.Empty n) e ih = rw e (let more : suc (length (empty_lemmas xs)) ≡ 1 + count_by test (range_with_len (t + 1) (length xs)) = omega (arith, ih) in more)
+    go (answers.Point z) e ih = rw e (let same : length (empty_lemmas xs) ≡ 0 + count_by test (range_with_len (t + 1) (length xs)) = omega (arith, ih) in same)
+    go (answers.Tripped x) e ih = rw e (let same : length (empty_lemmas xs) ≡ 0 + count_by test (range_with_len (t + 1) (length xs)) = omega (arith, ih) in same)
 
 -- lemmas of sizes cite the same where numbers agree on rules that never run
 pub never_same : (p : plain.Program) (ns ms : Numbers) (t : ℕ) (fs : List Fate) (rs : List plain.Rule)

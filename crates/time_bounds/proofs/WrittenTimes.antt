@@ -1,7 +1,7 @@
 -- The lemmas of the times of a round are those of the relation, and its numbers are theirs.
 use Rattle.std.proofs.Common.{◌≡◌, ℕ, zero, suc, ◌+◌, ◌-◌, ◌<◌, ◌&&◌, Bool, true, false, not, cond, List, [], ◌∷◌, ◌++◌, length, map, filter, Option, Some, None, refl, sym, ◌∙◌, ap, subst, arith}
 use Rattle.std.specs.Prelude.{⊤}
-use Rattle.std.specs.List.{range_with_len, Contains}
+use Rattle.std.specs.List.{range_with_len, Contains, count_by}
 use Rattle.model.specs.Programs.{Program}
 use Rattle.model.specs.Bounds.{Bound}
 use Rattle.model.specs.Facts.{Fact, Time, Size}
@@ -19,8 +19,9 @@ use Rattle.round_relation.specs.Rounds.{NextTimes}
 use Rattle.round_relation.specs.Standing.{StandFor}
 use Rattle.round_relation.specs.Uses.{Numbers}
 use Rattle.round_relation.specs.LemmaOrder.{AreNumbersOf, AreTimeLemmas, AreRoundLemmas, is_new}
-use Rattle.round_relation.specs.Numbering.{passing, before, numbers_after}
+use Rattle.round_relation.specs.Numbering.{before, numbers_after}
 use Rattle.round_relation.specs.SizeLemmas.{with_times}
+use Rattle.round_relation.proofs.Cases.{count-first}
 use Rattle.round_relation.proofs.WholeLemmas.{times_numbered}
 use Rattle.size_bounds.specs.declared.table.Table.{Table}
 use Rattle.size_bounds.specs.Tables.{entry_at, row_at, bound_stored, lemma_stored, stored_time, table_of, numbers_of}
@@ -167,7 +168,7 @@ module _ (p : Program) (pivots : ℕ) (empties : List EmptyAnswer) (old new : Ta
   number_from : (n k : ℕ) (tries : List Tried) (proofs : List Proof) → AreTried p old pivots empties k tries → Settled k tries
       → WriteTimes p pivots n old k tries proofs → (i : ℕ) → i < length tries
       → lemma_stored (stored_time new (k + i))
-      ≡ cond (newly (k + i)) (suc (n + passing newly (range_with_len k i))) (lemma_stored (stored_time old (k + i)))
+      ≡ cond (newly (k + i)) (suc (n + count_by newly (range_with_len k i))) (lemma_stored (stored_time old (k + i)))
   number_from n k [] proofs right settles w i l = absurd (omega (arith, l))
   number_from n k (x ∷ tries) proofs right settles (first, here, (rest, e, later)) zero l =
       subst (λ (j : ℕ). lemma_stored (stored_time new j) ≡ cond (newly j) (suc (n + 0)) (lemma_stored (stored_time old j)))
@@ -189,16 +190,18 @@ module _ (p : Program) (pivots : ℕ) (empties : List EmptyAnswer) (old new : Ta
           ∙ ap (λ (v : Bool). cond v (suc (n + 0)) (lemma_stored (stored_time old k))) (sym (new_by k (Found t) r s)))
   number_from n k (x ∷ tries) proofs right settles (first, here, (rest, e, later)) (suc i) l =
       subst (λ (j : ℕ). lemma_stored (stored_time new j)
-      ≡ cond (newly j) (suc (n + passing newly (range_with_len k (suc i)))) (lemma_stored (stored_time old j)))
+      ≡ cond (newly j) (suc (n + count_by newly (range_with_len k (suc i)))) (lemma_stored (stored_time old j)))
       (let z : suc k + i ≡ k + suc i = omega arith in z)
       (number_from (n + length first) (suc k) tries rest right.1 settles.1 later i (omega (arith, l))
       ∙ ap (λ (m : ℕ). cond (newly (suc k + i)) (suc m) (lemma_stored (stored_time old (suc k + i)))) counted)
     where
-      counted : n + length first + passing newly (range_with_len (suc k) i) ≡ n + passing newly (range_with_len k (suc i))
+      counted : n + length first + count_by newly (range_with_len (suc k) i) ≡ n + count_by newly (range_with_len k (suc i))
       counted =
           let long = first_long n k x first here ∙ ap (λ (v : Bool). cond v 1 0) (sym (new_by k x right.0 settles.0)) in
-          let next = ap (λ (j : ℕ). passing newly (range_with_len j i)) (let z : suc k ≡ k + 1 = omega arith in z) in
-          omega (arith, long, next)
+          let next = ap (λ (j : ℕ). count_by newly (range_with_len j i)) (let z : suc k ≡ k + 1 = omega arith in z) in
+          let more : n + length first + count_by newly (range_with_len (suc k) i)
+          ≡ n + (cond (newly k) 1 0 + count_by newly (range_with_len (k + 1) i)) = omega (arith, long, next) in
+          more ∙ ap (λ (m : ℕ). n + m) (sym (count-first newly k (range_with_len (k + 1) i)))
 
   -- so the lemmas of a round are those of the relation, and the numbers of the table are those of what they state
   module _ (right : AreRight (searches_of_program p pivots) (setting_of p)) (earlier : List Proof) (stand : StandFor (setting_of p) (table_of old) earlier)
@@ -229,10 +232,10 @@ module _ (p : Program) (pivots : ℕ) (empties : List EmptyAnswer) (old new : Ta
     time_number (suc i) rule =
         let low = rule_below p i rule in
         subst (λ (j : ℕ). lemma_stored (stored_time new j)
-        ≡ cond (newly j) (suc (length earlier + passing newly (range_with_len 1 (j - 1)))) (lemma_stored (stored_time old j)))
+        ≡ cond (newly j) (suc (length earlier + count_by newly (range_with_len 1 (j - 1)))) (lemma_stored (stored_time old j)))
         (let z : 1 + i ≡ suc i = omega arith in z)
         (number_from (length earlier) 1 tries proofs tried (settled tries long times).0 write i (omega (arith, low, one_each))
-        ∙ ap (λ (m : ℕ). cond (newly (1 + i)) (suc (length earlier + passing newly (range_with_len 1 m))) (lemma_stored (stored_time old (1 + i))))
+        ∙ ap (λ (m : ℕ). cond (newly (1 + i)) (suc (length earlier + count_by newly (range_with_len 1 m))) (lemma_stored (stored_time old (1 + i))))
         (let z : i ≡ 1 + i - 1 = omega arith in z))
 
     pub times_numbers : AreNumbersOf p (facts_of_lemmas (setting_of p) (earlier ++ proofs)) (table_of new) (numbers_of new)
