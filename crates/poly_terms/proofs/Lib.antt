@@ -17,6 +17,7 @@ pub mod TotalLaws
 pub mod FormLaws
 mod FactorLaws
 mod KeyFormLaws
+mod KeyErrorLaws
 mod KeyLaws
 mod UnpackingLaws
 mod WorkedForms

@@ -1,11 +1,13 @@
-// Why a polynomial isn't multiplied out by packed exponents.
+// Why a polynomial isn't made by packed exponents.
 
-ghost use Rattle.std.specs.Prelude.{◌≡◌};
+ghost use Rattle.std.specs.Prelude.{◌≡◌, IfOk, IfSome, Ok};
 ghost use Rattle.poly_terms.specs.declared.key_error.KeyError.TheVariants.{Memory};
 
+use crate::Memory;
+use crate::poly::Poly;
 use std::alloc::{AllocError, AllocFailed};
 
-/// Why a polynomial isn't multiplied out by packed exponents.
+/// Why a polynomial isn't made by packed exponents.
 #[derive(Clone, Copy)]
 pub(crate) enum KeyError {
     /// A variable, an exponent or a coefficient doesn't fit, so it has to be done monomial by monomial.
@@ -27,5 +29,16 @@ impl<T: Drop> From<AllocFailed<T>> for KeyError {
 
     fn from(_error: AllocFailed<T>) -> KeyError {
         KeyError::Memory
+    }
+}
+
+/// The polynomial, or `None` where something doesn't fit.
+pub(crate) fn unless_unfit(whole: Result<Poly, KeyError>) -> Result<Option<Poly>, Memory>
+    ensures { IfOk result (λ found. IfSome found (λ p. whole ≡ Ok p)) }
+{
+    match whole {
+        Ok(p) => Ok(Some(p)),
+        Err(KeyError::Unfit) => Ok(None),
+        Err(KeyError::Memory) => Err(AllocError),
     }
 }

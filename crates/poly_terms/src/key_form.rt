@@ -9,7 +9,7 @@ ghost use Rattle.poly_terms.specs.Views.{poly_of, term_of};
 
 use crate::Memory;
 use crate::expr::Expr;
-use crate::key_error::KeyError;
+use crate::key_error::{KeyError, unless_unfit};
 use crate::key_power::{is_modest, power_of_list};
 use crate::key_product::{product_of_lists, with_row};
 use crate::keyed::Keyed;
@@ -17,7 +17,7 @@ use crate::packing::{packed_monomial, unpacked_sum};
 use crate::poly::{Monomial, Poly};
 use crate::table::{add_variable, ascending};
 use model::DEGREE_LIMIT;
-use std::alloc::{AllocError, Global};
+use std::alloc::Global;
 
 /// The most products that two lists are multiplied out for here. Where there are more, nearly always too many differ.
 const PRODUCT_LIMIT: usize = 256;
@@ -45,18 +45,6 @@ pub(crate) fn difference_by_keys(alloc: Global, d: &Expr, e: &Expr) -> Result<Op
         IfSome found (λ p. IsExpansion (Subtraction (term_of d.now) (term_of e.now)) (poly_of p))) }
 {
     unless_unfit(difference_by_table(alloc, d, e))
-}
-
-// The polynomial, or `None` where it doesn't fit.
-fn unless_unfit(whole: Result<Poly, KeyError>) -> Result<Option<Poly>, Memory>
-    ensures { (t : Term) → IfOk whole (λ p. IsExpansion t (poly_of p))
-        → IfOk result (λ found. IfSome found (λ p. IsExpansion t (poly_of p))) }
-{
-    match whole {
-        Ok(p) => Ok(Some(p)),
-        Err(KeyError::Unfit) => Ok(None),
-        Err(KeyError::Memory) => Err(AllocError),
-    }
 }
 
 // The expanded polynomial, where all fits.

@@ -8,7 +8,7 @@ ghost use Rattle.poly_terms.specs.Powers.{IsPowerWithout};
 ghost use Rattle.poly_terms.specs.Views.{monomials_of, poly_of};
 
 use crate::Memory;
-use crate::key_error::KeyError;
+use crate::key_error::{KeyError, unless_unfit};
 use crate::key_product::product_of_lists;
 use crate::keyed::Keyed;
 use crate::limits::degree;
@@ -16,7 +16,7 @@ use crate::packing::{packed, unpacked_sum};
 use crate::poly::{Monomial, Poly};
 use crate::table::table_of;
 use model::{DEGREE_LIMIT, MONOMIAL_LIMIT};
-use std::alloc::{AllocError, Global};
+use std::alloc::Global;
 
 /// The most that the absolute values of a lower power's coefficients make together: 2^63-1.
 const NORM_LIMIT: u64 = 0x7fff_ffff_ffff_ffff;
@@ -26,11 +26,7 @@ pub(crate) fn power_by_keys(alloc: Global, p: &Poly, exponent: u32) -> Result<Op
     requires { IsSmall (poly_of p.now) }
     ensures { IfOk result (λ found. IfSome found (λ r. IsPowerWithout (poly_of p.now) exponent (poly_of r))) }
 {
-    match power_by_table(alloc, &p.terms, exponent) {
-        Ok(r) => Ok(Some(r)),
-        Err(KeyError::Unfit) => Ok(None),
-        Err(KeyError::Memory) => Err(AllocError),
-    }
+    unless_unfit(power_by_table(alloc, &p.terms, exponent))
 }
 
 // The power, where all fits.

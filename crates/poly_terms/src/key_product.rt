@@ -7,13 +7,13 @@ ghost use Rattle.poly_terms.specs.Keys.{product_at, all_products, IsMergedFrom};
 ghost use Rattle.poly_terms.specs.Views.{monomials_of, poly_of};
 
 use crate::Memory;
-use crate::key_error::KeyError;
+use crate::key_error::{KeyError, unless_unfit};
 use crate::keyed::Keyed;
 use crate::limits::degree;
 use crate::packing::{packed, unpacked_sum};
 use crate::poly::{Monomial, Poly};
 use crate::table::table_of;
-use std::alloc::{AllocError, Global};
+use std::alloc::Global;
 
 /// The degree up to which no digit of a key carries.
 const DIGIT_LIMIT: usize = 15;
@@ -25,11 +25,7 @@ const PRODUCT_MINIMUM: usize = 8;
 pub(crate) fn product_by_keys(alloc: Global, p: &Poly, q: &Poly) -> Result<Option<Poly>, Memory>
     ensures { IfOk result (λ found. IfSome found (λ r. poly_of r ≡ product_of (poly_of p.now) (poly_of q.now))) }
 {
-    match product_by_table(alloc, &p.terms, &q.terms) {
-        Ok(r) => Ok(Some(r)),
-        Err(KeyError::Unfit) => Ok(None),
-        Err(KeyError::Memory) => Err(AllocError),
-    }
+    unless_unfit(product_by_table(alloc, &p.terms, &q.terms))
 }
 
 // The product, where all fits.
