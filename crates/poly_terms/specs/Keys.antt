@@ -43,8 +43,8 @@ abbrev pub reach_at : (ℕ → ℕ) → List Keyed → ℕ
 reach_at d [] = 0
 reach_at d (e ∷ es) = max (d e.key) (reach_at d es)
 
--- the first list is made from the second one by putting together and reordering: they have the same sums, whatever number
--- stands for each key, and whatever measures a key, the first one's keys don't reach farther
+-- the first list is made from the second one by putting together and reordering: they have the same sums, whatever
+-- number stands for each key, and whatever measures a key, the first one's keys don't reach farther
 pub record IsMergedFrom (es fs : List Keyed) : Type 0 where
   pub totals : (h : ℕ → ℤ) → total_at h es ≡ total_at h fs
   pub reach : (d : ℕ → ℕ) → reach_at d es ≤ reach_at d fs

@@ -71,10 +71,9 @@ pub fn expand_strict_difference(alloc: Global, d: &Expr, e: &Expr) -> Result<Pol
 fn whole_expansion(alloc: Global, e: &Expr) -> Result<Poly, PolyError>
     ensures { Answers result (first_fault (term_of e.now)) (expanded (term_of e.now)) }
 {
-    match expansion_by_keys(alloc, e) {
-        Ok(Some(p)) => Ok(p),
-        Ok(None) => expansion(alloc, e),
-        Err(_) => Err(PolyError::Memory),
+    match expansion_by_keys(alloc, e)? {
+        Some(p) => Ok(p),
+        None => expansion(alloc, e),
     }
 }
 
@@ -83,10 +82,9 @@ fn whole_difference(alloc: Global, d: &Expr, e: &Expr) -> Result<Poly, PolyError
     ensures { let whole = Subtraction (term_of d.now) (term_of e.now) in
         Answers result (first_fault whole) (expanded whole) }
 {
-    match difference_by_keys(alloc, d, e) {
-        Ok(Some(p)) => Ok(p),
-        Ok(None) => difference(alloc, d, e),
-        Err(_) => Err(PolyError::Memory),
+    match difference_by_keys(alloc, d, e)? {
+        Some(p) => Ok(p),
+        None => difference(alloc, d, e),
     }
 }
 

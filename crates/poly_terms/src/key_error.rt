@@ -10,7 +10,7 @@ use std::alloc::{AllocError, AllocFailed};
 /// Why a polynomial isn't made by packed exponents.
 #[derive(Clone, Copy)]
 pub(crate) enum KeyError {
-    /// A variable, an exponent or a coefficient doesn't fit, so it has to be done monomial by monomial.
+    /// Variables, factors, coefficients or monomials are too many or too large, so it has to be made the other way.
     Unfit,
     /// Memory ran out.
     Memory,

@@ -19,12 +19,6 @@ use crate::table::{add_variable, ascending};
 use model::DEGREE_LIMIT;
 use std::alloc::Global;
 
-/// The most products that two lists are multiplied out for here. Where there are more, nearly always too many differ.
-const PRODUCT_LIMIT: usize = 256;
-
-/// The most monomials of a base that is multiplied by itself here.
-const BASE_LIMIT: usize = 16;
-
 /// What stands for an expression: packed monomials, and a degree that none of them passes.
 #[derive(Drop)]
 pub(crate) struct KeyForm {
@@ -184,9 +178,6 @@ fn product(alloc: Global, left: &KeyForm, right: &KeyForm) -> Result<KeyForm, Ke
     ensures { (table : List ℕ) (d e : Term) → ascend_from 0 table ≡ true → StandsFor table d left.now
         → StandsFor table e right.now → IfOk result (StandsFor table (Multiplication d e)) }
 {
-    if left.terms.len().saturating_mul(right.terms.len()) > PRODUCT_LIMIT {
-        return Err(KeyError::Unfit);
-    }
     let terms = product_of_lists(alloc, &left.terms, &right.terms)?;
     within_limits(terms, left.degree.saturating_add(right.degree))
 }
@@ -198,9 +189,6 @@ fn power(alloc: Global, base: &KeyForm, exponent: u32) -> Result<KeyForm, KeyErr
 {
     let degree = base.degree.saturating_mul(exponent);
     if exponent > DEGREE_LIMIT || degree > DEGREE_LIMIT {
-        return Err(KeyError::Unfit);
-    }
-    if exponent > 1 && base.terms.len() > BASE_LIMIT {
         return Err(KeyError::Unfit);
     }
     let terms = power_of_list(alloc, &base.terms, exponent)?;

@@ -15,11 +15,8 @@ use crate::limits::degree;
 use crate::packing::{packed, unpacked_sum};
 use crate::poly::{Monomial, Poly};
 use crate::table::table_of;
-use model::{DEGREE_LIMIT, MONOMIAL_LIMIT};
+use model::{COEFFICIENT_LIMIT, DEGREE_LIMIT, MONOMIAL_LIMIT};
 use std::alloc::Global;
-
-/// The most that the absolute values of a lower power's coefficients make together: 2^63-1.
-const NORM_LIMIT: u64 = 0x7fff_ffff_ffff_ffff;
 
 /// The power, where no lower one has a fault, or `None` where it has to be made factor by factor.
 pub(crate) fn power_by_keys(alloc: Global, p: &Poly, exponent: u32) -> Result<Option<Poly>, Memory>
@@ -75,7 +72,7 @@ pub(crate) fn is_modest(es: &[Keyed]) -> bool
 fn is_narrow(es: &[Keyed]) -> bool
     ensures { result ≡ true → norm_at es.now ≤ coefficient_limit }
 {
-    let mut left = NORM_LIMIT;
+    let mut left = COEFFICIENT_LIMIT;
     for e in es {
         let size = size_of(*e);
         if size > left {

@@ -1,5 +1,6 @@
 // Products of polynomials by packed exponents. The keys of a row, the products of one monomial with each of a list in
-// ascending order, ascend as the list does: so rows are merged. Where no list ascends the result is the same, but longer.
+// ascending order, ascend as the list does: so rows are merged. Where no list ascends the result is the same, but
+// longer.
 
 ghost use Rattle.std.specs.Prelude.{◌≡◌, ◌+ℤ◌, ◌++◌, ◌∷◌, drop, map, IfOk, IfSome, OnOk, []};
 ghost use Rattle.poly_terms.specs.Expanding.{product_of};
@@ -20,6 +21,9 @@ const DIGIT_LIMIT: usize = 15;
 
 /// The fewest products for which packing is worth its while.
 const PRODUCT_MINIMUM: usize = 8;
+
+/// The most products for which rows are merged. Where there are more, nearly always too many differ.
+const PRODUCT_MAXIMUM: usize = 256;
 
 /// The product, or `None` where it has to be made monomial by monomial.
 pub(crate) fn product_by_keys(alloc: Global, p: &Poly, q: &Poly) -> Result<Option<Poly>, Memory>
@@ -43,7 +47,7 @@ fn product_by_table(alloc: Global, p: &[Monomial], q: &[Monomial]) -> Result<Pol
     unpacked_sum(alloc, &table, &whole)
 }
 
-/// The products of two lists, merged. The shorter one gives the rows.
+/// The products of two lists, merged, where they are few. The shorter one gives the rows.
 pub(crate) fn product_of_lists(
     alloc: Global,
     left: &[Keyed],
@@ -51,6 +55,9 @@ pub(crate) fn product_of_lists(
 ) -> Result<Vec<Keyed>, KeyError>
     ensures { IfOk result (λ es. IsMergedFrom es.items (all_products left.now right.now)) }
 {
+    if left.len().saturating_mul(right.len()) > PRODUCT_MAXIMUM {
+        return Err(KeyError::Unfit);
+    }
     if left.len() < right.len() {
         rows_merged(alloc, left, right)
     } else {

@@ -14,7 +14,7 @@ use crate::sum::add;
 use std::alloc::Global;
 
 /// The base of the digits of a key.
-const BASE: u128 = 16;
+const DIGIT_BASE: u128 = 16;
 
 /// The most packed monomials that are unpacked.
 const UNPACKED_LIMIT: usize = 4096;
@@ -68,7 +68,7 @@ fn unit_of(table: &[u32], v: u32) -> u128 {
         if *w == v {
             return unit;
         }
-        unit = unit.wrapping_mul(BASE);
+        unit = unit.wrapping_mul(DIGIT_BASE);
     }
     0
 }
@@ -80,8 +80,8 @@ fn unpacked(alloc: Global, table: &[u32], key: u128) -> Result<Vec<u32>, Memory>
     let mut vars = Vec::with_capacity(alloc, 8)?;
     let mut rest = key;
     for v in table {
-        push_copies(&mut vars, *v, rest % BASE)?;
-        rest /= BASE;
+        push_copies(&mut vars, *v, rest % DIGIT_BASE)?;
+        rest /= DIGIT_BASE;
     }
     Ok(vars)
 }

@@ -8,8 +8,8 @@ use crate::key_error::KeyError;
 use crate::poly::Monomial;
 use std::alloc::Global;
 
-/// The most variables of a table: the digits of a key.
-const VARIABLE_LIMIT: usize = 32;
+/// The digits of a key, and so the most variables of a table.
+const DIGITS: usize = 32;
 
 /// The variables of two polynomials, in ascending order.
 pub(crate) fn table_of(
@@ -52,7 +52,7 @@ pub(crate) fn add_variable(table: &mut Vec<u32>, v: u32) -> Result<(), KeyError>
     if i < table.len() && table[i] == v {
         return Ok(());
     }
-    if table.len() >= VARIABLE_LIMIT {
+    if table.len() >= DIGITS {
         return Err(KeyError::Unfit);
     }
     table.insert(i, v)?;

@@ -134,6 +134,30 @@ fn powers_behind(alloc: Global, size: u32) -> Result<Expr, AllocError> {
     Ok(sum)
 }
 
+// The product of two products of two sums of so many variables, all different.
+fn product_of_products(alloc: Global, size: u32) -> Result<Expr, AllocError> {
+    let left = product_of_sums(alloc, size)?;
+    let third = variables(alloc, size.saturating_mul(2), size)?;
+    let fourth = variables(alloc, size.saturating_mul(3), size)?;
+    Expr::product(alloc, left, Expr::product(alloc, third, fourth)?)
+}
+
+// A sum of 40 variables less itself, and so many eighth powers of a sum of three others.
+fn powers_beside_nothing(alloc: Global, size: u32) -> Result<Expr, AllocError> {
+    let mut sum = Expr::difference(alloc, variables(alloc, 3, 40)?, variables(alloc, 3, 40)?)?;
+    for _ in 0..size {
+        let power = Expr::power(alloc, variables(alloc, 0, 3)?, 8)?;
+        sum = Expr::sum(alloc, sum, power)?;
+    }
+    Ok(sum)
+}
+
+// So many eighth powers of a sum of three variables, and a coefficient of 2^63-1.
+fn powers_and_large(alloc: Global, size: u32) -> Result<Expr, AllocError> {
+    let large = Expr::product(alloc, Expr::Num(0x7fff_ffff_ffff_ffff), Expr::Var(3))?;
+    Expr::sum(alloc, sum_of_powers(alloc, size)?, large)
+}
+
 // An expression of a shape and a size.
 fn shaped(alloc: Global, shape: u32, size: u32) -> Result<Expr, AllocError> {
     match shape {
@@ -152,7 +176,10 @@ fn shaped(alloc: Global, shape: u32, size: u32) -> Result<Expr, AllocError> {
         12 => sum_of_powers(alloc, size),
         13 => minuses(alloc, size),
         14 => sum_of_products(alloc, size),
-        _ => powers_behind(alloc, size),
+        15 => powers_behind(alloc, size),
+        16 => product_of_products(alloc, size),
+        17 => powers_beside_nothing(alloc, size),
+        _ => powers_and_large(alloc, size),
     }
 }
 

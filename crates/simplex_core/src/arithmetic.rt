@@ -84,8 +84,8 @@ pub(crate) fn less_multiple(a: Frac, factor: Frac, b: Frac) -> Frac
 
 /// A whole number less a multiple of one.
 fn less_whole_multiple(a: i128, factor: i128, b: i128) -> Frac
-    requires a_small { unsigned_abs a < 2 ^ 31 }
-    requires factor_small { unsigned_abs factor < 2 ^ 31 }
+    requires a_small { unsigned_abs a < number_limit }
+    requires factor_small { unsigned_abs factor < number_limit }
     requires b_bounded { unsigned_abs b < 2 ^ 62 }
     ensures num { result.num ≡ a -ℤ factor *ℤ b }
     ensures den { result.den ≡ pos 1 }
@@ -108,8 +108,8 @@ fn lowest(over: i128, under: i128) -> Frac
 
 /// The product of two numerators or denominators of a tableau.
 fn small_product(a: i128, b: i128) -> i128
-    requires a_small { unsigned_abs a < 2 ^ 31 }
-    requires b_small { unsigned_abs b < 2 ^ 31 }
+    requires a_small { unsigned_abs a < number_limit }
+    requires b_small { unsigned_abs b < number_limit }
     ensures value { result ≡ a *ℤ b }
     ensures bounded { unsigned_abs result < 2 ^ 62 }
 {
@@ -128,8 +128,8 @@ fn large_product(a: i128, b: i128) -> i128
 
 /// The product of two numerators or denominators of a tableau and one of a quotient of two numbers.
 fn triple_product(a: i128, b: i128, c: i128) -> i128
-    requires a_small { unsigned_abs a < 2 ^ 31 }
-    requires b_small { unsigned_abs b < 2 ^ 31 }
+    requires a_small { unsigned_abs a < number_limit }
+    requires b_small { unsigned_abs b < number_limit }
     requires c_bounded { unsigned_abs c < 2 ^ 62 }
     ensures value { result ≡ (a *ℤ b) *ℤ c }
     ensures bounded { unsigned_abs result < 2 ^ 124 }

@@ -1,7 +1,7 @@
 // The analysis of a program: rounds of times and sizes, and all times taken together. Contract to the layer above: the
 // table is the last of the rounds, each bound holds on all runs, each missing bound has its reason, and the total,
-// where every rule has a time, bounds the length of every run. The lemmas are those of the rounds in their order and are
-// accepted, and each known bound has the number of one that states it. A program has one analysis within a number of
+// where every rule has a time, bounds the length of every run. The lemmas are those of the rounds in their order and
+// are accepted, and each known bound has the number of one that states it. A program has one analysis within a number of
 // pivots.
 #![tactic(auto)]
 

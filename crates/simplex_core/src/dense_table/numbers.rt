@@ -8,6 +8,7 @@ ghost use Rattle.simplex_core.specs.Cells.{width};
 ghost use Rattle.simplex_core.specs.Building.{HoldsWhole, WritesWhole, KeepsShape, signed_entries, with_equations};
 ghost use Rattle.simplex_core.specs.Building.{with_costs, HasSmallEquations, KeepsEquations};
 ghost use Rattle.simplex_core.specs.Numbers.{AreInCells, AreNumbersSmall, AreEntriesBelow};
+ghost use Rattle.simplex_core.specs.Sizes.{number_limit};
 
 use crate::arithmetic::signed;
 use crate::dense_table::DenseTable;
@@ -58,7 +59,7 @@ impl DenseTable {
     fn write_entry(&mut self, entry: Entry, right: i128)
         requires row { entry.row < self.old.rows }
         requires column { entry.col < self.old.columns }
-        requires small { unsigned_abs entry.value < 2 ^ 31 }
+        requires small { unsigned_abs entry.value < number_limit }
         ensures { WritesWhole self.old self.new entry.row entry.col (sign_of right *ℤ entry.value) }
     {
         self.write(
@@ -84,7 +85,7 @@ impl DenseTable {
     /// Writes the artificial unknown and the right side of a row.
     fn write_row(&mut self, row: usize, right: i128)
         requires row { row < self.old.rows }
-        requires small { unsigned_abs right < 2 ^ 31 }
+        requires small { unsigned_abs right < number_limit }
         ensures shape { KeepsShape self.old self.new }
         ensures whole { (g : ℕ → ℕ → ℤ) (sides : List ℤ) → slice_index_or sides row (pos 0) ≡ right
             → HoldsWhole self.old (with_equations self.old.rows self.old.columns sides g row)
@@ -114,8 +115,8 @@ impl DenseTable {
     fn write_cost(&mut self, column: usize, first: i128, second: i128)
         requires column { column < self.old.columns }
         requires small { HasSmallEquations self.old }
-        requires first_small { unsigned_abs first < 2 ^ 31 }
-        requires second_small { unsigned_abs second < 2 ^ 31 }
+        requires first_small { unsigned_abs first < number_limit }
+        requires second_small { unsigned_abs second < number_limit }
         ensures shape { KeepsShape self.old self.new }
         ensures equations { KeepsEquations self.old self.new }
         ensures whole { (g : ℕ → ℕ → ℤ) (f s : List ℤ) → slice_index_or f column (pos 0) ≡ first
