@@ -7,7 +7,6 @@ ghost use Rattle.model.specs.Terms.{value};
 ghost use Rattle.model.specs.Limits.{atom_limit};
 ghost use Rattle.model.specs.Programs.{arity_of, rule_at};
 ghost use Rattle.model.specs.Runs.{IsStep};
-ghost use Rattle.poly_terms.specs.Checked.{ReadsBelow};
 ghost use Rattle.poly_terms.specs.Views.{term_of};
 ghost use Rattle.its_model.specs.Steps.{PastRange, is_related, atom_fault, guard_fault, updates_fault, body_fault};
 ghost use Rattle.its_model.specs.Steps.{rule_fault, step_fault, maximum_arity, StepsHaveNoFault};

@@ -5,10 +5,11 @@ use Rattle.std.specs.Prelude.{◌*ℤ◌}
 use Rattle.std.proofs.lemmas.Bool.Decides.{nat_tests}
 use Rattle.std.proofs.lemmas.List.{length-append, length-replicate, map-append, drop_more}
 use Rattle.model.specs.Polynomials.{degree_of}
+use Rattle.poly_terms.specs.declared.keyed.Key.{Key}
 use Rattle.poly_terms.specs.declared.keyed.Keyed.{Keyed}
 use Rattle.poly_terms.specs.Expanding.{inserted, all_inserted, multiplied, products}
 use Rattle.poly_terms.specs.Ordered.{AreFrom}
-use Rattle.poly_terms.specs.Keys.{factors_at, monomial_at, monomials_at, ascend_from, product_at, all_products}
+use Rattle.poly_terms.specs.Keys.{number_of, key_sum, factors_at, monomial_at, monomials_at, ascend_from, product_at, all_products}
 use Rattle.poly_terms.proofs.OrderLaws.{from-less}
 
 -- a variable that no other is below is inserted first
@@ -64,7 +65,7 @@ ascend-first n v vs h = go (nat_lt v n) refl h
     go true e k = cc
     go false e k = from e
 
-ascend-rest : (n v : ℕ) (vs : List ℕ) → ascend_from n (v ∷ vs) ≡ true → ascend_from (suc v) vs ≡ true
+pub ascend-rest : (n v : ℕ) (vs : List ℕ) → ascend_from n (v ∷ vs) ≡ true → ascend_from (suc v) vs ≡ true
 ascend-rest n v vs h = go (nat_lt v n) h
   where
     go : (b : Bool) → (if b then false else ascend_from (suc v) vs) ≡ true → ascend_from (suc v) vs ≡ true
@@ -72,7 +73,7 @@ ascend-rest n v vs h = go (nat_lt v n) h
     go false k = k
 
 -- the variables of a key are at least as great as the table's first one
-factors-from : (n : ℕ) (table : List ℕ) (k : ℕ) → ascend_from n table ≡ true → AreFrom n (factors_at table k)
+pub factors-from : (n : ℕ) (table : List ℕ) (k : ℕ) → ascend_from n table ≡ true → AreFrom n (factors_at table k)
 factors-from n [] k h = tt
 factors-from n (v ∷ vs) k h =
     let l = ascend-first n v vs h in
@@ -91,7 +92,7 @@ pub factors-from-digit : (table : List ℕ) (k rest : ℕ) → k < length table
 factors-from-digit table k rest l =
     ap (λ (vs : List ℕ). length (factors_at vs rest)) (drop_more table k 0 l) ∙ factors-length (get_or table k 0) (drop (k + 1) table) rest
 
--- the variables of a sum of keys are those of both, where these are at most 15
+-- the variables of a sum of numbers are those of both, where these are at most 15
 pub factors-sum : (n : ℕ) (table : List ℕ) (a b : ℕ) → ascend_from n table ≡ true
     → length (factors_at table a) + length (factors_at table b) ≤ 15
     → factors_at table (a + b) ≡ all_inserted (factors_at table a) (factors_at table b)
@@ -116,15 +117,26 @@ factors-sum n (v ∷ vs) a b h l =
     quotients : (x y : ℕ) → x % 16 + y % 16 ≤ 15 → (x + y) / 16 ≡ x / 16 + y / 16
     quotients x y g = omega arith
 
+-- the number of a sum
+number-sum : (k l : Key) → number_of (key_sum k l) ≡ number_of k + number_of l
+number-sum k l = omega arith
+
+-- the variables of a sum of keys are those of both, where these are at most 15
+keys-sum : (table : List ℕ) (k l : Key) → ascend_from 0 table ≡ true
+    → length (factors_at table (number_of k)) + length (factors_at table (number_of l)) ≤ 15
+    → factors_at table (number_of (key_sum k l)) ≡ all_inserted (factors_at table (number_of k)) (factors_at table (number_of l))
+keys-sum table k l h few =
+    ap (factors_at table) (number-sum k l) ∙ factors-sum 0 table (number_of k) (number_of l) h few
+
 -- a row of packed products is the row of the products
 row-at : (table : List ℕ) (e : Keyed) (fs : List Keyed) → ascend_from 0 table ≡ true
-    → length (factors_at table e.key) + degree_of (monomials_at table fs) ≤ 15
+    → length (factors_at table (number_of e.key)) + degree_of (monomials_at table fs) ≤ 15
     → monomials_at table (map (product_at e) fs) ≡ map (multiplied (monomial_at table e)) (monomials_at table fs)
 row-at table e [] h l = refl
 row-at table e (f ∷ fs) h l =
-    let few : length (factors_at table e.key) + length (factors_at table f.key) ≤ 15 = omega (arith, l) in
-    let others : length (factors_at table e.key) + degree_of (monomials_at table fs) ≤ 15 = omega (arith, l) in
-    λ i. record { coef = e.coef *ℤ f.coef; vars = factors-sum 0 table e.key f.key h few i } ∷ row-at table e fs h others i
+    let few : length (factors_at table (number_of e.key)) + length (factors_at table (number_of f.key)) ≤ 15 = omega (arith, l) in
+    let others : length (factors_at table (number_of e.key)) + degree_of (monomials_at table fs) ≤ 15 = omega (arith, l) in
+    λ i. record { coef = e.coef *ℤ f.coef; vars = keys-sum table e.key f.key h few i } ∷ row-at table e fs h others i
 
 -- packed products are the products
 pub products-at : (table : List ℕ) (es fs : List Keyed) → ascend_from 0 table ≡ true
@@ -132,7 +144,7 @@ pub products-at : (table : List ℕ) (es fs : List Keyed) → ascend_from 0 tabl
     → monomials_at table (all_products es fs) ≡ products (monomials_at table es) (monomials_at table fs)
 products-at table [] fs h l = refl
 products-at table (e ∷ es) fs h l =
-    let here : length (factors_at table e.key) + degree_of (monomials_at table fs) ≤ 15 = omega (arith, l) in
+    let here : length (factors_at table (number_of e.key)) + degree_of (monomials_at table fs) ≤ 15 = omega (arith, l) in
     let others : degree_of (monomials_at table es) + degree_of (monomials_at table fs) ≤ 15 = omega (arith, l) in
     map-append (monomial_at table) (map (product_at e) fs) (all_products es fs)
     ∙ (λ i. row-at table e fs h here i ++ products-at table es fs h others i)

@@ -1,4 +1,4 @@
--- How long a sum of monomials is, how large its coefficients are, and the degrees of sums, products and powers.
+-- How long a sum of monomials is, when coefficients are small, and the degrees of sums, products and powers.
 use Rattle.std.proofs.Common.{◌≡◌, ℕ, zero, suc, ◌+◌, ◌*◌, ◌≤◌, ◌||◌, List, [], ◌∷◌, ◌++◌, length, map, Bool, true}
 use Rattle.std.proofs.Common.{false, refl, ap, ◌∙◌, arith, nat_lt, if◌then◌else◌}
 use Rattle.std.specs.Prelude.{ℤ, ◌+ℤ◌, nat_abs, max}

@@ -1,6 +1,6 @@
 -- From the forms of an expression's operands to that of the whole.
 use Rattle.std.proofs.Common.{◌≡◌, ℕ, zero, suc, ◌+◌, ◌*◌, ◌≤◌, List, [], ◌∷◌, ◌++◌, map, length, max}
-use Rattle.std.proofs.Common.{refl, ap, sym, ◌∙◌, subst, arith, true, mul-le-mul}
+use Rattle.std.proofs.Common.{refl, ap, sym, ◌∙◌, subst, arith, true, mul-le-mul, mul_comm}
 use Rattle.std.specs.Prelude.{None, ℤ, pos, negsuc, ◌+ℤ◌, ◌*ℤ◌}
 use Rattle.std.proofs.lemmas.Int.{ints}
 use Rattle.std.proofs.lemmas.List.{map-append}
@@ -11,14 +11,16 @@ use Rattle.model.specs.Limits.{degree_limit}
 use Rattle.model.specs.Polynomials.{Monomial, Polynomial, degree_of}
 use Rattle.model.specs.Terms.{Term, Literal, Variable, Negation, Addition, Subtraction, Multiplication, Exponentiation}
 use Rattle.poly_terms.specs.declared.key_form.KeyForm.{KeyForm}
+use Rattle.poly_terms.specs.declared.keyed.Key.{Key}
 use Rattle.poly_terms.specs.declared.keyed.Keyed.{Keyed}
 use Rattle.poly_terms.specs.Expanding.{all_added, sum_of, opposite, products, power_of, expanded}
 use Rattle.poly_terms.specs.Faults.{fault_in, fault_of, first_fault, or_else}
 use Rattle.poly_terms.specs.Powers.{faults_of_powers}
-use Rattle.poly_terms.specs.Keys.{factors_at, monomial_at, monomials_at, ascend_from, product_at, all_products, IsMergedFrom, IsPowerAt}
+use Rattle.poly_terms.specs.Keys.{number_of, key_sum, no_factors, factors_at, monomial_at, monomials_at, ascend_from, opposite_at, product_at, all_products, IsMergedFrom, IsPowerAt}
 use Rattle.poly_terms.specs.KeyForms.{IsExpansion, IsWithinLimits, StandsFor}
 use Rattle.poly_terms.specs.Scaling.{times}
 use Rattle.poly_terms.specs.Totals.{total, IsSamePolynomial}
+use Rattle.poly_terms.proofs.AnswerLaws.{expanded-small, opposite-small}
 use Rattle.poly_terms.proofs.FaultLaws.{first-one, first-two, first-power, or_else-none}
 use Rattle.poly_terms.proofs.FormLaws.{degree-append}
 use Rattle.poly_terms.proofs.KeyLaws.{degree-merged, degree-merged-products, same-at, same-products-at}
@@ -26,7 +28,7 @@ use Rattle.poly_terms.proofs.OrderLaws.{expanded-ordered}
 use Rattle.poly_terms.proofs.ScaleLaws.{opposite-times}
 use Rattle.poly_terms.proofs.TotalLaws.{same-sums, same-from_sum, same-sum_of, same-products, sum-of-ordered, total-append}
 use Rattle.poly_terms.proofs.TotalLaws.{total-all_added, total-without_zeros}
-use Rattle.poly_terms.proofs.UnpackingLaws.{degree-power-at, none-below, none-modest, power-at}
+use Rattle.poly_terms.proofs.UnpackingLaws.{degree-power-at, none-below, none-modest, none-small, power-at}
 
 -- the sum of packed monomials is the expanded form that they make together
 whole-form : (table : List ℕ) (t : Term) (es : List Keyed) → IsSamePolynomial (monomials_at table es) (expanded t)
@@ -39,7 +41,7 @@ pub expansion-stands : (table : List ℕ) (t : Term) (f : KeyForm) (p : Polynomi
 expansion-stands table t f p h e = record { form = e ∙ whole-form table t f.terms.items h.whole; none = h.none }
 
 -- monomials within the limits that make an expanded form together stand for it, where it has no other fault than its own
-stands : (table : List ℕ) (t : Term) (es : List Keyed) (n k : ℕ) (f : KeyForm) → IsWithinLimits es n f
+stands : (table : List ℕ) (t : Term) (es : List Keyed) (n k : ℕ) (f : KeyForm) → IsWithinLimits table es n f
     → IsSamePolynomial (monomials_at table es) (expanded t) → degree_of (monomials_at table es) ≤ n → k ≤ degree_limit
     → (fault_in (expanded t) k ≡ None → first_fault t ≡ None) → StandsFor table t f
 stands table t es n k f w same d l first = record {
@@ -51,7 +53,7 @@ stands table t es n k f w same d l first = record {
 
 -- a literal
 pub literal-stands : (table : List ℕ) (z : ℤ) (e : Keyed) (f : KeyForm) → monomial_at table e ≡ record { coef = z; vars = [] }
-    → IsWithinLimits (e ∷ []) 0 f → StandsFor table (Literal z) f
+    → IsWithinLimits table (e ∷ []) 0 f → StandsFor table (Literal z) f
 literal-stands table z e f h w =
     stands table (Literal z) (e ∷ []) 0 1 f w
     (subst (λ (m : Monomial). IsSamePolynomial (m ∷ []) (expanded (Literal z))) (sym h)
@@ -59,9 +61,17 @@ literal-stands table z e f h w =
     (omega (arith, ap (λ (m : Monomial). length m.vars) h)) (omega arith)
     (λ n. or_else-none (fault_of (Literal z)) ∙ n)
 
+-- the literal 0
+pub zero-stands : (table : List ℕ) (z : ℤ) (f : KeyForm) → z ≡ pos 0 → IsWithinLimits table [] 0 f → StandsFor table (Literal z) f
+zero-stands table z f e w =
+    stands table (Literal z) [] 0 1 f w
+    (subst (λ (x : ℤ). IsSamePolynomial [] (expanded (Literal x))) (sym e) (record { totals = λ g. refl }))
+    (omega arith) (omega arith)
+    (λ n. or_else-none (fault_of (Literal z)) ∙ n)
+
 -- a variable
 pub variable-stands : (table : List ℕ) (i : ℕ) (e : Keyed) (f : KeyForm) → monomial_at table e ≡ record { coef = pos 1; vars = i ∷ [] }
-    → IsWithinLimits (e ∷ []) 1 f → StandsFor table (Variable i) f
+    → IsWithinLimits table (e ∷ []) 1 f → StandsFor table (Variable i) f
 variable-stands table i e f h w =
     stands table (Variable i) (e ∷ []) 1 1 f w
     (subst (λ (m : Monomial). IsSamePolynomial (m ∷ []) (expanded (Variable i))) (sym h) (record { totals = λ g. refl }))
@@ -70,12 +80,15 @@ variable-stands table i e f h w =
 
 -- a row of a constant is each coefficient multiplied by it
 constant-row : (table : List ℕ) (z : ℤ) (fs : List Keyed)
-    → monomials_at table (map (product_at (record { key = 0; coef = z })) fs) ≡ map (times z) (monomials_at table fs)
+    → monomials_at table (map (product_at (record { key = no_factors; coef = z })) fs) ≡ map (times z) (monomials_at table fs)
 constant-row table z [] = refl
-constant-row table z (f ∷ fs) = λ i. record { coef = mul_comm_ℤ z f.coef i; vars = factors_at table (same f.key i) } ∷ constant-row table z fs i
+constant-row table z (f ∷ fs) = λ i. record { coef = mul_comm_ℤ z f.coef i; vars = factors_at table (number_of (same f.key i)) } ∷ constant-row table z fs i
   where
-    same : (k : ℕ) → 0 + k ≡ k
-    same k = omega arith
+    alone : (n : ℕ) → 0 + n ≡ n
+    alone n = omega arith
+
+    same : (k : Key) → key_sum no_factors k ≡ k
+    same k = λ i. record { high = alone k.high i; low = alone k.low i }
 
 -- its total and its degree
 total-times : (g : List ℕ → ℤ) (z : ℤ) (p : Polynomial) → total g (map (times z) p) ≡ z *ℤ total g p
@@ -95,19 +108,19 @@ degree-times z [] = refl
 degree-times z (m ∷ p) = ap (max (length m.vars)) (degree-times z p)
 
 -- the monomials of a list and those of another one multiplied by a constant, merged: their total and their degree
-merged-total : (table : List ℕ) (z : ℤ) (ls rs es : List Keyed) → IsMergedFrom es (ls ++ map (product_at (record { key = 0; coef = z })) rs)
+merged-total : (table : List ℕ) (z : ℤ) (ls rs es : List Keyed) → IsMergedFrom es (ls ++ map (product_at (record { key = no_factors; coef = z })) rs)
     → (g : List ℕ → ℤ) → total g (monomials_at table es) ≡ total g (monomials_at table ls) +ℤ (z *ℤ total g (monomials_at table rs))
 merged-total table z ls rs es h g =
-    let row = map (product_at (record { key = 0; coef = z })) rs in
+    let row = map (product_at (record { key = no_factors; coef = z })) rs in
     (same-at table es (ls ++ row) h).totals g
     ∙ (ap (total g) (map-append (monomial_at table) ls row)
     ∙ (total-append g (monomials_at table ls) (monomials_at table row)
     ∙ ap (λ (x : ℤ). total g (monomials_at table ls) +ℤ x) (ap (total g) (constant-row table z rs) ∙ total-times g z (monomials_at table rs))))
 
-merged-degree : (table : List ℕ) (z : ℤ) (ls rs es : List Keyed) → IsMergedFrom es (ls ++ map (product_at (record { key = 0; coef = z })) rs)
+merged-degree : (table : List ℕ) (z : ℤ) (ls rs es : List Keyed) → IsMergedFrom es (ls ++ map (product_at (record { key = no_factors; coef = z })) rs)
     → degree_of (monomials_at table es) ≤ max (degree_of (monomials_at table ls)) (degree_of (monomials_at table rs))
 merged-degree table z ls rs es h =
-    let row = map (product_at (record { key = 0; coef = z })) rs in
+    let row = map (product_at (record { key = no_factors; coef = z })) rs in
     omega (
       arith,
       degree-merged table es (ls ++ row) h,
@@ -125,27 +138,42 @@ total-sum_of g p q = total-without_zeros g (all_added p q) ∙ total-all_added g
 total-opposite : (g : List ℕ → ℤ) (p : Polynomial) → total g (map opposite p) ≡ negsuc 0 *ℤ total g p
 total-opposite g p = ap (total g) (sym (opposite-times p)) ∙ total-times g (negsuc 0) p
 
--- a negation
-pub negation-stands : (table : List ℕ) (e : Term) (form f : KeyForm) (es : List Keyed) → StandsFor table e form
-    → IsMergedFrom es ([] ++ map (product_at (record { key = 0; coef = negsuc 0 })) form.terms.items)
-    → IsWithinLimits es form.degree f → StandsFor table (Negation e) f
-negation-stands table e form f es h m w =
-    stands table (Negation e) es form.degree 1 f w
-    (record {
-      totals = λ g. merged-total table (negsuc 0) [] form.terms.items es m g
-          ∙ (alone (negsuc 0 *ℤ total g (monomials_at table form.terms.items))
-          ∙ (ap (λ (x : ℤ). negsuc 0 *ℤ x) (h.whole.totals g) ∙ sym (total-opposite g (expanded e))));
-    })
-    (omega (arith, merged-degree table (negsuc 0) [] form.terms.items es m, h.factors)) (omega arith)
-    (λ n. first-one e (Negation e) ∙ (λ i. or_else (h.none i) (n i)))
+-- packed monomials with opposite coefficients are the opposite polynomial
+opposites-at : (table : List ℕ) (es : List Keyed) → monomials_at table (map opposite_at es) ≡ map opposite (monomials_at table es)
+opposites-at table [] = refl
+opposites-at table (e ∷ es) = ap (λ (ms : Polynomial). opposite (monomial_at table e) ∷ ms) (opposites-at table es)
+
+-- a negation: it has no fault where its operand has none
+pub negation-stands : (table : List ℕ) (e : Term) (form f : KeyForm) → StandsFor table e form
+    → f.terms.items ≡ map opposite_at form.terms.items → f.degree ≡ form.degree → StandsFor table (Negation e) f
+negation-stands table e form f h is d = record {
+  whole = record {
+    totals = λ g. ap (total g) same
+        ∙ (total-opposite g (monomials_at table form.terms.items)
+        ∙ (ap (λ (x : ℤ). negsuc 0 *ℤ x) (h.whole.totals g) ∙ sym (total-opposite g (expanded e))));
+  };
+  none = first-one e (Negation e) ∙ (λ i. or_else (h.none i) (none i));
+  factors = omega (
+    arith,
+    ap degree_of same,
+    ap degree_of (sym (opposite-times (monomials_at table form.terms.items))),
+    degree-times (negsuc 0) (monomials_at table form.terms.items),
+    h.factors,
+    d,
+  );
+  low = omega (arith, d, h.low);
+}
   where
-    alone : (x : ℤ) → pos 0 +ℤ x ≡ x
-    alone x = omega (arith, ints)
+    same : monomials_at table f.terms.items ≡ map opposite (monomials_at table form.terms.items)
+    same = ap (monomials_at table) is ∙ opposites-at table form.terms.items
+
+    none : fault_of (Negation e) ≡ None
+    none = none-small (map opposite (expanded e)) 1 (opposite-small (expanded e) (expanded-small e h.none)) (omega arith)
 
 -- a sum
 pub sum-stands : (table : List ℕ) (d e : Term) (left right f : KeyForm) (es : List Keyed) → StandsFor table d left → StandsFor table e right
-    → IsMergedFrom es (left.terms.items ++ map (product_at (record { key = 0; coef = pos 1 })) right.terms.items)
-    → IsWithinLimits es (max left.degree right.degree) f → StandsFor table (Addition d e) f
+    → IsMergedFrom es (left.terms.items ++ map (product_at (record { key = no_factors; coef = pos 1 })) right.terms.items)
+    → IsWithinLimits table es (max left.degree right.degree) f → StandsFor table (Addition d e) f
 sum-stands table d e left right f es h k m w =
     stands table (Addition d e) es (max left.degree right.degree) 1 f w
     (record {
@@ -161,8 +189,8 @@ sum-stands table d e left right f es h k m w =
 
 -- a difference
 pub difference-stands : (table : List ℕ) (d e : Term) (left right f : KeyForm) (es : List Keyed) → StandsFor table d left → StandsFor table e right
-    → IsMergedFrom es (left.terms.items ++ map (product_at (record { key = 0; coef = negsuc 0 })) right.terms.items)
-    → IsWithinLimits es (max left.degree right.degree) f → StandsFor table (Subtraction d e) f
+    → IsMergedFrom es (left.terms.items ++ map (product_at (record { key = no_factors; coef = negsuc 0 })) right.terms.items)
+    → IsWithinLimits table es (max left.degree right.degree) f → StandsFor table (Subtraction d e) f
 difference-stands table d e left right f es h k m w =
     stands table (Subtraction d e) es (max left.degree right.degree) 1 f w
     (record {
@@ -177,45 +205,46 @@ difference-stands table d e left right f es h k m w =
 -- a product
 pub product-stands : (table : List ℕ) (d e : Term) (left right f : KeyForm) (es : List Keyed) (n : ℕ) → ascend_from 0 table ≡ true
     → StandsFor table d left → StandsFor table e right → IsMergedFrom es (all_products left.terms.items right.terms.items)
-    → n ≡ left.degree + right.degree → IsWithinLimits es n f → StandsFor table (Multiplication d e) f
+    → degree_of (monomials_at table left.terms.items) + degree_of (monomials_at table right.terms.items) ≤ n → IsWithinLimits table es n f
+    → StandsFor table (Multiplication d e) f
 product-stands table d e left right f es n a h k m is w =
     let ls = monomials_at table left.terms.items in
     let rs = monomials_at table right.terms.items in
-    let few : degree_of ls + degree_of rs ≤ 15 = omega (arith, h.factors, k.factors, is, w.low) in
+    let few : degree_of ls + degree_of rs ≤ 15 = omega (arith, is, w.low) in
     stands table (Multiplication d e) es n 1 f w
     (record {
       totals = λ g. (same-products-at table left.terms.items right.terms.items es a few m).totals g
           ∙ ((same-products ls (expanded d) rs (expanded e) h.whole k.whole).totals g
           ∙ sym ((same-sum_of (products (expanded d) (expanded e))).totals g));
     })
-    (omega (arith, degree-merged-products table left.terms.items right.terms.items es a few m, h.factors, k.factors, is)) (omega arith)
+    (omega (arith, degree-merged-products table left.terms.items right.terms.items es a few m, is)) (omega arith)
     (λ n. first-two d e (Multiplication d e) ∙ (λ i. or_else (h.none i) (or_else (k.none i) (n i))))
+
+-- the degree of a power, from one of its base that holds where it is low
+pub degree-times-exponent : (d m k : ℕ) → (m ≤ degree_limit → d ≤ m) → m * k ≤ degree_limit → k * d ≤ m * k
+degree-times-exponent d m zero h l = omega arith
+degree-times-exponent d m (suc k) h l = omega (arith, at_most (suc k) d (suc k) m (omega arith) (h (omega (arith, l, mul_comm m (suc k)))), mul_comm m (suc k))
+  where
+    at_most : (a b c d : ℕ) → a ≤ c → b ≤ d → a * b ≤ c * d
+    at_most a b c d = mul-le-mul
 
 -- a power
 pub power-stands : (table : List ℕ) (e : Term) (base f : KeyForm) (es : List Keyed) (n k : ℕ) → ascend_from 0 table ≡ true
-    → StandsFor table e base → IsPowerAt base.terms.items k es → k ≤ degree_limit → k * base.degree ≤ n
-    → IsWithinLimits es n f → StandsFor table (Exponentiation e k) f
+    → StandsFor table e base → IsPowerAt table base.terms.items k es → k ≤ degree_limit
+    → k * degree_of (monomials_at table base.terms.items) ≤ n
+    → IsWithinLimits table es n f → StandsFor table (Exponentiation e k) f
 power-stands table e base f es n k a h p l is w =
     stands table (Exponentiation e k) es n k f w (same-from_sum (monomials_at table es) (power_of (expanded e) k) (power-at table base.terms.items (expanded e) k es a h.whole low p))
-    (omega (arith, degree-power-at table base.terms.items k es a low p, most)) l
+    (omega (arith, degree-power-at table base.terms.items k es a low p, is)) l
     (λ none. first-power e k ∙ (λ i. or_else (h.none i) (powers k es p low l none i)))
   where
     d : ℕ
     d = degree_of (monomials_at table base.terms.items)
 
-    most : k * d ≤ n
-    most = below k d base.degree h.factors is
-      where
-        at_most : (a b c d : ℕ) → a ≤ c → b ≤ d → a * b ≤ c * d
-        at_most a b c d = mul-le-mul
-
-        below : (k x y : ℕ) → x ≤ y → k * y ≤ n → k * x ≤ n
-        below k x y l m = omega (arith, at_most k x k y (omega arith) l, m)
-
     low : k * d ≤ degree_limit
-    low = omega (arith, most, w.low)
+    low = omega (arith, is, w.low)
 
-    powers : (k : ℕ) (es : List Keyed) → IsPowerAt base.terms.items k es → k * d ≤ degree_limit → k ≤ degree_limit
+    powers : (k : ℕ) (es : List Keyed) → IsPowerAt table base.terms.items k es → k * d ≤ degree_limit → k ≤ degree_limit
         → fault_in (power_of (expanded e) k) k ≡ None → faults_of_powers (expanded e) k ≡ None
     powers zero es p few l none = none
     powers (suc k) es p few l none =

@@ -7,9 +7,10 @@ use Rattle.std.proofs.lemmas.List.{drop_more}
 use Rattle.int_laws.proofs.RingLaws.{add-mul_ℤ, mul_comm_ℤ}
 use Rattle.model.specs.Polynomials as plain
 use Rattle.model.specs.Polynomials.{degree_of}
+use Rattle.poly_terms.specs.declared.keyed.Key.{Key}
 use Rattle.poly_terms.specs.declared.keyed.Keyed.{Keyed}
 use Rattle.poly_terms.specs.Expanding.{products, product_of, sum_of}
-use Rattle.poly_terms.specs.Keys.{factors_at, monomials_at, ascend_from, product_at, all_products, total_at}
+use Rattle.poly_terms.specs.Keys.{number_of, key_sum, no_factors, factors_at, monomials_at, ascend_from, product_at, all_products, total_at}
 use Rattle.poly_terms.specs.Keys.{reach_at, IsMergedFrom}
 use Rattle.poly_terms.specs.Totals.{total, IsSamePolynomial}
 use Rattle.poly_terms.proofs.FactorLaws.{products-at}
@@ -17,7 +18,7 @@ use Rattle.poly_terms.proofs.FormLaws.{degree-products}
 use Rattle.poly_terms.proofs.TotalLaws.{same-sums}
 
 -- the totals of two lists, one after the other
-total-at-append : (h : ℕ → ℤ) (es fs : List Keyed) → total_at h (es ++ fs) ≡ total_at h es +ℤ total_at h fs
+total-at-append : (h : Key → ℤ) (es fs : List Keyed) → total_at h (es ++ fs) ≡ total_at h es +ℤ total_at h fs
 total-at-append h [] fs = nothing _
   where
     nothing : (z : ℤ) → z ≡ pos 0 +ℤ z
@@ -28,7 +29,7 @@ total-at-append h (e ∷ es) fs = regroup _ _ _ _ (total-at-append h es fs)
     regroup a b c d e = omega (arith, ints)
 
 -- the reach of two lists, one after the other
-reach-append : (d : ℕ → ℕ) (es fs : List Keyed) → reach_at d (es ++ fs) ≡ max (reach_at d es) (reach_at d fs)
+reach-append : (d : Key → ℕ) (es fs : List Keyed) → reach_at d (es ++ fs) ≡ max (reach_at d es) (reach_at d fs)
 reach-append d [] fs = omega arith
 reach-append d (e ∷ es) fs = omega (arith, reach-append d es fs)
 
@@ -89,16 +90,15 @@ sum-behind ms e f s k l z = record {
         omega (arith, ints, r, s, add-mul_ℤ x y v, ap (λ (z : ℤ). z *ℤ v) g, ap (λ (z : ℤ). x *ℤ z) e, ap (λ (z : ℤ). t *ℤ z) f)
 
 -- a step along a row: the next product is put in
-pub row-step : (xs ys zs rest whole : List Keyed) (f : Keyed) → ys ≡ xs → IsMergedFrom zs (f ∷ ys)
-    → IsMergedFrom (xs ++ f ∷ rest) whole → IsMergedFrom (zs ++ rest) whole
-row-step xs ys zs rest whole f e p q = record {
-  totals = λ h. regroup _ _ _ _ _ _ _ (total-at-append h zs rest) (p.totals h) (ap (total_at h) e) (total-at-append h xs (f ∷ rest))
-      ∙ q.totals h;
-  reach = λ d. omega (arith, reach-append d zs rest, p.reach d, ap (reach_at d) e, reach-append d xs (f ∷ rest), q.reach d);
+pub row-step : (xs zs rest whole : List Keyed) (f : Keyed) → IsMergedFrom zs (f ∷ xs) → IsMergedFrom (xs ++ f ∷ rest) whole
+    → IsMergedFrom (zs ++ rest) whole
+row-step xs zs rest whole f p q = record {
+  totals = λ h. regroup _ _ _ _ _ _ (total-at-append h zs rest) (p.totals h) (total-at-append h xs (f ∷ rest)) ∙ q.totals h;
+  reach = λ d. omega (arith, reach-append d zs rest, p.reach d, reach-append d xs (f ∷ rest), q.reach d);
 }
   where
-    regroup : (a b c d x y w : ℤ) → a ≡ b +ℤ c → b ≡ d +ℤ x → x ≡ y → w ≡ y +ℤ (d +ℤ c) → a ≡ w
-    regroup a b c d x y w p q r s = omega (arith, ints, p, q, r, s)
+    regroup : (a b c d x w : ℤ) → a ≡ b +ℤ c → b ≡ d +ℤ x → w ≡ x +ℤ (d +ℤ c) → a ≡ w
+    regroup a b c d x w p q s = omega (arith, ints, p, q, s)
 
 -- a step along the rows: the next row is merged in
 pub rows-step : (xs row zs rest whole : List Keyed) → IsMergedFrom zs (xs ++ row) → IsMergedFrom (xs ++ (row ++ rest)) whole
@@ -126,12 +126,19 @@ others-at ns ms es i f d l p =
     subst (λ (rest : List Keyed). IsMergedFrom (ns ++ drop (i + 1) es) (f ∷ (ms ++ rest))) (sym (drop_more es i d l))
     (others-behind ns ms (drop (i + 1) es) (get_or es i d) f p)
 
+-- the sum of two keys doesn't depend on their order
+key-swapped : (k l : Key) → key_sum k l ≡ key_sum l k
+key-swapped k l = λ i. record { high = swapped k.high l.high i; low = swapped k.low l.low i }
+  where
+    swapped : (x y : ℕ) → x + y ≡ y + x
+    swapped x y = omega arith
+
 -- a column more: one monomial more in the second list
-total-column : (h : ℕ → ℤ) (es fs : List Keyed) (f : Keyed)
+total-column : (h : Key → ℤ) (es fs : List Keyed) (f : Keyed)
     → total_at h (all_products es (f ∷ fs)) ≡ total_at h (map (product_at f) es) +ℤ total_at h (all_products es fs)
 total-column h [] fs f = omega (arith, ints)
 total-column h (e ∷ es) fs f =
-    regroup _ _ _ _ _ _ _ _ (cell e.coef f.coef (h (e.key + f.key)) (h (f.key + e.key)) (ap h (let k : e.key + f.key ≡ f.key + e.key = omega arith in k)))
+    regroup _ _ _ _ _ _ _ _ (cell e.coef f.coef (h (key_sum e.key f.key)) (h (key_sum f.key e.key)) (ap h (key-swapped e.key f.key)))
     (total-at-append h (map (product_at e) fs) (all_products es (f ∷ fs)))
     (total-at-append h (map (product_at e) fs) (all_products es fs)) (total-column h es fs f)
   where
@@ -142,12 +149,12 @@ total-column h (e ∷ es) fs f =
     regroup a b c d x y z v p q r s = omega (arith, ints, p, q, r, s)
 
 -- no products with nothing
-total-none : (h : ℕ → ℤ) (es : List Keyed) → total_at h (all_products es []) ≡ pos 0
+total-none : (h : Key → ℤ) (es : List Keyed) → total_at h (all_products es []) ≡ pos 0
 total-none h [] = refl
 total-none h (e ∷ es) = total-none h es
 
 -- the order of the factors doesn't count
-total-swapped : (h : ℕ → ℤ) (es fs : List Keyed) → total_at h (all_products es fs) ≡ total_at h (all_products fs es)
+total-swapped : (h : Key → ℤ) (es fs : List Keyed) → total_at h (all_products es fs) ≡ total_at h (all_products fs es)
 total-swapped h es [] = total-none h es
 total-swapped h es (f ∷ fs) =
     total-column h es fs f
@@ -155,23 +162,23 @@ total-swapped h es (f ∷ fs) =
     ∙ sym (total-at-append h (map (product_at f) es) (all_products fs es)))
 
 -- nor does it for the reach
-reach-none : (d : ℕ → ℕ) (es : List Keyed) → reach_at d (all_products es []) ≡ 0
+reach-none : (d : Key → ℕ) (es : List Keyed) → reach_at d (all_products es []) ≡ 0
 reach-none d [] = refl
 reach-none d (e ∷ es) = reach-none d es
 
-reach-column : (d : ℕ → ℕ) (es fs : List Keyed) (f : Keyed)
+reach-column : (d : Key → ℕ) (es fs : List Keyed) (f : Keyed)
     → reach_at d (all_products es (f ∷ fs)) ≡ max (reach_at d (map (product_at f) es)) (reach_at d (all_products es fs))
 reach-column d [] fs f = omega arith
 reach-column d (e ∷ es) fs f =
     omega (
       arith,
-      ap d (let k : e.key + f.key ≡ f.key + e.key = omega arith in k),
+      ap d (key-swapped e.key f.key),
       reach-append d (map (product_at e) fs) (all_products es (f ∷ fs)),
       reach-append d (map (product_at e) fs) (all_products es fs),
       reach-column d es fs f,
     )
 
-reach-swapped : (d : ℕ → ℕ) (es fs : List Keyed) → reach_at d (all_products es fs) ≡ reach_at d (all_products fs es)
+reach-swapped : (d : Key → ℕ) (es fs : List Keyed) → reach_at d (all_products es fs) ≡ reach_at d (all_products fs es)
 reach-swapped d es [] = reach-none d es
 reach-swapped d es (f ∷ fs) =
     omega (arith, reach-column d es fs f, reach-swapped d es fs, reach-append d (map (product_at f) es) (all_products fs es))
@@ -180,22 +187,39 @@ reach-swapped d es (f ∷ fs) =
 pub same-swapped : (es fs : List Keyed) → IsMergedFrom (all_products es fs) (all_products fs es)
 same-swapped es fs = record { totals = λ h. total-swapped h es fs; reach = λ d. omega (arith, reach-swapped d es fs) }
 
+-- the products with 1 are the list itself
+pub products-one : (es : List Keyed) → IsMergedFrom (all_products es (record { key = no_factors; coef = pos 1 } ∷ [])) es
+products-one [] = record { totals = λ h. refl; reach = λ d. omega arith }
+products-one (e ∷ es) = record {
+  totals = λ h. (λ i. (once e.coef i *ℤ h (alone e.key i)) +ℤ (products-one es).totals h i);
+  reach = λ d. omega (arith, ap d (alone e.key), (products-one es).reach d);
+}
+  where
+    once : (x : ℤ) → x *ℤ pos 1 ≡ x
+    once x = omega (arith, ints)
+
+    zero : (n : ℕ) → n + 0 ≡ n
+    zero n = omega arith
+
+    alone : (k : Key) → key_sum k no_factors ≡ k
+    alone k = λ i. record { high = zero k.high i; low = zero k.low i }
+
 -- a sum over packed monomials is one over the monomials
 total-monomials : (g : List ℕ → ℤ) (table : List ℕ) (es : List Keyed)
-    → total g (monomials_at table es) ≡ total_at (λ k. g (factors_at table k)) es
+    → total g (monomials_at table es) ≡ total_at (λ k. g (factors_at table (number_of k))) es
 total-monomials g table [] = refl
-total-monomials g table (e ∷ es) = ap (λ (z : ℤ). (e.coef *ℤ g (factors_at table e.key)) +ℤ z) (total-monomials g table es)
+total-monomials g table (e ∷ es) = ap (λ (z : ℤ). (e.coef *ℤ g (factors_at table (number_of e.key))) +ℤ z) (total-monomials g table es)
 
 -- the reach of the numbers of factors is the degree
-degree-reach : (table : List ℕ) (es : List Keyed) → degree_of (monomials_at table es) ≡ reach_at (λ k. length (factors_at table k)) es
+degree-reach : (table : List ℕ) (es : List Keyed) → degree_of (monomials_at table es) ≡ reach_at (λ k. length (factors_at table (number_of k))) es
 degree-reach table [] = refl
-degree-reach table (e ∷ es) = ap (max (length (factors_at table e.key))) (degree-reach table es)
+degree-reach table (e ∷ es) = ap (max (length (factors_at table (number_of e.key)))) (degree-reach table es)
 
 -- what is merged has no higher degree
 pub degree-merged : (table : List ℕ) (es fs : List Keyed) → IsMergedFrom es fs
     → degree_of (monomials_at table es) ≤ degree_of (monomials_at table fs)
 degree-merged table es fs h =
-    omega (arith, degree-reach table es, degree-reach table fs, h.reach (λ k. length (factors_at table k)))
+    omega (arith, degree-reach table es, degree-reach table fs, h.reach (λ k. length (factors_at table (number_of k))))
 
 -- what is merged from products has at most the sum of the degrees
 pub degree-merged-products : (table : List ℕ) (es fs ks : List Keyed) → ascend_from 0 table ≡ true
@@ -212,7 +236,7 @@ degree-merged-products table es fs ks h l s =
 -- with the same sums they are the same polynomial
 pub same-at : (table : List ℕ) (es fs : List Keyed) → IsMergedFrom es fs → IsSamePolynomial (monomials_at table es) (monomials_at table fs)
 same-at table es fs h = record {
-  totals = λ g. total-monomials g table es ∙ (h.totals (λ k. g (factors_at table k)) ∙ sym (total-monomials g table fs));
+  totals = λ g. total-monomials g table es ∙ (h.totals (λ k. g (factors_at table (number_of k))) ∙ sym (total-monomials g table fs));
 }
 
 -- a list with the sums of all products is the polynomial that these are

@@ -18,6 +18,8 @@ pub mod FormLaws
 mod FactorLaws
 mod KeyFormLaws
 mod KeyErrorLaws
+mod FormStepLaws
 mod KeyLaws
 mod UnpackingLaws
+mod DistinctLaws
 mod WorkedForms

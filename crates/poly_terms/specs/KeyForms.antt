@@ -1,19 +1,27 @@
 -- Packed monomials that stand for an expression.
-use Rattle.std.specs.Prelude.{◌≡◌, ℕ, ◌≤◌, None, List}
+use Rattle.std.specs.Prelude.{◌≡◌, ℕ, ◌≤◌, ⊤, Option, None, List, Result, MatchResult, IfSome}
 use Rattle.model.specs.Limits.{degree_limit}
 use Rattle.model.specs.Polynomials.{Polynomial, degree_of}
 use Rattle.model.specs.Terms.{Term}
+use Rattle.poly_terms.specs.declared.form_error.FormError.{FormError}
+use Rattle.poly_terms.specs.declared.form_error.FormError.TheVariants.{Unfit, Faulty}
+use Rattle.poly_terms.specs.declared.forming.FormPair.{FormPair}
 use Rattle.poly_terms.specs.declared.key_form.KeyForm.{KeyForm}
 use Rattle.poly_terms.specs.declared.keyed.Keyed.{Keyed}
+use Rattle.poly_terms.specs.declared.poly.Poly.{Poly}
+use Rattle.poly_terms.specs.declared.poly_error.PolyError.{PolyError}
+use Rattle.poly_terms.specs.Answers.{Says}
 use Rattle.poly_terms.specs.Expanding.{expanded}
-use Rattle.poly_terms.specs.Faults.{first_fault}
+use Rattle.poly_terms.specs.Faults.{Fault, first_fault, or_else}
 use Rattle.poly_terms.specs.Keys.{monomials_at, IsModest}
+use Rattle.poly_terms.specs.Ordered.{IsOrdered, IsSmall}
 use Rattle.poly_terms.specs.Totals.{IsSamePolynomial}
+use Rattle.poly_terms.specs.Views.{poly_of}
 
 -- a form has these monomials and this degree, which are within the limits
-pub record IsWithinLimits (es : List Keyed) (n : ℕ) (f : KeyForm) : Type 0 where
+pub record IsWithinLimits (table : List ℕ) (es : List Keyed) (n : ℕ) (f : KeyForm) : Type 0 where
   pub terms : f.terms.items ≡ es
-  pub modest : IsModest es
+  pub modest : IsModest table es
   pub degree : f.degree ≡ n
   pub low : n ≤ degree_limit
 
@@ -25,7 +33,57 @@ pub record StandsFor (table : List ℕ) (t : Term) (f : KeyForm) : Type 0 where
   pub factors : degree_of (monomials_at table f.terms.items) ≤ f.degree
   pub low : f.degree ≤ degree_limit
 
+-- no monomial of a form has more factors than its degree
+pub record HasDegree (table : List ℕ) (f : KeyForm) : Type 0 where
+  pub factors : degree_of (monomials_at table f.terms.items) ≤ f.degree
+
+-- a form stands for some expression
+pub record StandsForSome (table : List ℕ) (f : KeyForm) : Type 0 where
+  pub term : Term
+  pub stands : StandsFor table term f
+
 -- a polynomial is the expanded form of an expression, and there is no fault in the way
 pub record IsExpansion (t : Term) (p : Polynomial) : Type 0 where
   pub form : p ≡ expanded t
   pub none : first_fault t ≡ None
+
+-- a polynomial is small and ordered, and the expanded form of whatever expression a form stands for
+pub record IsExpansionOf (table : List ℕ) (f : KeyForm) (p : Polynomial) : Type 0 where
+  pub small : IsSmall p
+  pub ordered : IsOrdered p
+  pub whole : (t : Term) → StandsFor table t f → IsExpansion t p
+
+-- a form's monomials are a polynomial, in any order, none has more factors than the form's degree, and that is the
+-- polynomial's
+pub record IsPackedFrom (table : List ℕ) (p : Polynomial) (f : KeyForm) : Type 0 where
+  pub terms : IsSamePolynomial (monomials_at table f.terms.items) p
+  pub factors : degree_of (monomials_at table f.terms.items) ≤ f.degree
+  pub degree : f.degree ≡ degree_of p
+
+-- the error is the fault; what doesn't fit, and want of memory, say nothing
+abbrev pub IsFaultOf : FormError → Option Fault → Type 0
+IsFaultOf Unfit fault = ⊤
+IsFaultOf (Faulty error) fault = Says error fault
+
+-- what stands for an expression, else its first fault
+abbrev pub GivesForm : List ℕ → Result KeyForm FormError → Term → Type 0
+GivesForm table result t = MatchResult result (StandsFor table t) (λ e. IsFaultOf e (first_fault t))
+
+-- the forms of two operands stand for them
+pub record StandForBoth (table : List ℕ) (d e : Term) (p : FormPair) : Type 0 where
+  pub left : StandsFor table d p.left
+  pub right : StandsFor table e p.right
+
+-- what stands for two operands, else the first fault among them
+abbrev pub GivesBothForms : List ℕ → Result FormPair FormError → Term → Term → Type 0
+GivesBothForms table result d e =
+    MatchResult result (StandForBoth table d e) (λ error. IsFaultOf error (or_else (first_fault d) (first_fault e)))
+
+-- the expanded form of an expression, else its first fault
+abbrev pub GivesExpansion : Result Poly FormError → Term → Type 0
+GivesExpansion result t = MatchResult result (λ p. IsExpansion t (poly_of p)) (λ e. IsFaultOf e (first_fault t))
+
+-- the expanded form of an expression where it is given on, else its first fault
+abbrev pub MayGiveExpansion : Result (Option Poly) PolyError → Term → Type 0
+MayGiveExpansion result t =
+    MatchResult result (λ found. IfSome found (λ p. IsExpansion t (poly_of p))) (λ e. Says e (first_fault t))

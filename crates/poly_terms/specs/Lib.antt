@@ -18,4 +18,5 @@ pub mod Scaling
 pub mod Merging
 pub mod Totals
 pub mod Keys
+pub mod Distinct
 pub mod KeyForms

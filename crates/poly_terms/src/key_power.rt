@@ -1,21 +1,21 @@
 // Powers of polynomials by packed exponents.
 
-ghost use Rattle.std.specs.Prelude.{◌≡◌, ◌≤◌, nat_abs, true, IfOk, IfSome};
-ghost use Rattle.model.specs.Limits.{coefficient_limit};
-ghost use Rattle.poly_terms.specs.Keys.{norm_at, IsModest, IsPowerAt};
+ghost use Rattle.std.specs.Prelude.{◌≡◌, true, IfOk, IfSome};
+ghost use Rattle.poly_terms.specs.Keys.{ascend_from, IsModest, IsPowerAt};
 ghost use Rattle.poly_terms.specs.Ordered.{IsSmall};
 ghost use Rattle.poly_terms.specs.Powers.{IsPowerWithout};
 ghost use Rattle.poly_terms.specs.Views.{monomials_of, poly_of};
 
 use crate::Memory;
+use crate::distinct::is_narrow;
 use crate::key_error::{KeyError, unless_unfit};
 use crate::key_product::product_of_lists;
-use crate::keyed::Keyed;
+use crate::keyed::{Keyed, ONE};
 use crate::limits::degree;
 use crate::packing::{packed, unpacked_sum};
 use crate::poly::{Monomial, Poly};
 use crate::table::table_of;
-use model::{COEFFICIENT_LIMIT, DEGREE_LIMIT, MONOMIAL_LIMIT};
+use model::{DEGREE_LIMIT, MONOMIAL_LIMIT};
 use std::alloc::Global;
 
 /// The power, where no lower one has a fault, or `None` where it has to be made factor by factor.
@@ -39,21 +39,23 @@ fn power_by_table(alloc: Global, p: &[Monomial], exponent: u32) -> Result<Poly, 
     }
     let table = table_of(alloc, p, &[])?;
     let factor = packed(alloc, &table, p)?;
-    let whole = power_of_list(alloc, &factor, exponent)?;
+    let whole = power_of_list(alloc, &table, &factor, exponent)?;
     unpacked_sum(alloc, &table, &whole)
 }
 
 /// A power of a list, multiplied out factor by factor while the lower powers are modest.
 pub(crate) fn power_of_list(
     alloc: Global,
+    table: &[u32],
     factor: &[Keyed],
     exponent: u32,
 ) -> Result<Vec<Keyed>, KeyError>
-    ensures { IfOk result (λ es. IsPowerAt factor.now exponent es.items) }
+    requires { ascend_from 0 table.now ≡ true }
+    ensures { IfOk result (λ es. IsPowerAt table.now factor.now exponent es.items) }
 {
-    let mut so_far = vec![in alloc; Keyed { key: 0, coef: 1 }]?;
+    let mut so_far = vec![in alloc; ONE]?;
     for k in 0..exponent {
-        if !is_modest(&so_far) {
+        if !is_modest(table, &so_far) {
             return Err(KeyError::Unfit);
         }
         so_far = product_of_lists(alloc, &so_far, factor)?;
@@ -62,30 +64,9 @@ pub(crate) fn power_of_list(
 }
 
 /// Whether a list has few monomials and small coefficients.
-pub(crate) fn is_modest(es: &[Keyed]) -> bool
-    ensures { result ≡ true → IsModest es.now }
+pub(crate) fn is_modest(table: &[u32], es: &[Keyed]) -> bool
+    requires { ascend_from 0 table.now ≡ true }
+    ensures { result ≡ true → IsModest table.now es.now }
 {
-    es.len() <= MONOMIAL_LIMIT && is_narrow(es)
-}
-
-// Whether the absolute values of the coefficients make at most 2^63-1 together.
-fn is_narrow(es: &[Keyed]) -> bool
-    ensures { result ≡ true → norm_at es.now ≤ coefficient_limit }
-{
-    let mut left = COEFFICIENT_LIMIT;
-    for e in es {
-        let size = size_of(*e);
-        if size > left {
-            return false;
-        }
-        left -= size;
-    }
-    true
-}
-
-// The absolute value of the coefficient.
-fn size_of(e: Keyed) -> u64
-    ensures { result ≡ nat_abs e.coef }
-{
-    e.coef.unsigned_abs()
+    es.len() <= MONOMIAL_LIMIT && is_narrow(table, es)
 }

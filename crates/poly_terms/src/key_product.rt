@@ -2,19 +2,23 @@
 // ascending order, ascend as the list does: so rows are merged. Where no list ascends the result is the same, but
 // longer.
 
-ghost use Rattle.std.specs.Prelude.{◌≡◌, ◌+ℤ◌, ◌++◌, ◌∷◌, drop, map, IfOk, IfSome, OnOk, []};
+ghost use Rattle.std.specs.Prelude.{◌≡◌, ◌≤◌, nat_abs, ◌+ℤ◌, ◌++◌, ◌∷◌, drop, map, IfOk, IfSome, OnOk, []};
+ghost use Rattle.model.specs.Limits.{coefficient_limit};
 ghost use Rattle.poly_terms.specs.Expanding.{product_of};
 ghost use Rattle.poly_terms.specs.Keys.{product_at, all_products, IsMergedFrom};
 ghost use Rattle.poly_terms.specs.Views.{monomials_of, poly_of};
 
 use crate::Memory;
 use crate::key_error::{KeyError, unless_unfit};
-use crate::keyed::Keyed;
-use crate::limits::degree;
+use crate::keyed::{Key, Keyed, ONE, is_below, is_same_key, key_of_both};
+use crate::limits::{degree, is_large};
 use crate::packing::{packed, unpacked_sum};
 use crate::poly::{Monomial, Poly};
 use crate::table::table_of;
+use crate::wide::narrow_product;
+use model::MONOMIAL_LIMIT;
 use std::alloc::Global;
+use std::mem;
 
 /// The degree up to which no digit of a key carries.
 const DIGIT_LIMIT: usize = 15;
@@ -22,8 +26,11 @@ const DIGIT_LIMIT: usize = 15;
 /// The fewest products for which packing is worth its while.
 const PRODUCT_MINIMUM: usize = 8;
 
-/// The most products for which rows are merged. Where there are more, nearly always too many differ.
-const PRODUCT_MAXIMUM: usize = 256;
+/// The most monomials to which a further row is merged. Where there are more, nearly always too many differ in the end.
+const ROWS_MAXIMUM: usize = 256;
+
+/// The room for merged rows at first: as many monomials as an expanded form may have.
+const ROWS_CAPACITY: usize = MONOMIAL_LIMIT;
 
 /// The product, or `None` where it has to be made monomial by monomial.
 pub(crate) fn product_by_keys(alloc: Global, p: &Poly, q: &Poly) -> Result<Option<Poly>, Memory>
@@ -47,7 +54,7 @@ fn product_by_table(alloc: Global, p: &[Monomial], q: &[Monomial]) -> Result<Pol
     unpacked_sum(alloc, &table, &whole)
 }
 
-/// The products of two lists, merged, where they are few. The shorter one gives the rows.
+/// The products of two lists, merged, where not too many differ on the way. The shorter one gives the rows.
 pub(crate) fn product_of_lists(
     alloc: Global,
     left: &[Keyed],
@@ -55,9 +62,6 @@ pub(crate) fn product_of_lists(
 ) -> Result<Vec<Keyed>, KeyError>
     ensures { IfOk result (λ es. IsMergedFrom es.items (all_products left.now right.now)) }
 {
-    if left.len().saturating_mul(right.len()) > PRODUCT_MAXIMUM {
-        return Err(KeyError::Unfit);
-    }
     if left.len() < right.len() {
         rows_merged(alloc, left, right)
     } else {
@@ -65,15 +69,28 @@ pub(crate) fn product_of_lists(
     }
 }
 
-// The rows of the products of two lists, merged.
+// The rows of the products of two lists, merged. Two lists take turns, so that none is made for a row.
 fn rows_merged(alloc: Global, left: &[Keyed], right: &[Keyed]) -> Result<Vec<Keyed>, KeyError>
     ensures { IfOk result (λ es. IsMergedFrom es.items (all_products left.now right.now)) }
 {
-    let mut so_far = Vec::new(alloc);
+    let mut so_far = Vec::with_capacity(alloc, ROWS_CAPACITY)?;
+    let mut merged = Vec::with_capacity(alloc, ROWS_CAPACITY)?;
     for e in left {
-        so_far = with_row(alloc, &so_far, *e, right)?;
+        if so_far.len() > ROWS_MAXIMUM {
+            return Err(KeyError::Unfit);
+        }
+        merged.clear();
+        merge_row(&mut merged, &so_far, *e, right)?;
+        mem::swap(&mut so_far, &mut merged);
     }
     Ok(so_far)
+}
+
+/// The same monomials in the order of their keys.
+pub(crate) fn in_order(alloc: Global, es: &[Keyed]) -> Result<Vec<Keyed>, KeyError>
+    ensures { IfOk result (λ ks. IsMergedFrom ks.items es.now) }
+{
+    rows_merged(alloc, es, &[ONE])
 }
 
 /// A row more: the products of a monomial with each of a list.
@@ -86,26 +103,61 @@ pub(crate) fn with_row(
     ensures { IfOk result (λ es. IsMergedFrom es.items (so_far.now ++ map (product_at e) right.now)) }
 {
     let mut merged = Vec::with_capacity(alloc, so_far.len().saturating_add(right.len()))?;
-    let mut i = 0;
-    for f in right {
-        let product = multiplied(e, *f)?;
-        let from = copy_below(&mut merged, so_far, i, product.key)?;
-        i = put(&mut merged, so_far, from, product)?;
-    }
-    copy_rest(&mut merged, so_far, i)?;
+    merge_row(&mut merged, so_far, e, right)?;
     Ok(merged)
 }
 
-// The product of two packed monomials, where it is in range.
+// A row more, put into a list that has nothing yet.
+fn merge_row(
+    merged: &mut Vec<Keyed>,
+    so_far: &[Keyed],
+    e: Keyed,
+    right: &[Keyed],
+) -> Result<(), KeyError>
+    requires { merged.old.items ≡ [] }
+    ensures { OnOk result (IsMergedFrom merged.new.items (so_far.now ++ map (product_at e) right.now)) }
+{
+    if is_large(e.coef) {
+        return Err(KeyError::Unfit);
+    }
+    let mut i = 0;
+    for f in right {
+        let product = multiplied(e, *f)?;
+        i = put_at_place(merged, so_far, i, product)?;
+    }
+    copy_rest(merged, so_far, i)
+}
+
+// The product of two packed monomials, where no exponent is too high and no coefficient over 2^63-1. It may pass 64
+// bits itself, since what is put together with it may cancel.
 fn multiplied(e: Keyed, f: Keyed) -> Result<Keyed, KeyError>
+    requires { nat_abs e.coef ≤ coefficient_limit }
     ensures { IfOk result (λ g. g ≡ product_at e f) }
 {
-    match e.key.checked_add(f.key) {
-        None => Err(KeyError::Unfit),
-        Some(key) => match e.coef.checked_mul(f.coef) {
-            None => Err(KeyError::Unfit),
-            Some(coef) => Ok(Keyed { key, coef }),
-        },
+    let key = key_of_both(e.key, f.key)?;
+    if is_large(f.coef) {
+        return Err(KeyError::Unfit);
+    }
+    let coef = narrow_product(e.coef, f.coef);
+    Ok(Keyed { key, coef })
+}
+
+// Puts a product at its place, behind what is less than it from i on; where it goes on. In most rows it is at i already.
+fn put_at_place(
+    merged: &mut Vec<Keyed>,
+    so_far: &[Keyed],
+    i: usize,
+    product: Keyed,
+) -> Result<usize, KeyError>
+    ensures { IfOk result (λ j. IsMergedFrom (merged.new.items ++ drop j so_far.now)
+        (product ∷ (merged.old.items ++ drop i so_far.now))) }
+{
+    if i < so_far.len() && is_same_key(so_far[i].key, product.key) {
+        put_sum(merged, so_far[i], product)?;
+        Ok(i + 1)
+    } else {
+        let from = copy_below(merged, so_far, i, product.key)?;
+        put(merged, so_far, from, product)
     }
 }
 
@@ -114,12 +166,12 @@ fn copy_below(
     merged: &mut Vec<Keyed>,
     so_far: &[Keyed],
     i: usize,
-    key: u128,
+    key: Key,
 ) -> Result<usize, KeyError>
     ensures { IfOk result (λ j. merged.new.items ++ drop j so_far.now ≡ merged.old.items ++ drop i so_far.now) }
 {
     let mut j = i;
-    while j < so_far.len() && so_far[j].key < key {
+    while j < so_far.len() && is_below(so_far[j].key, key) {
         merged.push(so_far[j])?;
         j += 1;
     }
@@ -146,7 +198,7 @@ fn put(
     ensures { IfOk result (λ j. IsMergedFrom (merged.new.items ++ drop j so_far.now)
         (product ∷ (merged.old.items ++ drop i so_far.now))) }
 {
-    if i < so_far.len() && so_far[i].key == product.key {
+    if i < so_far.len() && is_same_key(so_far[i].key, product.key) {
         put_sum(merged, so_far[i], product)?;
         Ok(i + 1)
     } else {

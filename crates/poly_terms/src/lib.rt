@@ -3,15 +3,21 @@
 #![tactic(auto)]
 
 mod checked;
+mod distinct;
 mod expanding;
 mod expr;
 mod factors;
+mod form_error;
+mod form_steps;
+mod forming;
+mod key_degree;
 mod key_error;
 mod key_form;
 mod key_power;
 mod key_product;
 mod keyed;
 mod law;
+mod leaves;
 mod limits;
 mod make;
 mod merge;
@@ -19,6 +25,7 @@ mod nonzero;
 mod packing;
 mod poly;
 mod poly_error;
+mod power;
 mod product;
 mod row;
 mod scale;

@@ -2,19 +2,19 @@
 
 ghost use Rattle.std.specs.Prelude.{◌≡◌, ◌≤◌, ◌^◌, ◌++◌, nat_abs, [], replicate, IfOk, OnOk};
 ghost use Rattle.poly_terms.specs.Expanding.{sum_of};
-ghost use Rattle.poly_terms.specs.Keys.{factors_at, monomial_at, monomials_at};
+ghost use Rattle.poly_terms.specs.Keys.{number_of, no_factors, factors_at, monomial_at, monomials_at};
 ghost use Rattle.poly_terms.specs.Views.{monomial_of, monomials_of, poly_of};
 
 use crate::Memory;
 use crate::key_error::KeyError;
-use crate::keyed::Keyed;
+use crate::keyed::{
+    Key, Keyed, NO_FACTORS, is_same_key, key_of_both, last_digit, other_digits, with_zero_digit,
+};
+use crate::limits::is_large;
 use crate::nonzero::nonzero;
 use crate::poly::{Monomial, Poly};
 use crate::sum::add;
 use std::alloc::Global;
-
-/// The base of the digits of a key.
-const DIGIT_BASE: u128 = 16;
 
 /// The most packed monomials that are unpacked.
 const UNPACKED_LIMIT: usize = 4096;
@@ -35,59 +35,72 @@ pub(crate) fn packed(
     Ok(es)
 }
 
+/// A constant packed, where it fits.
+pub(crate) fn packed_constant(z: i128) -> Result<Keyed, KeyError>
+    ensures key { IfOk result (λ e. e.key ≡ no_factors) }
+    ensures coefficient { IfOk result (λ e. e.coef ≡ z) }
+{
+    if is_large(z) {
+        return Err(KeyError::Unfit);
+    }
+    Ok(Keyed {
+        key: NO_FACTORS,
+        coef: z,
+    })
+}
+
 /// A monomial packed. Whether it fits shows when it is unpacked.
 pub(crate) fn packed_monomial(alloc: Global, table: &[u32], m: &Monomial) -> Result<Keyed, KeyError>
     ensures { IfOk result (λ e. monomial_at table.now e ≡ monomial_of m.now) }
 {
-    let key = key_of(table, &m.vars);
-    let coef = match i64::try_from(m.coef) {
-        Ok(coef) => coef,
-        Err(_) => return Err(KeyError::Unfit),
-    };
+    let key = key_of(table, &m.vars)?;
     let vars = unpacked(alloc, table, key)?;
     if vars == m.vars {
-        Ok(Keyed { key, coef })
+        Ok(Keyed { key, coef: m.coef })
     } else {
         Err(KeyError::Unfit)
     }
 }
 
 // The key of these variables.
-fn key_of(table: &[u32], vars: &[u32]) -> u128 {
-    let mut key = 0u128;
+fn key_of(table: &[u32], vars: &[u32]) -> Result<Key, KeyError> {
+    let mut key = NO_FACTORS;
     for v in vars {
-        key = key.wrapping_add(unit_of(table, *v));
+        key = key_of_both(key, unit_of(table, *v))?;
     }
-    key
+    Ok(key)
 }
 
 // What one factor of a variable adds to a key.
-fn unit_of(table: &[u32], v: u32) -> u128 {
-    let mut unit = 1u128;
+fn unit_of(table: &[u32], v: u32) -> Key {
+    let mut unit = Key { high: 0, low: 1 };
     for w in table {
         if *w == v {
             return unit;
         }
-        unit = unit.wrapping_mul(DIGIT_BASE);
+        unit = with_zero_digit(unit);
     }
-    0
+    NO_FACTORS
 }
 
-// The variables of a key.
-fn unpacked(alloc: Global, table: &[u32], key: u128) -> Result<Vec<u32>, Memory>
-    ensures { IfOk result (λ vars. vars.items ≡ factors_at table.now key) }
+// The variables of a key. Behind its first digit nothing is left to be looked at.
+fn unpacked(alloc: Global, table: &[u32], key: Key) -> Result<Vec<u32>, Memory>
+    ensures { IfOk result (λ vars. vars.items ≡ factors_at table.now (number_of key)) }
 {
     let mut vars = Vec::with_capacity(alloc, 8)?;
     let mut rest = key;
     for v in table {
-        push_copies(&mut vars, *v, rest % DIGIT_BASE)?;
-        rest /= DIGIT_BASE;
+        if is_same_key(rest, NO_FACTORS) {
+            break;
+        }
+        push_copies(&mut vars, *v, last_digit(rest))?;
+        rest = other_digits(rest);
     }
     Ok(vars)
 }
 
 // Appends a variable so often.
-fn push_copies(vars: &mut Vec<u32>, v: u32, count: u128) -> Result<(), Memory>
+fn push_copies(vars: &mut Vec<u32>, v: u32, count: u32) -> Result<(), Memory>
     ensures { OnOk result (vars.new.items ≡ vars.old.items ++ replicate count v) }
 {
     for _ in 0..count {
@@ -113,14 +126,14 @@ pub(crate) fn unpacked_sum(alloc: Global, table: &[u32], es: &[Keyed]) -> Result
     })
 }
 
-// A monomial unpacked.
-fn unpacked_monomial(alloc: Global, table: &[u32], e: Keyed) -> Result<Monomial, Memory>
+// A monomial unpacked, where its coefficient isn't over 2^63-1.
+fn unpacked_monomial(alloc: Global, table: &[u32], e: Keyed) -> Result<Monomial, KeyError>
     ensures value { IfOk result (λ m. monomial_of m ≡ monomial_at table.now e) }
     ensures small { IfOk result (λ m. nat_abs m.coef ≤ 2 ^ 63) }
 {
+    if is_large(e.coef) {
+        return Err(KeyError::Unfit);
+    }
     let vars = unpacked(alloc, table, e.key)?;
-    Ok(Monomial {
-        coef: e.coef as i128,
-        vars,
-    })
+    Ok(Monomial { coef: e.coef, vars })
 }

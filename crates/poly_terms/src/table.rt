@@ -9,7 +9,7 @@ use crate::poly::Monomial;
 use std::alloc::Global;
 
 /// The digits of a key, and so the most variables of a table.
-const DIGITS: usize = 32;
+const DIGITS: usize = 64;
 
 /// The variables of two polynomials, in ascending order.
 pub(crate) fn table_of(

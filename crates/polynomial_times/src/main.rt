@@ -96,7 +96,12 @@ fn products_before(alloc: Global, size: u32) -> Result<Expr, AllocError> {
 
 // The sum of so many eighth powers of a sum of three.
 fn sum_of_powers(alloc: Global, size: u32) -> Result<Expr, AllocError> {
-    let mut sum = Expr::Num(0);
+    with_powers(alloc, Expr::Num(0), size)
+}
+
+// An expression and so many eighth powers of a sum of three variables.
+fn with_powers(alloc: Global, e: Expr, size: u32) -> Result<Expr, AllocError> {
+    let mut sum = e;
     for _ in 0..size {
         let power = Expr::power(alloc, variables(alloc, 0, 3)?, 8)?;
         sum = Expr::sum(alloc, sum, power)?;
@@ -144,18 +149,114 @@ fn product_of_products(alloc: Global, size: u32) -> Result<Expr, AllocError> {
 
 // A sum of 40 variables less itself, and so many eighth powers of a sum of three others.
 fn powers_beside_nothing(alloc: Global, size: u32) -> Result<Expr, AllocError> {
-    let mut sum = Expr::difference(alloc, variables(alloc, 3, 40)?, variables(alloc, 3, 40)?)?;
-    for _ in 0..size {
-        let power = Expr::power(alloc, variables(alloc, 0, 3)?, 8)?;
-        sum = Expr::sum(alloc, sum, power)?;
-    }
-    Ok(sum)
+    let nothing = Expr::difference(alloc, variables(alloc, 3, 40)?, variables(alloc, 3, 40)?)?;
+    with_powers(alloc, nothing, size)
 }
 
 // So many eighth powers of a sum of three variables, and a coefficient of 2^63-1.
 fn powers_and_large(alloc: Global, size: u32) -> Result<Expr, AllocError> {
-    let large = Expr::product(alloc, Expr::Num(0x7fff_ffff_ffff_ffff), Expr::Var(3))?;
+    let large = large(alloc)?;
     Expr::sum(alloc, sum_of_powers(alloc, size)?, large)
+}
+
+// The same the other way round.
+fn large_and_powers(alloc: Global, size: u32) -> Result<Expr, AllocError> {
+    let large = large(alloc)?;
+    with_powers(alloc, large, size)
+}
+
+// A variable with a coefficient of 2^63-1.
+fn large(alloc: Global) -> Result<Expr, AllocError> {
+    Expr::product(alloc, Expr::Num(0x7fff_ffff_ffff_ffff), Expr::Var(3))
+}
+
+// So many eighth powers of a sum of three variables, and a product one of whose operands is an eighth power less itself
+// and a variable: its degree is 2, but 9 at first sight.
+fn powers_and_low_product(alloc: Global, size: u32) -> Result<Expr, AllocError> {
+    let left = Expr::power(alloc, Expr::Var(3), 8)?;
+    let right = Expr::power(alloc, Expr::Var(3), 8)?;
+    let nothing = Expr::difference(alloc, left, right)?;
+    let operand = Expr::sum(alloc, nothing, Expr::Var(4))?;
+    let product = Expr::product(alloc, operand, Expr::Var(5))?;
+    Expr::sum(alloc, sum_of_powers(alloc, size)?, product)
+}
+
+// So many eighth powers of a sum of three variables, and a ninth power, which is refused.
+fn powers_and_ninth(alloc: Global, size: u32) -> Result<Expr, AllocError> {
+    let ninth = Expr::power(alloc, Expr::Var(3), 9)?;
+    Expr::sum(alloc, sum_of_powers(alloc, size)?, ninth)
+}
+
+// An eighth power of a sum with a term that is 0, whose degree is 2 at first sight, and so many eighth powers more.
+fn power_with_zero_and_powers(alloc: Global, size: u32) -> Result<Expr, AllocError> {
+    let square = Expr::power(alloc, Expr::Var(3), 2)?;
+    let zero = Expr::product(alloc, Expr::Num(0), square)?;
+    let base = Expr::sum(alloc, zero, variables(alloc, 0, 3)?)?;
+    with_powers(alloc, Expr::power(alloc, base, 8)?, size)
+}
+
+// The same with a coefficient of 2^63-1, and then a variable more and less so many times.
+fn power_with_zero_and_variables(alloc: Global, size: u32) -> Result<Expr, AllocError> {
+    let power = power_with_zero_and_powers(alloc, 0)?;
+    let mut sum = Expr::sum(alloc, power, large(alloc)?)?;
+    for i in 0..size {
+        let v = Expr::Var(i % 60 + 4);
+        let w = Expr::Var(i % 60 + 4);
+        sum = Expr::difference(alloc, Expr::sum(alloc, sum, v)?, w)?;
+    }
+    Ok(sum)
+}
+
+// An eighth power of a sum of three variables, and so many times 0 times another one more.
+fn power_and_zeros(alloc: Global, size: u32) -> Result<Expr, AllocError> {
+    let mut sum = Expr::power(alloc, variables(alloc, 0, 3)?, 8)?;
+    for _ in 0..size {
+        let power = Expr::power(alloc, variables(alloc, 3, 3)?, 8)?;
+        sum = Expr::sum(alloc, sum, Expr::product(alloc, Expr::Num(0), power)?)?;
+    }
+    Ok(sum)
+}
+
+// An eighth power of a sum of three variables, so many times multiplied by a 1 that has a variable at first sight.
+fn power_times_ones(alloc: Global, size: u32) -> Result<Expr, AllocError> {
+    let mut whole = Expr::power(alloc, variables(alloc, 61, 3)?, 8)?;
+    for i in 0..size {
+        let sum = Expr::sum(alloc, Expr::Num(1), Expr::Var(i % 61))?;
+        let one = Expr::difference(alloc, sum, Expr::Var(i % 61))?;
+        whole = Expr::product(alloc, whole, one)?;
+    }
+    Ok(whole)
+}
+
+// So many products of 17 by 17 monomials, of which 48 differ.
+fn sum_of_long_products(alloc: Global, size: u32) -> Result<Expr, AllocError> {
+    let mut sum = Expr::Num(0);
+    for _ in 0..size {
+        let left = Expr::power(alloc, variables(alloc, 0, 3)?, 4)?;
+        let right = Expr::power(alloc, variables(alloc, 0, 3)?, 4)?;
+        let left = Expr::sum(alloc, left, variables(alloc, 3, 2)?)?;
+        let right = Expr::difference(alloc, right, variables(alloc, 3, 2)?)?;
+        sum = Expr::sum(alloc, sum, Expr::product(alloc, left, right)?)?;
+    }
+    Ok(sum)
+}
+
+// So many products of fourth powers with coefficients that pass 64 bits on the way, with alternating signs.
+fn sum_of_wide_products(alloc: Global, size: u32) -> Result<Expr, AllocError> {
+    let mut sum = Expr::Num(0);
+    for i in 0..size {
+        let left = Expr::power(alloc, variables(alloc, 0, 3)?, 4)?;
+        let left = Expr::product(alloc, Expr::Num(100_000_000_000_000_000), left)?;
+        let first = Expr::difference(alloc, Expr::Var(0), Expr::Var(1))?;
+        let right = Expr::power(alloc, Expr::sum(alloc, first, Expr::Var(2))?, 4)?;
+        let product = Expr::product(alloc, left, right)?;
+        sum = if i % 2 == 0 {
+            Expr::sum(alloc, sum, product)?
+        } else {
+            Expr::difference(alloc, sum, product)?
+        };
+    }
+    Ok(sum)
 }
 
 // An expression of a shape and a size.
@@ -179,7 +280,16 @@ fn shaped(alloc: Global, shape: u32, size: u32) -> Result<Expr, AllocError> {
         15 => powers_behind(alloc, size),
         16 => product_of_products(alloc, size),
         17 => powers_beside_nothing(alloc, size),
-        _ => powers_and_large(alloc, size),
+        18 => powers_and_large(alloc, size),
+        19 => large_and_powers(alloc, size),
+        20 => powers_and_low_product(alloc, size),
+        21 => powers_and_ninth(alloc, size),
+        22 => power_with_zero_and_powers(alloc, size),
+        23 => power_with_zero_and_variables(alloc, size),
+        24 => power_and_zeros(alloc, size),
+        25 => power_times_ones(alloc, size),
+        26 => sum_of_long_products(alloc, size),
+        _ => sum_of_wide_products(alloc, size),
     }
 }
 

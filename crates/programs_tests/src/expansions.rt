@@ -149,6 +149,11 @@ const FAULTS: &[(&str, Option<PolyError>)] = &[
     ("AB+9^", HIGH),
     ("AB+C+D+9^", MANY),
     ("AB+C+D+E+F+G+H+AB+C+D+E+F+G+H+*", None),
+    // Seventeen by seventeen products, of which 48 differ; products that pass 64 bits and cancel; terms that are 0.
+    ("AB+C+4^D+E+AB+C+4^D-E-*", None),
+    ("100000000000000000AB+C+4^*AB-C+4^*", None),
+    ("0D2^*A+B+C+8^AB+C+8^+", None),
+    ("AB+C+8^1D+D-*", None),
     ("AB+C+D+E+F+G+H+IJ+K+L+M+N+O+P+*", None),
     ("AB+C+D+E+F+G+H+IJ+K+L+M+N+O+P+Q+*", MANY),
     ("AB+C+D+E+F+G+H+I+J+K+2^9223372036854775808+", MANY),

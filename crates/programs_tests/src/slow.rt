@@ -260,13 +260,32 @@ fn check_trees(alloc: Global, wrong: &mut String) -> Result<Tally, AllocError> {
 // Expands products in which so many variables stand, with monomials that cancel.
 fn check_variables(alloc: Global, wrong: &mut String) -> Result<(), AllocError> {
     for last in 30..34u32 {
-        let left = variables(alloc, last.saturating_add(1))?;
-        let right = Expr::difference(alloc, Expr::Var(last), Expr::Var(0))?;
-        let e = Expr::product(alloc, left, right)?;
+        let e = product_with_difference(alloc, variables(alloc, last.saturating_add(1))?, last)?;
         let right = is_plain(&expand(alloc, &e), &plain(alloc, &e));
         note_unless(alloc, wrong, right, "last variable", last as usize)?;
     }
+    for last in 62..66u32 {
+        let e = product_with_difference(alloc, one_and_nothings(alloc, last)?, last)?;
+        let right = is_plain(&expand(alloc, &e), &plain(alloc, &e));
+        note_unless(alloc, wrong, right, "last variable of many", last as usize)?;
+    }
     Ok(())
+}
+
+// A product with the difference of a variable and the first one.
+fn product_with_difference(alloc: Global, left: Expr, last: u32) -> Result<Expr, AllocError> {
+    let right = Expr::difference(alloc, Expr::Var(last), Expr::Var(0))?;
+    Expr::product(alloc, left, right)
+}
+
+// A variable, and each one before it more and less.
+fn one_and_nothings(alloc: Global, last: u32) -> Result<Expr, AllocError> {
+    let mut sum = Expr::Var(last);
+    for v in 0..last {
+        let more = Expr::sum(alloc, sum, Expr::Var(v))?;
+        sum = Expr::difference(alloc, more, Expr::Var(v))?;
+    }
+    Ok(sum)
 }
 
 /// Notes which trees expand to something else than by a plain expansion, and whether an answer comes too rarely to tell

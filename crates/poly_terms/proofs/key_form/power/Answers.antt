@@ -1,4 +1,4 @@
-use Rattle.std.proofs.Common.{◌*◌, ◌≤◌, List, subst, arith}
+use Rattle.std.proofs.Common.{◌≤◌, List, subst, arith}
 use Rattle.std.proofs.lemmas.Result.{IfOk-weaker}
 use Rattle.model.specs.Limits.{degree_limit}
 use Rattle.model.specs.Terms.{Exponentiation}
@@ -9,14 +9,14 @@ use Rattle.poly_terms.proofs.KeyFormLaws.{power-stands}
 use Rattle.poly_terms.proofs.key_form.power.Goals as goal
 
 pub returns : goal.returns
-returns c = λ table e a h.
+returns c = λ e h.
+    let table = c.args.table.now in
     let es = c.in_ok-terms.terms.items in
     let base = c.args.base.now in
     let k = c.args.exponent in
-    let n = c.saturating_mul-degree.result in
-    let power : IsPowerAt base.terms.items k es =
-    subst (λ (fs : List Keyed). IsPowerAt fs k es) c.deref.ensures.value c.in_ok-terms.ensures in
+    let n = c.degree_of_power-degree.result in
+    let power : IsPowerAt table base.terms.items k es =
+    subst (λ (fs : List Keyed). IsPowerAt table fs k es) c.deref.ensures.value c.in_ok-terms.ensures in
     let low : k ≤ degree_limit = omega (arith, c.if-exponent-gt-DEGREE_LIMIT.false) in
-    let degree : k * base.degree ≤ n = omega (arith, c.saturating_mul-degree.ensures, c.if-degree-gt-DEGREE_LIMIT.false) in
-    IfOk-weaker c.within_limits.result (IsWithinLimits es n) (StandsFor table (Exponentiation e k))
-    (λ f w. power-stands table e base f es n k a h power low degree w) c.within_limits.ensures
+    IfOk-weaker c.within_limits.result (IsWithinLimits table es n) (StandsFor table (Exponentiation e k))
+    (λ f w. power-stands table e base f es n k c.requires h power low (c.degree_of_power-degree.ensures (record { factors = h.factors }) w.low) w) c.within_limits.ensures

@@ -1,4 +1,4 @@
-use Rattle.std.proofs.Common.{◌≡◌, ◌+◌, List, subst, arith}
+use Rattle.std.proofs.Common.{List, subst}
 use Rattle.std.proofs.lemmas.Result.{IfOk-weaker}
 use Rattle.model.specs.Terms.{Multiplication}
 use Rattle.poly_terms.specs.declared.keyed.Keyed.{Keyed}
@@ -8,13 +8,13 @@ use Rattle.poly_terms.proofs.KeyFormLaws.{product-stands}
 use Rattle.poly_terms.proofs.key_form.product.Goals as goal
 
 pub returns : goal.returns
-returns c = λ table d e a h k.
+returns c = λ d e h k.
+    let table = c.args.table.now in
     let es = c.in_ok-terms.terms.items in
     let left = c.args.left.now in
     let right = c.args.right.now in
     let merged : IsMergedFrom es (all_products left.terms.items right.terms.items) =
     subst (λ (ls : List Keyed). IsMergedFrom es (all_products ls right.terms.items)) c.deref.ensures.value
     (subst (λ (rs : List Keyed). IsMergedFrom es (all_products c.deref.result.now rs)) c.deref-2.ensures.value c.in_ok-terms.ensures) in
-    let degree : c.saturating_add.result ≡ left.degree + right.degree = omega (arith, c.saturating_add.ensures, h.low, k.low) in
-    IfOk-weaker c.within_limits.result (IsWithinLimits es c.saturating_add.result) (StandsFor table (Multiplication d e))
-    (λ f w. product-stands table d e left right f es c.saturating_add.result a h k merged degree w) c.within_limits.ensures
+    IfOk-weaker c.within_limits.result (IsWithinLimits table es c.degree_of_product.result) (StandsFor table (Multiplication d e))
+    (λ f w. product-stands table d e left right f es c.degree_of_product.result c.requires h k merged (c.degree_of_product.ensures (record { factors = h.factors }) (record { factors = k.factors }) w.low) w) c.within_limits.ensures

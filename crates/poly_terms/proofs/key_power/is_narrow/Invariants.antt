@@ -1,8 +1,0 @@
-use Rattle.std.proofs.Common.{◌≡◌, ◌+◌, drop}
-use Rattle.model.specs.Limits.{coefficient_limit}
-use Rattle.poly_terms.specs.Keys.{norm_at}
-use Rattle.poly_terms.proofs.key_power.is_narrow.Given as goal
-
--- what is left of the limit is for what is left of the list
-abbrev pub invariant-loop-e : goal.invariant-loop-e
-invariant-loop-e l = norm_at l.es + l.left ≡ coefficient_limit + norm_at (drop l.e-index l.es)

@@ -1,0 +1,123 @@
+// Forms of single steps that don't fit packed exponents: made exactly by polynomials, and packed again.
+
+ghost use Rattle.std.specs.Prelude.{IfOk};
+ghost use Rattle.model.specs.Terms.{Term, Literal, Addition, Subtraction, Multiplication, Exponentiation};
+ghost use Rattle.poly_terms.specs.Answers.{Answers};
+ghost use Rattle.poly_terms.specs.Expanding.{expanded};
+ghost use Rattle.poly_terms.specs.Faults.{first_fault};
+ghost use Rattle.poly_terms.specs.KeyForms.{GivesForm, IsPackedFrom, StandsFor, StandsForSome};
+ghost use Rattle.poly_terms.specs.Views.{poly_of};
+
+use crate::form_error::FormError;
+use crate::key_error::KeyError;
+use crate::key_form::{KeyForm, expansion_of};
+use crate::key_product::in_order;
+use crate::leaves::literal;
+use crate::limits::degree;
+use crate::packing::packed;
+use crate::poly::Poly;
+use crate::poly_error::PolyError;
+use crate::power::power;
+use crate::product::limited_product;
+use crate::scale::opposite_of;
+use crate::sum::limited_sum;
+use std::alloc::Global;
+
+/// What stands for a literal, or its fault.
+pub(crate) fn exact_literal(alloc: Global, table: &[u32], z: i128) -> Result<KeyForm, FormError>
+    ensures { GivesForm table.now result (Literal z) }
+{
+    packed_form(alloc, table, literal(alloc, z))
+}
+
+/// What stands for the sum of two expressions, or its fault.
+pub(crate) fn exact_sum(
+    alloc: Global,
+    table: &[u32],
+    left: &KeyForm,
+    right: &KeyForm,
+) -> Result<KeyForm, FormError>
+    requires left { StandsForSome table.now left.now }
+    requires right { StandsForSome table.now right.now }
+    ensures { (d e : Term) → StandsFor table.now d left.now → StandsFor table.now e right.now
+        → GivesForm table.now result (Addition d e) }
+{
+    let p = expansion_of(alloc, table, left)?;
+    let q = expansion_of(alloc, table, right)?;
+    packed_form(alloc, table, limited_sum(alloc, p, q))
+}
+
+/// What stands for their difference, or its fault.
+pub(crate) fn exact_difference(
+    alloc: Global,
+    table: &[u32],
+    left: &KeyForm,
+    right: &KeyForm,
+) -> Result<KeyForm, FormError>
+    requires left { StandsForSome table.now left.now }
+    requires right { StandsForSome table.now right.now }
+    ensures { (d e : Term) → StandsFor table.now d left.now → StandsFor table.now e right.now
+        → GivesForm table.now result (Subtraction d e) }
+{
+    let p = expansion_of(alloc, table, left)?;
+    let q = expansion_of(alloc, table, right)?;
+    packed_form(alloc, table, limited_sum(alloc, p, opposite_of(q)))
+}
+
+/// What stands for their product, or its fault.
+pub(crate) fn exact_product(
+    alloc: Global,
+    table: &[u32],
+    left: &KeyForm,
+    right: &KeyForm,
+) -> Result<KeyForm, FormError>
+    requires left { StandsForSome table.now left.now }
+    requires right { StandsForSome table.now right.now }
+    ensures { (d e : Term) → StandsFor table.now d left.now → StandsFor table.now e right.now
+        → GivesForm table.now result (Multiplication d e) }
+{
+    let p = expansion_of(alloc, table, left)?;
+    let q = expansion_of(alloc, table, right)?;
+    packed_form(alloc, table, limited_product(alloc, p, q))
+}
+
+/// What stands for a power of an expression, or its first fault.
+pub(crate) fn exact_power(
+    alloc: Global,
+    table: &[u32],
+    base: &KeyForm,
+    exponent: u32,
+) -> Result<KeyForm, FormError>
+    requires { StandsForSome table.now base.now }
+    ensures { (e : Term) → StandsFor table.now e base.now
+        → GivesForm table.now result (Exponentiation e exponent) }
+{
+    let p = expansion_of(alloc, table, base)?;
+    packed_form(alloc, table, power(alloc, p, exponent))
+}
+
+// What stands for an expression that has this polynomial, or its fault.
+fn packed_form(
+    alloc: Global,
+    table: &[u32],
+    whole: Result<Poly, PolyError>,
+) -> Result<KeyForm, FormError>
+    ensures { (t : Term) → Answers whole (first_fault t) (expanded t) → GivesForm table.now result t }
+{
+    match whole {
+        Ok(p) => Ok(packed_poly(alloc, table, &p)?),
+        Err(error) => Err(FormError::Faulty(error)),
+    }
+}
+
+// A polynomial packed, where each monomial fits. A polynomial has another order than keys have.
+fn packed_poly(alloc: Global, table: &[u32], p: &Poly) -> Result<KeyForm, KeyError>
+    ensures { IfOk result (IsPackedFrom table.now (poly_of p.now)) }
+{
+    let monomials = packed(alloc, table, &p.terms)?;
+    let terms = in_order(alloc, &monomials)?;
+    match u32::try_from(degree(&p.terms)) {
+        Ok(degree) => Ok(KeyForm { terms, degree }),
+        Err(_) => Err(KeyError::Unfit),
+    }
+}
