@@ -1,5 +1,6 @@
 -- Local bounds that are found are accepted, and members that have them are what the searches for sizes are given.
-use Rattle.std.proofs.Common.{◌≡◌, ℕ, suc, ◌<◌, ◌≤◌, List, [], ◌∷◌, ◌++◌, length, map, get_or, Some, sym, ◌∙◌, ap, subst, arith}
+use Rattle.std.proofs.Common.{◌≡◌, ℕ, suc, ◌<◌, ◌≤◌, List, [], ◌∷◌, ◌++◌, length, map, get_or, Some, sym, ◌∙◌, ap}
+use Rattle.std.proofs.Common.{subst, arith}
 use Rattle.std.specs.List.{All}
 use Rattle.std.proofs.lemmas.List.{length-map, map-append, get_or-map}
 use Rattle.std.proofs.lemmas.List.Elements.{All-push, All-weaker}
@@ -13,16 +14,16 @@ use Rattle.guard_prep.specs.Views.{prepared_of}
 use Rattle.local_size.specs.LocalAnswers.{HasBound, IsLocal}
 use Rattle.local_size.specs.LocalLaws.{IsSpotOf}
 use Rattle.local_size.proofs.Accepted.{bounds-accepted}
-use Rattle.poly_terms.specs.Views.{form_of}
-use Rattle.proof_nodes.specs.Nodes.{Spot, LocalBound, Member}
-use Rattle.proof_nodes.specs.AcceptsSizes.{HasMemberShape, AcceptsUp, AcceptsLow, AreAscending}
-use Rattle.proof_setting.specs.Setting.{setting_of}
+use Rattle.its_model.specs.poly_terms.Views.{form_of}
+use Rattle.proof_tree.specs.proof_nodes.Nodes.{Spot, LocalBound, Member}
+use Rattle.proof_tree.specs.proof_nodes.AcceptsSizes.{HasMemberShape, AcceptsUp, AcceptsLow, AreAscending}
+use Rattle.proof_tree.specs.proof_setting.Setting.{setting_of}
 use Rattle.proof_tree.specs.Composing.{AreRowsOf}
 use Rattle.proof_tree.specs.Views.{member_of}
 use Rattle.proof_tree.specs.declared.arm.Member as code
 use Rattle.proof_tree.specs.declared.answer.EmptyAnswer.{EmptyAnswer}
 use Rattle.rank_search.proofs.RankSets.{rule-of}
-use Rattle.size_bounds.specs.SizeAnswers.{IsGiven, AreGiven}
+use Rattle.size_bounds.specs.SizeAnswers.{IsMemberOfProgram, AreMembersOfProgram}
 use Rattle.time_bounds.specs.Candidates.{IsAccepted}
 use Rattle.time_bounds.proofs.RowLaws.{RowsAt, rows_at}
 
@@ -55,7 +56,7 @@ accepted_more p ms m all one =
 
 -- what the search for the size of the first member is given
 pub given_alone : (p : Program) (g : Graph) (preps : List RuleRows) (ms : List code.Member) (m : code.Member) → IsValid p → IsGraphOf g p
-    → AreRowsOf preps p → All (IsAccepted p) (map member_of ms) → 0 < length ms → m ≡ get_or ms 0 m → IsGiven p g preps (member_of m)
+    → AreRowsOf preps p → All (IsAccepted p) (map member_of ms) → 0 < length ms → m ≡ get_or ms 0 m → IsMemberOfProgram p g preps (member_of m)
 given_alone p g preps ms m valid graph rows all some is =
     let first : get_or (map member_of ms) 0 (member_of m) ≡ member_of m = get_or-map member_of ms 0 m (member_of m) some ∙ ap member_of (sym is) in
     let k = subst (IsAccepted p) first (all 0 (member_of m) (omega (arith, some, length-map ms member_of))) in
@@ -63,7 +64,7 @@ given_alone p g preps ms m valid graph rows all some is =
 
 -- and that for the size of the members of a loop
 pub given_loop : (p : Program) (g : Graph) (preps : List RuleRows) (ms : List code.Member) → IsValid p → IsGraphOf g p → AreRowsOf preps p
-    → All (IsAccepted p) (map member_of ms) → 0 < length ms → AreAscending (map member_of ms) → AreGiven p g preps (map member_of ms)
+    → All (IsAccepted p) (map member_of ms) → 0 < length ms → AreAscending (map member_of ms) → AreMembersOfProgram p g preps (map member_of ms)
 given_loop p g preps ms valid graph rows all some ascending = record {
   valid = valid;
   graph = graph;

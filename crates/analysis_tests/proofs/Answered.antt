@@ -9,7 +9,7 @@ use Rattle.guard_prep.specs.declared.rule_rows.RuleRows.{RuleRows}
 use Rattle.guard_prep.specs.Prepared.{Prepared, prepared}
 use Rattle.guard_prep.specs.Views.{prepared_of}
 use Rattle.local_size.specs.declared.answer.LocalAnswer.{LocalAnswer}
-use Rattle.poly_terms.specs.Views.{form_of}
+use Rattle.its_model.specs.poly_terms.Views.{form_of}
 use Rattle.proof_tree.specs.Composing.{AreRowsOf}
 use Rattle.rank_search.proofs.RankSets.{rule-of}
 use Rattle.rvg_components.specs.Listing.{answer_lists, answers_for, is_flagged, AreLocalsFor}

@@ -1,10 +1,11 @@
-// Times and sizes of programs that were worked out by hand, with the numbers of their lemmas.
+//! Times and sizes of programs that were worked out by hand, with the numbers of their lemmas.
 
 use bound_expr::Bound;
 use its_reader::read;
+use model::Memory;
 use outcome::{Outcome, SizeEntry, Stored, TimeEntry};
 use proof_tree::{Question, Trip, TripCause};
-use std::alloc::{AllocError, Global};
+use std::alloc::Global;
 use std::test::Fail;
 use time_bounds::analyse;
 
@@ -24,7 +25,7 @@ fn known(bound: Bound, lemma: u32) -> TimeEntry {
 }
 
 // A + n
-fn plus(alloc: Global, n: u128) -> Result<Bound, AllocError> {
+fn plus(alloc: Global, n: u128) -> Result<Bound, Memory> {
     Ok(Bound::Sum(vec![in alloc; Bound::Var(0), Bound::Const(n)]?))
 }
 
@@ -125,12 +126,12 @@ fn sized(bound: Bound, lemma: u32) -> SizeEntry {
 }
 
 // n*A
-fn multiple(alloc: Global, n: u128) -> Result<Bound, AllocError> {
+fn multiple(alloc: Global, n: u128) -> Result<Bound, Memory> {
     Ok(Bound::Prod(vec![in alloc; Bound::Const(n), Bound::Var(0)]?))
 }
 
 // 2*A^2
-fn twice_the_square(alloc: Global) -> Result<Bound, AllocError> {
+fn twice_the_square(alloc: Global) -> Result<Bound, Memory> {
     Ok(Bound::Prod(vec![in alloc; Bound::Const(2), Bound::Var(0), Bound::Var(0)]?))
 }
 
@@ -168,7 +169,7 @@ fn times_stand_on_the_sizes_of_rounds_before(rt: HostRuntime) -> Result<(), Fail
 fn sizes_are_numbered_by_components(rt: HostRuntime) -> Result<(), Fail> {
     let alloc = rt.alloc();
     let found = found(alloc, NESTED, PIVOTS)?;
-    let double = |lemma: u32| -> Result<SizeEntry, AllocError> {
+    let double = |lemma: u32| -> Result<SizeEntry, Memory> {
         Ok(sized(multiple(alloc, 2)?, lemma))
     };
     let sizes = vec![in alloc;

@@ -1,19 +1,20 @@
-// Local bounds that were worked out by a plain slow search over the same questions, and the first ones by hand.
+//! Local bounds that were worked out by a plain slow search over the same questions, and the first ones by hand.
 
 ghost use Rattle.std.specs.List.{All};
 ghost use Rattle.its_model.specs.Valid.{IsValid};
 ghost use Rattle.its_model.specs.Views.{program_of};
-ghost use Rattle.rank_search.specs.EmptyAnswers.{IsPrepared, SaysEmpty};
+ghost use Rattle.rank_search.specs.rule_questions.EmptyAnswers.{IsPrepared, SaysEmpty};
 
 use crate::places::{PLACES, TRIPS};
 use crate::programs::{all_rows, program};
 use guard_prep::RuleRows;
 use its_model::Program;
 use local_size::{LocalAnswer, local};
+use model::Memory;
 use outcome::Loose;
 use proof_tree::{Arm, EmptyAnswer, Question, Spot, Trip, TripCause};
 use rank_search::find_empty;
-use std::alloc::{AllocError, Global};
+use std::alloc::Global;
 use std::test::Fail;
 
 const PIVOTS: u32 = 10_000;
@@ -37,7 +38,7 @@ fn answer_in(
     spot: Spot,
     pivots: u32,
     known: Option<Trip>,
-) -> Result<String, AllocError>
+) -> Result<String, Memory>
     requires { IsValid (program_of p.now) }
 {
     let preps = all_rows(alloc, p)?;
@@ -51,7 +52,7 @@ fn answer_by(
     spot: Spot,
     pivots: u32,
     known: Option<Trip>,
-) -> Result<String, AllocError>
+) -> Result<String, Memory>
     requires { All IsPrepared preps.now }
 {
     if spot.rule == 0 {
@@ -87,7 +88,7 @@ fn asked(
     spot: Spot,
     pivots: u32,
     empty: &EmptyAnswer,
-) -> Result<String, AllocError>
+) -> Result<String, Memory>
     requires prepared { IsPrepared prep.now }
     requires may_run { ¬ SaysEmpty empty.now }
 {
@@ -101,7 +102,7 @@ fn asked(
 }
 
 // An answer as text.
-fn shown(alloc: Global, answer: &LocalAnswer) -> Result<String, AllocError> {
+fn shown(alloc: Global, answer: &LocalAnswer) -> Result<String, Memory> {
     let mut text = String::new(alloc);
     match answer {
         LocalAnswer::Bound(bound) => {
@@ -116,7 +117,7 @@ fn shown(alloc: Global, answer: &LocalAnswer) -> Result<String, AllocError> {
     Ok(text)
 }
 
-fn push_arm(alloc: Global, text: &mut String, arm: &Arm) -> Result<(), AllocError> {
+fn push_arm(alloc: Global, text: &mut String, arm: &Arm) -> Result<(), Memory> {
     match arm {
         Arm::Poly => text.push_str("poly"),
         Arm::Linear {
@@ -139,7 +140,7 @@ fn push_arm(alloc: Global, text: &mut String, arm: &Arm) -> Result<(), AllocErro
     }
 }
 
-fn push_numbers(alloc: Global, text: &mut String, numbers: &[i64]) -> Result<(), AllocError> {
+fn push_numbers(alloc: Global, text: &mut String, numbers: &[i64]) -> Result<(), Memory> {
     text.push_str("(")?;
     for (position, number) in numbers.iter().enumerate() {
         let comma = if position == 0 { "" } else { ", " };
@@ -148,7 +149,7 @@ fn push_numbers(alloc: Global, text: &mut String, numbers: &[i64]) -> Result<(),
     text.push_str(")")
 }
 
-fn push_loose(alloc: Global, text: &mut String, loose: &Loose) -> Result<(), AllocError> {
+fn push_loose(alloc: Global, text: &mut String, loose: &Loose) -> Result<(), Memory> {
     text.push_str(if loose.up { "loose up " } else { "loose low " })?;
     push_numbers(alloc, text, &loose.ray)?;
     text.push_str(" ")?;
@@ -157,7 +158,7 @@ fn push_loose(alloc: Global, text: &mut String, loose: &Loose) -> Result<(), All
     text.push_str(&format!(in alloc; " / {den}")?)
 }
 
-fn push_trip(alloc: Global, text: &mut String, trip: &Trip) -> Result<(), AllocError> {
+fn push_trip(alloc: Global, text: &mut String, trip: &Trip) -> Result<(), Memory> {
     match trip.question {
         Question::Empty { rule } => text.push_str(&format!(in alloc; "empty {rule} ")?)?,
         Question::Rank { rule } => text.push_str(&format!(in alloc; "rank {rule} ")?)?,

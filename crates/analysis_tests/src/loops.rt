@@ -1,4 +1,4 @@
-// The components of places, in their order, and which of them loop, worked out by hand from which place reads which.
+//! The components of places, in their order, and which of them loop, worked out by hand from which place reads which.
 
 ghost use Rattle.std.specs.Prelude.{◌≡◌, length, map, IfOk};
 ghost use Rattle.std.specs.List.{All};
@@ -7,7 +7,7 @@ ghost use Rattle.its_graph.specs.Graphs.{IsGraphOf};
 ghost use Rattle.its_model.specs.Valid.{IsValid};
 ghost use Rattle.its_model.specs.Views.{program_of};
 ghost use Rattle.proof_tree.specs.Composing.{AreRowsOf};
-ghost use Rattle.rank_search.specs.EmptyAnswers.{IsPrepared};
+ghost use Rattle.rank_search.specs.rule_questions.EmptyAnswers.{IsPrepared};
 
 use crate::members::locals_after;
 use crate::programs::{all_rows, program};
@@ -15,8 +15,9 @@ use guard_prep::RuleRows;
 use its_graph::Graph;
 use its_model::Program;
 use local_size::LocalAnswer;
+use model::Memory;
 use rvg_components::{Component, components};
-use std::alloc::{AllocError, Global};
+use std::alloc::Global;
 use std::process::Abort;
 use std::test::Fail;
 
@@ -25,7 +26,7 @@ fn all_locals(
     rt: &impl Abort,
     alloc: Global,
     preps: &[RuleRows],
-) -> Result<Vec<Vec<LocalAnswer>>, AllocError>
+) -> Result<Vec<Vec<LocalAnswer>>, Memory>
     requires { All IsPrepared preps.now }
     ensures { IfOk result (λ locals. map (λ l. length l.items) locals.items
         ≡ map (λ m. length m.news.items) preps.now) }
@@ -45,7 +46,7 @@ fn components_by(
     g: &Graph,
     preps: &[RuleRows],
     live: &[bool],
-) -> Result<Vec<Component>, AllocError>
+) -> Result<Vec<Component>, Memory>
     requires { (p : PlainProgram) × (IsValid p × (IsGraphOf g.now p × (AreRowsOf preps.now p
         × (length live.now ≡ length p.rules)))) }
 {
@@ -59,7 +60,7 @@ fn components_of(
     alloc: Global,
     p: &Program,
     live: &[bool],
-) -> Result<Vec<Component>, AllocError>
+) -> Result<Vec<Component>, Memory>
     requires { IsValid (program_of p.now) }
 {
     assert!(rt; live.len() == p.rules.len());
@@ -69,7 +70,7 @@ fn components_of(
 }
 
 // Components as text: the members of each, and whether it loops.
-fn shown(alloc: Global, found: &[Component]) -> Result<String, AllocError> {
+fn shown(alloc: Global, found: &[Component]) -> Result<String, Memory> {
     let mut text = String::new(alloc);
     for component in found {
         for spot in &component.members {

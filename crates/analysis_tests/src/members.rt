@@ -1,19 +1,20 @@
-// Places with their local bounds, as the searches for sizes are given them.
+//! Places with their local bounds, as the searches for sizes are given them.
 
 ghost use Rattle.std.specs.Prelude.{◌≡◌, true, length, map, IfOk, IfSome, OnOk};
 ghost use Rattle.std.specs.List.{All};
 ghost use Rattle.model.specs.Programs.{Program as PlainProgram};
 ghost use Rattle.its_model.specs.Valid.{IsValid};
-ghost use Rattle.proof_nodes.specs.AcceptsSizes.{AreAscending, ComesBefore};
+ghost use Rattle.proof_tree.specs.proof_nodes.AcceptsSizes.{AreAscending, ComesBefore};
 ghost use Rattle.proof_tree.specs.Composing.{AreRowsOf};
 ghost use Rattle.proof_tree.specs.Views.{member_of, spot_of};
-ghost use Rattle.rank_search.specs.EmptyAnswers.{IsPrepared, SaysEmpty};
+ghost use Rattle.rank_search.specs.rule_questions.EmptyAnswers.{IsPrepared, SaysEmpty};
 ghost use Rattle.time_bounds.specs.Candidates.{IsAccepted};
 
 use guard_prep::RuleRows;
 use local_size::{LocalAnswer, local};
+use model::Memory;
 use proof_tree::{EmptyAnswer, Member, Question, Spot, Trip, TripCause};
-use std::alloc::{AllocError, Global};
+use std::alloc::Global;
 use std::process::Abort;
 
 const PIVOTS: u32 = 10_000;
@@ -34,7 +35,7 @@ pub(crate) fn locals_after(
     alloc: Global,
     prep: &RuleRows,
     rule: u32,
-) -> Result<Vec<LocalAnswer>, AllocError>
+) -> Result<Vec<LocalAnswer>, Memory>
     requires { IsPrepared prep.now }
     ensures { IfOk result (λ answers. length answers.items ≡ length prep.now.news.items) }
 {
@@ -52,7 +53,7 @@ pub(crate) fn locals_after(
 }
 
 // A place of a rule with its local bound, where it has one.
-fn member_at(alloc: Global, preps: &[RuleRows], spot: Spot) -> Result<Option<Member>, AllocError>
+fn member_at(alloc: Global, preps: &[RuleRows], spot: Spot) -> Result<Option<Member>, Memory>
     requires { (p : PlainProgram) × (IsValid p × AreRowsOf preps.now p) }
     ensures { IfOk result (λ o. (p : PlainProgram) → IsValid p → AreRowsOf preps.now p
         → IfSome o (λ m. IsAccepted p (member_of m))) }
@@ -84,7 +85,7 @@ fn push_member(
     members: &mut Vec<Member>,
     preps: &[RuleRows],
     spot: Spot,
-) -> Result<(), AllocError>
+) -> Result<(), Memory>
     requires { (p : PlainProgram) × (IsValid p × AreRowsOf preps.now p) }
     ensures { OnOk result ((p : PlainProgram) → IsValid p → AreRowsOf preps.now p
         → All (IsAccepted p) (map member_of members.old.items) → All (IsAccepted p) (map member_of members.new.items)) }
@@ -100,7 +101,7 @@ pub(crate) fn members_at(
     alloc: Global,
     preps: &[RuleRows],
     spots: &[(u32, u32)],
-) -> Result<Vec<Member>, AllocError>
+) -> Result<Vec<Member>, Memory>
     requires { (p : PlainProgram) × (IsValid p × AreRowsOf preps.now p) }
     ensures { IfOk result (λ members. (p : PlainProgram) → IsValid p → AreRowsOf preps.now p
         → All (IsAccepted p) (map member_of members.items)) }

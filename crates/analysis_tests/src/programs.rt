@@ -1,4 +1,4 @@
-// Programs of some rules, and what the searches are given of them.
+//! Programs of some rules, and what the searches are given of them.
 
 ghost use Rattle.std.specs.Prelude.{IfOk};
 ghost use Rattle.its_model.specs.Valid.{IsValid};
@@ -8,7 +8,8 @@ ghost use Rattle.proof_tree.specs.Composing.{AreRowsOf};
 use guard_prep::{RuleRows, rows};
 use its_model::Program;
 use its_reader::read;
-use std::alloc::{AllocError, Global};
+use model::Memory;
+use std::alloc::Global;
 use std::test::Fail;
 
 // A program with these rules, from l0.
@@ -22,7 +23,7 @@ pub(crate) fn program(alloc: Global, rules: &str) -> Result<Program, Fail>
 }
 
 // The rows of each rule, in order.
-pub(crate) fn all_rows(alloc: Global, p: &Program) -> Result<Vec<RuleRows>, AllocError>
+pub(crate) fn all_rows(alloc: Global, p: &Program) -> Result<Vec<RuleRows>, Memory>
     requires { IsValid (program_of p.now) }
     ensures { IfOk result (λ preps. AreRowsOf preps.items (program_of p.now)) }
 {

@@ -1,15 +1,16 @@
-// Sizes of places and of loops as text.
+//! Sizes of places and of loops as text.
 
+use model::Memory;
 use proof_tree::{Fact, Member, Proof};
 use size_bounds::SizeAnswer;
-use std::alloc::{AllocError, Global};
+use std::alloc::Global;
 
 /// An answer as text.
 pub(crate) fn shown_answer(
     alloc: Global,
     answer: &SizeAnswer,
     members: &[Member],
-) -> Result<String, AllocError> {
+) -> Result<String, Memory> {
     match answer {
         SizeAnswer::Found { node, facts } => shown_node(alloc, node, facts, members),
         SizeAnswer::Missing(spot) => { format!(in alloc; "missing {}.{}", spot.rule, spot.place) }
@@ -25,7 +26,7 @@ fn shown_node(
     node: &Proof,
     facts: &[Fact],
     members: &[Member],
-) -> Result<String, AllocError> {
+) -> Result<String, Memory> {
     match node {
         Proof::Spread(spread) => {
             let is_same =
@@ -52,7 +53,7 @@ fn shown_facts(
     kind: &str,
     uses: &[Proof],
     facts: &[Fact],
-) -> Result<String, AllocError> {
+) -> Result<String, Memory> {
     let mut text = format!(in alloc; "{kind} by {uses:?}")?;
     for fact in facts {
         match fact {

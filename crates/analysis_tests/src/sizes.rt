@@ -1,4 +1,4 @@
-// Sizes of single places and of loops over given tables, worked out by hand from what a spread and a cycle compose.
+//! Sizes of single places and of loops over given tables, worked out by hand from what a spread and a cycle compose.
 
 ghost use Rattle.std.specs.Prelude.{◌<◌, length, map};
 ghost use Rattle.std.specs.List.{All};
@@ -6,7 +6,7 @@ ghost use Rattle.model.specs.Programs.{Program as PlainProgram};
 ghost use Rattle.its_graph.specs.Graphs.{IsGraphOf};
 ghost use Rattle.its_model.specs.Valid.{IsValid};
 ghost use Rattle.its_model.specs.Views.{program_of};
-ghost use Rattle.proof_nodes.specs.AcceptsSizes.{AreAscending};
+ghost use Rattle.proof_tree.specs.proof_nodes.AcceptsSizes.{AreAscending};
 ghost use Rattle.proof_tree.specs.Composing.{AreRowsOf};
 ghost use Rattle.proof_tree.specs.Views.{member_of};
 ghost use Rattle.time_bounds.specs.Candidates.{IsAccepted};
@@ -19,9 +19,10 @@ use crate::tables::{Entry, table};
 use guard_prep::RuleRows;
 use its_graph::Graph;
 use its_model::Program;
+use model::Memory;
 use proof_tree::Member;
-use size_bounds::{SizeAnswer, Table, cited, cycle, spread};
-use std::alloc::{AllocError, Global};
+use size_bounds::{SizeAnswer, Table, cycle, spread, uses_of_lemmas};
+use std::alloc::Global;
 use std::process::Abort;
 use std::test::Fail;
 
@@ -39,7 +40,7 @@ fn alone(
     preps: &[RuleRows],
     t: &Table,
     members: &[Member],
-) -> Result<SizeAnswer, AllocError>
+) -> Result<SizeAnswer, Memory>
     requires given { (p : PlainProgram) × (IsValid p × (IsGraphOf g.now p × (AreRowsOf preps.now p
         × All (IsAccepted p) (map member_of members.now)))) }
     requires some { 0 < length members.now }
@@ -54,7 +55,7 @@ fn together(
     preps: &[RuleRows],
     t: &Table,
     members: &[Member],
-) -> Result<SizeAnswer, AllocError>
+) -> Result<SizeAnswer, Memory>
     requires given { (p : PlainProgram) × (IsValid p × (IsGraphOf g.now p × (AreRowsOf preps.now p
         × All (IsAccepted p) (map member_of members.now)))) }
     requires some { 0 < length members.now }
@@ -72,7 +73,7 @@ fn asked_of(
     t: &Table,
     members: &[Member],
     asked: Asked,
-) -> Result<SizeAnswer, AllocError>
+) -> Result<SizeAnswer, Memory>
     requires { (p : PlainProgram) × (IsValid p × (IsGraphOf g.now p × (AreRowsOf preps.now p
         × All (IsAccepted p) (map member_of members.now)))) }
 {
@@ -96,7 +97,7 @@ fn answer_by(
     t: &Table,
     asked: Asked,
     spots: &[(u32, u32)],
-) -> Result<String, AllocError>
+) -> Result<String, Memory>
     requires { (p : PlainProgram) × (IsValid p × (IsGraphOf g.now p × AreRowsOf preps.now p)) }
 {
     let members = members_at(alloc, preps, spots)?;
@@ -112,7 +113,7 @@ fn answer(
     t: &Table,
     asked: Asked,
     spots: &[(u32, u32)],
-) -> Result<String, AllocError>
+) -> Result<String, Memory>
     requires { IsValid (program_of p.now) }
 {
     let graph = Graph::new(alloc, p)?;
@@ -357,7 +358,7 @@ fn each_lemma_is_cited_once(rt: HostRuntime) -> Result<(), Fail> {
         (&[3, 0, 5, 3, 0], "[Start, Cite(3), Cite(5)]"),
     ];
     for (lemmas, want) in table {
-        let uses = cited(alloc, lemmas)?;
+        let uses = uses_of_lemmas(alloc, lemmas)?;
         assert_eq!(rt; format!(in alloc; "{uses:?}")?.as_str(), want);
     }
     Ok(())

@@ -1,9 +1,10 @@
-// Tables of given bounds.
+//! Tables of given bounds.
 
 use bound_expr::Bound;
+use model::Memory;
 use outcome::Stored;
 use size_bounds::Table;
-use std::alloc::{AllocError, Global};
+use std::alloc::Global;
 
 // A bound of a table: a number, an input, or a sum of so many parts A.
 #[derive(Clone, Copy)]
@@ -15,7 +16,7 @@ pub(crate) enum Told {
 
 use Told::{C, V, Wide};
 
-fn bound(alloc: Global, told: Told) -> Result<Bound, AllocError> {
+fn bound(alloc: Global, told: Told) -> Result<Bound, Memory> {
     match told {
         C(number) => Ok(Bound::Const(number)),
         V(input) => Ok(Bound::Var(input)),
@@ -23,7 +24,7 @@ fn bound(alloc: Global, told: Told) -> Result<Bound, AllocError> {
     }
 }
 
-fn wide(alloc: Global, parts: u32) -> Result<Bound, AllocError> {
+fn wide(alloc: Global, parts: u32) -> Result<Bound, Memory> {
     let mut sum = Vec::new(alloc);
     for _ in 0..parts {
         sum.push(Bound::Var(0))?;
@@ -39,7 +40,7 @@ fn entry(
     entries: &[Entry],
     rule: u32,
     place: u32,
-) -> Result<Option<Stored>, AllocError> {
+) -> Result<Option<Stored>, Memory> {
     for (of_rule, of_place, told, lemma) in entries {
         if *of_rule == rule && *of_place == place {
             return Ok(Some(Stored {
@@ -52,7 +53,7 @@ fn entry(
 }
 
 // The table of what is known, for up to four rules with up to three places.
-pub(crate) fn table(alloc: Global, entries: &[Entry]) -> Result<Table, AllocError> {
+pub(crate) fn table(alloc: Global, entries: &[Entry]) -> Result<Table, Memory> {
     let mut times = Vec::new(alloc);
     let mut sizes = Vec::new(alloc);
     for rule in 0..5 {

@@ -1,6 +1,8 @@
 -- The first word tells what is written first.
-use Rattle.std.proofs.Common.{◌≡◌, true, false, List, [], ◌∷◌, ◌++◌, Option, Some, None, IsTrue, IsFalse, refl, sym, ◌∙◌, ap, subst, get_or, arith, codes}
-use Rattle.asks.specs.Lines.{Word, Words, is_plain, is_value, Item, Apart, Joined, Positional, AreItems, written, values_of, positionals_of, Gives}
+use Rattle.std.proofs.Common.{◌≡◌, true, false, List, [], ◌∷◌, ◌++◌, Option, Some, None, IsTrue, IsFalse, refl, sym}
+use Rattle.std.proofs.Common.{◌∙◌, ap, subst, get_or, arith, codes}
+use Rattle.asks.specs.Lines.{Word, Words, is_plain, is_value, Item, Apart, Joined, Positional, AreItems, words_of_items}
+use Rattle.asks.specs.Lines.{values_of, positionals_of, Gives}
 use Rattle.asks.specs.Steps.{IsOther, GivesValue}
 
 -- what a first word can be
@@ -14,7 +16,7 @@ pub data First (word : Word) (words values positionals : Words) : Type 0 where
 
 -- what the words of these items give
 pub gives_of : (items : List Item) (behind : Option Words) → AreItems items
-    → Gives (written items behind) (values_of items) (positionals_of items behind)
+    → Gives (words_of_items items behind) (values_of items) (positionals_of items behind)
 gives_of items behind proper = record {
   items = items;
   behind = behind;
@@ -37,7 +39,7 @@ gives_along xs ys vs ws ps qs e f g h = record {
 
 -- the first word is one of these
 first_of_items : (word : Word) (words values positionals : Words) (items : List Item) (behind : Option Words) → AreItems items
-    → word ∷ words ≡ written items behind → values ≡ values_of items → positionals ≡ positionals_of items behind
+    → word ∷ words ≡ words_of_items items behind → values ≡ values_of items → positionals ≡ positionals_of items behind
     → First word words values positionals
 first_of_items word words values positionals [] None proper e v p = cc
 first_of_items word words values positionals [] (Some behind) proper e v p =
@@ -46,10 +48,10 @@ first_of_items word words values positionals [] (Some behind) proper e v p =
     Ended head v tail
 first_of_items word words values positionals (Apart x ∷ items) behind proper e v p =
     let head : word ≡ codes "--pivots" = cc in
-    let tail : words ≡ x ∷ written items behind = cc in
+    let tail : words ≡ x ∷ words_of_items items behind = cc in
     WithNext head (record {
       value = x;
-      others = written items behind;
+      others = words_of_items items behind;
       more = values_of items;
       first = tail;
       proper = proper.0;
@@ -58,11 +60,11 @@ first_of_items word words values positionals (Apart x ∷ items) behind proper e
     })
 first_of_items word words values positionals (Joined x ∷ items) behind proper e v p =
     let head : word ≡ codes "--pivots=" ++ x = cc in
-    let tail : words ≡ written items behind = cc in
+    let tail : words ≡ words_of_items items behind = cc in
     Whole (values_of items) x head proper.0 (gives_along _ _ _ _ _ _ tail refl p (gives_of items behind proper.1)) v
 first_of_items word words values positionals (Positional x ∷ items) behind proper e v p =
     let head : word ≡ x = cc in
-    let tail : words ≡ written items behind = cc in
+    let tail : words ≡ words_of_items items behind = cc in
     let same : positionals ≡ word ∷ positionals_of items behind = cc in
     Alone (positionals_of items behind) (subst (λ (w : Word). IsTrue (is_plain w)) (sym head) proper.0)
     (gives_along _ _ _ _ _ _ tail v refl (gives_of items behind proper.1)) same
@@ -76,7 +78,7 @@ first word words values positionals h =
 pub none_first : (values positionals : Words) → Gives [] values positionals → (values ≡ []) × (positionals ≡ [])
 none_first values positionals h = go h.items h.behind h.spelled h.has_values h.has_positionals
   where
-    go : (items : List Item) (behind : Option Words) → [] ≡ written items behind → values ≡ values_of items
+    go : (items : List Item) (behind : Option Words) → [] ≡ words_of_items items behind → values ≡ values_of items
         → positionals ≡ positionals_of items behind → (values ≡ []) × (positionals ≡ [])
     go [] None e v p = (v, p)
     go [] (Some behind) e v p = cc

@@ -1,27 +1,28 @@
 -- Words are read in one way.
 use Rattle.std.proofs.Common.{◌≡◌, ℕ, List, [], ◌∷◌, ◌++◌, Option, Some, None, refl, sym, ◌∙◌, ap, subst, codes}
-use Rattle.asks.specs.Lines.{Word, Words, Item, Apart, Joined, Positional, AreItems, written, values_of, positionals_of, Gives}
+use Rattle.asks.specs.Lines.{Word, Words, Item, Apart, Joined, Positional, AreItems, words_of_items, values_of}
+use Rattle.asks.specs.Lines.{positionals_of, Gives}
 use Rattle.asks.specs.Requests.{Request, Analyse, AllowsPivots, Asks}
 use Rattle.asks.specs.Laws.{WordsAreReadInOneWay}
 use Rattle.asks.proofs.Firsts.{end_first, apart_first, joined_first, plain_first, none_first, gives_along}
 
 -- what the words of items give is what the items have
 one : (items : List Item) (behind : Option Words) → AreItems items → (values positionals : Words)
-    → Gives (written items behind) values positionals → (values ≡ values_of items) × (positionals ≡ positionals_of items behind)
+    → Gives (words_of_items items behind) values positionals → (values ≡ values_of items) × (positionals ≡ positionals_of items behind)
 one [] None proper values positionals h = none_first values positionals h
 one [] (Some behind) proper values positionals h = end_first (codes "--") behind values positionals refl h
 one (Apart x ∷ items) behind proper values positionals h =
-    let g = apart_first (codes "--pivots") (x ∷ written items behind) values positionals refl h in
+    let g = apart_first (codes "--pivots") (x ∷ words_of_items items behind) values positionals refl h in
     let head : x ≡ g.value = cc (g.first) in
-    let tail : written items behind ≡ g.others = cc (g.first) in
+    let tail : words_of_items items behind ≡ g.others = cc (g.first) in
     let rest = one items behind proper.1 g.more positionals (gives_along _ _ _ _ _ _ tail refl refl g.gives) in
     (g.has_values ∙ (ap (λ (w : Word). w ∷ g.more) (sym head) ∙ ap (λ (ws : Words). x ∷ ws) rest.0), rest.1)
 one (Joined x ∷ items) behind proper values positionals h =
-    let g = joined_first (codes "--pivots=" ++ x) x (written items behind) values positionals refl h in
+    let g = joined_first (codes "--pivots=" ++ x) x (words_of_items items behind) values positionals refl h in
     let rest = one items behind proper.1 g.0 positionals g.2 in
     (g.3 ∙ ap (λ (ws : Words). x ∷ ws) rest.0, rest.1)
 one (Positional x ∷ items) behind proper values positionals h =
-    let g = plain_first x (written items behind) values positionals proper.0 h in
+    let g = plain_first x (words_of_items items behind) values positionals proper.0 h in
     let rest = one items behind proper.1 values g.0 g.1 in
     (rest.0, g.2 ∙ ap (λ (ws : Words). x ∷ ws) rest.1)
 

@@ -1,10 +1,13 @@
 -- One word more: what the words behind it give, and what they give with it before.
-use Rattle.std.proofs.Common.{◌≡◌, List, [], ◌∷◌, ◌++◌, Some, None, IsTrue, IsFalse, refl, sym, ◌∙◌, ap, subst, codes, append_assoc, true, false}
+use Rattle.std.proofs.Common.{◌≡◌, List, [], ◌∷◌, ◌++◌, Some, None, IsTrue, IsFalse, refl, sym, ◌∙◌, ap, subst, codes}
+use Rattle.std.proofs.Common.{append_assoc, true, false}
 use Rattle.std.proofs.lemmas.List.{append-nil, at_drop_more}
 use Rattle.std.proofs.Math.ListN.{drop_of_length-le}
-use Rattle.std.proofs.Common.{Bool, MatchBool, ℕ, ◌<◌, ◌≤◌, ◌+◌, String, Global, string_bytes, map, drop, length, get_or}
+use Rattle.std.proofs.Common.{Bool, MatchBool, ℕ, ◌<◌, ◌≤◌, ◌+◌, String, Global, string_bytes, map, drop, length}
+use Rattle.std.proofs.Common.{get_or}
 use Rattle.asks.specs.Lines.{Word, Words, is_plain, is_value, Apart, Joined, Positional, Gives}
-use Rattle.asks.specs.Steps.{IsOther, GivesValue, State, GivesBeside, Leads, Takes, Refuses, state_of, values_in, positionals_in, HasOnePositional, IsValued}
+use Rattle.asks.specs.Steps.{IsOther, GivesValue, State, GivesBeside, Leads, Takes, Refuses, state_of, values_in}
+use Rattle.asks.specs.Steps.{positionals_in, HasOnePositional, IsValued}
 use Rattle.asks.specs.declared.line.Next.{Next}
 use Rattle.asks.specs.declared.line.Next.TheVariants as nexts
 use Rattle.asks.specs.declared.line.Line.{Line}

@@ -38,12 +38,12 @@ AreItems [] = ⊤
 AreItems (item ∷ items) = IsItem item × AreItems items
 
 -- the words of the items, and then, where there are words behind it, `--` with these words
-abbrev pub written : List Item → Option Words → Words
-written [] None = []
-written [] (Some behind) = codes "--" ∷ behind
-written (Apart value ∷ items) behind = codes "--pivots" ∷ value ∷ written items behind
-written (Joined value ∷ items) behind = (codes "--pivots=" ++ value) ∷ written items behind
-written (Positional word ∷ items) behind = word ∷ written items behind
+abbrev pub words_of_items : List Item → Option Words → Words
+words_of_items [] None = []
+words_of_items [] (Some behind) = codes "--" ∷ behind
+words_of_items (Apart value ∷ items) behind = codes "--pivots" ∷ value ∷ words_of_items items behind
+words_of_items (Joined value ∷ items) behind = (codes "--pivots=" ++ value) ∷ words_of_items items behind
+words_of_items (Positional word ∷ items) behind = word ∷ words_of_items items behind
 
 -- the values of the option, in order
 abbrev pub values_of : List Item → Words
@@ -65,6 +65,6 @@ pub record Gives (words values positionals : Words) : Type 0 where
   pub items : List Item
   pub behind : Option Words
   pub proper : AreItems items
-  pub spelled : words ≡ written items behind
+  pub spelled : words ≡ words_of_items items behind
   pub has_values : values ≡ values_of items
   pub has_positionals : positionals ≡ positionals_of items behind

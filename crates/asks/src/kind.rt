@@ -1,4 +1,4 @@
-// What a word is where options may stand.
+//! What a word is where options may stand.
 
 ghost use Rattle.std.specs.Prelude.{◌≡◌, ◌≢◌, ◌++◌, ℕ, List, MatchBool, MatchOption};
 ghost use Rattle.asks.specs.Lines.{is_plain as is_plain_at, is_value as is_value_at};

@@ -1,4 +1,4 @@
-// Laws of command lines, and values that were worked out by hand.
+//! Laws of command lines, and values that were worked out by hand.
 
 ghost use Rattle.asks.specs.Laws.{WordsAreReadInOneWay};
 ghost use Rattle.asks.specs.Worked.{CommandLines, OtherWords};

@@ -1,5 +1,5 @@
-// What the words of the command line ask for. Contract to the layer above: `asks` answers exactly what the words ask
-// for, and none exactly where they ask for nothing.
+//! What the words of the command line ask for. Contract to the layer above: `asks` answers exactly what the words ask
+//! for, and none exactly where they ask for nothing.
 #![tactic(auto)]
 
 mod kind;

@@ -1,4 +1,4 @@
-// The words behind the command, read one by one.
+//! The words behind the command, read one by one.
 
 ghost use Rattle.std.specs.Prelude.{◌≡◌, map, string_bytes, MatchBool, MatchOption, IfOk, OnOk};
 ghost use Rattle.asks.specs.Lines.{Words, Gives};

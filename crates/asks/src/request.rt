@@ -1,4 +1,4 @@
-// What a list of words asks for.
+//! What a list of words asks for.
 
 ghost use Rattle.std.specs.Prelude.{◌≡◌, ◌≢◌, codes, [], ◌∷◌, ℕ, map, string_bytes, MatchOption, IfOk};
 ghost use Rattle.asks.specs.Lines.{Word, Words};

@@ -1,4 +1,4 @@
-// The text for words that ask for nothing.
+//! The text for words that ask for nothing.
 
 ghost use Rattle.std.specs.Prelude.{◌≡◌};
 ghost use Rattle.asks.specs.Usage.{usage_text};

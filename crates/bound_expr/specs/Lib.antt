@@ -10,3 +10,5 @@ pub mod Growth
 pub mod Worked
 -- what proofs and the crates above cite besides
 pub mod Kinds
+-- the crates below, which callers name through this one
+pub use Rattle.model.specs as model

@@ -36,5 +36,5 @@ abbrev pub is_large : Bound → Bool
 is_large b = nat_lt node_limit (node_count b) || nat_lt depth_limit (depth_of b)
 
 -- the number of nodes as it is told: where there are more than its type holds, the maximum number of that
-abbrev pub told_nodes : Bound → ℕ
-told_nodes b = min (node_count b) (2 ^ 64 - 1)
+abbrev pub capped_node_count : Bound → ℕ
+capped_node_count b = min (node_count b) (2 ^ 64 - 1)

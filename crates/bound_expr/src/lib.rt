@@ -1,6 +1,6 @@
-// Bounds: expressions over the absolute values of the start arguments, with no subtraction, so that their value grows
-// with each of them. Contracts see a bound as the plain expression `bound_of b`, whose value at m is `val (bound_of b)
-// m`.
+//! Bounds: expressions over the absolute values of the start arguments, with no subtraction, so that their value grows
+//! with each of them. Contracts see a bound as the plain expression `bound_of b`, whose value at m is `val (bound_of b)
+//! m`.
 #![tactic(auto)]
 
 mod bound;

@@ -5,15 +5,15 @@ use Rattle.std.proofs.Common.{Vec, Box, Global}
 use Rattle.std.proofs.Math.Dec.{eqb-suc-zero}
 use Rattle.std.specs.List.{list_all}
 use Rattle.std.proofs.lemmas.List.{length-map}
-use Rattle.model.specs.Bounds as plain
-use Rattle.model.specs.Bounds.{Constant, Input, SumOf, ProductOf, MaximumOf, PowerOf}
+use Rattle.bound_expr.specs.model.Bounds as plain
+use Rattle.bound_expr.specs.model.Bounds.{Constant, Input, SumOf, ProductOf, MaximumOf, PowerOf}
 use Rattle.bound_expr.specs.declared.bound.Bound.{Bound, Const, Var, Sum, Prod, Max, Power}
 use Rattle.bound_expr.specs.Views.{bound_of, bounds_of, parts_of}
 use Rattle.bound_expr.specs.Tidy.{IsNoMaximum}
 use Rattle.bound_expr.proofs.Views.{bound_of-Const, bound_of-Var, bound_of-Sum, bound_of-Prod, bound_of-Max}
 use Rattle.bound_expr.proofs.Views.{bound_of-Power}
 use Rattle.bound_expr.proofs.PartLists.{list_of-parts_of}
-use Rattle.bound_table.specs.Below.{each_takes, taken, spare, may_be_spare, below_one, below}
+use Rattle.bound_table.specs.Below.{each_takes, matches, leftovers, may_be_leftover, below_one, below}
 use Rattle.bound_table.specs.Kinds.{is_power_or_input}
 use Rattle.bound_table.specs.Taking.{takes_fully, input_among}
 use Rattle.bound_table.proofs.BelowLevels.{bound_weight, bounds_weight, bounds_weight-list_of, below_is}
@@ -84,19 +84,19 @@ pub fully-unfound : (related : plain.Bound → plain.Bound → Bool) (left ps qs
     → (length left == 0) ≡ false → false ≡ takes_fully related ps qs
 fully-unfound related [] ps qs found some = cc
 fully-unfound related (p ∷ left) ps qs found some =
-    ap (λ v. v && list_all (may_be_spare (taken related ps qs)) (spare related ps qs)) found
+    ap (λ v. v && list_all (may_be_leftover (matches related ps qs)) (leftovers related ps qs)) found
 
 -- and where each finds one, what is left over decides
 pub fully-found : (related : plain.Bound → plain.Bound → Bool) (left ps qs : List plain.Bound) (fit among : Bool)
     → each_takes related left [] ≡ each_takes related ps qs
     → (length left == 0) ≡ true
-    → (fit && list_all is_power_or_input (spare related left [])) ≡ list_all is_power_or_input (spare related ps qs)
-    → among ≡ list_all (input_among (taken related ps qs)) qs → (fit && among) ≡ takes_fully related ps qs
+    → (fit && list_all is_power_or_input (leftovers related left [])) ≡ list_all is_power_or_input (leftovers related ps qs)
+    → among ≡ list_all (input_among (matches related ps qs)) qs → (fit && among) ≡ takes_fully related ps qs
 fully-found related [] ps qs fit among found none fits is =
     ap (λ v. v && among) (sym (and-true fit) ∙ fits)
-    ∙ ap (λ v. list_all is_power_or_input (spare related ps qs) && v) is
+    ∙ ap (λ v. list_all is_power_or_input (leftovers related ps qs) && v) is
     ∙ sym (spare-split related ps qs)
-    ∙ ap (λ v. v && list_all (may_be_spare (taken related ps qs)) (spare related ps qs)) found
+    ∙ ap (λ v. v && list_all (may_be_leftover (matches related ps qs)) (leftovers related ps qs)) found
   where
     and-true : (b : Bool) → (b && true) ≡ b
     and-true true = refl
@@ -119,13 +119,13 @@ pub loop-found : (related : plain.Bound → plain.Bound → Bool) (xs : List Bou
     → rest ≡ []
     → each_takes related (bounds_of xs) rest ≡ each_takes related ps qs
     → (length xs == 0) ≡ true
-    → (fit && list_all is_power_or_input (spare related (bounds_of xs) rest))
-    ≡ list_all is_power_or_input (spare related ps qs)
-    → among ≡ list_all (input_among (taken related ps qs)) qs
+    → (fit && list_all is_power_or_input (leftovers related (bounds_of xs) rest))
+    ≡ list_all is_power_or_input (leftovers related ps qs)
+    → among ≡ list_all (input_among (matches related ps qs)) qs
     → (fit && among) ≡ takes_fully related ps qs
 loop-found related xs rest ps qs fit among none found empty fits is =
     let left = bounds_of xs in
-    let over = λ (gs : List plain.Bound). fit && list_all is_power_or_input (spare related left gs) in
+    let over = λ (gs : List plain.Bound). fit && list_all is_power_or_input (leftovers related left gs) in
     fully-found related left ps qs fit among (sym (ap (each_takes related left) none) ∙ found)
     (ap (λ (n : ℕ). n == 0) (length-map xs bound_of) ∙ empty)
     (sym (ap over none) ∙ fits) is

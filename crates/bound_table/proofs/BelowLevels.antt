@@ -3,14 +3,14 @@
 use Rattle.std.proofs.Common.{◌≡◌, ℕ, zero, suc, ◌+◌, ◌*◌, ◌<◌, ◌≤◌, max, nat_le, Bool, true, false, cond, not, ◌&&◌}
 use Rattle.std.proofs.Common.{◌||◌, List, [], ◌∷◌, refl, ap, ◌∙◌, arith}
 use Rattle.std.specs.List.{list_any, list_all}
-use Rattle.model.specs.Bounds.{Bound, Constant, Input, SumOf, ProductOf, MaximumOf, PowerOf, Parts, NoParts, Part}
+use Rattle.bound_expr.specs.model.Bounds.{Bound, Constant, Input, SumOf, ProductOf, MaximumOf, PowerOf, Parts, NoParts, Part}
 use Rattle.bound_expr.specs.Views.{list_of}
 use Rattle.bound_expr.specs.Measure.{node_count, node_count_of_all}
 use Rattle.bound_expr.specs.Tidy.{IsNoMaximum}
 use Rattle.bound_expr.specs.Kinds.{is_constant}
 use Rattle.bound_table.specs.Kinds.{is_nest}
 use Rattle.bound_table.specs.Terms.{constant_of, factors_of, after_constant}
-use Rattle.bound_table.specs.Below.{each_takes, taken, spare, may_be_spare, factor_below, term_below, terms_of}
+use Rattle.bound_table.specs.Below.{each_takes, matches, leftovers, may_be_leftover, factor_below, term_below, terms_of}
 use Rattle.bound_table.specs.Below.{below_one, below_step, below_within, below}
 
 -- the weight of a bound that is compared as a bound
@@ -126,22 +126,22 @@ each_takes-agree n f g (p ∷ ps) (q ∷ qs) same h =
 -- the same are taken
 taken-agree : (n : ℕ) (f g : Bound → Bound → Bool) (ps qs : List Bound) → AgreeOnFactors n f g
     → factors_weight ps + factors_weight qs ≤ n
-    → taken f ps qs ≡ taken g ps qs
+    → matches f ps qs ≡ matches g ps qs
 taken-agree n f g [] qs same h = refl
 taken-agree n f g (p ∷ ps) [] same h = refl
 taken-agree n f g (p ∷ ps) (q ∷ qs) same h =
-    same-cond (f p q) (g p q) (q ∷ taken f ps qs) (q ∷ taken g ps qs) (taken f (p ∷ ps) qs) (taken g (p ∷ ps) qs)
+    same-cond (f p q) (g p q) (q ∷ matches f ps qs) (q ∷ matches g ps qs) (matches f (p ∷ ps) qs) (matches g (p ∷ ps) qs)
     (same p q (omega arith)) (ap (λ (ts : List Bound). q ∷ ts) (taken-agree n f g ps qs same (omega arith)))
     (taken-agree n f g (p ∷ ps) qs same (omega arith))
 
 -- and the same are left over
 spare-agree : (n : ℕ) (f g : Bound → Bound → Bool) (ps qs : List Bound) → AgreeOnFactors n f g
     → factors_weight ps + factors_weight qs ≤ n
-    → spare f ps qs ≡ spare g ps qs
+    → leftovers f ps qs ≡ leftovers g ps qs
 spare-agree n f g [] qs same h = refl
 spare-agree n f g (p ∷ ps) [] same h = refl
 spare-agree n f g (p ∷ ps) (q ∷ qs) same h =
-    same-cond (f p q) (g p q) (spare f ps qs) (spare g ps qs) (q ∷ spare f (p ∷ ps) qs) (q ∷ spare g (p ∷ ps) qs)
+    same-cond (f p q) (g p q) (leftovers f ps qs) (leftovers g ps qs) (q ∷ leftovers f (p ∷ ps) qs) (q ∷ leftovers g (p ∷ ps) qs)
     (same p q (omega arith)) (spare-agree n f g ps qs same (omega arith))
     (ap (λ (ts : List Bound). q ∷ ts) (spare-agree n f g (p ∷ ps) qs same (omega arith)))
 
@@ -179,13 +179,13 @@ term_below-agree n f g same p q h =
     let on_factors = factor_below-agree n f g same in
     let before =
     not (list_any is_constant fs) && not (list_any is_constant gs) && nat_le (constant_of p) (constant_of q) in
-    ap (λ v. before && v && list_all (may_be_spare (taken (factor_below f) fs gs)) (spare (factor_below f) fs gs))
+    ap (λ v. before && v && list_all (may_be_leftover (matches (factor_below f) fs gs)) (leftovers (factor_below f) fs gs))
     (each_takes-agree n (factor_below f) (factor_below g) fs gs on_factors within)
     ∙ ap
-    (λ ts. before && each_takes (factor_below g) fs gs && list_all (may_be_spare ts) (spare (factor_below f) fs gs))
+    (λ ts. before && each_takes (factor_below g) fs gs && list_all (may_be_leftover ts) (leftovers (factor_below f) fs gs))
     (taken-agree n (factor_below f) (factor_below g) fs gs on_factors within)
     ∙ ap
-    (λ ss. before && each_takes (factor_below g) fs gs && list_all (may_be_spare (taken (factor_below g) fs gs)) ss)
+    (λ ss. before && each_takes (factor_below g) fs gs && list_all (may_be_leftover (matches (factor_below g) fs gs)) ss)
     (spare-agree n (factor_below f) (factor_below g) fs gs on_factors within)
 
 -- and a bound with the parts of a maximum

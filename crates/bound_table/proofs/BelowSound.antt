@@ -5,13 +5,13 @@ use Rattle.std.proofs.Common.{◌&&◌, ◌||◌, List, [], ◌∷◌, slice_ind
 use Rattle.std.specs.List.{list_any, list_all}
 use Rattle.std.proofs.Math.Nat.{pow-le-pow_left, pow-le-pow_right, one-le-pow}
 use Rattle.std.proofs.lemmas.Bool.{and_parts, eqb-true, leb-true}
-use Rattle.model.specs.Bounds.{Bound, Constant, Input, SumOf, ProductOf, MaximumOf, PowerOf, val, IsBasedFrom, IsBased}
+use Rattle.bound_expr.specs.model.Bounds.{Bound, Constant, Input, SumOf, ProductOf, MaximumOf, PowerOf, val, IsBasedFrom, IsBased}
 use Rattle.bound_expr.specs.Views.{list_of}
 use Rattle.bound_expr.specs.Measure.{node_count}
 use Rattle.bound_expr.specs.Kinds.{is_constant}
 use Rattle.bound_table.specs.Kinds.{is_same_input, is_nest}
 use Rattle.bound_table.specs.Terms.{constant_of, factors_of}
-use Rattle.bound_table.specs.Below.{each_takes, taken, spare, may_be_spare, factor_below, term_below, terms_of}
+use Rattle.bound_table.specs.Below.{each_takes, matches, leftovers, may_be_leftover, factor_below, term_below, terms_of}
 use Rattle.bound_table.specs.Below.{below_one, below_step, below_within, below, IsNeverGreater}
 use Rattle.bound_expr.proofs.Caps.{le-mul}
 use Rattle.bound_table.proofs.Each.{Each, Each-list_of, Each-factors_of}
@@ -24,24 +24,24 @@ IsSoundAt m related = (p q : Bound) → IsBased p → IsBased q → related p q 
 -- those that are taken and those that are left are all
 product-taken-spare : (related : Bound → Bound → Bool) (fs gs : List Bound) (m : List ℕ)
     → each_takes related fs gs ≡ true
-    → product_at gs m ≡ product_at (taken related fs gs) m * product_at (spare related fs gs) m
+    → product_at gs m ≡ product_at (matches related fs gs) m * product_at (leftovers related fs gs) m
 product-taken-spare related [] gs m found = omega arith
 product-taken-spare related (f ∷ fs) [] m found = cc
 product-taken-spare related (f ∷ fs) (g ∷ gs) m found =
     go (related f g) found (product-taken-spare related fs gs m) (product-taken-spare related (f ∷ fs) gs m)
   where
     go : (takes : Bool) → cond takes (each_takes related fs gs) (each_takes related (f ∷ fs) gs) ≡ true
-        → (each_takes related fs gs ≡ true → product_at gs m ≡ product_at (taken related fs gs) m * product_at (spare related fs gs) m)
-        → (each_takes related (f ∷ fs) gs ≡ true → product_at gs m ≡ product_at (taken related (f ∷ fs) gs) m * product_at (spare related (f ∷ fs) gs) m)
+        → (each_takes related fs gs ≡ true → product_at gs m ≡ product_at (matches related fs gs) m * product_at (leftovers related fs gs) m)
+        → (each_takes related (f ∷ fs) gs ≡ true → product_at gs m ≡ product_at (matches related (f ∷ fs) gs) m * product_at (leftovers related (f ∷ fs) gs) m)
         → val g m * product_at gs m
-        ≡ product_at (cond takes (g ∷ taken related fs gs) (taken related (f ∷ fs) gs)) m * product_at (cond takes (spare related fs gs) (g ∷ spare related (f ∷ fs) gs)) m
+        ≡ product_at (cond takes (g ∷ matches related fs gs) (matches related (f ∷ fs) gs)) m * product_at (cond takes (leftovers related fs gs) (g ∷ leftovers related (f ∷ fs) gs)) m
     go true found ih ih' = omega (arith, ap (λ (v : ℕ). val g m * v) (ih found))
     go false found ih ih' = omega (arith, ap (λ (v : ℕ). val g m * v) (ih' found))
 
 -- each factor is at most the one that it takes
 product-le-taken : (related : Bound → Bound → Bool) (fs gs : List Bound) (m : List ℕ) → IsSoundAt m related
     → Each IsBased fs → Each IsBased gs
-    → each_takes related fs gs ≡ true → product_at fs m ≤ product_at (taken related fs gs) m
+    → each_takes related fs gs ≡ true → product_at fs m ≤ product_at (matches related fs gs) m
 product-le-taken related [] gs m sound bf bg found = omega arith
 product-le-taken related (f ∷ fs) [] m sound bf bg found = cc
 product-le-taken related (f ∷ fs) (g ∷ gs) m sound bf bg found =
@@ -50,11 +50,11 @@ product-le-taken related (f ∷ fs) (g ∷ gs) m sound bf bg found =
   where
     go : (takes : Bool) → related f g ≡ takes
         → cond takes (each_takes related fs gs) (each_takes related (f ∷ fs) gs) ≡ true
-        → (each_takes related fs gs ≡ true → product_at fs m ≤ product_at (taken related fs gs) m)
-        → (each_takes related (f ∷ fs) gs ≡ true → product_at (f ∷ fs) m ≤ product_at (taken related (f ∷ fs) gs) m)
-        → product_at (f ∷ fs) m ≤ product_at (cond takes (g ∷ taken related fs gs) (taken related (f ∷ fs) gs)) m
+        → (each_takes related fs gs ≡ true → product_at fs m ≤ product_at (matches related fs gs) m)
+        → (each_takes related (f ∷ fs) gs ≡ true → product_at (f ∷ fs) m ≤ product_at (matches related (f ∷ fs) gs) m)
+        → product_at (f ∷ fs) m ≤ product_at (cond takes (g ∷ matches related fs gs) (matches related (f ∷ fs) gs)) m
     go true is found ih ih' =
-        le-mul (val f m) (product_at fs m) (val g m) (product_at (taken related fs gs) m) (sound f g bf.0 bg.0 is)
+        le-mul (val f m) (product_at fs m) (val g m) (product_at (matches related fs gs) m) (sound f g bf.0 bg.0 is)
         (ih found)
     go false is found ih ih' = ih' found
 
@@ -84,7 +84,7 @@ among-zero g (t ∷ ts) m any none = go (is_same_input g t) refl any (among-zero
     go false is any ih = ap (λ (v : ℕ). val t m * v) (ih any none) ∙ omega arith
 
 -- a factor that may be left is at least 1, or those that are taken make 0
-spare-one : (ts : List Bound) (g : Bound) (m : List ℕ) → IsBased g → may_be_spare ts g ≡ true
+spare-one : (ts : List Bound) (g : Bound) (m : List ℕ) → IsBased g → may_be_leftover ts g ≡ true
     → (1 ≤ val g m) ⊎ (product_at ts m ≡ 0)
 spare-one ts (PowerOf c e) m based may = inl (one-le-pow (val e m) c based.0)
 spare-one ts (Input i) m based may = go (val (Input i) m) refl
@@ -98,7 +98,7 @@ spare-one ts (ProductOf ps) m based may = cc
 spare-one ts (MaximumOf ps) m based may = cc
 
 -- the same of all factors that are left
-spares-one : (ts gs : List Bound) (m : List ℕ) → Each IsBased gs → list_all (may_be_spare ts) gs ≡ true
+spares-one : (ts gs : List Bound) (m : List ℕ) → Each IsBased gs → list_all (may_be_leftover ts) gs ≡ true
     → (1 ≤ product_at gs m) ⊎ (product_at ts m ≡ 0)
 spares-one ts [] m based all = inl (omega arith)
 spares-one ts (g ∷ gs) m based all =
@@ -112,37 +112,37 @@ spares-one ts (g ∷ gs) m based all =
 
 -- what is left has the bases of all
 spare-based : (related : Bound → Bound → Bool) (fs gs : List Bound) → Each IsBased gs
-    → Each IsBased (spare related fs gs)
+    → Each IsBased (leftovers related fs gs)
 spare-based related [] gs based = based
 spare-based related (f ∷ fs) [] based = tt
 spare-based related (f ∷ fs) (g ∷ gs) based =
     go (related f g) (spare-based related fs gs based.1) (spare-based related (f ∷ fs) gs based.1)
   where
-    go : (takes : Bool) → Each IsBased (spare related fs gs) → Each IsBased (spare related (f ∷ fs) gs)
-        → Each IsBased (cond takes (spare related fs gs) (g ∷ spare related (f ∷ fs) gs))
+    go : (takes : Bool) → Each IsBased (leftovers related fs gs) → Each IsBased (leftovers related (f ∷ fs) gs)
+        → Each IsBased (cond takes (leftovers related fs gs) (g ∷ leftovers related (f ∷ fs) gs))
     go true ih ih' = ih
     go false ih ih' = (based.0, ih')
 
 -- products of factors
 factors-le : (related : Bound → Bound → Bool) (fs gs : List Bound) (m : List ℕ) → IsSoundAt m related → Each IsBased fs
     → Each IsBased gs
-    → each_takes related fs gs ≡ true → list_all (may_be_spare (taken related fs gs)) (spare related fs gs) ≡ true
+    → each_takes related fs gs ≡ true → list_all (may_be_leftover (matches related fs gs)) (leftovers related fs gs) ≡ true
     → product_at fs m ≤ product_at gs m
 factors-le related fs gs m sound bf bg found all =
-    go (spares-one (taken related fs gs) (spare related fs gs) m (spare-based related fs gs bg) all)
+    go (spares-one (matches related fs gs) (leftovers related fs gs) m (spare-based related fs gs bg) all)
   where
-    less : product_at fs m ≤ product_at (taken related fs gs) m
+    less : product_at fs m ≤ product_at (matches related fs gs) m
     less = product-le-taken related fs gs m sound bf bg found
 
-    go : (1 ≤ product_at (spare related fs gs) m) ⊎ (product_at (taken related fs gs) m ≡ 0)
+    go : (1 ≤ product_at (leftovers related fs gs) m) ⊎ (product_at (matches related fs gs) m ≡ 0)
         → product_at fs m ≤ product_at gs m
     go (inl ones) =
         omega (
           arith,
           less,
           product-taken-spare related fs gs m found,
-          le-mul (product_at (taken related fs gs) m) 1 (product_at (taken related fs gs) m)
-              (product_at (spare related fs gs) m) (omega arith) ones,
+          le-mul (product_at (matches related fs gs) m) 1 (product_at (matches related fs gs) m)
+              (product_at (leftovers related fs gs) m) (omega arith) ones,
         )
     go (inr none) = omega (arith, less, none)
 
@@ -173,7 +173,7 @@ term_below-sound smaller m sound p q bp bq holds =
     let none_either = not (list_any is_constant gs) in
     let constant_le = nat_le (constant_of p) (constant_of q) in
     let found = each_takes related fs gs in
-    let left = list_all (may_be_spare (taken related fs gs)) (spare related fs gs) in
+    let left = list_all (may_be_leftover (matches related fs gs)) (leftovers related fs gs) in
     let four = and_parts (no_constant && none_either && constant_le && found) left holds in
     let three = and_parts (no_constant && none_either && constant_le) found four.0 in
     let two = and_parts (no_constant && none_either) constant_le three.0 in

@@ -5,13 +5,14 @@ use Rattle.std.specs.List.{list_any, count_by}
 use Rattle.std.specs.Ordering.{is_lt}
 use Rattle.std.proofs.lemmas.Bool.{eqb-true, leb-true}
 use Rattle.std.proofs.Math.Nat.{mul_assoc, mul_comm}
-use Rattle.model.specs.Bounds.{Bound, Constant, Input, SumOf, ProductOf, MaximumOf, PowerOf, val}
+use Rattle.bound_expr.specs.model.Bounds.{Bound, Constant, Input, SumOf, ProductOf, MaximumOf, PowerOf, val}
 use Rattle.bound_expr.specs.Kinds.{is_constant}
 use Rattle.bound_expr.specs.Limits.{constant_limit}
 use Rattle.bound_table.specs.declared.kinds.Kind.{Kind}
 use Rattle.bound_table.specs.declared.kinds.Kind.TheVariants.{AsSum, AsProd, AsMax}
 use Rattle.bound_table.specs.Kinds.{whole, unit_of, joined, all_joined, is_zero}
-use Rattle.bound_table.specs.Folding.{spread, spliced, constants_in, without_constants, with_one_constant, folded}
+use Rattle.bound_table.specs.Folding.{parts_of_kind, spliced, constants_in, without_constants, with_one_constant}
+use Rattle.bound_table.specs.Folding.{folded}
 use Rattle.bound_table.specs.Folding.{zeroed, is_neutral, without_neutral, simple}
 use Rattle.bound_table.specs.Sorting.{order_of, inserted, sorted}
 use Rattle.bound_table.proofs.Products.{parts_at, val_sum-list_of, val_product-list_of, val_maximum-list_of}
@@ -61,7 +62,7 @@ parts_at-append k (p ∷ ps) qs m =
     ∙ sym (joined-assoc k (val p m) (parts_at k ps m) (parts_at k qs m))
 
 -- Flat
-parts_at-spread : (k : Kind) (p : Bound) (m : List ℕ) → parts_at k (spread k p) m ≡ val p m
+parts_at-spread : (k : Kind) (p : Bound) (m : List ℕ) → parts_at k (parts_of_kind k p) m ≡ val p m
 parts_at-spread AsSum (SumOf ps) m = sym (val_sum-list_of ps m)
 parts_at-spread AsProd (ProductOf ps) m = sym (val_product-list_of ps m)
 parts_at-spread AsMax (MaximumOf ps) m = sym (val_maximum-list_of ps m)
@@ -71,7 +72,7 @@ parts_at-spread k p m = joined-unit k (val p m)
 pub parts_at-spliced : (k : Kind) (ps : List Bound) (m : List ℕ) → parts_at k (spliced k ps) m ≡ parts_at k ps m
 parts_at-spliced k [] m = refl
 parts_at-spliced k (p ∷ ps) m =
-    parts_at-append k (spread k p) (spliced k ps) m
+    parts_at-append k (parts_of_kind k p) (spliced k ps) m
     ∙ ap (λ (v : ℕ). joined k v (parts_at k (spliced k ps) m)) (parts_at-spread k p m)
     ∙ ap (joined k (val p m)) (parts_at-spliced k ps m)
 

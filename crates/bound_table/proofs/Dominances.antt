@@ -7,8 +7,8 @@ use Rattle.std.proofs.Math.Seq.{take-append_seam, drop-append_seam}
 use Rattle.std.proofs.lemmas.List.{take_more, drop_more, map-append, take-map, drop-map, get_or-map, length-map}
 use Rattle.std.proofs.lemmas.List.{length-take-le, length-drop, take_all}
 use Rattle.std.proofs.lemmas.List.Folds.{list_any-append}
-use Rattle.model.specs.Bounds as plain
-use Rattle.model.specs.Bounds.{Constant}
+use Rattle.bound_expr.specs.model.Bounds as plain
+use Rattle.bound_expr.specs.model.Bounds.{Constant}
 use Rattle.bound_expr.specs.declared.bound.Bound.{Bound}
 use Rattle.bound_expr.specs.Views.{bound_of, bounds_of}
 use Rattle.bound_table.specs.Below.{below}

@@ -1,6 +1,6 @@
 -- Constants joined one after another.
 use Rattle.std.proofs.Common.{◌≡◌, ℕ, ◌*◌, ◌≤◌, min, List, ◌∷◌, refl, ap, ◌∙◌, arith}
-use Rattle.model.specs.Bounds.{Bound, Constant, Input, SumOf, ProductOf, MaximumOf, PowerOf}
+use Rattle.bound_expr.specs.model.Bounds.{Bound, Constant, Input, SumOf, ProductOf, MaximumOf, PowerOf}
 use Rattle.bound_expr.specs.Limits.{cap}
 use Rattle.bound_expr.specs.Capped.{capped}
 use Rattle.bound_expr.proofs.Caps.{min-mul_left}

@@ -4,7 +4,7 @@ use Rattle.std.proofs.Common.{refl, ap, sym, ◌∙◌, arith}
 use Rattle.std.specs.List.{list_any}
 use Rattle.std.specs.Ordering.{is_eq}
 use Rattle.std.specs.Cmp.Lexicographic.{slice_cmp}
-use Rattle.model.specs.Bounds.{Bound, val, IsBased}
+use Rattle.bound_expr.specs.model.Bounds.{Bound, val, IsBased}
 use Rattle.bound_expr.specs.Views.{parts_of, list_of}
 use Rattle.bound_expr.specs.Limits.{constant_limit}
 use Rattle.bound_expr.proofs.PartLists.{list_of-parts_of}

@@ -3,7 +3,7 @@ use Rattle.std.proofs.Common.{◌≡◌, ℕ, zero, suc, ◌+◌, ◌<◌, ◌�
 use Rattle.std.proofs.Common.{arith}
 use Rattle.std.proofs.lemmas.List.{drop_more, drop_all}
 use Rattle.bound_expr.specs.declared.bound.Bound.{Bound}
-use Rattle.model.specs.Bounds as plain
+use Rattle.bound_expr.specs.model.Bounds as plain
 use Rattle.bound_expr.specs.Views.{bound_of, bounds_of}
 use Rattle.bound_table.proofs.BelowLevels.{bound_weight, bounds_weight, factor_weight, factors_weight}
 use Rattle.bound_expr.proofs.Views.{seen}

@@ -8,7 +8,7 @@ use Rattle.std.specs.declared.cmp.Ordering.{Ordering}
 use Rattle.std.specs.declared.cmp.Ordering.TheVariants.{Less, Equal, Greater}
 use Rattle.std.specs.Ordering.{is_lt, ordering_reverse}
 use Rattle.std.specs.Cmp.{IsTotalOrder}
-use Rattle.model.specs.Bounds as plain
+use Rattle.bound_expr.specs.model.Bounds as plain
 use Rattle.bound_table.specs.declared.kinds.Kind.{Kind}
 use Rattle.bound_table.specs.Sorting.{order_of, inserted, sorted, coming_before, not_before, merged}
 use Rattle.bound_table.proofs.TotalOrder.{order_of-total}

@@ -1,8 +1,8 @@
 -- What is said of the numbers of a bound, node by node, is said of those of its rewriting.
 use Rattle.std.proofs.Common.{◌≡◌, ℕ, zero, suc, ◌≤◌, Bool, true, false, cond, List, [], ◌∷◌, sym, ◌∙◌, subst, arith}
 use Rattle.std.specs.List.{list_any}
-use Rattle.model.specs.Bounds.{Bound, Constant, Input, SumOf, ProductOf, MaximumOf, PowerOf, Parts, NoParts, Part}
-use Rattle.model.specs.Bounds.{EachNode, EachNodeOfAll, IsBasedFrom, IsBased}
+use Rattle.bound_expr.specs.model.Bounds.{Bound, Constant, Input, SumOf, ProductOf, MaximumOf, PowerOf, Parts, NoParts, Part}
+use Rattle.bound_expr.specs.model.Bounds.{EachNode, EachNodeOfAll, IsBasedFrom, IsBased}
 use Rattle.bound_expr.specs.Limits.{constant_limit}
 use Rattle.bound_expr.specs.Numbers.{IsSmallConstant, IsTidyNumber, IsInputBelow}
 use Rattle.bound_expr.specs.Views.{parts_of, list_of}
@@ -15,7 +15,7 @@ use Rattle.bound_table.specs.declared.kinds.Kind.{Kind}
 use Rattle.bound_table.specs.declared.kinds.Kind.TheVariants.{AsSum, AsProd, AsMax}
 use Rattle.bound_table.specs.Kinds.{whole, unit_of, is_zero}
 use Rattle.bound_table.specs.Terms.{factors_of}
-use Rattle.bound_table.specs.Folding.{spread, spliced, folded, zeroed, without_neutral, simple}
+use Rattle.bound_table.specs.Folding.{parts_of_kind, spliced, folded, zeroed, without_neutral, simple}
 use Rattle.bound_table.specs.Sorting.{sorted}
 use Rattle.bound_table.specs.Likes.{times, likes_joined}
 use Rattle.bound_table.specs.Dominance.{dominant}
@@ -42,7 +42,7 @@ module _ (F : Bound → Type 0) (of : IsOfNumbers F) (constant : (c : ℕ) → c
   whole-each AsMax ps each = (of.maximum (parts_of ps), Each-parts_of F ps each)
 
   -- the parts of a part
-  spread-each : (k : Kind) (p : Bound) → EachNode F p → Each (EachNode F) (spread k p)
+  spread-each : (k : Kind) (p : Bound) → EachNode F p → Each (EachNode F) (parts_of_kind k p)
   spread-each AsSum (SumOf ps) each = Each-list_of F ps each.1
   spread-each AsProd (ProductOf ps) each = Each-list_of F ps each.1
   spread-each AsMax (MaximumOf ps) each = Each-list_of F ps each.1

@@ -3,14 +3,15 @@ use Rattle.std.proofs.Common.{◌≡◌, ℕ, ◌≤◌, nat_le, Bool, true, fal
 use Rattle.std.specs.List.{list_any, count_by}
 use Rattle.std.specs.Ordering.{is_lt}
 use Rattle.std.proofs.lemmas.Bool.{leb-true}
-use Rattle.model.specs.Bounds.{Bound, Constant}
+use Rattle.bound_expr.specs.model.Bounds.{Bound, Constant}
 use Rattle.bound_expr.specs.Limits.{constant_limit}
 use Rattle.bound_expr.specs.Kinds.{is_constant}
 use Rattle.bound_table.specs.declared.kinds.Kind.{Kind}
 use Rattle.bound_table.specs.declared.kinds.Kind.TheVariants.{AsSum, AsProd, AsMax}
 use Rattle.bound_table.specs.Kinds.{all_joined}
 use Rattle.bound_table.specs.Terms.{factors_of}
-use Rattle.bound_table.specs.Folding.{spread, spliced, constants_in, without_constants, with_one_constant, folded}
+use Rattle.bound_table.specs.Folding.{parts_of_kind, spliced, constants_in, without_constants, with_one_constant}
+use Rattle.bound_table.specs.Folding.{folded}
 use Rattle.bound_table.specs.Folding.{is_neutral, without_neutral}
 use Rattle.bound_table.specs.Sorting.{order_of, inserted, sorted}
 use Rattle.bound_table.specs.Likes.{are_same_factors, is_like, Run, run_parts, with_part_before, runs_of}
@@ -22,16 +23,16 @@ use Rattle.bound_table.proofs.Each.{Each, IsFilled, Each-append}
 -- a fact that holds of what a case makes new among the parts of a node of the kind
 pub record IsKept (k : Kind) (P : Bound → Type 0) : Type 0 where
   pub constant : (c : ℕ) → c ≤ constant_limit → P (Constant c)
-  pub inner : (p : Bound) → P p → Each P (spread k p)
+  pub inner : (p : Bound) → P p → Each P (parts_of_kind k p)
   pub product : k ≡ AsSum → (c : ℕ) (p : Bound) → c ≤ constant_limit → IsFilled (factors_of p) → P p
       → P (times c (factors_of p))
 
 -- splicing keeps what holds of the parts of a part
-pub Each-spliced : (k : Kind) (P : Bound → Type 0) (ps : List Bound) → ((p : Bound) → P p → Each P (spread k p))
+pub Each-spliced : (k : Kind) (P : Bound → Type 0) (ps : List Bound) → ((p : Bound) → P p → Each P (parts_of_kind k p))
     → Each P ps → Each P (spliced k ps)
 Each-spliced k P [] inner each = tt
 Each-spliced k P (p ∷ ps) inner each =
-    Each-append P (spread k p) (spliced k ps) (inner p each.0) (Each-spliced k P ps inner each.1)
+    Each-append P (parts_of_kind k p) (spliced k ps) (inner p each.0) (Each-spliced k P ps inner each.1)
 
 -- dropping constants keeps what holds of each part
 Each-without_constants : (P : Bound → Type 0) (ps : List Bound) → Each P ps → Each P (without_constants ps)

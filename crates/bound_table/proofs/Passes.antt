@@ -1,6 +1,6 @@
 -- Passes: one more part, and passes that change nothing.
 use Rattle.std.proofs.Common.{Bool, true, false, cond, ◌≡◌, ℕ, zero, suc, ◌-◌, ◌<◌, List, refl, ap, sym, ◌∙◌, arith}
-use Rattle.model.specs.Bounds.{Bound, Parts, NoParts, Part}
+use Rattle.bound_expr.specs.model.Bounds.{Bound, Parts, NoParts, Part}
 use Rattle.bound_expr.specs.Views.{with_part}
 use Rattle.bound_expr.proofs.Lists.{parts_of-push, parts_of-take_more}
 use Rattle.bound_table.specs.declared.kinds.Case.{Case}

@@ -1,7 +1,7 @@
 -- Runs of neighbours that are alike.
 use Rattle.std.proofs.Common.{◌≡◌, ℕ, zero, suc, ◌+◌, Bool, true, false, cond, List, [], ◌∷◌, ◌++◌, length, get_or}
 use Rattle.std.proofs.Common.{refl, ap, sym, ◌∙◌, append-nil, append_assoc, subst, arith}
-use Rattle.model.specs.Bounds as plain
+use Rattle.bound_expr.specs.model.Bounds as plain
 use Rattle.bound_expr.specs.declared.bound.Bound.{Bound}
 use Rattle.bound_expr.specs.Views.{bound_of, bounds_of}
 use Rattle.bound_table.specs.Likes.{is_like, Run, run_parts, with_part_before, runs_of, joined_list, all_runs_joined}

@@ -6,13 +6,13 @@ use Rattle.std.specs.List.{list_any, list_all}
 use Rattle.std.proofs.lemmas.Bool.{eqb-true, eqb-false}
 use Rattle.std.proofs.Common.{eq-eqb}
 use Rattle.std.proofs.lemmas.List.{length-set, get_or-set_same, get_or-set_other, length-replicate, get_or-replicate}
-use Rattle.model.specs.Bounds.{Bound, Constant, Input, SumOf, ProductOf, MaximumOf, PowerOf}
+use Rattle.bound_expr.specs.model.Bounds.{Bound, Constant, Input, SumOf, ProductOf, MaximumOf, PowerOf}
 use Rattle.bound_table.specs.Kinds.{is_power_or_input, is_same_input}
-use Rattle.bound_table.specs.Below.{taken, spare, may_be_spare}
+use Rattle.bound_table.specs.Below.{matches, leftovers, may_be_leftover}
 use Rattle.bound_table.specs.Taking.{marked_one, marked, input_among, IsMarked}
 
 -- nothing is taken or left of no parts
-pub taken-none : (related : Bound → Bound → Bool) (ps : List Bound) → taken related ps [] ≡ []
+pub taken-none : (related : Bound → Bound → Bool) (ps : List Bound) → matches related ps [] ≡ []
 taken-none related [] = refl
 taken-none related (p ∷ ps) = refl
 
@@ -124,7 +124,7 @@ AllAmong-self [] = tt
 AllAmong-self (t ∷ ts) = (input_among-first ts t, AllAmong-more ts t ts (AllAmong-self ts))
 
 -- what may be left is a power or an input, and the input is among what is taken
-spare-kind : (us : List Bound) (g : Bound) → may_be_spare us g ≡ (is_power_or_input g && input_among us g)
+spare-kind : (us : List Bound) (g : Bound) → may_be_leftover us g ≡ (is_power_or_input g && input_among us g)
 spare-kind us (Input i) = refl
 spare-kind us (Constant c) = refl
 spare-kind us (SumOf ps) = refl
@@ -140,34 +140,35 @@ and-swap true false false d = refl
 and-swap false b c d = refl
 
 -- what is left over may be left where it is powers and inputs, and every input offered is among those that are taken
-spare-split_among : (related : Bound → Bound → Bool) (us ps qs : List Bound) → AllAmong us (taken related ps qs)
-    → list_all (may_be_spare us) (spare related ps qs)
-    ≡ (list_all is_power_or_input (spare related ps qs) && list_all (input_among us) qs)
+spare-split_among : (related : Bound → Bound → Bool) (us ps qs : List Bound) → AllAmong us (matches related ps qs)
+    → list_all (may_be_leftover us) (leftovers related ps qs)
+    ≡ (list_all is_power_or_input (leftovers related ps qs) && list_all (input_among us) qs)
 spare-split_among related us [] [] all = refl
 spare-split_among related us [] (q ∷ qs) all =
-    ap (λ v. v && list_all (may_be_spare us) qs) (spare-kind us q)
+    ap (λ v. v && list_all (may_be_leftover us) qs) (spare-kind us q)
     ∙ ap (λ v. (is_power_or_input q && input_among us q) && v) (spare-split_among related us [] qs tt)
     ∙ and-swap (is_power_or_input q) (input_among us q) (list_all is_power_or_input qs) (list_all (input_among us) qs)
 spare-split_among related us (p ∷ ps) [] all = refl
 spare-split_among related us (p ∷ ps) (q ∷ qs) all =
     go (related p q) all (spare-split_among related us ps qs) (spare-split_among related us (p ∷ ps) qs)
   where
-    go : (takes : Bool) → AllAmong us (cond takes (q ∷ taken related ps qs) (taken related (p ∷ ps) qs))
-        → (AllAmong us (taken related ps qs) → list_all (may_be_spare us) (spare related ps qs) ≡ (list_all is_power_or_input (spare related ps qs) && list_all (input_among us) qs))
-        → (AllAmong us (taken related (p ∷ ps) qs) → list_all (may_be_spare us) (spare related (p ∷ ps) qs) ≡ (list_all is_power_or_input (spare related (p ∷ ps) qs) && list_all (input_among us) qs))
-        → list_all (may_be_spare us) (cond takes (spare related ps qs) (q ∷ spare related (p ∷ ps) qs))
-        ≡ (list_all is_power_or_input (cond takes (spare related ps qs) (q ∷ spare related (p ∷ ps) qs)) && (input_among us q && list_all (input_among us) qs))
+    go : (takes : Bool) → AllAmong us (cond takes (q ∷ matches related ps qs) (matches related (p ∷ ps) qs))
+        → (AllAmong us (matches related ps qs) → list_all (may_be_leftover us) (leftovers related ps qs) ≡ (list_all is_power_or_input (leftovers related ps qs) && list_all (input_among us) qs))
+        → (AllAmong us (matches related (p ∷ ps) qs) → list_all (may_be_leftover us) (leftovers related (p ∷ ps) qs) ≡ (list_all is_power_or_input (leftovers related (p ∷ ps) qs) && list_all (input_among us) qs))
+        → list_all (may_be_leftover us) (cond takes (leftovers related ps qs) (q ∷ leftovers related (p ∷ ps) qs))
+        ≡ (list_all is_power_or_input (cond takes (leftovers related ps qs) (q ∷ leftovers related (p ∷ ps) qs)) && (input_among us q && list_all (input_among us) qs))
     go true all ih ih' =
         ih all.1
-        ∙ ap (λ v. list_all is_power_or_input (spare related ps qs) && (v && list_all (input_among us) qs)) (sym all.0)
+        ∙ ap (λ v. list_all is_power_or_input (leftovers related ps qs) && (v && list_all (input_among us) qs)) (sym all.0)
     go false all ih ih' =
-        ap (λ v. v && list_all (may_be_spare us) (spare related (p ∷ ps) qs)) (spare-kind us q)
+        ap (λ v. v && list_all (may_be_leftover us) (leftovers related (p ∷ ps) qs)) (spare-kind us q)
         ∙ ap (λ v. (is_power_or_input q && input_among us q) && v) (ih' all)
-        ∙ and-swap (is_power_or_input q) (input_among us q) (list_all is_power_or_input (spare related (p ∷ ps) qs))
+        ∙ and-swap (is_power_or_input q) (input_among us q) (list_all is_power_or_input (leftovers related (p ∷ ps) qs))
         (list_all (input_among us) qs)
 
 -- so what is left over is split into two tests
 pub spare-split : (related : Bound → Bound → Bool) (ps qs : List Bound)
-    → list_all (may_be_spare (taken related ps qs)) (spare related ps qs)
-    ≡ (list_all is_power_or_input (spare related ps qs) && list_all (input_among (taken related ps qs)) qs)
-spare-split related ps qs = spare-split_among related (taken related ps qs) ps qs (AllAmong-self (taken related ps qs))
+    → list_all (may_be_leftover (matches related ps qs)) (leftovers related ps qs)
+    ≡ (list_all is_power_or_input (leftovers related ps qs) && list_all (input_among (matches related ps qs)) qs)
+spare-split related ps qs =
+    spare-split_among related (matches related ps qs) ps qs (AllAmong-self (matches related ps qs))

@@ -3,7 +3,7 @@
 use Rattle.std.proofs.Common.{◌≡◌, ℕ, zero, suc, ◌≤◌, Bool, true, false, cond, List, [], ◌∷◌, ◌++◌, sym, ◌∙◌}
 use Rattle.std.proofs.Common.{subst, arith}
 use Rattle.std.specs.List.{list_any}
-use Rattle.model.specs.Bounds.{Bound, Constant, Input, SumOf, ProductOf, MaximumOf, PowerOf, Parts, NoParts, Part}
+use Rattle.bound_expr.specs.model.Bounds.{Bound, Constant, Input, SumOf, ProductOf, MaximumOf, PowerOf, Parts, NoParts, Part}
 use Rattle.bound_expr.specs.Views.{parts_of, list_of}
 use Rattle.bound_expr.specs.Limits.{constant_limit}
 use Rattle.bound_expr.specs.Numbers.{HasTidyNumbers, HaveTidyNumbers}
@@ -17,7 +17,7 @@ use Rattle.bound_table.specs.declared.kinds.Kind.{Kind}
 use Rattle.bound_table.specs.declared.kinds.Kind.TheVariants.{AsSum, AsProd, AsMax}
 use Rattle.bound_table.specs.Kinds.{whole, is_zero}
 use Rattle.bound_table.specs.Terms.{factors_of}
-use Rattle.bound_table.specs.Folding.{spread, spliced, folded, zeroed, without_neutral, simple}
+use Rattle.bound_table.specs.Folding.{parts_of_kind, spliced, folded, zeroed, without_neutral, simple}
 use Rattle.bound_table.specs.Sorting.{sorted}
 use Rattle.bound_table.specs.Likes.{times, likes_joined}
 use Rattle.bound_table.specs.Dominance.{dominant}
@@ -74,7 +74,7 @@ times-tidy c fs small filled each =
     ((omega (arith, count-filled fs filled), (tt, both.0)), (small, both.1))
 
 -- a part of another kind is its own only part
-no_kind-spread : (k : Kind) (p : Bound) → IsTidyPart k p → Each (IsTidyPart k) (spread k p)
+no_kind-spread : (k : Kind) (p : Bound) → IsTidyPart k p → Each (IsTidyPart k) (parts_of_kind k p)
 no_kind-spread AsSum (SumOf ps) tidy = absurd tidy.1
 no_kind-spread AsProd (ProductOf ps) tidy = absurd tidy.1
 no_kind-spread AsMax (MaximumOf ps) tidy = absurd tidy.1
@@ -187,7 +187,7 @@ HasTidyParts (MaximumOf ps) = Each IsTidy (list_of ps)
 HasTidyParts (PowerOf c e) = (2 ≤ c) × IsTidy e
 
 -- the parts of a tidy part are tidy, and none is of its kind
-tidy-spread : (k : Kind) (p : Bound) → IsTidy p → Each (IsTidyPart k) (spread k p)
+tidy-spread : (k : Kind) (p : Bound) → IsTidy p → Each (IsTidyPart k) (parts_of_kind k p)
 tidy-spread AsSum (SumOf ps) tidy = each-part IsNoSum ps tidy.0.1 tidy.1
 tidy-spread AsProd (ProductOf ps) tidy = each-part IsNoProduct ps tidy.0.1 tidy.1
 tidy-spread AsMax (MaximumOf ps) tidy = each-part IsNoMaximum ps tidy.0.1 tidy.1
@@ -211,7 +211,7 @@ tidy-spread AsMax (PowerOf c e) tidy = ((tidy, tt), tt)
 spliced-tidy : (k : Kind) (ps : List Bound) → Each IsTidy ps → Each (IsTidyPart k) (spliced k ps)
 spliced-tidy k [] each = tt
 spliced-tidy k (p ∷ ps) each =
-    Each-append (IsTidyPart k) (spread k p) (spliced k ps) (tidy-spread k p each.0) (spliced-tidy k ps each.1)
+    Each-append (IsTidyPart k) (parts_of_kind k p) (spliced k ps) (tidy-spread k p each.0) (spliced-tidy k ps each.1)
 
 -- so Flat makes a node of tidy parts nearly tidy
 flat-nearly : (b : Bound) → HasTidyParts b → IsNearlyTidy (at_node Flat b)

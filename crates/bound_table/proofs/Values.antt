@@ -1,8 +1,8 @@
 -- A rewriting keeps the value.
 use Rattle.std.proofs.Common.{◌≡◌, ℕ, zero, suc, ◌*◌, ◌^◌, List, [], ◌∷◌, refl, ap, sym, ◌∙◌}
 use Rattle.std.proofs.Common.{arith}
-use Rattle.model.specs.Bounds.{Bound, Constant, Input, SumOf, ProductOf, MaximumOf, PowerOf, Parts, NoParts, Part, val}
-use Rattle.model.specs.Bounds.{val_sum, val_product, val_maximum, IsBasedFrom, IsBased, AreBased}
+use Rattle.bound_expr.specs.model.Bounds.{Bound, Constant, Input, SumOf, ProductOf, MaximumOf, PowerOf, Parts, NoParts, Part, val}
+use Rattle.bound_expr.specs.model.Bounds.{val_sum, val_product, val_maximum, IsBasedFrom, IsBased, AreBased}
 use Rattle.bound_expr.specs.Views.{list_of}
 use Rattle.bound_expr.proofs.PartLists.{parts_of-list_of}
 use Rattle.bound_table.specs.declared.kinds.Case.{Case}

@@ -1,16 +1,16 @@
 -- What a rewriting within the limits gives is a rewriting, and not large.
 use Rattle.std.proofs.Common.{◌≡◌, Bool, true, false, if◌then◌else◌, refl, sym, subst}
-use Rattle.model.specs.Bounds.{Bound}
+use Rattle.bound_expr.specs.model.Bounds.{Bound}
 use Rattle.bound_expr.specs.Measure.{is_large}
 use Rattle.bound_table.specs.InForce.{rewritten}
-use Rattle.bound_expr.specs.Measure.{told_nodes}
+use Rattle.bound_expr.specs.Measure.{capped_node_count}
 use Rattle.bound_table.specs.Within.{Answer, Fits, TooLarge, unless_large, rewritten_within, WhereFits}
 
 -- a bound is a large one, or it fits
 unless_large-fits : (P : Bound → Type 0) (b : Bound) → (is_large b ≡ false → P b) → WhereFits (unless_large b) P
 unless_large-fits P b fits = go (is_large b) refl
   where
-    go : (large : Bool) → is_large b ≡ large → WhereFits (if large then TooLarge (told_nodes b) else Fits b) P
+    go : (large : Bool) → is_large b ≡ large → WhereFits (if large then TooLarge (capped_node_count b) else Fits b) P
     go true is = tt
     go false is = fits is
 
@@ -21,7 +21,7 @@ unfolding rewritten_within
 rewritten_within-fits P b fits = go (is_large b) (unless_large-fits P (rewritten b) fits)
   where
     go : (large : Bool) → WhereFits (unless_large (rewritten b)) P
-        → WhereFits (if large then TooLarge (told_nodes b) else unless_large (rewritten b)) P
+        → WhereFits (if large then TooLarge (capped_node_count b) else unless_large (rewritten b)) P
     go true after = tt
     go false after = after
 

@@ -1,7 +1,7 @@
 -- When one bound is below another, as a test on their structure.
 use Rattle.std.specs.Prelude.{ℕ, zero, suc, ◌+◌, ◌≤◌, nat_le, ◌&&◌, ◌||◌, not, cond, Bool, true, false, List, [], ◌∷◌}
 use Rattle.std.specs.List.{list_any, list_all}
-use Rattle.model.specs.Bounds.{Bound, Constant, Input, SumOf, MaximumOf, PowerOf, val}
+use Rattle.bound_expr.specs.model.Bounds.{Bound, Constant, Input, SumOf, MaximumOf, PowerOf, val}
 use Rattle.bound_expr.specs.Views.{list_of}
 use Rattle.bound_expr.specs.Measure.{node_count}
 use Rattle.bound_expr.specs.Kinds.{is_constant, is_power, is_input}
@@ -16,20 +16,20 @@ each_takes related (p ∷ ps) [] = false
 each_takes related (p ∷ ps) (q ∷ qs) = cond (related p q) (each_takes related ps qs) (each_takes related (p ∷ ps) qs)
 
 -- those of the second list that are taken so
-abbrev pub taken : (Bound → Bound → Bool) → List Bound → List Bound → List Bound
-taken related [] qs = []
-taken related (p ∷ ps) [] = []
-taken related (p ∷ ps) (q ∷ qs) = cond (related p q) (q ∷ taken related ps qs) (taken related (p ∷ ps) qs)
+abbrev pub matches : (Bound → Bound → Bool) → List Bound → List Bound → List Bound
+matches related [] qs = []
+matches related (p ∷ ps) [] = []
+matches related (p ∷ ps) (q ∷ qs) = cond (related p q) (q ∷ matches related ps qs) (matches related (p ∷ ps) qs)
 
 -- those that are left over
-abbrev pub spare : (Bound → Bound → Bool) → List Bound → List Bound → List Bound
-spare related [] qs = qs
-spare related (p ∷ ps) [] = []
-spare related (p ∷ ps) (q ∷ qs) = cond (related p q) (spare related ps qs) (q ∷ spare related (p ∷ ps) qs)
+abbrev pub leftovers : (Bound → Bound → Bool) → List Bound → List Bound → List Bound
+leftovers related [] qs = qs
+leftovers related (p ∷ ps) [] = []
+leftovers related (p ∷ ps) (q ∷ qs) = cond (related p q) (leftovers related ps qs) (q ∷ leftovers related (p ∷ ps) qs)
 
 -- a factor that may be left: a power, or an input that is also one of those taken
-abbrev pub may_be_spare : List Bound → Bound → Bool
-may_be_spare ts g = is_power g || (is_input g && list_any (is_same_input g) ts)
+abbrev pub may_be_leftover : List Bound → Bound → Bool
+may_be_leftover ts g = is_power g || (is_input g && list_any (is_same_input g) ts)
 
 -- a factor below another: the same input; powers with bases and exponents below; or one of the two is a sum or a
 -- maximum, and it is below the other as a bound
@@ -45,8 +45,8 @@ term_below smaller p q =
     not (list_any is_constant (factors_of p)) && not (list_any is_constant (factors_of q))
     && nat_le (constant_of p) (constant_of q)
     && each_takes (factor_below smaller) (factors_of p) (factors_of q)
-    && list_all (may_be_spare (taken (factor_below smaller) (factors_of p) (factors_of q)))
-    (spare (factor_below smaller) (factors_of p) (factors_of q))
+    && list_all (may_be_leftover (matches (factor_below smaller) (factors_of p) (factors_of q)))
+    (leftovers (factor_below smaller) (factors_of p) (factors_of q))
 
 -- the parts of a sum; a bound that is no sum is its own only part
 abbrev pub terms_of : Bound → List Bound

@@ -1,6 +1,6 @@
 -- The sorts of bounds that are counted.
 use Rattle.std.specs.Prelude.{Bool}
-use Rattle.model.specs.Bounds.{Bound}
+use Rattle.bound_expr.specs.model.Bounds.{Bound}
 use Rattle.bound_expr.specs.Kinds.{is_constant, is_power, is_input}
 use Rattle.bound_table.specs.declared.kinds.Counted.{Counted}
 use Rattle.bound_table.specs.declared.kinds.Counted.TheVariants.{Constants, Zeros, Powers, Nests, Inputs}

@@ -1,7 +1,7 @@
 -- Parts of a maximum that others make needless.
 use Rattle.std.specs.Prelude.{ℕ, ◌+◌, slice_index_or, take, drop, cond, Bool, List, [], ◌∷◌, ◌++◌}
 use Rattle.std.specs.List.{list_any}
-use Rattle.model.specs.Bounds.{Bound, Constant}
+use Rattle.bound_expr.specs.model.Bounds.{Bound, Constant}
 use Rattle.bound_table.specs.declared.kinds.Kind.{Kind}
 use Rattle.bound_table.specs.declared.kinds.Kind.TheVariants.{AsMax}
 use Rattle.bound_table.specs.Below.{below}

@@ -1,7 +1,7 @@
 -- The cases that splice, fold and drop parts.
 use Rattle.std.specs.Prelude.{ℕ, ◌==◌, nat_le, ◌&&◌, cond, Bool, false, List, [], ◌∷◌, ◌++◌}
 use Rattle.std.specs.List.{list_any, count_by}
-use Rattle.model.specs.Bounds.{Bound, Constant, SumOf, ProductOf, MaximumOf}
+use Rattle.bound_expr.specs.model.Bounds.{Bound, Constant, SumOf, ProductOf, MaximumOf}
 use Rattle.bound_expr.specs.Views.{list_of}
 use Rattle.bound_expr.specs.Limits.{constant_limit}
 use Rattle.bound_expr.specs.Capped.{capped}
@@ -11,16 +11,16 @@ use Rattle.bound_table.specs.declared.kinds.Kind.TheVariants.{AsSum, AsProd, AsM
 use Rattle.bound_table.specs.Kinds.{whole, unit_of, joined, all_joined, is_zero}
 
 -- the parts of a node of the kind; any other bound is its own only part
-abbrev pub spread : Kind → Bound → List Bound
-spread AsSum (SumOf ps) = list_of ps
-spread AsProd (ProductOf ps) = list_of ps
-spread AsMax (MaximumOf ps) = list_of ps
-spread k b = b ∷ []
+abbrev pub parts_of_kind : Kind → Bound → List Bound
+parts_of_kind AsSum (SumOf ps) = list_of ps
+parts_of_kind AsProd (ProductOf ps) = list_of ps
+parts_of_kind AsMax (MaximumOf ps) = list_of ps
+parts_of_kind k b = b ∷ []
 
 -- each part of the kind replaced by its own parts, in place
 abbrev pub spliced : Kind → List Bound → List Bound
 spliced k [] = []
-spliced k (p ∷ ps) = spread k p ++ spliced k ps
+spliced k (p ∷ ps) = parts_of_kind k p ++ spliced k ps
 
 -- the numbers of the constants among the parts
 abbrev pub constants_in : List Bound → List ℕ

@@ -1,6 +1,6 @@
 -- The table in force.
-use Rattle.std.specs.Prelude.{List, [], ◌∷◌}
-use Rattle.model.specs.Bounds.{Bound}
+use Rattle.std.specs.Prelude.{◌≡◌, List, [], ◌∷◌}
+use Rattle.bound_expr.specs.model.Bounds.{Bound}
 use Rattle.bound_table.specs.declared.kinds.Case.{Case}
 use Rattle.bound_table.specs.declared.kinds.Case.TheVariants.{Flat, FoldConst, ZeroProduct, Neutral, Order, Like}
 use Rattle.bound_table.specs.declared.kinds.Case.TheVariants.{Dominate, Few}
@@ -13,3 +13,9 @@ cases_in_force = Flat ∷ FoldConst ∷ ZeroProduct ∷ Neutral ∷ Order ∷ Li
 -- a bound rewritten by the table in force
 unfoldable pub rewritten : Bound → Bound
 rewritten b = simplified cases_in_force b
+
+-- a table is in force: it lists the cases in force, in order, and a bound rewritten by it is the bound rewritten by the
+-- table in force
+pub record IsInForce (cases : List Case) : Type 0 where
+  pub listed : cases ≡ cases_in_force
+  pub rewrites : (b : Bound) → simplified cases b ≡ rewritten b

@@ -1,6 +1,6 @@
 -- Nodes with parts, whichever kind they are of.
 use Rattle.std.specs.Prelude.{ℕ, zero, ◌+◌, ◌*◌, ◌==◌, max, ◌||◌, Bool, true, false, List, [], ◌∷◌}
-use Rattle.model.specs.Bounds.{Bound, Constant, Input, SumOf, ProductOf, MaximumOf}
+use Rattle.bound_expr.specs.model.Bounds.{Bound, Constant, Input, SumOf, ProductOf, MaximumOf}
 use Rattle.bound_expr.specs.Views.{parts_of}
 use Rattle.bound_expr.specs.Kinds.{is_input, is_sum, is_maximum, is_power}
 use Rattle.bound_table.specs.declared.kinds.Kind.{Kind}

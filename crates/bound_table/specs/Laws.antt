@@ -1,6 +1,6 @@
 -- What a rewriting keeps.
 use Rattle.std.specs.Prelude.{◌≡◌, ℕ, List, [], ◌∷◌, ◌++◌}
-use Rattle.model.specs.Bounds.{Bound, val}
+use Rattle.bound_expr.specs.model.Bounds.{Bound, val}
 use Rattle.bound_expr.specs.Numbers.{HasBasesFrom, HasSmallConstants, HasTidyNumbers, ReadsBelow}
 use Rattle.bound_table.specs.declared.kinds.Case.{Case}
 use Rattle.bound_table.specs.declared.kinds.Case.TheVariants.{Flat, Few}

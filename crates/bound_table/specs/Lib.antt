@@ -15,3 +15,5 @@ pub mod Likes
 pub mod Dominance
 -- what the proofs of loops cite besides
 pub mod Taking
+-- the crates below, which callers name through this one
+pub use Rattle.bound_expr.specs as bound_expr

@@ -2,7 +2,7 @@
 use Rattle.std.specs.Prelude.{ℕ, ◌+◌, nat_le, cond, Bool, false, List, [], ◌∷◌, ◌++◌}
 use Rattle.std.specs.Ordering.{is_eq}
 use Rattle.std.specs.Cmp.Lexicographic.{slice_cmp}
-use Rattle.model.specs.Bounds.{Bound, Constant, ProductOf}
+use Rattle.bound_expr.specs.model.Bounds.{Bound, Constant, ProductOf}
 use Rattle.bound_expr.specs.Views.{parts_of}
 use Rattle.bound_expr.specs.Limits.{constant_limit}
 use Rattle.bound_table.specs.declared.kinds.Kind.{Kind}

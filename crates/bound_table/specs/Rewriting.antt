@@ -1,7 +1,7 @@
 -- Rewriting by a table of cases.
 use Rattle.std.specs.Prelude.{ℕ, zero, suc, cond, List, [], ◌∷◌}
 use Rattle.std.specs.Ordering.{is_eq}
-use Rattle.model.specs.Bounds.{Bound, Constant, Input, SumOf, ProductOf, MaximumOf, PowerOf, Parts, NoParts, Part}
+use Rattle.bound_expr.specs.model.Bounds.{Bound, Constant, Input, SumOf, ProductOf, MaximumOf, PowerOf, Parts, NoParts, Part}
 use Rattle.bound_expr.specs.Views.{list_of}
 use Rattle.bound_table.specs.declared.kinds.Kind.{Kind}
 use Rattle.bound_table.specs.declared.kinds.Kind.TheVariants.{AsSum, AsProd, AsMax}

@@ -2,11 +2,11 @@
 use Rattle.std.specs.Prelude.{◌≡◌, ℕ, ◌<◌, length, slice_index_or, ◌&&◌, cond, Bool, true, false, List, [], ◌∷◌}
 use Rattle.std.specs.Prelude.{slice_set}
 use Rattle.std.specs.List.{list_any, list_all}
-use Rattle.model.specs.Bounds.{Bound, Input}
+use Rattle.bound_expr.specs.model.Bounds.{Bound, Input}
 use Rattle.bound_table.specs.Kinds.{is_same_input}
 use Rattle.bound_table.specs.declared.kinds.Pairing.{Pairing}
 use Rattle.bound_table.specs.declared.kinds.Pairing.TheVariants.{AsTerms, AsFactors}
-use Rattle.bound_table.specs.Below.{each_takes, taken, spare, may_be_spare, term_below, factor_below, below}
+use Rattle.bound_table.specs.Below.{each_takes, matches, leftovers, may_be_leftover, term_below, factor_below, below}
 
 -- one below another as a part of a sum, or as a factor
 abbrev pub paired_below : Pairing → (Bound → Bound → Bool) → Bound → Bound → Bool
@@ -20,12 +20,12 @@ left_after related (p ∷ ps) q = cond (related p q) ps (p ∷ ps)
 
 -- the factors that are taken where each is to be below the one that it takes
 abbrev pub factors_taken : List Bound → List Bound → List Bound
-factors_taken fs gs = taken (factor_below (λ p q. below p q)) fs gs
+factors_taken fs gs = matches (factor_below (λ p q. below p q)) fs gs
 
 -- each takes one, and what is left over may be left
 abbrev pub takes_fully : (Bound → Bound → Bool) → List Bound → List Bound → Bool
 takes_fully related ps qs =
-    each_takes related ps qs && list_all (may_be_spare (taken related ps qs)) (spare related ps qs)
+    each_takes related ps qs && list_all (may_be_leftover (matches related ps qs)) (leftovers related ps qs)
 
 -- a mark for an input that is taken
 abbrev pub marked_one : List Bool → Bound → List Bool

@@ -1,7 +1,7 @@
 -- A part as a constant times factors: a constant is itself and no factor, a product that begins with a constant is that
 -- constant and the rest, any other product is 1 and its factors, and anything else is 1 and itself.
 use Rattle.std.specs.Prelude.{ℕ, Bool, true, false, List, [], ◌∷◌}
-use Rattle.model.specs.Bounds.{Bound, Constant, ProductOf}
+use Rattle.bound_expr.specs.model.Bounds.{Bound, Constant, ProductOf}
 use Rattle.bound_expr.specs.Views.{list_of}
 
 -- the constant that a list of factors begins with; 1 where it begins with none

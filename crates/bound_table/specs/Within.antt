@@ -1,8 +1,8 @@
 -- A bound rewritten where that stays within the limits.
 use Rattle.std.specs.Prelude.{ℕ, if◌then◌else◌, ⊤}
-use Rattle.model.specs.Bounds.{Bound}
+use Rattle.bound_expr.specs.model.Bounds.{Bound}
 use Rattle.bound_expr.specs.Views.{bound_of}
-use Rattle.bound_expr.specs.Measure.{told_nodes, is_large}
+use Rattle.bound_expr.specs.Measure.{capped_node_count, is_large}
 use Rattle.bound_table.specs.declared.within.Within as code
 use Rattle.bound_table.specs.declared.within.Within.TheVariants.{Rewritten, Large}
 use Rattle.bound_table.specs.InForce.{rewritten}
@@ -19,11 +19,11 @@ answer_of (Large nodes) = TooLarge nodes
 
 -- a bound that is not large
 abbrev pub unless_large : Bound → Answer
-unless_large b = if is_large b then TooLarge (told_nodes b) else Fits b
+unless_large b = if is_large b then TooLarge (capped_node_count b) else Fits b
 
 -- a bound that is large is not rewritten, and neither it nor its rewriting may be large
 unfoldable pub rewritten_within : Bound → Answer
-rewritten_within b = if is_large b then TooLarge (told_nodes b) else unless_large (rewritten b)
+rewritten_within b = if is_large b then TooLarge (capped_node_count b) else unless_large (rewritten b)
 
 -- a fact of the rewritten bound, where there is one
 abbrev pub WhereFits : Answer → (Bound → Type 0) → Type 0

@@ -3,7 +3,8 @@ ghost use Rattle.bound_expr.specs.Views.{bound_of, bounds_of};
 ghost use Rattle.bound_expr.specs.Capped.{capped};
 ghost use Rattle.bound_table.specs.Kinds.{whole as node_of, unit_of, joined as joined_of, all_joined};
 ghost use Rattle.bound_table.specs.Kinds.{is_zero as is_nothing};
-ghost use Rattle.bound_table.specs.Folding.{spread, total_with, spliced as spliced_of, constants_in, without_constants};
+ghost use Rattle.bound_table.specs.Folding.{parts_of_kind, total_with, spliced as spliced_of, constants_in};
+ghost use Rattle.bound_table.specs.Folding.{without_constants};
 ghost use Rattle.bound_table.specs.Folding.{with_one_constant as one_constant_of, folded as folded_of};
 ghost use Rattle.bound_table.specs.Folding.{zeroed as zeroed_of, is_neutral as is_unit};
 ghost use Rattle.bound_table.specs.Folding.{without_neutral as without_units, simple as simple_of};
@@ -37,7 +38,7 @@ pub(crate) fn spliced(alloc: Global, kind: Kind, parts: Vec<Bound>) -> Result<Ve
 }
 
 fn push_spread(kind: Kind, part: Bound, flat: &mut Vec<Bound>) -> Result<(), Memory>
-    ensures { OnOk result (bounds_of flat.new.items ≡ bounds_of flat.old.items ++ spread kind (bound_of part)) }
+    ensures { OnOk result (bounds_of flat.new.items ≡ bounds_of flat.old.items ++ parts_of_kind kind (bound_of part)) }
 {
     match inner_parts(kind, part) {
         Ok(mut inner) => flat.append(&mut inner),
@@ -50,8 +51,8 @@ fn push_spread(kind: Kind, part: Bound, flat: &mut Vec<Bound>) -> Result<(), Mem
 
 // The parts of a node of the kind, or the bound itself where it is of another kind.
 fn inner_parts(kind: Kind, part: Bound) -> Result<Vec<Bound>, Bound>
-    ensures { MatchResult result (λ inner. spread kind (bound_of part) ≡ bounds_of inner.items)
-        (λ single. spread kind (bound_of part) ≡ bound_of single ∷ []) }
+    ensures { MatchResult result (λ inner. parts_of_kind kind (bound_of part) ≡ bounds_of inner.items)
+        (λ single. parts_of_kind kind (bound_of part) ≡ bound_of single ∷ []) }
 {
     match (kind, part) {
         (Kind::AsSum, Bound::Sum(inner)) => Ok(inner),

@@ -1,7 +1,7 @@
 ghost use Rattle.std.specs.Prelude.{◌≡◌, ◌++◌, ◌∷◌, [], ◌^◌, IfOk, OnOk};
 ghost use Rattle.bound_expr.specs.Views.{bound_of, bounds_of};
 ghost use Rattle.bound_expr.specs.Capped.{capped};
-ghost use Rattle.model.specs.Bounds.{Constant};
+ghost use Rattle.bound_expr.specs.model.Bounds.{Constant};
 ghost use Rattle.bound_table.specs.Terms.{factors_of, after_constant, begins_with_constant};
 ghost use Rattle.bound_table.specs.Likes.{is_like as are_like, last_is_like, constants_total as total_of, times};
 ghost use Rattle.bound_table.specs.Likes.{joined_list, likes_joined as likes_joined_of, runs_of, all_runs_joined};

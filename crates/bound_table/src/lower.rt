@@ -1,9 +1,9 @@
 ghost use Rattle.std.specs.Prelude.{◌≡◌, IsTrue, ◌≤◌, length};
 ghost use Rattle.std.specs.List.{list_any, list_all};
-ghost use Rattle.model.specs.Bounds.{IsBased};
+ghost use Rattle.bound_expr.specs.model.Bounds.{IsBased};
 ghost use Rattle.bound_expr.specs.Views.{bound_of, bounds_of};
 ghost use Rattle.bound_expr.specs.Tidy.{IsNoMaximum};
-ghost use Rattle.bound_table.specs.Below.{below as is_lower, below_one, term_below, factor_below, each_takes, taken};
+ghost use Rattle.bound_table.specs.Below.{below as is_lower, below_one, term_below, factor_below, each_takes, matches};
 ghost use Rattle.bound_table.specs.Below.{IsNeverGreater};
 ghost use Rattle.bound_table.specs.Taking.{paired_below, left_after, takes_fully, factors_taken, input_among, IsMarked};
 ghost use Rattle.bound_table.specs.Kinds.{is_same_input};

@@ -1,8 +1,8 @@
 ghost use Rattle.std.specs.Prelude.{◌≡◌, IfOk};
-ghost use Rattle.model.specs.Bounds.{IsBased};
+ghost use Rattle.bound_expr.specs.model.Bounds.{IsBased};
 ghost use Rattle.bound_expr.specs.Numbers.{HasTidyNumbers};
 ghost use Rattle.bound_expr.specs.Tidy.{IsTidy};
-ghost use Rattle.bound_table.specs.InForce.{rewritten as rewritten_of};
+ghost use Rattle.bound_table.specs.InForce.{rewritten as rewritten_of, IsInForce};
 ghost use Rattle.bound_table.specs.Laws.{HasValueOf, ReadsNoMore, KeepsNumbers, IsTidying};
 ghost use Rattle.bound_expr.specs.Views.{bound_of, bounds_of, parts_of};
 ghost use Rattle.bound_table.specs.Rewriting.{at_parts as made_of_parts, at_node as made_of_node, at_node_all};
@@ -64,6 +64,12 @@ pub fn rewrite(alloc: Global, b: &Bound) -> Result<Bound, Memory>
 {
     simplify(alloc, &SMALL, b)
 }
+
+/// The law that `SMALL` is the table in force: it lists the eight cases of the definition, in order, so `rewrite` is
+/// `simplify` with it. It does nothing.
+pub fn small_is_in_force()
+    ensures { IsInForce SMALL.list }
+{}
 
 // As many passes as change something, at most sixteen.
 fn rewritten(alloc: Global, cases: &[Case], b: &Bound) -> Result<Bound, Memory>

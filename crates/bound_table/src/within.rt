@@ -1,5 +1,5 @@
 ghost use Rattle.std.specs.Prelude.{◌≡◌, false, IfOk};
-ghost use Rattle.model.specs.Bounds.{IsBased};
+ghost use Rattle.bound_expr.specs.model.Bounds.{IsBased};
 ghost use Rattle.bound_expr.specs.Numbers.{HasTidyNumbers};
 ghost use Rattle.bound_expr.specs.Tidy.{IsTidy};
 ghost use Rattle.bound_expr.specs.Measure.{is_large};

@@ -1,9 +1,9 @@
 -- A bound as the terms of a sum and the factors of the last one.
 use Rattle.std.proofs.Common.{◌≡◌, true, refl, ap, sym, ◌∙◌, arith}
-use Rattle.model.specs.Bounds.{Bound, Constant, Input, SumOf, ProductOf, MaximumOf, PowerOf, Parts, NoParts, Part}
+use Rattle.text_core.specs.model.Bounds.{Bound, Constant, Input, SumOf, ProductOf, MaximumOf, PowerOf, Parts, NoParts, Part}
 use Rattle.bound_expr.specs.Tidy.{IsNoSum, EachPart}
 use Rattle.bound_text.specs.Shapes.{with_part, IsShaped, AreShaped}
-use Rattle.bound_text.specs.Fronts.{as_one, term_of, bound_made, can_end}
+use Rattle.bound_text.specs.Fronts.{as_one, term_of, bound_of_parts, can_end}
 
 -- the factors of a term, and the terms and the last one's factors of a bound
 abbrev pub factors_of : Bound → Parts
@@ -93,7 +93,7 @@ terms-last ts b NoParts none shaped =
 terms-last ts b (Part c cs) none shaped = terms-last (with_part ts b) c cs none.1 shaped.1
 
 -- a bound as texts spell it is what its terms and factors make
-pub bound-parts : (b : Bound) → IsShaped b → (bound_made (terms_in b) (factors_in b) ≡ b) × ((can_end (factors_in b) ≡ true))
+pub bound-parts : (b : Bound) → IsShaped b → (bound_of_parts (terms_in b) (factors_in b) ≡ b) × ((can_end (factors_in b) ≡ true))
 bound-parts (Constant c) shaped = (refl, refl)
 bound-parts (Input i) shaped = (refl, refl)
 bound-parts (SumOf NoParts) shaped = absurd (omega (arith, shaped.0))

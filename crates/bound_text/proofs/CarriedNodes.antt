@@ -1,15 +1,17 @@
 -- A run is carried with too many nodes exactly where it has too many.
-use Rattle.std.proofs.Common.{◌≡◌, ℕ, zero, suc, ◌+◌, ◌-◌, ◌^◌, ◌<◌, ◌≤◌, Bool, true, false, cond, min, nat_lt, nat_le, Option, Some, None, refl, ap, sym, subst, ◌∙◌, arith}
+use Rattle.std.proofs.Common.{◌≡◌, ℕ, zero, suc, ◌+◌, ◌-◌, ◌^◌, ◌<◌, ◌≤◌, Bool, true, false, cond, min, nat_lt, nat_le}
+use Rattle.std.proofs.Common.{Option, Some, None, refl, ap, sym, subst, ◌∙◌, arith}
 use Rattle.std.proofs.lemmas.Bool.Decides.{nat_tests}
-use Rattle.model.specs.Bounds.{Bound, Constant, Input, SumOf, ProductOf, MaximumOf, PowerOf, Parts, NoParts}
+use Rattle.text_core.specs.model.Bounds.{Bound, Constant, Input, SumOf, ProductOf, MaximumOf, PowerOf, Parts, NoParts}
 use Rattle.bound_expr.specs.Limits.{node_limit}
 use Rattle.bound_expr.specs.Measure.{node_count_of_all}
 use Rattle.bound_text.specs.Pieces.{Number}
-use Rattle.bound_text.specs.Fronts.{Front, Outer, Whole, RunCaret, PowerCaret, ItemRead, sum_node, nodes_round, nodes_of}
+use Rattle.bound_text.specs.Fronts.{Front, Outer, Whole, RunCaret, PowerCaret, ItemRead, sum_node, nodes_round}
+use Rattle.bound_text.specs.Fronts.{nodes_of}
 use Rattle.bound_text.specs.Steps.{when, front_at, with_copies, end_run, caret_behind}
 use Rattle.bound_text.specs.Checks.{is_large_number}
 use Rattle.bound_text.specs.Reading.{has_many}
-use Rattle.bound_text.specs.Carrying.{copies_kept, begun_run, behind_run, IsCarried, RunsAreTold}
+use Rattle.bound_text.specs.Carrying.{copies_within_limit, begun_run, behind_run, IsCarried, RunsAreTold}
 use Rattle.bound_text.proofs.RunLaws.{product_two, node_count-with_copies}
 use Rattle.bound_text.proofs.PartLaws.{product_node-with_part}
 use Rattle.bound_text.proofs.StepCases.{of_run}
@@ -17,7 +19,7 @@ use Rattle.bound_text.proofs.TreeSizes.{grows}
 pub use Rattle.bound_text.proofs.RunLaws.{is_over as over}
 
 -- of up to two copies all are carried
-pub kept_few : (nodes n : ℕ) → n ≤ 2 → copies_kept nodes n ≡ n
+pub kept_few : (nodes n : ℕ) → n ≤ 2 → copies_within_limit nodes n ≡ n
 kept_few nodes n h = go (nat_lt node_limit nodes)
   where
     go : (v : Bool) → min n (cond v 2 (node_limit + 1)) ≡ n
@@ -25,7 +27,7 @@ kept_few nodes n h = go (nat_lt node_limit nodes)
     go false = omega (arith, h)
 
 -- and of more two at least
-pub kept_two : (nodes n : ℕ) → 2 ≤ n → 2 ≤ copies_kept nodes n
+pub kept_two : (nodes n : ℕ) → 2 ≤ n → 2 ≤ copies_within_limit nodes n
 kept_two nodes n h = go (nat_lt node_limit nodes)
   where
     go : (v : Bool) → 2 ≤ min n (cond v 2 (node_limit + 1))
@@ -57,11 +59,11 @@ pub are_within : (m : ℕ) → nat_lt node_limit m ≡ false → m ≤ node_limi
 are_within m h = grind (arith, nat_tests)
 
 -- behind what is within the limit a run is carried whole that isn't over it
-pub kept_short : (nodes n : ℕ) → nat_lt node_limit nodes ≡ false → n ≤ node_limit → copies_kept nodes n ≡ n
+pub kept_short : (nodes n : ℕ) → nat_lt node_limit nodes ≡ false → n ≤ node_limit → copies_within_limit nodes n ≡ n
 kept_short nodes n e h = ap (λ (v : Bool). min n (cond v 2 (node_limit + 1))) e ∙ omega (arith, h)
 
 -- and one that is over it with copies over it
-kept_over : (nodes n : ℕ) → nat_lt node_limit nodes ≡ false → node_limit < n → node_limit < copies_kept nodes n
+kept_over : (nodes n : ℕ) → nat_lt node_limit nodes ≡ false → node_limit < n → node_limit < copies_within_limit nodes n
 kept_over nodes n e h = subst (λ (v : Bool). node_limit < min n (cond v 2 (node_limit + 1))) (sym e) (omega (arith, h))
 
 -- the nodes behind a run
@@ -94,14 +96,14 @@ behind_large outer ts fs (suc (suc n)) i more h =
 
 -- so it is too large as it is carried where it is
 pub run_many : (outer : Outer) (ts fs : Parts) (n i : ℕ)
-    → has_many (end_run outer ts fs i (Number (copies_kept (nodes_of (front_at outer ts fs (RunCaret i))) n))) ≡ has_many (end_run outer ts fs i (Number n))
+    → has_many (end_run outer ts fs i (Number (copies_within_limit (nodes_of (front_at outer ts fs (RunCaret i))) n))) ≡ has_many (end_run outer ts fs i (Number n))
 run_many outer ts fs n i = go (nat_lt 1 n) refl
   where
     nodes : ℕ
     nodes = nodes_of (front_at outer ts fs (RunCaret i))
 
     kept : ℕ
-    kept = copies_kept nodes n
+    kept = copies_within_limit nodes n
 
     same : kept ≡ n → has_many (end_run outer ts fs i (Number kept)) ≡ has_many (end_run outer ts fs i (Number n))
     same e = ap (λ (k : ℕ). has_many (end_run outer ts fs i (Number k))) e
@@ -137,9 +139,9 @@ base_many outer ts fs (Some (PowerOf c e)) = refl
 
 -- a run in a product of its own is carried so, where the numbers say it
 carries : (fs : Parts) (n kept i nodes before : ℕ) (many : Bool) → nodes_of (front_at Whole NoParts fs (RunCaret i)) ≡ nodes → node_count_of_all fs ≡ before → nat_lt 1 n ≡ true
-    → copies_kept nodes n ≡ kept → nat_lt node_limit (1 + before + n) ≡ many → IsCarried (front_at Whole NoParts fs (RunCaret i)) n kept many
+    → copies_within_limit nodes n ≡ kept → nat_lt node_limit (1 + before + n) ≡ many → IsCarried (front_at Whole NoParts fs (RunCaret i)) n kept many
 carries fs n kept i nodes before many e b more k m = record {
-  copies = ap (λ (j : ℕ). end_run Whole NoParts fs i (Number (copies_kept j n))) e ∙ ap (λ (j : ℕ). end_run Whole NoParts fs i (Number j)) k;
+  copies = ap (λ (j : ℕ). end_run Whole NoParts fs i (Number (copies_within_limit j n))) e ∙ ap (λ (j : ℕ). end_run Whole NoParts fs i (Number j)) k;
   written = written;
   told = run_many Whole NoParts fs n i ∙ written;
 }
@@ -151,7 +153,7 @@ carries fs n kept i nodes before many e b more k m = record {
     written = ap (λ (v : Bool). has_many (when v (front_at Whole NoParts (with_copies n i fs) ItemRead))) more ∙ ap (nat_lt node_limit) count ∙ m
 
 -- at the beginning
-carries_begun : (n kept : ℕ) (many : Bool) → nat_lt 1 n ≡ true → copies_kept 1 n ≡ kept → nat_lt node_limit (1 + 0 + n) ≡ many → IsCarried begun_run n kept many
+carries_begun : (n kept : ℕ) (many : Bool) → nat_lt 1 n ≡ true → copies_within_limit 1 n ≡ kept → nat_lt node_limit (1 + 0 + n) ≡ many → IsCarried begun_run n kept many
 carries_begun n kept many = carries NoParts n kept 0 1 0 many refl refl
 
 -- the nodes of `B^` behind copies
@@ -161,7 +163,7 @@ behind_nodes (suc k) h =
     omega (arith, product_node-with_part (with_copies (suc k) 0 NoParts) (Input 0) refl, product_two (with_copies k 0 NoParts) (Input 0) (Input 0), node_count-with_copies (suc k) 0 NoParts)
 
 -- and behind copies
-carries_behind : (k n kept : ℕ) (many : Bool) → nat_lt 0 k ≡ true → nat_lt 1 n ≡ true → copies_kept (k + 2) n ≡ kept → nat_lt node_limit (1 + k + n) ≡ many → IsCarried (behind_run k) n kept many
+carries_behind : (k n kept : ℕ) (many : Bool) → nat_lt 0 k ≡ true → nat_lt 1 n ≡ true → copies_within_limit (k + 2) n ≡ kept → nat_lt node_limit (1 + k + n) ≡ many → IsCarried (behind_run k) n kept many
 carries_behind k n kept many some = carries (with_copies k 0 NoParts) n kept 1 (k + 2) k many (behind_nodes k some) (omega (arith, node_count-with_copies k 0 NoParts))
 
 -- the worked runs

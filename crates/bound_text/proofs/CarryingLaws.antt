@@ -1,17 +1,24 @@
 -- No mark hangs on how large a base is, nor on how long a run is.
-use Rattle.std.proofs.Common.{◌≡◌, ℕ, zero, suc, ◌-◌, ◌+◌, ◌^◌, ◌<◌, ◌≤◌, Bool, true, false, cond, not, ◌&&◌, min, nat_lt, nat_le, List, [], ◌∷◌, Option, Some, None, refl, ap, sym, subst, ◌∙◌, arith}
+use Rattle.std.proofs.Common.{◌≡◌, ℕ, zero, suc, ◌-◌, ◌+◌, ◌^◌, ◌<◌, ◌≤◌, Bool, true, false, cond, not, ◌&&◌, min}
+use Rattle.std.proofs.Common.{nat_lt, nat_le, List, [], ◌∷◌, Option, Some, None, refl, ap, sym, subst, ◌∙◌, arith}
 use Rattle.std.specs.Prelude.{IsTrue, Result, Ok, Err}
 use Rattle.std.specs.Option.{option_map}
 use Rattle.std.proofs.lemmas.Bool.Decides.{nat_tests}
-use Rattle.model.specs.Bounds.{Bound, Constant, Input, SumOf, ProductOf, MaximumOf, PowerOf, Parts}
-use Rattle.bound_text.specs.Pieces.{Piece, Variable, Number, Maximum, Open, Close, Times, Caret, Plus, Blank, Comma, Wrong}
+use Rattle.text_core.specs.model.Bounds.{Bound, Constant, Input, SumOf, ProductOf, MaximumOf, PowerOf, Parts}
+use Rattle.bound_text.specs.Pieces.{Piece, Variable, Number, Maximum, Open, Close, Times, Caret, Plus, Blank, Comma}
+use Rattle.bound_text.specs.Pieces.{Wrong}
 use Rattle.bound_text.specs.Writing.{Nothing, plus_between}
-use Rattle.bound_text.specs.Fronts.{Front, IsFront, IsPosition, Outer, Position, Begins, RunCaret, PowerCaret, ItemRead, BlankRead, PlusRead, CommaRead, last, init, is_input, levels_above, sum_node, nodes_of}
+use Rattle.bound_text.specs.Fronts.{Front, IsFront, IsPosition, Outer, Position, Begins, RunCaret, PowerCaret, ItemRead}
+use Rattle.bound_text.specs.Fronts.{BlankRead, PlusRead, CommaRead, last, init, is_input, levels_above, sum_node}
+use Rattle.bound_text.specs.Fronts.{nodes_of}
 use Rattle.bound_text.specs.Steps.{step, step_at, when, front_at, behind_factor, with_copies, end_run, caret_behind}
-use Rattle.bound_text.specs.Checks.{has_large_base, has_large_base_at, is_large_number, takes_caret, begins, caret_next, fault_of}
+use Rattle.bound_text.specs.Checks.{has_large_base, has_large_base_at, is_large_number, takes_caret, begins, caret_next}
+use Rattle.bound_text.specs.Checks.{fault_of}
 use Rattle.bound_text.specs.Reading.{has_many, stands}
-use Rattle.bound_text.specs.Inside.{Marks, factors_marks, star_marks, each_marks, outer_marks, level_behind, front_marks}
-use Rattle.bound_text.specs.Carrying.{copies_kept, kept_at, carried, first_of, early_kinds, CarriedFrontsAreMarked}
+use Rattle.bound_text.specs.Inside.{Marks, factors_marks, star_marks, each_marks, outer_marks, level_behind}
+use Rattle.bound_text.specs.Inside.{front_marks}
+use Rattle.bound_text.specs.Carrying.{copies_within_limit, kept_at, limited_step, first_of, early_kinds}
+use Rattle.bound_text.specs.Carrying.{CarriedFrontsAreMarked}
 use Rattle.bound_expr.specs.Limits.{node_limit}
 use Rattle.bound_text.specs.Shapes.{with_part}
 use Rattle.bound_text.specs.Kinds.{Kind}
@@ -21,7 +28,8 @@ use Rattle.bound_text.specs.declared.state.Position.{Position as Here}
 use Rattle.bound_text.specs.declared.state.Position.TheVariants as at
 use Rattle.bound_text.proofs.PartLaws.{init-with_part, last-with_part}
 use Rattle.bound_text.proofs.RunLaws.{product_two, node_count-with_copies, copies_settled}
-use Rattle.bound_text.proofs.CarriedNodes.{kept_few, kept_two, is_several, are_two, are_few, over, are_over, is_within, are_within, kept_short, run_many, base_many, runs_are_told}
+use Rattle.bound_text.proofs.CarriedNodes.{kept_few, kept_two, is_several, are_two, are_few, over, are_over, is_within}
+use Rattle.bound_text.proofs.CarriedNodes.{are_within, kept_short, run_many, base_many, runs_are_told}
 use Rattle.bound_text.proofs.StepCases.{step_leads}
 use Rattle.bound_text.proofs.TreeSizes.{grows}
 use Rattle.bound_text.proofs.MarkLaws.{copies_behind, ends_nothing}
@@ -59,11 +67,11 @@ run_two outer ts fs (suc (suc n)) i more h = rw more (ap Some (two_alike outer t
 
 -- so a run has its marks as it is carried
 run_alike : (outer : Outer) (ts fs : Parts) (nodes n i : ℕ) → is_input i (last fs) ≡ false
-    → option_map front_marks (end_run outer ts fs i (Number (copies_kept nodes n))) ≡ option_map front_marks (end_run outer ts fs i (Number n))
+    → option_map front_marks (end_run outer ts fs i (Number (copies_within_limit nodes n))) ≡ option_map front_marks (end_run outer ts fs i (Number n))
 run_alike outer ts fs nodes n i h = go (nat_lt 1 n) refl
   where
-    go : (v : Bool) → nat_lt 1 n ≡ v → option_map front_marks (end_run outer ts fs i (Number (copies_kept nodes n))) ≡ option_map front_marks (end_run outer ts fs i (Number n))
-    go true e = run_two outer ts fs (copies_kept nodes n) i (is_several (copies_kept nodes n) (kept_two nodes n (are_two n e))) h ∙ sym (run_two outer ts fs n i e h)
+    go : (v : Bool) → nat_lt 1 n ≡ v → option_map front_marks (end_run outer ts fs i (Number (copies_within_limit nodes n))) ≡ option_map front_marks (end_run outer ts fs i (Number n))
+    go true e = run_two outer ts fs (copies_within_limit nodes n) i (is_several (copies_within_limit nodes n) (kept_two nodes n (are_two n e))) h ∙ sym (run_two outer ts fs n i e h)
     go false e = ap (λ (k : ℕ). option_map front_marks (end_run outer ts fs i (Number k))) (kept_few nodes n (are_few n e))
 
 -- and so does a base
@@ -131,13 +139,13 @@ marks_alike PlusRead outer ts fs nodes piece h = refl
 marks_alike CommaRead outer ts fs nodes piece h = refl
 
 -- within the limits all copies are carried
-copies_same : (outer : Outer) (ts fs : Parts) (nodes n i : ℕ) → nodes ≤ node_limit → has_many (end_run outer ts fs i (Number n)) ≡ false → copies_kept nodes n ≡ n
+copies_same : (outer : Outer) (ts fs : Parts) (nodes n i : ℕ) → nodes ≤ node_limit → has_many (end_run outer ts fs i (Number n)) ≡ false → copies_within_limit nodes n ≡ n
 copies_same outer ts fs nodes n i small h = go (nat_lt 1 n) refl h
   where
     f : Front
     f = front_at outer ts (with_copies n i fs) ItemRead
 
-    go : (v : Bool) → nat_lt 1 n ≡ v → has_many (when v f) ≡ false → copies_kept nodes n ≡ n
+    go : (v : Bool) → nat_lt 1 n ≡ v → has_many (when v f) ≡ false → copies_within_limit nodes n ≡ n
     go true e few = kept_short nodes n (is_within nodes small) (omega (arith, are_within (nodes_of f) few, node_count-with_copies n i fs))
     go false e few = kept_few nodes n (are_few n e)
 
@@ -217,7 +225,7 @@ carried_fronts_are_marked = record {
 
 -- a run is carried with as many copies as were made
 pub run_carried : (outer : Outer) (ts fs behind : Parts) (piece : Piece) (nodes counted n kept i : ℕ) → piece ≡ Number n → 1 < n
-    → counted ≡ min nodes (2 ^ 64 - 1) → kept ≡ copies_kept counted n → behind ≡ with_copies kept i fs
+    → counted ≡ min nodes (2 ^ 64 - 1) → kept ≡ copies_within_limit counted n → behind ≡ with_copies kept i fs
     → (end_run outer ts fs i (kept_at (RunCaret i) nodes piece) ≡ Some (front_at outer ts behind ItemRead)) × IsTrue (not (takes_caret (init behind) (last behind)))
 run_carried outer ts fs behind piece nodes counted n kept i p more m k e = (
   ap (λ (q : Piece). end_run outer ts fs i (kept_at (RunCaret i) nodes q)) p
@@ -230,7 +238,7 @@ run_carried outer ts fs behind piece nodes counted n kept i p more m k e = (
     limit : nat_lt node_limit counted ≡ nat_lt node_limit nodes
     limit = ap (nat_lt node_limit) m ∙ (let f : nat_lt node_limit (min nodes (2 ^ 64 - 1)) ≡ nat_lt node_limit nodes = grind (arith, nat_tests) in f)
 
-    same : kept ≡ copies_kept nodes n
+    same : kept ≡ copies_within_limit nodes n
     same = k ∙ ap (λ (v : Bool). min n (cond v 2 (node_limit + 1))) limit
 
     two : 2 ≤ kept
@@ -252,7 +260,7 @@ base_settled fs (Some (PowerOf c e)) settled large = cc
 -- a base over 2^64-1 is carried as 2^64-1
 pub base_carried : (position : Here) (outer : Outer) (ts fs : Parts) (piece : Piece) → is_settled_at position fs ≡ true
     → has_large_base (front_with position outer ts fs) piece ≡ true
-    → carried (front_with position outer ts fs) piece ≡ Some (front_at outer ts fs (PowerCaret (2 ^ 64 - 1)))
+    → limited_step (front_with position outer ts fs) piece ≡ Some (front_at outer ts fs (PowerCaret (2 ^ 64 - 1)))
 base_carried (at.Number c) outer ts fs piece settled large =
     ap (λ (v : Bool). cond v (Some (front_at outer ts (init (with_part fs (Constant c))) (PowerCaret (2 ^ 64 - 1)))) (step (behind_factor outer ts fs (Constant c)) piece)) large
     ∙ ap (λ (gs : Parts). Some (front_at outer ts gs (PowerCaret (2 ^ 64 - 1)))) (init-with_part fs (Constant c))

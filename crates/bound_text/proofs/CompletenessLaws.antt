@@ -1,16 +1,22 @@
 -- What a bound is written as leads the reader to that bound.
-use Rattle.std.proofs.Common.{◌≡◌, ℕ, zero, suc, ◌≤◌, nat_lt, nat_eq, Bool, true, false, not, cond, ◌&&◌, List, ◌∷◌, ◌++◌, Option, Some, refl, ap, ◌∙◌, arith}
+use Rattle.std.proofs.Common.{◌≡◌, ℕ, zero, suc, ◌≤◌, nat_lt, nat_eq, Bool, true, false, not, cond, ◌&&◌, List, ◌∷◌}
+use Rattle.std.proofs.Common.{◌++◌, Option, Some, refl, ap, ◌∙◌, arith}
 use Rattle.std.specs.Prelude.{⊤}
 use Rattle.std.proofs.lemmas.Bool.Decides.{nat_tests}
-use Rattle.model.specs.Bounds.{Bound, Constant, Input, SumOf, ProductOf, MaximumOf, PowerOf, Parts, NoParts, Part}
+use Rattle.text_core.specs.model.Bounds.{Bound, Constant, Input, SumOf, ProductOf, MaximumOf, PowerOf, Parts, NoParts, Part}
 use Rattle.bound_expr.specs.Tidy.{part_count, IsNoSum, IsNoProduct, IsNoMaximum, EachPart}
 use Rattle.bound_text.specs.Shapes.{is_sum, is_maximum, is_leaf, is_variable, is_empty, with_part, IsShaped, AreShaped}
 use Rattle.bound_text.specs.Pieces.{Piece, Variable, Number, Close, Times, Caret, Plus, Blank, Comma}
-use Rattle.bound_text.specs.Writing.{Nothing, Run, Other, run_then, bracketed_then, text_then, joined_then, more_then, factors_then, plus_between, comma_between}
-use Rattle.bound_text.specs.Fronts.{Bracket, Arguments, Exponent, Factor, Outer, Whole, Inside, Front, Begins, RunCaret, PowerCaret, ItemRead, BlankRead, CommaRead, last, init, is_input, bound_made, can_end}
-use Rattle.bound_text.specs.Steps.{when, with_copies, front_at, behind_factor, caret_behind, can_close, item_of, walk, beginning, finish}
+use Rattle.bound_text.specs.Writing.{Nothing, Run, Other, run_then, bracketed_then, text_then, joined_then, more_then}
+use Rattle.bound_text.specs.Writing.{factors_then, plus_between, comma_between}
+use Rattle.bound_text.specs.Fronts.{Bracket, Arguments, Exponent, Factor, Outer, Whole, Inside, Front, Begins, RunCaret}
+use Rattle.bound_text.specs.Fronts.{PowerCaret, ItemRead, BlankRead, CommaRead, last, init, is_input, bound_of_parts}
+use Rattle.bound_text.specs.Fronts.{can_end}
+use Rattle.bound_text.specs.Steps.{when, with_copies, front_at, behind_factor, caret_behind, can_close, item_of, walk}
+use Rattle.bound_text.specs.Steps.{beginning, finish}
 use Rattle.bound_text.proofs.PartLaws.{is_empty-with_part, last-with_part, init-with_part}
-use Rattle.bound_text.proofs.BoundParts.{factors_of, terms_from, last_factors, terms_in, factors_in, term-factors, appended, appended-none, bound-parts}
+use Rattle.bound_text.proofs.BoundParts.{factors_of, terms_from, last_factors, terms_in, factors_in, term-factors}
+use Rattle.bound_text.proofs.BoundParts.{appended, appended-none, bound-parts}
 use Rattle.std.proofs.lemmas.Bool.{eqb-true as same_number}
 
 -- where an item can begin, and behind one
@@ -127,7 +133,7 @@ terms_read b (Part c cs) r rs none shaped outer ts rest =
     ∙ terms_read c cs rs.0 rs.1 none.1 shaped.1 outer (with_part ts b) rest
 
 -- a bracket closes behind its bound
-close_read : (bracket : Bracket) (b : Bound) (outer : Outer) (ts' fs' ts fs : Parts) (rest : List Piece) → can_end fs ≡ true → bound_made ts fs ≡ b → can_close bracket b ≡ true
+close_read : (bracket : Bracket) (b : Bound) (outer : Outer) (ts' fs' ts fs : Parts) (rest : List Piece) → can_end fs ≡ true → bound_of_parts ts fs ≡ b → can_close bracket b ≡ true
     → walk (stands (Inside bracket ts' fs' outer) ts fs) (Close ∷ rest) ≡ walk (stands outer ts' (with_part fs' (item_of bracket b))) rest
 close_read bracket b outer ts' fs' ts fs rest ends is closes =
     ap (λ (c : Bound). walk (when (can_end fs && can_close bracket c) (behind_factor outer ts' fs' (item_of bracket c))) rest) is
@@ -230,8 +236,8 @@ pub argument_read : (b : Bound) → Reads b → IsShaped b → IsNoMaximum b →
 argument_read b r shaped none args ts fs outer rest =
     let p = bound-parts b shaped in
     bound_read b r (Inside (Arguments args) ts fs outer) (Comma ∷ Blank ∷ rest)
-    ∙ walk-when (can_end (factors_in b) && not (is_maximum (bound_made (terms_in b) (factors_in b)))) (front_at (Inside (Arguments args) ts fs outer) (terms_in b) (factors_in b) CommaRead) (Blank ∷ rest)
-    (ap (λ (v : Bool). v && not (is_maximum (bound_made (terms_in b) (factors_in b)))) p.1 ∙ ap (λ (c : Bound). not (is_maximum c)) p.0 ∙ ap not (no_maximum b none))
+    ∙ walk-when (can_end (factors_in b) && not (is_maximum (bound_of_parts (terms_in b) (factors_in b)))) (front_at (Inside (Arguments args) ts fs outer) (terms_in b) (factors_in b) CommaRead) (Blank ∷ rest)
+    (ap (λ (v : Bool). v && not (is_maximum (bound_of_parts (terms_in b) (factors_in b)))) p.1 ∙ ap (λ (c : Bound). not (is_maximum c)) p.0 ∙ ap not (no_maximum b none))
     ∙ ap (λ (c : Bound). walk (starts (Inside (Arguments (with_part args c)) ts fs outer) NoParts NoParts) rest) p.0
 
 -- the arguments of a maximum are read
@@ -296,4 +302,4 @@ walk-bound b shaped rest = bound_read b (reads b shaped) Whole rest
 pub finish-bound : (b : Bound) → IsShaped b → finish (front_at Whole (terms_in b) (factors_in b) ItemRead) ≡ Some b
 finish-bound b shaped =
     let p = bound-parts b shaped in
-    ap (λ (v : Bool). when v (bound_made (terms_in b) (factors_in b))) p.1 ∙ ap Some p.0
+    ap (λ (v : Bool). when v (bound_of_parts (terms_in b) (factors_in b))) p.1 ∙ ap Some p.0

@@ -1,10 +1,12 @@
 -- What has been read can be completed: a text begins with it.
 use Rattle.std.proofs.Common.{◌≡◌, Bool, true, not, ◌&&◌, List, [], ◌∷◌, Option, Some, None, refl, ap, ◌∙◌}
 use Rattle.std.specs.Prelude.{IsTrue}
-use Rattle.model.specs.Bounds.{Bound, Constant, SumOf, PowerOf, Parts, NoParts, Part}
+use Rattle.text_core.specs.model.Bounds.{Bound, Constant, SumOf, PowerOf, Parts, NoParts, Part}
 use Rattle.bound_text.specs.Shapes.{is_sum, is_maximum, is_leaf, with_part}
 use Rattle.bound_text.specs.Pieces.{Piece, Number, Close, Times, Plus, Blank, Comma}
-use Rattle.bound_text.specs.Fronts.{Bracket, Arguments, Exponent, Factor, Outer, Whole, Inside, Position, Front, Begins, RunCaret, PowerCaret, ItemRead, BlankRead, PlusRead, CommaRead, IsFront, IsPosition, term_of, bound_made, can_end, can_be_argument}
+use Rattle.bound_text.specs.Fronts.{Bracket, Arguments, Exponent, Factor, Outer, Whole, Inside, Position, Front, Begins}
+use Rattle.bound_text.specs.Fronts.{RunCaret, PowerCaret, ItemRead, BlankRead, PlusRead, CommaRead, IsFront, IsPosition}
+use Rattle.bound_text.specs.Fronts.{term_of, bound_of_parts, can_end, can_be_argument}
 use Rattle.bound_text.specs.Steps.{with_copies, front_at, behind_factor, can_close, item_of, walk, finish}
 use Rattle.bound_text.proofs.PartLaws.{is_empty-with_part}
 use Rattle.bound_text.proofs.CompletenessLaws.{starts, stands, walk-when}
@@ -27,7 +29,7 @@ can_end_more (Part b NoParts) = refl
 can_end_more (Part b (Part c cs)) = refl
 
 -- a term and one more are a sum
-two_terms : (ts : Parts) (t : Bound) → bound_made (with_part ts t) (Part (Constant 0) NoParts) ≡ SumOf (with_part (with_part ts t) (Constant 0))
+two_terms : (ts : Parts) (t : Bound) → bound_of_parts (with_part ts t) (Part (Constant 0) NoParts) ≡ SumOf (with_part (with_part ts t) (Constant 0))
 two_terms NoParts t = refl
 two_terms (Part c NoParts) t = refl
 two_terms (Part c (Part d ds)) t = refl
@@ -41,18 +43,18 @@ more outer ts fs c = record {
 }
 
 -- a bracket closes behind a sum
-closes : (bracket : Bracket) (ts' fs' : Parts) (outer : Outer) (ts : Parts) (t : Bound) → can_close bracket (bound_made (with_part ts t) (Part (Constant 0) NoParts)) ≡ true
-    → Completes (stands outer ts' (with_part fs' (item_of bracket (bound_made (with_part ts t) (Part (Constant 0) NoParts)))))
+closes : (bracket : Bracket) (ts' fs' : Parts) (outer : Outer) (ts : Parts) (t : Bound) → can_close bracket (bound_of_parts (with_part ts t) (Part (Constant 0) NoParts)) ≡ true
+    → Completes (stands outer ts' (with_part fs' (item_of bracket (bound_of_parts (with_part ts t) (Part (Constant 0) NoParts)))))
     → Completes (stands (Inside bracket ts' fs' outer) (with_part ts t) (Part (Constant 0) NoParts))
 closes bracket ts' fs' outer ts t h c = record {
   pieces = Close ∷ c.pieces;
   bound = c.bound;
-  ends = ap finished (walk-when (can_close bracket (bound_made (with_part ts t) (Part (Constant 0) NoParts))) (behind_factor outer ts' fs' (item_of bracket (bound_made (with_part ts t) (Part (Constant 0) NoParts)))) c.pieces h) ∙ c.ends;
+  ends = ap finished (walk-when (can_close bracket (bound_of_parts (with_part ts t) (Part (Constant 0) NoParts))) (behind_factor outer ts' fs' (item_of bracket (bound_of_parts (with_part ts t) (Part (Constant 0) NoParts)))) c.pieces h) ∙ c.ends;
 }
 
 -- one more argument, and the maximum closes
 one_more : (bs ts' fs' : Parts) (outer : Outer) (ts : Parts) (t : Bound)
-    → Completes (stands outer ts' (with_part fs' (item_of (Arguments (with_part bs (bound_made (with_part ts t) (Part (Constant 0) NoParts)))) (Constant 0))))
+    → Completes (stands outer ts' (with_part fs' (item_of (Arguments (with_part bs (bound_of_parts (with_part ts t) (Part (Constant 0) NoParts)))) (Constant 0))))
     → Completes (stands (Inside (Arguments bs) ts' fs' outer) (with_part ts t) (Part (Constant 0) NoParts))
 one_more bs ts' fs' outer ts t c = record {
   pieces = Comma ∷ Blank ∷ Number 0 ∷ Close ∷ c.pieces;
@@ -64,11 +66,11 @@ one_more bs ts' fs' outer ts t c = record {
 }
   where
     B : Bound
-    B = bound_made (with_part ts t) (Part (Constant 0) NoParts)
+    B = bound_of_parts (with_part ts t) (Part (Constant 0) NoParts)
 
 -- all brackets close behind a sum
 close_all : (outer : Outer) (ts : Parts) (t : Bound) → Completes (stands outer (with_part ts t) (Part (Constant 0) NoParts))
-close_all Whole ts t = record { pieces = []; bound = bound_made (with_part ts t) (Part (Constant 0) NoParts); ends = refl }
+close_all Whole ts t = record { pieces = []; bound = bound_of_parts (with_part ts t) (Part (Constant 0) NoParts); ends = refl }
 close_all (Inside (Arguments bs) ts' fs' outer) ts t = one_more bs ts' fs' outer ts t (more outer ts' _ (close_all outer ts' _))
 close_all (Inside (Exponent c) ts' fs' outer) ts t = closes (Exponent c) ts' fs' outer ts t (ap (λ (b : Bound). not (is_leaf b)) (two_terms ts t)) (more outer ts' _ (close_all outer ts' _))
 close_all (Inside Factor ts' fs' outer) ts t = closes Factor ts' fs' outer ts t (ap is_sum (two_terms ts t)) (more outer ts' _ (close_all outer ts' _))
@@ -96,7 +98,7 @@ completes f is = go f.position is.position
       where
         argument : (outer : Outer) → IsTrue (can_be_argument outer f.terms f.factors) → Completes (Some (front_at outer f.terms f.factors CommaRead))
         argument (Inside (Arguments bs) ts fs outer) p =
-            let c = begin_completes (Inside (Arguments (with_part bs (bound_made f.terms f.factors))) ts fs outer) NoParts NoParts in record { pieces = Blank ∷ c.pieces; bound = c.bound; ends = c.ends }
+            let c = begin_completes (Inside (Arguments (with_part bs (bound_of_parts f.terms f.factors))) ts fs outer) NoParts NoParts in record { pieces = Blank ∷ c.pieces; bound = c.bound; ends = c.ends }
         argument (Inside (Exponent b) ts fs outer) p = absurd (cc)
         argument (Inside Factor ts fs outer) p = absurd (cc)
         argument Whole p = absurd (cc)

@@ -1,5 +1,6 @@
 -- Flags of pieces, one after the other.
-use Rattle.std.proofs.Common.{◌≡◌, ℕ, suc, ◌+◌, ◌-◌, ◌≤◌, ◌<◌, Bool, true, false, cond, not, nat_lt, List, [], ◌∷◌, ◌++◌, length, drop, get_or, refl, sym, ap, subst, ◌∙◌, arith, Option, Some, None}
+use Rattle.std.proofs.Common.{◌≡◌, ℕ, suc, ◌+◌, ◌-◌, ◌≤◌, ◌<◌, Bool, true, false, cond, not, nat_lt, List, [], ◌∷◌}
+use Rattle.std.proofs.Common.{◌++◌, length, drop, get_or, refl, sym, ap, subst, ◌∙◌, arith, Option, Some, None}
 use Rattle.std.specs.Prelude.{Result, Ok, Err, OnOk, IsFalse, if◌then◌else◌, slice_get}
 use Rattle.std.specs.List.{position, position_or_len}
 use Rattle.std.proofs.lemmas.Bool.Decides.{nat_tests}
@@ -8,8 +9,8 @@ use Rattle.std.specs.declared.alloc.AllocError.{AllocError}
 use Rattle.std.specs.declared.alloc.Global.{Global}
 use Rattle.std.specs.declared.vec.Vec.{Vec}
 use Rattle.std.specs.declared.boxed.Box.{Box}
-use Rattle.model.specs.Bounds as plain
-use Rattle.model.specs.Bounds.{SumOf, ProductOf, MaximumOf, PowerOf, Parts}
+use Rattle.text_core.specs.model.Bounds as plain
+use Rattle.text_core.specs.model.Bounds.{SumOf, ProductOf, MaximumOf, PowerOf, Parts}
 use Rattle.text_core.specs.Tokens.{Token}
 use Rattle.bound_expr.specs.declared.bound.Bound.{Bound, Sum, Prod, Max, Power}
 use Rattle.bound_expr.specs.Views.{bound_of, bounds_of, parts_of}
@@ -20,10 +21,13 @@ use Rattle.bound_text.specs.Writing as writing
 use Rattle.bound_text.specs.Writing.{Before, plus_between, comma_between}
 use Rattle.bound_text.specs.Kinds.{TooDeep}
 use Rattle.bound_text.specs.Fronts.{Front, Outer, Inside, Exponent, in_factor, levels_above}
-use Rattle.bound_text.specs.Inside.{Marks, unmarked, ended_marks, times_marks, factor_marks, exponent_marks, bound_marks, joined_marks, more_marks, factors_marks, each_marks, bracket_marks, outer_marks, level_behind, front_marks, deep_among}
+use Rattle.bound_text.specs.Inside.{Marks, unmarked, ended_marks, times_marks, factor_marks, exponent_marks}
+use Rattle.bound_text.specs.Inside.{bound_marks, joined_marks, more_marks, factors_marks, each_marks, bracket_marks}
+use Rattle.bound_text.specs.Inside.{outer_marks, level_behind, front_marks, deep_among}
 use Rattle.bound_text.specs.Brackets.{parts_in, bracket_of, outer_from, outer_of}
 use Rattle.bound_text.specs.Views.{front_with, is_fresh_at, sum_here, product_here}
-use Rattle.bound_text.specs.Depths.{FindsDeep, Flags, FlagsAll, FlagsFactor, FlagsParts, FlagsOpened, FlagsOuter, Passes, flags, parts_marks, opened_marks, marks_here}
+use Rattle.bound_text.specs.Depths.{FindsDeep, Flags, FlagsAll, FlagsFactor, FlagsParts, FlagsOpened, FlagsOuter}
+use Rattle.bound_text.specs.Depths.{Passes, flags, parts_marks, opened_marks, marks_here}
 use Rattle.bound_text.specs.declared.state.Opened.{Opened}
 use Rattle.bound_text.specs.declared.state.Position.{Position}
 use Rattle.bound_text.proofs.MarkLaws.{other_factor, front_here}

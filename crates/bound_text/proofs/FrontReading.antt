@@ -1,14 +1,18 @@
 -- The part that has been read leads the reader to it, and can be completed.
 use Rattle.std.proofs.Common.{◌≡◌, Bool, true, false, not, ◌&&◌, List, ◌∷◌, ◌++◌, Some, refl, ap, ◌∙◌}
-use Rattle.model.specs.Bounds.{Parts, NoParts, Part}
+use Rattle.text_core.specs.model.Bounds.{Parts, NoParts, Part}
 use Rattle.bound_expr.specs.Tidy.{IsNoSum, IsNoMaximum, EachPart}
 use Rattle.bound_text.specs.Shapes.{is_maximum, is_empty, with_part, AreShaped}
 use Rattle.bound_text.specs.Pieces.{Piece, Variable, Number, Open, Times, Caret, Plus, Blank, Comma}
 use Rattle.bound_text.specs.Writing.{Nothing, factors_then, plus_between, comma_between}
-use Rattle.bound_text.specs.Fronts.{Bracket, Arguments, Exponent, Factor, Outer, Whole, Inside, Position, Front, Begins, RunCaret, PowerCaret, ItemRead, BlankRead, PlusRead, CommaRead, IsFront, IsOuter, IsBracket, AreFactors, front_then, outer_then, position_then, star_then, each_then, bracket_then, bound_made, can_end, can_be_argument, in_arguments}
+use Rattle.bound_text.specs.Fronts.{Bracket, Arguments, Exponent, Factor, Outer, Whole, Inside, Position, Front, Begins}
+use Rattle.bound_text.specs.Fronts.{RunCaret, PowerCaret, ItemRead, BlankRead, PlusRead, CommaRead, IsFront, IsOuter}
+use Rattle.bound_text.specs.Fronts.{IsBracket, AreFactors, front_then, outer_then, position_then, star_then, each_then}
+use Rattle.bound_text.specs.Fronts.{bracket_then, bound_of_parts, can_end, can_be_argument, in_arguments}
 use Rattle.bound_text.specs.Steps.{front_at, walk, beginning}
 use Rattle.bound_text.proofs.BoundParts.{appended, appended-none}
-use Rattle.bound_text.proofs.CompletenessLaws.{starts, stands, walk-when, read_input, read_run_caret, read_base, AllRead, term_read, read_plus, argument_read, product_read, all_read}
+use Rattle.bound_text.proofs.CompletenessLaws.{starts, stands, walk-when, read_input, read_run_caret, read_base}
+use Rattle.bound_text.proofs.CompletenessLaws.{AllRead, term_read, read_plus, argument_read, product_read, all_read}
 
 -- terms with ` + ` behind each
 terms_before_read : (ts : Parts) → AllRead ts → EachPart IsNoSum ts → AreShaped ts → (outer : Outer) (acc : Parts) (rest : List Piece)
@@ -90,7 +94,7 @@ front_read f is rest =
         ∙ walk-when (can_be_argument f.outer f.terms f.factors) (front_at f.outer f.terms f.factors CommaRead) rest is.position
       where
         some_argument : (outer : Outer) → can_be_argument outer f.terms f.factors ≡ true → is_empty f.factors ≡ false
-        some_argument outer h = some (in_arguments outer) (can_end f.factors) (not (is_maximum (bound_made f.terms f.factors))) h (some_end f.factors)
+        some_argument outer h = some (in_arguments outer) (can_end f.factors) (not (is_maximum (bound_of_parts f.terms f.factors))) h (some_end f.factors)
           where
             some : (a b c : Bool) → a && (b && c) ≡ true → (b ≡ true → is_empty f.factors ≡ false) → is_empty f.factors ≡ false
             some true true c h k = k refl

@@ -1,14 +1,15 @@
 -- What terms and factors make.
-use Rattle.std.proofs.Common.{◌≡◌, ◌≢◌, ℕ, suc, ◌-◌, cond, nat_lt, Bool, true, false, not, ◌&&◌, ◌||◌, List, [], ◌∷◌, length, None, refl, ap, ◌∙◌, arith}
+use Rattle.std.proofs.Common.{◌≡◌, ◌≢◌, ℕ, suc, ◌-◌, cond, nat_lt, Bool, true, false, not, ◌&&◌, ◌||◌, List, [], ◌∷◌}
+use Rattle.std.proofs.Common.{length, None, refl, ap, ◌∙◌, arith}
 use Rattle.std.specs.Prelude.{slice_get, nat_eq}
 use Rattle.std.specs.Option.{option_map}
 use Rattle.std.proofs.lemmas.Bool.Decides.{nat_tests}
-use Rattle.model.specs.Bounds as plain
-use Rattle.model.specs.Bounds.{SumOf, Parts, NoParts, Part}
+use Rattle.text_core.specs.model.Bounds as plain
+use Rattle.text_core.specs.model.Bounds.{SumOf, Parts, NoParts, Part}
 use Rattle.bound_expr.specs.declared.bound.Bound.{Bound}
 use Rattle.bound_expr.specs.Views.{bound_of, bounds_of, parts_of}
 use Rattle.bound_text.specs.Shapes.{is_sum, is_maximum, is_leaf, is_empty, with_part}
-use Rattle.bound_text.specs.Fronts.{as_one, term_of, bound_made, lone, passes, last, product_node}
+use Rattle.bound_text.specs.Fronts.{as_one, term_of, bound_of_parts, lone, passes, last, product_node}
 
 -- parts that aren't one are taken as a whole
 pub as_one_more : (whole : Parts → plain.Bound) (xs : List Bound) → length xs ≢ 1 → as_one whole (parts_of (bounds_of xs)) ≡ whole (parts_of (bounds_of xs))
@@ -27,21 +28,21 @@ as_one-with_part b NoParts t = refl
 as_one-with_part b (Part c bs) t = refl
 
 -- when terms and factors make a sum
-pub is_sum-bound_made : (ts fs : Parts) → is_sum (bound_made ts fs) ≡ not (is_empty ts) || passes is_sum (lone fs)
+pub is_sum-bound_made : (ts fs : Parts) → is_sum (bound_of_parts ts fs) ≡ not (is_empty ts) || passes is_sum (lone fs)
 is_sum-bound_made NoParts NoParts = refl
 is_sum-bound_made NoParts (Part b NoParts) = refl
 is_sum-bound_made NoParts (Part b (Part c bs)) = refl
 is_sum-bound_made (Part b bs) fs = ap is_sum (as_one-with_part b bs (term_of fs))
 
 -- when they make a maximum
-pub is_maximum-bound_made : (ts fs : Parts) → is_maximum (bound_made ts fs) ≡ is_empty ts && passes is_maximum (lone fs)
+pub is_maximum-bound_made : (ts fs : Parts) → is_maximum (bound_of_parts ts fs) ≡ is_empty ts && passes is_maximum (lone fs)
 is_maximum-bound_made NoParts NoParts = refl
 is_maximum-bound_made NoParts (Part b NoParts) = refl
 is_maximum-bound_made NoParts (Part b (Part c bs)) = refl
 is_maximum-bound_made (Part b bs) fs = ap is_maximum (as_one-with_part b bs (term_of fs))
 
 -- when they make a constant or a variable
-pub is_leaf-bound_made : (ts fs : Parts) → is_leaf (bound_made ts fs) ≡ is_empty ts && passes is_leaf (lone fs)
+pub is_leaf-bound_made : (ts fs : Parts) → is_leaf (bound_of_parts ts fs) ≡ is_empty ts && passes is_leaf (lone fs)
 is_leaf-bound_made NoParts NoParts = refl
 is_leaf-bound_made NoParts (Part b NoParts) = refl
 is_leaf-bound_made NoParts (Part b (Part c bs)) = refl

@@ -1,17 +1,23 @@
 -- What is kept behind a piece was kept before it.
-use Rattle.std.proofs.Common.{◌≡◌, ℕ, zero, suc, ◌^◌, ◌<◌, ◌≤◌, true, Option, Some, None, refl, ap, sym, subst, ◌∙◌, arith}
+use Rattle.std.proofs.Common.{◌≡◌, ℕ, zero, suc, ◌^◌, ◌<◌, ◌≤◌, true, Option, Some, None, refl, ap, sym, subst, ◌∙◌}
+use Rattle.std.proofs.Common.{arith}
 use Rattle.std.specs.Prelude.{⊤}
-use Rattle.model.specs.Bounds.{Bound, Constant, Input, SumOf, ProductOf, MaximumOf, PowerOf, Parts, NoParts, Part}
+use Rattle.text_core.specs.model.Bounds.{Bound, Constant, Input, SumOf, ProductOf, MaximumOf, PowerOf, Parts, NoParts, Part}
 use Rattle.bound_text.specs.Shapes.{with_part}
 use Rattle.bound_text.specs.Pieces.{Piece, Number, Caret}
-use Rattle.bound_text.specs.Fronts.{Bracket, Arguments, Exponent, Factor, Inside, Front, Position, Begins, RunCaret, PowerCaret, ItemRead, BlankRead, PlusRead, CommaRead, IsFront, nodes_of, last, term_of, bound_made}
+use Rattle.bound_text.specs.Fronts.{Bracket, Arguments, Exponent, Factor, Inside, Front, Position, Begins, RunCaret}
+use Rattle.bound_text.specs.Fronts.{PowerCaret, ItemRead, BlankRead, PlusRead, CommaRead, IsFront, nodes_of, last}
+use Rattle.bound_text.specs.Fronts.{term_of, bound_of_parts}
 use Rattle.bound_text.specs.Steps.{step, with_copies, front_at, behind_factor, item_of}
 use Rattle.bound_text.specs.Checks.{begins}
 use Rattle.bound_text.proofs.PartLaws.{last-with_part}
 use Rattle.bound_text.proofs.JoiningLaws.{as_one-with_part}
 use Rattle.bound_text.proofs.RunLaws.{node_count-with_copies}
-use Rattle.bound_text.proofs.StepCases.{Leads, of_variable, of_number, of_maximum, of_sum, of_run, of_power, of_power_of, of_exponent, of_times, of_base, of_caret, of_blank, of_comma, of_close, of_plus, of_term, of_argument}
-use Rattle.bound_text.proofs.KeptBounds.{Kept, AllKept, KeptBracket, KeptFront, KeptPiece, kept-more, kept-less, kept_front}
+use Rattle.bound_text.proofs.StepCases.{Leads, of_variable, of_number, of_maximum, of_sum, of_run, of_power}
+use Rattle.bound_text.proofs.StepCases.{of_power_of, of_exponent, of_times, of_base, of_caret, of_blank, of_comma}
+use Rattle.bound_text.proofs.StepCases.{of_close, of_plus, of_term, of_argument}
+use Rattle.bound_text.proofs.KeptBounds.{Kept, AllKept, KeptBracket, KeptFront, KeptPiece, kept-more, kept-less}
+use Rattle.bound_text.proofs.KeptBounds.{kept_front}
 
 -- with copies kept, the factors before them are
 kept-fewer : (n k i : ℕ) (fs : Parts) → AllKept n (with_copies k i fs) → AllKept n fs
@@ -25,7 +31,7 @@ term_kept n (Part b NoParts) k = (k, tt)
 term_kept n (Part b (Part c cs)) k = k
 
 -- a kept bound has kept terms and factors
-pub bound_kept : (n : ℕ) (ts fs : Parts) → Kept n (bound_made ts fs) → AllKept n ts × AllKept n fs
+pub bound_kept : (n : ℕ) (ts fs : Parts) → Kept n (bound_of_parts ts fs) → AllKept n ts × AllKept n fs
 bound_kept n NoParts fs k = (tt, term_kept n fs k)
 bound_kept n (Part c cs) fs k =
     let t = kept-less n (Part c cs) (term_of fs) (subst (Kept n) (as_one-with_part c cs (term_of fs)) k) in
@@ -55,8 +61,8 @@ keeps_back n f g piece (of_caret o ts fs i) m k = (kept_front n o ts (with_part 
 keeps_back n f g piece (of_blank o ts fs e) m k = (kept_front n o ts fs ItemRead k.outer k.terms k.factors tt, tt)
 keeps_back n f g piece (of_comma o ts fs e) m k = (kept_front n o ts fs ItemRead k.outer k.terms k.factors tt, tt)
 keeps_back n f g piece (of_close bracket o ts' fs' ts fs e c) m k =
-    let t = kept-less n fs' (item_of bracket (bound_made ts fs)) k.factors in
-    let i = item_kept n bracket (bound_made ts fs) t.1 in
+    let t = kept-less n fs' (item_of bracket (bound_of_parts ts fs)) k.factors in
+    let i = item_kept n bracket (bound_of_parts ts fs) t.1 in
     let b = bound_kept n ts fs i.1 in
     (kept_front n (Inside bracket ts' fs' o) ts fs ItemRead (i.0, k.terms, t.0, k.outer) b.0 b.1 tt, tt)
 keeps_back n f g piece (of_plus o ts fs) m k = (kept_front n o ts fs BlankRead k.outer k.terms k.factors tt, tt)
@@ -64,7 +70,7 @@ keeps_back n f g piece (of_term o ts fs e) m k =
     let t = kept-less n ts (term_of fs) k.terms in
     (kept_front n o ts fs PlusRead k.outer t.0 (term_kept n fs t.1) tt, tt)
 keeps_back n f g piece (of_argument o bs ts' fs' ts fs e) m k =
-    let t = kept-less n bs (bound_made ts fs) k.outer.0 in
+    let t = kept-less n bs (bound_of_parts ts fs) k.outer.0 in
     let b = bound_kept n ts fs t.1 in
     (kept_front n (Inside (Arguments bs) ts' fs' o) ts fs CommaRead (t.0, k.outer.1, k.outer.2, k.outer.3) b.0 b.1 tt, tt)
 

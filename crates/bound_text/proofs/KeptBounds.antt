@@ -1,19 +1,25 @@
 -- What the checks of pieces keep out of the tree so far.
-use Rattle.std.proofs.Common.{◌≡◌, ℕ, zero, suc, ◌^◌, ◌<◌, nat_le, true, false, ◌&&◌, List, [], ◌∷◌, Some, refl, ap, sym, subst, ◌∙◌, arith}
+use Rattle.std.proofs.Common.{◌≡◌, ℕ, zero, suc, ◌^◌, ◌<◌, nat_le, true, false, ◌&&◌, List, [], ◌∷◌, Some, refl, ap}
+use Rattle.std.proofs.Common.{sym, subst, ◌∙◌, arith}
 use Rattle.std.specs.Prelude.{⊤}
 use Rattle.std.proofs.lemmas.Bool.Decides.{nat_tests}
-use Rattle.model.specs.Bounds.{Bound, Constant, Input, SumOf, ProductOf, MaximumOf, PowerOf, Parts, NoParts, Part}
+use Rattle.text_core.specs.model.Bounds.{Bound, Constant, Input, SumOf, ProductOf, MaximumOf, PowerOf, Parts, NoParts, Part}
 use Rattle.bound_expr.specs.Substitution.{ReadsBelow, AllReadBelow}
 use Rattle.bound_expr.specs.Tidy.{IsTidy, AreTidy}
 use Rattle.bound_text.specs.Shapes.{with_part, IsShaped, AreShaped}
 use Rattle.bound_text.specs.Texts.{HasShortBases, HaveShortBases}
-use Rattle.bound_text.specs.Pieces.{Piece, Variable, Number, Maximum, Open, Close, Times, Caret, Plus, Blank, Comma, Wrong}
-use Rattle.bound_text.specs.Fronts.{Bracket, Arguments, Exponent, Factor, Outer, Whole, Inside, Position, Front, Begins, RunCaret, PowerCaret, ItemRead, BlankRead, PlusRead, CommaRead, last, term_of, bound_made}
+use Rattle.bound_text.specs.Pieces.{Piece, Variable, Number, Maximum, Open, Close, Times, Caret, Plus, Blank, Comma}
+use Rattle.bound_text.specs.Pieces.{Wrong}
+use Rattle.bound_text.specs.Fronts.{Bracket, Arguments, Exponent, Factor, Outer, Whole, Inside, Position, Front, Begins}
+use Rattle.bound_text.specs.Fronts.{RunCaret, PowerCaret, ItemRead, BlankRead, PlusRead, CommaRead, last, term_of}
+use Rattle.bound_text.specs.Fronts.{bound_of_parts}
 use Rattle.bound_text.specs.Steps.{with_copies, front_at, can_close, item_of}
 use Rattle.bound_text.specs.Checks.{begins, is_large_base, is_large_number, has_large_base}
 use Rattle.bound_text.proofs.PartLaws.{last-with_part}
 use Rattle.bound_text.proofs.JoiningLaws.{as_one-with_part}
-use Rattle.bound_text.proofs.StepCases.{Leads, of_variable, of_number, of_maximum, of_sum, of_run, of_power, of_power_of, of_exponent, of_times, of_base, of_caret, of_blank, of_comma, of_close, of_plus, of_term, of_argument}
+use Rattle.bound_text.proofs.StepCases.{Leads, of_variable, of_number, of_maximum, of_sum, of_run, of_power}
+use Rattle.bound_text.proofs.StepCases.{of_power_of, of_exponent, of_times, of_base, of_caret, of_blank, of_comma}
+use Rattle.bound_text.proofs.StepCases.{of_close, of_plus, of_term, of_argument}
 
 -- constants below 2^127, bases below 2^64, and variables among the first n
 abbrev mutual
@@ -99,7 +105,7 @@ kept_term n (Part b NoParts) all = all.0
 kept_term n (Part b (Part c cs)) all = all
 
 -- kept terms and factors make a kept bound
-pub kept_bound : (n : ℕ) (ts fs : Parts) → AllKept n ts → AllKept n fs → Kept n (bound_made ts fs)
+pub kept_bound : (n : ℕ) (ts fs : Parts) → AllKept n ts → AllKept n fs → Kept n (bound_of_parts ts fs)
 kept_bound n NoParts fs terms factors = kept_term n fs factors
 kept_bound n (Part c cs) fs terms factors = subst (Kept n) (sym (as_one-with_part c cs (term_of fs))) (kept-more n (Part c cs) (term_of fs) terms (kept_term n fs factors))
 
@@ -133,13 +139,13 @@ keeps n f g piece (of_caret o ts fs i) k p h = let t = kept-less n fs (Input i) 
 keeps n f g piece (of_blank o ts fs e) k p h = kept_front n o ts fs BlankRead k.outer k.terms k.factors tt
 keeps n f g piece (of_comma o ts fs e) k p h = kept_front n o ts fs CommaRead k.outer k.terms k.factors tt
 keeps n f g piece (of_close bracket o ts' fs' ts fs e c) k p h =
-    kept_front n o ts' (with_part fs' (item_of bracket (bound_made ts fs))) ItemRead k.outer.3 k.outer.1
-    (kept-more n fs' (item_of bracket (bound_made ts fs)) k.outer.2 (kept_item n bracket (bound_made ts fs) k.outer.0 (kept_bound n ts fs k.terms k.factors))) tt
+    kept_front n o ts' (with_part fs' (item_of bracket (bound_of_parts ts fs))) ItemRead k.outer.3 k.outer.1
+    (kept-more n fs' (item_of bracket (bound_of_parts ts fs)) k.outer.2 (kept_item n bracket (bound_of_parts ts fs) k.outer.0 (kept_bound n ts fs k.terms k.factors))) tt
 keeps n f g piece (of_plus o ts fs) k p h = kept_front n o ts fs PlusRead k.outer k.terms k.factors tt
 keeps n f g piece (of_term o ts fs e) k p h = kept_front n o (with_part ts (term_of fs)) NoParts Begins k.outer (kept-more n ts (term_of fs) k.terms (kept_term n fs k.factors)) tt tt
 keeps n f g piece (of_argument o bs ts' fs' ts fs e) k p h =
-    kept_front n (Inside (Arguments (with_part bs (bound_made ts fs))) ts' fs' o) NoParts NoParts Begins
-    (kept-more n bs (bound_made ts fs) k.outer.0 (kept_bound n ts fs k.terms k.factors), k.outer.1, k.outer.2, k.outer.3) tt tt tt
+    kept_front n (Inside (Arguments (with_part bs (bound_of_parts ts fs))) ts' fs' o) NoParts NoParts Begins
+    (kept-more n bs (bound_of_parts ts fs) k.outer.0 (kept_bound n ts fs k.terms k.factors), k.outer.1, k.outer.2, k.outer.3) tt tt tt
 
 -- a base that is too large was a number that began an item
 no_number : (b : Bound) (fs : Parts) → is_large_number (Some b) ≡ false → is_large_number (last (with_part fs b)) ≡ false
@@ -171,7 +177,7 @@ large_after f g piece (of_base o ts fs c) h = refl
 large_after f g piece (of_caret o ts fs i) h = refl
 large_after f g piece (of_blank o ts fs e) h = refl
 large_after f g piece (of_comma o ts fs e) h = refl
-large_after f g piece (of_close bracket o ts' fs' ts fs e c) h = no_number (item_of bracket (bound_made ts fs)) fs' (item_no_number bracket (bound_made ts fs) c)
+large_after f g piece (of_close bracket o ts' fs' ts fs e c) h = no_number (item_of bracket (bound_of_parts ts fs)) fs' (item_no_number bracket (bound_of_parts ts fs) c)
 large_after f g piece (of_plus o ts fs) h = refl
 large_after f g piece (of_term o ts fs e) h = refl
 large_after f g piece (of_argument o bs ts' fs' ts fs e) h = refl

@@ -1,15 +1,16 @@
 -- Names and numbers at the front of a text.
-use Rattle.std.proofs.Common.{◌≡◌, ℕ, suc, ◌+◌, Bool, true, false, cond, List, ◌∷◌, length, take, drop, sym, ap, ◌∙◌, arith}
+use Rattle.std.proofs.Common.{◌≡◌, ℕ, suc, ◌+◌, Bool, true, false, cond, List, ◌∷◌, length, take, drop, sym, ap, ◌∙◌}
+use Rattle.std.proofs.Common.{arith}
 use Rattle.std.specs.Prelude.{IsTrue, Result, Ok, Err, IfOk}
 use Rattle.std.specs.List.{list_all}
 use Rattle.std.specs.Char.{is_ascii_digit}
 use Rattle.std.specs.declared.alloc.AllocError.{AllocError}
-use Rattle.model.specs.Programs.{Name}
+use Rattle.text_core.specs.model.Programs.{Name}
 use Rattle.text_core.specs.Names.{begins_name, continues_name}
 use Rattle.text_core.specs.Tokens as plain
 use Rattle.bound_text.specs.Pieces.{Piece}
 use Rattle.text_core.specs.Prefixes.{prefix, rest}
-use Rattle.bound_text.specs.Lexing.{found as one, word_at, number_at, mark_at, lexeme_at}
+use Rattle.bound_text.specs.Lexing.{lexeme_with as one, word_at, number_at, mark_at, lexeme_at}
 use Rattle.bound_text.specs.Lexemes.{lexeme_of}
 use Rattle.bound_text.specs.declared.lexer.Lexeme.{Lexeme}
 use Rattle.text_core.proofs.PrefixLaws.{take-prefix, drop-prefix, all_prefix}

@@ -1,19 +1,24 @@
 -- The limits on bounds, as the reader's fronts tell them: what is read is within them, and against what is within them
 -- nothing stands.
-use Rattle.std.proofs.Common.{◌≡◌, ℕ, ◌^◌, ◌≤◌, Bool, true, false, ◌&&◌, List, [], ◌∷◌, Some, None, refl, ap, sym, subst, ◌∙◌, inl, inr, arith}
+use Rattle.std.proofs.Common.{◌≡◌, ℕ, ◌^◌, ◌≤◌, Bool, true, false, ◌&&◌, List, [], ◌∷◌, Some, None, refl, ap, sym}
+use Rattle.std.proofs.Common.{subst, ◌∙◌, inl, inr, arith}
 use Rattle.std.specs.Prelude.{⊤}
-use Rattle.std.proofs.lemmas.Bool.{and_parts, or_parts, or_from, leb-false as le_false, ltb-false as lt_false, lt-leb as false_le, le-ltb as false_lt}
-use Rattle.model.specs.Bounds.{Bound, Constant, Parts}
+use Rattle.std.proofs.lemmas.Bool.{and_parts, or_parts, or_from, leb-false as le_false, ltb-false as lt_false}
+use Rattle.std.proofs.lemmas.Bool.{lt-leb as false_le, le-ltb as false_lt}
+use Rattle.text_core.specs.model.Bounds.{Bound, Constant, Parts}
 use Rattle.text_core.specs.Tokens.{Token, pieces}
 use Rattle.text_core.specs.Faults.{Among}
 use Rattle.text_core.specs.Limits.{ShowsNothing, KeepsLimits, ShowsNoLimit}
 use Rattle.text_core.proofs.ShownFaults.{no_faults, nothing_passes}
 use Rattle.bound_expr.specs.Measure.{node_count, depth_of}
-use Rattle.bound_text.specs.Pieces.{Piece, Variable, Number, Maximum, Open, Close, Times, Caret, Plus, Blank, Comma, Wrong}
+use Rattle.bound_text.specs.Pieces.{Piece, Variable, Number, Maximum, Open, Close, Times, Caret, Plus, Blank, Comma}
+use Rattle.bound_text.specs.Pieces.{Wrong}
 use Rattle.bound_text.specs.Kinds.{Kind, Syntax, NumberTooLarge, UnknownName, TooDeep, TooLarge, kinds}
-use Rattle.bound_text.specs.Fronts.{Outer, Whole, Inside, Position, Front, Begins, RunCaret, PowerCaret, ItemRead, BlankRead, PlusRead, CommaRead, nodes_of, levels_of, last, bound_made, can_end}
+use Rattle.bound_text.specs.Fronts.{Outer, Whole, Inside, Position, Front, Begins, RunCaret, PowerCaret, ItemRead}
+use Rattle.bound_text.specs.Fronts.{BlankRead, PlusRead, CommaRead, nodes_of, levels_of, last, bound_of_parts, can_end}
 use Rattle.bound_text.specs.Steps.{step, step_at, finish_at, front_at}
-use Rattle.bound_text.specs.Checks.{is_large, is_small_base, is_large_base, is_unlisted, begins, has_large_base, has_large_base_at, is_caret, caret_next}
+use Rattle.bound_text.specs.Checks.{is_large, is_small_base, is_large_base, is_unlisted, begins, has_large_base}
+use Rattle.bound_text.specs.Checks.{has_large_base_at, is_caret, caret_next}
 use Rattle.bound_text.specs.Reading.{is_base, is_deep, has_many, stands, bounds}
 use Rattle.bound_text.proofs.SoundnessLaws.{when-some, step_sound}
 use Rattle.bound_text.proofs.StepCases.{Leads, step_leads}
@@ -108,12 +113,12 @@ module _ (n : ℕ) (f g : Front) (piece : Piece) (behind : List Piece) (led : st
 measures : (n : ℕ) (position : Position) (outer : Outer) (ts fs : Parts) (b : Bound) → finish_at position outer ts fs ≡ Some b
     → (KeptFront n (front_at outer ts fs position) → Kept n b) × (depth_of b ≤ levels_of (front_at outer ts fs position)) × (node_count b ≤ nodes_of (front_at outer ts fs position))
 measures n ItemRead Whole ts fs b h =
-    let t = when-some (can_end fs) (bound_made ts fs) b h in
+    let t = when-some (can_end fs) (bound_of_parts ts fs) b h in
     let d = bound_depth ts fs t.0 in
     let m = bound_nodes ts fs t.0 in (
       (λ k. subst (Kept n) t.1 (kept_bound n ts fs k.terms k.factors)),
-      (let e : depth_of (bound_made ts fs) ≡ depth_of b = ap depth_of t.1 in omega (arith, d, e)),
-      (let e : node_count (bound_made ts fs) ≡ node_count b = ap node_count t.1 in omega (arith, m, e)),
+      (let e : depth_of (bound_of_parts ts fs) ≡ depth_of b = ap depth_of t.1 in omega (arith, d, e)),
+      (let e : node_count (bound_of_parts ts fs) ≡ node_count b = ap node_count t.1 in omega (arith, m, e)),
     )
 measures n ItemRead (Inside bracket ts' fs' outer) ts fs b h = cc
 measures n Begins outer ts fs b h = cc
@@ -207,7 +212,7 @@ module _ (n : ℕ) (f g : Front) (piece : Piece) (behind : List Piece) (led : st
 -- what a bound within the limits ends
 ended_small : (n : ℕ) (position : Position) (outer : Outer) (ts fs : Parts) (b : Bound) → finish_at position outer ts fs ≡ Some b → IsKeptWithin n b → IsSmall n (front_at outer ts fs position) []
 ended_small n ItemRead Whole ts fs b h w =
-    let t = when-some (can_end fs) (bound_made ts fs) b h in
+    let t = when-some (can_end fs) (bound_of_parts ts fs) b h in
     let q = bound_kept n ts fs (subst (Kept n) (sym t.1) w.kept) in
     let d = bound_depth ts fs t.0 in
     let m = bound_nodes ts fs t.0 in
@@ -215,8 +220,8 @@ ended_small n ItemRead Whole ts fs b h w =
     let s = w.nodes in
     record {
       kept = kept_front n Whole ts fs ItemRead tt q.0 q.1 tt;
-      levels = (let e : depth_of (bound_made ts fs) ≡ depth_of b = ap depth_of t.1 in omega (arith, d, e, l));
-      nodes = (let e : node_count (bound_made ts fs) ≡ node_count b = ap node_count t.1 in omega (arith, m, e, s));
+      levels = (let e : depth_of (bound_of_parts ts fs) ≡ depth_of b = ap depth_of t.1 in omega (arith, d, e, l));
+      nodes = (let e : node_count (bound_of_parts ts fs) ≡ node_count b = ap node_count t.1 in omega (arith, m, e, s));
       bases = λ k. cc;
       none = tt;
     }

@@ -1,12 +1,14 @@
 -- Marks of factors with one more at the end, of the front at a position of the code, and of the first part too deep.
-use Rattle.std.proofs.Common.{◌≡◌, ℕ, zero, suc, ◌+◌, Bool, true, false, cond, nat_eq, [], ◌∷◌, Some, None, refl, ap, sym, ◌∙◌, arith}
+use Rattle.std.proofs.Common.{◌≡◌, ℕ, zero, suc, ◌+◌, Bool, true, false, cond, nat_eq, [], ◌∷◌, Some, None, refl, ap}
+use Rattle.std.proofs.Common.{sym, ◌∙◌, arith}
 use Rattle.std.specs.Prelude.{⊤, not}
-use Rattle.model.specs.Bounds.{Bound, Constant, Input, SumOf, ProductOf, MaximumOf, PowerOf, Parts, NoParts, Part}
+use Rattle.text_core.specs.model.Bounds.{Bound, Constant, Input, SumOf, ProductOf, MaximumOf, PowerOf, Parts, NoParts, Part}
 use Rattle.bound_text.specs.Shapes.{is_sum, is_variable, with_part}
 use Rattle.bound_text.specs.Writing.{Before, Nothing, Run, Other, goes_on, run_with, plus_between}
 use Rattle.bound_text.specs.Fronts.{Outer, is_input, last, levels_above, node_of_any, sum_node}
 use Rattle.bound_text.specs.Steps.{with_copies}
-use Rattle.bound_text.specs.Inside.{Marks, ended_marks, times_marks, factor_marks, bound_marks, factors_marks, each_marks, star_marks, outer_marks, level_behind, front_marks}
+use Rattle.bound_text.specs.Inside.{Marks, ended_marks, times_marks, factor_marks, bound_marks, factors_marks}
+use Rattle.bound_text.specs.Inside.{each_marks, star_marks, outer_marks, level_behind, front_marks}
 use Rattle.bound_text.specs.Views.{front_with, is_fresh_at, sum_here, product_here}
 use Rattle.bound_text.specs.Depths.{parts_marks, marks_here}
 use Rattle.bound_text.specs.declared.state.Position.{Position}

@@ -1,7 +1,7 @@
 -- One more part at the end, and what the measures say of it.
 use Rattle.std.proofs.Common.{◌≡◌, false, Some, refl, ap}
-use Rattle.model.specs.Bounds as plain
-use Rattle.model.specs.Bounds.{Parts, NoParts, Part}
+use Rattle.text_core.specs.model.Bounds as plain
+use Rattle.text_core.specs.model.Bounds.{Parts, NoParts, Part}
 pub use Rattle.bound_expr.proofs.Lists.{parts_of-push, node_count-with_part, depth-with_part}
 use Rattle.bound_text.specs.Shapes.{is_sum, is_empty, with_part}
 use Rattle.bound_text.specs.Fronts.{last, init, product_node, node_of_any}

@@ -1,12 +1,14 @@
 -- Taking a piece comes to the first of what stands against it.
-use Rattle.std.proofs.Common.{◌≡◌, ℕ, ◌≤◌, nat_lt, Bool, true, false, cond, ◌&&◌, List, Option, Some, None, refl, ap, sym, subst, ◌∙◌, inl, inr, arith}
+use Rattle.std.proofs.Common.{◌≡◌, ℕ, ◌≤◌, nat_lt, Bool, true, false, cond, ◌&&◌, List, Option, Some, None, refl, ap}
+use Rattle.std.proofs.Common.{sym, subst, ◌∙◌, inl, inr, arith}
 use Rattle.std.specs.Prelude.{◌⊎◌}
 use Rattle.std.proofs.lemmas.Bool.{ltb-true, ltb-false, lt-ltb as past, le-ltb as within}
 use Rattle.bound_text.specs.Pieces.{Piece}
 use Rattle.bound_text.specs.Kinds.{Kind, Syntax, NumberTooLarge, UnknownName, TooDeep, TooLarge, number_of}
 use Rattle.bound_text.specs.Fronts.{Front, IsFront, nodes_of, inner_levels, levels_of}
 use Rattle.bound_text.specs.Steps.{step}
-use Rattle.bound_text.specs.Checks.{Checked, Refused, Reached, fault_of, begins, has_large_base, judged, checked, caret_next}
+use Rattle.bound_text.specs.Checks.{PieceResult, Refused, Reached, fault_of, begins, has_large_base, fault_or_front}
+use Rattle.bound_text.specs.Checks.{piece_result, caret_next}
 use Rattle.bound_text.specs.Reading.{is_deep, has_many, stands}
 use Rattle.bound_text.proofs.StepCases.{step_leads}
 use Rattle.bound_text.proofs.TreeSizes.{grows}
@@ -27,7 +29,7 @@ module _ (n : ℕ) (f : Front) (piece : Piece) (behind : List Piece) where
     pub nodes : nodes_of g ≤ node_limit
 
   -- what taking the piece comes to
-  abbrev pub IsJudged : Checked → Type 0
+  abbrev pub IsJudged : PieceResult → Type 0
   IsJudged (Refused kind) = IsRefused kind
   IsJudged (Reached g) = IsTaken g
 
@@ -83,7 +85,7 @@ module _ (n : ℕ) (f : Front) (piece : Piece) (behind : List Piece) where
 
   -- the tests of the piece decide before
   judge : IsFront f → levels_of f ≤ depth_limit → (o : Option Front) → step f piece ≡ o → (s l u : Bool) → stands n f piece behind Syntax ≡ s → stands n f piece behind NumberTooLarge ≡ l → stands n f piece behind UnknownName ≡ u
-      → IsJudged (judged (cond s (Some Syntax) (cond l (Some NumberTooLarge) (cond u (Some UnknownName) None))) o)
+      → IsJudged (fault_or_front (cond s (Some Syntax) (cond l (Some NumberTooLarge) (cond u (Some UnknownName) None))) o)
   judge is shallow None e s l u se le ue = record { is = inr (e, refl); nowhere = λ h. refl; least = λ other t. one_least other }
   judge is shallow (Some g) e true l u se le ue = record { is = inl se; nowhere = somewhere g e; least = λ other t. one_least other }
   judge is shallow (Some g) e false true u se le ue = record { is = inl le; nowhere = somewhere g e; least = least }
@@ -105,7 +107,7 @@ module _ (n : ℕ) (f : Front) (piece : Piece) (behind : List Piece) where
   judge is shallow (Some g) e false false false se le ue = judge_size is shallow g e se le ue (nat_lt depth_limit (inner_levels g)) (nat_lt node_limit (nodes_of g)) refl refl
 
   -- what taking the piece comes to
-  pub piece_judged : IsFront f → levels_of f ≤ depth_limit → has_large_base f piece ≡ false → IsJudged (checked n (caret_next behind) f piece)
+  pub piece_judged : IsFront f → levels_of f ≤ depth_limit → has_large_base f piece ≡ false → IsJudged (piece_result n (caret_next behind) f piece)
   piece_judged is shallow h =
-      subst (λ (v : Bool). IsJudged (cond v (Refused NumberTooLarge) (judged (fault_of n (begins f.position && caret_next behind) piece) (step f piece)))) (sym h)
+      subst (λ (v : Bool). IsJudged (cond v (Refused NumberTooLarge) (fault_or_front (fault_of n (begins f.position && caret_next behind) piece) (step f piece)))) (sym h)
       (judge is shallow (step f piece) refl _ _ _ refl refl refl)

@@ -1,7 +1,8 @@
 -- The reader of bounds keeps the laws of a reader, and its fronts tell what has been read.
-use Rattle.std.proofs.Common.{◌≡◌, ℕ, Bool, true, false, cond, List, [], ◌∷◌, Option, Some, None, refl, ap, sym, ◌∙◌, inl, inr, arith}
+use Rattle.std.proofs.Common.{◌≡◌, ℕ, Bool, true, false, cond, List, [], ◌∷◌, Option, Some, None, refl, ap, sym, ◌∙◌}
+use Rattle.std.proofs.Common.{inl, inr, arith}
 use Rattle.std.specs.Prelude.{◌⊎◌}
-use Rattle.model.specs.Bounds.{Bound, Constant, Input, PowerOf, Parts}
+use Rattle.text_core.specs.model.Bounds.{Bound, Constant, Input, PowerOf, Parts}
 use Rattle.text_core.specs.Readers.{onto, next, reached, IsBeginning}
 use Rattle.text_core.specs.Laws.{Laws}
 use Rattle.text_core.proofs.Walks.{walk-onto, onto-append}
@@ -9,7 +10,8 @@ use Rattle.text_core.proofs.FirstFaults.{nowhere_begins}
 use Rattle.bound_text.specs.Kinds.{Kind, Syntax, NumberTooLarge, UnknownName, TooDeep, TooLarge, number_of}
 use Rattle.bound_text.specs.Shapes.{with_part}
 use Rattle.bound_text.specs.Pieces.{Piece, Number, Caret}
-use Rattle.bound_text.specs.Fronts.{Outer, Front, Position, Begins, RunCaret, PowerCaret, ItemRead, BlankRead, PlusRead, CommaRead, Whole, IsFront, last, init}
+use Rattle.bound_text.specs.Fronts.{Outer, Front, Position, Begins, RunCaret, PowerCaret, ItemRead, BlankRead, PlusRead}
+use Rattle.bound_text.specs.Fronts.{CommaRead, Whole, IsFront, last, init}
 use Rattle.bound_text.specs.Checks.{begins, takes_caret}
 use Rattle.bound_text.specs.Steps.{step, step_at, walk, beginning, with_copies, front_at, caret_behind}
 use Rattle.bound_text.specs.Faults.{FrontsAreRead}

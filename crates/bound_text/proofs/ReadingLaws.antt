@@ -1,10 +1,11 @@
 -- What reading has come to decides the answer with what is left.
-use Rattle.std.proofs.Common.{◌≡◌, length-drop, ℕ, ◌+◌, ◌-◌, ◌^◌, ◌<◌, ◌≤◌, Bool, true, false, cond, nat_eq, List, [], ◌∷◌, length, drop, Option, Some, None, refl, ap, sym, subst, ◌∙◌, inl, inr, arith}
+use Rattle.std.proofs.Common.{◌≡◌, length-drop, ℕ, ◌+◌, ◌-◌, ◌^◌, ◌<◌, ◌≤◌, Bool, true, false, cond, nat_eq, List, []}
+use Rattle.std.proofs.Common.{◌∷◌, length, drop, Option, Some, None, refl, ap, sym, subst, ◌∙◌, inl, inr, arith}
 use Rattle.std.specs.Prelude.{Result, Ok, Err, IsErrAnd, IsTrue, codes, ◌⊎◌}
 use Rattle.std.specs.Char.{is_ascii_digit}
 use Rattle.std.proofs.lemmas.Bool.Decides.{nat_tests}
-use Rattle.model.specs.Programs.{Name}
-use Rattle.model.specs.Bounds as plain
+use Rattle.text_core.specs.model.Programs.{Name}
+use Rattle.text_core.specs.model.Bounds as plain
 use Rattle.text_core.specs.Names.{begins_name, continues_name, is_same, position_of}
 use Rattle.text_core.specs.Prefixes.{prefix, rest as the_rest}
 use Rattle.text_core.specs.Bytes.{begins_with, has_leading_zero, value_up_to}
@@ -23,7 +24,7 @@ use Rattle.bound_text.specs.Lexing.{word_at, number_at, mark_at, lexeme_at, toke
 use Rattle.bound_text.specs.Fronts.{Front, levels_of}
 use Rattle.bound_text.specs.Kinds.{Kind, Syntax, NumberTooLarge, UnknownName, TooDeep, TooLarge, number_of, kinds}
 use Rattle.bound_text.specs.Steps.{step, beginning}
-use Rattle.bound_text.specs.Checks.{Checked, Refused, Reached, is_caret, caret_next, has_large_base, checked}
+use Rattle.bound_text.specs.Checks.{PieceResult, Refused, Reached, is_caret, caret_next, has_large_base, piece_result}
 use Rattle.bound_text.specs.Reading.{stands, shown, bounds}
 use Rattle.bound_text.specs.Verdicts.{error_at}
 use Rattle.bound_text.specs.Views.{IsKind, IsRefusal, Obeys, Says, front_of, is_settled}
@@ -154,15 +155,15 @@ refusal_at kind faults.Memory at h = refusal_memory kind at
 refusal_at kind fault at h = absurd h
 
 -- the answer of taking a piece
-reached_front : (c : Checked) (r : Reader) (u : Unit {0}) → Obeys c r (Ok u) → c ≡ Reached (front_of r)
+reached_front : (c : PieceResult) (r : Reader) (u : Unit {0}) → Obeys c r (Ok u) → c ≡ Reached (front_of r)
 reached_front (Refused kind) r u h = absurd h
 reached_front (Reached f) r u h = ap Reached h.0
 
 -- a reader that took a piece stands settled
-pub settled_front : (c : Checked) (r : Reader) (result : Result (Unit {0}) Fault) (u : Unit {0}) → result ≡ Ok u → Obeys c r result → IsTrue (is_settled r)
+pub settled_front : (c : PieceResult) (r : Reader) (result : Result (Unit {0}) Fault) (u : Unit {0}) → result ≡ Ok u → Obeys c r result → IsTrue (is_settled r)
 settled_front c r result u e h = go c (subst (λ (x : Result (Unit {0}) Fault). Obeys c r x) e h)
   where
-    go : (c : Checked) → Obeys c r (Ok u) → IsTrue (is_settled r)
+    go : (c : PieceResult) → Obeys c r (Ok u) → IsTrue (is_settled r)
     go (Refused kind) k = absurd k
     go (Reached f) k = k.1
 
@@ -215,25 +216,25 @@ module _ (names : List Name) (bytes left others behind : List ℕ) (b : ℕ) (l 
         (in_order (each_piece (lexeme_at names)) (lexes_within names) behind 0 (length bytes - length behind) (omega arith)))
 
     -- what taking its piece comes to
-    piece_is : (f : Front) (d : Decides names bytes left f) → IsJudged (length names) f l.piece (pieces (left_tokens names bytes behind)) (checked (length names) (caret_next (pieces (left_tokens names bytes behind))) f l.piece)
+    piece_is : (f : Front) (d : Decides names bytes left f) → IsJudged (length names) f l.piece (pieces (left_tokens names bytes behind)) (piece_result (length names) (caret_next (pieces (left_tokens names bytes behind))) f l.piece)
     piece_is f d =
         piece_judged (length names) f l.piece (pieces (left_tokens names bytes behind)) (is_front (length names) (pieces d.done) f d.led) d.shallow
         (base_ok f.position f.factors l.piece (λ h. d.bases (ap (begins_with 94) first ∙ sym (lexeme_caret names b others) ∙ sym (ap (λ (m : Lexeme Piece). is_caret m.piece) found_at) ∙ h)))
 
     module _ (m : ℕ) (f : Front) (r : Reader) (piece : Piece) (caret : Bool) (result : Result (Unit {0}) Fault) (listed : m ≡ length names) (piece_same : piece ≡ l.piece) (caret_same : caret ≡ begins_with 94 behind)
-        (obeys : Obeys (checked m caret f piece) r result) where
+        (obeys : Obeys (piece_result m caret f piece) r result) where
       -- the code takes the piece as it is found
-      checked_same : checked m caret f piece ≡ checked (length names) (caret_next (pieces (left_tokens names bytes behind))) f l.piece
+      checked_same : piece_result m caret f piece ≡ piece_result (length names) (caret_next (pieces (left_tokens names bytes behind))) f l.piece
       checked_same =
-          ap (λ (k : ℕ). checked k caret f piece) listed
-          ∙ ap (λ (v : Bool). checked (length names) v f piece) (caret_same ∙ sym (caret-tokens names (length bytes - length behind) behind))
-          ∙ ap (checked (length names) (caret_next (pieces (left_tokens names bytes behind))) f) piece_same
+          ap (λ (k : ℕ). piece_result k caret f piece) listed
+          ∙ ap (λ (v : Bool). piece_result (length names) v f piece) (caret_same ∙ sym (caret-tokens names (length bytes - length behind) behind))
+          ∙ ap (piece_result (length names) (caret_next (pieces (left_tokens names bytes behind))) f) piece_same
 
       -- a piece that is taken
       pub decides_on : (u : Unit {0}) → Decides names bytes left f → result ≡ Ok u → Decides names bytes behind (front_of r)
       decides_on u d ok =
-          let told : checked (length names) (caret_next (pieces (left_tokens names bytes behind))) f l.piece ≡ Reached (front_of r) =
-          sym checked_same ∙ reached_front (checked m caret f piece) r u (subst (λ (x : Result (Unit {0}) Fault). Obeys (checked m caret f piece) r x) ok obeys) in
+          let told : piece_result (length names) (caret_next (pieces (left_tokens names bytes behind))) f l.piece ≡ Reached (front_of r) =
+          sym checked_same ∙ reached_front (piece_result m caret f piece) r u (subst (λ (x : Result (Unit {0}) Fault). Obeys (piece_result m caret f piece) r x) ok obeys) in
           let taken : IsTaken (length names) f l.piece (pieces (left_tokens names bytes behind)) (front_of r) = subst (IsJudged (length names) f l.piece (pieces (left_tokens names bytes behind))) told (piece_is f d) in
           record {
             within = omega (arith, fewer, within);
@@ -252,9 +253,9 @@ module _ (names : List Name) (bytes left others behind : List ℕ) (b : ℕ) (l 
       -- a piece that is refused
       pub decides_not : (fault : Fault) (at : ℕ) → Decides names bytes left f → at ≡ length bytes - length left → result ≡ Err fault
           → Says (answer (bounds (length names)) (length bytes) (tokens names bytes)) (Err (error_at fault at))
-      decides_not fault at d here err = go (checked m caret f piece) refl (subst (λ (x : Result (Unit {0}) Fault). Obeys (checked m caret f piece) r x) err obeys)
+      decides_not fault at d here err = go (piece_result m caret f piece) refl (subst (λ (x : Result (Unit {0}) Fault). Obeys (piece_result m caret f piece) r x) err obeys)
         where
-          go : (k : Checked) → checked m caret f piece ≡ k → Obeys k r (Err fault) → Says (answer (bounds (length names)) (length bytes) (tokens names bytes)) (Err (error_at fault at))
+          go : (k : PieceResult) → piece_result m caret f piece ≡ k → Obeys k r (Err fault) → Says (answer (bounds (length names)) (length bytes) (tokens names bytes)) (Err (error_at fault at))
           go (Refused kind) e h =
               let refused : IsRefused (length names) f l.piece (pieces (left_tokens names bytes behind)) kind = subst (IsJudged (length names) f l.piece (pieces (left_tokens names bytes behind))) (sym checked_same ∙ e) (piece_is f d) in
               let told =

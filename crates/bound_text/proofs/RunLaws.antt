@@ -1,16 +1,17 @@
 -- Runs: so many times one variable.
-use Rattle.std.proofs.Common.{◌≡◌, ℕ, zero, suc, ◌+◌, ◌^◌, ◌<◌, ◌≤◌, min, max, nat_le, nat_lt, nat_eq, Bool, true, false, not, cond, Option, refl, ap, sym, subst, ◌∙◌, inl, inr, arith}
+use Rattle.std.proofs.Common.{◌≡◌, ℕ, zero, suc, ◌+◌, ◌^◌, ◌<◌, ◌≤◌, min, max, nat_le, nat_lt, nat_eq, Bool, true}
+use Rattle.std.proofs.Common.{false, not, cond, Option, refl, ap, sym, subst, ◌∙◌, inl, inr, arith}
 use Rattle.std.specs.Prelude.{IsTrue, Result}
 use Rattle.std.proofs.lemmas.Bool.{cases_lt}
 use Rattle.std.proofs.lemmas.Bool.Decides.{nat_tests}
-use Rattle.model.specs.Bounds.{Bound, Input, Parts, NoParts, Part}
+use Rattle.text_core.specs.model.Bounds.{Bound, Input, Parts, NoParts, Part}
 use Rattle.bound_expr.specs.Measure.{node_count_of_all, maximum_depth}
 use Rattle.bound_text.specs.Shapes.{with_part}
 use Rattle.bound_text.specs.Pieces.{Piece, Number}
 use Rattle.bound_text.specs.Fronts.{Outer, Front, ItemRead, last, init, is_input, product_node, nodes_of, inner_levels}
 use Rattle.bound_text.specs.Steps.{front_at, with_copies, end_run}
 use Rattle.bound_text.specs.Kinds.{TooDeep, TooLarge}
-use Rattle.bound_text.specs.Checks.{Checked, Refused, Reached, sized, judged, fault_of, takes_caret}
+use Rattle.bound_text.specs.Checks.{PieceResult, Refused, Reached, sized, fault_or_front, fault_of, takes_caret}
 use Rattle.bound_text.specs.Views.{Obeys}
 use Rattle.bound_text.specs.declared.state.Reader.{Reader}
 use Rattle.bound_text.specs.declared.fault.Fault.{Fault}
@@ -93,7 +94,7 @@ sized_capped outer ts fs n i = elim (cases_lt n 4097) [
 
 -- what a run's number comes to
 run_judged : (outer : Outer) (ts fs : Parts) (n i : ℕ) → 2 ≤ n → n < 2 ^ 127
-    → judged (fault_of 0 false (Number n)) (end_run outer ts fs i (Number n)) ≡ sized (front_at outer ts (with_copies n i fs) ItemRead)
+    → fault_or_front (fault_of 0 false (Number n)) (end_run outer ts fs i (Number n)) ≡ sized (front_at outer ts (with_copies n i fs) ItemRead)
 run_judged outer ts fs n i h k =
     let large : nat_le (2 ^ 127) n ≡ false = grind (arith, nat_tests) in
     let more : nat_lt 1 n ≡ true = grind (arith, nat_tests) in
@@ -101,8 +102,8 @@ run_judged outer ts fs n i h k =
 
 -- a run is judged by as many copies as were made
 pub run_obeys : (outer : Outer) (ts fs behind : Parts) (piece : Piece) (n made i : ℕ) (r : Reader) (result : Result (Unit {0}) Fault) → piece ≡ Number n → 2 ≤ n → n < 2 ^ 127 → made ≡ min n 4097
-    → behind ≡ with_copies made i fs → Obeys (sized (front_at outer ts behind ItemRead)) r result → Obeys (judged (fault_of 0 false piece) (end_run outer ts fs i piece)) r result
+    → behind ≡ with_copies made i fs → Obeys (sized (front_at outer ts behind ItemRead)) r result → Obeys (fault_or_front (fault_of 0 false piece) (end_run outer ts fs i piece)) r result
 run_obeys outer ts fs behind piece n made i r result p h k m e obeys =
-    subst (λ (q : Piece). Obeys (judged (fault_of 0 false q) (end_run outer ts fs i q)) r result) (sym p) (subst (λ (c : Checked). Obeys c r result)
+    subst (λ (q : Piece). Obeys (fault_or_front (fault_of 0 false q) (end_run outer ts fs i q)) r result) (sym p) (subst (λ (c : PieceResult). Obeys c r result)
     (ap (λ (gs : Parts). sized (front_at outer ts gs ItemRead)) (e ∙ ap (λ (j : ℕ). with_copies j i fs) m) ∙ sym (sized_capped outer ts fs n i) ∙ sym (run_judged outer ts fs n i h k))
     obeys)

@@ -1,6 +1,6 @@
 -- How large the tree so far is, by the position of the code.
 use Rattle.std.proofs.Common.{◌≡◌, ◌+◌, max, refl, arith}
-use Rattle.model.specs.Bounds.{Constant, Input, Parts}
+use Rattle.text_core.specs.model.Bounds.{Constant, Input, Parts}
 use Rattle.bound_expr.specs.Measure.{node_count_of_all, maximum_depth}
 use Rattle.bound_text.specs.Fronts.{Outer, nodes_of, inner_levels, nodes_round, levels_above}
 use Rattle.bound_text.specs.Views.{front_with, sum_here, product_here, item_here}

@@ -1,17 +1,25 @@
 -- Where the reader comes to is what has been read.
-use Rattle.std.proofs.Common.{◌≡◌, ℕ, zero, suc, ◌+◌, ◌≤◌, nat_lt, Bool, true, false, not, cond, ◌&&◌, List, ◌∷◌, ◌++◌, Some, refl, ap, sym, subst, ◌∙◌, arith}
+use Rattle.std.proofs.Common.{◌≡◌, ℕ, zero, suc, ◌+◌, ◌≤◌, nat_lt, Bool, true, false, not, cond, ◌&&◌, List, ◌∷◌, ◌++◌}
+use Rattle.std.proofs.Common.{Some, refl, ap, sym, subst, ◌∙◌, arith}
 use Rattle.std.proofs.lemmas.Bool.Decides.{nat_tests}
-use Rattle.model.specs.Bounds.{Bound, Constant, Input, SumOf, ProductOf, MaximumOf, PowerOf, Parts, NoParts, Part}
+use Rattle.text_core.specs.model.Bounds.{Bound, Constant, Input, SumOf, ProductOf, MaximumOf, PowerOf, Parts, NoParts, Part}
 use Rattle.bound_expr.specs.Tidy.{part_count, IsNoSum, IsNoProduct, IsNoMaximum, EachPart}
 use Rattle.bound_text.specs.Shapes.{is_sum, is_maximum, is_variable, is_empty, with_part, IsShaped, AreShaped}
 use Rattle.bound_text.specs.Pieces.{Piece, Variable, Number, Maximum, Open, Close, Times, Caret, Plus, Blank, Comma}
 use Rattle.bound_text.specs.Writing.{Nothing, bracketed_then, text_then, factors_then, plus_between, comma_between}
-use Rattle.bound_text.specs.Fronts.{Bracket, Arguments, Exponent, Factor, Outer, Whole, Inside, Position, Front, Begins, RunCaret, PowerCaret, ItemRead, BlankRead, PlusRead, CommaRead, IsFront, IsOuter, IsBracket, IsPosition, AreTerms, AreFactors, front_then, outer_then, position_then, star_then, each_then, bracket_then, last, init, is_input, term_of, bound_made, can_end, can_be_argument}
-use Rattle.bound_text.specs.Steps.{when, with_copies, front_at, inside, behind_factor, begin_item, end_run, begin_exponent, caret_behind, can_close, item_of, close_bracket, follow_item, end_argument, step, step_at, beginning, finish}
+use Rattle.bound_text.specs.Fronts.{Bracket, Arguments, Exponent, Factor, Outer, Whole, Inside, Position, Front, Begins}
+use Rattle.bound_text.specs.Fronts.{RunCaret, PowerCaret, ItemRead, BlankRead, PlusRead, CommaRead, IsFront, IsOuter}
+use Rattle.bound_text.specs.Fronts.{IsBracket, IsPosition, AreTerms, AreFactors, front_then, outer_then, position_then}
+use Rattle.bound_text.specs.Fronts.{star_then, each_then, bracket_then, last, init, is_input, term_of, bound_of_parts}
+use Rattle.bound_text.specs.Fronts.{can_end, can_be_argument}
+use Rattle.bound_text.specs.Steps.{when, with_copies, front_at, inside, behind_factor, begin_item, end_run}
+use Rattle.bound_text.specs.Steps.{begin_exponent, caret_behind, can_close, item_of, close_bracket, follow_item}
+use Rattle.bound_text.specs.Steps.{end_argument, step, step_at, beginning, finish}
 use Rattle.std.proofs.lemmas.Bool.{and_parts, not-true}
 use Rattle.bound_text.proofs.PartLaws.{is_empty-with_part, last-with_part, init-with_part}
 use Rattle.bound_text.proofs.JoiningLaws.{as_one-with_part}
-use Rattle.bound_text.proofs.WritingLaws.{ends_in, joined-with_part, each-with_part, factors-other, factors-run, term_text, bound_text}
+use Rattle.bound_text.proofs.WritingLaws.{ends_in, joined-with_part, each-with_part, factors-other, factors-run}
+use Rattle.bound_text.proofs.WritingLaws.{term_text, bound_text}
 
 -- behind the piece the reader has read what it had, and the piece
 pub record Extends (f : Front) (piece : Piece) (g : Front) : Type 0 where
@@ -149,7 +157,7 @@ term_shaped (Part (PowerOf c e) NoParts) all h = (all.shaped.0, tt)
 term_shaped (Part b (Part c bs)) all h = ((omega arith, all.no_products, all.shaped), tt)
 
 -- terms and factors make a bound as texts spell it
-bound_shaped : (ts fs : Parts) → AreTerms ts → AreFactors fs → can_end fs ≡ true → IsShaped (bound_made ts fs)
+bound_shaped : (ts fs : Parts) → AreTerms ts → AreFactors fs → can_end fs ≡ true → IsShaped (bound_of_parts ts fs)
 bound_shaped NoParts fs terms factors h = (term_shaped fs factors h).0
 bound_shaped (Part c cs) fs terms factors h =
     let t = term_shaped fs factors h in
@@ -194,16 +202,16 @@ closed_text Factor b rest h = ap (λ (v : Bool). bracketed_then v (text_then b) 
 close_sound : (outer : Outer) (ts fs : Parts) (g : Front) → IsFront (front_at outer ts fs ItemRead) → close_bracket outer ts fs ≡ Some g → Extends (front_at outer ts fs ItemRead) Close g
 close_sound Whole ts fs g is h = cc
 close_sound (Inside bracket ts' fs' outer) ts fs g is h =
-    let t = when-some (can_end fs && can_close bracket (bound_made ts fs)) (behind_factor outer ts' fs' (item_of bracket (bound_made ts fs))) g h in
-    let c = and_parts (can_end fs) (can_close bracket (bound_made ts fs)) t.0 in
-    let item = is_item bracket (bound_made ts fs) is.outer.0 (bound_shaped ts fs is.terms is.factors c.0) c.1 in
+    let t = when-some (can_end fs && can_close bracket (bound_of_parts ts fs)) (behind_factor outer ts' fs' (item_of bracket (bound_of_parts ts fs))) g h in
+    let c = and_parts (can_end fs) (can_close bracket (bound_of_parts ts fs)) t.0 in
+    let item = is_item bracket (bound_of_parts ts fs) is.outer.0 (bound_shaped ts fs is.terms is.factors c.0) c.1 in
     subst (Extends (front_at (Inside bracket ts' fs' outer) ts fs ItemRead) Close) t.1 (record {
-      is_front = record { outer = is.outer.3; terms = is.outer.1; factors = factors-more fs' (item_of bracket (bound_made ts fs)) is.outer.2 item.0 item.1; position = is_empty-with_part fs' (item_of bracket (bound_made ts fs)) };
+      is_front = record { outer = is.outer.3; terms = is.outer.1; factors = factors-more fs' (item_of bracket (bound_of_parts ts fs)) is.outer.2 item.0 item.1; position = is_empty-with_part fs' (item_of bracket (bound_of_parts ts fs)) };
       text = λ rest.
           ap (λ (ps : List Piece). outer_then outer (each_then plus_between ts' ps))
-          (factors-other Nothing fs' (item_of bracket (bound_made ts fs)) rest item.2
+          (factors-other Nothing fs' (item_of bracket (bound_of_parts ts fs)) rest item.2
           ∙ ap (λ (ps : List Piece). factors_then Nothing fs' (star_then fs' ps))
-          (closed_text bracket (bound_made ts fs) rest c.1 ∙ ap (bracket_then bracket) (bound_text ts fs (Close ∷ rest) c.0)));
+          (closed_text bracket (bound_of_parts ts fs) rest c.1 ∙ ap (bracket_then bracket) (bound_text ts fs (Close ∷ rest) c.0)));
     })
 
 -- factors that are some are some with one more
@@ -276,18 +284,18 @@ argument_sound Whole ts fs g is h = cc
 argument_sound (Inside (Exponent c) ts' fs' outer) ts fs g is h = cc
 argument_sound (Inside Factor ts' fs' outer) ts fs g is h = cc
 argument_sound (Inside (Arguments bs) ts' fs' outer) ts fs g is h =
-    let e : inside (Arguments (with_part bs (bound_made ts fs))) outer ts' fs' ≡ g = cc in
-    let c = and_parts (can_end fs) (not (is_maximum (bound_made ts fs))) is.position in
+    let e : inside (Arguments (with_part bs (bound_of_parts ts fs))) outer ts' fs' ≡ g = cc in
+    let c = and_parts (can_end fs) (not (is_maximum (bound_of_parts ts fs))) is.position in
     subst (Extends (front_at (Inside (Arguments bs) ts' fs' outer) ts fs CommaRead) Blank) e (record {
       is_front = record {
-        outer = (record { no_maximums = each-more IsNoMaximum bs (bound_made ts fs) is.outer.0.no_maximums (no_maximum (bound_made ts fs) (not-true (is_maximum (bound_made ts fs)) c.1)); shaped = shaped-more bs (bound_made ts fs) is.outer.0.shaped (bound_shaped ts fs is.terms is.factors c.0) }, is.outer.1, is.outer.2, is.outer.3);
+        outer = (record { no_maximums = each-more IsNoMaximum bs (bound_of_parts ts fs) is.outer.0.no_maximums (no_maximum (bound_of_parts ts fs) (not-true (is_maximum (bound_of_parts ts fs)) c.1)); shaped = shaped-more bs (bound_of_parts ts fs) is.outer.0.shaped (bound_shaped ts fs is.terms is.factors c.0) }, is.outer.1, is.outer.2, is.outer.3);
         terms = no_parts;
         factors = no_factors;
         position = tt;
       };
       text = λ rest.
           ap (λ (ps : List Piece). outer_then outer (each_then plus_between ts' (factors_then Nothing fs' (star_then fs' (Maximum ∷ ps)))))
-          (each-with_part comma_between bs (bound_made ts fs) rest ∙ ap (each_then comma_between bs) (bound_text ts fs (comma_between ++ rest) c.0));
+          (each-with_part comma_between bs (bound_of_parts ts fs) rest ∙ ap (each_then comma_between bs) (bound_text ts fs (comma_between ++ rest) c.0));
     })
 
 -- a piece that leads somewhere is read
@@ -317,7 +325,7 @@ finish_sound f b is h = go f.position f.outer is.outer is.position h
     go : (position : Position) (outer : Outer) → IsOuter outer → IsPosition position outer f.terms f.factors → finish (front_at outer f.terms f.factors position) ≡ Some b
         → IsShaped b × ((rest : List Piece) → text_then b rest ≡ front_then (front_at outer f.terms f.factors position) rest)
     go ItemRead Whole o p h =
-        let t = when-some (can_end f.factors) (bound_made f.terms f.factors) b h in
+        let t = when-some (can_end f.factors) (bound_of_parts f.terms f.factors) b h in
         (subst IsShaped t.1 (bound_shaped f.terms f.factors is.terms is.factors t.0), λ rest. ap (λ (c : Bound). text_then c rest) (sym t.1) ∙ bound_text f.terms f.factors rest t.0)
     go ItemRead (Inside bracket ts fs outer) o p h = cc
     go position outer o p h = cc

@@ -1,10 +1,14 @@
 -- Where a piece leads, case by case.
 use Rattle.std.proofs.Common.{◌≡◌, ℕ, zero, suc, nat_lt, true, false, not, ◌&&◌, Some, ap, sym, subst, ◌∙◌}
-use Rattle.model.specs.Bounds.{Bound, Constant, Input, PowerOf, Parts, NoParts}
+use Rattle.text_core.specs.model.Bounds.{Bound, Constant, Input, PowerOf, Parts, NoParts}
 use Rattle.bound_text.specs.Shapes.{is_maximum, is_empty, with_part}
 use Rattle.bound_text.specs.Pieces.{Piece, Variable, Number, Maximum, Open, Close, Times, Caret, Plus, Blank, Comma}
-use Rattle.bound_text.specs.Fronts.{Bracket, Arguments, Exponent, Factor, Outer, Whole, Inside, Position, Front, Begins, RunCaret, PowerCaret, ItemRead, BlankRead, PlusRead, CommaRead, IsFront, last, init, is_input, term_of, bound_made, can_end, can_be_argument}
-use Rattle.bound_text.specs.Steps.{with_copies, front_at, inside, behind_factor, begin_item, end_run, begin_exponent, caret_behind, can_close, item_of, close_bracket, follow_item, end_argument, step, step_at}
+use Rattle.bound_text.specs.Fronts.{Bracket, Arguments, Exponent, Factor, Outer, Whole, Inside, Position, Front, Begins}
+use Rattle.bound_text.specs.Fronts.{RunCaret, PowerCaret, ItemRead, BlankRead, PlusRead, CommaRead, IsFront, last, init}
+use Rattle.bound_text.specs.Fronts.{is_input, term_of, bound_of_parts, can_end, can_be_argument}
+use Rattle.bound_text.specs.Steps.{with_copies, front_at, inside, behind_factor, begin_item, end_run, begin_exponent}
+use Rattle.bound_text.specs.Steps.{caret_behind, can_close, item_of, close_bracket, follow_item, end_argument, step}
+use Rattle.bound_text.specs.Steps.{step_at}
 use Rattle.bound_text.proofs.PartLaws.{last-with_part, init-with_part}
 use Rattle.std.proofs.lemmas.Bool.{and_parts}
 use Rattle.bound_text.proofs.SoundnessLaws.{when-some, unsnoc}
@@ -24,12 +28,12 @@ pub data Leads : Front → Piece → Front → Type 0 where
   of_caret : (o : Outer) (ts fs : Parts) (i : ℕ) → Leads (front_at o ts (with_part fs (Input i)) ItemRead) Caret (front_at o ts fs (RunCaret i))
   of_blank : (o : Outer) (ts fs : Parts) → can_end fs ≡ true → Leads (front_at o ts fs ItemRead) Blank (front_at o ts fs BlankRead)
   of_comma : (o : Outer) (ts fs : Parts) → can_end fs ≡ true → Leads (front_at o ts fs ItemRead) Comma (front_at o ts fs CommaRead)
-  of_close : (bracket : Bracket) (o : Outer) (ts' fs' ts fs : Parts) → can_end fs ≡ true → can_close bracket (bound_made ts fs) ≡ true
-      → Leads (front_at (Inside bracket ts' fs' o) ts fs ItemRead) Close (behind_factor o ts' fs' (item_of bracket (bound_made ts fs)))
+  of_close : (bracket : Bracket) (o : Outer) (ts' fs' ts fs : Parts) → can_end fs ≡ true → can_close bracket (bound_of_parts ts fs) ≡ true
+      → Leads (front_at (Inside bracket ts' fs' o) ts fs ItemRead) Close (behind_factor o ts' fs' (item_of bracket (bound_of_parts ts fs)))
   of_plus : (o : Outer) (ts fs : Parts) → Leads (front_at o ts fs BlankRead) Plus (front_at o ts fs PlusRead)
   of_term : (o : Outer) (ts fs : Parts) → can_end fs ≡ true → Leads (front_at o ts fs PlusRead) Blank (front_at o (with_part ts (term_of fs)) NoParts Begins)
   of_argument : (o : Outer) (bs ts' fs' ts fs : Parts) → can_end fs ≡ true
-      → Leads (front_at (Inside (Arguments bs) ts' fs' o) ts fs CommaRead) Blank (inside (Arguments (with_part bs (bound_made ts fs))) o ts' fs')
+      → Leads (front_at (Inside (Arguments bs) ts' fs' o) ts fs CommaRead) Blank (inside (Arguments (with_part bs (bound_of_parts ts fs))) o ts' fs')
 
 -- where an item begins
 begin_leads : (o : Outer) (ts fs : Parts) (piece : Piece) (g : Front) → begin_item o ts fs piece ≡ Some g → Leads (front_at o ts fs Begins) piece g
@@ -62,7 +66,7 @@ caret_leads o ts gs b g h = cc
 
 -- what can be an argument can end
 argument_ends : (o : Outer) (ts fs : Parts) → can_be_argument o ts fs ≡ true → can_end fs ≡ true
-argument_ends (Inside (Arguments bs) ts' fs' o) ts fs h = (and_parts (can_end fs) (not (is_maximum (bound_made ts fs))) h).0
+argument_ends (Inside (Arguments bs) ts' fs' o) ts fs h = (and_parts (can_end fs) (not (is_maximum (bound_of_parts ts fs))) h).0
 argument_ends (Inside (Exponent c) ts' fs' o) ts fs h = cc
 argument_ends (Inside Factor ts' fs' o) ts fs h = cc
 argument_ends Whole ts fs h = cc
@@ -71,8 +75,8 @@ argument_ends Whole ts fs h = cc
 close_leads : (o : Outer) (ts fs : Parts) (g : Front) → close_bracket o ts fs ≡ Some g → Leads (front_at o ts fs ItemRead) Close g
 close_leads Whole ts fs g h = cc
 close_leads (Inside bracket ts' fs' o) ts fs g h =
-    let t = when-some (can_end fs && can_close bracket (bound_made ts fs)) (behind_factor o ts' fs' (item_of bracket (bound_made ts fs))) g h in
-    let c = and_parts (can_end fs) (can_close bracket (bound_made ts fs)) t.0 in
+    let t = when-some (can_end fs && can_close bracket (bound_of_parts ts fs)) (behind_factor o ts' fs' (item_of bracket (bound_of_parts ts fs))) g h in
+    let c = and_parts (can_end fs) (can_close bracket (bound_of_parts ts fs)) t.0 in
     subst (Leads (front_at (Inside bracket ts' fs' o) ts fs ItemRead) Close) t.1 (of_close bracket o ts' fs' ts fs c.0 c.1)
 
 -- behind an item
@@ -100,7 +104,7 @@ argument_leads Whole ts fs g is h = cc
 argument_leads (Inside (Exponent c) ts' fs' o) ts fs g is h = cc
 argument_leads (Inside Factor ts' fs' o) ts fs g is h = cc
 argument_leads (Inside (Arguments bs) ts' fs' o) ts fs g is h =
-    let e : inside (Arguments (with_part bs (bound_made ts fs))) o ts' fs' ≡ g = cc in
+    let e : inside (Arguments (with_part bs (bound_of_parts ts fs))) o ts' fs' ≡ g = cc in
     subst (Leads (front_at (Inside (Arguments bs) ts' fs' o) ts fs CommaRead) Blank) e (of_argument o bs ts' fs' ts fs is)
 
 -- where a step leads, case by case

@@ -1,7 +1,7 @@
 -- What the code has read behind one more factor.
 use Rattle.std.proofs.Common.{◌≡◌, ℕ, ◌^◌, ◌<◌, nat_le, arith, subst, true, false, not, Some, refl, ap, sym, ◌∙◌}
 use Rattle.std.specs.Prelude.{IsTrue, Result, Ok, Err, Option}
-use Rattle.model.specs.Bounds.{Bound, Constant, Parts}
+use Rattle.text_core.specs.model.Bounds.{Bound, Constant, Parts}
 use Rattle.bound_text.specs.Shapes.{with_part}
 use Rattle.bound_text.specs.Fronts.{Front, Outer, ItemRead, last, init}
 use Rattle.bound_text.specs.Steps.{front_at, behind_factor}

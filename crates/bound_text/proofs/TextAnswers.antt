@@ -1,8 +1,9 @@
 -- What reading comes to is the answer to a text.
-use Rattle.std.proofs.Common.{◌≡◌, ℕ, ◌≤◌, ◌<◌, ◌^◌, true, List, [], ◌∷◌, length, Option, Some, None, refl, ap, sym, subst, ◌∙◌, arith}
+use Rattle.std.proofs.Common.{◌≡◌, ℕ, ◌≤◌, ◌<◌, ◌^◌, true, List, [], ◌∷◌, length, Option, Some, None, refl, ap, sym}
+use Rattle.std.proofs.Common.{subst, ◌∙◌, arith}
 use Rattle.std.specs.Prelude.{Result, Ok, Err}
-use Rattle.model.specs.Programs.{Name}
-use Rattle.model.specs.Bounds as plain
+use Rattle.text_core.specs.model.Programs.{Name}
+use Rattle.text_core.specs.model.Bounds as plain
 use Rattle.bound_expr.specs.declared.bound.Bound.{Bound}
 use Rattle.bound_expr.specs.Measure.{node_count, depth_of}
 use Rattle.bound_text.specs.Shapes.{IsShaped}
@@ -11,7 +12,7 @@ use Rattle.bound_text.specs.Pieces.{Piece, bytes_of}
 use Rattle.bound_text.specs.Writing.{pieces_of}
 use Rattle.bound_text.specs.Texts.{IsText, IsTextWithin, HasShortBases, FitsTypes, OneBound}
 use Rattle.bound_text.specs.Lexing.{tokens}
-use Rattle.bound_text.specs.Fronts.{Front, Whole, ItemRead, IsFront, nodes_of, levels_of, bound_made, can_end}
+use Rattle.bound_text.specs.Fronts.{Front, Whole, ItemRead, IsFront, nodes_of, levels_of, bound_of_parts, can_end}
 use Rattle.bound_text.specs.Steps.{front_at, step, walk, beginning}
 use Rattle.bound_text.specs.Kinds.{Kind, Syntax, NumberTooLarge, UnknownName, TooDeep, TooLarge}
 use Rattle.bound_text.specs.Reading.{bounds}
@@ -73,11 +74,11 @@ shaped_led names b shaped is_kept = record {
   last_one = last_one;
   walked = (whole_walk (pieces_of b) b shaped refl).0;
   kept = let q = bound_kept (length names) (terms_in b) (factors_in b) (subst (Kept (length names)) (sym p.0) is_kept) in kept_front (length names) Whole (terms_in b) (factors_in b) ItemRead tt q.0 q.1 tt;
-  levels = let d = bound_depth (terms_in b) (factors_in b) p.1 in let e : depth_of (bound_made (terms_in b) (factors_in b)) ≡ depth_of b = ap depth_of p.0 in omega (arith, d, e);
-  nodes = let d = bound_nodes (terms_in b) (factors_in b) p.1 in let e : node_count (bound_made (terms_in b) (factors_in b)) ≡ node_count b = ap node_count p.0 in omega (arith, d, e);
+  levels = let d = bound_depth (terms_in b) (factors_in b) p.1 in let e : depth_of (bound_of_parts (terms_in b) (factors_in b)) ≡ depth_of b = ap depth_of p.0 in omega (arith, d, e);
+  nodes = let d = bound_nodes (terms_in b) (factors_in b) p.1 in let e : node_count (bound_of_parts (terms_in b) (factors_in b)) ≡ node_count b = ap node_count p.0 in omega (arith, d, e);
 }
   where
-    p : (bound_made (terms_in b) (factors_in b) ≡ b) × (can_end (factors_in b) ≡ true)
+    p : (bound_of_parts (terms_in b) (factors_in b) ≡ b) × (can_end (factors_in b) ≡ true)
     p = bound-parts b shaped
 
     last_one : Front

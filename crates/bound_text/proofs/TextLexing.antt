@@ -1,5 +1,7 @@
 -- The bytes of a text's pieces are the text, and the pieces of what they are written as are they.
-use Rattle.std.proofs.Common.{◌≡◌, ℕ, zero, suc, ◌+◌, ◌-◌, ◌^◌, ◌<◌, ◌≤◌, nat_eq, Bool, true, false, cond, List, [], ◌∷◌, ◌++◌, length, length-append, min, drop, slice_index_or, Option, Some, None, refl, sym, ap, subst, ◌∙◌, arith}
+use Rattle.std.proofs.Common.{◌≡◌, ℕ, zero, suc, ◌+◌, ◌-◌, ◌^◌, ◌<◌, ◌≤◌, nat_eq, Bool, true, false, cond, List, []}
+use Rattle.std.proofs.Common.{◌∷◌, ◌++◌, length, length-append, min, drop, slice_index_or, Option, Some, None, refl}
+use Rattle.std.proofs.Common.{sym, ap, subst, ◌∙◌, arith}
 use Rattle.std.specs.Prelude.{codes, ⊤}
 use Rattle.std.specs.List.{list_all}
 use Rattle.std.specs.Fmt.{decimal}
@@ -8,19 +10,22 @@ use Rattle.std.specs.Str.Parse.{IsNumeral, digits_value}
 use Rattle.std.proofs.Math.Seq.{drop-append_seam}
 use Rattle.std.proofs.lemmas.Fmt.{decimal_is_IsNumeral_wide}
 use Rattle.std.proofs.lemmas.Bool.Decides.{nat_tests}
-use Rattle.model.specs.Programs.{Name}
+use Rattle.text_core.specs.model.Programs.{Name}
 use Rattle.text_core.specs.Names.{begins_name, continues_name, is_same, position_of, IsName, AreNames}
-use Rattle.bound_text.specs.Pieces.{Piece, Variable, Number, Maximum, Open, Close, Times, Caret, Plus, Blank, Comma, Wrong, spelled, bytes_of}
+use Rattle.bound_text.specs.Pieces.{Piece, Variable, Number, Maximum, Open, Close, Times, Caret, Plus, Blank, Comma}
+use Rattle.bound_text.specs.Pieces.{Wrong, spelled, bytes_of}
 use Rattle.text_core.specs.Prefixes.{prefix, rest as the_rest}
 use Rattle.text_core.specs.Bytes.{begins_with, has_leading_zero, value_up_to}
 use Rattle.text_core.specs.Tokens.{Lexeme, LexesWithin, each_piece, pieces, tokens_from}
 use Rattle.text_core.proofs.Lexing.{tokens-first, pieces_at}
 use Rattle.text_core.proofs.Walks.{walk-none}
-use Rattle.bound_text.specs.Lexing.{found, word_at, number_at, mark_at, lexeme_at, tokens}
+use Rattle.bound_text.specs.Lexing.{lexeme_with, word_at, number_at, mark_at, lexeme_at, tokens}
 use Rattle.bound_text.specs.Fronts.{Front, Position, ItemRead, IsFront}
 use Rattle.bound_text.specs.Steps.{step, step_at, follow_item, walk}
 use Rattle.bound_text.proofs.SoundnessLaws.{step_sound}
-use Rattle.bound_text.proofs.StepCases.{Leads, of_variable, of_number, of_maximum, of_sum, of_run, of_power, of_power_of, of_exponent, of_times, of_base, of_caret, of_blank, of_comma, of_close, of_plus, of_term, of_argument, step_leads}
+use Rattle.bound_text.proofs.StepCases.{Leads, of_variable, of_number, of_maximum, of_sum, of_run, of_power}
+use Rattle.bound_text.proofs.StepCases.{of_power_of, of_exponent, of_times, of_base, of_caret, of_blank, of_comma}
+use Rattle.bound_text.proofs.StepCases.{of_close, of_plus, of_term, of_argument, step_leads}
 use Rattle.std.proofs.lemmas.Bool.{and_parts}
 use Rattle.text_core.proofs.PrefixLaws.{prefix-rest, all_prefix, Stops, rest-append, rest-stops, prefix-append}
 use Rattle.text_core.proofs.NameLaws.{same_equal}
@@ -32,7 +37,7 @@ use Rattle.bound_text.proofs.KeptBounds.{KeptPiece, AllPiecesKept}
 lexeme_some : (names : List Name) (b : ℕ) (bytes : List ℕ) → 0 < (lexeme_at names b bytes).len
 lexeme_some names b bytes = go (begins_name b) (is_ascii_digit b)
   where
-    word : (v u : Bool) (name : Name) → 0 < length name → 0 < (cond {A = Lexeme Piece} v (cond u (found Maximum (length name + 1)) (record { piece = Wrong; len = length name })) (record { piece = Variable (position_of name names); len = length name })).len
+    word : (v u : Bool) (name : Name) → 0 < length name → 0 < (cond {A = Lexeme Piece} v (cond u (lexeme_with Maximum (length name + 1)) (record { piece = Wrong; len = length name })) (record { piece = Variable (position_of name names); len = length name })).len
     word true true name h = omega arith
     word true false name h = h
     word false u name h = h
@@ -54,13 +59,13 @@ lexeme_few names b bytes = go (begins_name b) (is_ascii_digit b)
     bracket (x ∷ xs) h = omega arith
 
     word : (v u : Bool) → begins_with 40 (the_rest continues_name bytes) ≡ v
-        → (cond {A = Lexeme Piece} v (cond u (found Maximum (length (b ∷ prefix continues_name bytes) + 1)) (found Wrong (length (b ∷ prefix continues_name bytes)))) (found (Variable (position_of (b ∷ prefix continues_name bytes) names)) (length (b ∷ prefix continues_name bytes)))).len
+        → (cond {A = Lexeme Piece} v (cond u (lexeme_with Maximum (length (b ∷ prefix continues_name bytes) + 1)) (lexeme_with Wrong (length (b ∷ prefix continues_name bytes)))) (lexeme_with (Variable (position_of (b ∷ prefix continues_name bytes) names)) (length (b ∷ prefix continues_name bytes)))).len
         ≤ length (b ∷ bytes)
     word true true h = omega (arith, parts continues_name, bracket (the_rest continues_name bytes) h)
     word true false h = omega (arith, parts continues_name)
     word false u h = omega (arith, parts continues_name)
 
-    go : (v w : Bool) → (cond {A = Lexeme Piece} v (word_at names (b ∷ prefix continues_name bytes) (the_rest continues_name bytes)) (cond w (number_at (b ∷ prefix is_ascii_digit bytes)) (found (mark_at b) 1))).len ≤ length (b ∷ bytes)
+    go : (v w : Bool) → (cond {A = Lexeme Piece} v (word_at names (b ∷ prefix continues_name bytes) (the_rest continues_name bytes)) (cond w (number_at (b ∷ prefix is_ascii_digit bytes)) (lexeme_with (mark_at b) 1))).len ≤ length (b ∷ bytes)
     go true w = word (begins_with 40 (the_rest continues_name bytes)) (is_same (b ∷ prefix continues_name bytes) (codes "max")) refl
     go false true = omega (arith, parts is_ascii_digit)
     go false false = omega arith

@@ -1,15 +1,19 @@
 -- The tree so far grows with each piece.
 use Rattle.std.proofs.Common.{◌≡◌, ℕ, suc, ◌+◌, ◌≤◌, max, Bool, true, false, cond, refl, ap, ◌∙◌, arith}
-use Rattle.model.specs.Bounds.{Bound, Constant, Input, SumOf, ProductOf, MaximumOf, PowerOf, Parts, NoParts, Part}
+use Rattle.text_core.specs.model.Bounds.{Bound, Constant, Input, SumOf, ProductOf, MaximumOf, PowerOf, Parts, NoParts, Part}
 use Rattle.bound_expr.specs.Measure.{node_count, node_count_of_all, depth_of, maximum_depth}
 use Rattle.bound_text.specs.Shapes.{is_sum, is_empty, with_part}
 use Rattle.bound_text.specs.Pieces.{Piece}
-use Rattle.bound_text.specs.Fronts.{Arguments, Exponent, Factor, Outer, Front, node_of_any, sum_node, product_node, in_factor, nodes_of, inner_levels, levels_of, levels_round, levels_above, term_of, bound_made, can_end}
+use Rattle.bound_text.specs.Fronts.{Arguments, Exponent, Factor, Outer, Front, node_of_any, sum_node, product_node}
+use Rattle.bound_text.specs.Fronts.{in_factor, nodes_of, inner_levels, levels_of, levels_round, levels_above, term_of}
+use Rattle.bound_text.specs.Fronts.{bound_of_parts, can_end}
 use Rattle.bound_text.specs.Steps.{with_copies}
 use Rattle.bound_text.proofs.PartLaws.{node_count-with_part, depth-with_part, product_node-with_part}
 use Rattle.bound_text.proofs.JoiningLaws.{as_one-with_part}
 use Rattle.bound_text.proofs.RunLaws.{node_count-with_copies, depth-with_copies, product_two}
-use Rattle.bound_text.proofs.StepCases.{Leads, of_variable, of_number, of_maximum, of_sum, of_run, of_power, of_power_of, of_exponent, of_times, of_base, of_caret, of_blank, of_comma, of_close, of_plus, of_term, of_argument}
+use Rattle.bound_text.proofs.StepCases.{Leads, of_variable, of_number, of_maximum, of_sum, of_run, of_power}
+use Rattle.bound_text.proofs.StepCases.{of_power_of, of_exponent, of_times, of_base, of_caret, of_blank, of_comma}
+use Rattle.bound_text.proofs.StepCases.{of_close, of_plus, of_term, of_argument}
 
 -- from one front to another the tree so far doesn't shrink, and what stands round the second was there or is counted in it
 pub record Grows (f g : Front) : Type 0 where
@@ -66,21 +70,21 @@ term_depth (Part (PowerOf c e) NoParts) h = omega arith
 term_depth (Part b (Part c cs)) h = refl
 
 -- the nodes of a bound
-pub bound_nodes : (ts fs : Parts) → can_end fs ≡ true → node_count (bound_made ts fs) ≡ node_of_any ts + node_count_of_all ts + product_node fs + node_count_of_all fs
+pub bound_nodes : (ts fs : Parts) → can_end fs ≡ true → node_count (bound_of_parts ts fs) ≡ node_of_any ts + node_count_of_all ts + product_node fs + node_count_of_all fs
 bound_nodes NoParts fs h = omega (arith, term_nodes fs h)
 bound_nodes (Part c cs) fs h =
     ap node_count (as_one-with_part c cs (term_of fs))
     ∙ omega (arith, node_count-with_part (Part c cs) (term_of fs), term_nodes fs h)
 
 -- the levels of a bound
-pub bound_depth : (ts fs : Parts) → can_end fs ≡ true → depth_of (bound_made ts fs) ≡ node_of_any ts + max (maximum_depth ts) (product_node fs + maximum_depth fs)
+pub bound_depth : (ts fs : Parts) → can_end fs ≡ true → depth_of (bound_of_parts ts fs) ≡ node_of_any ts + max (maximum_depth ts) (product_node fs + maximum_depth fs)
 bound_depth NoParts fs h = omega (arith, term_depth fs h)
 bound_depth (Part c cs) fs h =
     ap depth_of (as_one-with_part c cs (term_of fs))
     ∙ omega (arith, depth-with_part (Part c cs) (term_of fs), term_depth fs h)
 
 -- a sum has terms before the last
-sum_terms : (ts fs : Parts) → can_end fs ≡ true → is_sum (bound_made ts fs) ≡ true → node_of_any ts ≡ 1
+sum_terms : (ts fs : Parts) → can_end fs ≡ true → is_sum (bound_of_parts ts fs) ≡ true → node_of_any ts ≡ 1
 sum_terms (Part c cs) fs h s = refl
 sum_terms NoParts NoParts h s = cc
 sum_terms NoParts (Part (Constant c) NoParts) h s = cc
@@ -206,7 +210,7 @@ grows f g piece (of_caret o ts fs i) =
 grows f g piece (of_blank o ts fs h) = let s = sum_small o ts in record { nodes = omega (arith, s); levels = omega (arith, s); round = omega arith }
 grows f g piece (of_comma o ts fs h) = record { nodes = omega arith; levels = omega arith; round = omega arith }
 grows f g piece (of_close (Arguments bs) o ts' fs' ts fs h closes) =
-    let b = bound_made ts fs in
+    let b = bound_of_parts ts fs in
     let n = node_count-with_part fs' (MaximumOf (with_part bs b)) in let d = depth-with_part fs' (MaximumOf (with_part bs b)) in let p = product_node-with_part fs' (MaximumOf (with_part bs b)) refl in
     let n' = node_count-with_part bs b in let d' = depth-with_part bs b in
     record {
@@ -217,7 +221,7 @@ grows f g piece (of_close (Arguments bs) o ts' fs' ts fs h closes) =
       round = le_left _ (levels_of f) (inner_levels g) (le_left _ (levels_round f.outer) (inner_levels f) (le_left (levels_round o) (levels_round o) _ (omega arith)));
     }
 grows f g piece (of_close (Exponent c) o ts' fs' ts fs h closes) =
-    let b = bound_made ts fs in
+    let b = bound_of_parts ts fs in
     let n = node_count-with_part fs' (PowerOf c b) in let d = depth-with_part fs' (PowerOf c b) in let p = product_node-with_part fs' (PowerOf c b) refl in
     record {
       nodes = omega (arith, n, p, bound_nodes ts fs h);
@@ -227,7 +231,7 @@ grows f g piece (of_close (Exponent c) o ts' fs' ts fs h closes) =
       round = le_left _ (levels_of f) (inner_levels g) (le_left _ (levels_round f.outer) (inner_levels f) (le_left (levels_round o) (levels_round o) _ (omega arith)));
     }
 grows f g piece (of_close Factor o ts' fs' ts fs h closes) =
-    let b = bound_made ts fs in
+    let b = bound_of_parts ts fs in
     let n = node_count-with_part fs' b in let d = depth-with_part fs' b in let p = product_node-sum fs' b closes in let s = sum_terms ts fs h closes in
     record {
       nodes = omega (arith, n, p, s, bound_nodes ts fs h);
@@ -242,7 +246,7 @@ grows f g piece (of_term o ts fs h) =
     let n = node_count-with_part ts t in let d = depth-with_part ts t in let s = sum_more o ts t in
     record { nodes = omega (arith, n, s, term_nodes fs h); levels = omega (arith, d, s, term_depth fs h); round = omega arith }
 grows f g piece (of_argument o bs ts' fs' ts fs h) =
-    let b = bound_made ts fs in
+    let b = bound_of_parts ts fs in
     let n = node_count-with_part bs b in let d = depth-with_part bs b in
     let e : maximum_depth (with_part bs b) ≡ max (maximum_depth bs) (node_of_any ts + max (maximum_depth ts) (product_node fs + maximum_depth fs)) = d ∙ ap (max (maximum_depth bs)) (bound_depth ts fs h) in
     record {

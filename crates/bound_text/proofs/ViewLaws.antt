@@ -1,5 +1,6 @@
 -- Open brackets of the code, and what they are as plain data.
-use Rattle.std.proofs.Common.{◌≡◌, nat_eq, ℕ, suc, Bool, true, false, sym, Option, None, ◌-◌, List, [], ◌∷◌, ◌++◌, length, arith, Some, refl, ap, ◌∙◌, subst}
+use Rattle.std.proofs.Common.{◌≡◌, nat_eq, ℕ, suc, Bool, true, false, sym, Option, None, ◌-◌, List, [], ◌∷◌, ◌++◌}
+use Rattle.std.proofs.Common.{length, arith, Some, refl, ap, ◌∙◌, subst}
 use Rattle.bound_text.specs.Fronts.{Bracket, Arguments, Exponent, Factor, Outer, Whole, Inside}
 use Rattle.std.specs.Prelude.{slice_get, if◌then◌else◌, MatchOption, ⊤}
 use Rattle.std.specs.Option.{option_to_list}
@@ -9,7 +10,7 @@ use Rattle.std.proofs.lemmas.Bool.Decides.{nat_tests}
 use Rattle.bound_text.specs.Steps.{is_whole, can_close, innermost_can_close}
 use Rattle.bound_text.specs.Views.{is_arguments}
 use Rattle.bound_text.specs.Brackets.{parts_in, bracket_of, outer_from, outer_of, IsRound, AreRoundsFrom, AreRounds}
-use Rattle.model.specs.Bounds.{Bound, Parts}
+use Rattle.text_core.specs.model.Bounds.{Bound, Parts}
 use Rattle.bound_text.specs.declared.state.Opened.{Opened}
 
 -- one more bracket stands inside the others

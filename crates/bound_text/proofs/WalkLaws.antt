@@ -1,6 +1,6 @@
 -- A text begins with pieces exactly where they lead somewhere, and they are all of a text exactly where it can end there.
 use Rattle.std.proofs.Common.{◌≡◌, List, [], ◌∷◌, ◌++◌, Option, Some, None, refl, ap, sym, subst, ◌∙◌, append-nil}
-use Rattle.model.specs.Bounds.{Bound}
+use Rattle.text_core.specs.model.Bounds.{Bound}
 use Rattle.bound_text.specs.Shapes.{IsShaped}
 use Rattle.bound_text.specs.Pieces.{Piece}
 use Rattle.bound_text.specs.Writing.{pieces_of}

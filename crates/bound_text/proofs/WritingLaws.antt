@@ -1,11 +1,13 @@
 -- Texts of parts with one more at the end.
-use Rattle.std.proofs.Common.{◌≡◌, ℕ, zero, suc, ◌+◌, nat_eq, Bool, true, false, cond, List, ◌∷◌, ◌++◌, refl, ap, sym, ◌∙◌, arith}
+use Rattle.std.proofs.Common.{◌≡◌, ℕ, zero, suc, ◌+◌, nat_eq, Bool, true, false, cond, List, ◌∷◌, ◌++◌, refl, ap, sym}
+use Rattle.std.proofs.Common.{◌∙◌, arith}
 use Rattle.std.proofs.lemmas.Bool.Decides.{nat_tests}
-use Rattle.model.specs.Bounds.{Bound, Constant, Input, SumOf, ProductOf, MaximumOf, PowerOf, Parts, NoParts, Part}
+use Rattle.text_core.specs.model.Bounds.{Bound, Constant, Input, SumOf, ProductOf, MaximumOf, PowerOf, Parts, NoParts, Part}
 use Rattle.bound_text.specs.Shapes.{is_sum, is_variable, with_part}
 use Rattle.bound_text.specs.Pieces.{Piece, Times}
-use Rattle.bound_text.specs.Writing.{Before, Nothing, Run, Other, goes_on, run_with, run_then, ended_then, times_then, bracketed_then, text_then, joined_then, more_then, factors_then, plus_between}
-use Rattle.bound_text.specs.Fronts.{last, is_input, star_then, each_then, term_of, bound_made, can_end}
+use Rattle.bound_text.specs.Writing.{Before, Nothing, Run, Other, goes_on, run_with, run_then, ended_then, times_then}
+use Rattle.bound_text.specs.Writing.{bracketed_then, text_then, joined_then, more_then, factors_then, plus_between}
+use Rattle.bound_text.specs.Fronts.{last, is_input, star_then, each_then, term_of, bound_of_parts, can_end}
 use Rattle.bound_text.specs.Steps.{with_copies}
 use Rattle.bound_text.proofs.RunLaws.{is_same_input}
 use Rattle.bound_text.proofs.JoiningLaws.{as_one-with_part}
@@ -180,7 +182,7 @@ term_text (Part (PowerOf c e) NoParts) rest h = refl
 term_text (Part b (Part c bs)) rest h = refl
 
 -- the text of a bound is that of its terms and factors
-pub bound_text : (ts fs : Parts) (rest : List Piece) → can_end fs ≡ true → text_then (bound_made ts fs) rest ≡ each_then plus_between ts (factors_then Nothing fs rest)
+pub bound_text : (ts fs : Parts) (rest : List Piece) → can_end fs ≡ true → text_then (bound_of_parts ts fs) rest ≡ each_then plus_between ts (factors_then Nothing fs rest)
 bound_text NoParts fs rest h = term_text fs rest h
 bound_text (Part c cs) fs rest h =
     ap (λ (b : Bound). text_then b rest) (as_one-with_part c cs (term_of fs))

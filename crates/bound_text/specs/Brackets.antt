@@ -1,7 +1,7 @@
 -- Open brackets of the code, as plain data, and what is counted round a bound in them.
 use Rattle.std.specs.Prelude.{◌≡◌, ◌^◌, ◌-◌, min, List, [], ◌∷◌, ⊤}
 use Rattle.std.proofs.Props.{props}
-use Rattle.model.specs.Bounds.{Parts}
+use Rattle.text_core.specs.model.Bounds.{Parts}
 use Rattle.bound_expr.specs.Views.{bounds_of, parts_of}
 use Rattle.bound_text.specs.Fronts as fronts
 use Rattle.bound_text.specs.Fronts.{Outer, Whole, Inside}

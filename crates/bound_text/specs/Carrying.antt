@@ -3,7 +3,7 @@
 use Rattle.std.specs.Prelude.{◌≡◌, ℕ, ◌≤◌, ◌+◌, ◌-◌, min, Bool, true, false, if◌then◌else◌, nat_lt, Option, Some}
 use Rattle.std.specs.Prelude.{None, List, [], ◌∷◌}
 use Rattle.std.specs.Option.{option_map}
-use Rattle.model.specs.Bounds.{NoParts}
+use Rattle.text_core.specs.model.Bounds.{NoParts}
 use Rattle.bound_text.specs.Pieces.{Piece, Number}
 use Rattle.bound_text.specs.Kinds.{Kind, Syntax, NumberTooLarge, UnknownName}
 use Rattle.bound_text.specs.Fronts.{Front, IsFront, Whole, Position, RunCaret, PowerCaret, init, nodes_of}
@@ -15,17 +15,17 @@ use Rattle.bound_expr.specs.Limits.{too_large_base, node_limit}
 
 -- as many copies are carried as a run has, but no more than 4,097, which are too many nodes by themselves, and no more
 -- than two where what was read before has more than 4,096 nodes already
-abbrev pub copies_kept : ℕ → ℕ → ℕ
-copies_kept nodes n = min n (if nat_lt node_limit nodes then 2 else node_limit + 1)
+abbrev pub copies_within_limit : ℕ → ℕ → ℕ
+copies_within_limit nodes n = min n (if nat_lt node_limit nodes then 2 else node_limit + 1)
 
 -- the piece that is carried, behind so many nodes
 abbrev pub kept_at : Position → ℕ → Piece → Piece
-kept_at (RunCaret i) nodes (Number n) = Number (copies_kept nodes n)
+kept_at (RunCaret i) nodes (Number n) = Number (copies_within_limit nodes n)
 kept_at position nodes piece = piece
 
 -- where a piece leads, but that a base over 2^64-1 is carried as 2^64-1, and of a run only so many copies
-abbrev pub carried : Front → Piece → Option Front
-carried f piece =
+abbrev pub limited_step : Front → Piece → Option Front
+limited_step f piece =
     if has_large_base f piece then Some (front_at f.outer f.terms (init f.factors) (PowerCaret (too_large_base - 1)))
     else step f (kept_at f.position (nodes_of f) piece)
 
@@ -47,9 +47,9 @@ behind_run k = front_at Whole NoParts (with_copies k 0 NoParts) (RunCaret 1)
 
 -- a run of n is carried as one of `kept`, and whether there are too many nodes then is the same for both
 pub record IsCarried (f : Front) (n kept : ℕ) (many : Bool) : Type 0 where
-  pub copies : carried f (Number n) ≡ step f (Number kept)
+  pub copies : limited_step f (Number n) ≡ step f (Number kept)
   pub written : has_many (step f (Number n)) ≡ many
-  pub told : has_many (carried f (Number n)) ≡ many
+  pub told : has_many (limited_step f (Number n)) ≡ many
 
 -- how runs are carried, as worked out by hand
 pub record RunsAreTold : Type 0 where
@@ -72,10 +72,10 @@ pub record RunsAreTold : Type 0 where
 -- piece leads
 pub record CarriedFrontsAreMarked : Type 0 where
   pub marks : (f : Front) (piece : Piece) → IsFront f
-      → option_map front_marks (carried f piece) ≡ option_map front_marks (step f piece)
-  pub many : (f : Front) (piece : Piece) → has_many (carried f piece) ≡ has_many (step f piece)
-  pub stays : (f g : Front) (piece : Piece) → IsFront f → carried f piece ≡ Some g → has_many (Some f) ≡ true
+      → option_map front_marks (limited_step f piece) ≡ option_map front_marks (step f piece)
+  pub many : (f : Front) (piece : Piece) → has_many (limited_step f piece) ≡ has_many (step f piece)
+  pub stays : (f g : Front) (piece : Piece) → IsFront f → limited_step f piece ≡ Some g → has_many (Some f) ≡ true
       → has_many (Some g) ≡ true
   pub within : (f : Front) (piece : Piece) → has_large_base f piece ≡ false → nodes_of f ≤ node_limit
-      → has_many (step f piece) ≡ false → carried f piece ≡ step f piece
+      → has_many (step f piece) ≡ false → limited_step f piece ≡ step f piece
   pub told : RunsAreTold

@@ -1,7 +1,7 @@
 -- Whether a piece can be taken.
 use Rattle.std.specs.Prelude.{ℕ, Bool, true, false, if◌then◌else◌, not, ◌&&◌, ◌||◌, nat_lt, nat_le, List, [], ◌∷◌}
 use Rattle.std.specs.Prelude.{Option, Some, None}
-use Rattle.model.specs.Bounds.{Bound, Constant, Input, Parts}
+use Rattle.text_core.specs.model.Bounds.{Bound, Constant, Input, Parts}
 use Rattle.bound_text.specs.Pieces.{Piece, Variable, Number, Caret}
 use Rattle.bound_text.specs.Fronts.{Front, Position, Begins, ItemRead, last, is_input, nodes_of, inner_levels}
 use Rattle.bound_text.specs.Steps.{step}
@@ -9,12 +9,12 @@ use Rattle.bound_text.specs.Kinds.{Kind, Syntax, NumberTooLarge, UnknownName, To
 use Rattle.bound_expr.specs.Limits.{cap, too_large_base, depth_limit, node_limit}
 
 -- what taking a piece comes to: a refusal, or what has been read with it
-pub data Checked : Type 0 where
-  Refused : Kind → Checked
-  Reached : Front → Checked
+pub data PieceResult : Type 0 where
+  Refused : Kind → PieceResult
+  Reached : Front → PieceResult
 
 -- whether what has been read is within the limits
-abbrev pub sized : Front → Checked
+abbrev pub sized : Front → PieceResult
 sized f =
     if nat_lt depth_limit (inner_levels f) then Refused TooDeep
     else if nat_lt node_limit (nodes_of f) then Refused TooLarge else Reached f
@@ -67,16 +67,16 @@ abbrev pub has_large_base : Front → Piece → Bool
 has_large_base f piece = has_large_base_at f.position f.factors piece
 
 -- what the fault of a piece and where it leads come to
-abbrev pub judged : Option Kind → Option Front → Checked
-judged fault None = Refused Syntax
-judged (Some kind) (Some f) = Refused kind
-judged None (Some f) = sized f
+abbrev pub fault_or_front : Option Kind → Option Front → PieceResult
+fault_or_front fault None = Refused Syntax
+fault_or_front (Some kind) (Some f) = Refused kind
+fault_or_front None (Some f) = sized f
 
 -- what taking a piece comes to, where n names are listed, and where `caret` says whether `^` comes next
-abbrev pub checked : ℕ → Bool → Front → Piece → Checked
-checked n caret f piece =
+abbrev pub piece_result : ℕ → Bool → Front → Piece → PieceResult
+piece_result n caret f piece =
     if has_large_base f piece then Refused NumberTooLarge
-    else judged (fault_of n (begins f.position && caret) piece) (step f piece)
+    else fault_or_front (fault_of n (begins f.position && caret) piece) (step f piece)
 
 -- whether `^` can stand behind a product's last factor: it is a constant, or a variable that stands alone
 abbrev pub takes_caret : Parts → Option Bound → Bool

@@ -1,7 +1,7 @@
 -- Which of the parts that have been read are deeper than a limit on levels, piece by piece.
 use Rattle.std.specs.Prelude.{◌≡◌, ℕ, suc, ◌-◌, Bool, false, nat_lt, List, [], ◌∷◌, ◌++◌, Option, Some, None}
 use Rattle.std.specs.Prelude.{slice_get}
-use Rattle.model.specs.Bounds.{Bound, Parts, Part}
+use Rattle.text_core.specs.model.Bounds.{Bound, Parts, Part}
 use Rattle.text_core.specs.Tokens.{Token}
 use Rattle.bound_text.specs.Pieces.{Piece}
 use Rattle.bound_text.specs.Writing.{Before, Nothing, plus_between}

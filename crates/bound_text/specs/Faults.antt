@@ -1,7 +1,7 @@
 -- Why a text is refused, and where.
 use Rattle.std.specs.Prelude.{◌≡◌, ℕ, List, ◌∷◌, [], length, Result, Ok, Err, Some, IsTrue, ⊤}
-use Rattle.model.specs.Programs.{Name}
-use Rattle.model.specs.Bounds as plain
+use Rattle.text_core.specs.model.Programs.{Name}
+use Rattle.text_core.specs.model.Bounds as plain
 use Rattle.bound_expr.specs.declared.bound.Bound.{Bound}
 use Rattle.bound_expr.specs.Views.{bound_of}
 use Rattle.text_core.specs.Names.{AreNames}

@@ -1,7 +1,7 @@
 -- The part of a text that has been read, as the tree so far.
 use Rattle.std.specs.Prelude.{ℕ, ◌+◌, ◌≤◌, max, Bool, true, false, if◌then◌else◌, not, ◌&&◌, ◌==◌, List, ◌∷◌, ◌++◌}
 use Rattle.std.specs.Prelude.{Option, Some, None, IsTrue, IsFalse, ⊤}
-use Rattle.model.specs.Bounds.{Bound, Input, SumOf, ProductOf, Parts, NoParts, Part}
+use Rattle.text_core.specs.model.Bounds.{Bound, Input, SumOf, ProductOf, Parts, NoParts, Part}
 use Rattle.bound_expr.specs.Measure.{node_count_of_all, maximum_depth}
 use Rattle.bound_expr.specs.Tidy.{IsNoSum, IsNoProduct, IsNoMaximum, EachPart}
 use Rattle.bound_text.specs.Shapes.{is_sum, is_maximum, is_empty, with_part, AreShaped}
@@ -200,8 +200,8 @@ abbrev pub term_of : Parts → Bound
 term_of fs = as_one ProductOf fs
 
 -- the bound that terms and the factors of the last one make
-abbrev pub bound_made : Parts → Parts → Bound
-bound_made ts fs = as_one SumOf (with_part ts (term_of fs))
+abbrev pub bound_of_parts : Parts → Parts → Bound
+bound_of_parts ts fs = as_one SumOf (with_part ts (term_of fs))
 
 -- the factor that stands alone
 abbrev pub lone : Parts → Option Bound
@@ -250,7 +250,7 @@ in_arguments Whole = false
 
 -- whether an argument can end here: it is no maximum, and stands in the brackets of one
 abbrev pub can_be_argument : Outer → Parts → Parts → Bool
-can_be_argument outer ts fs = in_arguments outer && (can_end fs && not (is_maximum (bound_made ts fs)))
+can_be_argument outer ts fs = in_arguments outer && (can_end fs && not (is_maximum (bound_of_parts ts fs)))
 
 -- the position can be behind these terms and factors
 abbrev pub IsPosition : Position → Outer → Parts → Parts → Type 0

@@ -1,7 +1,7 @@
 -- The pieces of a bound's text.
 use Rattle.std.specs.Prelude.{ℕ, ◌+◌, List, ◌∷◌, length, codes, if◌then◌else◌, ◌==◌}
 use Rattle.std.specs.Char.{is_ascii_digit}
-use Rattle.model.specs.Programs.{Name}
+use Rattle.text_core.specs.model.Programs.{Name}
 use Rattle.text_core.specs.Prefixes.{prefix, rest}
 use Rattle.text_core.specs.Names.{begins_name, continues_name, is_same, position_of}
 use Rattle.text_core.specs.Bytes.{begins_with, has_leading_zero, value_up_to}
@@ -11,21 +11,21 @@ use Rattle.bound_text.specs.Pieces.{Piece, Variable, Number, Maximum, Open, Clos
 use Rattle.bound_text.specs.Pieces.{Wrong}
 
 -- a piece with the number of its bytes
-abbrev pub found : Piece → ℕ → Lexeme Piece
-found piece len = record { piece = piece; len = len }
+abbrev pub lexeme_with : Piece → ℕ → Lexeme Piece
+lexeme_with piece len = record { piece = piece; len = len }
 
 -- what a name is that these bytes follow: before an opening bracket `max` alone is one, and elsewhere it is the
 -- variable of that name; a name that isn't listed counts as the variable behind the last one
 abbrev pub word_at : List Name → Name → List ℕ → Lexeme Piece
 word_at names name behind =
     if begins_with 40 behind
-    then (if is_same name (codes "max") then found Maximum (length name + 1) else found Wrong (length name))
-    else found (Variable (position_of name names)) (length name)
+    then (if is_same name (codes "max") then lexeme_with Maximum (length name + 1) else lexeme_with Wrong (length name))
+    else lexeme_with (Variable (position_of name names)) (length name)
 
 -- what digits are: the number that they write, where one over 2^127 counts as 2^127
 abbrev pub number_at : List ℕ → Lexeme Piece
 number_at digits =
-    found (if has_leading_zero digits then Wrong else Number (value_up_to cap digits)) (length digits)
+    lexeme_with (if has_leading_zero digits then Wrong else Number (value_up_to cap digits)) (length digits)
 
 -- what any other byte is
 abbrev pub mark_at : ℕ → Piece
@@ -44,7 +44,7 @@ abbrev pub lexeme_at : List Name → ℕ → List ℕ → Lexeme Piece
 lexeme_at names b bytes =
     if begins_name b then word_at names (b ∷ prefix continues_name bytes) (rest continues_name bytes)
     else if is_ascii_digit b then number_at (b ∷ prefix is_ascii_digit bytes)
-    else found (mark_at b) 1
+    else lexeme_with (mark_at b) 1
 
 -- the tokens of a text; each byte is one of some token's
 abbrev pub tokens : List Name → List ℕ → List (Token Piece)

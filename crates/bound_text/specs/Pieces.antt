@@ -1,7 +1,7 @@
 -- The pieces of a bound's text, and their bytes.
 use Rattle.std.specs.Prelude.{ℕ, List, [], ◌∷◌, ◌++◌, slice_index_or, codes}
 use Rattle.std.specs.Fmt.{decimal}
-use Rattle.model.specs.Programs.{Name}
+use Rattle.text_core.specs.model.Programs.{Name}
 
 -- a piece: a variable by its number, a number, `max(`, a mark, or what is no piece of a text
 pub data Piece : Type 0 where

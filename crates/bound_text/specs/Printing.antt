@@ -1,7 +1,7 @@
 -- What is written behind a text.
 use Rattle.std.specs.Prelude.{◌≡◌, ℕ, ◌<◌, List, ◌++◌, ⊤}
-use Rattle.model.specs.Programs.{Name}
-use Rattle.model.specs.Bounds.{Bound, Parts, Part}
+use Rattle.text_core.specs.model.Programs.{Name}
+use Rattle.text_core.specs.model.Bounds.{Bound, Parts, Part}
 use Rattle.bound_text.specs.Pieces as plain
 use Rattle.bound_text.specs.Pieces.{bytes_of}
 use Rattle.bound_text.specs.Writing as writing

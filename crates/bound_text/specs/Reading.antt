@@ -1,6 +1,6 @@
 -- The reader of bounds.
 use Rattle.std.specs.Prelude.{◌≡◌, ℕ, Bool, false, ◌&&◌, ◌||◌, nat_lt, Option, Some, None, List, [], ◌∷◌}
-use Rattle.model.specs.Bounds.{Bound}
+use Rattle.text_core.specs.model.Bounds.{Bound}
 use Rattle.text_core.specs.Tokens.{Token, pieces}
 use Rattle.text_core.specs.Readers.{Fault, Reader}
 use Rattle.text_core.specs.Faults.{faults_at}

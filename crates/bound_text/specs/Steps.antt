@@ -1,13 +1,13 @@
 -- Where each piece leads the reader.
 use Rattle.std.specs.Prelude.{ℕ, zero, suc, Bool, true, false, not, ◌&&◌, nat_lt, List, Option, Some, None}
-use Rattle.model.specs.Bounds.{Bound, Constant, Input, MaximumOf, PowerOf, Parts, NoParts}
+use Rattle.text_core.specs.model.Bounds.{Bound, Constant, Input, MaximumOf, PowerOf, Parts, NoParts}
 pub use Rattle.text_core.specs.Choices.{when}
 use Rattle.text_core.specs.Readers as readers
 use Rattle.bound_text.specs.Shapes.{is_sum, is_maximum, is_leaf, is_empty, with_part}
 use Rattle.bound_text.specs.Pieces.{Piece, Variable, Number, Maximum, Open, Close, Times, Caret, Plus, Blank, Comma}
 use Rattle.bound_text.specs.Fronts.{Bracket, Arguments, Exponent, Factor, Outer, Whole, Inside, Position, Begins}
 use Rattle.bound_text.specs.Fronts.{RunCaret, PowerCaret, ItemRead, BlankRead, PlusRead, CommaRead, Front, last, init}
-use Rattle.bound_text.specs.Fronts.{is_input, term_of, bound_made, can_end, can_be_argument}
+use Rattle.bound_text.specs.Fronts.{is_input, term_of, bound_of_parts, can_end, can_be_argument}
 
 -- n times variable i behind the factors
 abbrev pub with_copies : ℕ → ℕ → Parts → Parts
@@ -77,8 +77,8 @@ item_of Factor b = b
 abbrev pub close_bracket : Outer → Parts → Parts → Option Front
 close_bracket Whole ts fs = None
 close_bracket (Inside bracket ts' fs' outer) ts fs =
-    when (can_end fs && can_close bracket (bound_made ts fs))
-    (behind_factor outer ts' fs' (item_of bracket (bound_made ts fs)))
+    when (can_end fs && can_close bracket (bound_of_parts ts fs))
+    (behind_factor outer ts' fs' (item_of bracket (bound_of_parts ts fs)))
 
 -- what follows an item
 abbrev pub follow_item : Outer → Parts → Parts → Piece → Option Front
@@ -92,7 +92,7 @@ follow_item outer ts fs piece = None
 -- an argument ends
 abbrev pub end_argument : Outer → Parts → Parts → Option Front
 end_argument (Inside (Arguments bs) ts' fs' outer) ts fs =
-    Some (inside (Arguments (with_part bs (bound_made ts fs))) outer ts' fs')
+    Some (inside (Arguments (with_part bs (bound_of_parts ts fs))) outer ts' fs')
 end_argument outer ts fs = None
 
 -- where a piece leads
@@ -121,7 +121,7 @@ is_whole (Inside bracket ts fs outer) = false
 
 -- the bound of a text that ends, by the position
 abbrev pub finish_at : Position → Outer → Parts → Parts → Option Bound
-finish_at ItemRead outer ts fs = when (is_whole outer && can_end fs) (bound_made ts fs)
+finish_at ItemRead outer ts fs = when (is_whole outer && can_end fs) (bound_of_parts ts fs)
 finish_at position outer ts fs = None
 
 -- the bound of a text that ends here

@@ -1,8 +1,8 @@
 -- What has been read of a text, as plain data.
 use Rattle.std.specs.Prelude.{◌≡◌, ℕ, if◌then◌else◌, Bool, true, false, not, Option, Some, None, Result, Ok, Err, ⊤}
 use Rattle.std.specs.Prelude.{IsTrue}
-use Rattle.model.specs.Bounds as bounds
-use Rattle.model.specs.Bounds.{Constant, Input, Parts}
+use Rattle.text_core.specs.model.Bounds as bounds
+use Rattle.text_core.specs.model.Bounds.{Constant, Input, Parts}
 use Rattle.bound_expr.specs.declared.bound.Bound.{Bound}
 use Rattle.bound_expr.specs.Views.{bound_of}
 use Rattle.bound_text.specs.Fronts as fronts
@@ -10,7 +10,7 @@ use Rattle.bound_text.specs.Fronts.{Front, Outer, last, init}
 use Rattle.bound_text.specs.Steps.{front_at, behind_factor}
 use Rattle.text_core.specs.Reading.{Answer, Stands, Refused as RefusedBy}
 use Rattle.bound_text.specs.Kinds as plain
-use Rattle.bound_text.specs.Checks.{Checked, Refused, Reached, takes_caret}
+use Rattle.bound_text.specs.Checks.{PieceResult, Refused, Reached, takes_caret}
 pub use Rattle.bound_text.specs.Brackets.{parts_in, bracket_of, outer_from, outer_of, IsRound}
 use Rattle.bound_text.specs.declared.brackets.Brackets.{Brackets}
 use Rattle.bound_text.specs.declared.state.Position.{Position}
@@ -100,7 +100,7 @@ Keeps f r (Err faults.Syntax) = (front_of r ≡ f) × IsTrue (is_fresh r)
 Keeps f r (Err fault) = ⊤
 
 -- the reader comes to what taking a piece comes to, or refuses it as that does, want of memory aside
-abbrev pub Obeys : Checked → Reader → Result (Unit {0}) Fault → Type 0
+abbrev pub Obeys : PieceResult → Reader → Result (Unit {0}) Fault → Type 0
 Obeys (Reached f) r (Ok u) = (f ≡ front_of r) × IsTrue (is_settled r)
 Obeys (Refused kind) r (Ok u) = ⊥
 Obeys (Refused kind) r (Err fault) = IsKind kind fault

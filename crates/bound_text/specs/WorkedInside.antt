@@ -1,7 +1,7 @@
 -- What was worked out by hand of bounds inside another text, over `A` and `B`, with a few levels each.
 use Rattle.std.specs.Prelude.{ℕ, List, [], ◌∷◌, length, codes}
-use Rattle.model.specs.Programs.{Name}
-use Rattle.model.specs.Bounds.{Bound, Constant, Input, ProductOf, MaximumOf, PowerOf, NoParts, Part}
+use Rattle.text_core.specs.model.Programs.{Name}
+use Rattle.text_core.specs.model.Bounds.{Bound, Constant, Input, ProductOf, MaximumOf, PowerOf, NoParts, Part}
 use Rattle.text_core.specs.Faults as first
 use Rattle.text_core.specs.Reading.{IsTree}
 use Rattle.text_core.specs.Laws.{Laws, AnswersAll, OneFirst}

@@ -1,4 +1,4 @@
-// The open brackets of a text.
+//! The open brackets of a text.
 
 ghost use Rattle.bound_text.specs.Brackets.{AreRounds, AreRounds-prop};
 
@@ -19,7 +19,7 @@ pub struct Brackets {
 #[tactic(auto, using(crate::proofs::ViewLaws::in_arguments_last, crate::proofs::ViewLaws::can_close_last, crate::proofs::ViewLaws::can_close_none, crate::proofs::ViewLaws::is_whole_empty, crate::proofs::ViewLaws::rounds_last))]
 impl Brackets {
     ghost use Rattle.std.specs.Prelude.{◌≡◌, OnOk, IfOk, MatchOption};
-    ghost use Rattle.bound_text.specs.Fronts.{Whole, Inside, in_arguments as in_arguments_of, bound_made};
+    ghost use Rattle.bound_text.specs.Fronts.{Whole, Inside, in_arguments as in_arguments_of, bound_of_parts};
     ghost use Rattle.bound_text.specs.Steps.{is_whole, innermost_can_close};
     ghost use Rattle.bound_text.specs.Views.{parts_in, bracket_of, outer_in, IsRound};
     ghost use Rattle.bound_text.specs.Depths.{FlagsOuter};
@@ -53,7 +53,7 @@ impl Brackets {
     /// Whether the innermost open bracket can close behind the bound that terms and factors make.
     pub(crate) fn can_close(&self, terms: &Measured, factors: &Measured) -> bool
         ensures { result ≡ innermost_can_close (outer_in self.now)
-            (bound_made (parts_in terms.now) (parts_in factors.now)) }
+            (bound_of_parts (parts_in terms.now) (parts_in factors.now)) }
     {
         match self.opened.last() {
             Some(opened) => opened.bracket.can_close(terms, factors),

@@ -1,8 +1,8 @@
-// Where what has been read is too deep.
+//! Where what has been read is too deep.
 
 ghost use Rattle.std.specs.Prelude.{◌≡◌, ◌++◌, ◌∷◌, OnOk, IfOk, IsTrue, Bool, Some, None};
 ghost use Rattle.std.specs.List.{position};
-ghost use Rattle.model.specs.Bounds.{Parts};
+ghost use Rattle.text_core.specs.model.Bounds.{Parts};
 ghost use Rattle.bound_text.specs.Fronts.{Outer, Inside, in_factor as in_factor_of};
 ghost use Rattle.bound_text.specs.Inside.{bracket_marks, star_marks, front_marks};
 ghost use Rattle.bound_text.specs.Views.{parts_in, bracket_of, outer_in, front_of, is_fresh};

@@ -1,4 +1,4 @@
-// Which parts of bounds are too deep, piece by piece.
+//! Which parts of bounds are too deep, piece by piece.
 
 ghost use Rattle.std.specs.Prelude.{◌∷◌, ◌<◌, ◌≤◌, ◌+◌, ◌^◌, Some, None, IfOk, OnOk, IsFalse};
 ghost use Rattle.bound_expr.specs.Views.{bound_of, bounds_of, parts_of};

@@ -1,4 +1,4 @@
-// Why a piece can't be taken.
+//! Why a piece can't be taken.
 
 ghost use Rattle.std.specs.Prelude.{◌≡◌};
 ghost use Rattle.bound_text.specs.declared.fault.Fault.TheVariants.{Memory};

@@ -1,19 +1,19 @@
-// From terms and factors to one bound.
+//! From terms and factors to one bound.
 
 ghost use Rattle.std.specs.Prelude.{◌≡◌, IfOk, MatchOption, MatchResult, if◌then◌else◌};
-ghost use Rattle.model.specs.Bounds as plain;
-ghost use Rattle.model.specs.Bounds.{Parts, ProductOf, SumOf, MaximumOf, PowerOf};
+ghost use Rattle.text_core.specs.model.Bounds as plain;
+ghost use Rattle.text_core.specs.model.Bounds.{Parts, ProductOf, SumOf, MaximumOf, PowerOf};
 ghost use Rattle.bound_expr.specs.Views.{bound_of};
 ghost use Rattle.bound_text.specs.Shapes.{is_sum as is_sum_bound, is_maximum as is_maximum_bound};
 ghost use Rattle.bound_text.specs.Shapes.{is_leaf as is_leaf_bound, is_empty as has_none};
-ghost use Rattle.bound_text.specs.Fronts.{as_one, bound_made, can_end as terms_can_end, is_input, last};
+ghost use Rattle.bound_text.specs.Fronts.{as_one, bound_of_parts, can_end as terms_can_end, is_input, last};
 ghost use Rattle.bound_text.specs.Fronts.{lone as lone_of, passes, product_node};
 ghost use Rattle.bound_text.specs.Views.{parts_in};
 
 use crate::kinds::{is_leaf, is_maximum, is_sum, is_variable};
 use crate::measured::{Counted, Measured};
 use bound_expr::{Bound, Memory};
-use std::alloc::{AllocError, Global};
+use std::alloc::Global;
 
 // A part that stands alone, by itself, and others as they were.
 #[tactic(auto, using(crate::proofs::JoiningLaws::as_one_more))]
@@ -69,8 +69,12 @@ pub fn sum_from(terms: Measured) -> Counted
 }
 
 /// The bound that terms and the factors of the last one make.
+///
+/// # Errors
+///
+/// `Memory` where an allocation fails.
 pub fn bound_from(mut terms: Measured, factors: Measured) -> Result<Counted, Memory>
-    ensures { IfOk result (λ b. bound_of b.bound ≡ bound_made (parts_in terms) (parts_in factors)) }
+    ensures { IfOk result (λ b. bound_of b.bound ≡ bound_of_parts (parts_in terms) (parts_in factors)) }
 {
     terms.push_counted(product_from(factors))?;
     Ok(sum_from(terms))
@@ -93,7 +97,11 @@ pub fn maximum_from(arguments: Measured) -> Counted
 }
 
 /// The power of a base.
-pub fn power_from(alloc: Global, base: u64, exponent: Counted) -> Result<Counted, AllocError>
+///
+/// # Errors
+///
+/// `Memory` where an allocation fails.
+pub fn power_from(alloc: Global, base: u64, exponent: Counted) -> Result<Counted, Memory>
     ensures { IfOk result (λ power. bound_of power.bound ≡ PowerOf base (bound_of exponent.bound)) }
 {
     let Counted {
@@ -139,7 +147,7 @@ pub fn can_end(factors: &Measured) -> bool
 /// Whether the bound that terms and factors make is a sum.
 #[tactic(auto, using(crate::proofs::JoiningLaws::kinds))]
 pub fn makes_sum(terms: &Measured, factors: &Measured) -> bool
-    ensures { result ≡ is_sum_bound (bound_made (parts_in terms.now) (parts_in factors.now)) }
+    ensures { result ≡ is_sum_bound (bound_of_parts (parts_in terms.now) (parts_in factors.now)) }
 {
     !is_empty(terms) || lone(factors).is_some_and(is_sum)
 }
@@ -147,7 +155,7 @@ pub fn makes_sum(terms: &Measured, factors: &Measured) -> bool
 /// Whether it is a maximum.
 #[tactic(auto, using(crate::proofs::JoiningLaws::kinds))]
 pub fn makes_maximum(terms: &Measured, factors: &Measured) -> bool
-    ensures { result ≡ is_maximum_bound (bound_made (parts_in terms.now) (parts_in factors.now)) }
+    ensures { result ≡ is_maximum_bound (bound_of_parts (parts_in terms.now) (parts_in factors.now)) }
 {
     is_empty(terms) && lone(factors).is_some_and(is_maximum)
 }
@@ -155,7 +163,7 @@ pub fn makes_maximum(terms: &Measured, factors: &Measured) -> bool
 /// Whether it is a constant or a variable.
 #[tactic(auto, using(crate::proofs::JoiningLaws::kinds))]
 pub fn makes_leaf(terms: &Measured, factors: &Measured) -> bool
-    ensures { result ≡ is_leaf_bound (bound_made (parts_in terms.now) (parts_in factors.now)) }
+    ensures { result ≡ is_leaf_bound (bound_of_parts (parts_in terms.now) (parts_in factors.now)) }
 {
     is_empty(terms) && lone(factors).is_some_and(is_leaf)
 }

@@ -1,4 +1,4 @@
-// Kinds of bounds.
+//! Kinds of bounds.
 
 ghost use Rattle.std.specs.Prelude.{◌≡◌};
 ghost use Rattle.bound_expr.specs.Views.{bound_of};

@@ -1,4 +1,4 @@
-// What holds of bounds inside another text.
+//! What holds of bounds inside another text.
 
 ghost use Rattle.bound_text.specs.WorkedInside.{InnerBoundsAreRead};
 ghost use Rattle.bound_text.specs.Carrying.{CarriedFrontsAreMarked};

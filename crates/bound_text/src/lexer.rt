@@ -1,4 +1,4 @@
-// The pieces that a text begins with.
+//! The pieces that a text begins with.
 
 ghost use Rattle.std.specs.Prelude.{◌≡◌, ◌<◌, ◌≤◌, ◌∷◌, ◌+◌, length, IfOk, IsTrue};
 ghost use Rattle.std.specs.List.{list_all};
@@ -86,7 +86,11 @@ fn mark(byte: u8) -> Piece
     }
 }
 
-/// The piece that a text begins with, which has this first byte. `Memory` where its variable's number is over 2^32-1.
+/// The piece that a text begins with, which has this first byte.
+///
+/// # Errors
+///
+/// `Memory` where an allocation fails, and where the variable's number is over 2^32-1.
 pub fn next(names: &Listed<'_>, text: &[u8], first: u8, others: &[u8]) -> Result<Lexeme, Memory>
     requires { text.now ≡ first ∷ others.now }
     ensures piece { IfOk result (λ l. lexeme_of l ≡ lexeme_at (names_in names.now) first others.now) }

@@ -1,7 +1,7 @@
-// Bounds with their measure.
+//! Bounds with their measure.
 
 ghost use Rattle.std.specs.Prelude.{◌≡◌, ◌^◌, ◌-◌, min, OnOk};
-ghost use Rattle.model.specs.Bounds.{NoParts, Input};
+ghost use Rattle.text_core.specs.model.Bounds.{NoParts, Input};
 ghost use Rattle.bound_expr.specs.Views.{bound_of, bounds_of, parts_of};
 ghost use Rattle.bound_expr.specs.Measure.{node_count, node_count_of_all, depth_of, maximum_depth};
 ghost use Rattle.bound_text.specs.Shapes.{with_part};

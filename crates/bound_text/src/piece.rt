@@ -1,4 +1,4 @@
-// The pieces of a bound's text.
+//! The pieces of a bound's text.
 
 /// A piece of the text.
 #[derive(Clone, Copy, Debug, PartialEq, Eq)]

@@ -1,4 +1,4 @@
-// From a bound to its text.
+//! From a bound to its text.
 
 ghost use Rattle.std.specs.Prelude.{◌≡◌, ◌++◌, ◌∷◌, ◌+◌, ◌^◌, ◌<◌, ◌≤◌, length, map, not, IfOk, OnOk, IsTrue, IsFalse};
 ghost use Rattle.std.specs.Prelude.{MatchOption};
@@ -10,7 +10,7 @@ ghost use Rattle.bound_text.specs.Pieces.{spelled};
 ghost use Rattle.bound_text.specs.Writing as writing;
 ghost use Rattle.bound_text.specs.Writing.{text_then, joined_then, factors_then, bracketed_then, ended_then};
 ghost use Rattle.bound_text.specs.Writing.{times_then, goes_on, run_with, count_of};
-ghost use Rattle.bound_text.specs.Texts.{IsText};
+ghost use Rattle.bound_text.specs.Texts.{IsText, text_of};
 ghost use Rattle.bound_text.specs.Printing.{piece_of, separator_of, before_of, IsListed, IsListedRun, WritesAll};
 ghost use Rattle.bound_text.specs.Printing.{WritesFactor};
 
@@ -50,8 +50,21 @@ pub fn print(alloc: Global, names: &[Name], b: &Bound) -> Result<Vec<u8>, Memory
     ensures { IfOk result (λ text. IsText (map name_of names.now) text.items (bound_of b.now)) }
 {
     let mut text = Vec::new(alloc);
-    write_bound(names, &mut text, b)?;
+    write(names, &mut text, b)?;
     Ok(text)
+}
+
+/// Writes the text of a bound over variables with these names behind what stands in `text`. It is of any depth: the
+/// call goes as deep as the bound.
+///
+/// # Errors
+///
+/// `Memory` where an allocation fails; what stands in `text` is then open.
+pub fn write(names: &[Name], text: &mut Vec<u8>, b: &Bound) -> Result<(), Memory>
+    requires { ReadsBelow (length names.now) (bound_of b.now) }
+    ensures { OnOk result (text.new.items ≡ text.old.items ++ text_of (map name_of names.now) (bound_of b.now)) }
+{
+    write_bound(names, text, b)
 }
 
 // One piece.

@@ -1,7 +1,7 @@
-// From a text to its bound.
+//! From a text to its bound.
 
 ghost use Rattle.std.specs.Prelude.{length, map};
-ghost use Rattle.model.specs.Bounds as plain;
+ghost use Rattle.text_core.specs.model.Bounds as plain;
 ghost use Rattle.text_core.specs.Names.{name_of};
 ghost use Rattle.text_core.specs.Names.{AreNames};
 ghost use Rattle.text_core.specs.Reading.{answer};

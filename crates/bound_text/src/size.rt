@@ -1,4 +1,4 @@
-// How large the tree so far is.
+//! How large the tree so far is.
 
 ghost use Rattle.std.specs.Prelude.{◌≡◌, ◌≤◌, ◌^◌, ◌-◌, min, IsTrue, if◌then◌else◌};
 ghost use Rattle.bound_text.specs.Fronts as fronts;

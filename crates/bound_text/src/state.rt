@@ -1,4 +1,4 @@
-// What has been read of a text.
+//! What has been read of a text.
 
 ghost use Rattle.std.specs.Prelude.{◌≡◌, IsTrue};
 ghost use Rattle.bound_text.specs.Steps.{beginning};

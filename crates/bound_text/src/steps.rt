@@ -1,4 +1,4 @@
-// Where each piece leads the reader.
+//! Where each piece leads the reader.
 
 ghost use Rattle.std.specs.Prelude.{◌≡◌, ◌&&◌, ◌^◌, ◌<◌, IsTrue, IsFalse, OnOk, MatchOption, MatchResult};
 ghost use Rattle.bound_text.specs.Fronts.{last, init, can_be_argument as can_be_argument_of};
@@ -8,9 +8,9 @@ ghost use Rattle.bound_text.specs.Steps.{follow_item as item_followed, caret_beh
 ghost use Rattle.bound_text.specs.Steps.{end_argument as argument_ended, inside, front_at, behind_factor};
 ghost use Rattle.bound_text.specs.Steps.{can_close as bracket_can_close, item_of};
 ghost use Rattle.bound_text.specs.Fronts as fronts;
-ghost use Rattle.model.specs.Bounds.{Constant, Input, PowerOf, NoParts};
+ghost use Rattle.text_core.specs.model.Bounds.{Constant, Input, PowerOf, NoParts};
 ghost use Rattle.bound_text.specs.Shapes.{with_part};
-ghost use Rattle.bound_text.specs.Fronts.{term_of, bound_made};
+ghost use Rattle.bound_text.specs.Fronts.{term_of, bound_of_parts};
 ghost use Rattle.bound_text.specs.Printing.{piece_of};
 ghost use Rattle.bound_text.specs.Checks.{is_caret, takes_caret, has_large_base as has_large_base_of};
 ghost use Rattle.bound_expr.specs.Views.{bound_of};
@@ -307,7 +307,7 @@ impl Bracket {
     /// Whether the bracket can close behind the bound that terms and factors make.
     pub(crate) fn can_close(&self, terms: &Measured, factors: &Measured) -> bool
         ensures { result ≡ bracket_can_close (bracket_of self.now)
-            (bound_made (parts_in terms.now) (parts_in factors.now)) }
+            (bound_of_parts (parts_in terms.now) (parts_in factors.now)) }
     {
         match self {
             Bracket::Arguments(arguments) => !is_empty(arguments) && !makes_maximum(terms, factors),

@@ -1,4 +1,4 @@
-// Taking one piece after the other.
+//! Taking one piece after the other.
 
 ghost use Rattle.std.specs.Prelude.{◌≡◌, ◌&&◌, ◌<◌, ◌^◌, ◌≤◌, IsTrue, IsFalse, OnOk, List, Some, false};
 ghost use Rattle.bound_text.specs.Fronts as fronts;
@@ -6,7 +6,8 @@ ghost use Rattle.bound_text.specs.Fronts.{last};
 ghost use Rattle.bound_text.specs.Steps.{step as step_of, end_run as run_ended, finish as finish_of, finish_at};
 ghost use Rattle.bound_text.specs.Steps.{is_whole as is_whole_outer, with_copies};
 ghost use Rattle.bound_text.specs.Printing.{piece_of};
-ghost use Rattle.bound_text.specs.Checks.{begins as begins_at, checked, judged, fault_of as fault_of_piece};
+ghost use Rattle.bound_text.specs.Checks.{begins as begins_at, piece_result, fault_or_front};
+ghost use Rattle.bound_text.specs.Checks.{fault_of as fault_of_piece};
 ghost use Rattle.bound_text.specs.Checks.{has_large_base as has_large_base_of};
 ghost use Rattle.bound_text.specs.Views.{parts_in, outer_in, front_of, is_settled, is_in_run, Follows, Keeps};
 ghost use Rattle.bound_text.specs.Views.{FindsFault, Obeys, Finishes, fault_from};
@@ -15,7 +16,8 @@ ghost use Rattle.bound_text.specs.Pieces as plain;
 ghost use Rattle.bound_text.specs.Fronts.{nodes_of};
 ghost use Rattle.bound_text.specs.Checks.{caret_next};
 ghost use Rattle.bound_text.specs.Reading.{stands, has_many};
-ghost use Rattle.bound_text.specs.Carrying.{copies_kept as kept_copies, kept_at, carried, first_of, early_kinds};
+ghost use Rattle.bound_text.specs.Carrying.{copies_within_limit as kept_copies, kept_at, limited_step, first_of};
+ghost use Rattle.bound_text.specs.Carrying.{early_kinds};
 ghost use Rattle.bound_text.specs.declared.state.Position.TheVariants as at;
 
 use crate::fault::Fault;
@@ -75,7 +77,7 @@ impl Reader {
     /// no use.
     pub fn step(&mut self, alloc: Global, piece: Piece) -> Result<(), Fault>
         requires { IsTrue (is_settled self.old) }
-        ensures follows { Follows (carried (front_of self.old) (piece_of piece)) self.new result }
+        ensures follows { Follows (limited_step (front_of self.old) (piece_of piece)) self.new result }
         ensures kept { Keeps (front_of self.old) self.new result }
     {
         if let Position::RunCaret(variable) = self.position {
@@ -127,6 +129,10 @@ impl Reader {
     }
 
     /// Takes one piece, where so many names are listed, and where `caret` says whether `^` comes next.
+    ///
+    /// # Errors
+    ///
+    /// What stands against the piece, or `Memory` where an allocation fails.
     pub fn take(
         &mut self,
         alloc: Global,
@@ -135,7 +141,7 @@ impl Reader {
         piece: Piece,
     ) -> Result<(), Fault>
         requires { IsTrue (is_settled self.old) }
-        ensures { Obeys (checked names caret (front_of self.old) (piece_of piece)) self.new result }
+        ensures { Obeys (piece_result names caret (front_of self.old) (piece_of piece)) self.new result }
     {
         if let Position::RunCaret(variable) = self.position {
             return self.end_run(variable, piece);
@@ -191,7 +197,7 @@ impl Reader {
 
     // A run ends with its number. More copies than a bound may have nodes are as many as are refused.
     fn end_run(&mut self, variable: u32, piece: Piece) -> Result<(), Fault>
-        ensures { Obeys (judged (fault_of_piece 0 false (piece_of piece))
+        ensures { Obeys (fault_or_front (fault_of_piece 0 false (piece_of piece))
             (run_ended (outer_in self.old.outer) (parts_in self.old.terms) (parts_in self.old.factors) variable
             (piece_of piece))) self.new result }
     {
@@ -210,6 +216,10 @@ impl Reader {
     }
 
     /// The bound of a text that ends here.
+    ///
+    /// # Errors
+    ///
+    /// `Syntax` where the text can't end here, or `Memory` where an allocation fails.
     pub fn finish(mut self) -> Result<Bound, Fault>
         ensures { Finishes (finish_of (front_of self)) result }
     {

@@ -1,6 +1,6 @@
 -- Bases of at least 1, as a test.
 use Rattle.std.specs.Prelude.{Bool, true, nat_le, ◌&&◌}
-use Rattle.model.specs.Bounds.{Bound, Constant, Input, SumOf, ProductOf, MaximumOf, PowerOf, Parts, NoParts, Part}
+use Rattle.text_core.specs.model.Bounds.{Bound, Constant, Input, SumOf, ProductOf, MaximumOf, PowerOf, Parts, NoParts, Part}
 
 -- whether every base of the bound is at least 1
 abbrev mutual

@@ -2,7 +2,7 @@
 #![tactic(auto, using(crate::proofs::Views::seen))]
 
 ghost use Rattle.std.specs.Prelude.{◌≡◌, IsTrue};
-ghost use Rattle.model.specs.Bounds.{IsBased};
+ghost use Rattle.text_core.specs.model.Bounds.{IsBased};
 ghost use Rattle.bound_expr.specs.Views.{bound_of, bounds_of, parts_of};
 ghost use Rattle.bounds_tests.specs.Based.{bases_are_some, all_bases_are_some};
 

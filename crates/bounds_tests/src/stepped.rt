@@ -4,97 +4,10 @@
 ghost use Rattle.std.specs.Prelude.{IfOk, OnOk, IsTrue, if◌then◌else◌};
 ghost use Rattle.bound_text.specs.Views.{is_settled, is_fresh};
 
-use crate::inside::Outcome::{Refused, Stands};
-use crate::inside::{Found, Outcome, first_piece};
-use crate::steps::Build::{C, Max, Pow, Prod, V};
+use crate::inside::{Found, first_piece};
 use bound_expr::Memory;
 use bound_text::{Fault, Piece, Reader};
 use std::alloc::{AllocError, Global};
-
-/// What texts come to where their bounds may have so many levels.
-pub(crate) const DEEP: &[(&str, u64, Outcome)] = &[
-    // A sum and a product begin with their first part, a sum in brackets with its bracket, an exponent behind it.
-    ("[A*B]", 1, Refused(Fault::TooDeep, 1)),
-    ("[A*B]", 2, Stands(&[V(0), V(1), Prod(2)], 4)),
-    ("[A + B]", 1, Refused(Fault::TooDeep, 1)),
-    ("[A ", 1, Refused(Fault::TooDeep, 1)),
-    ("[A^2]", 1, Refused(Fault::TooDeep, 1)),
-    ("[A^]", 1, Refused(Fault::Syntax, 3)),
-    ("[2^(A*B)]", 2, Refused(Fault::TooDeep, 4)),
-    ("[2^(A*B)]", 3, Stands(&[V(0), V(1), Prod(2), Pow(2)], 8)),
-    ("[(A + B)*A]", 1, Refused(Fault::TooDeep, 1)),
-    ("[(A + B)*A]", 2, Refused(Fault::TooDeep, 2)),
-    ("[2^(]", 1, Refused(Fault::Syntax, 4)),
-    ("[2^(A", 1, Refused(Fault::TooDeep, 4)),
-    // A part within what a `*` pushes down is refused itself.
-    ("[max(1, 2^A)*B]", 3, Refused(Fault::TooDeep, 10)),
-    (
-        "[max(1, 2^A)*B]",
-        4,
-        Stands(&[C(1), V(0), Pow(2), Max(2), V(1), Prod(2)], 14),
-    ),
-    // Behind a number that is too large, as a constant, as a base and as the number of a run.
-    (
-        "[max(A, 170141183460469231731687303715884105728)*B]",
-        2,
-        Refused(Fault::TooDeep, 5),
-    ),
-    (
-        "[max(A, 170141183460469231731687303715884105728)*B]",
-        3,
-        Refused(Fault::NumberTooLarge, 8),
-    ),
-    (
-        "[max(A, 18446744073709551616^A)*B]",
-        2,
-        Refused(Fault::TooDeep, 5),
-    ),
-    (
-        "[max(A, 18446744073709551616^A)*B]",
-        3,
-        Refused(Fault::NumberTooLarge, 8),
-    ),
-    (
-        "[max(A, A^170141183460469231731687303715884105728)*B]",
-        2,
-        Refused(Fault::TooDeep, 5),
-    ),
-    (
-        "[max(A, A^170141183460469231731687303715884105728)*B]",
-        200,
-        Refused(Fault::NumberTooLarge, 10),
-    ),
-    // Behind a name that isn't listed, a bound that is too large, and a part that is too deep.
-    ("[max(A, C)*B]", 2, Refused(Fault::TooDeep, 5)),
-    ("[max(A, C)*B]", 3, Refused(Fault::UnknownName, 8)),
-    ("[A^4096]", 200, Refused(Fault::TooLarge, 3)),
-    ("[A^4097]", 200, Refused(Fault::TooLarge, 3)),
-    ("[A^5000]", 200, Refused(Fault::TooLarge, 3)),
-    ("[max(A, A^5000)*B]", 2, Refused(Fault::TooDeep, 5)),
-    ("[max(A, A^5000)*B]", 200, Refused(Fault::TooLarge, 10)),
-    (
-        "[A^4096*B^4096*A^99999999999999*]",
-        200,
-        Refused(Fault::TooLarge, 3),
-    ),
-    ("[max(1, 2^(2^A))*B]", 3, Refused(Fault::TooDeep, 11)),
-    ("[max(1, 2^(2^A))]", 3, Refused(Fault::TooDeep, 13)),
-    // Where a bound breaks off, what was read before it counts.
-    ("[max(A, 1^B)*B]", 2, Refused(Fault::Syntax, 8)),
-    ("[max(A, B)*(]", 2, Refused(Fault::TooDeep, 5)),
-    ("[A*B)]", 1, Refused(Fault::TooDeep, 1)),
-    ("[A*B)]", 2, Refused(Fault::Syntax, 4)),
-    // Of two faults at one byte: depth comes behind each kind but the number of nodes.
-    ("[2^(1^A)]", 1, Refused(Fault::Syntax, 4)),
-    (
-        "[2^170141183460469231731687303715884105728]",
-        1,
-        Refused(Fault::NumberTooLarge, 3),
-    ),
-    ("[2^C]", 1, Refused(Fault::UnknownName, 3)),
-    ("[A^4094*2^B]", 2, Refused(Fault::TooDeep, 10)),
-    ("[A^4094*2^B]", 3, Refused(Fault::TooLarge, 10)),
-];
 
 // A fault with its position.
 type Refusal = (Fault, usize);
@@ -204,30 +117,4 @@ pub(crate) fn stepped_at(
     } else {
         Ok(Found::Refused(Fault::TooDeep, at))
     }
-}
-
-// `A*B` as the exponent of so many powers, one inside the other.
-fn nested(alloc: Global, powers: usize) -> Result<Vec<u8>, Memory> {
-    let mut text = Vec::new(alloc);
-    text.extend_from_slice(b"x [")?;
-    for _power in 0..powers {
-        text.extend_from_slice(b"2^(")?;
-    }
-    text.extend_from_slice(b"A*B")?;
-    for _power in 0..powers {
-        text.push(b')')?;
-    }
-    text.push(b']')?;
-    Ok(text)
-}
-
-/// Whether the last of 201 levels is refused at its first byte, and stands where there may be so many.
-pub(crate) fn nests_are_told(alloc: Global) -> Result<bool, Memory> {
-    let text = nested(alloc, 199)?;
-    let deep = stepped_at(alloc, &text, 3, 200)?;
-    let within = stepped_at(alloc, &text, 3, 201)?;
-    Ok(
-        matches!(deep, Found::Refused(Fault::TooDeep, 600))
-            && matches!(within, Found::Stands(_, 802)),
-    )
 }

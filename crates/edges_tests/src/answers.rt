@@ -1,4 +1,4 @@
-// The program's answers, whole, on shelves and sinks in memory: every status with its text, and what follows a fault.
+//! The program's answers, whole, on shelves and sinks in memory: every status with its text, and what follows a fault.
 
 use crate::programs::{ONE_RULE, PROGRAMS};
 use koat_cli::{Status, run};
@@ -145,7 +145,7 @@ fn words_are_a_command_line_or_get_the_usage(rt: HostRuntime) -> Result<(), Fail
         let words = words_of(alloc, words)?;
         assert_eq!(rt; run(alloc, &words, &mut shelf, &mut sink), status);
         assert_eq!(rt; sink.bytes(), output);
-        assert_eq!(rt; shelf.calls() == 0, status == Status::Usage);
+        assert_eq!(rt; shelf.calls(), u64::from(status != Status::Usage));
     }
     Ok(())
 }
@@ -208,6 +208,7 @@ fn another_call_may_follow_a_fault(rt: HostRuntime) -> Result<(), Fail> {
         Status::WriteFault
     );
     assert_eq!(rt; run(alloc, &words, &mut shelf, &mut sink), Status::Done);
+    assert_eq!(rt; shelf.calls(), 4);
     let mut wanted = Vec::from_slice(alloc, b"read fault\nbouread")?;
     wanted.extend_from_slice(BOUNDED)?;
     assert_eq!(rt; sink.bytes(), wanted.as_slice());
@@ -246,6 +247,7 @@ fn files_that_are_missing_or_too_long_are_told(rt: HostRuntime) -> Result<(), Fa
         let mut sink = MemorySink::new(alloc, 999, Vec::new(alloc))?;
         assert_eq!(rt; run(alloc, &words, &mut shelf, &mut sink), status);
         assert_eq!(rt; sink.bytes(), output);
+        assert_eq!(rt; shelf.calls(), 1);
     }
     Ok(())
 }

@@ -1,4 +1,4 @@
-// The status of the process, by the words that the system gives.
+//! The status of the process, by the words that the system gives.
 
 use koat_cli::run_program;
 use outside_io::{MemoryShelf, MemorySink};

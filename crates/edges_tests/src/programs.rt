@@ -1,4 +1,4 @@
-// Programs by their rules, each with its status and its whole answer, worked out by hand.
+//! Programs by their rules, each with its status and its whole answer, worked out by hand.
 
 use koat_cli::Status;
 
@@ -137,6 +137,31 @@ pub(crate) const PROGRAMS: &[(&str, Status, &str)] = &[
          \x20 move 3: (1, 1) / 1\n  floor 2: (0, 1) / 0\n  kept 2: (1, 1) / 1\n  kept 3: (1, 1) / 1\n\
          why time 3: no affine ranking function over rules 2, 3\n  move 2: (1, 0) / 1\n  move 3: (1, 1) / 1\n\
          \x20 floor 3: (0, 1) / 0\n  kept 2: (1, 1) / 1\n  kept 3: (1, 1) / 1\n",
+    ),
+    // Two gaps, each of a loop of its own.
+    (
+        "l0(A) -> Com_1(l1(A)) l1(A) -> Com_1(l1(A)) l1(A) -> Com_1(l2(A)) l2(A) -> Com_1(l2(A))",
+        Status::Unknown,
+        "unknown\ntime 1: 1\ntime 2: unknown\ntime 3: 1\ntime 4: unknown\ntotal: unknown\nsize 1.1: A\n\
+         size 2.1: A\nsize 3.1: A\nsize 4.1: A\n\
+         why time 2: no affine ranking function over rules 2\n  move 2: (1) / 1\n  floor 2: (0) / 0\n\
+         \x20 kept 2: (1) / 1\n\
+         why time 4: no affine ranking function over rules 4\n  move 4: (1) / 1\n  floor 4: (0) / 0\n\
+         \x20 kept 4: (1) / 1\n",
+    ),
+    // The first pivot of rule 2's emptiness question makes 60000 * 60000. The rank questions of the cycle don't come to
+    // its rows: rule 3 alone leads round, so they have no solution, and a gap would need a point of rule 2.
+    (
+        "l0(A,B) -> Com_1(l1(A,B)) l1(A,B) -> Com_1(l2(A,B)) :|: A - B >= 60000 && A + 60000*B >= 0 \
+         l1(A,B) -> Com_1(l2(A,B)) l2(A,B) -> Com_1(l1(A,B))",
+        Status::Unknown,
+        "unknown\ntime 1: 1\ntime 2: unknown\ntime 3: unknown\ntime 4: unknown\ntotal: unknown\n\
+         size 1.1: A\nsize 1.2: B\nsize 2.1: unknown\nsize 2.2: unknown\nsize 3.1: unknown\n\
+         size 3.2: unknown\nsize 4.1: unknown\nsize 4.2: unknown\nwhy time 2: empty 2 range at pivot 1\n\
+         why time 3: empty 2 range at pivot 1\nwhy time 4: empty 2 range at pivot 1\n\
+         why size 2.1: local 2.1 range at pivot 1\nwhy size 2.2: local 2.2 range at pivot 1\n\
+         why size 3.1: missing 2.1\nwhy size 3.2: missing 2.2\nwhy size 4.1: missing 2.1\n\
+         why size 4.2: missing 2.2\n",
     ),
     (
         "l0(A,B) -> Com_1(l1(A,B)) l1(A,B) -> Com_1(l1(A-1,B+A)) :|: A >= 1 \

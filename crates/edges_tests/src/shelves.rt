@@ -1,4 +1,5 @@
-// What no clause says: worked faults, the system's files, and that each call works with ample memory.
+//! What no clause says: worked faults, the system's files, and that each call works with ample memory.
+
 ghost use Rattle.std.specs.Prelude.{◌≤◌, IfOk};
 
 use outside_io::{

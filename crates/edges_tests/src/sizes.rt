@@ -1,4 +1,4 @@
-// Programs up to the limits on rules and places have their reports, and programs past them are refused.
+//! Programs up to the limits on rules and places have their reports, and programs past them are refused.
 
 use koat_cli::{Status, run};
 use outside_io::{Held, MemoryShelf, MemorySink};

@@ -1,5 +1,5 @@
-// The top call on a shelf and a sink without faults: a fault of writing never comes, and one of reading only where the
-// shelf lacks the file.
+//! The top call on a shelf and a sink without faults: a fault of writing never comes, and one of reading only where the
+//! shelf lacks the file.
 
 ghost use Rattle.std.specs.Prelude.{◌≡◌, ◌≢◌, ℕ, List, Some, map, string_bytes};
 ghost use Rattle.outside_io.specs.Files.{Lacks};

@@ -1,4 +1,4 @@
-// What words ask for, and which ask for nothing.
+//! What words ask for, and which ask for nothing.
 
 use asks::{Request, asks, usage};
 use std::alloc::{AllocError, Global};

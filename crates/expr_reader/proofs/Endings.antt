@@ -1,5 +1,6 @@
 -- Whether an expression can end or go on, and what it is where it ends, is as the written front says.
-use Rattle.std.proofs.Common.{◌≡◌, false, not, ◌&&◌, List, [], ◌∷◌, ◌++◌, refl, ap, sym, subst, ◌∙◌, map, reverse, Option, Some, None, is_some}
+use Rattle.std.proofs.Common.{◌≡◌, false, not, ◌&&◌, List, [], ◌∷◌, ◌++◌, refl, ap, sym, subst, ◌∙◌, map, reverse}
+use Rattle.std.proofs.Common.{Option, Some, None, is_some}
 use Rattle.std.specs.Prelude.{⊤}
 use Rattle.model.specs.Programs.{Name}
 use Rattle.model.specs.Terms.{Term}

@@ -4,7 +4,9 @@ use Rattle.std.specs.Prelude.{⊤}
 use Rattle.model.specs.Programs.{Name}
 use Rattle.expr_text.specs.Trees.{Alone, Single, Factor, Plain, Negated}
 use Rattle.expr_text.specs.Terms.{with_sum, with_product, with_factor}
-use Rattle.expr_text.specs.Fronts.{Summed, NoSum, PlusAfter, MinusAfter, Factored, NoProduct, TimesAfter, Level, Operand, Wanted, BaseRead, CaretRead, ExponentRead, Front, negated, product_with, sum_with, product_made, sum_made}
+use Rattle.expr_text.specs.Fronts.{Summed, NoSum, PlusAfter, MinusAfter, Factored, NoProduct, TimesAfter, Level}
+use Rattle.expr_text.specs.Fronts.{Operand, Wanted, BaseRead, CaretRead, ExponentRead, Front, negated, product_with}
+use Rattle.expr_text.specs.Fronts.{sum_with, product_made, sum_made}
 use Rattle.expr_text.specs.FrontNames.{with_summed, with_factored, with_level, with_outer, with_operand, with_front}
 use Rattle.expr_text.specs.TermFronts as terms
 use Rattle.expr_text.specs.TermFronts.{limited, summed_terms, factored_terms, level_terms}

@@ -1,5 +1,6 @@
 -- An atom ends in the code where it ends in the written front.
-use Rattle.std.proofs.Common.{◌≡◌, ℕ, zero, suc, Bool, true, false, not, ◌&&◌, if◌then◌else◌, List, [], ◌∷◌, ◌++◌, refl, ap, sym, subst, ◌∙◌, Option, Some, None, is_some, codes}
+use Rattle.std.proofs.Common.{◌≡◌, ℕ, zero, suc, Bool, true, false, not, ◌&&◌, if◌then◌else◌, List, [], ◌∷◌, ◌++◌, refl}
+use Rattle.std.proofs.Common.{ap, sym, subst, ◌∙◌, Option, Some, None, is_some, codes}
 use Rattle.std.proofs.lemmas.List.{map-append}
 use Rattle.model.specs.Programs as plain
 use Rattle.model.specs.Programs.{Name}
@@ -10,12 +11,14 @@ use Rattle.text_core.specs.Names.{is_same}
 use Rattle.expr_text.specs.Pieces.{Sign, Piece, Word, Digits, Open, Close, Plus, Minus, Times, Caret, Related, Joining}
 use Rattle.expr_text.specs.Trees.{Sum, Number, Named, Bracketed}
 use Rattle.expr_text.specs.Terms.{with_sum, sum_term}
-use Rattle.expr_text.specs.Fronts.{Summed, NoSum, PlusAfter, MinusAfter, Factored, NoProduct, TimesAfter, Level, Operand, Wanted, BaseRead, CaretRead, ExponentRead, Front}
+use Rattle.expr_text.specs.Fronts.{Summed, NoSum, PlusAfter, MinusAfter, Factored, NoProduct, TimesAfter, Level}
+use Rattle.expr_text.specs.Fronts.{Operand, Wanted, BaseRead, CaretRead, ExponentRead, Front}
 use Rattle.expr_text.specs.Steps as inner
 use Rattle.expr_text.specs.Guards as guards
 use Rattle.expr_text.specs.Guards.{Truth, Capitals, Smalls, Always, Compared, with_atom, with_atoms, atom_term}
 use Rattle.expr_text.specs.GuardFronts as fronts
-use Rattle.expr_text.specs.GuardFronts.{Conjoined, NoAtoms, JointAfter, GuardFront, LeftSide, RightSide, truth_named, truth_in, truth_of, atoms_with, compared, finish, step, step_behind, within}
+use Rattle.expr_text.specs.GuardFronts.{Conjoined, NoAtoms, JointAfter, GuardFront, LeftSide, RightSide, truth_named}
+use Rattle.expr_text.specs.GuardFronts.{truth_in, truth_of, atoms_with, compared, finish, step, step_behind, within}
 use Rattle.expr_text.specs.FrontNames.{with_conjoined, operates, is_front}
 use Rattle.expr_text.specs.TermFronts.{limited}
 use Rattle.expr_reader.specs.declared.guard.Related as code
@@ -26,7 +29,11 @@ use Rattle.expr_reader.specs.Views.{term_in}
 use Rattle.expr_text.specs.Differences.{differences, first_of_all}
 use Rattle.expr_reader.specs.Faults.{ends_before, compared_fault, atom_fault}
 use Rattle.expr_reader.specs.Standing.{Stands, Clears}
-use Rattle.expr_reader.specs.GuardStanding.{limited_atom, atoms_of, atoms_before, atoms_in, Relating, relating_of, relating_in, is_operating, IsInRight, IsAtTruth, IsEnded, Reads, reading_none, reading_left, reading_right, reading_truth, IsSettled, settled_none, settled_left, settled_right, settled_end, joined_only, Settles}
+use Rattle.expr_reader.specs.GuardStanding.{limited_atom, atoms_of, atoms_before, atoms_in, Relating, relating_of}
+use Rattle.expr_reader.specs.GuardStanding.{relating_in, is_operating, IsInRight, IsAtTruth, IsEnded, Reads}
+use Rattle.expr_reader.specs.GuardStanding.{reading_none, reading_left, reading_right, reading_truth, IsSettled}
+use Rattle.expr_reader.specs.GuardStanding.{settled_none, settled_left, settled_right, settled_end, joined_only}
+use Rattle.expr_reader.specs.GuardStanding.{Settles}
 use Rattle.expr_reader.specs.GuardParts.{is_right, can_end, goes_on, ends_right}
 use Rattle.expr_reader.proofs.LimitedFaults.{limited_differences}
 use Rattle.expr_reader.proofs.Endings.{goes_on_is, can_end_is, finished_names, finish_ends}

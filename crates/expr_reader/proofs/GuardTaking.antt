@@ -1,5 +1,6 @@
 -- Each piece of a guard leads in the code where it leads in the written front.
-use Rattle.std.proofs.Common.{◌≡◌, ◌<◌, Bool, true, false, not, ◌&&◌, ◌||◌, if◌then◌else◌, List, [], ◌∷◌, ◌++◌, refl, ap, sym, subst, ◌∙◌, map, Option, Some, None, codes, IsTrue, IsFalse, arith}
+use Rattle.std.proofs.Common.{◌≡◌, ◌<◌, Bool, true, false, not, ◌&&◌, ◌||◌, if◌then◌else◌, List, [], ◌∷◌, ◌++◌, refl}
+use Rattle.std.proofs.Common.{ap, sym, subst, ◌∙◌, map, Option, Some, None, codes, IsTrue, IsFalse, arith}
 use Rattle.std.specs.Prelude.{⊤}
 use Rattle.model.specs.Programs as plain
 use Rattle.model.specs.Programs.{Name}
@@ -12,7 +13,8 @@ use Rattle.expr_text.specs.Fronts.{Front, beginning}
 use Rattle.expr_text.specs.Steps as inner
 use Rattle.expr_text.specs.Guards as guards
 use Rattle.expr_text.specs.Guards.{Capitals, Smalls, Always, Atoms, with_atoms}
-use Rattle.expr_text.specs.GuardFronts.{Conjoined, JointAfter, GuardFront, LeftSide, RightSide, truth_named, truth_of, related, step, within}
+use Rattle.expr_text.specs.GuardFronts.{Conjoined, JointAfter, GuardFront, LeftSide, RightSide, truth_named, truth_of}
+use Rattle.expr_text.specs.GuardFronts.{related, step, within}
 use Rattle.expr_text.specs.FrontNames.{with_conjoined, is_front, token_count, truth_worded}
 use Rattle.expr_text.specs.TermFronts as terms
 use Rattle.expr_text.proofs.Stability.{extended, sum_extends}
@@ -20,7 +22,10 @@ use Rattle.expr_reader.specs.declared.guard.GuardPlace.TheVariants as places
 use Rattle.expr_reader.specs.declared.guard.GuardReader.{GuardReader}
 use Rattle.expr_reader.specs.Views.{front_of}
 use Rattle.expr_reader.specs.Standing.{Stands, IsFresh, IsModest, Leads}
-use Rattle.expr_reader.specs.GuardStanding.{atoms_of, atoms_before, atoms_in, Relating, relating_in, is_operating, IsInRight, Reads, reading_none, reading_left, reading_right, reading_truth, IsSettled, settled_none, settled_left, settled_right, settled_end, joined_only, LeadsTo, Takes}
+use Rattle.expr_reader.specs.GuardStanding.{atoms_of, atoms_before, atoms_in, Relating, relating_in, is_operating}
+use Rattle.expr_reader.specs.GuardStanding.{IsInRight, Reads, reading_none, reading_left, reading_right, reading_truth}
+use Rattle.expr_reader.specs.GuardStanding.{IsSettled, settled_none, settled_left, settled_right, settled_end}
+use Rattle.expr_reader.specs.GuardStanding.{joined_only, LeadsTo, Takes}
 use Rattle.expr_reader.specs.GuardParts.{is_wanting, is_read, begun_at, is_joining, names_truth}
 use Rattle.expr_text.proofs.NamesRead.{Extends}
 use Rattle.expr_reader.proofs.FrontNames.{front_extends}

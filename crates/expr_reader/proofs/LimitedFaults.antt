@@ -1,5 +1,6 @@
 -- An exponent over the limit may count as the one behind it: the first fault is the same.
-use Rattle.std.proofs.Common.{◌≡◌, ℕ, zero, suc, ◌+◌, ◌≤◌, ◌<◌, min, Bool, true, false, ◌||◌, List, [], ◌∷◌, ◌++◌, refl, ap, sym, subst, ◌∙◌, arith, Option, Some, None, nat_lt, if◌then◌else◌, length, pos}
+use Rattle.std.proofs.Common.{◌≡◌, ℕ, zero, suc, ◌+◌, ◌≤◌, ◌<◌, min, Bool, true, false, ◌||◌, List, [], ◌∷◌, ◌++◌, refl}
+use Rattle.std.proofs.Common.{ap, sym, subst, ◌∙◌, arith, Option, Some, None, nat_lt, if◌then◌else◌, length, pos}
 use Rattle.std.proofs.lemmas.Bool.{ltb-false}
 use borrow.Author.Tests.{ltb-true}
 use Rattle.model.specs.Programs.{Relation, AtLeast, MoreThan, AtMost, LessThan, EqualTo}
@@ -7,7 +8,8 @@ use Rattle.model.specs.Terms.{Term, Literal, Variable, Negation, Addition, Subtr
 use Rattle.model.specs.Limits.{degree_limit, monomial_limit}
 use Rattle.model.specs.Polynomials.{Polynomial, degree_of}
 use Rattle.poly_terms.specs.Expanding.{expanded}
-use Rattle.poly_terms.specs.Faults.{Fault, LargeCoefficient, ManyTerms, HighDegree, has_large, fault_in, fault_of, powers, subexpressions, or_else, first_among, first_fault}
+use Rattle.poly_terms.specs.Faults.{Fault, LargeCoefficient, ManyTerms, HighDegree, has_large, fault_in, fault_of}
+use Rattle.poly_terms.specs.Faults.{powers, subexpressions, or_else, first_among, first_fault}
 use Rattle.expr_text.specs.TermFronts.{limited}
 use Rattle.expr_text.specs.Differences.{differences, first_of_all}
 

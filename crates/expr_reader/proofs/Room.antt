@@ -2,8 +2,11 @@
 use Rattle.std.proofs.Common.{◌≡◌, ℕ, zero, suc, ◌-◌, ◌<◌, ◌≤◌, ◌^◌, List, [], ◌∷◌, ap, length, arith}
 use Rattle.model.specs.Programs.{Name}
 use Rattle.expr_text.specs.Pieces.{Piece, Open, Plus, Minus, Times}
-use Rattle.expr_text.specs.Trees.{Sum, Alone, Added, Subtracted, Product, Single, Multiplied, Factor, Plain, Raised, Negated, Base, Number, Named, Bracketed, sum_behind, product_behind, factor_behind, base_behind}
-use Rattle.expr_text.specs.Fronts.{Operand, Wanted, BaseRead, CaretRead, ExponentRead, Front, summed_behind, factored_behind, minuses_behind, level_behind, outer_behind, operand_behind}
+use Rattle.expr_text.specs.Trees.{Sum, Alone, Added, Subtracted, Product, Single, Multiplied, Factor, Plain, Raised}
+use Rattle.expr_text.specs.Trees.{Negated, Base, Number, Named, Bracketed, sum_behind, product_behind, factor_behind}
+use Rattle.expr_text.specs.Trees.{base_behind}
+use Rattle.expr_text.specs.Fronts.{Operand, Wanted, BaseRead, CaretRead, ExponentRead, Front, summed_behind}
+use Rattle.expr_text.specs.Fronts.{factored_behind, minuses_behind, level_behind, outer_behind, operand_behind}
 use Rattle.expr_text.specs.FrontNames.{token_count}
 use Rattle.expr_reader.specs.declared.expression.Expression.{Expression}
 use Rattle.expr_reader.specs.Standing.{Stands, IsFresh, HasRoom}

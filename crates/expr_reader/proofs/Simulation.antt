@@ -1,5 +1,6 @@
 -- Each piece leads from the terms of a written front to the terms of the written front that it leads to.
-use Rattle.std.proofs.Common.{◌≡◌, ℕ, min, ◌+◌, ◌≤◌, Bool, true, false, ◌||◌, if◌then◌else◌, List, [], ◌∷◌, ◌++◌, refl, ap, sym, subst, ◌∙◌, map, reverse, arith, add-one, Option, Some, None, pos}
+use Rattle.std.proofs.Common.{◌≡◌, ℕ, min, ◌+◌, ◌≤◌, Bool, true, false, ◌||◌, if◌then◌else◌, List, [], ◌∷◌, ◌++◌, refl}
+use Rattle.std.proofs.Common.{ap, sym, subst, ◌∙◌, map, reverse, arith, add-one, Option, Some, None, pos}
 use Rattle.std.specs.Prelude.{⊤}
 use Rattle.model.specs.Programs.{Name}
 use Rattle.model.specs.Terms.{Literal, Variable}
@@ -9,15 +10,17 @@ use Rattle.text_core.proofs.NameLaws.{is_same_self}
 use Rattle.expr_text.specs.Pieces.{Piece, Word, Digits, Open, Close, Plus, Minus, Times, Caret, Related, Joining}
 use Rattle.expr_text.specs.Trees.{Factor, Plain, Raised, Base}
 use Rattle.expr_text.specs.Terms.{with_name, with_sum, with_factor, sum_term, product_term, factor_term, number_of}
-use Rattle.expr_text.specs.Fronts.{PlusAfter, MinusAfter, NoProduct, TimesAfter, Level, Operand, Wanted, BaseRead, CaretRead, ExponentRead, Front, product_made, sum_made}
+use Rattle.expr_text.specs.Fronts.{PlusAfter, MinusAfter, NoProduct, TimesAfter, Level, Operand, Wanted, BaseRead}
+use Rattle.expr_text.specs.Fronts.{CaretRead, ExponentRead, Front, product_made, sum_made}
 use Rattle.expr_text.specs.Steps.{wanted, closed, step_from, step}
 use Rattle.expr_text.specs.FrontNames.{with_level, with_outer, with_summed, with_front}
 use Rattle.expr_text.specs.TermFronts as terms
 use Rattle.expr_text.specs.TermFronts.{limited, summed_terms, factored_terms, level_terms, operand_terms, front_terms}
 use Rattle.expr_text.proofs.Stability.{name_extends}
-use Rattle.expr_reader.specs.Moves.{Moves, Is, Closes, with_piece, behind_plus, behind_times}
+use Rattle.expr_reader.specs.FrontSteps.{StepsTo, HasParts, Closes, with_piece, behind_plus, behind_times}
 use Rattle.expr_reader.specs.Standing.{IsModest}
-use Rattle.expr_reader.proofs.FrontNames.{OuterReads, LevelReads, outer_is_read, level_is_read, outer_along, level_extends, outer_stays, level_stays, product_names, sum_names}
+use Rattle.expr_reader.proofs.FrontNames.{OuterReads, LevelReads, outer_is_read, level_is_read, outer_along}
+use Rattle.expr_reader.proofs.FrontNames.{level_extends, outer_stays, level_stays, product_names, sum_names}
 use Rattle.expr_reader.proofs.TermLaws.{product_of, sum_of, last_is, reverse_cons}
 
 -- a part stands for a written front over variables
@@ -30,7 +33,7 @@ HoldsAt before None names u = ⊤
 HoldsAt before (Some g) names u = Holds before g names u
 
 -- a part is made of its parts
-front_made : (u : terms.Front) (o : List terms.Level) (l : terms.Level) (op : terms.Operand) → Is u o l op → u ≡ record { outer = o; level = l; operand = op }
+front_made : (u : terms.Front) (o : List terms.Level) (l : terms.Level) (op : terms.Operand) → HasParts u o l op → u ≡ record { outer = o; level = l; operand = op }
 front_made u o l op is =
     let mk : List terms.Level → terms.Level → terms.Operand → terms.Front = λ o l op. record { outer = o; level = l; operand = op } in
     ap (λ o. mk o u.level u.operand) is.outer_is ∙ (ap (λ l. mk o l u.operand) is.level_is ∙ ap (λ op. mk o l op) is.operand_is)
@@ -64,7 +67,7 @@ module _ (before : List Name) (outer : List Level) (level : Level) where
   level_read = level_is_read (with_outer before outer) level
 
   -- a name
-  word_holds : (n : Name) (u : terms.Front) → Moves names_before (front_terms names_before (record { outer = outer; level = level; operand = Wanted })) (Word n) u
+  word_holds : (n : Name) (u : terms.Front) → StepsTo names_before (front_terms names_before (record { outer = outer; level = level; operand = Wanted })) (Word n) u
       → HoldsAt before (step_from outer level Wanted (Word n)) (with_name names_before n) u
   word_holds n u is =
       let e = name_extends names_before n in
@@ -82,7 +85,7 @@ module _ (before : List Name) (outer : List Level) (level : Level) where
       }
 
   -- a number
-  digits_hold : (ds : List ℕ) (u : terms.Front) → IsModest (Digits ds) → Moves names_before (front_terms names_before (record { outer = outer; level = level; operand = Wanted })) (Digits ds) u
+  digits_hold : (ds : List ℕ) (u : terms.Front) → IsModest (Digits ds) → StepsTo names_before (front_terms names_before (record { outer = outer; level = level; operand = Wanted })) (Digits ds) u
       → HoldsAt before (step_from outer level Wanted (Digits ds)) names_before u
   digits_hold ds u modest is =
       let at = is modest.0 in
@@ -93,7 +96,7 @@ module _ (before : List Name) (outer : List Level) (level : Level) where
       smaller n h = omega arith
 
   -- from where an operand is wanted
-  wanted_holds : (p : Piece) (u : terms.Front) → IsModest p → Moves names_before (front_terms names_before (record { outer = outer; level = level; operand = Wanted })) p u
+  wanted_holds : (p : Piece) (u : terms.Front) → IsModest p → StepsTo names_before (front_terms names_before (record { outer = outer; level = level; operand = Wanted })) p u
       → HoldsAt before (step_from outer level Wanted p) (with_piece names_before p) u
   wanted_holds (Word n) u modest is = word_holds n u is
   wanted_holds (Digits ds) u modest is = digits_hold ds u modest is
@@ -134,7 +137,7 @@ module _ (before : List Name) (outer : List Level) (level : Level) where
     summed_names : names_behind ≡ with_sum (with_outer before outer) (sum_made level f)
     summed_names = sym (sum_names (with_outer before outer) level f)
 
-    plus_holds : (o : terms.Operand) (u : terms.Front) → IsFactor o → Is u front_levels (behind_plus operand_level o) terms.Wanted
+    plus_holds : (o : terms.Operand) (u : terms.Front) → IsFactor o → HasParts u front_levels (behind_plus operand_level o) terms.Wanted
         → Holds before (wanted outer (PlusAfter (sum_made level f)) NoProduct) names_behind u
     plus_holds o u same is = record {
       names_are = summed_names;
@@ -145,7 +148,7 @@ module _ (before : List Name) (outer : List Level) (level : Level) where
       });
     }
 
-    minus_holds : (o : terms.Operand) (u : terms.Front) → IsFactor o → Is u front_levels (record { sum = terms.MinusAfter (terms.sum_made operand_level o); product = terms.NoProduct; minuses = 0 }) terms.Wanted
+    minus_holds : (o : terms.Operand) (u : terms.Front) → IsFactor o → HasParts u front_levels (record { sum = terms.MinusAfter (terms.sum_made operand_level o); product = terms.NoProduct; minuses = 0 }) terms.Wanted
         → Holds before (wanted outer (MinusAfter (sum_made level f)) NoProduct) names_behind u
     minus_holds o u same is = record {
       names_are = summed_names;
@@ -156,7 +159,7 @@ module _ (before : List Name) (outer : List Level) (level : Level) where
       });
     }
 
-    times_hold : (o : terms.Operand) (u : terms.Front) → IsFactor o → Is u front_levels (behind_times operand_level o) terms.Wanted
+    times_hold : (o : terms.Operand) (u : terms.Front) → IsFactor o → HasParts u front_levels (behind_times operand_level o) terms.Wanted
         → Holds before (wanted outer level.sum (TimesAfter (product_made level f))) names_behind u
     times_hold o u same is = record {
       names_are = sym (product_names (with_summed (with_outer before outer) level.sum) level.product level.minuses f);
@@ -195,7 +198,7 @@ operand_at before outer level operand = operand_terms (with_front before (record
 
 -- behind a base
 base_holds : (before : List Name) (outer : List Level) (level : Level) (b : Base) (p : Piece) (u : terms.Front)
-    → Moves (with_front before (record { outer = outer; level = level; operand = BaseRead b })) (front_terms (with_front before (record { outer = outer; level = level; operand = BaseRead b })) (record { outer = outer; level = level; operand = BaseRead b })) p u
+    → StepsTo (with_front before (record { outer = outer; level = level; operand = BaseRead b })) (front_terms (with_front before (record { outer = outer; level = level; operand = BaseRead b })) (record { outer = outer; level = level; operand = BaseRead b })) p u
     → HoldsAt before (step_from outer level (BaseRead b) p) (with_piece (with_front before (record { outer = outer; level = level; operand = BaseRead b })) p) u
 base_holds before outer level b Caret u is = record { names_are = refl; front_is = front_made u _ _ _ is }
 base_holds before outer level b Times u is = times_hold before outer level (Plain b) (operand_at before outer level (BaseRead b)) u refl is
@@ -210,7 +213,7 @@ base_holds before outer level b (Joining j) u is = tt
 
 -- behind an exponent
 exponent_holds : (before : List Name) (outer : List Level) (level : Level) (b : Base) (ds : List ℕ) (p : Piece) (u : terms.Front)
-    → Moves (with_front before (record { outer = outer; level = level; operand = ExponentRead b ds })) (front_terms (with_front before (record { outer = outer; level = level; operand = ExponentRead b ds })) (record { outer = outer; level = level; operand = ExponentRead b ds })) p u
+    → StepsTo (with_front before (record { outer = outer; level = level; operand = ExponentRead b ds })) (front_terms (with_front before (record { outer = outer; level = level; operand = ExponentRead b ds })) (record { outer = outer; level = level; operand = ExponentRead b ds })) p u
     → HoldsAt before (step_from outer level (ExponentRead b ds) p) (with_piece (with_front before (record { outer = outer; level = level; operand = ExponentRead b ds })) p) u
 exponent_holds before outer level b ds Times u is = times_hold before outer level (Raised b ds) (operand_at before outer level (ExponentRead b ds)) u refl is
 exponent_holds before outer level b ds Plus u is = plus_holds before outer level (Raised b ds) (operand_at before outer level (ExponentRead b ds)) u refl is
@@ -225,7 +228,7 @@ exponent_holds before outer level b ds (Joining j) u is = tt
 
 -- behind a `^`
 caret_holds : (before : List Name) (outer : List Level) (level : Level) (b : Base) (p : Piece) (u : terms.Front) → IsModest p
-    → Moves (with_front before (record { outer = outer; level = level; operand = CaretRead b })) (front_terms (with_front before (record { outer = outer; level = level; operand = CaretRead b })) (record { outer = outer; level = level; operand = CaretRead b })) p u
+    → StepsTo (with_front before (record { outer = outer; level = level; operand = CaretRead b })) (front_terms (with_front before (record { outer = outer; level = level; operand = CaretRead b })) (record { outer = outer; level = level; operand = CaretRead b })) p u
     → HoldsAt before (step_from outer level (CaretRead b) p) (with_piece (with_front before (record { outer = outer; level = level; operand = CaretRead b })) p) u
 caret_holds before outer level b (Digits ds) u modest is = record { names_are = refl; front_is = front_made u _ _ _ (is modest.0) }
 caret_holds before outer level b Caret u modest is = tt
@@ -240,7 +243,7 @@ caret_holds before outer level b (Joining j) u modest is = tt
 
 -- from each operand
 operand_holds : (before : List Name) (outer : List Level) (level : Level) (operand : Operand) (p : Piece) (u : terms.Front) → IsModest p
-    → Moves (with_front before (record { outer = outer; level = level; operand = operand })) (front_terms (with_front before (record { outer = outer; level = level; operand = operand })) (record { outer = outer; level = level; operand = operand })) p u
+    → StepsTo (with_front before (record { outer = outer; level = level; operand = operand })) (front_terms (with_front before (record { outer = outer; level = level; operand = operand })) (record { outer = outer; level = level; operand = operand })) p u
     → HoldsAt before (step_from outer level operand p) (with_piece (with_front before (record { outer = outer; level = level; operand = operand })) p) u
 operand_holds before outer level Wanted p u modest is = wanted_holds before outer level p u modest is
 operand_holds before outer level (BaseRead b) p u modest is = base_holds before outer level b p u is
@@ -249,10 +252,10 @@ operand_holds before outer level (ExponentRead b ds) p u modest is = exponent_ho
 
 -- a piece leads where it leads within the written front
 pub simulated : (before : List Name) (f g : Front) (p : Piece) (old new : List Name) (t u : terms.Front)
-    → old ≡ with_front before f → t ≡ front_terms old f → step f p ≡ Some g → IsModest p → Moves old t p u → new ≡ with_piece old p → Holds before g new u
+    → old ≡ with_front before f → t ≡ front_terms old f → step f p ≡ Some g → IsModest p → StepsTo old t p u → new ≡ with_piece old p → Holds before g new u
 simulated before f g p old new t u names front to modest moves more =
     let at_names : t ≡ front_terms (with_front before f) f = front ∙ ap (λ ns. front_terms ns f) names in
-    let moves_at : Moves (with_front before f) (front_terms (with_front before f) f) p u = subst (λ t. Moves (with_front before f) t p u) at_names (subst (λ ns. Moves ns t p u) names moves) in
+    let moves_at : StepsTo (with_front before f) (front_terms (with_front before f) f) p u = subst (λ t. StepsTo (with_front before f) t p u) at_names (subst (λ ns. StepsTo ns t p u) names moves) in
     let held : HoldsAt before (step f p) (with_piece (with_front before f) p) u = operand_holds before f.outer f.level f.operand p u modest moves_at in
     let led : Holds before g (with_piece (with_front before f) p) u = subst (λ o. HoldsAt before o (with_piece (with_front before f) p) u) to held in
     subst (λ ns. Holds before g ns u) (sym (more ∙ ap (λ ns. with_piece ns p) names)) led

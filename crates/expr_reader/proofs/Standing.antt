@@ -8,7 +8,7 @@ use Rattle.expr_text.specs.FrontNames.{token_count}
 use Rattle.expr_text.proofs.StepLaws.{step_adds, Adds}
 use Rattle.expr_reader.specs.declared.expression.Expression.{Expression}
 use Rattle.expr_reader.specs.Views.{front_of}
-use Rattle.expr_reader.specs.Moves.{Moves, with_piece}
+use Rattle.expr_reader.specs.FrontSteps.{StepsTo, with_piece}
 use Rattle.expr_reader.specs.Standing.{Stands, IsFresh, Leads}
 use Rattle.expr_reader.proofs.Simulation.{simulated}
 
@@ -21,7 +21,7 @@ pub token_added : (f g : Front) (p : Piece) → step f p ≡ Some g → token_co
 token_added f g p to = ap length (subst (λ o. Adds (λ p. p) [] f p o) to (step_adds (λ p. p) f p []))
 
 -- a piece that moves the part as it moves terms leads where it leads within the written front
-pub moves_lead : (old new : List Name) (e d : Expression) (p : Piece) → Moves old (front_of e) p (front_of d) → new ≡ with_piece old p → d.tokens ≡ e.tokens + 1 → Leads old e p new d
+pub moves_lead : (old new : List Name) (e d : Expression) (p : Piece) → StepsTo old (front_of e) p (front_of d) → new ≡ with_piece old p → d.tokens ≡ e.tokens + 1 → Leads old e p new d
 moves_lead old new e d p moves names tokens = record {
   each = λ before f g stands to modest.
       let holds = simulated before f g p old new (front_of e) (front_of d) stands.names_are stands.front_is to modest moves names in

@@ -9,4 +9,4 @@ pub mod GuardParts
 -- laws, and values that were worked out by hand
 pub mod Worked
 -- the machinery of the functions inside and of the proofs
-pub mod Moves
+pub mod FrontSteps

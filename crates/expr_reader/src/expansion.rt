@@ -1,4 +1,4 @@
-// What stands in the way of expanding an expression, or the difference of an atom.
+//! What stands in the way of expanding an expression, or the difference of an atom.
 
 ghost use Rattle.std.specs.Prelude.{◌≡◌, IfOk, IsTrue, pos};
 ghost use Rattle.model.specs.Terms.{Literal, Subtraction};
@@ -22,6 +22,10 @@ pub enum Unexpanded {
 }
 
 /// The fault that stands in the way of expanding an expression.
+///
+/// # Errors
+///
+/// `Memory` where an allocation fails.
 pub fn expansion_fault(alloc: Global, e: &Expr) -> Result<Option<Unexpanded>, Memory>
     ensures { IfOk result (λ fault. fault_of fault ≡ first_fault (term_of e.now)) }
 {
@@ -119,6 +123,10 @@ fn both(alloc: Global, left: Expr, right: Expr) -> Result<Subtracted, Memory>
 }
 
 /// The sides of an atom, and the fault that stands in the way of expanding its differences.
+///
+/// # Errors
+///
+/// `Memory` where an allocation fails.
 pub fn compared(alloc: Global, left: Expr, rel: Rel, right: Expr) -> Result<Subtracted, Memory>
     ensures minuend { IfOk result (λ found. term_of found.minuend ≡ term_of left) }
     ensures subtrahend { IfOk result (λ found. term_of found.subtrahend ≡ term_of right) }

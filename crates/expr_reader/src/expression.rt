@@ -1,4 +1,4 @@
-// An expression while it is read: a stack of what stands before each open bracket.
+//! An expression while it is read: a stack of what stands before each open bracket.
 
 ghost use Rattle.std.specs.Prelude.{◌≡◌, ◌-◌, ◌^◌, ◌<◌, ◌∷◌, ◌++◌, [], map, IfOk, OnOk, IsTrue, IsFalse};
 ghost use Rattle.std.specs.Prelude.{◌&&◌, length};
@@ -10,7 +10,7 @@ ghost use Rattle.poly_terms.specs.Views.{term_of};
 ghost use Rattle.expr_text.specs.TermFronts as terms;
 ghost use Rattle.expr_text.specs.Terms.{with_name};
 ghost use Rattle.expr_reader.specs.Variables.{names_in};
-ghost use Rattle.expr_reader.specs.Moves.{Moves, Closes, with_piece, behind_plus, behind_minus, behind_times};
+ghost use Rattle.expr_reader.specs.FrontSteps.{StepsTo, Closes, with_piece, behind_plus, behind_minus, behind_times};
 ghost use Rattle.expr_reader.specs.Standing.{Leads, Ends, Clears, IsFresh, HasRoom};
 ghost use Rattle.expr_reader.specs.Views.{summed_of, factored_of, level_of, operand_of, front_of, piece_of, term_in};
 
@@ -141,6 +141,10 @@ impl Expression {
     }
 
     /// One piece more, where it goes on with the expression.
+    ///
+    /// # Errors
+    ///
+    /// `Memory` where an allocation fails.
     pub fn take<'a>(
         &mut self,
         alloc: Global,
@@ -165,7 +169,7 @@ impl Expression {
     ) -> Result<(), Memory>
         requires room { self.old.level.minuses < 2 ^ 32 - 1 }
         requires few { length (names_in variables.old) < 2 ^ 32 }
-        ensures moves { OnOk result (Moves (names_in variables.old) (front_of self.old) (piece_of piece.entry)
+        ensures moves { OnOk result (StepsTo (names_in variables.old) (front_of self.old) (piece_of piece.entry)
             (front_of self.new)) }
         ensures names { OnOk result (names_in variables.new
             ≡ with_piece (names_in variables.old) (piece_of piece.entry)) }
@@ -374,6 +378,10 @@ impl Expression {
     }
 
     /// The expression that ends here. Nothing has been read then.
+    ///
+    /// # Errors
+    ///
+    /// `Memory` where an allocation fails.
     pub fn finish(&mut self, alloc: Global) -> Result<Expr, Memory>
         ensures ends { IfOk result (λ made. Ends self.old (term_of made)) }
         ensures made { IfOk result (λ made. term_of made ≡ term_in self.old) }

@@ -1,4 +1,4 @@
-// A guard while it is read.
+//! A guard while it is read.
 
 ghost use Rattle.std.specs.Prelude.{◌≡◌, ◌++◌, ◌∷◌, [], not, ◌&&◌, List, IfOk, OnOk, IsTrue, IsFalse, Some};
 ghost use Rattle.poly_terms.specs.Views.{term_of};
@@ -142,6 +142,10 @@ impl GuardReader {
 
     /// An atom ends where its right side can end and the next piece doesn't go on with it. The answer is the fault that
     /// stands in the way of expanding its differences.
+    ///
+    /// # Errors
+    ///
+    /// `Memory` where an allocation fails.
     pub fn settle(
         &mut self,
         alloc: Global,
@@ -204,6 +208,10 @@ impl GuardReader {
     }
 
     /// One piece more, with the one behind it. False where it can't follow.
+    ///
+    /// # Errors
+    ///
+    /// `Memory` where an allocation fails.
     pub fn take<'a>(
         &mut self,
         alloc: Global,

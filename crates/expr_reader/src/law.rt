@@ -1,4 +1,4 @@
-// What was worked out by hand of the faults of atoms.
+//! What was worked out by hand of the faults of atoms.
 
 ghost use Rattle.expr_reader.specs.Worked.{WorkedValues};
 

@@ -1,4 +1,4 @@
-// Expressions and guards while they are read.
+//! Expressions and guards while they are read.
 #![tactic(auto)]
 
 mod expansion;

@@ -1,4 +1,4 @@
-// The factor, the product and the sum that a level makes where an operand ends.
+//! The factor, the product and the sum that a level makes where an operand ends.
 
 ghost use Rattle.std.specs.Prelude.{◌≡◌, IfOk};
 ghost use Rattle.poly_terms.specs.Views.{term_of};
@@ -22,6 +22,10 @@ pub fn empty_level() -> Level
 }
 
 /// An expression behind so many `-`.
+///
+/// # Errors
+///
+/// `Memory` where an allocation fails.
 pub fn negated(alloc: Global, minuses: u32, e: Expr) -> Result<Expr, Memory>
     ensures { IfOk result (λ made. term_of made ≡ terms.negated minuses (term_of e)) }
 {
@@ -35,6 +39,10 @@ pub fn negated(alloc: Global, minuses: u32, e: Expr) -> Result<Expr, Memory>
 }
 
 /// The product that a factor ends.
+///
+/// # Errors
+///
+/// `Memory` where an allocation fails.
 pub fn product_with(alloc: Global, product: Factored, factor: Expr) -> Result<Expr, Memory>
     ensures { IfOk result (λ made. term_of made ≡ terms.product_with (factored_of product) (term_of factor)) }
 {
@@ -45,6 +53,10 @@ pub fn product_with(alloc: Global, product: Factored, factor: Expr) -> Result<Ex
 }
 
 /// The sum that a product ends.
+///
+/// # Errors
+///
+/// `Memory` where an allocation fails.
 pub fn sum_with(alloc: Global, sum: Summed, product: Expr) -> Result<Expr, Memory>
     ensures { IfOk result (λ made. term_of made ≡ terms.sum_with (summed_of sum) (term_of product)) }
 {
@@ -56,6 +68,10 @@ pub fn sum_with(alloc: Global, sum: Summed, product: Expr) -> Result<Expr, Memor
 }
 
 /// A base as a factor, or a base with its exponent.
+///
+/// # Errors
+///
+/// `Memory` where an allocation fails.
 pub fn factor_of(alloc: Global, operand: Operand) -> Result<Expr, Memory>
     ensures { IfOk result (λ made. term_of made ≡ terms.factor_in (operand_of operand)) }
 {

@@ -1,4 +1,4 @@
-// The pieces that expressions and guards are written in.
+//! The pieces that expressions and guards are written in.
 
 ghost use Rattle.std.specs.Prelude.{◌≡◌};
 

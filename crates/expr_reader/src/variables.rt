@@ -1,4 +1,4 @@
-// The variables of a rule, in order of first occurrence.
+//! The variables of a rule, in order of first occurrence.
 
 ghost use Rattle.std.specs.Prelude.{◌≡◌, ◌≤◌, [], length, map, IfOk, OnOk};
 ghost use Rattle.text_core.specs.Names.{is_among, position_of};
@@ -40,6 +40,10 @@ impl<'a> Variables<'a> {
     }
 
     /// The number of the variable with a name, from 0; a new one goes to the end.
+    ///
+    /// # Errors
+    ///
+    /// `Memory` where an allocation fails.
     pub fn number(&mut self, name: &'a [u8]) -> Result<usize, Memory>
         ensures number { IfOk result (λ number. number ≡ position_of name.now (names_in self.old)) }
         ensures most { IfOk result (λ number. number ≤ length (names_in self.old)) }

@@ -3,7 +3,8 @@ use Rattle.std.specs.Prelude.{◌≡◌, ℕ, List, [], ◌∷◌, Some, refl}
 use Rattle.std.proofs.Common.{ap}
 use Rattle.expr_text.specs.Pieces.{Piece, Digits, Close, Sign, EqualSign, Related}
 use Rattle.expr_text.specs.Trees.{Sum, Plain, Raised, Base, Number, Bracketed}
-use Rattle.expr_text.specs.Fronts.{Level, Operand, Wanted, BaseRead, CaretRead, ExponentRead, Front, sum_made, beginning}
+use Rattle.expr_text.specs.Fronts.{Level, Operand, Wanted, BaseRead, CaretRead, ExponentRead, Front, sum_made}
+use Rattle.expr_text.specs.Fronts.{beginning}
 use Rattle.expr_text.specs.Steps.{read, step, finish}
 use Rattle.expr_text.specs.Guards.{Atoms, Compared}
 use Rattle.expr_text.specs.GuardFronts as guards

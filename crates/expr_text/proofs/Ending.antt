@@ -1,10 +1,11 @@
 -- What doesn't go on with an expression.
 use Rattle.std.specs.Prelude.{◌≡◌, ℕ, zero, suc, List, [], ◌∷◌, Option, Some, None, ⊤, refl}
 use Rattle.std.proofs.Common.{◌∙◌, ap, subst}
-use Rattle.model.specs.Programs.{Name}
+use Rattle.its_model.specs.model.Programs.{Name}
 use Rattle.expr_text.specs.Pieces.{Piece, Word, Close, Sign, Related, Joint, Joining}
 use Rattle.expr_text.specs.Trees.{Sum, Number, Named, Bracketed}
-use Rattle.expr_text.specs.Fronts.{Summed, NoSum, PlusAfter, MinusAfter, Factored, NoProduct, TimesAfter, Level, Operand, Wanted, BaseRead, CaretRead, ExponentRead, Front, empty_level, beginning}
+use Rattle.expr_text.specs.Fronts.{Summed, NoSum, PlusAfter, MinusAfter, Factored, NoProduct, TimesAfter, Level}
+use Rattle.expr_text.specs.Fronts.{Operand, Wanted, BaseRead, CaretRead, ExponentRead, Front, empty_level, beginning}
 use Rattle.expr_text.specs.Steps.{step_from, step, finish_from, finish}
 use Rattle.expr_text.specs.Guards.{Atom, Atoms}
 use Rattle.expr_text.specs.GuardFronts as guards

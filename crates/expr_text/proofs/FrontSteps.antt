@@ -3,8 +3,8 @@ use Rattle.std.proofs.Common.{◌≡◌, ℕ, zero, suc, Bool, true, false, not,
 use Rattle.std.proofs.Common.{[], ◌∷◌, length, codes, Option, Some, None, refl, ap, sym, subst, arith}
 use Rattle.std.specs.Prelude.{⊤}
 use Rattle.std.proofs.lemmas.Bool.Decides.{nat_tests}
-use Rattle.model.specs.Programs.{Name}
-use Rattle.text_core.specs.Names.{is_same}
+use Rattle.its_model.specs.model.Programs.{Name}
+use Rattle.its_model.specs.text_core.Names.{is_same}
 use Rattle.expr_text.specs.Pieces.{Piece, Word, Digits, Open, Close, Plus, Minus, Times, Caret, Related, Joining}
 use Rattle.expr_text.specs.Trees.{Sum, Factor, Plain, Raised, Negated, Base, Number, Named, Bracketed, sum_behind}
 use Rattle.expr_text.specs.Trees.{base_behind}

@@ -1,15 +1,21 @@
 -- Each piece of a guard that is taken stands behind those of the front before.
-use Rattle.std.specs.Prelude.{◌≡◌, ℕ, zero, suc, Bool, true, false, if◌then◌else◌, codes, List, [], ◌∷◌, Option, Some, None, ⊤, refl}
+use Rattle.std.specs.Prelude.{◌≡◌, ℕ, zero, suc, Bool, true, false, if◌then◌else◌, codes, List, [], ◌∷◌, Option, Some}
+use Rattle.std.specs.Prelude.{None, ⊤, refl}
 use Rattle.std.proofs.Common.{sym, ◌∙◌, ap}
-use Rattle.model.specs.Programs.{Name}
-use Rattle.text_core.specs.Names.{is_same}
-use Rattle.text_core.proofs.NameLaws.{same_equal}
-use Rattle.expr_text.specs.Pieces.{Sign, Joint, Piece, Word, Digits, Open, Close, Plus, Minus, Times, Caret, Related, Joining}
+use Rattle.its_model.specs.model.Programs.{Name}
+use Rattle.its_model.specs.text_core.Names.{is_same}
+use Rattle.its_model.proofs.text_core.NameLaws.{same_equal}
+use Rattle.expr_text.specs.Pieces.{Sign, Joint, Piece, Word, Digits, Open, Close, Plus, Minus, Times, Caret, Related}
+use Rattle.expr_text.specs.Pieces.{Joining}
 use Rattle.expr_text.specs.Trees.{Sum, Number, Named, Bracketed, sum_behind}
-use Rattle.expr_text.specs.Fronts.{Summed, NoSum, PlusAfter, MinusAfter, Factored, NoProduct, TimesAfter, Level, Operand, Wanted, BaseRead, CaretRead, ExponentRead, Front, front_behind}
+use Rattle.expr_text.specs.Fronts.{Summed, NoSum, PlusAfter, MinusAfter, Factored, NoProduct, TimesAfter, Level}
+use Rattle.expr_text.specs.Fronts.{Operand, Wanted, BaseRead, CaretRead, ExponentRead, Front, front_behind}
 use Rattle.expr_text.specs.Steps as inner
 use Rattle.expr_text.specs.Guards.{Capitals, Smalls, Atom, Always, Atoms, atom_behind, atoms_behind}
-use Rattle.expr_text.specs.GuardFronts.{Conjoined, NoAtoms, JointAfter, GuardFront, LeftSide, RightSide, conjoined_behind, guard_behind, atoms_with, truth_named, truth_in, truth_of, compared, ended, finish, joined, related, step_behind, within, expression_in, step}
+use Rattle.expr_text.specs.GuardFronts.{Conjoined, NoAtoms, JointAfter, GuardFront, LeftSide, RightSide}
+use Rattle.expr_text.specs.GuardFronts.{conjoined_behind, guard_behind, atoms_with, truth_named, truth_in, truth_of}
+use Rattle.expr_text.specs.GuardFronts.{compared, ended, finish, joined, related, step_behind, within, expression_in}
+use Rattle.expr_text.specs.GuardFronts.{step}
 use Rattle.expr_text.proofs.StepLaws.{step_adds, finish_written, Adds, IsWritten}
 
 module _ {P : Type 0} (into : Piece → P) where

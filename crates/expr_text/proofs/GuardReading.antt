@@ -5,8 +5,10 @@ use Rattle.expr_text.specs.Pieces.{Piece, Word, Related, Joining}
 use Rattle.expr_text.specs.Trees.{Named, sum_behind}
 use Rattle.expr_text.specs.Fronts.{empty_level, beginning}
 use Rattle.expr_text.specs.Steps as inner
-use Rattle.expr_text.specs.Guards.{Capitals, Smalls, Atom, Always, Compared, Atoms, First, Joined, truth_word, atom_behind, atoms_behind}
-use Rattle.expr_text.specs.GuardFronts.{Conjoined, NoAtoms, JointAfter, GuardFront, LeftSide, RightSide, no_atoms, atoms_with, compared, ended, finish, within, step}
+use Rattle.expr_text.specs.Guards.{Capitals, Smalls, Atom, Always, Compared, Atoms, First, Joined, truth_word}
+use Rattle.expr_text.specs.Guards.{atom_behind, atoms_behind}
+use Rattle.expr_text.specs.GuardFronts.{Conjoined, NoAtoms, JointAfter, GuardFront, LeftSide, RightSide, no_atoms}
+use Rattle.expr_text.specs.GuardFronts.{atoms_with, compared, ended, finish, within, step}
 use Rattle.expr_text.proofs.Ending.{related_step, joining_step}
 use Rattle.expr_text.proofs.Reading.{behind_sum, sum_finish, expression_is_read}
 

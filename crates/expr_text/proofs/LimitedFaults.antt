@@ -1,14 +1,16 @@
 -- An exponent over the limit on degrees counts as the one behind it: that changes no refusal, since a power with either fails
 -- at that one, and it changes no expression that can be expanded.
-use Rattle.std.proofs.Common.{◌≡◌, ℕ, zero, suc, ◌≤◌, min, Bool, true, false, if◌then◌else◌, ◌||◌, nat_lt, List, [], ◌∷◌, ◌++◌, length, Option, Some, None, refl, ap, sym, subst, ◌∙◌, inl, inr, arith}
+use Rattle.std.proofs.Common.{◌≡◌, ℕ, zero, suc, ◌≤◌, min, Bool, true, false, if◌then◌else◌, ◌||◌, nat_lt, List, []}
+use Rattle.std.proofs.Common.{◌∷◌, ◌++◌, length, Option, Some, None, refl, ap, sym, subst, ◌∙◌, inl, inr, arith}
 use Rattle.std.specs.Prelude.{◌⊎◌}
-use Rattle.model.specs.Terms.{Term, Literal, Variable, Negation, Addition, Subtraction, Multiplication, Exponentiation}
-use Rattle.model.specs.Polynomials.{Polynomial, degree_of}
-use Rattle.poly_terms.specs.Expanding.{expanded}
-use Rattle.poly_terms.specs.Faults.{Fault, LargeCoefficient, ManyTerms, HighDegree, has_large, fault_in, fault_of, powers, subexpressions, or_else, first_among, first_fault}
+use Rattle.its_model.specs.model.Terms.{Term, Literal, Variable, Negation, Addition, Subtraction, Multiplication, Exponentiation}
+use Rattle.its_model.specs.model.Polynomials.{Polynomial, degree_of}
+use Rattle.its_model.specs.poly_terms.Expanding.{expanded}
+use Rattle.its_model.specs.poly_terms.Faults.{Fault, LargeCoefficient, ManyTerms, HighDegree, has_large, fault_in, fault_of}
+use Rattle.its_model.specs.poly_terms.Faults.{powers, subexpressions, or_else, first_among, first_fault}
 use Rattle.expr_text.specs.TermFronts.{limited}
 use Rattle.expr_text.specs.Limited.{LimitedAlike}
-use Rattle.poly_terms.proofs.FaultLaws.{first-append as among_append, first-snoc as one_part}
+use Rattle.its_model.proofs.poly_terms.FaultLaws.{first-append as among_append, first-snoc as one_part}
 
 two_parts : (xs ys : List Term) (t : Term) → first_among (xs ++ (ys ++ t ∷ [])) ≡ or_else (first_among xs) (or_else (first_among ys) (fault_of t))
 two_parts xs ys t = among_append xs (ys ++ t ∷ []) ∙ ap (or_else (first_among xs)) (one_part ys t)

@@ -2,7 +2,7 @@
 -- later change no term.
 use Rattle.std.proofs.Common.{◌≡◌, List, [], ◌++◌, append-nil, ap, sym, subst, ◌∙◌}
 use Rattle.std.specs.Prelude.{⊤}
-use Rattle.model.specs.Programs.{Name}
+use Rattle.its_model.specs.model.Programs.{Name}
 use Rattle.expr_text.specs.Trees.{Sum}
 use Rattle.expr_text.specs.Terms.{with_sum, sum_term}
 use Rattle.expr_text.specs.Guards.{Atom, Always, Compared, Atoms, First, Joined, with_atom, with_atoms}

@@ -1,8 +1,11 @@
 -- Each expression can be read: its pieces lead from front to front, within any text whose fronts follow an expression's.
 use Rattle.std.specs.Prelude.{◌≡◌, ℕ, suc, List, [], ◌∷◌, Option, Some, refl}
 use Rattle.expr_text.specs.Pieces.{Piece, Word, Digits, Open, Close, Plus, Minus, Times, Caret}
-use Rattle.expr_text.specs.Trees.{Sum, Alone, Added, Subtracted, Product, Single, Multiplied, Factor, Plain, Raised, Negated, Base, Number, Named, Bracketed, sum_behind, product_behind, factor_behind, base_behind}
-use Rattle.expr_text.specs.Fronts.{Summed, NoSum, PlusAfter, MinusAfter, Factored, NoProduct, TimesAfter, Level, Wanted, BaseRead, CaretRead, ExponentRead, Front, beginning, negated, product_with, sum_with}
+use Rattle.expr_text.specs.Trees.{Sum, Alone, Added, Subtracted, Product, Single, Multiplied, Factor, Plain, Raised}
+use Rattle.expr_text.specs.Trees.{Negated, Base, Number, Named, Bracketed, sum_behind, product_behind, factor_behind}
+use Rattle.expr_text.specs.Trees.{base_behind}
+use Rattle.expr_text.specs.Fronts.{Summed, NoSum, PlusAfter, MinusAfter, Factored, NoProduct, TimesAfter, Level, Wanted}
+use Rattle.expr_text.specs.Fronts.{BaseRead, CaretRead, ExponentRead, Front, beginning, negated, product_with, sum_with}
 use Rattle.expr_text.specs.Steps.{wanted, read, step_behind, step, finish}
 
 -- a level with so many `-`

@@ -1,12 +1,14 @@
 -- Variables are numbered where they first occur: names that come later change no number.
 use Rattle.std.specs.Prelude.{◌≡◌, Bool, true, false, ◌||◌, if◌then◌else◌, List, [], ◌∷◌, ◌++◌, ⊤, refl}
 use Rattle.std.proofs.Common.{sym, ◌∙◌, ap, subst, append_assoc, append-nil}
-use Rattle.model.specs.Programs.{Name}
-use Rattle.model.specs.Terms.{Variable, Negation, Exponentiation}
-use Rattle.text_core.specs.Names.{is_same, is_among, position_of}
-use Rattle.text_core.proofs.NameLaws.{is_same_self}
-use Rattle.expr_text.specs.Trees.{Sum, Alone, Added, Subtracted, Product, Single, Multiplied, Factor, Plain, Raised, Negated, Base, Number, Named, Bracketed}
-use Rattle.expr_text.specs.Terms.{number_of, with_name, with_sum, with_product, with_factor, with_base, sum_term, product_term, factor_term, base_term}
+use Rattle.its_model.specs.model.Programs.{Name}
+use Rattle.its_model.specs.model.Terms.{Variable, Negation, Exponentiation}
+use Rattle.its_model.specs.text_core.Names.{is_same, is_among, position_of}
+use Rattle.its_model.proofs.text_core.NameLaws.{is_same_self}
+use Rattle.expr_text.specs.Trees.{Sum, Alone, Added, Subtracted, Product, Single, Multiplied, Factor, Plain, Raised}
+use Rattle.expr_text.specs.Trees.{Negated, Base, Number, Named, Bracketed}
+use Rattle.expr_text.specs.Terms.{number_of, with_name, with_sum, with_product, with_factor, with_base, sum_term}
+use Rattle.expr_text.specs.Terms.{product_term, factor_term, base_term}
 
 -- a name that is among names is so among more
 pub among_more : (n : Name) (names more : List Name) → is_among n names ≡ true → is_among n (names ++ more) ≡ true

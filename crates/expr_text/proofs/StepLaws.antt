@@ -3,7 +3,10 @@ use Rattle.std.specs.Prelude.{◌≡◌, ℕ, zero, suc, List, [], ◌∷◌, Op
 use Rattle.std.proofs.Common.{ap}
 use Rattle.expr_text.specs.Pieces.{Piece, Word, Digits, Open, Close, Plus, Minus, Times, Caret, Related, Joining}
 use Rattle.expr_text.specs.Trees.{Sum, Factor, Plain, Raised, Negated, sum_behind, product_behind, factor_behind}
-use Rattle.expr_text.specs.Fronts.{Summed, NoSum, PlusAfter, MinusAfter, Factored, NoProduct, TimesAfter, Level, Operand, Wanted, BaseRead, CaretRead, ExponentRead, Front, summed_behind, factored_behind, minuses_behind, level_behind, outer_behind, front_behind, negated, product_with, sum_made}
+use Rattle.expr_text.specs.Fronts.{Summed, NoSum, PlusAfter, MinusAfter, Factored, NoProduct, TimesAfter, Level}
+use Rattle.expr_text.specs.Fronts.{Operand, Wanted, BaseRead, CaretRead, ExponentRead, Front, summed_behind}
+use Rattle.expr_text.specs.Fronts.{factored_behind, minuses_behind, level_behind, outer_behind, front_behind, negated}
+use Rattle.expr_text.specs.Fronts.{product_with, sum_made}
 use Rattle.expr_text.specs.Steps.{closed, step_behind, step_from, step, finish_from, finish}
 
 module _ {P : Type 0} (into : Piece → P) where

@@ -1,8 +1,8 @@
 -- The differences of an atom, and what stands in the way of expanding them.
 use Rattle.std.specs.Prelude.{List, [], ◌∷◌, Option, None}
-use Rattle.model.specs.Programs.{Relation, EqualTo}
-use Rattle.model.specs.Terms.{Term}
-use Rattle.poly_terms.specs.Faults.{Fault, first_fault, or_else}
+use Rattle.its_model.specs.model.Programs.{Relation, EqualTo}
+use Rattle.its_model.specs.model.Terms.{Term}
+use Rattle.its_model.specs.poly_terms.Faults.{Fault, first_fault, or_else}
 use Rattle.its_model.specs.Valid.{difference_of}
 
 -- the differences of an atom: that of an equation counts both ways round

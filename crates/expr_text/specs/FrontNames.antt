@@ -1,7 +1,7 @@
 -- The variables of what has been read, and how many tokens it has.
 use Rattle.std.specs.Prelude.{ℕ, Bool, true, false, ◌||◌, codes, List, [], ◌∷◌, length, Option, Some, None}
-use Rattle.model.specs.Programs.{Name}
-use Rattle.text_core.specs.Names.{is_same}
+use Rattle.its_model.specs.model.Programs.{Name}
+use Rattle.its_model.specs.text_core.Names.{is_same}
 use Rattle.expr_text.specs.Pieces.{Piece, Word, Digits, Open, Plus, Minus, Times, Caret, Related}
 use Rattle.expr_text.specs.Terms.{with_sum, with_product, with_base}
 use Rattle.expr_text.specs.Fronts.{Summed, NoSum, PlusAfter, MinusAfter, Factored, NoProduct, TimesAfter, Level}

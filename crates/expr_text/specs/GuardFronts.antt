@@ -1,7 +1,7 @@
 -- The part of a guard that has been read, and where each piece leads within a guard.
 use Rattle.std.specs.Prelude.{ℕ, zero, List, [], ◌∷◌, codes, if◌then◌else◌, Option, Some, None}
-use Rattle.model.specs.Programs.{Name}
-use Rattle.text_core.specs.Names.{is_same}
+use Rattle.its_model.specs.model.Programs.{Name}
+use Rattle.its_model.specs.text_core.Names.{is_same}
 use Rattle.expr_text.specs.Pieces.{Sign, Joint, Piece, Related, Joining}
 use Rattle.expr_text.specs.Trees.{Sum, Named, sum_behind}
 use Rattle.expr_text.specs.Fronts.{Front, Level, Operand, BaseRead, Summed, NoSum, Factored, NoProduct, beginning}

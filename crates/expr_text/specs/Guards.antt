@@ -1,7 +1,7 @@
 -- Guards as they are written: atoms that are joined.
 use Rattle.std.specs.Prelude.{ℕ, suc, List, [], ◌∷◌, ◌++◌, codes}
-use Rattle.model.specs.Programs as plain
-use Rattle.model.specs.Programs.{Name, Relation, AtLeast, MoreThan, AtMost, LessThan, EqualTo}
+use Rattle.its_model.specs.model.Programs as plain
+use Rattle.its_model.specs.model.Programs.{Name, Relation, AtLeast, MoreThan, AtMost, LessThan, EqualTo}
 use Rattle.expr_text.specs.Pieces.{Sign, AtLeastSign, MoreThanSign, AtMostSign, LessThanSign, EqualSign}
 use Rattle.expr_text.specs.Pieces.{DoubleEqualSign, Joint, Piece, Word, Related, Joining}
 use Rattle.expr_text.specs.Trees.{Sum, sum_behind}

@@ -12,3 +12,8 @@ pub mod Limited
 pub mod Differences
 -- laws, and values that were worked out by hand
 pub mod Worked
+-- the crates below, which callers name through this one
+pub use Rattle.its_model.specs.model
+pub use Rattle.its_model.specs.poly_terms
+pub use Rattle.its_model.specs.text_core
+pub use Rattle.its_model.specs as its_model

@@ -1,7 +1,7 @@
 -- What the limit on exponents changes: nothing of what is refused, and nothing of what isn't.
 use Rattle.std.specs.Prelude.{◌≡◌, None}
-use Rattle.model.specs.Terms.{Term}
-use Rattle.poly_terms.specs.Faults.{first_fault}
+use Rattle.its_model.specs.model.Terms.{Term}
+use Rattle.its_model.specs.poly_terms.Faults.{first_fault}
 use Rattle.expr_text.specs.TermFronts.{limited}
 
 -- an expression is refused as it is with each exponent over the limit on degrees as the one behind it, and one that

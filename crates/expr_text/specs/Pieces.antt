@@ -1,6 +1,6 @@
 -- The pieces that expressions and guards are written in.
 use Rattle.std.specs.Prelude.{ℕ, List}
-use Rattle.model.specs.Programs.{Name}
+use Rattle.its_model.specs.model.Programs.{Name}
 
 -- a relation as it is written: equality has two signs
 pub data Sign : Type 0 where

@@ -1,9 +1,9 @@
 -- What a written expression stands for: variables by number, and no brackets.
 use Rattle.std.specs.Prelude.{ℕ, List, [], ◌∷◌, ◌++◌, pos, if◌then◌else◌}
 use Rattle.std.specs.Str.Parse.{digits_value}
-use Rattle.model.specs.Programs.{Name}
-use Rattle.model.specs.Terms.{Term, Literal, Variable, Negation, Addition, Subtraction, Multiplication, Exponentiation}
-use Rattle.text_core.specs.Names.{is_among, position_of}
+use Rattle.its_model.specs.model.Programs.{Name}
+use Rattle.its_model.specs.model.Terms.{Term, Literal, Variable, Negation, Addition, Subtraction, Multiplication, Exponentiation}
+use Rattle.its_model.specs.text_core.Names.{is_among, position_of}
 use Rattle.expr_text.specs.Trees.{Sum, Alone, Added, Subtracted, Product, Single, Multiplied, Factor, Plain, Raised}
 use Rattle.expr_text.specs.Trees.{Negated, Base, Number, Named, Bracketed}
 

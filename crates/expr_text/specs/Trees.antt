@@ -1,6 +1,6 @@
 -- Expressions as they are written: brackets are kept, and what binds tighter stands deeper.
 use Rattle.std.specs.Prelude.{ℕ, List, ◌∷◌}
-use Rattle.model.specs.Programs.{Name}
+use Rattle.its_model.specs.model.Programs.{Name}
 use Rattle.expr_text.specs.Pieces.{Piece, Word, Digits, Open, Close, Plus, Minus, Times, Caret}
 
 mutual

@@ -1,9 +1,9 @@
 -- What was worked out by hand of expressions and guards as they are written.
 use Rattle.std.specs.Prelude.{◌≡◌, List, [], ◌∷◌, codes, pos, Option, Some, None}
-use Rattle.model.specs.Programs as plain
-use Rattle.model.specs.Programs.{AtLeast, LessThan}
-use Rattle.model.specs.Terms.{Term, Literal, Variable, Negation, Addition, Subtraction, Multiplication, Exponentiation}
-use Rattle.text_core.specs.Readers.{walk}
+use Rattle.its_model.specs.model.Programs as plain
+use Rattle.its_model.specs.model.Programs.{AtLeast, LessThan}
+use Rattle.its_model.specs.model.Terms.{Term, Literal, Variable, Negation, Addition, Subtraction, Multiplication, Exponentiation}
+use Rattle.its_model.specs.text_core.Readers.{walk}
 use Rattle.expr_text.specs.Pieces.{Piece, Word, Digits, Open, Close, Plus, Minus, Times, Caret, Related, AtLeastSign}
 use Rattle.expr_text.specs.Pieces.{LessThanSign, Joining, Ampersands, Wedge}
 use Rattle.expr_text.specs.Trees.{Sum}

@@ -1,4 +1,4 @@
-// What holds of expressions and guards as they are written.
+//! What holds of expressions and guards as they are written.
 
 ghost use Rattle.expr_text.specs.Limited.{LimitedAlike};
 ghost use Rattle.expr_text.specs.Worked.{WorkedValues};

@@ -3,3 +3,5 @@ pub mod Columns
 pub mod Sums
 pub mod RowLists
 mod WorkedSizes
+-- the lemmas of the crates below, which callers name through this one
+pub use Rattle.poly_terms.proofs.model

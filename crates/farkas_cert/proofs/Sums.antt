@@ -1,12 +1,13 @@
 -- Rows of a rule are small, and the dot product of two lists.
-use Rattle.std.proofs.Common.{◌≡◌, ℕ, suc, ◌+◌, ◌*◌, ◌<◌, ◌≤◌, ◌⊎◌, inl, inr, List, [], ◌∷◌, length, drop, get_or, ap, arith, refl, sym, ◌∙◌}
+use Rattle.std.proofs.Common.{◌≡◌, ℕ, suc, ◌+◌, ◌*◌, ◌<◌, ◌≤◌, ◌⊎◌, inl, inr, List, [], ◌∷◌, length, drop, get_or, ap}
+use Rattle.std.proofs.Common.{arith, refl, sym, ◌∙◌}
 use Rattle.std.specs.Prelude.{ℤ, pos, ◌+ℤ◌, ◌*ℤ◌, unsigned_abs}
 use Rattle.std.specs.List.{All}
 use Rattle.std.proofs.lemmas.Int.{ints}
 use Rattle.std.proofs.lemmas.Bool.{cases_lt}
 use Rattle.std.proofs.lemmas.List.{drop_more, drop_all, get_or_past}
 use Rattle.std.proofs.lemmas.List.Elements.{All-head, All-tail, All-get_or}
-use Rattle.int_laws.proofs.RingLaws.{mul-zero_ℤ}
+use Rattle.linear_forms.proofs.int_laws.RingLaws.{mul-zero_ℤ}
 use Rattle.linear_forms.specs.Forms.{Form, at, list_dot}
 use Rattle.farkas_cert.specs.Scales.{numbers_at}
 use Rattle.farkas_cert.specs.Sizes.{column_size, row_limit, HasRowNumbers, RowsOfARuleAreSmall}

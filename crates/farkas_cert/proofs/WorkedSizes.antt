@@ -4,7 +4,7 @@ use Rattle.std.specs.Prelude.{ℤ, pos, negsuc, unsigned_abs}
 use Rattle.std.proofs.lemmas.List.Elements.{All-nil, All-cons}
 use Rattle.linear_forms.specs.Forms.{at}
 use Rattle.farkas_cert.specs.Sizes.{column_size, column_limit, AreParts, AreWithinLimit, AreRowNumbers}
-use Rattle.farkas_cert.specs.WorkedSizes.{line, LimitsAreTold, ColumnsAreTold, SizesAreWorkedOut}
+use Rattle.farkas_cert.specs.WorkedSizes.{line, LimitsAreWorkedOut, ColumnsAreTold, SizesAreWorkedOut}
 
 -- lists of two parts, of two multipliers and of one number
 two_parts : (x y : ℤ) → unsigned_abs x ≤ 2 ^ 45 → unsigned_abs y ≤ 2 ^ 45 → AreParts (x ∷ y ∷ [])
@@ -31,7 +31,7 @@ one_number x h =
 the_number : (x : ℤ) → AreRowNumbers (x ∷ []) → unsigned_abs x < 2 ^ 63
 the_number x h = h 0 (pos 0) (omega arith)
 
-limits : LimitsAreTold
+limits : LimitsAreWorkedOut
 limits = record {
   multiplier = two_multipliers (2 ^ 55) 0 (omega arith) (omega arith);
   large_multiplier = λ h. let large = second_multiplier 0 (2 ^ 55 + 1) h in omega (arith, large);

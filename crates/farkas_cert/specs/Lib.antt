@@ -5,3 +5,6 @@ pub mod Scales
 pub mod WorkedSizes
 -- the machinery of the functions inside and of the proofs
 pub mod Columns
+-- the crates below, which callers name through this one
+pub use Rattle.poly_terms.specs.model
+pub use Rattle.linear_forms.specs as linear_forms

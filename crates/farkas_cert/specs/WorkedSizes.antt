@@ -8,7 +8,7 @@ abbrev pub line : ℤ → ℤ → Form
 line a c = record { coefs = a ∷ []; constant = c }
 
 -- multipliers up to 2^55, and parts up to 2^45 in absolute value; numbers of a row up to 2^63 - 1 in absolute value
-pub record LimitsAreTold : Type 0 where
+pub record LimitsAreWorkedOut : Type 0 where
   pub multiplier : AreWithinLimit ((2 ^ 55) ∷ 0 ∷ [])
   pub large_multiplier : ¬ (AreWithinLimit (0 ∷ (2 ^ 55 + 1) ∷ []))
   pub part : AreParts (pos (2 ^ 45) ∷ negsuc (2 ^ 45 - 1) ∷ [])
@@ -27,5 +27,5 @@ pub record ColumnsAreTold : Type 0 where
 
 -- all of it
 pub record SizesAreWorkedOut : Type 0 where
-  pub limits : LimitsAreTold
+  pub limits : LimitsAreWorkedOut
   pub columns : ColumnsAreTold

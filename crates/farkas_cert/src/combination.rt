@@ -1,4 +1,4 @@
-// One column of the sum of rows, each times its multiplier.
+//! One column of the sum of rows, each times its multiplier.
 
 ghost use Rattle.std.specs.Prelude.{◌≡◌, ◌*◌, ◌^◌, ◌+◌, ◌≤◌, pos, ◌*ℤ◌, map, All, unsigned_abs};
 ghost use Rattle.linear_forms.specs.Forms.{at};

@@ -1,7 +1,7 @@
-// Certificates by Farkas' lemma, and points of rows, as numbers of the code. Contract to the layer above: `implies` and
-// `empty` answer yes exactly where the multipliers show that a form follows from rows, or that the rows have no point,
-// and `on_rows` exactly where a scaled point is on them. What such a yes is worth is the law
-// `linear_forms::certificates_hold`. No sum wraps, and no call takes memory.
+//! Certificates by Farkas' lemma, and points of rows, as numbers of the code. Contract to the layer above: `implies` and
+//! `empty` answer yes exactly where the multipliers show that a form follows from rows, or that the rows have no point,
+//! and `on_rows` exactly where a scaled point is on them. What such a yes is worth is the law
+//! `linear_forms::certificates_hold`. No sum wraps, and no call takes memory.
 #![tactic(auto)]
 
 mod combination;

@@ -1,4 +1,4 @@
-// Rational points with one denominator.
+//! Rational points with one denominator.
 
 ghost use Rattle.std.specs.Prelude.{◌≡◌, ℕ, ◌*◌, ◌^◌, ◌+◌, ◌≤◌, ◌<◌, ◌↔◌, pos, ◌+ℤ◌, ◌*ℤ◌, map, length, All, IsTrue};
 ghost use Rattle.std.specs.Prelude.{unsigned_abs};

@@ -2,7 +2,8 @@
 use Rattle.std.proofs.Common.{◌≡◌, ◌≢◌, ℕ, ◌<◌, ◌≤◌, refl, sym, ◌∙◌, ap, subst, arith}
 use Rattle.std.specs.Int.{IsGcd, ◌∣◌}
 use Rattle.std.specs.Prelude.{zero, suc, ℤ, pos, negsuc, unsigned_abs, ◌<ℤ◌, ◌+ℤ◌, ◌*ℤ◌, int_div, int_rem}
-use Rattle.std.proofs.Math.Nat.{eq-one_of_dvd-one, pos_of_dvd_of_pos, dvd_refl, dvd-zero, mod-eq-zero_of_dvd, mul-le-mul_left, le_of_dvd}
+use Rattle.std.proofs.Math.Nat.{eq-one_of_dvd-one, pos_of_dvd_of_pos, dvd_refl, dvd-zero, mod-eq-zero_of_dvd}
+use Rattle.std.proofs.Math.Nat.{mul-le-mul_left, le_of_dvd}
 use Rattle.std.proofs.lemmas.Int.{ints, quot-rem, unsigned_abs-mul}
 use Rattle.std.specs.Prelude.{◌-ℤ◌, [], ◌∷◌}
 use Rattle.int_laws.specs.Polynomial.{variable, constant, ◌⊖◌, ◌⊗◌}

@@ -24,7 +24,11 @@ impl Frac {
     ghost use Rattle.std.specs.Prelude.{◌+ℤ◌, ◌-ℤ◌, ◌*ℤ◌, [], ◌∷◌};
     ghost use Rattle.frac128.specs.Fraction.{IsFraction, IsExactOrRange, IsOrderOrRange, IsFloor, IsCeiling};
 
-    /// The fraction `num / den`, reduced. `Range` comes exactly where `num` or `den` is -2^127.
+    /// The fraction `num / den`, reduced.
+    ///
+    /// # Errors
+    ///
+    /// `Range` exactly where `num` or `den` is -2^127.
     pub fn new(num: i128, den: i128) -> Result<Frac, Range>
         requires { den ≢ pos 0 }
         ensures { IsExactOrRange result (num ∷ den ∷ []) num den }
@@ -62,6 +66,10 @@ impl Frac {
     }
 
     /// The sum: `(a*d + c*b)/(b*d)` for a/b and c/d.
+    ///
+    /// # Errors
+    ///
+    /// `Range` exactly where not all of `a*d`, `c*b`, their sum and `b*d` are within -2^127 + 1 and 2^127 - 1.
     #[tactic(auto, using(crate::proofs::Outcomes::exits))]
     pub fn add(self, other: Frac) -> Result<Frac, Range>
         ensures { let left = self.num *ℤ other.den in
@@ -86,6 +94,10 @@ impl Frac {
     }
 
     /// The difference: `(a*d - c*b)/(b*d)` for a/b and c/d.
+    ///
+    /// # Errors
+    ///
+    /// `Range` exactly where not all of `a*d`, `c*b`, their difference and `b*d` are within -2^127 + 1 and 2^127 - 1.
     #[tactic(auto, using(crate::proofs::Outcomes::exits))]
     pub fn sub(self, other: Frac) -> Result<Frac, Range>
         ensures { let left = self.num *ℤ other.den in
@@ -110,6 +122,10 @@ impl Frac {
     }
 
     /// The product: `(a*c)/(b*d)` for a/b and c/d.
+    ///
+    /// # Errors
+    ///
+    /// `Range` exactly where not all of `a*c` and `b*d` are within -2^127 + 1 and 2^127 - 1.
     #[tactic(auto, using(crate::proofs::Outcomes::exits))]
     pub fn mul(self, other: Frac) -> Result<Frac, Range>
         ensures { let over = self.num *ℤ other.num in
@@ -131,6 +147,10 @@ impl Frac {
     }
 
     /// The quotient: `(a*d)/(b*c)` for a/b and c/d. The divisor isn't 0.
+    ///
+    /// # Errors
+    ///
+    /// `Range` exactly where not all of `a*d` and `b*c` are within -2^127 + 1 and 2^127 - 1.
     #[tactic(auto, using(crate::proofs::Outcomes::exits))]
     pub fn div(self, other: Frac) -> Result<Frac, Range>
         requires { other.num ≢ pos 0 }
@@ -147,6 +167,10 @@ impl Frac {
     }
 
     /// The order of two fractions, by the comparison of `a*d` with `c*b` for a/b and c/d.
+    ///
+    /// # Errors
+    ///
+    /// `Range` exactly where not all of `a*d` and `c*b` are within -2^127 + 1 and 2^127 - 1.
     pub fn cmp(self, other: Frac) -> Result<Ordering, Range>
         ensures { IsOrderOrRange result (self.num *ℤ other.den) (other.num *ℤ self.den) }
     {

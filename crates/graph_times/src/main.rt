@@ -1,5 +1,5 @@
-// Makes a call on a made graph so often, as its words tell, and writes what it found: how many components, symbols or
-// rules, or whether there is a cycle; for measuring. The words are the call, the graph, its nodes and how often.
+//! Makes a call on a made graph so often, as its words tell, and writes what it found: how many components, symbols or
+//! rules, or whether there is a cycle; for measuring. The words are the call, the graph, its nodes and how often.
 #![tactic(auto)]
 
 ghost use Rattle.std.specs.Prelude.{◌<◌, All, IsTrue};
@@ -7,6 +7,7 @@ ghost use Rattle.std.specs.Prelude.{◌<◌, All, IsTrue};
 use its_graph::{Graph, components, has_cycle};
 use its_model::{Program, Rule};
 use its_reader::read;
+use model::Memory;
 use outside_io::all_words;
 use std::alloc::{AllocError, Global};
 use std::process::ExitCode;
@@ -25,7 +26,7 @@ fn link(alloc: Global, source: u32, target: u32) -> Rule {
 }
 
 // A path through so many nodes.
-fn path(alloc: Global, nodes: u32) -> Result<Vec<Rule>, AllocError> {
+fn path(alloc: Global, nodes: u32) -> Result<Vec<Rule>, Memory> {
     let mut rules = Vec::new(alloc);
     for node in 1..nodes {
         rules.push(link(alloc, node - 1, node))?;
@@ -50,7 +51,7 @@ fn next(state: u64) -> u64 {
 }
 
 // A graph of so many nodes with 25/4 edges a node.
-fn random(alloc: Global, nodes: u32) -> Result<Vec<Rule>, AllocError>
+fn random(alloc: Global, nodes: u32) -> Result<Vec<Rule>, Memory>
     requires { 0 < nodes }
 {
     let mut rules = Vec::new(alloc);
@@ -65,7 +66,7 @@ fn random(alloc: Global, nodes: u32) -> Result<Vec<Rule>, AllocError>
 }
 
 // The program with the edges of a graph.
-fn program(alloc: Global, graph: &str, nodes: u32) -> Result<Program, AllocError> {
+fn program(alloc: Global, graph: &str, nodes: u32) -> Result<Program, Memory> {
     let rules = if graph == "random" && nodes > 0 {
         random(alloc, nodes)?
     } else {
@@ -88,7 +89,7 @@ fn number(word: &str) -> u32 {
 }
 
 // Whether the program has a cycle.
-fn cycles(alloc: Global, p: &Program, times: u32) -> Result<usize, AllocError> {
+fn cycles(alloc: Global, p: &Program, times: u32) -> Result<usize, Memory> {
     let mut found = 0;
     for _ in 0..times {
         found = if has_cycle(alloc, p)? { 1 } else { 0 };
@@ -109,7 +110,7 @@ fn are_within(nodes: u32, edges: &[(u32, u32)]) -> bool
 }
 
 // The edges of a program.
-fn edges(alloc: Global, p: &Program) -> Result<Vec<(u32, u32)>, AllocError> {
+fn edges(alloc: Global, p: &Program) -> Result<Vec<(u32, u32)>, Memory> {
     let mut edges = Vec::new(alloc);
     for rule in &p.rules {
         edges.push((rule.source, rule.target))?;
@@ -118,7 +119,7 @@ fn edges(alloc: Global, p: &Program) -> Result<Vec<(u32, u32)>, AllocError> {
 }
 
 // How many components the graph has.
-fn listings(alloc: Global, p: &Program, nodes: u32, times: u32) -> Result<usize, AllocError> {
+fn listings(alloc: Global, p: &Program, nodes: u32, times: u32) -> Result<usize, Memory> {
     let edges = edges(alloc, p)?;
     let mut found = 0;
     if are_within(nodes, &edges) {
@@ -130,7 +131,7 @@ fn listings(alloc: Global, p: &Program, nodes: u32, times: u32) -> Result<usize,
 }
 
 // How many symbols the graph has.
-fn graphs(alloc: Global, p: &Program, times: u32) -> Result<usize, AllocError> {
+fn graphs(alloc: Global, p: &Program, times: u32) -> Result<usize, Memory> {
     let mut found = 0;
     if p.rules.len() < 1 << 32 {
         for _ in 0..times {
@@ -142,7 +143,7 @@ fn graphs(alloc: Global, p: &Program, times: u32) -> Result<usize, AllocError> {
 }
 
 // How many symbols there are to be reached.
-fn floods(alloc: Global, p: &Program, times: u32) -> Result<usize, AllocError> {
+fn floods(alloc: Global, p: &Program, times: u32) -> Result<usize, Memory> {
     let mut found = 0;
     if p.rules.len() < 1 << 32 {
         let graph = Graph::new(alloc, p)?;
@@ -154,7 +155,7 @@ fn floods(alloc: Global, p: &Program, times: u32) -> Result<usize, AllocError> {
 }
 
 // Each rule has no time, and the virtual entry has one.
-fn flags(alloc: Global, count: usize) -> Result<Vec<bool>, AllocError> {
+fn flags(alloc: Global, count: usize) -> Result<Vec<bool>, Memory> {
     let mut flags = Vec::new(alloc);
     flags.push(false)?;
     for _ in 0..count {
@@ -170,7 +171,7 @@ fn sets(
     untimed: &[bool],
     rule: u32,
     times: u32,
-) -> Result<usize, AllocError> {
+) -> Result<usize, Memory> {
     let mut found = 0;
     if p.rules.len() < 1 << 32 {
         let graph = Graph::new(alloc, p)?;
@@ -188,7 +189,7 @@ fn sets(
 }
 
 // The set of the last rule, all rules being untimed.
-fn last_sets(alloc: Global, p: &Program, times: u32) -> Result<usize, AllocError> {
+fn last_sets(alloc: Global, p: &Program, times: u32) -> Result<usize, Memory> {
     match u32::try_from(p.rules.len()) {
         Ok(last) => sets(alloc, p, &flags(alloc, p.rules.len())?, last, times),
         Err(_) => Err(AllocError),
@@ -196,7 +197,7 @@ fn last_sets(alloc: Global, p: &Program, times: u32) -> Result<usize, AllocError
 }
 
 // The text of a chain of rules.
-fn text(alloc: Global, rules: u32) -> Result<String, AllocError> {
+fn text(alloc: Global, rules: u32) -> Result<String, Memory> {
     let mut text = String::from_str(alloc, "(STARTTERM (FUNCTIONSYMBOLS l0))(RULES ")?;
     for i in 0..rules {
         let next = i + 1;
@@ -208,7 +209,7 @@ fn text(alloc: Global, rules: u32) -> Result<String, AllocError> {
 }
 
 // Reads a text.
-fn readings(alloc: Global, text: &str, times: u32) -> Result<usize, AllocError> {
+fn readings(alloc: Global, text: &str, times: u32) -> Result<usize, Memory> {
     for _ in 0..times {
         if read(alloc, text.as_bytes()).is_err() {
             return Err(AllocError);
@@ -218,7 +219,7 @@ fn readings(alloc: Global, text: &str, times: u32) -> Result<usize, AllocError> 
 }
 
 // Whether the program of a text has a cycle.
-fn read_cycles(alloc: Global, text: &str, times: u32) -> Result<usize, AllocError> {
+fn read_cycles(alloc: Global, text: &str, times: u32) -> Result<usize, Memory> {
     match read(alloc, text.as_bytes()) {
         Ok(p) => cycles(alloc, &p, times),
         Err(_) => Err(AllocError),
@@ -226,13 +227,7 @@ fn read_cycles(alloc: Global, text: &str, times: u32) -> Result<usize, AllocErro
 }
 
 // Makes the call that the words name.
-fn called(
-    alloc: Global,
-    call: &str,
-    graph: &str,
-    nodes: u32,
-    times: u32,
-) -> Result<usize, AllocError> {
+fn called(alloc: Global, call: &str, graph: &str, nodes: u32, times: u32) -> Result<usize, Memory> {
     if graph == "text" {
         let text = text(alloc, nodes)?;
         return if call == "read" {
@@ -252,7 +247,7 @@ fn called(
 }
 
 // What the words ask for.
-fn told(alloc: Global, words: &[String]) -> Result<usize, AllocError> {
+fn told(alloc: Global, words: &[String]) -> Result<usize, Memory> {
     match words {
         [_, call, graph, nodes, times] => called(
             alloc,

@@ -3,9 +3,9 @@ use Rattle.std.proofs.Common.{ℕ, ◌<◌, ◌≤◌, List, [], ◌∷◌, arit
 use Rattle.std.specs.Prelude.{ℤ, nat_abs}
 use Rattle.std.specs.List.{All, AllByRecursion}
 use Rattle.std.proofs.lemmas.List.Elements.{All-nil, All-cons}
-use Rattle.model.specs.Programs.{Rule}
-use Rattle.linear_forms.specs.Forms.{Form}
-use Rattle.model.specs.Limits.{coefficient_limit}
+use Rattle.poly_terms.specs.model.Programs.{Rule}
+use Rattle.poly_terms.specs.linear_forms.Forms.{Form}
+use Rattle.poly_terms.specs.model.Limits.{coefficient_limit}
 use Rattle.farkas_cert.specs.Sizes.{row_limit, AreRowNumbers, HasRowNumbers}
 use Rattle.farkas_cert.proofs.Sums.{rows_of_a_rule}
 use Rattle.guard_prep.specs.Prepared.{rows_of, unknowns_of}

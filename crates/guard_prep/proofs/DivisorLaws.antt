@@ -1,5 +1,6 @@
 -- The greatest common divisor of coefficients.
-use Rattle.std.proofs.Common.{◌≡◌, ℕ, zero, suc, ◌+◌, ◌%◌, ◌<◌, ◌≤◌, ◌⊎◌, inl, inr, List, [], ◌∷◌, ◌++◌, length, get_or, Bool, true, false, ◌&&◌, nat_eq, refl, ap, sym, ◌∙◌, subst, arith, if◌then◌else◌}
+use Rattle.std.proofs.Common.{◌≡◌, ℕ, zero, suc, ◌+◌, ◌%◌, ◌<◌, ◌≤◌, ◌⊎◌, inl, inr, List, [], ◌∷◌, ◌++◌, length, get_or}
+use Rattle.std.proofs.Common.{Bool, true, false, ◌&&◌, nat_eq, refl, ap, sym, ◌∙◌, subst, arith, if◌then◌else◌}
 use Rattle.std.specs.Prelude.{ℤ, nat_abs}
 use Rattle.std.specs.Int.{IsGcd, ◌∣◌}
 use Rattle.std.specs.List.{AllByRecursion}
@@ -7,7 +8,7 @@ use Rattle.std.proofs.lemmas.Bool.{cases_eq}
 use Rattle.std.proofs.lemmas.Bool.Decides.{nat_tests}
 use Rattle.std.proofs.lemmas.Nat.Gcd.{dvd-zero, dvd_trans, le_of_dvd, dvd_of_mod-eq-zero, mod-eq-zero_of_dvd}
 use Rattle.std.proofs.Math.Nat.{pos_of_dvd_of_pos}
-use Rattle.linear_forms.specs.Sizes.{total_size}
+use Rattle.poly_terms.specs.linear_forms.Sizes.{total_size}
 use Rattle.guard_prep.specs.Tightening.{divides_all, divisor_upto, divisor_of}
 
 -- a number divides each coefficient

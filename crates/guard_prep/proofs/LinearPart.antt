@@ -1,12 +1,14 @@
 -- At whole numbers the rows of a rule say what the linear part of its guard says.
-use Rattle.std.proofs.Common.{◌≡◌, ℕ, zero, suc, ◌+◌, ◌≤◌, List, [], ◌∷◌, ◌++◌, Bool, length, sym, subst, arith, if◌then◌else◌}
+use Rattle.std.proofs.Common.{◌≡◌, ℕ, zero, suc, ◌+◌, ◌≤◌, List, [], ◌∷◌, ◌++◌, Bool, length, sym, subst, arith}
+use Rattle.std.proofs.Common.{if◌then◌else◌}
 use Rattle.std.specs.Prelude.{ℤ, pos, ◌-ℤ◌, neg_ℤ, ◌≤ℤ◌, ◌<ℤ◌}
 use Rattle.std.specs.List.{AllByRecursion}
 use Rattle.std.proofs.lemmas.Int.{ints}
-use Rattle.model.specs.Terms.{Term, value}
-use Rattle.model.specs.Programs.{Relation, AtLeast, MoreThan, AtMost, LessThan, EqualTo, Related, Atom, Always, Compare, AtomHolds, Rule}
-use Rattle.linear_forms.specs.Forms.{Form, at, form_value}
-use Rattle.linear_forms.specs.Points.{IsPoint}
+use Rattle.poly_terms.specs.model.Terms.{Term, value}
+use Rattle.poly_terms.specs.model.Programs.{Relation, AtLeast, MoreThan, AtMost, LessThan, EqualTo, Related, Atom, Always, Compare}
+use Rattle.poly_terms.specs.model.Programs.{AtomHolds, Rule}
+use Rattle.poly_terms.specs.linear_forms.Forms.{Form, at, form_value}
+use Rattle.poly_terms.specs.linear_forms.Points.{IsPoint}
 use Rattle.poly_terms.specs.Expanding.{expanded}
 use Rattle.poly_terms.specs.Rows.{linear_form}
 use Rattle.its_model.specs.Valid.{difference_of, IsValidAtom}
@@ -14,7 +16,8 @@ use Rattle.guard_prep.specs.Tightening.{tightened}
 use Rattle.guard_prep.specs.Prepared.{rows_by, rows_of_atom, rows_of_guard, all_tightened, rows_of, unknowns_of}
 use Rattle.guard_prep.specs.Laws.{IsPreparable, IsLinear, LinearPartHolds, RowsAreTheLinearPart}
 use Rattle.guard_prep.proofs.TighteningLaws.{tightened-keeps}
-use Rattle.guard_prep.proofs.PointLaws.{AreMet, met-meets, meets-met, met-tightened, opposite-value, reads-difference, form-value, guard-met}
+use Rattle.guard_prep.proofs.PointLaws.{AreMet, met-meets, meets-met, met-tightened, opposite-value, reads-difference}
+use Rattle.guard_prep.proofs.PointLaws.{form-value, guard-met}
 
 -- two lists of rows that are met are met each
 met-front : (z : ℕ → ℤ) (xs ys : List Form) → AreMet z (xs ++ ys) → AreMet z xs

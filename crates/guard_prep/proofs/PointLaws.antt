@@ -1,16 +1,18 @@
 -- Where a guard holds, the values of the variables and of the bent updates are a point of the rows.
-use Rattle.std.proofs.Common.{◌≡◌, ℕ, zero, suc, ◌+◌, ◌<◌, ◌≤◌, List, [], ◌∷◌, ◌++◌, Bool, true, false, length, map, get_or, refl, ap, sym, ◌∙◌, subst, arith, if◌then◌else◌}
+use Rattle.std.proofs.Common.{◌≡◌, ℕ, zero, suc, ◌+◌, ◌<◌, ◌≤◌, List, [], ◌∷◌, ◌++◌, Bool, true, false, length, map}
+use Rattle.std.proofs.Common.{get_or, refl, ap, sym, ◌∙◌, subst, arith, if◌then◌else◌}
 use Rattle.std.specs.Prelude.{ℤ, pos, ◌+ℤ◌, ◌-ℤ◌, ◌*ℤ◌, neg_ℤ, ◌≤ℤ◌, ◌<ℤ◌}
 use Rattle.std.specs.List.{All, AllByRecursion}
 use Rattle.std.proofs.lemmas.Int.{ints}
 use Rattle.std.proofs.lemmas.List.{append_assoc, length-append, get_or_at}
 use Rattle.std.proofs.lemmas.Bool.Decides.{nat_tests}
 use Rattle.int_laws.proofs.RingLaws.{neg-mul_ℤ}
-use Rattle.model.specs.Terms.{Term, value}
-use Rattle.model.specs.Programs.{Relation, AtLeast, MoreThan, AtMost, LessThan, EqualTo, Related, Atom, Always, Compare, AtomHolds, GuardHolds, Rule}
-use Rattle.model.specs.Polynomials.{Polynomial, degree_of}
-use Rattle.linear_forms.specs.Forms.{Form, at, list_dot, form_value}
-use Rattle.linear_forms.specs.Points.{Meets, IsPoint}
+use Rattle.poly_terms.specs.model.Terms.{Term, value}
+use Rattle.poly_terms.specs.model.Programs.{Relation, AtLeast, MoreThan, AtMost, LessThan, EqualTo, Related, Atom, Always, Compare}
+use Rattle.poly_terms.specs.model.Programs.{AtomHolds, GuardHolds, Rule}
+use Rattle.poly_terms.specs.model.Polynomials.{Polynomial, degree_of}
+use Rattle.poly_terms.specs.linear_forms.Forms.{Form, at, list_dot, form_value}
+use Rattle.poly_terms.specs.linear_forms.Points.{Meets, IsPoint}
 use Rattle.poly_terms.specs.Checked.{ReadsBelow}
 use Rattle.poly_terms.specs.Expanding.{expanded, variable_form}
 use Rattle.poly_terms.specs.Rows.{linear_form}
@@ -19,7 +21,8 @@ use Rattle.poly_terms.proofs.RowLaws.{linear_form-value}
 use Rattle.poly_terms.proofs.VariableLaws.{variables-expanded, variables-more, value-append_right}
 use Rattle.its_model.specs.Valid.{difference_of, IsValidAtom, IsValidTerm}
 use Rattle.guard_prep.specs.Tightening.{tightened}
-use Rattle.guard_prep.specs.Prepared.{is_bent, count_true, opposite_form, rows_by, rows_of_atom, rows_of_guard, all_tightened, rows_of, news_from, news_of, unknowns_of}
+use Rattle.guard_prep.specs.Prepared.{is_bent, count_true, opposite_form, rows_by, rows_of_atom, rows_of_guard}
+use Rattle.guard_prep.specs.Prepared.{all_tightened, rows_of, news_from, news_of, unknowns_of}
 use Rattle.guard_prep.specs.Laws.{IsPreparable, IsLinear, LinearPartHolds, bent_values, point_of, GuardsGivePoints}
 use Rattle.guard_prep.proofs.TighteningLaws.{tightened-keeps}
 

@@ -1,15 +1,16 @@
 -- The numbers of rows and new values, and how many there are.
-use Rattle.std.proofs.Common.{◌≡◌, ℕ, zero, suc, ◌+◌, ◌*◌, ◌/◌, ◌≤◌, List, [], ◌∷◌, ◌++◌, Bool, true, false, length, map, refl, ap, sym, ◌∙◌, subst, arith, if◌then◌else◌}
+use Rattle.std.proofs.Common.{◌≡◌, ℕ, zero, suc, ◌+◌, ◌*◌, ◌/◌, ◌≤◌, List, [], ◌∷◌, ◌++◌, Bool, true, false, length}
+use Rattle.std.proofs.Common.{map, refl, ap, sym, ◌∙◌, subst, arith, if◌then◌else◌}
 use Rattle.std.specs.Prelude.{ℤ, pos, negsuc, neg_ℤ, nat_abs, int_le, int_div, None}
 use Rattle.std.specs.Int.{int_div_euclid}
 use Rattle.std.specs.List.{AllByRecursion, range_with_len}
 use Rattle.std.proofs.lemmas.List.{length-map, length-append}
 use Rattle.std.proofs.Math.Nat.{div-le_self}
-use Rattle.model.specs.Limits.{coefficient_limit}
-use Rattle.model.specs.Terms.{Term}
-use Rattle.model.specs.Programs.{Relation, AtLeast, MoreThan, AtMost, LessThan, EqualTo, Atom, Always, Compare, Rule}
-use Rattle.model.specs.Polynomials.{Polynomial}
-use Rattle.linear_forms.specs.Forms.{Form}
+use Rattle.poly_terms.specs.model.Limits.{coefficient_limit}
+use Rattle.poly_terms.specs.model.Terms.{Term}
+use Rattle.poly_terms.specs.model.Programs.{Relation, AtLeast, MoreThan, AtMost, LessThan, EqualTo, Atom, Always, Compare, Rule}
+use Rattle.poly_terms.specs.model.Polynomials.{Polynomial}
+use Rattle.poly_terms.specs.linear_forms.Forms.{Form}
 use Rattle.poly_terms.specs.Expanding.{expanded, variable_form}
 use Rattle.poly_terms.specs.Faults.{first_fault}
 use Rattle.poly_terms.specs.Ordered.{IsAscending, IsBounded}
@@ -20,7 +21,8 @@ use Rattle.poly_terms.proofs.WideLaws.{nat_abs-neg}
 use Rattle.poly_terms.proofs.VariableLaws.{coefficient-bounded}
 use Rattle.its_model.specs.Valid.{difference_of, IsValidAtom, IsValidTerm}
 use Rattle.guard_prep.specs.Tightening.{divisor_of, tightened_by, tightened}
-use Rattle.guard_prep.specs.Prepared.{is_bent, count_true, opposite_form, rows_by, rows_of_atom, rows_of_guard, all_tightened, news_from, unknowns_of}
+use Rattle.guard_prep.specs.Prepared.{is_bent, count_true, opposite_form, rows_by, rows_of_atom, rows_of_guard}
+use Rattle.guard_prep.specs.Prepared.{all_tightened, news_from, unknowns_of}
 use Rattle.guard_prep.specs.Laws.{IsPreparable, IsSmallForm, RowsAreSmall}
 
 -- two lists of small forms, one after the other

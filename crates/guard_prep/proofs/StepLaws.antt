@@ -3,10 +3,11 @@ use Rattle.std.proofs.Common.{◌≡◌, ℕ, zero, suc, ◌+◌, ◌≤◌, Lis
 use Rattle.std.specs.Prelude.{pos, Some, slice_get}
 use Rattle.std.specs.List.{AllByRecursion}
 use Rattle.std.proofs.lemmas.List.{length-append, get_or_append_left}
-use Rattle.model.specs.Programs.{Symbol, Rule, Program, rule_at, arity_in}
-use Rattle.model.specs.Runs.{Config, Step, IsStep}
+use Rattle.poly_terms.specs.model.Programs.{Symbol, Rule, Program, rule_at, arity_in}
+use Rattle.poly_terms.specs.model.Runs.{Config, Step, IsStep}
 use Rattle.its_model.specs.Valid.{IsValid, IsValidSymbol}
-use Rattle.guard_prep.specs.Laws.{IsPreparable, ValidRulesArePreparable, bent_values, point_of, IsPointOfStep, StepsArePoints}
+use Rattle.guard_prep.specs.Laws.{IsPreparable, ValidRulesArePreparable, bent_values, point_of, IsPointOfStep}
+use Rattle.guard_prep.specs.Laws.{StepsArePoints}
 use Rattle.guard_prep.proofs.PointLaws.{bent-length, guards-give-points}
 pub use Rattle.its_model.proofs.ValidLaws.{rule-valid as valid-at}
 

@@ -1,5 +1,7 @@
 -- Dividing a row by a common divisor of its coefficients keeps its whole solutions.
-use Rattle.std.proofs.Common.{◌≡◌, ◌≢◌, ℕ, zero, suc, ◌+◌, ◌-◌, ◌*◌, ◌/◌, ◌%◌, ◌<◌, ◌≤◌, List, [], ◌∷◌, ◌++◌, Bool, true, false, length, map, take, drop, set, get_or, refl, ap, sym, ◌∙◌, subst, arith, if◌then◌else◌}
+use Rattle.std.proofs.Common.{◌≡◌, ◌≢◌, ℕ, zero, suc, ◌+◌, ◌-◌, ◌*◌, ◌/◌, ◌%◌, ◌<◌, ◌≤◌, List, [], ◌∷◌, ◌++◌, Bool}
+use Rattle.std.proofs.Common.{true, false, length, map, take, drop, set, get_or, refl, ap, sym, ◌∙◌, subst, arith}
+use Rattle.std.proofs.Common.{if◌then◌else◌}
 use Rattle.std.specs.Prelude.{ℤ, pos, negsuc, ◌+ℤ◌, ◌*ℤ◌, neg_ℤ, ◌≤ℤ◌, nat_abs, int_le, int_div, int_rem, ◌↔◌}
 use Rattle.std.specs.Int.{int_div_euclid, ◌∣◌}
 use Rattle.std.specs.List.{All}
@@ -8,9 +10,9 @@ use Rattle.std.proofs.lemmas.Nat.{div-add-mod'}
 use Rattle.std.proofs.lemmas.Nat.Gcd.{mod-eq-zero_of_dvd}
 use Rattle.int_laws.proofs.RingLaws.{mul-add_ℤ, mul_assoc_ℤ, mul_comm_ℤ}
 use Rattle.int_laws.proofs.OrderLaws.{mul-nonneg_ℤ, mul-le-mul_ℤ}
-use Rattle.linear_forms.specs.Forms.{Form, list_dot, form_value}
-use Rattle.linear_forms.specs.Sizes.{total_size}
-use Rattle.linear_forms.specs.Points.{Meets}
+use Rattle.poly_terms.specs.linear_forms.Forms.{Form, list_dot, form_value}
+use Rattle.poly_terms.specs.linear_forms.Sizes.{total_size}
+use Rattle.poly_terms.specs.linear_forms.Points.{Meets}
 use Rattle.guard_prep.specs.Tightening.{divisor_of, tightened_by, tightened}
 use Rattle.guard_prep.specs.Laws.{TighteningKeepsWholeSolutions}
 use Rattle.guard_prep.proofs.DivisorLaws.{DividesEach, divisor-divides, divisor-zero}

@@ -3,14 +3,15 @@ use Rattle.std.proofs.Common.{◌≡◌, ℕ, zero, suc, ◌<◌, List, [], ◌�
 use Rattle.std.specs.Prelude.{ℤ, pos, negsuc, ◌≤ℤ◌}
 use Rattle.std.proofs.lemmas.Int.{ints}
 use Rattle.std.proofs.lemmas.List.Elements.{All-nil, All-cons, All-head}
-use Rattle.model.specs.Programs.{Atom, AtomHolds}
-use Rattle.linear_forms.specs.Forms.{Form, at, form_value}
-use Rattle.linear_forms.specs.Points.{IsPoint}
+use Rattle.poly_terms.specs.model.Programs.{Atom, AtomHolds}
+use Rattle.poly_terms.specs.linear_forms.Forms.{Form, at, form_value}
+use Rattle.poly_terms.specs.linear_forms.Points.{IsPoint}
 use Rattle.guard_prep.specs.Tightening.{divisor_of}
 use Rattle.guard_prep.specs.Prepared.{rows_of}
 use Rattle.guard_prep.specs.Laws.{IsLinear}
 use Rattle.guard_prep.specs.WorkedRows.{three}
-use Rattle.guard_prep.specs.WorkedPoints.{at_least_one, square_at_least, worked_rule, RulesAreTold, LinearPartsAreTold, StepPointsAreTold, SmallFormsAreTold, PointsAreWorkedOut}
+use Rattle.guard_prep.specs.WorkedPoints.{at_least_one, square_at_least, worked_rule, RulesAreTold, LinearPartsAreTold}
+use Rattle.guard_prep.specs.WorkedPoints.{StepPointsAreTold, SmallFormsAreTold, PointsAreWorkedOut}
 
 -- which rules have rows
 rules : RulesAreTold

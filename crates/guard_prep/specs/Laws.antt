@@ -2,12 +2,12 @@
 use Rattle.std.specs.Prelude.{◌≡◌, ◌↔◌, ℕ, ◌+◌, ◌≤◌, ◌<◌, false, if◌then◌else◌, List, [], ◌∷◌, ◌++◌, length, map, ℤ}
 use Rattle.std.specs.Prelude.{pos, ◌≤ℤ◌, nat_abs, Some, ⊤}
 use Rattle.std.specs.List.{All, AllByRecursion}
-use Rattle.model.specs.Limits.{place_limit, variable_limit, atom_limit, coefficient_limit}
-use Rattle.model.specs.Terms.{Term, value}
-use Rattle.model.specs.Programs.{Atom, Always, Compare, Rule, Program, rule_at, AtomHolds, GuardHolds}
-use Rattle.model.specs.Runs.{Config, Step, IsStep}
-use Rattle.linear_forms.specs.Forms.{Form, at, form_value}
-use Rattle.linear_forms.specs.Points.{Meets, IsPoint}
+use Rattle.poly_terms.specs.model.Limits.{place_limit, variable_limit, atom_limit, coefficient_limit}
+use Rattle.poly_terms.specs.model.Terms.{Term, value}
+use Rattle.poly_terms.specs.model.Programs.{Atom, Always, Compare, Rule, Program, rule_at, AtomHolds, GuardHolds}
+use Rattle.poly_terms.specs.model.Runs.{Config, Step, IsStep}
+use Rattle.poly_terms.specs.linear_forms.Forms.{Form, at, form_value}
+use Rattle.poly_terms.specs.linear_forms.Points.{Meets, IsPoint}
 use Rattle.farkas_cert.specs.Sizes.{HasRowNumbers, AreSmall}
 use Rattle.poly_terms.specs.Expanding.{expanded}
 use Rattle.its_model.specs.Valid.{IsValid, IsValidAtom, IsValidTerm, difference_of}

@@ -6,3 +6,8 @@ pub mod Views
 pub mod Laws
 pub mod WorkedRows
 pub mod WorkedPoints
+-- the crates below, which callers name through this one
+pub use Rattle.poly_terms.specs.model
+pub use Rattle.poly_terms.specs.linear_forms
+pub use Rattle.poly_terms.specs as poly_terms
+pub use Rattle.its_model.specs as its_model

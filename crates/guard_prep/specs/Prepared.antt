@@ -1,9 +1,9 @@
 -- The linear rows of a rule, its new values, bent places and polynomials.
 use Rattle.std.specs.Prelude.{ℕ, suc, ◌+◌, Bool, true, false, if◌then◌else◌, nat_lt, List, [], ◌∷◌, ◌++◌, map}
 use Rattle.std.specs.Prelude.{neg_ℤ}
-use Rattle.model.specs.Programs.{Relation, AtLeast, MoreThan, AtMost, LessThan, EqualTo, Atom, Always, Compare, Rule}
-use Rattle.model.specs.Polynomials.{Polynomial, degree_of}
-use Rattle.linear_forms.specs.Forms.{Form}
+use Rattle.poly_terms.specs.model.Programs.{Relation, AtLeast, MoreThan, AtMost, LessThan, EqualTo, Atom, Always, Compare, Rule}
+use Rattle.poly_terms.specs.model.Polynomials.{Polynomial, degree_of}
+use Rattle.poly_terms.specs.linear_forms.Forms.{Form}
 use Rattle.poly_terms.specs.Expanding.{expanded, variable_form}
 use Rattle.poly_terms.specs.Rows.{linear_form}
 use Rattle.its_model.specs.Valid.{difference_of}

@@ -2,8 +2,8 @@
 use Rattle.std.specs.Prelude.{ℕ, zero, suc, ◌%◌, Bool, true, ◌&&◌, nat_eq, if◌then◌else◌, List, [], ◌∷◌, map, ℤ}
 use Rattle.std.specs.Prelude.{pos, negsuc, nat_abs, int_le, int_div}
 use Rattle.std.specs.Int.{int_div_euclid}
-use Rattle.linear_forms.specs.Forms.{Form}
-use Rattle.linear_forms.specs.Sizes.{total_size}
+use Rattle.poly_terms.specs.linear_forms.Forms.{Form}
+use Rattle.poly_terms.specs.linear_forms.Sizes.{total_size}
 
 -- whether a number divides all coefficients
 abbrev pub divides_all : ℕ → List ℤ → Bool

@@ -1,10 +1,10 @@
 -- Which rules have rows, and which points are those of steps, worked out by hand.
 use Rattle.std.specs.Prelude.{◌≡◌, [], ◌∷◌, pos, negsuc}
-use Rattle.model.specs.Terms.{Term, Literal, Variable, Subtraction, Exponentiation}
-use Rattle.model.specs.Programs.{AtLeast, Atom, Compare, Rule, GuardHolds}
-use Rattle.model.specs.Runs.{Config}
-use Rattle.linear_forms.specs.Forms.{at}
-use Rattle.linear_forms.specs.Points.{IsPoint}
+use Rattle.poly_terms.specs.model.Terms.{Term, Literal, Variable, Subtraction, Exponentiation}
+use Rattle.poly_terms.specs.model.Programs.{AtLeast, Atom, Compare, Rule, GuardHolds}
+use Rattle.poly_terms.specs.model.Runs.{Config}
+use Rattle.poly_terms.specs.linear_forms.Forms.{at}
+use Rattle.poly_terms.specs.linear_forms.Points.{IsPoint}
 use Rattle.guard_prep.specs.Prepared.{rows_of}
 use Rattle.guard_prep.specs.Laws.{IsPreparable, IsLinear, LinearPartHolds, bent_values, point_of, IsPointOfStep}
 use Rattle.guard_prep.specs.Laws.{IsSmallForm}

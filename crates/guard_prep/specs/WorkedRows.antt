@@ -1,8 +1,8 @@
 -- Rows that were worked out by hand.
 use Rattle.std.specs.Prelude.{◌≡◌, List, [], ◌∷◌, ℤ, pos, negsuc, true, false}
-use Rattle.model.specs.Terms.{Term, Literal, Variable, Addition, Subtraction, Multiplication}
-use Rattle.model.specs.Programs.{AtLeast, MoreThan, AtMost, LessThan, EqualTo, Atom, Always, Compare, Rule}
-use Rattle.linear_forms.specs.Forms.{Form}
+use Rattle.poly_terms.specs.model.Terms.{Term, Literal, Variable, Addition, Subtraction, Multiplication}
+use Rattle.poly_terms.specs.model.Programs.{AtLeast, MoreThan, AtMost, LessThan, EqualTo, Atom, Always, Compare, Rule}
+use Rattle.poly_terms.specs.linear_forms.Forms.{Form}
 use Rattle.guard_prep.specs.Tightening.{divisor_of, tightened}
 use Rattle.guard_prep.specs.Prepared.{rows_of, news_of, bent_of, unknowns_of}
 

@@ -1,4 +1,4 @@
-// The laws of rows: what the soundness of proofs by them rests on.
+//! The laws of rows: what the soundness of proofs by them rests on.
 
 ghost use Rattle.guard_prep.specs.Laws.{ValidRulesArePreparable, TighteningKeepsWholeSolutions, GuardsGivePoints};
 ghost use Rattle.guard_prep.specs.Laws.{RowsAreTheLinearPart};

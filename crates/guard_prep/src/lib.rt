@@ -1,5 +1,5 @@
-// A rule becomes linear rows here. Contract to the layer above: `rows` gives exactly the rows, new values, bent places
-// and polynomials of the plain rule (`prepared`), and each step of a valid program is a point of its rule's rows.
+//! A rule becomes linear rows here. Contract to the layer above: `rows` gives exactly the rows, new values, bent places
+//! and polynomials of the plain rule (`prepared`), and each step of a valid program is a point of its rule's rows.
 #![tactic(auto)]
 
 mod laws;

@@ -1,9 +1,9 @@
-// From a rule to its rows.
+//! From a rule to its rows.
 
 ghost use Rattle.std.specs.Prelude.{◌≡◌, ◌+◌, ◌<◌, ◌≤◌, ◌++◌, length, map, nat_abs, IfOk, OnOk, None};
 ghost use Rattle.std.specs.List.{AllByRecursion};
-ghost use Rattle.model.specs.Limits.{place_limit, coefficient_limit};
-ghost use Rattle.model.specs.Programs.{Compare};
+ghost use Rattle.poly_terms.specs.model.Limits.{place_limit, coefficient_limit};
+ghost use Rattle.poly_terms.specs.model.Programs.{Compare};
 ghost use Rattle.poly_terms.specs.Expanding.{expanded, variable_form};
 ghost use Rattle.poly_terms.specs.Faults.{first_fault};
 ghost use Rattle.poly_terms.specs.Ordered.{IsAscending};

@@ -1,4 +1,4 @@
-// What is prepared of a rule.
+//! What is prepared of a rule.
 
 use poly_terms::{Poly, Row};
 

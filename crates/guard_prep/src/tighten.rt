@@ -1,10 +1,10 @@
-// Rows over whole numbers, tightened.
+//! Rows over whole numbers, tightened.
 
 ghost use Rattle.std.specs.Prelude.{◌≡◌, ◌≤◌, ◌<◌, ◌++◌, length, map, ℤ, pos, ◌<ℤ◌, nat_abs, int_div, slice_set};
 ghost use Rattle.std.specs.Prelude.{slice_index_or, IfOk, OnOk};
 ghost use Rattle.std.specs.List.{AllByRecursion};
 ghost use Rattle.std.specs.Int.{int_div_euclid};
-ghost use Rattle.model.specs.Limits.{coefficient_limit};
+ghost use Rattle.poly_terms.specs.model.Limits.{coefficient_limit};
 ghost use Rattle.poly_terms.specs.Views.{form_of};
 ghost use Rattle.guard_prep.specs.Tightening.{divisor_of, tightened, tightened_by};
 

@@ -4,7 +4,8 @@ use Rattle.std.specs.Prelude.{ℤ, pos, negsuc, ◌+ℤ◌, ◌*ℤ◌, ◌&&◌
 use Rattle.std.proofs.lemmas.Int.{ints}
 use Rattle.int_laws.proofs.RingLaws.{add-mul_ℤ, mul-add_ℤ, mul_assoc_ℤ, mul_comm_ℤ}
 use Rattle.int_laws.specs.Polynomial.{first_value, other_values, value_of_variable}
-use Rattle.int_laws.specs.NormalForm.{Horner, number, nested, horner_value, horner_variable, number_plus, horner_sum, number_times, times_each, horner_product, is_zero, is_horner_zero}
+use Rattle.int_laws.specs.NormalForm.{Horner, number, nested, horner_value, horner_variable, number_plus, horner_sum}
+use Rattle.int_laws.specs.NormalForm.{number_times, times_each, horner_product, is_zero, is_horner_zero}
 
 -- a form has its variable's value
 pub horner_variable-value : (i : ℕ) (xs : List ℤ) → horner_value (horner_variable i) xs ≡ value_of_variable i xs

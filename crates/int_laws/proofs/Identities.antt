@@ -4,7 +4,8 @@ use Rattle.std.specs.Prelude.{ℤ, pos, negsuc, ◌+ℤ◌, ◌-ℤ◌, ◌*ℤ�
 use Rattle.std.proofs.lemmas.Int.{ints}
 use Rattle.int_laws.specs.Polynomial.{Polynomial, variable, constant, ◌⊕◌, ◌⊖◌, ◌⊗◌, negated, value}
 use Rattle.int_laws.specs.NormalForm.{horner_value, horner_of, number_times, is_identity}
-use Rattle.int_laws.proofs.HornerValues.{horner_variable-value, horner_sum-value, number_times-value, horner_product-value, horner_zero-value}
+use Rattle.int_laws.proofs.HornerValues.{horner_variable-value, horner_sum-value, number_times-value}
+use Rattle.int_laws.proofs.HornerValues.{horner_product-value, horner_zero-value}
 
 -- Horner's form of a polynomial has the polynomial's value
 pub horner_of-value : (p : Polynomial) (xs : List ℤ) → horner_value (horner_of p) xs ≡ value p xs

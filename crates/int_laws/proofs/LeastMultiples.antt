@@ -1,7 +1,9 @@
 -- The least common multiple, by the greatest common divisor.
 use Rattle.std.proofs.Common.{mul_comm, ◌≡◌, ℕ, ◌*◌, ◌+◌, ◌<◌, ◌≤◌, ap, arith, sym, ◌∙◌, subst, ◌/◌}
 use Rattle.std.specs.Int.{IsGcd, ◌∣◌}
-use Rattle.std.proofs.Math.Nat.{dvd-mul_left, dvd-mul_right, div-mul_cancel, mul-dvd-mul_right, mul-dvd-mul_left, dvd_of_mul-dvd-mul_right, eq-one_of_dvd-one, pos_of_dvd_of_pos, dvd_antisymm, one-mul, le_of_dvd, lt-div-mul-add, mul-div_cancel_left, mul-le-mul_right}
+use Rattle.std.proofs.Math.Nat.{dvd-mul_left, dvd-mul_right, div-mul_cancel, mul-dvd-mul_right, mul-dvd-mul_left}
+use Rattle.std.proofs.Math.Nat.{dvd_of_mul-dvd-mul_right, eq-one_of_dvd-one, pos_of_dvd_of_pos, dvd_antisymm, one-mul}
+use Rattle.std.proofs.Math.Nat.{le_of_dvd, lt-div-mul-add, mul-div_cancel_left, mul-le-mul_right}
 use Rattle.int_laws.specs.Divisors.{IsLeastCommonMultiple, HasNoneWithin}
 use Rattle.int_laws.proofs.Coprime.{euclid}
 

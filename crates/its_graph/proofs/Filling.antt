@@ -1,5 +1,6 @@
 -- The state of a flood: what was found is reached, and what is reached from what was looked at was found.
-use Rattle.std.proofs.Common.{◌≡◌, ◌≢◌, ℕ, ◌+◌, ◌<◌, ◌≤◌, List, [], ◌∷◌, length, All, Contains, refl, sym, ◌∙◌, ap, subst, inl, inr, ◌⊎◌, arith, get_or, Vec}
+use Rattle.std.proofs.Common.{◌≡◌, ◌≢◌, ℕ, ◌+◌, ◌<◌, ◌≤◌, List, [], ◌∷◌, length, All, Contains, refl, sym, ◌∙◌, ap}
+use Rattle.std.proofs.Common.{subst, inl, inr, ◌⊎◌, arith, get_or, Vec}
 use Rattle.std.specs.declared.alloc.Global.{Global}
 use Rattle.std.proofs.lemmas.List.Elements.{Contains-get_or, All-get_or, All-from_get_or}
 use Rattle.std.proofs.lemmas.Bool.{cases_lt}

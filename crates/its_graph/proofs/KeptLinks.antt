@@ -1,5 +1,7 @@
 -- Links that are kept by flags, as edges by allowed rules.
-use Rattle.std.proofs.Common.{◌≡◌, ◌↔◌, ◌⊎◌, inl, inr, ℕ, zero, suc, ◌+◌, ◌<◌, ◌≤◌, List, [], ◌∷◌, length, map, Contains, Vec, Some, None, Bool, true, false, ◌&&◌, get_or, set, replicate, get_or-set_other, get_or-set_same, refl, sym, ◌∙◌, ap, subst, arith}
+use Rattle.std.proofs.Common.{◌≡◌, ◌↔◌, ◌⊎◌, inl, inr, ℕ, zero, suc, ◌+◌, ◌<◌, ◌≤◌, List, [], ◌∷◌, length, map}
+use Rattle.std.proofs.Common.{Contains, Vec, Some, None, Bool, true, false, ◌&&◌, get_or, set, replicate}
+use Rattle.std.proofs.Common.{get_or-set_other, get_or-set_same, refl, sym, ◌∙◌, ap, subst, arith}
 use Rattle.std.specs.Prelude.{slice_get}
 use Rattle.std.specs.List.{All}
 use Rattle.std.specs.declared.alloc.Global.{Global}
@@ -14,7 +16,8 @@ use Rattle.its_graph.specs.Links.{ends_of, kept_links, all_cut}
 use Rattle.its_graph.specs.declared.graph.Graph.{Graph}
 use Rattle.its_graph.specs.Graphs.{flagged, none_of, IsGraphOf}
 use Rattle.its_graph.proofs.Elements.{Told, told}
-use Rattle.its_graph.proofs.PairLists.{Pair, same_pair, pair-cases, pair-later, pair-within, joins-pairs, swap-from, swap-listed}
+use Rattle.its_graph.proofs.PairLists.{Pair, same_pair, pair-cases, pair-later, pair-within, joins-pairs, swap-from}
+use Rattle.its_graph.proofs.PairLists.{swap-listed}
 
 -- a link that is kept comes from an allowed rule
 pub record KeptBy (allowed : List Bool) (i : ℕ) (rules : List Rule) (a b : ℕ) : Type 0 where

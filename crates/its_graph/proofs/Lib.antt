@@ -9,7 +9,7 @@ pub mod TakingClasses
 pub mod Naming
 pub mod Sorting
 pub mod KeySets
-pub mod Chains
+pub mod AllLeadersListed
 pub mod OwnLeaders
 pub mod PairLists
 pub mod Needing

@@ -1,12 +1,15 @@
 -- The nodes of each component from the positions of the leaders, and the listing that they make.
-use Rattle.std.proofs.Common.{◌≡◌, ◌≢◌, ◌⊎◌, inl, inr, ℕ, zero, suc, ◌+◌, ◌-◌, ◌<◌, ◌≤◌, List, [], ◌∷◌, ◌++◌, length, take, map, Contains, Vec, get_or, refl, sym, ◌∙◌, ap, subst, arith, zero-add, add-zero, length-append}
+use Rattle.std.proofs.Common.{◌≡◌, ◌≢◌, ◌⊎◌, inl, inr, ℕ, zero, suc, ◌+◌, ◌-◌, ◌<◌, ◌≤◌, List, [], ◌∷◌, ◌++◌, length}
+use Rattle.std.proofs.Common.{take, map, Contains, Vec, get_or, refl, sym, ◌∙◌, ap, subst, arith, zero-add, add-zero}
+use Rattle.std.proofs.Common.{length-append}
 use Rattle.std.specs.List.{All}
 use Rattle.std.specs.List.Sorted.{IsStrictlyIncreasing}
 use Rattle.std.specs.declared.alloc.Global.{Global}
 use Rattle.std.proofs.lemmas.List.{get_or_default, length-take, get_or-take, take_all, get_or-append-add, length-map}
 use Rattle.std.proofs.Math.Seq.{take-append_seam}
 use Rattle.its_graph.proofs.Sorting.{Contains-take_take}
-use Rattle.std.proofs.lemmas.List.Elements.{All-nil, All-cons, All-head, All-tail, All-weaker, All-get_or, All-from_get_or}
+use Rattle.std.proofs.lemmas.List.Elements.{All-nil, All-cons, All-head, All-tail, All-weaker, All-get_or}
+use Rattle.std.proofs.lemmas.List.Elements.{All-from_get_or}
 use Rattle.model.specs.Paths.{Path, Here, Onward}
 use Rattle.its_graph.specs.Groups.{values_of, values_in, IsPair, items_of}
 use Rattle.its_graph.specs.Components.{IsMutual, IsListed, IsReady, IsNext, IsListing}
@@ -14,8 +17,9 @@ use Rattle.its_graph.specs.Classes.{AreLeaders}
 use Rattle.its_graph.specs.Orders.{Needs, IsNextLeader, EachIsNext, AreLeadersInOrder}
 use Rattle.its_graph.specs.Members.{numbered, AreMembers}
 use Rattle.its_graph.proofs.Elements.{Told, told}
-use Rattle.its_graph.proofs.Chains.{distinct-few}
-use Rattle.its_graph.proofs.PairLists.{AreWithin, pair-within, Pair, pair-cases, pair-later, same_pair, value-listed, value-from}
+use Rattle.its_graph.proofs.AllLeadersListed.{distinct-few}
+use Rattle.its_graph.proofs.PairLists.{AreWithin, pair-within, Pair, pair-cases, pair-later, same_pair, value-listed}
+use Rattle.its_graph.proofs.PairLists.{value-from}
 use Rattle.its_graph.proofs.Needing.{leads-itself}
 use Rattle.its_graph.proofs.Routes.{edge_then, path-within, mutual-turned, mutual-join}
 pub use Rattle.model.proofs.Cases.{IfOk-both as ok-both}

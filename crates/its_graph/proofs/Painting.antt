@@ -1,11 +1,15 @@
 -- What painting nodes does: nothing found is lost, each node of the list gets the new colour, and what gets it is found.
-use Rattle.std.proofs.Common.{◌≡◌, ◌≢◌, ℕ, ◌+◌, ◌<◌, ◌≤◌, List, [], ◌∷◌, ◌++◌, length, All, Contains, refl, sym, ◌∙◌, ap, subst, inl, inr, ◌⊎◌, arith, get_or, set, get_or-set_other, get_or-set_same, length-append, ◌==◌, cond}
+use Rattle.std.proofs.Common.{◌≡◌, ◌≢◌, ℕ, ◌+◌, ◌<◌, ◌≤◌, List, [], ◌∷◌, ◌++◌, length, All, Contains, refl, sym, ◌∙◌}
+use Rattle.std.proofs.Common.{ap, subst, inl, inr, ◌⊎◌, arith, get_or, set, get_or-set_other, get_or-set_same}
+use Rattle.std.proofs.Common.{length-append, ◌==◌, cond}
 use Rattle.std.specs.List.{count_by}
 use Rattle.std.proofs.lemmas.List.{length-set, get_or_append_left}
 use Rattle.std.proofs.lemmas.List.Sums.{sum_by-set}
-use Rattle.std.proofs.lemmas.List.Elements.{All-head, All-tail, Contains-append_left, Contains-append_right, Contains-append_cases}
+use Rattle.std.proofs.lemmas.List.Elements.{All-head, All-tail, Contains-append_left, Contains-append_right}
+use Rattle.std.proofs.lemmas.List.Elements.{Contains-append_cases}
 use Rattle.its_graph.specs.Floods.{Painting, painted, all_painted}
-use Rattle.its_graph.proofs.Elements.{Contains-cons_cases, Contains-first, Contains-later, only_element, none_in_empty, Told, told}
+use Rattle.its_graph.proofs.Elements.{Contains-cons_cases, Contains-first, Contains-later, only_element, none_in_empty}
+use Rattle.its_graph.proofs.Elements.{Told, told}
 
 -- the colour of a node
 abbrev pub color_of : Painting → ℕ → ℕ

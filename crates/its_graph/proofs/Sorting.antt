@@ -1,15 +1,21 @@
 -- Sorting leaders: what settling one and listing one change, and that at the end all are listed.
-use Rattle.std.proofs.Common.{◌≡◌, ◌≢◌, ◌↔◌, ◌⊎◌, inl, inr, ℕ, ◌+◌, ◌<◌, ◌≤◌, List, [], ◌∷◌, ◌++◌, length, take, drop, Bool, true, false, not, if◌then◌else◌, ◌==◌, Contains, Vec, get_or, set, replicate, get_or-set_other, get_or-set_same, refl, sym, ◌∙◌, ap, subst, arith, length-append, cond}
+use Rattle.std.proofs.Common.{◌≡◌, ◌≢◌, ◌↔◌, ◌⊎◌, inl, inr, ℕ, ◌+◌, ◌<◌, ◌≤◌, List, [], ◌∷◌, ◌++◌, length, take, drop}
+use Rattle.std.proofs.Common.{Bool, true, false, not, if◌then◌else◌, ◌==◌, Contains, Vec, get_or, set, replicate}
+use Rattle.std.proofs.Common.{get_or-set_other, get_or-set_same, refl, sym, ◌∙◌, ap, subst, arith, length-append, cond}
 use Rattle.std.specs.List.{All, count_by}
 use Rattle.std.specs.declared.alloc.Global.{Global}
 use Rattle.std.proofs.lemmas.Bool.{cases_lt}
-use Rattle.std.proofs.lemmas.List.{length-set, length-replicate, get_or-replicate, take_all, take-append-le, take-append-drop, take-take, get_or_append_left, get_or_push, get_or_default, get_or_past}
+use Rattle.std.proofs.lemmas.List.{length-set, length-replicate, get_or-replicate, take_all, take-append-le}
+use Rattle.std.proofs.lemmas.List.{take-append-drop, take-take, get_or_append_left, get_or_push, get_or_default}
+use Rattle.std.proofs.lemmas.List.{get_or_past}
 use Rattle.std.proofs.lemmas.List.Sums.{sum_by-set}
-use Rattle.std.proofs.lemmas.List.Elements.{Contains-get_or, Contains-append_left, Contains-push, Contains-push_cases, All-from_get_or}
+use Rattle.std.proofs.lemmas.List.Elements.{Contains-get_or, Contains-append_left, Contains-push, Contains-push_cases}
+use Rattle.std.proofs.lemmas.List.Elements.{All-from_get_or}
 use Rattle.model.specs.Paths.{Here}
 use Rattle.its_graph.specs.declared.order.Sorting.{Sorting}
 use Rattle.its_graph.specs.Groups.{values_in, Joins}
-use Rattle.its_graph.specs.Orders.{IsLeader, IsNextLeader, EachIsNext, AreOrderable, IsFresh, IsMarked, Waits, IsSorting, IsPopped, WaitsOrReady, Settles}
+use Rattle.its_graph.specs.Orders.{IsLeader, IsNextLeader, EachIsNext, AreOrderable, IsFresh, IsMarked, Waits}
+use Rattle.its_graph.specs.Orders.{IsSorting, IsPopped, WaitsOrReady, Settles}
 use Rattle.its_graph.proofs.Elements.{Contains-cons_cases, Contains-first, Contains-later, none_in_empty, Told, told}
 
 -- an element of the first of a list is one of the list

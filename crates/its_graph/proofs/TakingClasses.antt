@@ -1,5 +1,6 @@
 -- The component of an unknown node: what leads to it, and to what it leads among that.
-use Rattle.std.proofs.Common.{◌≡◌, ℕ, ◌<◌, List, [], length, Contains, refl, sym, ◌∙◌, subst, inl, inr, ◌⊎◌, arith, get_or, Vec}
+use Rattle.std.proofs.Common.{◌≡◌, ℕ, ◌<◌, List, [], length, Contains, refl, sym, ◌∙◌, subst, inl, inr, ◌⊎◌, arith}
+use Rattle.std.proofs.Common.{get_or, Vec}
 use Rattle.std.specs.declared.alloc.Global.{Global}
 use Rattle.model.specs.Paths.{Path, Here, Onward}
 use Rattle.its_graph.specs.declared.flood.TheConstants.{UNKNOWN, CANDIDATE, KNOWN}

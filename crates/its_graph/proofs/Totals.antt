@@ -1,5 +1,6 @@
 -- The steps of a run are counted rule by rule: where each rule occurs at most once, there are at most as many as rules.
-use Rattle.std.proofs.Common.{◌≡◌, ◌≢◌, ℕ, zero, suc, ◌+◌, ◌≤◌, ◌<◌, List, [], ◌∷◌, length, true, false, ℤ, Some, None, refl, ◌∙◌, ap, inl, inr, ◌⊎◌, arith, ◌==◌}
+use Rattle.std.proofs.Common.{◌≡◌, ◌≢◌, ℕ, zero, suc, ◌+◌, ◌≤◌, ◌<◌, List, [], ◌∷◌, length, true, false, ℤ, Some, None}
+use Rattle.std.proofs.Common.{refl, ◌∙◌, ap, inl, inr, ◌⊎◌, arith, ◌==◌}
 use Rattle.std.proofs.lemmas.Bool.Decides.{eqb_tells}
 use Rattle.std.proofs.lemmas.Option.{slice_get_within}
 use Rattle.model.specs.Programs.{Program, Rule, rule_at}

@@ -1,5 +1,6 @@
 -- The worked values of components of the graph with one edge from its last node to its first.
-use Rattle.std.proofs.Common.{◌≡◌, ◌⊎◌, inl, inr, ℕ, zero, suc, ◌<◌, ◌≤◌, List, [], ◌∷◌, ◌++◌, Contains, refl, sym, ◌∙◌, ap, subst, arith}
+use Rattle.std.proofs.Common.{◌≡◌, ◌⊎◌, inl, inr, ℕ, zero, suc, ◌<◌, ◌≤◌, List, [], ◌∷◌, ◌++◌, Contains, refl, sym, ◌∙◌}
+use Rattle.std.proofs.Common.{ap, subst, arith}
 use Rattle.std.specs.Prelude.{◌↔◌}
 use Rattle.model.specs.Paths.{Path, Here, Onward}
 use Rattle.its_graph.specs.Components.{IsMutual, IsListed, IsReady, IsNext, IsListing}

@@ -1,7 +1,10 @@
 -- The worked values of components, and of what none is.
 use Rattle.std.proofs.Common.{◌≡◌, ◌⊎◌, inl, inr, ℕ, zero, suc, List, [], ◌∷◌, Contains, refl, sym, subst, arith}
 use Rattle.its_graph.specs.Components.{IsMutual, IsNext, IsListing}
-use Rattle.its_graph.specs.WorkedComponents.{Loop, Backward, zero_alone, MutualNodesAreTold, ListedNodesAreTold, ReadyNodesAreTold, NextComponentsAreTold, ListingsAreTold, InnerLinksAreTold, ComponentsAreWorkedOut}
+use Rattle.its_graph.specs.WorkedComponents.{Loop, Backward, zero_alone, MutualNodesAreWorkedOut}
+use Rattle.its_graph.specs.WorkedComponents.{ListedNodesAreWorkedOut, ReadyNodesAreWorkedOut}
+use Rattle.its_graph.specs.WorkedComponents.{NextComponentsAreWorkedOut, ListingsAreWorkedOut, InnerLinksAreWorkedOut}
+use Rattle.its_graph.specs.WorkedComponents.{ComponentsAreWorkedOut}
 use Rattle.its_graph.specs.Cycles.{HasInnerLink}
 use Rattle.its_graph.proofs.Routes.{mutual-self}
 use Rattle.its_graph.proofs.ListedNodes.{in-first, in-one, in-two}
@@ -10,7 +13,7 @@ use Rattle.its_graph.proofs.Uniqueness.{one_listing}
 use Rattle.its_graph.proofs.WorkedLoop as loop
 use Rattle.its_graph.proofs.WorkedBackward as backward
 
-mutual_nodes : MutualNodesAreTold
+mutual_nodes : MutualNodesAreWorkedOut
 mutual_nodes = record { both = loop.both; one_way = loop.one_way; itself = mutual-self Loop 0; no_path = λ m. omega (arith, backward.apart 0 2 m) }
 
 -- 3 is in none of two components
@@ -23,13 +26,13 @@ no_three c (suc zero, low, e) h = go (in-two 2 1 3 (subst (λ (d : List ℕ). Co
     go (inr f) = omega (arith, f)
 no_three c (suc (suc k), low, e) h = omega (arith, low)
 
-listed_nodes : ListedNodesAreTold
+listed_nodes : ListedNodesAreWorkedOut
 listed_nodes = record {
   second = record { component = 2 ∷ 1 ∷ []; listed = (1, omega arith, refl); member = (1, omega arith, refl) };
   none = λ l. no_three l.component l.listed l.member;
 }
 
-ready_nodes : ReadyNodesAreTold
+ready_nodes : ReadyNodesAreWorkedOut
 ready_nodes = record {
   first = loop.first_ready;
   behind_another = loop.not_first;
@@ -60,7 +63,7 @@ a_node_lacks h = omega (arith, in-one 1 2 ((h.members 2).1 (subst (λ (x : ℕ).
     one : h.least ≡ 1
     one = in-one 1 h.least ((h.members h.least).1 (mutual-self Loop h.least))
 
-next_components : NextComponentsAreTold
+next_components : NextComponentsAreWorkedOut
 next_components = record {
   first = loop.first_next;
   next = loop.then_next;
@@ -78,7 +81,7 @@ other_loop cs other l = other (one_listing Loop 3 _ cs loop.loop_listing l)
 other_backward : (cs : List (List ℕ)) → ((1 ∷ []) ∷ (2 ∷ []) ∷ (0 ∷ []) ∷ [] ≡ cs → ⊥) → IsListing Backward 3 cs → ⊥
 other_backward cs other l = other (one_listing Backward 3 _ cs backward.backward_listing l)
 
-listings : ListingsAreTold
+listings : ListingsAreWorkedOut
 listings = record {
   loop = loop.loop_listing;
   turned = other_loop ((1 ∷ 2 ∷ []) ∷ (0 ∷ []) ∷ []) (λ e. cc);
@@ -118,7 +121,7 @@ no_inner_link h = go h.component h.listed h.holds_from h.holds_to
 none_listed : (c : List ℕ) → Contains {X = List ℕ} [] c → ⊥
 none_listed c (k, low, e) = omega (arith, low)
 
-inner_links : InnerLinksAreTold
+inner_links : InnerLinksAreWorkedOut
 inner_links = record {
   loop = record {
     component = 1 ∷ 2 ∷ [];

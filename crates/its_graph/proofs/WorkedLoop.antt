@@ -1,11 +1,13 @@
 -- The worked values of components of the graph with a loop of two nodes.
-use Rattle.std.proofs.Common.{◌≡◌, ◌⊎◌, inl, inr, ℕ, zero, suc, ◌<◌, ◌≤◌, List, [], ◌∷◌, ◌++◌, Contains, refl, sym, ap, subst, arith}
+use Rattle.std.proofs.Common.{◌≡◌, ◌⊎◌, inl, inr, ℕ, zero, suc, ◌<◌, ◌≤◌, List, [], ◌∷◌, ◌++◌, Contains, refl, sym, ap}
+use Rattle.std.proofs.Common.{subst, arith}
 use Rattle.std.proofs.lemmas.Bool.{cases_lt}
 use Rattle.model.specs.Paths.{Path, Here, Onward}
 use Rattle.its_graph.specs.Components.{IsMutual, IsListed, IsReady, IsNext, IsListing}
 use Rattle.its_graph.specs.WorkedComponents.{Loop, zero_alone}
 use Rattle.its_graph.proofs.Routes.{mutual-self, mutual-turned, one_edge}
-use Rattle.its_graph.proofs.ListedNodes.{in-first, in-one, in-cons, in-two, alone, increasing-one, increasing-two, Below, below-three}
+use Rattle.its_graph.proofs.ListedNodes.{in-first, in-one, in-cons, in-two, alone, increasing-one, increasing-two}
+use Rattle.its_graph.proofs.ListedNodes.{Below, below-three}
 
 -- an edge of the graph
 edge_of : (a b : ℕ) → Loop a b → ((a ≡ 0) × (b ≡ 1)) ⊎ (((a ≡ 1) × (b ≡ 2)) ⊎ ((a ≡ 2) × (b ≡ 1)))

@@ -1,5 +1,6 @@
 -- The worked values of parts of rules.
-use Rattle.std.proofs.Common.{◌≡◌, ◌⊎◌, inl, inr, ℕ, zero, suc, Some, None, true, get_or, refl, sym, ◌∙◌, ap, subst, arith}
+use Rattle.std.proofs.Common.{◌≡◌, ◌⊎◌, inl, inr, ℕ, zero, suc, Some, None, true, get_or, refl, sym, ◌∙◌, ap, subst}
+use Rattle.std.proofs.Common.{arith}
 use Rattle.model.specs.Paths.{Here, HasEdge, HasPath, any_rule, IsInSet, source_of, target_of}
 use Rattle.model.specs.PathValues.{nested, last_two}
 use Rattle.model.specs.Worked.{bare_rule}

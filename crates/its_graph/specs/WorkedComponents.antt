@@ -18,20 +18,20 @@ abbrev pub zero_alone : List (List ℕ)
 zero_alone = (0 ∷ []) ∷ []
 
 -- in the first graph 1 and 2 are in one component, 0 and 1 aren't, and each node is in its own
-pub record MutualNodesAreTold : Type 0 where
+pub record MutualNodesAreWorkedOut : Type 0 where
   pub both : IsMutual Loop 1 2
   pub one_way : ¬ (IsMutual Loop 0 1)
   pub itself : IsMutual Loop 0 0
   pub no_path : ¬ (IsMutual Backward 0 2)
 
 -- of the components [0] and [2, 1] the second has 1, and neither has 3
-pub record ListedNodesAreTold : Type 0 where
+pub record ListedNodesAreWorkedOut : Type 0 where
   pub second : IsListed ((0 ∷ []) ∷ (2 ∷ 1 ∷ []) ∷ []) 1
   pub none : ¬ (IsListed ((0 ∷ []) ∷ (2 ∷ 1 ∷ []) ∷ []) 3)
 
 -- in the first graph of three nodes 0 may come first, and 1 may not, nor may a node past the end; behind [0] 1 and 2
 -- may come, and 0 may not; in the second graph 1 and 2 may come first, and 0 may not
-pub record ReadyNodesAreTold : Type 0 where
+pub record ReadyNodesAreWorkedOut : Type 0 where
   pub first : IsReady Loop 3 [] 0
   pub behind_another : ¬ (IsReady Loop 3 [] 1)
   pub past_the_end : ¬ (IsReady Loop 3 [] 3)
@@ -44,7 +44,7 @@ pub record ReadyNodesAreTold : Type 0 where
 
 -- in the first graph [0] comes first, and then [1, 2], but neither [2, 1] nor [1]; in the second one [1] comes first,
 -- and [2] doesn't, since 1 is less
-pub record NextComponentsAreTold : Type 0 where
+pub record NextComponentsAreWorkedOut : Type 0 where
   pub first : IsNext Loop 3 [] (0 ∷ [])
   pub next : IsNext Loop 3 zero_alone (1 ∷ 2 ∷ [])
   pub too_early : ¬ (IsNext Loop 3 [] (1 ∷ 2 ∷ []))
@@ -56,7 +56,7 @@ pub record NextComponentsAreTold : Type 0 where
 -- the components of the first graph are [0], [1, 2] and no other list: not in another order, nor without the last, nor
 -- taken apart; those of the second one are [1], [2], [0], and not in the order of their nodes, nor with the edge's ends
 -- first
-pub record ListingsAreTold : Type 0 where
+pub record ListingsAreWorkedOut : Type 0 where
   pub loop : IsListing Loop 3 ((0 ∷ []) ∷ (1 ∷ 2 ∷ []) ∷ [])
   pub turned : ¬ (IsListing Loop 3 ((1 ∷ 2 ∷ []) ∷ (0 ∷ []) ∷ []))
   pub last_lacks : ¬ (IsListing Loop 3 zero_alone)
@@ -67,7 +67,7 @@ pub record ListingsAreTold : Type 0 where
 
 -- the second component of the first graph has an edge inside, and so has one whose only node leads to itself; none of
 -- the second graph has, nor has one that holds both ends of a link but isn't listed
-pub record InnerLinksAreTold : Type 0 where
+pub record InnerLinksAreWorkedOut : Type 0 where
   pub loop : HasInnerLink ((0, 1) ∷ (1, 2) ∷ (2, 1) ∷ []) ((0 ∷ []) ∷ (1 ∷ 2 ∷ []) ∷ [])
   pub itself : HasInnerLink ((0, 0) ∷ []) zero_alone
   pub backward : ¬ (HasInnerLink ((2, 0) ∷ []) ((1 ∷ []) ∷ (2 ∷ []) ∷ (0 ∷ []) ∷ []))
@@ -75,9 +75,9 @@ pub record InnerLinksAreTold : Type 0 where
 
 -- all of it
 pub record ComponentsAreWorkedOut : Type 0 where
-  pub mutual_nodes : MutualNodesAreTold
-  pub listed_nodes : ListedNodesAreTold
-  pub ready_nodes : ReadyNodesAreTold
-  pub next_components : NextComponentsAreTold
-  pub listings : ListingsAreTold
-  pub inner_links : InnerLinksAreTold
+  pub mutual_nodes : MutualNodesAreWorkedOut
+  pub listed_nodes : ListedNodesAreWorkedOut
+  pub ready_nodes : ReadyNodesAreWorkedOut
+  pub next_components : NextComponentsAreWorkedOut
+  pub listings : ListingsAreWorkedOut
+  pub inner_links : InnerLinksAreWorkedOut

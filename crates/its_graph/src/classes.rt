@@ -1,4 +1,4 @@
-// The component of each node, named by one of its nodes.
+//! The component of each node, named by one of its nodes.
 
 ghost use Rattle.std.specs.Prelude.{◌≡◌, ℕ, ◌<◌, ◌≤◌, ◌^◌, length, All, IfOk, OnOk, slice_index, [], replicate};
 ghost use Rattle.std.specs.List.{Contains};
@@ -8,14 +8,15 @@ ghost use Rattle.its_graph.specs.Naming.{named, first_with};
 
 use crate::flood::{CANDIDATE, KNOWN, UNKNOWN, fill, paint_all};
 use crate::roots::roots_of;
-use std::alloc::{AllocError, Global};
+use model::Memory;
+use std::alloc::Global;
 
 /// The least node of each node's component. `next` has each node's successors, `previous` its predecessors.
 pub(crate) fn leaders_of(
     alloc: Global,
     next: &[Vec<u32>],
     previous: &[Vec<u32>],
-) -> Result<Vec<u32>, AllocError>
+) -> Result<Vec<u32>, Memory>
     requires few { length next.now ≤ 2 ^ 32 }
     requires tables { AreTables (length next.now) next.now previous.now }
     ensures { IfOk result (λ leaders. AreLeaders (Joins next.now) (length next.now) leaders.items) }
@@ -25,7 +26,7 @@ pub(crate) fn leaders_of(
 }
 
 // A name for each node's component: one of its nodes.
-fn names_of(alloc: Global, next: &[Vec<u32>], previous: &[Vec<u32>]) -> Result<Vec<u32>, AllocError>
+fn names_of(alloc: Global, next: &[Vec<u32>], previous: &[Vec<u32>]) -> Result<Vec<u32>, Memory>
     requires few { length next.now ≤ 2 ^ 32 }
     requires tables { AreTables (length next.now) next.now previous.now }
     ensures { IfOk result (λ names. AreClassNames (Joins next.now) (length next.now) names.items) }
@@ -45,7 +46,7 @@ fn take_roots(
     roots: &[u32],
     colors: &mut [u8],
     names: &mut [u32],
-) -> Result<(), AllocError>
+) -> Result<(), Memory>
     requires tables { AreTables (length colors.old) next.now previous.now }
     requires names_size { length names.old ≡ length colors.old }
     requires roots_within { All (λ root. root < length colors.old) roots.now }
@@ -66,7 +67,7 @@ fn take_root(
     colors: &mut [u8],
     names: &mut [u32],
     root: u32,
-) -> Result<(), AllocError>
+) -> Result<(), Memory>
     requires tables { AreTables (length colors.old) next.now previous.now }
     requires names_size { length names.old ≡ length colors.old }
     requires root_within { root < length colors.old }
@@ -89,7 +90,7 @@ fn take_class(
     colors: &mut [u8],
     names: &mut [u32],
     root: u32,
-) -> Result<(), AllocError>
+) -> Result<(), Memory>
     requires tables { AreTables (length colors.old) next.now previous.now }
     requires names_size { length names.old ≡ length colors.old }
     requires root_within { root < length colors.old }
@@ -115,7 +116,7 @@ pub(crate) fn name_all(names: &mut [u32], nodes: &[u32], name: u32)
 }
 
 // The first node of each node's name.
-fn first_of_each_name(alloc: Global, names: &[u32]) -> Result<Vec<u32>, AllocError>
+fn first_of_each_name(alloc: Global, names: &[u32]) -> Result<Vec<u32>, Memory>
     requires few { length names.now ≤ 2 ^ 32 }
     requires within { All (λ name. name < length names.now) names.now }
     ensures { IfOk result (λ leaders. AreFirst names.now leaders.items) }
@@ -127,11 +128,7 @@ fn first_of_each_name(alloc: Global, names: &[u32]) -> Result<Vec<u32>, AllocErr
 }
 
 // The first node of the name of each node is added to a list, by a table that has none at first.
-fn add_first(
-    names: &[u32],
-    first: &mut [Option<u32>],
-    leaders: &mut Vec<u32>,
-) -> Result<(), AllocError>
+fn add_first(names: &[u32], first: &mut [Option<u32>], leaders: &mut Vec<u32>) -> Result<(), Memory>
     requires few { length names.now ≤ 2 ^ 32 }
     requires within { All (λ name. name < length names.now) names.now }
     requires empty { leaders.old.items ≡ [] }

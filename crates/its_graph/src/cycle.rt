@@ -1,4 +1,4 @@
-// Whether the graph of a program has a cycle.
+//! Whether the graph of a program has a cycle.
 
 ghost use Rattle.std.specs.Prelude.{◌≡◌, ℕ, ◌<◌, ◌≤◌, ◌^◌, ◌↔◌, length, map, All, IfOk, IsTrue, slice_index};
 ghost use Rattle.std.specs.List.{Contains};
@@ -8,16 +8,20 @@ ghost use Rattle.its_graph.specs.Groups.{IsPair};
 ghost use Rattle.its_graph.specs.Links.{LeadBelow};
 ghost use Rattle.its_graph.specs.Numbers.{AreNumbers, AreApart, HasInside};
 
-use crate::Memory;
 use crate::classes::name_all;
 use crate::links::{links_in, symbol_limit};
 use crate::listing::components_below;
 use its_model::Program;
-use std::alloc::{AllocError, Global};
+use model::Memory;
+use std::alloc::Global;
 
 /// Whether the graph of the program has a cycle: whether some component has an edge inside.
 ///
-/// The answer is exact. The only error is want of memory. The time is near-linear.
+/// The answer is exact. The time is near-linear.
+///
+/// # Errors
+///
+/// `Memory` where an allocation fails.
 pub fn has_cycle(alloc: Global, p: &Program) -> Result<bool, Memory>
     ensures { IfOk result (λ found. IsTrue found ↔ HasCycle (program_of p.now)) }
 {
@@ -29,7 +33,7 @@ pub fn has_cycle(alloc: Global, p: &Program) -> Result<bool, Memory>
 }
 
 // The number of each node's component.
-fn numbers_of(alloc: Global, nodes: usize, components: &[Vec<u32>]) -> Result<Vec<u32>, AllocError>
+fn numbers_of(alloc: Global, nodes: usize, components: &[Vec<u32>]) -> Result<Vec<u32>, Memory>
     requires few { length components.now ≤ 2 ^ 32 }
     requires apart { AreApart nodes components.now }
     ensures size { IfOk result (λ numbers. length numbers.items ≡ nodes) }

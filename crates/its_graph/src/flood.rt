@@ -1,10 +1,11 @@
-// Floods: what is reached from a node along edges, through nodes of one colour, which get another.
+//! Floods: what is reached from a node along edges, through nodes of one colour, which get another.
 
 ghost use Rattle.std.specs.Prelude.{◌≡◌, ◌≢◌, ℕ, ◌<◌, length, All, IfOk, OnOk, slice_index};
 ghost use Rattle.its_graph.specs.Groups.{values_in, Joins};
 ghost use Rattle.its_graph.specs.Floods.{painted, all_painted, Fills};
 
-use std::alloc::{AllocError, Global};
+use model::Memory;
+use std::alloc::Global;
 
 /// The colours of nodes during a search: not yet in a component, perhaps in the one that is looked for, and in one.
 pub(crate) const UNKNOWN: u8 = 0;
@@ -22,7 +23,7 @@ pub(crate) fn fill(
     start: u32,
     old: u8,
     new: u8,
-) -> Result<Vec<u32>, AllocError>
+) -> Result<Vec<u32>, Memory>
     requires one_each { length next.now ≡ length colors.old }
     requires edges_in_range { (a : ℕ) → All (λ b. b < length colors.old) (values_in next.now a) }
     requires start_in_range { start < length colors.old }
@@ -48,7 +49,7 @@ pub(crate) fn paint_all(
     nodes: &[u32],
     old: u8,
     new: u8,
-) -> Result<(), AllocError>
+) -> Result<(), Memory>
     requires { All (λ b. b < length colors.old) nodes.now }
     ensures { OnOk result
         (record { colors = colors.new; found = found.new.items }
@@ -61,13 +62,7 @@ pub(crate) fn paint_all(
 }
 
 // Gives a node that has the colour `old` the colour `new`, and lists it.
-fn paint(
-    colors: &mut [u8],
-    found: &mut Vec<u32>,
-    node: u32,
-    old: u8,
-    new: u8,
-) -> Result<(), AllocError>
+fn paint(colors: &mut [u8], found: &mut Vec<u32>, node: u32, old: u8, new: u8) -> Result<(), Memory>
     requires { node < length colors.old }
     ensures { OnOk result
         (record { colors = colors.new; found = found.new.items }

@@ -1,4 +1,4 @@
-// The graph of a program, made once for many questions.
+//! The graph of a program, made once for many questions.
 
 ghost use Rattle.std.specs.Prelude.{◌≡◌, ◌↔◌, ℕ, ◌+◌, ◌<◌, ◌≤◌, ◌^◌, length, map, All, IfOk, OnOk, slice_index_or};
 ghost use Rattle.std.specs.Prelude.{None, true, false, replicate, ◌==◌, ◌&&◌, ◌||◌, if◌then◌else◌, ◌++◌, ◌∷◌, []};
@@ -11,13 +11,13 @@ ghost use Rattle.its_graph.specs.Groups.{values_in, Joins};
 ghost use Rattle.its_graph.specs.Links.{arrivals, members_from, shared_leader};
 ghost use Rattle.its_graph.specs.Graphs.{IsGraphOf, none_of, flagged, ArePartsBelow, ArePartsOf, HaveSameSets};
 
-use crate::Memory;
 use crate::flood::{KNOWN, UNKNOWN, fill};
 use crate::links::{allowed_links, link_limit, links_in, symbol_limit, uncut};
 use crate::listing::leaders_in;
 use crate::pairs::{grouped, swapped};
 use its_model::Program;
-use std::alloc::{AllocError, Global};
+use model::Memory;
+use std::alloc::Global;
 
 /// The graph of a program: its symbols, with an edge from source to target for each rule, and the virtual entry, rule
 /// 0, which leads to the start symbol.
@@ -34,6 +34,10 @@ pub struct Graph {
 
 impl Graph {
     /// The graph of a program. The time is linear in its symbols and rules.
+    ///
+    /// # Errors
+    ///
+    /// `Memory` where an allocation fails.
     pub fn new(alloc: Global, p: &Program) -> Result<Graph, Memory>
         requires { length p.now.rules.items < 2 ^ 32 }
         ensures { IfOk result (λ graph. IsGraphOf graph (program_of p.now)) }
@@ -64,6 +68,10 @@ impl Graph {
 
     /// Whether a path of rules that aren't cut leads from the start symbol to each symbol. The time is linear in
     /// symbols, rules and cut.
+    ///
+    /// # Errors
+    ///
+    /// `Memory` where an allocation fails.
     pub fn reached(&self, alloc: Global, cut: &[u32]) -> Result<Vec<bool>, Memory>
         requires { (p : PlainProgram) × IsGraphOf self.now p }
         ensures one_each { IfOk result (λ seen. length seen.items ≡ self.now.symbols) }
@@ -78,6 +86,10 @@ impl Graph {
 
     /// The set of an untimed rule, ascending: the rule itself, and each untimed rule from where a path of untimed
     /// rules, possibly empty, leads to where it comes from. The time is linear in symbols and rules.
+    ///
+    /// # Errors
+    ///
+    /// `Memory` where an allocation fails.
     pub fn back_closure(
         &self,
         alloc: Global,
@@ -102,6 +114,10 @@ impl Graph {
     /// For each rule, by its number, the strongly connected component of the graph of the untimed rules that it leads
     /// from and to, named by its least symbol; there is none where it leads from one to another, nor for the virtual
     /// entry, 0. The untimed rules of a component have the same set. The time is near-linear in symbols and rules.
+    ///
+    /// # Errors
+    ///
+    /// `Memory` where an allocation fails.
     pub fn parts(&self, alloc: Global, untimed: &[bool]) -> Result<Vec<Option<u32>>, Memory>
         requires graph { (p : PlainProgram) × IsGraphOf self.now p }
         requires flags { length untimed.now ≡ length self.now.links.items + 1 }
@@ -120,11 +136,7 @@ impl Graph {
 }
 
 // The virtual entry and each rule, by the symbol that it leads to.
-fn arrivals_of(
-    alloc: Global,
-    start: u32,
-    links: &[(u32, u32)],
-) -> Result<Vec<(u32, u32)>, AllocError>
+fn arrivals_of(alloc: Global, start: u32, links: &[(u32, u32)]) -> Result<Vec<(u32, u32)>, Memory>
     requires { length links.now < 2 ^ 32 }
     ensures { IfOk result (λ pairs. pairs.items ≡ arrivals start links.now) }
 {
@@ -137,7 +149,7 @@ fn arrivals_of(
 }
 
 // Which nodes a path, possibly empty, leads to from a node.
-fn flooded(alloc: Global, next: &[Vec<u32>], start: u32) -> Result<Vec<bool>, AllocError>
+fn flooded(alloc: Global, next: &[Vec<u32>], start: u32) -> Result<Vec<bool>, Memory>
     requires within { start < length next.now }
     requires edges_within { (a : ℕ) → All (λ b. b < length next.now) (values_in next.now a) }
     ensures one_each { IfOk result (λ seen. length seen.items ≡ length next.now) }
@@ -150,14 +162,14 @@ fn flooded(alloc: Global, next: &[Vec<u32>], start: u32) -> Result<Vec<bool>, Al
 }
 
 // No node has a colour yet.
-fn no_colors(alloc: Global, count: usize) -> Result<Vec<u8>, AllocError>
+fn no_colors(alloc: Global, count: usize) -> Result<Vec<u8>, Memory>
     ensures { IfOk result (λ colors. colors.items ≡ replicate count 0) }
 {
     vec![in alloc; UNKNOWN; count]
 }
 
 // Which nodes are known.
-fn are_known(alloc: Global, colors: &[u8]) -> Result<Vec<bool>, AllocError>
+fn are_known(alloc: Global, colors: &[u8]) -> Result<Vec<bool>, Memory>
     ensures { IfOk result (λ flags. flags.items ≡ map (λ color. color == 2) colors.now) }
 {
     colors.iter().map(|color| *color == KNOWN).collect(alloc)
@@ -170,7 +182,7 @@ fn members(
     untimed: &[bool],
     seen: &[bool],
     rule: u32,
-) -> Result<Vec<u32>, AllocError>
+) -> Result<Vec<u32>, Memory>
     requires few { length links.now < 2 ^ 32 }
     requires flags { length untimed.now ≡ length links.now + 1 }
     requires within { All (λ e. e.1 < length seen.now) links.now }
@@ -196,7 +208,7 @@ fn is_in_set(untimed: &[bool], seen: &[bool], rule: u32, number: u32, target: u3
 }
 
 // A number is added, if it is a member.
-fn push_member(found: &mut Vec<u32>, number: u32, is_member: bool) -> Result<(), AllocError>
+fn push_member(found: &mut Vec<u32>, number: u32, is_member: bool) -> Result<(), Memory>
     ensures { OnOk result (found.new.items ≡ found.old.items ++ (if is_member then number ∷ [] else [])) }
 {
     if is_member {
@@ -210,7 +222,7 @@ fn shared_leaders(
     alloc: Global,
     links: &[(u32, u32)],
     leaders: &[u32],
-) -> Result<Vec<Option<u32>>, AllocError>
+) -> Result<Vec<Option<u32>>, Memory>
     requires { All (λ e. (e.0 < length leaders.now) × (e.1 < length leaders.now)) links.now }
     ensures { IfOk result (λ parts. parts.items ≡ None ∷ map (shared_leader leaders.now) links.now) }
 {

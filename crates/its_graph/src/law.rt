@@ -1,5 +1,5 @@
-// What components say of cycles, what the runs of a program without a cycle have in common, and that components have
-// one order.
+//! What components say of cycles, what the runs of a program without a cycle have in common, and that components have
+//! one order.
 
 ghost use Rattle.its_graph.specs.Acyclic.{WithoutCycleEachRuleAtMostOnce};
 ghost use Rattle.its_graph.specs.Components.{ListingsAreUnique};

@@ -1,14 +1,15 @@
-// The links between symbols: one for each rule, from its source to its target.
+//! The links between symbols: one for each rule, from its source to its target.
 
 ghost use Rattle.std.specs.Prelude.{◌≡◌, ℕ, ◌<◌, ◌≤◌, ◌^◌, map, length, All, IfOk, OnOk, ◌++◌, ◌∷◌, [], if◌then◌else◌};
 ghost use Rattle.std.specs.Prelude.{replicate, suc, true, false};
 ghost use Rattle.its_graph.specs.Links.{link_of, LeadBelow, kept_links, all_cut};
 
 use its_model::Rule;
-use std::alloc::{AllocError, Global};
+use model::Memory;
+use std::alloc::Global;
 
 /// The link of each rule, in the order of the rules.
-pub(crate) fn links_in(alloc: Global, rules: &[Rule]) -> Result<Vec<(u32, u32)>, AllocError>
+pub(crate) fn links_in(alloc: Global, rules: &[Rule]) -> Result<Vec<(u32, u32)>, Memory>
     ensures { IfOk result (λ links. links.items ≡ map link_of rules.now) }
 {
     let mut links = Vec::with_capacity(alloc, rules.len())?;
@@ -51,7 +52,7 @@ pub(crate) fn allowed_links(
     alloc: Global,
     links: &[(u32, u32)],
     allowed: &[bool],
-) -> Result<Vec<(u32, u32)>, AllocError>
+) -> Result<Vec<(u32, u32)>, Memory>
     requires { length links.now < length allowed.now }
     ensures { IfOk result (λ kept. kept.items ≡ kept_links allowed.now 1 links.now) }
 {
@@ -67,7 +68,7 @@ fn push_allowed(
     kept: &mut Vec<(u32, u32)>,
     link: (u32, u32),
     is_allowed: bool,
-) -> Result<(), AllocError>
+) -> Result<(), Memory>
     ensures { OnOk result (kept.new.items ≡ kept.old.items ++ (if is_allowed then link ∷ [] else [])) }
 {
     if is_allowed {
@@ -77,7 +78,7 @@ fn push_allowed(
 }
 
 /// A flag for each rule number up to the number of rules: false for those that are cut.
-pub(crate) fn uncut(alloc: Global, rules: usize, cut: &[u32]) -> Result<Vec<bool>, AllocError>
+pub(crate) fn uncut(alloc: Global, rules: usize, cut: &[u32]) -> Result<Vec<bool>, Memory>
     requires { rules < 2 ^ 32 }
     ensures { IfOk result (λ allowed. allowed.items ≡ all_cut cut.now (replicate (suc rules) true)) }
 {
@@ -87,7 +88,7 @@ pub(crate) fn uncut(alloc: Global, rules: usize, cut: &[u32]) -> Result<Vec<bool
 }
 
 // A flag for each number below `count`, all of them set.
-fn all_allowed(alloc: Global, count: usize) -> Result<Vec<bool>, AllocError>
+fn all_allowed(alloc: Global, count: usize) -> Result<Vec<bool>, Memory>
     ensures { IfOk result (λ allowed. allowed.items ≡ replicate count true) }
 {
     vec![in alloc; true; count]

@@ -1,4 +1,4 @@
-// The strongly connected components of a graph, in their order.
+//! The strongly connected components of a graph, in their order.
 
 ghost use Rattle.std.specs.Prelude.{◌≡◌, ◌≢◌, ℕ, ◌<◌, ◌≤◌, ◌^◌, length, map, All, IfOk, slice_index};
 ghost use Rattle.std.specs.List.{Contains};
@@ -7,15 +7,19 @@ ghost use Rattle.its_graph.specs.Components.{IsListing};
 ghost use Rattle.its_graph.specs.Classes.{AreLeaders};
 ghost use Rattle.its_graph.specs.Members.{numbered, AreMembers};
 
-use crate::Memory;
 use crate::classes::leaders_of;
 use crate::order::order_of;
 use crate::pairs::{grouped, swapped};
-use std::alloc::{AllocError, Global};
+use model::Memory;
+use std::alloc::Global;
 
 /// The strongly connected components of the graph with this many nodes and these edges. Each comes after all from which
 /// a path leads to it; among those that may come next the one with the least node comes first. The nodes of a component
 /// ascend. The time is near-linear, and no recursion goes along a path.
+///
+/// # Errors
+///
+/// `Memory` where an allocation fails.
 pub fn components(alloc: Global, nodes: u32, edges: &[(u32, u32)]) -> Result<Vec<Vec<u32>>, Memory>
     requires { All (λ e. (e.0 < nodes) × (e.1 < nodes)) edges.now }
     ensures { IfOk result (λ found. IsListing (IsPair edges.now) nodes (map items_of found.items)) }
@@ -28,7 +32,7 @@ pub(crate) fn components_below(
     alloc: Global,
     nodes: usize,
     edges: &[(u32, u32)],
-) -> Result<Vec<Vec<u32>>, AllocError>
+) -> Result<Vec<Vec<u32>>, Memory>
     requires few { nodes ≤ 2 ^ 32 }
     requires within { All (λ e. (e.0 < nodes) × (e.1 < nodes)) edges.now }
     ensures listing { IfOk result (λ found. IsListing (IsPair edges.now) nodes (map items_of found.items)) }
@@ -44,7 +48,7 @@ pub(crate) fn leaders_in(
     alloc: Global,
     nodes: usize,
     edges: &[(u32, u32)],
-) -> Result<Vec<u32>, AllocError>
+) -> Result<Vec<u32>, Memory>
     requires few { nodes ≤ 2 ^ 32 }
     requires within { All (λ e. (e.0 < nodes) × (e.1 < nodes)) edges.now }
     ensures { IfOk result (λ leaders. AreLeaders (IsPair edges.now) nodes leaders.items) }
@@ -55,7 +59,7 @@ pub(crate) fn leaders_in(
 }
 
 // The nodes of each component, by the order of the leaders.
-fn members_of(alloc: Global, leaders: &[u32], order: &[u32]) -> Result<Vec<Vec<u32>>, AllocError>
+fn members_of(alloc: Global, leaders: &[u32], order: &[u32]) -> Result<Vec<Vec<u32>>, Memory>
     requires few { length leaders.now ≤ 2 ^ 32 }
     requires order_few { length order.now ≤ length leaders.now }
     requires order_within { All (λ l. l < length leaders.now) order.now }
@@ -89,11 +93,7 @@ fn note_positions(positions: &mut [u32], order: &[u32])
 }
 
 // Each node with the position of its leader.
-fn numbered_by(
-    alloc: Global,
-    positions: &[u32],
-    leaders: &[u32],
-) -> Result<Vec<(u32, u32)>, AllocError>
+fn numbered_by(alloc: Global, positions: &[u32], leaders: &[u32]) -> Result<Vec<(u32, u32)>, Memory>
     requires few { length leaders.now ≤ 2 ^ 32 }
     requires within { All (λ l. l < length positions.now) leaders.now }
     ensures { IfOk result (λ pairs. pairs.items ≡ numbered positions.now 0 leaders.now) }

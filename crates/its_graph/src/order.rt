@@ -1,5 +1,5 @@
-// The order of components, by their leaders: each comes as soon as all that it needs were listed, the least leader
-// first.
+//! The order of components, by their leaders: each comes as soon as all that it needs were listed, the least leader
+//! first.
 
 ghost use Rattle.std.specs.Prelude.{◌≡◌, ◌↔◌, ℕ, ◌+◌, ◌<◌, ◌≤◌, ◌^◌, ◌∷◌, ◌++◌, [], length, All, IfOk, OnOk, not};
 ghost use Rattle.std.specs.Prelude.{count_by, if◌then◌else◌, ◌==◌};
@@ -12,7 +12,8 @@ ghost use Rattle.its_graph.specs.Orders.{IsFresh, Settles, Skips, needs_among};
 
 use crate::pairs::{empty_lists, grouped};
 use crate::tables::{add_to, empty_set, no_marks, push_to, take_from, take_least, zeros};
-use std::alloc::{AllocError, Global};
+use model::Memory;
+use std::alloc::Global;
 use std::collections::BTreeSet;
 
 /// The leaders of the components in the order of these.
@@ -20,7 +21,7 @@ pub(crate) fn order_of(
     alloc: Global,
     edges: &[(u32, u32)],
     leaders: &[u32],
-) -> Result<Vec<u32>, AllocError>
+) -> Result<Vec<u32>, Memory>
     requires few { length leaders.now ≤ 2 ^ 32 }
     requires edges_within { All (λ e. (e.0 < length leaders.now) × (e.1 < length leaders.now)) edges.now }
     requires leaders_are { AreLeaders (IsPair edges.now) (length leaders.now) leaders.now }
@@ -31,11 +32,7 @@ pub(crate) fn order_of(
 }
 
 // The pairs of a leader and another one from whose component an edge leads to its own.
-fn needs_of(
-    alloc: Global,
-    edges: &[(u32, u32)],
-    leaders: &[u32],
-) -> Result<Vec<(u32, u32)>, AllocError>
+fn needs_of(alloc: Global, edges: &[(u32, u32)], leaders: &[u32]) -> Result<Vec<(u32, u32)>, Memory>
     requires edges_within { All (λ e. (e.0 < length leaders.now) × (e.1 < length leaders.now)) edges.now }
     ensures { IfOk result (λ needs. needs.items ≡ needs_among leaders.now edges.now) }
 {
@@ -51,7 +48,7 @@ fn needs_of(
 }
 
 // The nodes that lead their component.
-fn own_leaders(alloc: Global, leaders: &[u32]) -> Result<Vec<u32>, AllocError>
+fn own_leaders(alloc: Global, leaders: &[u32]) -> Result<Vec<u32>, Memory>
     requires few { length leaders.now ≤ 2 ^ 32 }
     ensures { IfOk result (λ own. (c : ℕ) → Contains own.items c ↔ IsLeader leaders.now c) }
 {
@@ -63,7 +60,7 @@ fn own_leaders(alloc: Global, leaders: &[u32]) -> Result<Vec<u32>, AllocError>
 }
 
 // A node that is its own leader is added.
-fn push_if_same(own: &mut Vec<u32>, node: u32, leader: u32) -> Result<(), AllocError>
+fn push_if_same(own: &mut Vec<u32>, node: u32, leader: u32) -> Result<(), Memory>
     ensures { OnOk result (own.new.items ≡ (if leader == node then own.old.items ++ node ∷ [] else own.old.items)) }
 {
     if leader == node {
@@ -78,7 +75,7 @@ fn sorted(
     needs: &[Vec<u32>],
     leaders: &[u32],
     own: &[u32],
-) -> Result<Vec<u32>, AllocError>
+) -> Result<Vec<u32>, Memory>
     requires orderable { AreOrderable leaders.now needs.now }
     requires own_leaders { (c : ℕ) → Contains own.now c ↔ IsLeader leaders.now c }
     ensures { IfOk result (λ order. AreLeadersInOrder (Joins needs.now) leaders.now order.items) }
@@ -104,7 +101,7 @@ struct Sorting {
 
 impl Sorting {
     // Nothing is known yet.
-    fn new(alloc: Global, count: usize) -> Result<Sorting, AllocError>
+    fn new(alloc: Global, count: usize) -> Result<Sorting, Memory>
         ensures { IfOk result (IsFresh count) }
     {
         Ok(Sorting {
@@ -123,7 +120,7 @@ impl Sorting {
         needs: &[Vec<u32>],
         leaders: &[u32],
         leader: u32,
-    ) -> Result<(), AllocError>
+    ) -> Result<(), Memory>
         requires orderable { AreOrderable leaders.now needs.now }
         requires popped { IsPopped needs.now leaders.now leader self.old }
         ensures sorted { OnOk result (IsSorting needs.now leaders.now [] self.new) }
@@ -142,7 +139,7 @@ impl Sorting {
         needs: &[Vec<u32>],
         leaders: &[u32],
         unsettled: &[u32],
-    ) -> Result<(), AllocError>
+    ) -> Result<(), Memory>
         requires orderable { AreOrderable leaders.now needs.now }
         requires sorting { IsSorting needs.now leaders.now unsettled.now self.old }
         ensures sorted { OnOk result (IsSorting needs.now leaders.now [] self.new) }
@@ -155,7 +152,7 @@ impl Sorting {
     }
 
     // A leader becomes ready where all that it needs is listed; else it waits for one of its needs.
-    fn settle(&mut self, needs: &[Vec<u32>], leader: u32) -> Result<(), AllocError>
+    fn settle(&mut self, needs: &[Vec<u32>], leader: u32) -> Result<(), Memory>
         requires within { leader < length needs.now }
         requires needs_within { All (λ d. d < length needs.now) (values_in needs.now leader) }
         requires sizes { AreSizes (length needs.now) self.old }

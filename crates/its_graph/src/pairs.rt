@@ -1,17 +1,18 @@
-// Lists of pairs, grouped by the first of each.
+//! Lists of pairs, grouped by the first of each.
 
 ghost use Rattle.std.specs.Prelude.{◌≡◌, ℕ, ◌<◌, [], length, map, IfOk, All};
 ghost use Rattle.its_graph.specs.Groups.{values_of, values_in, swap};
 
 use crate::tables::push_to;
-use std::alloc::{AllocError, Global};
+use model::Memory;
+use std::alloc::Global;
 
 /// The values of each key below `count`, in the order of the pairs. The time is linear in both.
 pub(crate) fn grouped(
     alloc: Global,
     count: usize,
     pairs: &[(u32, u32)],
-) -> Result<Vec<Vec<u32>>, AllocError>
+) -> Result<Vec<Vec<u32>>, Memory>
     requires { All (λ e. e.0 < count) pairs.now }
     ensures one_each { IfOk result (λ lists. length lists.items ≡ count) }
     ensures values { IfOk result (λ lists. (a : ℕ) → values_in lists.items a ≡ values_of pairs.now a) }
@@ -24,7 +25,7 @@ pub(crate) fn grouped(
 }
 
 /// An empty list for each number below `count`.
-pub(crate) fn empty_lists(alloc: Global, count: usize) -> Result<Vec<Vec<u32>>, AllocError>
+pub(crate) fn empty_lists(alloc: Global, count: usize) -> Result<Vec<Vec<u32>>, Memory>
     ensures one_each { IfOk result (λ lists. length lists.items ≡ count) }
     ensures empty { IfOk result (λ lists. (a : ℕ) → values_in lists.items a ≡ []) }
 {
@@ -36,7 +37,7 @@ pub(crate) fn empty_lists(alloc: Global, count: usize) -> Result<Vec<Vec<u32>>, 
 }
 
 /// Each pair turned round.
-pub(crate) fn swapped(alloc: Global, pairs: &[(u32, u32)]) -> Result<Vec<(u32, u32)>, AllocError>
+pub(crate) fn swapped(alloc: Global, pairs: &[(u32, u32)]) -> Result<Vec<(u32, u32)>, Memory>
     ensures { IfOk result (λ turned. turned.items ≡ map swap pairs.now) }
 {
     pairs.iter().map(|(a, b)| (*b, *a)).collect(alloc)

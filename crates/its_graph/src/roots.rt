@@ -1,15 +1,16 @@
-// In which order nodes are looked at, so that the search for components takes linear time. The order decides nothing
-// but the time.
+//! In which order nodes are looked at, so that the search for components takes linear time. The order decides nothing
+//! but the time.
 
 ghost use Rattle.std.specs.Prelude.{◌≡◌, ℕ, ◌<◌, ◌≤◌, ◌^◌, length, All, IfOk, OnOk};
 ghost use Rattle.std.specs.List.{Contains};
 ghost use Rattle.its_graph.specs.Groups.{values_in};
 ghost use Rattle.its_graph.specs.Walks.{IsWalk};
 
-use std::alloc::{AllocError, Global};
+use model::Memory;
+use std::alloc::Global;
 
 /// The nodes against the order in which a walk in depth leaves them, and then all of them once more.
-pub(crate) fn roots_of(alloc: Global, next: &[Vec<u32>]) -> Result<Vec<u32>, AllocError>
+pub(crate) fn roots_of(alloc: Global, next: &[Vec<u32>]) -> Result<Vec<u32>, Memory>
     requires few { length next.now ≤ 2 ^ 32 }
     requires edges_within { (a : ℕ) → All (λ b. b < length next.now) (values_in next.now a) }
     ensures within { IfOk result (λ roots. All (λ a. a < length next.now) roots.items) }
@@ -23,7 +24,7 @@ pub(crate) fn roots_of(alloc: Global, next: &[Vec<u32>]) -> Result<Vec<u32>, All
 }
 
 // The nodes against the order in which a walk in depth leaves them.
-fn left_last(alloc: Global, next: &[Vec<u32>]) -> Result<Vec<u32>, AllocError>
+fn left_last(alloc: Global, next: &[Vec<u32>]) -> Result<Vec<u32>, Memory>
     requires few { length next.now ≤ 2 ^ 32 }
     requires edges_within { (a : ℕ) → All (λ b. b < length next.now) (values_in next.now a) }
     ensures { IfOk result (λ nodes. All (λ a. a < length next.now) nodes.items) }
@@ -62,7 +63,7 @@ struct Walk {
 
 impl Walk {
     // A step onward, and whether there was one.
-    fn step(&mut self, next: &[Vec<u32>]) -> Result<bool, AllocError>
+    fn step(&mut self, next: &[Vec<u32>]) -> Result<bool, Memory>
         requires few { length next.now ≤ 2 ^ 32 }
         requires edges_within { (a : ℕ) → All (λ b. b < length next.now) (values_in next.now a) }
         requires walk { IsWalk (length next.now) self.old }
@@ -78,7 +79,7 @@ impl Walk {
     }
 
     // The walk goes on to the next successor of a node, or leaves it.
-    fn go_on(&mut self, next: &[Vec<u32>], visit: Visit) -> Result<(), AllocError>
+    fn go_on(&mut self, next: &[Vec<u32>], visit: Visit) -> Result<(), Memory>
         requires edges_within { (a : ℕ) → All (λ b. b < length next.now) (values_in next.now a) }
         requires walk { IsWalk (length next.now) self.old }
         requires node_within { visit.node < length next.now }
@@ -101,7 +102,7 @@ impl Walk {
     }
 
     // The walk begins at the next node, if there is one.
-    fn begin(&mut self, nodes: usize) -> Result<bool, AllocError>
+    fn begin(&mut self, nodes: usize) -> Result<bool, Memory>
         requires few { nodes ≤ 2 ^ 32 }
         requires walk { IsWalk nodes self.old }
         ensures { OnOk result (IsWalk nodes self.new) }
@@ -116,7 +117,7 @@ impl Walk {
     }
 
     // The walk goes to a node that wasn't seen.
-    fn enter(&mut self, node: u32) -> Result<(), AllocError>
+    fn enter(&mut self, node: u32) -> Result<(), Memory>
         requires within { node < length self.old.seen.items }
         requires walk { IsWalk (length self.old.seen.items) self.old }
         ensures { OnOk result (IsWalk (length self.old.seen.items) self.new) }

@@ -1,15 +1,16 @@
-// Tables of lists, and sets of numbers, changed at one key.
+//! Tables of lists, and sets of numbers, changed at one key.
 
 ghost use Rattle.std.specs.Prelude.{◌≡◌, ◌⊎◌, ◌↔◌, ℕ, ◌<◌, ◌++◌, ◌∷◌, [], length, All, IfOk, OnOk, MatchOption};
 ghost use Rattle.std.specs.Prelude.{if◌then◌else◌, ◌==◌, replicate, false};
 ghost use Rattle.std.specs.List.{Contains};
 ghost use Rattle.its_graph.specs.Groups.{values_in};
 
-use std::alloc::{AllocError, Global};
+use model::Memory;
+use std::alloc::Global;
 use std::collections::BTreeSet;
 
 /// A key gets one value more.
-pub(crate) fn push_to(lists: &mut Vec<Vec<u32>>, key: usize, value: u32) -> Result<(), AllocError>
+pub(crate) fn push_to(lists: &mut Vec<Vec<u32>>, key: usize, value: u32) -> Result<(), Memory>
     requires { key < length lists.old.items }
     ensures size { length lists.new.items ≡ length lists.old.items }
     ensures values { OnOk result ((a : ℕ) → values_in lists.new.items a
@@ -30,7 +31,7 @@ pub(crate) fn take_from(alloc: Global, lists: &mut Vec<Vec<u32>>, key: usize) ->
 }
 
 /// A number more is in the set.
-pub(crate) fn add_to(set: &mut BTreeSet<u32>, number: u32) -> Result<(), AllocError>
+pub(crate) fn add_to(set: &mut BTreeSet<u32>, number: u32) -> Result<(), Memory>
     ensures { OnOk result ((q : ℕ) → Contains set.new.keys q ↔ (Contains set.old.keys q ⊎ (q ≡ number))) }
 {
     set.insert(number)?;
@@ -46,14 +47,14 @@ pub(crate) fn take_least(set: &mut BTreeSet<u32>) -> Option<u32>
 }
 
 /// A 0 for each number below `count`.
-pub(crate) fn zeros(alloc: Global, count: usize) -> Result<Vec<usize>, AllocError>
+pub(crate) fn zeros(alloc: Global, count: usize) -> Result<Vec<usize>, Memory>
     ensures { IfOk result (λ numbers. numbers.items ≡ replicate count 0) }
 {
     vec![in alloc; 0usize; count]
 }
 
 /// A mark for each number below `count`, none of them set.
-pub(crate) fn no_marks(alloc: Global, count: usize) -> Result<Vec<bool>, AllocError>
+pub(crate) fn no_marks(alloc: Global, count: usize) -> Result<Vec<bool>, Memory>
     ensures { IfOk result (λ marks. marks.items ≡ replicate count false) }
 {
     vec![in alloc; false; count]

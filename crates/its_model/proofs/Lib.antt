@@ -5,3 +5,7 @@ mod StepLaws
 mod RuleLaws
 mod WorkedPrograms
 mod WorkedSteps
+-- the lemmas of the crates below, which callers name through this one
+pub use Rattle.poly_terms.proofs.linear_forms
+pub use Rattle.poly_terms.proofs as poly_terms
+pub use Rattle.text_core.proofs as text_core

@@ -1,7 +1,8 @@
 -- The rule with a number, among those of the code's program.
-use Rattle.std.proofs.Common.{◌≡◌, ℕ, zero, suc, ◌-◌, ◌<◌, ◌≤◌, List, [], ◌∷◌, length, get_or, map, refl, ap, sym, ◌∙◌, subst, arith}
+use Rattle.std.proofs.Common.{◌≡◌, ℕ, zero, suc, ◌-◌, ◌<◌, ◌≤◌, List, [], ◌∷◌, length, get_or, map, refl, ap, sym, ◌∙◌}
+use Rattle.std.proofs.Common.{subst, arith}
 use Rattle.std.specs.Prelude.{Some, None, slice_get}
-use Rattle.model.specs.Programs as plain
+use Rattle.poly_terms.specs.model.Programs as plain
 use Rattle.its_model.specs.declared.program.Rule.{Rule}
 use Rattle.its_model.specs.declared.program.Program.{Program}
 use Rattle.its_model.specs.Views.{rule_of, program_of}

@@ -1,5 +1,6 @@
 -- The first fault of a use of a rule, and steps.
-use Rattle.std.proofs.Common.{◌≡◌, ℕ, zero, suc, ◌≤◌, ◌&&◌, List, [], ◌∷◌, ◌++◌, length, map, Bool, true, false, refl, ap, sym, ◌∙◌, subst, arith, nat_eq, if◌then◌else◌}
+use Rattle.std.proofs.Common.{◌≡◌, ℕ, zero, suc, ◌≤◌, ◌&&◌, List, [], ◌∷◌, ◌++◌, length, map, Bool, true, false, refl}
+use Rattle.std.proofs.Common.{ap, sym, ◌∙◌, subst, arith, nat_eq, if◌then◌else◌}
 use Rattle.std.specs.Prelude.{ℤ, ◌<ℤ◌, Option, Some, None, slice_get}
 use Rattle.std.specs.List.{AllByRecursion}
 use Rattle.std.specs.declared.cmp.Ordering.{Ordering}
@@ -8,11 +9,14 @@ use Rattle.std.specs.Ordering.{int_eq, int_cmp, is_eq, MatchOrdering}
 use Rattle.std.proofs.lemmas.Cmp.{int_ranked}
 use Rattle.std.proofs.lemmas.Int.{ints}
 use Rattle.std.proofs.lemmas.Bool.Decides.{nat_tests}
-use Rattle.model.specs.Terms.{Term, value}
-use Rattle.model.specs.Programs.{Relation, AtLeast, MoreThan, AtMost, LessThan, EqualTo, Related, AtomHolds, Atom, Always, Compare, Symbol, Rule, Program, rule_at, arity_in}
-use Rattle.model.specs.Runs.{Config, Step, Leads, IsStep}
+use Rattle.poly_terms.specs.model.Terms.{Term, value}
+use Rattle.poly_terms.specs.model.Programs.{Relation, AtLeast, MoreThan, AtMost, LessThan, EqualTo, Related, AtomHolds, Atom}
+use Rattle.poly_terms.specs.model.Programs.{Always, Compare, Symbol, Rule, Program, rule_at, arity_in}
+use Rattle.poly_terms.specs.model.Runs.{Config, Step, Leads, IsStep}
 use Rattle.poly_terms.specs.Checked.{values_fit, value_within}
-use Rattle.its_model.specs.Steps.{StepFault, OtherRule, AtomFails, PastRange, first_of, is_related, atom_fault, guard_fault, updates_fault, rule_fault, found_fault, step_fault, AtomFits, RuleFits, maximum_arity, StepsHaveNoFault}
+use Rattle.its_model.specs.Steps.{StepFault, OtherRule, AtomFails, PastRange, first_of, is_related, atom_fault}
+use Rattle.its_model.specs.Steps.{guard_fault, updates_fault, rule_fault, found_fault, step_fault, AtomFits, RuleFits}
+use Rattle.its_model.specs.Steps.{maximum_arity, StepsHaveNoFault}
 use Rattle.its_model.proofs.ListLaws.{all-to, all-from}
 
 -- a value that is answered is the expression's, and nothing passes 128 bits

@@ -1,7 +1,7 @@
 -- What holds of every valid program.
 use Rattle.std.proofs.Common.{◌≡◌, ℕ, zero, suc, List, [], ◌∷◌, Some, None, subst, slice_get}
 use Rattle.std.specs.List.{AllByRecursion}
-use Rattle.model.specs.Programs.{Program, Rule, rule_at}
+use Rattle.poly_terms.specs.model.Programs.{Program, Rule, rule_at}
 use Rattle.its_model.specs.Valid.{IsValidRule, IsValid}
 use Rattle.its_model.specs.ValidLaws.{AritiesOfValidAgree}
 

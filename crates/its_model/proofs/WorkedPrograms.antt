@@ -2,10 +2,11 @@
 use Rattle.std.proofs.Common.{ℕ, zero, suc, ◌≤◌, List, [], ◌∷◌, length, replicate, refl, arith}
 use Rattle.std.specs.List.{AllByRecursion}
 use Rattle.std.proofs.lemmas.List.{length-replicate}
-use Rattle.model.specs.Terms.{Variable}
-use Rattle.model.specs.Programs.{AtLeast, Atom, Always, Compare, Rule}
+use Rattle.poly_terms.specs.model.Terms.{Variable}
+use Rattle.poly_terms.specs.model.Programs.{AtLeast, Atom, Always, Compare, Rule}
 use Rattle.its_model.specs.Valid.{IsValidRule, IsValidAtom}
-use Rattle.its_model.specs.WorkedPrograms.{rule_with, starting_at, ProgramsAreValid, PartsAgree, LimitsAreKept, DifferencesAreTaken, ProgramsAreWorkedOut}
+use Rattle.its_model.specs.WorkedPrograms.{rule_with, starting_at, ProgramsAreValid, PartsAgree, LimitsAreKept}
+use Rattle.its_model.specs.WorkedPrograms.{DifferencesAreTaken, ProgramsAreWorkedOut}
 
 -- the programs are valid, or not, as was worked out
 valid : ProgramsAreValid

@@ -1,6 +1,7 @@
 -- The worked values of the faults of steps.
 use Rattle.std.proofs.Common.{refl}
-use Rattle.its_model.specs.WorkedSteps.{RelationsHold, RulesAreFound, FreeValuesAreTaken, FaultsComeInOrder, ValuesPassRange, AritiesAreWorkedOut, StepsAreWorkedOut}
+use Rattle.its_model.specs.WorkedSteps.{RelationsHold, RulesAreFound, FreeValuesAreTaken, FaultsComeInOrder}
+use Rattle.its_model.specs.WorkedSteps.{ValuesPassRange, AritiesAreWorkedOut, StepsAreWorkedOut}
 
 relations : RelationsHold
 relations = record {

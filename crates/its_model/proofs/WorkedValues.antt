@@ -1,13 +1,14 @@
 -- The worked values of the views.
 use Rattle.std.proofs.Common.{◌≡◌, ℕ, List, [], ◌∷◌, map, refl, ap, ◌∙◌}
-use Rattle.model.specs.Programs as plain
+use Rattle.poly_terms.specs.model.Programs as plain
 use Rattle.poly_terms.specs.Views.{term_of}
 use Rattle.text_core.specs.declared.name.Name.{Name}
 use Rattle.its_model.specs.declared.program.Symbol.{Symbol}
 use Rattle.its_model.specs.declared.program.Rule.{Rule}
 use Rattle.its_model.specs.declared.program.Program.{Program}
 use Rattle.its_model.specs.Views.{name_of, atom_of, symbol_of, rule_of, program_of}
-use Rattle.its_model.specs.Worked.{GuardsAreRead, ProgramsAreRead, RunsAreRead, IsSymbol, AreSpelled, IsFirstRule, first_rule, IsSecondRule, second_rule, IsWorkedProgram, worked_program}
+use Rattle.its_model.specs.Worked.{GuardsAreRead, ProgramsAreRead, RunsAreRead, IsSymbol, AreSpelled, IsFirstRule}
+use Rattle.its_model.specs.Worked.{first_rule, IsSecondRule, second_rule, IsWorkedProgram, worked_program}
 
 -- relations and atoms are read as was worked out
 pub guards : GuardsAreRead

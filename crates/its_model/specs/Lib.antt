@@ -10,3 +10,9 @@ pub mod WorkedPrograms
 pub mod WorkedSteps
 -- the machinery of the functions inside and of the proofs
 pub mod Ready
+-- the crates below, which callers name through this one
+pub use Rattle.poly_terms.specs.model
+pub use Rattle.poly_terms.specs.int_laws
+pub use Rattle.poly_terms.specs.linear_forms
+pub use Rattle.poly_terms.specs as poly_terms
+pub use Rattle.text_core.specs as text_core

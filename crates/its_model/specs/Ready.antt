@@ -1,7 +1,7 @@
 -- What taking a step asks of a rule.
 use Rattle.std.specs.Prelude.{◌+◌, ◌≤◌, length, map}
 use Rattle.std.specs.List.{AllByRecursion}
-use Rattle.model.specs.Limits.{atom_limit}
+use Rattle.poly_terms.specs.model.Limits.{atom_limit}
 use Rattle.poly_terms.specs.Views.{term_of}
 use Rattle.its_model.specs.declared.program.Rule.{Rule}
 use Rattle.its_model.specs.Valid.{IsValidAtom, IsValidTerm}

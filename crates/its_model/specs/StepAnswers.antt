@@ -1,6 +1,6 @@
 -- What the error of a step says.
 use Rattle.std.specs.Prelude.{◌≡◌, ℕ, ℤ, if◌then◌else◌, Option, Some, None, MatchOption}
-use Rattle.model.specs.Programs.{Relation}
+use Rattle.poly_terms.specs.model.Programs.{Relation}
 use Rattle.its_model.specs.declared.step_error.StepError.{StepError}
 use Rattle.its_model.specs.declared.step_error.StepError.TheVariants as code
 use Rattle.its_model.specs.Steps.{StepFault, OtherRule, AtomFails, PastRange, is_related}

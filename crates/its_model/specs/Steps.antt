@@ -3,10 +3,10 @@ use Rattle.std.specs.Prelude.{◌≡◌, ℕ, suc, Bool, ◌&&◌, if◌then◌e
 use Rattle.std.specs.Prelude.{int_lt, int_le, Option, Some, None, true, ⊤}
 use Rattle.std.specs.List.{AllByRecursion}
 use Rattle.std.specs.Ordering.{int_eq}
-use Rattle.model.specs.Terms.{Term, value}
-use Rattle.model.specs.Programs.{Relation, AtLeast, MoreThan, AtMost, LessThan, EqualTo, Atom, Always, Compare, Symbol}
-use Rattle.model.specs.Programs.{Rule, Program, rule_at}
-use Rattle.model.specs.Runs.{Config, Step, IsStep}
+use Rattle.poly_terms.specs.model.Terms.{Term, value}
+use Rattle.poly_terms.specs.model.Programs.{Relation, AtLeast, MoreThan, AtMost, LessThan, EqualTo, Atom, Always, Compare, Symbol}
+use Rattle.poly_terms.specs.model.Programs.{Rule, Program, rule_at}
+use Rattle.poly_terms.specs.model.Runs.{Config, Step, IsStep}
 use Rattle.poly_terms.specs.Checked.{values_fit}
 
 -- the faults of a use of a rule: there is no such rule, it leaves another symbol, or has another number of free

@@ -1,10 +1,10 @@
 -- Valid programs: what every program that is read is, and what callers rely on.
 use Rattle.std.specs.Prelude.{◌≡◌, ℕ, ◌+◌, ◌≤◌, ◌<◌, nat_eq, length, map, pos, None, IsTrue, ⊤}
 use Rattle.std.specs.List.{AllByRecursion, list_any}
-use Rattle.model.specs.Limits.{rule_limit, place_limit, variable_limit, atom_limit}
-use Rattle.model.specs.Terms.{Term, Literal, Subtraction}
-use Rattle.model.specs.Programs.{Relation, AtLeast, MoreThan, AtMost, LessThan, EqualTo, Atom, Always, Compare, Symbol}
-use Rattle.model.specs.Programs.{Rule, Program, arity_of}
+use Rattle.poly_terms.specs.model.Limits.{rule_limit, place_limit, variable_limit, atom_limit}
+use Rattle.poly_terms.specs.model.Terms.{Term, Literal, Subtraction}
+use Rattle.poly_terms.specs.model.Programs.{Relation, AtLeast, MoreThan, AtMost, LessThan, EqualTo, Atom, Always, Compare, Symbol}
+use Rattle.poly_terms.specs.model.Programs.{Rule, Program, arity_of}
 use Rattle.poly_terms.specs.Checked.{ReadsBelow}
 use Rattle.poly_terms.specs.Faults.{first_fault}
 use Rattle.text_core.specs.Names.{IsName, AreDistinct}

@@ -1,6 +1,6 @@
 -- What holds of every valid program.
-use Rattle.model.specs.Programs.{Program}
-use Rattle.model.specs.RunLaws.{AritiesAgree}
+use Rattle.poly_terms.specs.model.Programs.{Program}
+use Rattle.poly_terms.specs.model.RunLaws.{AritiesAgree}
 use Rattle.its_model.specs.Valid.{IsValid}
 
 -- each of its rules has an update for each place of its target, and a left variable for each place of its source

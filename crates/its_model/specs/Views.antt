@@ -1,10 +1,10 @@
 -- What programs, configurations and steps of the code are as plain data.
 use Rattle.std.specs.Prelude.{map}
 use Rattle.poly_terms.specs.Views.{term_of}
-use Rattle.model.specs.Programs as plain
+use Rattle.poly_terms.specs.model.Programs as plain
 pub use Rattle.text_core.specs.Names.{name_of}
-use Rattle.model.specs.Programs.{AtLeast, MoreThan, AtMost, LessThan, EqualTo}
-use Rattle.model.specs.Runs as runs
+use Rattle.poly_terms.specs.model.Programs.{AtLeast, MoreThan, AtMost, LessThan, EqualTo}
+use Rattle.poly_terms.specs.model.Runs as runs
 use Rattle.its_model.specs.declared.guard.Rel.{Rel}
 use Rattle.its_model.specs.declared.guard.Rel.TheVariants.{Ge, Gt, Le, Lt, Eq}
 use Rattle.its_model.specs.declared.guard.Atom.{Atom}

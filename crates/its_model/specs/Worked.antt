@@ -1,8 +1,8 @@
 -- What was worked out by hand of how programs, configurations and steps are read.
 use Rattle.std.specs.Prelude.{◌≡◌, ℕ, List, [], ◌∷◌, pos, negsuc, ⊤}
-use Rattle.model.specs.Terms.{Literal, Variable}
-use Rattle.model.specs.Programs as plain
-use Rattle.model.specs.Programs.{AtLeast, MoreThan, AtMost, LessThan, EqualTo}
+use Rattle.poly_terms.specs.model.Terms.{Literal, Variable}
+use Rattle.poly_terms.specs.model.Programs as plain
+use Rattle.poly_terms.specs.model.Programs.{AtLeast, MoreThan, AtMost, LessThan, EqualTo}
 use Rattle.poly_terms.specs.declared.expr.Expr.TheVariants.{Num, Var}
 use Rattle.text_core.specs.declared.name.Name.{Name}
 use Rattle.its_model.specs.declared.guard.Rel.TheVariants.{Ge, Gt, Le, Lt, Eq}

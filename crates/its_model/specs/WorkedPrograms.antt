@@ -1,8 +1,8 @@
 -- Valid programs, and what keeps a program from being one, worked out by hand.
 use Rattle.std.specs.Prelude.{◌≡◌, ℕ, List, [], ◌∷◌, replicate, pos}
-use Rattle.model.specs.Terms.{Term, Literal, Variable, Addition, Subtraction, Exponentiation}
-use Rattle.model.specs.Programs.{AtLeast, MoreThan, AtMost, LessThan, EqualTo, Atom, Always, Compare, Name, Symbol}
-use Rattle.model.specs.Programs.{Rule, Program}
+use Rattle.poly_terms.specs.model.Terms.{Term, Literal, Variable, Addition, Subtraction, Exponentiation}
+use Rattle.poly_terms.specs.model.Programs.{AtLeast, MoreThan, AtMost, LessThan, EqualTo, Atom, Always, Compare, Name, Symbol}
+use Rattle.poly_terms.specs.model.Programs.{Rule, Program}
 use Rattle.its_model.specs.Valid.{difference_of, IsValidSymbol, IsValidRule, IsValid}
 
 -- the rule from l0(A, B) to the symbol with this number, with these updates, where the atoms hold

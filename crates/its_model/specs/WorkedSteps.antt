@@ -1,8 +1,8 @@
 -- What keeps a use of a rule from being a step, and what comes first, worked out by hand.
 use Rattle.std.specs.Prelude.{◌≡◌, ℕ, Bool, true, false, List, [], ◌∷◌, ℤ, pos, negsuc, Option, Some, None}
-use Rattle.model.specs.Terms.{Term, Literal, Variable, Negation, Addition, Subtraction, Multiplication}
-use Rattle.model.specs.Programs.{Relation, AtLeast, MoreThan, AtMost, LessThan, EqualTo, Atom, Always, Compare, Program}
-use Rattle.model.specs.Runs.{Config, Step}
+use Rattle.poly_terms.specs.model.Terms.{Term, Literal, Variable, Negation, Addition, Subtraction, Multiplication}
+use Rattle.poly_terms.specs.model.Programs.{Relation, AtLeast, MoreThan, AtMost, LessThan, EqualTo, Atom, Always, Compare, Program}
+use Rattle.poly_terms.specs.model.Runs.{Config, Step}
 use Rattle.its_model.specs.Steps.{StepFault, OtherRule, AtomFails, PastRange, is_related, step_fault, RuleFits}
 use Rattle.its_model.specs.Steps.{maximum_arity}
 use Rattle.its_model.specs.WorkedPrograms.{two_and_one, rule_with, small_program}

@@ -1,4 +1,4 @@
-// Guards: the atoms that have to hold for a step.
+//! Guards: the atoms that have to hold for a step.
 
 use poly_terms::Expr;
 

@@ -1,4 +1,4 @@
-// How guards, programs, configurations and steps are read, and what holds of valid programs.
+//! How guards, programs, configurations and steps are read, and what holds of valid programs.
 
 ghost use Rattle.its_model.specs.ValidLaws.{AritiesOfValidAgree};
 ghost use Rattle.its_model.specs.Worked.{WorkedValues};

@@ -1,7 +1,7 @@
-// Integer transition systems: programs, configurations and steps as types.
-// Contract to the layer above: a program is read as plain data by `program_of`, small ones as was worked out by hand
-// (`worked_values_hold`), runs are those of that data, `IsValid` says what a valid program is, and `step_checked` takes
-// exactly the steps that stay within 128 bits.
+//! Integer transition systems: programs, configurations and steps as types.
+//! Contract to the layer above: a program is read as plain data by `program_of`, small ones as was worked out by hand
+//! (`worked_values_hold`), runs are those of that data, `IsValid` says what a valid program is, and `step_checked` takes
+//! exactly the steps that stay within 128 bits.
 #![tactic(auto)]
 
 mod guard;

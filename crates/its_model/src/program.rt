@@ -1,4 +1,4 @@
-// Programs: symbols, rules and where a run starts.
+//! Programs: symbols, rules and where a run starts.
 
 use crate::guard::Atom;
 use poly_terms::Expr;

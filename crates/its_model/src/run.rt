@@ -1,4 +1,4 @@
-// Where a run stands, and what it does next.
+//! Where a run stands, and what it does next.
 
 /// A configuration: a symbol, and one value for each of its places.
 #[derive(Debug, PartialEq, Eq, Drop)]

@@ -1,12 +1,12 @@
-// Steps that are taken in 128 bits.
+//! Steps that are taken in 128 bits.
 
 ghost use Rattle.std.specs.Prelude.{◌≡◌, ◌+◌, ◌<◌, ◌≤◌, ◌^◌, ◌++◌, ◌∷◌, [], ℕ, length, map, slice_index_or, true};
 ghost use Rattle.std.specs.Prelude.{false, MatchResult, MatchOption, IfOk, vec_len, vec_capacity};
 ghost use Rattle.std.specs.List.{AllByRecursion};
-ghost use Rattle.model.specs.Terms.{value};
-ghost use Rattle.model.specs.Limits.{atom_limit};
-ghost use Rattle.model.specs.Programs.{arity_of, rule_at};
-ghost use Rattle.model.specs.Runs.{IsStep};
+ghost use Rattle.poly_terms.specs.model.Terms.{value};
+ghost use Rattle.poly_terms.specs.model.Limits.{atom_limit};
+ghost use Rattle.poly_terms.specs.model.Programs.{arity_of, rule_at};
+ghost use Rattle.poly_terms.specs.model.Runs.{IsStep};
 ghost use Rattle.poly_terms.specs.Views.{term_of};
 ghost use Rattle.its_model.specs.Steps.{PastRange, is_related, atom_fault, guard_fault, updates_fault, body_fault};
 ghost use Rattle.its_model.specs.Steps.{rule_fault, step_fault, maximum_arity, StepsHaveNoFault};

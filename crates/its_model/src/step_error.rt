@@ -1,4 +1,4 @@
-// Why a use of a rule is no step.
+//! Why a use of a rule is no step.
 
 /// Why a use of a rule is no step that can be taken in 128 bits.
 #[derive(Clone, Copy, Debug, PartialEq, Eq)]

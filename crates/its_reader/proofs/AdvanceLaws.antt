@@ -1,24 +1,26 @@
 -- The next token leads where it leads in what is written, wherever the reader stands; and why a text breaks off.
-use Rattle.std.specs.Prelude.{◌≡◌, Bool, true, false, ◌||◌, is_some, List, [], ◌∷◌, ◌++◌, reverse, Option, Some, None, refl}
+use Rattle.std.specs.Prelude.{◌≡◌, Bool, true, false, ◌||◌, is_some, List, [], ◌∷◌, ◌++◌, reverse, Option, Some, None}
+use Rattle.std.specs.Prelude.{refl}
 use Rattle.std.proofs.Common.{sym, ap, subst, ◌∙◌, inl, inr}
 use Rattle.std.proofs.lemmas.Grind.{reverse_onto}
 use Rattle.model.specs.Programs.{Name}
 use Rattle.text_core.specs.Tokens.{Token}
 use Rattle.text_core.specs.Names.{is_same, is_among}
-use Rattle.expr_text.specs.Pieces as inner
+use Rattle.its_text.specs.expr_text.Pieces as inner
 use Rattle.expr_reader.specs.Variables.{names_in}
 use Rattle.its_text.specs.Pieces.{Piece, In, Disjoining, Strange}
 use Rattle.its_text.specs.Fronts as fronts
 use Rattle.its_text.specs.Fronts.{Front, Ruling, Headed}
-use Rattle.expr_text.specs.GuardFronts.{GuardFront}
+use Rattle.its_text.specs.expr_text.GuardFronts.{GuardFront}
 use Rattle.its_text.specs.Steps.{step}
-use Rattle.its_text.specs.Shown.{Tokens, left_wanted, off_left, off_by}
+use Rattle.its_text.specs.FrontFaults.{Tokens, left_wanted, left_break_kind, break_kind_at}
 use Rattle.its_reader.specs.Tests as tests
-use Rattle.its_reader.specs.Places.{InSections, InLeft, RightSettled, TailSettled, SettledAt, LeadsTo, IsSource, IsGuard}
+use Rattle.its_reader.specs.Places.{InSections, InLeft, RightSettled, TailSettled, SettledAt, LeadsTo, IsSource}
+use Rattle.its_reader.specs.Places.{IsGuard}
 use Rattle.its_reader.specs.PlaceSteps.{GoTogether, IsNew, StartLeads, LeftLeads, RightLeads, TailLeads}
-use Rattle.its_reader.specs.Turning.{Advances, AllowsName}
+use Rattle.its_reader.specs.TokenSteps.{Advances, AllowsName}
 use Rattle.its_reader.specs.declared.draft.Draft.{Draft}
-use Rattle.its_reader.specs.Noting.{wants_argument, wants_left, off_in}
+use Rattle.its_reader.specs.FaultTests.{wants_argument, wants_left, break_kind_in}
 use Rattle.its_reader.specs.declared.place.Fence.{Fence}
 use Rattle.its_reader.specs.declared.place.Fence.TheVariants as fences
 use Rattle.its_reader.specs.declared.place.SectionPlace.{SectionPlace}
@@ -189,16 +191,16 @@ module _ (ts : Tokens) (next : Option Piece) (d : Draft) (f : Front) where
   is_wanted (places.InRight place) k = right_unwanted place k
   is_wanted (places.InTail place) k = tail_unwanted place k
 
-off_wanted : (o : Option (List Name)) (p : inner.Piece) → off_in (is_some o) (In p) ≡ off_left o p
+off_wanted : (o : Option (List Name)) (p : inner.Piece) → break_kind_in (is_some o) (In p) ≡ left_break_kind o p
 off_wanted None p = refl
 off_wanted (Some arguments) p = refl
 
-off_alike : (f : Front) (p : Piece) → off_in (is_some (left_wanted f)) p ≡ off_by f (Some p)
+off_alike : (f : Front) (p : Piece) → break_kind_in (is_some (left_wanted f)) p ≡ break_kind_at f (Some p)
 off_alike f (In p) = off_wanted (left_wanted f) p
 off_alike f Disjoining = refl
 off_alike f Strange = refl
 off_alike f _ = refl
 
 -- why a text breaks off at a piece is told by the place as it is by the written front
-pub off_is : (ts : Tokens) (place : Place) (d : Draft) (f : Front) (p : Piece) → SettledAt ts (Some p) place d f → off_in (wants_left place) p ≡ off_by f (Some p)
-off_is ts place d f p k = ap (λ v. off_in v p) (sym (is_wanted ts (Some p) d f place k)) ∙ off_alike f p
+pub off_is : (ts : Tokens) (place : Place) (d : Draft) (f : Front) (p : Piece) → SettledAt ts (Some p) place d f → break_kind_in (wants_left place) p ≡ break_kind_at f (Some p)
+off_is ts place d f p k = ap (λ v. break_kind_in v p) (sym (is_wanted ts (Some p) d f place k)) ∙ off_alike f p

@@ -1,15 +1,16 @@
 -- A literal of a text holds digits.
-use Rattle.std.specs.Prelude.{◌≡◌, ℕ, zero, suc, ◌+◌, ◌-◌, Bool, true, false, IsTrue, if◌then◌else◌, List, [], ◌∷◌, Option, Some, None, refl}
+use Rattle.std.specs.Prelude.{◌≡◌, ℕ, zero, suc, ◌+◌, ◌-◌, Bool, true, false, IsTrue, if◌then◌else◌, List, [], ◌∷◌}
+use Rattle.std.specs.Prelude.{Option, Some, None, refl}
 use Rattle.std.specs.List.{list_all}
 use Rattle.std.specs.Char.{is_ascii_digit}
 use Rattle.text_core.specs.Prefixes.{prefix}
 use Rattle.text_core.specs.Tokens.{token_then, tokens_in}
-use Rattle.expr_text.specs.Pieces as inner
+use Rattle.its_text.specs.expr_text.Pieces as inner
 use Rattle.its_text.specs.Pieces.{Piece, In}
 use Rattle.its_text.proofs.LexemeCases.{IsMark, HoldsOfPieces, of_lexeme}
 use Rattle.its_text.specs.Lexing.{Mode, Outside, lexeme_in, lexer, tokens_of}
-use Rattle.its_text.specs.Shown.{Tokens}
-use Rattle.its_reader.specs.Noting.{IsDigital}
+use Rattle.its_text.specs.FrontFaults.{Tokens}
+use Rattle.its_reader.specs.FaultTests.{IsDigital}
 use Rattle.its_reader.specs.Reading.{AreDigital}
 
 -- the prefix of digits holds digits

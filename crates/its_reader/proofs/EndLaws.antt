@@ -4,7 +4,7 @@ use Rattle.std.proofs.Common.{sym, ap, subst, ◌∙◌, inl, inr}
 use Rattle.model.specs.Programs.{Name, Program}
 use Rattle.text_core.specs.Readers.{Fault}
 use Rattle.text_core.specs.Reading.{Answer, Stands, Refused, first_of, ended, answer}
-use Rattle.expr_text.specs.GuardFronts.{GuardFront}
+use Rattle.its_text.specs.expr_text.GuardFronts.{GuardFront}
 use Rattle.its_model.specs.declared.program.Program as code
 use Rattle.its_text.specs.Pieces.{Piece}
 use Rattle.its_text.specs.Kinds.{Kind, Syntax}
@@ -14,14 +14,14 @@ use Rattle.its_text.specs.Fronts as fronts
 use Rattle.its_text.specs.Fronts.{Front, Ruling, Headed}
 use Rattle.its_text.specs.Steps.{finish}
 use Rattle.its_text.specs.Grammar.{programs}
-use Rattle.its_text.specs.Answers.{verdict, judged}
-use Rattle.its_text.specs.Shown.{Tokens}
+use Rattle.its_text.specs.Answers.{verdict, verdict_of_answer}
+use Rattle.its_text.specs.FrontFaults.{Tokens}
 use Rattle.its_reader.specs.Faults.{fault_in, Says}
 use Rattle.its_reader.specs.Standing.{KnowsBetween}
 use Rattle.its_reader.specs.Places.{InSections, InLeft, RightSettled, TailSettled, SettledAt, IsSource, IsGuard}
-use Rattle.its_reader.specs.Noting.{is_between}
+use Rattle.its_reader.specs.FaultTests.{is_between}
 use Rattle.its_reader.specs.Reading.{IsReading}
-use Rattle.its_reader.specs.Turning.{Judges, Finishes, Closes}
+use Rattle.its_reader.specs.TokenSteps.{Judges, Finishes, Closes}
 use Rattle.its_reader.specs.declared.error.ReadError.{ReadError}
 use Rattle.its_reader.specs.declared.error.ReadError.TheVariants as errors
 use Rattle.its_reader.specs.declared.place.Fence.{Fence}
@@ -127,7 +127,7 @@ module _ (place now : Place) (last : ℕ) (best first : Option (Fault Kind)) (ol
   closes_open e b h = record {
     each = λ bytes l r.
         subst (λ a. Says a (Err e))
-        (sym (ap (judged (length bytes) (tokens_of bytes))
+        (sym (ap (verdict_of_answer (length bytes) (tokens_of bytes))
         (at_end bytes l r ∙ ended_open first (finish r.front) (record { kind = Syntax; at = length bytes }) (still_open (tokens_of bytes) None new r.front now (j.settled (tokens_of bytes) r.front r.stands) b))))
         (refusal_said (first_of programs first (record { kind = Syntax; at = length bytes })) e (h ∙ ap (λ i. Some (first_of programs first (record { kind = Syntax; at = i }))) l));
   }
@@ -140,7 +140,7 @@ module _ (place now : Place) (last : ℕ) (best first : Option (Fault Kind)) (ol
   closes_refused x e b f h = record {
     each = λ bytes l r. let k = between_at bytes b r in
         subst (λ a. Says a (Err e))
-        (sym (ap (judged (length bytes) (tokens_of bytes))
+        (sym (ap (verdict_of_answer (length bytes) (tokens_of bytes))
         (at_end bytes l r ∙ (ap (λ o. ended programs o (finish r.front) (record { kind = Syntax; at = length bytes })) f
         ∙ ap (λ g. ended programs (Some x) (finish g) (record { kind = Syntax; at = length bytes })) k.1.0))))
         (refusal_said x e h);
@@ -151,7 +151,7 @@ module _ (place now : Place) (last : ℕ) (best first : Option (Fault Kind)) (ol
   closes_whole result b f h = record {
     each = λ bytes l r. let k = between_at bytes b r in
         h.each bytes k.0 l k.1.1
-        (ap (judged (length bytes) (tokens_of bytes))
+        (ap (verdict_of_answer (length bytes) (tokens_of bytes))
         (at_end bytes l r ∙ (ap (λ o. ended programs o (finish r.front) (record { kind = Syntax; at = length bytes })) f
         ∙ ap (λ g. ended programs None (finish g) (record { kind = Syntax; at = length bytes })) k.1.0)));
   }

@@ -1,5 +1,6 @@
 -- When the fault so far is final behind a token, and what else would have been shown.
-use Rattle.std.specs.Prelude.{◌≡◌, ℕ, ◌-◌, ◌≤◌, ◌<◌, ◌⊎◌, nat_lt, Bool, true, false, List, [], ◌∷◌, ◌++◌, Option, Some, None, refl}
+use Rattle.std.specs.Prelude.{◌≡◌, ℕ, ◌-◌, ◌≤◌, ◌<◌, ◌⊎◌, nat_lt, Bool, true, false, List, [], ◌∷◌, ◌++◌, Option, Some}
+use Rattle.std.specs.Prelude.{None, refl}
 use Rattle.std.proofs.Common.{sym, ap, subst, arith, inl, inr}
 use Rattle.std.proofs.lemmas.Bool.Decides.{nat_tests}
 use Rattle.text_core.specs.Tokens.{Token}
@@ -7,14 +8,15 @@ use Rattle.text_core.specs.Readers.{Fault}
 use Rattle.text_core.specs.Faults.{Among, NotAfter}
 use Rattle.text_core.specs.Reading.{first_among}
 use Rattle.text_core.proofs.Orders.{IsFirstAmong, first_among_is}
-use Rattle.expr_text.specs.Pieces as inner
-use Rattle.expr_text.specs.FrontNames.{goes_on_with}
+use Rattle.its_text.specs.expr_text.Pieces as inner
+use Rattle.its_text.specs.expr_text.FrontNames.{goes_on_with}
 use Rattle.its_text.specs.Pieces.{Piece, In}
 use Rattle.its_text.specs.Kinds.{Kind, kind_number, NumberTooLarge}
 use Rattle.its_text.specs.Written.{Target, Marked, Bare}
 use Rattle.its_text.specs.Fronts.{Front, LeftShut, RightShut, Targeted, front_pieces}
 use Rattle.its_text.specs.Grammar.{programs}
-use Rattle.its_text.specs.Shown.{Found, Going, going, token_faults, is_large, shown_next, differs, bare_differs}
+use Rattle.its_text.specs.FrontFaults.{FaultList, OpenExpression, open_expression, token_faults, is_large, next_faults}
+use Rattle.its_text.specs.FrontFaults.{has_other_arity, bare_differs}
 
 below_or : (a b : ℕ) → (a < b) ⊎ (b ≤ a)
 below_or a b = go (nat_lt a b) refl
@@ -32,7 +34,7 @@ IsFinalIn k t None = ⊥
 IsFinalIn k t (Some x) = IsFinal k t x
 
 -- what is found at a token's first byte, of a number up to k, makes the first fault final
-pub found_final : (k : ℕ) (t : Token Piece) (best : Option (Fault Kind)) (xs : Found) (y : Fault Kind) → Among y xs → y.at ≡ t.at → t.at < t.upto → kind_number y.kind ≤ k → IsFinalIn k t (first_among programs best xs)
+pub found_final : (k : ℕ) (t : Token Piece) (best : Option (Fault Kind)) (xs : FaultList) (y : Fault Kind) → Among y xs → y.at ≡ t.at → t.at < t.upto → kind_number y.kind ≤ k → IsFinalIn k t (first_among programs best xs)
 found_final k t best xs y a at some n = go (first_among programs best xs) (first_among_is programs xs best)
   where
     split : (x : Fault Kind) → NotAfter programs x y → IsFinal k t x
@@ -51,25 +53,25 @@ found_final k t best xs y a at some n = go (first_among programs best xs) (first
     go (Some x) h = split x (h.1 y (inr a))
 
 -- what is among some faults is among them with others behind
-pub among_left : (y : Fault Kind) (xs ys : Found) → Among y xs → Among y (xs ++ ys)
+pub among_left : (y : Fault Kind) (xs ys : FaultList) → Among y xs → Among y (xs ++ ys)
 among_left y [] ys a = absurd a
 among_left y (x ∷ xs) ys (inl e) = inl e
 among_left y (x ∷ xs) ys (inr a) = inr (among_left y xs ys a)
 
 -- what is among some faults is among others with them behind
-pub among_right : (y : Fault Kind) (xs ys : Found) → Among y ys → Among y (xs ++ ys)
+pub among_right : (y : Fault Kind) (xs ys : FaultList) → Among y ys → Among y (xs ++ ys)
 among_right y [] ys a = a
 among_right y (x ∷ xs) ys a = inr (among_right y xs ys a)
 
 -- a literal that is too large is shown
-pub large_shown : (at : ℕ) (f : Front) (p : inner.Piece) (behind : Option Piece) (g : Going) → going f (Some (In p)) behind ≡ Some g → goes_on_with g.front p ≡ true → is_large p ≡ true
-    → Among (record { kind = NumberTooLarge; at = at }) (shown_next at f (Some (In p)) behind)
+pub large_shown : (at : ℕ) (f : Front) (p : inner.Piece) (behind : Option Piece) (g : OpenExpression) → open_expression f (Some (In p)) behind ≡ Some g → goes_on_with g.front p ≡ true → is_large p ≡ true
+    → Among (record { kind = NumberTooLarge; at = at }) (next_faults at f (Some (In p)) behind)
 large_shown at f p behind g e h l =
-    among_right _ _ (token_faults at (going f (Some (In p)) behind) (Some (In p)) behind)
+    among_right _ _ (token_faults at (open_expression f (Some (In p)) behind) (Some (In p)) behind)
     (subst (λ o. Among (record { kind = NumberTooLarge; at = at }) (token_faults at o (Some (In p)) behind)) (sym e) (rw (h, l) (inl refl)))
 
 -- behind digits no arity differs
-pub digits_differ : (g : Front) (ds : List ℕ) (ps : List Piece) → front_pieces g ≡ In (inner.Digits ds) ∷ ps → differs g ≡ false
+pub digits_differ : (g : Front) (ds : List ℕ) (ps : List Piece) → front_pieces g ≡ In (inner.Digits ds) ∷ ps → has_other_arity g ≡ false
 digits_differ (LeftShut l) ds ps e = cc
 digits_differ (RightShut l t) ds ps e = cc
 digits_differ (Targeted h) ds ps e = go h.target refl

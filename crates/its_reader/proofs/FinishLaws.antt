@@ -1,5 +1,6 @@
 -- The first rule that leaves the start symbol, and the program of what the code knows at the end of a text.
-use Rattle.std.specs.Prelude.{◌≡◌, ℕ, Bool, true, false, ◌||◌, ◌+◌, if◌then◌else◌, is_some, cond, slice_get, take, List, [], ◌∷◌, ◌++◌, map, length, Option, Some, None, Result, Ok, Err, refl}
+use Rattle.std.specs.Prelude.{◌≡◌, ℕ, Bool, true, false, ◌||◌, ◌+◌, if◌then◌else◌, is_some, cond, slice_get, take, List}
+use Rattle.std.specs.Prelude.{[], ◌∷◌, ◌++◌, map, length, Option, Some, None, Result, Ok, Err, refl}
 use Rattle.std.specs.List.{find}
 use Rattle.std.specs.Option.{option_or}
 use Rattle.std.proofs.lemmas.List.Folds.{find-append}
@@ -12,23 +13,27 @@ use Rattle.text_core.specs.Names.{is_same, is_among, position_of}
 use Rattle.text_core.proofs.NameLaws.{same_equal}
 use Rattle.its_model.specs.declared.program.Program as code
 use Rattle.its_model.specs.Views.{name_of, rule_of, symbol_of, program_of}
-use Rattle.expr_text.proofs.Stability.{extended}
+use Rattle.its_text.proofs.expr_text.Stability.{extended}
 use Rattle.expr_reader.specs.Variables.{names_in}
 use Rattle.its_text.specs.Kinds.{StartUnknown, MissingSection}
 use Rattle.its_text.specs.Lexing.{tokens_of}
-use Rattle.its_text.specs.Written.{LeftTerm, WrittenRule, Section, Goal, Start, Variables, Rules, Comment, pieces_behind}
-use Rattle.its_text.specs.Numbering.{names_of, symbols_of, with_left, with_sums, number_of, left_names, rule_names, term_in, rule_numbered, rules_numbered, start_of, rules_of, or_left, first_leaving, program_from}
-use Rattle.its_text.specs.Shown.{Tokens, has, is_rules}
+use Rattle.its_text.specs.Written.{LeftTerm, WrittenRule, Section, Goal, Start, Variables, Rules, Comment}
+use Rattle.its_text.specs.Written.{pieces_behind}
+use Rattle.its_text.specs.Numbering.{names_of, symbols_of, with_left, with_sums, number_of, left_names, rule_names}
+use Rattle.its_text.specs.Numbering.{term_in, rule_numbered, rules_numbered, start_of, rules_of, or_left, first_leaving}
+use Rattle.its_text.specs.Numbering.{program_from}
+use Rattle.its_text.specs.FrontFaults.{Tokens, has, is_rules}
 use Rattle.its_text.specs.Answers.{at_index, at_maybe, start_index, program_or, whole, verdict}
 use Rattle.its_reader.specs.Faults.{fault_in, Says}
 use Rattle.its_reader.specs.Standing.{Started, started, started_of, limited_rule, KnowsRules, KnowsLast, KnowsBetween}
 use Rattle.its_reader.specs.Finishing.{tabled, is_named_by, leaves, limited_program, Makes}
-use Rattle.its_reader.specs.Turning.{Finishes}
+use Rattle.its_reader.specs.TokenSteps.{Finishes}
 use Rattle.its_reader.specs.declared.draft.Draft.{Draft}
 use Rattle.its_reader.specs.declared.error.ReadError.{ReadError}
 use Rattle.its_reader.proofs.EndLaws.{refusal_said}
 use Rattle.its_reader.proofs.SymbolTables.{arities_of}
-use Rattle.its_reader.proofs.Numbers.{GoesOn, map-push, rules_are_numbered, symbol_goes_on, symbol_among, among_stays_on}
+use Rattle.its_reader.proofs.Numbers.{GoesOn, map-push, rules_are_numbered, symbol_goes_on, symbol_among}
+use Rattle.its_reader.proofs.Numbers.{among_stays_on}
 use Rattle.its_text.proofs.ValidRules.{sums_extends, guard_extends}
 use Rattle.its_reader.proofs.LimitedRules.{program_limited}
 

@@ -1,5 +1,6 @@
 -- What holds behind a token that can follow, where the refusal so far isn't final there; and where it is, it is the answer.
-use Rattle.std.specs.Prelude.{◌≡◌, ℕ, ◌-◌, ◌≤◌, ◌<◌, ◌⊎◌, Bool, true, false, ◌&&◌, ◌||◌, ◌==◌, nat_lt, nat_le, List, ◌∷◌, ◌++◌, length, Option, Some, None, refl}
+use Rattle.std.specs.Prelude.{◌≡◌, ℕ, ◌-◌, ◌≤◌, ◌<◌, ◌⊎◌, Bool, true, false, ◌&&◌, ◌||◌, ◌==◌, nat_lt, nat_le, List}
+use Rattle.std.specs.Prelude.{◌∷◌, ◌++◌, length, Option, Some, None, refl}
 use Rattle.std.proofs.Common.{sym, ap, subst, ◌∙◌, arith, inl, inr}
 use Rattle.std.proofs.lemmas.Bool.Decides.{nat_tests}
 use Rattle.model.specs.Programs.{Name}
@@ -9,32 +10,38 @@ use Rattle.text_core.specs.Tokens.{Token, pieces}
 use Rattle.text_core.specs.Readers.{Fault, next}
 use Rattle.text_core.specs.Faults.{Among}
 use Rattle.text_core.specs.Reading.{Refused, first_among}
-use Rattle.expr_text.specs.Pieces as inner
-use Rattle.expr_text.specs.Terms.{number_of}
-use Rattle.expr_text.specs.Trees.{Sum}
-use Rattle.expr_text.specs.Fronts as expression
-use Rattle.expr_text.specs.Steps as expression_steps
-use Rattle.expr_text.specs.Guards.{Atoms}
-use Rattle.expr_text.specs.GuardFronts as guards
-use Rattle.expr_text.specs.GuardFronts.{GuardFront, LeftSide, RightSide, expression_in}
-use Rattle.expr_text.specs.FrontNames.{goes_on_with, is_front}
+use Rattle.its_text.specs.expr_text.Pieces as inner
+use Rattle.its_text.specs.expr_text.Terms.{number_of}
+use Rattle.its_text.specs.expr_text.Trees.{Sum}
+use Rattle.its_text.specs.expr_text.Fronts as expression
+use Rattle.its_text.specs.expr_text.Steps as expression_steps
+use Rattle.its_text.specs.expr_text.Guards.{Atoms}
+use Rattle.its_text.specs.expr_text.GuardFronts as guards
+use Rattle.its_text.specs.expr_text.GuardFronts.{GuardFront, LeftSide, RightSide, expression_in}
+use Rattle.its_text.specs.expr_text.FrontNames.{goes_on_with, is_front}
 use Rattle.its_text.specs.Pieces.{Piece, In}
-use Rattle.its_text.specs.Kinds.{Kind, kind_number, Syntax, RepeatedSection, ManyTargets, LeftNotVariable, LeftRepeated, NumberTooLarge, Limit, TooManyRules, TooManyArguments, TooManyAtoms, LongName}
+use Rattle.its_text.specs.Kinds.{Kind, kind_number, Syntax, RepeatedSection, ManyTargets, LeftNotVariable, LeftRepeated}
+use Rattle.its_text.specs.Kinds.{NumberTooLarge, Limit, TooManyRules, TooManyArguments, TooManyAtoms, LongName}
 use Rattle.its_text.specs.Fronts as fronts
 use Rattle.its_text.specs.Fronts.{Front, Aimed, Headed, front_pieces}
-use Rattle.its_text.specs.Steps.{step, arguing, argued, guarding, guard_ended, guard_named, squared}
+use Rattle.its_text.specs.Steps.{step, argument_step, behind_argument, mark_guard_step, guard_ended, guard_named}
+use Rattle.its_text.specs.Steps.{square_guard_step}
 use Rattle.its_text.specs.Grammar.{programs}
 use Rattle.its_text.specs.Answers.{verdict}
-use Rattle.its_text.specs.Shown.{Tokens, Going, going, fault_if, long_name, targets_again, repeats_at, targets_many, too_many_rules, passes_arguments, another_atom, token_faults, is_operator, left_wanted, left_of, next_piece, last_byte, shown, shown_last, shown_next}
+use Rattle.its_text.specs.FrontFaults.{Tokens, OpenExpression, open_expression, fault_if, long_name, targets_again}
+use Rattle.its_text.specs.FrontFaults.{repeats_at, targets_many, too_many_rules, passes_arguments, another_atom}
+use Rattle.its_text.specs.FrontFaults.{token_faults, is_operator, left_wanted, left_of, next_piece, last_byte}
+use Rattle.its_text.specs.FrontFaults.{front_faults, last_faults, next_faults}
 use Rattle.its_text.proofs.Ends.{front_known}
 use Rattle.its_reader.specs.Tests as tests
-use Rattle.its_reader.specs.Noting.{IsDigital}
+use Rattle.its_reader.specs.FaultTests.{IsDigital}
 use Rattle.its_reader.specs.PlaceSteps.{IsModestPiece}
 use Rattle.its_reader.specs.Reading.{IsReading}
-use Rattle.its_reader.specs.Turning.{AllowsName, least_of, is_final}
+use Rattle.its_reader.specs.TokenSteps.{AllowsName, least_of, is_final}
 use Rattle.its_reader.specs.declared.draft.Draft.{Draft}
 use Rattle.its_reader.specs.declared.place.Place.{Place}
-use Rattle.its_reader.proofs.Finality.{IsFinal, IsFinalIn, found_final, among_left, among_right, large_shown, digits_differ}
+use Rattle.its_reader.proofs.Finality.{IsFinal, IsFinalIn, found_final, among_left, among_right, large_shown}
+use Rattle.its_reader.proofs.Finality.{digits_differ}
 use Rattle.its_reader.proofs.Stopping.{last_least, last_least_9}
 use Rattle.its_reader.proofs.ReadingLaws.{reading_stops}
 use Rattle.std.proofs.lemmas.Bool.{ltb-false as at_most}
@@ -63,9 +70,9 @@ unfinal_is x t e = unfinal_split x t (nat_lt x.at (t.upto - 1)) (x.at == t.upto 
 
 -- digits that can follow go on with an expression
 abbrev GoesOnAt : Front → Option Piece → inner.Piece → Type 0
-GoesOnAt f behind p = (x : Going) × ((going f (Some (In p)) behind ≡ Some x) × (goes_on_with x.front p ≡ true))
+GoesOnAt f behind p = (x : OpenExpression) × ((open_expression f (Some (In p)) behind ≡ Some x) × (goes_on_with x.front p ≡ true))
 
-argued_never : (a : Aimed) (arguments : List Sum) (o : Option Sum) (ds : Name) → argued a arguments o (inner.Digits ds) ≡ None
+argued_never : (a : Aimed) (arguments : List Sum) (o : Option Sum) (ds : Name) → behind_argument a arguments o (inner.Digits ds) ≡ None
 argued_never a arguments None ds = refl
 argued_never a arguments (Some s) ds = refl
 
@@ -77,26 +84,26 @@ behind_never : (g : GuardFront) (ds : Name) → guards.step_behind g (inner.Digi
 behind_never (LeftSide c e) ds = refl
 behind_never (RightSide c l sign e) ds = refl
 
-arguing_goes : (a : Aimed) (arguments : List Sum) (e : expression.Front) (ds : Name) (g : Front) → arguing a arguments e (expression_steps.step e (inner.Digits ds)) (inner.Digits ds) ≡ Some g → goes_on_with e (inner.Digits ds) ≡ true
+arguing_goes : (a : Aimed) (arguments : List Sum) (e : expression.Front) (ds : Name) (g : Front) → argument_step a arguments e (expression_steps.step e (inner.Digits ds)) (inner.Digits ds) ≡ Some g → goes_on_with e (inner.Digits ds) ≡ true
 arguing_goes a arguments e ds g h = go (expression_steps.step e (inner.Digits ds)) h
   where
-    go : (o : Option expression.Front) → arguing a arguments e o (inner.Digits ds) ≡ Some g → is_front o ≡ true
+    go : (o : Option expression.Front) → argument_step a arguments e o (inner.Digits ds) ≡ Some g → is_front o ≡ true
     go (Some more) h = refl
     go None h = let n = sym (argued_never a arguments (expression_steps.finish e) ds) ∙ h in cc
 
-guarding_goes : (h : Headed) (k : GuardFront) (ds : Name) (g : Front) → guarding h k (guards.step k (inner.Digits ds)) (inner.Digits ds) ≡ Some g → goes_on_with (expression_in k) (inner.Digits ds) ≡ true
+guarding_goes : (h : Headed) (k : GuardFront) (ds : Name) (g : Front) → mark_guard_step h k (guards.step k (inner.Digits ds)) (inner.Digits ds) ≡ Some g → goes_on_with (expression_in k) (inner.Digits ds) ≡ true
 guarding_goes h k ds g e = go (expression_steps.step (expression_in k) (inner.Digits ds)) e
   where
-    go : (o : Option expression.Front) → guarding h k (guards.within k o (inner.Digits ds)) (inner.Digits ds) ≡ Some g → is_front o ≡ true
+    go : (o : Option expression.Front) → mark_guard_step h k (guards.within k o (inner.Digits ds)) (inner.Digits ds) ≡ Some g → is_front o ≡ true
     go (Some more) e = refl
-    go None e = let n = sym (ap (λ o. guarding h k o (inner.Digits ds)) (behind_never k ds) ∙ ended_never h (guards.finish k) ds) ∙ e in cc
+    go None e = let n = sym (ap (λ o. mark_guard_step h k o (inner.Digits ds)) (behind_never k ds) ∙ ended_never h (guards.finish k) ds) ∙ e in cc
 
-squared_goes : (h : Headed) (k : GuardFront) (ds : Name) (g : Front) → squared h (guards.step k (inner.Digits ds)) ≡ Some g → goes_on_with (expression_in k) (inner.Digits ds) ≡ true
+squared_goes : (h : Headed) (k : GuardFront) (ds : Name) (g : Front) → square_guard_step h (guards.step k (inner.Digits ds)) ≡ Some g → goes_on_with (expression_in k) (inner.Digits ds) ≡ true
 squared_goes h k ds g e = go (expression_steps.step (expression_in k) (inner.Digits ds)) e
   where
-    go : (o : Option expression.Front) → squared h (guards.within k o (inner.Digits ds)) ≡ Some g → is_front o ≡ true
+    go : (o : Option expression.Front) → square_guard_step h (guards.within k o (inner.Digits ds)) ≡ Some g → is_front o ≡ true
     go (Some more) e = refl
-    go None e = let n = sym (ap (squared h) (behind_never k ds)) ∙ e in cc
+    go None e = let n = sym (ap (square_guard_step h) (behind_never k ds)) ∙ e in cc
 
 digits_follow : (f : Front) (ds : Name) (behind : Option Piece) (g : Front) → step f (In (inner.Digits ds)) ≡ Some g → GoesOnAt f behind (inner.Digits ds)
 digits_follow (fronts.RightOpened a) ds behind g e = (_, (refl, refl))
@@ -109,10 +116,10 @@ digits_follow (fronts.SquareGuarding h k) ds behind g e = (_, (refl, squared_goe
 digits_follow _ ds behind g e = cc
 
 -- what a left argument shows is shown
-left_shown : (at : ℕ) (f : Front) (next behind : Option Piece) (y : Fault Kind) → Among y (left_of at (left_wanted f) next behind) → Among y (shown_next at f next behind)
+left_shown : (at : ℕ) (f : Front) (next behind : Option Piece) (y : Fault Kind) → Among y (left_of at (left_wanted f) next behind) → Among y (next_faults at f next behind)
 left_shown at f next behind y a =
     among_left y (fault_if (targets_again f next behind) Syntax at ++ fault_if (repeats_at f next behind) RepeatedSection at ++ fault_if (targets_many f next behind) ManyTargets at ++ left_of at (left_wanted f) next behind ++ fault_if (too_many_rules f next behind) (Limit TooManyRules) at ++ fault_if (passes_arguments f next) (Limit TooManyArguments) at ++ fault_if (another_atom f next) (Limit TooManyAtoms) at ++ fault_if (long_name next) (Limit LongName) at)
-    (token_faults at (going f next behind) next behind)
+    (token_faults at (open_expression f next behind) next behind)
     (among_left y (fault_if (targets_again f next behind) Syntax at ++ fault_if (repeats_at f next behind) RepeatedSection at ++ fault_if (targets_many f next behind) ManyTargets at ++ left_of at (left_wanted f) next behind ++ fault_if (too_many_rules f next behind) (Limit TooManyRules) at ++ fault_if (passes_arguments f next) (Limit TooManyArguments) at ++ fault_if (another_atom f next) (Limit TooManyAtoms) at)
     (fault_if (long_name next) (Limit LongName) at)
     (among_left y (fault_if (targets_again f next behind) Syntax at ++ fault_if (repeats_at f next behind) RepeatedSection at ++ fault_if (targets_many f next behind) ManyTargets at ++ left_of at (left_wanted f) next behind ++ fault_if (too_many_rules f next behind) (Limit TooManyRules) at ++ fault_if (passes_arguments f next) (Limit TooManyArguments) at)
@@ -124,12 +131,12 @@ left_shown at f next behind y a =
     (among_right y (fault_if (targets_again f next behind) Syntax at ++ fault_if (repeats_at f next behind) RepeatedSection at ++ fault_if (targets_many f next behind) ManyTargets at) (left_of at (left_wanted f) next behind) a)))))
 
 module _ (bytes : List ℕ) (place : Place) (last : ℕ) (best first : Option (Fault Kind)) (old : Draft) (t : Token Piece) (rest : Tokens) (r : IsReading bytes place last best old (t ∷ rest))
-    (noted : first ≡ first_among programs best (shown (length bytes) r.done r.front (t ∷ rest))) where
+    (noted : first ≡ first_among programs best (front_faults (length bytes) r.done r.front (t ∷ rest))) where
   -- what the next token shows makes the refusal so far final there, where its number is low
-  shown_final : (k : ℕ) (y : Fault Kind) → Among y (shown_next t.at r.front (Some t.piece) (next_piece rest)) → y.at ≡ t.at → kind_number y.kind ≤ k → IsFinalIn k t first
+  shown_final : (k : ℕ) (y : Fault Kind) → Among y (next_faults t.at r.front (Some t.piece) (next_piece rest)) → y.at ≡ t.at → kind_number y.kind ≤ k → IsFinalIn k t first
   shown_final k y a at n =
       subst (IsFinalIn k t) (sym noted)
-      (found_final k t best (shown (length bytes) r.done r.front (t ∷ rest)) y (among_right y (shown_last (last_byte r.done) r.front (Some t.piece)) (shown_next t.at r.front (Some t.piece) (next_piece rest)) a) at r.ordered.1 n)
+      (found_final k t best (front_faults (length bytes) r.done r.front (t ∷ rest)) y (among_right y (last_faults (last_byte r.done) r.front (Some t.piece)) (next_faults t.at r.front (Some t.piece) (next_piece rest)) a) at r.ordered.1 n)
 
   -- a left argument that is named again is shown
   repeated_shown : (arguments : List Name) (name : Name) (behind : Option Piece) → is_among name arguments ≡ true → Among (record { kind = LeftRepeated; at = t.at }) (left_of t.at (Some arguments) (Some (In (inner.Word name))) behind)
@@ -138,7 +145,7 @@ module _ (bytes : List ℕ) (place : Place) (last : ℕ) (best first : Option (F
       (among_right (record { kind = LeftRepeated; at = t.at }) (fault_if (is_operator behind) LeftNotVariable t.at) (fault_if (is_among name arguments) LeftRepeated t.at) (rw e (inl refl)))
 
   named_shown : (arguments : List Name) (name : Name) → left_wanted r.front ≡ Some arguments → t.piece ≡ In (inner.Word name) → is_among name arguments ≡ true
-      → Among (record { kind = LeftRepeated; at = t.at }) (shown_next t.at r.front (Some t.piece) (next_piece rest))
+      → Among (record { kind = LeftRepeated; at = t.at }) (next_faults t.at r.front (Some t.piece) (next_piece rest))
   named_shown arguments name w p e =
       left_shown t.at r.front (Some t.piece) (next_piece rest) (record { kind = LeftRepeated; at = t.at })
       (subst (λ o. Among (record { kind = LeftRepeated; at = t.at }) (left_of t.at o (Some t.piece) (next_piece rest))) (sym w)
@@ -167,7 +174,7 @@ module _ (bytes : List ℕ) (place : Place) (last : ℕ) (best first : Option (F
       small ds p true l =
           let k = digits_follow r.front ds (next_piece rest) g (sym (ap (step r.front) p) ∙ e) in
           absurd (never (shown_final (least_of t.piece) (record { kind = NumberTooLarge; at = t.at })
-          (subst (λ (p : Piece). Among (record { kind = NumberTooLarge; at = t.at }) (shown_next t.at r.front (Some p) (next_piece rest))) (sym p) (large_shown t.at r.front (inner.Digits ds) (next_piece rest) k.0 k.1.0 k.1.1 l)) refl
+          (subst (λ (p : Piece). Among (record { kind = NumberTooLarge; at = t.at }) (next_faults t.at r.front (Some p) (next_piece rest))) (sym p) (large_shown t.at r.front (inner.Digits ds) (next_piece rest) k.0 k.1.0 k.1.1 l)) refl
           (let least : least_of t.piece ≡ 9 = ap least_of p in omega (arith, least))))
 
       go : (p : Piece) → t.piece ≡ p → IsDigital (Some p) → IsModestPiece p
@@ -182,11 +189,11 @@ module _ (bytes : List ℕ) (place : Place) (last : ℕ) (best first : Option (F
       known : front_pieces g ≡ t.piece ∷ pieces r.done
       known = (front_known (t.piece ∷ pieces r.done) g (ap (λ (o : Option Front). next step o t.piece) r.led ∙ e)).0
 
-      least : (p : Piece) → t.piece ≡ p → (y : Fault Kind) → Among y (shown_last (t.upto - 1) g (next_piece rest)) → least_of p ≤ kind_number y.kind
+      least : (p : Piece) → t.piece ≡ p → (y : Fault Kind) → Among y (last_faults (t.upto - 1) g (next_piece rest)) → least_of p ≤ kind_number y.kind
       least (In (inner.Digits ds)) q y a = last_least_9 (t.upto - 1) g (next_piece rest) y (digits_differ g ds (pieces r.done) (known ∙ ap (λ (p : Piece). p ∷ pieces r.done) q)) a
       least (In _) q y a = last_least (t.upto - 1) g (next_piece rest) y a
       least _ q y a = last_least (t.upto - 1) g (next_piece rest) y a
 
-      by : IsFinal (least_of t.piece) t x → (x.at < t.upto - 1) ⊎ ((x.at ≤ t.upto - 1) × ((y : Fault Kind) → Among y (shown_last (t.upto - 1) g (next_piece rest)) → kind_number x.kind ≤ kind_number y.kind))
+      by : IsFinal (least_of t.piece) t x → (x.at < t.upto - 1) ⊎ ((x.at ≤ t.upto - 1) × ((y : Fault Kind) → Among y (last_faults (t.upto - 1) g (next_piece rest)) → kind_number x.kind ≤ kind_number y.kind))
       by (inl a) = inl a
       by (inr a) = inr (a.0, λ y b. let n = least t.piece refl y b in let m = a.1 in omega (arith, n, m))

@@ -1,13 +1,14 @@
 -- What a piece of an expression shows is what the code finds at it.
-use Rattle.std.specs.Prelude.{◌≡◌, ℕ, Bool, not, ◌&&◌, nat_le, nat_lt, if◌then◌else◌, [], ◌++◌, length, Option, Some, None, refl}
+use Rattle.std.specs.Prelude.{◌≡◌, ℕ, Bool, not, ◌&&◌, nat_le, nat_lt, if◌then◌else◌, [], ◌++◌, length, Option, Some}
+use Rattle.std.specs.Prelude.{None, refl}
 use Rattle.std.proofs.Common.{sym, ap, ◌∙◌}
 use Rattle.model.specs.Programs.{Name}
 use Rattle.model.specs.Limits.{variable_limit, token_limit, coefficient_limit}
 use Rattle.text_core.specs.Names.{is_among}
-use Rattle.expr_text.specs.Pieces as inner
-use Rattle.expr_text.specs.Terms.{number_of}
-use Rattle.expr_text.specs.FrontNames.{with_front, token_count}
-use Rattle.expr_text.specs.TermFronts.{goes_on_from}
+use Rattle.its_text.specs.expr_text.Pieces as inner
+use Rattle.its_text.specs.expr_text.Terms.{number_of}
+use Rattle.its_text.specs.expr_text.FrontNames.{with_front, token_count}
+use Rattle.its_text.specs.expr_text.TermFronts.{goes_on_from}
 use Rattle.expr_reader.specs.Variables.{names_in}
 use Rattle.expr_reader.specs.Views.{front_of}
 use Rattle.expr_reader.specs.Standing.{Stands}
@@ -15,23 +16,24 @@ use Rattle.expr_reader.specs.declared.expression.Expression.{Expression}
 use Rattle.expr_reader.proofs.Endings.{goes_on_is}
 use Rattle.its_text.specs.Pieces.{Piece, In}
 use Rattle.its_text.specs.Kinds.{NumberTooLarge, Limit, TooManyVariables, TooManyTokens}
-use Rattle.its_text.specs.Shown.{fault_if, Going, is_large, is_truth, passes_variables, going_faults, token_faults}
+use Rattle.its_text.specs.FrontFaults.{fault_if, OpenExpression, is_large, is_truth, passes_variables}
+use Rattle.its_text.specs.FrontFaults.{expression_faults, token_faults}
 use Rattle.its_reader.specs.Tests.{inner_next}
-use Rattle.its_reader.specs.Noting.{is_large_row, passes, inner_found, going_found, IsDigital}
+use Rattle.its_reader.specs.FaultTests.{is_large_row, passes, piece_faults, step_faults, IsDigital}
 use Rattle.its_reader.specs.declared.draft.RuleDraft.{RuleDraft}
 
 large_is : (p : inner.Piece) → IsDigital (Some (In p)) → is_large p ≡ is_large_row p
 large_is (inner.Digits ds) d = ap (λ v. v && nat_lt coefficient_limit (number_of ds)) (sym d)
 large_is _ d = refl
 
-module _ (at : ℕ) (g : Going) (r : RuleDraft) (e : Expression) (truth : Bool) (behind : Option Piece) (k : Stands g.names g.front (names_in r.variables) e) where
+module _ (at : ℕ) (g : OpenExpression) (r : RuleDraft) (e : Expression) (truth : Bool) (behind : Option Piece) (k : Stands g.names g.front (names_in r.variables) e) where
   passes_is : (p : inner.Piece) → ((name : Name) → p ≡ inner.Word name → truth ≡ is_truth g name behind) → passes_variables g p behind ≡ passes truth r p
   passes_is (inner.Word name) h =
       ap (λ v. not v && not (is_among name (with_front g.names g.front)) && nat_le variable_limit (length (with_front g.names g.front))) (sym (h name refl))
       ∙ ap (λ ns. not truth && not (is_among name ns) && nat_le variable_limit (length ns)) (sym k.names_are)
   passes_is _ h = refl
 
-  inner_is : (p : inner.Piece) → IsDigital (Some (In p)) → ((name : Name) → p ≡ inner.Word name → truth ≡ is_truth g name behind) → going_faults at g p behind ≡ inner_found r e.tokens truth at p
+  inner_is : (p : inner.Piece) → IsDigital (Some (In p)) → ((name : Name) → p ≡ inner.Word name → truth ≡ is_truth g name behind) → expression_faults at g p behind ≡ piece_faults r e.tokens truth at p
   inner_is p d h =
       ap (λ v. fault_if v NumberTooLarge at ++ fault_if (passes_variables g p behind) (Limit TooManyVariables) at ++ fault_if (nat_le token_limit (token_count g.front)) (Limit TooManyTokens) at) (large_is p d)
       ∙ (ap (λ v. fault_if (is_large_row p) NumberTooLarge at ++ fault_if v (Limit TooManyVariables) at ++ fault_if (nat_le token_limit (token_count g.front)) (Limit TooManyTokens) at) (passes_is p h)
@@ -39,9 +41,9 @@ module _ (at : ℕ) (g : Going) (r : RuleDraft) (e : Expression) (truth : Bool) 
 
   -- what a piece shows that goes on with an expression is what the code finds at it
   pub going_is : (next : Option Piece) → IsDigital next → ((p : inner.Piece) (name : Name) → next ≡ Some (In p) → p ≡ inner.Word name → truth ≡ is_truth g name behind)
-      → token_faults at (Some g) next behind ≡ going_found r e truth at (inner_next next)
+      → token_faults at (Some g) next behind ≡ step_faults r e truth at (inner_next next)
   going_is None d h = refl
   going_is (Some (In p)) d h =
-      ap (λ v. if v then going_faults at g p behind else []) (sym (goes_on_is g.names g.front (names_in r.variables) e p k))
+      ap (λ v. if v then expression_faults at g p behind else []) (sym (goes_on_is g.names g.front (names_in r.variables) e p k))
       ∙ ap (λ xs. if goes_on_from (front_of e).outer (front_of e).operand p then xs else []) (inner_is p d (λ name. h p name refl))
   going_is (Some _) d h = refl

@@ -7,17 +7,17 @@ use Rattle.model.specs.Programs.{Name}
 use Rattle.model.specs.Limits.{coefficient_limit}
 use Rattle.its_model.specs.Views.{rule_of}
 use Rattle.poly_terms.specs.Views.{term_of}
-use Rattle.expr_text.specs.Pieces as inner
-use Rattle.expr_text.specs.Trees.{Sum}
-use Rattle.expr_text.specs.Terms.{with_sum, number_of}
-use Rattle.expr_text.specs.Fronts as expression
-use Rattle.expr_text.specs.Fronts.{beginning}
-use Rattle.expr_text.specs.Steps as expression_steps
-use Rattle.expr_text.specs.Guards.{Atoms}
-use Rattle.expr_text.specs.GuardFronts as guards
-use Rattle.expr_text.specs.GuardFronts.{GuardFront, LeftSide, RightSide, Conjoined, ended, compared}
-use Rattle.expr_text.specs.FrontNames.{operates, is_front, with_conjoined}
-use Rattle.expr_text.specs.TermFronts.{goes_on_from}
+use Rattle.its_text.specs.expr_text.Pieces as inner
+use Rattle.its_text.specs.expr_text.Trees.{Sum}
+use Rattle.its_text.specs.expr_text.Terms.{with_sum, number_of}
+use Rattle.its_text.specs.expr_text.Fronts as expression
+use Rattle.its_text.specs.expr_text.Fronts.{beginning}
+use Rattle.its_text.specs.expr_text.Steps as expression_steps
+use Rattle.its_text.specs.expr_text.Guards.{Atoms}
+use Rattle.its_text.specs.expr_text.GuardFronts as guards
+use Rattle.its_text.specs.expr_text.GuardFronts.{GuardFront, LeftSide, RightSide, Conjoined, ended, compared}
+use Rattle.its_text.specs.expr_text.FrontNames.{operates, is_front, with_conjoined}
+use Rattle.its_text.specs.expr_text.TermFronts.{goes_on_from}
 use Rattle.expr_reader.specs.Variables.{names_in}
 use Rattle.expr_reader.specs.Views.{front_of}
 use Rattle.expr_reader.specs.Standing.{IsFresh, IsModest, Stands}
@@ -32,14 +32,15 @@ use Rattle.its_text.specs.Pieces.{Piece, In, SquareClose}
 use Rattle.its_text.specs.Fronts as fronts
 use Rattle.its_text.specs.Fronts.{Front, Headed}
 use Rattle.its_text.specs.FrontNames.{headed_names}
-use Rattle.its_text.specs.Steps.{step, guarding, guard_ended, guard_named, squared, square_ended}
-use Rattle.its_text.specs.Shown as shown
-use Rattle.its_text.specs.Shown.{Tokens}
+use Rattle.its_text.specs.Steps.{step, mark_guard_step, guard_ended, guard_named, square_guard_step, square_ended}
+use Rattle.its_text.specs.FrontFaults as shown
+use Rattle.its_text.specs.FrontFaults.{Tokens}
 use Rattle.its_reader.specs.Tests as tests
 use Rattle.its_reader.specs.Standing.{KnowsSections, KnowsSymbols, KnowsHeaded, symbols_headed}
 use Rattle.its_reader.specs.Places.{LeadsTo, IsGuard}
 use Rattle.its_reader.specs.PlaceSteps.{GoTogether, IsModestPiece}
-use Rattle.its_reader.specs.Tailing.{is_modest, goes_on_in, guarding_if, TakesInner, TakesAtom, TakesPiece, TakesMaybe, AtomTakes}
+use Rattle.its_reader.specs.TailSteps.{is_modest, goes_on_in, guarding_if, TakesInner, TakesAtom, TakesPiece}
+use Rattle.its_reader.specs.TailSteps.{TakesMaybe, AtomTakes}
 use Rattle.its_reader.specs.declared.place.Fence.{Fence}
 use Rattle.its_reader.specs.declared.place.Fence.TheVariants as fences
 use Rattle.its_reader.specs.declared.place.Place.{Place}
@@ -117,12 +118,12 @@ module _ (before names : List Name) (r : GuardReader) where
       → step (guarded fence h g) (In p) ≡ mapped (guards.step g p) fence h
   guard_step fences.Mark h g p s still = go (guards.step g p) refl
     where
-      go : (o : Option GuardFront) → guards.step g p ≡ o → guarding h g o p ≡ mapped o fences.Mark h
+      go : (o : Option GuardFront) → guards.step g p ≡ o → mark_guard_step h g o p ≡ mapped o fences.Mark h
       go (Some more) e = refl
       go None e = ends_nothing h g p s still e
   guard_step fences.Square h g p s still = go (guards.step g p)
     where
-      go : (o : Option GuardFront) → squared h o ≡ mapped o fences.Square h
+      go : (o : Option GuardFront) → square_guard_step h o ≡ mapped o fences.Square h
       go (Some more) = refl
       go None = refl
 

@@ -1,20 +1,21 @@
 -- Where each piece leads up to the end of a left term, by tests of the piece.
-use Rattle.std.specs.Prelude.{◌≡◌, ℕ, Bool, true, false, not, ◌==◌, nat_lt, if◌then◌else◌, List, [], ◌∷◌, ◌++◌, map, length, Option, Some, None, refl}
+use Rattle.std.specs.Prelude.{◌≡◌, ℕ, Bool, true, false, not, ◌==◌, nat_lt, if◌then◌else◌, List, [], ◌∷◌, ◌++◌, map}
+use Rattle.std.specs.Prelude.{length, Option, Some, None, refl}
 use Rattle.std.proofs.Common.{sym, ap, subst, ◌∙◌, inl, inr, get_or}
 use Rattle.std.proofs.lemmas.List.{length-reverse}
 use Rattle.std.proofs.lemmas.Grind.{reverse_onto}
 use Rattle.model.specs.Programs.{Name, Symbol}
 use Rattle.its_model.specs.Views.{rule_of}
 use Rattle.text_core.specs.Names.{is_among, position_of}
-use Rattle.expr_text.specs.Pieces as inner
-use Rattle.expr_text.specs.Terms.{with_name}
+use Rattle.its_text.specs.expr_text.Pieces as inner
+use Rattle.its_text.specs.expr_text.Terms.{with_name}
 use Rattle.expr_reader.specs.Variables.{names_in}
 use Rattle.its_text.specs.Pieces.{Piece, In, Comma, Arrow, open_bracket}
 use Rattle.its_text.specs.Written.{BehindMark}
 use Rattle.its_text.specs.Numbering.{symbols_of, with_symbol, number_of, names_of}
 use Rattle.its_text.specs.Fronts as fronts
 use Rattle.its_text.specs.Fronts.{Front, Ruling, Headed, ruling_with, section_of}
-use Rattle.its_text.specs.Shown.{Tokens, other_arity}
+use Rattle.its_text.specs.FrontFaults.{Tokens, other_arity}
 use Rattle.its_text.specs.Steps.{step, left_shut}
 use Rattle.its_reader.specs.Tests as tests
 use Rattle.its_reader.specs.Standing.{KnowsSections, KnowsRuling, KnowsSource, KnowsLeft, KnowsSymbols, IsFreshRule}
@@ -30,7 +31,7 @@ use Rattle.its_reader.specs.declared.place.Place.TheVariants as places
 use Rattle.its_reader.proofs.SymbolTables.{symbols_with, arity_at, number_stays}
 use Rattle.expr_reader.specs.Standing.{IsFresh}
 use Rattle.expr_reader.specs.GuardStanding.{IsWanting}
-use Rattle.expr_text.specs.GuardFronts.{no_atoms}
+use Rattle.its_text.specs.expr_text.GuardFronts.{no_atoms}
 
 -- what leads somewhere in both does so together
 pub leads_together : (ts : Tokens) (next : Option Piece) (o : Option Front) (r : Option Place) (d : Draft) → LeadsTo ts next o r d → GoTogether o r

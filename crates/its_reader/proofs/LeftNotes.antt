@@ -1,5 +1,6 @@
 -- What a left term shows at the next token is what the code finds there.
-use Rattle.std.specs.Prelude.{◌≡◌, ℕ, suc, Bool, true, false, ◌&&◌, ◌||◌, nat_le, List, [], ◌∷◌, ◌++◌, map, length, reverse, Option, Some, None, refl}
+use Rattle.std.specs.Prelude.{◌≡◌, ℕ, suc, Bool, true, false, ◌&&◌, ◌||◌, nat_le, List, [], ◌∷◌, ◌++◌, map, length}
+use Rattle.std.specs.Prelude.{reverse, Option, Some, None, refl}
 use Rattle.std.proofs.Common.{sym, ap, ◌∙◌, append-nil, inl, inr}
 use Rattle.std.proofs.lemmas.List.{length-reverse}
 use Rattle.std.proofs.lemmas.Grind.{reverse_onto}
@@ -7,17 +8,17 @@ use Rattle.model.specs.Programs.{Name}
 use Rattle.model.specs.Limits.{rule_limit, place_limit}
 use Rattle.its_model.specs.Views.{rule_of}
 use Rattle.text_core.specs.Names.{is_same, is_among}
-use Rattle.expr_text.specs.Pieces as inner
+use Rattle.its_text.specs.expr_text.Pieces as inner
 use Rattle.expr_reader.specs.Variables.{names_in}
 use Rattle.its_text.specs.Pieces.{Piece, In}
 use Rattle.its_text.specs.Written.{WrittenRule}
 use Rattle.its_text.specs.Kinds.{LeftNotVariable, LeftRepeated, Limit, TooManyRules, TooManyArguments, LongName}
 use Rattle.its_text.specs.Fronts.{Front}
-use Rattle.its_text.specs.Shown.{Tokens, fault_if, long_name, is_word, is_operator, left_of, shown_next}
+use Rattle.its_text.specs.FrontFaults.{Tokens, fault_if, long_name, is_word, is_operator, left_of, next_faults}
 use Rattle.its_reader.specs.Tests as tests
 use Rattle.its_reader.specs.Standing.{rules_so_far}
 use Rattle.its_reader.specs.Places.{InLeft, IsSource}
-use Rattle.its_reader.specs.Noting.{argument_found, left_found}
+use Rattle.its_reader.specs.FaultTests.{left_argument_name_faults, left_faults}
 use Rattle.its_reader.specs.declared.place.LeftPlace.{LeftPlace}
 use Rattle.its_reader.specs.declared.place.LeftPlace.TheVariants as lefts
 use Rattle.its_reader.specs.declared.draft.RuleDraft.{RuleDraft}
@@ -63,7 +64,7 @@ among_reverse m (n ∷ names) =
     ∙ (among_push m n (reverse names) ∙ (ap (λ v. v || is_same m n) (among_reverse m names) ∙ swapped (is_among m names) (is_same m n)))
 
 -- a left argument
-argument_is : (at : ℕ) (arguments : List Name) (r : RuleDraft) (next behind : Option Piece) → names_in r.variables ≡ reverse arguments → left_of at (Some arguments) next behind ≡ argument_found r at (tests.word_of next) behind
+argument_is : (at : ℕ) (arguments : List Name) (r : RuleDraft) (next behind : Option Piece) → names_in r.variables ≡ reverse arguments → left_of at (Some arguments) next behind ≡ left_argument_name_faults r at (tests.word_of next) behind
 argument_is at arguments r None behind e = refl
 argument_is at arguments r (Some (In (inner.Word name))) behind e =
     ap (λ v. fault_if (is_operator behind) LeftNotVariable at ++ fault_if v LeftRepeated at ++ fault_if (nat_le place_limit (length arguments)) (Limit TooManyArguments) at)
@@ -75,16 +76,16 @@ argument_is at arguments r (Some _) behind e = refl
 
 module _ (ts : Tokens) (at : ℕ) (next behind : Option Piece) (d : Draft) (f : Front) where
   wanted_shows : (arguments : List Name) → names_in d.rule.variables ≡ reverse arguments
-      → left_of at (Some arguments) next behind ++ fault_if (long_name next) (Limit LongName) at ≡ argument_found d.rule at (tests.word_of next) behind ++ fault_if (long_name next) (Limit LongName) at
+      → left_of at (Some arguments) next behind ++ fault_if (long_name next) (Limit LongName) at ≡ left_argument_name_faults d.rule at (tests.word_of next) behind ++ fault_if (long_name next) (Limit LongName) at
   wanted_shows arguments e = ap (λ xs. xs ++ fault_if (long_name next) (Limit LongName) at) (argument_is at arguments d.rule next behind e)
 
   -- what a front of a left term shows at the next token is what the code finds there
-  pub left_next : (place : LeftPlace) → InLeft ts next place d f → shown_next at f next behind ≡ left_found place d at next behind
+  pub left_next : (place : LeftPlace) → InLeft ts next place d f → next_faults at f next behind ≡ left_faults place d at next behind
   left_next lefts.Ruled k = rw k.1.0 (simp append-nil
       (ap (λ n. fault_if (is_word next && nat_le rule_limit n) (Limit TooManyRules) at ++ fault_if (long_name next) (Limit LongName) at) (sym (as_many_rules k.0.rules d k.1.1.0.rules.rules_are))))
   left_next lefts.SourceNamed k = either k.1.1.0
     where
-      either : IsSource next k.0 k.1.0 f → shown_next at f next behind ≡ fault_if (long_name next) (Limit LongName) at
+      either : IsSource next k.0 k.1.0 f → next_faults at f next behind ≡ fault_if (long_name next) (Limit LongName) at
       either (inl e) = rw e (simp append-nil)
       either (inr (h, (e, (r, n)))) = rw (e, n) refl
   left_next lefts.LeftOpened k = rw k.1.1.0 (simp append-nil (wanted_shows [] k.1.1.1.arguments_are))

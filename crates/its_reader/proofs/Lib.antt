@@ -7,7 +7,7 @@ pub mod Fronts
 pub mod SymbolTables
 pub mod LeftLaws
 pub mod Stopping
-pub mod NotingLaws
+pub mod FaultTestLaws
 pub mod RightLaws
 pub mod RightPromises
 pub mod Numbers
@@ -22,7 +22,7 @@ pub mod LoopLaws
 pub mod NameLists
 pub mod TailLaws
 pub mod GuardLaws
-pub mod SettlingLaws
+pub mod PartEndLaws
 pub mod AdvanceLaws
 pub mod LeftNotes
 pub mod GoingNotes
@@ -32,3 +32,5 @@ pub mod TailNotes
 pub mod ListedLaws
 pub mod FinishLaws
 pub mod LimitedRules
+-- the lemmas of the crates below, which callers name through this one
+pub use Rattle.its_text.proofs as its_text

@@ -8,7 +8,7 @@ use Rattle.model.specs.Terms.{Term, Literal, Subtraction}
 use Rattle.text_core.specs.Reading.{Answer, Stands, Refused}
 use Rattle.poly_terms.specs.Faults.{first_fault}
 use Rattle.its_model.specs.Valid.{IsValid, IsValidRule, IsValidTerm, IsValidAtom, difference_of}
-use Rattle.expr_text.specs.TermFronts.{limited}
+use Rattle.its_text.specs.expr_text.TermFronts.{limited}
 use Rattle.expr_reader.specs.GuardStanding.{limited_atom}
 use Rattle.expr_reader.proofs.LimitedFaults.{limited_same}
 use Rattle.its_model.specs.declared.program.Program as code

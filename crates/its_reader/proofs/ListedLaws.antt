@@ -1,5 +1,6 @@
 -- A table of symbols, entry by entry.
-use Rattle.std.specs.Prelude.{◌≡◌, ℕ, zero, suc, ◌<◌, ◌-◌, slice_get, drop, take, List, [], ◌∷◌, ◌++◌, map, length, Some, None, refl}
+use Rattle.std.specs.Prelude.{◌≡◌, ℕ, zero, suc, ◌<◌, ◌-◌, slice_get, drop, take, List, [], ◌∷◌, ◌++◌, map, length}
+use Rattle.std.specs.Prelude.{Some, None, refl}
 use Rattle.std.specs.Borrow.{Bor}
 use Rattle.std.proofs.Common.{sym, ap, subst, ◌∙◌}
 use Rattle.model.specs.Programs.{Name, Symbol}

@@ -1,6 +1,6 @@
 -- The mode behind a piece, by tests of the piece.
 use Rattle.std.specs.Prelude.{◌≡◌, ℕ, zero, suc, if◌then◌else◌, Option, Some, None, refl, List}
-use Rattle.expr_text.specs.Pieces as inner
+use Rattle.its_text.specs.expr_text.Pieces as inner
 use Rattle.its_text.specs.Pieces.{Piece, In}
 use Rattle.its_text.specs.Lexing.{Mode, Outside, AtKeyword, Within, mode_behind, behind_keyword}
 use Rattle.its_reader.specs.Tests as tests

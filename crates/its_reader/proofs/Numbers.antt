@@ -3,12 +3,14 @@ use Rattle.std.specs.Prelude.{◌≡◌, ℕ, true, List, [], ◌∷◌, ◌++�
 use Rattle.std.proofs.Common.{sym, ap, ◌∙◌, append-nil}
 use Rattle.model.specs.Programs.{Name, Symbol}
 use Rattle.text_core.specs.Names.{is_among, position_of}
-use Rattle.expr_text.specs.Trees.{Sum}
-use Rattle.expr_text.specs.Terms.{sum_term}
-use Rattle.expr_text.specs.TermFronts.{limited}
-use Rattle.expr_text.proofs.Stability.{extended, sum_extends, name_extends, sum_is_read, sum_term_stays, position_stays, among_with, among_more}
+use Rattle.its_text.specs.expr_text.Trees.{Sum}
+use Rattle.its_text.specs.expr_text.Terms.{sum_term}
+use Rattle.its_text.specs.expr_text.TermFronts.{limited}
+use Rattle.its_text.proofs.expr_text.Stability.{extended, sum_extends, name_extends, sum_is_read, sum_term_stays, position_stays}
+use Rattle.its_text.proofs.expr_text.Stability.{among_with, among_more}
 use Rattle.its_text.specs.Written.{WrittenRule}
-use Rattle.its_text.specs.Numbering.{names_of, with_symbol, with_left, symbols_of, number_of, with_sums, sums_terms, term_in, rule_numbered, rules_numbered}
+use Rattle.its_text.specs.Numbering.{names_of, with_symbol, with_left, symbols_of, number_of, with_sums, sums_terms}
+use Rattle.its_text.specs.Numbering.{term_in, rule_numbered, rules_numbered}
 use Rattle.its_reader.specs.Standing.{updates_of, limited_rule, rules_so_far}
 use Rattle.its_reader.proofs.SymbolTables.{names_with}
 

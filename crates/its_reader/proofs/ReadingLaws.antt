@@ -12,8 +12,8 @@ use Rattle.its_text.specs.Fronts as fronts
 use Rattle.its_text.specs.Fronts.{Front, front_pieces}
 use Rattle.its_text.specs.Steps.{step, finish}
 use Rattle.its_text.specs.Grammar.{programs}
-use Rattle.its_text.specs.Answers.{at_index, verdict, judged}
-use Rattle.its_text.specs.Shown.{Tokens, next_piece, shown, shown_last, off}
+use Rattle.its_text.specs.Answers.{at_index, verdict, verdict_of_answer}
+use Rattle.its_text.specs.FrontFaults.{Tokens, next_piece, front_faults, last_faults, break_kind}
 use Rattle.its_text.proofs.Ends.{front_known}
 use Rattle.its_text.proofs.LexingLaws.{tokens_in_order}
 use Rattle.its_reader.specs.Standing.{KnowsBetween}
@@ -60,7 +60,7 @@ module _ (bytes : List ℕ) (place : Place) (last : ℕ) (best : Option (Fault K
       ∙ ap (at_index (tokens_of bytes)) (sym (ap length (front_known (pieces r.done) r.front r.led).0 ∙ length-pieces r.done)))
 
   -- one token further
-  pub reading_goes_on : (now : Option (Fault Kind)) (g : Front) (reached_place : Place) (new : Draft) → now ≡ first_among programs best (shown (length bytes) r.done r.front (t ∷ rest)) → step r.front t.piece ≡ Some g
+  pub reading_goes_on : (now : Option (Fault Kind)) (g : Front) (reached_place : Place) (new : Draft) → now ≡ first_among programs best (front_faults (length bytes) r.done r.front (t ∷ rest)) → step r.front t.piece ≡ Some g
       → StandsAt (tokens_of bytes) (next_piece rest) reached_place new g → IsReading bytes reached_place (t.upto - 1) now new rest
   reading_goes_on now g reached_place new b e k = record {
     done = t ∷ r.done;
@@ -72,38 +72,38 @@ module _ (bytes : List ℕ) (place : Place) (last : ℕ) (best : Option (Fault K
     digital = r.digital.1;
     pending =
         r.pending
-        ∙ (ap (λ o. run programs (length bytes) (further programs (first_among programs best (shown (length bytes) r.done r.front (t ∷ rest))) r.done t o (off_at programs (length bytes) r.front (t ∷ rest))) rest) e
+        ∙ (ap (λ o. run programs (length bytes) (further programs (first_among programs best (front_faults (length bytes) r.done r.front (t ∷ rest))) r.done t o (off_at programs (length bytes) r.front (t ∷ rest))) rest) e
         ∙ ap (λ now. run programs (length bytes) (Going now (t ∷ r.done) g) rest) (sym b));
     stands = k;
   }
 
   -- the text breaks off
-  pub reading_breaks : (now : Option (Fault Kind)) → now ≡ first_among programs best (shown (length bytes) r.done r.front (t ∷ rest)) → step r.front t.piece ≡ None
-      → verdict bytes ≡ Refused (first_of programs now (record { kind = off r.front (t ∷ rest); at = t.at }))
+  pub reading_breaks : (now : Option (Fault Kind)) → now ≡ first_among programs best (front_faults (length bytes) r.done r.front (t ∷ rest)) → step r.front t.piece ≡ None
+      → verdict bytes ≡ Refused (first_of programs now (record { kind = break_kind r.front (t ∷ rest); at = t.at }))
   reading_breaks now b e =
-      ap (judged (length bytes) (tokens_of bytes))
+      ap (verdict_of_answer (length bytes) (tokens_of bytes))
       (r.pending
-      ∙ (ap (λ o. run programs (length bytes) (further programs (first_among programs best (shown (length bytes) r.done r.front (t ∷ rest))) r.done t o (off_at programs (length bytes) r.front (t ∷ rest))) rest) e
+      ∙ (ap (λ o. run programs (length bytes) (further programs (first_among programs best (front_faults (length bytes) r.done r.front (t ∷ rest))) r.done t o (off_at programs (length bytes) r.front (t ∷ rest))) rest) e
       ∙ (ap (λ now. run programs (length bytes) (Stopped (first_of programs now (off_at programs (length bytes) r.front (t ∷ rest)))) rest) (sym b)
       ∙ stopped_is (length bytes) (first_of programs now (off_at programs (length bytes) r.front (t ∷ rest))) rest)))
 
   -- reading stops behind a token: before its last byte, or at it where nothing that is shown there has a lesser number
-  pub reading_stops : (x : Fault Kind) (g : Front) → Some x ≡ first_among programs best (shown (length bytes) r.done r.front (t ∷ rest)) → step r.front t.piece ≡ Some g
-      → (x.at < t.upto - 1) ⊎ ((x.at ≤ t.upto - 1) × ((y : Fault Kind) → Among y (shown_last (t.upto - 1) g (next_piece rest)) → kind_number x.kind ≤ kind_number y.kind)) → verdict bytes ≡ Refused x
+  pub reading_stops : (x : Fault Kind) (g : Front) → Some x ≡ first_among programs best (front_faults (length bytes) r.done r.front (t ∷ rest)) → step r.front t.piece ≡ Some g
+      → (x.at < t.upto - 1) ⊎ ((x.at ≤ t.upto - 1) × ((y : Fault Kind) → Among y (last_faults (t.upto - 1) g (next_piece rest)) → kind_number x.kind ≤ kind_number y.kind)) → verdict bytes ≡ Refused x
   reading_stops x g b e h =
-      ap (judged (length bytes) (tokens_of bytes))
+      ap (verdict_of_answer (length bytes) (tokens_of bytes))
       (r.pending
-      ∙ (ap (λ o. run programs (length bytes) (further programs (first_among programs best (shown (length bytes) r.done r.front (t ∷ rest))) r.done t o (off_at programs (length bytes) r.front (t ∷ rest))) rest) e
+      ∙ (ap (λ o. run programs (length bytes) (further programs (first_among programs best (front_faults (length bytes) r.done r.front (t ∷ rest))) r.done t o (off_at programs (length bytes) r.front (t ∷ rest))) rest) e
       ∙ (ap (λ now. run programs (length bytes) (Going now (t ∷ r.done) g) rest) (sym b) ∙ go h)))
     where
       behind : AreInOrder (t.upto - 1 + 1) rest (length bytes)
       behind = let q = r.ordered.1 in ordered rest t.upto (t.upto - 1 + 1) (length bytes) (omega (arith, q)) r.ordered.2
 
-      go : (x.at < t.upto - 1) ⊎ ((x.at ≤ t.upto - 1) × ((y : Fault Kind) → Among y (shown_last (t.upto - 1) g (next_piece rest)) → kind_number x.kind ≤ kind_number y.kind)) → run programs (length bytes) (Going (Some x) (t ∷ r.done) g) rest ≡ Refused x
+      go : (x.at < t.upto - 1) ⊎ ((x.at ≤ t.upto - 1) × ((y : Fault Kind) → Among y (last_faults (t.upto - 1) g (next_piece rest)) → kind_number x.kind ≤ kind_number y.kind)) → run programs (length bytes) (Going (Some x) (t ∷ r.done) g) rest ≡ Refused x
       go (inl a) = answer_before rest (length bytes) (t ∷ r.done) g x a behind
       go (inr a) = answer_here rest (length bytes) (t ∷ r.done) g x a.0 behind a.1
 
 -- the end of a text
-pub reading_ends : (bytes : List ℕ) (place : Place) (last : ℕ) (best now : Option (Fault Kind)) (d : Draft) → (r : IsReading bytes place last best d []) → now ≡ first_among programs best (shown (length bytes) r.done r.front [])
-    → answer programs (length bytes) (tokens_of bytes) ≡ ended programs now (finish r.front) (record { kind = off r.front []; at = length bytes })
+pub reading_ends : (bytes : List ℕ) (place : Place) (last : ℕ) (best now : Option (Fault Kind)) (d : Draft) → (r : IsReading bytes place last best d []) → now ≡ first_among programs best (front_faults (length bytes) r.done r.front [])
+    → answer programs (length bytes) (tokens_of bytes) ≡ ended programs now (finish r.front) (record { kind = break_kind r.front []; at = length bytes })
 reading_ends bytes place last best now d r b = r.pending ∙ ap (λ now. ended programs now (finish r.front) (off_at programs (length bytes) r.front [])) (sym b)

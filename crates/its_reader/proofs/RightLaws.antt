@@ -1,38 +1,39 @@
 -- Where each piece leads from the arrow to the end of a target, by tests of the piece.
-use Rattle.std.specs.Prelude.{◌≡◌, ℕ, suc, ◌==◌, nat_lt, length, true, false, not, if◌then◌else◌, List, [], ◌∷◌, ◌++◌, map, codes, Option, Some, None, refl}
+use Rattle.std.specs.Prelude.{◌≡◌, ℕ, suc, ◌==◌, nat_lt, length, true, false, not, if◌then◌else◌, List, [], ◌∷◌, ◌++◌}
+use Rattle.std.specs.Prelude.{map, codes, Option, Some, None, refl}
 use Rattle.std.proofs.Common.{sym, ap, subst, ◌∙◌, get_or}
 use Rattle.model.specs.Programs.{Name, Symbol}
 use Rattle.its_model.specs.Views.{rule_of}
 use Rattle.poly_terms.specs.Views.{term_of}
 use Rattle.text_core.specs.Names.{position_of}
-use Rattle.expr_text.specs.Terms.{with_name}
+use Rattle.its_text.specs.expr_text.Terms.{with_name}
 use Rattle.expr_reader.proofs.Standing.{fresh_stands}
 use Rattle.its_text.specs.Written.{RightTerm, Target, Marked, Bare}
 use Rattle.its_text.specs.Numbering.{with_symbol, with_right, number_of, left_names, term_in}
-use Rattle.its_text.specs.Shown.{other_arity}
+use Rattle.its_text.specs.FrontFaults.{other_arity}
 use Rattle.its_text.specs.Steps.{right_shut}
 use Rattle.its_reader.specs.Standing.{updates_of}
 use Rattle.its_reader.specs.Places.{IsArgued, behind_wrap}
 use Rattle.its_reader.specs.PlaceSteps.{AfterRight}
 use Rattle.its_reader.proofs.SymbolTables.{symbols_with, arity_at, number_stays}
-use Rattle.expr_text.specs.Pieces as inner
-use Rattle.expr_text.specs.GuardFronts.{no_atoms}
+use Rattle.its_text.specs.expr_text.Pieces as inner
+use Rattle.its_text.specs.expr_text.GuardFronts.{no_atoms}
 use Rattle.expr_reader.specs.Variables.{names_in}
 use Rattle.expr_reader.specs.Standing.{IsFresh, IsModest, Stands}
-use Rattle.expr_text.specs.Trees.{Sum}
-use Rattle.expr_text.specs.Fronts as expression
-use Rattle.expr_text.specs.Steps as expression_steps
-use Rattle.expr_text.specs.FrontNames.{is_front, goes_on_with}
+use Rattle.its_text.specs.expr_text.Trees.{Sum}
+use Rattle.its_text.specs.expr_text.Fronts as expression
+use Rattle.its_text.specs.expr_text.Steps as expression_steps
+use Rattle.its_text.specs.expr_text.FrontNames.{is_front, goes_on_with}
 use Rattle.its_text.specs.FrontNames.{names_with}
-use Rattle.its_text.specs.Shown.{ends_expression}
-use Rattle.its_text.specs.Steps.{arguing}
+use Rattle.its_text.specs.FrontFaults.{ends_expression}
+use Rattle.its_text.specs.Steps.{argument_step}
 use Rattle.its_reader.specs.Places.{IsArguing}
 use Rattle.its_reader.specs.PlaceSteps.{GoesOn, Takes}
 use Rattle.expr_reader.specs.GuardStanding.{IsWanting}
 use Rattle.its_text.specs.Pieces.{Piece, In, Comma}
 use Rattle.its_text.specs.Fronts as fronts
 use Rattle.its_text.specs.Fronts.{Front, Led, Aimed}
-use Rattle.its_text.specs.Shown.{Tokens}
+use Rattle.its_text.specs.FrontFaults.{Tokens}
 use Rattle.its_text.specs.FrontNames.{symbols_behind}
 use Rattle.its_text.specs.Steps.{step}
 use Rattle.its_reader.specs.Tests as tests
@@ -159,10 +160,10 @@ module _ (ts : Tokens) (next : Option Piece) where
   -- where an inner piece leads within an argument that doesn't end before it
   pub argument_leads : (w : Wrap) (a : Aimed) (arguments : List Sum) (e : expression.Front) (p : inner.Piece) (old new : Draft) (result : Option Place) → a.wrap ≡ wrap_of w → KnowsAimed ts a arguments old
       → Stands (names_with a.led arguments) e (names_in old.rule.variables) old.rule.expression → (ends_expression e (Some (In p)) ≡ true → expression_steps.finish e ≡ None) → IsModest p
-      → Takes (goes_on_with e p) w old p result new → LeadsTo ts next (arguing a arguments e (expression_steps.step e p) p) result new
+      → Takes (goes_on_with e p) w old p result new → LeadsTo ts next (argument_step a arguments e (expression_steps.step e p) p) result new
   argument_leads w a arguments e p old new result wrap k s stops modest t = go (expression_steps.step e p) refl t
     where
-      go : (o : Option expression.Front) → expression_steps.step e p ≡ o → Takes (is_front o) w old p result new → LeadsTo ts next (arguing a arguments e o p) result new
+      go : (o : Option expression.Front) → expression_steps.step e p ≡ o → Takes (is_front o) w old p result new → LeadsTo ts next (argument_step a arguments e o p) result new
       go (Some more) h t = rw t.0 (a, (arguments, (more, (refl, goes_on_known w a arguments e more p old new wrap k s h modest t.1))))
       go None h t =
           let none : expression_steps.finish e ≡ None = stops (ap (λ (o : Option expression.Front). not (is_front o)) h) in
@@ -256,7 +257,7 @@ module _ (ts : Tokens) (next : Option Piece) where
       go : (p : Piece) → tests.closes p ≡ true → ends_expression k.1.1.0 (Some p) ≡ true → LeadsTo ts next (step (fronts.Arguing k.0 k.1.0 k.1.1.0) p) (Some (behind_wrap w)) new
       go (In inner.Close) c ends = stopped (expression_steps.step k.1.1.0 inner.Close) ends
         where
-          stopped : (o : Option expression.Front) → not (is_front o) ≡ true → LeadsTo ts next (arguing k.0 k.1.0 k.1.1.0 o inner.Close) (Some (behind_wrap w)) new
+          stopped : (o : Option expression.Front) → not (is_front o) ≡ true → LeadsTo ts next (argument_step k.0 k.1.0 k.1.1.0 o inner.Close) (Some (behind_wrap w)) new
           stopped (Some more) n = cc
           stopped None n = rw known.finish_is (right_ends w k.0 (k.1.1.1.0 ∷ k.1.0) old new known.wrap_is known.aimed known.names_are known.expression h)
       go (In _) c ends = cc
@@ -269,7 +270,7 @@ module _ (ts : Tokens) (next : Option Piece) where
       known : IsArgued ts (Some p) w k.0 k.1.0 k.1.1.0 k.1.1.1.0 d
       known = k.1.1.1.1.1
 
-      stopped : (q : inner.Piece) → tests.closes (In q) ≡ false → (o : Option expression.Front) → not (is_front o) ≡ true → LeadsTo ts next (arguing k.0 k.1.0 k.1.1.0 o q) None d
+      stopped : (q : inner.Piece) → tests.closes (In q) ≡ false → (o : Option expression.Front) → not (is_front o) ≡ true → LeadsTo ts next (argument_step k.0 k.1.0 k.1.1.0 o q) None d
       stopped q c (Some more) n = cc
       stopped inner.Close c None n = cc
       stopped q c None n = rw known.finish_is tt

@@ -1,24 +1,27 @@
 -- What a right term shows at the next token is what the code finds there.
-use Rattle.std.specs.Prelude.{◌≡◌, ℕ, suc, Bool, true, false, not, ◌&&◌, ◌==◌, nat_le, if◌then◌else◌, List, [], ◌∷◌, ◌++◌, length, Option, Some, None, refl}
+use Rattle.std.specs.Prelude.{◌≡◌, ℕ, suc, Bool, true, false, not, ◌&&◌, ◌==◌, nat_le, if◌then◌else◌, List, [], ◌∷◌}
+use Rattle.std.specs.Prelude.{◌++◌, length, Option, Some, None, refl}
 use Rattle.std.proofs.Common.{sym, ap, ◌∙◌, append-nil, arith}
 use Rattle.std.proofs.lemmas.Bool.Decides.{nat_tests}
 use Rattle.model.specs.Limits.{place_limit}
 use Rattle.poly_terms.specs.Views.{term_of}
-use Rattle.expr_text.specs.Pieces as inner
-use Rattle.expr_text.specs.Trees.{Sum, Number, Named, Bracketed}
-use Rattle.expr_text.specs.Fronts as expression
-use Rattle.expr_text.specs.Fronts.{Level, Operand, Wanted, BaseRead, CaretRead, ExponentRead}
-use Rattle.expr_text.specs.Steps as expression_steps
-use Rattle.expr_text.specs.FrontNames.{token_count, goes_on_with}
+use Rattle.its_text.specs.expr_text.Pieces as inner
+use Rattle.its_text.specs.expr_text.Trees.{Sum, Number, Named, Bracketed}
+use Rattle.its_text.specs.expr_text.Fronts as expression
+use Rattle.its_text.specs.expr_text.Fronts.{Level, Operand, Wanted, BaseRead, CaretRead, ExponentRead}
+use Rattle.its_text.specs.expr_text.Steps as expression_steps
+use Rattle.its_text.specs.expr_text.FrontNames.{token_count, goes_on_with}
 use Rattle.its_text.specs.Pieces.{Piece, In}
 use Rattle.its_text.specs.Kinds.{ManyTargets, Limit, LongName, TooManyArguments}
 use Rattle.its_text.specs.Numbering.{left_names}
 use Rattle.its_text.specs.Fronts as fronts
 use Rattle.its_text.specs.Fronts.{Front, Led, Aimed}
 use Rattle.its_text.specs.FrontNames.{names_with}
-use Rattle.its_text.specs.Shown.{Tokens, Going, fault_if, long_name, is_open, begins, ends_expression, targets_again, targets_many, passes_arguments, going_faults, token_faults, shown_next}
+use Rattle.its_text.specs.FrontFaults.{Tokens, OpenExpression, fault_if, long_name, is_open, begins, ends_expression}
+use Rattle.its_text.specs.FrontFaults.{targets_again, targets_many, passes_arguments, expression_faults, token_faults}
+use Rattle.its_text.specs.FrontFaults.{next_faults}
 use Rattle.its_reader.specs.Places.{RightSettled, IsArguing}
-use Rattle.its_reader.specs.Noting.{names_one, names_many, begins_full, right_found, IsDigital}
+use Rattle.its_reader.specs.FaultTests.{names_one, names_many, begins_full, right_faults, IsDigital}
 use Rattle.its_reader.specs.declared.place.Wrap.{Wrap}
 use Rattle.its_reader.specs.declared.place.RightPlace.{RightPlace}
 use Rattle.its_reader.specs.declared.place.RightPlace.TheVariants as rights
@@ -73,17 +76,17 @@ module _ (ts : Tokens) (at : ℕ) (next behind : Option Piece) (d : Draft) (f : 
       count = sym (length-terms term_of d.rule.updates.items) ∙ (ap length k.aimed.updates_are ∙ updates_count (left_names a.led.left) arguments)
 
   -- an argument that has ended shows nothing but a long name
-  ended_going : (e : expression.Front) (g : Going) (next : Option Piece) → g.front ≡ e → ends_expression e next ≡ true → token_faults at (Some g) next behind ≡ []
+  ended_going : (e : expression.Front) (g : OpenExpression) (next : Option Piece) → g.front ≡ e → ends_expression e next ≡ true → token_faults at (Some g) next behind ≡ []
   ended_going e g None same ends = refl
-  ended_going e g (Some (In p)) same ends = ap (λ e. if goes_on_with e p then going_faults at g p behind else []) same ∙ go (goes_on_with e p) ends
+  ended_going e g (Some (In p)) same ends = ap (λ e. if goes_on_with e p then expression_faults at g p behind else []) same ∙ go (goes_on_with e p) ends
     where
-      go : (v : Bool) → not v ≡ true → (if v then going_faults at g p behind else []) ≡ []
+      go : (v : Bool) → not v ≡ true → (if v then expression_faults at g p behind else []) ≡ []
       go true h = cc
       go false h = refl
   ended_going e g (Some _) same ends = refl
 
   -- what a front of a right term shows at the next token is what the code finds there
-  pub right_next : (place : RightPlace) → RightSettled ts next place d f → IsDigital next → shown_next at f next behind ≡ right_found place d.rule at next behind
+  pub right_next : (place : RightPlace) → RightSettled ts next place d f → IsDigital next → next_faults at f next behind ≡ right_faults place d.rule at next behind
   right_next rights.Arrowed k digital = rw k.1.0 (simp append-nil (ap (λ v. fault_if v ManyTargets at ++ fault_if (long_name next) (Limit LongName) at) (many_is k.0 next)))
   right_next rights.ComNamed k digital = rw k.1.0 (simp append-nil)
   right_next rights.ComOpened k digital = rw (k.1.0, again_is k.0 next, many_within k.0 next) (simp append-nil)

@@ -5,27 +5,27 @@ use Rattle.model.specs.Programs.{Name}
 use Rattle.expr_reader.proofs.Standing.{fresh_stands}
 use Rattle.its_reader.specs.Places.{behind_wrap}
 use Rattle.its_reader.specs.PlaceSteps.{AfterRight, RightLeads, Targets, TakesPiece, GoTogether, IsModestPiece}
-use Rattle.expr_text.specs.TermFronts.{goes_on_from}
+use Rattle.its_text.specs.expr_text.TermFronts.{goes_on_from}
 use Rattle.expr_reader.specs.Views.{front_of}
 use Rattle.expr_reader.proofs.Endings.{goes_on_is}
 use Rattle.its_reader.specs.declared.place.RightPlace.{RightPlace}
 use Rattle.its_reader.proofs.LeftLaws.{leads_together}
-use Rattle.expr_text.specs.Pieces as inner
+use Rattle.its_text.specs.expr_text.Pieces as inner
 use Rattle.expr_reader.specs.Variables.{names_in}
 use Rattle.expr_reader.specs.Standing.{Stands}
-use Rattle.expr_text.specs.Trees.{Sum}
-use Rattle.expr_text.specs.Fronts as expression
-use Rattle.expr_text.specs.Steps as expression_steps
-use Rattle.expr_text.specs.FrontNames.{is_front, goes_on_with}
+use Rattle.its_text.specs.expr_text.Trees.{Sum}
+use Rattle.its_text.specs.expr_text.Fronts as expression
+use Rattle.its_text.specs.expr_text.Steps as expression_steps
+use Rattle.its_text.specs.expr_text.FrontNames.{is_front, goes_on_with}
 use Rattle.its_text.specs.FrontNames.{names_with}
-use Rattle.its_text.specs.Shown.{ends_expression}
-use Rattle.its_text.specs.Steps.{arguing}
+use Rattle.its_text.specs.FrontFaults.{ends_expression}
+use Rattle.its_text.specs.Steps.{argument_step}
 use Rattle.its_reader.specs.Places.{IsArguing}
 use Rattle.its_reader.specs.PlaceSteps.{Takes}
 use Rattle.its_text.specs.Pieces.{Piece, In, Comma}
 use Rattle.its_text.specs.Fronts as fronts
 use Rattle.its_text.specs.Fronts.{Front, Aimed}
-use Rattle.its_text.specs.Shown.{Tokens}
+use Rattle.its_text.specs.FrontFaults.{Tokens}
 use Rattle.its_text.specs.Steps.{step}
 use Rattle.its_reader.specs.Tests as tests
 use Rattle.its_reader.specs.Places.{InRight, RightSettled, LeadsTo, IsAimed}
@@ -79,10 +79,10 @@ within_promise p old new result t = go (tests.word p) refl t
 
 -- a piece within an argument leads somewhere in both, or nowhere in both
 argument_together : (w : Wrap) (a : Aimed) (arguments : List Sum) (e : expression.Front) (p : inner.Piece) (old new : Draft) (result : Option Place) → (ends_expression e (Some (In p)) ≡ true → expression_steps.finish e ≡ None)
-    → Takes (goes_on_with e p) w old p result new → GoTogether (arguing a arguments e (expression_steps.step e p) p) result
+    → Takes (goes_on_with e p) w old p result new → GoTogether (argument_step a arguments e (expression_steps.step e p) p) result
 argument_together w a arguments e p old new result stops t = go (expression_steps.step e p) refl t
   where
-    go : (o : Option expression.Front) → expression_steps.step e p ≡ o → Takes (is_front o) w old p result new → GoTogether (arguing a arguments e o p) result
+    go : (o : Option expression.Front) → expression_steps.step e p ≡ o → Takes (is_front o) w old p result new → GoTogether (argument_step a arguments e o p) result
     go (Some more) h t = rw t.0 tt
     go None h t =
         let none : expression_steps.finish e ≡ None = stops (ap (λ (o : Option expression.Front). not (is_front o)) h) in

@@ -1,20 +1,22 @@
 -- Where each piece leads outside rules, by tests of the piece.
 use Rattle.its_model.specs.Views.{rule_of}
-use Rattle.std.specs.Prelude.{◌≡◌, ℕ, ◌+◌, map, Bool, true, false, if◌then◌else◌, List, [], ◌∷◌, length, codes, Option, Some, None, refl}
+use Rattle.std.specs.Prelude.{◌≡◌, ℕ, ◌+◌, map, Bool, true, false, if◌then◌else◌, List, [], ◌∷◌, length, codes, Option}
+use Rattle.std.specs.Prelude.{Some, None, refl}
 use Rattle.std.proofs.Common.{sym, ap, subst, ◌∙◌, arith}
 use Rattle.model.specs.Programs.{Name}
 use Rattle.text_core.specs.Names.{is_same}
-use Rattle.expr_text.specs.Pieces as inner
+use Rattle.its_text.specs.expr_text.Pieces as inner
 use Rattle.its_text.specs.Pieces.{Piece, In, Remark}
 use Rattle.its_text.specs.Numbering.{rules_of}
 use Rattle.its_text.specs.Written.{WrittenRule, Section, Goal, Start, Variables, Comment, pieces_behind}
 use Rattle.its_text.specs.Fronts as fronts
 use Rattle.its_text.specs.Fronts.{Front, front_pieces}
 use Rattle.its_text.specs.Answers.{at_index}
-use Rattle.its_text.specs.Shown.{Tokens}
+use Rattle.its_text.specs.FrontFaults.{Tokens}
 use Rattle.its_text.specs.Steps.{step}
 use Rattle.its_reader.specs.Tests as tests
-use Rattle.its_reader.specs.Standing.{KnowsBetween, KnowsSections, KnowsLast, KnowsRules, KnowsSymbols, IsFreshRule, Started, started_of}
+use Rattle.its_reader.specs.Standing.{KnowsBetween, KnowsSections, KnowsLast, KnowsRules, KnowsSymbols, IsFreshRule}
+use Rattle.its_reader.specs.Standing.{Started, started_of}
 use Rattle.its_reader.specs.Places.{InSections, LeadsTo}
 use Rattle.its_reader.specs.PlaceSteps.{SectionLeads, StartLeads}
 use Rattle.its_reader.specs.declared.place.SectionPlace.{SectionPlace}

@@ -1,5 +1,6 @@
 -- Where reading can stop: nothing that is still to come is before the fault so far.
-use Rattle.std.specs.Prelude.{◌≡◌, ℕ, ◌+◌, ◌-◌, ◌≤◌, ◌<◌, Bool, true, false, nat_lt, ◌==◌, ◌&&◌, ◌||◌, if◌then◌else◌, List, [], ◌∷◌, ◌++◌, Option, Some, None, ◌⊎◌, ⊤, refl}
+use Rattle.std.specs.Prelude.{◌≡◌, ℕ, ◌+◌, ◌-◌, ◌≤◌, ◌<◌, Bool, true, false, nat_lt, ◌==◌, ◌&&◌, ◌||◌, if◌then◌else◌}
+use Rattle.std.specs.Prelude.{List, [], ◌∷◌, ◌++◌, Option, Some, None, ◌⊎◌, ⊤, refl}
 use Rattle.std.proofs.Common.{ap, ◌∙◌, inl, inr, arith}
 use Rattle.std.proofs.lemmas.Bool.Decides.{nat_tests}
 use Rattle.text_core.specs.Tokens.{Token, AreInOrder}
@@ -7,11 +8,11 @@ use Rattle.text_core.specs.Readers.{Fault}
 use Rattle.text_core.specs.Faults.{Among, next_at, off_at}
 use Rattle.text_core.specs.Reading.{Refused, Stopped, Going, is_before, first_among, ended, further, run}
 use Rattle.poly_terms.specs.Faults as polynomials
-use Rattle.expr_text.specs.Trees.{Sum}
-use Rattle.expr_text.specs.Pieces as inner
-use Rattle.expr_text.specs.Steps as expression_steps
-use Rattle.expr_text.specs.GuardFronts.{GuardFront, LeftSide, RightSide}
-use Rattle.expr_text.specs.FrontNames.{before_expression}
+use Rattle.its_text.specs.expr_text.Trees.{Sum}
+use Rattle.its_text.specs.expr_text.Pieces as inner
+use Rattle.its_text.specs.expr_text.Steps as expression_steps
+use Rattle.its_text.specs.expr_text.GuardFronts.{GuardFront, LeftSide, RightSide}
+use Rattle.its_text.specs.expr_text.FrontNames.{before_expression}
 use Rattle.model.specs.Programs.{Name}
 use Rattle.its_text.specs.Pieces.{Piece}
 use Rattle.its_text.specs.Written.{Section}
@@ -20,8 +21,10 @@ use Rattle.its_text.specs.FrontNames.{names_with, headed_names}
 use Rattle.its_text.specs.Kinds.{Kind, kind_number, ArityDiffers}
 use Rattle.its_text.specs.Grammar.{programs}
 use Rattle.its_text.specs.Steps.{step, finish}
-use Rattle.its_text.specs.Shown as shown
-use Rattle.its_text.specs.Shown.{Tokens, Found, fault_if, last_byte, next_piece, piece_behind, expansion_faults, argument_faults, right_side_faults, ends_expression, atom_faults, ended_faults, shown_next, shown_last}
+use Rattle.its_text.specs.FrontFaults as shown
+use Rattle.its_text.specs.FrontFaults.{Tokens, FaultList, fault_if, last_byte, next_piece, piece_behind}
+use Rattle.its_text.specs.FrontFaults.{expansion_faults, argument_faults, right_side_faults, ends_expression}
+use Rattle.its_text.specs.FrontFaults.{atom_faults, ended_faults, next_faults, last_faults}
 use Rattle.its_text.proofs.Positions.{stands, split, among_at, next_stands, last_at}
 
 -- a fault at a later position is not before another
@@ -44,15 +47,15 @@ no_less x y h n = both (nat_lt y.at x.at) refl (nat_lt (kind_number y.kind) (kin
     both false e false k false = refl
 
 -- none of a list is before a fault
-abbrev pub NoneBefore : Fault Kind → Found → Type 0
+abbrev pub NoneBefore : Fault Kind → FaultList → Type 0
 NoneBefore x [] = ⊤
 NoneBefore x (y ∷ ys) = (is_before programs y x ≡ false) × NoneBefore x ys
 
-stays_among : (x : Fault Kind) (ys : Found) → NoneBefore x ys → first_among programs (Some x) ys ≡ Some x
+stays_among : (x : Fault Kind) (ys : FaultList) → NoneBefore x ys → first_among programs (Some x) ys ≡ Some x
 stays_among x [] h = refl
 stays_among x (y ∷ ys) h = ap (λ (v : Bool). first_among programs (Some (if v then y else x)) ys) h.0 ∙ stays_among x ys h.1
 
-none_of : (x : Fault Kind) (ys : Found) → ((y : Fault Kind) → Among y ys → is_before programs y x ≡ false) → NoneBefore x ys
+none_of : (x : Fault Kind) (ys : FaultList) → ((y : Fault Kind) → Among y ys → is_before programs y x ≡ false) → NoneBefore x ys
 none_of x [] h = tt
 none_of x (y ∷ ys) h = (h y (inl refl), none_of x ys (λ z a. h z (inr a)))
 
@@ -79,14 +82,14 @@ ordered (t ∷ ts) a b n h o = ((let p = o.0 in omega (arith, h, p)), o.1, o.2)
 -- a fault before the last byte that was read is the answer
 pub answer_before : (rest : Tokens) (n : ℕ) (done : Tokens) (f : Front) (x : Fault Kind) → x.at < last_byte done → AreInOrder (last_byte done + 1) rest n → run programs n (Going (Some x) done f) rest ≡ Refused x
 answer_before [] n done f x h o =
-    ap (λ b. ended programs b (finish f) (off_at programs n f [])) (stays_among x (shown.shown n done f []) (none_of x _ (λ y a. place y (stands n done f [] y a))))
+    ap (λ b. ended programs b (finish f) (off_at programs n f [])) (stays_among x (shown.front_faults n done f []) (none_of x _ (λ y a. place y (stands n done f [] y a))))
     ∙ ended_stays n x (off_at programs n f []) (finish f) (later x (off_at programs n f []) (omega (arith, h, o)))
   where
     place : (y : Fault Kind) → (y.at ≡ last_byte done) ⊎ (y.at ≡ n) → is_before programs y x ≡ false
     place y (inl e) = later x y (omega (arith, h, e))
     place y (inr e) = later x y (omega (arith, h, o, e))
 answer_before (t ∷ rest) n done f x h o =
-    ap (λ b. run programs n (further programs b done t (step f t.piece) (off_at programs n f (t ∷ rest))) rest) (stays_among x (shown.shown n done f (t ∷ rest)) (none_of x _ (λ y a. place y (stands n done f (t ∷ rest) y a))))
+    ap (λ b. run programs n (further programs b done t (step f t.piece) (off_at programs n f (t ∷ rest))) rest) (stays_among x (shown.front_faults n done f (t ∷ rest)) (none_of x _ (λ y a. place y (stands n done f (t ∷ rest) y a))))
     ∙ further_stays n x (off_at programs n f (t ∷ rest)) done t rest (step f t.piece) (later x (off_at programs n f (t ∷ rest)) (let p = o.0 in omega (arith, h, p)))
     (λ g e. answer_before rest n (t ∷ done) g x (let p = o.0 in let q = o.1 in omega (arith, h, p, q)) (let q = o.1 in ordered rest t.upto (t.upto - 1 + 1) n (omega (arith, q)) o.2))
   where
@@ -95,7 +98,7 @@ answer_before (t ∷ rest) n done f x h o =
     place y (inr e) = later x y (let p = o.0 in omega (arith, h, p, e))
 
 -- the numbers of faults are at least so great
-abbrev pub AtLeast : ℕ → Found → Type 0
+abbrev pub AtLeast : ℕ → FaultList → Type 0
 AtLeast k [] = ⊤
 AtLeast k (y ∷ ys) = (k ≤ kind_number y.kind) × AtLeast k ys
 
@@ -109,7 +112,7 @@ argument_least : (at : ℕ) (names : List Name) (o : Option Sum) → AtLeast 9 (
 argument_least at names None = tt
 argument_least at names (Some s) = expansion_least at _
 
-choice_least : (v : Bool) (ys : Found) → AtLeast 9 ys → AtLeast 9 (if v then ys else [])
+choice_least : (v : Bool) (ys : FaultList) → AtLeast 9 ys → AtLeast 9 (if v then ys else [])
 choice_least true ys h = h
 choice_least false ys h = tt
 
@@ -127,14 +130,14 @@ ended_least at (MarkGuarding h g) next = atom_least at (headed_names h) g next
 ended_least at (SquareGuarding h g) next = atom_least at (headed_names h) g next
 ended_least at _ next = tt
 
-among_least : (k : ℕ) (y : Fault Kind) (ys : Found) → AtLeast k ys → Among y ys → k ≤ kind_number y.kind
+among_least : (k : ℕ) (y : Fault Kind) (ys : FaultList) → AtLeast k ys → Among y ys → k ≤ kind_number y.kind
 among_least k y [] h a = absurd a
 among_least k y (z ∷ ys) h (inl e) = let p = h.0 in let same : kind_number y.kind ≡ kind_number z.kind = ap (λ (w : Fault Kind). kind_number w.kind) e in omega (arith, p, same)
 among_least k y (z ∷ ys) h (inr a) = among_least k y ys h.1 a
 
 -- what is shown at the last byte has a number of 8 at least, and of 9 where no arity differs
-pub last_least : (at : ℕ) (f : Front) (next : Option Piece) (y : Fault Kind) → Among y (shown_last at f next) → 8 ≤ kind_number y.kind
-last_least at f next y a = go (shown.differs f) a
+pub last_least : (at : ℕ) (f : Front) (next : Option Piece) (y : Fault Kind) → Among y (last_faults at f next) → 8 ≤ kind_number y.kind
+last_least at f next y a = go (shown.has_other_arity f) a
   where
     go : (v : Bool) → Among y (fault_if v ArityDiffers at ++ ended_faults at f next) → 8 ≤ kind_number y.kind
     go true (inl e) = let same : kind_number y.kind ≡ 8 = ap (λ (w : Fault Kind). kind_number w.kind) e in omega (arith, same)
@@ -142,8 +145,8 @@ last_least at f next y a = go (shown.differs f) a
     go false b = let k = among_least 9 y (ended_faults at f next) (ended_least at f next) b in omega (arith, k)
 
 -- what is shown at the last byte has a number of 9 at least where no arity differs
-pub last_least_9 : (at : ℕ) (f : Front) (next : Option Piece) (y : Fault Kind) → shown.differs f ≡ false → Among y (shown_last at f next) → 9 ≤ kind_number y.kind
-last_least_9 at f next y e a = go (shown.differs f) e a
+pub last_least_9 : (at : ℕ) (f : Front) (next : Option Piece) (y : Fault Kind) → shown.has_other_arity f ≡ false → Among y (last_faults at f next) → 9 ≤ kind_number y.kind
+last_least_9 at f next y e a = go (shown.has_other_arity f) e a
   where
     go : (v : Bool) → v ≡ false → Among y (fault_if v ArityDiffers at ++ ended_faults at f next) → 9 ≤ kind_number y.kind
     go true e a = cc
@@ -151,23 +154,23 @@ last_least_9 at f next y e a = go (shown.differs f) e a
 
 -- a fault up to the last byte that was read is the answer, where nothing that is shown at that byte has a lesser number
 pub answer_here : (rest : Tokens) (n : ℕ) (done : Tokens) (f : Front) (x : Fault Kind) → x.at ≤ last_byte done → AreInOrder (last_byte done + 1) rest n
-    → ((y : Fault Kind) → Among y (shown_last (last_byte done) f (next_piece rest)) → kind_number x.kind ≤ kind_number y.kind) → run programs n (Going (Some x) done f) rest ≡ Refused x
+    → ((y : Fault Kind) → Among y (last_faults (last_byte done) f (next_piece rest)) → kind_number x.kind ≤ kind_number y.kind) → run programs n (Going (Some x) done f) rest ≡ Refused x
 answer_here rest n done f x h o least = go rest o least
   where
-    place : (rest : Tokens) → last_byte done < next_at n rest → ((y : Fault Kind) → Among y (shown_last (last_byte done) f (next_piece rest)) → kind_number x.kind ≤ kind_number y.kind)
-        → (y : Fault Kind) → Among y (shown.shown n done f rest) → is_before programs y x ≡ false
-    place rest o least y a = either (split y (shown_last (last_byte done) f (next_piece rest)) (shown_next (next_at n rest) f (next_piece rest) (piece_behind rest)) a)
+    place : (rest : Tokens) → last_byte done < next_at n rest → ((y : Fault Kind) → Among y (last_faults (last_byte done) f (next_piece rest)) → kind_number x.kind ≤ kind_number y.kind)
+        → (y : Fault Kind) → Among y (shown.front_faults n done f rest) → is_before programs y x ≡ false
+    place rest o least y a = either (split y (last_faults (last_byte done) f (next_piece rest)) (next_faults (next_at n rest) f (next_piece rest) (piece_behind rest)) a)
       where
-        either : (Among y (shown_last (last_byte done) f (next_piece rest))) ⊎ (Among y (shown_next (next_at n rest) f (next_piece rest) (piece_behind rest))) → is_before programs y x ≡ false
-        either (inl b) = let e = among_at (last_byte done) y (shown_last (last_byte done) f (next_piece rest)) (last_at (last_byte done) f (next_piece rest)) b in no_less x y (omega (arith, h, e)) (least y b)
-        either (inr b) = let e = among_at (next_at n rest) y (shown_next (next_at n rest) f (next_piece rest) (piece_behind rest)) (next_stands (next_at n rest) f (next_piece rest) (piece_behind rest)) b in later x y (omega (arith, h, o, e))
+        either : (Among y (last_faults (last_byte done) f (next_piece rest))) ⊎ (Among y (next_faults (next_at n rest) f (next_piece rest) (piece_behind rest))) → is_before programs y x ≡ false
+        either (inl b) = let e = among_at (last_byte done) y (last_faults (last_byte done) f (next_piece rest)) (last_at (last_byte done) f (next_piece rest)) b in no_less x y (omega (arith, h, e)) (least y b)
+        either (inr b) = let e = among_at (next_at n rest) y (next_faults (next_at n rest) f (next_piece rest) (piece_behind rest)) (next_stands (next_at n rest) f (next_piece rest) (piece_behind rest)) b in later x y (omega (arith, h, o, e))
 
-    go : (rest : Tokens) → AreInOrder (last_byte done + 1) rest n → ((y : Fault Kind) → Among y (shown_last (last_byte done) f (next_piece rest)) → kind_number x.kind ≤ kind_number y.kind) → run programs n (Going (Some x) done f) rest ≡ Refused x
+    go : (rest : Tokens) → AreInOrder (last_byte done + 1) rest n → ((y : Fault Kind) → Among y (last_faults (last_byte done) f (next_piece rest)) → kind_number x.kind ≤ kind_number y.kind) → run programs n (Going (Some x) done f) rest ≡ Refused x
     go [] o least =
-        ap (λ b. ended programs b (finish f) (off_at programs n f [])) (stays_among x (shown.shown n done f []) (none_of x _ (place [] (omega (arith, o)) least)))
+        ap (λ b. ended programs b (finish f) (off_at programs n f [])) (stays_among x (shown.front_faults n done f []) (none_of x _ (place [] (omega (arith, o)) least)))
         ∙ ended_stays n x (off_at programs n f []) (finish f) (later x (off_at programs n f []) (omega (arith, h, o)))
     go (t ∷ rest) o least =
         let p = o.0 in let q = o.1 in
-        ap (λ b. run programs n (further programs b done t (step f t.piece) (off_at programs n f (t ∷ rest))) rest) (stays_among x (shown.shown n done f (t ∷ rest)) (none_of x _ (place (t ∷ rest) (omega (arith, p)) least)))
+        ap (λ b. run programs n (further programs b done t (step f t.piece) (off_at programs n f (t ∷ rest))) rest) (stays_among x (shown.front_faults n done f (t ∷ rest)) (none_of x _ (place (t ∷ rest) (omega (arith, p)) least)))
         ∙ further_stays n x (off_at programs n f (t ∷ rest)) done t rest (step f t.piece) (later x (off_at programs n f (t ∷ rest)) (omega (arith, h, p)))
         (λ g e. answer_before rest n (t ∷ done) g x (omega (arith, h, p, q)) (ordered rest t.upto (t.upto - 1 + 1) n (omega (arith, q)) o.2))

@@ -1,11 +1,12 @@
 -- A table of names and numbers of places, and the symbols that it stands for.
-use Rattle.std.specs.Prelude.{◌≡◌, ℕ, suc, Bool, true, false, nat_lt, if◌then◌else◌, List, [], ◌∷◌, ◌++◌, map, length, refl}
+use Rattle.std.specs.Prelude.{◌≡◌, ℕ, suc, Bool, true, false, nat_lt, if◌then◌else◌, List, [], ◌∷◌, ◌++◌, map, length}
+use Rattle.std.specs.Prelude.{refl}
 use Rattle.std.specs.Prelude.{◌||◌}
 use Rattle.text_core.proofs.NameLaws.{is_same_self}
 use Rattle.std.proofs.Common.{ap, ◌∙◌, get_or, one-add}
 use Rattle.model.specs.Programs.{Name, Symbol}
 use Rattle.text_core.specs.Names.{is_same, is_among, position_of}
-use Rattle.expr_text.specs.Terms.{with_name}
+use Rattle.its_text.specs.expr_text.Terms.{with_name}
 use Rattle.expr_reader.specs.Variables.{names_in}
 use Rattle.its_text.specs.Numbering.{names_of, with_symbol, number_of, arity_of}
 use Rattle.its_reader.specs.Standing.{KnowsSymbols}

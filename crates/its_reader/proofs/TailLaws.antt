@@ -2,11 +2,11 @@
 use Rattle.std.specs.Prelude.{◌≡◌, ◌-◌, List, [], ◌∷◌, ◌++◌, length, Some, None}
 use Rattle.std.proofs.Common.{sym, ap, subst, ◌∙◌, append-nil}
 use Rattle.model.specs.Programs.{Name}
-use Rattle.expr_text.specs.Fronts.{beginning}
-use Rattle.expr_text.specs.Guards.{Atom, Always, Compared, Atoms, First, Joined, with_atom, with_atoms}
-use Rattle.expr_text.specs.GuardFronts.{LeftSide, Conjoined, NoAtoms, JointAfter, no_atoms}
-use Rattle.expr_text.specs.Terms.{with_sum}
-use Rattle.expr_text.proofs.Stability.{extended, sum_extends}
+use Rattle.its_text.specs.expr_text.Fronts.{beginning}
+use Rattle.its_text.specs.expr_text.Guards.{Atom, Always, Compared, Atoms, First, Joined, with_atom, with_atoms}
+use Rattle.its_text.specs.expr_text.GuardFronts.{LeftSide, Conjoined, NoAtoms, JointAfter, no_atoms}
+use Rattle.its_text.specs.expr_text.Terms.{with_sum}
+use Rattle.its_text.proofs.expr_text.Stability.{extended, sum_extends}
 use Rattle.expr_reader.specs.Variables.{names_in}
 use Rattle.expr_reader.specs.GuardStanding.{atoms_in, atoms_before}
 use Rattle.expr_reader.specs.declared.guard.GuardReader.{GuardReader}
@@ -14,10 +14,11 @@ use Rattle.its_text.specs.Written.{Guard, NoGuard, BehindMark, InSquares}
 use Rattle.its_text.specs.Numbering.{left_names, term_in, with_guard, rule_names, rule_numbered}
 use Rattle.its_text.specs.Fronts.{Headed, rule_with, ruling_with}
 use Rattle.its_text.specs.FrontNames.{headed_names}
-use Rattle.its_text.specs.Shown.{Tokens}
-use Rattle.its_reader.specs.Standing.{KnowsSections, KnowsSymbols, KnowsRuling, limited_rule, rules_so_far, symbols_headed}
+use Rattle.its_text.specs.FrontFaults.{Tokens}
+use Rattle.its_reader.specs.Standing.{KnowsSections, KnowsSymbols, KnowsRuling, limited_rule, rules_so_far}
+use Rattle.its_reader.specs.Standing.{symbols_headed}
 use Rattle.its_reader.specs.Places.{IsHeaded}
-use Rattle.its_reader.specs.Tailing.{rule_in, KnowsWhole, RuleEnds}
+use Rattle.its_reader.specs.TailSteps.{rule_in, KnowsWhole, RuleEnds}
 use Rattle.its_reader.specs.declared.draft.Draft.{Draft}
 use Rattle.its_reader.proofs.Numbers.{GoesOn, updates_stay, source_stays}
 

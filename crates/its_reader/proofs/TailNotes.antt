@@ -1,24 +1,29 @@
 -- What the next token behind a target shows is what the code finds there.
-use Rattle.std.specs.Prelude.{◌≡◌, ℕ, zero, suc, ◌<◌, Bool, true, false, not, ◌&&◌, ◌==◌, nat_le, if◌then◌else◌, List, [], ◌∷◌, ◌++◌, length, Option, Some, None, refl}
+use Rattle.std.specs.Prelude.{◌≡◌, ℕ, zero, suc, ◌<◌, Bool, true, false, not, ◌&&◌, ◌==◌, nat_le, if◌then◌else◌, List}
+use Rattle.std.specs.Prelude.{[], ◌∷◌, ◌++◌, length, Option, Some, None, refl}
 use Rattle.std.proofs.Common.{sym, ap, subst, ◌∙◌, append-nil, append_assoc, arith, inl, inr}
 use Rattle.std.proofs.lemmas.Bool.Decides.{nat_tests}
 use Rattle.model.specs.Programs.{Name}
 use Rattle.model.specs.Limits.{rule_limit, atom_limit}
 use Rattle.its_model.specs.Views.{atom_of}
-use Rattle.expr_text.specs.Pieces as inner
-use Rattle.expr_text.specs.Trees.{Named, Number, Bracketed}
-use Rattle.expr_text.specs.Fronts as expression
-use Rattle.expr_text.specs.Fronts.{Level, Operand, Wanted, BaseRead, CaretRead, ExponentRead, Summed, NoSum, PlusAfter, MinusAfter, Factored, NoProduct, TimesAfter, beginning}
-use Rattle.expr_text.specs.Steps as expression_steps
-use Rattle.expr_text.specs.Guards.{Atom, Atoms, First, Joined, count_of, atoms_terms}
-use Rattle.expr_text.specs.GuardFronts as guards
-use Rattle.expr_text.specs.GuardFronts.{GuardFront, LeftSide, RightSide, Conjoined, NoAtoms, JointAfter, ended, compared, no_atoms, truth_of, truth_in as truth_from, expression_in}
-use Rattle.expr_text.specs.FrontNames.{token_count, goes_on_with, is_front, before_expression, truth_worded}
+use Rattle.its_text.specs.expr_text.Pieces as inner
+use Rattle.its_text.specs.expr_text.Trees.{Named, Number, Bracketed}
+use Rattle.its_text.specs.expr_text.Fronts as expression
+use Rattle.its_text.specs.expr_text.Fronts.{Level, Operand, Wanted, BaseRead, CaretRead, ExponentRead, Summed, NoSum, PlusAfter}
+use Rattle.its_text.specs.expr_text.Fronts.{MinusAfter, Factored, NoProduct, TimesAfter, beginning}
+use Rattle.its_text.specs.expr_text.Steps as expression_steps
+use Rattle.its_text.specs.expr_text.Guards.{Atom, Atoms, First, Joined, count_of, atoms_terms}
+use Rattle.its_text.specs.expr_text.GuardFronts as guards
+use Rattle.its_text.specs.expr_text.GuardFronts.{GuardFront, LeftSide, RightSide, Conjoined, NoAtoms, JointAfter, ended}
+use Rattle.its_text.specs.expr_text.GuardFronts.{compared, no_atoms, truth_of, truth_in as truth_from, expression_in}
+use Rattle.its_text.specs.expr_text.FrontNames.{token_count, goes_on_with, is_front, before_expression, truth_worded}
 use Rattle.expr_reader.specs.Variables.{names_in}
 use Rattle.expr_reader.specs.Faults.{ends_before}
 use Rattle.expr_reader.specs.GuardParts.{is_read, is_wanting}
 use Rattle.expr_reader.specs.GuardStanding as standing
-use Rattle.expr_reader.specs.GuardStanding.{atoms_in, atoms_of, atoms_before, limited_atom, IsWanting, IsInLeft, IsOpen, IsEnded, IsSettled, settled_none, settled_left, settled_right, settled_end, joined_only}
+use Rattle.expr_reader.specs.GuardStanding.{atoms_in, atoms_of, atoms_before, limited_atom, IsWanting, IsInLeft, IsOpen}
+use Rattle.expr_reader.specs.GuardStanding.{IsEnded, IsSettled, settled_none, settled_left, settled_right, settled_end}
+use Rattle.expr_reader.specs.GuardStanding.{joined_only}
 use Rattle.expr_reader.specs.Standing.{Stands}
 use Rattle.expr_reader.specs.declared.guard.GuardReader.{GuardReader}
 use Rattle.expr_reader.proofs.Standing.{fresh_stands}
@@ -29,11 +34,14 @@ use Rattle.its_text.specs.Fronts as fronts
 use Rattle.its_text.specs.Fronts.{Front, Headed, rule_with}
 use Rattle.its_text.specs.FrontNames.{headed_names}
 use Rattle.its_text.specs.Steps.{guard_named}
-use Rattle.its_text.specs.Shown as shown
-use Rattle.its_text.specs.Shown.{Tokens, Going, fault_if, long_name, is_word, is_open, begins, are_full, can_end, ends_expression, is_full, going_in, is_truth, leads, token_faults, shown_next}
+use Rattle.its_text.specs.FrontFaults as shown
+use Rattle.its_text.specs.FrontFaults.{Tokens, OpenExpression, fault_if, long_name, is_word, is_open, begins, are_full}
+use Rattle.its_text.specs.FrontFaults.{can_end, ends_expression, is_full, open_expression_in, is_truth, is_left_side}
+use Rattle.its_text.specs.FrontFaults.{token_faults, next_faults}
 use Rattle.its_reader.specs.Tests.{inner_next}
 use Rattle.its_reader.specs.Places.{TailSettled, IsGuard, IsHeaded}
-use Rattle.its_reader.specs.Noting.{IsDigital, truth_in, going_found, atom_found, atoms_full, rule_found, marked_found, ended_found, guarding_found, tail_found}
+use Rattle.its_reader.specs.FaultTests.{IsDigital, truth_in, step_faults, atom_faults, atoms_full, rule_faults}
+use Rattle.its_reader.specs.FaultTests.{mark_faults, behind_atoms_faults, guard_faults, tail_faults}
 use Rattle.its_reader.specs.declared.place.Fence.{Fence}
 use Rattle.its_reader.specs.declared.place.Fence.TheVariants as fences
 use Rattle.its_reader.specs.declared.place.TailPlace.{TailPlace}
@@ -126,21 +134,21 @@ rules_shown fences.Square h g next = false
 
 module _ (ts : Tokens) (at : ℕ) (next behind : Option Piece) (d : Draft) (digital : IsDigital next) where
   -- what a guard shows
-  guarded_shows : (fence : Fence) (h : Headed) (g : GuardFront) → shown_next at (guarded fence h g) next behind
-      ≡ fault_if (rules_shown fence h g next) (Limit TooManyRules) at ++ fault_if (is_full g && begins next) (Limit TooManyAtoms) at ++ fault_if (long_name next) (Limit LongName) at ++ token_faults at (going_in (headed_names h) g) next behind
-  guarded_shows fences.Mark h g = ap (λ xs. xs ++ fault_if (is_full g && begins next) (Limit TooManyAtoms) at ++ fault_if (long_name next) (Limit LongName) at ++ token_faults at (going_in (headed_names h) g) next behind)
+  guarded_shows : (fence : Fence) (h : Headed) (g : GuardFront) → next_faults at (guarded fence h g) next behind
+      ≡ fault_if (rules_shown fence h g next) (Limit TooManyRules) at ++ fault_if (is_full g && begins next) (Limit TooManyAtoms) at ++ fault_if (long_name next) (Limit LongName) at ++ token_faults at (open_expression_in (headed_names h) g) next behind
+  guarded_shows fences.Mark h g = ap (λ xs. xs ++ fault_if (is_full g && begins next) (Limit TooManyAtoms) at ++ fault_if (long_name next) (Limit LongName) at ++ token_faults at (open_expression_in (headed_names h) g) next behind)
       (append-nil (fault_if (rules_shown fences.Mark h g next) (Limit TooManyRules) at))
   guarded_shows fences.Square h g = refl
 
   -- a name behind `:|:` that begins an atom shows what the guard shows
-  word_shows : (h : Headed) (name : Name) (next : Option Piece) → shown_next at (fronts.WordRead h name) next behind ≡ shown_next at (fronts.MarkGuarding h (guard_named name)) next behind
+  word_shows : (h : Headed) (name : Name) (next : Option Piece) → next_faults at (fronts.WordRead h name) next behind ≡ next_faults at (fronts.MarkGuarding h (guard_named name)) next behind
   word_shows h name None = refl
   word_shows h name (Some (In (inner.Word n))) = refl
   word_shows h name (Some (In _)) = refl
   word_shows h name (Some _) = refl
 
   -- the word of the atom that always holds
-  truth_shows : (g : Going) → is_wanting d.rule.guard.place ≡ (g.leads_atom && (token_count g.front == 0))
+  truth_shows : (g : OpenExpression) → is_wanting d.rule.guard.place ≡ (g.leads_atom && (token_count g.front == 0))
       → (p : inner.Piece) (name : Name) → next ≡ Some (In p) → p ≡ inner.Word name → truth_in d.rule.guard (inner_next next) (inner_next behind) ≡ is_truth g name behind
   truth_shows g w p name e is =
       ap (λ o. truth_in d.rule.guard (inner_next o) (inner_next behind)) e
@@ -149,22 +157,22 @@ module _ (ts : Tokens) (at : ℕ) (next behind : Option Piece) (d : Draft) (digi
 
   -- an atom
   atom_shows : (names : List Name) (g : GuardFront) → Stands (before_expression names g) (expression_in g) (names_in d.rule.variables) d.rule.guard.expression
-      → is_wanting d.rule.guard.place ≡ (leads g && (token_count (expression_in g) == 0))
-      → token_faults at (going_in names g) next behind ≡ going_found d.rule d.rule.guard.expression (truth_in d.rule.guard (inner_next next) (inner_next behind)) at (inner_next next)
+      → is_wanting d.rule.guard.place ≡ (is_left_side g && (token_count (expression_in g) == 0))
+      → token_faults at (open_expression_in names g) next behind ≡ step_faults d.rule d.rule.guard.expression (truth_in d.rule.guard (inner_next next) (inner_next behind)) at (inner_next next)
   atom_shows names g s w = going_is at now d.rule d.rule.guard.expression (truth_in d.rule.guard (inner_next next) (inner_next behind)) behind s next digital (truth_shows now w)
     where
-      now : Going
-      now = record { names = before_expression names g; front = expression_in g; leads_atom = leads g }
+      now : OpenExpression
+      now = record { names = before_expression names g; front = expression_in g; leads_atom = is_left_side g }
 
   -- within an atom
   unread_shows : (fence : Fence) (h : Headed) (g : GuardFront) → rules_shown fence h g next ≡ false → is_full g && begins next ≡ atoms_full d.rule.guard next → is_read d.rule.guard.place ≡ false
-      → Stands (before_expression (headed_names h) g) (expression_in g) (names_in d.rule.variables) d.rule.guard.expression → is_wanting d.rule.guard.place ≡ (leads g && (token_count (expression_in g) == 0))
-      → shown_next at (guarded fence h g) next behind ≡ guarding_found (is_read d.rule.guard.place) fence d at next behind
+      → Stands (before_expression (headed_names h) g) (expression_in g) (names_in d.rule.variables) d.rule.guard.expression → is_wanting d.rule.guard.place ≡ (is_left_side g && (token_count (expression_in g) == 0))
+      → next_faults at (guarded fence h g) next behind ≡ guard_faults (is_read d.rule.guard.place) fence d at next behind
   unread_shows fence h g rules full read s w =
       guarded_shows fence h g
       ∙ ((λ i. fault_if (rules i) (Limit TooManyRules) at ++ fault_if (full i) (Limit TooManyAtoms) at ++ fault_if (long_name next) (Limit LongName) at ++ atom_shows (headed_names h) g s w i)
-      ∙ (append_assoc (fault_if (atoms_full d.rule.guard next) (Limit TooManyAtoms) at) (fault_if (long_name next) (Limit LongName) at) (going_found d.rule d.rule.guard.expression (truth_in d.rule.guard (inner_next next) (inner_next behind)) at (inner_next next))
-      ∙ sym (ap (λ v. guarding_found v fence d at next behind) read)))
+      ∙ (append_assoc (fault_if (atoms_full d.rule.guard next) (Limit TooManyAtoms) at) (fault_if (long_name next) (Limit LongName) at) (step_faults d.rule d.rule.guard.expression (truth_in d.rule.guard (inner_next next) (inner_next behind)) at (inner_next next))
+      ∙ sym (ap (λ v. guard_faults v fence d at next behind) read)))
 
   -- no rule begins within an atom
   no_rule : (fence : Fence) (h : Headed) (g : GuardFront) → (is_word next ≡ true → ends_expression (expression_in g) next ≡ true → guards.finish g ≡ None) → rules_shown fence h g next ≡ false
@@ -191,9 +199,9 @@ module _ (ts : Tokens) (at : ℕ) (next behind : Option Piece) (d : Draft) (digi
   wanting_full names NoAtoms a w = counted 0 (sym (length-terms atom_of d.rule.guard.atoms.items) ∙ ap length a) w
   wanting_full names (JointAfter atoms joint) a w = counted (count_of atoms) (as_many_atoms names atoms d.rule.guard a) w
 
-  wanting_shows : (fence : Fence) (h : Headed) (g : GuardFront) → IsWanting (headed_names h) g (names_in d.rule.variables) d.rule.guard → shown_next at (guarded fence h g) next behind ≡ guarding_found (is_read d.rule.guard.place) fence d at next behind
+  wanting_shows : (fence : Fence) (h : Headed) (g : GuardFront) → IsWanting (headed_names h) g (names_in d.rule.variables) d.rule.guard → next_faults at (guarded fence h g) next behind ≡ guard_faults (is_read d.rule.guard.place) fence d at next behind
   wanting_shows fence h g k =
-      subst (λ g. shown_next at (guarded fence h g) next behind ≡ guarding_found (is_read d.rule.guard.place) fence d at next behind) (sym k.front_is)
+      subst (λ g. next_faults at (guarded fence h g) next behind ≡ guard_faults (is_read d.rule.guard.place) fence d at next behind) (sym k.front_is)
       (unread_shows fence h (LeftSide k.conjoined beginning) (no_rule fence h (LeftSide k.conjoined beginning) (λ a b. refl))
       (wanting_full (names_in d.rule.variables) k.conjoined k.atoms_are (ap is_wanting k.place_is)) (ap is_read k.place_is)
       (subst (λ ns. Stands ns beginning (names_in d.rule.variables) d.rule.guard.expression) k.names_are (fresh_stands (names_in d.rule.variables) d.rule.guard.expression k.expression))
@@ -207,9 +215,9 @@ module _ (ts : Tokens) (at : ℕ) (next behind : Option Piece) (d : Draft) (digi
   begun_full NoAtoms e b = refl
   begun_full (JointAfter atoms joint) e b = rw b refl
 
-  left_shows : (fence : Fence) (h : Headed) (g : GuardFront) → IsInLeft (inner_next next) (headed_names h) g (names_in d.rule.variables) d.rule.guard → shown_next at (guarded fence h g) next behind ≡ guarding_found (is_read d.rule.guard.place) fence d at next behind
+  left_shows : (fence : Fence) (h : Headed) (g : GuardFront) → IsInLeft (inner_next next) (headed_names h) g (names_in d.rule.variables) d.rule.guard → next_faults at (guarded fence h g) next behind ≡ guard_faults (is_read d.rule.guard.place) fence d at next behind
   left_shows fence h g k =
-      subst (λ g. shown_next at (guarded fence h g) next behind ≡ guarding_found (is_read d.rule.guard.place) fence d at next behind) (sym k.front_is)
+      subst (λ g. next_faults at (guarded fence h g) next behind ≡ guard_faults (is_read d.rule.guard.place) fence d at next behind) (sym k.front_is)
       (unread_shows fence h (LeftSide k.conjoined k.read) (no_rule fence h (LeftSide k.conjoined k.read) (λ a b. ap (ended k.conjoined) (k.follows (word_rests next a))))
       (ap (λ v. v && begins next) (begun_full k.conjoined k.read begun) ∙ sym (ap (λ v. v && nat_le atom_limit (length d.rule.guard.atoms.items) && begins next) wanting)) (ap is_read k.place_is) k.expression
       (wanting ∙ sym begun))
@@ -221,9 +229,9 @@ module _ (ts : Tokens) (at : ℕ) (next behind : Option Piece) (d : Draft) (digi
       wanting = ap is_wanting k.place_is
 
   -- some of a right side
-  right_shows : (fence : Fence) (h : Headed) (g : GuardFront) → IsOpen (inner_next next) (headed_names h) g (names_in d.rule.variables) d.rule.guard → shown_next at (guarded fence h g) next behind ≡ guarding_found (is_read d.rule.guard.place) fence d at next behind
+  right_shows : (fence : Fence) (h : Headed) (g : GuardFront) → IsOpen (inner_next next) (headed_names h) g (names_in d.rule.variables) d.rule.guard → next_faults at (guarded fence h g) next behind ≡ guard_faults (is_read d.rule.guard.place) fence d at next behind
   right_shows fence h g k =
-      subst (λ g. shown_next at (guarded fence h g) next behind ≡ guarding_found (is_read d.rule.guard.place) fence d at next behind) (sym k.right.front_is)
+      subst (λ g. next_faults at (guarded fence h g) next behind ≡ guard_faults (is_read d.rule.guard.place) fence d at next behind) (sym k.right.front_is)
       (unread_shows fence h (RightSide k.right.conjoined k.right.left k.right.sign k.right.read)
       (no_rule fence h (RightSide k.right.conjoined k.right.left k.right.sign k.right.read)
       (λ a b. ap (λ o. ended k.right.conjoined (compared k.right.left k.right.sign o)) (k.goes_on (sym (ends_is k.right.read next) ∙ b))))
@@ -233,7 +241,7 @@ module _ (ts : Tokens) (at : ℕ) (next behind : Option Piece) (d : Draft) (digi
       wanting = ap is_wanting k.right.place_is
 
   -- an atom that has ended
-  ended_silent : (names : List Name) (g : GuardFront) (next : Option Piece) → ((p : inner.Piece) → inner_next next ≡ Some p → goes_on_with (expression_in g) p ≡ false) → token_faults at (going_in names g) next behind ≡ []
+  ended_silent : (names : List Name) (g : GuardFront) (next : Option Piece) → ((p : inner.Piece) → inner_next next ≡ Some p → goes_on_with (expression_in g) p ≡ false) → token_faults at (open_expression_in names g) next behind ≡ []
   ended_silent names g None stops = refl
   ended_silent names g (Some (In p)) stops = rw (stops p refl) refl
   ended_silent names g (Some _) stops = refl
@@ -244,13 +252,13 @@ module _ (ts : Tokens) (at : ℕ) (next behind : Option Piece) (d : Draft) (digi
   word_ends e (Some _) stops = refl
 
   ended_shows : (fence : Fence) (h : Headed) (g : GuardFront) → length d.rules.items ≡ length h.led.ruling.rules
-      → IsEnded (inner_next next) (headed_names h) g (names_in d.rule.variables) d.rule.guard → shown_next at (guarded fence h g) next behind ≡ guarding_found (is_read d.rule.guard.place) fence d at next behind
-  ended_shows fence h g rules k = guarded_shows fence h g ∙ (by fence ∙ sym (ap (λ v. guarding_found v fence d at next behind) (ap is_read k.place_is)))
+      → IsEnded (inner_next next) (headed_names h) g (names_in d.rule.variables) d.rule.guard → next_faults at (guarded fence h g) next behind ≡ guard_faults (is_read d.rule.guard.place) fence d at next behind
+  ended_shows fence h g rules k = guarded_shows fence h g ∙ (by fence ∙ sym (ap (λ v. guard_faults v fence d at next behind) (ap is_read k.place_is)))
     where
       stops : (p : inner.Piece) → inner_next next ≡ Some p → goes_on_with (expression_in g) p ≡ false
       stops p e = ended_stops g p (k.joins p e)
 
-      silent : token_faults at (going_in (headed_names h) g) next behind ≡ []
+      silent : token_faults at (open_expression_in (headed_names h) g) next behind ≡ []
       silent = ended_silent (headed_names h) g next stops
 
       shows_rules : rules_shown fences.Mark h g next ≡ (is_word next && nat_le rule_limit (suc (length d.rules.items)))
@@ -258,46 +266,46 @@ module _ (ts : Tokens) (at : ℕ) (next behind : Option Piece) (d : Draft) (digi
           (λ i. is_word next && word_ends (expression_in g) next stops i && can_end (k.finish_is i) && nat_le rule_limit (suc (sym rules i)))
           ∙ kept (is_word next) (nat_le rule_limit (suc (length d.rules.items)))
 
-      by : (fence : Fence) → fault_if (rules_shown fence h g next) (Limit TooManyRules) at ++ fault_if (is_full g && begins next) (Limit TooManyAtoms) at ++ fault_if (long_name next) (Limit LongName) at ++ token_faults at (going_in (headed_names h) g) next behind
-          ≡ ended_found fence d at next
+      by : (fence : Fence) → fault_if (rules_shown fence h g next) (Limit TooManyRules) at ++ fault_if (is_full g && begins next) (Limit TooManyAtoms) at ++ fault_if (long_name next) (Limit LongName) at ++ token_faults at (open_expression_in (headed_names h) g) next behind
+          ≡ behind_atoms_faults fence d at next
       by fences.Mark =
           (λ i. fault_if (shows_rules i) (Limit TooManyRules) at ++ fault_if (full_never g k.atoms k.finish_is i && begins next) (Limit TooManyAtoms) at ++ fault_if (long_name next) (Limit LongName) at ++ silent i)
-          ∙ (append-nil (rule_found d at next ++ [] ++ fault_if (long_name next) (Limit LongName) at) ∙ ap (λ xs. xs ++ fault_if (long_name next) (Limit LongName) at) (append-nil (rule_found d at next)))
+          ∙ (append-nil (rule_faults d at next ++ [] ++ fault_if (long_name next) (Limit LongName) at) ∙ ap (λ xs. xs ++ fault_if (long_name next) (Limit LongName) at) (append-nil (rule_faults d at next)))
       by fences.Square =
           (λ i. fault_if (full_never g k.atoms k.finish_is i && begins next) (Limit TooManyAtoms) at ++ fault_if (long_name next) (Limit LongName) at ++ silent i) ∙ append-nil (fault_if (long_name next) (Limit LongName) at)
 
   settled_shows : (fence : Fence) (h : Headed) (g : GuardFront) → length d.rules.items ≡ length h.led.ruling.rules → IsSettled (inner_next next) (headed_names h) g (names_in d.rule.variables) d.rule.guard
-      → shown_next at (guarded fence h g) next behind ≡ guarding_found (is_read d.rule.guard.place) fence d at next behind
+      → next_faults at (guarded fence h g) next behind ≡ guard_faults (is_read d.rule.guard.place) fence d at next behind
   settled_shows fence h g rules (settled_none k) = wanting_shows fence h g k
   settled_shows fence h g rules (settled_left k) = left_shows fence h g k
   settled_shows fence h g rules (settled_right k) = right_shows fence h g k
   settled_shows fence h g rules (settled_end k) = ended_shows fence h g rules k
 
   -- the front is that of the guard
-  front_shows : (fence : Fence) (h : Headed) (g : GuardFront) (f : Front) → IsGuard next fence h g f → shown_next at f next behind ≡ shown_next at (guarded fence h g) next behind
-  front_shows fences.Square h g f e = ap (λ f. shown_next at f next behind) e
-  front_shows fences.Mark h g f (inl e) = ap (λ f. shown_next at f next behind) e
-  front_shows fences.Mark h g f (inr (name, (e, (is, closed)))) = ap (λ f. shown_next at f next behind) e ∙ (word_shows h name next ∙ ap (λ g. shown_next at (fronts.MarkGuarding h g) next behind) (sym is))
+  front_shows : (fence : Fence) (h : Headed) (g : GuardFront) (f : Front) → IsGuard next fence h g f → next_faults at f next behind ≡ next_faults at (guarded fence h g) next behind
+  front_shows fences.Square h g f e = ap (λ f. next_faults at f next behind) e
+  front_shows fences.Mark h g f (inl e) = ap (λ f. next_faults at f next behind) e
+  front_shows fences.Mark h g f (inr (name, (e, (is, closed)))) = ap (λ f. next_faults at f next behind) e ∙ (word_shows h name next ∙ ap (λ g. next_faults at (fronts.MarkGuarding h g) next behind) (sym is))
 
   -- nothing of a guard has been read
-  fresh_shows : (h : Headed) → IsHeaded ts h d → fault_if (long_name next) (Limit LongName) at ++ token_faults at (going_in (headed_names h) no_atoms) next behind ≡ atom_found d.rule at next behind
+  fresh_shows : (h : Headed) → IsHeaded ts h d → fault_if (long_name next) (Limit LongName) at ++ token_faults at (open_expression_in (headed_names h) no_atoms) next behind ≡ atom_faults d.rule at next behind
   fresh_shows h k = ap (λ xs. fault_if (long_name next) (Limit LongName) at ++ xs) (go (k.guard (headed_names h)))
     where
       go : IsWanting (headed_names h) no_atoms (headed_names h) d.rule.guard
-          → token_faults at (going_in (headed_names h) no_atoms) next behind ≡ going_found d.rule d.rule.guard.expression (truth_in d.rule.guard (inner_next next) (inner_next behind)) at (inner_next next)
+          → token_faults at (open_expression_in (headed_names h) no_atoms) next behind ≡ step_faults d.rule d.rule.guard.expression (truth_in d.rule.guard (inner_next next) (inner_next behind)) at (inner_next next)
       go w = atom_shows (headed_names h) no_atoms
           (subst (λ ns. Stands ns beginning (names_in d.rule.variables) d.rule.guard.expression) k.names_are (fresh_stands (names_in d.rule.variables) d.rule.guard.expression w.expression))
           (ap is_wanting w.place_is)
 
   marked_shows : (h : Headed) → IsHeaded ts h d → length d.rules.items ≡ length h.led.ruling.rules → (v w : Bool) → is_word next ≡ v → is_open behind ≡ w
-      → fault_if (v && w && are_full (rule_with h NoGuard ∷ h.led.ruling.rules)) (Limit TooManyRules) at ++ [] ++ [] ++ fault_if (long_name next) (Limit LongName) at ++ token_faults at (if v && w then None else going_in (headed_names h) no_atoms) next behind
-      ≡ marked_found (v && w) d at next behind
+      → fault_if (v && w && are_full (rule_with h NoGuard ∷ h.led.ruling.rules)) (Limit TooManyRules) at ++ [] ++ [] ++ fault_if (long_name next) (Limit LongName) at ++ token_faults at (if v && w then None else open_expression_in (headed_names h) no_atoms) next behind
+      ≡ mark_faults (v && w) d at next behind
   marked_shows h k rules true true a b = rw (a, rules) (simp append-nil)
   marked_shows h k rules true false a b = fresh_shows h k
   marked_shows h k rules false w a b = fresh_shows h k
 
   -- what a front behind a target shows at the next token is what the code finds there
-  pub tail_next : (place : TailPlace) (f : Front) → TailSettled ts next place d f → shown_next at f next behind ≡ tail_found place d at next behind
+  pub tail_next : (place : TailPlace) (f : Front) → TailSettled ts next place d f → next_faults at f next behind ≡ tail_faults place d at next behind
   tail_next tails.Targeted f k = rw (k.1.0, as_many_rules k.0.led.ruling.rules d k.1.1.0.headed.led.rules_are) (simp append-nil)
   tail_next tails.GuardMarked f k = rw k.1.0 (marked_shows k.0 k.1.1 (as_many_rules k.0.led.ruling.rules d k.1.1.headed.led.rules_are) (is_word next) (is_open behind) refl refl)
   tail_next tails.SquareOpened f k = rw k.1.0 (fresh_shows k.0 k.1.1)

@@ -2,10 +2,10 @@
 use Rattle.std.specs.Prelude.{◌≡◌, Bool, true, false, not, ◌&&◌, ◌||◌, [], map, Option, Some, None, refl}
 use Rattle.std.proofs.Common.{sym, ap, subst, ◌∙◌, inl, inr}
 use Rattle.model.specs.Programs.{Name}
-use Rattle.expr_text.specs.Pieces as inner
-use Rattle.expr_text.specs.Guards.{Atoms, atoms_terms}
-use Rattle.expr_text.specs.GuardFronts as guards
-use Rattle.expr_text.specs.GuardFronts.{GuardFront, no_atoms}
+use Rattle.its_text.specs.expr_text.Pieces as inner
+use Rattle.its_text.specs.expr_text.Guards.{Atoms, atoms_terms}
+use Rattle.its_text.specs.expr_text.GuardFronts as guards
+use Rattle.its_text.specs.expr_text.GuardFronts.{GuardFront, no_atoms}
 use Rattle.expr_reader.specs.Variables.{names_in}
 use Rattle.expr_reader.specs.Standing.{IsFresh}
 use Rattle.expr_reader.specs.GuardParts.{is_read}
@@ -16,14 +16,15 @@ use Rattle.its_text.specs.Written.{NoGuard, BehindMark, InSquares}
 use Rattle.its_text.specs.Fronts as fronts
 use Rattle.its_text.specs.Fronts.{Front, Ruling, Headed, ruling_with}
 use Rattle.its_text.specs.FrontNames.{headed_names}
-use Rattle.its_text.specs.Steps.{step, guarding, guard_ended, guard_named, squared, square_ended}
-use Rattle.its_text.specs.Shown as shown
-use Rattle.its_text.specs.Shown.{Tokens}
+use Rattle.its_text.specs.Steps.{step, mark_guard_step, guard_ended, guard_named, square_guard_step, square_ended}
+use Rattle.its_text.specs.FrontFaults as shown
+use Rattle.its_text.specs.FrontFaults.{Tokens}
 use Rattle.its_reader.specs.Tests as tests
 use Rattle.its_reader.specs.Standing.{KnowsHeaded, KnowsSource}
 use Rattle.its_reader.specs.Places.{TailSettled, LeadsTo, IsHeaded, IsSource}
 use Rattle.its_reader.specs.PlaceSteps.{GoTogether, IsModestPiece, TailLeads, RuleLeads}
-use Rattle.its_reader.specs.Tailing.{KnowsWhole, RuleEnds, WholeLeads, guarding_if, AtomTakes, ShutsIf, SquareEnds, GuardEnds, GuardIsEnded}
+use Rattle.its_reader.specs.TailSteps.{KnowsWhole, RuleEnds, WholeLeads, guarding_if, AtomTakes, ShutsIf, SquareEnds}
+use Rattle.its_reader.specs.TailSteps.{GuardEnds, GuardIsEnded}
 use Rattle.its_reader.specs.declared.place.Fence.{Fence}
 use Rattle.its_reader.specs.declared.place.Fence.TheVariants as fences
 use Rattle.its_reader.specs.declared.place.LeftPlace.TheVariants as lefts
@@ -230,12 +231,12 @@ module _ (ts : Tokens) (h : Headed) (g : GuardFront) (old : Draft) (headed : Kno
   mark_ends : (p : Piece) (at : IsEnded (tests.inner_in p) (headed_names h) g (names_in old.rule.variables) old.rule.guard) → tests.joins p ≡ false
       → step (fronts.MarkGuarding h g) p ≡ step (fronts.Ruled (ruling_with h (BehindMark (Some at.atoms)))) p
   mark_ends (In q) at j =
-      ap (λ o. guarding h g o q) (at.joins q refl ∙ not_joined (guards.finish g) q j) ∙ ap (λ o. guard_ended h o q) at.finish_is
+      ap (λ o. mark_guard_step h g o q) (at.joins q refl ∙ not_joined (guards.finish g) q j) ∙ ap (λ o. guard_ended h o q) at.finish_is
   mark_ends _ at j = refl
 
   square_stops : (p : Piece) (at : IsEnded (tests.inner_in p) (headed_names h) g (names_in old.rule.variables) old.rule.guard) → tests.joins p ≡ false → tests.closes_square p ≡ false
       → step (fronts.SquareGuarding h g) p ≡ None
-  square_stops (In q) at j c = ap (squared h) (at.joins q refl ∙ not_joined (guards.finish g) q j)
+  square_stops (In q) at j c = ap (square_guard_step h) (at.joins q refl ∙ not_joined (guards.finish g) q j)
   square_stops SquareClose at j c = cc
   square_stops _ at j c = refl
 

@@ -1,12 +1,14 @@
 -- What a text begins with is a token before those that are behind it.
-use Rattle.std.proofs.Common.{◌≡◌, ℕ, zero, suc, ◌+◌, ◌-◌, ◌≤◌, ◌<◌, Bool, true, false, List, [], ◌∷◌, length, take, drop, Option, Some, None, refl, ap, sym, ◌∙◌, arith, length-drop}
+use Rattle.std.proofs.Common.{◌≡◌, ℕ, zero, suc, ◌+◌, ◌-◌, ◌≤◌, ◌<◌, Bool, true, false, List, [], ◌∷◌, length, take}
+use Rattle.std.proofs.Common.{drop, Option, Some, None, refl, ap, sym, ◌∙◌, arith, length-drop}
 use Rattle.std.specs.Prelude.{codes, if◌then◌else◌}
 use Rattle.text_core.specs.Names.{is_same}
 use Rattle.text_core.specs.Tokens.{Lexeme, token_then, tokens_in}
 use Rattle.text_core.proofs.Lexing.{tokens_in-first}
-use Rattle.expr_text.specs.Pieces as inner
+use Rattle.its_text.specs.expr_text.Pieces as inner
 use Rattle.its_text.specs.Pieces.{Piece, In}
-use Rattle.its_text.specs.Lexing.{Mode, Outside, AtKeyword, Within, InComment, behind_keyword, mode_behind, lexeme_in, lexer, closing_at, closing_by, bend_of, Bend, Opening, Closing, Neither, one_more}
+use Rattle.its_text.specs.Lexing.{Mode, Outside, AtKeyword, Within, InComment, behind_keyword, mode_behind, lexeme_in}
+use Rattle.its_text.specs.Lexing.{lexer, closing_at, closing_by, bend_of, Bend, Opening, Closing, Neither, one_more}
 use Rattle.its_text.proofs.LexingLaws.{lexes_within}
 use Rattle.its_reader.specs.declared.mode.Mode as code
 use Rattle.its_reader.specs.declared.mode.Mode.TheVariants as modes

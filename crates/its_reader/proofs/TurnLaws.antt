@@ -11,12 +11,13 @@ use Rattle.its_text.specs.Fronts.{Front}
 use Rattle.its_text.specs.Steps.{step}
 use Rattle.its_text.specs.Grammar.{programs}
 use Rattle.its_text.specs.Answers.{verdict}
-use Rattle.its_text.specs.Shown.{Tokens, next_piece, shown, left_wanted, off}
+use Rattle.its_text.specs.FrontFaults.{Tokens, next_piece, front_faults, left_wanted, break_kind}
 use Rattle.its_reader.specs.Tests as tests
 use Rattle.its_reader.specs.Places.{SettledAt, LeadsTo}
 use Rattle.its_reader.specs.PlaceSteps.{GoTogether, IsModestPiece}
 use Rattle.its_reader.specs.Reading.{IsReading}
-use Rattle.its_reader.specs.Turning.{Judges, Advances, AllowsName, least_of, is_final, on_or_over, behind_token, Turned, turned, TurnsTo, Turns}
+use Rattle.its_reader.specs.TokenSteps.{Judges, Advances, AllowsName, least_of, is_final, on_or_over, behind_token}
+use Rattle.its_reader.specs.TokenSteps.{TokenResult, token_result, TurnsTo, Turns}
 use Rattle.its_reader.specs.declared.draft.Draft.{Draft}
 use Rattle.its_reader.specs.declared.place.Place.{Place}
 use Rattle.its_reader.proofs.AdvanceLaws.{off_is}
@@ -30,7 +31,7 @@ module _ (bytes : List ℕ) (place now : Place) (last : ℕ) (best first : Optio
   settled_here : SettledAt (tokens_of bytes) (Some t.piece) now middle r.front
   settled_here = j.settled (tokens_of bytes) r.front r.stands
 
-  noted_here : first ≡ first_among programs best (shown (length bytes) r.done r.front (t ∷ rest))
+  noted_here : first ≡ first_among programs best (front_faults (length bytes) r.done r.front (t ∷ rest))
   noted_here = j.noted (tokens_of bytes) (length bytes) r.done (t ∷ rest) r.front r.stands refl refl refl (sym r.last_is) r.digital.0
 
   -- reading goes on
@@ -42,15 +43,15 @@ module _ (bytes : List ℕ) (place now : Place) (last : ℕ) (best first : Optio
       go (Some g) e h = reading_goes_on bytes place last best old t rest r first g reached new noted_here e h
 
   -- the text breaks off
-  pub turn_breaks : Advances now middle t (next_piece rest) None new → verdict bytes ≡ Refused (first_of programs first (record { kind = off r.front (t ∷ rest); at = t.at }))
+  pub turn_breaks : Advances now middle t (next_piece rest) None new → verdict bytes ≡ Refused (first_of programs first (record { kind = break_kind r.front (t ∷ rest); at = t.at }))
   turn_breaks a = go (step r.front t.piece) refl (a.together (tokens_of bytes) r.front settled_here (position_is bytes place last best old t rest r))
     where
-      go : (o : Option Front) → step r.front t.piece ≡ o → GoTogether o None → verdict bytes ≡ Refused (first_of programs first (record { kind = off r.front (t ∷ rest); at = t.at }))
+      go : (o : Option Front) → step r.front t.piece ≡ o → GoTogether o None → verdict bytes ≡ Refused (first_of programs first (record { kind = break_kind r.front (t ∷ rest); at = t.at }))
       go None e h = reading_breaks bytes place last best old t rest r first noted_here e
       go (Some g) e h = absurd h
 
   -- one token is read: reading goes on, or its answer is that of the text
-  pub turn_to : (reached : Option Place) → Advances now middle t (next_piece rest) reached new → TurnsTo bytes rest (turned now first t reached) new
+  pub turn_to : (reached : Option Place) → Advances now middle t (next_piece rest) reached new → TurnsTo bytes rest (token_result now first t reached) new
   turn_to None a =
       turn_breaks a
       ∙ ap (λ k. Refused (first_of programs first (record { kind = k; at = t.at }))) (sym (off_is (tokens_of bytes) now middle r.front t.piece settled_here))
@@ -73,7 +74,7 @@ module _ (bytes : List ℕ) (place now : Place) (last : ℕ) (best first : Optio
 
 -- so it is for each text
 pub turns : (place now : Place) (last : ℕ) (best first : Option (Fault Kind)) (old middle new : Draft) (t : Token Piece) (behind : Option Piece) (reached : Option Place) → Judges place last best old (Some t.piece) behind t.at now first middle
-    → Advances now middle t behind reached new → Turns place last best old t behind (turned now first t reached) new
+    → Advances now middle t behind reached new → Turns place last best old t behind (token_result now first t reached) new
 turns place now last best first old middle new t behind reached j a = record {
   each = λ bytes rest e r.
       turn_to bytes place now last best first old middle new t rest r (subst (λ b. Judges place last best old (Some t.piece) b t.at now first middle) (sym e) j) reached
@@ -81,5 +82,5 @@ turns place now last best first old middle new t behind reached j a = record {
 }
 
 -- what a token leads to may be told by an equation
-pub turned_alike : {place : Place} {last : ℕ} {best : Option (Fault Kind)} {old new : Draft} {t : Token Piece} {behind : Option Piece} {a b : Turned} → a ≡ b → Turns place last best old t behind b new → Turns place last best old t behind a new
+pub turned_alike : {place : Place} {last : ℕ} {best : Option (Fault Kind)} {old new : Draft} {t : Token Piece} {behind : Option Piece} {a b : TokenResult} → a ≡ b → Turns place last best old t behind b new → Turns place last best old t behind a new
 turned_alike {place} {last} {best} {old} {new} {t} {behind} {a} {b} e h = subst (λ to. Turns place last best old t behind to new) (sym e) h

@@ -4,11 +4,13 @@ pub mod Tests
 pub mod Faults
 pub mod Standing
 pub mod PlaceSteps
-pub mod Noting
-pub mod Turning
-pub mod Tailing
-pub mod Settling
+pub mod FaultTests
+pub mod TokenSteps
+pub mod TailSteps
+pub mod PartEnds
 pub mod Finishing
 -- the machinery of the functions inside and of the proofs
 pub mod Places
 pub mod Reading
+-- the crates below, which callers name through this one
+pub use Rattle.its_text.specs as its_text

@@ -3,7 +3,7 @@ use Rattle.std.specs.Prelude.{◌≡◌, ℕ, Bool, true, false, not, ◌==◌, 
 use Rattle.std.specs.Prelude.{◌++◌, length, Option, Some, None, ⊤}
 use Rattle.model.specs.Programs.{Name}
 use Rattle.text_core.specs.Names.{is_among, position_of}
-use Rattle.expr_text.specs.Terms.{with_name}
+use Rattle.its_text.specs.expr_text.Terms.{with_name}
 use Rattle.expr_reader.specs.Variables.{names_in}
 use Rattle.its_text.specs.Fronts as fronts
 use Rattle.its_text.specs.Fronts.{Ruling}
@@ -14,8 +14,8 @@ use Rattle.its_reader.specs.declared.place.Place.TheVariants as places
 use Rattle.its_reader.specs.declared.place.RightPlace.TheVariants as rights
 use Rattle.its_reader.specs.declared.place.Wrap.{Wrap}
 use Rattle.its_reader.specs.declared.draft.RuleDraft.{RuleDraft}
-use Rattle.expr_text.specs.Pieces as inner
-use Rattle.expr_text.specs.TermFronts.{goes_on_from}
+use Rattle.its_text.specs.expr_text.Pieces as inner
+use Rattle.its_text.specs.expr_text.TermFronts.{goes_on_from}
 use Rattle.expr_reader.specs.Standing.{Leads}
 use Rattle.expr_reader.specs.Views.{front_of}
 use Rattle.its_text.specs.Pieces.{Piece, In}
@@ -23,7 +23,7 @@ use Rattle.expr_reader.specs.Standing.{IsModest}
 use Rattle.its_text.specs.Fronts.{Front, front_pieces}
 use Rattle.its_text.specs.Answers.{at_index}
 use Rattle.its_text.specs.Steps.{step}
-use Rattle.its_text.specs.Shown.{Tokens}
+use Rattle.its_text.specs.FrontFaults.{Tokens}
 use Rattle.its_reader.specs.Places.{InSections, InLeft, RightSettled, TailSettled, LeadsTo}
 use Rattle.its_reader.specs.declared.draft.Draft.{Draft}
 use Rattle.its_reader.specs.declared.place.SectionPlace.{SectionPlace}

@@ -1,11 +1,11 @@
 -- Where the code stands: for each place the written fronts that it stands for, with the next piece ahead.
 use Rattle.std.specs.Prelude.{◌≡◌, ◌⊎◌, true, false, List, [], ◌∷◌, length, Option, Some, None, ⊤}
 use Rattle.model.specs.Programs.{Name}
-use Rattle.expr_text.specs.Trees.{Sum}
-use Rattle.expr_text.specs.Fronts as expression
-use Rattle.expr_text.specs.Steps as expression_steps
-use Rattle.expr_text.specs.GuardFronts as guards
-use Rattle.expr_text.specs.GuardFronts.{GuardFront}
+use Rattle.its_text.specs.expr_text.Trees.{Sum}
+use Rattle.its_text.specs.expr_text.Fronts as expression
+use Rattle.its_text.specs.expr_text.Steps as expression_steps
+use Rattle.its_text.specs.expr_text.GuardFronts as guards
+use Rattle.its_text.specs.expr_text.GuardFronts.{GuardFront}
 use Rattle.expr_reader.specs.Variables.{names_in}
 use Rattle.expr_reader.specs.Standing as expressions
 use Rattle.expr_reader.specs.GuardStanding.{IsWanting, Reads, IsSettled}
@@ -14,7 +14,7 @@ use Rattle.its_text.specs.Written.{Section, Start, RightTerm, Marked, BehindMark
 use Rattle.its_text.specs.Fronts as fronts
 use Rattle.its_text.specs.Fronts.{Front, Ruling, Led, Aimed, Headed, ruling_with}
 use Rattle.its_text.specs.Steps.{guard_named}
-use Rattle.its_text.specs.Shown.{Tokens, other_arity, is_open, ends_expression, bare_differs}
+use Rattle.its_text.specs.FrontFaults.{Tokens, other_arity, is_open, ends_expression, bare_differs}
 use Rattle.its_text.specs.Numbering.{with_right, left_names}
 use Rattle.its_text.specs.FrontNames.{symbols_behind, names_with, headed_names}
 use Rattle.its_reader.specs.Tests.{inner_next}

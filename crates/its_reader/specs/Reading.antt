@@ -7,8 +7,8 @@ use Rattle.its_text.specs.Kinds.{Kind}
 use Rattle.its_text.specs.Lexing.{tokens_of}
 use Rattle.its_text.specs.Fronts.{Front}
 use Rattle.its_text.specs.Grammar.{programs}
-use Rattle.its_text.specs.Shown.{Tokens, last_byte, next_piece}
-use Rattle.its_reader.specs.Noting.{IsDigital}
+use Rattle.its_text.specs.FrontFaults.{Tokens, last_byte, next_piece}
+use Rattle.its_reader.specs.FaultTests.{IsDigital}
 use Rattle.its_reader.specs.Places.{StandsAt}
 use Rattle.its_reader.specs.declared.draft.Draft.{Draft}
 use Rattle.its_reader.specs.declared.place.Place.{Place}

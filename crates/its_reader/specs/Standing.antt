@@ -4,13 +4,13 @@ use Rattle.model.specs.Programs as plain
 use Rattle.model.specs.Programs.{Name, Symbol}
 use Rattle.model.specs.Terms.{Term}
 use Rattle.its_model.specs.Views.{rule_of}
-use Rattle.expr_text.specs.Trees.{Sum}
-use Rattle.expr_text.specs.Terms.{sum_term}
-use Rattle.expr_text.specs.TermFronts.{limited}
+use Rattle.its_text.specs.expr_text.Trees.{Sum}
+use Rattle.its_text.specs.expr_text.Terms.{sum_term}
+use Rattle.its_text.specs.expr_text.TermFronts.{limited}
 use Rattle.expr_reader.specs.Variables.{names_in}
 use Rattle.expr_reader.specs.Standing.{IsFresh}
 use Rattle.expr_reader.specs.GuardStanding.{IsWanting, limited_atom}
-use Rattle.expr_text.specs.GuardFronts.{no_atoms}
+use Rattle.its_text.specs.expr_text.GuardFronts.{no_atoms}
 use Rattle.poly_terms.specs.Views.{term_of}
 use Rattle.its_text.specs.Fronts.{Aimed, Headed}
 use Rattle.its_text.specs.Written.{WrittenRule, Section, Goal, Start, Variables, Rules, Comment, pieces_behind}
@@ -18,7 +18,7 @@ use Rattle.its_text.specs.Numbering.{names_of, symbols_of, with_right, number_of
 use Rattle.its_text.specs.Numbering.{rules_of, rule_numbered}
 use Rattle.its_text.specs.Fronts.{Ruling, Led}
 use Rattle.its_text.specs.Answers.{at_index}
-use Rattle.its_text.specs.Shown.{Tokens, has, is_goal, is_variables, is_rules}
+use Rattle.its_text.specs.FrontFaults.{Tokens, has, is_goal, is_variables, is_rules}
 use Rattle.its_text.specs.FrontNames.{symbols_behind}
 use Rattle.its_reader.specs.declared.draft.Start as code
 use Rattle.its_reader.specs.declared.draft.Sections.{Sections}

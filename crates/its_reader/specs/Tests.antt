@@ -2,7 +2,7 @@
 use Rattle.std.specs.Prelude.{Bool, true, false, Option, Some, None}
 use Rattle.model.specs.Programs.{Name}
 use Rattle.text_core.specs.Names.{is_same}
-use Rattle.expr_text.specs.Pieces as inner
+use Rattle.its_text.specs.expr_text.Pieces as inner
 use Rattle.its_text.specs.Pieces.{Piece, In, Comma, Arrow, GuardMark, SquareOpen, SquareClose, Remark}
 
 -- a piece is an opening bracket, a closing one, a comma, an arrow, what a comment says

@@ -1,4 +1,4 @@
-// The refusals at the next token.
+//! The refusals at the next token.
 
 ghost use Rattle.std.specs.Prelude.{◌≡◌, ◌++◌, ◌&&◌, nat_le, length};
 ghost use Rattle.model.specs.Limits.{rule_limit, place_limit};
@@ -6,12 +6,14 @@ ghost use Rattle.expr_reader.specs.Variables.{names_in};
 ghost use Rattle.text_core.specs.Reading.{first_among};
 ghost use Rattle.its_text.specs.Grammar.{programs};
 ghost use Rattle.its_text.specs.Kinds as kinds;
-ghost use Rattle.its_text.specs.Shown.{fault_if, long_name, is_word as is_word_next, is_operator as is_operator_next};
+ghost use Rattle.its_text.specs.FrontFaults.{fault_if, long_name, is_word as is_word_next};
+ghost use Rattle.its_text.specs.FrontFaults.{is_operator as is_operator_next};
 ghost use Rattle.its_reader.specs.Views.{maybe_of, words_of};
 ghost use Rattle.its_reader.specs.Faults.{maybe_fault};
-ghost use Rattle.its_reader.specs.Noting.{is_long as is_long_name, has_word, has_worded, repeats_in, is_ruled};
-ghost use Rattle.its_reader.specs.Noting.{left_found};
-ghost use Rattle.its_reader.specs.Noting.{wanted_found, argument_found, named_found, place_found};
+ghost use Rattle.its_reader.specs.FaultTests.{is_long as is_long_name, has_word, has_worded, repeats_in, is_ruled};
+ghost use Rattle.its_reader.specs.FaultTests.{left_faults};
+ghost use Rattle.its_reader.specs.FaultTests.{wanted_faults, left_argument_name_faults, argument_name_faults};
+ghost use Rattle.its_reader.specs.FaultTests.{place_faults};
 
 use crate::draft::{Draft, RuleDraft, Sections};
 use crate::error::LimitKind;
@@ -22,18 +24,18 @@ use model::{NAME_LIMIT, PLACE_LIMIT, RULE_LIMIT};
 
 /// The next piece, the one behind it, and where the next one stands.
 #[derive(Clone, Copy)]
-pub struct Ahead<'a> {
+pub(crate) struct Ahead<'a> {
     pub next: Option<Piece<'a>>,
     pub behind: Option<Piece<'a>>,
     pub at: usize,
 }
 
 /// The first of a fault so far and a name that is too long.
-pub fn noted_name<'a>(best: Option<Fault>, ahead: Ahead<'a>) -> Option<Fault>
+pub(crate) fn first_with_long_name<'a>(best: Option<Fault>, ahead: Ahead<'a>) -> Option<Fault>
     ensures { maybe_fault result ≡ first_among programs (maybe_fault best) (fault_if (long_name
         (maybe_of ahead.entry.next)) (kinds.Limit kinds.LongName) ahead.entry.at) }
 {
-    Fault::noted(
+    Fault::first_where(
         best,
         is_long(word_of(ahead.next)),
         Kind::Limit(LimitKind::Name),
@@ -52,9 +54,9 @@ fn is_long(name: Option<&[u8]>) -> bool
 
 impl<'a> Draft<'a> {
     /// The first of a fault so far and those at the next token.
-    pub fn noted(&self, best: Option<Fault>, place: Place, ahead: Ahead<'a>) -> Option<Fault>
+    pub(crate) fn noted(&self, best: Option<Fault>, place: Place, ahead: Ahead<'a>) -> Option<Fault>
         ensures { maybe_fault result ≡ first_among programs (maybe_fault best)
-            (place_found place self.now ahead.entry.at (maybe_of ahead.entry.next) (maybe_of ahead.entry.behind)) }
+            (place_faults place self.now ahead.entry.at (maybe_of ahead.entry.next) (maybe_of ahead.entry.behind)) }
     {
         match place {
             Place::InSections(place) => self.sections.noted(best, place, ahead),
@@ -72,12 +74,12 @@ impl<'a> Draft<'a> {
         ahead: Ahead<'a>,
     ) -> Option<Fault>
         ensures { maybe_fault result ≡ first_among programs (maybe_fault best)
-            (left_found place self.now ahead.entry.at (maybe_of ahead.entry.next) (maybe_of ahead.entry.behind)) }
+            (left_faults place self.now ahead.entry.at (maybe_of ahead.entry.next) (maybe_of ahead.entry.behind)) }
     {
         let full = self.begins_too_many(place, ahead.next);
-        let ruled = Fault::noted(best, full, Kind::Limit(LimitKind::Rules), ahead.at);
+        let ruled = Fault::first_where(best, full, Kind::Limit(LimitKind::Rules), ahead.at);
         let wanted = self.rule.noted_wanted(ruled, place.wants_argument(), ahead);
-        noted_name(wanted, ahead)
+        first_with_long_name(wanted, ahead)
     }
 
     // Whether a rule begins behind as many as the limit.
@@ -90,7 +92,7 @@ impl<'a> Draft<'a> {
 }
 
 /// Whether it is a name.
-pub fn is_name(piece: Option<Piece<'_>>) -> bool
+pub(crate) fn is_name(piece: Option<Piece<'_>>) -> bool
     ensures { result ≡ is_word_next (maybe_of piece.entry) }
 {
     match piece {
@@ -107,13 +109,13 @@ impl<'a> Sections<'a> {
             (maybe_of ahead.entry.behind)) kinds.RepeatedSection ahead.entry.at
             ++ fault_if (long_name (maybe_of ahead.entry.next)) (kinds.Limit kinds.LongName) ahead.entry.at) }
     {
-        let best = Fault::noted(
+        let best = Fault::first_where(
             best,
             self.repeats(place, ahead),
             Kind::RepeatedSection,
             ahead.at,
         );
-        noted_name(best, ahead)
+        first_with_long_name(best, ahead)
     }
 
     // Whether a section begins that is there already.
@@ -149,7 +151,7 @@ impl<'a> RuleDraft<'a> {
     // Those of a left argument, where one is wanted.
     fn noted_wanted(&self, best: Option<Fault>, wanted: bool, ahead: Ahead<'a>) -> Option<Fault>
         ensures { maybe_fault result ≡ first_among programs (maybe_fault best)
-            (wanted_found wanted self.now ahead.entry.at (maybe_of ahead.entry.next) (maybe_of ahead.entry.behind)) }
+            (wanted_faults wanted self.now ahead.entry.at (maybe_of ahead.entry.next) (maybe_of ahead.entry.behind)) }
     {
         if wanted {
             self.noted_argument(best, word_of(ahead.next), ahead)
@@ -165,7 +167,7 @@ impl<'a> RuleDraft<'a> {
         ahead: Ahead<'a>,
     ) -> Option<Fault>
         ensures { maybe_fault result ≡ first_among programs (maybe_fault best)
-            (argument_found self.now ahead.entry.at (words_of name.entry) (maybe_of ahead.entry.behind)) }
+            (left_argument_name_faults self.now ahead.entry.at (words_of name.entry) (maybe_of ahead.entry.behind)) }
     {
         match name {
             Some(name) => self.noted_left_name(best, name, ahead),
@@ -180,15 +182,15 @@ impl<'a> RuleDraft<'a> {
         ahead: Ahead<'a>,
     ) -> Option<Fault>
         ensures { maybe_fault result ≡ first_among programs (maybe_fault best)
-            (named_found self.now ahead.entry.at name.now (maybe_of ahead.entry.behind)) }
+            (argument_name_faults self.now ahead.entry.at name.now (maybe_of ahead.entry.behind)) }
     {
         let at = ahead.at;
         let operates = is_operator(ahead.behind);
-        let operated = Fault::noted(best, operates, Kind::LeftNotVariable, at);
+        let operated = Fault::first_where(best, operates, Kind::LeftNotVariable, at);
         let named = self.variables.has(name);
-        let repeated = Fault::noted(operated, named, Kind::LeftRepeated, at);
+        let repeated = Fault::first_where(operated, named, Kind::LeftRepeated, at);
         let full = self.has_places();
-        Fault::noted(repeated, full, Kind::Limit(LimitKind::Arity), at)
+        Fault::first_where(repeated, full, Kind::Limit(LimitKind::Arity), at)
     }
 
     // Whether there are as many left arguments as the limit.

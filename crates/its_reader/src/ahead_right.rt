@@ -1,4 +1,4 @@
-// The refusals at the next token of a right term.
+//! The refusals at the next token of a right term.
 
 ghost use Rattle.std.specs.Prelude.{◌≡◌, ◌&&◌, not, IsTrue, nat_lt, nat_le, length, Some};
 ghost use Rattle.text_core.specs.Names.{is_among};
@@ -10,19 +10,21 @@ ghost use Rattle.its_reader.specs.Faults.{maybe_fault};
 ghost use Rattle.its_reader.specs.Tests.{inner_next};
 ghost use Rattle.its_reader.specs.Views.{maybe_of};
 ghost use Rattle.its_text.specs.Numbering.{is_com as plain_com};
-ghost use Rattle.its_text.specs.Shown.{begins, is_open as is_open_next};
+ghost use Rattle.its_text.specs.FrontFaults.{begins, is_open as is_open_next};
 ghost use Rattle.its_reader.specs.Views.{words_of};
-ghost use Rattle.its_reader.specs.Noting.{is_large_row, passes as plain_passes, inner_found, going_found, right_found};
-ghost use Rattle.its_reader.specs.Noting.{names_one, names_many, is_one_named, is_many_named, begins_full, going_if};
-ghost use Rattle.its_reader.specs.Noting.{is_within, targets, argues};
+ghost use Rattle.its_reader.specs.FaultTests.{is_large_row, passes as plain_passes, piece_faults, step_faults};
+ghost use Rattle.its_reader.specs.FaultTests.{right_faults};
+ghost use Rattle.its_reader.specs.FaultTests.{names_one, names_many, is_one_named, is_many_named, begins_full};
+ghost use Rattle.its_reader.specs.FaultTests.{going_if};
+ghost use Rattle.its_reader.specs.FaultTests.{is_within, wants_target_name, is_in_argument};
 ghost use Rattle.std.specs.List.{list_all};
 ghost use Rattle.std.specs.Char.{is_ascii_digit};
-ghost use Rattle.expr_text.specs.Terms.{number_of};
+ghost use Rattle.its_text.specs.expr_text.Terms.{number_of};
 ghost use Rattle.model.specs.Limits.{coefficient_limit, variable_limit, token_limit};
 ghost use Rattle.expr_reader.specs.Views.{piece_of as inner_plain};
-ghost use Rattle.its_reader.specs.Tailing.{is_modest as plain_modest};
+ghost use Rattle.its_reader.specs.TailSteps.{is_modest as plain_modest};
 
-use crate::ahead::{Ahead, noted_name};
+use crate::ahead::{Ahead, first_with_long_name};
 use crate::draft::RuleDraft;
 use crate::error::LimitKind;
 use crate::fault::{Fault, Kind};
@@ -76,7 +78,7 @@ fn is_many(name: Option<&[u8]>) -> bool
 }
 
 /// Whether a literal is at most 2^63 - 1.
-pub fn is_modest(piece: Inner<'_>) -> bool
+pub(crate) fn is_modest(piece: Inner<'_>) -> bool
     ensures { result ≡ plain_modest (inner_plain piece.entry) }
 {
     match piece {
@@ -130,7 +132,7 @@ fn exceeds(digits: &[u8]) -> bool
 }
 
 /// Whether an expression can begin with a piece.
-pub fn begins_expression(piece: Option<Piece<'_>>) -> bool
+pub(crate) fn begins_expression(piece: Option<Piece<'_>>) -> bool
     ensures { result ≡ begins (maybe_of piece.entry) }
 {
     match piece {
@@ -147,7 +149,7 @@ fn is_again(place: RightPlace, ahead: Ahead<'_>) -> bool
 }
 
 fn has_many(place: RightPlace, ahead: Ahead<'_>) -> bool
-    ensures { result ≡ (targets place && (names_many (maybe_of ahead.entry.next) && is_open_next
+    ensures { result ≡ (wants_target_name place && (names_many (maybe_of ahead.entry.next) && is_open_next
         (maybe_of ahead.entry.behind))) }
 {
     place.targets() && opens_many(ahead)
@@ -155,28 +157,28 @@ fn has_many(place: RightPlace, ahead: Ahead<'_>) -> bool
 
 impl<'a> RuleDraft<'a> {
     /// The first of a fault so far and those at the next token of a right term.
-    pub fn noted_in_right(
+    pub(crate) fn noted_in_right(
         &self,
         best: Option<Fault>,
         place: RightPlace,
         ahead: Ahead<'a>,
     ) -> Option<Fault>
         ensures { maybe_fault result ≡ first_among programs (maybe_fault best)
-            (right_found place self.now ahead.entry.at (maybe_of ahead.entry.next) (maybe_of ahead.entry.behind)) }
+            (right_faults place self.now ahead.entry.at (maybe_of ahead.entry.next) (maybe_of ahead.entry.behind)) }
     {
         let again = is_again(place, ahead);
-        let repeated = Fault::noted(best, again, Kind::Syntax, ahead.at);
+        let repeated = Fault::first_where(best, again, Kind::Syntax, ahead.at);
         let many = has_many(place, ahead);
-        let targeted = Fault::noted(repeated, many, Kind::ManyTargets, ahead.at);
+        let targeted = Fault::first_where(repeated, many, Kind::ManyTargets, ahead.at);
         let full = self.begins_another(place, ahead.next);
-        let counted = Fault::noted(targeted, full, Kind::Limit(LimitKind::Arity), ahead.at);
-        let named = noted_name(counted, ahead);
+        let counted = Fault::first_where(targeted, full, Kind::Limit(LimitKind::Arity), ahead.at);
+        let named = first_with_long_name(counted, ahead);
         self.noted_if_going(named, place.goes(), ahead)
     }
 
     // Whether an argument begins behind as many as the limit.
     fn begins_another(&self, place: RightPlace, next: Option<Piece<'a>>) -> bool
-        ensures { result ≡ (argues place && begins_full self.now (maybe_of next.entry)) }
+        ensures { result ≡ (is_in_argument place && begins_full self.now (maybe_of next.entry)) }
     {
         place.argues() && self.begins_full(next)
     }
@@ -201,7 +203,7 @@ impl<'a> RuleDraft<'a> {
     }
 
     /// Those of a token that goes on with an expression, and may be the atom that always holds.
-    pub fn noted_going(
+    pub(crate) fn noted_going(
         &self,
         best: Option<Fault>,
         expression: &Expression,
@@ -209,7 +211,7 @@ impl<'a> RuleDraft<'a> {
         ahead: Ahead<'a>,
     ) -> Option<Fault>
         ensures { maybe_fault result ≡ first_among programs (maybe_fault best)
-            (going_found self.now expression.now truth ahead.entry.at (inner_next (maybe_of ahead.entry.next))) }
+            (step_faults self.now expression.now truth ahead.entry.at (inner_next (maybe_of ahead.entry.next))) }
     {
         self.noted_next(best, expression, truth, inner_of(ahead.next), ahead.at)
     }
@@ -223,7 +225,7 @@ impl<'a> RuleDraft<'a> {
         at: usize,
     ) -> Option<Fault>
         ensures { maybe_fault result ≡ first_among programs (maybe_fault best)
-            (going_found self.now expression.now truth at (piece_in next.entry)) }
+            (step_faults self.now expression.now truth at (piece_in next.entry)) }
     {
         match next {
             Some(piece) => self.noted_piece(best, expression, truth, piece, at),
@@ -240,7 +242,7 @@ impl<'a> RuleDraft<'a> {
         at: usize,
     ) -> Option<Fault>
         ensures { maybe_fault result ≡ first_among programs (maybe_fault best)
-            (going_found self.now expression.now truth at (Some (inner_plain piece.entry))) }
+            (step_faults self.now expression.now truth at (Some (inner_plain piece.entry))) }
     {
         if expression.goes_on_with(piece) {
             self.noted_inner(best, expression.tokens(), truth, piece, at)
@@ -257,15 +259,15 @@ impl<'a> RuleDraft<'a> {
         piece: Inner<'a>,
         at: usize,
     ) -> Option<Fault>
-        ensures { maybe_fault result ≡ first_among programs (maybe_fault best) (inner_found self.now tokens truth at
+        ensures { maybe_fault result ≡ first_among programs (maybe_fault best) (piece_faults self.now tokens truth at
             (inner_plain piece.entry)) }
     {
         let large = is_large(piece);
-        let measured = Fault::noted(best, large, Kind::NumberTooLarge, at);
+        let measured = Fault::first_where(best, large, Kind::NumberTooLarge, at);
         let full = self.passes(truth, piece);
-        let counted = Fault::noted(measured, full, Kind::Limit(LimitKind::Variables), at);
+        let counted = Fault::first_where(measured, full, Kind::Limit(LimitKind::Variables), at);
         let long = are_many(tokens);
-        Fault::noted(counted, long, Kind::Limit(LimitKind::Tokens), at)
+        Fault::first_where(counted, long, Kind::Limit(LimitKind::Tokens), at)
     }
 
     // Whether a piece is a new variable behind 64 others.

@@ -1,18 +1,20 @@
-// The refusals at the next token behind a target.
+//! The refusals at the next token behind a target.
 
 ghost use Rattle.std.specs.Prelude.{◌≡◌, ◌&&◌, suc, nat_le, length};
 ghost use Rattle.model.specs.Limits.{rule_limit, atom_limit};
 ghost use Rattle.text_core.specs.Reading.{first_among};
 ghost use Rattle.expr_reader.specs.GuardParts.{piece_in, is_wanting};
 ghost use Rattle.its_text.specs.Grammar.{programs};
-ghost use Rattle.its_text.specs.Shown.{begins, is_word as is_word_next, is_open as is_open_next};
+ghost use Rattle.its_text.specs.FrontFaults.{begins, is_word as is_word_next, is_open as is_open_next};
 ghost use Rattle.its_reader.specs.Views.{maybe_of};
 ghost use Rattle.its_reader.specs.Faults.{maybe_fault};
 ghost use Rattle.its_reader.specs.Tests.{inner_next};
-ghost use Rattle.its_reader.specs.Noting.{rule_found, named_rule_found, marked_found, ended_found, guarding_found};
-ghost use Rattle.its_reader.specs.Noting.{atom_found, another_found, atoms_full as plain_full, truth_in, tail_found};
+ghost use Rattle.its_reader.specs.FaultTests.{rule_faults, next_rule_faults, mark_faults, behind_atoms_faults};
+ghost use Rattle.its_reader.specs.FaultTests.{guard_faults};
+ghost use Rattle.its_reader.specs.FaultTests.{atom_faults, another_atom_faults, atoms_full as plain_full, truth_in};
+ghost use Rattle.its_reader.specs.FaultTests.{tail_faults};
 
-use crate::ahead::{Ahead, is_name, noted_name};
+use crate::ahead::{Ahead, first_with_long_name, is_name};
 use crate::ahead_right::begins_expression;
 use crate::draft::{Draft, RuleDraft};
 use crate::error::LimitKind;
@@ -24,14 +26,14 @@ use model::{ATOM_LIMIT, RULE_LIMIT};
 
 impl<'a> Draft<'a> {
     /// The first of a fault so far and those at the next token behind a target.
-    pub fn noted_in_tail(
+    pub(crate) fn noted_in_tail(
         &self,
         best: Option<Fault>,
         place: TailPlace,
         ahead: Ahead<'a>,
     ) -> Option<Fault>
         ensures { maybe_fault result ≡ first_among programs (maybe_fault best)
-            (tail_found place self.now ahead.entry.at (maybe_of ahead.entry.next) (maybe_of ahead.entry.behind)) }
+            (tail_faults place self.now ahead.entry.at (maybe_of ahead.entry.next) (maybe_of ahead.entry.behind)) }
     {
         match place {
             TailPlace::Targeted => self.noted_named_rule(best, ahead),
@@ -49,11 +51,11 @@ impl<'a> Draft<'a> {
 
     // A rule that begins with the next token behind 1,000 others.
     fn noted_rule(&self, best: Option<Fault>, ahead: Ahead<'a>) -> Option<Fault>
-        ensures { maybe_fault result ≡ first_among programs (maybe_fault best) (rule_found self.now ahead.entry.at
+        ensures { maybe_fault result ≡ first_among programs (maybe_fault best) (rule_faults self.now ahead.entry.at
             (maybe_of ahead.entry.next)) }
     {
         let full = self.passes_rules(ahead.next);
-        Fault::noted(best, full, Kind::Limit(LimitKind::Rules), ahead.at)
+        Fault::first_where(best, full, Kind::Limit(LimitKind::Rules), ahead.at)
     }
 
     // Whether a rule begins behind the one that is being read and as many as the limit.
@@ -67,10 +69,10 @@ impl<'a> Draft<'a> {
     // The same, and a name that is too long.
     fn noted_named_rule(&self, best: Option<Fault>, ahead: Ahead<'a>) -> Option<Fault>
         ensures { maybe_fault result ≡ first_among programs (maybe_fault best)
-            (named_rule_found self.now ahead.entry.at (maybe_of ahead.entry.next)) }
+            (next_rule_faults self.now ahead.entry.at (maybe_of ahead.entry.next)) }
     {
         let ruled = self.noted_rule(best, ahead);
-        noted_name(ruled, ahead)
+        first_with_long_name(ruled, ahead)
     }
 
     fn noted_behind_mark(
@@ -80,7 +82,7 @@ impl<'a> Draft<'a> {
         ahead: Ahead<'a>,
     ) -> Option<Fault>
         ensures { maybe_fault result ≡ first_among programs (maybe_fault best)
-            (marked_found begins self.now ahead.entry.at (maybe_of ahead.entry.next) (maybe_of ahead.entry.behind)) }
+            (mark_faults begins self.now ahead.entry.at (maybe_of ahead.entry.next) (maybe_of ahead.entry.behind)) }
     {
         if begins {
             self.noted_named_rule(best, ahead)
@@ -97,7 +99,7 @@ impl<'a> Draft<'a> {
         ahead: Ahead<'a>,
     ) -> Option<Fault>
         ensures { maybe_fault result ≡ first_among programs (maybe_fault best)
-            (guarding_found read fence self.now ahead.entry.at (maybe_of ahead.entry.next)
+            (guard_faults read fence self.now ahead.entry.at (maybe_of ahead.entry.next)
             (maybe_of ahead.entry.behind)) }
     {
         if read {
@@ -115,11 +117,11 @@ impl<'a> Draft<'a> {
         ahead: Ahead<'a>,
     ) -> Option<Fault>
         ensures { maybe_fault result ≡ first_among programs (maybe_fault best)
-            (ended_found fence self.now ahead.entry.at (maybe_of ahead.entry.next)) }
+            (behind_atoms_faults fence self.now ahead.entry.at (maybe_of ahead.entry.next)) }
     {
         match fence {
             Fence::Mark => self.noted_named_rule(best, ahead),
-            Fence::Square => noted_name(best, ahead),
+            Fence::Square => first_with_long_name(best, ahead),
         }
     }
 }
@@ -142,10 +144,10 @@ impl<'a> RuleDraft<'a> {
     // Those of a token that begins or goes on with an atom.
     fn noted_another(&self, best: Option<Fault>, ahead: Ahead<'a>) -> Option<Fault>
         ensures { maybe_fault result ≡ first_among programs (maybe_fault best)
-            (another_found self.now ahead.entry.at (maybe_of ahead.entry.next) (maybe_of ahead.entry.behind)) }
+            (another_atom_faults self.now ahead.entry.at (maybe_of ahead.entry.next) (maybe_of ahead.entry.behind)) }
     {
         let full = self.passes_atoms(ahead.next);
-        let counted = Fault::noted(best, full, Kind::Limit(LimitKind::Atoms), ahead.at);
+        let counted = Fault::first_where(best, full, Kind::Limit(LimitKind::Atoms), ahead.at);
         self.noted_atom(counted, ahead)
     }
 
@@ -165,10 +167,10 @@ impl<'a> RuleDraft<'a> {
 
     // Those of a token that goes on with an atom.
     fn noted_atom(&self, best: Option<Fault>, ahead: Ahead<'a>) -> Option<Fault>
-        ensures { maybe_fault result ≡ first_among programs (maybe_fault best) (atom_found self.now ahead.entry.at
+        ensures { maybe_fault result ≡ first_among programs (maybe_fault best) (atom_faults self.now ahead.entry.at
             (maybe_of ahead.entry.next) (maybe_of ahead.entry.behind)) }
     {
-        let named = noted_name(best, ahead);
+        let named = first_with_long_name(best, ahead);
         let next = inner_of(ahead.next);
         let behind = inner_of(ahead.behind);
         let truth = self.begins_truth(next, behind);

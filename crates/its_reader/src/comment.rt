@@ -1,10 +1,10 @@
-// The bytes of a comment, up to the bracket that closes it.
+//! The bytes of a comment, up to the bracket that closes it.
 
 ghost use Rattle.std.specs.Prelude.{◌≡◌, length, IfSome, ◌≤◌};
 ghost use Rattle.its_text.specs.Lexing.{closing_at};
 
 /// How many bytes of a comment there are, with the bracket that closes it. None where it isn't closed.
-pub fn comment_len(bytes: &[u8]) -> Option<usize>
+pub(crate) fn comment_len(bytes: &[u8]) -> Option<usize>
     ensures value { result ≡ closing_at bytes.now 0 }
 {
     let mut depth = 0usize;

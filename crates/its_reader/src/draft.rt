@@ -1,7 +1,7 @@
-// What is known of a program while its text is read.
+//! What is known of a program while its text is read.
 
 ghost use Rattle.std.specs.Prelude.{◌≡◌, []};
-ghost use Rattle.its_text.specs.Shown.{Tokens};
+ghost use Rattle.its_text.specs.FrontFaults.{Tokens};
 ghost use Rattle.its_reader.specs.Standing.{KnowsRules, KnowsBetween, IsFreshRule};
 
 use crate::symbols::Symbols;
@@ -12,14 +12,14 @@ use std::alloc::Global;
 
 /// The start symbol, and the position at which it stands.
 #[derive(Clone, Copy)]
-pub struct Start<'a> {
+pub(crate) struct Start<'a> {
     pub name: &'a [u8],
     pub at: usize,
 }
 
 /// The sections so far.
 #[derive(Clone, Copy)]
-pub struct Sections<'a> {
+pub(crate) struct Sections<'a> {
     pub goal: bool,
     pub variables: bool,
     pub rules: bool,
@@ -28,7 +28,7 @@ pub struct Sections<'a> {
 
 /// The rule that is being read.
 #[derive(Drop)]
-pub struct RuleDraft<'a> {
+pub(crate) struct RuleDraft<'a> {
     /// The symbol of the term that is being read.
     pub name: &'a [u8],
     /// The variables, the left ones first.
@@ -51,7 +51,7 @@ pub struct RuleDraft<'a> {
 
 /// The program so far.
 #[derive(Drop)]
-pub struct Draft<'a> {
+pub(crate) struct Draft<'a> {
     pub sections: Sections<'a>,
     pub symbols: Symbols<'a>,
     pub rules: Vec<Rule>,
@@ -60,7 +60,7 @@ pub struct Draft<'a> {
 
 impl<'a> RuleDraft<'a> {
     /// Nothing is known yet.
-    pub fn new(alloc: Global) -> RuleDraft<'a>
+    pub(crate) fn new(alloc: Global) -> RuleDraft<'a>
         ensures { IsFreshRule result }
     {
         RuleDraft {
@@ -79,7 +79,7 @@ impl<'a> RuleDraft<'a> {
 
 impl<'a> Draft<'a> {
     /// Nothing is known yet.
-    pub fn new(alloc: Global) -> Draft<'a>
+    pub(crate) fn new(alloc: Global) -> Draft<'a>
         ensures { (ts : Tokens) → KnowsBetween ts [] result }
     {
         Draft {
@@ -96,7 +96,7 @@ impl<'a> Draft<'a> {
     }
 
     /// A section of rules begins.
-    pub fn begin_rules(&mut self, alloc: Global)
+    pub(crate) fn begin_rules(&mut self, alloc: Global)
         ensures sections { self.new.sections ≡ self.old.sections }
         ensures rules { KnowsRules [] self.new }
         ensures fresh { IsFreshRule self.new.rule }

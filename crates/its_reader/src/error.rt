@@ -1,4 +1,4 @@
-// Why a text is refused.
+//! Why a text is refused.
 
 ghost use Rattle.std.specs.Prelude.{◌≡◌};
 ghost use Rattle.its_reader.specs.declared.error.ReadError.TheVariants.{Memory};

@@ -1,10 +1,10 @@
-// A refusal with its position, and which of two comes first.
+//! A refusal with its position, and which of two comes first.
 
 ghost use Rattle.std.specs.Prelude.{◌≡◌, Some};
 ghost use Rattle.text_core.specs.Reading.{is_before as plain_before, first_of as plain_first, first_among};
 ghost use Rattle.its_text.specs.Grammar.{programs};
 ghost use Rattle.its_text.specs.Kinds as kinds;
-ghost use Rattle.its_text.specs.Shown.{fault_if, expansion_kind};
+ghost use Rattle.its_text.specs.FrontFaults.{fault_if, expansion_kind};
 ghost use Rattle.expr_reader.specs.Faults.{kind_of as unexpanded_of};
 ghost use Rattle.its_reader.specs.Faults.{limit_of, kind_of, fault_of, maybe_fault, maybe_kind, fault_in};
 
@@ -13,7 +13,7 @@ use expr_reader::Unexpanded;
 
 /// Why a text is refused, want of memory aside.
 #[derive(Clone, Copy)]
-pub enum Kind {
+pub(crate) enum Kind {
     NotAscii,
     Syntax,
     MissingSection,
@@ -30,7 +30,7 @@ pub enum Kind {
 
 /// A refusal with its position.
 #[derive(Clone, Copy)]
-pub struct Fault {
+pub(crate) struct Fault {
     pub kind: Kind,
     pub at: usize,
 }
@@ -52,7 +52,7 @@ fn limit_number(kind: LimitKind) -> u8
 
 impl Kind {
     /// Of two kinds at one byte the one with the lesser number comes first.
-    pub fn number(self) -> u8
+    pub(crate) fn number(self) -> u8
         ensures { result ≡ kinds.kind_number (kind_of self) }
     {
         match self {
@@ -72,14 +72,14 @@ impl Kind {
     }
 
     /// The refusal at a position.
-    pub fn at(self, at: usize) -> Fault
+    pub(crate) fn at(self, at: usize) -> Fault
         ensures { fault_of result ≡ record { kind = kind_of self; at = at } }
     {
         Fault { kind: self, at }
     }
 
     /// The refusal for what stands in the way of expanding an expression.
-    pub fn of(fault: Unexpanded) -> Kind
+    pub(crate) fn of(fault: Unexpanded) -> Kind
         ensures { kind_of result ≡ expansion_kind (unexpanded_of fault) }
     {
         match fault {
@@ -99,7 +99,7 @@ impl Fault {
     }
 
     /// The first of a fault so far and another.
-    pub fn first_of(best: Option<Fault>, other: Fault) -> Fault
+    pub(crate) fn first_of(best: Option<Fault>, other: Fault) -> Fault
         ensures { fault_of result ≡ plain_first programs (maybe_fault best) (fault_of other) }
     {
         match best {
@@ -109,7 +109,12 @@ impl Fault {
     }
 
     /// The first of a fault so far and one at a position, where a test passes.
-    pub fn noted(best: Option<Fault>, test: bool, kind: Kind, at: usize) -> Option<Fault>
+    pub(crate) fn first_where(
+        best: Option<Fault>,
+        test: bool,
+        kind: Kind,
+        at: usize,
+    ) -> Option<Fault>
         ensures { maybe_fault result ≡ first_among programs (maybe_fault best) (fault_if test (kind_of kind) at) }
     {
         if test {
@@ -120,7 +125,7 @@ impl Fault {
     }
 
     /// The first of a fault so far and one of a kind that may be there.
-    pub fn noted_if(best: Option<Fault>, kind: Option<Kind>, at: usize) -> Option<Fault>
+    pub(crate) fn first_with(best: Option<Fault>, kind: Option<Kind>, at: usize) -> Option<Fault>
         ensures { maybe_fault result ≡ first_among programs (maybe_fault best) (maybe_kind kind at) }
     {
         match kind {
@@ -130,7 +135,7 @@ impl Fault {
     }
 
     /// The error that it is.
-    pub fn error(self) -> ReadError
+    pub(crate) fn error(self) -> ReadError
         ensures { fault_in result ≡ Some (fault_of self) }
     {
         let at = self.at as u64;

@@ -1,4 +1,4 @@
-// From what is known at the end of a text to the program.
+//! From what is known at the end of a text to the program.
 
 ghost use Rattle.std.specs.Prelude.{◌≡◌, map, take, MatchOption, IfOk, Some, None};
 ghost use Rattle.std.specs.List.{find};
@@ -6,7 +6,7 @@ ghost use Rattle.its_model.specs.Views.{name_of, rule_of, symbol_of};
 ghost use Rattle.expr_reader.specs.Variables.{names_in};
 ghost use Rattle.its_text.specs.Kinds as kinds;
 ghost use Rattle.its_reader.specs.Faults.{fault_in};
-ghost use Rattle.its_reader.specs.Turning.{Finishes};
+ghost use Rattle.its_reader.specs.TokenSteps.{Finishes};
 ghost use Rattle.its_reader.specs.Finishing.{tabled, leaves, Makes};
 
 use crate::draft::{Draft, Start};
@@ -15,7 +15,8 @@ use crate::fault::Kind;
 use crate::rules::name_from;
 use crate::symbols::Symbols;
 use its_model::{Name, Program, Rule, Symbol};
-use std::alloc::{AllocError, Global};
+use model::Memory;
+use std::alloc::Global;
 
 // The refusal where a section is missing from a text of so many bytes.
 fn missing(len: usize) -> ReadError
@@ -39,7 +40,7 @@ fn first_leaving<'r>(rules: &'r [Rule], symbols: &Symbols<'_>, name: &[u8]) -> O
 }
 
 // The same names once more.
-fn copied_names(alloc: Global, names: &[Name]) -> Result<Vec<Name>, AllocError>
+fn copied_names(alloc: Global, names: &[Name]) -> Result<Vec<Name>, Memory>
     ensures { IfOk result (λ copies. map name_of copies.items ≡ map name_of names.now) }
 {
     let mut copies = Vec::new(alloc);
@@ -50,7 +51,7 @@ fn copied_names(alloc: Global, names: &[Name]) -> Result<Vec<Name>, AllocError>
 }
 
 // The left names of a rule once more.
-fn left_names(alloc: Global, rule: &Rule) -> Result<Vec<Name>, AllocError>
+fn left_names(alloc: Global, rule: &Rule) -> Result<Vec<Name>, Memory>
     ensures { IfOk result (λ names. map name_of names.items ≡ take rule.now.left (map name_of rule.now.names.items)) }
 {
     let mut names = copied_names(alloc, &rule.names)?;
@@ -59,7 +60,7 @@ fn left_names(alloc: Global, rule: &Rule) -> Result<Vec<Name>, AllocError>
 }
 
 // The symbols, each with the number of its places.
-fn symbols_from(alloc: Global, symbols: &Symbols<'_>) -> Result<Vec<Symbol>, AllocError>
+fn symbols_from(alloc: Global, symbols: &Symbols<'_>) -> Result<Vec<Symbol>, Memory>
     ensures { IfOk result (λ made. map symbol_of made.items
         ≡ tabled (names_in symbols.now.names) symbols.now.arities.items) }
 {
@@ -76,7 +77,7 @@ fn symbols_from(alloc: Global, symbols: &Symbols<'_>) -> Result<Vec<Symbol>, All
 
 impl<'a> Draft<'a> {
     /// The program of a text of so many bytes, where nothing stands against it but what the whole text shows.
-    pub fn finish(self, alloc: Global, len: usize) -> Result<Program, ReadError>
+    pub(crate) fn finish(self, alloc: Global, len: usize) -> Result<Program, ReadError>
         ensures { Finishes self.entry len result }
     {
         match self.sections.start {

@@ -1,10 +1,10 @@
-// Where each piece leads from the beginning of a rule to the end of its left term.
+//! Where each piece leads from the beginning of a rule to the end of its left term.
 
 ghost use Rattle.std.specs.Prelude.{◌≡◌, Some, None, if◌then◌else◌, IfOk, OnOk, length, nat_lt, not, ◌==◌, ◌++◌, ◌∷◌};
 ghost use Rattle.std.specs.Prelude.{[], slice_index};
 ghost use Rattle.model.specs.Programs.{Name};
 ghost use Rattle.text_core.specs.Names.{position_of};
-ghost use Rattle.expr_text.specs.Terms.{with_name};
+ghost use Rattle.its_text.specs.expr_text.Terms.{with_name};
 ghost use Rattle.expr_reader.specs.Variables.{names_in};
 ghost use Rattle.its_reader.specs.Views.{piece_of as plain_of};
 ghost use Rattle.its_reader.specs.Tests as tests;
@@ -14,7 +14,7 @@ use crate::draft::{Draft, RuleDraft};
 use crate::piece::Piece;
 use crate::place::{LeftPlace, Place, RightPlace, SectionPlace};
 use crate::symbols::{Symbols, narrow};
-use std::alloc::AllocError;
+use model::Memory;
 
 // A place of a left term, where a test passes.
 fn leads_if(test: bool, behind: LeftPlace) -> Option<Place>
@@ -29,11 +29,11 @@ fn leads_if(test: bool, behind: LeftPlace) -> Option<Place>
 
 impl<'a> Draft<'a> {
     /// The place that a piece leads to up to the end of a left term. None where it can't follow.
-    pub fn advance_in_left(
+    pub(crate) fn advance_in_left(
         &mut self,
         place: LeftPlace,
         piece: Piece<'a>,
-    ) -> Result<Option<Place>, AllocError>
+    ) -> Result<Option<Place>, Memory>
         ensures { IfOk result (λ reached. LeftLeads place self.old (plain_of piece.entry) reached self.new) }
     {
         match place {
@@ -47,7 +47,7 @@ impl<'a> Draft<'a> {
     }
 
     /// A rule's source, or the end of the section.
-    pub fn begin_rule(&mut self, piece: Piece<'a>) -> Option<Place>
+    pub(crate) fn begin_rule(&mut self, piece: Piece<'a>) -> Option<Place>
         ensures leads { RuleLeads self.old (plain_of piece.entry) result self.new }
         ensures sourced { (name : Name) → tests.word (plain_of piece.entry) ≡ Some name
             → result ≡ Some (Place.InLeft LeftPlace.SourceNamed) }
@@ -73,7 +73,7 @@ impl<'a> Draft<'a> {
     }
 
     // A left argument, or the end of a term without any.
-    fn behind_left_bracket(&mut self, piece: Piece<'a>) -> Result<Option<Place>, AllocError>
+    fn behind_left_bracket(&mut self, piece: Piece<'a>) -> Result<Option<Place>, Memory>
         ensures { IfOk result (λ reached. LeftLeads LeftPlace.LeftOpened self.old
             (plain_of piece.entry) reached self.new) }
     {
@@ -86,7 +86,7 @@ impl<'a> Draft<'a> {
         }
     }
 
-    fn behind_left_argument(&mut self, piece: Piece<'a>) -> Result<Option<Place>, AllocError>
+    fn behind_left_argument(&mut self, piece: Piece<'a>) -> Result<Option<Place>, Memory>
         ensures { IfOk result (λ reached. LeftLeads LeftPlace.LeftRead self.old
             (plain_of piece.entry) reached self.new) }
     {
@@ -98,7 +98,7 @@ impl<'a> Draft<'a> {
         }
     }
 
-    fn behind_left_comma(&mut self, piece: Piece<'a>) -> Result<Option<Place>, AllocError>
+    fn behind_left_comma(&mut self, piece: Piece<'a>) -> Result<Option<Place>, Memory>
         ensures { IfOk result (λ reached. LeftLeads LeftPlace.LeftParted self.old
             (plain_of piece.entry) reached self.new) }
     {
@@ -107,7 +107,7 @@ impl<'a> Draft<'a> {
     }
 
     // A left argument.
-    fn name_left(&mut self, piece: Piece<'a>) -> Result<Option<Place>, AllocError>
+    fn name_left(&mut self, piece: Piece<'a>) -> Result<Option<Place>, Memory>
         ensures { IfOk result (λ reached. ArgumentLeads self.old (plain_of piece.entry) reached self.new) }
     {
         match piece.word() {
@@ -120,7 +120,7 @@ impl<'a> Draft<'a> {
     }
 
     // The left term ends.
-    fn shut_left(&mut self) -> Result<(), AllocError>
+    fn shut_left(&mut self) -> Result<(), Memory>
         ensures { OnOk result (AfterLeft self.old self.new) }
     {
         self.rule.end_left(&mut self.symbols)?;
@@ -140,7 +140,7 @@ fn behind_left(piece: Piece<'_>) -> Option<Place>
 
 impl<'a> RuleDraft<'a> {
     /// The left term ends: its symbol is numbered.
-    fn end_left(&mut self, symbols: &mut Symbols<'a>) -> Result<(), AllocError>
+    fn end_left(&mut self, symbols: &mut Symbols<'a>) -> Result<(), Memory>
         ensures names { OnOk result (names_in symbols.new.names
             ≡ with_name (names_in symbols.old.names) self.old.name.now) }
         ensures arities { OnOk result (symbols.new.arities.items

@@ -1,4 +1,4 @@
-// The tokens of a text, one after the other.
+//! The tokens of a text, one after the other.
 
 ghost use Rattle.std.specs.Prelude.{◌≡◌, ◌∷◌, ◌≤◌, ◌<◌, ◌+◌, ◌^◌, length};
 ghost use Rattle.text_core.specs.Bytes.{is_white_space as is_white};
@@ -16,7 +16,7 @@ use text_core::{begins_name, begins_with, digits_len, is_white_space, name_len};
 
 /// A piece, or none for white space, with the number of its bytes.
 #[derive(Clone, Copy)]
-pub struct Lexeme<'a> {
+pub(crate) struct Lexeme<'a> {
     pub piece: Option<Piece<'a>>,
     pub len: usize,
 }
@@ -167,7 +167,7 @@ fn mode_after(mode: Mode, piece: Option<Piece<'_>>) -> Mode
 
 /// The lexer: the text that is left, its position, and the mode.
 #[derive(Clone, Copy)]
-pub struct Lexer<'a> {
+pub(crate) struct Lexer<'a> {
     pub text: &'a [u8],
     pub at: usize,
     pub mode: Mode,
@@ -175,7 +175,7 @@ pub struct Lexer<'a> {
 
 impl<'a> Lexer<'a> {
     /// At the beginning of a text.
-    pub fn new(text: &'a [u8]) -> Lexer<'a>
+    pub(crate) fn new(text: &'a [u8]) -> Lexer<'a>
         ensures text { result.text.now ≡ text.now }
         ensures at { result.at ≡ 0 }
         ensures mode { mode_of result.mode ≡ lexing.Outside }
@@ -207,7 +207,7 @@ impl<'a> Lexer<'a> {
     }
 
     /// The next token.
-    pub fn next(&mut self) -> Option<Token<'a>>
+    pub(crate) fn next(&mut self) -> Option<Token<'a>>
         requires bounded { self.old.at + length self.old.text.now < 2 ^ 63 }
         requires depth { depth_of self.old.mode ≤ self.old.at }
         ensures tokens { tokens_in self.old ≡ listed result (tokens_in self.new) }

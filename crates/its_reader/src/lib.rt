@@ -1,8 +1,8 @@
-// The reader of program texts: from bytes to a program by numbers.
-// Contract to the layer above: `read` says the verdict on a text, that is its one program where it spells one within
-// the limits, or what stands first against it; and what it reads is valid. Tokens are read one after the other, each
-// with the one behind it in sight; a place says what was read last, a draft what is known, and both stand for a written
-// front.
+//! The reader of program texts: from bytes to a program by numbers.
+//! Contract to the layer above: `read` says the verdict on a text, that is its one program where it spells one within
+//! the limits, or what stands first against it; and what it reads is valid. Tokens are read one after the other, each
+//! with the one behind it in sight; a place says what was read last, a draft what is known, and both stand for a written
+//! front.
 #![tactic(auto)]
 
 mod ahead;

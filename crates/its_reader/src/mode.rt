@@ -1,4 +1,4 @@
-// What the lexer knows of the place.
+//! What the lexer knows of the place.
 
 ghost use Rattle.std.specs.Prelude.{◌≡◌, ◌<◌, Some};
 ghost use Rattle.its_text.specs.Pieces.{close_bracket};
@@ -10,7 +10,7 @@ use crate::piece::Piece;
 
 /// Where the lexer stands.
 #[derive(Clone, Copy)]
-pub enum Mode {
+pub(crate) enum Mode {
     /// Between sections.
     Outside,
     /// Behind the bracket that opens a section.
@@ -22,7 +22,7 @@ pub enum Mode {
 }
 
 /// The mode behind a piece, where fewer brackets are open than numbers go.
-pub fn mode_behind(mode: Mode, piece: Piece<'_>) -> Mode
+pub(crate) fn mode_behind(mode: Mode, piece: Piece<'_>) -> Mode
     requires { depth_of mode < usize.MAX }
     ensures { mode_of result ≡ plain_behind (mode_of mode) (Some (plain_of piece.entry)) }
 {

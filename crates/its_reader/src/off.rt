@@ -1,10 +1,10 @@
-// Why a text breaks off.
+//! Why a text breaks off.
 
 ghost use Rattle.std.specs.Prelude.{◌≡◌};
 ghost use Rattle.expr_reader.specs.Views.{piece_of as inner_plain};
-ghost use Rattle.its_text.specs.Shown.{is_no_name as plain_no_name};
+ghost use Rattle.its_text.specs.FrontFaults.{is_no_name as plain_no_name};
 ghost use Rattle.its_reader.specs.Faults.{kind_of};
-ghost use Rattle.its_reader.specs.Noting.{off_in, wants_left};
+ghost use Rattle.its_reader.specs.FaultTests.{break_kind_in, wants_left};
 ghost use Rattle.its_reader.specs.Views.{piece_of as plain_of};
 
 use crate::fault::Kind;
@@ -13,15 +13,15 @@ use crate::place::Place;
 use expr_reader::Piece as Inner;
 
 /// Why the text breaks off at the next piece.
-pub fn off(place: Place, next: Piece<'_>) -> Kind
-    ensures { kind_of result ≡ off_in (wants_left place) (plain_of next.entry) }
+pub(crate) fn break_kind(place: Place, next: Piece<'_>) -> Kind
+    ensures { kind_of result ≡ break_kind_in (wants_left place) (plain_of next.entry) }
 {
     off_wanted(place.wants_left(), next)
 }
 
 // The same where a left argument is wanted, or not.
 fn off_wanted(wanted: bool, next: Piece<'_>) -> Kind
-    ensures { kind_of result ≡ off_in wanted (plain_of next.entry) }
+    ensures { kind_of result ≡ break_kind_in wanted (plain_of next.entry) }
 {
     match next {
         Piece::Strange => Kind::NotAscii,

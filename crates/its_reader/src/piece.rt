@@ -1,17 +1,17 @@
-// The pieces of a program's text.
+//! The pieces of a program's text.
 
 ghost use Rattle.std.specs.Prelude.{◌≡◌, nat_eq, Option, Some, None};
 ghost use Rattle.its_reader.specs.Views.{piece_of as plain_of, maybe_of, words_of, piece_in_token};
 ghost use Rattle.its_reader.specs.Tests as tests;
 ghost use Rattle.its_reader.specs.Tests.{inner_in, inner_next};
 ghost use Rattle.expr_reader.specs.GuardParts.{piece_in};
-ghost use Rattle.its_text.specs.Shown.{begins, is_operator as is_operator_next};
+ghost use Rattle.its_text.specs.FrontFaults.{begins, is_operator as is_operator_next};
 
 use expr_reader::Piece as Inner;
 
 /// A piece of a program's text.
 #[derive(Clone, Copy)]
-pub enum Piece<'a> {
+pub(crate) enum Piece<'a> {
     /// A piece of an expression or of a guard.
     In(Inner<'a>),
     /// `,`
@@ -36,14 +36,14 @@ pub enum Piece<'a> {
 
 /// A piece, the position of its first byte, and the one behind its last byte.
 #[derive(Clone, Copy)]
-pub struct Token<'a> {
+pub(crate) struct Token<'a> {
     pub piece: Piece<'a>,
     pub at: usize,
     pub upto: usize,
 }
 
 /// The piece of a token that may be there.
-pub fn piece_of<'a>(token: Option<Token<'a>>) -> Option<Piece<'a>>
+pub(crate) fn piece_of<'a>(token: Option<Token<'a>>) -> Option<Piece<'a>>
     ensures { maybe_of result ≡ piece_in_token token.entry }
 {
     match token {
@@ -53,7 +53,7 @@ pub fn piece_of<'a>(token: Option<Token<'a>>) -> Option<Piece<'a>>
 }
 
 /// The piece of an expression that may be there.
-pub fn inner_of<'a>(piece: Option<Piece<'a>>) -> Option<Inner<'a>>
+pub(crate) fn inner_of<'a>(piece: Option<Piece<'a>>) -> Option<Inner<'a>>
     ensures { piece_in result ≡ inner_next (maybe_of piece.entry) }
 {
     match piece {
@@ -63,7 +63,7 @@ pub fn inner_of<'a>(piece: Option<Piece<'a>>) -> Option<Inner<'a>>
 }
 
 /// Whether it is an opening bracket.
-pub fn is_open(piece: Option<Piece<'_>>) -> bool
+pub(crate) fn is_open(piece: Option<Piece<'_>>) -> bool
     ensures { result ≡ tests.is_open (maybe_of piece.entry) }
 {
     match piece {
@@ -73,7 +73,7 @@ pub fn is_open(piece: Option<Piece<'_>>) -> bool
 }
 
 /// The name that it is.
-pub fn word_of<'a>(piece: Option<Piece<'a>>) -> Option<&'a [u8]>
+pub(crate) fn word_of<'a>(piece: Option<Piece<'a>>) -> Option<&'a [u8]>
     ensures { words_of result ≡ tests.word_of (maybe_of piece.entry) }
 {
     match piece {
@@ -84,7 +84,7 @@ pub fn word_of<'a>(piece: Option<Piece<'a>>) -> Option<&'a [u8]>
 
 impl<'a> Piece<'a> {
     /// The piece of an expression that it is.
-    pub fn inner(self) -> Option<Inner<'a>>
+    pub(crate) fn inner(self) -> Option<Inner<'a>>
         ensures { piece_in result ≡ inner_in (plain_of self.entry) }
     {
         match self {
@@ -94,14 +94,14 @@ impl<'a> Piece<'a> {
     }
 
     /// Whether it is a name.
-    pub fn names(self) -> bool
+    pub(crate) fn names(self) -> bool
         ensures { result ≡ tests.names (plain_of self.entry) }
     {
         matches!(self, Piece::In(Inner::Word(_)))
     }
 
     /// Whether an expression can begin with it.
-    pub fn begins_expression(self) -> bool
+    pub(crate) fn begins_expression(self) -> bool
         ensures { result ≡ begins (Some (plain_of self.entry)) }
     {
         match self {
@@ -111,7 +111,7 @@ impl<'a> Piece<'a> {
     }
 
     /// Whether it is an operator.
-    pub fn is_operator(self) -> bool
+    pub(crate) fn is_operator(self) -> bool
         ensures { result ≡ is_operator_next (Some (plain_of self.entry)) }
     {
         matches!(
@@ -124,70 +124,70 @@ impl<'a> Piece<'a> {
     }
 
     /// Whether it joins two atoms.
-    pub fn joins(self) -> bool
+    pub(crate) fn joins(self) -> bool
         ensures { result ≡ tests.joins (plain_of self.entry) }
     {
         matches!(self, Piece::In(Inner::Joining(_)))
     }
 
     /// Whether it is `:|:`.
-    pub fn marks(self) -> bool
+    pub(crate) fn marks(self) -> bool
         ensures { result ≡ tests.marks (plain_of self.entry) }
     {
         matches!(self, Piece::GuardMark)
     }
 
     /// Whether it is `[`.
-    pub fn opens_square(self) -> bool
+    pub(crate) fn opens_square(self) -> bool
         ensures { result ≡ tests.opens_square (plain_of self.entry) }
     {
         matches!(self, Piece::SquareOpen)
     }
 
     /// Whether it is `]`.
-    pub fn closes_square(self) -> bool
+    pub(crate) fn closes_square(self) -> bool
         ensures { result ≡ tests.closes_square (plain_of self.entry) }
     {
         matches!(self, Piece::SquareClose)
     }
 
     /// Whether it is an opening bracket.
-    pub fn opens(self) -> bool
+    pub(crate) fn opens(self) -> bool
         ensures { result ≡ tests.opens (plain_of self.entry) }
     {
         matches!(self, Piece::In(Inner::Open))
     }
 
     /// Whether it is a closing bracket.
-    pub fn closes(self) -> bool
+    pub(crate) fn closes(self) -> bool
         ensures { result ≡ tests.closes (plain_of self.entry) }
     {
         matches!(self, Piece::In(Inner::Close))
     }
 
     /// Whether it is a comma.
-    pub fn parts(self) -> bool
+    pub(crate) fn parts(self) -> bool
         ensures { result ≡ tests.parts (plain_of self.entry) }
     {
         matches!(self, Piece::Comma)
     }
 
     /// Whether it is an arrow.
-    pub fn leads(self) -> bool
+    pub(crate) fn leads(self) -> bool
         ensures { result ≡ tests.leads (plain_of self.entry) }
     {
         matches!(self, Piece::Arrow)
     }
 
     /// Whether it is what a comment says.
-    pub fn remarks(self) -> bool
+    pub(crate) fn remarks(self) -> bool
         ensures { result ≡ tests.remarks (plain_of self.entry) }
     {
         matches!(self, Piece::Remark(_))
     }
 
     /// The name that it is.
-    pub fn word(self) -> Option<&'a [u8]>
+    pub(crate) fn word(self) -> Option<&'a [u8]>
         ensures { words_of result ≡ tests.word (plain_of self.entry) }
     {
         match self {
@@ -197,7 +197,7 @@ impl<'a> Piece<'a> {
     }
 
     /// Whether it is this word.
-    pub fn says(self, wanted: &[u8]) -> bool
+    pub(crate) fn says(self, wanted: &[u8]) -> bool
         ensures { result ≡ tests.says wanted.now (plain_of self.entry) }
     {
         match self {

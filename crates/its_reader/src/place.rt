@@ -1,30 +1,30 @@
-// The places at which the reader can stand in a text.
+//! The places at which the reader can stand in a text.
 
 ghost use Rattle.std.specs.Prelude.{◌≡◌};
-ghost use Rattle.its_reader.specs.Noting.{is_ruled as plain_ruled, wants_argument as plain_wanting};
-ghost use Rattle.its_reader.specs.Noting.{wants_left as plain_left, is_between as plain_between};
-ghost use Rattle.its_reader.specs.Noting.{targets as plain_targets, is_within as plain_within};
-ghost use Rattle.its_reader.specs.Noting.{argues as plain_argues, goes as plain_goes};
-ghost use Rattle.its_reader.specs.Settling.{shuts_left, shuts_right, shuts_target, argued_in};
-ghost use Rattle.its_reader.specs.Settling.{is_guarding as plain_guarding};
+ghost use Rattle.its_reader.specs.FaultTests.{is_ruled as plain_ruled, wants_argument as plain_wanting};
+ghost use Rattle.its_reader.specs.FaultTests.{wants_left as plain_left, is_between as plain_between};
+ghost use Rattle.its_reader.specs.FaultTests.{wants_target_name as plain_targets, is_within as plain_within};
+ghost use Rattle.its_reader.specs.FaultTests.{is_in_argument as plain_argues, can_read_argument as plain_goes};
+ghost use Rattle.its_reader.specs.PartEnds.{shuts_left, shuts_right, shuts_target, wrap_of_argument};
+ghost use Rattle.its_reader.specs.PartEnds.{is_guarding as plain_guarding};
 
 /// Where a right term stands: within `Com_1(` and `)`, or alone.
 #[derive(Clone, Copy)]
-pub enum Wrap {
+pub(crate) enum Wrap {
     InCom,
     Alone,
 }
 
 /// What a guard stands behind: `:|:`, or `[`.
 #[derive(Clone, Copy)]
-pub enum Fence {
+pub(crate) enum Fence {
     Mark,
     Square,
 }
 
 /// A place outside rules: what was read last, and what can follow.
 #[derive(Clone, Copy)]
-pub enum SectionPlace {
+pub(crate) enum SectionPlace {
     /// Nothing, or a section; `(`
     Between,
     /// `(`; a keyword
@@ -51,7 +51,7 @@ pub enum SectionPlace {
 
 /// A place from the beginning of a rule to the end of its left term.
 #[derive(Clone, Copy)]
-pub enum LeftPlace {
+pub(crate) enum LeftPlace {
     /// `RULES` or a rule; a rule's source, or `)`
     Ruled,
     /// The source; `(`
@@ -68,7 +68,7 @@ pub enum LeftPlace {
 
 /// A place from the arrow to the end of the target.
 #[derive(Clone, Copy)]
-pub enum RightPlace {
+pub(crate) enum RightPlace {
     /// `->`; `Com_1` or the target
     Arrowed,
     /// `Com_1`; `(`
@@ -89,7 +89,7 @@ pub enum RightPlace {
 
 /// A place behind the target.
 #[derive(Clone, Copy)]
-pub enum TailPlace {
+pub(crate) enum TailPlace {
     /// The target; `:|:`, `[`, a rule's source, or `)`
     Targeted,
     /// `:|:`; an atom, a rule's source, or `)`
@@ -102,7 +102,7 @@ pub enum TailPlace {
 
 /// A place.
 #[derive(Clone, Copy)]
-pub enum Place {
+pub(crate) enum Place {
     InSections(SectionPlace),
     InLeft(LeftPlace),
     InRight(RightPlace),
@@ -111,21 +111,21 @@ pub enum Place {
 
 impl LeftPlace {
     /// Whether a rule is wanted.
-    pub fn is_ruled(self) -> bool
+    pub(crate) fn is_ruled(self) -> bool
         ensures { result ≡ plain_ruled self }
     {
         matches!(self, LeftPlace::Ruled)
     }
 
     /// Whether a left argument is wanted.
-    pub fn wants_argument(self) -> bool
+    pub(crate) fn wants_argument(self) -> bool
         ensures { result ≡ plain_wanting self }
     {
         matches!(self, LeftPlace::LeftOpened | LeftPlace::LeftParted)
     }
 
     /// Whether a left term has just ended.
-    pub fn is_shut(self) -> bool
+    pub(crate) fn is_shut(self) -> bool
         ensures { result ≡ shuts_left self }
     {
         matches!(self, LeftPlace::LeftShut)
@@ -134,43 +134,43 @@ impl LeftPlace {
 
 impl RightPlace {
     /// Whether the target's name is wanted.
-    pub fn targets(self) -> bool
+    pub(crate) fn targets(self) -> bool
         ensures { result ≡ plain_targets self }
     {
         matches!(self, RightPlace::Arrowed | RightPlace::ComOpened)
     }
 
     /// Whether it is wanted within `Com_1(`.
-    pub fn is_within(self) -> bool
+    pub(crate) fn is_within(self) -> bool
         ensures { result ≡ plain_within self }
     {
         matches!(self, RightPlace::ComOpened)
     }
 
     /// Whether an argument is being read.
-    pub fn argues(self) -> bool
+    pub(crate) fn argues(self) -> bool
         ensures { result ≡ plain_argues self }
     {
         matches!(self, RightPlace::Arguing(_))
     }
 
     /// Whether an argument can begin or go on.
-    pub fn goes(self) -> bool
+    pub(crate) fn goes(self) -> bool
         ensures { result ≡ plain_goes self }
     {
         matches!(self, RightPlace::RightOpened(_) | RightPlace::Arguing(_))
     }
 
     /// Whether a right term within `Com_1(` has just ended.
-    pub fn is_shut(self) -> bool
+    pub(crate) fn is_shut(self) -> bool
         ensures { result ≡ shuts_right self }
     {
         matches!(self, RightPlace::RightShut)
     }
 
     /// Where an argument is being read.
-    pub fn argued(self) -> Option<Wrap>
-        ensures { result ≡ argued_in self }
+    pub(crate) fn argued(self) -> Option<Wrap>
+        ensures { result ≡ wrap_of_argument self }
     {
         match self {
             RightPlace::Arguing(wrap) => Some(wrap),
@@ -181,14 +181,14 @@ impl RightPlace {
 
 impl TailPlace {
     /// Whether a target has just ended.
-    pub fn is_targeted(self) -> bool
+    pub(crate) fn is_targeted(self) -> bool
         ensures { result ≡ shuts_target self }
     {
         matches!(self, TailPlace::Targeted)
     }
 
     /// Whether a guard is being read.
-    pub fn is_guarding(self) -> bool
+    pub(crate) fn is_guarding(self) -> bool
         ensures { result ≡ plain_guarding self }
     {
         matches!(self, TailPlace::Guarding(_))
@@ -197,7 +197,7 @@ impl TailPlace {
 
 impl Place {
     /// Whether a left argument is wanted.
-    pub fn wants_left(self) -> bool
+    pub(crate) fn wants_left(self) -> bool
         ensures { result ≡ plain_left self }
     {
         match self {
@@ -207,7 +207,7 @@ impl Place {
     }
 
     /// Whether it is one between sections.
-    pub fn is_between(self) -> bool
+    pub(crate) fn is_between(self) -> bool
         ensures { result ≡ plain_between self }
     {
         matches!(self, Place::InSections(SectionPlace::Between))

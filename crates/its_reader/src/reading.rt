@@ -1,4 +1,4 @@
-// From the bytes of a text to its program.
+//! From the bytes of a text to its program.
 
 ghost use Rattle.std.specs.Prelude.{◌≡◌, ◌-◌, Some, None, IfOk};
 ghost use Rattle.its_model.specs.Valid.{IsValid};
@@ -7,24 +7,26 @@ ghost use Rattle.its_text.specs.Answers.{verdict};
 ghost use Rattle.its_text.specs.Verdicts.{IsOnlyVerdict};
 ghost use Rattle.its_reader.specs.Faults.{fault_of, maybe_fault, Says};
 ghost use Rattle.its_reader.specs.Views.{piece_of as plain_of, maybe_of, token_of};
-ghost use Rattle.its_reader.specs.Turning.{Judges, Advances, Turns, Closes, turn_of, turned, behind_token};
-ghost use Rattle.its_reader.specs.Turning.{is_final as plain_final, least_of};
+ghost use Rattle.its_reader.specs.TokenSteps.{Judges, Advances, Turns, Closes, token_result_of, token_result};
+ghost use Rattle.its_reader.specs.TokenSteps.{behind_token};
+ghost use Rattle.its_reader.specs.TokenSteps.{is_final as plain_final, least_of};
 
 use crate::ahead::Ahead;
 use crate::draft::Draft;
 use crate::error::ReadError;
 use crate::fault::{Fault, Kind};
 use crate::lexer::Lexer;
-use crate::off::off;
+use crate::off::break_kind;
 use crate::piece::{Piece, Token, piece_of};
 use crate::place::{Place, SectionPlace};
 use expr_reader::Piece as Inner;
 use its_model::Program;
-use std::alloc::{AllocError, Global};
+use model::Memory;
+use std::alloc::Global;
 
 /// Where the reader stands, the last byte that was read, and the refusal so far.
 #[derive(Clone, Copy)]
-pub struct Stand {
+pub(crate) struct ReaderState {
     pub place: Place,
     pub last: usize,
     pub best: Option<Fault>,
@@ -32,8 +34,8 @@ pub struct Stand {
 
 /// What a token leads to: where the reader stands behind it, or the first refusal of the text.
 #[derive(Clone, Copy)]
-pub enum Turn {
-    On(Stand),
+pub(crate) enum TokenStep {
+    On(ReaderState),
     Over(Fault),
 }
 
@@ -64,12 +66,12 @@ fn is_final(fault: Fault, token: Token<'_>) -> bool
 }
 
 // What a token leads to that can follow.
-fn goes_on(best: Option<Fault>, place: Place, token: Token<'_>) -> Turn
-    ensures { turn_of result ≡ behind_token (maybe_fault best) place (token_of token.entry) }
+fn goes_on(best: Option<Fault>, place: Place, token: Token<'_>) -> TokenStep
+    ensures { token_result_of result ≡ behind_token (maybe_fault best) place (token_of token.entry) }
 {
     match best {
         Some(fault) => goes_on_or_ends(fault, place, token),
-        None => Turn::On(Stand {
+        None => TokenStep::On(ReaderState {
             place,
             last: last_of(token),
             best: None,
@@ -77,13 +79,13 @@ fn goes_on(best: Option<Fault>, place: Place, token: Token<'_>) -> Turn
     }
 }
 
-fn goes_on_or_ends(fault: Fault, place: Place, token: Token<'_>) -> Turn
-    ensures { turn_of result ≡ behind_token (Some (fault_of fault)) place (token_of token.entry) }
+fn goes_on_or_ends(fault: Fault, place: Place, token: Token<'_>) -> TokenStep
+    ensures { token_result_of result ≡ behind_token (Some (fault_of fault)) place (token_of token.entry) }
 {
     if is_final(fault, token) {
-        Turn::Over(fault)
+        TokenStep::Over(fault)
     } else {
-        Turn::On(Stand {
+        TokenStep::On(ReaderState {
             place,
             last: last_of(token),
             best: Some(fault),
@@ -92,16 +94,21 @@ fn goes_on_or_ends(fault: Fault, place: Place, token: Token<'_>) -> Turn
 }
 
 // The text breaks off at a token.
-fn breaks_off(place: Place, best: Option<Fault>, token: Token<'_>) -> Turn
-    ensures { turn_of result ≡ turned place (maybe_fault best) (token_of token.entry) None }
+fn breaks_off(place: Place, best: Option<Fault>, token: Token<'_>) -> TokenStep
+    ensures { token_result_of result ≡ token_result place (maybe_fault best) (token_of token.entry) None }
 {
-    let fault = off(place, token.piece).at(token.at);
-    Turn::Over(Fault::first_of(best, fault))
+    let fault = break_kind(place, token.piece).at(token.at);
+    TokenStep::Over(Fault::first_of(best, fault))
 }
 
 // What a token leads to, by the place that it leads to.
-fn turned_by(place: Place, best: Option<Fault>, token: Token<'_>, reached: Option<Place>) -> Turn
-    ensures { turn_of result ≡ turned place (maybe_fault best) (token_of token.entry) reached }
+fn turned_by(
+    place: Place,
+    best: Option<Fault>,
+    token: Token<'_>,
+    reached: Option<Place>,
+) -> TokenStep
+    ensures { token_result_of result ≡ token_result place (maybe_fault best) (token_of token.entry) reached }
 {
     match reached {
         Some(reached) => goes_on(best, reached, token),
@@ -111,15 +118,20 @@ fn turned_by(place: Place, best: Option<Fault>, token: Token<'_>, reached: Optio
 
 impl<'a> Draft<'a> {
     // What ends before the next token has ended, and the first of a refusal so far and those that stand here.
-    fn judge(&mut self, alloc: Global, stand: Stand, ahead: Ahead<'a>) -> Result<Stand, AllocError>
+    fn judge(
+        &mut self,
+        alloc: Global,
+        stand: ReaderState,
+        ahead: Ahead<'a>,
+    ) -> Result<ReaderState, Memory>
         ensures { IfOk result (λ now. Judges stand.place stand.last (maybe_fault stand.best) self.old
             (maybe_of ahead.entry.next) (maybe_of ahead.entry.behind) ahead.entry.at now.place
             (maybe_fault now.best) self.new) }
     {
         let settled = self.settle(alloc, stand.place, ahead.next)?;
-        let ended = Fault::noted_if(stand.best, settled.refusal, stand.last);
+        let ended = Fault::first_with(stand.best, settled.refusal, stand.last);
         let best = self.noted(ended, settled.place, ahead);
-        Ok(Stand {
+        Ok(ReaderState {
             place: settled.place,
             last: stand.last,
             best,
@@ -133,7 +145,7 @@ impl<'a> Draft<'a> {
         place: Place,
         token: Token<'a>,
         behind: Option<Piece<'a>>,
-    ) -> Result<Option<Place>, AllocError>
+    ) -> Result<Option<Place>, Memory>
         ensures { IfOk result (λ reached. Advances place self.old (token_of token.entry)
             (maybe_of behind.entry) reached self.new) }
     {
@@ -160,12 +172,12 @@ impl<'a> Draft<'a> {
     fn take(
         &mut self,
         alloc: Global,
-        stand: Stand,
+        stand: ReaderState,
         token: Token<'a>,
         behind: Option<Piece<'a>>,
-    ) -> Result<Turn, AllocError>
+    ) -> Result<TokenStep, Memory>
         ensures { IfOk result (λ turn. Turns stand.place stand.last (maybe_fault stand.best) self.old
-            (token_of token.entry) (maybe_of behind.entry) (turn_of turn) self.new) }
+            (token_of token.entry) (maybe_of behind.entry) (token_result_of turn) self.new) }
     {
         let ahead = Ahead {
             next: Some(token.piece),
@@ -178,7 +190,7 @@ impl<'a> Draft<'a> {
     }
 
     // The end of a text of so many bytes.
-    fn end(mut self, alloc: Global, stand: Stand, len: usize) -> Result<Program, ReadError>
+    fn end(mut self, alloc: Global, stand: ReaderState, len: usize) -> Result<Program, ReadError>
         ensures { Closes stand.place stand.last (maybe_fault stand.best) self.entry len result }
     {
         let ahead = Ahead {
@@ -219,7 +231,7 @@ fn read_tokens(alloc: Global, bytes: &[u8]) -> Result<Program, ReadError>
 {
     let mut draft = Draft::new(alloc);
     let mut lexer = Lexer::new(bytes);
-    let mut stand = Stand {
+    let mut stand = ReaderState {
         place: Place::InSections(SectionPlace::Between),
         last: 0,
         best: None,
@@ -229,8 +241,8 @@ fn read_tokens(alloc: Global, bytes: &[u8]) -> Result<Program, ReadError>
     while let Some(token) = next {
         let turn = draft.take(alloc, stand, token, piece_of(behind))?;
         match turn {
-            Turn::On(reached) => stand = reached,
-            Turn::Over(fault) => return Err(fault.error()),
+            TokenStep::On(reached) => stand = reached,
+            TokenStep::Over(fault) => return Err(fault.error()),
         }
         let more = lexer.next();
         next = behind;

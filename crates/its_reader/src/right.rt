@@ -1,9 +1,9 @@
-// Where each piece leads from the arrow to the end of the target.
+//! Where each piece leads from the arrow to the end of the target.
 
 ghost use Rattle.std.specs.Prelude.{◌≡◌, Some, None, if◌then◌else◌, IfOk, OnOk, length, nat_lt, not, ◌==◌, ◌++◌, ◌∷◌};
 ghost use Rattle.std.specs.Prelude.{[], slice_index};
 ghost use Rattle.text_core.specs.Names.{position_of};
-ghost use Rattle.expr_text.specs.Terms.{with_name};
+ghost use Rattle.its_text.specs.expr_text.Terms.{with_name};
 ghost use Rattle.expr_reader.specs.Variables.{names_in};
 ghost use Rattle.expr_reader.specs.Standing.{Leads};
 ghost use Rattle.expr_reader.specs.Views.{piece_of as inner_of};
@@ -17,6 +17,7 @@ use crate::place::{Place, RightPlace, TailPlace, Wrap};
 use crate::room::has_room;
 use crate::symbols::{Symbols, narrow};
 use expr_reader::Piece as Inner;
+use model::Memory;
 use std::alloc::{AllocError, Global};
 
 // A place of a right term, where a test passes.
@@ -41,12 +42,12 @@ fn behind_right(wrap: Wrap) -> Place
 
 impl<'a> Draft<'a> {
     /// The place that a piece leads to from the arrow to the end of the target. None where it can't follow.
-    pub fn advance_in_right(
+    pub(crate) fn advance_in_right(
         &mut self,
         alloc: Global,
         place: RightPlace,
         piece: Piece<'a>,
-    ) -> Result<Option<Place>, AllocError>
+    ) -> Result<Option<Place>, Memory>
         ensures { IfOk result (λ reached. RightLeads place self.old (plain_of piece.entry) reached self.new) }
     {
         match place {
@@ -98,7 +99,7 @@ impl<'a> Draft<'a> {
         alloc: Global,
         wrap: Wrap,
         piece: Piece<'a>,
-    ) -> Result<Option<Place>, AllocError>
+    ) -> Result<Option<Place>, Memory>
         ensures { IfOk result (λ reached. RightLeads (RightPlace.RightOpened wrap) self.old
             (plain_of piece.entry) reached self.new) }
     {
@@ -116,7 +117,7 @@ impl<'a> Draft<'a> {
         alloc: Global,
         wrap: Wrap,
         piece: Piece<'a>,
-    ) -> Result<Option<Place>, AllocError>
+    ) -> Result<Option<Place>, Memory>
         ensures { IfOk result (λ reached. RightLeads (RightPlace.Arguing wrap) self.old
             (plain_of piece.entry) reached self.new) }
     {
@@ -124,7 +125,7 @@ impl<'a> Draft<'a> {
         Ok(reached)
     }
 
-    fn behind_argument(&mut self, wrap: Wrap, piece: Piece<'a>) -> Result<Option<Place>, AllocError>
+    fn behind_argument(&mut self, wrap: Wrap, piece: Piece<'a>) -> Result<Option<Place>, Memory>
         ensures { IfOk result (λ reached. RightLeads (RightPlace.Argued wrap) self.old
             (plain_of piece.entry) reached self.new) }
     {
@@ -154,7 +155,7 @@ impl<'a> Draft<'a> {
         alloc: Global,
         wrap: Wrap,
         piece: Piece<'a>,
-    ) -> Result<Option<Place>, AllocError>
+    ) -> Result<Option<Place>, Memory>
         ensures { IfOk result (λ reached. ArgumentTakes wrap self.old (plain_of piece.entry) reached self.new) }
     {
         match piece {
@@ -171,7 +172,7 @@ impl<'a> Draft<'a> {
     }
 
     // The right term ends.
-    fn shut_right(&mut self) -> Result<(), AllocError>
+    fn shut_right(&mut self) -> Result<(), Memory>
         ensures { OnOk result (AfterRight self.old self.new) }
     {
         self.rule.end_right(&mut self.symbols)?;
@@ -180,7 +181,7 @@ impl<'a> Draft<'a> {
 }
 
 impl<'a> RuleDraft<'a> {
-    fn take_inner(&mut self, alloc: Global, piece: Inner<'a>) -> Result<(), AllocError>
+    fn take_inner(&mut self, alloc: Global, piece: Inner<'a>) -> Result<(), Memory>
         ensures leads { OnOk result (Leads (names_in self.old.variables) self.old.expression (inner_of piece.entry)
             (names_in self.new.variables) self.new.expression) }
         ensures stays { StaysInRule self.old self.new }
@@ -194,7 +195,7 @@ impl<'a> RuleDraft<'a> {
     }
 
     // The right term ends: its symbol is numbered.
-    fn end_right(&mut self, symbols: &mut Symbols<'a>) -> Result<(), AllocError>
+    fn end_right(&mut self, symbols: &mut Symbols<'a>) -> Result<(), Memory>
         ensures names { OnOk result (names_in symbols.new.names
             ≡ with_name (names_in symbols.old.names) self.old.name.now) }
         ensures arities { OnOk result (symbols.new.arities.items

@@ -1,19 +1,20 @@
-// How the parts of a rule are put together.
+//! How the parts of a rule are put together.
 
 ghost use Rattle.std.specs.Prelude.{◌≡◌, map, IfOk, OnOk};
 ghost use Rattle.its_model.specs.Views.{name_of, rule_of};
 ghost use Rattle.expr_reader.specs.Variables.{names_in};
-ghost use Rattle.its_reader.specs.Tailing.{rule_in, RuleEnds};
+ghost use Rattle.its_reader.specs.TailSteps.{rule_in, RuleEnds};
 
 use crate::draft::{Draft, RuleDraft};
 use crate::symbols::narrow;
 use expr_reader::Variables;
 use its_model::{Name, Rule};
-use std::alloc::{AllocError, Global};
+use model::Memory;
+use std::alloc::Global;
 use std::mem;
 
 /// The name with these bytes.
-pub fn name_from(alloc: Global, bytes: &[u8]) -> Result<Name, AllocError>
+pub(crate) fn name_from(alloc: Global, bytes: &[u8]) -> Result<Name, Memory>
     ensures { IfOk result (λ name. name_of name ≡ bytes.now) }
 {
     Ok(Name {
@@ -22,7 +23,7 @@ pub fn name_from(alloc: Global, bytes: &[u8]) -> Result<Name, AllocError>
 }
 
 /// The names of variables, in order.
-pub fn names_from(alloc: Global, variables: &Variables<'_>) -> Result<Vec<Name>, AllocError>
+pub(crate) fn names_from(alloc: Global, variables: &Variables<'_>) -> Result<Vec<Name>, Memory>
     ensures { IfOk result (λ names. map name_of names.items ≡ names_in variables.now) }
 {
     let mut names = Vec::new(alloc);
@@ -35,7 +36,7 @@ pub fn names_from(alloc: Global, variables: &Variables<'_>) -> Result<Vec<Name>,
 
 impl<'a> RuleDraft<'a> {
     // The rule by numbers.
-    fn into_rule(mut self, alloc: Global) -> Result<Rule, AllocError>
+    fn into_rule(mut self, alloc: Global) -> Result<Rule, Memory>
         ensures { IfOk result (λ rule. rule_of rule ≡ rule_in self.entry) }
     {
         let names = names_from(alloc, &self.variables)?;
@@ -55,7 +56,7 @@ impl<'a> RuleDraft<'a> {
 
 impl<'a> Draft<'a> {
     /// The rule ends.
-    pub fn end_rule(&mut self, alloc: Global) -> Result<(), AllocError>
+    pub(crate) fn end_rule(&mut self, alloc: Global) -> Result<(), Memory>
         ensures { OnOk result (RuleEnds self.old self.new) }
     {
         let rule = mem::replace(&mut self.rule, RuleDraft::new(alloc));

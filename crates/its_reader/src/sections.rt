@@ -1,4 +1,4 @@
-// Where each piece leads outside rules.
+//! Where each piece leads outside rules.
 
 ghost use Rattle.std.specs.Prelude.{◌≡◌, Some, None, if◌then◌else◌, codes};
 ghost use Rattle.its_reader.specs.Views.{piece_of as plain_of};
@@ -22,7 +22,7 @@ fn leads_if(test: bool, behind: SectionPlace) -> Option<Place>
 
 impl<'a> Draft<'a> {
     /// The place that a piece leads to outside rules, which stands at a position. None where it can't follow.
-    pub fn advance_in_sections(
+    pub(crate) fn advance_in_sections(
         &mut self,
         alloc: Global,
         place: SectionPlace,

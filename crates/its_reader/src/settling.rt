@@ -1,15 +1,15 @@
-// What ends before the next piece, and the refusal at its last byte.
+//! What ends before the next piece, and the refusal at its last byte.
 
 ghost use Rattle.std.specs.Prelude.{◌≡◌, ◌&&◌, not, ℕ, IfOk};
 ghost use Rattle.its_text.specs.Kinds as kinds;
-ghost use Rattle.its_text.specs.Shown.{fault_if, expansion_faults};
+ghost use Rattle.its_text.specs.FrontFaults.{fault_if, expansion_faults};
 ghost use Rattle.expr_reader.specs.Faults.{fault_of as unexpanded_of};
 ghost use Rattle.expr_reader.specs.GuardParts.{piece_in, goes_on};
 ghost use Rattle.its_reader.specs.Views.{maybe_of};
 ghost use Rattle.its_reader.specs.Faults.{maybe_kind};
-ghost use Rattle.its_reader.specs.Turning.{Settles};
-ghost use Rattle.its_reader.specs.Settling.{ends_in, shuts_left, AfterArgument, ArgumentIsSettled, RightSettles};
-ghost use Rattle.its_reader.specs.Settling.{GuardStands, TailSettles};
+ghost use Rattle.its_reader.specs.TokenSteps.{Settles};
+ghost use Rattle.its_reader.specs.PartEnds.{ends_in, shuts_left, AfterArgument, ArgumentIsSettled, RightSettles};
+ghost use Rattle.its_reader.specs.PartEnds.{GuardStands, TailSettles};
 ghost use Rattle.its_reader.specs.Tests.{inner_next};
 
 use crate::draft::{Draft, RuleDraft};
@@ -17,11 +17,12 @@ use crate::fault::Kind;
 use crate::piece::{Piece, inner_of};
 use crate::place::{LeftPlace, Place, RightPlace, TailPlace, Wrap};
 use expr_reader::{Expression, Piece as Inner, Unexpanded};
-use std::alloc::{AllocError, Global};
+use model::Memory;
+use std::alloc::Global;
 
 /// Where the reader stands once what ends has ended, and the refusal at the last byte that was read.
 #[derive(Clone, Copy)]
-pub struct Settled {
+pub(crate) struct PartEnd {
     pub place: Place,
     pub refusal: Option<Kind>,
 }
@@ -63,23 +64,23 @@ fn ends(expression: &Expression, next: Option<Inner<'_>>) -> bool
 
 impl<'a> Draft<'a> {
     /// An argument or an atom ends where it can and the next piece doesn't go on with it.
-    pub fn settle(
+    pub(crate) fn settle(
         &mut self,
         alloc: Global,
         place: Place,
         next: Option<Piece<'a>>,
-    ) -> Result<Settled, AllocError>
+    ) -> Result<PartEnd, Memory>
         ensures { IfOk result (λ settled. Settles place self.old (maybe_of next.entry) settled.place
             (maybe_kind settled.refusal) self.new) }
     {
         match place {
-            Place::InSections(_) => Ok(Settled {
+            Place::InSections(_) => Ok(PartEnd {
                 place,
                 refusal: None,
             }),
             Place::InLeft(left) => {
                 let refusal = self.rule.refusal_in_left(left);
-                Ok(Settled { place, refusal })
+                Ok(PartEnd { place, refusal })
             }
             Place::InRight(right) => {
                 let argued = self.rule.settle_in_right(alloc, right, next)?;
@@ -106,7 +107,7 @@ impl<'a> RuleDraft<'a> {
         alloc: Global,
         place: RightPlace,
         next: Option<Piece<'a>>,
-    ) -> Result<Settled, AllocError>
+    ) -> Result<PartEnd, Memory>
         ensures { IfOk result (λ settled. RightSettles place self.old
             (maybe_of next.entry) settled.place settled.refusal self.new) }
     {
@@ -117,7 +118,7 @@ impl<'a> RuleDraft<'a> {
             }
             None => {
                 let refusal = arity_refusal(place.is_shut(), self.differs);
-                Ok(Settled {
+                Ok(PartEnd {
                     place: Place::InRight(place),
                     refusal,
                 })
@@ -130,18 +131,18 @@ impl<'a> RuleDraft<'a> {
         alloc: Global,
         wrap: Wrap,
         next: Option<Inner<'a>>,
-    ) -> Result<Settled, AllocError>
+    ) -> Result<PartEnd, Memory>
         ensures { IfOk result (λ settled. ArgumentIsSettled wrap self.old
             (piece_in next.entry) settled.place settled.refusal self.new) }
     {
         if self.argument_ends(next) {
             let refusal = self.end_argument(alloc)?;
-            Ok(Settled {
+            Ok(PartEnd {
                 place: Place::InRight(RightPlace::Argued(wrap)),
                 refusal,
             })
         } else {
-            Ok(Settled {
+            Ok(PartEnd {
                 place: Place::InRight(RightPlace::Arguing(wrap)),
                 refusal: None,
             })
@@ -154,7 +155,7 @@ impl<'a> RuleDraft<'a> {
         self.expression.can_end() && ends(&self.expression, next)
     }
 
-    fn end_argument(&mut self, alloc: Global) -> Result<Option<Kind>, AllocError>
+    fn end_argument(&mut self, alloc: Global) -> Result<Option<Kind>, Memory>
         ensures { IfOk result (λ refusal. AfterArgument self.old refusal self.new) }
     {
         let update = self.expression.finish(alloc)?;
@@ -168,7 +169,7 @@ impl<'a> RuleDraft<'a> {
         alloc: Global,
         place: TailPlace,
         next: Option<Piece<'a>>,
-    ) -> Result<Settled, AllocError>
+    ) -> Result<PartEnd, Memory>
         ensures { IfOk result (λ settled. TailSettles place self.old
             (maybe_of next.entry) settled.place settled.refusal self.new) }
     {
@@ -177,7 +178,7 @@ impl<'a> RuleDraft<'a> {
             Ok(settled)
         } else {
             let refusal = arity_refusal(place.is_targeted(), self.differs);
-            Ok(Settled {
+            Ok(PartEnd {
                 place: Place::InTail(place),
                 refusal,
             })
@@ -189,13 +190,13 @@ impl<'a> RuleDraft<'a> {
         alloc: Global,
         place: TailPlace,
         next: Option<Piece<'a>>,
-    ) -> Result<Settled, AllocError>
+    ) -> Result<PartEnd, Memory>
         ensures { IfOk result (λ settled. GuardStands place self.old
             (maybe_of next.entry) settled.place settled.refusal self.new) }
     {
         let fault = self.guard.settle(alloc, inner_of(next))?;
         let refusal = kind_of(fault);
-        Ok(Settled {
+        Ok(PartEnd {
             place: Place::InTail(place),
             refusal,
         })

@@ -1,39 +1,40 @@
-// The symbols of a text, by name and by number.
+//! The symbols of a text, by name and by number.
 
 ghost use Rattle.std.specs.Prelude.{◌≡◌, ◌∷◌, ◌++◌, [], length, if◌then◌else◌, nat_lt, IfOk, OnOk, slice_index};
 ghost use Rattle.std.specs.Prelude.{slice_get};
 ghost use Rattle.its_reader.specs.Finishing.{is_named, tabled, symbol_in, with_arity};
 ghost use Rattle.text_core.specs.Names.{position_of};
-ghost use Rattle.expr_text.specs.Terms.{with_name};
+ghost use Rattle.its_text.specs.expr_text.Terms.{with_name};
 ghost use Rattle.expr_reader.specs.Variables.{names_in};
 
 use crate::error::ReadError;
 use expr_reader::Variables;
+use model::Memory;
 use std::alloc::{AllocError, Global};
 
 /// The symbols so far, each with the number of its places, in order of first occurrence.
 #[derive(Drop)]
-pub struct Symbols<'a> {
+pub(crate) struct Symbols<'a> {
     pub names: Variables<'a>,
     pub arities: Vec<u32>,
 }
 
 /// A symbol's number, and the number of its places.
 #[derive(Clone, Copy)]
-pub struct Known {
+pub(crate) struct Known {
     pub number: usize,
     pub arity: u32,
 }
 
 /// A symbol's name, and the number of its places.
 #[derive(Clone, Copy)]
-pub struct Listed<'a> {
+pub(crate) struct Listed<'a> {
     pub name: &'a [u8],
     pub arity: u32,
 }
 
 /// A count as a number of 32 bits; no memory holds more.
-pub fn narrow(count: usize) -> Result<u32, AllocError>
+pub(crate) fn narrow(count: usize) -> Result<u32, Memory>
     ensures { IfOk result (λ n. n ≡ count) }
 {
     u32::try_from(count).map_err(|_| AllocError)
@@ -41,7 +42,7 @@ pub fn narrow(count: usize) -> Result<u32, AllocError>
 
 impl<'a> Symbols<'a> {
     /// No symbols.
-    pub fn new(alloc: Global) -> Symbols<'a>
+    pub(crate) fn new(alloc: Global) -> Symbols<'a>
         ensures names { names_in result.names ≡ [] }
         ensures arities { result.arities.items ≡ [] }
     {
@@ -52,7 +53,7 @@ impl<'a> Symbols<'a> {
     }
 
     /// The symbol that a term has. A new symbol goes to the end, with so many places.
-    pub fn of_term(&mut self, name: &'a [u8], arity: u32) -> Result<Known, AllocError>
+    pub(crate) fn of_term(&mut self, name: &'a [u8], arity: u32) -> Result<Known, Memory>
         ensures number { IfOk result (λ known. known.number ≡ position_of name.now (names_in self.old.names)) }
         ensures names { OnOk result (names_in self.new.names ≡ with_name (names_in self.old.names) name.now) }
         ensures arities { OnOk result (self.new.arities.items
@@ -72,7 +73,7 @@ impl<'a> Symbols<'a> {
     }
 
     /// Whether the symbol with a number has this name.
-    pub fn is_named(&self, number: u32, name: &[u8]) -> bool
+    pub(crate) fn is_named(&self, number: u32, name: &[u8]) -> bool
         ensures { result ≡ is_named (names_in self.now.names) name.now number }
     {
         match self.names.names().get_index(number as usize) {
@@ -82,7 +83,7 @@ impl<'a> Symbols<'a> {
     }
 
     /// The symbol with a number.
-    pub fn get(&self, number: usize) -> Option<Listed<'a>>
+    pub(crate) fn get(&self, number: usize) -> Option<Listed<'a>>
         ensures { symbol_in result ≡ slice_get (tabled (names_in self.now.names) self.now.arities.items) number }
     {
         match self.names.names().get_index(number) {
@@ -104,7 +105,7 @@ impl<'a> Symbols<'a> {
     }
 
     // A new symbol has so many places.
-    fn keep(&mut self, number: usize, arity: u32) -> Result<(), AllocError>
+    fn keep(&mut self, number: usize, arity: u32) -> Result<(), Memory>
         ensures arities { OnOk result (self.new.arities.items
             ≡ (if nat_lt number (length self.old.arities.items) then self.old.arities.items else
             self.old.arities.items ++ arity ∷ [])) }

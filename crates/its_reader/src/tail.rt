@@ -1,11 +1,11 @@
-// Where each piece leads behind the target of a rule.
+//! Where each piece leads behind the target of a rule.
 
 ghost use Rattle.std.specs.Prelude.{◌≡◌, ◌&&◌, ◌||◌, not, IfOk};
 ghost use Rattle.its_reader.specs.Views.{piece_of as plain_of, maybe_of};
 ghost use Rattle.its_reader.specs.Tests as tests;
 ghost use Rattle.its_reader.specs.PlaceSteps.{TailLeads};
-ghost use Rattle.its_reader.specs.Tailing.{WholeLeads, GuardIsEnded, SquareEnds, AtomTakes, TakesMaybe, TakesPiece};
-ghost use Rattle.its_reader.specs.Tailing.{StaysInGuard, guarding_if as plain_guarding, goes_on_in};
+ghost use Rattle.its_reader.specs.TailSteps.{WholeLeads, GuardIsEnded, SquareEnds, AtomTakes, TakesMaybe, TakesPiece};
+ghost use Rattle.its_reader.specs.TailSteps.{StaysInGuard, guarding_if as plain_guarding, goes_on_in};
 ghost use Rattle.expr_reader.specs.GuardParts.{is_read, piece_in};
 ghost use Rattle.expr_reader.specs.GuardStanding.{Takes};
 ghost use Rattle.expr_reader.specs.Variables.{names_in};
@@ -17,17 +17,18 @@ use crate::piece::{Piece, inner_of, is_open};
 use crate::place::{Fence, LeftPlace, Place, TailPlace};
 use crate::room::has_room;
 use expr_reader::{GuardPlace, Piece as Inner};
+use model::Memory;
 use std::alloc::{AllocError, Global};
 
 impl<'a> Draft<'a> {
     /// The place that a piece leads to behind a target, with the piece behind it. None where it can't follow.
-    pub fn advance_in_tail(
+    pub(crate) fn advance_in_tail(
         &mut self,
         alloc: Global,
         place: TailPlace,
         piece: Piece<'a>,
         behind: Option<Piece<'a>>,
-    ) -> Result<Option<Place>, AllocError>
+    ) -> Result<Option<Place>, Memory>
         ensures { IfOk result (λ reached. TailLeads place self.old (plain_of piece.entry)
             (maybe_of behind.entry) reached self.new) }
     {
@@ -44,7 +45,7 @@ impl<'a> Draft<'a> {
         alloc: Global,
         piece: Piece<'a>,
         behind: Option<Piece<'a>>,
-    ) -> Result<Option<Place>, AllocError>
+    ) -> Result<Option<Place>, Memory>
         ensures { IfOk result (λ reached. TailLeads TailPlace.Targeted self.old (plain_of piece.entry)
             (maybe_of behind.entry) reached self.new) }
     {
@@ -64,7 +65,7 @@ impl<'a> Draft<'a> {
         alloc: Global,
         piece: Piece<'a>,
         behind: Option<Piece<'a>>,
-    ) -> Result<Option<Place>, AllocError>
+    ) -> Result<Option<Place>, Memory>
         ensures { IfOk result (λ reached. TailLeads TailPlace.GuardMarked self.old (plain_of piece.entry)
             (maybe_of behind.entry) reached self.new) }
     {
@@ -82,7 +83,7 @@ impl<'a> Draft<'a> {
         alloc: Global,
         piece: Piece<'a>,
         behind: Option<Piece<'a>>,
-    ) -> Result<Option<Place>, AllocError>
+    ) -> Result<Option<Place>, Memory>
         ensures { IfOk result (λ reached. TailLeads TailPlace.SquareOpened self.old (plain_of piece.entry)
             (maybe_of behind.entry) reached self.new) }
     {
@@ -96,7 +97,7 @@ impl<'a> Draft<'a> {
     }
 
     // The rule ends before a rule's source, or the end of the section.
-    fn behind_rule(&mut self, alloc: Global, piece: Piece<'a>) -> Result<Option<Place>, AllocError>
+    fn behind_rule(&mut self, alloc: Global, piece: Piece<'a>) -> Result<Option<Place>, Memory>
         ensures { IfOk result (λ reached. WholeLeads self.old (plain_of piece.entry) reached self.new) }
     {
         if leaves_rule(piece) {
@@ -114,7 +115,7 @@ impl<'a> Draft<'a> {
         fence: Fence,
         piece: Piece<'a>,
         behind: Option<Piece<'a>>,
-    ) -> Result<Option<Place>, AllocError>
+    ) -> Result<Option<Place>, Memory>
         ensures { IfOk result (λ reached. TailLeads (TailPlace.Guarding fence) self.old (plain_of piece.entry)
             (maybe_of behind.entry) reached self.new) }
     {
@@ -132,7 +133,7 @@ impl<'a> Draft<'a> {
         alloc: Global,
         fence: Fence,
         piece: Piece<'a>,
-    ) -> Result<Option<Place>, AllocError>
+    ) -> Result<Option<Place>, Memory>
         ensures { IfOk result (λ reached. GuardIsEnded fence self.old (plain_of piece.entry) reached self.new) }
     {
         match fence {
@@ -147,11 +148,7 @@ impl<'a> Draft<'a> {
         }
     }
 
-    fn behind_squared(
-        &mut self,
-        alloc: Global,
-        piece: Piece<'a>,
-    ) -> Result<Option<Place>, AllocError>
+    fn behind_squared(&mut self, alloc: Global, piece: Piece<'a>) -> Result<Option<Place>, Memory>
         ensures { IfOk result (λ reached. SquareEnds self.old (plain_of piece.entry) reached self.new) }
     {
         if piece.closes_square() {
@@ -169,7 +166,7 @@ impl<'a> Draft<'a> {
         fence: Fence,
         piece: Piece<'a>,
         behind: Option<Piece<'a>>,
-    ) -> Result<Option<Place>, AllocError>
+    ) -> Result<Option<Place>, Memory>
         ensures { IfOk result (λ reached. AtomTakes fence self.old (plain_of piece.entry)
             (maybe_of behind.entry) reached self.new) }
     {
@@ -197,7 +194,7 @@ fn ends_mark(piece: Piece<'_>, behind: Option<Piece<'_>>) -> bool
 
 impl<'a> RuleDraft<'a> {
     /// An atom has been read.
-    pub fn has_read_atom(&self) -> bool
+    pub(crate) fn has_read_atom(&self) -> bool
         ensures { result ≡ is_read self.now.guard.place }
     {
         self.guard.place == GuardPlace::AtomRead
@@ -223,7 +220,7 @@ impl<'a> RuleDraft<'a> {
         fence: Fence,
         piece: Option<Inner<'a>>,
         behind: Option<Inner<'a>>,
-    ) -> Result<Option<Place>, AllocError>
+    ) -> Result<Option<Place>, Memory>
         ensures takes { IfOk result (λ reached. TakesMaybe fence self.old (piece_in piece.entry)
             (piece_in behind.entry) reached self.new) }
         ensures stays { StaysInGuard self.old self.new }
@@ -244,7 +241,7 @@ impl<'a> RuleDraft<'a> {
         fence: Fence,
         piece: Inner<'a>,
         behind: Option<Inner<'a>>,
-    ) -> Result<Option<Place>, AllocError>
+    ) -> Result<Option<Place>, Memory>
         ensures takes { IfOk result (λ reached. TakesPiece fence self.old (inner_plain piece.entry)
             (piece_in behind.entry) reached self.new) }
         ensures stays { StaysInGuard self.old self.new }
@@ -263,14 +260,13 @@ impl<'a> RuleDraft<'a> {
         alloc: Global,
         piece: Inner<'a>,
         behind: Option<Inner<'a>>,
-    ) -> Result<bool, AllocError>
+    ) -> Result<bool, Memory>
         ensures takes { IfOk result (λ taken. Takes (names_in self.old.variables) self.old.guard
             (inner_plain piece.entry) (piece_in behind.entry) taken (names_in self.new.variables) self.new.guard) }
         ensures stays { StaysInGuard self.old self.new }
     {
         if has_room(&self.guard.expression, &self.variables) {
-            let taken = self.guard.take(alloc, &mut self.variables, piece, behind)?;
-            Ok(taken)
+            self.guard.take(alloc, &mut self.variables, piece, behind)
         } else {
             Err(AllocError)
         }

@@ -3,7 +3,7 @@
 use Rattle.std.proofs.Common.{◌≡◌, false, not, ◌↔◌, List, [], ◌∷◌, length, Option, Some, None, refl, ap, sym, subst}
 use Rattle.std.proofs.Common.{arith}
 use Rattle.std.proofs.lemmas.List.{length-reverse}
-use Rattle.model.specs.Limits.{place_limit}
+use Rattle.expr_text.specs.model.Limits.{place_limit}
 use Rattle.expr_text.specs.Pieces as inner
 use Rattle.expr_text.specs.Trees.{Sum}
 use Rattle.expr_text.specs.Terms.{with_sum}
@@ -16,9 +16,9 @@ use Rattle.its_text.specs.Pieces.{Piece, In, Comma}
 use Rattle.its_text.specs.Written.{RightTerm, Target, Marked, Bare}
 use Rattle.its_text.specs.Numbering.{term_in, left_names, with_right}
 use Rattle.its_text.specs.Fronts.{Led, Wrap, InCom, Alone, Aimed, RightOpened, Arguing, RightShut}
-use Rattle.its_text.specs.Steps.{shut_by, parted, argued, arguing, behind_open, step}
+use Rattle.its_text.specs.Steps.{shut_by, behind_comma, behind_argument, argument_step, behind_open, step}
 use Rattle.its_text.specs.FrontNames.{symbols_behind, names_with}
-use Rattle.its_text.specs.Shown.{bare_differs}
+use Rattle.its_text.specs.FrontFaults.{bare_differs}
 use Rattle.its_text.proofs.ValidRules.{sums_are_read}
 use Rattle.its_text.proofs.RoomLaws.{contrary, passes_not, and_false, arity_same, arguments_stay}
 use Rattle.its_text.proofs.KeptFronts.{first, IsAimedKept, HasRight, HasTargetArity, IsTargetKept, IsArguingKept}
@@ -170,7 +170,7 @@ off_quiet a arguments e p behind same = λ on. contrary (goes_on_with e p) on (g
 
 argued_by : (a : Aimed) (arguments : List Sum) (e : expression.Front) (p : inner.Piece) (ps : List Piece)
     (o : Option Sum) → expression_steps.finish e ≡ o → expression_steps.step e p ≡ None
-    → Turns (Arguing a arguments e) (In p) ps (argued a arguments o p)
+    → Turns (Arguing a arguments e) (In p) ps (behind_argument a arguments o p)
 argued_by a arguments e p ps None same off = tt
 argued_by a arguments e inner.Close ps (Some s) same off =
     let shut = shut_kept a.led a.wrap (record { name = a.name; arguments = s ∷ arguments }) ps in
@@ -204,7 +204,7 @@ argued_by a arguments e (inner.Joining joint) ps (Some s) same off = tt
 
 arguing_by : (a : Aimed) (arguments : List Sum) (e : expression.Front) (p : inner.Piece) (ps : List Piece)
     (o : Option expression.Front) → expression_steps.step e p ≡ o
-    → Turns (Arguing a arguments e) (In p) ps (arguing a arguments e o p)
+    → Turns (Arguing a arguments e) (In p) ps (argument_step a arguments e o p)
 arguing_by a arguments e p ps (Some f) same = argument_goes_on a arguments e f p (first ps) same
 arguing_by a arguments e p ps None same = argued_by a arguments e p ps (expression_steps.finish e) refl same
 
@@ -214,7 +214,7 @@ pub arguing_turns : (a : Aimed) (arguments : List Sum) (e : expression.Front) (p
 arguing_turns a arguments e p ps = arguing_by a arguments e p ps (expression_steps.step e p) refl
 
 parted_by : (a : Aimed) (arguments : List Sum) (e : expression.Front) (ps : List Piece) (o : Option Sum)
-    → expression_steps.finish e ≡ o → Turns (Arguing a arguments e) Comma ps (parted a arguments o)
+    → expression_steps.finish e ≡ o → Turns (Arguing a arguments e) Comma ps (behind_comma a arguments o)
 parted_by a arguments e ps None same = tt
 parted_by a arguments e ps (Some s) same =
     let wanted = argument_wanted a (s ∷ arguments) in
@@ -233,7 +233,7 @@ parted_by a arguments e ps (Some s) same =
 
 -- a comma behind an argument keeps the limits exactly where the front is quiet
 pub parted_turns : (a : Aimed) (arguments : List Sum) (e : expression.Front) (ps : List Piece)
-    → Turns (Arguing a arguments e) Comma ps (parted a arguments (expression_steps.finish e))
+    → Turns (Arguing a arguments e) Comma ps (behind_comma a arguments (expression_steps.finish e))
 parted_turns a arguments e ps = parted_by a arguments e ps (expression_steps.finish e) refl
 
 -- behind `Com_1(` and its term

@@ -1,8 +1,8 @@
 -- A text goes on from each front that pieces lead to.
 use Rattle.std.specs.Prelude.{◌≡◌, List, [], ◌∷◌, codes, Some, None, refl}
 use Rattle.std.proofs.Common.{◌∙◌, ap}
-use Rattle.model.specs.Programs.{Name}
-use Rattle.text_core.specs.Readers.{next, reached, IsBeginning}
+use Rattle.expr_text.specs.model.Programs.{Name}
+use Rattle.expr_text.specs.text_core.Readers.{next, reached, IsBeginning}
 use Rattle.expr_text.specs.Pieces as inner
 use Rattle.expr_text.specs.Trees.{Sum}
 use Rattle.expr_text.specs.Fronts as expression
@@ -12,9 +12,16 @@ use Rattle.expr_text.specs.GuardFronts as guards
 use Rattle.expr_text.proofs.Ending.{close_ends, close_ends_guard}
 use Rattle.expr_text.proofs.Completing.{expression_completed, guard_completed}
 use Rattle.its_text.specs.Pieces.{Piece, In, Arrow, SquareClose, Remark, word, open_bracket, close_bracket}
-use Rattle.its_text.specs.Written.{RightTerm, Marked, Bare, NoGuard, BehindMark, InSquares, Section, Goal, Start, Variables, Comment}
-use Rattle.its_text.specs.Fronts.{Ruling, Led, Wrap, InCom, Alone, Aimed, Headed, Front, Between, Opened, GoalNamed, GoalSaid, StartNamed, StartOpened, StartListed, StartSaid, StartShut, Listing, CommentNamed, Ruled, SourceNamed, LeftOpened, LeftRead, LeftParted, LeftShut, Arrowed, ComNamed, ComOpened, TargetNamed, RightOpened, Arguing, RightShut, Targeted, GuardMarked, WordRead, MarkGuarding, SquareOpened, SquareGuarding, ruling_with, section_of}
-use Rattle.its_text.specs.Steps.{argued, arguing, guard_ended, guarding, squared, square_ended, shut_by, right_shut, step}
+use Rattle.its_text.specs.Written.{RightTerm, Marked, Bare, NoGuard, BehindMark, InSquares, Section, Goal, Start}
+use Rattle.its_text.specs.Written.{Variables, Comment}
+use Rattle.its_text.specs.Fronts.{Ruling, Led, Wrap, InCom, Alone, Aimed, Headed, Front, Between, Opened, GoalNamed}
+use Rattle.its_text.specs.Fronts.{GoalSaid, StartNamed, StartOpened, StartListed, StartSaid, StartShut, Listing}
+use Rattle.its_text.specs.Fronts.{CommentNamed, Ruled, SourceNamed, LeftOpened, LeftRead, LeftParted, LeftShut, Arrowed}
+use Rattle.its_text.specs.Fronts.{ComNamed, ComOpened, TargetNamed, RightOpened, Arguing, RightShut, Targeted}
+use Rattle.its_text.specs.Fronts.{GuardMarked, WordRead, MarkGuarding, SquareOpened, SquareGuarding, ruling_with}
+use Rattle.its_text.specs.Fronts.{section_of}
+use Rattle.its_text.specs.Steps.{behind_argument, argument_step, guard_ended, mark_guard_step, square_guard_step}
+use Rattle.its_text.specs.Steps.{square_ended, shut_by, right_shut, step}
 use Rattle.its_text.specs.Grammar.{programs}
 use Rattle.its_text.proofs.Ends.{ends}
 
@@ -118,12 +125,12 @@ square_opened_goes h done at = back SquareClose done (ruled_goes (ruling_with h 
 -- an argument can be completed, and then the term closes
 arguing_steps : (a : Aimed) (arguments : List Sum) (done : List Piece) (e f : expression.Front) (p : inner.Piece)
     → At done (Arguing a arguments e) → expression_steps.step e p ≡ Some f → At (In p ∷ done) (Arguing a arguments f)
-arguing_steps a arguments done e f p at same = onward done (Arguing a arguments e) (Arguing a arguments f) (In p) at (ap (λ o. arguing a arguments e o p) same)
+arguing_steps a arguments done e f p at same = onward done (Arguing a arguments e) (Arguing a arguments f) (In p) at (ap (λ o. argument_step a arguments e o p) same)
 
 -- the closing bracket behind an argument that can end
 pub argument_closes : (a : Aimed) (arguments : List Sum) (e : expression.Front) (s : Sum) → expression_steps.finish e ≡ Some s
     → step (Arguing a arguments e) close_bracket ≡ Some (right_shut a (s ∷ arguments))
-argument_closes a arguments e s same = ap (λ o. arguing a arguments e o inner.Close) (close_ends e s same) ∙ ap (λ o. argued a arguments o inner.Close) same
+argument_closes a arguments e s same = ap (λ o. argument_step a arguments e o inner.Close) (close_ends e s same) ∙ ap (λ o. behind_argument a arguments o inner.Close) same
 
 arguing_ends : (a : Aimed) (arguments : List Sum) (done : List Piece) (e : expression.Front) (s : Sum)
     → At done (Arguing a arguments e) → expression_steps.finish e ≡ Some s → IsBeginning programs done
@@ -139,13 +146,13 @@ arguing_goes a arguments e done at =
 -- so can atoms, and then the section or the square bracket closes
 mark_steps : (h : Headed) (done : List Piece) (g k : guards.GuardFront) (p : inner.Piece)
     → At done (MarkGuarding h g) → guards.step g p ≡ Some k → At (In p ∷ done) (MarkGuarding h k)
-mark_steps h done g k p at same = onward done (MarkGuarding h g) (MarkGuarding h k) (In p) at (ap (λ o. guarding h g o p) same)
+mark_steps h done g k p at same = onward done (MarkGuarding h g) (MarkGuarding h k) (In p) at (ap (λ o. mark_guard_step h g o p) same)
 
 mark_ends : (h : Headed) (done : List Piece) (g : guards.GuardFront) (atoms : Atoms) → At done (MarkGuarding h g) → guards.finish g ≡ Some atoms → IsBeginning programs done
 mark_ends h done g atoms at same =
     back close_bracket done (between_goes (section_of (ruling_with h (BehindMark (Some atoms)))) (close_bracket ∷ done)
     (onward done (MarkGuarding h g) (Between (section_of (ruling_with h (BehindMark (Some atoms))))) close_bracket at
-    (ap (λ o. guarding h g o inner.Close) (close_ends_guard g atoms same) ∙ ap (λ o. guard_ended h o inner.Close) same)))
+    (ap (λ o. mark_guard_step h g o inner.Close) (close_ends_guard g atoms same) ∙ ap (λ o. guard_ended h o inner.Close) same)))
 
 mark_goes : (h : Headed) (g : guards.GuardFront) (done : List Piece) → At done (MarkGuarding h g) → IsBeginning programs done
 mark_goes h g done at =
@@ -153,7 +160,7 @@ mark_goes h g done at =
 
 square_steps : (h : Headed) (done : List Piece) (g k : guards.GuardFront) (p : inner.Piece)
     → At done (SquareGuarding h g) → guards.step g p ≡ Some k → At (In p ∷ done) (SquareGuarding h k)
-square_steps h done g k p at same = onward done (SquareGuarding h g) (SquareGuarding h k) (In p) at (ap (λ o. squared h o) same)
+square_steps h done g k p at same = onward done (SquareGuarding h g) (SquareGuarding h k) (In p) at (ap (λ o. square_guard_step h o) same)
 
 square_ends : (h : Headed) (done : List Piece) (g : guards.GuardFront) (atoms : Atoms) → At done (SquareGuarding h g) → guards.finish g ≡ Some atoms → IsBeginning programs done
 square_ends h done g atoms at same =

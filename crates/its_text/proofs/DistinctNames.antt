@@ -1,18 +1,26 @@
 -- The variables of a rule are names, and differ: each is numbered once.
-use Rattle.std.proofs.Common.{◌≡◌, Bool, true, false, if◌then◌else◌, List, [], ◌∷◌, ◌++◌, reverse, Option, Some, None, refl, ap, sym, subst, ◌∙◌}
+use Rattle.std.proofs.Common.{◌≡◌, Bool, true, false, if◌then◌else◌, List, [], ◌∷◌, ◌++◌, reverse, Option, Some, None}
+use Rattle.std.proofs.Common.{refl, ap, sym, subst, ◌∙◌}
 use Rattle.std.specs.Prelude.{⊤, codes}
 use Rattle.std.specs.List.{AllByRecursion}
 use mathlib.Core.List.{reverse-cons}
-use Rattle.model.specs.Programs.{Name}
-use Rattle.text_core.specs.Names.{IsName, is_same, is_among, AreDistinct}
-use Rattle.text_core.proofs.NameLaws.{same_equal, equal_same}
+use Rattle.expr_text.specs.model.Programs.{Name}
+use Rattle.expr_text.specs.text_core.Names.{IsName, is_same, is_among, AreDistinct}
+use Rattle.expr_text.proofs.text_core.NameLaws.{same_equal, equal_same}
 use Rattle.expr_text.specs.Pieces as inner
-use Rattle.expr_text.specs.Trees.{Sum, Alone, Added, Subtracted, Product, Single, Multiplied, Factor, Plain, Raised, Negated, Base, Number, Named, Bracketed, sum_behind, product_behind, factor_behind, base_behind}
+use Rattle.expr_text.specs.Trees.{Sum, Alone, Added, Subtracted, Product, Single, Multiplied, Factor, Plain, Raised}
+use Rattle.expr_text.specs.Trees.{Negated, Base, Number, Named, Bracketed, sum_behind, product_behind, factor_behind}
+use Rattle.expr_text.specs.Trees.{base_behind}
 use Rattle.expr_text.specs.Terms.{with_name, with_sum, with_product, with_factor, with_base}
-use Rattle.expr_text.specs.Guards.{Atom, Always, Compared, Atoms, First, Joined, with_atom, with_atoms, atom_behind, atoms_behind}
+use Rattle.expr_text.specs.Guards.{Atom, Always, Compared, Atoms, First, Joined, with_atom, with_atoms, atom_behind}
+use Rattle.expr_text.specs.Guards.{atoms_behind}
 use Rattle.its_text.specs.Pieces.{Piece, In, Comma, Arrow, GuardMark, SquareOpen, word, open_bracket}
-use Rattle.its_text.specs.Written.{LeftTerm, RightTerm, Target, Marked, Bare, Guard, NoGuard, BehindMark, InSquares, WrittenRule, Section, Goal, Start, Variables, Rules, Comment, names_behind, sums_behind, left_behind, right_behind, target_behind, maybe_behind, guard_behind, rule_behind, rules_behind, words_behind, section_behind, pieces_behind}
-use Rattle.its_text.specs.Numbering.{term_in, with_sums, with_maybe, with_guard, left_names, rule_names, or_rules, rules_of}
+use Rattle.its_text.specs.Written.{LeftTerm, RightTerm, Target, Marked, Bare, Guard, NoGuard, BehindMark, InSquares}
+use Rattle.its_text.specs.Written.{WrittenRule, Section, Goal, Start, Variables, Rules, Comment, names_behind}
+use Rattle.its_text.specs.Written.{sums_behind, left_behind, right_behind, target_behind, maybe_behind, guard_behind}
+use Rattle.its_text.specs.Written.{rule_behind, rules_behind, words_behind, section_behind, pieces_behind}
+use Rattle.its_text.specs.Numbering.{term_in, with_sums, with_maybe, with_guard, left_names, rule_names, or_rules}
+use Rattle.its_text.specs.Numbering.{rules_of}
 use Rattle.its_text.proofs.NamedPieces.{AreNamed}
 use Rattle.std.proofs.lemmas.Bool.{or_parts as neither}
 

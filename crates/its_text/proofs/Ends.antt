@@ -1,7 +1,7 @@
 -- Where a text can end, its pieces are those of the sections that have been read.
 use Rattle.std.specs.Prelude.{◌≡◌, List, [], ◌∷◌, Option, Some, None, ⊤, refl}
 use Rattle.std.proofs.Common.{◌∙◌, ap, subst}
-use Rattle.text_core.specs.Readers.{onto, next, reached}
+use Rattle.expr_text.specs.text_core.Readers.{onto, next, reached}
 use Rattle.its_text.specs.Pieces.{Piece}
 use Rattle.its_text.specs.Written.{Section}
 use Rattle.its_text.specs.Fronts.{Front, front_pieces}

@@ -3,9 +3,9 @@
 use Rattle.std.proofs.Common.{◌≡◌, ℕ, zero, suc, ◌+◌, ◌≤◌, min, Bool, true, false, not, if◌then◌else◌, ◌&&◌, ◌==◌, ◌↔◌}
 use Rattle.std.proofs.Common.{nat_le, List, [], ◌∷◌, ◌++◌, length, length-append, Option, Some, None, refl, ap, sym}
 use Rattle.std.proofs.Common.{◌∙◌, arith}
-use Rattle.model.specs.Programs.{Name}
-use Rattle.model.specs.Limits.{variable_limit, token_limit}
-use Rattle.text_core.specs.Names.{is_among}
+use Rattle.expr_text.specs.model.Programs.{Name}
+use Rattle.expr_text.specs.model.Limits.{variable_limit, token_limit}
+use Rattle.expr_text.specs.text_core.Names.{is_among}
 use Rattle.expr_text.specs.Pieces as inner
 use Rattle.expr_text.specs.Terms.{with_name}
 use Rattle.expr_text.specs.Fronts as expression
@@ -13,8 +13,8 @@ use Rattle.expr_text.specs.Steps as expression_steps
 use Rattle.expr_text.specs.FrontNames.{with_front, truth_worded, token_count, is_front, goes_on_with, begins_expression}
 use Rattle.expr_text.proofs.FrontSteps.{token_more, nothing_read, first_begins, with_piece, names_more, begins_truth}
 use Rattle.its_text.specs.Pieces.{Piece}
-use Rattle.its_text.specs.Shown as shown
-use Rattle.its_text.specs.Shown.{Going, is_operating}
+use Rattle.its_text.specs.FrontFaults as shown
+use Rattle.its_text.specs.FrontFaults.{OpenExpression, is_operating}
 use Rattle.its_text.proofs.RoomLaws.{below, not_at, is_zero, not_zero, and_true}
 use Rattle.its_text.proofs.KeptFronts.{begun}
 
@@ -61,7 +61,7 @@ room_for_name names n =
     (room.0, room.1)
 
 -- a variable more, where no atom that always holds can come
-abbrev pub plain_going : List Name → expression.Front → Going
+abbrev pub plain_going : List Name → expression.Front → OpenExpression
 plain_going names e = record { names = names; front = e; leads_atom = false }
 
 piece_room : (names : List Name) (e : expression.Front) (p : inner.Piece) (behind : Option Piece)
@@ -129,7 +129,7 @@ some_begun e some = go (token_count e) some
     go (suc n) h = omega arith
 
 -- a variable more where the atom that always holds can come
-abbrev pub leading : List Name → expression.Front → Going
+abbrev pub leading : List Name → expression.Front → OpenExpression
 leading names e = record { names = names; front = e; leads_atom = true }
 
 first_holds : (a b c : Bool) → (a && b && c) ≡ true → a ≡ true

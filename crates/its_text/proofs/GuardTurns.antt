@@ -2,8 +2,8 @@
 use Rattle.std.proofs.Common.{◌≡◌, suc, ◌+◌, ◌≤◌, Bool, true, false, not, if◌then◌else◌, ◌&&◌, ◌↔◌, is_some, List}
 use Rattle.std.proofs.Common.{length, Option, Some, None, refl, ap, sym, subst, ◌∙◌, arith}
 use Rattle.std.specs.Prelude.{⊤}
-use Rattle.model.specs.Programs.{Name}
-use Rattle.model.specs.Limits.{variable_limit, atom_limit}
+use Rattle.expr_text.specs.model.Programs.{Name}
+use Rattle.expr_text.specs.model.Limits.{variable_limit, atom_limit}
 use Rattle.expr_text.specs.Pieces as inner
 use Rattle.expr_text.specs.Trees.{Sum}
 use Rattle.expr_text.specs.Terms.{with_sum}
@@ -18,8 +18,8 @@ use Rattle.expr_text.proofs.Stability.{extended, sum_extends}
 use Rattle.expr_text.proofs.FrontSteps.{token_ended, ended_there, with_piece, names_more, names_ended, begins_truth}
 use Rattle.expr_text.proofs.FrontSteps.{truth_more, truth_goes_on, IsAlways, truth_is_one}
 use Rattle.its_text.specs.Pieces.{Piece, In}
-use Rattle.its_text.specs.Shown as shown
-use Rattle.its_text.specs.Shown.{is_full, is_operating, ends_expression}
+use Rattle.its_text.specs.FrontFaults as shown
+use Rattle.its_text.specs.FrontFaults.{is_full, is_operating, ends_expression}
 use Rattle.its_text.specs.Spelling.{IsAtomWithin, AreAtomsWithin}
 use Rattle.expr_text.proofs.NamesRead.{Extends, atoms_are_read}
 use Rattle.its_text.proofs.RoomLaws.{contrary, passes_not, and_false, atoms_stay}

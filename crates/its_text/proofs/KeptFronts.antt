@@ -2,10 +2,10 @@
 use Rattle.std.proofs.Common.{◌≡◌, ℕ, suc, ◌+◌, ◌≤◌, min, true, false, not, if◌then◌else◌, ◌&&◌, is_some, nat_le, List}
 use Rattle.std.proofs.Common.{[], ◌∷◌, length, Option, Some, None}
 use Rattle.std.specs.Prelude.{⊤}
-use Rattle.model.specs.Programs.{Name}
-use Rattle.model.specs.Limits.{rule_limit, place_limit, variable_limit, atom_limit, token_limit}
-use Rattle.poly_terms.specs.Faults as polynomials
-use Rattle.text_core.specs.Names.{is_among, AreDistinct}
+use Rattle.expr_text.specs.model.Programs.{Name}
+use Rattle.expr_text.specs.model.Limits.{rule_limit, place_limit, variable_limit, atom_limit, token_limit}
+use Rattle.expr_text.specs.poly_terms.Faults as polynomials
+use Rattle.expr_text.specs.text_core.Names.{is_among, AreDistinct}
 use Rattle.expr_text.specs.Pieces as inner
 use Rattle.expr_text.specs.Trees.{Sum}
 use Rattle.expr_text.specs.Terms.{with_sum, sum_term}
@@ -24,11 +24,13 @@ use Rattle.its_text.specs.Fronts.{TargetNamed, RightOpened, Arguing, RightShut, 
 use Rattle.its_text.specs.Fronts.{MarkGuarding, SquareOpened, SquareGuarding}
 use Rattle.its_text.specs.Steps.{guard_named}
 use Rattle.its_text.specs.FrontNames.{symbols_behind, names_with, headed_names}
-use Rattle.its_text.specs.Shown as shown
-use Rattle.its_text.specs.Shown.{is_goal, is_start, is_variables, is_rules, has, repeats, is_word, is_open, are_full}
-use Rattle.its_text.specs.Shown.{is_operator, is_operating, other_arity, bare_differs, Going, going_in}
+use Rattle.its_text.specs.FrontFaults as shown
+use Rattle.its_text.specs.FrontFaults.{is_goal, is_start, is_variables, is_rules, has, repeats, is_word, is_open}
+use Rattle.its_text.specs.FrontFaults.{are_full}
+use Rattle.its_text.specs.FrontFaults.{is_operator, is_operating, other_arity, bare_differs, OpenExpression}
+use Rattle.its_text.specs.FrontFaults.{open_expression_in}
 use Rattle.expr_text.specs.Differences.{differences, first_of_all}
-use Rattle.its_text.specs.Shown.{passes_variables, is_large, ends_expression, is_full, begins}
+use Rattle.its_text.specs.FrontFaults.{passes_variables, is_large, ends_expression, is_full, begins}
 use Rattle.its_text.specs.Spelling.{times, AreRules, HaveRules, IsShort, AreArgumentsWithin, AreAtomsWithin}
 use Rattle.its_text.specs.Spelling.{AreRulesWithin, HaveRulesWithin}
 
@@ -180,14 +182,14 @@ IsLeftQuiet arguments (Some (In (inner.Word name))) behind =
 IsLeftQuiet arguments _ behind = ⊤
 
 -- the next token of an expression leaves room, and a new variable too
-abbrev pub IsGoingQuiet : Option Going → Option Piece → Option Piece → Type 0
+abbrev pub IsGoingQuiet : Option OpenExpression → Option Piece → Option Piece → Type 0
 IsGoingQuiet (Some g) (Some (In p)) behind =
     goes_on_with g.front p ≡ true → (passes_variables g p behind ≡ false) ×
     (nat_le token_limit (token_count g.front) ≡ false)
 IsGoingQuiet _ _ behind = ⊤
 
 -- and no literal is too large
-abbrev pub IsGoingSmall : Option Going → Option Piece → Type 0
+abbrev pub IsGoingSmall : Option OpenExpression → Option Piece → Type 0
 IsGoingSmall (Some g) (Some (In p)) = goes_on_with g.front p ≡ true → is_large p ≡ false
 IsGoingSmall _ _ = ⊤
 
@@ -211,14 +213,14 @@ IsAtomExpanded names (RightSide c l sign e) next =
 pub record IsGuardQuiet (names : List Name) (g : GuardFront) (next behind : Option Piece) : Type 0 where
   pub atom : IsAtomExpanded names g next
   pub few : (is_full g && begins next) ≡ false
-  pub going : IsGoingQuiet (going_in names g) next behind
+  pub going : IsGoingQuiet (open_expression_in names g) next behind
 
 pub record IsArgumentQuiet (a : Aimed) (arguments : List Sum) (e : expression.Front) (next behind : Option Piece) : Type
     0 where
   pub argument : ends_expression e next ≡ true
       → IsArgumentExpanded (names_with a.led arguments) (expression_steps.finish e)
   pub few : shown.passes_arguments (Arguing a arguments e) next ≡ false
-  pub going : IsGoingQuiet (shown.going (Arguing a arguments e) next behind) next behind
+  pub going : IsGoingQuiet (shown.open_expression (Arguing a arguments e) next behind) next behind
 
 -- a front shows nothing against the next piece and the one behind it, their length and size aside
 abbrev pub IsQuiet : Front → Option Piece → Option Piece → Type 0
@@ -244,22 +246,22 @@ IsQuiet (ComNamed l) next behind = ⊤
 IsQuiet (ComOpened l) next behind =
     (shown.targets_again (ComOpened l) next behind ≡ false) × (shown.targets_many (ComOpened l) next behind ≡ false)
 IsQuiet (TargetNamed a) next behind = ⊤
-IsQuiet (RightOpened a) next behind = IsGoingQuiet (shown.going (RightOpened a) next behind) next behind
+IsQuiet (RightOpened a) next behind = IsGoingQuiet (shown.open_expression (RightOpened a) next behind) next behind
 IsQuiet (Arguing a arguments e) next behind = IsArgumentQuiet a arguments e next behind
 IsQuiet (RightShut l t) next behind = other_arity (with_right (symbols_behind l) t) t.name (length t.arguments) ≡ false
 IsQuiet (Targeted h) next behind =
     (bare_differs h.led h.target ≡ false) × (shown.too_many_rules (Targeted h) next behind ≡ false)
 IsQuiet (GuardMarked h) next behind =
     (shown.too_many_rules (GuardMarked h) next behind ≡ false)
-    × IsGoingQuiet (shown.going (GuardMarked h) next behind) next behind
+    × IsGoingQuiet (shown.open_expression (GuardMarked h) next behind) next behind
 IsQuiet (WordRead h name) next behind =
     (shown.too_many_rules (WordRead h name) next behind ≡ false)
-    × IsGoingQuiet (shown.going (WordRead h name) next behind) next behind
+    × IsGoingQuiet (shown.open_expression (WordRead h name) next behind) next behind
 IsQuiet (MarkGuarding h g) next behind =
     (shown.too_many_rules (MarkGuarding h g) next behind ≡ false) × IsGuardQuiet (headed_names h) g next behind
-IsQuiet (SquareOpened h) next behind = IsGoingQuiet (shown.going (SquareOpened h) next behind) next behind
+IsQuiet (SquareOpened h) next behind = IsGoingQuiet (shown.open_expression (SquareOpened h) next behind) next behind
 IsQuiet (SquareGuarding h g) next behind = IsGuardQuiet (headed_names h) g next behind
 
 -- the next piece is within its limits as a word or, where an expression goes on with it, as a literal
 abbrev pub IsNextSmall : Front → Option Piece → Option Piece → Type 0
-IsNextSmall f next behind = (shown.long_name next ≡ false) × IsGoingSmall (shown.going f next behind) next
+IsNextSmall f next behind = (shown.long_name next ≡ false) × IsGoingSmall (shown.open_expression f next behind) next

@@ -1,6 +1,9 @@
 -- Two kinds of refusals with one number are one.
 use Rattle.std.proofs.Common.{◌≡◌, ℕ, if◌then◌else◌, ◌==◌, refl, ap, sym, ◌∙◌}
-use Rattle.its_text.specs.Kinds.{TooManyRules, TooManyArguments, TooManyVariables, TooManyAtoms, LongName, TooManyTokens, TooManyTerms, HighDegree, Kind, NotAscii, Syntax, MissingSection, RepeatedSection, ManyTargets, LeftNotVariable, LeftRepeated, ArityDiffers, NumberTooLarge, Limit, StartUnknown, Disjunction, kind_number}
+use Rattle.its_text.specs.Kinds.{TooManyRules, TooManyArguments, TooManyVariables, TooManyAtoms, LongName}
+use Rattle.its_text.specs.Kinds.{TooManyTokens, TooManyTerms, HighDegree, Kind, NotAscii, Syntax, MissingSection}
+use Rattle.its_text.specs.Kinds.{RepeatedSection, ManyTargets, LeftNotVariable, LeftRepeated, ArityDiffers}
+use Rattle.its_text.specs.Kinds.{NumberTooLarge, Limit, StartUnknown, Disjunction, kind_number}
 
 -- the kind with a number
 abbrev kind_at : ℕ → Kind

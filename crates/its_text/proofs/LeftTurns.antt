@@ -2,18 +2,18 @@
 -- rule's beginning up to the name of its target.
 use Rattle.std.proofs.Common.{◌≡◌, Bool, true, false, not, if◌then◌else◌, ◌&&◌, ◌↔◌, nat_le, codes, List, [], ◌∷◌}
 use Rattle.std.proofs.Common.{length, Some, refl, ap, sym, ◌∙◌, arith}
-use Rattle.model.specs.Programs.{Name}
-use Rattle.model.specs.Limits.{rule_limit, place_limit}
-use Rattle.text_core.specs.Names.{is_same, is_among}
-use Rattle.text_core.proofs.NameLaws.{same_equal}
+use Rattle.expr_text.specs.model.Programs.{Name}
+use Rattle.expr_text.specs.model.Limits.{rule_limit, place_limit}
+use Rattle.expr_text.specs.text_core.Names.{is_same, is_among}
+use Rattle.expr_text.proofs.text_core.NameLaws.{same_equal}
 use Rattle.expr_text.specs.Pieces as inner
 use Rattle.its_text.specs.Pieces.{Piece, In, Comma, Arrow, word}
 use Rattle.its_text.specs.Numbering.{is_com}
 use Rattle.its_text.specs.Fronts.{Ruling, Led, Alone, Aimed, Ruled, LeftOpened, LeftRead, LeftParted, LeftShut, Arrowed}
 use Rattle.its_text.specs.Fronts.{ComNamed, ComOpened, TargetNamed}
-use Rattle.its_text.specs.Steps.{aimed, behind_rule, step}
+use Rattle.its_text.specs.Steps.{behind_target_name, behind_rule, step}
 use Rattle.its_text.specs.FrontNames.{symbols_behind}
-use Rattle.its_text.specs.Shown.{is_open}
+use Rattle.its_text.specs.FrontFaults.{is_open}
 use Rattle.its_text.proofs.RoomLaws.{below, not_at, and_true, arity_same}
 use Rattle.its_text.proofs.KeptFronts.{first, IsRulingKept, IsOpenRuling, AreLeft}
 use Rattle.its_text.proofs.SectionTurns.{Turns, rules_done}
@@ -106,7 +106,7 @@ inside_com false false o k = (λ h. (refl, refl), λ h. refl)
 
 -- a name behind the arrow keeps the limits exactly where the front is quiet
 pub arrowed_turns : (l : Led) (name : Name) (ps : List Piece) (v : Bool) → is_same name (codes "Com_1") ≡ v
-    → Turns (Arrowed l) (word name) ps (Some (if v then ComNamed l else aimed l Alone name))
+    → Turns (Arrowed l) (word name) ps (Some (if v then ComNamed l else behind_target_name l Alone name))
 arrowed_turns l name ps true e =
     let quiet : (is_com name && not (is_same name (codes "Com_1")) && is_open (first ps)) ≡ false
     = ap (λ (v : Bool). is_com name && not v && is_open (first ps)) e ∙ com_open (is_com name) (is_open (first ps)) in

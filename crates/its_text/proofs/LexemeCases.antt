@@ -3,10 +3,10 @@ use Rattle.std.proofs.Common.{◌≡◌, ℕ, ◌+◌, Bool, true, false, if◌t
 use Rattle.std.proofs.Common.{Option, Some, None, refl}
 use Rattle.std.specs.Prelude.{⊤}
 use Rattle.std.specs.Char.{is_ascii_digit}
-use Rattle.text_core.specs.Prefixes.{prefix}
-use Rattle.text_core.specs.Names.{begins_name, continues_name}
-use Rattle.text_core.specs.Bytes.{is_white_space, begins_with}
-use Rattle.text_core.specs.Tokens.{Lexeme}
+use Rattle.expr_text.specs.text_core.Prefixes.{prefix}
+use Rattle.expr_text.specs.text_core.Names.{begins_name, continues_name}
+use Rattle.expr_text.specs.text_core.Bytes.{is_white_space, begins_with}
+use Rattle.expr_text.specs.text_core.Tokens.{Lexeme}
 use Rattle.expr_text.specs.Pieces as inner
 use Rattle.its_text.specs.Pieces.{Piece, In, word, digits}
 use Rattle.its_text.specs.Lexing.{lexeme, minus_at, related_at, guard_mark_at, mark_at, lexeme_at, closing_at, Mode}

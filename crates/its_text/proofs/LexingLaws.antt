@@ -1,16 +1,20 @@
 -- Each piece of a program's text has a byte at least, and no more than there are; so its tokens stand in order.
-use Rattle.std.proofs.Common.{◌≡◌, ℕ, zero, suc, ◌+◌, ◌<◌, ◌≤◌, Bool, true, false, if◌then◌else◌, ◌&&◌, ◌==◌, nat_lt, List, [], ◌∷◌, length, length-append, Option, Some, None, ap, subst, arith}
+use Rattle.std.proofs.Common.{◌≡◌, ℕ, zero, suc, ◌+◌, ◌<◌, ◌≤◌, Bool, true, false, if◌then◌else◌, ◌&&◌, ◌==◌, nat_lt}
+use Rattle.std.proofs.Common.{List, [], ◌∷◌, length, length-append, Option, Some, None, ap, subst, arith}
 use Rattle.std.specs.Prelude.{⊤}
 use Rattle.std.specs.Char.{is_ascii_digit}
-use Rattle.text_core.specs.Prefixes.{prefix, rest}
-use Rattle.text_core.specs.Names.{begins_name, continues_name}
-use Rattle.text_core.specs.Bytes.{is_white_space, begins_with}
-use Rattle.text_core.specs.Tokens.{Lexeme, LexesWithin, AreInOrder}
-use Rattle.text_core.proofs.PrefixLaws.{prefix-rest}
-use Rattle.text_core.proofs.Lexing.{in_order_in}
+use Rattle.expr_text.specs.text_core.Prefixes.{prefix, rest}
+use Rattle.expr_text.specs.text_core.Names.{begins_name, continues_name}
+use Rattle.expr_text.specs.text_core.Bytes.{is_white_space, begins_with}
+use Rattle.expr_text.specs.text_core.Tokens.{Lexeme, LexesWithin, AreInOrder}
+use Rattle.expr_text.proofs.text_core.PrefixLaws.{prefix-rest}
+use Rattle.expr_text.proofs.text_core.Lexing.{in_order_in}
 use Rattle.expr_text.specs.Pieces as inner
-use Rattle.its_text.specs.Pieces.{Piece, In, Comma, SquareOpen, SquareClose, Disjoining, Wrong, Strange, open_bracket, close_bracket}
-use Rattle.its_text.specs.Lexing.{lexeme, minus_at, related_at, pair_at, guard_mark_at, mark_at, lexeme_at, Bend, Opening, Closing, Neither, bend_of, one_more, closing_by, closing_at, Mode, Outside, AtKeyword, Within, InComment, remark_of, lexeme_in, lexer, tokens_of}
+use Rattle.its_text.specs.Pieces.{Piece, In, Comma, SquareOpen, SquareClose, Disjoining, Wrong, Strange, open_bracket}
+use Rattle.its_text.specs.Pieces.{close_bracket}
+use Rattle.its_text.specs.Lexing.{lexeme, minus_at, related_at, pair_at, guard_mark_at, mark_at, lexeme_at, Bend}
+use Rattle.its_text.specs.Lexing.{Opening, Closing, Neither, bend_of, one_more, closing_by, closing_at, Mode, Outside}
+use Rattle.its_text.specs.Lexing.{AtKeyword, Within, InComment, remark_of, lexeme_in, lexer, tokens_of}
 
 -- a lexeme has a byte at least, and no more than so many
 abbrev Fits : ℕ → Lexeme (Option Piece) → Type 0

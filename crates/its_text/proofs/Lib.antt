@@ -33,3 +33,5 @@ pub mod WordTurns
 pub mod StepTurns
 pub mod SmallPieces
 pub mod SpelledVerdicts
+-- the lemmas of the crates below, which callers name through this one
+pub use Rattle.expr_text.proofs as expr_text

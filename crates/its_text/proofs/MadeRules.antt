@@ -1,7 +1,7 @@
 -- Rules are within the limits with one more exactly where its head and its guard are: names and symbols that come
 -- later change nothing of what came before.
 use Rattle.std.proofs.Common.{◌≤◌, ◌↔◌, length, Some, None, sym, ◌∙◌, arith}
-use Rattle.model.specs.Limits.{variable_limit}
+use Rattle.expr_text.specs.model.Limits.{variable_limit}
 use Rattle.expr_text.specs.Guards.{Atoms}
 use Rattle.its_text.specs.Written.{Guard, NoGuard, BehindMark, InSquares}
 use Rattle.its_text.specs.Numbering.{term_in, symbols_of, left_names, rule_names}

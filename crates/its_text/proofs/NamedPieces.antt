@@ -1,10 +1,10 @@
 -- Each word of a program's text is a name.
 use Rattle.std.proofs.Common.{ℕ, zero, suc, ◌+◌, ◌-◌, List, [], ◌∷◌, Option, Some, None}
 use Rattle.std.specs.Prelude.{⊤}
-use Rattle.text_core.specs.Names.{IsName, continues_name}
-use Rattle.text_core.specs.Tokens.{Token, pieces, token_then, tokens_in}
-use Rattle.text_core.specs.Readers.{onto}
-use Rattle.text_core.proofs.PrefixLaws.{all_prefix}
+use Rattle.expr_text.specs.text_core.Names.{IsName, continues_name}
+use Rattle.expr_text.specs.text_core.Tokens.{Token, pieces, token_then, tokens_in}
+use Rattle.expr_text.specs.text_core.Readers.{onto}
+use Rattle.expr_text.proofs.text_core.PrefixLaws.{all_prefix}
 use Rattle.expr_text.specs.Pieces as inner
 use Rattle.its_text.specs.Pieces.{Piece, In, word}
 use Rattle.its_text.proofs.LexemeCases.{IsMark, HoldsOfPieces, of_lexeme}

@@ -1,32 +1,43 @@
 -- What a front shows stands at the last byte that was read or at the next token.
-use Rattle.std.specs.Prelude.{◌≡◌, ℕ, ◌≤◌, Bool, true, false, nat_le, length, if◌then◌else◌, List, [], ◌∷◌, ◌++◌, Option, Some, None, ◌⊎◌, ⊤, refl}
+use Rattle.std.specs.Prelude.{◌≡◌, ℕ, ◌≤◌, Bool, true, false, nat_le, length, if◌then◌else◌, List, [], ◌∷◌, ◌++◌}
+use Rattle.std.specs.Prelude.{Option, Some, None, ◌⊎◌, ⊤, refl}
 use Rattle.std.proofs.Common.{◌∙◌, ap, inl, inr, arith}
-use Rattle.model.specs.Programs.{Name}
-use Rattle.model.specs.Limits.{place_limit, token_limit}
-use Rattle.text_core.specs.Readers.{Fault}
-use Rattle.text_core.specs.Faults.{Among, next_at}
-use Rattle.text_core.specs.Stopping.{last_at as last_token_at, IsBehind, ShowsBehind}
-use Rattle.poly_terms.specs.Faults as polynomials
+use Rattle.expr_text.specs.model.Programs.{Name}
+use Rattle.expr_text.specs.model.Limits.{place_limit, token_limit}
+use Rattle.expr_text.specs.text_core.Readers.{Fault}
+use Rattle.expr_text.specs.text_core.Faults.{Among, next_at}
+use Rattle.expr_text.specs.text_core.Stopping.{last_at as last_token_at, IsBehind, ShowsBehind}
+use Rattle.expr_text.specs.poly_terms.Faults as polynomials
 use Rattle.expr_text.specs.Pieces as inner
 use Rattle.expr_text.specs.Trees.{Sum}
 use Rattle.expr_text.specs.Steps as expression_steps
 use Rattle.expr_text.specs.GuardFronts.{GuardFront, LeftSide, RightSide}
 use Rattle.expr_text.specs.FrontNames.{before_expression, goes_on_with, token_count}
-use Rattle.its_text.specs.Pieces.{Piece, In, Comma, Arrow, GuardMark, SquareOpen, SquareClose, Disjoining, Remark, Wrong, Strange}
-use Rattle.its_text.specs.Fronts.{Front, Between, Opened, GoalNamed, GoalSaid, StartNamed, StartOpened, StartListed, StartSaid, StartShut, Listing, CommentNamed, Ruled, SourceNamed, LeftOpened, LeftRead, LeftParted, LeftShut, Arrowed, ComNamed, ComOpened, TargetNamed, RightOpened, Arguing, RightShut, Targeted, GuardMarked, WordRead, MarkGuarding, SquareOpened, SquareGuarding}
+use Rattle.its_text.specs.Pieces.{Piece, In, Comma, Arrow, GuardMark, SquareOpen, SquareClose, Disjoining, Remark}
+use Rattle.its_text.specs.Pieces.{Wrong, Strange}
+use Rattle.its_text.specs.Fronts.{Front, Between, Opened, GoalNamed, GoalSaid, StartNamed, StartOpened, StartListed}
+use Rattle.its_text.specs.Fronts.{StartSaid, StartShut, Listing, CommentNamed, Ruled, SourceNamed, LeftOpened, LeftRead}
+use Rattle.its_text.specs.Fronts.{LeftParted, LeftShut, Arrowed, ComNamed, ComOpened, TargetNamed, RightOpened, Arguing}
+use Rattle.its_text.specs.Fronts.{RightShut, Targeted, GuardMarked, WordRead, MarkGuarding, SquareOpened}
+use Rattle.its_text.specs.Fronts.{SquareGuarding}
 use Rattle.its_text.specs.FrontNames.{names_with, headed_names}
-use Rattle.text_core.specs.Names.{is_among}
-use Rattle.its_text.specs.Kinds.{Kind, TooManyRules, TooManyArguments, TooManyVariables, TooManyAtoms, LongName, TooManyTokens, Syntax, RepeatedSection, ManyTargets, LeftNotVariable, LeftRepeated, ArityDiffers, NumberTooLarge, Limit}
+use Rattle.expr_text.specs.text_core.Names.{is_among}
+use Rattle.its_text.specs.Kinds.{Kind, TooManyRules, TooManyArguments, TooManyVariables, TooManyAtoms, LongName}
+use Rattle.its_text.specs.Kinds.{TooManyTokens, Syntax, RepeatedSection, ManyTargets, LeftNotVariable, LeftRepeated}
+use Rattle.its_text.specs.Kinds.{ArityDiffers, NumberTooLarge, Limit}
 use Rattle.its_text.specs.Grammar.{programs}
-use Rattle.its_text.specs.Shown as shown
-use Rattle.its_text.specs.Shown.{Tokens, Found, fault_if, last_byte, next_piece, piece_behind, left_wanted, left_of, going_faults, token_faults, going, Going, expansion_faults, argument_faults, right_side_faults, ends_expression, atom_faults, ended_faults, shown_next, shown_last}
+use Rattle.its_text.specs.FrontFaults as shown
+use Rattle.its_text.specs.FrontFaults.{Tokens, FaultList, fault_if, last_byte, next_piece, piece_behind, left_wanted}
+use Rattle.its_text.specs.FrontFaults.{left_of, expression_faults, token_faults, open_expression, OpenExpression}
+use Rattle.its_text.specs.FrontFaults.{expansion_faults, argument_faults, right_side_faults, ends_expression}
+use Rattle.its_text.specs.FrontFaults.{atom_faults, ended_faults, next_faults, last_faults}
 
 -- each fault of a list stands at a position
-abbrev pub StandAt : ℕ → Found → Type 0
+abbrev pub StandAt : ℕ → FaultList → Type 0
 StandAt at [] = ⊤
 StandAt at (x ∷ xs) = (x.at ≡ at) × StandAt at xs
 
-both : (at : ℕ) (xs ys : Found) → StandAt at xs → StandAt at ys → StandAt at (xs ++ ys)
+both : (at : ℕ) (xs ys : FaultList) → StandAt at xs → StandAt at ys → StandAt at (xs ++ ys)
 both at [] ys a b = b
 both at (x ∷ xs) ys a b = (a.0, both at xs ys a.1 b)
 
@@ -34,10 +45,10 @@ if_at : (test : Bool) (kind : Kind) (at : ℕ) → StandAt at (fault_if test kin
 if_at true kind at = (refl, tt)
 if_at false kind at = tt
 
-then_if : (at : ℕ) (xs : Found) (test : Bool) (kind : Kind) → StandAt at xs → StandAt at (xs ++ fault_if test kind at)
+then_if : (at : ℕ) (xs : FaultList) (test : Bool) (kind : Kind) → StandAt at xs → StandAt at (xs ++ fault_if test kind at)
 then_if at xs test kind h = both at xs (fault_if test kind at) h (if_at test kind at)
 
-choice_at : (at : ℕ) (test : Bool) (xs : Found) → StandAt at xs → StandAt at (if test then xs else [])
+choice_at : (at : ℕ) (test : Bool) (xs : FaultList) → StandAt at xs → StandAt at (if test then xs else [])
 choice_at at true xs h = h
 choice_at at false xs h = tt
 
@@ -82,15 +93,15 @@ left_at at (Some arguments) (Some (Remark bytes)) behind = tt
 left_at at (Some arguments) (Some Wrong) behind = tt
 left_at at (Some arguments) (Some Strange) behind = tt
 
-going_at : (at : ℕ) (g : Going) (p : inner.Piece) (behind : Option Piece) → StandAt at (going_faults at g p behind)
+going_at : (at : ℕ) (g : OpenExpression) (p : inner.Piece) (behind : Option Piece) → StandAt at (expression_faults at g p behind)
 going_at at g p behind =
     then_if at (fault_if (shown.is_large p) NumberTooLarge at ++ fault_if (shown.passes_variables g p behind) (Limit TooManyVariables) at) (nat_le token_limit (token_count g.front)) (Limit TooManyTokens)
     (then_if at (fault_if (shown.is_large p) NumberTooLarge at) (shown.passes_variables g p behind) (Limit TooManyVariables) (if_at (shown.is_large p) NumberTooLarge at))
 
-token_at : (at : ℕ) (o : Option Going) (next behind : Option Piece) → StandAt at (token_faults at o next behind)
+token_at : (at : ℕ) (o : Option OpenExpression) (next behind : Option Piece) → StandAt at (token_faults at o next behind)
 token_at at None next behind = tt
 token_at at (Some g) None behind = tt
-token_at at (Some g) (Some (In p)) behind = choice_at at (goes_on_with g.front p) (going_faults at g p behind) (going_at at g p behind)
+token_at at (Some g) (Some (In p)) behind = choice_at at (goes_on_with g.front p) (expression_faults at g p behind) (going_at at g p behind)
 token_at at (Some g) (Some Comma) behind = tt
 token_at at (Some g) (Some Arrow) behind = tt
 token_at at (Some g) (Some GuardMark) behind = tt
@@ -134,24 +145,24 @@ ended_at at (SquareOpened h) next = tt
 ended_at at (SquareGuarding h g) next = atom_at at (headed_names h) g next
 
 -- each fault that is shown at the last byte stands there
-pub last_at : (at : ℕ) (f : Front) (next : Option Piece) → StandAt at (shown_last at f next)
-last_at at f next = both at (fault_if (shown.differs f) ArityDiffers at) (ended_faults at f next) (if_at (shown.differs f) ArityDiffers at) (ended_at at f next)
+pub last_at : (at : ℕ) (f : Front) (next : Option Piece) → StandAt at (last_faults at f next)
+last_at at f next = both at (fault_if (shown.has_other_arity f) ArityDiffers at) (ended_faults at f next) (if_at (shown.has_other_arity f) ArityDiffers at) (ended_at at f next)
 
 -- each fault that is shown at the next token stands there
-pub next_stands : (at : ℕ) (f : Front) (next behind : Option Piece) → StandAt at (shown_next at f next behind)
+pub next_stands : (at : ℕ) (f : Front) (next behind : Option Piece) → StandAt at (next_faults at f next behind)
 next_stands at f next behind =
-    both at (fault_if (shown.targets_again f next behind) Syntax at ++ fault_if (shown.repeats_at f next behind) RepeatedSection at ++ fault_if (shown.targets_many f next behind) ManyTargets at ++ left_of at (left_wanted f) next behind ++ fault_if (shown.too_many_rules f next behind) (Limit TooManyRules) at ++ fault_if (shown.passes_arguments f next) (Limit TooManyArguments) at ++ fault_if (shown.another_atom f next) (Limit TooManyAtoms) at ++ fault_if (shown.long_name next) (Limit LongName) at) (token_faults at (going f next behind) next behind)
+    both at (fault_if (shown.targets_again f next behind) Syntax at ++ fault_if (shown.repeats_at f next behind) RepeatedSection at ++ fault_if (shown.targets_many f next behind) ManyTargets at ++ left_of at (left_wanted f) next behind ++ fault_if (shown.too_many_rules f next behind) (Limit TooManyRules) at ++ fault_if (shown.passes_arguments f next) (Limit TooManyArguments) at ++ fault_if (shown.another_atom f next) (Limit TooManyAtoms) at ++ fault_if (shown.long_name next) (Limit LongName) at) (token_faults at (open_expression f next behind) next behind)
     (then_if at (fault_if (shown.targets_again f next behind) Syntax at ++ fault_if (shown.repeats_at f next behind) RepeatedSection at ++ fault_if (shown.targets_many f next behind) ManyTargets at ++ left_of at (left_wanted f) next behind ++ fault_if (shown.too_many_rules f next behind) (Limit TooManyRules) at ++ fault_if (shown.passes_arguments f next) (Limit TooManyArguments) at ++ fault_if (shown.another_atom f next) (Limit TooManyAtoms) at) (shown.long_name next) (Limit LongName) (then_if at (fault_if (shown.targets_again f next behind) Syntax at ++ fault_if (shown.repeats_at f next behind) RepeatedSection at ++ fault_if (shown.targets_many f next behind) ManyTargets at ++ left_of at (left_wanted f) next behind ++ fault_if (shown.too_many_rules f next behind) (Limit TooManyRules) at ++ fault_if (shown.passes_arguments f next) (Limit TooManyArguments) at) (shown.another_atom f next) (Limit TooManyAtoms) (then_if at (fault_if (shown.targets_again f next behind) Syntax at ++ fault_if (shown.repeats_at f next behind) RepeatedSection at ++ fault_if (shown.targets_many f next behind) ManyTargets at ++ left_of at (left_wanted f) next behind ++ fault_if (shown.too_many_rules f next behind) (Limit TooManyRules) at) (shown.passes_arguments f next) (Limit TooManyArguments) (then_if at (fault_if (shown.targets_again f next behind) Syntax at ++ fault_if (shown.repeats_at f next behind) RepeatedSection at ++ fault_if (shown.targets_many f next behind) ManyTargets at ++ left_of at (left_wanted f) next behind) (shown.too_many_rules f next behind) (Limit TooManyRules) (both at (fault_if (shown.targets_again f next behind) Syntax at ++ fault_if (shown.repeats_at f next behind) RepeatedSection at ++ fault_if (shown.targets_many f next behind) ManyTargets at) (left_of at (left_wanted f) next behind) (then_if at (fault_if (shown.targets_again f next behind) Syntax at ++ fault_if (shown.repeats_at f next behind) RepeatedSection at) (shown.targets_many f next behind) ManyTargets (then_if at (fault_if (shown.targets_again f next behind) Syntax at) (shown.repeats_at f next behind) RepeatedSection (if_at (shown.targets_again f next behind) Syntax at))) (left_at at (left_wanted f) next behind))))))
-    (token_at at (going f next behind) next behind)
+    (token_at at (open_expression f next behind) next behind)
 
 -- a fault that is among those at one position stands there
-pub among_at : (at : ℕ) (x : Fault Kind) (xs : Found) → StandAt at xs → Among x xs → x.at ≡ at
+pub among_at : (at : ℕ) (x : Fault Kind) (xs : FaultList) → StandAt at xs → Among x xs → x.at ≡ at
 among_at at x [] h m = absurd m
 among_at at x (y ∷ ys) h (inl same) = ap (λ z. z.at) same ∙ h.0
 among_at at x (y ∷ ys) h (inr more) = among_at at x ys h.1 more
 
 -- a fault that is among two lists is among the one or the other
-pub split : (x : Fault Kind) (xs ys : Found) → Among x (xs ++ ys) → (Among x xs) ⊎ (Among x ys)
+pub split : (x : Fault Kind) (xs ys : FaultList) → Among x (xs ++ ys) → (Among x xs) ⊎ (Among x ys)
 split x [] ys m = inr m
 split x (y ∷ xs) ys (inl same) = inl (inl same)
 split x (y ∷ xs) ys (inr more) = go (split x xs ys more)
@@ -161,10 +172,10 @@ split x (y ∷ xs) ys (inr more) = go (split x xs ys more)
     go (inr m) = inr m
 
 -- what a front shows stands at the last byte that was read, or at the next token
-pub stands : (n : ℕ) (done : Tokens) (f : Front) (rest : Tokens) (x : Fault Kind) → Among x (shown.shown n done f rest) → (x.at ≡ last_byte done) ⊎ (x.at ≡ next_at n rest)
-stands n done f rest x m = go (split x (shown_last (last_byte done) f (next_piece rest)) _ m)
+pub stands : (n : ℕ) (done : Tokens) (f : Front) (rest : Tokens) (x : Fault Kind) → Among x (shown.front_faults n done f rest) → (x.at ≡ last_byte done) ⊎ (x.at ≡ next_at n rest)
+stands n done f rest x m = go (split x (last_faults (last_byte done) f (next_piece rest)) _ m)
   where
-    go : (Among x (shown_last (last_byte done) f (next_piece rest))) ⊎ (Among x (shown_next (next_at n rest) f (next_piece rest) (piece_behind rest))) → (x.at ≡ last_byte done) ⊎ (x.at ≡ next_at n rest)
+    go : (Among x (last_faults (last_byte done) f (next_piece rest))) ⊎ (Among x (next_faults (next_at n rest) f (next_piece rest) (piece_behind rest))) → (x.at ≡ last_byte done) ⊎ (x.at ≡ next_at n rest)
     go (inl a) = inl (among_at (last_byte done) x _ (last_at (last_byte done) f (next_piece rest)) a)
     go (inr a) = inr (among_at (next_at n rest) x _ (next_stands (next_at n rest) f (next_piece rest) (piece_behind rest)) a)
 

@@ -1,10 +1,10 @@
 -- A front shows nothing exactly where it is quiet about the next piece, and that one is small.
 use Rattle.std.proofs.Common.{◌≡◌, ℕ, Bool, true, false, if◌then◌else◌, ◌↔◌, nat_le, List, [], ◌∷◌, ◌++◌, length}
 use Rattle.std.proofs.Common.{Option, Some, None, refl, ap, ◌∙◌}
-use Rattle.model.specs.Programs.{Name}
-use Rattle.model.specs.Limits.{place_limit, token_limit}
-use Rattle.poly_terms.specs.Faults as polynomials
-use Rattle.text_core.specs.Names.{is_among}
+use Rattle.expr_text.specs.model.Programs.{Name}
+use Rattle.expr_text.specs.model.Limits.{place_limit, token_limit}
+use Rattle.expr_text.specs.poly_terms.Faults as polynomials
+use Rattle.expr_text.specs.text_core.Names.{is_among}
 use Rattle.expr_text.specs.Pieces as inner
 use Rattle.expr_text.specs.Trees.{Sum}
 use Rattle.expr_text.specs.Terms.{with_sum}
@@ -22,19 +22,21 @@ use Rattle.its_text.specs.Fronts.{SquareOpened, SquareGuarding}
 use Rattle.its_text.specs.FrontNames.{names_with, headed_names}
 use Rattle.its_text.specs.Kinds.{TooManyArguments, TooManyVariables, TooManyTokens, Kind, LeftNotVariable, LeftRepeated}
 use Rattle.its_text.specs.Kinds.{NumberTooLarge, Limit}
-use Rattle.its_text.specs.Shown as shown
-use Rattle.its_text.specs.Shown.{Found, fault_if, left_of, left_wanted, Going, going_faults, token_faults}
-use Rattle.its_text.specs.Shown.{ends_expression, expansion_faults, argument_faults, right_side_faults, atom_faults}
-use Rattle.its_text.specs.Shown.{ended_faults, shown_last, shown_next}
+use Rattle.its_text.specs.FrontFaults as shown
+use Rattle.its_text.specs.FrontFaults.{FaultList, fault_if, left_of, left_wanted, OpenExpression, expression_faults}
+use Rattle.its_text.specs.FrontFaults.{token_faults}
+use Rattle.its_text.specs.FrontFaults.{ends_expression, expansion_faults, argument_faults, right_side_faults}
+use Rattle.its_text.specs.FrontFaults.{atom_faults}
+use Rattle.its_text.specs.FrontFaults.{ended_faults, last_faults, next_faults}
 use Rattle.its_text.proofs.KeptFronts.{IsLeftQuiet, IsGoingQuiet, IsGoingSmall, IsArgumentExpanded, IsRightExpanded}
 use Rattle.its_text.proofs.KeptFronts.{IsAtomExpanded, IsQuiet, IsNextSmall}
 
 -- nothing in two lists is nothing in each
-neither : (xs ys : Found) → xs ++ ys ≡ [] → (xs ≡ []) × (ys ≡ [])
+neither : (xs ys : FaultList) → xs ++ ys ≡ [] → (xs ≡ []) × (ys ≡ [])
 neither [] ys h = (refl, h)
 neither (x ∷ xs) ys h = cc
 
-both : (xs ys : Found) → xs ≡ [] → ys ≡ [] → xs ++ ys ≡ []
+both : (xs ys : FaultList) → xs ≡ [] → ys ≡ [] → xs ++ ys ≡ []
 both xs ys a b = ap (λ zs. zs ++ ys) a ∙ b
 
 -- a test shows nothing exactly where it fails
@@ -42,7 +44,7 @@ if_quiet : (test : Bool) (kind : Kind) (at : ℕ) → (fault_if test kind at ≡
 if_quiet true kind at = (λ h. cc, λ h. cc)
 if_quiet false kind at = (λ h. refl, λ h. refl)
 
-choice_quiet : (test : Bool) (xs : Found) → ((if test then xs else []) ≡ []) ↔ (test ≡ true → xs ≡ [])
+choice_quiet : (test : Bool) (xs : FaultList) → ((if test then xs else []) ≡ []) ↔ (test ≡ true → xs ≡ [])
 choice_quiet true xs = (λ h e. h, λ h. h refl)
 choice_quiet false xs = (λ h e. cc, λ h. refl)
 
@@ -110,14 +112,14 @@ left_quiet at arguments (Some Wrong) behind = (λ h. tt, λ h. refl)
 left_quiet at arguments (Some Strange) behind = (λ h. tt, λ h. refl)
 
 -- the next token of an expression shows nothing exactly where it leaves room and is small
-record IsTokenQuiet (o : Option Going) (next behind : Option Piece) : Type 0 where
+record IsTokenQuiet (o : Option OpenExpression) (next behind : Option Piece) : Type 0 where
   going : IsGoingQuiet o next behind
   small : IsGoingSmall o next
 
-going_in_quiet : (at : ℕ) (g : Going) (p : inner.Piece) (behind : Option Piece)
+going_in_quiet : (at : ℕ) (g : OpenExpression) (p : inner.Piece) (behind : Option Piece)
     → (token_faults at (Some g) (Some (In p)) behind ≡ []) ↔ IsTokenQuiet (Some g) (Some (In p)) behind
 going_in_quiet at g p behind =
-    let o = choice_quiet (goes_on_with g.front p) (going_faults at g p behind) in
+    let o = choice_quiet (goes_on_with g.front p) (expression_faults at g p behind) in
     let a = if_quiet (shown.is_large p) NumberTooLarge at in
     let b = if_quiet (shown.passes_variables g p behind) (Limit TooManyVariables) at in
     let c = if_quiet (nat_le token_limit (token_count g.front)) (Limit TooManyTokens) at in (
@@ -129,7 +131,7 @@ going_in_quiet at g p behind =
       λ h. o.1 (λ k. both _ _ (both _ _ (a.1 (h.small k)) (b.1 (h.going k).0)) (c.1 (h.going k).1)),
     )
 
-token_quiet : (at : ℕ) (o : Option Going) (next behind : Option Piece) → (token_faults at o next behind ≡ [])
+token_quiet : (at : ℕ) (o : Option OpenExpression) (next behind : Option Piece) → (token_faults at o next behind ≡ [])
     ↔ IsTokenQuiet o next behind
 token_quiet at None next behind = (λ h. record { going = tt; small = tt }, λ h. refl)
 token_quiet at (Some g) None behind = (λ h. record { going = tt; small = tt }, λ h. refl)
@@ -146,7 +148,7 @@ token_quiet at (Some g) (Some Strange) behind = (λ h. record { going = tt; smal
 
 -- what a front shows is nothing where each part is
 record IsSilent (last at : ℕ) (f : Front) (next behind : Option Piece) : Type 0 where
-  arity : shown.differs f ≡ false
+  arity : shown.has_other_arity f ≡ false
   ended : ended_faults last f next ≡ []
   again : shown.targets_again f next behind ≡ false
   repeated : shown.repeats_at f next behind ≡ false
@@ -156,12 +158,12 @@ record IsSilent (last at : ℕ) (f : Front) (next behind : Option Piece) : Type 
   arguments : shown.passes_arguments f next ≡ false
   atoms : shown.another_atom f next ≡ false
   name : shown.long_name next ≡ false
-  tokens : token_faults at (shown.going f next behind) next behind ≡ []
+  tokens : token_faults at (shown.open_expression f next behind) next behind ≡ []
 
 silent : (last at : ℕ) (f : Front) (next behind : Option Piece)
-    → shown_last last f next ++ shown_next at f next behind ≡ [] → IsSilent last at f next behind
+    → last_faults last f next ++ next_faults at f next behind ≡ [] → IsSilent last at f next behind
 silent last at f next behind h =
-    let s = neither (shown_last last f next) _ h in
+    let s = neither (last_faults last f next) _ h in
     let l = neither _ _ s.0 in
     let j = neither _ _ s.1 in
     let i = neither _ _ j.0 in
@@ -186,7 +188,7 @@ silent last at f next behind h =
     }
 
 shows_none : (last at : ℕ) (f : Front) (next behind : Option Piece) → IsSilent last at f next behind
-    → shown_last last f next ++ shown_next at f next behind ≡ []
+    → last_faults last f next ++ next_faults at f next behind ≡ []
 shows_none last at f next behind s =
     both _ _ (both _ _ ((if_quiet _ _ _).1 s.arity) s.ended)
     (both _ _
@@ -217,12 +219,13 @@ module _ (last at : ℕ) (next behind : Option Piece) where
       (λ h k. x.0 (o.0 h k), λ h. o.1 (λ k. x.1 (h k)))
 
   -- the next token of the expression that is being read, if there is one
-  going_of : (f : Front) → IsSilent last at f next behind → IsGoingQuiet (shown.going f next behind) next behind
-  going_of f s = ((token_quiet at (shown.going f next behind) next behind).0 s.tokens).going
+  going_of : (f : Front) → IsSilent last at f next behind → IsGoingQuiet (shown.open_expression f next behind) next behind
+  going_of f s = ((token_quiet at (shown.open_expression f next behind) next behind).0 s.tokens).going
 
-  token_of : (f : Front) → IsGoingQuiet (shown.going f next behind) next behind → IsNextSmall f next behind
-      → token_faults at (shown.going f next behind) next behind ≡ []
-  token_of f q m = (token_quiet at (shown.going f next behind) next behind).1 (record { going = q; small = m.1 })
+  token_of : (f : Front) → IsGoingQuiet (shown.open_expression f next behind) next behind → IsNextSmall f next behind
+      → token_faults at (shown.open_expression f next behind) next behind ≡ []
+  token_of f q m =
+      (token_quiet at (shown.open_expression f next behind) next behind).1 (record { going = q; small = m.1 })
 
   -- what is silent is quiet
   quiet_of : (f : Front) → IsSilent last at f next behind → IsQuiet f next behind
@@ -278,12 +281,12 @@ module _ (last at : ℕ) (next behind : Option Piece) where
       }
 
   -- all parts of what a front shows are nothing
-  all_silent : (f : Front) → shown.differs f ≡ false → ended_faults last f next ≡ []
+  all_silent : (f : Front) → shown.has_other_arity f ≡ false → ended_faults last f next ≡ []
       → shown.targets_again f next behind ≡ false
       → shown.repeats_at f next behind ≡ false → shown.targets_many f next behind ≡ false
       → left_of at (left_wanted f) next behind ≡ [] → shown.too_many_rules f next behind ≡ false
       → shown.passes_arguments f next ≡ false → shown.another_atom f next ≡ false → shown.long_name next ≡ false
-      → token_faults at (shown.going f next behind) next behind ≡ [] → IsSilent last at f next behind
+      → token_faults at (shown.open_expression f next behind) next behind ≡ [] → IsSilent last at f next behind
   all_silent f arity ended again repeated many left rules arguments atoms name tokens =
       record {
         arity = arity;
@@ -352,12 +355,12 @@ module _ (last at : ℕ) (next behind : Option Piece) where
 
 -- a front shows nothing exactly where it is quiet, and the next piece is small
 pub shows_nothing : (last at : ℕ) (f : Front) (next behind : Option Piece)
-    → (shown_last last f next ++ shown_next at f next behind ≡ []) ↔ (IsQuiet f next behind × IsNextSmall f next behind)
+    → (last_faults last f next ++ next_faults at f next behind ≡ []) ↔ (IsQuiet f next behind × IsNextSmall f next behind)
 shows_nothing last at f next behind = (
   λ h.
       let s = silent last at f next behind h in (
         quiet_of last at next behind f s,
-        (s.name, ((token_quiet at (shown.going f next behind) next behind).0 s.tokens).small),
+        (s.name, ((token_quiet at (shown.open_expression f next behind) next behind).0 s.tokens).small),
       ),
   λ h. shows_none last at f next behind (silent_of last at next behind f h.0 h.1),
 )

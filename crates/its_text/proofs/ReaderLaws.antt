@@ -1,10 +1,10 @@
 -- The reader of program texts keeps the laws of a reader; so a text has one answer, and spells one program at most.
 use Rattle.std.specs.Prelude.{◌≡◌, ℕ, List}
 use Rattle.std.proofs.Common.{sym, ◌∙◌, ap}
-use Rattle.model.specs.Programs.{Program}
-use Rattle.text_core.specs.Tokens.{pieces}
-use Rattle.text_core.specs.Laws.{Laws, AnswersAll, OneFirst}
-use Rattle.text_core.proofs.FirstFaults.{answers_all, one_tree_each, one_first_each}
+use Rattle.expr_text.specs.model.Programs.{Program}
+use Rattle.expr_text.specs.text_core.Tokens.{pieces}
+use Rattle.expr_text.specs.text_core.Laws.{Laws, AnswersAll, OneFirst}
+use Rattle.expr_text.proofs.text_core.FirstFaults.{answers_all, one_tree_each, one_first_each}
 use Rattle.its_text.specs.Lexing.{tokens_of}
 use Rattle.its_text.specs.Numbering.{program_numbered}
 use Rattle.its_text.specs.Grammar.{programs}

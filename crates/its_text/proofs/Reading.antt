@@ -1,10 +1,10 @@
 -- Each program that is written can be read: its pieces lead from front to front.
 use Rattle.std.specs.Prelude.{◌≡◌, List, [], ◌∷◌, codes, if◌then◌else◌, Option, Some, None, ◌⊎◌, refl, IsFalse}
 use Rattle.std.proofs.Common.{sym, ◌∙◌, ap, subst, inl, inr}
-use Rattle.model.specs.Programs.{Name}
-use Rattle.text_core.specs.Names.{is_same}
-use Rattle.text_core.specs.Readers.{next, walk}
-use Rattle.text_core.proofs.Walks.{walk-onto}
+use Rattle.expr_text.specs.model.Programs.{Name}
+use Rattle.expr_text.specs.text_core.Names.{is_same}
+use Rattle.expr_text.specs.text_core.Readers.{next, walk}
+use Rattle.expr_text.proofs.text_core.Walks.{walk-onto}
 use Rattle.expr_text.specs.Pieces as inner
 use Rattle.expr_text.specs.Trees.{Sum, sum_behind}
 use Rattle.expr_text.specs.Fronts as expression
@@ -14,10 +14,19 @@ use Rattle.expr_text.specs.GuardFronts as guards
 use Rattle.expr_text.proofs.Ending.{word_ends_guard, close_ends_guard}
 use Rattle.expr_text.proofs.Reading.{behind_sum, sum_finish, expression_is_read}
 use Rattle.expr_text.proofs.GuardReading.{behind_atoms, atoms_finish, guard_is_read}
-use Rattle.its_text.specs.Pieces.{Piece, In, Comma, Arrow, GuardMark, SquareOpen, SquareClose, Remark, word, open_bracket, close_bracket}
-use Rattle.its_text.specs.Written.{LeftTerm, Target, Marked, Bare, Guard, NoGuard, BehindMark, InSquares, WrittenRule, Section, Goal, Start, Variables, Rules, Comment, names_behind, sums_behind, left_behind, right_behind, target_behind, guard_behind, rules_behind, words_behind, section_behind, pieces_behind}
-use Rattle.its_text.specs.Fronts.{Ruling, Led, InCom, Alone, Aimed, Headed, Front, Between, Opened, Listing, Ruled, SourceNamed, LeftOpened, LeftRead, LeftShut, Arrowed, ComNamed, ComOpened, RightOpened, Arguing, RightShut, Targeted, GuardMarked, WordRead, MarkGuarding, SquareOpened, SquareGuarding, ruling_with, section_of}
-use Rattle.its_text.specs.Steps.{aimed, parted, arguing, guard_ended, guarding, guard_named, squared, square_ended, right_shut, behind_arrow, step, beginning, finish}
+use Rattle.its_text.specs.Pieces.{Piece, In, Comma, Arrow, GuardMark, SquareOpen, SquareClose, Remark, word}
+use Rattle.its_text.specs.Pieces.{open_bracket, close_bracket}
+use Rattle.its_text.specs.Written.{LeftTerm, Target, Marked, Bare, Guard, NoGuard, BehindMark, InSquares, WrittenRule}
+use Rattle.its_text.specs.Written.{Section, Goal, Start, Variables, Rules, Comment, names_behind, sums_behind}
+use Rattle.its_text.specs.Written.{left_behind, right_behind, target_behind, guard_behind, rules_behind, words_behind}
+use Rattle.its_text.specs.Written.{section_behind, pieces_behind}
+use Rattle.its_text.specs.Fronts.{Ruling, Led, InCom, Alone, Aimed, Headed, Front, Between, Opened, Listing, Ruled}
+use Rattle.its_text.specs.Fronts.{SourceNamed, LeftOpened, LeftRead, LeftShut, Arrowed, ComNamed, ComOpened}
+use Rattle.its_text.specs.Fronts.{RightOpened, Arguing, RightShut, Targeted, GuardMarked, WordRead, MarkGuarding}
+use Rattle.its_text.specs.Fronts.{SquareOpened, SquareGuarding, ruling_with, section_of}
+use Rattle.its_text.specs.Steps.{behind_target_name, behind_comma, argument_step, guard_ended, mark_guard_step}
+use Rattle.its_text.specs.Steps.{guard_named, square_guard_step, square_ended, right_shut, behind_arrow, step}
+use Rattle.its_text.specs.Steps.{beginning, finish}
 use Rattle.its_text.specs.Grammar.{IsTarget, HaveTargets, IsSection, AreSections, Writes, programs}
 use Rattle.its_text.proofs.Completing.{At, onward, argument_closes}
 
@@ -58,20 +67,22 @@ abbrev pub Argues : Aimed → List Sum → List Piece → expression.Front → T
 Argues a arguments done e = (At done (Arguing a arguments e)) ⊎ ((At done (RightOpened a)) × (arguments ≡ []) × (e ≡ expression.beginning))
 
 opened_step : (a : Aimed) (p : inner.Piece) (f : expression.Front) → expression_steps.step expression.beginning p ≡ Some f → step (RightOpened a) (In p) ≡ Some (Arguing a [] f)
-opened_step a (inner.Word name) f same = ap (λ o. arguing a [] expression.beginning o (inner.Word name)) same
-opened_step a (inner.Digits ds) f same = ap (λ o. arguing a [] expression.beginning o (inner.Digits ds)) same
-opened_step a inner.Open f same = ap (λ o. arguing a [] expression.beginning o inner.Open) same
+opened_step a (inner.Word name) f same = ap (λ o. argument_step a [] expression.beginning o (inner.Word name)) same
+opened_step a (inner.Digits ds) f same = ap (λ o. argument_step a [] expression.beginning o (inner.Digits ds)) same
+opened_step a inner.Open f same = ap (λ o. argument_step a [] expression.beginning o inner.Open) same
 opened_step a inner.Close f same = absurd (none_is_some same)
-opened_step a inner.Plus f same = ap (λ o. arguing a [] expression.beginning o inner.Plus) same
-opened_step a inner.Minus f same = ap (λ o. arguing a [] expression.beginning o inner.Minus) same
-opened_step a inner.Times f same = ap (λ o. arguing a [] expression.beginning o inner.Times) same
-opened_step a inner.Caret f same = ap (λ o. arguing a [] expression.beginning o inner.Caret) same
-opened_step a (inner.Related sign) f same = ap (λ o. arguing a [] expression.beginning o (inner.Related sign)) same
-opened_step a (inner.Joining joint) f same = ap (λ o. arguing a [] expression.beginning o (inner.Joining joint)) same
+opened_step a inner.Plus f same = ap (λ o. argument_step a [] expression.beginning o inner.Plus) same
+opened_step a inner.Minus f same = ap (λ o. argument_step a [] expression.beginning o inner.Minus) same
+opened_step a inner.Times f same = ap (λ o. argument_step a [] expression.beginning o inner.Times) same
+opened_step a inner.Caret f same = ap (λ o. argument_step a [] expression.beginning o inner.Caret) same
+opened_step a (inner.Related sign) f same =
+    ap (λ o. argument_step a [] expression.beginning o (inner.Related sign)) same
+opened_step a (inner.Joining joint) f same =
+    ap (λ o. argument_step a [] expression.beginning o (inner.Joining joint)) same
 
 argues_step : (a : Aimed) (arguments : List Sum) (done : List Piece) (e f : expression.Front) (p : inner.Piece)
     → Argues a arguments done e → expression_steps.step e p ≡ Some f → Argues a arguments (In p ∷ done) f
-argues_step a arguments done e f p (inl at) same = inl (onward done (Arguing a arguments e) (Arguing a arguments f) (In p) at (ap (λ o. arguing a arguments e o p) same))
+argues_step a arguments done e f p (inl at) same = inl (onward done (Arguing a arguments e) (Arguing a arguments f) (In p) at (ap (λ o. argument_step a arguments e o p) same))
 argues_step a arguments done e f p (inr at) same =
     inl (onward done (RightOpened a) (Arguing a arguments f) (In p) at.0
     (opened_step a p f (subst (λ g. expression_steps.step g p ≡ Some f) at.2 same) ∙ ap (λ sums. Some (Arguing a sums f)) (sym at.1)))
@@ -92,7 +103,7 @@ sums_read a s (r ∷ arguments) done at =
     argued_at a (r ∷ arguments) (sum_behind In s (Comma ∷ sums_behind (r ∷ arguments) done)) (behind_sum [] s) s (sum_finish s)
     (argument_read a (r ∷ arguments) s (Comma ∷ sums_behind (r ∷ arguments) done)
     (inl (onward (sums_behind (r ∷ arguments) done) (Arguing a arguments (behind_sum [] r)) (Arguing a (r ∷ arguments) expression.beginning) Comma
-    (sums_read a r arguments done at) (ap (λ o. parted a arguments o) (sum_finish r)))))
+    (sums_read a r arguments done at) (ap (λ o. behind_comma a arguments o) (sum_finish r)))))
 
 right_read : (a : Aimed) (arguments : List Sum) (done : List Piece) → At done (RightOpened a) → At (close_bracket ∷ sums_behind arguments done) (right_shut a arguments)
 right_read a [] done at = onward done (RightOpened a) (right_shut a []) close_bracket at refl
@@ -100,21 +111,21 @@ right_read a (s ∷ arguments) done at =
     onward (sums_behind (s ∷ arguments) done) (Arguing a arguments (behind_sum [] s)) (right_shut a (s ∷ arguments)) close_bracket (sums_read a s arguments done at) (argument_closes a arguments (behind_sum [] s) s (sum_finish s))
 
 -- what a rule leads to
-bare_name : (l : Led) (name : Name) → IsFalse (is_same name (codes "Com_1")) → behind_arrow l name ≡ aimed l Alone name
-bare_name l name other = ap (λ v. if v then ComNamed l else aimed l Alone name) other
+bare_name : (l : Led) (name : Name) → IsFalse (is_same name (codes "Com_1")) → behind_arrow l name ≡ behind_target_name l Alone name
+bare_name l name other = ap (λ v. if v then ComNamed l else behind_target_name l Alone name) other
 
 target_read : (l : Led) (t : Target) (done : List Piece) → IsTarget t → At done (Arrowed l) → At (target_behind t done) (Targeted (record { led = l; target = t }))
 target_read l (Marked t) done is at =
     onward (right_behind t (open_bracket ∷ word (codes "Com_1") ∷ done)) (RightShut l t) _ close_bracket
     (right_read (record { led = l; wrap = InCom; name = t.name }) t.arguments (open_bracket ∷ word t.name ∷ open_bracket ∷ word (codes "Com_1") ∷ done)
-    (onward (word t.name ∷ open_bracket ∷ word (codes "Com_1") ∷ done) (aimed l InCom t.name) _ open_bracket
-    (onward (open_bracket ∷ word (codes "Com_1") ∷ done) (ComOpened l) (aimed l InCom t.name) (word t.name)
+    (onward (word t.name ∷ open_bracket ∷ word (codes "Com_1") ∷ done) (behind_target_name l InCom t.name) _ open_bracket
+    (onward (open_bracket ∷ word (codes "Com_1") ∷ done) (ComOpened l) (behind_target_name l InCom t.name) (word t.name)
     (onward (word (codes "Com_1") ∷ done) (ComNamed l) (ComOpened l) open_bracket (onward done (Arrowed l) (ComNamed l) (word (codes "Com_1")) at refl) refl) refl) refl))
     refl
 target_read l (Bare t) done is at =
     right_read (record { led = l; wrap = Alone; name = t.name }) t.arguments (open_bracket ∷ word t.name ∷ done)
-    (onward (word t.name ∷ done) (aimed l Alone t.name) _ open_bracket
-    (onward done (Arrowed l) (aimed l Alone t.name) (word t.name) at (ap (λ f. Some f) (bare_name l t.name is))) refl)
+    (onward (word t.name ∷ done) (behind_target_name l Alone t.name) _ open_bracket
+    (onward done (Arrowed l) (behind_target_name l Alone t.name) (word t.name) at (ap (λ f. Some f) (bare_name l t.name is))) refl)
 
 -- a guard behind `:|:`: its front, or the front before it
 abbrev pub Marks : Headed → List Piece → guards.GuardFront → Type 0
@@ -123,41 +134,41 @@ Marks h done g = (At done (MarkGuarding h g)) ⊎ (((At done (GuardMarked h)) ×
 marked_step : (h : Headed) (done : List Piece) (p : inner.Piece) (k : guards.GuardFront) → At done (GuardMarked h) → guards.step guards.no_atoms p ≡ Some k → Marks h (In p ∷ done) k
 marked_step h done (inner.Word name) k at same = inr (inr (name, onward done (GuardMarked h) (WordRead h name) (word name) at refl, sym (some_is same)))
 marked_step h done inner.Close k at same = absurd (none_is_some same)
-marked_step h done (inner.Digits ds) k at same = inl (onward done (GuardMarked h) (MarkGuarding h k) (In (inner.Digits ds)) at (ap (λ o. guarding h guards.no_atoms o (inner.Digits ds)) same))
-marked_step h done inner.Open k at same = inl (onward done (GuardMarked h) (MarkGuarding h k) (In inner.Open) at (ap (λ o. guarding h guards.no_atoms o inner.Open) same))
-marked_step h done inner.Plus k at same = inl (onward done (GuardMarked h) (MarkGuarding h k) (In inner.Plus) at (ap (λ o. guarding h guards.no_atoms o inner.Plus) same))
-marked_step h done inner.Minus k at same = inl (onward done (GuardMarked h) (MarkGuarding h k) (In inner.Minus) at (ap (λ o. guarding h guards.no_atoms o inner.Minus) same))
-marked_step h done inner.Times k at same = inl (onward done (GuardMarked h) (MarkGuarding h k) (In inner.Times) at (ap (λ o. guarding h guards.no_atoms o inner.Times) same))
-marked_step h done inner.Caret k at same = inl (onward done (GuardMarked h) (MarkGuarding h k) (In inner.Caret) at (ap (λ o. guarding h guards.no_atoms o inner.Caret) same))
-marked_step h done (inner.Related sign) k at same = inl (onward done (GuardMarked h) (MarkGuarding h k) (In (inner.Related sign)) at (ap (λ o. guarding h guards.no_atoms o (inner.Related sign)) same))
-marked_step h done (inner.Joining joint) k at same = inl (onward done (GuardMarked h) (MarkGuarding h k) (In (inner.Joining joint)) at (ap (λ o. guarding h guards.no_atoms o (inner.Joining joint)) same))
+marked_step h done (inner.Digits ds) k at same = inl (onward done (GuardMarked h) (MarkGuarding h k) (In (inner.Digits ds)) at (ap (λ o. mark_guard_step h guards.no_atoms o (inner.Digits ds)) same))
+marked_step h done inner.Open k at same = inl (onward done (GuardMarked h) (MarkGuarding h k) (In inner.Open) at (ap (λ o. mark_guard_step h guards.no_atoms o inner.Open) same))
+marked_step h done inner.Plus k at same = inl (onward done (GuardMarked h) (MarkGuarding h k) (In inner.Plus) at (ap (λ o. mark_guard_step h guards.no_atoms o inner.Plus) same))
+marked_step h done inner.Minus k at same = inl (onward done (GuardMarked h) (MarkGuarding h k) (In inner.Minus) at (ap (λ o. mark_guard_step h guards.no_atoms o inner.Minus) same))
+marked_step h done inner.Times k at same = inl (onward done (GuardMarked h) (MarkGuarding h k) (In inner.Times) at (ap (λ o. mark_guard_step h guards.no_atoms o inner.Times) same))
+marked_step h done inner.Caret k at same = inl (onward done (GuardMarked h) (MarkGuarding h k) (In inner.Caret) at (ap (λ o. mark_guard_step h guards.no_atoms o inner.Caret) same))
+marked_step h done (inner.Related sign) k at same = inl (onward done (GuardMarked h) (MarkGuarding h k) (In (inner.Related sign)) at (ap (λ o. mark_guard_step h guards.no_atoms o (inner.Related sign)) same))
+marked_step h done (inner.Joining joint) k at same = inl (onward done (GuardMarked h) (MarkGuarding h k) (In (inner.Joining joint)) at (ap (λ o. mark_guard_step h guards.no_atoms o (inner.Joining joint)) same))
 
 word_step : (h : Headed) (name : Name) (done : List Piece) (p : inner.Piece) (k : guards.GuardFront) → At done (WordRead h name) → guards.step (guard_named name) p ≡ Some k → Marks h (In p ∷ done) k
 word_step h name done inner.Open k at same = absurd (none_is_some same)
-word_step h name done (inner.Word other) k at same = inl (onward done (WordRead h name) (MarkGuarding h k) (In (inner.Word other)) at (ap (λ o. guarding h (guard_named name) o (inner.Word other)) same))
-word_step h name done inner.Close k at same = inl (onward done (WordRead h name) (MarkGuarding h k) (In inner.Close) at (ap (λ o. guarding h (guard_named name) o inner.Close) same))
-word_step h name done (inner.Digits ds) k at same = inl (onward done (WordRead h name) (MarkGuarding h k) (In (inner.Digits ds)) at (ap (λ o. guarding h (guard_named name) o (inner.Digits ds)) same))
-word_step h name done inner.Plus k at same = inl (onward done (WordRead h name) (MarkGuarding h k) (In inner.Plus) at (ap (λ o. guarding h (guard_named name) o inner.Plus) same))
-word_step h name done inner.Minus k at same = inl (onward done (WordRead h name) (MarkGuarding h k) (In inner.Minus) at (ap (λ o. guarding h (guard_named name) o inner.Minus) same))
-word_step h name done inner.Times k at same = inl (onward done (WordRead h name) (MarkGuarding h k) (In inner.Times) at (ap (λ o. guarding h (guard_named name) o inner.Times) same))
-word_step h name done inner.Caret k at same = inl (onward done (WordRead h name) (MarkGuarding h k) (In inner.Caret) at (ap (λ o. guarding h (guard_named name) o inner.Caret) same))
-word_step h name done (inner.Related sign) k at same = inl (onward done (WordRead h name) (MarkGuarding h k) (In (inner.Related sign)) at (ap (λ o. guarding h (guard_named name) o (inner.Related sign)) same))
-word_step h name done (inner.Joining joint) k at same = inl (onward done (WordRead h name) (MarkGuarding h k) (In (inner.Joining joint)) at (ap (λ o. guarding h (guard_named name) o (inner.Joining joint)) same))
+word_step h name done (inner.Word other) k at same = inl (onward done (WordRead h name) (MarkGuarding h k) (In (inner.Word other)) at (ap (λ o. mark_guard_step h (guard_named name) o (inner.Word other)) same))
+word_step h name done inner.Close k at same = inl (onward done (WordRead h name) (MarkGuarding h k) (In inner.Close) at (ap (λ o. mark_guard_step h (guard_named name) o inner.Close) same))
+word_step h name done (inner.Digits ds) k at same = inl (onward done (WordRead h name) (MarkGuarding h k) (In (inner.Digits ds)) at (ap (λ o. mark_guard_step h (guard_named name) o (inner.Digits ds)) same))
+word_step h name done inner.Plus k at same = inl (onward done (WordRead h name) (MarkGuarding h k) (In inner.Plus) at (ap (λ o. mark_guard_step h (guard_named name) o inner.Plus) same))
+word_step h name done inner.Minus k at same = inl (onward done (WordRead h name) (MarkGuarding h k) (In inner.Minus) at (ap (λ o. mark_guard_step h (guard_named name) o inner.Minus) same))
+word_step h name done inner.Times k at same = inl (onward done (WordRead h name) (MarkGuarding h k) (In inner.Times) at (ap (λ o. mark_guard_step h (guard_named name) o inner.Times) same))
+word_step h name done inner.Caret k at same = inl (onward done (WordRead h name) (MarkGuarding h k) (In inner.Caret) at (ap (λ o. mark_guard_step h (guard_named name) o inner.Caret) same))
+word_step h name done (inner.Related sign) k at same = inl (onward done (WordRead h name) (MarkGuarding h k) (In (inner.Related sign)) at (ap (λ o. mark_guard_step h (guard_named name) o (inner.Related sign)) same))
+word_step h name done (inner.Joining joint) k at same = inl (onward done (WordRead h name) (MarkGuarding h k) (In (inner.Joining joint)) at (ap (λ o. mark_guard_step h (guard_named name) o (inner.Joining joint)) same))
 
 marks_step : (h : Headed) (done : List Piece) (g k : guards.GuardFront) (p : inner.Piece) → Marks h done g → guards.step g p ≡ Some k → Marks h (In p ∷ done) k
-marks_step h done g k p (inl at) same = inl (onward done (MarkGuarding h g) (MarkGuarding h k) (In p) at (ap (λ o. guarding h g o p) same))
+marks_step h done g k p (inl at) same = inl (onward done (MarkGuarding h g) (MarkGuarding h k) (In p) at (ap (λ o. mark_guard_step h g o p) same))
 marks_step h done g k p (inr (inl at)) same = marked_step h done p k at.0 (subst (λ j. guards.step j p ≡ Some k) at.1 same)
 marks_step h done g k p (inr (inr at)) same = word_step h at.0 done p k at.1 (subst (λ j. guards.step j p ≡ Some k) at.2 same)
 
 -- a guard that can end, before a name or the end of the section
 mark_ends : (h : Headed) (g : guards.GuardFront) (atoms : Atoms) (p : inner.Piece) (f : Front) (done : List Piece) → guards.finish g ≡ Some atoms → guards.step g p ≡ None
-    → guard_ended h (Some atoms) p ≡ Some f → ((name : Name) → step (WordRead h name) (In p) ≡ guarding h (guard_named name) (guards.step (guard_named name) p) p) → Marks h done g → At (In p ∷ done) f
+    → guard_ended h (Some atoms) p ≡ Some f → ((name : Name) → step (WordRead h name) (In p) ≡ mark_guard_step h (guard_named name) (guards.step (guard_named name) p) p) → Marks h done g → At (In p ∷ done) f
 mark_ends h g atoms p f done ends stops same word_goes (inl at) =
-    onward done (MarkGuarding h g) f (In p) at (ap (λ o. guarding h g o p) stops ∙ (ap (λ o. guard_ended h o p) ends ∙ same))
+    onward done (MarkGuarding h g) f (In p) at (ap (λ o. mark_guard_step h g o p) stops ∙ (ap (λ o. guard_ended h o p) ends ∙ same))
 mark_ends h g atoms p f done ends stops same word_goes (inr (inl at)) = absurd (none_is_some (subst (λ k. guards.finish k ≡ Some atoms) at.1 ends))
 mark_ends h g atoms p f done ends stops same word_goes (inr (inr at)) =
     onward done (WordRead h at.0) f (In p) at.1
-    (word_goes at.0 ∙ (ap (λ o. guarding h (guard_named at.0) o p) (subst (λ k. guards.step k p ≡ None) at.2 stops)
+    (word_goes at.0 ∙ (ap (λ o. mark_guard_step h (guard_named at.0) o p) (subst (λ k. guards.step k p ≡ None) at.2 stops)
     ∙ (ap (λ o. guard_ended h o p) (subst (λ k. guards.finish k ≡ Some atoms) at.2 ends) ∙ same)))
 
 -- pieces lead behind a rule, by its guard, and behind rules
@@ -210,9 +221,9 @@ abbrev pub Squares : Headed → List Piece → guards.GuardFront → Type 0
 Squares h done g = (At done (SquareGuarding h g)) ⊎ ((At done (SquareOpened h)) × (g ≡ guards.no_atoms))
 
 squares_step : (h : Headed) (done : List Piece) (g k : guards.GuardFront) (p : inner.Piece) → Squares h done g → guards.step g p ≡ Some k → Squares h (In p ∷ done) k
-squares_step h done g k p (inl at) same = inl (onward done (SquareGuarding h g) (SquareGuarding h k) (In p) at (ap (λ o. squared h o) same))
+squares_step h done g k p (inl at) same = inl (onward done (SquareGuarding h g) (SquareGuarding h k) (In p) at (ap (λ o. square_guard_step h o) same))
 squares_step h done g k p (inr at) same =
-    inl (onward done (SquareOpened h) (SquareGuarding h k) (In p) at.0 (ap (λ o. squared h o) (subst (λ j. guards.step j p ≡ Some k) at.1 same)))
+    inl (onward done (SquareOpened h) (SquareGuarding h k) (In p) at.0 (ap (λ o. square_guard_step h o) (subst (λ j. guards.step j p ≡ Some k) at.1 same)))
 
 squares_close : (h : Headed) (g : guards.GuardFront) (atoms : Atoms) (done : List Piece) → guards.finish g ≡ Some atoms → Squares h done g → At (SquareClose ∷ done) (Ruled (ruling_with h (InSquares (Some atoms))))
 squares_close h g atoms done ends (inl at) = onward done (SquareGuarding h g) (Ruled (ruling_with h (InSquares (Some atoms)))) SquareClose at (ap (λ o. square_ended h o) ends)

@@ -3,9 +3,9 @@ use Rattle.std.proofs.Common.{◌≡◌, ℕ, suc, ◌≤◌, Bool, true, false,
 use Rattle.std.proofs.Common.{List, [], ◌∷◌, ◌++◌, refl, ap, sym, ◌∙◌, arith}
 use Rattle.std.proofs.lemmas.Bool.Decides.{nat_tests}
 use Rattle.std.specs.List.{AllByRecursion}
-use Rattle.model.specs.Programs.{Name, Symbol}
-use Rattle.poly_terms.specs.Faults as polynomials
-use Rattle.text_core.specs.Names.{is_same, is_among}
+use Rattle.expr_text.specs.model.Programs.{Name, Symbol}
+use Rattle.expr_text.specs.poly_terms.Faults as polynomials
+use Rattle.expr_text.specs.text_core.Names.{is_same, is_among}
 use Rattle.expr_text.specs.Trees.{Sum}
 use Rattle.expr_text.specs.Terms.{sum_term}
 use Rattle.expr_text.specs.Guards.{Atom, Always, Compared, Atoms, First, Joined, relation_of}
@@ -13,7 +13,7 @@ use Rattle.expr_text.proofs.Stability.{SumReads}
 use Rattle.its_text.specs.Written.{WrittenRule}
 use Rattle.its_text.specs.Numbering.{names_of, with_symbol, arity_of, term_in}
 use Rattle.expr_text.specs.Differences.{differences, first_of_all}
-use Rattle.its_text.specs.Shown.{other_arity}
+use Rattle.its_text.specs.FrontFaults.{other_arity}
 use Rattle.its_text.specs.Spelling.{IsArgumentWithin, AreArgumentsWithin, IsAtomWithin, AreAtomsWithin, IsRule}
 use Rattle.its_text.specs.Spelling.{AreRules}
 use Rattle.expr_text.proofs.NamesRead.{Extends, term_along, AtomReads, AtomsRead}

@@ -3,8 +3,8 @@
 use Rattle.std.proofs.Common.{◌≡◌, Bool, true, false, not, ◌&&◌, ◌==◌, ◌↔◌, nat_le, List, ◌∷◌, length}
 use Rattle.std.proofs.Common.{Option, Some, None, refl, ap, sym, ◌∙◌, arith}
 use Rattle.std.proofs.lemmas.Bool.Decides.{nat_tests}
-use Rattle.model.specs.Programs.{Name}
-use Rattle.model.specs.Limits.{rule_limit, atom_limit}
+use Rattle.expr_text.specs.model.Programs.{Name}
+use Rattle.expr_text.specs.model.Limits.{rule_limit, atom_limit}
 use Rattle.expr_text.specs.Pieces as inner
 use Rattle.expr_text.specs.Fronts as expression
 use Rattle.expr_text.specs.Steps as expression_steps
@@ -17,10 +17,10 @@ use Rattle.its_text.specs.Pieces.{Piece, In, GuardMark, SquareOpen, SquareClose,
 use Rattle.its_text.specs.Written.{NoGuard, BehindMark}
 use Rattle.its_text.specs.Fronts.{Headed, rule_with, ruling_with, Front, Targeted, GuardMarked, MarkGuarding}
 use Rattle.its_text.specs.Fronts.{SquareOpened, SquareGuarding}
-use Rattle.its_text.specs.Steps.{behind_rule, guard_ended, guarding, squared, square_ended, step}
+use Rattle.its_text.specs.Steps.{behind_rule, guard_ended, mark_guard_step, square_guard_step, square_ended, step}
 use Rattle.its_text.specs.FrontNames.{headed_names}
-use Rattle.its_text.specs.Shown as shown
-use Rattle.its_text.specs.Shown.{going_in, can_end, ends_expression, is_full}
+use Rattle.its_text.specs.FrontFaults as shown
+use Rattle.its_text.specs.FrontFaults.{open_expression_in, can_end, ends_expression, is_full}
 use Rattle.its_text.proofs.RoomLaws.{contrary, and_false}
 use Rattle.its_text.proofs.KeptFronts.{first, IsHeadedKept, IsGuardKept, IsGoingQuiet}
 use Rattle.its_text.proofs.SectionTurns.{Turns, rules_done}
@@ -72,7 +72,7 @@ square_turns h ps =
 pub guard_first : (h : Headed) (g : GuardFront) (p : inner.Piece) (behind : Option Piece)
     → guards.step guards.no_atoms p ≡ Some g
     → (IsHeadedKept h × IsGuardKept (headed_names h) g behind)
-    ↔ (IsHeadedKept h × IsGoingQuiet (going_in (headed_names h) guards.no_atoms) (Some (In p)) behind)
+    ↔ (IsHeadedKept h × IsGoingQuiet (open_expression_in (headed_names h) guards.no_atoms) (Some (In p)) behind)
 guard_first h g p behind same =
     let turns = guard_turns (headed_names h) guards.no_atoms g p behind same in (
       λ k. (k.0, (turns.0 k.1).1.going),
@@ -150,7 +150,7 @@ module _ (h : Headed) (g : GuardFront) (atoms : Atoms) (ends : guards.finish g �
   full = nat_le rule_limit (length (rule_with h NoGuard ∷ h.led.ruling.rules))
 
   off_quiet : (p : inner.Piece) → expression_steps.step (guards.expression_in g) p ≡ None
-      → IsGoingQuiet (going_in (headed_names h) g) (Some (In p)) (first ps)
+      → IsGoingQuiet (open_expression_in (headed_names h) g) (Some (In p)) (first ps)
   off_quiet p off =
       λ on. contrary (goes_on_with (guards.expression_in g) p) on (goes_off (guards.expression_in g) p off)
 
@@ -229,7 +229,7 @@ guard_ended_turns h g p ps None ends off = tt
 guard_ended_turns h g p ps (Some atoms) ends off = rule_ends h g atoms ends ps p off
 
 guarding_turns : (h : Headed) (g : GuardFront) (p : inner.Piece) (ps : List Piece) (o : Option GuardFront)
-    → guards.step g p ≡ o → Turns (MarkGuarding h g) (In p) ps (guarding h g o p)
+    → guards.step g p ≡ o → Turns (MarkGuarding h g) (In p) ps (mark_guard_step h g o p)
 guarding_turns h g p ps (Some k) same =
     let turns = guard_turns (headed_names h) g k p (first ps) same in (
       λ x. let y = turns.0 x.1 in ((x.0, y.0), (no_rule_within h g k p (first ps) same, y.1)),
@@ -239,15 +239,15 @@ guarding_turns h g p ps None same = guard_ended_turns h g p ps (guards.finish g)
 
 -- in a guard behind `:|:` each step keeps the limits exactly where the front is quiet
 pub mark_guarding_turns : (h : Headed) (g : GuardFront) (p : inner.Piece) (ps : List Piece)
-    → Turns (MarkGuarding h g) (In p) ps (guarding h g (guards.step g p) p)
+    → Turns (MarkGuarding h g) (In p) ps (mark_guard_step h g (guards.step g p) p)
 mark_guarding_turns h g p ps = guarding_turns h g p ps (guards.step g p) refl
 
 -- atoms in square brackets
 pub square_guarding_turns : (h : Headed) (g : GuardFront) (p : inner.Piece) (ps : List Piece)
-    → Turns (SquareGuarding h g) (In p) ps (squared h (guards.step g p))
+    → Turns (SquareGuarding h g) (In p) ps (square_guard_step h (guards.step g p))
 square_guarding_turns h g p ps = go (guards.step g p) refl
   where
-    go : (o : Option GuardFront) → guards.step g p ≡ o → Turns (SquareGuarding h g) (In p) ps (squared h o)
+    go : (o : Option GuardFront) → guards.step g p ≡ o → Turns (SquareGuarding h g) (In p) ps (square_guard_step h o)
     go None same = tt
     go (Some k) same =
         let turns = guard_turns (headed_names h) g k p (first ps) same in (
@@ -266,10 +266,10 @@ square_ended_turns h g ps = go (guards.finish g) refl
 
 -- the first piece in square brackets keeps the limits exactly where the front is quiet
 pub square_opened_turns : (h : Headed) (p : inner.Piece) (ps : List Piece)
-    → Turns (SquareOpened h) (In p) ps (squared h (guards.step guards.no_atoms p))
+    → Turns (SquareOpened h) (In p) ps (square_guard_step h (guards.step guards.no_atoms p))
 square_opened_turns h p ps = go (guards.step guards.no_atoms p) refl
   where
-    go : (o : Option GuardFront) → guards.step guards.no_atoms p ≡ o → Turns (SquareOpened h) (In p) ps (squared h o)
+    go : (o : Option GuardFront) → guards.step guards.no_atoms p ≡ o → Turns (SquareOpened h) (In p) ps (square_guard_step h o)
     go None same = tt
     go (Some g) same =
         let begins = guard_first h g p (first ps) same in

@@ -1,6 +1,6 @@
 -- What holds of each step that leads somewhere holds of each step outside the rules.
 use Rattle.std.specs.Prelude.{List, Option}
-use Rattle.model.specs.Programs.{Name}
+use Rattle.expr_text.specs.model.Programs.{Name}
 use Rattle.expr_text.specs.Pieces as inner
 use Rattle.its_text.specs.Pieces.{Piece, In, Comma, Arrow, GuardMark, SquareOpen, SquareClose, Disjoining, Remark}
 use Rattle.its_text.specs.Pieces.{Wrong, Strange}

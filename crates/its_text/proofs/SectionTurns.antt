@@ -3,17 +3,17 @@
 use Rattle.std.proofs.Common.{◌≡◌, ℕ, suc, ◌≤◌, Bool, true, false, if◌then◌else◌, ◌&&◌, ◌||◌, ◌↔◌, codes, List, [], ◌∷◌}
 use Rattle.std.proofs.Common.{Option, Some, None, refl, ap, sym, subst, ◌∙◌, arith}
 use Rattle.std.specs.Prelude.{⊤}
-use Rattle.model.specs.Programs.{Name}
-use Rattle.text_core.specs.Names.{is_same}
-use Rattle.text_core.specs.Choices.{when}
-use Rattle.text_core.proofs.NameLaws.{same_equal}
+use Rattle.expr_text.specs.model.Programs.{Name}
+use Rattle.expr_text.specs.text_core.Names.{is_same}
+use Rattle.expr_text.specs.text_core.Choices.{when}
+use Rattle.expr_text.proofs.text_core.NameLaws.{same_equal}
 use Rattle.its_text.specs.Pieces.{Piece, word}
 use Rattle.its_text.specs.Written.{Section, Goal, Start, Variables, Rules, Comment}
 use Rattle.its_text.specs.Numbering.{rules_of}
 use Rattle.its_text.specs.Fronts.{Ruling, Front, Opened, GoalNamed, StartNamed, Listing, CommentNamed, Ruled}
 use Rattle.its_text.specs.Fronts.{section_of}
 use Rattle.its_text.specs.Steps.{section_named}
-use Rattle.its_text.specs.Shown.{is_goal, is_start, is_variables, is_rules, has, has_named}
+use Rattle.its_text.specs.FrontFaults.{is_goal, is_start, is_variables, is_rules, has, has_named}
 use Rattle.its_text.specs.Spelling.{times, HaveRules, HaveRulesWithin}
 use Rattle.its_text.proofs.KeptFronts.{first, AreDone, IsRulingKept, IsKept, IsQuiet}
 

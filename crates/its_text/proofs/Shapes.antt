@@ -1,7 +1,8 @@
 -- A rule's target that stands alone isn't named `Com_1`, in each front that a piece leads to.
-use Rattle.std.specs.Prelude.{◌≡◌, List, [], ◌∷◌, codes, Bool, true, false, if◌then◌else◌, Option, Some, None, ⊤, refl, IsFalse}
-use Rattle.model.specs.Programs.{Name}
-use Rattle.text_core.specs.Names.{is_same}
+use Rattle.std.specs.Prelude.{◌≡◌, List, [], ◌∷◌, codes, Bool, true, false, if◌then◌else◌, Option, Some, None, ⊤, refl}
+use Rattle.std.specs.Prelude.{IsFalse}
+use Rattle.expr_text.specs.model.Programs.{Name}
+use Rattle.expr_text.specs.text_core.Names.{is_same}
 use Rattle.expr_text.specs.Pieces as inner
 use Rattle.expr_text.specs.Trees.{Sum}
 use Rattle.expr_text.specs.Fronts as expression
@@ -10,9 +11,15 @@ use Rattle.expr_text.specs.Guards.{Atoms}
 use Rattle.expr_text.specs.GuardFronts as guards
 use Rattle.its_text.specs.Pieces.{Piece}
 use Rattle.its_text.specs.Written.{RightTerm, Guard, NoGuard, BehindMark, InSquares, Section}
-use Rattle.its_text.specs.Fronts.{Ruling, Led, Wrap, InCom, Alone, Aimed, Headed, Front, Between, Opened, GoalNamed, GoalSaid, StartNamed, StartOpened, StartListed, StartSaid, StartShut, Listing, CommentNamed, Ruled, SourceNamed, LeftOpened, LeftRead, LeftParted, LeftShut, Arrowed, ComNamed, ComOpened, TargetNamed, RightOpened, Arguing, RightShut, Targeted, GuardMarked, WordRead, MarkGuarding, SquareOpened, SquareGuarding, ruling_with}
-use Rattle.text_core.specs.Choices.{when}
-use Rattle.its_text.specs.Steps.{section_named, aimed, shut_by, behind_arrow, behind_rule, parted, argued, arguing, guard_ended, guarding, squared, square_ended, guard_named, behind_mark, behind_word, behind_open, step, finish}
+use Rattle.its_text.specs.Fronts.{Ruling, Led, Wrap, InCom, Alone, Aimed, Headed, Front, Between, Opened, GoalNamed}
+use Rattle.its_text.specs.Fronts.{GoalSaid, StartNamed, StartOpened, StartListed, StartSaid, StartShut, Listing}
+use Rattle.its_text.specs.Fronts.{CommentNamed, Ruled, SourceNamed, LeftOpened, LeftRead, LeftParted, LeftShut, Arrowed}
+use Rattle.its_text.specs.Fronts.{ComNamed, ComOpened, TargetNamed, RightOpened, Arguing, RightShut, Targeted}
+use Rattle.its_text.specs.Fronts.{GuardMarked, WordRead, MarkGuarding, SquareOpened, SquareGuarding, ruling_with}
+use Rattle.expr_text.specs.text_core.Choices.{when}
+use Rattle.its_text.specs.Steps.{section_named, behind_target_name, shut_by, behind_arrow, behind_rule, behind_comma}
+use Rattle.its_text.specs.Steps.{behind_argument, argument_step, guard_ended, mark_guard_step, square_guard_step}
+use Rattle.its_text.specs.Steps.{square_ended, guard_named, behind_mark, behind_word, behind_open, step, finish}
 use Rattle.its_text.specs.Grammar.{IsTarget, HaveTargets, AreSections}
 use Rattle.its_text.proofs.StepCases.{HoldsOfSteps}
 use Rattle.its_text.proofs.EveryStep.{of_step}
@@ -87,7 +94,7 @@ section_named_keeps ss name h =
 behind_arrow_keeps : (l : Led) (name : Name) → IsRuling l.ruling → IsFront (behind_arrow l name)
 behind_arrow_keeps l name h = go (is_same name (codes "Com_1")) refl
   where
-    go : (v : Bool) → is_same name (codes "Com_1") ≡ v → IsFront (if v then ComNamed l else aimed l Alone name)
+    go : (v : Bool) → is_same name (codes "Com_1") ≡ v → IsFront (if v then ComNamed l else behind_target_name l Alone name)
     go true same = h
     go false other = (h, other)
 
@@ -111,7 +118,7 @@ behind_rule_keeps r inner.Caret h = tt
 behind_rule_keeps r (inner.Related sign) h = tt
 behind_rule_keeps r (inner.Joining joint) h = tt
 
-argued_keeps : (a : Aimed) (arguments : List Sum) (o : Option Sum) (p : inner.Piece) → IsAimed a → Keeps (argued a arguments o p)
+argued_keeps : (a : Aimed) (arguments : List Sum) (o : Option Sum) (p : inner.Piece) → IsAimed a → Keeps (behind_argument a arguments o p)
 argued_keeps a arguments None p h = tt
 argued_keeps a arguments (Some s) inner.Close h = shut_keeps a.led a.wrap (record { name = a.name; arguments = s ∷ arguments }) h.0 h.1
 argued_keeps a arguments (Some s) (inner.Word name) h = tt
@@ -124,11 +131,11 @@ argued_keeps a arguments (Some s) inner.Caret h = tt
 argued_keeps a arguments (Some s) (inner.Related sign) h = tt
 argued_keeps a arguments (Some s) (inner.Joining joint) h = tt
 
-parted_keeps : (a : Aimed) (arguments : List Sum) (o : Option Sum) → IsAimed a → Keeps (parted a arguments o)
+parted_keeps : (a : Aimed) (arguments : List Sum) (o : Option Sum) → IsAimed a → Keeps (behind_comma a arguments o)
 parted_keeps a arguments None h = tt
 parted_keeps a arguments (Some s) h = h
 
-arguing_keeps : (a : Aimed) (arguments : List Sum) (e : expression.Front) (o : Option expression.Front) (p : inner.Piece) → IsAimed a → Keeps (arguing a arguments e o p)
+arguing_keeps : (a : Aimed) (arguments : List Sum) (e : expression.Front) (o : Option expression.Front) (p : inner.Piece) → IsAimed a → Keeps (argument_step a arguments e o p)
 arguing_keeps a arguments e (Some more) p h = h
 arguing_keeps a arguments e None p h = argued_keeps a arguments (expression_steps.finish e) p h
 
@@ -136,11 +143,11 @@ guard_ended_keeps : (h : Headed) (o : Option Atoms) (p : inner.Piece) → IsHead
 guard_ended_keeps h None p k = tt
 guard_ended_keeps h (Some atoms) p k = behind_rule_keeps (ruling_with h (BehindMark (Some atoms))) p (with_rule h (BehindMark (Some atoms)) k)
 
-guarding_keeps : (h : Headed) (g : guards.GuardFront) (o : Option guards.GuardFront) (p : inner.Piece) → IsHeaded h → Keeps (guarding h g o p)
+guarding_keeps : (h : Headed) (g : guards.GuardFront) (o : Option guards.GuardFront) (p : inner.Piece) → IsHeaded h → Keeps (mark_guard_step h g o p)
 guarding_keeps h g (Some more) p k = k
 guarding_keeps h g None p k = guard_ended_keeps h (guards.finish g) p k
 
-squared_keeps : (h : Headed) (o : Option guards.GuardFront) → IsHeaded h → Keeps (squared h o)
+squared_keeps : (h : Headed) (o : Option guards.GuardFront) → IsHeaded h → Keeps (square_guard_step h o)
 squared_keeps h None k = tt
 squared_keeps h (Some g) k = k
 
@@ -148,7 +155,7 @@ square_ended_keeps : (h : Headed) (o : Option Atoms) → IsHeaded h → Keeps (s
 square_ended_keeps h None k = tt
 square_ended_keeps h (Some atoms) k = with_rule h (InSquares (Some atoms)) k
 
-guarding_step_keeps : (h : Headed) (g : guards.GuardFront) (p : inner.Piece) → IsHeaded h → Keeps (guarding h g (guards.step g p) p)
+guarding_step_keeps : (h : Headed) (g : guards.GuardFront) (p : inner.Piece) → IsHeaded h → Keeps (mark_guard_step h g (guards.step g p) p)
 guarding_step_keeps h g p k = guarding_keeps h g (guards.step g p) p k
 
 behind_mark_keeps : (h : Headed) (p : inner.Piece) → IsHeaded h → Keeps (behind_mark h p)
@@ -175,7 +182,7 @@ behind_word_keeps h name inner.Caret k = guarding_step_keeps h (guard_named name
 behind_word_keeps h name (inner.Related sign) k = guarding_step_keeps h (guard_named name) (inner.Related sign) k
 behind_word_keeps h name (inner.Joining joint) k = guarding_step_keeps h (guard_named name) (inner.Joining joint) k
 
-arguing_step_keeps : (a : Aimed) (arguments : List Sum) (e : expression.Front) (p : inner.Piece) → IsAimed a → Keeps (arguing a arguments e (expression_steps.step e p) p)
+arguing_step_keeps : (a : Aimed) (arguments : List Sum) (e : expression.Front) (p : inner.Piece) → IsAimed a → Keeps (argument_step a arguments e (expression_steps.step e p) p)
 arguing_step_keeps a arguments e p h = arguing_keeps a arguments e (expression_steps.step e p) p h
 
 behind_open_keeps : (a : Aimed) (p : inner.Piece) → IsAimed a → Keeps (behind_open a p)

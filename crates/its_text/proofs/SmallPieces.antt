@@ -1,6 +1,6 @@
 -- The next piece is within its limits exactly where the front shows nothing against its length and its size.
 use Rattle.std.proofs.Common.{◌≡◌, ℕ, true, false, List, length, Option, Some, None, refl}
-use Rattle.model.specs.Limits.{name_limit, coefficient_limit}
+use Rattle.expr_text.specs.model.Limits.{name_limit, coefficient_limit}
 use Rattle.expr_text.specs.Pieces as inner
 use Rattle.expr_text.specs.Trees.{Sum}
 use Rattle.expr_text.specs.Terms.{number_of}
@@ -17,9 +17,10 @@ use Rattle.its_text.specs.Fronts.{StartListed, StartSaid, StartShut, Listing, Co
 use Rattle.its_text.specs.Fronts.{LeftOpened, LeftRead, LeftParted, LeftShut, Arrowed, ComNamed, ComOpened, TargetNamed}
 use Rattle.its_text.specs.Fronts.{RightOpened, Arguing, RightShut, Targeted, GuardMarked, WordRead, MarkGuarding}
 use Rattle.its_text.specs.Fronts.{SquareOpened, SquareGuarding}
-use Rattle.its_text.specs.Steps.{argued, arguing, guard_ended, guarding, squared, guard_named, step}
-use Rattle.its_text.specs.Shown as shown
-use Rattle.its_text.specs.Shown.{Going, is_large, long_name}
+use Rattle.its_text.specs.Steps.{behind_argument, argument_step, guard_ended, mark_guard_step, square_guard_step}
+use Rattle.its_text.specs.Steps.{guard_named, step}
+use Rattle.its_text.specs.FrontFaults as shown
+use Rattle.its_text.specs.FrontFaults.{OpenExpression, is_large, long_name}
 use Rattle.its_text.specs.Spelling.{IsSmallInner, IsSmallPiece}
 use Rattle.its_text.proofs.KeptFronts.{IsGoingSmall, IsNextSmall}
 use Rattle.its_text.proofs.RuleTurns.{goes_within}
@@ -59,7 +60,7 @@ not_long (Remark bytes) h = refl
 not_long Wrong h = refl
 not_long Strange h = refl
 
-going_small : (o : Option Going) (p : Piece) → IsSmallPiece p → IsGoingSmall o (Some p)
+going_small : (o : Option OpenExpression) (p : Piece) → IsSmallPiece p → IsGoingSmall o (Some p)
 going_small None p h = tt
 going_small (Some g) (In p) h = λ on. not_large p h
 going_small (Some g) Comma h = tt
@@ -74,16 +75,16 @@ going_small (Some g) Strange h = tt
 
 -- nothing is shown against the length and the size of a small piece
 pub next_small : (f : Front) (p : Piece) (behind : Option Piece) → IsSmallPiece p → IsNextSmall f (Some p) behind
-next_small f p behind h = (not_long p h, going_small (shown.going f (Some p) behind) p h)
+next_small f p behind h = (not_long p h, going_small (shown.open_expression f (Some p) behind) p h)
 
 -- digits that are taken go on with an expression, and so are small
 argued_nowhere : (a : Aimed) (arguments : List Sum) (o : Option Sum) (ds : List ℕ) (g : Front)
-    → ¬ (argued a arguments o (inner.Digits ds) ≡ Some g)
+    → ¬ (behind_argument a arguments o (inner.Digits ds) ≡ Some g)
 argued_nowhere a arguments None ds g same = cc
 argued_nowhere a arguments (Some s) ds g same = cc
 
 arguing_digits : (a : Aimed) (arguments : List Sum) (e : expression.Front) (o : Option expression.Front) (ds : List ℕ)
-    (g : Front) → arguing a arguments e o (inner.Digits ds) ≡ Some g → is_front o ≡ true
+    (g : Front) → argument_step a arguments e o (inner.Digits ds) ≡ Some g → is_front o ≡ true
 arguing_digits a arguments e (Some f) ds g same = refl
 arguing_digits a arguments e None ds g same = absurd (argued_nowhere a arguments (expression_steps.finish e) ds g same)
 
@@ -98,19 +99,19 @@ digits_within (LeftSide c e) k ds same = goes_within (LeftSide c e) k (inner.Dig
 digits_within (RightSide c l sign e) k ds same = goes_within (RightSide c l sign e) k (inner.Digits ds) refl same
 
 guarding_digits : (h : Headed) (g : GuardFront) (o : Option GuardFront) (ds : List ℕ) (f : Front)
-    → guards.step g (inner.Digits ds) ≡ o → guarding h g o (inner.Digits ds) ≡ Some f
+    → guards.step g (inner.Digits ds) ≡ o → mark_guard_step h g o (inner.Digits ds) ≡ Some f
     → goes_on_with (guards.expression_in g) (inner.Digits ds) ≡ true
 guarding_digits h g (Some k) ds f is same = digits_within g k ds is
 guarding_digits h g None ds f is same = absurd (ended_nowhere h (guards.finish g) ds f same)
 
 squared_digits : (h : Headed) (g : GuardFront) (o : Option GuardFront) (ds : List ℕ) (f : Front)
-    → guards.step g (inner.Digits ds) ≡ o → squared h o ≡ Some f
+    → guards.step g (inner.Digits ds) ≡ o → square_guard_step h o ≡ Some f
     → goes_on_with (guards.expression_in g) (inner.Digits ds) ≡ true
 squared_digits h g (Some k) ds f is same = digits_within g k ds is
 squared_digits h g None ds f is same = cc
 
 digits_small : (f g : Front) (ds : List ℕ) (behind : Option Piece) → step f (digits ds) ≡ Some g
-    → IsGoingSmall (shown.going f (Some (digits ds)) behind) (Some (digits ds)) → is_large (inner.Digits ds) ≡ false
+    → IsGoingSmall (shown.open_expression f (Some (digits ds)) behind) (Some (digits ds)) → is_large (inner.Digits ds) ≡ false
 digits_small (Between ss) g ds behind same small = cc
 digits_small (Opened ss) g ds behind same small = cc
 digits_small (GoalNamed ss) g ds behind same small = cc

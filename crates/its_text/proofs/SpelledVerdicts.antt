@@ -2,11 +2,11 @@
 -- is within them exactly where nothing is shown.
 use Rattle.std.proofs.Common.{◌≡◌, ℕ, ◌≤◌, ◌↔◌, List, [], ◌∷◌, length, Option, Some, None, refl, ap, sym, subst, ◌∙◌}
 use Rattle.std.proofs.Common.{arith}
-use Rattle.model.specs.Programs.{Name, Program}
-use Rattle.text_core.specs.Tokens.{Token, pieces}
-use Rattle.text_core.specs.Reading.{Answer, Stands, Refused, answer, Answers}
-use Rattle.text_core.specs.Limits.{KeepsLimits, ShowsNoLimit}
-use Rattle.text_core.proofs.Limits.{answered_within, within_answered}
+use Rattle.expr_text.specs.model.Programs.{Name, Program}
+use Rattle.expr_text.specs.text_core.Tokens.{Token, pieces}
+use Rattle.expr_text.specs.text_core.Reading.{Answer, Stands, Refused, answer, Answers}
+use Rattle.expr_text.specs.text_core.Limits.{KeepsLimits, ShowsNoLimit}
+use Rattle.expr_text.proofs.text_core.Limits.{answered_within, within_answered}
 use Rattle.its_text.specs.Pieces.{Piece}
 use Rattle.its_text.specs.Written.{WrittenRule, Section, Goal, Start, Variables, Rules, Comment, pieces_behind}
 use Rattle.its_text.specs.Numbering.{start_of, rules_of, program_of_parts}
@@ -15,9 +15,9 @@ use Rattle.its_text.specs.Steps.{step, finish}
 use Rattle.its_text.specs.Lexing.{tokens_of}
 use Rattle.its_text.specs.Kinds.{Kind}
 use Rattle.its_text.specs.Grammar.{Writes, programs}
-use Rattle.its_text.specs.Shown.{Tokens, last_byte, next_piece, is_start, is_rules}
+use Rattle.its_text.specs.FrontFaults.{Tokens, last_byte, next_piece, is_start, is_rules}
 use Rattle.its_text.specs.Spelling.{times, AreSmall, SpellsWithin}
-use Rattle.its_text.specs.Answers.{judged, verdict}
+use Rattle.its_text.specs.Answers.{verdict_of_answer, verdict}
 use Rattle.its_text.specs.Verdicts.{IsFaultless, IsTextOf, IsVerdict, VerdictsAreSpelled}
 use Rattle.its_text.proofs.StepLaws.{Leads, step_leads}
 use Rattle.its_text.proofs.ReaderLaws.{programs_laws, answers_all_texts}
@@ -229,7 +229,7 @@ spelled_stands bytes p s =
           };
     } in
     let read = sections_answered (length bytes) (tokens_of bytes) w s.spells.text within in
-    ap (judged (length bytes) (tokens_of bytes)) read
+    ap (verdict_of_answer (length bytes) (tokens_of bytes)) read
     ∙ whole_numbered (length bytes) (tokens_of bytes) w p (start_of w) (rules_of w) s.spells.numbered
 
 -- a text is read as a program exactly where it spells that one within the limits

@@ -1,8 +1,8 @@
 -- The steps of a program's text that lead somewhere: what holds of each of them holds of every step.
 use Rattle.std.specs.Prelude.{ℕ, List, [], ◌∷◌, codes, Option, Some, None}
-use Rattle.model.specs.Programs.{Name}
-use Rattle.text_core.specs.Names.{is_same}
-use Rattle.text_core.specs.Choices.{when}
+use Rattle.expr_text.specs.model.Programs.{Name}
+use Rattle.expr_text.specs.text_core.Names.{is_same}
+use Rattle.expr_text.specs.text_core.Choices.{when}
 use Rattle.expr_text.specs.Pieces as inner
 use Rattle.expr_text.specs.Trees.{Sum}
 use Rattle.expr_text.specs.Fronts as expression
@@ -15,8 +15,10 @@ use Rattle.its_text.specs.Fronts.{StartNamed, StartOpened, StartListed, StartSai
 use Rattle.its_text.specs.Fronts.{Ruled, SourceNamed, LeftOpened, LeftRead, LeftParted, LeftShut, Arrowed, ComNamed}
 use Rattle.its_text.specs.Fronts.{ComOpened, TargetNamed, RightOpened, Arguing, RightShut, Targeted, GuardMarked}
 use Rattle.its_text.specs.Fronts.{WordRead, MarkGuarding, SquareOpened, SquareGuarding, ruling_with}
-use Rattle.its_text.specs.Steps.{section_named, left_shut, aimed, behind_arrow, targeted, behind_rule, parted, arguing}
-use Rattle.its_text.specs.Steps.{guarding, squared, square_ended, behind_mark, behind_word, behind_open}
+use Rattle.its_text.specs.Steps.{section_named, left_shut, behind_target_name, behind_arrow, behind_target, behind_rule}
+use Rattle.its_text.specs.Steps.{behind_comma, argument_step}
+use Rattle.its_text.specs.Steps.{mark_guard_step, square_guard_step, square_ended, behind_mark, behind_word}
+use Rattle.its_text.specs.Steps.{behind_open}
 
 -- it holds where a piece leads nowhere, and of each step that leads somewhere
 pub record HoldsOfSteps (P : Front → Piece → Option Front → Type 0) : Type 0 where
@@ -76,18 +78,18 @@ pub record HoldsOfSteps (P : Front → Piece → Option Front → Type 0) : Type
   -- behind `Com_1`
   pub com_named_open : (l : Led) → P (ComNamed l) (In inner.Open) (Some (ComOpened l))
   -- behind `Com_1(`
-  pub com_opened_word : (l : Led) (name : Name) → P (ComOpened l) (In (inner.Word name)) (Some (aimed l InCom name))
+  pub com_opened_word : (l : Led) (name : Name) → P (ComOpened l) (In (inner.Word name)) (Some (behind_target_name l InCom name))
   -- behind the name of a right term
   pub target_named_open : (a : Aimed) → P (TargetNamed a) (In inner.Open) (Some (RightOpened a))
   -- behind the bracket that opens right arguments
   pub right_opened_piece : (a : Aimed) (p : inner.Piece) → P (RightOpened a) (In p) (behind_open a p)
   -- in an argument
   pub in_argument_piece : (a : Aimed) (arguments : List Sum) (e : expression.Front) (p : inner.Piece)
-      → P (Arguing a arguments e) (In p) (arguing a arguments e (expression_steps.step e p) p)
+      → P (Arguing a arguments e) (In p) (argument_step a arguments e (expression_steps.step e p) p)
   pub in_argument_comma : (a : Aimed) (arguments : List Sum) (e : expression.Front)
-      → P (Arguing a arguments e) Comma (parted a arguments (expression_steps.finish e))
+      → P (Arguing a arguments e) Comma (behind_comma a arguments (expression_steps.finish e))
   -- behind the right term within `Com_1(`
-  pub right_shut_close : (l : Led) (t : RightTerm) → P (RightShut l t) (In inner.Close) (Some (targeted l (Marked t)))
+  pub right_shut_close : (l : Led) (t : RightTerm) → P (RightShut l t) (In inner.Close) (Some (behind_target l (Marked t)))
   -- behind the target
   pub targeted_piece : (h : Headed) (p : inner.Piece) → P (Targeted h) (In p) (behind_rule (ruling_with h NoGuard) p)
   pub targeted_mark : (h : Headed) → P (Targeted h) GuardMark (Some (GuardMarked h))
@@ -98,14 +100,14 @@ pub record HoldsOfSteps (P : Front → Piece → Option Front → Type 0) : Type
   pub word_read_piece : (h : Headed) (name : Name) (p : inner.Piece) → P (WordRead h name) (In p) (behind_word h name p)
   -- in the atoms after `:|:`
   pub mark_guarding_piece : (h : Headed) (g : guards.GuardFront) (p : inner.Piece)
-      → P (MarkGuarding h g) (In p) (guarding h g (guards.step g p) p)
+      → P (MarkGuarding h g) (In p) (mark_guard_step h g (guards.step g p) p)
   -- behind `[`
   pub square_opened_piece : (h : Headed) (p : inner.Piece)
-      → P (SquareOpened h) (In p) (squared h (guards.step guards.no_atoms p))
+      → P (SquareOpened h) (In p) (square_guard_step h (guards.step guards.no_atoms p))
   pub square_opened_square_close : (h : Headed)
       → P (SquareOpened h) SquareClose (Some (Ruled (ruling_with h (InSquares None))))
   -- in the atoms after `[`
   pub square_guarding_piece : (h : Headed) (g : guards.GuardFront) (p : inner.Piece)
-      → P (SquareGuarding h g) (In p) (squared h (guards.step g p))
+      → P (SquareGuarding h g) (In p) (square_guard_step h (guards.step g p))
   pub square_guarding_square_close : (h : Headed) (g : guards.GuardFront)
       → P (SquareGuarding h g) SquareClose (square_ended h (guards.finish g))

@@ -1,9 +1,9 @@
 -- Each piece that is taken stands behind those of the front before.
 use Rattle.std.specs.Prelude.{◌≡◌, List, [], ◌∷◌, codes, Bool, true, false, if◌then◌else◌, Option, Some, None, ⊤, refl}
 use Rattle.std.proofs.Common.{sym, ◌∙◌, ap}
-use Rattle.model.specs.Programs.{Name}
-use Rattle.text_core.specs.Names.{is_same}
-use Rattle.text_core.proofs.NameLaws.{same_equal}
+use Rattle.expr_text.specs.model.Programs.{Name}
+use Rattle.expr_text.specs.text_core.Names.{is_same}
+use Rattle.expr_text.proofs.text_core.NameLaws.{same_equal}
 use Rattle.expr_text.specs.Pieces as inner
 use Rattle.expr_text.specs.Trees.{Sum, sum_behind}
 use Rattle.expr_text.specs.Fronts as expression
@@ -12,11 +12,17 @@ use Rattle.expr_text.specs.Guards.{Atoms}
 use Rattle.expr_text.specs.GuardFronts as guards
 use Rattle.expr_text.proofs.StepLaws.{step_adds, finish_written, Adds, IsWritten}
 use Rattle.expr_text.proofs.GuardLaws.{guard_step_adds, guard_finish_written, GuardAdds, AreWritten}
-use Rattle.its_text.specs.Pieces.{Piece, In, Comma, GuardMark, SquareOpen, SquareClose, word, open_bracket, close_bracket}
+use Rattle.its_text.specs.Pieces.{Piece, In, Comma, GuardMark, SquareOpen, SquareClose, word, open_bracket}
+use Rattle.its_text.specs.Pieces.{close_bracket}
 use Rattle.its_text.specs.Written.{RightTerm, NoGuard, BehindMark, Section, sums_behind, pieces_behind}
-use Rattle.its_text.specs.Fronts.{Ruling, Led, Wrap, InCom, Alone, Aimed, Headed, Front, GoalNamed, GoalSaid, StartNamed, StartListed, Listing, CommentNamed, Ruled, Arrowed, ComNamed, RightOpened, Arguing, GuardMarked, WordRead, MarkGuarding, SquareGuarding, ruling_with, ruling_pieces, aimed_pieces, headed_pieces, parted_behind, front_pieces}
-use Rattle.text_core.specs.Choices.{when}
-use Rattle.its_text.specs.Steps.{section_named, aimed, behind_arrow, shut_by, behind_rule, parted, argued, arguing, guard_ended, guarding, squared, square_ended, guard_named, behind_mark, behind_word, behind_open, step, finish}
+use Rattle.its_text.specs.Fronts.{Ruling, Led, Wrap, InCom, Alone, Aimed, Headed, Front, GoalNamed, GoalSaid}
+use Rattle.its_text.specs.Fronts.{StartNamed, StartListed, Listing, CommentNamed, Ruled, Arrowed, ComNamed, RightOpened}
+use Rattle.its_text.specs.Fronts.{Arguing, GuardMarked, WordRead, MarkGuarding, SquareGuarding, ruling_with}
+use Rattle.its_text.specs.Fronts.{ruling_pieces, aimed_pieces, headed_pieces, parted_behind, front_pieces}
+use Rattle.expr_text.specs.text_core.Choices.{when}
+use Rattle.its_text.specs.Steps.{section_named, behind_target_name, behind_arrow, shut_by, behind_rule, behind_comma}
+use Rattle.its_text.specs.Steps.{behind_argument, argument_step, guard_ended, mark_guard_step, square_guard_step}
+use Rattle.its_text.specs.Steps.{square_ended, guard_named, behind_mark, behind_word, behind_open, step, finish}
 use Rattle.its_text.proofs.StepCases.{HoldsOfSteps}
 use Rattle.its_text.proofs.EveryStep.{of_step}
 
@@ -53,7 +59,7 @@ section_named_leads ss name =
 behind_arrow_leads : (l : Led) (name : Name) → front_pieces (behind_arrow l name) ≡ word name ∷ front_pieces (Arrowed l)
 behind_arrow_leads l name = go (is_same name (codes "Com_1")) refl
   where
-    go : (v : Bool) → is_same name (codes "Com_1") ≡ v → front_pieces (if v then ComNamed l else aimed l Alone name) ≡ word name ∷ front_pieces (Arrowed l)
+    go : (v : Bool) → is_same name (codes "Com_1") ≡ v → front_pieces (if v then ComNamed l else behind_target_name l Alone name) ≡ word name ∷ front_pieces (Arrowed l)
     go true same = ap (λ n. word n ∷ front_pieces (Arrowed l)) (sym (same_equal name (codes "Com_1") same))
     go false other = refl
 
@@ -80,7 +86,7 @@ shut_leads l InCom t = refl
 shut_leads l Alone t = refl
 
 argued_leads : (a : Aimed) (arguments : List Sum) (e : expression.Front) (o : Option Sum) (p : inner.Piece)
-    → IsWritten In (parted_behind arguments (open_bracket ∷ aimed_pieces a)) e o → Leads (front_pieces (Arguing a arguments e)) (In p) (argued a arguments o p)
+    → IsWritten In (parted_behind arguments (open_bracket ∷ aimed_pieces a)) e o → Leads (front_pieces (Arguing a arguments e)) (In p) (behind_argument a arguments o p)
 argued_leads a arguments e None p w = tt
 argued_leads a arguments e (Some s) inner.Close w =
     shut_leads a.led a.wrap (record { name = a.name; arguments = s ∷ arguments })
@@ -96,12 +102,12 @@ argued_leads a arguments e (Some s) (inner.Related sign) w = tt
 argued_leads a arguments e (Some s) (inner.Joining joint) w = tt
 
 parted_leads : (a : Aimed) (arguments : List Sum) (e : expression.Front) (o : Option Sum)
-    → IsWritten In (parted_behind arguments (open_bracket ∷ aimed_pieces a)) e o → Leads (front_pieces (Arguing a arguments e)) Comma (parted a arguments o)
+    → IsWritten In (parted_behind arguments (open_bracket ∷ aimed_pieces a)) e o → Leads (front_pieces (Arguing a arguments e)) Comma (behind_comma a arguments o)
 parted_leads a arguments e None w = tt
 parted_leads a arguments e (Some s) w = ap (λ before. Comma ∷ before) (parted_sums s arguments (open_bracket ∷ aimed_pieces a) ∙ w)
 
 arguing_leads : (a : Aimed) (arguments : List Sum) (e : expression.Front) (o : Option expression.Front) (p : inner.Piece)
-    → Adds In (parted_behind arguments (open_bracket ∷ aimed_pieces a)) e p o → Leads (front_pieces (Arguing a arguments e)) (In p) (arguing a arguments e o p)
+    → Adds In (parted_behind arguments (open_bracket ∷ aimed_pieces a)) e p o → Leads (front_pieces (Arguing a arguments e)) (In p) (argument_step a arguments e o p)
 arguing_leads a arguments e (Some more) p w = w
 arguing_leads a arguments e None p w = argued_leads a arguments e (expression_steps.finish e) p (finish_written In e (parted_behind arguments (open_bracket ∷ aimed_pieces a)))
 
@@ -111,12 +117,12 @@ guard_ended_leads h g None p w = tt
 guard_ended_leads h g (Some atoms) p w = behind_rule_leads (ruling_with h (BehindMark (Some atoms))) p _ w
 
 guarding_leads : (h : Headed) (g : guards.GuardFront) (o : Option guards.GuardFront) (p : inner.Piece)
-    → GuardAdds In (GuardMark ∷ headed_pieces h) g p o → Leads (front_pieces (MarkGuarding h g)) (In p) (guarding h g o p)
+    → GuardAdds In (GuardMark ∷ headed_pieces h) g p o → Leads (front_pieces (MarkGuarding h g)) (In p) (mark_guard_step h g o p)
 guarding_leads h g (Some more) p w = w
 guarding_leads h g None p w = guard_ended_leads h g (guards.finish g) p (guard_finish_written In g (GuardMark ∷ headed_pieces h))
 
 squared_leads : (h : Headed) (g : guards.GuardFront) (o : Option guards.GuardFront) (p : inner.Piece)
-    → GuardAdds In (SquareOpen ∷ headed_pieces h) g p o → Leads (front_pieces (SquareGuarding h g)) (In p) (squared h o)
+    → GuardAdds In (SquareOpen ∷ headed_pieces h) g p o → Leads (front_pieces (SquareGuarding h g)) (In p) (square_guard_step h o)
 squared_leads h g None p w = tt
 squared_leads h g (Some more) p w = w
 
@@ -125,7 +131,7 @@ square_ended_leads : (h : Headed) (g : guards.GuardFront) (o : Option Atoms)
 square_ended_leads h g None w = tt
 square_ended_leads h g (Some atoms) w = ap (λ before. SquareClose ∷ before) w
 
-guarding_step_leads : (h : Headed) (g : guards.GuardFront) (p : inner.Piece) → Leads (front_pieces (MarkGuarding h g)) (In p) (guarding h g (guards.step g p) p)
+guarding_step_leads : (h : Headed) (g : guards.GuardFront) (p : inner.Piece) → Leads (front_pieces (MarkGuarding h g)) (In p) (mark_guard_step h g (guards.step g p) p)
 guarding_step_leads h g p = guarding_leads h g (guards.step g p) p (guard_step_adds In g p (GuardMark ∷ headed_pieces h))
 
 behind_mark_leads : (h : Headed) (p : inner.Piece) → Leads (front_pieces (GuardMarked h)) (In p) (behind_mark h p)
@@ -152,7 +158,7 @@ behind_word_leads h name inner.Caret = guarding_step_leads h (guard_named name) 
 behind_word_leads h name (inner.Related sign) = guarding_step_leads h (guard_named name) (inner.Related sign)
 behind_word_leads h name (inner.Joining joint) = guarding_step_leads h (guard_named name) (inner.Joining joint)
 
-arguing_step_leads : (a : Aimed) (arguments : List Sum) (e : expression.Front) (p : inner.Piece) → Leads (front_pieces (Arguing a arguments e)) (In p) (arguing a arguments e (expression_steps.step e p) p)
+arguing_step_leads : (a : Aimed) (arguments : List Sum) (e : expression.Front) (p : inner.Piece) → Leads (front_pieces (Arguing a arguments e)) (In p) (argument_step a arguments e (expression_steps.step e p) p)
 arguing_step_leads a arguments e p = arguing_leads a arguments e (expression_steps.step e p) p (step_adds In e p (parted_behind arguments (open_bracket ∷ aimed_pieces a)))
 
 behind_open_leads : (a : Aimed) (p : inner.Piece) → Leads (front_pieces (RightOpened a)) (In p) (behind_open a p)

@@ -1,7 +1,7 @@
 -- Along each step of a program's text what is read is within the limits exactly where it was before, and the front is
 -- quiet.
 use Rattle.std.proofs.Common.{List, Option, codes, refl}
-use Rattle.text_core.specs.Names.{is_same}
+use Rattle.expr_text.specs.text_core.Names.{is_same}
 use Rattle.its_text.specs.Pieces.{Piece, word}
 use Rattle.its_text.specs.Fronts.{Front, GoalNamed, GoalSaid, StartOpened, StartListed}
 use Rattle.its_text.specs.Steps.{step}

@@ -1,21 +1,29 @@
 -- What a text spells within the limits is a valid program.
-use Rattle.std.proofs.Common.{◌≡◌, ℕ, zero, suc, ◌+◌, ◌-◌, ◌<◌, ◌≤◌, Bool, true, false, cond, not, if◌then◌else◌, ◌||◌, nat_eq, List, [], ◌∷◌, ◌++◌, length, length-append, Option, Some, None, refl, ap, sym, subst, ◌∙◌, inl, inr, arith}
+use Rattle.std.proofs.Common.{◌≡◌, ℕ, zero, suc, ◌+◌, ◌-◌, ◌<◌, ◌≤◌, Bool, true, false, cond, not, if◌then◌else◌, ◌||◌}
+use Rattle.std.proofs.Common.{nat_eq, List, [], ◌∷◌, ◌++◌, length, length-append, Option, Some, None, refl, ap, sym}
+use Rattle.std.proofs.Common.{subst, ◌∙◌, inl, inr, arith}
 use Rattle.std.specs.Prelude.{◌⊎◌, slice_get}
 use Rattle.std.specs.List.{AllByRecursion, list_any}
 use Rattle.std.proofs.lemmas.List.{length-reverse}
 use Rattle.std.proofs.lemmas.Bool.Decides.{nat_tests}
-use Rattle.model.specs.Programs as plain
-use Rattle.model.specs.Programs.{Name, Symbol, Program, arity_in}
-use Rattle.its_model.specs.Valid.{IsValidTerm, IsValidAtom, IsValidSymbol, IsValidRule, IsValid}
-use Rattle.text_core.specs.Names.{IsName, is_same, is_among, AreDistinct}
-use Rattle.text_core.proofs.NameLaws.{same_equal}
+use Rattle.expr_text.specs.model.Programs as plain
+use Rattle.expr_text.specs.model.Programs.{Name, Symbol, Program, arity_in}
+use Rattle.expr_text.specs.its_model.Valid.{IsValidTerm, IsValidAtom, IsValidSymbol, IsValidRule, IsValid}
+use Rattle.expr_text.specs.text_core.Names.{IsName, is_same, is_among, AreDistinct}
+use Rattle.expr_text.proofs.text_core.NameLaws.{same_equal}
 use Rattle.expr_text.proofs.Stability.{among_more, among_last, extended}
 use Rattle.its_text.specs.Written.{LeftTerm, WrittenRule, pieces_behind}
-use Rattle.its_text.specs.Numbering.{term_in, names_of, with_symbol, with_left, symbols_of, number_of, arity_of, with_sums, left_names, rule_names, sums_terms, guard_terms, rule_numbered, rules_numbered, start_of, rules_of, or_left, first_leaving, program_from, program_of_parts}
-use Rattle.its_text.specs.Spelling.{IsRule, AreRules, HaveRules, IsRuleWithin, AreRulesWithin, HaveRulesWithin, SpellsWithin}
+use Rattle.its_text.specs.Numbering.{term_in, names_of, with_symbol, with_left, symbols_of, number_of, arity_of}
+use Rattle.its_text.specs.Numbering.{with_sums, left_names, rule_names, sums_terms, guard_terms, rule_numbered}
+use Rattle.its_text.specs.Numbering.{rules_numbered, start_of, rules_of, or_left, first_leaving, program_from}
+use Rattle.its_text.specs.Numbering.{program_of_parts}
+use Rattle.its_text.specs.Spelling.{IsRule, AreRules, HaveRules, IsRuleWithin, AreRulesWithin, HaveRulesWithin}
+use Rattle.its_text.specs.Spelling.{SpellsWithin}
 use Rattle.its_text.proofs.NamedPieces.{text_named, before_named, AreNamed}
-use Rattle.its_text.proofs.DistinctNames.{all_one_more, distinct_one_more, AreGood, NamedRule, AreRulesNamed, sections_named}
-use Rattle.its_text.proofs.ValidRules.{position_below, sums_extends, guard_extends, arguments_valid, arguments_count, guard_valid, read_in_rule, no_fewer}
+use Rattle.its_text.proofs.DistinctNames.{all_one_more, distinct_one_more, AreGood, NamedRule, AreRulesNamed}
+use Rattle.its_text.proofs.DistinctNames.{sections_named}
+use Rattle.its_text.proofs.ValidRules.{position_below, sums_extends, guard_extends, arguments_valid, arguments_count}
+use Rattle.its_text.proofs.ValidRules.{guard_valid, read_in_rule, no_fewer}
 use Rattle.its_text.proofs.Reading.{some_is, none_is_some}
 
 -- the symbols have names that differ, and no more places than the limit

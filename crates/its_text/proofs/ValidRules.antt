@@ -1,20 +1,25 @@
 -- What is written within the limits stands for valid expressions and atoms, over the variables of its rule.
-use Rattle.std.proofs.Common.{◌≡◌, ◌+◌, ◌<◌, ◌≤◌, Bool, true, false, cond, not, ◌||◌, List, [], ◌∷◌, length, length-append, Option, Some, None, refl, ap, ◌∙◌, arith}
+use Rattle.std.proofs.Common.{◌≡◌, ◌+◌, ◌<◌, ◌≤◌, Bool, true, false, cond, not, ◌||◌, List, [], ◌∷◌, length}
+use Rattle.std.proofs.Common.{length-append, Option, Some, None, refl, ap, ◌∙◌, arith}
 use Rattle.std.specs.Prelude.{⊤}
 use Rattle.std.specs.List.{AllByRecursion}
-use Rattle.model.specs.Programs as plain
-use Rattle.model.specs.Programs.{Name}
-use Rattle.model.specs.Terms.{Term}
-use Rattle.poly_terms.specs.Checked.{ReadsBelow}
-use Rattle.poly_terms.specs.Faults as polynomials
-use Rattle.its_model.specs.Valid.{difference_of, IsValidTerm, IsValidAtom}
-use Rattle.text_core.specs.Names.{is_same, is_among, position_of}
+use Rattle.expr_text.specs.model.Programs as plain
+use Rattle.expr_text.specs.model.Programs.{Name}
+use Rattle.expr_text.specs.model.Terms.{Term}
+use Rattle.expr_text.specs.poly_terms.Checked.{ReadsBelow}
+use Rattle.expr_text.specs.poly_terms.Faults as polynomials
+use Rattle.expr_text.specs.its_model.Valid.{difference_of, IsValidTerm, IsValidAtom}
+use Rattle.expr_text.specs.text_core.Names.{is_same, is_among, position_of}
 use Rattle.expr_text.specs.Pieces as inner
-use Rattle.expr_text.specs.Trees.{Sum, Alone, Added, Subtracted, Product, Single, Multiplied, Factor, Plain, Raised, Negated, Base, Number, Named, Bracketed}
+use Rattle.expr_text.specs.Trees.{Sum, Alone, Added, Subtracted, Product, Single, Multiplied, Factor, Plain, Raised}
+use Rattle.expr_text.specs.Trees.{Negated, Base, Number, Named, Bracketed}
 use Rattle.expr_text.specs.Terms.{with_sum, sum_term, product_term, factor_term, base_term}
-use Rattle.expr_text.specs.Guards.{Atom, Always, Compared, Atoms, First, Joined, count_of, relation_of, with_atoms, atom_term, atoms_terms}
-use Rattle.expr_text.proofs.Stability.{SumReads, ProductReads, FactorReads, BaseReads, sum_extends, sum_is_read, extended}
-use Rattle.expr_text.proofs.NamesRead.{Extends, extends_self, sum_along, AtomReads, AtomsRead, atoms_extends, atoms_are_read}
+use Rattle.expr_text.specs.Guards.{Atom, Always, Compared, Atoms, First, Joined, count_of, relation_of, with_atoms}
+use Rattle.expr_text.specs.Guards.{atom_term, atoms_terms}
+use Rattle.expr_text.proofs.Stability.{SumReads, ProductReads, FactorReads, BaseReads, sum_extends, sum_is_read}
+use Rattle.expr_text.proofs.Stability.{extended}
+use Rattle.expr_text.proofs.NamesRead.{Extends, extends_self, sum_along, AtomReads, AtomsRead, atoms_extends}
+use Rattle.expr_text.proofs.NamesRead.{atoms_are_read}
 use Rattle.its_text.specs.Written.{Guard, NoGuard, BehindMark, InSquares}
 use Rattle.its_text.specs.Numbering.{with_sums, with_maybe, with_guard, sums_terms, guard_terms}
 use Rattle.expr_text.specs.Differences.{differences, first_of_all}

@@ -1,18 +1,19 @@
 -- The verdict on a text is the only right one, since the reader's answer is.
 use Rattle.std.proofs.Common.{◌≡◌, ℕ, List, length, Option, Some, None, refl, ap, sym, subst, ◌∙◌, inl, inr}
 use Rattle.std.specs.Prelude.{◌⊎◌}
-use Rattle.model.specs.Programs.{Name, Program}
-use Rattle.text_core.specs.Tokens.{Token}
-use Rattle.text_core.specs.Readers.{Fault}
-use Rattle.text_core.specs.Faults.{IsFirst}
-use Rattle.text_core.specs.Reading.{Answer, Stands, Refused, answer, Answers}
+use Rattle.expr_text.specs.model.Programs.{Name, Program}
+use Rattle.expr_text.specs.text_core.Tokens.{Token}
+use Rattle.expr_text.specs.text_core.Readers.{Fault}
+use Rattle.expr_text.specs.text_core.Faults.{IsFirst}
+use Rattle.expr_text.specs.text_core.Reading.{Answer, Stands, Refused, answer, Answers}
 use Rattle.its_text.specs.Pieces.{Piece}
 use Rattle.its_text.specs.Kinds.{Kind}
 use Rattle.its_text.specs.Lexing.{tokens_of}
 use Rattle.its_text.specs.Written.{Section, WrittenRule}
-use Rattle.its_text.specs.Numbering.{start_of, rules_of, first_leaving, program_from, program_of_parts, program_numbered}
+use Rattle.its_text.specs.Numbering.{start_of, rules_of, first_leaving, program_from, program_of_parts}
+use Rattle.its_text.specs.Numbering.{program_numbered}
 use Rattle.its_text.specs.Grammar.{programs}
-use Rattle.its_text.specs.Answers.{start_index, at_maybe, program_or, whole, judged, verdict}
+use Rattle.its_text.specs.Answers.{start_index, at_maybe, program_or, whole, verdict_of_answer, verdict}
 use Rattle.its_text.specs.Spelling.{Spells}
 use Rattle.its_text.specs.Verdicts.{IsFaultless, IsVerdict, IsOnlyVerdict, VerdictsAreRight}
 use Rattle.its_text.proofs.ReaderLaws.{answers_all_texts, one_first_fault}
@@ -36,7 +37,7 @@ module _ (bytes : List ℕ) (written : List Section) (stands : IsFaultless bytes
       (ap (λ (s : Option Name). program_of_parts s (rules_of written)) e ∙ ap (λ (r : Option (List WrittenRule)). program_of_parts (Some start) r) f)
       (ap (λ (s : Option Name). whole (length bytes) (tokens_of bytes) written s (rules_of written)) e ∙ ap (λ (r : Option (List WrittenRule)). whole (length bytes) (tokens_of bytes) written (Some start) r) f)
 
-judged_right : (bytes : List ℕ) (a : Answer (List Section) Kind) → Answers programs (length bytes) (tokens_of bytes) a → IsVerdict bytes (judged (length bytes) (tokens_of bytes) a)
+judged_right : (bytes : List ℕ) (a : Answer (List Section) Kind) → Answers programs (length bytes) (tokens_of bytes) a → IsVerdict bytes (verdict_of_answer (length bytes) (tokens_of bytes) a)
 judged_right bytes (Stands written) h = of_parts bytes written (record { text = h.written; faultless = h.faultless }) (start_of written) (rules_of written) refl refl
 judged_right bytes (Refused x) h = inl h
 
@@ -52,14 +53,14 @@ whole_numbered n ts written p (Some start) None e = cc
 whole_numbered n ts written p (Some start) (Some rules) e = ap (program_or (at_maybe ts (start_index written))) e
 
 spelled_judged : (bytes : List ℕ) (p : Program) (s : Spells bytes p) (a : Answer (List Section) Kind) → Answers programs (length bytes) (tokens_of bytes) a
-    → (judged (length bytes) (tokens_of bytes) a ≡ Stands p) ⊎ ((x : Fault Kind) × IsFirst programs (length bytes) (tokens_of bytes) x × (judged (length bytes) (tokens_of bytes) a ≡ Refused x))
+    → (verdict_of_answer (length bytes) (tokens_of bytes) a ≡ Stands p) ⊎ ((x : Fault Kind) × IsFirst programs (length bytes) (tokens_of bytes) x × (verdict_of_answer (length bytes) (tokens_of bytes) a ≡ Refused x))
 spelled_judged bytes p s (Refused x) h = inr (x, h, refl)
 spelled_judged bytes p s (Stands written) h =
     let same : s.written ≡ written = h.only s.written s.text in
     inl (whole_numbered (length bytes) (tokens_of bytes) written p (start_of written) (rules_of written) (subst (λ w. program_numbered w ≡ Some p) same s.numbered))
 
 -- a right verdict is what the right answer of the reader comes to
-only_judged : (bytes : List ℕ) (b : Answer Program Kind) (a : Answer (List Section) Kind) → Answers programs (length bytes) (tokens_of bytes) a → IsVerdict bytes b → b ≡ judged (length bytes) (tokens_of bytes) a
+only_judged : (bytes : List ℕ) (b : Answer Program Kind) (a : Answer (List Section) Kind) → Answers programs (length bytes) (tokens_of bytes) a → IsVerdict bytes b → b ≡ verdict_of_answer (length bytes) (tokens_of bytes) a
 only_judged bytes (Stands p) (Stands written) h t =
     sym (whole_numbered (length bytes) (tokens_of bytes) written p (start_of written) (rules_of written) (subst (λ w. program_numbered w ≡ Some p) (h.only t.written t.stands.text) t.numbered))
 only_judged bytes (Stands p) (Refused y) h t = absurd (t.stands.faultless y h.is)

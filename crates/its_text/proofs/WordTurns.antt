@@ -2,8 +2,8 @@
 -- the front is quiet.
 use Rattle.std.proofs.Common.{◌≡◌, Bool, true, false, if◌then◌else◌, ◌&&◌, ◌↔◌, nat_le, List, ◌∷◌, length}
 use Rattle.std.proofs.Common.{Option, Some, None, refl, ap, sym, subst, ◌∙◌}
-use Rattle.model.specs.Programs.{Name}
-use Rattle.model.specs.Limits.{rule_limit}
+use Rattle.expr_text.specs.model.Programs.{Name}
+use Rattle.expr_text.specs.model.Limits.{rule_limit}
 use Rattle.expr_text.specs.Pieces as inner
 use Rattle.expr_text.specs.GuardFronts as guards
 use Rattle.expr_text.specs.GuardFronts.{GuardFront}
@@ -12,8 +12,8 @@ use Rattle.its_text.specs.Written.{NoGuard, BehindMark}
 use Rattle.its_text.specs.Fronts.{Headed, rule_with, ruling_with, Front, GuardMarked, WordRead, MarkGuarding}
 use Rattle.its_text.specs.Steps.{guard_named, behind_mark, behind_word, step}
 use Rattle.its_text.specs.FrontNames.{headed_names}
-use Rattle.its_text.specs.Shown as shown
-use Rattle.its_text.specs.Shown.{going_in, is_open}
+use Rattle.its_text.specs.FrontFaults as shown
+use Rattle.its_text.specs.FrontFaults.{open_expression_in, is_open}
 use Rattle.its_text.proofs.RoomLaws.{contrary}
 use Rattle.its_text.proofs.KeptFronts.{first, IsHeadedKept, IsGuardKept, IsGoingQuiet}
 use Rattle.its_text.proofs.SectionTurns.{Turns, rules_done}
@@ -24,7 +24,7 @@ use Rattle.its_text.proofs.RuleTurns.{guard_first, mark_guarding_turns}
 -- a name behind `:|:` begins another rule before a bracket, and else an atom
 abbrev IsWordQuiet : Headed → Name → Option Piece → Bool → Type 0
 IsWordQuiet h name behind opens =
-    IsGoingQuiet (if opens then None else going_in (headed_names h) guards.no_atoms) (Some (word name)) behind
+    IsGoingQuiet (if opens then None else open_expression_in (headed_names h) guards.no_atoms) (Some (word name)) behind
 
 marked_word : (h : Headed) (name : Name) (ps : List Piece) (v : Bool) → is_open (first ps) ≡ v
     → Turns (GuardMarked h) (word name) ps (Some (WordRead h name))
@@ -71,7 +71,7 @@ marked_first : (h : Headed) (g : GuardFront) (p : inner.Piece) (ps : List Piece)
     → guards.step guards.no_atoms p ≡ Some g
     → (IsHeadedKept h × IsGuardKept (headed_names h) g (first ps))
     ↔ (IsHeadedKept h
-    × ((false ≡ false) × IsGoingQuiet (going_in (headed_names h) guards.no_atoms) (Some (In p)) (first ps)))
+    × ((false ≡ false) × IsGoingQuiet (open_expression_in (headed_names h) guards.no_atoms) (Some (In p)) (first ps)))
 marked_first h g p ps same =
     let begins = guard_first h g p (first ps) same in
     (λ k. let x = begins.0 k in (x.0, (refl, x.1)), λ k. begins.1 (k.0, k.1.1))

@@ -1,8 +1,8 @@
 -- The worked values at the limits.
 use Rattle.std.specs.Prelude.{refl}
-use Rattle.its_text.specs.WorkedLimits.{LimitsAreTold}
+use Rattle.its_text.specs.WorkedLimits.{LimitsAreWorkedOut}
 
-pub limits_are_told : LimitsAreTold
+pub limits_are_told : LimitsAreWorkedOut
 limits_are_told = record {
   left_full = tt;
   left_passed = refl;

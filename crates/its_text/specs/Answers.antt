@@ -1,8 +1,8 @@
 -- What reading a text comes to: its program, or its first fault.
 use Rattle.std.specs.Prelude.{ℕ, zero, suc, ◌+◌, List, [], ◌∷◌, length, Option, Some, None}
-use Rattle.model.specs.Programs.{Name, Program}
-use Rattle.text_core.specs.Tokens.{Token}
-use Rattle.text_core.specs.Reading.{Answer, Stands, Refused, answer}
+use Rattle.expr_text.specs.model.Programs.{Name, Program}
+use Rattle.expr_text.specs.text_core.Tokens.{Token}
+use Rattle.expr_text.specs.text_core.Reading.{Answer, Stands, Refused, answer}
 use Rattle.its_text.specs.Pieces.{Piece}
 use Rattle.its_text.specs.Lexing.{tokens_of}
 use Rattle.its_text.specs.Written.{WrittenRule, Section, Goal, Start, Variables, Rules, Comment, pieces_behind}
@@ -44,10 +44,10 @@ whole n ts sections (Some start) (Some rules) =
     program_or (at_maybe ts (start_index sections)) (program_from start rules (first_leaving start rules))
 whole n ts sections _ _ = Refused (record { kind = MissingSection; at = n })
 
-abbrev pub judged : ℕ → List (Token Piece) → Answer (List Section) Kind → Answer Program Kind
-judged n ts (Refused x) = Refused x
-judged n ts (Stands sections) = whole n ts sections (start_of sections) (rules_of sections)
+abbrev pub verdict_of_answer : ℕ → List (Token Piece) → Answer (List Section) Kind → Answer Program Kind
+verdict_of_answer n ts (Refused x) = Refused x
+verdict_of_answer n ts (Stands sections) = whole n ts sections (start_of sections) (rules_of sections)
 
 -- what reading bytes comes to
 abbrev pub verdict : List ℕ → Answer Program Kind
-verdict bytes = judged (length bytes) (tokens_of bytes) (answer programs (length bytes) (tokens_of bytes))
+verdict bytes = verdict_of_answer (length bytes) (tokens_of bytes) (answer programs (length bytes) (tokens_of bytes))

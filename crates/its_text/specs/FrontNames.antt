@@ -1,6 +1,6 @@
 -- What is known behind a front: the symbols and rules so far, and the variables of the rule that is being read.
 use Rattle.std.specs.Prelude.{List}
-use Rattle.model.specs.Programs.{Name, Symbol}
+use Rattle.expr_text.specs.model.Programs.{Name, Symbol}
 use Rattle.expr_text.specs.Trees.{Sum}
 use Rattle.its_text.specs.Numbering.{symbols_of, with_left, term_in, left_names, with_sums}
 use Rattle.its_text.specs.Fronts.{Led, Headed}

@@ -1,6 +1,6 @@
 -- The part of a program's text that has been read, as the tree so far.
 use Rattle.std.specs.Prelude.{List, [], ◌∷◌, codes}
-use Rattle.model.specs.Programs.{Name}
+use Rattle.expr_text.specs.model.Programs.{Name}
 use Rattle.expr_text.specs.Trees.{Sum}
 use Rattle.expr_text.specs.Fronts.{Front as ExpressionFront, front_behind as expression_behind}
 use Rattle.expr_text.specs.GuardFronts.{GuardFront, guard_behind as atoms_behind}

@@ -1,14 +1,14 @@
 -- The reader of program texts, as trees with the pieces that they are written as.
 use Rattle.std.specs.Prelude.{◌≡◌, codes, List, [], ◌∷◌, IsFalse, ⊤}
-use Rattle.text_core.specs.Names.{is_same}
-use Rattle.text_core.specs.Readers.{Reader, onto}
+use Rattle.expr_text.specs.text_core.Names.{is_same}
+use Rattle.expr_text.specs.text_core.Readers.{Reader, onto}
 use Rattle.its_text.specs.Pieces.{Piece}
 use Rattle.its_text.specs.Written.{Target, Marked, Bare, WrittenRule, Section, Goal, Start, Variables, Rules, Comment}
 use Rattle.its_text.specs.Written.{pieces_behind}
 use Rattle.its_text.specs.Fronts.{Front}
 use Rattle.its_text.specs.Steps.{beginning, step, finish}
 use Rattle.its_text.specs.Kinds.{Kind, kind_number}
-use Rattle.its_text.specs.Shown.{shown, off}
+use Rattle.its_text.specs.FrontFaults.{front_faults, break_kind}
 
 -- behind an arrow `Com_1` is no symbol of its own
 abbrev pub IsTarget : Target → Type 0
@@ -43,6 +43,6 @@ programs = record {
   step = step;
   finish = finish;
   number = kind_number;
-  shown = shown;
-  off = off;
+  shown = front_faults;
+  off = break_kind;
 }

@@ -3,11 +3,11 @@
 use Rattle.std.specs.Prelude.{ℕ, zero, suc, ◌+◌, if◌then◌else◌, ◌==◌, ◌&&◌, nat_lt, List, [], ◌∷◌, length, codes}
 use Rattle.std.specs.Prelude.{Option, Some, None}
 use Rattle.std.specs.Char.{is_ascii_digit}
-use Rattle.model.specs.Programs.{Name}
-use Rattle.text_core.specs.Prefixes.{prefix}
-use Rattle.text_core.specs.Names.{begins_name, continues_name, is_same}
-use Rattle.text_core.specs.Bytes.{is_white_space, begins_with}
-use Rattle.text_core.specs.Tokens.{Token, Lexeme, Lexer, tokens_in}
+use Rattle.expr_text.specs.model.Programs.{Name}
+use Rattle.expr_text.specs.text_core.Prefixes.{prefix}
+use Rattle.expr_text.specs.text_core.Names.{begins_name, continues_name, is_same}
+use Rattle.expr_text.specs.text_core.Bytes.{is_white_space, begins_with}
+use Rattle.expr_text.specs.text_core.Tokens.{Token, Lexeme, Lexer, tokens_in}
 use Rattle.expr_text.specs.Pieces as inner
 use Rattle.its_text.specs.Pieces.{Piece, In, Comma, Arrow, GuardMark, SquareOpen, SquareClose, Disjoining, Remark}
 use Rattle.its_text.specs.Pieces.{Wrong, Strange, word, digits, open_bracket, close_bracket}

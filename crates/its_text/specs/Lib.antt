@@ -7,7 +7,7 @@ pub mod Fronts
 pub mod Steps
 pub mod FrontNames
 pub mod Kinds
-pub mod Shown
+pub mod FrontFaults
 pub mod Grammar
 pub mod Spelling
 pub mod Answers
@@ -15,3 +15,5 @@ pub mod Verdicts
 -- laws, and values that were worked out by hand
 pub mod Worked
 pub mod WorkedLimits
+-- the crates below, which callers name through this one
+pub use Rattle.expr_text.specs as expr_text

@@ -3,10 +3,10 @@ use Rattle.std.specs.Prelude.{ℕ, Bool, nat_eq, List, [], ◌∷◌, ◌++◌, 
 use Rattle.std.specs.Prelude.{codes, drop, ◌-◌, Option, Some, None}
 use Rattle.std.specs.List.{list_all, starts_with}
 use Rattle.std.specs.Char.{is_ascii_digit}
-use Rattle.model.specs.Programs as plain
-use Rattle.model.specs.Programs.{Name, Symbol, Program}
-use Rattle.model.specs.Terms.{Term}
-use Rattle.text_core.specs.Names.{is_same, is_among, position_of}
+use Rattle.expr_text.specs.model.Programs as plain
+use Rattle.expr_text.specs.model.Programs.{Name, Symbol, Program}
+use Rattle.expr_text.specs.model.Terms.{Term}
+use Rattle.expr_text.specs.text_core.Names.{is_same, is_among, position_of}
 use Rattle.expr_text.specs.Trees.{Sum}
 use Rattle.expr_text.specs.Terms.{with_sum, sum_term}
 use Rattle.expr_text.specs.Guards.{Atoms, with_atoms, atoms_terms}

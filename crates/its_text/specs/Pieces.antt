@@ -1,6 +1,6 @@
 -- The pieces of a program's text.
 use Rattle.std.specs.Prelude.{ℕ, List}
-use Rattle.model.specs.Programs.{Name}
+use Rattle.expr_text.specs.model.Programs.{Name}
 use Rattle.expr_text.specs.Pieces as inner
 
 -- a piece: one of an expression or a guard, a mark of its own, what a comment says with its closing bracket, bytes that

@@ -1,13 +1,13 @@
 -- What a text spells, and the limits on texts.
 use Rattle.std.specs.Prelude.{◌≡◌, ℕ, suc, ◌≤◌, Bool, if◌then◌else◌, List, [], ◌∷◌, length, Option, Some, None, IsFalse}
 use Rattle.std.specs.Prelude.{⊤}
-use Rattle.model.specs.Programs.{Name, Symbol, Program}
-use Rattle.model.specs.Limits.{rule_limit, place_limit, variable_limit, atom_limit, name_limit, token_limit}
-use Rattle.model.specs.Limits.{coefficient_limit}
-use Rattle.poly_terms.specs.Faults as polynomials
-use Rattle.its_model.specs.Valid.{IsValid}
-use Rattle.text_core.specs.Names.{AreDistinct}
-use Rattle.text_core.specs.Tokens.{pieces}
+use Rattle.expr_text.specs.model.Programs.{Name, Symbol, Program}
+use Rattle.expr_text.specs.model.Limits.{rule_limit, place_limit, variable_limit, atom_limit, name_limit, token_limit}
+use Rattle.expr_text.specs.model.Limits.{coefficient_limit}
+use Rattle.expr_text.specs.poly_terms.Faults as polynomials
+use Rattle.expr_text.specs.its_model.Valid.{IsValid}
+use Rattle.expr_text.specs.text_core.Names.{AreDistinct}
+use Rattle.expr_text.specs.text_core.Tokens.{pieces}
 use Rattle.expr_text.specs.Pieces as inner
 use Rattle.expr_text.specs.Trees.{Sum, sum_behind}
 use Rattle.expr_text.specs.Terms.{number_of, sum_term}
@@ -18,7 +18,7 @@ use Rattle.its_text.specs.Written.{Guard, NoGuard, BehindMark, InSquares, Writte
 use Rattle.its_text.specs.Numbering.{is_com, term_in, symbols_of, arity_of, rule_names, rules_of, program_numbered}
 use Rattle.its_text.specs.Grammar.{Writes}
 use Rattle.expr_text.specs.Differences.{differences, first_of_all}
-use Rattle.its_text.specs.Shown.{is_goal, is_start, is_variables, is_rules}
+use Rattle.its_text.specs.FrontFaults.{is_goal, is_start, is_variables, is_rules}
 
 -- how many sections pass a test
 abbrev pub times : (Section → Bool) → List Section → ℕ

@@ -1,8 +1,8 @@
 -- Where each piece of a program's text leads.
 use Rattle.std.specs.Prelude.{List, [], ◌∷◌, codes, if◌then◌else◌, Option, Some, None}
-use Rattle.model.specs.Programs.{Name}
-use Rattle.text_core.specs.Names.{is_same}
-use Rattle.text_core.specs.Choices.{when}
+use Rattle.expr_text.specs.model.Programs.{Name}
+use Rattle.expr_text.specs.text_core.Names.{is_same}
+use Rattle.expr_text.specs.text_core.Choices.{when}
 use Rattle.expr_text.specs.Pieces as inner
 use Rattle.expr_text.specs.Trees.{Sum, Named}
 use Rattle.expr_text.specs.Fronts as expression
@@ -34,21 +34,21 @@ abbrev pub left_shut : Ruling → Name → List Name → Front
 left_shut r name arguments = LeftShut (record { ruling = r; left = record { name = name; arguments = arguments } })
 
 -- a right term's name, by where it stands
-abbrev pub aimed : Led → Wrap → Name → Front
-aimed l wrap name = TargetNamed (record { led = l; wrap = wrap; name = name })
+abbrev pub behind_target_name : Led → Wrap → Name → Front
+behind_target_name l wrap name = TargetNamed (record { led = l; wrap = wrap; name = name })
 
 -- `Com_1` behind an arrow, or the name of a term
 abbrev pub behind_arrow : Led → Name → Front
-behind_arrow l name = if is_same name (codes "Com_1") then ComNamed l else aimed l Alone name
+behind_arrow l name = if is_same name (codes "Com_1") then ComNamed l else behind_target_name l Alone name
 
 -- a rule's target is read
-abbrev pub targeted : Led → Target → Front
-targeted l target = Targeted (record { led = l; target = target })
+abbrev pub behind_target : Led → Target → Front
+behind_target l target = Targeted (record { led = l; target = target })
 
 -- the right term ends, by where it stands
 abbrev pub shut_by : Led → Wrap → RightTerm → Front
 shut_by l InCom t = RightShut l t
-shut_by l Alone t = targeted l (Bare t)
+shut_by l Alone t = behind_target l (Bare t)
 
 abbrev pub right_shut : Aimed → List Sum → Front
 right_shut a arguments = shut_by a.led a.wrap (record { name = a.name; arguments = arguments })
@@ -60,18 +60,18 @@ behind_rule r inner.Close = Some (Between (section_of r))
 behind_rule r _ = None
 
 -- an argument ends, where it can, before a comma or the closing bracket
-abbrev pub parted : Aimed → List Sum → Option Sum → Option Front
-parted a arguments None = None
-parted a arguments (Some s) = Some (Arguing a (s ∷ arguments) expression.beginning)
+abbrev pub behind_comma : Aimed → List Sum → Option Sum → Option Front
+behind_comma a arguments None = None
+behind_comma a arguments (Some s) = Some (Arguing a (s ∷ arguments) expression.beginning)
 
-abbrev pub argued : Aimed → List Sum → Option Sum → inner.Piece → Option Front
-argued a arguments (Some s) inner.Close = Some (right_shut a (s ∷ arguments))
-argued a arguments _ _ = None
+abbrev pub behind_argument : Aimed → List Sum → Option Sum → inner.Piece → Option Front
+behind_argument a arguments (Some s) inner.Close = Some (right_shut a (s ∷ arguments))
+behind_argument a arguments _ _ = None
 
 -- an argument goes on, where it can, or else ends
-abbrev pub arguing : Aimed → List Sum → expression.Front → Option expression.Front → inner.Piece → Option Front
-arguing a arguments e (Some more) p = Some (Arguing a arguments more)
-arguing a arguments e None p = argued a arguments (expression_steps.finish e) p
+abbrev pub argument_step : Aimed → List Sum → expression.Front → Option expression.Front → inner.Piece → Option Front
+argument_step a arguments e (Some more) p = Some (Arguing a arguments more)
+argument_step a arguments e None p = behind_argument a arguments (expression_steps.finish e) p
 
 -- atoms behind `:|:` end, where they can, before what follows a rule
 abbrev pub guard_ended : Headed → Option Atoms → inner.Piece → Option Front
@@ -79,14 +79,14 @@ guard_ended h None p = None
 guard_ended h (Some atoms) p = behind_rule (ruling_with h (BehindMark (Some atoms))) p
 
 -- atoms behind `:|:` go on, where they can, or else end
-abbrev pub guarding : Headed → guards.GuardFront → Option guards.GuardFront → inner.Piece → Option Front
-guarding h g (Some more) p = Some (MarkGuarding h more)
-guarding h g None p = guard_ended h (guards.finish g) p
+abbrev pub mark_guard_step : Headed → guards.GuardFront → Option guards.GuardFront → inner.Piece → Option Front
+mark_guard_step h g (Some more) p = Some (MarkGuarding h more)
+mark_guard_step h g None p = guard_ended h (guards.finish g) p
 
 -- atoms in square brackets go on, where they can
-abbrev pub squared : Headed → Option guards.GuardFront → Option Front
-squared h None = None
-squared h (Some g) = Some (SquareGuarding h g)
+abbrev pub square_guard_step : Headed → Option guards.GuardFront → Option Front
+square_guard_step h None = None
+square_guard_step h (Some g) = Some (SquareGuarding h g)
 
 -- atoms in square brackets end, where they can
 abbrev pub square_ended : Headed → Option Atoms → Option Front
@@ -101,17 +101,17 @@ guard_named name = guards.LeftSide guards.NoAtoms (expression_steps.read [] expr
 abbrev pub behind_mark : Headed → inner.Piece → Option Front
 behind_mark h (inner.Word name) = Some (WordRead h name)
 behind_mark h inner.Close = Some (Between (section_of (ruling_with h (BehindMark None))))
-behind_mark h p = guarding h guards.no_atoms (guards.step guards.no_atoms p) p
+behind_mark h p = mark_guard_step h guards.no_atoms (guards.step guards.no_atoms p) p
 
 -- what follows a name behind `:|:`: before a bracket it begins the next rule, else an atom
 abbrev pub behind_word : Headed → Name → inner.Piece → Option Front
 behind_word h name inner.Open = Some (LeftOpened (ruling_with h (BehindMark None)) name)
-behind_word h name p = guarding h (guard_named name) (guards.step (guard_named name) p) p
+behind_word h name p = mark_guard_step h (guard_named name) (guards.step (guard_named name) p) p
 
 -- what follows the bracket of a right term: its closing bracket, or an argument
 abbrev pub behind_open : Aimed → inner.Piece → Option Front
 behind_open a inner.Close = Some (right_shut a [])
-behind_open a p = arguing a [] expression.beginning (expression_steps.step expression.beginning p) p
+behind_open a p = argument_step a [] expression.beginning (expression_steps.step expression.beginning p) p
 
 -- where a piece leads
 abbrev pub step : Front → Piece → Option Front
@@ -137,21 +137,21 @@ step (LeftParted r name a earlier) (In (inner.Word b)) = Some (LeftRead r name b
 step (LeftShut l) Arrow = Some (Arrowed l)
 step (Arrowed l) (In (inner.Word name)) = Some (behind_arrow l name)
 step (ComNamed l) (In inner.Open) = Some (ComOpened l)
-step (ComOpened l) (In (inner.Word name)) = Some (aimed l InCom name)
+step (ComOpened l) (In (inner.Word name)) = Some (behind_target_name l InCom name)
 step (TargetNamed a) (In inner.Open) = Some (RightOpened a)
 step (RightOpened a) (In p) = behind_open a p
-step (Arguing a arguments e) (In p) = arguing a arguments e (expression_steps.step e p) p
-step (Arguing a arguments e) Comma = parted a arguments (expression_steps.finish e)
-step (RightShut l t) (In inner.Close) = Some (targeted l (Marked t))
+step (Arguing a arguments e) (In p) = argument_step a arguments e (expression_steps.step e p) p
+step (Arguing a arguments e) Comma = behind_comma a arguments (expression_steps.finish e)
+step (RightShut l t) (In inner.Close) = Some (behind_target l (Marked t))
 step (Targeted h) (In p) = behind_rule (ruling_with h NoGuard) p
 step (Targeted h) GuardMark = Some (GuardMarked h)
 step (Targeted h) SquareOpen = Some (SquareOpened h)
 step (GuardMarked h) (In p) = behind_mark h p
 step (WordRead h name) (In p) = behind_word h name p
-step (MarkGuarding h g) (In p) = guarding h g (guards.step g p) p
-step (SquareOpened h) (In p) = squared h (guards.step guards.no_atoms p)
+step (MarkGuarding h g) (In p) = mark_guard_step h g (guards.step g p) p
+step (SquareOpened h) (In p) = square_guard_step h (guards.step guards.no_atoms p)
 step (SquareOpened h) SquareClose = Some (Ruled (ruling_with h (InSquares None)))
-step (SquareGuarding h g) (In p) = squared h (guards.step g p)
+step (SquareGuarding h g) (In p) = square_guard_step h (guards.step g p)
 step (SquareGuarding h g) SquareClose = square_ended h (guards.finish g)
 step f p = None
 

@@ -1,10 +1,10 @@
 -- What the verdict on a text says.
 use Rattle.std.specs.Prelude.{◌≡◌, ◌↔◌, ℕ, ◌⊎◌, List, length, Some}
-use Rattle.model.specs.Programs.{Program}
-use Rattle.text_core.specs.Tokens.{pieces}
-use Rattle.text_core.specs.Readers.{Fault}
-use Rattle.text_core.specs.Faults.{FaultAt, IsFirst}
-use Rattle.text_core.specs.Reading.{Answer, Stands, Refused}
+use Rattle.expr_text.specs.model.Programs.{Program}
+use Rattle.expr_text.specs.text_core.Tokens.{pieces}
+use Rattle.expr_text.specs.text_core.Readers.{Fault}
+use Rattle.expr_text.specs.text_core.Faults.{FaultAt, IsFirst}
+use Rattle.expr_text.specs.text_core.Reading.{Answer, Stands, Refused}
 use Rattle.its_text.specs.Kinds.{Kind}
 use Rattle.its_text.specs.Lexing.{tokens_of}
 use Rattle.its_text.specs.Written.{Section}

@@ -1,9 +1,9 @@
 -- What was worked out by hand of the texts of programs.
 use Rattle.std.specs.Prelude.{◌≡◌, ℕ, ◌++◌, List, [], ◌∷◌, length, codes, pos}
-use Rattle.model.specs.Terms.{Term, Literal, Variable, Negation, Subtraction, Multiplication, Exponentiation}
-use Rattle.model.specs.Programs.{Name, Symbol, Rule, Program, Atom, Always, Compare, AtLeast, MoreThan, AtMost}
-use Rattle.model.specs.Programs.{LessThan, EqualTo}
-use Rattle.text_core.specs.Reading.{Stands, Refused}
+use Rattle.expr_text.specs.model.Terms.{Term, Literal, Variable, Negation, Subtraction, Multiplication, Exponentiation}
+use Rattle.expr_text.specs.model.Programs.{Name, Symbol, Rule, Program, Atom, Always, Compare, AtLeast, MoreThan, AtMost}
+use Rattle.expr_text.specs.model.Programs.{LessThan, EqualTo}
+use Rattle.expr_text.specs.text_core.Reading.{Stands, Refused}
 use Rattle.its_text.specs.Kinds.{Kind, NotAscii, Syntax, MissingSection, RepeatedSection, ManyTargets, LeftNotVariable}
 use Rattle.its_text.specs.Kinds.{LeftRepeated, ArityDiffers, NumberTooLarge, Limit, HighDegree, StartUnknown}
 use Rattle.its_text.specs.Kinds.{Disjunction}

@@ -1,7 +1,7 @@
 -- What was worked out by hand of texts at the limits and just past them.
 use Rattle.std.specs.Prelude.{ℕ, zero, suc, ◌+◌, ◌/◌, ◌%◌, List, [], ◌∷◌, ◌++◌, codes, replicate, ⊤}
-use Rattle.model.specs.Programs.{Program}
-use Rattle.text_core.specs.Reading.{Answer, Stands, Refused}
+use Rattle.expr_text.specs.model.Programs.{Program}
+use Rattle.expr_text.specs.text_core.Reading.{Answer, Stands, Refused}
 use Rattle.its_text.specs.Kinds.{Kind, Syntax, Limit, TooManyArguments, TooManyVariables, TooManyAtoms, LongName}
 use Rattle.its_text.specs.Kinds.{TooManyTokens, TooManyTerms}
 use Rattle.its_text.specs.Answers.{verdict}
@@ -50,7 +50,7 @@ products n = with_rules (codes "l0()->l1((" ++ (joined variable (codes "+") 0 8
     ++ (codes ")*(" ++ (joined variable (codes "+") 10 n ++ codes "))"))))
 
 -- texts are read at a limit, and past it are refused where what is one too many begins
-pub record LimitsAreTold : Type 0 where
+pub record LimitsAreWorkedOut : Type 0 where
   -- 32 arguments on the left and on the right
   pub left_full : IsRead (left_arguments 32)
   pub left_passed : RefusedAt (left_arguments 33) 170 (Limit TooManyArguments)

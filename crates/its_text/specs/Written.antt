@@ -1,6 +1,6 @@
 -- Programs as they are written, with names in place of numbers. Each list has its last element first.
 use Rattle.std.specs.Prelude.{ℕ, List, [], ◌∷◌, codes, Option, Some, None}
-use Rattle.model.specs.Programs.{Name}
+use Rattle.expr_text.specs.model.Programs.{Name}
 use Rattle.expr_text.specs.Trees.{Sum, sum_behind}
 use Rattle.expr_text.specs.Guards.{Atoms, atoms_behind}
 use Rattle.its_text.specs.Pieces.{Piece, In, Comma, Arrow, GuardMark, SquareOpen, SquareClose, Remark, word}

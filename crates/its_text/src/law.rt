@@ -1,11 +1,11 @@
-// What holds of the texts of programs.
+//! What holds of the texts of programs.
 
-ghost use Rattle.text_core.specs.Laws.{AnswersAll, OneFirst};
+ghost use Rattle.expr_text.specs.text_core.Laws.{AnswersAll, OneFirst};
 ghost use Rattle.its_text.specs.Grammar.{programs};
 ghost use Rattle.its_text.specs.Spelling.{OneProgram, SpelledIsValid};
 ghost use Rattle.its_text.specs.Verdicts.{VerdictsAreRight, VerdictsAreSpelled};
 ghost use Rattle.its_text.specs.Worked.{WorkedValues};
-ghost use Rattle.its_text.specs.WorkedLimits.{LimitsAreTold};
+ghost use Rattle.its_text.specs.WorkedLimits.{LimitsAreWorkedOut};
 
 /// What small texts stand for, and what stands first against others and where, is what was worked out by hand. It has
 /// no code: its contract is the law.
@@ -36,7 +36,7 @@ pub fn spelled_programs_are_valid()
 
 /// Texts at a limit are read, and past it refused where what is one too many begins, as was worked out by hand.
 pub fn worked_limits_hold()
-    ensures { LimitsAreTold }
+    ensures { LimitsAreWorkedOut }
 {}
 
 /// The verdict on a text is the program by numbers of the sections that it writes, where nothing stands against it, or

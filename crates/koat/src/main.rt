@@ -1,4 +1,4 @@
-// The program `koat`: all that it does is one call of the library.
+//! The program `koat`: all that it does is one call of the library.
 #![tactic(auto)]
 
 use koat_cli::run_program;

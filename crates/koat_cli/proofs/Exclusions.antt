@@ -1,5 +1,6 @@
 -- The causes of two statuses don't stand together, where the shelf tells what it holds.
-use Rattle.std.proofs.Common.{◌≡◌, ◌⊎◌, ℕ, ◌≤◌, ◌<◌, List, length, Option, Some, None, IsSome, IfSome, refl, sym, ◌∙◌, ap, subst, inl, inr, arith, true, false, Bool, if◌then◌else◌}
+use Rattle.std.proofs.Common.{◌≡◌, ◌⊎◌, ℕ, ◌≤◌, ◌<◌, List, length, Option, Some, None, IsSome, IfSome, refl, sym, ◌∙◌}
+use Rattle.std.proofs.Common.{ap, subst, inl, inr, arith, true, false, Bool, if◌then◌else◌}
 use Rattle.std.specs.Prelude.{IsSomeAnd}
 use Rattle.std.specs.List.{list_all}
 use Rattle.std.specs.FinMap.{get}
@@ -7,12 +8,12 @@ use Rattle.outside_io.specs.Counts.{Rose}
 use Rattle.outside_io.specs.Files.{Files, IsHeld, HoldsMore, Lacks}
 use Rattle.outside_io.specs.Fetching.{IsTooLong, MayFail}
 use Rattle.model.specs.Programs.{Program}
-use Rattle.text_core.specs.Readers.{Fault}
-use Rattle.text_core.specs.Reading.{Answer, Stands, Refused}
-use Rattle.its_text.specs.Kinds.{Kind}
-use Rattle.its_text.specs.Spelling.{Spells, SpellsWithin, OneProgram}
-use Rattle.its_text.specs.Answers.{verdict}
-use Rattle.its_text.specs.Verdicts.{VerdictsAreSpelled}
+use Rattle.its_model.specs.text_core.Readers.{Fault}
+use Rattle.its_model.specs.text_core.Reading.{Answer, Stands, Refused}
+use Rattle.its_reader.specs.its_text.Kinds.{Kind}
+use Rattle.its_reader.specs.its_text.Spelling.{Spells, SpellsWithin, OneProgram}
+use Rattle.its_reader.specs.its_text.Answers.{verdict}
+use Rattle.its_reader.specs.its_text.Verdicts.{VerdictsAreSpelled}
 use Rattle.asks.specs.Lines.{Word, Words}
 use Rattle.asks.specs.Requests.{Analyse, Asks}
 use Rattle.asks.specs.Laws.{WordsAreReadInOneWay}
@@ -21,11 +22,12 @@ use Rattle.report_text.specs.Reports.{text_of_report}
 use Rattle.time_bounds.specs.Analysis.{IsAnalysis}
 use Rattle.time_bounds.specs.AnalysisLaws.{AnalysesAreOne}
 use Rattle.koat_cli.specs.declared.status.Status.{Status}
-use Rattle.koat_cli.specs.declared.status.Status.TheVariants.{Done, Unknown, Usage, ReadFault, WriteFault, Memory, ProgramRefused, ProofRefused, No, RunRefused, NotARun}
-use Rattle.koat_cli.specs.Report.{read_fault_text, refused_text}
+use Rattle.koat_cli.specs.declared.status.Status.TheVariants.{Done, Unknown, Usage, ReadFault, WriteFault, Memory}
+use Rattle.koat_cli.specs.declared.status.Status.TheVariants.{ProgramRefused, ProofRefused, No, RunRefused, NotARun}
+use Rattle.koat_cli.specs.Report.{read_fault_text, refusal_text}
 use Rattle.koat_cli.specs.Calls.{Call}
 use Rattle.koat_cli.specs.Causes.{program_limit, ReadsProgram, IsReported, IsUsage, IsRefusedTooLong, IsRefusedAt}
-use Rattle.koat_cli.specs.Ends.{Says}
+use Rattle.koat_cli.specs.Ends.{HasCause}
 use Rattle.koat_cli.specs.OfProgram.{status_of}
 use Rattle.koat_cli.specs.Exclusion.{CausesExcludeEachOther}
 
@@ -196,7 +198,7 @@ one_cause laws call files s t x y e (Faulty a) (Reported q b_is b) = absurd (fau
 one_cause laws call files s t x y e (Faulty a) (OtherWords b) = absurd (b.other (Analyse a.pivots a.read.file) a.read.asked)
 one_cause laws call files s t x y e (Faulty a) (Lacking n f asked lacks told) = absurd (read_not_lacking laws call files a.bytes a.pivots n f e a.read asked lacks)
 one_cause laws call files s t x y e (Faulty a) (Long b) = absurd (read_not_long laws call files a.bytes y a.pivots e a.read b)
-one_cause laws call files s t x y e (Faulty a) (Faulty b) = (refl, a.told ∙ (ap (λ (f : Fault Kind). refused_text f) (same_fault laws call files x y e a b) ∙ sym b.told))
+one_cause laws call files s t x y e (Faulty a) (Faulty b) = (refl, a.told ∙ (ap (λ (f : Fault Kind). refusal_text f) (same_fault laws call files x y e a b) ∙ sym b.told))
 
 -- the status of a report in which every rule has a time, or some has none
 pub done_is : (r : Report) → list_all is_timed r.times ≡ true → Done ≡ status_of r
@@ -214,7 +216,7 @@ refusal call x (inr h) = Faulty h
 -- what a status says is a cause, where a fault of reading is a file that is lacking
 pub cause_of : (call : Call) (s : Status) (x : List ℕ)
     → (s ≡ ReadFault → (file : List ℕ) → MayFail call.held file call.faults_before call.faults_after → Lacks call.held file)
-    → Says s call x → Cause call s x
+    → HasCause s call x → Cause call s x
 cause_of call Done x lacking h = Reported h.report (done_is h.report h.all_timed) h.reported
 cause_of call Unknown x lacking h = Reported h.report (unknown_is h.report h.some_untimed) h.reported
 cause_of call Usage x lacking h = OtherWords h
@@ -242,7 +244,7 @@ told_is None h = absurd (different h)
 told_is (Some files) h = (files, refl)
 
 -- words that ask for nothing are the cause of no other status
-pub only_usage : (call : Call) (t : Status) (x y : List ℕ) → IsUsage call x → Says t call y → t ≡ Usage
+pub only_usage : (call : Call) (t : Status) (x y : List ℕ) → IsUsage call x → HasCause t call y → t ≡ Usage
 only_usage call Usage x y usage h = refl
 only_usage call Done x y usage h = absurd (usage.other (Analyse h.reported.pivots h.reported.read.file) h.reported.read.asked)
 only_usage call Unknown x y usage h = absurd (usage.other (Analyse h.reported.pivots h.reported.read.file) h.reported.read.asked)

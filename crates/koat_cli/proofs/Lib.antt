@@ -1,4 +1,6 @@
 pub mod Sayings
 pub mod Exclusions
+pub mod DeterminedCalls
+pub mod Answering
 pub mod WorkedEnds
-pub mod ToldReports
+pub mod AnalysisTexts

@@ -1,26 +1,30 @@
 -- What a fault of the sink leaves of the usage text.
-use Rattle.std.proofs.Common.{◌≡◌, ℕ, zero, suc, ◌≤◌, List, [], ◌++◌, length, take, get_or, Some, refl, ap, subst, arith, codes}
+use Rattle.std.proofs.Common.{◌≡◌, ℕ, zero, suc, ◌≤◌, ◌<◌, List, [], ◌++◌, length, take, get_or, Some, refl, ap, subst}
+use Rattle.std.proofs.Common.{arith, codes, inl, inr}
 use Rattle.std.proofs.lemmas.List.{length-take-le}
+use Rattle.outside_io.specs.Counts.{Rose}
 use Rattle.outside_io.specs.Putting.{AppendsPrefix}
 use Rattle.koat_cli.specs.declared.status.Status.{Status}
-use Rattle.koat_cli.specs.declared.status.Status.TheVariants.{Usage}
+use Rattle.koat_cli.specs.declared.status.Status.TheVariants.{Usage, ReadFault}
 use Rattle.asks.specs.Requests.{Request, Analyse, Asks}
 use Rattle.asks.specs.Usage.{usage_text}
-use Rattle.koat_cli.specs.Causes.{IsUsage}
-use Rattle.koat_cli.specs.Ends.{Says}
-use Rattle.koat_cli.specs.WorkedEnds.{without_words, Left, FaultsLeaveFirstBytes}
+use Rattle.koat_cli.specs.Calls.{Call}
+use Rattle.koat_cli.specs.Causes.{IsUsage, IsReadFault}
+use Rattle.koat_cli.specs.Ends.{HasCause, WroteInPart}
+use Rattle.koat_cli.specs.WorkedEnds.{without_words, behind_fault, left_with, Left, FaultsLeaveFirstBytes}
 use Rattle.koat_cli.proofs.Exclusions.{only_usage}
 
--- no words ask for the usage text
+-- no words ask for anything
+none_asks : (request : Request) → Asks [] request → ⊥
+none_asks (Analyse pivots file) h = omega (arith, ap length h.command)
+
+-- so they get the usage text
 usage : IsUsage without_words usage_text
 usage = record { other = λ request h. none_asks request h; told = refl }
-  where
-    none_asks : (request : Request) → Asks [] request → ⊥
-    none_asks (Analyse pivots file) h = omega (arith, ap length h.command)
 
 -- so they say nothing else
-only_text : (status : Status) (text : List ℕ) → Says status without_words text → text ≡ usage_text
-only_text status text h = told (subst (λ (s : Status). Says s without_words text) (only_usage without_words status usage_text text usage h) h)
+only_text : (status : Status) (text : List ℕ) → HasCause status without_words text → text ≡ usage_text
+only_text status text h = told (subst (λ (s : Status). HasCause s without_words text) (only_usage without_words status usage_text text usage h) h)
   where
     told : IsUsage without_words text → text ≡ usage_text
     told u = u.told
@@ -32,11 +36,19 @@ left bytes h =
     let prefix : AppendsPrefix (Some (codes "old ")) (Some bytes) usage_text = subst (λ (t : List ℕ). AppendsPrefix (Some (codes "old ")) (Some bytes) t) same h.appended in
     (prefix.count, prefix.within, prefix.appends)
 
+-- its shelf had no fault
+no_fault : 0 < 0 → Usage ≡ ReadFault
+no_fault h = absurd (no_less h)
+  where
+    no_less : 0 < 0 → ⊥
+    no_less less = omega (arith, less)
+
 -- some first bytes are left
 leaves : (k : ℕ) → k ≤ length usage_text → Left (codes "old " ++ take k usage_text)
 leaves k within = record {
-  fault = omega arith;
+  fault = inl (omega arith);
   status = Usage;
+  behind_fault = no_fault;
   text = usage_text;
   says = usage;
   appended = record { count = k; within = within; appends = refl };
@@ -55,6 +67,18 @@ first_bytes bytes h = go (left bytes h)
 few_bytes : (bytes : List ℕ) → Left bytes → length bytes ≤ 42
 few_bytes bytes h = let l = left bytes h in omega (arith, ap length l.2, length-take-le l.0 usage_text l.1, l.1)
 
+-- a count that stays at 3 hasn't risen
+not_risen : ¬ (Rose 3 3)
+not_risen (inl greater) = omega (arith, greater)
+not_risen (inr at_the_end) = omega (arith, at_the_end)
+
+-- behind a fault of the shelf no words have a text
+no_text : (bytes : List ℕ) → ¬ (WroteInPart behind_fault (left_with 4 bytes))
+no_text bytes h = of_read_fault (subst (λ (s : Status). HasCause s behind_fault h.text) (h.behind_fault (omega arith)) h.says)
+  where
+    of_read_fault : IsReadFault behind_fault h.text → ⊥
+    of_read_fault r = none_asks (Analyse r.pivots r.file) r.asked
+
 -- faults leave what was worked out
 pub faults_leave : FaultsLeaveFirstBytes
 faults_leave = record {
@@ -65,5 +89,6 @@ faults_leave = record {
   last_bytes = λ h. omega (arith, (first_bytes (codes "old sage") h).0);
   in_place = λ h. omega (arith, (first_bytes (codes "usa") h).1);
   more = λ h. omega (arith, few_bytes (codes "old " ++ (usage_text ++ codes "u")) h);
-  no_rise = λ bytes h. omega (arith, h.fault);
+  no_rise = λ bytes h. not_risen h.fault;
+  no_text_behind_fault = no_text;
 }

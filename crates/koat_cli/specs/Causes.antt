@@ -4,13 +4,13 @@ use Rattle.std.specs.List.{list_all}
 use Rattle.outside_io.specs.Files.{IsHeld}
 use Rattle.outside_io.specs.Fetching.{IsTooLong, MayFail}
 use Rattle.model.specs.Programs.{Program}
-use Rattle.text_core.specs.Readers.{Fault}
-use Rattle.text_core.specs.Reading.{Refused}
-use Rattle.its_text.specs.Kinds.{Kind}
-use Rattle.its_text.specs.Spelling.{SpellsWithin}
-use Rattle.its_text.specs.Answers.{verdict}
-use Rattle.its_text.specs.Verdicts.{IsVerdict}
-use Rattle.asks.specs.Lines.{Word}
+use Rattle.its_model.specs.text_core.Readers.{Fault}
+use Rattle.its_model.specs.text_core.Reading.{Refused}
+use Rattle.its_reader.specs.its_text.Kinds.{Kind}
+use Rattle.its_reader.specs.its_text.Spelling.{SpellsWithin}
+use Rattle.its_reader.specs.its_text.Answers.{verdict}
+use Rattle.its_reader.specs.its_text.Verdicts.{IsVerdict}
+use Rattle.asks.specs.Lines.{Word, Words}
 use Rattle.asks.specs.Requests.{Request, Analyse, Asks}
 use Rattle.asks.specs.Usage.{usage_text}
 use Rattle.outcome.specs.Reports.{Report, is_timed}
@@ -18,18 +18,19 @@ use Rattle.outcome.specs.Holding.{ReportHolds}
 use Rattle.report_text.specs.States.{States}
 use Rattle.time_bounds.specs.Analysis.{IsAnalysis}
 use Rattle.koat_cli.specs.Calls.{Call}
-use Rattle.koat_cli.specs.Report.{read_fault_text, too_long_text, refused_text}
+use Rattle.koat_cli.specs.Report.{read_fault_text, too_long_text, refusal_text}
 
 -- a program's text has at most 4,194,304 bytes
 abbrev pub program_limit : ℕ
 program_limit = 2 ^ 22
 
--- the words ask for an analysis with so many pivots, and these are the bytes of the file that they name, which aren't
--- too many
+-- the words ask for an analysis with so many pivots, and these are the bytes of the file that they name, as many as the
+-- last fetch took, which aren't too many
 pub record ReadsProgram (call : Call) (bytes : List ℕ) (pivots : ℕ) : Type 0 where
   pub file : Word
   pub asked : Asks call.words (Analyse pivots file)
   pub held : IsHeld call.held file bytes
+  pub taken : call.taken ≡ length bytes
   pub within : length bytes ≤ program_limit
 
 -- the text states what the analysis of the program that the file spells found; and every bound in it holds on every run
@@ -56,9 +57,13 @@ pub record IsUnbounded (call : Call) (text : List ℕ) : Type 0 where
   pub reported : IsReported call text report
   pub some_untimed : IsFalse (list_all is_timed report.times)
 
+-- the words are no command line
+abbrev pub AsksForNothing : Words → Type 0
+AsksForNothing words = (request : Request) → ¬ (Asks words request)
+
 -- no command line is asked for
 pub record IsUsage (call : Call) (text : List ℕ) : Type 0 where
-  pub other : (request : Request) → ¬ (Asks call.words request)
+  pub other : AsksForNothing call.words
   pub told : text ≡ usage_text
 
 -- the file that is asked for can't be had: the shelf had a fault in this call, or tells that it lacks the name
@@ -86,7 +91,7 @@ pub record IsRefusedAt (call : Call) (text : List ℕ) : Type 0 where
   pub fault : Fault Kind
   pub refused : verdict bytes ≡ Refused fault
   pub first : IsVerdict bytes (Refused fault)
-  pub told : text ≡ refused_text fault
+  pub told : text ≡ refusal_text fault
 
 -- the program is refused, for one of the two causes
 abbrev pub IsProgramRefused : Call → List ℕ → Type 0

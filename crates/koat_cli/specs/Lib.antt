@@ -6,7 +6,8 @@ pub mod Numbers
 pub mod Ends
 pub mod Processes
 pub mod Exclusion
-pub mod ToldReports
+pub mod Answering
+pub mod AnalysisTexts
 -- values that were worked out by hand
 pub mod WorkedEnds
 -- what the contracts of the functions inside cite

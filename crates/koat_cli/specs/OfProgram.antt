@@ -14,7 +14,7 @@ abbrev pub status_of : Report → Status
 status_of report = if list_all is_timed report.times then Done else Unknown
 
 -- the text states what the analysis of the program found, which holds on all runs, and the status is that of the report
-pub record SaysOfProgram (program : Program) (pivots : ℕ) (status : Status) (text : List ℕ) : Type 0 where
+pub record StatesAnalysis (program : Program) (pivots : ℕ) (status : Status) (text : List ℕ) : Type 0 where
   pub report : Report
   pub found : IsAnalysis program pivots report
   pub stated : States program text report

@@ -1,10 +1,10 @@
 -- The texts that the program writes, but for its report and the usage text.
 use Rattle.std.specs.Prelude.{ℕ, List, ◌++◌, codes, decimal}
-use Rattle.text_core.specs.Readers.{Fault}
-use Rattle.its_text.specs.Kinds.{LimitKind, TooManyRules, TooManyArguments, TooManyVariables, TooManyAtoms, LongName}
-use Rattle.its_text.specs.Kinds.{TooManyTokens, TooManyTerms, HighDegree}
-use Rattle.its_text.specs.Kinds.{Kind, NotAscii, Syntax, MissingSection, RepeatedSection, ManyTargets, LeftNotVariable}
-use Rattle.its_text.specs.Kinds.{LeftRepeated, ArityDiffers, NumberTooLarge, Limit, StartUnknown, Disjunction}
+use Rattle.its_model.specs.text_core.Readers.{Fault}
+use Rattle.its_reader.specs.its_text.Kinds.{LimitKind, TooManyRules, TooManyArguments, TooManyVariables, TooManyAtoms, LongName}
+use Rattle.its_reader.specs.its_text.Kinds.{TooManyTokens, TooManyTerms, HighDegree}
+use Rattle.its_reader.specs.its_text.Kinds.{Kind, NotAscii, Syntax, MissingSection, RepeatedSection, ManyTargets, LeftNotVariable}
+use Rattle.its_reader.specs.its_text.Kinds.{LeftRepeated, ArityDiffers, NumberTooLarge, Limit, StartUnknown, Disjunction}
 
 -- the text where a file can't be had
 abbrev pub read_fault_text : List ℕ
@@ -41,8 +41,8 @@ kind_text StartUnknown = codes "StartUnknown"
 kind_text Disjunction = codes "Disjunction"
 
 -- the text of a refusal: the byte, from 0, and what is wrong there
-abbrev pub told_at : ℕ → List ℕ → List ℕ
-told_at at kind = codes "program refused at " ++ (decimal at ++ (codes ": " ++ (kind ++ codes "\n")))
+abbrev pub refusal_line : ℕ → List ℕ → List ℕ
+refusal_line at kind = codes "program refused at " ++ (decimal at ++ (codes ": " ++ (kind ++ codes "\n")))
 
-abbrev pub refused_text : Fault Kind → List ℕ
-refused_text x = told_at x.at (kind_text x.kind)
+abbrev pub refusal_text : Fault Kind → List ℕ
+refusal_text x = refusal_line x.at (kind_text x.kind)

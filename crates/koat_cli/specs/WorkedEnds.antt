@@ -2,11 +2,15 @@
 use Rattle.std.specs.Prelude.{ℕ, List, [], ◌++◌, None, Some, codes}
 use Rattle.koat_cli.specs.Calls.{Call, Put}
 use Rattle.asks.specs.Usage.{usage_text}
-use Rattle.koat_cli.specs.Ends.{Broke}
+use Rattle.koat_cli.specs.Ends.{WroteInPart}
 
 -- a call without words, on a shelf that doesn't tell what it holds and had no fault
 abbrev pub without_words : Call
 without_words = record { words = []; held = None; faults_before = 0; faults_after = 0; taken = 0 }
+
+-- the same call on a shelf that had a fault in it
+abbrev pub behind_fault : Call
+behind_fault = record { words = []; held = None; faults_before = 0; faults_after = 1; taken = 0 }
 
 -- a put that left these bytes behind the text `old`, after which the sink counts so many faults; before it counted 3
 abbrev pub left_with : ℕ → List ℕ → Put
@@ -19,10 +23,11 @@ left_with faults bytes = record {
 
 -- with a rise of the count from 3 to 4 the call without words left these bytes
 abbrev pub Left : List ℕ → Type 0
-Left bytes = Broke without_words (left_with 4 bytes)
+Left bytes = WroteInPart without_words (left_with 4 bytes)
 
 -- some first bytes of the usage text, none or all of them, stand behind what was there; no others do, nothing stands
--- in place of what was there, and without a rise of the count there was no fault
+-- in place of what was there; without a rise of the count there was no fault, and behind a fault of the shelf nothing
+-- comes of words that ask for no file
 pub record FaultsLeaveFirstBytes : Type 0 where
   pub none : Left (codes "old ")
   pub some : Left (codes "old usa")
@@ -31,4 +36,5 @@ pub record FaultsLeaveFirstBytes : Type 0 where
   pub last_bytes : ¬ (Left (codes "old sage"))
   pub in_place : ¬ (Left (codes "usa"))
   pub more : ¬ (Left (codes "old " ++ (usage_text ++ codes "u")))
-  pub no_rise : (bytes : List ℕ) → ¬ (Broke without_words (left_with 3 bytes))
+  pub no_rise : (bytes : List ℕ) → ¬ (WroteInPart without_words (left_with 3 bytes))
+  pub no_text_behind_fault : (bytes : List ℕ) → ¬ (WroteInPart behind_fault (left_with 4 bytes))

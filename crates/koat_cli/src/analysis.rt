@@ -1,4 +1,4 @@
-// The analysis of a program's text.
+//! The analysis of a program's text.
 
 ghost use Rattle.std.specs.Prelude.{◌≡◌, ℕ, if◌then◌else◌, IfOk};
 ghost use Rattle.std.specs.List.{list_all};
@@ -8,12 +8,12 @@ ghost use Rattle.outcome.specs.Views.{report_of};
 ghost use Rattle.report_text.specs.Conditions.{is_known};
 ghost use Rattle.koat_cli.specs.Calls.{Call};
 ghost use Rattle.koat_cli.specs.Causes.{ReadsProgram};
-ghost use Rattle.koat_cli.specs.Ends.{Says};
-ghost use Rattle.koat_cli.specs.OfProgram.{SaysOfProgram, status_of as status_of_report};
+ghost use Rattle.koat_cli.specs.Ends.{HasCause};
+ghost use Rattle.koat_cli.specs.OfProgram.{StatesAnalysis, status_of as status_of_report};
 
 use crate::refusal::refusal;
-use crate::said::Said;
 use crate::status::Status;
+use crate::status_text::StatusText;
 use its_model::Program;
 use its_reader::read;
 use model::Memory;
@@ -24,13 +24,13 @@ use time_bounds::analyse;
 
 /// What the program says of a text with so many pivots for each linear program: the report on its program, or what
 /// stands first against it.
-pub(crate) fn analyse_text(alloc: Global, bytes: &[u8], pivots: u32) -> Result<Said, Memory>
+pub(crate) fn analyse_text(alloc: Global, bytes: &[u8], pivots: u32) -> Result<StatusText, Memory>
     ensures { IfOk result (λ said. (call : Call) → ReadsProgram call bytes.now pivots
-        → Says said.status call said.text.items) }
+        → HasCause said.status call said.text.items) }
 {
     match read(alloc, bytes) {
         Ok(program) => analyse_program(alloc, &program, pivots),
-        Err(error) => Ok(Said {
+        Err(error) => Ok(StatusText {
             status: Status::ProgramRefused,
             text: refusal(alloc, &error)?,
         }),
@@ -38,13 +38,13 @@ pub(crate) fn analyse_text(alloc: Global, bytes: &[u8], pivots: u32) -> Result<S
 }
 
 // What the program says of a program that was read.
-fn analyse_program(alloc: Global, program: &Program, pivots: u32) -> Result<Said, Memory>
+fn analyse_program(alloc: Global, program: &Program, pivots: u32) -> Result<StatusText, Memory>
     requires { IsValid (program_of program.now) }
-    ensures { IfOk result (λ said. SaysOfProgram (program_of program.now) pivots said.status said.text.items) }
+    ensures { IfOk result (λ said. StatesAnalysis (program_of program.now) pivots said.status said.text.items) }
 {
     let found = analyse(alloc, program, pivots)?;
     let text = print(alloc, program, &found)?;
-    Ok(Said {
+    Ok(StatusText {
         status: status_of(&found),
         text,
     })

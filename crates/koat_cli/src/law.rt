@@ -1,8 +1,9 @@
-// What the causes of the statuses have to do with each other, what the text of an analysis tells, and values that were
-// worked out by hand.
+//! What the causes of the statuses have to do with each other, what the text of an analysis tells, and values that were
+//! worked out by hand.
 
+ghost use Rattle.koat_cli.specs.Answering.{HeldFilesAreAnswered};
 ghost use Rattle.koat_cli.specs.Exclusion.{CausesExcludeEachOther};
-ghost use Rattle.koat_cli.specs.ToldReports.{ReportsAreTold};
+ghost use Rattle.koat_cli.specs.AnalysisTexts.{AnalysisTextsStateOneReport};
 ghost use Rattle.koat_cli.specs.WorkedEnds.{FaultsLeaveFirstBytes};
 
 /// The law that no two statuses have their causes in one call of `run` on a shelf that tells what it holds. So each
@@ -12,11 +13,20 @@ pub fn causes_exclude_each_other()
     ensures { CausesExcludeEachOther }
 {}
 
+/// The law that a call whose words ask for the analysis of a file that the shelf tells that it holds, and in which no
+/// count of faults rises, ends with `Done`, `Unknown`, `ProgramRefused` or for want of memory, and, want of memory
+/// aside, with `Done` exactly where the file spells a program within the limits whose analysis has a time for every
+/// rule, with `Unknown` exactly where some rule of it has none, and with `ProgramRefused` exactly where it spells none.
+/// It has no code: its contract is the law.
+pub fn held_files_are_answered()
+    ensures { HeldFilesAreAnswered }
+{}
+
 /// The law that the report of an analysis of a valid program, whose numbers fit the types that hold them, can be told
 /// from its text: the text states no other report that can be printed, and none of another analysis of the program. It
 /// has no code: its contract is the law.
-pub fn reports_are_told()
-    ensures { ReportsAreTold }
+pub fn analysis_texts_state_one_report()
+    ensures { AnalysisTextsStateOneReport }
 {}
 
 /// What a fault of the sink leaves of a text was worked out by hand. It has no code: its contract is these values.

@@ -1,5 +1,5 @@
-// The program's top call, from the words of the command line to the status. Its contract is the theorem: after status 0
-// the report on the sink is true on every run of the program that the file spells.
+//! The program's top call, from the words of the command line to the status. Its contract is the theorem: after status 0
+//! the report on the sink is true on every run of the program that the file spells.
 #![tactic(auto)]
 
 mod analysis;
@@ -7,11 +7,16 @@ mod law;
 mod preparation;
 mod program;
 mod refusal;
-mod said;
 mod status;
+mod status_text;
 mod top_call;
 
-pub use law::{causes_exclude_each_other, reports_are_told, worked_ends_hold};
+pub use asks::{Request, asks};
+pub use law::{
+    analysis_texts_state_one_report, causes_exclude_each_other, held_files_are_answered,
+    worked_ends_hold,
+};
 pub use program::run_program;
+pub use report_text::print as print_report;
 pub use status::Status;
 pub use top_call::run;

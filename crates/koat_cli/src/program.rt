@@ -1,4 +1,4 @@
-// What the program does, from its words to the status of its process.
+//! What the program does, from its words to the status of its process.
 
 ghost use Rattle.std.specs.Prelude.{◌≡◌, ◌≢◌, ◌≤◌, [], drop, IfErr, IfOk, IsSome};
 ghost use Rattle.std.specs.IoError.{error_kind};

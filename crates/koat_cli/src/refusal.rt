@@ -1,8 +1,8 @@
-// The text of a refusal of a program.
+//! The text of a refusal of a program.
 
 ghost use Rattle.std.specs.Prelude.{◌≡◌, IfOk, IfSome, IsErr, None};
 ghost use Rattle.its_reader.specs.Faults.{fault_in, limit_of};
-ghost use Rattle.koat_cli.specs.Report.{limit_text as text_of_limit, told_at, refused_text};
+ghost use Rattle.koat_cli.specs.Report.{limit_text as text_of_limit, refusal_line, refusal_text};
 
 use itoa::Buffer;
 use its_reader::{LimitKind, ReadError};
@@ -15,7 +15,7 @@ use std::alloc::{AllocError, Global};
 ///
 /// `Memory` where an allocation fails, and where the text wasn't read for want of memory.
 pub(crate) fn refusal(alloc: Global, error: &ReadError) -> Result<Vec<u8>, Memory>
-    ensures told { IfOk result (λ text. IfSome (fault_in error.now) (λ x. text.items ≡ refused_text x)) }
+    ensures told { IfOk result (λ text. IfSome (fault_in error.now) (λ x. text.items ≡ refusal_text x)) }
     ensures memory { fault_in error.now ≡ None → IsErr result }
 {
     match error {
@@ -53,7 +53,7 @@ fn limit_text(kind: LimitKind) -> &'static [u8]
 
 // The text of a refusal at this byte.
 fn refused_at(alloc: Global, at: u64, kind: &[u8]) -> Result<Vec<u8>, Memory>
-    ensures { IfOk result (λ text. text.items ≡ told_at at kind.now) }
+    ensures { IfOk result (λ text. text.items ≡ refusal_line at kind.now) }
 {
     let mut buffer = Buffer::new();
     let mut text = Vec::from_slice(alloc, b"program refused at ")?;

@@ -1,4 +1,4 @@
-// How the program ends.
+//! How the program ends.
 
 /// The status with which the program ends. Its number is its place in this list, from 0.
 #[derive(Clone, Copy, Debug, PartialEq, Eq)]

@@ -1,7 +1,8 @@
-// The top call.
+//! The top call.
 
-ghost use Rattle.std.specs.Prelude.{◌≡◌, ◌≤◌, IsSome};
+ghost use Rattle.std.specs.Prelude.{◌≡◌, ◌≤◌, map, string_bytes, IsSome};
 ghost use Rattle.koat_cli.specs.Calls.{call_of, put_of};
+ghost use Rattle.koat_cli.specs.Causes.{AsksForNothing};
 ghost use Rattle.koat_cli.specs.Ends.{Ends};
 
 use crate::preparation::prepare;
@@ -30,7 +31,9 @@ use std::alloc::Global;
 /// - `Memory`: memory ran out; the sink is as it was.
 ///
 /// With each status but the last two the whole text of the status was written behind what the sink held. What the shelf
-/// holds stays as it was. Another call may follow any status.
+/// holds stays as it was, and words that are no command line leave the whole shelf as it was. Where the shelf's count
+/// of faults is greater after the call than before, the status is `ReadFault`, `WriteFault` or `Memory`. Another call
+/// may follow any status.
 pub fn run<F: Shelf, S: Sink>(
     alloc: Global,
     words: &[String],
@@ -40,6 +43,7 @@ pub fn run<F: Shelf, S: Sink>(
     ensures ends { Ends result (call_of F.Shelf words.now shelf.old shelf.new) (put_of S.Sink sink.old sink.new) }
     ensures memory { result ≡ Status.Memory → sink.new ≡ sink.old }
 
+    ensures untouched { AsksForNothing (map string_bytes words.now) → shelf.new ≡ shelf.old }
     ensures keeps_files { F.held shelf.new ≡ F.held shelf.old }
     ensures keeps_shelf_count { F.faults shelf.old ≤ F.faults shelf.new }
     ensures keeps_sink_count { S.faults sink.old ≤ S.faults sink.new }

@@ -1,5 +1,5 @@
-// The program `koat` under another name, which is run on words that are no command line, and so ends with another
-// status.
+//! The program `koat` under another name, which is run on words that are no command line, and so ends with another
+//! status.
 #![tactic(auto)]
 
 use koat_cli::run_program;

@@ -5,7 +5,8 @@ use Rattle.std.proofs.lemmas.Int.{ints}
 use Rattle.std.proofs.lemmas.List.Elements.{All-nil, All-cons, All-head, All-tail}
 use Rattle.linear_forms.specs.Forms.{Form, at, form_value}
 use Rattle.linear_forms.specs.Points.{Meets}
-use Rattle.linear_forms.specs.CertificateLaws.{FormsHaveTheirValues, PointsAreTold, CertificatesAreTold, plane, at_two}
+use Rattle.linear_forms.specs.CertificateLaws.{FormsHaveTheirValues, PointsAreWorkedOut, CertificatesAreWorkedOut}
+use Rattle.linear_forms.specs.CertificateLaws.{plane, at_two}
 
 -- forms have the values that were worked out
 pub values : FormsHaveTheirValues
@@ -34,7 +35,7 @@ abbrev row_b : Form
 row_b = plane (negsuc 0) (pos 1) (pos 0)
 
 -- points and rays are told apart from what is none
-pub points : PointsAreTold
+pub points : PointsAreWorkedOut
 points = record {
   corner = record { denominator = omega (arith, ints); meets = meets_two row_a row_b (at_two (pos 1) (pos 1)) (pos 1) (omega (arith, ints)) (omega (arith, ints)) };
   halves = record { denominator = omega (arith, ints); meets = meets_two row_a row_b (at_two (pos 3) (pos 4)) (pos 2) (omega (arith, ints)) (omega (arith, ints)) };
@@ -48,7 +49,7 @@ points = record {
 }
 
 -- what follows from two multipliers on two rows of two unknowns is seen at the unknowns themselves
-pub certificates : CertificatesAreTold
+pub certificates : CertificatesAreWorkedOut
 certificates = record {
   sum = record { long = refl; coefs = sum_coefs; constant = omega (arith, ints) };
   multiples = record { long = refl; coefs = multiples_coefs; constant = omega (arith, ints) };

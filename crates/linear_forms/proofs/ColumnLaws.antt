@@ -1,5 +1,6 @@
 -- The columns of a group's lines, and what a list of numbers for the equations gives them.
-use Rattle.std.proofs.Common.{◌≡◌, ℕ, zero, suc, ◌+◌, ◌<◌, ◌≤◌, ap, arith, refl, sym, ◌∙◌, List, [], ◌∷◌, ◌++◌, length, map, get_or, replicate}
+use Rattle.std.proofs.Common.{◌≡◌, ℕ, zero, suc, ◌+◌, ◌<◌, ◌≤◌, ap, arith, refl, sym, ◌∙◌, List, [], ◌∷◌, ◌++◌, length}
+use Rattle.std.proofs.Common.{map, get_or, replicate}
 use Rattle.std.specs.Prelude.{ℤ, pos, negsuc, ◌+ℤ◌, ◌*ℤ◌, neg_ℤ}
 use Rattle.std.proofs.lemmas.Int.{ints}
 use Rattle.std.proofs.lemmas.List.{get_or_past, get_or_append_left, get_or-append-add}
@@ -8,10 +9,13 @@ use Rattle.int_laws.proofs.RingLaws.{mul_comm_ℤ, neg-mul_ℤ}
 use Rattle.int_laws.proofs.SumLaws.{sum_to-same, sum_to-zero}
 use Rattle.linear_forms.specs.Forms.{Form, at, list_dot, form_value}
 use Rattle.linear_forms.specs.Combinations.{zero_form}
-use Rattle.linear_forms.specs.Questions.{Group, Equation, no_equation, number, slack, signed, line, listed, equations, double}
+use Rattle.linear_forms.specs.Questions.{Group, Equation, no_equation, number, slack, signed, line, listed, equations}
+use Rattle.linear_forms.specs.Questions.{double}
 use Rattle.linear_forms.specs.QuestionLaws.{after}
-use Rattle.linear_forms.proofs.ListLaws.{list_dot-append, length-signed, sum_to-first, list_dot-sum, length-listed, list_dot-listed, map-listed}
-use Rattle.linear_forms.proofs.SolutionLaws.{length-map, number-unknown, number-constant, slack-unknown, slack-constant, length-line}
+use Rattle.linear_forms.proofs.ListLaws.{list_dot-append, length-signed, sum_to-first, list_dot-sum, length-listed}
+use Rattle.linear_forms.proofs.ListLaws.{list_dot-listed, map-listed}
+use Rattle.linear_forms.proofs.SolutionLaws.{length-map, number-unknown, number-constant, slack-unknown, slack-constant}
+use Rattle.linear_forms.proofs.SolutionLaws.{length-line}
 
 -- a number of each equation, times the equation's part of the dual, added up
 abbrev pub weighed : (Equation → ℤ) → List Equation → (ℕ → ℤ) → ℤ

@@ -1,5 +1,6 @@
 -- A dual or prices of a question's program, cut into an element for each group.
-use Rattle.std.proofs.Common.{◌≡◌, ℕ, zero, suc, ◌+◌, ◌<◌, ◌≤◌, ap, arith, refl, sym, subst, ◌∙◌, List, [], ◌∷◌, ◌++◌, length, map, get_or, replicate}
+use Rattle.std.proofs.Common.{◌≡◌, ℕ, zero, suc, ◌+◌, ◌<◌, ◌≤◌, ap, arith, refl, sym, subst, ◌∙◌, List, [], ◌∷◌, ◌++◌}
+use Rattle.std.proofs.Common.{length, map, get_or, replicate}
 use Rattle.std.specs.Prelude.{ℤ, pos, ◌+ℤ◌, ◌*ℤ◌, neg_ℤ, ◌≤ℤ◌, ◌<ℤ◌}
 use Rattle.std.specs.List.{All}
 use Rattle.std.proofs.lemmas.Int.{ints}
@@ -9,10 +10,13 @@ use Rattle.int_laws.proofs.SumLaws.{sum_to-same}
 use Rattle.linear_forms.specs.Forms.{Form, at, form_value}
 use Rattle.linear_forms.specs.Combinations.{zero_form}
 use Rattle.linear_forms.specs.LinearProgram.{IsDual}
-use Rattle.linear_forms.specs.Questions.{Group, Question, IsShaped, IsGroupShaped, Equation, number, slack, line, equations, double, group_columns, program_of_question}
+use Rattle.linear_forms.specs.Questions.{Group, Question, IsShaped, IsGroupShaped, Equation, number, slack, line}
+use Rattle.linear_forms.specs.Questions.{equations, double, group_columns, program_of_question}
 use Rattle.linear_forms.specs.QuestionLaws.{after, elements_of, AreElements, total_of, fixed_total, Refutes}
 use Rattle.linear_forms.proofs.SolutionLaws.{length-map}
-use Rattle.linear_forms.proofs.ColumnLaws.{weighed, weighed_lines, weighed-sum, weighed-cut, form-weighed, neg-weighed, slack-weighed, zero-weighed, at-plus, at-minus, at-before, at-row, at-slack, at-past, get_or-map}
+use Rattle.linear_forms.proofs.ColumnLaws.{weighed, weighed_lines, weighed-sum, weighed-cut, form-weighed, neg-weighed}
+use Rattle.linear_forms.proofs.ColumnLaws.{slack-weighed, zero-weighed, at-plus, at-minus, at-before, at-row, at-slack}
+use Rattle.linear_forms.proofs.ColumnLaws.{at-past, get_or-map}
 
 -- what the equations' parts give a column
 abbrev pub column : ℕ → List Equation → (ℕ → ℤ) → ℤ

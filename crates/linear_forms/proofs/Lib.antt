@@ -12,3 +12,6 @@ pub mod ProgramLaws
 pub mod FormLaws
 pub mod CertificateLaws
 pub mod CertificateValues
+pub mod CauseLaws
+-- the lemmas of the crates below, which callers name through this one
+pub use Rattle.int_laws.proofs as int_laws

@@ -6,7 +6,8 @@ use Rattle.int_laws.specs.Sums.{dot}
 use Rattle.int_laws.specs.Polynomial.{variable, constant, ◌⊗◌}
 use Rattle.int_laws.proofs.Identities.{identity, identity_by_one}
 use Rattle.int_laws.proofs.RingLaws.{mul_comm_ℤ, mul_assoc_ℤ}
-use Rattle.int_laws.proofs.OrderLaws.{mul-nonneg_ℤ, mul-le-mul_ℤ, le-of-mul_ℤ, mul-positive_ℤ, lt-of-mul_ℤ, mul-cancel_ℤ}
+use Rattle.int_laws.proofs.OrderLaws.{mul-nonneg_ℤ, mul-le-mul_ℤ, le-of-mul_ℤ, mul-positive_ℤ, lt-of-mul_ℤ}
+use Rattle.int_laws.proofs.OrderLaws.{mul-cancel_ℤ}
 use Rattle.int_laws.proofs.SumLaws.{sum_to-same}
 use Rattle.int_laws.proofs.DotLaws.{dot-scaled_behind}
 use Rattle.linear_forms.specs.LinearProgram.{LinearProgram, IsSolution, ArePrices, HasPrices, IsLeast, IsDual}

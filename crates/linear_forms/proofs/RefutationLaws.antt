@@ -1,5 +1,6 @@
 -- What parameters that make the goals at least 0 on all points give at the elements of a dual or of prices.
-use Rattle.std.proofs.Common.{◌≡◌, ℕ, zero, suc, ◌*◌, ◌≤◌, ap, arith, refl, sym, subst, ◌∙◌, List, [], ◌∷◌, length, map, get_or}
+use Rattle.std.proofs.Common.{◌≡◌, ℕ, zero, suc, ◌*◌, ◌≤◌, ap, arith, refl, sym, subst, ◌∙◌, List, [], ◌∷◌, length, map}
+use Rattle.std.proofs.Common.{get_or}
 use Rattle.std.specs.Prelude.{ℤ, pos, negsuc, ◌+ℤ◌, ◌*ℤ◌, neg_ℤ, ◌≤ℤ◌, ◌<ℤ◌, nat_abs}
 use Rattle.std.specs.List.{All}
 use Rattle.std.proofs.lemmas.Int.{ints}
@@ -14,7 +15,8 @@ use Rattle.linear_forms.specs.Forms.{Form, list_dot, form_value}
 use Rattle.linear_forms.specs.Points.{Meets, IsPoint}
 use Rattle.linear_forms.specs.Combinations.{zero_form}
 use Rattle.linear_forms.specs.Questions.{Group, Question, IsShaped, IsGroupShaped, goal_at}
-use Rattle.linear_forms.specs.QuestionLaws.{Element, AreElements, total_of, fixed_total, Refutes, HoldOnPoints, HavePoints}
+use Rattle.linear_forms.specs.QuestionLaws.{Element, AreElements, total_of, fixed_total, Refutes, HoldOnPoints}
+use Rattle.linear_forms.specs.QuestionLaws.{HavePoints}
 use Rattle.linear_forms.proofs.ListLaws.{list_dot-sum}
 use Rattle.linear_forms.proofs.CombinationLaws.{form_value-goal}
 use Rattle.linear_forms.proofs.SolutionLaws.{length-map}

@@ -1,14 +1,18 @@
 -- The questions asked of rules have their shape.
-use Rattle.std.proofs.Common.{◌≡◌, ℕ, zero, suc, ◌+◌, ◌≤◌, ap, arith, refl, sym, ◌∙◌, ◌⊎◌, inl, inr, Bool, true, false, List, [], ◌∷◌, ◌++◌, length, map, replicate, length-append, get_or}
+use Rattle.std.proofs.Common.{◌≡◌, ℕ, zero, suc, ◌+◌, ◌≤◌, ap, arith, refl, sym, ◌∙◌, ◌⊎◌, inl, inr, Bool, true, false}
+use Rattle.std.proofs.Common.{List, [], ◌∷◌, ◌++◌, length, map, replicate, length-append, get_or}
 use Rattle.std.specs.Prelude.{ℤ, pos, negsuc, ◌*ℤ◌, if◌then◌else◌, nat_eq, not}
 use Rattle.std.specs.List.{All, range_with_len}
 use Rattle.std.proofs.lemmas.Bool.Decides.{eqb_tells}
 use Rattle.std.proofs.lemmas.List.{length-replicate}
-use Rattle.std.proofs.lemmas.List.Elements.{All-append, All-cons, All-nil, All-map, All-weaker, All-filter, All-head, All-tail}
+use Rattle.std.proofs.lemmas.List.Elements.{All-append, All-cons, All-nil, All-map, All-weaker, All-filter, All-head}
+use Rattle.std.proofs.lemmas.List.Elements.{All-tail}
 use Rattle.linear_forms.specs.Forms.{Form}
 use Rattle.linear_forms.specs.Combinations.{form_sum, zero_form}
 use Rattle.linear_forms.specs.Questions.{IsGroupShaped}
-use Rattle.linear_forms.specs.RuleQuestions.{RuleForms, RankedSet, Coefficient, opposite, before_rule, after_rule, at_source, at_target, open_places, coefficients, symbols_of_set, move_group, floor_group, size_at, height_at}
+use Rattle.linear_forms.specs.RuleQuestions.{RuleForms, RankedSet, Coefficient, opposite, before_rule, after_rule}
+use Rattle.linear_forms.specs.RuleQuestions.{at_source, at_target, open_places, coefficients, symbols_of_set}
+use Rattle.linear_forms.specs.RuleQuestions.{move_group, floor_group, size_at, height_at}
 use Rattle.linear_forms.specs.RuleQuestionLaws.{IsRuleShaped, AreRulesShaped, RuleQuestionsAreShaped}
 use Rattle.linear_forms.proofs.SolutionLaws.{length-map}
 use Rattle.linear_forms.proofs.CombinationLaws.{length-sum}

@@ -1,18 +1,24 @@
 -- A solution of a question's program gives parameters, and multipliers by which the goals follow.
-use Rattle.std.proofs.Common.{◌≡◌, ℕ, suc, ◌+◌, ◌<◌, ◌≤◌, ap, arith, refl, sym, subst, ◌∙◌, List, [], ◌∷◌, ◌++◌, length, map, get_or, replicate, length-append, if◌then◌else◌, ◌⊎◌, inl, inr}
+use Rattle.std.proofs.Common.{◌≡◌, ℕ, suc, ◌+◌, ◌<◌, ◌≤◌, ap, arith, refl, sym, subst, ◌∙◌, List, [], ◌∷◌, ◌++◌, length}
+use Rattle.std.proofs.Common.{map, get_or, replicate, length-append, if◌then◌else◌, ◌⊎◌, inl, inr}
 use Rattle.std.specs.Prelude.{ℤ, pos, negsuc, ◌+ℤ◌, ◌-ℤ◌, ◌*ℤ◌, neg_ℤ, ◌≤ℤ◌, nat_abs}
 use Rattle.std.specs.List.{All}
 use Rattle.std.proofs.lemmas.Int.{ints}
 use Rattle.std.proofs.lemmas.Bool.{lt-ltb, le-ltb, cases_lt}
 use Rattle.std.proofs.lemmas.List.{get_or_past, length-replicate}
-use Rattle.std.proofs.lemmas.List.Elements.{All-head, All-tail, All-from_get_or, All-get_or, All-weaker, All-append, All-nil}
+use Rattle.std.proofs.lemmas.List.Elements.{All-head, All-tail, All-from_get_or, All-get_or, All-weaker, All-append}
+use Rattle.std.proofs.lemmas.List.Elements.{All-nil}
 use Rattle.int_laws.proofs.RingLaws.{mul_comm_ℤ, neg-mul_ℤ}
 use Rattle.linear_forms.specs.Forms.{Form, at, list_dot}
 use Rattle.linear_forms.specs.Certificates.{Implies, combined_coef, combined_constant}
 use Rattle.linear_forms.specs.LinearProgram.{IsSolution}
-use Rattle.linear_forms.specs.Questions.{Group, Question, IsShaped, IsGroupShaped, Equation, no_equation, goal_at, number, slack, signed, line, listed, equations, double, group_columns, program_of_question}
+use Rattle.linear_forms.specs.Questions.{Group, Question, IsShaped, IsGroupShaped, Equation, no_equation, goal_at}
+use Rattle.linear_forms.specs.Questions.{number, slack, signed, line, listed, equations, double, group_columns}
+use Rattle.linear_forms.specs.Questions.{program_of_question}
 use Rattle.linear_forms.specs.QuestionLaws.{after, parameters_of, multipliers_of, multipliers_by_group, Follows}
-use Rattle.linear_forms.proofs.ListLaws.{after-head, after-is, after-add, list_dot-append, list_dot-behind_zeros, list_dot-signed, length-signed, list_dot-sum, list_dot-neg, listed-is, length-listed, All-front, All-behind}
+use Rattle.linear_forms.proofs.ListLaws.{after-head, after-is, after-add, list_dot-append, list_dot-behind_zeros}
+use Rattle.linear_forms.proofs.ListLaws.{list_dot-signed, length-signed, list_dot-sum, list_dot-neg, listed-is}
+use Rattle.linear_forms.proofs.ListLaws.{length-listed, All-front, All-behind}
 use Rattle.linear_forms.proofs.CombinationLaws.{number-goal, length-goal}
 
 -- as many numbers as forms

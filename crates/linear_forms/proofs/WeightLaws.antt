@@ -1,5 +1,6 @@
 -- What prices of a question's program say of the weights of all parameters.
-use Rattle.std.proofs.Common.{◌≡◌, ℕ, zero, suc, ◌+◌, ◌<◌, ap, arith, refl, sym, subst, ◌∙◌, List, [], ◌∷◌, length, get_or}
+use Rattle.std.proofs.Common.{◌≡◌, ℕ, zero, suc, ◌+◌, ◌<◌, ap, arith, refl, sym, subst, ◌∙◌, List, [], ◌∷◌, length}
+use Rattle.std.proofs.Common.{get_or}
 use Rattle.std.specs.Prelude.{ℤ, pos, negsuc, ◌+ℤ◌, ◌-ℤ◌, ◌*ℤ◌, neg_ℤ, ◌≤ℤ◌, ◌<ℤ◌, nat_abs}
 use Rattle.std.proofs.lemmas.Int.{ints}
 use Rattle.int_laws.specs.Sums.{sum_to, dot}
@@ -11,9 +12,13 @@ use Rattle.int_laws.proofs.DotLaws.{combined-times}
 use Rattle.int_laws.proofs.SumLaws.{sum_to-same, sum_to-zero, sum_to-add, sum_to-scale, sum_to-le, sum_to-split}
 use Rattle.linear_forms.specs.Forms.{at}
 use Rattle.linear_forms.specs.LinearProgram.{IsSolution, HasPrices, IsLeast}
-use Rattle.linear_forms.specs.Questions.{Question, IsShaped, double, group_columns, on_both, on_plus, program_of_question}
-use Rattle.linear_forms.specs.QuestionLaws.{Element, parameters_of, elements_of, total_of, fixed_total, HoldOnPoints, HavePoints, positive_part, negative_part, pair_weight, size_weight, height_weight, IsOnParameters}
-use Rattle.linear_forms.proofs.ElementLaws.{plus-column, minus-column, double-below, program-column, program-right, program-columns, program-elements}
+use Rattle.linear_forms.specs.Questions.{Question, IsShaped, double, group_columns, on_both, on_plus}
+use Rattle.linear_forms.specs.Questions.{program_of_question}
+use Rattle.linear_forms.specs.QuestionLaws.{Element, parameters_of, elements_of, total_of, fixed_total, HoldOnPoints}
+use Rattle.linear_forms.specs.QuestionLaws.{HavePoints, positive_part, negative_part, pair_weight, size_weight}
+use Rattle.linear_forms.specs.QuestionLaws.{height_weight, IsOnParameters}
+use Rattle.linear_forms.proofs.ElementLaws.{plus-column, minus-column, double-below, program-column, program-right}
+use Rattle.linear_forms.proofs.ElementLaws.{program-columns, program-elements}
 use Rattle.linear_forms.proofs.RefutationLaws.{goals-nonneg, goals-by_totals}
 
 -- a sum over pairs

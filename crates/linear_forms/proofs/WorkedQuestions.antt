@@ -4,7 +4,10 @@ use Rattle.std.specs.Prelude.{ℤ, pos, ◌≤ℤ◌}
 use Rattle.std.proofs.lemmas.Int.{ints}
 use Rattle.linear_forms.specs.Forms.{at}
 use Rattle.linear_forms.specs.Questions.{program_of_question}
-use Rattle.linear_forms.specs.QuestionValues.{entering_rule, free_rule, falling_rule, impossible_rule, sliding_rule, falling_set, shut_set, sliding_set, ImpossibleIsEmpty, SlidingHasPoint, FallingIsRanked, ShutIsNotRanked, SlidingIsNotRanked, FallingStaysBelow, FallingStaysAbove, SlidingIsAffine, FreeIsLoose, QuestionValues}
+use Rattle.linear_forms.specs.QuestionValues.{entering_rule, free_rule, falling_rule, impossible_rule, sliding_rule}
+use Rattle.linear_forms.specs.QuestionValues.{falling_set, shut_set, sliding_set, ImpossibleIsEmpty, SlidingHasPoint}
+use Rattle.linear_forms.specs.QuestionValues.{FallingIsRanked, ShutIsNotRanked, SlidingIsNotRanked, FallingStaysBelow}
+use Rattle.linear_forms.specs.QuestionValues.{FallingStaysAbove, SlidingIsAffine, FreeIsLoose, QuestionValues}
 
 -- what holds at 0 and at the numbers after it
 below-suc : (P : ℕ → Type 0) (n : ℕ) → P 0 → ((i : ℕ) → i < n → P (suc i)) → (i : ℕ) → i < suc n → P i

@@ -1,5 +1,7 @@
 -- Why a linear program isn't solved: the limit that its sequence of tableaux passes.
 use Rattle.std.specs.Prelude.{ℕ}
+use Rattle.linear_forms.specs.declared.trip_cause.TripCause.{TripCause}
+use Rattle.linear_forms.specs.declared.trip_cause.TripCause.TheVariants.{Range, Budget, Wide, Scale}
 
 -- the limits: a number out of range after some pivots; the pivots allowed, which don't suffice; the numbers of a table
 -- that is too wide; and a scale, where the answer has no whole numbers small enough
@@ -8,3 +10,10 @@ pub data Cause : Type 0 where
   budget : ℕ → Cause
   wide : ℕ → Cause
   scale : Cause
+
+-- the limit that the code names
+abbrev pub cause_of : TripCause → Cause
+cause_of (Range pivot) = range pivot
+cause_of (Budget pivots) = budget pivots
+cause_of (Wide entries) = wide entries
+cause_of Scale = scale

@@ -41,7 +41,7 @@ pub record FormsHaveTheirValues : Type 0 where
 
 -- points and rays of A >= 1 and B >= A: (1, 1) and (3, 4) over 2 are points, (0, 1) and (2, 1) are none, nor is
 -- anything over 0; (1, 1) and (0, 1) are rays, (1, 0) and (-1, 0) are none
-pub record PointsAreTold : Type 0 where
+pub record PointsAreWorkedOut : Type 0 where
   pub corner : IsPoint two_rows (at_two (pos 1) (pos 1)) (pos 1)
   pub halves : IsPoint two_rows (at_two (pos 3) (pos 4)) (pos 2)
   pub first_row_fails : ¬ (IsPoint two_rows (at_two (pos 0) (pos 1)) (pos 1))
@@ -55,7 +55,7 @@ pub record PointsAreTold : Type 0 where
 -- certificates: the sum of A - 1 and B - A shows B - 1, and twice the first with the second shows A + B - 1, with 1 to
 -- spare; the sum doesn't show B - 2, the first alone doesn't show B - 1, and each row wants a multiplier; A - 1 and -A
 -- add up to -1, which other multipliers don't show, nor does it follow from nothing
-pub record CertificatesAreTold : Type 0 where
+pub record CertificatesAreWorkedOut : Type 0 where
   pub sum : Implies two_rows (1 ∷ 1 ∷ []) (plane (pos 0) (pos 1) (negsuc 0))
   pub multiples : Implies two_rows (2 ∷ 1 ∷ []) (plane (pos 1) (pos 1) (negsuc 0))
   pub constant_too_low : ¬ (Implies two_rows (1 ∷ 1 ∷ []) (plane (pos 0) (pos 1) (negsuc 1)))

@@ -16,3 +16,5 @@ pub mod QuestionLaws
 pub mod QuestionValues
 pub mod ProgramLaws
 pub mod CertificateLaws
+-- the crates below, which callers name through this one
+pub use Rattle.int_laws.specs as int_laws

@@ -1,7 +1,7 @@
-// What certificates are worth.
+//! What certificates are worth.
 
-ghost use Rattle.linear_forms.specs.CertificateLaws.{CertificatesHold, FormsHaveTheirValues, PointsAreTold};
-ghost use Rattle.linear_forms.specs.CertificateLaws.{CertificatesAreTold};
+ghost use Rattle.linear_forms.specs.CertificateLaws.{CertificatesHold, FormsHaveTheirValues, PointsAreWorkedOut};
+ghost use Rattle.linear_forms.specs.CertificateLaws.{CertificatesAreWorkedOut};
 
 /// A goal that is a sum of nonnegative multiples of rows, and more, is at least 0 wherever the rows are: on each of
 /// their rational points and along each of their rays. Where -1 is such a goal, the rows have no point.
@@ -12,6 +12,6 @@ pub fn certificates_hold()
 /// Values of forms, points, rays and certificates are what was worked out by hand, also where there is none.
 pub fn certificates_are_as_worked_out()
     ensures values { FormsHaveTheirValues }
-    ensures points { PointsAreTold }
-    ensures certificates { CertificatesAreTold }
+    ensures points { PointsAreWorkedOut }
+    ensures certificates { CertificatesAreWorkedOut }
 {}

@@ -3,26 +3,26 @@ use Rattle.std.proofs.Common.{ℕ, ◌-◌, ap, sym, ◌∙◌, subst, inl, inr,
 use Rattle.std.specs.Prelude.{ℤ, pos}
 use Rattle.std.specs.List.{All}
 use Rattle.std.proofs.lemmas.List.Elements.{All-head}
-use Rattle.linear_forms.specs.Forms.{Form, at}
-use Rattle.linear_forms.specs.Certificates.{Implies}
-use Rattle.linear_forms.specs.Questions.{double}
-use Rattle.linear_forms.specs.QuestionLaws.{after, parameters_of}
-use Rattle.linear_forms.proofs.ListLaws.{All-front, All-behind}
-use Rattle.rule_forms.specs.Kinds.{Kind}
-use Rattle.rule_forms.specs.Questions.{question_of, IsKindOf, Fits}
-use Rattle.rule_forms.specs.Laws.{solved_form, solved_multipliers}
-use Rattle.rule_forms.proofs.Solutions.{solution-shows}
-use Rattle.model.specs.Programs.{Program, Rule, rule_at}
-use Rattle.its_model.specs.Valid.{IsValid}
+use Rattle.simplex_core.specs.linear_forms.Forms.{Form, at}
+use Rattle.simplex_core.specs.linear_forms.Certificates.{Implies}
+use Rattle.simplex_core.specs.linear_forms.Questions.{double}
+use Rattle.simplex_core.specs.linear_forms.QuestionLaws.{after, parameters_of}
+use Rattle.simplex_core.proofs.linear_forms.ListLaws.{All-front, All-behind}
+use Rattle.proof_tree.specs.rule_forms.Kinds.{Kind}
+use Rattle.proof_tree.specs.rule_forms.Questions.{question_of, IsKindOf, Fits}
+use Rattle.proof_tree.specs.rule_forms.Laws.{solved_form, solved_multipliers}
+use Rattle.proof_tree.proofs.rule_forms.Solutions.{solution-shows}
+use Rattle.poly_terms.specs.model.Programs.{Program, Rule, rule_at}
+use Rattle.guard_prep.specs.its_model.Valid.{IsValid}
 use Rattle.guard_prep.specs.Prepared.{Prepared, prepared, rows_of}
 use Rattle.guard_prep.proofs.StepLaws.{preparable}
-use Rattle.proof_nodes.specs.Nodes.{Spot, Arm, LocalBound}
-use Rattle.proof_nodes.specs.AcceptsSizes.{HasLinearShape, HasArmShape, HasMemberShape, left_in, left_of, Side, Up, Low}
-use Rattle.proof_nodes.specs.AcceptsSizes.{arm_goal, AcceptsArm}
-use Rattle.proof_nodes.specs.Combined.{form_at}
-use Rattle.proof_setting.specs.Setting.{rows_in, news_in, setting_of}
+use Rattle.proof_tree.specs.proof_nodes.Nodes.{Spot, Arm, LocalBound}
+use Rattle.proof_tree.specs.proof_nodes.AcceptsSizes.{HasLinearShape, HasArmShape, HasMemberShape, left_in, left_of, Side, Up, Low}
+use Rattle.proof_tree.specs.proof_nodes.AcceptsSizes.{arm_goal, AcceptsArm}
+use Rattle.proof_tree.specs.proof_nodes.Combined.{form_at}
+use Rattle.proof_tree.specs.proof_setting.Setting.{rows_in, news_in, setting_of}
 use Rattle.proof_tree.specs.declared.answer.EmptyAnswer.{EmptyAnswer}
-use Rattle.rank_search.proofs.EmptyLaws.{prepared-shaped}
+use Rattle.rule_questions.proofs.EmptyLaws.{prepared-shaped}
 use Rattle.local_size.specs.Sides.{ArmFound, kind_program, ComesTo}
 use Rattle.local_size.specs.Places.{local_forms, value_on, is_bent_at, kinds_of}
 use Rattle.local_size.specs.LocalAnswers.{HasBound, SideComesTo, IsLocal}
@@ -31,7 +31,7 @@ use Rattle.local_size.proofs.Columns.{form-long, form-small, parameter-small, mu
 use Rattle.local_size.proofs.Polynomials.{polynomial-accepted}
 use Rattle.local_size.proofs.KindsAsked.{Found, found, kinds-fit}
 use Rattle.local_size.proofs.NewValues.{value-fits, goal-is}
-pub use Rattle.rank_search.proofs.RankExact.{at-least-one}
+pub use Rattle.rule_questions.proofs.EmptyLaws.{at-least-one}
 
 -- the kind of an arm that is found is one that the rule has
 pub found-fits : (m : Prepared) (place pivots : ℕ) (side : Side) (arm : Arm)

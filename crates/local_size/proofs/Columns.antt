@@ -6,19 +6,19 @@ use Rattle.std.proofs.lemmas.Int.{ints}
 use Rattle.std.proofs.lemmas.Bool.{cases_lt}
 use Rattle.std.proofs.lemmas.List.{get_or_past, length-replicate}
 use Rattle.std.proofs.lemmas.List.Elements.{All-replicate}
-use Rattle.linear_forms.specs.Forms.{Form, at}
-use Rattle.linear_forms.specs.Limits.{certificate_limit}
-use Rattle.linear_forms.specs.LinearProgram.{LinearProgram}
-use Rattle.linear_forms.specs.Questions.{double}
-use Rattle.linear_forms.specs.QuestionLaws.{after, parameters_of, multipliers_of}
-use Rattle.linear_forms.proofs.ListLaws.{after-is, length-listed}
-use Rattle.linear_forms.proofs.SolutionLaws.{All-listed}
-use Rattle.rule_forms.specs.Kinds.{Kind, Number, Argument, Affine, Sign, Plus, Minus, unit_of}
-use Rattle.rule_forms.specs.Questions.{form_of}
+use Rattle.simplex_core.specs.linear_forms.Forms.{Form, at}
+use Rattle.simplex_core.specs.linear_forms.Limits.{certificate_limit}
+use Rattle.simplex_core.specs.linear_forms.LinearProgram.{LinearProgram}
+use Rattle.simplex_core.specs.linear_forms.Questions.{double}
+use Rattle.simplex_core.specs.linear_forms.QuestionLaws.{after, parameters_of, multipliers_of}
+use Rattle.simplex_core.proofs.linear_forms.ListLaws.{after-is, length-listed}
+use Rattle.simplex_core.proofs.linear_forms.SolutionLaws.{All-listed}
+use Rattle.proof_tree.specs.rule_forms.Kinds.{Kind, Number, Argument, Affine, Sign, Plus, Minus, unit_of}
+use Rattle.proof_tree.specs.rule_forms.Questions.{form_of}
 use Rattle.simplex_core.specs.Trips.{IsScaledSolution}
-use Rattle.proof_nodes.specs.Limits.{IsInLimit, IsFormInLimit, AreInLimit}
-use Rattle.rank_search.proofs.Lists.{multipliers-listed}
-pub use Rattle.linear_forms.proofs.SolutionLaws.{length-multipliers as multipliers-long}
+use Rattle.proof_tree.specs.proof_nodes.Limits.{IsInLimit, IsFormInLimit, AreInLimit}
+use Rattle.rule_questions.proofs.Lists.{multipliers-listed}
+pub use Rattle.simplex_core.proofs.linear_forms.SolutionLaws.{length-multipliers as multipliers-long}
 
 -- 0 is within the limit
 zero-small : IsInLimit (nat_abs (pos 0))

@@ -1,32 +1,32 @@
 -- A place is answered loose exactly where a side of it is and no question trips, and tripped exactly where one does.
 use Rattle.std.proofs.Common.{◌≡◌, ℕ, suc, zero, ◌≤◌, arith, refl, ◌∙◌, inl, inr, List}
 use Rattle.std.specs.Prelude.{◌↔◌, ℤ, pos, ◌*ℤ◌}
-use Rattle.int_laws.proofs.RingLaws.{mul-zero_ℤ}
-use Rattle.linear_forms.specs.Forms.{Form, at}
-use Rattle.linear_forms.specs.RuleQuestions.{before_rule}
-use Rattle.linear_forms.proofs.CombinationLaws.{at-times}
-use Rattle.rule_forms.specs.Kinds.{Kind, Number, Argument, Affine, unit_of, IsOfKind}
-use Rattle.rule_forms.specs.Questions.{IsKindOf}
-use Rattle.rule_forms.proofs.Forms.{at-other}
-use Rattle.rule_forms.proofs.Rays.{loose-has-none}
-use Rattle.model.specs.Programs.{Program, Rule}
-use Rattle.its_model.specs.Valid.{IsValid}
+use Rattle.simplex_core.proofs.int_laws.RingLaws.{mul-zero_ℤ}
+use Rattle.simplex_core.specs.linear_forms.Forms.{Form, at}
+use Rattle.simplex_core.specs.linear_forms.RuleQuestions.{before_rule}
+use Rattle.simplex_core.proofs.linear_forms.CombinationLaws.{at-times}
+use Rattle.proof_tree.specs.rule_forms.Kinds.{Kind, Number, Argument, Affine, unit_of, IsOfKind}
+use Rattle.proof_tree.specs.rule_forms.Questions.{IsKindOf}
+use Rattle.proof_tree.proofs.rule_forms.Forms.{at-other}
+use Rattle.proof_tree.proofs.rule_forms.Rays.{loose-has-none}
+use Rattle.poly_terms.specs.model.Programs.{Program, Rule}
+use Rattle.guard_prep.specs.its_model.Valid.{IsValid}
 use Rattle.guard_prep.specs.Prepared.{Prepared, prepared}
-use Rattle.proof_nodes.specs.Nodes.{Spot, Arm, LocalBound}
-use Rattle.proof_nodes.specs.AcceptsSizes.{Side, Up, Low}
-use Rattle.proof_nodes.specs.Gaps.{ScaledPoint}
+use Rattle.proof_tree.specs.proof_nodes.Nodes.{Spot, Arm, LocalBound}
+use Rattle.proof_tree.specs.proof_nodes.AcceptsSizes.{Side, Up, Low}
+use Rattle.proof_tree.specs.proof_nodes.Gaps.{ScaledPoint}
 use Rattle.proof_tree.specs.declared.answer.EmptyAnswer.{EmptyAnswer}
 use Rattle.proof_tree.specs.declared.answer.EmptyAnswer.TheVariants as empties
 use Rattle.proof_tree.specs.declared.answer.Trip.{Trip}
-use Rattle.rank_search.specs.EmptyAnswers.{IsEmptyAnswer}
-use Rattle.rank_search.specs.OneAnswer.{IsSameEmptyAnswer}
+use Rattle.rule_questions.specs.EmptyAnswers.{IsEmptyAnswer}
+use Rattle.rule_questions.specs.OneEmptyAnswer.{IsSameEmptyAnswer}
 use Rattle.local_size.specs.Sides.{ArmFound}
 use Rattle.local_size.specs.Places.{local_forms, value_on, is_polynomial_at, kinds_of}
 use Rattle.local_size.specs.LocalAnswers.{Local, HasBound, IsLooseOn, HasTripped, SideComesTo, IsLocal}
 use Rattle.local_size.specs.LocalLaws.{IsSpotOf, IsLooseSide, PlaceTrips, SaysLoose, SaysTripped, LocalAnswersAreExact}
 use Rattle.local_size.proofs.Accepted.{at-least-one, found-fits}
-use Rattle.local_size.proofs.First.{fails, arm-of_kind, arm-above}
-use Rattle.local_size.proofs.Loose.{ray-of_side, has-point}
+use Rattle.local_size.proofs.FirstArms.{fails, arm-of_kind, arm-above}
+use Rattle.local_size.proofs.LooseAnswers.{ray-of_side, has-point}
 use Rattle.local_size.proofs.OneLocal.{locals-once}
 use Rattle.local_size.proofs.KindsAsked.{Found, found}
 

@@ -5,12 +5,13 @@ use Rattle.std.specs.Prelude.{◌==◌, nat_eq}
 use Rattle.std.specs.List.{All, range_with_len}
 use Rattle.std.proofs.lemmas.Bool.{true≢false, eq-eqb, eqb-true, eqb-false}
 use Rattle.std.proofs.lemmas.List.{map-append, append-nil}
-use Rattle.rule_forms.specs.Kinds as plain
-use Rattle.rule_forms.specs.Kinds.{Number, Argument, Affine, Plus, Minus, arguments, kinds_at, kinds_for}
-use Rattle.rule_forms.specs.Questions.{IsKindOf}
-use Rattle.linear_forms.proofs.SolutionLaws.{length-map}
-use Rattle.linear_forms.proofs.ColumnLaws.{get_or-map}
-use Rattle.rank_search.proofs.Marking.{numbers-more, filter-pushed, filter-passed}
+use Rattle.proof_tree.specs.rule_forms.Kinds as plain
+use Rattle.proof_tree.specs.rule_forms.Kinds.{Number, Argument, Affine, Plus, Minus, arguments, kinds_at, kinds_for}
+use Rattle.proof_tree.specs.rule_forms.Questions.{IsKindOf}
+use Rattle.simplex_core.proofs.linear_forms.SolutionLaws.{length-map}
+use Rattle.simplex_core.proofs.linear_forms.ColumnLaws.{get_or-map}
+use Rattle.proof_tree.proofs.Numbers.{numbers-more}
+use Rattle.rule_questions.proofs.Filters.{filter-pushed, filter-passed}
 use Rattle.local_size.specs.declared.kinds.Kind.{Kind}
 use Rattle.local_size.specs.Asking.{kind_of, own_places, other_places}
 use Rattle.local_size.proofs.KindsAsked.{kinds-fit}

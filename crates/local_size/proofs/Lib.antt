@@ -6,14 +6,14 @@ pub mod Readings
 pub mod Searches
 pub mod Places
 pub mod WholeNumbers
-pub mod Once
+pub mod OneSideOutcome
 pub mod OneLocal
 pub mod KindsAsked
 pub mod Columns
 pub mod NewValues
 pub mod Polynomials
 pub mod Accepted
-pub mod Loose
-pub mod First
+pub mod LooseAnswers
+pub mod FirstArms
 pub mod Exact
 pub mod WorkedLocals

@@ -3,17 +3,17 @@ use Rattle.std.proofs.Common.{◌≡◌, ℕ, zero, suc, ◌-◌, ◌≤◌, ap,
 use Rattle.std.specs.Prelude.{ℤ, pos, negsuc, ◌*ℤ◌, neg_ℤ, slice_index_or}
 use Rattle.std.specs.List.{All}
 use Rattle.std.proofs.lemmas.List.Elements.{All-head, All-tail}
-use Rattle.int_laws.specs.Polynomial.{variable, constant as number, ◌⊗◌, negated}
-use Rattle.int_laws.proofs.Identities.{identity}
-use Rattle.linear_forms.specs.Forms.{Form}
-use Rattle.linear_forms.specs.Combinations.{form_sum, form_times, zero_form}
-use Rattle.linear_forms.specs.RuleQuestions.{after_rule, opposite}
-use Rattle.linear_forms.specs.RuleQuestionLaws.{IsRuleShaped}
-use Rattle.linear_forms.proofs.SolutionLaws.{length-map}
-use Rattle.rule_forms.specs.Questions.{excess, Fits}
+use Rattle.simplex_core.specs.int_laws.Polynomial.{variable, constant as number, ◌⊗◌, negated}
+use Rattle.simplex_core.proofs.int_laws.Identities.{identity}
+use Rattle.simplex_core.specs.linear_forms.Forms.{Form}
+use Rattle.simplex_core.specs.linear_forms.Combinations.{form_sum, form_times, zero_form}
+use Rattle.simplex_core.specs.linear_forms.RuleQuestions.{after_rule, opposite}
+use Rattle.simplex_core.specs.linear_forms.RuleQuestionLaws.{IsRuleShaped}
+use Rattle.simplex_core.proofs.linear_forms.SolutionLaws.{length-map}
+use Rattle.proof_tree.specs.rule_forms.Questions.{excess, Fits}
 use Rattle.guard_prep.specs.Prepared.{Prepared}
-use Rattle.proof_nodes.specs.AcceptsSizes.{Side, Up, Low, arm_goal}
-use Rattle.proof_nodes.specs.Combined.{form_at}
+use Rattle.proof_tree.specs.proof_nodes.AcceptsSizes.{Side, Up, Low, arm_goal}
+use Rattle.proof_tree.specs.proof_nodes.Combined.{form_at}
 use Rattle.local_size.specs.Places.{local_forms, value_on}
 
 -- a form of a list has no coefficient past the width of all

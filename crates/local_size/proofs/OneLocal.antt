@@ -2,42 +2,26 @@
 use Rattle.std.proofs.Common.{◌≡◌, ◌⊎◌, ℕ, ap, refl, sym, ◌∙◌, inl, inr, Bool, true, false, List, Some, None}
 use Rattle.std.specs.Prelude.{ℤ}
 use Rattle.std.proofs.lemmas.Bool.{true≢false}
-use Rattle.linear_forms.specs.Causes.{Cause, range, budget, wide, scale}
+use Rattle.simplex_core.specs.linear_forms.Causes.{Cause, cause_of}
+use Rattle.simplex_core.proofs.linear_forms.CauseLaws.{names-same}
 use Rattle.guard_prep.specs.Prepared.{Prepared}
-use Rattle.proof_nodes.specs.Nodes.{Spot, Arm, LocalBound}
-use Rattle.proof_nodes.specs.Gaps.{ScaledPoint}
-use Rattle.proof_nodes.specs.AcceptsSizes.{Side, Up, Low}
-use Rattle.proof_tree.specs.AnswerViews.{cause_of}
+use Rattle.proof_tree.specs.proof_nodes.Nodes.{Spot, Arm, LocalBound}
+use Rattle.proof_tree.specs.proof_nodes.Gaps.{ScaledPoint}
+use Rattle.proof_tree.specs.proof_nodes.AcceptsSizes.{Side, Up, Low}
 use Rattle.proof_tree.specs.declared.answer.EmptyAnswer.{EmptyAnswer}
 use Rattle.proof_tree.specs.declared.answer.EmptyAnswer.TheVariants as empties
 use Rattle.proof_tree.specs.declared.answer.Question.{Question}
 use Rattle.proof_tree.specs.declared.answer.Trip.{Trip}
-use Rattle.proof_tree.specs.declared.answer.TripCause.{TripCause}
-use Rattle.proof_tree.specs.declared.answer.TripCause.TheVariants as causes
-use Rattle.rank_search.specs.OneAnswer.{IsSameEmptyAnswer}
-use Rattle.rank_search.specs.RankAnswers.{point_in, trip_in}
-use Rattle.local_size.specs.Sides.{Sought, ArmFound, NoneFound, LimitPassed}
+use Rattle.simplex_core.specs.linear_forms.declared.trip_cause.TripCause.{TripCause}
+use Rattle.rule_questions.specs.OneEmptyAnswer.{IsSameEmptyAnswer}
+use Rattle.rule_questions.specs.RuleAnswers.{point_in, trip_in}
+use Rattle.local_size.specs.Sides.{SideOutcome, ArmFound, NoneFound, LimitPassed}
 use Rattle.local_size.specs.Places.{local_forms, value_on, kinds_of}
 use Rattle.local_size.specs.LocalAnswers.{Local, HasBound, IsLooseOn, HasTripped, SideComesTo, HasArms}
 use Rattle.local_size.specs.LocalAnswers.{PassesNone, LacksForm, IsLocal}
 use Rattle.local_size.specs.LocalLaws.{LocalAnswersAreOne}
-use Rattle.local_size.proofs.Once.{search-once}
-use Rattle.model.proofs.Cases.{some_same as some-trip, none_some as no-trip}
-
--- the cause that is told
-told : Cause → TripCause
-told (range k) = causes.Range k
-told (budget n) = causes.Budget n
-told (wide n) = causes.Wide n
-told scale = causes.Scale
-
--- it is the one that was read
-told-is : (c : TripCause) → told (cause_of c) ≡ c
-unfolding told
-told-is (causes.Range k) = refl
-told-is (causes.Budget n) = refl
-told-is (causes.Wide n) = refl
-told-is causes.Scale = refl
+use Rattle.local_size.proofs.OneSideOutcome.{search-once}
+use Rattle.poly_terms.proofs.model.Cases.{some_same as some-trip, none_some as no-trip}
 
 -- a trip by its parts
 trip_with : Question → TripCause → Trip
@@ -48,7 +32,7 @@ trip-same : (t u : Trip) → t.question ≡ u.question → cause_of t.cause ≡ 
 unfolding trip_with
 trip-same t u e f =
     ap (λ (q : Question). trip_with q t.cause) e
-    ∙ ap (λ (c : TripCause). trip_with u.question c) (sym (told-is t.cause) ∙ (ap told f ∙ told-is u.cause))
+    ∙ ap (λ (c : TripCause). trip_with u.question c) (names-same t.cause u.cause f)
 
 -- a bound by its arms
 bound_with : Arm → Arm → LocalBound
@@ -121,7 +105,7 @@ not-both (empties.Tripped u) z t e f = no-point z e
 
 module _ (m : Prepared) (place pivots : ℕ) where
   -- each side comes to one thing
-  side-once : (side : Side) (x y : Sought) → SideComesTo m place pivots side x → SideComesTo m place pivots side y
+  side-once : (side : Side) (x y : SideOutcome) → SideComesTo m place pivots side x → SideComesTo m place pivots side y
       → x ≡ y
   side-once side x y g h =
       search-once (local_forms m) (value_on side m place) pivots (kinds_of m place) x y g h

@@ -1,19 +1,19 @@
 -- What the answers for the sides of a place come to together.
 use Rattle.std.proofs.Common.{◌≡◌, ℕ, ◌⊎◌, inl, inr, sym, ap, ◌∙◌, subst, List, true, false}
 use Rattle.std.specs.Prelude.{ℤ}
+use Rattle.simplex_core.specs.linear_forms.Causes.{cause_of}
 use Rattle.guard_prep.specs.Prepared.{Prepared}
-use Rattle.proof_nodes.specs.Nodes.{Spot, Arm, LocalBound}
-use Rattle.proof_nodes.specs.AcceptsSizes.{Side, Up, Low}
+use Rattle.proof_tree.specs.proof_nodes.Nodes.{Spot, Arm, LocalBound}
+use Rattle.proof_tree.specs.proof_nodes.AcceptsSizes.{Side, Up, Low}
 use Rattle.proof_tree.specs.declared.answer.EmptyAnswer.{EmptyAnswer}
 use Rattle.proof_tree.specs.declared.answer.Question.TheVariants as questions
 use Rattle.proof_tree.specs.declared.answer.Trip.{Trip}
-use Rattle.proof_tree.specs.AnswerViews.{cause_of}
 use Rattle.local_size.specs.declared.search.SideAnswer.{SideAnswer}
-use Rattle.local_size.specs.Asking.{sought_of, IsLoosened}
+use Rattle.local_size.specs.Asking.{side_outcome_of, IsLoosened}
 use Rattle.local_size.specs.LocalAnswers.{Local, HasBound, IsLooseOn, HasTripped, SideComesTo, PassesNone, LacksForm}
 use Rattle.local_size.specs.LocalAnswers.{both_polynomial, IsLocal}
 use Rattle.local_size.specs.Places.{is_polynomial_at}
-use Rattle.local_size.specs.Sides.{Sought, ArmFound, NoneFound, LimitPassed}
+use Rattle.local_size.specs.Sides.{SideOutcome, ArmFound, NoneFound, LimitPassed}
 
 module _ (m : Prepared) (spot : Spot) (pivots : ℕ) (empty : EmptyAnswer) where
   -- the update's own polynomial
@@ -52,10 +52,10 @@ module _ (m : Prepared) (spot : Spot) (pivots : ℕ) (empty : EmptyAnswer) where
 
 -- a side that comes to an arm or to none passes no limit
 pub passes : {A B : Type 0} (m : Prepared) (place pivots : ℕ) (side : Side) (s : SideAnswer) (f : A → SideAnswer)
-    (g : B → SideAnswer) (arm : A → Arm) (ray : B → List ℤ) → ((a : A) → sought_of (f a) ≡ ArmFound (arm a))
-    → ((b : B) → sought_of (g b) ≡ NoneFound (ray b)) → ((x : A) × (s ≡ f x)) ⊎ ((y : B) × (s ≡ g y))
-    → SideComesTo m place pivots side (sought_of s) → PassesNone m place pivots side
+    (g : B → SideAnswer) (arm : A → Arm) (ray : B → List ℤ) → ((a : A) → side_outcome_of (f a) ≡ ArmFound (arm a))
+    → ((b : B) → side_outcome_of (g b) ≡ NoneFound (ray b)) → ((x : A) × (s ≡ f x)) ⊎ ((y : B) × (s ≡ g y))
+    → SideComesTo m place pivots side (side_outcome_of s) → PassesNone m place pivots side
 passes m place pivots side s f g arm ray e h (inl (x, is)) comes =
-    inl (arm x, subst (λ (y : Sought). SideComesTo m place pivots side y) (ap sought_of is ∙ e x) comes)
+    inl (arm x, subst (λ (y : SideOutcome). SideComesTo m place pivots side y) (ap side_outcome_of is ∙ e x) comes)
 passes m place pivots side s f g arm ray e h (inr (y, is)) comes =
-    inr (ray y, subst (λ (z : Sought). SideComesTo m place pivots side z) (ap sought_of is ∙ h y) comes)
+    inr (ray y, subst (λ (z : SideOutcome). SideComesTo m place pivots side z) (ap side_outcome_of is ∙ h y) comes)

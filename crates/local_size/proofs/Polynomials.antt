@@ -5,13 +5,13 @@ use Rattle.std.specs.Prelude.{nat_lt, slice_index_or}
 use Rattle.std.specs.List.{All, list_all}
 use Rattle.std.proofs.lemmas.Bool.{true≢false, and_parts, ltb-true}
 use Rattle.std.proofs.lemmas.List.Elements.{All-nil, All-cons}
-use Rattle.model.specs.Polynomials.{Polynomial}
-use Rattle.model.specs.Programs.{Program, Rule, rule_at}
+use Rattle.poly_terms.specs.model.Polynomials.{Polynomial}
+use Rattle.poly_terms.specs.model.Programs.{Program, Rule, rule_at}
 use Rattle.guard_prep.specs.Prepared.{is_bent, polys_of, prepared}
-use Rattle.proof_nodes.specs.Nodes.{Spot}
-use Rattle.proof_nodes.specs.AcceptsSizes.{ReadsLeft, left_in, IsPolynomialUpdate}
-use Rattle.proof_nodes.specs.ComposedSizes.{poly_of}
-use Rattle.proof_setting.specs.Setting.{polys_in, bent_at, setting_of}
+use Rattle.proof_tree.specs.proof_nodes.Nodes.{Spot}
+use Rattle.proof_tree.specs.proof_nodes.AcceptsSizes.{ReadsLeft, left_in, IsPolynomialUpdate}
+use Rattle.proof_tree.specs.proof_nodes.ComposedSizes.{poly_of}
+use Rattle.proof_tree.specs.proof_setting.Setting.{polys_in, bent_at, setting_of}
 use Rattle.local_size.specs.Places.{is_of_left, expanded_at, is_polynomial_at}
 
 -- what passes a test, one by one

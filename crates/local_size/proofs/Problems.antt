@@ -4,18 +4,18 @@ use Rattle.std.proofs.Common.{if◌then◌else◌, List, [], ◌∷◌, ◌++◌
 use Rattle.std.specs.List.{All, range_with_len}
 use Rattle.std.proofs.lemmas.List.FromFn.{length-range_with_len}
 use Rattle.std.proofs.lemmas.List.Elements.{All-append, All-cons, All-nil, All-head, All-weaker}
-use Rattle.linear_forms.specs.Forms.{Form}
-use Rattle.linear_forms.specs.Combinations.{form_sum}
-use Rattle.linear_forms.specs.ProgramLaws.{Agree}
-use Rattle.linear_forms.specs.Questions.{Question, IsShaped, IsGroupShaped, program_of_question}
-use Rattle.linear_forms.specs.RuleQuestions.{RuleForms, before_rule, opposite, local_question}
-use Rattle.linear_forms.proofs.SolutionLaws.{length-map}
-use Rattle.rule_forms.specs.Kinds as plain
-use Rattle.rule_forms.specs.Kinds.{Number, Argument, Affine}
-use Rattle.rule_forms.specs.Questions as kinds
-use Rattle.rule_forms.specs.Questions.{IsKindOf}
-use Rattle.rule_forms.proofs.Sought.{sought_places, fixed_part}
-use Rattle.rule_forms.proofs.Shapes.{places-within, argument_length, question-shaped}
+use Rattle.simplex_core.specs.linear_forms.Forms.{Form}
+use Rattle.simplex_core.specs.linear_forms.Combinations.{form_sum}
+use Rattle.simplex_core.specs.linear_forms.ProgramLaws.{Agree}
+use Rattle.simplex_core.specs.linear_forms.Questions.{Question, IsShaped, IsGroupShaped, program_of_question}
+use Rattle.simplex_core.specs.linear_forms.RuleQuestions.{RuleForms, before_rule, opposite, local_question}
+use Rattle.simplex_core.proofs.linear_forms.SolutionLaws.{length-map}
+use Rattle.proof_tree.specs.rule_forms.Kinds as plain
+use Rattle.proof_tree.specs.rule_forms.Kinds.{Number, Argument, Affine}
+use Rattle.proof_tree.specs.rule_forms.Questions as kinds
+use Rattle.proof_tree.specs.rule_forms.Questions.{IsKindOf}
+use Rattle.local_size.specs.SoughtParts.{sought_places, fixed_part}
+use Rattle.proof_tree.proofs.rule_forms.Shapes.{places-within, argument_length, question-shaped}
 use Rattle.poly_terms.specs.declared.poly.Row.{Row}
 use Rattle.poly_terms.specs.Views.{form_of}
 use Rattle.guard_prep.specs.declared.rule_rows.RuleRows.{RuleRows}
@@ -27,11 +27,11 @@ use Rattle.lp_builder.specs.declared.description.Cost.{Cost}
 use Rattle.lp_builder.specs.declared.description.Goal.{Goal}
 use Rattle.lp_builder.specs.Builders.{Holds, IsBuilt}
 use Rattle.lp_builder.specs.Descriptions.{goal_forms, group_of, question_of, IsWritable, AreWritable, AreParameters}
-use Rattle.rank_search.specs.EmptyAnswers.{IsPrepared}
-use Rattle.rank_search.specs.Goals.{IsDifferenceSmall}
-use Rattle.rank_search.specs.Programs.{IsProblemOf}
-use Rattle.rank_search.proofs.EmptyProblems.{rows-writable}
-use Rattle.rank_search.proofs.Sums.{difference-writable, small-difference}
+use Rattle.rule_questions.specs.EmptyAnswers.{IsPrepared}
+use Rattle.rule_questions.specs.SmallForms.{IsDifferenceSmall}
+use Rattle.rule_questions.specs.Programs.{IsProblemOf}
+use Rattle.rule_questions.proofs.EmptyProblems.{rows-writable}
+use Rattle.rule_questions.proofs.Sums.{difference-writable, small-difference}
 use Rattle.local_size.specs.Asking.{IsValue, AreWritableWithin}
 use Rattle.local_size.specs.Places.{local_forms}
 use Rattle.local_size.proofs.QuestionRows.{argument-small}

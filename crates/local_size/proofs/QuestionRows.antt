@@ -2,14 +2,14 @@
 use Rattle.std.proofs.Common.{◌≡◌, ℕ, zero, suc, refl, sym, ap, ◌∙◌, subst, arith, List, [], ◌∷◌, map}
 use Rattle.std.specs.Prelude.{ℤ, pos, ◌*ℤ◌}
 use Rattle.std.proofs.lemmas.Int.{ints}
-use Rattle.linear_forms.specs.Forms.{Form}
-use Rattle.linear_forms.specs.Combinations.{form_times}
-use Rattle.linear_forms.specs.RuleQuestions.{before_rule}
-use Rattle.rule_forms.specs.Kinds as plain
-use Rattle.rule_forms.specs.Kinds.{Number, Argument, Affine, Plus, Minus}
-use Rattle.rule_forms.proofs.Sought.{fixed_part}
-use Rattle.rank_search.specs.Goals.{IsSmall}
-use Rattle.rank_search.proofs.Sums.{constant-small, unknown-small}
+use Rattle.simplex_core.specs.linear_forms.Forms.{Form}
+use Rattle.simplex_core.specs.linear_forms.Combinations.{form_times}
+use Rattle.simplex_core.specs.linear_forms.RuleQuestions.{before_rule}
+use Rattle.proof_tree.specs.rule_forms.Kinds as plain
+use Rattle.proof_tree.specs.rule_forms.Kinds.{Number, Argument, Affine, Plus, Minus}
+use Rattle.local_size.specs.SoughtParts.{fixed_part}
+use Rattle.rule_questions.specs.SmallForms.{IsSmall}
+use Rattle.rule_questions.proofs.Sums.{constant-small, unknown-small}
 use Rattle.local_size.proofs.Values.{opposite-small}
 
 -- once a form is itself

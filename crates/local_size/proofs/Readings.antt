@@ -2,22 +2,22 @@
 use Rattle.std.proofs.Common.{◌≡◌, ℕ, zero, suc, ◌+◌, ◌*◌, ◌<◌, ◌≤◌, refl, sym, ap, ◌∙◌, arith, List, ◌∷◌}
 use Rattle.std.proofs.Common.{length, replicate}
 use Rattle.std.specs.Prelude.{ℤ, pos, nat_abs}
-use Rattle.linear_forms.specs.Forms.{Form, at}
-use Rattle.linear_forms.specs.Questions.{Question, listed, double, group_columns, program_of_question}
-use Rattle.linear_forms.specs.QuestionLaws.{after, parameters_of}
-use Rattle.linear_forms.specs.RuleQuestions.{RuleForms}
-use Rattle.linear_forms.proofs.ElementLaws.{program-columns}
-use Rattle.linear_forms.proofs.ListLaws.{after-is}
-use Rattle.rule_forms.specs.Kinds as plain
-use Rattle.rule_forms.specs.Kinds.{Number, Argument, Affine}
-use Rattle.rule_forms.specs.Questions.{question_of, form_of}
-use Rattle.rule_forms.proofs.Sought.{sought_places}
+use Rattle.simplex_core.specs.linear_forms.Forms.{Form, at}
+use Rattle.simplex_core.specs.linear_forms.Questions.{Question, listed, double, group_columns, program_of_question}
+use Rattle.simplex_core.specs.linear_forms.QuestionLaws.{after, parameters_of}
+use Rattle.simplex_core.specs.linear_forms.RuleQuestions.{RuleForms}
+use Rattle.simplex_core.proofs.linear_forms.ElementLaws.{program-columns}
+use Rattle.simplex_core.proofs.linear_forms.ListLaws.{after-is}
+use Rattle.proof_tree.specs.rule_forms.Kinds as plain
+use Rattle.proof_tree.specs.rule_forms.Kinds.{Number, Argument, Affine}
+use Rattle.proof_tree.specs.rule_forms.Questions.{question_of, form_of}
+use Rattle.local_size.specs.SoughtParts.{sought_places}
 use Rattle.simplex_core.specs.Trips.{IsScaledSolution, IsScaledDual}
-use Rattle.proof_nodes.specs.Nodes.{Linear}
-use Rattle.rank_search.specs.Reading.{group_lines}
-use Rattle.rank_search.proofs.Groups.{equations-many}
-use Rattle.rank_search.proofs.Lists.{listed-agree, multipliers-listed}
-use Rattle.rank_search.proofs.Pairs.{double-is}
+use Rattle.proof_tree.specs.proof_nodes.Nodes.{Linear}
+use Rattle.rule_questions.specs.GroupLines.{group_lines}
+use Rattle.rule_questions.proofs.GroupLines.{equations-many}
+use Rattle.rule_questions.proofs.Lists.{listed-agree, multipliers-listed}
+use Rattle.rule_questions.proofs.Pairs.{double-is}
 use Rattle.local_size.specs.Asking.{coefficient_of, constant_of}
 use Rattle.local_size.specs.Sides.{kind_program, solved_arm}
 use Rattle.local_size.proofs.Problems.{question-is}

@@ -1,33 +1,34 @@
 -- What the answers of the solver make of a kind's question, and of a side.
-use Rattle.simplex_core.specs.declared.answers.Cause.{Cause as TripCause}
-use Rattle.std.proofs.Common.{◌≡◌, ℕ, ◌+◌, ◌*◌, ◌<◌, ◌≤◌, inl, inr, refl, sym, ap, ◌∙◌, subst, arith, List, [], ◌∷◌, map}
+use Rattle.simplex_core.specs.linear_forms.declared.trip_cause.TripCause.{TripCause}
+use Rattle.std.proofs.Common.{◌≡◌, ℕ, ◌+◌, ◌*◌, ◌<◌, ◌≤◌, inl, inr, refl, sym, ap, ◌∙◌, subst, arith, List, [], ◌∷◌}
+use Rattle.std.proofs.Common.{map}
 use Rattle.std.proofs.Common.{length}
 use Rattle.std.specs.Prelude.{ℤ, pos, nat_abs}
-use Rattle.linear_forms.specs.Causes.{Cause}
-use Rattle.linear_forms.specs.Forms.{Form, at}
-use Rattle.linear_forms.specs.Questions.{listed}
-use Rattle.linear_forms.specs.QuestionLaws.{parameters_of}
-use Rattle.linear_forms.specs.RuleQuestions.{RuleForms}
-use Rattle.rule_forms.specs.Kinds as plain
-use Rattle.rule_forms.specs.Questions.{question_of, form_of}
-use Rattle.rule_forms.proofs.Sought.{sought_places}
+use Rattle.simplex_core.specs.linear_forms.Causes.{Cause, cause_of}
+use Rattle.simplex_core.specs.linear_forms.Forms.{Form, at}
+use Rattle.simplex_core.specs.linear_forms.Questions.{listed}
+use Rattle.simplex_core.specs.linear_forms.QuestionLaws.{parameters_of}
+use Rattle.simplex_core.specs.linear_forms.RuleQuestions.{RuleForms}
+use Rattle.proof_tree.specs.rule_forms.Kinds as plain
+use Rattle.proof_tree.specs.rule_forms.Questions.{question_of, form_of}
+use Rattle.local_size.specs.SoughtParts.{sought_places}
 use Rattle.guard_prep.specs.Prepared.{Prepared}
-use Rattle.proof_nodes.specs.AcceptsSizes.{Side}
+use Rattle.proof_tree.specs.proof_nodes.AcceptsSizes.{Side}
 use Rattle.simplex_core.specs.declared.problem.Problem.{Problem}
-use Rattle.simplex_core.specs.declared.scaling.Scaled.{Scaled}
+use Rattle.simplex_core.specs.declared.scaling.Numerators.{Numerators}
 use Rattle.simplex_core.specs.declared.answers.Answer.{Answer}
 use Rattle.simplex_core.specs.declared.answers.Answer.TheVariants.{Solution, Dual, Tripped}
 use Rattle.simplex_core.specs.Problem.{program_of}
-use Rattle.simplex_core.specs.Trips.{Trips, IsWholeAnswer, cause_of as cause_solved}
+use Rattle.simplex_core.specs.Trips.{Trips, IsWholeAnswer}
 use Rattle.simplex_core.proofs.Agreement.{whole-answers-agree}
-use Rattle.proof_nodes.specs.Nodes.{Arm, Linear}
-use Rattle.rank_search.specs.Programs.{IsProblemOf}
-use Rattle.rank_search.proofs.Lists.{listed-agree}
+use Rattle.proof_tree.specs.proof_nodes.Nodes.{Arm, Linear}
+use Rattle.rule_questions.specs.Programs.{IsProblemOf}
+use Rattle.rule_questions.proofs.Lists.{listed-agree}
 use Rattle.local_size.specs.declared.kinds.Kind.{Kind}
 use Rattle.local_size.specs.Asking.{kind_of}
 use Rattle.local_size.specs.LocalAnswers.{SideComesTo}
 use Rattle.local_size.specs.Places.{local_forms, value_on, kinds_of}
-use Rattle.local_size.specs.Sides.{Sought, ArmFound, NoneFound, LimitPassed, kind_program, ComesTo, IsEnd}
+use Rattle.local_size.specs.Sides.{SideOutcome, ArmFound, NoneFound, LimitPassed, kind_program, ComesTo, IsEnd}
 use Rattle.local_size.specs.Sides.{SearchComesTo}
 use Rattle.local_size.proofs.Readings as readings
 
@@ -37,7 +38,7 @@ module _ (r : RuleForms) (w : Form) (kind : plain.Kind) (pivots : ℕ) (problem 
   moved a h = whole-answers-agree (program_of problem) (kind_program r w kind) pivots a of.agrees h
 
   -- the numbers of a solution suffice for an arm
-  pub solution-room : (s : Scaled) (rows : ℕ) → IsWholeAnswer (program_of problem) pivots (Solution s)
+  pub solution-room : (s : Numerators) (rows : ℕ) → IsWholeAnswer (program_of problem) pivots (Solution s)
       → rows ≡ length r.rows
       → 2 * length (sought_places r.left kind) + rows ≤ length s.numbers.items
   solution-room s rows h e =
@@ -45,7 +46,7 @@ module _ (r : RuleForms) (w : Form) (kind : plain.Kind) (pivots : ℕ) (problem 
       in omega (arith, l, e)
 
   -- where the solver gives a solution, the question comes to the arm that is read off it
-  pub arm-found : (s : Scaled) (rows : ℕ) (arm : Arm) → IsWholeAnswer (program_of problem) pivots (Solution s)
+  pub arm-found : (s : Numerators) (rows : ℕ) (arm : Arm) → IsWholeAnswer (program_of problem) pivots (Solution s)
       → rows ≡ length r.rows
       → arm ≡ Linear s.den (form_of r.left kind (parameters_of (at s.numbers.items)) (pos s.den))
       (listed rows (λ j. nat_abs (at s.numbers.items (2 * length (sought_places r.left kind) + j))))
@@ -54,14 +55,14 @@ module _ (r : RuleForms) (w : Form) (kind : plain.Kind) (pivots : ℕ) (problem 
       (s.numbers.items, (s.den, moved (Solution s) h, f ∙ readings.solved-is r w kind s.numbers.items s.den rows e))
 
   -- those of a dual for a ray
-  pub dual-room : (s : Scaled) (ns : List ℤ) → IsWholeAnswer (program_of problem) pivots (Dual s)
+  pub dual-room : (s : Numerators) (ns : List ℤ) → IsWholeAnswer (program_of problem) pivots (Dual s)
       → ns ≡ s.numbers.items → 0 + r.unknowns < length ns
   dual-room s ns h e =
       let l = readings.dual-room r w kind pivots s.numbers.items s.den (moved (Dual s) h) in
       let f = ap (λ (xs : List ℤ). length xs) e in omega (arith, l, f)
 
   -- where the solver gives a dual, the question comes to none, with the ray that is read off it
-  pub none-found : (s : Scaled) (ns ray : List ℤ) → IsWholeAnswer (program_of problem) pivots (Dual s)
+  pub none-found : (s : Numerators) (ns ray : List ℤ) → IsWholeAnswer (program_of problem) pivots (Dual s)
       → ns ≡ s.numbers.items → ray ≡ listed r.unknowns (λ u. at ns (0 + u)) → ComesTo r w pivots kind (NoneFound ray)
   none-found s ns ray h e f = (
     s.numbers.items,
@@ -75,19 +76,19 @@ module _ (r : RuleForms) (w : Form) (kind : plain.Kind) (pivots : ℕ) (problem 
 
   -- a limit
   pub limit-passed : (c : TripCause) (cause : Cause) → IsWholeAnswer (program_of problem) pivots (Tripped c)
-      → cause ≡ cause_solved c → ComesTo r w pivots kind (LimitPassed cause)
+      → cause ≡ cause_of c → ComesTo r w pivots kind (LimitPassed cause)
   limit-passed c cause h e = subst (λ (k : Cause). Trips (kind_program r w kind) pivots k) (sym e) (moved (Tripped c) h)
 
 module _ (r : RuleForms) (w : Form) (pivots : ℕ) where
   -- the only kind decides
-  pub search-last : (kinds others : List Kind) (kind : Kind) (x : Sought) → kinds ≡ kind ∷ others → others ≡ []
+  pub search-last : (kinds others : List Kind) (kind : Kind) (x : SideOutcome) → kinds ≡ kind ∷ others → others ≡ []
       → ComesTo r w pivots (kind_of kind) x → SearchComesTo r w pivots (map kind_of kinds) x
   search-last kinds others kind x e f h =
       subst (λ (ks : List Kind). SearchComesTo r w pivots (map kind_of ks) x)
       (sym (e ∙ ap (λ (ks : List Kind). kind ∷ ks) f)) h
 
   -- the first kind decides where it ends the search
-  pub search-ended : (kinds others : List Kind) (kind : Kind) (x : Sought) → kinds ≡ kind ∷ others → IsEnd x
+  pub search-ended : (kinds others : List Kind) (kind : Kind) (x : SideOutcome) → kinds ≡ kind ∷ others → IsEnd x
       → ComesTo r w pivots (kind_of kind) x → SearchComesTo r w pivots (map kind_of kinds) x
   search-ended kinds others kind x e end h =
       subst (λ (ks : List Kind). SearchComesTo r w pivots (map kind_of ks) x) (sym e) (go others)
@@ -97,7 +98,7 @@ module _ (r : RuleForms) (w : Form) (pivots : ℕ) where
       go (next ∷ rest) = inl (end, h)
 
   -- the others decide where it gives none
-  pub search-on : (kinds others : List Kind) (kind : Kind) (ray : List ℤ) (x : Sought) → kinds ≡ kind ∷ others
+  pub search-on : (kinds others : List Kind) (kind : Kind) (ray : List ℤ) (x : SideOutcome) → kinds ≡ kind ∷ others
       → ¬ (others ≡ []) → ComesTo r w pivots (kind_of kind) (NoneFound ray)
       → SearchComesTo r w pivots (map kind_of others) x → SearchComesTo r w pivots (map kind_of kinds) x
   search-on kinds others kind ray x e some h rest =
@@ -109,7 +110,7 @@ module _ (r : RuleForms) (w : Form) (pivots : ℕ) where
       go (next ∷ behind) some rest = inr ((ray, h), rest)
 
 -- what the kinds of a side of a place come to
-pub side-comes : (m : Prepared) (place pivots : ℕ) (side : Side) (w : Form) (kinds : List Kind) (x : Sought)
+pub side-comes : (m : Prepared) (place pivots : ℕ) (side : Side) (w : Form) (kinds : List Kind) (x : SideOutcome)
     → w ≡ value_on side m place → map kind_of kinds ≡ kinds_of m place
     → SearchComesTo (local_forms m) w pivots (map kind_of kinds) x → SideComesTo m place pivots side x
 side-comes m place pivots side w kinds x e f h =

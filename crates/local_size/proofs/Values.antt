@@ -6,27 +6,27 @@ use Rattle.std.specs.List.{All}
 use Rattle.std.proofs.lemmas.Int.{ints}
 use Rattle.std.proofs.lemmas.Bool.{ltb-true}
 use Rattle.std.proofs.lemmas.List.Elements.{All-weaker, All-map}
-use Rattle.linear_forms.specs.Forms.{Form}
-use Rattle.linear_forms.specs.RuleQuestions.{opposite}
-use Rattle.linear_forms.specs.RuleQuestionLaws.{IsRuleShaped}
-use Rattle.linear_forms.proofs.ColumnLaws.{get_or-map}
-use Rattle.linear_forms.proofs.SolutionLaws.{length-map}
-use Rattle.rule_forms.specs.Questions.{Fits}
-use Rattle.model.specs.Limits.{coefficient_limit}
+use Rattle.simplex_core.specs.linear_forms.Forms.{Form}
+use Rattle.simplex_core.specs.linear_forms.RuleQuestions.{opposite}
+use Rattle.simplex_core.specs.linear_forms.RuleQuestionLaws.{IsRuleShaped}
+use Rattle.simplex_core.proofs.linear_forms.ColumnLaws.{get_or-map}
+use Rattle.simplex_core.proofs.linear_forms.SolutionLaws.{length-map}
+use Rattle.proof_tree.specs.rule_forms.Questions.{Fits}
+use Rattle.poly_terms.specs.model.Limits.{coefficient_limit}
 use Rattle.poly_terms.specs.declared.poly.Row.{Row}
 use Rattle.poly_terms.specs.declared.poly.Poly.{Poly}
 use Rattle.poly_terms.specs.Views.{form_of, poly_of, monomials_of}
 use Rattle.guard_prep.specs.declared.rule_rows.RuleRows.{RuleRows}
 use Rattle.guard_prep.specs.Prepared.{Prepared}
 use Rattle.guard_prep.specs.Views.{prepared_of}
-use Rattle.proof_nodes.specs.AcceptsSizes.{Up, Low}
-use Rattle.rank_search.specs.EmptyAnswers.{IsPrepared}
-use Rattle.rank_search.specs.Goals.{IsSmall}
-use Rattle.rank_search.specs.ProgramQuestions.{forms_of}
-use Rattle.rank_search.proofs.EmptyLaws.{prepared-shaped}
-use Rattle.rank_search.proofs.EmptyProblems.{rows-all}
-use Rattle.rank_search.proofs.GoalForms.{after-listed}
-use Rattle.rank_search.proofs.RankProblems.{news-small}
+use Rattle.proof_tree.specs.proof_nodes.AcceptsSizes.{Up, Low}
+use Rattle.rule_questions.specs.EmptyAnswers.{IsPrepared}
+use Rattle.rule_questions.specs.SmallForms.{IsSmall}
+use Rattle.rule_questions.specs.ProgramQuestions.{forms_of}
+use Rattle.rule_questions.proofs.EmptyLaws.{prepared-shaped}
+use Rattle.rule_questions.proofs.EmptyProblems.{rows-all}
+use Rattle.rule_questions.proofs.GoalForms.{after-listed}
+use Rattle.rule_questions.proofs.NewValues.{news-small}
 use Rattle.local_size.specs.Asking.{IsValue}
 use Rattle.local_size.specs.Places.{local_forms, value_on, expanded_at}
 

@@ -1,8 +1,8 @@
 -- A linear program whose sequence of tableaux ends with whole numbers within the limits passes no limit.
 use Rattle.std.proofs.Common.{ℕ, arith, inl, inr, List}
 use Rattle.std.specs.Prelude.{ℤ}
-use Rattle.linear_forms.specs.Causes.{Cause, range, budget, wide, scale}
-use Rattle.linear_forms.specs.LinearProgram.{LinearProgram}
+use Rattle.simplex_core.specs.linear_forms.Causes.{Cause, range, budget, wide, scale}
+use Rattle.simplex_core.specs.linear_forms.LinearProgram.{LinearProgram}
 use Rattle.simplex_core.specs.Trips.{Trips, TripsSolution, TripsDual, IsScaledSolution, IsScaledDual}
 use Rattle.simplex_core.proofs.OneAnswer.{optimal-stops, infeasible-stops, optimal-same, infeasible-same, ends-apart}
 use Rattle.simplex_core.proofs.OneAnswer.{range-apart, budget-apart, optimal-last, infeasible-last}

@@ -4,24 +4,25 @@ use Rattle.std.specs.Prelude.{ℤ, pos, negsuc, ◌≤ℤ◌}
 use Rattle.std.specs.List.{All}
 use Rattle.std.proofs.lemmas.Int.{ints}
 use Rattle.std.proofs.lemmas.List.Elements.{All-nil, All-head}
-use Rattle.linear_forms.specs.Forms.{Form, at, form_value}
-use Rattle.rule_forms.specs.Bounds.{HasNone, IsAbove, IsFirstOf, IsLooseRay}
-use Rattle.rule_forms.specs.Kinds.{Kind, Number, Argument, Affine, Plus, Minus, IsOfKind, kinds_at}
-use Rattle.rule_forms.specs.Laws.{HasPoint}
-use Rattle.rule_forms.specs.Worked.{line_form, falling_rows, falling, rising}
-use Rattle.rule_forms.proofs.Rays.{loose-has-none}
-use Rattle.rule_forms.proofs.Worked.{worked}
-use Rattle.model.specs.Terms.{Variable}
+use Rattle.simplex_core.specs.linear_forms.Forms.{Form, at, form_value}
+use Rattle.proof_tree.specs.rule_forms.Bounds.{HasNone, IsAbove, IsFirstOf, IsLooseRay}
+use Rattle.proof_tree.specs.rule_forms.Kinds.{Kind, Number, Argument, Affine, Plus, Minus, IsOfKind, kinds_at}
+use Rattle.proof_tree.specs.rule_forms.Laws.{HasPoint}
+use Rattle.proof_tree.specs.rule_forms.Worked.{line_form, falling_rows, falling, rising}
+use Rattle.proof_tree.proofs.rule_forms.Rays.{loose-has-none}
+use Rattle.proof_tree.proofs.rule_forms.Worked.{worked}
+use Rattle.poly_terms.specs.model.Terms.{Variable}
 use Rattle.guard_prep.specs.Prepared.{prepared, rows_of}
 use Rattle.guard_prep.specs.Tightening.{divisor_of}
 use Rattle.guard_prep.specs.WorkedRows.{product}
 use Rattle.local_size.specs.Places.{is_polynomial_at}
-use Rattle.local_size.specs.WorkedLocals.{falling_rule, updated, PolynomialsAreTold, KindsOfPlacesAreTold, SidesAreTold}
-use Rattle.local_size.specs.WorkedLocals.{FirstArmsAreTold, LooseSidesAreTold, LocalValuesAreWorkedOut}
-use Rattle.local_size.proofs.First.{fails}
+use Rattle.local_size.specs.WorkedLocals.{falling_rule, updated, PolynomialsAreWorkedOut, KindsOfPlacesAreWorkedOut}
+use Rattle.local_size.specs.WorkedLocals.{SidesAreWorkedOut}
+use Rattle.local_size.specs.WorkedLocals.{FirstArmsAreWorkedOut, LooseSidesAreWorkedOut, LocalValuesAreWorkedOut}
+use Rattle.local_size.proofs.FirstArms.{fails}
 
 -- what a test tells
-polynomials : PolynomialsAreTold
+polynomials : PolynomialsAreWorkedOut
 polynomials = record {
   polynomial = refl;
   free_cancelled = refl;
@@ -35,11 +36,11 @@ polynomials = record {
 }
 
 -- the kinds at places
-kinds : KindsOfPlacesAreTold
+kinds : KindsOfPlacesAreWorkedOut
 kinds = record { straight = refl; bent = refl; first_place = refl; second_place = refl }
 
 -- the values on both sides
-sides : SidesAreTold
+sides : SidesAreWorkedOut
 sides = record { up = refl; low = refl }
 
 -- the only row of the falling rule
@@ -72,7 +73,7 @@ argument-later kind (b ∷ before) behind e none is =
     (All-head (HasNone falling_rows 1 rising) b before none))
 
 -- first arms
-first : FirstArmsAreTold
+first : FirstArmsAreWorkedOut
 first = record {
   up = (
     straight,
@@ -121,7 +122,7 @@ not-loose w g is above point z ray =
     (subst (λ (rows : List Form). IsAbove rows w g 1) (sym rows-are) above)
 
 -- loose sides
-loose : LooseSidesAreTold
+loose : LooseSidesAreWorkedOut
 loose = record {
   up = record {
     asked = fails (is_polynomial_at (updated (Variable 1)) 1) refl;

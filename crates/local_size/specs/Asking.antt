@@ -2,19 +2,19 @@
 use Rattle.std.specs.Prelude.{◌≡◌, ℕ, suc, ◌≤◌, ◌==◌, not, nat_eq, if◌then◌else◌, List, filter, length, Some}
 use Rattle.std.specs.Prelude.{ℤ, pos, ◌*ℤ◌}
 use Rattle.std.specs.List.{All, range_with_len}
-use Rattle.linear_forms.specs.Forms.{Form}
-use Rattle.rule_forms.specs.Kinds as plain
-use Rattle.rule_forms.specs.Kinds.{unit_of}
-use Rattle.proof_nodes.specs.AcceptsSizes as nodes
+use Rattle.simplex_core.specs.linear_forms.Causes.{cause_of}
+use Rattle.simplex_core.specs.linear_forms.Forms.{Form}
+use Rattle.proof_tree.specs.rule_forms.Kinds as plain
+use Rattle.proof_tree.specs.rule_forms.Kinds.{unit_of}
+use Rattle.proof_tree.specs.proof_nodes.AcceptsSizes as nodes
 use Rattle.proof_tree.specs.Views.{arm_of}
-use Rattle.proof_tree.specs.AnswerViews.{cause_of}
 use Rattle.proof_tree.specs.declared.answer.EmptyAnswer.{EmptyAnswer}
 use Rattle.guard_prep.specs.declared.rule_rows.RuleRows.{RuleRows}
 use Rattle.poly_terms.specs.Views.{form_of}
 use Rattle.lp_builder.specs.declared.description.Goal.{Goal}
 use Rattle.lp_builder.specs.Descriptions.{IsWritable}
-use Rattle.rank_search.specs.Goals.{IsSmall}
-use Rattle.rank_search.specs.RankAnswers.{point_in, trip_in}
+use Rattle.rule_questions.specs.SmallForms.{IsSmall}
+use Rattle.rule_questions.specs.RuleAnswers.{point_in, trip_in}
 use Rattle.local_size.specs.declared.kinds.Sign.{Sign}
 use Rattle.local_size.specs.declared.kinds.Sign.TheVariants as signs
 use Rattle.local_size.specs.declared.kinds.Kind.{Kind}
@@ -23,7 +23,7 @@ use Rattle.local_size.specs.declared.side.Side.{Side}
 use Rattle.local_size.specs.declared.side.Side.TheVariants as sides
 use Rattle.local_size.specs.declared.search.SideAnswer.{SideAnswer}
 use Rattle.local_size.specs.declared.search.SideAnswer.TheVariants as answers
-use Rattle.local_size.specs.Sides.{Sought, ArmFound, NoneFound, LimitPassed}
+use Rattle.local_size.specs.Sides.{SideOutcome, ArmFound, NoneFound, LimitPassed}
 use Rattle.local_size.specs.LocalAnswers.{Local, HasBound, IsLooseOn, HasTripped}
 
 -- a sign as plain data
@@ -43,10 +43,10 @@ side_of sides.Up = nodes.Up
 side_of sides.Low = nodes.Low
 
 -- what a side's questions come to as plain data
-abbrev pub sought_of : SideAnswer → Sought
-sought_of (answers.Arm arm) = ArmFound (arm_of arm)
-sought_of (answers.Loose ray) = NoneFound ray.items
-sought_of (answers.Tripped cause) = LimitPassed (cause_of cause)
+abbrev pub side_outcome_of : SideAnswer → SideOutcome
+side_outcome_of (answers.Arm arm) = ArmFound (arm_of arm)
+side_outcome_of (answers.Loose ray) = NoneFound ray.items
+side_outcome_of (answers.Tripped cause) = LimitPassed (cause_of cause)
 
 -- the place, where there is such a left argument
 abbrev pub own_places : ℕ → ℕ → List ℕ

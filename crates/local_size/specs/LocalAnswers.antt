@@ -1,19 +1,20 @@
 -- What is answered of a place: how large its new value can be in terms of the values before, or why that isn't known.
 use Rattle.std.specs.Prelude.{◌≡◌, ◌⊎◌, ℕ, true, false, List, ℤ, Some}
+use Rattle.simplex_core.specs.linear_forms.Causes.{cause_of}
 use Rattle.guard_prep.specs.Prepared.{Prepared}
-use Rattle.proof_nodes.specs.Nodes.{Spot, Arm, Poly, LocalBound}
-use Rattle.proof_nodes.specs.Gaps.{ScaledPoint}
-use Rattle.proof_nodes.specs.AcceptsSizes.{Side, Up, Low}
+use Rattle.proof_tree.specs.proof_nodes.Nodes.{Spot, Arm, Poly, LocalBound}
+use Rattle.proof_tree.specs.proof_nodes.Gaps.{ScaledPoint}
+use Rattle.proof_tree.specs.proof_nodes.AcceptsSizes.{Side, Up, Low}
 use Rattle.outcome.specs.Views.{side_by}
 use Rattle.proof_tree.specs.Views.{local_of}
-use Rattle.proof_tree.specs.AnswerViews.{cause_of, scaled_of}
+use Rattle.proof_tree.specs.AnswerViews.{scaled_of}
 use Rattle.proof_tree.specs.declared.answer.Question.TheVariants as questions
 use Rattle.proof_tree.specs.declared.answer.Trip.{Trip}
 use Rattle.proof_tree.specs.declared.answer.EmptyAnswer.{EmptyAnswer}
-use Rattle.rank_search.specs.RankAnswers.{point_in, trip_in}
+use Rattle.rule_questions.specs.RuleAnswers.{point_in, trip_in}
 use Rattle.local_size.specs.declared.answer.LocalAnswer.{LocalAnswer}
 use Rattle.local_size.specs.declared.answer.LocalAnswer.TheVariants as answers
-use Rattle.local_size.specs.Sides.{Sought, ArmFound, NoneFound, LimitPassed, SearchComesTo}
+use Rattle.local_size.specs.Sides.{SideOutcome, ArmFound, NoneFound, LimitPassed, SearchComesTo}
 use Rattle.local_size.specs.Places.{local_forms, value_on, is_polynomial_at, kinds_of}
 
 -- an answer as plain data: both arms; a side that is loose, along a ray and from a point; or what tripped
@@ -22,13 +23,13 @@ pub data Local : Type 0 where
   IsLooseOn : Side → List ℤ → ScaledPoint → Local
   HasTripped : Trip → Local
 
-abbrev pub local_seen : LocalAnswer → Local
-local_seen (answers.Bound l) = HasBound (local_of l)
-local_seen (answers.Loose l) = IsLooseOn (side_by l.up) l.ray.items (scaled_of l.kept)
-local_seen (answers.Tripped t) = HasTripped t
+abbrev pub local_answer_of : LocalAnswer → Local
+local_answer_of (answers.Bound l) = HasBound (local_of l)
+local_answer_of (answers.Loose l) = IsLooseOn (side_by l.up) l.ray.items (scaled_of l.kept)
+local_answer_of (answers.Tripped t) = HasTripped t
 
 -- the questions of a side of a place come to this
-abbrev pub SideComesTo : Prepared → ℕ → ℕ → Side → Sought → Type 0
+abbrev pub SideComesTo : Prepared → ℕ → ℕ → Side → SideOutcome → Type 0
 SideComesTo m place pivots side x =
     SearchComesTo (local_forms m) (value_on side m place) pivots (kinds_of m place) x
 

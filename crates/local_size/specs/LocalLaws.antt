@@ -1,23 +1,23 @@
 -- What the answers for places are worth.
 use Rattle.std.specs.Prelude.{◌≡◌, ◌↔◌, ℕ, ◌≤◌, true, List, length, ℤ, pos, nat_abs, Some}
 use Rattle.std.specs.List.{All}
-use Rattle.model.specs.Programs.{Program, Rule, rule_at}
-use Rattle.linear_forms.specs.Forms.{at}
-use Rattle.linear_forms.specs.Limits.{point_limit}
-use Rattle.linear_forms.specs.Points.{IsPoint}
-use Rattle.rule_forms.specs.Kinds.{Affine}
-use Rattle.rule_forms.specs.Bounds.{HasNone, IsFirstOf, IsLooseRay}
-use Rattle.rule_forms.specs.Laws.{HasPoint}
-use Rattle.its_model.specs.Valid.{IsValid}
+use Rattle.poly_terms.specs.model.Programs.{Program, Rule, rule_at}
+use Rattle.simplex_core.specs.linear_forms.Forms.{at}
+use Rattle.simplex_core.specs.linear_forms.Limits.{point_limit}
+use Rattle.simplex_core.specs.linear_forms.Points.{IsPoint}
+use Rattle.proof_tree.specs.rule_forms.Kinds.{Affine}
+use Rattle.proof_tree.specs.rule_forms.Bounds.{HasNone, IsFirstOf, IsLooseRay}
+use Rattle.proof_tree.specs.rule_forms.Laws.{HasPoint}
+use Rattle.guard_prep.specs.its_model.Valid.{IsValid}
 use Rattle.guard_prep.specs.Prepared.{Prepared, prepared}
-use Rattle.proof_nodes.specs.Nodes.{Spot, Arm, Linear, Poly, LocalBound}
-use Rattle.proof_nodes.specs.Gaps.{ScaledPoint}
-use Rattle.proof_nodes.specs.AcceptsSizes.{IsSpot, HasMemberShape, AcceptsUp, AcceptsLow, Side, Up, Low}
-use Rattle.proof_setting.specs.Setting.{setting_of}
+use Rattle.proof_tree.specs.proof_nodes.Nodes.{Spot, Arm, Linear, Poly, LocalBound}
+use Rattle.proof_tree.specs.proof_nodes.Gaps.{ScaledPoint}
+use Rattle.proof_tree.specs.proof_nodes.AcceptsSizes.{IsSpot, HasMemberShape, AcceptsUp, AcceptsLow, Side, Up, Low}
+use Rattle.proof_tree.specs.proof_setting.Setting.{setting_of}
 use Rattle.proof_tree.specs.declared.answer.EmptyAnswer.{EmptyAnswer}
 use Rattle.proof_tree.specs.declared.answer.Trip.{Trip}
-use Rattle.rank_search.specs.EmptyAnswers.{IsEmptyAnswer}
-use Rattle.rank_search.specs.OneAnswer.{IsSameEmptyAnswer}
+use Rattle.rule_questions.specs.EmptyAnswers.{IsEmptyAnswer}
+use Rattle.rule_questions.specs.OneEmptyAnswer.{IsSameEmptyAnswer}
 use Rattle.local_size.specs.Places.{value_on, is_polynomial_at, kinds_of}
 use Rattle.local_size.specs.LocalAnswers.{Local, HasBound, IsLooseOn, HasTripped, IsLocal}
 

@@ -1,13 +1,13 @@
 -- What is asked of a place of a rule: its new value, its update, and the kinds of forms.
 use Rattle.std.specs.Prelude.{ℕ, zero, suc, ◌&&◌, nat_lt, Bool, false, List, [], slice_index_or}
 use Rattle.std.specs.List.{list_all}
-use Rattle.model.specs.Polynomials.{Polynomial}
-use Rattle.linear_forms.specs.Forms.{Form}
-use Rattle.linear_forms.specs.RuleQuestions.{RuleForms, value_up, value_low}
-use Rattle.rule_forms.specs.Kinds.{Kind, kinds_for}
+use Rattle.poly_terms.specs.model.Polynomials.{Polynomial}
+use Rattle.simplex_core.specs.linear_forms.Forms.{Form}
+use Rattle.simplex_core.specs.linear_forms.RuleQuestions.{RuleForms, value_up, value_low}
+use Rattle.proof_tree.specs.rule_forms.Kinds.{Kind, kinds_for}
 use Rattle.guard_prep.specs.Prepared.{Prepared}
-use Rattle.proof_nodes.specs.AcceptsSizes.{Side, Up, Low}
-use Rattle.rank_search.specs.ProgramQuestions.{forms_of}
+use Rattle.proof_tree.specs.proof_nodes.AcceptsSizes.{Side, Up, Low}
+use Rattle.rule_questions.specs.ProgramQuestions.{forms_of}
 
 -- what a question sees of a rule; it looks at no symbol
 abbrev pub local_forms : Prepared → RuleForms

@@ -1,22 +1,22 @@
 -- One side of a place: its questions, which are asked in their order until a form is found.
 use Rattle.std.specs.Prelude.{◌≡◌, ◌⊎◌, ℕ, List, [], ◌∷◌, ℤ, pos, ⊤}
-use Rattle.linear_forms.specs.Forms.{Form, at}
-use Rattle.linear_forms.specs.Causes.{Cause}
-use Rattle.linear_forms.specs.LinearProgram.{LinearProgram}
-use Rattle.linear_forms.specs.Questions.{listed, program_of_question}
-use Rattle.linear_forms.specs.RuleQuestions.{RuleForms}
-use Rattle.rule_forms.specs.Kinds.{Kind}
-use Rattle.rule_forms.specs.Questions.{question_of}
-use Rattle.rule_forms.specs.Laws.{solved_form, solved_multipliers}
+use Rattle.simplex_core.specs.linear_forms.Forms.{Form, at}
+use Rattle.simplex_core.specs.linear_forms.Causes.{Cause}
+use Rattle.simplex_core.specs.linear_forms.LinearProgram.{LinearProgram}
+use Rattle.simplex_core.specs.linear_forms.Questions.{listed, program_of_question}
+use Rattle.simplex_core.specs.linear_forms.RuleQuestions.{RuleForms}
+use Rattle.proof_tree.specs.rule_forms.Kinds.{Kind}
+use Rattle.proof_tree.specs.rule_forms.Questions.{question_of}
+use Rattle.proof_tree.specs.rule_forms.Laws.{solved_form, solved_multipliers}
 use Rattle.simplex_core.specs.Trips.{Trips, IsScaledSolution, IsScaledDual}
-use Rattle.proof_nodes.specs.Nodes.{Arm, Linear}
+use Rattle.proof_tree.specs.proof_nodes.Nodes.{Arm, Linear}
 
 -- what the questions of one side come to: an arm; no form of any kind, as the dual of the last question shows; or a
 -- limit that a linear program passed
-pub data Sought : Type 0 where
-  ArmFound : Arm → Sought
-  NoneFound : List ℤ → Sought
-  LimitPassed : Cause → Sought
+pub data SideOutcome : Type 0 where
+  ArmFound : Arm → SideOutcome
+  NoneFound : List ℤ → SideOutcome
+  LimitPassed : Cause → SideOutcome
 
 -- the linear program that asks which form of a kind is at least w
 abbrev pub kind_program : RuleForms → Form → Kind → LinearProgram
@@ -31,7 +31,7 @@ solved_arm r w kind numbers den =
 -- the question of one kind, within a number of pivots, comes to an arm, given by the solution at which its linear
 -- program's sequence of tableaux ends; or to none, with a part for each unknown of the dual at which it ends; or it
 -- passes a limit
-abbrev pub ComesTo : RuleForms → Form → ℕ → Kind → Sought → Type 0
+abbrev pub ComesTo : RuleForms → Form → ℕ → Kind → SideOutcome → Type 0
 ComesTo r w pivots kind (ArmFound arm) = (numbers : List ℤ)
     × ((den : ℕ) × IsScaledSolution (kind_program r w kind) pivots numbers den
     × (arm ≡ solved_arm r w kind numbers den))
@@ -40,13 +40,13 @@ ComesTo r w pivots kind (NoneFound ray) = (numbers : List ℤ)
 ComesTo r w pivots kind (LimitPassed cause) = Trips (kind_program r w kind) pivots cause
 
 -- the search ends there: with an arm, or at a limit
-abbrev pub IsEnd : Sought → Type 0
+abbrev pub IsEnd : SideOutcome → Type 0
 IsEnd (ArmFound arm) = ⊤
 IsEnd (NoneFound ray) = ⊥
 IsEnd (LimitPassed cause) = ⊤
 
 -- the kinds are asked in order: the first that comes to an arm or passes a limit decides, and else the last
-abbrev pub SearchComesTo : RuleForms → Form → ℕ → List Kind → Sought → Type 0
+abbrev pub SearchComesTo : RuleForms → Form → ℕ → List Kind → SideOutcome → Type 0
 SearchComesTo r w pivots [] x = ⊥
 SearchComesTo r w pivots (kind ∷ []) x = ComesTo r w pivots kind x
 SearchComesTo r w pivots (kind ∷ next ∷ kinds) x = (IsEnd x × ComesTo r w pivots kind x)

@@ -1,13 +1,13 @@
 -- Worked values of what is asked of places, of the first arm on a side, and of loose sides.
 use Rattle.std.specs.Prelude.{◌≡◌, true, false, [], ◌∷◌, pos, negsuc}
-use Rattle.rule_forms.specs.Kinds.{Number, Argument, Affine, Plus, Minus}
-use Rattle.rule_forms.specs.Worked.{line_form}
-use Rattle.model.specs.Terms.{Term, Variable, Literal, Addition, Subtraction}
-use Rattle.model.specs.Programs.{AtLeast, Compare, Rule}
+use Rattle.proof_tree.specs.rule_forms.Kinds.{Number, Argument, Affine, Plus, Minus}
+use Rattle.proof_tree.specs.rule_forms.Worked.{line_form}
+use Rattle.poly_terms.specs.model.Terms.{Term, Variable, Literal, Addition, Subtraction}
+use Rattle.poly_terms.specs.model.Programs.{AtLeast, Compare, Rule}
 use Rattle.guard_prep.specs.Prepared.{Prepared, prepared}
 use Rattle.guard_prep.specs.WorkedRows.{with_free, square, successor, product, two}
-use Rattle.proof_nodes.specs.Nodes.{Linear, Poly}
-use Rattle.proof_nodes.specs.AcceptsSizes.{Up, Low}
+use Rattle.proof_tree.specs.proof_nodes.Nodes.{Linear, Poly}
+use Rattle.proof_tree.specs.proof_nodes.AcceptsSizes.{Up, Low}
 use Rattle.local_size.specs.Places.{value_on, is_polynomial_at, kinds_of}
 use Rattle.local_size.specs.LocalLaws.{IsFirstArm, IsLooseSide}
 
@@ -33,7 +33,7 @@ falling_rule = record {
 
 -- A*A is a polynomial of degree 2 or more over left variables, and so is A*A + B - B; A*B reads a free variable, and
 -- A + 1 and A*A + A - A*A have degree 1; places count from 1
-pub record PolynomialsAreTold : Type 0 where
+pub record PolynomialsAreWorkedOut : Type 0 where
   pub polynomial : is_polynomial_at (updated square) 1 ≡ true
   pub free_cancelled : is_polynomial_at (updated (Subtraction (Addition square (Variable 1)) (Variable 1))) 1 ≡ true
   pub reads_free : is_polynomial_at (updated product) 1 ≡ false
@@ -45,21 +45,21 @@ pub record PolynomialsAreTold : Type 0 where
   pub past : is_polynomial_at both_updated 3 ≡ false
 
 -- all kinds are looked for where the update has degree 1, and any form alone where it has degree 2 or more
-pub record KindsOfPlacesAreTold : Type 0 where
+pub record KindsOfPlacesAreWorkedOut : Type 0 where
   pub straight : kinds_of (updated successor) 1 ≡ Number ∷ Argument 1 Plus ∷ Argument 1 Minus ∷ Affine ∷ []
   pub bent : kinds_of (updated product) 1 ≡ Affine ∷ []
   pub first_place : kinds_of both_updated 1 ≡ Number ∷ Argument 1 Plus ∷ Argument 1 Minus ∷ Affine ∷ []
   pub second_place : kinds_of both_updated 2 ≡ Affine ∷ []
 
 -- the value of A + 1, and its negation on the low side
-pub record SidesAreTold : Type 0 where
+pub record SidesAreWorkedOut : Type 0 where
   pub up : value_on Up (updated successor) 1 ≡ two (pos 1) (pos 0) (pos 1)
   pub low : value_on Low (updated successor) 1 ≡ two (negsuc 0) (pos 0) (negsuc 0)
 
 -- where A >= 1, the first arm on the up side of A - 1 is A, and on the low side 0, whatever the multipliers are; 5 is
 -- none on the up side, A isn't the first on the low side, and the polynomial is on neither. The first arm of A*A is the
 -- polynomial, and that of A*B isn't, nor is a form the first of A*A
-pub record FirstArmsAreTold : Type 0 where
+pub record FirstArmsAreWorkedOut : Type 0 where
   pub up : IsFirstArm (prepared falling_rule) 1 Up (Linear 1 (line_form (pos 1) (pos 0)) [])
   pub low : IsFirstArm (prepared falling_rule) 1 Low (Linear 1 (line_form (pos 0) (pos 0)) [])
   pub too_low : ¬ (IsFirstArm (prepared falling_rule) 1 Up (Linear 1 (line_form (pos 0) (pos 5)) []))
@@ -70,7 +70,7 @@ pub record FirstArmsAreTold : Type 0 where
   pub form_of_square : ¬ (IsFirstArm (updated square) 1 Up (Linear 1 (line_form (pos 1) (pos 0)) []))
 
 -- a free variable is loose on both sides; A - 1 is on neither, and A*A isn't, since its polynomial bounds it
-pub record LooseSidesAreTold : Type 0 where
+pub record LooseSidesAreWorkedOut : Type 0 where
   pub up : IsLooseSide (updated (Variable 1)) 1 Up
   pub low : IsLooseSide (updated (Variable 1)) 1 Low
   pub bounded_up : ¬ (IsLooseSide (prepared falling_rule) 1 Up)
@@ -79,8 +79,8 @@ pub record LooseSidesAreTold : Type 0 where
 
 -- all of these
 pub record LocalValuesAreWorkedOut : Type 0 where
-  pub polynomials : PolynomialsAreTold
-  pub kinds : KindsOfPlacesAreTold
-  pub sides : SidesAreTold
-  pub first : FirstArmsAreTold
-  pub loose : LooseSidesAreTold
+  pub polynomials : PolynomialsAreWorkedOut
+  pub kinds : KindsOfPlacesAreWorkedOut
+  pub sides : SidesAreWorkedOut
+  pub first : FirstArmsAreWorkedOut
+  pub loose : LooseSidesAreWorkedOut

@@ -1,4 +1,4 @@
-// What is answered of a place.
+//! What is answered of a place.
 
 use outcome::Loose;
 use proof_tree::{LocalBound, Trip};

@@ -1,7 +1,7 @@
-// The kinds of forms that are asked for at a place, in their order.
+//! The kinds of forms that are asked for at a place, in their order.
 
 ghost use Rattle.std.specs.Prelude.{◌≡◌, ◌++◌, [], ◌∷◌, ◌≤◌, map, IfOk};
-ghost use Rattle.rule_forms.specs.Kinds.{arguments, kinds_for};
+ghost use Rattle.proof_tree.specs.rule_forms.Kinds.{arguments, kinds_for};
 ghost use Rattle.local_size.specs.Asking.{kind_of, own_places, other_places};
 
 use poly_terms::Memory;

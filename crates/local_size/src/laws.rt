@@ -1,4 +1,4 @@
-// What the answers for places are worth.
+//! What the answers for places are worth.
 
 ghost use Rattle.local_size.specs.LocalLaws.{LocalBoundsAreAccepted, LocalBoundsAreFirst, LooseAnswersAreLoose};
 ghost use Rattle.local_size.specs.LocalLaws.{LocalAnswersAreExact, LocalAnswersAreOne};

@@ -1,13 +1,12 @@
-// How large the new value at a place can be in one step.
+//! How large the new value at a place can be in one step.
 
 ghost use Rattle.std.specs.Prelude.{◌≡◌, ◌≤◌, length, IfOk};
 ghost use Rattle.guard_prep.specs.Views.{prepared_of};
-ghost use Rattle.proof_tree.specs.AnswerViews.{scaled_of};
 ghost use Rattle.proof_tree.specs.Views.{spot_of};
 ghost use Rattle.proof_tree.specs.declared.answer.Question.TheVariants as questions;
-ghost use Rattle.rank_search.specs.EmptyAnswers.{IsPrepared, SaysEmpty};
+ghost use Rattle.rule_questions.specs.EmptyAnswers.{IsPrepared, SaysEmpty};
 ghost use Rattle.local_size.specs.Asking.{side_of, IsLoosened};
-ghost use Rattle.local_size.specs.LocalAnswers.{local_seen, HasTripped, IsLocal};
+ghost use Rattle.local_size.specs.LocalAnswers.{local_answer_of, HasTripped, IsLocal};
 ghost use Rattle.outcome.specs.Views.{side_by};
 
 use crate::answer::LocalAnswer;
@@ -15,11 +14,10 @@ use crate::kinds::kinds_of;
 use crate::polynomial::{is_bent, is_polynomial};
 use crate::search::SideAnswer;
 use crate::side::{Side, search_side};
-use farkas_cert::Scaled;
 use guard_prep::RuleRows;
 use outcome::Loose;
 use poly_terms::Memory;
-use proof_tree::{Arm, EmptyAnswer, LocalBound, Question, Spot, Trip, TripCause};
+use proof_tree::{Arm, EmptyAnswer, LocalBound, Question, Spot, Trip, TripCause, copied_scaled};
 use std::alloc::Global;
 
 /// How large the new value at a place can be in one step, as two arms: one is never below it, the other never below
@@ -45,7 +43,7 @@ pub fn local(
     requires prepared { IsPrepared prep.now }
     requires place { (1 ≤ spot.place) × (spot.place ≤ length prep.now.news.items) }
     requires may_run { ¬ SaysEmpty empty.now }
-    ensures { IfOk result (λ a. IsLocal (prepared_of prep.now) (spot_of spot) pivots empty.now (local_seen a)) }
+    ensures { IfOk result (λ a. IsLocal (prepared_of prep.now) (spot_of spot) pivots empty.now (local_answer_of a)) }
 {
     let by_itself = is_polynomial(prep, spot.place);
     if by_itself {
@@ -86,7 +84,7 @@ pub fn local(
 
 // A question of the place passed a limit.
 fn tripped(spot: Spot, cause: TripCause) -> LocalAnswer
-    ensures { local_seen result
+    ensures { local_answer_of result
         ≡ HasTripped (record { question = questions.Local spot.rule spot.place; cause = cause }) }
 {
     LocalAnswer::Tripped(Trip {
@@ -107,12 +105,12 @@ fn loosened(
     empty: &EmptyAnswer,
 ) -> Result<LocalAnswer, Memory>
     requires { ¬ SaysEmpty empty.now }
-    ensures { IfOk result (λ a. IsLoosened (side_of side) ray.items empty.now (local_seen a)) }
+    ensures { IfOk result (λ a. IsLoosened (side_of side) ray.items empty.now (local_answer_of a)) }
 {
     match empty {
         EmptyAnswer::Empty(_) => unreachable!(),
         EmptyAnswer::Point(point) => {
-            let kept = copy_of(alloc, point)?;
+            let kept = copied_scaled(alloc, point)?;
             Ok(LocalAnswer::Loose(Loose {
                 up: is_up(side),
                 ray,
@@ -131,14 +129,4 @@ fn is_up(side: Side) -> bool
         Side::Up => true,
         Side::Low => false,
     }
-}
-
-// A copy of a point.
-fn copy_of(alloc: Global, point: &Scaled) -> Result<Scaled, Memory>
-    ensures { IfOk result (λ copy. scaled_of copy ≡ scaled_of point.now) }
-{
-    Ok(Scaled {
-        parts: Vec::from_slice(alloc, &point.parts)?,
-        den: point.den,
-    })
 }

@@ -1,4 +1,4 @@
-// Whether the update at a place is a polynomial that bounds the new value by itself.
+//! Whether the update at a place is a polynomial that bounds the new value by itself.
 
 ghost use Rattle.std.specs.Prelude.{◌≡◌, ◌≤◌, map, nat_lt};
 ghost use Rattle.std.specs.List.{list_all};

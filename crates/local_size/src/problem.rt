@@ -1,15 +1,15 @@
-// The problem of one kind of form, as the builder makes it.
+//! The problem of one kind of form, as the builder makes it.
 
 ghost use Rattle.std.specs.Prelude.{◌≡◌, ◌+◌, ◌<◌, ◌^◌, ◌++◌, [], ◌∷◌, nat_eq, if◌then◌else◌, length, map, IfOk};
 ghost use Rattle.std.specs.List.{range_with_len};
-ghost use Rattle.linear_forms.specs.RuleQuestions.{before_rule};
-ghost use Rattle.rule_forms.specs.Questions.{question_of, IsKindOf};
-ghost use Rattle.rule_forms.proofs.Sought.{sought_places};
+ghost use Rattle.simplex_core.specs.linear_forms.RuleQuestions.{before_rule};
+ghost use Rattle.proof_tree.specs.rule_forms.Questions.{question_of, IsKindOf};
+ghost use Rattle.local_size.specs.SoughtParts.{sought_places};
 ghost use Rattle.guard_prep.specs.Views.{prepared_of};
 ghost use Rattle.poly_terms.specs.Views.{form_of};
 ghost use Rattle.lp_builder.specs.Descriptions.{goal_forms, AreParameters};
-ghost use Rattle.rank_search.specs.EmptyAnswers.{IsPrepared};
-ghost use Rattle.rank_search.specs.Programs.{IsProblemOf};
+ghost use Rattle.rule_questions.specs.EmptyAnswers.{IsPrepared};
+ghost use Rattle.rule_questions.specs.Programs.{IsProblemOf};
 ghost use Rattle.local_size.specs.Asking.{kind_of, IsValue, AreWritableWithin};
 ghost use Rattle.local_size.specs.Places.{local_forms};
 
@@ -18,7 +18,7 @@ use crate::rows::{argument_row, fixed_row};
 use guard_prep::RuleRows;
 use lp_builder::{Builder, Cost, Goal};
 use poly_terms::{Memory, Row};
-use rank_search::difference;
+use rule_questions::difference;
 use simplex_core::Problem;
 use std::alloc::Global;
 

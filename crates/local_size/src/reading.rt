@@ -1,14 +1,14 @@
-// The arm that a solution of a kind's linear program gives.
+//! The arm that a solution of a kind's linear program gives.
 
 ghost use Rattle.std.specs.Prelude.{◌≡◌, suc, ◌+◌, ◌*◌, ◌*ℤ◌, ◌≤◌, nat_eq, if◌then◌else◌, length, pos, nat_abs, IfOk};
-ghost use Rattle.linear_forms.specs.Forms.{at};
-ghost use Rattle.linear_forms.specs.Limits.{certificate_limit};
-ghost use Rattle.linear_forms.specs.Questions.{listed};
-ghost use Rattle.linear_forms.specs.QuestionLaws.{parameters_of};
-ghost use Rattle.rule_forms.specs.Kinds.{unit_of};
-ghost use Rattle.rule_forms.specs.Questions.{form_of};
-ghost use Rattle.rule_forms.proofs.Sought.{sought_places};
-ghost use Rattle.proof_nodes.specs.Nodes.{Linear};
+ghost use Rattle.simplex_core.specs.linear_forms.Forms.{at};
+ghost use Rattle.simplex_core.specs.linear_forms.Limits.{certificate_limit};
+ghost use Rattle.simplex_core.specs.linear_forms.Questions.{listed};
+ghost use Rattle.simplex_core.specs.linear_forms.QuestionLaws.{parameters_of};
+ghost use Rattle.proof_tree.specs.rule_forms.Kinds.{unit_of};
+ghost use Rattle.proof_tree.specs.rule_forms.Questions.{form_of};
+ghost use Rattle.local_size.specs.SoughtParts.{sought_places};
+ghost use Rattle.proof_tree.specs.proof_nodes.Nodes.{Linear};
 ghost use Rattle.proof_tree.specs.Views.{arm_of};
 ghost use Rattle.simplex_core.specs.Scaling.{AreWithin};
 ghost use Rattle.local_size.specs.Asking.{kind_of, sign_of, coefficient_of, constant_of};
@@ -16,8 +16,8 @@ ghost use Rattle.local_size.specs.Asking.{kind_of, sign_of, coefficient_of, cons
 use crate::kinds::{Kind, Sign};
 use poly_terms::Memory;
 use proof_tree::Arm;
-use rank_search::{multipliers_from, parameter_at};
-use simplex_core::Scaled;
+use rule_questions::{multipliers_from, parameter_at};
+use simplex_core::Numerators;
 use std::alloc::Global;
 
 /// The arm that a solution gives: the form that its parameters stand for, over its denominator, with the multipliers of
@@ -27,7 +27,7 @@ pub(crate) fn arm_from(
     left: u32,
     rows: usize,
     kind: Kind,
-    solution: &Scaled,
+    solution: &Numerators,
 ) -> Result<Arm, Memory>
     requires within { AreWithin certificate_limit (length solution.now.numbers.items) solution.now.numbers.items }
     requires den { solution.now.den ≤ certificate_limit }

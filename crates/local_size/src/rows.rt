@@ -1,18 +1,18 @@
-// The rows that the questions of a place are made of.
+//! The rows that the questions of a place are made of.
 
 ghost use Rattle.std.specs.Prelude.{◌≡◌, ◌≤◌, map, negsuc, nat_abs, ◌*ℤ◌, IfOk};
-ghost use Rattle.linear_forms.specs.Combinations.{form_sum, form_times};
-ghost use Rattle.linear_forms.specs.RuleQuestions.{before_rule, opposite};
-ghost use Rattle.rule_forms.specs.Kinds.{unit_of};
-ghost use Rattle.model.specs.Limits.{coefficient_limit};
+ghost use Rattle.simplex_core.specs.linear_forms.Combinations.{form_sum, form_times};
+ghost use Rattle.simplex_core.specs.linear_forms.RuleQuestions.{before_rule, opposite};
+ghost use Rattle.proof_tree.specs.rule_forms.Kinds.{unit_of};
+ghost use Rattle.poly_terms.specs.model.Limits.{coefficient_limit};
 ghost use Rattle.poly_terms.specs.Views.{form_of};
-ghost use Rattle.rank_search.specs.Goals.{IsSmall};
-ghost use Rattle.rule_forms.proofs.Sought.{fixed_part};
+ghost use Rattle.rule_questions.specs.SmallForms.{IsSmall};
+ghost use Rattle.local_size.specs.SoughtParts.{fixed_part};
 ghost use Rattle.local_size.specs.Asking.{kind_of, sign_of};
 
 use crate::kinds::{Kind, Sign};
 use poly_terms::{Memory, Row};
-use rank_search::{constant_row, unit_row};
+use rule_questions::{constant_row, unit_row};
 use std::alloc::Global;
 
 /// The form with the opposite sign.

@@ -1,12 +1,12 @@
-// The questions of a side of a place, kind by kind.
+//! The questions of a side of a place, kind by kind.
 
 ghost use Rattle.std.specs.Prelude.{◌≤◌, length, map, IfOk};
 ghost use Rattle.std.specs.List.{All};
-ghost use Rattle.rule_forms.specs.Questions.{IsKindOf};
+ghost use Rattle.proof_tree.specs.rule_forms.Questions.{IsKindOf};
 ghost use Rattle.guard_prep.specs.Views.{prepared_of};
 ghost use Rattle.poly_terms.specs.Views.{form_of};
-ghost use Rattle.rank_search.specs.EmptyAnswers.{IsPrepared};
-ghost use Rattle.local_size.specs.Asking.{kind_of, sought_of, IsValue};
+ghost use Rattle.rule_questions.specs.EmptyAnswers.{IsPrepared};
+ghost use Rattle.local_size.specs.Asking.{kind_of, side_outcome_of, IsValue};
 ghost use Rattle.local_size.specs.Places.{local_forms};
 ghost use Rattle.local_size.specs.Sides.{ComesTo, SearchComesTo};
 
@@ -16,7 +16,7 @@ use crate::reading::arm_from;
 use guard_prep::RuleRows;
 use poly_terms::{Memory, Row};
 use proof_tree::{Arm, TripCause};
-use rank_search::{element_from, told};
+use rule_questions::element_from;
 use simplex_core::{Answer, solve_scaled};
 use std::alloc::Global;
 
@@ -45,7 +45,7 @@ pub(crate) fn search_kinds(
     requires some { 1 ≤ length kinds.now }
     requires kinds { All (λ k. IsKindOf prep.now.left (kind_of k)) kinds.now }
     ensures { IfOk result (λ answer. SearchComesTo (local_forms (prepared_of prep.now)) (form_of value.now) pivots
-        (map kind_of kinds.now) (sought_of answer)) }
+        (map kind_of kinds.now) (side_outcome_of answer)) }
 {
     let Some((kind, others)) = kinds.split_first() else {
         unreachable!()
@@ -73,7 +73,7 @@ fn ask(
     requires value { IsValue prep.now (form_of value.now) }
     requires kind { IsKindOf prep.now.left (kind_of kind) }
     ensures { IfOk result (λ answer. ComesTo (local_forms (prepared_of prep.now)) (form_of value.now) pivots
-        (kind_of kind) (sought_of answer)) }
+        (kind_of kind) (side_outcome_of answer)) }
 {
     let problem = kind_problem(alloc, prep, value, kind)?;
     match solve_scaled(alloc, &problem, pivots)? {
@@ -85,6 +85,6 @@ fn ask(
             let ray = element_from(alloc, &dual.numbers, 0, prep.unknowns as usize)?;
             Ok(SideAnswer::Loose(ray.parts))
         }
-        Answer::Tripped(cause) => Ok(SideAnswer::Tripped(told(cause))),
+        Answer::Tripped(cause) => Ok(SideAnswer::Tripped(cause)),
     }
 }

@@ -1,9 +1,9 @@
-// One side of a place.
+//! One side of a place.
 
 ghost use Rattle.std.specs.Prelude.{◌≡◌, ◌≤◌, length, map, IfOk};
 ghost use Rattle.guard_prep.specs.Views.{prepared_of};
-ghost use Rattle.rank_search.specs.EmptyAnswers.{IsPrepared};
-ghost use Rattle.local_size.specs.Asking.{kind_of, side_of, sought_of};
+ghost use Rattle.rule_questions.specs.EmptyAnswers.{IsPrepared};
+ghost use Rattle.local_size.specs.Asking.{kind_of, side_of, side_outcome_of};
 ghost use Rattle.local_size.specs.LocalAnswers.{SideComesTo};
 ghost use Rattle.local_size.specs.Places.{kinds_of as kinds_asked};
 
@@ -35,7 +35,7 @@ pub(crate) fn search_side(
     requires place { (1 ≤ place) × (place ≤ length prep.now.news.items) }
     requires kinds { map kind_of kinds.now ≡ kinds_asked (prepared_of prep.now) place }
     ensures { IfOk result (λ answer.
-        SideComesTo (prepared_of prep.now) place pivots (side_of side) (sought_of answer)) }
+        SideComesTo (prepared_of prep.now) place pivots (side_of side) (side_outcome_of answer)) }
 {
     let value = &prep.news[place as usize - 1];
     match side {

@@ -1,9 +1,10 @@
 -- What is made of a builder and costs.
-use Rattle.std.proofs.Common.{◌≡◌, ℕ, zero, suc, ◌+◌, ◌*◌, ◌<◌, ◌^◌, ap, arith, refl, sym, ◌∙◌, subst, List, ◌++◌, length, map, replicate}
+use Rattle.std.proofs.Common.{◌≡◌, ℕ, zero, suc, ◌+◌, ◌*◌, ◌<◌, ◌^◌, ap, arith, refl, sym, ◌∙◌, subst, List, ◌++◌}
+use Rattle.std.proofs.Common.{length, map, replicate}
 use Rattle.std.specs.Prelude.{pos}
 use Rattle.std.specs.List.{All}
-use Rattle.linear_forms.specs.Questions.{Group, IsShaped, IsGroupShaped, double, on_both, on_plus}
-use Rattle.linear_forms.proofs.SolutionLaws.{length-map}
+use Rattle.simplex_core.specs.linear_forms.Questions.{Group, IsShaped, IsGroupShaped, double, on_both, on_plus}
+use Rattle.simplex_core.proofs.linear_forms.SolutionLaws.{length-map}
 use Rattle.simplex_core.specs.declared.problem.Problem.{Problem}
 use Rattle.lp_builder.specs.declared.builder.Builder.{Builder}
 use Rattle.lp_builder.specs.declared.description.Cost.{Cost}

@@ -1,8 +1,9 @@
 -- Costs of columns, and zeros behind them.
-use Rattle.std.proofs.Common.{◌≡◌, ℕ, zero, suc, ◌+◌, ◌-◌, ◌<◌, ap, arith, refl, sym, ◌∙◌, List, [], ◌∷◌, ◌++◌, length, map, take, get_or, replicate, append_assoc}
+use Rattle.std.proofs.Common.{◌≡◌, ℕ, zero, suc, ◌+◌, ◌-◌, ◌<◌, ap, arith, refl, sym, ◌∙◌, List, [], ◌∷◌, ◌++◌, length}
+use Rattle.std.proofs.Common.{map, take, get_or, replicate, append_assoc}
 use Rattle.std.specs.Prelude.{ℤ, pos}
 use Rattle.std.proofs.lemmas.List.{append-nil, map-append, take_more}
-use Rattle.linear_forms.specs.Questions.{on_both, on_plus}
+use Rattle.simplex_core.specs.linear_forms.Questions.{on_both, on_plus}
 use Rattle.lp_builder.specs.declared.description.Cost.{Cost}
 
 -- a zero that is written is the first of those that are left

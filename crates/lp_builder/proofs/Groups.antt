@@ -1,13 +1,14 @@
 -- The lines of groups, one behind the other, and what a builder holds of them.
-use Rattle.std.proofs.Common.{◌≡◌, ℕ, zero, suc, ◌+◌, ◌-◌, ◌≤◌, ap, arith, refl, sym, ◌∙◌, subst, List, [], ◌∷◌, ◌++◌, length, map, append_assoc}
+use Rattle.std.proofs.Common.{◌≡◌, ℕ, zero, suc, ◌+◌, ◌-◌, ◌≤◌, ap, arith, refl, sym, ◌∙◌, subst, List, [], ◌∷◌, ◌++◌}
+use Rattle.std.proofs.Common.{length, map, append_assoc}
 use Rattle.std.specs.Prelude.{ℤ}
 use Rattle.std.specs.List.{All}
 use Rattle.std.proofs.lemmas.List.{append-nil, map-append, length-append}
 use Rattle.std.proofs.lemmas.List.Elements.{All-append, All-cons, All-nil, All-map, All-weaker}
-use Rattle.linear_forms.specs.Forms.{Form}
-use Rattle.linear_forms.specs.Questions.{Group, IsGroupShaped, Equation, line, listed, equations, group_columns}
-use Rattle.linear_forms.proofs.ListLaws.{length-listed}
-use Rattle.linear_forms.proofs.SolutionLaws.{length-map}
+use Rattle.simplex_core.specs.linear_forms.Forms.{Form}
+use Rattle.simplex_core.specs.linear_forms.Questions.{Group, IsGroupShaped, Equation, line, listed, equations, group_columns}
+use Rattle.simplex_core.proofs.linear_forms.ListLaws.{length-listed}
+use Rattle.simplex_core.proofs.linear_forms.SolutionLaws.{length-map}
 use Rattle.poly_terms.specs.declared.poly.Row.{Row}
 use Rattle.poly_terms.specs.Views.{form_of}
 use Rattle.simplex_core.specs.declared.problem.Entry.{Entry}

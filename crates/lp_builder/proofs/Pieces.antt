@@ -1,12 +1,15 @@
 -- The numbers of a line, piece by piece.
-use Rattle.std.proofs.Common.{◌≡◌, ℕ, zero, suc, ◌+◌, ◌-◌, ◌*◌, ◌<◌, ◌≤◌, ◌^◌, ap, arith, refl, sym, ◌∙◌, subst, ◌⊎◌, inl, inr, Bool, true, false, List, [], ◌∷◌, ◌++◌, length, map, drop, take, get_or, replicate, append_assoc, Some}
+use Rattle.std.proofs.Common.{◌≡◌, ℕ, zero, suc, ◌+◌, ◌-◌, ◌*◌, ◌<◌, ◌≤◌, ◌^◌, ap, arith, refl, sym, ◌∙◌, subst, ◌⊎◌}
+use Rattle.std.proofs.Common.{inl, inr, Bool, true, false, List, [], ◌∷◌, ◌++◌, length, map, drop, take, get_or}
+use Rattle.std.proofs.Common.{replicate, append_assoc, Some}
 use Rattle.std.specs.Prelude.{ℤ, pos, neg_ℤ, unsigned_abs, nat_lt, if◌then◌else◌, slice_get}
 use Rattle.std.specs.List.{All}
-use Rattle.std.proofs.lemmas.List.{map-append, length-append, length-replicate, drop_more, drop_all, take_more, take_all}
+use Rattle.std.proofs.lemmas.List.{map-append, length-append, length-replicate, drop_more, drop_all, take_more}
+use Rattle.std.proofs.lemmas.List.{take_all}
 use Rattle.std.proofs.lemmas.List.Elements.{All-append, All-replicate, All-cons, All-head, All-tail}
-use Rattle.linear_forms.specs.Forms.{Form, at}
-use Rattle.linear_forms.specs.Combinations.{zero_form}
-use Rattle.linear_forms.specs.Questions.{number, signed}
+use Rattle.simplex_core.specs.linear_forms.Forms.{Form, at}
+use Rattle.simplex_core.specs.linear_forms.Combinations.{zero_form}
+use Rattle.simplex_core.specs.linear_forms.Questions.{number, signed}
 use Rattle.poly_terms.specs.declared.poly.Row.{Row}
 use Rattle.poly_terms.specs.Views.{form_of}
 use Rattle.lp_builder.specs.declared.description.Goal.{Goal}

@@ -1,14 +1,16 @@
 -- A problem that holds a question is proper, and its program agrees with the question's.
-use Rattle.std.proofs.Common.{◌≡◌, ℕ, zero, suc, ◌+◌, ◌<◌, ◌≤◌, ◌^◌, ap, arith, refl, sym, ◌∙◌, subst, List, [], ◌∷◌, ◌++◌, length, map, replicate, length-append}
+use Rattle.std.proofs.Common.{◌≡◌, ℕ, zero, suc, ◌+◌, ◌<◌, ◌≤◌, ◌^◌, ap, arith, refl, sym, ◌∙◌, subst, List, [], ◌∷◌}
+use Rattle.std.proofs.Common.{◌++◌, length, map, replicate, length-append}
 use Rattle.std.specs.Prelude.{ℤ, pos, ◌≤ℤ◌, slice_get}
 use Rattle.std.specs.List.{All}
 use Rattle.std.proofs.lemmas.List.{length-replicate}
-use Rattle.linear_forms.specs.Forms.{at}
-use Rattle.linear_forms.specs.ProgramLaws.{Agree}
-use Rattle.linear_forms.specs.Questions.{Question, IsShaped, Equation, no_equation, equations, group_columns, double, on_both, on_plus, program_of_question}
-use Rattle.linear_forms.proofs.SolutionLaws.{length-map, lines-fit}
-use Rattle.linear_forms.proofs.ColumnLaws.{get_or-map}
-use Rattle.linear_forms.proofs.WeightLaws.{sizes-nonneg, heights-nonneg}
+use Rattle.simplex_core.specs.linear_forms.Forms.{at}
+use Rattle.simplex_core.specs.linear_forms.ProgramLaws.{Agree}
+use Rattle.simplex_core.specs.linear_forms.Questions.{Question, IsShaped, Equation, no_equation, equations, group_columns, double}
+use Rattle.simplex_core.specs.linear_forms.Questions.{on_both, on_plus, program_of_question}
+use Rattle.simplex_core.proofs.linear_forms.SolutionLaws.{length-map, lines-fit}
+use Rattle.simplex_core.proofs.linear_forms.ColumnLaws.{get_or-map}
+use Rattle.simplex_core.proofs.linear_forms.WeightLaws.{sizes-nonneg, heights-nonneg}
 use Rattle.simplex_core.specs.declared.problem.Problem.{Problem}
 use Rattle.simplex_core.specs.declared.problem.Entry.{Entry}
 use Rattle.simplex_core.specs.Problem.{program_of, IsProper, entry_value}

@@ -1,8 +1,8 @@
 -- What a builder holds: the lines of the groups that are written so far.
 use Rattle.std.specs.Prelude.{◌≡◌, ℕ, ◌+◌, ◌*◌, ◌^◌, ◌<◌, List, [], ◌∷◌, ◌++◌, length, map}
 use Rattle.std.specs.List.{All}
-use Rattle.linear_forms.specs.ProgramLaws.{Agree}
-use Rattle.linear_forms.specs.Questions.{Group, IsGroupShaped, equations, group_columns, program_of_question}
+use Rattle.simplex_core.specs.linear_forms.ProgramLaws.{Agree}
+use Rattle.simplex_core.specs.linear_forms.Questions.{Group, IsGroupShaped, equations, group_columns, program_of_question}
 use Rattle.simplex_core.specs.declared.problem.Problem.{Problem}
 use Rattle.simplex_core.specs.Problem.{program_of, IsProper}
 use Rattle.lp_builder.specs.declared.description.Cost.{Cost}

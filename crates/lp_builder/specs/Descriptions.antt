@@ -2,9 +2,9 @@
 use Rattle.std.specs.Prelude.{◌≡◌, ℕ, ◌+◌, ◌-◌, ◌^◌, ◌<◌, ◌≤◌, List, [], ◌∷◌, ◌++◌, map, length, replicate, slice_get}
 use Rattle.std.specs.Prelude.{Some, unsigned_abs}
 use Rattle.std.specs.List.{All}
-use Rattle.linear_forms.specs.Forms.{Form}
-use Rattle.linear_forms.specs.Combinations.{zero_form}
-use Rattle.linear_forms.specs.Questions.{Group, Question}
+use Rattle.simplex_core.specs.linear_forms.Forms.{Form}
+use Rattle.simplex_core.specs.linear_forms.Combinations.{zero_form}
+use Rattle.simplex_core.specs.linear_forms.Questions.{Group, Question}
 use Rattle.poly_terms.specs.Views.{form_of}
 use Rattle.poly_terms.specs.declared.poly.Row.{Row}
 use Rattle.lp_builder.specs.declared.description.Goal.{Goal}

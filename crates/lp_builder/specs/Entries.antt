@@ -1,6 +1,6 @@
 -- The entries of lines of numbers, and how a sheet writes them.
 use Rattle.std.specs.Prelude.{◌≡◌, ℕ, suc, ◌+◌, if◌then◌else◌, List, [], ◌∷◌, ◌++◌, length, ℤ}
-use Rattle.int_laws.specs.NormalForm.{is_zero}
+use Rattle.simplex_core.specs.int_laws.NormalForm.{is_zero}
 use Rattle.simplex_core.specs.declared.problem.Entry.{Entry}
 use Rattle.lp_builder.specs.declared.sheet.Sheet.{Sheet}
 

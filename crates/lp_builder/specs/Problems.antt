@@ -1,8 +1,8 @@
 -- When a problem holds a question.
 use Rattle.std.specs.Prelude.{◌≡◌, ◌^◌, ◌+◌, ◌<◌, ◌++◌, length, map, replicate, pos}
-use Rattle.linear_forms.specs.ProgramLaws.{Agree}
-use Rattle.linear_forms.specs.Questions.{Question, IsShaped, equations, group_columns, double, on_both, on_plus}
-use Rattle.linear_forms.specs.Questions.{program_of_question}
+use Rattle.simplex_core.specs.linear_forms.ProgramLaws.{Agree}
+use Rattle.simplex_core.specs.linear_forms.Questions.{Question, IsShaped, equations, group_columns, double, on_both, on_plus}
+use Rattle.simplex_core.specs.linear_forms.Questions.{program_of_question}
 use Rattle.simplex_core.specs.declared.problem.Problem.{Problem}
 use Rattle.simplex_core.specs.Problem.{program_of, IsProper}
 use Rattle.lp_builder.specs.Entries.{entries_of}

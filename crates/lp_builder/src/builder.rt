@@ -6,9 +6,10 @@ use crate::costs::{first_costs, second_costs};
 use crate::description::{Cost, Goal};
 use crate::line::{Line, put_line};
 use crate::sheet::Sheet;
+use model::Memory;
 use poly_terms::Row;
 use simplex_core::Problem;
-use std::alloc::{AllocError, Global};
+use std::alloc::Global;
 
 /// The lines of the groups that are written so far, of a question with so many parameters. `columns` are those of the
 /// groups.
@@ -21,7 +22,8 @@ pub struct Builder {
 }
 
 impl Builder {
-    ghost use Rattle.lp_builder.specs.Builders.{parameter_count, row_count, column_count, IsReady, Holds, Adds, IsBuilt};
+    ghost use Rattle.lp_builder.specs.Builders.{parameter_count, row_count, column_count, IsReady, Holds, Adds};
+    ghost use Rattle.lp_builder.specs.Builders.{IsBuilt};
     ghost use Rattle.lp_builder.specs.Descriptions.{group_of, AreWritable};
 
     /// No group is written yet.
@@ -42,14 +44,18 @@ impl Builder {
     }
 
     /// Writes a group: what is to follow from the rows is the sum of the goals, each as often as its parameter says,
-    /// and the fixed form. Error: memory ran out; what is written is then open.
+    /// and the fixed form.
+    ///
+    /// # Errors
+    ///
+    /// `Memory` where an allocation fails; what is written is then open.
     pub fn add_group(
         &mut self,
         unknowns: u32,
         rows: &[Row],
         goals: &[Goal],
         fixed: &Row,
-    ) -> Result<(), AllocError>
+    ) -> Result<(), Memory>
         requires ready { IsReady self.old }
         requires writable { AreWritable (parameter_count self.old) unknowns rows.now goals.now fixed.now }
         requires few_rows { row_count self.old + unknowns + 1 < 2 ^ 31 }
@@ -74,8 +80,12 @@ impl Builder {
         Ok(())
     }
 
-    /// The problem whose parameters have these costs. Error: memory ran out.
-    pub fn finish(self, alloc: Global, costs: &[Cost]) -> Result<Problem, AllocError>
+    /// The problem whose parameters have these costs.
+    ///
+    /// # Errors
+    ///
+    /// `Memory` where an allocation fails.
+    pub fn finish(self, alloc: Global, costs: &[Cost]) -> Result<Problem, Memory>
         requires ready { IsReady self }
         requires costs { length costs.now ≡ parameter_count self }
         ensures { IfOk result (λ p. IsBuilt self costs.now p) }

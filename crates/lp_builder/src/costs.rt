@@ -1,17 +1,14 @@
 //! The costs of the columns.
 
 ghost use Rattle.std.specs.Prelude.{◌≡◌, ℕ, ◌++◌, pos, map, replicate, IfOk};
-ghost use Rattle.linear_forms.specs.Questions.{on_both, on_plus};
+ghost use Rattle.simplex_core.specs.linear_forms.Questions.{on_both, on_plus};
 
 use crate::description::Cost;
-use std::alloc::{AllocError, Global};
+use model::Memory;
+use std::alloc::Global;
 
 /// The first costs: each size on both columns of its parameter, and 0 for the columns of the groups.
-pub(crate) fn first_costs(
-    alloc: Global,
-    costs: &[Cost],
-    columns: u32,
-) -> Result<Vec<i128>, AllocError>
+pub(crate) fn first_costs(alloc: Global, costs: &[Cost], columns: u32) -> Result<Vec<i128>, Memory>
     ensures { IfOk result (λ v. v.items ≡ on_both (map (λ c. c.size) costs.now) ++ replicate columns (pos 0)) }
 {
     let mut first = Vec::new(alloc);
@@ -24,11 +21,7 @@ pub(crate) fn first_costs(
 }
 
 /// The second costs: each height on the plus column of its parameter, and 0 for all others.
-pub(crate) fn second_costs(
-    alloc: Global,
-    costs: &[Cost],
-    columns: u32,
-) -> Result<Vec<i128>, AllocError>
+pub(crate) fn second_costs(alloc: Global, costs: &[Cost], columns: u32) -> Result<Vec<i128>, Memory>
     ensures { IfOk result (λ v. v.items ≡ on_plus (map (λ c. c.height) costs.now) ++ replicate columns (pos 0)) }
 {
     let mut second = Vec::new(alloc);
@@ -41,7 +34,7 @@ pub(crate) fn second_costs(
 }
 
 /// Numbers with zeros behind.
-fn with_zeros(numbers: Vec<i128>, zeros: u32) -> Result<Vec<i128>, AllocError>
+fn with_zeros(numbers: Vec<i128>, zeros: u32) -> Result<Vec<i128>, Memory>
     ensures { IfOk result (λ v. v.items ≡ numbers.items ++ replicate zeros (pos 0)) }
 {
     let mut all = numbers;

@@ -3,16 +3,16 @@
 ghost use Rattle.std.specs.Prelude.{◌≡◌, ℕ, ◌+◌, ◌*◌, ◌<◌, ◌^◌, ◌++◌, [], ◌∷◌, pos, negsuc, neg_ℤ, unsigned_abs, map};
 ghost use Rattle.std.specs.Prelude.{length, replicate, IfOk};
 ghost use Rattle.std.specs.List.{All};
-ghost use Rattle.linear_forms.specs.Forms.{at};
-ghost use Rattle.linear_forms.specs.Questions.{number, slack, signed};
+ghost use Rattle.simplex_core.specs.linear_forms.Forms.{at};
+ghost use Rattle.simplex_core.specs.linear_forms.Questions.{number, slack, signed};
 ghost use Rattle.poly_terms.specs.Views.{form_of};
 ghost use Rattle.lp_builder.specs.Descriptions.{goal_forms, AreParameters, IsWritable};
 ghost use Rattle.lp_builder.specs.Entries.{Writes};
 
 use crate::description::Goal;
 use crate::sheet::Sheet;
+use model::Memory;
 use poly_terms::Row;
-use std::alloc::AllocError;
 
 /// A line of a group with so many unknowns: that of the unknown of its number, or, behind them, that of the constant.
 #[derive(Clone, Copy, Debug)]
@@ -60,7 +60,7 @@ fn coefficient(coefs: &[i128], unknown: usize) -> i128
 }
 
 /// Writes a number and then its negation.
-fn put_pair(sheet: &mut Sheet, value: i128) -> Result<(), AllocError>
+fn put_pair(sheet: &mut Sheet, value: i128) -> Result<(), Memory>
     requires room { sheet.old.col + 2 < 2 ^ 32 }
     requires narrow { unsigned_abs value < 2 ^ 127 }
     ensures { IfOk result (λ _. Writes sheet.old sheet.new (value ∷ neg_ℤ value ∷ [])) }
@@ -75,7 +75,7 @@ pub(crate) fn put_goals(
     line: Line,
     parameters: u32,
     goals: &[Goal],
-) -> Result<(), AllocError>
+) -> Result<(), Memory>
     requires room { sheet.old.col + 2 * parameters < 2 ^ 32 }
     requires listed { AreParameters parameters goals.now }
     requires writable { All (λ g. IsWritable line.unknowns (form_of g.form)) goals.now }
@@ -94,7 +94,7 @@ pub(crate) fn put_goals(
 }
 
 /// Writes the negations of the rows' numbers, one for each multiplier.
-pub(crate) fn put_rows(sheet: &mut Sheet, line: Line, rows: &[Row]) -> Result<(), AllocError>
+pub(crate) fn put_rows(sheet: &mut Sheet, line: Line, rows: &[Row]) -> Result<(), Memory>
     requires room { sheet.old.col + length rows.now < 2 ^ 32 }
     requires writable { All (λ r. IsWritable line.unknowns (form_of r)) rows.now }
     ensures { IfOk result (λ _. Writes sheet.old sheet.new (map (λ r. neg_ℤ (number line.unknowns line.number r))
@@ -116,7 +116,7 @@ pub(crate) fn put_line(
     before: u32,
     goals: &[Goal],
     rows: &[Row],
-) -> Result<(), AllocError>
+) -> Result<(), Memory>
     requires room { sheet.old.col + 2 * parameters + before + length rows.now + 1 < 2 ^ 32 }
     requires listed { AreParameters parameters goals.now }
     requires goals_writable { All (λ g. IsWritable line.unknowns (form_of g.form)) goals.now }

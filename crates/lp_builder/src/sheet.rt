@@ -3,8 +3,9 @@
 ghost use Rattle.std.specs.Prelude.{◌≡◌, ℕ, ◌+◌, ◌<◌, ◌^◌, pos, [], ◌∷◌, replicate, IfOk};
 ghost use Rattle.lp_builder.specs.Entries.{Writes, GoesOn};
 
+use model::Memory;
 use simplex_core::Entry;
-use std::alloc::{AllocError, Global};
+use std::alloc::Global;
 
 /// The entries that are written so far, and the position of the next number.
 #[derive(Debug, Drop)]
@@ -30,8 +31,12 @@ impl Sheet {
         }
     }
 
-    /// Writes a number. Error: memory ran out.
-    pub fn put(&mut self, value: i128) -> Result<(), AllocError>
+    /// Writes a number.
+    ///
+    /// # Errors
+    ///
+    /// `Memory` where an allocation fails.
+    pub fn put(&mut self, value: i128) -> Result<(), Memory>
         requires { self.old.col + 1 < 2 ^ 32 }
         ensures { IfOk result (λ _. Writes self.old self.new (value ∷ [])) }
     {

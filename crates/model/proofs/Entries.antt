@@ -1,5 +1,6 @@
 -- The entries of a set are those that are listed.
-use Rattle.std.proofs.Common.{◌≡◌, ℕ, zero, suc, ◌+◌, not, Bool, true, false, List, length, Option, Some, None, refl, arith, slice_get}
+use Rattle.std.proofs.Common.{◌≡◌, ℕ, zero, suc, ◌+◌, not, Bool, true, false, List, length, Option, Some, None, refl}
+use Rattle.std.proofs.Common.{arith, slice_get}
 use Rattle.std.specs.List.{range_with_len, Contains}
 use Rattle.std.specs.List.Sorted.{IsStrictlyIncreasing}
 use Rattle.std.proofs.lemmas.Bool.{and_from, and_parts, not_from_false, not-true}
@@ -8,7 +9,8 @@ use Rattle.std.proofs.lemmas.List.FromFn.{length-range_with_len, get_or-range_wi
 use Rattle.model.specs.Programs.{Program, Rule}
 use Rattle.model.specs.Paths.{source_of, target_of, target_in, same_symbol, entry_and_rules}
 use Rattle.model.specs.Entries.{is_in, IsEntry, is_left_by, enters, entries, EntriesAreListed}
-use Rattle.model.proofs.Membership.{no_is_not_yes, is_in-filter, filter-in, list_any-from, list_any-told, contains-is_in, is_in-contained, rule_is_numbered, entry_is_numbered}
+use Rattle.model.proofs.Membership.{no_is_not_yes, is_in-filter, filter-in, list_any-from, list_any-told}
+use Rattle.model.proofs.Membership.{contains-is_in, is_in-contained, rule_is_numbered, entry_is_numbered}
 
 -- what leads to a symbol is the virtual entry or a rule
 leads_is_numbered : (p : Program) (e : ℕ) (o : Option ℕ) → same_symbol (target_of p e) o ≡ true

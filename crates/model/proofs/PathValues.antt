@@ -1,10 +1,11 @@
 -- The worked values of paths, sets and entries.
-use Rattle.std.proofs.Common.{◌≡◌, ℕ, zero, suc, ◌≤◌, ◌⊎◌, inl, inr, Bool, true, false, Some, None, refl, sym, ◌∙◌, ap, arith, [], ◌∷◌, Contains}
+use Rattle.std.proofs.Common.{◌≡◌, ℕ, zero, suc, ◌≤◌, ◌⊎◌, inl, inr, Bool, true, false, Some, None, refl, sym, ◌∙◌, ap}
+use Rattle.std.proofs.Common.{arith, [], ◌∷◌, Contains}
 use Rattle.model.specs.Programs.{Rule, rule_at}
 use Rattle.model.specs.Paths.{Here, Onward, HasEdge, HasPath, any_rule, IsInSet, comes_before}
 use Rattle.model.specs.Entries.{IsEntry}
 use Rattle.model.specs.Worked.{bare_rule}
-use Rattle.model.specs.PathValues.{PathsAreTold, nested, not_second, last_two}
+use Rattle.model.specs.PathValues.{PathsAreWorkedOut, nested, not_second, last_two}
 use Rattle.model.proofs.Cases.{some_same}
 
 -- an edge of the program is by one of its four rules
@@ -81,7 +82,7 @@ not_entry h = different (ap (λ (t : ℕ). comes_before nested 1 t) (sym (in_one
     different x = cc
 
 -- paths, sets and entries are what was worked out
-pub paths_are_told : PathsAreTold
+pub paths_are_told : PathsAreWorkedOut
 paths_are_told = record {
   entry_target = refl;
   entry_source = refl;

@@ -1,5 +1,6 @@
 -- What holds of every run, step by step.
-use Rattle.std.proofs.Common.{◌≡◌, ℕ, zero, suc, ◌<◌, List, [], ◌∷◌, ◌++◌, length, filter, ℤ, Bool, true, false, Some, None, Option, refl, sym, ◌∙◌, ap, subst, arith}
+use Rattle.std.proofs.Common.{◌≡◌, ℕ, zero, suc, ◌<◌, List, [], ◌∷◌, ◌++◌, length, filter, ℤ, Bool, true, false, Some}
+use Rattle.std.proofs.Common.{None, Option, refl, sym, ◌∙◌, ap, subst, arith}
 use Rattle.std.specs.List.{All, Contains, range_with_len}
 use Rattle.std.proofs.lemmas.List.{length-map}
 use Rattle.std.proofs.lemmas.List.Elements.{All-head, All-tail}
@@ -8,7 +9,8 @@ use Rattle.std.proofs.lemmas.Option.{slice_get_within}
 use Rattle.model.specs.Terms.{value}
 use Rattle.model.specs.Programs.{Program, Rule, rule_at, arity_of}
 use Rattle.model.specs.Runs.{Config, Step, IsRun, last_rule}
-use Rattle.model.specs.Paths.{Here, Onward, IsReached, target_in, target_of, source_in, source_of, same_symbol, comes_before, entry_and_rules, pre}
+use Rattle.model.specs.Paths.{Here, Onward, IsReached, target_in, target_of, source_in, source_of, same_symbol}
+use Rattle.model.specs.Paths.{comes_before, entry_and_rules, pre}
 use Rattle.model.proofs.Membership.{same_number}
 use Rattle.model.specs.RunLaws.{AritiesAgree, IsSomeRun, RunsGoStepByStep}
 

@@ -1,5 +1,6 @@
 -- The worked bounds hold on all runs, or a run passes them.
-use Rattle.std.proofs.Common.{◌≡◌, ℕ, zero, suc, ◌≤◌, ◌⊎◌, inl, inr, List, [], ◌∷◌, length, ℤ, pos, negsuc, nat_abs, Some, None, refl, sym, ap, subst, arith}
+use Rattle.std.proofs.Common.{◌≡◌, ℕ, zero, suc, ◌≤◌, ◌⊎◌, inl, inr, List, [], ◌∷◌, length, ℤ, pos, negsuc, nat_abs}
+use Rattle.std.proofs.Common.{Some, None, refl, sym, ap, subst, arith}
 use Rattle.std.specs.Prelude.{slice_index}
 use Rattle.std.proofs.lemmas.Int.{ints}
 use Rattle.model.specs.Programs.{Rule, rule_at}
@@ -9,7 +10,8 @@ use Rattle.model.specs.WorkedRuns.{entering, countdown, entry_alone, both}
 use Rattle.model.specs.WorkedFacts.{StepsAndPlacesAreCounted, TimesHold, TotalsHold, SizesHold}
 use Rattle.model.proofs.RunLaws.{entry_once, one_if_same-same}
 use Rattle.model.proofs.WorkedRuns.{enters_at, entered, looped}
-use Rattle.model.proofs.CountdownRuns.{value_at, looks, two_starts, sizes_of_two, first_once, loop_nine, loop_start, ten_steps, third_never, begun_sizes, entered_sizes, looped_sizes}
+use Rattle.model.proofs.CountdownRuns.{value_at, looks, two_starts, sizes_of_two, first_once, loop_nine, loop_start}
+use Rattle.model.proofs.CountdownRuns.{ten_steps, third_never, begun_sizes, entered_sizes, looped_sizes}
 
 -- steps and places are counted as was worked out
 pub counted : StepsAndPlacesAreCounted

@@ -1,5 +1,6 @@
 -- The worked steps and runs.
-use Rattle.std.proofs.Common.{◌≡◌, List, [], ◌∷◌, ℤ, pos, negsuc, Some, None, refl, sym, subst, ap, arith, ◌≤ℤ◌, ◌-ℤ◌, neg_ℤ}
+use Rattle.std.proofs.Common.{◌≡◌, List, [], ◌∷◌, ℤ, pos, negsuc, Some, None, refl, sym, subst, ap, arith, ◌≤ℤ◌, ◌-ℤ◌}
+use Rattle.std.proofs.Common.{neg_ℤ}
 use Rattle.std.specs.Prelude.{slice_index_or}
 use Rattle.std.proofs.lemmas.Int.{ints}
 use Rattle.std.proofs.lemmas.List.Elements.{All-nil, All-cons, All-head, All-tail}
@@ -7,7 +8,8 @@ use Rattle.model.specs.Terms.{Literal, Variable}
 use Rattle.model.specs.Programs.{Program, Rule, rule_at, AtLeast, AtMost, Atom, Compare, AtomHolds, GuardHolds}
 use Rattle.model.specs.Runs.{Config, Step, Leads, IsStep, IsRun}
 use Rattle.model.specs.Worked.{by_rule, with_free, two_values}
-use Rattle.model.specs.WorkedRuns.{RelationsHoldBelowZero, StepsAreSteps, RunsAreRuns, entering, looping, countdown, choosing, both}
+use Rattle.model.specs.WorkedRuns.{RelationsHoldBelowZero, StepsAreSteps, RunsAreRuns, entering, looping, countdown}
+use Rattle.model.specs.WorkedRuns.{choosing, both}
 use Rattle.model.proofs.RunLaws.{same_rule, same_end}
 use Rattle.model.proofs.WorkedValues.{steps_lead}
 

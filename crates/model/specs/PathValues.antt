@@ -20,7 +20,7 @@ last_two t = (t == 3) || (t == 4)
 -- 0; with all rules untimed rule 1 is in the set of rule 3, with rules 3 and 4 alone rule 4 isn't, and rule 3 is in its
 -- own; rule 2 is an entry of the set of rule 3 alone, and rules 1 and 3 are none; rules 1 and 3 are the entries of the
 -- set of rules 4 and 2, the virtual entry is that of the set of rule 1 and of all rules, and no rules have none
-pub record PathsAreTold : Type 0 where
+pub record PathsAreWorkedOut : Type 0 where
   pub entry_target : target_of nested 0 ≡ Some 0
   pub entry_source : source_of nested 0 ≡ None
   pub third_target : target_of nested 3 ≡ Some 2

@@ -1,8 +1,8 @@
-// What a program, a run, a bound and a fact mean: definitions over unbounded integers, in `specs/`, with their laws.
-//
-// The crates above read their own types as this plain data and state their contracts over it. The functions here have
-// no code: the contract of each is a law of the definitions, or values that were worked out by hand. The one type here
-// is the error that all these crates share.
+//! What a program, a run, a bound and a fact mean: definitions over unbounded integers, in `specs/`, with their laws.
+//!
+//! The crates above read their own types as this plain data and state their contracts over it. The functions here have
+//! no code: the contract of each is a law of the definitions, or values that were worked out by hand. The one type here
+//! is the error that all these crates share.
 #![tactic(auto)]
 
 mod limits;

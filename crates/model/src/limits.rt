@@ -1,4 +1,4 @@
-// The limits of programs; a text whose program passes one of them is refused.
+//! The limits of programs; a text whose program passes one of them is refused.
 
 ghost use Rattle.std.specs.Prelude.{◌≡◌};
 ghost use Rattle.model.specs.Limits.{rule_limit, place_limit, variable_limit, atom_limit, name_limit};

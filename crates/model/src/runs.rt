@@ -1,8 +1,8 @@
-// What holds of every run, step by step, the entries of a set of rules, and worked values of paths.
+//! What holds of every run, step by step, the entries of a set of rules, and worked values of paths.
 
 ghost use Rattle.model.specs.RunLaws.{AllRunsGoStepByStep};
 ghost use Rattle.model.specs.Entries.{AllEntriesAreListed};
-ghost use Rattle.model.specs.PathValues.{PathsAreTold};
+ghost use Rattle.model.specs.PathValues.{PathsAreWorkedOut};
 
 /// A beginning of a run is a run. A run stands where its last rule leads to, and the rule before can come just before
 /// each of its steps. Allowed rules lead a run to symbols alone that they reach. Where arities agree, a run has one
@@ -19,5 +19,5 @@ pub fn entries_are_listed()
 
 /// Paths, what can come just before a rule, sets of untimed rules and entries are what was worked out by hand.
 pub fn paths_are_as_worked_out()
-    ensures { PathsAreTold }
+    ensures { PathsAreWorkedOut }
 {}

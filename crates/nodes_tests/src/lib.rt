@@ -1,4 +1,4 @@
-// Tests of the public calls on proof nodes.
+//! Tests of the public calls on proof nodes.
 #![tactic(auto)]
 
 #[cfg(test)]

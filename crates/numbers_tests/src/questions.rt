@@ -5,14 +5,15 @@ ghost use Rattle.simplex_core.specs.Problem.{IsProper};
 use crate::asked::{ASKED, Asked, Form, Found, Group};
 use crate::rows::{compare, problem_of, solved};
 use lp_builder::{Cost, Goal, Row};
+use model::Memory;
 use sample_questions::{Part, Shape, rank_problem};
-use simplex_core::{Answer, Problem, Scaled, Solved, solve_scaled};
-use std::alloc::{AllocError, Global};
+use simplex_core::{Answer, Numerators, Problem, Solved, solve_scaled};
+use std::alloc::Global;
 use std::process::Abort;
 use std::test::Fail;
 
 // A form as the builder takes it.
-fn row_of(alloc: Global, form: Form) -> Result<Row, AllocError> {
+fn row_of(alloc: Global, form: Form) -> Result<Row, Memory> {
     Ok(Row {
         coefs: Vec::from_slice(alloc, form.0)?,
         constant: form.1,
@@ -20,7 +21,7 @@ fn row_of(alloc: Global, form: Form) -> Result<Row, AllocError> {
 }
 
 // Forms as the builder takes them.
-fn rows_of(alloc: Global, forms: &[Form]) -> Result<Vec<Row>, AllocError> {
+fn rows_of(alloc: Global, forms: &[Form]) -> Result<Vec<Row>, Memory> {
     let mut rows = Vec::new(alloc);
     for form in forms {
         rows.push(row_of(alloc, *form)?)?;
@@ -29,7 +30,7 @@ fn rows_of(alloc: Global, forms: &[Form]) -> Result<Vec<Row>, AllocError> {
 }
 
 // Goals as the builder takes them.
-fn goals_of(alloc: Global, goals: &[(u32, Form)]) -> Result<Vec<Goal>, AllocError> {
+fn goals_of(alloc: Global, goals: &[(u32, Form)]) -> Result<Vec<Goal>, Memory> {
     let mut made = Vec::new(alloc);
     for (parameter, form) in goals {
         made.push(Goal {
@@ -41,7 +42,7 @@ fn goals_of(alloc: Global, goals: &[(u32, Form)]) -> Result<Vec<Goal>, AllocErro
 }
 
 // The groups of a question as parts.
-fn parts_of(alloc: Global, groups: &[Group]) -> Result<Vec<Part>, AllocError> {
+fn parts_of(alloc: Global, groups: &[Group]) -> Result<Vec<Part>, Memory> {
     let mut parts = Vec::new(alloc);
     for group in groups {
         parts.push(Part {
@@ -55,7 +56,7 @@ fn parts_of(alloc: Global, groups: &[Group]) -> Result<Vec<Part>, AllocError> {
 }
 
 // What the parameters cost.
-fn costs_of(alloc: Global, costs: &[(u32, u32)]) -> Result<Vec<Cost>, AllocError> {
+fn costs_of(alloc: Global, costs: &[(u32, u32)]) -> Result<Vec<Cost>, Memory> {
     let mut made = Vec::new(alloc);
     for (size, height) in costs {
         made.push(Cost {
@@ -67,13 +68,13 @@ fn costs_of(alloc: Global, costs: &[(u32, u32)]) -> Result<Vec<Cost>, AllocError
 }
 
 // What is found, as `solve_scaled` answers it.
-fn answer_of(alloc: Global, found: Found) -> Result<Answer, AllocError> {
+fn answer_of(alloc: Global, found: Found) -> Result<Answer, Memory> {
     Ok(match found {
-        Found::Solution(numbers, den) => Answer::Solution(Scaled {
+        Found::Solution(numbers, den) => Answer::Solution(Numerators {
             numbers: Vec::from_slice(alloc, numbers)?,
             den,
         }),
-        Found::Dual(numbers, den) => Answer::Dual(Scaled {
+        Found::Dual(numbers, den) => Answer::Dual(Numerators {
             numbers: Vec::from_slice(alloc, numbers)?,
             den,
         }),
@@ -175,7 +176,7 @@ fn pivots_of(rt: &impl Abort, alloc: Global, problem: &Problem) -> Result<u32, F
 }
 
 // The solution of a problem in whole numbers.
-fn solution_of(alloc: Global, problem: &Problem) -> Result<Scaled, Fail>
+fn solution_of(alloc: Global, problem: &Problem) -> Result<Numerators, Fail>
     requires { IsProper problem.now }
 {
     match solve_scaled(alloc, problem, 9_999)? {

@@ -5,8 +5,9 @@ use crate::proper::is_proper;
 use crate::tables::{Answer, CHOICES, Row, SMALL};
 use Answer::{Budget, Infeasible, Optimal, Range};
 use frac128::Frac;
+use model::Memory;
 use simplex_core::{Entry, Problem, SolveError, Solved, solve};
-use std::alloc::{AllocError, Global};
+use std::alloc::Global;
 use std::process::Abort;
 use std::test::Fail;
 
@@ -16,7 +17,7 @@ fn number_of(position: usize) -> u32 {
 }
 
 // Adds the numbers of an equation that aren't 0.
-fn push_numbers(entries: &mut Vec<Entry>, row: u32, numbers: &[i128]) -> Result<(), AllocError> {
+fn push_numbers(entries: &mut Vec<Entry>, row: u32, numbers: &[i128]) -> Result<(), Memory> {
     for col in 0..numbers.len() {
         let value = numbers[col];
         if value != 0 {
@@ -28,7 +29,7 @@ fn push_numbers(entries: &mut Vec<Entry>, row: u32, numbers: &[i128]) -> Result<
 }
 
 // The numbers that aren't 0.
-fn entries_of(alloc: Global, equations: &[&[i128]]) -> Result<Vec<Entry>, AllocError> {
+fn entries_of(alloc: Global, equations: &[&[i128]]) -> Result<Vec<Entry>, Memory> {
     let mut entries = Vec::new(alloc);
     for row in 0..equations.len() {
         push_numbers(&mut entries, number_of(row), equations[row])?;
@@ -37,7 +38,7 @@ fn entries_of(alloc: Global, equations: &[&[i128]]) -> Result<Vec<Entry>, AllocE
 }
 
 /// The program of a row.
-pub(super) fn problem_of(alloc: Global, row: &Row) -> Result<Problem, AllocError> {
+pub(super) fn problem_of(alloc: Global, row: &Row) -> Result<Problem, Memory> {
     Ok(Problem {
         rows: number_of(row.right.len()),
         cols: number_of(row.first.len()),

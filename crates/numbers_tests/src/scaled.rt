@@ -2,8 +2,10 @@
 
 use crate::proper::is_proper;
 use Whole::{Dual, Solution, Tripped};
-use simplex_core::{Answer, Cause, Entry, Problem, Scaled, solve_scaled};
-use std::alloc::{AllocError, Global};
+use linear_forms::TripCause;
+use model::Memory;
+use simplex_core::{Answer, Entry, Numerators, Problem, solve_scaled};
+use std::alloc::Global;
 use std::process::Abort;
 use std::test::Fail;
 
@@ -23,7 +25,7 @@ struct Case {
 enum Whole {
     Solution(&'static [i64], u128),
     Dual(&'static [i64], u128),
-    Tripped(Cause),
+    Tripped(TripCause),
 }
 
 // 2^55 + 1 is 48912491*736597059, 2^55 - 1 is 644457551*55905617, and 2^45 + 1 is 1867833*18837001.
@@ -42,7 +44,7 @@ const CASES: [Case; 9] = [
         right: &[48_912_491, 1],
         columns: 2,
         pivots: 9,
-        answer: Tripped(Cause::Scale),
+        answer: Tripped(TripCause::Scale),
     },
     // The denominator is 2^55 - 1.
     Case {
@@ -58,7 +60,7 @@ const CASES: [Case; 9] = [
         right: &[1, 1],
         columns: 2,
         pivots: 9,
-        answer: Tripped(Cause::Scale),
+        answer: Tripped(TripCause::Scale),
     },
     // 3*x = 0, 2^25*y = 0 and 2^20*x + y = 1: over 3*2^25 the dual's first number is -2^45.
     Case {
@@ -74,7 +76,7 @@ const CASES: [Case; 9] = [
         right: &[0, 0, 1],
         columns: 2,
         pivots: 9,
-        answer: Tripped(Cause::Scale),
+        answer: Tripped(TripCause::Scale),
     },
     // A dual's last number is 1, so over the denominator 2^46 - 2^23 it is that.
     Case {
@@ -82,7 +84,7 @@ const CASES: [Case; 9] = [
         right: &[0, 0, 1],
         columns: 2,
         pivots: 9,
-        answer: Tripped(Cause::Scale),
+        answer: Tripped(TripCause::Scale),
     },
     // What trips before any answer.
     Case {
@@ -90,19 +92,19 @@ const CASES: [Case; 9] = [
         right: &[1],
         columns: 1,
         pivots: 9,
-        answer: Tripped(Cause::Range { pivot: 0 }),
+        answer: Tripped(TripCause::Range { pivot: 0 }),
     },
     Case {
         numbers: &[(0, 0, 1)],
         right: &[1],
         columns: 1,
         pivots: 0,
-        answer: Tripped(Cause::Budget { pivots: 0 }),
+        answer: Tripped(TripCause::Budget { pivots: 0 }),
     },
 ];
 
 // The program of a case. Its rows are as many as its right sides.
-fn problem_of(alloc: Global, case: &Case) -> Result<Problem, AllocError> {
+fn problem_of(alloc: Global, case: &Case) -> Result<Problem, Memory> {
     let mut entries = Vec::new(alloc);
     for (row, col, value) in case.numbers {
         entries.push(Entry {
@@ -128,19 +130,19 @@ fn answered(
     alloc: Global,
     problem: &Problem,
     pivots: u32,
-) -> Result<Answer, AllocError> {
+) -> Result<Answer, Memory> {
     assert!(rt; is_proper(problem));
     solve_scaled(alloc, problem, pivots)
 }
 
 // The answer as `solve_scaled` writes it.
-fn answer_of(alloc: Global, answer: Whole) -> Result<Answer, AllocError> {
+fn answer_of(alloc: Global, answer: Whole) -> Result<Answer, Memory> {
     Ok(match answer {
-        Solution(numbers, den) => Answer::Solution(Scaled {
+        Solution(numbers, den) => Answer::Solution(Numerators {
             numbers: numbers.to_vec(alloc)?,
             den,
         }),
-        Dual(numbers, den) => Answer::Dual(Scaled {
+        Dual(numbers, den) => Answer::Dual(Numerators {
             numbers: numbers.to_vec(alloc)?,
             den,
         }),

@@ -1,11 +1,11 @@
 -- Which worked reports hold: by the facts of the program that counts down.
 use Rattle.std.proofs.Common.{◌≡◌, ℕ, zero, suc, [], ◌∷◌, Some, None, refl, subst, arith}
-use Rattle.model.specs.Bounds.{Bound, Constant, Input}
-use Rattle.model.specs.Facts.{HoldsTime, HoldsSize, HoldsTotal}
-use Rattle.model.specs.WorkedRuns.{countdown}
-use Rattle.model.proofs.WorkedFacts.{times_hold, totals_hold, sizes_hold}
+use Rattle.farkas_cert.specs.model.Bounds.{Bound, Constant, Input}
+use Rattle.farkas_cert.specs.model.Facts.{HoldsTime, HoldsSize, HoldsTotal}
+use Rattle.farkas_cert.specs.model.WorkedRuns.{countdown}
+use Rattle.farkas_cert.proofs.model.WorkedFacts.{times_hold, totals_hold, sizes_hold}
 use Rattle.outcome.specs.Reports.{NoTime, TimeLarge, Timed, Untimed}
-use Rattle.outcome.specs.Reports.{NoSize, LacksTime, SizeLarge, Sized, Unsized}
+use Rattle.outcome.specs.Reports.{NoSize, SizeUntimed, SizeLarge, Sized, Unsized}
 use Rattle.outcome.specs.Holding.{numbered_entry, place_entry}
 use Rattle.outcome.specs.WorkedReports.{EntriesAreFound, two_sizes, two_times}
 use Rattle.outcome.specs.WorkedReports.{right_sizes, no_sizes, ReportsHold, ReasonsHold}
@@ -124,8 +124,8 @@ unsized v w (suc (suc (suc i))) b e = no_size b e
 -- nor is there one among the reasons of both rules
 none_sized : (t i : ℕ) (b : Bound) → place_entry (numbered_entry no_sizes t) i ≡ Some (Sized b) → ⊥
 none_sized zero i b e = no_size b e
-none_sized (suc zero) i b e = unsized (LacksTime 1) (LacksTime 1) i b e
-none_sized (suc (suc zero)) i b e = unsized (LacksTime 2) (SizeLarge 5000) i b e
+none_sized (suc zero) i b e = unsized (SizeUntimed 1) (SizeUntimed 1) i b e
+none_sized (suc (suc zero)) i b e = unsized (SizeUntimed 2) (SizeLarge 5000) i b e
 none_sized (suc (suc (suc t))) i b e = no_size b e
 
 -- a lone time holds where its bound does

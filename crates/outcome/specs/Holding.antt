@@ -2,9 +2,9 @@
 use Rattle.std.specs.Prelude.{◌≡◌, ◌↔◌, ℕ, zero, suc, List, length, map, Option, Some, None, IsTrue, IsSome}
 use Rattle.std.specs.Prelude.{slice_get}
 use Rattle.std.specs.List.{list_all}
-use Rattle.model.specs.Programs.{Program, arity_of}
-use Rattle.model.specs.Bounds.{Bound}
-use Rattle.model.specs.Facts.{HoldsTime, HoldsSize, HoldsTotal}
+use Rattle.farkas_cert.specs.model.Programs.{Program, arity_of}
+use Rattle.farkas_cert.specs.model.Bounds.{Bound}
+use Rattle.farkas_cert.specs.model.Facts.{HoldsTime, HoldsSize, HoldsTotal}
 use Rattle.outcome.specs.Reports.{Time, Timed, Size, Sized, Report, is_timed}
 
 -- a report on a program: one entry for each rule; a total exactly where every rule has a time; and for each rule an

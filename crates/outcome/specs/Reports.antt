@@ -1,9 +1,9 @@
 -- What an analysis says of a program, as plain data: a bound for each rule and each place, or a reason.
 use Rattle.std.specs.Prelude.{ℕ, Bool, true, false, List, ℤ, Option}
-use Rattle.model.specs.Bounds.{Bound}
-use Rattle.proof_nodes.specs.Nodes.{Spot}
-use Rattle.proof_nodes.specs.AcceptsSizes.{Side}
-use Rattle.proof_nodes.specs.Gaps.{ScaledPoint, Gap}
+use Rattle.farkas_cert.specs.model.Bounds.{Bound}
+use Rattle.proof_tree.specs.proof_nodes.Nodes.{Spot}
+use Rattle.proof_tree.specs.proof_nodes.AcceptsSizes.{Side}
+use Rattle.proof_tree.specs.proof_nodes.Gaps.{ScaledPoint, Gap}
 use Rattle.proof_tree.specs.declared.answer.Trip.{Trip}
 
 -- why a rule has no time: no function ranks it, a linear program passed a limit, or the bound is too large
@@ -20,11 +20,11 @@ pub data Time : Type 0 where
 -- why a place has no size: a side is loose, along a ray and from a point; a linear program passed a limit; a size from
 -- outside is missing; a polynomial arm reads a member; a rule has no time; or the bound is too large
 pub data NoSize : Type 0 where
-  IsLoose : Side → List ℤ → ScaledPoint → NoSize
+  SizeLoose : Side → List ℤ → ScaledPoint → NoSize
   SizeTripped : Trip → NoSize
-  IsMissing : Spot → NoSize
-  IsBent : Spot → NoSize
-  LacksTime : ℕ → NoSize
+  SizeMissing : Spot → NoSize
+  SizeBent : Spot → NoSize
+  SizeUntimed : ℕ → NoSize
   SizeLarge : ℕ → NoSize
 
 -- a size, or why there is none

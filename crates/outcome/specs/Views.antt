@@ -2,7 +2,7 @@
 use Rattle.std.specs.Prelude.{ℕ, zero, suc, Bool, true, false, List, [], ◌∷◌, map}
 use Rattle.std.specs.Option.{option_map}
 use Rattle.bound_expr.specs.Views.{bound_of}
-use Rattle.proof_nodes.specs.Gaps.{Gap}
+use Rattle.proof_tree.specs.proof_nodes.Gaps.{Gap}
 use Rattle.proof_tree.specs.Views.{spot_of}
 use Rattle.proof_tree.specs.AnswerViews.{scaled_of, gap_of}
 use Rattle.proof_tree.specs.declared.gap.Gap as code
@@ -14,8 +14,8 @@ use Rattle.outcome.specs.declared.entry.SizeEntry.TheVariants as sizes
 use Rattle.outcome.specs.declared.outcome_of.Outcome.{Outcome}
 use Rattle.outcome.specs.Reports.{NoFunction, TimeTripped, TimeLarge}
 use Rattle.outcome.specs.Reports.{Time, Timed, Untimed}
-use Rattle.proof_nodes.specs.AcceptsSizes.{Side, Up, Low}
-use Rattle.outcome.specs.Reports.{NoSize, IsLoose, SizeTripped, IsMissing, IsBent, LacksTime, SizeLarge}
+use Rattle.proof_tree.specs.proof_nodes.AcceptsSizes.{Side, Up, Low}
+use Rattle.outcome.specs.Reports.{NoSize, SizeLoose, SizeTripped, SizeMissing, SizeBent, SizeUntimed, SizeLarge}
 use Rattle.outcome.specs.Reports.{Size, Sized, Unsized, Report}
 
 -- the gap without points, over no rule
@@ -43,16 +43,16 @@ side_by false = Low
 
 -- why a loose place has no size
 abbrev pub loose_of : Loose → NoSize
-loose_of l = IsLoose (side_by l.up) l.ray.items (scaled_of l.kept)
+loose_of l = SizeLoose (side_by l.up) l.ray.items (scaled_of l.kept)
 
 -- a size, or why there is none, as plain data
 abbrev pub size_of : SizeEntry → Size
 size_of (sizes.Known s) = Sized (bound_of s.bound)
 size_of (sizes.Loose l) = Unsized (loose_of l)
 size_of (sizes.Tripped t) = Unsized (SizeTripped t)
-size_of (sizes.Missing s) = Unsized (IsMissing (spot_of s))
-size_of (sizes.Bent s) = Unsized (IsBent (spot_of s))
-size_of (sizes.Untimed t) = Unsized (LacksTime t)
+size_of (sizes.Missing s) = Unsized (SizeMissing (spot_of s))
+size_of (sizes.Bent s) = Unsized (SizeBent (spot_of s))
+size_of (sizes.Untimed t) = Unsized (SizeUntimed t)
 size_of (sizes.Large n) = Unsized (SizeLarge n)
 
 -- the report of an outcome

@@ -1,9 +1,9 @@
 -- Reports on a small program and the entries that they have, as they were worked out by hand: what holds on all of its
 -- runs, and what doesn't.
 use Rattle.std.specs.Prelude.{◌≡◌, ℕ, List, [], ◌∷◌, Option, Some, None}
-use Rattle.model.specs.Bounds.{Bound, Constant, Input}
-use Rattle.model.specs.WorkedRuns.{countdown}
-use Rattle.outcome.specs.Reports.{TimeLarge, Time, Timed, Untimed, LacksTime, SizeLarge, Size, Sized, Unsized, Report}
+use Rattle.farkas_cert.specs.model.Bounds.{Bound, Constant, Input}
+use Rattle.farkas_cert.specs.model.WorkedRuns.{countdown}
+use Rattle.outcome.specs.Reports.{TimeLarge, Time, Timed, Untimed, SizeUntimed, SizeLarge, Size, Sized, Unsized, Report}
 use Rattle.outcome.specs.Holding.{numbered_entry, place_entry, ReportHolds}
 
 -- three entries
@@ -37,8 +37,8 @@ abbrev pub four_sizes : Bound → Bound → Bound → Bound → List (List Size)
 four_sizes a b c d = two_sizes a b ∷ two_sizes c d ∷ []
 
 -- the report with these times, this total and these sizes
-abbrev pub told : List Time → Option Bound → List (List Size) → Report
-told ts sum ss = record { times = ts; total = sum; sizes = ss }
+abbrev pub report_with : List Time → Option Bound → List (List Size) → Report
+report_with ts sum ss = record { times = ts; total = sum; sizes = ss }
 
 -- the times 1 and 9, the sizes of A and B after rule 1, and 8 and 9 after rule 2
 abbrev pub right_times : List Time
@@ -53,35 +53,35 @@ no_times = Untimed (TimeLarge 5000) ∷ Untimed (TimeLarge 5000) ∷ []
 
 abbrev pub no_sizes : List (List Size)
 no_sizes =
-    (Unsized (LacksTime 1) ∷ Unsized (LacksTime 1) ∷ []) ∷ (Unsized (LacksTime 2) ∷ Unsized (SizeLarge 5000) ∷ []) ∷ []
+    (Unsized (SizeUntimed 1) ∷ Unsized (SizeUntimed 1) ∷ []) ∷ (Unsized (SizeUntimed 2) ∷ Unsized (SizeLarge 5000) ∷ []) ∷ []
 
 -- the report of these times and sizes with the total 10 holds of the program that counts down; with one bound that is
 -- one too small, or is that of another rule or of another place, it doesn't
 pub record ReportsHold : Type 0 where
-  pub whole : ReportHolds countdown (told right_times (Some (Constant 10)) right_sizes)
+  pub whole : ReportHolds countdown (report_with right_times (Some (Constant 10)) right_sizes)
   pub first_time_less : ¬ (ReportHolds countdown
-      (told (two_times (Constant 0) (Constant 9)) (Some (Constant 10)) right_sizes))
+      (report_with (two_times (Constant 0) (Constant 9)) (Some (Constant 10)) right_sizes))
   pub second_time_less : ¬ (ReportHolds countdown
-      (told (two_times (Constant 1) (Constant 8)) (Some (Constant 10)) right_sizes))
+      (report_with (two_times (Constant 1) (Constant 8)) (Some (Constant 10)) right_sizes))
   pub time_of_other_rule : ¬ (ReportHolds countdown
-      (told (two_times (Constant 1) (Constant 1)) (Some (Constant 10)) right_sizes))
+      (report_with (two_times (Constant 1) (Constant 1)) (Some (Constant 10)) right_sizes))
   pub times_swapped : ¬ (ReportHolds countdown
-      (told (two_times (Constant 9) (Constant 1)) (Some (Constant 10)) right_sizes))
-  pub total_less : ¬ (ReportHolds countdown (told right_times (Some (Constant 9)) right_sizes))
+      (report_with (two_times (Constant 9) (Constant 1)) (Some (Constant 10)) right_sizes))
+  pub total_less : ¬ (ReportHolds countdown (report_with right_times (Some (Constant 9)) right_sizes))
   pub first_size_less : ¬ (ReportHolds countdown
-      (told right_times (Some (Constant 10)) (four_sizes (Input 0) (Input 1) (Constant 7) (Constant 9))))
+      (report_with right_times (Some (Constant 10)) (four_sizes (Input 0) (Input 1) (Constant 7) (Constant 9))))
   pub second_size_less : ¬ (ReportHolds countdown
-      (told right_times (Some (Constant 10)) (four_sizes (Input 0) (Input 1) (Constant 8) (Constant 8))))
+      (report_with right_times (Some (Constant 10)) (four_sizes (Input 0) (Input 1) (Constant 8) (Constant 8))))
   pub sizes_swapped : ¬ (ReportHolds countdown
-      (told right_times (Some (Constant 10)) (four_sizes (Input 1) (Input 0) (Constant 8) (Constant 9))))
+      (report_with right_times (Some (Constant 10)) (four_sizes (Input 1) (Input 0) (Constant 8) (Constant 9))))
 
 -- a report of reasons alone holds, since it says no bound; one that gives a single bound holds where that bound does
 pub record ReasonsHold : Type 0 where
-  pub all_missing : ReportHolds countdown (told no_times None no_sizes)
-  pub no_entries : ReportHolds countdown (told [] None [])
-  pub one_time : ReportHolds countdown (told (Untimed (TimeLarge 5000) ∷ Timed (Constant 9) ∷ []) None no_sizes)
+  pub all_missing : ReportHolds countdown (report_with no_times None no_sizes)
+  pub no_entries : ReportHolds countdown (report_with [] None [])
+  pub one_time : ReportHolds countdown (report_with (Untimed (TimeLarge 5000) ∷ Timed (Constant 9) ∷ []) None no_sizes)
   pub one_time_less : ¬ (ReportHolds countdown
-      (told (Untimed (TimeLarge 5000) ∷ Timed (Constant 8) ∷ []) None no_sizes))
-  pub one_total_less : ¬ (ReportHolds countdown (told no_times (Some (Constant 9)) no_sizes))
+      (report_with (Untimed (TimeLarge 5000) ∷ Timed (Constant 8) ∷ []) None no_sizes))
+  pub one_total_less : ¬ (ReportHolds countdown (report_with no_times (Some (Constant 9)) no_sizes))
   pub one_size_less : ¬ (ReportHolds countdown
-      (told no_times None ([] ∷ (Unsized (LacksTime 2) ∷ Sized (Constant 8) ∷ []) ∷ [])))
+      (report_with no_times None ([] ∷ (Unsized (SizeUntimed 2) ∷ Sized (Constant 8) ∷ []) ∷ [])))

@@ -1,4 +1,4 @@
-// What is known of a time or of a size.
+//! What is known of a time or of a size.
 
 use crate::loose::Loose;
 use bound_expr::Bound;

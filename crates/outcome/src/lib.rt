@@ -1,5 +1,5 @@
-// What an analysis found, as types: for each rule and each place a bound, or the reason why there is none.
-// Contract to the layers above: an outcome is read as a report, plain data, by `report_of`.
+//! What an analysis found, as types: for each rule and each place a bound, or the reason why there is none.
+//! Contract to the layers above: an outcome is read as a report, plain data, by `report_of`.
 #![tactic(auto)]
 
 mod entry;

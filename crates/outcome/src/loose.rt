@@ -1,4 +1,4 @@
-// Places that no arm bounds.
+//! Places that no arm bounds.
 
 use farkas_cert::Scaled;
 

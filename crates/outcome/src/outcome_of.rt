@@ -1,4 +1,4 @@
-// What an analysis found.
+//! What an analysis found.
 
 use crate::entry::{SizeEntry, TimeEntry};
 use bound_expr::Bound;

@@ -1,5 +1,6 @@
 -- How a look-up in a list of files goes on.
-use Rattle.std.proofs.Common.{◌≡◌, ℕ, suc, ◌+◌, ◌<◌, ◌≤◌, ◌∙◌, ap, sym, cond, true, false, List, [], ◌∷◌, length, drop, get_or, drop-cons, add-one, Some, None, string_bytes, nat_eq}
+use Rattle.std.proofs.Common.{◌≡◌, ℕ, suc, ◌+◌, ◌<◌, ◌≤◌, ◌∙◌, ap, sym, cond, true, false, List, [], ◌∷◌, length, drop}
+use Rattle.std.proofs.Common.{get_or, drop-cons, add-one, Some, None, string_bytes, nat_eq}
 use Rattle.std.proofs.lemmas.Bool.{false_from_ne_true}
 use Rattle.std.proofs.lemmas.List.{drop_all}
 use Rattle.std.proofs.lemmas.Slice.Eq.{bytes_eq-Decides}

@@ -1,6 +1,13 @@
 -- The worked counts, and what was worked out of a put that failed.
-use Rattle.std.proofs.Common.{◌≡◌, ℕ, zero, suc, ◌≤◌, List, [], ◌∷◌, length, take, get_or, refl, ap, arith}
+use Rattle.std.proofs.Common.{◌≡◌, ℕ, zero, suc, ◌+◌, ◌-◌, ◌^◌, ◌≤◌, List, [], ◌∷◌, length, take, get_or, refl, ap}
+use Rattle.std.proofs.Common.{arith, inl, inr}
+use Rattle.outside_io.specs.Counts.{Rose}
 use Rattle.outside_io.specs.WorkedPuts.{CountsRise, AreLeft, PrefixesAreLeft}
+
+-- a count that is neither greater than before nor at its maximum hasn't risen
+not_risen : (before now : ℕ) → now ≤ before → (now ≡ 2 ^ 64 - 1 → ⊥) → ¬ (Rose before now)
+not_risen before now small elsewhere (inl greater) = omega (arith, small, greater)
+not_risen before now small elsewhere (inr at_the_end) = elsewhere at_the_end
 
 -- the counts rise as was worked out
 pub counts : CountsRise
@@ -8,12 +15,16 @@ counts = record {
   one_more = refl;
   to_the_end = refl;
   at_the_end = refl;
-  rose = omega arith;
-  rose_more = omega arith;
-  rose_at_the_end = omega arith;
-  stayed = λ h. omega (arith, h);
-  fell = λ h. omega (arith, h);
-  stayed_below_the_end = λ h. omega (arith, h);
+  rose = inl (omega arith);
+  rose_more = inl (omega arith);
+  rose_at_the_end = inr refl;
+  stayed = not_risen 3 3 (omega arith) (omega arith);
+  fell = not_risen 3 2 (omega arith) (omega arith);
+  stayed_below_the_end = not_risen (2 ^ 64 - 2) (2 ^ 64 - 2) (omega arith) (omega arith);
+  rose_past_the_end = inl (omega arith);
+  stayed_past_the_end = not_risen (2 ^ 64 + 5) (2 ^ 64 + 5) (omega arith) (omega arith);
+  fell_past_the_end = not_risen (2 ^ 64 + 5) (2 ^ 64) (omega arith) (omega arith);
+  fell_to_the_end = inr refl;
 }
 
 -- what is left is the byte 1 and no more, with the byte 2, or with both

@@ -1,14 +1,14 @@
 -- Counts that a `u64` keeps: of calls and of faults.
-use Rattle.std.specs.Prelude.{ℕ, ◌+◌, ◌-◌, ◌^◌, ◌≤◌, ◌==◌, min, Bool, List}
+use Rattle.std.specs.Prelude.{◌≡◌, ◌⊎◌, ℕ, ◌+◌, ◌-◌, ◌^◌, ◌<◌, ◌==◌, min, Bool, List}
 use Rattle.std.specs.List.{list_any}
 
 -- the count after one more; a count that has reached its maximum stays there
 abbrev pub next_count : ℕ → ℕ
 next_count n = min (n + 1) (2 ^ 64 - 1)
 
--- the count is more than before, or has reached its maximum
+-- the count is greater than before, or it is 2^64 - 1 now
 abbrev pub Rose : ℕ → ℕ → Type 0
-Rose before now = next_count before ≤ now
+Rose before now = (before < now) ⊎ (now ≡ 2 ^ 64 - 1)
 
 -- whether one of the numbers is that of the call
 unfoldable pub names_call : List ℕ → ℕ → Bool

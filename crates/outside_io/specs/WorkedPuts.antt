@@ -1,9 +1,10 @@
 -- Counts, and what was written after a put that failed, as they were worked out by hand.
-use Rattle.std.specs.Prelude.{◌≡◌, ℕ, ◌-◌, ◌^◌, List, [], ◌∷◌, None, Some}
+use Rattle.std.specs.Prelude.{◌≡◌, ℕ, ◌+◌, ◌-◌, ◌^◌, List, [], ◌∷◌, None, Some}
 use Rattle.outside_io.specs.Counts.{next_count, Rose}
 use Rattle.outside_io.specs.Putting.{AppendsPrefix}
 
--- a count rises by one, up to the maximum of a `u64`; where it is there, it counts as risen
+-- a count rises by one, up to the maximum of a `u64`; where it is there, it counts as risen; past it, as below it, only
+-- a greater one has risen
 pub record CountsRise : Type 0 where
   pub one_more : next_count 3 ≡ 4
   pub to_the_end : next_count (2 ^ 64 - 2) ≡ 2 ^ 64 - 1
@@ -14,6 +15,10 @@ pub record CountsRise : Type 0 where
   pub stayed : ¬ (Rose 3 3)
   pub fell : ¬ (Rose 3 2)
   pub stayed_below_the_end : ¬ (Rose (2 ^ 64 - 2) (2 ^ 64 - 2))
+  pub rose_past_the_end : Rose (2 ^ 64 + 5) (2 ^ 64 + 6)
+  pub stayed_past_the_end : ¬ (Rose (2 ^ 64 + 5) (2 ^ 64 + 5))
+  pub fell_past_the_end : ¬ (Rose (2 ^ 64 + 5) (2 ^ 64))
+  pub fell_to_the_end : Rose (2 ^ 64 + 5) (2 ^ 64 - 1)
 
 -- behind the byte 1 the piece 2, 3 was put, and with a fault these bytes are there
 abbrev pub AreLeft : List ℕ → Type 0

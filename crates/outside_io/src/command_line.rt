@@ -1,4 +1,4 @@
-// The words of the command line. What they are is the system's word.
+//! The words of the command line. What they are is the system's word.
 
 use std::alloc::Global;
 use std::env::Env;

@@ -1,4 +1,5 @@
-// The system's files and its standard input, as a shelf. What they hold is the system's word.
+//! The system's files and its standard input, as a shelf. What they hold is the system's word.
+
 ghost use Rattle.std.specs.Prelude.{◌≡◌, ◌≤◌, ◌<◌, ◌+◌, None, IfOk, IsErrOf, length};
 
 use crate::reading::take_all;
@@ -52,7 +53,7 @@ impl<R: Files + Input> Shelf for FileShelf<R> {
         ensures bounded { taken_count self.new ≤ limit + 1 }
         ensures failed { IsErrOf result FetchError.Failed
             → fault_count self.new ≡ next_count (fault_count self.old) }
-        ensures not_failed { ¬ (IsErrOf result FetchError.Failed)
+        ensures counts_failed { ¬ (IsErrOf result FetchError.Failed)
             → fault_count self.new ≡ fault_count self.old }
         ensures too_long { IsErrOf result FetchError.TooLong → limit < taken_count self.new }
     {

@@ -1,4 +1,5 @@
-// Files in memory, and the look-up of one by its name.
+//! Files in memory, and the look-up of one by its name.
+
 ghost use Rattle.std.specs.Prelude.{◌≡◌, ◌≤◌, ◌↔◌, None, Some, IfOk, IsErrOf, length};
 ghost use Rattle.std.specs.Option.{option_copied};
 ghost use Rattle.std.specs.FinMap.{get};

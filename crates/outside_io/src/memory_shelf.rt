@@ -1,4 +1,5 @@
-// A shelf in memory, which fails at chosen calls.
+//! A shelf in memory, which fails at chosen calls.
+
 ghost use Rattle.std.specs.Prelude.{◌≡◌, ◌≤◌, ◌↔◌, ◌⊎◌, Some, IfOk, OnErr, IsErrOf, IsTrue, false, length};
 ghost use Rattle.std.specs.Prelude.{if◌then◌else◌};
 ghost use Rattle.outside_io.specs.Counts.{names_call};
@@ -71,6 +72,9 @@ impl Shelf for MemoryShelf {
         ensures counted { fetch_count self.new ≡ next_count (fetch_count self.old) }
         ensures faults { fault_count self.new
             ≡ (if fails_next self.old then next_count (fault_count self.old) else fault_count self.old) }
+
+        ensures counts_failed { ¬ (IsErrOf result FetchError.Failed)
+            → fault_count self.new ≡ fault_count self.old }
 
         ensures ok { IfOk result (λ file. IsHeld (Some (held_files self.old)) name.now file.items) }
         ensures within { IfOk result (λ file. length file.items ≤ limit) }

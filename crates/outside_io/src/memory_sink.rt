@@ -1,4 +1,5 @@
-// A sink in memory, which fails at chosen calls.
+//! A sink in memory, which fails at chosen calls.
+
 ghost use Rattle.std.specs.Prelude.{◌≡◌, ◌≤◌, ◌↔◌, ℕ, List, [], ◌++◌, Option, None, Some, IfOk, IsOk, OnOk, OnErr};
 ghost use Rattle.std.specs.Prelude.{is_ok, if◌then◌else◌, length, take, vec_capacity};
 ghost use Rattle.std.specs.Io.KnownBytes.{Appends};
@@ -28,7 +29,9 @@ impl MemorySink {
     /// An empty sink with room for `room` bytes in all, whose memory is taken here. The puts that
     /// `stops` numbers fail; of several stops of one put the first counts.
     ///
-    /// Errors: `Memory`, where there is no memory for `room` bytes.
+    /// # Errors
+    ///
+    /// `Memory` where there is no memory for `room` bytes.
     pub fn new(alloc: Global, room: u64, stops: Vec<Stop>) -> Result<MemorySink, Memory>
         ensures empty { IfOk result (λ sink. written_bytes sink ≡ []) }
         ensures room { IfOk result (λ sink. room_of sink ≡ room) }

@@ -1,4 +1,5 @@
-// A writer of the system as a sink. What its standard output received is the system's word.
+//! A writer of the system as a sink. What its standard output received is the system's word.
+
 ghost use Rattle.std.specs.Prelude.{◌≡◌, ◌≤◌, IsSome, OnOk, OnErr};
 ghost use Rattle.std.specs.Io.KnownBytes.{Appends};
 ghost use Rattle.outside_io.specs.Putting.{AppendsPrefix};

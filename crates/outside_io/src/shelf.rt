@@ -1,4 +1,5 @@
-// The shelf: files that are fetched by name.
+//! The shelf: files that are fetched by name.
+
 ghost use Rattle.std.specs.Prelude.{◌≡◌, ℕ, ◌≤◌, List, Option, IfOk, IsErrOf, ◌⊎◌, length};
 ghost use Rattle.outside_io.specs.Fetching.{IsTooLong, MayFail};
 ghost use Rattle.outside_io.specs.Files.{Files, IsHeld, Lacks};
@@ -40,10 +41,12 @@ pub trait Shelf {
     ///
     /// Errors: `Failed`, only where `faults` rose in this call or the shelf tells what it holds and
     /// lacks the name; `TooLong`, only where the file has more bytes than `limit`; `Memory`. What
-    /// the shelf holds stays as it was, after each of them too.
+    /// the shelf holds stays as it was, after each of them too. The count of faults rises with
+    /// `Failed` alone: with `Ok`, `TooLong` and `Memory` it stays as it was.
     fn fetch(&mut self, alloc: Global, name: &str, limit: u64) -> Result<Vec<u8>, FetchError>
         ensures keeps_files { held self.new ≡ held self.old }
         ensures keeps_count { faults self.old ≤ faults self.new }
+        ensures counts_failed { ¬ (IsErrOf result FetchError.Failed) → faults self.new ≡ faults self.old }
 
         ensures ok { IfOk result (λ file. IsHeld (held self.old) name.now file.items) }
         ensures within { IfOk result (λ file. length file.items ≤ limit) }

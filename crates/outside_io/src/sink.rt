@@ -1,4 +1,5 @@
-// The sink: where pieces of text are put.
+//! The sink: where pieces of text are put.
+
 ghost use Rattle.std.specs.Prelude.{ℕ, ◌≤◌, List, Option, OnOk, OnErr, IsSome};
 ghost use Rattle.std.specs.Io.KnownBytes.{Appends};
 ghost use Rattle.outside_io.specs.Counts.{Rose};

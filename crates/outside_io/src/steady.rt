@@ -1,4 +1,5 @@
-// A shelf and a sink that never have a fault.
+//! A shelf and a sink that never have a fault.
+
 ghost use Rattle.std.specs.Prelude.{◌≡◌, ◌≤◌, ◌↔◌, ◌⊎◌, ℕ, None, Some, IfOk, IsErrOf, IsOk, IsSome, OnOk, OnErr};
 ghost use Rattle.std.specs.Prelude.{length};
 ghost use Rattle.outside_io.specs.Counts.{Rose};

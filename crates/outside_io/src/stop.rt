@@ -1,4 +1,5 @@
-// Faults that a sink in memory is told to have.
+//! Faults that a sink in memory is told to have.
+
 ghost use Rattle.std.specs.Prelude.{◌≡◌, min, unwrap_or};
 ghost use Rattle.outside_io.specs.Stops.{stop_bytes};
 

@@ -1,4 +1,5 @@
-// Values of the definitions that were worked out by hand.
+//! Values of the definitions that were worked out by hand.
+
 ghost use Rattle.outside_io.specs.WorkedPuts.{CountsRise, PrefixesAreLeft};
 
 /// Counts rise, and a put that fails leaves some first bytes of its piece, as was worked out by hand. It has no code:

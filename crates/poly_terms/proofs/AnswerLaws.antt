@@ -7,7 +7,8 @@ use Rattle.poly_terms.specs.declared.poly.Poly.{Poly}
 use Rattle.poly_terms.specs.declared.poly_error.PolyError.{PolyError}
 use Rattle.poly_terms.specs.Expanding.{opposite, expanded, power_of}
 use Rattle.model.specs.Limits.{coefficient_limit}
-use Rattle.poly_terms.specs.Faults.{Fault, fault_in, exponent_of, fault_of, subexpressions, or_else, first_among, first_fault}
+use Rattle.poly_terms.specs.Faults.{Fault, fault_in, exponent_of, fault_of, subexpressions, or_else, first_among}
+use Rattle.poly_terms.specs.Faults.{first_fault}
 use Rattle.poly_terms.specs.Powers.{faults_of_powers, IsPowerWithout}
 use Rattle.poly_terms.specs.Ordered.{IsBounded, IsSmall}
 use Rattle.poly_terms.specs.Answers.{Says, Answers}

@@ -1,12 +1,13 @@
 -- Taking the monomials that aren't 0 one by one.
-use Rattle.std.proofs.Common.{◌≡◌, ◌<◌, ◌≤◌, ◌||◌, List, [], ◌∷◌, ◌++◌, Bool, true, false, not, cond, refl, ap, ◌∙◌, arith, nat_lt, if◌then◌else◌}
+use Rattle.std.proofs.Common.{◌≡◌, ◌<◌, ◌≤◌, ◌||◌, List, [], ◌∷◌, ◌++◌, Bool, true, false, not, cond, refl, ap, ◌∙◌}
+use Rattle.std.proofs.Common.{arith, nat_lt, if◌then◌else◌}
 use Rattle.std.specs.Prelude.{nat_abs, pos, filter}
 use Rattle.poly_terms.specs.declared.poly.Monomial as code
 use Rattle.poly_terms.specs.Views.{monomial_of, monomials_of}
 use Rattle.std.proofs.lemmas.Bool.Decides.{nat_tests}
 use Rattle.std.proofs.lemmas.Int.{ints}
 use Rattle.std.proofs.lemmas.List.{append_assoc}
-use Rattle.int_laws.specs.NormalForm.{is_zero}
+use Rattle.linear_forms.specs.int_laws.NormalForm.{is_zero}
 use Rattle.model.specs.Polynomials.{Monomial, Polynomial}
 use Rattle.poly_terms.specs.Expanding.{all_added, added, without_zeros}
 use Rattle.model.specs.Limits.{coefficient_limit}

@@ -7,7 +7,7 @@ use Rattle.std.specs.declared.cmp.Ordering.TheVariants.{Less, Equal, Greater}
 use Rattle.std.specs.Ordering.{match_ordering}
 use Rattle.std.proofs.lemmas.Bool.{eqb-true, eq-eqb}
 use Rattle.std.proofs.lemmas.Map.Lookups.{exact_bytes}
-use Rattle.int_laws.specs.NormalForm.{is_zero}
+use Rattle.linear_forms.specs.int_laws.NormalForm.{is_zero}
 use Rattle.model.specs.Limits.{coefficient_limit}
 use Rattle.model.specs.Polynomials.{Monomial, Polynomial}
 use Rattle.poly_terms.specs.declared.keyed.Keyed.{Keyed}

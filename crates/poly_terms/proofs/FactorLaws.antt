@@ -1,5 +1,6 @@
 -- The product of two packed monomials: where no digit carries, its variables are those of both.
-use Rattle.std.proofs.Common.{◌≡◌, ℕ, zero, suc, ◌+◌, ◌/◌, ◌%◌, ◌<◌, ◌≤◌, List, [], ◌∷◌, ◌++◌, map, length, replicate, drop, get_or}
+use Rattle.std.proofs.Common.{◌≡◌, ℕ, zero, suc, ◌+◌, ◌/◌, ◌%◌, ◌<◌, ◌≤◌, List, [], ◌∷◌, ◌++◌, map, length, replicate}
+use Rattle.std.proofs.Common.{drop, get_or}
 use Rattle.std.proofs.Common.{Bool, true, false, refl, ap, sym, ◌∙◌, arith, nat_lt, if◌then◌else◌}
 use Rattle.std.specs.Prelude.{◌*ℤ◌}
 use Rattle.std.proofs.lemmas.Bool.Decides.{nat_tests}
@@ -9,7 +10,8 @@ use Rattle.poly_terms.specs.declared.keyed.Key.{Key}
 use Rattle.poly_terms.specs.declared.keyed.Keyed.{Keyed}
 use Rattle.poly_terms.specs.Expanding.{inserted, all_inserted, multiplied, products}
 use Rattle.poly_terms.specs.Ordered.{AreFrom}
-use Rattle.poly_terms.specs.Keys.{number_of, key_sum, factors_at, monomial_at, monomials_at, ascend_from, product_at, all_products}
+use Rattle.poly_terms.specs.Keys.{number_of, key_sum, factors_at, monomial_at, monomials_at, ascend_from, product_at}
+use Rattle.poly_terms.specs.Keys.{all_products}
 use Rattle.poly_terms.proofs.OrderLaws.{from-less}
 
 -- a variable that no other is below is inserted first

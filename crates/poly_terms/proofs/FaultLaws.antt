@@ -1,14 +1,17 @@
 -- The first fault among subexpressions, and what it means that a polynomial has none.
-use Rattle.std.proofs.Common.{◌≡◌, ℕ, zero, suc, ◌+◌, ◌≤◌, ◌||◌, List, [], ◌∷◌, ◌++◌, length, Bool, true, false, refl, ap, ◌∙◌, subst, arith, nat_lt, if◌then◌else◌}
+use Rattle.std.proofs.Common.{◌≡◌, ℕ, zero, suc, ◌+◌, ◌≤◌, ◌||◌, List, [], ◌∷◌, ◌++◌, length, Bool, true, false, refl}
+use Rattle.std.proofs.Common.{ap, ◌∙◌, subst, arith, nat_lt, if◌then◌else◌}
 use Rattle.std.specs.Prelude.{Option, Some, None, nat_abs}
 use Rattle.std.proofs.lemmas.Bool.Decides.{nat_tests}
 use Rattle.model.specs.Terms.{Term, Exponentiation}
 use Rattle.model.specs.Polynomials.{Polynomial, degree_of}
 use Rattle.poly_terms.specs.declared.poly_error.PolyError.{PolyError}
-use Rattle.poly_terms.specs.declared.poly_error.PolyError.TheVariants.{CoefTooLarge, TooManyTerms, DegreeTooHigh, Memory}
+use Rattle.poly_terms.specs.declared.poly_error.PolyError.TheVariants.{CoefTooLarge, TooManyTerms, DegreeTooHigh}
+use Rattle.poly_terms.specs.declared.poly_error.PolyError.TheVariants.{Memory}
 use Rattle.poly_terms.specs.Expanding.{expanded, power_of}
 use Rattle.model.specs.Limits.{coefficient_limit, monomial_limit, degree_limit}
-use Rattle.poly_terms.specs.Faults.{Fault, LargeCoefficient, ManyTerms, HighDegree, has_large, fault_in, fault_of, powers, subexpressions, or_else, first_among, first_fault}
+use Rattle.poly_terms.specs.Faults.{Fault, LargeCoefficient, ManyTerms, HighDegree, has_large, fault_in, fault_of}
+use Rattle.poly_terms.specs.Faults.{powers, subexpressions, or_else, first_among, first_fault}
 use Rattle.poly_terms.specs.Powers.{faults_of_powers}
 use Rattle.poly_terms.specs.Ordered.{IsBounded, IsSmall}
 use Rattle.poly_terms.specs.Answers.{Says}

@@ -7,7 +7,7 @@ use Rattle.std.specs.declared.cmp.Ordering.TheVariants.{Less, Equal, Greater}
 use Rattle.std.specs.Ordering.{match_ordering}
 use Rattle.std.proofs.lemmas.Bool.Decides.{nat_tests}
 use Rattle.std.proofs.lemmas.Int.{ints}
-use Rattle.int_laws.specs.NormalForm.{is_zero}
+use Rattle.linear_forms.specs.int_laws.NormalForm.{is_zero}
 use Rattle.model.specs.Limits.{coefficient_limit}
 use Rattle.model.specs.Polynomials.{Monomial, Polynomial, degree_of}
 use Rattle.poly_terms.specs.Expanding.{order, added, all_added, without_zeros, sum_of, inserted, all_inserted}

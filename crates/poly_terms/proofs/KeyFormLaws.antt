@@ -4,9 +4,9 @@ use Rattle.std.proofs.Common.{refl, ap, sym, ◌∙◌, subst, arith, true, mul-
 use Rattle.std.specs.Prelude.{None, ℤ, pos, negsuc, ◌+ℤ◌, ◌*ℤ◌}
 use Rattle.std.proofs.lemmas.Int.{ints}
 use Rattle.std.proofs.lemmas.List.{map-append}
-use Rattle.int_laws.specs.Polynomial.{variable, ◌⊕◌, ◌⊗◌}
-use Rattle.int_laws.proofs.Identities.{identity}
-use Rattle.int_laws.proofs.RingLaws.{mul_comm_ℤ}
+use Rattle.linear_forms.specs.int_laws.Polynomial.{variable, ◌⊕◌, ◌⊗◌}
+use Rattle.linear_forms.proofs.int_laws.Identities.{identity}
+use Rattle.linear_forms.proofs.int_laws.RingLaws.{mul_comm_ℤ}
 use Rattle.model.specs.Limits.{degree_limit}
 use Rattle.model.specs.Polynomials.{Monomial, Polynomial, degree_of}
 use Rattle.model.specs.Terms.{Term, Literal, Variable, Negation, Addition, Subtraction, Multiplication, Exponentiation}
@@ -16,7 +16,8 @@ use Rattle.poly_terms.specs.declared.keyed.Keyed.{Keyed}
 use Rattle.poly_terms.specs.Expanding.{all_added, sum_of, opposite, products, power_of, expanded}
 use Rattle.poly_terms.specs.Faults.{fault_in, fault_of, first_fault, or_else}
 use Rattle.poly_terms.specs.Powers.{faults_of_powers}
-use Rattle.poly_terms.specs.Keys.{number_of, key_sum, no_factors, factors_at, monomial_at, monomials_at, ascend_from, opposite_at, product_at, all_products, IsMergedFrom, IsPowerAt}
+use Rattle.poly_terms.specs.Keys.{number_of, key_sum, no_factors, factors_at, monomial_at, monomials_at, ascend_from}
+use Rattle.poly_terms.specs.Keys.{opposite_at, product_at, all_products, IsMergedFrom, IsPowerAt}
 use Rattle.poly_terms.specs.KeyForms.{IsExpansion, IsWithinLimits, StandsFor}
 use Rattle.poly_terms.specs.Scaling.{times}
 use Rattle.poly_terms.specs.Totals.{total, IsSamePolynomial}
@@ -26,7 +27,8 @@ use Rattle.poly_terms.proofs.FormLaws.{degree-append}
 use Rattle.poly_terms.proofs.KeyLaws.{degree-merged, degree-merged-products, same-at, same-products-at}
 use Rattle.poly_terms.proofs.OrderLaws.{expanded-ordered}
 use Rattle.poly_terms.proofs.ScaleLaws.{opposite-times}
-use Rattle.poly_terms.proofs.TotalLaws.{same-sums, same-from_sum, same-sum_of, same-products, sum-of-ordered, total-append}
+use Rattle.poly_terms.proofs.TotalLaws.{same-sums, same-from_sum, same-sum_of, same-products, sum-of-ordered}
+use Rattle.poly_terms.proofs.TotalLaws.{total-append}
 use Rattle.poly_terms.proofs.TotalLaws.{total-all_added, total-without_zeros}
 use Rattle.poly_terms.proofs.UnpackingLaws.{degree-power-at, none-below, none-modest, none-small, power-at}
 

@@ -4,13 +4,14 @@ use Rattle.std.proofs.Common.{refl, ap, sym, ◌∙◌, subst, arith, true, appe
 use Rattle.std.specs.Prelude.{ℤ, pos, ◌+ℤ◌, ◌*ℤ◌}
 use Rattle.std.proofs.lemmas.Int.{ints}
 use Rattle.std.proofs.lemmas.List.{drop_more}
-use Rattle.int_laws.proofs.RingLaws.{add-mul_ℤ, mul_comm_ℤ}
+use Rattle.linear_forms.proofs.int_laws.RingLaws.{add-mul_ℤ, mul_comm_ℤ}
 use Rattle.model.specs.Polynomials as plain
 use Rattle.model.specs.Polynomials.{degree_of}
 use Rattle.poly_terms.specs.declared.keyed.Key.{Key}
 use Rattle.poly_terms.specs.declared.keyed.Keyed.{Keyed}
 use Rattle.poly_terms.specs.Expanding.{products, product_of, sum_of}
-use Rattle.poly_terms.specs.Keys.{number_of, key_sum, no_factors, factors_at, monomials_at, ascend_from, product_at, all_products, total_at}
+use Rattle.poly_terms.specs.Keys.{number_of, key_sum, no_factors, factors_at, monomials_at, ascend_from, product_at}
+use Rattle.poly_terms.specs.Keys.{all_products, total_at}
 use Rattle.poly_terms.specs.Keys.{reach_at, IsMergedFrom}
 use Rattle.poly_terms.specs.Totals.{total, IsSamePolynomial}
 use Rattle.poly_terms.proofs.FactorLaws.{products-at}

@@ -1,5 +1,7 @@
 -- Polynomials of degree at most 1 as affine forms.
-use Rattle.std.proofs.Common.{◌≡◌, ◌≢◌, ℕ, zero, suc, ◌+◌, ◌<◌, ◌≤◌, List, [], ◌∷◌, length, get_or, take, set, replicate, map, ◌⊎◌, inl, inr, Bool, true, false, refl, ap, sym, ◌∙◌, subst, arith, if◌then◌else◌}
+use Rattle.std.proofs.Common.{◌≡◌, ◌≢◌, ℕ, zero, suc, ◌+◌, ◌<◌, ◌≤◌, List, [], ◌∷◌, length, get_or, take, set}
+use Rattle.std.proofs.Common.{replicate, map, ◌⊎◌, inl, inr, Bool, true, false, refl, ap, sym, ◌∙◌, subst, arith}
+use Rattle.std.proofs.Common.{if◌then◌else◌}
 use Rattle.std.specs.Prelude.{ℤ, pos, ◌+ℤ◌, ◌*ℤ◌}
 use Rattle.std.specs.List.{range_with_len}
 use Rattle.std.specs.declared.cmp.Ordering.{Ordering}
@@ -9,14 +11,16 @@ use Rattle.std.proofs.lemmas.Int.{ints}
 use Rattle.std.proofs.lemmas.Bool.{cases_eq}
 use Rattle.std.proofs.lemmas.Cmp.{nat_list_cmp_total, tied_itself}
 use Rattle.std.proofs.lemmas.Map.Lookups.{exact_bytes}
-use Rattle.std.proofs.lemmas.List.{length-map, same_lists, take_all, length-set, get_or-set_same, get_or-set_other, length-replicate, get_or-replicate}
+use Rattle.std.proofs.lemmas.List.{length-map, same_lists, take_all, length-set, get_or-set_same, get_or-set_other}
+use Rattle.std.proofs.lemmas.List.{length-replicate, get_or-replicate}
 use Rattle.std.proofs.lemmas.List.FromFn.{get_or-map-range_with_len}
-use Rattle.int_laws.proofs.RingLaws.{add-mul_ℤ}
+use Rattle.linear_forms.proofs.int_laws.RingLaws.{add-mul_ℤ}
 use Rattle.model.specs.Polynomials.{Monomial, Polynomial, product_value, polynomial_value, degree_of}
 use Rattle.linear_forms.specs.Forms.{Form, at, list_dot}
 use Rattle.poly_terms.specs.Expanding.{order}
 use Rattle.poly_terms.specs.Ordered.{IsBefore, IsAscending}
-use Rattle.poly_terms.specs.Rows.{coefficient, linear_form, with_coefficient, AreVariablesBelow, HasVariablesBelow, HasValueOf}
+use Rattle.poly_terms.specs.Rows.{coefficient, linear_form, with_coefficient, AreVariablesBelow, HasVariablesBelow}
+use Rattle.poly_terms.specs.Rows.{HasValueOf}
 use Rattle.poly_terms.proofs.OrderLaws.{order-back}
 
 -- the order of a list and itself

@@ -1,18 +1,21 @@
 -- Products with a constant.
-use Rattle.std.proofs.Common.{◌≡◌, ◌≢◌, ℕ, zero, suc, ◌*◌, ◌≤◌, List, [], ◌∷◌, map, Bool, true, false, refl, ap, sym, ◌∙◌, subst, arith, nat_lt, if◌then◌else◌}
+use Rattle.std.proofs.Common.{◌≡◌, ◌≢◌, ℕ, zero, suc, ◌*◌, ◌≤◌, List, [], ◌∷◌, map, Bool, true, false, refl, ap, sym}
+use Rattle.std.proofs.Common.{◌∙◌, subst, arith, nat_lt, if◌then◌else◌}
 use Rattle.std.specs.Prelude.{ℤ, pos, negsuc, ◌*ℤ◌, neg_ℤ, nat_abs}
 use Rattle.std.proofs.lemmas.Bool.Decides.{nat_tests}
 use Rattle.std.proofs.lemmas.Int.{ints, unsigned_abs-mul}
 use Rattle.std.proofs.Math.Nat.{mul-le-mul}
-use Rattle.int_laws.specs.NormalForm.{is_zero}
+use Rattle.linear_forms.specs.int_laws.NormalForm.{is_zero}
 use Rattle.model.specs.Polynomials.{Polynomial}
-use Rattle.poly_terms.specs.Expanding.{all_added, without_zeros, opposite, inserted, all_inserted, products, product_of, one}
-use Rattle.poly_terms.specs.Ordered.{IsBefore, IsAscending, AreFrom, AscendWeakly, HasNoZero, HasFactorsInOrder, IsOrdered}
+use Rattle.poly_terms.specs.Expanding.{all_added, without_zeros, opposite, inserted, all_inserted, products, product_of}
+use Rattle.poly_terms.specs.Expanding.{one}
+use Rattle.poly_terms.specs.Ordered.{IsBefore, IsAscending, AreFrom, AscendWeakly, HasNoZero, HasFactorsInOrder}
+use Rattle.poly_terms.specs.Ordered.{IsOrdered}
 use Rattle.poly_terms.specs.Scaling.{times, constant}
 use Rattle.poly_terms.proofs.Values.{zero_is}
 use Rattle.poly_terms.proofs.OrderLaws.{from-inserted}
 use Rattle.poly_terms.proofs.MergeLaws.{added-to-none}
-use Rattle.int_laws.proofs.RingLaws.{mul_comm_ℤ as swap}
+use Rattle.linear_forms.proofs.int_laws.RingLaws.{mul_comm_ℤ as swap}
 
 -- a variable that is at most as great as the others is inserted before them
 inserted-first : (v : ℕ) (us : List ℕ) → AreFrom v us → inserted v us ≡ v ∷ us

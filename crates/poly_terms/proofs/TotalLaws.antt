@@ -8,10 +8,10 @@ use Rattle.std.specs.Ordering.{match_ordering, ordering_reverse}
 use Rattle.std.proofs.lemmas.Cmp.{nat_list_cmp_total}
 use Rattle.std.proofs.lemmas.Int.{ints}
 use Rattle.std.proofs.lemmas.Map.Lookups.{exact_bytes}
-use Rattle.int_laws.specs.NormalForm.{is_zero}
-use Rattle.int_laws.specs.Polynomial.{variable, ◌⊕◌, ◌⊗◌}
-use Rattle.int_laws.proofs.Identities.{identity}
-use Rattle.int_laws.proofs.RingLaws.{add-mul_ℤ, zero-mul_ℤ, mul-zero_ℤ, mul-one_ℤ}
+use Rattle.linear_forms.specs.int_laws.NormalForm.{is_zero}
+use Rattle.linear_forms.specs.int_laws.Polynomial.{variable, ◌⊕◌, ◌⊗◌}
+use Rattle.linear_forms.proofs.int_laws.Identities.{identity}
+use Rattle.linear_forms.proofs.int_laws.RingLaws.{add-mul_ℤ, zero-mul_ℤ, mul-zero_ℤ, mul-one_ℤ}
 use Rattle.model.specs.Polynomials.{Monomial, Polynomial}
 use Rattle.poly_terms.specs.Expanding.{order, added, all_added, without_zeros, sum_of, all_inserted, multiplied}
 use Rattle.poly_terms.specs.Expanding.{products, product_of}

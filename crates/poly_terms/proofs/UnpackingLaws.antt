@@ -11,7 +11,8 @@ use Rattle.poly_terms.specs.Expanding.{added, all_added, sum_of, products, power
 use Rattle.poly_terms.specs.Faults.{Fault, LargeCoefficient, ManyTerms, HighDegree, has_large, fault_in, or_else}
 use Rattle.poly_terms.specs.Ordered.{IsSmall}
 use Rattle.poly_terms.specs.Powers.{faults_of_powers, IsPowerWithout}
-use Rattle.poly_terms.specs.Keys.{number_of, no_factors, factors_at, monomial_at, monomials_at, ascend_from, all_products, IsMergedFrom, IsModest, IsPowerAt}
+use Rattle.poly_terms.specs.Keys.{number_of, no_factors, factors_at, monomial_at, monomials_at, ascend_from}
+use Rattle.poly_terms.specs.Keys.{all_products, IsMergedFrom, IsModest, IsPowerAt}
 use Rattle.poly_terms.specs.Totals.{IsSamePolynomial}
 use Rattle.poly_terms.proofs.KeyLaws.{degree-merged-products, same-products-at}
 use Rattle.poly_terms.proofs.TotalLaws.{same-sums, same-from_sum, same-products}

@@ -1,5 +1,6 @@
 -- What the operations on polynomials do to their values.
-use Rattle.std.proofs.Common.{◌≡◌, ℕ, zero, suc, ◌*◌, ◌^◌, ◌%◌, ◌==◌, List, [], ◌∷◌, ◌++◌, map, Bool, true, false, not, cond, refl, ap, sym, ◌∙◌, arith, nat_lt, if◌then◌else◌}
+use Rattle.std.proofs.Common.{◌≡◌, ℕ, zero, suc, ◌*◌, ◌^◌, ◌%◌, ◌==◌, List, [], ◌∷◌, ◌++◌, map, Bool, true, false, not}
+use Rattle.std.proofs.Common.{cond, refl, ap, sym, ◌∙◌, arith, nat_lt, if◌then◌else◌}
 use Rattle.std.specs.Prelude.{ℤ, pos, negsuc, ◌+ℤ◌, ◌-ℤ◌, ◌*ℤ◌, neg_ℤ, slice_index_or}
 use Rattle.std.specs.Int.{int_pow}
 use Rattle.std.specs.declared.cmp.Ordering.{Ordering}
@@ -9,14 +10,16 @@ use Rattle.std.proofs.lemmas.Int.{ints}
 use Rattle.std.proofs.lemmas.Bool.Decides.{nat_tests}
 use Rattle.std.proofs.lemmas.Map.Lookups.{exact_bytes}
 use Rattle.std.proofs.Math.Nat.{pow-suc, pow-zero}
-use Rattle.int_laws.specs.NormalForm.{is_zero}
-use Rattle.int_laws.specs.Polynomial.{variable, ◌⊕◌, ◌⊗◌}
-use Rattle.int_laws.proofs.Identities.{identity}
-use Rattle.int_laws.proofs.RingLaws.{add-mul_ℤ, zero-mul_ℤ, neg-mul_ℤ}
-use Rattle.model.specs.Terms.{Term, Literal, Variable, Negation, Addition, Subtraction, Multiplication, Exponentiation, value}
+use Rattle.linear_forms.specs.int_laws.NormalForm.{is_zero}
+use Rattle.linear_forms.specs.int_laws.Polynomial.{variable, ◌⊕◌, ◌⊗◌}
+use Rattle.linear_forms.proofs.int_laws.Identities.{identity}
+use Rattle.linear_forms.proofs.int_laws.RingLaws.{add-mul_ℤ, zero-mul_ℤ, neg-mul_ℤ}
+use Rattle.model.specs.Terms.{Term, Literal, Variable, Negation, Addition, Subtraction, Multiplication, Exponentiation}
+use Rattle.model.specs.Terms.{value}
 use Rattle.model.specs.Polynomials.{Monomial, Polynomial, product_value, monomial_value, polynomial_value}
-use Rattle.poly_terms.specs.Expanding.{order, added, all_added, without_zeros, sum_of, opposite, inserted, all_inserted, multiplied, products, product_of, power_of, expanded}
-pub use Rattle.int_laws.proofs.ZeroLaws.{is_zero-true as zero_is}
+use Rattle.poly_terms.specs.Expanding.{order, added, all_added, without_zeros, sum_of, opposite, inserted, all_inserted}
+use Rattle.poly_terms.specs.Expanding.{multiplied, products, product_of, power_of, expanded}
+pub use Rattle.linear_forms.proofs.int_laws.ZeroLaws.{is_zero-true as zero_is}
 
 -- a monomial more
 pub value-added : (m : Monomial) (ts : Polynomial) (env : List ℤ)

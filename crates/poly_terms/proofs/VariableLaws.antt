@@ -1,5 +1,6 @@
 -- Which variables an expanded form has, and that values rest on these alone.
-use Rattle.std.proofs.Common.{◌≡◌, ℕ, zero, suc, ◌<◌, ◌≤◌, List, [], ◌∷◌, ◌++◌, map, length, Bool, true, false, refl, ap, ◌∙◌, arith, nat_lt, if◌then◌else◌}
+use Rattle.std.proofs.Common.{◌≡◌, ℕ, zero, suc, ◌<◌, ◌≤◌, List, [], ◌∷◌, ◌++◌, map, length, Bool, true, false, refl}
+use Rattle.std.proofs.Common.{ap, ◌∙◌, arith, nat_lt, if◌then◌else◌}
 use Rattle.std.specs.Prelude.{ℤ, pos, ◌+ℤ◌, ◌-ℤ◌, ◌*ℤ◌, neg_ℤ, nat_abs}
 use Rattle.std.specs.Int.{int_pow}
 use Rattle.std.specs.declared.cmp.Ordering.{Ordering}
@@ -8,11 +9,13 @@ use Rattle.std.specs.Ordering.{match_ordering, is_eq}
 use Rattle.std.proofs.lemmas.Int.{ints}
 use Rattle.std.proofs.lemmas.Map.Lookups.{exact_bytes}
 use Rattle.std.proofs.lemmas.List.{get_or_append_left}
-use Rattle.int_laws.specs.NormalForm.{is_zero}
-use Rattle.model.specs.Terms.{Term, Literal, Variable, Negation, Addition, Subtraction, Multiplication, Exponentiation, value}
+use Rattle.linear_forms.specs.int_laws.NormalForm.{is_zero}
+use Rattle.model.specs.Terms.{Term, Literal, Variable, Negation, Addition, Subtraction, Multiplication, Exponentiation}
+use Rattle.model.specs.Terms.{value}
 use Rattle.model.specs.Polynomials.{Monomial, Polynomial}
 use Rattle.poly_terms.specs.Checked.{ReadsBelow}
-use Rattle.poly_terms.specs.Expanding.{order, added, all_added, without_zeros, opposite, inserted, all_inserted, multiplied, products, power_of, expanded}
+use Rattle.poly_terms.specs.Expanding.{order, added, all_added, without_zeros, opposite, inserted, all_inserted}
+use Rattle.poly_terms.specs.Expanding.{multiplied, products, power_of, expanded}
 use Rattle.poly_terms.specs.Ordered.{IsBefore, IsAscending, IsBounded}
 use Rattle.poly_terms.specs.Rows.{coefficient, AreVariablesBelow, HasVariablesBelow}
 

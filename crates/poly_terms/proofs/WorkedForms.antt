@@ -1,6 +1,7 @@
 -- The worked values of expanded forms, first faults, rows and values.
 use Rattle.std.proofs.Common.{refl, arith}
-use Rattle.poly_terms.specs.WorkedForms.{FormsAreExpanded, OrderIsKept, LimitsAreKept, FaultsComeInOrder, RowsAndValues, FormsAreWorkedOut}
+use Rattle.poly_terms.specs.WorkedForms.{FormsAreExpanded, OrderIsKept, LimitsAreKept, FaultsComeInOrder, RowsAndValues}
+use Rattle.poly_terms.specs.WorkedForms.{FormsAreWorkedOut}
 
 forms : FormsAreExpanded
 forms = record {

@@ -20,3 +20,7 @@ pub mod Totals
 pub mod Keys
 pub mod Distinct
 pub mod KeyForms
+-- the crates below, which callers name through this one
+pub use Rattle.model.specs as model
+pub use Rattle.linear_forms.specs.int_laws
+pub use Rattle.linear_forms.specs as linear_forms

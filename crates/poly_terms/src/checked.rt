@@ -1,4 +1,4 @@
-// Values of expressions in 128 bits.
+//! Values of expressions in 128 bits.
 
 ghost use Rattle.std.specs.Prelude.{◌≡◌, ◌++◌, ◌+◌, ◌<◌, length, pos, slice_index_or};
 ghost use Rattle.poly_terms.specs.Checked.{value_within, ReadsBelow};

@@ -1,4 +1,4 @@
-// Whether no coefficient of a sum of packed monomials is over 2^63-1: seen from all of them together, or one by one.
+//! Whether no coefficient of a sum of packed monomials is over 2^63-1: seen from all of them together, or one by one.
 
 ghost use Rattle.std.specs.Prelude.{◌≡◌, ◌<◌, ◌≤◌, [], true, false};
 ghost use Rattle.model.specs.Limits.{coefficient_limit};

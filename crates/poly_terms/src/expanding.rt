@@ -1,4 +1,4 @@
-// From an expression to its expanded polynomial.
+//! From an expression to its expanded polynomial.
 
 ghost use Rattle.std.specs.Prelude.{pos, IfOk};
 ghost use Rattle.model.specs.Terms.{Literal, Subtraction};

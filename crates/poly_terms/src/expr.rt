@@ -1,4 +1,4 @@
-// Integer expressions over numbered variables.
+//! Integer expressions over numbered variables.
 
 /// An integer expression over variables that are numbered from 0, as a program's updates and guards have them.
 ///

@@ -1,4 +1,4 @@
-// The variables of a product of monomials.
+//! The variables of a product of monomials.
 
 ghost use Rattle.std.specs.Prelude.{◌≡◌, ◌≤◌, length, IfOk, OnOk, insert};
 ghost use Rattle.poly_terms.specs.Expanding.{inserted, all_inserted};

@@ -1,4 +1,4 @@
-// Why an expression has no form of packed monomials.
+//! Why an expression has no form of packed monomials.
 
 ghost use Rattle.std.specs.Prelude.{Option};
 ghost use Rattle.poly_terms.specs.Faults.{Fault};

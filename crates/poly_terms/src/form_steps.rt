@@ -1,4 +1,4 @@
-// Forms of single steps that don't fit packed exponents: made exactly by polynomials, and packed again.
+//! Forms of single steps that don't fit packed exponents: made exactly by polynomials, and packed again.
 
 ghost use Rattle.std.specs.Prelude.{IfOk};
 ghost use Rattle.model.specs.Terms.{Term, Literal, Addition, Subtraction, Multiplication, Exponentiation};

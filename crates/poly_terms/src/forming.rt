@@ -1,5 +1,5 @@
-// From an expression to its form of packed monomials, or its first fault. A step that doesn't fit packed exponents is
-// made exactly.
+//! From an expression to its form of packed monomials, or its first fault. A step that doesn't fit packed exponents is
+//! made exactly.
 
 ghost use Rattle.std.specs.Prelude.{◌≡◌, ℕ, true, IfOk, List};
 ghost use Rattle.model.specs.Terms.{Term, Literal, Negation, Addition, Subtraction, Multiplication};

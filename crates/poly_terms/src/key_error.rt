@@ -1,4 +1,4 @@
-// Why a polynomial isn't made by packed exponents.
+//! Why a polynomial isn't made by packed exponents.
 
 ghost use Rattle.std.specs.Prelude.{◌≡◌, IfOk, IfSome, Ok};
 ghost use Rattle.poly_terms.specs.declared.key_error.KeyError.TheVariants.{Memory};

@@ -1,5 +1,5 @@
-// What stands for an expression, by packed exponents: that of a literal and of a variable, and of a negation, a sum, a
-// difference, a product or a power from what stands for the operands, where all fits.
+//! What stands for an expression, by packed exponents: that of a literal and of a variable, and of a negation, a sum, a
+//! difference, a product or a power from what stands for the operands, where all fits.
 
 ghost use Rattle.std.specs.Prelude.{◌≡◌, ◌≤◌, ◌+◌, ◌*◌, ℕ, true, IfOk, List, map};
 ghost use Rattle.model.specs.Limits.{degree_limit};

@@ -1,4 +1,4 @@
-// Powers of polynomials by packed exponents.
+//! Powers of polynomials by packed exponents.
 
 ghost use Rattle.std.specs.Prelude.{◌≡◌, true, IfOk, IfSome};
 ghost use Rattle.poly_terms.specs.Keys.{ascend_from, IsModest, IsPowerAt};

@@ -1,6 +1,6 @@
-// Products of polynomials by packed exponents. The keys of a row, the products of one monomial with each of a list in
-// ascending order, ascend as the list does: so rows are merged. Where no list ascends the result is the same, but
-// longer.
+//! Products of polynomials by packed exponents. The keys of a row, the products of one monomial with each of a list in
+//! ascending order, ascend as the list does: so rows are merged. Where no list ascends the result is the same, but
+//! longer.
 
 ghost use Rattle.std.specs.Prelude.{◌≡◌, ◌≤◌, nat_abs, ◌+ℤ◌, ◌++◌, ◌∷◌, drop, map, IfOk, IfSome, OnOk, []};
 ghost use Rattle.model.specs.Limits.{coefficient_limit};

@@ -1,4 +1,4 @@
-// Monomials with packed exponents.
+//! Monomials with packed exponents.
 
 ghost use Rattle.std.specs.Prelude.{◌≡◌, ◌<◌, ◌/◌, ◌%◌, IfOk, true};
 ghost use Rattle.poly_terms.specs.Keys.{key_sum, number_of};

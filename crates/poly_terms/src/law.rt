@@ -1,4 +1,4 @@
-// What expanding means, on examples.
+//! What expanding means, on examples.
 
 ghost use Rattle.poly_terms.specs.WorkedForms.{FormsAreWorkedOut};
 

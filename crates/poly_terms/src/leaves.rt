@@ -1,4 +1,4 @@
-// The polynomials of literals and variables.
+//! The polynomials of literals and variables.
 
 ghost use Rattle.poly_terms.specs.Expanding.{literal_form, variable_form};
 ghost use Rattle.poly_terms.specs.Faults.{fault_in};

@@ -1,5 +1,5 @@
-// Integer expressions as trees, and their expanded polynomials. Contract to the layer above: a tree `e` stands for the
-// integer `value (term_of e)` of the plain data that `term_of` reads it as, and so does what `expand` makes of it.
+//! Integer expressions as trees, and their expanded polynomials. Contract to the layer above: a tree `e` stands for the
+//! integer `value (term_of e)` of the plain data that `term_of` reads it as, and so does what `expand` makes of it.
 #![tactic(auto)]
 
 mod checked;

@@ -1,4 +1,4 @@
-// The limits of expanded forms.
+//! The limits of expanded forms.
 
 ghost use Rattle.std.specs.Prelude.{◌≡◌, ◌<◌, ◌≤◌, nat_abs, true, false};
 ghost use Rattle.model.specs.Limits.{coefficient_limit};

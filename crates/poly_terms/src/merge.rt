@@ -1,4 +1,4 @@
-// Sums of polynomials in order, by merging: in linear time.
+//! Sums of polynomials in order, by merging: in linear time.
 
 ghost use Rattle.std.specs.Prelude.{◌≡◌, ◌+◌, ◌+ℤ◌, ◌<◌, ◌≤◌, [], ◌∷◌, length, nat_abs, IfOk, IfSome, MatchOption};
 ghost use Rattle.model.specs.Limits.{coefficient_limit};

@@ -1,7 +1,7 @@
-// A list of monomials, none of which is 0.
+//! A list of monomials, none of which is 0.
 
 ghost use Rattle.std.specs.Prelude.{◌≡◌, ◌++◌, [], ◌∷◌, not, OnOk};
-ghost use Rattle.int_laws.specs.NormalForm.{is_zero};
+ghost use Rattle.linear_forms.specs.int_laws.NormalForm.{is_zero};
 ghost use Rattle.poly_terms.specs.Expanding.{without_zeros};
 ghost use Rattle.poly_terms.specs.Views.{monomial_of, monomials_of};
 

@@ -1,4 +1,4 @@
-// Monomials packed, and unpacked again.
+//! Monomials packed, and unpacked again.
 
 ghost use Rattle.std.specs.Prelude.{◌≡◌, ◌≤◌, ◌^◌, ◌++◌, nat_abs, [], replicate, IfOk, OnOk};
 ghost use Rattle.poly_terms.specs.Expanding.{sum_of};

@@ -1,4 +1,4 @@
-// Expanded polynomials, and rows of coefficients.
+//! Expanded polynomials, and rows of coefficients.
 
 /// A monomial: a coefficient, and variables in ascending order, each as often as it is a factor.
 #[derive(Debug, PartialEq, Eq, Drop)]

@@ -1,4 +1,4 @@
-// Why an expression isn't expanded.
+//! Why an expression isn't expanded.
 
 ghost use Rattle.std.specs.Prelude.{◌≡◌};
 ghost use Rattle.poly_terms.specs.declared.poly_error.PolyError.TheVariants.{Memory};

@@ -1,4 +1,4 @@
-// Powers of polynomials.
+//! Powers of polynomials.
 
 ghost use Rattle.std.specs.Prelude.{◌≡◌, IfOk};
 ghost use Rattle.poly_terms.specs.Expanding.{power_of, one};

@@ -1,4 +1,4 @@
-// Polynomials of degree at most 1 as rows.
+//! Polynomials of degree at most 1 as rows.
 
 ghost use Rattle.std.specs.Prelude.{◌≡◌, ◌≤◌, length, IfOk, IfSome, MatchOption};
 ghost use Rattle.model.specs.Polynomials.{degree_of};
@@ -21,6 +21,10 @@ impl Poly {
     }
 
     /// The row with a coefficient for each of `width` variables, or `None` exactly where the degree is at least 2.
+    ///
+    /// # Errors
+    ///
+    /// `Memory` where an allocation fails.
     pub fn linear_part(&self, alloc: Global, width: u32) -> Result<Option<Row>, Memory>
         requires ordered { IsAscending (poly_of self.now) }
         requires in_range { HasVariablesBelow width (poly_of self.now) }

@@ -1,4 +1,4 @@
-// Polynomials times an integer.
+//! Polynomials times an integer.
 
 ghost use Rattle.std.specs.Prelude.{◌≡◌, ◌<◌, ◌≤◌, [], ◌∷◌, length, map, nat_abs, slice_index_or, slice_set, IfSome};
 ghost use Rattle.model.specs.Limits.{coefficient_limit};

@@ -1,4 +1,4 @@
-// Sums of polynomials.
+//! Sums of polynomials.
 
 ghost use Rattle.std.specs.Prelude.{◌≡◌, ◌≢◌, ◌+◌, ◌<◌, ◌≤◌, ◌^◌, nat_abs, length, true, false, slice_index_or, IfOk};
 ghost use Rattle.std.specs.Prelude.{OnOk};

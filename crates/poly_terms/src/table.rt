@@ -1,4 +1,4 @@
-// The variables that packed exponents belong to, one for each digit of a key.
+//! The variables that packed exponents belong to, one for each digit of a key.
 
 ghost use Rattle.std.specs.Prelude.{◌≡◌, IfOk, true};
 ghost use Rattle.poly_terms.specs.Keys.{ascend_from};

@@ -1,13 +1,13 @@
-// Expands an expression of a shape and a size so often, as its words tell; for measuring.
+//! Expands an expression of a shape and a size so often, as its words tell; for measuring.
 #![tactic(auto)]
 
-use poly_terms::{Expr, expand};
-use std::alloc::{AllocError, Global};
+use poly_terms::{Expr, Memory, expand};
+use std::alloc::Global;
 use std::env;
 use std::process::ExitCode;
 
 // The sum of so many variables from one on.
-fn variables(alloc: Global, first: u32, count: u32) -> Result<Expr, AllocError> {
+fn variables(alloc: Global, first: u32, count: u32) -> Result<Expr, Memory> {
     let mut sum = Expr::Var(first);
     for i in 1..count {
         sum = Expr::sum(alloc, sum, Expr::Var(first.saturating_add(i)))?;
@@ -16,13 +16,13 @@ fn variables(alloc: Global, first: u32, count: u32) -> Result<Expr, AllocError> 
 }
 
 // The product of two sums of other variables.
-fn product_of_sums(alloc: Global, size: u32) -> Result<Expr, AllocError> {
+fn product_of_sums(alloc: Global, size: u32) -> Result<Expr, Memory> {
     let right = variables(alloc, size, size)?;
     Expr::product(alloc, variables(alloc, 0, size)?, right)
 }
 
 // The sum of 64 variables, multiplied by 1 so often.
-fn chain_of_products(alloc: Global, size: u32) -> Result<Expr, AllocError> {
+fn chain_of_products(alloc: Global, size: u32) -> Result<Expr, Memory> {
     let mut e = variables(alloc, 0, 64)?;
     for _ in 0..size {
         e = Expr::product(alloc, e, Expr::Num(1))?;
@@ -31,7 +31,7 @@ fn chain_of_products(alloc: Global, size: u32) -> Result<Expr, AllocError> {
 }
 
 // So many first powers of the sum of 64 variables, one in the other.
-fn chain_of_powers(alloc: Global, size: u32) -> Result<Expr, AllocError> {
+fn chain_of_powers(alloc: Global, size: u32) -> Result<Expr, Memory> {
     let mut e = variables(alloc, 0, 64)?;
     for _ in 0..size {
         e = Expr::power(alloc, e, 1)?;
@@ -40,7 +40,7 @@ fn chain_of_powers(alloc: Global, size: u32) -> Result<Expr, AllocError> {
 }
 
 // The sum of so many ones, with brackets to the right.
-fn sum_to_the_right(alloc: Global, size: u32) -> Result<Expr, AllocError> {
+fn sum_to_the_right(alloc: Global, size: u32) -> Result<Expr, Memory> {
     let mut sum = Expr::Num(0);
     for _ in 0..size {
         sum = Expr::sum(alloc, Expr::Num(1), sum)?;
@@ -49,7 +49,7 @@ fn sum_to_the_right(alloc: Global, size: u32) -> Result<Expr, AllocError> {
 }
 
 // The sum of 64 variables, and so many ones more on its right.
-fn ones_behind(alloc: Global, size: u32) -> Result<Expr, AllocError> {
+fn ones_behind(alloc: Global, size: u32) -> Result<Expr, Memory> {
     let mut e = variables(alloc, 0, 64)?;
     for _ in 0..size {
         e = Expr::sum(alloc, e, Expr::Num(1))?;
@@ -58,7 +58,7 @@ fn ones_behind(alloc: Global, size: u32) -> Result<Expr, AllocError> {
 }
 
 // The sum of 64 variables, and so many ones more on its left.
-fn ones_before(alloc: Global, size: u32) -> Result<Expr, AllocError> {
+fn ones_before(alloc: Global, size: u32) -> Result<Expr, Memory> {
     let mut e = variables(alloc, 0, 64)?;
     for _ in 0..size {
         e = Expr::sum(alloc, Expr::Num(1), e)?;
@@ -67,7 +67,7 @@ fn ones_before(alloc: Global, size: u32) -> Result<Expr, AllocError> {
 }
 
 // The sum of 64 variables, taken from 1, what is left from 1 again, and so on.
-fn taken_from_one(alloc: Global, size: u32) -> Result<Expr, AllocError> {
+fn taken_from_one(alloc: Global, size: u32) -> Result<Expr, Memory> {
     let mut e = variables(alloc, 0, 64)?;
     for _ in 0..size {
         e = Expr::difference(alloc, Expr::Num(1), e)?;
@@ -76,7 +76,7 @@ fn taken_from_one(alloc: Global, size: u32) -> Result<Expr, AllocError> {
 }
 
 // The sum of 64 variables, and so many sums of two of them more.
-fn pairs_behind(alloc: Global, size: u32) -> Result<Expr, AllocError> {
+fn pairs_behind(alloc: Global, size: u32) -> Result<Expr, Memory> {
     let mut e = variables(alloc, 0, 64)?;
     for i in 0..size {
         let pair = Expr::sum(alloc, Expr::Var(i % 32), Expr::Var(32 + i % 32))?;
@@ -86,7 +86,7 @@ fn pairs_behind(alloc: Global, size: u32) -> Result<Expr, AllocError> {
 }
 
 // The sum of 64 variables, multiplied by -1 from the left so often.
-fn products_before(alloc: Global, size: u32) -> Result<Expr, AllocError> {
+fn products_before(alloc: Global, size: u32) -> Result<Expr, Memory> {
     let mut e = variables(alloc, 0, 64)?;
     for _ in 0..size {
         e = Expr::product(alloc, Expr::Num(-1), e)?;
@@ -95,12 +95,12 @@ fn products_before(alloc: Global, size: u32) -> Result<Expr, AllocError> {
 }
 
 // The sum of so many eighth powers of a sum of three.
-fn sum_of_powers(alloc: Global, size: u32) -> Result<Expr, AllocError> {
+fn sum_of_powers(alloc: Global, size: u32) -> Result<Expr, Memory> {
     with_powers(alloc, Expr::Num(0), size)
 }
 
 // An expression and so many eighth powers of a sum of three variables.
-fn with_powers(alloc: Global, e: Expr, size: u32) -> Result<Expr, AllocError> {
+fn with_powers(alloc: Global, e: Expr, size: u32) -> Result<Expr, Memory> {
     let mut sum = e;
     for _ in 0..size {
         let power = Expr::power(alloc, variables(alloc, 0, 3)?, 8)?;
@@ -110,7 +110,7 @@ fn with_powers(alloc: Global, e: Expr, size: u32) -> Result<Expr, AllocError> {
 }
 
 // The sum of 64 variables under so many unary minuses.
-fn minuses(alloc: Global, size: u32) -> Result<Expr, AllocError> {
+fn minuses(alloc: Global, size: u32) -> Result<Expr, Memory> {
     let mut e = variables(alloc, 0, 64)?;
     for _ in 0..size {
         e = Expr::negation(alloc, e)?;
@@ -119,7 +119,7 @@ fn minuses(alloc: Global, size: u32) -> Result<Expr, AllocError> {
 }
 
 // The sum of so many products of two fourth powers of a sum of three.
-fn sum_of_products(alloc: Global, size: u32) -> Result<Expr, AllocError> {
+fn sum_of_products(alloc: Global, size: u32) -> Result<Expr, Memory> {
     let mut sum = Expr::Num(0);
     for _ in 0..size {
         let left = Expr::power(alloc, variables(alloc, 0, 3)?, 4)?;
@@ -130,7 +130,7 @@ fn sum_of_products(alloc: Global, size: u32) -> Result<Expr, AllocError> {
 }
 
 // The sum of 40 variables, and so many eighth powers of a sum of two others.
-fn powers_behind(alloc: Global, size: u32) -> Result<Expr, AllocError> {
+fn powers_behind(alloc: Global, size: u32) -> Result<Expr, Memory> {
     let mut sum = variables(alloc, 0, 40)?;
     for _ in 0..size {
         let power = Expr::power(alloc, variables(alloc, 40, 2)?, 8)?;
@@ -140,7 +140,7 @@ fn powers_behind(alloc: Global, size: u32) -> Result<Expr, AllocError> {
 }
 
 // The product of two products of two sums of so many variables, all different.
-fn product_of_products(alloc: Global, size: u32) -> Result<Expr, AllocError> {
+fn product_of_products(alloc: Global, size: u32) -> Result<Expr, Memory> {
     let left = product_of_sums(alloc, size)?;
     let third = variables(alloc, size.saturating_mul(2), size)?;
     let fourth = variables(alloc, size.saturating_mul(3), size)?;
@@ -148,31 +148,31 @@ fn product_of_products(alloc: Global, size: u32) -> Result<Expr, AllocError> {
 }
 
 // A sum of 40 variables less itself, and so many eighth powers of a sum of three others.
-fn powers_beside_nothing(alloc: Global, size: u32) -> Result<Expr, AllocError> {
+fn powers_beside_nothing(alloc: Global, size: u32) -> Result<Expr, Memory> {
     let nothing = Expr::difference(alloc, variables(alloc, 3, 40)?, variables(alloc, 3, 40)?)?;
     with_powers(alloc, nothing, size)
 }
 
 // So many eighth powers of a sum of three variables, and a coefficient of 2^63-1.
-fn powers_and_large(alloc: Global, size: u32) -> Result<Expr, AllocError> {
+fn powers_and_large(alloc: Global, size: u32) -> Result<Expr, Memory> {
     let large = large(alloc)?;
     Expr::sum(alloc, sum_of_powers(alloc, size)?, large)
 }
 
 // The same the other way round.
-fn large_and_powers(alloc: Global, size: u32) -> Result<Expr, AllocError> {
+fn large_and_powers(alloc: Global, size: u32) -> Result<Expr, Memory> {
     let large = large(alloc)?;
     with_powers(alloc, large, size)
 }
 
 // A variable with a coefficient of 2^63-1.
-fn large(alloc: Global) -> Result<Expr, AllocError> {
+fn large(alloc: Global) -> Result<Expr, Memory> {
     Expr::product(alloc, Expr::Num(0x7fff_ffff_ffff_ffff), Expr::Var(3))
 }
 
 // So many eighth powers of a sum of three variables, and a product one of whose operands is an eighth power less itself
 // and a variable: its degree is 2, but 9 at first sight.
-fn powers_and_low_product(alloc: Global, size: u32) -> Result<Expr, AllocError> {
+fn powers_and_low_product(alloc: Global, size: u32) -> Result<Expr, Memory> {
     let left = Expr::power(alloc, Expr::Var(3), 8)?;
     let right = Expr::power(alloc, Expr::Var(3), 8)?;
     let nothing = Expr::difference(alloc, left, right)?;
@@ -182,13 +182,13 @@ fn powers_and_low_product(alloc: Global, size: u32) -> Result<Expr, AllocError> 
 }
 
 // So many eighth powers of a sum of three variables, and a ninth power, which is refused.
-fn powers_and_ninth(alloc: Global, size: u32) -> Result<Expr, AllocError> {
+fn powers_and_ninth(alloc: Global, size: u32) -> Result<Expr, Memory> {
     let ninth = Expr::power(alloc, Expr::Var(3), 9)?;
     Expr::sum(alloc, sum_of_powers(alloc, size)?, ninth)
 }
 
 // An eighth power of a sum with a term that is 0, whose degree is 2 at first sight, and so many eighth powers more.
-fn power_with_zero_and_powers(alloc: Global, size: u32) -> Result<Expr, AllocError> {
+fn power_with_zero_and_powers(alloc: Global, size: u32) -> Result<Expr, Memory> {
     let square = Expr::power(alloc, Expr::Var(3), 2)?;
     let zero = Expr::product(alloc, Expr::Num(0), square)?;
     let base = Expr::sum(alloc, zero, variables(alloc, 0, 3)?)?;
@@ -196,7 +196,7 @@ fn power_with_zero_and_powers(alloc: Global, size: u32) -> Result<Expr, AllocErr
 }
 
 // The same with a coefficient of 2^63-1, and then a variable more and less so many times.
-fn power_with_zero_and_variables(alloc: Global, size: u32) -> Result<Expr, AllocError> {
+fn power_with_zero_and_variables(alloc: Global, size: u32) -> Result<Expr, Memory> {
     let power = power_with_zero_and_powers(alloc, 0)?;
     let mut sum = Expr::sum(alloc, power, large(alloc)?)?;
     for i in 0..size {
@@ -208,7 +208,7 @@ fn power_with_zero_and_variables(alloc: Global, size: u32) -> Result<Expr, Alloc
 }
 
 // An eighth power of a sum of three variables, and so many times 0 times another one more.
-fn power_and_zeros(alloc: Global, size: u32) -> Result<Expr, AllocError> {
+fn power_and_zeros(alloc: Global, size: u32) -> Result<Expr, Memory> {
     let mut sum = Expr::power(alloc, variables(alloc, 0, 3)?, 8)?;
     for _ in 0..size {
         let power = Expr::power(alloc, variables(alloc, 3, 3)?, 8)?;
@@ -218,7 +218,7 @@ fn power_and_zeros(alloc: Global, size: u32) -> Result<Expr, AllocError> {
 }
 
 // An eighth power of a sum of three variables, so many times multiplied by a 1 that has a variable at first sight.
-fn power_times_ones(alloc: Global, size: u32) -> Result<Expr, AllocError> {
+fn power_times_ones(alloc: Global, size: u32) -> Result<Expr, Memory> {
     let mut whole = Expr::power(alloc, variables(alloc, 61, 3)?, 8)?;
     for i in 0..size {
         let sum = Expr::sum(alloc, Expr::Num(1), Expr::Var(i % 61))?;
@@ -229,7 +229,7 @@ fn power_times_ones(alloc: Global, size: u32) -> Result<Expr, AllocError> {
 }
 
 // So many products of 17 by 17 monomials, of which 48 differ.
-fn sum_of_long_products(alloc: Global, size: u32) -> Result<Expr, AllocError> {
+fn sum_of_long_products(alloc: Global, size: u32) -> Result<Expr, Memory> {
     let mut sum = Expr::Num(0);
     for _ in 0..size {
         let left = Expr::power(alloc, variables(alloc, 0, 3)?, 4)?;
@@ -242,7 +242,7 @@ fn sum_of_long_products(alloc: Global, size: u32) -> Result<Expr, AllocError> {
 }
 
 // So many products of fourth powers with coefficients that pass 64 bits on the way, with alternating signs.
-fn sum_of_wide_products(alloc: Global, size: u32) -> Result<Expr, AllocError> {
+fn sum_of_wide_products(alloc: Global, size: u32) -> Result<Expr, Memory> {
     let mut sum = Expr::Num(0);
     for i in 0..size {
         let left = Expr::power(alloc, variables(alloc, 0, 3)?, 4)?;
@@ -260,7 +260,7 @@ fn sum_of_wide_products(alloc: Global, size: u32) -> Result<Expr, AllocError> {
 }
 
 // An expression of a shape and a size.
-fn shaped(alloc: Global, shape: u32, size: u32) -> Result<Expr, AllocError> {
+fn shaped(alloc: Global, shape: u32, size: u32) -> Result<Expr, Memory> {
     match shape {
         0 => product_of_sums(alloc, size),
         1 => Expr::power(alloc, variables(alloc, 0, 3)?, size),

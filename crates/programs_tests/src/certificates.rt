@@ -1,4 +1,4 @@
-// Certificates and points on rows, also at the limits of numbers.
+//! Certificates and points on rows, also at the limits of numbers.
 
 ghost use Rattle.std.specs.Prelude.{All, IsTrue, map};
 ghost use Rattle.poly_terms.specs.Views.{form_of};
@@ -7,13 +7,14 @@ ghost use Rattle.farkas_cert.specs.Sizes.{AreWithinLimit, AreParts, AreRowNumber
 use crate::wrong::note_unless;
 use farkas_cert::{LIMIT, Scaled, empty, implies, on_rows};
 use linear_forms::POINT_LIMIT;
+use model::Memory;
 use poly_terms::Row;
-use std::alloc::{AllocError, Global};
+use std::alloc::Global;
 
 const LARGEST: i128 = 9_223_372_036_854_775_807;
 
 // Rows of a coefficient and a constant.
-fn rows_of(alloc: Global, parts: &[(i128, i128)]) -> Result<Vec<Row>, AllocError> {
+fn rows_of(alloc: Global, parts: &[(i128, i128)]) -> Result<Vec<Row>, Memory> {
     let mut rows = Vec::new(alloc);
     for (coef, constant) in parts {
         let mut coefs = Vec::new(alloc);
@@ -27,7 +28,7 @@ fn rows_of(alloc: Global, parts: &[(i128, i128)]) -> Result<Vec<Row>, AllocError
 }
 
 // Rows of coefficients and a constant.
-fn rows_of_several(alloc: Global, parts: &[(&[i128], i128)]) -> Result<Vec<Row>, AllocError> {
+fn rows_of_several(alloc: Global, parts: &[(&[i128], i128)]) -> Result<Vec<Row>, Memory> {
     let mut rows = Vec::new(alloc);
     for (coefs, constant) in parts {
         rows.push(Row {
@@ -103,7 +104,7 @@ fn follows_in_one(
     rows: &[(i128, i128)],
     multipliers: &[u64],
     goal: (i128, i128),
-) -> Result<Option<bool>, AllocError> {
+) -> Result<Option<bool>, Memory> {
     let rows = rows_of(alloc, rows)?;
     let mut coefs = Vec::new(alloc);
     coefs.push(goal.0)?;
@@ -120,7 +121,7 @@ fn follows_in_several(
     rows: &[(&[i128], i128)],
     multipliers: &[u64],
     goal: (&[i128], i128),
-) -> Result<Option<bool>, AllocError> {
+) -> Result<Option<bool>, Memory> {
     let rows = rows_of_several(alloc, rows)?;
     let goal = Row {
         coefs: goal.0.to_vec(alloc)?,
@@ -134,7 +135,7 @@ fn contradict(
     alloc: Global,
     rows: &[(i128, i128)],
     multipliers: &[u64],
-) -> Result<Option<bool>, AllocError> {
+) -> Result<Option<bool>, Memory> {
     let rows = rows_of(alloc, rows)?;
     if are_small(&rows) && are_multipliers(multipliers) {
         Ok(Some(empty(&rows, multipliers)))
@@ -161,7 +162,7 @@ fn stands(
     rows: &[(i128, i128)],
     part: i64,
     den: u64,
-) -> Result<Option<bool>, AllocError> {
+) -> Result<Option<bool>, Memory> {
     let rows = rows_of(alloc, rows)?;
     let mut parts = Vec::new(alloc);
     parts.push(part)?;
@@ -200,7 +201,7 @@ const GOALS: &[(&[(i128, i128)], &[u64], (i128, i128), Option<bool>)] = &[
     (&[(LARGEST + 1, 0)], &[1], (0, 0), None),
 ];
 
-fn check_goals(alloc: Global, wrong: &mut String) -> Result<(), AllocError> {
+fn check_goals(alloc: Global, wrong: &mut String) -> Result<(), Memory> {
     for (i, (rows, multipliers, goal, want)) in GOALS.iter().enumerate() {
         let found = follows_in_one(alloc, rows, multipliers, *goal)?;
         note_unless(alloc, wrong, found == *want, "goal", i)?;
@@ -230,7 +231,7 @@ const GOALS_IN_SEVERAL: &[(&[(&[i128], i128)], &[u64], (&[i128], i128), bool)] =
     (APART, &[0, 1], (&[0, 1, 0], -1), false),
 ];
 
-fn check_goals_in_several(alloc: Global, wrong: &mut String) -> Result<(), AllocError> {
+fn check_goals_in_several(alloc: Global, wrong: &mut String) -> Result<(), Memory> {
     for (i, (rows, multipliers, goal, want)) in GOALS_IN_SEVERAL.iter().enumerate() {
         let found = follows_in_several(alloc, rows, multipliers, *goal)?;
         note_unless(alloc, wrong, found == Some(*want), "goal in several", i)?;
@@ -248,7 +249,7 @@ const CONTRADICTIONS: &[(&[(i128, i128)], &[u64], Option<bool>)] = &[
     (&[], &[], Some(false)),
 ];
 
-fn check_contradictions(alloc: Global, wrong: &mut String) -> Result<(), AllocError> {
+fn check_contradictions(alloc: Global, wrong: &mut String) -> Result<(), Memory> {
     for (i, (rows, multipliers, want)) in CONTRADICTIONS.iter().enumerate() {
         let found = contradict(alloc, rows, multipliers)?;
         note_unless(alloc, wrong, found == *want, "contradiction", i)?;
@@ -274,7 +275,7 @@ const POINTS: &[(&[(i128, i128)], i64, u64, Option<bool>)] = &[
     (&[(1, 0)], 35_184_372_088_833, 1, None),
 ];
 
-fn check_points(alloc: Global, wrong: &mut String) -> Result<(), AllocError> {
+fn check_points(alloc: Global, wrong: &mut String) -> Result<(), Memory> {
     for (i, (rows, part, den, want)) in POINTS.iter().enumerate() {
         let found = stands(alloc, rows, *part, *den)?;
         note_unless(alloc, wrong, found == *want, "point", i)?;
@@ -283,7 +284,7 @@ fn check_points(alloc: Global, wrong: &mut String) -> Result<(), AllocError> {
 }
 
 /// Notes what is wrong in the tables of this module.
-pub(crate) fn check(alloc: Global, wrong: &mut String) -> Result<(), AllocError> {
+pub(crate) fn check(alloc: Global, wrong: &mut String) -> Result<(), Memory> {
     check_goals(alloc, wrong)?;
     check_goals_in_several(alloc, wrong)?;
     check_contradictions(alloc, wrong)?;

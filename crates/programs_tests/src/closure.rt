@@ -3,7 +3,8 @@
 
 ghost use Rattle.std.specs.Prelude.{◌<◌, ◌≤◌};
 
-use std::alloc::{AllocError, Global};
+use model::Memory;
+use std::alloc::Global;
 
 /// How many nodes small graphs have at most.
 pub(crate) const NODES: usize = 6;
@@ -35,7 +36,7 @@ pub(crate) fn closure(graph: u64) -> [[bool; NODES]; NODES] {
 }
 
 /// The edges between the first nodes, in order.
-pub(crate) fn edges(alloc: Global, graph: u64, nodes: usize) -> Result<Vec<(u32, u32)>, AllocError>
+pub(crate) fn edges(alloc: Global, graph: u64, nodes: usize) -> Result<Vec<(u32, u32)>, Memory>
     requires { nodes ≤ 6 }
 {
     let mut edges = Vec::new(alloc);

@@ -6,7 +6,8 @@ ghost use Rattle.std.specs.Prelude.{◌<◌, ◌≤◌, All, IsTrue};
 use crate::closure::{NODES, closure, edges, graph_of_three, next_random, random_graph};
 use crate::wrong::note_unless;
 use its_graph::components;
-use std::alloc::{AllocError, Global};
+use model::Memory;
+use std::alloc::Global;
 
 // Whether the edges are between nodes below the number.
 fn are_within(nodes: u32, edges: &[(u32, u32)]) -> bool
@@ -25,7 +26,7 @@ fn listed(
     alloc: Global,
     nodes: u32,
     edges: &[(u32, u32)],
-) -> Result<Option<Vec<Vec<u32>>>, AllocError> {
+) -> Result<Option<Vec<Vec<u32>>>, Memory> {
     if are_within(nodes, edges) {
         Ok(Some(components(alloc, nodes, edges)?))
     } else {
@@ -34,7 +35,7 @@ fn listed(
 }
 
 // A component as text, as in ` 1 2;`.
-fn push_component(alloc: Global, text: &mut String, component: &[u32]) -> Result<(), AllocError> {
+fn push_component(alloc: Global, text: &mut String, component: &[u32]) -> Result<(), Memory> {
     for node in component {
         let number = format!(in alloc; " {node}")?;
         text.push_str(number.as_str())?;
@@ -43,7 +44,7 @@ fn push_component(alloc: Global, text: &mut String, component: &[u32]) -> Result
 }
 
 // The components as text, as in ` 0; 1 2;`.
-fn text(alloc: Global, nodes: u32, edges: &[(u32, u32)]) -> Result<String, AllocError> {
+fn text(alloc: Global, nodes: u32, edges: &[(u32, u32)]) -> Result<String, Memory> {
     let mut text = String::new(alloc);
     match listed(alloc, nodes, edges)? {
         Some(found) => {
@@ -76,7 +77,7 @@ const SMALL: &[(u32, &[(u32, u32)], &str)] = &[
     (2, &[(0, 2)], "out of range"),
 ];
 
-fn check_small(alloc: Global, wrong: &mut String) -> Result<(), AllocError> {
+fn check_small(alloc: Global, wrong: &mut String) -> Result<(), Memory> {
     for (i, (nodes, edges, want)) in SMALL.iter().enumerate() {
         let found = text(alloc, *nodes, edges)?;
         note_unless(alloc, wrong, found.as_str() == *want, "small", i)?;
@@ -117,7 +118,7 @@ fn component_of(
     alloc: Global,
     leads: &[[bool; NODES]; NODES],
     node: usize,
-) -> Result<Vec<u32>, AllocError>
+) -> Result<Vec<u32>, Memory>
     requires { node < 6 }
 {
     let mut component = Vec::new(alloc);
@@ -142,7 +143,7 @@ fn with_component(is_listed: &[bool; NODES], component: &[u32]) -> [bool; NODES]
 
 // The components of the first nodes of a graph by its closure, slowly: the component of the least node that may come
 // next, again and again.
-fn slow_text(alloc: Global, graph: u64, nodes: usize) -> Result<String, AllocError>
+fn slow_text(alloc: Global, graph: u64, nodes: usize) -> Result<String, Memory>
     requires { nodes ≤ 6 }
 {
     let leads = closure(graph);
@@ -160,7 +161,7 @@ fn slow_text(alloc: Global, graph: u64, nodes: usize) -> Result<String, AllocErr
 }
 
 // Whether the components between the first nodes of a graph are those of its closure.
-fn has_closed_components(alloc: Global, graph: u64, nodes: usize) -> Result<bool, AllocError>
+fn has_closed_components(alloc: Global, graph: u64, nodes: usize) -> Result<bool, Memory>
     requires { nodes ≤ 6 }
 {
     let found = text(alloc, nodes as u32, &edges(alloc, graph, nodes)?)?;
@@ -168,7 +169,7 @@ fn has_closed_components(alloc: Global, graph: u64, nodes: usize) -> Result<bool
     Ok(found.as_str() == want.as_str())
 }
 
-fn check_graphs_of_three(alloc: Global, wrong: &mut String) -> Result<(), AllocError> {
+fn check_graphs_of_three(alloc: Global, wrong: &mut String) -> Result<(), Memory> {
     for bits in 0..512u16 {
         let right = has_closed_components(alloc, graph_of_three(bits as u64), 3)?;
         note_unless(alloc, wrong, right, "of three", bits as usize)?;
@@ -176,7 +177,7 @@ fn check_graphs_of_three(alloc: Global, wrong: &mut String) -> Result<(), AllocE
     Ok(())
 }
 
-fn check_random_graphs(alloc: Global, wrong: &mut String) -> Result<(), AllocError> {
+fn check_random_graphs(alloc: Global, wrong: &mut String) -> Result<(), Memory> {
     let mut state: u64 = 88172645463325252;
     for round in 0..400u32 {
         state = next_random(state);
@@ -187,7 +188,7 @@ fn check_random_graphs(alloc: Global, wrong: &mut String) -> Result<(), AllocErr
 }
 
 // A path through this many nodes, from the last to the first.
-fn path(alloc: Global, nodes: u32) -> Result<Vec<(u32, u32)>, AllocError> {
+fn path(alloc: Global, nodes: u32) -> Result<Vec<(u32, u32)>, Memory> {
     let mut edges = Vec::new(alloc);
     for node in 1..nodes {
         edges.push((node, node - 1))?;
@@ -208,7 +209,7 @@ fn are_alone_backwards(components: &[Vec<u32>], last: u32) -> bool {
 }
 
 // A path of 32,000 nodes has each node alone, from its beginning on.
-fn check_path(alloc: Global, wrong: &mut String) -> Result<(), AllocError> {
+fn check_path(alloc: Global, wrong: &mut String) -> Result<(), Memory> {
     let right = match listed(alloc, 32000, &path(alloc, 32000)?)? {
         Some(found) => found.len() == 32000 && are_alone_backwards(&found, 32000),
         None => false,
@@ -217,7 +218,7 @@ fn check_path(alloc: Global, wrong: &mut String) -> Result<(), AllocError> {
 }
 
 /// Notes what is wrong in the tables of this module.
-pub(crate) fn check(alloc: Global, wrong: &mut String) -> Result<(), AllocError> {
+pub(crate) fn check(alloc: Global, wrong: &mut String) -> Result<(), Memory> {
     check_small(alloc, wrong)?;
     check_graphs_of_three(alloc, wrong)?;
     check_random_graphs(alloc, wrong)?;

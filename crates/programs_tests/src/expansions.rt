@@ -2,15 +2,16 @@
 
 use crate::trees::{reads_below, tree};
 use crate::wrong::note_unless;
+use model::Memory;
 use poly_terms::{Expr, Poly, PolyError, Row, expand};
-use std::alloc::{AllocError, Global};
+use std::alloc::Global;
 use std::test::Fail;
 
 /// A polynomial as a table writes it: each monomial's coefficient with its variables.
 pub(crate) type Written = &'static [(i128, &'static [u32])];
 
 /// The sum of this many variables, the first one numbered 0.
-pub(crate) fn variables(alloc: Global, count: u32) -> Result<Expr, AllocError> {
+pub(crate) fn variables(alloc: Global, count: u32) -> Result<Expr, Memory> {
     let mut sum = Expr::Var(0);
     for i in 1..count {
         sum = Expr::sum(alloc, sum, Expr::Var(i))?;

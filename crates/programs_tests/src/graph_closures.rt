@@ -7,7 +7,8 @@ use crate::closure::{NODES, closure, edges, graph_of_three, is_edge, next_random
 use crate::graphs::{before, program, push_number, reached, set};
 use crate::wrong::note_unless;
 use its_graph::has_cycle;
-use std::alloc::{AllocError, Global};
+use model::Memory;
+use std::alloc::Global;
 
 // Whether a graph of three nodes has a cycle: some node leads back to where an edge to it begins.
 fn slow_cycle(graph: u64) -> bool {
@@ -23,7 +24,7 @@ fn slow_cycle(graph: u64) -> bool {
 }
 
 // What can come just before a rule that comes from a symbol, by the definition.
-fn slow_before(alloc: Global, links: &[(u32, u32)], source: u32) -> Result<String, AllocError> {
+fn slow_before(alloc: Global, links: &[(u32, u32)], source: u32) -> Result<String, Memory> {
     let mut text = String::new(alloc);
     if source == 0 {
         push_number(alloc, &mut text, 0)?;
@@ -39,7 +40,7 @@ fn slow_before(alloc: Global, links: &[(u32, u32)], source: u32) -> Result<Strin
 }
 
 // Whether what can come just before each rule is that by the definition.
-fn are_before_right(alloc: Global, links: &[(u32, u32)]) -> Result<bool, AllocError> {
+fn are_before_right(alloc: Global, links: &[(u32, u32)]) -> Result<bool, Memory> {
     let mut rule = 0u32;
     for (source, _) in links {
         rule = rule.saturating_add(1);
@@ -77,7 +78,7 @@ fn untimed_part(graph: u64, nodes: usize, own: u32, rest: u32) -> u64
 }
 
 // Which of so many symbols 0 leads to, a 1 or a 0 for each.
-fn slow_reached(alloc: Global, graph: u64, nodes: usize) -> Result<String, AllocError>
+fn slow_reached(alloc: Global, graph: u64, nodes: usize) -> Result<String, Memory>
     requires { nodes ≤ 6 }
 {
     let leads = closure(graph);
@@ -89,7 +90,7 @@ fn slow_reached(alloc: Global, graph: u64, nodes: usize) -> Result<String, Alloc
 }
 
 // The numbers of the rules that leave this rest by 3.
-fn timed(alloc: Global, count: usize, rest: u32) -> Result<Vec<u32>, AllocError>
+fn timed(alloc: Global, count: usize, rest: u32) -> Result<Vec<u32>, Memory>
     requires { count < 2 ^ 32 }
 {
     let mut timed = Vec::new(alloc);
@@ -102,7 +103,7 @@ fn timed(alloc: Global, count: usize, rest: u32) -> Result<Vec<u32>, AllocError>
 }
 
 // Whether what is reached where those rules are cut is that by the closure of the others.
-fn is_reached_right(alloc: Global, graph: u64, nodes: usize, rest: u32) -> Result<bool, AllocError>
+fn is_reached_right(alloc: Global, graph: u64, nodes: usize, rest: u32) -> Result<bool, Memory>
     requires { nodes ≤ 6 }
 {
     let links = edges(alloc, graph, nodes)?;
@@ -120,7 +121,7 @@ fn is_reached_right(alloc: Global, graph: u64, nodes: usize, rest: u32) -> Resul
 }
 
 // A flag for the virtual entry and for each rule: whether it is untimed.
-fn flags(alloc: Global, count: usize, own: u32, rest: u32) -> Result<Vec<bool>, AllocError>
+fn flags(alloc: Global, count: usize, own: u32, rest: u32) -> Result<Vec<bool>, Memory>
     requires { count < 2 ^ 32 }
 {
     let mut flags = Vec::new(alloc);
@@ -139,7 +140,7 @@ fn slow_set(
     own: u32,
     source: usize,
     rest: u32,
-) -> Result<String, AllocError>
+) -> Result<String, Memory>
     requires nodes { nodes ≤ 6 }
     requires source { source < 6 }
 {
@@ -160,7 +161,7 @@ fn slow_set(
 }
 
 // Whether the set of each rule is that by the closure.
-fn are_sets_right(alloc: Global, graph: u64, nodes: usize, rest: u32) -> Result<bool, AllocError>
+fn are_sets_right(alloc: Global, graph: u64, nodes: usize, rest: u32) -> Result<bool, Memory>
     requires { nodes ≤ 6 }
 {
     let links = edges(alloc, graph, nodes)?;
@@ -180,12 +181,12 @@ fn are_sets_right(alloc: Global, graph: u64, nodes: usize, rest: u32) -> Result<
 }
 
 // Whether a graph of three symbols is said to have a cycle where its closure has one.
-fn is_cycle_right(alloc: Global, graph: u64) -> Result<bool, AllocError> {
+fn is_cycle_right(alloc: Global, graph: u64) -> Result<bool, Memory> {
     let p = program(alloc, 3, &edges(alloc, graph, 3)?)?;
     Ok(has_cycle(alloc, &p)? == slow_cycle(graph))
 }
 
-fn check_cycles_of_three(alloc: Global, wrong: &mut String) -> Result<(), AllocError> {
+fn check_cycles_of_three(alloc: Global, wrong: &mut String) -> Result<(), Memory> {
     for bits in 0..512u16 {
         let right = is_cycle_right(alloc, graph_of_three(bits as u64))?;
         note_unless(alloc, wrong, right, "cycle of three", bits as usize)?;
@@ -194,13 +195,13 @@ fn check_cycles_of_three(alloc: Global, wrong: &mut String) -> Result<(), AllocE
 }
 
 // Whether what is reached and the sets are right where the rules that leave this rest by 3 are cut and timed.
-fn is_right(alloc: Global, graph: u64, nodes: usize, rest: u32) -> Result<bool, AllocError>
+fn is_right(alloc: Global, graph: u64, nodes: usize, rest: u32) -> Result<bool, Memory>
     requires { nodes ≤ 6 }
 {
     Ok(is_reached_right(alloc, graph, nodes, rest)? && are_sets_right(alloc, graph, nodes, rest)?)
 }
 
-fn check_graphs_of_three(alloc: Global, wrong: &mut String) -> Result<(), AllocError> {
+fn check_graphs_of_three(alloc: Global, wrong: &mut String) -> Result<(), Memory> {
     for bits in 0..512u16 {
         for rest in 0..4u32 {
             let right = is_right(alloc, graph_of_three(bits as u64), 3, rest)?;
@@ -210,7 +211,7 @@ fn check_graphs_of_three(alloc: Global, wrong: &mut String) -> Result<(), AllocE
     Ok(())
 }
 
-fn check_random_graphs(alloc: Global, wrong: &mut String) -> Result<(), AllocError> {
+fn check_random_graphs(alloc: Global, wrong: &mut String) -> Result<(), Memory> {
     let mut state: u64 = 88172645463325252;
     for round in 0..200u32 {
         state = next_random(state);
@@ -224,7 +225,7 @@ fn check_random_graphs(alloc: Global, wrong: &mut String) -> Result<(), AllocErr
 }
 
 /// Notes what is wrong in the tables of this module.
-pub(crate) fn check(alloc: Global, wrong: &mut String) -> Result<(), AllocError> {
+pub(crate) fn check(alloc: Global, wrong: &mut String) -> Result<(), Memory> {
     check_cycles_of_three(alloc, wrong)?;
     check_graphs_of_three(alloc, wrong)?;
     check_random_graphs(alloc, wrong)

@@ -5,10 +5,11 @@ use crate::trying::symbol;
 use crate::wrong::note_unless;
 use its_graph::{Graph, has_cycle};
 use its_model::{Program, Rule, Symbol};
-use std::alloc::{AllocError, Global};
+use model::Memory;
+use std::alloc::Global;
 
 // So many symbols without places.
-fn symbols(alloc: Global, count: u32) -> Result<Vec<Symbol>, AllocError> {
+fn symbols(alloc: Global, count: u32) -> Result<Vec<Symbol>, Memory> {
     let mut symbols = Vec::new(alloc);
     for _ in 0..count {
         symbols.push(symbol(alloc, b's', 0)?)?;
@@ -26,11 +27,7 @@ pub(crate) fn nodes_of(edges: &[(u32, u32)]) -> u32 {
 }
 
 /// A program with so many symbols and a rule for each edge, which starts at symbol 0.
-pub(crate) fn program(
-    alloc: Global,
-    nodes: u32,
-    edges: &[(u32, u32)],
-) -> Result<Program, AllocError> {
+pub(crate) fn program(alloc: Global, nodes: u32, edges: &[(u32, u32)]) -> Result<Program, Memory> {
     let mut rules = Vec::new(alloc);
     for (source, target) in edges {
         rules.push(Rule {
@@ -52,13 +49,13 @@ pub(crate) fn program(
 }
 
 /// A number more in a list as text, a blank before it.
-pub(crate) fn push_number(alloc: Global, text: &mut String, number: u32) -> Result<(), AllocError> {
+pub(crate) fn push_number(alloc: Global, text: &mut String, number: u32) -> Result<(), Memory> {
     let digits = format!(in alloc; " {number}")?;
     text.push_str(digits.as_str())
 }
 
 // The numbers of a list with a blank before each.
-fn numbers(alloc: Global, list: &[u32]) -> Result<String, AllocError> {
+fn numbers(alloc: Global, list: &[u32]) -> Result<String, Memory> {
     let mut text = String::new(alloc);
     for number in list {
         push_number(alloc, &mut text, *number)?;
@@ -67,7 +64,7 @@ fn numbers(alloc: Global, list: &[u32]) -> Result<String, AllocError> {
 }
 
 /// What can come just before a rule, where there is one of that number.
-pub(crate) fn before(alloc: Global, edges: &[(u32, u32)], rule: u32) -> Result<String, AllocError> {
+pub(crate) fn before(alloc: Global, edges: &[(u32, u32)], rule: u32) -> Result<String, Memory> {
     let p = program(alloc, nodes_of(edges), edges)?;
     if p.rules.len() < 1 << 32 {
         let graph = Graph::new(alloc, &p)?;
@@ -84,7 +81,7 @@ pub(crate) fn set(
     edges: &[(u32, u32)],
     untimed: &[bool],
     rule: u32,
-) -> Result<String, AllocError> {
+) -> Result<String, Memory> {
     let p = program(alloc, nodes_of(edges), edges)?;
     if p.rules.len() < 1 << 32 {
         let graph = Graph::new(alloc, &p)?;
@@ -101,7 +98,7 @@ pub(crate) fn set(
 }
 
 // The name of the component that each rule stays in, and a dash for none, where the flags are those of a graph.
-fn parts(alloc: Global, edges: &[(u32, u32)], untimed: &[bool]) -> Result<String, AllocError> {
+fn parts(alloc: Global, edges: &[(u32, u32)], untimed: &[bool]) -> Result<String, Memory> {
     let mut text = String::new(alloc);
     let p = program(alloc, nodes_of(edges), edges)?;
     if p.rules.len() < 1 << 32 {
@@ -124,7 +121,7 @@ pub(crate) fn reached(
     nodes: u32,
     edges: &[(u32, u32)],
     cut: &[u32],
-) -> Result<String, AllocError> {
+) -> Result<String, Memory> {
     let mut text = String::new(alloc);
     let p = program(alloc, nodes, edges)?;
     if p.rules.len() < 1 << 32 {
@@ -152,7 +149,7 @@ const CYCLES: &[(&[(u32, u32)], bool)] = &[
     (&[(1, 0), (2, 0), (3, 1), (3, 2), (0, 3)], true),
 ];
 
-fn check_cycles(alloc: Global, wrong: &mut String) -> Result<(), AllocError> {
+fn check_cycles(alloc: Global, wrong: &mut String) -> Result<(), Memory> {
     for (i, (edges, want)) in CYCLES.iter().enumerate() {
         let found = has_cycle(alloc, &program(alloc, nodes_of(edges), edges)?)?;
         note_unless(alloc, wrong, found == *want, "cycle", i)?;
@@ -171,7 +168,7 @@ const BEFORE: &[(&[(u32, u32)], u32, &str)] = &[
     (NESTED, 5, "no rule"),
 ];
 
-fn check_before(alloc: Global, wrong: &mut String) -> Result<(), AllocError> {
+fn check_before(alloc: Global, wrong: &mut String) -> Result<(), Memory> {
     for (i, (edges, rule, want)) in BEFORE.iter().enumerate() {
         let found = before(alloc, edges, *rule)?;
         note_unless(alloc, wrong, found.as_str() == *want, "before", i)?;
@@ -189,7 +186,7 @@ const SETS: &[(&[(u32, u32)], &[bool], u32, &str)] = &[
     (NESTED, &[false, true, true, true, false], 4, "no flags"),
 ];
 
-fn check_sets(alloc: Global, wrong: &mut String) -> Result<(), AllocError> {
+fn check_sets(alloc: Global, wrong: &mut String) -> Result<(), Memory> {
     for (i, (edges, untimed, rule, want)) in SETS.iter().enumerate() {
         let found = set(alloc, edges, untimed, *rule)?;
         note_unless(alloc, wrong, found.as_str() == *want, "set", i)?;
@@ -211,7 +208,7 @@ const PARTS: &[(&[(u32, u32)], &[bool], &str)] = &[
     (&[], &[false], " -"),
 ];
 
-fn check_parts(alloc: Global, wrong: &mut String) -> Result<(), AllocError> {
+fn check_parts(alloc: Global, wrong: &mut String) -> Result<(), Memory> {
     for (i, (edges, untimed, want)) in PARTS.iter().enumerate() {
         let found = parts(alloc, edges, untimed)?;
         note_unless(alloc, wrong, found.as_str() == *want, "part", i)?;
@@ -232,7 +229,7 @@ const REACHED: &[(&[(u32, u32)], &[u32], &str)] = &[
     (NESTED, &[0, 3, 4], "111"),
 ];
 
-fn check_reached(alloc: Global, wrong: &mut String) -> Result<(), AllocError> {
+fn check_reached(alloc: Global, wrong: &mut String) -> Result<(), Memory> {
     for (i, (edges, cut, want)) in REACHED.iter().enumerate() {
         let found = reached(alloc, want.len() as u32, edges, cut)?;
         note_unless(alloc, wrong, found.as_str() == *want, "reached", i)?;
@@ -241,7 +238,7 @@ fn check_reached(alloc: Global, wrong: &mut String) -> Result<(), AllocError> {
 }
 
 /// Notes what is wrong in the tables of this module.
-pub(crate) fn check(alloc: Global, wrong: &mut String) -> Result<(), AllocError> {
+pub(crate) fn check(alloc: Global, wrong: &mut String) -> Result<(), Memory> {
     check_cycles(alloc, wrong)?;
     check_before(alloc, wrong)?;
     check_sets(alloc, wrong)?;

@@ -1,5 +1,5 @@
-// Tests of programs and their steps, polynomials, rows, graphs and certificates by public calls alone, a
-// module for each subject.
+//! Tests of programs and their steps, polynomials, rows, graphs and certificates by public calls alone, a
+//! module for each subject.
 #![tactic(auto)]
 
 #[cfg(test)]

@@ -1,4 +1,4 @@
-// The rows and the new values of rules, worked out by hand. The rules have one left variable, A, and one free one, C.
+//! The rows and the new values of rules, worked out by hand. The rules have one left variable, A, and one free one, C.
 
 ghost use Rattle.std.specs.Prelude.{◌≡◌, true};
 ghost use Rattle.its_model.specs.Views.{rule_of};
@@ -11,8 +11,9 @@ use Part::{Is, True};
 use Rel::{Eq, Ge, Gt, Le, Lt};
 use guard_prep::{RuleRows, rows};
 use its_model::{Atom, Rel, Rule};
+use model::Memory;
 use poly_terms::{Expr, Poly, Row};
-use std::alloc::{AllocError, Global};
+use std::alloc::Global;
 
 /// The maximum of a number, 2^63-1.
 const MOST: i128 = 0x7fff_ffff_ffff_ffff;
@@ -28,7 +29,7 @@ enum Part {
 }
 
 // The expression with these numbers: a constant, then the coefficients of A, of C and of A*A.
-fn expression(alloc: Global, numbers: &[i128]) -> Result<Expr, AllocError> {
+fn expression(alloc: Global, numbers: &[i128]) -> Result<Expr, Memory> {
     let square = Expr::product(alloc, Expr::Var(0), Expr::Var(0))?;
     let mut units = vec![in alloc; square, Expr::Var(1), Expr::Var(0), Expr::Num(1)]?;
     let mut sum = Expr::Num(0);
@@ -42,7 +43,7 @@ fn expression(alloc: Global, numbers: &[i128]) -> Result<Expr, AllocError> {
 }
 
 // The rule with these updates and this guard.
-fn rule(alloc: Global, updates: &[&[i128]], guard: &[Part]) -> Result<Rule, AllocError> {
+fn rule(alloc: Global, updates: &[&[i128]], guard: &[Part]) -> Result<Rule, Memory> {
     let mut values = Vec::new(alloc);
     for numbers in updates {
         values.push(expression(alloc, numbers)?)?;
@@ -70,7 +71,7 @@ fn rule(alloc: Global, updates: &[&[i128]], guard: &[Part]) -> Result<Rule, Allo
 }
 
 // A form over unknowns, written as its constant, then its coefficients.
-fn form(alloc: Global, numbers: &[i128]) -> Result<Row, AllocError> {
+fn form(alloc: Global, numbers: &[i128]) -> Result<Row, Memory> {
     match numbers.split_first() {
         Some((constant, coefs)) => Ok(Row {
             coefs: coefs.to_vec(alloc)?,
@@ -84,7 +85,7 @@ fn form(alloc: Global, numbers: &[i128]) -> Result<Row, AllocError> {
 }
 
 // Forms over unknowns.
-fn forms(alloc: Global, written: &[&[i128]]) -> Result<Vec<Row>, AllocError> {
+fn forms(alloc: Global, written: &[&[i128]]) -> Result<Vec<Row>, Memory> {
     let mut forms = Vec::new(alloc);
     for numbers in written {
         forms.push(form(alloc, numbers)?)?;
@@ -93,7 +94,7 @@ fn forms(alloc: Global, written: &[&[i128]]) -> Result<Vec<Row>, AllocError> {
 }
 
 // Forms over A and C.
-fn forms_in_two(alloc: Global, written: &[[i128; 3]]) -> Result<Vec<Row>, AllocError> {
+fn forms_in_two(alloc: Global, written: &[[i128; 3]]) -> Result<Vec<Row>, Memory> {
     let mut forms = Vec::new(alloc);
     for numbers in written {
         forms.push(form(alloc, numbers)?)?;
@@ -117,7 +118,7 @@ fn is_preparable(alloc: Global, r: &Rule) -> bool
 }
 
 // What is prepared of a rule, or none where it has no rows.
-fn prepared(alloc: Global, r: &Rule) -> Result<Option<RuleRows>, AllocError> {
+fn prepared(alloc: Global, r: &Rule) -> Result<Option<RuleRows>, Memory> {
     if is_preparable(alloc, r) {
         Ok(Some(rows(alloc, r)?))
     } else {
@@ -279,14 +280,14 @@ const GUARDS: &[(&str, &[Part], &[[i128; 3]])] = &[
 ];
 
 // Whether a guard has these rows.
-fn has_rows(alloc: Global, guard: &[Part], wanted: &[[i128; 3]]) -> Result<bool, AllocError> {
+fn has_rows(alloc: Global, guard: &[Part], wanted: &[[i128; 3]]) -> Result<bool, Memory> {
     match prepared(alloc, &rule(alloc, &[], guard)?)? {
         Some(found) => Ok(found.left == 1 && found.rows == forms_in_two(alloc, wanted)?),
         None => Ok(false),
     }
 }
 
-fn check_guards(alloc: Global, wrong: &mut String) -> Result<(), AllocError> {
+fn check_guards(alloc: Global, wrong: &mut String) -> Result<(), Memory> {
     for (i, (text, guard, wanted)) in GUARDS.iter().enumerate() {
         note_unless(alloc, wrong, has_rows(alloc, guard, wanted)?, text, i)?;
     }
@@ -351,7 +352,7 @@ const CASES: &[Case] = &[
 ];
 
 // Whether what is prepared of a rule is as a table writes it.
-fn is_case(alloc: Global, found: &RuleRows, case: &Case) -> Result<bool, AllocError> {
+fn is_case(alloc: Global, found: &RuleRows, case: &Case) -> Result<bool, Memory> {
     let rows = forms(alloc, &[case.row])?;
     let news = forms(alloc, case.news)?;
     let counted = found.left == 1 && found.unknowns as usize == case.row.len().saturating_sub(1);
@@ -364,7 +365,7 @@ fn is_case(alloc: Global, found: &RuleRows, case: &Case) -> Result<bool, AllocEr
     )
 }
 
-fn check_updates(alloc: Global, wrong: &mut String) -> Result<(), AllocError> {
+fn check_updates(alloc: Global, wrong: &mut String) -> Result<(), Memory> {
     let guard = [Is([0, 1, 0, 0], Gt, [0, 0, 1, 0])];
     for (i, case) in CASES.iter().enumerate() {
         let right = match prepared(alloc, &rule(alloc, case.updates, &guard)?)? {
@@ -377,7 +378,7 @@ fn check_updates(alloc: Global, wrong: &mut String) -> Result<(), AllocError> {
 }
 
 /// Notes what is wrong in the tables of this module.
-pub(crate) fn check(alloc: Global, wrong: &mut String) -> Result<(), AllocError> {
+pub(crate) fn check(alloc: Global, wrong: &mut String) -> Result<(), Memory> {
     check_guards(alloc, wrong)?;
     check_updates(alloc, wrong)
 }

@@ -2,8 +2,9 @@
 
 use crate::expansions::variables;
 use crate::wrong::note_unless;
+use model::Memory;
 use poly_terms::{Expr, Monomial, Poly, PolyError, expand};
-use std::alloc::{AllocError, Global};
+use std::alloc::Global;
 
 // The monomials of an expanded expression, in any order, or its first fault.
 fn plain(alloc: Global, e: &Expr) -> Result<Vec<Monomial>, PolyError> {
@@ -85,7 +86,7 @@ fn product(
 }
 
 // Adds a monomial to the one with the same variables, or behind the last.
-fn add(terms: &mut Vec<Monomial>, m: Monomial) -> Result<(), AllocError> {
+fn add(terms: &mut Vec<Monomial>, m: Monomial) -> Result<(), Memory> {
     for i in 0..terms.len() {
         if terms[i].vars == m.vars {
             terms[i].coef = terms[i].coef.saturating_add(m.coef);
@@ -95,7 +96,7 @@ fn add(terms: &mut Vec<Monomial>, m: Monomial) -> Result<(), AllocError> {
     Ok(terms.push(m)?)
 }
 
-fn without_zeros(alloc: Global, p: Vec<Monomial>) -> Result<Vec<Monomial>, AllocError> {
+fn without_zeros(alloc: Global, p: Vec<Monomial>) -> Result<Vec<Monomial>, Memory> {
     let mut terms = Vec::new(alloc);
     for m in p {
         if m.coef != 0 {
@@ -178,7 +179,7 @@ fn operand(stack: &mut Vec<Expr>, seed: &mut u32) -> Expr {
 }
 
 // A tree of so many choices, from what looks like chance.
-fn any_tree(alloc: Global, seed: &mut u32, choices: u32) -> Result<Expr, AllocError> {
+fn any_tree(alloc: Global, seed: &mut u32, choices: u32) -> Result<Expr, Memory> {
     let mut stack = Vec::new(alloc);
     for _ in 0..choices {
         let e = match next(seed) % 10 {
@@ -235,7 +236,7 @@ fn tallied(tally: Tally, answer: &Result<Poly, PolyError>) -> Tally {
 }
 
 // Expands 2,000 trees.
-fn check_trees(alloc: Global, wrong: &mut String) -> Result<Tally, AllocError> {
+fn check_trees(alloc: Global, wrong: &mut String) -> Result<Tally, Memory> {
     let mut tally = Tally {
         whole: 0,
         large: 0,
@@ -258,7 +259,7 @@ fn check_trees(alloc: Global, wrong: &mut String) -> Result<Tally, AllocError> {
 }
 
 // Expands products in which so many variables stand, with monomials that cancel.
-fn check_variables(alloc: Global, wrong: &mut String) -> Result<(), AllocError> {
+fn check_variables(alloc: Global, wrong: &mut String) -> Result<(), Memory> {
     for last in 30..34u32 {
         let e = product_with_difference(alloc, variables(alloc, last.saturating_add(1))?, last)?;
         let right = is_plain(&expand(alloc, &e), &plain(alloc, &e));
@@ -273,13 +274,13 @@ fn check_variables(alloc: Global, wrong: &mut String) -> Result<(), AllocError> 
 }
 
 // A product with the difference of a variable and the first one.
-fn product_with_difference(alloc: Global, left: Expr, last: u32) -> Result<Expr, AllocError> {
+fn product_with_difference(alloc: Global, left: Expr, last: u32) -> Result<Expr, Memory> {
     let right = Expr::difference(alloc, Expr::Var(last), Expr::Var(0))?;
     Expr::product(alloc, left, right)
 }
 
 // A variable, and each one before it more and less.
-fn one_and_nothings(alloc: Global, last: u32) -> Result<Expr, AllocError> {
+fn one_and_nothings(alloc: Global, last: u32) -> Result<Expr, Memory> {
     let mut sum = Expr::Var(last);
     for v in 0..last {
         let more = Expr::sum(alloc, sum, Expr::Var(v))?;
@@ -290,7 +291,7 @@ fn one_and_nothings(alloc: Global, last: u32) -> Result<Expr, AllocError> {
 
 /// Notes which trees expand to something else than by a plain expansion, and whether an answer comes too rarely to tell
 /// something.
-pub(crate) fn check(alloc: Global, wrong: &mut String) -> Result<(), AllocError> {
+pub(crate) fn check(alloc: Global, wrong: &mut String) -> Result<(), Memory> {
     check_variables(alloc, wrong)?;
     let tally = check_trees(alloc, wrong)?;
     let often = tally.whole > 200 && tally.large > 50 && tally.other > 50;

@@ -13,12 +13,13 @@ ghost use Rattle.programs_tests.specs.Programs.{tried};
 
 use crate::trees::{are_valid_atoms, are_valid_updates};
 use its_model::{Atom, Config, Name, Program, Rule, Step, StepError, Symbol, step_checked};
+use model::Memory;
 use poly_terms::Expr;
-use std::alloc::{AllocError, Global};
+use std::alloc::Global;
 use std::test::Fail;
 
 // The name of one letter.
-fn letter(alloc: Global, byte: u8) -> Result<Name, AllocError>
+fn letter(alloc: Global, byte: u8) -> Result<Name, Memory>
     ensures { IfOk result (λ n. name_of n ≡ byte ∷ []) }
 {
     Ok(Name {
@@ -27,7 +28,7 @@ fn letter(alloc: Global, byte: u8) -> Result<Name, AllocError>
 }
 
 // The symbol of one letter.
-pub(crate) fn symbol(alloc: Global, byte: u8, arity: u32) -> Result<Symbol, AllocError>
+pub(crate) fn symbol(alloc: Global, byte: u8, arity: u32) -> Result<Symbol, Memory>
     ensures { IfOk result (λ s. symbol_of s ≡ record { name = byte ∷ []; arity = arity }) }
 {
     Ok(Symbol {
@@ -37,7 +38,7 @@ pub(crate) fn symbol(alloc: Global, byte: u8, arity: u32) -> Result<Symbol, Allo
 }
 
 // Two names.
-fn start_names(alloc: Global) -> Result<Vec<Name>, AllocError>
+fn start_names(alloc: Global) -> Result<Vec<Name>, Memory>
     ensures { IfOk result (λ ns. map name_of ns.items ≡ (65 ∷ []) ∷ (66 ∷ []) ∷ []) }
 {
     let a = letter(alloc, b'A')?;
@@ -46,7 +47,7 @@ fn start_names(alloc: Global) -> Result<Vec<Name>, AllocError>
 }
 
 // Three names.
-fn names(alloc: Global) -> Result<Vec<Name>, AllocError>
+fn names(alloc: Global) -> Result<Vec<Name>, Memory>
     ensures { IfOk result (λ ns. map name_of ns.items ≡ (65 ∷ []) ∷ (66 ∷ []) ∷ (67 ∷ []) ∷ []) }
 {
     let a = letter(alloc, b'A')?;
@@ -56,7 +57,7 @@ fn names(alloc: Global) -> Result<Vec<Name>, AllocError>
 }
 
 // The symbols l with two places, and m.
-fn symbols(alloc: Global, places: u32) -> Result<Vec<Symbol>, AllocError>
+fn symbols(alloc: Global, places: u32) -> Result<Vec<Symbol>, Memory>
     ensures { IfOk result (λ ss. map symbol_of ss.items
         ≡ record { name = 108 ∷ []; arity = 2 } ∷ record { name = 109 ∷ []; arity = places } ∷ []) }
 {
@@ -66,7 +67,7 @@ fn symbols(alloc: Global, places: u32) -> Result<Vec<Symbol>, AllocError>
 }
 
 // The program in which l(A, B) leads to m with these values where the atoms hold; C is free.
-fn program(alloc: Global, updates: Vec<Expr>, guard: Vec<Atom>) -> Result<Program, AllocError>
+fn program(alloc: Global, updates: Vec<Expr>, guard: Vec<Atom>) -> Result<Program, Memory>
     requires { length updates.items ≤ place_limit }
     ensures { IfOk result (λ p. program_of p ≡ tried (map term_of updates.items) (map atom_of guard.items)) }
 {
@@ -109,7 +110,7 @@ pub(crate) struct Outcome {
 }
 
 // Takes a step of a program, where there is room for 32 places.
-fn taken(alloc: Global, p: &Program, now: &Config, step: &Step) -> Result<Outcome, AllocError>
+fn taken(alloc: Global, p: &Program, now: &Config, step: &Step) -> Result<Outcome, Memory>
     requires valid { IsValid (program_of p.now) }
     requires places { length now.now.values.items ≡ arity_of (program_of p.now) now.now.at }
 {

@@ -3,7 +3,8 @@
 use crate::{
     certificates, components, expansions, graph_closures, graphs, rows, slow, steps, values,
 };
-use std::alloc::{AllocError, Global};
+use model::Memory;
+use std::alloc::Global;
 use std::test::Fail;
 
 /// Notes a row, by its number from 0 and the name of its table, unless it's right.
@@ -13,7 +14,7 @@ pub(crate) fn note_unless(
     right: bool,
     table: &str,
     row: usize,
-) -> Result<(), AllocError> {
+) -> Result<(), Memory> {
     if right {
         return Ok(());
     }
@@ -33,7 +34,7 @@ fn wrong_programs(alloc: Global) -> Result<String, Fail> {
 }
 
 // What is wrong with graphs.
-fn wrong_graphs(alloc: Global) -> Result<String, AllocError> {
+fn wrong_graphs(alloc: Global) -> Result<String, Memory> {
     let mut wrong = String::new(alloc);
     graphs::check(alloc, &mut wrong)?;
     graph_closures::check(alloc, &mut wrong)?;
@@ -42,7 +43,7 @@ fn wrong_graphs(alloc: Global) -> Result<String, AllocError> {
 }
 
 // What is wrong with many trees.
-fn wrong_trees(alloc: Global) -> Result<String, AllocError> {
+fn wrong_trees(alloc: Global) -> Result<String, Memory> {
     let mut wrong = String::new(alloc);
     slow::check(alloc, &mut wrong)?;
     Ok(wrong)

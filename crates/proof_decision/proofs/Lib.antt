@@ -5,7 +5,7 @@ pub mod RankTests
 pub mod SizeTests
 pub mod NumberLists
 pub mod ReachTests
-pub mod Decided
+pub mod FirstReasons
 pub mod WorkedLoops
 pub mod WorkedLemmas
 pub mod WorkedOrder

@@ -1,5 +1,6 @@
 -- What the tests of numbers decide.
-use Rattle.std.proofs.Common.{◌≡◌, ℕ, ◌<◌, ◌≤◌, Bool, true, false, not, List, [], ◌∷◌, length, refl, sym, ◌∙◌, ◌⊎◌, inl, inr, arith, nat_le, nat_lt, All}
+use Rattle.std.proofs.Common.{◌≡◌, ℕ, ◌<◌, ◌≤◌, Bool, true, false, not, List, [], ◌∷◌, length, refl, sym, ◌∙◌, ◌⊎◌, inl}
+use Rattle.std.proofs.Common.{inr, arith, nat_le, nat_lt, All}
 use Rattle.std.specs.Prelude.{ℤ, pos, negsuc, ◌≤ℤ◌, ◌+ℤ◌, ◌*ℤ◌, nat_abs, int_le}
 use Rattle.std.specs.List.{list_all, range_with_len}
 use Rattle.std.specs.Bool.{Decides}
@@ -7,21 +8,23 @@ use Rattle.std.specs.Ordering.{int_eq}
 use Rattle.std.proofs.lemmas.Int.{ints}
 use Rattle.std.proofs.Math.Nat.{le-max_left, le-max_right, le_trans}
 use Rattle.std.proofs.lemmas.Bool.{true≢false, cases_lt, leb-true, le-leb}
-use Rattle.std.proofs.lemmas.Bool.Decides.{Decides-eqb, Decides-int_eq, Decides-ltb, Decides-and, Decides-like, Decides-by_and}
+use Rattle.std.proofs.lemmas.Bool.Decides.{Decides-eqb, Decides-int_eq, Decides-ltb, Decides-and, Decides-like}
+use Rattle.std.proofs.lemmas.Bool.Decides.{Decides-by_and}
 use Rattle.std.proofs.lemmas.List.{get_or_past}
 use Rattle.std.proofs.lemmas.List.Elements.{All-from_recursion, recursion_from_All}
-use Rattle.model.specs.Entries.{is_in}
-use Rattle.model.proofs.Membership.{is_in-numbers}
-use Rattle.int_laws.proofs.RingLaws.{mul-zero_ℤ}
-use Rattle.linear_forms.specs.Forms.{Form, at}
-use Rattle.linear_forms.specs.Certificates.{combined_coef, combined_constant, Implies}
-use Rattle.linear_forms.specs.Limits.{certificate_limit}
-use Rattle.proof_nodes.specs.Numbers.{IsAscending}
-use Rattle.proof_nodes.specs.Limits.{IsInLimit, AreInLimit, IsFormInLimit}
-use Rattle.proof_nodes.specs.AcceptsPlain.{AreMultipliers}
-use Rattle.proof_nodes.specs.Setting.{Setting}
-use Rattle.proof_nodes.proofs.CheckLists.{each-in, in-each}
-use Rattle.proof_decision.specs.Numbers.{is_in_limit, are_in_limit, is_form_in_limit, are_multipliers, is_ascending, longest, implies}
+use Rattle.proof_setting.specs.model.Entries.{is_in}
+use Rattle.proof_setting.proofs.model.Membership.{is_in-numbers}
+use Rattle.proof_setting.proofs.int_laws.RingLaws.{mul-zero_ℤ}
+use Rattle.proof_setting.specs.linear_forms.Forms.{Form, at}
+use Rattle.proof_setting.specs.linear_forms.Certificates.{combined_coef, combined_constant, Implies}
+use Rattle.proof_setting.specs.linear_forms.Limits.{certificate_limit}
+use Rattle.proof_setting.specs.proof_nodes.Numbers.{IsAscending}
+use Rattle.proof_setting.specs.proof_nodes.Limits.{IsInLimit, AreInLimit, IsFormInLimit}
+use Rattle.proof_setting.specs.proof_nodes.AcceptsPlain.{AreMultipliers}
+use Rattle.proof_setting.specs.proof_nodes.Setting.{Setting}
+use Rattle.proof_setting.proofs.proof_nodes.CheckLists.{each-in, in-each}
+use Rattle.proof_decision.specs.Numbers.{is_in_limit, are_in_limit, is_form_in_limit, are_multipliers, is_ascending}
+use Rattle.proof_decision.specs.Numbers.{longest, implies}
 
 -- yes decides what holds, and no what doesn't
 pub decides-yes : {P : Type 0} → P → Decides true P

@@ -2,14 +2,17 @@
 use Rattle.std.proofs.Common.{◌≡◌, ℕ, zero, suc, ◌&&◌, Bool, List, [], ◌∷◌, length, Option, Some, None, refl, is_some}
 use Rattle.std.specs.Bool.{Decides}
 use Rattle.std.proofs.lemmas.Bool.Decides.{Decides-ltb, Decides-and, Decides-like}
-use Rattle.model.specs.Programs.{Program, Rule, rule_at, arity_of}
-use Rattle.model.specs.Bounds.{Bound, Constant, Input, SumOf, ProductOf, MaximumOf, PowerOf, Parts, NoParts, Part, EachNode, EachNodeOfAll}
-use Rattle.model.specs.Facts.{Fact, Time, Size}
-use Rattle.bound_expr.specs.Limits.{constant_limit}
-use Rattle.bound_expr.specs.Numbers.{IsInputBelow, IsTidyNumber}
-use Rattle.proof_nodes.specs.Setting.{Setting}
-use Rattle.proof_nodes.specs.AcceptsPlain.{IsRule, AcceptsCite, HasEmptyShape, IsOneTime, IsZeroTime, HasWeakenShape, IsWeaker}
-use Rattle.proof_decision.specs.Plain.{is_rule, is_earlier, is_one_time, is_zero_time, each_node, each_node_of_all, is_input_below, is_tidy_number, has_weaken_shape, is_weaker}
+use Rattle.proof_setting.specs.model.Programs.{Program, Rule, rule_at, arity_of}
+use Rattle.proof_setting.specs.model.Bounds.{Bound, Constant, Input, SumOf, ProductOf, MaximumOf, PowerOf, Parts, NoParts, Part}
+use Rattle.proof_setting.specs.model.Bounds.{EachNode, EachNodeOfAll}
+use Rattle.proof_setting.specs.model.Facts.{Fact, Time, Size}
+use Rattle.proof_setting.specs.bound_expr.Limits.{constant_limit}
+use Rattle.proof_setting.specs.bound_expr.Numbers.{IsInputBelow, IsTidyNumber}
+use Rattle.proof_setting.specs.proof_nodes.Setting.{Setting}
+use Rattle.proof_setting.specs.proof_nodes.AcceptsPlain.{IsRule, AcceptsCite, HasEmptyShape, IsOneTime, IsZeroTime, HasWeakenShape}
+use Rattle.proof_setting.specs.proof_nodes.AcceptsPlain.{IsWeaker}
+use Rattle.proof_decision.specs.Plain.{is_rule, is_earlier, is_one_time, is_zero_time, each_node, each_node_of_all}
+use Rattle.proof_decision.specs.Plain.{is_input_below, is_tidy_number, has_weaken_shape, is_weaker}
 use Rattle.proof_decision.specs.Numbers.{are_multipliers}
 use Rattle.proof_decision.proofs.NumberTests.{decides-yes, decides-no, decides-le, decides-multipliers}
 

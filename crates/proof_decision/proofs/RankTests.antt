@@ -2,25 +2,28 @@
 use Rattle.std.proofs.Common.{◌≡◌, ℕ, ◌==◌, ◌&&◌, List, [], ◌∷◌, length, map, Option, Some, None, refl, is_some}
 use Rattle.std.specs.Bool.{Decides}
 use Rattle.std.proofs.lemmas.Bool.Decides.{Decides-eqb, Decides-and, Decides-like}
-use Rattle.model.specs.Programs.{Program, arity_of}
-use Rattle.model.specs.Bounds.{Bound}
-use Rattle.model.specs.Entries.{entries}
-use Rattle.bound_expr.specs.Measure.{is_large}
-use Rattle.proof_nodes.specs.Nodes.{Spot, SymbolForm, RankNode}
-use Rattle.proof_nodes.specs.Graph.{symbols_of}
-use Rattle.proof_nodes.specs.Known.{IsKnown, Table}
-use Rattle.proof_nodes.specs.Limits.{IsSmallComposed}
-use Rattle.proof_nodes.specs.AcceptsPlain.{IsRule, AreMultipliers}
-use Rattle.proof_nodes.specs.AcceptsRank.{HasFormShape, moves_of, HasRankShape, rank_time}
-use Rattle.proof_nodes.specs.Checks.{check_time, check_size, check_small, needed_after_each, rank_checks}
-use Rattle.proof_nodes.specs.Reasons.{Check, for_each}
-use Rattle.proof_nodes.specs.Setting.{Setting}
+use Rattle.proof_setting.specs.model.Programs.{Program, arity_of}
+use Rattle.proof_setting.specs.model.Bounds.{Bound}
+use Rattle.proof_setting.specs.model.Entries.{entries}
+use Rattle.proof_setting.specs.bound_expr.Measure.{is_large}
+use Rattle.proof_setting.specs.proof_nodes.Nodes.{Spot, SymbolForm, RankNode}
+use Rattle.proof_setting.specs.proof_nodes.Graph.{symbols_of}
+use Rattle.proof_setting.specs.proof_nodes.Known.{IsKnown, Table}
+use Rattle.proof_setting.specs.proof_nodes.Limits.{IsSmallComposed}
+use Rattle.proof_setting.specs.proof_nodes.AcceptsPlain.{IsRule, AreMultipliers}
+use Rattle.proof_setting.specs.proof_nodes.AcceptsRank.{HasFormShape, moves_of, HasRankShape, rank_time}
+use Rattle.proof_setting.specs.proof_nodes.Checks.{check_time, check_size, check_small, needed_after_each, rank_checks}
+use Rattle.proof_setting.specs.proof_nodes.Reasons.{Check, for_each}
+use Rattle.proof_setting.specs.proof_nodes.Setting.{Setting}
 use Rattle.proof_decision.specs.Tests.{Test}
 use Rattle.proof_decision.specs.Numbers.{are_multipliers}
 use Rattle.proof_decision.specs.Plain.{is_rule}
-use Rattle.proof_decision.specs.Ranking.{test_time, test_size, test_small, is_small, are_same, has_form_shape, has_set_shape, has_function_shape, has_certificate_shape, rank_tests}
+use Rattle.proof_decision.specs.Ranking.{test_time, test_size, test_small, is_small, are_same, has_form_shape}
+use Rattle.proof_decision.specs.Ranking.{has_set_shape, has_function_shape, has_certificate_shape, rank_tests}
 use Rattle.proof_decision.proofs.TestLists.{AllDecide, each-decides}
-use Rattle.proof_decision.proofs.NumberTests.{decides-yes, decides-no, decides-le, decides-not, decides-all, decides-each, decides-limit, decides-form, decides-multipliers, decides-ascending, decides-implies}
+use Rattle.proof_decision.proofs.NumberTests.{decides-yes, decides-no, decides-le, decides-not, decides-all}
+use Rattle.proof_decision.proofs.NumberTests.{decides-each, decides-limit, decides-form, decides-multipliers}
+use Rattle.proof_decision.proofs.NumberTests.{decides-ascending, decides-implies}
 use Rattle.proof_decision.proofs.PlainTests.{decides-rule}
 
 -- what is known

@@ -1,17 +1,20 @@
 -- As many rounds as there are rules reach all that is reached.
-use Rattle.std.proofs.Common.{◌≡◌, ◌⊎◌, inl, inr, ℕ, zero, suc, ◌≤◌, ◌==◌, ◌&&◌, not, Bool, true, false, cond, List, [], ◌∷◌, length, filter, filter_map, Option, Some, None, refl, sym, ap, ◌∙◌, subst, arith}
+use Rattle.std.proofs.Common.{◌≡◌, ◌⊎◌, inl, inr, ℕ, zero, suc, ◌≤◌, ◌==◌, ◌&&◌, not, Bool, true, false, cond, List, []}
+use Rattle.std.proofs.Common.{◌∷◌, length, filter, filter_map, Option, Some, None, refl, sym, ap, ◌∙◌, subst, arith}
 use Rattle.std.specs.Bool.{Decides}
 use Rattle.std.specs.List.{list_any, range_with_len}
 use Rattle.std.proofs.lemmas.Bool.{and_parts, and_from, not_from_false, false_from_ne_true, or_left}
 use Rattle.std.proofs.lemmas.List.FromFn.{length-range_with_len}
-use Rattle.model.specs.Programs.{Program, Rule, rule_at}
-use Rattle.model.specs.Paths.{Here, Onward, IsReached, source_in, source_of, target_of, entry_and_rules}
-use Rattle.model.specs.Entries.{is_in}
-use Rattle.model.proofs.Membership.{same_number, no_is_not_yes, is_in-cases, is_in-filter, filter-in, list_any-from, list_any-told, rule_is_numbered}
-use Rattle.model.proofs.StepLaws.{source_of-rule, target_of-rule}
-use Rattle.proof_nodes.specs.AcceptsPlain.{IsUnreached}
+use Rattle.proof_setting.specs.model.Programs.{Program, Rule, rule_at}
+use Rattle.proof_setting.specs.model.Paths.{Here, Onward, IsReached, source_in, source_of, target_of, entry_and_rules}
+use Rattle.proof_setting.specs.model.Entries.{is_in}
+use Rattle.proof_setting.proofs.model.Membership.{same_number, no_is_not_yes, is_in-cases, is_in-filter, filter-in, list_any-from}
+use Rattle.proof_setting.proofs.model.Membership.{list_any-told, rule_is_numbered}
+use Rattle.proof_setting.proofs.model.StepLaws.{source_of-rule, target_of-rule}
+use Rattle.proof_setting.specs.proof_nodes.AcceptsPlain.{IsUnreached}
 use Rattle.proof_decision.specs.Reaching.{is_among, leaves, one_round, reached_in, is_unreached}
-use Rattle.proof_decision.proofs.NumberLists.{in-left, in-right, in-either, image-told, image-in, all-passing, passing-one_more}
+use Rattle.proof_decision.proofs.NumberLists.{in-left, in-right, in-either, image-told, image-in, all-passing}
+use Rattle.proof_decision.proofs.NumberLists.{passing-one_more}
 
 module _ (p : Program) (is_allowed : ℕ → Bool) where
   -- the symbols after so many rounds

@@ -1,25 +1,33 @@
 -- What the tests of spreads and loops decide.
-use Rattle.std.proofs.Common.{◌≡◌, ℕ, ◌≤◌, ◌==◌, ◌&&◌, ◌||◌, not, Bool, true, false, List, [], ◌∷◌, length, Option, Some, None, refl, sym, subst, nat_le, nat_lt}
+use Rattle.std.proofs.Common.{◌≡◌, ℕ, ◌≤◌, ◌==◌, ◌&&◌, ◌||◌, not, Bool, true, false, List, [], ◌∷◌, length, Option}
+use Rattle.std.proofs.Common.{Some, None, refl, sym, subst, nat_le, nat_lt}
 use Rattle.std.specs.Bool.{Decides}
 use Rattle.std.specs.List.{list_all}
 use Rattle.std.proofs.lemmas.Bool.{or_left, or_right}
 use Rattle.std.proofs.lemmas.Bool.Decides.{Decides-eqb, Decides-ltb, Decides-and, Decides-or, Decides-like}
-use Rattle.model.specs.Programs.{Program, Rule, rule_at, arity_of}
-use Rattle.model.specs.Paths.{pre}
-use Rattle.model.specs.Polynomials.{Monomial, Polynomial}
-use Rattle.model.specs.Entries.{is_in}
-use Rattle.model.proofs.Membership.{no_is_not_yes}
-use Rattle.proof_nodes.specs.Nodes.{Spot, Arm, Linear, Poly, Member}
-use Rattle.proof_nodes.specs.Known.{Table}
-use Rattle.proof_nodes.specs.Setting.{Setting}
-use Rattle.proof_nodes.specs.ComposedSizes.{poly_at, has_variable, is_member}
-use Rattle.proof_nodes.specs.AcceptsSizes.{IsSpot, HasArmShape, left_of, HasMemberShape, Side, Up, Low, ReadsLeft, AcceptsArm, IsPolynomialUpdate, ComesBefore, AreAscending, HasCycleShape, IsStraightArm, spread_size, cycle_size}
-use Rattle.proof_nodes.specs.Reasons.{Check}
-use Rattle.proof_nodes.specs.Checks.{check_up, check_low, needed_into, needed_times, straight_from, straight_into, spread_checks, cycle_checks}
+use Rattle.proof_setting.specs.model.Programs.{Program, Rule, rule_at, arity_of}
+use Rattle.proof_setting.specs.model.Paths.{pre}
+use Rattle.proof_setting.specs.model.Polynomials.{Monomial, Polynomial}
+use Rattle.proof_setting.specs.model.Entries.{is_in}
+use Rattle.proof_setting.proofs.model.Membership.{no_is_not_yes}
+use Rattle.proof_setting.specs.proof_nodes.Nodes.{Spot, Arm, Linear, Poly, Member}
+use Rattle.proof_setting.specs.proof_nodes.Known.{Table}
+use Rattle.proof_setting.specs.proof_nodes.Setting.{Setting}
+use Rattle.proof_setting.specs.proof_nodes.ComposedSizes.{poly_at, has_variable, is_member}
+use Rattle.proof_setting.specs.proof_nodes.AcceptsSizes.{IsSpot, HasArmShape, left_of, HasMemberShape, Side, Up, Low, ReadsLeft}
+use Rattle.proof_setting.specs.proof_nodes.AcceptsSizes.{AcceptsArm, IsPolynomialUpdate, ComesBefore, AreAscending, HasCycleShape}
+use Rattle.proof_setting.specs.proof_nodes.AcceptsSizes.{IsStraightArm, spread_size, cycle_size}
+use Rattle.proof_setting.specs.proof_nodes.Reasons.{Check}
+use Rattle.proof_setting.specs.proof_nodes.Checks.{check_up, check_low, needed_into, needed_times, straight_from, straight_into}
+use Rattle.proof_setting.specs.proof_nodes.Checks.{spread_checks, cycle_checks}
 use Rattle.proof_decision.specs.Tests.{Test}
-use Rattle.proof_decision.specs.Sizes.{is_place_after, has_arm_shape, has_member_shape, is_over_left, accepts_arm, test_up, test_low, is_before, are_ascending, has_cycle_shape, avoids, is_straight, straight_after, all_straight, spread_tests, cycle_tests}
+use Rattle.proof_decision.specs.Sizes.{is_place_after, has_arm_shape, has_member_shape, is_over_left, accepts_arm}
+use Rattle.proof_decision.specs.Sizes.{test_up, test_low, is_before, are_ascending, has_cycle_shape, avoids}
+use Rattle.proof_decision.specs.Sizes.{is_straight, straight_after, all_straight, spread_tests, cycle_tests}
 use Rattle.proof_decision.proofs.TestLists.{AllDecide, each-decides}
-use Rattle.proof_decision.proofs.NumberTests.{decides-yes, decides-no, decides-le, decides-not, decides-all, decides-each, decides-limit, decides-form, decides-multipliers, decides-implies}
+use Rattle.proof_decision.proofs.NumberTests.{decides-yes, decides-no, decides-le, decides-not, decides-all}
+use Rattle.proof_decision.proofs.NumberTests.{decides-each, decides-limit, decides-form, decides-multipliers}
+use Rattle.proof_decision.proofs.NumberTests.{decides-implies}
 use Rattle.proof_decision.proofs.RankTests.{small-last, times-decide, sizes-decide}
 
 -- a place after a rule

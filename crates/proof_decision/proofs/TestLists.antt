@@ -1,8 +1,8 @@
 -- Tests that decide checks, one by one, tell the first reason.
 use Rattle.std.proofs.Common.{◌≡◌, inl, inr, Bool, true, false, cond, List, [], ◌∷◌, Some, None, refl, sym, ap, ◌∙◌}
 use Rattle.std.specs.Bool.{Decides}
-use Rattle.model.proofs.Membership.{no_is_not_yes}
-use Rattle.proof_nodes.specs.Reasons.{Reason, Check, for_each, IsFirstAmong}
+use Rattle.proof_setting.proofs.model.Membership.{no_is_not_yes}
+use Rattle.proof_setting.specs.proof_nodes.Reasons.{Reason, Check, for_each, IsFirstAmong}
 use Rattle.proof_decision.specs.Tests.{Test, first_failing}
 
 -- each test decides its check, and has its reason

@@ -1,15 +1,18 @@
 -- The lemmas on programs with one loop or none, computed.
 use Rattle.std.proofs.Common.{[], ◌∷◌, refl}
-use Rattle.bound_table.specs.Below.{below}
-use Rattle.bound_table.specs.InForce.{rewritten}
-use Rattle.bound_table.specs.Rewriting.{simplified, passes_until_same, at_node, parts_passed}
-use Rattle.guard_prep.specs.Tightening.{divisor_of}
-use Rattle.proof_nodes.specs.Acceptance.{facts_of_lemmas}
+use Rattle.proof_setting.specs.bound_table.Below.{below}
+use Rattle.proof_setting.specs.bound_table.InForce.{rewritten}
+use Rattle.proof_setting.specs.bound_table.Rewriting.{simplified, passes_until_same, at_node, parts_passed}
+use Rattle.proof_setting.specs.guard_prep.Tightening.{divisor_of}
+use Rattle.proof_setting.specs.proof_nodes.Acceptance.{facts_of_lemmas}
 use Rattle.proof_setting.specs.Setting.{setting_of}
-use Rattle.proof_nodes.specs.Nodes.{Empty, Unreached, NoProof}
-use Rattle.proof_decision.specs.WorkedPrograms.{counting_down, looping_start, by_twos, guarded_entry, contradicted, between_integers, apart, squaring, squaring_loop}
-use Rattle.proof_decision.specs.WorkedLemmas.{counting_lemmas, start_lemmas, halved_lemmas, guarded_lemmas, dead_lemmas, squared_lemmas, squaring_lemmas, FallingLoopsAreJudged, DeadRulesAreJudged, SquaresAreJudged}
-use Rattle.proof_decision.proofs.Decided.{lemmas-decided}
+use Rattle.proof_setting.specs.proof_nodes.Nodes.{Empty, Unreached, NoProof}
+use Rattle.proof_decision.specs.WorkedPrograms.{counting_down, looping_start, by_twos, guarded_entry, contradicted}
+use Rattle.proof_decision.specs.WorkedPrograms.{between_integers, apart, squaring, squaring_loop}
+use Rattle.proof_decision.specs.WorkedLemmas.{counting_lemmas, start_lemmas, halved_lemmas, guarded_lemmas, dead_lemmas}
+use Rattle.proof_decision.specs.WorkedLemmas.{squared_lemmas, squaring_lemmas, FallingLoopsAreJudged}
+use Rattle.proof_decision.specs.WorkedLemmas.{DeadRulesAreJudged, SquaresAreJudged}
+use Rattle.proof_decision.proofs.FirstReasons.{lemmas-decided}
 
 pub falling_loops_judged : FallingLoopsAreJudged
 unfolding rewritten simplified passes_until_same at_node parts_passed divisor_of facts_of_lemmas below

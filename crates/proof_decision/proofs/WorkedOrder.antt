@@ -1,11 +1,12 @@
 -- The first reasons of nodes with more than one fault, computed.
 use Rattle.std.proofs.Common.{refl}
-use Rattle.bound_table.specs.Below.{below}
-use Rattle.bound_table.specs.InForce.{rewritten}
-use Rattle.bound_table.specs.Rewriting.{simplified, passes_until_same, at_node, parts_passed}
-use Rattle.guard_prep.specs.Tightening.{divisor_of}
-use Rattle.proof_nodes.specs.Acceptance.{facts_of_lemmas}
-use Rattle.proof_decision.specs.WorkedOrder.{RankReasonsAreInOrder, LoopReasonsAreInOrder, SizeReasonsAreInOrder, PlainReasonsAreInOrder}
+use Rattle.proof_setting.specs.bound_table.Below.{below}
+use Rattle.proof_setting.specs.bound_table.InForce.{rewritten}
+use Rattle.proof_setting.specs.bound_table.Rewriting.{simplified, passes_until_same, at_node, parts_passed}
+use Rattle.proof_setting.specs.guard_prep.Tightening.{divisor_of}
+use Rattle.proof_setting.specs.proof_nodes.Acceptance.{facts_of_lemmas}
+use Rattle.proof_decision.specs.WorkedOrder.{RankReasonsAreInOrder, LoopReasonsAreInOrder, SizeReasonsAreInOrder}
+use Rattle.proof_decision.specs.WorkedOrder.{PlainReasonsAreInOrder}
 
 pub rank_reasons_in_order : RankReasonsAreInOrder
 unfolding rewritten simplified passes_until_same at_node parts_passed divisor_of facts_of_lemmas below

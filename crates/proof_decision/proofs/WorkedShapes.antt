@@ -1,11 +1,12 @@
 -- Shapes, limits and first facts, computed.
 use Rattle.std.proofs.Common.{refl}
-use Rattle.bound_table.specs.Below.{below}
-use Rattle.bound_table.specs.InForce.{rewritten}
-use Rattle.bound_table.specs.Rewriting.{simplified, passes_until_same, at_node, parts_passed}
-use Rattle.guard_prep.specs.Tightening.{divisor_of}
-use Rattle.proof_nodes.specs.Acceptance.{facts_of_lemmas}
-use Rattle.proof_decision.specs.WorkedShapes.{ShapesAreRefused, RankLimitsAreMet, ArmLimitsAreMet, WeakerLimitsAreMet, FirstFactsCount}
+use Rattle.proof_setting.specs.bound_table.Below.{below}
+use Rattle.proof_setting.specs.bound_table.InForce.{rewritten}
+use Rattle.proof_setting.specs.bound_table.Rewriting.{simplified, passes_until_same, at_node, parts_passed}
+use Rattle.proof_setting.specs.guard_prep.Tightening.{divisor_of}
+use Rattle.proof_setting.specs.proof_nodes.Acceptance.{facts_of_lemmas}
+use Rattle.proof_decision.specs.WorkedShapes.{ShapesAreRefused, RankLimitsAreMet, ArmLimitsAreMet, WeakerLimitsAreMet}
+use Rattle.proof_decision.specs.WorkedShapes.{FirstFactsCount}
 
 pub shapes_refused : ShapesAreRefused
 unfolding rewritten simplified passes_until_same at_node parts_passed divisor_of facts_of_lemmas below

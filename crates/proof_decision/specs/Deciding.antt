@@ -1,13 +1,13 @@
 -- Whether a proof node is accepted, by computing: the first reason why it isn't. And so whether lemmas are.
 use Rattle.std.specs.Prelude.{◌&&◌, Bool, true, List, [], ◌∷◌, ◌++◌, Option, is_none}
-use Rattle.model.specs.Facts.{Fact}
-use Rattle.proof_nodes.specs.Nodes.{Proof, Cite, Start, Empty, Unreached, Never, Rank, Spread, Cycle, Weaken, Proofs}
-use Rattle.proof_nodes.specs.Nodes.{NoProof, AndProof}
-use Rattle.proof_nodes.specs.Known.{table_of}
-use Rattle.proof_nodes.specs.Setting.{Setting}
-use Rattle.proof_nodes.specs.AcceptsPlain.{may_run}
-use Rattle.proof_nodes.specs.Acceptance.{facts_of, joined_facts}
-use Rattle.proof_nodes.specs.Reasons.{Reason}
+use Rattle.proof_setting.specs.model.Facts.{Fact}
+use Rattle.proof_setting.specs.proof_nodes.Nodes.{Proof, Cite, Start, Empty, Unreached, Never, Rank, Spread, Cycle, Weaken, Proofs}
+use Rattle.proof_setting.specs.proof_nodes.Nodes.{NoProof, AndProof}
+use Rattle.proof_setting.specs.proof_nodes.Known.{table_of}
+use Rattle.proof_setting.specs.proof_nodes.Setting.{Setting}
+use Rattle.proof_setting.specs.proof_nodes.AcceptsPlain.{may_run}
+use Rattle.proof_setting.specs.proof_nodes.Acceptance.{facts_of, joined_facts}
+use Rattle.proof_setting.specs.proof_nodes.Reasons.{Reason}
 use Rattle.proof_decision.specs.Tests.{Test, first_failing}
 use Rattle.proof_decision.specs.Plain.{cite_tests, empty_tests, unreached_tests, never_tests, weaken_tests}
 use Rattle.proof_decision.specs.Ranking.{rank_tests}

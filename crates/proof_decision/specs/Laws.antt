@@ -1,11 +1,11 @@
 -- The first reason that is computed is the first reason, and so lemmas are decided.
 use Rattle.std.specs.Prelude.{◌≡◌, ◌↔◌, true, List, Some, None}
-use Rattle.model.specs.Facts.{Fact}
-use Rattle.proof_nodes.specs.Nodes.{Proof}
-use Rattle.proof_nodes.specs.Setting.{Setting}
-use Rattle.proof_nodes.specs.Acceptance.{AcceptsNode, AcceptsLemmas}
-use Rattle.proof_nodes.specs.Reasons.{Reason}
-use Rattle.proof_nodes.specs.Checks.{IsFirstReason}
+use Rattle.proof_setting.specs.model.Facts.{Fact}
+use Rattle.proof_setting.specs.proof_nodes.Nodes.{Proof}
+use Rattle.proof_setting.specs.proof_nodes.Setting.{Setting}
+use Rattle.proof_setting.specs.proof_nodes.Acceptance.{AcceptsNode, AcceptsLemmas}
+use Rattle.proof_setting.specs.proof_nodes.Reasons.{Reason}
+use Rattle.proof_setting.specs.proof_nodes.Checks.{IsFirstReason}
 use Rattle.proof_decision.specs.Deciding.{first_reason, accepts_lemmas}
 
 -- of every node, over every setting and after all earlier facts: the reason that is computed is its first reason, and

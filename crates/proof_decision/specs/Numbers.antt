@@ -3,10 +3,10 @@
 use Rattle.std.specs.Prelude.{ℕ, ◌==◌, ◌&&◌, max, nat_lt, nat_le, int_le, Bool, true, List, [], ◌∷◌, length, nat_abs}
 use Rattle.std.specs.List.{list_all, range_with_len}
 use Rattle.std.specs.Ordering.{int_eq}
-use Rattle.linear_forms.specs.Forms.{Form, at}
-use Rattle.linear_forms.specs.Certificates.{combined_coef, combined_constant}
-use Rattle.linear_forms.specs.Limits.{certificate_limit}
-use Rattle.proof_nodes.specs.Setting.{Setting}
+use Rattle.proof_setting.specs.linear_forms.Forms.{Form, at}
+use Rattle.proof_setting.specs.linear_forms.Certificates.{combined_coef, combined_constant}
+use Rattle.proof_setting.specs.linear_forms.Limits.{certificate_limit}
+use Rattle.proof_setting.specs.proof_nodes.Setting.{Setting}
 
 -- a number is at most 2^55
 abbrev pub is_in_limit : ℕ → Bool

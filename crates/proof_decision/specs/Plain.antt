@@ -1,13 +1,13 @@
 -- Tests of the nodes that solve nothing.
 use Rattle.std.specs.Prelude.{ℕ, suc, ◌&&◌, nat_lt, nat_le, Bool, true, false, List, [], ◌∷◌, length, is_some}
-use Rattle.model.specs.Programs.{Program, rule_at, arity_of}
-use Rattle.model.specs.Bounds.{Bound, Constant, Input, SumOf, ProductOf, MaximumOf, PowerOf, Parts, NoParts, Part}
-use Rattle.model.specs.Facts.{Fact, Time, Size}
-use Rattle.bound_expr.specs.Limits.{constant_limit}
-use Rattle.linear_forms.specs.Certificates.{minus_one}
-use Rattle.proof_nodes.specs.Known.{is_zero_bound}
-use Rattle.proof_nodes.specs.Setting.{Setting}
-use Rattle.proof_nodes.specs.Reasons.{Shape, NotEmpty, Reached, NotZero, NotWeaker}
+use Rattle.proof_setting.specs.model.Programs.{Program, rule_at, arity_of}
+use Rattle.proof_setting.specs.model.Bounds.{Bound, Constant, Input, SumOf, ProductOf, MaximumOf, PowerOf, Parts, NoParts, Part}
+use Rattle.proof_setting.specs.model.Facts.{Fact, Time, Size}
+use Rattle.proof_setting.specs.bound_expr.Limits.{constant_limit}
+use Rattle.proof_setting.specs.linear_forms.Certificates.{minus_one}
+use Rattle.proof_setting.specs.proof_nodes.Known.{is_zero_bound}
+use Rattle.proof_setting.specs.proof_nodes.Setting.{Setting}
+use Rattle.proof_setting.specs.proof_nodes.Reasons.{Shape, NotEmpty, Reached, NotZero, NotWeaker}
 use Rattle.proof_decision.specs.Tests.{Test, test}
 use Rattle.proof_decision.specs.Numbers.{are_multipliers, implies}
 use Rattle.proof_decision.specs.Reaching.{is_unreached}

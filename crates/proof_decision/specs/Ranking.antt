@@ -1,20 +1,20 @@
 -- Tests of ranking nodes, and of what is known of times, sizes and composed bounds.
 use Rattle.std.specs.Prelude.{ℕ, ◌==◌, ◌&&◌, not, nat_le, Bool, true, false, List, [], ◌∷◌, length, map, is_some, pos}
 use Rattle.std.specs.List.{list_all}
-use Rattle.model.specs.Programs.{Program, arity_of}
-use Rattle.model.specs.Bounds.{Bound}
-use Rattle.model.specs.Entries.{is_in, entries}
-use Rattle.bound_expr.specs.Measure.{is_large}
-use Rattle.linear_forms.specs.Combinations.{less}
-use Rattle.linear_forms.specs.RuleQuestions.{constant_form}
-use Rattle.linear_forms.specs.Losses.{loss}
-use Rattle.proof_nodes.specs.Nodes.{Spot, SymbolForm, RankNode}
-use Rattle.proof_nodes.specs.Graph.{symbols_of}
-use Rattle.proof_nodes.specs.Known.{Table}
-use Rattle.proof_nodes.specs.Setting.{Setting}
-use Rattle.proof_nodes.specs.AcceptsRank.{moves_of, at_source, at_target, least_loss, rank_time}
-use Rattle.proof_nodes.specs.Reasons.{Shape, Move, Floor, MissingTime, MissingSize, Large, for_each}
-use Rattle.proof_nodes.specs.Checks.{large_nodes, needed_after_each}
+use Rattle.proof_setting.specs.model.Programs.{Program, arity_of}
+use Rattle.proof_setting.specs.model.Bounds.{Bound}
+use Rattle.proof_setting.specs.model.Entries.{is_in, entries}
+use Rattle.proof_setting.specs.bound_expr.Measure.{is_large}
+use Rattle.proof_setting.specs.linear_forms.Combinations.{less}
+use Rattle.proof_setting.specs.linear_forms.RuleQuestions.{constant_form}
+use Rattle.proof_setting.specs.linear_forms.Losses.{loss}
+use Rattle.proof_setting.specs.proof_nodes.Nodes.{Spot, SymbolForm, RankNode}
+use Rattle.proof_setting.specs.proof_nodes.Graph.{symbols_of}
+use Rattle.proof_setting.specs.proof_nodes.Known.{Table}
+use Rattle.proof_setting.specs.proof_nodes.Setting.{Setting}
+use Rattle.proof_setting.specs.proof_nodes.AcceptsRank.{moves_of, at_source, at_target, least_loss, rank_time}
+use Rattle.proof_setting.specs.proof_nodes.Reasons.{Shape, Move, Floor, MissingTime, MissingSize, Large, for_each}
+use Rattle.proof_setting.specs.proof_nodes.Checks.{large_nodes, needed_after_each}
 use Rattle.proof_decision.specs.Tests.{Test, test}
 use Rattle.proof_decision.specs.Numbers.{is_in_limit, is_form_in_limit, are_multipliers, is_ascending, implies}
 use Rattle.proof_decision.specs.Plain.{is_rule}

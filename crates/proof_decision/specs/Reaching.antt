@@ -2,9 +2,9 @@
 use Rattle.std.specs.Prelude.{ℕ, zero, suc, ◌&&◌, not, Bool, false, List, [], ◌∷◌, ◌++◌, length, filter, Option, Some}
 use Rattle.std.specs.Prelude.{None}
 use Rattle.std.specs.List.{filter_map}
-use Rattle.model.specs.Programs.{Program}
-use Rattle.model.specs.Paths.{source_of, target_of, entry_and_rules}
-use Rattle.model.specs.Entries.{is_in}
+use Rattle.proof_setting.specs.model.Programs.{Program}
+use Rattle.proof_setting.specs.model.Paths.{source_of, target_of, entry_and_rules}
+use Rattle.proof_setting.specs.model.Entries.{is_in}
 
 -- the symbol is there, and among these
 abbrev pub is_among : Option ℕ → List ℕ → Bool

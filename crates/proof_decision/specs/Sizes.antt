@@ -2,16 +2,16 @@
 use Rattle.std.specs.Prelude.{ℕ, ◌==◌, ◌&&◌, ◌||◌, not, nat_lt, nat_le, Bool, true, false, List, [], ◌∷◌, length}
 use Rattle.std.specs.Prelude.{Option, Some, None}
 use Rattle.std.specs.List.{list_all}
-use Rattle.model.specs.Programs.{Program, Rule, rule_at, arity_of}
-use Rattle.model.specs.Paths.{pre}
-use Rattle.model.specs.Polynomials.{Polynomial}
-use Rattle.proof_nodes.specs.Nodes.{Spot, Arm, Linear, Poly, Member}
-use Rattle.proof_nodes.specs.Known.{Table}
-use Rattle.proof_nodes.specs.Setting.{Setting}
-use Rattle.proof_nodes.specs.ComposedSizes.{poly_at, is_member}
-use Rattle.proof_nodes.specs.AcceptsSizes.{left_of, Side, Up, Low, arm_goal, new_value, spread_size, cycle_size}
-use Rattle.proof_nodes.specs.Reasons.{Shape, ArmUp, ArmLow, Bent, for_each}
-use Rattle.proof_nodes.specs.Checks.{needed_into, needed_times}
+use Rattle.proof_setting.specs.model.Programs.{Program, Rule, rule_at, arity_of}
+use Rattle.proof_setting.specs.model.Paths.{pre}
+use Rattle.proof_setting.specs.model.Polynomials.{Polynomial}
+use Rattle.proof_setting.specs.proof_nodes.Nodes.{Spot, Arm, Linear, Poly, Member}
+use Rattle.proof_setting.specs.proof_nodes.Known.{Table}
+use Rattle.proof_setting.specs.proof_nodes.Setting.{Setting}
+use Rattle.proof_setting.specs.proof_nodes.ComposedSizes.{poly_at, is_member}
+use Rattle.proof_setting.specs.proof_nodes.AcceptsSizes.{left_of, Side, Up, Low, arm_goal, new_value, spread_size, cycle_size}
+use Rattle.proof_setting.specs.proof_nodes.Reasons.{Shape, ArmUp, ArmLow, Bent, for_each}
+use Rattle.proof_setting.specs.proof_nodes.Checks.{needed_into, needed_times}
 use Rattle.proof_decision.specs.Tests.{Test, test}
 use Rattle.proof_decision.specs.Numbers.{is_in_limit, is_form_in_limit, are_multipliers, implies}
 use Rattle.proof_decision.specs.Ranking.{test_time, test_size, test_small}

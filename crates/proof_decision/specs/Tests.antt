@@ -1,6 +1,6 @@
 -- Tests that are made one after the other, and the reason of the first that fails.
 use Rattle.std.specs.Prelude.{Bool, cond, List, [], ◌∷◌, Option, Some, None}
-use Rattle.proof_nodes.specs.Reasons.{Reason}
+use Rattle.proof_setting.specs.proof_nodes.Reasons.{Reason}
 
 -- a test, and the reason where it fails
 pub record Test : Type 0 where

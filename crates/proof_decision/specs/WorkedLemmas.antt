@@ -1,15 +1,15 @@
 -- Lemmas on programs with one loop or none, worked out by hand.
 use Rattle.std.specs.Prelude.{◌≡◌, ℕ, List, [], ◌∷◌, ℤ, pos, Some}
-use Rattle.model.specs.Bounds.{Constant, Input}
-use Rattle.model.specs.Facts.{Fact, Time, Size}
-use Rattle.proof_nodes.specs.Nodes.{Member, Proof, Cite, Empty, Unreached, Never, Spread, Cycle, Weaken, NoProof}
-use Rattle.proof_nodes.specs.Reasons.{Move, Floor, MissingSize, Bent}
-use Rattle.proof_nodes.specs.Acceptance.{AcceptsLemmas, facts_of_lemmas}
+use Rattle.proof_setting.specs.model.Bounds.{Constant, Input}
+use Rattle.proof_setting.specs.model.Facts.{Fact, Time, Size}
+use Rattle.proof_setting.specs.proof_nodes.Nodes.{Member, Proof, Cite, Empty, Unreached, Never, Spread, Cycle, Weaken, NoProof}
+use Rattle.proof_setting.specs.proof_nodes.Reasons.{Move, Floor, MissingSize, Bent}
+use Rattle.proof_setting.specs.proof_nodes.Acceptance.{AcceptsLemmas, facts_of_lemmas}
 use Rattle.proof_setting.specs.Setting.{setting_of}
 use Rattle.proof_decision.specs.WorkedPrograms.{counting_down, looping_start, by_twos, guarded_entry, contradicted}
 use Rattle.proof_decision.specs.WorkedPrograms.{between_integers, apart, squaring, squaring_loop}
 use Rattle.proof_decision.specs.WorkedNodes.{minus, one, at_symbol, rank, arm, member, equal_to, bent, entered, cited}
-use Rattle.proof_decision.specs.WorkedNodes.{sum, product, maximum, told}
+use Rattle.proof_decision.specs.WorkedNodes.{sum, product, maximum, first_reason_in}
 use Rattle.proof_decision.specs.WorkedLoops as two_places
 
 -- the first rule, whose rows have these multipliers, runs once: the function is 1 at k and 0 at l
@@ -88,8 +88,8 @@ pub record FallingLoopsAreJudged : Type 0 where
       ≡ (Time 1 (Constant 1) ∷ []) ∷
       (Time 2 (sum (Input 0 ∷ Constant 1 ∷ [])) ∷ []) ∷
       (Size 1 1 (Input 0) ∷ []) ∷ (Size 2 1 (maximum (Input 0 ∷ Constant 1 ∷ [])) ∷ []) ∷ []
-  pub no_floor : told by_twos [] (falling_by 2 (pos 1) (pos 0)) ≡ Some Floor
-  pub too_little : told by_twos [] (falling_by 3 (pos 1) (pos 2)) ≡ Some (Move 2)
+  pub no_floor : first_reason_in by_twos [] (falling_by 2 (pos 1) (pos 0)) ≡ Some Floor
+  pub too_little : first_reason_in by_twos [] (falling_by 3 (pos 1) (pos 2)) ≡ Some (Move 2)
   pub guarded : AcceptsLemmas (setting_of guarded_entry) guarded_lemmas
   pub guarded_stated : facts_of_lemmas (setting_of guarded_entry) guarded_lemmas
       ≡ (Time 1 (Constant 1) ∷ []) ∷ (Size 1 1 (Input 0) ∷ []) ∷ []
@@ -121,7 +121,7 @@ pub record SquaresAreJudged : Type 0 where
   pub once_stated : facts_of_lemmas (setting_of squaring) squared_lemmas
       ≡ (Time 1 (Constant 1) ∷ []) ∷ (Size 1 1 (product (Input 0 ∷ Input 0 ∷ [])) ∷ []) ∷ []
   pub others : AcceptsLemmas (setting_of squaring_loop) squaring_lemmas
-  pub looped : told squaring_loop
+  pub looped : first_reason_in squaring_loop
       (facts_of_lemmas (setting_of squaring_loop) squaring_lemmas) (Cycle (bent 2 2 ∷ []) (cited (4 ∷ [])))
       ≡ Some (Bent 2 2)
-  pub missing : told squaring_loop [] (Cycle (bent 2 2 ∷ []) NoProof) ≡ Some (MissingSize 1 2)
+  pub missing : first_reason_in squaring_loop [] (Cycle (bent 2 2 ∷ []) NoProof) ≡ Some (MissingSize 1 2)

@@ -1,11 +1,11 @@
 -- Lemmas on two nested loops, and on a loop that doubles before another one counts, worked out by hand.
 use Rattle.std.specs.Prelude.{◌≡◌, ℕ, List, [], ◌∷◌, pos}
-use Rattle.model.specs.Bounds.{Bound, Constant, Input, PowerOf}
-use Rattle.model.specs.Facts.{Fact, Time, Size}
-use Rattle.proof_nodes.specs.Nodes.{Member, Proof, Spread, Cycle}
-use Rattle.proof_nodes.specs.Known.{Table, table_of}
-use Rattle.proof_nodes.specs.AcceptsSizes.{cycle_size}
-use Rattle.proof_nodes.specs.Acceptance.{AcceptsLemmas, facts_of_lemmas}
+use Rattle.proof_setting.specs.model.Bounds.{Bound, Constant, Input, PowerOf}
+use Rattle.proof_setting.specs.model.Facts.{Fact, Time, Size}
+use Rattle.proof_setting.specs.proof_nodes.Nodes.{Member, Proof, Spread, Cycle}
+use Rattle.proof_setting.specs.proof_nodes.Known.{Table, table_of}
+use Rattle.proof_setting.specs.proof_nodes.AcceptsSizes.{cycle_size}
+use Rattle.proof_setting.specs.proof_nodes.Acceptance.{AcceptsLemmas, facts_of_lemmas}
 use Rattle.proof_setting.specs.Setting.{setting_of}
 use Rattle.proof_decision.specs.WorkedPrograms.{nested_loops, doubling}
 use Rattle.proof_decision.specs.WorkedNodes.{minus, two, at_symbol, rank, arm, member, equal_to, entered, cited, sum}

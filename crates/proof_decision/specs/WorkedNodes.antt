@@ -1,12 +1,12 @@
 -- Nodes and bounds, written shortly, and the first reason of a node of a program.
 use Rattle.std.specs.Prelude.{ℕ, List, [], ◌∷◌, map, ℤ, pos, neg_ℤ, Option}
-use Rattle.model.specs.Bounds.{Bound, SumOf, ProductOf, MaximumOf, Parts, NoParts, Part}
-use Rattle.model.specs.Facts.{Fact}
-use Rattle.model.specs.Programs.{Program}
-use Rattle.linear_forms.specs.Forms.{Form}
-use Rattle.proof_nodes.specs.Nodes.{Arm, Linear, Poly, Member, SymbolForm, Proof, Cite, Start, Rank, Proofs, NoProof}
-use Rattle.proof_nodes.specs.Nodes.{AndProof}
-use Rattle.proof_nodes.specs.Reasons.{Reason}
+use Rattle.proof_setting.specs.model.Bounds.{Bound, SumOf, ProductOf, MaximumOf, Parts, NoParts, Part}
+use Rattle.proof_setting.specs.model.Facts.{Fact}
+use Rattle.proof_setting.specs.model.Programs.{Program}
+use Rattle.proof_setting.specs.linear_forms.Forms.{Form}
+use Rattle.proof_setting.specs.proof_nodes.Nodes.{Arm, Linear, Poly, Member, SymbolForm, Proof, Cite, Start, Rank, Proofs, NoProof}
+use Rattle.proof_setting.specs.proof_nodes.Nodes.{AndProof}
+use Rattle.proof_setting.specs.proof_nodes.Reasons.{Reason}
 use Rattle.proof_setting.specs.Setting.{setting_of}
 use Rattle.proof_decision.specs.Deciding.{first_reason}
 
@@ -76,8 +76,8 @@ abbrev pub maximum : List Bound → Bound
 maximum bs = MaximumOf (parts_of bs)
 
 -- the first reason of a node of a program, after lemmas with these facts
-abbrev pub told : Program → List (List Fact) → Proof → Option Reason
-told p past proof = first_reason (setting_of p) past proof
+abbrev pub first_reason_in : Program → List (List Fact) → Proof → Option Reason
+first_reason_in p past proof = first_reason (setting_of p) past proof
 
 -- one lemma, with this fact
 abbrev pub only : Fact → List (List Fact)

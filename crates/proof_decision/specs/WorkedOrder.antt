@@ -1,18 +1,18 @@
 -- Nodes with more than one fault, and which is told first, worked out by hand.
 use Rattle.std.specs.Prelude.{◌≡◌, ℕ, List, [], ◌∷◌, ℤ, pos, Some}
-use Rattle.model.specs.Bounds.{Constant, Input}
-use Rattle.model.specs.Facts.{Fact, Time, Size}
-use Rattle.proof_nodes.specs.Nodes.{Member, Proof, Cite, Start, Empty, Never, Spread, Cycle, Weaken, Proofs, NoProof}
-use Rattle.proof_nodes.specs.Setting.{Setting}
-use Rattle.proof_nodes.specs.Reasons.{Shape, Move, Floor, ArmUp, ArmLow, MissingTime, MissingSize, Bent, Large}
-use Rattle.proof_nodes.specs.Worked.{entered_member, doubled}
-use Rattle.proof_nodes.specs.WorkedSettings as settings
-use Rattle.proof_nodes.specs.WorkedReasons.{tower, towering}
+use Rattle.proof_setting.specs.model.Bounds.{Constant, Input}
+use Rattle.proof_setting.specs.model.Facts.{Fact, Time, Size}
+use Rattle.proof_setting.specs.proof_nodes.Nodes.{Member, Proof, Cite, Start, Empty, Never, Spread, Cycle, Weaken, Proofs, NoProof}
+use Rattle.proof_setting.specs.proof_nodes.Setting.{Setting}
+use Rattle.proof_setting.specs.proof_nodes.Reasons.{Shape, Move, Floor, ArmUp, ArmLow, MissingTime, MissingSize, Bent, Large}
+use Rattle.proof_setting.specs.proof_nodes.Worked.{entered_member, doubled}
+use Rattle.proof_setting.specs.proof_nodes.WorkedSettings as settings
+use Rattle.proof_setting.specs.proof_nodes.WorkedReasons.{tower, towering}
 use Rattle.proof_decision.specs.Deciding.{first_reason}
 use Rattle.proof_decision.specs.WorkedPrograms.{counting_down, two_ways_in, contradicted, twice_or_thrice}
 use Rattle.proof_decision.specs.WorkedPrograms.{twice_or_squared, chosen_between, nested_loops, doubling}
 use Rattle.proof_decision.specs.WorkedNodes.{minus, one, two, at_symbol, rank, arm, member, equal_to, bent, entered}
-use Rattle.proof_decision.specs.WorkedNodes.{cited, told, only}
+use Rattle.proof_decision.specs.WorkedNodes.{cited, first_reason_in, only}
 use Rattle.proof_decision.specs.WorkedLoops.{outer, back_member, round_members}
 use Rattle.proof_decision.specs.WorkedLoops.{handed_over, doubled_member}
 
@@ -36,13 +36,13 @@ place_fact = Size 1 1 (Input 0)
 -- a shape comes first; then the rules of the set in their order; then the floor; then the times of all entries; and
 -- then the sizes after them
 pub record RankReasonsAreInOrder : Type 0 where
-  pub shape_before_move : told counting_down [] (down_with 0 (pos 1) (5 ∷ [])) ≡ Some Shape
-  pub first_move : told counting_down [] (down_with 1 (pos 0) (1 ∷ [])) ≡ Some (Move 1)
-  pub second_move : told nested_loops [] (outer ([] ∷ (1 ∷ []) ∷ (1 ∷ []) ∷ (0 ∷ []) ∷ [])) ≡ Some (Move 2)
-  pub floor_before_time : told counting_down [] (alone 2 (0 ∷ []) NoProof) ≡ Some Floor
-  pub time_before_size : told counting_down [] (alone 2 (1 ∷ []) NoProof) ≡ Some (MissingTime 1)
+  pub shape_before_move : first_reason_in counting_down [] (down_with 0 (pos 1) (5 ∷ [])) ≡ Some Shape
+  pub first_move : first_reason_in counting_down [] (down_with 1 (pos 0) (1 ∷ [])) ≡ Some (Move 1)
+  pub second_move : first_reason_in nested_loops [] (outer ([] ∷ (1 ∷ []) ∷ (1 ∷ []) ∷ (0 ∷ []) ∷ [])) ≡ Some (Move 2)
+  pub floor_before_time : first_reason_in counting_down [] (alone 2 (0 ∷ []) NoProof) ≡ Some Floor
+  pub time_before_size : first_reason_in counting_down [] (alone 2 (1 ∷ []) NoProof) ≡ Some (MissingTime 1)
   pub times_before_sizes :
-      told two_ways_in (only once_fact) (alone 3 (1 ∷ []) (cited (1 ∷ []))) ≡ Some (MissingTime 2)
+      first_reason_in two_ways_in (only once_fact) (alone 3 (1 ∷ []) (cited (1 ∷ []))) ≡ Some (MissingTime 2)
 
 -- members of two rules that multiply: as they are, and the first with a wrong low arm, the second with a wrong up arm
 abbrev pub twice_member : Member
@@ -67,23 +67,23 @@ wrong_kept = member 3 1 (arm (two (pos 0) (pos 0)) (pos 0) (0 ∷ [])) (arm (two
 -- all up arms come before all low arms; then come the sizes; then bent arms; and then the times, ascending
 pub record LoopReasonsAreInOrder : Type 0 where
   pub up_before_low :
-      told nested_loops [] (Cycle (wrong_round ∷ wrong_kept ∷ back_member ∷ []) NoProof) ≡ Some (ArmUp 3 1)
+      first_reason_in nested_loops [] (Cycle (wrong_round ∷ wrong_kept ∷ back_member ∷ []) NoProof) ≡ Some (ArmUp 3 1)
   pub up_of_second :
-      told twice_or_thrice (only place_fact) (Cycle (wrong_low ∷ wrong_up ∷ []) (cited (1 ∷ []))) ≡ Some (ArmUp 3 1)
-  pub low_before_size : told twice_or_thrice [] (Cycle (wrong_low ∷ thrice_member ∷ []) NoProof) ≡ Some (ArmLow 2 1)
+      first_reason_in twice_or_thrice (only place_fact) (Cycle (wrong_low ∷ wrong_up ∷ []) (cited (1 ∷ []))) ≡ Some (ArmUp 3 1)
+  pub low_before_size : first_reason_in twice_or_thrice [] (Cycle (wrong_low ∷ thrice_member ∷ []) NoProof) ≡ Some (ArmLow 2 1)
   pub size_before_bent :
-      told twice_or_squared [] (Cycle (twice_member ∷ bent 3 1 ∷ []) NoProof) ≡ Some (MissingSize 1 1)
+      first_reason_in twice_or_squared [] (Cycle (twice_member ∷ bent 3 1 ∷ []) NoProof) ≡ Some (MissingSize 1 1)
   pub bent_before_time :
-      told twice_or_squared (only place_fact) (Cycle (twice_member ∷ bent 3 1 ∷ []) (cited (1 ∷ [])))
+      first_reason_in twice_or_squared (only place_fact) (Cycle (twice_member ∷ bent 3 1 ∷ []) (cited (1 ∷ [])))
       ≡ Some (Bent 3 1)
   pub first_time :
-      told twice_or_thrice (only place_fact) (Cycle (twice_member ∷ thrice_member ∷ []) (cited (1 ∷ [])))
+      first_reason_in twice_or_thrice (only place_fact) (Cycle (twice_member ∷ thrice_member ∷ []) (cited (1 ∷ [])))
       ≡ Some (MissingTime 2)
-  pub size_before_time : told nested_loops [] (Cycle round_members NoProof) ≡ Some (MissingSize 1 1)
-  pub time : told nested_loops (only place_fact) (Cycle round_members (cited (1 ∷ []))) ≡ Some (MissingTime 4)
-  pub doubled_size : told doubling [] (Cycle (doubled_member ∷ []) NoProof) ≡ Some (MissingSize 1 2)
+  pub size_before_time : first_reason_in nested_loops [] (Cycle round_members NoProof) ≡ Some (MissingSize 1 1)
+  pub time : first_reason_in nested_loops (only place_fact) (Cycle round_members (cited (1 ∷ []))) ≡ Some (MissingTime 4)
+  pub doubled_size : first_reason_in doubling [] (Cycle (doubled_member ∷ []) NoProof) ≡ Some (MissingSize 1 2)
   pub doubled_time :
-      told doubling (only (Size 1 2 (Input 1))) (Cycle (doubled_member ∷ []) (cited (1 ∷ []))) ≡ Some (MissingTime 2)
+      first_reason_in doubling (only (Size 1 2 (Input 1))) (Cycle (doubled_member ∷ []) (cited (1 ∷ []))) ≡ Some (MissingTime 2)
 
 -- the place that is chosen below B and above -A
 abbrev pub chosen : Member
@@ -103,10 +103,10 @@ doubling_towers = record {
 -- a size that the up arm reads comes before one that the low arm reads, whatever their places; one is needed after each
 -- rule that can come before, in their order; and what is missing comes before what is too large
 pub record SizeReasonsAreInOrder : Type 0 where
-  pub up_before_low : told chosen_between [] (Spread chosen NoProof) ≡ Some (MissingSize 0 2)
-  pub first_before : told nested_loops [] (Spread handed_over NoProof) ≡ Some (MissingSize 1 1)
+  pub up_before_low : first_reason_in chosen_between [] (Spread chosen NoProof) ≡ Some (MissingSize 0 2)
+  pub first_before : first_reason_in nested_loops [] (Spread handed_over NoProof) ≡ Some (MissingSize 1 1)
   pub second_before :
-      told nested_loops (only place_fact) (Spread handed_over (cited (1 ∷ []))) ≡ Some (MissingSize 4 1)
+      first_reason_in nested_loops (only place_fact) (Spread handed_over (cited (1 ∷ []))) ≡ Some (MissingSize 4 1)
   pub size_before_large : first_reason towering [] (Spread entered_member NoProof) ≡ Some (MissingSize 0 1)
   pub large : first_reason towering [] (Spread entered_member entered) ≡ Some (Large 201)
   pub time_before_large :
@@ -118,7 +118,7 @@ pub record SizeReasonsAreInOrder : Type 0 where
 -- that there is one time of a rule comes before that it is 0, that a bound may be written before that it is weaker, and
 -- that there is a multiplier for each row before that they add up
 pub record PlainReasonsAreInOrder : Type 0 where
-  pub never_of_a_size : told counting_down (only place_fact) (Never (Cite 1)) ≡ Some Shape
-  pub never_of_the_entry : told counting_down [] (Never Start) ≡ Some Shape
-  pub weaker_start : told counting_down [] (Weaken Start (Input 1)) ≡ Some Shape
-  pub empty_length : told contradicted [] (Empty 2 (1 ∷ [])) ≡ Some Shape
+  pub never_of_a_size : first_reason_in counting_down (only place_fact) (Never (Cite 1)) ≡ Some Shape
+  pub never_of_the_entry : first_reason_in counting_down [] (Never Start) ≡ Some Shape
+  pub weaker_start : first_reason_in counting_down [] (Weaken Start (Input 1)) ≡ Some Shape
+  pub empty_length : first_reason_in contradicted [] (Empty 2 (1 ∷ [])) ≡ Some Shape

@@ -1,7 +1,7 @@
 -- Small programs over which nodes are judged.
 use Rattle.std.specs.Prelude.{ℕ, List, [], ◌∷◌, map, pos}
-use Rattle.model.specs.Terms.{Term, Literal, Variable, Subtraction, Multiplication}
-use Rattle.model.specs.Programs.{AtLeast, AtMost, Atom, Compare, Rule, Program}
+use Rattle.proof_setting.specs.model.Terms.{Term, Literal, Variable, Subtraction, Multiplication}
+use Rattle.proof_setting.specs.model.Programs.{AtLeast, AtMost, Atom, Compare, Rule, Program}
 
 -- a rule from one symbol to another, over so many left and free variables, with these updates and this guard
 abbrev pub rule : ℕ → ℕ → ℕ → ℕ → List Term → List Atom → Rule

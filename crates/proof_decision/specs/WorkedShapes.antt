@@ -1,14 +1,14 @@
 -- Shapes that are refused, numbers at their limits, and facts that come first, worked out by hand.
 use Rattle.std.specs.Prelude.{◌≡◌, ℕ, ◌+◌, ◌-◌, ◌^◌, List, [], ◌∷◌, pos, Some, None}
-use Rattle.model.specs.Bounds.{Bound, Constant, Input, PowerOf}
-use Rattle.model.specs.Facts.{Fact, Time, Size}
-use Rattle.proof_nodes.specs.Nodes.{Linear, Proof, Cite, Empty, Unreached, Spread, Cycle, Weaken, NoProof}
-use Rattle.proof_nodes.specs.Reasons.{Shape, Reached, Move, Floor, ArmLow, NotWeaker}
-use Rattle.proof_nodes.specs.Acceptance.{facts_of}
+use Rattle.proof_setting.specs.model.Bounds.{Bound, Constant, Input, PowerOf}
+use Rattle.proof_setting.specs.model.Facts.{Fact, Time, Size}
+use Rattle.proof_setting.specs.proof_nodes.Nodes.{Linear, Proof, Cite, Empty, Unreached, Spread, Cycle, Weaken, NoProof}
+use Rattle.proof_setting.specs.proof_nodes.Reasons.{Shape, Reached, Move, Floor, ArmLow, NotWeaker}
+use Rattle.proof_setting.specs.proof_nodes.Acceptance.{facts_of}
 use Rattle.proof_setting.specs.Setting.{setting_of}
 use Rattle.proof_decision.specs.WorkedPrograms.{counting_down, contradicted, apart, cut_off, nested_loops}
 use Rattle.proof_decision.specs.WorkedNodes.{minus, one, two, form, at_symbol, rank, equal_to, entered}
-use Rattle.proof_decision.specs.WorkedNodes.{cited, product, told, only}
+use Rattle.proof_decision.specs.WorkedNodes.{cited, product, first_reason_in, only}
 use Rattle.proof_decision.specs.WorkedLoops.{round_member, kept_member, back_member}
 use Rattle.proof_decision.specs.WorkedOrder.{alone}
 
@@ -56,22 +56,22 @@ at_spot rule place = Spread (equal_to rule place (one (pos 1)) []) entered
 
 -- each of these is no node
 pub record ShapesAreRefused : Type 0 where
-  pub disordered : told nested_loops [] disordered ≡ Some Shape
-  pub one_form_more : told nested_loops [] one_form_more ≡ Some Shape
-  pub one_move_more : told nested_loops [] one_move_more ≡ Some Shape
-  pub short_form : told nested_loops [] short_form ≡ Some Shape
-  pub descending : told nested_loops [] descending ≡ Some Shape
-  pub without_itself : told nested_loops [] without_itself ≡ Some Shape
+  pub disordered : first_reason_in nested_loops [] disordered ≡ Some Shape
+  pub one_form_more : first_reason_in nested_loops [] one_form_more ≡ Some Shape
+  pub one_move_more : first_reason_in nested_loops [] one_move_more ≡ Some Shape
+  pub short_form : first_reason_in nested_loops [] short_form ≡ Some Shape
+  pub descending : first_reason_in nested_loops [] descending ≡ Some Shape
+  pub without_itself : first_reason_in nested_loops [] without_itself ≡ Some Shape
   pub later_member_first :
-      told nested_loops [] (Cycle (kept_member ∷ round_member ∷ back_member ∷ []) NoProof) ≡ Some Shape
-  pub twice_the_same : told nested_loops [] (Cycle (round_member ∷ round_member ∷ []) NoProof) ≡ Some Shape
-  pub no_member : told counting_down [] (Cycle [] entered) ≡ Some Shape
-  pub no_lemma : told counting_down [] (Cite 0) ≡ Some Shape
-  pub no_rule : told apart [] (Unreached 3 NoProof) ≡ Some Shape
-  pub past_the_places : told counting_down [] (at_spot 1 2) ≡ Some Shape
-  pub no_place_0 : told counting_down [] (at_spot 1 0) ≡ Some Shape
-  pub past_the_rules : told counting_down [] (at_spot 3 1) ≡ Some Shape
-  pub set_past_the_rules : told counting_down [] foreign_set ≡ Some Shape
+      first_reason_in nested_loops [] (Cycle (kept_member ∷ round_member ∷ back_member ∷ []) NoProof) ≡ Some Shape
+  pub twice_the_same : first_reason_in nested_loops [] (Cycle (round_member ∷ round_member ∷ []) NoProof) ≡ Some Shape
+  pub no_member : first_reason_in counting_down [] (Cycle [] entered) ≡ Some Shape
+  pub no_lemma : first_reason_in counting_down [] (Cite 0) ≡ Some Shape
+  pub no_rule : first_reason_in apart [] (Unreached 3 NoProof) ≡ Some Shape
+  pub past_the_places : first_reason_in counting_down [] (at_spot 1 2) ≡ Some Shape
+  pub no_place_0 : first_reason_in counting_down [] (at_spot 1 0) ≡ Some Shape
+  pub past_the_rules : first_reason_in counting_down [] (at_spot 3 1) ≡ Some Shape
+  pub set_past_the_rules : first_reason_in counting_down [] foreign_set ≡ Some Shape
 
 -- the function (a * A + c) / den falls by the rule that counts down, with these multipliers of the rule and the floor
 abbrev pub large_numbers : ℕ → ℕ → ℕ → ℕ → ℕ → Proof
@@ -87,18 +87,18 @@ abbrev pub over : ℕ
 over = 2 ^ 55 + 1
 
 pub record RankLimitsAreMet : Type 0 where
-  pub multipliers : told contradicted [] (Empty 2 (most ∷ most ∷ [])) ≡ None
-  pub multipliers_over : told contradicted [] (Empty 2 (over ∷ over ∷ [])) ≡ Some Shape
-  pub most_den : told counting_down [] (large_numbers most most 0 0 most) ≡ None
+  pub multipliers : first_reason_in contradicted [] (Empty 2 (most ∷ most ∷ [])) ≡ None
+  pub multipliers_over : first_reason_in contradicted [] (Empty 2 (over ∷ over ∷ [])) ≡ Some Shape
+  pub most_den : first_reason_in counting_down [] (large_numbers most most 0 0 most) ≡ None
   pub most_stated : facts_of (setting_of counting_down) [] (large_numbers most most 0 0 most) ≡ Time 2 (Input 0) ∷ []
-  pub den_over : told counting_down [] (large_numbers over most 0 0 most) ≡ Some Shape
-  pub coefficient_over : told counting_down [] (large_numbers most over 0 0 most) ≡ Some Shape
-  pub most_constant : told counting_down [] (large_numbers 1 1 most 0 1) ≡ None
-  pub constant_over : told counting_down [] (large_numbers 1 1 over 0 1) ≡ Some Shape
-  pub most_move : told counting_down [] (large_numbers 1 1 0 most 1) ≡ Some (Move 2)
-  pub move_over : told counting_down [] (large_numbers 1 1 0 over 1) ≡ Some Shape
-  pub most_floor : told counting_down [] (large_numbers 1 1 0 0 most) ≡ Some Floor
-  pub floor_over : told counting_down [] (large_numbers 1 1 0 0 over) ≡ Some Shape
+  pub den_over : first_reason_in counting_down [] (large_numbers over most 0 0 most) ≡ Some Shape
+  pub coefficient_over : first_reason_in counting_down [] (large_numbers most over 0 0 most) ≡ Some Shape
+  pub most_constant : first_reason_in counting_down [] (large_numbers 1 1 most 0 1) ≡ None
+  pub constant_over : first_reason_in counting_down [] (large_numbers 1 1 over 0 1) ≡ Some Shape
+  pub most_move : first_reason_in counting_down [] (large_numbers 1 1 0 most 1) ≡ Some (Move 2)
+  pub move_over : first_reason_in counting_down [] (large_numbers 1 1 0 over 1) ≡ Some Shape
+  pub most_floor : first_reason_in counting_down [] (large_numbers 1 1 0 0 most) ≡ Some Floor
+  pub floor_over : first_reason_in counting_down [] (large_numbers 1 1 0 0 over) ≡ Some Shape
 
 -- (a * A + c) / den on the up side of a place after the rule that counts down, and 0 on the low side, over den by this
 -- multiplier
@@ -117,16 +117,16 @@ two_places = (Size 1 1 (Input 0) ∷ Size 2 1 (Input 0) ∷ []) ∷ []
 
 -- so do those of arms
 pub record ArmLimitsAreMet : Type 0 where
-  pub most_den : told counting_down two_places (large_arms most most 0 most) ≡ None
+  pub most_den : first_reason_in counting_down two_places (large_arms most most 0 most) ≡ None
   pub most_stated :
       facts_of (setting_of counting_down) two_places (large_arms most most 0 most) ≡ Size 2 1 (Input 0) ∷ []
-  pub no_den : told counting_down two_places (large_arms 0 0 0 0) ≡ Some Shape
-  pub den_over : told counting_down two_places (large_arms over most 0 most) ≡ Some Shape
-  pub coefficient_over : told counting_down two_places (large_arms most over 0 most) ≡ Some Shape
-  pub most_constant : told counting_down two_places (large_arms 1 1 most 1) ≡ None
-  pub constant_over : told counting_down two_places (large_arms 1 1 over 1) ≡ Some Shape
-  pub most_multiplier : told counting_down two_places (large_arms 1 1 0 most) ≡ Some (ArmLow 2 1)
-  pub multiplier_over : told counting_down two_places (large_arms 1 1 0 over) ≡ Some Shape
+  pub no_den : first_reason_in counting_down two_places (large_arms 0 0 0 0) ≡ Some Shape
+  pub den_over : first_reason_in counting_down two_places (large_arms over most 0 most) ≡ Some Shape
+  pub coefficient_over : first_reason_in counting_down two_places (large_arms most over 0 most) ≡ Some Shape
+  pub most_constant : first_reason_in counting_down two_places (large_arms 1 1 most 1) ≡ None
+  pub constant_over : first_reason_in counting_down two_places (large_arms 1 1 over 1) ≡ Some Shape
+  pub most_multiplier : first_reason_in counting_down two_places (large_arms 1 1 0 most) ≡ Some (ArmLow 2 1)
+  pub multiplier_over : first_reason_in counting_down two_places (large_arms 1 1 0 over) ≡ Some Shape
 
 -- the constants of a weaker bound go up to 2^127 - 1, its bases down to 2, and its inputs are start arguments
 abbrev pub weaker_than_never : Bound → Proof
@@ -134,12 +134,12 @@ weaker_than_never b = Weaken (Cite 1) b
 
 pub record WeakerLimitsAreMet : Type 0 where
   pub constant :
-      told contradicted (only (Time 2 (Constant 0))) (weaker_than_never (Constant (2 ^ 127 - 1))) ≡ None
+      first_reason_in contradicted (only (Time 2 (Constant 0))) (weaker_than_never (Constant (2 ^ 127 - 1))) ≡ None
   pub constant_over :
-      told contradicted (only (Time 2 (Constant 0))) (weaker_than_never (Constant (2 ^ 127))) ≡ Some Shape
-  pub base : told contradicted (only (Time 2 (Constant 0))) (weaker_than_never (PowerOf 2 (Input 0))) ≡ None
-  pub base_under : told contradicted (only (Time 2 (Constant 0))) (weaker_than_never (PowerOf 1 (Input 0))) ≡ Some Shape
-  pub input_over : told contradicted (only (Time 2 (Constant 0))) (weaker_than_never (PowerOf 2 (Input 1))) ≡ Some Shape
+      first_reason_in contradicted (only (Time 2 (Constant 0))) (weaker_than_never (Constant (2 ^ 127))) ≡ Some Shape
+  pub base : first_reason_in contradicted (only (Time 2 (Constant 0))) (weaker_than_never (PowerOf 2 (Input 0))) ≡ None
+  pub base_under : first_reason_in contradicted (only (Time 2 (Constant 0))) (weaker_than_never (PowerOf 1 (Input 0))) ≡ Some Shape
+  pub input_over : first_reason_in contradicted (only (Time 2 (Constant 0))) (weaker_than_never (PowerOf 2 (Input 1))) ≡ Some Shape
 
 -- the first rule occurs once, at most five times, and the place after it is A
 abbrev pub two_times : List (List Fact)
@@ -153,9 +153,9 @@ never_or_thrice = (Time 2 (Constant 0) ∷ []) ∷ (Time 2 (Constant 3) ∷ []) 
 pub record FirstFactsCount : Type 0 where
   pub five : facts_of (setting_of counting_down) two_times (alone 2 (1 ∷ []) (cited (2 ∷ 1 ∷ 3 ∷ [])))
       ≡ Time 2 (product (Constant 5 ∷ Input 0 ∷ [])) ∷ []
-  pub five_accepted : told counting_down two_times (alone 2 (1 ∷ []) (cited (2 ∷ 1 ∷ 3 ∷ []))) ≡ None
+  pub five_accepted : first_reason_in counting_down two_times (alone 2 (1 ∷ []) (cited (2 ∷ 1 ∷ 3 ∷ []))) ≡ None
   pub one : facts_of (setting_of counting_down) two_times (alone 2 (1 ∷ []) (cited (1 ∷ 2 ∷ 3 ∷ [])))
       ≡ Time 2 (Input 0) ∷ []
-  pub unreached : told cut_off never_or_thrice (Unreached 3 (cited (2 ∷ 1 ∷ []))) ≡ None
-  pub reached : told cut_off never_or_thrice (Unreached 3 (cited (2 ∷ []))) ≡ Some Reached
-  pub not_weaker : told counting_down two_times (Weaken (Cite 2) (Constant 4)) ≡ Some NotWeaker
+  pub unreached : first_reason_in cut_off never_or_thrice (Unreached 3 (cited (2 ∷ 1 ∷ []))) ≡ None
+  pub reached : first_reason_in cut_off never_or_thrice (Unreached 3 (cited (2 ∷ []))) ≡ Some Reached
+  pub not_weaker : first_reason_in counting_down two_times (Weaken (Cite 2) (Constant 4)) ≡ Some NotWeaker

@@ -1,6 +1,6 @@
-// Whether a proof node is accepted, decided by computing: the first reason why it isn't, or none. Definitions in
-// `specs/`, and the law that this says what the definitions of acceptance say. The functions here have no code: the
-// contract of each is a law, or values that were worked out by hand.
+//! Whether a proof node is accepted, decided by computing: the first reason why it isn't, or none. Definitions in
+//! `specs/`, and the law that this says what the definitions of acceptance say. The functions here have no code: the
+//! contract of each is a law, or values that were worked out by hand.
 #![tactic(auto)]
 
 ghost use Rattle.proof_decision.specs.Laws.{FirstReasonsAreDecided, LemmasAreDecided};

@@ -1,18 +1,19 @@
 -- Absolute values of sums, products and polynomials.
-use Rattle.std.proofs.Common.{◌≡◌, ◌⊎◌, inl, inr, ℕ, suc, ◌+◌, ◌*◌, ◌<◌, ◌≤◌, ◌==◌, Bool, true, false, List, [], ◌∷◌, refl, arith, All, mul-le-mul, le_trans}
+use Rattle.std.proofs.Common.{◌≡◌, ◌⊎◌, inl, inr, ℕ, suc, ◌+◌, ◌*◌, ◌<◌, ◌≤◌, ◌==◌, Bool, true, false, List, [], ◌∷◌}
+use Rattle.std.proofs.Common.{refl, arith, All, mul-le-mul, le_trans}
 use Rattle.std.specs.Prelude.{ℤ, pos, negsuc, ◌+ℤ◌, ◌*ℤ◌, neg_ℤ, ◌≤ℤ◌, nat_abs}
 use Rattle.std.specs.List.{list_any}
 use Rattle.std.proofs.lemmas.Int.{ints}
 use Rattle.std.proofs.lemmas.Bool.{or_left, or_right}
 use Rattle.std.proofs.lemmas.List.Elements.{All-head, All-tail}
-use Rattle.model.specs.Bounds.{Bound, val, val_sum, val_product}
-use Rattle.model.specs.Polynomials.{Monomial, Polynomial, product_value, monomial_value, polynomial_value}
-use Rattle.linear_forms.specs.Forms.{at}
-use Rattle.model.specs.Entries.{is_in}
+use Rattle.run_counting.specs.model.Bounds.{Bound, val, val_sum, val_product}
+use Rattle.run_counting.specs.model.Polynomials.{Monomial, Polynomial, product_value, monomial_value, polynomial_value}
+use Rattle.rule_forms.specs.linear_forms.Forms.{at}
+use Rattle.run_counting.specs.model.Entries.{is_in}
 use Rattle.proof_nodes.specs.Composed.{parts_for}
 use Rattle.proof_nodes.specs.ComposedSizes.{monomial_parts}
 use Rattle.proof_nodes.specs.AcceptsSizes.{ReadsLeft}
-use Rattle.model.proofs.Membership.{same_number, is_in-cases, no_is_not_yes}
+use Rattle.run_counting.proofs.model.Membership.{same_number, is_in-cases, no_is_not_yes}
 
 -- a number and its negation are at most the absolute value
 pub abs-up : (x : ℤ) → x ≤ℤ pos (nat_abs x)

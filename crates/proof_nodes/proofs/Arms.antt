@@ -1,24 +1,27 @@
 -- Why an accepted arm is never below the new value on its side.
-use Rattle.std.proofs.Common.{◌≡◌, ℕ, zero, suc, ◌+◌, ◌-◌, ◌*◌, ◌<◌, ◌≤◌, Bool, true, false, List, ◌++◌, length, Option, Some, sym, ap, ◌∙◌, arith, le_of_mul-le-mul_right}
+use Rattle.std.proofs.Common.{◌≡◌, ℕ, zero, suc, ◌+◌, ◌-◌, ◌*◌, ◌<◌, ◌≤◌, Bool, true, false, List, ◌++◌, length, Option}
+use Rattle.std.proofs.Common.{Some, sym, ap, ◌∙◌, arith, le_of_mul-le-mul_right}
 use Rattle.std.specs.Prelude.{ℤ, pos, negsuc, ◌+ℤ◌, ◌*ℤ◌, neg_ℤ, ◌≤ℤ◌, nat_abs, ⊤}
 use Rattle.std.proofs.lemmas.Int.{ints}
 use Rattle.std.proofs.lemmas.List.{get_or_append_left}
-use Rattle.int_laws.proofs.RingLaws.{neg-mul_ℤ, mul_comm_ℤ}
-use Rattle.model.specs.Runs.{Config, place_value}
-use Rattle.model.specs.Bounds.{Bound, val, val_sum}
-use Rattle.model.specs.Polynomials.{Polynomial, polynomial_value}
-use Rattle.linear_forms.specs.Forms.{Form, at, form_value}
+use Rattle.rule_forms.proofs.int_laws.RingLaws.{neg-mul_ℤ, mul_comm_ℤ}
+use Rattle.run_counting.specs.model.Runs.{Config, place_value}
+use Rattle.run_counting.specs.model.Bounds.{Bound, val, val_sum}
+use Rattle.run_counting.specs.model.Polynomials.{Polynomial, polynomial_value}
+use Rattle.rule_forms.specs.linear_forms.Forms.{Form, at, form_value}
 use Rattle.proof_nodes.specs.Nodes.{Spot, Arm, Linear, Poly}
 use Rattle.proof_nodes.specs.Setting.{Setting, StepPoint}
-use Rattle.proof_nodes.specs.ComposedSizes.{poly_of, poly_at, reads, has_variable, monomial_parts, slope_of, offset_of, polynomial_bound}
-use Rattle.proof_nodes.specs.AcceptsSizes.{HasArmShape, HasLinearShape, Side, Up, Low, arm_goal, new_value, AcceptsArm, left_of}
-use Rattle.linear_forms.specs.Combinations.{form_times}
-use Rattle.linear_forms.proofs.CombinationLaws.{form_value-sum, form_value-times}
-use Rattle.linear_forms.proofs.CertificateLaws.{implied_on_points}
-use Rattle.proof_nodes.proofs.Covering.{form-covered}
-use Rattle.proof_nodes.proofs.Ranking.{values_at, value_at, value_before}
+use Rattle.proof_nodes.specs.ComposedSizes.{poly_of, poly_at, reads, has_variable, monomial_parts, slope_of, offset_of}
+use Rattle.proof_nodes.specs.ComposedSizes.{polynomial_bound}
+use Rattle.proof_nodes.specs.AcceptsSizes.{HasArmShape, HasLinearShape, Side, Up, Low, arm_goal, new_value, AcceptsArm}
+use Rattle.proof_nodes.specs.AcceptsSizes.{left_of}
+use Rattle.rule_forms.specs.linear_forms.Combinations.{form_times}
+use Rattle.rule_forms.proofs.linear_forms.CombinationLaws.{form_value-sum, form_value-times}
+use Rattle.rule_forms.proofs.linear_forms.CertificateLaws.{implied_on_points}
+use Rattle.proof_nodes.proofs.FormBounds.{form-covered}
+use Rattle.proof_nodes.proofs.RankSoundness.{values_at, value_at, value_before}
 use Rattle.proof_nodes.proofs.AbsoluteValues.{abs-up, abs-down, polynomial-covered, reads_left}
-use Rattle.int_laws.proofs.ZeroLaws.{not_zero-told as not_zero_told}
+use Rattle.rule_forms.proofs.int_laws.ZeroLaws.{not_zero-told as not_zero_told}
 
 -- a new value as its side looks at it
 abbrev pub on_side : Side → ℤ → ℤ

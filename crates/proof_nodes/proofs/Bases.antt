@@ -1,10 +1,10 @@
 -- Composed bounds have bases of at least 1 where what they are made of has.
 use Rattle.std.proofs.Common.{◌≡◌, ℕ, suc, ◌||◌, Bool, true, false, List, [], ◌∷◌, Option, Some, None, refl}
 use Rattle.std.specs.Prelude.{ℤ}
-use Rattle.int_laws.specs.NormalForm.{is_zero}
-use Rattle.model.specs.Bounds.{Bound, IsBased, AreBased}
-use Rattle.linear_forms.specs.Forms.{Form}
-use Rattle.model.specs.Polynomials.{Polynomial}
+use Rattle.rule_forms.specs.int_laws.NormalForm.{is_zero}
+use Rattle.run_counting.specs.model.Bounds.{Bound, IsBased, AreBased}
+use Rattle.rule_forms.specs.linear_forms.Forms.{Form}
+use Rattle.run_counting.specs.model.Polynomials.{Polynomial}
 use Rattle.proof_nodes.specs.Nodes.{Arm, Linear, Poly}
 use Rattle.proof_nodes.specs.Composed.{parts_for, place_parts, rest_bound, no_place}
 use Rattle.proof_nodes.specs.ComposedSizes.{monomial_parts, polynomial_bound, offset_of, arm_bound}

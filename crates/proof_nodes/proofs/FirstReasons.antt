@@ -3,22 +3,23 @@
 use Rattle.std.proofs.Common.{◌≡◌, ◌≢◌, ℕ, zero, suc, ◌<◌, not, Bool, true, false, List, [], ◌∷◌, length, refl, arith}
 use Rattle.std.specs.Prelude.{ℤ, pos}
 use Rattle.std.specs.List.{AllByRecursion}
-use Rattle.int_laws.specs.NormalForm.{is_zero}
-use Rattle.linear_forms.specs.Forms.{at}
+use Rattle.rule_forms.specs.int_laws.NormalForm.{is_zero}
+use Rattle.rule_forms.specs.linear_forms.Forms.{at}
 use Rattle.proof_nodes.specs.Nodes.{Spot, RankNode}
 use Rattle.proof_nodes.specs.Known.{IsKnown, Table}
-use Rattle.model.specs.Entries.{entries}
+use Rattle.run_counting.specs.model.Entries.{entries}
 use Rattle.proof_nodes.specs.Setting.{Setting}
 use Rattle.proof_nodes.specs.AcceptsRank.{AcceptsRank, Loses, at_target, rank_time}
 use Rattle.proof_nodes.specs.Reasons.{AllPass}
 use Rattle.proof_nodes.specs.Checks.{needed_after, needed_after_each, rank_checks}
-use Rattle.model.proofs.Membership.{no_is_not_yes}
-use Rattle.model.proofs.Entries.{listed-from, listed-told}
-use Rattle.proof_nodes.proofs.Covering.{told_not_zero}
+use Rattle.run_counting.proofs.model.Membership.{no_is_not_yes}
+use Rattle.run_counting.proofs.model.Entries.{listed-from, listed-told}
+use Rattle.proof_nodes.proofs.FormBounds.{told_not_zero}
 use Rattle.proof_nodes.proofs.Stable.{stable-known, stable-implies}
 use Rattle.proof_nodes.proofs.StableShapes.{stable-small, stable-rank_shape}
-use Rattle.proof_nodes.proofs.CheckLists.{AreStable, each_passes, passes_each, each_stable, each-in, in-each, each-append, append-each, map-each, each-map, below-each, each-below}
-use Rattle.int_laws.proofs.ZeroLaws.{not_zero-told}
+use Rattle.proof_nodes.proofs.CheckLists.{AreStable, each_passes, passes_each, each_stable, each-in, in-each}
+use Rattle.proof_nodes.proofs.CheckLists.{each-append, append-each, map-each, each-map, below-each, each-below}
+use Rattle.rule_forms.proofs.int_laws.ZeroLaws.{not_zero-told}
 
 -- a coefficient that isn't 0 is listed
 pub listed_coefficient : (cs : List ℤ) (j : ℕ) → at cs j ≢ pos 0 → j < length cs

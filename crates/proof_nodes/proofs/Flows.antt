@@ -1,15 +1,17 @@
 -- What flows in a loop: each flow is within the base, or within its rule's factor and addition.
-use Rattle.std.proofs.Common.{◌≡◌, ◌⊎◌, inl, inr, ℕ, suc, ◌+◌, ◌*◌, ◌≤◌, ◌==◌, ◌&&◌, not, max, Bool, true, false, List, [], ◌∷◌, ◌++◌, Option, refl, sym, ap, ◌∙◌, subst, arith, All, mul-le-mul}
+use Rattle.std.proofs.Common.{◌≡◌, ◌⊎◌, inl, inr, ℕ, suc, ◌+◌, ◌*◌, ◌≤◌, ◌==◌, ◌&&◌, not, max, Bool, true, false, List}
+use Rattle.std.proofs.Common.{[], ◌∷◌, ◌++◌, Option, refl, sym, ap, ◌∙◌, subst, arith, All, mul-le-mul}
 use Rattle.std.specs.List.{list_any}
 use Rattle.std.proofs.lemmas.Bool.{and_from, and_parts, or_left, or_right, not_from_false}
 use Rattle.std.proofs.lemmas.List.Elements.{All-head, All-tail}
-use Rattle.model.specs.Bounds.{Bound, val, val_maximum}
+use Rattle.run_counting.specs.model.Bounds.{Bound, val, val_maximum}
 use Rattle.proof_nodes.specs.Nodes.{Member}
-use Rattle.model.specs.Entries.{is_in}
-use Rattle.model.specs.Paths.{pre}
+use Rattle.run_counting.specs.model.Entries.{is_in}
+use Rattle.run_counting.specs.model.Paths.{pre}
 use Rattle.proof_nodes.specs.Setting.{Setting}
-use Rattle.proof_nodes.specs.ComposedSizes.{is_member, Flow, flow, flows_from, flows_into, is_outer, is_inner, offsets, base_of, addition_of, factor_of}
-use Rattle.model.proofs.Membership.{is_in-cases, same_number, told_same, no_is_not_yes}
+use Rattle.proof_nodes.specs.ComposedSizes.{is_member, Flow, flow, flows_from, flows_into, is_outer, is_inner, offsets}
+use Rattle.proof_nodes.specs.ComposedSizes.{base_of, addition_of, factor_of}
+use Rattle.run_counting.proofs.model.Membership.{is_in-cases, same_number, told_same, no_is_not_yes}
 
 -- a list has an element
 abbrev pub IsAmong : {X : Type 0} → X → List X → Type 0

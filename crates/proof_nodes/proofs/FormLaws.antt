@@ -2,13 +2,13 @@
 use Rattle.std.proofs.Common.{◌≡◌, ℕ, suc, ◌<◌, List, [], ◌∷◌, map, length, refl, sym, ap, ◌∙◌, arith}
 use Rattle.std.specs.Prelude.{ℤ, pos, negsuc, ◌+ℤ◌, ◌-ℤ◌, ◌*ℤ◌}
 use Rattle.std.proofs.lemmas.Int.{ints}
-use Rattle.int_laws.proofs.RingLaws.{mul-zero_ℤ, mul_comm_ℤ}
-use Rattle.linear_forms.specs.Forms.{Form, at, list_dot, form_value}
-use Rattle.linear_forms.specs.Combinations.{form_times, combination, less}
-use Rattle.linear_forms.proofs.CombinationLaws.{form_value-sum, form_value-times, form_value-combination}
-use Rattle.linear_forms.specs.Losses.{at_new_values}
+use Rattle.rule_forms.proofs.int_laws.RingLaws.{mul-zero_ℤ, mul_comm_ℤ}
+use Rattle.rule_forms.specs.linear_forms.Forms.{Form, at, list_dot, form_value}
+use Rattle.rule_forms.specs.linear_forms.Combinations.{form_times, combination, less}
+use Rattle.rule_forms.proofs.linear_forms.CombinationLaws.{form_value-sum, form_value-times, form_value-combination}
+use Rattle.rule_forms.specs.linear_forms.Losses.{at_new_values}
 use Rattle.proof_nodes.specs.Combined.{form_at}
-use Rattle.linear_forms.specs.RuleQuestions.{constant_form}
+use Rattle.rule_forms.specs.linear_forms.RuleQuestions.{constant_form}
 
 -- unknowns that agree where there are coefficients
 pub dot-same : (xs : List ℤ) (z w : ℕ → ℤ) → ((i : ℕ) → i < length xs → z i ≡ w i) → list_dot xs z ≡ list_dot xs w

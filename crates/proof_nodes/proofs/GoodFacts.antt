@@ -1,13 +1,14 @@
 -- Facts that hold and whose bounds have bases of at least 1, and what is looked up among them.
-use Rattle.std.proofs.Common.{◌≡◌, ℕ, ◌==◌, ◌&&◌, Bool, true, false, List, [], ◌∷◌, Option, Some, None, refl, subst, All}
+use Rattle.std.proofs.Common.{◌≡◌, ℕ, ◌==◌, ◌&&◌, Bool, true, false, List, [], ◌∷◌, Option, Some, None, refl, subst}
+use Rattle.std.proofs.Common.{All}
 use Rattle.std.proofs.lemmas.Bool.{and_parts}
 use Rattle.std.proofs.lemmas.List.Elements.{All-head, All-tail}
-use Rattle.model.specs.Programs.{Program}
-use Rattle.model.specs.Bounds.{Bound, IsBased}
-use Rattle.model.specs.Facts.{Fact, Time, Size, HoldsTime, HoldsSize, Holds}
+use Rattle.run_counting.specs.model.Programs.{Program}
+use Rattle.run_counting.specs.model.Bounds.{Bound, IsBased}
+use Rattle.run_counting.specs.model.Facts.{Fact, Time, Size, HoldsTime, HoldsSize, Holds}
 use Rattle.proof_nodes.specs.Known.{IsKnown, known, time_in, size_in, Table, table_of}
 use Rattle.proof_nodes.specs.Laws.{HasBasedBound}
-use Rattle.model.proofs.Membership.{told_same}
+use Rattle.run_counting.proofs.model.Membership.{told_same}
 
 -- a fact that holds on all runs, and whose bound has bases of at least 1
 pub record IsGood (p : Program) (f : Fact) : Type 0 where

@@ -1,12 +1,12 @@
 -- Where a step begins and ends, and which rule can come next, as membership in lists.
 use Rattle.std.proofs.Common.{◌≡◌, ℕ, true, List, [], ◌∷◌, Option, Some, sym, ap, ◌∙◌}
 use Rattle.std.specs.Prelude.{ℤ}
-use Rattle.model.specs.Programs.{Program}
-use Rattle.model.specs.Runs.{Config, Step, IsStep, IsRun, last_rule}
-use Rattle.model.specs.Paths.{source_of, target_of, same_symbol, entry_and_rules, pre}
-use Rattle.model.proofs.StepLaws.{source_of-rule, target_of-rule, listed}
-use Rattle.model.specs.Entries.{is_in}
-use Rattle.model.proofs.Membership.{same_number, is_in-contained, rule_is_numbered, entry_is_numbered}
+use Rattle.run_counting.specs.model.Programs.{Program}
+use Rattle.run_counting.specs.model.Runs.{Config, Step, IsStep, IsRun, last_rule}
+use Rattle.run_counting.specs.model.Paths.{source_of, target_of, same_symbol, entry_and_rules, pre}
+use Rattle.run_counting.proofs.model.StepLaws.{source_of-rule, target_of-rule, listed}
+use Rattle.run_counting.specs.model.Entries.{is_in}
+use Rattle.run_counting.proofs.model.Membership.{same_number, is_in-contained, rule_is_numbered, entry_is_numbered}
 
 -- a step leaves the source of its rule
 pub source-step : (p : Program) (b : Config) (s : Step) (c : Config) → IsStep p b s c → source_of p s.rule ≡ Some b.at

@@ -1,19 +1,19 @@
 pub mod FormLaws
 pub mod LastSteps
-pub mod Covering
+pub mod FormBounds
 pub mod GoodFacts
 pub mod Bases
 pub mod Payments
-pub mod Ranking
-pub mod Unrun
+pub mod RankSoundness
+pub mod UnusedRules
 pub mod Weaker
 pub mod AbsoluteValues
 pub mod Arms
-pub mod Spreading
-pub mod Looping
+pub mod SpreadSoundness
+pub mod LoopGrowth
 pub mod Flows
 pub mod LoopBounds
-pub mod Cycling
+pub mod CycleSoundness
 pub mod Soundness
 pub mod Stable
 pub mod StableShapes
@@ -27,3 +27,5 @@ pub mod WorkedAccepted
 pub mod WorkedPlain
 pub mod WorkedSizes
 pub mod WorkedReasons
+-- the lemmas of the crates below, which callers name through this one
+pub use Rattle.rule_forms.proofs as rule_forms

@@ -1,23 +1,26 @@
 -- The formula of a loop as a bound: it is at least what the loop can grow, and its bases are at least 1.
-use Rattle.std.proofs.Common.{◌≡◌, ℕ, zero, suc, ◌+◌, ◌*◌, ◌^◌, ◌≤◌, ◌==◌, ◌||◌, not, Bool, true, false, List, [], ◌∷◌, Option, refl, sym, ap, ◌∙◌, arith, All, mul-le-mul, le_trans, le_of_eq, pow-suc}
+use Rattle.std.proofs.Common.{◌≡◌, ℕ, zero, suc, ◌+◌, ◌*◌, ◌^◌, ◌≤◌, ◌==◌, ◌||◌, not, Bool, true, false, List, [], ◌∷◌}
+use Rattle.std.proofs.Common.{Option, refl, sym, ap, ◌∙◌, arith, All, mul-le-mul, le_trans, le_of_eq, pow-suc}
 use Rattle.std.proofs.Math.Nat.{pow-le-pow_right}
 use Rattle.std.proofs.lemmas.Bool.{or_left, or_right, ltb-false}
 use Rattle.std.proofs.lemmas.List.Elements.{All-nil, All-cons, All-head, All-tail, All-append}
-use Rattle.model.specs.Runs.{Step, count}
-use Rattle.model.specs.Bounds.{Bound, val, val_sum, val_product, IsBased, AreBased}
+use Rattle.run_counting.specs.model.Runs.{Step, count}
+use Rattle.run_counting.specs.model.Bounds.{Bound, val, val_sum, val_product, IsBased, AreBased}
 use Rattle.proof_nodes.specs.Nodes.{Member}
-use Rattle.model.specs.Entries.{is_in}
-use Rattle.model.specs.Paths.{pre}
+use Rattle.run_counting.specs.model.Entries.{is_in}
+use Rattle.run_counting.specs.model.Paths.{pre}
 use Rattle.proof_nodes.specs.Known.{known, is_zero_bound}
 use Rattle.proof_nodes.specs.Setting.{Setting, IsFaithful}
 use Rattle.proof_nodes.specs.Composed.{sizes_after}
-use Rattle.proof_nodes.specs.ComposedSizes.{poly_at, is_member, Flow, flow, flows_from, flows_into, is_outer, is_inner, offsets, base_of, addition_of, factor_of, multiplies, adds, growth_parts, addition_parts, loop_bound}
+use Rattle.proof_nodes.specs.ComposedSizes.{poly_at, is_member, Flow, flow, flows_from, flows_into, is_outer, is_inner}
+use Rattle.proof_nodes.specs.ComposedSizes.{offsets, base_of, addition_of, factor_of, multiplies, adds, growth_parts}
+use Rattle.proof_nodes.specs.ComposedSizes.{addition_parts, loop_bound}
 use Rattle.run_counting.specs.Paying.{income}
 use Rattle.proof_nodes.specs.Feeding.{growth}
-use Rattle.model.proofs.Membership.{same_number}
+use Rattle.run_counting.proofs.model.Membership.{same_number}
 use Rattle.proof_nodes.proofs.Flows.{factor-least}
 use Rattle.proof_nodes.proofs.Bases.{offset_of-based}
-use Rattle.proof_nodes.proofs.Unrun.{zero_val}
+use Rattle.proof_nodes.proofs.UnusedRules.{zero_val}
 
 -- powers of 1
 one_to : (n : ℕ) → 1 ^ n ≡ 1

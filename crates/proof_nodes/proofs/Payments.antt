@@ -1,12 +1,12 @@
 -- What comes in by entries, as a bound.
 use Rattle.std.proofs.Common.{◌≡◌, ℕ, ◌*◌, ◌≤◌, ◌==◌, true, List, [], ◌∷◌, arith, mul-le-mul}
 use Rattle.std.proofs.lemmas.Bool.{or_left, or_right}
-use Rattle.model.specs.Runs.{Step, count}
-use Rattle.model.specs.Bounds.{Bound, ProductOf, val, val_sum}
-use Rattle.model.specs.Entries.{is_in}
+use Rattle.run_counting.specs.model.Runs.{Step, count}
+use Rattle.run_counting.specs.model.Bounds.{Bound, ProductOf, val, val_sum}
+use Rattle.run_counting.specs.model.Entries.{is_in}
 use Rattle.proof_nodes.specs.Composed.{both_parts, parts_for}
 use Rattle.run_counting.specs.Paying.{income}
-use Rattle.model.proofs.Membership.{same_number}
+use Rattle.run_counting.proofs.model.Membership.{same_number}
 
 -- what comes in by entries is at most the bound with a part for each: its time, and its weight as a bound
 pub income-bounded : (time weight : ℕ → Bound) (m : List ℕ) (es : List ℕ) (steps : List Step)

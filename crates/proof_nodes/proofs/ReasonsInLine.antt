@@ -1,6 +1,6 @@
 -- First reasons are in line with acceptance, node by node.
 use Rattle.std.proofs.Common.{List}
-use Rattle.model.specs.Facts.{Fact}
+use Rattle.run_counting.specs.model.Facts.{Fact}
 use Rattle.proof_nodes.specs.Nodes.{Proof, Cite, Start, Empty, Unreached, Never, Rank, Spread, Cycle, Weaken}
 use Rattle.proof_nodes.specs.Known.{table_of}
 use Rattle.proof_nodes.specs.Setting.{Setting}
@@ -10,10 +10,12 @@ use Rattle.proof_nodes.specs.Reasons.{AllPass}
 use Rattle.proof_nodes.specs.Checks.{checks_of}
 use Rattle.proof_nodes.specs.ReasonLaws.{FirstReasonsAreInLine}
 use Rattle.proof_nodes.proofs.Stable.{stable-implies}
-use Rattle.proof_nodes.proofs.StableShapes.{stable-rule, stable-unreached, stable-cite, stable-empty_shape, stable-one_time, stable-zero_time, stable-weaken_shape, stable-weaker}
+use Rattle.proof_nodes.proofs.StableShapes.{stable-rule, stable-unreached, stable-cite, stable-empty_shape}
+use Rattle.proof_nodes.proofs.StableShapes.{stable-one_time, stable-zero_time, stable-weaken_shape, stable-weaker}
 use Rattle.proof_nodes.proofs.CheckLists.{passed_has_none, first_is_one, AreStable, none_passes}
 use Rattle.proof_nodes.proofs.FirstReasons.{rank-passes, passes-rank, rank-stable}
-use Rattle.proof_nodes.proofs.SizeReasons.{spread-passes, passes-spread, spread-stable, cycle-passes, passes-cycle, cycle-stable}
+use Rattle.proof_nodes.proofs.SizeReasons.{spread-passes, passes-spread, spread-stable, cycle-passes, passes-cycle}
+use Rattle.proof_nodes.proofs.SizeReasons.{cycle-stable}
 
 module _ (s : Setting) (past : List (List Fact)) where
   -- the checks of an accepted node pass

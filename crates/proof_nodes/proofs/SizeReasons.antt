@@ -1,23 +1,30 @@
 -- The checks of spreads and loops pass exactly where they are accepted.
-use Rattle.std.proofs.Common.{◌≡◌, ℕ, suc, ◌<◌, ◌&&◌, ◌||◌, not, Bool, true, false, List, [], ◌∷◌, Option, refl, subst, All}
+use Rattle.std.proofs.Common.{◌≡◌, ℕ, suc, ◌<◌, ◌&&◌, ◌||◌, not, Bool, true, false, List, [], ◌∷◌, Option, refl, subst}
+use Rattle.std.proofs.Common.{All}
 use Rattle.std.specs.List.{AllByRecursion, list_any}
 use Rattle.std.proofs.lemmas.Bool.{and_parts, and_from, not_from_false}
 use Rattle.std.proofs.lemmas.List.Elements.{All-from_recursion, recursion_from_All}
-use Rattle.model.specs.Paths.{pre}
-use Rattle.model.specs.Polynomials.{Monomial, Polynomial}
-use Rattle.linear_forms.specs.Forms.{at}
+use Rattle.run_counting.specs.model.Paths.{pre}
+use Rattle.run_counting.specs.model.Polynomials.{Monomial, Polynomial}
+use Rattle.rule_forms.specs.linear_forms.Forms.{at}
 use Rattle.proof_nodes.specs.Nodes.{Arm, Linear, Poly, Member}
-use Rattle.model.specs.Entries.{is_in}
+use Rattle.run_counting.specs.model.Entries.{is_in}
 use Rattle.proof_nodes.specs.Known.{IsKnown, Table}
 use Rattle.proof_nodes.specs.Setting.{Setting}
 use Rattle.proof_nodes.specs.ComposedSizes.{poly_at, reads, has_variable, is_member, rules_of, flows, multiplies, adds}
-use Rattle.proof_nodes.specs.AcceptsSizes.{Side, Up, Low, HasArmShape, HasMemberShape, AcceptsArm, AcceptsUp, AcceptsLow, left_of, ArmHasSizes, HasSizesAfter, HasSizesBefore, IsStraightArm, IsStraight, AcceptsSpread, AcceptsCycle, spread_size, cycle_size}
+use Rattle.proof_nodes.specs.AcceptsSizes.{Side, Up, Low, HasArmShape, HasMemberShape, AcceptsArm, AcceptsUp}
+use Rattle.proof_nodes.specs.AcceptsSizes.{AcceptsLow, left_of, ArmHasSizes, HasSizesAfter, HasSizesBefore}
+use Rattle.proof_nodes.specs.AcceptsSizes.{IsStraightArm, IsStraight, AcceptsSpread, AcceptsCycle, spread_size}
+use Rattle.proof_nodes.specs.AcceptsSizes.{cycle_size}
 use Rattle.proof_nodes.specs.Reasons.{Check, AllPass}
-use Rattle.proof_nodes.specs.Checks.{needed_by, needed_from, needed_into, spread_checks, straight_from, straight_into, needed_times, cycle_checks}
-use Rattle.model.proofs.Membership.{no_is_not_yes, is_in-filter, filter-in}
+use Rattle.proof_nodes.specs.Checks.{needed_by, needed_from, needed_into, spread_checks, straight_from, straight_into}
+use Rattle.proof_nodes.specs.Checks.{needed_times, cycle_checks}
+use Rattle.run_counting.proofs.model.Membership.{no_is_not_yes, is_in-filter, filter-in}
 use Rattle.proof_nodes.proofs.Stable.{stable-known}
-use Rattle.proof_nodes.proofs.StableShapes.{stable-small, stable-member_shape, stable-arm, stable-cycle_shape, stable-straight}
-use Rattle.proof_nodes.proofs.CheckLists.{AreStable, each_passes, passes_each, each_stable, each-in, in-each, each-append, append-each, map-each, each-map, below-each, each-below}
+use Rattle.proof_nodes.proofs.StableShapes.{stable-small, stable-member_shape, stable-arm, stable-cycle_shape}
+use Rattle.proof_nodes.proofs.StableShapes.{stable-straight}
+use Rattle.proof_nodes.proofs.CheckLists.{AreStable, each_passes, passes_each, each_stable, each-in, in-each}
+use Rattle.proof_nodes.proofs.CheckLists.{each-append, append-each, map-each, each-map, below-each, each-below}
 use Rattle.proof_nodes.proofs.FirstReasons.{HasSize, listed_coefficient, told-not_zero}
 
 -- a variable that is among those of monomials with left variables alone is a left one

@@ -1,22 +1,24 @@
 -- Why all facts of accepted lemmas hold: each node keeps that what is stated so far is good.
 use Rattle.std.proofs.Common.{ℕ, zero, suc, List, [], ◌∷◌, ◌++◌, All}
 use Rattle.std.proofs.lemmas.List.Elements.{All-nil, All-cons, All-head, All-tail, All-append, All-push, All-weaker}
-use Rattle.model.specs.Programs.{Program}
-use Rattle.model.specs.Bounds.{Constant}
-use Rattle.model.specs.Facts.{Fact, Time, Size, Holds}
-use Rattle.proof_nodes.specs.Nodes.{Proof, Cite, Start, Empty, Unreached, Never, Rank, Spread, Cycle, Weaken, Proofs, NoProof, AndProof}
+use Rattle.run_counting.specs.model.Programs.{Program}
+use Rattle.run_counting.specs.model.Bounds.{Constant}
+use Rattle.run_counting.specs.model.Facts.{Fact, Time, Size, Holds}
+use Rattle.proof_nodes.specs.Nodes.{Proof, Cite, Start, Empty, Unreached, Never, Rank, Spread, Cycle, Weaken, Proofs}
+use Rattle.proof_nodes.specs.Nodes.{NoProof, AndProof}
 use Rattle.proof_nodes.specs.Setting.{Setting, IsFaithful}
 use Rattle.proof_nodes.specs.Known.{table_of}
 use Rattle.proof_nodes.specs.AcceptsRank.{rank_time}
 use Rattle.proof_nodes.specs.AcceptsSizes.{spread_size}
-use Rattle.proof_nodes.specs.Acceptance.{facts_of_lemma, facts_of, joined_facts, Accepts, AllAccepted, AcceptsFrom, facts_from, AcceptsLemmas, facts_of_lemmas}
+use Rattle.proof_nodes.specs.Acceptance.{facts_of_lemma, facts_of, joined_facts, Accepts, AllAccepted, AcceptsFrom}
+use Rattle.proof_nodes.specs.Acceptance.{facts_from, AcceptsLemmas, facts_of_lemmas}
 use Rattle.proof_nodes.specs.Laws.{AcceptedFactsHold, HasBasedBound, AcceptedBoundsAreBased}
 use Rattle.proof_nodes.proofs.GoodFacts.{IsGood, table-good}
-use Rattle.proof_nodes.proofs.Unrun.{empty-good, unreached-good, never-good}
+use Rattle.proof_nodes.proofs.UnusedRules.{empty-good, unreached-good, never-good}
 use Rattle.proof_nodes.proofs.Weaker.{start-good, weaken-good}
-use Rattle.proof_nodes.proofs.Ranking.{rank-good}
-use Rattle.proof_nodes.proofs.Spreading.{spread-good}
-use Rattle.proof_nodes.proofs.Cycling.{cycle-good}
+use Rattle.proof_nodes.proofs.RankSoundness.{rank-good}
+use Rattle.proof_nodes.proofs.SpreadSoundness.{spread-good}
+use Rattle.proof_nodes.proofs.CycleSoundness.{cycle-good}
 
 -- all facts of a lemma are good
 abbrev AreGood : Program → List Fact → Type 0

@@ -1,12 +1,14 @@
 -- What can't fail holds: of each statement that acceptance is made of, since numbers can be compared.
-use Rattle.std.proofs.Common.{◌≡◌, ◌≢◌, ◌⊎◌, inl, inr, ℕ, ◌<◌, ◌≤◌, ◌==◌, Bool, true, false, List, [], ◌∷◌, Option, Some, None, refl, ap, arith, All}
+use Rattle.std.proofs.Common.{◌≡◌, ◌≢◌, ◌⊎◌, inl, inr, ℕ, ◌<◌, ◌≤◌, ◌==◌, Bool, true, false, List, [], ◌∷◌, Option}
+use Rattle.std.proofs.Common.{Some, None, refl, ap, arith, All}
 use Rattle.std.specs.Prelude.{ℤ, pos, negsuc, ◌≤ℤ◌, ◌<ℤ◌}
 use Rattle.std.proofs.lemmas.Int.{ints}
 use Rattle.std.proofs.lemmas.Bool.Decides.{eqb_tells}
 use Rattle.std.proofs.lemmas.Bool.{cases_lt as order}
-use Rattle.model.specs.Bounds.{Bound, Constant, Input, SumOf, ProductOf, MaximumOf, PowerOf, Parts, NoParts, Part, EachNode, EachNodeOfAll}
-use Rattle.linear_forms.specs.Forms.{Form}
-use Rattle.linear_forms.specs.Certificates.{Implies}
+use Rattle.run_counting.specs.model.Bounds.{Bound, Constant, Input, SumOf, ProductOf, MaximumOf, PowerOf, Parts, NoParts, Part}
+use Rattle.run_counting.specs.model.Bounds.{EachNode, EachNodeOfAll}
+use Rattle.rule_forms.specs.linear_forms.Forms.{Form}
+use Rattle.rule_forms.specs.linear_forms.Certificates.{Implies}
 use Rattle.proof_nodes.specs.Known.{IsKnown}
 
 -- what can't fail holds

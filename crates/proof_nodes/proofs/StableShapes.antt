@@ -1,22 +1,26 @@
 -- What nodes are looked at for can't fail without being false.
-use Rattle.std.proofs.Common.{◌≡◌, ◌⊎◌, inl, inr, ℕ, zero, suc, ◌<◌, ◌≤◌, Bool, List, [], ◌∷◌, Option, Some, None, refl, sym, subst, arith, All}
+use Rattle.std.proofs.Common.{◌≡◌, ◌⊎◌, inl, inr, ℕ, zero, suc, ◌<◌, ◌≤◌, Bool, List, [], ◌∷◌, Option, Some, None, refl}
+use Rattle.std.proofs.Common.{sym, subst, arith, All}
 use Rattle.std.specs.Prelude.{nat_abs}
 use Rattle.std.proofs.lemmas.Bool.{cases_lt as order}
-use Rattle.model.specs.Programs.{Program, Rule, rule_at, arity_of}
-use Rattle.model.specs.Bounds.{Bound, Constant, Input, SumOf, ProductOf, MaximumOf, PowerOf}
-use Rattle.model.specs.Facts.{Fact, Time, Size}
-use Rattle.model.specs.Polynomials.{Monomial, Polynomial}
-use Rattle.linear_forms.specs.Forms.{Form}
+use Rattle.run_counting.specs.model.Programs.{Program, Rule, rule_at, arity_of}
+use Rattle.run_counting.specs.model.Bounds.{Bound, Constant, Input, SumOf, ProductOf, MaximumOf, PowerOf}
+use Rattle.run_counting.specs.model.Facts.{Fact, Time, Size}
+use Rattle.run_counting.specs.model.Polynomials.{Monomial, Polynomial}
+use Rattle.rule_forms.specs.linear_forms.Forms.{Form}
 use Rattle.bound_expr.specs.Numbers.{IsInputBelow, IsTidyNumber}
 use Rattle.proof_nodes.specs.Nodes.{Spot, Arm, Linear, Poly, Member, SymbolForm, RankNode}
 use Rattle.proof_nodes.specs.Numbers.{IsAscending}
 use Rattle.proof_nodes.specs.Limits.{IsInLimit, AreInLimit, IsFormInLimit, IsSmallComposed}
 use Rattle.proof_nodes.specs.Setting.{Setting}
 use Rattle.proof_nodes.specs.ComposedSizes.{poly_at}
-use Rattle.proof_nodes.specs.AcceptsPlain.{IsRule, AcceptsCite, AreMultipliers, HasEmptyShape, IsUnreached, IsOneTime, IsZeroTime, HasWeakenShape, IsWeaker}
+use Rattle.proof_nodes.specs.AcceptsPlain.{IsRule, AcceptsCite, AreMultipliers, HasEmptyShape, IsUnreached, IsOneTime}
+use Rattle.proof_nodes.specs.AcceptsPlain.{IsZeroTime, HasWeakenShape, IsWeaker}
 use Rattle.proof_nodes.specs.AcceptsRank.{HasFormShape, moves_of, HasRankShape}
-use Rattle.proof_nodes.specs.AcceptsSizes.{IsSpot, HasArmShape, left_of, HasMemberShape, Side, AcceptsArm, IsPolynomialUpdate, ComesBefore, AreAscending, HasCycleShape, IsStraightArm}
-use Rattle.proof_nodes.proofs.Stable.{IsStable, stable-never, stable-le, stable-nat, stable-bool, stable-list, stable-All, stable-nodes, stable-implies}
+use Rattle.proof_nodes.specs.AcceptsSizes.{IsSpot, HasArmShape, left_of, HasMemberShape, Side, AcceptsArm}
+use Rattle.proof_nodes.specs.AcceptsSizes.{IsPolynomialUpdate, ComesBefore, AreAscending, HasCycleShape, IsStraightArm}
+use Rattle.proof_nodes.proofs.Stable.{IsStable, stable-never, stable-le, stable-nat, stable-bool, stable-list}
+use Rattle.proof_nodes.proofs.Stable.{stable-All, stable-nodes, stable-implies}
 
 -- numbers within their limits
 stable-limit : (n : ℕ) → IsStable (IsInLimit n)

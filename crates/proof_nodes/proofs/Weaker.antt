@@ -1,14 +1,15 @@
 -- What holds of the virtual entry, and of weaker bounds.
-use Rattle.std.proofs.Common.{◌≡◌, ℕ, zero, suc, ◌-◌, ◌≤◌, List, [], ◌∷◌, Some, None, refl, sym, ap, ◌∙◌, arith, All, le_trans, slice_index}
+use Rattle.std.proofs.Common.{◌≡◌, ℕ, zero, suc, ◌-◌, ◌≤◌, List, [], ◌∷◌, Some, None, refl, sym, ap, ◌∙◌, arith, All}
+use Rattle.std.proofs.Common.{le_trans, slice_index}
 use Rattle.std.specs.Prelude.{ℤ, nat_abs}
 use Rattle.std.proofs.lemmas.List.Elements.{All-nil, All-cons, All-head}
-use Rattle.model.specs.Programs.{Program, rule_at}
-use Rattle.model.specs.Runs.{Config, Step, IsRun, last_rule, place_value, sizes_of_start}
-use Rattle.model.specs.Bounds.{Bound, Constant, Input, IsBased}
-use Rattle.model.specs.Facts.{Fact, Time, Size, HoldsTime, HoldsSize}
-use Rattle.model.proofs.RunLaws.{entry_once}
+use Rattle.run_counting.specs.model.Programs.{Program, rule_at}
+use Rattle.run_counting.specs.model.Runs.{Config, Step, IsRun, last_rule, place_value, sizes_of_start}
+use Rattle.run_counting.specs.model.Bounds.{Bound, Constant, Input, IsBased}
+use Rattle.run_counting.specs.model.Facts.{Fact, Time, Size, HoldsTime, HoldsSize}
+use Rattle.run_counting.proofs.model.RunLaws.{entry_once}
 use Rattle.bound_expr.proofs.Nodes.{HasTidyNumbers-based}
-use Rattle.linear_forms.specs.Forms.{at}
+use Rattle.rule_forms.specs.linear_forms.Forms.{at}
 use Rattle.proof_nodes.specs.Setting.{Setting, IsFaithful}
 use Rattle.proof_nodes.specs.AcceptsPlain.{AcceptsWeaken, places_at, start_sizes, start_facts, weakened}
 use Rattle.proof_nodes.proofs.GoodFacts.{IsGood}

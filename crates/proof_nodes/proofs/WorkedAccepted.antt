@@ -1,27 +1,31 @@
 -- The four lemmas on the program that counts down, and the ranking node over its loop alone, are accepted.
-use Rattle.std.proofs.Common.{◌≡◌, ◌≢◌, ◌⊎◌, inl, inr, ℕ, zero, suc, ◌≤◌, ◌||◌, true, false, List, [], ◌∷◌, length, None, refl, sym, subst, arith, All}
+use Rattle.std.proofs.Common.{◌≡◌, ◌≢◌, ◌⊎◌, inl, inr, ℕ, zero, suc, ◌≤◌, ◌||◌, true, false, List, [], ◌∷◌, length}
+use Rattle.std.proofs.Common.{None, refl, sym, subst, arith, All}
 use Rattle.std.specs.Prelude.{ℤ, pos, negsuc, ◌≤ℤ◌, nat_abs}
 use Rattle.std.proofs.lemmas.Int.{ints}
 use Rattle.std.proofs.lemmas.List.Elements.{All-nil, All-cons}
-use Rattle.model.specs.Programs.{Program, arity_of}
-use Rattle.model.specs.Facts.{Fact, Time, Size}
-use Rattle.model.specs.Bounds.{Constant, Input}
-use Rattle.linear_forms.specs.Forms.{Form, at}
-use Rattle.linear_forms.specs.Certificates.{Implies, combined_coef, combined_constant}
+use Rattle.run_counting.specs.model.Programs.{Program, arity_of}
+use Rattle.run_counting.specs.model.Facts.{Fact, Time, Size}
+use Rattle.run_counting.specs.model.Bounds.{Constant, Input}
+use Rattle.rule_forms.specs.linear_forms.Forms.{Form, at}
+use Rattle.rule_forms.specs.linear_forms.Certificates.{Implies, combined_coef, combined_constant}
 use Rattle.proof_nodes.specs.Nodes.{Arm, SymbolForm, Member, Cite, AndProof}
 use Rattle.proof_nodes.specs.ComposedSizes.{poly_at, reads, Flow, flows, is_member, multiplies, adds}
-use Rattle.model.specs.Entries.{is_in, IsEntry, entries}
+use Rattle.run_counting.specs.model.Entries.{is_in, IsEntry, entries}
 use Rattle.proof_nodes.specs.Limits.{IsInLimit, IsFormInLimit}
 use Rattle.proof_nodes.specs.Known.{IsKnown, time_in, size_in, table_of}
 use Rattle.proof_nodes.specs.Setting.{Setting}
 use Rattle.proof_nodes.specs.Acceptance.{Accepts, AcceptsLemmas}
 use Rattle.proof_nodes.specs.AcceptsPlain.{IsRule, AreMultipliers}
 use Rattle.proof_nodes.specs.AcceptsRank.{HasFormShape, moves_of, at_target, Loses}
-use Rattle.proof_nodes.specs.AcceptsSizes.{HasLinearShape, HasMemberShape, HasSizesAfter, HasSizesBefore, IsStraight, AcceptsUp, AcceptsLow, left_of}
+use Rattle.proof_nodes.specs.AcceptsSizes.{HasLinearShape, HasMemberShape, HasSizesAfter, HasSizesBefore, IsStraight}
+use Rattle.proof_nodes.specs.AcceptsSizes.{AcceptsUp, AcceptsLow, left_of}
 use Rattle.proof_nodes.specs.WorkedSettings.{form, counting, enter, count_down}
-use Rattle.proof_nodes.specs.Worked.{at_symbol, once_time, down_time, entered_size, once, once_node, down, down_node, entered, entered_member, looped, looped_member, four_lemmas, first_fact, first_and_size, down_alone, alone_node, only}
-use Rattle.model.proofs.Entries.{listed-from}
-use Rattle.model.proofs.Membership.{is_in-cases, no_is_not_yes}
+use Rattle.proof_nodes.specs.Worked.{at_symbol, once_time, down_time, entered_size, once, once_node, down, down_node}
+use Rattle.proof_nodes.specs.Worked.{entered, entered_member, looped, looped_member, four_lemmas, first_fact}
+use Rattle.proof_nodes.specs.Worked.{first_and_size, down_alone, alone_node, only}
+use Rattle.run_counting.proofs.model.Entries.{listed-from}
+use Rattle.run_counting.proofs.model.Membership.{is_in-cases, no_is_not_yes}
 
 -- what holds of one number holds of each in its list; the same with two
 pub of_one : (P : ℕ → Type 0) (a : ℕ) → P a → (t : ℕ) → is_in t (a ∷ []) ≡ true → P t

@@ -1,19 +1,22 @@
 -- The setting of the program that counts down says what is true.
-use Rattle.std.proofs.Common.{◌≡◌, ℕ, zero, suc, ◌*◌, ◌≤◌, Bool, true, false, List, [], ◌∷◌, ◌++◌, length, Some, None, refl, sym, ap, ◌∙◌, subst, arith}
+use Rattle.std.proofs.Common.{◌≡◌, ℕ, zero, suc, ◌*◌, ◌≤◌, Bool, true, false, List, [], ◌∷◌, ◌++◌, length, Some, None}
+use Rattle.std.proofs.Common.{refl, sym, ap, ◌∙◌, subst, arith}
 use Rattle.std.specs.Prelude.{ℤ, pos, negsuc, ◌≤ℤ◌}
 use Rattle.std.proofs.lemmas.Int.{ints}
 use Rattle.std.proofs.lemmas.Bool.{and_parts}
 use Rattle.std.proofs.lemmas.List.{get_or_append_left}
 use Rattle.std.proofs.lemmas.List.Elements.{All-nil, All-cons, All-head}
-use Rattle.model.specs.Terms.{Literal, Variable}
-use Rattle.model.specs.Programs.{Rule, rule_at, arity_of, AtLeast, Atom, Compare, AtomHolds}
-use Rattle.model.specs.Runs.{Config, Leads}
-use Rattle.model.specs.Bounds.{Bound, Constant, Input, SumOf, ProductOf, MaximumOf, PowerOf, Parts, NoParts, Part, val, val_sum, val_product, val_maximum, IsBased}
-use Rattle.model.specs.Polynomials.{Polynomial}
-use Rattle.linear_forms.specs.Forms.{Form, at, form_value}
+use Rattle.run_counting.specs.model.Terms.{Literal, Variable}
+use Rattle.run_counting.specs.model.Programs.{Rule, rule_at, arity_of, AtLeast, Atom, Compare, AtomHolds}
+use Rattle.run_counting.specs.model.Runs.{Config, Leads}
+use Rattle.run_counting.specs.model.Bounds.{Bound, Constant, Input, SumOf, ProductOf, MaximumOf, PowerOf, Parts, NoParts, Part, val}
+use Rattle.run_counting.specs.model.Bounds.{val_sum, val_product, val_maximum, IsBased}
+use Rattle.run_counting.specs.model.Polynomials.{Polynomial}
+use Rattle.rule_forms.specs.linear_forms.Forms.{Form, at, form_value}
 use Rattle.proof_nodes.specs.Combined.{form_at}
 use Rattle.proof_nodes.specs.Setting.{StepPoint, IsFaithful}
-use Rattle.proof_nodes.specs.WorkedSettings.{form, is_nothing, are_nothing, has_nothing, folded, zero_below, enter, count_down, counting}
+use Rattle.proof_nodes.specs.WorkedSettings.{form, is_nothing, are_nothing, has_nothing, folded, zero_below, enter}
+use Rattle.proof_nodes.specs.WorkedSettings.{count_down, counting}
 
 -- what is nothing has the value 0
 mutual

@@ -7,7 +7,7 @@ use Rattle.proof_nodes.specs.Limits.{IsInLimit}
 use Rattle.proof_nodes.specs.Acceptance.{Accepts}
 use Rattle.proof_nodes.specs.WorkedSettings.{stuck, stay}
 use Rattle.proof_nodes.specs.Worked.{empty_loop, PlainNodesAreJudged}
-use Rattle.model.proofs.Membership.{no_is_not_yes}
+use Rattle.run_counting.proofs.model.Membership.{no_is_not_yes}
 use Rattle.proof_nodes.proofs.WorkedAccepted.{implies_one, small}
 
 -- the rows that no point meets

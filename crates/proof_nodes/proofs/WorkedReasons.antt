@@ -3,7 +3,7 @@ use Rattle.std.proofs.Common.{◌≡◌, ◌≤◌, inl, inr, ℕ, true, false, 
 use Rattle.std.specs.Prelude.{pos, negsuc}
 use Rattle.std.proofs.lemmas.Int.{ints}
 use Rattle.std.proofs.lemmas.List.Elements.{All-cons, All-nil}
-use Rattle.model.specs.Bounds.{Constant, Input}
+use Rattle.run_counting.specs.model.Bounds.{Constant, Input}
 use Rattle.proof_nodes.specs.Limits.{IsInLimit}
 use Rattle.proof_nodes.specs.AcceptsPlain.{AreMultipliers, IsRule}
 use Rattle.proof_nodes.specs.AcceptsRank.{HasRankShape, moves_of}
@@ -11,10 +11,12 @@ use Rattle.proof_nodes.specs.AcceptsSizes.{HasMemberShape, HasCycleShape}
 use Rattle.proof_nodes.specs.WorkedSettings.{counting, enter, rule_over}
 use Rattle.proof_nodes.specs.Worked.{at_symbol, once_time, once_node, down_node}
 use Rattle.proof_nodes.specs.WorkedSizes.{squaring, bent_member, wrong_low}
-use Rattle.model.specs.Terms.{Variable, Multiplication}
-use Rattle.proof_nodes.specs.WorkedReasons.{wrong_up, towering, ReasonsAreToldInOrder}
-use Rattle.model.proofs.Membership.{no_is_not_yes}
-use Rattle.proof_nodes.proofs.WorkedAccepted.{of_two, small, none_needed, one_needed, is_enter, is_count_down, two_forms, shaped, once_accepted, down_accepted, entered_accepted, alone_accepted, arm_shape}
+use Rattle.run_counting.specs.model.Terms.{Variable, Multiplication}
+use Rattle.proof_nodes.specs.WorkedReasons.{wrong_up, towering, ReasonsComeInOrder}
+use Rattle.run_counting.proofs.model.Membership.{no_is_not_yes}
+use Rattle.proof_nodes.proofs.WorkedAccepted.{of_two, small, none_needed, one_needed, is_enter, is_count_down}
+use Rattle.proof_nodes.proofs.WorkedAccepted.{two_forms, shaped, once_accepted, down_accepted, entered_accepted}
+use Rattle.proof_nodes.proofs.WorkedAccepted.{alone_accepted, arm_shape}
 use Rattle.proof_nodes.proofs.WorkedRefused.{nothing_known, reached}
 use Rattle.proof_nodes.proofs.WorkedPlain.{plain_nodes}
 use Rattle.proof_nodes.proofs.WorkedSizes.{is_square_too}
@@ -90,7 +92,7 @@ tower_shape =
     }
 
 -- all that was worked out
-pub reasons_told : ReasonsAreToldInOrder
+pub reasons_told : ReasonsComeInOrder
 reasons_told = record {
   shape = inl ((λ h. let low : 2 ≤ 1 = h.earlier in omega (arith, low)), refl);
   not_empty = inr (

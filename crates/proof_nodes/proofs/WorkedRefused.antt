@@ -2,12 +2,12 @@
 use Rattle.std.proofs.Common.{◌≡◌, ℕ, zero, suc, ◌<◌, List, [], ◌∷◌, Some, None, refl, sym, ap, subst, arith}
 use Rattle.std.specs.Prelude.{pos, negsuc}
 use Rattle.std.proofs.lemmas.Int.{ints}
-use Rattle.model.specs.Terms.{Variable}
-use Rattle.model.specs.Programs.{Rule, rule_at}
-use Rattle.model.specs.Bounds.{Bound}
-use Rattle.linear_forms.specs.Certificates.{combined_coef}
-use Rattle.model.specs.Paths.{IsReached, Here, Onward}
-use Rattle.model.proofs.Entries.{listed-told}
+use Rattle.run_counting.specs.model.Terms.{Variable}
+use Rattle.run_counting.specs.model.Programs.{Rule, rule_at}
+use Rattle.run_counting.specs.model.Bounds.{Bound}
+use Rattle.rule_forms.specs.linear_forms.Certificates.{combined_coef}
+use Rattle.run_counting.specs.model.Paths.{IsReached, Here, Onward}
+use Rattle.run_counting.proofs.model.Entries.{listed-told}
 use Rattle.proof_nodes.specs.Nodes.{Cite, Start, Unreached, NoProof, AndProof}
 use Rattle.proof_nodes.specs.AcceptsPlain.{may_run}
 use Rattle.proof_nodes.specs.AcceptsSizes.{Up, AcceptsArm}

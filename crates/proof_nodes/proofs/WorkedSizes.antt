@@ -1,24 +1,26 @@
 -- Moves, arms and sizes, on small programs.
-use Rattle.std.proofs.Common.{◌≡◌, ◌≤◌, List, ℕ, zero, suc, ◌<◌, ◌==◌, ◌||◌, Bool, true, false, [], ◌∷◌, Some, refl, ap, arith, All}
+use Rattle.std.proofs.Common.{◌≡◌, ◌≤◌, List, ℕ, zero, suc, ◌<◌, ◌==◌, ◌||◌, Bool, true, false, [], ◌∷◌, Some, refl, ap}
+use Rattle.std.proofs.Common.{arith, All}
 use Rattle.std.specs.Prelude.{ℤ, pos, negsuc, nat_abs}
 use Rattle.std.proofs.lemmas.Int.{ints}
 use Rattle.std.proofs.lemmas.List.Elements.{All-nil, All-cons, All-head}
-use Rattle.model.specs.Polynomials.{Monomial}
-use Rattle.model.specs.Bounds.{Constant, Input}
-use Rattle.model.specs.Facts.{Fact, Time, Size}
-use Rattle.linear_forms.specs.Certificates.{combined_coef}
+use Rattle.run_counting.specs.model.Polynomials.{Monomial}
+use Rattle.run_counting.specs.model.Bounds.{Constant, Input}
+use Rattle.run_counting.specs.model.Facts.{Fact, Time, Size}
+use Rattle.rule_forms.specs.linear_forms.Certificates.{combined_coef}
 use Rattle.proof_nodes.specs.Nodes.{Poly, Member, Spread, Cycle, Cite, Start, AndProof}
 use Rattle.proof_nodes.specs.Limits.{IsInLimit}
 use Rattle.proof_nodes.specs.Known.{IsKnown, time_in, size_in, table_of}
 use Rattle.proof_nodes.specs.ComposedSizes.{reads, Flow, flows, multiplies, adds}
 use Rattle.proof_nodes.specs.AcceptsPlain.{start_facts}
-use Rattle.proof_nodes.specs.AcceptsSizes.{HasLinearShape, HasMemberShape, AcceptsUp, AcceptsLow, IsPolynomialUpdate, ArmHasSizes, HasSizesAfter, HasSizesBefore, IsStraight}
+use Rattle.proof_nodes.specs.AcceptsSizes.{HasLinearShape, HasMemberShape, AcceptsUp, AcceptsLow, IsPolynomialUpdate}
+use Rattle.proof_nodes.specs.AcceptsSizes.{ArmHasSizes, HasSizesAfter, HasSizesBefore, IsStraight}
 use Rattle.proof_nodes.specs.Acceptance.{Accepts}
 use Rattle.proof_nodes.specs.WorkedSettings.{form, counting, doubling, rule_over}
-use Rattle.model.specs.Terms.{Variable, Literal, Multiplication}
+use Rattle.run_counting.specs.model.Terms.{Variable, Literal, Multiplication}
 use Rattle.proof_nodes.specs.Worked.{only, looped_member, doubled, doubled_member}
 use Rattle.proof_nodes.specs.WorkedSizes.{square, squaring, bent_member, one_size, size_and_time, SizeNodesAreJudged}
-use Rattle.model.proofs.Membership.{no_is_not_yes, told_same}
+use Rattle.run_counting.proofs.model.Membership.{no_is_not_yes, told_same}
 use Rattle.proof_nodes.proofs.WorkedAccepted.{of_one, of_two, small, implies_one, sized}
 use Rattle.proof_nodes.proofs.WorkedRefused.{no_rows_combine, nothing_known}
 

@@ -1,7 +1,7 @@
 -- When a proof is accepted, and the facts that it then states.
 use Rattle.std.specs.Prelude.{ℕ, zero, suc, List, [], ◌∷◌, ◌++◌, ⊤}
-use Rattle.model.specs.Bounds.{Constant}
-use Rattle.model.specs.Facts.{Fact, Time, Size}
+use Rattle.run_counting.specs.model.Bounds.{Constant}
+use Rattle.run_counting.specs.model.Facts.{Fact, Time, Size}
 use Rattle.proof_nodes.specs.Nodes.{Proof, Cite, Start, Empty, Unreached, Never, Rank, Spread, Cycle, Weaken, Proofs}
 use Rattle.proof_nodes.specs.Nodes.{NoProof, AndProof}
 use Rattle.proof_nodes.specs.Known.{table_of}

@@ -2,12 +2,12 @@
 -- bounds.
 use Rattle.std.specs.Prelude.{◌≡◌, ℕ, suc, ◌-◌, ◌≤◌, not, Bool, true, List, [], ◌∷◌, length, Option, Some, None, ⊤}
 use Rattle.std.specs.List.{range_with_len}
-use Rattle.model.specs.Programs.{Program, Rule, rule_at, arity_of}
-use Rattle.model.specs.Bounds.{Bound, Constant, Input}
-use Rattle.model.specs.Facts.{Fact, Time, Size}
+use Rattle.run_counting.specs.model.Programs.{Program, Rule, rule_at, arity_of}
+use Rattle.run_counting.specs.model.Bounds.{Bound, Constant, Input}
+use Rattle.run_counting.specs.model.Facts.{Fact, Time, Size}
 use Rattle.bound_expr.specs.Numbers.{HasTidyNumbers, ReadsBelow}
-use Rattle.linear_forms.specs.Certificates.{Implies, minus_one}
-use Rattle.model.specs.Paths.{target_of, IsReached}
+use Rattle.rule_forms.specs.linear_forms.Certificates.{Implies, minus_one}
+use Rattle.run_counting.specs.model.Paths.{target_of, IsReached}
 use Rattle.proof_nodes.specs.Known.{is_zero_bound, has_zero_time}
 use Rattle.proof_nodes.specs.Limits.{AreInLimit}
 use Rattle.proof_nodes.specs.Setting.{Setting}

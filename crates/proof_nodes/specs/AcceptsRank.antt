@@ -1,17 +1,17 @@
 -- When a ranking node is accepted.
 use Rattle.std.specs.Prelude.{◌≡◌, ◌≢◌, ℕ, suc, ◌≤◌, ◌==◌, true, cond, List, [], ◌∷◌, length, map, All, ℤ, pos}
-use Rattle.model.specs.Programs.{Program, arity_of}
-use Rattle.model.specs.Bounds.{Bound}
-use Rattle.linear_forms.specs.Forms.{Form, at}
-use Rattle.linear_forms.specs.Certificates.{Implies}
+use Rattle.run_counting.specs.model.Programs.{Program, arity_of}
+use Rattle.run_counting.specs.model.Bounds.{Bound}
+use Rattle.rule_forms.specs.linear_forms.Forms.{Form, at}
+use Rattle.rule_forms.specs.linear_forms.Certificates.{Implies}
 use Rattle.proof_nodes.specs.Nodes.{SymbolForm, RankNode}
-use Rattle.model.specs.Entries.{is_in, IsEntry}
+use Rattle.run_counting.specs.model.Entries.{is_in, IsEntry}
 use Rattle.proof_nodes.specs.Numbers.{IsAscending}
-use Rattle.model.specs.Paths.{source_of, target_of}
+use Rattle.run_counting.specs.model.Paths.{source_of, target_of}
 use Rattle.proof_nodes.specs.Graph.{symbols_of}
-use Rattle.linear_forms.specs.Combinations.{less}
-use Rattle.linear_forms.specs.RuleQuestions.{constant_form}
-use Rattle.linear_forms.specs.Losses.{loss}
+use Rattle.rule_forms.specs.linear_forms.Combinations.{less}
+use Rattle.rule_forms.specs.linear_forms.RuleQuestions.{constant_form}
+use Rattle.rule_forms.specs.linear_forms.Losses.{loss}
 use Rattle.proof_nodes.specs.Known.{IsKnown, Table}
 use Rattle.proof_nodes.specs.Composed.{rank_form, time_of}
 use Rattle.proof_nodes.specs.Limits.{IsInLimit, IsFormInLimit, IsSmallComposed}

@@ -2,16 +2,16 @@
 use Rattle.std.specs.Prelude.{◌≡◌, ℕ, suc, ◌-◌, ◌≤◌, ◌<◌, ◌⊎◌, ◌||◌, true, false, List, [], ◌∷◌, length, pos, neg_ℤ}
 use Rattle.std.specs.Prelude.{Option, Some, None, ⊤}
 use Rattle.std.specs.List.{All}
-use Rattle.model.specs.Programs.{Program, Rule, rule_at, arity_of}
-use Rattle.model.specs.Bounds.{Bound}
-use Rattle.model.specs.Facts.{Fact, Size}
-use Rattle.model.specs.Polynomials.{Polynomial}
-use Rattle.linear_forms.specs.Forms.{Form}
-use Rattle.linear_forms.specs.Certificates.{Implies}
-use Rattle.linear_forms.specs.Combinations.{form_sum, form_times}
+use Rattle.run_counting.specs.model.Programs.{Program, Rule, rule_at, arity_of}
+use Rattle.run_counting.specs.model.Bounds.{Bound}
+use Rattle.run_counting.specs.model.Facts.{Fact, Size}
+use Rattle.run_counting.specs.model.Polynomials.{Polynomial}
+use Rattle.rule_forms.specs.linear_forms.Forms.{Form}
+use Rattle.rule_forms.specs.linear_forms.Certificates.{Implies}
+use Rattle.rule_forms.specs.linear_forms.Combinations.{form_sum, form_times}
 use Rattle.proof_nodes.specs.Nodes.{Spot, Arm, Linear, Poly, Member}
-use Rattle.model.specs.Entries.{is_in}
-use Rattle.model.specs.Paths.{pre}
+use Rattle.run_counting.specs.model.Entries.{is_in}
+use Rattle.run_counting.specs.model.Paths.{pre}
 use Rattle.proof_nodes.specs.Combined.{form_at}
 use Rattle.proof_nodes.specs.Known.{IsKnown, Table}
 use Rattle.proof_nodes.specs.ComposedSizes.{poly_at, reads, spread_of, is_member, rules_of, flows, multiplies, adds}

@@ -1,18 +1,18 @@
 -- The checks of each kind of node, in the order in which they are made.
 use Rattle.std.specs.Prelude.{ℕ, suc, ◌&&◌, ◌||◌, not, Bool, List, [], ◌∷◌, ◌++◌, length, map, filter, if◌then◌else◌}
 use Rattle.std.specs.List.{range_with_len}
-use Rattle.model.specs.Bounds.{Bound}
-use Rattle.model.specs.Facts.{Fact}
-use Rattle.model.specs.Paths.{pre}
-use Rattle.int_laws.specs.NormalForm.{is_zero}
-use Rattle.bound_expr.specs.Measure.{is_large, told_nodes}
-use Rattle.linear_forms.specs.Forms.{at}
-use Rattle.linear_forms.specs.Certificates.{Implies, minus_one}
+use Rattle.run_counting.specs.model.Bounds.{Bound}
+use Rattle.run_counting.specs.model.Facts.{Fact}
+use Rattle.run_counting.specs.model.Paths.{pre}
+use Rattle.rule_forms.specs.int_laws.NormalForm.{is_zero}
+use Rattle.bound_expr.specs.Measure.{is_large, capped_node_count}
+use Rattle.rule_forms.specs.linear_forms.Forms.{at}
+use Rattle.rule_forms.specs.linear_forms.Certificates.{Implies, minus_one}
 use Rattle.proof_nodes.specs.Nodes.{Spot, Arm, Member, RankNode, Proof, Cite, Start, Empty, Unreached, Never, Rank}
 use Rattle.proof_nodes.specs.Nodes.{Spread, Cycle, Weaken}
 use Rattle.proof_nodes.specs.Known.{IsKnown, Table, table_of}
 use Rattle.proof_nodes.specs.Limits.{IsSmallComposed}
-use Rattle.model.specs.Entries.{entries}
+use Rattle.run_counting.specs.model.Entries.{entries}
 use Rattle.proof_nodes.specs.ComposedSizes.{poly_at, reads, is_member, rules_of, flows, multiplies, adds}
 use Rattle.proof_nodes.specs.AcceptsPlain.{IsRule, AcceptsCite, HasEmptyShape, IsUnreached, may_run, IsOneTime}
 use Rattle.proof_nodes.specs.AcceptsPlain.{IsZeroTime, HasWeakenShape, IsWeaker}
@@ -27,7 +27,7 @@ use Rattle.proof_nodes.specs.Reasons.{IsFirstAmong}
 
 -- the number of nodes of a composed bound that is large: before it is rewritten where it is large then, after it else
 abbrev pub large_nodes : (Bound → Bound) → Bound → ℕ
-large_nodes rewrite b = if is_large b then told_nodes b else told_nodes (rewrite b)
+large_nodes rewrite b = if is_large b then capped_node_count b else capped_node_count (rewrite b)
 
 -- the composed bound is small
 abbrev pub check_small : Setting → Bound → Check

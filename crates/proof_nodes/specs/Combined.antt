@@ -1,7 +1,7 @@
 -- Forms at positions of lists.
 use Rattle.std.specs.Prelude.{ℕ, zero, suc, List, [], ◌∷◌}
-use Rattle.linear_forms.specs.Forms.{Form}
-use Rattle.linear_forms.specs.Combinations.{zero_form}
+use Rattle.rule_forms.specs.linear_forms.Forms.{Form}
+use Rattle.rule_forms.specs.linear_forms.Combinations.{zero_form}
 
 -- the form at a position of a list; past its end the form 0
 abbrev pub form_at : List Form → ℕ → Form

@@ -1,15 +1,15 @@
 -- The bounds that nodes compose from known times and sizes.
 use Rattle.std.specs.Prelude.{ℕ, suc, ◌==◌, ◌||◌, Bool, false, cond, List, [], ◌∷◌, ℤ, pos, nat_abs, Option, Some, None}
-use Rattle.int_laws.specs.NormalForm.{is_zero}
-use Rattle.model.specs.Programs.{Program}
-use Rattle.model.specs.Bounds.{Bound, Constant, SumOf, ProductOf, Parts, NoParts, Part}
-use Rattle.linear_forms.specs.Forms.{Form}
+use Rattle.rule_forms.specs.int_laws.NormalForm.{is_zero}
+use Rattle.run_counting.specs.model.Programs.{Program}
+use Rattle.run_counting.specs.model.Bounds.{Bound, Constant, SumOf, ProductOf, Parts, NoParts, Part}
+use Rattle.rule_forms.specs.linear_forms.Forms.{Form}
 use Rattle.rule_forms.specs.Bounds.{height}
 use Rattle.proof_nodes.specs.Nodes.{SymbolForm, RankNode}
 use Rattle.proof_nodes.specs.Numbers.{rounded_up}
-use Rattle.model.specs.Paths.{target_of}
-use Rattle.model.specs.Entries.{entries}
-use Rattle.linear_forms.specs.RuleQuestions.{constant_form}
+use Rattle.run_counting.specs.model.Paths.{target_of}
+use Rattle.run_counting.specs.model.Entries.{entries}
+use Rattle.rule_forms.specs.linear_forms.RuleQuestions.{constant_form}
 use Rattle.proof_nodes.specs.Known.{known}
 
 -- two parts

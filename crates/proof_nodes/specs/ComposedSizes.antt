@@ -3,14 +3,14 @@
 use Rattle.std.specs.Prelude.{ℕ, zero, suc, ◌+◌, ◌==◌, ◌&&◌, not, max, nat_lt, Bool, false, cond, List, [], ◌∷◌, ◌++◌}
 use Rattle.std.specs.Prelude.{filter, ℤ, nat_abs, Option, Some, None}
 use Rattle.std.specs.List.{list_any}
-use Rattle.int_laws.specs.NormalForm.{is_zero}
-use Rattle.model.specs.Bounds.{Bound, Constant, SumOf, ProductOf, MaximumOf, PowerOf, Parts, NoParts, Part}
-use Rattle.model.specs.Polynomials.{Monomial, Polynomial}
-use Rattle.linear_forms.specs.Forms.{at}
+use Rattle.rule_forms.specs.int_laws.NormalForm.{is_zero}
+use Rattle.run_counting.specs.model.Bounds.{Bound, Constant, SumOf, ProductOf, MaximumOf, PowerOf, Parts, NoParts, Part}
+use Rattle.run_counting.specs.model.Polynomials.{Monomial, Polynomial}
+use Rattle.rule_forms.specs.linear_forms.Forms.{at}
 use Rattle.proof_nodes.specs.Nodes.{Spot, Arm, Linear, Poly, Member}
-use Rattle.model.specs.Entries.{is_in}
+use Rattle.run_counting.specs.model.Entries.{is_in}
 use Rattle.proof_nodes.specs.Numbers.{rounded_up}
-use Rattle.model.specs.Paths.{pre, entry_and_rules}
+use Rattle.run_counting.specs.model.Paths.{pre, entry_and_rules}
 use Rattle.proof_nodes.specs.Known.{known, is_zero_bound}
 use Rattle.proof_nodes.specs.Composed.{both_parts, parts_for, rest_bound, form_bound, sizes_after}
 use Rattle.proof_nodes.specs.Setting.{Setting}

@@ -1,8 +1,8 @@
 -- Loops that are fed: how much their members can grow where each step multiplies them by a factor and adds to them.
 use Rattle.std.specs.Prelude.{◌≡◌, ℕ, ◌+◌, ◌*◌, ◌^◌, ◌≤◌, max, Bool, true, List, [], ◌∷◌, ℤ}
-use Rattle.model.specs.Programs.{Program}
-use Rattle.model.specs.Runs.{Config, Step, IsRun, count, last_rule}
-use Rattle.model.specs.Entries.{is_in}
+use Rattle.run_counting.specs.model.Programs.{Program}
+use Rattle.run_counting.specs.model.Runs.{Config, Step, IsRun, count, last_rule}
+use Rattle.run_counting.specs.model.Entries.{is_in}
 use Rattle.run_counting.specs.Paying.{income}
 
 -- the factor of each rule, once for each of its steps, multiplied

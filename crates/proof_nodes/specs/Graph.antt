@@ -1,8 +1,8 @@
 -- The symbols that the rules of a set leave and lead to.
 use Rattle.std.specs.Prelude.{ℕ, ◌||◌, Bool, List, length, filter, Some}
 use Rattle.std.specs.List.{list_any, range_with_len}
-use Rattle.model.specs.Programs.{Program}
-use Rattle.model.specs.Paths.{source_of, target_of, same_symbol}
+use Rattle.run_counting.specs.model.Programs.{Program}
+use Rattle.run_counting.specs.model.Paths.{source_of, target_of, same_symbol}
 
 -- a rule of the set leaves the symbol or leads to it
 abbrev pub touches : Program → List ℕ → ℕ → Bool

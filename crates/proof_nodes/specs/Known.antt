@@ -1,7 +1,7 @@
 -- What is known where a node is judged: a table of bounds, and facts as they are looked up, the first that matches.
 use Rattle.std.specs.Prelude.{◌≡◌, ℕ, zero, ◌==◌, ◌&&◌, Bool, true, false, cond, List, [], ◌∷◌, Option, Some, None}
-use Rattle.model.specs.Bounds.{Bound, Constant}
-use Rattle.model.specs.Facts.{Fact, Time, Size}
+use Rattle.run_counting.specs.model.Bounds.{Bound, Constant}
+use Rattle.run_counting.specs.model.Facts.{Fact, Time, Size}
 
 -- the bound is known
 abbrev pub IsKnown : Option Bound → Type 0

@@ -1,7 +1,7 @@
 -- The laws of accepted proofs.
 use Rattle.std.specs.Prelude.{List, All}
-use Rattle.model.specs.Facts.{Fact, Time, Size, Holds}
-use Rattle.model.specs.Bounds.{Bound, IsBased}
+use Rattle.run_counting.specs.model.Facts.{Fact, Time, Size, Holds}
+use Rattle.run_counting.specs.model.Bounds.{Bound, IsBased}
 use Rattle.proof_nodes.specs.Nodes.{Proof}
 use Rattle.proof_nodes.specs.Setting.{Setting, IsFaithful}
 use Rattle.proof_nodes.specs.Acceptance.{AcceptsLemmas, facts_of_lemmas}

@@ -24,3 +24,5 @@ pub mod WorkedSizes
 pub mod WorkedReasons
 -- the machinery of the functions inside and of the proofs
 pub mod Combined
+-- the crates below, which callers name through this one
+pub use Rattle.rule_forms.specs as rule_forms

@@ -1,9 +1,9 @@
 -- The limits on the numbers of a proof and on the size of composed bounds.
 use Rattle.std.specs.Prelude.{◌≡◌, ℕ, ◌≤◌, false, All, List, nat_abs}
-use Rattle.model.specs.Bounds.{Bound}
+use Rattle.run_counting.specs.model.Bounds.{Bound}
 use Rattle.bound_expr.specs.Measure.{is_large}
-use Rattle.linear_forms.specs.Forms.{Form}
-use Rattle.linear_forms.specs.Limits.{certificate_limit}
+use Rattle.rule_forms.specs.linear_forms.Forms.{Form}
+use Rattle.rule_forms.specs.linear_forms.Limits.{certificate_limit}
 
 -- a multiplier, coefficient, constant or denominator is at most 2^55 in absolute value
 abbrev pub IsInLimit : ℕ → Type 0

@@ -1,8 +1,8 @@
 -- Proof trees as plain data: each node names what it states, with the numbers that show it and the nodes that it
 -- rests on.
 use Rattle.std.specs.Prelude.{ℕ, List}
-use Rattle.model.specs.Bounds.{Bound}
-use Rattle.linear_forms.specs.Forms.{Form}
+use Rattle.run_counting.specs.model.Bounds.{Bound}
+use Rattle.rule_forms.specs.linear_forms.Forms.{Form}
 
 -- a rule, and a place of its target, numbered from 1
 pub record Spot : Type 0 where

@@ -1,6 +1,6 @@
 -- First reasons are in line with acceptance.
 use Rattle.std.specs.Prelude.{◌≡◌, ◌↔◌, List}
-use Rattle.model.specs.Facts.{Fact}
+use Rattle.run_counting.specs.model.Facts.{Fact}
 use Rattle.proof_nodes.specs.Nodes.{Proof}
 use Rattle.proof_nodes.specs.Setting.{Setting}
 use Rattle.proof_nodes.specs.Acceptance.{AcceptsNode}

@@ -1,12 +1,12 @@
 -- What acceptance is judged over: a program, the rows and new values of its rules, and the rewriting of bounds; and
 -- when these say what is true.
 use Rattle.std.specs.Prelude.{◌≡◌, ℕ, ◌<◌, ◌≤◌, Bool, true, List, ◌++◌, length, ℤ, pos, Option, Some}
-use Rattle.model.specs.Programs.{Program, Rule, rule_at, arity_of}
-use Rattle.model.specs.Runs.{Config, Step, IsStep}
-use Rattle.model.specs.Bounds.{Bound, val, IsBased}
-use Rattle.model.specs.Polynomials.{Polynomial, polynomial_value}
-use Rattle.linear_forms.specs.Forms.{Form, at, form_value}
-use Rattle.linear_forms.specs.Points.{IsPoint}
+use Rattle.run_counting.specs.model.Programs.{Program, Rule, rule_at, arity_of}
+use Rattle.run_counting.specs.model.Runs.{Config, Step, IsStep}
+use Rattle.run_counting.specs.model.Bounds.{Bound, val, IsBased}
+use Rattle.run_counting.specs.model.Polynomials.{Polynomial, polynomial_value}
+use Rattle.rule_forms.specs.linear_forms.Forms.{Form, at, form_value}
+use Rattle.rule_forms.specs.linear_forms.Points.{IsPoint}
 use Rattle.proof_nodes.specs.Combined.{form_at}
 
 -- a program; for each rule its rows, the forms of its new values and, of each new value of degree 2 and more, its

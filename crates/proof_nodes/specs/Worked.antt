@@ -1,11 +1,11 @@
 -- What is accepted and what isn't, worked out by hand.
 use Rattle.std.specs.Prelude.{◌≡◌, ℕ, List, [], ◌∷◌, ℤ, pos, negsuc, Option, Some}
-use Rattle.model.specs.Bounds.{Bound, Constant, Input, SumOf, ProductOf, MaximumOf, PowerOf, Parts, NoParts, Part, val}
-use Rattle.model.specs.Facts.{Fact, Time, Size}
+use Rattle.run_counting.specs.model.Bounds.{Bound, Constant, Input, SumOf, ProductOf, MaximumOf, PowerOf, Parts, NoParts, Part, val}
+use Rattle.run_counting.specs.model.Facts.{Fact, Time, Size}
 use Rattle.proof_nodes.specs.Nodes.{Arm, Linear, Member, SymbolForm, RankNode, Proof, Cite, Start, Empty, Unreached}
 use Rattle.proof_nodes.specs.Nodes.{Never, Rank, Spread, Cycle, Weaken, Proofs, NoProof, AndProof}
-use Rattle.model.specs.Paths.{pre}
-use Rattle.model.specs.Entries.{entries}
+use Rattle.run_counting.specs.model.Paths.{pre}
+use Rattle.run_counting.specs.model.Entries.{entries}
 use Rattle.proof_nodes.specs.Composed.{both_parts, time_of}
 use Rattle.proof_nodes.specs.ComposedSizes.{flows, factor_of, cycle_of}
 use Rattle.proof_nodes.specs.Setting.{IsFaithful}

@@ -1,6 +1,6 @@
 -- First reasons, worked out by hand.
 use Rattle.std.specs.Prelude.{ℕ, zero, suc, [], ◌∷◌, pos}
-use Rattle.model.specs.Bounds.{Bound, Constant, Input, PowerOf}
+use Rattle.run_counting.specs.model.Bounds.{Bound, Constant, Input, PowerOf}
 use Rattle.proof_nodes.specs.Nodes.{Member, Cite, Start, Unreached, Never, Spread, Cycle, Weaken, NoProof, AndProof}
 use Rattle.proof_nodes.specs.Setting.{Setting}
 use Rattle.proof_nodes.specs.Reasons.{Shape, NotEmpty, Reached, NotZero, Move, Floor, ArmUp, ArmLow, MissingTime}
@@ -34,7 +34,7 @@ wrong_up = record {
 }
 
 -- of each reason a node for which it is the first; where both arms are wrong the up one is told
-pub record ReasonsAreToldInOrder : Type 0 where
+pub record ReasonsComeInOrder : Type 0 where
   pub shape : IsFirstReason counting first_fact (Cite 2) Shape
   pub not_empty : IsFirstReason stuck [] (empty_loop (1 ∷ 0 ∷ [])) NotEmpty
   pub reached : IsFirstReason counting [] (Unreached 2 NoProof) Reached

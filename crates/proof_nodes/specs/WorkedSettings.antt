@@ -1,11 +1,11 @@
 -- Small programs with their rows, worked out by hand, over which acceptance is tried.
 use Rattle.std.specs.Prelude.{ℕ, zero, suc, Bool, true, false, cond, ◌&&◌, ◌||◌, List, [], ◌∷◌, ℤ, pos, negsuc, Option}
 use Rattle.std.specs.Prelude.{None}
-use Rattle.model.specs.Terms.{Term, Literal, Variable, Subtraction, Multiplication}
-use Rattle.model.specs.Programs.{AtLeast, Atom, Compare, Symbol, Rule, Program}
-use Rattle.model.specs.Polynomials.{Polynomial}
-use Rattle.model.specs.Bounds.{Bound, Constant, Input, SumOf, ProductOf, MaximumOf, PowerOf, Parts, NoParts, Part}
-use Rattle.linear_forms.specs.Forms.{Form}
+use Rattle.run_counting.specs.model.Terms.{Term, Literal, Variable, Subtraction, Multiplication}
+use Rattle.run_counting.specs.model.Programs.{AtLeast, Atom, Compare, Symbol, Rule, Program}
+use Rattle.run_counting.specs.model.Polynomials.{Polynomial}
+use Rattle.run_counting.specs.model.Bounds.{Bound, Constant, Input, SumOf, ProductOf, MaximumOf, PowerOf, Parts, NoParts, Part}
+use Rattle.rule_forms.specs.linear_forms.Forms.{Form}
 use Rattle.proof_nodes.specs.Setting.{Setting}
 
 -- the value of a bound is 0, as its structure shows

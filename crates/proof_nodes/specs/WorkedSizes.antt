@@ -1,9 +1,9 @@
 -- Moves, arms and sizes that are accepted and that aren't, worked out by hand.
 use Rattle.std.specs.Prelude.{ℕ, zero, suc, List, [], ◌∷◌, pos, Option, Some, None}
-use Rattle.model.specs.Terms.{Variable, Multiplication}
-use Rattle.model.specs.Bounds.{Constant, Input}
-use Rattle.model.specs.Facts.{Fact, Time, Size}
-use Rattle.model.specs.Polynomials.{Polynomial}
+use Rattle.run_counting.specs.model.Terms.{Variable, Multiplication}
+use Rattle.run_counting.specs.model.Bounds.{Constant, Input}
+use Rattle.run_counting.specs.model.Facts.{Fact, Time, Size}
+use Rattle.run_counting.specs.model.Polynomials.{Polynomial}
 use Rattle.proof_nodes.specs.Nodes.{Poly, Member, Cite, Start, Spread, Cycle, NoProof, AndProof}
 use Rattle.proof_nodes.specs.Known.{table_of}
 use Rattle.proof_nodes.specs.Setting.{Setting}

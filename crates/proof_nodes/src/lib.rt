@@ -1,6 +1,6 @@
-// Proof nodes as plain data, when each is accepted, and why what accepted nodes state holds on every run: definitions
-// in `specs/` and their laws. The functions here have no code: the contract of each is a law, or values that were
-// worked out by hand.
+//! Proof nodes as plain data, when each is accepted, and why what accepted nodes state holds on every run: definitions
+//! in `specs/` and their laws. The functions here have no code: the contract of each is a law, or values that were
+//! worked out by hand.
 #![tactic(auto)]
 
 ghost use Rattle.proof_nodes.specs.Feeding.{LoopsGrow};
@@ -9,7 +9,7 @@ ghost use Rattle.proof_nodes.specs.ReasonLaws.{FirstReasonsAreInLine};
 ghost use Rattle.proof_nodes.specs.Worked.{CountingIsFaithful, FourLemmasAreAccepted, MistakesAreRefused};
 ghost use Rattle.proof_nodes.specs.Worked.{PlainNodesAreJudged, FormulasAreWhole};
 ghost use Rattle.proof_nodes.specs.WorkedSizes.{SizeNodesAreJudged};
-ghost use Rattle.proof_nodes.specs.WorkedReasons.{ReasonsAreToldInOrder};
+ghost use Rattle.proof_nodes.specs.WorkedReasons.{ReasonsComeInOrder};
 
 /// Where all lemmas of a list are accepted, every fact of every lemma holds on all runs, whoever made the lemmas.
 pub fn accepted_facts_hold()
@@ -36,7 +36,7 @@ pub fn worked_values_hold()
     ensures plain { PlainNodesAreJudged }
     ensures sizes { SizeNodesAreJudged }
     ensures whole { FormulasAreWhole }
-    ensures reasons { ReasonsAreToldInOrder }
+    ensures reasons { ReasonsComeInOrder }
 {}
 
 /// A node has no first reason exactly where it is accepted, and it has at most one.

@@ -1,18 +1,19 @@
 -- Why the setting of a valid program says what is true.
-use Rattle.std.proofs.Common.{◌≡◌, ◌↔◌, ℕ, zero, suc, ◌+◌, ◌≤◌, Bool, true, false, if◌then◌else◌, List, [], ◌∷◌, ◌++◌, map, slice_get, Option, Some, None, refl, sym, ap, ◌∙◌, subst, arith, nat_lt}
+use Rattle.std.proofs.Common.{◌≡◌, ◌↔◌, ℕ, zero, suc, ◌+◌, ◌≤◌, Bool, true, false, if◌then◌else◌, List, [], ◌∷◌, ◌++◌}
+use Rattle.std.proofs.Common.{map, slice_get, Option, Some, None, refl, sym, ap, ◌∙◌, subst, arith, nat_lt}
 use Rattle.std.specs.Prelude.{ℤ, pos}
 use Rattle.std.proofs.lemmas.Int.{ints}
 use Rattle.std.proofs.lemmas.Bool.Decides.{nat_tests}
-use Rattle.model.specs.Terms.{Term, value}
-use Rattle.model.specs.Programs.{Program, Rule, rule_at, arity_of}
-use Rattle.model.specs.Runs.{Config, Step, IsStep}
-use Rattle.model.specs.Bounds.{Bound}
-use Rattle.model.specs.Polynomials.{Polynomial, polynomial_value, degree_of}
-use Rattle.linear_forms.specs.Forms.{Form, at, form_value}
-use Rattle.linear_forms.specs.Points.{IsPoint}
-use Rattle.poly_terms.specs.Expanding.{expanded}
-use Rattle.poly_terms.proofs.Values.{expanded-value}
-use Rattle.its_model.specs.Valid.{IsValid}
+use Rattle.guard_prep.specs.model.Terms.{Term, value}
+use Rattle.guard_prep.specs.model.Programs.{Program, Rule, rule_at, arity_of}
+use Rattle.guard_prep.specs.model.Runs.{Config, Step, IsStep}
+use Rattle.guard_prep.specs.model.Bounds.{Bound}
+use Rattle.guard_prep.specs.model.Polynomials.{Polynomial, polynomial_value, degree_of}
+use Rattle.guard_prep.specs.linear_forms.Forms.{Form, at, form_value}
+use Rattle.guard_prep.specs.linear_forms.Points.{IsPoint}
+use Rattle.guard_prep.specs.poly_terms.Expanding.{expanded}
+use Rattle.guard_prep.proofs.poly_terms.Values.{expanded-value}
+use Rattle.guard_prep.specs.its_model.Valid.{IsValid}
 use Rattle.guard_prep.specs.Prepared.{is_bent, polys_of}
 use Rattle.guard_prep.specs.Laws.{point_of}
 use Rattle.guard_prep.proofs.StepLaws.{valid-at, steps-are-points}

@@ -1,2 +1,7 @@
 pub mod Faithful
 pub mod Small
+-- the lemmas of the crates below, which callers name through this one
+pub use Rattle.guard_prep.proofs.model
+pub use Rattle.guard_prep.proofs.int_laws
+pub use Rattle.proof_nodes.proofs.rule_forms
+pub use Rattle.proof_nodes.proofs as proof_nodes

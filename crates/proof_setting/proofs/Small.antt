@@ -1,8 +1,8 @@
 -- What a composed bound is rewritten to within the limits is in line with acceptance.
 use Rattle.std.proofs.Common.{◌≡◌, ◌↔◌, ℕ, Bool, true, false, if◌then◌else◌, refl, sym, ap, ◌∙◌}
 use Rattle.std.proofs.lemmas.Bool.{true≢false}
-use Rattle.model.specs.Bounds.{Bound}
-use Rattle.bound_expr.specs.Measure.{is_large, told_nodes}
+use Rattle.guard_prep.specs.model.Bounds.{Bound}
+use Rattle.bound_table.specs.bound_expr.Measure.{is_large, capped_node_count}
 use Rattle.bound_table.specs.InForce.{rewritten}
 use Rattle.bound_table.specs.Within.{Answer, Fits, TooLarge, unless_large, rewritten_within}
 use Rattle.proof_nodes.specs.Limits.{IsSmallComposed}
@@ -28,7 +28,7 @@ not-both b n e = cc
 -- the answer by whether the bound is large, and whether its rewriting is
 abbrev told : Bool → Bool → Bound → Answer
 told before after b =
-    if before then TooLarge (told_nodes b) else if after then TooLarge (told_nodes (rewritten b)) else Fits (rewritten b)
+    if before then TooLarge (capped_node_count b) else if after then TooLarge (capped_node_count (rewritten b)) else Fits (rewritten b)
 
 -- where a test gives true, it doesn't give false
 refuted : (v : Bool) → v ≡ true → v ≡ false → ⊥
@@ -38,11 +38,11 @@ module _ (b : Bound) where
   fits : (v w : Bool) → is_large b ≡ v → is_large (rewritten b) ≡ w → (r : Bound)
       → (told v w b ≡ Fits r) ↔ (IsSmallComposed rewritten b × (r ≡ rewritten b))
   fits true w e f r = (
-    (λ h. absurd (not-both r (told_nodes b) (sym h))),
+    (λ h. absurd (not-both r (capped_node_count b) (sym h))),
     (λ h. absurd (refuted (is_large b) e h.0.before)),
   )
   fits false true e f r = (
-    (λ h. absurd (not-both r (told_nodes (rewritten b)) (sym h))),
+    (λ h. absurd (not-both r (capped_node_count (rewritten b)) (sym h))),
     (λ h. absurd (refuted (is_large (rewritten b)) f h.0.after)),
   )
   fits false false e f r = (
@@ -52,13 +52,13 @@ module _ (b : Bound) where
 
   large : (v w : Bool) → is_large b ≡ v → is_large (rewritten b) ≡ w → (n : ℕ)
       → (told v w b ≡ TooLarge n)
-      ↔ (¬ (IsSmallComposed rewritten b) × (n ≡ (if v then told_nodes b else told_nodes (rewritten b))))
+      ↔ (¬ (IsSmallComposed rewritten b) × (n ≡ (if v then capped_node_count b else capped_node_count (rewritten b))))
   large true w e f n = (
-    (λ h. ((λ small. refuted (is_large b) e small.before), large-same (told_nodes b) n h)),
+    (λ h. ((λ small. refuted (is_large b) e small.before), large-same (capped_node_count b) n h)),
     (λ h. ap TooLarge (sym h.1)),
   )
   large false true e f n = (
-    (λ h. ((λ small. refuted (is_large (rewritten b)) f small.after), large-same (told_nodes (rewritten b)) n h)),
+    (λ h. ((λ small. refuted (is_large (rewritten b)) f small.after), large-same (capped_node_count (rewritten b)) n h)),
     (λ h. ap TooLarge (sym h.1)),
   )
   large false false e f n = (

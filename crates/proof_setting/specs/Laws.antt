@@ -1,10 +1,10 @@
 -- What the settings of valid programs say, and what accepted lemmas are worth for them.
 use Rattle.std.specs.Prelude.{◌≡◌, ◌↔◌, ℕ, ◌≤◌, List, All, Some, slice_get}
-use Rattle.model.specs.Bounds.{Bound}
-use Rattle.model.specs.Programs.{Program, Rule, rule_at}
-use Rattle.model.specs.Facts.{Holds}
-use Rattle.model.specs.Polynomials.{Polynomial, degree_of}
-use Rattle.its_model.specs.Valid.{IsValid}
+use Rattle.guard_prep.specs.model.Bounds.{Bound}
+use Rattle.guard_prep.specs.model.Programs.{Program, Rule, rule_at}
+use Rattle.guard_prep.specs.model.Facts.{Holds}
+use Rattle.guard_prep.specs.model.Polynomials.{Polynomial, degree_of}
+use Rattle.guard_prep.specs.its_model.Valid.{IsValid}
 use Rattle.guard_prep.specs.Prepared.{polys_of}
 use Rattle.bound_table.specs.InForce.{rewritten}
 use Rattle.bound_table.specs.Within.{Fits, TooLarge, rewritten_within}

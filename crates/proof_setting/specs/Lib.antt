@@ -3,3 +3,11 @@ pub mod Setting
 -- laws, and values that were worked out by hand
 pub mod Laws
 pub mod Worked
+-- the crates below, which callers name through this one
+pub use Rattle.guard_prep.specs.model
+pub use Rattle.guard_prep.specs.linear_forms
+pub use Rattle.proof_nodes.specs.rule_forms
+pub use Rattle.guard_prep.specs as guard_prep
+pub use Rattle.bound_table.specs.bound_expr
+pub use Rattle.bound_table.specs as bound_table
+pub use Rattle.proof_nodes.specs as proof_nodes

@@ -1,8 +1,8 @@
 -- The setting of a program: what acceptance is judged over for the programs that are read.
 use Rattle.std.specs.Prelude.{ℕ, zero, suc, if◌then◌else◌, List, [], ◌∷◌, Option, Some, None}
-use Rattle.model.specs.Programs.{Program, Rule, rule_at}
-use Rattle.model.specs.Polynomials.{Polynomial}
-use Rattle.linear_forms.specs.Forms.{Form}
+use Rattle.guard_prep.specs.model.Programs.{Program, Rule, rule_at}
+use Rattle.guard_prep.specs.model.Polynomials.{Polynomial}
+use Rattle.guard_prep.specs.linear_forms.Forms.{Form}
 use Rattle.guard_prep.specs.Prepared.{is_bent, polys_of, rows_of, news_of}
 use Rattle.bound_table.specs.InForce.{rewritten}
 use Rattle.bound_table.specs.Below.{below}

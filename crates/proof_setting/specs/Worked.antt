@@ -1,8 +1,8 @@
 -- The setting of a small program, worked out by hand.
 use Rattle.std.specs.Prelude.{◌≡◌, List, [], ◌∷◌, ℤ, pos, negsuc, Some, None}
-use Rattle.model.specs.Terms.{Literal, Variable, Subtraction, Multiplication}
-use Rattle.model.specs.Programs.{MoreThan, Compare, Rule, Program}
-use Rattle.linear_forms.specs.Forms.{Form}
+use Rattle.guard_prep.specs.model.Terms.{Literal, Variable, Subtraction, Multiplication}
+use Rattle.guard_prep.specs.model.Programs.{MoreThan, Compare, Rule, Program}
+use Rattle.guard_prep.specs.linear_forms.Forms.{Form}
 use Rattle.proof_setting.specs.Setting.{setting_of}
 
 -- k(A) -> k(A - 2) where 2 * A > 3, and k(A) -> k(A * A)

@@ -1,4 +1,4 @@
-// What settings say, and what it is worth.
+//! What settings say, and what it is worth.
 
 ghost use Rattle.proof_setting.specs.Laws.{SettingsAreFaithful, AcceptedFactsHold, PolynomialsAreBent};
 ghost use Rattle.proof_setting.specs.Laws.{SmallBoundsAreRewritten};

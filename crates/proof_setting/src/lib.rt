@@ -1,6 +1,6 @@
-// The setting of a program: the rows of its rules, the rewriting of bounds and the order below, over which proof nodes
-// are judged. Contract to the layer above: it says what is true of every valid program, so the facts of accepted lemmas
-// hold on all runs of it.
+//! The setting of a program: the rows of its rules, the rewriting of bounds and the order below, over which proof nodes
+//! are judged. Contract to the layer above: it says what is true of every valid program, so the facts of accepted lemmas
+//! hold on all runs of it.
 #![tactic(auto)]
 
 mod laws;

@@ -1,7 +1,8 @@
 -- The updates of rules, where they have degree 2 or more.
-use Rattle.std.proofs.Common.{◌≡◌, ℕ, zero, suc, ◌<◌, ◌≤◌, Bool, true, false, cond, List, [], ◌∷◌, length, get_or, map, Some, None, nat_lt, refl, sym, ◌∙◌, ap, arith}
+use Rattle.std.proofs.Common.{◌≡◌, ℕ, zero, suc, ◌<◌, ◌≤◌, Bool, true, false, cond, List, [], ◌∷◌, length, get_or, map}
+use Rattle.std.proofs.Common.{Some, None, nat_lt, refl, sym, ◌∙◌, ap, arith}
 use Rattle.std.proofs.lemmas.Bool.{lt-ltb, le-ltb as not-below}
-use Rattle.model.specs.Polynomials.{degree_of}
+use Rattle.poly_terms.specs.model.Polynomials.{degree_of}
 use Rattle.poly_terms.specs.declared.poly.Poly.{Poly}
 use Rattle.poly_terms.specs.Views.{poly_of}
 use Rattle.proof_setting.specs.Setting.{bent_at, where_bent}

@@ -1,10 +1,11 @@
 -- Looking up the first fact that matches: what is left decides.
-use Rattle.std.proofs.Common.{◌≡◌, ℕ, ◌+◌, ◌<◌, ◌≤◌, ◌==◌, ◌&&◌, Bool, true, false, List, ◌∷◌, length, get_or, drop, Some, None, refl, sym, ap, ◌∙◌}
+use Rattle.std.proofs.Common.{◌≡◌, ℕ, ◌+◌, ◌<◌, ◌≤◌, ◌==◌, ◌&&◌, Bool, true, false, List, ◌∷◌, length, get_or, drop}
+use Rattle.std.proofs.Common.{Some, None, refl, sym, ap, ◌∙◌}
 use Rattle.std.proofs.lemmas.List.{drop_more, drop_all}
-use Rattle.model.specs.Bounds as plain
-use Rattle.model.specs.Facts as facts
-use Rattle.model.specs.Facts.{Time, Size}
-use Rattle.proof_nodes.specs.Known.{time_in, size_in}
+use Rattle.poly_terms.specs.model.Bounds as plain
+use Rattle.poly_terms.specs.model.Facts as facts
+use Rattle.poly_terms.specs.model.Facts.{Time, Size}
+use Rattle.proof_setting.specs.proof_nodes.Known.{time_in, size_in}
 use Rattle.proof_tree.specs.declared.fact.Fact.{Fact}
 use Rattle.proof_tree.specs.Views.{fact_of, facts_of}
 use Rattle.proof_tree.specs.Lookups.{time_by_fact, size_by_fact}

@@ -7,10 +7,10 @@ use Rattle.std.specs.BTreeMap.{is_at}
 use Rattle.std.specs.Cmp.{unsigned_tied}
 use Rattle.std.specs.Ordering.{nat_cmp}
 use Rattle.std.proofs.lemmas.Bool.Decides.{nat_tests}
-use Rattle.model.specs.Programs.{Program}
-use Rattle.model.specs.Entries.{is_in, is_left_by}
+use Rattle.poly_terms.specs.model.Programs.{Program}
+use Rattle.poly_terms.specs.model.Entries.{is_in, is_left_by}
 use Rattle.proof_tree.specs.NumberSets.{HasJust}
-pub use Rattle.model.proofs.Cases.{same_tests as bool_same}
+pub use Rattle.poly_terms.proofs.model.Cases.{same_tests as bool_same}
 
 -- a number is in a list with one more where it is in the list or is that one
 in-more : (q n : ℕ) (ns : List ℕ) → is_in q (ns ++ n ∷ []) ≡ cond (q == n) true (is_in q ns)

@@ -1,18 +1,19 @@
 -- The parts that are pushed, one place after the other.
-use Rattle.std.proofs.Common.{◌≡◌, ◌≢◌, ◌||◌, cond, length, ℕ, suc, ◌+◌, ◌<◌, ◌≤◌, Bool, true, false, List, [], ◌∷◌, ◌++◌, get_or, drop, refl, sym, ap, ◌∙◌, arith}
+use Rattle.std.proofs.Common.{◌≡◌, ◌≢◌, ◌||◌, cond, length, ℕ, suc, ◌+◌, ◌<◌, ◌≤◌, Bool, true, false, List, [], ◌∷◌}
+use Rattle.std.proofs.Common.{◌++◌, get_or, drop, refl, sym, ap, ◌∙◌, arith}
 use Rattle.std.specs.Prelude.{ℤ, pos, nat_abs}
 use Rattle.std.proofs.lemmas.List.{drop_more, drop_all}
-use Rattle.int_laws.specs.NormalForm.{is_zero}
-use Rattle.model.specs.Bounds as plain
-use Rattle.model.specs.Bounds.{Constant, ProductOf, Parts, NoParts, Part}
+use Rattle.linear_forms.specs.int_laws.NormalForm.{is_zero}
+use Rattle.poly_terms.specs.model.Bounds as plain
+use Rattle.poly_terms.specs.model.Bounds.{Constant, ProductOf, Parts, NoParts, Part}
 use Rattle.bound_expr.specs.declared.bound.Bound.{Bound}
 use Rattle.bound_expr.specs.Views.{bound_of, bounds_of, parts_of}
-use Rattle.proof_nodes.specs.Nodes.{Member}
-use Rattle.proof_nodes.specs.Known.{Table, known}
-use Rattle.proof_nodes.specs.Composed.{both_parts, parts_for, place_parts, sizes_after}
-use Rattle.proof_nodes.specs.ComposedSizes.{is_member}
-use Rattle.proof_nodes.specs.Numbers.{rounded_up}
-use Rattle.proof_nodes.proofs.Covering.{told_zero}
+use Rattle.proof_setting.specs.proof_nodes.Nodes.{Member}
+use Rattle.proof_setting.specs.proof_nodes.Known.{Table, known}
+use Rattle.proof_setting.specs.proof_nodes.Composed.{both_parts, parts_for, place_parts, sizes_after}
+use Rattle.proof_setting.specs.proof_nodes.ComposedSizes.{is_member}
+use Rattle.proof_setting.specs.proof_nodes.Numbers.{rounded_up}
+use Rattle.proof_setting.proofs.proof_nodes.FormBounds.{told_zero}
 use Rattle.proof_tree.specs.Sizes.{is_spot, members_from, sizes_from, joined, place_part}
 
 -- joining nothing, and joining in another order

@@ -1,11 +1,12 @@
 -- The places that an arm reads, place by place.
-use Rattle.std.proofs.Common.{◌≡◌, ℕ, ◌+◌, Bool, true, false, cond, List, [], ◌∷◌, ◌++◌, filter, Option, refl, sym, ap, ◌∙◌, arith}
+use Rattle.std.proofs.Common.{◌≡◌, ℕ, ◌+◌, Bool, true, false, cond, List, [], ◌∷◌, ◌++◌, filter, Option, refl, sym, ap}
+use Rattle.std.proofs.Common.{◌∙◌, arith}
 use Rattle.std.specs.List.{range_with_len}
 use Rattle.std.proofs.lemmas.List.{append-nil}
 use Rattle.std.proofs.lemmas.List.Elements.{filter-append}
-use Rattle.model.specs.Polynomials.{Polynomial}
-use Rattle.proof_nodes.specs.Nodes.{Arm}
-use Rattle.proof_nodes.specs.ComposedSizes.{reads}
+use Rattle.poly_terms.specs.model.Polynomials.{Polynomial}
+use Rattle.proof_setting.specs.proof_nodes.Nodes.{Arm}
+use Rattle.proof_setting.specs.proof_nodes.ComposedSizes.{reads}
 use Rattle.proof_tree.specs.Reading.{places_read}
 use Rattle.proof_tree.proofs.Numbers.{numbers-more}
 

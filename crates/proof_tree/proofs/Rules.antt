@@ -1,17 +1,19 @@
 -- Looking up rules, entries, members and forms: what is left decides.
-use Rattle.std.proofs.Common.{◌≡◌, ℕ, zero, suc, ◌+◌, ◌-◌, ◌<◌, ◌≤◌, ◌==◌, ◌||◌, ◌⊎◌, inl, inr, Bool, true, false, cond, List, [], ◌∷◌, ◌++◌, length, map, filter, get_or, drop, Option, Some, None, option_map, refl, sym, ap, ◌∙◌, arith}
+use Rattle.std.proofs.Common.{◌≡◌, ℕ, zero, suc, ◌+◌, ◌-◌, ◌<◌, ◌≤◌, ◌==◌, ◌||◌, ◌⊎◌, inl, inr, Bool, true, false, cond}
+use Rattle.std.proofs.Common.{List, [], ◌∷◌, ◌++◌, length, map, filter, get_or, drop, Option, Some, None, option_map}
+use Rattle.std.proofs.Common.{refl, sym, ap, ◌∙◌, arith}
 use Rattle.std.specs.List.{list_any, range_with_len}
 use Rattle.std.proofs.lemmas.Option.{slice_get_read, slice_get_past, slice_get-map}
 use Rattle.std.proofs.lemmas.List.{drop_more, drop_all, length-map}
 use Rattle.std.proofs.lemmas.List.Elements.{filter-append}
-use Rattle.model.specs.Programs as plain
-use Rattle.model.specs.Programs.{rule_at}
-use Rattle.model.specs.Paths.{source_in, source_of, target_in, target_of}
+use Rattle.poly_terms.specs.model.Programs as plain
+use Rattle.poly_terms.specs.model.Programs.{rule_at}
+use Rattle.poly_terms.specs.model.Paths.{source_in, source_of, target_in, target_of}
 use Rattle.its_model.specs.declared.program.Rule.{Rule}
 use Rattle.its_model.specs.declared.program.Program.{Program}
 use Rattle.its_model.specs.Views.{rule_of, program_of}
-use Rattle.model.specs.Entries.{is_in, enters, entries}
-use Rattle.proof_nodes.specs.Composed.{rank_form}
+use Rattle.poly_terms.specs.model.Entries.{is_in, enters, entries}
+use Rattle.proof_setting.specs.proof_nodes.Composed.{rank_form}
 use Rattle.proof_tree.specs.declared.rank.Form.{Form}
 use Rattle.proof_tree.proofs.Numbers.{numbers-more}
 use Rattle.proof_tree.specs.Views.{form_of}

@@ -1,15 +1,16 @@
 -- The sizes of variables, and the parts of monomials, one after the other.
-use Rattle.std.proofs.Common.{◌≡◌, ℕ, suc, ◌+◌, ◌<◌, ◌≤◌, List, [], ◌∷◌, ◌++◌, length, map, get_or, drop, Option, sym, ap, ◌∙◌, arith}
+use Rattle.std.proofs.Common.{◌≡◌, ℕ, suc, ◌+◌, ◌<◌, ◌≤◌, List, [], ◌∷◌, ◌++◌, length, map, get_or, drop, Option, sym}
+use Rattle.std.proofs.Common.{ap, ◌∙◌, arith}
 use Rattle.std.proofs.lemmas.List.{drop_more, drop_all}
-use Rattle.model.specs.Bounds as plain
-use Rattle.model.specs.Bounds.{Parts, NoParts, Part}
+use Rattle.poly_terms.specs.model.Bounds as plain
+use Rattle.poly_terms.specs.model.Bounds.{Parts, NoParts, Part}
 use Rattle.bound_expr.specs.declared.bound.Bound.{Bound}
 use Rattle.bound_expr.specs.Views.{bound_of, bounds_of, parts_of}
 use Rattle.poly_terms.specs.declared.poly.Monomial.{Monomial}
 use Rattle.poly_terms.specs.Views.{monomial_of}
-use Rattle.proof_nodes.specs.Known.{known}
-use Rattle.proof_nodes.specs.Composed.{sizes_after}
-use Rattle.proof_nodes.specs.ComposedSizes.{monomial_bound, monomial_parts}
+use Rattle.proof_setting.specs.proof_nodes.Known.{known}
+use Rattle.proof_setting.specs.proof_nodes.Composed.{sizes_after}
+use Rattle.proof_setting.specs.proof_nodes.ComposedSizes.{monomial_bound, monomial_parts}
 use Rattle.proof_tree.specs.Sizes.{joined}
 use Rattle.proof_tree.proofs.Parts.{parts_of-more, joined_assoc, joined-nothing}
 

@@ -1,23 +1,13 @@
 -- What contracts see of answers, reasons, gaps and proof files: plain data.
 use Rattle.std.specs.Prelude.{ℕ, map}
-use Rattle.linear_forms.specs.Causes.{Cause, range, budget, wide, scale}
 use Rattle.farkas_cert.specs.declared.scaled.Scaled.{Scaled}
-use Rattle.proof_nodes.specs.Reasons as reasons
-use Rattle.proof_nodes.specs.Gaps as gaps
-use Rattle.proof_tree.specs.declared.answer.TripCause.{TripCause}
-use Rattle.proof_tree.specs.declared.answer.TripCause.TheVariants.{Range, Budget, Wide, Scale}
+use Rattle.proof_setting.specs.proof_nodes.Reasons as reasons
+use Rattle.proof_setting.specs.proof_nodes.Gaps as gaps
 use Rattle.proof_tree.specs.declared.answer.Reason.{Reason}
 use Rattle.proof_tree.specs.declared.answer.Reason.TheVariants as told
 use Rattle.proof_tree.specs.declared.gap.Gap.{Gap}
 use Rattle.proof_tree.specs.declared.file.ProofFile.{ProofFile}
 use Rattle.proof_tree.specs.Views.{proof_of}
-
--- the limit that a linear program passed
-abbrev pub cause_of : TripCause → Cause
-cause_of (Range pivot) = range pivot
-cause_of (Budget pivots) = budget pivots
-cause_of (Wide entries) = wide entries
-cause_of Scale = scale
 
 -- why a node isn't accepted
 abbrev pub reason_of : Reason → reasons.Reason

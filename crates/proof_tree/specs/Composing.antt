@@ -1,24 +1,24 @@
 -- What composing sizes meets: polynomials that may be there, and arms that can be read as bounds.
 use Rattle.std.specs.Prelude.{◌≡◌, ℕ, ◌<◌, ◌≤◌, ◌^◌, List, length, map, All, Option, option_map, IfSome}
 use denote.Ref.{Bor}
-use Rattle.model.specs.Bounds.{Bound, MaximumOf}
-use Rattle.model.specs.Programs.{Program}
-use Rattle.model.specs.Polynomials.{Polynomial}
+use Rattle.poly_terms.specs.model.Bounds.{Bound, MaximumOf}
+use Rattle.poly_terms.specs.model.Programs.{Program}
+use Rattle.poly_terms.specs.model.Polynomials.{Polynomial}
 use Rattle.poly_terms.specs.declared.poly.Monomial.{Monomial}
 use Rattle.poly_terms.specs.declared.poly.Poly.{Poly}
 use Rattle.poly_terms.specs.Views.{poly_of}
 use Rattle.guard_prep.specs.declared.rule_rows.RuleRows.{RuleRows}
 use Rattle.guard_prep.specs.Views.{prepared_of}
 use Rattle.guard_prep.specs.Prepared.{prepared}
-use Rattle.proof_nodes.specs.Nodes as nodes
-use Rattle.proof_nodes.specs.Composed.{both_parts, parts_for, sizes_after}
-use Rattle.proof_nodes.specs.ComposedSizes.{arm_bound}
+use Rattle.proof_setting.specs.proof_nodes.Nodes as nodes
+use Rattle.proof_setting.specs.proof_nodes.Composed.{both_parts, parts_for, sizes_after}
+use Rattle.proof_setting.specs.proof_nodes.ComposedSizes.{arm_bound}
 use Rattle.proof_tree.specs.declared.arm.Arm.{Arm}
 use Rattle.proof_tree.specs.declared.arm.Arm.TheVariants as arms
 
 -- a polynomial that may be there, as plain data
-abbrev pub poly_seen : Option (Bor Poly) → Option Polynomial
-poly_seen o = option_map (λ q. poly_of q.now) o
+abbrev pub optional_poly : Option (Bor Poly) → Option Polynomial
+optional_poly o = option_map (λ q. poly_of q.now) o
 
 -- variables that are places of a symbol that could be
 abbrev pub HasFewVariables : Monomial → Type 0

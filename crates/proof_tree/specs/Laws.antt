@@ -1,10 +1,10 @@
 -- What the calls compose is what the nodes of `proof_nodes` compose.
 use Rattle.std.specs.Prelude.{◌≡◌, ℕ, Option}
-use Rattle.model.specs.Bounds.{Bound}
-use Rattle.model.specs.Paths.{pre}
-use Rattle.proof_nodes.specs.Nodes.{Member}
-use Rattle.proof_nodes.specs.Setting.{Setting}
-use Rattle.proof_nodes.specs.ComposedSizes.{poly_at, spread_of}
+use Rattle.poly_terms.specs.model.Bounds.{Bound}
+use Rattle.poly_terms.specs.model.Paths.{pre}
+use Rattle.proof_setting.specs.proof_nodes.Nodes.{Member}
+use Rattle.proof_setting.specs.proof_nodes.Setting.{Setting}
+use Rattle.proof_setting.specs.proof_nodes.ComposedSizes.{poly_at, spread_of}
 use Rattle.proof_tree.specs.Composing.{spread_over}
 
 -- the size of a spread is that over what can come before its rule, with the polynomial of its place

@@ -9,3 +9,9 @@ pub mod Shut
 pub mod NumberSets
 -- laws, and values that were worked out by hand
 pub mod Laws
+-- the crates below, which callers name through this one
+pub use Rattle.proof_setting.specs.rule_forms
+pub use Rattle.guard_prep.specs as guard_prep
+pub use Rattle.bound_expr.specs as bound_expr
+pub use Rattle.proof_setting.specs.proof_nodes
+pub use Rattle.proof_setting.specs as proof_setting

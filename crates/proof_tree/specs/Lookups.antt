@@ -1,14 +1,14 @@
 -- Bounds that are looked up among facts.
 use Rattle.std.specs.Prelude.{ℕ, ◌==◌, ◌&&◌, cond, Option, Some, None, option_map}
 use denote.Ref.{Bor}
-use Rattle.model.specs.Bounds as plain
-use Rattle.model.specs.Facts.{Fact, Time, Size}
+use Rattle.poly_terms.specs.model.Bounds as plain
+use Rattle.poly_terms.specs.model.Facts.{Fact, Time, Size}
 use Rattle.bound_expr.specs.declared.bound.Bound.{Bound}
 use Rattle.bound_expr.specs.Views.{bound_of}
 
 -- a bound that was found, as plain data
-abbrev pub found : Option (Bor Bound) → Option plain.Bound
-found o = option_map (λ b. bound_of b.now) o
+abbrev pub optional_bound : Option (Bor Bound) → Option plain.Bound
+optional_bound o = option_map (λ b. bound_of b.now) o
 
 -- the bound of a fact that is a time of the rule
 abbrev pub time_by_fact : Fact → ℕ → Option plain.Bound

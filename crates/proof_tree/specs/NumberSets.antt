@@ -2,8 +2,8 @@
 use Rattle.std.specs.Prelude.{◌≡◌, ℕ, List, Some}
 use Rattle.std.specs.BTreeSet.{BTreeSet, contains}
 use Rattle.std.specs.Ordering.{nat_cmp}
-use Rattle.model.specs.Programs.{Program}
-use Rattle.model.specs.Entries.{is_in, is_left_by}
+use Rattle.poly_terms.specs.model.Programs.{Program}
+use Rattle.poly_terms.specs.model.Entries.{is_in, is_left_by}
 
 -- a set has just the numbers of a list
 abbrev pub HasJust : BTreeSet ℕ → List ℕ → Type 0

@@ -1,9 +1,9 @@
 -- Which places an arm reads.
 use Rattle.std.specs.Prelude.{ℕ, List, filter, Option}
 use Rattle.std.specs.List.{range_with_len}
-use Rattle.model.specs.Polynomials.{Polynomial}
-use Rattle.proof_nodes.specs.Nodes.{Arm}
-use Rattle.proof_nodes.specs.ComposedSizes.{reads}
+use Rattle.poly_terms.specs.model.Polynomials.{Polynomial}
+use Rattle.proof_setting.specs.proof_nodes.Nodes.{Arm}
+use Rattle.proof_setting.specs.proof_nodes.ComposedSizes.{reads}
 
 -- the places that an arm reads, of so many, ascending and numbered from 0
 abbrev pub places_read : Option Polynomial → Arm → ℕ → List ℕ

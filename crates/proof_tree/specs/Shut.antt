@@ -1,7 +1,7 @@
 -- Which places of symbols are shut.
 use Rattle.std.specs.Prelude.{ℕ, ◌&&◌, nat_eq, Bool, List}
 use Rattle.std.specs.List.{list_any}
-use Rattle.proof_nodes.specs.Gaps.{SymbolPlace}
+use Rattle.proof_setting.specs.proof_nodes.Gaps.{SymbolPlace}
 
 -- whether place i of symbol a is one of these
 abbrev pub is_shut : List SymbolPlace → ℕ → ℕ → Bool

@@ -2,15 +2,15 @@
 use Rattle.std.specs.Prelude.{ℕ, ◌+◌, ◌<◌, ◌^◌, ◌==◌, ◌&&◌, ◌||◌, Bool, cond, List, length, ℤ, pos, nat_abs, Option}
 use Rattle.std.specs.Prelude.{Some, None}
 use Rattle.std.specs.List.{list_any}
-use Rattle.int_laws.specs.NormalForm.{is_zero}
+use Rattle.linear_forms.specs.int_laws.NormalForm.{is_zero}
 use denote.Ref.{Bor}
-use Rattle.model.specs.Bounds.{Bound, Constant, ProductOf, Parts, NoParts, Part}
+use Rattle.poly_terms.specs.model.Bounds.{Bound, Constant, ProductOf, Parts, NoParts, Part}
 use Rattle.linear_forms.specs.Forms as forms
-use Rattle.proof_nodes.specs.Nodes.{Member}
-use Rattle.proof_nodes.specs.Known.{Table, known}
-use Rattle.proof_nodes.specs.Numbers.{rounded_up}
+use Rattle.proof_setting.specs.proof_nodes.Nodes.{Member}
+use Rattle.proof_setting.specs.proof_nodes.Known.{Table, known}
+use Rattle.proof_setting.specs.proof_nodes.Numbers.{rounded_up}
 use Rattle.linear_forms.specs.RuleQuestions.{constant_form}
-use Rattle.proof_nodes.specs.Composed.{both_parts}
+use Rattle.proof_setting.specs.proof_nodes.Composed.{both_parts}
 use Rattle.proof_tree.specs.declared.rank.Form.{Form}
 use Rattle.proof_tree.specs.Views.{form_of}
 

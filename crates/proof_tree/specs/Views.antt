@@ -1,9 +1,9 @@
 -- What contracts see of facts, proofs and their parts: plain data.
 use Rattle.std.specs.Prelude.{List, [], ◌∷◌, map}
-use Rattle.model.specs.Facts as facts
+use Rattle.poly_terms.specs.model.Facts as facts
 use Rattle.bound_expr.specs.Views.{bound_of}
-use Rattle.proof_nodes.specs.Nodes as nodes
-use Rattle.proof_nodes.specs.Nodes.{NoProof, AndProof}
+use Rattle.proof_setting.specs.proof_nodes.Nodes as nodes
+use Rattle.proof_setting.specs.proof_nodes.Nodes.{NoProof, AndProof}
 use Rattle.proof_tree.specs.declared.fact.Fact.{Fact}
 use Rattle.proof_tree.specs.declared.fact.Fact.TheVariants.{Time, Size}
 use Rattle.proof_tree.specs.declared.arm.Spot.{Spot}

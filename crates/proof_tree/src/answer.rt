@@ -1,7 +1,8 @@
-// What a question about emptiness is answered, why a question had no answer, and why a node or a gap is refused.
+//! What a question about emptiness is answered, why a question had no answer, and why a node or a gap is refused.
 
 use crate::proof::EmptyNode;
 use farkas_cert::Scaled;
+use linear_forms::TripCause;
 
 /// What a linear program was asked.
 #[derive(Clone, Copy, Debug, PartialEq, Eq, Hash)]
@@ -12,19 +13,6 @@ pub enum Question {
     Rank { rule: u32 },
     /// A local bound of a place.
     Local { rule: u32, place: u32 },
-}
-
-/// The limit that a linear program passed.
-#[derive(Clone, Copy, Debug, PartialEq, Eq, Hash)]
-pub enum TripCause {
-    /// After so many pivots a number of the tableau was too large.
-    Range { pivot: u32 },
-    /// So many pivots were allowed, and another one was needed.
-    Budget { pivots: u32 },
-    /// The tableau would have so many entries.
-    Wide { entries: u64 },
-    /// A number of the scaled answer was too large.
-    Scale,
 }
 
 /// A question whose linear program passed a limit.

@@ -1,4 +1,4 @@
-// Local bounds: what a new value can be, in terms of the values before.
+//! Local bounds: what a new value can be, in terms of the values before.
 
 /// A rule, and a place of its target, from 1.
 #[derive(Clone, Copy, Debug, PartialEq, Eq, Hash)]

@@ -1,10 +1,12 @@
-// Copies of local bounds.
+//! Copies of local bounds and of scaled points.
 
 ghost use Rattle.std.specs.Prelude.{◌≡◌, IfOk};
+ghost use Rattle.proof_tree.specs.AnswerViews.{scaled_of};
 ghost use Rattle.proof_tree.specs.Views.{arm_of, local_of};
 
 use crate::arm::{Arm, LocalBound};
 use bound_expr::Memory;
+use farkas_cert::Scaled;
 use std::alloc::Global;
 
 /// The same local bound.
@@ -20,6 +22,21 @@ pub fn copied_local(alloc: Global, local: &LocalBound) -> Result<LocalBound, Mem
     Ok(LocalBound { up, low })
 }
 
+/// The same scaled point.
+///
+/// # Errors
+///
+/// `Memory` where an allocation fails.
+pub fn copied_scaled(alloc: Global, point: &Scaled) -> Result<Scaled, Memory>
+    ensures { IfOk result (λ z. scaled_of z ≡ scaled_of point.now) }
+{
+    let parts = copied_numbers(alloc, &point.parts)?;
+    Ok(Scaled {
+        parts,
+        den: point.den,
+    })
+}
+
 // A copy of an arm.
 fn copied_arm(alloc: Global, arm: &Arm) -> Result<Arm, Memory>
     ensures { IfOk result (λ a. arm_of a ≡ arm_of arm.now) }
@@ -32,7 +49,7 @@ fn copied_arm(alloc: Global, arm: &Arm) -> Result<Arm, Memory>
             multipliers,
         } => Ok(Arm::Linear {
             den: *den,
-            coefs: copied_coefficients(alloc, coefs)?,
+            coefs: copied_numbers(alloc, coefs)?,
             constant: *constant,
             multipliers: copied_multipliers(alloc, multipliers)?,
         }),
@@ -40,11 +57,11 @@ fn copied_arm(alloc: Global, arm: &Arm) -> Result<Arm, Memory>
     }
 }
 
-// A copy of coefficients.
-fn copied_coefficients(alloc: Global, coefs: &[i64]) -> Result<Vec<i64>, Memory>
-    ensures { IfOk result (λ v. v.items ≡ coefs.now) }
+// A copy of numbers.
+fn copied_numbers(alloc: Global, numbers: &[i64]) -> Result<Vec<i64>, Memory>
+    ensures { IfOk result (λ v. v.items ≡ numbers.now) }
 {
-    coefs.to_vec(alloc)
+    numbers.to_vec(alloc)
 }
 
 // A copy of multipliers.

@@ -1,12 +1,12 @@
-// The entries of a set of rules.
+//! The entries of a set of rules.
 
 ghost use Rattle.std.specs.Prelude.{◌≡◌, ℕ, ◌<◌, ◌-◌, ◌^◌, ◌||◌, List, length, IfOk, OnOk, Some};
 ghost use Rattle.std.specs.BTreeSet.{contains};
 ghost use Rattle.std.specs.Ordering.{nat_cmp};
-ghost use Rattle.model.specs.Programs.{Program as PlainProgram};
-ghost use Rattle.model.specs.Paths.{source_of as source_of_rule, target_of as target_of_rule, same_symbol};
+ghost use Rattle.poly_terms.specs.model.Programs.{Program as PlainProgram};
+ghost use Rattle.poly_terms.specs.model.Paths.{source_of as source_of_rule, target_of as target_of_rule, same_symbol};
 ghost use Rattle.its_model.specs.Views.{program_of};
-ghost use Rattle.model.specs.Entries.{enters as enters_set, entries as entries_of, is_left_by};
+ghost use Rattle.poly_terms.specs.model.Entries.{enters as enters_set, entries as entries_of, is_left_by};
 ghost use Rattle.proof_tree.specs.NumberSets.{HasJust, HasSources};
 
 use bound_expr::Memory;

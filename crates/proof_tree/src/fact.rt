@@ -1,4 +1,4 @@
-// Facts.
+//! Facts.
 
 use bound_expr::Bound;
 

@@ -1,4 +1,4 @@
-// Proof files.
+//! Proof files.
 
 use crate::gap::Gap;
 use crate::proof::Proof;

@@ -1,4 +1,4 @@
-// Why no function ranks: scaled points that balance.
+//! Why no function ranks: scaled points that balance.
 
 use farkas_cert::Scaled;
 

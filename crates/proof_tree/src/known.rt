@@ -1,7 +1,7 @@
 ghost use Rattle.std.specs.Prelude.{◌≡◌};
-ghost use Rattle.proof_nodes.specs.Known.{Table, table_of};
+ghost use Rattle.proof_setting.specs.proof_nodes.Known.{Table, table_of};
 ghost use Rattle.proof_tree.specs.Views.{facts_of};
-ghost use Rattle.proof_tree.specs.Lookups.{found};
+ghost use Rattle.proof_tree.specs.Lookups.{optional_bound};
 
 use crate::fact::Fact;
 use crate::lookup::{size_in, time_in};
@@ -15,11 +15,11 @@ pub trait Known {
 
     /// The time of a rule, where it is known. Rule 0 is the virtual entry.
     fn time(&self, rule: u32) -> Option<&Bound>
-        ensures { found result ≡ (table self.now).time rule };
+        ensures { optional_bound result ≡ (table self.now).time rule };
 
     /// The size of a place after a rule, where it is known. Places count from 1.
     fn size(&self, rule: u32, place: u32) -> Option<&Bound>
-        ensures { found result ≡ (table self.now).size rule place };
+        ensures { optional_bound result ≡ (table self.now).size rule place };
 }
 
 /// Facts that were stated: of each rule the first time is known, and of each place the first size.

@@ -1,16 +1,16 @@
-// Forms over a denominator as bounds, at the sizes of the places after a rule.
+//! Forms over a denominator as bounds, at the sizes of the places after a rule.
 
 ghost use Rattle.std.specs.Prelude.{◌≡◌, ℕ, ◌+◌, ◌≤◌, ◌<◌, ◌^◌, ◌||◌, length, map, IfOk, nat_abs};
-ghost use Rattle.int_laws.specs.NormalForm.{is_zero};
-ghost use Rattle.model.specs.Bounds.{Constant, ProductOf};
+ghost use Rattle.linear_forms.specs.int_laws.NormalForm.{is_zero};
+ghost use Rattle.poly_terms.specs.model.Bounds.{Constant, ProductOf};
 ghost use Rattle.bound_expr.specs.Views.{bound_of, bounds_of, parts_of};
-ghost use Rattle.rule_forms.specs.Bounds.{height};
-ghost use Rattle.proof_nodes.specs.Known.{known as known_bound};
-ghost use Rattle.proof_nodes.specs.Numbers.{rounded_up};
-ghost use Rattle.proof_nodes.specs.Composed.{both_parts, place_parts, rest_bound, sizes_after};
-ghost use Rattle.proof_nodes.specs.ComposedSizes.{is_member};
+ghost use Rattle.proof_setting.specs.rule_forms.Bounds.{height};
+ghost use Rattle.proof_setting.specs.proof_nodes.Known.{known as known_bound};
+ghost use Rattle.proof_setting.specs.proof_nodes.Numbers.{rounded_up};
+ghost use Rattle.proof_setting.specs.proof_nodes.Composed.{both_parts, place_parts, rest_bound, sizes_after};
+ghost use Rattle.proof_setting.specs.proof_nodes.ComposedSizes.{is_member};
 ghost use Rattle.proof_tree.specs.Views.{member_of};
-ghost use Rattle.proof_tree.specs.Lookups.{found};
+ghost use Rattle.proof_tree.specs.Lookups.{optional_bound};
 ghost use Rattle.proof_tree.specs.Sizes.{is_spot_of, is_spot, members_from, sizes_from, joined, place_part};
 
 use crate::arm::Member;
@@ -47,7 +47,7 @@ fn positive(n: i64) -> u64
 ///
 /// `Memory` where an allocation fails.
 pub fn known_or_zero(alloc: Global, bound: Option<&Bound>) -> Result<Bound, Memory>
-    ensures { IfOk result (λ b. bound_of b ≡ known_bound (found bound.entry)) }
+    ensures { IfOk result (λ b. bound_of b ≡ known_bound (optional_bound bound.entry)) }
 {
     match bound {
         Some(b) => b.copied(alloc),

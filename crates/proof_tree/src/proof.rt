@@ -1,7 +1,7 @@
-// Proof trees.
+//! Proof trees.
 
 ghost use Rattle.std.specs.Prelude.{◌≡◌};
-ghost use Rattle.proof_nodes.specs.Nodes.{Cite};
+ghost use Rattle.proof_setting.specs.proof_nodes.Nodes.{Cite};
 ghost use Rattle.proof_tree.specs.Views.{proof_of};
 
 use crate::arm::{LocalBound, Member, Spot};

@@ -1,4 +1,4 @@
-// Ranking functions as a node holds them.
+//! Ranking functions as a node holds them.
 
 use crate::proof::Proof;
 

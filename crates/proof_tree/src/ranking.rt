@@ -1,12 +1,12 @@
-// The time that a ranking node composes.
+//! The time that a ranking node composes.
 
 ghost use Rattle.std.specs.Prelude.{◌≡◌, ◌-◌, ◌≤◌, ◌<◌, ◌^◌, ◌∷◌, [], length, map, All, IfOk, IfSome};
-ghost use Rattle.model.specs.Bounds.{ProductOf, SumOf};
-ghost use Rattle.model.specs.Paths.{target_of as target_of_rule};
+ghost use Rattle.poly_terms.specs.model.Bounds.{ProductOf, SumOf};
+ghost use Rattle.poly_terms.specs.model.Paths.{target_of as target_of_rule};
 ghost use Rattle.bound_expr.specs.Views.{bound_of, bounds_of, parts_of};
 ghost use Rattle.bound_table.specs.Within.{answer_of, rewritten_within};
 ghost use Rattle.its_model.specs.Views.{program_of};
-ghost use Rattle.proof_nodes.specs.Composed.{rank_form as rank_form_of, both_parts, parts_for, entry_bound, time_of};
+ghost use Rattle.proof_setting.specs.proof_nodes.Composed.{rank_form as rank_form_of, both_parts, parts_for, entry_bound, time_of};
 ghost use Rattle.proof_tree.specs.Views.{form_of, rank_of};
 ghost use Rattle.proof_tree.specs.Sizes.{form_found, IsShort};
 

@@ -1,14 +1,14 @@
-// Which places an arm reads.
+//! Which places an arm reads.
 
 ghost use Rattle.std.specs.Prelude.{◌≡◌, not, map, IfOk};
 ghost use Rattle.std.specs.List.{list_any};
-ghost use Rattle.int_laws.specs.NormalForm.{is_zero};
+ghost use Rattle.linear_forms.specs.int_laws.NormalForm.{is_zero};
 ghost use Rattle.linear_forms.specs.Forms.{at};
-ghost use Rattle.model.specs.Entries.{is_in};
+ghost use Rattle.poly_terms.specs.model.Entries.{is_in};
 ghost use Rattle.poly_terms.specs.Views.{monomial_of, poly_of};
-ghost use Rattle.proof_nodes.specs.ComposedSizes.{reads as reads_of, has_variable as has_variable_of};
+ghost use Rattle.proof_setting.specs.proof_nodes.ComposedSizes.{reads as reads_of, has_variable as has_variable_of};
 ghost use Rattle.proof_setting.specs.Setting.{bent_at};
-ghost use Rattle.proof_tree.specs.Composing.{poly_seen};
+ghost use Rattle.proof_tree.specs.Composing.{optional_poly};
 ghost use Rattle.proof_tree.specs.Reading.{places_read as places_of};
 ghost use Rattle.proof_tree.specs.Views.{arm_of};
 
@@ -47,7 +47,7 @@ fn is_among(monomials: &[Monomial], variable: u32) -> bool
 
 // Whether a polynomial has the variable; where there is none, it hasn't.
 fn has_variable(poly: Option<&Poly>, variable: u32) -> bool
-    ensures { result ≡ has_variable_of (poly_seen poly.entry) variable }
+    ensures { result ≡ has_variable_of (optional_poly poly.entry) variable }
 {
     match poly {
         Some(q) => is_among(&q.terms, variable),
@@ -64,7 +64,7 @@ fn has_coefficient(coefs: &[i64], position: u32) -> bool
 
 // Whether an arm reads a place, numbered from 0.
 fn reads(arm: &Arm, poly: Option<&Poly>, place: u32) -> bool
-    ensures { result ≡ reads_of (poly_seen poly.entry) (arm_of arm.now) place }
+    ensures { result ≡ reads_of (optional_poly poly.entry) (arm_of arm.now) place }
 {
     match arm {
         Arm::Linear { coefs, .. } => has_coefficient(coefs, place),
@@ -85,7 +85,7 @@ pub fn places_read(
     poly: Option<&Poly>,
     left: u32,
 ) -> Result<Vec<u32>, Memory>
-    ensures { IfOk result (λ places. places.items ≡ places_of (poly_seen poly.entry) (arm_of arm.now) left) }
+    ensures { IfOk result (λ places. places.items ≡ places_of (optional_poly poly.entry) (arm_of arm.now) left) }
 {
     let mut places = Vec::new(alloc);
     for place in 0..left {
@@ -100,7 +100,7 @@ pub fn places_read(
 /// The update at a position of the rows of a rule, numbered from 0, where it has degree 2 or more.
 #[tactic(auto, using(crate::proofs::BentUpdates::updates))]
 pub fn bent_update(prep: &RuleRows, position: usize) -> Option<&Poly>
-    ensures { poly_seen result ≡ bent_at (map poly_of prep.now.polys.items) position }
+    ensures { optional_poly result ≡ bent_at (map poly_of prep.now.polys.items) position }
 {
     if position >= prep.polys.len() {
         return None;

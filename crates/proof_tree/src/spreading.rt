@@ -1,16 +1,16 @@
-// The size that a spread composes.
+//! The size that a spread composes.
 
 ghost use Rattle.std.specs.Prelude.{◌≡◌, ℕ, ◌<◌, ◌≤◌, ◌^◌, [], length, map, All, IfOk};
-ghost use Rattle.model.specs.Bounds.{Constant, SumOf, ProductOf, Part};
+ghost use Rattle.poly_terms.specs.model.Bounds.{Constant, SumOf, ProductOf, Part};
 ghost use Rattle.bound_expr.specs.Views.{bound_of};
 ghost use Rattle.bound_table.specs.Within.{answer_of, rewritten_within};
 ghost use Rattle.poly_terms.specs.Views.{monomial_of};
-ghost use Rattle.proof_nodes.specs.Composed.{parts_for, sizes_after};
-ghost use Rattle.proof_nodes.specs.ComposedSizes.{monomial_parts, monomial_bound as monomial_bound_of};
-ghost use Rattle.proof_nodes.specs.ComposedSizes.{polynomial_bound as polynomial_bound_of, offset_of, is_member};
+ghost use Rattle.proof_setting.specs.proof_nodes.Composed.{parts_for, sizes_after};
+ghost use Rattle.proof_setting.specs.proof_nodes.ComposedSizes.{monomial_parts, monomial_bound as monomial_bound_of};
+ghost use Rattle.proof_setting.specs.proof_nodes.ComposedSizes.{polynomial_bound as polynomial_bound_of, offset_of, is_member};
 ghost use Rattle.proof_tree.specs.Views.{arm_of, member_of, local_of};
 ghost use Rattle.proof_tree.specs.Laws.{SpreadsAreOverWhatComesBefore};
-ghost use Rattle.proof_tree.specs.Composing.{poly_seen, HasFewVariables, HasFewPlaces, IsReadable};
+ghost use Rattle.proof_tree.specs.Composing.{optional_poly, HasFewVariables, HasFewPlaces, IsReadable};
 ghost use Rattle.proof_tree.specs.Composing.{both_arms as both_arms_of, spread_over};
 
 use crate::arm::{Arm, LocalBound, Member};
@@ -98,7 +98,7 @@ fn polynomial_bound<K: Known>(
     rule: u32,
 ) -> Result<Bound, Memory>
     requires { HasFewPlaces poly }
-    ensures { IfOk result (λ b. bound_of b ≡ polynomial_bound_of (poly_seen poly.entry) (sizes_after (K.table
+    ensures { IfOk result (λ b. bound_of b ≡ polynomial_bound_of (optional_poly poly.entry) (sizes_after (K.table
         known.now).size rule)) }
 {
     match poly {
@@ -122,7 +122,7 @@ pub fn arm_bound<K: Known>(
 ) -> Result<Bound, Memory>
     requires readable { IsReadable arm.now }
     requires few { HasFewPlaces poly }
-    ensures { IfOk result (λ b. bound_of b ≡ offset_of (poly_seen poly.entry) (arm_of arm.now) (is_member (map
+    ensures { IfOk result (λ b. bound_of b ≡ offset_of (optional_poly poly.entry) (arm_of arm.now) (is_member (map
         member_of members.now) rule) (sizes_after (K.table known.now).size rule)) }
 {
     match arm {
@@ -147,7 +147,7 @@ fn both_arms<K: Known>(
     requires up { IsReadable local.now.up }
     requires low { IsReadable local.now.low }
     requires few { HasFewPlaces poly }
-    ensures { IfOk result (λ b. bound_of b ≡ both_arms_of (poly_seen poly.entry) (local_of local.now) (K.table
+    ensures { IfOk result (λ b. bound_of b ≡ both_arms_of (optional_poly poly.entry) (local_of local.now) (K.table
         known.now).size rule) }
 {
     let mut parts = Vec::new(alloc);
@@ -169,7 +169,7 @@ fn composed_size<K: Known>(
     requires up { IsReadable local.now.up }
     requires low { IsReadable local.now.low }
     requires few { HasFewPlaces poly }
-    ensures { IfOk result (λ b. bound_of b ≡ spread_over (poly_seen poly.entry) (local_of local.now) (K.table
+    ensures { IfOk result (λ b. bound_of b ≡ spread_over (optional_poly poly.entry) (local_of local.now) (K.table
         known.now).size before.now) }
 {
     let mut parts = Vec::new(alloc);
@@ -197,7 +197,7 @@ pub fn spread_size<K: Known>(
     requires up { IsReadable local.now.up }
     requires low { IsReadable local.now.low }
     requires few { HasFewPlaces poly }
-    ensures { IfOk result (λ w. answer_of w ≡ rewritten_within (spread_over (poly_seen poly.entry) (local_of
+    ensures { IfOk result (λ w. answer_of w ≡ rewritten_within (spread_over (optional_poly poly.entry) (local_of
         local.now) (K.table known.now).size before.now)) }
 {
     let composed = composed_size(alloc, local, poly, before, known)?;

@@ -8,38 +8,38 @@ use Rattle.std.proofs.lemmas.Int.{ints}
 use Rattle.std.proofs.lemmas.Bool.{cases_lt, eq-eqb}
 use Rattle.std.proofs.lemmas.List.{get_or_past}
 use Rattle.std.proofs.lemmas.List.Elements.{All-head, All-map}
-use Rattle.linear_forms.specs.Forms.{Form, at}
-use Rattle.linear_forms.specs.Certificates.{Implies}
-use Rattle.linear_forms.specs.Limits.{certificate_limit}
-use Rattle.linear_forms.specs.Questions.{double}
-use Rattle.linear_forms.specs.QuestionLaws.{after, parameters_of}
-use Rattle.linear_forms.specs.RuleQuestions.{RankedSet, constant_form, has_symbol, symbols_of_set, rank_question}
-use Rattle.linear_forms.proofs.ListLaws.{length-listed, after-is, All-front, All-behind}
-use Rattle.linear_forms.proofs.SolutionLaws.{All-listed}
-use Rattle.rule_forms.specs.Ranking.{Function}
-use Rattle.rule_forms.specs.RankLaws.{AreShown, lost_by}
-use Rattle.rule_forms.proofs.RankFits.{function-fits}
-use Rattle.rule_forms.proofs.RankSolutions.{rank-shown}
-use Rattle.model.specs.Programs.{Program, Rule, rule_at, arity_of}
-use Rattle.model.specs.Paths.{source_in, target_in, source_of, target_of}
+use Rattle.simplex_core.specs.linear_forms.Forms.{Form, at}
+use Rattle.simplex_core.specs.linear_forms.Certificates.{Implies}
+use Rattle.simplex_core.specs.linear_forms.Limits.{certificate_limit}
+use Rattle.simplex_core.specs.linear_forms.Questions.{double}
+use Rattle.simplex_core.specs.linear_forms.QuestionLaws.{after, parameters_of}
+use Rattle.simplex_core.specs.linear_forms.RuleQuestions.{RankedSet, constant_form, has_symbol, symbols_of_set, rank_question}
+use Rattle.simplex_core.proofs.linear_forms.ListLaws.{length-listed, after-is, All-front, All-behind}
+use Rattle.simplex_core.proofs.linear_forms.SolutionLaws.{All-listed}
+use Rattle.proof_tree.specs.rule_forms.Ranking.{Function}
+use Rattle.proof_tree.specs.rule_forms.RankLaws.{AreImplied, lost_by}
+use Rattle.proof_tree.proofs.rule_forms.RankFits.{function-fits}
+use Rattle.proof_tree.proofs.rule_forms.RankSolutions.{rank-shown}
+use Rattle.poly_terms.specs.model.Programs.{Program, Rule, rule_at, arity_of}
+use Rattle.poly_terms.specs.model.Paths.{source_in, target_in, source_of, target_of}
 use Rattle.its_model.specs.Valid.{IsValid}
 use Rattle.guard_prep.proofs.StepLaws.{valid-at}
-use Rattle.proof_nodes.specs.AcceptsPlain.{IsRule, AreMultipliers}
-use Rattle.proof_nodes.specs.AcceptsRank.{HasFormShape, HasRankShape, Loses, HasFloor, moves_of, AcceptsRank}
-use Rattle.linear_forms.specs.Combinations.{less}
-use Rattle.linear_forms.specs.Losses.{loss}
-use Rattle.proof_nodes.specs.Composed.{rank_form}
-use Rattle.proof_nodes.specs.Gaps.{SymbolPlace}
-use Rattle.proof_nodes.specs.Graph.{symbols_of}
-use Rattle.proof_nodes.specs.Known.{Table}
-use Rattle.proof_nodes.specs.Limits.{IsInLimit, AreInLimit}
-use Rattle.proof_nodes.specs.Nodes.{SymbolForm, RankNode}
-use Rattle.model.specs.Entries.{is_in}
-use Rattle.proof_nodes.specs.Numbers.{IsAscending}
-use Rattle.proof_setting.specs.Setting.{rows_in, news_in, setting_of}
-use Rattle.rank_search.specs.ProgramQuestions.{forms_in, ranked_set}
+use Rattle.proof_tree.specs.proof_nodes.AcceptsPlain.{IsRule, AreMultipliers}
+use Rattle.proof_tree.specs.proof_nodes.AcceptsRank.{HasFormShape, HasRankShape, Loses, HasFloor, moves_of, AcceptsRank}
+use Rattle.simplex_core.specs.linear_forms.Combinations.{less}
+use Rattle.simplex_core.specs.linear_forms.Losses.{loss}
+use Rattle.proof_tree.specs.proof_nodes.Composed.{rank_form}
+use Rattle.proof_tree.specs.proof_nodes.Gaps.{SymbolPlace}
+use Rattle.proof_tree.specs.proof_nodes.Graph.{symbols_of}
+use Rattle.proof_tree.specs.proof_nodes.Known.{Table}
+use Rattle.proof_tree.specs.proof_nodes.Limits.{IsInLimit, AreInLimit}
+use Rattle.proof_tree.specs.proof_nodes.Nodes.{SymbolForm, RankNode}
+use Rattle.poly_terms.specs.model.Entries.{is_in}
+use Rattle.proof_tree.specs.proof_nodes.Numbers.{IsAscending}
+use Rattle.proof_tree.specs.proof_setting.Setting.{rows_in, news_in, setting_of}
+use Rattle.rule_questions.specs.ProgramQuestions.{forms_in, ranked_set}
 use Rattle.rank_search.specs.RankAnswers.{IsRuleSet, IsRankNode, part_at}
-use Rattle.rank_search.specs.RankLaws.{found, HoldsFacts, IsShown, RankedNodesAreAccepted}
+use Rattle.rank_search.specs.RankLaws.{function_of_node, HoldsFacts, HasCertificates, RankedNodesAreAccepted}
 use Rattle.rank_search.proofs.Numbers.{coefficient-small}
 use Rattle.rank_search.proofs.RankSets.{in-all, set-of, symbols-same}
 use Rattle.rank_search.proofs.ShownParts.{part-of, any-of, limits-by_group, moves-limit, Split, split}
@@ -85,7 +85,7 @@ module _ (p : Program) (set : List ℕ) (strict : ℕ) (shut : List SymbolPlace)
   b = ranked_set p set strict shut
 
   abbrev f : Function
-  f = found b pivots node n
+  f = function_of_node b pivots node n
 
   abbrev column : ℕ → ℤ
   column = at n.numbers
@@ -150,7 +150,7 @@ module _ (p : Program) (set : List ℕ) (strict : ℕ) (shut : List SymbolPlace)
   shown : Split b f (pos node.den) set node.moves node.floor
   shown =
       split b f (pos node.den) set node.moves node.floor
-      (subst (λ (ms : List (List ℕ)). AreShown b f (pos node.den) set ms) (sym n.multipliers)
+      (subst (λ (ms : List (List ℕ)). AreImplied b f (pos node.den) set ms) (sym n.multipliers)
       (rank-shown b column (pos node.den) (set-of p set strict shut valid rules) n.solution.solution))
 
   all-limits : All AreInLimit (node.moves ++ node.floor ∷ [])
@@ -278,7 +278,7 @@ module _ (p : Program) (set : List ℕ) (strict : ℕ) (shut : List SymbolPlace)
   }
 
   -- a found node has its shape, its losses and its floor, whatever a table knows
-  pub node-shown : IsShown (setting_of p) node
+  pub node-shown : HasCertificates (setting_of p) node
   node-shown = record { shape = shaped; moves = loses; floor = floor-holds }
 
 -- found nodes are shown, are accepted with the facts that they need, and look at no shut place
@@ -288,7 +288,7 @@ nodes-accepted = record {
   shut = λ p set strict shut pivots node s j n h l e.
       ap (λ (g : Form). at g.coefs j)
       (ap (λ (fs : List SymbolForm). rank_form fs (Some s)) n.forms
-      ∙ part-of (found (ranked_set p set strict shut) pivots node n) (has_symbol (ranked_set p set strict shut)) 0
+      ∙ part-of (function_of_node (ranked_set p set strict shut) pivots node n) (has_symbol (ranked_set p set strict shut)) 0
       (length p.symbols) s h (omega arith) (omega (arith, l)))
       ∙ (function-fits (ranked_set p set strict shut) (parameters_of (at n.numbers))).closed s j e;
   each = λ p set strict shut pivots node valid rules n table facts. node-accepted p set strict shut pivots node valid

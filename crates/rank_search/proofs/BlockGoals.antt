@@ -4,7 +4,7 @@ use Rattle.std.proofs.Common.{sym, ap, subst, ◌∙◌, Bool, true, false, List
 use Rattle.std.proofs.lemmas.Bool.{true≢false, eqb-true}
 use Rattle.std.proofs.lemmas.List.{take_all}
 use Rattle.std.proofs.lemmas.List.Elements.{All-nil}
-use Rattle.linear_forms.specs.RuleQuestions.{RuleForms}
+use Rattle.simplex_core.specs.linear_forms.RuleQuestions.{RuleForms}
 use Rattle.lp_builder.specs.declared.description.Goal.{Goal}
 use Rattle.lp_builder.specs.Descriptions.{goal_forms, IsWritable}
 use Rattle.poly_terms.specs.Views.{form_of}
@@ -14,7 +14,8 @@ use Rattle.rank_search.specs.declared.goals.Part.{Part}
 use Rattle.rank_search.specs.Blocks.{block_at, AreBlocks, HoldGoals, IsInside}
 use Rattle.rank_search.specs.Coefficients.{coefficient_of}
 use Rattle.rank_search.specs.Goals.{goal_form, AreGoalsUpTo}
-use Rattle.rank_search.proofs.GoalForms.{ascend-wider, goal-passed, unconcerned}
+use Rattle.rule_questions.proofs.GoalForms.{ascend-wider, goal-passed}
+use Rattle.rank_search.proofs.Unconcerned.{unconcerned}
 
 -- the coefficient is one of the two symbols
 abbrev pub concerned : ℕ → ℕ → Coefficient → Bool

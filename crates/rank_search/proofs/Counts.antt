@@ -7,19 +7,19 @@ use Rattle.std.specs.List.{All, list_any, range_with_len}
 use Rattle.std.proofs.lemmas.Bool.Decides.{eqb_tells}
 use Rattle.std.proofs.lemmas.List.Elements.{All-nil, All-cons, All-head, All-tail, All-weaker, All-append, All-filter}
 use Rattle.std.proofs.lemmas.List.Elements.{All-map}
-use Rattle.linear_forms.specs.RuleQuestions.{RankedSet, Coefficient, has_symbol, symbols_of_set, open_places}
-use Rattle.linear_forms.specs.RuleQuestions.{coefficients}
-use Rattle.linear_forms.proofs.ColumnLaws.{get_or-map}
-use Rattle.linear_forms.proofs.SolutionLaws.{length-map}
-use Rattle.model.specs.Limits.{rule_limit}
-use Rattle.model.specs.Programs.{Program, Rule}
+use Rattle.simplex_core.specs.linear_forms.RuleQuestions.{RankedSet, Coefficient, has_symbol, symbols_of_set, open_places}
+use Rattle.simplex_core.specs.linear_forms.RuleQuestions.{coefficients}
+use Rattle.simplex_core.proofs.linear_forms.ColumnLaws.{get_or-map}
+use Rattle.simplex_core.proofs.linear_forms.SolutionLaws.{length-map}
+use Rattle.poly_terms.specs.model.Limits.{rule_limit}
+use Rattle.poly_terms.specs.model.Programs.{Program, Rule}
 use Rattle.its_model.specs.Valid.{IsValid}
-use Rattle.proof_nodes.specs.AcceptsPlain.{IsRule}
-use Rattle.proof_nodes.specs.Gaps.{SymbolPlace}
-use Rattle.proof_nodes.specs.Numbers.{IsAscending}
+use Rattle.proof_tree.specs.proof_nodes.AcceptsPlain.{IsRule}
+use Rattle.proof_tree.specs.proof_nodes.Gaps.{SymbolPlace}
+use Rattle.proof_tree.specs.proof_nodes.Numbers.{IsAscending}
 use Rattle.rank_search.specs.declared.coefficients.Coefficient.{Coefficient as Sought}
 use Rattle.rank_search.specs.Coefficients.{coefficient_of, AreCoefficients}
-use Rattle.rank_search.specs.ProgramQuestions.{ranked_set}
+use Rattle.rule_questions.specs.ProgramQuestions.{ranked_set}
 use Rattle.rank_search.specs.RankAnswers.{IsRuleSet}
 pub use Rattle.guard_prep.proofs.StepLaws.{few-places}
 

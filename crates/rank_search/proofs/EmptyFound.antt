@@ -2,40 +2,39 @@
 use Rattle.std.proofs.Common.{◌≡◌, ℕ, ◌+◌, ◌<◌, ◌≤◌, ap, arith, refl, sym, ◌∙◌, subst, List, length}
 use Rattle.std.specs.Prelude.{ℤ, pos, negsuc, nat_abs, ◌≤ℤ◌}
 use Rattle.std.proofs.lemmas.Int.{ints}
-use Rattle.linear_forms.specs.Causes.{Cause}
+use Rattle.simplex_core.specs.linear_forms.Causes.{Cause, cause_of}
 use Rattle.std.specs.List.{All}
-use Rattle.linear_forms.specs.Certificates.{Implies, minus_one}
-use Rattle.linear_forms.specs.Forms.{at}
-use Rattle.linear_forms.specs.Limits.{certificate_limit}
-use Rattle.linear_forms.specs.Questions.{listed}
-use Rattle.linear_forms.specs.RuleQuestions.{empty_question}
-use Rattle.linear_forms.specs.RuleQuestionLaws.{IsRuleShaped}
-use Rattle.linear_forms.proofs.SolutionLaws.{length-map}
+use Rattle.simplex_core.specs.linear_forms.Certificates.{Implies, minus_one}
+use Rattle.simplex_core.specs.linear_forms.Forms.{at}
+use Rattle.simplex_core.specs.linear_forms.Limits.{certificate_limit}
+use Rattle.simplex_core.specs.linear_forms.Questions.{listed}
+use Rattle.simplex_core.specs.linear_forms.RuleQuestions.{empty_question}
+use Rattle.simplex_core.specs.linear_forms.RuleQuestionLaws.{IsRuleShaped}
+use Rattle.simplex_core.proofs.linear_forms.SolutionLaws.{length-map}
 use Rattle.poly_terms.specs.Views.{form_of}
-use Rattle.farkas_cert.specs.declared.scaled.Scaled.{Scaled as Point}
+use Rattle.farkas_cert.specs.declared.scaled.Scaled.{Scaled}
 use Rattle.guard_prep.specs.declared.rule_rows.RuleRows.{RuleRows}
 use Rattle.guard_prep.specs.Prepared.{Prepared}
 use Rattle.guard_prep.specs.Views.{prepared_of}
 use Rattle.simplex_core.specs.declared.problem.Problem.{Problem}
-use Rattle.simplex_core.specs.declared.scaling.Scaled.{Scaled}
+use Rattle.simplex_core.specs.declared.scaling.Numerators.{Numerators}
 use Rattle.simplex_core.specs.declared.answers.Answer.{Answer}
 use Rattle.simplex_core.specs.declared.answers.Answer.TheVariants.{Solution, Dual, Tripped}
-use Rattle.simplex_core.specs.declared.answers.Cause.{Cause as TripCause}
+use Rattle.simplex_core.specs.linear_forms.declared.trip_cause.TripCause.{TripCause}
 use Rattle.simplex_core.specs.Problem.{program_of}
-use Rattle.simplex_core.specs.Trips.{Trips, IsWholeAnswer, cause_of as cause_solved}
+use Rattle.simplex_core.specs.Trips.{Trips, IsWholeAnswer}
 use Rattle.simplex_core.proofs.Agreement.{whole-answers-agree}
 use Rattle.proof_tree.specs.declared.proof.EmptyNode.{EmptyNode}
 use Rattle.proof_tree.specs.declared.answer.Trip.{Trip}
 use Rattle.proof_tree.specs.declared.answer.Question.TheVariants as asked
 use Rattle.proof_tree.specs.declared.answer.EmptyAnswer.TheVariants as answers
-use Rattle.proof_tree.specs.AnswerViews.{cause_of}
-use Rattle.rank_search.specs.EmptyAnswers.{IsPrepared, IsEmptyAnswer, empty_program}
-use Rattle.rank_search.specs.ProgramQuestions.{forms_of}
-use Rattle.rank_search.specs.Programs.{IsProblemOf}
-use Rattle.rank_search.proofs.Lists.{listed-agree}
-use Rattle.rank_search.proofs.Trips.{solution-untripped, dual-untripped}
-use Rattle.rank_search.proofs.EmptyLaws.{prepared-shaped, solution-long, solution-shows, solution-limit, dual-long}
-use Rattle.rank_search.proofs.EmptyLaws.{dual-nonneg, dual-point}
+use Rattle.rule_questions.specs.EmptyAnswers.{IsPrepared, IsEmptyAnswer, empty_program}
+use Rattle.rule_questions.specs.ProgramQuestions.{forms_of}
+use Rattle.rule_questions.specs.Programs.{IsProblemOf}
+use Rattle.rule_questions.proofs.Lists.{listed-agree}
+use Rattle.rule_questions.proofs.Trips.{solution-untripped, dual-untripped}
+use Rattle.rule_questions.proofs.EmptyLaws.{prepared-shaped, solution-long, solution-shows, solution-limit, dual-long}
+use Rattle.rule_questions.proofs.EmptyLaws.{dual-nonneg, dual-point}
 
 module _ (m : RuleRows) (is : IsPrepared m) (pivots : ℕ) (problem : Problem)
     (of : IsProblemOf (empty_question (forms_of 0 0 (prepared_of m))) problem) where
@@ -54,7 +53,7 @@ module _ (m : RuleRows) (is : IsPrepared m) (pivots : ℕ) (problem : Problem)
   many = length-map form_of m.rows.items
 
   -- there are multipliers for all rows
-  pub solution-room : (s : Scaled) (ns : List ℤ) → IsWholeAnswer (program_of problem) pivots (Solution s) → ns
+  pub solution-room : (s : Numerators) (ns : List ℤ) → IsWholeAnswer (program_of problem) pivots (Solution s) → ns
       ≡ s.numbers.items
       → 0 + length m.rows.items ≤ length ns
   solution-room s ns h e =
@@ -63,7 +62,7 @@ module _ (m : RuleRows) (is : IsPrepared m) (pivots : ℕ) (problem : Problem)
       let n = many in omega (arith, l, f, n)
 
   -- a node of them
-  pub solution-answer : (s : Scaled) (ns : List ℤ) (rule : ℕ) (n : EmptyNode) → IsWholeAnswer
+  pub solution-answer : (s : Numerators) (ns : List ℤ) (rule : ℕ) (n : EmptyNode) → IsWholeAnswer
       (program_of problem) pivots (Solution s)
       → ns ≡ s.numbers.items → n.rule ≡ rule
       → n.multipliers.items ≡ listed (length m.rows.items) (λ j. nat_abs (at ns (0 + j)))
@@ -92,13 +91,13 @@ module _ (m : RuleRows) (is : IsPrepared m) (pivots : ℕ) (problem : Problem)
           ∙ ap (λ (k : ℕ). listed k (λ j. nat_abs (at s.numbers.items (0 + j)))) (sym many))
 
   -- there is a part for each unknown, and a denominator
-  pub dual-room : (s : Scaled) (ns : List ℤ) → IsWholeAnswer (program_of problem) pivots (Dual s) → ns ≡ s.numbers.items
+  pub dual-room : (s : Numerators) (ns : List ℤ) → IsWholeAnswer (program_of problem) pivots (Dual s) → ns ≡ s.numbers.items
       → 0 + m.unknowns < length ns
   dual-room s ns h e =
       let l = dual-long (prepared_of m) shaped pivots s.numbers.items s.den (moved (Dual s) h) in
       let f = ap (λ (xs : List ℤ). length xs) e in omega (arith, l, f)
 
-  dual-denominator : (s : Scaled) (ns : List ℤ) → IsWholeAnswer (program_of problem) pivots (Dual s) → ns
+  dual-denominator : (s : Numerators) (ns : List ℤ) → IsWholeAnswer (program_of problem) pivots (Dual s) → ns
       ≡ s.numbers.items
       → pos 0 ≤ℤ at ns (0 + m.unknowns)
   dual-denominator s ns h e =
@@ -106,7 +105,7 @@ module _ (m : RuleRows) (is : IsPrepared m) (pivots : ℕ) (problem : Problem)
       (dual-nonneg (prepared_of m) shaped pivots s.numbers.items s.den (moved (Dual s) h))
 
   -- a point of them
-  pub dual-answer : (s : Scaled) (ns : List ℤ) (rule : ℕ) (z : Point) → IsWholeAnswer (program_of problem) pivots
+  pub dual-answer : (s : Numerators) (ns : List ℤ) (rule : ℕ) (z : Scaled) → IsWholeAnswer (program_of problem) pivots
       (Dual s)
       → ns ≡ s.numbers.items → z.parts.items ≡ listed m.unknowns (λ u. at ns (0 + u)) → z.den ≡ nat_abs
       (at ns (0 + m.unknowns))
@@ -134,7 +133,7 @@ module _ (m : RuleRows) (is : IsPrepared m) (pivots : ℕ) (problem : Problem)
 
   -- a trip
   pub trip-answer : (c : TripCause) (rule : ℕ) (t : Trip) → IsWholeAnswer (program_of problem) pivots (Tripped c)
-      → t.question ≡ asked.Empty rule → cause_of t.cause ≡ cause_solved c
+      → t.question ≡ asked.Empty rule → cause_of t.cause ≡ cause_of c
       → IsEmptyAnswer (prepared_of m) rule pivots (answers.Tripped t)
   trip-answer c rule t h e f =
       (e, subst (λ (k : Cause). Trips (empty_program (prepared_of m)) pivots k) (sym f) (moved (Tripped c) h))

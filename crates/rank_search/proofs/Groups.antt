@@ -1,28 +1,29 @@
 -- Multipliers and points of groups, group by group.
 use Rattle.std.proofs.Common.{◌≡◌, ℕ, zero, suc, ◌+◌, ◌<◌, ◌≤◌, ap, arith, refl, sym, ◌∙◌, List, [], ◌∷◌, ◌++◌, length}
-use Rattle.std.proofs.Common.{map, get_or, drop, append_assoc, length-append, Option, Some, None}
+use Rattle.std.proofs.Common.{map, get_or, drop, append_assoc, Option, Some, None}
 use Rattle.std.specs.Prelude.{ℤ, nat_abs, slice_get, option_map}
 use Rattle.std.specs.List.{All}
 use Rattle.std.proofs.lemmas.List.{drop_more, drop_all}
 use Rattle.std.proofs.lemmas.List.Elements.{All-head, All-tail}
 use Rattle.std.proofs.lemmas.Option.{slice_get-map}
-use Rattle.linear_forms.specs.Forms.{Form}
-use Rattle.linear_forms.specs.Questions.{Group, listed, line, equations, group_columns}
-use Rattle.linear_forms.specs.QuestionLaws.{after, multipliers_of, multipliers_by_group}
-use Rattle.linear_forms.specs.RuleQuestions.{RankedSet, symbols_of_set, coefficients, move_group, floor_group}
-use Rattle.linear_forms.specs.RuleQuestions.{rank_question}
-use Rattle.linear_forms.proofs.ListLaws.{after-add, after-is, length-listed}
-use Rattle.model.specs.Programs.{Program, Rule}
+use Rattle.simplex_core.specs.linear_forms.Forms.{Form}
+use Rattle.simplex_core.specs.linear_forms.Questions.{Group, listed, group_columns}
+use Rattle.simplex_core.specs.linear_forms.QuestionLaws.{after, multipliers_of, multipliers_by_group}
+use Rattle.simplex_core.specs.linear_forms.RuleQuestions.{RankedSet, symbols_of_set, coefficients, move_group, floor_group}
+use Rattle.simplex_core.specs.linear_forms.RuleQuestions.{rank_question}
+use Rattle.simplex_core.proofs.linear_forms.ListLaws.{after-add, after-is, length-listed}
+use Rattle.poly_terms.specs.model.Programs.{Program, Rule}
 use Rattle.guard_prep.specs.declared.rule_rows.RuleRows.{RuleRows}
 use Rattle.guard_prep.specs.Prepared.{Prepared, prepared}
 use Rattle.guard_prep.specs.Views.{prepared_of}
-use Rattle.proof_nodes.specs.AcceptsPlain.{IsRule}
-use Rattle.proof_nodes.specs.Gaps.{SymbolPlace, ScaledPoint}
+use Rattle.proof_tree.specs.proof_nodes.AcceptsPlain.{IsRule}
+use Rattle.proof_tree.specs.proof_nodes.Gaps.{SymbolPlace, ScaledPoint}
 use Rattle.proof_tree.specs.Composing.{AreRowsOf}
-use Rattle.rank_search.specs.ProgramQuestions.{forms_in, ranked_set}
+use Rattle.rule_questions.specs.ProgramQuestions.{forms_in, ranked_set}
 use Rattle.rank_search.specs.RankAnswers.{points_of, IsRuleSet}
-use Rattle.rank_search.specs.Reading.{shape_of, shape_at, group_lines, shapes}
-use Rattle.rank_search.proofs.Lists.{listed-agree, multipliers-listed}
+use Rattle.rank_search.specs.Reading.{shape_of, shape_at, shapes}
+use Rattle.rule_questions.specs.GroupLines.{group_lines}
+use Rattle.rule_questions.proofs.Lists.{listed-agree, multipliers-listed}
 
 -- the numbers after the first ones of those after the first ones
 pub after-more : (n k m : ℕ) (x : ℕ → ℤ) → m ≡ n + k → after k (after n x) ≡ after m x
@@ -206,15 +207,6 @@ columns-append (g ∷ gs) hs = let e = columns-append gs hs in omega (arith, e)
 pub lines-append : (gs hs : List Group) → group_lines (gs ++ hs) ≡ group_lines gs + group_lines hs
 lines-append [] hs = omega arith
 lines-append (g ∷ gs) hs = let e = lines-append gs hs in omega (arith, e)
-
--- a line for each equation
-pub equations-many : (before : ℕ) (gs : List Group) → length (equations before gs) ≡ group_lines gs
-equations-many before [] = refl
-equations-many before (g ∷ gs) =
-    length-append (listed (suc g.unknowns) (line before g)) (equations (before + suc (length g.rows)) gs)
-    ∙ (ap (λ (n : ℕ). n + length (equations (before + suc (length g.rows)) gs))
-    (length-listed (suc g.unknowns) (line before g))
-    ∙ ap (λ (n : ℕ). suc g.unknowns + n) (equations-many (before + suc (length g.rows)) gs))
 
 -- groups with the same unknowns and rows
 pub record AreAlike (g h : Group) : Type 0 where

@@ -1,9 +1,4 @@
-pub mod Lists
-pub mod Trips
-pub mod EmptyLaws
-pub mod EmptyProblems
 pub mod EmptyFound
-pub mod Exact
 pub mod RankSets
 pub mod RankExact
 pub mod Numbers
@@ -12,16 +7,15 @@ pub mod Accepted
 pub mod NodeLaws
 pub mod Marking
 pub mod OpenPlaces
-pub mod GoalForms
-pub mod Sums
 pub mod Counts
 pub mod RankProblems
 pub mod Writing
-pub mod Read
+pub mod FunctionReading
 pub mod Groups
 pub mod RankFound
-pub mod Pairs
-pub mod Answered
 pub mod Uniqueness
 pub mod ShutSets
 pub mod BlockGoals
+pub mod Unconcerned
+-- the lemmas of the crates below, which callers name through this one
+pub use Rattle.rule_questions.proofs as rule_questions

@@ -1,45 +1,19 @@
 -- Symbols by their numbers: what is done, and what is left.
-use Rattle.std.proofs.Common.{◌≡◌, ℕ, ◌+◌, ◌<◌, ◌||◌, Bool, true, false, cond}
+use Rattle.std.proofs.Common.{◌≡◌, ℕ, ◌+◌, ◌<◌, ◌||◌, Bool, true, false}
 use Rattle.std.proofs.Common.{List, [], ◌∷◌, ◌++◌, length, map, filter, get_or, take, Option, Some, None}
 use Rattle.std.proofs.Common.{is_some, refl, sym, ap, ◌∙◌, arith}
 use Rattle.std.specs.List.{range_with_len}
 use Rattle.std.proofs.Math.Bool.{or_assoc}
 use Rattle.std.proofs.lemmas.List.{length-map}
 use Rattle.std.proofs.lemmas.List.Folds.{list_any_more}
-use Rattle.std.proofs.lemmas.List.Elements.{filter-append}
-use Rattle.model.specs.Programs as plain
-use Rattle.model.specs.Paths.{source_of, target_of, same_symbol}
+use Rattle.poly_terms.specs.model.Programs as plain
+use Rattle.poly_terms.specs.model.Paths.{source_of, target_of, same_symbol}
 use Rattle.its_model.specs.declared.program.Program.{Program}
 use Rattle.its_model.specs.Views.{program_of, symbol_of}
-use Rattle.proof_nodes.specs.Graph.{touches, symbols_of}
+use Rattle.proof_tree.specs.proof_nodes.Graph.{touches, symbols_of}
+use Rattle.rule_questions.proofs.Filters.{filter-pushed, filter-passed}
 use Rattle.rank_search.specs.Marks.{mark, AreMarks}
-pub use Rattle.proof_tree.proofs.Numbers.{numbers-more}
-
-append-nothing : {A : Type 0} (xs : List A) → xs ++ [] ≡ xs
-append-nothing [] = refl
-append-nothing {A} (x ∷ xs) = ap (λ (ys : List A). x ∷ ys) (append-nothing xs)
-
--- what passes a test so far, and one number more
-module _ (test : ℕ → Bool) (a : ℕ) where
-  filter-more : (n : ℕ) → filter test (range_with_len a (n + 1))
-      ≡ filter test (range_with_len a n) ++ cond (test (a + n)) ((a + n) ∷ []) []
-  filter-more n = ap (filter test) (numbers-more a n) ∙ filter-append test (range_with_len a n) ((a + n) ∷ [])
-
-  -- a next number that passes the test stands behind those so far
-  pub filter-pushed : (n m : ℕ) → m ≡ a + n → test m ≡ true
-      → filter test (range_with_len a (n + 1)) ≡ filter test (range_with_len a n) ++ m ∷ []
-  filter-pushed n m e h =
-      filter-more n
-      ∙ (ap (λ (v : Bool). filter test (range_with_len a n) ++ cond v ((a + n) ∷ []) []) (ap test (sym e) ∙ h)
-      ∙ ap (λ (k : ℕ). filter test (range_with_len a n) ++ k ∷ []) (sym e))
-
-  -- a next number that doesn't pass the test leaves those so far as they are
-  pub filter-passed : (n m : ℕ) → m ≡ a + n → test m ≡ false
-      → filter test (range_with_len a (n + 1)) ≡ filter test (range_with_len a n)
-  filter-passed n m e h =
-      filter-more n
-      ∙ (ap (λ (v : Bool). filter test (range_with_len a n) ++ cond v ((a + n) ∷ []) []) (ap test (sym e) ∙ h)
-      ∙ append-nothing (filter test (range_with_len a n)))
+use Rattle.proof_tree.proofs.Numbers.{numbers-more}
 
 -- what a mark says of the test
 pub mark-some : (b : Bool) (n m : ℕ) → Some m ≡ mark b n → (b ≡ true) × (m ≡ n)

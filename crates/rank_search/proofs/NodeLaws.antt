@@ -1,12 +1,12 @@
 -- The function that a node is read off ranks the rule and weighs least.
 use Rattle.std.proofs.Common.{arith, ap, ◌∙◌, List, Some}
-use Rattle.linear_forms.specs.Forms.{at}
-use Rattle.linear_forms.specs.QuestionLaws.{parameters_of}
-use Rattle.linear_forms.specs.RuleQuestions.{has_symbol}
-use Rattle.rule_forms.proofs.RankFits.{function-fits}
-use Rattle.proof_nodes.specs.Composed.{rank_form}
-use Rattle.proof_nodes.specs.Nodes.{SymbolForm}
-use Rattle.rank_search.specs.RankLaws.{found, RankedNodesRank}
+use Rattle.simplex_core.specs.linear_forms.Forms.{at}
+use Rattle.simplex_core.specs.linear_forms.QuestionLaws.{parameters_of}
+use Rattle.simplex_core.specs.linear_forms.RuleQuestions.{has_symbol}
+use Rattle.proof_tree.proofs.rule_forms.RankFits.{function-fits}
+use Rattle.proof_tree.specs.proof_nodes.Composed.{rank_form}
+use Rattle.proof_tree.specs.proof_nodes.Nodes.{SymbolForm}
+use Rattle.rank_search.specs.RankLaws.{function_of_node, RankedNodesRank}
 use Rattle.rank_search.proofs.ShownParts.{part-of}
 use Rattle.rank_search.proofs.RankExact.{node-ranks, node-least}
 
@@ -15,7 +15,7 @@ pub nodes-rank : RankedNodesRank
 nodes-rank = record {
   parts = λ b pivots node n s h l.
       ap (λ (fs : List SymbolForm). rank_form fs (Some s)) n.forms
-      ∙ part-of (found b pivots node n) (has_symbol b) 0 b.symbols s h (omega arith) (omega (arith, l));
+      ∙ part-of (function_of_node b pivots node n) (has_symbol b) 0 b.symbols s h (omega arith) (omega (arith, l));
   fits = λ b pivots node n. function-fits b (parameters_of (at n.numbers));
   ranks = λ p set strict shut pivots node valid rules n. node-ranks p set strict shut valid rules pivots node n;
   least = λ p set strict shut pivots node valid rules n points. node-least p set strict shut valid rules pivots node n

@@ -7,9 +7,9 @@ use Rattle.std.specs.List.{range_with_len}
 use Rattle.std.proofs.lemmas.Int.{ints}
 use Rattle.std.proofs.lemmas.Bool.{ne_eqb}
 use Rattle.std.proofs.lemmas.Bool.Decides.{eqb_tells}
-use Rattle.linear_forms.specs.RuleQuestions.{RankedSet, Coefficient, open_places, coefficients}
-use Rattle.rule_forms.specs.RankLaws.{coefficient}
-use Rattle.rule_forms.proofs.Losses.{share, share-elsewhere, share-other}
+use Rattle.simplex_core.specs.linear_forms.RuleQuestions.{RankedSet, Coefficient, open_places, coefficients}
+use Rattle.proof_tree.specs.rule_forms.RankLaws.{coefficient}
+use Rattle.proof_tree.proofs.rule_forms.Losses.{share, share-elsewhere, share-other}
 
 -- the coefficients of the places of a symbol
 abbrev pub block : ℕ → List ℕ → List Coefficient

@@ -3,14 +3,14 @@ use Rattle.std.proofs.Common.{◌≡◌, ℕ, ◌+◌, ◌<◌, ◌≤◌, not, 
 use Rattle.std.proofs.Common.{get_or, drop, refl, sym, ap, ◌∙◌, arith, append_assoc}
 use Rattle.std.specs.List.{range_with_len}
 use Rattle.std.proofs.lemmas.List.{map-append, drop_more, drop_all}
-use Rattle.linear_forms.specs.RuleQuestions.{Coefficient, coefficients}
-use Rattle.model.specs.Programs.{Program, arity_of}
-use Rattle.proof_nodes.specs.Gaps.{SymbolPlace}
+use Rattle.simplex_core.specs.linear_forms.RuleQuestions.{Coefficient, coefficients}
+use Rattle.poly_terms.specs.model.Programs.{Program, arity_of}
+use Rattle.proof_tree.specs.proof_nodes.Gaps.{SymbolPlace}
 use Rattle.rank_search.specs.declared.coefficients.Coefficient.{Coefficient as Sought}
 use Rattle.rank_search.specs.Coefficients.{coefficient_of, open_block, open_set}
 use Rattle.proof_tree.specs.Shut.{is_shut}
-use Rattle.rank_search.specs.ProgramQuestions.{ranked_set}
-use Rattle.rank_search.proofs.Marking.{filter-pushed, filter-passed}
+use Rattle.rule_questions.specs.ProgramQuestions.{ranked_set}
+use Rattle.rule_questions.proofs.Filters.{filter-pushed, filter-passed}
 
 -- the coefficient of a place of a symbol
 abbrev pub at_symbol : ℕ → ℕ → Coefficient

@@ -1,44 +1,42 @@
 -- Each answer on ranking functions comes exactly where its cause stands.
-use Rattle.std.proofs.Common.{◌≡◌, ℕ, ◌<◌, ◌≤◌, ap, arith, refl, sym, ◌∙◌, subst, inl, inr, List, [], length, map}
+use Rattle.std.proofs.Common.{◌≡◌, ℕ, ◌<◌, ap, arith, refl, sym, ◌∙◌, subst, inl, inr, List, [], length, map}
 use Rattle.std.proofs.Common.{get_or, Option, Some, None}
-use Rattle.std.specs.Prelude.{◌↔◌, ◌⊎◌, pos, ◌<ℤ◌}
-use Rattle.std.proofs.lemmas.Int.{ints}
-use Rattle.linear_forms.specs.Forms.{at}
-use Rattle.linear_forms.specs.LinearProgram.{HasSolution}
-use Rattle.linear_forms.specs.RuleQuestions.{RankedSet}
-use Rattle.linear_forms.specs.QuestionLaws.{parameters_of}
-use Rattle.linear_forms.proofs.ColumnLaws.{get_or-map}
-use Rattle.linear_forms.proofs.SolutionLaws.{length-map}
-use Rattle.rule_forms.specs.Laws.{HasPoint}
-use Rattle.rule_forms.specs.Ranking.{Ranks, IsLeastRank, NoRank as NoneRanks}
-use Rattle.rule_forms.specs.RankLaws.{HavePointsOf, rank_multipliers}
-use Rattle.rule_forms.proofs.RankFits.{function-fits}
-use Rattle.rule_forms.proofs.RankSolutions.{rank-shown, shown-ranks}
-use Rattle.rule_forms.proofs.RankExclusion.{dual-excludes_ranks}
-use Rattle.rule_forms.proofs.LeastRanks.{least-rank}
-use Rattle.model.specs.Programs.{Program, Rule, rule_at}
+use Rattle.std.specs.Prelude.{◌↔◌, ◌⊎◌, pos}
+use Rattle.simplex_core.specs.linear_forms.Causes.{cause_of}
+use Rattle.simplex_core.specs.linear_forms.Forms.{at}
+use Rattle.simplex_core.specs.linear_forms.LinearProgram.{HasSolution}
+use Rattle.simplex_core.specs.linear_forms.RuleQuestions.{RankedSet}
+use Rattle.simplex_core.specs.linear_forms.QuestionLaws.{parameters_of}
+use Rattle.simplex_core.proofs.linear_forms.ColumnLaws.{get_or-map}
+use Rattle.simplex_core.proofs.linear_forms.SolutionLaws.{length-map}
+use Rattle.proof_tree.specs.rule_forms.Laws.{HasPoint}
+use Rattle.proof_tree.specs.rule_forms.Ranking.{Ranks, IsLeastRank, NoRank as NoneRanks}
+use Rattle.proof_tree.specs.rule_forms.RankLaws.{HavePointsOf, rank_multipliers}
+use Rattle.proof_tree.proofs.rule_forms.RankFits.{function-fits}
+use Rattle.proof_tree.proofs.rule_forms.RankSolutions.{rank-shown, shown-ranks}
+use Rattle.proof_tree.proofs.rule_forms.RankExclusion.{dual-excludes_ranks}
+use Rattle.proof_tree.proofs.rule_forms.LeastRanks.{least-rank}
+use Rattle.poly_terms.specs.model.Programs.{Program, Rule, rule_at}
 use Rattle.its_model.specs.Valid.{IsValid}
-use Rattle.proof_nodes.specs.AcceptsPlain.{IsRule}
-use Rattle.proof_nodes.specs.Gaps.{SymbolPlace, ScaledPoint}
-use Rattle.proof_nodes.specs.Nodes.{RankNode}
+use Rattle.proof_tree.specs.proof_nodes.AcceptsPlain.{IsRule}
+use Rattle.proof_tree.specs.proof_nodes.Gaps.{SymbolPlace, ScaledPoint}
+use Rattle.proof_tree.specs.proof_nodes.Nodes.{RankNode}
 use Rattle.proof_tree.specs.declared.answer.EmptyAnswer.{EmptyAnswer}
 use Rattle.proof_tree.specs.declared.answer.EmptyAnswer.TheVariants as answers
 use Rattle.proof_tree.specs.declared.answer.Trip.{Trip}
-use Rattle.proof_tree.specs.AnswerViews.{cause_of, gap_of}
+use Rattle.proof_tree.specs.AnswerViews.{gap_of}
 use Rattle.proof_tree.specs.Views.{rank_of}
+use Rattle.rule_questions.proofs.EmptyLaws.{at-least-one}
 use Rattle.rank_search.specs.declared.answer.RankAnswer.{RankAnswer}
 use Rattle.rank_search.specs.declared.answer.RankAnswer.TheVariants.{Ranked, NoRank, Tripped}
-use Rattle.rank_search.specs.ProgramQuestions.{ranked_set, forms_in}
-use Rattle.rank_search.specs.Programs.{NothingTrips}
-use Rattle.rank_search.specs.RankAnswers.{IsRuleSet, AreEmptyAnswers, answer_for, point_in, rank_program, IsRankNode}
+use Rattle.rule_questions.specs.ProgramQuestions.{ranked_set, forms_in}
+use Rattle.rule_questions.specs.Programs.{NothingTrips}
+use Rattle.rank_search.specs.RankAnswers.{IsRuleSet, rank_program, IsRankNode}
+use Rattle.rule_questions.specs.RuleAnswers.{AreEmptyAnswers, answer_for, point_in}
 use Rattle.rank_search.specs.RankAnswers.{IsRankAnswer, first_trip, SaysRanked, SaysNoRank, SaysTripped}
-use Rattle.rank_search.specs.RankLaws.{found, RankAnswersAreExact}
+use Rattle.rank_search.specs.RankLaws.{function_of_node, RankAnswersAreExact}
 use Rattle.simplex_core.proofs.Certificates.{dual-excludes}
 use Rattle.rank_search.proofs.RankSets.{set-of}
-
--- a positive denominator is at least 1
-pub at-least-one : (d : ℕ) → pos 0 <ℤ pos d → 1 ≤ d
-at-least-one d l = omega (arith, ints, l)
 
 module _ (p : Program) (set : List ℕ) (strict : ℕ) (shut : List SymbolPlace) (valid : IsValid p)
     (rules : IsRuleSet p set strict) where
@@ -47,16 +45,16 @@ module _ (p : Program) (set : List ℕ) (strict : ℕ) (shut : List SymbolPlace)
 
   -- the function that a node is read off ranks the rule
   pub node-ranks : (pivots : ℕ) (node : RankNode) (n : IsRankNode b pivots node) → Ranks b
-      (found b pivots node n) node.den
+      (function_of_node b pivots node n) node.den
   node-ranks pivots node n =
-      shown-ranks b (found b pivots node n) node.den (rank_multipliers b (at n.numbers))
+      shown-ranks b (function_of_node b pivots node n) node.den (rank_multipliers b (at n.numbers))
       (set-of p set strict shut valid rules)
       (at-least-one node.den n.solution.solution.denominator)
       (rank-shown b (at n.numbers) (pos node.den) (set-of p set strict shut valid rules) n.solution.solution)
 
   -- and weighs least
   pub node-least : (pivots : ℕ) (node : RankNode) (n : IsRankNode b pivots node) → HavePointsOf b
-      → IsLeastRank b (found b pivots node n) node.den
+      → IsLeastRank b (function_of_node b pivots node n) node.den
   node-least pivots node n points =
       least-rank b (at n.numbers) (pos node.den)
       (set-of p set strict shut valid rules) points n.solution.solution n.solution.least
@@ -111,7 +109,7 @@ module _ (p : Program) (set : List ℕ) (strict : ℕ) (shut : List SymbolPlace)
         → SaysNoRank a ↔ (NoneRanks b × NothingTrips (rank_program b) pivots × (first_trip empties set ≡ None))
     none-if (Ranked node) h = (
       λ s. absurd s,
-      λ g. g.0.each (found b pivots (rank_of node) h.0) (rank_of node).den (node-ranks pivots (rank_of node) h.0)
+      λ g. g.0.each (function_of_node b pivots (rank_of node) h.0) (rank_of node).den (node-ranks pivots (rank_of node) h.0)
           (function-fits b (parameters_of (at h.0.numbers))),
     )
     none-if (NoRank gap) h = (

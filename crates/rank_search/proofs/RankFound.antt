@@ -4,53 +4,56 @@ use Rattle.std.proofs.Common.{[], ◌∷◌, length, map, Option, Some, None}
 use Rattle.std.specs.Prelude.{slice_get}
 use Rattle.std.specs.List.{All}
 use Rattle.std.proofs.lemmas.List.Elements.{All-nil, All-cons, All-head, All-tail}
-use Rattle.linear_forms.specs.Causes.{Cause}
-use Rattle.linear_forms.specs.Forms.{at}
-use Rattle.linear_forms.specs.Questions.{double, group_columns, program_of_question}
-use Rattle.linear_forms.specs.QuestionLaws.{after, parameters_of, multipliers_by_group}
-use Rattle.linear_forms.specs.RuleQuestions.{RankedSet, Coefficient, symbols_of_set, coefficients, rank_question}
-use Rattle.linear_forms.proofs.ElementLaws.{program-columns}
-use Rattle.linear_forms.proofs.SolutionLaws.{length-map}
-use Rattle.model.specs.Programs.{Program, arity_of}
+use Rattle.simplex_core.specs.linear_forms.Causes.{Cause, cause_of}
+use Rattle.simplex_core.specs.linear_forms.Forms.{at}
+use Rattle.simplex_core.specs.linear_forms.Questions.{double, group_columns, program_of_question}
+use Rattle.simplex_core.specs.linear_forms.QuestionLaws.{after, parameters_of, multipliers_by_group}
+use Rattle.simplex_core.specs.linear_forms.RuleQuestions.{RankedSet, Coefficient, symbols_of_set, coefficients, rank_question}
+use Rattle.simplex_core.proofs.linear_forms.ElementLaws.{program-columns}
+use Rattle.simplex_core.proofs.linear_forms.SolutionLaws.{length-map}
+use Rattle.poly_terms.specs.model.Programs.{Program, arity_of}
 use Rattle.its_model.specs.Valid.{IsValid}
 use Rattle.guard_prep.specs.declared.rule_rows.RuleRows.{RuleRows}
 use Rattle.simplex_core.specs.declared.problem.Problem.{Problem}
-use Rattle.simplex_core.specs.declared.scaling.Scaled.{Scaled}
+use Rattle.simplex_core.specs.declared.scaling.Numerators.{Numerators}
 use Rattle.simplex_core.specs.declared.answers.Answer.{Answer}
 use Rattle.simplex_core.specs.declared.answers.Answer.TheVariants.{Solution, Dual, Tripped}
-use Rattle.simplex_core.specs.declared.answers.Cause.{Cause as TripCause}
+use Rattle.simplex_core.specs.linear_forms.declared.trip_cause.TripCause.{TripCause}
 use Rattle.simplex_core.specs.Problem.{program_of}
-use Rattle.simplex_core.specs.Trips.{Trips, IsWholeAnswer, IsScaledSolution, cause_of as cause_solved}
+use Rattle.simplex_core.specs.Trips.{Trips, IsWholeAnswer, IsScaledSolution}
 use Rattle.simplex_core.proofs.Agreement.{whole-answers-agree}
 use Rattle.simplex_core.proofs.Certificates.{dual-excludes}
-use Rattle.proof_nodes.specs.AcceptsPlain.{IsRule}
-use Rattle.proof_nodes.specs.Gaps.{SymbolPlace}
-use Rattle.proof_nodes.specs.Graph.{symbols_of}
+use Rattle.proof_tree.specs.proof_nodes.AcceptsPlain.{IsRule}
+use Rattle.proof_tree.specs.proof_nodes.Gaps.{SymbolPlace}
+use Rattle.proof_tree.specs.proof_nodes.Graph.{symbols_of}
 use Rattle.proof_tree.specs.declared.answer.EmptyAnswer.{EmptyAnswer}
 use Rattle.proof_tree.specs.declared.answer.EmptyAnswer.TheVariants as answers
 use Rattle.proof_tree.specs.declared.answer.Question.TheVariants as asked
 use Rattle.proof_tree.specs.declared.answer.Trip.{Trip}
 use Rattle.proof_tree.specs.declared.gap.Gap.{Gap}
 use Rattle.proof_tree.specs.declared.rank.RankNode.{RankNode}
-use Rattle.proof_tree.specs.AnswerViews.{cause_of, scaled_of}
+use Rattle.proof_tree.specs.AnswerViews.{scaled_of}
 use Rattle.proof_tree.specs.Composing.{AreRowsOf}
 use Rattle.rank_search.specs.declared.answer.RankAnswer.TheVariants as ranked
 use Rattle.rank_search.specs.declared.coefficients.Coefficient.{Coefficient as CoefficientSought}
 use Rattle.rank_search.specs.Coefficients.{coefficient_of, open_set, AreCoefficients}
-use Rattle.rank_search.specs.ProgramQuestions.{ranked_set}
-use Rattle.rank_search.specs.EmptyAnswers.{SaysEmpty}
-use Rattle.rank_search.specs.Programs.{IsProblemOf}
-use Rattle.rank_search.specs.RankAnswers.{IsRuleSet, AreEmptyAnswers, MayAllRun, HasPointFor, answer_for, point_in}
-use Rattle.rank_search.specs.RankAnswers.{trip_in, first_of, first_trip, rank_program, IsRankAnswer}
-use Rattle.rank_search.specs.Reading.{shapes, group_lines, read_forms, IsNodeRead, IsGapRead}
+use Rattle.rule_questions.specs.ProgramQuestions.{ranked_set}
+use Rattle.rule_questions.specs.EmptyAnswers.{SaysEmpty}
+use Rattle.rule_questions.specs.Programs.{IsProblemOf}
+use Rattle.rank_search.specs.RankAnswers.{IsRuleSet, MayAllRun, HasPointFor}
+use Rattle.rule_questions.specs.RuleAnswers.{AreEmptyAnswers, answer_for, point_in}
+use Rattle.rule_questions.specs.RuleAnswers.{trip_in}
+use Rattle.rank_search.specs.RankAnswers.{first_of, first_trip, rank_program, IsRankAnswer}
+use Rattle.rank_search.specs.Reading.{shapes, read_forms, IsNodeRead, IsGapRead}
+use Rattle.rule_questions.specs.GroupLines.{group_lines}
 use Rattle.rank_search.proofs.Counts.{few-in-all, few-places, few-symbols, rule-inside}
 use Rattle.rank_search.proofs.Groups.{shapes-alike, alike-multipliers, alike-points, alike-columns, alike-lines}
-use Rattle.rank_search.proofs.Groups.{equations-many}
+use Rattle.rule_questions.proofs.GroupLines.{equations-many}
 use Rattle.rank_search.proofs.OpenPlaces.{same-coefficients}
-use Rattle.rank_search.proofs.Pairs.{double-is}
+use Rattle.rule_questions.proofs.Pairs.{double-is}
 use Rattle.rank_search.proofs.RankSets.{in-all, symbols-same}
-use Rattle.rank_search.proofs.Read.{function-read}
-use Rattle.rank_search.proofs.Trips.{solution-untripped, dual-untripped}
+use Rattle.rank_search.proofs.FunctionReading.{function-read}
+use Rattle.rule_questions.proofs.Trips.{solution-untripped, dual-untripped}
 
 module _ (p : Program) (preps : List RuleRows) (set : List ℕ) (strict : ℕ) (shut : List SymbolPlace) (valid : IsValid p)
     (rows : AreRowsOf preps p) (rules : IsRuleSet p set strict) where
@@ -100,7 +103,7 @@ module _ (p : Program) (preps : List RuleRows) (set : List ℕ) (strict : ℕ) (
       moved a h = whole-answers-agree (program_of problem) (rank_program b) pivots a of.agrees h
 
       -- there is a column for each parameter's pair, each row and each slack
-      pub solution-room : (s : Scaled) → IsWholeAnswer (program_of problem) pivots (Solution s)
+      pub solution-room : (s : Numerators) → IsWholeAnswer (program_of problem) pivots (Solution s)
           → 2 * length coefs + group_columns (shapes preps set strict) ≤ length s.numbers.items
       solution-room s h =
           let e = (moved (Solution s) h).columns in
@@ -111,7 +114,7 @@ module _ (p : Program) (preps : List RuleRows) (set : List ℕ) (strict : ℕ) (
           let d = double-is (rank_question b).parameters in omega (arith, e, f, g, k, d)
 
       -- a node that is read off it
-      pub node-answer : (empties : List EmptyAnswer) (s : Scaled) (node : RankNode) → IsWholeAnswer
+      pub node-answer : (empties : List EmptyAnswer) (s : Numerators) (node : RankNode) → IsWholeAnswer
           (program_of problem) pivots (Solution s)
           → IsNodeRead p preps (record { set = set; strict = strict; shut = shut }) symbols
           (length coefs) s.numbers.items s.den node
@@ -138,7 +141,7 @@ module _ (p : Program) (preps : List RuleRows) (set : List ℕ) (strict : ℕ) (
       )
 
       -- there is a line for each unknown and each constant
-      pub dual-room : (s : Scaled) → IsWholeAnswer (program_of problem) pivots (Dual s) → group_lines
+      pub dual-room : (s : Numerators) → IsWholeAnswer (program_of problem) pivots (Dual s) → group_lines
           (shapes preps set strict) ≤ length s.numbers.items
       dual-room s h =
           let e = (moved (Dual s) h).rows in
@@ -148,7 +151,7 @@ module _ (p : Program) (preps : List RuleRows) (set : List ℕ) (strict : ℕ) (
           omega (arith, e, f, g)
 
       -- a gap that is read off it
-      pub gap-answer : (empties : List EmptyAnswer) (s : Scaled) (gap : Gap) → IsWholeAnswer (program_of problem) pivots
+      pub gap-answer : (empties : List EmptyAnswer) (s : Numerators) (gap : Gap) → IsWholeAnswer (program_of problem) pivots
           (Dual s)
           → IsGapRead preps (record { set = set; strict = strict; shut = shut }) empties s.numbers.items gap → None
           ≡ first_trip empties set
@@ -170,7 +173,7 @@ module _ (p : Program) (preps : List RuleRows) (set : List ℕ) (strict : ℕ) (
       )
 
       -- the trip of an emptiness question
-      pub empty-trip : (empties : List EmptyAnswer) (s : Scaled) (t : Trip) → IsWholeAnswer (program_of problem) pivots
+      pub empty-trip : (empties : List EmptyAnswer) (s : Numerators) (t : Trip) → IsWholeAnswer (program_of problem) pivots
           (Dual s)
           → Some t ≡ first_trip empties set → IsRankAnswer b shut pivots empties (ranked.Tripped t)
       empty-trip empties s t h e = inr (record {
@@ -183,7 +186,7 @@ module _ (p : Program) (preps : List RuleRows) (set : List ℕ) (strict : ℕ) (
       -- a trip of its own
       pub own-trip : (empties : List EmptyAnswer) (c : TripCause) (t : Trip) → IsWholeAnswer (program_of problem) pivots
           (Tripped c)
-          → t.question ≡ asked.Rank strict → cause_of t.cause ≡ cause_solved c → IsRankAnswer b shut pivots empties
+          → t.question ≡ asked.Rank strict → cause_of t.cause ≡ cause_of c → IsRankAnswer b shut pivots empties
           (ranked.Tripped t)
       own-trip empties c t h e f = inl (record {
         question = e;

@@ -1,22 +1,22 @@
 -- The problem of a rank question: its groups and its costs.
 use Rattle.std.proofs.Common.{◌≡◌, ℕ, suc, ◌+◌, ◌-◌, ◌<◌, ◌≤◌, ◌^◌, refl, sym, ap, ◌∙◌, subst, arith, Bool, true}
 use Rattle.std.proofs.Common.{false, nat_eq, if◌then◌else◌, List, [], ◌∷◌, ◌++◌, length, map, get_or, Some}
-use Rattle.std.specs.Prelude.{ℤ, slice_index_or, nat_abs, unsigned_abs}
+use Rattle.std.specs.Prelude.{ℤ, slice_index_or, unsigned_abs}
 use Rattle.std.specs.List.{All, range_with_len}
-use Rattle.std.proofs.lemmas.List.Elements.{All-nil, All-weaker, All-from_recursion, All-head}
-use Rattle.linear_forms.specs.Forms.{Form}
-use Rattle.linear_forms.specs.Certificates.{minus_one}
-use Rattle.linear_forms.specs.Combinations.{zero_form}
-use Rattle.linear_forms.specs.ProgramLaws.{Agree}
-use Rattle.linear_forms.specs.Questions.{Group, Question, IsGroupShaped, program_of_question}
-use Rattle.linear_forms.specs.RuleQuestions.{RuleForms, RankedSet, Coefficient, symbols_of_set, coefficients}
-use Rattle.linear_forms.specs.RuleQuestions.{move_group, floor_group, size_at, height_at, rank_question}
-use Rattle.linear_forms.proofs.ColumnLaws.{get_or-map}
-use Rattle.linear_forms.proofs.ListLaws.{All-front, All-behind}
-use Rattle.linear_forms.proofs.SolutionLaws.{length-map}
-use Rattle.rule_forms.proofs.RankSolutions.{rank-shaped}
-use Rattle.model.specs.Programs as plain
-use Rattle.model.specs.Programs.{rule_at}
+use Rattle.std.proofs.lemmas.List.Elements.{All-nil, All-weaker, All-head}
+use Rattle.simplex_core.specs.linear_forms.Forms.{Form}
+use Rattle.simplex_core.specs.linear_forms.Certificates.{minus_one}
+use Rattle.simplex_core.specs.linear_forms.Combinations.{zero_form}
+use Rattle.simplex_core.specs.linear_forms.ProgramLaws.{Agree}
+use Rattle.simplex_core.specs.linear_forms.Questions.{Group, Question, IsGroupShaped, program_of_question}
+use Rattle.simplex_core.specs.linear_forms.RuleQuestions.{RuleForms, RankedSet, Coefficient, symbols_of_set, coefficients}
+use Rattle.simplex_core.specs.linear_forms.RuleQuestions.{move_group, floor_group, size_at, height_at, rank_question}
+use Rattle.simplex_core.proofs.linear_forms.ColumnLaws.{get_or-map}
+use Rattle.simplex_core.proofs.linear_forms.ListLaws.{All-front, All-behind}
+use Rattle.simplex_core.proofs.linear_forms.SolutionLaws.{length-map}
+use Rattle.proof_tree.proofs.rule_forms.RankSolutions.{rank-shaped}
+use Rattle.poly_terms.specs.model.Programs as plain
+use Rattle.poly_terms.specs.model.Programs.{rule_at}
 use Rattle.poly_terms.specs.declared.poly.Row.{Row}
 use Rattle.poly_terms.specs.Views.{form_of}
 use Rattle.its_model.specs.declared.program.Program.{Program}
@@ -24,10 +24,8 @@ use Rattle.its_model.specs.declared.program.Rule.{Rule}
 use Rattle.its_model.specs.Valid.{IsValid}
 use Rattle.its_model.specs.Views.{program_of, rule_of}
 use Rattle.guard_prep.specs.declared.rule_rows.RuleRows.{RuleRows}
-use Rattle.guard_prep.specs.Laws.{IsSmallForm}
-use Rattle.guard_prep.specs.Prepared.{Prepared, prepared, news_of, unknowns_of}
+use Rattle.guard_prep.specs.Prepared.{Prepared, prepared}
 use Rattle.guard_prep.specs.Views.{prepared_of}
-use Rattle.guard_prep.proofs.SizeLaws.{rows-are-small}
 use Rattle.guard_prep.proofs.StepLaws.{preparable}
 use Rattle.simplex_core.specs.declared.problem.Problem.{Problem}
 use Rattle.simplex_core.specs.Problem.{program_of as program_of_problem}
@@ -36,21 +34,21 @@ use Rattle.lp_builder.specs.declared.description.Cost.{Cost}
 use Rattle.lp_builder.specs.declared.description.Goal.{Goal}
 use Rattle.lp_builder.specs.Builders.{Holds, IsBuilt}
 use Rattle.lp_builder.specs.Descriptions.{goal_forms, group_of, question_of, IsWritable, AreWritable, AreParameters}
-use Rattle.proof_nodes.specs.AcceptsPlain.{IsRule}
-use Rattle.proof_nodes.specs.Gaps.{SymbolPlace}
+use Rattle.proof_tree.specs.proof_nodes.AcceptsPlain.{IsRule}
+use Rattle.proof_tree.specs.proof_nodes.Gaps.{SymbolPlace}
 use Rattle.proof_tree.specs.Composing.{AreRowsOf}
 use Rattle.rank_search.specs.declared.coefficients.Coefficient.{Coefficient as Sought}
 use Rattle.rank_search.specs.declared.goals.Part.{Part}
 use Rattle.rank_search.specs.declared.goals.Part.TheVariants.{Move, Fall, Floor}
 use Rattle.rank_search.specs.Coefficients.{coefficient_of}
-use Rattle.rank_search.specs.EmptyAnswers.{IsPrepared}
-use Rattle.rank_search.specs.Goals.{goal_form, fixed_form, part_group, part_for, IsSmall, Fits}
-use Rattle.rank_search.specs.ProgramQuestions.{forms_of, forms_in, ranked_set, is_entered}
-use Rattle.rank_search.specs.Programs.{IsProblemOf}
+use Rattle.rule_questions.specs.EmptyAnswers.{IsPrepared}
+use Rattle.rank_search.specs.Goals.{goal_form, fixed_form, part_group, part_for, Fits}
+use Rattle.rule_questions.specs.ProgramQuestions.{forms_of, forms_in, ranked_set, is_entered}
+use Rattle.rule_questions.specs.Programs.{IsProblemOf}
 use Rattle.rank_search.specs.RankAnswers.{IsRuleSet}
 use Rattle.proof_tree.proofs.Rules.{rule_here}
 use Rattle.rank_search.proofs.Counts.{rule-inside, coefficients-held, value-at}
-use Rattle.rank_search.proofs.EmptyProblems.{rows-all, rows-writable}
+use Rattle.rule_questions.proofs.EmptyProblems.{rows-writable}
 use Rattle.rank_search.proofs.RankSets.{set-of}
 
 -- each rule has its rows
@@ -98,16 +96,6 @@ module _ (p : Program) (preps : List RuleRows) (valid : IsValid (program_of p))
           (rule_of r) valid numbered;
       same = same;
     }
-
--- its new values are small
-pub news-small : (m : RuleRows) → IsPrepared m → All (λ f. IsSmall (form_of f)) m.news.items
-news-small m is =
-    rows-all IsSmall m.news.items
-    (subst (λ (fs : List Form). All IsSmall fs) (sym (ap (λ (q : Prepared). q.news) is.same))
-    (All-weaker (IsSmallForm (unknowns_of is.rule)) IsSmall
-    (λ f s. record { coefs = All-from_recursion (λ a. nat_abs a ≤ _) f.coefs s.coefs; constant = s.constant })
-    (news_of is.rule) (All-from_recursion (IsSmallForm (unknowns_of is.rule)) (news_of is.rule)
-    (rows-are-small.news is.rule is.preparable))))
 
 map-map : {A B C : Type 0} (f : A → B) (g : B → C) (xs : List A) → map (λ x. g (f x)) xs ≡ map g (map f xs)
 map-map f g [] = refl

@@ -6,24 +6,24 @@ use Rattle.std.specs.List.{All, list_any, range_with_len}
 use Rattle.std.proofs.lemmas.Bool.{eqb-true, true≢false}
 use Rattle.std.proofs.lemmas.Bool.Decides.{eqb_tells}
 use Rattle.std.proofs.lemmas.List.Elements.{All-weaker, All-head, All-tail, filter_agree}
-use Rattle.linear_forms.specs.RuleQuestions.{has_symbol, symbols_of_set}
-use Rattle.linear_forms.proofs.SolutionLaws.{length-map}
-use Rattle.rule_forms.specs.RankLaws.{IsRuleOf, IsSetOf}
-use Rattle.model.specs.Polynomials.{Polynomial}
-use Rattle.model.specs.Programs.{Program, Rule, rule_at}
-use Rattle.model.specs.Paths.{source_in, source_of, target_in, target_of, same_symbol}
+use Rattle.simplex_core.specs.linear_forms.RuleQuestions.{has_symbol, symbols_of_set}
+use Rattle.simplex_core.proofs.linear_forms.SolutionLaws.{length-map}
+use Rattle.proof_tree.specs.rule_forms.RankLaws.{IsRuleOf, IsSetOf}
+use Rattle.poly_terms.specs.model.Polynomials.{Polynomial}
+use Rattle.poly_terms.specs.model.Programs.{Program, Rule, rule_at}
+use Rattle.poly_terms.specs.model.Paths.{source_in, source_of, target_in, target_of, same_symbol}
 use Rattle.poly_terms.specs.Expanding.{expanded, variable_form}
 use Rattle.poly_terms.specs.Rows.{linear_form}
 use Rattle.its_model.specs.Valid.{IsValid}
 use Rattle.guard_prep.specs.Prepared.{is_bent, news_from, unknowns_of, prepared, polys_of}
 use Rattle.guard_prep.proofs.StepLaws.{valid-at, preparable}
-use Rattle.proof_nodes.specs.AcceptsPlain.{IsRule}
-use Rattle.proof_nodes.specs.Gaps.{SymbolPlace}
-use Rattle.proof_nodes.specs.Graph.{touches, symbols_of}
-use Rattle.model.specs.Entries.{is_in}
-use Rattle.rank_search.specs.ProgramQuestions.{forms_of, forms_in, ranked_set}
+use Rattle.proof_tree.specs.proof_nodes.AcceptsPlain.{IsRule}
+use Rattle.proof_tree.specs.proof_nodes.Gaps.{SymbolPlace}
+use Rattle.proof_tree.specs.proof_nodes.Graph.{touches, symbols_of}
+use Rattle.poly_terms.specs.model.Entries.{is_in}
+use Rattle.rule_questions.specs.ProgramQuestions.{forms_of, forms_in, ranked_set}
 use Rattle.rank_search.specs.RankAnswers.{IsRuleSet}
-use Rattle.rank_search.proofs.EmptyLaws.{prepared-shaped}
+use Rattle.rule_questions.proofs.EmptyLaws.{prepared-shaped}
 
 -- there are as many new values as updates
 length-news : (width k : ℕ) (ps : List Polynomial) → length (news_from width k ps) ≡ length ps

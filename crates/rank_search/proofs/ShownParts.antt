@@ -7,20 +7,20 @@ use Rattle.std.specs.List.{All, list_any, range_with_len}
 use Rattle.std.proofs.lemmas.Bool.{cases_lt, eq-eqb, ne_eqb, true≢false}
 use Rattle.std.proofs.lemmas.Bool.Decides.{eqb_tells}
 use Rattle.std.proofs.lemmas.List.Elements.{All-nil, All-cons, All-head, All-tail}
-use Rattle.linear_forms.specs.Forms.{Form, at}
-use Rattle.linear_forms.specs.Certificates.{Implies}
-use Rattle.linear_forms.specs.Limits.{certificate_limit}
-use Rattle.linear_forms.specs.Questions.{Group}
-use Rattle.linear_forms.specs.QuestionLaws.{after, multipliers_of, multipliers_by_group}
-use Rattle.linear_forms.specs.RuleQuestions.{RankedSet, constant_form}
-use Rattle.linear_forms.proofs.ListLaws.{after-is}
-use Rattle.rule_forms.specs.Ranking.{Function}
-use Rattle.rule_forms.specs.RankLaws.{AreShown, lost_by}
-use Rattle.proof_nodes.specs.AcceptsRank.{moves_of}
-use Rattle.linear_forms.specs.Combinations.{less}
-use Rattle.proof_nodes.specs.Composed.{rank_form}
-use Rattle.proof_nodes.specs.Limits.{IsInLimit, AreInLimit}
-use Rattle.model.specs.Entries.{is_in}
+use Rattle.simplex_core.specs.linear_forms.Forms.{Form, at}
+use Rattle.simplex_core.specs.linear_forms.Certificates.{Implies}
+use Rattle.simplex_core.specs.linear_forms.Limits.{certificate_limit}
+use Rattle.simplex_core.specs.linear_forms.Questions.{Group}
+use Rattle.simplex_core.specs.linear_forms.QuestionLaws.{after, multipliers_of, multipliers_by_group}
+use Rattle.simplex_core.specs.linear_forms.RuleQuestions.{RankedSet, constant_form}
+use Rattle.simplex_core.proofs.linear_forms.ListLaws.{after-is}
+use Rattle.proof_tree.specs.rule_forms.Ranking.{Function}
+use Rattle.proof_tree.specs.rule_forms.RankLaws.{AreImplied, lost_by}
+use Rattle.proof_tree.specs.proof_nodes.AcceptsRank.{moves_of}
+use Rattle.simplex_core.specs.linear_forms.Combinations.{less}
+use Rattle.proof_tree.specs.proof_nodes.Composed.{rank_form}
+use Rattle.proof_tree.specs.proof_nodes.Limits.{IsInLimit, AreInLimit}
+use Rattle.poly_terms.specs.model.Entries.{is_in}
 use Rattle.rank_search.specs.RankAnswers.{part_at}
 
 -- the part at a symbol that passes the test
@@ -126,7 +126,7 @@ pub record Split (b : RankedSet) (f : Function) (d : ℤ) (set : List ℕ) (move
 
 module _ (b : RankedSet) (f : Function) (d : ℤ) where
   -- what is shown of moves and the floor together is shown of each move and of the floor
-  pub split : (set : List ℕ) (moves : List (List ℕ)) (floor : List ℕ) → AreShown b f d set (moves ++ floor ∷ [])
+  pub split : (set : List ℕ) (moves : List (List ℕ)) (floor : List ℕ) → AreImplied b f d set (moves ++ floor ∷ [])
       → Split b f d set moves floor
   split [] [] floor h = record { long = refl; each = λ t e. absurd (true≢false (sym e)); last = h }
   split [] (m ∷ []) floor h = absurd h

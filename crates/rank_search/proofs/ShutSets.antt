@@ -8,9 +8,9 @@ use Rattle.std.specs.Cmp.{unsigned_tied}
 use Rattle.std.specs.declared.cmp.Ordering.{Ordering}
 use Rattle.std.specs.declared.cmp.Ordering.TheVariants.{Less, Equal, Greater}
 use Rattle.std.specs.Ordering.{nat_cmp, ordering_then, is_eq}
-use Rattle.proof_nodes.specs.Gaps.{SymbolPlace}
+use Rattle.proof_tree.specs.proof_nodes.Gaps.{SymbolPlace}
 use Rattle.proof_tree.specs.Shut.{is_shut}
-use Rattle.rank_search.specs.ProgramQuestions.{places_of}
+use Rattle.rule_questions.specs.ProgramQuestions.{places_of}
 use Rattle.rank_search.specs.ShutPlaces.{place_cmp, is_listed, HasShut}
 
 -- two places are equal where both their numbers are

@@ -1,87 +1,26 @@
 -- A question has one answer.
-use Rattle.std.proofs.Common.{◌≡◌, ℕ, ap, refl, sym, ◌∙◌, inl, inr, List, [], ◌∷◌, ◌++◌, length}
+use Rattle.std.proofs.Common.{◌≡◌, ℕ, ap, refl, sym, ◌∙◌, inl, inr, List, [], ◌∷◌, ◌++◌}
 use Rattle.std.proofs.Common.{map, Some}
-use Rattle.std.specs.Prelude.{ℤ, pos, nat_abs}
-use Rattle.linear_forms.specs.Forms.{at}
-use Rattle.linear_forms.specs.LinearProgram.{LinearProgram}
-use Rattle.linear_forms.specs.Questions.{listed}
-use Rattle.linear_forms.specs.QuestionLaws.{parameters_of}
-use Rattle.linear_forms.specs.RuleQuestions.{RankedSet, symbols_of_set, rank_question}
-use Rattle.rule_forms.specs.RankLaws.{function_of, rank_multipliers}
-use Rattle.guard_prep.specs.Prepared.{Prepared}
-use Rattle.simplex_core.specs.Trips.{IsScaledSolution, IsScaledDual}
-use Rattle.simplex_core.proofs.OneAnswer.{optimal-same, infeasible-same, ends-apart}
-use Rattle.simplex_core.proofs.OneWholeAnswer.{scaled-once, causes-same}
-use Rattle.proof_nodes.specs.Gaps.{SymbolPlace, ScaledPoint, Gap}
-use Rattle.proof_nodes.specs.Nodes.{SymbolForm, RankNode}
+use Rattle.std.specs.Prelude.{ℤ, pos}
+use Rattle.simplex_core.specs.linear_forms.Causes.{cause_of}
+use Rattle.simplex_core.specs.linear_forms.Forms.{at}
+use Rattle.simplex_core.specs.linear_forms.QuestionLaws.{parameters_of}
+use Rattle.simplex_core.specs.linear_forms.RuleQuestions.{RankedSet, symbols_of_set, rank_question}
+use Rattle.proof_tree.specs.rule_forms.RankLaws.{function_of, rank_multipliers}
+use Rattle.simplex_core.proofs.OneWholeAnswer.{causes-same}
+use Rattle.proof_tree.specs.proof_nodes.Gaps.{SymbolPlace, ScaledPoint, Gap}
+use Rattle.proof_tree.specs.proof_nodes.Nodes.{SymbolForm, RankNode}
 use Rattle.proof_tree.specs.declared.answer.EmptyAnswer.{EmptyAnswer}
-use Rattle.proof_tree.specs.declared.answer.EmptyAnswer.TheVariants as empties
 use Rattle.proof_tree.specs.declared.answer.Trip.{Trip}
-use Rattle.proof_tree.specs.AnswerViews.{cause_of, scaled_of, gap_of}
+use Rattle.proof_tree.specs.AnswerViews.{gap_of}
 use Rattle.proof_tree.specs.Views.{rank_of}
+use Rattle.rule_questions.proofs.OneEmptyAnswer.{solution-once, dual-once, apart}
 use Rattle.rank_search.specs.declared.answer.RankAnswer.{RankAnswer}
 use Rattle.rank_search.specs.declared.answer.RankAnswer.TheVariants as ranked
-use Rattle.rank_search.specs.EmptyAnswers.{IsEmptyAnswer, empty_program}
-use Rattle.rank_search.specs.OneAnswer.{IsSameEmptyAnswer, EmptyAnswersAreOne, SeeTheSame, IsSameRankAnswer}
+use Rattle.rank_search.specs.OneAnswer.{SeeTheSame, IsSameRankAnswer}
 use Rattle.rank_search.specs.OneAnswer.{RankAnswersAreOne}
 use Rattle.rank_search.specs.RankAnswers.{rank_program, part_at, points_of, IsRankAnswer}
-use Rattle.model.proofs.Cases.{some_same as some-trip, none_some as no-trip}
-
--- the numbers of solutions, and of duals, are the same, and no program has both
-module _ (p : LinearProgram) (pivots : ℕ) (xs ys : List ℤ) (d e : ℕ) where
-  -- a linear program has its solution in one list of numbers over one denominator
-  pub solution-once : IsScaledSolution p pivots xs d → IsScaledSolution p pivots ys e → (xs ≡ ys) × (d ≡ e)
-  solution-once a b =
-      scaled-once a.point b.point xs ys d e
-      (optimal-same p pivots a.k b.k a.point b.point a.basis b.basis a.ends b.ends).0 a.scaled b.scaled
-
-  -- a linear program has its dual in one list of numbers over one denominator
-  pub dual-once : IsScaledDual p pivots xs d → IsScaledDual p pivots ys e → (xs ≡ ys) × (d ≡ e)
-  dual-once a b = scaled-once a.dual b.dual xs ys d e
-      (infeasible-same p pivots a.k b.k a.dual b.dual a.ends b.ends).0 a.scaled b.scaled
-
-  -- no linear program ends at a solution and at a dual
-  pub apart : IsScaledSolution p pivots xs d → IsScaledDual p pivots ys e → ⊥
-  apart a b = ends-apart p pivots a.k b.k a.point a.basis b.dual a.ends b.ends
-
--- points with the same numbers are the same
-point_with : List ℤ → ℕ → ScaledPoint
-point_with parts den = record { parts = parts; den = den }
-
-point-same : (z w : ScaledPoint) → z.parts ≡ w.parts → z.den ≡ w.den → z ≡ w
-unfolding point_with
-point-same z w e f = ap (λ (ps : List ℤ). point_with ps z.den) e ∙ ap (λ (d : ℕ). point_with w.parts d) f
-
--- whether rows have a point
-empties-once : (m : Prepared) (rule pivots : ℕ) (a b : EmptyAnswer) → IsEmptyAnswer m rule pivots a
-    → IsEmptyAnswer m rule pivots b
-    → IsSameEmptyAnswer a b
-empties-once m rule pivots (empties.Empty n) (empties.Empty k) g h = (
-  g.0.numbered ∙ sym h.0.numbered,
-  g.2.read
-      ∙ (ap (λ (xs : List ℤ). listed (length m.rows) (λ j. nat_abs (at xs j)))
-      (solution-once (empty_program m) pivots g.2.numbers h.2.numbers g.2.den h.2.den g.2.solution h.2.solution).0
-      ∙ sym h.2.read),
-)
-empties-once m rule pivots (empties.Empty n) (empties.Point z) g h =
-    apart (empty_program m) pivots g.2.numbers h.2.numbers g.2.den h.2.den g.2.solution h.2.dual
-empties-once m rule pivots (empties.Empty n) (empties.Tripped t) g h = g.1.each (cause_of t.cause) h.1
-empties-once m rule pivots (empties.Point z) (empties.Empty n) g h =
-    apart (empty_program m) pivots h.2.numbers g.2.numbers h.2.den g.2.den h.2.solution g.2.dual
-empties-once m rule pivots (empties.Point z) (empties.Point w) g h =
-    let e = (dual-once (empty_program m) pivots g.2.numbers h.2.numbers g.2.den h.2.den g.2.dual h.2.dual).0 in
-    point-same (scaled_of z) (scaled_of w)
-    (g.2.parts ∙ (ap (λ (xs : List ℤ). listed m.unknowns (at xs)) e ∙ sym h.2.parts))
-    (g.2.over ∙ (ap (λ (xs : List ℤ). nat_abs (at xs m.unknowns)) e ∙ sym h.2.over))
-empties-once m rule pivots (empties.Point z) (empties.Tripped t) g h = g.1.each (cause_of t.cause) h.1
-empties-once m rule pivots (empties.Tripped t) (empties.Empty n) g h = h.1.each (cause_of t.cause) g.1
-empties-once m rule pivots (empties.Tripped t) (empties.Point z) g h = h.1.each (cause_of t.cause) g.1
-empties-once m rule pivots (empties.Tripped t) (empties.Tripped u) g h =
-    (g.0 ∙ sym h.0, causes-same (empty_program m) pivots (cause_of t.cause) (cause_of u.cause) g.1 h.1)
-
--- of a rule's rows, within a number of pivots, there is one answer whether they have a point
-pub empties-one : EmptyAnswersAreOne
-empties-one = record { each = empties-once }
+use Rattle.poly_terms.proofs.model.Cases.{some_same as some-trip, none_some as no-trip}
 
 -- lists with one more element behind
 never : {A : Type 0} (ys : List A) (y : A) → [] ≡ ys ++ y ∷ [] → ⊥

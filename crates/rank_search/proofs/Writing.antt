@@ -2,15 +2,15 @@
 use Rattle.std.proofs.Common.{◌≡◌, ℕ, ◌+◌, ◌*◌, ◌<◌, ◌≤◌, sym, ap, ◌∙◌, subst, arith, List, [], ◌∷◌, ◌++◌, length, map}
 use Rattle.std.proofs.Common.{get_or, take, Option}
 use Rattle.std.proofs.lemmas.List.{map-append, take_more, take_all}
-use Rattle.linear_forms.specs.RuleQuestions.{RuleForms, Coefficient}
-use Rattle.model.specs.Programs.{Program, Rule, rule_at}
+use Rattle.simplex_core.specs.linear_forms.RuleQuestions.{RuleForms, Coefficient}
+use Rattle.poly_terms.specs.model.Programs.{Program, Rule, rule_at}
 use Rattle.its_model.specs.Valid.{IsValid}
 use Rattle.guard_prep.proofs.SizeLaws.{rows-are-small}
 use Rattle.guard_prep.proofs.StepLaws.{preparable}
 use Rattle.lp_builder.specs.declared.builder.Builder.{Builder}
 use Rattle.lp_builder.specs.Builders.{parameter_count, row_count, column_count, IsReady, Holds, Adds}
-use Rattle.proof_nodes.specs.AcceptsPlain.{IsRule}
-use Rattle.rank_search.specs.ProgramQuestions.{forms_in}
+use Rattle.proof_tree.specs.proof_nodes.AcceptsPlain.{IsRule}
+use Rattle.rule_questions.specs.ProgramQuestions.{forms_in}
 use Rattle.rank_search.proofs.RankProblems.{set_group}
 
 -- a rule has at most 96 unknowns and 128 rows

@@ -1,11 +1,11 @@
 -- The coefficients of a function that is sought, as plain data.
 use Rattle.std.specs.Prelude.{◌≡◌, ℕ, not, Bool, List, [], ◌∷◌, ◌++◌, filter, map}
 use Rattle.std.specs.List.{range_with_len}
-use Rattle.linear_forms.specs.RuleQuestions.{RankedSet, Coefficient, symbols_of_set, coefficients}
-use Rattle.model.specs.Programs.{Program}
-use Rattle.proof_nodes.specs.Gaps.{SymbolPlace}
+use Rattle.simplex_core.specs.linear_forms.RuleQuestions.{RankedSet, Coefficient, symbols_of_set, coefficients}
+use Rattle.poly_terms.specs.model.Programs.{Program}
+use Rattle.proof_tree.specs.proof_nodes.Gaps.{SymbolPlace}
 use Rattle.rank_search.specs.declared.coefficients.Coefficient.{Coefficient as Sought}
-use Rattle.rank_search.specs.ProgramQuestions.{ranked_set}
+use Rattle.rule_questions.specs.ProgramQuestions.{ranked_set}
 
 -- a coefficient as plain data
 abbrev pub coefficient_of : Sought → Coefficient

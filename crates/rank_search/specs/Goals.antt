@@ -1,15 +1,15 @@
 -- The groups of a rank question, and what follows in each.
-use Rattle.std.specs.Prelude.{◌≡◌, ℕ, ◌+◌, ◌≤◌, Bool, true, false, List, [], ◌∷◌, length, map, take, nat_abs}
+use Rattle.std.specs.Prelude.{◌≡◌, ℕ, ◌≤◌, Bool, true, false, List, length, map, take}
 use Rattle.std.specs.List.{All}
-use Rattle.linear_forms.specs.Forms.{Form}
-use Rattle.linear_forms.specs.Certificates.{minus_one}
-use Rattle.linear_forms.specs.Combinations.{form_sum, zero_form}
-use Rattle.linear_forms.specs.Questions.{Group}
-use Rattle.linear_forms.specs.RuleQuestions.{RuleForms, Coefficient, opposite, at_source, at_target}
+use Rattle.simplex_core.specs.linear_forms.Forms.{Form}
+use Rattle.simplex_core.specs.linear_forms.Certificates.{minus_one}
+use Rattle.simplex_core.specs.linear_forms.Combinations.{form_sum, zero_form}
+use Rattle.simplex_core.specs.linear_forms.Questions.{Group}
+use Rattle.simplex_core.specs.linear_forms.RuleQuestions.{RuleForms, Coefficient, opposite, at_source, at_target}
 use Rattle.lp_builder.specs.declared.description.Goal.{Goal}
 use Rattle.lp_builder.specs.Descriptions.{goal_forms, IsWritable}
-use Rattle.model.specs.Limits.{coefficient_limit}
 use Rattle.poly_terms.specs.Views.{form_of}
+use Rattle.rule_questions.specs.AscendingGoals.{Ascend}
 use Rattle.rank_search.specs.declared.coefficients.Coefficient.{Coefficient as Sought}
 use Rattle.rank_search.specs.declared.goals.Part.{Part}
 use Rattle.rank_search.specs.declared.goals.Part.TheVariants.{Move, Fall, Floor}
@@ -36,16 +36,6 @@ part_group part r cs = record {
   fixed = fixed_form part;
 }
 
--- the numbers of a form are those of rows
-pub record IsSmall (f : Form) : Type 0 where
-  pub coefs : All (λ a. nat_abs a ≤ coefficient_limit) f.coefs
-  pub constant : nat_abs f.constant ≤ coefficient_limit
-
--- or differences of two of these
-pub record IsDifferenceSmall (f : Form) : Type 0 where
-  pub coefs : All (λ a. nat_abs a ≤ coefficient_limit + coefficient_limit) f.coefs
-  pub constant : nat_abs f.constant ≤ coefficient_limit + coefficient_limit
-
 -- the part of a rule of the set, which is the one that has to decrease, or isn't
 abbrev pub part_for : Bool → Part
 part_for true = Fall
@@ -54,11 +44,6 @@ part_for false = Move
 -- the goals of a rule have no coefficient past its unknowns
 pub record Fits (part : Part) (r : RuleForms) (cs : List Coefficient) : Type 0 where
   pub each : All (λ c. length (goal_form part r c).coefs ≤ r.unknowns) cs
-
--- the parameters of goals ascend from k on, and are below n
-abbrev pub Ascend : ℕ → ℕ → List Goal → Type 0
-Ascend k n [] = k ≤ n
-Ascend k n (g ∷ gs) = (k ≤ g.parameter) × Ascend (g.parameter + 1) n gs
 
 -- the goals of a rule for the first n coefficients, which can be written over its unknowns
 pub record AreGoalsUpTo (part : Part) (r : RuleForms) (cs : List Sought) (n : ℕ) (gs : List Goal) : Type 0 where

@@ -1,7 +1,4 @@
 -- what the contracts of this crate, and of those above it, cite
-pub mod ProgramQuestions
-pub mod Programs
-pub mod EmptyAnswers
 pub mod RankAnswers
 pub mod Goals
 pub mod OneAnswer
@@ -13,3 +10,5 @@ pub mod Blocks
 pub mod ShutPlaces
 pub mod Marks
 pub mod Reading
+-- the crates below, which callers name through this one
+pub use Rattle.rule_questions.specs as rule_questions

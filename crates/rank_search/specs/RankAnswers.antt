@@ -1,49 +1,38 @@
 -- Which function ranks a rule of a set: what each answer says.
-use Rattle.std.specs.Prelude.{◌≡◌, ◌⊎◌, ℕ, zero, suc, List, [], ◌∷◌, ◌++◌, length, map, ℤ, nat_abs, true}
-use Rattle.std.specs.Prelude.{Option, Some, None, slice_get}
+use Rattle.std.specs.Prelude.{◌≡◌, ◌⊎◌, ℕ, suc, List, [], ◌∷◌, ◌++◌, map, ℤ, nat_abs, true}
+use Rattle.std.specs.Prelude.{Option, Some, None}
 use Rattle.std.specs.List.{All}
-use Rattle.linear_forms.specs.Forms.{at}
-use Rattle.linear_forms.specs.LinearProgram.{LinearProgram, HasSolution}
-use Rattle.linear_forms.specs.Questions.{Group, listed, program_of_question}
-use Rattle.linear_forms.specs.QuestionLaws.{after, parameters_of}
-use Rattle.linear_forms.specs.RuleQuestions.{RankedSet, symbols_of_set, rank_question}
-use Rattle.rule_forms.specs.Ranking.{Function}
-use Rattle.rule_forms.specs.RankLaws.{function_of, rank_multipliers}
-use Rattle.model.specs.Programs.{Program, Rule, rule_at}
-use Rattle.guard_prep.specs.Prepared.{prepared}
+use Rattle.simplex_core.specs.linear_forms.Causes.{cause_of}
+use Rattle.simplex_core.specs.linear_forms.Forms.{at}
+use Rattle.simplex_core.specs.linear_forms.LinearProgram.{LinearProgram, HasSolution}
+use Rattle.simplex_core.specs.linear_forms.Questions.{Group, listed, program_of_question}
+use Rattle.simplex_core.specs.linear_forms.QuestionLaws.{after, parameters_of}
+use Rattle.simplex_core.specs.linear_forms.RuleQuestions.{RankedSet, symbols_of_set, rank_question}
+use Rattle.proof_tree.specs.rule_forms.Ranking.{Function}
+use Rattle.proof_tree.specs.rule_forms.RankLaws.{function_of, rank_multipliers}
+use Rattle.poly_terms.specs.model.Programs.{Program}
 use Rattle.simplex_core.specs.Trips.{Trips, IsScaledSolution, IsScaledDual}
-use Rattle.proof_nodes.specs.AcceptsPlain.{IsRule}
-use Rattle.proof_nodes.specs.Gaps.{ScaledPoint, SymbolPlace, Gap}
-use Rattle.proof_nodes.specs.Nodes.{RankNode, SymbolForm}
-use Rattle.model.specs.Entries.{is_in}
-use Rattle.proof_nodes.specs.Numbers.{IsAscending}
+use Rattle.proof_tree.specs.proof_nodes.AcceptsPlain.{IsRule}
+use Rattle.proof_tree.specs.proof_nodes.Gaps.{ScaledPoint, SymbolPlace, Gap}
+use Rattle.proof_tree.specs.proof_nodes.Nodes.{RankNode, SymbolForm}
+use Rattle.poly_terms.specs.model.Entries.{is_in}
+use Rattle.proof_tree.specs.proof_nodes.Numbers.{IsAscending}
 use Rattle.proof_tree.specs.declared.answer.Trip.{Trip}
 use Rattle.proof_tree.specs.declared.answer.Question.TheVariants as asked
 use Rattle.proof_tree.specs.declared.answer.EmptyAnswer.{EmptyAnswer}
-use Rattle.proof_tree.specs.declared.answer.EmptyAnswer.TheVariants as answers
-use Rattle.proof_tree.specs.AnswerViews.{cause_of, scaled_of, gap_of}
+use Rattle.proof_tree.specs.AnswerViews.{gap_of}
 use Rattle.proof_tree.specs.Views.{rank_of}
+use Rattle.rule_questions.specs.RuleAnswers.{answer_for, point_in, trip_in}
 use Rattle.rank_search.specs.declared.answer.RankAnswer.{RankAnswer}
 use Rattle.rank_search.specs.declared.answer.RankAnswer.TheVariants.{Ranked, NoRank, Tripped}
-use Rattle.rank_search.specs.EmptyAnswers.{IsEmptyAnswer, SaysEmpty}
-use Rattle.rank_search.specs.Programs.{NothingTrips}
+use Rattle.rule_questions.specs.EmptyAnswers.{SaysEmpty}
+use Rattle.rule_questions.specs.Programs.{NothingTrips}
 
 -- the set ascends, has numbers of rules alone, and holds the rule that has to decrease
 pub record IsRuleSet (p : Program) (set : List ℕ) (strict : ℕ) : Type 0 where
   pub ascending : IsAscending set
   pub rules : All (IsRule p) set
   pub inside : is_in strict set ≡ true
-
--- the answer for a rule; rules count from 1
-abbrev pub answer_for : List EmptyAnswer → ℕ → Option EmptyAnswer
-answer_for empties zero = None
-answer_for empties (suc t) = slice_get empties t
-
--- for each rule of the program, in order, the answer whether its rows have a point
-pub record AreEmptyAnswers (p : Program) (pivots : ℕ) (empties : List EmptyAnswer) : Type 0 where
-  pub one_each : length empties ≡ length p.rules
-  pub each : (t : ℕ) (r : Rule) (a : EmptyAnswer) → rule_at p t ≡ Some r → answer_for empties t ≡ Some a
-      → IsEmptyAnswer (prepared r) t pivots a
 
 -- no rule of the set is known to have no point
 pub record MayAllRun (set : List ℕ) (empties : List EmptyAnswer) : Type 0 where
@@ -74,13 +63,6 @@ points_of y [] = []
 points_of y (g ∷ gs) =
     record { parts = listed g.unknowns y; den = nat_abs (y g.unknowns) } ∷ points_of (after (suc g.unknowns) y) gs
 
--- the point that an answer has
-abbrev pub point_in : Option EmptyAnswer → Option ScaledPoint
-point_in None = None
-point_in (Some (answers.Empty n)) = None
-point_in (Some (answers.Point z)) = Some (scaled_of z)
-point_in (Some (answers.Tripped t)) = None
-
 -- the gap is read off the dual at which the linear program's sequence of tableaux ends: a move for each rule of the
 -- set, and the floor; and it keeps the point of each rule of the set
 pub record IsReadOff (b : RankedSet) (shut : List SymbolPlace) (pivots : ℕ) (empties : List EmptyAnswer)
@@ -99,13 +81,6 @@ pub record IsReadOff (b : RankedSet) (shut : List SymbolPlace) (pivots : ℕ) (e
 pub record HasPointFor (empties : List EmptyAnswer) (t : ℕ) : Type 0 where
   pub point : ScaledPoint
   pub found : point_in (answer_for empties t) ≡ Some point
-
--- the trip of an answer, where it is one
-abbrev pub trip_in : Option EmptyAnswer → Option Trip
-trip_in None = None
-trip_in (Some (answers.Empty n)) = None
-trip_in (Some (answers.Point z)) = None
-trip_in (Some (answers.Tripped t)) = Some t
 
 -- the first, where there is one, and else the second
 abbrev pub first_of : Option Trip → Option Trip → Option Trip

@@ -1,33 +1,34 @@
 -- What the answers on ranking functions are worth.
 use Rattle.std.specs.Prelude.{◌≡◌, ◌↔◌, ◌≢◌, ◌⊎◌, ℕ, suc, List, length, true, pos, ◌<◌, Some, None}
-use Rattle.linear_forms.specs.Forms.{at}
-use Rattle.linear_forms.specs.LinearProgram.{HasSolution}
-use Rattle.linear_forms.specs.QuestionLaws.{parameters_of}
-use Rattle.linear_forms.specs.RuleQuestions.{RankedSet, has_symbol}
-use Rattle.rule_forms.specs.Ranking.{Function, Ranks, Fits, NoRank, IsLeastRank}
-use Rattle.rule_forms.specs.RankLaws.{HavePointsOf, function_of}
-use Rattle.model.specs.Programs.{Program}
+use Rattle.simplex_core.specs.linear_forms.Forms.{at}
+use Rattle.simplex_core.specs.linear_forms.LinearProgram.{HasSolution}
+use Rattle.simplex_core.specs.linear_forms.QuestionLaws.{parameters_of}
+use Rattle.simplex_core.specs.linear_forms.RuleQuestions.{RankedSet, has_symbol}
+use Rattle.proof_tree.specs.rule_forms.Ranking.{Function, Ranks, Fits, NoRank, IsLeastRank}
+use Rattle.proof_tree.specs.rule_forms.RankLaws.{HavePointsOf, function_of}
+use Rattle.poly_terms.specs.model.Programs.{Program}
 use Rattle.its_model.specs.Valid.{IsValid}
-use Rattle.model.specs.Entries.{is_in, IsEntry}
-use Rattle.proof_nodes.specs.AcceptsRank.{at_target, rank_time, HasRankShape, Loses, HasFloor, AcceptsRank}
-use Rattle.proof_nodes.specs.Composed.{rank_form}
-use Rattle.proof_nodes.specs.Gaps.{SymbolPlace}
-use Rattle.proof_nodes.specs.Known.{IsKnown, Table}
-use Rattle.proof_nodes.specs.Limits.{IsSmallComposed}
-use Rattle.proof_nodes.specs.Nodes.{RankNode}
-use Rattle.proof_nodes.specs.Setting.{Setting}
-use Rattle.proof_setting.specs.Setting.{setting_of}
+use Rattle.poly_terms.specs.model.Entries.{is_in, IsEntry}
+use Rattle.proof_tree.specs.proof_nodes.AcceptsRank.{at_target, rank_time, HasRankShape, Loses, HasFloor, AcceptsRank}
+use Rattle.proof_tree.specs.proof_nodes.Composed.{rank_form}
+use Rattle.proof_tree.specs.proof_nodes.Gaps.{SymbolPlace}
+use Rattle.proof_tree.specs.proof_nodes.Known.{IsKnown, Table}
+use Rattle.proof_tree.specs.proof_nodes.Limits.{IsSmallComposed}
+use Rattle.proof_tree.specs.proof_nodes.Nodes.{RankNode}
+use Rattle.proof_tree.specs.proof_nodes.Setting.{Setting}
+use Rattle.proof_tree.specs.proof_setting.Setting.{setting_of}
 use Rattle.proof_tree.specs.declared.answer.EmptyAnswer.{EmptyAnswer}
 use Rattle.rank_search.specs.declared.answer.RankAnswer.{RankAnswer}
 use Rattle.proof_tree.specs.Shut.{is_shut}
-use Rattle.rank_search.specs.ProgramQuestions.{ranked_set}
-use Rattle.rank_search.specs.Programs.{NothingTrips}
-use Rattle.rank_search.specs.RankAnswers.{IsRuleSet, AreEmptyAnswers, rank_program, IsRankNode, IsRankAnswer}
+use Rattle.rule_questions.specs.ProgramQuestions.{ranked_set}
+use Rattle.rule_questions.specs.Programs.{NothingTrips}
+use Rattle.rank_search.specs.RankAnswers.{IsRuleSet, rank_program, IsRankNode, IsRankAnswer}
+use Rattle.rule_questions.specs.RuleAnswers.{AreEmptyAnswers}
 use Rattle.rank_search.specs.RankAnswers.{first_trip, SaysRanked, SaysNoRank, SaysTripped}
 
 -- the function that a node is read off
-abbrev pub found : (b : RankedSet) (pivots : ℕ) (node : RankNode) → IsRankNode b pivots node → Function
-found b pivots node n = function_of b (parameters_of (at n.numbers))
+abbrev pub function_of_node : (b : RankedSet) (pivots : ℕ) (node : RankNode) → IsRankNode b pivots node → Function
+function_of_node b pivots node n = function_of b (parameters_of (at n.numbers))
 
 -- the facts that a node needs: a time of each entry and the sizes there at which the function looks, which compose a
 -- small bound
@@ -42,19 +43,19 @@ pub record HoldsFacts (s : Setting) (table : Table) (node : RankNode) : Type 0 w
 -- of the set has a point, none that does weighs less
 pub record RankedNodesRank : Type 0 where
   pub parts : (b : RankedSet) (pivots : ℕ) (node : RankNode) (n : IsRankNode b pivots node) (s : ℕ)
-      → has_symbol b s ≡ true → s < b.symbols → rank_form node.forms (Some s) ≡ found b pivots node n s
+      → has_symbol b s ≡ true → s < b.symbols → rank_form node.forms (Some s) ≡ function_of_node b pivots node n s
   pub fits : (b : RankedSet) (pivots : ℕ) (node : RankNode) (n : IsRankNode b pivots node)
-      → Fits b (found b pivots node n)
+      → Fits b (function_of_node b pivots node n)
   pub ranks : (p : Program) (set : List ℕ) (strict : ℕ) (shut : List SymbolPlace) (pivots : ℕ) (node : RankNode)
       → IsValid p → IsRuleSet p set strict → (n : IsRankNode (ranked_set p set strict shut) pivots node)
-      → Ranks (ranked_set p set strict shut) (found (ranked_set p set strict shut) pivots node n) node.den
+      → Ranks (ranked_set p set strict shut) (function_of_node (ranked_set p set strict shut) pivots node n) node.den
   pub least : (p : Program) (set : List ℕ) (strict : ℕ) (shut : List SymbolPlace) (pivots : ℕ) (node : RankNode)
       → IsValid p → IsRuleSet p set strict → (n : IsRankNode (ranked_set p set strict shut) pivots node)
       → HavePointsOf (ranked_set p set strict shut)
-      → IsLeastRank (ranked_set p set strict shut) (found (ranked_set p set strict shut) pivots node n) node.den
+      → IsLeastRank (ranked_set p set strict shut) (function_of_node (ranked_set p set strict shut) pivots node n) node.den
 
 -- what acceptance asks of a node apart from facts: its shape, and that its multipliers show what it loses and its floor
-pub record IsShown (s : Setting) (node : RankNode) : Type 0 where
+pub record HasCertificates (s : Setting) (node : RankNode) : Type 0 where
   pub shape : HasRankShape s node
   pub moves : (t : ℕ) → is_in t node.set ≡ true → Loses s node t
   pub floor : HasFloor s node
@@ -64,7 +65,7 @@ pub record IsShown (s : Setting) (node : RankNode) : Type 0 where
 pub record RankedNodesAreAccepted : Type 0 where
   pub shown : (p : Program) (set : List ℕ) (strict : ℕ) (shut : List SymbolPlace) (pivots : ℕ) (node : RankNode)
       → IsValid p → IsRuleSet p set strict → IsRankNode (ranked_set p set strict shut) pivots node
-      → IsShown (setting_of p) node
+      → HasCertificates (setting_of p) node
   pub shut : (p : Program) (set : List ℕ) (strict : ℕ) (shut : List SymbolPlace) (pivots : ℕ) (node : RankNode)
       (s j : ℕ)
       → IsRankNode (ranked_set p set strict shut) pivots node → has_symbol (ranked_set p set strict shut) s ≡ true

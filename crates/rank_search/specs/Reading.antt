@@ -2,22 +2,23 @@
 use Rattle.std.specs.Prelude.{◌≡◌, ◌*◌, ◌++◌, ℕ, zero, suc, ◌+◌, not, Bool, if◌then◌else◌}
 use Rattle.std.specs.Prelude.{List, [], ◌∷◌, length, map, filter, ℤ, pos, Option, Some, None, slice_get}
 use Rattle.std.specs.List.{range_with_len}
-use Rattle.linear_forms.specs.Forms.{at}
-use Rattle.linear_forms.specs.Combinations.{zero_form}
-use Rattle.linear_forms.specs.Questions.{Group}
-use Rattle.linear_forms.specs.QuestionLaws.{after, parameters_of, multipliers_by_group}
-use Rattle.model.specs.Programs.{Program, arity_of}
+use Rattle.simplex_core.specs.linear_forms.Forms.{at}
+use Rattle.simplex_core.specs.linear_forms.Combinations.{zero_form}
+use Rattle.simplex_core.specs.linear_forms.Questions.{Group}
+use Rattle.simplex_core.specs.linear_forms.QuestionLaws.{after, parameters_of, multipliers_by_group}
+use Rattle.poly_terms.specs.model.Programs.{Program, arity_of}
 use Rattle.poly_terms.specs.Views.{form_of}
 use Rattle.guard_prep.specs.declared.rule_rows.RuleRows.{RuleRows}
-use Rattle.proof_nodes.specs.Gaps.{SymbolPlace}
-use Rattle.proof_nodes.specs.Nodes.{SymbolForm}
+use Rattle.proof_tree.specs.proof_nodes.Gaps.{SymbolPlace}
+use Rattle.proof_tree.specs.proof_nodes.Nodes.{SymbolForm}
 use Rattle.proof_tree.specs.declared.answer.EmptyAnswer.{EmptyAnswer}
 use Rattle.proof_tree.specs.declared.gap.Gap.{Gap}
 use Rattle.proof_tree.specs.declared.rank.RankNode.{RankNode}
 use Rattle.proof_tree.specs.AnswerViews.{gap_of}
 use Rattle.proof_tree.specs.Views.{rank_of}
 use Rattle.proof_tree.specs.Shut.{is_shut}
-use Rattle.rank_search.specs.RankAnswers.{answer_for, point_in, points_of}
+use Rattle.rule_questions.specs.RuleAnswers.{answer_for, point_in}
+use Rattle.rank_search.specs.RankAnswers.{points_of}
 
 -- how many of n places from a on aren't shut
 abbrev pub open_count : (ℕ → Bool) → ℕ → ℕ → ℕ
@@ -60,23 +61,18 @@ abbrev pub shape_at : List RuleRows → ℕ → Group
 shape_at preps zero = shape_of None
 shape_at preps (suc t) = shape_of (slice_get preps t)
 
--- the lines of groups: one for each unknown and one for the constant
-abbrev pub group_lines : List Group → ℕ
-group_lines [] = 0
-group_lines (g ∷ gs) = suc g.unknowns + group_lines gs
-
 -- the groups of a rank question, without goals: the rules of the set, and the strict rule for the floor
 abbrev pub shapes : List RuleRows → List ℕ → ℕ → List Group
 shapes preps set strict = map (shape_at preps) set ++ (shape_at preps strict ∷ [])
 
 -- the rules of a set and the one that has to decrease, and the places that are shut
-pub record Sought : Type 0 where
+pub record RankQuestion : Type 0 where
   pub set : List ℕ
   pub strict : ℕ
   pub shut : List SymbolPlace
 
 -- the node is read off the numbers of a solution with so many parameters, over a denominator
-pub record IsNodeRead (p : Program) (preps : List RuleRows) (q : Sought) (symbols : List ℕ) (parameters : ℕ)
+pub record IsNodeRead (p : Program) (preps : List RuleRows) (q : RankQuestion) (symbols : List ℕ) (parameters : ℕ)
     (numbers : List ℤ) (den : ℕ) (node : RankNode) : Type 0 where
   pub numbered : (rank_of node).rule ≡ q.strict
   pub same_set : (rank_of node).set ≡ q.set
@@ -87,7 +83,7 @@ pub record IsNodeRead (p : Program) (preps : List RuleRows) (q : Sought) (symbol
   pub unused : node.uses.items ≡ []
 
 -- the gap is read off the numbers of a dual, and keeps the points of the rules of the set
-pub record IsGapRead (preps : List RuleRows) (q : Sought) (empties : List EmptyAnswer) (numbers : List ℤ)
+pub record IsGapRead (preps : List RuleRows) (q : RankQuestion) (empties : List EmptyAnswer) (numbers : List ℤ)
     (gap : Gap) : Type 0 where
   pub numbered : (gap_of gap).rule ≡ q.strict
   pub same_set : (gap_of gap).set ≡ q.set

@@ -1,4 +1,4 @@
-// What is answered of functions that rank a rule of a set.
+//! What is answered of functions that rank a rule of a set.
 
 use proof_tree::{Gap, RankNode, Trip};
 

@@ -1,4 +1,4 @@
-// Where the coefficients of each symbol stand among all.
+//! Where the coefficients of each symbol stand among all.
 
 ghost use Rattle.std.specs.Prelude.{◌≡◌, ◌<◌, ◌^◌, length, IfOk};
 ghost use Rattle.std.specs.List.{All};

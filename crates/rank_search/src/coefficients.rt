@@ -1,12 +1,12 @@
-// The coefficients of a function that is sought.
+//! The coefficients of a function that is sought.
 
 ghost use Rattle.std.specs.Prelude.{◌≡◌, ◌++◌, map, IfOk, OnOk};
-ghost use Rattle.linear_forms.specs.RuleQuestions.{coefficients};
-ghost use Rattle.model.specs.Programs.{arity_of};
+ghost use Rattle.simplex_core.specs.linear_forms.RuleQuestions.{coefficients};
+ghost use Rattle.poly_terms.specs.model.Programs.{arity_of};
 ghost use Rattle.its_model.specs.Views.{program_of};
 ghost use Rattle.rank_search.specs.Coefficients.{coefficient_of, open_set, open_block};
 ghost use Rattle.rank_search.specs.ShutPlaces.{is_listed};
-ghost use Rattle.rank_search.specs.ProgramQuestions.{places_of};
+ghost use Rattle.rule_questions.specs.ProgramQuestions.{places_of};
 
 use crate::shut::{is_among, shut_set};
 use its_model::Program;

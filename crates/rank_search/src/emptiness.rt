@@ -1,19 +1,17 @@
-// Whether the rows of a rule have a point.
+//! Whether the rows of a rule have a point.
 
-ghost use Rattle.std.specs.Prelude.{ℕ, IfOk};
-ghost use Rattle.linear_forms.specs.RuleQuestions.{empty_question};
+ghost use Rattle.std.specs.Prelude.{IfOk};
+ghost use Rattle.simplex_core.specs.linear_forms.RuleQuestions.{empty_question};
 ghost use Rattle.guard_prep.specs.Views.{prepared_of};
-ghost use Rattle.rank_search.specs.EmptyAnswers.{IsPrepared, IsEmptyAnswer};
-ghost use Rattle.rank_search.specs.ProgramQuestions.{forms_of};
-ghost use Rattle.rank_search.specs.Programs.{IsProblemOf};
+ghost use Rattle.rule_questions.specs.EmptyAnswers.{IsPrepared, IsEmptyAnswer};
+ghost use Rattle.rule_questions.specs.ProgramQuestions.{forms_of};
+ghost use Rattle.rule_questions.specs.Programs.{IsProblemOf};
 
-use crate::causes::told;
-use crate::goals::constant_row;
-use crate::scaled::{element_from, multipliers_from};
 use guard_prep::RuleRows;
 use lp_builder::Builder;
 use poly_terms::Memory;
 use proof_tree::{EmptyAnswer, EmptyNode, Question, Trip};
+use rule_questions::{constant_row, element_from, multipliers_from};
 use simplex_core::{Answer, Problem, solve_scaled};
 use std::alloc::Global;
 
@@ -45,7 +43,7 @@ pub fn find_empty(
         }
         Answer::Tripped(cause) => Ok(EmptyAnswer::Tripped(Trip {
             question: Question::Empty { rule },
-            cause: told(cause),
+            cause,
         })),
     }
 }

@@ -1,27 +1,27 @@
-// The node that a solution of a rank question's linear program gives.
+//! The node that a solution of a rank question's linear program gives.
 
-ghost use Rattle.std.specs.Prelude.{◌≡◌, ◌+◌, ◌*◌, ◌<◌, ◌≤◌, ◌^◌, [], ◌∷◌, length, map, nat_abs, IfOk, OnOk};
+ghost use Rattle.std.specs.Prelude.{◌≡◌, ◌+◌, ◌*◌, ◌<◌, ◌≤◌, ◌^◌, [], ◌∷◌, length, map, IfOk, OnOk};
 ghost use Rattle.std.specs.List.{All};
-ghost use Rattle.linear_forms.specs.Forms.{at};
-ghost use Rattle.linear_forms.specs.Limits.{certificate_limit};
-ghost use Rattle.linear_forms.specs.Questions.{group_columns};
-ghost use Rattle.linear_forms.specs.QuestionLaws.{after, parameters_of, multipliers_by_group};
+ghost use Rattle.simplex_core.specs.linear_forms.Forms.{at};
+ghost use Rattle.simplex_core.specs.linear_forms.Limits.{certificate_limit};
+ghost use Rattle.simplex_core.specs.linear_forms.Questions.{group_columns};
+ghost use Rattle.simplex_core.specs.linear_forms.QuestionLaws.{after, parameters_of, multipliers_by_group};
 ghost use Rattle.its_model.specs.Views.{program_of};
-ghost use Rattle.model.specs.Programs.{arity_of};
+ghost use Rattle.poly_terms.specs.model.Programs.{arity_of};
 ghost use Rattle.proof_tree.specs.Views.{form_of as part_of};
 ghost use Rattle.simplex_core.specs.Scaling.{AreWithin};
 ghost use Rattle.rank_search.specs.ShutPlaces.{is_listed};
-ghost use Rattle.rank_search.specs.ProgramQuestions.{places_of};
+ghost use Rattle.rule_questions.specs.ProgramQuestions.{places_of};
 ghost use Rattle.rank_search.specs.Reading.{open_count, form_by, read_forms, shape_at, shapes, IsNodeRead};
 
 use crate::coefficients::arity_at;
-use crate::scaled::multipliers_from;
 use crate::shut::{is_among, shut_set};
 use guard_prep::RuleRows;
 use its_model::Program;
 use poly_terms::Memory;
 use proof_tree::{Form, RankNode};
-use simplex_core::Scaled;
+use rule_questions::{multipliers_from, parameter_at};
+use simplex_core::Numerators;
 use std::alloc::Global;
 use std::collections::BTreeSet;
 
@@ -36,7 +36,7 @@ pub(crate) fn rank_node(
     shut: &[(u32, u32)],
     symbols: &[u32],
     parameters: usize,
-    solution: &Scaled,
+    solution: &Numerators,
 ) -> Result<RankNode, Memory>
     requires few { length symbols.now ≤ 2000 }
     requires few_places { All (λ s. arity_of (program_of p.now) s ≤ 32) symbols.now }
@@ -122,27 +122,6 @@ fn form_from(
         coefs,
         constant: parameter_at(numbers, parameter),
     })
-}
-
-/// A parameter of a solution: its plus column less its minus column.
-pub fn parameter_at(numbers: &[i64], parameter: u32) -> i64
-    requires { AreWithin certificate_limit (length numbers.now) numbers.now }
-    ensures { result ≡ parameters_of (at numbers.now) parameter }
-{
-    let plus = 2 * parameter as usize;
-    column_at(numbers, plus) - column_at(numbers, plus + 1)
-}
-
-// The number of a column, 0 past the last one.
-fn column_at(numbers: &[i64], column: usize) -> i64
-    requires { AreWithin certificate_limit (length numbers.now) numbers.now }
-    ensures value { result ≡ at numbers.now column }
-    ensures small { nat_abs result ≤ certificate_limit }
-{
-    match numbers.get(column) {
-        Some(number) => *number,
-        None => 0,
-    }
 }
 
 // The multipliers of the rows of each rule of the set, from the next column on, which is then the one behind.

@@ -1,19 +1,21 @@
-// The gap that a dual of a rank question's linear program gives.
+//! The gap that a dual of a rank question's linear program gives.
 
 ghost use Rattle.std.specs.Prelude.{◌≡◌, ◌+◌, ◌≤◌, [], ◌∷◌, length, map, Some, option_map, IfOk, OnOk};
 ghost use Rattle.std.specs.List.{All};
-ghost use Rattle.linear_forms.specs.Forms.{at};
-ghost use Rattle.linear_forms.specs.QuestionLaws.{after};
+ghost use Rattle.simplex_core.specs.linear_forms.Forms.{at};
+ghost use Rattle.simplex_core.specs.linear_forms.QuestionLaws.{after};
 ghost use Rattle.proof_tree.specs.AnswerViews.{scaled_of};
-ghost use Rattle.rank_search.specs.ProgramQuestions.{places_of};
-ghost use Rattle.rank_search.specs.RankAnswers.{answer_for, first_trip, point_in, points_of, HasPointFor};
-ghost use Rattle.rank_search.specs.Reading.{group_lines, shape_at, shapes, IsGapRead};
+ghost use Rattle.rule_questions.specs.ProgramQuestions.{places_of};
+ghost use Rattle.rule_questions.specs.RuleAnswers.{answer_for, point_in};
+ghost use Rattle.rank_search.specs.RankAnswers.{first_trip, points_of, HasPointFor};
+ghost use Rattle.rule_questions.specs.GroupLines.{group_lines};
+ghost use Rattle.rank_search.specs.Reading.{shape_at, shapes, IsGapRead};
 
-use crate::scaled::element_from;
 use farkas_cert::Scaled;
 use guard_prep::RuleRows;
 use poly_terms::Memory;
-use proof_tree::{EmptyAnswer, Gap, Trip};
+use proof_tree::{EmptyAnswer, Gap, Trip, copied_scaled};
+use rule_questions::element_from;
 use std::alloc::Global;
 
 /// The trip of the first rule of the set whose emptiness question tripped.
@@ -126,10 +128,7 @@ fn kept_points(alloc: Global, set: &[u32], empties: &[EmptyAnswer]) -> Result<Ve
     let mut kept = Vec::new(alloc);
     for rule in set {
         if let Some(EmptyAnswer::Point(point)) = answer_at(empties, *rule) {
-            kept.push(Scaled {
-                parts: Vec::from_slice(alloc, &point.parts)?,
-                den: point.den,
-            })?;
+            kept.push(copied_scaled(alloc, point)?)?;
         }
     }
     Ok(kept)

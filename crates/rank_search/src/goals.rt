@@ -1,25 +1,26 @@
-// The goals of a rule in a rank question: what it loses by each coefficient.
+//! The goals of a rule in a rank question: what it loses by each coefficient.
 
-ghost use Rattle.std.specs.Prelude.{◌≡◌, ◌+◌, ◌*ℤ◌, ◌+ℤ◌, ◌<◌, ◌≤◌, ◌^◌, ◌||◌};
-ghost use Rattle.std.specs.Prelude.{max, nat_eq, [], length, map, nat_abs, negsuc, IfOk, OnOk};
+ghost use Rattle.std.specs.Prelude.{◌≡◌, ◌<◌, ◌≤◌, ◌^◌, ◌||◌};
+ghost use Rattle.std.specs.Prelude.{max, nat_eq, [], length, map, IfOk, OnOk};
 ghost use Rattle.std.specs.List.{All};
-ghost use Rattle.linear_forms.specs.Forms.{at};
-ghost use Rattle.linear_forms.specs.Combinations.{form_sum};
-ghost use Rattle.linear_forms.specs.RuleQuestions.{constant_form, unknown_form, opposite, at_source, at_target};
+ghost use Rattle.simplex_core.specs.linear_forms.Forms.{at};
+ghost use Rattle.simplex_core.specs.linear_forms.Combinations.{form_sum};
+ghost use Rattle.simplex_core.specs.linear_forms.RuleQuestions.{opposite, at_source, at_target};
 ghost use Rattle.lp_builder.specs.Descriptions.{goal_forms, AreParameters, IsWritable};
-ghost use Rattle.model.specs.Limits.{coefficient_limit};
 ghost use Rattle.guard_prep.specs.Views.{prepared_of};
 ghost use Rattle.poly_terms.specs.Views.{form_of};
 ghost use Rattle.rank_search.specs.Coefficients.{coefficient_of};
 ghost use Rattle.rank_search.specs.Blocks.{AreBlocks, HoldGoals};
-ghost use Rattle.rank_search.specs.Goals.{fixed_form, goal_form, AreGoalsUpTo, IsSmall, IsDifferenceSmall};
-ghost use Rattle.rank_search.specs.ProgramQuestions.{forms_of};
+ghost use Rattle.rank_search.specs.Goals.{fixed_form, goal_form, AreGoalsUpTo};
+ghost use Rattle.rule_questions.specs.SmallForms.{IsSmall, IsDifferenceSmall};
+ghost use Rattle.rule_questions.specs.ProgramQuestions.{forms_of};
 
 use crate::blocks::{Block, block_of};
 use crate::coefficients::Coefficient;
 use guard_prep::RuleRows;
 use lp_builder::{Goal, Row};
 use poly_terms::Memory;
+use rule_questions::{constant_row, difference, unit_row};
 use std::alloc::Global;
 
 /// What is to follow in a group of a rank question.
@@ -229,61 +230,6 @@ fn less_after(
     difference(alloc, &before, after)
 }
 
-/// The difference of two forms whose numbers are those of rows.
-///
-/// # Errors
-///
-/// `Memory` where an allocation fails.
-pub fn difference(alloc: Global, before: &Row, after: &Row) -> Result<Row, Memory>
-    requires before { IsSmall (form_of before.now) }
-    requires after { IsSmall (form_of after.now) }
-    ensures same { IfOk result (λ row. form_of row ≡ form_sum (form_of before.now) (opposite (form_of after.now))) }
-    ensures small { IfOk result (λ row. IsDifferenceSmall (form_of row)) }
-{
-    let mut coefs = Vec::new(alloc);
-    for unknown in 0..before.coefs.len().max(after.coefs.len()) {
-        coefs.push(less(
-            number_at(&before.coefs, unknown),
-            number_at(&after.coefs, unknown),
-        ))?;
-    }
-    let constant = less(before.constant, after.constant);
-    Ok(Row { coefs, constant })
-}
-
-// A number less another one.
-fn less(a: i128, b: i128) -> i128
-    requires first { nat_abs a ≤ coefficient_limit }
-    requires second { nat_abs b ≤ coefficient_limit }
-    ensures value { result ≡ a +ℤ negsuc 0 *ℤ b }
-    ensures small { nat_abs result ≤ coefficient_limit + coefficient_limit }
-{
-    a - b
-}
-
-// A coefficient, 0 where it isn't listed.
-fn number_at(coefs: &[i128], unknown: usize) -> i128
-    ensures { result ≡ at coefs.now unknown }
-{
-    match coefs.get(unknown) {
-        Some(coef) => *coef,
-        None => 0,
-    }
-}
-
-/// The form that is an unknown.
-///
-/// # Errors
-///
-/// `Memory` where an allocation fails.
-pub fn unit_row(alloc: Global, unknown: u32) -> Result<Row, Memory>
-    ensures { IfOk result (λ row. form_of row ≡ unknown_form unknown) }
-{
-    let mut coefs = vec![in alloc; 0; unknown as usize]?;
-    coefs.push(1)?;
-    Ok(Row { coefs, constant: 0 })
-}
-
 /// How much is to be subtracted of what follows in a group.
 pub(crate) fn fixed_row(alloc: Global, part: Part) -> Row
     ensures { form_of result ≡ fixed_form part }
@@ -291,15 +237,5 @@ pub(crate) fn fixed_row(alloc: Global, part: Part) -> Row
     match part {
         Part::Move => constant_row(alloc, 0),
         Part::Fall | Part::Floor => constant_row(alloc, -1),
-    }
-}
-
-/// The form that is a number everywhere.
-pub fn constant_row(alloc: Global, constant: i128) -> Row
-    ensures { form_of result ≡ constant_form constant }
-{
-    Row {
-        coefs: Vec::new(alloc),
-        constant,
     }
 }

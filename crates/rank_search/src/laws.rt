@@ -1,29 +1,11 @@
-// What the answers of the searches are worth.
+//! What the answers on ranking functions are worth.
 
-ghost use Rattle.rank_search.specs.EmptyAnswers.{EmptyAnswersAreExact, EmptyNodesAreAccepted};
-ghost use Rattle.rank_search.specs.OneAnswer.{EmptyAnswersAreOne, RankAnswersAreOne};
+ghost use Rattle.rank_search.specs.OneAnswer.{RankAnswersAreOne};
 ghost use Rattle.rank_search.specs.RankLaws.{RankedNodesRank, RankedNodesAreAccepted, RankAnswersAreExact};
-
-/// Of the answers whether the rows of a rule have a point, `Empty` comes exactly where they have none and nothing trips
-/// the linear program, `Point` exactly where they have one and nothing trips it, and `Tripped` exactly where it trips.
-/// It has no code, as all functions here: its contract is the law.
-pub fn empty_answers_are_exact()
-    ensures { EmptyAnswersAreExact }
-{}
-
-/// Whether the rows of a rule have a point is answered in one way within a number of pivots: which answer it is, its
-/// multipliers, its point and its trip are determined.
-pub fn empty_answers_are_one()
-    ensures { EmptyAnswersAreOne }
-{}
-
-/// The node of a rule of a program whose rows have no point is accepted, whatever else is known.
-pub fn empty_nodes_are_accepted()
-    ensures { EmptyNodesAreAccepted }
-{}
 
 /// A node that is read off a solution of a rank question's linear program holds a function that looks at no shut place
 /// and ranks the rule, on all rational points; and where each rule of the set has a point, none that does weighs less.
+/// It has no code, as all functions here: its contract is the law.
 pub fn ranked_nodes_rank()
     ensures { RankedNodesRank }
 {}
@@ -34,7 +16,8 @@ pub fn ranked_nodes_are_accepted()
     ensures { RankedNodesAreAccepted }
 {}
 
-/// So is which function ranks a rule of a set: which answer it is, its node, its gap and its trip are determined.
+/// Which function ranks a rule of a set is answered in one way within a number of pivots: which answer it is, its node,
+/// its gap and its trip are determined.
 pub fn rank_answers_are_one()
     ensures { RankAnswersAreOne }
 {}

@@ -1,20 +1,19 @@
-// The problem of a rank question, group by group.
+//! The problem of a rank question, group by group.
 
-ghost use Rattle.std.specs.Prelude.{◌≡◌, ◌<◌, ◌+◌, ◌≤◌, ◌^◌, nat_eq, if◌then◌else◌, length};
+ghost use Rattle.std.specs.Prelude.{◌≡◌, ◌<◌, ◌+◌, ◌^◌, nat_eq, if◌then◌else◌, length};
 ghost use Rattle.std.specs.Prelude.{map, slice_index_or, false, IfOk};
-ghost use Rattle.std.specs.List.{All};
-ghost use Rattle.linear_forms.specs.RuleQuestions.{rank_question, size_at, height_at};
+ghost use Rattle.simplex_core.specs.linear_forms.RuleQuestions.{rank_question};
 ghost use Rattle.its_model.specs.Valid.{IsValid};
 ghost use Rattle.its_model.specs.Views.{program_of};
-ghost use Rattle.model.specs.Programs.{rule_at};
+ghost use Rattle.poly_terms.specs.model.Programs.{rule_at};
 ghost use Rattle.lp_builder.specs.Builders.{parameter_count, row_count, column_count, IsReady, Adds};
-ghost use Rattle.proof_nodes.specs.AcceptsPlain.{IsRule};
+ghost use Rattle.proof_tree.specs.proof_nodes.AcceptsPlain.{IsRule};
 ghost use Rattle.proof_tree.specs.Composing.{AreRowsOf};
 ghost use Rattle.rank_search.specs.Blocks.{AreBlocks};
 ghost use Rattle.rank_search.specs.Coefficients.{coefficient_of, AreCoefficients};
-ghost use Rattle.rank_search.specs.Goals.{part_group, part_for, goal_form, Fits};
-ghost use Rattle.rank_search.specs.ProgramQuestions.{ranked_set, places_of, is_entered, forms_in};
-ghost use Rattle.rank_search.specs.Programs.{IsProblemOf};
+ghost use Rattle.rank_search.specs.Goals.{part_group, part_for, Fits};
+ghost use Rattle.rule_questions.specs.ProgramQuestions.{ranked_set, places_of, is_entered, forms_in};
+ghost use Rattle.rule_questions.specs.Programs.{IsProblemOf};
 ghost use Rattle.rank_search.specs.RankAnswers.{IsRuleSet};
 
 use crate::blocks::{Block, blocks_of};

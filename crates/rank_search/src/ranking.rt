@@ -1,14 +1,14 @@
-// Which function ranks a rule of a set.
+//! Which function ranks a rule of a set.
 
 ghost use Rattle.std.specs.Prelude.{IfOk};
 ghost use Rattle.its_model.specs.Valid.{IsValid};
 ghost use Rattle.its_model.specs.Views.{program_of};
 ghost use Rattle.proof_tree.specs.Composing.{AreRowsOf};
-ghost use Rattle.rank_search.specs.ProgramQuestions.{ranked_set, places_of};
-ghost use Rattle.rank_search.specs.RankAnswers.{IsRuleSet, AreEmptyAnswers, MayAllRun, IsRankAnswer};
+ghost use Rattle.rule_questions.specs.ProgramQuestions.{ranked_set, places_of};
+ghost use Rattle.rank_search.specs.RankAnswers.{IsRuleSet, MayAllRun, IsRankAnswer};
+ghost use Rattle.rule_questions.specs.RuleAnswers.{AreEmptyAnswers};
 
 use crate::answer::RankAnswer;
-use crate::causes::told;
 use crate::coefficients::coefficients_of;
 use crate::found::rank_node;
 use crate::gap::{first_tripped, gap_of_dual};
@@ -75,7 +75,7 @@ pub fn find_rank(
         },
         Answer::Tripped(cause) => Ok(RankAnswer::Tripped(Trip {
             question: Question::Rank { rule: strict },
-            cause: told(cause),
+            cause,
         })),
     }
 }

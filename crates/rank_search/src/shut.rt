@@ -1,8 +1,8 @@
-// The places that are shut, to be looked up.
+//! The places that are shut, to be looked up.
 
 ghost use Rattle.std.specs.Prelude.{◌≡◌, IfOk};
 ghost use Rattle.rank_search.specs.ShutPlaces.{is_listed, HasShut};
-ghost use Rattle.rank_search.specs.ProgramQuestions.{places_of};
+ghost use Rattle.rule_questions.specs.ProgramQuestions.{places_of};
 
 use poly_terms::Memory;
 use std::alloc::Global;

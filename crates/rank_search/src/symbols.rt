@@ -1,12 +1,13 @@
-// The symbols of a set of rules, and those that are entered.
+//! The symbols of a set of rules, and those that are entered.
 
-ghost use Rattle.std.specs.Prelude.{◌≡◌, ℕ, ◌<◌, ◌-◌, ◌^◌, ◌||◌, Bool, length, map, filter, replicate, IfOk, Some, None};
+ghost use Rattle.std.specs.Prelude.{◌≡◌, ℕ, ◌<◌, ◌-◌, ◌^◌, ◌||◌, Bool, length, map, filter, replicate, IfOk, Some};
+ghost use Rattle.std.specs.Prelude.{None};
 ghost use Rattle.std.specs.List.{range_with_len};
 ghost use Rattle.its_model.specs.Views.{program_of};
-ghost use Rattle.model.specs.Paths.{same_symbol};
-ghost use Rattle.proof_nodes.specs.Graph.{symbols_of};
+ghost use Rattle.poly_terms.specs.model.Paths.{same_symbol};
+ghost use Rattle.proof_tree.specs.proof_nodes.Graph.{symbols_of};
 ghost use Rattle.rank_search.specs.Marks.{AreMarks};
-ghost use Rattle.rank_search.specs.ProgramQuestions.{is_entered};
+ghost use Rattle.rule_questions.specs.ProgramQuestions.{is_entered};
 
 use its_model::Program;
 use poly_terms::Memory;

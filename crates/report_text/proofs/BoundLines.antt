@@ -1,16 +1,18 @@
 -- The text of a bound stands in one line, and tells the bound.
-use Rattle.std.proofs.Common.{◌≡◌, ℕ, zero, suc, true, List, [], ◌∷◌, ◌++◌, length, drop, slice_index_or, codes, refl, sym, ◌∙◌, ap, append_assoc}
+use Rattle.std.proofs.Common.{◌≡◌, ℕ, zero, suc, true, List, [], ◌∷◌, ◌++◌, length, drop, slice_index_or, codes, refl}
+use Rattle.std.proofs.Common.{sym, ◌∙◌, ap, append_assoc}
 use Rattle.std.specs.List.{list_all}
 use Rattle.model.specs.Programs.{Name}
 use Rattle.model.specs.Bounds.{Bound}
-use Rattle.text_core.specs.Names.{AreNames}
-use Rattle.bound_text.specs.Pieces.{Piece, Variable, Number, Maximum, Open, Close, Times, Caret, Plus, Blank, Comma, Wrong, spelled, bytes_of}
+use Rattle.its_model.specs.text_core.Names.{AreNames}
+use Rattle.bound_text.specs.Pieces.{Piece, Variable, Number, Maximum, Open, Close, Times, Caret, Plus, Blank, Comma}
+use Rattle.bound_text.specs.Pieces.{Wrong, spelled, bytes_of}
 use Rattle.bound_text.specs.Writing.{pieces_of}
 use Rattle.bound_text.specs.Texts.{text_of}
 use Rattle.bound_text.proofs.TextAnswers.{one_bound}
 use Rattle.report_text.specs.Reports.{bound_end, none_end}
 use Rattle.report_text.specs.Printable.{IsPrintableBound}
-use Rattle.report_text.proofs.Told.{same_front}
+use Rattle.report_text.proofs.TellingTexts.{same_front}
 use Rattle.report_text.proofs.Digits.{is_plain, all_plain}
 use Rattle.report_text.proofs.SymbolNames.{name_plain, both_plain}
 

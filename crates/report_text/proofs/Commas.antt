@@ -1,10 +1,11 @@
 -- Lists with commas between their elements tell them.
-use Rattle.std.proofs.Common.{◌≡◌, ℕ, ◌<◌, Bool, true, false, ◌||◌, ◌==◌, List, [], ◌∷◌, ◌++◌, length, map, drop, codes, refl, sym, ◌∙◌, ap, subst, append_assoc, arith}
+use Rattle.std.proofs.Common.{◌≡◌, ℕ, ◌<◌, Bool, true, false, ◌||◌, ◌==◌, List, [], ◌∷◌, ◌++◌, length, map, drop, codes}
+use Rattle.std.proofs.Common.{refl, sym, ◌∙◌, ap, subst, append_assoc, arith}
 use Rattle.std.specs.List.{list_all, AllByRecursion}
 use Rattle.std.proofs.lemmas.Bool.{and_parts}
-use Rattle.text_core.proofs.PrefixLaws.{Stops}
-use Rattle.report_text.specs.Pieces.{goes_on, joined}
-use Rattle.report_text.proofs.Told.{Tells}
+use Rattle.its_model.proofs.text_core.PrefixLaws.{Stops}
+use Rattle.report_text.specs.Pieces.{with_commas_before, with_commas}
+use Rattle.report_text.proofs.TellingTexts.{Tells}
 use Rattle.report_text.proofs.Digits.{counts}
 
 -- the bytes of lists of numbers
@@ -36,32 +37,32 @@ no_byte u (c ∷ x) w s some all e =
 module _ {X : Type 0} {Fits : X → Type 0} {text : X → List ℕ} (told : Tells Fits text (Stops counts)) (counted : (x : X) → list_all counts (text x) ≡ true)
     (some : (x : X) → Fits x → 0 < length (text x)) where
   -- an element ends where the next one or the end of the list stands
-  ends : (xs : List X) (u : List ℕ) → Stops lists u → Stops counts (goes_on (map text xs) ++ u)
+  ends : (xs : List X) (u : List ℕ) → Stops lists u → Stops counts (with_commas_before (map text xs) ++ u)
   ends [] u s = stops_number u s
   ends (x ∷ xs) u s = refl
 
   -- the elements behind the first
   more_told : (xs ys : List X) (u v : List ℕ) → AllByRecursion Fits xs → AllByRecursion Fits ys → Stops lists u → Stops lists v
-      → goes_on (map text xs) ++ u ≡ goes_on (map text ys) ++ v → (xs ≡ ys) × (u ≡ v)
+      → with_commas_before (map text xs) ++ u ≡ with_commas_before (map text ys) ++ v → (xs ≡ ys) × (u ≡ v)
   more_told [] [] u v p q s t e = (refl, e)
   more_told [] (y ∷ ys) u v p q s t e = absurd (no_comma u _ s e)
   more_told (x ∷ xs) [] u v p q s t e = absurd (no_comma v _ t (sym e))
   more_told (x ∷ xs) (y ∷ ys) u v p q s t e =
-      let r = told.each x y (goes_on (map text xs) ++ u) (goes_on (map text ys) ++ v) p.0 q.0 (ends xs u s) (ends ys v t)
-      (sym (append_assoc (text x) (goes_on (map text xs)) u) ∙ (ap (drop 2) e ∙ append_assoc (text y) (goes_on (map text ys)) v)) in
+      let r = told.each x y (with_commas_before (map text xs) ++ u) (with_commas_before (map text ys) ++ v) p.0 q.0 (ends xs u s) (ends ys v t)
+      (sym (append_assoc (text x) (with_commas_before (map text xs)) u) ∙ (ap (drop 2) e ∙ append_assoc (text y) (with_commas_before (map text ys)) v)) in
       let l = more_told xs ys u v p.1 q.1 s t r.1 in
       (λ i. r.0 i ∷ l.0 i, l.1)
 
   -- two lists with one text are one
   all_told : (xs ys : List X) (u v : List ℕ) → AllByRecursion Fits xs → AllByRecursion Fits ys → Stops lists u → Stops lists v
-      → joined (map text xs) ++ u ≡ joined (map text ys) ++ v → (xs ≡ ys) × (u ≡ v)
+      → with_commas (map text xs) ++ u ≡ with_commas (map text ys) ++ v → (xs ≡ ys) × (u ≡ v)
   all_told [] [] u v p q s t e = (refl, e)
   all_told [] (y ∷ ys) u v p q s t e =
-      absurd (no_byte u (text y) (goes_on (map text ys) ++ v) s (some y q.0) (counted y) (e ∙ append_assoc (text y) (goes_on (map text ys)) v))
+      absurd (no_byte u (text y) (with_commas_before (map text ys) ++ v) s (some y q.0) (counted y) (e ∙ append_assoc (text y) (with_commas_before (map text ys)) v))
   all_told (x ∷ xs) [] u v p q s t e =
-      absurd (no_byte v (text x) (goes_on (map text xs) ++ u) t (some x p.0) (counted x) (sym e ∙ append_assoc (text x) (goes_on (map text xs)) u))
+      absurd (no_byte v (text x) (with_commas_before (map text xs) ++ u) t (some x p.0) (counted x) (sym e ∙ append_assoc (text x) (with_commas_before (map text xs)) u))
   all_told (x ∷ xs) (y ∷ ys) u v p q s t e = more_told (x ∷ xs) (y ∷ ys) u v p q s t (ap (λ (w : List ℕ). codes ", " ++ w) e)
 
   -- a list is told by its text
-  pub list_told : Tells (AllByRecursion Fits) (λ xs. joined (map text xs)) (Stops lists)
+  pub list_told : Tells (AllByRecursion Fits) (λ xs. with_commas (map text xs)) (Stops lists)
   list_told = record { each = all_told }

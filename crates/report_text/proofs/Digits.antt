@@ -1,14 +1,15 @@
 -- Numbers in a text: their digits tell them.
-use Rattle.std.proofs.Common.{◌≡◌, ℕ, zero, suc, ◌/◌, ◌%◌, ◌<◌, Bool, true, false, cond, not, ◌||◌, ◌==◌, List, [], ◌∷◌, length, drop, ℤ, pos, negsuc, decimal, refl, sym, ap, subst, arith, eqb}
+use Rattle.std.proofs.Common.{◌≡◌, ℕ, zero, suc, ◌/◌, ◌%◌, ◌<◌, Bool, true, false, cond, not, ◌||◌, ◌==◌, List, [], ◌∷◌}
+use Rattle.std.proofs.Common.{length, drop, ℤ, pos, negsuc, decimal, refl, sym, ap, subst, arith, eqb}
 use Rattle.std.specs.List.{list_all}
 use Rattle.std.specs.Fmt.{signed_decimal, digits, digits_onto, digit_glyph}
 use Rattle.std.specs.Char.{is_ascii_digit}
 use Rattle.std.proofs.lemmas.Fmt.{decimal_injective, decimal_nonempty}
 use Rattle.std.proofs.lemmas.Bool.{and_parts}
 use Rattle.std.proofs.lemmas.Bool.Decides.{nat_tests}
-use Rattle.text_core.proofs.PrefixLaws.{Stops}
+use Rattle.its_model.proofs.text_core.PrefixLaws.{Stops}
 use Rattle.report_text.specs.Printable.{IsShort, IsShortSigned}
-use Rattle.report_text.proofs.Told.{Tells, same_front}
+use Rattle.report_text.proofs.TellingTexts.{Tells, same_front}
 
 -- the bytes of numbers with a sign
 abbrev pub counts : ℕ → Bool

@@ -1,6 +1,7 @@
 -- The lines of an outcome's entries are those of its report.
-use Rattle.proof_nodes.specs.Gaps.{Gap as PlainGap}
-use Rattle.std.proofs.Common.{◌≡◌, ℕ, zero, suc, ◌≤◌, ◌-◌, get_or, arith, Bool, cond, List, [], ◌∷◌, ◌++◌, length, map, codes, refl, sym, ◌∙◌, ap, subst, append_assoc}
+use Rattle.proof_tree.specs.proof_nodes.Gaps.{Gap as PlainGap}
+use Rattle.std.proofs.Common.{◌≡◌, ℕ, zero, suc, ◌≤◌, ◌-◌, get_or, arith, Bool, cond, List, [], ◌∷◌, ◌++◌, length, map}
+use Rattle.std.proofs.Common.{codes, refl, sym, ◌∙◌, ap, subst, append_assoc}
 use Rattle.std.specs.Prelude.{decimal}
 use Rattle.std.specs.List.{list_all}
 use Rattle.model.specs.Programs.{Name, Symbol}
@@ -10,7 +11,7 @@ use Rattle.outcome.specs.declared.entry.TimeEntry.TheVariants as times
 use Rattle.outcome.specs.declared.entry.SizeEntry.{SizeEntry}
 use Rattle.proof_tree.specs.AnswerViews.{gap_of}
 use Rattle.outcome.specs.Views.{time_of, size_of, numbered_gap}
-use Rattle.report_text.specs.Pieces.{numbered}
+use Rattle.report_text.specs.Pieces.{numbered_lines}
 use Rattle.outcome.specs.Reports.{is_timed}
 use Rattle.report_text.specs.Reports.{headline, time_line, size_line, size_lines, why_time, why_size, why_sizes}
 use Rattle.outcome.specs.Printing.{HasItsGap}
@@ -43,31 +44,31 @@ headline_same gaps es = ap (λ (b : Bool). cond b (codes "bounded\n") (codes "un
 
 -- and the lines of all rules
 pub times_same : (names : List Name) (gaps : List Gap) (es : List TimeEntry)
-    → numbered (entry_line names) 1 es ≡ numbered (time_line names) 1 (map (time_of gaps) es)
+    → numbered_lines (entry_line names) 1 es ≡ numbered_lines (time_line names) 1 (map (time_of gaps) es)
 times_same names gaps es = numbered_same (entry_line names) (time_line names) (time_of gaps) (line_of names gaps) 1 es
 
 -- the lines that say why rules have their times are those of the report
 pub why_times_same : (symbols : List Symbol) (gaps : List Gap) (es : List TimeEntry)
-    → numbered (λ rule t. why_time symbols rule (time_of gaps t)) 1 es ≡ numbered (why_time symbols) 1 (map (time_of gaps) es)
+    → numbered_lines (λ rule t. why_time symbols rule (time_of gaps t)) 1 es ≡ numbered_lines (why_time symbols) 1 (map (time_of gaps) es)
 why_times_same symbols gaps es =
     numbered_same (λ rule t. why_time symbols rule (time_of gaps t)) (why_time symbols) (time_of gaps) (λ n e. refl) 1 es
 
 -- the lines of a rule's places, and of the places of all rules
 pub sizes_same : {R : Type 0} (items : R → List SizeEntry) (names : List Name) (rows : List R)
-    → numbered (λ rule row. numbered (λ place s. size_line names rule place (size_of s)) 1 (items row)) 1 rows
-    ≡ numbered (size_lines names) 1 (map (λ row. map size_of (items row)) rows)
+    → numbered_lines (λ rule row. numbered_lines (λ place s. size_line names rule place (size_of s)) 1 (items row)) 1 rows
+    ≡ numbered_lines (size_lines names) 1 (map (λ row. map size_of (items row)) rows)
 sizes_same {R} items names rows =
-    numbered_same (λ rule row. numbered (λ place s. size_line names rule place (size_of s)) 1 (items row)) (size_lines names)
+    numbered_same (λ rule row. numbered_lines (λ place s. size_line names rule place (size_of s)) 1 (items row)) (size_lines names)
     (λ row. map size_of (items row))
     (λ rule row. numbered_same (λ place s. size_line names rule place (size_of s)) (size_line names rule) size_of (λ place s. refl) 1 (items row))
     1 rows
 
 -- the lines that say why places have their sizes are those of the report
 pub why_sizes_same : {R : Type 0} (items : R → List SizeEntry) (rows : List R)
-    → numbered (λ rule row. numbered (λ place s. why_size rule place (size_of s)) 1 (items row)) 1 rows
-    ≡ numbered why_sizes 1 (map (λ row. map size_of (items row)) rows)
+    → numbered_lines (λ rule row. numbered_lines (λ place s. why_size rule place (size_of s)) 1 (items row)) 1 rows
+    ≡ numbered_lines why_sizes 1 (map (λ row. map size_of (items row)) rows)
 why_sizes_same {R} items rows =
-    numbered_same (λ rule row. numbered (λ place s. why_size rule place (size_of s)) 1 (items row)) why_sizes
+    numbered_same (λ rule row. numbered_lines (λ place s. why_size rule place (size_of s)) 1 (items row)) why_sizes
     (λ row. map size_of (items row))
     (λ rule row. numbered_same (λ place s. why_size rule place (size_of s)) (why_size rule) size_of (λ place s. refl) 1 (items row))
     1 rows

@@ -1,15 +1,17 @@
 -- The lines of times, sizes and the total tell what stands behind the colon.
-use Rattle.std.proofs.Common.{◌≡◌, ℕ, ◌+◌, ◌^◌, ◌≤◌, Bool, true, false, cond, List, [], ◌∷◌, ◌++◌, length, get_or, codes, decimal, refl, ap, Option, Some, None, IsSome, arith}
+use Rattle.std.proofs.Common.{◌≡◌, ℕ, ◌+◌, ◌^◌, ◌≤◌, Bool, true, false, cond, List, [], ◌∷◌, ◌++◌, length, get_or}
+use Rattle.std.proofs.Common.{codes, decimal, refl, ap, Option, Some, None, IsSome, arith}
 use Rattle.std.specs.Prelude.{⊤}
 use Rattle.std.specs.List.{AllByRecursion}
 use Rattle.model.specs.Programs.{Name, Program}
 use Rattle.model.specs.Bounds.{Bound}
-use Rattle.text_core.specs.Names.{AreNames}
+use Rattle.its_model.specs.text_core.Names.{AreNames}
 use Rattle.outcome.specs.Reports.{Time, Timed, Untimed, Size, Sized, Unsized}
-use Rattle.report_text.specs.Pieces.{place_text, numbered}
-use Rattle.report_text.specs.Reports.{time_end, time_line, total_line, size_end, size_line, size_lines, bound_end, none_end}
+use Rattle.report_text.specs.Pieces.{place_text, numbered_lines}
+use Rattle.report_text.specs.Reports.{time_end, time_line, total_line, size_end, size_line, size_lines, bound_end}
+use Rattle.report_text.specs.Reports.{none_end}
 use Rattle.report_text.specs.Printable.{IsPrintableTotal}
-use Rattle.report_text.proofs.Told.{inside, inside_three, same_behind}
+use Rattle.report_text.proofs.TellingTexts.{inside, inside_three, same_behind}
 use Rattle.report_text.proofs.BoundLines.{IsLine, lines_same, bound_line, bound_same, none_line}
 use Rattle.report_text.proofs.Numbered.{Pairs, pairs_any, numbered_told}
 
@@ -45,7 +47,7 @@ module _ (names : List Name) (are : AreNames names) where
   size_ends (Unsized w) = none_line
 
   -- the lines of rules
-  pub times_say : (ts ss : List Time) (u v : List ℕ) → length ts ≡ length ss → 1 + length ts ≤ 2 ^ 64 → numbered (time_line names) 1 ts ++ u ≡ numbered (time_line names) 1 ss ++ v
+  pub times_say : (ts ss : List Time) (u v : List ℕ) → length ts ≡ length ss → 1 + length ts ≤ 2 ^ 64 → numbered_lines (time_line names) 1 ts ++ u ≡ numbered_lines (time_line names) 1 ss ++ v
       → Pairs (SaySame names) ts ss × (u ≡ v)
   times_say ts ss u v same few e =
       numbered_told (λ t. ⊤) (λ t s. ⊤) (SaySame names) (λ n w. ⊤) (time_line names)
@@ -65,7 +67,7 @@ module _ (names : List Name) (are : AreNames names) where
   -- the lines of the places of all rules
   pub rows_say : (ts ss : List (List Size)) (u v : List ℕ) → Pairs (λ t s. length t ≡ length s) ts ss → AllByRecursion (λ t. 1 + length t ≤ 2 ^ 64) ts
       → AllByRecursion (λ t. 1 + length t ≤ 2 ^ 64) ss → 1 + length ts ≤ 2 ^ 64 → 1 + length ss ≤ 2 ^ 64
-      → numbered (size_lines names) 1 ts ++ u ≡ numbered (size_lines names) 1 ss ++ v → Pairs (Pairs (SizesSaySame names)) ts ss × (u ≡ v)
+      → numbered_lines (size_lines names) 1 ts ++ u ≡ numbered_lines (size_lines names) 1 ss ++ v → Pairs (Pairs (SizesSaySame names)) ts ss × (u ≡ v)
   rows_say ts ss u v same small also few less e =
       numbered_told (λ t. 1 + length t ≤ 2 ^ 64) (λ t s. length t ≡ length s) (Pairs (SizesSaySame names)) (λ n w. ⊤) (size_lines names)
       (λ n t s w z short p q like k l d. places_say n t s w z like p d)

@@ -1,14 +1,15 @@
 -- The lines of a gap tell it.
-use Rattle.std.proofs.Common.{◌≡◌, ℕ, ◌≤◌, List, [], ◌∷◌, ◌++◌, length, get_or, codes, decimal, refl, sym, ◌∙◌, ap, subst, append_assoc, arith}
+use Rattle.std.proofs.Common.{◌≡◌, ℕ, ◌≤◌, List, [], ◌∷◌, ◌++◌, length, get_or, codes, decimal, refl, sym, ◌∙◌, ap}
+use Rattle.std.proofs.Common.{subst, append_assoc, arith}
 use Rattle.std.specs.Prelude.{⊤}
 use Rattle.std.specs.List.{AllByRecursion}
 use Rattle.model.specs.Programs.{Symbol}
-use Rattle.text_core.specs.Names.{AreNames}
-use Rattle.proof_nodes.specs.Gaps.{ScaledPoint, SymbolPlace, Gap}
+use Rattle.its_model.specs.text_core.Names.{AreNames}
+use Rattle.proof_tree.specs.proof_nodes.Gaps.{ScaledPoint, SymbolPlace, Gap}
 use Rattle.report_text.specs.Pieces.{rules_text, point_text}
 use Rattle.report_text.specs.Reasons.{shut_line, shut_lines, point_line, point_lines, gap_lines, gap_text}
 use Rattle.report_text.specs.Printable.{IsShort, IsPrintablePoint, IsPrintablePlace, IsPrintableGap}
-use Rattle.report_text.proofs.Told.{Tells, Any, told_behind, told_before, told_both, inside}
+use Rattle.report_text.proofs.TellingTexts.{Tells, Any, told_behind, told_before, told_both, inside}
 use Rattle.report_text.proofs.Digits.{number_told}
 use Rattle.report_text.proofs.Points.{rules_told, point_told}
 use Rattle.report_text.proofs.SymbolNames.{names_of, shut_told}

@@ -1,28 +1,29 @@
 -- The texts of the elements of a list, as a loop writes them: what is written and what is left make the whole.
-use Rattle.std.proofs.Common.{◌≡◌, ℕ, suc, ◌+◌, ◌<◌, ◌≤◌, List, [], ◌∷◌, ◌++◌, length, map, drop, get_or, codes, refl, sym, ◌∙◌, ap, append_assoc, arith}
+use Rattle.std.proofs.Common.{◌≡◌, ℕ, suc, ◌+◌, ◌<◌, ◌≤◌, List, [], ◌∷◌, ◌++◌, length, map, drop, get_or, codes, refl}
+use Rattle.std.proofs.Common.{sym, ◌∙◌, ap, append_assoc, arith}
 use Rattle.std.proofs.lemmas.List.{append-nil, at_drop_more}
 use Rattle.std.proofs.Math.ListN.{drop_of_length-le}
 use Rattle.model.specs.Programs.{Symbol}
-use Rattle.proof_nodes.specs.Gaps.{SymbolPlace}
-use Rattle.report_text.specs.Pieces.{goes_on, numbered}
+use Rattle.proof_tree.specs.proof_nodes.Gaps.{SymbolPlace}
+use Rattle.report_text.specs.Pieces.{with_commas_before, numbered_lines}
 use Rattle.report_text.specs.Reasons.{shut_line, shut_lines}
 
 -- the text of one more element behind a comma
 pub goes_on_more : {X : Type 0} (f : X → List ℕ) (xs : List X) (i : ℕ) (d : X) (old new all : List ℕ) → i < length xs
-    → old ++ goes_on (map f (drop i xs)) ≡ all → new ≡ (old ++ codes ", ") ++ f (get_or xs i d)
-    → new ++ goes_on (map f (drop (i + 1) xs)) ≡ all
+    → old ++ with_commas_before (map f (drop i xs)) ≡ all → new ≡ (old ++ codes ", ") ++ f (get_or xs i d)
+    → new ++ with_commas_before (map f (drop (i + 1) xs)) ≡ all
 goes_on_more {X} f xs i d old new all lt inv e =
-    let rest = goes_on (map f (drop (i + 1) xs)) in
-    let step : goes_on (map f (drop i xs)) ≡ codes ", " ++ (f (get_or xs i d) ++ rest) = at_drop_more (λ (ys : List X). goes_on (map f ys)) xs i d lt in
+    let rest = with_commas_before (map f (drop (i + 1) xs)) in
+    let step : with_commas_before (map f (drop i xs)) ≡ codes ", " ++ (f (get_or xs i d) ++ rest) = at_drop_more (λ (ys : List X). with_commas_before (map f ys)) xs i d lt in
     ap (λ (t : List ℕ). t ++ rest) e
     ∙ (append_assoc (old ++ codes ", ") (f (get_or xs i d)) rest
     ∙ (append_assoc old (codes ", ") (f (get_or xs i d) ++ rest) ∙ (ap (λ (t : List ℕ). old ++ t) (sym step) ∙ inv)))
 
 -- behind the last element the text with commas is whole
 pub goes_on_end : {X : Type 0} (f : X → List ℕ) (xs : List X) (i : ℕ) (old all : List ℕ) → length xs ≤ i
-    → old ++ goes_on (map f (drop i xs)) ≡ all → old ≡ all
+    → old ++ with_commas_before (map f (drop i xs)) ≡ all → old ≡ all
 goes_on_end {X} f xs i old all le inv =
-    let step : goes_on (map f (drop i xs)) ≡ [] = ap (λ (ys : List X). goes_on (map f ys)) (drop_of_length-le xs le) in
+    let step : with_commas_before (map f (drop i xs)) ≡ [] = ap (λ (ys : List X). with_commas_before (map f ys)) (drop_of_length-le xs le) in
     sym (append-nil old) ∙ (ap (λ (t : List ℕ). old ++ t) (sym step) ∙ inv)
 
 -- the line of one more shut place
@@ -44,39 +45,39 @@ shut_end {X} symbols f xs i old all le inv =
 
 -- the lines of one more element, by its number
 pub numbered_more : {X : Type 0} (lines : ℕ → X → List ℕ) (xs : List X) (i : ℕ) (d : X) (old new all : List ℕ) → i < length xs
-    → old ++ numbered lines (i + 1) (drop i xs) ≡ all → new ≡ old ++ lines (i + 1) (get_or xs i d)
-    → new ++ numbered lines (i + 1 + 1) (drop (i + 1) xs) ≡ all
+    → old ++ numbered_lines lines (i + 1) (drop i xs) ≡ all → new ≡ old ++ lines (i + 1) (get_or xs i d)
+    → new ++ numbered_lines lines (i + 1 + 1) (drop (i + 1) xs) ≡ all
 numbered_more {X} lines xs i d old new all lt inv e =
     let next : suc (i + 1) ≡ i + 1 + 1 = omega arith in
-    let rest = numbered lines (suc (i + 1)) (drop (i + 1) xs) in
-    let step : numbered lines (i + 1) (drop i xs) ≡ lines (i + 1) (get_or xs i d) ++ rest = at_drop_more (λ (ys : List X). numbered lines (i + 1) ys) xs i d lt in
-    ap (λ (n : ℕ). new ++ numbered lines n (drop (i + 1) xs)) (sym next)
+    let rest = numbered_lines lines (suc (i + 1)) (drop (i + 1) xs) in
+    let step : numbered_lines lines (i + 1) (drop i xs) ≡ lines (i + 1) (get_or xs i d) ++ rest = at_drop_more (λ (ys : List X). numbered_lines lines (i + 1) ys) xs i d lt in
+    ap (λ (n : ℕ). new ++ numbered_lines lines n (drop (i + 1) xs)) (sym next)
     ∙ (ap (λ (t : List ℕ). t ++ rest) e
     ∙ (append_assoc old (lines (i + 1) (get_or xs i d)) rest ∙ (ap (λ (t : List ℕ). old ++ t) (sym step) ∙ inv)))
 
 -- behind the last element the lines by numbers are whole
 pub numbered_end : {X : Type 0} (lines : ℕ → X → List ℕ) (xs : List X) (i : ℕ) (old all : List ℕ) → length xs ≤ i
-    → old ++ numbered lines (i + 1) (drop i xs) ≡ all → old ≡ all
+    → old ++ numbered_lines lines (i + 1) (drop i xs) ≡ all → old ≡ all
 numbered_end {X} lines xs i old all le inv =
-    let step : numbered lines (i + 1) (drop i xs) ≡ [] = ap (λ (ys : List X). numbered lines (i + 1) ys) (drop_of_length-le xs le) in
+    let step : numbered_lines lines (i + 1) (drop i xs) ≡ [] = ap (λ (ys : List X). numbered_lines lines (i + 1) ys) (drop_of_length-le xs le) in
     sym (append-nil old) ∙ (ap (λ (t : List ℕ). old ++ t) (sym step) ∙ inv)
 
 -- elements whose lines are those of what is seen of them
 pub numbered_same : {X Y : Type 0} (f : ℕ → X → List ℕ) (g : ℕ → Y → List ℕ) (view : X → Y) → ((n : ℕ) (x : X) → f n x ≡ g n (view x))
-    → (n : ℕ) (xs : List X) → numbered f n xs ≡ numbered g n (map view xs)
+    → (n : ℕ) (xs : List X) → numbered_lines f n xs ≡ numbered_lines g n (map view xs)
 numbered_same f g view same n [] = refl
 numbered_same f g view same n (x ∷ xs) =
-    ap (λ (t : List ℕ). t ++ numbered f (suc n) xs) (same n x)
+    ap (λ (t : List ℕ). t ++ numbered_lines f (suc n) xs) (same n x)
     ∙ ap (λ (t : List ℕ). g n (view x) ++ t) (numbered_same f g view same (suc n) xs)
 
 -- the lines of one more row
 pub rows_more : {R X : Type 0} (rows : List R) (items : R → List X) (line : ℕ → ℕ → X → List ℕ) (i : ℕ) (d : R) (row : List X)
-    (old new all : List ℕ) → i < length rows → old ++ numbered (λ n r. numbered (line n) 1 (items r)) (i + 1) (drop i rows) ≡ all
-    → row ≡ items d → d ≡ get_or rows i d → new ≡ old ++ numbered (line (i + 1)) 1 row
-    → new ++ numbered (λ n r. numbered (line n) 1 (items r)) (i + 1 + 1) (drop (i + 1) rows) ≡ all
+    (old new all : List ℕ) → i < length rows → old ++ numbered_lines (λ n r. numbered_lines (line n) 1 (items r)) (i + 1) (drop i rows) ≡ all
+    → row ≡ items d → d ≡ get_or rows i d → new ≡ old ++ numbered_lines (line (i + 1)) 1 row
+    → new ++ numbered_lines (λ n r. numbered_lines (line n) 1 (items r)) (i + 1 + 1) (drop (i + 1) rows) ≡ all
 rows_more {R} {X} rows items line i d row old new all lt inv e f g =
-    numbered_more (λ n r. numbered (line n) 1 (items r)) rows i d old new all lt inv
-    (g ∙ ap (λ (xs : List X). old ++ numbered (line (i + 1)) 1 xs) (e ∙ ap items f))
+    numbered_more (λ n r. numbered_lines (line n) 1 (items r)) rows i d old new all lt inv
+    (g ∙ ap (λ (xs : List X). old ++ numbered_lines (line (i + 1)) 1 xs) (e ∙ ap items f))
 
 -- two pieces, and four, behind what stands
 pub two_pushed : (old p q a b c d : List ℕ) → p ≡ old ++ a → a ≡ c → q ≡ p ++ b → b ≡ d → q ≡ old ++ (c ++ d)

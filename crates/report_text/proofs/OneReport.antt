@@ -1,11 +1,12 @@
 -- A text states one report at most: it is read line by line from the front.
-use Rattle.std.proofs.Common.{◌≡◌, ℕ, zero, suc, ◌+◌, ◌^◌, ◌≤◌, List, [], ◌∷◌, ◌++◌, length, map, get_or, drop, slice_get, refl, sym, ◌∙◌, ap, append_assoc, arith}
+use Rattle.std.proofs.Common.{◌≡◌, ℕ, zero, suc, ◌+◌, ◌^◌, ◌≤◌, List, [], ◌∷◌, ◌++◌, length, map, get_or, drop}
+use Rattle.std.proofs.Common.{slice_get, refl, sym, ◌∙◌, ap, append_assoc, arith}
 use Rattle.std.specs.List.{AllByRecursion, list_all}
 use Rattle.model.specs.Programs.{Symbol, Rule, Program, arity_in, arity_of}
-use Rattle.text_core.specs.Names.{AreNames}
+use Rattle.its_model.specs.text_core.Names.{AreNames}
 use Rattle.its_model.specs.Valid.{IsValid, IsValidSymbol}
 use Rattle.outcome.specs.Reports.{Size, Report, is_timed}
-use Rattle.report_text.specs.Pieces.{numbered}
+use Rattle.report_text.specs.Pieces.{numbered_lines}
 use Rattle.report_text.specs.Reports.{headline, time_line, total_line, size_lines, why_time, why_sizes, text_of_report}
 use Rattle.report_text.specs.States.{States}
 use Rattle.report_text.specs.Printable.{IsPrintableSize, IsPrintableReport}
@@ -65,12 +66,12 @@ laid_out a b c d w s =
 
 -- the parts of a report's text
 parts_of : (p : Program) (r : Report) → text_of_report p r
-    ≡ headline r.times ++ (numbered (time_line p.start_names) 1 r.times ++ (total_line p.start_names r.total ++ (numbered (size_lines p.start_names) 1 r.sizes
-    ++ (numbered (why_time p.symbols) 1 r.times ++ numbered why_sizes 1 r.sizes))))
+    ≡ headline r.times ++ (numbered_lines (time_line p.start_names) 1 r.times ++ (total_line p.start_names r.total ++ (numbered_lines (size_lines p.start_names) 1 r.sizes
+    ++ (numbered_lines (why_time p.symbols) 1 r.times ++ numbered_lines why_sizes 1 r.sizes))))
 unfolding text_of_report
 parts_of p r =
-    laid_out (headline r.times) (numbered (time_line p.start_names) 1 r.times) (total_line p.start_names r.total) (numbered (size_lines p.start_names) 1 r.sizes)
-    (numbered (why_time p.symbols) 1 r.times) (numbered why_sizes 1 r.sizes)
+    laid_out (headline r.times) (numbered_lines (time_line p.start_names) 1 r.times) (total_line p.start_names r.total) (numbered_lines (size_lines p.start_names) 1 r.sizes)
+    (numbered_lines (why_time p.symbols) 1 r.times) (numbered_lines why_sizes 1 r.sizes)
 
 -- what the lines of sizes tell: each two entries say the same, they fit, and what follows is the same
 record SizesTold (p : Program) (rs ss : List (List Size)) (u v : List ℕ) : Type 0 where
@@ -92,7 +93,7 @@ module _ (p : Program) (valid : IsValid p) where
 
   -- the lines of a report's reasons
   abbrev reasons : Report → List ℕ
-  reasons r = numbered (why_time p.symbols) 1 r.times ++ numbered why_sizes 1 r.sizes
+  reasons r = numbered_lines (why_time p.symbols) 1 r.times ++ numbered_lines why_sizes 1 r.sizes
 
   -- as many lines as rules are few
   few_lines : (n : ℕ) → n ≡ length p.rules → 1 + n ≤ 2 ^ 64
@@ -100,7 +101,7 @@ module _ (p : Program) (valid : IsValid p) where
 
   -- the sizes of two reports
   rows_told : (r q : Report) → IsPrintableReport p r → IsPrintableReport p q → HasPlaces p r.sizes p.rules → HasPlaces p q.sizes p.rules
-      → numbered (size_lines p.start_names) 1 r.sizes ++ reasons r ≡ numbered (size_lines p.start_names) 1 q.sizes ++ reasons q
+      → numbered_lines (size_lines p.start_names) 1 r.sizes ++ reasons r ≡ numbered_lines (size_lines p.start_names) 1 q.sizes ++ reasons q
       → SizesTold p r.sizes q.sizes (reasons r) (reasons q)
   rows_told r q f g a b e =
       let left = rows_short p valid r.sizes p.rules a in
@@ -114,9 +115,9 @@ module _ (p : Program) (valid : IsValid p) where
   same_report : (text : List ℕ) (r q : Report) → IsPrintableReport p r → IsPrintableReport p q → States p text r → States p text q → r ≡ q
   same_report text r q f g s t =
       let names = p.start_names in
-      let sizes = λ (o : Report). numbered (size_lines names) 1 o.sizes ++ reasons o in
+      let sizes = λ (o : Report). numbered_lines (size_lines names) 1 o.sizes ++ reasons o in
       let total = λ (o : Report). total_line names o.total ++ sizes o in
-      let times = λ (o : Report). numbered (time_line names) 1 o.times ++ total o in
+      let times = λ (o : Report). numbered_lines (time_line names) 1 o.times ++ total o in
       let head = headline_told (list_all is_timed r.times) (list_all is_timed q.times) (times r) (times q) (sym (parts_of p r) ∙ (sym s.text_of ∙ (t.text_of ∙ parts_of p q))) in
       let few = few_lines (length r.times) s.report.times in
       let less = few_lines (length q.times) t.report.times in
@@ -124,7 +125,7 @@ module _ (p : Program) (valid : IsValid p) where
       let whole = total_told p starts r.total q.total (sizes r) (sizes q) f.total g.total
       (λ there. t.report.total.0 (sym head.0 ∙ s.report.total.1 there)) (λ there. s.report.total.0 (head.0 ∙ t.report.total.1 there)) said.1 in
       let rows = rows_told r q f g s.report.sizes t.report.sizes whole.1 in
-      let why = why_times_told p starts named r.times q.times (numbered why_sizes 1 r.sizes) (numbered why_sizes 1 q.sizes) few less f.times g.times said.0
+      let why = why_times_told p starts named r.times q.times (numbered_lines why_sizes 1 r.sizes) (numbered_lines why_sizes 1 q.sizes) few less f.times g.times said.0
       (λ n. sizes_no_time n 1 r.sizes) (λ n. sizes_no_time n 1 q.sizes) rows.rest in
       let places = why_sizes_told p starts named r.sizes q.sizes rows.few rows.less rows.left rows.right rows.say why.1 in
       λ i. record { times = why.0 i; total = whole.0 i; sizes = places i }

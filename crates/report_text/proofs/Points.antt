@@ -3,10 +3,10 @@ use Rattle.std.proofs.Common.{ℕ, ℤ, List, ◌++◌, map, codes, decimal, ref
 use Rattle.std.specs.List.{AllByRecursion}
 use Rattle.std.specs.Fmt.{signed_decimal}
 use Rattle.std.proofs.lemmas.Fmt.{decimal_nonempty}
-use Rattle.text_core.proofs.PrefixLaws.{Stops}
-use Rattle.report_text.specs.Pieces.{joined, rules_text, parts_text, point_text, place_text, spot_text}
+use Rattle.its_model.proofs.text_core.PrefixLaws.{Stops}
+use Rattle.report_text.specs.Pieces.{with_commas, rules_text, parts_text, point_text, place_text, spot_text}
 use Rattle.report_text.specs.Printable.{IsShort, IsShortSigned, IsPrintablePoint, IsPrintableSpot}
-use Rattle.report_text.proofs.Told.{Tells, Any, told_behind, told_before, told_both}
+use Rattle.report_text.proofs.TellingTexts.{Tells, Any, told_behind, told_before, told_both}
 use Rattle.report_text.proofs.Digits.{counts, all_count, number_told, signed_count, signed_some, signed_told}
 use Rattle.report_text.proofs.Commas.{lists, list_told}
 
@@ -17,7 +17,7 @@ rules_told = list_told number_told all_count decimal_nonempty
 -- the numbers of a point or a ray
 pub parts_told : Tells (AllByRecursion IsShortSigned) parts_text Any
 parts_told =
-    let inner : Tells (AllByRecursion IsShortSigned) (λ parts. joined (map signed_decimal parts)) (Stops lists) = list_told signed_told signed_count signed_some in
+    let inner : Tells (AllByRecursion IsShortSigned) (λ parts. with_commas (map signed_decimal parts)) (Stops lists) = list_told signed_told signed_count signed_some in
     told_behind (told_before inner (codes ")") Any (λ u s. refl)) (codes "(")
 
 -- a point

@@ -1,13 +1,13 @@
 -- The limits that linear programs passed tell what they are.
 use Rattle.std.proofs.Common.{◌≡◌, ℕ, List, ◌++◌, get_or, codes, decimal, refl, sym, ◌∙◌, ap, arith}
-use Rattle.text_core.proofs.PrefixLaws.{Stops}
+use Rattle.its_model.proofs.text_core.PrefixLaws.{Stops}
 use Rattle.proof_tree.specs.declared.answer.Question.{Question}
 use Rattle.proof_tree.specs.declared.answer.Question.TheVariants as questions
-use Rattle.proof_tree.specs.declared.answer.TripCause.{TripCause}
-use Rattle.proof_tree.specs.declared.answer.TripCause.TheVariants as causes
+use Rattle.farkas_cert.specs.linear_forms.declared.trip_cause.TripCause.{TripCause}
+use Rattle.farkas_cert.specs.linear_forms.declared.trip_cause.TripCause.TheVariants as causes
 use Rattle.report_text.specs.Reasons.{question_text, cause_text, trip_text, large_text}
 use Rattle.report_text.specs.Printable.{IsShort, IsPrintableQuestion, IsPrintableCause, IsPrintableTrip}
-use Rattle.report_text.proofs.Told.{Tells, Any, told_behind, told_before, told_both, same_behind}
+use Rattle.report_text.proofs.TellingTexts.{Tells, Any, told_behind, told_before, told_both, same_behind}
 use Rattle.report_text.proofs.Digits.{counts, number_told}
 use Rattle.report_text.proofs.Points.{pair_told}
 

@@ -1,19 +1,22 @@
 -- The reasons why times and sizes are missing tell what they are.
-use Rattle.std.proofs.Common.{◌≡◌, ℕ, ◌&&◌, ◌==◌, if◌then◌else◌, List, ◌++◌, length, ℤ, get_or, codes, decimal, refl, sym, ◌∙◌, ap, arith}
+use Rattle.std.proofs.Common.{◌≡◌, ℕ, ◌&&◌, ◌==◌, if◌then◌else◌, List, ◌++◌, length, ℤ, get_or, codes, decimal, refl}
+use Rattle.std.proofs.Common.{sym, ◌∙◌, ap, arith}
 use Rattle.std.specs.Prelude.{⊤}
 use Rattle.std.specs.List.{AllByRecursion}
 use Rattle.model.specs.Programs.{Symbol}
-use Rattle.text_core.specs.Names.{AreNames}
+use Rattle.its_model.specs.text_core.Names.{AreNames}
 use Rattle.proof_tree.specs.declared.answer.Question.{Question}
 use Rattle.proof_tree.specs.declared.answer.Question.TheVariants as questions
-use Rattle.proof_nodes.specs.Gaps.{ScaledPoint}
-use Rattle.proof_nodes.specs.AcceptsSizes.{Side, Up, Low}
+use Rattle.proof_tree.specs.proof_nodes.Gaps.{ScaledPoint}
+use Rattle.proof_tree.specs.proof_nodes.AcceptsSizes.{Side, Up, Low}
 use Rattle.outcome.specs.Reports.{NoTime, NoFunction, TimeTripped, TimeLarge}
-use Rattle.outcome.specs.Reports.{NoSize, IsLoose, SizeTripped, IsMissing, IsBent, LacksTime, SizeLarge}
+use Rattle.outcome.specs.Reports.{NoSize, SizeLoose, SizeTripped, SizeMissing, SizeBent, SizeUntimed, SizeLarge}
 use Rattle.report_text.specs.Pieces.{parts_text, point_text, spot_text}
-use Rattle.report_text.specs.Reasons.{question_text, cause_text, trip_text, large_text, side_text, no_time_text, no_size_text}
-use Rattle.report_text.specs.Printable.{IsShort, IsShortSigned, IsPrintablePoint, IsPrintableTrip, IsPrintableSpot, IsPrintableNoTime, IsPrintableNoSize}
-use Rattle.report_text.proofs.Told.{Tells, Any, told_behind, told_before, told_both, same_behind}
+use Rattle.report_text.specs.Reasons.{question_text, cause_text, trip_text, large_text, side_text, no_time_text}
+use Rattle.report_text.specs.Reasons.{no_size_text}
+use Rattle.report_text.specs.Printable.{IsShort, IsShortSigned, IsPrintablePoint, IsPrintableTrip, IsPrintableSpot}
+use Rattle.report_text.specs.Printable.{IsPrintableNoTime, IsPrintableNoSize}
+use Rattle.report_text.proofs.TellingTexts.{Tells, Any, told_behind, told_before, told_both, same_behind}
 use Rattle.report_text.proofs.Digits.{number_told}
 use Rattle.report_text.proofs.Points.{parts_told, point_told, spot_told}
 use Rattle.report_text.proofs.Questions.{trip_told, large_told}
@@ -50,11 +53,11 @@ size_kind w =
 
 -- the same of the reason
 abbrev kind_of_size : NoSize → ℕ
-kind_of_size (IsLoose side ray kept) = 0
+kind_of_size (SizeLoose side ray kept) = 0
 kind_of_size (SizeTripped t) = 1
-kind_of_size (IsMissing s) = 2
-kind_of_size (IsBent s) = 3
-kind_of_size (LacksTime rule) = 4
+kind_of_size (SizeMissing s) = 2
+kind_of_size (SizeBent s) = 3
+kind_of_size (SizeUntimed rule) = 4
 kind_of_size (SizeLarge nodes) = 5
 
 -- the text shows the kind of the reason why a time is missing
@@ -70,17 +73,17 @@ time_kind_is symbols (TimeLarge nodes) u = refl
 
 -- the text shows the kind of the reason why a size is missing
 size_kind_is : (x : NoSize) (u : List ℕ) → size_kind (no_size_text x ++ u) ≡ kind_of_size x
-size_kind_is (IsLoose Up ray kept) u = refl
-size_kind_is (IsLoose Low ray kept) u = refl
+size_kind_is (SizeLoose Up ray kept) u = refl
+size_kind_is (SizeLoose Low ray kept) u = refl
 size_kind_is (SizeTripped t) u = go t.question
   where
     go : (q : Question) → size_kind (((question_text q ++ (codes " " ++ cause_text t.cause)) ++ codes "\n") ++ u) ≡ 1
     go (questions.Empty rule) = refl
     go (questions.Rank rule) = refl
     go (questions.Local rule place) = refl
-size_kind_is (IsMissing s) u = refl
-size_kind_is (IsBent s) u = refl
-size_kind_is (LacksTime rule) u = refl
+size_kind_is (SizeMissing s) u = refl
+size_kind_is (SizeBent s) u = refl
+size_kind_is (SizeUntimed rule) u = refl
 size_kind_is (SizeLarge nodes) u = refl
 
 -- why a time is missing
@@ -123,12 +126,12 @@ pub no_size_told : Tells IsPrintableNoSize no_size_text Any
 no_size_told = record { each = λ x y u v p q s t e. go x y u v p q e (sym (size_kind_is x u) ∙ (ap size_kind e ∙ size_kind_is y v)) }
   where
     go : (x y : NoSize) (u v : List ℕ) → IsPrintableNoSize x → IsPrintableNoSize y → no_size_text x ++ u ≡ no_size_text y ++ v → kind_of_size x ≡ kind_of_size y → (x ≡ y) × (u ≡ v)
-    go (IsLoose a r k) (IsLoose b o l) u v p q e same =
+    go (SizeLoose a r k) (SizeLoose b o l) u v p q e same =
         let w = (told_both side_told loose_told (λ z w fits after. tt)).each (a, (r, k)) (b, (o, l)) u v (tt, p) (tt, q) tt tt e in
-        (ap (λ (z : Side × (List ℤ × ScaledPoint)). IsLoose z.0 z.1.0 z.1.1) w.0, w.1)
+        (ap (λ (z : Side × (List ℤ × ScaledPoint)). SizeLoose z.0 z.1.0 z.1.1) w.0, w.1)
     go (SizeTripped a) (SizeTripped b) u v p q e same = let r = ended_trip.each a b u v p q tt tt e in (ap SizeTripped r.0, r.1)
-    go (IsMissing a) (IsMissing b) u v p q e same = let r = (spotted (codes "missing ")).each a b u v p q tt tt e in (ap IsMissing r.0, r.1)
-    go (IsBent a) (IsBent b) u v p q e same = let r = (spotted (codes "bent ")).each a b u v p q tt tt e in (ap IsBent r.0, r.1)
-    go (LacksTime m) (LacksTime n) u v p q e same = let r = (ruled (codes "untimed ")).each m n u v p q tt tt e in (ap LacksTime r.0, r.1)
+    go (SizeMissing a) (SizeMissing b) u v p q e same = let r = (spotted (codes "missing ")).each a b u v p q tt tt e in (ap SizeMissing r.0, r.1)
+    go (SizeBent a) (SizeBent b) u v p q e same = let r = (spotted (codes "bent ")).each a b u v p q tt tt e in (ap SizeBent r.0, r.1)
+    go (SizeUntimed m) (SizeUntimed n) u v p q e same = let r = (ruled (codes "untimed ")).each m n u v p q tt tt e in (ap SizeUntimed r.0, r.1)
     go (SizeLarge m) (SizeLarge n) u v p q e same = let r = ended_large.each m n u v p q tt tt e in (ap SizeLarge r.0, r.1)
     go x y u v p q e same = absurd (omega (arith, same))

@@ -1,6 +1,7 @@
 -- The places of symbols tell what they are: symbols have names that differ, and a place's number stands behind the last
 -- dot.
-use Rattle.std.proofs.Common.{◌≡◌, ℕ, zero, suc, ◌<◌, true, List, [], ◌∷◌, ◌++◌, length, map, get_or, drop, slice_get, slice_index_or, codes, decimal, refl, sym, ◌∙◌, ap, subst, append_assoc, arith}
+use Rattle.std.proofs.Common.{◌≡◌, ℕ, zero, suc, ◌<◌, true, List, [], ◌∷◌, ◌++◌, length, map, get_or, drop, slice_get}
+use Rattle.std.proofs.Common.{slice_index_or, codes, decimal, refl, sym, ◌∙◌, ap, subst, append_assoc, arith}
 use Rattle.std.specs.List.{list_all, AllByRecursion}
 use Rattle.std.specs.Char.{is_ascii_digit}
 use Rattle.std.proofs.lemmas.Bool.{and_parts}
@@ -9,13 +10,13 @@ use Rattle.std.proofs.lemmas.Fmt.{decimal_injective}
 use Rattle.std.proofs.lemmas.List.{length-map}
 use Rattle.std.proofs.lemmas.List.Folds.{list_all-append}
 use Rattle.model.specs.Programs.{Name, Symbol}
-use Rattle.text_core.specs.Names.{begins_name, continues_name, IsName, AreNames, AreDistinct, position_of}
-use Rattle.text_core.proofs.PositionLaws.{listed_name, position_at}
+use Rattle.its_model.specs.text_core.Names.{begins_name, continues_name, IsName, AreNames, AreDistinct, position_of}
+use Rattle.its_model.proofs.text_core.PositionLaws.{listed_name, position_at}
 use Rattle.its_model.specs.Valid.{IsValidSymbol}
-use Rattle.proof_nodes.specs.Gaps.{SymbolPlace}
+use Rattle.proof_tree.specs.proof_nodes.Gaps.{SymbolPlace}
 use Rattle.report_text.specs.Reasons.{name_in, shut_line}
 use Rattle.report_text.specs.Printable.{IsPrintablePlace}
-use Rattle.report_text.proofs.Told.{Tells, Any, same_front, inside}
+use Rattle.report_text.proofs.TellingTexts.{Tells, Any, same_front, inside}
 use Rattle.report_text.proofs.Digits.{is_plain, all_weaker, all_digits, all_plain}
 
 -- the names of symbols

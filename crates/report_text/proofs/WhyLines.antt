@@ -1,15 +1,16 @@
 -- The lines that say why times and sizes are missing tell which are, and why.
-use Rattle.std.proofs.Common.{◌≡◌, ℕ, suc, ◌+◌, ◌^◌, ◌<◌, ◌≤◌, List, [], ◌∷◌, ◌++◌, length, get_or, codes, decimal, refl, sym, ◌∙◌, ap, append_assoc, append-nil, arith}
+use Rattle.std.proofs.Common.{◌≡◌, ℕ, suc, ◌+◌, ◌^◌, ◌<◌, ◌≤◌, List, [], ◌∷◌, ◌++◌, length, get_or, codes, decimal}
+use Rattle.std.proofs.Common.{refl, sym, ◌∙◌, ap, append_assoc, append-nil, arith}
 use Rattle.std.specs.List.{AllByRecursion}
 use Rattle.model.specs.Programs.{Program}
-use Rattle.text_core.specs.Names.{AreNames}
-use Rattle.text_core.proofs.PrefixLaws.{Stops}
+use Rattle.its_model.specs.text_core.Names.{AreNames}
+use Rattle.its_model.proofs.text_core.PrefixLaws.{Stops}
 use Rattle.outcome.specs.Reports.{Time, Timed, Untimed, Size, Sized, Unsized}
-use Rattle.report_text.specs.Pieces.{place_text, numbered}
+use Rattle.report_text.specs.Pieces.{place_text, numbered_lines}
 use Rattle.report_text.specs.Reasons.{no_time_text, no_size_text}
 use Rattle.report_text.specs.Reports.{why_time, why_size, why_sizes}
 use Rattle.report_text.specs.Printable.{IsShort, IsPrintableTime, IsPrintableSize}
-use Rattle.report_text.proofs.Told.{Tells, Any, told_before, same_behind, inside, inside_three}
+use Rattle.report_text.proofs.TellingTexts.{Tells, Any, told_before, same_behind, inside, inside_three}
 use Rattle.report_text.proofs.Digits.{counts, number_told}
 use Rattle.report_text.proofs.Points.{pair_told}
 use Rattle.report_text.proofs.SymbolNames.{names_of}
@@ -75,7 +76,7 @@ module _ (p : Program) (are : AreNames p.start_names) (named : AreNames (names_o
   -- why all times are missing that are
   pub why_times_told : (ts ss : List Time) (u v : List ℕ) → 1 + length ts ≤ 2 ^ 64 → 1 + length ss ≤ 2 ^ 64 → AllByRecursion (IsPrintableTime p) ts → AllByRecursion (IsPrintableTime p) ss
       → Pairs (SaySame p.start_names) ts ss → ((n : ℕ) → IsLater (time_lead n) u) → ((n : ℕ) → IsLater (time_lead n) v)
-      → numbered (why_time p.symbols) 1 ts ++ u ≡ numbered (why_time p.symbols) 1 ss ++ v → (ts ≡ ss) × (u ≡ v)
+      → numbered_lines (why_time p.symbols) 1 ts ++ u ≡ numbered_lines (why_time p.symbols) 1 ss ++ v → (ts ≡ ss) × (u ≡ v)
   why_times_told ts ss u v few less f g like k l e =
       let r = numbered_told (IsPrintableTime p) (SaySame p.start_names) (λ t s. t ≡ s) (λ n w. IsLater (time_lead n) w) (why_time p.symbols) time_step time_later 1 ts ss u v few less f g like k l e in
       (pairs_same ts ss r.0, r.1)
@@ -115,13 +116,13 @@ place_from_row rule n u h = record {
 }
 
 -- the reasons of the places of a later rule are later
-row_later : (n m k : ℕ) (row : List Size) (u : List ℕ) → n < m → m < 2 ^ 64 → IsLater (row_lead n) u → IsLater (row_lead n) (numbered (why_size m) k row ++ u)
+row_later : (n m k : ℕ) (row : List Size) (u : List ℕ) → n < m → m < 2 ^ 64 → IsLater (row_lead n) u → IsLater (row_lead n) (numbered_lines (why_size m) k row ++ u)
 row_later n m k [] u over short h = h
 row_later n m k (Sized b ∷ row) u over short h = row_later n m (suc k) row u over short h
 row_later n m k (Unsized w ∷ row) u over short h = record {
   whys = refl;
   no = λ x e.
-      let more = numbered (why_size m) (suc k) row in
+      let more = numbered_lines (why_size m) (suc k) row in
       let spot = decimal m ++ (codes "." ++ decimal k) in
       let words = codes ": " ++ no_size_text w in
       let behind : ((spot ++ words) ++ more) ++ u ≡ (decimal n ++ codes ".") ++ x = same_behind (codes "why size ") (((spot ++ words) ++ more) ++ u) ((decimal n ++ codes ".") ++ x) e in
@@ -133,18 +134,18 @@ row_later n m k (Unsized w ∷ row) u over short h = record {
 }
 
 -- the reasons of places are none of rules
-row_no_time : (n rule k : ℕ) (row : List Size) (u : List ℕ) → IsLater (time_lead n) u → IsLater (time_lead n) (numbered (why_size rule) k row ++ u)
+row_no_time : (n rule k : ℕ) (row : List Size) (u : List ℕ) → IsLater (time_lead n) u → IsLater (time_lead n) (numbered_lines (why_size rule) k row ++ u)
 row_no_time n rule k [] u h = h
 row_no_time n rule k (Sized b ∷ row) u h = row_no_time n rule (suc k) row u h
 row_no_time n rule k (Unsized w ∷ row) u h = record { whys = refl; no = λ x e. let no : 115 ≡ 116 = ap (λ (y : List ℕ). get_or y 4 0) e in omega (arith, no) }
 
 -- nor are those of all places
-pub sizes_no_time : (n k : ℕ) (rows : List (List Size)) → IsLater (time_lead n) (numbered why_sizes k rows)
+pub sizes_no_time : (n k : ℕ) (rows : List (List Size)) → IsLater (time_lead n) (numbered_lines why_sizes k rows)
 sizes_no_time n k [] = record { whys = tt; no = λ x e. cc }
-sizes_no_time n k (row ∷ rows) = row_no_time n k 1 row (numbered why_sizes (suc k) rows) (sizes_no_time n (suc k) rows)
+sizes_no_time n k (row ∷ rows) = row_no_time n k 1 row (numbered_lines why_sizes (suc k) rows) (sizes_no_time n (suc k) rows)
 
 -- after the reasons of times there are reasons alone
-pub whys_times : (p : Program) (n : ℕ) (ts : List Time) (u : List ℕ) → Whys u → Whys (numbered (why_time p.symbols) n ts ++ u)
+pub whys_times : (p : Program) (n : ℕ) (ts : List Time) (u : List ℕ) → Whys u → Whys (numbered_lines (why_time p.symbols) n ts ++ u)
 whys_times p n [] u h = h
 whys_times p n (Timed b ∷ ts) u h = whys_times p (suc n) ts u h
 whys_times p n (Untimed w ∷ ts) u h = refl
@@ -164,9 +165,9 @@ module _ (p : Program) (are : AreNames p.start_names) (named : AreNames (names_o
 
   -- why all sizes are missing that are
   pub why_sizes_told : (rs ss : List (List Size)) → 1 + length rs ≤ 2 ^ 64 → 1 + length ss ≤ 2 ^ 64 → AllByRecursion (FitsRow p) rs → AllByRecursion (FitsRow p) ss
-      → Pairs (Pairs (SizesSaySame p.start_names)) rs ss → numbered why_sizes 1 rs ≡ numbered why_sizes 1 ss → rs ≡ ss
+      → Pairs (Pairs (SizesSaySame p.start_names)) rs ss → numbered_lines why_sizes 1 rs ≡ numbered_lines why_sizes 1 ss → rs ≡ ss
   why_sizes_told rs ss few less f g like e =
       pairs_same rs ss
       (numbered_told (FitsRow p) (Pairs (SizesSaySame p.start_names)) (λ r s. r ≡ s) (λ n w. IsLater (row_lead n) w) why_sizes row_step (λ n m row u over short h. row_later n m 1 row u over short h)
       1 rs ss [] [] few less f g like (λ m. record { whys = tt; no = λ w e. cc }) (λ m. record { whys = tt; no = λ w e. cc })
-      (append-nil (numbered why_sizes 1 rs) ∙ (e ∙ sym (append-nil (numbered why_sizes 1 ss))))).0
+      (append-nil (numbered_lines why_sizes 1 rs) ∙ (e ∙ sym (append-nil (numbered_lines why_sizes 1 ss))))).0

@@ -9,3 +9,5 @@ pub mod OneReport
 pub mod WorkedTexts
 -- what the contracts of the functions inside cite
 pub mod Conditions
+-- the crates below, which callers name through this one
+pub use Rattle.bound_text.specs as bound_text

@@ -1,26 +1,26 @@
 -- What the lines of a report are made of.
 use Rattle.std.specs.Prelude.{ℕ, suc, List, [], ◌∷◌, ◌++◌, ℤ, map, codes, decimal}
 use Rattle.std.specs.Fmt.{signed_decimal}
-use Rattle.proof_nodes.specs.Nodes.{Spot}
-use Rattle.proof_nodes.specs.Gaps.{ScaledPoint}
+use Rattle.proof_tree.specs.proof_nodes.Nodes.{Spot}
+use Rattle.proof_tree.specs.proof_nodes.Gaps.{ScaledPoint}
 
 -- a comma and a blank before each word
-abbrev pub goes_on : List (List ℕ) → List ℕ
-goes_on [] = []
-goes_on (word ∷ words) = codes ", " ++ (word ++ goes_on words)
+abbrev pub with_commas_before : List (List ℕ) → List ℕ
+with_commas_before [] = []
+with_commas_before (word ∷ words) = codes ", " ++ (word ++ with_commas_before words)
 
 -- the words, with a comma and a blank between them
-abbrev pub joined : List (List ℕ) → List ℕ
-joined [] = []
-joined (word ∷ words) = word ++ goes_on words
+abbrev pub with_commas : List (List ℕ) → List ℕ
+with_commas [] = []
+with_commas (word ∷ words) = word ++ with_commas_before words
 
 -- the numbers of rules
 abbrev pub rules_text : List ℕ → List ℕ
-rules_text rules = joined (map decimal rules)
+rules_text rules = with_commas (map decimal rules)
 
 -- the numbers of a point or a ray, in brackets
 abbrev pub parts_text : List ℤ → List ℕ
-parts_text parts = codes "(" ++ (joined (map signed_decimal parts) ++ codes ")")
+parts_text parts = codes "(" ++ (with_commas (map signed_decimal parts) ++ codes ")")
 
 -- a point: its numbers over their denominator
 abbrev pub point_text : ScaledPoint → List ℕ
@@ -34,6 +34,6 @@ abbrev pub spot_text : Spot → List ℕ
 spot_text s = place_text s.rule s.place
 
 -- for each element its lines, by its number, counted up from the first one's
-abbrev pub numbered : {X : Type 0} → (ℕ → X → List ℕ) → ℕ → List X → List ℕ
-numbered lines n [] = []
-numbered lines n (x ∷ xs) = lines n x ++ numbered lines (suc n) xs
+abbrev pub numbered_lines : {X : Type 0} → (ℕ → X → List ℕ) → ℕ → List X → List ℕ
+numbered_lines lines n [] = []
+numbered_lines lines n (x ∷ xs) = lines n x ++ numbered_lines lines (suc n) xs

@@ -10,15 +10,15 @@ use Rattle.model.specs.Bounds.{Bound}
 use Rattle.bound_expr.specs.Tidy.{IsTidy}
 use Rattle.bound_expr.specs.Numbers.{ReadsBelow}
 use Rattle.bound_text.specs.Texts.{FitsTypes}
-use Rattle.proof_nodes.specs.Nodes.{Spot}
-use Rattle.proof_nodes.specs.Gaps.{ScaledPoint, SymbolPlace, Gap}
+use Rattle.proof_tree.specs.proof_nodes.Nodes.{Spot}
+use Rattle.proof_tree.specs.proof_nodes.Gaps.{ScaledPoint, SymbolPlace, Gap}
 use Rattle.proof_tree.specs.declared.answer.Question.{Question}
 use Rattle.proof_tree.specs.declared.answer.Question.TheVariants as questions
-use Rattle.proof_tree.specs.declared.answer.TripCause.{TripCause}
-use Rattle.proof_tree.specs.declared.answer.TripCause.TheVariants as causes
+use Rattle.farkas_cert.specs.linear_forms.declared.trip_cause.TripCause.{TripCause}
+use Rattle.farkas_cert.specs.linear_forms.declared.trip_cause.TripCause.TheVariants as causes
 use Rattle.proof_tree.specs.declared.answer.Trip.{Trip}
 use Rattle.outcome.specs.Reports.{NoTime, NoFunction, TimeTripped, TimeLarge, Time, Timed, Untimed}
-use Rattle.outcome.specs.Reports.{NoSize, IsLoose, SizeTripped, IsMissing, IsBent, LacksTime, SizeLarge}
+use Rattle.outcome.specs.Reports.{NoSize, SizeLoose, SizeTripped, SizeMissing, SizeBent, SizeUntimed, SizeLarge}
 use Rattle.outcome.specs.Reports.{Size, Sized, Unsized, Report}
 
 -- a number has 64 bits
@@ -88,11 +88,11 @@ IsPrintableNoTime n (TimeLarge nodes) = IsShort nodes
 
 -- a reason why a size is missing is printable
 abbrev pub IsPrintableNoSize : NoSize → Type 0
-IsPrintableNoSize (IsLoose side ray kept) = AllByRecursion IsShortSigned ray × IsPrintablePoint kept
+IsPrintableNoSize (SizeLoose side ray kept) = AllByRecursion IsShortSigned ray × IsPrintablePoint kept
 IsPrintableNoSize (SizeTripped t) = IsPrintableTrip t
-IsPrintableNoSize (IsMissing s) = IsPrintableSpot s
-IsPrintableNoSize (IsBent s) = IsPrintableSpot s
-IsPrintableNoSize (LacksTime rule) = IsShort rule
+IsPrintableNoSize (SizeMissing s) = IsPrintableSpot s
+IsPrintableNoSize (SizeBent s) = IsPrintableSpot s
+IsPrintableNoSize (SizeUntimed rule) = IsShort rule
 IsPrintableNoSize (SizeLarge nodes) = IsShort nodes
 
 -- a time is printable on a program

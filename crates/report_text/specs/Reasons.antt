@@ -3,13 +3,13 @@ use Rattle.std.specs.Prelude.{ℕ, List, [], ◌∷◌, ◌++◌, Option, Some, 
 use Rattle.model.specs.Programs.{Name, Symbol}
 use Rattle.proof_tree.specs.declared.answer.Question.{Question}
 use Rattle.proof_tree.specs.declared.answer.Question.TheVariants as questions
-use Rattle.proof_tree.specs.declared.answer.TripCause.{TripCause}
-use Rattle.proof_tree.specs.declared.answer.TripCause.TheVariants as causes
+use Rattle.farkas_cert.specs.linear_forms.declared.trip_cause.TripCause.{TripCause}
+use Rattle.farkas_cert.specs.linear_forms.declared.trip_cause.TripCause.TheVariants as causes
 use Rattle.proof_tree.specs.declared.answer.Trip.{Trip}
-use Rattle.proof_nodes.specs.Gaps.{ScaledPoint, SymbolPlace, Gap}
-use Rattle.proof_nodes.specs.AcceptsSizes.{Side, Up, Low}
+use Rattle.proof_tree.specs.proof_nodes.Gaps.{ScaledPoint, SymbolPlace, Gap}
+use Rattle.proof_tree.specs.proof_nodes.AcceptsSizes.{Side, Up, Low}
 use Rattle.outcome.specs.Reports.{NoTime, NoFunction, TimeTripped, TimeLarge}
-use Rattle.outcome.specs.Reports.{NoSize, IsLoose, SizeTripped, IsMissing, IsBent, LacksTime, SizeLarge}
+use Rattle.outcome.specs.Reports.{NoSize, SizeLoose, SizeTripped, SizeMissing, SizeBent, SizeUntimed, SizeLarge}
 use Rattle.report_text.specs.Pieces.{rules_text, parts_text, point_text, place_text, spot_text}
 
 -- what a linear program was asked
@@ -81,10 +81,10 @@ side_text Low = codes "loose low\n"
 
 -- why a size is missing
 abbrev pub no_size_text : NoSize → List ℕ
-no_size_text (IsLoose side ray kept) =
+no_size_text (SizeLoose side ray kept) =
     side_text side ++ (codes "  ray: " ++ (parts_text ray ++ (codes "\n  kept: " ++ (point_text kept ++ codes "\n"))))
 no_size_text (SizeTripped t) = trip_text t ++ codes "\n"
-no_size_text (IsMissing s) = codes "missing " ++ (spot_text s ++ codes "\n")
-no_size_text (IsBent s) = codes "bent " ++ (spot_text s ++ codes "\n")
-no_size_text (LacksTime rule) = codes "untimed " ++ (decimal rule ++ codes "\n")
+no_size_text (SizeMissing s) = codes "missing " ++ (spot_text s ++ codes "\n")
+no_size_text (SizeBent s) = codes "bent " ++ (spot_text s ++ codes "\n")
+no_size_text (SizeUntimed rule) = codes "untimed " ++ (decimal rule ++ codes "\n")
 no_size_text (SizeLarge nodes) = large_text nodes ++ codes "\n"

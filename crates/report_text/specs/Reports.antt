@@ -6,7 +6,7 @@ use Rattle.model.specs.Programs.{Name, Symbol, Program}
 use Rattle.model.specs.Bounds.{Bound}
 use Rattle.bound_text.specs.Texts.{text_of}
 use Rattle.outcome.specs.Reports.{Time, Timed, Untimed, Size, Sized, Unsized, Report, is_timed}
-use Rattle.report_text.specs.Pieces.{place_text, numbered}
+use Rattle.report_text.specs.Pieces.{place_text, numbered_lines}
 use Rattle.report_text.specs.Reasons.{no_time_text, no_size_text}
 
 -- the first line says whether every rule has a time
@@ -45,7 +45,7 @@ abbrev pub size_line : List Name → ℕ → ℕ → Size → List ℕ
 size_line names rule place s = codes "size " ++ (place_text rule place ++ (codes ": " ++ size_end names s))
 
 abbrev pub size_lines : List Name → ℕ → List Size → List ℕ
-size_lines names rule sizes = numbered (size_line names rule) 1 sizes
+size_lines names rule sizes = numbered_lines (size_line names rule) 1 sizes
 
 -- why the time of a rule is missing, if it is
 abbrev pub why_time : List Symbol → ℕ → Time → List ℕ
@@ -58,17 +58,17 @@ why_size rule place (Sized b) = []
 why_size rule place (Unsized w) = codes "why size " ++ (place_text rule place ++ (codes ": " ++ no_size_text w))
 
 abbrev pub why_sizes : ℕ → List Size → List ℕ
-why_sizes rule sizes = numbered (why_size rule) 1 sizes
+why_sizes rule sizes = numbered_lines (why_size rule) 1 sizes
 
 -- the headline and the lines of the bounds
 abbrev pub bounds_text : List Name → Report → List ℕ
 bounds_text names r =
     headline r.times
-    ++ (numbered (time_line names) 1 r.times ++ (total_line names r.total ++ numbered (size_lines names) 1 r.sizes))
+    ++ (numbered_lines (time_line names) 1 r.times ++ (total_line names r.total ++ numbered_lines (size_lines names) 1 r.sizes))
 
 -- why bounds are missing
 abbrev pub reasons_text : List Symbol → Report → List ℕ
-reasons_text symbols r = numbered (why_time symbols) 1 r.times ++ numbered why_sizes 1 r.sizes
+reasons_text symbols r = numbered_lines (why_time symbols) 1 r.times ++ numbered_lines why_sizes 1 r.sizes
 
 -- the whole text, with the names of a program
 unfoldable pub text_of_report : Program → Report → List ℕ

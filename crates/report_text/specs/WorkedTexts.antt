@@ -4,9 +4,9 @@ use Rattle.model.specs.Terms.{Variable}
 use Rattle.model.specs.Programs.{Program}
 use Rattle.model.specs.Bounds.{Input}
 use Rattle.its_model.specs.Valid.{IsValid}
-use Rattle.proof_nodes.specs.Gaps.{ScaledPoint, SymbolPlace, Gap}
+use Rattle.proof_tree.specs.proof_nodes.Gaps.{ScaledPoint, SymbolPlace, Gap}
 use Rattle.outcome.specs.Holding.{IsReportOn}
-use Rattle.outcome.specs.Reports.{TimeLarge, Timed, Untimed, LacksTime, Size, Sized, Unsized, Report}
+use Rattle.outcome.specs.Reports.{TimeLarge, Timed, Untimed, SizeUntimed, Size, Sized, Unsized, Report}
 use Rattle.report_text.specs.Reasons.{gap_text}
 use Rattle.report_text.specs.Reports.{text_of_report}
 use Rattle.report_text.specs.Printable.{IsPrintableGap, IsPrintableReport}
@@ -37,7 +37,7 @@ abbrev pub without_time : Report
 without_time = record {
   times = Untimed (TimeLarge 5000) ∷ [];
   total = None;
-  sizes = (Unsized (LacksTime 1) ∷ []) ∷ [];
+  sizes = (Unsized (SizeUntimed 1) ∷ []) ∷ [];
 }
 
 -- a gap over no rule with these shut places and moves, all without numbers

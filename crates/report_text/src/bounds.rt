@@ -1,4 +1,4 @@
-// The lines of bounds in a report.
+//! The lines of bounds in a report.
 
 ghost use Rattle.std.specs.Prelude.{◌≡◌, ◌++◌, length, map, OnOk};
 ghost use Rattle.its_model.specs.Views.{name_of};
@@ -10,14 +10,13 @@ ghost use Rattle.report_text.specs.Conditions.{entry_end, entry_line, total_of};
 
 use crate::numbers::{push_number, push_place};
 use bound_expr::Bound;
+use bound_text::write;
 use its_model::Name;
 use model::Memory;
 use outcome::{SizeEntry, TimeEntry};
-use std::alloc::Global;
 
 /// The line of a rule.
 pub(crate) fn push_time(
-    alloc: Global,
     text: &mut Vec<u8>,
     names: &[Name],
     rule: u64,
@@ -29,21 +28,16 @@ pub(crate) fn push_time(
     text.extend_from_slice(b"time ")?;
     push_number(text, rule)?;
     text.extend_from_slice(b": ")?;
-    push_time_end(alloc, text, names, entry)
+    push_time_end(text, names, entry)
 }
 
 // What stands behind the colon.
-fn push_time_end(
-    alloc: Global,
-    text: &mut Vec<u8>,
-    names: &[Name],
-    entry: &TimeEntry,
-) -> Result<(), Memory>
+fn push_time_end(text: &mut Vec<u8>, names: &[Name], entry: &TimeEntry) -> Result<(), Memory>
     requires { IsPrintableTime (length names.now) entry.now }
     ensures { OnOk result (text.new.items ≡ text.old.items ++ entry_end (map name_of names.now) entry.now) }
 {
     match entry {
-        TimeEntry::Known(stored) => push_bound(alloc, text, names, &stored.bound),
+        TimeEntry::Known(stored) => push_bound(text, names, &stored.bound),
         TimeEntry::Gap { .. } => text.extend_from_slice(b"unknown\n"),
         TimeEntry::Tripped(_) => text.extend_from_slice(b"unknown\n"),
         TimeEntry::Large { .. } => text.extend_from_slice(b"unknown\n"),
@@ -52,7 +46,6 @@ fn push_time_end(
 
 /// The line of the total.
 pub(crate) fn push_total(
-    alloc: Global,
     text: &mut Vec<u8>,
     names: &[Name],
     total: &Option<Bound>,
@@ -63,14 +56,13 @@ pub(crate) fn push_total(
 {
     text.extend_from_slice(b"total: ")?;
     match total {
-        Some(bound) => push_bound(alloc, text, names, bound),
+        Some(bound) => push_bound(text, names, bound),
         None => text.extend_from_slice(b"unknown\n"),
     }
 }
 
 /// The line of a place.
 pub(crate) fn push_size(
-    alloc: Global,
     text: &mut Vec<u8>,
     names: &[Name],
     rule: u64,
@@ -84,21 +76,16 @@ pub(crate) fn push_size(
     text.extend_from_slice(b"size ")?;
     push_place(text, rule, place)?;
     text.extend_from_slice(b": ")?;
-    push_size_end(alloc, text, names, entry)
+    push_size_end(text, names, entry)
 }
 
 // What stands behind the colon.
-fn push_size_end(
-    alloc: Global,
-    text: &mut Vec<u8>,
-    names: &[Name],
-    entry: &SizeEntry,
-) -> Result<(), Memory>
+fn push_size_end(text: &mut Vec<u8>, names: &[Name], entry: &SizeEntry) -> Result<(), Memory>
     requires { IsPrintableSize (length names.now) entry.now }
     ensures { OnOk result (text.new.items ≡ text.old.items ++ size_end (map name_of names.now) (size_of entry.now)) }
 {
     match entry {
-        SizeEntry::Known(stored) => push_bound(alloc, text, names, &stored.bound),
+        SizeEntry::Known(stored) => push_bound(text, names, &stored.bound),
         SizeEntry::Loose(_) => text.extend_from_slice(b"unknown\n"),
         SizeEntry::Tripped(_) => text.extend_from_slice(b"unknown\n"),
         SizeEntry::Missing(_) => text.extend_from_slice(b"unknown\n"),
@@ -109,15 +96,10 @@ fn push_size_end(
 }
 
 // The text of a bound, and the end of its line.
-fn push_bound(
-    alloc: Global,
-    text: &mut Vec<u8>,
-    names: &[Name],
-    bound: &Bound,
-) -> Result<(), Memory>
+fn push_bound(text: &mut Vec<u8>, names: &[Name], bound: &Bound) -> Result<(), Memory>
     requires { IsPrintable (length names.now) bound.now }
     ensures { OnOk result (text.new.items ≡ text.old.items ++ bound_end (map name_of names.now) (bound_of bound.now)) }
 {
-    text.extend_from_slice(&bound_text::print(alloc, names, bound)?)?;
+    write(names, text, bound)?;
     text.extend_from_slice(b"\n")
 }

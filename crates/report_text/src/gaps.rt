@@ -1,4 +1,4 @@
-// Gaps in a report.
+//! Gaps in a report.
 
 ghost use Rattle.std.specs.Prelude.{◌≡◌, ◌++◌, map, slice_get, OnOk};
 ghost use Rattle.its_model.specs.Views.{symbol_of};

@@ -1,4 +1,4 @@
-// What holds of the texts of reports.
+//! What holds of the texts of reports.
 
 ghost use Rattle.report_text.specs.OneReport.{TextsStateOneReport};
 ghost use Rattle.report_text.specs.WorkedTexts.{TextsAreWorkedOut};

@@ -1,5 +1,5 @@
-// The report of an analysis as text. Contract to the layer above: `print` gives exactly the text of the outcome's
-// report.
+//! The report of an analysis as text. Contract to the layer above: `print` gives exactly the text of the outcome's
+//! report.
 #![tactic(auto)]
 
 mod bounds;

@@ -1,9 +1,10 @@
-// Numbers in a report: rules, places, points.
+//! Numbers in a report: rules, places, points.
 
 ghost use Rattle.std.specs.Prelude.{◌≡◌, ◌++◌, map, decimal, OnOk};
 ghost use Rattle.std.specs.Fmt.{signed_decimal};
 ghost use Rattle.proof_tree.specs.AnswerViews.{scaled_of};
-ghost use Rattle.report_text.specs.Pieces.{joined, goes_on, rules_text, parts_text, point_text, place_text};
+ghost use Rattle.report_text.specs.Pieces.{with_commas, with_commas_before, rules_text, parts_text, point_text};
+ghost use Rattle.report_text.specs.Pieces.{place_text};
 
 use farkas_cert::Scaled;
 use itoa::Buffer;
@@ -45,7 +46,7 @@ pub(crate) fn push_rules(text: &mut Vec<u8>, rules: &[u32]) -> Result<(), Memory
 
 // A comma and a blank before each rule.
 fn push_more_rules(text: &mut Vec<u8>, rules: &[u32]) -> Result<(), Memory>
-    ensures { OnOk result (text.new.items ≡ text.old.items ++ goes_on (map decimal rules.now)) }
+    ensures { OnOk result (text.new.items ≡ text.old.items ++ with_commas_before (map decimal rules.now)) }
 {
     for rule in rules {
         text.extend_from_slice(b", ")?;
@@ -65,7 +66,7 @@ pub(crate) fn push_parts(text: &mut Vec<u8>, parts: &[i64]) -> Result<(), Memory
 
 // The numbers, with a comma and a blank between them.
 fn push_joined_parts(text: &mut Vec<u8>, parts: &[i64]) -> Result<(), Memory>
-    ensures { OnOk result (text.new.items ≡ text.old.items ++ joined (map signed_decimal parts.now)) }
+    ensures { OnOk result (text.new.items ≡ text.old.items ++ with_commas (map signed_decimal parts.now)) }
 {
     let Some((first, others)) = parts.split_first() else {
         return Ok(());
@@ -76,7 +77,7 @@ fn push_joined_parts(text: &mut Vec<u8>, parts: &[i64]) -> Result<(), Memory>
 
 // A comma and a blank before each number.
 fn push_more_parts(text: &mut Vec<u8>, parts: &[i64]) -> Result<(), Memory>
-    ensures { OnOk result (text.new.items ≡ text.old.items ++ goes_on (map signed_decimal parts.now)) }
+    ensures { OnOk result (text.new.items ≡ text.old.items ++ with_commas_before (map signed_decimal parts.now)) }
 {
     for part in parts {
         text.extend_from_slice(b", ")?;

@@ -1,4 +1,4 @@
-// Why bounds are missing.
+//! Why bounds are missing.
 
 ghost use Rattle.std.specs.Prelude.{◌≡◌, ◌++◌, codes, decimal, length, map, OnOk};
 ghost use Rattle.its_model.specs.Views.{symbol_of};

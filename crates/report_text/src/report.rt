@@ -1,10 +1,10 @@
-// The whole report.
+//! The whole report.
 
 ghost use Rattle.std.specs.Prelude.{◌≡◌, ◌++◌, length, map, IfOk, OnOk};
 ghost use Rattle.std.specs.List.{list_all, All};
 ghost use Rattle.its_model.specs.Views.{name_of, symbol_of, program_of};
 ghost use Rattle.outcome.specs.Views.{time_of, size_of, report_of};
-ghost use Rattle.report_text.specs.Pieces.{numbered};
+ghost use Rattle.report_text.specs.Pieces.{numbered_lines};
 ghost use Rattle.report_text.specs.Reports.{size_line, why_time, why_size, bounds_text, reasons_text, text_of_report};
 ghost use Rattle.outcome.specs.Printing.{IsPrintableTime, IsPrintableSize, IsPrintableOutcome, HasItsGap};
 ghost use Rattle.report_text.specs.Conditions.{entry_line, is_known, headline_of};
@@ -27,20 +27,20 @@ pub fn print(alloc: Global, p: &Program, o: &Outcome) -> Result<Vec<u8>, Memory>
     ensures { IfOk result (λ text. text.items ≡ text_of_report (program_of p.now) (report_of o.now)) }
 {
     let mut text = Vec::new(alloc);
-    push_bounds(alloc, &mut text, &p.start_names, o)?;
+    push_bounds(&mut text, &p.start_names, o)?;
     push_reasons(&mut text, &p.symbols, o)?;
     Ok(text)
 }
 
 // The headline and the lines of the bounds.
-fn push_bounds(alloc: Global, text: &mut Vec<u8>, names: &[Name], o: &Outcome) -> Result<(), Memory>
+fn push_bounds(text: &mut Vec<u8>, names: &[Name], o: &Outcome) -> Result<(), Memory>
     requires { IsPrintableOutcome (length names.now) o.now }
     ensures { OnOk result (text.new.items ≡ text.old.items ++ bounds_text (map name_of names.now) (report_of o.now)) }
 {
     push_headline(text, &o.times)?;
-    push_times(alloc, text, names, &o.times)?;
-    push_total(alloc, text, names, &o.total)?;
-    push_sizes(alloc, text, names, &o.sizes)
+    push_times(text, names, &o.times)?;
+    push_total(text, names, &o.total)?;
+    push_sizes(text, names, &o.sizes)
 }
 
 // Why bounds are missing.
@@ -73,43 +73,32 @@ fn all_known(times: &[TimeEntry]) -> bool
 }
 
 // The lines of the rules.
-fn push_times(
-    alloc: Global,
-    text: &mut Vec<u8>,
-    names: &[Name],
-    times: &[TimeEntry],
-) -> Result<(), Memory>
+fn push_times(text: &mut Vec<u8>, names: &[Name], times: &[TimeEntry]) -> Result<(), Memory>
     requires { All (IsPrintableTime (length names.now)) times.now }
     ensures { OnOk result
-        (text.new.items ≡ text.old.items ++ numbered (entry_line (map name_of names.now)) 1 times.now) }
+        (text.new.items ≡ text.old.items ++ numbered_lines (entry_line (map name_of names.now)) 1 times.now) }
 {
     for (i, entry) in times.iter().enumerate() {
-        push_time(alloc, text, names, i as u64 + 1, entry)?;
+        push_time(text, names, i as u64 + 1, entry)?;
     }
     Ok(())
 }
 
 // The lines of the places of all rules.
-fn push_sizes(
-    alloc: Global,
-    text: &mut Vec<u8>,
-    names: &[Name],
-    sizes: &[Vec<SizeEntry>],
-) -> Result<(), Memory>
+fn push_sizes(text: &mut Vec<u8>, names: &[Name], sizes: &[Vec<SizeEntry>]) -> Result<(), Memory>
     requires { All (λ places. All (IsPrintableSize (length names.now)) places.items) sizes.now }
-    ensures { OnOk result (text.new.items ≡ text.old.items ++ numbered
-        (λ rule places. numbered (λ place s. size_line (map name_of names.now) rule place (size_of s)) 1 places.items)
+    ensures { OnOk result (text.new.items ≡ text.old.items ++ numbered_lines
+        (λ rule places. numbered_lines (λ place s. size_line (map name_of names.now) rule place (size_of s)) 1 places.items)
         1 sizes.now) }
 {
     for (i, places) in sizes.iter().enumerate() {
-        push_places(alloc, text, names, i as u64 + 1, places)?;
+        push_places(text, names, i as u64 + 1, places)?;
     }
     Ok(())
 }
 
 // The lines of the places of a rule.
 fn push_places(
-    alloc: Global,
     text: &mut Vec<u8>,
     names: &[Name],
     rule: u64,
@@ -117,10 +106,10 @@ fn push_places(
 ) -> Result<(), Memory>
     requires { All (IsPrintableSize (length names.now)) places.now }
     ensures { OnOk result (text.new.items ≡ text.old.items
-        ++ numbered (λ place s. size_line (map name_of names.now) rule place (size_of s)) 1 places.now) }
+        ++ numbered_lines (λ place s. size_line (map name_of names.now) rule place (size_of s)) 1 places.now) }
 {
     for (i, entry) in places.iter().enumerate() {
-        push_size(alloc, text, names, rule, i as u64 + 1, entry)?;
+        push_size(text, names, rule, i as u64 + 1, entry)?;
     }
     Ok(())
 }
@@ -134,7 +123,7 @@ fn push_why_times(
 ) -> Result<(), Memory>
     requires { All (HasItsGap (length gaps.now)) times.now }
     ensures { OnOk result (text.new.items ≡ text.old.items
-        ++ numbered (λ rule t. why_time (map symbol_of symbols.now) rule (time_of gaps.now t)) 1 times.now) }
+        ++ numbered_lines (λ rule t. why_time (map symbol_of symbols.now) rule (time_of gaps.now t)) 1 times.now) }
 {
     for (i, entry) in times.iter().enumerate() {
         push_why_time(text, symbols, gaps, i as u64 + 1, entry)?;
@@ -144,8 +133,8 @@ fn push_why_times(
 
 // Why sizes are missing.
 fn push_why_sizes(text: &mut Vec<u8>, sizes: &[Vec<SizeEntry>]) -> Result<(), Memory>
-    ensures { OnOk result (text.new.items ≡ text.old.items ++ numbered
-        (λ rule places. numbered (λ place s. why_size rule place (size_of s)) 1 places.items) 1 sizes.now) }
+    ensures { OnOk result (text.new.items ≡ text.old.items ++ numbered_lines
+        (λ rule places. numbered_lines (λ place s. why_size rule place (size_of s)) 1 places.items) 1 sizes.now) }
 {
     for (i, places) in sizes.iter().enumerate() {
         push_why_places(text, i as u64 + 1, places)?;
@@ -156,7 +145,7 @@ fn push_why_sizes(text: &mut Vec<u8>, sizes: &[Vec<SizeEntry>]) -> Result<(), Me
 // Why sizes of a rule's places are missing.
 fn push_why_places(text: &mut Vec<u8>, rule: u64, places: &[SizeEntry]) -> Result<(), Memory>
     ensures { OnOk result
-        (text.new.items ≡ text.old.items ++ numbered (λ place s. why_size rule place (size_of s)) 1 places.now) }
+        (text.new.items ≡ text.old.items ++ numbered_lines (λ place s. why_size rule place (size_of s)) 1 places.now) }
 {
     for (i, entry) in places.iter().enumerate() {
         push_why_size(text, rule, i as u64 + 1, entry)?;

@@ -1,4 +1,4 @@
-// Trips in a report.
+//! Trips in a report.
 
 ghost use Rattle.std.specs.Prelude.{◌≡◌, ◌++◌, decimal, OnOk};
 ghost use Rattle.report_text.specs.Reasons.{question_text, cause_text, trip_text, large_text};

@@ -1,22 +1,23 @@
-// Reports of outcomes that were made by hand.
+//! Reports of outcomes that were made by hand.
 
+use bound_expr::Memory;
 use farkas_cert::Scaled;
 use its_model::{Program, Symbol};
 use outcome::{Loose, Outcome, SizeEntry, TimeEntry};
 use proof_tree::{Gap, Question, Spot, Trip, TripCause};
 use report_text::print;
-use std::alloc::{AllocError, Global};
+use std::alloc::Global;
 use std::test::Fail;
 use text_core::Name;
 
-fn name(alloc: Global, text: &[u8]) -> Result<Name, AllocError> {
+fn name(alloc: Global, text: &[u8]) -> Result<Name, Memory> {
     Ok(Name {
         bytes: Vec::from_slice(alloc, text)?,
     })
 }
 
 // A program of which the report takes no more than its names.
-fn named(alloc: Global) -> Result<Program, AllocError> {
+fn named(alloc: Global) -> Result<Program, Memory> {
     let mut symbols = Vec::new(alloc);
     for text in [b"l0", b"l1"] {
         symbols.push(Symbol {
@@ -34,7 +35,7 @@ fn named(alloc: Global) -> Result<Program, AllocError> {
     })
 }
 
-fn point(alloc: Global, parts: &[i64], den: u64) -> Result<Scaled, AllocError> {
+fn point(alloc: Global, parts: &[i64], den: u64) -> Result<Scaled, Memory> {
     Ok(Scaled {
         parts: Vec::from_slice(alloc, parts)?,
         den,

@@ -1,19 +1,20 @@
 -- The lemmas of a table that is made by rounds of times are accepted, and show the table.
-use Rattle.std.proofs.Common.{◌≡◌, ◌⊎◌, inr, ℕ, ◌≤◌, true, List, [], ◌∷◌, ◌++◌, length, filter, map, Option, Some, None, refl}
+use Rattle.std.proofs.Common.{◌≡◌, ◌⊎◌, inr, ℕ, ◌≤◌, true, List, [], ◌∷◌, ◌++◌, length, filter, map, Option, Some, None}
+use Rattle.std.proofs.Common.{refl}
 use Rattle.std.proofs.Common.{sym, ◌∙◌, ap, subst, All}
 use Rattle.std.specs.List.{Contains}
 use Rattle.std.proofs.lemmas.List.{append-nil}
 use Rattle.std.proofs.lemmas.List.Elements.{All-weaker}
-use Rattle.model.specs.Programs.{Rule, rule_at}
-use Rattle.model.specs.Bounds.{Bound, Constant}
-use Rattle.model.specs.Facts.{Fact, Time, Size}
-use Rattle.model.specs.Entries.{is_in}
-use Rattle.model.proofs.Membership.{is_in-filter, filter-in}
-use Rattle.proof_nodes.specs.Nodes.{Proof}
-use Rattle.proof_nodes.specs.Known.{Table}
-use Rattle.proof_nodes.specs.Setting.{Setting}
-use Rattle.proof_nodes.specs.AcceptsPlain.{IsRule}
-use Rattle.proof_nodes.specs.Acceptance.{facts_of_lemma, AcceptsFrom, facts_from, AcceptsLemmas, facts_of_lemmas}
+use Rattle.rule_questions.specs.model.Programs.{Rule, rule_at}
+use Rattle.rule_questions.specs.model.Bounds.{Bound, Constant}
+use Rattle.rule_questions.specs.model.Facts.{Fact, Time, Size}
+use Rattle.rule_questions.specs.model.Entries.{is_in}
+use Rattle.rule_questions.proofs.model.Membership.{is_in-filter, filter-in}
+use Rattle.rule_questions.specs.proof_nodes.Nodes.{Proof}
+use Rattle.rule_questions.specs.proof_nodes.Known.{Table}
+use Rattle.rule_questions.specs.proof_nodes.Setting.{Setting}
+use Rattle.rule_questions.specs.proof_nodes.AcceptsPlain.{IsRule}
+use Rattle.rule_questions.specs.proof_nodes.Acceptance.{facts_of_lemma, AcceptsFrom, facts_from, AcceptsLemmas, facts_of_lemmas}
 use Rattle.round_relation.specs.Tables.{rule_numbers, IsPlace, KnowsStart, IsTableOf}
 use Rattle.round_relation.specs.Searches.{Searches, searches_of}
 use Rattle.round_relation.specs.Beginning.{IsDead}
@@ -23,7 +24,7 @@ use Rattle.round_relation.specs.LemmaOrder.{AreNumbersOf, never_lemmas, AreFirst
 use Rattle.round_relation.specs.LemmaOrder.{AreLemmasOf, AtFirst, AfterRound}
 use Rattle.round_relation.specs.Laws.{IsStated, IsShown, LemmasAreAccepted}
 use Rattle.round_relation.specs.Right.{AreRight}
-use Rattle.round_relation.specs.Standing.{IsOf, AreOf}
+use Rattle.round_relation.specs.Standing.{IsFactOf, AreFactsOf}
 use Rattle.round_relation.proofs.Cases.{none_some}
 use Rattle.round_relation.proofs.Numbered.{rule_in, in_rules}
 use Rattle.round_relation.proofs.FactLists.{numbered-stated, stated-left, stated-right}
@@ -44,7 +45,7 @@ numbers_from s proofs tab ns h = h
 -- lemmas are accepted, state bounds of the table alone, and all of those of rules
 pub record Stands (s : Setting) (tab : Table) (proofs : List Proof) : Type 0 where
   pub accepted : AcceptsFrom s [] proofs
-  pub are : All (AreOf tab) (facts_from s [] proofs)
+  pub are : All (AreFactsOf tab) (facts_from s [] proofs)
   pub table : IsTableOf s.program tab
   pub start : KnowsStart s.program tab
   pub times : (t : ℕ) (b : Bound) → IsRule s.program t → tab.time t ≡ Some b → IsStated (facts_from s [] proofs)
@@ -53,15 +54,15 @@ pub record Stands (s : Setting) (tab : Table) (proofs : List Proof) : Type 0 whe
       → IsStated (facts_from s [] proofs) (Size t i b)
 
 -- what a table keeps is that of the later one
-pub kept_of : (old new : Table) → Keeps old new → (f : Fact) → IsOf old f → IsOf new f
+pub kept_of : (old new : Table) → Keeps old new → (f : Fact) → IsFactOf old f → IsFactOf new f
 kept_of old new keeps (Time t b) h = keeps.times t b h
 kept_of old new keeps (Size t i b) h = keeps.sizes t i b h
 
 -- lemmas that state bounds of a table alone state bounds of any that keeps what it knows
-pub are_kept : (old new : Table) → Keeps old new → (past : List (List Fact)) → All (AreOf old) past
-    → All (AreOf new) past
+pub are_kept : (old new : Table) → Keeps old new → (past : List (List Fact)) → All (AreFactsOf old) past
+    → All (AreFactsOf new) past
 are_kept old new keeps past are =
-    All-weaker (AreOf old) (AreOf new) (λ facts h. All-weaker (IsOf old) (IsOf new) (kept_of old new keeps) facts h)
+    All-weaker (AreFactsOf old) (AreFactsOf new) (λ facts h. All-weaker (IsFactOf old) (IsFactOf new) (kept_of old new keeps) facts h)
     past are
 
 module _ (q : Searches) (s : Setting) (right : AreRight q s) where
@@ -103,7 +104,7 @@ module _ (q : Searches) (s : Setting) (right : AreRight q s) where
         (never_lemmas f.ns (sized_ones s f.first.is_empty f.is_unreached)))
         (append-nil (zero_times zs))
         (nevers_stand q s right tab f.first zs f.ns []
-        (subst (λ (past : List (List Fact)). All (AreOf tab) past) (sym (append-nil (zero_times zs)))
+        (subst (λ (past : List (List Fact)). All (AreFactsOf tab) past) (sym (append-nil (zero_times zs)))
         (zeros_of q s right tab f.first zs
         (zero_rule q s right tab f.first f.is_unreached f.unreached f.empties f.are_empties)))
         (sized_ones s f.first.is_empty f.is_unreached) numbered)
@@ -113,7 +114,7 @@ module _ (q : Searches) (s : Setting) (right : AreRight q s) where
       accepted =
           subst (λ (ps : List Proof). AcceptsFrom s [] ps) (sym f.in_order)
           (all_accepted q s right tab f.first f.is_unreached f.unreached f.empties f.are_empties f.ns nevers.accepted);
-      are = subst (λ (past : List (List Fact)). All (AreOf tab) past) (sym stated) nevers.are;
+      are = subst (λ (past : List (List Fact)). All (AreFactsOf tab) past) (sym stated) nevers.are;
       table = f.first.table;
       start = f.first.start;
       times = λ t b rule known. numbered-stated (facts_from s [] proofs) (f.ns.time t) (Time t b)
@@ -146,7 +147,7 @@ module _ (q : Searches) (s : Setting) (right : AreRight q s) where
 
   module _ (old new : Table) (earlier proofs : List Proof) (before : Stands s old earlier) (n : NextTimes q s old new)
       (r : AreRoundLemmas q s earlier old new proofs) where
-    are_new : All (AreOf new) (facts_from s [] earlier)
+    are_new : All (AreFactsOf new) (facts_from s [] earlier)
     are_new = are_kept old new (keeps_next old new n) (facts_from s [] earlier) before.are
 
     round : RoundStands q s right old new before.start before.table (keeps_next old new n) (facts_from s [] earlier) r.ns
@@ -168,7 +169,7 @@ module _ (q : Searches) (s : Setting) (right : AreRight q s) where
     pub after_round : Stands s new (earlier ++ proofs)
     after_round = record {
       accepted = accepts-append s [] earlier proofs before.accepted round.accepted;
-      are = subst (λ (past : List (List Fact)). All (AreOf new) past)
+      are = subst (λ (past : List (List Fact)). All (AreFactsOf new) past)
           (sym (facts-append s [] earlier proofs)) round.are;
       table = table_next old new n before.table;
       start = start_next old new n before.start;

@@ -1,18 +1,18 @@
 -- The answer to a rank question over a table that is made by rounds is a node that is accepted over it.
 use Rattle.std.proofs.Common.{◌≡◌, inl, inr, ℕ, zero, suc, true, List, Option, Some, None, refl, sym, ◌∙◌, ap, subst}
 use Rattle.std.proofs.Common.{slice_get}
-use Rattle.model.specs.Programs.{Program, Rule}
-use Rattle.model.specs.Bounds.{Constant}
-use Rattle.model.specs.Paths.{IsInSet, target_of, target_in}
-use Rattle.model.proofs.Entries.{listed-from}
-use Rattle.model.proofs.Membership.{no_is_not_yes}
-use Rattle.proof_nodes.specs.Nodes.{RankNode}
-use Rattle.proof_nodes.specs.Known.{Table, IsKnown}
-use Rattle.proof_nodes.specs.Setting.{Setting}
-use Rattle.proof_nodes.specs.Limits.{IsSmallComposed}
-use Rattle.proof_nodes.specs.AcceptsPlain.{IsRule}
-use Rattle.proof_nodes.specs.AcceptsRank.{AcceptsRank, rank_time}
-use Rattle.proof_nodes.specs.Gaps.{SymbolPlace}
+use Rattle.rule_questions.specs.model.Programs.{Program, Rule}
+use Rattle.rule_questions.specs.model.Bounds.{Constant}
+use Rattle.rule_questions.specs.model.Paths.{IsInSet, target_of, target_in}
+use Rattle.rule_questions.proofs.model.Entries.{listed-from}
+use Rattle.rule_questions.proofs.model.Membership.{no_is_not_yes}
+use Rattle.rule_questions.specs.proof_nodes.Nodes.{RankNode}
+use Rattle.rule_questions.specs.proof_nodes.Known.{Table, IsKnown}
+use Rattle.rule_questions.specs.proof_nodes.Setting.{Setting}
+use Rattle.rule_questions.specs.proof_nodes.Limits.{IsSmallComposed}
+use Rattle.rule_questions.specs.proof_nodes.AcceptsPlain.{IsRule}
+use Rattle.rule_questions.specs.proof_nodes.AcceptsRank.{AcceptsRank, rank_time}
+use Rattle.rule_questions.specs.proof_nodes.Gaps.{SymbolPlace}
 use Rattle.round_relation.specs.Tables.{lacks, is_untimed}
 use Rattle.round_relation.specs.Sets.{IsSetOfRule, AreShutOf}
 use Rattle.round_relation.specs.Searches.{Searches, SizeSearches}

@@ -4,21 +4,21 @@ use Rattle.std.proofs.Common.{List, [], ◌∷◌, length, Option, Some, None, r
 use Rattle.std.proofs.Common.{All}
 use Rattle.std.proofs.lemmas.Bool.Decides.{eqb_tells}
 use Rattle.std.proofs.lemmas.List.Elements.{All-nil, All-cons, All-head, All-tail}
-use Rattle.model.specs.Programs.{Rule, rule_at}
-use Rattle.model.specs.Bounds.{Bound, Constant, Input}
-use Rattle.model.specs.Facts.{Fact, Time, Size}
-use Rattle.model.specs.Paths.{Here, Onward, HasPath, target_of}
-use Rattle.model.specs.Entries.{is_in}
-use Rattle.proof_nodes.specs.Known.{Table, has_zero_time}
-use Rattle.proof_nodes.specs.Setting.{Setting, IsFaithful}
-use Rattle.proof_nodes.specs.AcceptsPlain.{IsRule, IsUnreached, may_run, places_at, zero_sizes, start_sizes}
-use Rattle.model.proofs.Membership.{is_in-cases, no_is_not_yes, slice_get-below}
-use Rattle.proof_nodes.proofs.GoodFacts.{IsGood, IsGoodTable}
-use Rattle.proof_nodes.proofs.Unrun.{empty-good, unreached-good, never-good}
-use Rattle.proof_nodes.proofs.Weaker.{start-good}
+use Rattle.rule_questions.specs.model.Programs.{Rule, rule_at}
+use Rattle.rule_questions.specs.model.Bounds.{Bound, Constant, Input}
+use Rattle.rule_questions.specs.model.Facts.{Fact, Time, Size}
+use Rattle.rule_questions.specs.model.Paths.{Here, Onward, HasPath, target_of}
+use Rattle.rule_questions.specs.model.Entries.{is_in}
+use Rattle.rule_questions.specs.proof_nodes.Known.{Table, has_zero_time}
+use Rattle.rule_questions.specs.proof_nodes.Setting.{Setting, IsFaithful}
+use Rattle.rule_questions.specs.proof_nodes.AcceptsPlain.{IsRule, IsUnreached, may_run, places_at, zero_sizes, start_sizes}
+use Rattle.rule_questions.proofs.model.Membership.{is_in-cases, no_is_not_yes, slice_get-below}
+use Rattle.rule_questions.proofs.proof_nodes.GoodFacts.{IsGood, IsGoodTable}
+use Rattle.rule_questions.proofs.proof_nodes.UnusedRules.{empty-good, unreached-good, never-good}
+use Rattle.rule_questions.proofs.proof_nodes.Weaker.{start-good}
 use Rattle.round_relation.specs.Tables.{IsPlace}
 use Rattle.round_relation.specs.Searches.{Searches, NoPoint}
-use Rattle.round_relation.specs.Beginning.{IsDead, First}
+use Rattle.round_relation.specs.Beginning.{IsDead, IsFirstTable}
 use Rattle.round_relation.specs.Right.{AreRight}
 use Rattle.round_relation.proofs.Numbered.{place_in, rule_numbered}
 
@@ -40,7 +40,7 @@ has_zero f u (suc k) low high e = go (f (suc k)) refl (eqb_tells (suc k) u) (has
     go false x (inr (t, other)) ih = rw x (ih (omega (arith, other)) e)
 
 module _ (q : Searches) (s : Setting) (true_to : IsFaithful s) (right : AreRight q s) (tab : Table)
-    (h : First q s.program tab) where
+    (h : IsFirstTable q s.program tab) where
   -- an empty rule never runs
   empty_is_good : (t : ℕ) → IsRule s.program t → h.is_empty t ≡ true → IsGood s.program (Time t (Constant 0))
   empty_is_good t rule e =

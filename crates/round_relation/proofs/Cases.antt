@@ -3,9 +3,9 @@ use Rattle.std.proofs.Common.{◌≡◌, ◌⊎◌, inl, inr, ℕ, ◌+◌, ◌<
 use Rattle.std.proofs.Common.{refl, sym, subst}
 use Rattle.std.specs.List.{count_by}
 use Rattle.std.proofs.lemmas.List.Sums.{sum_by-cons}
-use Rattle.model.specs.Bounds.{Bound}
+use Rattle.rule_questions.specs.model.Bounds.{Bound}
 use Rattle.round_relation.specs.Tables.{lacks}
-pub use Rattle.model.proofs.Cases.{none_some, some_none, some_same}
+pub use Rattle.rule_questions.proofs.model.Cases.{none_some, some_none, some_same}
 
 -- one of two facts stands
 pub either : {A B C : Type 0} → A ⊎ B → (A → C) → (B → C) → C

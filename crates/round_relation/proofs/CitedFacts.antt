@@ -5,12 +5,12 @@ use Rattle.std.specs.List.{Contains}
 use Rattle.std.proofs.lemmas.Bool.{or_left, or_right}
 use Rattle.std.proofs.lemmas.Bool.Decides.{eqb_tells}
 use Rattle.std.proofs.lemmas.List.Elements.{All-nil, All-append}
-use Rattle.model.specs.Facts.{Fact}
-use Rattle.model.specs.Entries.{is_in}
-use Rattle.model.proofs.Membership.{is_in-cases, is_in-filter, filter-in, no_is_not_yes}
-use Rattle.proof_nodes.specs.AcceptsPlain.{start_facts}
-use Rattle.proof_nodes.specs.Acceptance.{facts_of_lemma, joined_facts, AllAccepted}
-use Rattle.proof_nodes.specs.Setting.{Setting}
+use Rattle.rule_questions.specs.model.Facts.{Fact}
+use Rattle.rule_questions.specs.model.Entries.{is_in}
+use Rattle.rule_questions.proofs.model.Membership.{is_in-cases, is_in-filter, filter-in, no_is_not_yes}
+use Rattle.rule_questions.specs.proof_nodes.AcceptsPlain.{start_facts}
+use Rattle.rule_questions.specs.proof_nodes.Acceptance.{facts_of_lemma, joined_facts, AllAccepted}
+use Rattle.rule_questions.specs.proof_nodes.Setting.{Setting}
 use Rattle.round_relation.specs.Uses.{once, cites, uses_from}
 use Rattle.round_relation.proofs.Cases.{either}
 use Rattle.round_relation.proofs.FactLists.{contains-left, contains-right, IsNumbered}

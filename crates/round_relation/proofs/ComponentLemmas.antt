@@ -1,26 +1,27 @@
 -- The lemma of a component is accepted after those before, and states the sizes that it gets.
-use Rattle.std.proofs.Common.{◌≡◌, ◌⊎◌, inl, inr, ℕ, ◌-◌, ◌==◌, ◌&&◌, Bool, true, false, List, [], ◌∷◌, ◌++◌, map, Option}
+use Rattle.std.proofs.Common.{◌≡◌, ◌⊎◌, inl, inr, ℕ, ◌-◌, ◌==◌, ◌&&◌, Bool, true, false, List, [], ◌∷◌, ◌++◌, map}
+use Rattle.std.proofs.Common.{Option}
 use Rattle.std.proofs.Common.{Some, None, refl, sym, ◌∙◌, ap, subst, All}
 use Rattle.std.specs.List.{Contains}
 use Rattle.std.proofs.lemmas.Bool.{and_parts}
 use Rattle.std.proofs.lemmas.List.{append-nil}
 use Rattle.std.proofs.lemmas.List.Elements.{All-nil, All-cons, All-push}
-use Rattle.model.specs.Bounds.{Bound, Input}
-use Rattle.model.specs.Facts.{Fact, Time, Size}
-use Rattle.model.proofs.Membership.{told_same, no_is_not_yes}
-use Rattle.proof_nodes.specs.Nodes.{Spot, Member, Proof}
-use Rattle.proof_nodes.specs.Known.{Table}
-use Rattle.proof_nodes.specs.Setting.{Setting}
-use Rattle.proof_nodes.specs.AcceptsPlain.{IsRule}
-use Rattle.proof_nodes.specs.AcceptsSizes.{cycle_facts}
-use Rattle.proof_nodes.specs.Acceptance.{facts_of, Accepts, facts_from, facts_of_lemmas}
+use Rattle.rule_questions.specs.model.Bounds.{Bound, Input}
+use Rattle.rule_questions.specs.model.Facts.{Fact, Time, Size}
+use Rattle.rule_questions.proofs.model.Membership.{told_same, no_is_not_yes}
+use Rattle.rule_questions.specs.proof_nodes.Nodes.{Spot, Member, Proof}
+use Rattle.rule_questions.specs.proof_nodes.Known.{Table}
+use Rattle.rule_questions.specs.proof_nodes.Setting.{Setting}
+use Rattle.rule_questions.specs.proof_nodes.AcceptsPlain.{IsRule}
+use Rattle.rule_questions.specs.proof_nodes.AcceptsSizes.{cycle_facts}
+use Rattle.rule_questions.specs.proof_nodes.Acceptance.{facts_of, Accepts, facts_from, facts_of_lemmas}
 use Rattle.round_relation.specs.Tables.{IsPlace, IsTableOf}
 use Rattle.round_relation.specs.Searches.{SizeSearches, Sizing, Found, NotFound}
 use Rattle.round_relation.specs.NewSizes.{Sizes, has_spot, is_unsized, size_by}
 use Rattle.round_relation.specs.Uses.{Numbers}
 use Rattle.round_relation.specs.LemmaOrder.{AreNumbersOf}
 use Rattle.round_relation.specs.SizeLemmas.{IsSizeLemma, IsComponentLemma, AreComponentLemmas}
-use Rattle.round_relation.specs.Standing.{IsUniform, IsOf, AreOf, ArePlacesAfterRules, FindsSize}
+use Rattle.round_relation.specs.Standing.{IsUniform, IsFactOf, AreFactsOf, ArePlacesAfterRules, FindsSize}
 use Rattle.round_relation.specs.Laws.{IsStated}
 use Rattle.round_relation.proofs.Cases.{told, some_same}
 use Rattle.round_relation.proofs.FactLists.{contains-first, contains-later, stated-left, stated-right}
@@ -56,10 +57,10 @@ size_stated b (x ∷ ms) t i m = go ((x.spot.rule == t) && (x.spot.place == i)) 
 
 -- and these are bounds of a table that has them
 sizes_of_table : (tab : Table) (b : Bound) (ms : List Member)
-    → ((t i : ℕ) → has_spot (spots_of ms) t i ≡ true → tab.size t i ≡ Some b) → AreOf tab (cycle_facts b ms)
-sizes_of_table tab b [] h = All-nil (IsOf tab)
+    → ((t i : ℕ) → has_spot (spots_of ms) t i ≡ true → tab.size t i ≡ Some b) → AreFactsOf tab (cycle_facts b ms)
+sizes_of_table tab b [] h = All-nil (IsFactOf tab)
 sizes_of_table tab b (x ∷ ms) h =
-    All-cons (IsOf tab) (Size x.spot.rule x.spot.place b) (cycle_facts b ms)
+    All-cons (IsFactOf tab) (Size x.spot.rule x.spot.place b) (cycle_facts b ms)
     (h x.spot.rule x.spot.place (spot_told x.spot (spots_of ms)))
     (sizes_of_table tab b ms (λ t i m. h t i (spot_later x.spot (spots_of ms) t i m)))
 
@@ -128,7 +129,7 @@ module _ (z : SizeSearches) (s : Setting) (time : ℕ → Option Bound) (old : S
         facts-append s [] earlier (f.proof ∷ [])
         ∙ ap (λ (fs : List Fact). facts_from s [] earlier ++ fs ∷ []) own.states
 
-    own_of : AreOf (both_of time new) (cycle_facts f.bound own.members)
+    own_of : AreFactsOf (both_of time new) (cycle_facts f.bound own.members)
     own_of =
         sizes_of_table (both_of time new) f.bound own.members
         (λ t i m. filled t i (subst (λ (xs : List Spot). has_spot xs t i ≡ true) (sym own.all) m))
@@ -173,8 +174,8 @@ module _ (z : SizeSearches) (s : Setting) (time : ℕ → Option Bound) (old : S
     pub found_stands : Stands s (both_of time new) (earlier ++ f.proof ∷ [])
     found_stands = record {
       accepted = accepts-append s [] earlier (f.proof ∷ []) before.accepted (own.accepted, tt);
-      are = subst (λ (past : List (List Fact)). All (AreOf (both_of time new)) past) (sym found_stated)
-          (All-push (AreOf (both_of time new)) (facts_from s [] earlier) (cycle_facts f.bound own.members)
+      are = subst (λ (past : List (List Fact)). All (AreFactsOf (both_of time new)) past) (sym found_stated)
+          (All-push (AreFactsOf (both_of time new)) (facts_from s [] earlier) (cycle_facts f.bound own.members)
           (are_kept (both_of time old) (both_of time new) keeps (facts_from s [] earlier) before.are) own_of);
       table = found_table;
       start = record {

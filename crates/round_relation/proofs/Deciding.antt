@@ -4,10 +4,10 @@ use Rattle.std.proofs.Common.{cond, List, [], ◌∷◌, length, Option, Some, N
 use Rattle.std.specs.List.{list_any, count_by}
 use Rattle.std.proofs.lemmas.Bool.{and_parts, or_left, or_right}
 use Rattle.std.proofs.lemmas.List.Sums.{count_by-le-length}
-use Rattle.model.specs.Programs.{Program, rule_at}
-use Rattle.model.specs.Entries.{is_in}
-use Rattle.model.specs.Paths.{Here, Onward, HasEdge, HasPath, source_of, target_of, source_in, target_in, same_symbol}
-use Rattle.model.proofs.Membership.{same_number, told_same, no_is_not_yes, is_in-cases, list_any-from, list_any-told}
+use Rattle.rule_questions.specs.model.Programs.{Program, rule_at}
+use Rattle.rule_questions.specs.model.Entries.{is_in}
+use Rattle.rule_questions.specs.model.Paths.{Here, Onward, HasEdge, HasPath, source_of, target_of, source_in, target_in, same_symbol}
+use Rattle.rule_questions.proofs.model.Membership.{same_number, told_same, no_is_not_yes, is_in-cases, list_any-from, list_any-told}
 use Rattle.round_relation.specs.Tables.{rule_numbers}
 use Rattle.round_relation.proofs.Cases.{either, told, counts-first}
 use Rattle.round_relation.proofs.Numbered.{rule_in}

@@ -2,20 +2,20 @@
 use Rattle.std.proofs.Common.{◌≡◌, ◌⊎◌, inl, inr, ℕ, ◌<◌, Bool, true, false, List, [], ◌∷◌, Option, Some, None, refl}
 use Rattle.std.proofs.Common.{sym, ◌∙◌, subst, arith}
 use Rattle.std.specs.List.{count_by}
-use Rattle.model.specs.Programs.{Program, Rule, rule_at}
-use Rattle.model.specs.Bounds.{Bound}
-use Rattle.model.specs.Entries.{is_in}
-use Rattle.model.specs.Paths.{target_of}
-use Rattle.model.proofs.Membership.{is_in-cases, no_is_not_yes}
-use Rattle.proof_nodes.specs.Nodes.{Spot}
-use Rattle.proof_nodes.specs.AcceptsPlain.{places_at}
-use Rattle.proof_nodes.specs.Setting.{Setting}
-use Rattle.proof_nodes.specs.Known.{Table}
+use Rattle.rule_questions.specs.model.Programs.{Program, Rule, rule_at}
+use Rattle.rule_questions.specs.model.Bounds.{Bound}
+use Rattle.rule_questions.specs.model.Entries.{is_in}
+use Rattle.rule_questions.specs.model.Paths.{target_of}
+use Rattle.rule_questions.proofs.model.Membership.{is_in-cases, no_is_not_yes}
+use Rattle.rule_questions.specs.proof_nodes.Nodes.{Spot}
+use Rattle.rule_questions.specs.proof_nodes.AcceptsPlain.{places_at}
+use Rattle.rule_questions.specs.proof_nodes.Setting.{Setting}
+use Rattle.rule_questions.specs.proof_nodes.Known.{Table}
 use Rattle.round_relation.specs.Tables.{lacks, rule_numbers}
 use Rattle.round_relation.specs.Searches.{Searches, SizeSearches, searches_of, size_searches_of}
 use Rattle.round_relation.specs.NewSizes.{Sizes, has_spot, TriesSizes}
 use Rattle.round_relation.specs.Components.{IsCovered}
-use Rattle.round_relation.specs.Rounds.{HasNewTimes, NextTimes, IsClosedByTimes, HasNewSizes, Next, IsClosed}
+use Rattle.round_relation.specs.Rounds.{HasNewTimes, NextTimes, IsClosedByTimes, HasNewSizes, IsNextTable, IsClosed}
 use Rattle.round_relation.specs.Laws.{unsized, untimed, missing, RoundsEnd}
 use Rattle.round_relation.proofs.Cases.{either, told}
 use Rattle.round_relation.proofs.Kept.{AreSameAt, AreSameSizes, sizes_kept, fewer_or_same}
@@ -141,7 +141,7 @@ same_sizes q z s old new n same t i = go (listed_or_not n.components t i)
         (place_in s.program t i live.2)
 
 -- a whole round gives a new bound, or a further one gives nothing new
-pub whole_end : (q : Searches) (z : SizeSearches) (s : Setting) (old new : Table) → Next q z s old new
+pub whole_end : (q : Searches) (z : SizeSearches) (s : Setting) (old new : Table) → IsNextTable q z s old new
     → (missing s.program new < missing s.program old) ⊎ IsClosed q z s new
 whole_end q z s old new n =
     go (times_cases q s old new.time n.rules)
@@ -158,7 +158,7 @@ whole_end q z s old new n =
     go (inl a) (inr b) = let e = b.0 in inl (omega arith)
     go (inr a) (inl b) = let e = a.0 in inl (omega arith)
     go (inr a) (inr b) =
-        inr (subst (λ (tab : Table). Next q z s tab new)
+        inr (subst (λ (tab : Table). IsNextTable q z s tab new)
         (same_table old new a.1 (λ t i. sym (same_sizes q z s old new n.places b.1 t i))) n)
 
 -- each round gives a bound that was missing, or a further one gives nothing new

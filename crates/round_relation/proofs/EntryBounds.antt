@@ -5,23 +5,23 @@ use Rattle.std.specs.Prelude.{ℤ, pos}
 use Rattle.std.specs.List.{Contains}
 use Rattle.std.specs.Prelude.{nat_eq}
 use Rattle.std.proofs.lemmas.Bool.{and_parts, or_left, or_right}
-use Rattle.model.specs.Programs.{Program, Rule, arity_of}
-use Rattle.model.specs.Bounds.{Bound}
-use Rattle.model.specs.Paths.{Here, Onward, HasEdge, IsInSet, source_of, target_of, source_in, target_in}
-use Rattle.model.specs.Paths.{same_symbol, entry_and_rules}
-use Rattle.linear_forms.specs.Forms.{at}
-use Rattle.proof_nodes.specs.Nodes.{SymbolForm}
-use Rattle.model.specs.Entries.{is_in, entries, enters, is_left_by}
-use Rattle.proof_nodes.specs.Known.{Table, IsKnown}
-use Rattle.proof_nodes.specs.Composed.{rank_form}
-use Rattle.proof_nodes.specs.AcceptsRank.{HasFormShape}
-use Rattle.model.proofs.Membership.{same_number, told_same, no_is_not_yes, filter-in, list_any-told}
-use Rattle.proof_nodes.specs.Gaps.{SymbolPlace}
+use Rattle.rule_questions.specs.model.Programs.{Program, Rule, arity_of}
+use Rattle.rule_questions.specs.model.Bounds.{Bound}
+use Rattle.rule_questions.specs.model.Paths.{Here, Onward, HasEdge, IsInSet, source_of, target_of, source_in, target_in}
+use Rattle.rule_questions.specs.model.Paths.{same_symbol, entry_and_rules}
+use Rattle.rule_questions.specs.linear_forms.Forms.{at}
+use Rattle.rule_questions.specs.proof_nodes.Nodes.{SymbolForm}
+use Rattle.rule_questions.specs.model.Entries.{is_in, entries, enters, is_left_by}
+use Rattle.rule_questions.specs.proof_nodes.Known.{Table, IsKnown}
+use Rattle.rule_questions.specs.proof_nodes.Composed.{rank_form}
+use Rattle.rule_questions.specs.proof_nodes.AcceptsRank.{HasFormShape}
+use Rattle.rule_questions.proofs.model.Membership.{same_number, told_same, no_is_not_yes, filter-in, list_any-told}
+use Rattle.rule_questions.specs.proof_nodes.Gaps.{SymbolPlace}
 use Rattle.round_relation.specs.Tables.{lacks, is_untimed, IsPlace}
 use Rattle.round_relation.specs.Sets.{IsSetOfRule, IsShut, AreShutOf}
-use Rattle.proof_tree.specs.Shut.{is_shut}
-use Rattle.model.proofs.PathLaws.{Path-then as path_then}
-use Rattle.proof_nodes.proofs.Ranking.{rank_form-long as form_long}
+use Rattle.rule_questions.specs.proof_tree.Shut.{is_shut}
+use Rattle.rule_questions.proofs.model.PathLaws.{Path-then as path_then}
+use Rattle.rule_questions.proofs.proof_nodes.RankSoundness.{rank_form-long as form_long}
 
 -- two symbols that are the same are one
 pub one_symbol : (x y : Option ℕ) → same_symbol x y ≡ true → (a : ℕ) × (x ≡ Some a) × (y ≡ Some a)

@@ -4,16 +4,16 @@ use Rattle.std.proofs.Common.{true, false, List, [], ◌∷◌, ◌++◌, length
 use Rattle.std.proofs.Common.{sym, ◌∙◌, ap, subst, arith, slice_get}
 use Rattle.std.specs.List.{list_any, range_with_len, Contains}
 use Rattle.std.proofs.lemmas.Bool.{and_parts, or_left, or_right}
-use Rattle.model.specs.Programs.{Program, Symbol, arity_of}
-use Rattle.model.specs.Entries.{is_in, entries}
-use Rattle.model.specs.Paths.{HasPath, LeadsBackTo, IsInSet, source_of, target_of, source_in, same_symbol}
-use Rattle.model.proofs.Membership.{same_number, told_same, no_is_not_yes, is_in-cases, is_in-filter, filter-in}
-use Rattle.model.proofs.Membership.{list_any-from, list_any-told, is_in-numbers}
-use Rattle.model.proofs.Membership.{slice_get-below}
-use Rattle.proof_nodes.specs.Gaps.{SymbolPlace}
-use Rattle.proof_nodes.specs.Known.{Table, IsKnown}
-use Rattle.proof_nodes.specs.Numbers.{IsAscending}
-use Rattle.proof_nodes.specs.AcceptsPlain.{IsRule, places_at}
+use Rattle.rule_questions.specs.model.Programs.{Program, Symbol, arity_of}
+use Rattle.rule_questions.specs.model.Entries.{is_in, entries}
+use Rattle.rule_questions.specs.model.Paths.{HasPath, LeadsBackTo, IsInSet, source_of, target_of, source_in, same_symbol}
+use Rattle.rule_questions.proofs.model.Membership.{same_number, told_same, no_is_not_yes, is_in-cases, is_in-filter, filter-in}
+use Rattle.rule_questions.proofs.model.Membership.{list_any-from, list_any-told, is_in-numbers}
+use Rattle.rule_questions.proofs.model.Membership.{slice_get-below}
+use Rattle.rule_questions.specs.proof_nodes.Gaps.{SymbolPlace}
+use Rattle.rule_questions.specs.proof_nodes.Known.{Table, IsKnown}
+use Rattle.rule_questions.specs.proof_nodes.Numbers.{IsAscending}
+use Rattle.rule_questions.specs.proof_nodes.AcceptsPlain.{IsRule, places_at}
 use Rattle.round_relation.specs.Tables.{rule_numbers, lacks, is_untimed}
 use Rattle.round_relation.specs.Sets.{IsSetOfRule, IsShut, StandsBefore, ArePlacesInOrder, AreShutOf}
 use Rattle.round_relation.proofs.Cases.{either, some_same, told, lacks_none}

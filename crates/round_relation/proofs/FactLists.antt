@@ -4,13 +4,13 @@ use Rattle.std.proofs.Common.{length, Some, refl, sym, ◌∙◌, subst, arith, 
 use Rattle.std.specs.List.{Contains}
 use Rattle.std.proofs.lemmas.Bool.{and_parts}
 use Rattle.std.proofs.lemmas.List.Elements.{All-nil, All-head, All-tail}
-use Rattle.model.specs.Bounds.{Bound}
-use Rattle.model.specs.Facts.{Fact, Time, Size}
-use Rattle.model.proofs.Membership.{same_number, told_same, no_is_not_yes}
-use Rattle.proof_nodes.specs.Known.{Table, time_in, size_in}
-use Rattle.proof_nodes.specs.Acceptance.{facts_of_lemma}
+use Rattle.rule_questions.specs.model.Bounds.{Bound}
+use Rattle.rule_questions.specs.model.Facts.{Fact, Time, Size}
+use Rattle.rule_questions.proofs.model.Membership.{same_number, told_same, no_is_not_yes}
+use Rattle.rule_questions.specs.proof_nodes.Known.{Table, time_in, size_in}
+use Rattle.rule_questions.specs.proof_nodes.Acceptance.{facts_of_lemma}
 use Rattle.round_relation.specs.Laws.{IsStated}
-use Rattle.round_relation.specs.Standing.{IsOf, AreOf}
+use Rattle.round_relation.specs.Standing.{IsFactOf, AreFactsOf}
 use Rattle.round_relation.proofs.Cases.{either, none_some}
 
 -- what a list contains is its first element or in the rest
@@ -50,13 +50,14 @@ contains-either x (y ∷ xs) ys h =
     (λ m. either (contains-either x xs ys m) (λ l. inl (contains-later x y xs l)) (λ r. inr r))
 
 -- a time that is looked up among facts of a table is that of the table
-time_from : (tab : Table) (facts : List Fact) → AreOf tab facts → (t : ℕ) (b : Bound) → time_in facts t ≡ Some b
+time_from : (tab : Table) (facts : List Fact) → AreFactsOf tab facts → (t : ℕ) (b : Bound) → time_in facts t ≡ Some b
     → tab.time t ≡ Some b
 time_from tab [] are t b h = absurd (none_some b h)
-time_from tab (Size u i c ∷ facts) are t b h = time_from tab facts (All-tail (IsOf tab) (Size u i c) facts are) t b h
+time_from tab (Size u i c ∷ facts) are t b h =
+    time_from tab facts (All-tail (IsFactOf tab) (Size u i c) facts are) t b h
 time_from tab (Time u c ∷ facts) are t b h =
-    go (u == t) refl (All-head (IsOf tab) (Time u c) facts are)
-    (λ k. time_from tab facts (All-tail (IsOf tab) (Time u c) facts are) t b k)
+    go (u == t) refl (All-head (IsFactOf tab) (Time u c) facts are)
+    (λ k. time_from tab facts (All-tail (IsFactOf tab) (Time u c) facts are) t b k)
   where
     go : (v : Bool) → (u == t) ≡ v → tab.time u ≡ Some c → (time_in facts t ≡ Some b → tab.time t ≡ Some b) → tab.time t
         ≡ Some b
@@ -66,13 +67,14 @@ time_from tab (Time u c ∷ facts) are t b h =
     go false e here later = later (rw e at h)
 
 -- and so is a size
-size_from : (tab : Table) (facts : List Fact) → AreOf tab facts → (t i : ℕ) (b : Bound) → size_in facts t i ≡ Some b
+size_from : (tab : Table) (facts : List Fact) → AreFactsOf tab facts → (t i : ℕ) (b : Bound) → size_in facts t i ≡ Some b
     → tab.size t i ≡ Some b
 size_from tab [] are t i b h = absurd (none_some b h)
-size_from tab (Time u c ∷ facts) are t i b h = size_from tab facts (All-tail (IsOf tab) (Time u c) facts are) t i b h
+size_from tab (Time u c ∷ facts) are t i b h =
+    size_from tab facts (All-tail (IsFactOf tab) (Time u c) facts are) t i b h
 size_from tab (Size u j c ∷ facts) are t i b h =
-    go ((u == t) && (j == i)) refl (All-head (IsOf tab) (Size u j c) facts are)
-    (λ k. size_from tab facts (All-tail (IsOf tab) (Size u j c) facts are) t i b k)
+    go ((u == t) && (j == i)) refl (All-head (IsFactOf tab) (Size u j c) facts are)
+    (λ k. size_from tab facts (All-tail (IsFactOf tab) (Size u j c) facts are) t i b k)
   where
     go : (v : Bool) → ((u == t) && (j == i)) ≡ v → tab.size u j ≡ Some c →
         (size_in facts t i ≡ Some b → tab.size t i ≡ Some b)
@@ -159,13 +161,13 @@ size_found (Size u j c ∷ facts) t i b h = go ((u == t) && (j == i)) refl
     go false e cases ih = let found = ih (later e cases) in (found.0, rw e (found.1))
 
 -- so among facts of a table, a time or a size that is stated is looked up as the table has it
-pub same_time : (tab : Table) (facts : List Fact) → AreOf tab facts → (t : ℕ) (b : Bound) → Contains facts (Time t b)
+pub same_time : (tab : Table) (facts : List Fact) → AreFactsOf tab facts → (t : ℕ) (b : Bound) → Contains facts (Time t b)
     → time_in facts t ≡ tab.time t
 same_time tab facts are t b h = let found = time_found facts t b h in found.1 ∙ sym
     (time_from tab facts are t found.0 found.1)
 
 -- among facts of a table, a size that is stated is looked up as the table has it
-pub same_size : (tab : Table) (facts : List Fact) → AreOf tab facts → (t i : ℕ) (b : Bound) → Contains facts
+pub same_size : (tab : Table) (facts : List Fact) → AreFactsOf tab facts → (t i : ℕ) (b : Bound) → Contains facts
     (Size t i b)
     → size_in facts t i ≡ tab.size t i
 same_size tab facts are t i b h = let found = size_found facts t i b h in found.1 ∙ sym

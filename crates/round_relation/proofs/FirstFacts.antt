@@ -3,18 +3,18 @@ use Rattle.std.proofs.Common.{◌≡◌, ◌⊎◌, ◌↔◌, inl, inr, ℕ, Bo
 use Rattle.std.proofs.Common.{sym, ◌∙◌, ap, subst}
 use Rattle.std.proofs.lemmas.Bool.{and_parts, not-true}
 use Rattle.std.proofs.lemmas.List.{append-nil}
-use Rattle.model.specs.Facts.{Fact}
-use Rattle.model.specs.Entries.{is_in}
-use Rattle.model.specs.Paths.{target_of}
-use Rattle.model.proofs.Membership.{is_in-filter, filter-in}
-use Rattle.proof_nodes.specs.Nodes.{Proof}
-use Rattle.proof_nodes.specs.Known.{Table}
-use Rattle.proof_nodes.specs.Setting.{Setting}
-use Rattle.proof_nodes.specs.AcceptsPlain.{IsRule, IsUnreached}
-use Rattle.proof_nodes.specs.Acceptance.{AcceptsFrom, facts_from}
+use Rattle.rule_questions.specs.model.Facts.{Fact}
+use Rattle.rule_questions.specs.model.Entries.{is_in}
+use Rattle.rule_questions.specs.model.Paths.{target_of}
+use Rattle.rule_questions.proofs.model.Membership.{is_in-filter, filter-in}
+use Rattle.rule_questions.specs.proof_nodes.Nodes.{Proof}
+use Rattle.rule_questions.specs.proof_nodes.Known.{Table}
+use Rattle.rule_questions.specs.proof_nodes.Setting.{Setting}
+use Rattle.rule_questions.specs.proof_nodes.AcceptsPlain.{IsRule, IsUnreached}
+use Rattle.rule_questions.specs.proof_nodes.Acceptance.{AcceptsFrom, facts_from}
 use Rattle.round_relation.specs.Tables.{rule_numbers}
 use Rattle.round_relation.specs.Searches.{Searches}
-use Rattle.round_relation.specs.Beginning.{First, IsDead}
+use Rattle.round_relation.specs.Beginning.{IsFirstTable, IsDead}
 use Rattle.round_relation.specs.Uses.{Numbers}
 use Rattle.round_relation.specs.LemmaOrder.{AreEmptyLemmas, unreached_lemmas, has_places, never_lemmas, is_cut, is_dead}
 use Rattle.round_relation.specs.LemmaOrder.{first_lemmas}
@@ -40,7 +40,7 @@ sized_ones s is_empty is_unreached =
 abbrev pub zero_ones : Setting → (ℕ → Bool) → (ℕ → Bool) → List ℕ
 zero_ones s is_empty is_unreached = empty_ones s is_empty ++ cut_ones s is_empty is_unreached
 
-module _ (q : Searches) (s : Setting) (right : AreRight q s) (tab : Table) (h : First q s.program tab) (out : ℕ → Bool)
+module _ (q : Searches) (s : Setting) (right : AreRight q s) (tab : Table) (h : IsFirstTable q s.program tab) (out : ℕ → Bool)
     (unreached : (t : ℕ) → IsRule s.program t → h.is_empty t ≡ false → (out t ≡ true) ↔ IsUnreached s.program (λ e. not (h.is_empty e)) t)
     (empties : List Proof) (are : AreEmptyLemmas q (filter h.is_empty (rule_numbers s.program)) empties) where
   -- the lemmas of the empty rules are accepted, and state a time of 0 for each

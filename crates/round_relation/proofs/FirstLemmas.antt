@@ -6,24 +6,24 @@ use Rattle.std.proofs.lemmas.Bool.{or_left, or_right}
 use Rattle.std.proofs.lemmas.List.{append_assoc, length-append, append-nil, map-append}
 use Rattle.std.proofs.lemmas.List.Elements.{All-nil, All-cons, All-push}
 use Rattle.std.proofs.lemmas.List.FromFn.{length-range_with_len, get_or-range_with_len}
-use Rattle.model.specs.Programs.{Program, Rule, rule_at}
-use Rattle.model.specs.Bounds.{Bound, Constant}
-use Rattle.model.specs.Facts.{Fact, Time, Size}
-use Rattle.model.specs.Entries.{is_in}
-use Rattle.model.specs.Paths.{Here, Onward, HasPath, target_of}
-use Rattle.model.proofs.Membership.{same_number, is_in-cases, contains-is_in, no_is_not_yes}
-use Rattle.proof_nodes.specs.Nodes.{Proof}
-use Rattle.proof_nodes.specs.Known.{Table, is_zero_bound, has_zero_time}
-use Rattle.proof_nodes.specs.Setting.{Setting}
-use Rattle.proof_nodes.specs.AcceptsPlain.{IsRule, IsUnreached, AcceptsNever, may_run, zero_sizes, places_at}
-use Rattle.proof_nodes.specs.AcceptsPlain.{never_facts}
-use Rattle.proof_nodes.specs.Acceptance.{facts_of, facts_of_lemma, joined_facts, AcceptsFrom, facts_from}
+use Rattle.rule_questions.specs.model.Programs.{Program, Rule, rule_at}
+use Rattle.rule_questions.specs.model.Bounds.{Bound, Constant}
+use Rattle.rule_questions.specs.model.Facts.{Fact, Time, Size}
+use Rattle.rule_questions.specs.model.Entries.{is_in}
+use Rattle.rule_questions.specs.model.Paths.{Here, Onward, HasPath, target_of}
+use Rattle.rule_questions.proofs.model.Membership.{same_number, is_in-cases, contains-is_in, no_is_not_yes}
+use Rattle.rule_questions.specs.proof_nodes.Nodes.{Proof}
+use Rattle.rule_questions.specs.proof_nodes.Known.{Table, is_zero_bound, has_zero_time}
+use Rattle.rule_questions.specs.proof_nodes.Setting.{Setting}
+use Rattle.rule_questions.specs.proof_nodes.AcceptsPlain.{IsRule, IsUnreached, AcceptsNever, may_run, zero_sizes, places_at}
+use Rattle.rule_questions.specs.proof_nodes.AcceptsPlain.{never_facts}
+use Rattle.rule_questions.specs.proof_nodes.Acceptance.{facts_of, facts_of_lemma, joined_facts, AcceptsFrom, facts_from}
 use Rattle.round_relation.specs.Searches.{Searches, NoPoint}
-use Rattle.round_relation.specs.Beginning.{First, IsDead}
+use Rattle.round_relation.specs.Beginning.{IsFirstTable, IsDead}
 use Rattle.round_relation.specs.Uses.{Numbers, cites}
 use Rattle.round_relation.specs.LemmaOrder.{AreEmptyLemmas, unreached_lemmas, never_lemmas}
 use Rattle.round_relation.specs.Right.{AreRight}
-use Rattle.round_relation.specs.Standing.{IsOf, AreOf}
+use Rattle.round_relation.specs.Standing.{IsFactOf, AreFactsOf}
 use Rattle.round_relation.proofs.Cases.{either}
 use Rattle.round_relation.proofs.Numbered.{in_range, in_places}
 use Rattle.round_relation.proofs.FactLists.{contains-cases, contains-none, contains-first, IsNumbered}
@@ -182,15 +182,15 @@ number_cited k n m = go (contains-is_in (range_with_len 1 k) n m)
         let number = get_or-range_with_len 1 k i n below in
         (omega (arith, e, number), omega (arith, e, number, below))
 
-module _ (q : Searches) (s : Setting) (right : AreRight q s) (tab : Table) (h : First q s.program tab) where
+module _ (q : Searches) (s : Setting) (right : AreRight q s) (tab : Table) (h : IsFirstTable q s.program tab) where
   -- what is stated of rules that never run is that of the table
   pub zeros_of : (ts : List ℕ) → ((t : ℕ) → is_in t ts ≡ true → IsRule s.program t × IsDead s.program h.is_empty t)
-      → All (AreOf tab) (zero_times ts)
-  zeros_of [] dead = All-nil (AreOf tab)
+      → All (AreFactsOf tab) (zero_times ts)
+  zeros_of [] dead = All-nil (AreFactsOf tab)
   zeros_of (t ∷ ts) dead =
       let here = dead t (or_left (t == t) (is_in t ts) (same_number t)) in
-      All-cons (AreOf tab) (Time t (Constant 0) ∷ []) (zero_times ts)
-      (All-cons (IsOf tab) (Time t (Constant 0)) [] ((h.dead t here.0 here.1).time) (All-nil (IsOf tab)))
+      All-cons (AreFactsOf tab) (Time t (Constant 0) ∷ []) (zero_times ts)
+      (All-cons (IsFactOf tab) (Time t (Constant 0)) [] ((h.dead t here.0 here.1).time) (All-nil (IsFactOf tab)))
       (zeros_of ts (λ u m. dead u (or_right (u == t) (is_in u ts) m)))
 
   -- lemmas that state times of 0
@@ -321,20 +321,20 @@ module _ (q : Searches) (s : Setting) (right : AreRight q s) (tab : Table) (h : 
       }
 
   -- sizes of 0 after a rule that never runs are those of the table
-  zero_sizes_of : (t : ℕ) (is : List ℕ) → ((i : ℕ) → is_in i is ≡ true → tab.size t i ≡ Some (Constant 0)) → AreOf tab
+  zero_sizes_of : (t : ℕ) (is : List ℕ) → ((i : ℕ) → is_in i is ≡ true → tab.size t i ≡ Some (Constant 0)) → AreFactsOf tab
       (zero_sizes t is)
-  zero_sizes_of t [] zero_at = All-nil (IsOf tab)
+  zero_sizes_of t [] zero_at = All-nil (IsFactOf tab)
   zero_sizes_of t (i ∷ is) zero_at =
-      All-cons (IsOf tab) (Size t i (Constant 0)) (zero_sizes t is)
+      All-cons (IsFactOf tab) (Size t i (Constant 0)) (zero_sizes t is)
       (zero_at i (or_left (i == i) (is_in i is) (same_number i)))
       (zero_sizes_of t is (λ k m. zero_at k (or_right (k == i) (is_in k is) m)))
 
   pub record NeversStand (past : List (List Fact)) (proofs : List Proof) : Type 0 where
     pub accepted : AcceptsFrom s past proofs
-    pub are : All (AreOf tab) (facts_from s past proofs)
+    pub are : All (AreFactsOf tab) (facts_from s past proofs)
 
   -- rules whose times of 0 have their numbers
-  pub nevers_stand : (zs : List ℕ) (ns : Numbers) (more : List (List Fact)) → All (AreOf tab) (zero_times zs ++ more) →
+  pub nevers_stand : (zs : List ℕ) (ns : Numbers) (more : List (List Fact)) → All (AreFactsOf tab) (zero_times zs ++ more) →
       (ts : List ℕ)
       → ((t : ℕ) → is_in t ts ≡ true → IsRule s.program t × IsDead s.program h.is_empty t × (1 ≤ ns.time t) ×
       (ns.time t ≤ length zs)
@@ -344,8 +344,8 @@ module _ (q : Searches) (s : Setting) (right : AreRight q s) (tab : Table) (h : 
   nevers_stand zs ns more are (t ∷ ts) each =
       one_never (subst (λ (past : List (List Fact)). NeversStand past (never_lemmas ns ts)) (sym joined)
       (nevers_stand zs ns (more ++ (never_facts s.program (facts_of_lemma (zero_times zs ++ more) (ns.time t)) ∷ []))
-      (subst (λ (past : List (List Fact)). All (AreOf tab) past) joined
-      (All-push (AreOf tab) (zero_times zs ++ more) (never_facts s.program
+      (subst (λ (past : List (List Fact)). All (AreFactsOf tab) past) joined
+      (All-push (AreFactsOf tab) (zero_times zs ++ more) (never_facts s.program
       (facts_of_lemma (zero_times zs ++ more) (ns.time t))) are own_of)) ts
       (λ u m. each u (or_right (u == t) (is_in u ts) m))))
     where
@@ -367,9 +367,9 @@ module _ (q : Searches) (s : Setting) (right : AreRight q s) (tab : Table) (h : 
               none x = cc
           alone (suc u) r e = record { shape = tt; zero = refl }
 
-      own_of : AreOf tab (never_facts s.program (facts_of_lemma (zero_times zs ++ more) (ns.time t)))
+      own_of : AreFactsOf tab (never_facts s.program (facts_of_lemma (zero_times zs ++ more) (ns.time t)))
       own_of =
-          subst (λ (fs : List Fact). AreOf tab (never_facts s.program fs)) (sym stated)
+          subst (λ (fs : List Fact). AreFactsOf tab (never_facts s.program fs)) (sym stated)
           (zero_sizes_of t (places_at s.program (target_of s.program t))
           (λ i m. (h.dead t here.0 here.1).sizes i (in_places s.program t i m)))
 

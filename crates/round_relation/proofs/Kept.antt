@@ -2,12 +2,12 @@
 use Rattle.std.proofs.Common.{◌≡◌, ◌⊎◌, inl, inr, ℕ, ◌+◌, ◌<◌, cond, List, [], ◌∷◌, Option, Some, None, refl, ◌∙◌, ap}
 use Rattle.std.proofs.Common.{arith}
 use Rattle.std.specs.List.{count_by}
-use Rattle.model.specs.Programs.{Program}
-use Rattle.model.specs.Bounds.{Bound}
-use Rattle.model.specs.Paths.{target_of}
-use Rattle.proof_nodes.specs.AcceptsPlain.{places_at}
-use Rattle.proof_nodes.specs.Known.{Table}
-use Rattle.proof_nodes.specs.Nodes.{Spot}
+use Rattle.rule_questions.specs.model.Programs.{Program}
+use Rattle.rule_questions.specs.model.Bounds.{Bound}
+use Rattle.rule_questions.specs.model.Paths.{target_of}
+use Rattle.rule_questions.specs.proof_nodes.AcceptsPlain.{places_at}
+use Rattle.rule_questions.specs.proof_nodes.Known.{Table}
+use Rattle.rule_questions.specs.proof_nodes.Nodes.{Spot}
 use Rattle.round_relation.specs.Tables.{lacks}
 use Rattle.round_relation.specs.Searches.{SizeSearches}
 use Rattle.round_relation.specs.NewSizes.{Sizes, TriesSizes}

@@ -1,6 +1,6 @@
 -- Where the first table is one, and each has one next, all last tables are the same.
 use Rattle.std.proofs.Common.{◌≡◌, ◌⊎◌, inl, inr, ℕ, zero, suc, ◌+◌, sym, subst, arith}
-use Rattle.proof_nodes.specs.Known.{Table}
+use Rattle.rule_questions.specs.proof_nodes.Known.{Table}
 use Rattle.round_relation.proofs.Cases.{either}
 
 module _ (Begins : Table → Type 0) (Follows : Table → Table → Type 0) (begin_one : (a b : Table) → Begins a → Begins b → a

@@ -1,24 +1,24 @@
 -- Each table that is made by rounds of times has a next one, and so there is a last one.
 use Rattle.std.proofs.Common.{◌≡◌, ◌⊎◌, ◌↔◌, inl, inr, ℕ, zero, suc, ◌-◌, ◌≤◌, Bool, not, true, false, cond}
 use Rattle.std.proofs.Common.{Option, Some, None, refl, sym, ◌∙◌, ap, subst, arith}
-use Rattle.model.specs.Programs.{Rule, rule_at}
-use Rattle.model.specs.Bounds.{Bound, Constant, Input}
-use Rattle.model.specs.Entries.{is_in}
-use Rattle.model.specs.Paths.{target_of}
-use Rattle.model.proofs.Membership.{no_is_not_yes}
-use Rattle.bound_expr.specs.Measure.{is_large}
-use Rattle.proof_nodes.specs.Known.{Table, IsKnown}
-use Rattle.proof_nodes.specs.Setting.{Setting}
-use Rattle.proof_nodes.specs.Limits.{IsSmallComposed}
-use Rattle.proof_nodes.specs.Checks.{large_nodes}
-use Rattle.proof_nodes.specs.AcceptsPlain.{IsRule, places_at}
-use Rattle.proof_nodes.specs.AcceptsRank.{rank_time}
+use Rattle.rule_questions.specs.model.Programs.{Rule, rule_at}
+use Rattle.rule_questions.specs.model.Bounds.{Bound, Constant, Input}
+use Rattle.rule_questions.specs.model.Entries.{is_in}
+use Rattle.rule_questions.specs.model.Paths.{target_of}
+use Rattle.rule_questions.proofs.model.Membership.{no_is_not_yes}
+use Rattle.rule_questions.specs.bound_expr.Measure.{is_large}
+use Rattle.rule_questions.specs.proof_nodes.Known.{Table, IsKnown}
+use Rattle.rule_questions.specs.proof_nodes.Setting.{Setting}
+use Rattle.rule_questions.specs.proof_nodes.Limits.{IsSmallComposed}
+use Rattle.rule_questions.specs.proof_nodes.Checks.{large_nodes}
+use Rattle.rule_questions.specs.proof_nodes.AcceptsPlain.{IsRule, places_at}
+use Rattle.rule_questions.specs.proof_nodes.AcceptsRank.{rank_time}
 use Rattle.outcome.specs.Reports.{Time, Timed, Untimed, NoFunction, TimeTripped, TimeLarge}
 use Rattle.round_relation.specs.Tables.{IsPlace}
 use Rattle.round_relation.specs.Searches.{Answers, searches_of, Emptiness, NoPoint, HasPoint, EmptyTripped, Ranking}
 use Rattle.round_relation.specs.Searches.{Ranked, Unranked, RankTripped}
-use Rattle.round_relation.specs.Beginning.{IsEmpty, IsDead, IsZero, IsOpen, First}
-use Rattle.round_relation.specs.NewTimes.{Composes, SaysTime, bound_in, Tells, TriesTime}
+use Rattle.round_relation.specs.Beginning.{IsEmpty, IsDead, IsZero, IsOpen, IsFirstTable}
+use Rattle.round_relation.specs.NewTimes.{Composes, SaysTime, bound_in, GivesTime, TriesTime}
 use Rattle.round_relation.specs.Rounds.{NextTimes, IsMadeByTimes, Begun, Made, IsLastOfTimes}
 use Rattle.round_relation.specs.Laws.{untimed, LastTablesExist}
 use Rattle.round_relation.proofs.Cases.{either, false_true, none_some, told}
@@ -54,7 +54,7 @@ record Becomes (a : Answers) (s : Setting) (old : Table) (t : ℕ) : Type 0 wher
   pub others : ¬ (IsRule s.program t) → value ≡ old.time t
 
 module _ (a : Answers) (s : Setting) where
-  tells : (old : Table) → IsKnown (old.time 0) → (t : ℕ) → IsRule s.program t → (time : Time) × Tells
+  tells : (old : Table) → IsKnown (old.time 0) → (t : ℕ) → IsRule s.program t → (time : Time) × GivesTime
       (searches_of a) s old t time
   tells old begun t rule =
       let set = set_there s.program old begun t rule in
@@ -243,7 +243,7 @@ module _ (a : Answers) (s : Setting) where
           (λ e. e)
 
   -- there is a table from which the rounds begin
-  pub first_there : (tab : Table) × First (searches_of a) s.program tab
+  pub first_there : (tab : Table) × IsFirstTable (searches_of a) s.program tab
   first_there = (
     record { time = first_time; size = first_size },
     record {

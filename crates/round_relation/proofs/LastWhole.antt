@@ -1,14 +1,14 @@
 -- Each table that is made by whole rounds has a next one, and so there is a last one.
 use Rattle.std.proofs.Common.{◌≡◌, ℕ, zero, suc, ◌≤◌, Bool, true, false, List, [], ◌∷◌, Option, Some, None, refl}
 use Rattle.std.proofs.Common.{arith}
-use Rattle.model.specs.Bounds.{Bound}
-use Rattle.proof_nodes.specs.Nodes.{Spot}
-use Rattle.proof_nodes.specs.Known.{Table, IsKnown}
-use Rattle.proof_nodes.specs.Setting.{Setting}
+use Rattle.rule_questions.specs.model.Bounds.{Bound}
+use Rattle.rule_questions.specs.proof_nodes.Nodes.{Spot}
+use Rattle.rule_questions.specs.proof_nodes.Known.{Table, IsKnown}
+use Rattle.rule_questions.specs.proof_nodes.Setting.{Setting}
 use Rattle.round_relation.specs.Searches.{Answers, SizeAnswers, searches_of, size_searches_of}
 use Rattle.round_relation.specs.NewSizes.{Sizes, has_spot, size_by, TriesSize, TriesSizes}
 use Rattle.round_relation.specs.Components.{AreComponentsOf}
-use Rattle.round_relation.specs.Rounds.{Next, IsMade, BegunWhole, MadeWhole, IsLast}
+use Rattle.round_relation.specs.Rounds.{IsNextTable, IsMade, BegunWhole, MadeWhole, IsLast}
 use Rattle.round_relation.specs.Laws.{missing}
 use Rattle.round_relation.specs.WholeLaws.{LastWholeTablesExist}
 use Rattle.round_relation.proofs.Cases.{either}
@@ -53,7 +53,7 @@ module _ (z : SizeAnswers) where
       (rest.0, (tried_sizes time old c, try_there time old c, rest.1))
 
   module _ (a : Answers) (s : Setting) (components : AreComponentsOf (searches_of a) s.program z.components) where
-    pub next_whole_there : (old : Table) → IsKnown (old.time 0) → (new : Table) × Next (searches_of a)
+    pub next_whole_there : (old : Table) → IsKnown (old.time 0) → (new : Table) × IsNextTable (searches_of a)
         (size_searches_of z) s old new
     next_whole_there old begun =
         let times = next_there a s old begun in

@@ -7,20 +7,20 @@ use Rattle.std.specs.List.{Contains, count_by}
 use Rattle.std.proofs.lemmas.Bool.{or_left, or_right}
 use Rattle.std.proofs.lemmas.List.{length-append, append_assoc, append-nil}
 use Rattle.std.proofs.lemmas.List.Sums.{length-filter}
-use Rattle.model.specs.Programs.{Program, arity_of}
-use Rattle.model.specs.Bounds.{Bound, Constant}
-use Rattle.model.specs.Facts.{Fact, Time, Size}
-use Rattle.model.specs.Entries.{is_in}
-use Rattle.model.specs.Paths.{target_of}
-use Rattle.model.proofs.Membership.{same_number, is_in-cases, filter-in, no_is_not_yes}
-use Rattle.proof_nodes.specs.Nodes.{Proof}
-use Rattle.proof_nodes.specs.Known.{Table, known as known_bound}
-use Rattle.proof_nodes.specs.Setting.{Setting}
-use Rattle.proof_nodes.specs.AcceptsPlain.{IsRule, IsUnreached, zero_sizes, places_at, never_facts}
-use Rattle.proof_nodes.specs.Acceptance.{facts_of, facts_of_lemma, facts_from, facts_of_lemmas}
+use Rattle.rule_questions.specs.model.Programs.{Program, arity_of}
+use Rattle.rule_questions.specs.model.Bounds.{Bound, Constant}
+use Rattle.rule_questions.specs.model.Facts.{Fact, Time, Size}
+use Rattle.rule_questions.specs.model.Entries.{is_in}
+use Rattle.rule_questions.specs.model.Paths.{target_of}
+use Rattle.rule_questions.proofs.model.Membership.{same_number, is_in-cases, filter-in, no_is_not_yes}
+use Rattle.rule_questions.specs.proof_nodes.Nodes.{Proof}
+use Rattle.rule_questions.specs.proof_nodes.Known.{Table, known as known_bound}
+use Rattle.rule_questions.specs.proof_nodes.Setting.{Setting}
+use Rattle.rule_questions.specs.proof_nodes.AcceptsPlain.{IsRule, IsUnreached, zero_sizes, places_at, never_facts}
+use Rattle.rule_questions.specs.proof_nodes.Acceptance.{facts_of, facts_of_lemma, facts_from, facts_of_lemmas}
 use Rattle.round_relation.specs.Tables.{rule_numbers, IsPlace}
 use Rattle.round_relation.specs.Searches.{Searches, searches_of}
-use Rattle.round_relation.specs.Beginning.{First, IsDead}
+use Rattle.round_relation.specs.Beginning.{IsFirstTable, IsDead}
 use Rattle.round_relation.specs.Rounds.{NextTimes}
 use Rattle.round_relation.specs.LemmaOrder.{AreEmptyLemmas, has_places, never_lemmas, is_cut, is_dead, first_lemmas}
 use Rattle.round_relation.specs.LemmaOrder.{AreNumbersOf, is_new, AreRoundLemmas, AreLemmasOf}
@@ -61,7 +61,7 @@ placed p t i place =
     below zero low = absurd (omega (arith, low))
     below (suc n) low = grind arith
 
-module _ (q : Searches) (s : Setting) (right : AreRight q s) (tab : Table) (h : First q s.program tab) (out : ℕ → Bool)
+module _ (q : Searches) (s : Setting) (right : AreRight q s) (tab : Table) (h : IsFirstTable q s.program tab) (out : ℕ → Bool)
     (unreached : (t : ℕ) → IsRule s.program t → h.is_empty t ≡ false → (out t ≡ true) ↔ IsUnreached s.program (λ e. not (h.is_empty e)) t)
     (empties : List Proof) (are : AreEmptyLemmas q (filter h.is_empty (rule_numbers s.program)) empties) where
   -- after the lemmas of times of 0, the number of the time of a rule that never runs is that of its lemma
@@ -334,7 +334,7 @@ module _ (q : Searches) (s : Setting) (right : AreRight q s) (old new : Table) (
           none x = cc
 
 -- over what lemmas state
-pub first_numbers_are : (q : Searches) (s : Setting) → AreRight q s → (tab : Table) → (h : First q s.program tab) →
+pub first_numbers_are : (q : Searches) (s : Setting) → AreRight q s → (tab : Table) → (h : IsFirstTable q s.program tab) →
     (out : ℕ → Bool)
     → ((t : ℕ) → IsRule s.program t → h.is_empty t ≡ false → (out t ≡ true) ↔ IsUnreached s.program (λ e. not (h.is_empty e)) t)
     → (empties : List Proof) → AreEmptyLemmas q (filter h.is_empty (rule_numbers s.program)) empties

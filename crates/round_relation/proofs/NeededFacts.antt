@@ -5,19 +5,19 @@ use Rattle.std.specs.List.{Contains}
 use Rattle.std.proofs.lemmas.Bool.{or_left, or_right}
 use Rattle.std.proofs.lemmas.List.{length-append}
 use Rattle.std.proofs.lemmas.List.Elements.{All-nil, All-cons}
-use Rattle.model.specs.Programs.{Program}
-use Rattle.model.specs.Bounds.{Bound, Constant, Input}
-use Rattle.model.specs.Facts.{Fact, Time, Size}
-use Rattle.model.specs.Entries.{is_in}
-use Rattle.model.proofs.Membership.{same_number, is_in-cases, no_is_not_yes}
-use Rattle.proof_nodes.specs.Known.{Table, IsKnown, time_in, size_in}
-use Rattle.proof_nodes.specs.Setting.{Setting}
-use Rattle.proof_nodes.specs.AcceptsPlain.{IsRule, places_at, start_sizes, start_facts}
-use Rattle.proof_nodes.specs.Acceptance.{facts_of_lemma, joined_facts, AllAccepted}
+use Rattle.rule_questions.specs.model.Programs.{Program}
+use Rattle.rule_questions.specs.model.Bounds.{Bound, Constant, Input}
+use Rattle.rule_questions.specs.model.Facts.{Fact, Time, Size}
+use Rattle.rule_questions.specs.model.Entries.{is_in}
+use Rattle.rule_questions.proofs.model.Membership.{same_number, is_in-cases, no_is_not_yes}
+use Rattle.rule_questions.specs.proof_nodes.Known.{Table, IsKnown, time_in, size_in}
+use Rattle.rule_questions.specs.proof_nodes.Setting.{Setting}
+use Rattle.rule_questions.specs.proof_nodes.AcceptsPlain.{IsRule, places_at, start_sizes, start_facts}
+use Rattle.rule_questions.specs.proof_nodes.Acceptance.{facts_of_lemma, joined_facts, AllAccepted}
 use Rattle.round_relation.specs.Tables.{IsPlace, KnowsStart, IsTableOf}
 use Rattle.round_relation.specs.Uses.{Need, NeedsTime, NeedsSize, Numbers, number_of, uses_for}
 use Rattle.round_relation.specs.LemmaOrder.{AreNumbersOf}
-use Rattle.round_relation.specs.Standing.{IsOf, AreOf}
+use Rattle.round_relation.specs.Standing.{IsFactOf, AreFactsOf}
 use Rattle.round_relation.proofs.Cases.{either, some_same}
 use Rattle.round_relation.proofs.Numbered.{place_in, in_places}
 use Rattle.round_relation.proofs.FactLists.{contains-cases, contains-none, contains-first, contains-later, same_time}
@@ -42,10 +42,10 @@ follows-more earlier past more h = record {
 
 -- the virtual entry's facts are those of a table that knows it
 sizes-of : (tab : Table) (is : List ℕ) → ((i : ℕ) → is_in i is ≡ true → tab.size 0 i ≡ Some (Input (i - 1)))
-    → AreOf tab (start_sizes is)
-sizes-of tab [] h = All-nil (IsOf tab)
+    → AreFactsOf tab (start_sizes is)
+sizes-of tab [] h = All-nil (IsFactOf tab)
 sizes-of tab (i ∷ is) h =
-    All-cons (IsOf tab) (Size 0 i (Input (i - 1))) (start_sizes is)
+    All-cons (IsFactOf tab) (Size 0 i (Input (i - 1))) (start_sizes is)
     (h i (or_left (i == i) (is_in i is) (same_number i)))
     (sizes-of tab is (λ k m. h k (or_right (k == i) (is_in k is) m)))
 
@@ -58,9 +58,9 @@ size-among (k ∷ is) i m =
     (λ later. contains-later (Size 0 i (Input (i - 1))) (Size 0 k (Input (k - 1))) (start_sizes is)
     (size-among is i later))
 
-start_bounds : (p : Program) (tab : Table) → KnowsStart p tab → AreOf tab (start_facts p)
+start_bounds : (p : Program) (tab : Table) → KnowsStart p tab → AreFactsOf tab (start_facts p)
 start_bounds p tab start =
-    All-cons (IsOf tab) (Time 0 (Constant 1)) (start_sizes (places_at p (Some p.start))) start.time
+    All-cons (IsFactOf tab) (Time 0 (Constant 1)) (start_sizes (places_at p (Some p.start))) start.time
     (sizes-of tab (places_at p (Some p.start)) (λ i m. start.sizes i (in_places p 0 i m)))
 
 -- a new table keeps what an old one knows
@@ -99,7 +99,7 @@ in-numbers ns (x ∷ needs) k h =
 module _ (s : Setting) (old new : Table) (start : KnowsStart s.program old) (table : IsTableOf s.program old)
     (keeps : Keeps old new) (earlier : List (List Fact)) (ns : Numbers)
     (numbers : AreNumbersOf s.program earlier old ns) (past : List (List Fact)) (follows : Follows earlier past)
-    (are : All (AreOf new) past) where
+    (are : All (AreFactsOf new) past) where
   -- the needed bound as a fact
   abbrev met_fact : (n : Need) → IsMet old n → Fact
   met_fact (NeedsTime t) h = Time t h.0
@@ -187,10 +187,10 @@ module _ (s : Setting) (old new : Table) (start : KnowsStart s.program old) (tab
       sizes = λ i place. keeps.sizes 0 i (Input (i - 1)) (start.sizes i place);
     }
 
-    joined_of : AreOf new (joined_facts s past (uses_for ns needs))
+    joined_of : AreFactsOf new (joined_facts s past (uses_for ns needs))
     joined_of =
-        uses-all s past (IsOf new) (map (number_of ns) needs) (start_bounds s.program new start_kept)
-        (λ n. lemma-all (IsOf new) past are n)
+        uses-all s past (IsFactOf new) (map (number_of ns) needs) (start_bounds s.program new start_kept)
+        (λ n. lemma-all (IsFactOf new) past are n)
 
     -- and each needed bound is looked up as the table has it
     pub needed_time : (t : ℕ) → Contains needs (NeedsTime t)

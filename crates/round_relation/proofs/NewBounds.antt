@@ -3,27 +3,27 @@ use Rattle.std.proofs.Common.{◌≡◌, inl, inr, ℕ, ◌==◌, ◌&&◌, ◌|
 use Rattle.std.proofs.Common.{None, refl, sym, ◌∙◌, ap, subst, All}
 use Rattle.std.proofs.lemmas.Bool.{and_parts}
 use Rattle.std.proofs.lemmas.List.Elements.{All-head, All-tail}
-use Rattle.model.specs.Programs.{Rule, rule_at}
-use Rattle.model.specs.Bounds.{Bound}
-use Rattle.model.specs.Facts.{Time, Size}
-use Rattle.proof_nodes.specs.Nodes.{Spot, Member}
-use Rattle.proof_nodes.specs.Known.{Table, IsKnown}
-use Rattle.proof_nodes.specs.Setting.{Setting, IsFaithful}
-use Rattle.proof_nodes.specs.AcceptsPlain.{IsRule}
-use Rattle.proof_nodes.specs.AcceptsSizes.{spread_size, cycle_size, cycle_facts}
-use Rattle.model.proofs.Membership.{told_same, no_is_not_yes}
-use Rattle.proof_nodes.proofs.GoodFacts.{IsGood, IsGoodTable}
-use Rattle.proof_nodes.proofs.Ranking.{rank-good}
-use Rattle.proof_nodes.proofs.Spreading.{spread-good}
-use Rattle.proof_nodes.proofs.Cycling.{cycle-good}
+use Rattle.rule_questions.specs.model.Programs.{Rule, rule_at}
+use Rattle.rule_questions.specs.model.Bounds.{Bound}
+use Rattle.rule_questions.specs.model.Facts.{Time, Size}
+use Rattle.rule_questions.specs.proof_nodes.Nodes.{Spot, Member}
+use Rattle.rule_questions.specs.proof_nodes.Known.{Table, IsKnown}
+use Rattle.rule_questions.specs.proof_nodes.Setting.{Setting, IsFaithful}
+use Rattle.rule_questions.specs.proof_nodes.AcceptsPlain.{IsRule}
+use Rattle.rule_questions.specs.proof_nodes.AcceptsSizes.{spread_size, cycle_size, cycle_facts}
+use Rattle.rule_questions.proofs.model.Membership.{told_same, no_is_not_yes}
+use Rattle.rule_questions.proofs.proof_nodes.GoodFacts.{IsGood, IsGoodTable}
+use Rattle.rule_questions.proofs.proof_nodes.RankSoundness.{rank-good}
+use Rattle.rule_questions.proofs.proof_nodes.SpreadSoundness.{spread-good}
+use Rattle.rule_questions.proofs.proof_nodes.CycleSoundness.{cycle-good}
 use Rattle.outcome.specs.Reports as reports
-use Rattle.proof_nodes.specs.Gaps.{SymbolPlace}
+use Rattle.rule_questions.specs.proof_nodes.Gaps.{SymbolPlace}
 use Rattle.outcome.specs.Reports.{NoTime, NoFunction, TimeTripped, Timed, Untimed}
 use Rattle.round_relation.specs.Tables.{lacks}
 use Rattle.round_relation.specs.Sets.{IsSetOfRule, AreShutOf}
 use Rattle.round_relation.specs.Searches.{Searches, SizeSearches, Ranking, Ranked, Unranked, RankTripped, Sizing, Found}
 use Rattle.round_relation.specs.Searches.{NotFound}
-use Rattle.round_relation.specs.NewTimes.{SaysTime, bound_in, Tells}
+use Rattle.round_relation.specs.NewTimes.{SaysTime, bound_in, GivesTime}
 use Rattle.round_relation.specs.NewSizes.{Sizes, has_spot, is_unsized, size_by, TriesSize, TriesSizes}
 use Rattle.round_relation.specs.Rounds.{HasNewTimes, IsMadeByTimes, Begun, Made, IsMade, BegunWhole, MadeWhole}
 use Rattle.round_relation.specs.Right.{AreRight}
@@ -31,7 +31,7 @@ use Rattle.round_relation.specs.RightSizes.{AreSizesRight, IsSizing}
 use Rattle.round_relation.proofs.AcceptedRanks.{start_known, start_known_whole, is_question, accepted_rank}
 use Rattle.round_relation.proofs.BeginningHolds.{first_is_good}
 use Rattle.round_relation.proofs.Cases.{some_same}
-use Rattle.model.proofs.Cases.{missing_some as no_bound}
+use Rattle.rule_questions.proofs.model.Cases.{missing_some as no_bound}
 
 -- a member without a size makes a component one without sizes
 pub unsized_by : (members : List Spot) (size : Sizes) (t i : ℕ) → has_spot members t i ≡ true → size t i ≡ None
@@ -78,7 +78,7 @@ module _ (q : Searches) (s : Setting) (true_to : IsFaithful s) (right : AreRight
     answer_is_good t set shut (Unranked g) b rule is are answered says = absurd (not_both b (NoFunction g) says)
     answer_is_good t set shut (RankTripped x) b rule is are answered says = absurd (not_both b (TimeTripped x) says)
 
-    tried_is_good : (t : ℕ) (b : Bound) (time : reports.Time) → IsRule s.program t → Tells q s old t time
+    tried_is_good : (t : ℕ) (b : Bound) (time : reports.Time) → IsRule s.program t → GivesTime q s old t time
         → bound_in time ≡ Some b
         → IsGood s.program (Time t b)
     tried_is_good t b (Timed c) rule tells e =

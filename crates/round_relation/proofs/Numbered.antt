@@ -3,13 +3,13 @@ use Rattle.std.proofs.Common.{◌≡◌, ℕ, zero, suc, ◌-◌, ◌<◌, ◌�
 use Rattle.std.proofs.Common.{refl, sym, ◌∙◌, subst, arith}
 use Rattle.std.specs.List.{range_with_len, Contains}
 use Rattle.std.proofs.lemmas.List.FromFn.{length-range_with_len, get_or-range_with_len}
-use Rattle.model.specs.Programs.{Program, Rule, rule_at, arity_of}
-use Rattle.model.specs.Entries.{is_in}
-use Rattle.model.specs.Paths.{target_of}
-use Rattle.model.proofs.Membership.{is_in-contained, contains-is_in, no_is_not_yes, slice_get-below}
-use Rattle.proof_nodes.specs.AcceptsPlain.{IsRule, places_at}
+use Rattle.rule_questions.specs.model.Programs.{Program, Rule, rule_at, arity_of}
+use Rattle.rule_questions.specs.model.Entries.{is_in}
+use Rattle.rule_questions.specs.model.Paths.{target_of}
+use Rattle.rule_questions.proofs.model.Membership.{is_in-contained, contains-is_in, no_is_not_yes, slice_get-below}
+use Rattle.rule_questions.specs.proof_nodes.AcceptsPlain.{IsRule, places_at}
 use Rattle.round_relation.specs.Tables.{rule_numbers, IsPlace}
-use Rattle.model.proofs.Cases.{slice_get-there as at_some}
+use Rattle.rule_questions.proofs.model.Cases.{slice_get-there as at_some}
 
 -- a number from 1 up to a count is among those
 pub in_range : (n i : ℕ) → 1 ≤ i → i ≤ n → is_in i (range_with_len 1 n) ≡ true

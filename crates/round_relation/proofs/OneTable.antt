@@ -1,21 +1,21 @@
 -- Where answers are one, so are the tables that rounds of times make.
 use Rattle.std.proofs.Common.{◌≡◌, ℕ, zero, suc, true, false, List, Option, Some, None}
 use Rattle.std.proofs.Common.{refl, sym, ◌∙◌, ap, subst, arith}
-use Rattle.model.specs.Programs.{Rule, rule_at}
-use Rattle.model.specs.Bounds.{Bound, Constant}
-use Rattle.model.specs.Entries.{is_in}
-use Rattle.model.specs.Paths.{target_of}
-use Rattle.model.proofs.Membership.{no_is_not_yes}
-use Rattle.proof_nodes.specs.Gaps.{SymbolPlace}
-use Rattle.proof_nodes.specs.Known.{Table, is_zero_bound}
-use Rattle.proof_nodes.specs.Setting.{Setting}
-use Rattle.proof_nodes.specs.AcceptsPlain.{IsRule, places_at}
+use Rattle.rule_questions.specs.model.Programs.{Rule, rule_at}
+use Rattle.rule_questions.specs.model.Bounds.{Bound, Constant}
+use Rattle.rule_questions.specs.model.Entries.{is_in}
+use Rattle.rule_questions.specs.model.Paths.{target_of}
+use Rattle.rule_questions.proofs.model.Membership.{no_is_not_yes}
+use Rattle.rule_questions.specs.proof_nodes.Gaps.{SymbolPlace}
+use Rattle.rule_questions.specs.proof_nodes.Known.{Table, is_zero_bound}
+use Rattle.rule_questions.specs.proof_nodes.Setting.{Setting}
+use Rattle.rule_questions.specs.proof_nodes.AcceptsPlain.{IsRule, places_at}
 use Rattle.outcome.specs.Reports.{Time, Timed, Untimed, NoTime}
 use Rattle.round_relation.specs.Tables.{IsPlace}
 use Rattle.round_relation.specs.Sets.{AreShutOf}
 use Rattle.round_relation.specs.Searches.{Searches, Answers, searches_of, Ranking, Ranked, Unranked, RankTripped}
-use Rattle.round_relation.specs.Beginning.{IsDead, First}
-use Rattle.round_relation.specs.NewTimes.{SaysTime, Tells, bound_in}
+use Rattle.round_relation.specs.Beginning.{IsDead, IsFirstTable}
+use Rattle.round_relation.specs.NewTimes.{SaysTime, GivesTime, bound_in}
 use Rattle.round_relation.specs.Reasons.{IsNoTime}
 use Rattle.round_relation.specs.Rounds.{HasNewTimes, NextTimes, IsMadeByTimes, Begun, Made, IsLastOfTimes}
 use Rattle.round_relation.specs.Right.{AreOne}
@@ -61,7 +61,7 @@ answers_one a = record { ranks = λ set t shut x y h k. sym h ∙ k }
 
 module _ (q : Searches) (one : AreOne q) (s : Setting) where
   -- what is told of a time is one
-  pub tells_one : (tab : Table) (t : ℕ) (x y : Time) → Tells q s tab t x → Tells q s tab t y → x ≡ y
+  pub tells_one : (tab : Table) (t : ℕ) (x y : Time) → GivesTime q s tab t x → GivesTime q s tab t y → x ≡ y
   tells_one tab t x y a b =
       let set = sets_one s.program tab t a.asked.set b.asked.set a.asked.is_set b.asked.is_set in
       let there = subst (λ (zs : List ℕ). AreShutOf s.program tab zs a.asked.shut) set a.asked.are_shut in
@@ -96,7 +96,7 @@ module _ (q : Searches) (one : AreOne q) (s : Setting) where
       same_table a b (times_one old a.time b.time h.times k.times) (λ t i. h.sizes t i ∙ sym (k.sizes t i))
 
   -- the first table is one
-  module _ (a b : Table) (h : First q s.program a) (k : First q s.program b) where
+  module _ (a b : Table) (h : IsFirstTable q s.program a) (k : IsFirstTable q s.program b) where
     same_empty : (t : ℕ) → IsRule s.program t → h.is_empty t ≡ true → k.is_empty t ≡ true
     same_empty t rule e = (k.empty t rule).1 ((h.empty t rule).0 e)
 
@@ -119,7 +119,7 @@ module _ (q : Searches) (one : AreOne q) (s : Setting) where
         some_none c (sym e ∙ (h.live t rule alive).sizes i place)
 
   -- what is known of a rule before the first round is 0
-  module _ (a : Table) (h : First q s.program a) where
+  module _ (a : Table) (h : IsFirstTable q s.program a) where
     time_zero : (t : ℕ) → IsRule s.program t → (c : Bound) → a.time t ≡ Some c → c ≡ Constant 0
     time_zero t rule c e = told (is_zero_bound c) (zero_told c) other
       where
@@ -142,13 +142,13 @@ module _ (q : Searches) (one : AreOne q) (s : Setting) where
             absurd (some_none c (sym e ∙ (h.live t rule alive).sizes i place))
 
   -- the first table is one
-  pub first_one : (a b : Table) → First q s.program a → First q s.program b → a ≡ b
+  pub first_one : (a b : Table) → IsFirstTable q s.program a → IsFirstTable q s.program b → a ≡ b
   first_one a b h k = same_table a b time size
     where
       none_some : (r : Rule) → None ≡ Some r → ⊥
       none_some r e = cc
 
-      no_time : (tab : Table) → First q s.program tab → (n : ℕ) → rule_at s.program (suc n) ≡ None → (c : Bound)
+      no_time : (tab : Table) → IsFirstTable q s.program tab → (n : ℕ) → rule_at s.program (suc n) ≡ None → (c : Bound)
           → tab.time (suc n) ≡ Some c → ⊥
       no_time tab f n e c known =
           either (f.table.times (suc n) c known) (λ z. omega (arith, z)) (λ r. none_some r.rule (sym e ∙ r.numbered))
@@ -167,11 +167,11 @@ module _ (q : Searches) (one : AreOne q) (s : Setting) where
       time zero = h.start.time ∙ sym k.start.time
       time (suc n) = time_at n (rule_at s.program (suc n)) refl
 
-      no_size : (tab : Table) → First q s.program tab → (t i : ℕ) → ¬ (IsPlace s.program t i) → (c : Bound)
+      no_size : (tab : Table) → IsFirstTable q s.program tab → (t i : ℕ) → ¬ (IsPlace s.program t i) → (c : Bound)
           → tab.size t i ≡ Some c → ⊥
       no_size tab f t i out c known = out (f.table.sizes t i c known).1
 
-      no_rule : (tab : Table) → First q s.program tab → (n i : ℕ) → rule_at s.program (suc n) ≡ None → (c : Bound)
+      no_rule : (tab : Table) → IsFirstTable q s.program tab → (n i : ℕ) → rule_at s.program (suc n) ≡ None → (c : Bound)
           → tab.size (suc n) i ≡ Some c → ⊥
       no_rule tab f n i e c known =
           either (f.table.sizes (suc n) i c known).0 (λ z. omega (arith, z))
@@ -206,7 +206,7 @@ module _ (q : Searches) (one : AreOne q) (s : Setting) where
               (λ c x y. no_size a h t i out c x) (λ c x y. no_size b k t i out c x)
 
   -- a table that is made is that after so many rounds
-  made_after : (tab : Table) → IsMadeByTimes q s tab → (n : ℕ) × IsAfter (First q s.program) (NextTimes q s) first_one
+  made_after : (tab : Table) → IsMadeByTimes q s tab → (n : ℕ) × IsAfter (IsFirstTable q s.program) (NextTimes q s) first_one
       next_one n tab
   made_after tab (Begun h) = (0, h)
   made_after tab (Made {old = old} m n) = let before = made_after old m in (suc before.0, (old, before.1, n))
@@ -216,7 +216,7 @@ module _ (q : Searches) (one : AreOne q) (s : Setting) where
   last_one a b h k =
       let x = made_after a h.made in
       let y = made_after b k.made in
-      last_after_one (First q s.program) (NextTimes q s) first_one next_one x.0 y.0 a b x.1 h.closed y.1 k.closed
+      last_after_one (IsFirstTable q s.program) (NextTimes q s) first_one next_one x.0 y.0 a b x.1 h.closed y.1 k.closed
 
   -- and so is the reason why a time is missing
   pub reason_one : (tab : Table) (t : ℕ) (v w : NoTime) → IsNoTime q s tab t v → IsNoTime q s tab t w → v ≡ w

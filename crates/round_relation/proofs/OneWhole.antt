@@ -1,18 +1,18 @@
 -- Where answers are one, so are the tables that whole rounds make, and the reason why a size is missing.
 use Rattle.std.proofs.Common.{◌≡◌, inl, inr, ℕ, suc, true, List, [], ◌∷◌, Option, Some, None, sym, ◌∙◌, ap}
 use Rattle.std.proofs.Common.{refl, subst}
-use Rattle.model.specs.Bounds.{Bound}
-use Rattle.proof_nodes.specs.Nodes.{Spot}
-use Rattle.proof_nodes.specs.Known.{Table}
-use Rattle.proof_nodes.specs.Setting.{Setting}
+use Rattle.rule_questions.specs.model.Bounds.{Bound}
+use Rattle.rule_questions.specs.proof_nodes.Nodes.{Spot}
+use Rattle.rule_questions.specs.proof_nodes.Known.{Table}
+use Rattle.rule_questions.specs.proof_nodes.Setting.{Setting}
 use Rattle.outcome.specs.Reports.{NoSize}
 use Rattle.round_relation.specs.Searches.{Searches, SizeSearches, SizeAnswers, searches_of, size_searches_of}
 use Rattle.round_relation.specs.Searches.{NotFound}
-use Rattle.round_relation.specs.Beginning.{First}
+use Rattle.round_relation.specs.Beginning.{IsFirstTable}
 use Rattle.round_relation.specs.NewSizes.{Sizes, has_spot, size_by, TriesSize, TriesSizes}
 use Rattle.round_relation.specs.Components.{IsCovered, IsOneOf, AreApart}
 use Rattle.round_relation.specs.Reasons.{IsNoSize}
-use Rattle.round_relation.specs.Rounds.{Next, IsMade, BegunWhole, MadeWhole, IsLast}
+use Rattle.round_relation.specs.Rounds.{IsNextTable, IsMade, BegunWhole, MadeWhole, IsLast}
 use Rattle.round_relation.specs.Right.{AreOne}
 use Rattle.round_relation.specs.RightSizes.{AreSizesOne}
 use Rattle.round_relation.specs.WholeLaws.{WholeTablesAreOne}
@@ -96,7 +96,7 @@ module _ (z : SizeSearches) (one : AreSizesOne z) where
 
 module _ (q : Searches) (one_time : AreOne q) (z : SizeSearches) (one : AreSizesOne z) (s : Setting) where
   -- a table has one next table
-  next_whole_one : (old a b : Table) → Next q z s old a → Next q z s old b → a ≡ b
+  next_whole_one : (old a b : Table) → IsNextTable q z s old a → IsNextTable q z s old b → a ≡ b
   next_whole_one old a b h k =
       same_table a b times
       (tries_one z one b.time old.size k.places.components a.size b.size there k.places.tried)
@@ -116,7 +116,7 @@ module _ (q : Searches) (one_time : AreOne q) (z : SizeSearches) (one : AreSizes
           subst (λ (cs : List (List Spot)). TriesSizes z b.time old.size cs a.size) same_components
           (subst (λ (f : ℕ → Option Bound). TriesSizes z f old.size h.places.components a.size) time h.places.tried)
 
-  made_after : (tab : Table) → IsMade q z s tab → (n : ℕ) × IsAfter (First q s.program) (Next q z s)
+  made_after : (tab : Table) → IsMade q z s tab → (n : ℕ) × IsAfter (IsFirstTable q s.program) (IsNextTable q z s)
       (first_one q one_time s) next_whole_one n tab
   made_after tab (BegunWhole h) = (0, h)
   made_after tab (MadeWhole {old = old} m n) = let before = made_after old m in (suc before.0, (old, before.1, n))
@@ -126,7 +126,7 @@ module _ (q : Searches) (one_time : AreOne q) (z : SizeSearches) (one : AreSizes
   whole_one a b h k =
       let x = made_after a h.made in
       let y = made_after b k.made in
-      last_after_one (First q s.program) (Next q z s) (first_one q one_time s) next_whole_one x.0 y.0 a b x.1
+      last_after_one (IsFirstTable q s.program) (IsNextTable q z s) (first_one q one_time s) next_whole_one x.0 y.0 a b x.1
       h.closed y.1 k.closed
 
 -- whole rounds make one last table, and a missing size has one reason where components are apart

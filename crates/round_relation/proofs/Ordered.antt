@@ -1,11 +1,11 @@
 -- Two lists in a strict order that contain the same are one.
 use Rattle.std.proofs.Common.{◌≡◌, inl, inr, ℕ, ◌<◌, List, [], ◌∷◌, ◌++◌, refl, sym, ◌∙◌, ap, subst, arith}
 use Rattle.std.specs.List.{Contains}
-use Rattle.model.specs.Programs.{Program}
-use Rattle.model.proofs.Membership.{contains-is_in, is_in-contained}
-use Rattle.proof_nodes.specs.Gaps.{SymbolPlace}
-use Rattle.proof_nodes.specs.Known.{Table}
-use Rattle.proof_nodes.specs.Numbers.{IsAscending}
+use Rattle.rule_questions.specs.model.Programs.{Program}
+use Rattle.rule_questions.proofs.model.Membership.{contains-is_in, is_in-contained}
+use Rattle.rule_questions.specs.proof_nodes.Gaps.{SymbolPlace}
+use Rattle.rule_questions.specs.proof_nodes.Known.{Table}
+use Rattle.rule_questions.specs.proof_nodes.Numbers.{IsAscending}
 use Rattle.round_relation.specs.Sets.{IsSetOfRule, StandsBefore, ArePlacesInOrder, AreShutOf}
 use Rattle.round_relation.proofs.Cases.{either}
 use Rattle.round_relation.proofs.FactLists.{contains-cases, contains-none, contains-first, contains-later}

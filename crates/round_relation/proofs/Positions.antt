@@ -3,12 +3,12 @@ use Rattle.std.proofs.Common.{◌≡◌, ℕ, zero, suc, ◌+◌, ◌-◌, ◌<�
 use Rattle.std.proofs.Common.{cond, List, [], ◌∷◌, ◌++◌, length, filter, map, Some, None, refl, sym, ◌∙◌, ap}
 use Rattle.std.proofs.Common.{subst, arith}
 use Rattle.std.specs.List.{range_with_len, Contains, count_by}
-use Rattle.model.specs.Programs.{Program}
-use Rattle.model.specs.Bounds.{Constant}
-use Rattle.model.specs.Facts.{Fact, Time}
-use Rattle.model.proofs.Membership.{slice_get-below}
-use Rattle.proof_nodes.specs.AcceptsPlain.{IsRule}
-use Rattle.proof_nodes.specs.Acceptance.{facts_of_lemma}
+use Rattle.rule_questions.specs.model.Programs.{Program}
+use Rattle.rule_questions.specs.model.Bounds.{Constant}
+use Rattle.rule_questions.specs.model.Facts.{Fact, Time}
+use Rattle.rule_questions.proofs.model.Membership.{slice_get-below}
+use Rattle.rule_questions.specs.proof_nodes.AcceptsPlain.{IsRule}
+use Rattle.rule_questions.specs.proof_nodes.Acceptance.{facts_of_lemma}
 use Rattle.round_relation.specs.Tables.{rule_numbers}
 use Rattle.round_relation.specs.Numbering.{before}
 use Rattle.round_relation.proofs.Cases.{count-first}

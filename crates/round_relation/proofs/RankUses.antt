@@ -4,25 +4,26 @@ use Rattle.std.proofs.Common.{map, refl, sym, ◌∙◌, ap, subst, arith}
 use Rattle.std.specs.Prelude.{ℤ, pos, nat_abs, Option}
 use Rattle.std.specs.List.{Contains}
 use Rattle.std.proofs.lemmas.Bool.{or_left, or_right}
-use Rattle.int_laws.specs.NormalForm.{is_zero}
-use Rattle.model.specs.Programs.{Program}
-use Rattle.model.specs.Bounds.{Bound, SumOf, ProductOf, Constant, Parts, Part}
-use Rattle.model.specs.Entries.{is_in, entries}
-use Rattle.model.specs.Paths.{target_of}
-use Rattle.model.proofs.Membership.{same_number, is_in-cases, no_is_not_yes}
-use Rattle.linear_forms.specs.Forms.{at}
-use Rattle.rule_forms.specs.Bounds.{height}
-use Rattle.proof_nodes.specs.Nodes.{RankNode}
-use Rattle.proof_nodes.specs.Numbers.{rounded_up}
-use Rattle.proof_nodes.specs.Known.{Table, IsKnown, known}
-use Rattle.proof_nodes.specs.Composed.{both_parts, parts_for, place_parts, no_place, rank_form, entry_bound, time_of}
-use Rattle.proof_nodes.specs.Composed.{sizes_after}
+use Rattle.rule_questions.specs.int_laws.NormalForm.{is_zero}
+use Rattle.rule_questions.specs.model.Programs.{Program}
+use Rattle.rule_questions.specs.model.Bounds.{Bound, SumOf, ProductOf, Constant, Parts, Part}
+use Rattle.rule_questions.specs.model.Entries.{is_in, entries}
+use Rattle.rule_questions.specs.model.Paths.{target_of}
+use Rattle.rule_questions.proofs.model.Membership.{same_number, is_in-cases, no_is_not_yes}
+use Rattle.rule_questions.specs.linear_forms.Forms.{at}
+use Rattle.rule_questions.specs.rule_forms.Bounds.{height}
+use Rattle.rule_questions.specs.proof_nodes.Nodes.{RankNode}
+use Rattle.rule_questions.specs.proof_nodes.Numbers.{rounded_up}
+use Rattle.rule_questions.specs.proof_nodes.Known.{Table, IsKnown, known}
+use Rattle.rule_questions.specs.proof_nodes.Composed.{both_parts, parts_for, place_parts, no_place, rank_form, entry_bound, time_of}
+use Rattle.rule_questions.specs.proof_nodes.Composed.{sizes_after}
 use Rattle.round_relation.proofs.Cases.{either, told}
 use Rattle.round_relation.specs.Uses.{Need, NeedsTime, NeedsSize, read_places, entry_needs, needs_of_all, rank_needs}
-use Rattle.round_relation.proofs.FactLists.{contains-cases, contains-none, contains-first, contains-later, contains-left}
+use Rattle.round_relation.proofs.FactLists.{contains-cases, contains-none, contains-first, contains-later}
+use Rattle.round_relation.proofs.FactLists.{contains-left}
 use Rattle.round_relation.proofs.FactLists.{contains-right, contains-either}
 use Rattle.round_relation.proofs.NeededFacts.{IsMet}
-pub use Rattle.int_laws.proofs.ZeroLaws.{is_zero-true as zero_told}
+pub use Rattle.rule_questions.proofs.int_laws.ZeroLaws.{is_zero-true as zero_told}
 
 -- bounds of places that are the same where a coefficient isn't 0 and which aren't left out give the same parts
 pub place_parts-same : (cs : List ℤ) (den : ℕ) (left_out : ℕ → Bool) (f g : ℕ → Bound)

@@ -1,14 +1,14 @@
 -- Where a round gives nothing new, each missing bound has its reason.
 use Rattle.std.proofs.Common.{◌≡◌, inl, inr, ℕ, true, List, [], ◌∷◌, Option, Some, None, refl, sym, ◌∙◌, subst}
-use Rattle.model.specs.Bounds.{Bound}
-use Rattle.proof_nodes.specs.Nodes.{Spot}
-use Rattle.proof_nodes.specs.Known.{Table}
-use Rattle.proof_nodes.specs.Setting.{Setting}
-use Rattle.proof_nodes.specs.AcceptsPlain.{IsRule}
+use Rattle.rule_questions.specs.model.Bounds.{Bound}
+use Rattle.rule_questions.specs.proof_nodes.Nodes.{Spot}
+use Rattle.rule_questions.specs.proof_nodes.Known.{Table}
+use Rattle.rule_questions.specs.proof_nodes.Setting.{Setting}
+use Rattle.rule_questions.specs.proof_nodes.AcceptsPlain.{IsRule}
 use Rattle.outcome.specs.Reports.{NoTime, Time, Timed, Untimed, NoSize}
 use Rattle.round_relation.specs.Searches.{Searches, SizeSearches, searches_of, size_searches_of, Sizing, Found}
 use Rattle.round_relation.specs.Searches.{NotFound}
-use Rattle.round_relation.specs.NewTimes.{bound_in, Tells}
+use Rattle.round_relation.specs.NewTimes.{bound_in, GivesTime}
 use Rattle.round_relation.specs.NewSizes.{Sizes, has_spot, size_by, TriesSize, TriesSizes}
 use Rattle.round_relation.specs.Components.{IsCovered, IsOneOf}
 use Rattle.round_relation.specs.Reasons.{IsNoTime, IsNoSize}
@@ -19,7 +19,7 @@ use Rattle.round_relation.proofs.NewBounds.{unsized_by}
 use Rattle.round_relation.proofs.Cases.{none_some}
 
 -- what gives no time says why
-says_why : (q : Searches) (s : Setting) (tab : Table) (t : ℕ) → tab.time t ≡ None → (time : Time) → Tells q s tab t time
+says_why : (q : Searches) (s : Setting) (tab : Table) (t : ℕ) → tab.time t ≡ None → (time : Time) → GivesTime q s tab t time
     → None ≡ bound_in time → (why : NoTime) × IsNoTime q s tab t why
 says_why q s tab t missing (Timed b) tells e = absurd (none_some b e)
 says_why q s tab t missing (Untimed why) tells e = (why, record { missing = missing; reason = tells })

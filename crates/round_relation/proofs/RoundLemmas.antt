@@ -6,28 +6,28 @@ use Rattle.std.specs.List.{Contains}
 use Rattle.std.proofs.lemmas.List.{append_assoc, append-nil}
 use Rattle.std.proofs.lemmas.List.Elements.{All-nil, All-cons, All-push}
 use Rattle.std.proofs.lemmas.Bool.{or_left, or_right}
-use Rattle.model.specs.Bounds.{Bound, Constant}
-use Rattle.model.specs.Facts.{Fact, Time}
-use Rattle.model.specs.Entries.{is_in, entries}
-use Rattle.model.specs.Paths.{target_of}
-use Rattle.model.proofs.Entries.{listed-from, listed-told}
-use Rattle.model.proofs.Membership.{same_number, is_in-cases, no_is_not_yes}
-use Rattle.linear_forms.specs.Forms.{at}
-use Rattle.proof_nodes.specs.Nodes.{Proof}
-use Rattle.proof_nodes.specs.Known.{Table, table_of, IsKnown, known, time_in, size_in}
-use Rattle.proof_nodes.specs.Setting.{Setting}
-use Rattle.proof_nodes.specs.Limits.{IsSmallComposed}
-use Rattle.proof_nodes.specs.Composed.{rank_form}
-use Rattle.proof_nodes.specs.AcceptsPlain.{IsRule}
-use Rattle.proof_nodes.specs.AcceptsRank.{AcceptsRank, rank_time}
-use Rattle.proof_nodes.specs.Acceptance.{facts_of, joined_facts, Accepts, AcceptsFrom, facts_from}
+use Rattle.rule_questions.specs.model.Bounds.{Bound, Constant}
+use Rattle.rule_questions.specs.model.Facts.{Fact, Time}
+use Rattle.rule_questions.specs.model.Entries.{is_in, entries}
+use Rattle.rule_questions.specs.model.Paths.{target_of}
+use Rattle.rule_questions.proofs.model.Entries.{listed-from, listed-told}
+use Rattle.rule_questions.proofs.model.Membership.{same_number, is_in-cases, no_is_not_yes}
+use Rattle.rule_questions.specs.linear_forms.Forms.{at}
+use Rattle.rule_questions.specs.proof_nodes.Nodes.{Proof}
+use Rattle.rule_questions.specs.proof_nodes.Known.{Table, table_of, IsKnown, known, time_in, size_in}
+use Rattle.rule_questions.specs.proof_nodes.Setting.{Setting}
+use Rattle.rule_questions.specs.proof_nodes.Limits.{IsSmallComposed}
+use Rattle.rule_questions.specs.proof_nodes.Composed.{rank_form}
+use Rattle.rule_questions.specs.proof_nodes.AcceptsPlain.{IsRule}
+use Rattle.rule_questions.specs.proof_nodes.AcceptsRank.{AcceptsRank, rank_time}
+use Rattle.rule_questions.specs.proof_nodes.Acceptance.{facts_of, joined_facts, Accepts, AcceptsFrom, facts_from}
 use Rattle.round_relation.specs.Tables.{KnowsStart, IsTableOf}
 use Rattle.round_relation.specs.Searches.{Searches, Ranking, Ranked}
 use Rattle.round_relation.specs.Uses.{Need, Numbers, rank_needs, uses_for}
 use Rattle.round_relation.specs.LemmaOrder.{AreNumbersOf, IsTimeLemma, AreTimeLemmas}
 use Rattle.round_relation.specs.Laws.{IsStated}
 use Rattle.round_relation.specs.Right.{AreRight, IsRanking}
-use Rattle.round_relation.specs.Standing.{IsOf, AreOf}
+use Rattle.round_relation.specs.Standing.{IsFactOf, AreFactsOf}
 use Rattle.round_relation.proofs.Cases.{either}
 use Rattle.round_relation.proofs.AcceptedRanks.{is_question, accepted_rank}
 use Rattle.round_relation.proofs.FactLists.{contains-first}
@@ -54,7 +54,7 @@ times_stated tab (u ∷ ts) t b m e = either (is_in-cases t u ts m) here (λ k. 
 module _ (q : Searches) (s : Setting) (right : AreRight q s) (old new : Table) (start : KnowsStart s.program old)
     (table : IsTableOf s.program old) (keeps : Keeps old new)
     (earlier : List (List Fact)) (ns : Numbers) (numbers : AreNumbersOf s.program earlier old ns) where
-  module _ (past : List (List Fact)) (follows : Follows earlier past) (are : All (AreOf new) past) (t : ℕ)
+  module _ (past : List (List Fact)) (follows : Follows earlier past) (are : All (AreFactsOf new) past) (t : ℕ)
       (rule : IsRule s.program t)
       (proof : Proof) (l : IsTimeLemma q s old new ns t proof) where
     begun : IsKnown (old.time 0)
@@ -137,11 +137,11 @@ module _ (q : Searches) (s : Setting) (right : AreRight q s) (old new : Table) (
   -- the lemmas of these rules are accepted after what is stated so far, and state their new times, one each
   pub record RoundStands (past : List (List Fact)) (ts : List ℕ) (proofs : List Proof) : Type 0 where
     pub accepted : AcceptsFrom s past proofs
-    pub are : All (AreOf new) (facts_from s past proofs)
+    pub are : All (AreFactsOf new) (facts_from s past proofs)
     pub stated : facts_from s past proofs ≡ past ++ map (time_alone new) ts
 
   -- the lemmas of some rules are accepted after what is stated so far, and state their new times, one each
-  pub round_stands : (past : List (List Fact)) → Follows earlier past → All (AreOf new) past → (ts : List ℕ)
+  pub round_stands : (past : List (List Fact)) → Follows earlier past → All (AreFactsOf new) past → (ts : List ℕ)
       → ((t : ℕ) → is_in t ts ≡ true → IsRule s.program t) → (proofs : List Proof)
       → AreTimeLemmas q s old new ns ts proofs
       → RoundStands past ts proofs
@@ -152,7 +152,7 @@ module _ (q : Searches) (s : Setting) (right : AreRight q s) (old new : Table) (
       subst (λ (ps : List Proof). RoundStands past (t ∷ ts) ps) (sym e)
       (one_lemma (round_stands (past ++ facts_of s past proof ∷ [])
       (follows-more earlier past (facts_of s past proof ∷ []) follows)
-      (All-push (AreOf new) past (facts_of s past proof) are own_of) ts
+      (All-push (AreFactsOf new) past (facts_of s past proof) are own_of) ts
       (λ u m. rules u (or_right (u == t) (is_in u ts) m)) rest later))
     where
       rule : IsRule s.program t
@@ -161,10 +161,10 @@ module _ (q : Searches) (s : Setting) (right : AreRight q s) (old new : Table) (
       own : facts_of s past proof ≡ time_alone new t
       own = lemma_states past follows are t rule proof l ∙ ap (λ (b : Bound). Time t b ∷ []) (sym (ap known l.known))
 
-      own_of : AreOf new (facts_of s past proof)
+      own_of : AreFactsOf new (facts_of s past proof)
       own_of =
-          subst (λ (fs : List Fact). AreOf new fs) (sym (lemma_states past follows are t rule proof l))
-          (All-cons (IsOf new) (Time t l.bound) [] l.known (All-nil (IsOf new)))
+          subst (λ (fs : List Fact). AreFactsOf new fs) (sym (lemma_states past follows are t rule proof l))
+          (All-cons (IsFactOf new) (Time t l.bound) [] l.known (All-nil (IsFactOf new)))
 
       one_lemma : RoundStands (past ++ facts_of s past proof ∷ []) ts rest → RoundStands past (t ∷ ts) (proof ∷ rest)
       one_lemma more = record {

@@ -1,9 +1,9 @@
 -- A rule that never runs by one list of empty rules never runs by a longer one.
 use Rattle.std.proofs.Common.{◌≡◌, inl, inr, ℕ, Bool, not, true, false, refl, ap}
-use Rattle.model.specs.Programs.{Program}
-use Rattle.model.specs.Paths.{Here, Onward, HasPath}
-use Rattle.model.proofs.Membership.{no_is_not_yes}
-use Rattle.proof_nodes.specs.AcceptsPlain.{IsRule}
+use Rattle.rule_questions.specs.model.Programs.{Program}
+use Rattle.rule_questions.specs.model.Paths.{Here, Onward, HasPath}
+use Rattle.rule_questions.proofs.model.Membership.{no_is_not_yes}
+use Rattle.rule_questions.specs.proof_nodes.AcceptsPlain.{IsRule}
 use Rattle.round_relation.specs.Beginning.{IsDead}
 
 module _ (p : Program) (f g : ℕ → Bool) (there : (t : ℕ) → IsRule p t → f t ≡ true → g t ≡ true) where

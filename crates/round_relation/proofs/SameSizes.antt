@@ -5,32 +5,32 @@ use Rattle.std.specs.Prelude.{pos, nat_abs}
 use Rattle.std.specs.List.{AllByRecursion, list_any}
 use Rattle.std.proofs.lemmas.Bool.{and_from, or_left, or_right}
 use Rattle.std.proofs.lemmas.List.Elements.{All-from_recursion, recursion_from_All}
-use Rattle.model.specs.Bounds.{Bound, Constant, SumOf, ProductOf, MaximumOf, PowerOf, Parts, Part}
-use Rattle.model.specs.Entries.{is_in}
-use Rattle.model.specs.Paths.{pre}
-use Rattle.model.specs.Polynomials.{Polynomial}
-use Rattle.model.proofs.Membership.{same_number, is_in-filter}
-use Rattle.linear_forms.specs.Forms.{Form, at}
-use Rattle.rule_forms.specs.Bounds.{height}
-use Rattle.proof_nodes.specs.Nodes.{Spot, Arm, Linear, Poly, Member}
-use Rattle.proof_nodes.specs.Numbers.{rounded_up}
-use Rattle.proof_nodes.specs.Known.{Table, IsKnown, known}
-use Rattle.proof_nodes.specs.Setting.{Setting}
-use Rattle.proof_nodes.specs.Limits.{IsSmallComposed}
-use Rattle.proof_nodes.specs.Composed.{both_parts, no_place, rest_bound, sizes_after}
-use Rattle.proof_nodes.specs.ComposedSizes.{monomial_bound, monomial_parts, polynomial_bound, arm_bound, has_variable}
-use Rattle.proof_nodes.specs.ComposedSizes.{reads, poly_at, spread_part, is_member, slope_of, offset_of, Flow, flow}
-use Rattle.proof_nodes.specs.ComposedSizes.{flows_from, flows_into, flows, multiplies, adds, rules_of, addition_of}
-use Rattle.proof_nodes.specs.ComposedSizes.{factor_of, base_of, growth_parts, addition_parts, loop_bound}
-use Rattle.proof_nodes.specs.Checks.{needed_into, needed_times}
-use Rattle.proof_nodes.specs.AcceptsSizes.{HasMemberShape, AcceptsUp, AcceptsLow, HasSizesBefore, AcceptsSpread}
-use Rattle.proof_nodes.specs.AcceptsSizes.{IsStraightArm, IsStraight, AcceptsCycle, spread_size, cycle_size}
-use Rattle.proof_nodes.proofs.FirstReasons.{HasSize}
-use Rattle.proof_nodes.proofs.SizeReasons.{members-known, known-members}
+use Rattle.rule_questions.specs.model.Bounds.{Bound, Constant, SumOf, ProductOf, MaximumOf, PowerOf, Parts, Part}
+use Rattle.rule_questions.specs.model.Entries.{is_in}
+use Rattle.rule_questions.specs.model.Paths.{pre}
+use Rattle.rule_questions.specs.model.Polynomials.{Polynomial}
+use Rattle.rule_questions.proofs.model.Membership.{same_number, is_in-filter}
+use Rattle.rule_questions.specs.linear_forms.Forms.{Form, at}
+use Rattle.rule_questions.specs.rule_forms.Bounds.{height}
+use Rattle.rule_questions.specs.proof_nodes.Nodes.{Spot, Arm, Linear, Poly, Member}
+use Rattle.rule_questions.specs.proof_nodes.Numbers.{rounded_up}
+use Rattle.rule_questions.specs.proof_nodes.Known.{Table, IsKnown, known}
+use Rattle.rule_questions.specs.proof_nodes.Setting.{Setting}
+use Rattle.rule_questions.specs.proof_nodes.Limits.{IsSmallComposed}
+use Rattle.rule_questions.specs.proof_nodes.Composed.{both_parts, no_place, rest_bound, sizes_after}
+use Rattle.rule_questions.specs.proof_nodes.ComposedSizes.{monomial_bound, monomial_parts, polynomial_bound, arm_bound, has_variable}
+use Rattle.rule_questions.specs.proof_nodes.ComposedSizes.{reads, poly_at, spread_part, is_member, slope_of, offset_of, Flow, flow}
+use Rattle.rule_questions.specs.proof_nodes.ComposedSizes.{flows_from, flows_into, flows, multiplies, adds, rules_of, addition_of}
+use Rattle.rule_questions.specs.proof_nodes.ComposedSizes.{factor_of, base_of, growth_parts, addition_parts, loop_bound}
+use Rattle.rule_questions.specs.proof_nodes.Checks.{needed_into, needed_times}
+use Rattle.rule_questions.specs.proof_nodes.AcceptsSizes.{HasMemberShape, AcceptsUp, AcceptsLow, HasSizesBefore, AcceptsSpread}
+use Rattle.rule_questions.specs.proof_nodes.AcceptsSizes.{IsStraightArm, IsStraight, AcceptsCycle, spread_size, cycle_size}
+use Rattle.rule_questions.proofs.proof_nodes.FirstReasons.{HasSize}
+use Rattle.rule_questions.proofs.proof_nodes.SizeReasons.{members-known, known-members}
 use Rattle.round_relation.specs.NewSizes.{has_spot}
 use Rattle.round_relation.proofs.Cases.{told}
 use Rattle.round_relation.proofs.RankUses.{place_parts-same, parts_for-same}
-use Rattle.int_laws.proofs.ZeroLaws.{not_zero-told as not_zero_told}
+use Rattle.rule_questions.proofs.int_laws.ZeroLaws.{not_zero-told as not_zero_told}
 
 -- a spot of a list is told to be one
 pub spot_told : (x : Spot) (xs : List Spot) → has_spot (x ∷ xs) x.rule x.place ≡ true

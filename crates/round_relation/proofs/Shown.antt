@@ -1,8 +1,8 @@
 -- What accepted lemmas state of a table holds on all runs.
 use Rattle.std.proofs.Common.{inl, inr, suc, List, [], ◌∷◌, All, subst, arith}
-use Rattle.model.specs.Facts.{Fact, Time, Size, Holds}
-use Rattle.proof_nodes.specs.Acceptance.{facts_of_lemmas}
-use Rattle.proof_nodes.proofs.Soundness.{accepted_facts_hold}
+use Rattle.rule_questions.specs.model.Facts.{Fact, Time, Size, Holds}
+use Rattle.rule_questions.specs.proof_nodes.Acceptance.{facts_of_lemmas}
+use Rattle.rule_questions.proofs.proof_nodes.Soundness.{accepted_facts_hold}
 use Rattle.round_relation.specs.Laws.{IsStated, ShownTablesHold}
 
 -- what holds of all facts of all lemmas holds of one that is stated

@@ -2,13 +2,13 @@
 use Rattle.std.proofs.Common.{◌≡◌, ℕ, suc, Bool, true, false, cond, List, [], ◌∷◌, ◌++◌, length, Option, Some}
 use Rattle.std.proofs.Common.{sym, ◌∙◌, ap, subst, arith}
 use Rattle.std.specs.List.{Contains}
-use Rattle.model.specs.Bounds.{Bound}
-use Rattle.model.specs.Facts.{Fact, Time, Size}
-use Rattle.proof_nodes.specs.Nodes.{Spot, Proof}
-use Rattle.proof_nodes.specs.Setting.{Setting}
-use Rattle.proof_nodes.specs.AcceptsPlain.{IsRule}
-use Rattle.proof_nodes.specs.AcceptsSizes.{cycle_facts}
-use Rattle.proof_nodes.specs.Acceptance.{facts_of_lemma, facts_from}
+use Rattle.rule_questions.specs.model.Bounds.{Bound}
+use Rattle.rule_questions.specs.model.Facts.{Fact, Time, Size}
+use Rattle.rule_questions.specs.proof_nodes.Nodes.{Spot, Proof}
+use Rattle.rule_questions.specs.proof_nodes.Setting.{Setting}
+use Rattle.rule_questions.specs.proof_nodes.AcceptsPlain.{IsRule}
+use Rattle.rule_questions.specs.proof_nodes.AcceptsSizes.{cycle_facts}
+use Rattle.rule_questions.specs.proof_nodes.Acceptance.{facts_of_lemma, facts_from}
 use Rattle.round_relation.specs.Tables.{IsPlace}
 use Rattle.round_relation.specs.Searches.{SizeSearches}
 use Rattle.round_relation.specs.NewSizes.{Sizes, has_spot}

@@ -3,30 +3,34 @@ use Rattle.std.proofs.Common.{◌≡◌, ℕ, ◌==◌, ◌&&◌, Bool, true, fa
 use Rattle.std.specs.List.{AllByRecursion, Contains}
 use Rattle.std.proofs.lemmas.Bool.{and_parts, or_left, or_right}
 use Rattle.std.proofs.lemmas.List.Elements.{recursion_from_All}
-use Rattle.model.specs.Bounds.{Bound}
-use Rattle.model.specs.Facts.{Fact, Size}
-use Rattle.model.specs.Entries.{is_in}
-use Rattle.model.proofs.Membership.{same_number, told_same, is_in-cases, filter-in, no_is_not_yes}
-use Rattle.proof_nodes.specs.Nodes.{Spot, Member, Spread, Cycle}
-use Rattle.proof_nodes.specs.Known.{Table, IsKnown, table_of}
-use Rattle.proof_nodes.specs.Setting.{Setting}
-use Rattle.proof_nodes.specs.ComposedSizes.{rules_of, flows}
-use Rattle.proof_nodes.specs.Checks.{needed_into, needed_times}
-use Rattle.proof_nodes.specs.AcceptsSizes.{HasSizesBefore, AcceptsSpread, AcceptsCycle, spread_size, cycle_size, cycle_facts}
-use Rattle.proof_nodes.specs.Acceptance.{facts_of, joined_facts, Accepts}
-use Rattle.proof_nodes.proofs.FirstReasons.{HasSize}
-use Rattle.proof_nodes.proofs.SizeReasons.{known-members}
+use Rattle.rule_questions.specs.model.Bounds.{Bound}
+use Rattle.rule_questions.specs.model.Facts.{Fact, Size}
+use Rattle.rule_questions.specs.model.Entries.{is_in}
+use Rattle.rule_questions.proofs.model.Membership.{same_number, told_same, is_in-cases, filter-in, no_is_not_yes}
+use Rattle.rule_questions.specs.proof_nodes.Nodes.{Spot, Member, Spread, Cycle}
+use Rattle.rule_questions.specs.proof_nodes.Known.{Table, IsKnown, table_of}
+use Rattle.rule_questions.specs.proof_nodes.Setting.{Setting}
+use Rattle.rule_questions.specs.proof_nodes.ComposedSizes.{rules_of, flows}
+use Rattle.rule_questions.specs.proof_nodes.Checks.{needed_into, needed_times}
+use Rattle.rule_questions.specs.proof_nodes.AcceptsSizes.{HasSizesBefore, AcceptsSpread, AcceptsCycle, spread_size, cycle_size}
+use Rattle.rule_questions.specs.proof_nodes.AcceptsSizes.{cycle_facts}
+use Rattle.rule_questions.specs.proof_nodes.Acceptance.{facts_of, joined_facts, Accepts}
+use Rattle.rule_questions.proofs.proof_nodes.FirstReasons.{HasSize}
+use Rattle.rule_questions.proofs.proof_nodes.SizeReasons.{known-members}
 use Rattle.round_relation.specs.NewSizes.{has_spot}
 use Rattle.round_relation.specs.Tables.{KnowsStart, IsTableOf}
-use Rattle.round_relation.specs.Uses.{Need, NeedsTime, NeedsSize, size_needs, spread_needs, cycle_needs, Numbers, uses_for}
+use Rattle.round_relation.specs.Uses.{Need, NeedsTime, NeedsSize, size_needs, spread_needs, cycle_needs, Numbers}
+use Rattle.round_relation.specs.Uses.{uses_for}
 use Rattle.round_relation.specs.LemmaOrder.{AreNumbersOf}
-use Rattle.round_relation.specs.Standing.{AreOf}
+use Rattle.round_relation.specs.Standing.{AreFactsOf}
 use Rattle.round_relation.proofs.Cases.{either}
-use Rattle.round_relation.proofs.FactLists.{contains-cases, contains-none, contains-first, contains-later, contains-left}
+use Rattle.round_relation.proofs.FactLists.{contains-cases, contains-none, contains-first, contains-later}
+use Rattle.round_relation.proofs.FactLists.{contains-left}
 use Rattle.round_relation.proofs.FactLists.{contains-right, contains-either}
 use Rattle.round_relation.proofs.NeededFacts.{IsMet, follows-itself, keeps-itself, needs_accepted, needed_time}
 use Rattle.round_relation.proofs.NeededFacts.{needed_size}
-use Rattle.round_relation.proofs.SameSizes.{needs_time, spread_size-same, spread_accepted, cycle_size-same, cycle_accepted}
+use Rattle.round_relation.proofs.SameSizes.{needs_time, spread_size-same, spread_accepted, cycle_size-same}
+use Rattle.round_relation.proofs.SameSizes.{cycle_accepted}
 
 -- a place among these is needed
 size-needed : (xs : List Spot) (t i : ℕ) → has_spot xs t i ≡ true → Contains (size_needs xs) (NeedsSize t i)
@@ -68,7 +72,7 @@ times_met tab (t ∷ ts) h n c =
     (λ later. times_met tab ts (λ u m. h u (or_right (u == t) (is_in u ts) m)) n later)
 
 module _ (s : Setting) (tab : Table) (start : KnowsStart s.program tab) (table : IsTableOf s.program tab)
-    (past : List (List Fact)) (are : All (AreOf tab) past) (ns : Numbers)
+    (past : List (List Fact)) (are : All (AreFactsOf tab) past) (ns : Numbers)
     (numbers : AreNumbersOf s.program past tab ns) where
   -- a place that doesn't loop
   module _ (m : Member) (ok : AcceptsSpread s tab m) where

@@ -1,14 +1,14 @@
 -- The members of a component have one size, or none has one.
 use Rattle.std.proofs.Common.{◌≡◌, inl, inr, ℕ, true, false, List, [], ◌∷◌, Option, Some, None, refl, sym}
 use Rattle.std.proofs.Common.{◌∙◌, subst}
-use Rattle.model.specs.Bounds.{Bound}
-use Rattle.model.proofs.Membership.{no_is_not_yes}
-use Rattle.proof_nodes.specs.Nodes.{Spot}
-use Rattle.proof_nodes.specs.Known.{Table}
-use Rattle.proof_nodes.specs.Setting.{Setting}
+use Rattle.rule_questions.specs.model.Bounds.{Bound}
+use Rattle.rule_questions.proofs.model.Membership.{no_is_not_yes}
+use Rattle.rule_questions.specs.proof_nodes.Nodes.{Spot}
+use Rattle.rule_questions.specs.proof_nodes.Known.{Table}
+use Rattle.rule_questions.specs.proof_nodes.Setting.{Setting}
 use Rattle.round_relation.specs.Tables.{lacks}
 use Rattle.round_relation.specs.Searches.{Searches, SizeSearches}
-use Rattle.round_relation.specs.Beginning.{First}
+use Rattle.round_relation.specs.Beginning.{IsFirstTable}
 use Rattle.round_relation.specs.NewSizes.{Sizes, has_spot, is_unsized, TriesSize, TriesSizes}
 use Rattle.round_relation.specs.Components.{AreApart, AreComponentsOf}
 use Rattle.round_relation.specs.Rounds.{IsMade, BegunWhole, MadeWhole}
@@ -94,7 +94,7 @@ module _ (z : SizeSearches) (time : ℕ → Option Bound) where
 
 module _ (q : Searches) (z : SizeSearches) (one : AreSizesOne z) (s : Setting) (right : AreSizesRight q z s) where
   -- before the first round no member has a size
-  uniform_first : (tab : Table) → First q s.program tab → (cs : List (List Spot)) → AreComponentsOf q s.program cs
+  uniform_first : (tab : Table) → IsFirstTable q s.program tab → (cs : List (List Spot)) → AreComponentsOf q s.program cs
       → AreUniform tab.size cs
   uniform_first tab h cs are c is t i u j m n = none t i m ∙ sym (none u j n)
     where

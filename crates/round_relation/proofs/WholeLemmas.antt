@@ -2,11 +2,11 @@
 use Rattle.std.proofs.Common.{◌≡◌, inl, inr, ℕ, List, [], ◌∷◌, ◌++◌, length, Option, refl, sym, ◌∙◌}
 use Rattle.std.proofs.Common.{ap, subst}
 use Rattle.std.proofs.lemmas.List.{append-nil, append_assoc}
-use Rattle.model.specs.Bounds.{Bound}
-use Rattle.proof_nodes.specs.Nodes.{Spot, Proof}
-use Rattle.proof_nodes.specs.Known.{Table}
-use Rattle.proof_nodes.specs.Setting.{Setting}
-use Rattle.proof_nodes.specs.Acceptance.{AcceptsLemmas, facts_of_lemmas}
+use Rattle.rule_questions.specs.model.Bounds.{Bound}
+use Rattle.rule_questions.specs.proof_nodes.Nodes.{Spot, Proof}
+use Rattle.rule_questions.specs.proof_nodes.Known.{Table}
+use Rattle.rule_questions.specs.proof_nodes.Setting.{Setting}
+use Rattle.rule_questions.specs.proof_nodes.Acceptance.{AcceptsLemmas, facts_of_lemmas}
 use Rattle.round_relation.specs.Searches.{Searches, SizeSearches, searches_of, size_searches_of}
 use Rattle.round_relation.specs.NewSizes.{Sizes, TriesSizes}
 use Rattle.round_relation.specs.Components.{IsOneOf, AreApart}

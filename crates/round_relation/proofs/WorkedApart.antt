@@ -4,29 +4,29 @@ use Rattle.std.proofs.Common.{◌++◌, length, Some, None, refl, sym, ◌∙◌
 use Rattle.std.specs.Prelude.{pos, ◌≤ℤ◌}
 use Rattle.std.proofs.lemmas.Int.{ints}
 use Rattle.std.proofs.lemmas.List.Elements.{All-nil}
-use Rattle.model.specs.Programs.{Rule, rule_at, arity_of}
-use Rattle.model.specs.Terms.{Variable}
-use Rattle.model.specs.Bounds.{Bound, Constant, Input}
-use Rattle.model.specs.Entries.{is_in}
-use Rattle.model.specs.Paths.{Here, Onward, HasEdge, HasPath}
-use Rattle.model.proofs.Membership.{is_in-cases}
-use Rattle.linear_forms.specs.Forms.{at, form_value}
-use Rattle.proof_nodes.specs.Gaps.{SymbolPlace}
-use Rattle.proof_nodes.specs.Nodes.{Proof, Never, Cite}
-use Rattle.proof_nodes.specs.AcceptsPlain.{IsRule, IsUnreached}
-use Rattle.proof_nodes.specs.WorkedSettings.{apart, enter, rule_over}
-use Rattle.proof_tree.specs.declared.answer.Trip.{Trip}
-use Rattle.proof_tree.specs.declared.answer.Question.{Question}
-use Rattle.proof_tree.specs.declared.answer.Question.TheVariants as asked
+use Rattle.rule_questions.specs.model.Programs.{Rule, rule_at, arity_of}
+use Rattle.rule_questions.specs.model.Terms.{Variable}
+use Rattle.rule_questions.specs.model.Bounds.{Bound, Constant, Input}
+use Rattle.rule_questions.specs.model.Entries.{is_in}
+use Rattle.rule_questions.specs.model.Paths.{Here, Onward, HasEdge, HasPath}
+use Rattle.rule_questions.proofs.model.Membership.{is_in-cases}
+use Rattle.rule_questions.specs.linear_forms.Forms.{at, form_value}
+use Rattle.rule_questions.specs.proof_nodes.Gaps.{SymbolPlace}
+use Rattle.rule_questions.specs.proof_nodes.Nodes.{Proof, Never, Cite}
+use Rattle.rule_questions.specs.proof_nodes.AcceptsPlain.{IsRule, IsUnreached}
+use Rattle.rule_questions.specs.proof_nodes.WorkedSettings.{apart, enter, rule_over}
+use Rattle.rule_questions.specs.proof_tree.declared.answer.Trip.{Trip}
+use Rattle.rule_questions.specs.proof_tree.declared.answer.Question.{Question}
+use Rattle.rule_questions.specs.proof_tree.declared.answer.Question.TheVariants as asked
 use Rattle.round_relation.specs.Tables.{IsPlace}
 use Rattle.round_relation.specs.Searches.{searches_of, Emptiness, NoPoint, HasPoint, EmptyTripped, Ranking, RankTripped}
-use Rattle.round_relation.specs.Beginning.{IsDead, IsZero, IsOpen, First}
+use Rattle.round_relation.specs.Beginning.{IsDead, IsZero, IsOpen, IsFirstTable}
 use Rattle.round_relation.specs.LemmaOrder.{unreached_lemmas, never_lemmas, AreFirstLemmas, AtFirst}
 use Rattle.round_relation.specs.Numbering.{first_numbers}
 use Rattle.round_relation.specs.Right.{AreRight, IsRightEmptiness, IsRightRanking, IsQuestion}
 use Rattle.round_relation.specs.Worked.{nothing_known, start_size}
 use Rattle.round_relation.specs.WorkedApart.{trip_of, trips_as, all_trips, apart_time, zero_size, apart_size}
-use Rattle.round_relation.specs.WorkedApart.{apart_known, its_time, its_size, ApartIsTold}
+use Rattle.round_relation.specs.WorkedApart.{apart_known, its_time, its_size, FirstLemmasAreWorkedOut}
 use Rattle.round_relation.proofs.Cases.{false_true, none_some, some_same, told}
 use Rattle.round_relation.proofs.LemmaNumbers.{first_numbers_are}
 
@@ -141,7 +141,7 @@ open_at (suc zero) rule live = record { time = refl; sizes = λ i place. refl }
 open_at (suc (suc zero)) rule live = absurd (live (inr (no_way (λ e. true))))
 open_at (suc (suc (suc t))) rule live = absurd (no_rule_3 t rule)
 
-first : First (searches_of all_trips) apart.program apart_known
+first : IsFirstTable (searches_of all_trips) apart.program apart_known
 first = record {
   table = record { times = times_of; sizes = sizes_of };
   is_empty = λ t. false;
@@ -157,7 +157,7 @@ first = record {
     not_empty : (m : List ℕ) → all_trips.empty 0 ≡ NoPoint m → ⊥
     not_empty m e = cc
 
-not_nothing : First (searches_of all_trips) apart.program nothing_known → ⊥
+not_nothing : IsFirstTable (searches_of all_trips) apart.program nothing_known → ⊥
 not_nothing h =
     let zeros = h.dead 2 rule_2 (inr (no_way (λ e. not (h.is_empty e)))) in
     none_some (Constant 0) zeros.time
@@ -262,7 +262,7 @@ not_twice f = other (f.ns.time 2) (two_lemmas (its_time ∷ its_size ∷ its_siz
     other : (n : ℕ) → its_time ∷ its_size ∷ its_size ∷ [] ≡ its_time ∷ Never (Cite n) ∷ [] → ⊥
     other n e = cc
 
-pub apart_told : ApartIsTold
+pub apart_told : FirstLemmasAreWorkedOut
 apart_told = record {
   first = first;
   not_nothing = not_nothing;

@@ -2,22 +2,22 @@
 use Rattle.std.proofs.Common.{◌≡◌, ℕ, zero, suc, ◌≤◌, ◌-◌, ◌⊎◌, inl, inr, Bool, true, false, List, [], ◌∷◌, Some, None}
 use Rattle.std.proofs.Common.{refl, sym, ◌∙◌, subst, arith}
 use Rattle.std.specs.List.{Contains}
-use Rattle.model.specs.Programs.{Rule, arity_of}
-use Rattle.model.specs.Bounds.{Bound, Constant, Input}
-use Rattle.model.specs.Paths.{Here, Onward, IsReached}
-use Rattle.model.specs.Entries.{is_in}
-use Rattle.proof_nodes.specs.AcceptsPlain.{IsRule}
-use Rattle.proof_nodes.specs.WorkedSettings.{counting, enter, count_down}
-use Rattle.model.proofs.Membership.{is_in-cases}
-use Rattle.proof_nodes.specs.Gaps.{SymbolPlace}
+use Rattle.rule_questions.specs.model.Programs.{Rule, arity_of}
+use Rattle.rule_questions.specs.model.Bounds.{Bound, Constant, Input}
+use Rattle.rule_questions.specs.model.Paths.{Here, Onward, IsReached}
+use Rattle.rule_questions.specs.model.Entries.{is_in}
+use Rattle.rule_questions.specs.proof_nodes.AcceptsPlain.{IsRule}
+use Rattle.rule_questions.specs.proof_nodes.WorkedSettings.{counting, enter, count_down}
+use Rattle.rule_questions.proofs.model.Membership.{is_in-cases}
+use Rattle.rule_questions.specs.proof_nodes.Gaps.{SymbolPlace}
 use Rattle.outcome.specs.Reports.{Timed}
 use Rattle.round_relation.specs.Tables.{IsPlace}
 use Rattle.round_relation.specs.Sets.{IsShut}
 use Rattle.round_relation.specs.Searches.{Answers, NoPoint, searches_of, Ranked}
-use Rattle.round_relation.specs.NewTimes.{Tells}
-use Rattle.round_relation.specs.Beginning.{IsDead, IsOpen, First}
+use Rattle.round_relation.specs.NewTimes.{GivesTime}
+use Rattle.round_relation.specs.Beginning.{IsDead, IsOpen, IsFirstTable}
 use Rattle.round_relation.specs.Worked.{nothing_known, table_with, entry_sizes, start_size, times_with}
-use Rattle.round_relation.specs.WorkedRounds.{counting_answers, value_ranks, once_the_start, FirstRoundIsTold}
+use Rattle.round_relation.specs.WorkedRounds.{counting_answers, value_ranks, once_the_start, FirstRoundIsWorkedOut}
 use Rattle.round_relation.proofs.WorkedSets.{second}
 use Rattle.round_relation.proofs.Cases.{false_true, none_some, some_same}
 
@@ -70,7 +70,7 @@ open_at (suc (suc zero)) rule = record { time = refl; sizes = λ i place. refl }
 open_at (suc (suc (suc t))) rule = record { time = refl; sizes = λ i place. refl }
 
 -- where no rule is empty, nothing but the virtual entry is known before the first round
-pub first_of : (a : Answers) → ((t : ℕ) (m : List ℕ) → a.empty t ≡ NoPoint m → ⊥) → First
+pub first_of : (a : Answers) → ((t : ℕ) (m : List ℕ) → a.empty t ≡ NoPoint m → ⊥) → IsFirstTable
     (searches_of a) counting.program nothing_known
 first_of a none_empty = record {
   table = record { times = times_of; sizes = sizes_of };
@@ -89,7 +89,7 @@ first_of a none_empty = record {
 rule_1 : IsRule counting.program 1
 rule_1 = record { rule = enter; numbered = refl }
 
-too_early : First (searches_of counting_answers) counting.program (table_with (Some (Constant 1)) None) → ⊥
+too_early : IsFirstTable (searches_of counting_answers) counting.program (table_with (Some (Constant 1)) None) → ⊥
 too_early h = go (h.is_empty 1) refl
   where
     not_empty : (m : List ℕ) → counting_answers.empty 0 ≡ NoPoint m → ⊥
@@ -116,7 +116,7 @@ none_shut s h = go (is_in-cases h.entry 0 [] h.enters)
         none_some (Input 0) (sym (subst (λ (i : ℕ). start_size i ≡ None) (entry_place s.place place) missing))
 
 -- the value ranks rule 2 over both, and gives it this time
-pub value_told : Tells (searches_of counting_answers) counting nothing_known 2 (Timed once_the_start)
+pub value_told : GivesTime (searches_of counting_answers) counting nothing_known 2 (Timed once_the_start)
 value_told = record {
   asked = record {
     set = 1 ∷ 2 ∷ [];
@@ -135,7 +135,7 @@ value_told = record {
     none_there : (s : SymbolPlace) → Contains [] s → ⊥
     none_there s (k, low, e) = omega (arith, low)
 
-pub first_round : FirstRoundIsTold
+pub first_round : FirstRoundIsWorkedOut
 first_round = record {
   first = first_of counting_answers not_empty;
   known_too_early = too_early;

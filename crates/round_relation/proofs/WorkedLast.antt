@@ -2,24 +2,24 @@
 use Rattle.std.proofs.Common.{◌≡◌, ◌⊎◌, inl, inr, ℕ, zero, suc, ◌≤◌, true, List, [], ◌∷◌, Some, None, refl, sym}
 use Rattle.std.proofs.Common.{◌∙◌, ap, subst, arith}
 use Rattle.std.specs.List.{Contains}
-use Rattle.model.specs.Programs.{Rule, arity_of}
-use Rattle.model.specs.Bounds.{Constant}
-use Rattle.model.specs.Entries.{is_in}
-use Rattle.model.specs.Paths.{target_of}
-use Rattle.model.proofs.Membership.{is_in-cases}
-use Rattle.proof_nodes.specs.Gaps.{SymbolPlace, Gap}
-use Rattle.proof_nodes.specs.AcceptsPlain.{IsRule}
-use Rattle.proof_nodes.specs.WorkedSettings.{counting, count_down}
+use Rattle.rule_questions.specs.model.Programs.{Rule, arity_of}
+use Rattle.rule_questions.specs.model.Bounds.{Constant}
+use Rattle.rule_questions.specs.model.Entries.{is_in}
+use Rattle.rule_questions.specs.model.Paths.{target_of}
+use Rattle.rule_questions.proofs.model.Membership.{is_in-cases}
+use Rattle.rule_questions.specs.proof_nodes.Gaps.{SymbolPlace, Gap}
+use Rattle.rule_questions.specs.proof_nodes.AcceptsPlain.{IsRule}
+use Rattle.rule_questions.specs.proof_nodes.WorkedSettings.{counting, count_down}
 use Rattle.outcome.specs.Reports.{NoFunction, TimeLarge, NoTime, Timed, Untimed}
 use Rattle.round_relation.specs.Tables.{IsPlace}
 use Rattle.round_relation.specs.Sets.{StandsBefore, IsShut}
 use Rattle.round_relation.specs.Searches.{NoPoint, searches_of, Unranked}
-use Rattle.round_relation.specs.NewTimes.{bound_in, Tells, TriesTime}
+use Rattle.round_relation.specs.NewTimes.{bound_in, GivesTime, TriesTime}
 use Rattle.round_relation.specs.Rounds.{Begun, IsClosedByTimes}
 use Rattle.round_relation.specs.Reasons.{IsNoTime}
 use Rattle.round_relation.specs.Worked.{nothing_known, table_with}
 use Rattle.round_relation.specs.WorkedRounds.{counting_answers, once_the_start}
-use Rattle.round_relation.specs.WorkedLast.{place, gap_over, nothing_ranks, ShutOfCounting, LastRoundIsTold}
+use Rattle.round_relation.specs.WorkedLast.{place, gap_over, nothing_ranks, ShutOfCounting, LastRoundIsWorkedOut}
 use Rattle.round_relation.proofs.FactLists.{contains-cases, contains-none, contains-first}
 use Rattle.round_relation.proofs.OneTable.{answers_one, untimed_one, tells_one}
 use Rattle.round_relation.proofs.WorkedSets.{first as first_set, second as second_set}
@@ -97,7 +97,7 @@ none_shut_first s h = none_shut s
     there : is_in h.entry (0 ∷ []) ≡ true
     there = h.enters
 
-first_tells : Tells (searches_of nothing_ranks) counting nothing_known 1 (Untimed (NoFunction (gap_over (1 ∷ []) 1 [])))
+first_tells : GivesTime (searches_of nothing_ranks) counting nothing_known 1 (Untimed (NoFunction (gap_over (1 ∷ []) 1 [])))
 first_tells = record {
   asked = record {
     set = 1 ∷ [];
@@ -117,7 +117,7 @@ first_tells = record {
   says = refl;
 }
 
-second_tells : Tells (searches_of nothing_ranks) counting nothing_known 2
+second_tells : GivesTime (searches_of nothing_ranks) counting nothing_known 2
     (Untimed (NoFunction (gap_over (1 ∷ 2 ∷ []) 2 [])))
 second_tells = record {
   asked = record {
@@ -185,7 +185,7 @@ not_closed n =
     (Timed once_the_start) tried.tells value_told in
     none_some once_the_start (tried.gives ∙ ap bound_in same)
 
-pub last_round : LastRoundIsTold
+pub last_round : LastRoundIsWorkedOut
 last_round = record {
   last = record { made = Begun (first_of nothing_ranks (λ t m e. empties t m e)); closed = closed };
   first_rule = record { missing = refl; reason = first_tells };

@@ -1,18 +1,18 @@
 -- Which times and sizes the sizes of a round are found with, of the program that counts down.
 use Rattle.std.proofs.Common.{◌≡◌, ℕ, ◌||◌, ◌&&◌, Bool, cond, true, false, List, [], ◌∷◌, Option, Some, None, refl, sym}
 use Rattle.std.proofs.Common.{◌∙◌, ap, subst}
-use Rattle.model.specs.Bounds.{Bound, Input}
-use Rattle.model.proofs.Membership.{same_number}
-use Rattle.proof_nodes.specs.Nodes.{Spot}
-use Rattle.proof_nodes.specs.WorkedSettings.{counting}
-use Rattle.outcome.specs.Reports.{NoSize, LacksTime, IsMissing}
+use Rattle.rule_questions.specs.model.Bounds.{Bound, Input}
+use Rattle.rule_questions.proofs.model.Membership.{same_number}
+use Rattle.rule_questions.specs.proof_nodes.Nodes.{Spot}
+use Rattle.rule_questions.specs.proof_nodes.WorkedSettings.{counting}
+use Rattle.outcome.specs.Reports.{NoSize, SizeUntimed, SizeMissing}
 use Rattle.round_relation.specs.Tables.{lacks}
 use Rattle.round_relation.specs.Searches.{SizeAnswers, searches_of, size_searches_of, Sizing, Found, NotFound}
 use Rattle.round_relation.specs.NewSizes.{Sizes, has_spot, is_unsized, size_by, TriesSize, TriesSizes}
 use Rattle.round_relation.specs.Rounds.{HasNewSizes}
 use Rattle.round_relation.specs.Worked.{entry_sizes, nothing_known}
 use Rattle.round_relation.specs.WorkedWhole.{value_where_open, spot, alone, turned, first_sizes, both_sizes, entered}
-use Rattle.round_relation.specs.WorkedWhole.{sized, sizes_alone, found_by_time, found_by_size, NewSizesAreTold}
+use Rattle.round_relation.specs.WorkedWhole.{sized, sizes_alone, found_by_time, found_by_size, NewSizesAreWorkedOut}
 use Rattle.round_relation.proofs.Cases.{none_some, some_none}
 use Rattle.round_relation.proofs.WorkedWhole.{components, first_tried, second_tried}
 
@@ -47,10 +47,10 @@ no_time = record {
   live = components;
   tried = (
     entry_sizes,
-    none_tried found_by_time nothing_known.time (spot 1 1 ∷ []) (LacksTime 1) refl,
+    none_tried found_by_time nothing_known.time (spot 1 1 ∷ []) (SizeUntimed 1) refl,
     (
       entry_sizes,
-      none_tried found_by_time nothing_known.time (spot 2 1 ∷ []) (LacksTime 1) refl,
+      none_tried found_by_time nothing_known.time (spot 2 1 ∷ []) (SizeUntimed 1) refl,
       λ t i. refl,
     ),
   );
@@ -97,7 +97,7 @@ second_is : (new : Sizes) → TriesSizes (size_searches_of found_by_size) entere
 second_is new (between, one, (last, two, end)) =
     let first : between 1 1 ≡ Some (Input 0) = answered found_by_size entered.time entry_sizes between 1 refl one in
     let said : found_by_size.size entered.time between (spot 2 1 ∷ []) ≡ Found (Input 0) = ap
-    (λ (o : Option Bound). cond (lacks o) (NotFound (IsMissing (spot 1 1))) (Found (Input 0))) first in
+    (λ (o : Option Bound). cond (lacks o) (NotFound (SizeMissing (spot 1 1))) (Found (Input 0))) first in
     end 2 1 ∙ answered found_by_size entered.time between last 2 (one.others 2 1 refl) two ∙ ap size_by said
 
 -- it isn't where it comes before that one
@@ -107,7 +107,7 @@ second_first new (between, two, (last, one, end)) =
     end 2 1 ∙ one.others 2 1 refl ∙ answered found_by_size entered.time entry_sizes between 2 refl two
 
 -- the sizes of a round are found with its times, and with the sizes found so far
-pub new_sizes : NewSizesAreTold
+pub new_sizes : NewSizesAreWorkedOut
 new_sizes = record {
   new_time = new_time;
   not_by_old_time = λ h. none_some (Input 0) (first_of_round entered.time entry_sizes h);
@@ -121,7 +121,7 @@ new_sizes = record {
   not_by_old_sizes = λ h. none_some (Input 0) (second_is first_sizes h);
   turned_round = (
     entry_sizes,
-    none_tried found_by_size entered.time (spot 2 1 ∷ []) (IsMissing (spot 1 1)) refl,
+    none_tried found_by_size entered.time (spot 2 1 ∷ []) (SizeMissing (spot 1 1)) refl,
     (first_sizes, first_tried found_by_size entered.time refl, λ t i. refl),
   );
   not_too_early = λ h. some_none (Input 0) (second_first both_sizes h);

@@ -1,12 +1,12 @@
 -- The sets of the rules of the program that counts down.
 use Rattle.std.proofs.Common.{◌≡◌, ℕ, zero, suc, ◌⊎◌, inl, inr, Bool, true, false, [], ◌∷◌, Some, None, refl, sym, ◌∙◌}
 use Rattle.std.proofs.Common.{ap, subst, arith}
-use Rattle.model.specs.Programs.{Rule, rule_at}
-use Rattle.model.specs.Paths.{Here, Onward, HasEdge, HasPath, IsInSet, LeadsBackTo, target_of}
-use Rattle.model.specs.Bounds.{Constant}
-use Rattle.model.specs.Entries.{is_in}
-use Rattle.proof_nodes.specs.WorkedSettings.{counting, enter, count_down}
-use Rattle.proof_nodes.specs.Known.{Table}
+use Rattle.rule_questions.specs.model.Programs.{Rule, rule_at}
+use Rattle.rule_questions.specs.model.Paths.{Here, Onward, HasEdge, HasPath, IsInSet, LeadsBackTo, target_of}
+use Rattle.rule_questions.specs.model.Bounds.{Constant}
+use Rattle.rule_questions.specs.model.Entries.{is_in}
+use Rattle.rule_questions.specs.proof_nodes.WorkedSettings.{counting, enter, count_down}
+use Rattle.rule_questions.specs.proof_nodes.Known.{Table}
 use Rattle.round_relation.specs.Tables.{is_untimed}
 use Rattle.round_relation.specs.Sets.{IsSetOfRule}
 use Rattle.round_relation.specs.Worked.{nothing_known, table_with, SetsOfCounting}

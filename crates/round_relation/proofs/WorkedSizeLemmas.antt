@@ -1,20 +1,21 @@
 -- What nodes of sizes need, and the lemmas of the sizes of a round, of the program that counts down.
-use Rattle.std.proofs.Common.{◌≡◌, inl, inr, ℕ, zero, suc, ◌*◌, ◌==◌, ◌&&◌, ◌||◌, true, false, List, [], ◌∷◌, ◌++◌, map, Option}
+use Rattle.std.proofs.Common.{◌≡◌, inl, inr, ℕ, zero, suc, ◌*◌, ◌==◌, ◌&&◌, ◌||◌, true, false, List, [], ◌∷◌, ◌++◌, map}
+use Rattle.std.proofs.Common.{Option}
 use Rattle.std.proofs.Common.{Some, None, refl, sym, ◌∙◌, ap, subst, arith}
 use Rattle.std.specs.List.{All, Contains}
 use Rattle.std.proofs.lemmas.Bool.{or_left}
 use Rattle.std.proofs.lemmas.List.Elements.{All-nil, All-cons, All-head}
-use Rattle.model.specs.Bounds.{Bound}
-use Rattle.model.specs.Facts.{Fact, Time, Size}
-use Rattle.proof_nodes.specs.Nodes.{Spot, Member, LocalBound, Proof, Start, Spread, Cycle, Proofs}
-use Rattle.proof_nodes.specs.Known.{Table, table_of}
-use Rattle.proof_nodes.specs.AcceptsPlain.{IsRule}
-use Rattle.proof_nodes.specs.AcceptsSizes.{AcceptsSpread, AcceptsCycle}
-use Rattle.proof_nodes.specs.Acceptance.{facts_of_lemma, joined_facts, Accepts, AcceptsLemmas, facts_of_lemmas}
-use Rattle.proof_nodes.specs.WorkedSettings.{counting}
-use Rattle.proof_nodes.specs.Worked.{only, once, once_time, entered_member, entered_size, looped, looped_member}
-use Rattle.proof_nodes.specs.Worked.{looped_size, down_time}
-use Rattle.proof_nodes.proofs.WorkedAccepted.{entered_accepted, four_accepted}
+use Rattle.rule_questions.specs.model.Bounds.{Bound}
+use Rattle.rule_questions.specs.model.Facts.{Fact, Time, Size}
+use Rattle.rule_questions.specs.proof_nodes.Nodes.{Spot, Member, LocalBound, Proof, Start, Spread, Cycle, Proofs}
+use Rattle.rule_questions.specs.proof_nodes.Known.{Table, table_of}
+use Rattle.rule_questions.specs.proof_nodes.AcceptsPlain.{IsRule}
+use Rattle.rule_questions.specs.proof_nodes.AcceptsSizes.{AcceptsSpread, AcceptsCycle}
+use Rattle.rule_questions.specs.proof_nodes.Acceptance.{facts_of_lemma, joined_facts, Accepts, AcceptsLemmas, facts_of_lemmas}
+use Rattle.rule_questions.specs.proof_nodes.WorkedSettings.{counting}
+use Rattle.rule_questions.specs.proof_nodes.Worked.{only, once, once_time, entered_member, entered_size, looped, looped_member}
+use Rattle.rule_questions.specs.proof_nodes.Worked.{looped_size, down_time}
+use Rattle.rule_questions.proofs.proof_nodes.WorkedAccepted.{entered_accepted, four_accepted}
 use Rattle.round_relation.specs.Tables.{lacks, IsPlace}
 use Rattle.round_relation.specs.Searches.{size_searches_of, Sizing, Found, NotFound}
 use Rattle.round_relation.specs.NewSizes.{has_spot, TriesSize}
@@ -24,8 +25,9 @@ use Rattle.round_relation.specs.SizeLemmas.{IsSpreadLemma, IsCycleLemma, IsSizeL
 use Rattle.round_relation.specs.SizeLemmas.{AreComponentLemmas, AreSizeLemmas}
 use Rattle.round_relation.specs.Worked.{entry_sizes}
 use Rattle.round_relation.specs.WorkedWhole.{spot, alone}
-use Rattle.round_relation.specs.WorkedSizeLemmas.{both_sized, once_known, one_sized, two_sized, first_lemma, second_lemma}
-use Rattle.round_relation.specs.WorkedSizeLemmas.{SizeLemmasAreTold}
+use Rattle.round_relation.specs.WorkedSizeLemmas.{both_sized, once_known, one_sized, two_sized, first_lemma}
+use Rattle.round_relation.specs.WorkedSizeLemmas.{second_lemma}
+use Rattle.round_relation.specs.WorkedSizeLemmas.{SizeLemmasAreWorkedOut}
 use Rattle.round_relation.proofs.Cases.{false_true, true_false, none_some, some_same, told}
 use Rattle.round_relation.proofs.FactLists.{contains-first}
 use Rattle.round_relation.proofs.SameSizes.{spread_accepted, cycle_accepted}
@@ -330,7 +332,7 @@ no_spread tab ns b proof l =
     same : {m : Spot} → spot 2 1 ∷ [] ≡ m ∷ [] → spot 2 1 ≡ m
     same e = cc
 
-pub size_lemmas_told : SizeLemmasAreTold
+pub size_lemmas_told : SizeLemmasAreWorkedOut
 size_lemmas_told = record {
   of_spread = refl;
   of_cycle = refl;

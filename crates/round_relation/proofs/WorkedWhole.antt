@@ -3,31 +3,31 @@ use Rattle.std.proofs.Common.{◌≡◌, ◌⊎◌, inl, inr, ℕ, zero, suc, �
 use Rattle.std.proofs.Common.{◌∷◌, Option, Some, None, refl, sym, ◌∙◌, ap, subst, arith}
 use Rattle.std.proofs.lemmas.Bool.{and_parts}
 use Rattle.std.proofs.lemmas.List.Elements.{All-nil, All-cons}
-use Rattle.model.specs.Programs.{Rule, arity_of}
-use Rattle.model.specs.Bounds.{Bound, Constant, Input}
-use Rattle.model.specs.Entries.{is_in}
-use Rattle.model.specs.Paths.{Here, Onward, IsReached}
-use Rattle.model.proofs.Membership.{told_same, is_in-cases, no_is_not_yes}
-use Rattle.proof_nodes.specs.Gaps.{SymbolPlace}
-use Rattle.proof_nodes.specs.Nodes.{Spot}
-use Rattle.proof_nodes.specs.AcceptsPlain.{IsRule}
-use Rattle.proof_nodes.specs.WorkedSettings.{counting, enter, count_down}
-use Rattle.outcome.specs.Reports.{NoFunction, LacksTime, Timed, Untimed}
+use Rattle.rule_questions.specs.model.Programs.{Rule, arity_of}
+use Rattle.rule_questions.specs.model.Bounds.{Bound, Constant, Input}
+use Rattle.rule_questions.specs.model.Entries.{is_in}
+use Rattle.rule_questions.specs.model.Paths.{Here, Onward, IsReached}
+use Rattle.rule_questions.proofs.model.Membership.{told_same, is_in-cases, no_is_not_yes}
+use Rattle.rule_questions.specs.proof_nodes.Gaps.{SymbolPlace}
+use Rattle.rule_questions.specs.proof_nodes.Nodes.{Spot}
+use Rattle.rule_questions.specs.proof_nodes.AcceptsPlain.{IsRule}
+use Rattle.rule_questions.specs.proof_nodes.WorkedSettings.{counting, enter, count_down}
+use Rattle.outcome.specs.Reports.{NoFunction, SizeUntimed, Timed, Untimed}
 use Rattle.round_relation.specs.Tables.{IsPlace}
 use Rattle.round_relation.specs.Sets.{IsShut}
 use Rattle.round_relation.specs.Searches.{SizeAnswers, searches_of, size_searches_of}
 use Rattle.round_relation.specs.Searches.{NoPoint, Ranked, Unranked, Found, NotFound}
 use Rattle.round_relation.specs.Beginning.{IsDead}
-use Rattle.round_relation.specs.NewTimes.{bound_in, Tells, TriesTime}
+use Rattle.round_relation.specs.NewTimes.{bound_in, GivesTime, TriesTime}
 use Rattle.round_relation.specs.NewSizes.{has_spot, is_unsized, TriesSize}
 use Rattle.round_relation.specs.Components.{AreSpotsAscending, IsCovered, IsOneOf, AreComponentsOf}
-use Rattle.round_relation.specs.Rounds.{Next, IsClosed}
+use Rattle.round_relation.specs.Rounds.{IsNextTable, IsClosed}
 use Rattle.round_relation.specs.Reasons.{IsNoSize}
 use Rattle.round_relation.specs.Worked.{start_size, entry_sizes}
 use Rattle.round_relation.specs.WorkedRounds.{value_ranks, once_the_start}
 use Rattle.round_relation.specs.WorkedLast.{place, gap_over}
 use Rattle.round_relation.specs.WorkedWhole.{value_where_open, spot, alone, all_found, none_found, both_sizes, entered}
-use Rattle.round_relation.specs.WorkedWhole.{first_sizes, sized, timed, WholeRoundsAreTold}
+use Rattle.round_relation.specs.WorkedWhole.{first_sizes, sized, timed, WholeRoundsAreWorkedOut}
 use Rattle.round_relation.proofs.Cases.{false_true, none_some, some_none, some_same, told, true_false}
 use Rattle.round_relation.proofs.FactLists.{contains-none}
 use Rattle.round_relation.proofs.OneTable.{answers_one, tells_one}
@@ -189,7 +189,7 @@ second_tried z time found = record { known = known; others = others; tried = λ 
         (subst (λ (n : ℕ). both_sizes 2 n ≡ Some (Input 0)) same.1 refl)
 
 -- over the entered table the place of l is shut for rule 2
-shut_told_2 : Tells (searches_of value_where_open) counting entered 2
+shut_told_2 : GivesTime (searches_of value_where_open) counting entered 2
     (Untimed (NoFunction (gap_over (2 ∷ []) 2 (place 1 1 ∷ []))))
 shut_told_2 = record {
   asked = record {
@@ -203,7 +203,7 @@ shut_told_2 = record {
   says = refl;
 }
 
-first : Next (searches_of value_where_open) (size_searches_of all_found) counting entered sized
+first : IsNextTable (searches_of value_where_open) (size_searches_of all_found) counting entered sized
 first = record {
   rules = record { known = λ t b e. e; tried = tried; others = λ t out. refl };
   places = record {
@@ -230,7 +230,7 @@ first = record {
     }
     tried (suc (suc (suc t))) rule e = absurd (no_rule_3 t rule)
 
-not_at_once : Next (searches_of value_where_open) (size_searches_of all_found) counting entered timed → ⊥
+not_at_once : IsNextTable (searches_of value_where_open) (size_searches_of all_found) counting entered timed → ⊥
 not_at_once n =
     let tried = n.rules.tried 2 rule_2 refl in
     let same = tells_one (searches_of value_where_open) (answers_one value_where_open) counting entered 2 tried.time
@@ -249,7 +249,7 @@ none_shut s h = go (is_in-cases h.entry 1 [] h.enters)
         let missing : both_sizes 1 s.place ≡ None = subst (λ (n : ℕ). both_sizes n s.place ≡ None) e h.missing in
         some_none (Input 0) (subst (λ (i : ℕ). start_size i ≡ None) (place_of_l s.place there) missing)
 
-open_told : Tells (searches_of value_where_open) counting sized 2 (Timed once_the_start)
+open_told : GivesTime (searches_of value_where_open) counting sized 2 (Timed once_the_start)
 open_told = record {
   asked = record {
     set = 2 ∷ [];
@@ -271,7 +271,7 @@ stays time c e = record {
   tried = λ x. absurd (false_true (sym e ∙ x));
 }
 
-second : Next (searches_of value_where_open) (size_searches_of all_found) counting sized timed
+second : IsNextTable (searches_of value_where_open) (size_searches_of all_found) counting sized timed
 second = record {
   rules = record { known = known; tried = tried; others = others };
   places = record {
@@ -327,7 +327,7 @@ last = record {
     tried (suc (suc zero)) rule e = absurd (some_none once_the_start e)
     tried (suc (suc (suc t))) rule e = absurd (no_rule_3 t rule)
 
-no_size : IsNoSize (size_searches_of none_found) entered 2 1 (LacksTime 2)
+no_size : IsNoSize (size_searches_of none_found) entered 2 1 (SizeUntimed 2)
 no_size = record {
   missing = refl;
   components = alone;
@@ -338,14 +338,14 @@ no_size = record {
   answered = refl;
 }
 
-not_by_rule_1 : IsNoSize (size_searches_of none_found) entered 2 1 (LacksTime 1) → ⊥
+not_by_rule_1 : IsNoSize (size_searches_of none_found) entered 2 1 (SizeUntimed 1) → ⊥
 not_by_rule_1 h = other h.answered
   where
-    other : NotFound (LacksTime 2) ≡ NotFound (LacksTime 1) → ⊥
+    other : NotFound (SizeUntimed 2) ≡ NotFound (SizeUntimed 1) → ⊥
     other e = let numbers : ◌≡◌ {A = ℕ} 2 1 = cc in omega (arith, numbers)
 
 -- place 2 is in none of the components
-not_elsewhere : IsNoSize (size_searches_of none_found) entered 2 2 (LacksTime 2) → ⊥
+not_elsewhere : IsNoSize (size_searches_of none_found) entered 2 2 (SizeUntimed 2) → ⊥
 not_elsewhere h = by (subst (λ (cs : List (List Spot)). IsOneOf cs h.members) (sym h.are_components) h.component)
   where
     by : IsOneOf alone h.members → ⊥
@@ -353,7 +353,7 @@ not_elsewhere h = by (subst (λ (cs : List (List Spot)). IsOneOf cs h.members) (
     by (inr (inl e)) = false_true (subst (λ (c : List Spot). has_spot c 2 2 ≡ true) (sym e) h.member)
     by (inr (inr x)) = x
 
-pub whole_rounds : WholeRoundsAreTold
+pub whole_rounds : WholeRoundsAreWorkedOut
 whole_rounds = record {
   components = components;
   not_lacking = not_lacking;

@@ -1,9 +1,9 @@
 -- The table before the first round: rules that never run.
 use Rattle.std.specs.Prelude.{◌≡◌, ◌⊎◌, ◌↔◌, ℕ, Bool, true, not, List, Some, None}
-use Rattle.model.specs.Programs.{Program}
-use Rattle.model.specs.Bounds.{Constant}
-use Rattle.proof_nodes.specs.AcceptsPlain.{IsRule, IsUnreached}
-use Rattle.proof_nodes.specs.Known.{Table}
+use Rattle.rule_questions.specs.model.Programs.{Program}
+use Rattle.rule_questions.specs.model.Bounds.{Constant}
+use Rattle.rule_questions.specs.proof_nodes.AcceptsPlain.{IsRule, IsUnreached}
+use Rattle.rule_questions.specs.proof_nodes.Known.{Table}
 use Rattle.round_relation.specs.Tables.{IsPlace, KnowsStart, IsTableOf}
 use Rattle.round_relation.specs.Searches.{Searches, NoPoint}
 
@@ -28,7 +28,7 @@ pub record IsOpen (p : Program) (tab : Table) (t : ℕ) : Type 0 where
 
 -- the table before the first round: the virtual entry is known, rules that never run have time and sizes 0, and all
 -- others have none
-pub record First (q : Searches) (p : Program) (tab : Table) : Type 0 where
+pub record IsFirstTable (q : Searches) (p : Program) (tab : Table) : Type 0 where
   pub table : IsTableOf p tab
   pub is_empty : ℕ → Bool
   pub empty : (t : ℕ) → IsRule p t → (is_empty t ≡ true) ↔ IsEmpty q t

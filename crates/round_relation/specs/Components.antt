@@ -1,10 +1,10 @@
 -- The components of the places of live rules.
 use Rattle.std.specs.Prelude.{◌≡◌, ◌⊎◌, ◌↔◌, ℕ, Bool, true, List, [], ◌∷◌, ⊤}
 use Rattle.std.specs.List.{All}
-use Rattle.model.specs.Programs.{Program}
-use Rattle.proof_nodes.specs.Nodes.{Spot}
-use Rattle.proof_nodes.specs.AcceptsPlain.{IsRule}
-use Rattle.proof_nodes.specs.AcceptsSizes.{ComesBefore}
+use Rattle.rule_questions.specs.model.Programs.{Program}
+use Rattle.rule_questions.specs.proof_nodes.Nodes.{Spot}
+use Rattle.rule_questions.specs.proof_nodes.AcceptsPlain.{IsRule}
+use Rattle.rule_questions.specs.proof_nodes.AcceptsSizes.{ComesBefore}
 use Rattle.round_relation.specs.Tables.{IsPlace}
 use Rattle.round_relation.specs.Searches.{Searches}
 use Rattle.round_relation.specs.Beginning.{IsEmpty, IsDead}

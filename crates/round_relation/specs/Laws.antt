@@ -3,22 +3,22 @@ use Rattle.std.specs.Prelude.{◌≡◌, ◌⊎◌, ◌↔◌, ℕ, ◌+◌, ◌
 use Rattle.std.specs.Prelude.{Some}
 use Rattle.std.specs.Prelude.{None}
 use Rattle.std.specs.List.{Contains, count_by}
-use Rattle.model.specs.Programs.{Program}
-use Rattle.model.specs.Bounds.{Bound}
-use Rattle.model.specs.Facts.{Fact, Time, Size, HoldsTime, HoldsSize}
-use Rattle.model.specs.Paths.{target_of}
-use Rattle.proof_nodes.specs.Nodes.{Proof}
-use Rattle.proof_nodes.specs.AcceptsPlain.{IsRule, IsUnreached, places_at}
-use Rattle.proof_nodes.specs.Acceptance.{AcceptsLemmas, facts_of_lemmas}
-use Rattle.proof_nodes.specs.Setting.{Setting, IsFaithful}
-use Rattle.proof_nodes.specs.Known.{Table}
+use Rattle.rule_questions.specs.model.Programs.{Program}
+use Rattle.rule_questions.specs.model.Bounds.{Bound}
+use Rattle.rule_questions.specs.model.Facts.{Fact, Time, Size, HoldsTime, HoldsSize}
+use Rattle.rule_questions.specs.model.Paths.{target_of}
+use Rattle.rule_questions.specs.proof_nodes.Nodes.{Proof}
+use Rattle.rule_questions.specs.proof_nodes.AcceptsPlain.{IsRule, IsUnreached, places_at}
+use Rattle.rule_questions.specs.proof_nodes.Acceptance.{AcceptsLemmas, facts_of_lemmas}
+use Rattle.rule_questions.specs.proof_nodes.Setting.{Setting, IsFaithful}
+use Rattle.rule_questions.specs.proof_nodes.Known.{Table}
 use Rattle.outcome.specs.Reports.{NoTime, NoSize}
 use Rattle.round_relation.specs.Tables.{lacks, rule_numbers, IsPlace}
 use Rattle.round_relation.specs.Searches.{Answers, SizeAnswers, searches_of, size_searches_of}
-use Rattle.round_relation.specs.Beginning.{First}
+use Rattle.round_relation.specs.Beginning.{IsFirstTable}
 use Rattle.round_relation.specs.Components.{IsCovered}
 use Rattle.round_relation.specs.Reasons.{IsNoTime, IsNoSize}
-use Rattle.round_relation.specs.Rounds.{NextTimes, IsMadeByTimes, IsClosedByTimes, IsLastOfTimes, Next, IsMade}
+use Rattle.round_relation.specs.Rounds.{NextTimes, IsMadeByTimes, IsClosedByTimes, IsLastOfTimes, IsNextTable, IsMade}
 use Rattle.round_relation.specs.Rounds.{IsClosed}
 use Rattle.round_relation.specs.Right.{AreRight}
 use Rattle.round_relation.specs.RightSizes.{AreSizesRight}
@@ -44,7 +44,7 @@ pub record RoundsEnd : Type 0 where
   pub times : (a : Answers) (s : Setting) (old new : Table) → NextTimes (searches_of a) s old new
       → (untimed s.program new < untimed s.program old) ⊎ IsClosedByTimes (searches_of a) s new
   pub whole : (a : Answers) (z : SizeAnswers) (s : Setting) (old new : Table)
-      → Next (searches_of a) (size_searches_of z) s old new
+      → IsNextTable (searches_of a) (size_searches_of z) s old new
       → (missing s.program new < missing s.program old) ⊎ IsClosed (searches_of a) (size_searches_of z) s new
 
 -- one of the lists has the fact
@@ -108,7 +108,7 @@ pub record LemmasAreAccepted : Type 0 where
 -- after a round are numbers of the new one
 pub record LemmasAreNumbered : Type 0 where
   pub first : (a : Answers) (s : Setting) → AreRight (searches_of a) s → (tab : Table) →
-      (h : First (searches_of a) s.program tab)
+      (h : IsFirstTable (searches_of a) s.program tab)
       → (is_unreached : ℕ → Bool)
       → ((t : ℕ) → IsRule s.program t
       → h.is_empty t ≡ false
@@ -131,7 +131,7 @@ pub record TablesAreOne : Type 0 where
 
 -- there is a first table, each table that is made by rounds of times has a next one, and there is a last one
 pub record LastTablesExist : Type 0 where
-  pub first : (a : Answers) (s : Setting) → (tab : Table) × First (searches_of a) s.program tab
+  pub first : (a : Answers) (s : Setting) → (tab : Table) × IsFirstTable (searches_of a) s.program tab
   pub next : (a : Answers) (s : Setting) (old : Table) → IsMadeByTimes (searches_of a) s old
       → (new : Table) × NextTimes (searches_of a) s old new
   pub last : (a : Answers) (s : Setting) → (tab : Table) × IsLastOfTimes (searches_of a) s tab

@@ -2,21 +2,21 @@
 use Rattle.std.specs.Prelude.{◌≡◌, ◌↔◌, ℕ, ◌&&◌, not, nat_lt, Bool, true, false, cond, List, [], ◌∷◌, ◌++◌, length}
 use Rattle.std.specs.Prelude.{filter, Option, Some, None}
 use Rattle.std.specs.List.{range_with_len, Contains}
-use Rattle.model.specs.Programs.{Program, arity_of}
-use Rattle.model.specs.Paths.{target_of}
-use Rattle.model.specs.Bounds.{Bound}
-use Rattle.model.specs.Facts.{Fact, Time, Size}
-use Rattle.proof_nodes.specs.Nodes.{RankNode, Proof, Empty, Unreached, Never, Rank, Cite}
-use Rattle.proof_nodes.specs.Acceptance.{facts_of_lemma, facts_of_lemmas}
-use Rattle.proof_nodes.specs.AcceptsPlain.{IsRule, IsUnreached}
-use Rattle.proof_nodes.specs.AcceptsRank.{rank_time}
-use Rattle.proof_nodes.specs.Setting.{Setting}
-use Rattle.proof_nodes.specs.Known.{Table}
+use Rattle.rule_questions.specs.model.Programs.{Program, arity_of}
+use Rattle.rule_questions.specs.model.Paths.{target_of}
+use Rattle.rule_questions.specs.model.Bounds.{Bound}
+use Rattle.rule_questions.specs.model.Facts.{Fact, Time, Size}
+use Rattle.rule_questions.specs.proof_nodes.Nodes.{RankNode, Proof, Empty, Unreached, Never, Rank, Cite}
+use Rattle.rule_questions.specs.proof_nodes.Acceptance.{facts_of_lemma, facts_of_lemmas}
+use Rattle.rule_questions.specs.proof_nodes.AcceptsPlain.{IsRule, IsUnreached}
+use Rattle.rule_questions.specs.proof_nodes.AcceptsRank.{rank_time}
+use Rattle.rule_questions.specs.proof_nodes.Setting.{Setting}
+use Rattle.rule_questions.specs.proof_nodes.Known.{Table}
 use Rattle.outcome.specs.Reports.{Timed}
 use Rattle.round_relation.specs.Tables.{lacks, rule_numbers, IsPlace}
 use Rattle.round_relation.specs.Searches.{Searches, NoPoint, Ranked}
-use Rattle.round_relation.specs.Beginning.{First}
-use Rattle.round_relation.specs.NewTimes.{Asked, Composes}
+use Rattle.round_relation.specs.Beginning.{IsFirstTable}
+use Rattle.round_relation.specs.NewTimes.{AnsweredQuestion, Composes}
 use Rattle.round_relation.specs.Rounds.{NextTimes}
 use Rattle.round_relation.specs.Uses.{Numbers, cites, rank_needs, uses_for}
 
@@ -68,7 +68,7 @@ pub record AreNumbersOf (p : Program) (stated : List (List Fact)) (tab : Table) 
 
 -- the lemmas before the first round, whose table this is: Empty for each empty rule, and those that follow
 pub record AreFirstLemmas (q : Searches) (s : Setting) (tab : Table) (proofs : List Proof) : Type 0 where
-  pub first : First q s.program tab
+  pub first : IsFirstTable q s.program tab
   pub is_unreached : ℕ → Bool
   pub unreached : (t : ℕ) → IsRule s.program t → first.is_empty t ≡ false
       → (is_unreached t ≡ true) ↔ IsUnreached s.program (λ e. not (first.is_empty e)) t
@@ -86,7 +86,7 @@ is_new old new t = lacks (old.time t) && not (lacks (new.time t))
 -- time, with what it rests on
 pub record IsTimeLemma (q : Searches) (s : Setting) (old new : Table) (ns : Numbers) (t : ℕ) (proof : Proof)
     : Type 0 where
-  pub asked : Asked q s old t
+  pub asked : AnsweredQuestion q s old t
   pub node : RankNode
   pub ranked : asked.answer ≡ Ranked node
   pub bound : Bound

@@ -1,7 +1,7 @@
 -- The sizes of a round: the components without sizes, in their order.
 use Rattle.std.specs.Prelude.{◌≡◌, ℕ, ◌==◌, ◌&&◌, ◌||◌, Bool, true, false, List, [], ◌∷◌, Option, Some, None}
-use Rattle.model.specs.Bounds.{Bound}
-use Rattle.proof_nodes.specs.Nodes.{Spot}
+use Rattle.rule_questions.specs.model.Bounds.{Bound}
+use Rattle.rule_questions.specs.proof_nodes.Nodes.{Spot}
 use Rattle.round_relation.specs.Tables.{lacks}
 use Rattle.round_relation.specs.Searches.{SizeSearches, Sizing, Found, NotFound}
 

@@ -1,13 +1,13 @@
 -- The times of a round.
 use Rattle.std.specs.Prelude.{◌≡◌, ℕ, List, Option, Some, None}
-use Rattle.model.specs.Bounds.{Bound}
-use Rattle.proof_nodes.specs.Setting.{Setting}
-use Rattle.proof_nodes.specs.Limits.{IsSmallComposed}
-use Rattle.proof_nodes.specs.Checks.{large_nodes}
-use Rattle.proof_nodes.specs.AcceptsRank.{rank_time}
-use Rattle.proof_nodes.specs.Gaps.{SymbolPlace}
+use Rattle.rule_questions.specs.model.Bounds.{Bound}
+use Rattle.rule_questions.specs.proof_nodes.Setting.{Setting}
+use Rattle.rule_questions.specs.proof_nodes.Limits.{IsSmallComposed}
+use Rattle.rule_questions.specs.proof_nodes.Checks.{large_nodes}
+use Rattle.rule_questions.specs.proof_nodes.AcceptsRank.{rank_time}
+use Rattle.rule_questions.specs.proof_nodes.Gaps.{SymbolPlace}
 use Rattle.outcome.specs.Reports.{NoFunction, TimeTripped, TimeLarge, Time, Timed, Untimed}
-use Rattle.proof_nodes.specs.Known.{Table}
+use Rattle.rule_questions.specs.proof_nodes.Known.{Table}
 use Rattle.round_relation.specs.Sets.{IsSetOfRule, AreShutOf}
 use Rattle.round_relation.specs.Searches.{Searches, Ranking, Ranked, Unranked, RankTripped}
 
@@ -29,7 +29,7 @@ bound_in (Timed b) = Some b
 bound_in (Untimed why) = None
 
 -- the rank question of rule t over a table, and its answer
-pub record Asked (q : Searches) (s : Setting) (tab : Table) (t : ℕ) : Type 0 where
+pub record AnsweredQuestion (q : Searches) (s : Setting) (tab : Table) (t : ℕ) : Type 0 where
   pub set : List ℕ
   pub shut : List SymbolPlace
   pub answer : Ranking
@@ -38,12 +38,12 @@ pub record Asked (q : Searches) (s : Setting) (tab : Table) (t : ℕ) : Type 0 w
   pub answered : q.Ranks set t shut answer
 
 -- rule t was asked over a table, and this is what the answer says of its time
-pub record Tells (q : Searches) (s : Setting) (tab : Table) (t : ℕ) (time : Time) : Type 0 where
-  pub asked : Asked q s tab t
+pub record GivesTime (q : Searches) (s : Setting) (tab : Table) (t : ℕ) (time : Time) : Type 0 where
+  pub asked : AnsweredQuestion q s tab t
   pub says : SaysTime s tab asked.answer time
 
 -- a rule without a time was tried over a table: what it has then is what the answer to its rank question gives
 pub record TriesTime (q : Searches) (s : Setting) (tab : Table) (t : ℕ) (result : Option Bound) : Type 0 where
   pub time : Time
-  pub tells : Tells q s tab t time
+  pub tells : GivesTime q s tab t time
   pub gives : result ≡ bound_in time

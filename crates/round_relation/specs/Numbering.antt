@@ -1,10 +1,10 @@
 -- The numbers of lemmas in their order.
 use Rattle.std.specs.Prelude.{ℕ, zero, suc, ◌+◌, ◌-◌, ◌&&◌, Bool, cond, List}
 use Rattle.std.specs.List.{range_with_len, count_by}
-use Rattle.model.specs.Programs.{Program}
-use Rattle.model.specs.Paths.{target_of}
-use Rattle.proof_nodes.specs.Nodes.{Spot}
-use Rattle.proof_nodes.specs.Known.{Table}
+use Rattle.rule_questions.specs.model.Programs.{Program}
+use Rattle.rule_questions.specs.model.Paths.{target_of}
+use Rattle.rule_questions.specs.proof_nodes.Nodes.{Spot}
+use Rattle.rule_questions.specs.proof_nodes.Known.{Table}
 use Rattle.round_relation.specs.Tables.{rule_numbers}
 use Rattle.round_relation.specs.NewSizes.{has_spot}
 use Rattle.round_relation.specs.Uses.{Numbers}

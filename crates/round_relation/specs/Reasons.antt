@@ -1,18 +1,18 @@
 -- Why bounds are missing in a table.
 use Rattle.std.specs.Prelude.{◌≡◌, ℕ, true, List, None}
-use Rattle.proof_nodes.specs.Nodes.{Spot}
-use Rattle.proof_nodes.specs.Setting.{Setting}
+use Rattle.rule_questions.specs.proof_nodes.Nodes.{Spot}
+use Rattle.rule_questions.specs.proof_nodes.Setting.{Setting}
 use Rattle.outcome.specs.Reports.{NoTime, Untimed, NoSize}
-use Rattle.proof_nodes.specs.Known.{Table}
+use Rattle.rule_questions.specs.proof_nodes.Known.{Table}
 use Rattle.round_relation.specs.Searches.{Searches, SizeSearches, NotFound}
-use Rattle.round_relation.specs.NewTimes.{Tells}
+use Rattle.round_relation.specs.NewTimes.{GivesTime}
 use Rattle.round_relation.specs.NewSizes.{has_spot}
 use Rattle.round_relation.specs.Components.{IsOneOf}
 
 -- why rule t has no time in a table: what the answer to its rank question over this table says
 pub record IsNoTime (q : Searches) (s : Setting) (tab : Table) (t : ℕ) (why : NoTime) : Type 0 where
   pub missing : tab.time t ≡ None
-  pub reason : Tells q s tab t (Untimed why)
+  pub reason : GivesTime q s tab t (Untimed why)
 
 -- why a place after a rule has no size in a table: what the answer for its component over this table says, which all
 -- members share

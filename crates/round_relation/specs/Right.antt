@@ -1,22 +1,21 @@
 -- When the answers of the searches for times are right.
-use Rattle.std.specs.Prelude.{◌≡◌, ◌⊎◌, ℕ, suc, true, List, [], ◌∷◌, length, pos, Option, Some}
-use Rattle.std.specs.Prelude.{None}
-use Rattle.model.specs.Programs.{Program, Rule, rule_at, arity_of}
-use Rattle.model.specs.Entries.{is_in}
-use Rattle.linear_forms.specs.Forms.{at}
-use Rattle.linear_forms.specs.Points.{IsPoint}
-use Rattle.linear_forms.specs.RuleQuestions.{RuleForms, RankedSet}
-use Rattle.rule_forms.specs.Ranking.{NoRank}
-use Rattle.proof_nodes.specs.Nodes.{RankNode}
-use Rattle.proof_nodes.specs.Numbers.{IsAscending}
-use Rattle.proof_nodes.specs.Setting.{Setting}
-use Rattle.proof_nodes.specs.Composed.{rank_form}
-use Rattle.proof_nodes.specs.AcceptsPlain.{IsRule, AcceptsEmpty}
-use Rattle.proof_nodes.specs.AcceptsRank.{HasRankShape, Loses, HasFloor}
-use Rattle.proof_tree.specs.Shut.{is_shut}
-use Rattle.proof_tree.specs.declared.answer.Trip.{Trip}
-use Rattle.proof_tree.specs.declared.answer.Question.TheVariants as asked
-use Rattle.proof_nodes.specs.Gaps.{SymbolPlace, Gap}
+use Rattle.std.specs.Prelude.{◌≡◌, ◌⊎◌, ℕ, suc, true, List, [], ◌∷◌, pos, Some}
+use Rattle.rule_questions.specs.model.Programs.{Program}
+use Rattle.rule_questions.specs.model.Entries.{is_in}
+use Rattle.rule_questions.specs.linear_forms.Forms.{at}
+use Rattle.rule_questions.specs.linear_forms.Points.{IsPoint}
+use Rattle.rule_questions.specs.rule_forms.Ranking.{NoRank}
+use Rattle.rule_questions.specs.proof_nodes.Nodes.{RankNode}
+use Rattle.rule_questions.specs.proof_nodes.Numbers.{IsAscending}
+use Rattle.rule_questions.specs.proof_nodes.Setting.{Setting}
+use Rattle.rule_questions.specs.proof_nodes.Composed.{rank_form}
+use Rattle.rule_questions.specs.proof_nodes.AcceptsPlain.{IsRule, AcceptsEmpty}
+use Rattle.rule_questions.specs.proof_nodes.AcceptsRank.{HasRankShape, Loses, HasFloor}
+use Rattle.rule_questions.specs.proof_tree.Shut.{is_shut}
+use Rattle.rule_questions.specs.proof_tree.declared.answer.Trip.{Trip}
+use Rattle.rule_questions.specs.proof_tree.declared.answer.Question.TheVariants as asked
+use Rattle.rule_questions.specs.proof_nodes.Gaps.{SymbolPlace, Gap}
+use Rattle.rule_questions.specs.ProgramQuestions.{ranked_set}
 use Rattle.round_relation.specs.Searches.{Searches, Emptiness, NoPoint, HasPoint, EmptyTripped, Ranking, Ranked}
 use Rattle.round_relation.specs.Searches.{Unranked, RankTripped}
 
@@ -34,36 +33,12 @@ pub record IsRanking (s : Setting) (set : List ℕ) (t : ℕ) (shut : List Symbo
   pub floor : HasFloor s node
   pub reads : ReadsNoShut node shut
 
--- a rule of a setting, where there is one, as a ranking function meets it: its ends, rows and new values
-abbrev pub met_in : Setting → ℕ → Option Rule → RuleForms
-met_in s t None = record { source = 0; target = 0; left = 0; unknowns = 0; rows = s.rows t; news = s.news t }
-met_in s t (Some r) = record {
-  source = r.source;
-  target = r.target;
-  left = 0;
-  unknowns = 0;
-  rows = s.rows t;
-  news = s.news t;
-}
-
--- a set of rules of a setting, one of which has to decrease, with places that are shut
-abbrev pub set_met : Setting → List ℕ → ℕ → List SymbolPlace → RankedSet
-set_met s set t shut = record {
-  symbols = length s.program.symbols;
-  arity = arity_of s.program;
-  rule = λ u. met_in s u (rule_at s.program u);
-  set = set;
-  strict = t;
-  shut = is_shut shut;
-  entered = λ a. true;
-}
-
 -- a gap of exactly this question; and no function that reads no shut place ranks the rule over the set
 pub record IsGapOf (s : Setting) (set : List ℕ) (t : ℕ) (shut : List SymbolPlace) (g : Gap) : Type 0 where
   pub rule : g.rule ≡ t
   pub same_set : g.set ≡ set
   pub same_shut : g.shut ≡ shut
-  pub none : NoRank (set_met s set t shut)
+  pub none : NoRank (ranked_set s.program set t shut)
 
 -- the emptiness question of a rule trips
 abbrev pub EmptyTrips : Searches → ℕ → Type 0

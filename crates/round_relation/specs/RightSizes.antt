@@ -1,18 +1,18 @@
 -- When the answers of the searches for sizes are right.
 use Rattle.std.specs.Prelude.{◌≡◌, ◌⊎◌, ℕ, ◌<◌, true, List, [], ◌∷◌, map, ℤ, pos, ◌<ℤ◌, Option}
-use Rattle.model.specs.Bounds.{Bound}
-use Rattle.linear_forms.specs.Forms.{at, form_value}
-use Rattle.linear_forms.specs.Points.{IsPoint, IsRay}
-use Rattle.proof_nodes.specs.Nodes.{Spot, Member}
-use Rattle.proof_nodes.specs.Setting.{Setting}
-use Rattle.proof_nodes.specs.Known.{Table}
-use Rattle.proof_nodes.specs.AcceptsSizes.{AcceptsSpread, AcceptsCycle, spread_size, cycle_size, left_of, new_value}
-use Rattle.proof_nodes.specs.Reasons.{Reason, MissingTime, MissingSize, Bent, Large, IsFirstAmong}
-use Rattle.proof_nodes.specs.Checks.{spread_checks, cycle_checks}
-use Rattle.proof_tree.specs.declared.answer.Question.TheVariants as asked
-use Rattle.proof_nodes.specs.Gaps.{ScaledPoint}
-use Rattle.proof_nodes.specs.AcceptsSizes.{Side, Up, Low}
-use Rattle.outcome.specs.Reports.{NoSize, IsLoose, SizeTripped, IsMissing, IsBent, LacksTime, SizeLarge}
+use Rattle.rule_questions.specs.model.Bounds.{Bound}
+use Rattle.rule_questions.specs.linear_forms.Forms.{at, form_value}
+use Rattle.rule_questions.specs.linear_forms.Points.{IsPoint, IsRay}
+use Rattle.rule_questions.specs.proof_nodes.Nodes.{Spot, Member}
+use Rattle.rule_questions.specs.proof_nodes.Setting.{Setting}
+use Rattle.rule_questions.specs.proof_nodes.Known.{Table}
+use Rattle.rule_questions.specs.proof_nodes.AcceptsSizes.{AcceptsSpread, AcceptsCycle, spread_size, cycle_size, left_of, new_value}
+use Rattle.rule_questions.specs.proof_nodes.Reasons.{Reason, MissingTime, MissingSize, Bent, Large, IsFirstAmong}
+use Rattle.rule_questions.specs.proof_nodes.Checks.{spread_checks, cycle_checks}
+use Rattle.rule_questions.specs.proof_tree.declared.answer.Question.TheVariants as asked
+use Rattle.rule_questions.specs.proof_nodes.Gaps.{ScaledPoint}
+use Rattle.rule_questions.specs.proof_nodes.AcceptsSizes.{Side, Up, Low}
+use Rattle.outcome.specs.Reports.{NoSize, SizeLoose, SizeTripped, SizeMissing, SizeBent, SizeUntimed, SizeLarge}
 use Rattle.round_relation.specs.Searches.{Searches, SizeSearches, Sizing, Found, NotFound}
 use Rattle.round_relation.specs.NewSizes.{has_spot}
 use Rattle.round_relation.specs.Components.{AreComponentsOf}
@@ -47,13 +47,13 @@ pub record IsLooseAt (s : Setting) (m : Spot) (side : Side) (ray : List ℤ) (ke
   pub point : IsPoint (s.rows m.rule) (at kept.parts) (pos kept.den)
 
 -- the reason for which the checks of a node say that there is no size
-abbrev pub IsToldBy : NoSize → Reason → Type 0
-IsToldBy (IsLoose side ray kept) r = ⊥
-IsToldBy (SizeTripped t) r = ⊥
-IsToldBy (IsMissing m) r = r ≡ MissingSize m.rule m.place
-IsToldBy (IsBent m) r = r ≡ Bent m.rule m.place
-IsToldBy (LacksTime t) r = r ≡ MissingTime t
-IsToldBy (SizeLarge n) r = r ≡ Large n
+abbrev pub IsReasonFor : NoSize → Reason → Type 0
+IsReasonFor (SizeLoose side ray kept) r = ⊥
+IsReasonFor (SizeTripped t) r = ⊥
+IsReasonFor (SizeMissing m) r = r ≡ MissingSize m.rule m.place
+IsReasonFor (SizeBent m) r = r ≡ Bent m.rule m.place
+IsReasonFor (SizeUntimed t) r = r ≡ MissingTime t
+IsReasonFor (SizeLarge n) r = r ≡ Large n
 
 -- the node of the only member fails at this check first, and so does the node of all
 pub record FailsAlone (s : Setting) (tab : Table) (members : List Spot) (r : Reason) : Type 0 where
@@ -70,18 +70,18 @@ pub record FailsTogether (s : Setting) (tab : Table) (members : List Spot) (r : 
 -- from outside is missing, an arm reads a member by a polynomial, a rule has no time, or the bound is large
 abbrev pub IsFirstCause : Setting → Table → List Spot → NoSize → Type 0
 IsFirstCause s tab members why =
-    (r : Reason) × IsToldBy why r × (FailsAlone s tab members r ⊎ FailsTogether s tab members r)
+    (r : Reason) × IsReasonFor why r × (FailsAlone s tab members r ⊎ FailsTogether s tab members r)
 
 -- why members have no size: the place of one of them is loose, as a ray shows, or one of its linear programs, or that
 -- of its rule's emptiness, tripped; else the first cause
 abbrev pub IsCause : Setting → Table → List Spot → NoSize → Type 0
-IsCause s tab members (IsLoose side ray kept) =
+IsCause s tab members (SizeLoose side ray kept) =
     (m : Spot) × (has_spot members m.rule m.place ≡ true) × IsLooseAt s m side ray kept
 IsCause s tab members (SizeTripped t) = (m : Spot) × (has_spot members m.rule m.place ≡ true)
     × ((t.question ≡ asked.Local m.rule m.place) ⊎ (t.question ≡ asked.Empty m.rule))
-IsCause s tab members (IsMissing m) = IsFirstCause s tab members (IsMissing m)
-IsCause s tab members (IsBent m) = IsFirstCause s tab members (IsBent m)
-IsCause s tab members (LacksTime t) = IsFirstCause s tab members (LacksTime t)
+IsCause s tab members (SizeMissing m) = IsFirstCause s tab members (SizeMissing m)
+IsCause s tab members (SizeBent m) = IsFirstCause s tab members (SizeBent m)
+IsCause s tab members (SizeUntimed t) = IsFirstCause s tab members (SizeUntimed t)
 IsCause s tab members (SizeLarge n) = IsFirstCause s tab members (SizeLarge n)
 
 -- what is right of an answer about a component

@@ -1,12 +1,12 @@
 -- Rounds: each table from the one before, up to the one that gives nothing new.
 use Rattle.std.specs.Prelude.{◌≡◌, ℕ, List, Option, Some, None}
-use Rattle.model.specs.Bounds.{Bound}
-use Rattle.proof_nodes.specs.Nodes.{Spot}
-use Rattle.proof_nodes.specs.AcceptsPlain.{IsRule}
-use Rattle.proof_nodes.specs.Setting.{Setting}
-use Rattle.proof_nodes.specs.Known.{Table}
+use Rattle.rule_questions.specs.model.Bounds.{Bound}
+use Rattle.rule_questions.specs.proof_nodes.Nodes.{Spot}
+use Rattle.rule_questions.specs.proof_nodes.AcceptsPlain.{IsRule}
+use Rattle.rule_questions.specs.proof_nodes.Setting.{Setting}
+use Rattle.rule_questions.specs.proof_nodes.Known.{Table}
 use Rattle.round_relation.specs.Searches.{Searches, SizeSearches}
-use Rattle.round_relation.specs.Beginning.{First}
+use Rattle.round_relation.specs.Beginning.{IsFirstTable}
 use Rattle.round_relation.specs.NewTimes.{TriesTime}
 use Rattle.round_relation.specs.NewSizes.{TriesSizes}
 use Rattle.round_relation.specs.Components.{AreComponentsOf}
@@ -24,7 +24,7 @@ pub record NextTimes (q : Searches) (s : Setting) (old new : Table) : Type 0 whe
 
 -- the table after any number of rounds of times
 pub data IsMadeByTimes (q : Searches) (s : Setting) : Table → Type 0 where
-  Begun : {tab : Table} → First q s.program tab → IsMadeByTimes q s tab
+  Begun : {tab : Table} → IsFirstTable q s.program tab → IsMadeByTimes q s tab
   Made : {old new : Table} → IsMadeByTimes q s old → NextTimes q s old new → IsMadeByTimes q s new
 
 -- a table to which a round of times gives nothing new
@@ -44,18 +44,18 @@ pub record HasNewSizes (q : Searches) (z : SizeSearches) (s : Setting) (old new 
   pub tried : TriesSizes z new.time old.size components new.size
 
 -- one whole round: the rules without times are tried with the sizes from before, and then the places
-pub record Next (q : Searches) (z : SizeSearches) (s : Setting) (old new : Table) : Type 0 where
+pub record IsNextTable (q : Searches) (z : SizeSearches) (s : Setting) (old new : Table) : Type 0 where
   pub rules : HasNewTimes q s old new.time
   pub places : HasNewSizes q z s old new
 
 -- the table after any number of whole rounds
 pub data IsMade (q : Searches) (z : SizeSearches) (s : Setting) : Table → Type 0 where
-  BegunWhole : {tab : Table} → First q s.program tab → IsMade q z s tab
-  MadeWhole : {old new : Table} → IsMade q z s old → Next q z s old new → IsMade q z s new
+  BegunWhole : {tab : Table} → IsFirstTable q s.program tab → IsMade q z s tab
+  MadeWhole : {old new : Table} → IsMade q z s old → IsNextTable q z s old new → IsMade q z s new
 
 -- a table to which a whole round gives nothing new
 abbrev pub IsClosed : Searches → SizeSearches → Setting → Table → Type 0
-IsClosed q z s tab = Next q z s tab tab
+IsClosed q z s tab = IsNextTable q z s tab tab
 
 -- the last table: it is made by whole rounds, and a further one gives nothing new
 pub record IsLast (q : Searches) (z : SizeSearches) (s : Setting) (tab : Table) : Type 0 where

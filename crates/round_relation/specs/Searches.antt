@@ -1,9 +1,9 @@
 -- What searches answer of a program: relations, so that each search says itself when an answer is its own.
 use Rattle.std.specs.Prelude.{◌≡◌, ℕ, List, Option, Some}
-use Rattle.model.specs.Bounds.{Bound}
-use Rattle.proof_nodes.specs.Nodes.{Spot, LocalBound, RankNode}
-use Rattle.proof_tree.specs.declared.answer.Trip.{Trip}
-use Rattle.proof_nodes.specs.Gaps.{ScaledPoint, SymbolPlace, Gap}
+use Rattle.rule_questions.specs.model.Bounds.{Bound}
+use Rattle.rule_questions.specs.proof_nodes.Nodes.{Spot, LocalBound, RankNode}
+use Rattle.rule_questions.specs.proof_tree.declared.answer.Trip.{Trip}
+use Rattle.rule_questions.specs.proof_nodes.Gaps.{ScaledPoint, SymbolPlace, Gap}
 use Rattle.outcome.specs.Reports.{NoSize}
 
 -- whether the rows of a rule have a rational point: multipliers show that they have none, or one is given, or the

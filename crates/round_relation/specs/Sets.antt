@@ -1,12 +1,12 @@
 -- The set of a rule without a time, and what a ranking function over it may read.
 use Rattle.std.specs.Prelude.{◌≡◌, ◌⊎◌, ◌↔◌, ℕ, ◌<◌, true, List, [], ◌∷◌, Some, None, ⊤}
 use Rattle.std.specs.List.{Contains}
-use Rattle.model.specs.Programs.{Program}
-use Rattle.model.specs.Paths.{IsInSet, target_of}
-use Rattle.model.specs.Entries.{is_in, entries}
-use Rattle.proof_nodes.specs.Numbers.{IsAscending}
-use Rattle.proof_nodes.specs.Gaps.{SymbolPlace}
-use Rattle.proof_nodes.specs.Known.{Table}
+use Rattle.rule_questions.specs.model.Programs.{Program}
+use Rattle.rule_questions.specs.model.Paths.{IsInSet, target_of}
+use Rattle.rule_questions.specs.model.Entries.{is_in, entries}
+use Rattle.rule_questions.specs.proof_nodes.Numbers.{IsAscending}
+use Rattle.rule_questions.specs.proof_nodes.Gaps.{SymbolPlace}
+use Rattle.rule_questions.specs.proof_nodes.Known.{Table}
 use Rattle.round_relation.specs.Tables.{IsPlace, is_untimed}
 
 -- the set of rule t, ascending: t itself, and each rule without a time from where a path of such rules leads to it

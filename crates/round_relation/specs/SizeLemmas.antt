@@ -2,18 +2,18 @@
 use Rattle.std.specs.Prelude.{◌≡◌, ◌⊎◌, ℕ, ◌-◌, ◌&&◌, ◌||◌, Bool, true, false, List, [], ◌∷◌, ◌++◌, map, filter, Option}
 use Rattle.std.specs.Prelude.{None}
 use Rattle.std.specs.List.{All, list_any}
-use Rattle.model.specs.Entries.{is_in}
-use Rattle.model.specs.Paths.{pre}
-use Rattle.proof_nodes.specs.Nodes.{Spot, Member, Proof, Spread, Cycle}
-use Rattle.proof_nodes.specs.Acceptance.{facts_of_lemmas}
-use Rattle.proof_nodes.specs.AcceptsSizes.{AcceptsSpread, AcceptsCycle, spread_size, cycle_size}
-use Rattle.proof_nodes.specs.ComposedSizes.{poly_at, reads}
-use Rattle.proof_nodes.specs.Known.{Table}
-use Rattle.proof_nodes.specs.Setting.{Setting}
-use Rattle.model.specs.Bounds.{Bound}
+use Rattle.rule_questions.specs.model.Entries.{is_in}
+use Rattle.rule_questions.specs.model.Paths.{pre}
+use Rattle.rule_questions.specs.proof_nodes.Nodes.{Spot, Member, Proof, Spread, Cycle}
+use Rattle.rule_questions.specs.proof_nodes.Acceptance.{facts_of_lemmas}
+use Rattle.rule_questions.specs.proof_nodes.AcceptsSizes.{AcceptsSpread, AcceptsCycle, spread_size, cycle_size}
+use Rattle.rule_questions.specs.proof_nodes.ComposedSizes.{poly_at, reads}
+use Rattle.rule_questions.specs.proof_nodes.Known.{Table}
+use Rattle.rule_questions.specs.proof_nodes.Setting.{Setting}
+use Rattle.rule_questions.specs.model.Bounds.{Bound}
 use Rattle.round_relation.specs.Searches.{Searches, SizeSearches, Sizing, Found, NotFound}
 use Rattle.round_relation.specs.NewSizes.{Sizes, has_spot, is_unsized, size_by, TriesSize}
-use Rattle.round_relation.specs.Rounds.{Next}
+use Rattle.round_relation.specs.Rounds.{IsNextTable}
 use Rattle.round_relation.specs.LemmaOrder.{AreNumbersOf, AreFirstLemmas, AreTimeLemmas, is_new}
 use Rattle.round_relation.specs.Tables.{rule_numbers}
 use Rattle.round_relation.specs.Uses.{Numbers, uses_for, spread_needs, cycle_needs}
@@ -98,7 +98,7 @@ with_times old new = record { time = new.time; size = old.size }
 -- the sizes, in the order of components
 pub record AreWholeRoundLemmas (q : Searches) (z : SizeSearches) (s : Setting) (earlier : List Proof) (old new : Table)
     (proofs : List Proof) : Type 0 where
-  pub next : Next q z s old new
+  pub next : IsNextTable q z s old new
   pub ns : Numbers
   pub numbers : AreNumbersOf s.program (facts_of_lemmas s earlier) old ns
   pub of_times : List Proof

@@ -1,14 +1,14 @@
 -- Lemmas and a table that say the same.
 use Rattle.std.specs.Prelude.{◌≡◌, ℕ, true, List, Option, Some, None}
 use Rattle.std.specs.List.{All}
-use Rattle.model.specs.Programs.{Program}
-use Rattle.model.specs.Bounds.{Bound}
-use Rattle.model.specs.Facts.{Fact, Time, Size}
-use Rattle.proof_nodes.specs.Nodes.{Spot, Proof}
-use Rattle.proof_nodes.specs.Acceptance.{AcceptsLemmas, facts_of_lemmas}
-use Rattle.proof_nodes.specs.Setting.{Setting}
-use Rattle.proof_nodes.specs.Known.{Table}
-use Rattle.proof_nodes.specs.AcceptsPlain.{IsRule}
+use Rattle.rule_questions.specs.model.Programs.{Program}
+use Rattle.rule_questions.specs.model.Bounds.{Bound}
+use Rattle.rule_questions.specs.model.Facts.{Fact, Time, Size}
+use Rattle.rule_questions.specs.proof_nodes.Nodes.{Spot, Proof}
+use Rattle.rule_questions.specs.proof_nodes.Acceptance.{AcceptsLemmas, facts_of_lemmas}
+use Rattle.rule_questions.specs.proof_nodes.Setting.{Setting}
+use Rattle.rule_questions.specs.proof_nodes.Known.{Table}
+use Rattle.rule_questions.specs.proof_nodes.AcceptsPlain.{IsRule}
 use Rattle.round_relation.specs.Tables.{IsPlace, KnowsStart, IsTableOf}
 use Rattle.round_relation.specs.Searches.{SizeSearches}
 use Rattle.round_relation.specs.NewSizes.{Sizes, has_spot, is_unsized, TriesSize}
@@ -26,19 +26,19 @@ abbrev pub AreUniform : Sizes → List (List Spot) → Type 0
 AreUniform size cs = (c : List Spot) → IsOneOf cs c → IsUniform size c
 
 -- the fact is that of a table
-abbrev pub IsOf : Table → Fact → Type 0
-IsOf tab (Time t b) = tab.time t ≡ Some b
-IsOf tab (Size t i b) = tab.size t i ≡ Some b
+abbrev pub IsFactOf : Table → Fact → Type 0
+IsFactOf tab (Time t b) = tab.time t ≡ Some b
+IsFactOf tab (Size t i b) = tab.size t i ≡ Some b
 
 -- all these facts are
-abbrev pub AreOf : Table → List Fact → Type 0
-AreOf tab facts = All (IsOf tab) facts
+abbrev pub AreFactsOf : Table → List Fact → Type 0
+AreFactsOf tab facts = All (IsFactOf tab) facts
 
 -- lemmas stand for a table: they are accepted, state bounds of the table alone, and state all of those of rules; and
 -- the table has bounds of rules and of the virtual entry alone, and all of those of the virtual entry
 pub record StandFor (s : Setting) (tab : Table) (proofs : List Proof) : Type 0 where
   pub accepted : AcceptsLemmas s proofs
-  pub bounds : All (AreOf tab) (facts_of_lemmas s proofs)
+  pub bounds : All (AreFactsOf tab) (facts_of_lemmas s proofs)
   pub shown : IsShown s proofs tab
   pub table : IsTableOf s.program tab
   pub start : KnowsStart s.program tab

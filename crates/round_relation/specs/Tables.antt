@@ -1,11 +1,11 @@
 -- Tables of bounds: a time of each rule or none, and a size of each place after each rule or none.
 use Rattle.std.specs.Prelude.{◌≡◌, ◌⊎◌, ℕ, ◌-◌, ◌≤◌, Bool, true, false, List, length, Option, Some, None}
 use Rattle.std.specs.List.{range_with_len}
-use Rattle.model.specs.Programs.{Program, arity_of}
-use Rattle.model.specs.Bounds.{Bound, Constant, Input}
-use Rattle.model.specs.Paths.{target_of}
-use Rattle.proof_nodes.specs.AcceptsPlain.{IsRule}
-use Rattle.proof_nodes.specs.Known.{Table}
+use Rattle.rule_questions.specs.model.Programs.{Program, arity_of}
+use Rattle.rule_questions.specs.model.Bounds.{Bound, Constant, Input}
+use Rattle.rule_questions.specs.model.Paths.{target_of}
+use Rattle.rule_questions.specs.proof_nodes.AcceptsPlain.{IsRule}
+use Rattle.rule_questions.specs.proof_nodes.Known.{Table}
 
 -- the numbers of the rules, ascending
 abbrev pub rule_numbers : Program → List ℕ

@@ -1,14 +1,14 @@
 -- What a node rests on: the facts that it needs, and the lemmas that state them.
 use Rattle.std.specs.Prelude.{ℕ, suc, ◌==◌, not, cond, List, [], ◌∷◌, ◌++◌, ℤ, map, filter}
-use Rattle.int_laws.specs.NormalForm.{is_zero}
-use Rattle.model.specs.Programs.{Program}
-use Rattle.model.specs.Paths.{target_of}
-use Rattle.proof_nodes.specs.Nodes.{Spot, Member, RankNode, Proofs, NoProof, AndProof, Start, Cite}
-use Rattle.proof_nodes.specs.Setting.{Setting}
-use Rattle.proof_nodes.specs.Known.{Table}
-use Rattle.proof_nodes.specs.Checks.{needed_into, needed_times}
-use Rattle.model.specs.Entries.{is_in, entries}
-use Rattle.proof_nodes.specs.Composed.{rank_form}
+use Rattle.rule_questions.specs.int_laws.NormalForm.{is_zero}
+use Rattle.rule_questions.specs.model.Programs.{Program}
+use Rattle.rule_questions.specs.model.Paths.{target_of}
+use Rattle.rule_questions.specs.proof_nodes.Nodes.{Spot, Member, RankNode, Proofs, NoProof, AndProof, Start, Cite}
+use Rattle.rule_questions.specs.proof_nodes.Setting.{Setting}
+use Rattle.rule_questions.specs.proof_nodes.Known.{Table}
+use Rattle.rule_questions.specs.proof_nodes.Checks.{needed_into, needed_times}
+use Rattle.rule_questions.specs.model.Entries.{is_in, entries}
+use Rattle.rule_questions.specs.proof_nodes.Composed.{rank_form}
 
 -- a fact that a node needs: the time of a rule, or the size of a place after a rule
 pub data Need : Type 0 where

@@ -1,27 +1,27 @@
 -- Laws of whole rounds: they make one last table, there is one, and their lemmas are accepted and numbered.
 use Rattle.std.specs.Prelude.{◌≡◌, ℕ, List, [], ◌∷◌, ◌++◌, length, Option}
 use Rattle.std.specs.List.{All}
-use Rattle.model.specs.Bounds.{Bound}
-use Rattle.model.specs.Facts.{Fact, Size}
-use Rattle.proof_nodes.specs.Nodes.{Spot, Member, Proof, Spread, Cycle}
-use Rattle.proof_nodes.specs.AcceptsSizes.{AcceptsSpread, AcceptsCycle, spread_size, cycle_size, cycle_facts}
-use Rattle.proof_nodes.specs.Acceptance.{Accepts, facts_of, AcceptsLemmas, facts_of_lemmas}
-use Rattle.proof_nodes.specs.Setting.{Setting}
-use Rattle.proof_nodes.specs.Known.{Table}
+use Rattle.rule_questions.specs.model.Bounds.{Bound}
+use Rattle.rule_questions.specs.model.Facts.{Fact, Size}
+use Rattle.rule_questions.specs.proof_nodes.Nodes.{Spot, Member, Proof, Spread, Cycle}
+use Rattle.rule_questions.specs.proof_nodes.AcceptsSizes.{AcceptsSpread, AcceptsCycle, spread_size, cycle_size, cycle_facts}
+use Rattle.rule_questions.specs.proof_nodes.Acceptance.{Accepts, facts_of, AcceptsLemmas, facts_of_lemmas}
+use Rattle.rule_questions.specs.proof_nodes.Setting.{Setting}
+use Rattle.rule_questions.specs.proof_nodes.Known.{Table}
 use Rattle.outcome.specs.Reports.{NoSize}
 use Rattle.round_relation.specs.Tables.{KnowsStart, IsTableOf}
 use Rattle.round_relation.specs.Searches.{Answers, SizeAnswers, searches_of, size_searches_of}
 use Rattle.round_relation.specs.NewSizes.{Sizes}
 use Rattle.round_relation.specs.Components.{AreApart, AreComponentsOf}
 use Rattle.round_relation.specs.Reasons.{IsNoSize}
-use Rattle.round_relation.specs.Rounds.{NextTimes, Next, IsMade, IsLast}
+use Rattle.round_relation.specs.Rounds.{NextTimes, IsNextTable, IsMade, IsLast}
 use Rattle.round_relation.specs.Right.{AreRight}
 use Rattle.round_relation.specs.RightSizes.{AreSizesRight}
 use Rattle.round_relation.specs.Uses.{Numbers, uses_for, spread_needs, cycle_needs}
 use Rattle.round_relation.specs.LemmaOrder.{AreNumbersOf, AreFirstLemmas, AreRoundLemmas}
 use Rattle.round_relation.specs.SizeLemmas.{AreWholeLemmasOf}
 use Rattle.round_relation.specs.Numbering.{numbers_after, numbers_with}
-use Rattle.round_relation.specs.Standing.{AreOf, IsUniform, AreUniform, ArePlacesAfterRules, FindsSize, StandFor}
+use Rattle.round_relation.specs.Standing.{AreFactsOf, IsUniform, AreUniform, ArePlacesAfterRules, FindsSize, StandFor}
 use Rattle.round_relation.specs.Laws.{IsShown}
 
 -- whole rounds make one last table, and where no place is a member of two components a size that is missing has one
@@ -38,7 +38,7 @@ pub record LastWholeTablesExist : Type 0 where
   pub next : (a : Answers) (z : SizeAnswers) (s : Setting)
       → AreComponentsOf (searches_of a) s.program z.components → (old : Table)
       → IsMade (searches_of a) (size_searches_of z) s old
-      → (new : Table) × Next (searches_of a) (size_searches_of z) s old new
+      → (new : Table) × IsNextTable (searches_of a) (size_searches_of z) s old new
   pub last : (a : Answers) (z : SizeAnswers) (s : Setting)
       → AreComponentsOf (searches_of a) s.program z.components
       → (tab : Table) × IsLast (searches_of a) (size_searches_of z) s tab
@@ -48,18 +48,18 @@ pub record LastWholeTablesExist : Type 0 where
 -- of a loop
 pub record SizeUsesAreAccepted : Type 0 where
   pub spread : (s : Setting) (tab : Table) → KnowsStart s.program tab → IsTableOf s.program tab
-      → (past : List (List Fact)) → All (AreOf tab) past → (ns : Numbers) → AreNumbersOf s.program past tab ns
+      → (past : List (List Fact)) → All (AreFactsOf tab) past → (ns : Numbers) → AreNumbersOf s.program past tab ns
       → (m : Member) → AcceptsSpread s tab m → Accepts s past (Spread m (uses_for ns (spread_needs s m)))
   pub spread_states : (s : Setting) (tab : Table) → KnowsStart s.program tab → IsTableOf s.program tab
-      → (past : List (List Fact)) → All (AreOf tab) past → (ns : Numbers) → AreNumbersOf s.program past tab ns
+      → (past : List (List Fact)) → All (AreFactsOf tab) past → (ns : Numbers) → AreNumbersOf s.program past tab ns
       → (m : Member) → AcceptsSpread s tab m → facts_of s past (Spread m (uses_for ns (spread_needs s m)))
       ≡ Size m.spot.rule m.spot.place (s.rewrite (spread_size s tab m)) ∷ []
   pub cycle : (s : Setting) (tab : Table) → KnowsStart s.program tab → IsTableOf s.program tab
-      → (past : List (List Fact)) → All (AreOf tab) past → (ns : Numbers) → AreNumbersOf s.program past tab ns
+      → (past : List (List Fact)) → All (AreFactsOf tab) past → (ns : Numbers) → AreNumbersOf s.program past tab ns
       → (members : List Member) → AcceptsCycle s tab members
       → Accepts s past (Cycle members (uses_for ns (cycle_needs s tab members)))
   pub cycle_states : (s : Setting) (tab : Table) → KnowsStart s.program tab → IsTableOf s.program tab
-      → (past : List (List Fact)) → All (AreOf tab) past → (ns : Numbers) → AreNumbersOf s.program past tab ns
+      → (past : List (List Fact)) → All (AreFactsOf tab) past → (ns : Numbers) → AreNumbersOf s.program past tab ns
       → (members : List Member) → AcceptsCycle s tab members
       → facts_of s past (Cycle members (uses_for ns (cycle_needs s tab members)))
       ≡ cycle_facts (s.rewrite (cycle_size s tab members)) members

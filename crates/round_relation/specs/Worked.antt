@@ -1,8 +1,8 @@
 -- Sets of a program that counts down, as they were worked out by hand: k(A) -> l(A), and l(A) -> l(A - 1) where A >= 1.
 use Rattle.std.specs.Prelude.{ℕ, zero, suc, [], ◌∷◌, Option, Some, None}
-use Rattle.model.specs.Bounds.{Bound, Constant, Input}
-use Rattle.proof_nodes.specs.WorkedSettings.{counting}
-use Rattle.proof_nodes.specs.Known.{Table}
+use Rattle.rule_questions.specs.model.Bounds.{Bound, Constant, Input}
+use Rattle.rule_questions.specs.proof_nodes.WorkedSettings.{counting}
+use Rattle.rule_questions.specs.proof_nodes.Known.{Table}
 use Rattle.round_relation.specs.Sets.{IsSetOfRule}
 
 -- what is known of the virtual entry

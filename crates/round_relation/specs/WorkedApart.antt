@@ -1,15 +1,15 @@
 -- Lemmas before the first round, as they were worked out by hand: k(A) -> l(A), and m(A) -> m(A), which is never
 -- reached.
 use Rattle.std.specs.Prelude.{ℕ, zero, suc, [], ◌∷◌, Option, Some, None}
-use Rattle.model.specs.Bounds.{Bound, Constant}
-use Rattle.proof_nodes.specs.Nodes.{Proof, Unreached, Never, Cite, NoProof}
-use Rattle.proof_nodes.specs.Known.{Table}
-use Rattle.proof_nodes.specs.WorkedSettings.{apart}
-use Rattle.proof_tree.specs.declared.answer.Trip.{Trip}
-use Rattle.proof_tree.specs.declared.answer.Question.TheVariants as asked
-use Rattle.proof_tree.specs.declared.answer.TripCause.TheVariants as causes
+use Rattle.rule_questions.specs.model.Bounds.{Bound, Constant}
+use Rattle.rule_questions.specs.proof_nodes.Nodes.{Proof, Unreached, Never, Cite, NoProof}
+use Rattle.rule_questions.specs.proof_nodes.Known.{Table}
+use Rattle.rule_questions.specs.proof_nodes.WorkedSettings.{apart}
+use Rattle.rule_questions.specs.proof_tree.declared.answer.Trip.{Trip}
+use Rattle.rule_questions.specs.proof_tree.declared.answer.Question.TheVariants as asked
+use Rattle.rule_questions.specs.linear_forms.declared.trip_cause.TripCause.TheVariants as causes
 use Rattle.round_relation.specs.Searches.{Answers, HasPoint, RankTripped, searches_of}
-use Rattle.round_relation.specs.Beginning.{First}
+use Rattle.round_relation.specs.Beginning.{IsFirstTable}
 use Rattle.round_relation.specs.LemmaOrder.{AreFirstLemmas, AreLemmasOf}
 use Rattle.round_relation.specs.Right.{AreRight}
 use Rattle.round_relation.specs.Worked.{nothing_known, start_size}
@@ -58,9 +58,9 @@ its_size = Never (Cite 1)
 
 -- before the first round rule 2 is known to be 0, and so is the size after it, by these two lemmas in this order; a
 -- trip told as that of another rule isn't right
-pub record ApartIsTold : Type 0 where
-  pub first : First (searches_of all_trips) apart.program apart_known
-  pub not_nothing : ¬ (First (searches_of all_trips) apart.program nothing_known)
+pub record FirstLemmasAreWorkedOut : Type 0 where
+  pub first : IsFirstTable (searches_of all_trips) apart.program apart_known
+  pub not_nothing : ¬ (IsFirstTable (searches_of all_trips) apart.program nothing_known)
   pub lemmas : AreFirstLemmas (searches_of all_trips) apart apart_known (its_time ∷ its_size ∷ [])
   pub all_lemmas : AreLemmasOf (searches_of all_trips) apart apart_known (its_time ∷ its_size ∷ [])
   pub not_turned : ¬ (AreFirstLemmas (searches_of all_trips) apart apart_known (its_size ∷ its_time ∷ []))

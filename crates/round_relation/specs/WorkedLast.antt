@@ -1,8 +1,8 @@
 -- Shut places, and last rounds, as they were worked out by hand: k(A) -> l(A), and l(A) -> l(A - 1) where A >= 1.
 use Rattle.std.specs.Prelude.{ℕ, List, [], ◌∷◌, Some, None}
-use Rattle.model.specs.Bounds.{Constant}
-use Rattle.proof_nodes.specs.Gaps.{SymbolPlace, Gap}
-use Rattle.proof_nodes.specs.WorkedSettings.{counting}
+use Rattle.rule_questions.specs.model.Bounds.{Constant}
+use Rattle.rule_questions.specs.proof_nodes.Gaps.{SymbolPlace, Gap}
+use Rattle.rule_questions.specs.proof_nodes.WorkedSettings.{counting}
 use Rattle.outcome.specs.Reports.{NoFunction, TimeLarge}
 use Rattle.round_relation.specs.Searches.{Answers, HasPoint, Unranked, searches_of}
 use Rattle.round_relation.specs.Sets.{AreShutOf}
@@ -46,7 +46,7 @@ nothing_ranks = record {
 
 -- where nothing ranks, the first table is the last, and each rule has no time by the gap of its set; where the value
 -- ranks, it isn't
-pub record LastRoundIsTold : Type 0 where
+pub record LastRoundIsWorkedOut : Type 0 where
   pub last : IsLastOfTimes (searches_of nothing_ranks) counting nothing_known
   pub first_rule : IsNoTime (searches_of nothing_ranks) counting nothing_known 1 (NoFunction (gap_over (1 ∷ []) 1 []))
   pub second_rule : IsNoTime (searches_of nothing_ranks) counting nothing_known 2

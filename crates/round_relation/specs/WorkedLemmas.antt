@@ -1,7 +1,7 @@
 -- What nodes rest on, as it was worked out by hand of the program that counts down: k(A) -> l(A), and l(A) -> l(A - 1).
 use Rattle.std.specs.Prelude.{◌≡◌, ℕ, List, [], ◌∷◌, pos}
-use Rattle.proof_nodes.specs.Nodes.{RankNode, NoProof, AndProof, Start, Cite}
-use Rattle.proof_nodes.specs.WorkedSettings.{counting, form}
+use Rattle.rule_questions.specs.proof_nodes.Nodes.{RankNode, NoProof, AndProof, Start, Cite}
+use Rattle.rule_questions.specs.proof_nodes.WorkedSettings.{counting, form}
 use Rattle.round_relation.specs.Uses.{NeedsTime, NeedsSize, rank_needs, uses_from}
 
 -- the value at l, over a set of rules
@@ -19,7 +19,7 @@ value_over set = record {
 
 -- over rule 2 alone rule 1 is the entry, whose time and size are needed; over both it is the virtual entry, after which
 -- the function reads nothing. The virtual entry stands first, whatever is needed first, and no lemma is cited twice
-pub record UsesAreTold : Type 0 where
+pub record UsesAreWorkedOut : Type 0 where
   pub of_alone : rank_needs counting.program (value_over (2 ∷ [])) ≡ NeedsTime 1 ∷ NeedsSize 1 1 ∷ []
   pub of_both : rank_needs counting.program (value_over (1 ∷ 2 ∷ [])) ≡ NeedsTime 0 ∷ []
   pub none : uses_from [] ≡ NoProof

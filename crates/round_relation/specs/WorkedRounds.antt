@@ -1,11 +1,11 @@
 -- The first round of a program that counts down, as it was worked out by hand: k(A) -> l(A), and l(A) -> l(A - 1) where
 -- A >= 1.
 use Rattle.std.specs.Prelude.{ℕ, List, [], ◌∷◌, pos, Some, None}
-use Rattle.model.specs.Bounds.{Bound, Constant, Input, SumOf, ProductOf, NoParts, Part}
-use Rattle.proof_nodes.specs.Nodes.{RankNode}
-use Rattle.proof_nodes.specs.WorkedSettings.{counting, form}
+use Rattle.rule_questions.specs.model.Bounds.{Bound, Constant, Input, SumOf, ProductOf, NoParts, Part}
+use Rattle.rule_questions.specs.proof_nodes.Nodes.{RankNode}
+use Rattle.rule_questions.specs.proof_nodes.WorkedSettings.{counting, form}
 use Rattle.round_relation.specs.Searches.{Answers, HasPoint, Ranked, searches_of}
-use Rattle.round_relation.specs.Beginning.{First}
+use Rattle.round_relation.specs.Beginning.{IsFirstTable}
 use Rattle.round_relation.specs.NewTimes.{TriesTime}
 use Rattle.round_relation.specs.Worked.{nothing_known, table_with}
 
@@ -39,7 +39,7 @@ once_the_start =
 
 -- at first nothing is known; a table that knows a time of rule 1 is none to begin with; the first round gives rule 2
 -- this time, and no other
-pub record FirstRoundIsTold : Type 0 where
-  pub first : First (searches_of counting_answers) counting.program nothing_known
-  pub known_too_early : ¬ (First (searches_of counting_answers) counting.program (table_with (Some (Constant 1)) None))
+pub record FirstRoundIsWorkedOut : Type 0 where
+  pub first : IsFirstTable (searches_of counting_answers) counting.program nothing_known
+  pub known_too_early : ¬ (IsFirstTable (searches_of counting_answers) counting.program (table_with (Some (Constant 1)) None))
   pub second : TriesTime (searches_of counting_answers) counting nothing_known 2 (Some once_the_start)

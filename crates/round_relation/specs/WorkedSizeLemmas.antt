@@ -1,13 +1,13 @@
 -- What nodes of sizes need, and the lemmas of the sizes of a round, as they were worked out by hand: k(A) -> l(A), and
 -- l(A) -> l(A - 1) where A >= 1.
 use Rattle.std.specs.Prelude.{◌≡◌, ℕ, zero, suc, ◌==◌, cond, List, [], ◌∷◌, Option, Some, None}
-use Rattle.model.specs.Bounds.{Bound}
-use Rattle.proof_nodes.specs.Nodes.{Spot, Proof, Start, Cite, Spread, Cycle}
-use Rattle.proof_nodes.specs.Known.{Table}
-use Rattle.proof_nodes.specs.WorkedSettings.{counting, doubling}
-use Rattle.proof_nodes.specs.Worked.{only, once, once_time, entered_member, entered_size, looped_member, looped_size}
-use Rattle.proof_nodes.specs.Worked.{doubled, three_times, all_inputs}
-use Rattle.outcome.specs.Reports.{LacksTime}
+use Rattle.rule_questions.specs.model.Bounds.{Bound}
+use Rattle.rule_questions.specs.proof_nodes.Nodes.{Spot, Proof, Start, Cite, Spread, Cycle}
+use Rattle.rule_questions.specs.proof_nodes.Known.{Table}
+use Rattle.rule_questions.specs.proof_nodes.WorkedSettings.{counting, doubling}
+use Rattle.rule_questions.specs.proof_nodes.Worked.{only, once, once_time, entered_member, entered_size, looped_member, looped_size}
+use Rattle.rule_questions.specs.proof_nodes.Worked.{doubled, three_times, all_inputs}
+use Rattle.outcome.specs.Reports.{SizeUntimed}
 use Rattle.round_relation.specs.Searches.{SizeAnswers, size_searches_of, Sizing, Found, NotFound}
 use Rattle.round_relation.specs.NewSizes.{Sizes}
 use Rattle.round_relation.specs.Uses.{Numbers, NeedsTime, NeedsSize, spread_needs, cycle_needs}
@@ -17,7 +17,7 @@ use Rattle.round_relation.specs.WorkedWhole.{spot, alone}
 
 -- each place has the size that its node composes
 abbrev pub size_at : List Spot → Sizing
-size_at [] = NotFound (LacksTime 2)
+size_at [] = NotFound (SizeUntimed 2)
 size_at (m ∷ c) = cond (m.rule == 1) (Found entered_size) (Found looped_size)
 
 abbrev pub both_sized : SizeAnswers
@@ -58,7 +58,7 @@ second_lemma = Cycle (looped_member ∷ []) (only (Cite 2))
 -- needed; where the loop doubles, both arms read, and the time of its rule comes last. After the lemma of rule 1's
 -- time, these are the lemmas of the sizes, in this order and no less. The place after rule 1 has no loop's lemma, and
 -- that after rule 2 no other
-pub record SizeLemmasAreTold : Type 0 where
+pub record SizeLemmasAreWorkedOut : Type 0 where
   pub of_spread : spread_needs counting entered_member ≡ NeedsSize 0 1 ∷ NeedsSize 0 1 ∷ []
   pub of_cycle : cycle_needs counting (record { time = once_known; size = one_sized }) (looped_member ∷ [])
       ≡ NeedsSize 1 1 ∷ []

@@ -1,17 +1,17 @@
 -- Whole rounds, as they were worked out by hand: k(A) -> l(A), and l(A) -> l(A - 1) where A >= 1.
 use Rattle.std.specs.Prelude.{ℕ, zero, suc, ◌==◌, ◌&&◌, cond, List, [], ◌∷◌, Option, Some, None}
-use Rattle.model.specs.Bounds.{Bound, Constant, Input}
-use Rattle.proof_nodes.specs.Gaps.{SymbolPlace}
-use Rattle.proof_nodes.specs.Nodes.{Spot}
-use Rattle.proof_nodes.specs.Known.{Table}
-use Rattle.proof_nodes.specs.WorkedSettings.{counting}
-use Rattle.outcome.specs.Reports.{LacksTime, IsMissing}
+use Rattle.rule_questions.specs.model.Bounds.{Bound, Constant, Input}
+use Rattle.rule_questions.specs.proof_nodes.Gaps.{SymbolPlace}
+use Rattle.rule_questions.specs.proof_nodes.Nodes.{Spot}
+use Rattle.rule_questions.specs.proof_nodes.Known.{Table}
+use Rattle.rule_questions.specs.proof_nodes.WorkedSettings.{counting}
+use Rattle.outcome.specs.Reports.{SizeUntimed, SizeMissing}
 use Rattle.round_relation.specs.Searches.{Answers, SizeAnswers, HasPoint, Ranking, Ranked, Unranked, Found, NotFound}
 use Rattle.round_relation.specs.Searches.{Sizing, searches_of, size_searches_of}
 use Rattle.round_relation.specs.Tables.{lacks}
 use Rattle.round_relation.specs.NewSizes.{Sizes, TriesSizes}
 use Rattle.round_relation.specs.Components.{AreComponentsOf}
-use Rattle.round_relation.specs.Rounds.{HasNewSizes, Next, IsClosed}
+use Rattle.round_relation.specs.Rounds.{HasNewSizes, IsNextTable, IsClosed}
 use Rattle.round_relation.specs.Reasons.{IsNoSize}
 use Rattle.round_relation.specs.Worked.{start_size, entry_sizes, times_with, nothing_known, table_with}
 use Rattle.round_relation.specs.WorkedRounds.{value_ranks, once_the_start}
@@ -43,7 +43,7 @@ abbrev pub none_found : SizeAnswers
 none_found = record {
   components = alone;
   arms = λ m. None;
-  size = λ time size c. NotFound (LacksTime 2);
+  size = λ time size c. NotFound (SizeUntimed 2);
 }
 
 -- a time of rule 1 and these sizes
@@ -64,33 +64,33 @@ timed = record { time = times_with (Some (Constant 1)) (Some once_the_start); si
 
 -- the first round finds the sizes, after which no place is shut; the second the time of rule 2, which the first can't
 -- find at once, since it tries rules with the sizes from before; and a third gives nothing new
-pub record WholeRoundsAreTold : Type 0 where
+pub record WholeRoundsAreWorkedOut : Type 0 where
   pub components : AreComponentsOf (searches_of value_where_open) counting.program alone
   pub not_lacking : ¬ (AreComponentsOf (searches_of value_where_open) counting.program ((spot 1 1 ∷ []) ∷ []))
   pub not_twice : ¬ (AreComponentsOf (searches_of value_where_open) counting.program
       ((spot 1 1 ∷ []) ∷ (spot 1 1 ∷ []) ∷ (spot 2 1 ∷ []) ∷ []))
-  pub first : Next (searches_of value_where_open) (size_searches_of all_found) counting entered sized
-  pub not_at_once : ¬ (Next (searches_of value_where_open) (size_searches_of all_found) counting entered timed)
-  pub second : Next (searches_of value_where_open) (size_searches_of all_found) counting sized timed
+  pub first : IsNextTable (searches_of value_where_open) (size_searches_of all_found) counting entered sized
+  pub not_at_once : ¬ (IsNextTable (searches_of value_where_open) (size_searches_of all_found) counting entered timed)
+  pub second : IsNextTable (searches_of value_where_open) (size_searches_of all_found) counting sized timed
   pub last : IsClosed (searches_of value_where_open) (size_searches_of all_found) counting timed
-  pub no_size : IsNoSize (size_searches_of none_found) entered 2 1 (LacksTime 2)
-  pub not_by_rule_1 : ¬ (IsNoSize (size_searches_of none_found) entered 2 1 (LacksTime 1))
-  pub not_known : ¬ (IsNoSize (size_searches_of none_found) sized 2 1 (LacksTime 2))
-  pub not_elsewhere : ¬ (IsNoSize (size_searches_of none_found) entered 2 2 (LacksTime 2))
+  pub no_size : IsNoSize (size_searches_of none_found) entered 2 1 (SizeUntimed 2)
+  pub not_by_rule_1 : ¬ (IsNoSize (size_searches_of none_found) entered 2 1 (SizeUntimed 1))
+  pub not_known : ¬ (IsNoSize (size_searches_of none_found) sized 2 1 (SizeUntimed 2))
+  pub not_elsewhere : ¬ (IsNoSize (size_searches_of none_found) entered 2 2 (SizeUntimed 2))
 
 -- each is found only where the time of rule 1 is known
 abbrev pub found_by_time : SizeAnswers
 found_by_time = record {
   components = alone;
   arms = λ m. None;
-  size = λ time size c. cond (lacks (time 1)) (NotFound (LacksTime 1)) (Found (Input 0));
+  size = λ time size c. cond (lacks (time 1)) (NotFound (SizeUntimed 1)) (Found (Input 0));
 }
 
 -- that after rule 2 is found only where that after rule 1 is known
 abbrev pub after_the_first : Sizes → List Spot → Sizing
-after_the_first size [] = NotFound (LacksTime 2)
+after_the_first size [] = NotFound (SizeUntimed 2)
 after_the_first size (m ∷ c) =
-    cond ((m.rule == 2) && lacks (size 1 1)) (NotFound (IsMissing (spot 1 1))) (Found (Input 0))
+    cond ((m.rule == 2) && lacks (size 1 1)) (NotFound (SizeMissing (spot 1 1))) (Found (Input 0))
 
 abbrev pub found_by_size : SizeAnswers
 found_by_size = record { components = alone; arms = λ m. None; size = λ time size c. after_the_first size c }
@@ -112,7 +112,7 @@ sizes_alone = record { time = times_with None None; size = both_sizes }
 -- sizes are found with the times of the round: where it gives rule 1 a time, which the table before doesn't have, both
 -- sizes are found, and else none is. They are found with the sizes found so far: where the place after rule 1 comes
 -- first, that after rule 2 is found too, and where it comes last, it isn't
-pub record NewSizesAreTold : Type 0 where
+pub record NewSizesAreWorkedOut : Type 0 where
   pub new_time : HasNewSizes (searches_of value_where_open) (size_searches_of found_by_time) counting nothing_known
       sized
   pub not_by_old_time : ¬ (HasNewSizes (searches_of value_where_open) (size_searches_of found_by_time) counting

@@ -8,12 +8,12 @@ ghost use Rattle.round_relation.specs.Laws.{LemmasAreAccepted, LemmasAreNumbered
 ghost use Rattle.round_relation.specs.WholeLaws.{WholeTablesAreOne, LastWholeTablesExist, SizeUsesAreAccepted};
 ghost use Rattle.round_relation.specs.WholeLaws.{ComponentsAreUniform, WholeLemmasAreAccepted, WholeLemmasAreNumbered};
 ghost use Rattle.round_relation.specs.Worked.{SetsOfCounting};
-ghost use Rattle.round_relation.specs.WorkedLemmas.{UsesAreTold};
-ghost use Rattle.round_relation.specs.WorkedRounds.{FirstRoundIsTold};
-ghost use Rattle.round_relation.specs.WorkedLast.{ShutOfCounting, LastRoundIsTold};
-ghost use Rattle.round_relation.specs.WorkedApart.{ApartIsTold};
-ghost use Rattle.round_relation.specs.WorkedWhole.{WholeRoundsAreTold, NewSizesAreTold};
-ghost use Rattle.round_relation.specs.WorkedSizeLemmas.{SizeLemmasAreTold};
+ghost use Rattle.round_relation.specs.WorkedLemmas.{UsesAreWorkedOut};
+ghost use Rattle.round_relation.specs.WorkedRounds.{FirstRoundIsWorkedOut};
+ghost use Rattle.round_relation.specs.WorkedLast.{ShutOfCounting, LastRoundIsWorkedOut};
+ghost use Rattle.round_relation.specs.WorkedApart.{FirstLemmasAreWorkedOut};
+ghost use Rattle.round_relation.specs.WorkedWhole.{WholeRoundsAreWorkedOut, NewSizesAreWorkedOut};
+ghost use Rattle.round_relation.specs.WorkedSizeLemmas.{SizeLemmasAreWorkedOut};
 
 /// Each round gives a bound that was missing, or a further one gives nothing new.
 pub fn rounds_end()
@@ -95,12 +95,12 @@ pub fn sets_are_as_worked_out()
 
 /// What ranking nodes need, and how the lemmas that state it are cited, is what was worked out by hand.
 pub fn uses_are_as_worked_out()
-    ensures { UsesAreTold }
+    ensures { UsesAreWorkedOut }
 {}
 
 /// The first table of a program that counts down, and what its first round gives, is what was worked out by hand.
 pub fn first_round_is_as_worked_out()
-    ensures { FirstRoundIsTold }
+    ensures { FirstRoundIsWorkedOut }
 {}
 
 /// The shut places of its sets are those worked out by hand.
@@ -110,23 +110,23 @@ pub fn shut_places_are_as_worked_out()
 
 /// Where nothing ranks, its first table is the last, for the reasons that were worked out by hand.
 pub fn last_round_is_as_worked_out()
-    ensures { LastRoundIsTold }
+    ensures { LastRoundIsWorkedOut }
 {}
 
 /// Of a program with a rule that is never reached, what is known before the first round, and the lemmas that state it,
 /// are those worked out by hand.
 pub fn first_lemmas_are_as_worked_out()
-    ensures { ApartIsTold }
+    ensures { FirstLemmasAreWorkedOut }
 {}
 
 /// The whole rounds of the program that counts down, why a size is missing, and which times and sizes the sizes of a
 /// round are found with, are those worked out by hand.
 pub fn whole_rounds_are_as_worked_out()
-    ensures rounds { WholeRoundsAreTold }
-    ensures sizes { NewSizesAreTold }
+    ensures rounds { WholeRoundsAreWorkedOut }
+    ensures sizes { NewSizesAreWorkedOut }
 {}
 
 /// What nodes of sizes need, and the lemmas of the sizes of a round of that program, are those worked out by hand.
 pub fn size_lemmas_are_as_worked_out()
-    ensures { SizeLemmasAreTold }
+    ensures { SizeLemmasAreWorkedOut }
 {}

@@ -1,11 +1,12 @@
 -- A dual of a kind's program excludes every form of this kind.
-use Rattle.std.proofs.Common.{◌≡◌, ℕ, ◌<◌, ◌≤◌, ap, arith, refl, sym, ◌∙◌, subst, List, [], ◌∷◌, ◌⊎◌, inl, inr, if◌then◌else◌}
+use Rattle.std.proofs.Common.{◌≡◌, ℕ, ◌<◌, ◌≤◌, ap, arith, refl, sym, ◌∙◌, subst, List, [], ◌∷◌, ◌⊎◌, inl, inr}
+use Rattle.std.proofs.Common.{if◌then◌else◌}
 use Rattle.std.specs.Prelude.{ℤ, pos, ◌+ℤ◌, ◌*ℤ◌, neg_ℤ, nat_lt, ◌≤ℤ◌}
 use Rattle.std.specs.List.{All}
 use Rattle.std.proofs.lemmas.Int.{ints}
 use Rattle.std.proofs.lemmas.Bool.{cases_lt, lt-ltb, le-ltb}
 use Rattle.std.proofs.lemmas.List.Elements.{All-cons, All-nil}
-use Rattle.int_laws.proofs.RingLaws.{mul-zero_ℤ, neg-mul_ℤ}
+use Rattle.linear_forms.proofs.int_laws.RingLaws.{mul-zero_ℤ, neg-mul_ℤ}
 use Rattle.linear_forms.specs.Forms.{Form, at, form_value}
 use Rattle.linear_forms.specs.Points.{IsPoint}
 use Rattle.linear_forms.specs.Combinations.{form_times}
@@ -21,7 +22,7 @@ use Rattle.rule_forms.specs.Bounds.{IsAbove, HasNone}
 use Rattle.rule_forms.specs.Questions.{question_of, form_of, excess, IsKindOf, Fits}
 use Rattle.rule_forms.specs.Laws.{HasPoint}
 use Rattle.rule_forms.proofs.Forms.{at-zeros, at-listed, at-past, value-same}
-use Rattle.rule_forms.proofs.Sought.{group_of, goal-excess, argument_coef, argument_constant}
+use Rattle.rule_forms.proofs.GoalForms.{group_of, goal-excess, argument_coef, argument_constant}
 use Rattle.rule_forms.proofs.Shapes.{question-shaped}
 
 -- the parameters that stand for a form of a kind

@@ -1,20 +1,22 @@
 -- A function that parameters stand for weighs at most what they do; so a solution of least cost gives one of least
 -- weight.
-use Rattle.std.proofs.Common.{◌≡◌, ℕ, zero, suc, ◌+◌, ◌*◌, ◌<◌, ◌≤◌, ap, arith, refl, sym, ◌∙◌, subst, Bool, true, false, cond, List, [], ◌∷◌, length, map, filter, ◌⊎◌, inl, inr, if◌then◌else◌, nat_eq}
+use Rattle.std.proofs.Common.{◌≡◌, ℕ, zero, suc, ◌+◌, ◌*◌, ◌<◌, ◌≤◌, ap, arith, refl, sym, ◌∙◌, subst, Bool, true}
+use Rattle.std.proofs.Common.{false, cond, List, [], ◌∷◌, length, map, filter, ◌⊎◌, inl, inr, if◌then◌else◌, nat_eq}
 use Rattle.std.specs.Prelude.{ℤ, pos, negsuc, ◌+ℤ◌, ◌*ℤ◌, nat_abs, slice_index_or, ◌≤ℤ◌}
 use Rattle.std.specs.List.{range_with_len}
 use Rattle.std.proofs.Math.Dec.{eqb-suc-zero}
 use Rattle.std.proofs.lemmas.Int.{ints}
 use Rattle.std.proofs.lemmas.Bool.{eqb-true, ne_eqb}
-use Rattle.int_laws.specs.Sums.{sum_to}
-use Rattle.int_laws.proofs.RingLaws.{mul_comm_ℤ}
-use Rattle.int_laws.proofs.OrderLaws.{mul-le-mul_ℤ}
+use Rattle.linear_forms.specs.int_laws.Sums.{sum_to}
+use Rattle.linear_forms.proofs.int_laws.RingLaws.{mul_comm_ℤ}
+use Rattle.linear_forms.proofs.int_laws.OrderLaws.{mul-le-mul_ℤ}
 use Rattle.linear_forms.specs.Forms.{at}
 use Rattle.linear_forms.specs.Sizes.{total_size}
 use Rattle.linear_forms.specs.LinearProgram.{IsSolution, IsLeast}
 use Rattle.linear_forms.specs.Questions.{listed, program_of_question}
 use Rattle.linear_forms.specs.QuestionLaws.{positive_part, size_weight, height_weight, parameters_of}
-use Rattle.linear_forms.specs.RuleQuestions.{RankedSet, Coefficient, has_symbol, coefficients, size_at, height_at, rank_question}
+use Rattle.linear_forms.specs.RuleQuestions.{RankedSet, Coefficient, has_symbol, coefficients, size_at, height_at}
+use Rattle.linear_forms.specs.RuleQuestions.{rank_question}
 use Rattle.linear_forms.proofs.ListLaws.{sum_to-first}
 use Rattle.linear_forms.proofs.WeightLaws.{least-sizes, least-heights}
 use Rattle.rule_forms.specs.Bounds.{height}

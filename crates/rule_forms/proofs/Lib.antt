@@ -1,6 +1,6 @@
 pub mod Forms
 pub mod Combined
-pub mod Sought
+pub mod GoalForms
 pub mod Shapes
 pub mod Solutions
 pub mod Exclusion
@@ -17,3 +17,6 @@ pub mod RankWeights
 pub mod LeastRanks
 pub mod WorkedRanks
 pub mod RankFits
+-- the lemmas of the crates below, which callers name through this one
+pub use Rattle.linear_forms.proofs.int_laws
+pub use Rattle.linear_forms.proofs as linear_forms

@@ -1,14 +1,16 @@
 -- What the parameters of a rank question make of its goals: what the function that they stand for loses by a rule.
-use Rattle.std.proofs.Common.{◌≡◌, ℕ, zero, suc, ap, arith, refl, sym, ◌∙◌, Bool, true, false, List, [], ◌∷◌, map, ◌≢◌, ◌⊎◌, inl, inr, if◌then◌else◌, nat_eq, ◌&&◌}
+use Rattle.std.proofs.Common.{◌≡◌, ℕ, zero, suc, ap, arith, refl, sym, ◌∙◌, Bool, true, false, List, [], ◌∷◌, map, ◌≢◌}
+use Rattle.std.proofs.Common.{◌⊎◌, inl, inr, if◌then◌else◌, nat_eq, ◌&&◌}
 use Rattle.std.specs.Prelude.{ℤ, pos, ◌+ℤ◌, ◌*ℤ◌, slice_index_or}
 use Rattle.std.proofs.lemmas.Int.{ints}
 use Rattle.std.proofs.Math.Dec.{eqb}
 use Rattle.std.proofs.lemmas.Bool.{eq-eqb, ne_eqb}
 use Rattle.std.proofs.lemmas.Bool.Decides.{eqb_tells}
-use Rattle.int_laws.proofs.RingLaws.{mul-zero_ℤ, zero-mul_ℤ, mul-add_ℤ}
+use Rattle.linear_forms.proofs.int_laws.RingLaws.{mul-zero_ℤ, zero-mul_ℤ, mul-add_ℤ}
 use Rattle.linear_forms.specs.Forms.{Form, at, list_dot}
 use Rattle.linear_forms.specs.Combinations.{zero_form}
-use Rattle.linear_forms.specs.RuleQuestions.{RuleForms, Coefficient, constant_form, unknown_form, before_rule, after_rule, at_source, at_target}
+use Rattle.linear_forms.specs.RuleQuestions.{RuleForms, Coefficient, constant_form, unknown_form, before_rule}
+use Rattle.linear_forms.specs.RuleQuestions.{after_rule, at_source, at_target}
 use Rattle.rule_forms.specs.RankLaws.{coefficient}
 use Rattle.rule_forms.proofs.Forms.{at-itself, at-other}
 use Rattle.rule_forms.proofs.Totals.{dot-add, dot-none, dot-one}

@@ -1,12 +1,13 @@
 -- A dual of a rank question's program excludes every function.
-use Rattle.std.proofs.Common.{◌≡◌, ℕ, zero, suc, ◌<◌, ◌≤◌, ap, arith, refl, sym, ◌∙◌, subst, Bool, true, false, List, [], ◌∷◌, length, map, get_or, ◌⊎◌, inl, inr, if◌then◌else◌, nat_eq, ◌||◌}
+use Rattle.std.proofs.Common.{◌≡◌, ℕ, zero, suc, ◌<◌, ◌≤◌, ap, arith, refl, sym, ◌∙◌, subst, Bool, true, false, List}
+use Rattle.std.proofs.Common.{[], ◌∷◌, length, map, get_or, ◌⊎◌, inl, inr, if◌then◌else◌, nat_eq, ◌||◌}
 use Rattle.std.specs.Prelude.{ℤ, pos, negsuc, ◌+ℤ◌, ◌*ℤ◌, neg_ℤ, slice_index_or, ◌≤ℤ◌}
 use Rattle.std.specs.List.{All, list_any}
 use Rattle.std.proofs.lemmas.Int.{ints}
 use Rattle.std.proofs.lemmas.Bool.{eqb-true, eq-eqb, cases_lt}
 use Rattle.std.proofs.lemmas.List.Elements.{All-nil, All-cons, All-append, All-map, All-get_or, All-from_get_or}
-use Rattle.int_laws.proofs.RingLaws.{mul-zero_ℤ, zero-mul_ℤ, mul_comm_ℤ, neg-mul_ℤ}
-use Rattle.int_laws.proofs.SumLaws.{sum_to-same}
+use Rattle.linear_forms.proofs.int_laws.RingLaws.{mul-zero_ℤ, zero-mul_ℤ, mul_comm_ℤ, neg-mul_ℤ}
+use Rattle.linear_forms.proofs.int_laws.SumLaws.{sum_to-same}
 use Rattle.linear_forms.specs.Forms.{Form, at, list_dot, form_value}
 use Rattle.linear_forms.specs.Points.{IsPoint}
 use Rattle.linear_forms.specs.Certificates.{minus_one}
@@ -14,7 +15,9 @@ use Rattle.linear_forms.specs.Combinations.{form_sum, zero_form, combination}
 use Rattle.linear_forms.specs.LinearProgram.{IsDual}
 use Rattle.linear_forms.specs.Questions.{Group, goal_at, listed, program_of_question}
 use Rattle.linear_forms.specs.QuestionLaws.{HoldOnPoints, HavePoints, elements_of}
-use Rattle.linear_forms.specs.RuleQuestions.{RuleForms, RankedSet, Coefficient, constant_form, opposite, before_rule, after_rule, at_source, at_target, has_symbol, rank_question, move_group, floor_group}
+use Rattle.linear_forms.specs.RuleQuestions.{RuleForms, RankedSet, Coefficient, constant_form, opposite, before_rule}
+use Rattle.linear_forms.specs.RuleQuestions.{after_rule, at_source, at_target, has_symbol, rank_question, move_group}
+use Rattle.linear_forms.specs.RuleQuestions.{floor_group}
 use Rattle.linear_forms.proofs.ListLaws.{list_dot-sum, list_dot-listed}
 use Rattle.linear_forms.proofs.SolutionLaws.{length-map}
 use Rattle.linear_forms.proofs.CombinationLaws.{form_value-sum, form_value-times, form_value-combination}

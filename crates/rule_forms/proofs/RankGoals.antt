@@ -1,17 +1,19 @@
 -- The goals of a rank question at parameters are what the function that they stand for loses by a rule.
-use Rattle.std.proofs.Common.{◌≡◌, ℕ, suc, ◌<◌, ◌≤◌, ap, arith, refl, sym, ◌∙◌, Bool, true, false, List, [], ◌∷◌, length, map, ◌⊎◌, inl, inr, if◌then◌else◌, nat_eq}
+use Rattle.std.proofs.Common.{◌≡◌, ℕ, suc, ◌<◌, ◌≤◌, ap, arith, refl, sym, ◌∙◌, Bool, true, false, List, [], ◌∷◌}
+use Rattle.std.proofs.Common.{length, map, ◌⊎◌, inl, inr, if◌then◌else◌, nat_eq}
 use Rattle.std.specs.Prelude.{ℤ, pos, negsuc, ◌+ℤ◌, ◌*ℤ◌, neg_ℤ}
 use Rattle.std.specs.List.{All}
 use Rattle.std.proofs.lemmas.List.Elements.{All-head, All-tail}
 use Rattle.std.proofs.lemmas.Int.{ints}
 use Rattle.std.proofs.lemmas.Bool.{cases_lt, eqb-true}
-use Rattle.int_laws.specs.Polynomial.{variable, constant, ◌⊕◌, ◌⊗◌, negated}
-use Rattle.int_laws.proofs.Identities.{identity}
+use Rattle.linear_forms.specs.int_laws.Polynomial.{variable, constant, ◌⊕◌, ◌⊗◌, negated}
+use Rattle.linear_forms.proofs.int_laws.Identities.{identity}
 use Rattle.linear_forms.specs.Forms.{Form, at, list_dot}
 use Rattle.linear_forms.specs.Certificates.{minus_one}
 use Rattle.linear_forms.specs.Combinations.{form_sum, form_times, zero_form, combination, less}
 use Rattle.linear_forms.specs.Questions.{goal_at, listed}
-use Rattle.linear_forms.specs.RuleQuestions.{RuleForms, RankedSet, Coefficient, constant_form, opposite, at_source, at_target, symbols_of_set, coefficients, move_group, floor_group}
+use Rattle.linear_forms.specs.RuleQuestions.{RuleForms, RankedSet, Coefficient, constant_form, opposite, at_source}
+use Rattle.linear_forms.specs.RuleQuestions.{at_target, symbols_of_set, coefficients, move_group, floor_group}
 use Rattle.linear_forms.proofs.CombinationLaws.{at-sum, at-times}
 use Rattle.linear_forms.proofs.SolutionLaws.{length-map}
 use Rattle.rule_forms.specs.Kinds.{AreSame}

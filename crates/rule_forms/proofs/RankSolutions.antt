@@ -1,11 +1,13 @@
 -- A solution of a rank question's program gives a function with what shows that it ranks the rule.
-use Rattle.std.proofs.Common.{◌≡◌, ℕ, zero, suc, ◌<◌, ◌≤◌, ap, arith, refl, sym, ◌∙◌, subst, Bool, true, false, List, [], ◌∷◌, ◌++◌, length, map, get_or, if◌then◌else◌, nat_eq}
+use Rattle.std.proofs.Common.{◌≡◌, ℕ, zero, suc, ◌<◌, ◌≤◌, ap, arith, refl, sym, ◌∙◌, subst, Bool, true, false, List}
+use Rattle.std.proofs.Common.{[], ◌∷◌, ◌++◌, length, map, get_or, if◌then◌else◌, nat_eq}
 use Rattle.std.specs.Prelude.{ℤ, pos, negsuc, ◌+ℤ◌, ◌*ℤ◌, neg_ℤ, ◌≤ℤ◌, ◌<ℤ◌}
 use Rattle.std.specs.List.{All}
 use Rattle.std.proofs.lemmas.Int.{ints}
 use Rattle.std.proofs.lemmas.Bool.{eqb-true, eq-eqb}
-use Rattle.std.proofs.lemmas.List.Elements.{All-nil, All-cons, All-append, All-map, All-weaker, All-head, All-tail, All-get_or, All-from_get_or}
-use Rattle.int_laws.proofs.OrderLaws.{mul-nonneg_ℤ}
+use Rattle.std.proofs.lemmas.List.Elements.{All-nil, All-cons, All-append, All-map, All-weaker, All-head, All-tail}
+use Rattle.std.proofs.lemmas.List.Elements.{All-get_or, All-from_get_or}
+use Rattle.linear_forms.proofs.int_laws.OrderLaws.{mul-nonneg_ℤ}
 use Rattle.linear_forms.specs.Forms.{Form, form_value}
 use Rattle.linear_forms.specs.Points.{IsPoint}
 use Rattle.linear_forms.specs.Certificates.{Implies, minus_one}
@@ -13,12 +15,14 @@ use Rattle.linear_forms.specs.Combinations.{form_sum, zero_form, less}
 use Rattle.linear_forms.specs.LinearProgram.{IsSolution}
 use Rattle.linear_forms.specs.Questions.{IsShaped, IsGroupShaped, program_of_question}
 use Rattle.linear_forms.specs.QuestionLaws.{parameters_of, multipliers_by_group, Follows}
-use Rattle.linear_forms.specs.RuleQuestions.{RuleForms, RankedSet, Coefficient, constant_form, opposite, before_rule, after_rule, at_source, at_target, symbols_of_set, rank_question, move_group, floor_group}
+use Rattle.linear_forms.specs.RuleQuestions.{RuleForms, RankedSet, Coefficient, constant_form, opposite, before_rule}
+use Rattle.linear_forms.specs.RuleQuestions.{after_rule, at_source, at_target, symbols_of_set, rank_question}
+use Rattle.linear_forms.specs.RuleQuestions.{move_group, floor_group}
 use Rattle.linear_forms.proofs.SolutionLaws.{length-map, solution-solves}
 use Rattle.linear_forms.proofs.CombinationLaws.{form_value-sum, form_value-times}
 use Rattle.linear_forms.proofs.CertificateLaws.{implied_on_points}
 use Rattle.rule_forms.specs.Ranking.{Function, at_news, Loses, Ranks}
-use Rattle.rule_forms.specs.RankLaws.{IsRuleOf, IsSetOf, function_of, lost_by, AreShown, rank_multipliers}
+use Rattle.rule_forms.specs.RankLaws.{IsRuleOf, IsSetOf, function_of, lost_by, AreImplied, rank_multipliers}
 use Rattle.rule_forms.proofs.Forms.{implies-same}
 use Rattle.rule_forms.proofs.Shapes.{argument_length, sum_length}
 use Rattle.rule_forms.proofs.RankGoals.{coefficients_of, IsPlaced, are-placed, move-same, floor-same}
@@ -119,7 +123,7 @@ shown-from : (b : RankedSet) (set : List ℕ) (x v : ℕ → ℤ) (d : ℤ) → 
     → Follows (map (move_group b (coefficients_of b)) set ++ (floor_group b (coefficients_of b) ∷ []))
     (multipliers_by_group x (map (move_group b (coefficients_of b)) set
     ++ (floor_group b (coefficients_of b) ∷ []))) v d
-    → AreShown b (function_of b v) d set (multipliers_by_group x
+    → AreImplied b (function_of b v) d set (multipliers_by_group x
     (map (move_group b (coefficients_of b)) set ++ (floor_group b (coefficients_of b) ∷ [])))
 shown-from b [] x v d are h = implies-same (b.rule b.strict).rows _ _ _ (floor-same b v d) h.0
 shown-from b (t ∷ set) x v d are h = (
@@ -130,7 +134,7 @@ shown-from b (t ∷ set) x v d are h = (
 -- a solution shows its function
 pub rank-shown : (b : RankedSet) (x : ℕ → ℤ) (d : ℤ) → IsSetOf b
     → IsSolution (program_of_question (rank_question b)) x d
-    → AreShown b (function_of b (parameters_of x)) d b.set (rank_multipliers b x)
+    → AreImplied b (function_of b (parameters_of x)) d b.set (rank_multipliers b x)
 rank-shown b x d is solution =
     shown-from b b.set _ (parameters_of x) d is.rules
     (solution-solves (rank_question b) x d (rank-shaped b is) solution)
@@ -152,7 +156,7 @@ number-value k z d = plus _
     plus v = omega (arith, ints)
 
 -- what is shown of a rule of the list, and of the floor
-shown-at : (b : RankedSet) (f : Function) (d : ℤ) (set : List ℕ) (ms : List (List ℕ)) → AreShown b f d set ms → (i : ℕ)
+shown-at : (b : RankedSet) (f : Function) (d : ℤ) (set : List ℕ) (ms : List (List ℕ)) → AreImplied b f d set ms → (i : ℕ)
     → i < length set
     → (m : List ℕ) × Implies (b.rule (get_or set i 0)).rows m
     (lost_by f (b.rule (get_or set i 0)) (if nat_eq (get_or set i 0) b.strict then d else pos 0))
@@ -161,7 +165,7 @@ shown-at b f d (t ∷ set) [] h i l = absurd h
 shown-at b f d (t ∷ set) (m ∷ ms) h zero l = (m, h.0)
 shown-at b f d (t ∷ set) (m ∷ ms) h (suc i) l = shown-at b f d set ms h.1 i (omega (arith, l))
 
-shown-floor : (b : RankedSet) (f : Function) (d : ℤ) (set : List ℕ) (ms : List (List ℕ)) → AreShown b f d set ms
+shown-floor : (b : RankedSet) (f : Function) (d : ℤ) (set : List ℕ) (ms : List (List ℕ)) → AreImplied b f d set ms
     → (m : List ℕ) × Implies (b.rule b.strict).rows m (less (f (b.rule b.strict).source) (constant_form d))
 shown-floor b f d [] [] h = absurd h
 shown-floor b f d [] (m ∷ []) h = (m, h)
@@ -201,7 +205,7 @@ loses-less b f t k h = record {
 
 -- what is shown is so: the function ranks the rule
 pub shown-ranks : (b : RankedSet) (f : Function) (q : ℕ) (ms : List (List ℕ)) → IsSetOf b → 1 ≤ q
-    → AreShown b f (pos q) b.set ms → Ranks b f q
+    → AreImplied b f (pos q) b.set ms → Ranks b f q
 shown-ranks b f q ms is l shown = record {
   positive = l;
   rises =

@@ -1,13 +1,15 @@
 -- The coefficients of a function at the places of a set, weighed and added up.
-use Rattle.std.proofs.Common.{◌≡◌, ℕ, zero, suc, ◌+◌, ◌<◌, ◌≤◌, ap, arith, refl, sym, ◌∙◌, subst, Bool, true, false, not, cond, List, [], ◌∷◌, ◌++◌, map, filter, ◌⊎◌, inl, inr, ◌≢◌, if◌then◌else◌, nat_eq}
+use Rattle.std.proofs.Common.{◌≡◌, ℕ, zero, suc, ◌+◌, ◌<◌, ◌≤◌, ap, arith, refl, sym, ◌∙◌, subst, Bool, true, false}
+use Rattle.std.proofs.Common.{not, cond, List, [], ◌∷◌, ◌++◌, map, filter, ◌⊎◌, inl, inr, ◌≢◌, if◌then◌else◌, nat_eq}
 use Rattle.std.specs.Prelude.{ℤ, pos, ◌+ℤ◌}
 use Rattle.std.specs.List.{range_with_len}
 use Rattle.std.proofs.lemmas.Int.{ints}
 use Rattle.std.proofs.lemmas.Bool.{eq-eqb, ne_eqb, cases_lt, true≢false}
-use Rattle.int_laws.specs.Sums.{sum_to}
-use Rattle.int_laws.proofs.SumLaws.{sum_to-same}
+use Rattle.linear_forms.specs.int_laws.Sums.{sum_to}
+use Rattle.linear_forms.proofs.int_laws.SumLaws.{sum_to-same}
 use Rattle.linear_forms.specs.Forms.{Form, at}
-use Rattle.linear_forms.specs.RuleQuestions.{RankedSet, Coefficient, has_symbol, symbols_of_set, open_places, coefficients}
+use Rattle.linear_forms.specs.RuleQuestions.{RankedSet, Coefficient, has_symbol, symbols_of_set, open_places}
+use Rattle.linear_forms.specs.RuleQuestions.{coefficients}
 use Rattle.linear_forms.proofs.ListLaws.{sum_to-first}
 use Rattle.rule_forms.specs.Ranking.{Function, Fits}
 use Rattle.rule_forms.proofs.Totals.{total, total-append}

@@ -1,17 +1,19 @@
 -- The numbers of a function weigh what the function weighs.
-use Rattle.std.proofs.Common.{◌≡◌, ℕ, zero, suc, ◌+◌, ◌*◌, ◌<◌, ◌≤◌, ap, arith, refl, sym, ◌∙◌, Bool, true, false, cond, List, [], ◌∷◌, ◌++◌, length, map, ◌⊎◌, inl, inr, if◌then◌else◌, nat_eq}
+use Rattle.std.proofs.Common.{◌≡◌, ℕ, zero, suc, ◌+◌, ◌*◌, ◌<◌, ◌≤◌, ap, arith, refl, sym, ◌∙◌, Bool, true, false, cond}
+use Rattle.std.proofs.Common.{List, [], ◌∷◌, ◌++◌, length, map, ◌⊎◌, inl, inr, if◌then◌else◌, nat_eq}
 use Rattle.std.specs.Prelude.{ℤ, pos, ◌+ℤ◌, ◌*ℤ◌, nat_abs, slice_index_or}
 use Rattle.std.proofs.Math.Dec.{eqb-suc-zero}
 use Rattle.std.proofs.lemmas.Int.{ints}
 use Rattle.std.proofs.lemmas.Bool.{cases_lt}
-use Rattle.int_laws.specs.Sums.{sum_to}
-use Rattle.int_laws.proofs.RingLaws.{mul-zero_ℤ}
-use Rattle.int_laws.proofs.SumLaws.{sum_to-same, sum_to-zero}
+use Rattle.linear_forms.specs.int_laws.Sums.{sum_to}
+use Rattle.linear_forms.proofs.int_laws.RingLaws.{mul-zero_ℤ}
+use Rattle.linear_forms.proofs.int_laws.SumLaws.{sum_to-same, sum_to-zero}
 use Rattle.linear_forms.specs.Forms.{at}
 use Rattle.linear_forms.specs.Sizes.{total_size}
 use Rattle.linear_forms.specs.Questions.{listed}
 use Rattle.linear_forms.specs.QuestionLaws.{positive_part, size_weight, height_weight}
-use Rattle.linear_forms.specs.RuleQuestions.{RankedSet, symbols_of_set, open_places, coefficients, size_at, height_at, rank_question}
+use Rattle.linear_forms.specs.RuleQuestions.{RankedSet, symbols_of_set, open_places, coefficients, size_at, height_at}
+use Rattle.linear_forms.specs.RuleQuestions.{rank_question}
 use Rattle.linear_forms.proofs.ListLaws.{sum_to-first}
 use Rattle.rule_forms.specs.Bounds.{height}
 use Rattle.rule_forms.specs.Ranking.{Function, Fits, over_entered, size_of, height_of}

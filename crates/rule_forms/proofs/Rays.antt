@@ -1,11 +1,12 @@
 -- A dual of the program of any affine form is a ray along which the new value rises alone.
-use Rattle.std.proofs.Common.{◌≡◌, ℕ, zero, suc, ◌+◌, ◌<◌, ◌≤◌, ap, arith, refl, ◌∙◌, subst, List, [], ◌∷◌, ◌++◌, length, ◌⊎◌, inl, inr}
+use Rattle.std.proofs.Common.{◌≡◌, ℕ, zero, suc, ◌+◌, ◌<◌, ◌≤◌, ap, arith, refl, ◌∙◌, subst, List, [], ◌∷◌, ◌++◌}
+use Rattle.std.proofs.Common.{length, ◌⊎◌, inl, inr}
 use Rattle.std.specs.Prelude.{ℤ, pos, negsuc, ◌+ℤ◌, ◌*ℤ◌, neg_ℤ, slice_index_or, ◌≤ℤ◌, ◌<ℤ◌}
 use Rattle.std.specs.List.{range_with_len}
 use Rattle.std.proofs.lemmas.Int.{ints}
 use Rattle.std.proofs.lemmas.Bool.{cases_lt}
-use Rattle.int_laws.proofs.RingLaws.{mul-zero_ℤ, zero-mul_ℤ}
-use Rattle.int_laws.proofs.OrderLaws.{mul-positive_ℤ}
+use Rattle.linear_forms.proofs.int_laws.RingLaws.{mul-zero_ℤ, zero-mul_ℤ}
+use Rattle.linear_forms.proofs.int_laws.OrderLaws.{mul-positive_ℤ}
 use Rattle.linear_forms.specs.Forms.{Form, at, list_dot, form_value}
 use Rattle.linear_forms.specs.Points.{Meets}
 use Rattle.linear_forms.specs.Combinations.{form_sum, zero_form}

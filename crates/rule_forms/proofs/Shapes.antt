@@ -10,7 +10,7 @@ use Rattle.linear_forms.specs.RuleQuestions.{RuleForms, before_rule}
 use Rattle.linear_forms.proofs.SolutionLaws.{length-map}
 use Rattle.rule_forms.specs.Kinds.{Kind, Number, Argument, Affine, unit_of}
 use Rattle.rule_forms.specs.Questions.{question_of, IsKindOf, Fits}
-use Rattle.rule_forms.proofs.Sought.{sought_places, fixed_part, group_of}
+use Rattle.rule_forms.proofs.GoalForms.{sought_places, fixed_part, group_of}
 pub use Rattle.linear_forms.proofs.RuleShapes.{range-below as ranged}
 pub use Rattle.linear_forms.proofs.CombinationLaws.{length-sum as sum_length}
 

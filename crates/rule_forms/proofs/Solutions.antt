@@ -2,7 +2,7 @@
 use Rattle.std.proofs.Common.{◌≡◌, ℕ, ap, arith, sym, ◌∙◌, List}
 use Rattle.std.specs.Prelude.{ℤ, pos, negsuc, ◌+ℤ◌, ◌*ℤ◌, neg_ℤ, nat_abs, ◌≤ℤ◌, ◌<ℤ◌}
 use Rattle.std.proofs.lemmas.Int.{ints}
-use Rattle.int_laws.proofs.RingLaws.{mul-zero_ℤ, neg-mul_ℤ}
+use Rattle.linear_forms.proofs.int_laws.RingLaws.{mul-zero_ℤ, neg-mul_ℤ}
 use Rattle.linear_forms.specs.Forms.{Form, form_value}
 use Rattle.linear_forms.specs.Points.{IsPoint}
 use Rattle.linear_forms.specs.Certificates.{Implies}
@@ -19,7 +19,7 @@ use Rattle.rule_forms.specs.Bounds.{IsAbove}
 use Rattle.rule_forms.specs.Questions.{question_of, form_of, excess, IsKindOf, Fits}
 use Rattle.rule_forms.specs.Laws.{solved_form, solved_multipliers}
 use Rattle.rule_forms.proofs.Forms.{at-zeros, at-past, implies-same}
-use Rattle.rule_forms.proofs.Sought.{goal-excess, argument_coef, argument_constant}
+use Rattle.rule_forms.proofs.GoalForms.{goal-excess, argument_coef, argument_constant}
 use Rattle.rule_forms.proofs.Shapes.{question-shaped}
 
 -- the multipliers show the form that the parameters stand for

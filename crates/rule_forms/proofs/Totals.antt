@@ -1,10 +1,11 @@
 -- Sums over lists, and dot products as such sums.
-use Rattle.std.proofs.Common.{◌≡◌, ℕ, zero, suc, ◌+◌, ◌<◌, ap, arith, refl, sym, ◌∙◌, Bool, true, false, cond, List, [], ◌∷◌, ◌++◌, length, map, filter}
+use Rattle.std.proofs.Common.{◌≡◌, ℕ, zero, suc, ◌+◌, ◌<◌, ap, arith, refl, sym, ◌∙◌, Bool, true, false, cond, List, []}
+use Rattle.std.proofs.Common.{◌∷◌, ◌++◌, length, map, filter}
 use Rattle.std.specs.Prelude.{ℤ, pos, ◌+ℤ◌, ◌*ℤ◌}
 use Rattle.std.specs.List.{range_with_len}
 use Rattle.std.proofs.lemmas.Int.{ints}
-use Rattle.int_laws.specs.Sums.{sum_to}
-use Rattle.int_laws.proofs.RingLaws.{mul-add_ℤ, mul-zero_ℤ}
+use Rattle.linear_forms.specs.int_laws.Sums.{sum_to}
+use Rattle.linear_forms.proofs.int_laws.RingLaws.{mul-add_ℤ, mul-zero_ℤ}
 use Rattle.linear_forms.specs.Forms.{at, list_dot}
 use Rattle.linear_forms.proofs.ListLaws.{sum_to-first}
 

@@ -1,10 +1,11 @@
 -- A solution of least cost gives a form that weighs least among those of its kind.
-use Rattle.std.proofs.Common.{◌≡◌, ℕ, zero, suc, ◌+◌, ◌*◌, ◌≤◌, ap, arith, refl, sym, ◌∙◌, List, [], ◌∷◌, ◌++◌, length, map, replicate, if◌then◌else◌, nat_eq}
+use Rattle.std.proofs.Common.{◌≡◌, ℕ, zero, suc, ◌+◌, ◌*◌, ◌≤◌, ap, arith, refl, sym, ◌∙◌, List, [], ◌∷◌, ◌++◌, length}
+use Rattle.std.proofs.Common.{map, replicate, if◌then◌else◌, nat_eq}
 use Rattle.std.specs.Prelude.{ℤ, pos, negsuc, ◌+ℤ◌, ◌*ℤ◌, nat_abs, slice_index_or, ◌≤ℤ◌}
 use Rattle.std.specs.List.{range_with_len}
 use Rattle.std.proofs.Math.Dec.{eqb-suc-zero}
 use Rattle.std.proofs.lemmas.Int.{ints}
-use Rattle.int_laws.specs.Sums.{sum_to}
+use Rattle.linear_forms.specs.int_laws.Sums.{sum_to}
 use Rattle.linear_forms.specs.Forms.{Form, at}
 use Rattle.linear_forms.specs.Sizes.{total_size}
 use Rattle.linear_forms.specs.Combinations.{form_times}

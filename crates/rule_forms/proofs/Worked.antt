@@ -10,8 +10,10 @@ use Rattle.rule_forms.specs.Kinds.{Number, Argument, Affine, Plus, Minus, IsOfKi
 use Rattle.rule_forms.specs.Bounds.{IsAbove, HasNone, WeighsAtMost, height}
 use Rattle.rule_forms.proofs.Rays.{unmoved}
 use Rattle.rule_forms.proofs.Weights.{argument-weighs}
-use Rattle.int_laws.proofs.RingLaws.{zero-mul_ℤ}
-use Rattle.rule_forms.specs.Worked.{line_form, falling_rows, falling, rising, KindsAreInOrder, KindsAreTold, BoundsAreTold, WeightsAreTold, FirstBoundsAreTold, RaysAreTold, LocalFormsAreTold}
+use Rattle.linear_forms.proofs.int_laws.RingLaws.{zero-mul_ℤ}
+use Rattle.rule_forms.specs.Worked.{line_form, falling_rows, falling, rising, KindsAreInOrder, KindsAreTold}
+use Rattle.rule_forms.specs.Worked.{BoundsAreTold, WeightsAreTold, FirstBoundsAreTold, RaysAreTold}
+use Rattle.rule_forms.specs.Worked.{LocalFormsAreWorkedOut}
 
 -- the order of kinds
 order : KindsAreInOrder
@@ -224,5 +226,5 @@ rays = record {
     fall l = omega (arith, ints, l)
 
 -- all of these
-pub worked : LocalFormsAreTold
+pub worked : LocalFormsAreWorkedOut
 worked = record { order = order; kinds = kinds; bounds = bounds; weights = weights; first = first; rays = rays }

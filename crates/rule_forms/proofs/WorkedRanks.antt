@@ -6,12 +6,13 @@ use Rattle.std.proofs.lemmas.Int.{ints}
 use Rattle.std.proofs.lemmas.Bool.{false≢true}
 use Rattle.std.proofs.lemmas.List.Elements.{All-cons, All-nil}
 use Rattle.linear_forms.specs.Forms.{Form, at, form_value}
-use Rattle.linear_forms.specs.QuestionValues.{entering_rule, falling_rule, sliding_rule, falling_set, shut_set, sliding_set, line_form, plane_form}
+use Rattle.linear_forms.specs.QuestionValues.{entering_rule, falling_rule, sliding_rule, falling_set, shut_set}
+use Rattle.linear_forms.specs.QuestionValues.{sliding_set, line_form, plane_form}
 use Rattle.linear_forms.proofs.WorkedQuestions.{question-values}
 use Rattle.rule_forms.specs.Laws.{HasPoint}
 use Rattle.rule_forms.specs.Ranking.{Loses, NoRank}
 use Rattle.rule_forms.specs.RankLaws.{IsRuleOf}
-use Rattle.rule_forms.specs.WorkedRanks.{everywhere, RanksAreTold, FitsAreTold, RankWeightsAreTold, RankingIsTold}
+use Rattle.rule_forms.specs.WorkedRanks.{everywhere, RanksAreTold, FitsAreTold, RankWeightsAreTold, RankingIsWorkedOut}
 use Rattle.rule_forms.proofs.RankExclusion.{dual-excludes_ranks}
 use Rattle.rule_forms.proofs.Worked.{row-of, whole-point}
 
@@ -194,7 +195,7 @@ sliding-none = dual-excludes_ranks sliding_set (at (pos 1 ∷ pos 1 ∷ pos 1 �
     question-values.not_ranked.refuted
 
 -- all of these
-pub worked : RankingIsTold
+pub worked : RankingIsWorkedOut
 worked = record {
   ranks = ranks;
   fits = fits;

@@ -56,13 +56,13 @@ lost_by f r k = loss (f r.source) (f r.target) r.news k
 
 -- for each rule of the list multipliers show what the function loses by it, d by the rule that has to decrease and
 -- nothing by the others; and the last ones show that it is at least d before that rule
-abbrev pub AreShown : RankedSet → Function → ℤ → List ℕ → List (List ℕ) → Type 0
-AreShown b f d [] [] = ⊥
-AreShown b f d [] (m ∷ []) = Implies (b.rule b.strict).rows m (less (f (b.rule b.strict).source) (constant_form d))
-AreShown b f d [] (m ∷ n ∷ ms) = ⊥
-AreShown b f d (t ∷ ts) [] = ⊥
-AreShown b f d (t ∷ ts) (m ∷ ms) =
-    Implies (b.rule t).rows m (lost_by f (b.rule t) (if nat_eq t b.strict then d else pos 0)) × AreShown b f d ts ms
+abbrev pub AreImplied : RankedSet → Function → ℤ → List ℕ → List (List ℕ) → Type 0
+AreImplied b f d [] [] = ⊥
+AreImplied b f d [] (m ∷ []) = Implies (b.rule b.strict).rows m (less (f (b.rule b.strict).source) (constant_form d))
+AreImplied b f d [] (m ∷ n ∷ ms) = ⊥
+AreImplied b f d (t ∷ ts) [] = ⊥
+AreImplied b f d (t ∷ ts) (m ∷ ms) =
+    Implies (b.rule t).rows m (lost_by f (b.rule t) (if nat_eq t b.strict then d else pos 0)) × AreImplied b f d ts ms
 
 -- the multipliers that a solution x of the rank question's program gives, for each rule of the set and for the floor
 abbrev pub rank_multipliers : RankedSet → (ℕ → ℤ) → List (List ℕ)
@@ -73,10 +73,10 @@ rank_multipliers b x =
 -- rules' rows that show that it ranks the rule; and what they show is so
 pub record SolutionsRank : Type 0 where
   pub shown : (b : RankedSet) (x : ℕ → ℤ) (d : ℤ) → IsSetOf b → IsSolution (program_of_question (rank_question b)) x d
-      → AreShown b (function_of b (parameters_of x)) d b.set (rank_multipliers b x)
+      → AreImplied b (function_of b (parameters_of x)) d b.set (rank_multipliers b x)
   pub fits : (b : RankedSet) (v : ℕ → ℤ) → Fits b (function_of b v)
   pub ranks : (b : RankedSet) (f : Function) (q : ℕ) (ms : List (List ℕ)) → IsSetOf b → 1 ≤ q
-      → AreShown b f (pos q) b.set ms → Ranks b f q
+      → AreImplied b f (pos q) b.set ms → Ranks b f q
 
 -- a dual of the program shows that no function ranks the rule, where each rule of the set has a point
 pub record DualsExcludeRanks : Type 0 where

@@ -81,7 +81,7 @@ pub record RaysAreTold : Type 0 where
   pub downward : ¬ (IsLooseRay [] 1 free_value (at (pos 0 ∷ negsuc 0 ∷ [])))
 
 -- all of these
-pub record LocalFormsAreTold : Type 0 where
+pub record LocalFormsAreWorkedOut : Type 0 where
   pub order : KindsAreInOrder
   pub kinds : KindsAreTold
   pub bounds : BoundsAreTold

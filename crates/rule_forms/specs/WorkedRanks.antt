@@ -52,7 +52,7 @@ pub record NoRanksAreTold : Type 0 where
   pub falling : ¬ (NoRank falling_set)
 
 -- all of these
-pub record RankingIsTold : Type 0 where
+pub record RankingIsWorkedOut : Type 0 where
   pub ranks : RanksAreTold
   pub fits : FitsAreTold
   pub weights : RankWeightsAreTold

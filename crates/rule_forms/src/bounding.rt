@@ -1,6 +1,6 @@
 //! What the linear program of a kind of form says of the forms of this kind.
 
-ghost use Rattle.rule_forms.specs.Worked.{LocalFormsAreTold};
+ghost use Rattle.rule_forms.specs.Worked.{LocalFormsAreWorkedOut};
 ghost use Rattle.rule_forms.specs.Laws.{SolutionsAreBounds, LeastAreLeast, DualsExclude, DualsAreRays};
 
 /// A solution of the program gives a form of the kind with multipliers of the rule's rows that show that it is at least
@@ -29,5 +29,5 @@ pub fn duals_are_rays()
 /// Kinds, bounds, weights, the first bound and rays of small rules are what was worked out by hand, also where there is
 /// none.
 pub fn local_forms_are_as_worked_out()
-    ensures { LocalFormsAreTold }
+    ensures { LocalFormsAreWorkedOut }
 {}

@@ -1,6 +1,6 @@
 //! What the linear program of a rank question says of functions on configurations.
 
-ghost use Rattle.rule_forms.specs.WorkedRanks.{RankingIsTold};
+ghost use Rattle.rule_forms.specs.WorkedRanks.{RankingIsWorkedOut};
 ghost use Rattle.rule_forms.specs.RankLaws.{SolutionsRank, DualsExcludeRanks, LeastRanksWeighLeast};
 
 /// A solution of the program gives an affine function for each symbol, which looks at no shut place, with multipliers
@@ -25,5 +25,5 @@ pub fn least_ranks_weigh_least()
 /// Functions that rank a rule, the places at which they look, their weights, and sets that none ranks are what was
 /// worked out by hand, on both sides.
 pub fn ranking_is_as_worked_out()
-    ensures { RankingIsTold }
+    ensures { RankingIsWorkedOut }
 {}

@@ -1,5 +1,6 @@
 -- How often something can be paid for: what comes in by the entries bounds how often a level can fall.
-use Rattle.std.proofs.Common.{◌≡◌, ◌⊎◌, inl, inr, ℕ, ◌+◌, ◌*◌, ◌≤◌, true, false, List, [], ◌∷◌, refl, sym, ap, arith, mul-add, add-mul, le_of_mul-le-mul_right}
+use Rattle.std.proofs.Common.{◌≡◌, ◌⊎◌, inl, inr, ℕ, ◌+◌, ◌*◌, ◌≤◌, true, false, List, [], ◌∷◌, refl, sym, ap, arith}
+use Rattle.std.proofs.Common.{mul-add, add-mul, le_of_mul-le-mul_right}
 use Rattle.model.specs.Runs.{Config, Step, IsRun, count, one_if_same}
 use Rattle.model.specs.Entries.{is_in}
 use Rattle.model.proofs.Membership.{is_in-cases, no_is_not_yes}

@@ -1,2 +1,4 @@
 pub mod Counting
 pub mod Accounts
+-- the lemmas of the crates below, which callers name through this one
+pub use Rattle.model.proofs as model

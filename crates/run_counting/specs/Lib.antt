@@ -2,3 +2,5 @@
 pub mod Paying
 -- values that were worked out by hand
 pub mod Worked
+-- the crates below, which callers name through this one
+pub use Rattle.model.specs as model

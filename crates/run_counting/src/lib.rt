@@ -1,6 +1,6 @@
-// The counting lemma of runs: how often a rule can occur where each of its steps takes from a level that only entries
-// raise. It carries ranking functions and what is said of programs without a cycle. The functions here have no code:
-// the contract of each is the law, or values that were worked out by hand.
+//! The counting lemma of runs: how often a rule can occur where each of its steps takes from a level that only entries
+//! raise. It carries ranking functions and what is said of programs without a cycle. The functions here have no code:
+//! the contract of each is the law, or values that were worked out by hand.
 #![tactic(auto)]
 
 ghost use Rattle.std.specs.Prelude.{ℕ};

@@ -1,19 +1,21 @@
 -- What the lists of edges hold.
-use Rattle.std.proofs.Common.{◌≡◌, ◌⊎◌, inl, inr, ℕ, zero, suc, ◌+◌, ◌<◌, ◌≤◌, Bool, true, false, cond, List, [], ◌∷◌, get_or, Contains, Some, refl, sym, ◌∙◌, ap, subst, arith}
+use Rattle.std.proofs.Common.{◌≡◌, ◌⊎◌, inl, inr, ℕ, zero, suc, ◌+◌, ◌<◌, ◌≤◌, Bool, true, false, cond, List, [], ◌∷◌}
+use Rattle.std.proofs.Common.{get_or, Contains, Some, refl, sym, ◌∙◌, ap, subst, arith}
 use Rattle.std.specs.Prelude.{slice_get}
 use Rattle.std.proofs.lemmas.List.Elements.{Contains-append_left, Contains-append_right, Contains-append_cases}
 use Rattle.std.proofs.lemmas.Bool.{cases_lt}
 use Rattle.std.proofs.lemmas.Option.{none-some, same_Some}
 use Rattle.model.specs.Programs.{Program}
 use Rattle.guard_prep.specs.Prepared.{Prepared}
-use Rattle.proof_setting.specs.Setting.{bent_at}
+use Rattle.proof_tree.specs.proof_setting.Setting.{bent_at}
 use Rattle.its_graph.proofs.Elements.{Contains-cons_cases, Contains-first, Contains-later, none_in_empty, only_element}
 use Rattle.its_graph.proofs.PairLists.{Pair, same_pair, pair-cases, pair-later}
-use Rattle.local_size.specs.LocalAnswers.{local_seen}
+use Rattle.local_size.specs.LocalAnswers.{local_answer_of}
 use Rattle.local_size.specs.declared.answer.LocalAnswer.{LocalAnswer}
 use Rattle.rvg_components.specs.Listing.{is_flagged}
 use Rattle.rvg_components.specs.Reading.{answer_reads}
-use Rattle.rvg_components.specs.Edges.{edges_from, edges_to, edges_into, first_of, firsts_of, Known, edges_at, live_edges_at, edges_below}
+use Rattle.rvg_components.specs.Edges.{edges_from, edges_to, edges_into, first_of, firsts_of, FlowInputs, edges_at}
+use Rattle.rvg_components.specs.Edges.{live_edges_at, edges_below}
 
 -- an edge to a place from a place that is read, of a rule with one of these first places
 pub record EdgeTo (to : ℕ) (before places : List ℕ) (a b : ℕ) : Type 0 where
@@ -88,7 +90,7 @@ to-listed to before (i ∷ places) x j h r = go (Contains-cons_cases i places j 
 
 -- what the answer at a place reads
 abbrev pub read_at : Prepared → ℕ → LocalAnswer → List ℕ
-read_at m i answer = answer_reads (bent_at m.polys i) (local_seen answer) m.left
+read_at m i answer = answer_reads (bent_at m.polys i) (local_answer_of answer) m.left
 
 -- an edge to a place of a rule with these answers, the first of which is that of place i
 pub record EdgeInto (m : Prepared) (before : List ℕ) (first i : ℕ) (answers : List LocalAnswer) (a b : ℕ) : Type 0 where
@@ -187,14 +189,14 @@ firsts-listed live firsts (d ∷ es) e h f = go (Contains-cons_cases d es e h) (
     go (inr l) ih = Contains-append_right (cond (is_flagged live d) (first_of firsts d ∷ []) []) (firsts_of live firsts es) (first_of firsts e) (ih l)
 
 -- the edges to a place of a live rule below a position
-pub record EdgeBelow (p : Program) (known : Known) (n : ℕ) (e : Pair) : Type 0 where
+pub record EdgeBelow (p : Program) (known : FlowInputs) (n : ℕ) (e : Pair) : Type 0 where
   pub position : ℕ
   pub below : position < n
   pub live : get_or known.live position false ≡ true
   pub edge : Contains (edges_at p known position) e
 
 -- each edge of the list is one
-pub below-told : (p : Program) (known : Known) (n : ℕ) (e : Pair) → Contains (edges_below p known n) e → EdgeBelow p known n e
+pub below-told : (p : Program) (known : FlowInputs) (n : ℕ) (e : Pair) → Contains (edges_below p known n) e → EdgeBelow p known n e
 below-told p known zero e h = absurd (none_in_empty e h)
 below-told p known (suc k) e h = go (Contains-append_cases (edges_below p known k) (live_edges_at p known k) e h) (λ l. below-told p known k e l)
   where
@@ -210,7 +212,7 @@ below-told p known (suc k) e h = go (Contains-append_cases (edges_below p known 
     go (inr l) ih = here (get_or known.live k false) refl l
 
 -- and each such edge is listed
-pub below-listed : (p : Program) (known : Known) (n k : ℕ) (e : Pair) → k < n → get_or known.live k false ≡ true → Contains (edges_at p known k) e → Contains (edges_below p known n) e
+pub below-listed : (p : Program) (known : FlowInputs) (n k : ℕ) (e : Pair) → k < n → get_or known.live k false ≡ true → Contains (edges_at p known k) e → Contains (edges_below p known n) e
 below-listed p known zero k e low is h = absurd (omega (arith, low))
 below-listed p known (suc n) k e low is h = go (cases_lt k n) (λ l. below-listed p known n k e l is h)
   where

@@ -1,5 +1,6 @@
 -- The edges that are made are those along which values flow.
-use Rattle.std.proofs.Common.{◌≡◌, ◌⊎◌, inl, inr, ℕ, suc, ◌+◌, ◌-◌, ◌<◌, ◌≤◌, ◌&&◌, Bool, true, false, cond, List, [], length, get_or, map, Contains, Option, Some, None, Vec, refl, sym, ◌∙◌, ap, subst, arith}
+use Rattle.std.proofs.Common.{◌≡◌, ◌⊎◌, inl, inr, ℕ, suc, ◌+◌, ◌-◌, ◌<◌, ◌≤◌, ◌&&◌, Bool, true, false, cond, List, []}
+use Rattle.std.proofs.Common.{length, get_or, map, Contains, Option, Some, None, Vec, refl, sym, ◌∙◌, ap, subst, arith}
 use Rattle.std.specs.Prelude.{slice_get}
 use Rattle.std.specs.declared.alloc.Global.{Global}
 use Rattle.std.proofs.lemmas.Option.{slice_get_within, slice_get_cases}
@@ -9,29 +10,33 @@ use Rattle.model.specs.Paths.{pre}
 use Rattle.model.specs.Entries.{is_in}
 use Rattle.model.specs.Polynomials.{Polynomial}
 use Rattle.model.proofs.Membership.{contains-is_in, is_in-contained, no_is_not_yes}
-use Rattle.its_model.proofs.ValidLaws.{rule-valid}
+use Rattle.guard_prep.proofs.its_model.ValidLaws.{rule-valid}
 use Rattle.guard_prep.specs.declared.rule_rows.RuleRows.{RuleRows}
 use Rattle.guard_prep.specs.Prepared.{Prepared}
 use Rattle.guard_prep.specs.Views.{prepared_of}
 use Rattle.its_graph.specs.declared.graph.Graph.{Graph}
 use Rattle.its_graph.specs.Groups.{IsPair}
 use Rattle.its_graph.proofs.PairLists.{Pair, same_pair}
-use Rattle.proof_nodes.specs.Nodes.{Spot}
-use Rattle.proof_nodes.specs.ComposedSizes.{poly_at}
-use Rattle.proof_setting.specs.Setting.{setting_of, polys_in, bent_at}
-use Rattle.local_size.specs.LocalAnswers.{Local, local_seen}
+use Rattle.proof_tree.specs.proof_nodes.Nodes.{Spot}
+use Rattle.proof_tree.specs.proof_nodes.ComposedSizes.{poly_at}
+use Rattle.proof_tree.specs.proof_setting.Setting.{setting_of, polys_in, bent_at}
+use Rattle.local_size.specs.LocalAnswers.{Local, local_answer_of}
 use Rattle.local_size.specs.declared.answer.LocalAnswer.{LocalAnswer}
 use Rattle.rvg_components.specs.Flows.{Locals, value_flows, local_reads}
-use Rattle.rvg_components.specs.Listing.{AreAnswersGiven, answer_lists, is_flagged, local_from, local_in, spot_at, HasFlow}
+use Rattle.rvg_components.specs.Listing.{AreAnswersOfProgram, answer_lists, is_flagged, local_from, local_in, spot_at}
+use Rattle.rvg_components.specs.Listing.{HasFlow}
 use Rattle.rvg_components.specs.Numbering.{widths, firsts_from, spots_by_width}
 use Rattle.rvg_components.specs.Reading.{answer_reads}
 use Rattle.rvg_components.specs.Edges.{first_of, firsts_of, edges_at, edges_below, no_rows}
-use Rattle.rvg_components.specs.Fitting.{known_of}
+use Rattle.rvg_components.specs.Fitting.{flow_inputs_of}
 use Rattle.rvg_components.specs.FlowGraphs.{IsFlowGraph}
-use Rattle.rvg_components.proofs.Numbers.{spot_in, spots-length, widths-length, widths-at, width-live, IsAt, at-position, PlaceAt, place-at}
-use Rattle.rvg_components.proofs.EdgeLists.{EdgeTo, read_at, EdgeInto, into-told, into-listed, FirstOf, firsts-told, firsts-listed, EdgeBelow, below-told, below-listed}
+use Rattle.rvg_components.proofs.Numbers.{spot_in, spots-length, widths-length, widths-at, width-live, IsAt}
+use Rattle.rvg_components.proofs.Numbers.{at-position, PlaceAt, place-at}
+use Rattle.rvg_components.proofs.EdgeLists.{EdgeTo, read_at, EdgeInto, into-told, into-listed, FirstOf, firsts-told}
+use Rattle.rvg_components.proofs.EdgeLists.{firsts-listed, EdgeBelow, below-told, below-listed}
 use Rattle.rvg_components.proofs.ReadPlaces.{read-told, read-listed}
-use Rattle.rvg_components.proofs.Given.{flag-within, RuleBefore, lists-long, rule-here, rows-here, answers-here, widths-few, live-spots, rule-before}
+use Rattle.rvg_components.proofs.ProgramAnswers.{flag-within, RuleBefore, lists-long, rule-here, rows-here}
+use Rattle.rvg_components.proofs.ProgramAnswers.{answers-here, widths-few, live-spots, rule-before}
 use Rattle.std.proofs.lemmas.Bool.{and_from as both}
 
 -- the first of two that hold
@@ -45,7 +50,7 @@ second-holds true b h = h
 second-holds false b h = absurd (no_is_not_yes false refl h)
 
 module _ (p : Program) (g : Graph) (preps : List RuleRows) (locals : List (Vec LocalAnswer Global)) (live : List Bool)
-    (given : AreAnswersGiven p g preps (answer_lists locals) live) where
+    (given : AreAnswersOfProgram p g preps (answer_lists locals) live) where
   -- how many places each rule has
   abbrev ws : List ℕ
   ws = widths (answer_lists locals) live
@@ -109,12 +114,12 @@ module _ (p : Program) (g : Graph) (preps : List RuleRows) (locals : List (Vec L
 
   -- so what is listed as read is what is read there
   reads-here : (k n : ℕ) (r : Rule) (answer : LocalAnswer) → rule_at p (suc k) ≡ Some r
-      → read_at (rows_at k) n answer ≡ answer_reads (poly_at (setting_of p) (spot_in (suc k) n)) (local_seen answer) r.left
-  reads-here k n r answer here = ap (λ (q : Option Polynomial). answer_reads q (local_seen answer) (rows_at k).left) (poly-here k n r here)
-      ∙ ap (λ (left : ℕ). answer_reads (poly_at (setting_of p) (spot_in (suc k) n)) (local_seen answer) left) (left-here k r here)
+      → read_at (rows_at k) n answer ≡ answer_reads (poly_at (setting_of p) (spot_in (suc k) n)) (local_answer_of answer) r.left
+  reads-here k n r answer here = ap (λ (q : Option Polynomial). answer_reads q (local_answer_of answer) (rows_at k).left) (poly-here k n r here)
+      ∙ ap (λ (left : ℕ). answer_reads (poly_at (setting_of p) (spot_in (suc k) n)) (local_answer_of answer) left) (left-here k r here)
 
   -- the answer of a place
-  answer-here : (k n : ℕ) (answer : LocalAnswer) → slice_get (answers_at k) n ≡ Some answer → local (suc k) (suc n) ≡ local_seen answer
+  answer-here : (k n : ℕ) (answer : LocalAnswer) → slice_get (answers_at k) n ≡ Some answer → local (suc k) (suc n) ≡ local_answer_of answer
   answer-here k n answer there = ap local_in there
 
   -- a rule that comes before has as many places as the other has left variables
@@ -138,21 +143,21 @@ module _ (p : Program) (g : Graph) (preps : List RuleRows) (locals : List (Vec L
 
   -- a value flows from a place that is read
   flow-from : (k n e j : ℕ) (answer : LocalAnswer) → slice_get (answers_at k) n ≡ Some answer → Contains (pre p (suc k)) (suc e)
-      → local_reads (setting_of p) (spot_in (suc k) n) (local_seen answer) j ≡ true
+      → local_reads (setting_of p) (spot_in (suc k) n) (local_answer_of answer) j ≡ true
       → value_flows (setting_of p) local (spot_in (suc e) j) (spot_in (suc k) n) ≡ true
   flow-from k n e j answer there among read =
       into-plain k n e j ∙ both (is_in (suc e) (pre p (suc k))) (local_reads (setting_of p) (spot_in (suc k) n) (local (suc k) (suc n)) j)
       (is_in-contained (pre p (suc k)) (suc e) among) (ap (λ (a : Local). local_reads (setting_of p) (spot_in (suc k) n) a j) (answer-here k n answer there) ∙ read)
 
   -- an edge is a flow
-  edge-flows : (a b : ℕ) → IsPair (edges_below p (known_of preps locals live firsts) (length live)) a b → HasFlow (setting_of p) local spots a b
-  edge-flows a b h = below (below-told p (known_of preps locals live firsts) (length live) (a, b) h)
+  edge-flows : (a b : ℕ) → IsPair (edges_below p (flow_inputs_of preps locals live firsts) (length live)) a b → HasFlow (setting_of p) local spots a b
+  edge-flows a b h = below (below-told p (flow_inputs_of preps locals live firsts) (length live) (a, b) h)
     where
       flow : (k n e j : ℕ) (answer : LocalAnswer) (r : Rule) → get_or live k false ≡ true → get_or live e false ≡ true → slice_get (answers_at k) n ≡ Some answer
           → rule_at p (suc k) ≡ Some r → Contains (pre p (suc k)) (suc e) → Contains (read_at (rows_at k) n answer) j
           → a ≡ get_or firsts e 0 + j → b ≡ get_or firsts k 0 + n → HasFlow (setting_of p) local spots a b
       flow k n e j answer r is before there here among read from into =
-          let told = read-told (setting_of p) (spot_in (suc k) n) (local_seen answer) r.left j (subst (λ (js : List ℕ). Contains js j) (reads-here k n r answer here) read) in
+          let told = read-told (setting_of p) (spot_in (suc k) n) (local_answer_of answer) r.left j (subst (λ (js : List ℕ). Contains js j) (reads-here k n r answer here) read) in
           let source : Node e j a = node e j a before (omega (arith, told.0, left-width k e r here among before)) from in
           let sink : Node k n b = node k n b is (slice_get_within (answers_at k) n answer there) into in
           record {
@@ -185,33 +190,33 @@ module _ (p : Program) (g : Graph) (preps : List RuleRows) (locals : List (Vec L
           go : (r : Rule) × (rule_at p (suc k) ≡ Some r) → HasFlow (setting_of p) local spots a b
           go (r, here) = before-rule k i.position i.answer r is i.there here edge (firsts-told live firsts (pre p (suc k)) edge.first edge.among)
 
-      below : EdgeBelow p (known_of preps locals live firsts) (length live) (a, b) → HasFlow (setting_of p) local spots a b
+      below : EdgeBelow p (flow_inputs_of preps locals live firsts) (length live) (a, b) → HasFlow (setting_of p) local spots a b
       below e = into e.position e.live (into-told (rows_at e.position) (firsts_of live firsts (pre p (suc e.position))) (get_or firsts e.position 0) 0 (answers_at e.position) a b e.edge)
 
   -- a flow is an edge
-  flow-edges : (a b : ℕ) → HasFlow (setting_of p) local spots a b → IsPair (edges_below p (known_of preps locals live firsts) (length live)) a b
+  flow-edges : (a b : ℕ) → HasFlow (setting_of p) local spots a b → IsPair (edges_below p (flow_inputs_of preps locals live firsts) (length live)) a b
   flow-edges a b h = go (place-at 0 1 ws a h.from) (place-at 0 1 ws b h.to)
     where
       edge : (k n e j : ℕ) (answer : LocalAnswer) (r : Rule) → get_or live k false ≡ true → get_or live e false ≡ true → slice_get (answers_at k) n ≡ Some answer
           → rule_at p (suc k) ≡ Some r → Contains (pre p (suc k)) (suc e) → j < length (answers_at e)
-          → local_reads (setting_of p) (spot_in (suc k) n) (local_seen answer) j ≡ true
-          → get_or firsts e 0 + j ≡ a → get_or firsts k 0 + n ≡ b → IsPair (edges_below p (known_of preps locals live firsts) (length live)) a b
+          → local_reads (setting_of p) (spot_in (suc k) n) (local_answer_of answer) j ≡ true
+          → get_or firsts e 0 + j ≡ a → get_or firsts k 0 + n ≡ b → IsPair (edges_below p (flow_inputs_of preps locals live firsts) (length live)) a b
       edge k n e j answer r is before there here among low read from into =
           let plain : get_or firsts k 0 + (0 + n) ≡ b = omega (arith, into) in
           let listed : Contains (read_at (rows_at k) n answer) j = subst (λ (js : List ℕ). Contains js j) (sym (reads-here k n r answer here))
-          (read-listed (setting_of p) (spot_in (suc k) n) (local_seen answer) r.left j (omega (arith, low, left-width k e r here among before)) read) in
+          (read-listed (setting_of p) (spot_in (suc k) n) (local_answer_of answer) r.left j (omega (arith, low, left-width k e r here among before)) read) in
           let none : n ≡ 0 + n = omega arith in
-          let there_edge : Contains (edges_at p (known_of preps locals live firsts) k) (get_or firsts e 0 + j, get_or firsts k 0 + (0 + n)) =
+          let there_edge : Contains (edges_at p (flow_inputs_of preps locals live firsts) k) (get_or firsts e 0 + j, get_or firsts k 0 + (0 + n)) =
           into-listed (rows_at k) (firsts_of live firsts (pre p (suc k))) (get_or firsts k 0) 0 (answers_at k) n answer (get_or firsts e 0) j there
           (firsts-listed live firsts (pre p (suc k)) (suc e) among before) (subst (λ (i : ℕ). Contains (read_at (rows_at k) i answer) j) none listed) in
-          below-listed p (known_of preps locals live firsts) (length live) k (a, b) (flag-within live k is) is
-          (subst (λ (x : Pair). Contains (edges_at p (known_of preps locals live firsts) k) x) (same_pair (get_or firsts e 0 + j, get_or firsts k 0 + (0 + n)) a b from plain) there_edge)
+          below-listed p (flow_inputs_of preps locals live firsts) (length live) k (a, b) (flag-within live k is) is
+          (subst (λ (x : Pair). Contains (edges_at p (flow_inputs_of preps locals live firsts) k) x) (same_pair (get_or firsts e 0 + j, get_or firsts k 0 + (0 + n)) a b from plain) there_edge)
 
       by : (q : PlaceAt 0 1 ws a) (s : PlaceAt 0 1 ws b) → (get_or live q.rule false ≡ true) × (q.place < length (answers_at q.rule))
           → (get_or live s.rule false ≡ true) × (s.place < length (answers_at s.rule)) → (r : Rule) × (rule_at p (suc s.rule) ≡ Some r)
           → ((x : LocalAnswer) × (s.place < length (answers_at s.rule)) × (slice_get (answers_at s.rule) s.place ≡ Some x) × (get_or (answers_at s.rule) s.place x ≡ x))
           ⊎ ((length (answers_at s.rule) ≤ s.place) × (slice_get (answers_at s.rule) s.place ≡ None))
-          → IsPair (edges_below p (known_of preps locals live firsts) (length live)) a b
+          → IsPair (edges_below p (flow_inputs_of preps locals live firsts) (length live)) a b
       by q s (before, low) (is, inside) rule (inr (past, none)) = absurd (omega (arith, inside, past))
       by q s (before, low) (is, inside) (r, here) (inl (answer, within, there, same)) =
           let flows : (is_in (suc q.rule) (pre p (suc s.rule)) && local_reads (setting_of p) (spot_in (suc s.rule) s.place) (local (suc s.rule) (suc s.place)) q.place) ≡ true =
@@ -219,7 +224,7 @@ module _ (p : Program) (g : Graph) (preps : List RuleRows) (locals : List (Vec L
           ∙ ap (λ (m : Spot). value_flows (setting_of p) local (spot_in (suc q.rule) q.place) m) (stands s.rule s.place b s.at)) ∙ h.flow) in
           let among : Contains (pre p (suc s.rule)) (suc q.rule) = contains-is_in (pre p (suc s.rule)) (suc q.rule)
           (first-holds (is_in (suc q.rule) (pre p (suc s.rule))) (local_reads (setting_of p) (spot_in (suc s.rule) s.place) (local (suc s.rule) (suc s.place)) q.place) flows) in
-          let read : local_reads (setting_of p) (spot_in (suc s.rule) s.place) (local_seen answer) q.place ≡ true =
+          let read : local_reads (setting_of p) (spot_in (suc s.rule) s.place) (local_answer_of answer) q.place ≡ true =
           sym (ap (λ (x : Local). local_reads (setting_of p) (spot_in (suc s.rule) s.place) x q.place) (answer-here s.rule s.place answer there))
           ∙ second-holds (is_in (suc q.rule) (pre p (suc s.rule))) (local_reads (setting_of p) (spot_in (suc s.rule) s.place) (local (suc s.rule) (suc s.place)) q.place) flows in
           let from : get_or firsts q.rule 0 + q.place ≡ a = omega (arith, q.at.number) in
@@ -230,12 +235,12 @@ module _ (p : Program) (g : Graph) (preps : List RuleRows) (locals : List (Vec L
       live-at x q = width-live (get_or live q.rule false) (length (answers_at q.rule)) q.place
           (omega (arith, q.place_within, widths-at (answer_lists locals) live q.rule (lists-long p g preps locals live given)))
 
-      go : PlaceAt 0 1 ws a → PlaceAt 0 1 ws b → IsPair (edges_below p (known_of preps locals live firsts) (length live)) a b
+      go : PlaceAt 0 1 ws a → PlaceAt 0 1 ws b → IsPair (edges_below p (flow_inputs_of preps locals live firsts) (length live)) a b
       go q s = by q s (live-at a q) (live-at b s) (rule-here p g preps locals live given s.rule (flag-within live s.rule (live-at b s).0))
           (slice_get_cases (answers_at s.rule) s.place).1
 
   -- so they make the graph of places
-  pub flow-graph : (found : List Spot) (edges : List Pair) → found ≡ spots → edges ≡ edges_below p (known_of preps locals live firsts) (length live)
+  pub flow-graph : (found : List Spot) (edges : List Pair) → found ≡ spots → edges ≡ edges_below p (flow_inputs_of preps locals live firsts) (length live)
       → IsFlowGraph (setting_of p) (is_flagged live) local found edges
   flow-graph found edges places made = record {
     places = places ∙ sym (live-spots p g preps locals live given);

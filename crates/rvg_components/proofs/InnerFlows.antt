@@ -1,5 +1,6 @@
 -- Which components loop: those with two nodes, and those whose only node has an edge to itself.
-use Rattle.std.proofs.Common.{◌≡◌, ◌⊎◌, inl, inr, ◌↔◌, ℕ, zero, ◌<◌, ◌||◌, ◌==◌, Bool, true, false, cond, List, [], ◌∷◌, length, get_or, set, replicate, map, All, Contains, refl, sym, ◌∙◌, ap, subst, arith}
+use Rattle.std.proofs.Common.{◌≡◌, ◌⊎◌, inl, inr, ◌↔◌, ℕ, zero, ◌<◌, ◌||◌, ◌==◌, Bool, true, false, cond, List, [], ◌∷◌}
+use Rattle.std.proofs.Common.{length, get_or, set, replicate, map, All, Contains, refl, sym, ◌∙◌, ap, subst, arith}
 use Rattle.std.specs.List.{list_any}
 use Rattle.std.proofs.lemmas.Bool.{or_left, or_right}
 use Rattle.std.proofs.lemmas.List.{length-set, get_or-set_same, get_or-set_other, get_or-replicate, length-replicate}
@@ -7,8 +8,8 @@ use Rattle.model.proofs.Membership.{no_is_not_yes, same_number}
 use Rattle.its_graph.proofs.Elements.{Contains-cons_cases, Contains-first, Told, told, none_in_empty}
 use Rattle.its_graph.proofs.PairLists.{Pair, same_pair, pair-cases, pair-later}
 use Rattle.its_graph.specs.Components.{IsNext}
-use Rattle.proof_nodes.specs.Nodes.{Spot}
-use Rattle.proof_nodes.specs.Setting.{Setting}
+use Rattle.proof_tree.specs.proof_nodes.Nodes.{Spot}
+use Rattle.proof_tree.specs.proof_nodes.Setting.{Setting}
 use Rattle.rvg_components.specs.Flows.{Locals, value_flows, loops}
 use Rattle.rvg_components.specs.Listing.{spot_at, HasFlow}
 use Rattle.rvg_components.specs.Inside.{marked, has_inside}

@@ -2,9 +2,9 @@ pub mod Numbers
 pub mod Places
 pub mod EdgeLists
 pub mod ReadPlaces
-pub mod Given
+pub mod ProgramAnswers
 pub mod FlowLaws
 pub mod Listings
 pub mod InnerFlows
-pub mod Found
+pub mod FlowComponents
 pub mod WorkedFlows

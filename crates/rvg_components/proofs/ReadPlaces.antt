@@ -1,16 +1,19 @@
 -- The listed places are those that the answer reads.
-use Rattle.std.proofs.Common.{◌≡◌, ◌⊎◌, inl, inr, ℕ, ◌+◌, ◌<◌, ◌≤◌, ◌||◌, Bool, true, false, cond, List, [], ◌∷◌, ◌++◌, get_or, filter, All, Contains, Option, refl, sym, ◌∙◌, ap, arith}
+use Rattle.std.proofs.Common.{◌≡◌, ◌⊎◌, inl, inr, ℕ, ◌+◌, ◌<◌, ◌≤◌, ◌||◌, Bool, true, false, cond, List, [], ◌∷◌, ◌++◌}
+use Rattle.std.proofs.Common.{get_or, filter, All, Contains, Option, refl, sym, ◌∙◌, ap, arith}
 use Rattle.std.specs.List.{range_with_len}
 use Rattle.std.proofs.lemmas.Bool.{or_left, or_right}
-use Rattle.std.proofs.lemmas.List.Elements.{All-nil, All-append, All-from_get_or, Contains-get_or, filter-append, Contains-append_left, Contains-append_right, Contains-append_cases}
+use Rattle.std.proofs.lemmas.List.Elements.{All-nil, All-append, All-from_get_or, Contains-get_or, filter-append}
+use Rattle.std.proofs.lemmas.List.Elements.{Contains-append_left, Contains-append_right, Contains-append_cases}
 use Rattle.std.proofs.lemmas.List.FromFn.{length-range_with_len, get_or-range_with_len, map-range_with_len_more}
 use Rattle.std.proofs.lemmas.List.{map-id, append_assoc}
 use Rattle.model.specs.Entries.{is_in}
 use Rattle.model.specs.Polynomials.{Polynomial}
-use Rattle.model.proofs.Membership.{is_in-filter, filter-in, contains-is_in, is_in-contained, is_in-numbers, no_is_not_yes}
-use Rattle.proof_nodes.specs.Nodes.{Spot, Arm}
-use Rattle.proof_nodes.specs.Setting.{Setting}
-use Rattle.proof_nodes.specs.ComposedSizes.{reads, poly_at}
+use Rattle.model.proofs.Membership.{is_in-filter, filter-in, contains-is_in, is_in-contained, is_in-numbers}
+use Rattle.model.proofs.Membership.{no_is_not_yes}
+use Rattle.proof_tree.specs.proof_nodes.Nodes.{Spot, Arm}
+use Rattle.proof_tree.specs.proof_nodes.Setting.{Setting}
+use Rattle.proof_tree.specs.proof_nodes.ComposedSizes.{reads, poly_at}
 use Rattle.its_graph.proofs.Elements.{none_in_empty}
 use Rattle.local_size.specs.LocalAnswers.{Local, HasBound, IsLooseOn, HasTripped}
 use Rattle.rvg_components.specs.Flows.{local_reads}

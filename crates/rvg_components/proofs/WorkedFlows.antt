@@ -2,14 +2,14 @@
 use Rattle.std.proofs.Common.{◌≡◌, ℕ, zero, suc, ◌<◌, true, false, List, [], ◌∷◌, length, map, refl, ◌∙◌}
 use Rattle.std.proofs.Common.{ap, subst, arith}
 use Rattle.its_graph.specs.Components.{IsListing}
-use Rattle.its_graph.specs.WorkedComponents.{Loop, Backward, ListingsAreTold}
+use Rattle.its_graph.specs.WorkedComponents.{Loop, Backward, ListingsAreWorkedOut}
 use Rattle.its_graph.proofs.PairLists.{Pair}
 use Rattle.its_graph.proofs.Uniqueness.{one_listing}
-use Rattle.proof_nodes.specs.Nodes.{Spot}
-use Rattle.proof_nodes.specs.Setting.{Setting}
+use Rattle.proof_tree.specs.proof_nodes.Nodes.{Spot}
+use Rattle.proof_tree.specs.proof_nodes.Setting.{Setting}
 use Rattle.rvg_components.specs.Flows.{value_flows, live_spots}
 use Rattle.rvg_components.specs.Listing.{spot_at, HasFlow, AreComponents}
-use Rattle.rvg_components.specs.WorkedFlows.{spot, all_read, all_live, ring, last_first, FlowComponentsAreTold}
+use Rattle.rvg_components.specs.WorkedFlows.{spot, all_read, all_live, ring, last_first, FlowComponentsAreWorkedOut}
 use Rattle.rvg_components.proofs.Listings.{listing-same}
 
 -- no isn't yes
@@ -104,7 +104,7 @@ abbrev AreSame : List (List ℕ) → List (List ℕ) → Type 0
 AreSame a b = a ≡ b
 
 -- components and their order are as worked out, where those of the graphs by numbers are
-pub components_told : ListingsAreTold → FlowComponentsAreTold
+pub components_told : ListingsAreWorkedOut → FlowComponentsAreWorkedOut
 components_told told = record {
   round = record {
     positions = (0 ∷ []) ∷ (1 ∷ 2 ∷ []) ∷ [];

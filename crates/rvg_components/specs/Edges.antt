@@ -3,8 +3,8 @@ use Rattle.std.specs.Prelude.{ℕ, zero, suc, ◌+◌, Bool, false, cond, List, 
 use Rattle.model.specs.Programs.{Program}
 use Rattle.model.specs.Paths.{pre}
 use Rattle.guard_prep.specs.Prepared.{Prepared}
-use Rattle.proof_setting.specs.Setting.{bent_at}
-use Rattle.local_size.specs.LocalAnswers.{local_seen}
+use Rattle.proof_tree.specs.proof_setting.Setting.{bent_at}
+use Rattle.local_size.specs.LocalAnswers.{local_answer_of}
 use Rattle.local_size.specs.declared.answer.LocalAnswer.{LocalAnswer}
 use Rattle.rvg_components.specs.Listing.{is_flagged}
 use Rattle.rvg_components.specs.Reading.{answer_reads}
@@ -22,7 +22,7 @@ edges_to to before (j ∷ js) = edges_from j to before ++ edges_to to before js
 abbrev pub edges_into : Prepared → List ℕ → ℕ → ℕ → List LocalAnswer → List (ℕ × ℕ)
 edges_into m before first i [] = []
 edges_into m before first i (a ∷ answers) =
-    edges_to (first + i) before (answer_reads (bent_at m.polys i) (local_seen a) m.left)
+    edges_to (first + i) before (answer_reads (bent_at m.polys i) (local_answer_of a) m.left)
     ++ edges_into m before first (suc i) answers
 
 -- the first place of a rule
@@ -36,7 +36,7 @@ firsts_of live firsts [] = []
 firsts_of live firsts (e ∷ es) = cond (is_flagged live e) (first_of firsts e ∷ []) [] ++ firsts_of live firsts es
 
 -- what is known of each rule: its rows, the answers for its places, whether it is live, and its first place
-pub record Known : Type 0 where
+pub record FlowInputs : Type 0 where
   pub rows : List Prepared
   pub locals : List (List LocalAnswer)
   pub live : List Bool
@@ -47,16 +47,16 @@ abbrev pub no_rows : Prepared
 no_rows = record { left = 0; unknowns = 0; rows = []; news = []; bent = []; polys = [] }
 
 -- the edges to the places of the rule at a position, numbered from 0
-abbrev pub edges_at : Program → Known → ℕ → List (ℕ × ℕ)
+abbrev pub edges_at : Program → FlowInputs → ℕ → List (ℕ × ℕ)
 edges_at p known k =
     edges_into (slice_index_or known.rows k no_rows) (firsts_of known.live known.firsts (pre p (suc k)))
     (slice_index_or known.firsts k 0) 0 (slice_index_or known.locals k [])
 
 -- and none where it isn't live
-abbrev pub live_edges_at : Program → Known → ℕ → List (ℕ × ℕ)
+abbrev pub live_edges_at : Program → FlowInputs → ℕ → List (ℕ × ℕ)
 live_edges_at p known k = cond (slice_index_or known.live k false) (edges_at p known k) []
 
 -- those of the rules below a position
-abbrev pub edges_below : Program → Known → ℕ → List (ℕ × ℕ)
+abbrev pub edges_below : Program → FlowInputs → ℕ → List (ℕ × ℕ)
 edges_below p known zero = []
 edges_below p known (suc k) = edges_below p known k ++ live_edges_at p known k

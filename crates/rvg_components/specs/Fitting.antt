@@ -5,11 +5,11 @@ use Rattle.guard_prep.specs.declared.rule_rows.RuleRows.{RuleRows}
 use Rattle.guard_prep.specs.Views.{prepared_of}
 use Rattle.local_size.specs.declared.answer.LocalAnswer.{LocalAnswer}
 use Rattle.rvg_components.specs.Listing.{answer_lists}
-use Rattle.rvg_components.specs.Edges.{Known}
+use Rattle.rvg_components.specs.Edges.{FlowInputs}
 
 -- what is known, as plain data
-abbrev pub known_of : List RuleRows → List (Vec LocalAnswer Global) → List Bool → List ℕ → Known
-known_of preps locals live firsts = record {
+abbrev pub flow_inputs_of : List RuleRows → List (Vec LocalAnswer Global) → List Bool → List ℕ → FlowInputs
+flow_inputs_of preps locals live firsts = record {
   rows = map prepared_of preps;
   locals = answer_lists locals;
   live = live;
@@ -17,7 +17,7 @@ known_of preps locals live firsts = record {
 }
 
 -- there is one of each for each rule, and the numbers of left variables and of the places of live rules are small
-pub record IsFitting (known : Known) (rules : ℕ) : Type 0 where
+pub record IsFitting (known : FlowInputs) (rules : ℕ) : Type 0 where
   pub rows : length known.rows ≡ rules
   pub locals : length known.locals ≡ rules
   pub live : length known.live ≡ rules

@@ -4,10 +4,10 @@ use Rattle.std.specs.List.{list_any, range_with_len}
 use Rattle.model.specs.Programs.{Program}
 use Rattle.model.specs.Paths.{pre, target_of}
 use Rattle.model.specs.Entries.{is_in}
-use Rattle.proof_nodes.specs.Nodes.{Spot}
-use Rattle.proof_nodes.specs.AcceptsPlain.{places_at}
-use Rattle.proof_nodes.specs.ComposedSizes.{reads, poly_at}
-use Rattle.proof_nodes.specs.Setting.{Setting}
+use Rattle.proof_tree.specs.proof_nodes.Nodes.{Spot}
+use Rattle.proof_tree.specs.proof_nodes.AcceptsPlain.{places_at}
+use Rattle.proof_tree.specs.proof_nodes.ComposedSizes.{reads, poly_at}
+use Rattle.proof_tree.specs.proof_nodes.Setting.{Setting}
 use Rattle.local_size.specs.LocalAnswers.{Local, HasBound, IsLooseOn, HasTripped}
 
 -- what is answered of the place of a rule

@@ -2,14 +2,14 @@
 use Rattle.std.specs.Prelude.{◌≡◌, ℕ, zero, suc, ◌<◌, Bool, true, false, List, [], map, length, Option, Some, None}
 use Rattle.std.specs.Prelude.{slice_index_or, slice_get}
 use Rattle.model.specs.Programs.{Program, Rule, rule_at, arity_of}
-use Rattle.proof_nodes.specs.Nodes.{Spot}
-use Rattle.proof_nodes.specs.Setting.{Setting}
-use Rattle.proof_nodes.specs.AcceptsSizes.{Up}
-use Rattle.local_size.specs.LocalAnswers.{Local, IsLooseOn, local_seen}
+use Rattle.proof_tree.specs.proof_nodes.Nodes.{Spot}
+use Rattle.proof_tree.specs.proof_nodes.Setting.{Setting}
+use Rattle.proof_tree.specs.proof_nodes.AcceptsSizes.{Up}
+use Rattle.local_size.specs.LocalAnswers.{Local, IsLooseOn, local_answer_of}
 use Rattle.local_size.specs.declared.answer.LocalAnswer.{LocalAnswer}
 use Rattle.std.specs.Prelude.{Vec}
 use Rattle.std.specs.declared.alloc.Global.{Global}
-use Rattle.its_model.specs.Valid.{IsValid}
+use Rattle.guard_prep.specs.its_model.Valid.{IsValid}
 use Rattle.its_graph.specs.Graphs.{IsGraphOf}
 use Rattle.its_graph.specs.declared.graph.Graph.{Graph}
 use Rattle.guard_prep.specs.declared.rule_rows.RuleRows.{RuleRows}
@@ -50,7 +50,7 @@ SaysWhetherItLoops s local c = c.looping ≡ loops s local (members_of c)
 -- the answer at a position of a list of answers, as plain data; where there is none, nothing flows into the place
 abbrev pub local_in : Option LocalAnswer → Local
 local_in None = IsLooseOn Up [] (record { parts = []; den = 0 })
-local_in (Some a) = local_seen a
+local_in (Some a) = local_answer_of a
 
 -- the answers for the places of a rule, and for its place with a number, from 1, as lists hold them
 abbrev pub answers_for : List (List LocalAnswer) → ℕ → List LocalAnswer
@@ -74,7 +74,7 @@ pub record AreLocalsFor (p : Program) (locals : List (List LocalAnswer)) (live :
       → length (answers_for locals t) ≡ arity_of p r.target
 
 -- what is handed in: the graph and the rows of a valid program, with answers and flags for its rules
-pub record AreAnswersGiven (p : Program) (g : Graph) (preps : List RuleRows) (locals : List (List LocalAnswer))
+pub record AreAnswersOfProgram (p : Program) (g : Graph) (preps : List RuleRows) (locals : List (List LocalAnswer))
     (live : List Bool) : Type 0 where
   pub valid : IsValid p
   pub graph : IsGraphOf g p

@@ -1,7 +1,7 @@
 -- The places of live rules, numbered in the order of rules and places.
 use Rattle.std.specs.Prelude.{ℕ, suc, ◌+◌, Bool, cond, List, [], ◌∷◌, ◌++◌, map, length}
 use Rattle.std.specs.List.{range_with_len}
-use Rattle.proof_nodes.specs.Nodes.{Spot}
+use Rattle.proof_tree.specs.proof_nodes.Nodes.{Spot}
 use Rattle.local_size.specs.declared.answer.LocalAnswer.{LocalAnswer}
 
 -- how many places each rule has: if it is live, as many as answers, and else none

@@ -3,13 +3,13 @@
 use Rattle.std.specs.Prelude.{◌≡◌, ℕ, ◌==◌, Bool, true, false, cond, [], ◌∷◌, pos, negsuc, Some}
 use Rattle.model.specs.Terms.{Variable}
 use Rattle.model.specs.WorkedRuns.{countdown}
-use Rattle.proof_nodes.specs.Nodes.{Spot, Poly}
-use Rattle.proof_nodes.specs.AcceptsSizes.{Up}
-use Rattle.proof_nodes.specs.Setting.{Setting}
-use Rattle.proof_nodes.specs.WorkedSettings.{counting, program_with, rule_over}
-use Rattle.proof_nodes.specs.Worked.{arm}
+use Rattle.proof_tree.specs.proof_nodes.Nodes.{Spot, Poly}
+use Rattle.proof_tree.specs.proof_nodes.AcceptsSizes.{Up}
+use Rattle.proof_tree.specs.proof_nodes.Setting.{Setting}
+use Rattle.proof_tree.specs.proof_nodes.WorkedSettings.{counting, program_with, rule_over}
+use Rattle.proof_tree.specs.proof_nodes.Worked.{arm}
 use Rattle.proof_tree.specs.declared.answer.Question.TheVariants as asked
-use Rattle.proof_tree.specs.declared.answer.TripCause.TheVariants as causes
+use Rattle.poly_terms.specs.linear_forms.declared.trip_cause.TripCause.TheVariants as causes
 use Rattle.local_size.specs.LocalAnswers.{Local, HasBound, IsLooseOn, HasTripped}
 use Rattle.rvg_components.specs.Flows.{Locals, value_flows, live_spots, loops}
 use Rattle.rvg_components.specs.Listing.{AreComponents}
@@ -60,7 +60,7 @@ squared = record counting { poly = λ t i. Some (record { coef = pos 1; vars = 0
 -- k(A) -> l(A), and l(A) -> l(A - 1): a value flows from the first place into the second, and from that into itself,
 -- but not back. It flows by either arm that reads the place before, also by a polynomial, and by no other one; into a
 -- place without arms nothing flows
-pub record FlowsAreTold : Type 0 where
+pub record FlowsAreWorkedOut : Type 0 where
   pub onward : value_flows counting all_read (spot 1 1) (spot 2 1) ≡ true
   pub back : value_flows counting all_read (spot 2 1) (spot 1 1) ≡ false
   pub into_itself : value_flows counting all_read (spot 2 1) (spot 2 1) ≡ true
@@ -75,7 +75,7 @@ pub record FlowsAreTold : Type 0 where
   pub into_tripped : value_flows counting (after_2 has_tripped) (spot 1 1) (spot 2 1) ≡ false
 
 -- the places of live rules alone, in the order of rules and then of places
-pub record LivePlacesAreTold : Type 0 where
+pub record LivePlacesAreWorkedOut : Type 0 where
   pub all : live_spots counting.program all_live ≡ spot 1 1 ∷ spot 2 1 ∷ []
   pub first : live_spots counting.program (λ t. t == 1) ≡ spot 1 1 ∷ []
   pub second : live_spots counting.program (λ t. t == 2) ≡ spot 2 1 ∷ []
@@ -91,7 +91,7 @@ ring = record counting {
 
 -- the place after rule 1 doesn't loop, and that after rule 2 of the program that counts down does, unless it has no
 -- arms; of those that go round none does alone, and both do together
-pub record LoopsAreTold : Type 0 where
+pub record LoopsAreWorkedOut : Type 0 where
   pub none : loops counting all_read [] ≡ false
   pub first : loops counting all_read (spot 1 1 ∷ []) ≡ false
   pub second : loops counting all_read (spot 2 1 ∷ []) ≡ true
@@ -109,7 +109,7 @@ last_first = record counting {
 
 -- the components of the first: the place that comes in, and then the two that go round together; in no other order, nor
 -- taken apart, nor without one of them. Those of the second: each place for itself, but the first one last
-pub record FlowComponentsAreTold : Type 0 where
+pub record FlowComponentsAreWorkedOut : Type 0 where
   pub round : AreComponents ring all_live all_read ((spot 1 1 ∷ []) ∷ (spot 2 1 ∷ spot 3 1 ∷ []) ∷ [])
   pub turned : ¬ (AreComponents ring all_live all_read ((spot 2 1 ∷ spot 3 1 ∷ []) ∷ (spot 1 1 ∷ []) ∷ []))
   pub descending : ¬ (AreComponents ring all_live all_read ((spot 1 1 ∷ []) ∷ (spot 3 1 ∷ spot 2 1 ∷ []) ∷ []))

@@ -1,4 +1,4 @@
-// Components of the graph of places.
+//! Components of the graph of places.
 
 use proof_tree::Spot;
 

@@ -1,4 +1,4 @@
-// The edges along which values flow, between the numbers of places.
+//! The edges along which values flow, between the numbers of places.
 
 ghost use Rattle.std.specs.Prelude.{◌≡◌, ℕ, ◌++◌, ◌+◌, ◌<◌, ◌≤◌, ◌^◌, map, length, All, IfOk, OnOk};
 ghost use Rattle.std.specs.Prelude.{slice_index_or, false, true, ◌∷◌, []};
@@ -8,22 +8,18 @@ ghost use Rattle.guard_prep.specs.Views.{prepared_of};
 ghost use Rattle.rvg_components.specs.Listing.{answer_lists, is_flagged};
 ghost use Rattle.rvg_components.specs.Edges.{edges_from, edges_to, edges_into, first_of, firsts_of};
 ghost use Rattle.rvg_components.specs.Edges.{live_edges_at, edges_below};
-ghost use Rattle.rvg_components.specs.Fitting.{known_of, IsFitting};
+ghost use Rattle.rvg_components.specs.Fitting.{flow_inputs_of, IsFitting};
 
 use crate::reading::answer_places;
 use guard_prep::RuleRows;
 use its_graph::Graph;
 use local_size::LocalAnswer;
+use model::Memory;
 use proof_tree::bent_update;
-use std::alloc::{AllocError, Global};
+use std::alloc::Global;
 
 // Appends the edges to a place from a place of each rule with one of these first places.
-fn push_from(
-    edges: &mut Vec<(u32, u32)>,
-    place: u32,
-    to: u32,
-    before: &[u32],
-) -> Result<(), AllocError>
+fn push_from(edges: &mut Vec<(u32, u32)>, place: u32, to: u32, before: &[u32]) -> Result<(), Memory>
     requires few { place < 2 ^ 31 }
     requires before_few { All (λ first. first < 2 ^ 31) before.now }
     ensures { OnOk result (edges.new.items ≡ edges.old.items ++ edges_from place to before.now) }
@@ -40,7 +36,7 @@ fn push_to(
     to: u32,
     before: &[u32],
     places: &[u32],
-) -> Result<(), AllocError>
+) -> Result<(), Memory>
     requires few { All (λ place. place < 2 ^ 31) places.now }
     requires before_few { All (λ first. first < 2 ^ 31) before.now }
     ensures { OnOk result (edges.new.items ≡ edges.old.items ++ edges_to to before.now places.now) }
@@ -59,7 +55,7 @@ fn push_into(
     before: &[u32],
     first: u32,
     answers: &[LocalAnswer],
-) -> Result<(), AllocError>
+) -> Result<(), Memory>
     requires left_few { prep.now.left < 2 ^ 31 }
     requires first_few { first + length answers.now < 2 ^ 31 }
     requires before_few { All (λ first. first < 2 ^ 31) before.now }
@@ -75,12 +71,7 @@ fn push_into(
 }
 
 // Appends the first place of a rule, if it is live.
-fn push_first(
-    found: &mut Vec<u32>,
-    live: &[bool],
-    firsts: &[u32],
-    rule: u32,
-) -> Result<(), AllocError>
+fn push_first(found: &mut Vec<u32>, live: &[bool], firsts: &[u32], rule: u32) -> Result<(), Memory>
     requires one_each { length firsts.now ≡ length live.now }
     requires within { rule ≤ length live.now }
     ensures { OnOk result (found.new.items ≡ found.old.items ++ firsts_of live.now firsts.now (rule ∷ [])) }
@@ -101,7 +92,7 @@ fn live_firsts(
     live: &[bool],
     firsts: &[u32],
     rules: &[u32],
-) -> Result<Vec<u32>, AllocError>
+) -> Result<Vec<u32>, Memory>
     requires one_each { length firsts.now ≡ length live.now }
     requires within { All (λ e. e ≤ length live.now) rules.now }
     ensures { IfOk result (λ found. found.items ≡ firsts_of live.now firsts.now rules.now) }
@@ -123,12 +114,12 @@ fn push_rule(
     live: &[bool],
     firsts: &[u32],
     position: usize,
-) -> Result<(), AllocError>
+) -> Result<(), Memory>
     requires graph { (p : Program) × IsGraphOf g.now p }
-    requires fitting { IsFitting (known_of preps.now locals.now live.now firsts.now) (length g.now.links.items) }
+    requires fitting { IsFitting (flow_inputs_of preps.now locals.now live.now firsts.now) (length g.now.links.items) }
     requires within { position < length live.now }
     ensures { OnOk result ((p : Program) → IsGraphOf g.now p → edges.new.items ≡ edges.old.items
-        ++ live_edges_at p (known_of preps.now locals.now live.now firsts.now) position) }
+        ++ live_edges_at p (flow_inputs_of preps.now locals.now live.now firsts.now) position) }
 {
     if !live[position] {
         return Ok(());
@@ -153,11 +144,11 @@ pub(crate) fn edges_of(
     locals: &[Vec<LocalAnswer>],
     live: &[bool],
     firsts: &[u32],
-) -> Result<Vec<(u32, u32)>, AllocError>
+) -> Result<Vec<(u32, u32)>, Memory>
     requires graph { (p : Program) × IsGraphOf g.now p }
-    requires fitting { IsFitting (known_of preps.now locals.now live.now firsts.now) (length g.now.links.items) }
+    requires fitting { IsFitting (flow_inputs_of preps.now locals.now live.now firsts.now) (length g.now.links.items) }
     ensures { IfOk result (λ edges. (p : Program) → IsGraphOf g.now p → edges.items
-        ≡ edges_below p (known_of preps.now locals.now live.now firsts.now) (length live.now)) }
+        ≡ edges_below p (flow_inputs_of preps.now locals.now live.now firsts.now) (length live.now)) }
 {
     let mut edges = Vec::new(alloc);
     for position in 0..live.len() {

@@ -1,10 +1,10 @@
-// The graph of the places of live rules, along which values flow.
+//! The graph of the places of live rules, along which values flow.
 
 ghost use Rattle.std.specs.Prelude.{map, IfOk};
 ghost use Rattle.model.specs.Programs.{Program};
-ghost use Rattle.proof_setting.specs.Setting.{setting_of};
+ghost use Rattle.proof_tree.specs.proof_setting.Setting.{setting_of};
 ghost use Rattle.proof_tree.specs.Views.{spot_of};
-ghost use Rattle.rvg_components.specs.Listing.{AreAnswersGiven, answer_lists, is_flagged, local_from};
+ghost use Rattle.rvg_components.specs.Listing.{AreAnswersOfProgram, answer_lists, is_flagged, local_from};
 ghost use Rattle.rvg_components.specs.FlowGraphs.{IsFlowGraph};
 
 use crate::flowing::edges_of;
@@ -12,8 +12,9 @@ use crate::numbering::{first_places, numbered_places, widths_of};
 use guard_prep::RuleRows;
 use its_graph::Graph;
 use local_size::LocalAnswer;
+use model::Memory;
 use proof_tree::Spot;
-use std::alloc::{AllocError, Global};
+use std::alloc::Global;
 
 /// The places of live rules in order, and the edges along which values flow, by the positions of the places.
 #[derive(Debug, Drop)]
@@ -29,10 +30,10 @@ pub(crate) fn flow_graph(
     preps: &[RuleRows],
     locals: &[Vec<LocalAnswer>],
     live: &[bool],
-) -> Result<FlowGraph, AllocError>
-    requires { (p : Program) × AreAnswersGiven p g.now preps.now (answer_lists locals.now) live.now }
+) -> Result<FlowGraph, Memory>
+    requires { (p : Program) × AreAnswersOfProgram p g.now preps.now (answer_lists locals.now) live.now }
     ensures { IfOk result (λ graph. (p : Program)
-        → AreAnswersGiven p g.now preps.now (answer_lists locals.now) live.now
+        → AreAnswersOfProgram p g.now preps.now (answer_lists locals.now) live.now
         → IsFlowGraph (setting_of p) (is_flagged live.now) (local_from (answer_lists locals.now))
         (map spot_of graph.spots.items) graph.edges.items) }
 {

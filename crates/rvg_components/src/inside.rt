@@ -1,4 +1,4 @@
-// Which components have an edge inside.
+//! Which components have an edge inside.
 
 ghost use Rattle.std.specs.Prelude.{◌≡◌, ℕ, ◌<◌, map, length, All, IfOk, replicate, false};
 ghost use Rattle.proof_tree.specs.Views.{spot_of};
@@ -7,8 +7,9 @@ ghost use Rattle.rvg_components.specs.Listing.{members_of, spot_at};
 ghost use Rattle.rvg_components.specs.Inside.{marked, has_inside};
 
 use crate::component::Component;
+use model::Memory;
 use proof_tree::Spot;
-use std::alloc::{AllocError, Global};
+use std::alloc::Global;
 
 // Sets the flags of nodes with an edge to themselves.
 fn mark_own(own: &mut [bool], edges: &[(u32, u32)])
@@ -27,7 +28,7 @@ pub(crate) fn own_edges(
     alloc: Global,
     nodes: usize,
     edges: &[(u32, u32)],
-) -> Result<Vec<bool>, AllocError>
+) -> Result<Vec<bool>, Memory>
     requires { All (λ e. e.0 < nodes) edges.now }
     ensures { IfOk result (λ own. own.items ≡ marked edges.now (replicate nodes false)) }
 {
@@ -49,7 +50,7 @@ fn is_looping(own: &[bool], nodes: &[u32]) -> bool
 }
 
 // The places with these numbers.
-fn places_at(alloc: Global, spots: &[Spot], nodes: &[u32]) -> Result<Vec<Spot>, AllocError>
+fn places_at(alloc: Global, spots: &[Spot], nodes: &[u32]) -> Result<Vec<Spot>, Memory>
     requires { All (λ a. a < length spots.now) nodes.now }
     ensures { IfOk result (λ places. map spot_of places.items ≡ map (spot_at (map spot_of spots.now)) nodes.now) }
 {
@@ -66,7 +67,7 @@ pub(crate) fn placed(
     spots: &[Spot],
     own: &[bool],
     components: &[Vec<u32>],
-) -> Result<Vec<Component>, AllocError>
+) -> Result<Vec<Component>, Memory>
     requires one_each { length own.now ≡ length spots.now }
     requires within { All (λ c. All (λ a. a < length spots.now) c.items) components.now }
     ensures members { IfOk result (λ found. map members_of found.items

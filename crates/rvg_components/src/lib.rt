@@ -1,6 +1,6 @@
-// The graph of the places of live rules, along which values flow, and its components in the order in which their sizes
-// can be found.
-// Contract to the layer above: the components are the strongly connected ones, each after all that it depends on.
+//! The graph of the places of live rules, along which values flow, and its components in the order in which their sizes
+//! can be found.
+//! Contract to the layer above: the components are the strongly connected ones, each after all that it depends on.
 #![tactic(auto)]
 
 mod component;

@@ -1,13 +1,13 @@
-// The components of the graph of places.
+//! The components of the graph of places.
 
 ghost use Rattle.std.specs.Prelude.{map, All, IfOk};
 ghost use Rattle.model.specs.Programs.{Program};
-ghost use Rattle.its_model.specs.Valid.{IsValid};
+ghost use Rattle.guard_prep.specs.its_model.Valid.{IsValid};
 ghost use Rattle.its_graph.specs.Graphs.{IsGraphOf};
-ghost use Rattle.proof_setting.specs.Setting.{setting_of};
+ghost use Rattle.proof_tree.specs.proof_setting.Setting.{setting_of};
 ghost use Rattle.proof_tree.specs.Composing.{AreRowsOf};
 ghost use Rattle.rvg_components.specs.Listing.{AreComponents, AreLocalsFor, SaysWhetherItLoops, is_flagged, local_from};
-ghost use Rattle.rvg_components.specs.Listing.{members_of, answer_lists, AreAnswersGiven};
+ghost use Rattle.rvg_components.specs.Listing.{members_of, answer_lists, AreAnswersOfProgram};
 
 use crate::component::Component;
 use crate::graph::flow_graph;
@@ -33,13 +33,13 @@ pub fn components(
     locals: &[Vec<LocalAnswer>],
     live: &[bool],
 ) -> Result<Vec<Component>, Memory>
-    requires { (p : Program) × AreAnswersGiven p g.now preps.now (answer_lists locals.now) live.now }
+    requires { (p : Program) × AreAnswersOfProgram p g.now preps.now (answer_lists locals.now) live.now }
     ensures components { IfOk result (λ found. (p : Program)
-        → AreAnswersGiven p g.now preps.now (answer_lists locals.now) live.now
+        → AreAnswersOfProgram p g.now preps.now (answer_lists locals.now) live.now
         → AreComponents (setting_of p) (is_flagged live.now) (local_from (answer_lists locals.now))
         (map members_of found.items)) }
     ensures looping { IfOk result (λ found. (p : Program)
-        → AreAnswersGiven p g.now preps.now (answer_lists locals.now) live.now
+        → AreAnswersOfProgram p g.now preps.now (answer_lists locals.now) live.now
         → All (SaysWhetherItLoops (setting_of p) (local_from (answer_lists locals.now))) found.items) }
 {
     let graph = flow_graph(alloc, g, preps, locals, live)?;

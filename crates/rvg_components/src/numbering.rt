@@ -1,4 +1,4 @@
-// The places of live rules, numbered in the order of rules and places.
+//! The places of live rules, numbered in the order of rules and places.
 
 ghost use Rattle.std.specs.Prelude.{◌≡◌, ℕ, ◌++◌, ◌<◌, ◌^◌, cond, map, length, IfOk, OnOk};
 ghost use Rattle.std.specs.List.{sum};
@@ -7,8 +7,9 @@ ghost use Rattle.rvg_components.specs.Listing.{answer_lists};
 ghost use Rattle.rvg_components.specs.Numbering.{widths, firsts_from, places_of, spots_by_width};
 
 use local_size::LocalAnswer;
+use model::Memory;
 use proof_tree::Spot;
-use std::alloc::{AllocError, Global};
+use std::alloc::Global;
 
 // So many places, if the rule is live, and else none.
 fn width_of(is_live: bool, count: usize) -> usize
@@ -22,7 +23,7 @@ pub(crate) fn widths_of(
     alloc: Global,
     locals: &[Vec<LocalAnswer>],
     live: &[bool],
-) -> Result<Vec<usize>, AllocError>
+) -> Result<Vec<usize>, Memory>
     requires { length locals.now ≡ length live.now }
     ensures { IfOk result (λ found. found.items ≡ widths (answer_lists locals.now) live.now) }
 {
@@ -34,7 +35,7 @@ pub(crate) fn widths_of(
 }
 
 /// The number of the first place of each rule.
-pub(crate) fn first_places(alloc: Global, widths: &[usize]) -> Result<Vec<u32>, AllocError>
+pub(crate) fn first_places(alloc: Global, widths: &[usize]) -> Result<Vec<u32>, Memory>
     requires { sum widths.now < 2 ^ 31 }
     ensures { IfOk result (λ firsts. firsts.items ≡ firsts_from 0 widths.now) }
 {
@@ -48,7 +49,7 @@ pub(crate) fn first_places(alloc: Global, widths: &[usize]) -> Result<Vec<u32>, 
 }
 
 // So many places of a rule, from the first on.
-fn push_places(spots: &mut Vec<Spot>, rule: u32, count: usize) -> Result<(), AllocError>
+fn push_places(spots: &mut Vec<Spot>, rule: u32, count: usize) -> Result<(), Memory>
     requires { count < 2 ^ 31 }
     ensures { OnOk result (map spot_of spots.new.items ≡ map spot_of spots.old.items ++ places_of rule 1 count) }
 {
@@ -60,7 +61,7 @@ fn push_places(spots: &mut Vec<Spot>, rule: u32, count: usize) -> Result<(), All
 }
 
 /// The place with each number.
-pub(crate) fn numbered_places(alloc: Global, widths: &[usize]) -> Result<Vec<Spot>, AllocError>
+pub(crate) fn numbered_places(alloc: Global, widths: &[usize]) -> Result<Vec<Spot>, Memory>
     requires few { length widths.now < 2 ^ 31 }
     requires sum { sum widths.now < 2 ^ 31 }
     ensures { IfOk result (λ spots. map spot_of spots.items ≡ spots_by_width 1 widths.now) }

@@ -1,16 +1,17 @@
-// Which places an answer reads.
+//! Which places an answer reads.
 
 ghost use Rattle.std.specs.Prelude.{◌≡◌, ◌++◌, IfOk, OnOk};
-ghost use Rattle.proof_tree.specs.Composing.{poly_seen};
+ghost use Rattle.proof_tree.specs.Composing.{optional_poly};
 ghost use Rattle.proof_tree.specs.Reading.{places_read as places_of};
 ghost use Rattle.proof_tree.specs.Views.{arm_of};
-ghost use Rattle.local_size.specs.LocalAnswers.{local_seen};
+ghost use Rattle.local_size.specs.LocalAnswers.{local_answer_of};
 ghost use Rattle.rvg_components.specs.Reading.{answer_reads};
 
 use local_size::LocalAnswer;
+use model::Memory;
 use poly_terms::Poly;
 use proof_tree::{Arm, places_read};
-use std::alloc::{AllocError, Global};
+use std::alloc::Global;
 
 // Appends the places that an arm reads, of so many.
 fn push_read(
@@ -19,9 +20,9 @@ fn push_read(
     arm: &Arm,
     poly: Option<&Poly>,
     left: u32,
-) -> Result<(), AllocError>
+) -> Result<(), Memory>
     ensures { OnOk result (places.new.items
-        ≡ places.old.items ++ places_of (poly_seen poly.entry) (arm_of arm.now) left) }
+        ≡ places.old.items ++ places_of (optional_poly poly.entry) (arm_of arm.now) left) }
 {
     let read = places_read(alloc, arm, poly, left)?;
     places.extend_from_slice(&read)
@@ -34,8 +35,8 @@ pub(crate) fn answer_places(
     answer: &LocalAnswer,
     poly: Option<&Poly>,
     left: u32,
-) -> Result<Vec<u32>, AllocError>
-    ensures { IfOk result (λ places. places.items ≡ answer_reads (poly_seen poly.entry) (local_seen answer.now) left) }
+) -> Result<Vec<u32>, Memory>
+    ensures { IfOk result (λ places. places.items ≡ answer_reads (optional_poly poly.entry) (local_answer_of answer.now) left) }
 {
     let mut places = Vec::new(alloc);
     if let LocalAnswer::Bound(local) = answer {

@@ -6,8 +6,9 @@ ghost use Rattle.lp_builder.specs.Descriptions.{AreWritable};
 
 use crate::writable::{are_goals_writable, are_parameters, are_rows_writable, is_writable};
 use lp_builder::{Builder, Cost, Goal, Row};
+use model::Memory;
 use simplex_core::Problem;
-use std::alloc::{AllocError, Global};
+use std::alloc::Global;
 
 /// A group of a question.
 #[derive(Debug, Drop)]
@@ -37,13 +38,12 @@ fn is_part(parameters: u32, part: &Part) -> bool
         && is_writable(part.unknowns, &part.fixed)
 }
 
-/// The problem of the question with these parts, whose parameters have these costs, if it can be written. Error: memory
-/// ran out.
-pub fn problem_of(
-    alloc: Global,
-    parts: &[Part],
-    costs: &[Cost],
-) -> Result<Option<Problem>, AllocError>
+/// The problem of the question with these parts, whose parameters have these costs, if it can be written.
+///
+/// # Errors
+///
+/// `Memory` where an allocation fails.
+pub fn problem_of(alloc: Global, parts: &[Part], costs: &[Cost]) -> Result<Option<Problem>, Memory>
     ensures { IfOk result (λ found. IfSome found IsProper) }
 {
     if costs.len() >= 1 << 30 {

@@ -6,8 +6,9 @@ ghost use Rattle.simplex_core.specs.Problem.{IsProper};
 
 use crate::parts::{Part, problem_of};
 use lp_builder::{Cost, Goal, Row};
+use model::Memory;
 use simplex_core::Problem;
-use std::alloc::{AllocError, Global};
+use std::alloc::Global;
 
 /// How rules lead from symbol to symbol.
 #[derive(Clone, Copy, Debug)]
@@ -29,7 +30,7 @@ struct Link {
 }
 
 /// A form in the two variables.
-fn form(alloc: Global, first: i128, second: i128, constant: i128) -> Result<Row, AllocError> {
+fn form(alloc: Global, first: i128, second: i128, constant: i128) -> Result<Row, Memory> {
     let mut coefs = Vec::new(alloc);
     coefs.push(first)?;
     coefs.push(second)?;
@@ -37,7 +38,7 @@ fn form(alloc: Global, first: i128, second: i128, constant: i128) -> Result<Row,
 }
 
 /// Adds the goal form of a symbol's coefficient: of place 0 or 1, or, as place 2, of its constant.
-fn push_goal(goals: &mut Vec<Goal>, symbol: u16, place: u8, form: Row) -> Result<(), AllocError> {
+fn push_goal(goals: &mut Vec<Goal>, symbol: u16, place: u8, form: Row) -> Result<(), Memory> {
     goals.push(Goal {
         parameter: 3 * u32::from(symbol) + u32::from(place),
         form,
@@ -46,14 +47,14 @@ fn push_goal(goals: &mut Vec<Goal>, symbol: u16, place: u8, form: Row) -> Result
 }
 
 /// Adds what the function at a symbol is before a rule.
-fn push_before(alloc: Global, goals: &mut Vec<Goal>, symbol: u16) -> Result<(), AllocError> {
+fn push_before(alloc: Global, goals: &mut Vec<Goal>, symbol: u16) -> Result<(), Memory> {
     push_goal(goals, symbol, 0, form(alloc, 1, 0, 0)?)?;
     push_goal(goals, symbol, 1, form(alloc, 0, 1, 0)?)?;
     push_goal(goals, symbol, 2, form(alloc, 0, 0, 1)?)
 }
 
 /// Adds less what the function at the target is after a rule.
-fn push_after(alloc: Global, goals: &mut Vec<Goal>, link: Link) -> Result<(), AllocError> {
+fn push_after(alloc: Global, goals: &mut Vec<Goal>, link: Link) -> Result<(), Memory> {
     let taken = if link.takes { 1 } else { 0 };
     push_goal(goals, link.target, 0, form(alloc, -1, 0, taken)?)?;
     push_goal(goals, link.target, 1, form(alloc, 0, -1, 0)?)?;
@@ -61,7 +62,7 @@ fn push_after(alloc: Global, goals: &mut Vec<Goal>, link: Link) -> Result<(), Al
 }
 
 /// The goals of a move: what the function is before the rule, less what it is after it.
-fn move_goals(alloc: Global, link: Link) -> Result<Vec<Goal>, AllocError> {
+fn move_goals(alloc: Global, link: Link) -> Result<Vec<Goal>, Memory> {
     let mut goals = Vec::new(alloc);
     if link.source < link.target {
         push_before(alloc, &mut goals, link.source)?;
@@ -77,7 +78,7 @@ fn move_goals(alloc: Global, link: Link) -> Result<Vec<Goal>, AllocError> {
 }
 
 /// The rows of a rule: that the first variable is at least 1, where the rule takes 1.
-fn rows_of(alloc: Global, link: Link) -> Result<Vec<Row>, AllocError> {
+fn rows_of(alloc: Global, link: Link) -> Result<Vec<Row>, Memory> {
     let mut rows = Vec::new(alloc);
     if link.takes {
         rows.push(form(alloc, 1, 0, -1)?)?;
@@ -86,7 +87,7 @@ fn rows_of(alloc: Global, link: Link) -> Result<Vec<Row>, AllocError> {
 }
 
 /// The part of a rule's move, by which the function falls by at least so much.
-fn move_part(alloc: Global, link: Link, fall: u8) -> Result<Part, AllocError> {
+fn move_part(alloc: Global, link: Link, fall: u8) -> Result<Part, Memory> {
     Ok(Part {
         unknowns: 2,
         rows: rows_of(alloc, link)?,
@@ -96,7 +97,7 @@ fn move_part(alloc: Global, link: Link, fall: u8) -> Result<Part, AllocError> {
 }
 
 /// The part of the floor: where the rule may be used, the function is at least 1.
-fn floor_part(alloc: Global, link: Link) -> Result<Part, AllocError> {
+fn floor_part(alloc: Global, link: Link) -> Result<Part, Memory> {
     let mut goals = Vec::new(alloc);
     push_before(alloc, &mut goals, link.source)?;
     Ok(Part {
@@ -108,7 +109,7 @@ fn floor_part(alloc: Global, link: Link) -> Result<Part, AllocError> {
 }
 
 /// The rules of a ring.
-fn ring(alloc: Global, size: u16) -> Result<Vec<Link>, AllocError> {
+fn ring(alloc: Global, size: u16) -> Result<Vec<Link>, Memory> {
     let mut links = Vec::new(alloc);
     for source in 0..size {
         links.push(Link {
@@ -121,7 +122,7 @@ fn ring(alloc: Global, size: u16) -> Result<Vec<Link>, AllocError> {
 }
 
 /// The rules of a chain, with those between them or without.
-fn chain(alloc: Global, size: u16, has_loops: bool) -> Result<Vec<Link>, AllocError> {
+fn chain(alloc: Global, size: u16, has_loops: bool) -> Result<Vec<Link>, Memory> {
     let mut links = Vec::new(alloc);
     for source in 0..size {
         if has_loops && source > 0 {
@@ -142,7 +143,7 @@ fn chain(alloc: Global, size: u16, has_loops: bool) -> Result<Vec<Link>, AllocEr
 
 /// What each coefficient costs: the first symbol is entered, so its places have the size 1 and its constant the height
 /// 1.
-fn costs(alloc: Global, symbols: u16) -> Result<Vec<Cost>, AllocError> {
+fn costs(alloc: Global, symbols: u16) -> Result<Vec<Cost>, Memory> {
     let mut costs = Vec::new(alloc);
     for symbol in 0..symbols {
         let weight = if symbol == 0 { 1 } else { 0 };
@@ -161,7 +162,7 @@ fn costs(alloc: Global, symbols: u16) -> Result<Vec<Cost>, AllocError> {
 }
 
 /// The parts of the question that asks for a function over the rules, by which one of them decreases.
-fn rank_parts(alloc: Global, links: &[Link], strict: usize) -> Result<Vec<Part>, AllocError> {
+fn rank_parts(alloc: Global, links: &[Link], strict: usize) -> Result<Vec<Part>, Memory> {
     let mut parts = Vec::new(alloc);
     for position in 0..links.len() {
         let fall = if position == strict { 1 } else { 0 };
@@ -173,9 +174,12 @@ fn rank_parts(alloc: Global, links: &[Link], strict: usize) -> Result<Vec<Part>,
     Ok(parts)
 }
 
-/// The rank problem of rules in a shape, of which the last has to decrease, if it can be written. Error: memory ran
-/// out.
-pub fn rank_problem(alloc: Global, shape: Shape, size: u16) -> Result<Option<Problem>, AllocError>
+/// The rank problem of rules in a shape, of which the last has to decrease, if it can be written.
+///
+/// # Errors
+///
+/// `Memory` where an allocation fails.
+pub fn rank_problem(alloc: Global, shape: Shape, size: u16) -> Result<Option<Problem>, Memory>
     ensures { IfOk result (λ found. IfSome found IsProper) }
 {
     let links = match shape {

@@ -2,7 +2,7 @@
 
 ghost use Rattle.std.specs.Prelude.{◌≤◌, ◌<◌, ◌^◌, IsTrue, unsigned_abs, length};
 ghost use Rattle.std.specs.List.{All};
-ghost use Rattle.poly_terms.specs.Views.{form_of};
+ghost use Rattle.lp_builder.specs.poly_terms.Views.{form_of};
 ghost use Rattle.lp_builder.specs.Descriptions.{AreParameters, IsWritable};
 
 use lp_builder::{Goal, Row};

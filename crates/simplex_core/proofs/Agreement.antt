@@ -1,5 +1,6 @@
 -- Programs that agree have the same tableaux, and so the same answers.
-use Rattle.std.proofs.Common.{◌≡◌, ℕ, zero, suc, ◌+◌, ◌-◌, ◌<◌, ◌≤◌, ap, arith, refl, sym, ◌∙◌, subst, ◌⊎◌, inl, inr, Bool, true, false, List, Option, Some}
+use Rattle.std.proofs.Common.{◌≡◌, ℕ, zero, suc, ◌+◌, ◌-◌, ◌<◌, ◌≤◌, ap, arith, refl, sym, ◌∙◌, subst, ◌⊎◌, inl, inr}
+use Rattle.std.proofs.Common.{Bool, true, false, List, Option, Some}
 use Rattle.std.specs.Prelude.{ℤ, pos, ◌-ℤ◌, ◌*ℤ◌, if◌then◌else◌, nat_lt, nat_eq, Ok, Err, Result}
 use Rattle.std.proofs.lemmas.Bool.{cases_lt, lt-ltb, le-ltb}
 use Rattle.std.proofs.lemmas.Option.{slice_get_within}
@@ -14,14 +15,15 @@ use Rattle.simplex_core.specs.declared.answers.Answer.TheVariants.{Solution, Dua
 use Rattle.frac128.specs.declared.frac.Frac.{Frac}
 use Rattle.frac128.specs.Fraction.{IsFraction}
 use Rattle.linear_forms.specs.Forms.{at}
-use Rattle.linear_forms.specs.Causes.{Cause, range, budget, wide, scale}
+use Rattle.linear_forms.specs.Causes.{Cause, range, budget, wide, scale, cause_of}
 use Rattle.linear_forms.specs.LinearProgram.{LinearProgram}
 use Rattle.linear_forms.specs.ProgramLaws.{Agree}
 use Rattle.linear_forms.proofs.ProgramLaws.{agree-solutions, agree-least, agree-duals}
-use Rattle.simplex_core.specs.Tableau.{Tableau, cost_row, artificial, sign_of, equation, cost, first_reduced_cost, first_tableau}
+use Rattle.simplex_core.specs.Tableau.{Tableau, cost_row, artificial, sign_of, equation, cost, first_reduced_cost}
+use Rattle.simplex_core.specs.Tableau.{first_tableau}
 use Rattle.simplex_core.specs.Bland.{next_of, tableau_at}
 use Rattle.simplex_core.specs.Outcome.{ComesAfter, IsAnswer, EndsOptimally, EndsInfeasibly, TripsRange, TripsBudget}
-use Rattle.simplex_core.specs.Trips.{Trips, TripsSolution, TripsDual, IsWholeAnswer, cause_of}
+use Rattle.simplex_core.specs.Trips.{Trips, TripsSolution, TripsDual, IsWholeAnswer}
 
 -- functions with the same values are the same
 fun_ext : {A B : Type 0} (f g : A → B) → ((x : A) → f x ≡ g x) → f ≡ g

@@ -5,7 +5,8 @@ use Rattle.frac128.specs.declared.frac.Frac.{Frac}
 use Rattle.int_laws.specs.Polynomial.{variable, constant, ◌⊖◌, ◌⊗◌}
 use Rattle.int_laws.proofs.Identities.{identity_by_one}
 use Rattle.simplex_core.specs.declared.dense_table.DenseTable.{DenseTable}
-use Rattle.simplex_core.specs.Cells.{width, cell, ChangesCell, ChangesRow, KeepsRow, IsRowBelow, IsRowClearedBy, IsLessMultiple}
+use Rattle.simplex_core.specs.Cells.{width, cell, ChangesCell, ChangesRow, KeepsRow, IsRowBelow, IsRowClearedBy}
+use Rattle.simplex_core.specs.Cells.{IsLessMultiple}
 use Rattle.simplex_core.specs.Positions.{InTable}
 use Rattle.simplex_core.proofs.Invariant.{same_or_other}
 

@@ -9,7 +9,8 @@ use Rattle.int_laws.proofs.OrderLaws.{mul-positive_ℤ, mul-le-mul_ℤ, le-of-mu
 use Rattle.int_laws.proofs.SumLaws.{sum_to-zero}
 use Rattle.int_laws.proofs.DotLaws.{combined-times, dot-scaled, dot-scaled_behind, dot-combined}
 use Rattle.int_laws.proofs.Duality.{weak_duality}
-use Rattle.linear_forms.specs.LinearProgram.{CostsAtMost, CostsTheSame, HasSolution, LinearProgram, IsSolution, HasPrices, IsLeast, IsDual}
+use Rattle.linear_forms.specs.LinearProgram.{CostsAtMost, CostsTheSame, HasSolution, LinearProgram, IsSolution}
+use Rattle.linear_forms.specs.LinearProgram.{HasPrices, IsLeast, IsDual}
 
 -- prices that give each column at most its cost give the right sides at most the cost of a solution
 solution-priced : (p : LinearProgram) (cost price y : ℕ → ℤ) (e : ℤ) → IsSolution p y e → ((j : ℕ) → j < p.columns → dot p.rows price (λ i. p.entry i j) ≤ℤ cost j)

@@ -1,5 +1,6 @@
 -- The entering column has a leaving row, and both are a pivot.
-use Rattle.std.proofs.Common.{◌≡◌, ℕ, zero, suc, ◌<◌, ap, arith, refl, ◌∙◌, subst, ◌⊎◌, inl, inr, [], ◌∷◌, Bool, true, false, Option, Some, None}
+use Rattle.std.proofs.Common.{◌≡◌, ℕ, zero, suc, ◌<◌, ap, arith, refl, ◌∙◌, subst, ◌⊎◌, inl, inr, [], ◌∷◌, Bool, true}
+use Rattle.std.proofs.Common.{false, Option, Some, None}
 use Rattle.std.specs.Prelude.{ℤ, pos, ◌*ℤ◌, ◌≤ℤ◌, ◌<ℤ◌, int_lt, nat_lt, not, ◌&&◌, ◌||◌}
 use Rattle.std.proofs.lemmas.Int.{ints}
 use Rattle.std.proofs.lemmas.Bool.{lt-ltb, ltb-true}
@@ -9,7 +10,8 @@ use Rattle.int_laws.proofs.OrderLaws.{mul-lt-mul_ℤ, mul-cancel_ℤ, lt-of-mul_
 use Rattle.linear_forms.specs.LinearProgram.{LinearProgram}
 use Rattle.simplex_core.specs.Tableau.{Tableau, unknowns}
 use Rattle.simplex_core.specs.Bland.{goes_before, is_candidate, leaving}
-use Rattle.simplex_core.proofs.Searches.{and-both, and_no, no_and, second_fails, both-and, every-each, each-every, least-found, least-none, last_or_before}
+use Rattle.simplex_core.proofs.Searches.{and-both, and_no, no_and, second_fails, both-and, every-each, each-every}
+use Rattle.simplex_core.proofs.Searches.{least-found, least-none, last_or_before}
 use Rattle.simplex_core.proofs.Pivots.{IsPivot}
 pub use Rattle.std.proofs.lemmas.Bool.{not-true, not_from_false as not-false}
 

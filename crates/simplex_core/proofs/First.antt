@@ -8,7 +8,8 @@ use Rattle.int_laws.proofs.SumLaws.{sum_to-same, sum_to-single, sum_to-scale}
 use Rattle.int_laws.proofs.RingLaws.{zero-mul_ℤ, one-mul_ℤ, mul-zero_ℤ, mul-one_ℤ, mul_assoc_ℤ}
 use Rattle.linear_forms.specs.LinearProgram.{LinearProgram}
 use Rattle.simplex_core.specs.Tableau.{artificial, unknowns, cost_row, equation, cost, first_tableau}
-use Rattle.simplex_core.proofs.Regions.{equation-artificial, equation-other_artificial, equation-right, sign_of-right, first-row, first-cost}
+use Rattle.simplex_core.proofs.Regions.{equation-artificial, equation-other_artificial, equation-right, sign_of-right}
+use Rattle.simplex_core.proofs.Regions.{first-row, first-cost}
 use Rattle.simplex_core.proofs.Invariant.{weight, IsTableauOf}
 
 -- the first scales are 1

@@ -1,6 +1,8 @@
 -- The table that was filled from a problem shows the first tableau.
-use Rattle.std.proofs.Common.{◌≡◌, ◌≢◌, ℕ, zero, suc, ◌+◌, ◌-◌, ◌<◌, ◌≤◌, ◌^◌, ap, arith, refl, sym, ◌∙◌, subst, ◌⊎◌, inl, inr, List, [], ◌∷◌, Some, Bool, true, false}
-use Rattle.std.specs.Prelude.{ℤ, pos, negsuc, ◌-ℤ◌, ◌*ℤ◌, slice_get, slice_index, slice_index_or, unsigned_abs, int_lt, nat_eq, ◌&&◌, if◌then◌else◌}
+use Rattle.std.proofs.Common.{◌≡◌, ◌≢◌, ℕ, zero, suc, ◌+◌, ◌-◌, ◌<◌, ◌≤◌, ◌^◌, ap, arith, refl, sym, ◌∙◌, subst, ◌⊎◌}
+use Rattle.std.proofs.Common.{inl, inr, List, [], ◌∷◌, Some, Bool, true, false}
+use Rattle.std.specs.Prelude.{ℤ, pos, negsuc, ◌-ℤ◌, ◌*ℤ◌, slice_get, slice_index, slice_index_or, unsigned_abs, int_lt}
+use Rattle.std.specs.Prelude.{nat_eq, ◌&&◌, if◌then◌else◌}
 use Rattle.std.proofs.lemmas.Bool.{cases_lt}
 use Rattle.std.proofs.lemmas.Int.{ints}
 use Rattle.frac128.specs.declared.frac.Frac.{Frac}
@@ -15,12 +17,17 @@ use Rattle.simplex_core.specs.Tableau.{artificial, cost_row, sign_of, equation, 
 use Rattle.simplex_core.specs.Problem.{entry_value, program_of, IsProper}
 use Rattle.simplex_core.specs.Positions.{InTable}
 use Rattle.simplex_core.specs.Cells.{cell, Shows}
-use Rattle.simplex_core.specs.Building.{HoldsWhole, HasSmallEquations, signed_entries, with_equations, cost_number, with_costs}
+use Rattle.simplex_core.specs.Building.{HoldsWhole, HasSmallEquations, signed_entries, with_equations, cost_number}
+use Rattle.simplex_core.specs.Building.{with_costs}
 use Rattle.simplex_core.specs.Numbers.{AreEntriesBelow}
 use Rattle.simplex_core.proofs.Invariant.{same_or_other}
-use Rattle.simplex_core.proofs.Regions.{choose-below, choose-above, choose-same, choose-other, equation-column, equation-artificial, equation-other_artificial, equation-right, cost-none, cost-first, cost-second, cost-artificial, cost-no_artificial, first-row, first-cost}
+use Rattle.simplex_core.proofs.Regions.{choose-below, choose-above, choose-same, choose-other, equation-column}
+use Rattle.simplex_core.proofs.Regions.{equation-artificial, equation-other_artificial, equation-right, cost-none}
+use Rattle.simplex_core.proofs.Regions.{cost-first, cost-second, cost-artificial, cost-no_artificial, first-row}
+use Rattle.simplex_core.proofs.Regions.{first-cost}
 use Rattle.simplex_core.proofs.First.{first-is_tableau, first-scale, first-basis, first-cost-artificial}
-use Rattle.simplex_core.proofs.ProgramFields.{program-columns, program-rows, program-entry, program-right, program-first, program-second}
+use Rattle.simplex_core.proofs.ProgramFields.{program-columns, program-rows, program-entry, program-right}
+use Rattle.simplex_core.proofs.ProgramFields.{program-first, program-second}
 use Rattle.simplex_core.proofs.WrittenNumbers.{entry_value-outside}
 
 -- an entry's number is small

@@ -1,6 +1,8 @@
 -- A number of a problem that is 2^31 or more puts the first tableau out of range.
-use Rattle.std.proofs.Common.{◌≡◌, ℕ, zero, suc, ◌+◌, ◌*◌, ◌<◌, ◌≤◌, ◌^◌, ap, arith, refl, ◌∙◌, List, [], ◌∷◌, Some, Bool, true, false}
-use Rattle.std.specs.Prelude.{ℤ, pos, negsuc, ◌-ℤ◌, ◌*ℤ◌, slice_get, slice_index_or, unsigned_abs, int_lt, nat_eq, ◌&&◌, if◌then◌else◌}
+use Rattle.std.proofs.Common.{◌≡◌, ℕ, zero, suc, ◌+◌, ◌*◌, ◌<◌, ◌≤◌, ◌^◌, ap, arith, refl, ◌∙◌, List, [], ◌∷◌, Some}
+use Rattle.std.proofs.Common.{Bool, true, false}
+use Rattle.std.specs.Prelude.{ℤ, pos, negsuc, ◌-ℤ◌, ◌*ℤ◌, slice_get, slice_index_or, unsigned_abs, int_lt, nat_eq, ◌&&◌}
+use Rattle.std.specs.Prelude.{if◌then◌else◌}
 use Rattle.std.proofs.lemmas.Int.{ints}
 use Rattle.std.proofs.lemmas.Bool.{eqb-true, eq-eqb}
 use Rattle.int_laws.proofs.RingLaws.{zero-mul_ℤ}
@@ -9,13 +11,16 @@ use Rattle.frac128.proofs.LowestTerms.{whole_is_lowest}
 use Rattle.simplex_core.specs.declared.problem.Entry.{Entry}
 use Rattle.simplex_core.specs.declared.problem.Problem.{Problem}
 use Rattle.linear_forms.specs.LinearProgram.{LinearProgram}
-use Rattle.simplex_core.specs.Tableau.{artificial, unknowns, cost_row, sign_of, equation, cost, first_reduced_cost, first_tableau}
+use Rattle.simplex_core.specs.Tableau.{artificial, unknowns, cost_row, sign_of, equation, cost, first_reduced_cost}
+use Rattle.simplex_core.specs.Tableau.{first_tableau}
 use Rattle.simplex_core.specs.Problem.{entry_value, program_of, IsProper, table_size}
 use Rattle.simplex_core.specs.Positions.{InTable}
 use Rattle.simplex_core.specs.Numbers.{IsOneAbove, IsOneEntryAbove}
 use Rattle.simplex_core.specs.Outcome.{IsInRange}
-use Rattle.simplex_core.proofs.Regions.{equation-column, equation-right, cost-first, cost-second, cost-no_artificial, first-row, first-cost}
-use Rattle.simplex_core.proofs.ProgramFields.{program-columns, program-rows, program-entry, program-right, program-first, program-second}
+use Rattle.simplex_core.proofs.Regions.{equation-column, equation-right, cost-first, cost-second, cost-no_artificial}
+use Rattle.simplex_core.proofs.Regions.{first-row, first-cost}
+use Rattle.simplex_core.proofs.ProgramFields.{program-columns, program-rows, program-entry, program-right}
+use Rattle.simplex_core.proofs.ProgramFields.{program-first, program-second}
 use Rattle.simplex_core.proofs.First.{first-scale}
 
 -- the size of the table of a problem

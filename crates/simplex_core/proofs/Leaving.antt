@@ -1,5 +1,6 @@
 -- The leaving row is unique, and searches that go up find the least number.
-use Rattle.std.proofs.Common.{◌≡◌, ◌≢◌, ℕ, zero, suc, ◌+◌, ◌<◌, ◌≤◌, ap, arith, refl, sym, ◌∙◌, subst, ◌⊎◌, inl, inr, Bool, true, false, Option, Some, None}
+use Rattle.std.proofs.Common.{◌≡◌, ◌≢◌, ℕ, zero, suc, ◌+◌, ◌<◌, ◌≤◌, ap, arith, refl, sym, ◌∙◌, subst, ◌⊎◌, inl, inr}
+use Rattle.std.proofs.Common.{Bool, true, false, Option, Some, None}
 use Rattle.std.specs.Prelude.{ℤ, pos, ◌*ℤ◌, ◌<ℤ◌, int_lt, nat_lt, nat_eq, not, ◌&&◌, ◌||◌, if◌then◌else◌}
 use Rattle.std.proofs.lemmas.Bool.{cases_lt, lt-ltb}
 use Rattle.std.proofs.lemmas.Int.{ints}
@@ -13,7 +14,8 @@ use Rattle.simplex_core.proofs.Searches.{and-both, second_fails, every-each, lea
 use Rattle.simplex_core.proofs.Invariant.{IsTableauOf, same_or_other}
 use Rattle.simplex_core.proofs.Regions.{choose-same, choose-other}
 use Rattle.simplex_core.proofs.Points.{point}
-use Rattle.simplex_core.proofs.Choices.{IsBefore, ratio, before_trans, before_irrefl, goes_before-true, goes_before-false, candidate-positive, leaving-there, not-true}
+use Rattle.simplex_core.proofs.Choices.{IsBefore, ratio, before_trans, before_irrefl, goes_before-true}
+use Rattle.simplex_core.proofs.Choices.{goes_before-false, candidate-positive, leaving-there, not-true}
 
 -- where no number below n passes and n does, n is the least
 pub least-here : (n m : ℕ) (f : ℕ → Bool) → n < m → least n f ≡ None → f n ≡ true → least m f ≡ Some n

@@ -8,7 +8,7 @@ use Rattle.frac128.specs.declared.frac.Frac.{Frac}
 use Rattle.int_laws.proofs.OrderLaws.{mul-cancel_ℤ}
 use Rattle.int_laws.proofs.RingLaws.{mul_comm_ℤ}
 use Rattle.linear_forms.specs.Forms.{at}
-use Rattle.linear_forms.specs.Causes.{Cause, range, budget, wide, scale}
+use Rattle.linear_forms.specs.Causes.{Cause, range, budget, wide, scale, cause_of}
 use Rattle.linear_forms.specs.LinearProgram.{LinearProgram}
 use Rattle.simplex_core.specs.declared.answers.Answer.{Answer}
 use Rattle.simplex_core.specs.declared.answers.Answer.TheVariants.{Solution, Dual, Tripped}
@@ -16,9 +16,12 @@ use Rattle.simplex_core.specs.Problem.{table_size, widest}
 use Rattle.simplex_core.specs.Outcome.{EndsOptimally, EndsInfeasibly}
 use Rattle.simplex_core.specs.Scaling.{IsCommon, AreOver, AreScaled}
 use Rattle.simplex_core.specs.Agreement.{AreSameFractions}
-use Rattle.simplex_core.specs.Trips.{Trips, TripsSolution, TripsDual, cause_of, IsWholeAnswer, IsScaledSolution, IsScaledDual, IsSameWholeAnswer}
+use Rattle.simplex_core.specs.Trips.{Trips, TripsSolution, TripsDual, IsWholeAnswer, IsScaledSolution, IsScaledDual}
+use Rattle.simplex_core.specs.Trips.{IsSameWholeAnswer}
 use Rattle.simplex_core.proofs.Positions.{slice_get-there}
-use Rattle.simplex_core.proofs.OneAnswer.{optimal-stops, infeasible-stops, range-stops, budget-stops, stops-same, optimal-same, infeasible-same, ends-apart, range-apart, budget-apart, optimal-last, infeasible-last}
+use Rattle.simplex_core.proofs.OneAnswer.{optimal-stops, infeasible-stops, range-stops, budget-stops, stops-same}
+use Rattle.simplex_core.proofs.OneAnswer.{optimal-same, infeasible-same, ends-apart, range-apart, budget-apart}
+use Rattle.simplex_core.proofs.OneAnswer.{optimal-last, infeasible-last}
 
 -- whole numbers over a denominator are the same fractions too
 pub over-same : (fs gs : List Frac) (numbers : List ℤ) (den : ℕ) → AreSameFractions fs gs → AreOver fs (length fs) numbers den → AreOver gs (length gs) numbers den

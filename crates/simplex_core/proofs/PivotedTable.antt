@@ -1,5 +1,6 @@
 -- After a pivot of the table it shows the tableau after the pivot.
-use Rattle.std.proofs.Common.{◌≡◌, ◌≢◌, ℕ, ◌+◌, ◌*◌, ◌<◌, ap, arith, refl, sym, ◌∙◌, subst, ◌⊎◌, inl, inr, [], ◌∷◌, Some, length}
+use Rattle.std.proofs.Common.{◌≡◌, ◌≢◌, ℕ, ◌+◌, ◌*◌, ◌<◌, ap, arith, refl, sym, ◌∙◌, subst, ◌⊎◌, inl, inr, [], ◌∷◌}
+use Rattle.std.proofs.Common.{Some, length}
 use Rattle.std.specs.Prelude.{ℤ, pos, ◌-ℤ◌, ◌*ℤ◌, ◌<ℤ◌, slice_index, slice_set}
 use Rattle.std.proofs.Math.Nat.{mul-le-mul_right}
 use Rattle.std.proofs.lemmas.List.{get_or-set_same, get_or-set_other}
@@ -14,7 +15,8 @@ use Rattle.simplex_core.specs.Tableau.{Tableau, pivot}
 use Rattle.simplex_core.specs.Cells.{width, cell, IsPivoted, Shows}
 use Rattle.simplex_core.specs.Positions.{InTable}
 use Rattle.simplex_core.proofs.Invariant.{same_or_other}
-use Rattle.simplex_core.proofs.Regions.{pivot-row, pivot-other, pivot-scale, pivot-other_scale, pivot-basis, pivot-other_basis}
+use Rattle.simplex_core.proofs.Regions.{pivot-row, pivot-other, pivot-scale, pivot-other_scale, pivot-basis}
+use Rattle.simplex_core.proofs.Regions.{pivot-other_basis}
 use Rattle.simplex_core.proofs.Positions.{slice_get-there}
 use Rattle.simplex_core.proofs.CellLaws.{InTable-same}
 

@@ -10,7 +10,8 @@ use Rattle.int_laws.proofs.OrderLaws.{mul-positive_ℤ, mul-nonneg_ℤ, mul-canc
 use Rattle.int_laws.proofs.SumLaws.{sum_to-same}
 use Rattle.linear_forms.specs.LinearProgram.{LinearProgram}
 use Rattle.simplex_core.specs.Tableau.{Tableau, artificial, unknowns, cost_row, equation, cost, pivot}
-use Rattle.simplex_core.proofs.Regions.{pivot-row, pivot-other, pivot-scale, pivot-other_scale, pivot-basis, pivot-other_basis}
+use Rattle.simplex_core.proofs.Regions.{pivot-row, pivot-other, pivot-scale, pivot-other_scale, pivot-basis}
+use Rattle.simplex_core.proofs.Regions.{pivot-other_basis}
 use Rattle.simplex_core.proofs.Invariant.{weight, SolvesRows, IsTableauOf, same_or_other}
 
 -- the pivot is in the table, its entry is over 0, and its row has the least quotient of right side

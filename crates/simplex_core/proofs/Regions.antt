@@ -4,7 +4,8 @@ use Rattle.std.specs.Prelude.{ℤ, pos, negsuc, ◌-ℤ◌, ◌*ℤ◌, ◌≤�
 use Rattle.std.proofs.lemmas.Bool.{lt-ltb, ltb-true, eq-eqb, ne_eqb}
 use Rattle.std.proofs.lemmas.Int.{ints}
 use Rattle.linear_forms.specs.LinearProgram.{LinearProgram}
-use Rattle.simplex_core.specs.Tableau.{Tableau, artificial, unknowns, cost_row, sign_of, equation, cost, first_reduced_cost, first_tableau, pivot}
+use Rattle.simplex_core.specs.Tableau.{Tableau, artificial, unknowns, cost_row, sign_of, equation, cost}
+use Rattle.simplex_core.specs.Tableau.{first_reduced_cost, first_tableau, pivot}
 
 -- a choice by an order that holds
 pub choose-below : (j n : ℕ) (a b : ℤ) → j < n → (if nat_lt j n then a else b) ≡ a

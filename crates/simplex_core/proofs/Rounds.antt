@@ -1,9 +1,11 @@
 -- One round of the sequence: what the tableau after k pivots leads to.
-use Rattle.std.proofs.Common.{◌≡◌, ℕ, ◌+◌, ◌<◌, ap, arith, ◌∙◌, subst, ◌⊎◌, inl, inr, Option, Some, None, Bool, true, false, add-one}
+use Rattle.std.proofs.Common.{◌≡◌, ℕ, ◌+◌, ◌<◌, ap, arith, ◌∙◌, subst, ◌⊎◌, inl, inr, Option, Some, None, Bool, true}
+use Rattle.std.proofs.Common.{false, add-one}
 use Rattle.std.specs.Prelude.{pos, if◌then◌else◌}
 use Rattle.linear_forms.specs.LinearProgram.{LinearProgram, HasNonnegativeCosts}
 use Rattle.simplex_core.specs.Tableau.{Tableau, pivot}
-use Rattle.simplex_core.specs.Bland.{is_infeasible, entering, leaving, IsBest, is_candidate, step_in, pivot_at, next, next_of, tableau_at}
+use Rattle.simplex_core.specs.Bland.{is_infeasible, entering, leaving, IsBest, is_candidate, step_in, pivot_at, next}
+use Rattle.simplex_core.specs.Bland.{next_of, tableau_at}
 use Rattle.simplex_core.specs.Outcome.{ComesAfter, IsInRange, TripsBudget}
 use Rattle.simplex_core.proofs.Searches.{last_or_before}
 use Rattle.simplex_core.proofs.Choices.{lt-int_lt}

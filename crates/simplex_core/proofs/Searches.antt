@@ -1,9 +1,11 @@
 -- What the searches find.
-use Rattle.std.proofs.Common.{◌≡◌, ℕ, zero, suc, ◌<◌, ap, arith, refl, sym, ◌∙◌, ◌⊎◌, inl, inr, Bool, true, false, Option, Some, None}
+use Rattle.std.proofs.Common.{◌≡◌, ℕ, zero, suc, ◌<◌, ap, arith, refl, sym, ◌∙◌, ◌⊎◌, inl, inr, Bool, true, false}
+use Rattle.std.proofs.Common.{Option, Some, None}
 use Rattle.std.specs.Prelude.{◌&&◌, ◌||◌, if◌then◌else◌}
 pub use Rattle.int_laws.proofs.SumLaws.{last_or_before}
 use Rattle.simplex_core.specs.Search.{every, some, or_else, least}
-pub use Rattle.std.proofs.lemmas.Bool.{and_parts as and-both, and_right as and_no, and_left as no_and, and_from as both-and}
+pub use Rattle.std.proofs.lemmas.Bool.{and_parts as and-both, and_right as and_no, and_left as no_and}
+pub use Rattle.std.proofs.lemmas.Bool.{and_from as both-and}
 
 -- a conjunction that fails, and whose first part holds
 pub second_fails : (a b : Bool) → (a && b) ≡ false → a ≡ true → b ≡ false

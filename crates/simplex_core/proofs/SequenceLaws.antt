@@ -1,11 +1,13 @@
 -- Each tableau of the sequence is one of the program's, and the sequence ends only as infeasible or
 -- as optimal.
-use Rattle.std.proofs.Common.{◌≡◌, ℕ, zero, suc, ◌<◌, arith, refl, ◌∙◌, subst, ◌⊎◌, inl, inr, Bool, true, false, Option, Some, None}
+use Rattle.std.proofs.Common.{◌≡◌, ℕ, zero, suc, ◌<◌, arith, refl, ◌∙◌, subst, ◌⊎◌, inl, inr, Bool, true, false, Option}
+use Rattle.std.proofs.Common.{Some, None}
 use Rattle.std.specs.Prelude.{pos, ◌<ℤ◌, if◌then◌else◌}
 use Rattle.linear_forms.specs.LinearProgram.{LinearProgram, HasNonnegativeCosts}
 use Rattle.simplex_core.specs.Search.{or_else, least}
 use Rattle.simplex_core.specs.Tableau.{Tableau, cost_row, first_tableau, pivot}
-use Rattle.simplex_core.specs.Bland.{may_enter, entering, leaving, is_infeasible, pivot_at, step_in, next, next_of, tableau_at}
+use Rattle.simplex_core.specs.Bland.{may_enter, entering, leaving, is_infeasible, pivot_at, step_in, next, next_of}
+use Rattle.simplex_core.specs.Bland.{tableau_at}
 use Rattle.simplex_core.proofs.Searches.{and-both, least-found}
 use Rattle.simplex_core.proofs.Invariant.{IsTableauOf}
 use Rattle.simplex_core.proofs.First.{first-is_tableau}

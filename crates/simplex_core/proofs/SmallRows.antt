@@ -1,12 +1,14 @@
 -- Which rows and columns of a table are known to be small while a pivot is made.
-use Rattle.std.proofs.Common.{◌≡◌, ◌≢◌, ℕ, ◌+◌, ◌*◌, ◌<◌, ◌≤◌, ap, arith, sym, ◌∙◌, subst, ◌⊎◌, inl, inr, Bool, true, false, List, Some}
+use Rattle.std.proofs.Common.{◌≡◌, ◌≢◌, ℕ, ◌+◌, ◌*◌, ◌<◌, ◌≤◌, ap, arith, sym, ◌∙◌, subst, ◌⊎◌, inl, inr, Bool, true}
+use Rattle.std.proofs.Common.{false, List, Some}
 use Rattle.std.specs.Prelude.{MatchBool, ◌&&◌, slice_get}
 use Rattle.std.proofs.lemmas.Bool.{cases_lt}
 use Rattle.frac128.specs.declared.frac.Frac.{Frac}
 use Rattle.simplex_core.specs.declared.dense_table.DenseTable.{DenseTable}
 use Rattle.simplex_core.specs.Sizes.{IsBelow}
 use Rattle.simplex_core.specs.Positions.{InTable}
-use Rattle.simplex_core.specs.Cells.{width, cell, ChangesRow, ChangesCell, IsRowBelow, AreSmall, HasLarge, HasLargeIn, HasLargeBut, AreSmallBut, IsCellSmall, IsCellLarge, AreSmallBefore, HasLargeBefore}
+use Rattle.simplex_core.specs.Cells.{width, cell, ChangesRow, ChangesCell, IsRowBelow, AreSmall, HasLarge, HasLargeIn}
+use Rattle.simplex_core.specs.Cells.{HasLargeBut, AreSmallBut, IsCellSmall, IsCellLarge, AreSmallBefore, HasLargeBefore}
 use Rattle.simplex_core.proofs.CellLaws.{InTable-same, IsRowBelow-same}
 use Rattle.simplex_core.proofs.Invariant.{same_or_other}
 

@@ -7,7 +7,8 @@ use Rattle.int_laws.specs.Polynomial.{variable, ◌⊗◌}
 use Rattle.int_laws.proofs.Identities.{identity_by_one}
 use Rattle.int_laws.proofs.RingLaws.{zero-mul_ℤ, add-mul_ℤ, mul_assoc_ℤ}
 use Rattle.int_laws.proofs.OrderLaws.{mul-nonneg_ℤ}
-use Rattle.int_laws.proofs.SumLaws.{sum_to-same, sum_to-add, sum_to-scale, sum_to-scale_behind, sum_to-single, sum_to-zero}
+use Rattle.int_laws.proofs.SumLaws.{sum_to-same, sum_to-add, sum_to-scale, sum_to-scale_behind, sum_to-single}
+use Rattle.int_laws.proofs.SumLaws.{sum_to-zero}
 use Rattle.int_laws.proofs.Duality.{dot-dot}
 use Rattle.linear_forms.specs.LinearProgram.{LinearProgram}
 use Rattle.simplex_core.specs.Tableau.{Tableau, unknowns, cost_row}

@@ -1,5 +1,6 @@
 -- The answer in whole numbers: what is scaled, and when it can't be.
-use Rattle.std.proofs.Common.{◌≡◌, ℕ, zero, suc, ◌+◌, ◌-◌, ◌*◌, ◌<◌, ◌≤◌, ◌^◌, ap, arith, refl, sym, ◌∙◌, subst, ◌⊎◌, inl, inr, List, [], ◌∷◌, length, Some, Bool, true, false}
+use Rattle.std.proofs.Common.{◌≡◌, ℕ, zero, suc, ◌+◌, ◌-◌, ◌*◌, ◌<◌, ◌≤◌, ◌^◌, ap, arith, refl, sym, ◌∙◌, subst, ◌⊎◌}
+use Rattle.std.proofs.Common.{inl, inr, List, [], ◌∷◌, length, Some, Bool, true, false}
 use Rattle.std.specs.Prelude.{ℤ, pos, negsuc, ◌-ℤ◌, ◌*ℤ◌, ◌<ℤ◌, unsigned_abs, slice_get, int_lt, if◌then◌else◌}
 use Rattle.std.specs.Int.{◌∣◌}
 use Rattle.std.proofs.lemmas.Int.{ints, unsigned_abs-mul}
@@ -21,7 +22,8 @@ use Rattle.simplex_core.specs.Problem.{table_size, widest}
 use Rattle.simplex_core.specs.Positions.{InTable}
 use Rattle.simplex_core.specs.Tableau.{artificial, cost_row, sign_of}
 use Rattle.simplex_core.specs.Outcome.{HoldsPoint, EndsOptimally, EndsInfeasibly}
-use Rattle.simplex_core.specs.Scaling.{IsLeastCommon, HasNoCommonWithin, AreOver, AreWithin, AreScaled, HasNumberOver, HasNoneScaled, ExceedsSolution, ExceedsDual}
+use Rattle.simplex_core.specs.Scaling.{IsLeastCommon, HasNoCommonWithin, AreOver, AreWithin, AreScaled, HasNumberOver}
+use Rattle.simplex_core.specs.Scaling.{HasNoneScaled, ExceedsSolution, ExceedsDual}
 use Rattle.simplex_core.specs.Trips.{IsScaledSolution, IsScaledDual}
 use Rattle.simplex_core.proofs.Regions.{sign_of-square}
 use Rattle.simplex_core.proofs.Positions.{slice_get-there}

@@ -1,5 +1,6 @@
 -- A table of whole numbers while it is being filled.
-use Rattle.std.proofs.Common.{◌≡◌, ◌≢◌, ℕ, zero, suc, ◌+◌, ◌-◌, ◌<◌, ◌≤◌, ap, arith, refl, sym, ◌∙◌, ◌⊎◌, inl, inr, List, [], ◌∷◌, ◌++◌, take, Some, Bool, true, false, add-one}
+use Rattle.std.proofs.Common.{◌≡◌, ◌≢◌, ℕ, zero, suc, ◌+◌, ◌-◌, ◌<◌, ◌≤◌, ap, arith, refl, sym, ◌∙◌, ◌⊎◌, inl, inr}
+use Rattle.std.proofs.Common.{List, [], ◌∷◌, ◌++◌, take, Some, Bool, true, false, add-one}
 use Rattle.std.specs.Prelude.{ℤ, pos, ◌*ℤ◌, slice_get, slice_index_or, nat_eq, nat_lt, ◌&&◌, if◌then◌else◌}
 use Rattle.std.proofs.lemmas.Bool.{eqb-true, eq-eqb}
 use Rattle.frac128.specs.declared.frac.Frac.{Frac}
@@ -8,7 +9,8 @@ use Rattle.simplex_core.specs.declared.problem.Entry.{Entry}
 use Rattle.simplex_core.specs.Tableau.{sign_of}
 use Rattle.simplex_core.specs.Problem.{entry_value}
 use Rattle.simplex_core.specs.Cells.{width, cell}
-use Rattle.simplex_core.specs.Building.{HoldsWhole, WritesWhole, signed_entries, with_equations, cost_number, with_costs}
+use Rattle.simplex_core.specs.Building.{HoldsWhole, WritesWhole, signed_entries, with_equations, cost_number}
+use Rattle.simplex_core.specs.Building.{with_costs}
 use Rattle.simplex_core.specs.Numbers.{AreInCells}
 use Rattle.std.proofs.lemmas.Bool.{cases_lt}
 use Rattle.simplex_core.proofs.Invariant.{same_or_other}

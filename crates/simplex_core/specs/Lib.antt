@@ -16,3 +16,6 @@ pub mod Cells
 pub mod TableClauses
 pub mod Numbers
 pub mod Building
+-- the crates below, which callers name through this one
+pub use Rattle.int_laws.specs as int_laws
+pub use Rattle.linear_forms.specs as linear_forms

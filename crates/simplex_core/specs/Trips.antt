@@ -2,11 +2,9 @@
 use Rattle.std.specs.Prelude.{◌≡◌, ℕ, ◌<◌, ◌≤◌, List, length, ◌⊎◌, ℤ, pos}
 use Rattle.frac128.specs.declared.frac.Frac.{Frac}
 use Rattle.linear_forms.specs.Forms.{at}
-use Rattle.linear_forms.specs.Causes.{Cause, range, budget, wide, scale}
+use Rattle.linear_forms.specs.Causes.{Cause, range, budget, wide, scale, cause_of}
 use Rattle.linear_forms.specs.Limits.{certificate_limit, point_limit}
 use Rattle.linear_forms.specs.LinearProgram.{LinearProgram, IsSolution, IsLeast, IsDual}
-use Rattle.simplex_core.specs.declared.answers.Cause.{Cause as TripCause}
-use Rattle.simplex_core.specs.declared.answers.Cause.TheVariants.{Range, Budget, Wide, Scale}
 use Rattle.simplex_core.specs.declared.answers.Answer.{Answer}
 use Rattle.simplex_core.specs.declared.answers.Answer.TheVariants.{Solution, Dual, Tripped}
 use Rattle.simplex_core.specs.Problem.{table_size, widest}
@@ -36,13 +34,6 @@ Trips p allowed (wide n) = (widest < table_size p) × (n ≡ table_size p)
 Trips p allowed (range k) = (table_size p ≤ widest) × TripsRange p allowed k
 Trips p allowed (budget n) = (table_size p ≤ widest) × (n ≡ allowed) × TripsBudget p allowed
 Trips p allowed scale = (table_size p ≤ widest) × (TripsSolution p allowed ⊎ TripsDual p allowed)
-
--- the cause that the code tells
-abbrev pub cause_of : TripCause → Cause
-cause_of (Range k) = range k
-cause_of (Budget n) = budget n
-cause_of (Wide n) = wide n
-cause_of Scale = scale
 
 -- the numbers over the denominator are the solution of least cost at which the sequence ends, scaled by its least
 -- common denominator, and within the limit with it

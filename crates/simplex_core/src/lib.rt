@@ -12,11 +12,11 @@ mod sequence;
 mod simplex_table;
 mod solving;
 
-pub use answers::{Answer, Cause, solve_scaled};
+pub use answers::{Answer, solve_scaled};
 pub use laws::{
     agreeing_programs_answer_the_same, answers_are_one, artificial_sums_are_told,
     dual_excludes_solutions, least_costs_least, outcome_tells_solutions, whole_answers_are_one,
 };
 pub use problem::{Entry, Problem, SolveError, Solved};
-pub use scaling::Scaled;
+pub use scaling::Numerators;
 pub use solving::solve;

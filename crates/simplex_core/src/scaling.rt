@@ -10,9 +10,9 @@ use frac128::Frac;
 use int_laws::least_common_multiple;
 use std::alloc::{AllocError, Global};
 
-/// Whole numbers and the denominator that they have in common.
+/// Whole numerators over their least common denominator.
 #[derive(Debug, Drop, PartialEq, Eq)]
-pub struct Scaled {
+pub struct Numerators {
     /// The numerators.
     pub numbers: Vec<i64>,
     /// The least common denominator.
@@ -25,7 +25,7 @@ pub(crate) fn scale_by_least(
     fractions: &[Frac],
     den_limit: u128,
     limit: u64,
-) -> Result<Option<Scaled>, AllocError>
+) -> Result<Option<Numerators>, AllocError>
     requires den_limit { (0 < den_limit) × (den_limit < 2 ^ 127) }
     requires limit { limit ≤ certificate_limit }
     ensures { IfOk result (λ answer. MatchOption answer (HasNoneScaled fractions.now den_limit limit)
@@ -37,7 +37,7 @@ pub(crate) fn scale_by_least(
     };
     match numbers_over(alloc, fractions, den, limit)? {
         None => Ok(None),
-        Some(numbers) => Ok(Some(Scaled { numbers, den })),
+        Some(numbers) => Ok(Some(Numerators { numbers, den })),
     }
 }
 

@@ -45,6 +45,10 @@ fn has_small_numbers(problem: &Problem) -> bool
 /// first tableau with a number out of range; `Budget` where the allowed pivots are made and another is
 /// needed; `Memory` where memory runs out. Source: R. G. Bland, New finite pivoting rules for the
 /// simplex method, 1977.
+///
+/// # Errors
+///
+/// `Wide` before all else, `Range`, `Budget` and `Memory`, each where it is said above.
 pub fn solve(alloc: Global, problem: &Problem, pivots: u32) -> Result<Solved, SolveError>
     requires { IsProper problem.now }
     ensures { IsAnswer (program_of problem.now) pivots result }

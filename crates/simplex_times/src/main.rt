@@ -1,5 +1,5 @@
-// Solves the rank problem of a shape so often, as its words tell, and writes its rows, its columns and the pivots; for
-// measuring. The words are the shape, its size and how often.
+//! Solves the rank problem of a shape so often, as its words tell, and writes its rows, its columns and the pivots; for
+//! measuring. The words are the shape, its size and how often.
 #![tactic(auto)]
 
 ghost use Rattle.simplex_core.specs.Problem.{IsProper};

@@ -1,5 +1,6 @@
 -- The checks that no polynomial arm reads a member, and the first member of which one does.
-use Rattle.std.proofs.Common.{◌≡◌, inl, inr, ℕ, ◌+◌, ◌<◌, ◌||◌, cond, length, map, get_or, drop, Bool, true, false, List, [], ◌∷◌, Option, Some, None, refl, sym, ap, ◌∙◌, subst}
+use Rattle.std.proofs.Common.{◌≡◌, inl, inr, ℕ, ◌+◌, ◌<◌, ◌||◌, cond, length, map, get_or, drop, Bool, true, false}
+use Rattle.std.proofs.Common.{List, [], ◌∷◌, Option, Some, None, refl, sym, ap, ◌∙◌, subst}
 use Rattle.std.specs.List.{list_any}
 use Rattle.std.proofs.lemmas.Bool.{or_left, or_right, or_parts as neither}
 use Rattle.std.proofs.lemmas.List.{drop_more}
@@ -7,12 +8,12 @@ use Rattle.model.specs.Entries.{is_in}
 use Rattle.model.specs.Paths.{pre}
 use Rattle.model.specs.Polynomials.{Polynomial}
 use Rattle.model.proofs.Membership.{no_is_not_yes, list_any-from, list_any-told}
-use Rattle.proof_nodes.specs.Nodes.{Spot, Arm, Linear, Poly, Member}
-use Rattle.proof_nodes.specs.ComposedSizes.{poly_at, has_variable, is_member}
-use Rattle.proof_nodes.specs.AcceptsSizes.{IsStraightArm}
-use Rattle.proof_nodes.specs.Reasons.{Reason, Bent, Check, AllPass, IsFirstAmong}
-use Rattle.proof_nodes.specs.Checks.{straight_from, straight_into}
-use Rattle.proof_nodes.specs.Setting.{Setting}
+use Rattle.proof_tree.specs.proof_nodes.Nodes.{Spot, Arm, Linear, Poly, Member}
+use Rattle.proof_tree.specs.proof_nodes.ComposedSizes.{poly_at, has_variable, is_member}
+use Rattle.proof_tree.specs.proof_nodes.AcceptsSizes.{IsStraightArm}
+use Rattle.proof_tree.specs.proof_nodes.Reasons.{Reason, Bent, Check, AllPass, IsFirstAmong}
+use Rattle.proof_tree.specs.proof_nodes.Checks.{straight_from, straight_into}
+use Rattle.proof_tree.specs.proof_nodes.Setting.{Setting}
 use Rattle.proof_tree.specs.declared.arm.Member as code
 use Rattle.proof_tree.specs.Views.{member_of, spot_of}
 use Rattle.size_bounds.specs.BentArms.{is_bent_arm, is_bent_over, is_bent_by, first_bent}

@@ -2,11 +2,11 @@
 use Rattle.std.proofs.Common.{◌≡◌, inl, inr, List, [], ◌∷◌, Option, Some, None, refl, sym, ap, ◌∙◌}
 use Rattle.std.specs.List.{AllByRecursion}
 use Rattle.model.specs.Bounds.{Bound}
-use Rattle.proof_nodes.specs.Nodes.{Spot}
-use Rattle.proof_nodes.specs.Known.{Table}
-use Rattle.proof_nodes.specs.Reasons.{Reason, MissingSize, Check, for_each, IsFirstAmong}
-use Rattle.proof_nodes.specs.Checks.{check_size}
-use Rattle.proof_nodes.proofs.FirstReasons.{HasSize}
+use Rattle.proof_tree.specs.proof_nodes.Nodes.{Spot}
+use Rattle.proof_tree.specs.proof_nodes.Known.{Table}
+use Rattle.proof_tree.specs.proof_nodes.Reasons.{Reason, MissingSize, Check, for_each, IsFirstAmong}
+use Rattle.proof_tree.specs.proof_nodes.Checks.{check_size}
+use Rattle.proof_tree.proofs.proof_nodes.FirstReasons.{HasSize}
 use Rattle.size_bounds.specs.Needs.{this_or, first_missing}
 use Rattle.model.proofs.Cases.{none_some as none-some, some_same as some-same}
 

@@ -1,24 +1,24 @@
 -- what stands at a position
-pub mod Stored
+pub mod StoredBounds
 -- what nodes rest on
 pub mod UseLists
 -- loops over lists
-pub mod Onward
+pub mod ListSteps
 -- the sizes that arms need
 pub mod NeededSpots
 -- the first of them that isn't known
 pub mod FirstMissing
 -- the updates of degree 2 or more
 -- the rows and arms of members
-pub mod GivenMembers
+pub mod ProgramMembers
 -- what is answered of a place that doesn't loop
 pub mod SpreadAnswers
 -- the members after one rule
 pub mod MembersAfter
 -- the graph and the limits of a member of a loop
-pub mod GivenLoops
+pub mod LoopMembers
 -- parts that are pushed
-pub mod Joining
+pub mod PushedParts
 -- what flows into members
 pub mod LoopFlows
 -- what the rules of a loop do
@@ -29,3 +29,5 @@ pub mod MemberRules
 pub mod BentMembers
 -- what is answered of a loop
 pub mod LoopAnswers
+-- the lemmas of the crates below, which callers name through this one
+pub use Rattle.round_relation.proofs as round_relation

@@ -7,25 +7,26 @@ use Rattle.model.specs.Programs.{Program}
 use Rattle.its_graph.specs.declared.graph.Graph.{Graph}
 use Rattle.guard_prep.specs.declared.rule_rows.RuleRows.{RuleRows}
 use Rattle.bound_table.specs.InForce.{rewritten}
-use Rattle.proof_nodes.specs.Nodes.{Spot, Member}
-use Rattle.proof_nodes.specs.Known.{IsKnown, Table}
-use Rattle.proof_nodes.specs.Limits.{IsSmallComposed}
-use Rattle.proof_nodes.specs.ComposedSizes.{Flow, flows, base_of, rules_of}
-use Rattle.proof_nodes.specs.AcceptsSizes.{AcceptsUp, AcceptsLow, AcceptsCycle, cycle_size}
-use Rattle.proof_nodes.specs.Reasons.{Reason, MissingTime, MissingSize, Bent, Large, Check, for_each, IsFirstAmong}
-use Rattle.proof_nodes.specs.Checks.{large_nodes, check_up, check_low, check_size, check_time, check_small, needed_into, needed_times, straight_into, cycle_checks}
-use Rattle.proof_nodes.proofs.CheckLists.{passes_each}
-use Rattle.proof_nodes.proofs.SizeReasons.{passes-cycle}
-use Rattle.proof_setting.specs.Setting.{setting_of}
+use Rattle.proof_tree.specs.proof_nodes.Nodes.{Spot, Member}
+use Rattle.proof_tree.specs.proof_nodes.Known.{IsKnown, Table}
+use Rattle.proof_tree.specs.proof_nodes.Limits.{IsSmallComposed}
+use Rattle.proof_tree.specs.proof_nodes.ComposedSizes.{Flow, flows, base_of, rules_of}
+use Rattle.proof_tree.specs.proof_nodes.AcceptsSizes.{AcceptsUp, AcceptsLow, AcceptsCycle, cycle_size}
+use Rattle.proof_tree.specs.proof_nodes.Reasons.{Reason, MissingTime, MissingSize, Bent, Large, Check, for_each, IsFirstAmong}
+use Rattle.proof_tree.specs.proof_nodes.Checks.{large_nodes, check_up, check_low, check_size, check_time, check_small, needed_into}
+use Rattle.proof_tree.specs.proof_nodes.Checks.{needed_times, straight_into, cycle_checks}
+use Rattle.proof_tree.proofs.proof_nodes.CheckLists.{passes_each}
+use Rattle.proof_tree.proofs.proof_nodes.SizeReasons.{passes-cycle}
+use Rattle.proof_tree.specs.proof_setting.Setting.{setting_of}
 use Rattle.round_relation.specs.Tables.{lacks}
 use Rattle.round_relation.specs.Uses.{Numbers}
 use Rattle.size_bounds.specs.declared.answer.SizeAnswer.{SizeAnswer}
 use Rattle.size_bounds.specs.declared.answer.SizeAnswer.TheVariants as answers
 use Rattle.size_bounds.specs.Needs.{first_missing}
-use Rattle.size_bounds.specs.Growths.{grown, growing, composed}
+use Rattle.size_bounds.specs.Growths.{growth_by_flows, growing_rule_numbers, composed}
 use Rattle.size_bounds.specs.LoopAnswers.{first_unknown, loop_needs, IsTimedAnswer, IsAnswerBy, IsLoopAnswer}
 use Rattle.size_bounds.specs.BentArms.{first_bent}
-use Rattle.size_bounds.specs.SizeAnswers.{AreGiven, IsCycleAnswer}
+use Rattle.size_bounds.specs.SizeAnswers.{AreMembersOfProgram, IsCycleAnswer}
 use Rattle.size_bounds.proofs.FirstMissing.{all-known, first-missing, behind-each}
 use Rattle.size_bounds.proofs.BentMembers.{straight-first, straight-passes, bent-first}
 use Rattle.size_bounds.proofs.LoopParts.{composed-is, growing-are}
@@ -60,7 +61,7 @@ module _ (tab : Table) where
       go (Some b) e k later = inr ((b, e), later k)
 
 module _ (p : Program) (g : Graph) (preps : List RuleRows) (tab : Table) (ms : List Member)
-    (given : AreGiven p g preps ms) where
+    (given : AreMembersOfProgram p g preps ms) where
   -- what the loop needs
   abbrev needed : List Spot
   needed = needed_into (setting_of p) ms ms
@@ -158,17 +159,17 @@ module _ (p : Program) (g : Graph) (preps : List RuleRows) (tab : Table) (ms : L
       -- what is answered over the flows and the rules of the loop is answered of it
       pub is-answered : (ns : Numbers) (a : SizeAnswer) (spots : List Spot) (fs : List Flow) (ts : List ℕ)
           → spots ≡ needed → fs ≡ flows (setting_of p) ms tab.size → ts ≡ rules_of (setting_of p) ms
-          → IsLoopAnswer tab ns ms spots (base_of fs) (map (grown fs) ts) a → IsCycleAnswer (setting_of p) tab ns ms a
+          → IsLoopAnswer tab ns ms spots (base_of fs) (map (growth_by_flows fs) ts) a → IsCycleAnswer (setting_of p) tab ns ms a
       is-answered ns a spots fs ts es ef et h =
           answer-by ns a (first_unknown tab.time timed) refl
           (subst (λ (ss : List Spot). IsAnswerBy (first_unknown tab.time timed) ns ms (loop_needs ss timed) whole a) es
           (subst (λ (us : List ℕ). IsAnswerBy (first_unknown tab.time us) ns ms (loop_needs spots us) whole a) times-are
-          (subst (λ (b : Bound). IsAnswerBy (first_unknown tab.time (growing (map (grown fs) ts))) ns ms
-          (loop_needs spots (growing (map (grown fs) ts))) b a) bound-is h)))
+          (subst (λ (b : Bound). IsAnswerBy (first_unknown tab.time (growing_rule_numbers (map (growth_by_flows fs) ts))) ns ms
+          (loop_needs spots (growing_rule_numbers (map (growth_by_flows fs) ts))) b a) bound-is h)))
         where
-          times-are : growing (map (grown fs) ts) ≡ timed
-          times-are = (λ i. growing (map (grown (ef i)) (et i))) ∙ growing-are p (flows (setting_of p) ms tab.size) (rules_of (setting_of p) ms)
+          times-are : growing_rule_numbers (map (growth_by_flows fs) ts) ≡ timed
+          times-are = (λ i. growing_rule_numbers (map (growth_by_flows (ef i)) (et i))) ∙ growing-are p (flows (setting_of p) ms tab.size) (rules_of (setting_of p) ms)
 
-          bound-is : composed tab.time (base_of fs) (map (grown fs) ts) ≡ whole
-          bound-is = (λ i. composed tab.time (base_of (ef i)) (map (grown (ef i)) (et i)))
+          bound-is : composed tab.time (base_of fs) (map (growth_by_flows fs) ts) ≡ whole
+          bound-is = (λ i. composed tab.time (base_of (ef i)) (map (growth_by_flows (ef i)) (et i)))
               ∙ composed-is p (flows (setting_of p) ms tab.size) tab.time (rules_of (setting_of p) ms)

@@ -3,10 +3,10 @@ use Rattle.std.proofs.Common.{◌≡◌, ℕ, List, [], ◌∷◌, Option, refl,
 use Rattle.std.proofs.lemmas.List.{drop_more, append_assoc}
 use Rattle.model.specs.Bounds.{Bound}
 use Rattle.model.specs.Polynomials.{Polynomial}
-use Rattle.proof_nodes.specs.Nodes.{Member, Arm}
-use Rattle.proof_nodes.specs.Composed.{sizes_after}
-use Rattle.proof_nodes.specs.Setting.{Setting}
-use Rattle.proof_nodes.specs.ComposedSizes.{Flow, is_member, slope_of, offset_of, poly_at, flows_from}
+use Rattle.proof_tree.specs.proof_nodes.Nodes.{Member, Arm}
+use Rattle.proof_tree.specs.proof_nodes.Composed.{sizes_after}
+use Rattle.proof_tree.specs.proof_nodes.Setting.{Setting}
+use Rattle.proof_tree.specs.proof_nodes.ComposedSizes.{Flow, is_member, slope_of, offset_of, poly_at, flows_from}
 use Rattle.size_bounds.specs.Flows.{flow_over, flows_over}
 
 -- what flows in from these rules

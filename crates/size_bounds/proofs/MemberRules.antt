@@ -1,5 +1,6 @@
 -- The rules of members that ascend are those of the members, each once.
-use Rattle.std.proofs.Common.{◌≡◌, ◌≢◌, ◌⊎◌, inl, inr, ℕ, zero, suc, ◌+◌, ◌≤◌, ◌==◌, ◌||◌, Bool, true, false, List, [], ◌∷◌, length, filter, Some, None, refl, sym, ap, ◌∙◌, subst, arith}
+use Rattle.std.proofs.Common.{◌≡◌, ◌≢◌, ◌⊎◌, inl, inr, ℕ, zero, suc, ◌+◌, ◌≤◌, ◌==◌, ◌||◌, Bool, true, false, List, []}
+use Rattle.std.proofs.Common.{◌∷◌, length, filter, Some, None, refl, sym, ap, ◌∙◌, subst, arith}
 use Rattle.std.specs.List.{AllByRecursion, list_any, range_with_len}
 use Rattle.std.proofs.lemmas.Bool.{or_left, or_right}
 use Rattle.std.proofs.lemmas.Bool.Decides.{eqb_tells}
@@ -8,10 +9,10 @@ use Rattle.model.specs.Programs.{Program, rule_at}
 use Rattle.model.specs.Entries.{is_in}
 use Rattle.model.specs.Paths.{entry_and_rules}
 use Rattle.model.proofs.Membership.{told_same, no_is_not_yes, is_in-cases, is_in-filter, filter-in, rule_is_numbered}
-use Rattle.proof_nodes.specs.Nodes.{Member}
-use Rattle.proof_nodes.specs.AcceptsSizes.{ComesBefore, AreAscending, HasMemberShape, HasCycleShape}
-use Rattle.proof_nodes.specs.ComposedSizes.{rules_of}
-use Rattle.proof_setting.specs.Setting.{setting_of}
+use Rattle.proof_tree.specs.proof_nodes.Nodes.{Member}
+use Rattle.proof_tree.specs.proof_nodes.AcceptsSizes.{ComesBefore, AreAscending, HasMemberShape, HasCycleShape}
+use Rattle.proof_tree.specs.proof_nodes.ComposedSizes.{rules_of}
+use Rattle.proof_tree.specs.proof_setting.Setting.{setting_of}
 use Rattle.size_bounds.specs.Flows.{rules_after}
 
 -- numbers that rise, the first from a number on

@@ -1,14 +1,15 @@
 -- The members that are places after one rule stand side by side.
-use Rattle.std.proofs.Common.{◌≡◌, ℕ, zero, suc, ◌+◌, ◌<◌, ◌≤◌, ◌==◌, ◌&&◌, ◌||◌, not, Bool, true, false, List, [], ◌∷◌, length, map, filter, take, drop, get_or, inl, inr, refl, sym, ap, subst, ◌∙◌, arith}
+use Rattle.std.proofs.Common.{◌≡◌, ℕ, zero, suc, ◌+◌, ◌<◌, ◌≤◌, ◌==◌, ◌&&◌, ◌||◌, not, Bool, true, false, List, [], ◌∷◌}
+use Rattle.std.proofs.Common.{length, map, filter, take, drop, get_or, inl, inr, refl, sym, ap, subst, ◌∙◌, arith}
 use Rattle.std.specs.List.{AllAdjacentBelow, AllWithin, list_any}
 use Rattle.std.specs.List.Sorted.{IsNonDecreasingBy}
 use Rattle.std.proofs.lemmas.Bool.Decides.{nat_tests}
 use Rattle.std.proofs.lemmas.List.Sorted.{IsNonDecreasingBy-from_all_adjacent}
-use Rattle.proof_nodes.specs.Nodes as nodes
-use Rattle.proof_nodes.specs.AcceptsSizes.{AreAscending, ComesBefore}
-use Rattle.proof_nodes.specs.ComposedSizes.{is_member}
+use Rattle.proof_tree.specs.proof_nodes.Nodes as nodes
+use Rattle.proof_tree.specs.proof_nodes.AcceptsSizes.{AreAscending, ComesBefore}
+use Rattle.proof_tree.specs.proof_nodes.ComposedSizes.{is_member}
 use Rattle.size_bounds.specs.Needs.{spots_outside}
-use Rattle.proof_nodes.specs.Checks.{spots_after}
+use Rattle.proof_tree.specs.proof_nodes.Checks.{spots_after}
 use Rattle.proof_tree.specs.declared.arm.Member.{Member}
 use Rattle.proof_tree.specs.Views.{member_of}
 

@@ -1,15 +1,16 @@
 -- The sizes that arms need, place by place and rule by rule.
 use Rattle.proof_tree.specs.declared.arm.Spot.{Spot as CodeSpot}
-use Rattle.std.proofs.Common.{◌≡◌, ℕ, zero, suc, ◌+◌, ◌^◌, ◌<◌, ◌≤◌, ◌&&◌, not, Bool, true, false, List, [], ◌∷◌, ◌++◌, map, filter, All, Option, refl, sym, ap, ◌∙◌, arith}
+use Rattle.std.proofs.Common.{◌≡◌, ℕ, zero, suc, ◌+◌, ◌^◌, ◌<◌, ◌≤◌, ◌&&◌, not, Bool, true, false, List, [], ◌∷◌, ◌++◌}
+use Rattle.std.proofs.Common.{map, filter, All, Option, refl, sym, ap, ◌∙◌, arith}
 use Rattle.std.specs.List.{AllByRecursion, range_with_len}
 use Rattle.std.proofs.lemmas.List.{append-nil, map-append}
 use Rattle.std.proofs.lemmas.List.Elements.{All-from_recursion}
 use Rattle.model.specs.Polynomials.{Polynomial}
-use Rattle.proof_nodes.specs.Nodes.{Spot, Arm, Member}
-use Rattle.proof_nodes.specs.Setting.{Setting}
-use Rattle.proof_nodes.specs.ComposedSizes.{poly_at, reads, is_member}
-use Rattle.proof_nodes.specs.AcceptsSizes.{left_of}
-use Rattle.proof_nodes.specs.Checks.{spots_after, needed_by, needed_from}
+use Rattle.proof_tree.specs.proof_nodes.Nodes.{Spot, Arm, Member}
+use Rattle.proof_tree.specs.proof_nodes.Setting.{Setting}
+use Rattle.proof_tree.specs.proof_nodes.ComposedSizes.{poly_at, reads, is_member}
+use Rattle.proof_tree.specs.proof_nodes.AcceptsSizes.{left_of}
+use Rattle.proof_tree.specs.proof_nodes.Checks.{spots_after, needed_by, needed_from}
 use Rattle.proof_tree.specs.Views.{spot_of}
 use Rattle.proof_tree.specs.Sizes.{is_spot}
 use Rattle.proof_tree.specs.Reading.{places_read}

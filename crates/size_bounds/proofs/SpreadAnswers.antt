@@ -3,15 +3,15 @@ use Rattle.std.proofs.Common.{◌≡◌, inl, inr, ℕ, [], ◌∷◌, Some, Non
 use Rattle.model.specs.Bounds.{Bound}
 use Rattle.bound_table.specs.InForce.{rewritten}
 use Rattle.bound_table.specs.Within.{Fits, TooLarge, rewritten_within}
-use Rattle.proof_nodes.specs.Nodes.{Spot, Member}
-use Rattle.proof_nodes.specs.Known.{Table}
-use Rattle.proof_nodes.specs.AcceptsSizes.{HasMemberShape, AcceptsUp, AcceptsLow, AcceptsSpread, spread_size}
-use Rattle.proof_nodes.specs.Reasons.{MissingSize, Large, IsFirstAmong}
-use Rattle.proof_nodes.specs.Checks.{large_nodes, check_size, needed_into, spread_checks}
-use Rattle.proof_nodes.proofs.SizeReasons.{passes-spread}
-use Rattle.proof_nodes.proofs.CheckLists.{passes_each}
-use Rattle.proof_setting.specs.Setting.{setting_of}
-use Rattle.proof_setting.proofs.Small.{small-bounds}
+use Rattle.proof_tree.specs.proof_nodes.Nodes.{Spot, Member}
+use Rattle.proof_tree.specs.proof_nodes.Known.{Table}
+use Rattle.proof_tree.specs.proof_nodes.AcceptsSizes.{HasMemberShape, AcceptsUp, AcceptsLow, AcceptsSpread, spread_size}
+use Rattle.proof_tree.specs.proof_nodes.Reasons.{MissingSize, Large, IsFirstAmong}
+use Rattle.proof_tree.specs.proof_nodes.Checks.{large_nodes, check_size, needed_into, spread_checks}
+use Rattle.proof_tree.proofs.proof_nodes.SizeReasons.{passes-spread}
+use Rattle.proof_tree.proofs.proof_nodes.CheckLists.{passes_each}
+use Rattle.proof_tree.specs.proof_setting.Setting.{setting_of}
+use Rattle.proof_tree.proofs.proof_setting.Small.{small-bounds}
 use Rattle.model.specs.Programs.{Program}
 use Rattle.size_bounds.specs.Needs.{first_missing}
 use Rattle.size_bounds.proofs.FirstMissing.{all-known, first-missing, behind-each}

@@ -1,8 +1,9 @@
 -- What nodes rest on, one more at a time.
-use Rattle.std.proofs.Common.{◌≡◌, ℕ, ◌==◌, ◌||◌, Bool, not, true, false, cond, List, [], ◌∷◌, ◌++◌, map, filter, refl, sym, ◌∙◌, ap}
+use Rattle.std.proofs.Common.{◌≡◌, ℕ, ◌==◌, ◌||◌, Bool, not, true, false, cond, List, [], ◌∷◌, ◌++◌, map, filter, refl}
+use Rattle.std.proofs.Common.{sym, ◌∙◌, ap}
 use Rattle.std.proofs.lemmas.List.{append-nil}
 use Rattle.model.specs.Entries.{is_in}
-use Rattle.proof_nodes.specs.Nodes.{Proofs, Cite, AndProof}
+use Rattle.proof_tree.specs.proof_nodes.Nodes.{Proofs, Cite, AndProof}
 use Rattle.proof_tree.specs.Views.{uses_of}
 use Rattle.proof_tree.proofs.NumberSets.{bool_same}
 use Rattle.round_relation.specs.Uses.{once, cites}

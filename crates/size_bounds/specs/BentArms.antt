@@ -3,9 +3,9 @@ use Rattle.std.specs.Prelude.{ℕ, ◌||◌, Bool, false, cond, List, [], ◌∷
 use Rattle.std.specs.List.{list_any}
 use Rattle.model.specs.Paths.{pre}
 use Rattle.model.specs.Polynomials.{Polynomial}
-use Rattle.proof_nodes.specs.Nodes.{Spot, Arm, Linear, Poly, LocalBound, Member}
-use Rattle.proof_nodes.specs.ComposedSizes.{is_member, poly_at}
-use Rattle.proof_nodes.specs.Setting.{Setting}
+use Rattle.proof_tree.specs.proof_nodes.Nodes.{Spot, Arm, Linear, Poly, LocalBound, Member}
+use Rattle.proof_tree.specs.proof_nodes.ComposedSizes.{is_member, poly_at}
+use Rattle.proof_tree.specs.proof_nodes.Setting.{Setting}
 
 -- after rule e: a polynomial arm reads a member
 abbrev pub is_bent_arm : Option Polynomial → List Member → Arm → ℕ → Bool

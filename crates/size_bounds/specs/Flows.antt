@@ -3,11 +3,11 @@ use Rattle.std.specs.Prelude.{ℕ, ◌≤◌, ◌==◌, cond, List, [], ◌∷�
 use Rattle.model.specs.Bounds.{Bound}
 use Rattle.model.specs.Polynomials.{Polynomial}
 use Rattle.bound_expr.specs.Views.{bound_of}
-use Rattle.proof_nodes.specs.Nodes as nodes
-use Rattle.proof_nodes.specs.Nodes.{Member}
-use Rattle.proof_nodes.specs.Limits.{IsInLimit}
-use Rattle.proof_nodes.specs.Composed.{sizes_after}
-use Rattle.proof_nodes.specs.ComposedSizes.{Flow, slope_of, offset_of, is_member}
+use Rattle.proof_tree.specs.proof_nodes.Nodes as nodes
+use Rattle.proof_tree.specs.proof_nodes.Nodes.{Member}
+use Rattle.proof_tree.specs.proof_nodes.Limits.{IsInLimit}
+use Rattle.proof_tree.specs.proof_nodes.Composed.{sizes_after}
+use Rattle.proof_tree.specs.proof_nodes.ComposedSizes.{Flow, slope_of, offset_of, is_member}
 use Rattle.proof_tree.specs.declared.arm.Arm.{Arm}
 use Rattle.proof_tree.specs.declared.arm.Arm.TheVariants.{Linear, Poly}
 use Rattle.size_bounds.specs.declared.flow.Flow as code

@@ -3,9 +3,9 @@ use Rattle.std.specs.Prelude.{ℕ, ◌||◌, not, nat_lt, Bool, cond, List, [], 
 use Rattle.model.specs.Bounds.{Bound, SumOf, ProductOf, PowerOf, Parts, NoParts, Part}
 use Rattle.bound_expr.specs.Views.{bound_of}
 use Rattle.bound_table.specs.InForce.{rewritten}
-use Rattle.proof_nodes.specs.Known.{known, is_zero_bound}
-use Rattle.proof_nodes.specs.Composed.{both_parts}
-use Rattle.proof_nodes.specs.ComposedSizes.{Flow, is_outer, is_inner, factor_of, addition_of}
+use Rattle.proof_tree.specs.proof_nodes.Known.{known, is_zero_bound}
+use Rattle.proof_tree.specs.proof_nodes.Composed.{both_parts}
+use Rattle.proof_tree.specs.proof_nodes.ComposedSizes.{Flow, is_outer, is_inner, factor_of, addition_of}
 use Rattle.proof_tree.specs.Sizes.{joined}
 use Rattle.size_bounds.specs.declared.growth.Growth as code
 use Rattle.size_bounds.specs.declared.growth.FlowKind.{FlowKind}
@@ -37,8 +37,8 @@ abbrev pub growth_of : code.Growth → Growth
 growth_of g = record { rule = g.rule; factor = g.factor; addition = bound_of g.addition; adds = g.adds }
 
 -- what a rule does by these flows
-abbrev pub grown : List Flow → ℕ → Growth
-grown fs t = record {
+abbrev pub growth_by_flows : List Flow → ℕ → Growth
+growth_by_flows fs t = record {
   rule = t;
   factor = factor_of fs t;
   addition = addition_of fs t;
@@ -50,8 +50,8 @@ abbrev pub is_growing : Growth → Bool
 is_growing g = nat_lt 1 g.factor || g.adds
 
 -- these rules
-abbrev pub growing : List Growth → List ℕ
-growing gs = map (λ g. g.rule) (filter is_growing gs)
+abbrev pub growing_rule_numbers : List Growth → List ℕ
+growing_rule_numbers gs = map (λ g. g.rule) (filter is_growing gs)
 
 -- the factor of a rule that multiplies to the power of its time
 abbrev pub power_part : (ℕ → Option Bound) → Growth → Parts

@@ -1,13 +1,13 @@
 -- The lemmas that a node cites, as plain data.
 use Rattle.std.specs.Prelude.{ℕ, ◌==◌, cond, List, [], ◌∷◌, ◌++◌, map}
 use Rattle.model.specs.Entries.{is_in}
-use Rattle.proof_nodes.specs.Nodes.{Proofs}
+use Rattle.proof_tree.specs.proof_nodes.Nodes.{Proofs}
 use Rattle.proof_tree.specs.declared.proof.Proof.{Proof}
 use Rattle.proof_tree.specs.Views.{proof_of, uses_of}
 
 -- what a node rests on, as plain data
-abbrev pub uses_seen : List Proof → Proofs
-uses_seen uses = uses_of (map proof_of uses)
+abbrev pub uses_of_proofs : List Proof → Proofs
+uses_of_proofs uses = uses_of (map proof_of uses)
 
 -- a list with a number at its end, where it isn't 0 and isn't there
 abbrev pub with_other : ℕ → List ℕ → List ℕ

@@ -14,3 +14,5 @@ pub mod Growths
 pub mod BentArms
 -- what is answered of a loop
 pub mod LoopAnswers
+-- the crates below, which callers name through this one
+pub use Rattle.round_relation.specs as round_relation

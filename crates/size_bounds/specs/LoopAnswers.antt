@@ -2,17 +2,17 @@
 use Rattle.std.specs.Prelude.{◌≡◌, ℕ, cond, List, [], ◌∷◌, ◌++◌, map, Option, Some, None}
 use Rattle.model.specs.Bounds.{Bound}
 use Rattle.bound_table.specs.InForce.{rewritten}
-use Rattle.proof_nodes.specs.Nodes.{Spot, Member, Cycle}
-use Rattle.proof_nodes.specs.Known.{Table}
-use Rattle.proof_nodes.specs.Limits.{IsSmallComposed}
-use Rattle.proof_nodes.specs.Checks.{large_nodes}
-use Rattle.proof_nodes.specs.AcceptsSizes.{cycle_facts}
+use Rattle.proof_tree.specs.proof_nodes.Nodes.{Spot, Member, Cycle}
+use Rattle.proof_tree.specs.proof_nodes.Known.{Table}
+use Rattle.proof_tree.specs.proof_nodes.Limits.{IsSmallComposed}
+use Rattle.proof_tree.specs.proof_nodes.Checks.{large_nodes}
+use Rattle.proof_tree.specs.proof_nodes.AcceptsSizes.{cycle_facts}
 use Rattle.proof_tree.specs.Views.{proof_of, facts_of}
 use Rattle.round_relation.specs.Tables.{lacks}
 use Rattle.round_relation.specs.Uses.{Numbers, Need, NeedsTime, size_needs, uses_for}
 use Rattle.size_bounds.specs.declared.answer.SizeAnswer.{SizeAnswer}
 use Rattle.size_bounds.specs.declared.answer.SizeAnswer.TheVariants as answers
-use Rattle.size_bounds.specs.Growths.{Growth, growing, composed}
+use Rattle.size_bounds.specs.Growths.{Growth, growing_rule_numbers, composed}
 
 -- the first of these rules without a time
 abbrev pub first_unknown : (ℕ → Option Bound) → List ℕ → Option ℕ
@@ -42,5 +42,5 @@ IsAnswerBy (Some t) ns members needs b a = a ≡ answers.Untimed t
 -- rules do
 abbrev pub IsLoopAnswer : Table → Numbers → List Member → List Spot → Bound → List Growth → SizeAnswer → Type 0
 IsLoopAnswer tab ns members needed base gs a =
-    IsAnswerBy (first_unknown tab.time (growing gs)) ns members (loop_needs needed (growing gs))
+    IsAnswerBy (first_unknown tab.time (growing_rule_numbers gs)) ns members (loop_needs needed (growing_rule_numbers gs))
     (composed tab.time base gs) a

@@ -2,11 +2,11 @@
 use Rattle.std.specs.Prelude.{ℕ, zero, suc, not, List, [], ◌∷◌, ◌++◌, filter, Option, Some, None}
 use Rattle.model.specs.Bounds.{Bound}
 use Rattle.model.specs.Polynomials.{Polynomial}
-use Rattle.proof_setting.specs.Setting.{bent_at}
-use Rattle.proof_nodes.specs.Nodes.{Spot, Member}
-use Rattle.proof_nodes.specs.Known.{Table}
-use Rattle.proof_nodes.specs.ComposedSizes.{is_member}
-use Rattle.proof_nodes.specs.Checks.{spots_after}
+use Rattle.proof_tree.specs.proof_setting.Setting.{bent_at}
+use Rattle.proof_tree.specs.proof_nodes.Nodes.{Spot, Member}
+use Rattle.proof_tree.specs.proof_nodes.Known.{Table}
+use Rattle.proof_tree.specs.proof_nodes.ComposedSizes.{is_member}
+use Rattle.proof_tree.specs.proof_nodes.Checks.{spots_after}
 
 -- the update at a place, where it has degree 2 or more; places count from 1
 abbrev pub update_at : List Polynomial → ℕ → Option Polynomial

@@ -3,18 +3,18 @@ use Rattle.std.specs.Prelude.{◌≡◌, List, [], ◌∷◌}
 use Rattle.std.specs.List.{All}
 use Rattle.model.specs.Programs.{Program}
 use Rattle.model.specs.Facts.{Size}
-use Rattle.its_model.specs.Valid.{IsValid}
+use Rattle.guard_prep.specs.its_model.Valid.{IsValid}
 use Rattle.its_graph.specs.Graphs.{IsGraphOf}
 use Rattle.its_graph.specs.declared.graph.Graph.{Graph}
 use Rattle.guard_prep.specs.declared.rule_rows.RuleRows.{RuleRows}
-use Rattle.proof_nodes.specs.Nodes.{Member, Spread, Cycle}
-use Rattle.proof_nodes.specs.Setting.{Setting}
-use Rattle.proof_nodes.specs.Known.{Table}
-use Rattle.proof_nodes.specs.AcceptsSizes.{AcceptsSpread, AcceptsCycle, spread_size, cycle_size, cycle_facts}
-use Rattle.proof_nodes.specs.AcceptsSizes.{HasMemberShape, HasCycleShape, AcceptsUp, AcceptsLow}
-use Rattle.proof_nodes.specs.Reasons.{MissingTime, MissingSize, Bent, Large, IsFirstAmong}
-use Rattle.proof_nodes.specs.Checks.{spread_checks, cycle_checks}
-use Rattle.proof_setting.specs.Setting.{setting_of}
+use Rattle.proof_tree.specs.proof_nodes.Nodes.{Member, Spread, Cycle}
+use Rattle.proof_tree.specs.proof_nodes.Setting.{Setting}
+use Rattle.proof_tree.specs.proof_nodes.Known.{Table}
+use Rattle.proof_tree.specs.proof_nodes.AcceptsSizes.{AcceptsSpread, AcceptsCycle, spread_size, cycle_size, cycle_facts}
+use Rattle.proof_tree.specs.proof_nodes.AcceptsSizes.{HasMemberShape, HasCycleShape, AcceptsUp, AcceptsLow}
+use Rattle.proof_tree.specs.proof_nodes.Reasons.{MissingTime, MissingSize, Bent, Large, IsFirstAmong}
+use Rattle.proof_tree.specs.proof_nodes.Checks.{spread_checks, cycle_checks}
+use Rattle.proof_tree.specs.proof_setting.Setting.{setting_of}
 use Rattle.proof_tree.specs.Composing.{AreRowsOf}
 use Rattle.proof_tree.specs.Views.{facts_of, proof_of}
 use Rattle.round_relation.specs.Uses.{Numbers, uses_for, spread_needs, cycle_needs}
@@ -46,7 +46,7 @@ IsCycleAnswer s tab ns members (answers.Untimed rule) = IsFirstAmong (cycle_chec
 IsCycleAnswer s tab ns members (answers.Large nodes) = IsFirstAmong (cycle_checks s tab members) (Large nodes)
 
 -- the graph and the rows are those of a program, and the arms of a member are accepted
-pub record IsGiven (p : Program) (g : Graph) (preps : List RuleRows) (m : Member) : Type 0 where
+pub record IsMemberOfProgram (p : Program) (g : Graph) (preps : List RuleRows) (m : Member) : Type 0 where
   pub valid : IsValid p
   pub graph : IsGraphOf g p
   pub rows : AreRowsOf preps p
@@ -55,7 +55,7 @@ pub record IsGiven (p : Program) (g : Graph) (preps : List RuleRows) (m : Member
   pub low : AcceptsLow (setting_of p) m
 
 -- so are those of each of these members, which ascend
-pub record AreGiven (p : Program) (g : Graph) (preps : List RuleRows) (members : List Member) : Type 0 where
+pub record AreMembersOfProgram (p : Program) (g : Graph) (preps : List RuleRows) (members : List Member) : Type 0 where
   pub valid : IsValid p
   pub graph : IsGraphOf g p
   pub rows : AreRowsOf preps p

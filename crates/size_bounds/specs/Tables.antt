@@ -4,7 +4,7 @@ use Rattle.std.specs.Option.{option_map}
 use denote.Ref.{Bor}
 use Rattle.model.specs.Bounds.{Bound}
 use Rattle.bound_expr.specs.Views.{bound_of}
-use Rattle.proof_nodes.specs.Known as nodes
+use Rattle.proof_tree.specs.proof_nodes.Known as nodes
 use Rattle.outcome.specs.declared.entry.Stored.{Stored}
 use Rattle.round_relation.specs.Uses.{Numbers}
 use Rattle.size_bounds.specs.declared.table.Table.{Table}
@@ -22,8 +22,8 @@ row_at (r ∷ rows) zero = r
 row_at (r ∷ rows) (suc n) = row_at rows n
 
 -- what a reference that is there points to
-abbrev pub seen : Option (Bor Stored) → Option Stored
-seen o = option_map (λ s. s.now) o
+abbrev pub optional_stored : Option (Bor Stored) → Option Stored
+optional_stored o = option_map (λ s. s.now) o
 
 -- whether nothing is stored
 abbrev pub is_unstored : Option Stored → Bool

@@ -1,4 +1,4 @@
-// What is answered of a size.
+//! What is answered of a size.
 
 use proof_tree::{Fact, Proof, Spot};
 

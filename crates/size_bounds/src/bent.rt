@@ -1,17 +1,17 @@
-// The members of a loop with a polynomial arm that reads a member.
+//! The members of a loop with a polynomial arm that reads a member.
 
 ghost use Rattle.std.specs.Prelude.{◌≡◌, ◌<◌, ◌^◌, map, All, option_map};
 ghost use Rattle.std.specs.List.{list_any};
 ghost use Rattle.model.specs.Programs.{Program};
 ghost use Rattle.poly_terms.specs.Views.{monomial_of};
-ghost use Rattle.proof_nodes.specs.AcceptsSizes.{AreAscending};
-ghost use Rattle.proof_nodes.specs.ComposedSizes.{is_member};
-ghost use Rattle.proof_setting.specs.Setting.{setting_of};
-ghost use Rattle.proof_tree.specs.Composing.{poly_seen, HasFewVariables, HasFewPlaces};
+ghost use Rattle.proof_tree.specs.proof_nodes.AcceptsSizes.{AreAscending};
+ghost use Rattle.proof_tree.specs.proof_nodes.ComposedSizes.{is_member};
+ghost use Rattle.proof_tree.specs.proof_setting.Setting.{setting_of};
+ghost use Rattle.proof_tree.specs.Composing.{optional_poly, HasFewVariables, HasFewPlaces};
 ghost use Rattle.proof_tree.specs.Views.{arm_of, member_of, local_of, spot_of};
 ghost use Rattle.size_bounds.specs.BentArms.{is_bent_arm, is_bent_from, is_bent_over, is_bent_by};
 ghost use Rattle.size_bounds.specs.BentArms.{first_bent as first_bent_of};
-ghost use Rattle.size_bounds.specs.SizeAnswers.{IsGiven, AreGiven};
+ghost use Rattle.size_bounds.specs.SizeAnswers.{IsMemberOfProgram, AreMembersOfProgram};
 
 use crate::members::members_after;
 use crate::updates::poly_at;
@@ -52,7 +52,7 @@ fn reads_member(monomials: &[Monomial], members: &[Member], rule: u32) -> bool
 // Whether an arm is polynomial and reads a member, after a rule.
 fn is_bent(arm: &Arm, poly: Option<&Poly>, members: &[Member], rule: u32) -> bool
     requires { HasFewPlaces poly }
-    ensures { result ≡ is_bent_arm (poly_seen poly.entry) (map member_of members.now) (arm_of arm.now) rule }
+    ensures { result ≡ is_bent_arm (optional_poly poly.entry) (map member_of members.now) (arm_of arm.now) rule }
 {
     match (arm, poly) {
         (Arm::Poly, Some(q)) => reads_member(&q.terms, members, rule),
@@ -64,7 +64,7 @@ fn is_bent(arm: &Arm, poly: Option<&Poly>, members: &[Member], rule: u32) -> boo
 fn is_bent_bound(local: &LocalBound, poly: Option<&Poly>, members: &[Member], rule: u32) -> bool
     requires ascending { AreAscending (map member_of members.now) }
     requires few { HasFewPlaces poly }
-    ensures { result ≡ is_bent_from (poly_seen poly.entry) (map member_of members.now) (local_of local.now) rule }
+    ensures { result ≡ is_bent_from (optional_poly poly.entry) (map member_of members.now) (local_of local.now) rule }
 {
     let inside = members_after(members, rule);
     is_bent(&local.up, poly, inside, rule) || is_bent(&local.low, poly, inside, rule)
@@ -79,7 +79,7 @@ fn is_bent_after(
 ) -> bool
     requires ascending { AreAscending (map member_of members.now) }
     requires few { HasFewPlaces poly }
-    ensures { result ≡ is_bent_over (poly_seen poly.entry) (map member_of members.now) (local_of local.now) before.now }
+    ensures { result ≡ is_bent_over (optional_poly poly.entry) (map member_of members.now) (local_of local.now) before.now }
 {
     for rule in before {
         let is_here = is_bent_bound(local, poly, members, *rule);
@@ -93,8 +93,8 @@ fn is_bent_after(
 // Whether one of both arms of a member is, after what can come before it.
 fn is_bent_member(g: &Graph, preps: &[RuleRows], members: &[Member], member: &Member) -> bool
     requires ascending { AreAscending (map member_of members.now) }
-    requires given { (p : Program) × IsGiven p g.now preps.now (member_of member.now) }
-    ensures { (p : Program) → IsGiven p g.now preps.now (member_of member.now)
+    requires given { (p : Program) × IsMemberOfProgram p g.now preps.now (member_of member.now) }
+    ensures { (p : Program) → IsMemberOfProgram p g.now preps.now (member_of member.now)
         → result ≡ is_bent_by (setting_of p) (map member_of members.now) (member_of member.now) }
 {
     let poly = poly_at(preps, member.spot);
@@ -103,8 +103,8 @@ fn is_bent_member(g: &Graph, preps: &[RuleRows], members: &[Member], member: &Me
 
 /// The first member with a polynomial arm that reads a member, after what can come before it.
 pub(crate) fn first_bent(g: &Graph, preps: &[RuleRows], members: &[Member]) -> Option<Spot>
-    requires { (p : Program) × AreGiven p g.now preps.now (map member_of members.now) }
-    ensures { (p : Program) → AreGiven p g.now preps.now (map member_of members.now)
+    requires { (p : Program) × AreMembersOfProgram p g.now preps.now (map member_of members.now) }
+    ensures { (p : Program) → AreMembersOfProgram p g.now preps.now (map member_of members.now)
         → option_map spot_of result ≡ first_bent_of (setting_of p) (map member_of members.now) (map member_of
         members.now) }
 {

@@ -1,22 +1,22 @@
-// What flows into the members of a loop.
+//! What flows into the members of a loop.
 
 ghost use Rattle.std.specs.Prelude.{◌≡◌, ℕ, ◌+◌, ◌*◌, ◌^◌, ◌≤◌, ◌++◌, ◌∷◌, [], cond, length, map, All};
 ghost use Rattle.std.specs.Prelude.{IfOk, OnOk, nat_abs};
-ghost use Rattle.linear_forms.specs.Limits.{certificate_limit};
+ghost use Rattle.poly_terms.specs.linear_forms.Limits.{certificate_limit};
 ghost use Rattle.model.specs.Programs.{Program};
 ghost use Rattle.model.specs.Paths.{pre};
-ghost use Rattle.proof_nodes.specs.ComposedSizes.{inner_sum as inner_sum_of, is_member, slope_of, flows_from};
-ghost use Rattle.proof_nodes.specs.ComposedSizes.{flows};
-ghost use Rattle.proof_nodes.specs.AcceptsSizes.{AreAscending};
-ghost use Rattle.proof_nodes.specs.Limits.{IsInLimit};
-ghost use Rattle.proof_nodes.specs.Numbers.{rounded_up};
-ghost use Rattle.proof_setting.specs.Setting.{setting_of};
-ghost use Rattle.proof_tree.specs.Composing.{poly_seen, HasFewPlaces};
+ghost use Rattle.proof_tree.specs.proof_nodes.ComposedSizes.{inner_sum as inner_sum_of, is_member, slope_of, flows_from};
+ghost use Rattle.proof_tree.specs.proof_nodes.ComposedSizes.{flows};
+ghost use Rattle.proof_tree.specs.proof_nodes.AcceptsSizes.{AreAscending};
+ghost use Rattle.proof_tree.specs.proof_nodes.Limits.{IsInLimit};
+ghost use Rattle.proof_tree.specs.proof_nodes.Numbers.{rounded_up};
+ghost use Rattle.proof_tree.specs.proof_setting.Setting.{setting_of};
+ghost use Rattle.proof_tree.specs.Composing.{optional_poly, HasFewPlaces};
 ghost use Rattle.proof_tree.specs.Sizes.{is_spot, members_from};
 ghost use Rattle.proof_tree.specs.Views.{arm_of, member_of};
 ghost use Rattle.size_bounds.specs.Tables.{table_of};
 ghost use Rattle.size_bounds.specs.Flows.{IsLimited, flow_of, flow_over, flows_over};
-ghost use Rattle.size_bounds.specs.SizeAnswers.{IsGiven, AreGiven};
+ghost use Rattle.size_bounds.specs.SizeAnswers.{IsMemberOfProgram, AreMembersOfProgram};
 
 use crate::members::members_after;
 use crate::table::Table;
@@ -91,7 +91,7 @@ fn flow_by(
 ) -> Result<Flow, Memory>
     requires limited { IsLimited arm.now }
     requires few { HasFewPlaces poly }
-    ensures { IfOk result (λ f. flow_of f ≡ flow_over (poly_seen poly.entry) (map member_of members.now) (table_of
+    ensures { IfOk result (λ f. flow_of f ≡ flow_over (optional_poly poly.entry) (map member_of members.now) (table_of
         t.now).size (member_of member.now) (arm_of arm.now) rule) }
 {
     let offset = arm_bound(alloc, arm, poly, t, rule, members)?;
@@ -115,7 +115,7 @@ fn push_both(
     requires up { IsLimited member.now.local.up }
     requires low { IsLimited member.now.local.low }
     requires few { HasFewPlaces poly }
-    ensures { OnOk result (map flow_of flows.new.items ≡ map flow_of flows.old.items ++ flows_over (poly_seen
+    ensures { OnOk result (map flow_of flows.new.items ≡ map flow_of flows.old.items ++ flows_over (optional_poly
         poly.entry) (map member_of members.now) (table_of t.now).size (member_of member.now) (rule ∷ [])) }
 {
     let up = flow_by(alloc, t, members, member, &member.local.up, poly, rule)?;
@@ -140,7 +140,7 @@ fn push_flows(
     requires up { IsLimited member.now.local.up }
     requires low { IsLimited member.now.local.low }
     requires few { HasFewPlaces poly }
-    ensures { OnOk result (map flow_of flows.new.items ≡ map flow_of flows.old.items ++ flows_over (poly_seen
+    ensures { OnOk result (map flow_of flows.new.items ≡ map flow_of flows.old.items ++ flows_over (optional_poly
         poly.entry) (map member_of members.now) (table_of t.now).size (member_of member.now) before.now) }
 {
     for rule in before {
@@ -161,8 +161,8 @@ fn push_flows_into(
     member: &Member,
 ) -> Result<(), Memory>
     requires ascending { AreAscending (map member_of members.now) }
-    requires given { (p : Program) × IsGiven p g.now preps.now (member_of member.now) }
-    ensures { OnOk result ((p : Program) → IsGiven p g.now preps.now (member_of member.now)
+    requires given { (p : Program) × IsMemberOfProgram p g.now preps.now (member_of member.now) }
+    ensures { OnOk result ((p : Program) → IsMemberOfProgram p g.now preps.now (member_of member.now)
         → map flow_of flows.new.items ≡ map flow_of flows.old.items ++ flows_from (setting_of p) (map member_of
         members.now) (table_of t.now).size (member_of member.now) (pre p member.now.spot.rule)) }
 {
@@ -183,8 +183,8 @@ pub(crate) fn flows_in(
     t: &Table,
     members: &[Member],
 ) -> Result<Vec<Flow>, Memory>
-    requires { (p : Program) × AreGiven p g.now preps.now (map member_of members.now) }
-    ensures { IfOk result (λ fs. (p : Program) → AreGiven p g.now preps.now (map member_of members.now)
+    requires { (p : Program) × AreMembersOfProgram p g.now preps.now (map member_of members.now) }
+    ensures { IfOk result (λ fs. (p : Program) → AreMembersOfProgram p g.now preps.now (map member_of members.now)
         → map flow_of fs.items ≡ flows (setting_of p) (map member_of members.now) (table_of t.now).size) }
 {
     let mut flows = Vec::new(alloc);

@@ -1,13 +1,13 @@
-// What the rules of a loop make of its flows: by what each multiplies, and what it adds.
+//! What the rules of a loop make of its flows: by what each multiplies, and what it adds.
 
 ghost use Rattle.std.specs.Prelude.{◌≡◌, map, IfOk, OnOk};
 ghost use Rattle.model.specs.Bounds.{MaximumOf};
 ghost use Rattle.bound_expr.specs.Views.{bound_of, bounds_of, parts_of};
-ghost use Rattle.proof_nodes.specs.Known.{is_zero_bound};
-ghost use Rattle.proof_nodes.specs.ComposedSizes.{offsets, factor_of};
+ghost use Rattle.proof_tree.specs.proof_nodes.Known.{is_zero_bound};
+ghost use Rattle.proof_tree.specs.proof_nodes.ComposedSizes.{offsets, factor_of};
 ghost use Rattle.proof_tree.specs.Sizes.{joined};
 ghost use Rattle.size_bounds.specs.Flows.{flow_of};
-ghost use Rattle.size_bounds.specs.Growths.{is_of, offset_part, growth_of, grown, growing};
+ghost use Rattle.size_bounds.specs.Growths.{is_of, offset_part, growth_of, growth_by_flows, growing_rule_numbers};
 
 use crate::flow::Flow;
 use bound_expr::{Bound, Memory};
@@ -105,7 +105,7 @@ fn is_zero(b: &Bound) -> bool
 
 // What a rule does by these flows.
 fn growth_by(alloc: Global, flows: &[Flow], rule: u32) -> Result<Growth, Memory>
-    ensures { IfOk result (λ g. growth_of g ≡ grown (map flow_of flows.now) rule) }
+    ensures { IfOk result (λ g. growth_of g ≡ growth_by_flows (map flow_of flows.now) rule) }
 {
     let addition = maximum_offset(alloc, flows, FlowKind::Inner(rule))?;
     let outcome = rewrite(alloc, &addition)?;
@@ -127,7 +127,7 @@ pub(crate) fn growths_by(
     flows: &[Flow],
     rules: &[u32],
 ) -> Result<Vec<Growth>, Memory>
-    ensures { IfOk result (λ gs. map growth_of gs.items ≡ map (grown (map flow_of flows.now)) rules.now) }
+    ensures { IfOk result (λ gs. map growth_of gs.items ≡ map (growth_by_flows (map flow_of flows.now)) rules.now) }
 {
     let mut growths = Vec::new(alloc);
     for rule in rules {
@@ -143,7 +143,7 @@ pub(crate) fn growths_by(
 ///
 /// `Memory` where an allocation fails.
 pub(crate) fn growing_rules(alloc: Global, growths: &[Growth]) -> Result<Vec<u32>, Memory>
-    ensures { IfOk result (λ ts. ts.items ≡ growing (map growth_of growths.now)) }
+    ensures { IfOk result (λ ts. ts.items ≡ growing_rule_numbers (map growth_of growths.now)) }
 {
     let mut rules = Vec::new(alloc);
     for growth in growths {

@@ -1,7 +1,7 @@
-// Sizes of places after rules: of a place that doesn't loop from the sizes before it, and of the members of a loop
-// from what comes into it and from the times of its rules.
-// Contract to the layer above: a node that is found is accepted over the table and states the composed bound, and each
-// other answer names the first check of the node that fails, as `proof_nodes` says both.
+//! Sizes of places after rules: of a place that doesn't loop from the sizes before it, and of the members of a loop
+//! from what comes into it and from the times of its rules.
+//! Contract to the layer above: a node that is found is accepted over the table and states the composed bound, and each
+//! other answer names the first check of the node that fails, as `proof_nodes` says both.
 #![tactic(auto)]
 
 mod answer;
@@ -22,6 +22,7 @@ mod uses;
 
 pub use answer::SizeAnswer;
 pub use looping::cycle;
+pub use outcome::Stored;
 pub use spreading::spread;
 pub use table::Table;
-pub use uses::cited;
+pub use uses::uses_of_lemmas;

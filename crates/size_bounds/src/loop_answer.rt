@@ -1,17 +1,17 @@
-// What is answered of a loop whose needed sizes are known and that isn't bent.
+//! What is answered of a loop whose needed sizes are known and that isn't bent.
 
 ghost use Rattle.std.specs.Prelude.{◌≡◌, ◌++◌, map, None, option_map, IfOk, OnOk};
 ghost use Rattle.bound_expr.specs.Views.{bound_of};
 ghost use Rattle.bound_table.specs.InForce.{rewritten};
-ghost use Rattle.proof_nodes.specs.Nodes.{Cycle};
-ghost use Rattle.proof_nodes.specs.ComposedSizes.{base_of};
-ghost use Rattle.proof_nodes.specs.AcceptsSizes.{cycle_facts};
+ghost use Rattle.proof_tree.specs.proof_nodes.Nodes.{Cycle};
+ghost use Rattle.proof_tree.specs.proof_nodes.ComposedSizes.{base_of};
+ghost use Rattle.proof_tree.specs.proof_nodes.AcceptsSizes.{cycle_facts};
 ghost use Rattle.proof_tree.specs.Views.{facts_of, member_of, proof_of, spot_of};
 ghost use Rattle.round_relation.specs.Tables.{lacks};
 ghost use Rattle.round_relation.specs.Uses.{uses_for};
 ghost use Rattle.size_bounds.specs.Tables.{table_of, numbers_of};
 ghost use Rattle.size_bounds.specs.Flows.{flow_of};
-ghost use Rattle.size_bounds.specs.Growths.{growth_of, grown, growing, composed};
+ghost use Rattle.size_bounds.specs.Growths.{growth_of, growth_by_flows, growing_rule_numbers, composed};
 ghost use Rattle.size_bounds.specs.LoopAnswers.{first_unknown, loop_needs};
 ghost use Rattle.size_bounds.specs.LoopAnswers.{IsLoopAnswer, IsTimedAnswer};
 
@@ -20,7 +20,7 @@ use crate::flow::Flow;
 use crate::growth::{FlowKind, Growth, growing_rules, growths_by, maximum_offset};
 use crate::loop_bound::loop_bound;
 use crate::table::Table;
-use crate::uses::{cited, push_size_lemmas, push_time_lemmas};
+use crate::uses::{push_size_lemmas, push_time_lemmas, uses_of_lemmas};
 use bound_expr::{Bound, Memory};
 use bound_table::{Within, rewrite_within};
 use proof_tree::{CycleNode, Fact, Known, Member, Proof, Spot, copied_local};
@@ -32,7 +32,7 @@ use std::alloc::Global;
 /// # Errors
 ///
 /// `Memory` where an allocation fails.
-pub(crate) fn answered(
+pub(crate) fn answer_of_flows(
     alloc: Global,
     t: &Table,
     members: &[Member],
@@ -41,7 +41,7 @@ pub(crate) fn answered(
     rules: &[u32],
 ) -> Result<SizeAnswer, Memory>
     ensures { IfOk result (λ a. IsLoopAnswer (table_of t.now) (numbers_of t.now) (map member_of members.now) (map
-        spot_of needed.now) (base_of (map flow_of flows.now)) (map (grown (map flow_of flows.now)) rules.now) a) }
+        spot_of needed.now) (base_of (map flow_of flows.now)) (map (growth_by_flows (map flow_of flows.now)) rules.now) a) }
 {
     let growths = growths_by(alloc, flows, rules)?;
     let base = maximum_offset(alloc, flows, FlowKind::Outer)?;
@@ -128,7 +128,7 @@ fn cycle_node(
     let mut lemmas = Vec::new(alloc);
     push_size_lemmas(&mut lemmas, t, needed)?;
     push_time_lemmas(&mut lemmas, t, times)?;
-    let uses = cited(alloc, &lemmas)?;
+    let uses = uses_of_lemmas(alloc, &lemmas)?;
     let members = copied_members(alloc, members)?;
     Ok(Proof::Cycle(Box::new(alloc, CycleNode { members, uses })?))
 }

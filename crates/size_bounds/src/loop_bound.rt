@@ -1,10 +1,10 @@
-// The size that a loop composes.
+//! The size that a loop composes.
 
 ghost use Rattle.std.specs.Prelude.{◌≡◌, map, IfOk, OnOk};
 ghost use Rattle.model.specs.Bounds.{SumOf, ProductOf, PowerOf, Part};
 ghost use Rattle.bound_expr.specs.Views.{bound_of, bounds_of, parts_of};
-ghost use Rattle.proof_nodes.specs.Known.{known};
-ghost use Rattle.proof_nodes.specs.Composed.{both_parts};
+ghost use Rattle.proof_tree.specs.proof_nodes.Known.{known};
+ghost use Rattle.proof_tree.specs.proof_nodes.Composed.{both_parts};
 ghost use Rattle.proof_tree.specs.Sizes.{joined};
 ghost use Rattle.size_bounds.specs.Tables.{table_of};
 ghost use Rattle.size_bounds.specs.Growths.{growth_of, all_joined, power_part, addition_part, composed};

@@ -1,16 +1,16 @@
-// The size of the members of a loop.
+//! The size of the members of a loop.
 
 ghost use Rattle.std.specs.Prelude.{map, IfOk};
 ghost use Rattle.model.specs.Programs.{Program};
-ghost use Rattle.proof_setting.specs.Setting.{setting_of};
+ghost use Rattle.proof_tree.specs.proof_setting.Setting.{setting_of};
 ghost use Rattle.proof_tree.specs.Views.{member_of};
 ghost use Rattle.size_bounds.specs.Tables.{table_of, numbers_of};
-ghost use Rattle.size_bounds.specs.SizeAnswers.{AreGiven, IsCycleAnswer};
+ghost use Rattle.size_bounds.specs.SizeAnswers.{AreMembersOfProgram, IsCycleAnswer};
 
 use crate::answer::SizeAnswer;
 use crate::bent::first_bent;
 use crate::flow::flows_in;
-use crate::loop_answer::answered;
+use crate::loop_answer::answer_of_flows;
 use crate::missing::first_missing;
 use crate::needs::needed_spots;
 use crate::rules::rules_in;
@@ -38,8 +38,8 @@ pub fn cycle(
     t: &Table,
     members: &[Member],
 ) -> Result<SizeAnswer, Memory>
-    requires { (p : Program) × AreGiven p g.now preps.now (map member_of members.now) }
-    ensures { IfOk result (λ a. (p : Program) → AreGiven p g.now preps.now (map member_of members.now)
+    requires { (p : Program) × AreMembersOfProgram p g.now preps.now (map member_of members.now) }
+    ensures { IfOk result (λ a. (p : Program) → AreMembersOfProgram p g.now preps.now (map member_of members.now)
         → IsCycleAnswer (setting_of p) (table_of t.now) (numbers_of t.now) (map member_of members.now) a) }
 {
     let needed = needed_spots(alloc, g, preps, members)?;
@@ -51,5 +51,5 @@ pub fn cycle(
     }
     let flows = flows_in(alloc, g, preps, t, members)?;
     let rules = rules_in(alloc, members)?;
-    answered(alloc, t, members, &needed, &flows, &rules)
+    answer_of_flows(alloc, t, members, &needed, &flows, &rules)
 }

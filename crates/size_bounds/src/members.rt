@@ -1,10 +1,10 @@
-// The members that are places after one rule.
+//! The members that are places after one rule.
 
 ghost use Rattle.std.specs.Prelude.{◌≡◌, ◌<◌, ◌≤◌, length, map};
 ghost use Rattle.std.specs.List.{AllWithin};
 ghost use Rattle.std.specs.List.Sorted.{IsNonDecreasingBy};
-ghost use Rattle.proof_nodes.specs.AcceptsSizes.{AreAscending};
-ghost use Rattle.proof_nodes.specs.ComposedSizes.{is_member};
+ghost use Rattle.proof_tree.specs.proof_nodes.AcceptsSizes.{AreAscending};
+ghost use Rattle.proof_tree.specs.proof_nodes.ComposedSizes.{is_member};
 ghost use Rattle.proof_tree.specs.Views.{member_of};
 
 use proof_tree::Member;

@@ -1,4 +1,4 @@
-// The first size that is needed and isn't known.
+//! The first size that is needed and isn't known.
 
 ghost use Rattle.std.specs.Prelude.{◌≡◌, map, option_map};
 ghost use Rattle.proof_tree.specs.Views.{spot_of};

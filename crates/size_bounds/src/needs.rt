@@ -1,14 +1,14 @@
-// The sizes that arms need.
+//! The sizes that arms need.
 
 ghost use Rattle.std.specs.Prelude.{◌≡◌, ℕ, ◌<◌, ◌≤◌, ◌^◌, [], ◌∷◌, ◌++◌, not, length, map, All, IfOk, OnOk};
 ghost use Rattle.model.specs.Programs.{Program};
 ghost use Rattle.model.specs.Paths.{pre};
-ghost use Rattle.proof_nodes.specs.AcceptsSizes.{AreAscending};
-ghost use Rattle.proof_nodes.specs.Checks.{needed_from, needed_into};
-ghost use Rattle.proof_setting.specs.Setting.{setting_of};
+ghost use Rattle.proof_tree.specs.proof_nodes.AcceptsSizes.{AreAscending};
+ghost use Rattle.proof_tree.specs.proof_nodes.Checks.{needed_from, needed_into};
+ghost use Rattle.proof_tree.specs.proof_setting.Setting.{setting_of};
 ghost use Rattle.proof_tree.specs.Views.{member_of, spot_of};
 ghost use Rattle.size_bounds.specs.Needs.{spots_outside, spots_from};
-ghost use Rattle.size_bounds.specs.SizeAnswers.{IsGiven, AreGiven};
+ghost use Rattle.size_bounds.specs.SizeAnswers.{IsMemberOfProgram, AreMembersOfProgram};
 
 use crate::members::members_after;
 use crate::updates::poly_at;
@@ -105,9 +105,9 @@ pub(crate) fn push_needed(
     m: &Member,
     members: &[Member],
 ) -> Result<(), Memory>
-    requires given { (p : Program) × IsGiven p g.now preps.now (member_of m.now) }
+    requires given { (p : Program) × IsMemberOfProgram p g.now preps.now (member_of m.now) }
     requires ascending { AreAscending (map member_of members.now) }
-    ensures { OnOk result ((p : Program) → IsGiven p g.now preps.now (member_of m.now)
+    ensures { OnOk result ((p : Program) → IsMemberOfProgram p g.now preps.now (member_of m.now)
         → map spot_of spots.new.items ≡ map spot_of spots.old.items
         ++ needed_from (setting_of p) (map member_of members.now) (member_of m.now) (pre p m.now.spot.rule)) }
 {
@@ -129,8 +129,8 @@ pub(crate) fn needed_spots(
     preps: &[RuleRows],
     members: &[Member],
 ) -> Result<Vec<Spot>, Memory>
-    requires { (p : Program) × AreGiven p g.now preps.now (map member_of members.now) }
-    ensures { IfOk result (λ spots. (p : Program) → AreGiven p g.now preps.now (map member_of members.now)
+    requires { (p : Program) × AreMembersOfProgram p g.now preps.now (map member_of members.now) }
+    ensures { IfOk result (λ spots. (p : Program) → AreMembersOfProgram p g.now preps.now (map member_of members.now)
         → map spot_of spots.items
         ≡ needed_into (setting_of p) (map member_of members.now) (map member_of members.now)) }
 {

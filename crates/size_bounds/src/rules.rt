@@ -1,4 +1,4 @@
-// The rules of the members of a loop.
+//! The rules of the members of a loop.
 
 ghost use Rattle.std.specs.Prelude.{◌≡◌, map, IfOk};
 ghost use Rattle.proof_tree.specs.Views.{member_of};

@@ -1,24 +1,24 @@
-// The size of a place that doesn't loop.
+//! The size of a place that doesn't loop.
 
 ghost use Rattle.std.specs.Prelude.{◌≡◌, [], ◌∷◌, map, None, IfOk};
 ghost use Rattle.model.specs.Facts.{Size};
 ghost use Rattle.model.specs.Programs.{Program};
 ghost use Rattle.bound_expr.specs.Views.{bound_of};
-ghost use Rattle.proof_nodes.specs.Nodes.{Spread};
-ghost use Rattle.proof_nodes.specs.Checks.{needed_into};
-ghost use Rattle.proof_setting.specs.Setting.{setting_of};
+ghost use Rattle.proof_tree.specs.proof_nodes.Nodes.{Spread};
+ghost use Rattle.proof_tree.specs.proof_nodes.Checks.{needed_into};
+ghost use Rattle.proof_tree.specs.proof_setting.Setting.{setting_of};
 ghost use Rattle.proof_tree.specs.Views.{facts_of, member_of, proof_of, spot_of};
 ghost use Rattle.round_relation.specs.Uses.{size_needs, uses_for};
 ghost use Rattle.size_bounds.specs.Tables.{table_of, numbers_of};
 ghost use Rattle.size_bounds.specs.Needs.{first_missing as first_missing_of};
-ghost use Rattle.size_bounds.specs.SizeAnswers.{IsGiven, IsSpreadAnswer};
+ghost use Rattle.size_bounds.specs.SizeAnswers.{IsMemberOfProgram, IsSpreadAnswer};
 
 use crate::answer::SizeAnswer;
 use crate::missing::first_missing;
 use crate::needs::push_needed;
 use crate::table::Table;
 use crate::updates::poly_at;
-use crate::uses::{cited, push_size_lemmas};
+use crate::uses::{push_size_lemmas, uses_of_lemmas};
 use bound_expr::{Bound, Memory};
 use bound_table::Within;
 use guard_prep::RuleRows;
@@ -41,8 +41,8 @@ pub fn spread(
     t: &Table,
     m: &Member,
 ) -> Result<SizeAnswer, Memory>
-    requires { (p : Program) × IsGiven p g.now preps.now (member_of m.now) }
-    ensures { IfOk result (λ a. (p : Program) → IsGiven p g.now preps.now (member_of m.now)
+    requires { (p : Program) × IsMemberOfProgram p g.now preps.now (member_of m.now) }
+    ensures { IfOk result (λ a. (p : Program) → IsMemberOfProgram p g.now preps.now (member_of m.now)
         → IsSpreadAnswer (setting_of p) (table_of t.now) (numbers_of t.now) (member_of m.now) a) }
 {
     let mut needed = Vec::new(alloc);
@@ -62,11 +62,11 @@ fn composed(
     m: &Member,
     needed: &[Spot],
 ) -> Result<SizeAnswer, Memory>
-    requires given { (p : Program) × IsGiven p g.now preps.now (member_of m.now) }
-    requires needs { (p : Program) → IsGiven p g.now preps.now (member_of m.now)
+    requires given { (p : Program) × IsMemberOfProgram p g.now preps.now (member_of m.now) }
+    requires needs { (p : Program) → IsMemberOfProgram p g.now preps.now (member_of m.now)
         → map spot_of needed.now ≡ needed_into (setting_of p) [] (member_of m.now ∷ []) }
     requires known { first_missing_of (table_of t.now) (map spot_of needed.now) ≡ None }
-    ensures { IfOk result (λ a. (p : Program) → IsGiven p g.now preps.now (member_of m.now)
+    ensures { IfOk result (λ a. (p : Program) → IsMemberOfProgram p g.now preps.now (member_of m.now)
         → IsSpreadAnswer (setting_of p) (table_of t.now) (numbers_of t.now) (member_of m.now) a) }
 {
     let poly = poly_at(preps, m.spot);
@@ -87,7 +87,7 @@ fn spread_node(alloc: Global, t: &Table, m: &Member, needed: &[Spot]) -> Result<
 {
     let mut lemmas = Vec::new(alloc);
     push_size_lemmas(&mut lemmas, t, needed)?;
-    let uses = cited(alloc, &lemmas)?;
+    let uses = uses_of_lemmas(alloc, &lemmas)?;
     let local = copied_local(alloc, &m.local)?;
     let node = SpreadNode {
         spot: m.spot,

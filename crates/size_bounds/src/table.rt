@@ -1,8 +1,8 @@
-// Tables of bounds as the rounds keep them.
+//! Tables of bounds as the rounds keep them.
 
 ghost use Rattle.std.specs.Prelude.{◌≡◌, ℕ};
-ghost use Rattle.proof_tree.specs.Lookups.{found};
-ghost use Rattle.size_bounds.specs.Tables.{entry_at, seen, bound_stored, lemma_stored, stored_time};
+ghost use Rattle.proof_tree.specs.Lookups.{optional_bound};
+ghost use Rattle.size_bounds.specs.Tables.{entry_at, optional_stored, bound_stored, lemma_stored, stored_time};
 ghost use Rattle.size_bounds.specs.Tables.{stored_size, table_of, numbers_of};
 
 use bound_expr::Bound;
@@ -20,14 +20,14 @@ pub struct Table {
 impl Table {
     /// The time of a rule with its lemma, where it is known.
     pub fn stored_time(&self, rule: u32) -> Option<&Stored>
-        ensures { seen result ≡ stored_time self.now rule }
+        ensures { optional_stored result ≡ stored_time self.now rule }
     {
         stored_at(&self.times, rule as usize)
     }
 
     /// The size of a place after a rule with its lemma, where it is known. Places count from 1.
     pub fn stored_size(&self, rule: u32, place: u32) -> Option<&Stored>
-        ensures { seen result ≡ stored_size self.now rule place }
+        ensures { optional_stored result ≡ stored_size self.now rule place }
     {
         if place == 0 {
             return None;
@@ -67,7 +67,7 @@ impl Known for Table {
 
 // What is stored at a position, where something is.
 fn stored_at(bounds: &[Option<Stored>], position: usize) -> Option<&Stored>
-    ensures { seen result ≡ entry_at bounds.now position }
+    ensures { optional_stored result ≡ entry_at bounds.now position }
 {
     if position >= bounds.len() {
         return None;
@@ -80,7 +80,7 @@ fn stored_at(bounds: &[Option<Stored>], position: usize) -> Option<&Stored>
 
 // The bound of what is stored.
 fn bound_in(stored: Option<&Stored>) -> Option<&Bound>
-    ensures { found result ≡ bound_stored (seen stored.entry) }
+    ensures { optional_bound result ≡ bound_stored (optional_stored stored.entry) }
 {
     match stored {
         Some(s) => Some(&s.bound),
@@ -90,7 +90,7 @@ fn bound_in(stored: Option<&Stored>) -> Option<&Bound>
 
 // The number of its lemma.
 fn lemma_in(stored: Option<&Stored>) -> u32
-    ensures { result ≡ lemma_stored (seen stored.entry) }
+    ensures { result ≡ lemma_stored (optional_stored stored.entry) }
 {
     match stored {
         Some(s) => s.lemma,

@@ -1,13 +1,13 @@
-// The updates of rules, where they have degree 2 or more.
+//! The updates of rules, where they have degree 2 or more.
 
 ghost use Rattle.std.specs.Prelude.{◌≡◌, map};
 ghost use Rattle.model.specs.Programs.{Program};
-ghost use Rattle.its_model.specs.Valid.{IsValid};
+ghost use Rattle.guard_prep.specs.its_model.Valid.{IsValid};
 ghost use Rattle.poly_terms.specs.Views.{poly_of};
-ghost use Rattle.proof_nodes.specs.AcceptsSizes.{IsSpot};
-ghost use Rattle.proof_nodes.specs.ComposedSizes.{poly_at as poly_of_spot};
-ghost use Rattle.proof_setting.specs.Setting.{setting_of};
-ghost use Rattle.proof_tree.specs.Composing.{poly_seen, HasFewPlaces, AreRowsOf};
+ghost use Rattle.proof_tree.specs.proof_nodes.AcceptsSizes.{IsSpot};
+ghost use Rattle.proof_tree.specs.proof_nodes.ComposedSizes.{poly_at as poly_of_spot};
+ghost use Rattle.proof_tree.specs.proof_setting.Setting.{setting_of};
+ghost use Rattle.proof_tree.specs.Composing.{optional_poly, HasFewPlaces, AreRowsOf};
 ghost use Rattle.proof_tree.specs.Views.{spot_of};
 ghost use Rattle.size_bounds.specs.Needs.{update_at as update_at_place};
 
@@ -19,16 +19,16 @@ use proof_tree::{Spot, bent_update};
 pub(crate) fn poly_at(preps: &[RuleRows], spot: Spot) -> Option<&Poly>
     requires { (p : Program) × (IsValid p × (AreRowsOf preps.now p × IsSpot p (spot_of spot))) }
     ensures seen { (p : Program) → AreRowsOf preps.now p → IsSpot p (spot_of spot)
-        → poly_seen result ≡ poly_of_spot (setting_of p) (spot_of spot) }
+        → optional_poly result ≡ poly_of_spot (setting_of p) (spot_of spot) }
     ensures few { HasFewPlaces result }
 {
     update_at(&preps[spot.rule as usize - 1], spot.place)
 }
 
 // The update at a place, where it has degree 2 or more. Places count from 1.
-#[tactic(auto, using(crate::proofs::GivenMembers::update_next))]
+#[tactic(auto, using(crate::proofs::ProgramMembers::update_next))]
 fn update_at(prep: &RuleRows, place: u32) -> Option<&Poly>
-    ensures { poly_seen result ≡ update_at_place (map poly_of prep.now.polys.items) place }
+    ensures { optional_poly result ≡ update_at_place (map poly_of prep.now.polys.items) place }
 {
     if place == 0 {
         return None;

@@ -1,13 +1,13 @@
-// What a node rests on: the lemmas of the bounds that it needs.
+//! What a node rests on: the lemmas of the bounds that it needs.
 
 ghost use Rattle.std.specs.Prelude.{◌≡◌, ◌==◌, ◌∷◌, ◌++◌, not, map, filter, IfOk, OnOk};
 ghost use Rattle.model.specs.Entries.{is_in};
-ghost use Rattle.proof_nodes.specs.Nodes.{Start, Cite};
+ghost use Rattle.proof_tree.specs.proof_nodes.Nodes.{Start, Cite};
 ghost use Rattle.proof_tree.specs.NumberSets.{HasJust};
 ghost use Rattle.proof_tree.specs.Views.{proof_of, spot_of};
 ghost use Rattle.round_relation.specs.Uses.{NeedsTime, size_needs, number_of, once, uses_from};
 ghost use Rattle.size_bounds.specs.Tables.{numbers_of};
-ghost use Rattle.size_bounds.specs.Lemmas.{uses_seen, with_other};
+ghost use Rattle.size_bounds.specs.Lemmas.{uses_of_proofs, with_other};
 
 use crate::table::Table;
 use model::Memory;
@@ -51,8 +51,8 @@ pub(crate) fn push_time_lemmas(
 /// # Errors
 ///
 /// `Memory` where an allocation fails.
-pub fn cited(alloc: Global, lemmas: &[u32]) -> Result<Vec<Proof>, Memory>
-    ensures { IfOk result (λ uses. uses_seen uses.items ≡ uses_from lemmas.now) }
+pub fn uses_of_lemmas(alloc: Global, lemmas: &[u32]) -> Result<Vec<Proof>, Memory>
+    ensures { IfOk result (λ uses. uses_of_proofs uses.items ≡ uses_from lemmas.now) }
 {
     let others = others_once(alloc, lemmas)?;
     if has(lemmas, 0) {

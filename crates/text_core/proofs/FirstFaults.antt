@@ -4,7 +4,8 @@ use Rattle.std.specs.Prelude.{◌⊎◌}
 use Rattle.text_core.specs.Tokens.{Token, pieces}
 use Rattle.text_core.specs.Readers.{Fault, Reader, onto, next, walk, reached, IsBeginning, IsWhole, BreaksOff}
 use Rattle.text_core.specs.Faults.{Among, off_at, FaultAt, shows, breaks, NotAfter}
-use Rattle.text_core.specs.Reading.{Answer, Stands, Refused, Stopped, Going, first_of, first_among, ended, further, run, answer, Answers}
+use Rattle.text_core.specs.Reading.{Answer, Stands, Refused, Stopped, Going, first_of, first_among, ended, further, run}
+use Rattle.text_core.specs.Reading.{answer, Answers}
 use Rattle.text_core.specs.Laws.{Laws, AnswersAll, OneTree, OneFirst}
 use Rattle.text_core.proofs.Orders.{not_after_on, IsFirstOf, first_of_is, IsFirstAmong, first_among_is}
 use Rattle.text_core.proofs.Walks.{walk-none, walk-onto, pieces-onto}

@@ -1,5 +1,6 @@
 -- A set whose keys are names, and the names that it holds.
-use Rattle.std.proofs.Common.{◌≡◌, ℕ, Bool, true, false, cond, List, [], ◌∷◌, ◌++◌, length, refl, ap, sym, ◌∙◌, Option, Some, None, map, nat_lt, ◌||◌, not, suc, ◌+◌, arith, subst, append_assoc}
+use Rattle.std.proofs.Common.{◌≡◌, ℕ, Bool, true, false, cond, List, [], ◌∷◌, ◌++◌, length, refl, ap, sym, ◌∙◌, Option}
+use Rattle.std.proofs.Common.{Some, None, map, nat_lt, ◌||◌, not, suc, ◌+◌, arith, subst, append_assoc}
 use Rattle.std.specs.Prelude.{IsTrue, IsFalse, MatchOption, is_some}
 use Rattle.std.specs.List.{list_any, position, position_or_len}
 use Rattle.indexmap.specs.IndexSet.{insert_key}

@@ -1,6 +1,8 @@
 -- Tokens of a text stand in order, and those behind the first one are the tokens of what is behind it.
-use Rattle.std.proofs.Common.{◌≡◌, ℕ, zero, suc, ◌+◌, ◌-◌, ◌≤◌, ◌<◌, List, [], ◌∷◌, length, drop, Option, Some, None, refl, ap, sym, subst, ◌∙◌, arith}
-use Rattle.text_core.specs.Tokens.{Token, Lexeme, Lexer, pieces, token_then, tokens_in, plain, tokens_from, AreInOrder, LexesWithin}
+use Rattle.std.proofs.Common.{◌≡◌, ℕ, zero, suc, ◌+◌, ◌-◌, ◌≤◌, ◌<◌, List, [], ◌∷◌, length, drop, Option, Some, None}
+use Rattle.std.proofs.Common.{refl, ap, sym, subst, ◌∙◌, arith}
+use Rattle.text_core.specs.Tokens.{Token, Lexeme, Lexer, pieces, token_then, tokens_in, lexer_with_one_mode}
+use Rattle.text_core.specs.Tokens.{tokens_from, AreInOrder, LexesWithin}
 
 -- tokens in order from a position on are so from each one before it
 in_order_from : {P : Type 0} (ts : List (Token P)) (a b n : ℕ) → a ≤ b → AreInOrder b ts n → AreInOrder a ts n
@@ -71,17 +73,17 @@ module _ {P M : Type 0} (lexer : Lexer P M) where
 module _ {P : Type 0} (lexeme_at : ℕ → List ℕ → Lexeme (Option P)) where
   -- the tokens behind bytes that are passed over are those of what is left behind them
   pub tokens-drop : (k at : ℕ) (bytes : List ℕ) → tokens_from lexeme_at at k bytes ≡ tokens_from lexeme_at (at + k) 0 (drop k bytes)
-  tokens-drop = tokens_in-drop (plain lexeme_at) tt
+  tokens-drop = tokens_in-drop (lexer_with_one_mode lexeme_at) tt
 
   -- the tokens of a text are that of its first lexeme, and those of what is behind it
   pub tokens-first : (at : ℕ) (text others behind : List ℕ) (b : ℕ) (l : Lexeme (Option P)) → text ≡ b ∷ others → l ≡ lexeme_at b others → 0 < l.len
       → behind ≡ drop l.len text → tokens_from lexeme_at at 0 text ≡ token_then at l.len l.piece (tokens_from lexeme_at (at + l.len) 0 behind)
-  tokens-first = tokens_in-first (plain lexeme_at) tt
+  tokens-first = tokens_in-first (lexer_with_one_mode lexeme_at) tt
 
   -- the tokens of bytes at a position stand in order, up to where the bytes end
   pub in_order : LexesWithin lexeme_at → (bytes : List ℕ) (skip at : ℕ) → skip ≤ length bytes → AreInOrder (at + skip) (tokens_from lexeme_at at skip bytes) (at + length bytes)
-  in_order within bytes = in_order_in (plain lexeme_at) (λ mode. within) bytes tt
+  in_order within bytes = in_order_in (lexer_with_one_mode lexeme_at) (λ mode. within) bytes tt
 
   -- the pieces of a text are the same at any position
   pub pieces_at : (bytes : List ℕ) (skip a b : ℕ) → pieces (tokens_from lexeme_at a skip bytes) ≡ pieces (tokens_from lexeme_at b skip bytes)
-  pieces_at bytes = pieces_in (plain lexeme_at) bytes tt
+  pieces_at bytes = pieces_in (lexer_with_one_mode lexeme_at) bytes tt

@@ -6,7 +6,8 @@ use Rattle.text_core.specs.Laws.{Laws}
 use Rattle.text_core.specs.Inner as Inner
 use Rattle.text_core.specs.Inner.{IsInto, IsInside, step_by}
 use Rattle.text_core.specs.Rows as row
-use Rattle.text_core.specs.Lines.{Piece, In, Semicolon, Front, InLine, lines_then, Writes, inner_of, row_inside, step, finish, lines}
+use Rattle.text_core.specs.Lines.{Piece, In, Semicolon, Front, InLine, lines_then, Writes, inner_of, row_inside, step}
+use Rattle.text_core.specs.Lines.{finish, lines}
 use Rattle.text_core.proofs.RowLaws.{row_laws}
 use Rattle.text_core.proofs.InnerLaws.{begins_inside, stays_inside, ends_inside, completes_inside, tree-walk}
 

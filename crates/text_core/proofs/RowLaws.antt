@@ -2,7 +2,8 @@
 use Rattle.std.proofs.Common.{◌≡◌, List, [], ◌∷◌, Option, Some, None, refl, ap, sym, ◌∙◌, arith}
 use Rattle.text_core.specs.Readers.{onto, next, walk, reached}
 use Rattle.text_core.specs.Laws.{Laws}
-use Rattle.text_core.specs.Rows.{Piece, Number, Comma, Wrong, Row, One, More, row_then, Front, Begins, Behind, Open, Kind, Syntax, TooLarge, TooMany, number_of, step, finish, rows}
+use Rattle.text_core.specs.Rows.{Piece, Number, Comma, Wrong, Row, One, More, row_then, Front, Begins, Behind, Open}
+use Rattle.text_core.specs.Rows.{Kind, Syntax, TooLarge, TooMany, number_of, step, finish, rows}
 
 -- the pieces that have been read, and then the rest
 abbrev front_then : Front → List Piece → List Piece

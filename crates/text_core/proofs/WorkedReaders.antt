@@ -1,12 +1,16 @@
 -- The worked values of the order of faults, of where faults are shown, of limits and of laws.
-use Rattle.std.proofs.Common.{◌≡◌, ℕ, ◌-◌, ◌<◌, ◌≤◌, nat_lt, Bool, true, false, List, [], ◌∷◌, Option, Some, None, refl, sym, ap, subst, ◌∙◌, inl, inr, arith}
+use Rattle.std.proofs.Common.{◌≡◌, ℕ, ◌-◌, ◌<◌, ◌≤◌, nat_lt, Bool, true, false, List, [], ◌∷◌, Option, Some, None, refl}
+use Rattle.std.proofs.Common.{sym, ap, subst, ◌∙◌, inl, inr, arith}
 use Rattle.std.specs.Prelude.{if◌then◌else◌}
 use Rattle.text_core.specs.Tokens.{Token, pieces}
 use Rattle.text_core.specs.Readers.{Fault, walk}
 use Rattle.text_core.specs.Faults.{Among, next_at}
 use Rattle.text_core.specs.Stopping.{last_at, IsBehind}
-use Rattle.text_core.specs.Rows.{Piece, Number, Comma, Wrong, Row, One, More, row_then, Front, Begins, Behind, Open, Kind, Syntax, TooLarge, TooMany, count, step, finish, large_at, large_next, many_behind, shown}
-use Rattle.text_core.specs.WorkedReaders.{LawsAreTold, fault, OrderIsTold, PlacesAreTold, HasSmallNumbers, HasReadSmall, LeadsWithin, LimitsAreTold, WorkedReaders}
+use Rattle.text_core.specs.Rows.{Piece, Number, Comma, Wrong, Row, One, More, row_then, Front, Begins, Behind, Open}
+use Rattle.text_core.specs.Rows.{Kind, Syntax, TooLarge, TooMany, count, step, finish, large_at, large_next}
+use Rattle.text_core.specs.Rows.{many_behind, shown}
+use Rattle.text_core.specs.WorkedReaders.{LawsAreTold, fault, OrderIsTold, PlacesAreTold, HasSmallNumbers, HasReadSmall}
+use Rattle.text_core.specs.WorkedReaders.{LeadsWithin, LimitsAreWorkedOut, WorkedReaders}
 use Rattle.text_core.proofs.Walks.{walk-none}
 use Rattle.text_core.proofs.Stopping.{last_before}
 use Rattle.model.proofs.Cases.{none_some}
@@ -257,7 +261,7 @@ large_is_shown : fault TooLarge 0 ∷ [] ≡ [] → ⊥
 large_is_shown e = cc
 
 -- limits
-limits_told : LimitsAreTold
+limits_told : LimitsAreWorkedOut
 limits_told = record {
   small_numbers = record {
     begins = λ ps. tt;

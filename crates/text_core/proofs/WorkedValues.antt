@@ -4,8 +4,10 @@ use Rattle.std.specs.Prelude.{codes}
 use Rattle.text_core.specs.Readers.{Fault, IsBeginning}
 use Rattle.text_core.specs.Faults.{shows, breaks}
 use Rattle.text_core.specs.Rows.{Number, Comma, One, More, Begins, Behind, Open, Kind, Syntax, TooLarge, TooMany, rows}
-use Rattle.text_core.specs.Worked.{NamesAreTold, PositionsAreFound, DigitsAreTold, TokensAreFound, BreaksAreTold, FaultsAreTold, RowsAreRead, HasFault, tokens}
-use Rattle.text_core.proofs.FirstFaults.{Ahead, answer_is, answers_all, one_tree_each, one_first_each, fault_ahead, nowhere_begins, whole_ends}
+use Rattle.text_core.specs.Worked.{NamesAreTold, PositionsAreFound, DigitsAreTold, TokensAreFound, BreaksAreTold}
+use Rattle.text_core.specs.Worked.{FaultsAreTold, RowsAreRead, HasFault, tokens}
+use Rattle.text_core.proofs.FirstFaults.{Ahead, answer_is, answers_all, one_tree_each, one_first_each, fault_ahead}
+use Rattle.text_core.proofs.FirstFaults.{nowhere_begins, whole_ends}
 use Rattle.text_core.proofs.RowLaws.{row_laws}
 
 -- a test that fails doesn't pass

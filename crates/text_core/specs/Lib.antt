@@ -19,3 +19,5 @@ pub mod Limits
 pub mod Inner
 pub mod Rows
 pub mod Lines
+-- the crates below, which callers name through this one
+pub use Rattle.model.specs as model

@@ -38,12 +38,12 @@ tokens_in lexer mode at zero (b ∷ bytes) =
     ((lexer.lexeme_in mode b bytes).len - 1) bytes)
 
 -- a lexer with one mode
-abbrev pub plain : {P : Type 0} → (ℕ → List ℕ → Lexeme (Option P)) → Lexer P ⊤
-plain lexeme_at = record { lexeme_in = λ mode. lexeme_at; mode_behind = λ mode piece. mode }
+abbrev pub lexer_with_one_mode : {P : Type 0} → (ℕ → List ℕ → Lexeme (Option P)) → Lexer P ⊤
+lexer_with_one_mode lexeme_at = record { lexeme_in = λ mode. lexeme_at; mode_behind = λ mode piece. mode }
 
 -- the tokens of bytes at a position, with one mode
 abbrev pub tokens_from : {P : Type 0} → (ℕ → List ℕ → Lexeme (Option P)) → ℕ → ℕ → List ℕ → List (Token P)
-tokens_from lexeme_at at skip bytes = tokens_in (plain lexeme_at) tt at skip bytes
+tokens_from lexeme_at at skip bytes = tokens_in (lexer_with_one_mode lexeme_at) tt at skip bytes
 
 -- a lexer for texts of pieces alone, with nothing between them
 abbrev pub each_piece : {P : Type 0} → (ℕ → List ℕ → Lexeme P) → ℕ → List ℕ → Lexeme (Option P)

@@ -96,7 +96,7 @@ pub record LeadsWithin (f : Front) (ps : List Piece) : Type 0 where
 -- small numbers are kept where nothing is shown, and lead to rows with small numbers, but not to rows of at most three;
 -- a row within both limits leads by fronts that show nothing, while a front of which nothing is known can show
 -- something, and what holds of no front doesn't hold of that of a row within them
-pub record LimitsAreTold : Type 0 where
+pub record LimitsAreWorkedOut : Type 0 where
   pub small_numbers : KeepsLimits rows HasSmallNumbers HasReadSmall
   pub unkept_numbers : ¬ KeepsLimits rows HasSmallNumbers (λ f ps. ⊤)
   pub unkept_count : ¬ KeepsLimits rows (λ row. count row ≤ 3) HasReadSmall
@@ -109,4 +109,4 @@ pub record WorkedReaders : Type 0 where
   pub laws : LawsAreTold
   pub order : OrderIsTold
   pub places : PlacesAreTold
-  pub limits : LimitsAreTold
+  pub limits : LimitsAreWorkedOut

@@ -1,4 +1,4 @@
-// White space, and rows of digits.
+//! White space, and rows of digits.
 
 ghost use Rattle.std.specs.Prelude.{◌≡◌, ◌<◌, ◌≤◌, ◌-◌, ◌+◌, ◌*◌, min, length, IsTrue};
 ghost use Rattle.std.specs.List.{list_all};

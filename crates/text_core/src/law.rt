@@ -1,4 +1,4 @@
-// The laws of reading, on two small languages, of which one has the other inside.
+//! The laws of reading, on two small languages, of which one has the other inside.
 
 ghost use Rattle.text_core.specs.Worked.{WorkedValues};
 ghost use Rattle.text_core.specs.WorkedLines.{WorkedLines};

@@ -1,6 +1,6 @@
-// What each reader of a text stands on: bytes, names, digits and pieces with their positions, and the first fault of a
-// text. Contract to the layers above: a reader whose pieces, fronts, completions and kinds keep four laws answers
-// exactly the tree or exactly the first fault (`specs/Laws`).
+//! What each reader of a text stands on: bytes, names, digits and pieces with their positions, and the first fault of a
+//! text. Contract to the layers above: a reader whose pieces, fronts, completions and kinds keep four laws answers
+//! exactly the tree or exactly the first fault (`specs/Laws`).
 #![tactic(auto)]
 
 mod bytes;

@@ -1,4 +1,4 @@
-// Names that all differ, by position.
+//! Names that all differ, by position.
 
 ghost use Rattle.std.specs.Prelude.{◌≡◌, ◌<◌, length, map, IfOk, MatchOption, IsFalse, IsTrue};
 ghost use Rattle.text_core.specs.Names.{name_of, AreDistinct, is_among, position_of};
@@ -6,7 +6,8 @@ ghost use Rattle.text_core.specs.Listed.{names_in};
 
 use crate::name::Name;
 use indexmap::IndexSet;
-use std::alloc::{AllocError, Global};
+use model::Memory;
+use std::alloc::Global;
 
 /// Names that all differ, each found by its bytes, near constant in their number.
 #[derive(Drop)]
@@ -16,7 +17,11 @@ pub struct Listed<'a> {
 
 impl<'a> Listed<'a> {
     /// These names.
-    pub fn new(alloc: Global, names: &'a [Name]) -> Result<Listed<'a>, AllocError>
+    ///
+    /// # Errors
+    ///
+    /// `Memory` where an allocation fails.
+    pub fn new(alloc: Global, names: &'a [Name]) -> Result<Listed<'a>, Memory>
         requires { AreDistinct (map name_of names.now) }
         ensures { IfOk result (λ listed. names_in listed ≡ map name_of names.now) }
     {

@@ -1,4 +1,4 @@
-// Names of symbols and variables.
+//! Names of symbols and variables.
 
 ghost use Rattle.std.specs.Prelude.{◌≡◌, ◌≤◌, length};
 ghost use Rattle.text_core.specs.Names.{begins_name as begins_name_at, continues_name as continues_name_at};

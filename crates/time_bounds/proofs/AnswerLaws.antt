@@ -3,35 +3,36 @@ use Rattle.std.proofs.Common.{◌≡◌, ℕ, List, [], ◌∷◌, map, All, fal
 use Rattle.std.proofs.lemmas.List.Elements.{All-nil, All-cons, All-head, All-tail}
 use Rattle.model.specs.Programs.{Program}
 use Rattle.its_model.specs.Valid.{IsValid}
-use Rattle.proof_nodes.specs.AcceptsRank.{HasFormShape}
-use Rattle.proof_nodes.specs.Gaps.{SymbolPlace}
+use Rattle.proof_tree.specs.proof_nodes.AcceptsRank.{HasFormShape}
+use Rattle.proof_tree.specs.proof_nodes.Gaps.{SymbolPlace}
 use Rattle.proof_tree.specs.declared.answer.EmptyAnswer.{EmptyAnswer}
 use Rattle.proof_tree.specs.declared.rank.Form as code
 use Rattle.proof_tree.specs.Views.{form_of, rank_of}
 use Rattle.proof_tree.specs.Sizes.{IsShort}
 use Rattle.rank_search.specs.declared.answer.RankAnswer.{RankAnswer}
 use Rattle.rank_search.specs.declared.answer.RankAnswer.TheVariants as ranks
-use Rattle.rank_search.specs.ProgramQuestions.{ranked_set, places_of}
-use Rattle.rank_search.specs.RankAnswers.{IsRuleSet, IsRankAnswer, AreEmptyAnswers}
+use Rattle.rank_search.specs.rule_questions.ProgramQuestions.{ranked_set, places_of}
+use Rattle.rank_search.specs.RankAnswers.{IsRuleSet, IsRankAnswer}
+use Rattle.rank_search.specs.rule_questions.RuleAnswers.{AreEmptyAnswers}
 use Rattle.rank_search.proofs.Accepted.{nodes-accepted}
 use Rattle.time_bounds.specs.Questions.{HasShape, IsAsked, IsAnswered}
 use Rattle.model.specs.Bounds.{Bound}
 use Rattle.bound_table.specs.Within.{Fits, TooLarge, rewritten_within}
 use Rattle.outcome.specs.Reports.{NoTime, TimeLarge, Timed, Untimed}
-use Rattle.proof_nodes.specs.Nodes.{RankNode}
-use Rattle.proof_nodes.specs.Known.{Table}
-use Rattle.proof_nodes.specs.Composed.{time_of}
-use Rattle.proof_setting.specs.Setting.{setting_of}
-use Rattle.proof_setting.proofs.Small.{small-bounds}
-use Rattle.round_relation.specs.Searches.{Ranked}
-use Rattle.round_relation.specs.NewTimes.{SaysTime, Tells}
-use Rattle.round_relation.specs.Reasons.{IsNoTime}
+use Rattle.proof_tree.specs.proof_nodes.Nodes.{RankNode}
+use Rattle.proof_tree.specs.proof_nodes.Known.{Table}
+use Rattle.proof_tree.specs.proof_nodes.Composed.{time_of}
+use Rattle.proof_tree.specs.proof_setting.Setting.{setting_of}
+use Rattle.proof_tree.proofs.proof_setting.Small.{small-bounds}
+use Rattle.size_bounds.specs.round_relation.Searches.{Ranked}
+use Rattle.size_bounds.specs.round_relation.NewTimes.{SaysTime, GivesTime}
+use Rattle.size_bounds.specs.round_relation.Reasons.{IsNoTime}
 use Rattle.time_bounds.specs.declared.asking.Asked.{Asked}
 use Rattle.size_bounds.specs.declared.table.Table as code_table
 use Rattle.time_bounds.specs.declared.trying.Tried.{Tried}
 use Rattle.time_bounds.specs.declared.trying.Tried.TheVariants.{Known, Missing}
 use Rattle.proof_tree.specs.declared.rank.RankNode as code_rank
-use Rattle.round_relation.specs.Tables.{lacks, is_untimed}
+use Rattle.size_bounds.specs.round_relation.Tables.{lacks, is_untimed}
 use Rattle.time_bounds.specs.ProgramSearches.{searches_of_program, ranking_of}
 use Rattle.size_bounds.specs.Tables.{table_of}
 use Rattle.time_bounds.specs.Tries.{IsTried, IsMissing}
@@ -81,7 +82,7 @@ no_time_of p tab pivots empties t a why answers tried says = record {
 pub told_time : (p : Program) (tab : code_table.Table) (pivots : ℕ) (empties : List EmptyAnswer) (t : ℕ) (a : Asked) (b : Bound)
     → AreEmptyAnswers p pivots empties → IsAsked p tab t a → IsAnswered p pivots empties t a
     → SaysTime (setting_of p) (table_of tab) (ranking_of a.answer) (Timed b)
-    → Tells (searches_of_program p pivots) (setting_of p) (table_of tab) t (Timed b)
+    → GivesTime (searches_of_program p pivots) (setting_of p) (table_of tab) t (Timed b)
 unfolding asked_of
 told_time p tab pivots empties t a b answers asked answered says = record { asked = asked_of p tab pivots empties t a answers asked answered; says = says }
 

@@ -1,18 +1,19 @@
 -- Members with their arms, one by one.
 use Rattle.std.specs.Prelude.{slice_get, slice_index_or}
 use Rattle.std.specs.declared.alloc.Global.{Global}
-use Rattle.std.proofs.Common.{◌≡◌, ℕ, zero, suc, ◌+◌, ◌-◌, ◌<◌, ◌≤◌, Bool, true, false, Vec, get_or, List, [], ◌∷◌, ◌++◌, length, map, Option, Some, None, refl, sym, ◌∙◌, ap, subst, arith}
+use Rattle.std.proofs.Common.{◌≡◌, ℕ, zero, suc, ◌+◌, ◌-◌, ◌<◌, ◌≤◌, Bool, true, false, Vec, get_or, List, [], ◌∷◌}
+use Rattle.std.proofs.Common.{◌++◌, length, map, Option, Some, None, refl, sym, ◌∙◌, ap, subst, arith}
 use Rattle.std.specs.List.{All}
 use Rattle.std.specs.Option.{option_map}
 use Rattle.std.proofs.lemmas.List.{map-append, length-map, get_or-map}
 use Rattle.std.proofs.lemmas.List.Elements.{All-head, All-tail, All-cons, All-nil}
-use Rattle.local_size.specs.LocalAnswers.{Local, HasBound, local_seen}
+use Rattle.local_size.specs.LocalAnswers.{Local, HasBound, local_answer_of}
 use Rattle.local_size.specs.declared.answer.LocalAnswer.{LocalAnswer}
 use Rattle.local_size.specs.declared.answer.LocalAnswer.TheVariants as answers
 use Rattle.outcome.specs.Reports.{NoSize, Unsized}
 use Rattle.outcome.specs.Views.{size_of}
 use Rattle.outcome.specs.declared.entry.SizeEntry.{SizeEntry}
-use Rattle.proof_nodes.specs.Nodes.{Spot, Member}
+use Rattle.proof_tree.specs.proof_nodes.Nodes.{Spot, Member}
 use Rattle.proof_tree.specs.Views.{spot_of, member_of}
 use Rattle.proof_tree.specs.declared.arm.Member as code
 use Rattle.proof_tree.specs.declared.arm.Spot as code_spot
@@ -36,7 +37,7 @@ armed_more local (y ∷ found) [] x c h a = absurd h
 armed_more local (y ∷ found) (d ∷ cs) x c h a = (h.0, armed_more local found cs x c h.1 a)
 
 -- the answer that is read is that of the place
-pub local_seen_at : (locals : List (List LocalAnswer)) (t i : ℕ) (a : LocalAnswer) → answer_in locals t i ≡ Some a → local_from locals t i ≡ local_seen a
+pub local_seen_at : (locals : List (List LocalAnswer)) (t i : ℕ) (a : LocalAnswer) → answer_in locals t i ≡ Some a → local_from locals t i ≡ local_answer_of a
 local_seen_at locals t zero a e = absurd (none_some a e)
 local_seen_at locals t (suc i) a e = ap local_in e
 

@@ -1,5 +1,6 @@
 -- Components with the arms of their members are those of the program.
-use Rattle.std.proofs.Common.{◌≡◌, inl, inr, ℕ, zero, suc, ◌≤◌, ◌==◌, ◌&&◌, ◌||◌, Bool, true, false, List, [], ◌∷◌, length, map, Some, refl, sym, ◌∙◌, ap, subst, arith}
+use Rattle.std.proofs.Common.{◌≡◌, inl, inr, ℕ, zero, suc, ◌≤◌, ◌==◌, ◌&&◌, ◌||◌, Bool, true, false, List, [], ◌∷◌}
+use Rattle.std.proofs.Common.{length, map, Some, refl, sym, ◌∙◌, ap, subst, arith}
 use Rattle.std.specs.List.{All}
 use Rattle.std.proofs.lemmas.Bool.{and_from, or_left}
 use Rattle.std.proofs.lemmas.List.Elements.{All-head, All-tail, All-cons, All-nil, All-weaker}
@@ -11,16 +12,16 @@ use Rattle.local_size.specs.LocalAnswers.{Local, HasBound}
 use Rattle.local_size.specs.LocalLaws.{IsSpotOf}
 use Rattle.local_size.specs.declared.answer.LocalAnswer.{LocalAnswer}
 use Rattle.local_size.proofs.Accepted.{bounds-accepted}
-use Rattle.proof_nodes.specs.Nodes.{Spot, Member}
-use Rattle.proof_nodes.specs.AcceptsSizes as accepts
-use Rattle.proof_nodes.specs.AcceptsSizes.{HasMemberShape, AcceptsUp, AcceptsLow}
-use Rattle.proof_setting.specs.Setting.{setting_of}
+use Rattle.proof_tree.specs.proof_nodes.Nodes.{Spot, Member}
+use Rattle.proof_tree.specs.proof_nodes.AcceptsSizes as accepts
+use Rattle.proof_tree.specs.proof_nodes.AcceptsSizes.{HasMemberShape, AcceptsUp, AcceptsLow}
+use Rattle.proof_tree.specs.proof_setting.Setting.{setting_of}
 use Rattle.proof_tree.specs.Views.{member_of}
-use Rattle.round_relation.specs.Tables.{IsPlace}
-use Rattle.round_relation.specs.NewSizes.{has_spot}
-use Rattle.proof_nodes.specs.Setting.{Setting}
-use Rattle.round_relation.specs.Components.{IsCovered, IsOneOf, AreSpotsAscending, AreComponentsOf}
-use Rattle.round_relation.proofs.SameDead.{dead_by}
+use Rattle.size_bounds.specs.round_relation.Tables.{IsPlace}
+use Rattle.size_bounds.specs.round_relation.NewSizes.{has_spot}
+use Rattle.proof_tree.specs.proof_nodes.Setting.{Setting}
+use Rattle.size_bounds.specs.round_relation.Components.{IsCovered, IsOneOf, AreSpotsAscending, AreComponentsOf}
+use Rattle.size_bounds.proofs.round_relation.SameDead.{dead_by}
 use Rattle.rvg_components.specs.declared.component.Component.{Component}
 use Rattle.rvg_components.specs.Flows.{Locals, loops}
 use Rattle.rvg_components.specs.Listing.{AreComponents, SaysWhetherItLoops, members_of, local_from}
@@ -30,7 +31,8 @@ use Rattle.time_bounds.specs.declared.candidates.Arms.TheVariants as arms
 use Rattle.time_bounds.specs.ProgramSearches.{searches_of_program}
 use Rattle.time_bounds.specs.ProgramSizes.{spot, AreLive, IsLocalOf, AreLocals, AreLocalsOf, AreMembers}
 use Rattle.time_bounds.specs.Locals.{AreAnswered}
-use Rattle.time_bounds.specs.Candidates.{spots_in, IsAnswered, AreArms, IsArmed, AreArmed, IsAccepted, AreAccepted, HasAccepted, IsCandidate, AreCandidatesOf}
+use Rattle.time_bounds.specs.Candidates.{spots_in, IsAnswered, AreArms, IsArmed, AreArmed, IsAccepted, AreAccepted}
+use Rattle.time_bounds.specs.Candidates.{HasAccepted, IsCandidate, AreCandidatesOf}
 use Rattle.time_bounds.proofs.LoneComponents.{lone}
 use Rattle.time_bounds.proofs.RightComponents.{components_of}
 

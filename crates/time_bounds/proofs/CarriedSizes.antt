@@ -1,5 +1,6 @@
 -- Entries of sizes carry the numbers of their lemmas.
-use Rattle.std.proofs.Common.{◌≡◌, ◌⊎◌, inl, inr, ℕ, zero, suc, ◌+◌, ◌<◌, List, [], ◌∷◌, ◌++◌, length, map, get_or, Vec, Option, Some, None, option_map, refl, sym, ◌∙◌, ap, subst, arith}
+use Rattle.std.proofs.Common.{◌≡◌, ◌⊎◌, inl, inr, ℕ, zero, suc, ◌+◌, ◌<◌, List, [], ◌∷◌, ◌++◌, length, map, get_or, Vec}
+use Rattle.std.proofs.Common.{Option, Some, None, option_map, refl, sym, ◌∙◌, ap, subst, arith}
 use Rattle.std.specs.declared.alloc.Global.{Global}
 use Rattle.std.proofs.lemmas.List.{map-append, length-map}
 use Rattle.outcome.specs.Reports.{NoSize, Unsized}
@@ -7,7 +8,7 @@ use Rattle.outcome.specs.Views.{size_of}
 use Rattle.outcome.specs.declared.entry.Stored.{Stored}
 use Rattle.outcome.specs.declared.entry.SizeEntry.{SizeEntry}
 use Rattle.outcome.specs.declared.entry.SizeEntry.TheVariants as entries
-use Rattle.round_relation.specs.Uses.{Numbers}
+use Rattle.size_bounds.specs.round_relation.Uses.{Numbers}
 use Rattle.size_bounds.specs.declared.table.Table.{Table}
 use Rattle.size_bounds.specs.Tables.{entry_at, row_at, lemma_stored, numbers_of}
 use Rattle.time_bounds.specs.AnalysisLemmas.{CarriesSize, CarrySizes, CarryRows}

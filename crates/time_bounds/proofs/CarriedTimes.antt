@@ -2,8 +2,8 @@
 use Rattle.std.proofs.Common.{◌≡◌, ℕ, suc, ◌+◌, List, [], ◌∷◌, ◌++◌, length, refl, sym, subst, arith}
 use Rattle.outcome.specs.declared.entry.TimeEntry.{TimeEntry}
 use Rattle.outcome.specs.declared.entry.TimeEntry.TheVariants as times
-use Rattle.proof_nodes.specs.Known.{Table}
-use Rattle.round_relation.specs.Uses.{Numbers}
+use Rattle.proof_tree.specs.proof_nodes.Known.{Table}
+use Rattle.size_bounds.specs.round_relation.Uses.{Numbers}
 use Rattle.time_bounds.specs.Analysis.{IsKnownTime}
 use Rattle.time_bounds.specs.AnalysisLemmas.{CarriesTime, CarryTimes, AreGapsInOrder}
 

@@ -4,22 +4,22 @@ use Rattle.std.proofs.Common.{Option, Some, None, refl, arith, All}
 use Rattle.std.specs.Prelude.{ℤ, pos, negsuc, nat_abs}
 use Rattle.std.proofs.Math.Nat.{div-le_self}
 use Rattle.std.proofs.lemmas.List.Elements.{All-nil, All-head, All-tail}
-use Rattle.int_laws.specs.NormalForm.{is_zero}
+use Rattle.its_model.specs.int_laws.NormalForm.{is_zero}
 use Rattle.model.specs.Programs.{Program}
 use Rattle.model.specs.Bounds.{Bound, Constant, SumOf, ProductOf, Parts, EachNode, EachNodeOfAll}
 use Rattle.model.specs.Paths.{target_of}
 use Rattle.model.specs.Entries.{entries}
-use Rattle.linear_forms.specs.Forms.{Form}
+use Rattle.its_model.specs.linear_forms.Forms.{Form}
 use Rattle.bound_expr.specs.Limits.{constant_limit}
-use Rattle.rule_forms.specs.Bounds.{height}
-use Rattle.proof_nodes.specs.Nodes.{SymbolForm, RankNode}
-use Rattle.proof_nodes.specs.Numbers.{rounded_up}
-use Rattle.proof_nodes.specs.Limits.{IsInLimit, IsFormInLimit}
-use Rattle.proof_nodes.specs.Known.{Table, known}
-use Rattle.proof_nodes.specs.Setting.{Setting}
-use Rattle.proof_nodes.specs.Composed.{parts_for, place_parts, rest_bound, form_bound, no_place, sizes_after}
-use Rattle.proof_nodes.specs.Composed.{rank_form, entry_bound}
-use Rattle.proof_nodes.specs.AcceptsRank.{HasFormShape, HasRankShape, rank_time}
+use Rattle.proof_tree.specs.rule_forms.Bounds.{height}
+use Rattle.proof_tree.specs.proof_nodes.Nodes.{SymbolForm, RankNode}
+use Rattle.proof_tree.specs.proof_nodes.Numbers.{rounded_up}
+use Rattle.proof_tree.specs.proof_nodes.Limits.{IsInLimit, IsFormInLimit}
+use Rattle.proof_tree.specs.proof_nodes.Known.{Table, known}
+use Rattle.proof_tree.specs.proof_nodes.Setting.{Setting}
+use Rattle.proof_tree.specs.proof_nodes.Composed.{parts_for, place_parts, rest_bound, form_bound, no_place, sizes_after}
+use Rattle.proof_tree.specs.proof_nodes.Composed.{rank_form, entry_bound}
+use Rattle.proof_tree.specs.proof_nodes.AcceptsRank.{HasFormShape, HasRankShape, rank_time}
 
 -- a number of a proof over a denominator, rounded up, is a small constant
 rounded_up-small : (n den : ℕ) → IsInLimit n → IsInLimit den → rounded_up n den ≤ constant_limit

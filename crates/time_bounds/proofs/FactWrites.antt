@@ -1,5 +1,6 @@
 -- What stands in a table after the sizes that facts state were written.
-use Rattle.std.proofs.Common.{◌≡◌, ℕ, zero, suc, ◌+◌, ◌≤◌, ◌==◌, ◌&&◌, ◌||◌, Bool, true, false, List, [], ◌∷◌, ◌++◌, length, map, Option, Some, None, refl, sym, ◌∙◌, ap, subst, arith}
+use Rattle.std.proofs.Common.{◌≡◌, ℕ, zero, suc, ◌+◌, ◌≤◌, ◌==◌, ◌&&◌, ◌||◌, Bool, true, false, List, [], ◌∷◌, ◌++◌}
+use Rattle.std.proofs.Common.{length, map, Option, Some, None, refl, sym, ◌∙◌, ap, subst, arith}
 use Rattle.std.specs.List.{All}
 use Rattle.std.proofs.lemmas.Bool.{and_parts, and_from}
 use Rattle.std.proofs.lemmas.List.Elements.{All-head, All-tail}
@@ -9,16 +10,17 @@ use Rattle.model.proofs.Membership.{same_number, told_same, no_is_not_yes}
 use Rattle.bound_expr.specs.Views.{bound_of}
 use Rattle.bound_expr.specs.declared.bound.Bound as code
 use Rattle.outcome.specs.declared.entry.Stored.{Stored}
-use Rattle.proof_nodes.specs.Nodes.{Spot, Member}
-use Rattle.proof_nodes.specs.AcceptsSizes.{cycle_facts}
+use Rattle.proof_tree.specs.proof_nodes.Nodes.{Spot, Member}
+use Rattle.proof_tree.specs.proof_nodes.AcceptsSizes.{cycle_facts}
 use Rattle.proof_tree.specs.Views.{facts_of}
 use Rattle.proof_tree.specs.declared.fact.Fact.{Fact}
 use Rattle.proof_tree.specs.declared.fact.Fact.TheVariants.{Time, Size}
-use Rattle.round_relation.specs.Tables.{lacks}
-use Rattle.round_relation.specs.NewSizes.{has_spot, is_unsized}
+use Rattle.size_bounds.specs.round_relation.Tables.{lacks}
+use Rattle.size_bounds.specs.round_relation.NewSizes.{has_spot, is_unsized}
 use Rattle.size_bounds.specs.Tables.{row_at, bound_stored}
 use Rattle.time_bounds.specs.SizeWrites.{placed, put_place, put_fact, put_facts, count_unsized}
-use Rattle.time_bounds.proofs.PlacedLaws.{place_known, place_other, place_here, place_long, place_same, place_fewer, place_few}
+use Rattle.time_bounds.proofs.PlacedLaws.{place_known, place_other, place_here, place_long, place_same, place_fewer}
+use Rattle.time_bounds.proofs.PlacedLaws.{place_few}
 use Rattle.model.proofs.Cases.{none_some}
 
 -- the same size at each of these places

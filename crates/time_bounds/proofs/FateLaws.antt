@@ -1,5 +1,7 @@
 -- The fates that are found are those of the program's rules.
-use Rattle.std.proofs.Common.{◌≡◌, ◌↔◌, inl, inr, ℕ, zero, suc, ◌<◌, ◌==◌, ◌||◌, Bool, true, false, not, cond, eqb, List, [], ◌∷◌, length, map, Option, Some, None, option_map, refl, sym, ◌∙◌, ap, subst, arith}
+use Rattle.std.proofs.Common.{◌≡◌, ◌↔◌, inl, inr, ℕ, zero, suc, ◌<◌, ◌==◌, ◌||◌, Bool, true, false, not, cond, eqb}
+use Rattle.std.proofs.Common.{List, [], ◌∷◌, length, map, Option, Some, None, option_map, refl, sym, ◌∙◌, ap, subst}
+use Rattle.std.proofs.Common.{arith}
 use Rattle.std.specs.Prelude.{slice_get, slice_index_or}
 use Rattle.std.specs.List.{list_any, range_with_len}
 use Rattle.std.proofs.lemmas.Option.{slice_get-map}
@@ -16,18 +18,19 @@ use Rattle.guard_prep.specs.Prepared.{prepared}
 use Rattle.its_graph.specs.Graphs.{none_of}
 use Rattle.its_graph.proofs.KeptLinks.{same-edges}
 use Rattle.its_graph.proofs.Reaching.{same-paths}
-use Rattle.proof_nodes.specs.AcceptsPlain.{IsRule}
+use Rattle.proof_tree.specs.proof_nodes.AcceptsPlain.{IsRule}
 use Rattle.proof_tree.specs.declared.answer.EmptyAnswer.{EmptyAnswer}
 use Rattle.proof_tree.specs.declared.answer.EmptyAnswer.TheVariants as answers
-use Rattle.rank_search.specs.EmptyAnswers.{IsEmptyAnswer, SaysEmpty}
-use Rattle.rank_search.specs.RankAnswers.{answer_for, AreEmptyAnswers}
-use Rattle.rank_search.proofs.Exact.{answers-exact}
-use Rattle.round_relation.specs.Searches.{NoPoint}
-use Rattle.round_relation.specs.Beginning.{IsEmpty, IsDead}
+use Rattle.rank_search.specs.rule_questions.EmptyAnswers.{IsEmptyAnswer, SaysEmpty}
+use Rattle.rank_search.specs.rule_questions.RuleAnswers.{answer_for, AreEmptyAnswers}
+use Rattle.rank_search.proofs.rule_questions.Exact.{answers-exact}
+use Rattle.size_bounds.specs.round_relation.Searches.{NoPoint}
+use Rattle.size_bounds.specs.round_relation.Beginning.{IsEmpty, IsDead}
 use Rattle.time_bounds.specs.declared.fates.Fate.TheVariants.{Empty, Unreached, Live}
 use Rattle.time_bounds.specs.ProgramSearches.{emptiness_of, searches_of_program}
-use Rattle.time_bounds.specs.Fates.{says_empty, is_said_empty, said_empty, fate_of, fates_by, fate_at, is_empty_fate, is_dead_fate, AreFates}
-use Rattle.time_bounds.proofs.Shut.{range_in}
+use Rattle.time_bounds.specs.Fates.{says_empty, is_said_empty, said_empty, fate_of, fates_by, fate_at, is_empty_fate}
+use Rattle.time_bounds.specs.Fates.{is_dead_fate, AreFates}
+use Rattle.time_bounds.proofs.ShutBySymbol.{range_in}
 pub use Rattle.model.proofs.Cases.{same_tests as bool_same}
 use Rattle.model.proofs.Cases.{none_some}
 

@@ -1,5 +1,6 @@
 -- Fates and empty rules, one more at a time.
-use Rattle.std.proofs.Common.{◌≡◌, ℕ, zero, suc, ◌+◌, ◌<◌, Bool, true, false, cond, List, [], ◌∷◌, ◌++◌, length, take, filter, map, replicate, Option, Some, refl, sym, ◌∙◌, ap, arith}
+use Rattle.std.proofs.Common.{◌≡◌, ℕ, zero, suc, ◌+◌, ◌<◌, Bool, true, false, cond, List, [], ◌∷◌, ◌++◌, length, take}
+use Rattle.std.proofs.Common.{filter, map, replicate, Option, Some, refl, sym, ◌∙◌, ap, arith}
 use Rattle.std.specs.Prelude.{slice_index_or}
 use Rattle.std.specs.List.{range_with_len}
 use Rattle.std.proofs.lemmas.List.{take_more, length-take-le, length-map, map-append}
@@ -8,7 +9,7 @@ use Rattle.model.specs.Programs as plain
 use Rattle.its_model.specs.declared.program.Rule.{Rule}
 use Rattle.its_model.specs.Views.{rule_of}
 use Rattle.proof_tree.specs.declared.answer.EmptyAnswer.{EmptyAnswer}
-use Rattle.rank_search.specs.RankAnswers.{answer_for}
+use Rattle.rank_search.specs.rule_questions.RuleAnswers.{answer_for}
 use Rattle.time_bounds.specs.declared.fates.Fate.{Fate}
 use Rattle.model.specs.Bounds.{Bound, Input}
 use Rattle.time_bounds.specs.Beginning.{zero_by, start_sizes, sizes_by}

@@ -1,5 +1,7 @@
 -- The first table and the lemmas that are written first are those of the relation.
-use Rattle.std.proofs.Common.{◌≡◌, ◌↔◌, inl, inr, ℕ, zero, suc, ◌+◌, ◌-◌, ◌<◌, Bool, true, false, not, cond, List, [], ◌∷◌, ◌++◌, length, map, filter, replicate, Vec, Option, Some, refl, sym, ◌∙◌, ap, subst, arith}
+use Rattle.std.proofs.Common.{◌≡◌, ◌↔◌, inl, inr, ℕ, zero, suc, ◌+◌, ◌-◌, ◌<◌, Bool, true, false, not, cond, List, []}
+use Rattle.std.proofs.Common.{◌∷◌, ◌++◌, length, map, filter, replicate, Vec, Option, Some, refl, sym, ◌∙◌, ap, subst}
+use Rattle.std.proofs.Common.{arith}
 use Rattle.std.specs.Prelude.{slice_get, slice_index_or, nat_lt}
 use Rattle.std.specs.List.{range_with_len, Contains, count_by}
 use Rattle.std.specs.declared.alloc.Global.{Global}
@@ -9,33 +11,37 @@ use Rattle.model.specs.Bounds.{Bound}
 use Rattle.model.specs.Facts.{Time, Size}
 use Rattle.model.proofs.Membership.{no_is_not_yes, slice_get-below}
 use Rattle.outcome.specs.declared.entry.Stored.{Stored}
-use Rattle.proof_nodes.specs.Nodes.{Proof}
-use Rattle.proof_nodes.specs.Acceptance.{facts_of_lemma, facts_of_lemmas}
-use Rattle.proof_nodes.specs.AcceptsPlain.{IsRule, IsUnreached}
-use Rattle.proof_setting.specs.Setting.{setting_of}
+use Rattle.proof_tree.specs.proof_nodes.Nodes.{Proof}
+use Rattle.proof_tree.specs.proof_nodes.Acceptance.{facts_of_lemma, facts_of_lemmas}
+use Rattle.proof_tree.specs.proof_nodes.AcceptsPlain.{IsRule, IsUnreached}
+use Rattle.proof_tree.specs.proof_setting.Setting.{setting_of}
 use Rattle.proof_tree.specs.declared.answer.EmptyAnswer.{EmptyAnswer}
 use Rattle.proof_tree.specs.declared.answer.EmptyAnswer.TheVariants as answers
 use Rattle.proof_tree.specs.declared.proof.EmptyNode.{EmptyNode}
-use Rattle.rank_search.specs.RankAnswers.{AreEmptyAnswers}
-use Rattle.round_relation.specs.Searches.{NoPoint}
-use Rattle.round_relation.specs.Right.{AreRight}
-use Rattle.round_relation.specs.Tables.{rule_numbers, IsPlace}
-use Rattle.round_relation.specs.Beginning.{IsDead, First}
-use Rattle.round_relation.specs.Uses.{Numbers}
-use Rattle.round_relation.specs.LemmaOrder.{AreNumbersOf, AreEmptyLemmas, AreFirstLemmas, first_lemmas, unreached_lemmas, never_lemmas, has_places, is_cut, is_dead}
-use Rattle.round_relation.specs.Numbering.{before, leaves_zeros, first_time, first_size, first_numbers}
-use Rattle.round_relation.proofs.LemmaNumbers.{first_numbers_are}
+use Rattle.rank_search.specs.rule_questions.RuleAnswers.{AreEmptyAnswers}
+use Rattle.size_bounds.specs.round_relation.Searches.{NoPoint}
+use Rattle.size_bounds.specs.round_relation.Right.{AreRight}
+use Rattle.size_bounds.specs.round_relation.Tables.{rule_numbers, IsPlace}
+use Rattle.size_bounds.specs.round_relation.Beginning.{IsDead, IsFirstTable}
+use Rattle.size_bounds.specs.round_relation.Uses.{Numbers}
+use Rattle.size_bounds.specs.round_relation.LemmaOrder.{AreNumbersOf, AreEmptyLemmas, AreFirstLemmas, first_lemmas}
+use Rattle.size_bounds.specs.round_relation.LemmaOrder.{unreached_lemmas, never_lemmas, has_places, is_cut, is_dead}
+use Rattle.size_bounds.specs.round_relation.Numbering.{before, leaves_zeros, first_time, first_size, first_numbers}
+use Rattle.size_bounds.proofs.round_relation.LemmaNumbers.{first_numbers_are}
 use Rattle.time_bounds.specs.declared.fates.Fate.{Fate}
 use Rattle.time_bounds.specs.declared.fates.Fate.TheVariants.{Empty, Unreached, Live}
 use Rattle.size_bounds.specs.declared.table.Table.{Table}
 use Rattle.time_bounds.specs.ProgramSearches.{searches_of_program}
 use Rattle.size_bounds.specs.Tables.{entry_at, row_at, bound_stored, lemma_stored, table_of, numbers_of}
 use Rattle.time_bounds.specs.Fates.{says_empty, fate_at, is_empty_fate, is_dead_fate, AreFates}
-use Rattle.time_bounds.specs.Beginning.{zero_by, first_times, first_sizes, count_empty, count_unreached, time_numbers, size_number, size_numbers, if_zeros}
+use Rattle.time_bounds.specs.Beginning.{zero_by, first_times, first_sizes, count_empty, count_unreached, time_numbers}
+use Rattle.time_bounds.specs.Beginning.{size_number, size_numbers, if_zeros}
 use Rattle.time_bounds.specs.Lemmas.{empty_lemmas, unreached_by, never_by}
 use Rattle.time_bounds.proofs.FirstTables.{is_first, time_at, rule_size}
 use Rattle.time_bounds.proofs.RoundLaws.{rule_there, rule_below}
-use Rattle.time_bounds.proofs.FirstOrder.{is_unreached_fate, some_places, AreTold, unreached_are, never_are, empty_count, unreached_count, time_here, zeros_told, size_row, empties_are, empties_count, never_same}
+use Rattle.time_bounds.proofs.FirstOrder.{is_unreached_fate, some_places, AreTold, unreached_are, never_are}
+use Rattle.time_bounds.proofs.FirstOrder.{empty_count, unreached_count, time_here, zeros_told, size_row, empties_are}
+use Rattle.time_bounds.proofs.FirstOrder.{empties_count, never_same}
 use Rattle.model.proofs.Cases.{none_some, some_same}
 
 positive : (n : ℕ) → nat_lt 0 n ≡ some_places n
@@ -127,7 +133,7 @@ module _ (p : Program) (pivots : ℕ) (right : AreRight (searches_of_program p p
       ap (λ (n : ℕ). has_places p (target_of p n)) (let at_i : 1 + i ≡ suc i = omega arith in at_i)
       ∙ (ap (λ (o : Option Rule). has_places p (target_in o)) e ∙ positive (arity_of p r.target))
 
-  first : First (searches_of_program p pivots) p (table_of tab)
+  first : IsFirstTable (searches_of_program p pivots) p (table_of tab)
   first = is_first (searches_of_program p pivots) p fates are tab times sizes
 
   abbrev ns : Numbers

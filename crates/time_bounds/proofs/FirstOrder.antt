@@ -1,23 +1,25 @@
 -- The first lemmas by fates are those in the order of the relation.
-use Rattle.std.proofs.Common.{◌≡◌, ℕ, zero, suc, ◌+◌, ◌&&◌, Bool, true, false, cond, List, [], ◌∷◌, ◌++◌, length, filter, replicate, Some, refl, sym, ◌∙◌, ap, subst, arith}
+use Rattle.std.proofs.Common.{◌≡◌, ℕ, zero, suc, ◌+◌, ◌&&◌, Bool, true, false, cond, List, [], ◌∷◌, ◌++◌, length}
+use Rattle.std.proofs.Common.{filter, replicate, Some, refl, sym, ◌∙◌, ap, subst, arith}
 use Rattle.std.specs.Prelude.{slice_get, slice_index_or}
 use Rattle.std.specs.List.{range_with_len, count_by}
 use Rattle.model.specs.Programs as plain
 use Rattle.model.proofs.Membership.{no_is_not_yes}
-use Rattle.proof_nodes.specs.Nodes.{Proof}
-use Rattle.proof_nodes.specs.Nodes as nodes
+use Rattle.proof_tree.specs.proof_nodes.Nodes.{Proof}
+use Rattle.proof_tree.specs.proof_nodes.Nodes as nodes
 use Rattle.proof_tree.specs.declared.answer.EmptyAnswer.{EmptyAnswer}
 use Rattle.proof_tree.specs.declared.answer.EmptyAnswer.TheVariants as answers
 use Rattle.proof_tree.specs.declared.proof.EmptyNode.{EmptyNode}
-use Rattle.round_relation.specs.Searches.{Searches, NoPoint}
-use Rattle.round_relation.specs.Uses.{Numbers, cites}
-use Rattle.round_relation.specs.LemmaOrder.{AreEmptyLemmas, unreached_lemmas, never_lemmas, is_cut, is_dead}
-use Rattle.round_relation.proofs.Cases.{count-first}
+use Rattle.size_bounds.specs.round_relation.Searches.{Searches, NoPoint}
+use Rattle.size_bounds.specs.round_relation.Uses.{Numbers, cites}
+use Rattle.size_bounds.specs.round_relation.LemmaOrder.{AreEmptyLemmas, unreached_lemmas, never_lemmas, is_cut, is_dead}
+use Rattle.size_bounds.proofs.round_relation.Cases.{count-first}
 use Rattle.time_bounds.specs.declared.fates.Fate.{Fate}
 use Rattle.time_bounds.specs.declared.fates.Fate.TheVariants.{Empty, Unreached, Live}
 use Rattle.size_bounds.specs.Tables.{row_at}
 use Rattle.time_bounds.specs.Fates.{says_empty, is_empty_fate, is_dead_fate}
-use Rattle.time_bounds.specs.Beginning.{if_empty, if_unreached, if_zeros, count_empty, count_unreached, time_number, time_numbers, size_number, size_numbers}
+use Rattle.time_bounds.specs.Beginning.{if_empty, if_unreached, if_zeros, count_empty, count_unreached, time_number}
+use Rattle.time_bounds.specs.Beginning.{time_numbers, size_number, size_numbers}
 use Rattle.time_bounds.specs.Lemmas.{empty_lemmas, unreached_by, never_here, never_by}
 use Rattle.model.proofs.Cases.{none_some, some_same}
 

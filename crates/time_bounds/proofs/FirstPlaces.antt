@@ -1,5 +1,6 @@
 -- The first table has a row for each rule, and few bounds are missing in it.
-use Rattle.std.proofs.Common.{◌≡◌, ℕ, ◌*◌, ◌≤◌, List, [], ◌∷◌, length, map, Vec, Option, Some, refl, sym, ◌∙◌, ap, arith}
+use Rattle.std.proofs.Common.{◌≡◌, ℕ, ◌*◌, ◌≤◌, List, [], ◌∷◌, length, map, Vec, Option, Some, refl, sym, ◌∙◌, ap}
+use Rattle.std.proofs.Common.{arith}
 use Rattle.std.specs.List.{range_with_len}
 use Rattle.std.specs.declared.alloc.Global.{Global}
 use Rattle.std.proofs.lemmas.List.{length-map, length-replicate}
@@ -18,7 +19,7 @@ use Rattle.time_bounds.specs.SizeWrites.{rows_of, count_unsized}
 use Rattle.time_bounds.specs.Attempts.{HasPlaces}
 use Rattle.time_bounds.specs.RoundEnds.{missing_in}
 use Rattle.time_bounds.proofs.RoundSteps.{count_few}
-use Rattle.time_bounds.proofs.Steps.{few_places}
+use Rattle.time_bounds.proofs.ShutByPlace.{few_places}
 
 seen_long : (rows : List (Vec (Option Stored) Global))
     → map (λ (row : List (Option Bound)). length row) (map (λ row. map bound_stored row.items) rows)

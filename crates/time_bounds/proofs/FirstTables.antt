@@ -1,5 +1,6 @@
 -- The table that is made first is the first one of the relation.
-use Rattle.std.proofs.Common.{◌≡◌, ◌⊎◌, inl, inr, ℕ, zero, suc, ◌+◌, ◌-◌, ◌<◌, ◌≤◌, Bool, true, false, List, [], ◌∷◌, length, map, replicate, Vec, Option, Some, None, refl, sym, ◌∙◌, ap, arith}
+use Rattle.std.proofs.Common.{◌≡◌, ◌⊎◌, inl, inr, ℕ, zero, suc, ◌+◌, ◌-◌, ◌<◌, ◌≤◌, Bool, true, false, List, [], ◌∷◌}
+use Rattle.std.proofs.Common.{length, map, replicate, Vec, Option, Some, None, refl, sym, ◌∙◌, ap, arith}
 use Rattle.std.specs.Prelude.{slice_get}
 use Rattle.std.specs.List.{range_with_len}
 use Rattle.std.specs.declared.alloc.Global.{Global}
@@ -10,13 +11,13 @@ use Rattle.model.specs.Bounds.{Bound, Constant, Input}
 use Rattle.model.specs.Paths.{target_in}
 use Rattle.model.proofs.Membership.{no_is_not_yes, slice_get-below}
 use Rattle.outcome.specs.declared.entry.Stored.{Stored}
-use Rattle.proof_nodes.specs.AcceptsPlain.{IsRule}
+use Rattle.proof_tree.specs.proof_nodes.AcceptsPlain.{IsRule}
 use Rattle.proof_tree.specs.declared.answer.EmptyAnswer.{EmptyAnswer}
-use Rattle.rank_search.specs.EmptyAnswers.{SaysEmpty}
-use Rattle.rank_search.specs.RankAnswers.{answer_for, AreEmptyAnswers}
-use Rattle.round_relation.specs.Searches.{Searches}
-use Rattle.round_relation.specs.Tables.{lacks, is_untimed, IsPlace}
-use Rattle.round_relation.specs.Beginning.{IsDead, IsZero, IsOpen, First}
+use Rattle.rank_search.specs.rule_questions.EmptyAnswers.{SaysEmpty}
+use Rattle.rank_search.specs.rule_questions.RuleAnswers.{answer_for, AreEmptyAnswers}
+use Rattle.size_bounds.specs.round_relation.Searches.{Searches}
+use Rattle.size_bounds.specs.round_relation.Tables.{lacks, is_untimed, IsPlace}
+use Rattle.size_bounds.specs.round_relation.Beginning.{IsDead, IsZero, IsOpen, IsFirstTable}
 use Rattle.time_bounds.specs.declared.fates.Fate.{Fate}
 use Rattle.time_bounds.specs.declared.fates.Fate.TheVariants.{Empty, Unreached, Live}
 use Rattle.size_bounds.specs.declared.table.Table.{Table}
@@ -25,7 +26,7 @@ use Rattle.size_bounds.specs.Tables.{entry_at, row_at, bound_stored, table_of}
 use Rattle.time_bounds.specs.Questions.{IsTable}
 use Rattle.time_bounds.specs.Fates.{fate_at, is_empty_fate, is_dead_fate, AreFates}
 use Rattle.time_bounds.specs.Beginning.{zero_by, first_times, sizes_by, first_sizes}
-use Rattle.size_bounds.proofs.Stored.{entry_past}
+use Rattle.size_bounds.proofs.StoredBounds.{entry_past}
 use Rattle.time_bounds.proofs.RoundLaws.{rule_there}
 use Rattle.time_bounds.proofs.FateLaws.{shown, says}
 pub use Rattle.model.proofs.Cases.{none_some}
@@ -177,7 +178,7 @@ module _ (q : Searches) (p : Program) (fates : List Fate) (right : AreFates q p 
       let low : i < arity_of p rule.rule.target = omega (arith, place.last, ap (arity_of p) symbol) in
       size_at k i rule.rule rule.numbered ∙ same_entry (zero_by (fate_at fates (suc k))) (arity_of p rule.rule.target) i low
 
-  unfoldable pub is_first : First q p (table_of tab)
+  unfoldable pub is_first : IsFirstTable q p (table_of tab)
   is_first = record {
     table = record { times = time_rule; sizes = size_rule };
     is_empty = λ e. is_empty_fate (fate_at fates e);

@@ -1,10 +1,11 @@
 -- Which rules have no time, read off a table.
-use Rattle.std.proofs.Common.{◌≡◌, ℕ, zero, suc, ◌<◌, false, List, [], ◌∷◌, length, map, get_or, Option, Some, None, refl, ◌∙◌, arith}
+use Rattle.std.proofs.Common.{◌≡◌, ℕ, zero, suc, ◌<◌, false, List, [], ◌∷◌, length, map, get_or, Option, Some, None}
+use Rattle.std.proofs.Common.{refl, ◌∙◌, arith}
 use Rattle.std.proofs.lemmas.List.{length-map}
 use Rattle.model.specs.Programs.{Program}
 use Rattle.outcome.specs.declared.entry.Stored.{Stored}
 use Rattle.proof_tree.specs.declared.answer.EmptyAnswer.{EmptyAnswer}
-use Rattle.round_relation.specs.Tables.{lacks}
+use Rattle.size_bounds.specs.round_relation.Tables.{lacks}
 use Rattle.size_bounds.specs.declared.table.Table.{Table}
 use Rattle.size_bounds.specs.Tables.{entry_at, is_unstored, bound_stored}
 use Rattle.time_bounds.specs.Questions.{AreUntimed, IsTable}

@@ -8,10 +8,11 @@ use Rattle.its_graph.specs.Graphs.{IsGraphOf}
 use Rattle.its_graph.specs.declared.graph.Graph.{Graph}
 use Rattle.guard_prep.specs.declared.rule_rows.RuleRows.{RuleRows}
 use Rattle.local_size.specs.declared.answer.LocalAnswer.{LocalAnswer}
-use Rattle.proof_setting.specs.Setting.{setting_of}
+use Rattle.proof_tree.specs.proof_setting.Setting.{setting_of}
 use Rattle.proof_tree.specs.Composing.{AreRowsOf}
 use Rattle.rvg_components.specs.declared.component.Component.{Component}
-use Rattle.rvg_components.specs.Listing.{answer_lists, is_flagged, local_from, members_of, AreLocalsFor, AreAnswersGiven, AreComponents, SaysWhetherItLoops}
+use Rattle.rvg_components.specs.Listing.{answer_lists, is_flagged, local_from, members_of, AreLocalsFor}
+use Rattle.rvg_components.specs.Listing.{AreAnswersOfProgram, AreComponents, SaysWhetherItLoops}
 use Rattle.time_bounds.specs.declared.candidates.Candidate.{Candidate}
 use Rattle.time_bounds.specs.declared.fates.Fate.{Fate}
 use Rattle.time_bounds.specs.ProgramSearches.{searches_of_program}
@@ -48,7 +49,7 @@ handed p pivots fates g old preps had lists live valid graph rows are all e f h 
 module _ (p : Program) (pivots : ℕ) (fates : List Fate) (g : Graph) (preps : List RuleRows) (lists : List (Vec LocalAnswer Global)) (live : List Bool)
     (h : Handed p pivots fates g preps lists live) where
   -- what the search for components is given has an answer for each place of a live rule
-  pub given : AreAnswersGiven p g preps (answer_lists lists) live
+  pub given : AreAnswersOfProgram p g preps (answer_lists lists) live
   given = record {
     valid = h.valid;
     graph = h.graph;

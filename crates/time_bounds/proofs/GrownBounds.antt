@@ -1,23 +1,28 @@
 -- A composed bound stays over a table that has grown, where each bound that it reads was known.
-use Rattle.std.proofs.Common.{◌≡◌, ℕ, suc, ◌||◌, not, Bool, true, false, List, [], ◌∷◌, ◌++◌, ℤ, nat_abs, filter, Option, Some, None, refl, sym, ◌∙◌, ap}
+use Rattle.std.proofs.Common.{◌≡◌, ℕ, suc, ◌||◌, not, Bool, true, false, List, [], ◌∷◌, ◌++◌, ℤ, nat_abs, filter}
+use Rattle.std.proofs.Common.{Option, Some, None, refl, sym, ◌∙◌, ap}
 use Rattle.std.specs.List.{AllByRecursion, list_any}
 use Rattle.std.proofs.lemmas.Bool.{or_left, or_right}
-use Rattle.int_laws.specs.NormalForm.{is_zero}
+use Rattle.its_model.specs.int_laws.NormalForm.{is_zero}
 use Rattle.model.specs.Bounds.{Bound, Constant, SumOf, ProductOf, MaximumOf, PowerOf, Parts, Part}
 use Rattle.model.specs.Entries.{is_in}
 use Rattle.model.specs.Paths.{pre}
 use Rattle.model.specs.Polynomials.{Polynomial}
 use Rattle.model.proofs.Membership.{is_in-filter}
-use Rattle.linear_forms.specs.Forms.{at}
-use Rattle.rule_forms.specs.Bounds.{height}
-use Rattle.proof_nodes.specs.Nodes.{Arm, Linear, Poly, Member}
-use Rattle.proof_nodes.specs.Known.{IsKnown, Table, known}
-use Rattle.proof_nodes.specs.Numbers.{rounded_up}
-use Rattle.proof_nodes.specs.Composed.{both_parts, parts_for, place_parts, no_place, sizes_after}
-use Rattle.proof_nodes.specs.ComposedSizes.{monomial_parts, polynomial_bound, arm_bound, has_variable, reads, poly_at, spread_part, is_member, slope_of, offset_of, Flow, flow, flows_from, flows_into, flows, factor_of, addition_of, base_of, rules_of, multiplies, adds, growth_parts, addition_parts, loop_bound}
-use Rattle.proof_nodes.specs.AcceptsSizes.{ArmHasSizes, HasSizesAfter, HasSizesBefore, IsStraightArm, IsStraight, spread_size, cycle_size}
-use Rattle.proof_nodes.specs.Setting.{Setting}
-use Rattle.proof_nodes.proofs.CheckLists.{each-in, in-each}
+use Rattle.its_model.specs.linear_forms.Forms.{at}
+use Rattle.proof_tree.specs.rule_forms.Bounds.{height}
+use Rattle.proof_tree.specs.proof_nodes.Nodes.{Arm, Linear, Poly, Member}
+use Rattle.proof_tree.specs.proof_nodes.Known.{IsKnown, Table, known}
+use Rattle.proof_tree.specs.proof_nodes.Numbers.{rounded_up}
+use Rattle.proof_tree.specs.proof_nodes.Composed.{both_parts, parts_for, place_parts, no_place, sizes_after}
+use Rattle.proof_tree.specs.proof_nodes.ComposedSizes.{monomial_parts, polynomial_bound, arm_bound, has_variable, reads, poly_at}
+use Rattle.proof_tree.specs.proof_nodes.ComposedSizes.{spread_part, is_member, slope_of, offset_of, Flow, flow, flows_from}
+use Rattle.proof_tree.specs.proof_nodes.ComposedSizes.{flows_into, flows, factor_of, addition_of, base_of, rules_of, multiplies}
+use Rattle.proof_tree.specs.proof_nodes.ComposedSizes.{adds, growth_parts, addition_parts, loop_bound}
+use Rattle.proof_tree.specs.proof_nodes.AcceptsSizes.{ArmHasSizes, HasSizesAfter, HasSizesBefore, IsStraightArm, IsStraight}
+use Rattle.proof_tree.specs.proof_nodes.AcceptsSizes.{spread_size, cycle_size}
+use Rattle.proof_tree.specs.proof_nodes.Setting.{Setting}
+use Rattle.proof_tree.proofs.proof_nodes.CheckLists.{each-in, in-each}
 use Rattle.time_bounds.specs.Standing.{HasGrown}
 
 -- the parts of places agree where the bounds of those agree that have a coefficient and aren't left out

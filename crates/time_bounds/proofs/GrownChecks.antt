@@ -5,16 +5,18 @@ use Rattle.std.specs.List.{AllByRecursion}
 use Rattle.std.proofs.lemmas.List.Elements.{recursion_from_All}
 use Rattle.model.specs.Bounds.{Bound}
 use Rattle.model.specs.Paths.{pre}
-use Rattle.proof_nodes.specs.Nodes.{Spot, Member}
-use Rattle.proof_nodes.specs.Known.{IsKnown, Table}
-use Rattle.proof_nodes.specs.Setting.{Setting}
-use Rattle.proof_nodes.specs.ComposedSizes.{Flow, flows, rules_of, multiplies, adds}
-use Rattle.proof_nodes.specs.AcceptsSizes.{HasMemberShape, IsStraight, spread_size, cycle_size}
-use Rattle.proof_nodes.specs.Reasons.{Reason, Shape, NotEmpty, Reached, NotZero, Move, Floor, ArmUp, ArmLow, MissingTime, MissingSize, Bent, Large, NotWeaker}
-use Rattle.proof_nodes.specs.Reasons.{Check, for_each, IsFirstAmong}
-use Rattle.proof_nodes.specs.Checks.{check_up, check_low, check_size, check_time, check_small, needed_into, needed_times, straight_from, straight_into, spread_checks, cycle_checks}
-use Rattle.proof_nodes.proofs.CheckLists.{each-in}
-use Rattle.proof_nodes.proofs.SizeReasons.{members-known}
+use Rattle.proof_tree.specs.proof_nodes.Nodes.{Spot, Member}
+use Rattle.proof_tree.specs.proof_nodes.Known.{IsKnown, Table}
+use Rattle.proof_tree.specs.proof_nodes.Setting.{Setting}
+use Rattle.proof_tree.specs.proof_nodes.ComposedSizes.{Flow, flows, rules_of, multiplies, adds}
+use Rattle.proof_tree.specs.proof_nodes.AcceptsSizes.{HasMemberShape, IsStraight, spread_size, cycle_size}
+use Rattle.proof_tree.specs.proof_nodes.Reasons.{Reason, Shape, NotEmpty, Reached, NotZero, Move, Floor, ArmUp, ArmLow}
+use Rattle.proof_tree.specs.proof_nodes.Reasons.{MissingTime, MissingSize, Bent, Large, NotWeaker}
+use Rattle.proof_tree.specs.proof_nodes.Reasons.{Check, for_each, IsFirstAmong}
+use Rattle.proof_tree.specs.proof_nodes.Checks.{check_up, check_low, check_size, check_time, check_small, needed_into}
+use Rattle.proof_tree.specs.proof_nodes.Checks.{needed_times, straight_from, straight_into, spread_checks, cycle_checks}
+use Rattle.proof_tree.proofs.proof_nodes.CheckLists.{each-in}
+use Rattle.proof_tree.proofs.proof_nodes.SizeReasons.{members-known}
 use Rattle.time_bounds.specs.Standing.{HasGrown}
 use Rattle.time_bounds.proofs.GrownBounds.{spread-stays, AreStraight, into-stays, cycle-stays}
 

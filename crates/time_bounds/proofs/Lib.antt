@@ -1,16 +1,16 @@
 -- bounds pushed one by one
-pub mod Pushed
+pub mod KnownTimes
 -- the steps of a run are at most the sum of all times
 pub mod Sums
 -- what stands at a position
 -- the set of a rule, and its shut places
 pub mod SetLaws
-pub mod Shut
+pub mod ShutBySymbol
 pub mod PartSets
 -- a round of the code is one of the relation
 pub mod RoundLaws
 -- the ends of rules
-pub mod Ends
+pub mod RuleSymbols
 -- the fates of rules
 pub mod FateLaws
 pub mod FateLists
@@ -24,7 +24,7 @@ pub mod TriedLists
 -- which rules have no time
 pub mod Flags
 -- one symbol more, and one place more
-pub mod Steps
+pub mod ShutByPlace
 -- what answers give
 pub mod AnswerLaws
 -- the searches of a program are right
@@ -40,11 +40,11 @@ pub mod OneSizes
 pub mod OneSearches
 pub mod OneAnalysis
 -- times that are written one by one
-pub mod Settling
+pub mod RoundTimes
 -- what a round makes of a table
 pub mod RoundSteps
 -- what a report is asked to say
-pub mod Found
+pub mod ReportEntries
 -- what stands at places
 pub mod LocalLists
 pub mod LiveLocals
@@ -67,7 +67,7 @@ pub mod SaidRows
 -- what ranking nodes need
 pub mod UseLists
 -- the numbers of the first lemmas
-pub mod Numbered
+pub mod FirstNumbers
 -- and their order
 pub mod FirstOrder
 -- and the first lemmas are those of the relation
@@ -95,3 +95,7 @@ pub mod ComposedNumbers
 pub mod SizeNumbers
 pub mod Printables
 pub mod PrintableOutcomes
+-- the lemmas of the crates below, which callers name through this one
+pub use Rattle.rank_search.proofs.rule_questions
+pub use Rattle.rank_search.proofs as rank_search
+pub use Rattle.local_size.proofs as local_size

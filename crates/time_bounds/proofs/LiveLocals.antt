@@ -14,15 +14,15 @@ use Rattle.guard_prep.specs.Prepared.{Prepared, prepared}
 use Rattle.guard_prep.specs.Views.{prepared_of}
 use Rattle.guard_prep.proofs.StepLaws.{preparable}
 use Rattle.local_size.specs.declared.answer.LocalAnswer.{LocalAnswer}
-use Rattle.poly_terms.specs.Views.{form_of}
+use Rattle.its_model.specs.poly_terms.Views.{form_of}
 use Rattle.proof_tree.specs.Composing.{AreRowsOf}
 use Rattle.proof_tree.specs.declared.answer.EmptyAnswer.{EmptyAnswer}
-use Rattle.rank_search.specs.EmptyAnswers.{IsPrepared}
-use Rattle.rank_search.specs.RankAnswers.{AreEmptyAnswers}
+use Rattle.rank_search.specs.rule_questions.EmptyAnswers.{IsPrepared}
+use Rattle.rank_search.specs.rule_questions.RuleAnswers.{AreEmptyAnswers}
 use Rattle.rank_search.proofs.RankSets.{rule-of}
 use Rattle.time_bounds.specs.declared.fates.Fate.{Fate}
 use Rattle.time_bounds.specs.Locals.{AreAnswersAt, AreAnswersAfter}
-use Rattle.time_bounds.proofs.Ends.{target_read, arity_read}
+use Rattle.time_bounds.proofs.RuleSymbols.{target_read, arity_read}
 use Rattle.time_bounds.proofs.LocalLists.{answers_after}
 use Rattle.time_bounds.proofs.RowLaws.{RowsAt, rows_at, rows_length, rule_read}
 pub use Rattle.model.proofs.Cases.{IfOk-both as all_two}

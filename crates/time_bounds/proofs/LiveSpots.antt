@@ -1,5 +1,6 @@
 -- The places of live rules: they ascend, and are those of the live rules.
-use Rattle.std.proofs.Common.{◌≡◌, ◌⊎◌, inl, inr, ℕ, zero, suc, ◌+◌, ◌<◌, ◌≤◌, ◌==◌, ◌&&◌, ◌||◌, Bool, true, false, cond, List, []}
+use Rattle.std.proofs.Common.{◌≡◌, ◌⊎◌, inl, inr, ℕ, zero, suc, ◌+◌, ◌<◌, ◌≤◌, ◌==◌, ◌&&◌, ◌||◌, Bool, true, false}
+use Rattle.std.proofs.Common.{cond, List, []}
 use Rattle.std.proofs.Common.{◌∷◌, ◌++◌, length, map, Option, Some, None, refl, sym, ◌∙◌, ap, subst, arith}
 use Rattle.std.specs.List.{range_with_len}
 use Rattle.std.proofs.lemmas.Bool.{and_parts, and_from, or_left, or_right}
@@ -7,14 +8,15 @@ use Rattle.model.specs.Programs.{Program, arity_of}
 use Rattle.model.specs.Entries.{is_in}
 use Rattle.model.specs.Paths.{target_of}
 use Rattle.model.proofs.Membership.{same_number, told_same, no_is_not_yes, is_in-cases}
-use Rattle.proof_nodes.specs.Nodes.{Spot}
-use Rattle.proof_nodes.specs.AcceptsPlain.{IsRule, places_at}
+use Rattle.proof_tree.specs.proof_nodes.Nodes.{Spot}
+use Rattle.proof_tree.specs.proof_nodes.AcceptsPlain.{IsRule, places_at}
 use Rattle.rvg_components.specs.Flows.{target_spots, spots_of, live_spots}
-use Rattle.round_relation.specs.Tables.{IsPlace}
-use Rattle.round_relation.specs.NewSizes.{has_spot}
-use Rattle.round_relation.proofs.Numbered.{rule_in, place_in, in_places}
+use Rattle.size_bounds.specs.round_relation.Tables.{IsPlace}
+use Rattle.size_bounds.specs.round_relation.NewSizes.{has_spot}
+use Rattle.size_bounds.proofs.round_relation.Numbered.{rule_in, place_in, in_places}
 use Rattle.time_bounds.specs.ProgramSizes.{spot}
-use Rattle.time_bounds.proofs.SpotLists.{IsBeforeAll, Ascend, AreAllBefore, ascend-append, member-append, append-left, append-right}
+use Rattle.time_bounds.proofs.SpotLists.{IsBeforeAll, Ascend, AreAllBefore, ascend-append, member-append, append-left}
+use Rattle.time_bounds.proofs.SpotLists.{append-right}
 
 -- the places after one rule ascend
 row-before : (t i a n : ℕ) → i < a → IsBeforeAll (spot t i) (map (spot t) (range_with_len a n))

@@ -1,20 +1,21 @@
 -- Lists of answers for the places of live rules are what is answered of them.
-use Rattle.std.proofs.Common.{◌≡◌, ℕ, zero, suc, ◌+◌, ◌<◌, Bool, true, false, not, List, [], ◌∷◌, ◌++◌, length, map, Some, refl, sym, ◌∙◌, ap, subst, arith}
+use Rattle.std.proofs.Common.{◌≡◌, ℕ, zero, suc, ◌+◌, ◌<◌, Bool, true, false, not, List, [], ◌∷◌, ◌++◌, length, map}
+use Rattle.std.proofs.Common.{Some, refl, sym, ◌∙◌, ap, subst, arith}
 use Rattle.std.specs.Prelude.{slice_get, slice_index_or}
 use Rattle.std.proofs.lemmas.List.{length-map}
 use Rattle.model.specs.Programs.{Program, Rule, rule_at, arity_of}
 use Rattle.model.specs.Paths.{target_in}
 use Rattle.model.proofs.Membership.{no_is_not_yes, slice_get-below as below_get}
 use Rattle.guard_prep.specs.Prepared.{Prepared, prepared}
-use Rattle.proof_nodes.specs.AcceptsPlain.{IsRule}
+use Rattle.proof_tree.specs.proof_nodes.AcceptsPlain.{IsRule}
 use Rattle.proof_tree.specs.declared.answer.EmptyAnswer.{EmptyAnswer}
 use Rattle.proof_tree.specs.declared.answer.EmptyAnswer.TheVariants as empty
-use Rattle.rank_search.specs.EmptyAnswers.{IsEmptyAnswer, SaysEmpty}
-use Rattle.rank_search.specs.RankAnswers.{AreEmptyAnswers}
-use Rattle.local_size.specs.LocalAnswers.{IsLocal, local_seen}
+use Rattle.rank_search.specs.rule_questions.EmptyAnswers.{IsEmptyAnswer, SaysEmpty}
+use Rattle.rank_search.specs.rule_questions.RuleAnswers.{AreEmptyAnswers}
+use Rattle.local_size.specs.LocalAnswers.{IsLocal, local_answer_of}
 use Rattle.local_size.specs.declared.answer.LocalAnswer.{LocalAnswer}
-use Rattle.round_relation.specs.Tables.{IsPlace}
-use Rattle.round_relation.specs.Beginning.{IsDead}
+use Rattle.size_bounds.specs.round_relation.Tables.{IsPlace}
+use Rattle.size_bounds.specs.round_relation.Beginning.{IsDead}
 use Rattle.rvg_components.specs.Listing.{answers_for, local_in, local_from, is_flagged, AreLocalsFor}
 use Rattle.time_bounds.specs.declared.fates.Fate.{Fate}
 use Rattle.time_bounds.specs.declared.fates.Fate.TheVariants.{Empty, Unreached, Live}
@@ -27,23 +28,23 @@ use Rattle.model.proofs.Cases.{slice_get-there as get_below, none_some, some_sam
 
 -- one answer more of a rule
 pub answer_more : (m : Prepared) (t pivots : ℕ) (e : EmptyAnswer) (i : ℕ) (answers : List LocalAnswer) (a : LocalAnswer) → AreAnswersAt m t pivots e i answers
-    → IsLocal m (spot t (i + length answers)) pivots e (local_seen a) → AreAnswersAt m t pivots e i (answers ++ a ∷ [])
+    → IsLocal m (spot t (i + length answers)) pivots e (local_answer_of a) → AreAnswersAt m t pivots e i (answers ++ a ∷ [])
 answer_more m t pivots e i [] a h x =
-    (subst (λ (n : ℕ). IsLocal m (spot t n) pivots e (local_seen a)) (let z : i + 0 ≡ i = omega arith in z) x, tt)
+    (subst (λ (n : ℕ). IsLocal m (spot t n) pivots e (local_answer_of a)) (let z : i + 0 ≡ i = omega arith in z) x, tt)
 answer_more m t pivots e i (b ∷ answers) a h x = (
   h.0,
   answer_more m t pivots e (suc i) answers a h.1
-      (subst (λ (n : ℕ). IsLocal m (spot t n) pivots e (local_seen a)) (let z : i + suc (length answers) ≡ suc i + length answers = omega arith in z) x),
+      (subst (λ (n : ℕ). IsLocal m (spot t n) pivots e (local_answer_of a)) (let z : i + suc (length answers) ≡ suc i + length answers = omega arith in z) x),
 )
 
 answer_of_place : (m : Prepared) (t pivots : ℕ) (e : EmptyAnswer) (k : ℕ) (answers : List LocalAnswer) (j : ℕ) (a : LocalAnswer)
-    → AreAnswersAt m t pivots e k answers → slice_get answers j ≡ Some a → IsLocal m (spot t (k + j)) pivots e (local_seen a)
+    → AreAnswersAt m t pivots e k answers → slice_get answers j ≡ Some a → IsLocal m (spot t (k + j)) pivots e (local_answer_of a)
 answer_of_place m t pivots e k [] j a h g = absurd (none_some a g)
 answer_of_place m t pivots e k (b ∷ answers) zero a h g =
-    subst (λ (n : ℕ). IsLocal m (spot t n) pivots e (local_seen a)) (let z : k ≡ k + 0 = omega arith in z)
-    (subst (λ (x : LocalAnswer). IsLocal m (spot t k) pivots e (local_seen x)) (some_same b a g) h.0)
+    subst (λ (n : ℕ). IsLocal m (spot t n) pivots e (local_answer_of a)) (let z : k ≡ k + 0 = omega arith in z)
+    (subst (λ (x : LocalAnswer). IsLocal m (spot t k) pivots e (local_answer_of x)) (some_same b a g) h.0)
 answer_of_place m t pivots e k (b ∷ answers) (suc j) a h g =
-    subst (λ (n : ℕ). IsLocal m (spot t n) pivots e (local_seen a)) (let z : suc k + j ≡ k + suc j = omega arith in z)
+    subst (λ (n : ℕ). IsLocal m (spot t n) pivots e (local_answer_of a)) (let z : suc k + j ≡ k + suc j = omega arith in z)
     (answer_of_place m t pivots e (suc k) answers j a h.1 g)
 
 -- the answers of a live rule, by those for its rows
@@ -64,7 +65,7 @@ answers_after p pivots i r f e answers numbered is long h = record {
     empty = e;
     is_empty_answer = is;
     local =
-        subst (λ (n : ℕ). IsLocal (prepared r) (spot (suc i) n) pivots e (local_seen a)) (let z : 1 + j ≡ suc j = omega arith in z)
+        subst (λ (n : ℕ). IsLocal (prepared r) (spot (suc i) n) pivots e (local_answer_of a)) (let z : 1 + j ≡ suc j = omega arith in z)
         (answer_of_place (prepared r) (suc i) pivots e 1 answers j a h g);
   };
 }
@@ -176,7 +177,7 @@ module _ (p : Program) (pivots : ℕ) (fates : List Fate) (lists : List (List Lo
 
   -- the answer of a place of a live rule
   pub answer_here : (t i : ℕ) → is_flagged (map is_live_fate fates) t ≡ true → IsPlace p t i
-      → (a : LocalAnswer) × (answer_in lists t i ≡ Some a) × IsLocalOf p pivots t i (local_seen a)
+      → (a : LocalAnswer) × (answer_in lists t i ≡ Some a) × IsLocalOf p pivots t i (local_answer_of a)
   answer_here zero i h place = absurd (no_is_not_yes false refl h)
   answer_here (suc u) zero h place = absurd (let l = place.least in omega (arith, l))
   answer_here (suc u) (suc j) h place =
@@ -197,7 +198,7 @@ module _ (p : Program) (pivots : ℕ) (fates : List Fate) (lists : List (List Lo
       let x = answer_here t i h place in
       subst (λ l. IsLocalOf p pivots t i l) (sym (at t i x.0 x.1)) x.2
     where
-      at : (t i : ℕ) (a : LocalAnswer) → answer_in lists t i ≡ Some a → local_from lists t i ≡ local_seen a
+      at : (t i : ℕ) (a : LocalAnswer) → answer_in lists t i ≡ Some a → local_from lists t i ≡ local_answer_of a
       at t zero a e = absurd (none_some a e)
       at t (suc i) a e = ap local_in e
 

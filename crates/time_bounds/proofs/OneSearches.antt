@@ -1,47 +1,29 @@
 -- The searches of a program have one answer to each rank question, so each program has one analysis.
-use Rattle.std.proofs.Common.{◌≡◌, ◌⊎◌, inl, inr, ℕ, zero, suc, ◌<◌, ◌≤◌, List, [], ◌∷◌, length, map, Option, Some, None, refl, sym, ◌∙◌, ap, arith, slice_get}
+use Rattle.std.proofs.Common.{◌≡◌, ◌⊎◌, inl, inr, ℕ, zero, suc, ◌<◌, ◌≤◌, List, [], ◌∷◌, length, map, Option, Some}
+use Rattle.std.proofs.Common.{None, refl, sym, ◌∙◌, ap, arith, slice_get}
 use Rattle.model.specs.Programs.{Program, Rule}
 use Rattle.model.proofs.Membership.{slice_get-below}
+use Rattle.its_model.proofs.linear_forms.CauseLaws.{names-same}
 use Rattle.guard_prep.specs.Prepared.{prepared}
-use Rattle.proof_nodes.specs.Gaps.{ScaledPoint, SymbolPlace, Gap}
-use Rattle.proof_nodes.specs.Nodes.{RankNode}
+use Rattle.proof_tree.specs.proof_nodes.Gaps.{ScaledPoint, SymbolPlace, Gap}
+use Rattle.proof_tree.specs.proof_nodes.Nodes.{RankNode}
 use Rattle.proof_tree.specs.declared.answer.Trip.{Trip}
-use Rattle.proof_tree.specs.declared.answer.TripCause.{TripCause}
-use Rattle.proof_tree.specs.declared.answer.TripCause.TheVariants.{Range, Budget, Wide, Scale}
 use Rattle.proof_tree.specs.declared.answer.EmptyAnswer.{EmptyAnswer}
 use Rattle.proof_tree.specs.declared.answer.EmptyAnswer.TheVariants as empties
-use Rattle.proof_tree.specs.AnswerViews.{cause_of}
 use Rattle.rank_search.specs.declared.answer.RankAnswer.{RankAnswer}
 use Rattle.rank_search.specs.declared.answer.RankAnswer.TheVariants as ranks
-use Rattle.rank_search.specs.ProgramQuestions.{ranked_set}
-use Rattle.rank_search.specs.RankAnswers.{answer_for, AreEmptyAnswers, point_in, trip_in, first_of, first_trip}
-use Rattle.rank_search.specs.OneAnswer.{IsSameTrip, IsSameEmptyAnswer, EmptyAnswersAreOne, SeeTheSame, IsSameRankAnswer, RankAnswersAreOne}
-use Rattle.round_relation.specs.Searches.{Ranking, Ranked, Unranked, RankTripped}
-use Rattle.round_relation.specs.Right.{AreOne}
+use Rattle.rank_search.specs.rule_questions.ProgramQuestions.{ranked_set}
+use Rattle.rank_search.specs.rule_questions.RuleAnswers.{answer_for, AreEmptyAnswers, point_in, trip_in}
+use Rattle.rank_search.specs.RankAnswers.{first_of, first_trip}
+use Rattle.rank_search.specs.rule_questions.OneEmptyAnswer.{IsSameTrip, IsSameEmptyAnswer, EmptyAnswersAreOne}
+use Rattle.rank_search.specs.OneAnswer.{SeeTheSame, IsSameRankAnswer, RankAnswersAreOne}
+use Rattle.size_bounds.specs.round_relation.Searches.{Ranking, Ranked, Unranked, RankTripped}
+use Rattle.size_bounds.specs.round_relation.Right.{AreOne}
 use Rattle.time_bounds.specs.ProgramSearches.{ranking_of, searches_of_program}
 use Rattle.model.proofs.Cases.{slice_get-there as at_some, some_none}
 
--- a cause as plain data is that of one cause
-cause_one : (c d : TripCause) → cause_of c ≡ cause_of d → c ≡ d
-cause_one (Range n) (Range m) e = let same : n ≡ m = cc in ap (λ (k : ℕ). Range k) same
-cause_one (Range n) (Budget m) e = cc
-cause_one (Range n) (Wide m) e = cc
-cause_one (Range n) Scale e = cc
-cause_one (Budget n) (Range m) e = cc
-cause_one (Budget n) (Budget m) e = let same : n ≡ m = cc in ap (λ (k : ℕ). Budget k) same
-cause_one (Budget n) (Wide m) e = cc
-cause_one (Budget n) Scale e = cc
-cause_one (Wide n) (Range m) e = cc
-cause_one (Wide n) (Budget m) e = cc
-cause_one (Wide n) (Wide m) e = let same : n ≡ m = cc in ap (λ (k : ℕ). Wide k) same
-cause_one (Wide n) Scale e = cc
-cause_one Scale (Range m) e = cc
-cause_one Scale (Budget m) e = cc
-cause_one Scale (Wide m) e = cc
-cause_one Scale Scale e = refl
-
 trip_one : (t u : Trip) → IsSameTrip t u → t ≡ u
-trip_one t u h = together t u h.0 (cause_one t.cause u.cause h.1)
+trip_one t u h = together t u h.0 (names-same t.cause u.cause h.1)
   where
     together : (x y : Trip) → x.question ≡ y.question → x.cause ≡ y.cause → x ≡ y
     together x y q c = λ i. record { question = q i; cause = c i }

@@ -8,19 +8,19 @@ use Rattle.model.specs.Bounds.{Bound}
 use Rattle.guard_prep.specs.Prepared.{prepared}
 use Rattle.its_graph.specs.Components.{IsListing}
 use Rattle.its_graph.proofs.Uniqueness.{one_listing}
-use Rattle.proof_nodes.specs.Nodes.{Spot}
-use Rattle.proof_setting.specs.Setting.{setting_of}
-use Rattle.rank_search.specs.EmptyAnswers.{IsEmptyAnswer}
-use Rattle.rank_search.specs.OneAnswer.{EmptyAnswersAreOne}
+use Rattle.proof_tree.specs.proof_nodes.Nodes.{Spot}
+use Rattle.proof_tree.specs.proof_setting.Setting.{setting_of}
+use Rattle.rank_search.specs.rule_questions.EmptyAnswers.{IsEmptyAnswer}
+use Rattle.rank_search.specs.rule_questions.OneEmptyAnswer.{EmptyAnswersAreOne}
 use Rattle.local_size.specs.LocalAnswers.{Local, IsLocal}
 use Rattle.local_size.specs.LocalLaws.{LocalAnswersAreOne}
 use Rattle.rvg_components.specs.Flows.{Locals, live_spots}
 use Rattle.rvg_components.specs.Listing.{spot_at, HasFlow, AreComponents}
-use Rattle.round_relation.specs.NewSizes.{has_spot}
-use Rattle.round_relation.specs.Searches.{Sizing}
-use Rattle.round_relation.specs.RightSizes.{AreSizesOne}
-use Rattle.round_relation.proofs.Cases.{some_same}
-use Rattle.round_relation.proofs.SameDead.{dead_by}
+use Rattle.size_bounds.specs.round_relation.NewSizes.{has_spot}
+use Rattle.size_bounds.specs.round_relation.Searches.{Sizing}
+use Rattle.size_bounds.specs.round_relation.RightSizes.{AreSizesOne}
+use Rattle.size_bounds.proofs.round_relation.Cases.{some_same}
+use Rattle.size_bounds.proofs.round_relation.SameDead.{dead_by}
 use Rattle.time_bounds.specs.ProgramSizes.{spot, AreLive, IsLocalOf, AreLocals, sizes_of_program}
 use Rattle.time_bounds.proofs.SpotLists.{at-member}
 use Rattle.time_bounds.proofs.LiveSpots.{listed-live, live_spots-same}

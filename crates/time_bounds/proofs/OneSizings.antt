@@ -1,25 +1,26 @@
 -- What is answered of a component is one, where what is answered of its places is.
-use Rattle.std.proofs.Common.{◌≡◌, ◌-◌, ◌&&◌, ◌||◌, Bool, true, false, List, [], ◌∷◌, map, Option, Some, None, refl, sym}
+use Rattle.std.proofs.Common.{◌≡◌, ◌-◌, ◌&&◌, ◌||◌, Bool, true, false, List, [], ◌∷◌, map, Option, Some, None, refl}
+use Rattle.std.proofs.Common.{sym}
 use Rattle.std.proofs.Common.{◌∙◌, ap, subst}
 use Rattle.std.specs.List.{AllByRecursion, list_any}
 use Rattle.std.proofs.lemmas.List.Elements.{recursion_from_All}
 use Rattle.model.specs.Bounds.{Bound}
 use Rattle.model.specs.Entries.{is_in}
 use Rattle.model.specs.Paths.{pre}
-use Rattle.proof_nodes.specs.Nodes.{Spot, LocalBound, Member}
-use Rattle.proof_nodes.specs.Known.{Table}
-use Rattle.proof_nodes.specs.Setting.{Setting}
-use Rattle.proof_nodes.specs.Reasons.{Reason, Shape, NotEmpty, Reached, NotZero, Move, Floor, ArmUp, ArmLow}
-use Rattle.proof_nodes.specs.Reasons.{MissingTime, MissingSize, Bent, Large, NotWeaker}
-use Rattle.proof_nodes.specs.Checks.{spread_checks, cycle_checks}
-use Rattle.proof_nodes.proofs.CheckLists.{passed_has_none, first_is_one}
-use Rattle.proof_nodes.proofs.SizeReasons.{spread-passes, cycle-passes}
-use Rattle.outcome.specs.Reports.{NoSize, IsLoose, SizeTripped, IsMissing, IsBent, LacksTime, SizeLarge}
+use Rattle.proof_tree.specs.proof_nodes.Nodes.{Spot, LocalBound, Member}
+use Rattle.proof_tree.specs.proof_nodes.Known.{Table}
+use Rattle.proof_tree.specs.proof_nodes.Setting.{Setting}
+use Rattle.proof_tree.specs.proof_nodes.Reasons.{Reason, Shape, NotEmpty, Reached, NotZero, Move, Floor, ArmUp, ArmLow}
+use Rattle.proof_tree.specs.proof_nodes.Reasons.{MissingTime, MissingSize, Bent, Large, NotWeaker}
+use Rattle.proof_tree.specs.proof_nodes.Checks.{spread_checks, cycle_checks}
+use Rattle.proof_tree.proofs.proof_nodes.CheckLists.{passed_has_none, first_is_one}
+use Rattle.proof_tree.proofs.proof_nodes.SizeReasons.{spread-passes, cycle-passes}
+use Rattle.outcome.specs.Reports.{NoSize, SizeLoose, SizeTripped, SizeMissing, SizeBent, SizeUntimed, SizeLarge}
 use Rattle.local_size.specs.LocalAnswers.{Local, HasBound}
 use Rattle.rvg_components.specs.Flows.{Locals, local_reads, value_flows, loops}
-use Rattle.round_relation.specs.Searches.{Sizing, Found, NotFound}
-use Rattle.round_relation.specs.RightSizes.{IsToldBy}
-use Rattle.round_relation.proofs.Cases.{some_same}
+use Rattle.size_bounds.specs.round_relation.Searches.{Sizing, Found, NotFound}
+use Rattle.size_bounds.specs.round_relation.RightSizes.{IsReasonFor}
+use Rattle.size_bounds.proofs.round_relation.Cases.{some_same}
 use Rattle.time_bounds.specs.ProgramSizes.{loose_reason, trip_reason, or_else, first_reason, lacks_arms}
 use Rattle.time_bounds.specs.ProgramSizes.{IsSpreadSizing, IsCycleSizing, IsSizingBy, IsJudged, IsSizingOf}
 
@@ -39,22 +40,22 @@ told_as (Move t) = None
 told_as Floor = None
 told_as (ArmUp t i) = None
 told_as (ArmLow t i) = None
-told_as (MissingTime t) = Some (LacksTime t)
-told_as (MissingSize t i) = Some (IsMissing (record { rule = t; place = i }))
-told_as (Bent t i) = Some (IsBent (record { rule = t; place = i }))
+told_as (MissingTime t) = Some (SizeUntimed t)
+told_as (MissingSize t i) = Some (SizeMissing (record { rule = t; place = i }))
+told_as (Bent t i) = Some (SizeBent (record { rule = t; place = i }))
 told_as (Large n) = Some (SizeLarge n)
 told_as NotWeaker = None
 
-is_told : (why : NoSize) (r : Reason) → IsToldBy why r → told_as r ≡ Some why
-is_told (IsLoose side ray kept) r h = absurd h
+is_told : (why : NoSize) (r : Reason) → IsReasonFor why r → told_as r ≡ Some why
+is_told (SizeLoose side ray kept) r h = absurd h
 is_told (SizeTripped t) r h = absurd h
-is_told (IsMissing m) r h = ap told_as h
-is_told (IsBent m) r h = ap told_as h
-is_told (LacksTime t) r h = ap told_as h
+is_told (SizeMissing m) r h = ap told_as h
+is_told (SizeBent m) r h = ap told_as h
+is_told (SizeUntimed t) r h = ap told_as h
 is_told (SizeLarge n) r h = ap told_as h
 
 -- one reason is told in one way
-told_one : (v w : NoSize) (q r : Reason) → IsToldBy v q → IsToldBy w r → q ≡ r → v ≡ w
+told_one : (v w : NoSize) (q r : Reason) → IsReasonFor v q → IsReasonFor w r → q ≡ r → v ≡ w
 told_one v w q r h k e = some_same v w (sym (is_told v q h) ∙ (ap told_as e ∙ is_told w r k))
 
 same_arms : (l k : LocalBound) → HasBound l ≡ HasBound k → l ≡ k

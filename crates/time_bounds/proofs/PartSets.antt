@@ -1,5 +1,6 @@
 -- The sets of a round, and those of its components.
-use Rattle.std.proofs.Common.{◌≡◌, ◌≢◌, ◌⊎◌, inl, inr, ℕ, ◌<◌, ◌≤◌, ◌==◌, Bool, true, false, List, length, get_or, get_or-set_other, set, replicate, Option, Some, None, sym, ◌∙◌, ap, subst, arith}
+use Rattle.std.proofs.Common.{◌≡◌, ◌≢◌, ◌⊎◌, inl, inr, ℕ, ◌<◌, ◌≤◌, ◌==◌, Bool, true, false, List, length, get_or}
+use Rattle.std.proofs.Common.{get_or-set_other, set, replicate, Option, Some, None, sym, ◌∙◌, ap, subst, arith}
 use Rattle.std.proofs.lemmas.Bool.{cases_lt}
 use Rattle.std.proofs.lemmas.Bool.Decides.{eqb_tells}
 use Rattle.std.proofs.lemmas.List.{get_or_past, get_or-replicate, length-set, length-replicate}
@@ -7,10 +8,10 @@ use Rattle.std.proofs.lemmas.Grind.{get_or-set_at}
 use Rattle.model.specs.Programs.{Program}
 use Rattle.model.specs.Paths.{IsInSet}
 use Rattle.its_graph.specs.Graphs.{flagged, ArePartsBelow, HaveSameSets}
-use Rattle.proof_nodes.specs.Known.{Table}
-use Rattle.rank_search.specs.ProgramQuestions.{places_of}
-use Rattle.round_relation.specs.Tables.{is_untimed}
-use Rattle.round_relation.specs.Sets.{IsSetOfRule, AreShutOf}
+use Rattle.proof_tree.specs.proof_nodes.Known.{Table}
+use Rattle.rank_search.specs.rule_questions.ProgramQuestions.{places_of}
+use Rattle.size_bounds.specs.round_relation.Tables.{is_untimed}
+use Rattle.size_bounds.specs.round_relation.Sets.{IsSetOfRule, AreShutOf}
 use Rattle.size_bounds.specs.declared.table.Table as code
 use Rattle.size_bounds.specs.Tables.{table_of}
 use Rattle.time_bounds.specs.declared.parts.OpenSet.{OpenSet}

@@ -9,7 +9,7 @@ use Rattle.model.specs.Bounds.{Bound}
 use Rattle.its_model.specs.Valid.{IsValid}
 use Rattle.bound_expr.specs.Views.{bound_of}
 use Rattle.bound_expr.specs.declared.bound.Bound as code
-use Rattle.proof_nodes.specs.Known as nodes
+use Rattle.proof_tree.specs.proof_nodes.Known as nodes
 use Rattle.proof_tree.specs.declared.gap.Gap.{Gap}
 use Rattle.outcome.specs.Reports as reports
 use Rattle.outcome.specs.Reports.{Timed, Untimed}
@@ -20,18 +20,18 @@ use Rattle.outcome.specs.declared.entry.TimeEntry.TheVariants as entries
 use Rattle.outcome.specs.declared.entry.SizeEntry.{SizeEntry}
 use Rattle.outcome.specs.declared.entry.SizeEntry.TheVariants as sizes
 use Rattle.outcome.specs.declared.outcome_of.Outcome.{Outcome}
-use Rattle.round_relation.specs.Searches.{Searches, SizeSearches}
-use Rattle.round_relation.specs.NewTimes.{bound_in}
+use Rattle.size_bounds.specs.round_relation.Searches.{Searches, SizeSearches}
+use Rattle.size_bounds.specs.round_relation.NewTimes.{bound_in}
 use Rattle.time_bounds.specs.ProgramSearches.{searches_of_program}
 use Rattle.time_bounds.specs.ProgramSizes.{sizes_of_program}
 use Rattle.time_bounds.specs.Totals.{total_of}
-use Rattle.time_bounds.specs.Analysis.{IsSaid, AreSaid, IsSizeSaid, AreSizesSaid, AreRowsSaid, IsAnalysis}
+use Rattle.time_bounds.specs.Analysis.{IsTimeOf, AreTimesOf, IsSizeOf, AreSizesOf, AreSizeRowsOf, IsAnalysis}
 use Rattle.time_bounds.specs.PrintableLaws.{IsPrintableTable, ArePrintable}
 use Rattle.time_bounds.proofs.Printables.{tables_printable, total_printable}
 
 -- the times that are said of the rules of a printable table
 said_printable : (n : ℕ) (q : Searches) (p : Program) (tab : nodes.Table) → IsPrintableTable n tab → (k : ℕ)
-    (times : List reports.Time) → AreSaid q p tab k times → ArePrintable n (map bound_in times)
+    (times : List reports.Time) → AreTimesOf q p tab k times → ArePrintable n (map bound_in times)
 said_printable n q p tab good k [] h = tt
 said_printable n q p tab good k (Timed b ∷ times) h =
     (good.times k b h.0, said_printable n q p tab good (suc k) times h.1)
@@ -39,14 +39,14 @@ said_printable n q p tab good k (Untimed why ∷ times) h = said_printable n q p
 
 -- and their entries
 entry_printable : (n : ℕ) (q : Searches) (p : Program) (tab : nodes.Table) → IsPrintableTable n tab → (k : ℕ)
-    (gaps : List Gap) (x : TimeEntry) → IsSaid q p tab k (time_of gaps x) → IsPrintableTime n x
+    (gaps : List Gap) (x : TimeEntry) → IsTimeOf q p tab k (time_of gaps x) → IsPrintableTime n x
 entry_printable n q p tab good k gaps (entries.Known s) h = good.times k (bound_of s.bound) h
 entry_printable n q p tab good k gaps (entries.Gap g) h = tt
 entry_printable n q p tab good k gaps (entries.Tripped x) h = tt
 entry_printable n q p tab good k gaps (entries.Large m) h = tt
 
 entries_printable : (n : ℕ) (q : Searches) (p : Program) (tab : nodes.Table) → IsPrintableTable n tab → (k : ℕ)
-    (gaps : List Gap) (times : List TimeEntry) → AreSaid q p tab k (map (time_of gaps) times)
+    (gaps : List Gap) (times : List TimeEntry) → AreTimesOf q p tab k (map (time_of gaps) times)
     → All (IsPrintableTime n) times
 entries_printable n q p tab good k gaps [] h = All-nil (IsPrintableTime n)
 entries_printable n q p tab good k gaps (x ∷ times) h =
@@ -55,7 +55,7 @@ entries_printable n q p tab good k gaps (x ∷ times) h =
 
 -- the entries of sizes that are said of the places of a rule
 place_printable : (n : ℕ) (z : SizeSearches) (tab : nodes.Table) → IsPrintableTable n tab → (t i : ℕ) (x : SizeEntry)
-    → IsSizeSaid z tab t i (size_of x) → IsPrintableSize n x
+    → IsSizeOf z tab t i (size_of x) → IsPrintableSize n x
 place_printable n z tab good t i (sizes.Known s) h = good.sizes t i (bound_of s.bound) h
 place_printable n z tab good t i (sizes.Loose l) h = tt
 place_printable n z tab good t i (sizes.Tripped x) h = tt
@@ -65,7 +65,7 @@ place_printable n z tab good t i (sizes.Untimed u) h = tt
 place_printable n z tab good t i (sizes.Large m) h = tt
 
 places_printable : (n : ℕ) (z : SizeSearches) (tab : nodes.Table) → IsPrintableTable n tab → (t i : ℕ)
-    (xs : List SizeEntry) → AreSizesSaid z tab t i (map size_of xs) → All (IsPrintableSize n) xs
+    (xs : List SizeEntry) → AreSizesOf z tab t i (map size_of xs) → All (IsPrintableSize n) xs
 places_printable n z tab good t i [] h = All-nil (IsPrintableSize n)
 places_printable n z tab good t i (x ∷ xs) h =
     All-cons (IsPrintableSize n) x xs (place_printable n z tab good t i x h.0)
@@ -76,7 +76,7 @@ abbrev IsPrintableRow : ℕ → Vec SizeEntry Global → Type 0
 IsPrintableRow n places = All (IsPrintableSize n) places.items
 
 rows_printable : (n : ℕ) (z : SizeSearches) (tab : nodes.Table) → IsPrintableTable n tab → (t : ℕ)
-    (rows : List (Vec SizeEntry Global)) → AreRowsSaid z tab t (map (λ places. map size_of places.items) rows)
+    (rows : List (Vec SizeEntry Global)) → AreSizeRowsOf z tab t (map (λ places. map size_of places.items) rows)
     → All (IsPrintableRow n) rows
 rows_printable n z tab good t [] h = All-nil (IsPrintableRow n)
 rows_printable n z tab good t (row ∷ rows) h =

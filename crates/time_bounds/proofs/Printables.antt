@@ -1,5 +1,6 @@
 -- The bounds that are found of a program are tidy, over the start arguments alone.
-use Rattle.std.proofs.Common.{◌≡◌, ◌⊎◌, inl, inr, ℕ, zero, suc, ◌+◌, ◌-◌, ◌≤◌, Bool, not, true, false, if◌then◌else◌, List, [], ◌∷◌}
+use Rattle.std.proofs.Common.{◌≡◌, ◌⊎◌, inl, inr, ℕ, zero, suc, ◌+◌, ◌-◌, ◌≤◌, Bool, not, true, false, if◌then◌else◌}
+use Rattle.std.proofs.Common.{List, [], ◌∷◌}
 use Rattle.std.proofs.Common.{length, map, Option, Some, None, refl, sym, ◌∙◌, ap, subst, arith, All}
 use Rattle.std.specs.List.{AllByRecursion}
 use Rattle.model.specs.Programs.{Program, Rule, rule_at, arity_of}
@@ -9,9 +10,9 @@ use Rattle.model.specs.Terms.{Term}
 use Rattle.model.specs.Polynomials.{Polynomial}
 use Rattle.model.proofs.Membership.{no_is_not_yes}
 use Rattle.its_model.specs.Valid.{IsValidTerm, IsValid}
-use Rattle.poly_terms.specs.Expanding.{expanded}
-use Rattle.poly_terms.specs.Ordered.{IsBounded}
-use Rattle.poly_terms.proofs.AnswerLaws.{expanded-small}
+use Rattle.its_model.specs.poly_terms.Expanding.{expanded}
+use Rattle.its_model.specs.poly_terms.Ordered.{IsBounded}
+use Rattle.its_model.proofs.poly_terms.AnswerLaws.{expanded-small}
 use Rattle.guard_prep.specs.Prepared.{is_bent}
 use Rattle.guard_prep.proofs.StepLaws.{preparable}
 use Rattle.bound_expr.specs.Numbers.{IsTidyNumber, HasTidyNumbers, HaveTidyNumbers}
@@ -19,28 +20,28 @@ use Rattle.bound_expr.specs.Numbers.{IsInputBelow, ReadsBelow, AllReadBelow}
 use Rattle.bound_expr.proofs.Nodes.{IsTidy-numbers}
 use Rattle.bound_table.specs.InForce.{rewritten}
 use Rattle.bound_table.proofs.TableInForce.{rewritten-tidy, rewritten-reads}
-use Rattle.proof_nodes.specs.Nodes.{Spot, Member, RankNode}
-use Rattle.proof_nodes.specs.Known as nodes
-use Rattle.proof_nodes.specs.Setting.{Setting}
-use Rattle.proof_nodes.specs.Gaps.{SymbolPlace}
-use Rattle.proof_nodes.specs.AcceptsPlain.{IsRule, IsUnreached}
-use Rattle.proof_nodes.specs.AcceptsRank.{HasRankShape, rank_time}
-use Rattle.proof_nodes.specs.AcceptsSizes.{HasMemberShape, spread_size, cycle_size}
-use Rattle.proof_setting.specs.Setting.{setting_of, polys_in, bent_at}
+use Rattle.proof_tree.specs.proof_nodes.Nodes.{Spot, Member, RankNode}
+use Rattle.proof_tree.specs.proof_nodes.Known as nodes
+use Rattle.proof_tree.specs.proof_nodes.Setting.{Setting}
+use Rattle.proof_tree.specs.proof_nodes.Gaps.{SymbolPlace}
+use Rattle.proof_tree.specs.proof_nodes.AcceptsPlain.{IsRule, IsUnreached}
+use Rattle.proof_tree.specs.proof_nodes.AcceptsRank.{HasRankShape, rank_time}
+use Rattle.proof_tree.specs.proof_nodes.AcceptsSizes.{HasMemberShape, spread_size, cycle_size}
+use Rattle.proof_tree.specs.proof_setting.Setting.{setting_of, polys_in, bent_at}
 use Rattle.outcome.specs.Reports as reports
 use Rattle.outcome.specs.Reports.{Timed, Untimed, NoTime, NoFunction, TimeTripped}
-use Rattle.round_relation.specs.Tables.{IsPlace}
-use Rattle.round_relation.specs.Beginning.{IsDead, First}
-use Rattle.round_relation.specs.Sets.{IsSetOfRule}
-use Rattle.round_relation.specs.Searches.{Searches, SizeSearches, Ranking, Ranked, Unranked, RankTripped, Sizing, Found}
-use Rattle.round_relation.specs.Searches.{NotFound}
-use Rattle.round_relation.specs.NewTimes.{SaysTime, bound_in, Tells}
-use Rattle.round_relation.specs.NewSizes.{Sizes, has_spot, size_by, TriesSize, TriesSizes}
-use Rattle.round_relation.specs.Rounds.{HasNewTimes, IsMade, BegunWhole, MadeWhole}
-use Rattle.round_relation.specs.Right.{AreRight}
-use Rattle.round_relation.specs.RightSizes.{AreSizesRight, IsSizing}
-use Rattle.round_relation.proofs.AcceptedRanks.{start_known_whole, is_question}
-use Rattle.round_relation.proofs.NewBounds.{unsized_by}
+use Rattle.size_bounds.specs.round_relation.Tables.{IsPlace}
+use Rattle.size_bounds.specs.round_relation.Beginning.{IsDead, IsFirstTable}
+use Rattle.size_bounds.specs.round_relation.Sets.{IsSetOfRule}
+use Rattle.size_bounds.specs.round_relation.Searches.{Searches, SizeSearches, Ranking, Ranked, Unranked, RankTripped, Sizing, Found}
+use Rattle.size_bounds.specs.round_relation.Searches.{NotFound}
+use Rattle.size_bounds.specs.round_relation.NewTimes.{SaysTime, bound_in, GivesTime}
+use Rattle.size_bounds.specs.round_relation.NewSizes.{Sizes, has_spot, size_by, TriesSize, TriesSizes}
+use Rattle.size_bounds.specs.round_relation.Rounds.{HasNewTimes, IsMade, BegunWhole, MadeWhole}
+use Rattle.size_bounds.specs.round_relation.Right.{AreRight}
+use Rattle.size_bounds.specs.round_relation.RightSizes.{AreSizesRight, IsSizing}
+use Rattle.size_bounds.proofs.round_relation.AcceptedRanks.{start_known_whole, is_question}
+use Rattle.size_bounds.proofs.round_relation.NewBounds.{unsized_by}
 use Rattle.time_bounds.specs.ProgramSearches.{searches_of_program}
 use Rattle.time_bounds.specs.ProgramSizes.{sizes_of_program}
 use Rattle.time_bounds.specs.Totals.{known_parts, total_of}
@@ -105,7 +106,7 @@ module _ (q : Searches) (p : Program) (right : AreRight q (setting_of p)) (n : �
   one_printable : IsPrintableBound n (Constant 1)
   one_printable = (omega arith, tt)
 
-  module _ (tab : nodes.Table) (h : First q p tab) where
+  module _ (tab : nodes.Table) (h : IsFirstTable q p tab) where
     -- a rule that isn't live is dead
     dead_from : (t : ℕ) → ((¬ (IsDead p h.is_empty t)) → ⊥) → IsDead p h.is_empty t
     dead_from t not_live = go (h.is_empty t) refl
@@ -174,7 +175,7 @@ module _ (q : Searches) (p : Program) (right : AreRight q (setting_of p)) (n : �
     answer_printable t set shut (Unranked g) b rule is answered says = absurd (not_both b (NoFunction g) says)
     answer_printable t set shut (RankTripped x) b rule is answered says = absurd (not_both b (TimeTripped x) says)
 
-    tried_printable : (t : ℕ) (b : Bound) (time : reports.Time) → IsRule p t → Tells q (setting_of p) old t time
+    tried_printable : (t : ℕ) (b : Bound) (time : reports.Time) → IsRule p t → GivesTime q (setting_of p) old t time
         → bound_in time ≡ Some b → IsPrintableBound n b
     tried_printable t b (Timed c) rule tells e =
         subst (IsPrintableBound n) (same_bound c b e)

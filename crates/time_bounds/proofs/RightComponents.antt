@@ -1,23 +1,25 @@
 -- The components that are found of a program are those of the places of live rules.
-use Rattle.std.proofs.Common.{◌≡◌, inl, inr, ℕ, zero, suc, ◌<◌, Bool, true, List, [], ◌∷◌, ◌++◌, length, map, refl, sym, ◌∙◌}
+use Rattle.std.proofs.Common.{◌≡◌, inl, inr, ℕ, zero, suc, ◌<◌, Bool, true, List, [], ◌∷◌, ◌++◌, length, map, refl, sym}
+use Rattle.std.proofs.Common.{◌∙◌}
 use Rattle.std.proofs.Common.{ap, subst, arith, append_assoc, Contains, All}
 use Rattle.std.proofs.lemmas.List.Elements.{All-nil, All-cons}
 use Rattle.std.specs.List.{range_with_len}
 use Rattle.model.specs.Programs.{Program}
-use Rattle.proof_nodes.specs.Nodes.{Spot}
-use Rattle.proof_nodes.specs.AcceptsPlain.{IsRule}
+use Rattle.proof_tree.specs.proof_nodes.Nodes.{Spot}
+use Rattle.proof_tree.specs.proof_nodes.AcceptsPlain.{IsRule}
 use Rattle.its_graph.specs.Components.{IsMutual, IsListing}
 use Rattle.its_graph.proofs.Routes.{join, path-within}
 use Rattle.rvg_components.specs.Flows.{Locals, live_spots}
 use Rattle.rvg_components.specs.Listing.{spot_at, HasFlow, AreComponents}
-use Rattle.proof_setting.specs.Setting.{setting_of}
-use Rattle.round_relation.specs.Tables.{IsPlace}
-use Rattle.round_relation.specs.Beginning.{IsDead}
-use Rattle.round_relation.specs.NewSizes.{has_spot}
-use Rattle.round_relation.specs.Components.{AreSpotsAscending, IsCovered, AreApart, AreComponentsOf}
+use Rattle.proof_tree.specs.proof_setting.Setting.{setting_of}
+use Rattle.size_bounds.specs.round_relation.Tables.{IsPlace}
+use Rattle.size_bounds.specs.round_relation.Beginning.{IsDead}
+use Rattle.size_bounds.specs.round_relation.NewSizes.{has_spot}
+use Rattle.size_bounds.specs.round_relation.Components.{AreSpotsAscending, IsCovered, AreApart, AreComponentsOf}
 use Rattle.time_bounds.specs.ProgramSearches.{searches_of_program}
 use Rattle.time_bounds.specs.ProgramSizes.{AreLive, sizes_of_program}
-use Rattle.time_bounds.proofs.SpotLists.{Ascend, at-one, member-at, at-member, ascending-chosen, chosen-told, told-chosen}
+use Rattle.time_bounds.proofs.SpotLists.{Ascend, at-one, member-at, at-member, ascending-chosen, chosen-told}
+use Rattle.time_bounds.proofs.SpotLists.{told-chosen}
 use Rattle.time_bounds.proofs.LiveSpots.{live-ascend, listed-live, live-listed}
 
 -- a list between others is one of them all

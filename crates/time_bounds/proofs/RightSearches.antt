@@ -1,89 +1,49 @@
 -- The answers of the searches of a valid program are right.
-use Rattle.rank_search.proofs.Exact.{nodes-accepted as empty_nodes-accepted}
-use Rattle.std.proofs.Common.{◌≡◌, inl, inr, ℕ, zero, suc, ◌==◌, Bool, true, false, List, [], ◌∷◌, map, Option, Some, None, refl, sym, ◌∙◌, ap, subst, arith}
-use Rattle.std.specs.Prelude.{ℤ, pos, ◌+ℤ◌, ◌*ℤ◌, ◌≤ℤ◌}
+use Rattle.its_model.specs.linear_forms.Causes.{cause_of}
+use Rattle.rank_search.proofs.rule_questions.Exact.{nodes-accepted as empty_nodes-accepted}
+use Rattle.std.proofs.Common.{◌≡◌, inl, inr, ℕ, zero, suc, ◌==◌, Bool, true, false, List, [], ◌∷◌, map, Option, Some}
+use Rattle.std.proofs.Common.{None, refl, sym, ◌∙◌, ap, subst, arith}
+use Rattle.std.specs.Prelude.{pos}
 use Rattle.std.specs.List.{Contains}
 use Rattle.std.proofs.lemmas.Bool.{or_left, or_right}
 use Rattle.std.proofs.lemmas.List.Elements.{All-contains_itself, All-weaker}
 use Rattle.model.specs.Programs.{Program, Rule, rule_at}
 use Rattle.model.specs.Entries.{is_in}
-use Rattle.model.proofs.Membership.{same_number, told_same, no_is_not_yes, is_in-cases, is_in-contained, slice_get-below}
+use Rattle.model.proofs.Membership.{same_number, told_same, no_is_not_yes, is_in-cases, is_in-contained}
+use Rattle.model.proofs.Membership.{slice_get-below}
 use Rattle.its_model.specs.Valid.{IsValid}
-use Rattle.linear_forms.specs.Forms.{Form, at, form_value}
-use Rattle.linear_forms.specs.Points.{IsPoint}
-use Rattle.linear_forms.specs.RuleQuestions.{RuleForms, symbols_of_set}
-use Rattle.rule_forms.specs.Ranking.{Function, at_news, Loses, Ranks, NoRank}
+use Rattle.its_model.specs.linear_forms.Forms.{at}
+use Rattle.its_model.specs.linear_forms.Points.{IsPoint}
+use Rattle.its_model.specs.linear_forms.RuleQuestions.{symbols_of_set}
+use Rattle.proof_tree.specs.rule_forms.Ranking.{Function, Ranks, NoRank}
 use Rattle.guard_prep.specs.Prepared.{prepared}
-use Rattle.proof_nodes.specs.Composed.{rank_form}
-use Rattle.proof_nodes.specs.Gaps.{ScaledPoint, SymbolPlace}
-use Rattle.proof_nodes.specs.Nodes.{SymbolForm}
-use Rattle.proof_nodes.specs.Setting.{Setting}
-use Rattle.proof_nodes.specs.AcceptsPlain.{IsRule}
-use Rattle.proof_setting.specs.Setting.{setting_of, rows_in, news_in}
+use Rattle.proof_tree.specs.proof_nodes.Composed.{rank_form}
+use Rattle.proof_tree.specs.proof_nodes.Gaps.{ScaledPoint, SymbolPlace}
+use Rattle.proof_tree.specs.proof_nodes.Nodes.{SymbolForm}
+use Rattle.proof_tree.specs.proof_nodes.AcceptsPlain.{IsRule}
+use Rattle.proof_tree.specs.proof_setting.Setting.{setting_of, rows_in}
 use Rattle.proof_tree.specs.declared.answer.Trip.{Trip}
 use Rattle.proof_tree.specs.declared.answer.EmptyAnswer.{EmptyAnswer}
 use Rattle.proof_tree.specs.declared.answer.EmptyAnswer.TheVariants as empties
-use Rattle.proof_tree.specs.AnswerViews.{cause_of, scaled_of}
+use Rattle.proof_tree.specs.AnswerViews.{scaled_of}
 use Rattle.proof_tree.specs.Views.{rank_of}
 use Rattle.rank_search.specs.declared.answer.RankAnswer.{RankAnswer}
 use Rattle.rank_search.specs.declared.answer.RankAnswer.TheVariants as ranks
-use Rattle.rank_search.specs.ProgramQuestions.{forms_in, ranked_set}
-use Rattle.rank_search.specs.EmptyAnswers.{IsEmptyAnswer, EmptyNodesAreAccepted}
-use Rattle.rank_search.specs.RankAnswers.{IsRuleSet, answer_for, AreEmptyAnswers, part_at, trip_in, first_of, first_trip, IsRankAnswer}
-use Rattle.rank_search.specs.RankLaws.{found, RankedNodesRank, RankedNodesAreAccepted, RankAnswersAreExact}
+use Rattle.rank_search.specs.rule_questions.ProgramQuestions.{ranked_set}
+use Rattle.rank_search.specs.rule_questions.EmptyAnswers.{IsEmptyAnswer, EmptyNodesAreAccepted}
+use Rattle.rank_search.specs.RankAnswers.{IsRuleSet, part_at, first_of, first_trip, IsRankAnswer}
+use Rattle.rank_search.specs.rule_questions.RuleAnswers.{answer_for, AreEmptyAnswers, trip_in}
+use Rattle.rank_search.specs.RankLaws.{function_of_node, RankedNodesRank, RankedNodesAreAccepted, RankAnswersAreExact}
 use Rattle.rank_search.proofs.NodeLaws.{nodes-rank}
 use Rattle.rank_search.proofs.Accepted.{nodes-accepted}
 use Rattle.rank_search.proofs.RankExact.{answers-exact}
-use Rattle.round_relation.specs.Searches.{Emptiness, NoPoint, HasPoint, EmptyTripped, Ranking}
-use Rattle.round_relation.specs.Right.{met_in, set_met, EmptyTrips, NoneTrips, IsFirstTrip, IsRightEmptiness, IsRightRanking, IsQuestion, AreRight}
-use Rattle.round_relation.proofs.Cases.{either}
+use Rattle.size_bounds.specs.round_relation.Searches.{Emptiness, NoPoint, HasPoint, EmptyTripped, Ranking}
+use Rattle.size_bounds.specs.round_relation.Right.{EmptyTrips, NoneTrips, IsFirstTrip, IsRightEmptiness, IsRightRanking, IsQuestion}
+use Rattle.size_bounds.specs.round_relation.Right.{AreRight}
+use Rattle.size_bounds.proofs.round_relation.Cases.{either}
 use Rattle.time_bounds.specs.SearchLaws.{ProgramSearchesAreRight}
 use Rattle.time_bounds.specs.ProgramSearches.{emptiness_of, ranking_of, searches_of_program}
 use Rattle.model.proofs.Cases.{slice_get-there as at_some, some_same as some_trip, none_some as none_trip}
-
--- a rule without what a ranking function doesn't meet: its unknowns
-abbrev bare : RuleForms → RuleForms
-bare r = record { source = r.source; target = r.target; left = 0; unknowns = 0; rows = r.rows; news = r.news }
-
--- a rule of a setting is met as a question sees it
-met_bare : (s : Setting) (u : ℕ) (o : Option Rule) → s.rows u ≡ rows_in o → s.news u ≡ news_in o → met_in s u o ≡ bare (forms_in o)
-met_bare s u None rows news =
-    ap (λ (x : List Form). record { source = 0; target = 0; left = 0; unknowns = 0; rows = x; news = s.news u }) rows
-    ∙ ap (λ (x : List Form). record { source = 0; target = 0; left = 0; unknowns = 0; rows = []; news = x }) news
-met_bare s u (Some r) rows news =
-    ap (λ (x : List Form). record { source = r.source; target = r.target; left = 0; unknowns = 0; rows = x; news = s.news u }) rows
-    ∙ ap (λ (x : List Form). record { source = r.source; target = r.target; left = 0; unknowns = 0; rows = rows_in (Some r); news = x }) news
-
--- the function after a rule and k more are at most the function before it, on the rule's points
-abbrev LosesBy : RuleForms → Function → ℕ → Type 0
-LosesBy r f k = (z : ℕ → ℤ) (d : ℤ) → IsPoint r.rows z d
-    → (form_value (at_news r (f r.target)) z d +ℤ pos k *ℤ d) ≤ℤ form_value (f r.source) z d
-
-abbrev HasFloorBy : RuleForms → Function → ℕ → Type 0
-HasFloorBy r f q = (z : ℕ → ℤ) (d : ℤ) → IsPoint r.rows z d → (pos q *ℤ d) ≤ℤ form_value (f r.source) z d
-
--- a function that ranks over the rules as they are met ranks over them as questions see them
-ranks_seen : (p : Program) (set : List ℕ) (t : ℕ) (shut : List SymbolPlace) (f : Function) (q : ℕ)
-    → Ranks (set_met (setting_of p) set t shut) f q → Ranks (ranked_set p set t shut) f q
-ranks_seen p set t shut f q h = record {
-  positive = h.positive;
-  rises = All-weaker (λ u. Loses (set_met (setting_of p) set t shut) f u 0) (λ u. Loses (ranked_set p set t shut) f u 0) (λ u l. loses u 0 l) set h.rises;
-  falls = loses t q h.falls;
-  floor = subst (λ (r : RuleForms). HasFloorBy r f q) (met t) h.floor;
-}
-  where
-    met : (u : ℕ) → met_in (setting_of p) u (rule_at p u) ≡ bare (forms_in (rule_at p u))
-    met u = met_bare (setting_of p) u (rule_at p u) refl refl
-
-    loses : (u k : ℕ) → Loses (set_met (setting_of p) set t shut) f u k → Loses (ranked_set p set t shut) f u k
-    loses u k l = record { each = subst (λ (r : RuleForms). LosesBy r f k) (met u) l.each }
-
--- so where no function ranks over the rules as questions see them, none does as they are met
-none_met : (p : Program) (set : List ℕ) (t : ℕ) (shut : List SymbolPlace) → NoRank (ranked_set p set t shut)
-    → NoRank (set_met (setting_of p) set t shut)
-none_met p set t shut none = record {
-  each = λ f q h fits. none.each f q (ranks_seen p set t shut f q h) (record { closed = fits.closed; places = fits.places });
-}
 
 -- the parts of a function at symbols read no shut place, where the function doesn't
 zero_at : (f : Function) (a j : ℕ) → at (f a).coefs j ≡ pos 0 → (ss : List ℕ) → at (rank_form (map (part_at f) ss) (Some a)).coefs j ≡ pos 0
@@ -219,7 +179,7 @@ module _ (accepted : EmptyNodesAreAccepted) (functions : RankedNodesRank) (nodes
           floor = shown.floor;
           reads = λ a j closed.
               subst (λ (fs : List SymbolForm). at (rank_form fs (Some a)).coefs j ≡ pos 0) (sym h.0.forms)
-              (zero_at (found (ranked_set p set t shut) pivots (rank_of node) h.0) a j
+              (zero_at (function_of_node (ranked_set p set t shut) pivots (rank_of node) h.0) a j
               ((functions.fits (ranked_set p set t shut) pivots (rank_of node) h.0).closed a j closed) (symbols_of_set (ranked_set p set t shut)));
         }
     rank_right set t shut q (ranks.NoRank gap) h =
@@ -228,7 +188,7 @@ module _ (accepted : EmptyNodesAreAccepted) (functions : RankedNodesRank) (nodes
             rule = h.0.numbered;
             same_set = h.0.same_set;
             same_shut = h.0.same_shut;
-            none = none_met p set t shut none.0;
+            none = none.0;
           },
           none_trips set q.rules h.1,
         )

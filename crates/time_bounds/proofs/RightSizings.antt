@@ -1,5 +1,6 @@
 -- The answers about sizes of a valid program are right.
-use Rattle.std.proofs.Common.{◌≡◌, ◌⊎◌, inl, inr, ℕ, zero, suc, ◌-◌, ◌<◌, ◌≤◌, ◌==◌, ◌&&◌, Bool, true, false, List, [], ◌∷◌}
+use Rattle.std.proofs.Common.{◌≡◌, ◌⊎◌, inl, inr, ℕ, zero, suc, ◌-◌, ◌<◌, ◌≤◌, ◌==◌, ◌&&◌, Bool, true, false, List, []}
+use Rattle.std.proofs.Common.{◌∷◌}
 use Rattle.std.proofs.Common.{map, Option, Some, None, refl, sym, ◌∙◌, ap, subst, arith}
 use Rattle.std.specs.Prelude.{ℤ, pos, negsuc, ◌*ℤ◌, ◌<ℤ◌}
 use Rattle.std.specs.List.{AllByRecursion}
@@ -10,36 +11,36 @@ use Rattle.model.specs.Programs.{Program, Rule, rule_at, arity_of}
 use Rattle.model.specs.Paths.{target_of, target_in}
 use Rattle.model.proofs.Membership.{same_number}
 use Rattle.its_model.specs.Valid.{IsValid}
-use Rattle.linear_forms.specs.Forms.{Form, at, form_value}
-use Rattle.linear_forms.specs.Points.{IsPoint, IsRay}
-use Rattle.linear_forms.specs.RuleQuestions.{after_rule}
-use Rattle.linear_forms.proofs.CombinationLaws.{form_value-times}
-use Rattle.rule_forms.specs.Bounds.{IsLooseRay}
+use Rattle.its_model.specs.linear_forms.Forms.{Form, at, form_value}
+use Rattle.its_model.specs.linear_forms.Points.{IsPoint, IsRay}
+use Rattle.its_model.specs.linear_forms.RuleQuestions.{after_rule}
+use Rattle.its_model.proofs.linear_forms.CombinationLaws.{form_value-times}
+use Rattle.proof_tree.specs.rule_forms.Bounds.{IsLooseRay}
 use Rattle.guard_prep.specs.Prepared.{prepared}
-use Rattle.proof_nodes.specs.Nodes.{Spot, Member}
-use Rattle.proof_nodes.specs.Gaps.{ScaledPoint}
-use Rattle.proof_nodes.specs.Combined.{form_at}
-use Rattle.proof_nodes.specs.AcceptsSizes.{Side, Up, Low, left_in, new_value}
-use Rattle.proof_nodes.specs.Known.{Table}
-use Rattle.proof_setting.specs.Setting.{setting_of, rows_in, news_in}
+use Rattle.proof_tree.specs.proof_nodes.Nodes.{Spot, Member}
+use Rattle.proof_tree.specs.proof_nodes.Gaps.{ScaledPoint}
+use Rattle.proof_tree.specs.proof_nodes.Combined.{form_at}
+use Rattle.proof_tree.specs.proof_nodes.AcceptsSizes.{Side, Up, Low, left_in, new_value}
+use Rattle.proof_tree.specs.proof_nodes.Known.{Table}
+use Rattle.proof_tree.specs.proof_setting.Setting.{setting_of, rows_in, news_in}
 use Rattle.proof_tree.specs.declared.answer.EmptyAnswer.{EmptyAnswer}
 use Rattle.proof_tree.specs.declared.answer.EmptyAnswer.TheVariants as empties
 use Rattle.proof_tree.specs.declared.answer.Question.TheVariants as asked
 use Rattle.proof_tree.specs.declared.answer.Trip.{Trip}
-use Rattle.outcome.specs.Reports.{NoSize, IsLoose, SizeTripped}
-use Rattle.rank_search.specs.EmptyAnswers.{IsEmptyAnswer}
-use Rattle.rank_search.specs.RankAnswers.{trip_in}
+use Rattle.outcome.specs.Reports.{NoSize, SizeLoose, SizeTripped}
+use Rattle.rank_search.specs.rule_questions.EmptyAnswers.{IsEmptyAnswer}
+use Rattle.rank_search.specs.rule_questions.RuleAnswers.{trip_in}
 use Rattle.local_size.specs.Places.{local_forms, value_on}
 use Rattle.local_size.specs.LocalAnswers.{Local, HasBound, IsLooseOn, HasTripped, IsOwnTrip, IsEmptyTrip}
 use Rattle.local_size.specs.LocalLaws.{IsSpotOf, LooseAnswersAreLoose}
-use Rattle.local_size.proofs.Loose.{loose-answers}
+use Rattle.local_size.proofs.LooseAnswers.{loose-answers}
 use Rattle.rvg_components.specs.Flows.{Locals, loops}
-use Rattle.round_relation.specs.Tables.{IsPlace}
-use Rattle.round_relation.specs.Searches.{Sizing, Found, NotFound}
-use Rattle.round_relation.specs.NewSizes.{has_spot}
-use Rattle.round_relation.specs.RightSizes.{MovesTo, IsLooseAt, IsCause, IsFirstCause, IsRightSizing}
-use Rattle.round_relation.specs.RightSizes.{AreSizesRight}
-use Rattle.round_relation.proofs.Cases.{some_same, none_some}
+use Rattle.size_bounds.specs.round_relation.Tables.{IsPlace}
+use Rattle.size_bounds.specs.round_relation.Searches.{Sizing, Found, NotFound}
+use Rattle.size_bounds.specs.round_relation.NewSizes.{has_spot}
+use Rattle.size_bounds.specs.round_relation.RightSizes.{MovesTo, IsLooseAt, IsCause, IsFirstCause, IsRightSizing}
+use Rattle.size_bounds.specs.round_relation.RightSizes.{AreSizesRight}
+use Rattle.size_bounds.proofs.round_relation.Cases.{some_same, none_some}
 use Rattle.time_bounds.specs.ProgramSearches.{searches_of_program}
 use Rattle.time_bounds.specs.ProgramSizes.{spot, IsLocalOf, AreLocalsOf, loose_reason, trip_reason, or_else}
 use Rattle.time_bounds.specs.ProgramSizes.{first_reason, lacks_arms, IsSpreadSizing, IsCycleSizing, IsSizingBy}
@@ -148,7 +149,7 @@ module _ (loose : LooseAnswersAreLoose) (p : Program) (pivots : ℕ) (valid : Is
         let r = is.rule in
         let here = spot_of_rule p m r is.numbered is.place in
         let shown = loose.ray p r m pivots is.empty side ray kept valid here is.is_empty_answer is.local in
-        subst (λ (w : NoSize). IsCause (setting_of p) tab spots w) (some_same (IsLoose side ray kept) why e)
+        subst (λ (w : NoSize). IsCause (setting_of p) tab spots w) (some_same (SizeLoose side ray kept) why e)
         (m, has, loose_at m r is.numbered is.place side ray kept shown.0 shown.1)
     loose_cause m has (HasTripped t) is why e = absurd (none_some why e)
 
@@ -174,7 +175,7 @@ module _ (loose : LooseAnswersAreLoose) (p : Program) (pivots : ℕ) (valid : Is
 
     -- the first check that fails
     first_cause : (why : NoSize) → IsFirstCause (setting_of p) tab spots why → IsCause (setting_of p) tab spots why
-    first_cause (IsLoose side ray kept) h = absurd h.1
+    first_cause (SizeLoose side ray kept) h = absurd h.1
     first_cause (SizeTripped t) h = absurd h.1
     first_cause why h = h
 

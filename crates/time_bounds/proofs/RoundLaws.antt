@@ -1,5 +1,6 @@
 -- A round of the code is one of the relation, and it keeps what rounds ask of tables.
-use Rattle.std.proofs.Common.{◌≡◌, ◌⊎◌, inl, inr, ℕ, zero, suc, ◌+◌, ◌<◌, ◌≤◌, ◌||◌, Bool, true, false, List, [], ◌∷◌, length, map, Vec, Option, Some, None, refl, sym, ◌∙◌, ap, subst, arith}
+use Rattle.std.proofs.Common.{◌≡◌, ◌⊎◌, inl, inr, ℕ, zero, suc, ◌+◌, ◌<◌, ◌≤◌, ◌||◌, Bool, true, false, List, [], ◌∷◌}
+use Rattle.std.proofs.Common.{length, map, Vec, Option, Some, None, refl, sym, ◌∙◌, ap, subst, arith}
 use Rattle.std.specs.List.{list_any}
 use Rattle.std.specs.declared.alloc.Global.{Global}
 use Rattle.std.proofs.lemmas.Bool.{cases_lt}
@@ -9,13 +10,13 @@ use Rattle.model.proofs.Membership.{no_is_not_yes, slice_get-below}
 use Rattle.bound_expr.specs.Views.{bound_of}
 use Rattle.outcome.specs.Reports.{Timed, Untimed}
 use Rattle.outcome.specs.declared.entry.Stored.{Stored}
-use Rattle.proof_nodes.specs.AcceptsPlain.{IsRule}
-use Rattle.proof_setting.specs.Setting.{setting_of}
+use Rattle.proof_tree.specs.proof_nodes.AcceptsPlain.{IsRule}
+use Rattle.proof_tree.specs.proof_setting.Setting.{setting_of}
 use Rattle.proof_tree.specs.declared.answer.EmptyAnswer.{EmptyAnswer}
-use Rattle.rank_search.specs.ProgramQuestions.{places_of}
-use Rattle.rank_search.specs.RankAnswers.{AreEmptyAnswers}
-use Rattle.round_relation.specs.NewTimes.{Asked, TriesTime}
-use Rattle.round_relation.specs.Rounds.{NextTimes}
+use Rattle.rank_search.specs.rule_questions.ProgramQuestions.{places_of}
+use Rattle.rank_search.specs.rule_questions.RuleAnswers.{AreEmptyAnswers}
+use Rattle.size_bounds.specs.round_relation.NewTimes.{AnsweredQuestion, TriesTime}
+use Rattle.size_bounds.specs.round_relation.Rounds.{NextTimes}
 use Rattle.time_bounds.specs.declared.asking.Asked as code
 use Rattle.size_bounds.specs.declared.table.Table.{Table}
 use Rattle.time_bounds.specs.declared.trying.Tried.{Tried}
@@ -23,14 +24,15 @@ use Rattle.time_bounds.specs.declared.trying.Tried.TheVariants.{Known, Found, Mi
 use Rattle.time_bounds.specs.ProgramSearches.{searches_of_program, ranking_of}
 use Rattle.size_bounds.specs.Tables.{entry_at, row_at, bound_stored, stored_time, table_of}
 use Rattle.time_bounds.specs.Questions.{IsAnswered, IsAsked, AreKept}
-use Rattle.time_bounds.specs.Tries.{IsTried, AreTried, found_in, kept_in, or_found, after_round, after_tries, is_found, one_if_found, count_found, count_missing}
-use Rattle.size_bounds.proofs.Stored.{entry_past}
-pub use Rattle.round_relation.proofs.Numbered.{rule_numbered as rule_there}
+use Rattle.time_bounds.specs.Tries.{IsTried, AreTried, found_in, kept_in, or_found, after_round, after_tries, is_found}
+use Rattle.time_bounds.specs.Tries.{one_if_found, count_found, count_missing}
+use Rattle.size_bounds.proofs.StoredBounds.{entry_past}
+pub use Rattle.size_bounds.proofs.round_relation.Numbered.{rule_numbered as rule_there}
 use Rattle.model.proofs.Cases.{missing_some as no_bound}
 
 -- a question that was answered is one of the relation
 unfoldable pub asked_of : (p : Program) (tab : Table) (pivots : ℕ) (empties : List EmptyAnswer) (t : ℕ) (a : code.Asked) → AreEmptyAnswers p pivots empties
-    → IsAsked p tab t a → IsAnswered p pivots empties t a → Asked (searches_of_program p pivots) (setting_of p) (table_of tab) t
+    → IsAsked p tab t a → IsAnswered p pivots empties t a → AnsweredQuestion (searches_of_program p pivots) (setting_of p) (table_of tab) t
 asked_of p tab pivots empties t a answers asked answered = record {
   set = a.set.items;
   shut = places_of a.shut.items;

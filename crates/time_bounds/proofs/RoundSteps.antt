@@ -1,16 +1,17 @@
 -- What a round makes of a table that rounds meet.
-use Rattle.std.proofs.Common.{◌≡◌, ℕ, zero, suc, ◌+◌, ◌<◌, ◌≤◌, true, false, List, [], ◌∷◌, length, replicate, get_or, Option, Some, None, refl, sym, ◌∙◌, ap, subst, arith}
+use Rattle.std.proofs.Common.{◌≡◌, ℕ, zero, suc, ◌+◌, ◌<◌, ◌≤◌, true, false, List, [], ◌∷◌, length, replicate, get_or}
+use Rattle.std.proofs.Common.{Option, Some, None, refl, sym, ◌∙◌, ap, subst, arith}
 use Rattle.std.specs.Prelude.{IfSome}
 use Rattle.std.specs.List.{list_any}
 use Rattle.model.specs.Programs.{Program}
 use Rattle.model.specs.Bounds.{Bound}
 use Rattle.model.proofs.Membership.{no_is_not_yes}
 use Rattle.outcome.specs.declared.entry.Stored.{Stored}
-use Rattle.proof_setting.specs.Setting.{setting_of}
+use Rattle.proof_tree.specs.proof_setting.Setting.{setting_of}
 use Rattle.proof_tree.specs.declared.answer.EmptyAnswer.{EmptyAnswer}
-use Rattle.rank_search.specs.RankAnswers.{AreEmptyAnswers}
-use Rattle.round_relation.specs.Tables.{lacks, is_untimed}
-use Rattle.round_relation.specs.Rounds.{NextTimes}
+use Rattle.rank_search.specs.rule_questions.RuleAnswers.{AreEmptyAnswers}
+use Rattle.size_bounds.specs.round_relation.Tables.{lacks, is_untimed}
+use Rattle.size_bounds.specs.round_relation.Rounds.{NextTimes}
 use Rattle.time_bounds.specs.declared.asking.Asked.{Asked}
 use Rattle.size_bounds.specs.declared.table.Table.{Table}
 use Rattle.time_bounds.specs.declared.trying.Tried.{Tried}
@@ -19,7 +20,7 @@ use Rattle.time_bounds.specs.ProgramSearches.{searches_of_program}
 use Rattle.size_bounds.specs.Tables.{entry_at, stored_time, table_of}
 use Rattle.time_bounds.specs.Questions.{IsAnswered, AreKept, IsTable}
 use Rattle.time_bounds.specs.Tries.{AreTried, after_round, after_tries, is_found, count_found, count_missing}
-use Rattle.time_bounds.proofs.Settling.{tries_long}
+use Rattle.time_bounds.proofs.RoundTimes.{tries_long}
 use Rattle.time_bounds.proofs.RoundLaws.{known, next, closed, fewer_missing}
 
 -- a round: the relation's, to a table that rounds meet, with fewer missing times

@@ -1,5 +1,6 @@
 -- Rows and answers, rule by rule, are those of the program.
-use Rattle.std.proofs.Common.{◌≡◌, ℕ, zero, suc, ◌+◌, ◌-◌, ◌<◌, List, [], ◌∷◌, ◌++◌, length, map, get_or, All, Some, refl, sym, ◌∙◌, ap, subst, arith}
+use Rattle.std.proofs.Common.{◌≡◌, ℕ, zero, suc, ◌+◌, ◌-◌, ◌<◌, List, [], ◌∷◌, ◌++◌, length, map, get_or, All, Some}
+use Rattle.std.proofs.Common.{refl, sym, ◌∙◌, ap, subst, arith}
 use Rattle.std.specs.Prelude.{slice_get}
 use Rattle.std.proofs.lemmas.List.{length-map}
 use Rattle.model.specs.Programs as plain
@@ -16,8 +17,8 @@ use Rattle.guard_prep.specs.Laws.{IsPreparable}
 use Rattle.guard_prep.proofs.StepLaws.{preparable}
 use Rattle.proof_tree.specs.declared.answer.EmptyAnswer.{EmptyAnswer}
 use Rattle.proof_tree.specs.Composing.{AreRowsOf}
-use Rattle.rank_search.specs.EmptyAnswers.{IsEmptyAnswer, IsPrepared}
-use Rattle.rank_search.specs.RankAnswers.{AreEmptyAnswers, answer_for}
+use Rattle.rank_search.specs.rule_questions.EmptyAnswers.{IsEmptyAnswer, IsPrepared}
+use Rattle.rank_search.specs.rule_questions.RuleAnswers.{AreEmptyAnswers, answer_for}
 use Rattle.time_bounds.specs.Questions.{AreAnswersFrom}
 use Rattle.model.proofs.Cases.{none_some}
 

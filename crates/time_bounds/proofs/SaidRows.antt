@@ -1,5 +1,6 @@
 -- Entries that are written one by one.
-use Rattle.std.proofs.Common.{◌≡◌, ℕ, zero, suc, ◌+◌, ◌<◌, ◌≤◌, List, [], ◌∷◌, ◌++◌, length, map, take, get_or, Vec, Option, Some, None, option_map, refl, sym, ◌∙◌, ap, subst, arith}
+use Rattle.std.proofs.Common.{◌≡◌, ℕ, zero, suc, ◌+◌, ◌<◌, ◌≤◌, List, [], ◌∷◌, ◌++◌, length, map, take, get_or, Vec}
+use Rattle.std.proofs.Common.{Option, Some, None, option_map, refl, sym, ◌∙◌, ap, subst, arith}
 use Rattle.std.specs.declared.alloc.Global.{Global}
 use Rattle.std.specs.List.{All}
 use Rattle.std.proofs.lemmas.List.{map-append, take_more}
@@ -8,13 +9,14 @@ use Rattle.outcome.specs.Reports.{NoSize, Size, Unsized}
 use Rattle.outcome.specs.declared.entry.Stored.{Stored}
 use Rattle.outcome.specs.Views.{size_of}
 use Rattle.outcome.specs.declared.entry.SizeEntry.{SizeEntry}
-use Rattle.proof_nodes.specs.Nodes.{Spot}
+use Rattle.proof_tree.specs.proof_nodes.Nodes.{Spot}
 use Rattle.time_bounds.specs.declared.candidates.Candidate.{Candidate}
 use Rattle.time_bounds.specs.declared.sizing.Attempt.{Attempt}
 use Rattle.time_bounds.specs.Candidates.{spots_in}
 use Rattle.time_bounds.specs.Attempts.{why_of}
 use Rattle.time_bounds.specs.SizeWrites.{put_place}
-use Rattle.time_bounds.specs.SizeSaid.{seen_row, seen_rows, put_some, put_spots, put_why, put_whys, said_stored, AreThere}
+use Rattle.time_bounds.specs.SizeSaid.{seen_row, seen_rows, put_some, put_spots, put_why, put_whys, said_stored}
+use Rattle.time_bounds.specs.SizeSaid.{AreThere}
 use Rattle.time_bounds.proofs.PlacedLaws.{place_map}
 
 -- one place more

@@ -1,5 +1,6 @@
 -- Each place after a rule has an entry, and all entries are right.
-use Rattle.std.proofs.Common.{◌≡◌, ℕ, zero, suc, ◌+◌, ◌-◌, ◌<◌, ◌≤◌, true, false, List, [], ◌∷◌, length, map, Vec, Option, Some, None, refl, sym, ◌∙◌, ap, subst, arith}
+use Rattle.std.proofs.Common.{◌≡◌, ℕ, zero, suc, ◌+◌, ◌-◌, ◌<◌, ◌≤◌, true, false, List, [], ◌∷◌, length, map, Vec}
+use Rattle.std.proofs.Common.{Option, Some, None, refl, sym, ◌∙◌, ap, subst, arith}
 use Rattle.std.specs.List.{All, list_any}
 use Rattle.std.specs.declared.alloc.Global.{Global}
 use Rattle.std.proofs.lemmas.List.{length-map}
@@ -11,22 +12,22 @@ use Rattle.outcome.specs.Reports.{Size, Sized}
 use Rattle.outcome.specs.Views.{size_of}
 use Rattle.outcome.specs.declared.entry.SizeEntry.{SizeEntry}
 use Rattle.outcome.specs.declared.entry.Stored.{Stored}
-use Rattle.proof_nodes.specs.Known as nodes
-use Rattle.proof_nodes.specs.AcceptsPlain.{IsRule}
-use Rattle.proof_nodes.specs.Setting.{Setting}
-use Rattle.proof_setting.specs.Setting.{setting_of}
-use Rattle.round_relation.specs.Searches.{Searches, SizeSearches}
-use Rattle.round_relation.specs.Tables.{IsPlace}
-use Rattle.round_relation.specs.Beginning.{IsDead, First}
-use Rattle.round_relation.specs.Components.{AreComponentsOf}
-use Rattle.round_relation.specs.Rounds.{IsMade, BegunWhole, MadeWhole}
-use Rattle.round_relation.proofs.Kept.{sizes_kept}
-use Rattle.round_relation.proofs.SameDead.{dead_by}
+use Rattle.proof_tree.specs.proof_nodes.Known as nodes
+use Rattle.proof_tree.specs.proof_nodes.AcceptsPlain.{IsRule}
+use Rattle.proof_tree.specs.proof_nodes.Setting.{Setting}
+use Rattle.proof_tree.specs.proof_setting.Setting.{setting_of}
+use Rattle.size_bounds.specs.round_relation.Searches.{Searches, SizeSearches}
+use Rattle.size_bounds.specs.round_relation.Tables.{IsPlace}
+use Rattle.size_bounds.specs.round_relation.Beginning.{IsDead, IsFirstTable}
+use Rattle.size_bounds.specs.round_relation.Components.{AreComponentsOf}
+use Rattle.size_bounds.specs.round_relation.Rounds.{IsMade, BegunWhole, MadeWhole}
+use Rattle.size_bounds.proofs.round_relation.Kept.{sizes_kept}
+use Rattle.size_bounds.proofs.round_relation.SameDead.{dead_by}
 use Rattle.size_bounds.specs.declared.table.Table.{Table}
 use Rattle.size_bounds.specs.Tables.{entry_at, row_at, table_of}
 use Rattle.time_bounds.specs.declared.candidates.Candidate.{Candidate}
 use Rattle.time_bounds.specs.declared.sizing.Attempt.{Attempt}
-use Rattle.time_bounds.specs.Analysis.{IsSizeSaid, AreSizesSaid, AreRowsSaid}
+use Rattle.time_bounds.specs.Analysis.{IsSizeOf, AreSizesOf, AreSizeRowsOf}
 use Rattle.time_bounds.specs.ProgramSearches.{searches_of_program}
 use Rattle.time_bounds.specs.ProgramSizes.{sizes_of_program}
 use Rattle.time_bounds.specs.Candidates.{spots_in, AreCandidatesOf}
@@ -43,7 +44,7 @@ use Rattle.model.proofs.Cases.{none_some}
 -- the first table behind a table that is made by rounds, whose sizes stay
 record Behind (q : Searches) (s : Setting) (tab : nodes.Table) : Type 0 where
   pub first : nodes.Table
-  pub is_first : First q s.program first
+  pub is_first : IsFirstTable q s.program first
   pub stays : (t i : ℕ) (b : Bound) → first.size t i ≡ Some b → tab.size t i ≡ Some b
 
 behind : (q : Searches) (z : SizeSearches) (s : Setting) (tab : nodes.Table) → IsMade q z s tab → Behind q s tab
@@ -76,23 +77,23 @@ said_long (row ∷ rows) = ap (λ (n : ℕ). n ∷ map (λ (r : List (Option Siz
 
 -- what is said of entries that are there, row by row
 row_said : (z : SizeSearches) (tab : nodes.Table) (t i : ℕ) (es : List SizeEntry)
-    → ((j : ℕ) (x : Size) → entry_at (map (λ e. Some (size_of e)) es) j ≡ Some x → IsSizeSaid z tab t (i + j) x) → AreSizesSaid z tab t i (map size_of es)
+    → ((j : ℕ) (x : Size) → entry_at (map (λ e. Some (size_of e)) es) j ≡ Some x → IsSizeOf z tab t (i + j) x) → AreSizesOf z tab t i (map size_of es)
 row_said z tab t i [] f = tt
 row_said z tab t i (e ∷ es) f = (
-  subst (λ (n : ℕ). IsSizeSaid z tab t n (size_of e)) (let h : i + 0 ≡ i = omega arith in h) (f 0 (size_of e) refl),
-  row_said z tab t (suc i) es (λ j x q. subst (λ (n : ℕ). IsSizeSaid z tab t n x) (let h : i + suc j ≡ suc i + j = omega arith in h) (f (suc j) x q)),
+  subst (λ (n : ℕ). IsSizeOf z tab t n (size_of e)) (let h : i + 0 ≡ i = omega arith in h) (f 0 (size_of e) refl),
+  row_said z tab t (suc i) es (λ j x q. subst (λ (n : ℕ). IsSizeOf z tab t n x) (let h : i + suc j ≡ suc i + j = omega arith in h) (f (suc j) x q)),
 )
 
 -- rows of which each entry is right for its place are right rule by rule
 pub rows_said : (z : SizeSearches) (tab : nodes.Table) (k : ℕ) (rows : List (Vec SizeEntry Global))
-    → ((t i : ℕ) (x : Size) → placed (map (λ row. map (λ e. Some (size_of e)) row.items) rows) t i ≡ Some x → IsSizeSaid z tab (k + t) i x)
-    → AreRowsSaid z tab k (map (λ places. map size_of places.items) rows)
+    → ((t i : ℕ) (x : Size) → placed (map (λ row. map (λ e. Some (size_of e)) row.items) rows) t i ≡ Some x → IsSizeOf z tab (k + t) i x)
+    → AreSizeRowsOf z tab k (map (λ places. map size_of places.items) rows)
 rows_said z tab k [] f = tt
 rows_said z tab k (row ∷ rows) f = (
   row_said z tab k 1 row.items
-      (λ j x q. subst (λ (n : ℕ). IsSizeSaid z tab n (1 + j) x) (let h : k + 0 ≡ k = omega arith in h)
-      (subst (λ (n : ℕ). IsSizeSaid z tab (k + 0) n x) (let h : suc j ≡ 1 + j = omega arith in h) (f 0 (suc j) x q))),
-  rows_said z tab (suc k) rows (λ t i x q. subst (λ (n : ℕ). IsSizeSaid z tab n i x) (let h : k + suc t ≡ suc k + t = omega arith in h) (f (suc t) i x q)),
+      (λ j x q. subst (λ (n : ℕ). IsSizeOf z tab n (1 + j) x) (let h : k + 0 ≡ k = omega arith in h)
+      (subst (λ (n : ℕ). IsSizeOf z tab (k + 0) n x) (let h : suc j ≡ 1 + j = omega arith in h) (f 0 (suc j) x q))),
+  rows_said z tab (suc k) rows (λ t i x q. subst (λ (n : ℕ). IsSizeOf z tab n i x) (let h : k + suc t ≡ suc k + t = omega arith in h) (f (suc t) i x q)),
 )
 
 module _ (p : Program) (pivots : ℕ) (tab : Table) (all : List Candidate) (found : AreCandidatesOf p pivots all)
@@ -166,7 +167,7 @@ module _ (p : Program) (pivots : ℕ) (tab : Table) (all : List Candidate) (foun
   all_there = rows_there said each_there
 
   -- what stands at a place is said of its size
-  pub said_right : (t i : ℕ) (x : Size) → placed said t i ≡ Some x → IsSizeSaid (sizes_of_program p pivots) (table_of tab) t i x
+  pub said_right : (t i : ℕ) (x : Size) → placed said t i ≡ Some x → IsSizeOf (sizes_of_program p pivots) (table_of tab) t i x
   said_right = (said_fair p pivots tab all found xs attempts).said
 
   -- as many entries as places

@@ -1,5 +1,6 @@
 -- The set of a rule that the graph gives is that of the rounds, and a question may be asked of it.
-use Rattle.std.proofs.Common.{◌≡◌, ◌↔◌, ◌⊎◌, inl, inr, ℕ, zero, suc, ◌+◌, ◌<◌, ◌≤◌, Bool, true, false, List, [], ◌∷◌, length, get_or, Contains, Option, Some, None, refl, sym, ◌∙◌, ap, subst, arith}
+use Rattle.std.proofs.Common.{◌≡◌, ◌↔◌, ◌⊎◌, inl, inr, ℕ, zero, suc, ◌+◌, ◌<◌, ◌≤◌, Bool, true, false, List, [], ◌∷◌}
+use Rattle.std.proofs.Common.{length, get_or, Contains, Option, Some, None, refl, sym, ◌∙◌, ap, subst, arith}
 use Rattle.std.specs.Prelude.{slice_get, slice_index_or}
 use Rattle.std.specs.List.Sorted.{IsStrictlyIncreasing}
 use Rattle.std.proofs.lemmas.List.Elements.{Contains-get_or}
@@ -9,14 +10,15 @@ use Rattle.model.specs.Paths.{HasEdge, IsInSet, target_in, target_of}
 use Rattle.model.proofs.Membership.{contains-is_in, is_in-contained, no_is_not_yes, slice_get-below}
 use Rattle.its_graph.specs.Graphs.{flagged}
 use Rattle.its_graph.proofs.Routes.{path-map}
-use Rattle.proof_nodes.specs.AcceptsPlain.{IsRule}
-use Rattle.proof_nodes.specs.Known.{Table}
-use Rattle.proof_nodes.specs.Numbers.{IsAscending}
+use Rattle.proof_tree.specs.proof_nodes.AcceptsPlain.{IsRule}
+use Rattle.proof_tree.specs.proof_nodes.Known.{Table}
+use Rattle.proof_tree.specs.proof_nodes.Numbers.{IsAscending}
 use Rattle.proof_tree.specs.declared.answer.EmptyAnswer.{EmptyAnswer}
-use Rattle.rank_search.specs.EmptyAnswers.{SaysEmpty}
-use Rattle.rank_search.specs.RankAnswers.{IsRuleSet, MayAllRun, answer_for}
-use Rattle.round_relation.specs.Tables.{is_untimed}
-use Rattle.round_relation.specs.Sets.{IsSetOfRule}
+use Rattle.rank_search.specs.rule_questions.EmptyAnswers.{SaysEmpty}
+use Rattle.rank_search.specs.RankAnswers.{IsRuleSet, MayAllRun}
+use Rattle.rank_search.specs.rule_questions.RuleAnswers.{answer_for}
+use Rattle.size_bounds.specs.round_relation.Tables.{is_untimed}
+use Rattle.size_bounds.specs.round_relation.Sets.{IsSetOfRule}
 use Rattle.its_graph.proofs.SetMembers.{is_rule}
 use Rattle.size_bounds.specs.declared.table.Table as code
 use Rattle.size_bounds.specs.Tables.{table_of}

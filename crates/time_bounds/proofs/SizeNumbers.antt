@@ -11,18 +11,18 @@ use Rattle.model.specs.Bounds.{Bound, Constant, SumOf, ProductOf, MaximumOf, Pow
 use Rattle.model.specs.Bounds.{EachNodeOfAll}
 use Rattle.model.specs.Paths.{pre}
 use Rattle.bound_expr.specs.Limits.{constant_limit}
-use Rattle.poly_terms.specs.Ordered.{IsBounded}
-use Rattle.proof_nodes.specs.Nodes.{Spot, Arm, Linear, Poly, Member}
-use Rattle.proof_nodes.specs.Known.{known}
-use Rattle.proof_nodes.specs.Setting.{Setting}
-use Rattle.proof_nodes.specs.Composed.{sizes_after}
-use Rattle.proof_nodes.specs.ComposedSizes.{monomial_bound, monomial_parts, polynomial_bound, arm_bound, poly_at}
-use Rattle.proof_nodes.specs.ComposedSizes.{spread_part, spread_of, is_member, offset_of, Flow, flows_from}
-use Rattle.proof_nodes.specs.ComposedSizes.{flows_into, flows, offsets, is_outer, is_inner}
-use Rattle.proof_nodes.specs.ComposedSizes.{factor_of, rules_of, multiplies, adds, growth_parts, addition_parts}
-use Rattle.proof_nodes.specs.ComposedSizes.{loop_bound, cycle_of}
-use Rattle.proof_nodes.specs.AcceptsSizes.{HasArmShape, HasMemberShape, left_of}
-use Rattle.proof_nodes.proofs.CheckLists.{each-append}
+use Rattle.its_model.specs.poly_terms.Ordered.{IsBounded}
+use Rattle.proof_tree.specs.proof_nodes.Nodes.{Spot, Arm, Linear, Poly, Member}
+use Rattle.proof_tree.specs.proof_nodes.Known.{known}
+use Rattle.proof_tree.specs.proof_nodes.Setting.{Setting}
+use Rattle.proof_tree.specs.proof_nodes.Composed.{sizes_after}
+use Rattle.proof_tree.specs.proof_nodes.ComposedSizes.{monomial_bound, monomial_parts, polynomial_bound, arm_bound, poly_at}
+use Rattle.proof_tree.specs.proof_nodes.ComposedSizes.{spread_part, spread_of, is_member, offset_of, Flow, flows_from}
+use Rattle.proof_tree.specs.proof_nodes.ComposedSizes.{flows_into, flows, offsets, is_outer, is_inner}
+use Rattle.proof_tree.specs.proof_nodes.ComposedSizes.{factor_of, rules_of, multiplies, adds, growth_parts, addition_parts}
+use Rattle.proof_tree.specs.proof_nodes.ComposedSizes.{loop_bound, cycle_of}
+use Rattle.proof_tree.specs.proof_nodes.AcceptsSizes.{HasArmShape, HasMemberShape, left_of}
+use Rattle.proof_tree.proofs.proof_nodes.CheckLists.{each-append}
 use Rattle.time_bounds.proofs.ComposedNumbers.{known-each, parts_for-each, rest_bound-each, form_bound-each}
 
 -- a fact of the nodes of a bound that small constants, sums, products, maxima, and powers to a base of at least 2 have;

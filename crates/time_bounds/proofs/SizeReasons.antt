@@ -1,5 +1,6 @@
 -- What is said of each size is the size that the table has, or why it has none.
-use Rattle.std.proofs.Common.{◌≡◌, ◌⊎◌, inl, inr, ℕ, zero, suc, ◌≤◌, ◌==◌, ◌&&◌, ◌||◌, Bool, true, false, List, [], ◌∷◌, length, map, Option, Some, None, refl, sym, ◌∙◌, ap, subst}
+use Rattle.std.proofs.Common.{◌≡◌, ◌⊎◌, inl, inr, ℕ, zero, suc, ◌≤◌, ◌==◌, ◌&&◌, ◌||◌, Bool, true, false, List, [], ◌∷◌}
+use Rattle.std.proofs.Common.{length, map, Option, Some, None, refl, sym, ◌∙◌, ap, subst}
 use Rattle.std.specs.List.{list_any}
 use Rattle.std.proofs.lemmas.Bool.{and_parts, and_from, or_left}
 use Rattle.model.specs.Programs.{Program}
@@ -8,17 +9,17 @@ use Rattle.model.proofs.Membership.{same_number, told_same, no_is_not_yes}
 use Rattle.bound_expr.specs.Views.{bound_of}
 use Rattle.outcome.specs.Reports.{NoSize, Size, Sized, Unsized}
 use Rattle.outcome.specs.declared.entry.Stored.{Stored}
-use Rattle.proof_nodes.specs.Nodes.{Spot}
-use Rattle.round_relation.specs.Searches.{SizeSearches, NotFound}
-use Rattle.round_relation.specs.Components.{IsCovered, IsOneOf}
-use Rattle.round_relation.specs.NewSizes.{has_spot, is_unsized}
-use Rattle.round_relation.proofs.NewBounds.{unsized_by}
+use Rattle.proof_tree.specs.proof_nodes.Nodes.{Spot}
+use Rattle.size_bounds.specs.round_relation.Searches.{SizeSearches, NotFound}
+use Rattle.size_bounds.specs.round_relation.Components.{IsCovered, IsOneOf}
+use Rattle.size_bounds.specs.round_relation.NewSizes.{has_spot, is_unsized}
+use Rattle.size_bounds.proofs.round_relation.NewBounds.{unsized_by}
 use Rattle.size_bounds.specs.declared.table.Table.{Table}
 use Rattle.size_bounds.specs.Tables.{entry_at, row_at, bound_stored, table_of}
 use Rattle.time_bounds.specs.declared.candidates.Candidate.{Candidate}
 use Rattle.time_bounds.specs.declared.sizing.Attempt.{Attempt}
 use Rattle.time_bounds.specs.declared.sizing.Attempt.TheVariants as attempts
-use Rattle.time_bounds.specs.Analysis.{IsSizeSaid}
+use Rattle.time_bounds.specs.Analysis.{IsSizeOf}
 use Rattle.time_bounds.specs.ProgramSizes.{sizes_of_program}
 use Rattle.time_bounds.specs.Candidates.{spots_in, AreCandidatesOf}
 use Rattle.time_bounds.specs.SizeWrites.{rows_of, placed, put_place}
@@ -135,14 +136,14 @@ module _ (p : Program) (pivots : ℕ) (tab : Table) (all : List Candidate) (foun
 
   -- what stands there is said of the size, and each size of the table stands there
   pub record IsFair (rows : List (List (Option Size))) : Type 0 where
-    pub said : (t i : ℕ) (x : Size) → placed rows t i ≡ Some x → IsSizeSaid z (table_of tab) t i x
+    pub said : (t i : ℕ) (x : Size) → placed rows t i ≡ Some x → IsSizeOf z (table_of tab) t i x
     pub known : (t i : ℕ) (b : Bound) → (table_of tab).size t i ≡ Some b → placed rows t i ≡ Some (Sized b)
 
   table_fair : IsFair (said_table tab)
   table_fair = record {
     said = λ t i x e.
         let h = bound_by (placed (rows_of tab) t i) x (sym (said_at tab t i) ∙ e) in
-        subst (λ (y : Size). IsSizeSaid z (table_of tab) t i y) (sym h.2) (size_is tab t i ∙ h.1);
+        subst (λ (y : Size). IsSizeOf z (table_of tab) t i y) (sym h.2) (size_is tab t i ∙ h.1);
     known = λ t i b e. said_at tab t i ∙ by_bound (placed (rows_of tab) t i) b (sym (size_is tab t i) ∙ e);
   }
 
@@ -164,10 +165,10 @@ module _ (p : Program) (pivots : ℕ) (tab : Table) (all : List Candidate) (foun
           missing t i None q n = q
           missing t i (Some b) q n = absurd (none_some (Sized b) (sym n ∙ fair.known t i b q))
 
-          case : (t i : ℕ) (y : Size) → (placed rows t i ≡ Some y) ⊎ Given rows (spots_in c) t i (Unsized why) y → IsSizeSaid z (table_of tab) t i y
+          case : (t i : ℕ) (y : Size) → (placed rows t i ≡ Some y) ⊎ Given rows (spots_in c) t i (Unsized why) y → IsSizeOf z (table_of tab) t i y
           case t i y (inl k) = fair.said t i y k
           case t i y (inr g) =
-              subst (λ (s : Size). IsSizeSaid z (table_of tab) t i s) (sym g.value) record {
+              subst (λ (s : Size). IsSizeOf z (table_of tab) t i s) (sym g.value) record {
                 missing = missing t i ((table_of tab).size t i) refl g.none;
                 components = map spots_in all;
                 are_components = are_components p pivots all found;

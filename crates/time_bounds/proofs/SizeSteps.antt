@@ -1,5 +1,6 @@
 -- What a round makes of a component, and of the table.
-use Rattle.std.proofs.Common.{◌≡◌, ℕ, zero, suc, ◌+◌, ◌≤◌, ◌==◌, ◌&&◌, ◌||◌, Bool, true, false, List, [], ◌∷◌, ◌++◌, length, map, Option, Some, None, refl, sym, ◌∙◌, ap, subst, arith}
+use Rattle.std.proofs.Common.{◌≡◌, ℕ, zero, suc, ◌+◌, ◌≤◌, ◌==◌, ◌&&◌, ◌||◌, Bool, true, false, List, [], ◌∷◌, ◌++◌}
+use Rattle.std.proofs.Common.{length, map, Option, Some, None, refl, sym, ◌∙◌, ap, subst, arith}
 use Rattle.std.specs.Prelude.{slice_get, slice_index_or}
 use Rattle.std.specs.List.{All, list_any}
 use Rattle.std.proofs.lemmas.Bool.{and_parts}
@@ -12,14 +13,14 @@ use Rattle.model.proofs.Membership.{told_same, no_is_not_yes}
 use Rattle.bound_expr.specs.Views.{bound_of}
 use Rattle.outcome.specs.Reports.{NoSize}
 use Rattle.outcome.specs.declared.entry.Stored.{Stored}
-use Rattle.proof_nodes.specs.Nodes.{Spot}
-use Rattle.proof_nodes.specs.Known as nodes
-use Rattle.proof_nodes.specs.AcceptsPlain.{IsRule}
+use Rattle.proof_tree.specs.proof_nodes.Nodes.{Spot}
+use Rattle.proof_tree.specs.proof_nodes.Known as nodes
+use Rattle.proof_tree.specs.proof_nodes.AcceptsPlain.{IsRule}
 use Rattle.proof_tree.specs.Views.{facts_of}
 use Rattle.proof_tree.specs.declared.fact.Fact.{Fact}
-use Rattle.round_relation.specs.Searches.{SizeSearches, Found, NotFound}
-use Rattle.round_relation.specs.Tables.{IsPlace}
-use Rattle.round_relation.specs.NewSizes.{Sizes, has_spot, is_unsized, TriesSize, TriesSizes}
+use Rattle.size_bounds.specs.round_relation.Searches.{SizeSearches, Found, NotFound}
+use Rattle.size_bounds.specs.round_relation.Tables.{IsPlace}
+use Rattle.size_bounds.specs.round_relation.NewSizes.{Sizes, has_spot, is_unsized, TriesSize, TriesSizes}
 use Rattle.size_bounds.specs.declared.table.Table.{Table}
 use Rattle.size_bounds.specs.Tables.{entry_at, row_at, bound_stored, table_of}
 use Rattle.time_bounds.specs.declared.candidates.Candidate.{Candidate}
@@ -28,8 +29,10 @@ use Rattle.time_bounds.specs.declared.sizing.Attempt.TheVariants as attempts
 use Rattle.time_bounds.specs.Candidates.{spots_in}
 use Rattle.time_bounds.specs.ProgramSizes.{spot, sizes_of_program}
 use Rattle.time_bounds.specs.SizeWrites.{rows_of, placed, put_facts, count_unsized}
-use Rattle.time_bounds.specs.Attempts.{IsAttempt, AreAttempts, is_sized, one_if_sized, count_sized, HasPlaces, ArePlacesOf, IsSizeStep, AreSizeSteps}
-use Rattle.time_bounds.proofs.FactWrites.{facts_at, sized, facts_known, facts_long, facts_other, facts_here, facts_fewer}
+use Rattle.time_bounds.specs.Attempts.{IsAttempt, AreAttempts, is_sized, one_if_sized, count_sized, HasPlaces}
+use Rattle.time_bounds.specs.Attempts.{ArePlacesOf, IsSizeStep, AreSizeSteps}
+use Rattle.time_bounds.proofs.FactWrites.{facts_at, sized, facts_known, facts_long, facts_other, facts_here}
+use Rattle.time_bounds.proofs.FactWrites.{facts_fewer}
 
 -- the sizes of a table are those of its rows
 pub size_is : (tab : Table) (t i : ℕ) → (table_of tab).size t i ≡ sized (rows_of tab) t i

@@ -1,16 +1,17 @@
 -- Lists of places after rules that ascend, and what is a member of them.
-use Rattle.std.proofs.Common.{◌≡◌, ◌⊎◌, inl, inr, ℕ, zero, suc, ◌+◌, ◌<◌, ◌≤◌, ◌==◌, ◌&&◌, ◌||◌, Bool, true, false, List}
+use Rattle.std.proofs.Common.{◌≡◌, ◌⊎◌, inl, inr, ℕ, zero, suc, ◌+◌, ◌<◌, ◌≤◌, ◌==◌, ◌&&◌, ◌||◌, Bool, true, false}
+use Rattle.std.proofs.Common.{List}
 use Rattle.std.proofs.Common.{[], ◌∷◌, ◌++◌, length, map, refl, sym, ◌∙◌, ap, subst, arith, Contains, get_or}
 use Rattle.std.specs.List.Sorted.{IsStrictlyIncreasing}
 use Rattle.std.proofs.lemmas.Bool.{and_parts, and_from, or_left, or_right}
 use Rattle.std.proofs.lemmas.List.{get_or-map}
 use Rattle.std.proofs.lemmas.List.Elements.{All-contains_itself}
 use Rattle.model.proofs.Membership.{same_number, told_same, no_is_not_yes}
-use Rattle.proof_nodes.specs.Nodes.{Spot}
+use Rattle.proof_tree.specs.proof_nodes.Nodes.{Spot}
 use Rattle.rvg_components.specs.Listing.{spot_at}
-use Rattle.round_relation.specs.NewSizes.{has_spot}
-use Rattle.proof_nodes.specs.AcceptsSizes.{ComesBefore}
-use Rattle.round_relation.specs.Components.{AreSpotsAscending}
+use Rattle.size_bounds.specs.round_relation.NewSizes.{has_spot}
+use Rattle.proof_tree.specs.proof_nodes.AcceptsSizes.{ComesBefore}
+use Rattle.size_bounds.specs.round_relation.Components.{AreSpotsAscending}
 use Rattle.time_bounds.specs.ProgramSizes.{spot}
 
 -- a place comes before each of these

@@ -1,17 +1,18 @@
 -- An earlier answer for a component is the answer over a table that has grown since, while its reason stands.
-use Rattle.std.proofs.Common.{◌≡◌, ℕ, zero, suc, ◌+◌, ◌<◌, Bool, true, false, List, [], ◌∷◌, ◌++◌, length, map, get_or, Option, Some, None, refl, sym, ◌∙◌, ap, subst, arith}
+use Rattle.std.proofs.Common.{◌≡◌, ℕ, zero, suc, ◌+◌, ◌<◌, Bool, true, false, List, [], ◌∷◌, ◌++◌, length, map, get_or}
+use Rattle.std.proofs.Common.{Option, Some, None, refl, sym, ◌∙◌, ap, subst, arith}
 use Rattle.std.specs.Prelude.{slice_get, IfSome}
 use Rattle.model.specs.Bounds.{Bound}
 use Rattle.model.specs.Programs.{Program}
-use Rattle.outcome.specs.Reports.{NoSize, IsMissing, IsBent, LacksTime, SizeLarge}
-use Rattle.proof_nodes.specs.Nodes.{Spot, Member}
-use Rattle.proof_nodes.specs.Known as nodes
-use Rattle.proof_nodes.specs.Reasons.{Reason, Bent, Large}
-use Rattle.proof_setting.specs.Setting.{setting_of}
+use Rattle.outcome.specs.Reports.{NoSize, SizeMissing, SizeBent, SizeUntimed, SizeLarge}
+use Rattle.proof_tree.specs.proof_nodes.Nodes.{Spot, Member}
+use Rattle.proof_tree.specs.proof_nodes.Known as nodes
+use Rattle.proof_tree.specs.proof_nodes.Reasons.{Reason, Bent, Large}
+use Rattle.proof_tree.specs.proof_setting.Setting.{setting_of}
 use Rattle.proof_tree.specs.Views.{spot_of}
-use Rattle.round_relation.specs.NewSizes.{Sizes, is_unsized, TriesSizes}
-use Rattle.round_relation.specs.RightSizes.{IsToldBy}
-use Rattle.round_relation.specs.Searches.{SizeSearches, NotFound}
+use Rattle.size_bounds.specs.round_relation.NewSizes.{Sizes, is_unsized, TriesSizes}
+use Rattle.size_bounds.specs.round_relation.RightSizes.{IsReasonFor}
+use Rattle.size_bounds.specs.round_relation.Searches.{SizeSearches, NotFound}
 use Rattle.rvg_components.specs.Flows.{Locals, loops}
 use Rattle.size_bounds.specs.declared.answer.SizeAnswer.{SizeAnswer}
 use Rattle.size_bounds.specs.declared.answer.SizeAnswer.TheVariants as answers
@@ -34,17 +35,17 @@ some-same : {A : Type 0} (x y : A) → Some x ≡ Some y → x ≡ y
 some-same x y e = cc
 
 -- the reason of a check stands where that of the answer does
-reason-stands : (tab : nodes.Table) (a : SizeAnswer) (why : NoSize) (r : Reason) → Stands tab a → why_by a ≡ Some why → IsToldBy why r
+reason-stands : (tab : nodes.Table) (a : SizeAnswer) (why : NoSize) (r : Reason) → Stands tab a → why_by a ≡ Some why → IsReasonFor why r
     → StandsFor tab r
 reason-stands tab (answers.Found node facts) why r stands says told = absurd stands
 reason-stands tab (answers.Missing m) why r stands says told =
-    subst (StandsFor tab) (sym (subst (λ (w : NoSize). IsToldBy w r) (sym (some-same (IsMissing (spot_of m)) why says)) told)) stands
+    subst (StandsFor tab) (sym (subst (λ (w : NoSize). IsReasonFor w r) (sym (some-same (SizeMissing (spot_of m)) why says)) told)) stands
 reason-stands tab (answers.Bent m) why r stands says told =
-    subst (StandsFor tab) (sym (subst (λ (w : NoSize). IsToldBy w r) (sym (some-same (IsBent (spot_of m)) why says)) told)) tt
+    subst (StandsFor tab) (sym (subst (λ (w : NoSize). IsReasonFor w r) (sym (some-same (SizeBent (spot_of m)) why says)) told)) tt
 reason-stands tab (answers.Untimed t) why r stands says told =
-    subst (StandsFor tab) (sym (subst (λ (w : NoSize). IsToldBy w r) (sym (some-same (LacksTime t) why says)) told)) stands
+    subst (StandsFor tab) (sym (subst (λ (w : NoSize). IsReasonFor w r) (sym (some-same (SizeUntimed t) why says)) told)) stands
 reason-stands tab (answers.Large n) why r stands says told =
-    subst (StandsFor tab) (sym (subst (λ (w : NoSize). IsToldBy w r) (sym (some-same (SizeLarge n) why says)) told)) tt
+    subst (StandsFor tab) (sym (subst (λ (w : NoSize). IsReasonFor w r) (sym (some-same (SizeLarge n) why says)) told)) tt
 
 module _ (p : Program) (pivots : ℕ) (old new : nodes.Table) (grown : HasGrown old new) where
   -- so members have no size for the same reason

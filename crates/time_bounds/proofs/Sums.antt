@@ -1,5 +1,6 @@
 -- The steps of a run are at most the sum of all times.
-use Rattle.std.proofs.Common.{◌≡◌, ℕ, suc, ◌+◌, ◌<◌, ◌≤◌, List, [], ◌∷◌, length, Option, Some, None, refl, sym, ◌∙◌, ap, subst, arith}
+use Rattle.std.proofs.Common.{◌≡◌, ℕ, suc, ◌+◌, ◌<◌, ◌≤◌, List, [], ◌∷◌, length, Option, Some, None, refl, sym, ◌∙◌, ap}
+use Rattle.std.proofs.Common.{subst, arith}
 use Rattle.std.specs.Prelude.{slice_index_or}
 use Rattle.model.specs.Programs.{Program}
 use Rattle.model.specs.Bounds.{Bound, SumOf, Parts, NoParts, Part, val, val_sum, IsBased, AreBased}

@@ -10,20 +10,20 @@ use Rattle.its_model.specs.Valid.{IsValid}
 use Rattle.its_graph.specs.declared.graph.Graph.{Graph}
 use Rattle.its_graph.specs.Graphs.{IsGraphOf}
 use Rattle.guard_prep.specs.declared.rule_rows.RuleRows.{RuleRows}
-use Rattle.outcome.specs.Reports.{NoSize, IsMissing, IsBent, LacksTime, SizeLarge}
+use Rattle.outcome.specs.Reports.{NoSize, SizeMissing, SizeBent, SizeUntimed, SizeLarge}
 use Rattle.outcome.specs.declared.entry.SizeEntry.{SizeEntry}
-use Rattle.proof_nodes.specs.Nodes.{Member}
-use Rattle.proof_nodes.specs.Known as nodes
-use Rattle.proof_nodes.specs.AcceptsSizes.{spread_size, cycle_size}
-use Rattle.proof_setting.specs.Setting.{setting_of}
+use Rattle.proof_tree.specs.proof_nodes.Nodes.{Member}
+use Rattle.proof_tree.specs.proof_nodes.Known as nodes
+use Rattle.proof_tree.specs.proof_nodes.AcceptsSizes.{spread_size, cycle_size}
+use Rattle.proof_tree.specs.proof_setting.Setting.{setting_of}
 use Rattle.proof_tree.specs.Composing.{AreRowsOf}
 use Rattle.proof_tree.specs.Views.{spot_of, member_of, facts_of}
 use Rattle.proof_tree.specs.declared.arm.Member as code
-use Rattle.round_relation.specs.Searches.{Sizing, Found, NotFound}
-use Rattle.round_relation.specs.NewSizes.{is_unsized}
-use Rattle.round_relation.specs.Uses.{Numbers}
+use Rattle.size_bounds.specs.round_relation.Searches.{Sizing, Found, NotFound}
+use Rattle.size_bounds.specs.round_relation.NewSizes.{is_unsized}
+use Rattle.size_bounds.specs.round_relation.Uses.{Numbers}
 use Rattle.rvg_components.specs.Flows.{Locals, loops}
-use Rattle.size_bounds.specs.SizeAnswers.{IsGiven, AreGiven, IsSpreadAnswer, IsCycleAnswer}
+use Rattle.size_bounds.specs.SizeAnswers.{IsMemberOfProgram, AreMembersOfProgram, IsSpreadAnswer, IsCycleAnswer}
 use Rattle.size_bounds.specs.declared.answer.SizeAnswer.{SizeAnswer}
 use Rattle.size_bounds.specs.declared.answer.SizeAnswer.TheVariants as answers
 use Rattle.size_bounds.specs.declared.table.Table.{Table}
@@ -48,9 +48,9 @@ IsSized p pivots tab c answer = (sizes_of_program p pivots).Sizes tab.time tab.s
 abbrev pub Gives : Program → ℕ → nodes.Table → Candidate → SizeAnswer → Type 0
 Gives p pivots tab c (answers.Found node facts) =
     (b : Bound) × IsSized p pivots tab c (Found b) × (facts_of facts.items ≡ facts_at b (spots_in c))
-Gives p pivots tab c (answers.Missing m) = IsSized p pivots tab c (NotFound (IsMissing (spot_of m)))
-Gives p pivots tab c (answers.Bent m) = IsSized p pivots tab c (NotFound (IsBent (spot_of m)))
-Gives p pivots tab c (answers.Untimed t) = IsSized p pivots tab c (NotFound (LacksTime t))
+Gives p pivots tab c (answers.Missing m) = IsSized p pivots tab c (NotFound (SizeMissing (spot_of m)))
+Gives p pivots tab c (answers.Bent m) = IsSized p pivots tab c (NotFound (SizeBent (spot_of m)))
+Gives p pivots tab c (answers.Untimed t) = IsSized p pivots tab c (NotFound (SizeUntimed t))
 Gives p pivots tab c (answers.Large n) = IsSized p pivots tab c (NotFound (SizeLarge n))
 
 -- the arms of a candidate that is looked at
@@ -93,7 +93,7 @@ spread_gives p pivots local c m tab ns a h e says = go a says
           size (Found b) (accepted, refl),
           stated ∙ ap (facts_at b) (sym seen.2.spots_are),
         )
-    go (answers.Missing x) first = size (NotFound (IsMissing (spot_of x))) (_, refl, first)
+    go (answers.Missing x) first = size (NotFound (SizeMissing (spot_of x))) (_, refl, first)
     go (answers.Bent x) never = absurd never
     go (answers.Untimed t) never = absurd never
     go (answers.Large n) first = size (NotFound (SizeLarge n)) (_, refl, first)
@@ -117,9 +117,9 @@ cycle_gives p pivots local c ms tab ns a h e says = go a says
           size (Found b) (accepted, refl),
           stated ∙ (cycle_facts-at b (map member_of ms.items) ∙ ap (facts_at b) (sym seen.2.spots_are)),
         )
-    go (answers.Missing x) first = size (NotFound (IsMissing (spot_of x))) (_, refl, first)
-    go (answers.Bent x) first = size (NotFound (IsBent (spot_of x))) (_, refl, first)
-    go (answers.Untimed t) first = size (NotFound (LacksTime t)) (_, refl, first)
+    go (answers.Missing x) first = size (NotFound (SizeMissing (spot_of x))) (_, refl, first)
+    go (answers.Bent x) first = size (NotFound (SizeBent (spot_of x))) (_, refl, first)
+    go (answers.Untimed t) first = size (NotFound (SizeUntimed t)) (_, refl, first)
     go (answers.Large n) first = size (NotFound (SizeLarge n)) (_, refl, first)
 
 -- an answer that was taken is a step
@@ -133,13 +133,13 @@ taken p pivots old new c n a x places within unsized gives is times rows =
     go (answers.Found node facts) (b, sized, stated) e = written p pivots old new c n facts.items b places within times e stated unsized sized
     go (answers.Missing m) h e =
         passed p pivots old new c (attempts.Failed (answers.Missing m)) places times e refl
-        record { unsized = unsized; why = IsMissing (spot_of m); says = refl; answered = h }
+        record { unsized = unsized; why = SizeMissing (spot_of m); says = refl; answered = h }
     go (answers.Bent m) h e =
         passed p pivots old new c (attempts.Failed (answers.Bent m)) places times e refl
-        record { unsized = unsized; why = IsBent (spot_of m); says = refl; answered = h }
+        record { unsized = unsized; why = SizeBent (spot_of m); says = refl; answered = h }
     go (answers.Untimed t) h e =
         passed p pivots old new c (attempts.Failed (answers.Untimed t)) places times e refl
-        record { unsized = unsized; why = LacksTime t; says = refl; answered = h }
+        record { unsized = unsized; why = SizeUntimed t; says = refl; answered = h }
     go (answers.Large k) h e =
         passed p pivots old new c (attempts.Failed (answers.Large k)) places times e refl
         record { unsized = unsized; why = SizeLarge k; says = refl; answered = h }
@@ -163,7 +163,7 @@ armless p pivots local tab c entry places h e unsized =
 
 -- what the search for the size of the only member is given
 pub given_alone : (p : Program) (pivots : ℕ) (local : Locals) (c : Candidate) (m : code.Member) (g : Graph) (preps : List RuleRows)
-    → IsValid p → IsGraphOf g p → AreRowsOf preps p → IsCandidate p pivots local c → c.arms ≡ arms.Alone m → IsGiven p g preps (member_of m)
+    → IsValid p → IsGraphOf g p → AreRowsOf preps p → IsCandidate p pivots local c → c.arms ≡ arms.Alone m → IsMemberOfProgram p g preps (member_of m)
 given_alone p pivots local c m g preps valid graph rows h e =
     let k = accepted_seen p pivots local c (arms.Alone m) h e in
     record { valid = valid; graph = graph; rows = rows; shape = k.shape; up = k.up; low = k.low }
@@ -171,7 +171,7 @@ given_alone p pivots local c m g preps valid graph rows h e =
 -- and that for the size of the members of a loop
 pub given_loop : (p : Program) (pivots : ℕ) (local : Locals) (c : Candidate) (ms : Vec code.Member Global) (g : Graph) (preps : List RuleRows)
     → IsValid p → IsGraphOf g p → AreRowsOf preps p → IsCandidate p pivots local c → c.arms ≡ arms.Loop ms
-    → AreGiven p g preps (map member_of ms.items)
+    → AreMembersOfProgram p g preps (map member_of ms.items)
 given_loop p pivots local c ms g preps valid graph rows h e =
     let k = accepted_seen p pivots local c (arms.Loop ms) h e in
     record { valid = valid; graph = graph; rows = rows; shape = k.shape; up = k.up; low = k.low }

@@ -1,5 +1,6 @@
 -- One more rule that was tried, or one more entry that is said.
-use Rattle.std.proofs.Common.{◌≡◌, inl, inr, ℕ, zero, suc, ◌+◌, ◌<◌, ◌≤◌, ◌||◌, Bool, true, false, List, [], ◌∷◌, ◌++◌, length, map, get_or, All, refl, sym, ◌∙◌, ap, subst, arith}
+use Rattle.std.proofs.Common.{◌≡◌, inl, inr, ℕ, zero, suc, ◌+◌, ◌<◌, ◌≤◌, ◌||◌, Bool, true, false, List, [], ◌∷◌, ◌++◌}
+use Rattle.std.proofs.Common.{length, map, get_or, All, refl, sym, ◌∙◌, ap, subst, arith}
 use Rattle.std.specs.List.{list_any}
 use Rattle.model.proofs.Membership.{no_is_not_yes}
 use Rattle.proof_tree.specs.AnswerViews.{gap_of}
@@ -11,15 +12,15 @@ use Rattle.outcome.specs.Views.{numbered_gap, time_of}
 use Rattle.outcome.specs.Printing.{HasItsGap}
 use Rattle.outcome.specs.declared.entry.TimeEntry.{TimeEntry}
 use Rattle.outcome.specs.declared.entry.TimeEntry.TheVariants as entries
-use Rattle.proof_nodes.specs.Known as nodes
+use Rattle.proof_tree.specs.proof_nodes.Known as nodes
 use Rattle.proof_tree.specs.declared.answer.EmptyAnswer.{EmptyAnswer}
 use Rattle.proof_tree.specs.declared.gap.Gap.{Gap}
-use Rattle.round_relation.specs.Searches.{Searches}
+use Rattle.size_bounds.specs.round_relation.Searches.{Searches}
 use Rattle.size_bounds.specs.declared.table.Table.{Table}
 use Rattle.time_bounds.specs.declared.trying.Tried.{Tried}
 use Rattle.time_bounds.specs.declared.trying.Tried.TheVariants.{Known, Found, Missing}
 use Rattle.time_bounds.specs.Tries.{IsTried, AreTried, is_found, one_if_found, count_found, IsGrown}
-use Rattle.time_bounds.specs.Analysis.{IsSaid, AreSaid}
+use Rattle.time_bounds.specs.Analysis.{IsTimeOf, AreTimesOf}
 
 -- what was tried of the next rule stands behind what was tried of those before it
 pub tried_pushed : (p : Program) (tab : Table) (pivots : ℕ) (empties : List EmptyAnswer) (k : ℕ) (tries : List Tried) (x : Tried)
@@ -38,13 +39,13 @@ found_pushed [] x = omega arith
 found_pushed (y ∷ tries) x = let ih = found_pushed tries x in omega (arith, ih)
 
 -- what is said of the next rule stands behind what is said of those before it
-pub said_pushed : (q : Searches) (p : Program) (tab : nodes.Table) (k : ℕ) (times : List Time) (x : Time) → AreSaid q p tab k times
-    → IsSaid q p tab (k + length times) x → AreSaid q p tab k (times ++ x ∷ [])
-said_pushed q p tab k [] x h g = (subst (λ (n : ℕ). IsSaid q p tab n x) (let z : k + 0 ≡ k = omega arith in z) g, tt)
+pub said_pushed : (q : Searches) (p : Program) (tab : nodes.Table) (k : ℕ) (times : List Time) (x : Time) → AreTimesOf q p tab k times
+    → IsTimeOf q p tab (k + length times) x → AreTimesOf q p tab k (times ++ x ∷ [])
+said_pushed q p tab k [] x h g = (subst (λ (n : ℕ). IsTimeOf q p tab n x) (let z : k + 0 ≡ k = omega arith in z) g, tt)
 said_pushed q p tab k (y ∷ times) x h g = (
   h.0,
   said_pushed q p tab (suc k) times x h.1
-      (subst (λ (n : ℕ). IsSaid q p tab n x) (let z : k + suc (length times) ≡ suc k + length times = omega arith in z) g),
+      (subst (λ (n : ℕ). IsTimeOf q p tab n x) (let z : k + suc (length times) ≡ suc k + length times = omega arith in z) g),
 )
 
 -- a gap keeps its number when there is one more
@@ -91,13 +92,13 @@ entries_grown gaps new (e ∷ times) g h =
 
 -- where the list of gaps grows, what is said stays, and what is said of the next rule stands behind it
 pub said_grown : (q : Searches) (p : Program) (tab : nodes.Table) (gaps new : List Gap) (times : List TimeEntry) (x : TimeEntry) (t : ℕ)
-    → IsGrown gaps new → All (HasItsGap (length gaps)) times → AreSaid q p tab 1 (map (time_of gaps) times) → t ≡ 1 + length times
-    → IsSaid q p tab t (time_of new x) → AreSaid q p tab 1 (map (time_of new) (times ++ x ∷ []))
+    → IsGrown gaps new → All (HasItsGap (length gaps)) times → AreTimesOf q p tab 1 (map (time_of gaps) times) → t ≡ 1 + length times
+    → IsTimeOf q p tab t (time_of new x) → AreTimesOf q p tab 1 (map (time_of new) (times ++ x ∷ []))
 said_grown q p tab gaps new times x t g h said e is =
-    subst (λ (xs : List Time). AreSaid q p tab 1 xs) (sym (map-append (time_of new) times (x ∷ [])))
+    subst (λ (xs : List Time). AreTimesOf q p tab 1 xs) (sym (map-append (time_of new) times (x ∷ [])))
     (said_pushed q p tab 1 (map (time_of new) times) (time_of new x)
-    (subst (λ (xs : List Time). AreSaid q p tab 1 xs) (sym (entries_grown gaps new times g h)) said)
-    (subst (λ (n : ℕ). IsSaid q p tab n (time_of new x)) (e ∙ ap (λ (n : ℕ). 1 + n) (sym (length-map times (time_of new)))) is))
+    (subst (λ (xs : List Time). AreTimesOf q p tab 1 xs) (sym (entries_grown gaps new times g h)) said)
+    (subst (λ (n : ℕ). IsTimeOf q p tab n (time_of new x)) (e ∙ ap (λ (n : ℕ). 1 + n) (sym (length-map times (time_of new)))) is))
 
 -- where the list of gaps grows, each entry still has its gap there, and so has one entry more
 pub gaps_grown : (gaps new : List Gap) (times : List TimeEntry) (x : TimeEntry) → IsGrown gaps new → All (HasItsGap (length gaps)) times

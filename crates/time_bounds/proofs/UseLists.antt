@@ -1,11 +1,12 @@
 -- What ranking nodes need, one place and one entry more at a time.
-use Rattle.std.proofs.Common.{◌≡◌, ℕ, suc, ◌+◌, ◌<◌, Bool, true, false, cond, List, [], ◌∷◌, ◌++◌, length, map, take, get_or, refl, sym, ◌∙◌, ap, arith}
+use Rattle.std.proofs.Common.{◌≡◌, ℕ, suc, ◌+◌, ◌<◌, Bool, true, false, cond, List, [], ◌∷◌, ◌++◌, length, map, take}
+use Rattle.std.proofs.Common.{get_or, refl, sym, ◌∙◌, ap, arith}
 use Rattle.std.specs.Prelude.{ℤ}
 use Rattle.std.proofs.lemmas.List.{map-append, append_assoc, append-nil, take_more, length-take-le}
-use Rattle.int_laws.specs.NormalForm.{is_zero}
+use Rattle.its_model.specs.int_laws.NormalForm.{is_zero}
 use Rattle.model.specs.Programs.{Program}
-use Rattle.proof_nodes.specs.Nodes.{RankNode}
-use Rattle.round_relation.specs.Uses.{NeedsSize, read_places, entry_needs, needs_of_all, Numbers, number_of}
+use Rattle.proof_tree.specs.proof_nodes.Nodes.{RankNode}
+use Rattle.size_bounds.specs.round_relation.Uses.{NeedsSize, read_places, entry_needs, needs_of_all, Numbers, number_of}
 use Rattle.time_bounds.specs.Lemmas.{read_here}
 
 -- the places that a form reads, with one coefficient more

@@ -1,5 +1,6 @@
 -- What rounds find, with what is said of times and sizes, is the program's analysis.
-use Rattle.std.proofs.Common.{◌≡◌, ℕ, zero, suc, ◌+◌, List, [], ◌∷◌, length, map, Vec, Option, Some, refl, sym, ◌∙◌, ap, subst, arith}
+use Rattle.std.proofs.Common.{◌≡◌, ℕ, zero, suc, ◌+◌, List, [], ◌∷◌, length, map, Vec, Option, Some, refl, sym, ◌∙◌, ap}
+use Rattle.std.proofs.Common.{subst, arith}
 use Rattle.std.specs.List.{remove}
 use Rattle.std.specs.Option.{option_map}
 use Rattle.std.specs.declared.alloc.Global.{Global}
@@ -10,10 +11,10 @@ use Rattle.outcome.specs.Reports.{Size}
 use Rattle.outcome.specs.Views.{time_of, size_of, report_of}
 use Rattle.outcome.specs.declared.entry.SizeEntry.{SizeEntry}
 use Rattle.outcome.specs.declared.outcome_of.Outcome.{Outcome}
-use Rattle.proof_setting.specs.Setting.{setting_of}
+use Rattle.proof_tree.specs.proof_setting.Setting.{setting_of}
 use Rattle.proof_tree.specs.declared.answer.EmptyAnswer.{EmptyAnswer}
-use Rattle.rank_search.specs.RankAnswers.{AreEmptyAnswers}
-use Rattle.round_relation.specs.Rounds.{IsMade}
+use Rattle.rank_search.specs.rule_questions.RuleAnswers.{AreEmptyAnswers}
+use Rattle.size_bounds.specs.round_relation.Rounds.{IsMade}
 use Rattle.size_bounds.specs.declared.table.Table.{Table}
 use Rattle.size_bounds.specs.Tables.{table_of}
 use Rattle.time_bounds.specs.declared.candidates.Candidate.{Candidate}
@@ -21,7 +22,7 @@ use Rattle.time_bounds.specs.declared.rounds.LastRound.{LastRound}
 use Rattle.time_bounds.specs.ProgramSearches.{searches_of_program}
 use Rattle.time_bounds.specs.ProgramSizes.{sizes_of_program}
 use Rattle.time_bounds.specs.Totals.{time_in, total_of}
-use Rattle.time_bounds.specs.Analysis.{IsSizeSaid, AreSaid, AreRowsSaid, IsAnalysis}
+use Rattle.time_bounds.specs.Analysis.{IsSizeOf, AreTimesOf, AreSizeRowsOf, IsAnalysis}
 use Rattle.time_bounds.specs.Candidates.{AreCandidatesOf}
 use Rattle.time_bounds.specs.RoundEnds.{IsLastRound}
 use Rattle.time_bounds.specs.SizeSaid.{said_table, put_whys}
@@ -48,17 +49,17 @@ module _ (p : Program) (pivots : ℕ) (empties : List EmptyAnswer) (cs : List Ca
   pub whole_analysis : (first : Vec SizeEntry Global) (rows : List (Vec SizeEntry Global))
       → map (λ row. map (λ e. Some (size_of e)) row.items) (first ∷ rows) ≡ put_whys (said_table tab) cs last.attempts.items → o.sizes.items ≡ rows
       → length o.times.items ≡ length last.tries.items
-      → AreSaid (searches_of_program p pivots) p (table_of tab) 1 (map (time_of o.gaps.items) o.times.items)
+      → AreTimesOf (searches_of_program p pivots) p (table_of tab) 1 (map (time_of o.gaps.items) o.times.items)
       → option_map bound_of o.total ≡ total_of (map time_in o.times.items) → IsAnalysis p pivots (report_of o)
   whole_analysis first rows told same long said total =
       analysis_of p pivots (table_of tab) o
       (record { made = made; closed = round_closed p pivots empties cs tab last answers found is_last }) (long ∙ is_last.one_each) said total
       (ap (λ (rs : List (Vec SizeEntry Global)). map (λ (xs : List Size). length xs) (map (λ places. map size_of places.items) rs)) same
       ∙ (told_long rows ∙ lengths))
-      (subst (λ (rs : List (Vec SizeEntry Global)). AreRowsSaid (sizes_of_program p pivots) (table_of tab) 1 (map (λ places. map size_of places.items) rs))
+      (subst (λ (rs : List (Vec SizeEntry Global)). AreSizeRowsOf (sizes_of_program p pivots) (table_of tab) 1 (map (λ places. map size_of places.items) rs))
       (sym same)
       (rows_said (sizes_of_program p pivots) (table_of tab) 1 rows (λ t i x e.
-      subst (λ (n : ℕ). IsSizeSaid (sizes_of_program p pivots) (table_of tab) n i x) (let z : suc t ≡ 1 + t = omega arith in z)
+      subst (λ (n : ℕ). IsSizeOf (sizes_of_program p pivots) (table_of tab) n i x) (let z : suc t ≡ 1 + t = omega arith in z)
       (said_right p pivots tab cs found made is_last.places last.attempts.items is_last.attempts is_last.no_size (suc t) i x (here t i x e)))))
     where
       here : (t i : ℕ) (x : Size) → placed (map (λ row. map (λ e. Some (size_of e)) row.items) rows) t i ≡ Some x
@@ -80,7 +81,7 @@ module _ (p : Program) (pivots : ℕ) (empties : List EmptyAnswer) (cs : List Ca
   pub removed_analysis : (sizes : List (Vec SizeEntry Global))
       → map (λ row. map (λ e. Some (size_of e)) row.items) sizes ≡ put_whys (said_table tab) cs last.attempts.items → o.sizes.items ≡ remove sizes 0
       → length o.times.items ≡ length last.tries.items
-      → AreSaid (searches_of_program p pivots) p (table_of tab) 1 (map (time_of o.gaps.items) o.times.items)
+      → AreTimesOf (searches_of_program p pivots) p (table_of tab) 1 (map (time_of o.gaps.items) o.times.items)
       → option_map bound_of o.total ≡ total_of (map time_in o.times.items) → IsAnalysis p pivots (report_of o)
   removed_analysis [] told same long said total = absurd (no_rows told)
     where

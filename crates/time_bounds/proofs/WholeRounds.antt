@@ -1,5 +1,6 @@
 -- A whole round of the code is one of the relation.
-use Rattle.std.proofs.Common.{◌≡◌, inl, inr, ℕ, suc, ◌+◌, ◌<◌, ◌≤◌, ◌||◌, Bool, true, false, List, [], ◌∷◌, length, map, Option, Some, None, refl, sym, ◌∙◌, ap, subst, arith}
+use Rattle.std.proofs.Common.{◌≡◌, inl, inr, ℕ, suc, ◌+◌, ◌<◌, ◌≤◌, ◌||◌, Bool, true, false, List, [], ◌∷◌, length, map}
+use Rattle.std.proofs.Common.{Option, Some, None, refl, sym, ◌∙◌, ap, subst, arith}
 use Rattle.std.specs.List.{All, list_any}
 use Rattle.std.proofs.lemmas.List.{length-map}
 use Rattle.std.proofs.lemmas.List.Elements.{All-cons, All-nil}
@@ -9,19 +10,19 @@ use Rattle.model.proofs.Membership.{no_is_not_yes}
 use Rattle.bound_expr.specs.Views.{bound_of}
 use Rattle.outcome.specs.Reports.{Timed, Untimed}
 use Rattle.outcome.specs.declared.entry.Stored.{Stored}
-use Rattle.proof_nodes.specs.Known as nodes
-use Rattle.proof_nodes.specs.AcceptsPlain.{IsRule}
-use Rattle.proof_setting.specs.Setting.{setting_of}
+use Rattle.proof_tree.specs.proof_nodes.Known as nodes
+use Rattle.proof_tree.specs.proof_nodes.AcceptsPlain.{IsRule}
+use Rattle.proof_tree.specs.proof_setting.Setting.{setting_of}
 use Rattle.proof_tree.specs.declared.answer.EmptyAnswer.{EmptyAnswer}
-use Rattle.rank_search.specs.RankAnswers.{AreEmptyAnswers}
-use Rattle.round_relation.specs.Searches.{NotFound}
-use Rattle.rank_search.specs.ProgramQuestions.{places_of}
-use Rattle.round_relation.specs.Tables.{lacks, IsPlace}
-use Rattle.round_relation.specs.NewTimes.{SaysTime, Tells}
-use Rattle.round_relation.specs.Sets.{IsSetOfRule, AreShutOf}
-use Rattle.round_relation.specs.Components.{IsCovered, AreComponentsOf}
-use Rattle.round_relation.specs.NewSizes.{Sizes, TriesSizes}
-use Rattle.round_relation.specs.Rounds.{HasNewTimes, HasNewSizes, IsClosed}
+use Rattle.rank_search.specs.rule_questions.RuleAnswers.{AreEmptyAnswers}
+use Rattle.size_bounds.specs.round_relation.Searches.{NotFound}
+use Rattle.rank_search.specs.rule_questions.ProgramQuestions.{places_of}
+use Rattle.size_bounds.specs.round_relation.Tables.{lacks, IsPlace}
+use Rattle.size_bounds.specs.round_relation.NewTimes.{SaysTime, GivesTime}
+use Rattle.size_bounds.specs.round_relation.Sets.{IsSetOfRule, AreShutOf}
+use Rattle.size_bounds.specs.round_relation.Components.{IsCovered, AreComponentsOf}
+use Rattle.size_bounds.specs.round_relation.NewSizes.{Sizes, TriesSizes}
+use Rattle.size_bounds.specs.round_relation.Rounds.{HasNewTimes, HasNewSizes, IsClosed}
 use Rattle.size_bounds.specs.declared.table.Table.{Table}
 use Rattle.size_bounds.specs.Tables.{table_of}
 use Rattle.time_bounds.specs.declared.asking.Asked.{Asked}
@@ -35,7 +36,8 @@ use Rattle.time_bounds.specs.declared.trying.Tried.TheVariants.{Known, Found, Mi
 use Rattle.time_bounds.specs.ProgramSearches.{searches_of_program, ranking_of}
 use Rattle.time_bounds.specs.ProgramSizes.{sizes_of_program}
 use Rattle.time_bounds.specs.Questions.{AreKept, IsTable}
-use Rattle.time_bounds.specs.Tries.{AreTried, after_round, after_tries, or_found, kept_in, is_found, count_found, count_missing}
+use Rattle.time_bounds.specs.Tries.{AreTried, after_round, after_tries, or_found, kept_in, is_found, count_found}
+use Rattle.time_bounds.specs.Tries.{count_missing}
 use Rattle.time_bounds.specs.Candidates.{spots_in, AreCandidatesOf}
 use Rattle.time_bounds.specs.SizeWrites.{rows_of, count_unsized}
 use Rattle.time_bounds.specs.Attempts.{AreAttempts, is_sized, count_sized, HasPlaces, ArePlacesOf, AreSizeSteps}
@@ -85,7 +87,7 @@ tried_same p a b pivots empties k (Known ∷ tries) e h = (
 tried_same p a b pivots empties k (Found s ∷ tries) e h = (
   (
     subst (λ (t : nodes.Table). t.time k ≡ None) e h.0.0,
-    subst (λ (t : nodes.Table). Tells (searches_of_program p pivots) (setting_of p) t k (Timed (bound_of s.bound))) e h.0.1,
+    subst (λ (t : nodes.Table). GivesTime (searches_of_program p pivots) (setting_of p) t k (Timed (bound_of s.bound))) e h.0.1,
   ),
   tried_same p a b pivots empties (suc k) tries e h.1,
 )

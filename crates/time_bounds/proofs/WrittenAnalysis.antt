@@ -8,16 +8,17 @@ use Rattle.local_size.proofs.OneLocal.{locals-one}
 use Rattle.outcome.specs.Views.{report_of}
 use Rattle.outcome.specs.declared.entry.SizeEntry.{SizeEntry}
 use Rattle.outcome.specs.declared.outcome_of.Outcome.{Outcome}
-use Rattle.proof_nodes.specs.Known as known
-use Rattle.proof_setting.specs.Setting.{setting_of}
+use Rattle.proof_tree.specs.proof_nodes.Known as known
+use Rattle.proof_tree.specs.proof_setting.Setting.{setting_of}
 use Rattle.proof_tree.specs.Views.{proof_of}
-use Rattle.rank_search.proofs.Uniqueness.{empties-one, ranks-one}
-use Rattle.round_relation.specs.Rounds.{IsLast}
-use Rattle.round_relation.specs.Uses.{Numbers}
-use Rattle.round_relation.proofs.OneWhole.{whole_one}
+use Rattle.rank_search.proofs.rule_questions.OneEmptyAnswer.{empties-one}
+use Rattle.rank_search.proofs.Uniqueness.{ranks-one}
+use Rattle.size_bounds.specs.round_relation.Rounds.{IsLast}
+use Rattle.size_bounds.specs.round_relation.Uses.{Numbers}
+use Rattle.size_bounds.proofs.round_relation.OneWhole.{whole_one}
 use Rattle.size_bounds.specs.declared.table.Table.{Table}
 use Rattle.size_bounds.specs.Tables.{table_of, numbers_of}
-use Rattle.time_bounds.specs.Analysis.{AreSaid, AreRowsSaid, IsAnalysis}
+use Rattle.time_bounds.specs.Analysis.{AreTimesOf, AreSizeRowsOf, IsAnalysis}
 use Rattle.time_bounds.specs.AnalysisLemmas.{CarryTimes, CarryRows, AreGapsInOrder, HasLemmas}
 use Rattle.time_bounds.specs.ProgramSearches.{searches_of_program}
 use Rattle.time_bounds.specs.ProgramSizes.{sizes_of_program}
@@ -40,8 +41,8 @@ pub has_lemmas : (p : Program) (pivots : ℕ) (tab : Table) (o : Outcome) → Is
 has_lemmas p pivots tab o valid analysis last written times sizes gaps = record {
   table = table_of tab;
   last = last;
-  times = subst (λ (t : known.Table). AreSaid (searches_of_program p pivots) p t 1 (report_of o).times) same analysis.times;
-  sizes = subst (λ (t : known.Table). AreRowsSaid (sizes_of_program p pivots) t 1 (report_of o).sizes) same analysis.sizes;
+  times = subst (λ (t : known.Table). AreTimesOf (searches_of_program p pivots) p t 1 (report_of o).times) same analysis.times;
+  sizes = subst (λ (t : known.Table). AreSizeRowsOf (sizes_of_program p pivots) t 1 (report_of o).sizes) same analysis.sizes;
   lemmas = written.lemmas_are;
   accepted = (written_stand p pivots valid tab (map proof_of o.lemmas.items) written).accepted;
   ns = numbers_of tab;

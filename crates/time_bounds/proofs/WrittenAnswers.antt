@@ -1,5 +1,6 @@
 -- What an answer writes of lemmas and numbers.
-use Rattle.std.proofs.Common.{◌≡◌, inl, inr, ℕ, zero, suc, ◌+◌, ◌-◌, ◌&&◌, ◌||◌, Bool, true, false, List, [], ◌∷◌, ◌++◌, length, map, Vec, Some, None, refl, sym, ◌∙◌, ap, subst, arith}
+use Rattle.std.proofs.Common.{◌≡◌, inl, inr, ℕ, zero, suc, ◌+◌, ◌-◌, ◌&&◌, ◌||◌, Bool, true, false, List, [], ◌∷◌, ◌++◌}
+use Rattle.std.proofs.Common.{length, map, Vec, Some, None, refl, sym, ◌∙◌, ap, subst, arith}
 use Rattle.std.specs.Prelude.{⊤}
 use Rattle.std.specs.List.{All, AllByRecursion, list_any}
 use Rattle.std.specs.declared.alloc.Global.{Global}
@@ -12,22 +13,22 @@ use Rattle.bound_expr.specs.Views.{bound_of}
 use Rattle.local_size.specs.LocalAnswers.{Local, HasBound}
 use Rattle.outcome.specs.Reports.{Timed}
 use Rattle.outcome.specs.declared.entry.Stored.{Stored}
-use Rattle.proof_nodes.specs.AcceptsRank.{rank_time}
-use Rattle.proof_nodes.specs.AcceptsSizes.{spread_size, cycle_size}
-use Rattle.proof_nodes.specs.Nodes.{Spot, Member, RankNode}
-use Rattle.proof_nodes.specs.Nodes as nodes
-use Rattle.proof_nodes.specs.Setting.{Setting}
-use Rattle.proof_setting.specs.Setting.{setting_of}
+use Rattle.proof_tree.specs.proof_nodes.AcceptsRank.{rank_time}
+use Rattle.proof_tree.specs.proof_nodes.AcceptsSizes.{spread_size, cycle_size}
+use Rattle.proof_tree.specs.proof_nodes.Nodes.{Spot, Member, RankNode}
+use Rattle.proof_tree.specs.proof_nodes.Nodes as nodes
+use Rattle.proof_tree.specs.proof_nodes.Setting.{Setting}
+use Rattle.proof_tree.specs.proof_setting.Setting.{setting_of}
 use Rattle.proof_tree.specs.declared.answer.EmptyAnswer.{EmptyAnswer}
 use Rattle.proof_tree.specs.declared.arm.Member as code
 use Rattle.proof_tree.specs.declared.proof.Proof.{Proof}
 use Rattle.proof_tree.specs.Views.{member_of, facts_of, proof_of}
-use Rattle.rank_search.specs.RankAnswers.{AreEmptyAnswers}
-use Rattle.round_relation.specs.Searches as searches
-use Rattle.round_relation.specs.NewSizes.{has_spot}
-use Rattle.round_relation.specs.NewTimes.{Composes}
-use Rattle.round_relation.specs.SizeLemmas.{IsSizeLemma, reads_member, do_loop}
-use Rattle.round_relation.specs.Uses.{uses_for, rank_needs}
+use Rattle.rank_search.specs.rule_questions.RuleAnswers.{AreEmptyAnswers}
+use Rattle.size_bounds.specs.round_relation.Searches as searches
+use Rattle.size_bounds.specs.round_relation.NewSizes.{has_spot}
+use Rattle.size_bounds.specs.round_relation.NewTimes.{Composes}
+use Rattle.size_bounds.specs.round_relation.SizeLemmas.{IsSizeLemma, reads_member, do_loop}
+use Rattle.size_bounds.specs.round_relation.Uses.{uses_for, rank_needs}
 use Rattle.rvg_components.specs.Flows.{Locals, local_reads, value_flows, loops}
 use Rattle.size_bounds.specs.SizeAnswers.{IsSpreadAnswer, IsCycleAnswer}
 use Rattle.size_bounds.specs.declared.answer.SizeAnswer.{SizeAnswer}

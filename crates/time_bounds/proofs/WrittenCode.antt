@@ -1,18 +1,19 @@
 -- What rounds write, by what follows in the code's list of lemmas.
-use Rattle.std.proofs.Common.{◌≡◌, ℕ, suc, ◌+◌, true, false, List, [], ◌∷◌, ◌++◌, length, map, refl, sym, ◌∙◌, ap, subst, arith}
+use Rattle.std.proofs.Common.{◌≡◌, ℕ, suc, ◌+◌, true, false, List, [], ◌∷◌, ◌++◌, length, map, refl, sym, ◌∙◌, ap}
+use Rattle.std.proofs.Common.{subst, arith}
 use Rattle.std.specs.List.{list_any}
 use Rattle.std.proofs.lemmas.List.{append-nil, length-map}
 use Rattle.model.specs.Programs.{Program}
 use Rattle.model.proofs.Membership.{no_is_not_yes}
 use Rattle.its_model.specs.Valid.{IsValid}
-use Rattle.proof_nodes.specs.Known as known
-use Rattle.proof_nodes.specs.Nodes as nodes
-use Rattle.proof_setting.specs.Setting.{setting_of}
+use Rattle.proof_tree.specs.proof_nodes.Known as known
+use Rattle.proof_tree.specs.proof_nodes.Nodes as nodes
+use Rattle.proof_tree.specs.proof_setting.Setting.{setting_of}
 use Rattle.proof_tree.specs.declared.answer.EmptyAnswer.{EmptyAnswer}
 use Rattle.proof_tree.specs.declared.proof.Proof.{Proof}
 use Rattle.proof_tree.specs.Views.{proof_of}
-use Rattle.rank_search.specs.RankAnswers.{AreEmptyAnswers}
-use Rattle.round_relation.specs.Rounds.{Next}
+use Rattle.rank_search.specs.rule_questions.RuleAnswers.{AreEmptyAnswers}
+use Rattle.size_bounds.specs.round_relation.Rounds.{IsNextTable}
 use Rattle.size_bounds.specs.declared.table.Table.{Table}
 use Rattle.size_bounds.specs.Tables.{table_of}
 use Rattle.time_bounds.specs.declared.candidates.Candidate.{Candidate}
@@ -67,7 +68,7 @@ module _ (p : Program) (pivots : ℕ) (valid : IsValid p) (empties : List EmptyA
   -- the components were tried with the new times
   pub further_written : (mid new : Table) → mid.times.items ≡ after_tries old.times.items tries → mid.sizes.items ≡ old.sizes.items
       → SizesFollow p pivots mid cs new lemmas all
-      → Next (searches_of_program p pivots) (sizes_of_program p pivots) (setting_of p) (table_of old) (table_of new)
+      → IsNextTable (searches_of_program p pivots) (sizes_of_program p pivots) (setting_of p) (table_of old) (table_of new)
       → AreWritten p pivots new (map proof_of all)
   further_written mid new times sizes k next =
       subst (λ (ps : List nodes.Proof). AreWritten p pivots new ps)
@@ -83,14 +84,14 @@ module _ (p : Program) (pivots : ℕ) (valid : IsValid p) (empties : List EmptyA
   -- no time was found, and then a size
   pub sized_written : (mid new : Table) → list_any is_found tries ≡ false → SizesFollow p pivots old cs mid lemmas all
       → new.times.items ≡ after_tries mid.times.items tries → new.sizes.items ≡ mid.sizes.items
-      → Next (searches_of_program p pivots) (sizes_of_program p pivots) (setting_of p) (table_of old) (table_of new)
+      → IsNextTable (searches_of_program p pivots) (sizes_of_program p pivots) (setting_of p) (table_of old) (table_of new)
       → AreWritten p pivots new (map proof_of all)
   sized_written mid new none k times sizes next =
       let still = times ∙ nothing_after mid.times.items tries none in
       let rows : rows_of new ≡ rows_of mid = ap (λ vs. map (λ row. row.items) vs) sizes in
       written_same p pivots mid new (map proof_of all)
       (further_written old mid (sym (nothing_after old.times.items tries none)) refl k
-      (subst (λ (t : known.Table). Next (searches_of_program p pivots) (sizes_of_program p pivots) (setting_of p) (table_of old) t)
+      (subst (λ (t : known.Table). IsNextTable (searches_of_program p pivots) (sizes_of_program p pivots) (setting_of p) (table_of old) t)
       (same_table new mid still rows) next)) still rows
 
   -- neither was found

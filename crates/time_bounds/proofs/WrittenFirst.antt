@@ -1,5 +1,6 @@
 -- The lemmas before the first round are those of the relation, and the numbers of the first table are theirs.
-use Rattle.std.proofs.Common.{◌≡◌, ℕ, suc, ◌+◌, true, List, ◌∷◌, ◌++◌, map, replicate, Vec, Option, Some, sym, ◌∙◌, subst, arith}
+use Rattle.std.proofs.Common.{◌≡◌, ℕ, suc, ◌+◌, true, List, ◌∷◌, ◌++◌, map, replicate, Vec, Option, Some, sym, ◌∙◌}
+use Rattle.std.proofs.Common.{subst, arith}
 use Rattle.std.specs.Prelude.{slice_get}
 use Rattle.std.specs.declared.alloc.Global.{Global}
 use Rattle.model.specs.Programs.{Program, Rule, arity_of}
@@ -7,19 +8,20 @@ use Rattle.model.proofs.Membership.{slice_get-below}
 use Rattle.its_model.specs.Valid.{IsValid}
 use Rattle.guard_prep.specs.Prepared.{prepared}
 use Rattle.outcome.specs.declared.entry.Stored.{Stored}
-use Rattle.proof_nodes.specs.Nodes.{Proof}
+use Rattle.proof_tree.specs.proof_nodes.Nodes.{Proof}
 use Rattle.proof_tree.specs.declared.answer.EmptyAnswer.{EmptyAnswer}
-use Rattle.rank_search.specs.EmptyAnswers.{IsEmptyAnswer}
-use Rattle.rank_search.specs.RankAnswers.{AreEmptyAnswers}
-use Rattle.rank_search.proofs.Exact.{answers-exact}
-use Rattle.round_relation.specs.Beginning.{IsEmpty}
-use Rattle.round_relation.specs.SizeLemmas.{AtBeginning}
+use Rattle.rank_search.specs.rule_questions.EmptyAnswers.{IsEmptyAnswer}
+use Rattle.rank_search.specs.rule_questions.RuleAnswers.{AreEmptyAnswers}
+use Rattle.rank_search.proofs.rule_questions.Exact.{answers-exact}
+use Rattle.size_bounds.specs.round_relation.Beginning.{IsEmpty}
+use Rattle.size_bounds.specs.round_relation.SizeLemmas.{AtBeginning}
 use Rattle.size_bounds.specs.declared.table.Table.{Table}
 use Rattle.size_bounds.specs.Tables.{bound_stored, lemma_stored, numbers_of}
 use Rattle.time_bounds.specs.declared.fates.Fate.{Fate}
 use Rattle.time_bounds.specs.ProgramSearches.{searches_of_program}
 use Rattle.time_bounds.specs.Fates.{says_empty, fate_at, is_empty_fate, AreFates}
-use Rattle.time_bounds.specs.Beginning.{first_times, first_sizes, count_empty, count_unreached, time_numbers, size_numbers}
+use Rattle.time_bounds.specs.Beginning.{first_times, first_sizes, count_empty, count_unreached, time_numbers}
+use Rattle.time_bounds.specs.Beginning.{size_numbers}
 use Rattle.time_bounds.specs.Lemmas.{empty_lemmas, unreached_by, never_by}
 use Rattle.time_bounds.specs.Written.{AreWritten}
 use Rattle.time_bounds.proofs.FateLaws.{bool_same, says, shown, shown_says}

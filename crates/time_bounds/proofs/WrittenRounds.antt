@@ -5,28 +5,28 @@ use Rattle.model.specs.Programs.{Program}
 use Rattle.model.specs.Bounds.{Bound}
 use Rattle.its_model.specs.Valid.{IsValid}
 use Rattle.local_size.proofs.OneLocal.{locals-one}
-use Rattle.proof_nodes.specs.Acceptance.{facts_of_lemmas}
-use Rattle.proof_nodes.specs.Known as nodes
-use Rattle.proof_nodes.specs.Nodes.{Spot, Proof}
-use Rattle.proof_setting.specs.Setting.{setting_of}
+use Rattle.proof_tree.specs.proof_nodes.Acceptance.{facts_of_lemmas}
+use Rattle.proof_tree.specs.proof_nodes.Known as nodes
+use Rattle.proof_tree.specs.proof_nodes.Nodes.{Spot, Proof}
+use Rattle.proof_tree.specs.proof_setting.Setting.{setting_of}
 use Rattle.proof_tree.specs.declared.answer.EmptyAnswer.{EmptyAnswer}
-use Rattle.rank_search.specs.RankAnswers.{AreEmptyAnswers}
-use Rattle.rank_search.proofs.Uniqueness.{empties-one}
-use Rattle.round_relation.specs.Tables.{rule_numbers}
-use Rattle.round_relation.specs.Components.{IsOneOf}
-use Rattle.round_relation.specs.LemmaOrder.{AreNumbersOf, AreTimeLemmas, is_new}
-use Rattle.round_relation.specs.NewSizes.{Sizes}
-use Rattle.round_relation.specs.Right.{AreRight}
-use Rattle.round_relation.specs.RightSizes.{AreSizesRight, AreSizesOne}
-use Rattle.round_relation.specs.Rounds.{NextTimes, Next}
-use Rattle.round_relation.specs.Searches.{Searches, SizeSearches}
-use Rattle.round_relation.specs.SizeLemmas.{AreSizeLemmas, AreWholeLemmasOf, AfterWhole, with_times}
-use Rattle.round_relation.specs.Standing.{StandFor, AreUniform, ArePlacesAfterRules}
-use Rattle.round_relation.proofs.AcceptedLemmas.{after_round}
-use Rattle.round_relation.proofs.ComponentLemmas.{both_of}
-use Rattle.round_relation.proofs.OneWhole.{member_listed}
-use Rattle.round_relation.proofs.Uniform.{uniform_made}
-use Rattle.round_relation.proofs.WholeLemmas.{stands_for, for_stands, made_of, whole_stand}
+use Rattle.rank_search.specs.rule_questions.RuleAnswers.{AreEmptyAnswers}
+use Rattle.rank_search.proofs.rule_questions.OneEmptyAnswer.{empties-one}
+use Rattle.size_bounds.specs.round_relation.Tables.{rule_numbers}
+use Rattle.size_bounds.specs.round_relation.Components.{IsOneOf}
+use Rattle.size_bounds.specs.round_relation.LemmaOrder.{AreNumbersOf, AreTimeLemmas, is_new}
+use Rattle.size_bounds.specs.round_relation.NewSizes.{Sizes}
+use Rattle.size_bounds.specs.round_relation.Right.{AreRight}
+use Rattle.size_bounds.specs.round_relation.RightSizes.{AreSizesRight, AreSizesOne}
+use Rattle.size_bounds.specs.round_relation.Rounds.{NextTimes, IsNextTable}
+use Rattle.size_bounds.specs.round_relation.Searches.{Searches, SizeSearches}
+use Rattle.size_bounds.specs.round_relation.SizeLemmas.{AreSizeLemmas, AreWholeLemmasOf, AfterWhole, with_times}
+use Rattle.size_bounds.specs.round_relation.Standing.{StandFor, AreUniform, ArePlacesAfterRules}
+use Rattle.size_bounds.proofs.round_relation.AcceptedLemmas.{after_round}
+use Rattle.size_bounds.proofs.round_relation.ComponentLemmas.{both_of}
+use Rattle.size_bounds.proofs.round_relation.OneWhole.{member_listed}
+use Rattle.size_bounds.proofs.round_relation.Uniform.{uniform_made}
+use Rattle.size_bounds.proofs.round_relation.WholeLemmas.{stands_for, for_stands, made_of, whole_stand}
 use Rattle.size_bounds.specs.declared.table.Table.{Table}
 use Rattle.size_bounds.specs.Tables.{table_of, numbers_of}
 use Rattle.time_bounds.specs.declared.candidates.Candidate.{Candidate}
@@ -88,7 +88,7 @@ module _ (p : Program) (pivots : ℕ) (valid : IsValid p) where
       (times : mid.times.items ≡ after_tries old.times.items tries) (sizes : mid.sizes.items ≡ old.sizes.items)
       (timed : WriteTimes p pivots (length earlier) old 1 tries of_times)
       (placed : WriteSizes p pivots (length (earlier ++ of_times)) mid cs new of_sizes)
-      (next : Next q z (setting_of p) (table_of old) (table_of new)) where
+      (next : IsNextTable q z (setting_of p) (table_of old) (table_of new)) where
     long : length old.times.items ≡ suc (length tries)
     long = table.one_each ∙ ap suc (sym one_each)
 

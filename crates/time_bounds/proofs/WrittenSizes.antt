@@ -1,25 +1,26 @@
 -- The lemmas of the sizes of a round are those of the relation, and its numbers are theirs.
-use Rattle.std.proofs.Common.{◌≡◌, inl, inr, ℕ, zero, suc, ◌+◌, Bool, true, false, cond, List, [], ◌∷◌, ◌++◌, length, map, Option, refl, sym, ◌∙◌, ap, subst}
+use Rattle.std.proofs.Common.{◌≡◌, inl, inr, ℕ, zero, suc, ◌+◌, Bool, true, false, cond, List, [], ◌∷◌, ◌++◌, length}
+use Rattle.std.proofs.Common.{map, Option, refl, sym, ◌∙◌, ap, subst}
 use Rattle.std.proofs.lemmas.List.{append-nil, append_assoc, length-append}
 use Rattle.model.specs.Programs.{Program}
 use Rattle.model.specs.Bounds.{Bound}
 use Rattle.model.proofs.Membership.{no_is_not_yes}
 use Rattle.outcome.specs.declared.entry.Stored.{Stored}
-use Rattle.proof_nodes.specs.Acceptance.{facts_of_lemmas}
-use Rattle.proof_nodes.specs.Known as nodes
-use Rattle.proof_nodes.specs.Nodes.{Spot, Proof}
-use Rattle.proof_setting.specs.Setting.{setting_of}
-use Rattle.round_relation.specs.Components.{IsOneOf, AreApart}
-use Rattle.round_relation.specs.Searches.{SizeSearches, Found, NotFound}
-use Rattle.round_relation.specs.NewSizes.{has_spot, is_unsized}
-use Rattle.round_relation.specs.LemmaOrder.{AreNumbersOf}
-use Rattle.round_relation.specs.Numbering.{numbers_with}
-use Rattle.round_relation.specs.SizeLemmas.{AreComponentLemmas, AreSizeLemmas}
-use Rattle.round_relation.specs.Standing.{StandFor, IsUniform, AreUniform, ArePlacesAfterRules}
-use Rattle.round_relation.proofs.Cases.{told}
-use Rattle.round_relation.proofs.ComponentLemmas.{both_of, component_stands}
-use Rattle.round_relation.proofs.Uniform.{unsized_all, apart_uniform}
-use Rattle.round_relation.proofs.WholeLemmas.{stands_for, for_stands, sizes_numbered}
+use Rattle.proof_tree.specs.proof_nodes.Acceptance.{facts_of_lemmas}
+use Rattle.proof_tree.specs.proof_nodes.Known as nodes
+use Rattle.proof_tree.specs.proof_nodes.Nodes.{Spot, Proof}
+use Rattle.proof_tree.specs.proof_setting.Setting.{setting_of}
+use Rattle.size_bounds.specs.round_relation.Components.{IsOneOf, AreApart}
+use Rattle.size_bounds.specs.round_relation.Searches.{SizeSearches, Found, NotFound}
+use Rattle.size_bounds.specs.round_relation.NewSizes.{has_spot, is_unsized}
+use Rattle.size_bounds.specs.round_relation.LemmaOrder.{AreNumbersOf}
+use Rattle.size_bounds.specs.round_relation.Numbering.{numbers_with}
+use Rattle.size_bounds.specs.round_relation.SizeLemmas.{AreComponentLemmas, AreSizeLemmas}
+use Rattle.size_bounds.specs.round_relation.Standing.{StandFor, IsUniform, AreUniform, ArePlacesAfterRules}
+use Rattle.size_bounds.proofs.round_relation.Cases.{told}
+use Rattle.size_bounds.proofs.round_relation.ComponentLemmas.{both_of, component_stands}
+use Rattle.size_bounds.proofs.round_relation.Uniform.{unsized_all, apart_uniform}
+use Rattle.size_bounds.proofs.round_relation.WholeLemmas.{stands_for, for_stands, sizes_numbered}
 use Rattle.size_bounds.specs.declared.table.Table.{Table}
 use Rattle.size_bounds.specs.Tables.{entry_at, row_at, lemma_stored, table_of, numbers_of}
 use Rattle.time_bounds.specs.declared.candidates.Candidate.{Candidate}

@@ -2,7 +2,7 @@
 use Rattle.std.proofs.Common.{◌≡◌, ℕ, suc, ◌+◌, List, [], ◌∷◌, ◌++◌, length, map, refl, sym, ◌∙◌, ap, subst, arith}
 use Rattle.std.proofs.lemmas.List.{append-nil, append_assoc, length-append, length-map}
 use Rattle.model.specs.Programs.{Program}
-use Rattle.proof_nodes.specs.Nodes as nodes
+use Rattle.proof_tree.specs.proof_nodes.Nodes as nodes
 use Rattle.proof_tree.specs.declared.proof.Proof.{Proof}
 use Rattle.proof_tree.specs.Views.{proof_of}
 use Rattle.size_bounds.specs.declared.table.Table.{Table}
@@ -10,7 +10,8 @@ use Rattle.time_bounds.specs.declared.candidates.Candidate.{Candidate}
 use Rattle.time_bounds.specs.declared.sizing.Attempt.{Attempt}
 use Rattle.time_bounds.specs.declared.trying.Tried.{Tried}
 use Rattle.time_bounds.specs.Attempts.{IsSizeStep}
-use Rattle.time_bounds.specs.Written.{WritesTried, WriteTimes, WritesStep, WriteSizes, Follow, TimeFollows, TimesFollow, SizeFollows, SizesFollow}
+use Rattle.time_bounds.specs.Written.{WritesTried, WriteTimes, WritesStep, WriteSizes, Follow, TimeFollows, TimesFollow}
+use Rattle.time_bounds.specs.Written.{SizeFollows, SizesFollow}
 
 -- how many lemmas there are, where some follow
 pub follow-long : (earlier all : List Proof) (proofs : List nodes.Proof) → Follow earlier all proofs → length all ≡ length earlier + length proofs

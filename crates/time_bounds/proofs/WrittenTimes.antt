@@ -1,5 +1,6 @@
 -- The lemmas of the times of a round are those of the relation, and its numbers are theirs.
-use Rattle.std.proofs.Common.{◌≡◌, ℕ, zero, suc, ◌+◌, ◌-◌, ◌<◌, ◌&&◌, Bool, true, false, not, cond, List, [], ◌∷◌, ◌++◌, length, map, filter, Option, Some, None, refl, sym, ◌∙◌, ap, subst, arith}
+use Rattle.std.proofs.Common.{◌≡◌, ℕ, zero, suc, ◌+◌, ◌-◌, ◌<◌, ◌&&◌, Bool, true, false, not, cond, List, [], ◌∷◌, ◌++◌}
+use Rattle.std.proofs.Common.{length, map, filter, Option, Some, None, refl, sym, ◌∙◌, ap, subst, arith}
 use Rattle.std.specs.Prelude.{⊤}
 use Rattle.std.specs.List.{range_with_len, Contains, count_by}
 use Rattle.model.specs.Programs.{Program}
@@ -7,22 +8,22 @@ use Rattle.model.specs.Bounds.{Bound}
 use Rattle.model.specs.Facts.{Fact, Time, Size}
 use Rattle.bound_expr.specs.Views.{bound_of}
 use Rattle.outcome.specs.declared.entry.Stored.{Stored}
-use Rattle.proof_nodes.specs.Acceptance.{facts_of_lemma, facts_of_lemmas}
-use Rattle.proof_nodes.specs.AcceptsPlain.{IsRule}
-use Rattle.proof_nodes.specs.Known as nodes
-use Rattle.proof_nodes.specs.Nodes.{Proof}
-use Rattle.proof_setting.specs.Setting.{setting_of}
+use Rattle.proof_tree.specs.proof_nodes.Acceptance.{facts_of_lemma, facts_of_lemmas}
+use Rattle.proof_tree.specs.proof_nodes.AcceptsPlain.{IsRule}
+use Rattle.proof_tree.specs.proof_nodes.Known as nodes
+use Rattle.proof_tree.specs.proof_nodes.Nodes.{Proof}
+use Rattle.proof_tree.specs.proof_setting.Setting.{setting_of}
 use Rattle.proof_tree.specs.declared.answer.EmptyAnswer.{EmptyAnswer}
-use Rattle.round_relation.specs.Tables.{lacks, rule_numbers}
-use Rattle.round_relation.specs.Right.{AreRight}
-use Rattle.round_relation.specs.Rounds.{NextTimes}
-use Rattle.round_relation.specs.Standing.{StandFor}
-use Rattle.round_relation.specs.Uses.{Numbers}
-use Rattle.round_relation.specs.LemmaOrder.{AreNumbersOf, AreTimeLemmas, AreRoundLemmas, is_new}
-use Rattle.round_relation.specs.Numbering.{before, numbers_after}
-use Rattle.round_relation.specs.SizeLemmas.{with_times}
-use Rattle.round_relation.proofs.Cases.{count-first}
-use Rattle.round_relation.proofs.WholeLemmas.{times_numbered}
+use Rattle.size_bounds.specs.round_relation.Tables.{lacks, rule_numbers}
+use Rattle.size_bounds.specs.round_relation.Right.{AreRight}
+use Rattle.size_bounds.specs.round_relation.Rounds.{NextTimes}
+use Rattle.size_bounds.specs.round_relation.Standing.{StandFor}
+use Rattle.size_bounds.specs.round_relation.Uses.{Numbers}
+use Rattle.size_bounds.specs.round_relation.LemmaOrder.{AreNumbersOf, AreTimeLemmas, AreRoundLemmas, is_new}
+use Rattle.size_bounds.specs.round_relation.Numbering.{before, numbers_after}
+use Rattle.size_bounds.specs.round_relation.SizeLemmas.{with_times}
+use Rattle.size_bounds.proofs.round_relation.Cases.{count-first}
+use Rattle.size_bounds.proofs.round_relation.WholeLemmas.{times_numbered}
 use Rattle.size_bounds.specs.declared.table.Table.{Table}
 use Rattle.size_bounds.specs.Tables.{entry_at, row_at, bound_stored, lemma_stored, stored_time, table_of, numbers_of}
 use Rattle.time_bounds.specs.declared.trying.Tried.{Tried}

@@ -7,15 +7,15 @@ use Rattle.outcome.specs.declared.entry.SizeEntry.{SizeEntry}
 use Rattle.outcome.specs.declared.entry.SizeEntry.TheVariants as sizes
 use Rattle.outcome.specs.declared.outcome_of.Outcome.{Outcome}
 use Rattle.outcome.specs.Views.{report_of}
-use Rattle.proof_nodes.specs.Acceptance.{AcceptsLemmas, facts_of_lemmas}
-use Rattle.proof_nodes.specs.Known.{Table}
-use Rattle.proof_setting.specs.Setting.{setting_of}
+use Rattle.proof_tree.specs.proof_nodes.Acceptance.{AcceptsLemmas, facts_of_lemmas}
+use Rattle.proof_tree.specs.proof_nodes.Known.{Table}
+use Rattle.proof_tree.specs.proof_setting.Setting.{setting_of}
 use Rattle.proof_tree.specs.Views.{proof_of}
-use Rattle.round_relation.specs.LemmaOrder.{AreNumbersOf}
-use Rattle.round_relation.specs.Rounds.{IsLast}
-use Rattle.round_relation.specs.SizeLemmas.{AreWholeLemmasOf}
-use Rattle.round_relation.specs.Uses.{Numbers}
-use Rattle.time_bounds.specs.Analysis.{AreSaid, AreRowsSaid}
+use Rattle.size_bounds.specs.round_relation.LemmaOrder.{AreNumbersOf}
+use Rattle.size_bounds.specs.round_relation.Rounds.{IsLast}
+use Rattle.size_bounds.specs.round_relation.SizeLemmas.{AreWholeLemmasOf}
+use Rattle.size_bounds.specs.round_relation.Uses.{Numbers}
+use Rattle.time_bounds.specs.Analysis.{AreTimesOf, AreSizeRowsOf}
 use Rattle.time_bounds.specs.ProgramSearches.{searches_of_program}
 use Rattle.time_bounds.specs.ProgramSizes.{sizes_of_program}
 
@@ -66,8 +66,8 @@ AreGapsInOrder n (times.Large k ∷ entries) count = AreGapsInOrder n entries co
 pub record HasLemmas (p : Program) (pivots : ℕ) (o : Outcome) : Type 0 where
   pub table : Table
   pub last : IsLast (searches_of_program p pivots) (sizes_of_program p pivots) (setting_of p) table
-  pub times : AreSaid (searches_of_program p pivots) p table 1 (report_of o).times
-  pub sizes : AreRowsSaid (sizes_of_program p pivots) table 1 (report_of o).sizes
+  pub times : AreTimesOf (searches_of_program p pivots) p table 1 (report_of o).times
+  pub sizes : AreSizeRowsOf (sizes_of_program p pivots) table 1 (report_of o).sizes
   pub lemmas : AreWholeLemmasOf (searches_of_program p pivots) (sizes_of_program p pivots) (setting_of p) table
       (map proof_of o.lemmas.items)
   pub accepted : AcceptsLemmas (setting_of p) (map proof_of o.lemmas.items)

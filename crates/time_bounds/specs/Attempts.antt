@@ -3,15 +3,15 @@ use Rattle.std.specs.Prelude.{◌≡◌, ℕ, ◌+◌, ◌≤◌, Bool, true, fa
 use Rattle.std.specs.Prelude.{⊤}
 use Rattle.std.specs.List.{All, list_any}
 use Rattle.model.specs.Programs.{Program, arity_of}
-use Rattle.outcome.specs.Reports.{NoSize, Size, Sized, Unsized, IsMissing, IsBent, LacksTime, SizeLarge}
+use Rattle.outcome.specs.Reports.{NoSize, Size, Sized, Unsized, SizeMissing, SizeBent, SizeUntimed, SizeLarge}
 use Rattle.outcome.specs.Views.{size_of}
 use Rattle.outcome.specs.declared.entry.Stored.{Stored}
-use Rattle.proof_nodes.specs.AcceptsPlain.{IsRule}
-use Rattle.proof_nodes.specs.Known as nodes
+use Rattle.proof_tree.specs.proof_nodes.AcceptsPlain.{IsRule}
+use Rattle.proof_tree.specs.proof_nodes.Known as nodes
 use Rattle.proof_tree.specs.Views.{spot_of}
-use Rattle.round_relation.specs.Tables.{IsPlace}
-use Rattle.round_relation.specs.Searches.{NotFound}
-use Rattle.round_relation.specs.NewSizes.{is_unsized, TriesSize, TriesSizes}
+use Rattle.size_bounds.specs.round_relation.Tables.{IsPlace}
+use Rattle.size_bounds.specs.round_relation.Searches.{NotFound}
+use Rattle.size_bounds.specs.round_relation.NewSizes.{is_unsized, TriesSize, TriesSizes}
 use Rattle.size_bounds.specs.declared.answer.SizeAnswer.{SizeAnswer}
 use Rattle.size_bounds.specs.declared.answer.SizeAnswer.TheVariants as answers
 use Rattle.size_bounds.specs.declared.table.Table.{Table}
@@ -33,9 +33,9 @@ why_in (Unsized why) = Some why
 -- why an answer gives no size
 abbrev pub why_by : SizeAnswer → Option NoSize
 why_by (answers.Found node facts) = None
-why_by (answers.Missing m) = Some (IsMissing (spot_of m))
-why_by (answers.Bent m) = Some (IsBent (spot_of m))
-why_by (answers.Untimed t) = Some (LacksTime t)
+why_by (answers.Missing m) = Some (SizeMissing (spot_of m))
+why_by (answers.Bent m) = Some (SizeBent (spot_of m))
+why_by (answers.Untimed t) = Some (SizeUntimed t)
 why_by (answers.Large n) = Some (SizeLarge n)
 
 -- why members without arms have no size

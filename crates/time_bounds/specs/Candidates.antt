@@ -7,9 +7,9 @@ use Rattle.outcome.specs.Views.{size_of}
 use Rattle.local_size.specs.LocalAnswers.{HasBound}
 use Rattle.local_size.specs.declared.answer.LocalAnswer.{LocalAnswer}
 use Rattle.local_size.specs.declared.answer.LocalAnswer.TheVariants as answers
-use Rattle.proof_nodes.specs.Nodes.{Spot, Member}
-use Rattle.proof_nodes.specs.AcceptsSizes.{HasMemberShape, HasCycleShape, AcceptsUp, AcceptsLow}
-use Rattle.proof_setting.specs.Setting.{setting_of}
+use Rattle.proof_tree.specs.proof_nodes.Nodes.{Spot, Member}
+use Rattle.proof_tree.specs.proof_nodes.AcceptsSizes.{HasMemberShape, HasCycleShape, AcceptsUp, AcceptsLow}
+use Rattle.proof_tree.specs.proof_setting.Setting.{setting_of}
 use Rattle.proof_tree.specs.Views.{spot_of, member_of}
 use Rattle.proof_tree.specs.declared.arm.Member as code
 use Rattle.rvg_components.specs.declared.component.Component.{Component}

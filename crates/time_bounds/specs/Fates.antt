@@ -4,12 +4,12 @@ use Rattle.std.specs.Prelude.{Option, Some, None, slice_index_or}
 use Rattle.std.specs.List.{range_with_len}
 use Rattle.model.specs.Programs.{Program}
 use Rattle.its_model.specs.declared.program.Rule.{Rule}
-use Rattle.proof_nodes.specs.AcceptsPlain.{IsRule}
+use Rattle.proof_tree.specs.proof_nodes.AcceptsPlain.{IsRule}
 use Rattle.proof_tree.specs.declared.answer.EmptyAnswer.{EmptyAnswer}
 use Rattle.proof_tree.specs.declared.answer.EmptyAnswer.TheVariants as answers
-use Rattle.rank_search.specs.RankAnswers.{answer_for}
-use Rattle.round_relation.specs.Searches.{Searches}
-use Rattle.round_relation.specs.Beginning.{IsEmpty, IsDead}
+use Rattle.rank_search.specs.rule_questions.RuleAnswers.{answer_for}
+use Rattle.size_bounds.specs.round_relation.Searches.{Searches}
+use Rattle.size_bounds.specs.round_relation.Beginning.{IsEmpty, IsDead}
 use Rattle.time_bounds.specs.declared.fates.Fate.{Fate}
 use Rattle.time_bounds.specs.declared.fates.Fate.TheVariants.{Empty, Unreached, Live}
 

@@ -1,12 +1,12 @@
 -- The lemmas before the first round, as plain data, and the places that a ranking function reads.
 use Rattle.std.specs.Prelude.{ℕ, zero, suc, ◌+◌, cond, List, [], ◌∷◌, ◌++◌, ℤ}
-use Rattle.int_laws.specs.NormalForm.{is_zero}
+use Rattle.its_model.specs.int_laws.NormalForm.{is_zero}
 use Rattle.std.specs.List.{range_with_len}
 use Rattle.model.specs.Programs.{Program, Rule, arity_of}
-use Rattle.proof_nodes.specs.Nodes as nodes
+use Rattle.proof_tree.specs.proof_nodes.Nodes as nodes
 use Rattle.proof_tree.specs.declared.answer.EmptyAnswer.{EmptyAnswer}
 use Rattle.proof_tree.specs.declared.answer.EmptyAnswer.TheVariants as answers
-use Rattle.round_relation.specs.Uses.{Numbers, cites}
+use Rattle.size_bounds.specs.round_relation.Uses.{Numbers, cites}
 use Rattle.time_bounds.specs.declared.fates.Fate.{Fate}
 use Rattle.time_bounds.specs.declared.fates.Fate.TheVariants.{Empty, Unreached, Live}
 use Rattle.proof_tree.specs.Views.{empty_of}

@@ -33,3 +33,7 @@ pub mod Written
 pub mod AnalysisLaws
 -- what is found can be printed
 pub mod PrintableLaws
+-- the crates below, which callers name through this one
+pub use Rattle.rank_search.specs.rule_questions
+pub use Rattle.rank_search.specs as rank_search
+pub use Rattle.size_bounds.specs.round_relation

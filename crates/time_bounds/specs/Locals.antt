@@ -4,9 +4,9 @@ use Rattle.std.specs.Prelude.{slice_get}
 use Rattle.std.specs.List.{All}
 use Rattle.model.specs.Programs.{Program, Rule, rule_at, arity_of}
 use Rattle.guard_prep.specs.Prepared.{Prepared}
-use Rattle.proof_nodes.specs.Nodes.{Spot}
+use Rattle.proof_tree.specs.proof_nodes.Nodes.{Spot}
 use Rattle.proof_tree.specs.declared.answer.EmptyAnswer.{EmptyAnswer}
-use Rattle.local_size.specs.LocalAnswers.{IsLocal, local_seen}
+use Rattle.local_size.specs.LocalAnswers.{IsLocal, local_answer_of}
 use Rattle.local_size.specs.declared.answer.LocalAnswer.{LocalAnswer}
 use Rattle.rvg_components.specs.Listing.{answers_for}
 use Rattle.time_bounds.specs.declared.fates.Fate.{Fate}
@@ -23,13 +23,13 @@ is_live_fate Live = true
 abbrev pub AreAnswersAt : Prepared → ℕ → ℕ → EmptyAnswer → ℕ → List LocalAnswer → Type 0
 AreAnswersAt m t pivots empty i [] = ⊤
 AreAnswersAt m t pivots empty i (a ∷ answers) =
-    IsLocal m (spot t i) pivots empty (local_seen a) × AreAnswersAt m t pivots empty (suc i) answers
+    IsLocal m (spot t i) pivots empty (local_answer_of a) × AreAnswersAt m t pivots empty (suc i) answers
 
 -- these are the answers for rule t of a program, where it is live: one for each place of its target
 pub record AreAnswersAfter (p : Program) (pivots t : ℕ) (f : Fate) (answers : List LocalAnswer) : Type 0 where
   pub long : (r : Rule) → rule_at p t ≡ Some r → f ≡ Live → length answers ≡ arity_of p r.target
   pub each : (i : ℕ) (a : LocalAnswer) → f ≡ Live → slice_get answers i ≡ Some a
-      → IsLocalOf p pivots t (suc i) (local_seen a)
+      → IsLocalOf p pivots t (suc i) (local_answer_of a)
 
 -- and so of each rule from k on, in order
 abbrev pub AreAllAnswers : Program → ℕ → ℕ → List Fate → List (List LocalAnswer) → Type 0

@@ -2,9 +2,9 @@
 use Rattle.std.specs.Prelude.{◌≡◌, ℕ, suc, ◌<◌, length, true, Some, None, slice_index_or}
 use Rattle.model.specs.Programs.{Program}
 use Rattle.its_graph.specs.Graphs.{HaveSameSets}
-use Rattle.rank_search.specs.ProgramQuestions.{places_of}
-use Rattle.round_relation.specs.Tables.{is_untimed}
-use Rattle.round_relation.specs.Sets.{IsSetOfRule, AreShutOf}
+use Rattle.rank_search.specs.rule_questions.ProgramQuestions.{places_of}
+use Rattle.size_bounds.specs.round_relation.Tables.{is_untimed}
+use Rattle.size_bounds.specs.round_relation.Sets.{IsSetOfRule, AreShutOf}
 use Rattle.size_bounds.specs.declared.table.Table.{Table}
 use Rattle.size_bounds.specs.Tables.{table_of}
 use Rattle.time_bounds.specs.declared.parts.OpenSet.{OpenSet}

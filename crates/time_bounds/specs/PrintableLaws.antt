@@ -5,9 +5,9 @@ use Rattle.model.specs.Bounds.{Bound}
 use Rattle.its_model.specs.Valid.{IsValid}
 use Rattle.bound_expr.specs.Numbers.{ReadsBelow}
 use Rattle.bound_expr.specs.Tidy.{IsTidy}
-use Rattle.proof_nodes.specs.Known.{Table}
-use Rattle.proof_setting.specs.Setting.{setting_of}
-use Rattle.round_relation.specs.Rounds.{IsMade}
+use Rattle.proof_tree.specs.proof_nodes.Known.{Table}
+use Rattle.proof_tree.specs.proof_setting.Setting.{setting_of}
+use Rattle.size_bounds.specs.round_relation.Rounds.{IsMade}
 use Rattle.time_bounds.specs.ProgramSearches.{searches_of_program}
 use Rattle.time_bounds.specs.ProgramSizes.{sizes_of_program}
 use Rattle.time_bounds.specs.Totals.{total_of}

@@ -8,11 +8,12 @@ use Rattle.proof_tree.specs.Views.{rank_of}
 use Rattle.proof_tree.specs.AnswerViews.{scaled_of, gap_of}
 use Rattle.rank_search.specs.declared.answer.RankAnswer.{RankAnswer}
 use Rattle.rank_search.specs.declared.answer.RankAnswer.TheVariants as ranks
-use Rattle.rank_search.specs.ProgramQuestions.{ranked_set}
-use Rattle.rank_search.specs.EmptyAnswers.{IsEmptyAnswer}
-use Rattle.rank_search.specs.RankAnswers.{AreEmptyAnswers, IsRankAnswer}
-use Rattle.round_relation.specs.Searches.{Searches, Emptiness, NoPoint, HasPoint, EmptyTripped, Ranking}
-use Rattle.round_relation.specs.Searches.{Ranked, Unranked, RankTripped}
+use Rattle.rank_search.specs.rule_questions.ProgramQuestions.{ranked_set}
+use Rattle.rank_search.specs.rule_questions.EmptyAnswers.{IsEmptyAnswer}
+use Rattle.rank_search.specs.rule_questions.RuleAnswers.{AreEmptyAnswers}
+use Rattle.rank_search.specs.RankAnswers.{IsRankAnswer}
+use Rattle.size_bounds.specs.round_relation.Searches.{Searches, Emptiness, NoPoint, HasPoint, EmptyTripped, Ranking}
+use Rattle.size_bounds.specs.round_relation.Searches.{Ranked, Unranked, RankTripped}
 
 -- an answer whether a rule's rows have a point, as plain data
 abbrev pub emptiness_of : EmptyAnswer → Emptiness

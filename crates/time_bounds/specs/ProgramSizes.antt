@@ -3,24 +3,24 @@ use Rattle.std.specs.Prelude.{◌≡◌, ◌↔◌, ℕ, Bool, true, false, List
 use Rattle.std.specs.List.{All}
 use Rattle.model.specs.Programs.{Program, Rule, rule_at}
 use Rattle.guard_prep.specs.Prepared.{prepared}
-use Rattle.outcome.specs.Reports.{NoSize, IsLoose, SizeTripped}
-use Rattle.proof_nodes.specs.Nodes.{Spot, Member}
-use Rattle.proof_nodes.specs.AcceptsPlain.{IsRule}
-use Rattle.proof_nodes.specs.AcceptsSizes.{AcceptsSpread, AcceptsCycle, spread_size, cycle_size}
-use Rattle.proof_nodes.specs.Checks.{spread_checks, cycle_checks}
-use Rattle.proof_nodes.specs.Known.{Table}
-use Rattle.proof_nodes.specs.Reasons.{Reason, IsFirstAmong}
-use Rattle.proof_nodes.specs.Setting.{Setting}
-use Rattle.proof_setting.specs.Setting.{setting_of}
+use Rattle.outcome.specs.Reports.{NoSize, SizeLoose, SizeTripped}
+use Rattle.proof_tree.specs.proof_nodes.Nodes.{Spot, Member}
+use Rattle.proof_tree.specs.proof_nodes.AcceptsPlain.{IsRule}
+use Rattle.proof_tree.specs.proof_nodes.AcceptsSizes.{AcceptsSpread, AcceptsCycle, spread_size, cycle_size}
+use Rattle.proof_tree.specs.proof_nodes.Checks.{spread_checks, cycle_checks}
+use Rattle.proof_tree.specs.proof_nodes.Known.{Table}
+use Rattle.proof_tree.specs.proof_nodes.Reasons.{Reason, IsFirstAmong}
+use Rattle.proof_tree.specs.proof_nodes.Setting.{Setting}
+use Rattle.proof_tree.specs.proof_setting.Setting.{setting_of}
 use Rattle.proof_tree.specs.declared.answer.EmptyAnswer.{EmptyAnswer}
-use Rattle.rank_search.specs.EmptyAnswers.{IsEmptyAnswer}
+use Rattle.rank_search.specs.rule_questions.EmptyAnswers.{IsEmptyAnswer}
 use Rattle.local_size.specs.LocalAnswers.{Local, HasBound, IsLooseOn, HasTripped, IsLocal}
 use Rattle.rvg_components.specs.Flows.{Locals, loops}
 use Rattle.rvg_components.specs.Listing.{AreComponents}
-use Rattle.round_relation.specs.Tables.{IsPlace}
-use Rattle.round_relation.specs.Searches.{SizeSearches, Sizing, Found, NotFound}
-use Rattle.round_relation.specs.Beginning.{IsEmpty, IsDead}
-use Rattle.round_relation.specs.RightSizes.{IsToldBy}
+use Rattle.size_bounds.specs.round_relation.Tables.{IsPlace}
+use Rattle.size_bounds.specs.round_relation.Searches.{SizeSearches, Sizing, Found, NotFound}
+use Rattle.size_bounds.specs.round_relation.Beginning.{IsEmpty, IsDead}
+use Rattle.size_bounds.specs.round_relation.RightSizes.{IsReasonFor}
 use Rattle.time_bounds.specs.ProgramSearches.{searches_of_program}
 
 -- the rules that are live: those that don't never run
@@ -54,7 +54,7 @@ AreLocalsOf p pivots local spots = All (λ m. IsLocalOf p pivots m.rule m.place 
 -- the reason of a place that is loose, or tripped
 abbrev pub loose_reason : Local → Option NoSize
 loose_reason (HasBound l) = None
-loose_reason (IsLooseOn side ray kept) = Some (IsLoose side ray kept)
+loose_reason (IsLooseOn side ray kept) = Some (SizeLoose side ray kept)
 loose_reason (HasTripped t) = None
 
 abbrev pub trip_reason : Local → Option NoSize
@@ -85,14 +85,14 @@ pub record AreMembers (local : Locals) (spots : List Spot) (members : List Membe
 abbrev pub IsSpreadSizing : Setting → Table → List Member → Sizing → Type 0
 IsSpreadSizing s tab [] answer = ⊥
 IsSpreadSizing s tab (m ∷ []) (Found b) = AcceptsSpread s tab m × (b ≡ s.rewrite (spread_size s tab m))
-IsSpreadSizing s tab (m ∷ []) (NotFound why) = (r : Reason) × IsToldBy why r × IsFirstAmong (spread_checks s tab m) r
+IsSpreadSizing s tab (m ∷ []) (NotFound why) = (r : Reason) × IsReasonFor why r × IsFirstAmong (spread_checks s tab m) r
 IsSpreadSizing s tab (m ∷ n ∷ members) answer = ⊥
 
 -- and of places that do
 abbrev pub IsCycleSizing : Setting → Table → List Member → Sizing → Type 0
 IsCycleSizing s tab members (Found b) = AcceptsCycle s tab members × (b ≡ s.rewrite (cycle_size s tab members))
 IsCycleSizing s tab members (NotFound why) =
-    (r : Reason) × IsToldBy why r × IsFirstAmong (cycle_checks s tab members) r
+    (r : Reason) × IsReasonFor why r × IsFirstAmong (cycle_checks s tab members) r
 
 abbrev pub IsSizingBy : Bool → Setting → Table → List Member → Sizing → Type 0
 IsSizingBy false s tab members answer = IsSpreadSizing s tab members answer

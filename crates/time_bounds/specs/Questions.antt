@@ -11,11 +11,12 @@ use Rattle.std.specs.List.{All}
 use Rattle.proof_tree.specs.Sizes.{IsShort}
 use Rattle.rank_search.specs.declared.answer.RankAnswer.{RankAnswer}
 use Rattle.rank_search.specs.declared.answer.RankAnswer.TheVariants as ranks
-use Rattle.rank_search.specs.EmptyAnswers.{IsEmptyAnswer, SaysEmpty}
-use Rattle.rank_search.specs.RankAnswers.{AreEmptyAnswers, IsRankAnswer, answer_for}
-use Rattle.rank_search.specs.ProgramQuestions.{ranked_set, places_of}
-use Rattle.round_relation.specs.Tables.{is_untimed}
-use Rattle.round_relation.specs.Sets.{IsSetOfRule, AreShutOf}
+use Rattle.rank_search.specs.rule_questions.EmptyAnswers.{IsEmptyAnswer, SaysEmpty}
+use Rattle.rank_search.specs.rule_questions.RuleAnswers.{AreEmptyAnswers, answer_for}
+use Rattle.rank_search.specs.RankAnswers.{IsRankAnswer}
+use Rattle.rank_search.specs.rule_questions.ProgramQuestions.{ranked_set, places_of}
+use Rattle.size_bounds.specs.round_relation.Tables.{is_untimed}
+use Rattle.size_bounds.specs.round_relation.Sets.{IsSetOfRule, AreShutOf}
 use Rattle.time_bounds.specs.declared.asking.Asked.{Asked}
 use Rattle.time_bounds.specs.declared.questions.Questions.{Questions}
 use Rattle.size_bounds.specs.declared.table.Table.{Table}

@@ -2,9 +2,9 @@
 use Rattle.std.specs.Prelude.{◌≡◌, ℕ, ◌+◌, ◌<◌, false, List, length}
 use Rattle.std.specs.List.{list_any}
 use Rattle.model.specs.Programs.{Program}
-use Rattle.proof_setting.specs.Setting.{setting_of}
+use Rattle.proof_tree.specs.proof_setting.Setting.{setting_of}
 use Rattle.proof_tree.specs.declared.answer.EmptyAnswer.{EmptyAnswer}
-use Rattle.round_relation.specs.Rounds.{Next}
+use Rattle.size_bounds.specs.round_relation.Rounds.{IsNextTable}
 use Rattle.size_bounds.specs.declared.table.Table.{Table}
 use Rattle.size_bounds.specs.Tables.{table_of}
 use Rattle.time_bounds.specs.declared.candidates.Candidate.{Candidate}
@@ -46,7 +46,7 @@ pub record AreKeptFor (p : Program) (pivots : ℕ) (empties : List EmptyAnswer) 
 -- a round found a bound, and this is kept
 pub record IsFurther (p : Program) (pivots : ℕ) (empties : List EmptyAnswer) (cs : List Candidate) (old new : Table)
     (kept : Kept) : Type 0 where
-  pub next : Next (searches_of_program p pivots) (sizes_of_program p pivots) (setting_of p) (table_of old)
+  pub next : IsNextTable (searches_of_program p pivots) (sizes_of_program p pivots) (setting_of p) (table_of old)
       (table_of new)
   pub table : IsTable p new empties
   pub places : HasPlaces p new

@@ -2,9 +2,9 @@
 use Rattle.std.specs.Prelude.{ℕ}
 use Rattle.model.specs.Programs.{Program}
 use Rattle.its_model.specs.Valid.{IsValid}
-use Rattle.proof_setting.specs.Setting.{setting_of}
-use Rattle.round_relation.specs.Right.{AreRight}
-use Rattle.round_relation.specs.RightSizes.{AreSizesRight}
+use Rattle.proof_tree.specs.proof_setting.Setting.{setting_of}
+use Rattle.size_bounds.specs.round_relation.Right.{AreRight}
+use Rattle.size_bounds.specs.round_relation.RightSizes.{AreSizesRight}
 use Rattle.time_bounds.specs.ProgramSearches.{searches_of_program}
 use Rattle.time_bounds.specs.ProgramSizes.{sizes_of_program}
 

@@ -4,9 +4,9 @@ use Rattle.std.specs.Prelude.{None, slice_set}
 use Rattle.std.specs.List.{list_any, range_with_len}
 use Rattle.model.specs.Programs.{Program, arity_of}
 use Rattle.model.specs.Paths.{target_of, same_symbol}
-use Rattle.proof_nodes.specs.Gaps.{SymbolPlace}
-use Rattle.proof_nodes.specs.Known.{Table}
-use Rattle.round_relation.specs.Tables.{lacks}
+use Rattle.proof_tree.specs.proof_nodes.Gaps.{SymbolPlace}
+use Rattle.proof_tree.specs.proof_nodes.Known.{Table}
+use Rattle.size_bounds.specs.round_relation.Tables.{lacks}
 
 -- the place has no size after one of these rules
 abbrev pub lacks_any : Table → List ℕ → ℕ → Bool

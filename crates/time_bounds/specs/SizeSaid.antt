@@ -7,7 +7,7 @@ use Rattle.outcome.specs.Views.{size_of}
 use Rattle.outcome.specs.declared.entry.Stored.{Stored}
 use Rattle.outcome.specs.declared.entry.SizeEntry.{SizeEntry}
 use Rattle.outcome.specs.declared.entry.SizeEntry.TheVariants as entries
-use Rattle.proof_nodes.specs.Nodes.{Spot}
+use Rattle.proof_tree.specs.proof_nodes.Nodes.{Spot}
 use Rattle.size_bounds.specs.declared.table.Table.{Table}
 use Rattle.size_bounds.specs.Tables.{entry_at, lemma_stored, numbers_of}
 use Rattle.time_bounds.specs.declared.candidates.Candidate.{Candidate}

@@ -2,7 +2,7 @@
 use Rattle.std.specs.Prelude.{◌≡◌, ℕ, List, [], ◌∷◌, Some, None, ⊤, slice_get}
 use Rattle.model.specs.Bounds.{Bound}
 use Rattle.model.specs.Programs.{Program}
-use Rattle.proof_nodes.specs.Known.{Table}
+use Rattle.proof_tree.specs.proof_nodes.Known.{Table}
 use Rattle.size_bounds.specs.declared.answer.SizeAnswer.{SizeAnswer}
 use Rattle.size_bounds.specs.declared.answer.SizeAnswer.TheVariants.{Found, Missing, Bent, Untimed, Large}
 use Rattle.time_bounds.specs.declared.candidates.Candidate.{Candidate}

@@ -7,9 +7,9 @@ use Rattle.model.specs.Bounds.{Bound}
 use Rattle.bound_expr.specs.Views.{bound_of}
 use Rattle.outcome.specs.Reports.{NoTime, Timed, Untimed}
 use Rattle.outcome.specs.declared.entry.Stored.{Stored}
-use Rattle.proof_setting.specs.Setting.{setting_of}
+use Rattle.proof_tree.specs.proof_setting.Setting.{setting_of}
 use Rattle.proof_tree.specs.declared.answer.EmptyAnswer.{EmptyAnswer}
-use Rattle.round_relation.specs.NewTimes.{SaysTime, Tells}
+use Rattle.size_bounds.specs.round_relation.NewTimes.{SaysTime, GivesTime}
 use Rattle.time_bounds.specs.declared.asking.Asked.{Asked}
 use Rattle.size_bounds.specs.declared.table.Table.{Table}
 use Rattle.time_bounds.specs.declared.trying.Tried.{Tried}
@@ -31,7 +31,7 @@ pub record IsMissing (p : Program) (tab : Table) (pivots : ℕ) (empties : List 
 abbrev pub IsTried : Program → Table → ℕ → List EmptyAnswer → ℕ → Tried → Type 0
 IsTried p tab pivots empties t Known = (b : Bound) × ((table_of tab).time t ≡ Some b)
 IsTried p tab pivots empties t (Found s) = ((table_of tab).time t ≡ None)
-    × Tells (searches_of_program p pivots) (setting_of p) (table_of tab) t (Timed (bound_of s.bound))
+    × GivesTime (searches_of_program p pivots) (setting_of p) (table_of tab) t (Timed (bound_of s.bound))
 IsTried p tab pivots empties t (Missing a) = ((table_of tab).time t ≡ None) × IsMissing p tab pivots empties t a
 
 -- of each rule from k on, in order

@@ -5,19 +5,19 @@ use Rattle.model.specs.Bounds.{Bound}
 use Rattle.bound_expr.specs.Views.{bound_of}
 use Rattle.outcome.specs.Reports.{Timed}
 use Rattle.outcome.specs.declared.entry.Stored.{Stored}
-use Rattle.proof_nodes.specs.Acceptance.{facts_of_lemmas}
-use Rattle.proof_nodes.specs.AcceptsRank.{rank_time}
-use Rattle.proof_nodes.specs.Nodes as nodes
-use Rattle.proof_nodes.specs.Nodes.{RankNode}
-use Rattle.proof_setting.specs.Setting.{setting_of}
+use Rattle.proof_tree.specs.proof_nodes.Acceptance.{facts_of_lemmas}
+use Rattle.proof_tree.specs.proof_nodes.AcceptsRank.{rank_time}
+use Rattle.proof_tree.specs.proof_nodes.Nodes as nodes
+use Rattle.proof_tree.specs.proof_nodes.Nodes.{RankNode}
+use Rattle.proof_tree.specs.proof_setting.Setting.{setting_of}
 use Rattle.proof_tree.specs.declared.proof.Proof.{Proof}
 use Rattle.proof_tree.specs.Views.{proof_of}
-use Rattle.round_relation.specs.Searches as searches
-use Rattle.round_relation.specs.LemmaOrder.{AreNumbersOf}
-use Rattle.round_relation.specs.NewTimes.{Asked, Composes}
-use Rattle.round_relation.specs.NewSizes.{has_spot}
-use Rattle.round_relation.specs.SizeLemmas.{IsSizeLemma, AreWholeLemmasOf}
-use Rattle.round_relation.specs.Uses.{uses_for, rank_needs}
+use Rattle.size_bounds.specs.round_relation.Searches as searches
+use Rattle.size_bounds.specs.round_relation.LemmaOrder.{AreNumbersOf}
+use Rattle.size_bounds.specs.round_relation.NewTimes.{AnsweredQuestion, Composes}
+use Rattle.size_bounds.specs.round_relation.NewSizes.{has_spot}
+use Rattle.size_bounds.specs.round_relation.SizeLemmas.{IsSizeLemma, AreWholeLemmasOf}
+use Rattle.size_bounds.specs.round_relation.Uses.{uses_for, rank_needs}
 use Rattle.size_bounds.specs.declared.answer.SizeAnswer.{SizeAnswer}
 use Rattle.size_bounds.specs.declared.answer.SizeAnswer.TheVariants as answers
 use Rattle.size_bounds.specs.declared.table.Table.{Table}
@@ -43,7 +43,7 @@ pub record AreWritten (p : Program) (pivots : ℕ) (tab : Table) (lemmas : List 
 pub record WritesTime (p : Program) (pivots n : ℕ) (tab : Table) (t : ℕ) (s : Stored) (proofs : List nodes.Proof)
     : Type 0 where
   pub number : s.lemma ≡ suc n
-  pub asked : Asked (searches_of_program p pivots) (setting_of p) (table_of tab) t
+  pub asked : AnsweredQuestion (searches_of_program p pivots) (setting_of p) (table_of tab) t
   pub node : RankNode
   pub ranked : asked.answer ≡ searches.Ranked node
   pub composed : Composes (setting_of p) (rank_time (setting_of p) node (table_of tab)) (Timed (bound_of s.bound))

@@ -1,4 +1,4 @@
-// The analysis of a program.
+//! The analysis of a program.
 
 ghost use Rattle.std.specs.Prelude.{IfOk, length};
 ghost use Rattle.its_model.specs.Valid.{IsValid};

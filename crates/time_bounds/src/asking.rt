@@ -1,4 +1,4 @@
-// The rank question of a rule, and its answer.
+//! The rank question of a rule, and its answer.
 
 ghost use Rattle.std.specs.Prelude.{◌≡◌, ◌<◌, ◌≤◌, length, true, IfOk, IfSome, OnOk, Some, None, slice_index_or, false};
 ghost use Rattle.its_model.specs.Valid.{IsValid};

@@ -1,11 +1,11 @@
-// The table before the first round: the virtual entry is known, and the rules that never run.
+//! The table before the first round: the virtual entry is known, and the rules that never run.
 
 ghost use Rattle.std.specs.Prelude.{◌≡◌, ℕ, ◌+◌, ◌-◌, ◌<◌, ◌≤◌, ◌^◌, ◌∷◌, length, map, replicate, IfOk, Some, None};
 ghost use Rattle.model.specs.Bounds.{Constant, Input};
 ghost use Rattle.model.specs.Programs.{arity_of};
 ghost use Rattle.its_model.specs.Valid.{IsValid};
 ghost use Rattle.its_model.specs.Views.{program_of};
-ghost use Rattle.round_relation.specs.Beginning.{First};
+ghost use Rattle.size_bounds.specs.round_relation.Beginning.{IsFirstTable};
 ghost use Rattle.time_bounds.specs.ProgramSearches.{searches_of_program};
 ghost use Rattle.size_bounds.specs.Tables.{bound_stored, lemma_stored, table_of};
 ghost use Rattle.time_bounds.specs.Beginning.{zero_by, first_times as first_times_of, first_sizes as first_sizes_of};

@@ -1,4 +1,4 @@
-// The components of places, with what the local answers of their members give once and for all.
+//! The components of places, with what the local answers of their members give once and for all.
 
 ghost use Rattle.std.specs.Prelude.{◌≡◌, ◌∷◌, [], ℕ, length, map, IfOk, Some, None, true, false};
 ghost use Rattle.std.specs.List.{All};

@@ -1,4 +1,4 @@
-// Rules that never run: those that are empty, and those that are unreached.
+//! Rules that never run: those that are empty, and those that are unreached.
 
 ghost use Rattle.std.specs.Prelude.{◌≡◌, ◌<◌, ◌-◌, ◌^◌, length, IfOk};
 ghost use Rattle.std.specs.List.{All};

@@ -1,14 +1,14 @@
-// The lemmas before the first round: of empty rules, of unreached ones, and of the sizes after both.
+//! The lemmas before the first round: of empty rules, of unreached ones, and of the sizes after both.
 
 ghost use Rattle.std.specs.Prelude.{◌≡◌, ◌+◌, ◌<◌, ◌≤◌, ◌-◌, ◌^◌, ◌++◌, length, map, IfOk, OnOk};
 ghost use Rattle.std.specs.List.{range_with_len};
 ghost use Rattle.its_model.specs.Valid.{IsValid};
 ghost use Rattle.its_model.specs.Views.{program_of};
-ghost use Rattle.proof_nodes.specs.Nodes.{Unreached, Never, Cite};
+ghost use Rattle.proof_tree.specs.proof_nodes.Nodes.{Unreached, Never, Cite};
 ghost use Rattle.proof_tree.specs.Views.{proof_of, empty_of};
-ghost use Rattle.round_relation.specs.Uses.{cites};
+ghost use Rattle.size_bounds.specs.round_relation.Uses.{cites};
 ghost use Rattle.time_bounds.specs.Beginning.{count_empty as count_empty_of};
-ghost use Rattle.size_bounds.specs.Lemmas.{uses_seen};
+ghost use Rattle.size_bounds.specs.Lemmas.{uses_of_proofs};
 ghost use Rattle.time_bounds.specs.Lemmas.{empty_here, empty_lemmas, unreached_here, unreached_by};
 ghost use Rattle.time_bounds.specs.Lemmas.{never_here, never_by};
 ghost use Rattle.size_bounds.specs.Tables.{numbers_of};
@@ -141,7 +141,7 @@ fn first_cited(alloc: Global, count: u32) -> Result<Vec<Proof>, Memory>
 
 // The lemma of an unreached rule, with what it rests on.
 fn unreached_lemma(alloc: Global, rule: u32, uses: Vec<Proof>) -> Result<Proof, Memory>
-    ensures { IfOk result (λ lemma. proof_of lemma ≡ Unreached rule (uses_seen uses.items)) }
+    ensures { IfOk result (λ lemma. proof_of lemma ≡ Unreached rule (uses_of_proofs uses.items)) }
 {
     Ok(Proof::Unreached(Box::new(alloc, UnreachedNode { rule, uses })?))
 }

@@ -1,4 +1,4 @@
-// How large the values at the places of live rules can be in one step.
+//! How large the values at the places of live rules can be in one step.
 
 ghost use Rattle.std.specs.Prelude.{◌≡◌, ℕ, ◌+◌, ◌<◌, length, map, IfOk, Some};
 ghost use Rattle.std.specs.Prelude.{slice_get};
@@ -6,7 +6,7 @@ ghost use Rattle.its_model.specs.Valid.{IsValid};
 ghost use Rattle.its_model.specs.Views.{program_of};
 ghost use Rattle.guard_prep.specs.Views.{prepared_of};
 ghost use Rattle.proof_tree.specs.declared.answer.EmptyAnswer.{EmptyAnswer};
-ghost use Rattle.rank_search.specs.EmptyAnswers.{IsPrepared, SaysEmpty};
+ghost use Rattle.rank_search.specs.rule_questions.EmptyAnswers.{IsPrepared, SaysEmpty};
 ghost use Rattle.rvg_components.specs.Listing.{answer_lists};
 ghost use Rattle.time_bounds.specs.declared.fates.Fate.TheVariants.{Live};
 ghost use Rattle.time_bounds.specs.ProgramSearches.{searches_of_program};

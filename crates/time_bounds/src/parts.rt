@@ -1,4 +1,4 @@
-// The sets of rules without a time, with their shut places: those of a component are made once in a round.
+//! The sets of rules without a time, with their shut places: those of a component are made once in a round.
 
 ghost use Rattle.std.specs.Prelude.{◌≡◌, IfOk, OnOk, Some, None, replicate, slice_index_or, true, false};
 ghost use Rattle.its_model.specs.Valid.{IsValid};

@@ -1,4 +1,4 @@
-// What is asked of a program: its graph, the rows of its rules, and whether they have a point.
+//! What is asked of a program: its graph, the rows of its rules, and whether they have a point.
 
 ghost use Rattle.std.specs.Prelude.{◌≡◌, ℕ, ◌<◌, ◌-◌, ◌^◌, length, map, IfOk};
 ghost use Rattle.std.specs.List.{All};
@@ -6,7 +6,7 @@ ghost use Rattle.model.specs.Programs.{Program as PlainProgram};
 ghost use Rattle.its_model.specs.Valid.{IsValid};
 ghost use Rattle.its_model.specs.Views.{program_of};
 ghost use Rattle.proof_tree.specs.Composing.{AreRowsOf};
-ghost use Rattle.rank_search.specs.EmptyAnswers.{IsPrepared};
+ghost use Rattle.rank_search.specs.rule_questions.EmptyAnswers.{IsPrepared};
 ghost use Rattle.time_bounds.specs.Questions.{AreAnswersFrom, AreQuestionsOf};
 
 use guard_prep::{RuleRows, rows};

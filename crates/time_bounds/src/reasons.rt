@@ -1,4 +1,4 @@
-// What an analysis says of each time: a bound, or why there is none.
+//! What an analysis says of each time: a bound, or why there is none.
 
 ghost use Rattle.std.specs.Prelude.{◌≡◌, ◌⊎◌, ℕ, ◌+◌, ◌<◌, ◌≤◌, ◌^◌, ◌++◌, ◌∷◌, [], length, map, true, false};
 ghost use Rattle.std.specs.Prelude.{IfOk, Some};
@@ -7,13 +7,13 @@ ghost use Rattle.its_model.specs.Valid.{IsValid};
 ghost use Rattle.its_model.specs.Views.{program_of};
 ghost use Rattle.outcome.specs.Views.{time_of};
 ghost use Rattle.outcome.specs.Printing.{HasItsGap};
-ghost use Rattle.round_relation.specs.Tables.{is_untimed};
+ghost use Rattle.size_bounds.specs.round_relation.Tables.{is_untimed};
 ghost use Rattle.time_bounds.specs.ProgramSearches.{searches_of_program};
 ghost use Rattle.size_bounds.specs.Tables.{table_of, numbers_of};
 ghost use Rattle.time_bounds.specs.Questions.{AreQuestionsOf};
 ghost use Rattle.time_bounds.specs.Tries.{IsTried, AreTried, IsMissing, is_found, IsGrown};
 ghost use Rattle.time_bounds.specs.declared.trying.Tried.TheVariants.{Missing};
-ghost use Rattle.time_bounds.specs.Analysis.{IsSaid, AreSaid, IsKnownTime};
+ghost use Rattle.time_bounds.specs.Analysis.{IsTimeOf, AreTimesOf, IsKnownTime};
 ghost use Rattle.time_bounds.specs.AnalysisLemmas.{CarriesTime, CarryTimes, AreGapsInOrder};
 
 use crate::asking::Asked;
@@ -50,7 +50,7 @@ pub(crate) fn said_of(
     requires nothing_new { list_any is_found tries.items ≡ false }
     requires few { length tries.items < 2 ^ 31 }
     ensures one_each { IfOk result (λ said. length said.times.items ≡ length tries.items) }
-    ensures said { IfOk result (λ said. AreSaid (searches_of_program (program_of p.now) q.now.pivots) (program_of p.now)
+    ensures said { IfOk result (λ said. AreTimesOf (searches_of_program (program_of p.now) q.now.pivots) (program_of p.now)
         (table_of table.now) 1 (map (time_of said.gaps.items) said.times.items)) }
     ensures gaps { IfOk result (λ said. All (HasItsGap (length said.gaps.items)) said.times.items) }
     ensures carried { IfOk result (λ said. CarryTimes (numbers_of table.now) 1 said.times.items) }
@@ -81,7 +81,7 @@ fn said_by(
     requires old { is_found tried ≡ false }
     requires few { length gaps.old.items + 1 < 2 ^ 32 }
     ensures grown { IfOk result (λ entry. IsGrown gaps.old.items gaps.new.items) }
-    ensures said { IfOk result (λ entry. IsSaid (searches_of_program (program_of p.now) q.now.pivots) (program_of p.now)
+    ensures said { IfOk result (λ entry. IsTimeOf (searches_of_program (program_of p.now) q.now.pivots) (program_of p.now)
         (table_of table.now) rule (time_of gaps.new.items entry)) }
     ensures gap { IfOk result (λ entry. HasItsGap (length gaps.new.items) entry) }
     ensures carries { IfOk result (λ entry. CarriesTime (numbers_of table.now) rule entry) }
@@ -125,7 +125,7 @@ fn no_time(
     requires missing { IsTried (program_of p.now) table.now q.now.pivots q.now.empties.items rule (Missing asked) }
     requires few { length gaps.old.items + 1 < 2 ^ 32 }
     ensures grown { IfOk result (λ entry. IsGrown gaps.old.items gaps.new.items) }
-    ensures said { IfOk result (λ entry. IsSaid (searches_of_program (program_of p.now) q.now.pivots) (program_of p.now)
+    ensures said { IfOk result (λ entry. IsTimeOf (searches_of_program (program_of p.now) q.now.pivots) (program_of p.now)
         (table_of table.now) rule (time_of gaps.new.items entry)) }
     ensures gap { IfOk result (λ entry. HasItsGap (length gaps.new.items) entry) }
     ensures carries { IfOk result (λ entry. CarriesTime (numbers_of table.now) rule entry) }

@@ -1,4 +1,4 @@
-// Rounds, up to the first that gives nothing new.
+//! Rounds, up to the first that gives nothing new.
 
 ghost use Rattle.std.specs.Prelude.{◌≡◌, ℕ, ◌+◌, ◌<◌, ◌≤◌, length, map, [], true, false, None, replicate, IfOk};
 ghost use Rattle.std.specs.List.{list_any};

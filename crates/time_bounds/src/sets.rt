@@ -1,4 +1,4 @@
-// The set of a rule without a time, and the places that a ranking function over it may not read.
+//! The set of a rule without a time, and the places that a ranking function over it may not read.
 
 ghost use Rattle.std.specs.Prelude.{◌≡◌, ◌<◌, ◌≤◌, ◌-◌, ◌^◌, ◌++◌, length, map, filter, suc, IfOk, IfSome};
 ghost use Rattle.std.specs.Prelude.{OnOk, Some, None, replicate};
@@ -6,8 +6,8 @@ ghost use Rattle.std.specs.List.{list_any, range_with_len};
 ghost use Rattle.model.specs.Paths.{target_of as target_of_rule, same_symbol};
 ghost use Rattle.its_model.specs.Valid.{IsValid};
 ghost use Rattle.its_model.specs.Views.{program_of};
-ghost use Rattle.rank_search.specs.ProgramQuestions.{places_of};
-ghost use Rattle.round_relation.specs.Sets.{AreShutOf};
+ghost use Rattle.rank_search.specs.rule_questions.ProgramQuestions.{places_of};
+ghost use Rattle.size_bounds.specs.round_relation.Sets.{AreShutOf};
 ghost use Rattle.model.specs.Entries.{entries as entries_of};
 ghost use Rattle.size_bounds.specs.Tables.{table_of, is_unstored};
 ghost use Rattle.time_bounds.specs.Questions.{AreUntimed};
@@ -155,7 +155,7 @@ fn leads_to(p: &Program, rule: u32, symbol: u32) -> bool
 }
 
 // Appends the places of a symbol that lack a size after one of these rules.
-#[tactic(auto, using(crate::proofs::Steps::place_pushed))]
+#[tactic(auto, using(crate::proofs::ShutByPlace::place_pushed))]
 fn push_shut(
     shut: &mut Vec<(u32, u32)>,
     table: &Table,

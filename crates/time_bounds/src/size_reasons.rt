@@ -1,4 +1,4 @@
-// What an analysis says of each size: a bound, or why there is none.
+//! What an analysis says of each size: a bound, or why there is none.
 
 ghost use Rattle.std.specs.Prelude.{◌≡◌, ◌<◌, ◌∷◌, [], length, map, IfOk, OnOk, Some, None};
 ghost use Rattle.std.specs.List.{All};

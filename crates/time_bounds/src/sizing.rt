@@ -1,4 +1,4 @@
-// The sizes of a round: each component of which a place has no size is tried, with the sizes found so far.
+//! The sizes of a round: each component of which a place has no size is tried, with the sizes found so far.
 
 ghost use Rattle.std.specs.Prelude.{◌≡◌, ◌+◌, ◌<◌, ◌^◌, ◌++◌, length, map, IfOk, IfSome, true};
 ghost use Rattle.std.specs.List.{list_any};
@@ -6,7 +6,7 @@ ghost use Rattle.its_model.specs.Valid.{IsValid};
 ghost use Rattle.its_model.specs.Views.{program_of};
 ghost use Rattle.proof_tree.specs.Views.{spot_of, proof_of};
 ghost use Rattle.rvg_components.specs.Flows.{Locals};
-ghost use Rattle.round_relation.specs.NewSizes.{is_unsized as is_unsized_of};
+ghost use Rattle.size_bounds.specs.round_relation.NewSizes.{is_unsized as is_unsized_of};
 ghost use Rattle.size_bounds.specs.Tables.{table_of};
 ghost use Rattle.time_bounds.specs.Questions.{AreQuestionsOf};
 ghost use Rattle.time_bounds.specs.Candidates.{IsCandidate, AreCandidatesOf, spots_in};

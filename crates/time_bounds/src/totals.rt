@@ -1,4 +1,4 @@
-// The total: the rewritten sum of all times.
+//! The total: the rewritten sum of all times.
 
 ghost use Rattle.std.specs.Prelude.{◌≡◌, None, Some, map, MatchOption, IfOk};
 ghost use Rattle.std.specs.Option.{option_map};

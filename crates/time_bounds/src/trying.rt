@@ -1,17 +1,17 @@
-// A round: each rule without a time is tried over what was known before.
+//! A round: each rule without a time is tried over what was known before.
 
 ghost use Rattle.std.specs.Prelude.{◌≡◌, ◌+◌, ◌-◌, ◌<◌, ◌≤◌, ◌^◌, ◌∷◌, ◌++◌, [], length, map, IfOk, OnOk, IfSome};
 ghost use Rattle.std.specs.Prelude.{MatchResult, slice_index_or, false, true};
 ghost use Rattle.std.specs.List.{All};
-ghost use Rattle.proof_nodes.specs.Nodes.{Rank};
+ghost use Rattle.proof_tree.specs.proof_nodes.Nodes.{Rank};
 ghost use Rattle.proof_tree.specs.Sizes.{IsShort};
 ghost use Rattle.proof_tree.specs.Views.{proof_of, rank_of};
 ghost use Rattle.its_model.specs.Valid.{IsValid};
 ghost use Rattle.its_model.specs.Views.{program_of};
-ghost use Rattle.round_relation.specs.Tables.{is_untimed};
-ghost use Rattle.round_relation.specs.Uses.{uses_for, rank_needs};
+ghost use Rattle.size_bounds.specs.round_relation.Tables.{is_untimed};
+ghost use Rattle.size_bounds.specs.round_relation.Uses.{uses_for, rank_needs};
 ghost use Rattle.size_bounds.specs.Tables.{table_of, numbers_of};
-ghost use Rattle.size_bounds.specs.Lemmas.{uses_seen};
+ghost use Rattle.size_bounds.specs.Lemmas.{uses_of_proofs};
 ghost use Rattle.time_bounds.specs.Parts.{AreParts};
 ghost use Rattle.time_bounds.specs.Questions.{AreQuestionsOf, AreUntimed, IsAnswered, IsAsked, AreKept, IsTable};
 ghost use Rattle.time_bounds.specs.Tries.{IsTried, AreTried, count_found, one_if_found};
@@ -181,7 +181,7 @@ fn push_lemma(
 
 // The lemma of a node, with what it rests on.
 fn rank_lemma(alloc: Global, node: RankNode, uses: Vec<Proof>) -> Result<Proof, Memory>
-    ensures { IfOk result (λ lemma. proof_of lemma ≡ Rank (rank_of node) (uses_seen uses.items)) }
+    ensures { IfOk result (λ lemma. proof_of lemma ≡ Rank (rank_of node) (uses_of_proofs uses.items)) }
 {
     let RankNode {
         rule,

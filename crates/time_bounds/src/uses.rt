@@ -1,4 +1,4 @@
-// What a ranking node rests on: the lemmas of the bounds that it needs.
+//! What a ranking node rests on: the lemmas of the bounds that it needs.
 
 ghost use Rattle.std.specs.Prelude.{◌≡◌, ◌-◌, ◌<◌, ◌^◌, ◌++◌, length, map};
 ghost use Rattle.std.specs.Prelude.{IfOk, OnOk};
@@ -6,16 +6,16 @@ ghost use Rattle.its_model.specs.Views.{program_of};
 ghost use Rattle.std.specs.List.{All};
 ghost use Rattle.proof_tree.specs.Views.{rank_of};
 ghost use Rattle.proof_tree.specs.Sizes.{IsShort};
-ghost use Rattle.round_relation.specs.Uses.{NeedsSize, read_places, entry_needs, rank_needs, number_of};
-ghost use Rattle.round_relation.specs.Uses.{uses_for};
+ghost use Rattle.size_bounds.specs.round_relation.Uses.{NeedsSize, read_places, entry_needs, rank_needs, number_of};
+ghost use Rattle.size_bounds.specs.round_relation.Uses.{uses_for};
 ghost use Rattle.size_bounds.specs.Tables.{numbers_of};
-ghost use Rattle.size_bounds.specs.Lemmas.{uses_seen};
+ghost use Rattle.size_bounds.specs.Lemmas.{uses_of_proofs};
 ghost use Rattle.time_bounds.specs.Lemmas.{read_here};
 
 use its_model::Program;
 use model::Memory;
 use proof_tree::{Proof, RankNode, entries, rank_form, target_of};
-use size_bounds::{Table, cited};
+use size_bounds::{Table, uses_of_lemmas};
 use std::alloc::Global;
 
 /// The uses of a ranking node over what is known: the virtual entry first, where it is needed, and then each other
@@ -29,11 +29,11 @@ pub(crate) fn uses_of(
 ) -> Result<Vec<Proof>, Memory>
     requires rules { length p.now.rules.items < 2 ^ 32 - 1 }
     requires few { All IsShort node.now.forms.items }
-    ensures { IfOk result (λ uses. uses_seen uses.items
+    ensures { IfOk result (λ uses. uses_of_proofs uses.items
         ≡ uses_for (numbers_of table.now) (rank_needs (program_of p.now) (rank_of node.now))) }
 {
     let needed = needed_lemmas(alloc, p, node, table)?;
-    cited(alloc, &needed)
+    uses_of_lemmas(alloc, &needed)
 }
 
 // The lemmas of the bounds that a node needs, in the order in which they come.

@@ -1,4 +1,4 @@
-// Writing values at places after rules, where there is none.
+//! Writing values at places after rules, where there is none.
 
 ghost use Rattle.std.specs.Prelude.{◌≡◌, map};
 ghost use Rattle.proof_tree.specs.declared.fact.Fact.TheVariants.{Size};

@@ -1,4 +1,4 @@
-use Rattle.proof_decision.proofs.Decided as lemmas
+use Rattle.proof_decision.proofs.FirstReasons as lemmas
 use Rattle.proof_decision.proofs.lemmas_are_decided.Goals as goal
 
 pub returns : goal.returns

@@ -1,4 +1,5 @@
-use Rattle.proof_decision.proofs.WorkedOrder.{rank_reasons_in_order, loop_reasons_in_order, size_reasons_in_order, plain_reasons_in_order}
+use Rattle.proof_decision.proofs.WorkedOrder.{rank_reasons_in_order, loop_reasons_in_order, size_reasons_in_order}
+use Rattle.proof_decision.proofs.WorkedOrder.{plain_reasons_in_order}
 use Rattle.proof_decision.proofs.reasons_are_as_worked_out.Goals as goal
 
 pub returns : goal.returns

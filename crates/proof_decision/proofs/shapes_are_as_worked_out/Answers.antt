@@ -1,4 +1,5 @@
-use Rattle.proof_decision.proofs.WorkedShapes.{shapes_refused, rank_limits_met, arm_limits_met, weaker_limits_met, first_facts_count}
+use Rattle.proof_decision.proofs.WorkedShapes.{shapes_refused, rank_limits_met, arm_limits_met, weaker_limits_met}
+use Rattle.proof_decision.proofs.WorkedShapes.{first_facts_count}
 use Rattle.proof_decision.proofs.shapes_are_as_worked_out.Goals as goal
 
 pub returns : goal.returns

@@ -1,4 +1,4 @@
-use Rattle.proof_nodes.proofs.Looping as lemmas
+use Rattle.proof_nodes.proofs.LoopGrowth as lemmas
 use Rattle.proof_nodes.proofs.loops_grow.Goals as goal
 
 pub returns : goal.returns

@@ -1,7 +1,7 @@
 use Rattle.std.proofs.Common.{List, All, sym, subst}
 use Rattle.its_model.specs.Views.{program_of}
 use Rattle.guard_prep.specs.declared.rule_rows.RuleRows.{RuleRows}
-use Rattle.rank_search.specs.EmptyAnswers.{IsPrepared}
+use Rattle.rank_search.specs.rule_questions.EmptyAnswers.{IsPrepared}
 use Rattle.time_bounds.proofs.RowLaws.{are_prepared}
 use Rattle.analysis_tests.proofs.locals.answer_in.Goals as goal
 

@@ -1,6 +1,7 @@
 use Rattle.std.proofs.Common.{ap, sym, ◌∙◌, map, string_bytes, drop, ◌+◌}
 use Rattle.asks.specs.Steps.{state_of}
-use Rattle.asks.proofs.StepLaws.{leads_on, leads_first, leads_nowhere, leads_to_end, leads_behind, leads_to_value, next_left, none_left, taken_here, refused_here}
+use Rattle.asks.proofs.StepLaws.{leads_on, leads_first, leads_nowhere, leads_to_end, leads_behind, leads_to_value}
+use Rattle.asks.proofs.StepLaws.{next_left, none_left, taken_here, refused_here}
 use Rattle.asks.proofs.line.read_line.Goals as goal
 
 pub loop-word-init : goal.loop-word-init

@@ -1,5 +1,5 @@
 use Rattle.std.proofs.Common.{◌≤◌, ℕ, ◌+◌, drop, List, ap, sym, ◌∙◌, subst}
-use Rattle.model.specs.Bounds.{Bound}
+use Rattle.bound_expr.specs.model.Bounds.{Bound}
 use Rattle.bound_expr.specs.Views.{bound_of, bounds_of}
 use Rattle.bound_expr.specs.Limits.{cap}
 use Rattle.bound_expr.specs.Capped.{capped}

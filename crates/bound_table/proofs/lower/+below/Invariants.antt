@@ -1,12 +1,12 @@
 use Rattle.std.proofs.Common.{ℕ, ◌≡◌, Bool, ◌||◌, ◌+◌, ◌*◌, ◌≤◌, ◌&&◌, false, drop}
 use Rattle.std.specs.Prelude.{replicate}
 use Rattle.std.specs.List.{list_any, list_all}
-use Rattle.model.specs.Bounds.{Bound}
+use Rattle.bound_expr.specs.model.Bounds.{Bound}
 use Rattle.bound_expr.specs.Views.{bound_of, bounds_of}
 use Rattle.bound_table.specs.declared.kinds.Pairing.{Pairing}
 use Rattle.bound_table.specs.declared.kinds.Pairing.TheVariants.{AsTerms, AsFactors}
 use Rattle.bound_table.specs.Kinds.{is_power_or_input, is_same_input}
-use Rattle.bound_table.specs.Below.{below, each_takes, taken, spare, term_below, factor_below}
+use Rattle.bound_table.specs.Below.{below, each_takes, matches, leftovers, term_below, factor_below}
 use Rattle.bound_table.specs.Taking.{marked, input_among}
 use Rattle.bound_table.proofs.BelowLevels.{bound_weight, factor_weight, factors_weight, bounds_weight}
 use Rattle.bound_table.proofs.lower.+below.Given as goal
@@ -83,21 +83,21 @@ abbrev pub invariant-factors_below-loop-other : goal.invariant-factors_below-loo
 invariant-factors_below-loop-other l = record {
   found : each_takes beneath (bounds_of l.left) (bounds_of (drop l.other-index l.others))
       ≡ each_takes beneath (bounds_of l.factors) (bounds_of l.others);
-  marks : marked l.marks (taken beneath (bounds_of l.left) (bounds_of (drop l.other-index l.others)))
-      ≡ marked (replicate 128 false) (taken beneath (bounds_of l.factors) (bounds_of l.others));
-  fit : (l.fit && list_all is_power_or_input (spare beneath (bounds_of l.left) (bounds_of (drop l.other-index l.others))))
-      ≡ list_all is_power_or_input (spare beneath (bounds_of l.factors) (bounds_of l.others));
+  marks : marked l.marks (matches beneath (bounds_of l.left) (bounds_of (drop l.other-index l.others)))
+      ≡ marked (replicate 128 false) (matches beneath (bounds_of l.factors) (bounds_of l.others));
+  fit : (l.fit && list_all is_power_or_input (leftovers beneath (bounds_of l.left) (bounds_of (drop l.other-index l.others))))
+      ≡ list_all is_power_or_input (leftovers beneath (bounds_of l.factors) (bounds_of l.others));
   light : factors_weight (bounds_of l.left) ≤ factors_weight (bounds_of l.factors);
 }
 
 abbrev pub invariant-inputs_taken-loop-other : goal.invariant-inputs_taken-loop-other
 invariant-inputs_taken-loop-other l =
-    let ts = taken beneath (bounds_of l.factors) (bounds_of l.others) in
+    let ts = matches beneath (bounds_of l.factors) (bounds_of l.others) in
     list_all (input_among ts) (bounds_of (drop l.other-index l.others)) ≡ list_all (input_among ts) (bounds_of l.others)
 
 abbrev pub invariant-is_among_taken-loop-other : goal.invariant-is_among_taken-loop-other
 invariant-is_among_taken-loop-other l = record {
-  found : (l.found || list_any (is_same_input (bound_of l.input)) (taken beneath (bounds_of l.left) (bounds_of (drop l.other-index l.others))))
-      ≡ list_any (is_same_input (bound_of l.input)) (taken beneath (bounds_of l.factors) (bounds_of l.others));
+  found : (l.found || list_any (is_same_input (bound_of l.input)) (matches beneath (bounds_of l.left) (bounds_of (drop l.other-index l.others))))
+      ≡ list_any (is_same_input (bound_of l.input)) (matches beneath (bounds_of l.factors) (bounds_of l.others));
   light : factors_weight (bounds_of l.left) ≤ factors_weight (bounds_of l.factors);
 }

@@ -1,5 +1,5 @@
 use Rattle.std.proofs.Common.{take, List, ap, sym, ◌∙◌}
-use Rattle.model.specs.Bounds.{Parts}
+use Rattle.bound_expr.specs.model.Bounds.{Parts}
 use Rattle.bound_expr.specs.declared.bound.Bound.{Bound}
 use Rattle.bound_expr.specs.Views.{bound_of, bounds_of, parts_of}
 use Rattle.bound_expr.specs.Views.{with_part}

@@ -1,6 +1,6 @@
 use Rattle.std.proofs.Common.{◌≡◌, false}
 use Rattle.std.proofs.lemmas.Result.{IfOk-weaker}
-use Rattle.model.specs.Bounds.{Bound}
+use Rattle.bound_expr.specs.model.Bounds.{Bound}
 use Rattle.bound_expr.specs.Views.{bound_of}
 use Rattle.bound_expr.specs.Measure.{is_large}
 use Rattle.bound_expr.specs.Tidy.{IsTidy}

@@ -1,7 +1,8 @@
 use Rattle.std.proofs.Common.{arith}
 use Rattle.bound_text.specs.Printing.{before_of, separator_of}
 use Rattle.bound_expr.specs.Views.{bound_of}
-use Rattle.bound_text.proofs.DepthLaws.{sum_marked, product_marked, maximum_marked, power_marked, other_marked, factors_on, factors_done, parts_done}
+use Rattle.bound_text.proofs.DepthLaws.{sum_marked, product_marked, maximum_marked, power_marked, other_marked}
+use Rattle.bound_text.proofs.DepthLaws.{factors_on, factors_done, parts_done}
 use Rattle.bound_text.proofs.depths.+mark.Goals as goal
 
 pub mark_bound-returns-in-Sum : goal.mark_bound-returns-in-Sum

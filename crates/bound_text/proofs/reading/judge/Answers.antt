@@ -1,6 +1,6 @@
 use Rattle.std.proofs.Common.{refl, sym, subst, ap, ◌∙◌, map, length, List, Err}
 use Rattle.std.proofs.lemmas.List.{length-map}
-use Rattle.model.specs.Programs as plain
+use Rattle.text_core.specs.model.Programs as plain
 use Rattle.text_core.specs.Names.{name_of}
 use Rattle.text_core.specs.Reading.{answer}
 use Rattle.text_core.proofs.PositionLaws.{names_distinct}
@@ -10,7 +10,8 @@ use Rattle.bound_text.specs.Lexing.{tokens, lexeme_at}
 use Rattle.bound_text.specs.Reading.{bounds}
 use Rattle.bound_text.specs.Views.{front_of, Says}
 use Rattle.bound_text.specs.declared.error.BoundTextError.{BoundTextError}
-use Rattle.bound_text.proofs.ReadingLaws.{Decides, decides_first, decides_on, decides_not, settled_front, says_passed_on}
+use Rattle.bound_text.proofs.ReadingLaws.{Decides, decides_first, decides_on, decides_not, settled_front}
+use Rattle.bound_text.proofs.ReadingLaws.{says_passed_on}
 use Rattle.bound_text.proofs.reading.judge.Goals as goal
 
 pub new-requires : goal.new-requires

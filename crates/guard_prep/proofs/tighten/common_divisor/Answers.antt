@@ -5,9 +5,10 @@ use Rattle.std.specs.List.{AllByRecursion}
 use Rattle.std.proofs.lemmas.Bool.{cases_eq}
 use Rattle.std.proofs.lemmas.List.{take_more, take_all}
 use Rattle.std.proofs.lemmas.Int.{to_z_pos, to_z-of_z, fits_signed_from_abs}
-use Rattle.model.specs.Limits.{coefficient_limit}
-use Rattle.linear_forms.specs.Sizes.{total_size}
-use Rattle.guard_prep.proofs.DivisorLaws.{IsDivisorOf, divisor-more, divisor-is, divisor-small, divisor-none-left, all-at}
+use Rattle.poly_terms.specs.model.Limits.{coefficient_limit}
+use Rattle.poly_terms.specs.linear_forms.Sizes.{total_size}
+use Rattle.guard_prep.proofs.DivisorLaws.{IsDivisorOf, divisor-more, divisor-is, divisor-small, divisor-none-left}
+use Rattle.guard_prep.proofs.DivisorLaws.{all-at}
 use Rattle.guard_prep.proofs.tighten.common_divisor.Goals as goal
 
 -- the divisor of all coefficients

@@ -3,7 +3,7 @@ use Rattle.std.specs.Prelude.{ℤ, pos}
 use Rattle.std.specs.Int.{w128, cast_signed, cast_unsigned}
 use Rattle.std.proofs.lemmas.Int.{to_z-of_z}
 use Rattle.std.proofs.lemmas.List.{map-append}
-use Rattle.linear_forms.specs.Forms.{Form}
+use Rattle.poly_terms.specs.linear_forms.Forms.{Form}
 use Rattle.poly_terms.specs.Views.{form_of}
 use Rattle.guard_prep.specs.Tightening.{divisor_of}
 use Rattle.guard_prep.proofs.TighteningLaws.{divided-is}

@@ -1,4 +1,5 @@
-use Rattle.std.proofs.Common.{◌≡◌, ℕ, ◌<◌, ◌⊎◌, List, [], All, Contains, length, get_or, arith, refl, sym, ◌∙◌, subst, ap}
+use Rattle.std.proofs.Common.{◌≡◌, ℕ, ◌<◌, ◌⊎◌, List, [], All, Contains, length, get_or, arith, refl, sym, ◌∙◌, subst}
+use Rattle.std.proofs.Common.{ap}
 use Rattle.std.proofs.lemmas.Result.{on_ok_weaker}
 use Rattle.model.specs.Paths.{Here}
 use Rattle.its_graph.specs.declared.flood.TheConstants.{UNKNOWN, CANDIDATE, KNOWN}

@@ -6,7 +6,8 @@ use Rattle.its_graph.specs.Components.{IsListing}
 use Rattle.its_graph.specs.Classes.{AreLeaders}
 use Rattle.its_graph.specs.Orders.{Needs, AreLeadersInOrder}
 use Rattle.its_graph.specs.Members.{AreMembers}
-use Rattle.its_graph.proofs.Membership.{found-listing, order-few, order-within, leaders-within, order-distinct, order-all, ok-both}
+use Rattle.its_graph.proofs.Membership.{found-listing, order-few, order-within, leaders-within, order-distinct}
+use Rattle.its_graph.proofs.Membership.{order-all, ok-both}
 use Rattle.its_graph.proofs.listing.components_below.Goals as goal
 
 -- leaders are leaders by whatever name they are read

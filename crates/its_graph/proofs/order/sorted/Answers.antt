@@ -1,5 +1,5 @@
 use Rattle.its_graph.proofs.Sorting.{begins}
-use Rattle.its_graph.proofs.Chains.{all_listed}
+use Rattle.its_graph.proofs.AllLeadersListed.{all_listed}
 use Rattle.its_graph.proofs.order.sorted.Goals as goal
 
 pub settle_all-requires-clause-sorting : goal.settle_all-requires-clause-sorting

@@ -1,8 +1,8 @@
 use Rattle.std.proofs.Common.{◌≡◌, ◌++◌, length, map, ap, sym, ◌∙◌, subst, arith}
 use Rattle.std.specs.Prelude.{Some, None, Result, Ok, Err, MatchResult, IfOk}
-use Rattle.model.specs.Terms.{value}
-use Rattle.model.specs.Programs as plain
-use Rattle.model.specs.Runs as runs
+use Rattle.poly_terms.specs.model.Terms.{value}
+use Rattle.poly_terms.specs.model.Programs as plain
+use Rattle.poly_terms.specs.model.Runs as runs
 use Rattle.its_model.specs.declared.step_error.StepError.{StepError}
 use Rattle.its_model.specs.StepAnswers.{fault_of}
 use Rattle.its_model.specs.Steps.{rule_fault}

@@ -1,6 +1,6 @@
 use Rattle.std.proofs.Common.{◌≡◌, ◌≤◌, ◌++◌, drop, map, length}
 use Rattle.std.specs.Prelude.{vec_len, vec_capacity}
-use Rattle.model.specs.Terms.{value}
+use Rattle.poly_terms.specs.model.Terms.{value}
 use Rattle.poly_terms.specs.Views.{term_of}
 use Rattle.its_model.specs.Steps.{updates_fault}
 use Rattle.its_model.proofs.step.update.Given as goal

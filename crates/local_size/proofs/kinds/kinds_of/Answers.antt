@@ -1,5 +1,5 @@
 use Rattle.std.proofs.Common.{◌≡◌, refl, sym, subst, ap, ◌∙◌, ◌++◌, ◌∷◌, [], List, Bool, map}
-use Rattle.rule_forms.specs.Kinds.{kinds_for}
+use Rattle.proof_tree.specs.rule_forms.Kinds.{kinds_for}
 use Rattle.local_size.specs.declared.kinds.Kind.{Kind}
 use Rattle.local_size.specs.Asking.{kind_of}
 use Rattle.local_size.proofs.KindLists.{kinds-together}

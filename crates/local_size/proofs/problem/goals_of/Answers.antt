@@ -1,7 +1,7 @@
 use Rattle.std.proofs.Common.{◌≡◌, ℕ, ◌≤◌, ◌+◌, refl, sym, subst, arith, length}
 use Rattle.std.proofs.lemmas.List.Elements.{All-get_or}
-use Rattle.linear_forms.specs.RuleQuestions.{before_rule}
-use Rattle.rank_search.proofs.GoalForms.{Ascend, ascend-more, goal-pushed, are-parameters}
+use Rattle.simplex_core.specs.linear_forms.RuleQuestions.{before_rule}
+use Rattle.rule_questions.proofs.GoalForms.{Ascend, ascend-more, goal-pushed, are-parameters}
 use Rattle.local_size.proofs.Problems.{goals-pushed}
 use Rattle.local_size.proofs.problem.goals_of.Goals as goal
 

@@ -1,7 +1,7 @@
 use Rattle.std.proofs.Common.{◌≡◌, map, take}
-use Rattle.linear_forms.specs.RuleQuestions.{before_rule}
+use Rattle.simplex_core.specs.linear_forms.RuleQuestions.{before_rule}
 use Rattle.lp_builder.specs.Descriptions.{goal_forms}
-use Rattle.rank_search.proofs.GoalForms.{Ascend}
+use Rattle.rule_questions.proofs.GoalForms.{Ascend}
 use Rattle.local_size.specs.Asking.{AreWritableWithin}
 use Rattle.local_size.proofs.problem.goals_of.Given as goal
 

@@ -1,15 +1,15 @@
 use Rattle.std.proofs.Common.{◌≡◌, ℕ, ap, sym, subst, ◌∙◌, arith, length, map, List, nat_eq, if◌then◌else◌}
 use Rattle.std.proofs.lemmas.Result.{IfOk-weaker}
-use Rattle.linear_forms.specs.Forms.{Form}
-use Rattle.linear_forms.specs.Combinations.{form_sum}
-use Rattle.linear_forms.specs.RuleQuestions.{before_rule, opposite}
-use Rattle.linear_forms.proofs.SolutionLaws.{length-map}
+use Rattle.simplex_core.specs.linear_forms.Forms.{Form}
+use Rattle.simplex_core.specs.linear_forms.Combinations.{form_sum}
+use Rattle.simplex_core.specs.linear_forms.RuleQuestions.{before_rule, opposite}
+use Rattle.simplex_core.proofs.linear_forms.SolutionLaws.{length-map}
 use Rattle.poly_terms.specs.declared.poly.Row.{Row}
 use Rattle.poly_terms.specs.Views.{form_of}
 use Rattle.lp_builder.specs.declared.description.Cost.{Cost}
 use Rattle.lp_builder.specs.Descriptions.{goal_forms, AreParameters}
-use Rattle.rank_search.specs.Goals.{IsSmall}
-use Rattle.rank_search.proofs.EmptyProblems.{few-unknowns, few-rows}
+use Rattle.rule_questions.specs.SmallForms.{IsSmall}
+use Rattle.rule_questions.proofs.EmptyProblems.{few-unknowns, few-rows}
 use Rattle.local_size.specs.Asking.{kind_of, AreWritableWithin}
 use Rattle.local_size.proofs.Problems.{sought-few, group-writable, problem-built}
 use Rattle.local_size.proofs.QuestionRows.{fixed-small}

@@ -1,9 +1,9 @@
 use Rattle.std.proofs.Common.{◌≡◌, ℕ, ◌+◌, ◌*◌, ap, ◌∙◌, arith, List}
 use Rattle.std.specs.Prelude.{ℤ, pos, nat_abs}
 use Rattle.std.proofs.lemmas.Int.{ints}
-use Rattle.linear_forms.specs.Forms.{at}
-use Rattle.linear_forms.specs.Questions.{listed}
-use Rattle.linear_forms.specs.QuestionLaws.{parameters_of}
+use Rattle.simplex_core.specs.linear_forms.Forms.{at}
+use Rattle.simplex_core.specs.linear_forms.Questions.{listed}
+use Rattle.simplex_core.specs.linear_forms.QuestionLaws.{parameters_of}
 use Rattle.local_size.specs.Asking.{kind_of, coefficient_of, constant_of}
 use Rattle.local_size.proofs.Readings.{form-is, arm-is}
 use Rattle.local_size.proofs.reading.arm_from.Goals as goal

@@ -1,9 +1,9 @@
 use Rattle.std.proofs.Common.{arith}
 use Rattle.std.specs.Prelude.{pos}
 use Rattle.std.proofs.lemmas.Int.{ints}
-use Rattle.linear_forms.specs.Forms.{at}
-use Rattle.linear_forms.specs.QuestionLaws.{parameters_of}
-use Rattle.rank_search.proofs.Lists.{listed-pushed}
+use Rattle.simplex_core.specs.linear_forms.Forms.{at}
+use Rattle.simplex_core.specs.linear_forms.QuestionLaws.{parameters_of}
+use Rattle.rule_questions.proofs.Lists.{listed-pushed}
 use Rattle.local_size.specs.Asking.{kind_of, coefficient_of}
 use Rattle.local_size.proofs.reading.coefs_from.Goals as goal
 

@@ -1,8 +1,8 @@
 use Rattle.std.proofs.Common.{◌≡◌}
 use Rattle.std.specs.Prelude.{pos}
-use Rattle.linear_forms.specs.Forms.{at}
-use Rattle.linear_forms.specs.Questions.{listed}
-use Rattle.linear_forms.specs.QuestionLaws.{parameters_of}
+use Rattle.simplex_core.specs.linear_forms.Forms.{at}
+use Rattle.simplex_core.specs.linear_forms.Questions.{listed}
+use Rattle.simplex_core.specs.linear_forms.QuestionLaws.{parameters_of}
 use Rattle.local_size.specs.Asking.{kind_of, coefficient_of}
 use Rattle.local_size.proofs.reading.coefs_from.Given as goal
 

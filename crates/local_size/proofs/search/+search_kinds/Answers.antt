@@ -1,7 +1,7 @@
 use Rattle.std.proofs.Common.{◌∙◌, ap, sym, subst, arith, length, List}
 use Rattle.std.specs.List.{All}
 use Rattle.std.proofs.lemmas.List.Elements.{All-tail}
-use Rattle.rule_forms.specs.Questions.{IsKindOf}
+use Rattle.proof_tree.specs.rule_forms.Questions.{IsKindOf}
 use Rattle.local_size.specs.declared.kinds.Kind.{Kind}
 use Rattle.local_size.specs.Asking.{kind_of}
 use Rattle.local_size.proofs.KindLists.{some-left}

@@ -1,5 +1,5 @@
-use Rattle.std.proofs.Common.{◌≡◌, subst, arith, length, map}
-use Rattle.linear_forms.proofs.SolutionLaws.{length-map}
+use Rattle.std.proofs.Common.{◌≡◌, refl, subst, arith, length, map}
+use Rattle.simplex_core.proofs.linear_forms.SolutionLaws.{length-map}
 use Rattle.guard_prep.specs.Views.{prepared_of}
 use Rattle.poly_terms.specs.Views.{form_of}
 use Rattle.proof_tree.specs.Views.{arm_of}
@@ -57,4 +57,4 @@ returns c =
     let h = subst (λ (a : Answer). IsWholeAnswer
     (program_of p) c.args.pivots a) c.in-Tripped.is c.in_ok-solution.ensures in
     limit-passed (local_forms (prepared_of c.args.prep.now)) (form_of c.args.value.now) (kind_of c.args.kind)
-    c.args.pivots p c.in_ok-problem.ensures c.in-Tripped.cause _ h c.told.ensures
+    c.args.pivots p c.in_ok-problem.ensures c.in-Tripped.cause _ h refl

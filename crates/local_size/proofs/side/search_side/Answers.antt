@@ -3,7 +3,7 @@ use Rattle.std.proofs.lemmas.Result.{IfOk-weaker}
 use Rattle.guard_prep.specs.Views.{prepared_of}
 use Rattle.poly_terms.specs.Views.{form_of}
 use Rattle.local_size.specs.declared.side.Side.{Side}
-use Rattle.local_size.specs.Asking.{IsValue, side_of, sought_of}
+use Rattle.local_size.specs.Asking.{IsValue, side_of, side_outcome_of}
 use Rattle.local_size.specs.Places.{is_bent_at, value_on}
 use Rattle.local_size.proofs.KindLists.{kinds-allowed}
 use Rattle.local_size.proofs.Searches.{side-comes}
@@ -24,7 +24,7 @@ pub returns-in-Up : goal.returns-in-Up
 returns-in-Up c =
     IfOk-weaker c.search_kinds.result _ _
     (λ a h. side-comes (prepared_of c.args.prep.now) c.args.place c.args.pivots (side_of c.args.side)
-    (form_of c.index-value.result.now) c.args.kinds.now (sought_of a)
+    (form_of c.index-value.result.now) c.args.kinds.now (side_outcome_of a)
     (subst (λ (s : Side). form_of c.index-value.result.now
     ≡ value_on (side_of s) (prepared_of c.args.prep.now) c.args.place) (sym c.in-Up.is)
     (value-up-is c.args.prep.now c.requires.prepared c.args.place c.index-value.result.now c.requires.place.0
@@ -51,7 +51,7 @@ pub returns-in_ok-negation-in-Low : goal.returns-in_ok-negation-in-Low
 returns-in_ok-negation-in-Low c =
     IfOk-weaker c.search_kinds-in-Low.result _ _
     (λ a h. side-comes (prepared_of c.args.prep.now) c.args.place c.args.pivots (side_of c.args.side)
-    (form_of c.in_ok-negation-in-Low.negation) c.args.kinds.now (sought_of a)
+    (form_of c.in_ok-negation-in-Low.negation) c.args.kinds.now (side_outcome_of a)
     (subst (λ (s : Side). form_of c.in_ok-negation-in-Low.negation
     ≡ value_on (side_of s) (prepared_of c.args.prep.now) c.args.place) (sym c.in-Low.is)
     (value-low-is c.args.prep.now c.requires.prepared c.args.place c.index-value.result.now c.requires.place.0

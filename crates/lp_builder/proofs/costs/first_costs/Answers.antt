@@ -3,7 +3,7 @@ use Rattle.std.specs.Prelude.{ℤ, pos}
 use Rattle.std.specs.Int.{w128}
 use Rattle.std.proofs.lemmas.Result.{IfOk-weaker}
 use Rattle.std.proofs.lemmas.List.{take_all}
-use Rattle.linear_forms.specs.Questions.{on_both}
+use Rattle.simplex_core.specs.linear_forms.Questions.{on_both}
 use Rattle.lp_builder.specs.declared.description.Cost.{Cost}
 use Rattle.lp_builder.proofs.CostLists.{first-step}
 use Rattle.lp_builder.proofs.costs.first_costs.Goals as goal

@@ -1,5 +1,5 @@
 use Rattle.std.proofs.Common.{◌≡◌, map, take}
-use Rattle.linear_forms.specs.Questions.{on_both}
+use Rattle.simplex_core.specs.linear_forms.Questions.{on_both}
 use Rattle.lp_builder.proofs.costs.first_costs.Given as goal
 
 -- the costs of the parameters so far

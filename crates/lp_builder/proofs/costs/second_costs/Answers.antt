@@ -3,7 +3,7 @@ use Rattle.std.specs.Prelude.{ℤ, pos}
 use Rattle.std.specs.Int.{w128}
 use Rattle.std.proofs.lemmas.Result.{IfOk-weaker}
 use Rattle.std.proofs.lemmas.List.{take_all}
-use Rattle.linear_forms.specs.Questions.{on_plus}
+use Rattle.simplex_core.specs.linear_forms.Questions.{on_plus}
 use Rattle.lp_builder.specs.declared.description.Cost.{Cost}
 use Rattle.lp_builder.proofs.CostLists.{second-step}
 use Rattle.lp_builder.proofs.costs.second_costs.Goals as goal

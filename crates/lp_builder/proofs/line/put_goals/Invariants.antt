@@ -1,6 +1,6 @@
 use Rattle.std.proofs.Common.{◌≡◌, ℕ, ◌+◌, ◌*◌, ◌≤◌, List, ◌++◌, map, drop, Some}
 use Rattle.std.specs.Prelude.{ℤ, slice_get}
-use Rattle.linear_forms.specs.Questions.{number, signed}
+use Rattle.simplex_core.specs.linear_forms.Questions.{number, signed}
 use Rattle.lp_builder.specs.declared.description.Goal.{Goal}
 use Rattle.lp_builder.specs.Descriptions.{goal_forms}
 use Rattle.lp_builder.specs.Entries.{Writes}

@@ -4,8 +4,8 @@ use Rattle.std.specs.Int.{w128}
 use Rattle.std.proofs.lemmas.Int.{to_z-of_z}
 use Rattle.std.proofs.lemmas.List.{length-replicate}
 use Rattle.std.proofs.lemmas.Result.{IfOk-weaker}
-use Rattle.linear_forms.specs.Forms.{Form}
-use Rattle.linear_forms.specs.Questions.{number, signed, slack}
+use Rattle.simplex_core.specs.linear_forms.Forms.{Form}
+use Rattle.simplex_core.specs.linear_forms.Questions.{number, signed, slack}
 use Rattle.poly_terms.specs.Views.{form_of}
 use Rattle.lp_builder.specs.Descriptions.{goal_forms}
 use Rattle.lp_builder.proofs.Pieces.{line-pieces, slack-behind}

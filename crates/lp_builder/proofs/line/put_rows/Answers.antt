@@ -2,8 +2,8 @@ use Rattle.std.proofs.Common.{◌≤◌, arith, sym, ◌∙◌, length, subst}
 use Rattle.std.specs.Prelude.{ℤ, neg_ℤ}
 use Rattle.std.specs.Int.{w128}
 use Rattle.std.proofs.lemmas.Int.{to_z-of_z}
-use Rattle.linear_forms.specs.Forms.{Form}
-use Rattle.linear_forms.specs.Questions.{number}
+use Rattle.simplex_core.specs.linear_forms.Forms.{Form}
+use Rattle.simplex_core.specs.linear_forms.Questions.{number}
 use Rattle.poly_terms.specs.declared.poly.Row.{Row}
 use Rattle.poly_terms.specs.Views.{form_of}
 use Rattle.lp_builder.specs.Descriptions.{IsWritable}

@@ -1,6 +1,6 @@
 use Rattle.std.proofs.Common.{◌≡◌, ◌+◌, map, take}
 use Rattle.std.specs.Prelude.{neg_ℤ}
-use Rattle.linear_forms.specs.Questions.{number}
+use Rattle.simplex_core.specs.linear_forms.Questions.{number}
 use Rattle.poly_terms.specs.Views.{form_of}
 use Rattle.lp_builder.specs.Entries.{Writes}
 use Rattle.lp_builder.proofs.line.put_rows.Given as goal

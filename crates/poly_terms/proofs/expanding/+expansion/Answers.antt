@@ -13,7 +13,8 @@ use Rattle.poly_terms.specs.Views.{term_of, poly_of}
 use Rattle.poly_terms.specs.Answers.{Says, Answers}
 use Rattle.poly_terms.proofs.OrderLaws.{expanded-ordered, ascending-opposite}
 use Rattle.poly_terms.proofs.Weights.{weight, weight-positive}
-use Rattle.poly_terms.proofs.AnswerLaws.{expanded-small, opposite-small, one-fails, one-answers, two-fail, two-answer, power-fails, power-answers}
+use Rattle.poly_terms.proofs.AnswerLaws.{expanded-small, opposite-small, one-fails, one-answers, two-fail, two-answer}
+use Rattle.poly_terms.proofs.AnswerLaws.{power-fails, power-answers}
 use Rattle.poly_terms.proofs.expanding.+expansion.Goals as goal
 
 -- a polynomial that is an expression's form, without a fault, is small and ascends

@@ -1,6 +1,6 @@
 use Rattle.std.proofs.Common.{rules, not, ap, ◌∙◌}
 use Rattle.std.proofs.lemmas.List.Elements.{filter_from_retain}
-use Rattle.int_laws.specs.NormalForm.{is_zero}
+use Rattle.linear_forms.specs.int_laws.NormalForm.{is_zero}
 use Rattle.poly_terms.specs.Views.{monomials_of}
 use Rattle.poly_terms.proofs.CollectLaws.{filtered-nonzero}
 use Rattle.poly_terms.proofs.nonzero.nonzero.Goals as goal

@@ -1,7 +1,7 @@
 use Rattle.std.proofs.Common.{◌≡◌, filter}
 use Rattle.std.specs.List.{range_with_len}
 use Rattle.its_model.specs.Views.{program_of}
-use Rattle.model.specs.Entries.{enters}
+use Rattle.poly_terms.specs.model.Entries.{enters}
 use Rattle.proof_tree.proofs.entering.entries.Given as goal
 
 abbrev pub invariant-loop-rule : goal.invariant-loop-rule

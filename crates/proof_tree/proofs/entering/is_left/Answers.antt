@@ -1,5 +1,5 @@
 use Rattle.std.proofs.Common.{ap, sym, ◌∙◌, Option, ℕ}
-use Rattle.model.specs.Entries.{is_left_by}
+use Rattle.poly_terms.specs.model.Entries.{is_left_by}
 use Rattle.proof_tree.proofs.NumberSets.{left_by_none}
 use Rattle.proof_tree.proofs.entering.is_left.Goals as goal
 

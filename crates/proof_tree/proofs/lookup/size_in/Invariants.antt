@@ -1,5 +1,5 @@
 use Rattle.std.proofs.Common.{◌≡◌, drop}
-use Rattle.proof_nodes.specs.Known.{size_in as size_of}
+use Rattle.proof_setting.specs.proof_nodes.Known.{size_in as size_of}
 use Rattle.proof_tree.specs.Views.{facts_of}
 use Rattle.proof_tree.proofs.lookup.size_in.Given as goal
 

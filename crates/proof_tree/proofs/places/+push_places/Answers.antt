@@ -1,8 +1,8 @@
 use Rattle.std.proofs.Common.{◌≡◌, ◌+◌, ◌∷◌, map}
 use Rattle.std.proofs.lemmas.Result.{IfOk-weaker}
-use Rattle.model.specs.Bounds.{Parts}
+use Rattle.poly_terms.specs.model.Bounds.{Parts}
 use Rattle.bound_expr.specs.Views.{bounds_of, parts_of}
-use Rattle.proof_nodes.specs.Composed.{place_parts}
+use Rattle.proof_setting.specs.proof_nodes.Composed.{place_parts}
 use Rattle.proof_tree.specs.Views.{member_of}
 use Rattle.proof_tree.specs.Sizes.{members_from, sizes_from, joined}
 use Rattle.proof_tree.proofs.Parts.{places_pushed, none_pushed}

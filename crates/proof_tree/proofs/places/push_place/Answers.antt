@@ -1,5 +1,5 @@
 use Rattle.std.proofs.Common.{◌∙◌, ap, map, arith}
-use Rattle.proof_nodes.specs.Known.{known}
+use Rattle.proof_setting.specs.proof_nodes.Known.{known}
 use Rattle.proof_tree.specs.Views.{member_of}
 use Rattle.proof_tree.specs.Sizes.{is_spot}
 use Rattle.proof_tree.proofs.Parts.{pushed}

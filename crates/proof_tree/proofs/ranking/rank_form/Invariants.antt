@@ -1,5 +1,5 @@
 use Rattle.std.proofs.Common.{◌≡◌, drop, map, Some}
-use Rattle.proof_nodes.specs.Composed.{rank_form}
+use Rattle.proof_setting.specs.proof_nodes.Composed.{rank_form}
 use Rattle.proof_tree.specs.Views.{form_of}
 use Rattle.proof_tree.proofs.ranking.rank_form.Given as goal
 

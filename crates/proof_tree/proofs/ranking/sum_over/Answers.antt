@@ -1,5 +1,5 @@
 use Rattle.std.proofs.Common.{◌≤◌, ◌∙◌, length, ap, arith}
-use Rattle.model.specs.Bounds.{SumOf}
+use Rattle.poly_terms.specs.model.Bounds.{SumOf}
 use Rattle.bound_expr.proofs.Views.{bound_of-Sum}
 use Rattle.proof_tree.proofs.Parts.{part_pushed, parts_whole}
 use Rattle.proof_tree.proofs.ranking.sum_over.Goals as goal

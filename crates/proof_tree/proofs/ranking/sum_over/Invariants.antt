@@ -1,7 +1,7 @@
 use Rattle.std.proofs.Common.{◌≡◌, drop}
 use Rattle.bound_expr.specs.Views.{bounds_of, parts_of}
 use Rattle.its_model.specs.Views.{program_of}
-use Rattle.proof_nodes.specs.Composed.{parts_for, entry_bound}
+use Rattle.proof_setting.specs.proof_nodes.Composed.{parts_for, entry_bound}
 use Rattle.proof_tree.specs.Views.{rank_of}
 use Rattle.proof_tree.specs.Sizes.{joined}
 use Rattle.proof_tree.proofs.ranking.sum_over.Given as goal

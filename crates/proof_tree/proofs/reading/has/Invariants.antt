@@ -1,5 +1,5 @@
 use Rattle.std.proofs.Common.{◌≡◌, drop}
-use Rattle.model.specs.Entries.{is_in}
+use Rattle.poly_terms.specs.model.Entries.{is_in}
 use Rattle.proof_tree.proofs.reading.has.Given as goal
 
 abbrev pub invariant-loop-other : goal.invariant-loop-other

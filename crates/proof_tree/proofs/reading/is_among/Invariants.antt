@@ -1,6 +1,6 @@
 use Rattle.std.proofs.Common.{◌≡◌, drop, map}
 use Rattle.std.specs.List.{list_any}
-use Rattle.model.specs.Entries.{is_in}
+use Rattle.poly_terms.specs.model.Entries.{is_in}
 use Rattle.poly_terms.specs.Views.{monomial_of}
 use Rattle.proof_tree.proofs.reading.is_among.Given as goal
 

@@ -1,5 +1,5 @@
 use Rattle.std.proofs.Common.{◌≤◌, ◌∙◌, length, ap, arith}
-use Rattle.model.specs.Bounds.{MaximumOf}
+use Rattle.poly_terms.specs.model.Bounds.{MaximumOf}
 use Rattle.bound_expr.proofs.Views.{bound_of-Max}
 use Rattle.proof_tree.proofs.Parts.{part_pushed, parts_whole}
 use Rattle.proof_tree.proofs.spreading.composed_size.Goals as goal

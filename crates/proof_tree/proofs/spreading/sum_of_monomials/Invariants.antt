@@ -1,8 +1,8 @@
 use Rattle.std.proofs.Common.{◌≡◌, drop, map}
 use Rattle.bound_expr.specs.Views.{bounds_of, parts_of}
 use Rattle.poly_terms.specs.Views.{monomial_of}
-use Rattle.proof_nodes.specs.Composed.{sizes_after}
-use Rattle.proof_nodes.specs.ComposedSizes.{monomial_parts}
+use Rattle.proof_setting.specs.proof_nodes.Composed.{sizes_after}
+use Rattle.proof_setting.specs.proof_nodes.ComposedSizes.{monomial_parts}
 use Rattle.proof_tree.specs.Sizes.{joined}
 use Rattle.proof_tree.proofs.spreading.sum_of_monomials.Given as goal
 

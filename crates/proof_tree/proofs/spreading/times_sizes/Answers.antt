@@ -1,5 +1,5 @@
 use Rattle.std.proofs.Common.{◌≤◌, ◌∙◌, length, ap, arith}
-use Rattle.model.specs.Bounds.{ProductOf}
+use Rattle.poly_terms.specs.model.Bounds.{ProductOf}
 use Rattle.bound_expr.proofs.Views.{bound_of-Prod}
 use Rattle.proof_tree.proofs.Parts.{part_pushed, parts_whole}
 use Rattle.proof_tree.proofs.spreading.times_sizes.Goals as goal

@@ -1,7 +1,7 @@
 use Rattle.std.proofs.Common.{◌≡◌, drop}
-use Rattle.model.specs.Bounds.{Constant, Part}
+use Rattle.poly_terms.specs.model.Bounds.{Constant, Part}
 use Rattle.bound_expr.specs.Views.{bounds_of, parts_of}
-use Rattle.proof_nodes.specs.Composed.{parts_for, sizes_after}
+use Rattle.proof_setting.specs.proof_nodes.Composed.{parts_for, sizes_after}
 use Rattle.proof_tree.specs.Sizes.{joined}
 use Rattle.proof_tree.proofs.spreading.times_sizes.Given as goal
 

@@ -1,11 +1,11 @@
 use Rattle.std.proofs.Common.{◌≡◌, ◌++◌, ◌∙◌, ℕ, Bool, ap, map, get_or, subst}
-use Rattle.linear_forms.specs.RuleQuestions.{coefficients}
-use Rattle.model.specs.Programs.{arity_of}
+use Rattle.simplex_core.specs.linear_forms.RuleQuestions.{coefficients}
+use Rattle.poly_terms.specs.model.Programs.{arity_of}
 use Rattle.its_model.specs.Views.{program_of}
 use Rattle.rank_search.specs.Coefficients.{coefficient_of, open_block, open_set}
-use Rattle.rank_search.specs.ProgramQuestions.{places_of}
+use Rattle.rule_questions.specs.ProgramQuestions.{places_of}
 use Rattle.rank_search.specs.ShutPlaces.{is_listed}
-use Rattle.rank_search.proofs.Lists.{read-again}
+use Rattle.rule_questions.proofs.Lists.{read-again}
 use Rattle.rank_search.proofs.OpenPlaces.{symbol-done}
 use Rattle.rank_search.proofs.ShutSets.{same-test}
 use Rattle.rank_search.proofs.coefficients.coefficients_of.Goals as goal

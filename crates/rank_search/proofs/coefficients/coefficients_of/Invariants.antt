@@ -1,8 +1,8 @@
 use Rattle.std.proofs.Common.{◌≡◌, ◌++◌, map, drop}
-use Rattle.linear_forms.specs.RuleQuestions.{coefficients}
+use Rattle.simplex_core.specs.linear_forms.RuleQuestions.{coefficients}
 use Rattle.its_model.specs.Views.{program_of}
 use Rattle.rank_search.specs.Coefficients.{coefficient_of, open_set}
-use Rattle.rank_search.specs.ProgramQuestions.{places_of}
+use Rattle.rule_questions.specs.ProgramQuestions.{places_of}
 use Rattle.rank_search.proofs.coefficients.coefficients_of.Given as goal
 
 -- those that are found, and those of the symbols that are left

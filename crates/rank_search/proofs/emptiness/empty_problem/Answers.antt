@@ -1,8 +1,8 @@
 use Rattle.std.proofs.Common.{arith, ap, List, length}
 use Rattle.std.proofs.lemmas.Result.{IfOk-weaker}
-use Rattle.linear_forms.specs.Forms.{Form}
+use Rattle.simplex_core.specs.linear_forms.Forms.{Form}
 use Rattle.poly_terms.specs.declared.poly.Row.{Row}
-use Rattle.rank_search.proofs.EmptyProblems.{few-unknowns, few-rows, group-writable, problem-built}
+use Rattle.rule_questions.proofs.EmptyProblems.{few-unknowns, few-rows, group-writable, problem-built}
 use Rattle.rank_search.proofs.emptiness.empty_problem.Goals as goal
 
 pub add_group-requires-clause-writable : goal.add_group-requires-clause-writable

@@ -1,7 +1,7 @@
 use Rattle.std.proofs.Common.{◌≡◌, ℕ, ◌+◌, arith, refl, ap, ◌∙◌, subst, length}
 use Rattle.std.specs.Prelude.{nat_abs}
-use Rattle.linear_forms.specs.Forms.{at}
-use Rattle.linear_forms.specs.Questions.{listed}
+use Rattle.simplex_core.specs.linear_forms.Forms.{at}
+use Rattle.simplex_core.specs.linear_forms.Questions.{listed}
 use Rattle.simplex_core.specs.declared.answers.Answer.{Answer}
 use Rattle.simplex_core.specs.Problem.{program_of}
 use Rattle.simplex_core.specs.Trips.{IsWholeAnswer}
@@ -53,4 +53,4 @@ returns c =
     let h = subst (λ (a : Answer). IsWholeAnswer
     (program_of p) c.args.pivots a) c.in-Tripped.is c.in_ok-solution.ensures in
     trip-answer c.args.prep.now c.requires c.args.pivots p c.in_ok-problem.ensures c.in-Tripped.cause c.args.rule _ h
-    refl c.told.ensures
+    refl refl

@@ -1,13 +1,13 @@
 use Rattle.std.proofs.Common.{◌≡◌, ℕ, ◌+◌, ◌-◌, ◌<◌, ◌++◌, ◌∙◌, ap, sym, subst, refl, arith, true, false}
 use Rattle.std.proofs.lemmas.Int.{ints}
-use Rattle.linear_forms.specs.Forms.{at}
-use Rattle.linear_forms.specs.QuestionLaws.{parameters_of}
-use Rattle.model.specs.Programs.{arity_of}
+use Rattle.simplex_core.specs.linear_forms.Forms.{at}
+use Rattle.simplex_core.specs.linear_forms.QuestionLaws.{parameters_of}
+use Rattle.poly_terms.specs.model.Programs.{arity_of}
 use Rattle.its_model.specs.Views.{program_of}
 use Rattle.rank_search.specs.ShutPlaces.{is_listed}
 use Rattle.rank_search.specs.Reading.{open_count, read_coefs}
 use Rattle.rank_search.proofs.Counts.{open-few}
-use Rattle.rank_search.proofs.Read.{place-read, place-left, count-read, count-left}
+use Rattle.rank_search.proofs.FunctionReading.{place-read, place-left, count-read, count-left}
 use Rattle.rank_search.proofs.found.form_from.Goals as goal
 use Rattle.rank_search.proofs.found.form_from.Goals.{then-is_shut+in_ok-push, else-is_shut+in_ok-push-2}
 

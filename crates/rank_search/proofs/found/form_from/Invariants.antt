@@ -1,7 +1,7 @@
 use Rattle.std.proofs.Common.{◌≡◌, ◌++◌, ◌+◌, ◌-◌}
-use Rattle.linear_forms.specs.Forms.{at}
-use Rattle.linear_forms.specs.QuestionLaws.{parameters_of}
-use Rattle.model.specs.Programs.{arity_of}
+use Rattle.simplex_core.specs.linear_forms.Forms.{at}
+use Rattle.simplex_core.specs.linear_forms.QuestionLaws.{parameters_of}
+use Rattle.poly_terms.specs.model.Programs.{arity_of}
 use Rattle.its_model.specs.Views.{program_of}
 use Rattle.rank_search.specs.ShutPlaces.{is_listed}
 use Rattle.rank_search.specs.Reading.{open_count, read_coefs}

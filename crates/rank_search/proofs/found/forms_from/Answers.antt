@@ -1,18 +1,18 @@
 use Rattle.std.proofs.Common.{◌≡◌, ℕ, ◌≤◌, ◌+◌, ◌∙◌, Bool, ap, map, get_or, arith, subst, ◌∷◌, []}
 use Rattle.std.proofs.lemmas.List.{map-append}
-use Rattle.linear_forms.specs.Forms.{at}
-use Rattle.linear_forms.specs.QuestionLaws.{parameters_of}
-use Rattle.model.specs.Programs.{arity_of}
+use Rattle.simplex_core.specs.linear_forms.Forms.{at}
+use Rattle.simplex_core.specs.linear_forms.QuestionLaws.{parameters_of}
+use Rattle.poly_terms.specs.model.Programs.{arity_of}
 use Rattle.std.proofs.lemmas.List.Elements.{All-get_or}
 use Rattle.its_model.specs.Views.{program_of}
 use Rattle.proof_tree.specs.Views.{form_of}
 use Rattle.proof_tree.specs.Shut.{is_shut}
-use Rattle.rank_search.specs.ProgramQuestions.{places_of}
+use Rattle.rule_questions.specs.ProgramQuestions.{places_of}
 use Rattle.rank_search.specs.Reading.{open_count, form_by}
 use Rattle.rank_search.specs.ShutPlaces.{is_listed}
 use Rattle.rank_search.proofs.Counts.{open-few}
-use Rattle.rank_search.proofs.Read.{form-more}
-use Rattle.rank_search.proofs.Lists.{read-again}
+use Rattle.rank_search.proofs.FunctionReading.{form-more}
+use Rattle.rule_questions.proofs.Lists.{read-again}
 use Rattle.rank_search.proofs.ShutSets.{same-test}
 use Rattle.rank_search.proofs.found.forms_from.Goals as goal
 

@@ -1,7 +1,7 @@
 use Rattle.std.proofs.Common.{◌≡◌, ◌++◌, ◌+◌, map, drop}
-use Rattle.linear_forms.specs.Forms.{at}
-use Rattle.linear_forms.specs.Questions.{group_columns}
-use Rattle.linear_forms.specs.QuestionLaws.{after, multipliers_by_group}
+use Rattle.simplex_core.specs.linear_forms.Forms.{at}
+use Rattle.simplex_core.specs.linear_forms.Questions.{group_columns}
+use Rattle.simplex_core.specs.linear_forms.QuestionLaws.{after, multipliers_by_group}
 use Rattle.rank_search.specs.Reading.{shape_at}
 use Rattle.rank_search.proofs.found.moves_from.Given as goal
 

@@ -1,10 +1,10 @@
 use Rattle.std.proofs.Common.{◌≡◌, ◌*◌, ap, map, refl, subst, arith, length, List, ◌∷◌, []}
 use Rattle.std.specs.Prelude.{ℤ}
-use Rattle.linear_forms.specs.Forms.{at}
-use Rattle.linear_forms.specs.QuestionLaws.{after, parameters_of, multipliers_by_group}
+use Rattle.simplex_core.specs.linear_forms.Forms.{at}
+use Rattle.simplex_core.specs.linear_forms.QuestionLaws.{after, parameters_of, multipliers_by_group}
 use Rattle.its_model.specs.Views.{program_of}
 use Rattle.proof_tree.specs.Views.{form_of}
-use Rattle.rank_search.specs.ProgramQuestions.{places_of}
+use Rattle.rule_questions.specs.ProgramQuestions.{places_of}
 use Rattle.rank_search.specs.Reading.{read_forms, shape_at}
 use Rattle.rank_search.proofs.Groups.{columns-append, multipliers-together}
 use Rattle.rank_search.proofs.found.rank_node.Goals as goal

@@ -1,5 +1,5 @@
 use Rattle.std.proofs.lemmas.Result.{IfOk-weaker}
-use Rattle.linear_forms.specs.Forms.{at}
+use Rattle.simplex_core.specs.linear_forms.Forms.{at}
 use Rattle.rank_search.specs.Reading.{shape_at}
 use Rattle.rank_search.proofs.Groups.{multipliers-one}
 use Rattle.rank_search.proofs.found.rule_multipliers.Goals as goal

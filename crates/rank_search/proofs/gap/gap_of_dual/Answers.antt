@@ -1,7 +1,7 @@
 use Rattle.std.proofs.Common.{ap, map, refl, arith, ◌∷◌, []}
-use Rattle.linear_forms.specs.Forms.{at}
+use Rattle.simplex_core.specs.linear_forms.Forms.{at}
 use Rattle.proof_tree.specs.AnswerViews.{scaled_of}
-use Rattle.rank_search.specs.ProgramQuestions.{places_of}
+use Rattle.rule_questions.specs.ProgramQuestions.{places_of}
 use Rattle.rank_search.specs.Reading.{shape_at}
 use Rattle.rank_search.proofs.Groups.{lines-append, points-together}
 use Rattle.rank_search.proofs.gap.gap_of_dual.Goals as goal

@@ -1,6 +1,6 @@
 use Rattle.std.proofs.Common.{◌≡◌, map, take, Some}
 use Rattle.proof_tree.specs.AnswerViews.{scaled_of}
-use Rattle.rank_search.specs.RankAnswers.{answer_for, point_in}
+use Rattle.rule_questions.specs.RuleAnswers.{answer_for, point_in}
 use Rattle.rank_search.proofs.gap.kept_points.Given as goal
 
 -- the points so far

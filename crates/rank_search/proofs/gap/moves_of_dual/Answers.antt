@@ -1,11 +1,11 @@
 use Rattle.std.proofs.Common.{◌+◌, ap, map, get_or, arith, ◌∙◌, ◌∷◌, []}
 use Rattle.std.proofs.lemmas.List.{map-append}
-use Rattle.linear_forms.specs.Forms.{at}
-use Rattle.linear_forms.specs.QuestionLaws.{after}
+use Rattle.simplex_core.specs.linear_forms.Forms.{at}
+use Rattle.simplex_core.specs.linear_forms.QuestionLaws.{after}
 use Rattle.proof_tree.specs.AnswerViews.{scaled_of}
 use Rattle.rank_search.specs.Reading.{shape_at}
 use Rattle.rank_search.proofs.Groups.{parts-many, points-more, lines-more}
-use Rattle.rank_search.proofs.Lists.{read-again}
+use Rattle.rule_questions.proofs.Lists.{read-again}
 use Rattle.rank_search.proofs.gap.moves_of_dual.Goals as goal
 
 pub loop-rule-preserved : goal.loop-rule-preserved

@@ -1,9 +1,10 @@
 use Rattle.std.proofs.Common.{◌≡◌, ◌++◌, ◌+◌, map, drop}
-use Rattle.linear_forms.specs.Forms.{at}
-use Rattle.linear_forms.specs.QuestionLaws.{after}
+use Rattle.simplex_core.specs.linear_forms.Forms.{at}
+use Rattle.simplex_core.specs.linear_forms.QuestionLaws.{after}
 use Rattle.proof_tree.specs.AnswerViews.{scaled_of}
 use Rattle.rank_search.specs.RankAnswers.{points_of}
-use Rattle.rank_search.specs.Reading.{group_lines, shape_at}
+use Rattle.rule_questions.specs.GroupLines.{group_lines}
+use Rattle.rank_search.specs.Reading.{shape_at}
 use Rattle.rank_search.proofs.gap.moves_of_dual.Given as goal
 
 -- the parts so far, and those of the rules that are left

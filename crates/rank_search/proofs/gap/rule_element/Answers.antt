@@ -1,7 +1,7 @@
-use Rattle.linear_forms.specs.Forms.{at}
+use Rattle.simplex_core.specs.linear_forms.Forms.{at}
 use Rattle.proof_tree.specs.AnswerViews.{scaled_of}
 use Rattle.rank_search.specs.Reading.{shape_at}
-use Rattle.rank_search.proofs.Answered.{IfOk-from_both}
+use Rattle.poly_terms.proofs.model.Cases.{IfOk-both as IfOk-from_both}
 use Rattle.rank_search.proofs.Groups.{point-one}
 use Rattle.rank_search.proofs.gap.rule_element.Goals as goal
 

@@ -1,9 +1,9 @@
 use Rattle.std.proofs.Common.{sym, subst, length}
 use Rattle.guard_prep.specs.Views.{prepared_of}
 use Rattle.rank_search.specs.Goals.{AreGoalsUpTo}
-use Rattle.rank_search.specs.ProgramQuestions.{forms_of}
+use Rattle.rule_questions.specs.ProgramQuestions.{forms_of}
 use Rattle.rank_search.proofs.BlockGoals.{first-begun, second-begun, second-ended, forms-whole}
-use Rattle.rank_search.proofs.GoalForms.{are-parameters}
+use Rattle.rule_questions.proofs.GoalForms.{are-parameters}
 use Rattle.rank_search.proofs.goals.goals_in.Goals as goal
 
 pub push_goals-requires-clause-before : goal.push_goals-requires-clause-before

@@ -1,12 +1,12 @@
 use Rattle.std.proofs.Common.{ap, sym, ◌∙◌, refl, arith}
 use Rattle.std.proofs.lemmas.Result.{IfOk-weaker}
-use Rattle.linear_forms.specs.Forms.{Form}
-use Rattle.linear_forms.specs.Combinations.{form_sum}
-use Rattle.linear_forms.specs.RuleQuestions.{opposite}
+use Rattle.simplex_core.specs.linear_forms.Forms.{Form}
+use Rattle.simplex_core.specs.linear_forms.Combinations.{form_sum}
+use Rattle.simplex_core.specs.linear_forms.RuleQuestions.{opposite}
 use Rattle.guard_prep.specs.Views.{prepared_of}
 use Rattle.poly_terms.specs.Views.{form_of}
-use Rattle.rank_search.proofs.GoalForms.{after-listed, after-past}
-use Rattle.rank_search.proofs.Sums.{less-zero}
+use Rattle.rule_questions.proofs.GoalForms.{after-listed, after-past}
+use Rattle.rule_questions.proofs.Sums.{less-zero}
 use Rattle.rank_search.proofs.goals.less_after.Goals as goal
 
 pub returns-clause-same : goal.returns-clause-same

@@ -1,7 +1,7 @@
 use Rattle.std.proofs.Common.{◌+◌, ◌<◌, ◌≤◌, ◌∙◌, sym, subst, refl, arith, length, []}
 use Rattle.std.specs.List.{All}
 use Rattle.std.proofs.lemmas.List.Elements.{All-append, All-cons, All-nil, All-get_or}
-use Rattle.linear_forms.specs.Forms.{Form}
+use Rattle.simplex_core.specs.linear_forms.Forms.{Form}
 use Rattle.guard_prep.specs.Views.{prepared_of}
 use Rattle.poly_terms.specs.Views.{form_of}
 use Rattle.lp_builder.specs.declared.description.Goal.{Goal}
@@ -9,9 +9,10 @@ use Rattle.lp_builder.specs.Descriptions.{IsWritable}
 use Rattle.rank_search.specs.declared.coefficients.Coefficient.{Coefficient}
 use Rattle.rank_search.specs.Coefficients.{coefficient_of}
 use Rattle.rank_search.specs.Goals.{goal_form, AreGoalsUpTo}
-use Rattle.rank_search.specs.ProgramQuestions.{forms_of}
-use Rattle.rank_search.proofs.GoalForms.{Ascend, ascend-more, ascend-wider, goal-pushed, goal-passed, unconcerned}
-use Rattle.rank_search.proofs.Sums.{difference-writable}
+use Rattle.rule_questions.specs.ProgramQuestions.{forms_of}
+use Rattle.rule_questions.proofs.GoalForms.{Ascend, ascend-more, ascend-wider, goal-pushed, goal-passed}
+use Rattle.rank_search.proofs.Unconcerned.{unconcerned}
+use Rattle.rule_questions.proofs.Sums.{difference-writable}
 use Rattle.rank_search.proofs.goals.push_goals.Goals as goal
 use Rattle.rank_search.proofs.goals.push_goals.Goals.{then-counts+in_ok-form+in_ok-push, else-counts}
 

@@ -1,6 +1,6 @@
 use Rattle.guard_prep.specs.Views.{prepared_of}
 use Rattle.rank_search.specs.Goals.{AreGoalsUpTo}
-use Rattle.rank_search.specs.ProgramQuestions.{forms_of}
+use Rattle.rule_questions.specs.ProgramQuestions.{forms_of}
 use Rattle.rank_search.proofs.goals.push_goals.Given as goal
 
 -- the goals so far

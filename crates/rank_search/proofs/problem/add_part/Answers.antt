@@ -1,13 +1,14 @@
 use Rattle.std.proofs.Common.{ap, sym, ◌∙◌, subst, arith, length, map, List}
 use Rattle.std.proofs.lemmas.Result.{IfOk-weaker}
-use Rattle.linear_forms.specs.RuleQuestions.{RuleForms}
+use Rattle.simplex_core.specs.linear_forms.RuleQuestions.{RuleForms}
 use Rattle.poly_terms.specs.declared.poly.Row.{Row}
 use Rattle.lp_builder.specs.Builders.{parameter_count, Adds}
 use Rattle.lp_builder.specs.Descriptions.{goal_forms}
 use Rattle.rank_search.specs.Coefficients.{coefficient_of}
 use Rattle.rank_search.specs.Goals.{part_group}
-use Rattle.rank_search.proofs.EmptyProblems.{few-unknowns, few-rows}
-use Rattle.rank_search.proofs.RankProblems.{forms-are, is-prepared, news-small, fits-listed, part-writable, group-is}
+use Rattle.rule_questions.proofs.EmptyProblems.{few-unknowns, few-rows}
+use Rattle.rank_search.proofs.RankProblems.{forms-are, is-prepared, fits-listed, part-writable, group-is}
+use Rattle.rule_questions.proofs.NewValues.{news-small}
 use Rattle.rank_search.proofs.problem.add_part.Goals as goal
 
 pub goals_of-requires-clause-news : goal.goals_of-requires-clause-news

@@ -1,18 +1,18 @@
 use Rattle.std.proofs.Common.{ℕ, ap, map, sym, subst, arith, ◌∙◌, length, get_or, List}
 use Rattle.std.proofs.lemmas.Result.{IfOk-weaker}
-use Rattle.model.specs.Programs.{rule_at}
+use Rattle.poly_terms.specs.model.Programs.{rule_at}
 use Rattle.std.specs.List.{range_with_len}
-use Rattle.linear_forms.proofs.SolutionLaws.{length-map}
+use Rattle.simplex_core.proofs.linear_forms.SolutionLaws.{length-map}
 use Rattle.its_model.specs.Views.{program_of, symbol_of}
 use Rattle.lp_builder.specs.declared.description.Cost.{Cost}
 use Rattle.lp_builder.specs.Builders.{Adds, IsBuilt}
-use Rattle.proof_nodes.specs.AcceptsPlain.{IsRule}
+use Rattle.proof_tree.specs.proof_nodes.AcceptsPlain.{IsRule}
 use Rattle.rank_search.specs.declared.goals.Part.{Part}
 use Rattle.rank_search.specs.Coefficients.{coefficient_of}
 use Rattle.rank_search.specs.Goals.{Fits}
-use Rattle.rank_search.specs.ProgramQuestions.{forms_in, places_of, is_entered}
+use Rattle.rule_questions.specs.ProgramQuestions.{forms_in, places_of, is_entered}
 use Rattle.rank_search.proofs.Counts.{few-rules, few-sought, sought-inside}
-use Rattle.rank_search.proofs.Lists.{read-again}
+use Rattle.rule_questions.proofs.Lists.{read-again}
 use Rattle.rank_search.proofs.RankProblems.{set_group-is, move-fits, floor-fits, costs-are, problem-built}
 use Rattle.rank_search.proofs.RankSets.{in-all}
 use Rattle.rank_search.proofs.Writing.{written-more, written-all}

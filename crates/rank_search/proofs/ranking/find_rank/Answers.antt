@@ -1,14 +1,14 @@
 use Rattle.std.proofs.Common.{◌≡◌, ℕ, ◌≤◌, ap, refl, sym, subst, arith, ◌∙◌, length, List}
 use Rattle.std.specs.Prelude.{ℤ}
 use Rattle.std.specs.List.{All}
-use Rattle.linear_forms.specs.RuleQuestions.{coefficients}
-use Rattle.model.specs.Programs.{arity_of}
+use Rattle.simplex_core.specs.linear_forms.RuleQuestions.{coefficients}
+use Rattle.poly_terms.specs.model.Programs.{arity_of}
 use Rattle.its_model.specs.Views.{program_of}
 use Rattle.simplex_core.specs.declared.answers.Answer.{Answer}
 use Rattle.simplex_core.specs.Problem.{program_of as program_of_problem}
 use Rattle.simplex_core.specs.Trips.{IsWholeAnswer}
 use Rattle.rank_search.specs.Coefficients.{open_set, AreCoefficients}
-use Rattle.rank_search.specs.ProgramQuestions.{places_of, ranked_set}
+use Rattle.rule_questions.specs.ProgramQuestions.{places_of, ranked_set}
 use Rattle.rank_search.specs.Reading.{IsNodeRead, IsGapRead}
 use Rattle.rank_search.proofs.RankFound.{coefficients-are, few-found, few-parameters, few-places-all, solution-room}
 use Rattle.rank_search.proofs.RankFound.{node-answer, dual-room, gap-answer, empty-trip, own-trip, has-points}
@@ -159,4 +159,4 @@ returns c =
     c.in_ok-problem.ensures c.args.empties.now c.in-Tripped.cause _
     (subst (λ (a : Answer). IsWholeAnswer
     (program_of_problem c.in_ok-problem.problem) c.args.pivots a) c.in-Tripped.is c.in_ok-solution.ensures) refl
-    c.told.ensures
+    refl

@@ -5,10 +5,10 @@ use Rattle.std.proofs.lemmas.List.{take_all}
 use Rattle.std.proofs.lemmas.List.Folds.{list_any_more}
 use Rattle.std.proofs.lemmas.Result.{IfOk-weaker}
 use Rattle.its_model.specs.Views.{program_of}
-use Rattle.model.specs.Paths.{same_symbol, target_of}
-use Rattle.model.specs.Entries.{entries}
+use Rattle.poly_terms.specs.model.Paths.{same_symbol, target_of}
+use Rattle.poly_terms.specs.model.Entries.{entries}
 use Rattle.rank_search.specs.Marks.{AreMarks}
-use Rattle.rank_search.specs.ProgramQuestions.{is_entered}
+use Rattle.rule_questions.specs.ProgramQuestions.{is_entered}
 use Rattle.rank_search.proofs.Marking.{marks-by}
 use Rattle.rank_search.proofs.symbols.entered.Goals as goal
 

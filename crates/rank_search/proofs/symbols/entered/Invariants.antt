@@ -1,7 +1,7 @@
 use Rattle.std.proofs.Common.{◌≡◌, length, take, Some}
 use Rattle.std.specs.List.{list_any}
 use Rattle.its_model.specs.Views.{program_of}
-use Rattle.model.specs.Paths.{same_symbol, target_of}
+use Rattle.poly_terms.specs.model.Paths.{same_symbol, target_of}
 use Rattle.rank_search.specs.Marks.{AreMarks}
 use Rattle.rank_search.proofs.symbols.entered.Given as goal
 

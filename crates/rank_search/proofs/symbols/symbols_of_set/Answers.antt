@@ -1,11 +1,12 @@
-use Rattle.std.proofs.Common.{◌≡◌, ◌||◌, ◌+◌, ◌∙◌, ℕ, Bool, List, Vec, Option, Some, length, filter, take, get_or, ap, subst, sym}
+use Rattle.std.proofs.Common.{◌≡◌, ◌||◌, ◌+◌, ◌∙◌, ℕ, Bool, List, Vec, Option, Some, length, filter, take, get_or, ap}
+use Rattle.std.proofs.Common.{subst, sym}
 use Rattle.std.specs.declared.alloc.Global.{Global}
 use Rattle.std.specs.List.{range_with_len}
 use Rattle.std.proofs.lemmas.List.{take_all}
 use Rattle.std.proofs.lemmas.Result.{IfOk-weaker}
 use Rattle.its_model.specs.Views.{program_of}
-use Rattle.model.specs.Paths.{same_symbol, target_of}
-use Rattle.proof_nodes.specs.Graph.{symbols_of, touches}
+use Rattle.poly_terms.specs.model.Paths.{same_symbol, target_of}
+use Rattle.proof_tree.specs.proof_nodes.Graph.{symbols_of, touches}
 use Rattle.rank_search.specs.Marks.{AreMarks}
 use Rattle.rank_search.proofs.Marking.{marks-by, touches-more, symbols-whole}
 use Rattle.rank_search.proofs.symbols.symbols_of_set.Goals as goal

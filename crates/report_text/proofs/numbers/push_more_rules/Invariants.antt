@@ -1,8 +1,8 @@
 use Rattle.std.proofs.Common.{◌≡◌, ◌+◌, ◌++◌, map, drop}
-use Rattle.report_text.specs.Pieces.{goes_on}
+use Rattle.report_text.specs.Pieces.{with_commas_before}
 use Rattle.std.specs.Prelude.{decimal}
 use Rattle.report_text.proofs.numbers.push_more_rules.Given as goal
 
 -- what is written and what is left make the whole
 abbrev pub invariant-loop-rule : goal.invariant-loop-rule
-invariant-loop-rule l = l.text.items ++ goes_on (map decimal (drop l.rule-index l.rules)) ≡ l.initial.text.items ++ goes_on (map decimal l.rules)
+invariant-loop-rule l = l.text.items ++ with_commas_before (map decimal (drop l.rule-index l.rules)) ≡ l.initial.text.items ++ with_commas_before (map decimal l.rules)

@@ -2,7 +2,7 @@ use Rattle.std.proofs.Common.{map, refl, ◌∙◌, ap}
 use Rattle.std.proofs.lemmas.Result.{on_ok_weaker}
 use Rattle.its_model.specs.Views.{name_of}
 use Rattle.outcome.specs.Views.{size_of}
-use Rattle.report_text.specs.Pieces.{numbered}
+use Rattle.report_text.specs.Pieces.{numbered_lines}
 use Rattle.report_text.specs.Reports.{size_line}
 use Rattle.report_text.specs.Conditions.{headline_of, entry_line}
 use Rattle.report_text.proofs.Lists.{four_pushed}
@@ -18,9 +18,9 @@ returns c =
     c.in_ok-push_headline.ensures
     (ap headline_of c.deref.ensures.value ∙ headline_same c.args.o.now.gaps.items c.args.o.now.times.items)
     c.in_ok-push_times.ensures
-    (ap (numbered (entry_line names) 1) c.deref-2.ensures.value ∙ times_same names c.args.o.now.gaps.items c.args.o.now.times.items)
+    (ap (numbered_lines (entry_line names) 1) c.deref-2.ensures.value ∙ times_same names c.args.o.now.gaps.items c.args.o.now.times.items)
     c.in_ok-push_total.ensures refl
     pushed
-    (ap (numbered (λ rule places. numbered (λ place s. size_line names rule place (size_of s)) 1 places.items) 1) c.deref-3.ensures.value
+    (ap (numbered_lines (λ rule places. numbered_lines (λ place s. size_line names rule place (size_of s)) 1 places.items) 1) c.deref-3.ensures.value
     ∙ sizes_same (λ places. places.items) names c.args.o.now.sizes.items))
     c.push_sizes.ensures

@@ -1,4 +1,5 @@
-use Rattle.std.proofs.Common.{◌≡◌, ℕ, suc, ◌+◌, ◌<◌, ◌≤◌, ◌^◌, ◌++◌, List, length, map, get_or, true, false, sym, ap, ◌∙◌, subst, arith}
+use Rattle.std.proofs.Common.{◌≡◌, ℕ, suc, ◌+◌, ◌<◌, ◌≤◌, ◌^◌, ◌++◌, List, length, map, get_or, true, false, sym, ap}
+use Rattle.std.proofs.Common.{◌∙◌, subst, arith}
 use Rattle.std.proofs.lemmas.List.{length-map, get_or-map}
 use Rattle.std.proofs.lemmas.List.Elements.{All-same}
 use Rattle.std.proofs.lemmas.Result.{on_ok_weaker}
@@ -9,7 +10,7 @@ use Rattle.guard_prep.specs.Views.{prepared_of}
 use Rattle.its_graph.proofs.PairLists.{Pair}
 use Rattle.rvg_components.specs.Listing.{answer_lists}
 use Rattle.rvg_components.specs.Edges.{firsts_of}
-use Rattle.rvg_components.proofs.Given.{before-within, live-firsts-few, edges-agree}
+use Rattle.rvg_components.proofs.ProgramAnswers.{before-within, live-firsts-few, edges-agree}
 use Rattle.rvg_components.proofs.flowing.push_rule.Goals as goal
 
 -- what can come before is the virtual entry or a rule

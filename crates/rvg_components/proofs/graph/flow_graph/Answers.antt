@@ -4,9 +4,9 @@ use Rattle.proof_tree.specs.Views.{spot_of}
 use Rattle.rvg_components.specs.Listing.{answer_lists}
 use Rattle.rvg_components.specs.Numbering.{widths, firsts_from, spots_by_width}
 use Rattle.rvg_components.specs.Edges.{edges_below}
-use Rattle.rvg_components.specs.Fitting.{known_of, IsFitting}
+use Rattle.rvg_components.specs.Fitting.{flow_inputs_of, IsFitting}
 use Rattle.rvg_components.proofs.Numbers.{widths-length}
-use Rattle.rvg_components.proofs.Given.{lists-long, live-few, widths-few, fitting}
+use Rattle.rvg_components.proofs.ProgramAnswers.{lists-long, live-few, widths-few, fitting}
 use Rattle.rvg_components.proofs.FlowLaws.{flow-graph}
 use Rattle.rvg_components.proofs.graph.flow_graph.Goals as goal
 
@@ -38,7 +38,7 @@ edges_of-requires-clause-fitting c =
     let p = c.requires.0 in
     let firsts : c.deref-3.result.now ≡ firsts_from 0 (widths (answer_lists c.args.locals.now) c.args.live.now) =
     c.deref-3.ensures.value ∙ (c.in_ok-firsts.ensures ∙ ap (firsts_from 0) (c.deref.ensures.value ∙ c.in_ok-widths.ensures)) in
-    subst (λ (fs : List ℕ). IsFitting (known_of c.args.preps.now c.args.locals.now c.args.live.now fs) (length c.args.g.now.links.items)) (sym firsts)
+    subst (λ (fs : List ℕ). IsFitting (flow_inputs_of c.args.preps.now c.args.locals.now c.args.live.now fs) (length c.args.g.now.links.items)) (sym firsts)
     (fitting p c.args.g.now c.args.preps.now c.args.locals.now c.args.live.now c.requires.1)
 
 -- the places and edges make the graph
@@ -49,4 +49,4 @@ returns c = λ p given.
     c.deref-3.ensures.value ∙ (c.in_ok-firsts.ensures ∙ ap (firsts_from 0) (c.deref.ensures.value ∙ c.in_ok-widths.ensures)) in
     flow-graph p c.args.g.now c.args.preps.now c.args.locals.now c.args.live.now given (map spot_of c.in_ok-spots.spots.items) c.in_ok-edges.edges.items
     (c.in_ok-spots.ensures ∙ ap (spots_by_width 1) (c.deref-2.ensures.value ∙ c.in_ok-widths.ensures))
-    (c.in_ok-edges.ensures p given.graph ∙ ap (λ (fs : List ℕ). edges_below p (known_of c.args.preps.now c.args.locals.now c.args.live.now fs) (length c.args.live.now)) firsts)
+    (c.in_ok-edges.ensures p given.graph ∙ ap (λ (fs : List ℕ). edges_below p (flow_inputs_of c.args.preps.now c.args.locals.now c.args.live.now fs) (length c.args.live.now)) firsts)

@@ -6,15 +6,16 @@ use Rattle.model.specs.Programs.{Program}
 use Rattle.its_graph.specs.Components.{IsListing}
 use Rattle.its_graph.specs.Groups.{IsPair, items_of}
 use Rattle.its_graph.proofs.PairLists.{Pair}
-use Rattle.rank_search.proofs.Answered.{IfOk-from_both}
-use Rattle.proof_setting.specs.Setting.{setting_of}
+use Rattle.model.proofs.Cases.{IfOk-both as IfOk-from_both}
+use Rattle.proof_tree.specs.proof_setting.Setting.{setting_of}
 use Rattle.proof_tree.specs.Views.{spot_of}
 use Rattle.proof_tree.specs.declared.arm.Spot.{Spot}
 use Rattle.rvg_components.specs.declared.component.Component.{Component}
-use Rattle.rvg_components.specs.Listing.{AreAnswersGiven, AreComponents, SaysWhetherItLoops, answer_lists, is_flagged, local_from, members_of, spot_at}
+use Rattle.rvg_components.specs.Listing.{AreAnswersOfProgram, AreComponents, SaysWhetherItLoops, answer_lists}
+use Rattle.rvg_components.specs.Listing.{is_flagged, local_from, members_of, spot_at}
 use Rattle.rvg_components.specs.Inside.{marked, has_inside}
 use Rattle.rvg_components.proofs.InnerFlows.{marked-length}
-use Rattle.rvg_components.proofs.Found.{all-within, found-components, found-looping}
+use Rattle.rvg_components.proofs.FlowComponents.{all-within, found-components, found-looping}
 use Rattle.rvg_components.proofs.listing.components.Goals as goal
 
 -- a listing by the edges and the number of places as the code has them
@@ -60,7 +61,7 @@ returns-clause-components c =
     let listing = listed c.len-nodes.result spots edges c.deref.result.now (map items_of lists) (c.len-nodes.ensures ∙ c.in_ok-graph.graph.spots.ok.0) c.deref.ensures.value c.in_ok-components.ensures in
     IfOk-weaker c.placed.result
     (λ (found : Vec Component Global). map members_of found.items ≡ map (map (spot_at (map spot_of c.deref-3.result.now))) (map items_of c.deref-5.result.now))
-    (λ (found : Vec Component Global). (p : Program) → AreAnswersGiven p c.args.g.now c.args.preps.now (answer_lists c.args.locals.now) c.args.live.now
+    (λ (found : Vec Component Global). (p : Program) → AreAnswersOfProgram p c.args.g.now c.args.preps.now (answer_lists c.args.locals.now) c.args.live.now
     → AreComponents (setting_of p) (is_flagged c.args.live.now) local (map members_of found.items))
     (λ found e p given.
     let made : map members_of found.items ≡ map (map (spot_at (map spot_of spots))) (map items_of lists) =
@@ -85,7 +86,7 @@ returns-clause-looping c =
     IfOk-from_both c.placed.result
     (λ (found : Vec Component Global). map members_of found.items ≡ map (map (spot_at (map spot_of c.deref-3.result.now))) (map items_of c.deref-5.result.now))
     (λ (found : Vec Component Global). map (λ c. c.looping) found.items ≡ map (has_inside own) (map items_of c.deref-5.result.now))
-    (λ (found : Vec Component Global). (p : Program) → AreAnswersGiven p c.args.g.now c.args.preps.now (answer_lists c.args.locals.now) c.args.live.now
+    (λ (found : Vec Component Global). (p : Program) → AreAnswersOfProgram p c.args.g.now c.args.preps.now (answer_lists c.args.locals.now) c.args.live.now
     → All (SaysWhetherItLoops (setting_of p) local) found.items)
     (λ found e f p given.
     let made : map members_of found.items ≡ map (map (spot_at (map spot_of spots))) (map items_of lists) =

@@ -1,7 +1,7 @@
 use Rattle.std.proofs.Common.{List, [], ◌∷◌, ◌++◌, length, ap, arith, ◌∙◌}
-use Rattle.linear_forms.proofs.SolutionLaws.{length-map}
-use Rattle.poly_terms.specs.declared.poly.Row.{Row}
-use Rattle.poly_terms.specs.Views.{form_of}
+use Rattle.simplex_core.proofs.linear_forms.SolutionLaws.{length-map}
+use Rattle.lp_builder.specs.poly_terms.declared.poly.Row.{Row}
+use Rattle.lp_builder.specs.poly_terms.Views.{form_of}
 use Rattle.sample_questions.proofs.parts.problem_of.Goals as goal
 
 pub loop-part-preserved : goal.loop-part-preserved

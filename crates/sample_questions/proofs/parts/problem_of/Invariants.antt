@@ -1,5 +1,5 @@
 use Rattle.std.proofs.Common.{◌≡◌, ◌<◌, ◌^◌, List}
-use Rattle.linear_forms.specs.Questions.{Group}
+use Rattle.simplex_core.specs.linear_forms.Questions.{Group}
 use Rattle.lp_builder.specs.Builders.{parameter_count, row_count, column_count, IsReady, Holds}
 use Rattle.sample_questions.proofs.parts.problem_of.Given as goal
 

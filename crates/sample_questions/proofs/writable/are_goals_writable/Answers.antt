@@ -2,7 +2,7 @@ use Rattle.std.proofs.Common.{take, sym, subst, arith, rules}
 use Rattle.std.proofs.lemmas.List.{take_all}
 use Rattle.std.proofs.lemmas.List.Elements.{All-more, All-same}
 use Rattle.lp_builder.specs.declared.description.Goal.{Goal}
-use Rattle.poly_terms.specs.Views.{form_of}
+use Rattle.lp_builder.specs.poly_terms.Views.{form_of}
 use Rattle.lp_builder.specs.Descriptions.{IsWritable}
 use Rattle.sample_questions.proofs.writable.are_goals_writable.Goals as goal
 

@@ -1,7 +1,7 @@
 use Rattle.std.proofs.Common.{take}
 use Rattle.std.specs.List.{All}
 use Rattle.lp_builder.specs.declared.description.Goal.{Goal}
-use Rattle.poly_terms.specs.Views.{form_of}
+use Rattle.lp_builder.specs.poly_terms.Views.{form_of}
 use Rattle.lp_builder.specs.Descriptions.{IsWritable}
 use Rattle.sample_questions.proofs.writable.are_goals_writable.Given as goal
 

@@ -1,8 +1,8 @@
 use Rattle.std.proofs.Common.{take, sym, subst, arith, rules}
 use Rattle.std.proofs.lemmas.List.{take_all}
 use Rattle.std.proofs.lemmas.List.Elements.{All-more, All-same}
-use Rattle.poly_terms.specs.declared.poly.Row.{Row}
-use Rattle.poly_terms.specs.Views.{form_of}
+use Rattle.lp_builder.specs.poly_terms.declared.poly.Row.{Row}
+use Rattle.lp_builder.specs.poly_terms.Views.{form_of}
 use Rattle.lp_builder.specs.Descriptions.{IsWritable}
 use Rattle.sample_questions.proofs.writable.are_rows_writable.Goals as goal
 

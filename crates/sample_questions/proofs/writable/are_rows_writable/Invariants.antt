@@ -1,7 +1,7 @@
 use Rattle.std.proofs.Common.{take}
 use Rattle.std.specs.List.{All}
-use Rattle.poly_terms.specs.declared.poly.Row.{Row}
-use Rattle.poly_terms.specs.Views.{form_of}
+use Rattle.lp_builder.specs.poly_terms.declared.poly.Row.{Row}
+use Rattle.lp_builder.specs.poly_terms.Views.{form_of}
 use Rattle.lp_builder.specs.Descriptions.{IsWritable}
 use Rattle.sample_questions.proofs.writable.are_rows_writable.Given as goal
 

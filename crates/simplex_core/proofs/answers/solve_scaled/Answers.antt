@@ -2,7 +2,7 @@ use Rattle.std.proofs.Common.{refl, ℕ, ◌≡◌, ◌≤◌, ◌^◌, subst, i
 use Rattle.std.specs.Prelude.{MatchOption}
 use Rattle.frac128.specs.declared.frac.Frac.{Frac}
 use Rattle.linear_forms.specs.Limits.{certificate_limit, point_limit}
-use Rattle.simplex_core.specs.declared.scaling.Scaled.{Scaled}
+use Rattle.simplex_core.specs.declared.scaling.Numerators.{Numerators}
 use Rattle.simplex_core.specs.declared.problem.Solved.{Solved}
 use Rattle.simplex_core.specs.Problem.{program_of}
 use Rattle.simplex_core.specs.Outcome.{IsEnd}
@@ -11,12 +11,12 @@ use Rattle.simplex_core.proofs.WholeAnswers.{solution-given, dual-given, solutio
 use Rattle.simplex_core.proofs.answers.solve_scaled.Goals as goal
 
 -- what the scaling says of fractions, with its limits
-abbrev IsScaling : List Frac → ℕ → ℕ → Option Scaled → Type 0
+abbrev IsScaling : List Frac → ℕ → ℕ → Option Numerators → Type 0
 IsScaling fs den_limit limit o =
     MatchOption o (HasNoneScaled fs den_limit limit) (λ s. AreScaled fs s.numbers.items s.den × AreWithin limit (length s.numbers.items) s.numbers.items × (s.den ≤ den_limit))
 
 -- the same fractions, limit and answer
-same-scaling : (fs gs : List Frac) (a b limit : ℕ) (o o' : Option Scaled) → fs ≡ gs → a ≡ b → o ≡ o' → IsScaling fs a limit o → IsScaling gs b limit o'
+same-scaling : (fs gs : List Frac) (a b limit : ℕ) (o o' : Option Numerators) → fs ≡ gs → a ≡ b → o ≡ o' → IsScaling fs a limit o → IsScaling gs b limit o'
 same-scaling fs gs a b limit o o' e f g h = subst (λ x. IsScaling gs b limit x) g (subst (λ (n : ℕ). IsScaling gs n limit o) f (subst (λ (xs : List Frac). IsScaling xs a limit o) e h))
 
 pub returns-in-Some : goal.returns-in-Some

@@ -3,7 +3,8 @@ use Rattle.std.specs.Int.{w128}
 use Rattle.std.specs.Prelude.{◌*ℤ◌}
 use Rattle.std.proofs.lemmas.Int.{ints}
 use Rattle.int_laws.proofs.OrderLaws.{mul-positive_ℤ}
-use Rattle.simplex_core.proofs.Differences.{less_by_formula, less_by_whole, same_triple, same_difference, same_fraction, same_less}
+use Rattle.simplex_core.proofs.Differences.{less_by_formula, less_by_whole, same_triple, same_difference, same_fraction}
+use Rattle.simplex_core.proofs.Differences.{same_less}
 use Rattle.simplex_core.proofs.arithmetic.less_multiple.Goals as goal
 
 pub lowest-requires-clause-nonzero : goal.lowest-requires-clause-nonzero

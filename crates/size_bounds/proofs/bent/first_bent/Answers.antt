@@ -1,11 +1,11 @@
 use Rattle.std.proofs.Common.{◌≤◌, List, length, map, sym, ap, ◌∙◌, arith}
 use Rattle.std.proofs.lemmas.List.{drop_all}
-use Rattle.proof_setting.specs.Setting.{setting_of}
+use Rattle.proof_tree.specs.proof_setting.Setting.{setting_of}
 use Rattle.proof_tree.specs.declared.arm.Member.{Member}
 use Rattle.proof_tree.specs.Views.{member_of}
 use Rattle.size_bounds.specs.BentArms.{first_bent}
-use Rattle.size_bounds.specs.SizeAnswers.{IsGiven}
-use Rattle.size_bounds.proofs.GivenMembers.{given_at}
+use Rattle.size_bounds.specs.SizeAnswers.{IsMemberOfProgram}
+use Rattle.size_bounds.proofs.ProgramMembers.{given_at}
 use Rattle.size_bounds.proofs.BentMembers.{bent-here, bent-later}
 use Rattle.size_bounds.proofs.bent.first_bent.Goals as goal
 
@@ -21,7 +21,7 @@ is_bent_member-is_here-requires c = record {
 
 pub returns-then-is_here : goal.returns-then-is_here
 returns-then-is_here c = λ p h.
-    let given : IsGiven p c.args.g.now c.args.preps.now (member_of c.member-item.result) =
+    let given : IsMemberOfProgram p c.args.g.now c.args.preps.now (member_of c.member-item.result) =
     given_at p c.args.g.now c.args.preps.now c.args.members.now c.loop-member.member-index c.member-item.result h
     c.loop-member-test.true c.member-item.is in
     bent-here (setting_of p) (map member_of c.args.members.now) c.args.members.now c.loop-member.member-index
@@ -30,7 +30,7 @@ returns-then-is_here c = λ p h.
 
 pub loop-member-preserved : goal.loop-member-preserved
 loop-member-preserved c = λ p h.
-    let given : IsGiven p c.args.g.now c.args.preps.now (member_of c.member-item.result) =
+    let given : IsMemberOfProgram p c.args.g.now c.args.preps.now (member_of c.member-item.result) =
     given_at p c.args.g.now c.args.preps.now c.args.members.now c.loop-member.member-index c.member-item.result h
     c.loop-member-test.true c.member-item.is in
     bent-later (setting_of p) (map member_of c.args.members.now) c.args.members.now c.loop-member.member-index

@@ -1,7 +1,7 @@
 use Rattle.std.proofs.Common.{◌≤◌, length, map, sym, ap, ◌∙◌, arith}
 use Rattle.std.specs.List.{list_any}
 use Rattle.std.proofs.lemmas.List.{drop_all}
-use Rattle.proof_nodes.specs.ComposedSizes.{is_member}
+use Rattle.proof_tree.specs.proof_nodes.ComposedSizes.{is_member}
 use Rattle.proof_tree.specs.Views.{member_of}
 use Rattle.size_bounds.proofs.bent.has_member.Goals as goal
 

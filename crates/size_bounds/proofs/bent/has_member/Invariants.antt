@@ -1,6 +1,6 @@
 use Rattle.std.proofs.Common.{◌≡◌, drop, map}
 use Rattle.std.specs.List.{list_any}
-use Rattle.proof_nodes.specs.ComposedSizes.{is_member}
+use Rattle.proof_tree.specs.proof_nodes.ComposedSizes.{is_member}
 use Rattle.proof_tree.specs.Views.{member_of}
 use Rattle.size_bounds.proofs.bent.has_member.Given as goal
 

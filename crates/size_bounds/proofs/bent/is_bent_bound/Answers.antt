@@ -1,6 +1,6 @@
 use Rattle.std.proofs.Common.{map, sym, ◌∙◌}
 use Rattle.std.proofs.lemmas.Bool.{or_left}
-use Rattle.proof_tree.specs.Composing.{poly_seen}
+use Rattle.proof_tree.specs.Composing.{optional_poly}
 use Rattle.proof_tree.specs.Views.{arm_of, member_of}
 use Rattle.size_bounds.specs.BentArms.{is_bent_arm}
 use Rattle.size_bounds.proofs.BentMembers.{same-bent, other-decides}
@@ -8,7 +8,7 @@ use Rattle.size_bounds.proofs.bent.is_bent_bound.Goals as goal
 
 pub returns-then-is_bent : goal.returns-then-is_bent
 returns-then-is_bent c =
-    let q = poly_seen c.args.poly in
+    let q = optional_poly c.args.poly in
     let ms = map member_of c.args.members.now in
     let inside = map member_of c.members_after-inside.result.now in
     let local = c.args.local.now in
@@ -18,7 +18,7 @@ returns-then-is_bent c =
 
 pub returns-else-is_bent : goal.returns-else-is_bent
 returns-else-is_bent c =
-    let q = poly_seen c.args.poly in
+    let q = optional_poly c.args.poly in
     let ms = map member_of c.args.members.now in
     let inside = map member_of c.members_after-inside.result.now in
     let local = c.args.local.now in

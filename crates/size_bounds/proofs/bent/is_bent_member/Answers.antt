@@ -1,7 +1,7 @@
 use Rattle.std.proofs.Common.{map, ◌∙◌}
 use Rattle.proof_tree.specs.Views.{member_of, local_of}
 use Rattle.size_bounds.specs.BentArms.{is_bent_over}
-use Rattle.size_bounds.proofs.GivenLoops.{linked}
+use Rattle.size_bounds.proofs.LoopMembers.{linked}
 use Rattle.size_bounds.proofs.bent.is_bent_member.Goals as goal
 
 pub poly_at-poly-requires : goal.poly_at-poly-requires

@@ -1,7 +1,7 @@
 use Rattle.std.proofs.Common.{◌≡◌, drop, map}
 use Rattle.std.specs.List.{list_any}
 use Rattle.poly_terms.specs.Views.{monomial_of}
-use Rattle.proof_nodes.specs.ComposedSizes.{is_member}
+use Rattle.proof_tree.specs.proof_nodes.ComposedSizes.{is_member}
 use Rattle.proof_tree.specs.Views.{member_of}
 use Rattle.size_bounds.proofs.bent.reads_member.Given as goal
 

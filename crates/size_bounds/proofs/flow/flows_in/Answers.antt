@@ -1,14 +1,14 @@
 use Rattle.std.proofs.Common.{List, map, refl}
 use Rattle.model.specs.Paths.{pre}
-use Rattle.proof_nodes.specs.ComposedSizes.{flows_from, flows_into}
-use Rattle.proof_setting.specs.Setting.{setting_of}
+use Rattle.proof_tree.specs.proof_nodes.ComposedSizes.{flows_from, flows_into}
+use Rattle.proof_tree.specs.proof_setting.Setting.{setting_of}
 use Rattle.proof_tree.specs.declared.arm.Member.{Member}
 use Rattle.proof_tree.specs.Views.{member_of}
 use Rattle.size_bounds.specs.Tables.{table_of}
 use Rattle.size_bounds.specs.Flows.{flow_of}
-use Rattle.size_bounds.specs.SizeAnswers.{IsGiven}
-use Rattle.size_bounds.proofs.Onward.{one_more}
-use Rattle.size_bounds.proofs.GivenMembers.{given_at}
+use Rattle.size_bounds.specs.SizeAnswers.{IsMemberOfProgram}
+use Rattle.size_bounds.proofs.ListSteps.{one_more}
+use Rattle.size_bounds.proofs.ProgramMembers.{given_at}
 use Rattle.size_bounds.proofs.flow.flows_in.Goals as goal
 
 pub push_flows_into-requires : goal.push_flows_into-requires
@@ -23,7 +23,7 @@ push_flows_into-requires c = record {
 
 pub loop-member-preserved : goal.loop-member-preserved
 loop-member-preserved c = λ p h.
-    let given : IsGiven p c.args.g.now c.args.preps.now (member_of c.member-item.result) =
+    let given : IsMemberOfProgram p c.args.g.now c.args.preps.now (member_of c.member-item.result) =
     given_at p c.args.g.now c.args.preps.now c.args.members.now c.loop-member.member-index c.member-item.result h
     c.loop-member-test.true c.member-item.is in
     let ms = map member_of c.args.members.now in

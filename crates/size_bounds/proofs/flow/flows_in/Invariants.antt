@@ -1,16 +1,16 @@
 use Rattle.std.proofs.Common.{◌≡◌, ◌++◌, drop, map}
 use Rattle.model.specs.Programs.{Program}
-use Rattle.proof_nodes.specs.ComposedSizes.{flows_into}
-use Rattle.proof_setting.specs.Setting.{setting_of}
+use Rattle.proof_tree.specs.proof_nodes.ComposedSizes.{flows_into}
+use Rattle.proof_tree.specs.proof_setting.Setting.{setting_of}
 use Rattle.proof_tree.specs.Views.{member_of}
-use Rattle.size_bounds.specs.SizeAnswers.{AreGiven}
+use Rattle.size_bounds.specs.SizeAnswers.{AreMembersOfProgram}
 use Rattle.size_bounds.specs.Tables.{table_of}
 use Rattle.size_bounds.specs.Flows.{flow_of}
 use Rattle.size_bounds.proofs.flow.flows_in.Given as goal
 
 abbrev pub invariant-loop-member : goal.invariant-loop-member
 invariant-loop-member l =
-    (p : Program) → AreGiven p l.g l.preps (map member_of l.members)
+    (p : Program) → AreMembersOfProgram p l.g l.preps (map member_of l.members)
     → map flow_of l.flows.items ++ flows_into (setting_of p) (map member_of l.members) (table_of l.t).size
     (map member_of (drop l.member-index l.members))
     ≡ flows_into (setting_of p) (map member_of l.members) (table_of l.t).size (map member_of l.members)

@@ -1,6 +1,6 @@
 use Rattle.std.proofs.Common.{◌++◌, List, map, get_or, ap, ◌∙◌}
-use Rattle.proof_nodes.specs.ComposedSizes.{Flow}
-use Rattle.proof_tree.specs.Composing.{poly_seen}
+use Rattle.proof_tree.specs.proof_nodes.ComposedSizes.{Flow}
+use Rattle.proof_tree.specs.Composing.{optional_poly}
 use Rattle.proof_tree.specs.Views.{member_of}
 use Rattle.size_bounds.specs.Tables.{table_of}
 use Rattle.size_bounds.specs.Flows.{flow_of}
@@ -9,7 +9,7 @@ use Rattle.size_bounds.proofs.flow.push_flows.Goals as goal
 
 pub loop-rule-preserved : goal.loop-rule-preserved
 loop-rule-preserved c =
-    let q = poly_seen c.args.poly in
+    let q = optional_poly c.args.poly in
     let size = (table_of c.args.t.now).size in
     let m = member_of c.args.member.now in
     let ms = map member_of c.args.members.now in

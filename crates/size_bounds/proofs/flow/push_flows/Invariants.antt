@@ -1,5 +1,5 @@
 use Rattle.std.proofs.Common.{◌≡◌, ◌++◌, drop, map}
-use Rattle.proof_tree.specs.Composing.{poly_seen}
+use Rattle.proof_tree.specs.Composing.{optional_poly}
 use Rattle.proof_tree.specs.Views.{member_of}
 use Rattle.size_bounds.specs.Tables.{table_of}
 use Rattle.size_bounds.specs.Flows.{flow_of, flows_over}
@@ -7,7 +7,7 @@ use Rattle.size_bounds.proofs.flow.push_flows.Given as goal
 
 abbrev pub invariant-loop-rule : goal.invariant-loop-rule
 invariant-loop-rule l =
-    map flow_of l.flows.items ++ flows_over (poly_seen l.poly) (map member_of l.members) (table_of l.t).size
+    map flow_of l.flows.items ++ flows_over (optional_poly l.poly) (map member_of l.members) (table_of l.t).size
     (member_of l.member) (drop l.rule-index l.before)
-    ≡ map flow_of l.fn.flows.items ++ flows_over (poly_seen l.poly) (map member_of l.members) (table_of l.t).size
+    ≡ map flow_of l.fn.flows.items ++ flows_over (optional_poly l.poly) (map member_of l.members) (table_of l.t).size
     (member_of l.member) l.before

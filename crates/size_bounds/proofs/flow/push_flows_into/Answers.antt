@@ -2,14 +2,14 @@ use Rattle.std.proofs.Common.{◌≡◌, ◌++◌, List, map, ap, ◌∙◌}
 use Rattle.std.proofs.lemmas.Result.{IfOk-weaker}
 use Rattle.model.specs.Programs.{Program}
 use Rattle.model.specs.Paths.{pre}
-use Rattle.proof_nodes.specs.ComposedSizes.{Flow, flows_from}
-use Rattle.proof_setting.specs.Setting.{setting_of}
-use Rattle.proof_tree.specs.Composing.{poly_seen}
+use Rattle.proof_tree.specs.proof_nodes.ComposedSizes.{Flow, flows_from}
+use Rattle.proof_tree.specs.proof_setting.Setting.{setting_of}
+use Rattle.proof_tree.specs.Composing.{optional_poly}
 use Rattle.proof_tree.specs.Views.{member_of}
 use Rattle.size_bounds.specs.Tables.{table_of}
 use Rattle.size_bounds.specs.Flows.{flow_of, flows_over}
-use Rattle.size_bounds.specs.SizeAnswers.{IsGiven}
-use Rattle.size_bounds.proofs.GivenLoops.{linked, limited}
+use Rattle.size_bounds.specs.SizeAnswers.{IsMemberOfProgram}
+use Rattle.size_bounds.proofs.LoopMembers.{linked, limited}
 use Rattle.size_bounds.proofs.LoopFlows.{flows-over}
 use Rattle.size_bounds.proofs.flow.push_flows_into.Goals as goal
 
@@ -40,8 +40,8 @@ returns c =
     let old = map flow_of c.args.flows.now.items in
     let new = map flow_of c.push_flows.new.flows.items in
     IfOk-weaker c.push_flows.result
-    (λ x. new ≡ old ++ flows_over (poly_seen c.poly_at-poly.result) ms size m c.pre-before.result.now)
-    (λ x. (p : Program) → IsGiven p c.args.g.now c.args.preps.now m
+    (λ x. new ≡ old ++ flows_over (optional_poly c.poly_at-poly.result) ms size m c.pre-before.result.now)
+    (λ x. (p : Program) → IsMemberOfProgram p c.args.g.now c.args.preps.now m
     → new ≡ old ++ flows_from (setting_of p) ms size m (pre p m.spot.rule))
     (λ x k p h. k ∙ ap (λ (fs : List Flow). old ++ fs)
     ((λ i. flows_over (c.poly_at-poly.ensures.seen p h.rows h.shape.at i) ms size m (c.pre-before.ensures p h.graph i))

@@ -1,6 +1,6 @@
 use Rattle.std.proofs.Common.{map, arith}
 use Rattle.size_bounds.specs.Flows.{flow_of}
-use Rattle.size_bounds.proofs.Joining.{factor-begun}
+use Rattle.size_bounds.proofs.PushedParts.{factor-begun}
 use Rattle.size_bounds.proofs.growth.factor.Goals as goal
 
 pub loop-flow-init : goal.loop-flow-init

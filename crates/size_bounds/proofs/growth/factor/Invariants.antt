@@ -1,5 +1,5 @@
 use Rattle.std.proofs.Common.{◌≡◌, ◌≤◌, max, drop, map}
-use Rattle.proof_nodes.specs.ComposedSizes.{factor_of}
+use Rattle.proof_tree.specs.proof_nodes.ComposedSizes.{factor_of}
 use Rattle.size_bounds.specs.Flows.{flow_of}
 use Rattle.size_bounds.proofs.growth.factor.Given as goal
 

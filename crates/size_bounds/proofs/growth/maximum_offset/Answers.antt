@@ -5,7 +5,7 @@ use Rattle.bound_expr.proofs.Views.{bound_of-Max}
 use Rattle.size_bounds.specs.declared.flow.Flow.{Flow}
 use Rattle.size_bounds.specs.Flows.{flow_of}
 use Rattle.size_bounds.specs.Growths.{is_of, offset_part}
-use Rattle.size_bounds.proofs.Joining.{parts_more, parts_done, joined-map, offsets-joined}
+use Rattle.size_bounds.proofs.PushedParts.{parts_more, parts_done, joined-map, offsets-joined}
 use Rattle.size_bounds.proofs.growth.maximum_offset.Goals as goal
 
 pub loop-flow-preserved : goal.loop-flow-preserved

@@ -2,8 +2,8 @@ use Rattle.std.proofs.Common.{◌≡◌, ◌∙◌, ap, sym, map}
 use Rattle.model.specs.Bounds.{Bound}
 use Rattle.bound_expr.specs.Views.{bound_of}
 use Rattle.bound_table.specs.Within.{Fits, answer_of, rewritten_within}
-use Rattle.proof_nodes.specs.AcceptsSizes.{cycle_facts}
-use Rattle.proof_setting.proofs.Small.{small-bounds}
+use Rattle.proof_tree.specs.proof_nodes.AcceptsSizes.{cycle_facts}
+use Rattle.proof_tree.proofs.proof_setting.Small.{small-bounds}
 use Rattle.proof_tree.specs.Views.{member_of}
 use Rattle.size_bounds.proofs.loop_answer.where_small.Goals as goal
 

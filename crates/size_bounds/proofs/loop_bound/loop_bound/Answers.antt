@@ -5,7 +5,7 @@ use Rattle.bound_expr.proofs.Views.{bound_of-Prod}
 use Rattle.proof_tree.specs.Sizes.{joined}
 use Rattle.size_bounds.specs.Tables.{table_of}
 use Rattle.size_bounds.specs.Growths.{growth_of, all_joined, addition_part}
-use Rattle.size_bounds.proofs.Joining.{one_pushed}
+use Rattle.size_bounds.proofs.PushedParts.{one_pushed}
 use Rattle.size_bounds.proofs.loop_bound.loop_bound.Goals as goal
 
 pub returns : goal.returns

@@ -5,7 +5,7 @@ use Rattle.bound_expr.proofs.Views.{bound_of-Sum}
 use Rattle.size_bounds.specs.declared.growth.Growth.{Growth}
 use Rattle.size_bounds.specs.Tables.{table_of}
 use Rattle.size_bounds.specs.Growths.{growth_of, addition_part}
-use Rattle.size_bounds.proofs.Joining.{parts_more, parts_done, joined-map}
+use Rattle.size_bounds.proofs.PushedParts.{parts_more, parts_done, joined-map}
 use Rattle.size_bounds.proofs.loop_bound.sum.Goals as goal
 
 pub loop-growth-preserved : goal.loop-growth-preserved

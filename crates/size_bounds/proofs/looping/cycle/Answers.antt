@@ -1,17 +1,17 @@
 use Rattle.std.proofs.Common.{◌≡◌, ◌∙◌, ap, sym, map, None}
 use Rattle.std.proofs.lemmas.Result.{IfOk-weaker}
 use Rattle.model.specs.Programs.{Program}
-use Rattle.proof_nodes.specs.Checks.{needed_into}
-use Rattle.proof_nodes.specs.ComposedSizes.{base_of}
-use Rattle.proof_setting.specs.Setting.{setting_of}
+use Rattle.proof_tree.specs.proof_nodes.Checks.{needed_into}
+use Rattle.proof_tree.specs.proof_nodes.ComposedSizes.{base_of}
+use Rattle.proof_tree.specs.proof_setting.Setting.{setting_of}
 use Rattle.proof_tree.specs.Views.{member_of, spot_of}
 use Rattle.size_bounds.specs.Tables.{table_of, numbers_of}
 use Rattle.size_bounds.specs.Needs.{first_missing}
 use Rattle.size_bounds.specs.Flows.{flow_of}
-use Rattle.size_bounds.specs.Growths.{grown}
+use Rattle.size_bounds.specs.Growths.{growth_by_flows}
 use Rattle.size_bounds.specs.BentArms.{first_bent}
 use Rattle.size_bounds.specs.LoopAnswers.{IsLoopAnswer}
-use Rattle.size_bounds.specs.SizeAnswers.{AreGiven, IsCycleAnswer}
+use Rattle.size_bounds.specs.SizeAnswers.{AreMembersOfProgram, IsCycleAnswer}
 use Rattle.size_bounds.proofs.MemberRules.{rules-are}
 use Rattle.size_bounds.proofs.LoopAnswers.{is-missing, is-bent, is-answered}
 use Rattle.size_bounds.proofs.looping.cycle.Goals as goal
@@ -42,9 +42,9 @@ returns c =
     let fs = map flow_of c.deref-3.result.now in
     let ts = c.deref-4.result.now in
     let spots = map spot_of c.deref-2.result.now in
-    IfOk-weaker c.answered.result
-    (λ a. IsLoopAnswer tab ns ms spots (base_of fs) (map (grown fs) ts) a)
-    (λ a. (p : Program) → AreGiven p c.args.g.now c.args.preps.now ms → IsCycleAnswer (setting_of p) tab ns ms a)
+    IfOk-weaker c.answer_of_flows.result
+    (λ a. IsLoopAnswer tab ns ms spots (base_of fs) (map (growth_by_flows fs) ts) a)
+    (λ a. (p : Program) → AreMembersOfProgram p c.args.g.now c.args.preps.now ms → IsCycleAnswer (setting_of p) tab ns ms a)
     (λ a h p given.
     let none : first_missing tab (needed_into (setting_of p) ms ms) ≡ None =
     ap (first_missing tab) (sym (ap (map spot_of) c.deref.ensures.value ∙ c.in_ok-needed.ensures p given))
@@ -54,4 +54,4 @@ returns c =
     (ap (map spot_of) c.deref-2.ensures.value ∙ c.in_ok-needed.ensures p given)
     (ap (map flow_of) c.deref-3.ensures.value ∙ c.in_ok-flows.ensures p given)
     (c.deref-4.ensures.value ∙ (c.in_ok-rules.ensures ∙ rules-are p ms given.shape)) h)
-    c.answered.ensures
+    c.answer_of_flows.ensures

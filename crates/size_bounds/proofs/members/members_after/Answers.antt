@@ -1,7 +1,7 @@
 use Rattle.std.proofs.Common.{◌∙◌, ap, sym, subst, List, map, arith}
 use Rattle.std.specs.List.Sorted.{IsNonDecreasingBy}
 use Rattle.std.proofs.lemmas.List.Sorted.{IsNonDecreasingBy-drop}
-use Rattle.proof_nodes.specs.ComposedSizes.{is_member}
+use Rattle.proof_tree.specs.proof_nodes.ComposedSizes.{is_member}
 use Rattle.proof_tree.specs.declared.arm.Member.{Member}
 use Rattle.proof_tree.specs.Views.{member_of}
 use Rattle.size_bounds.proofs.MembersAfter.{rules-ascend, behind-lesser, before-greater}

@@ -1,11 +1,11 @@
 use Rattle.std.proofs.Common.{List, map, refl}
 use Rattle.model.specs.Paths.{pre}
-use Rattle.proof_nodes.specs.Checks.{needed_from, needed_into}
-use Rattle.proof_setting.specs.Setting.{setting_of}
+use Rattle.proof_tree.specs.proof_nodes.Checks.{needed_from, needed_into}
+use Rattle.proof_tree.specs.proof_setting.Setting.{setting_of}
 use Rattle.proof_tree.specs.declared.arm.Member.{Member}
 use Rattle.proof_tree.specs.Views.{spot_of, member_of}
-use Rattle.size_bounds.proofs.GivenMembers.{given_at}
-use Rattle.size_bounds.proofs.Onward.{one_more}
+use Rattle.size_bounds.proofs.ProgramMembers.{given_at}
+use Rattle.size_bounds.proofs.ListSteps.{one_more}
 use Rattle.size_bounds.proofs.needs.needed_spots.Goals as goal
 
 pub push_needed-requires-clause-given : goal.push_needed-requires-clause-given

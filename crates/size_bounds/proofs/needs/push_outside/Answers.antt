@@ -1,6 +1,6 @@
 use Rattle.std.proofs.Common.{◌∙◌, ◌++◌, ap, List, map}
 use Rattle.std.proofs.lemmas.Result.{on_ok_weaker}
-use Rattle.proof_nodes.specs.Nodes.{Spot}
+use Rattle.proof_tree.specs.proof_nodes.Nodes.{Spot}
 use Rattle.proof_tree.specs.Views.{spot_of, member_of}
 use Rattle.size_bounds.proofs.MembersAfter.{outside-same}
 use Rattle.size_bounds.proofs.needs.push_outside.Goals as goal

@@ -3,10 +3,10 @@ use Rattle.model.specs.Bounds.{Bound}
 use Rattle.model.specs.Facts.{Size}
 use Rattle.bound_expr.specs.Views.{bound_of}
 use Rattle.bound_table.specs.Within.{Fits, answer_of, rewritten_within}
-use Rattle.proof_nodes.specs.Nodes.{Spot, Spread}
-use Rattle.proof_nodes.specs.AcceptsSizes.{spread_size}
-use Rattle.proof_nodes.specs.Checks.{needed_into}
-use Rattle.proof_setting.specs.Setting.{setting_of}
+use Rattle.proof_tree.specs.proof_nodes.Nodes.{Spot, Spread}
+use Rattle.proof_tree.specs.proof_nodes.AcceptsSizes.{spread_size}
+use Rattle.proof_tree.specs.proof_nodes.Checks.{needed_into}
+use Rattle.proof_tree.specs.proof_setting.Setting.{setting_of}
 use Rattle.proof_tree.specs.Views.{spot_of, member_of}
 use Rattle.proof_tree.specs.Composing.{spread_over}
 use Rattle.round_relation.specs.Uses.{size_needs, uses_for}

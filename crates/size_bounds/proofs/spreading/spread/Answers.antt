@@ -1,9 +1,9 @@
 use Rattle.std.proofs.Common.{◌≡◌, ◌∙◌, ◌++◌, ap, sym, List, [], ◌∷◌, map}
 use Rattle.std.proofs.lemmas.List.{append-nil}
 use Rattle.model.specs.Paths.{pre}
-use Rattle.proof_nodes.specs.Nodes as nodes
-use Rattle.proof_nodes.specs.Checks.{needed_from, needed_into}
-use Rattle.proof_setting.specs.Setting.{setting_of}
+use Rattle.proof_tree.specs.proof_nodes.Nodes as nodes
+use Rattle.proof_tree.specs.proof_nodes.Checks.{needed_from, needed_into}
+use Rattle.proof_tree.specs.proof_setting.Setting.{setting_of}
 use Rattle.proof_tree.specs.declared.arm.Spot.{Spot}
 use Rattle.proof_tree.specs.Views.{spot_of, member_of}
 use Rattle.size_bounds.specs.Tables.{table_of}

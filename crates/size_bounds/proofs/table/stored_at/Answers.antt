@@ -1,5 +1,5 @@
 use Rattle.std.proofs.Common.{sym, ◌∙◌}
-use Rattle.size_bounds.proofs.Stored.{entry_read, entry_past}
+use Rattle.size_bounds.proofs.StoredBounds.{entry_read, entry_past}
 use Rattle.size_bounds.proofs.table.stored_at.Goals as goal
 
 pub returns-then-position-bounds : goal.returns-then-position-bounds

@@ -1,6 +1,6 @@
 use Rattle.std.proofs.Common.{◌∙◌}
 use Rattle.proof_tree.specs.Views.{spot_of}
-use Rattle.size_bounds.proofs.GivenMembers.{poly_is, poly_few}
+use Rattle.size_bounds.proofs.ProgramMembers.{poly_is, poly_few}
 use Rattle.size_bounds.proofs.updates.poly_at.Goals as goal
 
 pub returns-clause-seen : goal.returns-clause-seen

@@ -1,5 +1,5 @@
 use Rattle.std.proofs.Common.{◌≡◌, ◌++◌, map, take}
-use Rattle.proof_nodes.specs.Nodes.{Cite}
+use Rattle.proof_tree.specs.proof_nodes.Nodes.{Cite}
 use Rattle.proof_tree.specs.Views.{proof_of}
 use Rattle.size_bounds.proofs.uses.push_cites.Given as goal
 

@@ -1,4 +1,5 @@
-use Rattle.std.proofs.Common.{ℕ, ◌+◌, List, ◌∷◌, ◌++◌, length, map, replicate, Vec, Option, Some, sym, ◌∙◌, ap, subst, arith}
+use Rattle.std.proofs.Common.{ℕ, ◌+◌, List, ◌∷◌, ◌++◌, length, map, replicate, Vec, Option, Some, sym, ◌∙◌, ap, subst}
+use Rattle.std.proofs.Common.{arith}
 use Rattle.std.specs.List.{All}
 use Rattle.std.specs.declared.alloc.Global.{Global}
 use Rattle.std.proofs.lemmas.List.{length-map}
@@ -9,28 +10,29 @@ use Rattle.outcome.specs.declared.entry.TimeEntry.{TimeEntry}
 use Rattle.outcome.specs.declared.entry.SizeEntry.{SizeEntry}
 use Rattle.outcome.specs.declared.outcome_of.Outcome.{Outcome}
 use Rattle.outcome.specs.Printing.{IsPrintableOutcome}
-use Rattle.round_relation.specs.Rounds.{BegunWhole}
+use Rattle.size_bounds.specs.round_relation.Rounds.{BegunWhole}
 use Rattle.size_bounds.specs.Tables.{table_of, numbers_of}
 use Rattle.time_bounds.specs.declared.candidates.Candidate.{Candidate}
 use Rattle.time_bounds.specs.Candidates.{AreCandidatesOf}
 use Rattle.time_bounds.specs.declared.sizing.Attempt.{Attempt}
 use Rattle.time_bounds.specs.ProgramSearches.{searches_of_program}
-use Rattle.time_bounds.specs.Beginning.{first_times, first_sizes, count_empty, count_unreached, time_numbers, size_numbers}
+use Rattle.time_bounds.specs.Beginning.{first_times, first_sizes, count_empty, count_unreached, time_numbers}
+use Rattle.time_bounds.specs.Beginning.{size_numbers}
 use Rattle.time_bounds.specs.SizeSaid.{said_table, put_whys, AreThere}
 use Rattle.time_bounds.specs.Totals.{time_in, total_of}
 use Rattle.time_bounds.specs.Analysis.{IsAnalysis}
 use Rattle.time_bounds.specs.RoundEnds.{IsLastRound}
 use Rattle.time_bounds.proofs.FirstTables.{is_first, is_table}
 use Rattle.time_bounds.proofs.FirstPlaces.{first_places, few_missing}
-use Rattle.time_bounds.proofs.Found.{report_holds, report_fits}
+use Rattle.time_bounds.proofs.ReportEntries.{report_holds, report_fits}
 use Rattle.time_bounds.proofs.SaidSizes.{all_there, attempts_long, many}
 use Rattle.time_bounds.proofs.WholeAnalysis.{removed_analysis}
 use Rattle.time_bounds.proofs.PrintableOutcomes.{analysis_printable}
 use Rattle.model.specs.Programs.{arity_of}
-use Rattle.proof_setting.specs.Setting.{setting_of}
+use Rattle.proof_tree.specs.proof_setting.Setting.{setting_of}
 use Rattle.proof_tree.specs.Views.{proof_of}
 use Rattle.proof_tree.specs.declared.answer.EmptyAnswer.{EmptyAnswer}
-use Rattle.round_relation.specs.Rounds.{IsLast}
+use Rattle.size_bounds.specs.round_relation.Rounds.{IsLast}
 use Rattle.time_bounds.specs.declared.fates.Fate.{Fate}
 use Rattle.time_bounds.specs.AnalysisLemmas.{HasLemmas}
 use Rattle.time_bounds.specs.Lemmas.{empty_lemmas, unreached_by, never_by}

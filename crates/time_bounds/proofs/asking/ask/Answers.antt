@@ -1,7 +1,7 @@
 use Rattle.std.proofs.Common.{◌≡◌, ℕ, List, sym, subst}
 use Rattle.its_model.specs.Views.{program_of}
-use Rattle.rank_search.specs.ProgramQuestions.{places_of}
-use Rattle.round_relation.specs.Sets.{IsSetOfRule, AreShutOf}
+use Rattle.rank_search.specs.rule_questions.ProgramQuestions.{places_of}
+use Rattle.size_bounds.specs.round_relation.Sets.{IsSetOfRule, AreShutOf}
 use Rattle.time_bounds.specs.declared.asking.Asked.{Asked}
 use Rattle.size_bounds.specs.Tables.{table_of}
 use Rattle.time_bounds.specs.Questions.{IsAsked}

@@ -1,4 +1,5 @@
-use Rattle.std.proofs.Common.{◌≡◌, ℕ, ◌<◌, List, [], ◌∷◌, ◌++◌, length, map, replicate, drop, ◌+◌, get_or, Vec, Option, sym, ◌∙◌, ap, subst, arith}
+use Rattle.std.proofs.Common.{◌≡◌, ℕ, ◌<◌, List, [], ◌∷◌, ◌++◌, length, map, replicate, drop, ◌+◌, get_or, Vec, Option}
+use Rattle.std.proofs.Common.{sym, ◌∙◌, ap, subst, arith}
 use Rattle.std.specs.declared.alloc.Global.{Global}
 use Rattle.std.proofs.lemmas.List.{map-append}
 use Rattle.model.specs.Programs.{arity_of}
@@ -9,9 +10,9 @@ use Rattle.outcome.specs.declared.entry.Stored.{Stored}
 use Rattle.time_bounds.specs.declared.fates.Fate.TheVariants.{Empty}
 use Rattle.size_bounds.specs.Tables.{bound_stored, lemma_stored}
 use Rattle.time_bounds.specs.Beginning.{zero_by, start_sizes, if_zeros, size_number, size_numbers}
-use Rattle.time_bounds.proofs.Ends.{target_read, arity_read}
+use Rattle.time_bounds.proofs.RuleSymbols.{target_read, arity_read}
 use Rattle.time_bounds.proofs.FateLists.{sizes-more}
-use Rattle.time_bounds.proofs.Numbered.{size-number-more}
+use Rattle.time_bounds.proofs.FirstNumbers.{size-number-more}
 use Rattle.time_bounds.proofs.beginning.first_sizes.Goals as goal
 
 pub index-requires-in-loop-position : goal.index-requires-in-loop-position

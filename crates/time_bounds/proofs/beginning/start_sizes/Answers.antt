@@ -3,7 +3,7 @@ use Rattle.std.proofs.lemmas.List.{map-append}
 use Rattle.model.specs.Bounds.{Bound, Input}
 use Rattle.size_bounds.specs.Tables.{bound_stored, lemma_stored}
 use Rattle.time_bounds.proofs.FateLists.{start-more}
-use Rattle.time_bounds.proofs.Numbered.{same-more}
+use Rattle.time_bounds.proofs.FirstNumbers.{same-more}
 use Rattle.time_bounds.proofs.beginning.start_sizes.Goals as goal
 
 pub loop-place-preserved : goal.loop-place-preserved

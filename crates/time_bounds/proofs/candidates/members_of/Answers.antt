@@ -1,7 +1,7 @@
 use Rattle.std.proofs.Common.{◌≡◌, ◌+◌, List, [], ◌∷◌, ◌++◌, map, take, get_or, Some, None, sym, ◌∙◌, ap, subst}
 use Rattle.std.proofs.lemmas.List.{take_more, map-append}
 use Rattle.local_size.specs.declared.answer.LocalAnswer.{LocalAnswer}
-use Rattle.proof_nodes.specs.Nodes as nodes
+use Rattle.proof_tree.specs.proof_nodes.Nodes as nodes
 use Rattle.proof_tree.specs.Views.{spot_of, member_of}
 use Rattle.proof_tree.specs.declared.arm.Spot.{Spot}
 use Rattle.rvg_components.specs.Listing.{answer_lists, local_from}

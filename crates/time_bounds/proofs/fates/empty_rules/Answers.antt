@@ -2,7 +2,7 @@ use Rattle.std.proofs.Common.{ℕ, ◌+◌, true, false, List, [], ◌∷◌, �
 use Rattle.std.specs.List.{range_with_len}
 use Rattle.std.specs.declared.alloc.Global.{Global}
 use Rattle.std.proofs.lemmas.List.{append-nil}
-use Rattle.rank_search.specs.RankAnswers.{answer_for}
+use Rattle.rank_search.specs.rule_questions.RuleAnswers.{answer_for}
 use Rattle.time_bounds.specs.Fates.{is_said_empty}
 use Rattle.time_bounds.proofs.FateLists.{kept-more, answer-read}
 use Rattle.time_bounds.proofs.fates.empty_rules.Goals as goal

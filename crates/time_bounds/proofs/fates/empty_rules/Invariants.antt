@@ -1,6 +1,6 @@
 use Rattle.std.proofs.Common.{◌≡◌, filter}
 use Rattle.std.specs.List.{range_with_len}
-use Rattle.rank_search.specs.RankAnswers.{answer_for}
+use Rattle.rank_search.specs.rule_questions.RuleAnswers.{answer_for}
 use Rattle.time_bounds.specs.Fates.{is_said_empty}
 use Rattle.time_bounds.proofs.fates.empty_rules.Given as goal
 

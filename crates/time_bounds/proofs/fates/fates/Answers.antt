@@ -10,7 +10,7 @@ use Rattle.its_graph.specs.Graphs.{none_of}
 use Rattle.proof_tree.specs.declared.answer.EmptyAnswer.{EmptyAnswer}
 use Rattle.time_bounds.specs.declared.fates.Fate.{Fate}
 use Rattle.time_bounds.specs.Fates.{said_empty, fates_by, AreFates}
-use Rattle.time_bounds.proofs.Ends.{sources_within}
+use Rattle.time_bounds.proofs.RuleSymbols.{sources_within}
 use Rattle.time_bounds.proofs.FateLaws.{are_fates}
 use Rattle.time_bounds.proofs.fates.fates.Goals as goal
 

@@ -1,8 +1,8 @@
 use Rattle.std.proofs.Common.{List, [], ◌∷◌, ◌++◌, ◌+◌, map, sym, ◌∙◌, ap}
 use Rattle.std.proofs.lemmas.List.{map-append}
-use Rattle.proof_nodes.specs.Nodes as nodes
+use Rattle.proof_tree.specs.proof_nodes.Nodes as nodes
 use Rattle.proof_tree.specs.Views.{proof_of}
-use Rattle.time_bounds.proofs.Numbered.{range-next}
+use Rattle.time_bounds.proofs.FirstNumbers.{range-next}
 use Rattle.time_bounds.proofs.first_lemmas.first_cited.Goals as goal
 
 pub loop-lemma-preserved : goal.loop-lemma-preserved

@@ -1,6 +1,6 @@
 use Rattle.std.proofs.Common.{◌≡◌, map}
 use Rattle.std.specs.List.{range_with_len}
-use Rattle.proof_nodes.specs.Nodes.{Cite}
+use Rattle.proof_tree.specs.proof_nodes.Nodes.{Cite}
 use Rattle.proof_tree.specs.Views.{proof_of}
 use Rattle.time_bounds.proofs.first_lemmas.first_cited.Given as goal
 

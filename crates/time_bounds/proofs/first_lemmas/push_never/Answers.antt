@@ -1,14 +1,14 @@
 use Rattle.std.proofs.Common.{ℕ, ◌+◌, ◌<◌, sym, ◌∙◌, ap, subst, length, List, ◌++◌, map, drop, get_or, arith}
 use Rattle.model.specs.Programs.{arity_of}
 use Rattle.its_model.specs.Views.{rule_of, program_of}
-use Rattle.proof_nodes.specs.Nodes as nodes
+use Rattle.proof_tree.specs.proof_nodes.Nodes as nodes
 use Rattle.proof_tree.specs.Views.{proof_of}
 use Rattle.time_bounds.specs.declared.fates.Fate.TheVariants.{Empty}
 use Rattle.time_bounds.specs.Lemmas.{never_here, never_by}
 use Rattle.size_bounds.specs.Tables.{numbers_of}
-use Rattle.time_bounds.proofs.Numbered.{more, never-left}
+use Rattle.time_bounds.proofs.FirstNumbers.{more, never-left}
 use Rattle.its_model.specs.declared.program.Rule.{Rule}
-use Rattle.time_bounds.proofs.Ends.{target_read, arity_read}
+use Rattle.time_bounds.proofs.RuleSymbols.{target_read, arity_read}
 use Rattle.time_bounds.proofs.first_lemmas.push_never.Goals as goal
 
 pub index-requires : goal.index-requires

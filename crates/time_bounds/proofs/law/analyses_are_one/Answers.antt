@@ -1,4 +1,5 @@
-use Rattle.rank_search.proofs.Uniqueness.{empties-one, ranks-one}
+use Rattle.rank_search.proofs.rule_questions.OneEmptyAnswer.{empties-one}
+use Rattle.rank_search.proofs.Uniqueness.{ranks-one}
 use Rattle.local_size.proofs.OneLocal.{locals-one}
 use Rattle.time_bounds.proofs.OneSearches.{searches_one}
 use Rattle.time_bounds.proofs.OneSizes.{program_sizes_one}

@@ -3,7 +3,7 @@ use Rattle.its_model.specs.Views.{program_of}
 use Rattle.guard_prep.specs.Views.{prepared_of}
 use Rattle.local_size.specs.declared.answer.LocalAnswer.{LocalAnswer}
 use Rattle.time_bounds.specs.Locals.{is_live_fate, AreAnswersAt, AreAnswersAfter}
-use Rattle.time_bounds.proofs.Ends.{target_read}
+use Rattle.time_bounds.proofs.RuleSymbols.{target_read}
 use Rattle.time_bounds.proofs.LiveLocals.{all_two, prep_prepared, prep_places, empty_got, live_after}
 use Rattle.time_bounds.proofs.LocalLists.{none_after}
 use Rattle.time_bounds.proofs.locals.locals_after.Goals as goal

@@ -3,7 +3,7 @@ use Rattle.std.proofs.lemmas.List.{take_more, length-take-le}
 use Rattle.guard_prep.specs.declared.rule_rows.RuleRows.{RuleRows}
 use Rattle.guard_prep.specs.Views.{prepared_of}
 use Rattle.proof_tree.specs.declared.answer.EmptyAnswer.{EmptyAnswer}
-use Rattle.rank_search.specs.EmptyAnswers.{IsEmptyAnswer}
+use Rattle.rank_search.specs.rule_questions.EmptyAnswers.{IsEmptyAnswer}
 use Rattle.time_bounds.specs.Questions.{AreAnswersFrom}
 use Rattle.time_bounds.proofs.RowLaws.{answer_pushed}
 use Rattle.time_bounds.proofs.questions.all_empties.Goals as goal

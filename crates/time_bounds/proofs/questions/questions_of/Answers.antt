@@ -1,7 +1,7 @@
 use Rattle.std.proofs.Common.{List, All, sym, subst}
 use Rattle.its_model.specs.Views.{program_of}
 use Rattle.guard_prep.specs.declared.rule_rows.RuleRows.{RuleRows}
-use Rattle.rank_search.specs.EmptyAnswers.{IsPrepared}
+use Rattle.rank_search.specs.rule_questions.EmptyAnswers.{IsPrepared}
 use Rattle.time_bounds.specs.Questions.{AreAnswersFrom}
 use Rattle.time_bounds.proofs.RowLaws.{are_prepared, answers_of}
 use Rattle.time_bounds.proofs.questions.questions_of.Goals as goal

@@ -5,12 +5,12 @@ use Rattle.bound_expr.specs.Views.{bound_of}
 use Rattle.bound_table.specs.Within.{answer_of}
 use Rattle.outcome.specs.Reports.{TimeLarge, TimeTripped, NoFunction, Untimed}
 use Rattle.outcome.specs.Views.{numbered_gap}
-use Rattle.proof_nodes.specs.Gaps.{Gap}
-use Rattle.proof_setting.specs.Setting.{setting_of}
+use Rattle.proof_tree.specs.proof_nodes.Gaps.{Gap}
+use Rattle.proof_tree.specs.proof_setting.Setting.{setting_of}
 use Rattle.proof_tree.specs.Views.{rank_of}
 use Rattle.proof_tree.specs.declared.gap.Gap as code
 use Rattle.rank_search.specs.declared.answer.RankAnswer.{RankAnswer}
-use Rattle.round_relation.specs.NewTimes.{SaysTime}
+use Rattle.size_bounds.specs.round_relation.NewTimes.{SaysTime}
 use Rattle.size_bounds.specs.Tables.{table_of}
 use Rattle.time_bounds.specs.ProgramSearches.{ranking_of}
 use Rattle.time_bounds.proofs.AnswerLaws.{large_says, no_time_of, missing_unfit}

@@ -9,7 +9,7 @@ use Rattle.outcome.specs.Views.{time_of}
 use Rattle.outcome.specs.Printing.{HasItsGap}
 use Rattle.outcome.specs.declared.entry.TimeEntry.{TimeEntry}
 use Rattle.time_bounds.specs.Tries.{IsTried}
-use Rattle.time_bounds.specs.Analysis.{AreSaid}
+use Rattle.time_bounds.specs.Analysis.{AreTimesOf}
 use Rattle.time_bounds.proofs.TriedLists.{tried_read, said_grown, gaps_grown, grown_few}
 use Rattle.time_bounds.proofs.CarriedTimes.{times_carried, gaps_ordered}
 use Rattle.time_bounds.proofs.reasons.said_of.Goals as goal
@@ -50,7 +50,7 @@ loop-tried-preserved c =
           );
       few = omega (arith, grown_few c.loop-tried.gaps.items c.said_by.new.gaps.items c.in_ok-said_by.ensures.grown, more, c.loop-tried.invariant.few);
       said =
-          subst (λ (xs : List TimeEntry). AreSaid q p tab 1 (map (time_of c.said_by.new.gaps.items) xs)) (sym {A = List TimeEntry} pushed)
+          subst (λ (xs : List TimeEntry). AreTimesOf q p tab 1 (map (time_of c.said_by.new.gaps.items) xs)) (sym {A = List TimeEntry} pushed)
           (said_grown q p tab c.loop-tried.gaps.items c.said_by.new.gaps.items c.loop-tried.times.items c.in_ok-said_by.field-0 (c.len.result + 1)
           c.in_ok-said_by.ensures.grown c.loop-tried.invariant.gaps c.loop-tried.invariant.said
           (let z : c.len.result + 1 ≡ 1 + length c.loop-tried.times.items = omega (arith, c.len.ensures, c.loop-tried.times.ok.0) in z)

@@ -1,9 +1,9 @@
 use Rattle.std.proofs.Common.{◌≡◌, List, length, Option, None, sym, ◌∙◌, ap, subst, arith}
 use Rattle.std.proofs.lemmas.List.{length-map, length-replicate}
 use Rattle.its_model.specs.Views.{rule_of, program_of}
-use Rattle.proof_nodes.specs.Known as nodes
-use Rattle.proof_setting.specs.Setting.{setting_of}
-use Rattle.round_relation.specs.Rounds.{IsMade, MadeWhole}
+use Rattle.proof_tree.specs.proof_nodes.Known as nodes
+use Rattle.proof_tree.specs.proof_setting.Setting.{setting_of}
+use Rattle.size_bounds.specs.round_relation.Rounds.{IsMade, MadeWhole}
 use Rattle.time_bounds.specs.declared.asking.Asked.{Asked}
 use Rattle.time_bounds.specs.declared.rounds.Round.{Round}
 use Rattle.time_bounds.specs.ProgramSearches.{searches_of_program}

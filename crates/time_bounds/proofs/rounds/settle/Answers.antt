@@ -5,7 +5,7 @@ use Rattle.std.proofs.lemmas.Iterator.Consumers.{YieldsList-turn}
 use Rattle.outcome.specs.declared.entry.Stored.{Stored}
 use Rattle.time_bounds.specs.declared.asking.Asked.{Asked}
 use Rattle.time_bounds.specs.Tries.{kept_in}
-use Rattle.time_bounds.proofs.Settling.{tries_nothing, tries_long, one_written}
+use Rattle.time_bounds.proofs.RoundTimes.{tries_nothing, tries_long, one_written}
 use Rattle.time_bounds.proofs.rounds.settle.Goals as goal
 
 pub loop-tried-init : goal.loop-tried-init

@@ -1,6 +1,6 @@
 use Rattle.std.proofs.Common.{sym, ◌∙◌, ap}
 use Rattle.time_bounds.specs.Tries.{found_in, put_tried}
-use Rattle.time_bounds.proofs.Settling.{unfound, taken_if, written_if}
+use Rattle.time_bounds.proofs.RoundTimes.{unfound, taken_if, written_if}
 use Rattle.time_bounds.proofs.rounds.settled.Goals as goal
 
 pub returns-in-Known-clause-times : goal.returns-in-Known-clause-times

@@ -3,7 +3,7 @@ use Rattle.std.proofs.lemmas.List.{length-map}
 use Rattle.its_model.specs.declared.program.Symbol.{Symbol}
 use Rattle.its_model.specs.Views.{symbol_of, program_of}
 use Rattle.time_bounds.specs.Shutting.{put_mark}
-use Rattle.time_bounds.proofs.Steps.{no_marks, target_marked, entry_more}
+use Rattle.time_bounds.proofs.ShutByPlace.{no_marks, target_marked, entry_more}
 use Rattle.time_bounds.proofs.sets.entered_symbols.Goals as goal
 
 pub loop-entry-init : goal.loop-entry-init

@@ -1,11 +1,11 @@
 use Rattle.std.proofs.Common.{◌≡◌, ℕ, List, ◌++◌, sym, ap, ◌∙◌, subst, arith}
 use Rattle.std.specs.Prelude.{OnOk}
 use Rattle.its_model.specs.Views.{program_of}
-use Rattle.proof_nodes.specs.Gaps.{SymbolPlace}
-use Rattle.rank_search.specs.ProgramQuestions.{places_of}
+use Rattle.proof_tree.specs.proof_nodes.Gaps.{SymbolPlace}
+use Rattle.rank_search.specs.rule_questions.ProgramQuestions.{places_of}
 use Rattle.size_bounds.specs.Tables.{table_of}
 use Rattle.time_bounds.specs.Shutting.{into, shut_at, shut_by}
-use Rattle.time_bounds.proofs.Steps.{arity_few, arity_read}
+use Rattle.time_bounds.proofs.ShutByPlace.{arity_few, arity_read}
 use Rattle.time_bounds.proofs.sets.push_entered.Goals as goal
 
 pub push_shut-requires : goal.push_shut-requires

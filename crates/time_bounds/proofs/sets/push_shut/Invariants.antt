@@ -1,5 +1,5 @@
 use Rattle.std.proofs.Common.{◌≡◌, ◌++◌}
-use Rattle.rank_search.specs.ProgramQuestions.{places_of}
+use Rattle.rank_search.specs.rule_questions.ProgramQuestions.{places_of}
 use Rattle.size_bounds.specs.Tables.{table_of}
 use Rattle.time_bounds.specs.Shutting.{shut_at}
 use Rattle.time_bounds.proofs.sets.push_shut.Given as goal

@@ -1,7 +1,7 @@
 use Rattle.std.proofs.Common.{◌∙◌, length, arith}
 use Rattle.its_model.specs.Views.{program_of}
 use Rattle.size_bounds.specs.Tables.{table_of}
-use Rattle.time_bounds.proofs.Steps.{mark_if, mark_pushed, marks_long, symbols_whole}
+use Rattle.time_bounds.proofs.ShutByPlace.{mark_if, mark_pushed, marks_long, symbols_whole}
 use Rattle.time_bounds.proofs.sets.shut_places.Goals as goal
 
 pub push_marked-requires-clause-within : goal.push_marked-requires-clause-within

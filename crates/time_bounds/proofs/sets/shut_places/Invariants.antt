@@ -1,6 +1,6 @@
 use Rattle.std.proofs.Common.{◌≡◌, ◌-◌, ◌++◌, length}
 use Rattle.its_model.specs.Views.{program_of}
-use Rattle.rank_search.specs.ProgramQuestions.{places_of}
+use Rattle.rank_search.specs.rule_questions.ProgramQuestions.{places_of}
 use Rattle.size_bounds.specs.Tables.{table_of}
 use Rattle.time_bounds.specs.Shutting.{shut_from}
 use Rattle.time_bounds.proofs.sets.shut_places.Given as goal

@@ -2,7 +2,7 @@ use Rattle.std.proofs.Common.{◌≡◌, ◌+◌, List, [], ◌∷◌, ◌++◌,
 use Rattle.std.proofs.lemmas.List.{take_more, map-append}
 use Rattle.std.specs.Option.{option_map}
 use Rattle.outcome.specs.Reports.{Size, Unsized}
-use Rattle.proof_nodes.specs.Nodes as nodes
+use Rattle.proof_tree.specs.proof_nodes.Nodes as nodes
 use Rattle.proof_tree.specs.Views.{spot_of}
 use Rattle.proof_tree.specs.declared.arm.Spot.{Spot}
 use Rattle.time_bounds.specs.Attempts.{why_of}

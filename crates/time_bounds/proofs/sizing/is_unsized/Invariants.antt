@@ -1,6 +1,6 @@
 use Rattle.std.proofs.Common.{◌≡◌, drop, map}
 use Rattle.proof_tree.specs.Views.{spot_of}
-use Rattle.round_relation.specs.NewSizes.{is_unsized}
+use Rattle.size_bounds.specs.round_relation.NewSizes.{is_unsized}
 use Rattle.size_bounds.specs.Tables.{table_of}
 use Rattle.time_bounds.proofs.sizing.is_unsized.Given as goal
 

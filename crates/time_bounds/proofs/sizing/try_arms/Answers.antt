@@ -1,13 +1,14 @@
 use Rattle.std.proofs.Common.{List, refl, sym, subst, map}
 use Rattle.its_model.specs.Views.{program_of}
 use Rattle.guard_prep.specs.declared.rule_rows.RuleRows.{RuleRows}
-use Rattle.proof_setting.specs.Setting.{setting_of}
+use Rattle.proof_tree.specs.proof_setting.Setting.{setting_of}
 use Rattle.proof_tree.specs.Views.{member_of}
 use Rattle.proof_tree.specs.declared.arm.Member.{Member}
 use Rattle.size_bounds.specs.Tables.{table_of, numbers_of}
-use Rattle.size_bounds.specs.SizeAnswers.{IsGiven, AreGiven, IsCycleAnswer}
+use Rattle.size_bounds.specs.SizeAnswers.{IsMemberOfProgram, AreMembersOfProgram, IsCycleAnswer}
 use Rattle.time_bounds.specs.Attempts.{IsSizeStep}
-use Rattle.time_bounds.proofs.TakenAnswers.{all_three, armless, taken, spread_gives, cycle_gives, given_alone, given_loop}
+use Rattle.time_bounds.proofs.TakenAnswers.{all_three, armless, taken, spread_gives, cycle_gives, given_alone}
+use Rattle.time_bounds.proofs.TakenAnswers.{given_loop}
 use Rattle.time_bounds.specs.Written.{SizeFollows}
 use Rattle.time_bounds.proofs.WrittenAnswers.{no_size_found, spread_lemma, cycle_lemma, size_follows}
 use Rattle.time_bounds.proofs.sizing.try_arms.Goals as goal
@@ -21,7 +22,7 @@ pub spread-requires : goal.spread-requires
 spread-requires c =
     let p = program_of c.args.p.now in (
       p,
-      subst (λ (preps : List RuleRows). IsGiven p c.args.q.now.graph preps (member_of c.in-Alone.member)) (sym c.deref.ensures.value)
+      subst (λ (preps : List RuleRows). IsMemberOfProgram p c.args.q.now.graph preps (member_of c.in-Alone.member)) (sym c.deref.ensures.value)
           (given_alone p c.args.q.now.pivots c.requires.candidate.0 c.args.candidate.now c.in-Alone.member c.args.q.now.graph c.args.q.now.preps.items
           c.requires.valid c.requires.questions.graph c.requires.questions.rows c.requires.candidate.1 c.in-Alone.is),
     )
@@ -30,8 +31,8 @@ pub cycle-requires : goal.cycle-requires
 cycle-requires c =
     let p = program_of c.args.p.now in (
       p,
-      subst (λ (preps : List RuleRows). AreGiven p c.args.q.now.graph preps (map member_of c.deref-in-Loop-2.result.now)) (sym c.deref-in-Loop.ensures.value)
-          (subst (λ (ms : List Member). AreGiven p c.args.q.now.graph c.args.q.now.preps.items (map member_of ms)) (sym c.deref-in-Loop-2.ensures.value)
+      subst (λ (preps : List RuleRows). AreMembersOfProgram p c.args.q.now.graph preps (map member_of c.deref-in-Loop-2.result.now)) (sym c.deref-in-Loop.ensures.value)
+          (subst (λ (ms : List Member). AreMembersOfProgram p c.args.q.now.graph c.args.q.now.preps.items (map member_of ms)) (sym c.deref-in-Loop-2.ensures.value)
           (given_loop p c.args.q.now.pivots c.requires.candidate.0 c.args.candidate.now c.in-Loop.members c.args.q.now.graph c.args.q.now.preps.items
           c.requires.valid c.requires.questions.graph c.requires.questions.rows c.requires.candidate.1 c.in-Loop.is)),
     )
@@ -42,7 +43,7 @@ returns-in_ok-answer-in-Alone-clause-step c =
     let old = c.args.table.now in
     let cand = c.args.candidate.now in
     let a = c.in_ok-answer-in-Alone.answer in
-    let given = subst (λ (preps : List RuleRows). IsGiven p c.args.q.now.graph preps (member_of c.in-Alone.member)) (sym c.deref.ensures.value)
+    let given = subst (λ (preps : List RuleRows). IsMemberOfProgram p c.args.q.now.graph preps (member_of c.in-Alone.member)) (sym c.deref.ensures.value)
     (given_alone p c.args.q.now.pivots c.requires.candidate.0 cand c.in-Alone.member c.args.q.now.graph c.args.q.now.preps.items c.requires.valid
     c.requires.questions.graph c.requires.questions.rows c.requires.candidate.1 c.in-Alone.is) in
     let gives = spread_gives p c.args.q.now.pivots c.requires.candidate.0 cand c.in-Alone.member (table_of old) (numbers_of old) a c.requires.candidate.1
@@ -57,9 +58,9 @@ returns-in_ok-answer-in-Loop-clause-step c =
     let old = c.args.table.now in
     let cand = c.args.candidate.now in
     let a = c.in_ok-answer-in-Loop.answer in
-    let given = subst (λ (preps : List RuleRows). AreGiven p c.args.q.now.graph preps (map member_of c.deref-in-Loop-2.result.now))
+    let given = subst (λ (preps : List RuleRows). AreMembersOfProgram p c.args.q.now.graph preps (map member_of c.deref-in-Loop-2.result.now))
     (sym c.deref-in-Loop.ensures.value)
-    (subst (λ (ms : List Member). AreGiven p c.args.q.now.graph c.args.q.now.preps.items (map member_of ms)) (sym c.deref-in-Loop-2.ensures.value)
+    (subst (λ (ms : List Member). AreMembersOfProgram p c.args.q.now.graph c.args.q.now.preps.items (map member_of ms)) (sym c.deref-in-Loop-2.ensures.value)
     (given_loop p c.args.q.now.pivots c.requires.candidate.0 cand c.in-Loop.members c.args.q.now.graph c.args.q.now.preps.items c.requires.valid
     c.requires.questions.graph c.requires.questions.rows c.requires.candidate.1 c.in-Loop.is)) in
     let says = subst (λ (ms : List Member). IsCycleAnswer (setting_of p) (table_of old) (numbers_of old) (map member_of ms) a)
@@ -80,7 +81,7 @@ returns-in_ok-answer-in-Alone-clause-written c =
     let old = c.args.table.now in
     let cand = c.args.candidate.now in
     let a = c.in_ok-answer-in-Alone.answer in
-    let given = subst (λ (preps : List RuleRows). IsGiven p c.args.q.now.graph preps (member_of c.in-Alone.member)) (sym c.deref.ensures.value)
+    let given = subst (λ (preps : List RuleRows). IsMemberOfProgram p c.args.q.now.graph preps (member_of c.in-Alone.member)) (sym c.deref.ensures.value)
     (given_alone p c.args.q.now.pivots c.requires.candidate.0 cand c.in-Alone.member c.args.q.now.graph c.args.q.now.preps.items c.requires.valid
     c.requires.questions.graph c.requires.questions.rows c.requires.candidate.1 c.in-Alone.is) in
     let gives = spread_lemma p c.args.q.now.pivots c.requires.candidate.0 cand c.in-Alone.member old a c.requires.candidate.1
@@ -95,9 +96,9 @@ returns-in_ok-answer-in-Loop-clause-written c =
     let old = c.args.table.now in
     let cand = c.args.candidate.now in
     let a = c.in_ok-answer-in-Loop.answer in
-    let given = subst (λ (preps : List RuleRows). AreGiven p c.args.q.now.graph preps (map member_of c.deref-in-Loop-2.result.now))
+    let given = subst (λ (preps : List RuleRows). AreMembersOfProgram p c.args.q.now.graph preps (map member_of c.deref-in-Loop-2.result.now))
     (sym c.deref-in-Loop.ensures.value)
-    (subst (λ (ms : List Member). AreGiven p c.args.q.now.graph c.args.q.now.preps.items (map member_of ms)) (sym c.deref-in-Loop-2.ensures.value)
+    (subst (λ (ms : List Member). AreMembersOfProgram p c.args.q.now.graph c.args.q.now.preps.items (map member_of ms)) (sym c.deref-in-Loop-2.ensures.value)
     (given_loop p c.args.q.now.pivots c.requires.candidate.0 cand c.in-Loop.members c.args.q.now.graph c.args.q.now.preps.items c.requires.valid
     c.requires.questions.graph c.requires.questions.rows c.requires.candidate.1 c.in-Loop.is)) in
     let says = subst (λ (ms : List Member). IsCycleAnswer (setting_of p) (table_of old) (numbers_of old) (map member_of ms) a)

@@ -2,7 +2,7 @@ use Rattle.std.proofs.Common.{◌≡◌, true, List, refl, sym, ◌∙◌, ap, m
 use Rattle.its_model.specs.Views.{program_of}
 use Rattle.proof_tree.specs.Views.{spot_of}
 use Rattle.proof_tree.specs.declared.arm.Spot.{Spot}
-use Rattle.round_relation.specs.NewSizes.{is_unsized}
+use Rattle.size_bounds.specs.round_relation.NewSizes.{is_unsized}
 use Rattle.size_bounds.specs.Tables.{table_of}
 use Rattle.time_bounds.specs.Candidates.{spots_in}
 use Rattle.time_bounds.proofs.StandingAnswers.{some_holds, standing-step}

@@ -7,7 +7,8 @@ use Rattle.time_bounds.specs.Attempts.{AreSizeSteps, ArePlacesOf, count_sized}
 use Rattle.time_bounds.specs.Candidates.{IsCandidate}
 use Rattle.size_bounds.specs.Tables.{table_of}
 use Rattle.time_bounds.specs.Standing.{WereAttempts}
-use Rattle.time_bounds.proofs.StandingAnswers.{grown-step, grown-steps, were-before, were-none, were-more, standing-there}
+use Rattle.time_bounds.proofs.StandingAnswers.{grown-step, grown-steps, were-before, were-none, were-more}
+use Rattle.time_bounds.proofs.StandingAnswers.{standing-there}
 use Rattle.time_bounds.proofs.SizeSteps.{no_steps, steps_more, count_more}
 use Rattle.time_bounds.proofs.WholeRounds.{within_all}
 use Rattle.time_bounds.specs.Written.{SizesFollow}

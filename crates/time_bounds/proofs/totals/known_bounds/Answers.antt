@@ -1,7 +1,7 @@
 use Rattle.std.proofs.Common.{map, Some, sym, ◌∙◌, ap}
 use Rattle.bound_expr.specs.Views.{bounds_of, parts_of}
 use Rattle.time_bounds.specs.Totals.{time_in, known_parts}
-use Rattle.time_bounds.proofs.Pushed.{pushed, all_pushed}
+use Rattle.time_bounds.proofs.KnownTimes.{pushed, all_pushed}
 use Rattle.time_bounds.proofs.totals.known_bounds.Goals as goal
 
 pub loop-entry-preserved : goal.loop-entry-preserved

@@ -1,7 +1,7 @@
 use Rattle.std.proofs.Common.{◌≡◌, map, drop}
 use Rattle.bound_expr.specs.Views.{bounds_of, parts_of}
 use Rattle.time_bounds.specs.Totals.{time_in, known_parts}
-use Rattle.time_bounds.proofs.Pushed.{all_before}
+use Rattle.time_bounds.proofs.KnownTimes.{all_before}
 use Rattle.time_bounds.proofs.totals.known_bounds.Given as goal
 
 -- the bounds so far and those that are left make all

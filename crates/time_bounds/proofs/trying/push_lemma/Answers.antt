@@ -1,6 +1,6 @@
 use Rattle.std.proofs.Common.{[], ◌∷◌, ◌++◌, map, ◌∙◌, ap}
 use Rattle.std.proofs.lemmas.List.{map-append}
-use Rattle.proof_nodes.specs.Nodes as nodes
+use Rattle.proof_tree.specs.proof_nodes.Nodes as nodes
 use Rattle.proof_tree.specs.Views.{proof_of, rank_of}
 use Rattle.time_bounds.proofs.trying.push_lemma.Goals as goal
 

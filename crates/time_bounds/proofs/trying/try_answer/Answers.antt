@@ -3,14 +3,14 @@ use Rattle.its_model.specs.Views.{program_of}
 use Rattle.bound_expr.specs.Views.{bound_of}
 use Rattle.bound_table.specs.Within.{answer_of}
 use Rattle.outcome.specs.Reports.{NoFunction, TimeTripped, TimeLarge, Timed}
-use Rattle.proof_setting.specs.Setting.{setting_of}
+use Rattle.proof_tree.specs.proof_setting.Setting.{setting_of}
 use Rattle.proof_tree.specs.Views.{rank_of}
 use Rattle.proof_tree.specs.AnswerViews.{gap_of}
 use Rattle.rank_search.specs.declared.answer.RankAnswer.{RankAnswer}
-use Rattle.round_relation.specs.NewTimes.{SaysTime}
+use Rattle.size_bounds.specs.round_relation.NewTimes.{SaysTime}
 use Rattle.time_bounds.specs.ProgramSearches.{ranking_of}
 use Rattle.size_bounds.specs.Tables.{table_of, bound_stored, stored_time}
-use Rattle.time_bounds.proofs.Shut.{lacking_is_none}
+use Rattle.time_bounds.proofs.ShutBySymbol.{lacking_is_none}
 use Rattle.time_bounds.proofs.AnswerLaws.{found_says, large_says, told_time, missing_of}
 use Rattle.time_bounds.proofs.WrittenAnswers.{time_found, no_time_found}
 use Rattle.time_bounds.proofs.trying.try_answer.Goals as goal

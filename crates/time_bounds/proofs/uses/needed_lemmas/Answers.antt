@@ -2,7 +2,7 @@ use Rattle.std.proofs.Common.{ℕ, ◌∙◌, ap, sym, List, ◌++◌, map, take
 use Rattle.std.proofs.lemmas.List.{take_more}
 use Rattle.its_model.specs.Views.{program_of}
 use Rattle.proof_tree.specs.Views.{rank_of}
-use Rattle.round_relation.specs.Uses.{needs_of_all, entry_needs, number_of}
+use Rattle.size_bounds.specs.round_relation.Uses.{needs_of_all, entry_needs, number_of}
 use Rattle.size_bounds.specs.Tables.{numbers_of}
 use Rattle.time_bounds.proofs.UseLists.{needs-append}
 use Rattle.time_bounds.proofs.uses.needed_lemmas.Goals as goal

@@ -1,7 +1,7 @@
 use Rattle.std.proofs.Common.{◌≡◌, map, take}
 use Rattle.its_model.specs.Views.{program_of}
 use Rattle.proof_tree.specs.Views.{rank_of}
-use Rattle.round_relation.specs.Uses.{needs_of_all, number_of}
+use Rattle.size_bounds.specs.round_relation.Uses.{needs_of_all, number_of}
 use Rattle.size_bounds.specs.Tables.{numbers_of}
 use Rattle.time_bounds.proofs.uses.needed_lemmas.Given as goal
 

@@ -1,6 +1,6 @@
 use Rattle.std.proofs.Common.{ℕ, ◌+◌, ◌∙◌, ap, List, ◌++◌, map, get_or}
 use Rattle.std.specs.Prelude.{pos}
-use Rattle.round_relation.specs.Uses.{NeedsSize, number_of}
+use Rattle.size_bounds.specs.round_relation.Uses.{NeedsSize, number_of}
 use Rattle.time_bounds.specs.Lemmas.{read_here}
 use Rattle.size_bounds.specs.Tables.{numbers_of}
 use Rattle.time_bounds.proofs.UseLists.{read-more}

@@ -1,5 +1,5 @@
 use Rattle.std.proofs.Common.{◌≡◌, ◌++◌, map, take}
-use Rattle.round_relation.specs.Uses.{NeedsSize, read_places, number_of}
+use Rattle.size_bounds.specs.round_relation.Uses.{NeedsSize, read_places, number_of}
 use Rattle.size_bounds.specs.Tables.{numbers_of}
 use Rattle.time_bounds.proofs.uses.push_sizes.Given as goal
 

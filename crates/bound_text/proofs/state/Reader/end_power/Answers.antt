@@ -1,6 +1,6 @@
 use Rattle.std.proofs.Common.{refl, ap, ◌∙◌}
-use Rattle.model.specs.Bounds as plain
-use Rattle.model.specs.Bounds.{PowerOf}
+use Rattle.text_core.specs.model.Bounds as plain
+use Rattle.text_core.specs.model.Bounds.{PowerOf}
 use Rattle.bound_text.specs.Shapes.{with_part}
 use Rattle.bound_text.specs.Views.{parts_in}
 use Rattle.bound_expr.specs.declared.bound.Bound.{Bound}

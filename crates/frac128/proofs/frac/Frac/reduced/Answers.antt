@@ -5,7 +5,8 @@ use Rattle.std.proofs.lemmas.Int.{ints, to_z-of_z}
 use Rattle.std.proofs.Common.{refl}
 use Rattle.frac128.specs.Narrow.{IsNarrow}
 use Rattle.frac128.specs.Lowest.{IsLowest}
-use Rattle.frac128.proofs.LowestTerms.{IsGcd-same, quotients_are_lowest, quotient-narrow, quotient-positive, quotients-cross, factor_apart}
+use Rattle.frac128.proofs.LowestTerms.{IsGcd-same, quotients_are_lowest, quotient-narrow, quotient-positive}
+use Rattle.frac128.proofs.LowestTerms.{quotients-cross, factor_apart}
 use Rattle.frac128.proofs.ShortWays.{cross}
 use Rattle.frac128.proofs.frac.Frac.reduced.Goals as goal
 

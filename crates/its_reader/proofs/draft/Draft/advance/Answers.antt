@@ -1,5 +1,6 @@
 use Rattle.its_reader.specs.declared.place.Place.TheVariants as places
-use Rattle.its_reader.proofs.AdvanceLaws.{in_advanced_place, sections_advance, left_advances, right_advances, tail_advances}
+use Rattle.its_reader.proofs.AdvanceLaws.{in_advanced_place, sections_advance, left_advances, right_advances}
+use Rattle.its_reader.proofs.AdvanceLaws.{tail_advances}
 use Rattle.its_reader.proofs.draft.Draft.advance.Goals as goal
 
 pub returns-in-InSections : goal.returns-in-InSections

@@ -1,5 +1,6 @@
 use Rattle.its_reader.specs.declared.place.SectionPlace.TheVariants as places
-use Rattle.its_reader.proofs.SectionLaws.{in_place, between_promise, goal_promise, start_promise, symbols_promise, said_promise, shut_promise, comment_promise, wherever}
+use Rattle.its_reader.proofs.SectionLaws.{in_place, between_promise, goal_promise, start_promise, symbols_promise}
+use Rattle.its_reader.proofs.SectionLaws.{said_promise, shut_promise, comment_promise, wherever}
 use Rattle.its_reader.proofs.draft.Draft.advance_in_sections.Goals as goal
 
 pub returns-in-Between : goal.returns-in-Between

@@ -2,12 +2,12 @@ use Rattle.std.proofs.Common.{◌≡◌, sym, subst}
 use Rattle.text_core.specs.Reading.{first_among}
 use Rattle.its_text.specs.Grammar.{programs}
 use Rattle.its_reader.specs.Faults.{maybe_fault}
-use Rattle.its_reader.specs.Noting.{marked_found}
+use Rattle.its_reader.specs.FaultTests.{mark_faults}
 use Rattle.its_reader.specs.Views.{maybe_of}
 use Rattle.its_reader.proofs.draft.Draft.noted_behind_mark.Goals as goal
 
 pub returns-then-begins : goal.returns-then-begins
-returns-then-begins c = subst (λ v. maybe_fault c.noted_named_rule.result ≡ first_among programs (maybe_fault c.args.best) (marked_found v c.args.self.now c.args.ahead.at (maybe_of c.args.ahead.next) (maybe_of c.args.ahead.behind))) (sym c.if-begins.true) c.noted_named_rule.ensures
+returns-then-begins c = subst (λ v. maybe_fault c.noted_named_rule.result ≡ first_among programs (maybe_fault c.args.best) (mark_faults v c.args.self.now c.args.ahead.at (maybe_of c.args.ahead.next) (maybe_of c.args.ahead.behind))) (sym c.if-begins.true) c.noted_named_rule.ensures
 
 pub returns-else-begins : goal.returns-else-begins
-returns-else-begins c = subst (λ v. maybe_fault c.noted_atom.result ≡ first_among programs (maybe_fault c.args.best) (marked_found v c.args.self.now c.args.ahead.at (maybe_of c.args.ahead.next) (maybe_of c.args.ahead.behind))) (sym c.if-begins.false) c.noted_atom.ensures
+returns-else-begins c = subst (λ v. maybe_fault c.noted_atom.result ≡ first_among programs (maybe_fault c.args.best) (mark_faults v c.args.self.now c.args.ahead.at (maybe_of c.args.ahead.next) (maybe_of c.args.ahead.behind))) (sym c.if-begins.false) c.noted_atom.ensures

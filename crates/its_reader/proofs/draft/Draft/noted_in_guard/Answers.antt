@@ -2,12 +2,12 @@ use Rattle.std.proofs.Common.{◌≡◌, sym, subst}
 use Rattle.text_core.specs.Reading.{first_among}
 use Rattle.its_text.specs.Grammar.{programs}
 use Rattle.its_reader.specs.Faults.{maybe_fault}
-use Rattle.its_reader.specs.Noting.{guarding_found}
+use Rattle.its_reader.specs.FaultTests.{guard_faults}
 use Rattle.its_reader.specs.Views.{maybe_of}
 use Rattle.its_reader.proofs.draft.Draft.noted_in_guard.Goals as goal
 
 pub returns-then-read : goal.returns-then-read
-returns-then-read c = subst (λ v. maybe_fault c.noted_behind_atoms.result ≡ first_among programs (maybe_fault c.args.best) (guarding_found v c.args.fence c.args.self.now c.args.ahead.at (maybe_of c.args.ahead.next) (maybe_of c.args.ahead.behind))) (sym c.if-read.true) c.noted_behind_atoms.ensures
+returns-then-read c = subst (λ v. maybe_fault c.noted_behind_atoms.result ≡ first_among programs (maybe_fault c.args.best) (guard_faults v c.args.fence c.args.self.now c.args.ahead.at (maybe_of c.args.ahead.next) (maybe_of c.args.ahead.behind))) (sym c.if-read.true) c.noted_behind_atoms.ensures
 
 pub returns-else-read : goal.returns-else-read
-returns-else-read c = subst (λ v. maybe_fault c.noted_another.result ≡ first_among programs (maybe_fault c.args.best) (guarding_found v c.args.fence c.args.self.now c.args.ahead.at (maybe_of c.args.ahead.next) (maybe_of c.args.ahead.behind))) (sym c.if-read.false) c.noted_another.ensures
+returns-else-read c = subst (λ v. maybe_fault c.noted_another.result ≡ first_among programs (maybe_fault c.args.best) (guard_faults v c.args.fence c.args.self.now c.args.ahead.at (maybe_of c.args.ahead.next) (maybe_of c.args.ahead.behind))) (sym c.if-read.false) c.noted_another.ensures

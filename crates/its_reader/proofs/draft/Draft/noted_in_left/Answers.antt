@@ -3,9 +3,9 @@ use Rattle.text_core.specs.Reading.{first_among}
 use Rattle.its_text.specs.Grammar.{programs}
 use Rattle.its_reader.specs.Faults.{maybe_fault}
 use Rattle.its_text.specs.Kinds.{Limit, TooManyRules, LongName}
-use Rattle.its_text.specs.Shown.{fault_if, is_word, long_name}
-use Rattle.its_reader.specs.Noting.{wanted_found, is_ruled, wants_argument}
-use Rattle.its_reader.proofs.NotingLaws.{three_noted}
+use Rattle.its_text.specs.FrontFaults.{fault_if, is_word, long_name}
+use Rattle.its_reader.specs.FaultTests.{wanted_faults, is_ruled, wants_argument}
+use Rattle.its_reader.proofs.FaultTestLaws.{three_noted}
 use Rattle.its_reader.specs.Views.{maybe_of}
 use Rattle.std.specs.Prelude.{nat_le, length, ◌&&◌}
 use Rattle.model.specs.Limits.{rule_limit}
@@ -13,7 +13,7 @@ use Rattle.its_reader.proofs.draft.Draft.noted_in_left.Goals as goal
 
 pub returns : goal.returns
 returns c = three_noted (maybe_fault c.args.best) _ _ _ (fault_if (is_ruled c.args.place && (is_word (maybe_of c.args.ahead.next) && nat_le rule_limit (length c.args.self.now.rules.items))) (Limit TooManyRules) c.args.ahead.at)
-    (wanted_found (wants_argument c.args.place) c.args.self.now.rule c.args.ahead.at (maybe_of c.args.ahead.next) (maybe_of c.args.ahead.behind)) (fault_if (long_name (maybe_of c.args.ahead.next)) (Limit LongName) c.args.ahead.at)
-    (c.noted-ruled.ensures ∙ ap (λ v. first_among programs (maybe_fault c.args.best) (fault_if v (Limit TooManyRules) c.args.ahead.at)) c.begins_too_many-full.ensures)
-    (c.noted_wanted-wanted.ensures ∙ ap (λ v. first_among programs (maybe_fault c.noted-ruled.result) (wanted_found v c.args.self.now.rule c.args.ahead.at (maybe_of c.args.ahead.next) (maybe_of c.args.ahead.behind))) c.wants_argument.ensures)
-    c.noted_name.ensures
+    (wanted_faults (wants_argument c.args.place) c.args.self.now.rule c.args.ahead.at (maybe_of c.args.ahead.next) (maybe_of c.args.ahead.behind)) (fault_if (long_name (maybe_of c.args.ahead.next)) (Limit LongName) c.args.ahead.at)
+    (c.first_where-ruled.ensures ∙ ap (λ v. first_among programs (maybe_fault c.args.best) (fault_if v (Limit TooManyRules) c.args.ahead.at)) c.begins_too_many-full.ensures)
+    (c.noted_wanted-wanted.ensures ∙ ap (λ v. first_among programs (maybe_fault c.first_where-ruled.result) (wanted_faults v c.args.self.now.rule c.args.ahead.at (maybe_of c.args.ahead.next) (maybe_of c.args.ahead.behind))) c.wants_argument.ensures)
+    c.first_with_long_name.ensures

@@ -2,14 +2,14 @@ use Rattle.std.proofs.Common.{sym, ap, ◌∙◌}
 use Rattle.text_core.specs.Reading.{first_among}
 use Rattle.its_text.specs.Grammar.{programs}
 use Rattle.its_reader.specs.Faults.{maybe_fault}
-use Rattle.its_reader.specs.Noting.{marked_found, guarding_found, tail_found}
+use Rattle.its_reader.specs.FaultTests.{mark_faults, guard_faults, tail_faults}
 use Rattle.its_reader.specs.Views.{maybe_of}
 use Rattle.its_reader.proofs.draft.Draft.noted_in_tail.Goals as goal
 
 pub returns-in-GuardMarked : goal.returns-in-GuardMarked
-returns-in-GuardMarked c = c.noted_behind_mark.ensures ∙ (ap (λ v. first_among programs (maybe_fault c.args.best) (marked_found v c.args.self.now c.args.ahead.at (maybe_of c.args.ahead.next) (maybe_of c.args.ahead.behind))) c.begins_source-begins.ensures
-    ∙ ap (λ p. first_among programs (maybe_fault c.args.best) (tail_found p c.args.self.now c.args.ahead.at (maybe_of c.args.ahead.next) (maybe_of c.args.ahead.behind))) (sym c.in-GuardMarked.is))
+returns-in-GuardMarked c = c.noted_behind_mark.ensures ∙ (ap (λ v. first_among programs (maybe_fault c.args.best) (mark_faults v c.args.self.now c.args.ahead.at (maybe_of c.args.ahead.next) (maybe_of c.args.ahead.behind))) c.begins_source-begins.ensures
+    ∙ ap (λ p. first_among programs (maybe_fault c.args.best) (tail_faults p c.args.self.now c.args.ahead.at (maybe_of c.args.ahead.next) (maybe_of c.args.ahead.behind))) (sym c.in-GuardMarked.is))
 
 pub returns-in-Guarding : goal.returns-in-Guarding
-returns-in-Guarding c = c.noted_in_guard.ensures ∙ (ap (λ v. first_among programs (maybe_fault c.args.best) (guarding_found v c.in-Guarding.fence c.args.self.now c.args.ahead.at (maybe_of c.args.ahead.next) (maybe_of c.args.ahead.behind))) c.has_read_atom-read.ensures
-    ∙ ap (λ p. first_among programs (maybe_fault c.args.best) (tail_found p c.args.self.now c.args.ahead.at (maybe_of c.args.ahead.next) (maybe_of c.args.ahead.behind))) (sym c.in-Guarding.is))
+returns-in-Guarding c = c.noted_in_guard.ensures ∙ (ap (λ v. first_among programs (maybe_fault c.args.best) (guard_faults v c.in-Guarding.fence c.args.self.now c.args.ahead.at (maybe_of c.args.ahead.next) (maybe_of c.args.ahead.behind))) c.has_read_atom-read.ensures
+    ∙ ap (λ p. first_among programs (maybe_fault c.args.best) (tail_faults p c.args.self.now c.args.ahead.at (maybe_of c.args.ahead.next) (maybe_of c.args.ahead.behind))) (sym c.in-Guarding.is))

@@ -3,8 +3,8 @@ use Rattle.text_core.specs.Reading.{first_among}
 use Rattle.its_text.specs.Grammar.{programs}
 use Rattle.its_reader.specs.Faults.{maybe_fault}
 use Rattle.its_text.specs.Kinds.{Limit, TooManyRules}
-use Rattle.its_text.specs.Shown.{fault_if}
+use Rattle.its_text.specs.FrontFaults.{fault_if}
 use Rattle.its_reader.proofs.draft.Draft.noted_rule.Goals as goal
 
 pub returns : goal.returns
-returns c = c.noted.ensures ∙ ap (λ v. first_among programs (maybe_fault c.args.best) (fault_if v (Limit TooManyRules) c.args.ahead.at)) c.passes_rules-full.ensures
+returns c = c.first_where.ensures ∙ ap (λ v. first_among programs (maybe_fault c.args.best) (fault_if v (Limit TooManyRules) c.args.ahead.at)) c.passes_rules-full.ensures

@@ -1,5 +1,6 @@
 use Rattle.its_reader.specs.declared.place.Place.TheVariants as places
-use Rattle.its_reader.proofs.SettlingLaws.{section_settles, left_settles, right_settles, tail_settles, in_settled_place, in_same_place}
+use Rattle.its_reader.proofs.PartEndLaws.{section_settles, left_settles, right_settles, tail_settles, in_settled_place}
+use Rattle.its_reader.proofs.PartEndLaws.{in_same_place}
 use Rattle.its_reader.proofs.draft.Draft.settle.Goals as goal
 
 pub returns-in-InSections : goal.returns-in-InSections

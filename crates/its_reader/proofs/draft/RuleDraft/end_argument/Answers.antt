@@ -1,7 +1,7 @@
 use Rattle.std.proofs.Common.{refl, ap, ◌∙◌}
 use Rattle.std.proofs.Common.{map}
 use Rattle.poly_terms.specs.Views.{term_of}
-use Rattle.its_text.specs.Shown.{expansion_faults}
+use Rattle.its_text.specs.FrontFaults.{expansion_faults}
 use Rattle.its_reader.proofs.NameLists.{map-push}
 use Rattle.its_reader.proofs.draft.RuleDraft.end_argument.Goals as goal
 

@@ -3,13 +3,13 @@ use Rattle.text_core.specs.Reading.{first_among}
 use Rattle.its_text.specs.Grammar.{programs}
 use Rattle.its_reader.specs.Faults.{maybe_fault}
 use Rattle.its_text.specs.Kinds.{Limit, TooManyAtoms}
-use Rattle.its_text.specs.Shown.{fault_if}
-use Rattle.its_reader.proofs.NotingLaws.{one_more}
+use Rattle.its_text.specs.FrontFaults.{fault_if}
+use Rattle.its_reader.proofs.FaultTestLaws.{one_more}
 use Rattle.its_reader.specs.Views.{maybe_of}
-use Rattle.its_reader.specs.Noting.{atoms_full, atom_found}
+use Rattle.its_reader.specs.FaultTests.{atoms_full, atom_faults}
 use Rattle.its_reader.proofs.draft.RuleDraft.noted_another.Goals as goal
 
 pub returns : goal.returns
-returns c = one_more (maybe_fault c.args.best) _ _ (fault_if (atoms_full c.args.self.now.guard (maybe_of c.args.ahead.next)) (Limit TooManyAtoms) c.args.ahead.at) (atom_found c.args.self.now c.args.ahead.at (maybe_of c.args.ahead.next) (maybe_of c.args.ahead.behind))
-    (c.noted-counted.ensures ∙ ap (λ v. first_among programs (maybe_fault c.args.best) (fault_if v (Limit TooManyAtoms) c.args.ahead.at)) c.passes_atoms-full.ensures)
+returns c = one_more (maybe_fault c.args.best) _ _ (fault_if (atoms_full c.args.self.now.guard (maybe_of c.args.ahead.next)) (Limit TooManyAtoms) c.args.ahead.at) (atom_faults c.args.self.now c.args.ahead.at (maybe_of c.args.ahead.next) (maybe_of c.args.ahead.behind))
+    (c.first_where-counted.ensures ∙ ap (λ v. first_among programs (maybe_fault c.args.best) (fault_if v (Limit TooManyAtoms) c.args.ahead.at)) c.passes_atoms-full.ensures)
     c.noted_atom.ensures

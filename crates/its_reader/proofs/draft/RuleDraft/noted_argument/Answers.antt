@@ -3,12 +3,12 @@ use Rattle.text_core.specs.Reading.{first_among}
 use Rattle.its_text.specs.Grammar.{programs}
 use Rattle.its_reader.specs.Faults.{maybe_fault}
 use Rattle.its_reader.specs.Views.{words_of}
-use Rattle.its_reader.specs.Noting.{argument_found}
+use Rattle.its_reader.specs.FaultTests.{left_argument_name_faults}
 use Rattle.its_reader.specs.Views.{maybe_of}
 use Rattle.its_reader.proofs.draft.RuleDraft.noted_argument.Goals as goal
 
 pub returns-in-Some : goal.returns-in-Some
-returns-in-Some c = subst (λ o. maybe_fault c.noted_left_name.result ≡ first_among programs (maybe_fault c.args.best) (argument_found c.args.self.now c.args.ahead.at (words_of o) (maybe_of c.args.ahead.behind))) (sym c.in-Some.is) c.noted_left_name.ensures
+returns-in-Some c = subst (λ o. maybe_fault c.noted_left_name.result ≡ first_among programs (maybe_fault c.args.best) (left_argument_name_faults c.args.self.now c.args.ahead.at (words_of o) (maybe_of c.args.ahead.behind))) (sym c.in-Some.is) c.noted_left_name.ensures
 
 pub returns-in-None : goal.returns-in-None
-returns-in-None c = subst (λ o. maybe_fault c.args.best ≡ first_among programs (maybe_fault c.args.best) (argument_found c.args.self.now c.args.ahead.at (words_of o) (maybe_of c.args.ahead.behind))) (sym c.in-None.is) refl
+returns-in-None c = subst (λ o. maybe_fault c.args.best ≡ first_among programs (maybe_fault c.args.best) (left_argument_name_faults c.args.self.now c.args.ahead.at (words_of o) (maybe_of c.args.ahead.behind))) (sym c.in-None.is) refl

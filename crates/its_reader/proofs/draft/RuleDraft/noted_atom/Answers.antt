@@ -2,16 +2,16 @@ use Rattle.std.proofs.Common.{ap, ◌∙◌}
 use Rattle.text_core.specs.Reading.{first_among}
 use Rattle.its_text.specs.Grammar.{programs}
 use Rattle.its_reader.specs.Faults.{maybe_fault}
-use Rattle.its_reader.specs.Noting.{going_found, truth_in}
-use Rattle.its_reader.proofs.NotingLaws.{one_more}
+use Rattle.its_reader.specs.FaultTests.{step_faults, truth_in}
+use Rattle.its_reader.proofs.FaultTestLaws.{one_more}
 use Rattle.its_reader.specs.Views.{maybe_of}
 use Rattle.its_text.specs.Kinds.{Limit, LongName}
-use Rattle.its_text.specs.Shown.{fault_if, long_name}
+use Rattle.its_text.specs.FrontFaults.{fault_if, long_name}
 use Rattle.its_reader.specs.Tests.{inner_next}
 use Rattle.expr_reader.specs.GuardParts.{piece_in}
 use Rattle.its_reader.proofs.draft.RuleDraft.noted_atom.Goals as goal
 
 pub returns : goal.returns
 returns c = one_more (maybe_fault c.args.best) _ _ (fault_if (long_name (maybe_of c.args.ahead.next)) (Limit LongName) c.args.ahead.at)
-    (going_found c.args.self.now c.args.self.now.guard.expression (truth_in c.args.self.now.guard (inner_next (maybe_of c.args.ahead.next)) (inner_next (maybe_of c.args.ahead.behind))) c.args.ahead.at (inner_next (maybe_of c.args.ahead.next))) c.noted_name-named.ensures
-    (c.noted_going.ensures ∙ ap (λ v. first_among programs (maybe_fault c.noted_name-named.result) (going_found c.args.self.now c.args.self.now.guard.expression v c.args.ahead.at (inner_next (maybe_of c.args.ahead.next)))) (c.begins_truth-truth.ensures ∙ (ap (λ o. truth_in c.args.self.now.guard o (piece_in c.inner_of-behind.result)) c.inner_of-next.ensures ∙ ap (λ o. truth_in c.args.self.now.guard (inner_next (maybe_of c.args.ahead.next)) o) c.inner_of-behind.ensures)))
+    (step_faults c.args.self.now c.args.self.now.guard.expression (truth_in c.args.self.now.guard (inner_next (maybe_of c.args.ahead.next)) (inner_next (maybe_of c.args.ahead.behind))) c.args.ahead.at (inner_next (maybe_of c.args.ahead.next))) c.first_with_long_name-named.ensures
+    (c.noted_going.ensures ∙ ap (λ v. first_among programs (maybe_fault c.first_with_long_name-named.result) (step_faults c.args.self.now c.args.self.now.guard.expression v c.args.ahead.at (inner_next (maybe_of c.args.ahead.next)))) (c.begins_truth-truth.ensures ∙ (ap (λ o. truth_in c.args.self.now.guard o (piece_in c.inner_of-behind.result)) c.inner_of-next.ensures ∙ ap (λ o. truth_in c.args.self.now.guard (inner_next (maybe_of c.args.ahead.next)) o) c.inner_of-behind.ensures)))

@@ -2,7 +2,7 @@ use Rattle.std.proofs.Common.{◌≡◌, refl, sym, subst}
 use Rattle.text_core.specs.Reading.{first_among}
 use Rattle.its_text.specs.Grammar.{programs}
 use Rattle.its_reader.specs.Faults.{maybe_fault}
-use Rattle.its_reader.specs.Noting.{going_if}
+use Rattle.its_reader.specs.FaultTests.{going_if}
 use Rattle.its_reader.specs.Views.{maybe_of}
 use Rattle.its_reader.proofs.draft.RuleDraft.noted_if_going.Goals as goal
 

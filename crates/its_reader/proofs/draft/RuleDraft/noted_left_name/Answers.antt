@@ -3,8 +3,8 @@ use Rattle.text_core.specs.Reading.{first_among}
 use Rattle.its_text.specs.Grammar.{programs}
 use Rattle.its_reader.specs.Faults.{maybe_fault}
 use Rattle.its_text.specs.Kinds.{LeftNotVariable, LeftRepeated, Limit, TooManyArguments}
-use Rattle.its_text.specs.Shown.{fault_if, is_operator}
-use Rattle.its_reader.proofs.NotingLaws.{three_noted}
+use Rattle.its_text.specs.FrontFaults.{fault_if, is_operator}
+use Rattle.its_reader.proofs.FaultTestLaws.{three_noted}
 use Rattle.its_reader.specs.Views.{maybe_of}
 use Rattle.std.specs.Prelude.{nat_le, length}
 use Rattle.model.specs.Limits.{place_limit}
@@ -15,6 +15,6 @@ use Rattle.its_reader.proofs.draft.RuleDraft.noted_left_name.Goals as goal
 pub returns : goal.returns
 returns c = three_noted (maybe_fault c.args.best) _ _ _ (fault_if (is_operator (maybe_of c.args.ahead.behind)) LeftNotVariable c.args.ahead.at) (fault_if (is_among c.args.name.now (names_in c.args.self.now.variables)) LeftRepeated c.args.ahead.at)
     (fault_if (nat_le place_limit (length (names_in c.args.self.now.variables))) (Limit TooManyArguments) c.args.ahead.at)
-    (c.noted-operated.ensures ∙ ap (λ v. first_among programs (maybe_fault c.args.best) (fault_if v LeftNotVariable c.args.ahead.at)) c.is_operator-operates.ensures)
-    (c.noted-repeated.ensures ∙ ap (λ v. first_among programs (maybe_fault c.noted-operated.result) (fault_if v LeftRepeated c.args.ahead.at)) c.has-named.ensures)
-    (c.noted.ensures ∙ ap (λ v. first_among programs (maybe_fault c.noted-repeated.result) (fault_if v (Limit TooManyArguments) c.args.ahead.at)) c.has_places-full.ensures)
+    (c.first_where-operated.ensures ∙ ap (λ v. first_among programs (maybe_fault c.args.best) (fault_if v LeftNotVariable c.args.ahead.at)) c.is_operator-operates.ensures)
+    (c.first_where-repeated.ensures ∙ ap (λ v. first_among programs (maybe_fault c.first_where-operated.result) (fault_if v LeftRepeated c.args.ahead.at)) c.has-named.ensures)
+    (c.first_where.ensures ∙ ap (λ v. first_among programs (maybe_fault c.first_where-repeated.result) (fault_if v (Limit TooManyArguments) c.args.ahead.at)) c.has_places-full.ensures)

@@ -1,5 +1,5 @@
 use Rattle.std.proofs.Common.{sym, ◌∙◌}
-use Rattle.its_reader.proofs.SettlingLaws.{argument_over, argument_on}
+use Rattle.its_reader.proofs.PartEndLaws.{argument_over, argument_on}
 use Rattle.its_reader.proofs.draft.RuleDraft.settle_argument.Goals as goal
 
 pub returns-in_ok-refusal : goal.returns-in_ok-refusal

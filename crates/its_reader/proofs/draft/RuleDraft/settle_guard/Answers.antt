@@ -1,6 +1,6 @@
 use Rattle.std.proofs.Common.{refl}
 use Rattle.expr_reader.specs.Faults.{fault_of}
-use Rattle.its_reader.proofs.SettlingLaws.{guard_before}
+use Rattle.its_reader.proofs.PartEndLaws.{guard_before}
 use Rattle.its_reader.proofs.draft.RuleDraft.settle_guard.Goals as goal
 
 pub returns : goal.returns

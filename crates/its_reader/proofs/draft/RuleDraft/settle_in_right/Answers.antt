@@ -1,7 +1,7 @@
 use Rattle.std.proofs.Common.{refl, sym, ap, ◌∙◌, ◌&&◌}
 use Rattle.its_text.specs.Kinds.{ArityDiffers}
-use Rattle.its_text.specs.Shown.{fault_if}
-use Rattle.its_reader.proofs.SettlingLaws.{right_argued, right_holds}
+use Rattle.its_text.specs.FrontFaults.{fault_if}
+use Rattle.its_reader.proofs.PartEndLaws.{right_argued, right_holds}
 use Rattle.its_reader.proofs.draft.RuleDraft.settle_in_right.Goals as goal
 
 pub returns-in_ok-settled-in-Some : goal.returns-in_ok-settled-in-Some

@@ -1,5 +1,5 @@
 use Rattle.std.proofs.Common.{sym, ap, ◌∙◌}
-use Rattle.its_reader.specs.Tailing.{guarding_if}
+use Rattle.its_reader.specs.TailSteps.{guarding_if}
 use Rattle.its_reader.proofs.GuardLaws.{large_taken, modest_taken}
 use Rattle.its_reader.proofs.draft.RuleDraft.take_inner_guard.Goals as goal
 

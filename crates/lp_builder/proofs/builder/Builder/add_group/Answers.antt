@@ -1,7 +1,7 @@
 use Rattle.std.proofs.Common.{◌≡◌, ℕ, ◌+◌, arith, refl, ◌∙◌, subst, length, map}
 use Rattle.std.specs.Int.{w128}
 use Rattle.std.proofs.lemmas.Int.{to_z-of_z}
-use Rattle.linear_forms.proofs.SolutionLaws.{length-map}
+use Rattle.simplex_core.proofs.linear_forms.SolutionLaws.{length-map}
 use Rattle.poly_terms.specs.Views.{form_of}
 use Rattle.lp_builder.specs.Descriptions.{group_of}
 use Rattle.lp_builder.proofs.Groups.{Written, written-none, written-more, group-held, group-shaped, line-at}

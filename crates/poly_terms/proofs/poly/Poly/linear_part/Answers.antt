@@ -4,7 +4,8 @@ use Rattle.model.specs.Polynomials as plain
 use Rattle.poly_terms.specs.declared.poly.Monomial.{Monomial}
 use Rattle.poly_terms.specs.Rows.{AreVariablesBelow, HasValueOf}
 use Rattle.poly_terms.specs.Views.{monomial_of, monomials_of, poly_of, form_of}
-use Rattle.poly_terms.proofs.RowLaws.{IsFormOf, form-of-more, form-of-all, degree-of-all, degree-at, below-at, linear_form-value}
+use Rattle.poly_terms.proofs.RowLaws.{IsFormOf, form-of-more, form-of-all, degree-of-all, degree-at, below-at}
+use Rattle.poly_terms.proofs.RowLaws.{linear_form-value}
 use Rattle.poly_terms.proofs.PositionLaws.{at-monomial}
 use Rattle.poly_terms.proofs.poly.Poly.linear_part.Goals as goal
 

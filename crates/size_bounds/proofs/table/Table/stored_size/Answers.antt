@@ -1,7 +1,7 @@
 use Rattle.std.proofs.Common.{◌-◌, List, Option, sym, ap, ◌∙◌, arith}
 use Rattle.outcome.specs.declared.entry.Stored.{Stored}
 use Rattle.size_bounds.specs.Tables.{entry_at}
-use Rattle.size_bounds.proofs.Stored.{size_read, size_past}
+use Rattle.size_bounds.proofs.StoredBounds.{size_read, size_past}
 use Rattle.size_bounds.proofs.table.Table.stored_size.Goals as goal
 
 pub returns-then-rule-len : goal.returns-then-rule-len

@@ -1,0 +1,115 @@
+-- What is noted one after the other is noted together, and the tests of the code are those of what is written.
+use Rattle.std.specs.Prelude.{◌≡◌, ℕ, is_some, List, [], ◌∷◌, ◌++◌, Option, Some, None, refl}
+use Rattle.std.proofs.Common.{sym, ap, ◌∙◌, append-nil}
+use Rattle.model.specs.Programs.{Name}
+use Rattle.text_core.specs.Readers.{Fault}
+use Rattle.text_core.specs.Reading.{first_of, first_among}
+use Rattle.its_text.specs.expr_text.Pieces as inner
+use Rattle.its_text.specs.Kinds.{Kind, RepeatedSection, Limit, LongName}
+use Rattle.its_text.specs.Pieces.{Piece, In}
+use Rattle.its_text.specs.Grammar.{programs}
+use Rattle.its_text.specs.Written.{Section, Goal, Start, Variables, Rules, Comment}
+use Rattle.its_text.specs.Fronts as fronts
+use Rattle.its_text.specs.Fronts.{Front}
+use Rattle.its_text.specs.FrontFaults.{Tokens, FaultList, fault_if, long_name, next_faults, last_faults, has, is_start}
+use Rattle.its_text.specs.FrontFaults.{repeats, has_named}
+use Rattle.its_reader.specs.Tests as tests
+use Rattle.its_reader.specs.FaultTests.{is_long, has_word, repeats_in}
+use Rattle.its_reader.specs.Standing.{KnowsSections, started, started_of}
+use Rattle.its_reader.specs.Places.{InSections}
+use Rattle.its_reader.specs.declared.draft.Draft.{Draft}
+use Rattle.its_reader.specs.declared.draft.Sections.{Sections}
+use Rattle.its_reader.specs.declared.draft.Start as code
+use Rattle.its_reader.specs.declared.place.SectionPlace.{SectionPlace}
+use Rattle.its_reader.specs.declared.place.SectionPlace.TheVariants as sections
+
+-- faults that are noted one list after the other are noted together
+pub both_noted : (best : Option (Fault Kind)) (xs ys : FaultList) → first_among programs best (xs ++ ys) ≡ first_among programs (first_among programs best xs) ys
+both_noted best [] ys = refl
+both_noted best (x ∷ xs) ys = both_noted (Some (first_of programs best x)) xs ys
+
+-- three lists of faults one after the other
+pub three_noted : (best one two three : Option (Fault Kind)) (xs ys zs : FaultList) → one ≡ first_among programs best xs → two ≡ first_among programs one ys → three ≡ first_among programs two zs
+    → three ≡ first_among programs best (xs ++ ys ++ zs)
+three_noted best one two three xs ys zs a b c =
+    c ∙ (ap (λ o. first_among programs o zs) (b ∙ (ap (λ o. first_among programs o ys) a ∙ sym (both_noted best xs ys))) ∙ sym (both_noted best (xs ++ ys) zs))
+
+-- and one more
+pub one_more : (best one two : Option (Fault Kind)) (xs ys : FaultList) → one ≡ first_among programs best xs → two ≡ first_among programs one ys → two ≡ first_among programs best (xs ++ ys)
+one_more best one two xs ys a b = b ∙ (ap (λ o. first_among programs o ys) a ∙ sym (both_noted best xs ys))
+
+-- four lists of faults, and one behind them
+pub four_noted : (best one two three four : Option (Fault Kind)) (xs ys zs ws : FaultList) → one ≡ first_among programs best xs → two ≡ first_among programs one ys → three ≡ first_among programs two zs → four ≡ first_among programs three ws
+    → four ≡ first_among programs best (xs ++ ys ++ zs ++ ws)
+four_noted best one two three four xs ys zs ws a b c d = one_more best three four (xs ++ ys ++ zs) ws (three_noted best one two three xs ys zs a b c) d
+
+-- a list that is noted behind four others is noted together with them
+pub one_more_behind : (best one two : Option (Fault Kind)) (xs ys zs ws vs : FaultList) → one ≡ first_among programs best (xs ++ ys ++ zs ++ ws) → two ≡ first_among programs one vs → two ≡ first_among programs best (xs ++ ys ++ zs ++ ws ++ vs)
+one_more_behind best one two xs ys zs ws vs a b = one_more best one two (xs ++ ys ++ zs ++ ws) vs a b
+
+-- whether a name is too long is tested as in what is written
+pub long_is : (o : Option Piece) → long_name o ≡ is_long (tests.word_of o)
+long_is None = refl
+long_is (Some (In (inner.Word name))) = refl
+long_is (Some (In _)) = refl
+long_is (Some _) = refl
+
+start_is : (ts : Tokens) (ss : List Section) (o : Option code.Start) → started_of o ≡ started ts ss → is_some o ≡ has is_start ss
+start_is ts ss o e = ends o ∙ (ap is_some e ∙ begins ss)
+  where
+    ends : (o : Option code.Start) → is_some o ≡ is_some (started_of o)
+    ends None = refl
+    ends (Some s) = refl
+
+    begins : (ss : List Section) → is_some (started ts ss) ≡ has is_start ss
+    begins [] = refl
+    begins (Goal ∷ ss) = begins ss
+    begins (Start name ∷ ss) = refl
+    begins (Variables names ∷ ss) = begins ss
+    begins (Rules rules ∷ ss) = begins ss
+    begins (Comment bytes ∷ ss) = begins ss
+
+word_is : (ts : Tokens) (ss : List Section) (s : Sections) → KnowsSections ts ss s → (name : Name) → has_named ss name ≡ has_word s name
+word_is ts ss s k name = rw (k.goal, start_is ts ss s.start k.start, k.variables, k.rules) refl
+
+repeats_is : (ts : Tokens) (ss : List Section) (s : Sections) → KnowsSections ts ss s → (next behind : Option Piece) → repeats ss next behind ≡ repeats_in sections.Between s next behind
+repeats_is ts ss s k None behind = refl
+repeats_is ts ss s k (Some (In inner.Open)) None = refl
+repeats_is ts ss s k (Some (In inner.Open)) (Some (In (inner.Word name))) = word_is ts ss s k name
+repeats_is ts ss s k (Some (In inner.Open)) (Some (In _)) = refl
+repeats_is ts ss s k (Some (In inner.Open)) (Some _) = refl
+repeats_is ts ss s k (Some (In _)) behind = refl
+repeats_is ts ss s k (Some _) behind = refl
+
+-- what a front outside rules shows at the next token
+module _ (ts : Tokens) (at : ℕ) (next behind : Option Piece) where
+  between_shows : (ss : List Section) (s : Sections) → KnowsSections ts ss s → next_faults at (fronts.Between ss) next behind ≡ fault_if (repeats_in sections.Between s next behind) RepeatedSection at ++ fault_if (long_name next) (Limit LongName) at
+  between_shows ss s k = simp append-nil (ap (λ v. fault_if v RepeatedSection at ++ fault_if (long_name next) (Limit LongName) at) (repeats_is ts ss s k next behind))
+
+  -- at the next token a front outside rules shows a repeated section and a name that is too long
+  pub section_shows : (place : SectionPlace) (d : Draft) (f : Front) → InSections ts place d f → next_faults at f next behind ≡ fault_if (repeats_in place d.sections next behind) RepeatedSection at ++ fault_if (long_name next) (Limit LongName) at
+  section_shows sections.Between d f k = rw k.1.0 (between_shows k.0 d.sections k.1.1.sections)
+  section_shows sections.Opened d f k = rw k.1.0 (simp append-nil)
+  section_shows sections.GoalNamed d f k = rw k.1.0 (simp append-nil)
+  section_shows sections.GoalSaid d f k = rw k.1.0 (simp append-nil)
+  section_shows sections.StartNamed d f k = rw k.1.0 (simp append-nil)
+  section_shows sections.StartOpened d f k = rw k.1.0 (simp append-nil)
+  section_shows sections.StartListed d f k = rw k.1.0 (simp append-nil)
+  section_shows sections.StartSaid d f k = rw k.1.1.0 (simp append-nil)
+  section_shows sections.StartShut d f k = rw k.1.1.0 (simp append-nil)
+  section_shows sections.Listing d f k = rw k.1.1.0 (simp append-nil)
+  section_shows sections.CommentNamed d f k = rw k.1.0 (simp append-nil)
+
+-- what a front outside rules shows at the last byte that was read: nothing
+pub section_silent : (ts : Tokens) (at : ℕ) (next : Option Piece) (place : SectionPlace) (d : Draft) (f : Front) → InSections ts place d f → last_faults at f next ≡ []
+section_silent ts at next sections.Between d f k = rw k.1.0 refl
+section_silent ts at next sections.Opened d f k = rw k.1.0 refl
+section_silent ts at next sections.GoalNamed d f k = rw k.1.0 refl
+section_silent ts at next sections.GoalSaid d f k = rw k.1.0 refl
+section_silent ts at next sections.StartNamed d f k = rw k.1.0 refl
+section_silent ts at next sections.StartOpened d f k = rw k.1.0 refl
+section_silent ts at next sections.StartListed d f k = rw k.1.0 refl
+section_silent ts at next sections.StartSaid d f k = rw k.1.1.0 refl
+section_silent ts at next sections.StartShut d f k = rw k.1.1.0 refl
+section_silent ts at next sections.Listing d f k = rw k.1.1.0 refl
+section_silent ts at next sections.CommentNamed d f k = rw k.1.0 refl

@@ -1,0 +1,142 @@
+-- What the parts of the code behind a target promise: a whole rule ends, and a piece leads where it leads in a guard.
+use Rattle.std.specs.Prelude.{◌≡◌, ◌-◌, Bool, true, false, not, ◌&&◌, nat_lt, if◌then◌else◌, [], ◌∷◌, ◌++◌, map}
+use Rattle.std.specs.Prelude.{length, Option, Some, None}
+use Rattle.std.specs.List.{list_all}
+use Rattle.std.specs.Char.{is_ascii_digit}
+use Rattle.model.specs.Programs as plain
+use Rattle.model.specs.Programs.{Name}
+use Rattle.model.specs.Limits.{coefficient_limit}
+use Rattle.poly_terms.specs.Views.{term_of}
+use Rattle.its_model.specs.Views.{rule_of}
+use Rattle.its_text.specs.expr_text.Pieces as inner
+use Rattle.its_text.specs.expr_text.Terms.{number_of}
+use Rattle.its_text.specs.expr_text.TermFronts.{goes_on_from}
+use Rattle.expr_reader.specs.Variables.{names_in}
+use Rattle.expr_reader.specs.Views.{front_of}
+use Rattle.expr_reader.specs.GuardParts.{is_read}
+use Rattle.expr_reader.specs.GuardStanding.{atoms_in, limited_atom, Takes}
+use Rattle.expr_reader.specs.declared.guard.GuardReader.{GuardReader}
+use Rattle.its_text.specs.Pieces.{Piece}
+use Rattle.its_text.specs.Written.{Guard}
+use Rattle.its_text.specs.Numbering.{rule_names, guard_terms}
+use Rattle.its_text.specs.Fronts as fronts
+use Rattle.its_text.specs.Fronts.{Headed, rule_with, ruling_with}
+use Rattle.its_text.specs.Steps.{step}
+use Rattle.its_text.specs.FrontFaults.{Tokens}
+use Rattle.its_reader.specs.Tests as tests
+use Rattle.its_reader.specs.Standing.{KnowsHeaded, IsFreshRule}
+use Rattle.its_reader.specs.Places.{LeadsTo}
+use Rattle.its_reader.specs.declared.place.Fence.{Fence}
+use Rattle.its_reader.specs.declared.place.Fence.TheVariants as fences
+use Rattle.its_reader.specs.declared.place.TailPlace.TheVariants as tails
+use Rattle.its_reader.specs.declared.place.LeftPlace.TheVariants as lefts
+use Rattle.its_reader.specs.declared.place.Place.{Place}
+use Rattle.its_reader.specs.declared.place.Place.TheVariants as places
+use Rattle.its_reader.specs.declared.draft.RuleDraft.{RuleDraft}
+use Rattle.its_reader.specs.declared.draft.Draft.{Draft}
+
+-- the rule by numbers that the code has read
+abbrev pub rule_in : RuleDraft → plain.Rule
+rule_in r = record {
+  source = r.source;
+  target = r.target;
+  left = r.left;
+  free = length (names_in r.variables) - r.left;
+  names = names_in r.variables;
+  updates = map term_of r.updates.items;
+  guard = atoms_in r.guard;
+}
+
+-- the whole of a rule has been read
+pub record KnowsWhole (ts : Tokens) (h : Headed) (guard : Guard) (d : Draft) : Type 0 where
+  pub headed : KnowsHeaded ts h d
+  pub names_are : names_in d.rule.variables ≡ rule_names (rule_with h guard)
+  pub atoms_are : atoms_in d.rule.guard ≡ map limited_atom (guard_terms (rule_names (rule_with h guard)) guard)
+
+-- the rule that has been read is one of the rules, and nothing of another has been read
+pub record RuleEnds (old new : Draft) : Type 0 where
+  pub sections : new.sections ≡ old.sections
+  pub symbols : new.symbols ≡ old.symbols
+  pub rules : map rule_of new.rules.items ≡ map rule_of old.rules.items ++ rule_in old.rule ∷ []
+  pub fresh : IsFreshRule new.rule
+
+-- a whole rule ends before a piece, which leads on from the rules; a name begins another rule
+pub record WholeLeads (old : Draft) (p : Piece) (result : Option Place) (new : Draft) : Type 0 where
+  pub each : (ts : Tokens) (next : Option Piece) (h : Headed) (guard : Guard) → KnowsWhole ts h guard old
+      → LeadsTo ts next (step (fronts.Ruled (ruling_with h guard)) p) result new
+  pub sourced : (name : Name) → tests.word p ≡ Some name → result ≡ Some (places.InLeft lefts.SourceNamed)
+
+-- a literal is within the limit on coefficients
+abbrev pub is_modest : inner.Piece → Bool
+is_modest (inner.Digits ds) = list_all is_ascii_digit ds && not (nat_lt coefficient_limit (number_of ds))
+is_modest (inner.Word name) = true
+is_modest inner.Open = true
+is_modest inner.Close = true
+is_modest inner.Plus = true
+is_modest inner.Minus = true
+is_modest inner.Times = true
+is_modest inner.Caret = true
+is_modest (inner.Related sign) = true
+is_modest (inner.Joining joint) = true
+
+-- a piece goes on with the expression of an atom
+abbrev pub goes_on_in : GuardReader → inner.Piece → Bool
+goes_on_in r p = not (is_read r.place) && goes_on_from (front_of r.expression).outer (front_of r.expression).operand p
+
+-- the place within a guard, where a test passes
+abbrev pub guarding_if : Bool → Fence → Option Place
+guarding_if test fence = if test then Some (places.InTail (tails.Guarding fence)) else None
+
+-- a modest piece leads where it leads in the guard; one that isn't leads on where it goes on with an expression
+abbrev pub TakesInner : Bool → Fence → RuleDraft → inner.Piece → Option inner.Piece → Option Place → RuleDraft → Type 0
+TakesInner true fence old p behind result new =
+    (taken : Bool) × ((result ≡ guarding_if taken fence)
+    × Takes (names_in old.variables) old.guard p behind taken (names_in new.variables) new.guard)
+TakesInner false fence old p behind result new = result ≡ guarding_if (goes_on_in old.guard p) fence
+
+abbrev pub TakesAtom : Fence → RuleDraft → Option inner.Piece → Option inner.Piece → Option Place → RuleDraft → Type 0
+TakesAtom fence old (Some p) behind result new = TakesInner (is_modest p) fence old p behind result new
+TakesAtom fence old None behind result new = result ≡ None
+
+-- the same as records, so that their arguments are found
+pub record TakesPiece (fence : Fence) (old : RuleDraft) (p : inner.Piece) (behind : Option inner.Piece)
+    (result : Option Place) (new : RuleDraft) : Type 0 where
+  pub by : TakesInner (is_modest p) fence old p behind result new
+
+-- all but the variables and the guard of a rule stays as it was
+pub record StaysInGuard (old new : RuleDraft) : Type 0 where
+  pub name : new.name ≡ old.name
+  pub left : new.left ≡ old.left
+  pub source : new.source ≡ old.source
+  pub target : new.target ≡ old.target
+  pub updates : new.updates ≡ old.updates
+  pub expression : new.expression ≡ old.expression
+
+pub record TakesMaybe (fence : Fence) (old : RuleDraft) (p behind : Option inner.Piece) (result : Option Place)
+    (new : RuleDraft) : Type 0 where
+  pub by : TakesAtom fence old p behind result new
+
+-- a piece of a guard
+pub record AtomTakes (fence : Fence) (old : Draft) (p : Piece) (behind : Option Piece) (result : Option Place)
+    (new : Draft) : Type 0 where
+  pub takes : TakesMaybe fence old.rule (tests.inner_in p) (tests.inner_next behind) result new.rule
+  pub stays : StaysInGuard old.rule new.rule
+  pub sections : new.sections ≡ old.sections
+  pub rules : new.rules ≡ old.rules
+  pub symbols : new.symbols ≡ old.symbols
+
+-- the brackets of a guard shut behind an atom
+abbrev pub ShutsIf : Bool → Draft → Option Place → Draft → Type 0
+ShutsIf true old result new = (result ≡ Some (places.InLeft lefts.Ruled)) × RuleEnds old new
+ShutsIf false old result new = (result ≡ None) × (new ≡ old)
+
+pub record SquareEnds (old : Draft) (p : Piece) (result : Option Place) (new : Draft) : Type 0 where
+  pub shuts : ShutsIf (tests.closes_square p) old result new
+
+-- what follows a guard: behind `:|:` what follows a rule, and in square brackets the closing one
+abbrev pub GuardEnds : Fence → Draft → Piece → Option Place → Draft → Type 0
+GuardEnds fences.Mark old p result new = WholeLeads old p result new
+GuardEnds fences.Square old p result new = SquareEnds old p result new
+
+pub record GuardIsEnded (fence : Fence) (old : Draft) (p : Piece) (result : Option Place) (new : Draft) : Type 0 where
+  pub by : GuardEnds fence old p result new

@@ -1,0 +1,237 @@
+-- The report of an analysis is printable where its numbers fit their types, and so its text tells it alone.
+use Rattle.std.proofs.Common.{◌≡◌, ℕ, zero, suc, ◌+◌, ◌<◌, ◌≤◌, List, [], ◌∷◌, length, map, Option, Some, None, refl}
+use Rattle.std.proofs.Common.{sym, ◌∙◌, ap, subst, arith}
+use Rattle.std.specs.Prelude.{ℤ, slice_get}
+use Rattle.std.specs.List.{AllByRecursion, Contains}
+use Rattle.std.proofs.lemmas.List.{length-append, length-map}
+use Rattle.std.proofs.lemmas.List.Elements.{All-contains_itself, recursion_from_All}
+use Rattle.model.specs.Programs.{Program, Rule}
+use Rattle.model.specs.Paths.{target_in, target_of}
+use Rattle.model.specs.Bounds.{Bound}
+use Rattle.its_model.specs.Valid.{IsValid, IsValidRule}
+use Rattle.its_model.specs.linear_forms.Forms.{at}
+use Rattle.its_model.specs.linear_forms.Questions.{Group}
+use Rattle.its_model.specs.linear_forms.QuestionLaws.{after}
+use Rattle.its_model.specs.linear_forms.RuleQuestions.{RankedSet, rank_question, symbols_of_set, coefficients, move_group}
+use Rattle.its_model.specs.linear_forms.RuleQuestions.{floor_group}
+use Rattle.outcome.specs.proof_nodes.Gaps.{SymbolPlace, Gap}
+use Rattle.outcome.specs.proof_nodes.Known as nodes
+use Rattle.outcome.specs.proof_nodes.Nodes.{RankNode}
+use Rattle.outcome.specs.proof_setting.Setting.{setting_of}
+use Rattle.outcome.specs.proof_tree.declared.answer.EmptyAnswer.{EmptyAnswer}
+use Rattle.time_bounds.specs.rank_search.declared.answer.RankAnswer.{RankAnswer}
+use Rattle.time_bounds.specs.rank_search.declared.answer.RankAnswer.TheVariants as ranks
+use Rattle.time_bounds.specs.rule_questions.ProgramQuestions.{ranked_set}
+use Rattle.time_bounds.specs.rule_questions.RuleAnswers.{answer_for, point_in}
+use Rattle.time_bounds.specs.rank_search.RankAnswers.{points_of, IsReadOff, IsRankAnswer}
+use Rattle.outcome.specs.Reports.{NoTime, NoFunction, TimeTripped, TimeLarge, Time, Timed, Untimed}
+use Rattle.outcome.specs.Reports.{Size, Sized, Unsized, Report}
+use Rattle.time_bounds.specs.round_relation.Searches.{Ranking, Ranked, Unranked, RankTripped}
+use Rattle.time_bounds.specs.round_relation.Sets.{AreShutOf}
+use Rattle.time_bounds.specs.round_relation.NewTimes.{SaysTime, bound_in}
+use Rattle.time_bounds.specs.round_relation.Reasons.{IsNoTime}
+use Rattle.report_text.specs.bound_text.Texts.{FitsTypes}
+use Rattle.report_text.specs.Printable as texts
+use Rattle.report_text.specs.Printable.{IsShort, IsPrintablePlace, IsPrintableGap, IsPrintableNoTime, IsPrintableTime}
+use Rattle.report_text.specs.Printable.{IsPrintableSize, IsPrintableTotal, IsPrintableReport}
+use Rattle.report_text.proofs.OneReport.{one_report}
+use Rattle.time_bounds.specs.ProgramSearches.{ranking_of, searches_of_program}
+use Rattle.time_bounds.specs.ProgramSizes.{sizes_of_program}
+use Rattle.time_bounds.specs.Totals.{total_of}
+use Rattle.time_bounds.specs.Analysis.{AreTimesOf, AreSizesOf, AreSizeRowsOf, IsAnalysis}
+use Rattle.time_bounds.specs.PrintableLaws.{IsPrintableBound, IsPrintableTable, ArePrintable}
+use Rattle.time_bounds.proofs.Printables.{found_printable}
+use Rattle.koat_cli.specs.AnalysisTexts.{HasShortNumbers, ReasonFits, TimeFits, SizeFits, TotalFits, ReportFits}
+use Rattle.koat_cli.specs.AnalysisTexts.{AnalysisTextsStateOneReport}
+
+-- what may be there is one
+some_same : (a b : ℕ) → ◌≡◌ {A = Option ℕ} (Some a) (Some b) → a ≡ b
+some_same a b e = cc
+
+-- a rule of a valid program leads to a symbol of it
+target_few : (p : Program) → IsValid p → (t a : ℕ) → target_of p t ≡ Some a → a < length p.symbols
+target_few p valid zero a e = subst (λ (s : ℕ). s < length p.symbols) (some_same p.start a e) valid.start
+target_few p valid (suc t) a e = of_rule p.rules t valid.rules e
+  where
+    of_rule : (rules : List Rule) (k : ℕ) → AllByRecursion (IsValidRule p) rules → target_in (slice_get rules k) ≡ Some a
+        → a < length p.symbols
+    of_rule [] k are h = absurd (none h)
+      where
+        none : ◌≡◌ {A = Option ℕ} None (Some a) → ⊥
+        none x = cc
+    of_rule (r ∷ rules) zero are h = subst (λ (s : ℕ). s < length p.symbols) (some_same r.target a h) are.0.target
+    of_rule (r ∷ rules) (suc k) are h = of_rule rules k are.1 h
+
+-- there is a point for each group
+points_many : (y : ℕ → ℤ) (gs : List Group) → length (points_of y gs) ≡ length gs
+points_many y [] = refl
+points_many y (g ∷ gs) = omega (arith, points_many (after (suc g.unknowns) y) gs)
+
+-- places of symbols of the program whose numbers are short are printable
+places_fit : (n : ℕ) (all shut : List SymbolPlace) → ((s : SymbolPlace) → Contains all s → s.symbol < n)
+    → AllByRecursion (Contains all) shut → AllByRecursion (λ s. IsShort s.place) shut → AllByRecursion (IsPrintablePlace n) shut
+places_fit n all [] few among short = tt
+places_fit n all (s ∷ shut) few among short =
+    (record { symbol = few s among.0; place = short.0 }, places_fit n all shut few among.1 short.1)
+
+-- a rank question has a group for each rule of its set, and the floor's
+groups_many : (b : RankedSet) → length (rank_question b).groups ≡ length b.set + 1
+groups_many b =
+    let cs = coefficients b (symbols_of_set b) in
+    length-append (map (move_group b cs) b.set) (floor_group b cs ∷ [])
+    ∙ ap (λ (n : ℕ). n + 1) (length-map b.set (move_group b cs))
+
+-- a gap that is read off has a move and a kept point for each rule of its set
+module _ (b : RankedSet) (shut : List SymbolPlace) (pivots : ℕ) (empties : List EmptyAnswer) (g : Gap)
+    (read : IsReadOff b shut pivots empties g) where
+  moves_many : length g.moves ≤ length g.set
+  moves_many =
+      let same : length g.moves + 1 ≡ length b.set + 1 =
+      sym (length-append g.moves (g.floor ∷ [])) ∙ (ap length read.points
+      ∙ (points_many (at read.numbers) (rank_question b).groups ∙ groups_many b)) in
+      omega (arith, same, ap length read.same_set)
+
+  kept_many : length g.kept ≤ length g.set
+  kept_many =
+      let same : length g.kept ≡ length b.set =
+      sym (length-map g.kept (λ z. Some z)) ∙ (ap length read.kept
+      ∙ length-map b.set (λ t. point_in (answer_for empties t))) in
+      omega (arith, same, ap length read.same_set)
+
+-- and it shuts places of symbols of the program
+gap_fits : (p : Program) (pivots : ℕ) (tab : nodes.Table) (t : ℕ) (set : List ℕ) (shut : List SymbolPlace)
+    (empties : List EmptyAnswer) (g : Gap) → IsValid p → AreShutOf p tab set shut
+    → IsReadOff (ranked_set p set t shut) shut pivots empties g → HasShortNumbers g
+    → IsPrintableGap (length p.symbols) g
+gap_fits p pivots tab t set shut empties g valid are read short = record {
+  rule = short.rule;
+  set = short.set;
+  shut = places_fit (length p.symbols) g.shut g.shut few
+      (recursion_from_All (Contains g.shut) g.shut (All-contains_itself g.shut)) short.places;
+  moves_shown = moves_many (ranked_set p set t shut) shut pivots empties g read;
+  moves = short.moves;
+  floor = short.floor;
+  kept_shown = kept_many (ranked_set p set t shut) shut pivots empties g read;
+  kept = short.kept;
+}
+  where
+    few : (s : SymbolPlace) → Contains g.shut s → s.symbol < length p.symbols
+    few s among =
+        let is = (are.places s).0 (subst (λ (xs : List SymbolPlace). Contains xs s) read.same_shut among) in
+        target_few p valid is.entry s.symbol is.leads
+
+-- the gap of an answer is read off
+gap_read : (b : RankedSet) (shut : List SymbolPlace) (pivots : ℕ) (empties : List EmptyAnswer) (f : Gap)
+    (a : RankAnswer) → ranking_of a ≡ Unranked f → IsRankAnswer b shut pivots empties a
+    → IsReadOff b shut pivots empties f
+gap_read b shut pivots empties f (ranks.Ranked node) e r = absurd (apart _ e)
+  where
+    apart : (n : RankNode) → Ranked n ≡ Unranked f → ⊥
+    apart n x = cc
+gap_read b shut pivots empties f (ranks.NoRank gap) e r = subst (IsReadOff b shut pivots empties) (same _ e) r.0
+  where
+    same : (h : Gap) → Unranked h ≡ Unranked f → h ≡ f
+    same h x = cc
+gap_read b shut pivots empties f (ranks.Tripped x) e r = absurd (apart e)
+  where
+    apart : RankTripped x ≡ Unranked f → ⊥
+    apart y = cc
+
+module _ (p : Program) (pivots : ℕ) (valid : IsValid p) (tab : nodes.Table)
+    (good : IsPrintableTable (length p.start_names) tab) where
+  -- the gap that an answer to the question of a set gives as the reason
+  answer_fits : (t : ℕ) (g : Gap) (set : List ℕ) (shut : List SymbolPlace) → AreShutOf p tab set shut
+      → HasShortNumbers g → (answer : Ranking) → (searches_of_program p pivots).Ranks set t shut answer
+      → SaysTime (setting_of p) tab answer (Untimed (NoFunction g)) → IsPrintableGap (length p.symbols) g
+  answer_fits t g set shut are short (Ranked node) answered says = absurd (apart _ says.1)
+    where
+      apart : (m : ℕ) → NoFunction g ≡ TimeLarge m → ⊥
+      apart m x = cc
+  answer_fits t g set shut are short (Unranked f) answered says =
+      gap_fits p pivots tab t set shut answered.0 g valid are
+      (subst (IsReadOff (ranked_set p set t shut) shut pivots answered.0) (sym (same says))
+      (gap_read (ranked_set p set t shut) shut pivots answered.0 f answered.2.0 answered.2.1 answered.2.2)) short
+    where
+      same : Untimed (NoFunction g) ≡ Untimed (NoFunction f) → g ≡ f
+      same x = cc
+  answer_fits t g set shut are short (RankTripped x) answered says = absurd (apart says)
+    where
+      apart : Untimed (NoFunction g) ≡ Untimed (TimeTripped x) → ⊥
+      apart y = cc
+
+  -- why a time is missing
+  no_time_fits : (t : ℕ) (why : NoTime) → IsNoTime (searches_of_program p pivots) (setting_of p) tab t why
+      → ReasonFits why → IsPrintableNoTime (length p.symbols) why
+  no_time_fits t (TimeTripped x) h fits = fits
+  no_time_fits t (TimeLarge m) h fits = fits
+  no_time_fits t (NoFunction g) h fits =
+      answer_fits t g h.reason.asked.set h.reason.asked.shut h.reason.asked.are_shut fits h.reason.asked.answer
+      h.reason.asked.answered h.reason.says
+
+  -- a bound
+  bound_fits : (b : Bound) → IsPrintableBound (length p.start_names) b → FitsTypes b
+      → texts.IsPrintableBound (length p.start_names) b
+  bound_fits b h fits = record { tidy = h.0; listed = h.1; fits = fits }
+
+  -- the times from rule k on
+  times_fit : (k : ℕ) (times : List Time) → AreTimesOf (searches_of_program p pivots) p tab k times
+      → AllByRecursion TimeFits times → AllByRecursion (IsPrintableTime p) times
+  times_fit k [] h fits = tt
+  times_fit k (Timed b ∷ times) h fits =
+      (bound_fits b (good.times k b h.0) fits.0, times_fit (suc k) times h.1 fits.1)
+  times_fit k (Untimed why ∷ times) h fits =
+      (no_time_fits k why h.0 fits.0, times_fit (suc k) times h.1 fits.1)
+
+  -- the sizes of rule t from place i on
+  sizes_fit : (t i : ℕ) (sizes : List Size) → AreSizesOf (sizes_of_program p pivots) tab t i sizes
+      → AllByRecursion SizeFits sizes → AllByRecursion (IsPrintableSize p) sizes
+  sizes_fit t i [] h fits = tt
+  sizes_fit t i (Sized b ∷ sizes) h fits =
+      (bound_fits b (good.sizes t i b h.0) fits.0, sizes_fit t (suc i) sizes h.1 fits.1)
+  sizes_fit t i (Unsized why ∷ sizes) h fits = (fits.0, sizes_fit t (suc i) sizes h.1 fits.1)
+
+  -- and those of each rule from t on
+  rows_fit : (t : ℕ) (rows : List (List Size)) → AreSizeRowsOf (sizes_of_program p pivots) tab t rows
+      → AllByRecursion (AllByRecursion SizeFits) rows → AllByRecursion (AllByRecursion (IsPrintableSize p)) rows
+  rows_fit t [] h fits = tt
+  rows_fit t (row ∷ rows) h fits = (sizes_fit t 1 row h.0 fits.0, rows_fit (suc t) rows h.1 fits.1)
+
+-- the bounds of printable times are tidy, over the start arguments
+bounds_of_times : (p : Program) (times : List Time) → AllByRecursion (IsPrintableTime p) times
+    → ArePrintable (length p.start_names) (map bound_in times)
+bounds_of_times p [] h = tt
+bounds_of_times p (Timed b ∷ times) h = ((h.0.tidy, h.0.listed), bounds_of_times p times h.1)
+bounds_of_times p (Untimed why ∷ times) h = bounds_of_times p times h.1
+
+-- the total of printable times
+total_fits : (p : Program) (times : List Time) (total : Option Bound) → AllByRecursion (IsPrintableTime p) times
+    → total ≡ total_of (map bound_in times) → TotalFits total → IsPrintableTotal p total
+total_fits p times None h e fits = tt
+total_fits p times (Some b) h e fits =
+    let tidy = found_printable.totals (length p.start_names) (map bound_in times) b (bounds_of_times p times h) (sym e) in
+    record { tidy = tidy.0; listed = tidy.1; fits = fits }
+
+-- the report of an analysis whose numbers fit is printable
+analysis_fits : (p : Program) (pivots : ℕ) (r : Report) → IsValid p → IsAnalysis p pivots r → ReportFits r
+    → IsPrintableReport p r
+analysis_fits p pivots r valid h fits = record {
+  times = times;
+  total = total_fits p r.times r.total times h.total fits.total;
+  sizes = rows_fit p pivots valid h.table good 1 r.sizes h.sizes fits.sizes;
+}
+  where
+    good : IsPrintableTable (length p.start_names) h.table
+    good = found_printable.tables p pivots h.table valid h.last.made
+
+    times : AllByRecursion (IsPrintableTime p) r.times
+    times = times_fit p pivots valid h.table good 1 r.times h.times fits.times
+
+-- so its text tells it
+pub reports_are_told : AnalysisTextsStateOneReport
+reports_are_told = record {
+  printable = analysis_fits;
+  no_other = λ p pivots text r q valid h fits printable x y.
+      one_report.each p text r q valid (analysis_fits p pivots r valid h fits) printable x y;
+  of_analyses = λ p pivots others text r q valid h fits k fit x y.
+      one_report.each p text r q valid (analysis_fits p pivots r valid h fits) (analysis_fits p others q valid k fit) x y;
+}

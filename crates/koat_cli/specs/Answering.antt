@@ -1,0 +1,76 @@
+-- With which status a call ends on a file that the shelf holds.
+use Rattle.std.specs.Prelude.{◌≡◌, ◌≢◌, ◌⊎◌, ◌↔◌, ℕ, ◌<◌, ◌≤◌, List, length, Some, IsSomeAnd, IsTrue, IsFalse, ⊤}
+use Rattle.std.specs.List.{list_all}
+use Rattle.std.specs.FinMap.{get}
+use Rattle.outside_io.specs.Counts.{Rose}
+use Rattle.model.specs.Programs.{Program}
+use Rattle.its_reader.specs.its_text.Spelling.{SpellsWithin}
+use Rattle.asks.specs.Lines.{Word}
+use Rattle.asks.specs.Requests.{Analyse, Asks}
+use Rattle.outcome.specs.Reports.{Report, is_timed}
+use Rattle.time_bounds.specs.Analysis.{IsAnalysis}
+use Rattle.koat_cli.specs.declared.status.Status.{Status}
+use Rattle.koat_cli.specs.declared.status.Status.TheVariants.{Done, Unknown, Usage, ReadFault, WriteFault, Memory}
+use Rattle.koat_cli.specs.declared.status.Status.TheVariants.{ProgramRefused, ProofRefused, No, RunRefused, NotARun}
+use Rattle.koat_cli.specs.Calls.{Call, Put}
+use Rattle.koat_cli.specs.Causes.{program_limit}
+use Rattle.koat_cli.specs.Ends.{Ends}
+
+-- the words ask for an analysis with so many pivots, the shelf tells that it holds the file that they name, with these
+-- bytes, and neither the shelf's nor the sink's count of faults rises
+pub record AsksOfHeld (call : Call) (put : Put) (bytes : List ℕ) (pivots : ℕ) : Type 0 where
+  pub file : Word
+  pub asked : Asks call.words (Analyse pivots file)
+  pub held : IsSomeAnd call.held (λ files. get files file ≡ Some bytes)
+  pub no_read_fault : ¬ (Rose call.faults_before call.faults_after)
+  pub no_write_fault : ¬ (Rose put.faults_before put.faults_after)
+
+-- the bytes aren't too many and spell a program within the limits, and this is the report of its analysis
+pub record HasReport (bytes : List ℕ) (pivots : ℕ) (report : Report) : Type 0 where
+  pub within : length bytes ≤ program_limit
+  pub program : Program
+  pub spelled : SpellsWithin bytes program
+  pub found : IsAnalysis program pivots report
+
+-- in that report every rule has a time
+pub record HasAllTimes (bytes : List ℕ) (pivots : ℕ) : Type 0 where
+  pub report : Report
+  pub has : HasReport bytes pivots report
+  pub all_timed : IsTrue (list_all is_timed report.times)
+
+-- in that report some rule has no time
+pub record LacksTimes (bytes : List ℕ) (pivots : ℕ) : Type 0 where
+  pub report : Report
+  pub has : HasReport bytes pivots report
+  pub some_untimed : IsFalse (list_all is_timed report.times)
+
+-- the bytes are too many, or spell no program within the limits
+abbrev pub SpellsNone : List ℕ → Type 0
+SpellsNone bytes = (program_limit < length bytes) ⊎ ((p : Program) → ¬ (SpellsWithin bytes p))
+
+-- the statuses with which a call can end that asks for the analysis of a file that is held
+abbrev pub IsStatusOfHeld : Status → Type 0
+IsStatusOfHeld Done = ⊤
+IsStatusOfHeld Unknown = ⊤
+IsStatusOfHeld Usage = ⊥
+IsStatusOfHeld ReadFault = ⊥
+IsStatusOfHeld WriteFault = ⊥
+IsStatusOfHeld Memory = ⊤
+IsStatusOfHeld ProgramRefused = ⊤
+IsStatusOfHeld ProofRefused = ⊥
+IsStatusOfHeld No = ⊥
+IsStatusOfHeld RunRefused = ⊥
+IsStatusOfHeld NotARun = ⊥
+
+-- however such a call ends, it ends with one of four statuses; and want of memory aside, the status is `Done` exactly
+-- where the analysis of the program has a time for every rule, `Unknown` exactly where it has none for some, and
+-- `ProgramRefused` exactly where there is no such program
+pub record HeldFilesAreAnswered : Type 0 where
+  pub few : (call : Call) (put : Put) (bytes : List ℕ) (pivots : ℕ) (s : Status) → AsksOfHeld call put bytes pivots
+      → Ends s call put → IsStatusOfHeld s
+  pub done : (call : Call) (put : Put) (bytes : List ℕ) (pivots : ℕ) (s : Status) → AsksOfHeld call put bytes pivots
+      → Ends s call put → s ≢ Memory → (s ≡ Done) ↔ HasAllTimes bytes pivots
+  pub unknown : (call : Call) (put : Put) (bytes : List ℕ) (pivots : ℕ) (s : Status) → AsksOfHeld call put bytes pivots
+      → Ends s call put → s ≢ Memory → (s ≡ Unknown) ↔ LacksTimes bytes pivots
+  pub refused : (call : Call) (put : Put) (bytes : List ℕ) (pivots : ℕ) (s : Status) → AsksOfHeld call put bytes pivots
+      → Ends s call put → s ≢ Memory → (s ≡ ProgramRefused) ↔ SpellsNone bytes

@@ -1,2 +1,0 @@
--- Two facts of one answer.
-pub use Rattle.model.proofs.Cases.{IfOk-both as IfOk-from_both}

@@ -1,0 +1,58 @@
+//! The answer to a line: a call, and behind a blank the text that is read, written shortly.
+
+use crate::beginnings::{beginnings, beginnings_read};
+use crate::changed::{bytes_changed, tokens_changed};
+use crate::guards::guard;
+use crate::outcomes::{Outcome, outcome_of};
+use crate::writing::{Frame, Writing, text_of};
+use model::Memory;
+use std::alloc::Global;
+
+/// What a line asks for.
+///
+/// `rules` and `whole` are followed by rules or by a whole text, and answered by what reading it comes to; so are
+/// `long` and `long-whole`, where a program is answered by `read`. `beginnings`, `read-beginnings`, `tokens` and
+/// `bytes` read a text again and again, and `guard` a long one.
+pub(crate) fn answer(alloc: Global, line: &str) -> Result<String, Memory> {
+    let Some((call, rest)) = line.split_once(' ') else {
+        return String::from_str(alloc, line);
+    };
+    match call {
+        "#" => String::from_str(alloc, line),
+        "rules" => read_whole(alloc, &text_of(alloc, Frame::Rules, rest)?),
+        "whole" => read_whole(alloc, &text_of(alloc, Frame::Whole, rest)?),
+        "long" => read_shortly(alloc, &text_of(alloc, Frame::Rules, rest)?),
+        "long-whole" => read_shortly(alloc, &text_of(alloc, Frame::Whole, rest)?),
+        "beginnings" => beginnings(alloc, &text_of(alloc, Frame::Whole, rest)?.text),
+        "read-beginnings" => beginnings_read(alloc, rest.as_bytes()),
+        "tokens" => tokens_changed(alloc, rest),
+        "bytes" => bytes_changed(alloc, rest),
+        "guard" => read_shortly(alloc, &guard(alloc, rest)?),
+        _ => String::from_str(alloc, "no call"),
+    }
+}
+
+// What reading comes to: the program, or the refusal.
+fn read_whole(alloc: Global, made: &Writing) -> Result<String, Memory> {
+    match outcome_of(alloc, &made.text)? {
+        Outcome::Program(text) => Ok(text),
+        Outcome::Refused(kind, at) => refusal(alloc, kind, at, made.mark),
+    }
+}
+
+// The same, where a program isn't written.
+fn read_shortly(alloc: Global, made: &Writing) -> Result<String, Memory> {
+    match outcome_of(alloc, &made.text)? {
+        Outcome::Program(_) => String::from_str(alloc, "read"),
+        Outcome::Refused(kind, at) => refusal(alloc, kind, at, made.mark),
+    }
+}
+
+// A refusal; its byte is `@` where it is the one that was marked.
+fn refusal(alloc: Global, kind: &str, at: u64, mark: Option<usize>) -> Result<String, Memory> {
+    if mark.is_some_and(|marked| marked as u64 == at) {
+        format!(in alloc; "{kind} at @")
+    } else {
+        format!(in alloc; "{kind} at {at}")
+    }
+}

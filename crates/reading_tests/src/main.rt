@@ -1,0 +1,20 @@
+//! Answers each line of the standard input by one line: what reading the text in it comes to. A line without a call, as
+//! a remark that begins with `#`, is written as it is.
+#![tactic(auto)]
+
+mod answers;
+mod beginnings;
+mod changed;
+mod guards;
+mod outcomes;
+mod writing;
+
+use std::io;
+
+fn main(rt: HostRuntime) -> io::Result<()> {
+    for line in rt.lines(rt.alloc()) {
+        let text = answers::answer(rt.alloc(), line?.as_str())?;
+        println!(rt; "{text}")?;
+    }
+    Ok(())
+}

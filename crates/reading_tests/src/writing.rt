@@ -1,0 +1,119 @@
+//! Texts that are written shortly.
+//!
+//! In a text `%3:A#,%` stands for `A0,A1,A2,`, an `@` stands before the byte that a refusal is to name, and behind a
+//! backquote a byte stands as two hexadecimal digits.
+
+use itoa::Buffer;
+use model::Memory;
+use std::alloc::Global;
+use text_core::digits_len;
+
+/// A text that is being made, and the byte that was marked in it.
+#[derive(Drop)]
+pub(crate) struct Writing {
+    pub text: Vec<u8>,
+    pub mark: Option<usize>,
+}
+
+// The value of a hexadecimal digit.
+fn digit(byte: u8) -> u8 {
+    if byte.is_ascii_digit() {
+        byte.wrapping_sub(b'0')
+    } else {
+        byte.wrapping_sub(b'a').saturating_add(10)
+    }
+}
+
+// Bytes as they stand, but for the mark and for those that stand as digits.
+fn push_plain(made: &mut Writing, written: &[u8]) -> Result<(), Memory> {
+    let mut rest = written;
+    for _ in 0..written.len() {
+        match rest {
+            [] => return Ok(()),
+            [b'@', behind @ ..] => {
+                made.mark = Some(made.text.len());
+                rest = behind;
+            }
+            [b'`', high, low, behind @ ..] => {
+                made.text
+                    .push(digit(*high).wrapping_mul(16).wrapping_add(digit(*low)))?;
+                rest = behind;
+            }
+            [byte, behind @ ..] => {
+                made.text.push(*byte)?;
+                rest = behind;
+            }
+        }
+    }
+    Ok(())
+}
+
+// A part with its number in the place of `#`.
+fn push_part(text: &mut Vec<u8>, part: &[u8], number: usize) -> Result<(), Memory> {
+    let mut buffer = Buffer::new();
+    for byte in part {
+        if *byte == b'#' {
+            text.extend_from_slice(buffer.format(number).as_bytes())?;
+        } else {
+            text.push(*byte)?;
+        }
+    }
+    Ok(())
+}
+
+/// The number that digits are.
+pub(crate) fn number_of(digits: &[u8]) -> usize {
+    let mut count = 0usize;
+    for digit in digits {
+        count = count
+            .saturating_mul(10)
+            .saturating_add(digit.wrapping_sub(b'0') as usize);
+    }
+    count
+}
+
+// A part again and again; it stands behind a count and a colon.
+fn push_repeated(text: &mut Vec<u8>, written: &[u8]) -> Result<(), Memory> {
+    let (digits, behind) = written.split_at(digits_len(written));
+    if let Some((_, part)) = behind.split_first() {
+        for number in 0..number_of(digits) {
+            push_part(text, part, number)?;
+        }
+    }
+    Ok(())
+}
+
+/// What stands about a text.
+#[derive(Clone, Copy)]
+pub(crate) enum Frame {
+    /// Nothing.
+    Whole,
+    /// A start section, and a section of rules; the first byte of the text is byte 39.
+    Rules,
+}
+
+// What stands before a text, and behind it.
+fn frame_of(frame: Frame) -> (&'static [u8], &'static [u8]) {
+    match frame {
+        Frame::Whole => (b"", b""),
+        Frame::Rules => (b"(STARTTERM (FUNCTIONSYMBOLS l0))(RULES ", b")"),
+    }
+}
+
+/// The text that is written.
+pub(crate) fn text_of(alloc: Global, frame: Frame, written: &str) -> Result<Writing, Memory> {
+    let (before, behind) = frame_of(frame);
+    let mut made = Writing {
+        text: before.to_vec(alloc)?,
+        mark: None,
+    };
+    for (i, part) in written.as_bytes().split(|byte| *byte == b'%').enumerate() {
+        if i % 2 == 0 {
+            push_plain(&mut made, part)?;
+        } else {
+            push_repeated(&mut made.text, part)?;
+        }
+    }
+    made.text.extend_from_slice(behind)?;
+    Ok(made)
+}

@@ -1,0 +1,66 @@
+-- Each answer whether rows have a point comes exactly where its cause stands, and its node is accepted.
+use Rattle.std.proofs.Common.{◌≡◌, ℕ, sym, subst, Option, length}
+use Rattle.std.specs.Prelude.{◌↔◌, pos}
+use Rattle.poly_terms.specs.linear_forms.Causes.{cause_of}
+use Rattle.poly_terms.specs.linear_forms.Forms.{at}
+use Rattle.poly_terms.specs.linear_forms.Certificates.{Implies, minus_one}
+use Rattle.poly_terms.proofs.linear_forms.CertificateLaws.{no_point}
+use Rattle.proof_tree.specs.rule_forms.Laws.{HasPoint}
+use Rattle.poly_terms.specs.model.Programs.{Rule}
+use Rattle.proof_tree.specs.guard_prep.Prepared.{Prepared}
+use Rattle.proof_tree.specs.proof_setting.Setting.{rows_in}
+use Rattle.proof_tree.specs.declared.answer.EmptyAnswer.{EmptyAnswer}
+use Rattle.proof_tree.specs.declared.answer.EmptyAnswer.TheVariants.{Empty, Point, Tripped}
+use Rattle.proof_tree.specs.declared.proof.EmptyNode.{EmptyNode}
+use Rattle.proof_tree.specs.AnswerViews.{scaled_of}
+use Rattle.rule_questions.specs.EmptyAnswers.{IsEmptyAnswer, IsEmptyNode, SaysEmpty, SaysPoint, SaysTripped}
+use Rattle.rule_questions.specs.EmptyAnswers.{empty_program}
+use Rattle.rule_questions.specs.EmptyAnswers.{EmptyAnswersAreExact, EmptyNodesAreAccepted}
+use Rattle.rule_questions.specs.Programs.{NothingTrips}
+
+-- rows that multipliers show to have no point have none
+node-empty : (m : Prepared) (rule : ℕ) (n : EmptyNode) → IsEmptyNode m rule n → ¬ HasPoint m.rows
+node-empty m rule n h p = no_point m.rows n.multipliers.items h.shows p.z p.d p.point
+
+-- each answer whether rows have a point comes exactly where its cause stands
+pub answers-exact : EmptyAnswersAreExact
+answers-exact = record {
+  empty = λ m rule pivots a h. empty-if m rule pivots a h;
+  point = λ m rule pivots a h. point-if m rule pivots a h;
+  tripped = λ m rule pivots a h. tripped-if m rule pivots a h;
+}
+  where
+    empty-if : (m : Prepared) (rule pivots : ℕ) (a : EmptyAnswer) → IsEmptyAnswer m rule pivots a
+        → SaysEmpty a ↔ ((¬ HasPoint m.rows) × NothingTrips (empty_program m) pivots)
+    empty-if m rule pivots (Empty n) h = (λ _. (node-empty m rule n h.0, h.1), λ _. tt)
+    empty-if m rule pivots (Point z) h =
+        (λ s. absurd s, λ g. g.0 (record { z = at (scaled_of z).parts; d = pos (scaled_of z).den; point = h.0.point }))
+    empty-if m rule pivots (Tripped t) h = (λ s. absurd s, λ g. g.1.each (cause_of t.cause) h.1)
+
+    point-if : (m : Prepared) (rule pivots : ℕ) (a : EmptyAnswer) → IsEmptyAnswer m rule pivots a
+        → SaysPoint a ↔ (HasPoint m.rows × NothingTrips (empty_program m) pivots)
+    point-if m rule pivots (Empty n) h = (λ s. absurd s, λ g. node-empty m rule n h.0 g.0)
+    point-if m rule pivots (Point z) h =
+        (λ _. (record { z = at (scaled_of z).parts; d = pos (scaled_of z).den; point = h.0.point }, h.1), λ _. tt)
+    point-if m rule pivots (Tripped t) h = (λ s. absurd s, λ g. g.1.each (cause_of t.cause) h.1)
+
+    tripped-if : (m : Prepared) (rule pivots : ℕ) (a : EmptyAnswer) → IsEmptyAnswer m rule pivots a
+        → SaysTripped a ↔ (¬ NothingTrips (empty_program m) pivots)
+    tripped-if m rule pivots (Empty n) h = (λ s. absurd s, λ g. g h.1)
+    tripped-if m rule pivots (Point z) h = (λ s. absurd s, λ g. g h.1)
+    tripped-if m rule pivots (Tripped t) h = (λ _ g. g.each (cause_of t.cause) h.1, λ _. tt)
+
+-- the node of a rule whose rows have no point is accepted
+pub nodes-accepted : EmptyNodesAreAccepted
+nodes-accepted = record {
+  each = λ p t r n numbered h. record {
+    shape = record {
+      rule = record { rule = r; numbered = numbered };
+      one_each = record {
+        long = subst (λ (o : Option Rule). length n.multipliers.items ≡ length (rows_in o)) (sym numbered) h.shows.long;
+        limit = h.limit;
+      };
+    };
+    empty = subst (λ (o : Option Rule). Implies (rows_in o) n.multipliers.items minus_one) (sym numbered) h.shows;
+  };
+}

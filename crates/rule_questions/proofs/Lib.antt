@@ -1,0 +1,16 @@
+pub mod Lists
+pub mod Pairs
+pub mod Sums
+pub mod Filters
+pub mod GroupLines
+pub mod GoalForms
+pub mod NewValues
+pub mod Trips
+pub mod EmptyLaws
+pub mod EmptyProblems
+pub mod Exact
+pub mod OneEmptyAnswer
+-- the lemmas of the crates below, which callers name through this one
+pub use Rattle.poly_terms.proofs.model
+pub use Rattle.poly_terms.proofs.int_laws
+pub use Rattle.proof_tree.proofs.proof_nodes

@@ -1,0 +1,107 @@
+-- Whether the rows of a rule have a point: what each answer says.
+use Rattle.std.specs.Prelude.{◌≡◌, ◌↔◌, ℕ, ◌≤◌, List, length, ℤ, pos, nat_abs, Some}
+use Rattle.std.specs.List.{All}
+use Rattle.poly_terms.specs.linear_forms.Causes.{cause_of}
+use Rattle.poly_terms.specs.linear_forms.Forms.{at}
+use Rattle.poly_terms.specs.linear_forms.Points.{IsPoint}
+use Rattle.poly_terms.specs.linear_forms.Certificates.{Implies, minus_one}
+use Rattle.poly_terms.specs.linear_forms.Limits.{certificate_limit, point_limit}
+use Rattle.poly_terms.specs.linear_forms.LinearProgram.{LinearProgram}
+use Rattle.poly_terms.specs.linear_forms.Questions.{listed, program_of_question}
+use Rattle.poly_terms.specs.linear_forms.RuleQuestions.{empty_question}
+use Rattle.proof_tree.specs.rule_forms.Laws.{HasPoint}
+use Rattle.poly_terms.specs.model.Programs.{Program, Rule, rule_at}
+use Rattle.proof_tree.specs.guard_prep.declared.rule_rows.RuleRows.{RuleRows}
+use Rattle.proof_tree.specs.guard_prep.Prepared.{Prepared, prepared}
+use Rattle.proof_tree.specs.guard_prep.Laws.{IsPreparable}
+use Rattle.proof_tree.specs.guard_prep.Views.{prepared_of}
+use Rattle.lp_builder.specs.simplex_core.Trips.{Trips, IsScaledSolution, IsScaledDual}
+use Rattle.proof_tree.specs.proof_nodes.Gaps.{ScaledPoint}
+use Rattle.proof_tree.specs.proof_nodes.AcceptsPlain.{AcceptsEmpty}
+use Rattle.proof_tree.specs.proof_setting.Setting.{setting_of}
+use Rattle.proof_tree.specs.declared.proof.EmptyNode.{EmptyNode}
+use Rattle.proof_tree.specs.declared.answer.Question.TheVariants as asked
+use Rattle.proof_tree.specs.declared.answer.EmptyAnswer.{EmptyAnswer}
+use Rattle.proof_tree.specs.declared.answer.EmptyAnswer.TheVariants.{Empty, Point, Tripped}
+use Rattle.proof_tree.specs.AnswerViews.{scaled_of}
+use Rattle.rule_questions.specs.ProgramQuestions.{forms_of}
+use Rattle.rule_questions.specs.Programs.{NothingTrips}
+
+-- the rows are those of a rule that has rows, as each rule of a valid program has
+pub record IsPrepared (m : RuleRows) : Type 0 where
+  pub rule : Rule
+  pub preparable : IsPreparable rule
+  pub same : prepared_of m ≡ prepared rule
+
+-- the linear program that asks whether the rows have a point
+abbrev pub empty_program : Prepared → LinearProgram
+empty_program m = program_of_question (empty_question (forms_of 0 0 m))
+
+-- the node is of the rule, and its multipliers are within the limit and show that the rows have no point
+pub record IsEmptyNode (m : Prepared) (rule : ℕ) (n : EmptyNode) : Type 0 where
+  pub numbered : n.rule ≡ rule
+  pub limit : All (λ k. k ≤ certificate_limit) n.multipliers.items
+  pub shows : Implies m.rows n.multipliers.items minus_one
+
+-- the scaled point has a part for each unknown, numbers within the limit, and is a point of the rows
+pub record IsNearPoint (m : Prepared) (z : ScaledPoint) : Type 0 where
+  pub long : length z.parts ≡ m.unknowns
+  pub parts_limit : All (λ a. nat_abs a ≤ point_limit) z.parts
+  pub den_limit : z.den ≤ point_limit
+  pub point : IsPoint m.rows (at z.parts) (pos z.den)
+
+-- the multipliers are those of the solution at which the linear program's sequence of tableaux ends
+pub record AreSolved (m : Prepared) (pivots : ℕ) (multipliers : List ℕ) : Type 0 where
+  pub numbers : List ℤ
+  pub den : ℕ
+  pub solution : IsScaledSolution (empty_program m) pivots numbers den
+  pub read : multipliers ≡ listed (length m.rows) (λ j. nat_abs (at numbers j))
+
+-- the point is the dual at which the sequence ends
+pub record IsDualPoint (m : Prepared) (pivots : ℕ) (z : ScaledPoint) : Type 0 where
+  pub numbers : List ℤ
+  pub den : ℕ
+  pub dual : IsScaledDual (empty_program m) pivots numbers den
+  pub parts : z.parts ≡ listed m.unknowns (at numbers)
+  pub over : z.den ≡ nat_abs (at numbers m.unknowns)
+
+-- what the answer for a rule says, within a number of pivots: that the rows have no point, as a node shows, or that
+-- they have one, and which, and that nothing trips the linear program; or that it trips, and by which cause. The node
+-- and the point are those at which the sequence of tableaux ends
+abbrev pub IsEmptyAnswer : Prepared → ℕ → ℕ → EmptyAnswer → Type 0
+IsEmptyAnswer m rule pivots (Empty n) =
+    IsEmptyNode m rule n × NothingTrips (empty_program m) pivots × AreSolved m pivots n.multipliers.items
+IsEmptyAnswer m rule pivots (Point z) =
+    IsNearPoint m (scaled_of z) × NothingTrips (empty_program m) pivots × IsDualPoint m pivots (scaled_of z)
+IsEmptyAnswer m rule pivots (Tripped t) =
+    (t.question ≡ asked.Empty rule) × Trips (empty_program m) pivots (cause_of t.cause)
+
+-- which answer it is
+abbrev pub SaysEmpty : EmptyAnswer → Type 0
+SaysEmpty (Empty n) = Unit {0}
+SaysEmpty (Point z) = ⊥
+SaysEmpty (Tripped t) = ⊥
+
+abbrev pub SaysPoint : EmptyAnswer → Type 0
+SaysPoint (Empty n) = ⊥
+SaysPoint (Point z) = Unit {0}
+SaysPoint (Tripped t) = ⊥
+
+abbrev pub SaysTripped : EmptyAnswer → Type 0
+SaysTripped (Empty n) = ⊥
+SaysTripped (Point z) = ⊥
+SaysTripped (Tripped t) = Unit {0}
+
+-- each of the three answers comes exactly where its cause stands
+pub record EmptyAnswersAreExact : Type 0 where
+  pub empty : (m : Prepared) (rule pivots : ℕ) (a : EmptyAnswer) → IsEmptyAnswer m rule pivots a
+      → SaysEmpty a ↔ ((¬ HasPoint m.rows) × NothingTrips (empty_program m) pivots)
+  pub point : (m : Prepared) (rule pivots : ℕ) (a : EmptyAnswer) → IsEmptyAnswer m rule pivots a
+      → SaysPoint a ↔ (HasPoint m.rows × NothingTrips (empty_program m) pivots)
+  pub tripped : (m : Prepared) (rule pivots : ℕ) (a : EmptyAnswer) → IsEmptyAnswer m rule pivots a
+      → SaysTripped a ↔ (¬ NothingTrips (empty_program m) pivots)
+
+-- the node of a rule of a program whose rows have no point is accepted
+pub record EmptyNodesAreAccepted : Type 0 where
+  pub each : (p : Program) (t : ℕ) (r : Rule) (n : EmptyNode) → rule_at p t ≡ Some r → IsEmptyNode (prepared r) t n
+      → AcceptsEmpty (setting_of p) t n.multipliers.items

@@ -1,0 +1,18 @@
+-- what the contracts of this crate, and of those above it, cite
+pub mod ProgramQuestions
+pub mod Programs
+pub mod EmptyAnswers
+pub mod RuleAnswers
+pub mod OneEmptyAnswer
+pub mod SmallForms
+-- the machinery of the functions inside and of the proofs
+pub mod AscendingGoals
+pub mod GroupLines
+-- the crates below, which callers name through this one
+pub use Rattle.poly_terms.specs.model
+pub use Rattle.poly_terms.specs.int_laws
+pub use Rattle.poly_terms.specs.linear_forms
+pub use Rattle.proof_tree.specs.rule_forms
+pub use Rattle.proof_tree.specs.bound_expr
+pub use Rattle.proof_tree.specs.proof_nodes
+pub use Rattle.proof_tree.specs as proof_tree
