@@ -1,0 +1,84 @@
+"""Runs koat, and reads what it says. Nothing here changes what it says."""
+
+import os
+import re
+import subprocess
+import sys
+from dataclasses import dataclass
+from typing import Optional
+
+from . import programs, reports
+
+TOP = os.path.dirname(os.path.dirname(os.path.dirname(os.path.abspath(__file__))))
+
+# Statuses up to 6 are koat's own and mean the same here.
+READ_FAULT, REFUSED, NO_KOAT, KOAT_FAILED, NO_DOT, BAD_INPUT = 3, 6, 10, 11, 12, 13
+
+
+class Stop(Exception):
+    """Ends the program with a status and one line."""
+
+    def __init__(self, status, line):
+        super().__init__(line)
+        self.status, self.line = status, line
+
+
+@dataclass
+class Refusal:
+    line: str
+    at: Optional[int]
+    kind: str
+
+
+@dataclass
+class Answer:
+    """What koat said of a text: a report or a refusal."""
+
+    data: bytes
+    name: str
+    report: Optional[reports.Report] = None
+    program: Optional[programs.Program] = None
+    refusal: Optional[Refusal] = None
+
+
+def program_path():
+    """The program that is run: `koat` at the top, or what KOAT names."""
+    return os.environ.get("KOAT") or os.path.join(TOP, "koat")
+
+
+def read_file(name):
+    try:
+        if name == "-":
+            return sys.stdin.buffer.read()
+        with open(name, "rb") as file:
+            return file.read()
+    except OSError as fault:
+        raise Stop(READ_FAULT, f"{name} can't be read: {fault.strerror}") from fault
+
+
+def analyse(name, pivots=None, seconds=None):
+    """What koat says of the file; the text goes to its standard input, so that it is read once."""
+    data = read_file(name)
+    words = [program_path(), "analyse", *([] if pivots is None else ["--pivots", str(pivots)]), "-"]
+    try:
+        ran = subprocess.run(words, input=data, stdout=subprocess.PIPE, timeout=seconds, check=False)
+    except subprocess.TimeoutExpired as fault:
+        raise Stop(KOAT_FAILED, f"koat had no answer within {seconds} seconds") from fault
+    except OSError as fault:
+        raise Stop(NO_KOAT, f"{words[0]} can't be run: {fault.strerror}") from fault
+    return _answer(ran.returncode, ran.stdout, data, name)
+
+
+def _answer(status, output, data, name):
+    text = output.decode("latin-1")
+    if status in (0, 1):
+        try:
+            return Answer(data, name, report=reports.read(text), program=programs.read(data))
+        except (reports.ReportError, programs.ProgramError) as fault:
+            raise Stop(KOAT_FAILED, f"koat's report can't be read: {fault}") from fault
+    if status == REFUSED:
+        match = re.fullmatch(r"program refused(?: at ([0-9]+))?: (.*)\n", text)
+        if match:
+            at = match.group(1)
+            return Answer(data, name, refusal=Refusal(text.rstrip("\n"), at and int(at), match.group(2)))
+    raise Stop(KOAT_FAILED, f"koat ended with status {status}" + (f": {text.splitlines()[0]}" if text else ""))

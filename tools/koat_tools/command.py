@@ -1,0 +1,152 @@
+"""The command line: what the words ask for, and the lines and the status that come of it."""
+
+import argparse
+import json
+import re
+import sys
+
+from . import analyser, bounds, explain, growth, lint, page, picture, programs, reports
+from .analyser import Stop
+
+HELP = """Shows what koat says of a program in other forms. It runs koat and changes nothing of what it says; what
+stands beside it (hints, O-classes, values, pictures) is worked out here and isn't proved.
+
+  explain FILE        a refusal with line, column and a hint; else each missing bound with its reason in plain words
+  lint FILE           likely slips that koat takes silently: names, dead ends, rules that never occur, large constants
+  json FILE           the whole report as JSON, as docs/report.schema.json describes it
+  class FILE          the O-class of each bound, and a last line as the termination competition has it
+  at FILE A=30 B=12   the value of each bound at these inputs
+  page FILE           a page for the browser: the graph, the rules with their bounds, fields for the inputs"""
+
+STATUSES = """status: 0 done; 1 lint found a likely slip; 2 the words are no command line; 3 FILE can't be read; 6 koat
+refused the program; 10 koat can't be run; 11 koat gave no answer, or none that can be read; 12 dot is missing or
+failed; 13 inputs of `at` are wrong. FILE may be - for standard input. The variable KOAT names another program than
+./koat."""
+
+
+def parser():
+    top = argparse.ArgumentParser(prog="show", description=HELP, epilog=STATUSES,
+                                  formatter_class=argparse.RawDescriptionHelpFormatter)
+    commands = top.add_subparsers(dest="command", metavar="COMMAND", required=True)
+    for name in COMMANDS:
+        one = commands.add_parser(name, description=COMMANDS[name].__doc__)
+        one.add_argument("file", metavar="FILE")
+        one.add_argument("--pivots", metavar="N", help="handed to koat")
+        one.add_argument("--seconds", metavar="N", type=float, help="how long koat may take")
+        if name == "at":
+            one.add_argument("inputs", nargs="*", metavar="NAME=NUMBER")
+        if name == "page":
+            one.add_argument("--without-picture", action="store_true", help="needs no dot")
+    return top
+
+
+def main(words, out=sys.stdout):
+    asked = parser().parse_args(words)
+    try:
+        return COMMANDS[asked.command](asked, out)
+    except Stop as stop:
+        print(f"show: {stop.line}", file=sys.stderr)
+        return stop.status
+    except BrokenPipeError:
+        sys.stderr.close()
+        return 0
+
+
+def _analysed(asked):
+    return analyser.analyse(asked.file, asked.pivots, asked.seconds)
+
+
+def _reported(asked):
+    """The answer where koat took the program; a refusal ends the call with koat's own line."""
+    answer = _analysed(asked)
+    if answer.refusal:
+        raise Stop(analyser.REFUSED, f"{answer.refusal.line} (`show explain {asked.file}` says more)")
+    return answer
+
+
+def _print(lines, out):
+    for line in lines:
+        print(line, file=out)
+
+
+def _explain(asked, out):
+    """Shows a refusal with its line, its column and a hint, or says of each missing bound why it is missing."""
+    answer = _analysed(asked)
+    if answer.refusal:
+        _print(explain.refusal_lines(answer), out)
+        return analyser.REFUSED
+    _print(explain.report_lines(answer), out)
+    return 0
+
+
+def _lint(asked, out):
+    """Names likely slips, and what is good to know, each with its line."""
+    answer = _reported(asked)
+    found = lint.findings(answer.program, answer.report)
+    for it in found:
+        where = programs.place(answer.data, it.at)
+        print(f"{asked.file}:{where.line}:{where.column}: {'warning' if it.is_slip else 'note'}: {it.text}", file=out)
+    return 1 if any(it.is_slip for it in found) else 0
+
+
+def _json(asked, out):
+    """Prints the whole report as JSON."""
+    answer = _reported(asked)
+    told = {"format": "koat report 1", "inputs": answer.program.inputs, **reports.as_json(answer.report)}
+    json.dump(told, out, indent=1, ensure_ascii=False)
+    print(file=out)
+    return 0
+
+
+def _class(asked, out):
+    """Prints the O-class of each bound, n being the greatest of the inputs' absolute values."""
+    answer = _reported(asked)
+    for label, _, bound in answer.report.labelled():
+        print(f"{label}: {'unknown' if bound is None else growth.text(growth.growth(bound))}", file=out)
+    total = answer.report.total
+    print("These classes are derived from koat's bounds, and not proved themselves.", file=out)
+    print(f"WORST_CASE(?, {growth.competition(None if total is None else growth.growth(total))})", file=out)
+    return 0
+
+
+def _at(asked, out):
+    """Prints the value of each bound at inputs; of a negative input the absolute value counts."""
+    answer = _reported(asked)
+    given = _inputs(asked.inputs, answer.program.inputs)
+    _print([_valued(label, text, bound, given) for label, text, bound in answer.report.labelled()], out)
+    return 0
+
+
+def _valued(label, text, bound, given):
+    """The line of a bound, with its value where that isn't its text."""
+    if bound is None:
+        return f"{label}: unknown"
+    lacking = [name for name in bounds.names(bound) if name not in given]
+    if lacking:
+        raise Stop(analyser.BAD_INPUT, f"{label} needs " + " ".join(f"{it}=NUMBER" for it in lacking))
+    value = bounds.value_text(bounds.value(bound, given))
+    return f"{label}: {text}" + ("" if text == value else f" = {value}")
+
+
+def _inputs(words, names):
+    given = {}
+    for word in words:
+        name, sign, number = word.partition("=")
+        if not sign or not re.fullmatch("-?[0-9]{1,1000}", number):
+            raise Stop(analyser.BAD_INPUT, f"{word} isn't NAME=NUMBER")
+        if name not in names:
+            known = ", ".join(names) if names else "none"
+            raise Stop(analyser.BAD_INPUT, f"{name} is no input of this program; its inputs: {known}")
+        given[name] = abs(int(number))
+    return given
+
+
+def _page(asked, out):
+    """Writes one page that needs nothing else: HTML with the picture, the styles and the script in it."""
+    answer = _reported(asked)
+    drawn = "" if asked.without_picture else picture.draw(answer.program, answer.report)
+    out.write(page.page(answer, drawn))
+    return 0
+
+
+COMMANDS = {"explain": _explain, "lint": _lint, "json": _json, "class": _class, "at": _at, "page": _page}

@@ -1,0 +1,96 @@
+"""What koat takes without a word and is often a slip: names, dead ends, rules that never occur, large constants."""
+
+from collections import namedtuple
+
+from . import programs
+
+LARGE = 2**29
+
+# `is_slip` tells what is likely wrong from what is merely good to know.
+Finding = namedtuple("Finding", "at is_slip text")
+
+
+def findings(program, report):
+    found = _variables(program) + _symbols(program) + _times(program, report) + _constants(program)
+    return sorted(found, key=lambda it: (it.at, it.text))
+
+
+def is_near(one, other):
+    """Whether two names may be one that was spelled in two ways: by capitals, by `_`, or by one slip of a letter."""
+    if one == other:
+        return False
+    if one.lower().replace("_", "") == other.lower().replace("_", ""):
+        return True
+    # Short words that differ in a letter, as `stop` and `step`, are mostly meant.
+    return max(len(one), len(other)) >= (5 if len(one) == len(other) else 4) and _one_slip(one, other)
+
+
+def _one_slip(one, other):
+    start = 0
+    while start < min(len(one), len(other)) and one[start] == other[start]:
+        start += 1
+    one, other = one[start:], other[start:]
+    while one and other and one[-1] == other[-1]:
+        one, other = one[:-1], other[:-1]
+    # Names that differ in a digit or a prime are meant to differ.
+    letters = all(it.isalpha() for it in one + other)
+    return letters and (max(len(one), len(other)) <= 1 or (len(one) == 2 and one == other[::-1]))
+
+
+def _variables(program):
+    lefts = {name for rule in program.rules for name in rule.left_names}
+    found = []
+    for rule in program.rules:
+        for token in rule.free:
+            near = [it for it in rule.left_names if is_near(it, token.text)]
+            if near:
+                found.append(Finding(token.at, True, f"rule {rule.number}: `{token.text}` isn't on the left, so it is "
+                                     f"any integer; is `{near[0]}` meant?"))
+            elif token.text not in lefts and token.text not in program.variables:
+                found.append(Finding(token.at, True, f"rule {rule.number}: `{token.text}` is on no left side and not "
+                                     "in VAR; koat takes it as any integer"))
+    return found
+
+
+def _symbols(program):
+    left, led_to = {}, {}
+    for rule in program.rules:
+        left.setdefault(rule.source.text, rule.source)
+        led_to.setdefault(rule.target.text, rule.target)
+    found = []
+    for name, token in led_to.items():
+        if name in left:
+            continue
+        near = [it for it in left if is_near(it, name)]
+        also = f"; is `{near[0]}` meant?" if near else ""
+        found.append(Finding(token.at, bool(near), f"no rule leaves `{name}`: runs end there{also}"))
+    reached = _reached(program)
+    for name, token in left.items():
+        if name not in reached:
+            found.append(Finding(token.at, True, f"no rule leads to `{name}` from the start symbol"))
+    return found
+
+
+def _reached(program):
+    reached, grows = {program.start}, True
+    while grows:
+        found = {rule.target.text for rule in program.rules if rule.source.text in reached} - reached
+        grows = bool(found)
+        reached |= found
+    return reached
+
+
+def _times(program, report):
+    reached, found = _reached(program), []
+    for entry in report.times:
+        rule = program.rule(entry.rule)
+        if entry.text == "0" and rule.source.text in reached:
+            found.append(Finding(rule.at, True, f"rule {entry.rule} never occurs: koat says `time {entry.rule}: 0`; "
+                                 "its guard can't hold, or no run gets to it"))
+    return found
+
+
+def _constants(program):
+    return [Finding(token.at, True, f"the number {token.text} is 2^29 or more: koat may lose every bound by numbers of "
+                    "this size; leave it out, or make it a start argument")
+            for token in program.constants if int(token.text) >= LARGE]

@@ -1,0 +1,142 @@
+"""Why a bound is missing, in plain words, with the points that show it."""
+
+from . import programs
+
+QUESTIONS = {
+    "rank": "the search for a ranking function of rule {rule}",
+    "empty": "the test whether rule {rule} can be used at all",
+    "local": "the search for how large argument {place} can become by rule {rule}",
+}
+
+LIMITS = {
+    "range": "met a number of 2^31 or more after {number} {pivots}. Look for a large constant in the guards: leave the "
+             "guard out where it only limits a range (more runs, so bounds stay true), or make the constant a start "
+             "argument",
+    "budget": "needed more than {number} {pivots}. Give it more with --pivots N, up to 1,000,000",
+    "wide": "would need a table of {number} entries, which is more than is taken on. Split the program, or leave out "
+            "arguments that nothing depends on",
+    "scale": "ended with fractions whose common denominator is too large. Smaller factors may help, or inequalities in "
+             "place of equations",
+}
+
+
+def words(report, entry, program):
+    """Sentences on why the entry has no bound, each a line."""
+    return WORDS[entry.why.kind](report, entry, program)
+
+
+def _rules(numbers, joined):
+    texts = [str(it) for it in numbers]
+    if len(texts) == 1:
+        return f"rule {texts[0]}"
+    return "rules " + ", ".join(texts[:-1]) + f" {joined} {texts[-1]}"
+
+
+def _argument(rule, place):
+    return f"argument {place} after rule {rule}"
+
+
+def point(one, rule):
+    """A point as values of the rule's variables, or as the way that they go where it is a direction."""
+    names = programs.unknowns(rule, len(one.parts))
+    if one.denominator == 0:
+        told = [f"{name} {part:+d}" for name, part in zip(names, one.parts) if part]
+        return ", ".join(told) if told else "nothing changes"
+    told = [f"{name} = {_over(part, one.denominator)}" for name, part in zip(names, one.parts)]
+    return ", ".join(told) if told else "(no variables)"
+
+
+def _over(part, denominator):
+    whole, rest = divmod(part, denominator)
+    return str(whole) if rest == 0 else f"{part}/{denominator}"
+
+
+def _gap(report, entry, program):
+    facts = entry.why.facts
+    told = _no_function(entry.rule, facts["rules"]) + _shut(facts["shut"])
+    return told + _moves(facts, entry.rule, program) + [ADVICE]
+
+
+ADVICE = ("Where no run gets there, a condition is missing from the guard: add what holds of the arguments. Where runs "
+          "get there, the loop may have no end, or a bound that no affine function shows.")
+
+
+def _no_function(rule, rules):
+    others = [it for it in rules if it != rule]
+    told = f"No affine function of the arguments falls with each use of rule {rule}"
+    if not others:
+        return [told + " and is bounded from below before it."]
+    return [told + f", is bounded from below before it, and never rises by {_rules(others, 'or')}."]
+
+
+def _shut(places):
+    return [f"Argument {it['place']} of {it['symbol']} was left out, since its size isn't known where {it['symbol']} "
+            "is entered." for it in places]
+
+
+def _moves(facts, rule, program):
+    """The points of a gap: together they change nothing, or lead where the strict rule stays allowed."""
+    moves = "; ".join(_move(it, program) for it in facts["moves"] if it.denominator or any(it.parts))
+    floor = facts["floor"]
+    if facts["shut"]:
+        return [f"Consider {moves}: in what is left, nothing falls by this and has a lower bound."]
+    if floor.denominator == 0 and not any(floor.parts):
+        change = "together they change" if len(facts["rules"]) > 1 else "this changes"
+        return [f"Consider {moves}: {change} nothing."]
+    where = point(floor, program.rule(rule))
+    if floor.denominator == 0:
+        return [f"Consider {moves}: this leads along {where}, where rule {rule} stays allowed without end, so that "
+                "what falls has no lower bound."]
+    return [f"Consider {moves}: this leads to where rule {rule} is allowed, {where}, so that what falls has no lower "
+            "bound."]
+
+
+def _move(one, program):
+    where = point(one, program.rule(one.rule))
+    if one.denominator == 0:
+        return f"rule {one.rule} along {where}"
+    return f"rule {one.rule} at {where}" + (f" ({one.denominator} times)" if one.denominator > 1 else "")
+
+
+def _limit(report, entry, program):
+    facts = entry.why.facts
+    question = QUESTIONS[facts["question"]].format(rule=facts["rule"], place=facts.get("place"))
+    pivots = "pivot" if facts.get("number") == 1 else "pivots"
+    limit = LIMITS[facts["limit"]].format(number=facts.get("number"), pivots=pivots)
+    return [f"{question[0].upper()}{question[1:]} {limit}."]
+
+
+def _large(report, entry, program):
+    return [f"There is a bound, but its formula is too large to be kept: it has {entry.why.facts['nodes']} nodes, and "
+            "4,096 in 200 levels are kept."]
+
+
+def _loose(report, entry, program):
+    rule, facts = program.rule(entry.rule), entry.why.facts
+    side = "upwards" if facts["side"] == "up" else "downwards"
+    free = [it.text for it in rule.free]
+    told = [f"Nothing on the left of rule {entry.rule} limits the new value of {_argument(entry.rule, entry.place)} "
+            f"{side}."]
+    told.append(f"From {point(facts['kept'], rule)} it goes without end along {point(facts['ray'], rule)}.")
+    if free:
+        told.append(f"Free here, so any integer: {', '.join(free)}. Limit it in the guard by arguments of the left.")
+    return told
+
+
+def _missing(report, entry, program):
+    facts = entry.why.facts
+    return [f"It depends on {_argument(facts['rule'], facts['place'])}, which has no size bound itself."]
+
+
+def _bent(report, entry, program):
+    facts = entry.why.facts
+    return [f"{_argument(facts['rule'], facts['place']).capitalize()} is computed in a loop from its own earlier value "
+            "by a product or a power: no formula for this growth is kept."]
+
+
+def _untimed(report, entry, program):
+    return [f"It grows with each use of rule {entry.why.facts['rule']}, which has no time bound."]
+
+
+WORDS = {"no ranking function": _gap, "limit": _limit, "large": _large, "loose": _loose, "missing": _missing,
+         "bent": _bent, "untimed": _untimed}

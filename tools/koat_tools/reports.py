@@ -1,0 +1,245 @@
+"""The report of `koat analyse`, read from its text. This is the one place where its grammar stands.
+
+    report = verdict time+ total size* why*
+    verdict = "bounded" LF | "unknown" LF
+    time    = "time " R ": " (bound | "unknown") LF
+    total   = "total: " (bound | "unknown") LF
+    size    = "size " R "." I ": " (bound | "unknown") LF
+    why     = "why time " R ": " reason | "why size " R "." I ": " reason
+    reason  = "no affine ranking function over rules " R (", " R)* LF gap
+            | ("rank " R | "empty " R | "local " R "." I) " " limit LF
+            | "large " N " nodes" LF
+            | ("loose up" | "loose low") LF "  ray: " point LF "  kept: " point " / " D LF
+            | ("missing " | "bent ") R "." I LF
+            | "untimed " R LF
+    limit   = "range at pivot " K | "budget after " K " pivots" | "wide " E " entries" | "scale"
+    gap     = ("  shut " NAME "." I LF)* ("  move " R ": " point " / " D LF)+ "  floor " R ": " point " / " D LF
+              ("  kept " R ": " point " / " D LF)+
+    point   = "(" [ Z (", " Z)* ] ")"
+
+R is the number of a rule, from 1; I of a place of the rule's target, from 1; Z a whole number; D a denominator, which
+is 0 for a direction. `bounds` has the grammar of a bound.
+"""
+
+import re
+from dataclasses import dataclass, field
+from typing import List, Optional
+
+from . import bounds
+
+
+class ReportError(ValueError):
+    """A text that is no report."""
+
+
+@dataclass
+class Point:
+    """Numbers over a denominator; a denominator of 0 makes them a direction."""
+
+    parts: List[int]
+    denominator: int
+    rule: Optional[int] = None
+
+    def as_json(self):
+        told = {"point": self.parts, "denominator": self.denominator}
+        return told if self.rule is None else {"rule": self.rule, **told}
+
+
+@dataclass
+class Reason:
+    """Why a bound is missing: its kind, its first line, and what the kind tells."""
+
+    kind: str
+    line: str
+    facts: dict = field(default_factory=dict)
+
+    def as_json(self):
+        return {"kind": self.kind, "text": self.line, **{key: _plain(it) for key, it in self.facts.items()}}
+
+
+@dataclass
+class Entry:
+    """The bound of a rule, or of a place after a rule; or why there is none."""
+
+    rule: int
+    place: Optional[int]
+    text: Optional[str]
+    bound: object
+    why: Optional[Reason] = None
+
+    @property
+    def label(self):
+        return f"time {self.rule}" if self.place is None else f"size {self.rule}.{self.place}"
+
+
+@dataclass
+class Report:
+    verdict: str
+    times: List[Entry]
+    total_text: Optional[str]
+    total: object
+    sizes: List[Entry]
+    text: str
+
+    def entries(self):
+        return self.times + self.sizes
+
+    def labelled(self):
+        """Each bound with its label, in the report's order; a bound that is missing is None."""
+        told = [(it.label, it.text, it.bound) for it in self.times]
+        return told + [("total", self.total_text, self.total)] + [(it.label, it.text, it.bound) for it in self.sizes]
+
+
+def _plain(it):
+    if isinstance(it, list):
+        return [_plain(part) for part in it]
+    return it.as_json() if isinstance(it, Point) else it
+
+
+class _Lines:
+    """The lines that are left, and patterns taken off them."""
+
+    def __init__(self, text):
+        if not text.endswith("\n"):
+            raise ReportError("the report ends within a line")
+        self.lines, self.at = text[:-1].split("\n"), 0
+
+    def taken(self, pattern):
+        """The groups of the pattern where the next line matches it whole, and then that line is passed."""
+        match = re.fullmatch(pattern, self.lines[self.at]) if self.at < len(self.lines) else None
+        if match:
+            self.at += 1
+        return match
+
+    def needed(self, pattern):
+        match = self.taken(pattern)
+        if not match:
+            raise ReportError(f"line {self.at + 1} of the report isn't one that is known")
+        return match
+
+    def all(self, pattern):
+        found = []
+        while True:
+            match = self.taken(pattern)
+            if not match:
+                return found
+            found.append(match)
+
+
+NUMBER = r"([0-9]+)"
+POINT = r"\(((?:-?[0-9]+(?:, -?[0-9]+)*)?)\)"
+OVER = POINT + " / " + NUMBER
+
+
+def read(text):
+    """The report of a text that koat wrote with status 0 or 1."""
+    lines = _Lines(text)
+    verdict = lines.needed("(bounded|unknown)").group(1)
+    times = [_entry(it.group(1), None, it.group(2)) for it in lines.all(f"time {NUMBER}: (.*)")]
+    total, total_bound = _bound(lines.needed("total: (.*)").group(1))
+    sizes = [_entry(it.group(1), it.group(2), it.group(3)) for it in lines.all(rf"size {NUMBER}\.{NUMBER}: (.*)")]
+    for entry in times + sizes:
+        if entry.text is None:
+            name = entry.label.replace(".", r"\.")
+            entry.why = _reason(lines.needed(f"why {name}: (.*)").group(1), lines)
+    if lines.at < len(lines.lines):
+        raise ReportError(f"line {lines.at + 1} of the report isn't one that is known")
+    return Report(verdict, times, total, total_bound, sizes, text)
+
+
+def _bound(text):
+    if text == "unknown":
+        return None, None
+    try:
+        return text, bounds.read(text)
+    except bounds.BoundError as fault:
+        raise ReportError(str(fault)) from fault
+
+
+def _entry(rule, place, text):
+    told, bound = _bound(text)
+    return Entry(int(rule), None if place is None else int(place), told, bound)
+
+
+def _point(parts, denominator, rule=None):
+    return Point([int(it) for it in parts.split(", ")] if parts else [], int(denominator), rule and int(rule))
+
+
+def _points(word, lines):
+    return [_point(it.group(2), it.group(3), it.group(1)) for it in lines.all(f"  {word} {NUMBER}: {OVER}")]
+
+
+def _reason(line, lines):
+    for pattern, read_facts in REASONS:
+        match = re.fullmatch(pattern, line)
+        if match:
+            kind, facts = read_facts(match, lines)
+            return Reason(kind, line, facts)
+    raise ReportError(f"a reason that isn't known: {line}")
+
+
+def _gap(match, lines):
+    shut = [{"symbol": it.group(1), "place": int(it.group(2))} for it in lines.all(rf"  shut (.*)\.{NUMBER}")]
+    moves = _points("move", lines)
+    floor = _points("floor", lines)
+    kept = _points("kept", lines)
+    rules = [int(it) for it in match.group(1).split(", ")]
+    if len(floor) != 1 or [it.rule for it in moves] != rules or [it.rule for it in kept] != rules:
+        raise ReportError("a gap without its lines")
+    return "no ranking function", {"rules": rules, "shut": shut, "moves": moves, "floor": floor[0], "kept": kept}
+
+
+def _limit(match, _):
+    question, rule, place, limit = match.groups()
+    facts = {"question": question, "rule": int(rule)}
+    if place is not None:
+        facts["place"] = int(place)
+    facts["limit"] = limit.split(" ", 1)[0]
+    numbers = re.findall("[0-9]+", limit)
+    if numbers:
+        facts["number"] = int(numbers[0])
+    return "limit", facts
+
+
+def _loose(match, lines):
+    ray = lines.needed(f"  ray: {POINT}")
+    kept = lines.needed(f"  kept: {OVER}")
+    facts = {"side": match.group(1), "ray": _point(ray.group(1), 0), "kept": _point(kept.group(1), kept.group(2))}
+    return "loose", facts
+
+
+def _place(match, _):
+    return match.group(1), {"rule": int(match.group(2)), "place": int(match.group(3))}
+
+
+LIMIT = f"(range at pivot [0-9]+|budget after [0-9]+ pivots|wide [0-9]+ entries|scale)"
+REASONS = [
+    (r"no affine ranking function over rules ([0-9]+(?:, [0-9]+)*)", _gap),
+    (rf"(rank|empty|local) {NUMBER}(?:\.{NUMBER})? {LIMIT}", _limit),
+    (f"large {NUMBER} nodes", lambda match, _: ("large", {"nodes": int(match.group(1))})),
+    ("loose (up|low)", _loose),
+    (rf"(missing|bent) {NUMBER}\.{NUMBER}", _place),
+    (f"untimed {NUMBER}", lambda match, _: ("untimed", {"rule": int(match.group(1))})),
+]
+
+
+def as_json(report):
+    """The whole report as plain data, as `docs/report.schema.json` describes it."""
+    return {
+        "verdict": report.verdict,
+        "times": [_entry_json(it) for it in report.times],
+        "total": _bound_json(report.total_text, report.total),
+        "sizes": [_entry_json(it) for it in report.sizes],
+    }
+
+
+def _bound_json(text, bound):
+    return None if text is None else {"text": text, "tree": bounds.as_json(bound)}
+
+
+def _entry_json(entry):
+    told = {"rule": entry.rule} if entry.place is None else {"rule": entry.rule, "place": entry.place}
+    told["bound"] = _bound_json(entry.text, entry.bound)
+    if entry.why:
+        told["why"] = entry.why.as_json()
+    return told

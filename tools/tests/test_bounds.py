@@ -1,0 +1,54 @@
+import unittest
+
+import examples
+from koat_tools import bounds, growth, reports
+
+
+def evaluated(text, inputs):
+    """The value by Python's own reading of the text."""
+    return eval(text.replace("^", "**"), {"max": max, "__builtins__": {}}, dict(inputs))
+
+
+class Bounds(unittest.TestCase):
+    def test_values_of_all_examples(self):
+        differ = []
+        for name in examples.names():
+            report = reports.read(examples.text(name))
+            for label, text, bound in report.labelled():
+                for size in (0, 1, 3, 7) if bound else ():
+                    inputs = {it: size + at for at, it in enumerate(bounds.names(bound))}
+                    if bounds.value(bound, inputs) != evaluated(text, inputs):
+                        differ.append((name, label, inputs))
+        self.assertEqual(differ, [])
+
+    def test_trees(self):
+        read = bounds.read("2*2^(A + 1)*B^2 + max(A, 3)")
+        power = bounds.Power(2, bounds.Sum((bounds.Input("A"), bounds.Constant(1))))
+        product = bounds.Product((bounds.Constant(2), power, bounds.Input("B"), bounds.Input("B")))
+        self.assertEqual(read, bounds.Sum((product, bounds.Maximum((bounds.Input("A"), bounds.Constant(3))))))
+
+    def test_no_bounds(self):
+        wrong = ["", "A +", "A+B", "max(A", "2^", "A^B", "(A", "A B", "unknown "]
+        taken = []
+        for text in wrong:
+            try:
+                taken.append((text, bounds.read(text)))
+            except bounds.BoundError:
+                pass
+        self.assertEqual(taken, [])
+
+    def test_large_values_are_capped(self):
+        value = bounds.value(bounds.read("2^(2^A)*3"), {"A": 10**9})
+        self.assertEqual(bounds.value_text(value), "2^127 or more")
+
+
+CLASSES = [("7", "O(1)", "O(1)"), ("A", "O(n)", "O(n^1)"), ("2*A^2*B + A", "O(n^3)", "O(n^3)"),
+           ("max(A, B^2)*(A + 1)", "O(n^3)", "O(n^3)"), ("2*2^A*A", "2^O(n)", "O(EXP)"),
+           ("3^(A^2) + 2^B", "2^O(n^2)", "O(EXP)"), ("2^(2^A)", "2^2^O(n)", "O(EXP)"), ("2^200", "O(1)", "O(1)")]
+
+
+class Classes(unittest.TestCase):
+    def test_classes(self):
+        found = [(text, growth.text(it), growth.competition(it))
+                 for text, it in ((text, growth.growth(bounds.read(text))) for text, _, _ in CLASSES)]
+        self.assertEqual(found, CLASSES)

@@ -1,0 +1,109 @@
+import contextlib
+import io
+import json
+import os
+import re
+import shutil
+import tempfile
+import unittest
+from unittest import mock
+
+import examples
+from koat_tools import command
+
+STAND_IN = os.path.join(examples.HERE, "stand_in")
+
+
+def shown(*words, koat=STAND_IN, path=None):
+    """Status, output and error output of a call."""
+    out, error = io.StringIO(), io.StringIO()
+    variables = {"KOAT": koat, **({} if path is None else {"PATH": path})}
+    with mock.patch.dict(os.environ, variables), contextlib.redirect_stderr(error):
+        try:
+            status = command.main(list(words), out)
+        except SystemExit as end:
+            status = end.code
+    return status, out.getvalue(), error.getvalue()
+
+
+class Commands(unittest.TestCase):
+    def test_values(self):
+        status, out, _ = shown("at", examples.path("gcd"), "A=30", "B=-12")
+        self.assertEqual((status, out.splitlines()[:6]), (0, [
+            "time 1: 1", "time 2: A = 30", "time 3: B = 12", "time 4: 1", "total: A + B + 2 = 44", "size 1.1: A = 30"]))
+
+    def test_classes(self):
+        _, out, _ = shown("class", examples.path("doubling"))
+        self.assertEqual(out.splitlines()[3:5] + out.splitlines()[-1:],
+                         ["time 4: 2^O(n)", "total: 2^O(n)", "WORST_CASE(?, O(EXP))"])
+        self.assertEqual(shown("class", examples.path("triangle"))[1].splitlines()[-1], "WORST_CASE(?, O(n^2))")
+        self.assertEqual(shown("class", examples.path("stay"))[1].splitlines()[-1], "WORST_CASE(?, ?)")
+
+    def test_json(self):
+        _, out, _ = shown("json", examples.path("gcd"))
+        told = json.loads(out)
+        self.assertEqual((told["verdict"], told["inputs"], told["total"]["text"]), ("bounded", ["A", "B"], "A + B + 2"))
+
+    def test_explain(self):
+        self.assertEqual(shown("explain", examples.path("gcd"))[:2], (0, "no bound is missing\n"))
+        self.assertEqual(shown("explain", os.path.join(examples.HERE, "examples.py"))[0], 6)
+
+    def test_lint(self):
+        status, out, _ = shown("lint", examples.path("gcd"))
+        self.assertEqual((status, re.sub(r"^.*gcd", "gcd", out)),
+                         (0, "gcd.koat:6:23: note: no rule leaves `stop`: runs end there\n"))
+        self.assertEqual(shown("lint", examples.path("large_constant"))[0], 1)
+
+    def test_pages_stand_alone(self):
+        loading = []
+        for name in examples.names():
+            status, out, _ = shown("page", examples.path(name), "--without-picture")
+            if status or re.search(r"(src|href)=\"(?!#)|https?://|@import|url\(", out):
+                loading.append(name)
+        self.assertEqual(loading, [])
+
+    @unittest.skipUnless(shutil.which("dot"), "dot isn't there")
+    def test_pictures(self):
+        _, out, _ = shown("page", examples.path("unequal"))
+        self.assertEqual(re.findall(r'id="edge-(\d)" class="edge (\w+)"', out),
+                         [("1", "known"), ("2", "known"), ("3", "missing"), ("4", "known")])
+
+
+class Faults(unittest.TestCase):
+    def fault(self, status, pattern, *words, **how):
+        ended, out, error = shown(*words, **how)
+        self.assertEqual((ended, out, error.count("\n")), (status, "", 1))
+        self.assertRegex(error, pattern)
+
+    def test_words(self):
+        self.assertEqual([shown(*it)[0] for it in ([], ["other"], ["json"], ["json", "a", "b"])], [2, 2, 2, 2])
+
+    def test_files(self):
+        self.fault(3, "can't be read", "json", examples.path("no such"))
+        self.fault(3, "can't be read", "json", examples.HERE)
+
+    def test_refused(self):
+        self.fault(6, "program refused at [0-9]+: Syntax", "json", os.path.join(examples.HERE, "examples.py"))
+
+    def test_koat(self):
+        self.fault(10, "can't be run", "json", examples.path("gcd"), koat="/no/such/koat")
+        self.fault(11, "can't be read", "json", examples.path("gcd"), koat=shutil.which("false"))
+        self.fault(11, "can't be read", "json", examples.path("gcd"), koat=shutil.which("true"))
+
+    def test_no_answer_in_time(self):
+        with tempfile.TemporaryDirectory() as room:
+            slow = os.path.join(room, "slow")
+            with open(slow, "w", encoding="utf-8") as file:
+                file.write("#!/bin/sh\nexec sleep 60\n")
+            os.chmod(slow, 0o755)
+            self.fault(11, "no answer within", "json", examples.path("gcd"), "--seconds", "0.2", koat=slow)
+
+    def test_dot(self):
+        with tempfile.TemporaryDirectory() as room:
+            os.symlink(shutil.which("python3"), os.path.join(room, "python3"))
+            self.fault(12, "dot of Graphviz isn't there", "page", examples.path("gcd"), path=room)
+
+    def test_inputs(self):
+        self.fault(13, "needs A=NUMBER", "at", examples.path("gcd"))
+        self.fault(13, "no input of this program; its inputs: A, B", "at", examples.path("gcd"), "C=1")
+        self.fault(13, "isn't NAME=NUMBER", "at", examples.path("gcd"), "A=--1")
