@@ -3,7 +3,6 @@
 import os
 import re
 import subprocess
-import sys
 from dataclasses import dataclass
 from typing import Optional
 
@@ -12,7 +11,10 @@ from . import programs, reports
 TOP = os.path.dirname(os.path.dirname(os.path.dirname(os.path.abspath(__file__))))
 
 # Statuses up to 6 are koat's own and mean the same here.
-READ_FAULT, REFUSED, NO_KOAT, KOAT_FAILED, NO_DOT, BAD_INPUT = 3, 6, 10, 11, 12, 13
+READ_FAULT, WRITE_FAULT, REFUSED, NO_KOAT, KOAT_FAILED, NO_DOT, BAD_INPUT = 3, 4, 6, 10, 11, 12, 13
+
+# One byte more than koat takes, so that it says itself that a text is too long.
+MOST = 4194304 + 1
 
 
 class Stop(Exception):
@@ -48,10 +50,8 @@ def program_path():
 
 def read_file(name):
     try:
-        if name == "-":
-            return sys.stdin.buffer.read()
-        with open(name, "rb") as file:
-            return file.read()
+        with open(0 if name == "-" else name, "rb", closefd=name != "-") as file:
+            return file.read(MOST)
     except OSError as fault:
         raise Stop(READ_FAULT, f"{name} can't be read: {fault.strerror}") from fault
 

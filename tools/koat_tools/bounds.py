@@ -9,11 +9,15 @@ A name is a start argument and stands for its absolute value. `A^2` is the produ
 """
 
 import re
+import sys
 from dataclasses import dataclass
 from typing import Tuple
 
 # From here on values aren't told exactly: bounds grow by powers of powers.
 CAP = 2**127
+
+# Bounds are read and walked by recursion; koat keeps up to 200 levels, each of some calls.
+sys.setrecursionlimit(max(sys.getrecursionlimit(), 20000))
 
 TOKEN = re.compile(r"[A-Za-z_$][A-Za-z0-9_$'.]*|[0-9]+|[ ]\+[ ]|,[ ]|[*^()]")
 

@@ -1,7 +1,9 @@
 """The command line: what the words ask for, and the lines and the status that come of it."""
 
 import argparse
+import io
 import json
+import math
 import re
 import sys
 
@@ -18,10 +20,21 @@ stands beside it (hints, O-classes, values, pictures) is worked out here and isn
   at FILE A=30 B=12   the value of each bound at these inputs
   page FILE           a page for the browser: the graph, the rules with their bounds, fields for the inputs"""
 
-STATUSES = """status: 0 done; 1 lint found a likely slip; 2 the words are no command line; 3 FILE can't be read; 6 koat
-refused the program; 10 koat can't be run; 11 koat gave no answer, or none that can be read; 12 dot is missing or
-failed; 13 inputs of `at` are wrong. FILE may be - for standard input. The variable KOAT names another program than
-./koat."""
+STATUSES = """status: 0 done; 1 lint found a likely slip; 2 the words are no command line; 3 FILE can't be read; 4 the
+output can't be written; 6 koat refused the program; 10 koat can't be run; 11 koat gave no answer, or none that can be
+read; 12 dot is missing or failed; 13 inputs of `at` are wrong; 130 interrupted. FILE may be - for standard input. The
+variable KOAT names another program than ./koat."""
+
+
+INTERRUPTED = 130
+
+
+def seconds(text):
+    """A number of seconds over 0."""
+    number = float(text)
+    if not 0 < number < math.inf:
+        raise ValueError
+    return number
 
 
 def parser():
@@ -32,7 +45,7 @@ def parser():
         one = commands.add_parser(name, description=COMMANDS[name].__doc__)
         one.add_argument("file", metavar="FILE")
         one.add_argument("--pivots", metavar="N", help="handed to koat")
-        one.add_argument("--seconds", metavar="N", type=float, help="how long koat may take")
+        one.add_argument("--seconds", metavar="N", type=seconds, help="how long koat may take")
         if name == "at":
             one.add_argument("inputs", nargs="*", metavar="NAME=NUMBER")
         if name == "page":
@@ -40,16 +53,44 @@ def parser():
     return top
 
 
-def main(words, out=sys.stdout):
-    asked = parser().parse_args(words)
+def _asked(words):
+    """What the words ask for; inputs may stand behind options too, which argparse doesn't take by itself."""
+    top = parser()
+    asked, rest = top.parse_known_args(words)
+    if rest and (asked.command != "at" or any(it.startswith("-") for it in rest)):
+        top.error("unrecognized arguments: " + " ".join(rest))
+    if rest:
+        asked.inputs += rest
+    return asked
+
+
+def main(words, out=None):
+    asked = _asked(words)
+    said = io.StringIO()
     try:
-        return COMMANDS[asked.command](asked, out)
+        status = COMMANDS[asked.command](asked, said)
+        _write(said.getvalue(), out)
+        return status
     except Stop as stop:
-        print(f"show: {stop.line}", file=sys.stderr)
+        line = f"show: {stop.line}\n".encode("utf-8", "surrogateescape").decode("utf-8", "replace")
+        print(line, end="", file=sys.stderr)
         return stop.status
+    except KeyboardInterrupt:
+        return INTERRUPTED
+
+
+def _write(text, out):
+    """Writes the whole output, as UTF-8 where it goes to standard output; who reads may leave before the end."""
+    if out:
+        out.write(text)
+        return
+    try:
+        with open(1, "wb", closefd=False) as whole:
+            whole.write(text.encode("utf-8", "surrogateescape"))
     except BrokenPipeError:
-        sys.stderr.close()
-        return 0
+        pass
+    except OSError as fault:
+        raise Stop(analyser.WRITE_FAULT, f"the output can't be written: {fault.strerror}") from fault
 
 
 def _analysed(asked):

@@ -34,8 +34,10 @@ def text(pair):
 
 
 def competition(pair):
-    """The class as the termination competition writes it; `?` for a bound that is missing."""
+    """The class as the termination competition writes it; `?` where there is no bound, or one that is a tower."""
     if pair is None:
         return "?"
     height, degree = pair
+    if height > 1:
+        return "?"
     return "O(EXP)" if height else "O(1)" if degree == 0 else f"O(n^{degree})"

@@ -228,6 +228,8 @@ def _at_word(text, _, at):
     before, behind = _around(text, at)
     last, here = before[0], behind[0]
     inside = _enclosing(before)
+    if here.text == "(" and [it.text for it in behind[1:2]] == ["COMMENT"]:
+        return COMMENTS
     if here.text == "(" and re.fullmatch(r"com_?\d*", inside, re.I) and inside != "Com_1":
         return TARGET_WORD
     if last.text.lower() in WORDS and last.text not in ("TRUE", "true") and here.text != "(":

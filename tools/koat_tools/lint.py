@@ -93,4 +93,4 @@ def _times(program, report):
 def _constants(program):
     return [Finding(token.at, True, f"the number {token.text} is 2^29 or more: koat may lose every bound by numbers of "
                     "this size; leave it out, or make it a start argument")
-            for token in program.constants if int(token.text) >= LARGE]
+            for token in program.constants if int(token.text.lstrip("0") or "0") >= LARGE]

@@ -20,10 +20,12 @@ function value(tree, inputs) {
 
 const written = (number) => (number >= CAP ? "2^127 or more" : number.toLocaleString("en"));
 
+// The absolute values of the inputs by name, or null where a field holds no whole number.
 function inputs() {
-  const found = {};
+  const found = Object.create(null);
   for (const field of document.querySelectorAll("input[type=number]")) {
-    const given = BigInt(/^-?\d+$/.test(field.value) ? field.value : "0");
+    if (!/^-?\d+$/.test(field.value)) return null;
+    const given = BigInt(field.value);
     found[field.dataset.input] = given < 0n ? -given : given;
   }
   return found;
@@ -33,7 +35,7 @@ const cells = [...document.querySelectorAll("[data-tree]")].map((cell) => [cell,
 
 function show() {
   const given = inputs();
-  for (const [cell, tree] of cells) cell.textContent = written(value(tree, given));
+  for (const [cell, tree] of cells) cell.textContent = given ? written(value(tree, given)) : "?";
 }
 
 // A slider and a field of one input follow each other.

@@ -31,14 +31,16 @@ class Token:
 
 def tokens(text):
     """The tokens of the text without white space; a comment is one token, also where it isn't closed."""
-    found, at = [], 0
+    found, at, depth = [], 0, 0
     while at < len(text):
         match = TOKEN.match(text, at)
         token = Token(match.lastgroup, match.group(), at)
         at = match.end()
         if token.kind == "space":
             continue
-        if token.text == "COMMENT" and found and found[-1].text == "(":
+        depth += {"(": 1, ")": -1}.get(token.text, 0)
+        if token.text == "COMMENT" and depth == 1 and found[-1].text == "(":
+            depth = 0
             opening = found.pop()
             at = comment_end(text, at)
             token = Token("comment", text[opening.at:at], opening.at)
@@ -231,12 +233,11 @@ class _Reader:
         while depth > 0 or not ended():
             token = self.take()
             depth += {"(": 1, ")": -1}.get(token.text, 0)
-            if token.kind == "name":
+            if token.kind == "name" and not self.is_truth(token, self.at - 1):
                 names.append(token)
-        return [it for it in names if not self.is_truth(it)]
+        return names
 
-    def is_truth(self, token):
-        at = self.tokens.index(token)
+    def is_truth(self, token, at):
         behind = self.tokens[at + 1].text if at + 1 < len(self.tokens) else ""
         before = self.tokens[at - 1].text
         return (token.text in ("TRUE", "true") and before in (":|:", "[", "&&", "/\\")

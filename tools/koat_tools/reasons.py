@@ -57,13 +57,13 @@ def _gap(report, entry, program):
     return told + _moves(facts, entry.rule, program) + [ADVICE]
 
 
-ADVICE = ("Where no run gets there, a condition is missing from the guard: add what holds of the arguments. Where runs "
-          "get there, the loop may have no end, or a bound that no affine function shows.")
+ADVICE = ("Where no run gets there, a comparison of degree 1 is missing from the guard: add what holds of the "
+          "arguments. Where runs get there, the loop may have no end, or a bound that no affine function shows.")
 
 
 def _no_function(rule, rules):
     others = [it for it in rules if it != rule]
-    told = f"No affine function of the arguments falls with each use of rule {rule}"
+    told = f"Over fractions no affine function of the arguments falls with each use of rule {rule}"
     if not others:
         return [told + " and is bounded from below before it."]
     return [told + f", is bounded from below before it, and never rises by {_rules(others, 'or')}."]

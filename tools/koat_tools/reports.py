@@ -17,6 +17,7 @@
               ("  kept " R ": " point " / " D LF)+
     point   = "(" [ Z (", " Z)* ] ")"
 
+The reasons are those of the bounds that are missing, in order; an `unknown` without a reason is an input of that name.
 R is the number of a rule, from 1; I of a place of the rule's target, from 1; Z a whole number; D a denominator, which
 is 0 for a direction. `bounds` has the grammar of a bound.
 """
@@ -136,29 +137,39 @@ def read(text):
     lines = _Lines(text)
     verdict = lines.needed("(bounded|unknown)").group(1)
     times = [_entry(it.group(1), None, it.group(2)) for it in lines.all(f"time {NUMBER}: (.*)")]
-    total, total_bound = _bound(lines.needed("total: (.*)").group(1))
+    total = lines.needed("total: (.*)").group(1)
     sizes = [_entry(it.group(1), it.group(2), it.group(3)) for it in lines.all(rf"size {NUMBER}\.{NUMBER}: (.*)")]
     for entry in times + sizes:
-        if entry.text is None:
-            name = entry.label.replace(".", r"\.")
-            entry.why = _reason(lines.needed(f"why {name}: (.*)").group(1), lines)
+        if entry.text == UNKNOWN:
+            _with_reason(entry, lines)
     if lines.at < len(lines.lines):
         raise ReportError(f"line {lines.at + 1} of the report isn't one that is known")
-    return Report(verdict, times, total, total_bound, sizes, text)
+    missing = any(it.why for it in times)
+    if missing != (verdict == "unknown") or missing and total != UNKNOWN:
+        raise ReportError("the verdict, the times and the total don't fit")
+    return Report(verdict, times, None if missing else total, None if missing else _bound(total), sizes, text)
+
+
+# An input may have this name too, and be a bound: a bound is missing only where its reason follows.
+UNKNOWN = "unknown"
+
+
+def _with_reason(entry, lines):
+    name = entry.label.replace(".", r"\.")
+    why = lines.taken(f"why {name}: (.*)")
+    if why:
+        entry.text, entry.bound, entry.why = None, None, _reason(why.group(1), lines)
 
 
 def _bound(text):
-    if text == "unknown":
-        return None, None
     try:
-        return text, bounds.read(text)
+        return bounds.read(text)
     except bounds.BoundError as fault:
         raise ReportError(str(fault)) from fault
 
 
 def _entry(rule, place, text):
-    told, bound = _bound(text)
-    return Entry(int(rule), None if place is None else int(place), told, bound)
+    return Entry(int(rule), None if place is None else int(place), text, _bound(text))
 
 
 def _point(parts, denominator, rule=None):

@@ -81,6 +81,7 @@ REFUSALS = [
     (RULE + ":|: \xc4 > 0)", 65, "NotAscii", "names and signs are ASCII; other letters may"),
     (RULE + "\xa0)", 61, "NotAscii", "this is a blank that doesn't break"),
     (HEAD + "l0(A) -> l1(A) // comment\n)", 54, "Syntax", "a comment is a section of its own between the"),
+    (RULE + "(COMMENT so\n)", 61, "Syntax", "a comment is a section of its own between the"),
     ("# comment\n" + RULE + ")", 0, "Syntax", "a comment is a section of its own between the"),
     (HEAD + "l0(A) -> l1(A)\n  -- comment\n)", 56, "Syntax", "a comment is a section of its own between the"),
     (HEAD + "l0(A) -> l1(A), l1(A) -> l0(A))", 53, "Syntax", "nothing stands between two rules"),

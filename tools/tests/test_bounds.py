@@ -1,3 +1,4 @@
+import json
 import unittest
 
 import examples
@@ -27,6 +28,15 @@ class Bounds(unittest.TestCase):
         product = bounds.Product((bounds.Constant(2), power, bounds.Input("B"), bounds.Input("B")))
         self.assertEqual(read, bounds.Sum((product, bounds.Maximum((bounds.Input("A"), bounds.Constant(3))))))
 
+    def test_as_deep_as_koat_keeps_them(self):
+        text = "A"
+        for _ in range(200):
+            text = f"max(2^({text}), B)"
+        bound = bounds.read(text)
+        self.assertEqual((bounds.names(bound), bounds.value(bound, {"A": 0, "B": 5})), (["A", "B"], bounds.CAP))
+        self.assertEqual(growth.growth(bound), (200, 1))
+        self.assertEqual(json.loads(json.dumps(bounds.as_json(bound), indent=1))["kind"], "maximum")
+
     def test_no_bounds(self):
         wrong = ["", "A +", "A+B", "max(A", "2^", "A^B", "(A", "A B", "unknown "]
         taken = []
@@ -40,11 +50,13 @@ class Bounds(unittest.TestCase):
     def test_large_values_are_capped(self):
         value = bounds.value(bounds.read("2^(2^A)*3"), {"A": 10**9})
         self.assertEqual(bounds.value_text(value), "2^127 or more")
+        power = bounds.read("2^A")
+        self.assertEqual([bounds.value(power, {"A": it}) for it in (20, 126, 127)], [2**20, 2**126, bounds.CAP])
 
 
 CLASSES = [("7", "O(1)", "O(1)"), ("A", "O(n)", "O(n^1)"), ("2*A^2*B + A", "O(n^3)", "O(n^3)"),
            ("max(A, B^2)*(A + 1)", "O(n^3)", "O(n^3)"), ("2*2^A*A", "2^O(n)", "O(EXP)"),
-           ("3^(A^2) + 2^B", "2^O(n^2)", "O(EXP)"), ("2^(2^A)", "2^2^O(n)", "O(EXP)"), ("2^200", "O(1)", "O(1)")]
+           ("3^(A^2) + 2^B", "2^O(n^2)", "O(EXP)"), ("2^(2^A)", "2^2^O(n)", "?"), ("2^200", "O(1)", "O(1)")]
 
 
 class Classes(unittest.TestCase):

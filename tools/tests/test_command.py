@@ -4,6 +4,7 @@ import json
 import os
 import re
 import shutil
+import subprocess
 import tempfile
 import unittest
 from unittest import mock
@@ -31,6 +32,24 @@ class Commands(unittest.TestCase):
         status, out, _ = shown("at", examples.path("gcd"), "A=30", "B=-12")
         self.assertEqual((status, out.splitlines()[:6]), (0, [
             "time 1: 1", "time 2: A = 30", "time 3: B = 12", "time 4: 1", "total: A + B + 2 = 44", "size 1.1: A = 30"]))
+
+    def test_inputs_behind_options(self):
+        _, out, _ = shown("at", examples.path("gcd"), "--seconds", "60", "A=30", "B=12")
+        self.assertEqual(out.splitlines()[4], "total: A + B + 2 = 44")
+        self.assertEqual(shown("json", examples.path("gcd"), "--seconds", "60", "A=30")[0], 2)
+        wrong = [shown("json", examples.path("gcd"), "--seconds", it)[0] for it in ("0", "nan", "inf")]
+        self.assertEqual(wrong, [2, 2, 2])
+
+    def test_outputs_that_end(self):
+        tool = os.path.join(examples.TOP, "tools", "show")
+        variables = {**os.environ, "KOAT": STAND_IN, "PYTHONIOENCODING": "ascii"}
+        ended = []
+        for output in ("/dev/full", "/dev/null"):
+            with open(output, "wb") as sink:
+                ran = subprocess.run([tool, "page", "--without-picture", examples.path("gcd")], stdout=sink,
+                                     stderr=subprocess.PIPE, env=variables, check=False)
+            ended.append((ran.returncode, ran.stderr.count(b"\n")))
+        self.assertEqual(ended, [(4, 1), (0, 0)])
 
     def test_classes(self):
         _, out, _ = shown("class", examples.path("doubling"))

@@ -43,7 +43,8 @@ class Lint(unittest.TestCase):
 
     def test_large_constants(self):
         text = HEAD + "start(A) -> start(A) :|: A <= {})"
-        self.assertEqual([len(found(text.format(it))) for it in (2**29 - 1, 2**29, 2147483647)], [0, 1, 1])
+        numbers = (2**29 - 1, 2**29, 2147483647, "0" * 5000 + "7", "0" * 5000)
+        self.assertEqual([len(found(text.format(it))) for it in numbers], [0, 1, 1, 0, 0])
 
     def test_which_names_are_near(self):
         near = [("loop", "lop"), ("Count", "count"), ("Ar_0", "Ar0"), ("first", "fisrt"), ("search", "seerch")]

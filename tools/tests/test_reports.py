@@ -64,10 +64,19 @@ class Reports(unittest.TestCase):
         self.assertEqual((why["rules"], why["shut"]), ([3], [{"symbol": "loop", "place": 1}]))
         self.assertEqual(why["floor"], {"rule": 3, "point": [1, 0], "denominator": 0})
 
+    def test_an_input_may_be_named_unknown(self):
+        text = "bounded\ntime 1: unknown\ntotal: unknown\nsize 1.1: unknown\n"
+        report = reports.read(text)
+        self.assertEqual((report.times[0].text, report.total_text, report.sizes[0].why), ("unknown", "unknown", None))
+        stay = reports.read(examples.text("stay").replace(": A\n", ": unknown\n"))
+        self.assertEqual([it.text for it in stay.entries()], ["1", None, "unknown", "unknown"])
+        self.assertIsNone(stay.total_text)
+
     def test_no_reports(self):
         whole = examples.text("stay")
         taken = []
-        for text in ("", "bounded\n", whole[:-1], whole + "more\n", whole.replace("  kept 2: (1) / 1\n", "")):
+        for text in ("", "bounded\n", whole[:-1], whole.replace("unknown", "bounded", 1), whole + "more\n",
+                     whole.replace("  kept 2: (1) / 1\n", "")):
             try:
                 taken.append(reports.read(text))
             except reports.ReportError:
@@ -86,6 +95,10 @@ class Programs(unittest.TestCase):
             if len(program.rules) != len(report.times) or places != [(it.rule, it.place) for it in report.sizes]:
                 differ.append(name)
         self.assertEqual(differ, [])
+
+    def test_a_variable_may_be_named_comment(self):
+        text = b"(COMMENT (a) b)(STARTTERM (FUNCTIONSYMBOLS f))(RULES f(COMMENT) -> g(COMMENT))"
+        self.assertEqual(programs.read(text).rules[0].updates, ["COMMENT"])
 
     def test_a_rule_in_parts(self):
         text = (b"(STARTTERM (FUNCTIONSYMBOLS f))(RULES f(A) -> g((A+1)*B, TRUE) [ TRUE && true >= C ] "
