@@ -11,7 +11,7 @@ from . import programs, reports
 TOP = os.path.dirname(os.path.dirname(os.path.dirname(os.path.abspath(__file__))))
 
 # Statuses up to 6 are koat's own and mean the same here.
-READ_FAULT, WRITE_FAULT, REFUSED, NO_KOAT, KOAT_FAILED, NO_DOT, BAD_INPUT = 3, 4, 6, 10, 11, 12, 13
+WORDS_FAULT, READ_FAULT, WRITE_FAULT, REFUSED, NO_KOAT, KOAT_FAILED, NO_DOT, BAD_INPUT = 2, 3, 4, 6, 10, 11, 12, 13
 
 # One byte more than koat takes, so that it says itself that a text is too long.
 MOST = 4194304 + 1
@@ -81,4 +81,6 @@ def _answer(status, output, data, name):
         if match:
             at = match.group(1)
             return Answer(data, name, refusal=Refusal(text.rstrip("\n"), at and int(at), match.group(2)))
+    if status == WORDS_FAULT and text:
+        raise Stop(WORDS_FAULT, f"koat doesn't take these words: {text.splitlines()[0]}")
     raise Stop(KOAT_FAILED, f"koat ended with status {status}" + (f": {text.splitlines()[0]}" if text else ""))

@@ -20,10 +20,10 @@ stands beside it (hints, O-classes, values, pictures) is worked out here and isn
   at FILE A=30 B=12   the value of each bound at these inputs
   page FILE           a page for the browser: the graph, the rules with their bounds, fields for the inputs"""
 
-STATUSES = """status: 0 done; 1 lint found a likely slip; 2 the words are no command line; 3 FILE can't be read; 4 the
-output can't be written; 6 koat refused the program; 10 koat can't be run; 11 koat gave no answer, or none that can be
-read; 12 dot is missing or failed; 13 inputs of `at` are wrong; 130 interrupted. FILE may be - for standard input. The
-variable KOAT names another program than ./koat."""
+STATUSES = """status: 0 done; 1 lint found a likely slip; 2 the words are no command line; 3 FILE can't be read; 4
+the output can't be written; 6 koat refused the program; 10 koat can't be run; 11 koat gave no answer, or none that
+can be read; 12 dot is missing, failed or took too long; 13 inputs of `at` are wrong; 130 interrupted. FILE may be -
+for standard input. The variable KOAT names another program than ./koat."""
 
 
 INTERRUPTED = 130
@@ -45,7 +45,7 @@ def parser():
         one = commands.add_parser(name, description=COMMANDS[name].__doc__)
         one.add_argument("file", metavar="FILE")
         one.add_argument("--pivots", metavar="N", help="handed to koat")
-        one.add_argument("--seconds", metavar="N", type=seconds, help="how long koat may take")
+        one.add_argument("--seconds", metavar="N", type=seconds, help="how long koat, and dot, may each take")
         if name == "at":
             one.add_argument("inputs", nargs="*", metavar="NAME=NUMBER")
         if name == "page":
@@ -124,9 +124,8 @@ def _lint(asked, out):
     """Names likely slips, and what is good to know, each with its line."""
     answer = _reported(asked)
     found = lint.findings(answer.program, answer.report)
-    for it in found:
-        where = programs.place(answer.data, it.at)
-        print(f"{asked.file}:{where.line}:{where.column}: {'warning' if it.is_slip else 'note'}: {it.text}", file=out)
+    for it, (line, column) in zip(found, programs.columns(answer.data, [it.at for it in found])):
+        print(f"{asked.file}:{line}:{column}: {'warning' if it.is_slip else 'note'}: {it.text}", file=out)
     return 1 if any(it.is_slip for it in found) else 0
 
 
@@ -178,6 +177,8 @@ def _inputs(words, names):
         if name not in names:
             known = ", ".join(names) if names else "none"
             raise Stop(analyser.BAD_INPUT, f"{name} is no input of this program; its inputs: {known}")
+        if name in given:
+            raise Stop(analyser.BAD_INPUT, f"{name} is given twice")
         given[name] = abs(int(number))
     return given
 
@@ -185,7 +186,7 @@ def _inputs(words, names):
 def _page(asked, out):
     """Writes one page that needs nothing else: HTML with the picture, the styles and the script in it."""
     answer = _reported(asked)
-    drawn = "" if asked.without_picture else picture.draw(answer.program, answer.report)
+    drawn = "" if asked.without_picture else picture.draw(answer.program, answer.report, asked.seconds)
     out.write(page.page(answer, drawn))
     return 0
 

@@ -72,11 +72,14 @@ def _symbols(program):
 
 
 def _reached(program):
-    reached, grows = {program.start}, True
-    while grows:
-        found = {rule.target.text for rule in program.rules if rule.source.text in reached} - reached
-        grows = bool(found)
+    targets = {}
+    for rule in program.rules:
+        targets.setdefault(rule.source.text, []).append(rule.target.text)
+    reached, left = {program.start}, [program.start]
+    while left:
+        found = set(targets.get(left.pop(), [])) - reached
         reached |= found
+        left += found
     return reached
 
 

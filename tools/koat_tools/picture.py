@@ -47,11 +47,14 @@ def shortened(text):
     return text if len(text) <= LONGEST else text[:LONGEST - 1] + "…"
 
 
-def draw(program, report):
+def draw(program, report, seconds=None):
     """The picture as an SVG element, without the head of a file of its own."""
     try:
         ran = subprocess.run(["dot", "-Tsvg"], input=source(program, report).encode(), stdout=subprocess.PIPE,
-                             stderr=subprocess.PIPE, check=False)
+                             stderr=subprocess.PIPE, timeout=seconds, check=False)
+    except subprocess.TimeoutExpired as fault:
+        raise Stop(NO_DOT, f"dot had no picture within {seconds} seconds; --without-picture makes the page without "
+                   "it") from fault
     except OSError as fault:
         raise Stop(NO_DOT, "dot of Graphviz isn't there; --without-picture makes the page without it") from fault
     drawn = ran.stdout.decode("utf-8", "replace")

@@ -6,20 +6,20 @@ into tokens. Texts are decoded as Latin-1, so that a position in them is the num
 
 import re
 from dataclasses import dataclass, field
-from typing import Dict, List, Optional
+from typing import Dict, List, NamedTuple, Optional
 
+DEPTHS = {"(": 1, ")": -1}
 SECTIONS = ("GOAL", "STARTTERM", "VAR", "RULES", "COMMENT")
 NAME = r"[A-Za-z_$][A-Za-z0-9_$'.]*"
-TOKEN = re.compile(rf"(?P<space>[ \t\r\n]+)|(?P<name>{NAME})|(?P<number>[0-9]+)"
-                   r"|(?P<sign>->|:\|:|&&|/\\|\|\||>=|<=|==|[()\[\],+*^<>=-])|(?P<other>.)", re.S)
+TOKEN = re.compile(rf"[ \t\r\n]*(?:(?P<name>{NAME})|(?P<number>[0-9]+)"
+                   r"|(?P<sign>->|:\|:|&&|/\\|\|\||>=|<=|==|[()\[\],+*^<>=-])|(?P<other>[^ \t\r\n]))")
 
 
 class ProgramError(ValueError):
     """A text that can't be read as a program here."""
 
 
-@dataclass(frozen=True)
-class Token:
+class Token(NamedTuple):
     kind: str
     text: str
     at: int
@@ -32,13 +32,10 @@ class Token:
 def tokens(text):
     """The tokens of the text without white space; a comment is one token, also where it isn't closed."""
     found, at, depth = [], 0, 0
-    while at < len(text):
-        match = TOKEN.match(text, at)
-        token = Token(match.lastgroup, match.group(), at)
-        at = match.end()
-        if token.kind == "space":
-            continue
-        depth += {"(": 1, ")": -1}.get(token.text, 0)
+    while match := TOKEN.match(text, at):
+        number, at = match.lastindex, match.end()
+        token = Token(match.lastgroup, match.group(number), match.start(number))
+        depth += DEPTHS.get(token.text, 0)
         if token.text == "COMMENT" and depth == 1 and found[-1].text == "(":
             depth = 0
             opening = found.pop()
@@ -52,7 +49,7 @@ def comment_end(text, at):
     """The position behind the bracket that closes the comment whose keyword ends at `at`, or the text's end."""
     depth = 1
     while at < len(text) and depth > 0:
-        depth += {"(": 1, ")": -1}.get(text[at], 0)
+        depth += DEPTHS.get(text[at], 0)
         at += 1
     return at
 
@@ -73,6 +70,18 @@ def place(data, at):
     line = data[start:len(data) if end < 0 else end].rstrip(b"\r").decode("utf-8", "replace")
     column = len(data[start:at].decode("utf-8", "replace")) + 1
     return Place(data.count(b"\n", 0, at) + 1, column, line)
+
+
+def columns(data, ascending):
+    """Line and column of each of these positions, which ascend; the bytes are gone through once."""
+    line, start, column = 1, 0, 1
+    for at in ascending:
+        passed = data[start:at]
+        line += passed.count(b"\n")
+        end = passed.rfind(b"\n") + 1
+        column = (1 if end else column) + len(passed[end:].decode("utf-8", "replace"))
+        start = at
+        yield line, column
 
 
 @dataclass
@@ -96,8 +105,9 @@ class Rule:
     def free(self):
         """The free variables, in order of first occurrence."""
         found: Dict[str, Token] = {}
+        lefts = set(self.left_names)
         for it in self.names:
-            if it.text not in self.left_names:
+            if it.text not in lefts:
                 found.setdefault(it.text, it)
         return list(found.values())
 
@@ -200,9 +210,9 @@ class _Reader:
 
     def expression(self, names, ends):
         depth = 0
-        while depth > 0 or not any(self.follows(end) for end in ends):
+        while depth > 0 or self.tokens[self.at].text not in ends:
             token = self.take()
-            depth += {"(": 1, ")": -1}.get(token.text, 0)
+            depth += DEPTHS.get(token.text, 0)
             if token.kind == "name":
                 names.append(token)
 
@@ -210,7 +220,7 @@ class _Reader:
         if self.follows("["):
             self.take()
             first = self.at
-            names = self.atoms(lambda: self.follows("]"))
+            names = self.atoms("]")
             text = self.text[self.tokens[first].at:self.tokens[self.at - 1].end] if self.at > first else ""
             self.take("]")
             return text, names
@@ -220,27 +230,32 @@ class _Reader:
         if self.follows(None, "(") or self.follows(")"):
             return "", []
         first = self.at
-        names = self.atoms(lambda: self.follows(")") or self.next_rule())
+        names = self.atoms(")")
         return self.text[self.tokens[first].at:self.tokens[self.at - 1].end], names
 
     def next_rule(self):
         """Whether a rule begins here: behind a comparison no name can stand, so one before a bracket is a symbol."""
         return self.follows(None, "(")
 
-    def atoms(self, ended):
-        """The names of a guard. An atom that is TRUE reads none."""
+    def atoms(self, close):
+        """The names of a guard, up to what closes it: this sign, or the next rule. An atom that is TRUE reads none."""
         names, depth = [], 0
-        while depth > 0 or not ended():
-            token = self.take()
-            depth += {"(": 1, ")": -1}.get(token.text, 0)
+        while depth > 0 or self.tokens[self.at].text != close:
+            token = self.tokens[self.at]
+            if token.kind == "name" and depth == 0 and close == ")" and self.next_rule():
+                break
+            self.at += 1
+            depth += DEPTHS.get(token.text, 0)
             if token.kind == "name" and not self.is_truth(token, self.at - 1):
                 names.append(token)
         return names
 
     def is_truth(self, token, at):
+        if token.text not in ("TRUE", "true"):
+            return False
         behind = self.tokens[at + 1].text if at + 1 < len(self.tokens) else ""
         before = self.tokens[at - 1].text
-        return (token.text in ("TRUE", "true") and before in (":|:", "[", "&&", "/\\")
+        return (before in (":|:", "[", "&&", "/\\")
                 and behind not in (">=", ">", "<=", "<", "=", "==", "+", "-", "*", "^"))
 
 

@@ -70,25 +70,23 @@ def _no_function(rule, rules):
 
 
 def _shut(places):
-    return [f"Argument {it['place']} of {it['symbol']} was left out, since its size isn't known where {it['symbol']} "
-            "is entered." for it in places]
+    return [f"The function may not use argument {it['place']} of {it['symbol']}: it has no size bound where the rules "
+            "above are entered, so a function with it would give no time. See `why size` of the rules that lead there."
+            for it in places]
 
 
 def _moves(facts, rule, program):
-    """The points of a gap: together they change nothing, or lead where the strict rule stays allowed."""
+    """The points of a gap: together they change nothing, or lead along its floor, which is always a direction."""
     moves = "; ".join(_move(it, program) for it in facts["moves"] if it.denominator or any(it.parts))
     floor = facts["floor"]
     if facts["shut"]:
-        return [f"Consider {moves}: in what is left, nothing falls by this and has a lower bound."]
-    if floor.denominator == 0 and not any(floor.parts):
+        return [f"Consider {moves}: no function of the arguments that are left falls by all of this and has a lower "
+                "bound."]
+    if not any(floor.parts):
         change = "together they change" if len(facts["rules"]) > 1 else "this changes"
         return [f"Consider {moves}: {change} nothing."]
-    where = point(floor, program.rule(rule))
-    if floor.denominator == 0:
-        return [f"Consider {moves}: this leads along {where}, where rule {rule} stays allowed without end, so that "
-                "what falls has no lower bound."]
-    return [f"Consider {moves}: this leads to where rule {rule} is allowed, {where}, so that what falls has no lower "
-            "bound."]
+    return [f"Consider {moves}: this leads along {point(floor, program.rule(rule))}, where rule {rule} stays allowed "
+            "without end, so that what falls has no lower bound."]
 
 
 def _move(one, program):

@@ -27,6 +27,15 @@ def shown(*words, koat=STAND_IN, path=None):
     return status, out.getvalue(), error.getvalue()
 
 
+def script(room, name, line):
+    """The path of a new program that runs this line."""
+    path = os.path.join(room, name)
+    with open(path, "w", encoding="utf-8") as file:
+        file.write(f"#!/bin/sh\n{line}\n")
+    os.chmod(path, 0o755)
+    return path
+
+
 class Commands(unittest.TestCase):
     def test_values(self):
         status, out, _ = shown("at", examples.path("gcd"), "A=30", "B=-12")
@@ -111,11 +120,19 @@ class Faults(unittest.TestCase):
 
     def test_no_answer_in_time(self):
         with tempfile.TemporaryDirectory() as room:
-            slow = os.path.join(room, "slow")
-            with open(slow, "w", encoding="utf-8") as file:
-                file.write("#!/bin/sh\nexec sleep 60\n")
-            os.chmod(slow, 0o755)
+            slow = script(room, "slow", "exec sleep 60")
             self.fault(11, "no answer within", "json", examples.path("gcd"), "--seconds", "0.2", koat=slow)
+
+    def test_words_that_koat_refuses(self):
+        with tempfile.TemporaryDirectory() as room:
+            koat = script(room, "koat", "echo 'usage: koat'; exit 2")
+            self.fault(2, "usage: koat", "json", examples.path("gcd"), "--pivots", "x", koat=koat)
+
+    def test_no_picture_in_time(self):
+        with tempfile.TemporaryDirectory() as room:
+            script(room, "dot", "exec sleep 60")
+            path = room + os.pathsep + os.environ["PATH"]
+            self.fault(12, "no picture within", "page", examples.path("gcd"), "--seconds", "3", path=path)
 
     def test_dot(self):
         with tempfile.TemporaryDirectory() as room:
@@ -126,3 +143,4 @@ class Faults(unittest.TestCase):
         self.fault(13, "needs A=NUMBER", "at", examples.path("gcd"))
         self.fault(13, "no input of this program; its inputs: A, B", "at", examples.path("gcd"), "C=1")
         self.fault(13, "isn't NAME=NUMBER", "at", examples.path("gcd"), "A=--1")
+        self.fault(13, "A is given twice", "at", examples.path("gcd"), "A=1", "B=1", "A=2")

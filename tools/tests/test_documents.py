@@ -4,7 +4,7 @@ import re
 import unittest
 
 import examples
-from koat_tools import programs, reports
+from koat_tools import bounds, programs, reasons, reports
 
 DOCUMENTS = ["docs/report.md", "docs/format.md", "docs/front-ends.md", "examples/README.md"]
 FOLDERS = ["", "examples", "examples/reasons", "docs"]
@@ -62,12 +62,30 @@ class Documents(unittest.TestCase):
         named = set(re.findall(r"\| `(\w+)\.koat` \|", document("docs/report.md")))
         self.assertEqual(named - set(reason_names()), set())
 
+    def test_reports_of_reasons_have_their_reason(self):
+        wanted = {"bent": "bent", "budget": "limit", "invariant": "no ranking function", "large": "large",
+                  "loose": "loose", "range": "limit", "scale": "limit", "untimed": "untimed"}
+        limits = {"budget": "budget", "range": "range", "scale": "scale"}
+        lacking = []
+        for name, kind in wanted.items():
+            whys = [it.why for it in reports.read(examples.text(os.path.join("reasons", name))).entries() if it.why]
+            if not any(it.kind == kind and it.facts.get("limit") == limits.get(name) for it in whys):
+                lacking.append(name)
+        self.assertEqual(lacking, [])
+        added = reports.read(examples.text(os.path.join("reasons", "invariant_added")))
+        self.assertEqual((added.verdict, added.times[1].text), ("bounded", "N"))
+
     def test_reports_of_reasons(self):
         differ = []
         for name in reason_names():
             program = programs.read(examples.text(os.path.join("reasons", name), ".koat").encode())
-            if len(program.rules) != len(reports.read(examples.text(os.path.join("reasons", name))).times):
+            report = reports.read(examples.text(os.path.join("reasons", name)))
+            places = [(rule.number, place + 1) for rule in program.rules for place in range(len(rule.updates))]
+            read = {it for _, _, bound in report.labelled() if bound for it in bounds.names(bound)}
+            if [it.rule for it in report.times] != [it.number for it in program.rules] or not (
+                    places == [(it.rule, it.place) for it in report.sizes] and read <= set(program.inputs)):
                 differ.append(name)
+            differ += [(name, it.label) for it in report.entries() if it.why and not reasons.words(report, it, program)]
         self.assertEqual(differ, [])
 
 

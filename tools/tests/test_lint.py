@@ -19,6 +19,13 @@ HEAD = "(STARTTERM (FUNCTIONSYMBOLS start))(RULES "
 
 
 class Lint(unittest.TestCase):
+    def test_lines_and_columns_are_those_of_places(self):
+        data = "ab\n\ngrüße\r\n(é) c".encode()
+        starts = [at for at in range(len(data) + 1) if at == len(data) or data[at] & 0xC0 != 0x80]
+        places = [(it.line, it.column) for it in (programs.place(data, at) for at in starts)]
+        self.assertEqual(list(programs.columns(data, starts)), places)
+        self.assertEqual(list(programs.columns(data, starts[::3])), places[::3])
+
     def test_a_variable_that_is_nowhere(self):
         self.assertEqual(texts(HEAD + "start(A) -> start(B))"), [
             (True, "rule 1: `B` is on no left side and not in VAR; koat takes it as any integer")])
