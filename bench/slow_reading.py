@@ -16,7 +16,7 @@ RULES, PLACES, VARIABLES, ATOMS, NAME, TOKENS, TERMS, DEGREE = 1000, 32, 64, 64,
 GREATEST = 2**63 - 1
 
 TOKEN = re.compile(rb"(?P<name>[A-Za-z_$][A-Za-z0-9_$'.]*)|(?P<number>[0-9]+)"
-                   rb"|(?P<mark>:\|:|->|&&|/\\|\|\||>=|<=|==|[(),\[\]+*^><=]|-(?!\{))|(?P<strange>[\x80-\xff])")
+                   rb"|(?P<mark>:\|:|->|-\{|\}>|&&|/\\|\|\||>=|<=|==|[(),\[\]+*^><=-])|(?P<strange>[\x80-\xff])")
 RELATIONS = (">=", ">", "<=", "<", "=", "==")
 BEGINS_EXPRESSION = ("name", "number", "(", "-")
 
@@ -206,7 +206,7 @@ class Reading:
         self.variables = []
         self.list_of(self.left_argument)
         self.close_term(source, len(self.variables))
-        self.take("->")
+        counted = self.arrow()
         within = self.is_next("name") and self.next.text == b"Com_1"
         if within:
             self.take()
@@ -220,7 +220,17 @@ class Reading:
         self.close_term(target, self.list_of(self.right_argument))
         if within:
             self.take(")")
-        self.guard()
+        self.guard(counted)
+
+    def arrow(self):
+        """As how many atoms of its rule the arrow counts: as one where it has a cost."""
+        if not self.is_next("-{"):
+            self.take("->")
+            return 0
+        self.take()
+        self.note_unexpanded([self.expression()])
+        self.take("}>")
+        return 1
 
     def list_of(self, argument):
         """How many arguments there are up to the closing bracket."""
@@ -260,19 +270,18 @@ class Reading:
         except Unexpanded as error:
             self.note(str(error), self.behind - 1)
 
-    def guard(self):
+    def guard(self, counted):
         if self.is_next(":|:"):
             self.take()
             if not self.is_next(")") and not (self.is_name() and self.following() == "("):
-                self.atoms()
+                self.atoms(counted)
         elif self.is_next("["):
             self.take()
             if not self.is_next("]"):
-                self.atoms()
+                self.atoms(counted)
             self.take("]")
 
-    def atoms(self):
-        count = 0
+    def atoms(self, count):
         while True:
             self.note_if(count >= ATOMS and self.is_next(*BEGINS_EXPRESSION), "Limit Atoms")
             self.atom()

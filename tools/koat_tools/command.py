@@ -14,7 +14,8 @@ HELP = """Shows what koat says of a program in other forms. It runs koat and cha
 stands beside it (hints, O-classes, values, pictures) is worked out here and isn't proved.
 
   explain FILE        a refusal with line, column and a hint; else each missing bound with its reason in plain words
-  lint FILE           likely slips that koat takes silently: names, dead ends, rules that never occur, large constants
+  lint FILE           likely slips that koat takes silently: names, dead ends, rules that never occur, large constants,
+                      costs
   json FILE           the whole report as JSON, as docs/report.schema.json describes it
   class FILE          the O-class of each bound, and a last line as the termination competition has it
   at FILE A=30 B=12   the value of each bound at these inputs

@@ -12,7 +12,9 @@ BRACKETS = "a symbol always has its brackets, also without arguments: `stop()`"
 AND = "comparisons are joined by `&&`"
 TARGET_WORD = "the word is `Com_1`, with a capital C and an underscore; another spelling is a symbol's name"
 COMMENTS = "a comment is a section of its own between the others: `(COMMENT ..)`"
-COST = "an arrow has no cost: write `->`"
+COST = "a cost stands in a rule's arrow alone, behind the left side: `f(X) -{X}> Com_1(g(X))`"
+ONE_COST = "an arrow has one cost, which is an expression: `-{X}>`"
+NO_COST = "a cost is an expression: `-{0}>` for a step that costs nothing, and `->` for one that costs 1"
 FALSE = "there is no `false`: leave the rule out, or write `0 >= 1`"
 CHAIN = "a comparison has two sides: write `A <= B && B <= C`"
 NO_NOT = "a guard has no negation: write the opposite comparison"
@@ -26,6 +28,9 @@ WORDS = {"and": AND, "or": NO_OR, "not": NO_NOT, "if": GUARD, "when": GUARD, "wh
          "true": "the atom that always holds is written `TRUE` or `true`"}
 RELATIONS = (">=", "<=", "<", ">", "=", "==")
 
+# What stands at the end of an arrow: of one without a cost, and of one with it.
+ARROW_ENDS = ("->", "}>")
+
 # Patterns for the text from the refused byte on, or from one or two bytes before it.
 SIGNS = [
     (0, r"!=|~=|≠", TWO_RULES),
@@ -37,13 +42,14 @@ SIGNS = [
     (0, r"//|/\*|#|--", COMMENTS),
     (0, r"/|%|(mod|div|MOD|DIV)\b", NO_DIVISION),
     (0, r"-\{", COST),
-    (1, r"-\{", COST),
+    (0, r"-\s+\{", "an arrow with a cost begins with `-{`, without a blank in it"),
     (0, r"\|", GUARD),
     (0, r"&", "`and` is written `&&`, with two signs"),
     (0, r"!|~", NO_NOT),
     (0, r":(?!\|:)", GUARD + "; `:|:` has no blanks in it"),
     (0, r"\.", "numbers are whole: there is no decimal point"),
     (0, r";", "nothing stands between two rules, and `&&` between two comparisons"),
+    (0, r"\}\s*-?>", "an arrow with a cost ends with `}>`, without a blank or a `-` in it"),
     (0, r"\{|\}", "brackets are round, and square around a guard"),
     (1, r"\*\*", "a power is written `^`"),
 ]
@@ -58,8 +64,9 @@ CHARACTERS = {
 
 LIMITS = {
     "Rules": "at most 1,000 rules", "Arity": "at most 32 arguments of a symbol",
-    "Variables": "at most 64 variables in a rule", "Atoms": "at most 64 comparisons in a guard",
-    "Name": "names of at most 256 bytes", "Tokens": "at most 1,024 tokens in an argument or on a side of a comparison",
+    "Variables": "at most 64 variables in a rule", "Atoms": "at most 64 comparisons in a guard, 63 beside a cost",
+    "Name": "names of at most 256 bytes",
+    "Tokens": "at most 1,024 tokens in an argument, in a cost or on a side of a comparison",
     "Terms": "at most 64 monomials where an expression is multiplied out",
     "Degree": "exponents up to 8, and degrees up to 8 where an expression is multiplied out, "
               "also where it cancels later",
@@ -109,7 +116,7 @@ def _missing_section(text, *_):
 
 def _start_unknown(text, _, at):
     start = re.match(programs.NAME, text[at:]).group()
-    rules = re.findall(rf"({programs.NAME})[ \t\r\n]*\([^()]*\)[ \t\r\n]*->", text)
+    rules = re.findall(rf"({programs.NAME})[ \t\r\n]*\([^()]*\)[ \t\r\n]*-[>{{]", text)
     alike = [it for it in rules if it.lower() == start.lower()]
     if alike:
         return f"no rule leaves `{start}`, but one leaves `{alike[0]}`: capitals count"
@@ -153,7 +160,7 @@ def _arguments(found, opening):
 
 
 def _syntax(text, data, at):
-    for look in (_at_end, _at_sign, _at_section, _at_word, _at_pair):
+    for look in (_at_end, _at_cost, _at_sign, _at_section, _at_word, _at_pair):
         found = look(text, data, at)
         if found:
             return found
@@ -204,6 +211,29 @@ def _at_section(text, _, at):
     if before[0].text == "GOAL":
         return "the goal is `(GOAL COMPLEXITY)`"
     return None
+
+
+def _at_cost(text, _, at):
+    """Hints within the braces of an arrow."""
+    before, behind = _around(text, at)
+    last_brace = next((it.text for it in before if it.text in ("-{", "}>")), None)
+    if last_brace != "-{":
+        return None
+    if behind[0].text == "}>" and before[0].text == "-{":
+        return NO_COST
+    if behind[0].text in RELATIONS + ("&&", "/\\") or (behind[0].text == "," and _depth_within(before) == 0):
+        return ONE_COST
+    return None
+
+
+def _depth_within(before):
+    """How many round brackets are open within the braces of an arrow."""
+    depth = 0
+    for it in before:
+        if it.text == "-{":
+            break
+        depth += {"(": 1, ")": -1}.get(it.text, 0)
+    return depth
 
 
 def _at_sign(text, _, at):
@@ -257,11 +287,11 @@ def _is_left_side(before):
     """Whether the term that ends here is the left side of a rule."""
     opening = len(before) - 1 - (_opening(list(reversed(before)), len(before) - 1) or 0)
     behind_name = [it.text for it in before[opening + 2:opening + 4]]
-    return behind_name[:1] != ["->"] and behind_name != ["(", "Com_1"]
+    return not (behind_name and behind_name[0] in ARROW_ENDS) and behind_name != ["(", "Com_1"]
 
 
 def _awaits_brackets(before, here):
-    if before[1].text == "->" or here.text == "->":
+    if before[1].text in ARROW_ENDS or here.text in ("->", "-{"):
         return True
     return before[1].text == "(" and _enclosing(before) == "Com_1"
 
@@ -281,7 +311,7 @@ def _in_guard(before):
     for it in before:
         if it.text in (":|:", "["):
             return True
-        if it.text == "->":
+        if it.text in ARROW_ENDS + ("-{",):
             return False
     return False
 
@@ -289,7 +319,7 @@ def _in_guard(before):
 def _has_relation(before):
     """Whether the comparison that is being read has a relation already."""
     for it in before:
-        if it.text in (":|:", "[", "&&", "/\\", "->"):
+        if it.text in (":|:", "[", "&&", "/\\", "->", "-{", "}>"):
             return False
         if it.text in RELATIONS:
             return True

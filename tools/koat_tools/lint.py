@@ -1,4 +1,5 @@
-"""What koat takes without a word and is often a slip: names, dead ends, rules that never occur, large constants."""
+"""What koat takes without a word and is often a slip: names, dead ends, rules that never occur, large constants; and
+what is good to know, as costs."""
 
 from collections import namedtuple
 
@@ -12,6 +13,7 @@ Finding = namedtuple("Finding", "at is_slip text")
 
 def findings(program, report):
     found = _variables(program) + _symbols(program) + _times(program, report) + _constants(program)
+    found += _costs(program)
     return sorted(found, key=lambda it: (it.at, it.text))
 
 
@@ -91,6 +93,11 @@ def _times(program, report):
             found.append(Finding(rule.at, True, f"rule {entry.rule} never occurs: koat says `time {entry.rule}: 0`; "
                                  "its guard can't hold, or no run gets to it"))
     return found
+
+
+def _costs(program):
+    return [Finding(rule.at, False, f"rule {rule.number} costs `{rule.cost}`: koat counts steps, and doesn't look at "
+                    "costs yet") for rule in program.rules if rule.cost is not None]
 
 
 def _constants(program):

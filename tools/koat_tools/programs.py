@@ -12,7 +12,7 @@ DEPTHS = {"(": 1, ")": -1}
 SECTIONS = ("GOAL", "STARTTERM", "VAR", "RULES", "COMMENT")
 NAME = r"[A-Za-z_$][A-Za-z0-9_$'.]*"
 TOKEN = re.compile(rf"[ \t\r\n]*(?:(?P<name>{NAME})|(?P<number>[0-9]+)"
-                   r"|(?P<sign>->|:\|:|&&|/\\|\|\||>=|<=|==|[()\[\],+*^<>=-])|(?P<other>[^ \t\r\n]))")
+                   r"|(?P<sign>->|-\{|\}>|:\|:|&&|/\\|\|\||>=|<=|==|[()\[\],+*^<>=-])|(?P<other>[^ \t\r\n]))")
 
 
 class ProgramError(ValueError):
@@ -91,6 +91,7 @@ class Rule:
     end: int
     source: Token
     left: List[Token]
+    cost: Optional[str]
     target: Token
     updates: List[str]
     guard: str
@@ -183,7 +184,7 @@ class _Reader:
     def rule(self, number):
         first = self.at
         source, left, _ = self.term()
-        self.take("->")
+        cost, cost_names = self.arrow()
         wrapped = self.follows("Com_1", "(")
         if wrapped:
             self.at += 2
@@ -192,7 +193,20 @@ class _Reader:
             self.take(")")
         guard, guard_names = self.guard()
         start, end = self.tokens[first].at, self.tokens[self.at - 1].end
-        return Rule(number, start, end, source, left, target, updates, guard, names + guard_names, self.text[start:end])
+        return Rule(number, start, end, source, left, cost, target, updates, guard, cost_names + names + guard_names,
+                    self.text[start:end])
+
+    def arrow(self):
+        """The cost as it is written, where there is one, and its names."""
+        if not self.follows("-{"):
+            self.take("->")
+            return None, []
+        self.take()
+        first, names = self.at, []
+        self.expression(names, ("}>",))
+        cost = self.text[self.tokens[first].at:self.tokens[self.at - 1].end]
+        self.take("}>")
+        return cost, names
 
     def term(self):
         """A symbol, the names in its arguments, and the arguments as they are written."""

@@ -61,6 +61,7 @@ fn shown_facts(
                 text.push_str(&format!(in alloc; " {rule}.{place} {bound:?}")?)?;
             }
             Fact::Time { rule, .. } => text.push_str(&format!(in alloc; " time {rule}")?)?,
+            Fact::Cost { rule, .. } => text.push_str(&format!(in alloc; " cost {rule}")?)?,
         }
     }
     Ok(text)

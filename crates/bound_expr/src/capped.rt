@@ -31,7 +31,7 @@ fn value_of(bound: &Bound, at: &[u128]) -> u128
         Bound::Sum(parts) => capped_sum(parts, at),
         Bound::Prod(parts) => capped_product(parts, at),
         Bound::Max(parts) => capped_maximum(parts, at),
-        Bound::Power(base, exponent) => power(u128::from(*base), value_of(exponent, at)),
+        Bound::Power(base, exponent) => capped_power(u128::from(*base), value_of(exponent, at)),
     }
 }
 
@@ -85,8 +85,10 @@ pub fn capped_multiply(a: u128, b: u128) -> u128
     a.saturating_mul(b).min(CAP)
 }
 
-// The capped power, by squares: as many turns as the exponent has bits.
-fn power(base: u128, exponent: u128) -> u128
+/// The power of a base, with exponent 0 giving 1, or 2^127 where it is greater.
+///
+/// It takes as many turns as the exponent has bits.
+pub fn capped_power(base: u128, exponent: u128) -> u128
     ensures { result ≡ capped (base ^ exponent) }
 {
     let mut outcome = 1;

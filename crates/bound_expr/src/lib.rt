@@ -12,9 +12,10 @@ mod substituted;
 mod worked;
 
 pub use bound::Bound;
-pub use capped::{capped_add, capped_multiply};
+pub use capped::{capped_add, capped_multiply, capped_power};
 pub use growth::bounds_grow_with_inputs;
 pub use limits::{CAP, CONSTANT_LIMIT, DEPTH_LIMIT, NODE_LIMIT, limits_are_as_defined};
+pub use measured::nodes_in_all;
 pub use model::Memory;
 pub use substituted::apply;
 pub use worked::bounds_are_as_worked_out;

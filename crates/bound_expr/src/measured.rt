@@ -39,8 +39,9 @@ fn nodes_in(bound: &Bound) -> u64
     }
 }
 
+/// The number of nodes of all the parts, or the maximum number of its type where it is greater.
 #[cycle(nodes)]
-fn nodes_in_all(parts: &[Bound]) -> u64
+pub fn nodes_in_all(parts: &[Bound]) -> u64
     ensures { result ≡ min (node_count_of_all (parts_of (bounds_of parts.now))) (2 ^ 64 - 1) }
 {
     let mut nodes = 0u64;

@@ -5,7 +5,8 @@ use Rattle.std.proofs.Common.{◌&&◌, ◌||◌, List, [], ◌∷◌, slice_ind
 use Rattle.std.specs.List.{list_any, list_all}
 use Rattle.std.proofs.Math.Nat.{pow-le-pow_left, pow-le-pow_right, one-le-pow}
 use Rattle.std.proofs.lemmas.Bool.{and_parts, eqb-true, leb-true}
-use Rattle.bound_expr.specs.model.Bounds.{Bound, Constant, Input, SumOf, ProductOf, MaximumOf, PowerOf, val, IsBasedFrom, IsBased}
+use Rattle.bound_expr.specs.model.Bounds.{Bound, Constant, Input, SumOf, ProductOf, MaximumOf, PowerOf, val}
+use Rattle.bound_expr.specs.model.Bounds.{IsBasedFrom, IsBased}
 use Rattle.bound_expr.specs.Views.{list_of}
 use Rattle.bound_expr.specs.Measure.{node_count}
 use Rattle.bound_expr.specs.Kinds.{is_constant}

@@ -31,7 +31,7 @@ joined-comm AsProd a b = mul_comm a b
 joined-comm AsMax a b = omega arith
 
 -- what nothing comes to changes nothing behind a number
-joined-unit : (k : Kind) (a : ℕ) → joined k a (unit_of k) ≡ a
+pub joined-unit : (k : Kind) (a : ℕ) → joined k a (unit_of k) ≡ a
 joined-unit AsSum a = omega arith
 joined-unit AsProd a = omega arith
 joined-unit AsMax a = omega arith
@@ -54,7 +54,7 @@ val-whole AsProd ps m = val_product-parts_of ps m
 val-whole AsMax ps m = val_maximum-parts_of ps m
 
 -- two lists of parts come to the two joined
-parts_at-append : (k : Kind) (ps qs : List Bound) (m : List ℕ)
+pub parts_at-append : (k : Kind) (ps qs : List Bound) (m : List ℕ)
     → parts_at k (ps ++ qs) m ≡ joined k (parts_at k ps m) (parts_at k qs m)
 parts_at-append k [] qs m = sym (unit-joined k (parts_at k qs m))
 parts_at-append k (p ∷ ps) qs m =
@@ -62,7 +62,7 @@ parts_at-append k (p ∷ ps) qs m =
     ∙ sym (joined-assoc k (val p m) (parts_at k ps m) (parts_at k qs m))
 
 -- Flat
-parts_at-spread : (k : Kind) (p : Bound) (m : List ℕ) → parts_at k (parts_of_kind k p) m ≡ val p m
+pub parts_at-spread : (k : Kind) (p : Bound) (m : List ℕ) → parts_at k (parts_of_kind k p) m ≡ val p m
 parts_at-spread AsSum (SumOf ps) m = sym (val_sum-list_of ps m)
 parts_at-spread AsProd (ProductOf ps) m = sym (val_product-list_of ps m)
 parts_at-spread AsMax (MaximumOf ps) m = sym (val_maximum-list_of ps m)

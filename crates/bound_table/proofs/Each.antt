@@ -1,6 +1,7 @@
 -- Facts of each part of a list.
 use Rattle.std.proofs.Common.{List, [], ◌∷◌, ◌++◌}
-use Rattle.bound_expr.specs.model.Bounds.{Bound, Constant, Input, SumOf, ProductOf, MaximumOf, PowerOf, Parts, NoParts, Part}
+use Rattle.bound_expr.specs.model.Bounds.{Bound, Constant, Input, SumOf, ProductOf, MaximumOf, PowerOf, Parts, NoParts}
+use Rattle.bound_expr.specs.model.Bounds.{Part}
 use Rattle.bound_expr.specs.model.Bounds.{EachNode, EachNodeOfAll}
 use Rattle.bound_expr.specs.Views.{parts_of, list_of}
 use Rattle.bound_table.specs.Terms.{factors_of, after_constant}

@@ -1,5 +1,5 @@
 -- Joining like parts of a sum, and dropping parts of a maximum that are below others, keep the value.
-use Rattle.std.proofs.Common.{◌≡◌, ℕ, ◌+◌, ◌*◌, ◌≤◌, max, nat_le, Bool, true, false, cond, ◌||◌, List, [], ◌∷◌, ◌++◌}
+use Rattle.std.proofs.Common.{◌≡◌, ℕ, ◌*◌, ◌≤◌, max, nat_le, Bool, true, false, cond, ◌||◌, List, [], ◌∷◌, ◌++◌}
 use Rattle.std.proofs.Common.{refl, ap, sym, ◌∙◌, arith}
 use Rattle.std.specs.List.{list_any}
 use Rattle.std.specs.Ordering.{is_eq}
@@ -12,15 +12,15 @@ use Rattle.bound_table.specs.declared.kinds.Kind.{Kind}
 use Rattle.bound_table.specs.declared.kinds.Kind.TheVariants.{AsSum, AsProd, AsMax}
 use Rattle.bound_table.specs.Terms.{factors_of}
 use Rattle.bound_table.specs.Comparison.{compared}
-use Rattle.bound_table.specs.Likes.{are_same_factors, is_like, Run, run_parts, with_part_before, runs_of}
-use Rattle.bound_table.specs.Likes.{constants_total, times, joined_list, run_joined, all_runs_joined, likes_joined}
+use Rattle.bound_table.specs.Likes.{are_same_factors, is_like, constants_total, times, joined_list, likes_joined}
 use Rattle.bound_table.specs.Dominance.{dominant_after, dominant}
 use Rattle.bound_table.specs.Below.{below}
 use Rattle.bound_table.proofs.Products.{parts_at, sum_at, product_at, maximum_at, val_product-parts_of, val-term}
 use Rattle.bound_table.proofs.BelowSound.{below-sound}
 use Rattle.bound_table.proofs.TotalOrder.{slice_cmp-compared, all_compared-same, is_eq-Equal}
 use Rattle.bound_table.proofs.Each.{Each, Each-append}
-use Rattle.bound_table.proofs.PartFacts.{EachRun, IsGoodRun, AreAlike, runs_of-good}
+use Rattle.bound_table.proofs.PartFacts.{AreTogether}
+use Rattle.bound_table.proofs.RunValues.{parts_at-runs_joined}
 
 -- factor lists that are the same in the structural order are the same
 same_lists : (fs gs : List Bound) → is_eq (slice_cmp compared fs gs) ≡ true → fs ≡ gs
@@ -40,7 +40,7 @@ is_like-factors : (p q : Bound) → is_like p q ≡ true → factors_of p ≡ fa
 is_like-factors p q like = same_factors-lists (factors_of p) (factors_of q) like
 
 -- like parts add up to the sum of their constants times their factors
-alike-sum : (p : Bound) (ps : List Bound) (m : List ℕ) → AreAlike p ps
+alike-sum : (p : Bound) (ps : List Bound) (m : List ℕ) → AreTogether is_like p ps
     → sum_at (p ∷ ps) m ≡ constants_total (p ∷ ps) * product_at (factors_of p) m
 alike-sum p [] m alike = omega (arith, val-term p m)
 alike-sum p (q ∷ ps) m alike =
@@ -52,7 +52,7 @@ val-times : (c : ℕ) (fs : List Bound) (m : List ℕ) → val (times c fs) m �
 val-times c fs m = ap (λ (v : ℕ). c * v) (val_product-parts_of fs m)
 
 -- a joined run has the sum of its parts
-joined_list-sum : (p : Bound) (ps : List Bound) (m : List ℕ) → AreAlike p ps
+joined_list-sum : (p : Bound) (ps : List Bound) (m : List ℕ) → AreTogether is_like p ps
     → sum_at (joined_list (p ∷ ps)) m ≡ sum_at (p ∷ ps) m
 joined_list-sum p [] m alike = refl
 joined_list-sum p (q ∷ qs) m alike = go (nat_le (constants_total (p ∷ q ∷ qs)) constant_limit)
@@ -63,56 +63,10 @@ joined_list-sum p (q ∷ qs) m alike = go (nat_le (constants_total (p ∷ q ∷ 
     go true = omega (arith, val-times (constants_total (p ∷ q ∷ qs)) (factors_of p) m, alike-sum p (q ∷ qs) m alike)
     go false = refl
 
--- the sum of two lists is that of both
-sum_at-append : (ps qs : List Bound) (m : List ℕ) → sum_at (ps ++ qs) m ≡ sum_at ps m + sum_at qs m
-sum_at-append [] qs m = omega arith
-sum_at-append (p ∷ ps) qs m = omega (arith, sum_at-append ps qs m)
-
--- the parts of all runs
-abbrev all_parts : List Run → List Bound
-all_parts [] = []
-all_parts (r ∷ rs) = run_parts r ++ all_parts rs
-
--- joined runs have the sum of their parts
-all_runs_joined-sum : (P : Bound → Type 0) (rs : List Run) (m : List ℕ) → EachRun (IsGoodRun P) rs
-    → sum_at (all_runs_joined rs) m ≡ sum_at (all_parts rs) m
-all_runs_joined-sum P [] m good = refl
-all_runs_joined-sum P (r ∷ rs) m good =
-    omega (
-      arith,
-      sum_at-append (run_joined r) (all_runs_joined rs) m,
-      sum_at-append (run_parts r) (all_parts rs) m,
-      joined_list-sum r.first r.others m good.0.alike,
-      all_runs_joined-sum P rs m good.1,
-    )
-
--- a part before runs is before their parts
-all_parts-before : (p : Bound) (rs : List Run) → all_parts (with_part_before p rs) ≡ p ∷ all_parts rs
-all_parts-before p [] = refl
-all_parts-before p (r ∷ rs) = go (is_like p r.first)
-  where
-    go : (b : Bool)
-        → all_parts (cond b (record { first = p; others = run_parts r } ∷ rs) (record { first = p; others = [] } ∷ r ∷ rs))
-        ≡ p ∷ (run_parts r ++ all_parts rs)
-    go true = refl
-    go false = refl
-
--- the parts of the runs are the parts
-all_parts-runs_of : (ps : List Bound) → all_parts (runs_of ps) ≡ ps
-all_parts-runs_of [] = refl
-all_parts-runs_of (p ∷ ps) = all_parts-before p (runs_of ps) ∙ ap (λ (qs : List Bound). p ∷ qs) (all_parts-runs_of ps)
-
--- nothing is asked of a part
-each-always : (ps : List Bound) → Each (λ _. Unit {0}) ps
-each-always [] = tt
-each-always (p ∷ ps) = (tt, each-always ps)
-
 -- so joining like parts keeps the value
 pub parts_at-likes_joined : (k : Kind) (ps : List Bound) (m : List ℕ)
     → parts_at k (likes_joined k ps) m ≡ parts_at k ps m
-parts_at-likes_joined AsSum ps m =
-    all_runs_joined-sum (λ _. Unit {0}) (runs_of ps) m (runs_of-good (λ _. Unit {0}) ps (each-always ps))
-    ∙ ap (λ (qs : List Bound). sum_at qs m) (all_parts-runs_of ps)
+parts_at-likes_joined AsSum ps m = parts_at-runs_joined AsSum is_like joined_list joined_list-sum ps m
 parts_at-likes_joined AsProd ps m = refl
 parts_at-likes_joined AsMax ps m = refl
 

@@ -1,7 +1,9 @@
 -- What is said of the numbers of a bound, node by node, is said of those of its rewriting.
-use Rattle.std.proofs.Common.{◌≡◌, ℕ, zero, suc, ◌≤◌, Bool, true, false, cond, List, [], ◌∷◌, sym, ◌∙◌, subst, arith}
+use Rattle.std.proofs.Common.{◌≡◌, ℕ, zero, suc, ◌≤◌, Bool, true, false, cond, Option, Some, None}
+use Rattle.std.proofs.Common.{List, [], ◌∷◌, ◌++◌, refl, sym, ◌∙◌, subst, arith}
 use Rattle.std.specs.List.{list_any}
-use Rattle.bound_expr.specs.model.Bounds.{Bound, Constant, Input, SumOf, ProductOf, MaximumOf, PowerOf, Parts, NoParts, Part}
+use Rattle.bound_expr.specs.model.Bounds.{Bound, Constant, Input, SumOf, ProductOf, MaximumOf, PowerOf, Parts, NoParts}
+use Rattle.bound_expr.specs.model.Bounds.{Part}
 use Rattle.bound_expr.specs.model.Bounds.{EachNode, EachNodeOfAll, IsBasedFrom, IsBased}
 use Rattle.bound_expr.specs.Limits.{constant_limit}
 use Rattle.bound_expr.specs.Numbers.{IsSmallConstant, IsTidyNumber, IsInputBelow}
@@ -9,7 +11,8 @@ use Rattle.bound_expr.specs.Views.{parts_of, list_of}
 use Rattle.bound_expr.proofs.Nodes.{IsOfNumbers, bases-of_numbers, constants-of_numbers, tidy-of_numbers}
 use Rattle.bound_expr.proofs.Nodes.{inputs-of_numbers}
 use Rattle.bound_table.specs.declared.kinds.Case.{Case}
-use Rattle.bound_table.specs.declared.kinds.Case.TheVariants.{Flat, FoldConst, ZeroProduct, Neutral, Order, Like}
+use Rattle.bound_table.specs.declared.kinds.Case.TheVariants.{Flat, FoldConst, ZeroProduct, Neutral, PowerConst}
+use Rattle.bound_table.specs.declared.kinds.Case.TheVariants.{PowerShift, PowerMerge, Distribute, Order, Like}
 use Rattle.bound_table.specs.declared.kinds.Case.TheVariants.{Dominate, Few}
 use Rattle.bound_table.specs.declared.kinds.Kind.{Kind}
 use Rattle.bound_table.specs.declared.kinds.Kind.TheVariants.{AsSum, AsProd, AsMax}
@@ -20,10 +23,20 @@ use Rattle.bound_table.specs.Sorting.{sorted}
 use Rattle.bound_table.specs.Likes.{times, likes_joined}
 use Rattle.bound_table.specs.Dominance.{dominant}
 use Rattle.bound_table.specs.Laws.{ReadsNoMore, KeepsNumbers}
-use Rattle.bound_table.specs.Rewriting.{at_parts, at_node, at_node_all, parts_passed, one_pass_each, one_pass}
+use Rattle.bound_table.specs.Runs.{runs_of}
+use Rattle.bound_table.specs.Powers.{number_of_power, number_or_power, evaluated, but_first_constant, sum_or_single}
+use Rattle.bound_table.specs.Powers.{number_taken, exponent_left, times_power_left, shifted, have_one_base}
+use Rattle.bound_table.specs.Powers.{exponent_of, exponents_of, powers_list, powers_merged}
+use Rattle.bound_table.specs.Distribution.{before_sum, parts_of_sum, after_sum, product_or_single, each_in_place}
+use Rattle.bound_table.specs.Distribution.{multiplied_out, is_multiplied_out, distributed}
+use Rattle.bound_table.specs.Rewriting.{at_parts, at_power, at_node, at_node_all, parts_passed, one_pass_each, one_pass}
 use Rattle.bound_table.specs.Rewriting.{simplified}
-use Rattle.bound_table.proofs.Each.{Each, Each-list_of, Each-parts_of, Each-factors_of}
+use Rattle.bound_table.proofs.Each.{Each, Each-append, Each-list_of, Each-parts_of, Each-factors_of}
+use Rattle.bound_table.proofs.Kept.{Each-but_first_constant, Each-exponents_of, Each-before_sum, Each-parts_of_sum}
+use Rattle.bound_table.proofs.Kept.{Each-after_sum}
+use Rattle.bound_table.proofs.PowerValues.{number_of_power-some, number_taken-some}
 use Rattle.bound_table.proofs.PartFacts.{IsKept, Each-spliced, Each-folded, Each-without_neutral, Each-sorted}
+use Rattle.bound_table.proofs.PartFacts.{AreTogether, runs_of-good, Each-all_runs_joined}
 use Rattle.bound_table.proofs.PartFacts.{Each-likes_joined, Each-dominant}
 use Rattle.bound_table.proofs.Passes.{passes, simplified-is}
 
@@ -79,12 +92,134 @@ module _ (F : Bound → Type 0) (of : IsOfNumbers F) (constant : (c : ℕ) → c
       go true = of.zero
       go false = whole-each AsProd ps each
 
+  -- parts as a sum, or a single one
+  sum_or_single-each : (ps : List Bound) → Each (EachNode F) ps → EachNode F (sum_or_single ps)
+  sum_or_single-each [] each = whole-each AsSum [] each
+  sum_or_single-each (p ∷ []) each = each.0
+  sum_or_single-each (p ∷ q ∷ ps) each = whole-each AsSum (p ∷ q ∷ ps) each
+
+  -- what is left of an exponent
+  exponent_left-each : (e : Bound) → EachNode F e → EachNode F (exponent_left e)
+  exponent_left-each (SumOf ps) each =
+      sum_or_single-each (but_first_constant (list_of ps))
+      (Each-but_first_constant (EachNode F) (list_of ps) (Each-list_of F ps each.1))
+  exponent_left-each (Constant c) each = each
+  exponent_left-each (Input i) each = each
+  exponent_left-each (ProductOf ps) each = each
+  exponent_left-each (MaximumOf ps) each = each
+  exponent_left-each (PowerOf c e) each = each
+
+  -- a power that may be a number
+  evaluated-each : (n : ℕ) (e : Bound) → EachNode F (PowerOf n e) → EachNode F (evaluated n e)
+  evaluated-each n e each = go (number_of_power n e) refl
+    where
+      go : (o : Option ℕ) → number_of_power n e ≡ o → EachNode F (number_or_power n e o)
+      go None is = each
+      go (Some v) is = constant v (number_of_power-some n e v [] is).1
+
+  -- a power that may have a number taken out
+  shifted-each : (n : ℕ) (e : Bound) → EachNode F (PowerOf n e) → EachNode F (shifted n e)
+  shifted-each n e each = go (number_taken n e) refl (exponent_left-each e each.1)
+    where
+      go : (o : Option ℕ) → number_taken n e ≡ o → EachNode F (exponent_left e)
+          → EachNode F (times_power_left n e o)
+      go None is left = each
+      go (Some v) is left =
+          whole-each AsProd (Constant v ∷ PowerOf n (exponent_left e) ∷ [])
+          (constant v (number_taken-some n e v [] is).1, ((of.power n e (exponent_left e) each.0, left), tt))
+
+  -- what a case makes of a power
+  at_power-each : (c : Case) (n : ℕ) (e : Bound) → EachNode F (PowerOf n e) → EachNode F (at_power c n e)
+  at_power-each Flat n e each = each
+  at_power-each FoldConst n e each = each
+  at_power-each ZeroProduct n e each = each
+  at_power-each Neutral n e each = each
+  at_power-each PowerConst n e each = evaluated-each n e each
+  at_power-each PowerShift n e each = shifted-each n e each
+  at_power-each PowerMerge n e each = each
+  at_power-each Distribute n e each = each
+  at_power-each Order n e each = each
+  at_power-each Like n e each = each
+  at_power-each Dominate n e each = each
+  at_power-each Few n e each = each
+
+  -- the exponent of a power
+  exponent-each : (p : Bound) → EachNode F p → Each (EachNode F) (exponent_of p)
+  exponent-each (PowerOf c e) each = spread-each AsSum e each.1
+  exponent-each (Constant c) each = tt
+  exponent-each (Input i) each = tt
+  exponent-each (SumOf ps) each = tt
+  exponent-each (ProductOf ps) each = tt
+  exponent-each (MaximumOf ps) each = tt
+
+  -- powers that may become one
+  one_power-each : (p : Bound) (ps : List Bound) → Each (EachNode F) (p ∷ ps) → AreTogether have_one_base p ps
+      → Each (EachNode F) (powers_list (p ∷ ps))
+  one_power-each p [] each together = each
+  one_power-each (PowerOf c e) (q ∷ qs) each together =
+      let exponents = exponents_of (PowerOf c e ∷ q ∷ qs) in (
+        (
+          of.power c e (SumOf (parts_of exponents)) each.0.0,
+          whole-each AsSum exponents
+              (Each-exponents_of (EachNode F) (EachNode F) exponent-each (PowerOf c e ∷ q ∷ qs) each),
+        ),
+        tt,
+      )
+  one_power-each (Constant c) (q ∷ qs) each together = each
+  one_power-each (Input i) (q ∷ qs) each together = each
+  one_power-each (SumOf ps) (q ∷ qs) each together = each
+  one_power-each (ProductOf ps) (q ∷ qs) each together = each
+  one_power-each (MaximumOf ps) (q ∷ qs) each together = each
+
+  -- factors with powers merged
+  powers_merged-each : (k : Kind) (ps : List Bound) → Each (EachNode F) ps → Each (EachNode F) (powers_merged k ps)
+  powers_merged-each AsProd ps each =
+      Each-all_runs_joined have_one_base powers_list (EachNode F) one_power-each (runs_of have_one_base ps)
+      (runs_of-good have_one_base (EachNode F) ps each)
+  powers_merged-each AsSum ps each = each
+  powers_merged-each AsMax ps each = each
+
+  -- factors as a product, or a single one
+  product_or_single-each : (fs : List Bound) → Each (EachNode F) fs → EachNode F (product_or_single fs)
+  product_or_single-each [] each = whole-each AsProd [] each
+  product_or_single-each (f ∷ []) each = each.0
+  product_or_single-each (f ∷ g ∷ fs) each = whole-each AsProd (f ∷ g ∷ fs) each
+
+  -- parts in their place among other factors
+  in_place-each : (before after ps : List Bound) → Each (EachNode F) before → Each (EachNode F) after
+      → Each (EachNode F) ps → Each (EachNode F) (each_in_place before after ps)
+  in_place-each before after [] b a each = tt
+  in_place-each before after (p ∷ ps) b a each = (
+    product_or_single-each (before ++ (parts_of_kind AsProd p ++ after))
+        (Each-append (EachNode F) before (parts_of_kind AsProd p ++ after) b
+        (Each-append (EachNode F) (parts_of_kind AsProd p) after (spread-each AsProd p each.0) a)),
+    in_place-each before after ps b a each.1,
+  )
+
+  -- a product that may be multiplied out
+  distributed-each : (k : Kind) (ps : List Bound) → Each (EachNode F) ps → EachNode F (distributed k ps)
+  distributed-each AsSum ps each = whole-each AsSum ps each
+  distributed-each AsMax ps each = whole-each AsMax ps each
+  distributed-each AsProd ps each = go (is_multiplied_out ps)
+    where
+      go : (b : Bool) → EachNode F (cond b (multiplied_out ps) (whole AsProd ps))
+      go true =
+          whole-each AsSum (each_in_place (before_sum ps) (after_sum ps) (parts_of_sum ps))
+          (in_place-each (before_sum ps) (after_sum ps) (parts_of_sum ps) (Each-before_sum (EachNode F) ps each)
+          (Each-after_sum (EachNode F) ps each)
+          (Each-parts_of_sum (EachNode F) (EachNode F) (λ qs all. Each-list_of F qs all.1) ps each))
+      go false = whole-each AsProd ps each
+
   -- what a case makes of parts
   at_parts-each : (c : Case) (k : Kind) (ps : List Bound) → Each (EachNode F) ps → EachNode F (at_parts c k ps)
   at_parts-each Flat k ps each = whole-each k (spliced k ps) (Each-spliced k (EachNode F) ps (spread-each k) each)
   at_parts-each FoldConst k ps each = whole-each k (folded k ps) (Each-folded k (EachNode F) ps constant each)
   at_parts-each ZeroProduct k ps each = zeroed-each k ps each
   at_parts-each Neutral k ps each = whole-each k (without_neutral k ps) (Each-without_neutral k (EachNode F) ps each)
+  at_parts-each PowerConst k ps each = whole-each k ps each
+  at_parts-each PowerShift k ps each = whole-each k ps each
+  at_parts-each PowerMerge k ps each = whole-each k (powers_merged k ps) (powers_merged-each k ps each)
+  at_parts-each Distribute k ps each = distributed-each k ps each
   at_parts-each Order k ps each = whole-each k (sorted k ps) (Each-sorted k (EachNode F) ps each)
   at_parts-each Like k ps each =
       whole-each k (likes_joined k ps) (Each-likes_joined k (EachNode F) (numbers-kept k) ps each)
@@ -99,7 +234,7 @@ module _ (F : Bound → Type 0) (of : IsOfNumbers F) (constant : (c : ℕ) → c
   at_node-each c (SumOf ps) each = at_parts-each c AsSum (list_of ps) (Each-list_of F ps each.1)
   at_node-each c (ProductOf ps) each = at_parts-each c AsProd (list_of ps) (Each-list_of F ps each.1)
   at_node-each c (MaximumOf ps) each = at_parts-each c AsMax (list_of ps) (Each-list_of F ps each.1)
-  at_node-each c (PowerOf n e) each = each
+  at_node-each c (PowerOf n e) each = at_power-each c n e each
 
   -- what all cases make of it
   at_node_all-each : (cs : List Case) (b : Bound) → EachNode F b → EachNode F (at_node_all cs b)

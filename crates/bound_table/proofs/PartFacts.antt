@@ -14,8 +14,8 @@ use Rattle.bound_table.specs.Folding.{parts_of_kind, spliced, constants_in, with
 use Rattle.bound_table.specs.Folding.{folded}
 use Rattle.bound_table.specs.Folding.{is_neutral, without_neutral}
 use Rattle.bound_table.specs.Sorting.{order_of, inserted, sorted}
-use Rattle.bound_table.specs.Likes.{are_same_factors, is_like, Run, run_parts, with_part_before, runs_of}
-use Rattle.bound_table.specs.Likes.{constants_total, times, joined_list, run_joined, all_runs_joined, likes_joined}
+use Rattle.bound_table.specs.Runs.{Run, run_parts, with_part_before, runs_of, all_runs_joined}
+use Rattle.bound_table.specs.Likes.{are_same_factors, is_like, constants_total, times, joined_list, likes_joined}
 use Rattle.bound_table.specs.Dominance.{dominant_after, dominant}
 use Rattle.bound_table.specs.Below.{below}
 use Rattle.bound_table.proofs.Each.{Each, IsFilled, Each-append}
@@ -118,31 +118,41 @@ abbrev pub EachRun : (Run → Type 0) → List Run → Type 0
 EachRun P [] = Unit {0}
 EachRun P (r ∷ rs) = P r × EachRun P rs
 
--- the parts of a run are alike, one after another; a run of two or more has factors
-abbrev pub AreAlike : Bound → List Bound → Type 0
-AreAlike p [] = Unit {0}
-AreAlike p (q ∷ qs) = (is_like p q ≡ true) × AreAlike q qs
+-- each part of a run belongs together with the one before it
+abbrev pub AreTogether : (Bound → Bound → Bool) → Bound → List Bound → Type 0
+AreTogether together p [] = Unit {0}
+AreTogether together p (q ∷ qs) = (together p q ≡ true) × AreTogether together q qs
 
 -- a run of parts of which a fact holds
-pub record IsGoodRun (P : Bound → Type 0) (r : Run) : Type 0 where
+pub record IsGoodRun (together : Bound → Bound → Bool) (P : Bound → Type 0) (r : Run) : Type 0 where
   pub each : Each P (run_parts r)
-  pub alike : AreAlike r.first r.others
+  pub alike : AreTogether together r.first r.others
 
 -- a part before such runs makes such runs
-with_part_before-good : (P : Bound → Type 0) (p : Bound) (rs : List Run) → P p → EachRun (IsGoodRun P) rs
-    → EachRun (IsGoodRun P) (with_part_before p rs)
-with_part_before-good P p [] here good = (record { each = (here, tt); alike = tt }, tt)
-with_part_before-good P p (r ∷ rs) here good = go (is_like p r.first) refl
+with_part_before-good : (t : Bound → Bound → Bool) (P : Bound → Type 0) (p : Bound) (rs : List Run) → P p
+    → EachRun (IsGoodRun t P) rs → EachRun (IsGoodRun t P) (with_part_before t p rs)
+with_part_before-good t P p [] here good = (record { each = (here, tt); alike = tt }, tt)
+with_part_before-good t P p (r ∷ rs) here good = go (t p r.first) refl
   where
-    go : (b : Bool) → is_like p r.first ≡ b
-        → EachRun (IsGoodRun P) (cond b (record { first = p; others = run_parts r } ∷ rs) (record { first = p; others = [] } ∷ r ∷ rs))
+    go : (b : Bool) → t p r.first ≡ b
+        → EachRun (IsGoodRun t P) (cond b (record { first = p; others = run_parts r } ∷ rs) (record { first = p; others = [] } ∷ r ∷ rs))
     go true like = (record { each = (here, good.0.each); alike = (like, good.0.alike) }, good.1)
     go false unlike = (record { each = (here, tt); alike = tt }, good)
 
 -- so the runs of such parts are
-pub runs_of-good : (P : Bound → Type 0) (ps : List Bound) → Each P ps → EachRun (IsGoodRun P) (runs_of ps)
-runs_of-good P [] each = tt
-runs_of-good P (p ∷ ps) each = with_part_before-good P p (runs_of ps) each.0 (runs_of-good P ps each.1)
+pub runs_of-good : (t : Bound → Bound → Bool) (P : Bound → Type 0) (ps : List Bound) → Each P ps
+    → EachRun (IsGoodRun t P) (runs_of t ps)
+runs_of-good t P [] each = tt
+runs_of-good t P (p ∷ ps) each = with_part_before-good t P p (runs_of t ps) each.0 (runs_of-good t P ps each.1)
+
+-- joining runs keeps what holds of each part, where joining one run does
+pub Each-all_runs_joined : (t : Bound → Bound → Bool) (join : List Bound → List Bound) (P : Bound → Type 0)
+    → ((p : Bound) (ps : List Bound) → Each P (p ∷ ps) → AreTogether t p ps → Each P (join (p ∷ ps)))
+    → (rs : List Run) → EachRun (IsGoodRun t P) rs → Each P (all_runs_joined join rs)
+Each-all_runs_joined t join P one [] good = tt
+Each-all_runs_joined t join P one (r ∷ rs) good =
+    Each-append P (join (run_parts r)) (all_runs_joined join rs) (one r.first r.others good.0.each good.0.alike)
+    (Each-all_runs_joined t join P one rs good.1)
 
 -- factors that are the same as others are some
 same_factors-filled : (fs gs : List Bound) → are_same_factors fs gs ≡ true → IsFilled fs
@@ -151,7 +161,7 @@ same_factors-filled (f ∷ fs) gs same = tt
 
 -- a joined run keeps it
 Each-joined_list : (k : Kind) (P : Bound → Type 0) → k ≡ AsSum → IsKept k P → (p : Bound) (ps : List Bound)
-    → Each P (p ∷ ps) → AreAlike p ps → Each P (joined_list (p ∷ ps))
+    → Each P (p ∷ ps) → AreTogether is_like p ps → Each P (joined_list (p ∷ ps))
 Each-joined_list k P sum kept p [] each alike = each
 Each-joined_list k P sum kept p (q ∷ qs) each alike = go (nat_le (constants_total (p ∷ q ∷ qs)) constant_limit) refl
   where
@@ -164,18 +174,11 @@ Each-joined_list k P sum kept p (q ∷ qs) each alike = go (nat_le (constants_to
     )
     go false is = each
 
--- so do all joined runs
-Each-all_runs_joined : (k : Kind) (P : Bound → Type 0) → k ≡ AsSum → IsKept k P → (rs : List Run)
-    → EachRun (IsGoodRun P) rs → Each P (all_runs_joined rs)
-Each-all_runs_joined k P sum kept [] good = tt
-Each-all_runs_joined k P sum kept (r ∷ rs) good =
-    Each-append P (run_joined r) (all_runs_joined rs)
-    (Each-joined_list k P sum kept r.first r.others good.0.each good.0.alike)
-    (Each-all_runs_joined k P sum kept rs good.1)
-
 -- so joining like parts keeps it
 pub Each-likes_joined : (k : Kind) (P : Bound → Type 0) → IsKept k P → (ps : List Bound) → Each P ps
     → Each P (likes_joined k ps)
-Each-likes_joined AsSum P kept ps each = Each-all_runs_joined AsSum P refl kept (runs_of ps) (runs_of-good P ps each)
+Each-likes_joined AsSum P kept ps each =
+    Each-all_runs_joined is_like joined_list P (Each-joined_list AsSum P refl kept) (runs_of is_like ps)
+    (runs_of-good is_like P ps each)
 Each-likes_joined AsProd P kept ps each = each
 Each-likes_joined AsMax P kept ps each = each

@@ -1,6 +1,7 @@
 -- Values of lists of parts: sums, products and maximum values, and a part as a constant times factors.
 use Rattle.std.proofs.Common.{◌≡◌, ℕ, ◌+◌, ◌*◌, max, List, [], ◌∷◌, refl, ap, ◌∙◌, arith}
-use Rattle.bound_expr.specs.model.Bounds.{Bound, Constant, Input, SumOf, ProductOf, MaximumOf, PowerOf, Parts, NoParts, Part, val}
+use Rattle.bound_expr.specs.model.Bounds.{Bound, Constant, Input, SumOf, ProductOf, MaximumOf, PowerOf, Parts, NoParts}
+use Rattle.bound_expr.specs.model.Bounds.{Part, val}
 use Rattle.bound_expr.specs.model.Bounds.{val_sum, val_product, val_maximum}
 use Rattle.bound_expr.specs.Views.{parts_of, list_of}
 use Rattle.bound_table.specs.declared.kinds.Kind.{Kind}

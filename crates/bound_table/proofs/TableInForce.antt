@@ -3,7 +3,9 @@ use Rattle.std.proofs.Common.{[], ◌∷◌, refl}
 use Rattle.bound_expr.specs.model.Bounds.{Bound, IsBased}
 use Rattle.bound_expr.specs.Numbers.{HasTidyNumbers}
 use Rattle.bound_expr.specs.Tidy.{IsTidy}
-use Rattle.bound_table.specs.declared.kinds.Case.TheVariants.{FoldConst, ZeroProduct, Neutral, Order, Like, Dominate}
+use Rattle.bound_table.specs.declared.kinds.Case.TheVariants.{FoldConst, ZeroProduct, Neutral, PowerConst}
+use Rattle.bound_table.specs.declared.kinds.Case.TheVariants.{PowerShift, PowerMerge, Distribute, Order, Like}
+use Rattle.bound_table.specs.declared.kinds.Case.TheVariants.{Dominate}
 use Rattle.bound_table.specs.Laws.{HasValueOf, ReadsNoMore, KeepsNumbers, IsTidying}
 use Rattle.bound_table.specs.InForce.{cases_in_force, rewritten}
 use Rattle.bound_table.proofs.Values.{simplified-value}
@@ -11,8 +13,13 @@ use Rattle.bound_table.proofs.NumberFacts.{simplified-reads, simplified-numbers}
 use Rattle.bound_table.proofs.TidyCases.{simplified-tidy}
 
 -- it begins with Flat and ends with Few
-pub small-tidying : IsTidying cases_in_force
-small-tidying = record { between = FoldConst ∷ ZeroProduct ∷ Neutral ∷ Order ∷ Like ∷ Dominate ∷ []; is = refl }
+pub in_force-tidying : IsTidying cases_in_force
+in_force-tidying = record {
+  between =
+      FoldConst ∷ ZeroProduct ∷ Neutral ∷ PowerConst ∷ PowerShift ∷ PowerMerge ∷ Distribute ∷ Order ∷ Like ∷ Dominate
+      ∷ [];
+  is = refl;
+}
 
 -- it keeps the value
 pub rewritten-value : (b : Bound) → IsBased b → HasValueOf (rewritten b) b
@@ -32,4 +39,4 @@ rewritten-reads b = simplified-reads cases_in_force b (rewritten b) refl
 -- and its outcomes are tidy
 pub rewritten-tidy : (b : Bound) → HasTidyNumbers b → IsTidy (rewritten b)
 unfolding rewritten
-rewritten-tidy b has = simplified-tidy cases_in_force b (rewritten b) refl small-tidying has
+rewritten-tidy b has = simplified-tidy cases_in_force b (rewritten b) refl in_force-tidying has

@@ -1,12 +1,14 @@
 -- A rewriting keeps the value.
 use Rattle.std.proofs.Common.{◌≡◌, ℕ, zero, suc, ◌*◌, ◌^◌, List, [], ◌∷◌, refl, ap, sym, ◌∙◌}
 use Rattle.std.proofs.Common.{arith}
-use Rattle.bound_expr.specs.model.Bounds.{Bound, Constant, Input, SumOf, ProductOf, MaximumOf, PowerOf, Parts, NoParts, Part, val}
+use Rattle.bound_expr.specs.model.Bounds.{Bound, Constant, Input, SumOf, ProductOf, MaximumOf, PowerOf, Parts, NoParts}
+use Rattle.bound_expr.specs.model.Bounds.{Part, val}
 use Rattle.bound_expr.specs.model.Bounds.{val_sum, val_product, val_maximum, IsBasedFrom, IsBased, AreBased}
 use Rattle.bound_expr.specs.Views.{list_of}
 use Rattle.bound_expr.proofs.PartLists.{parts_of-list_of}
 use Rattle.bound_table.specs.declared.kinds.Case.{Case}
-use Rattle.bound_table.specs.declared.kinds.Case.TheVariants.{Flat, FoldConst, ZeroProduct, Neutral, Order, Like}
+use Rattle.bound_table.specs.declared.kinds.Case.TheVariants.{Flat, FoldConst, ZeroProduct, Neutral, PowerConst}
+use Rattle.bound_table.specs.declared.kinds.Case.TheVariants.{PowerShift, PowerMerge, Distribute, Order, Like}
 use Rattle.bound_table.specs.declared.kinds.Case.TheVariants.{Dominate, Few}
 use Rattle.bound_table.specs.declared.kinds.Kind.{Kind}
 use Rattle.bound_table.specs.declared.kinds.Kind.TheVariants.{AsSum, AsProd, AsMax}
@@ -14,7 +16,8 @@ use Rattle.bound_table.specs.Folding.{spliced, folded, without_neutral}
 use Rattle.bound_table.specs.Sorting.{sorted}
 use Rattle.bound_table.specs.Likes.{likes_joined}
 use Rattle.bound_table.specs.Dominance.{dominant}
-use Rattle.bound_table.specs.Rewriting.{at_parts, at_node, at_node_all, parts_passed, one_pass_each, one_pass}
+use Rattle.bound_table.specs.Powers.{powers_merged}
+use Rattle.bound_table.specs.Rewriting.{at_parts, at_power, at_node, at_node_all, parts_passed, one_pass_each, one_pass}
 use Rattle.bound_table.specs.Rewriting.{simplified}
 use Rattle.bound_table.proofs.Passes.{passes, simplified-is}
 use Rattle.bound_table.specs.Laws.{HasValueOf}
@@ -24,6 +27,8 @@ use Rattle.bound_table.proofs.Products.{parts_at}
 use Rattle.bound_table.proofs.CaseValues.{val-whole, parts_at-spliced, parts_at-folded, val-zeroed}
 use Rattle.bound_table.proofs.CaseValues.{parts_at-without_neutral, parts_at-sorted, val-simple}
 use Rattle.bound_table.proofs.LikeValues.{parts_at-likes_joined, parts_at-dominant}
+use Rattle.bound_table.proofs.PowerValues.{val-evaluated, val-shifted, parts_at-powers_merged}
+use Rattle.bound_table.proofs.DistributionValues.{val-distributed}
 
 -- each case keeps what the parts come to
 at_parts-val : (c : Case) (k : Kind) (ps : List Bound) (m : List ℕ) → Each IsBased ps
@@ -32,10 +37,29 @@ at_parts-val Flat k ps m based = val-whole k (spliced k ps) m ∙ parts_at-splic
 at_parts-val FoldConst k ps m based = val-whole k (folded k ps) m ∙ parts_at-folded k ps m
 at_parts-val ZeroProduct k ps m based = val-zeroed k ps m
 at_parts-val Neutral k ps m based = val-whole k (without_neutral k ps) m ∙ parts_at-without_neutral k ps m
+at_parts-val PowerConst k ps m based = val-whole k ps m
+at_parts-val PowerShift k ps m based = val-whole k ps m
+at_parts-val PowerMerge k ps m based = val-whole k (powers_merged k ps) m ∙ parts_at-powers_merged k ps m
+at_parts-val Distribute k ps m based = val-distributed k ps m
 at_parts-val Order k ps m based = val-whole k (sorted k ps) m ∙ parts_at-sorted k ps m
 at_parts-val Like k ps m based = val-whole k (likes_joined k ps) m ∙ parts_at-likes_joined k ps m
 at_parts-val Dominate k ps m based = val-whole k (dominant k ps) m ∙ parts_at-dominant k ps m based
 at_parts-val Few k ps m based = val-simple k ps m
+
+-- each case keeps the value of a power
+at_power-val : (c : Case) (n : ℕ) (e : Bound) (m : List ℕ) → val (at_power c n e) m ≡ n ^ val e m
+at_power-val Flat n e m = refl
+at_power-val FoldConst n e m = refl
+at_power-val ZeroProduct n e m = refl
+at_power-val Neutral n e m = refl
+at_power-val PowerConst n e m = val-evaluated n e m
+at_power-val PowerShift n e m = val-shifted n e m
+at_power-val PowerMerge n e m = refl
+at_power-val Distribute n e m = refl
+at_power-val Order n e m = refl
+at_power-val Like n e m = refl
+at_power-val Dominate n e m = refl
+at_power-val Few n e m = refl
 
 -- a node whose case keeps the value of its parts
 at_node-val : (c : Case) (b : Bound) (m : List ℕ) → IsBased b → val (at_node c b) m ≡ val b m
@@ -51,7 +75,7 @@ at_node-val c (ProductOf ps) m based =
 at_node-val c (MaximumOf ps) m based =
     at_parts-val c AsMax (list_of ps) m (Each-list_of (IsBasedFrom 1) ps based.1)
     ∙ sym (val-whole AsMax (list_of ps) m) ∙ ap (λ (qs : Parts). val_maximum qs m) (parts_of-list_of ps)
-at_node-val c (PowerOf n e) m based = refl
+at_node-val c (PowerOf n e) m based = at_power-val c n e m
 
 -- all cases keep the value of a node
 at_node_all-val : (cs : List Case) (b : Bound) (m : List ℕ) → IsBased b → val (at_node_all cs b) m ≡ val b m

@@ -5,15 +5,20 @@ pub mod Rewriting
 pub mod InForce
 pub mod Laws
 pub mod Within
+pub mod Worked
 -- what these say part by part
 pub mod Kinds
 pub mod Counting
 pub mod Terms
 pub mod Folding
 pub mod Sorting
+pub mod Runs
 pub mod Likes
+pub mod Powers
+pub mod Distribution
 pub mod Dominance
 -- what the proofs of loops cite besides
 pub mod Taking
+pub mod Joining
 -- the crates below, which callers name through this one
 pub use Rattle.bound_expr.specs as bound_expr

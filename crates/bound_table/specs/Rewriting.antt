@@ -1,16 +1,20 @@
 -- Rewriting by a table of cases.
 use Rattle.std.specs.Prelude.{ℕ, zero, suc, cond, List, [], ◌∷◌}
 use Rattle.std.specs.Ordering.{is_eq}
-use Rattle.bound_expr.specs.model.Bounds.{Bound, Constant, Input, SumOf, ProductOf, MaximumOf, PowerOf, Parts, NoParts, Part}
+use Rattle.bound_expr.specs.model.Bounds.{Bound, Constant, Input, SumOf, ProductOf, MaximumOf, PowerOf, Parts, NoParts}
+use Rattle.bound_expr.specs.model.Bounds.{Part}
 use Rattle.bound_expr.specs.Views.{list_of}
 use Rattle.bound_table.specs.declared.kinds.Kind.{Kind}
 use Rattle.bound_table.specs.declared.kinds.Kind.TheVariants.{AsSum, AsProd, AsMax}
 use Rattle.bound_table.specs.declared.kinds.Case.{Case}
-use Rattle.bound_table.specs.declared.kinds.Case.TheVariants.{Flat, FoldConst, ZeroProduct, Neutral, Order, Like}
+use Rattle.bound_table.specs.declared.kinds.Case.TheVariants.{Flat, FoldConst, ZeroProduct, Neutral, PowerConst}
+use Rattle.bound_table.specs.declared.kinds.Case.TheVariants.{PowerShift, PowerMerge, Distribute, Order, Like}
 use Rattle.bound_table.specs.declared.kinds.Case.TheVariants.{Dominate, Few}
 use Rattle.bound_table.specs.Kinds.{whole}
 use Rattle.bound_table.specs.Comparison.{compared}
 use Rattle.bound_table.specs.Folding.{spliced, folded, zeroed, without_neutral, simple}
+use Rattle.bound_table.specs.Powers.{evaluated, shifted, powers_merged}
+use Rattle.bound_table.specs.Distribution.{distributed}
 use Rattle.bound_table.specs.Sorting.{sorted}
 use Rattle.bound_table.specs.Likes.{likes_joined}
 use Rattle.bound_table.specs.Dominance.{dominant}
@@ -21,16 +25,27 @@ at_parts Flat k ps = whole k (spliced k ps)
 at_parts FoldConst k ps = whole k (folded k ps)
 at_parts ZeroProduct k ps = zeroed k ps
 at_parts Neutral k ps = whole k (without_neutral k ps)
+at_parts PowerConst k ps = whole k ps
+at_parts PowerShift k ps = whole k ps
+at_parts PowerMerge k ps = whole k (powers_merged k ps)
+at_parts Distribute k ps = distributed k ps
 at_parts Order k ps = whole k (sorted k ps)
 at_parts Like k ps = whole k (likes_joined k ps)
 at_parts Dominate k ps = whole k (dominant k ps)
 at_parts Few k ps = simple k ps
+
+-- what a case makes of a power
+abbrev pub at_power : Case → ℕ → Bound → Bound
+at_power PowerConst n e = evaluated n e
+at_power PowerShift n e = shifted n e
+at_power c n e = PowerOf n e
 
 -- what a case makes of a node
 unfoldable pub at_node : Case → Bound → Bound
 at_node c (SumOf ps) = at_parts c AsSum (list_of ps)
 at_node c (ProductOf ps) = at_parts c AsProd (list_of ps)
 at_node c (MaximumOf ps) = at_parts c AsMax (list_of ps)
+at_node c (PowerOf n e) = at_power c n e
 at_node c b = b
 
 -- the cases applied once each, in order, to the node as it then stands

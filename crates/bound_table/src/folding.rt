@@ -37,7 +37,8 @@ pub(crate) fn spliced(alloc: Global, kind: Kind, parts: Vec<Bound>) -> Result<Ve
     Ok(flat)
 }
 
-fn push_spread(kind: Kind, part: Bound, flat: &mut Vec<Bound>) -> Result<(), Memory>
+// Puts a part behind others, its own parts in its place where it is of the kind.
+pub(crate) fn push_spread(kind: Kind, part: Bound, flat: &mut Vec<Bound>) -> Result<(), Memory>
     ensures { OnOk result (bounds_of flat.new.items ≡ bounds_of flat.old.items ++ parts_of_kind kind (bound_of part)) }
 {
     match inner_parts(kind, part) {

@@ -10,6 +10,19 @@ pub enum Case {
     ZeroProduct,
     /// Zeros of a sum or maximum and ones of a product are dropped.
     Neutral,
+    /// A power with a constant exponent becomes a constant, where that is at most 2^127-1.
+    PowerConst,
+    /// A power of a sum with a constant n among its parts, the first one, becomes the product of c^n and the power of
+    /// the other parts, a single one by itself, where c is the base and c^n is at most 2^127-1.
+    PowerShift,
+    /// Each longest run of neighbouring factors that are powers of one base, two at least, becomes one power of that
+    /// base, whose exponent is the sum of theirs. An exponent that is a sum gives its parts.
+    PowerMerge,
+    /// A product with a sum among its factors becomes the sum, over the parts of the first such factor, of the product
+    /// with that part in its place; a product in that place gives its factors, and a single factor stands for itself.
+    /// It does so where the numbers of parts of all the sums among its factors multiply to at most 64, and the outcome
+    /// has at most 4,096 nodes.
+    Distribute,
     /// Factors are sorted by kind and then structurally, other parts by how many powers, sums and maximums, and
     /// variables are among their factors, more first, then by the factors, and then by the constant, greater first.
     /// Equal ones stay as they stood.
@@ -30,13 +43,31 @@ pub struct Cases<const N: usize> {
     pub list: [Case; N],
 }
 
-/// The table of the eight cases.
+/// The table of eight cases: all but those that evaluate, shift and merge powers and the one that multiplies out.
 pub const SMALL: Cases<8> = Cases {
     list: [
         Case::Flat,
         Case::FoldConst,
         Case::ZeroProduct,
         Case::Neutral,
+        Case::Order,
+        Case::Like,
+        Case::Dominate,
+        Case::Few,
+    ],
+};
+
+/// The table of all twelve cases.
+pub const LARGE: Cases<12> = Cases {
+    list: [
+        Case::Flat,
+        Case::FoldConst,
+        Case::ZeroProduct,
+        Case::Neutral,
+        Case::PowerConst,
+        Case::PowerShift,
+        Case::PowerMerge,
+        Case::Distribute,
         Case::Order,
         Case::Like,
         Case::Dominate,
@@ -77,4 +108,13 @@ pub(crate) enum Pairing {
     AsTerms,
     /// Factors.
     AsFactors,
+}
+
+/// Neighbours that are joined.
+#[derive(Clone, Copy, Debug, PartialEq, Eq)]
+pub(crate) enum Joining {
+    /// Parts of a sum that have the same factors.
+    AsLikes,
+    /// Factors of a product that are powers of one base.
+    AsPowers,
 }

@@ -3,16 +3,16 @@ ghost use Rattle.bound_expr.specs.Views.{bound_of, bounds_of};
 ghost use Rattle.bound_expr.specs.Capped.{capped};
 ghost use Rattle.bound_expr.specs.model.Bounds.{Constant};
 ghost use Rattle.bound_table.specs.Terms.{factors_of, after_constant, begins_with_constant};
-ghost use Rattle.bound_table.specs.Likes.{is_like as are_like, last_is_like, constants_total as total_of, times};
-ghost use Rattle.bound_table.specs.Likes.{joined_list, likes_joined as likes_joined_of, runs_of, all_runs_joined};
+ghost use Rattle.bound_table.specs.Likes.{is_like as are_like, constants_total as total_of, times};
+ghost use Rattle.bound_table.specs.Likes.{joined_list, likes_joined as likes_joined_of};
 
-use crate::kinds::Kind;
+use crate::joining::runs_joined;
+use crate::kinds::{Joining, Kind};
 use crate::order::factor_lists;
 use crate::terms::{is_const, term_of};
 use bound_expr::{Bound, CONSTANT_LIMIT, Memory, capped_add};
 use std::alloc::Global;
 use std::cmp::Ordering;
-use std::mem;
 
 // The like parts of a sum joined; the parts of another node as they are.
 pub(crate) fn likes_joined(
@@ -23,40 +23,13 @@ pub(crate) fn likes_joined(
     ensures { IfOk result (λ r. bounds_of r.items ≡ likes_joined_of kind (bounds_of parts.items)) }
 {
     match kind {
-        Kind::AsSum => runs_joined(alloc, parts),
+        Kind::AsSum => runs_joined(alloc, Joining::AsLikes, parts),
         Kind::AsProd | Kind::AsMax => Ok(parts),
     }
 }
 
-// Each longest run of neighbours that are alike joined, where it stands.
-fn runs_joined(alloc: Global, parts: Vec<Bound>) -> Result<Vec<Bound>, Memory>
-    ensures { IfOk result (λ r. bounds_of r.items ≡ all_runs_joined (runs_of (bounds_of parts.items))) }
-{
-    let mut done = Vec::new(alloc);
-    let mut run = Vec::new(alloc);
-    for part in parts {
-        if !goes_on(&run, &part) {
-            let ended = mem::replace(&mut run, Vec::new(alloc));
-            push_joined(alloc, ended, &mut done)?;
-        }
-        run.push(part)?;
-    }
-    push_joined(alloc, run, &mut done)?;
-    Ok(done)
-}
-
-// Whether a part goes on with a run.
-fn goes_on(run: &[Bound], part: &Bound) -> bool
-    ensures { result ≡ last_is_like (bounds_of run.now) (bound_of part.now) }
-{
-    if run.is_empty() {
-        return false;
-    }
-    is_like(&run[run.len() - 1], part)
-}
-
 // Whether two parts have the same factors, at least one.
-fn is_like(part: &Bound, other: &Bound) -> bool
+pub(crate) fn is_like(part: &Bound, other: &Bound) -> bool
     ensures { result ≡ are_like (bound_of part.now) (bound_of other.now) }
 {
     let first = term_of(part);
@@ -65,7 +38,11 @@ fn is_like(part: &Bound, other: &Bound) -> bool
 }
 
 // Puts a run behind what is done: as one part where it has two or more and their constants add up to at most 2^127-1.
-fn push_joined(alloc: Global, run: Vec<Bound>, done: &mut Vec<Bound>) -> Result<(), Memory>
+pub(crate) fn push_likes(
+    alloc: Global,
+    run: Vec<Bound>,
+    done: &mut Vec<Bound>,
+) -> Result<(), Memory>
     ensures { OnOk result (bounds_of done.new.items ≡ bounds_of done.old.items ++ joined_list (bounds_of run.items)) }
 {
     let mut run = run;

@@ -2,16 +2,19 @@ ghost use Rattle.std.specs.Prelude.{◌≡◌, IfOk};
 ghost use Rattle.bound_expr.specs.model.Bounds.{IsBased};
 ghost use Rattle.bound_expr.specs.Numbers.{HasTidyNumbers};
 ghost use Rattle.bound_expr.specs.Tidy.{IsTidy};
-ghost use Rattle.bound_table.specs.InForce.{rewritten as rewritten_of, IsInForce};
+ghost use Rattle.bound_table.specs.InForce.{rewritten as rewritten_of, small_cases, large_cases, IsInForce};
 ghost use Rattle.bound_table.specs.Laws.{HasValueOf, ReadsNoMore, KeepsNumbers, IsTidying};
 ghost use Rattle.bound_expr.specs.Views.{bound_of, bounds_of, parts_of};
-ghost use Rattle.bound_table.specs.Rewriting.{at_parts as made_of_parts, at_node as made_of_node, at_node_all};
+ghost use Rattle.bound_table.specs.Rewriting.{at_parts as made_of_parts, at_power as made_of_power};
+ghost use Rattle.bound_table.specs.Rewriting.{at_node as made_of_node, at_node_all};
 ghost use Rattle.bound_table.specs.Rewriting.{parts_passed, one_pass, one_pass_each, simplified};
 
+use crate::distribution::distributed;
 use crate::dominance::dominant;
 use crate::folding::{folded, simple, spliced, whole, without_neutral, zeroed};
-use crate::kinds::{Case, Cases, Kind, SMALL};
+use crate::kinds::{Case, Cases, Kind, LARGE, SMALL};
 use crate::likes::likes_joined;
+use crate::powers::{evaluated, powers_merged, shifted};
 use crate::sorting::sort;
 use crate::structure::is_same;
 use bound_expr::{Bound, Memory};
@@ -20,11 +23,18 @@ use std::alloc::Global;
 // How many passes are made at most.
 const PASS_LIMIT: u32 = 16;
 
-// The arms of a match on the case: each case by its name, with what it makes of the parts.
+// The arms of a match on the case: each case by its name, with what it makes of the node; behind a semicolon what the
+// other cases make of it.
 macro_rules! cases {
     ($case:expr; $($name:ident => $outcome:expr),+ $(,)?) => {
         match $case {
             $(Case::$name => $outcome),+
+        }
+    };
+    ($case:expr; $($name:ident => $outcome:expr),+; $other:expr) => {
+        match $case {
+            $(Case::$name => $outcome,)+
+            _ => $other,
         }
     };
 }
@@ -50,25 +60,28 @@ pub fn simplify<const N: usize>(alloc: Global, cases: &Cases<N>, b: &Bound) -> R
     rewritten(alloc, &cases.list, b)
 }
 
-/// The bound `b` rewritten by the table in force, the eight cases of `SMALL`.
+/// The bound `b` rewritten by the table in force, the twelve cases of `LARGE`.
 ///
 /// # Errors
 ///
 /// `Memory` where an allocation fails.
 pub fn rewrite(alloc: Global, b: &Bound) -> Result<Bound, Memory>
     ensures outcome { IfOk result (λ r. bound_of r ≡ rewritten_of (bound_of b.now)) }
+    ensures table { IfOk result (λ r. bound_of r ≡ simplified large_cases (bound_of b.now)) }
     ensures value { IsBased (bound_of b.now) → IfOk result (λ r. HasValueOf (bound_of r) (bound_of b.now)) }
     ensures reads { IfOk result (λ r. ReadsNoMore (bound_of r) (bound_of b.now)) }
     ensures numbers { IfOk result (λ r. KeepsNumbers (bound_of r) (bound_of b.now)) }
     ensures tidy { HasTidyNumbers (bound_of b.now) → IfOk result (λ r. IsTidy (bound_of r)) }
 {
-    simplify(alloc, &SMALL, b)
+    simplify(alloc, &LARGE, b)
 }
 
-/// The law that `SMALL` is the table in force: it lists the eight cases of the definition, in order, so `rewrite` is
-/// `simplify` with it. It does nothing.
-pub fn small_is_in_force()
-    ensures { IsInForce SMALL.list }
+/// The law that the public tables list the cases of the definitions, in order, and that `LARGE` is the table in force,
+/// so `rewrite` is `simplify` with it. It does nothing.
+pub fn tables_are_as_defined()
+    ensures small { SMALL.list ≡ small_cases }
+    ensures large { LARGE.list ≡ large_cases }
+    ensures in_force { IsInForce LARGE.list }
 {}
 
 // As many passes as change something, at most sixteen.
@@ -149,7 +162,18 @@ fn at_node(alloc: Global, case: Case, node: Bound) -> Result<Bound, Memory>
         Bound::Max(parts) => at_parts(alloc, case, Kind::AsMax, parts),
         Bound::Const(c) => Ok(Bound::Const(c)),
         Bound::Var(i) => Ok(Bound::Var(i)),
-        Bound::Power(base, exponent) => Ok(Bound::Power(base, exponent)),
+        Bound::Power(base, exponent) => at_power(alloc, case, base, exponent),
+    }
+}
+
+// A case applied to a power.
+fn at_power(alloc: Global, case: Case, base: u64, exponent: Box<Bound>) -> Result<Bound, Memory>
+    ensures { IfOk result (λ r. bound_of r ≡ made_of_power case base (bound_of exponent.value)) }
+{
+    cases! { case;
+        PowerConst => Ok(evaluated(base, exponent)),
+        PowerShift => shifted(alloc, base, exponent);
+        Ok(Bound::Power(base, exponent))
     }
 }
 
@@ -162,6 +186,10 @@ fn at_parts(alloc: Global, case: Case, kind: Kind, parts: Vec<Bound>) -> Result<
         FoldConst => Ok(whole(kind, folded(alloc, kind, parts)?)),
         ZeroProduct => Ok(zeroed(kind, parts)),
         Neutral => Ok(whole(kind, without_neutral(alloc, kind, parts)?)),
+        PowerConst => Ok(whole(kind, parts)),
+        PowerShift => Ok(whole(kind, parts)),
+        PowerMerge => Ok(whole(kind, powers_merged(alloc, kind, parts)?)),
+        Distribute => distributed(alloc, kind, parts),
         Order => Ok(whole(kind, sort(alloc, kind, parts)?)),
         Like => Ok(whole(kind, likes_joined(alloc, kind, parts)?)),
         Dominate => Ok(whole(kind, dominant(kind, parts))),

@@ -1,6 +1,6 @@
 ghost use Rattle.std.specs.Prelude.{◌≡◌};
 ghost use Rattle.bound_expr.specs.Views.{bound_of, bounds_of};
-ghost use Rattle.bound_expr.specs.Kinds.{is_constant};
+ghost use Rattle.bound_expr.specs.Kinds.{is_constant, is_sum as is_sum_of};
 ghost use Rattle.bound_table.specs.Kinds.{is_zero as is_nothing, is_power_or_input};
 ghost use Rattle.bound_table.specs.Terms.{constant_of, factors_of, leading_constant, after_constant};
 ghost use Rattle.bound_table.specs.Below.{terms_of as parts_of_sum};
@@ -75,6 +75,17 @@ pub(crate) fn is_const(bound: &Bound) -> bool
     match bound {
         Bound::Const(_) => true,
         Bound::Var(_) | Bound::Sum(_) | Bound::Prod(_) | Bound::Max(_) | Bound::Power(_, _) =>
+            false,
+    }
+}
+
+// Whether it is a sum.
+pub(crate) fn is_sum(bound: &Bound) -> bool
+    ensures { result ≡ is_sum_of (bound_of bound.now) }
+{
+    match bound {
+        Bound::Sum(_) => true,
+        Bound::Const(_) | Bound::Var(_) | Bound::Prod(_) | Bound::Max(_) | Bound::Power(_, _) =>
             false,
     }
 }

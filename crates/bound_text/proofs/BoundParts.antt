@@ -1,6 +1,7 @@
 -- A bound as the terms of a sum and the factors of the last one.
 use Rattle.std.proofs.Common.{◌≡◌, true, refl, ap, sym, ◌∙◌, arith}
-use Rattle.text_core.specs.model.Bounds.{Bound, Constant, Input, SumOf, ProductOf, MaximumOf, PowerOf, Parts, NoParts, Part}
+use Rattle.text_core.specs.model.Bounds.{Bound, Constant, Input, SumOf, ProductOf, MaximumOf, PowerOf, Parts, NoParts}
+use Rattle.text_core.specs.model.Bounds.{Part}
 use Rattle.bound_expr.specs.Tidy.{IsNoSum, EachPart}
 use Rattle.bound_text.specs.Shapes.{with_part, IsShaped, AreShaped}
 use Rattle.bound_text.specs.Fronts.{as_one, term_of, bound_of_parts, can_end}

@@ -2,7 +2,8 @@
 use Rattle.std.proofs.Common.{◌≡◌, ℕ, zero, suc, ◌+◌, Bool, true, false, cond, nat_eq, [], ◌∷◌, Some, None, refl, ap}
 use Rattle.std.proofs.Common.{sym, ◌∙◌, arith}
 use Rattle.std.specs.Prelude.{⊤, not}
-use Rattle.text_core.specs.model.Bounds.{Bound, Constant, Input, SumOf, ProductOf, MaximumOf, PowerOf, Parts, NoParts, Part}
+use Rattle.text_core.specs.model.Bounds.{Bound, Constant, Input, SumOf, ProductOf, MaximumOf, PowerOf, Parts, NoParts}
+use Rattle.text_core.specs.model.Bounds.{Part}
 use Rattle.bound_text.specs.Shapes.{is_sum, is_variable, with_part}
 use Rattle.bound_text.specs.Writing.{Before, Nothing, Run, Other, goes_on, run_with, plus_between}
 use Rattle.bound_text.specs.Fronts.{Outer, is_input, last, levels_above, node_of_any, sum_node}

@@ -1,6 +1,7 @@
 -- The tree so far grows with each piece.
 use Rattle.std.proofs.Common.{◌≡◌, ℕ, suc, ◌+◌, ◌≤◌, max, Bool, true, false, cond, refl, ap, ◌∙◌, arith}
-use Rattle.text_core.specs.model.Bounds.{Bound, Constant, Input, SumOf, ProductOf, MaximumOf, PowerOf, Parts, NoParts, Part}
+use Rattle.text_core.specs.model.Bounds.{Bound, Constant, Input, SumOf, ProductOf, MaximumOf, PowerOf, Parts, NoParts}
+use Rattle.text_core.specs.model.Bounds.{Part}
 use Rattle.bound_expr.specs.Measure.{node_count, node_count_of_all, depth_of, maximum_depth}
 use Rattle.bound_text.specs.Shapes.{is_sum, is_empty, with_part}
 use Rattle.bound_text.specs.Pieces.{Piece}

@@ -1,6 +1,7 @@
 -- The shapes of bounds that texts tell apart.
 use Rattle.std.specs.Prelude.{◌≤◌, Bool, true, false, ⊤}
-use Rattle.text_core.specs.model.Bounds.{Bound, Constant, Input, SumOf, ProductOf, MaximumOf, PowerOf, Parts, NoParts, Part}
+use Rattle.text_core.specs.model.Bounds.{Bound, Constant, Input, SumOf, ProductOf, MaximumOf, PowerOf, Parts, NoParts}
+use Rattle.text_core.specs.model.Bounds.{Part}
 pub use Rattle.bound_expr.specs.Kinds.{is_sum, is_maximum, is_input as is_variable}
 pub use Rattle.bound_expr.specs.Views.{with_part}
 use Rattle.bound_expr.specs.Tidy.{part_count, IsNoSum, IsNoProduct, IsNoMaximum, EachPart}

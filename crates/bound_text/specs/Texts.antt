@@ -1,7 +1,8 @@
 -- What a text stands for.
 use Rattle.std.specs.Prelude.{◌≡◌, ℕ, ◌^◌, ◌<◌, ◌≤◌, List, length, ⊤}
 use Rattle.text_core.specs.model.Programs.{Name}
-use Rattle.text_core.specs.model.Bounds.{Bound, Constant, Input, SumOf, ProductOf, MaximumOf, PowerOf, Parts, NoParts, Part}
+use Rattle.text_core.specs.model.Bounds.{Bound, Constant, Input, SumOf, ProductOf, MaximumOf, PowerOf, Parts, NoParts}
+use Rattle.text_core.specs.model.Bounds.{Part}
 use Rattle.bound_expr.specs.Measure.{node_count, depth_of}
 use Rattle.bound_expr.specs.Substitution.{ReadsBelow}
 use Rattle.bound_expr.specs.Tidy.{IsTidy}

@@ -1,7 +1,8 @@
 -- Where the test says yes, every base is at least 1.
 use Rattle.std.proofs.Common.{◌≡◌, true, nat_le}
 use Rattle.std.proofs.lemmas.Bool.{and_parts, leb-true}
-use Rattle.text_core.specs.model.Bounds.{Bound, Constant, Input, SumOf, ProductOf, MaximumOf, PowerOf, Parts, NoParts, Part}
+use Rattle.text_core.specs.model.Bounds.{Bound, Constant, Input, SumOf, ProductOf, MaximumOf, PowerOf, Parts, NoParts}
+use Rattle.text_core.specs.model.Bounds.{Part}
 use Rattle.text_core.specs.model.Bounds.{IsBased, AreBased}
 use Rattle.bounds_tests.specs.Based.{bases_are_some, all_bases_are_some}
 

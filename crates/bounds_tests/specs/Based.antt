@@ -1,6 +1,7 @@
 -- Bases of at least 1, as a test.
 use Rattle.std.specs.Prelude.{Bool, true, nat_le, ◌&&◌}
-use Rattle.text_core.specs.model.Bounds.{Bound, Constant, Input, SumOf, ProductOf, MaximumOf, PowerOf, Parts, NoParts, Part}
+use Rattle.text_core.specs.model.Bounds.{Bound, Constant, Input, SumOf, ProductOf, MaximumOf, PowerOf, Parts, NoParts}
+use Rattle.text_core.specs.model.Bounds.{Part}
 
 -- whether every base of the bound is at least 1
 abbrev mutual

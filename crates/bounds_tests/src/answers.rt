@@ -5,7 +5,9 @@ use crate::postfix::{bounds, number, written};
 use crate::values::{POINTS, value};
 use crate::{inside, texts};
 use bound_expr::{Bound, Memory, apply};
-use bound_table::{Case, Cases, Within, below, compare, rewrite, rewrite_within, simplify};
+use bound_table::{
+    Case, Cases, LARGE, SMALL, Within, below, compare, rewrite, rewrite_within, simplify,
+};
 use std::alloc::Global;
 use std::cmp::Ordering;
 
@@ -36,6 +38,14 @@ fn of_bounds(alloc: Global, call: &str, standing: &[Bound]) -> Result<String, Me
             };
             written(alloc, &simplify(alloc, &table, bound)?)
         }
+        ("Distribute-Flat", [bound]) => {
+            let table = Cases {
+                list: [Case::Distribute, Case::Flat],
+            };
+            written(alloc, &simplify(alloc, &table, bound)?)
+        }
+        ("small", [bound]) => written(alloc, &simplify(alloc, &SMALL, bound)?),
+        ("large", [bound]) => written(alloc, &simplify(alloc, &LARGE, bound)?),
         ("rewrite", [bound]) => rewritten_text(alloc, bound),
         ("becomes", [bound, other]) => becomes(alloc, bound, other),
         ("within", [bound]) => within(alloc, bound),
@@ -55,6 +65,10 @@ fn case_of(name: &str) -> Option<Case> {
         "FoldConst" => Some(Case::FoldConst),
         "ZeroProduct" => Some(Case::ZeroProduct),
         "Neutral" => Some(Case::Neutral),
+        "PowerConst" => Some(Case::PowerConst),
+        "PowerShift" => Some(Case::PowerShift),
+        "PowerMerge" => Some(Case::PowerMerge),
+        "Distribute" => Some(Case::Distribute),
         "Order" => Some(Case::Order),
         "Like" => Some(Case::Like),
         "Dominate" => Some(Case::Dominate),

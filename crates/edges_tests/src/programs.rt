@@ -171,6 +171,31 @@ pub(crate) const PROGRAMS: &[(&str, Status, &str)] = &[
          size 1.1: A\nsize 1.2: B\nsize 2.1: A\nsize 2.2: A^2 + A + B\nsize 3.1: A^2 + A + B\n\
          size 3.2: A\nsize 4.1: A^2 + A + B\nsize 4.2: A\n",
     ),
+    // A product of a time and a size is multiplied out.
+    (
+        "l0(A,B) -> Com_1(l1(A,B)) l1(A,B) -> Com_1(l2(A,A+1)) :|: A >= 1 \
+         l2(A,B) -> Com_1(l2(A,B-1)) :|: B >= 1 l2(A,B) -> Com_1(l1(A-1,B)) :|: B <= 0",
+        Status::Done,
+        "bounded\ntime 1: 1\ntime 2: A\ntime 3: 2*A^2 + A\ntime 4: A\ntotal: 2*A^2 + 3*A + 1\n\
+         size 1.1: A\nsize 1.2: B\nsize 2.1: 2*A\nsize 2.2: 2*A + 1\nsize 3.1: 2*A\nsize 3.2: 2*A + 1\n\
+         size 4.1: 2*A\nsize 4.2: 2*A + 1\n",
+    ),
+    // A cost is read, and not looked at.
+    (
+        "l0(A) -{A}> Com_1(l1(A))",
+        Status::Done,
+        "bounded\ntime 1: 1\ntotal: 1\nsize 1.1: A\n",
+    ),
+    (
+        "l0(A) -{A,1}> Com_1(l1(A))",
+        Status::ProgramRefused,
+        "program refused at 48: Syntax\n",
+    ),
+    (
+        "l0(A) -{}> Com_1(l1(A))",
+        Status::ProgramRefused,
+        "program refused at 47: Syntax\n",
+    ),
     (
         "l0(A) -> Com_1(l1(A)) :|: A*A <= 9223372036854775808",
         Status::ProgramRefused,

@@ -3,10 +3,12 @@
 use Rattle.std.proofs.Common.{◌≡◌, ℕ, zero, suc, ◌≤◌, min, Bool, true, false, if◌then◌else◌, ◌||◌, nat_lt, List, []}
 use Rattle.std.proofs.Common.{◌∷◌, ◌++◌, length, Option, Some, None, refl, ap, sym, subst, ◌∙◌, inl, inr, arith}
 use Rattle.std.specs.Prelude.{◌⊎◌}
-use Rattle.its_model.specs.model.Terms.{Term, Literal, Variable, Negation, Addition, Subtraction, Multiplication, Exponentiation}
+use Rattle.its_model.specs.model.Terms.{Term, Literal, Variable, Negation, Addition, Subtraction, Multiplication}
+use Rattle.its_model.specs.model.Terms.{Exponentiation}
 use Rattle.its_model.specs.model.Polynomials.{Polynomial, degree_of}
 use Rattle.its_model.specs.poly_terms.Expanding.{expanded}
-use Rattle.its_model.specs.poly_terms.Faults.{Fault, LargeCoefficient, ManyTerms, HighDegree, has_large, fault_in, fault_of}
+use Rattle.its_model.specs.poly_terms.Faults.{Fault, LargeCoefficient, ManyTerms, HighDegree, has_large, fault_in}
+use Rattle.its_model.specs.poly_terms.Faults.{fault_of}
 use Rattle.its_model.specs.poly_terms.Faults.{powers, subexpressions, or_else, first_among, first_fault}
 use Rattle.expr_text.specs.TermFronts.{limited}
 use Rattle.expr_text.specs.Limited.{LimitedAlike}

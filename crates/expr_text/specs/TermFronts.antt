@@ -2,7 +2,8 @@
 use Rattle.std.specs.Prelude.{ℕ, zero, suc, min, ◌+◌, List, [], ◌∷◌, map, reverse, pos, Bool, true, false, not}
 use Rattle.its_model.specs.model.Programs.{Name}
 use Rattle.its_model.specs.model.Limits.{degree_limit, coefficient_limit}
-use Rattle.its_model.specs.model.Terms.{Term, Literal, Variable, Negation, Addition, Subtraction, Multiplication, Exponentiation}
+use Rattle.its_model.specs.model.Terms.{Term, Literal, Variable, Negation, Addition, Subtraction, Multiplication}
+use Rattle.its_model.specs.model.Terms.{Exponentiation}
 use Rattle.expr_text.specs.Pieces.{Piece, Digits, Close, Plus, Minus, Times, Caret}
 use Rattle.expr_text.specs.Terms.{number_of, sum_term, product_term, base_term}
 use Rattle.expr_text.specs.Fronts as written

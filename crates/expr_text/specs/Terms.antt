@@ -2,7 +2,8 @@
 use Rattle.std.specs.Prelude.{ℕ, List, [], ◌∷◌, ◌++◌, pos, if◌then◌else◌}
 use Rattle.std.specs.Str.Parse.{digits_value}
 use Rattle.its_model.specs.model.Programs.{Name}
-use Rattle.its_model.specs.model.Terms.{Term, Literal, Variable, Negation, Addition, Subtraction, Multiplication, Exponentiation}
+use Rattle.its_model.specs.model.Terms.{Term, Literal, Variable, Negation, Addition, Subtraction, Multiplication}
+use Rattle.its_model.specs.model.Terms.{Exponentiation}
 use Rattle.its_model.specs.text_core.Names.{is_among, position_of}
 use Rattle.expr_text.specs.Trees.{Sum, Alone, Added, Subtracted, Product, Single, Multiplied, Factor, Plain, Raised}
 use Rattle.expr_text.specs.Trees.{Negated, Base, Number, Named, Bracketed}

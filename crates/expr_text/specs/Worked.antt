@@ -2,7 +2,8 @@
 use Rattle.std.specs.Prelude.{◌≡◌, List, [], ◌∷◌, codes, pos, Option, Some, None}
 use Rattle.its_model.specs.model.Programs as plain
 use Rattle.its_model.specs.model.Programs.{AtLeast, LessThan}
-use Rattle.its_model.specs.model.Terms.{Term, Literal, Variable, Negation, Addition, Subtraction, Multiplication, Exponentiation}
+use Rattle.its_model.specs.model.Terms.{Term, Literal, Variable, Negation, Addition, Subtraction, Multiplication}
+use Rattle.its_model.specs.model.Terms.{Exponentiation}
 use Rattle.its_model.specs.text_core.Readers.{walk}
 use Rattle.expr_text.specs.Pieces.{Piece, Word, Digits, Open, Close, Plus, Minus, Times, Caret, Related, AtLeastSign}
 use Rattle.expr_text.specs.Pieces.{LessThanSign, Joining, Ampersands, Wedge}

@@ -4,3 +4,4 @@ pub mod Rounding
 pub mod Outcomes
 pub mod ShortWays
 pub mod Uniqueness
+pub mod Identity

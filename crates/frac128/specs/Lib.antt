@@ -2,3 +2,4 @@
 pub mod Narrow
 pub mod Lowest
 pub mod Fraction
+pub mod Zero

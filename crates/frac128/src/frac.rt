@@ -203,3 +203,15 @@ impl Frac {
         -((-self.num).div_euclid(self.den))
     }
 }
+
+impl Default for Frac {
+    ghost use Rattle.std.specs.Prelude.{◌≡◌};
+    ghost use Rattle.frac128.specs.Zero.{zero};
+
+    ghost is_default = { λ f. f ≡ zero };
+
+    /// The fraction 0.
+    fn default() -> Frac {
+        Frac::whole(0)
+    }
+}

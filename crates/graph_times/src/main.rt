@@ -22,6 +22,7 @@ fn link(alloc: Global, source: u32, target: u32) -> Rule {
         names: Vec::new(alloc),
         updates: Vec::new(alloc),
         guard: Vec::new(alloc),
+        cost: None,
     }
 }
 

@@ -5,7 +5,8 @@ use Rattle.std.specs.Prelude.{ℤ, pos, ◌-ℤ◌, neg_ℤ, ◌≤ℤ◌, ◌<�
 use Rattle.std.specs.List.{AllByRecursion}
 use Rattle.std.proofs.lemmas.Int.{ints}
 use Rattle.poly_terms.specs.model.Terms.{Term, value}
-use Rattle.poly_terms.specs.model.Programs.{Relation, AtLeast, MoreThan, AtMost, LessThan, EqualTo, Related, Atom, Always, Compare}
+use Rattle.poly_terms.specs.model.Programs.{Relation, AtLeast, MoreThan, AtMost, LessThan, EqualTo, Related, Atom}
+use Rattle.poly_terms.specs.model.Programs.{Always, Compare}
 use Rattle.poly_terms.specs.model.Programs.{AtomHolds, Rule}
 use Rattle.poly_terms.specs.linear_forms.Forms.{Form, at, form_value}
 use Rattle.poly_terms.specs.linear_forms.Points.{IsPoint}

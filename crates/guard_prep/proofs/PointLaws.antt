@@ -8,7 +8,8 @@ use Rattle.std.proofs.lemmas.List.{append_assoc, length-append, get_or_at}
 use Rattle.std.proofs.lemmas.Bool.Decides.{nat_tests}
 use Rattle.int_laws.proofs.RingLaws.{neg-mul_ℤ}
 use Rattle.poly_terms.specs.model.Terms.{Term, value}
-use Rattle.poly_terms.specs.model.Programs.{Relation, AtLeast, MoreThan, AtMost, LessThan, EqualTo, Related, Atom, Always, Compare}
+use Rattle.poly_terms.specs.model.Programs.{Relation, AtLeast, MoreThan, AtMost, LessThan, EqualTo, Related, Atom}
+use Rattle.poly_terms.specs.model.Programs.{Always, Compare}
 use Rattle.poly_terms.specs.model.Programs.{AtomHolds, GuardHolds, Rule}
 use Rattle.poly_terms.specs.model.Polynomials.{Polynomial, degree_of}
 use Rattle.poly_terms.specs.linear_forms.Forms.{Form, at, list_dot, form_value}

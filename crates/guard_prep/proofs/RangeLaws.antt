@@ -2,7 +2,8 @@
 use Rattle.std.proofs.Common.{◌≡◌, ℕ, ◌≤◌, List, [], ◌∷◌, map, arith}
 use Rattle.std.specs.Prelude.{None}
 use Rattle.std.specs.List.{AllByRecursion}
-use Rattle.poly_terms.specs.model.Terms.{Term, Literal, Variable, Negation, Addition, Subtraction, Multiplication, Exponentiation}
+use Rattle.poly_terms.specs.model.Terms.{Term, Literal, Variable, Negation, Addition, Subtraction, Multiplication}
+use Rattle.poly_terms.specs.model.Terms.{Exponentiation}
 use Rattle.poly_terms.specs.model.Programs.{Atom, Always, Compare}
 use Rattle.poly_terms.specs.Checked.{ReadsBelow}
 use Rattle.poly_terms.specs.Expanding.{expanded}

@@ -8,7 +8,8 @@ use Rattle.std.proofs.lemmas.List.{length-map, length-append}
 use Rattle.std.proofs.Math.Nat.{div-le_self}
 use Rattle.poly_terms.specs.model.Limits.{coefficient_limit}
 use Rattle.poly_terms.specs.model.Terms.{Term}
-use Rattle.poly_terms.specs.model.Programs.{Relation, AtLeast, MoreThan, AtMost, LessThan, EqualTo, Atom, Always, Compare, Rule}
+use Rattle.poly_terms.specs.model.Programs.{Relation, AtLeast, MoreThan, AtMost, LessThan, EqualTo, Atom, Always}
+use Rattle.poly_terms.specs.model.Programs.{Compare, Rule}
 use Rattle.poly_terms.specs.model.Polynomials.{Polynomial}
 use Rattle.poly_terms.specs.linear_forms.Forms.{Form}
 use Rattle.poly_terms.specs.Expanding.{expanded, variable_form}

@@ -1,13 +1,17 @@
 -- Each step of a valid program is a point of its rule's rows.
-use Rattle.std.proofs.Common.{◌≡◌, ℕ, zero, suc, ◌+◌, ◌≤◌, List, [], ◌∷◌, ◌++◌, length, sym, ◌∙◌, arith}
-use Rattle.std.specs.Prelude.{pos, Some, slice_get}
+use Rattle.std.proofs.Common.{◌≡◌, ℕ, zero, suc, ◌+◌, ◌≤◌, List, [], ◌∷◌, ◌++◌, length, ap, sym, ◌∙◌, subst, arith}
+use Rattle.std.specs.Prelude.{ℤ, ◌≤ℤ◌, pos, Some, slice_get}
 use Rattle.std.specs.List.{AllByRecursion}
 use Rattle.std.proofs.lemmas.List.{length-append, get_or_append_left}
-use Rattle.poly_terms.specs.model.Programs.{Symbol, Rule, Program, rule_at, arity_in}
-use Rattle.poly_terms.specs.model.Runs.{Config, Step, IsStep}
-use Rattle.its_model.specs.Valid.{IsValid, IsValidSymbol}
+use Rattle.poly_terms.specs.model.Terms.{Term, Literal, value}
+use Rattle.poly_terms.specs.model.Programs.{AtLeast, Compare, Symbol, Rule, Program, rule_at, arity_in, GuardHolds}
+use Rattle.poly_terms.specs.model.Runs.{Config, Leads}
+use Rattle.poly_terms.specs.model.Costs.{cost_rule}
+use Rattle.its_model.specs.Valid.{cost_atoms, IsValidTerm, IsValidCost, IsValidAtom, IsValid, IsValidSymbol}
 use Rattle.guard_prep.specs.Laws.{IsPreparable, ValidRulesArePreparable, bent_values, point_of, IsPointOfStep}
-use Rattle.guard_prep.specs.Laws.{StepsArePoints}
+use Rattle.guard_prep.specs.Laws.{StepsArePoints, IsPointOfCost, CostsArePoints}
+use Rattle.its_model.proofs.CostTerms.{at-least-zero}
+use Rattle.its_model.proofs.CostSteps.{joined-hold, guard-with-cost}
 use Rattle.guard_prep.proofs.PointLaws.{bent-length, guards-give-points}
 pub use Rattle.its_model.proofs.ValidLaws.{rule-valid as valid-at}
 
@@ -22,7 +26,7 @@ pub preparable : (p : Program) (t : ℕ) (r : Rule) → IsValid p → rule_at p 
 preparable p t r v e =
     let h = valid-at p t r v e in record {
       few_variables = h.few_variables;
-      few_atoms = h.few_atoms;
+      few_atoms = omega (arith, h.few_atoms);
       few_updates = omega (arith, h.places, few-places p.symbols r.target v.symbols);
       guard = h.guard;
       updates = h.updates;
@@ -32,20 +36,47 @@ preparable p t r v e =
 pub rules-are-preparable : ValidRulesArePreparable
 rules-are-preparable = record { each = preparable }
 
--- a step by a rule is a point of its rows
-step-point : (p : Program) (c d : Config) (s : Step) → IsValid p → (i : IsStep p c s d) → IsPointOfStep i.rule c d (point_of i.rule (c.values ++ s.free))
-step-point p c d s v i =
-    let r = i.rule in
-    let env = c.values ++ s.free in
-    let h = preparable p s.rule r v i.numbered in
-    let l : length env ≡ r.left + r.free = length-append c.values s.free ∙ (λ j. i.leads.left j + i.leads.free_ones j) in record {
+-- where a preparable rule leads is a point of its rows
+pub leads-point : (r : Rule) (c d : Config) (free : List ℤ) → IsPreparable r → Leads r c free d → IsPointOfStep r c d (point_of r (c.values ++ free))
+leads-point r c d free h leads =
+    let env = c.values ++ free in
+    let l : length env ≡ r.left + r.free = length-append c.values free ∙ (λ j. leads.left j + leads.free_ones j) in record {
       unknowns = length-append env (bent_values r.updates env) ∙ (λ j. l j + bent-length r.updates env j);
-      point = guards-give-points.point r env h l i.leads.guard;
-      left = λ j n. get_or_append_left env (bent_values r.updates env) (pos 0) j (omega (arith, n, length-append c.values s.free))
-          ∙ get_or_append_left c.values s.free (pos 0) j n;
-      news = guards-give-points.news r env h l ∙ sym i.leads.values;
+      point = guards-give-points.point r env h l leads.guard;
+      left = λ j n. get_or_append_left env (bent_values r.updates env) (pos 0) j (omega (arith, n, length-append c.values free))
+          ∙ get_or_append_left c.values free (pos 0) j n;
+      news = guards-give-points.news r env h l ∙ sym leads.values;
     }
 
 -- each step of a valid program is a point of its rule's rows
 pub steps-are-points : StepsArePoints
-steps-are-points = record { each = step-point }
+steps-are-points = record { each = λ p c d s v i. leads-point i.rule c d s.free (preparable p s.rule i.rule v i.numbered) i.leads }
+
+-- the cost rule of a valid rule is preparable
+cost-preparable : (p : Program) (t : ℕ) (r : Rule) (k : Term) → IsValid p → rule_at p t ≡ Some r → r.cost ≡ Some k → IsPreparable (cost_rule r k)
+cost-preparable p t r k v e f =
+    let h = valid-at p t r v e in
+    let valid : IsValidTerm (r.left + r.free) k = subst (IsValidCost (r.left + r.free)) f h.cost in record {
+      few_variables = h.few_variables;
+      few_atoms = omega (arith, h.few_atoms, ap cost_atoms f, length-append r.guard (Compare k AtLeast (Literal (pos 0)) ∷ []));
+      few_updates = omega arith;
+      guard = joined-hold (IsValidAtom (r.left + r.free)) r.guard (Compare k AtLeast (Literal (pos 0)) ∷ []) h.guard (at-least-zero (r.left + r.free) k valid, tt);
+      updates = (valid, tt);
+    }
+
+-- its rows have a point where the guard of the rule holds and the cost isn't negative
+cost-point : (p : Program) (t : ℕ) (r : Rule) (k : Term) (env : List ℤ) → IsValid p → rule_at p t ≡ Some r → r.cost ≡ Some k
+    → length env ≡ r.left + r.free → GuardHolds env r.guard → pos 0 ≤ℤ value k env → IsPointOfCost r k env
+cost-point p t r k env v e f l g n =
+    let h = cost-preparable p t r k v e f in record {
+      point = guards-give-points.point (cost_rule r k) env h l (guard-with-cost r k env g n);
+      news = guards-give-points.news (cost_rule r k) env h l;
+    }
+
+-- steps by cost rules are points of their rows
+pub costs-are-points : CostsArePoints
+costs-are-points = record {
+  preparable = cost-preparable;
+  points = cost-point;
+  steps = λ p t r k c d free v e f leads. leads-point (cost_rule r k) c d free (cost-preparable p t r k v e f) leads;
+}

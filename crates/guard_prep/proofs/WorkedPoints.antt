@@ -3,15 +3,18 @@ use Rattle.std.proofs.Common.{◌≡◌, ℕ, zero, suc, ◌<◌, List, [], ◌�
 use Rattle.std.specs.Prelude.{ℤ, pos, negsuc, ◌≤ℤ◌}
 use Rattle.std.proofs.lemmas.Int.{ints}
 use Rattle.std.proofs.lemmas.List.Elements.{All-nil, All-cons, All-head}
+use Rattle.poly_terms.specs.model.Terms.{Variable}
 use Rattle.poly_terms.specs.model.Programs.{Atom, AtomHolds}
+use Rattle.poly_terms.specs.model.Costs.{cost_rule}
 use Rattle.poly_terms.specs.linear_forms.Forms.{Form, at, form_value}
 use Rattle.poly_terms.specs.linear_forms.Points.{IsPoint}
 use Rattle.guard_prep.specs.Tightening.{divisor_of}
 use Rattle.guard_prep.specs.Prepared.{rows_of}
 use Rattle.guard_prep.specs.Laws.{IsLinear}
-use Rattle.guard_prep.specs.WorkedRows.{three}
+use Rattle.guard_prep.specs.WorkedRows.{two, three, with_free}
 use Rattle.guard_prep.specs.WorkedPoints.{at_least_one, square_at_least, worked_rule, RulesAreTold, LinearPartsAreTold}
-use Rattle.guard_prep.specs.WorkedPoints.{StepPointsAreTold, SmallFormsAreTold, PointsAreWorkedOut}
+use Rattle.guard_prep.specs.WorkedPoints.{StepPointsAreTold, CostPointsAreTold, SmallFormsAreTold}
+use Rattle.guard_prep.specs.WorkedPoints.{PointsAreWorkedOut}
 
 -- which rules have rows
 rules : RulesAreTold
@@ -93,6 +96,35 @@ steps = record {
     left zero l = refl
     left (suc j) l = absurd (omega arith)
 
+-- the cost rule of a rule that costs A has the row A >= 0 alone
+abbrev cost_rows : List Form
+cost_rows = rows_of (cost_rule (with_free (Variable 0 ∷ []) []) (Variable 0))
+
+abbrev cost_row : Form
+cost_row = two (pos 1) (pos 0) (pos 0)
+
+worked_cost_rows : cost_rows ≡ cost_row ∷ []
+unfolding divisor_of
+worked_cost_rows = refl
+
+-- where a point of the cost is, and where none is
+costs : CostPointsAreTold
+costs = record {
+  cost = record { point = is_cost_point (at (pos 3 ∷ pos 0 ∷ [])) (omega (arith, ints)); news = refl };
+  negative_cost = λ h. let low = cost_row_met (at (negsuc 0 ∷ pos 0 ∷ [])) h.point in omega (arith, ints, low);
+}
+  where
+    is_cost_point : (z : ℕ → ℤ) → pos 0 ≤ℤ form_value cost_row z (pos 1) → IsPoint cost_rows z (pos 1)
+    is_cost_point z h =
+        let P : Form → Type 0 = λ (f : Form). pos 0 ≤ℤ form_value f z (pos 1) in
+        subst (λ (rows : List Form). IsPoint rows z (pos 1)) (sym worked_cost_rows)
+        (record { denominator = omega (arith, ints); meets = record { each = All-cons P cost_row [] h (All-nil P) } })
+
+    cost_row_met : (z : ℕ → ℤ) → IsPoint cost_rows z (pos 1) → pos 0 ≤ℤ form_value cost_row z (pos 1)
+    cost_row_met z h =
+        let k = subst (λ (rows : List Form). IsPoint rows z (pos 1)) worked_cost_rows h in
+        All-head (λ (f : Form). pos 0 ≤ℤ form_value f z (pos 1)) cost_row [] k.meets.each
+
 -- which forms are small
 forms : SmallFormsAreTold
 forms = record {
@@ -104,4 +136,4 @@ forms = record {
 
 -- all of it
 pub points-are-worked-out : PointsAreWorkedOut
-points-are-worked-out = record { rules = rules; linear_parts = linear_parts; steps = steps; forms = forms }
+points-are-worked-out = record { rules = rules; linear_parts = linear_parts; steps = steps; costs = costs; forms = forms }

@@ -5,7 +5,8 @@ use Rattle.std.specs.List.{All, AllByRecursion}
 use Rattle.poly_terms.specs.model.Limits.{place_limit, variable_limit, atom_limit, coefficient_limit}
 use Rattle.poly_terms.specs.model.Terms.{Term, value}
 use Rattle.poly_terms.specs.model.Programs.{Atom, Always, Compare, Rule, Program, rule_at, AtomHolds, GuardHolds}
-use Rattle.poly_terms.specs.model.Runs.{Config, Step, IsStep}
+use Rattle.poly_terms.specs.model.Runs.{Config, Step, IsStep, Leads}
+use Rattle.poly_terms.specs.model.Costs.{cost_rule}
 use Rattle.poly_terms.specs.linear_forms.Forms.{Form, at, form_value}
 use Rattle.poly_terms.specs.linear_forms.Points.{Meets, IsPoint}
 use Rattle.farkas_cert.specs.Sizes.{HasRowNumbers, AreSmall}
@@ -75,6 +76,26 @@ pub record IsPointOfStep (r : Rule) (c d : Config) (z : List ℤ) : Type 0 where
 pub record StepsArePoints : Type 0 where
   pub each : (p : Program) (c d : Config) (s : Step) → IsValid p → (i : IsStep p c s d)
       → IsPointOfStep i.rule c d (point_of i.rule (c.values ++ s.free))
+
+-- at these values of the variables, with that of the cost where it is bent, the rows of the cost rule of a rule have a
+-- point with denominator 1, and its one new value there is the cost k
+pub record IsPointOfCost (r : Rule) (k : Term) (env : List ℤ) : Type 0 where
+  pub point : IsPoint (rows_of (cost_rule r k)) (at (point_of (cost_rule r k) env)) (pos 1)
+  pub news : map (λ f. form_value f (at (point_of (cost_rule r k) env)) (pos 1)) (news_of (cost_rule r k))
+      ≡ value k env ∷ []
+
+-- the cost rules of a valid program are preparable; where the guard of a rule holds and its cost isn't negative, the
+-- rows of its cost rule have a point with the cost as the new value; and each step by a cost rule is a point of its
+-- rows
+pub record CostsArePoints : Type 0 where
+  pub preparable : (p : Program) (t : ℕ) (r : Rule) (k : Term) → IsValid p → rule_at p t ≡ Some r → r.cost ≡ Some k
+      → IsPreparable (cost_rule r k)
+  pub points : (p : Program) (t : ℕ) (r : Rule) (k : Term) (env : List ℤ) → IsValid p → rule_at p t ≡ Some r
+      → r.cost ≡ Some k → length env ≡ r.left + r.free → GuardHolds env r.guard → pos 0 ≤ℤ value k env
+      → IsPointOfCost r k env
+  pub steps : (p : Program) (t : ℕ) (r : Rule) (k : Term) (c d : Config) (free : List ℤ) → IsValid p
+      → rule_at p t ≡ Some r → r.cost ≡ Some k → Leads (cost_rule r k) c free d
+      → IsPointOfStep (cost_rule r k) c d (point_of (cost_rule r k) (c.values ++ free))
 
 -- the absolute values of a form's numbers are at most 2^63 - 1, and it has so many coefficients
 pub record IsSmallForm (n : ℕ) (f : Form) : Type 0 where

@@ -1,7 +1,8 @@
 -- The linear rows of a rule, its new values, bent places and polynomials.
 use Rattle.std.specs.Prelude.{ℕ, suc, ◌+◌, Bool, true, false, if◌then◌else◌, nat_lt, List, [], ◌∷◌, ◌++◌, map}
 use Rattle.std.specs.Prelude.{neg_ℤ}
-use Rattle.poly_terms.specs.model.Programs.{Relation, AtLeast, MoreThan, AtMost, LessThan, EqualTo, Atom, Always, Compare, Rule}
+use Rattle.poly_terms.specs.model.Programs.{Relation, AtLeast, MoreThan, AtMost, LessThan, EqualTo, Atom, Always}
+use Rattle.poly_terms.specs.model.Programs.{Compare, Rule}
 use Rattle.poly_terms.specs.model.Polynomials.{Polynomial, degree_of}
 use Rattle.poly_terms.specs.linear_forms.Forms.{Form}
 use Rattle.poly_terms.specs.Expanding.{expanded, variable_form}

@@ -7,7 +7,7 @@ use Rattle.poly_terms.specs.linear_forms.Forms.{at}
 use Rattle.poly_terms.specs.linear_forms.Points.{IsPoint}
 use Rattle.guard_prep.specs.Prepared.{rows_of}
 use Rattle.guard_prep.specs.Laws.{IsPreparable, IsLinear, LinearPartHolds, bent_values, point_of, IsPointOfStep}
-use Rattle.guard_prep.specs.Laws.{IsSmallForm}
+use Rattle.guard_prep.specs.Laws.{IsSmallForm, IsPointOfCost}
 use Rattle.guard_prep.specs.WorkedRows.{square, two, with_free}
 
 -- the atoms A >= 1, and A*A >= B
@@ -63,6 +63,11 @@ pub record StepPointsAreTold : Type 0 where
   pub no_square : ¬ (IsPointOfStep worked_rule worked_source worked_target (pos 3 ∷ pos 2 ∷ []))
   pub row_fails : ¬ (IsPoint (rows_of worked_rule) (at (pos 0 ∷ pos 0 ∷ pos 0 ∷ [])) (pos 1))
 
+-- with the cost A the point at A = 3 gives 3 as the new value; at A = -1 the row A >= 0 of the cost rule fails
+pub record CostPointsAreTold : Type 0 where
+  pub cost : IsPointOfCost (with_free (Variable 0 ∷ []) []) (Variable 0) (pos 3 ∷ pos 0 ∷ [])
+  pub negative_cost : ¬ (IsPointOfCost (with_free (Variable 0 ∷ []) []) (Variable 0) (negsuc 0 ∷ pos 0 ∷ []))
+
 -- a form of two numbers with the maximum 2^63 - 1 and the constant -5 is small; one with 2^63 isn't, nor one of three
 pub record SmallFormsAreTold : Type 0 where
   pub largest : IsSmallForm 2 (two (pos 9223372036854775807) (negsuc 0) (negsuc 4))
@@ -75,4 +80,5 @@ pub record PointsAreWorkedOut : Type 0 where
   pub rules : RulesAreTold
   pub linear_parts : LinearPartsAreTold
   pub steps : StepPointsAreTold
+  pub costs : CostPointsAreTold
   pub forms : SmallFormsAreTold

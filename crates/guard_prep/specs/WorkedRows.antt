@@ -1,5 +1,5 @@
 -- Rows that were worked out by hand.
-use Rattle.std.specs.Prelude.{◌≡◌, List, [], ◌∷◌, ℤ, pos, negsuc, true, false}
+use Rattle.std.specs.Prelude.{◌≡◌, List, [], ◌∷◌, ℤ, pos, negsuc, None, true, false}
 use Rattle.poly_terms.specs.model.Terms.{Term, Literal, Variable, Addition, Subtraction, Multiplication}
 use Rattle.poly_terms.specs.model.Programs.{AtLeast, MoreThan, AtMost, LessThan, EqualTo, Atom, Always, Compare, Rule}
 use Rattle.poly_terms.specs.linear_forms.Forms.{Form}
@@ -16,6 +16,7 @@ with_free updates guard = record {
   names = (65 ∷ []) ∷ (66 ∷ []) ∷ [];
   updates = updates;
   guard = guard;
+  cost = None;
 }
 
 -- the expressions 2*A, A*A, A + 1 and A*B

@@ -2,7 +2,7 @@
 
 ghost use Rattle.guard_prep.specs.Laws.{ValidRulesArePreparable, TighteningKeepsWholeSolutions, GuardsGivePoints};
 ghost use Rattle.guard_prep.specs.Laws.{RowsAreTheLinearPart};
-ghost use Rattle.guard_prep.specs.Laws.{StepsArePoints, RowsAreSmall, RowsSuitCertificates};
+ghost use Rattle.guard_prep.specs.Laws.{StepsArePoints, CostsArePoints, RowsAreSmall, RowsSuitCertificates};
 ghost use Rattle.guard_prep.specs.WorkedRows.{RowsAreWorkedOut};
 ghost use Rattle.guard_prep.specs.WorkedPoints.{PointsAreWorkedOut};
 
@@ -31,6 +31,12 @@ pub fn rows_are_the_linear_part()
 /// Each step of a valid program is a point of its rule's rows.
 pub fn steps_are_points()
     ensures { StepsArePoints }
+{}
+
+/// Each step by the cost rule of a rule of a valid program is a point of the cost rule's rows: where the rule's guard
+/// holds and its cost isn't negative, they have a point with the cost as the new value.
+pub fn costs_are_points()
+    ensures { CostsArePoints }
 {}
 
 /// Rows and new values have a coefficient for each unknown, and their numbers are at most 2^63-1 in absolute value.

@@ -8,8 +8,8 @@ mod rule_rows;
 mod tighten;
 
 pub use laws::{
-    guards_give_points, points_are_as_worked_out, rows_are_as_worked_out, rows_are_small,
-    rows_are_the_linear_part, rows_suit_certificates, steps_are_points,
+    costs_are_points, guards_give_points, points_are_as_worked_out, rows_are_as_worked_out,
+    rows_are_small, rows_are_the_linear_part, rows_suit_certificates, steps_are_points,
     tightening_keeps_whole_solutions, valid_rules_are_preparable,
 };
 pub use preparing::rows;

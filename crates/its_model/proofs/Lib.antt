@@ -2,9 +2,14 @@ pub mod WorkedValues
 pub mod ListLaws
 pub mod ValidLaws
 mod StepLaws
+mod CostFaults
+pub mod CostTerms
+pub mod CostSteps
+mod CostPrograms
 mod RuleLaws
 mod WorkedPrograms
 mod WorkedSteps
+mod WorkedCosts
 -- the lemmas of the crates below, which callers name through this one
 pub use Rattle.poly_terms.proofs.linear_forms
 pub use Rattle.poly_terms.proofs as poly_terms

@@ -1,6 +1,7 @@
 -- A step of a loop over a list that contracts read by a map, and what holds of all elements.
 use Rattle.std.proofs.Common.{◌≡◌, ℕ, zero, suc, ◌+◌, ◌<◌, length, drop, get_or, List, [], ◌∷◌, map, ap, sym, ◌∙◌}
-use Rattle.std.proofs.Common.{subst, arith}
+use Rattle.std.proofs.Common.{refl, subst, arith}
+use Rattle.std.specs.Prelude.{Some, None, slice_get}
 use Rattle.std.specs.List.{All, AllByRecursion}
 use Rattle.std.proofs.lemmas.List.{drop_more}
 
@@ -18,6 +19,21 @@ mapped-all {X} P f xs i x h l e = subst (λ (y : X). P (f y)) (sym e) (at xs i h
     at [] i h l = absurd (omega arith)
     at (y ∷ ys) zero h l = h.0
     at (y ∷ ys) (suc i) h l = at ys i h.1 (omega arith)
+
+-- the one at i of what is made of a list is made of the one at i
+pub mapped-get : {X Y : Type 0} (f : X → Y) (xs : List X) (i : ℕ) (x : X) → i < length xs → x ≡ get_or xs i x → slice_get (map f xs) i ≡ Some (f x)
+mapped-get {X} f xs i x l e = at xs i l ∙ ap (λ y. Some (f y)) (sym e)
+  where
+    at : (xs : List X) (i : ℕ) → i < length xs → slice_get (map f xs) i ≡ Some (f (get_or xs i x))
+    at [] i l = absurd (omega arith)
+    at (y ∷ ys) zero l = refl
+    at (y ∷ ys) (suc i) l = at ys i (omega arith)
+
+-- where something is made of the one at i, there is one
+pub mapped-within : {X Y : Type 0} (f : X → Y) (xs : List X) (i : ℕ) (y : Y) → slice_get (map f xs) i ≡ Some y → i < length xs
+mapped-within f [] i y e = absurd (let none_some : None ≡ Some y → ⊥ = λ k. cc in none_some e)
+mapped-within f (x ∷ xs) zero y e = omega arith
+mapped-within f (x ∷ xs) (suc i) y e = let l = mapped-within f xs i y e in omega (arith, l)
 
 -- all, by recursion and by positions
 pub all-to : {X : Type 0} (P : X → Type 0) (xs : List X) → AllByRecursion P xs → All P xs

@@ -10,7 +10,8 @@ use Rattle.std.proofs.lemmas.Cmp.{int_ranked}
 use Rattle.std.proofs.lemmas.Int.{ints}
 use Rattle.std.proofs.lemmas.Bool.Decides.{nat_tests}
 use Rattle.poly_terms.specs.model.Terms.{Term, value}
-use Rattle.poly_terms.specs.model.Programs.{Relation, AtLeast, MoreThan, AtMost, LessThan, EqualTo, Related, AtomHolds, Atom}
+use Rattle.poly_terms.specs.model.Programs.{Relation, AtLeast, MoreThan, AtMost, LessThan, EqualTo, Related, AtomHolds}
+use Rattle.poly_terms.specs.model.Programs.{Atom}
 use Rattle.poly_terms.specs.model.Programs.{Always, Compare, Symbol, Rule, Program, rule_at, arity_in}
 use Rattle.poly_terms.specs.model.Runs.{Config, Step, Leads, IsStep}
 use Rattle.poly_terms.specs.Checked.{values_fit, value_within}

@@ -1,11 +1,13 @@
 -- The worked values of valid programs.
-use Rattle.std.proofs.Common.{ℕ, zero, suc, ◌≤◌, List, [], ◌∷◌, length, replicate, refl, arith}
+use Rattle.std.proofs.Common.{ℕ, zero, suc, ◌+◌, ◌≤◌, List, [], ◌∷◌, length, replicate, refl, arith}
+use Rattle.std.specs.Prelude.{pos}
 use Rattle.std.specs.List.{AllByRecursion}
 use Rattle.std.proofs.lemmas.List.{length-replicate}
-use Rattle.poly_terms.specs.model.Terms.{Variable}
+use Rattle.poly_terms.specs.model.Terms.{Term, Literal, Variable, Subtraction, Exponentiation}
 use Rattle.poly_terms.specs.model.Programs.{AtLeast, Atom, Always, Compare, Rule}
-use Rattle.its_model.specs.Valid.{IsValidRule, IsValidAtom}
-use Rattle.its_model.specs.WorkedPrograms.{rule_with, starting_at, ProgramsAreValid, PartsAgree, LimitsAreKept}
+use Rattle.its_model.specs.Valid.{IsValidRule, IsValidAtom, IsValidTerm}
+use Rattle.its_model.specs.WorkedPrograms.{rule_with, rule_costing, starting_at, ProgramsAreValid, PartsAgree}
+use Rattle.its_model.specs.WorkedPrograms.{LimitsAreKept}
 use Rattle.its_model.specs.WorkedPrograms.{DifferencesAreTaken, ProgramsAreWorkedOut}
 
 -- the programs are valid, or not, as was worked out
@@ -28,6 +30,7 @@ valid = record {
         few_atoms = omega arith;
         updates = (record { variables = (omega arith, omega arith); expands = refl }, tt);
         guard = (record { left = omega arith; right = omega arith; expands = refl }, tt);
+        cost = tt;
       },
       tt,
     );
@@ -60,6 +63,7 @@ valid = record {
         few_atoms = omega arith;
         updates = (record { variables = omega arith; expands = refl }, tt);
         guard = (record { left = omega arith; right = tt; expands = refl }, tt);
+        cost = tt;
       },
       tt,
     );
@@ -79,7 +83,7 @@ copies P zero x h = tt
 copies P (suc n) x h = (h, copies P n x h)
 
 -- a rule of the program with l0 and l1, from l0(A, B) to l1(A)
-plain_rule : (rules : List Rule) (guard : List Atom) → length guard ≤ 64 → AllByRecursion (IsValidAtom 2) guard → IsValidRule (starting_at 0 rules) (rule_with (Variable 0 ∷ []) guard)
+plain_rule : (rules : List Rule) (guard : List Atom) → length guard + 0 ≤ 64 → AllByRecursion (IsValidAtom 2) guard → IsValidRule (starting_at 0 rules) (rule_with (Variable 0 ∷ []) guard)
 plain_rule rules guard few each = record {
   source = omega arith;
   target = omega arith;
@@ -92,6 +96,24 @@ plain_rule rules guard few each = record {
   few_atoms = few;
   updates = (record { variables = omega arith; expands = refl }, tt);
   guard = each;
+  cost = tt;
+}
+
+-- a rule of that program with a cost, from l0(A, B) to l1(A)
+costing_rule : (c : Term) (guard : List Atom) → length guard + 1 ≤ 64 → AllByRecursion (IsValidAtom 2) guard → IsValidTerm 2 c → IsValidRule (starting_at 0 []) (rule_costing c guard)
+costing_rule c guard few each valid = record {
+  source = omega arith;
+  target = omega arith;
+  left = refl;
+  places = refl;
+  named = refl;
+  names = ((refl, refl), ((refl, refl), tt));
+  distinct = (refl, (refl, tt));
+  few_variables = omega arith;
+  few_atoms = few;
+  updates = (record { variables = omega arith; expands = refl }, tt);
+  guard = each;
+  cost = valid;
 }
 
 -- the parts of rules, symbols and starts
@@ -109,6 +131,7 @@ parts = record {
     few_atoms = omega arith;
     updates = (record { variables = omega arith; expands = refl }, tt);
     guard = tt;
+    cost = tt;
   };
   no_symbol = λ h. absurd (let l = h.source in omega (arith, l));
   one_left = λ h. absurd (let l = h.left in omega (arith, l));
@@ -125,12 +148,18 @@ parts = record {
     few_atoms = omega arith;
     updates = (record { variables = omega arith; expands = refl }, (record { variables = omega arith; expands = refl }, tt));
     guard = tt;
+    cost = tt;
   };
   no_target = λ h. absurd (let l = h.target in omega (arith, l));
   second_in_guard = plain_rule [] (Compare (Variable 1) AtLeast (Variable 0) ∷ []) (omega arith)
       (record { left = omega arith; right = omega arith; expands = refl }, tt);
   third_in_guard = λ h. absurd (let l = h.guard.0.left in omega (arith, l));
   third_behind_sign = λ h. absurd (let l = h.guard.0.right in omega (arith, l));
+  cost = costing_rule (Variable 1) [] (omega arith) tt (record { variables = omega arith; expands = refl });
+  eighth_power = costing_rule (Subtraction (Exponentiation (Variable 0) 8) (Literal (pos 3))) [] (omega arith) tt
+      (record { variables = (omega arith, tt); expands = refl });
+  third_in_cost = λ h. absurd (let l = h.cost.variables in omega (arith, l));
+  ninth_power_in_cost = λ h. let e = h.cost.expands in cc;
   same_names = λ h. let e = h.distinct.0 in cc;
   one_name = λ h. absurd (let l = h.named in omega (arith, l));
   empty_name = λ h. h.names.1.0;
@@ -151,6 +180,9 @@ limits = record {
   more_places = λ h. absurd (let l = h.arity in omega (arith, l));
   atoms = plain_rule [] (replicate 64 Always) (omega (arith, length-replicate 64 Always)) (copies (IsValidAtom 2) 64 Always tt);
   more_atoms = λ h. absurd (let l = h.few_atoms in omega (arith, l, length-replicate 65 Always));
+  atoms_and_cost = costing_rule (Variable 1) (replicate 63 Always) (omega (arith, length-replicate 63 Always)) (copies (IsValidAtom 2) 63 Always tt)
+      (record { variables = omega arith; expands = refl });
+  more_and_cost = λ h. absurd (let l = h.few_atoms in omega (arith, l, length-replicate 64 Always));
   rules = record {
     symbols = (record { name = (refl, refl); arity = omega arith }, (record { name = (refl, refl); arity = omega arith }, tt));
     distinct = (refl, (refl, tt));

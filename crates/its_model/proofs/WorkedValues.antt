@@ -1,5 +1,6 @@
 -- The worked values of the views.
 use Rattle.std.proofs.Common.{◌≡◌, ℕ, List, [], ◌∷◌, map, refl, ap, ◌∙◌}
+use Rattle.std.specs.Prelude.{option_map}
 use Rattle.poly_terms.specs.model.Programs as plain
 use Rattle.poly_terms.specs.Views.{term_of}
 use Rattle.text_core.specs.declared.name.Name.{Name}
@@ -35,6 +36,7 @@ first_read r h = λ i. record {
   names = names_read _ _ h.names i;
   updates = ap (map term_of) h.updates i;
   guard = ap (map atom_of) h.guard i;
+  cost = ap (option_map term_of) h.cost i;
 }
 
 -- so is the second one
@@ -47,6 +49,7 @@ second_read r h = λ i. record {
   names = names_read _ _ h.names i;
   updates = ap (map term_of) h.updates i;
   guard = ap (map atom_of) h.guard i;
+  cost = ap (option_map term_of) h.cost i;
 }
 
 -- so is the program

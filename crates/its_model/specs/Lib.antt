@@ -3,11 +3,14 @@ pub mod Views
 pub mod Valid
 pub mod Steps
 pub mod StepAnswers
+pub mod Costs
+pub mod CostPrograms
 -- laws, and values that were worked out by hand
 pub mod Worked
 pub mod ValidLaws
 pub mod WorkedPrograms
 pub mod WorkedSteps
+pub mod WorkedCosts
 -- the machinery of the functions inside and of the proofs
 pub mod Ready
 -- the crates below, which callers name through this one

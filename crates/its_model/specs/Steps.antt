@@ -4,7 +4,8 @@ use Rattle.std.specs.Prelude.{int_lt, int_le, Option, Some, None, true, ⊤}
 use Rattle.std.specs.List.{AllByRecursion}
 use Rattle.std.specs.Ordering.{int_eq}
 use Rattle.poly_terms.specs.model.Terms.{Term, value}
-use Rattle.poly_terms.specs.model.Programs.{Relation, AtLeast, MoreThan, AtMost, LessThan, EqualTo, Atom, Always, Compare, Symbol}
+use Rattle.poly_terms.specs.model.Programs.{Relation, AtLeast, MoreThan, AtMost, LessThan, EqualTo, Atom, Always}
+use Rattle.poly_terms.specs.model.Programs.{Compare, Symbol}
 use Rattle.poly_terms.specs.model.Programs.{Rule, Program, rule_at}
 use Rattle.poly_terms.specs.model.Runs.{Config, Step, IsStep}
 use Rattle.poly_terms.specs.Checked.{values_fit}

@@ -1,9 +1,10 @@
 -- Valid programs: what every program that is read is, and what callers rely on.
-use Rattle.std.specs.Prelude.{◌≡◌, ℕ, ◌+◌, ◌≤◌, ◌<◌, nat_eq, length, map, pos, None, IsTrue, ⊤}
+use Rattle.std.specs.Prelude.{◌≡◌, ℕ, ◌+◌, ◌≤◌, ◌<◌, nat_eq, length, map, pos, Option, Some, None, IsTrue, ⊤}
 use Rattle.std.specs.List.{AllByRecursion, list_any}
 use Rattle.poly_terms.specs.model.Limits.{rule_limit, place_limit, variable_limit, atom_limit}
 use Rattle.poly_terms.specs.model.Terms.{Term, Literal, Subtraction}
-use Rattle.poly_terms.specs.model.Programs.{Relation, AtLeast, MoreThan, AtMost, LessThan, EqualTo, Atom, Always, Compare, Symbol}
+use Rattle.poly_terms.specs.model.Programs.{Relation, AtLeast, MoreThan, AtMost, LessThan, EqualTo, Atom, Always}
+use Rattle.poly_terms.specs.model.Programs.{Compare, Symbol}
 use Rattle.poly_terms.specs.model.Programs.{Rule, Program, arity_of}
 use Rattle.poly_terms.specs.Checked.{ReadsBelow}
 use Rattle.poly_terms.specs.Faults.{first_fault}
@@ -34,13 +35,24 @@ abbrev pub IsValidAtom : ℕ → Atom → Type 0
 IsValidAtom n Always = ⊤
 IsValidAtom n (Compare d r e) = IsValidComparison n d r e
 
+-- a cost, where one is written, is an expression that can be expanded
+abbrev pub IsValidCost : ℕ → Option Term → Type 0
+IsValidCost n None = ⊤
+IsValidCost n (Some c) = IsValidTerm n c
+
+-- a cost that is written counts as one atom
+abbrev pub cost_atoms : Option Term → ℕ
+cost_atoms None = 0
+cost_atoms (Some c) = 1
+
 -- a symbol has a name, and at most 32 places
 pub record IsValidSymbol (s : Symbol) : Type 0 where
   pub name : IsName s.name
   pub arity : s.arity ≤ place_limit
 
 -- a rule leads from a symbol of the program to one of it, with a left variable for each place of the source, an update
--- for each place of the target, distinct names of all its variables, at most 64 of them, and at most 64 atoms
+-- for each place of the target, distinct names of all its variables, at most 64 of them, and at most 64 atoms,
+-- towards which its cost counts
 pub record IsValidRule (p : Program) (r : Rule) : Type 0 where
   pub source : r.source < length p.symbols
   pub target : r.target < length p.symbols
@@ -50,9 +62,10 @@ pub record IsValidRule (p : Program) (r : Rule) : Type 0 where
   pub names : AllByRecursion IsName r.names
   pub distinct : AreDistinct r.names
   pub few_variables : r.left + r.free ≤ variable_limit
-  pub few_atoms : length r.guard ≤ atom_limit
+  pub few_atoms : length r.guard + cost_atoms r.cost ≤ atom_limit
   pub updates : AllByRecursion (IsValidTerm (r.left + r.free)) r.updates
   pub guard : AllByRecursion (IsValidAtom (r.left + r.free)) r.guard
+  pub cost : IsValidCost (r.left + r.free) r.cost
 
 -- a program is valid: at most 1,000 rules, which are valid as are the symbols; names differ; and the start symbol is
 -- the source of some rule and has a name for each of its places

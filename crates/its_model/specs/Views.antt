@@ -1,5 +1,5 @@
 -- What programs, configurations and steps of the code are as plain data.
-use Rattle.std.specs.Prelude.{map}
+use Rattle.std.specs.Prelude.{map, option_map}
 use Rattle.poly_terms.specs.Views.{term_of}
 use Rattle.poly_terms.specs.model.Programs as plain
 pub use Rattle.text_core.specs.Names.{name_of}
@@ -42,6 +42,7 @@ rule_of r = record {
   names = map name_of r.names.items;
   updates = map term_of r.updates.items;
   guard = map atom_of r.guard.items;
+  cost = option_map term_of r.cost;
 }
 
 -- a program as plain data

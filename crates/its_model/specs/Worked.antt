@@ -1,5 +1,5 @@
 -- What was worked out by hand of how programs, configurations and steps are read.
-use Rattle.std.specs.Prelude.{◌≡◌, ℕ, List, [], ◌∷◌, pos, negsuc, ⊤}
+use Rattle.std.specs.Prelude.{◌≡◌, ℕ, List, [], ◌∷◌, pos, negsuc, Some, None, ⊤}
 use Rattle.poly_terms.specs.model.Terms.{Literal, Variable}
 use Rattle.poly_terms.specs.model.Programs as plain
 use Rattle.poly_terms.specs.model.Programs.{AtLeast, MoreThan, AtMost, LessThan, EqualTo}
@@ -45,7 +45,7 @@ AreSpelled [] (bytes ∷ more) = ⊥
 AreSpelled (n ∷ ns) [] = ⊥
 AreSpelled (n ∷ ns) (bytes ∷ more) = (n.bytes.items ≡ bytes) × AreSpelled ns more
 
--- the rule is f(A, B, C) -> h(B, E) where TRUE and A >= D, with f numbered 0 and h numbered 1; D and E are free
+-- the rule is f(A, B, C) -{C}> h(B, E) where TRUE and A >= D, with f numbered 0 and h numbered 1; D and E are free
 pub record IsFirstRule (r : Rule) : Type 0 where
   pub source : r.source ≡ 0
   pub target : r.target ≡ 1
@@ -54,6 +54,7 @@ pub record IsFirstRule (r : Rule) : Type 0 where
   pub names : AreSpelled r.names.items (letter 65 ∷ letter 66 ∷ letter 67 ∷ letter 68 ∷ letter 69 ∷ [])
   pub updates : r.updates.items ≡ Var 1 ∷ Var 4 ∷ []
   pub guard : r.guard.items ≡ Always ∷ Compare (Var 0) Ge (Var 3) ∷ []
+  pub cost : r.cost ≡ Some (Var 2)
 
 -- the same rule as plain data
 abbrev pub first_rule : plain.Rule
@@ -65,9 +66,10 @@ first_rule = record {
   names = letter 65 ∷ letter 66 ∷ letter 67 ∷ letter 68 ∷ letter 69 ∷ [];
   updates = Variable 1 ∷ Variable 4 ∷ [];
   guard = plain.Always ∷ plain.Compare (Variable 0) AtLeast (Variable 3) ∷ [];
+  cost = Some (Variable 2);
 }
 
--- the rule is g(X, Y) -> h(Y, 7), with g numbered 2; it has no guard
+-- the rule is g(X, Y) -> h(Y, 7), with g numbered 2; it has no guard and no cost
 pub record IsSecondRule (r : Rule) : Type 0 where
   pub source : r.source ≡ 2
   pub target : r.target ≡ 1
@@ -76,6 +78,7 @@ pub record IsSecondRule (r : Rule) : Type 0 where
   pub names : AreSpelled r.names.items (letter 88 ∷ letter 89 ∷ [])
   pub updates : r.updates.items ≡ Var 1 ∷ Num (pos 7) ∷ []
   pub guard : r.guard.items ≡ []
+  pub cost : r.cost ≡ None
 
 -- the same rule as plain data
 abbrev pub second_rule : plain.Rule
@@ -87,6 +90,7 @@ second_rule = record {
   names = letter 88 ∷ letter 89 ∷ [];
   updates = Variable 1 ∷ Literal (pos 7) ∷ [];
   guard = [];
+  cost = None;
 }
 
 -- the program has the symbols f, h and g with three, two and two places, these two rules, and starts at g(X, Y)
@@ -120,9 +124,10 @@ worked_program = record {
 pub record ProgramsAreRead : Type 0 where
   -- a symbol keeps its name and its number of places: `f1` with three
   pub symbol : (s : Symbol) → IsSymbol (102 ∷ 49 ∷ []) 3 s → symbol_of s ≡ record { name = 102 ∷ 49 ∷ []; arity = 3 }
-  -- a rule keeps its two symbols, its numbers of left and of free variables, and its names, updates and atoms in order
+  -- a rule keeps its two symbols, its numbers of left and of free variables, its names, updates and atoms in order, and
+  -- its cost
   pub rule : (r : Rule) → IsFirstRule r → rule_of r ≡ first_rule
-  -- a rule without a guard gets none
+  -- a rule without a guard gets none, and one without a cost gets none
   pub bare_rule : (r : Rule) → IsSecondRule r → rule_of r ≡ second_rule
   -- a program keeps its start, and its symbols, start names and rules in order
   pub program : (p : Program) → IsWorkedProgram p → program_of p ≡ worked_program

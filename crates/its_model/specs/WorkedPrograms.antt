@@ -1,7 +1,8 @@
 -- Valid programs, and what keeps a program from being one, worked out by hand.
-use Rattle.std.specs.Prelude.{◌≡◌, ℕ, List, [], ◌∷◌, replicate, pos}
+use Rattle.std.specs.Prelude.{◌≡◌, ℕ, List, [], ◌∷◌, replicate, pos, Some, None}
 use Rattle.poly_terms.specs.model.Terms.{Term, Literal, Variable, Addition, Subtraction, Exponentiation}
-use Rattle.poly_terms.specs.model.Programs.{AtLeast, MoreThan, AtMost, LessThan, EqualTo, Atom, Always, Compare, Name, Symbol}
+use Rattle.poly_terms.specs.model.Programs.{AtLeast, MoreThan, AtMost, LessThan, EqualTo, Atom, Always, Compare, Name}
+use Rattle.poly_terms.specs.model.Programs.{Symbol}
 use Rattle.poly_terms.specs.model.Programs.{Rule, Program}
 use Rattle.its_model.specs.Valid.{difference_of, IsValidSymbol, IsValidRule, IsValid}
 
@@ -15,6 +16,20 @@ rule_to target updates guard = record {
   names = (65 ∷ []) ∷ (66 ∷ []) ∷ [];
   updates = updates;
   guard = guard;
+  cost = None;
+}
+
+-- the rule l0(A, B) -{c}> l1(A) where the atoms hold
+abbrev pub rule_costing : Term → List Atom → Rule
+rule_costing c guard = record {
+  source = 0;
+  target = 1;
+  left = 2;
+  free = 0;
+  names = (65 ∷ []) ∷ (66 ∷ []) ∷ [];
+  updates = Variable 0 ∷ [];
+  guard = guard;
+  cost = Some c;
 }
 
 -- the rule l0(A, B) -> l1(update) where the atoms hold
@@ -31,6 +46,7 @@ rule_from source left free names = record {
   names = names;
   updates = Variable 0 ∷ [];
   guard = [];
+  cost = None;
 }
 
 -- the symbols l0 with two places and l1 with one
@@ -102,6 +118,12 @@ pub record PartsAgree : Type 0 where
       (rule_with (Variable 0 ∷ []) (Compare (Variable 2) AtLeast (Variable 0) ∷ [])))
   pub third_behind_sign : ¬ (IsValidRule (starting_at 0 [])
       (rule_with (Variable 0 ∷ []) (Compare (Variable 1) AtLeast (Variable 2) ∷ [])))
+  -- a cost is B, or A^8 - 3; not one that reads a third variable, or A^9
+  pub cost : IsValidRule (starting_at 0 []) (rule_costing (Variable 1) [])
+  pub eighth_power : IsValidRule (starting_at 0 [])
+      (rule_costing (Subtraction (Exponentiation (Variable 0) 8) (Literal (pos 3))) [])
+  pub third_in_cost : ¬ (IsValidRule (starting_at 0 []) (rule_costing (Variable 2) []))
+  pub ninth_power_in_cost : ¬ (IsValidRule (starting_at 0 []) (rule_costing (Exponentiation (Variable 0) 9) []))
   -- not with the names A and A, A alone, A and the empty one, or A and 1
   pub same_names : ¬ (IsValidRule (starting_at 0 []) (rule_from 0 2 0 ((65 ∷ []) ∷ (65 ∷ []) ∷ [])))
   pub one_name : ¬ (IsValidRule (starting_at 0 []) (rule_from 0 2 0 ((65 ∷ []) ∷ [])))
@@ -122,12 +144,14 @@ pub record PartsAgree : Type 0 where
   pub one_start_name : ¬ (IsValid (named_by (108 ∷ 48 ∷ []) ((65 ∷ []) ∷ [])))
   pub same_start_names : ¬ (IsValid (named_by (108 ∷ 48 ∷ []) ((65 ∷ []) ∷ (65 ∷ []) ∷ [])))
 
--- the limits on both of their sides: 32 places, 64 atoms and 1,000 rules; and not 65 variables
+-- the limits on both of their sides: 32 places, 64 atoms, 63 with a cost, and 1,000 rules; and not 65 variables
 pub record LimitsAreKept : Type 0 where
   pub places : IsValidSymbol (record { name = 108 ∷ []; arity = 32 })
   pub more_places : ¬ (IsValidSymbol (record { name = 108 ∷ []; arity = 33 }))
   pub atoms : IsValidRule (starting_at 0 []) (rule_with (Variable 0 ∷ []) (replicate 64 Always))
   pub more_atoms : ¬ (IsValidRule (starting_at 0 []) (rule_with (Variable 0 ∷ []) (replicate 65 Always)))
+  pub atoms_and_cost : IsValidRule (starting_at 0 []) (rule_costing (Variable 1) (replicate 63 Always))
+  pub more_and_cost : ¬ (IsValidRule (starting_at 0 []) (rule_costing (Variable 1) (replicate 64 Always)))
   pub rules : IsValid (starting_at 0 (replicate 1000 (rule_with (Variable 0 ∷ []) [])))
   pub more_rules : ¬ (IsValid (starting_at 0 (replicate 1001 (rule_with (Variable 0 ∷ []) []))))
   pub more_variables : (names : List Name) → ¬ (IsValidRule (starting_at 0 []) (rule_from 0 2 63 names))

@@ -1,7 +1,8 @@
 -- What keeps a use of a rule from being a step, and what comes first, worked out by hand.
 use Rattle.std.specs.Prelude.{◌≡◌, ℕ, Bool, true, false, List, [], ◌∷◌, ℤ, pos, negsuc, Option, Some, None}
 use Rattle.poly_terms.specs.model.Terms.{Term, Literal, Variable, Negation, Addition, Subtraction, Multiplication}
-use Rattle.poly_terms.specs.model.Programs.{Relation, AtLeast, MoreThan, AtMost, LessThan, EqualTo, Atom, Always, Compare, Program}
+use Rattle.poly_terms.specs.model.Programs.{Relation, AtLeast, MoreThan, AtMost, LessThan, EqualTo, Atom, Always}
+use Rattle.poly_terms.specs.model.Programs.{Compare, Program}
 use Rattle.poly_terms.specs.model.Runs.{Config, Step}
 use Rattle.its_model.specs.Steps.{StepFault, OtherRule, AtomFails, PastRange, is_related, step_fault, RuleFits}
 use Rattle.its_model.specs.Steps.{maximum_arity}
@@ -80,6 +81,7 @@ looping guard u v = record {
     names = (65 ∷ []) ∷ (66 ∷ []) ∷ (67 ∷ []) ∷ [];
     updates = u ∷ v ∷ [];
     guard = guard;
+    cost = None;
   } ∷ [];
 }
 

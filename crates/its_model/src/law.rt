@@ -2,6 +2,7 @@
 
 ghost use Rattle.its_model.specs.ValidLaws.{AritiesOfValidAgree};
 ghost use Rattle.its_model.specs.Worked.{WorkedValues};
+ghost use Rattle.its_model.specs.WorkedCosts.{CostsAreWorkedOut};
 ghost use Rattle.its_model.specs.WorkedPrograms.{ProgramsAreWorkedOut};
 ghost use Rattle.its_model.specs.WorkedSteps.{StepsAreWorkedOut};
 
@@ -19,6 +20,12 @@ pub fn programs_are_worked_out()
 /// The faults of steps, and which comes first, are what was worked out by hand.
 pub fn steps_are_worked_out()
     ensures { StepsAreWorkedOut }
+{}
+
+/// Why a use of a rule may have no cost in 128 bits, and the programs of costs with their steps, are what was worked
+/// out by hand.
+pub fn costs_are_worked_out()
+    ensures { CostsAreWorkedOut }
 {}
 
 /// Each rule of a valid program has an update for each place of its target, and a left variable for each place of its

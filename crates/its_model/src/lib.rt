@@ -1,9 +1,13 @@
 //! Integer transition systems: programs, configurations and steps as types.
 //! Contract to the layer above: a program is read as plain data by `program_of`, small ones as was worked out by hand
-//! (`worked_values_hold`), runs are those of that data, `IsValid` says what a valid program is, and `step_checked` takes
-//! exactly the steps that stay within 128 bits.
+//! (`worked_values_hold`), runs are those of that data, `IsValid` says what a valid program is, `step_checked` takes
+//! exactly the steps that stay within 128 bits, `cost_checked` says what they cost, and `cost_program` makes the program
+//! that leads to the cost of a rule.
 #![tactic(auto)]
 
+mod copies;
+mod cost;
+mod costing;
 mod guard;
 mod law;
 mod program;
@@ -11,9 +15,13 @@ mod run;
 mod step;
 mod step_error;
 
+pub use copies::left_names;
+pub use cost::{cost_checked, costs_have_no_fault};
+pub use costing::{cost_program, cost_programs_tell_costs};
 pub use guard::{Atom, Rel};
 pub use law::{
-    arities_of_valid_agree, programs_are_worked_out, steps_are_worked_out, worked_values_hold,
+    arities_of_valid_agree, costs_are_worked_out, programs_are_worked_out, steps_are_worked_out,
+    worked_values_hold,
 };
 pub use program::{Program, Rule, Symbol};
 pub use run::{Config, Step};

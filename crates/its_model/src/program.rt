@@ -29,6 +29,8 @@ pub struct Rule {
     pub updates: Vec<Expr>,
     /// The atoms that have to hold.
     pub guard: Vec<Atom>,
+    /// What a step costs, over the values before it; none where it costs 1.
+    pub cost: Option<Expr>,
 }
 
 /// An integer transition system. Symbols are numbered from 0 in order of first occurrence in the rules, rules from 1 in

@@ -50,7 +50,7 @@ pub fn step_checked(
 }
 
 // Where the rule with a number stands.
-fn rule_position(p: &Program, number: u32) -> Option<usize>
+pub(crate) fn rule_position(p: &Program, number: u32) -> Option<usize>
     ensures { MatchOption result
         (rule_at (program_of p.now) number ≡ None)
         (λ i. (i < length p.now.rules.items)

@@ -15,9 +15,9 @@ use Rattle.its_text.specs.expr_text.GuardFronts.{GuardFront}
 use Rattle.its_text.specs.Steps.{step}
 use Rattle.its_text.specs.FrontFaults.{Tokens, left_wanted, left_break_kind, break_kind_at}
 use Rattle.its_reader.specs.Tests as tests
-use Rattle.its_reader.specs.Places.{InSections, InLeft, RightSettled, TailSettled, SettledAt, LeadsTo, IsSource}
-use Rattle.its_reader.specs.Places.{IsGuard}
-use Rattle.its_reader.specs.PlaceSteps.{GoTogether, IsNew, StartLeads, LeftLeads, RightLeads, TailLeads}
+use Rattle.its_reader.specs.Places.{InSections, InLeft, CostSettled, RightSettled, TailSettled, SettledAt, LeadsTo}
+use Rattle.its_reader.specs.Places.{IsSource, IsGuard}
+use Rattle.its_reader.specs.PlaceSteps.{GoTogether, IsNew, StartLeads, LeftLeads, CostLeads, RightLeads, TailLeads}
 use Rattle.its_reader.specs.TokenSteps.{Advances, AllowsName}
 use Rattle.its_reader.specs.declared.draft.Draft.{Draft}
 use Rattle.its_reader.specs.FaultTests.{wants_argument, wants_left, break_kind_in}
@@ -27,6 +27,8 @@ use Rattle.its_reader.specs.declared.place.SectionPlace.{SectionPlace}
 use Rattle.its_reader.specs.declared.place.SectionPlace.TheVariants as sections
 use Rattle.its_reader.specs.declared.place.LeftPlace.{LeftPlace}
 use Rattle.its_reader.specs.declared.place.LeftPlace.TheVariants as lefts
+use Rattle.its_reader.specs.declared.place.CostPlace.{CostPlace}
+use Rattle.its_reader.specs.declared.place.CostPlace.TheVariants as costs
 use Rattle.its_reader.specs.declared.place.RightPlace.{RightPlace}
 use Rattle.its_reader.specs.declared.place.RightPlace.TheVariants as rights
 use Rattle.its_reader.specs.declared.place.TailPlace.{TailPlace}
@@ -91,9 +93,9 @@ read_stops f p name ts d k w = ap (λ f. step f p) k.1.1.1.1.0 ∙ go p w
     go _ w = cc
 
 shut_stops : (f : Front) (p : Piece) (name : Name) (ts : Tokens) (d : Draft) → InLeft ts (Some p) lefts.LeftShut d f → tests.word p ≡ Some name → step f p ≡ None
-shut_stops f p name ts d k w = ap (λ f. step f p) k.1.0 ∙ go p w
+shut_stops f p name ts d k w = ap (λ f. step f p) k.1.1.0 ∙ go p w
   where
-    go : (p : Piece) → tests.word p ≡ Some name → step (fronts.LeftShut k.0) p ≡ None
+    go : (p : Piece) → tests.word p ≡ Some name → step (fronts.LeftShut k.0 k.1.0) p ≡ None
     go (In (inner.Word m)) w = refl
     go (In _) w = cc
     go _ w = cc
@@ -121,6 +123,13 @@ pub left_advances : (place : LeftPlace) (old new : Draft) (t : Token Piece) (beh
 left_advances place old new t behind result h = record {
   together = λ ts f k at. h.together ts f k;
   each = λ ts f k at allows modest. left_each place old new t.piece behind result h ts f k allows;
+}
+
+-- so it does within the braces of a cost
+pub cost_advances : (place : CostPlace) (old new : Draft) (t : Token Piece) (behind : Option Piece) (result : Option Place) → CostLeads place old t.piece result new → Advances (places.InCost place) old t behind result new
+cost_advances place old new t behind result h = record {
+  together = λ ts f k at. h.together ts f k;
+  each = λ ts f k at allows modest. h.each ts behind f k modest;
 }
 
 -- so it does from the arrow to the end of the target
@@ -162,7 +171,11 @@ module _ (ts : Tokens) (next : Option Piece) (d : Draft) (f : Front) where
   left_is_wanted lefts.LeftOpened k = rw k.1.1.0 refl
   left_is_wanted lefts.LeftRead k = rw k.1.1.1.1.0 refl
   left_is_wanted lefts.LeftParted k = rw k.1.1.1.1.0 refl
-  left_is_wanted lefts.LeftShut k = rw k.1.0 refl
+  left_is_wanted lefts.LeftShut k = rw k.1.1.0 refl
+
+  cost_unwanted : (place : CostPlace) → CostSettled ts next place d f → is_some (left_wanted f) ≡ false
+  cost_unwanted costs.Costing k = rw k.1.1.1.0 refl
+  cost_unwanted costs.Costed k = rw k.1.1.1.1.0 refl
 
   right_unwanted : (place : RightPlace) → RightSettled ts next place d f → is_some (left_wanted f) ≡ false
   right_unwanted rights.Arrowed k = rw k.1.0 refl
@@ -188,6 +201,7 @@ module _ (ts : Tokens) (next : Option Piece) (d : Draft) (f : Front) where
   is_wanted : (place : Place) → SettledAt ts next place d f → is_some (left_wanted f) ≡ wants_left place
   is_wanted (places.InSections place) k = sections_wanted place k
   is_wanted (places.InLeft place) k = left_is_wanted place k
+  is_wanted (places.InCost place) k = cost_unwanted place k
   is_wanted (places.InRight place) k = right_unwanted place k
   is_wanted (places.InTail place) k = tail_unwanted place k
 

@@ -18,7 +18,8 @@ use Rattle.its_text.specs.Answers.{verdict, verdict_of_answer}
 use Rattle.its_text.specs.FrontFaults.{Tokens}
 use Rattle.its_reader.specs.Faults.{fault_in, Says}
 use Rattle.its_reader.specs.Standing.{KnowsBetween}
-use Rattle.its_reader.specs.Places.{InSections, InLeft, RightSettled, TailSettled, SettledAt, IsSource, IsGuard}
+use Rattle.its_reader.specs.Places.{InSections, InLeft, CostSettled, RightSettled, TailSettled, SettledAt, IsSource}
+use Rattle.its_reader.specs.Places.{IsGuard}
 use Rattle.its_reader.specs.FaultTests.{is_between}
 use Rattle.its_reader.specs.Reading.{IsReading}
 use Rattle.its_reader.specs.TokenSteps.{Judges, Finishes, Closes}
@@ -30,6 +31,8 @@ use Rattle.its_reader.specs.declared.place.SectionPlace.{SectionPlace}
 use Rattle.its_reader.specs.declared.place.SectionPlace.TheVariants as sections
 use Rattle.its_reader.specs.declared.place.LeftPlace.{LeftPlace}
 use Rattle.its_reader.specs.declared.place.LeftPlace.TheVariants as lefts
+use Rattle.its_reader.specs.declared.place.CostPlace.{CostPlace}
+use Rattle.its_reader.specs.declared.place.CostPlace.TheVariants as costs
 use Rattle.its_reader.specs.declared.place.RightPlace.{RightPlace}
 use Rattle.its_reader.specs.declared.place.RightPlace.TheVariants as rights
 use Rattle.its_reader.specs.declared.place.TailPlace.{TailPlace}
@@ -78,7 +81,11 @@ module _ (ts : Tokens) (next : Option Piece) (d : Draft) (f : Front) where
   left_open lefts.LeftOpened k = rw k.1.1.0 refl
   left_open lefts.LeftRead k = rw k.1.1.1.1.0 refl
   left_open lefts.LeftParted k = rw k.1.1.1.1.0 refl
-  left_open lefts.LeftShut k = rw k.1.0 refl
+  left_open lefts.LeftShut k = rw k.1.1.0 refl
+
+  cost_open : (place : CostPlace) → CostSettled ts next place d f → finish f ≡ None
+  cost_open costs.Costing k = rw k.1.1.1.0 refl
+  cost_open costs.Costed k = rw k.1.1.1.1.0 refl
 
   right_open : (place : RightPlace) → RightSettled ts next place d f → finish f ≡ None
   right_open rights.Arrowed k = rw k.1.0 refl
@@ -104,6 +111,7 @@ module _ (ts : Tokens) (next : Option Piece) (d : Draft) (f : Front) where
   still_open : (place : Place) → SettledAt ts next place d f → is_between place ≡ false → finish f ≡ None
   still_open (places.InSections place) k b = section_open place k b
   still_open (places.InLeft place) k b = left_open place k
+  still_open (places.InCost place) k b = cost_open place k
   still_open (places.InRight place) k b = right_open place k
   still_open (places.InTail place) k b = tail_open place k
 

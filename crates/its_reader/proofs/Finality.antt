@@ -72,7 +72,7 @@ large_shown at f p behind g e h l =
 
 -- behind digits no arity differs
 pub digits_differ : (g : Front) (ds : List ℕ) (ps : List Piece) → front_pieces g ≡ In (inner.Digits ds) ∷ ps → has_other_arity g ≡ false
-digits_differ (LeftShut l) ds ps e = cc
+digits_differ (LeftShut r t) ds ps e = cc
 digits_differ (RightShut l t) ds ps e = cc
 digits_differ (Targeted h) ds ps e = go h.target refl
   where

@@ -19,9 +19,9 @@ use Rattle.its_text.specs.Kinds.{StartUnknown, MissingSection}
 use Rattle.its_text.specs.Lexing.{tokens_of}
 use Rattle.its_text.specs.Written.{LeftTerm, WrittenRule, Section, Goal, Start, Variables, Rules, Comment}
 use Rattle.its_text.specs.Written.{pieces_behind}
-use Rattle.its_text.specs.Numbering.{names_of, symbols_of, with_left, with_sums, number_of, left_names, rule_names}
+use Rattle.its_text.specs.Numbering.{names_of, symbols_of, with_left, with_sums, number_of, left_names, arrow_names}
 use Rattle.its_text.specs.Numbering.{term_in, rule_numbered, rules_numbered, start_of, rules_of, or_left, first_leaving}
-use Rattle.its_text.specs.Numbering.{program_from}
+use Rattle.its_text.specs.Numbering.{rule_names, program_from}
 use Rattle.its_text.specs.FrontFaults.{Tokens, has, is_rules}
 use Rattle.its_text.specs.Answers.{at_index, at_maybe, start_index, program_or, whole, verdict}
 use Rattle.its_reader.specs.Faults.{fault_in, Says}
@@ -32,8 +32,8 @@ use Rattle.its_reader.specs.declared.draft.Draft.{Draft}
 use Rattle.its_reader.specs.declared.error.ReadError.{ReadError}
 use Rattle.its_reader.proofs.EndLaws.{refusal_said}
 use Rattle.its_reader.proofs.SymbolTables.{arities_of}
-use Rattle.its_reader.proofs.Numbers.{GoesOn, map-push, rules_are_numbered, symbol_goes_on, symbol_among}
-use Rattle.its_reader.proofs.Numbers.{among_stays_on}
+use Rattle.its_reader.proofs.Numbers.{GoesOn, map-push, cost_goes_on, rules_are_numbered, symbol_goes_on}
+use Rattle.its_reader.proofs.Numbers.{symbol_among, among_stays_on}
 use Rattle.its_text.proofs.ValidRules.{sums_extends, guard_extends}
 use Rattle.its_reader.proofs.LimitedRules.{program_limited}
 
@@ -65,8 +65,9 @@ take_whole (x ∷ xs) ys = ap (λ zs. x ∷ zs) (take_whole xs ys)
 -- the left names of a rule are the first of its names
 left_of_rule : (r : WrittenRule) → take (length r.left.arguments) (rule_names r) ≡ left_names r.left
 left_of_rule r =
-    let g = extended (left_names r.left) (with_sums (left_names r.left) (term_in r.target).arguments) (rule_names r) (sums_extends (left_names r.left) (term_in r.target).arguments)
-    (guard_extends (with_sums (left_names r.left) (term_in r.target).arguments) r.guard) in
+    let g = extended (left_names r.left) (arrow_names r.left r.cost) (rule_names r) (cost_goes_on (left_names r.left) r.cost)
+    (extended (arrow_names r.left r.cost) (with_sums (arrow_names r.left r.cost) (term_in r.target).arguments) (rule_names r) (sums_extends (arrow_names r.left r.cost) (term_in r.target).arguments)
+    (guard_extends (with_sums (arrow_names r.left r.cost) (term_in r.target).arguments) r.guard)) in
     ap (take (length r.left.arguments)) g.1
     ∙ (ap (λ n. take n (left_names r.left ++ g.0)) (sym (length-reverse r.left.arguments)) ∙ take_whole (left_names r.left) g.0)
 

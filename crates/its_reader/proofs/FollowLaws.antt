@@ -23,9 +23,10 @@ use Rattle.its_text.specs.Pieces.{Piece, In}
 use Rattle.its_text.specs.Kinds.{Kind, kind_number, Syntax, RepeatedSection, ManyTargets, LeftNotVariable, LeftRepeated}
 use Rattle.its_text.specs.Kinds.{NumberTooLarge, Limit, TooManyRules, TooManyArguments, TooManyAtoms, LongName}
 use Rattle.its_text.specs.Fronts as fronts
-use Rattle.its_text.specs.Fronts.{Front, Aimed, Headed, front_pieces}
-use Rattle.its_text.specs.Steps.{step, argument_step, behind_argument, mark_guard_step, guard_ended, guard_named}
-use Rattle.its_text.specs.Steps.{square_guard_step}
+use Rattle.its_text.specs.Fronts.{Front, Ruling, Aimed, Headed, front_pieces}
+use Rattle.its_text.specs.Written.{LeftTerm}
+use Rattle.its_text.specs.Steps.{step, cost_step, argument_step, behind_argument, mark_guard_step, guard_ended}
+use Rattle.its_text.specs.Steps.{guard_named, square_guard_step}
 use Rattle.its_text.specs.Grammar.{programs}
 use Rattle.its_text.specs.Answers.{verdict}
 use Rattle.its_text.specs.FrontFaults.{Tokens, OpenExpression, open_expression, fault_if, long_name, targets_again}
@@ -91,6 +92,10 @@ arguing_goes a arguments e ds g h = go (expression_steps.step e (inner.Digits ds
     go (Some more) h = refl
     go None h = let n = sym (argued_never a arguments (expression_steps.finish e) ds) ∙ h in cc
 
+costing_goes : (r : Ruling) (t : LeftTerm) (o : Option expression.Front) (g : Front) → cost_step r t o ≡ Some g → is_front o ≡ true
+costing_goes r t (Some more) g h = refl
+costing_goes r t None g h = cc
+
 guarding_goes : (h : Headed) (k : GuardFront) (ds : Name) (g : Front) → mark_guard_step h k (guards.step k (inner.Digits ds)) (inner.Digits ds) ≡ Some g → goes_on_with (expression_in k) (inner.Digits ds) ≡ true
 guarding_goes h k ds g e = go (expression_steps.step (expression_in k) (inner.Digits ds)) e
   where
@@ -106,6 +111,7 @@ squared_goes h k ds g e = go (expression_steps.step (expression_in k) (inner.Dig
     go None e = let n = sym (ap (square_guard_step h) (behind_never k ds)) ∙ e in cc
 
 digits_follow : (f : Front) (ds : Name) (behind : Option Piece) (g : Front) → step f (In (inner.Digits ds)) ≡ Some g → GoesOnAt f behind (inner.Digits ds)
+digits_follow (fronts.Costing r t k) ds behind g e = (_, (refl, costing_goes r t (expression_steps.step k (inner.Digits ds)) g e))
 digits_follow (fronts.RightOpened a) ds behind g e = (_, (refl, refl))
 digits_follow (fronts.Arguing a arguments k) ds behind g e = (_, (refl, arguing_goes a arguments k ds g e))
 digits_follow (fronts.GuardMarked h) ds behind g e = (_, (refl, refl))

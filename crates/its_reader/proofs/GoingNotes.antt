@@ -1,5 +1,6 @@
 -- What a piece of an expression shows is what the code finds at it.
-use Rattle.std.specs.Prelude.{◌≡◌, ℕ, Bool, not, ◌&&◌, nat_le, nat_lt, if◌then◌else◌, [], ◌++◌, length, Option, Some}
+use Rattle.std.specs.Prelude.{◌≡◌, ℕ, Bool, true, false, not, ◌&&◌, nat_le, nat_lt, if◌then◌else◌, [], ◌++◌, length}
+use Rattle.std.specs.Prelude.{Option, Some}
 use Rattle.std.specs.Prelude.{None, refl}
 use Rattle.std.proofs.Common.{sym, ap, ◌∙◌}
 use Rattle.model.specs.Programs.{Name}
@@ -7,7 +8,8 @@ use Rattle.model.specs.Limits.{variable_limit, token_limit, coefficient_limit}
 use Rattle.text_core.specs.Names.{is_among}
 use Rattle.its_text.specs.expr_text.Pieces as inner
 use Rattle.its_text.specs.expr_text.Terms.{number_of}
-use Rattle.its_text.specs.expr_text.FrontNames.{with_front, token_count}
+use Rattle.its_text.specs.expr_text.Fronts as expression
+use Rattle.its_text.specs.expr_text.FrontNames.{with_front, token_count, goes_on_with}
 use Rattle.its_text.specs.expr_text.TermFronts.{goes_on_from}
 use Rattle.expr_reader.specs.Variables.{names_in}
 use Rattle.expr_reader.specs.Views.{front_of}
@@ -17,7 +19,7 @@ use Rattle.expr_reader.proofs.Endings.{goes_on_is}
 use Rattle.its_text.specs.Pieces.{Piece, In}
 use Rattle.its_text.specs.Kinds.{NumberTooLarge, Limit, TooManyVariables, TooManyTokens}
 use Rattle.its_text.specs.FrontFaults.{fault_if, OpenExpression, is_large, is_truth, passes_variables}
-use Rattle.its_text.specs.FrontFaults.{expression_faults, token_faults}
+use Rattle.its_text.specs.FrontFaults.{expression_faults, token_faults, ends_expression}
 use Rattle.its_reader.specs.Tests.{inner_next}
 use Rattle.its_reader.specs.FaultTests.{is_large_row, passes, piece_faults, step_faults, IsDigital}
 use Rattle.its_reader.specs.declared.draft.RuleDraft.{RuleDraft}
@@ -47,3 +49,13 @@ module _ (at : ℕ) (g : OpenExpression) (r : RuleDraft) (e : Expression) (truth
       ap (λ v. if v then expression_faults at g p behind else []) (sym (goes_on_is g.names g.front (names_in r.variables) e p k))
       ∙ ap (λ xs. if goes_on_from (front_of e).outer (front_of e).operand p then xs else []) (inner_is p d (λ name. h p name refl))
   going_is (Some _) d h = refl
+
+-- an expression that has ended shows nothing
+pub ended_going : (at : ℕ) (behind : Option Piece) (e : expression.Front) (g : OpenExpression) (next : Option Piece) → g.front ≡ e → ends_expression e next ≡ true → token_faults at (Some g) next behind ≡ []
+ended_going at behind e g None same ends = refl
+ended_going at behind e g (Some (In p)) same ends = ap (λ e. if goes_on_with e p then expression_faults at g p behind else []) same ∙ go (goes_on_with e p) ends
+  where
+    go : (v : Bool) → not v ≡ true → (if v then expression_faults at g p behind else []) ≡ []
+    go true h = cc
+    go false h = refl
+ended_going at behind e g (Some _) same ends = refl

@@ -5,7 +5,6 @@ use Rattle.std.specs.Char.{is_ascii_digit}
 use Rattle.std.proofs.Common.{sym, ap, subst, ◌∙◌, inl, inr}
 use Rattle.model.specs.Programs.{Name}
 use Rattle.model.specs.Limits.{coefficient_limit}
-use Rattle.its_model.specs.Views.{rule_of}
 use Rattle.poly_terms.specs.Views.{term_of}
 use Rattle.its_text.specs.expr_text.Pieces as inner
 use Rattle.its_text.specs.expr_text.Trees.{Sum}
@@ -36,7 +35,7 @@ use Rattle.its_text.specs.Steps.{step, mark_guard_step, guard_ended, guard_named
 use Rattle.its_text.specs.FrontFaults as shown
 use Rattle.its_text.specs.FrontFaults.{Tokens}
 use Rattle.its_reader.specs.Tests as tests
-use Rattle.its_reader.specs.Standing.{KnowsSections, KnowsSymbols, KnowsHeaded, symbols_headed}
+use Rattle.its_reader.specs.Standing.{KnowsSymbols, KnowsHeaded, symbols_headed}
 use Rattle.its_reader.specs.Places.{LeadsTo, IsGuard}
 use Rattle.its_reader.specs.PlaceSteps.{GoTogether, IsModestPiece}
 use Rattle.its_reader.specs.TailSteps.{is_modest, goes_on_in, guarding_if, TakesInner, TakesAtom, TakesPiece}
@@ -47,6 +46,7 @@ use Rattle.its_reader.specs.declared.place.Place.{Place}
 use Rattle.its_reader.specs.declared.draft.Draft.{Draft}
 use Rattle.its_reader.specs.declared.draft.RuleDraft.{RuleDraft}
 use Rattle.its_reader.proofs.LeftLaws.{leads_together}
+use Rattle.its_reader.proofs.LedLaws.{led_kept}
 use Rattle.std.proofs.lemmas.Bool.{ltb-false as at_most, le-ltb as not_below}
 
 -- the written front of a guard behind what it stands behind, and that of one that may be there
@@ -210,12 +210,7 @@ is_modest_is _ m = refl
 -- what is known of a target stays while a guard is read
 pub headed_stays : (ts : Tokens) (h : Headed) (fence : Fence) (p : Piece) (behind : Option Piece) (result : Option Place) (old new : Draft) → KnowsHeaded ts h old → AtomTakes fence old p behind result new → KnowsHeaded ts h new
 headed_stays ts h fence p behind result old new k a = record {
-  led = record {
-    sections = subst (KnowsSections ts h.led.ruling.sections) (sym a.sections) k.led.sections;
-    rules_are = ap (λ v. map rule_of v.items) a.rules ∙ k.led.rules_are;
-    source_is = a.stays.source ∙ k.led.source_is;
-    left_is = a.stays.left ∙ k.led.left_is;
-  };
+  led = led_kept ts h.led old new k.led a.sections a.rules a.stays.source a.stays.left a.stays.cost;
   symbols = subst (KnowsSymbols (symbols_headed h)) (sym a.symbols) k.symbols;
   target_is = a.stays.target ∙ k.target_is;
   updates_are = ap (λ v. map term_of v.items) a.stays.updates ∙ k.updates_are;

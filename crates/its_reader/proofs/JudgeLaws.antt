@@ -18,6 +18,7 @@ use Rattle.its_reader.specs.declared.place.Place.{Place}
 use Rattle.its_reader.specs.declared.place.Place.TheVariants as places
 use Rattle.its_reader.proofs.FaultTestLaws.{section_shows, one_more}
 use Rattle.its_reader.proofs.LeftNotes.{left_next}
+use Rattle.its_reader.proofs.CostNotes.{cost_next}
 use Rattle.its_reader.proofs.RightNotes.{right_next}
 use Rattle.its_reader.proofs.TailNotes.{tail_next}
 
@@ -25,6 +26,7 @@ use Rattle.its_reader.proofs.TailNotes.{tail_next}
 pub place_next : (ts : Tokens) (at : ℕ) (next behind : Option Piece) (d : Draft) (f : Front) (place : Place) → SettledAt ts next place d f → IsDigital next → next_faults at f next behind ≡ place_faults place d at next behind
 place_next ts at next behind d f (places.InSections place) k digital = section_shows ts at next behind place d f k
 place_next ts at next behind d f (places.InLeft place) k digital = left_next ts at next behind d f place k
+place_next ts at next behind d f (places.InCost place) k digital = cost_next ts at next behind d f place k digital
 place_next ts at next behind d f (places.InRight place) k digital = right_next ts at next behind d f place k digital
 place_next ts at next behind d f (places.InTail place) k digital = tail_next ts at next behind d digital place f k
 

@@ -1,17 +1,19 @@
 -- Where each piece leads up to the end of a left term, by tests of the piece.
 use Rattle.std.specs.Prelude.{◌≡◌, ℕ, Bool, true, false, not, ◌==◌, nat_lt, if◌then◌else◌, List, [], ◌∷◌, ◌++◌, map}
-use Rattle.std.specs.Prelude.{length, Option, Some, None, refl}
+use Rattle.std.specs.Prelude.{length, Option, Some, None, option_map, refl}
 use Rattle.std.proofs.Common.{sym, ap, subst, ◌∙◌, inl, inr, get_or}
 use Rattle.std.proofs.lemmas.List.{length-reverse}
 use Rattle.std.proofs.lemmas.Grind.{reverse_onto}
 use Rattle.model.specs.Programs.{Name, Symbol}
 use Rattle.its_model.specs.Views.{rule_of}
+use Rattle.poly_terms.specs.Views.{term_of}
 use Rattle.text_core.specs.Names.{is_among, position_of}
 use Rattle.its_text.specs.expr_text.Pieces as inner
 use Rattle.its_text.specs.expr_text.Terms.{with_name}
+use Rattle.its_text.specs.expr_text.Fronts as expression
 use Rattle.expr_reader.specs.Variables.{names_in}
-use Rattle.its_text.specs.Pieces.{Piece, In, Comma, Arrow, open_bracket}
-use Rattle.its_text.specs.Written.{BehindMark}
+use Rattle.its_text.specs.Pieces.{Piece, In, Comma, Arrow, CostOpen, open_bracket}
+use Rattle.its_text.specs.Written.{LeftTerm, BehindMark}
 use Rattle.its_text.specs.Numbering.{symbols_of, with_symbol, number_of, names_of}
 use Rattle.its_text.specs.Fronts as fronts
 use Rattle.its_text.specs.Fronts.{Front, Ruling, Headed, ruling_with, section_of}
@@ -19,17 +21,20 @@ use Rattle.its_text.specs.FrontFaults.{Tokens, other_arity}
 use Rattle.its_text.specs.Steps.{step, left_shut}
 use Rattle.its_reader.specs.Tests as tests
 use Rattle.its_reader.specs.Standing.{KnowsSections, KnowsRuling, KnowsSource, KnowsLeft, KnowsSymbols, IsFreshRule}
-use Rattle.its_reader.specs.Places.{InLeft, IsSource, LeadsTo}
+use Rattle.its_reader.specs.Standing.{without_cost}
+use Rattle.its_reader.specs.Places.{InLeft, IsSource, IsCosting, LeadsTo}
 use Rattle.its_reader.specs.declared.place.LeftPlace.{LeftPlace}
 use Rattle.its_reader.specs.PlaceSteps.{GoTogether, Named, LeftLeads, RuleLeads, IsNew, StaysAround, AfterLeft}
 use Rattle.its_reader.specs.declared.draft.Draft.{Draft}
 use Rattle.its_reader.specs.declared.place.SectionPlace.TheVariants as sections
 use Rattle.its_reader.specs.declared.place.LeftPlace.TheVariants as lefts
+use Rattle.its_reader.specs.declared.place.CostPlace.TheVariants as costs
 use Rattle.its_reader.specs.declared.place.RightPlace.TheVariants as rights
 use Rattle.its_reader.specs.declared.place.Place.{Place}
 use Rattle.its_reader.specs.declared.place.Place.TheVariants as places
 use Rattle.its_reader.proofs.SymbolTables.{symbols_with, arity_at, number_stays}
-use Rattle.expr_reader.specs.Standing.{IsFresh}
+use Rattle.expr_reader.specs.Standing.{IsFresh, Stands}
+use Rattle.expr_reader.proofs.Standing.{fresh_stands}
 use Rattle.expr_reader.specs.GuardStanding.{IsWanting}
 use Rattle.its_text.specs.expr_text.GuardFronts.{no_atoms}
 
@@ -59,12 +64,24 @@ module _ (ts : Tokens) (next : Option Piece) where
           let same : p ≡ open_bracket = cc in
           subst (λ (q : Piece). LeadsTo ts next (step f q) (if tests.opens q then Some (places.InLeft lefts.LeftOpened) else None) d) (sym same) (rw e (mark h r))
 
-  -- behind a left term only the arrow leads on
-  pub shut_leads : (p : Piece) (f : Front) (d : Draft) → InLeft ts (Some p) lefts.LeftShut d f → LeadsTo ts next (step f p) (if tests.leads p then Some (places.InRight rights.Arrowed) else None) d
-  shut_leads p f d k = rw k.1.0 (go p)
+  -- nothing of a cost has been read
+  cost_begins : (r : Ruling) (t : LeftTerm) (d : Draft) → KnowsLeft ts (without_cost r t) d → IsCosting ts r t expression.beginning d
+  cost_begins r t d k = record {
+    led = k.led;
+    symbols = k.symbols;
+    updates = k.updates;
+    guard = k.guard;
+    expression = subst (λ (b : List Name). Stands b expression.beginning (names_in d.rule.variables) d.rule.expression) k.names_are (fresh_stands (names_in d.rule.variables) d.rule.expression k.expression);
+  }
+
+  -- behind a left term only an arrow leads on, with a cost or none
+  pub shut_leads : (p : Piece) (f : Front) (d : Draft) → InLeft ts (Some p) lefts.LeftShut d f
+      → LeadsTo ts next (step f p) (if tests.leads p then Some (places.InRight rights.Arrowed) else if tests.opens_cost p then Some (places.InCost costs.Costing) else None) d
+  shut_leads p f d k = rw k.1.1.0 (go p)
     where
-      go : (p : Piece) → LeadsTo ts next (step (fronts.LeftShut k.0) p) (if tests.leads p then Some (places.InRight rights.Arrowed) else None) d
-      go Arrow = (k.0, (refl, k.1.1.0))
+      go : (p : Piece) → LeadsTo ts next (step (fronts.LeftShut k.0 k.1.0) p) (if tests.leads p then Some (places.InRight rights.Arrowed) else if tests.opens_cost p then Some (places.InCost costs.Costing) else None) d
+      go Arrow = (without_cost k.0 k.1.0, (refl, k.1.1.1.0))
+      go CostOpen = (k.0, (k.1.0, (expression.beginning, (refl, cost_begins k.0 k.1.0 d k.1.1.1.0))))
       go (In _) = tt
       go _ = tt
 
@@ -91,6 +108,7 @@ module _ (ts : Tokens) (next : Option Piece) where
     updates = ap (λ v. v.items) s.updates ∙ k.updates;
     expression = subst (λ e. IsFresh e) (sym s.expression) k.expression;
     guard = subst (λ g. (before : List Name) → IsWanting before no_atoms before g) (sym s.guard) k.guard;
+    cost = s.cost ∙ k.cost;
   }
 
   -- behind the opening bracket a new name leads on as the first left argument
@@ -134,19 +152,20 @@ module _ (ts : Tokens) (next : Option Piece) where
 
   -- the left term has ended
   left_known : (r : Ruling) (name : Name) (arguments : List Name) (old new : Draft) → KnowsSource ts r name arguments old → AfterLeft old new
-      → KnowsLeft ts (record { ruling = r; left = record { name = name; arguments = arguments } }) new
+      → KnowsLeft ts (without_cost r (record { name = name; arguments = arguments })) new
   left_known r name arguments old new k h = record {
     led = record {
       sections = subst (KnowsSections ts r.sections) (sym h.stays.sections) k.ruling.sections;
       rules_are = ap (λ v. map rule_of v.items) h.stays.rules ∙ k.ruling.rules.rules_are;
       source_is = h.source ∙ (ap (λ n. position_of n (names_in old.symbols.names)) k.name_is ∙ (ap (position_of name) k.ruling.rules.symbols.names ∙ stays));
       left_is = h.left ∙ count;
+      cost_is = ap (option_map term_of) (h.stays.cost ∙ k.cost);
     };
     symbols = symbols_with (symbols_of r.rules) name (length arguments) old.symbols new.symbols k.ruling.rules.symbols
         (h.numbered.names ∙ ap (with_name (names_in old.symbols.names)) k.name_is)
         (subst (λ (n : Name). new.symbols.arities.items ≡ (if nat_lt (position_of n (names_in old.symbols.names)) (length old.symbols.arities.items) then old.symbols.arities.items else old.symbols.arities.items ++ length arguments ∷ [])) k.name_is
         (subst (λ (m : ℕ). new.symbols.arities.items ≡ (if nat_lt (position_of old.rule.name.now (names_in old.symbols.names)) (length old.symbols.arities.items) then old.symbols.arities.items else old.symbols.arities.items ++ m ∷ [])) count h.numbered.arities));
-    arguments_are = ap names_in h.stays.variables ∙ k.arguments_are;
+    names_are = ap names_in h.stays.variables ∙ k.arguments_are;
     updates = ap (λ v. v.items) h.stays.updates ∙ k.updates;
     expression = subst (λ e. IsFresh e) (sym h.stays.expression) k.expression;
     guard = subst (λ g. (before : List Name) → IsWanting before no_atoms before g) (sym h.stays.guard) k.guard;
@@ -160,7 +179,7 @@ module _ (ts : Tokens) (next : Option Piece) where
 
   -- whether it has another number of arguments than its symbol has places
   left_differs : (r : Ruling) (name : Name) (arguments : List Name) (old new : Draft) → KnowsSource ts r name arguments old → (h : AfterLeft old new)
-      → KnowsLeft ts (record { ruling = r; left = record { name = name; arguments = arguments } }) new
+      → KnowsLeft ts (without_cost r (record { name = name; arguments = arguments })) new
       → new.rule.differs ≡ other_arity (with_symbol (symbols_of r.rules) name (length arguments)) name (length arguments)
   left_differs r name arguments old new k h left =
       h.differs
@@ -173,7 +192,7 @@ module _ (ts : Tokens) (next : Option Piece) where
       → LeadsTo ts next (Some (left_shut r name arguments)) (Some (places.InLeft lefts.LeftShut)) new
   left_ends r name arguments old new k h =
       let left = left_known r name arguments old new k h in
-      (record { ruling = r; left = record { name = name; arguments = arguments } }, (refl, (left, left_differs r name arguments old new k h left)))
+      (r, (record { name = name; arguments = arguments }, (refl, (left, left_differs r name arguments old new k h left))))
 
   -- a closing bracket right behind the opening one ends a left term without arguments
   pub opened_ends : (p : Piece) (f : Front) (old new : Draft) → InLeft ts (Some p) lefts.LeftOpened old f → tests.closes p ≡ true → AfterLeft old new → LeadsTo ts next (step f p) (Some (places.InLeft lefts.LeftShut)) new
@@ -196,8 +215,8 @@ module _ (ts : Tokens) (next : Option Piece) where
   -- a rule's source is named
   pub ruled_named : (p : Piece) (r : Ruling) (old new : Draft) (name : Name) → KnowsRuling ts r old → IsFreshRule old.rule → tests.word p ≡ Some name → new.rule.name.now ≡ name
       → new.sections ≡ old.sections → new.rules ≡ old.rules → new.symbols ≡ old.symbols → new.rule.variables ≡ old.rule.variables → new.rule.updates ≡ old.rule.updates → new.rule.expression ≡ old.rule.expression → new.rule.guard ≡ old.rule.guard
-      → LeadsTo ts next (step (fronts.Ruled r) p) (Some (places.InLeft lefts.SourceNamed)) new
-  ruled_named p r old new name k fresh w e a b c v u x g = go p w
+      → new.rule.cost ≡ old.rule.cost → LeadsTo ts next (step (fronts.Ruled r) p) (Some (places.InLeft lefts.SourceNamed)) new
+  ruled_named p r old new name k fresh w e a b c v u x g y = go p w
     where
       go : (p : Piece) → tests.word p ≡ Some name → LeadsTo ts next (step (fronts.Ruled r) p) (Some (places.InLeft lefts.SourceNamed)) new
       go (In (inner.Word n)) w = (
@@ -216,6 +235,7 @@ module _ (ts : Tokens) (next : Option Piece) where
               updates = ap (λ v. v.items) u ∙ fresh.updates;
               expression = subst (λ e. IsFresh e) (sym x) fresh.expression;
               guard = subst (λ g. (before : List Name) → IsWanting before no_atoms before g) (sym g) fresh.guard;
+              cost = y ∙ fresh.cost;
             },
           ),
         ),
@@ -310,7 +330,8 @@ pub source_promise : (p : Piece) (old : Draft) (result : Option Place) (v : Bool
 source_promise p old result v e h = always lefts.SourceNamed p old old result (λ ts next f k. rw (h, e) (source_leads ts next p f old k))
 
 -- so it does behind a left term
-pub shut_promise : (p : Piece) (old : Draft) (result : Option Place) → result ≡ (if tests.leads p then Some (places.InRight rights.Arrowed) else None) → LeftLeads lefts.LeftShut old p result old
+pub shut_promise : (p : Piece) (old : Draft) (result : Option Place) → result ≡ (if tests.leads p then Some (places.InRight rights.Arrowed) else if tests.opens_cost p then Some (places.InCost costs.Costing) else None)
+    → LeftLeads lefts.LeftShut old p result old
 shut_promise p old result h = always lefts.LeftShut p old old result (λ ts next f k. rw h (shut_leads ts next p f old k))
 
 -- and so it does between rules

@@ -91,4 +91,4 @@ module _ (ts : Tokens) (at : ℕ) (next behind : Option Piece) (d : Draft) (f : 
   left_next lefts.LeftOpened k = rw k.1.1.0 (simp append-nil (wanted_shows [] k.1.1.1.arguments_are))
   left_next lefts.LeftParted k = rw k.1.1.1.1.0 (simp append-nil (wanted_shows (k.1.1.0 ∷ k.1.1.1.0) k.1.1.1.1.1.arguments_are))
   left_next lefts.LeftRead k = rw k.1.1.1.1.0 (simp append-nil)
-  left_next lefts.LeftShut k = rw k.1.0 (simp append-nil)
+  left_next lefts.LeftShut k = rw k.1.1.0 (simp append-nil)

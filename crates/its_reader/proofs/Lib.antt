@@ -5,7 +5,12 @@ pub mod SectionLaws
 pub mod Positions
 pub mod Fronts
 pub mod SymbolTables
+pub mod LedLaws
 pub mod LeftLaws
+pub mod CostLaws
+pub mod CostEnds
+pub mod CostNotes
+pub mod ExpressionEnds
 pub mod Stopping
 pub mod FaultTestLaws
 pub mod RightLaws

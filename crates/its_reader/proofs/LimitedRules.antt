@@ -1,5 +1,6 @@
 -- In a valid program no exponent is over 8, so it is as it is written.
-use Rattle.std.specs.Prelude.{◌≡◌, ℕ, ◌+◌, pos, List, [], ◌∷◌, map, Some, None, Result, Ok, Err, IfOk, refl}
+use Rattle.std.specs.Prelude.{◌≡◌, ℕ, ◌+◌, pos, List, [], ◌∷◌, map, Option, Some, None, option_map, Result, Ok, Err}
+use Rattle.std.specs.Prelude.{IfOk, refl}
 use Rattle.std.specs.List.{AllByRecursion}
 use Rattle.std.proofs.Common.{sym, ap, subst}
 use Rattle.model.specs.Programs as plain
@@ -7,7 +8,7 @@ use Rattle.model.specs.Programs.{Program, Relation, AtLeast, MoreThan, AtMost, L
 use Rattle.model.specs.Terms.{Term, Literal, Subtraction}
 use Rattle.text_core.specs.Reading.{Answer, Stands, Refused}
 use Rattle.poly_terms.specs.Faults.{first_fault}
-use Rattle.its_model.specs.Valid.{IsValid, IsValidRule, IsValidTerm, IsValidAtom, difference_of}
+use Rattle.its_model.specs.Valid.{IsValid, IsValidRule, IsValidTerm, IsValidAtom, IsValidCost, difference_of}
 use Rattle.its_text.specs.expr_text.TermFronts.{limited}
 use Rattle.expr_reader.specs.GuardStanding.{limited_atom}
 use Rattle.expr_reader.proofs.LimitedFaults.{limited_same}
@@ -47,10 +48,15 @@ guard_same n [] h = refl
 guard_same n (plain.Always ∷ atoms) h = ap (λ more. plain.Always ∷ more) (guard_same n atoms h.1)
 guard_same n (plain.Compare d r e ∷ atoms) h = λ i. atom_same d e r h.0.expands i ∷ guard_same n atoms h.1 i
 
+cost_same : (n : ℕ) (cost : Option Term) → IsValidCost n cost → option_map limited cost ≡ cost
+cost_same n None h = refl
+cost_same n (Some c) h = ap Some (limited_same c h.expands)
+
 rule_same : (p : Program) (r : plain.Rule) → IsValidRule p r → limited_rule r ≡ r
 rule_same p r h = λ i. record r {
   updates = updates_same (r.left + r.free) r.updates h.updates i;
   guard = guard_same (r.left + r.free) r.guard h.guard i;
+  cost = cost_same (r.left + r.free) r.cost h.cost i;
 }
 
 rules_same : (p : Program) (rs : List plain.Rule) → AllByRecursion (IsValidRule p) rs → map limited_rule rs ≡ rs

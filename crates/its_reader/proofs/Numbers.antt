@@ -1,17 +1,18 @@
 -- Numbers stay as they are when more symbols and variables are read.
-use Rattle.std.specs.Prelude.{◌≡◌, ℕ, true, List, [], ◌∷◌, ◌++◌, map, length, refl}
+use Rattle.std.specs.Prelude.{◌≡◌, ℕ, true, List, [], ◌∷◌, ◌++◌, map, length, Option, Some, None, option_map, refl}
 use Rattle.std.proofs.Common.{sym, ap, ◌∙◌, append-nil}
 use Rattle.model.specs.Programs.{Name, Symbol}
 use Rattle.text_core.specs.Names.{is_among, position_of}
 use Rattle.its_text.specs.expr_text.Trees.{Sum}
-use Rattle.its_text.specs.expr_text.Terms.{sum_term}
+use Rattle.its_text.specs.expr_text.Terms.{with_sum, sum_term}
 use Rattle.its_text.specs.expr_text.TermFronts.{limited}
-use Rattle.its_text.proofs.expr_text.Stability.{extended, sum_extends, name_extends, sum_is_read, sum_term_stays, position_stays}
+use Rattle.its_text.proofs.expr_text.Stability.{extended, sum_extends, name_extends, sum_is_read, sum_term_stays}
+use Rattle.its_text.proofs.expr_text.Stability.{position_stays}
 use Rattle.its_text.proofs.expr_text.Stability.{among_with, among_more}
 use Rattle.its_text.specs.Written.{WrittenRule}
 use Rattle.its_text.specs.Numbering.{names_of, with_symbol, with_left, symbols_of, number_of, with_sums, sums_terms}
-use Rattle.its_text.specs.Numbering.{term_in, rule_numbered, rules_numbered}
-use Rattle.its_reader.specs.Standing.{updates_of, limited_rule, rules_so_far}
+use Rattle.its_text.specs.Numbering.{term_in, rule_numbered, rules_numbered, with_cost, cost_term}
+use Rattle.its_reader.specs.Standing.{updates_of, cost_of, limited_rule, rules_so_far}
 use Rattle.its_reader.proofs.SymbolTables.{names_with}
 
 -- a list goes on with others
@@ -30,6 +31,16 @@ updates_stay names (s ∷ earlier) all h =
     map-push limited (sums_terms all earlier) (sum_term all s)
     ∙ (ap (λ ts. ts ++ limited (sum_term all s) ∷ []) (updates_stay names earlier all (extended (with_sums names earlier) (with_sums names (s ∷ earlier)) all (sum_extends (with_sums names earlier) s) h))
     ∙ ap (λ t. updates_of names earlier ++ limited t ∷ []) (ap (λ ns. sum_term ns s) h.1 ∙ sum_term_stays (with_sums names (s ∷ earlier)) h.0 s (sum_is_read (with_sums names earlier) s)))
+
+-- the variables go on with those of a cost
+pub cost_goes_on : (names : List Name) (cost : Option Sum) → GoesOn names (with_cost names cost)
+cost_goes_on names None = ([], sym (append-nil names))
+cost_goes_on names (Some c) = sum_extends names c
+
+-- the cost over the variables of the rule is that over the variables once it is read
+pub cost_stays : (names : List Name) (cost : Option Sum) (all : List Name) → GoesOn (with_cost names cost) all → option_map limited (cost_term all cost) ≡ cost_of names cost
+cost_stays names None all h = refl
+cost_stays names (Some c) all h = ap (λ t. Some (limited t)) (ap (λ ns. sum_term ns c) h.1 ∙ sum_term_stays (with_sum names c) h.0 c (sum_is_read names c))
 
 -- symbols go on with more
 pub symbol_goes_on : (symbols : List Symbol) (name : Name) (arity : ℕ) → GoesOn (names_of symbols) (names_of (with_symbol symbols name arity))

@@ -1,6 +1,6 @@
 -- What ends before the next piece ends in what is written, and what its last byte shows is found.
-use Rattle.std.specs.Prelude.{◌≡◌, ℕ, Bool, true, false, not, ◌&&◌, if◌then◌else◌, is_some, List, [], ◌∷◌, ◌++◌, map}
-use Rattle.std.specs.Prelude.{Option, Some, None, refl}
+use Rattle.std.specs.Prelude.{◌≡◌, ℕ, Bool, true, false, ◌&&◌, if◌then◌else◌, List, [], ◌∷◌, ◌++◌, map}
+use Rattle.std.specs.Prelude.{Option, Some, None, option_map, refl}
 use Rattle.std.proofs.Common.{sym, ap, subst, ◌∙◌, append-nil, inl, inr}
 use Rattle.model.specs.Programs.{Name}
 use Rattle.poly_terms.specs.Views.{term_of}
@@ -14,26 +14,22 @@ use Rattle.its_text.specs.expr_text.Steps as expression_steps
 use Rattle.its_text.specs.expr_text.Guards.{relation_of}
 use Rattle.its_text.specs.expr_text.GuardFronts.{GuardFront, RightSide, Conjoined, no_atoms}
 use Rattle.its_text.specs.expr_text.FrontNames.{with_conjoined}
-use Rattle.its_text.specs.expr_text.TermFronts.{limited}
-use Rattle.its_text.proofs.expr_text.LimitedFaults.{limited_fault}
 use Rattle.its_text.specs.expr_text.Differences.{differences, first_of_all}
 use Rattle.expr_reader.specs.Variables.{names_in}
 use Rattle.expr_reader.specs.Faults as found
-use Rattle.expr_reader.specs.Standing.{IsFresh, Stands}
-use Rattle.expr_reader.specs.GuardParts.{can_end, goes_on}
+use Rattle.expr_reader.specs.Standing.{IsFresh}
 use Rattle.expr_reader.specs.GuardStanding as standing
 use Rattle.expr_reader.specs.GuardStanding.{IsWanting, Reads, reading_none, reading_left, reading_right, reading_truth}
 use Rattle.expr_reader.specs.GuardStanding.{IsSettled}
-use Rattle.expr_reader.specs.declared.expression.Expression.{Expression}
 use Rattle.expr_reader.specs.declared.guard.GuardReader.{GuardReader}
-use Rattle.expr_reader.proofs.Endings.{goes_on_is, can_end_is, finished_names}
+use Rattle.expr_reader.proofs.Endings.{finished_names}
 use Rattle.its_text.specs.Pieces.{Piece, In}
 use Rattle.its_text.specs.Kinds.{ArityDiffers}
-use Rattle.its_text.specs.Numbering.{left_names}
+use Rattle.its_text.specs.Numbering.{arrow_names}
 use Rattle.its_text.specs.Fronts as fronts
 use Rattle.its_text.specs.Fronts.{Front, Aimed, Headed}
 use Rattle.its_text.specs.FrontNames.{names_with, headed_names}
-use Rattle.its_text.specs.FrontFaults.{Tokens, FaultList, fault_if, expansion_faults, argument_faults, atom_faults}
+use Rattle.its_text.specs.FrontFaults.{Tokens, FaultList, fault_if, expansion_faults, atom_faults}
 use Rattle.its_text.specs.FrontFaults.{right_side_faults, ends_expression, last_faults}
 use Rattle.its_reader.specs.Tests.{inner_next}
 use Rattle.its_reader.specs.Standing.{KnowsHeaded, updates_of}
@@ -62,7 +58,7 @@ use Rattle.its_reader.specs.declared.place.Place.TheVariants as places
 use Rattle.its_reader.specs.declared.draft.RuleDraft.{RuleDraft}
 use Rattle.its_reader.specs.declared.draft.Draft.{Draft}
 use Rattle.its_reader.proofs.FaultTestLaws.{section_silent}
-use Rattle.std.proofs.lemmas.Bool.{and_parts as both}
+use Rattle.its_reader.proofs.ExpressionEnds.{ends_by, ended_names, made_is, ended_found, going_silent}
 
 -- outside rules nothing ends
 pub section_settles : (place : SectionPlace) (d : Draft) (next : Option Piece) → Settles (places.InSections place) d next (places.InSections place) (maybe_kind None) d
@@ -80,7 +76,7 @@ left_shows ts at next lefts.LeftOpened d f k = rw k.1.1.0 refl
 left_shows ts at next lefts.LeftRead d f k = rw k.1.1.1.1.0 refl
 left_shows ts at next lefts.LeftParted d f k = rw k.1.1.1.1.0 refl
 left_shows ts at next lefts.LeftShut d f k =
-    rw k.1.0 (ap (λ v. fault_if v ArityDiffers at) k.1.1.1 ∙ sym (append-nil _))
+    rw k.1.1.0 (ap (λ v. fault_if v ArityDiffers at) k.1.1.1.1 ∙ sym (append-nil _))
 
 -- up to the end of a left term nothing ends, and what its last byte shows is found
 pub left_settles : (place : LeftPlace) (d : Draft) (next : Option Piece) (refusal : Option Kind) → ((at : ℕ) → maybe_kind refusal at ≡ fault_if (shuts_left place && d.rule.differs) ArityDiffers at)
@@ -109,24 +105,6 @@ right_shows ts at next (rights.TargetNamed w) d f e k = rw k.1.0 refl
 right_shows ts at next (rights.RightOpened w) d f e k = rw k.1.0 refl
 right_shows ts at next rights.RightShut d f e k = rw k.1.1.0 (ap (λ v. fault_if v ArityDiffers at) k.1.1.1.1 ∙ sym (append-nil _))
 
--- what the code tests of an argument is what is written
-ends_is : (before : List Name) (e : expression.Front) (names : List Name) (x : Expression) (next : Option Piece) → Stands before e names x → not (goes_on x (inner_next next)) ≡ ends_expression e next
-ends_is before e names x None s = refl
-ends_is before e names x (Some (In p)) s = ap not (goes_on_is before e names x p s)
-ends_is before e names x (Some _) s = refl
-
-a_sum : (o : Option Sum) → is_some o ≡ true → (s : Sum) × (o ≡ Some s)
-a_sum None h = cc
-a_sum (Some s) h = (s, refl)
-
-no_sum : (o : Option Sum) → is_some o ≡ false → o ≡ None
-no_sum None h = refl
-no_sum (Some s) h = cc
-
-first_false : (a b : Bool) → a && b ≡ false → b ≡ true → a ≡ false
-first_false true b e t = cc
-first_false false b e t = refl
-
 module _ (ts : Tokens) (next : Option Piece) (w : Wrap) (a : Aimed) (arguments : List Sum) (e : expression.Front) where
   -- an argument ends
   argument_ended : (old : Draft) (rule : RuleDraft) (refusal : Option Kind) (s : Sum) → expression_steps.finish e ≡ Some s → ends_expression e next ≡ true → IsArguing ts w a arguments e old → AfterArgument old.rule refusal rule
@@ -141,67 +119,37 @@ module _ (ts : Tokens) (next : Option Piece) (w : Wrap) (a : Aimed) (arguments :
         rules_are = k.aimed.led.rules_are;
         source_is = h.source ∙ k.aimed.led.source_is;
         left_is = h.left ∙ k.aimed.led.left_is;
+        cost_is = ap (option_map term_of) h.cost ∙ k.aimed.led.cost_is;
       };
       symbols = k.aimed.symbols;
       name_is = ap (λ v. v.now) h.name ∙ k.aimed.name_is;
       updates_are =
           h.updates
           ∙ (ap (λ ts. ts ++ h.made ∷ []) k.aimed.updates_are
-          ∙ ap (λ t. updates_of (left_names a.led.left) arguments ++ t ∷ []) (h.ends.each (names_with a.led arguments) (names_in old.rule.variables) e s k.expression finish ∙ ap (λ ns. limited (sum_term ns s)) names));
+          ∙ ap (λ t. updates_of (arrow_names a.led.left a.led.cost) arguments ++ t ∷ [])
+          (made_is (names_with a.led arguments) e (names_in old.rule.variables) old.rule.expression k.expression s finish h.made h.ends));
       guard = subst (λ g. (before : List Name) → IsWanting before no_atoms before g) (sym h.guard) k.aimed.guard;
     };
-    names_are = ap names_in h.variables ∙ names;
+    names_are = ap names_in h.variables ∙ ended_names (names_with a.led arguments) e (names_in old.rule.variables) old.rule.expression k.expression s finish;
     expression = h.clears.each (names_with a.led arguments) (names_in old.rule.variables) e s k.expression finish;
   }
-    where
-      names : names_in old.rule.variables ≡ with_sum (names_with a.led arguments) s
-      names = k.expression.names_are ∙ finished_names (names_with a.led arguments) e s finish
-
-  argument_found : (at : ℕ) (old : Draft) (rule : RuleDraft) (refusal : Option Kind) (s : Sum) → expression_steps.finish e ≡ Some s → ends_expression e next ≡ true → IsArguing ts w a arguments e old → AfterArgument old.rule refusal rule
-      → maybe_kind refusal at ≡ last_faults at (fronts.Arguing a arguments e) next
-  argument_found at old rule refusal s finish ends k h =
-      h.found_is at
-      ∙ (ap (λ t. expansion_faults at (first_fault t)) (h.ends.each (names_with a.led arguments) (names_in old.rule.variables) e s k.expression finish ∙ ap (λ ns. limited (sum_term ns s)) names)
-      ∙ (ap (expansion_faults at) (limited_fault (sum_term (with_sum (names_with a.led arguments) s) s))
-      ∙ (ap (argument_faults at (names_with a.led arguments)) (sym finish)
-      ∙ ap (λ v. if v then argument_faults at (names_with a.led arguments) (expression_steps.finish e) else []) (sym ends))))
-    where
-      names : names_in old.rule.variables ≡ with_sum (names_with a.led arguments) s
-      names = k.expression.names_are ∙ finished_names (names_with a.led arguments) e s finish
-
-  -- an argument goes on
-  argument_silent : (at : ℕ) → (ends_expression e next ≡ true → expression_steps.finish e ≡ None) → [] ≡ last_faults at (fronts.Arguing a arguments e) next
-  argument_silent at h = go (ends_expression e next) h
-    where
-      go : (v : Bool) → (v ≡ true → expression_steps.finish e ≡ None) → [] ≡ (if v then argument_faults at (names_with a.led arguments) (expression_steps.finish e) else [])
-      go true h = ap (argument_faults at (names_with a.led arguments)) (sym (h refl))
-      go false h = refl
 
   argument_settled : (old : Draft) (rule : RuleDraft) (now : Place) (refusal : Option Kind) → IsArguing ts w a arguments e old → ArgumentSettles (ends_in old.rule.expression (inner_next next)) w old.rule now refusal rule
       → SettledAt ts next now (record old { rule = rule }) (fronts.Arguing a arguments e) × ((at : ℕ) → maybe_kind refusal at ≡ last_faults at (fronts.Arguing a arguments e) next)
   argument_settled old rule now refusal k h = go (ends_in old.rule.expression (inner_next next)) refl h
     where
-      is_end : not (goes_on old.rule.expression (inner_next next)) ≡ ends_expression e next
-      is_end = ends_is (names_with a.led arguments) e (names_in old.rule.variables) old.rule.expression next k.expression
-
-      can_finish : can_end old.rule.expression ≡ is_some (expression_steps.finish e)
-      can_finish = can_end_is (names_with a.led arguments) e (names_in old.rule.variables) old.rule.expression k.expression
-
       go : (v : Bool) → ends_in old.rule.expression (inner_next next) ≡ v → ArgumentSettles v w old.rule now refusal rule
           → SettledAt ts next now (record old { rule = rule }) (fronts.Arguing a arguments e) × ((at : ℕ) → maybe_kind refusal at ≡ last_faults at (fronts.Arguing a arguments e) next)
-      go true t h =
-          let b = both (can_end old.rule.expression) (not (goes_on old.rule.expression (inner_next next))) t in
-          let s = a_sum (expression_steps.finish e) (sym can_finish ∙ b.0) in
-          let ends = sym is_end ∙ b.1 in (
-            subst (λ p. SettledAt ts next p (record old { rule = rule }) (fronts.Arguing a arguments e)) (sym h.0) (a, (arguments, (e, (s.0, (refl, argument_ended old rule refusal s.0 s.1 ends k h.1))))),
-            λ at. argument_found at old rule refusal s.0 s.1 ends k h.1,
+      go true v h =
+          let s = ends_by (names_with a.led arguments) e (names_in old.rule.variables) old.rule.expression k.expression next true v in (
+            subst (λ p. SettledAt ts next p (record old { rule = rule }) (fronts.Arguing a arguments e)) (sym h.0) (a, (arguments, (e, (s.0, (refl, argument_ended old rule refusal s.0 s.1.0 s.1.1 k h.1))))),
+            λ at. h.1.found_is at ∙ ended_found (names_with a.led arguments) e (names_in old.rule.variables) old.rule.expression k.expression s.0 s.1.0 at next h.1.made h.1.ends s.1.1,
           )
-      go false t h =
-          let stops : ends_expression e next ≡ true → expression_steps.finish e ≡ None = λ ends. no_sum (expression_steps.finish e)
-          (sym can_finish ∙ first_false (can_end old.rule.expression) (not (goes_on old.rule.expression (inner_next next))) t (is_end ∙ ends)) in (
+      go false v h =
+          let stops = ends_by (names_with a.led arguments) e (names_in old.rule.variables) old.rule.expression k.expression next false v in (
             subst (λ p. SettledAt ts next p (record old { rule = rule }) (fronts.Arguing a arguments e)) (sym h.0)
                 (subst (λ r. RightSettled ts next (rights.Arguing w) (record old { rule = r }) (fronts.Arguing a arguments e)) (sym h.1.1) (a, (arguments, (e, (refl, (k, stops)))))),
-            λ at. ap (λ o. maybe_kind o at) h.1.0 ∙ argument_silent at stops,
+            λ at. ap (λ o. maybe_kind o at) h.1.0 ∙ going_silent at (names_with a.led arguments) e next stops,
           )
 
 still_settles : (place : RightPlace) (old : Draft) (rule : RuleDraft) (next : Option Piece) (now : Place) (refusal : Option Kind) → wrap_of_argument place ≡ None
@@ -282,6 +230,7 @@ headed_kept ts h old rule k s = record {
     rules_are = k.led.rules_are;
     source_is = s.source ∙ k.led.source_is;
     left_is = s.left ∙ k.led.left_is;
+    cost_is = ap (option_map term_of) s.cost ∙ k.led.cost_is;
   };
   symbols = k.symbols;
   target_is = s.target ∙ k.target_is;

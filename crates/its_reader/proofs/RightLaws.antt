@@ -3,18 +3,18 @@ use Rattle.std.specs.Prelude.{◌≡◌, ℕ, suc, ◌==◌, nat_lt, length, tru
 use Rattle.std.specs.Prelude.{map, codes, Option, Some, None, refl}
 use Rattle.std.proofs.Common.{sym, ap, subst, ◌∙◌, get_or}
 use Rattle.model.specs.Programs.{Name, Symbol}
-use Rattle.its_model.specs.Views.{rule_of}
 use Rattle.poly_terms.specs.Views.{term_of}
 use Rattle.text_core.specs.Names.{position_of}
 use Rattle.its_text.specs.expr_text.Terms.{with_name}
 use Rattle.expr_reader.proofs.Standing.{fresh_stands}
 use Rattle.its_text.specs.Written.{RightTerm, Target, Marked, Bare}
-use Rattle.its_text.specs.Numbering.{with_symbol, with_right, number_of, left_names, term_in}
+use Rattle.its_text.specs.Numbering.{with_symbol, with_right, number_of, arrow_names, term_in}
 use Rattle.its_text.specs.FrontFaults.{other_arity}
 use Rattle.its_text.specs.Steps.{right_shut}
 use Rattle.its_reader.specs.Standing.{updates_of}
 use Rattle.its_reader.specs.Places.{IsArgued, behind_wrap}
 use Rattle.its_reader.specs.PlaceSteps.{AfterRight}
+use Rattle.its_reader.proofs.LedLaws.{led_kept}
 use Rattle.its_reader.proofs.SymbolTables.{symbols_with, arity_at, number_stays}
 use Rattle.its_text.specs.expr_text.Pieces as inner
 use Rattle.its_text.specs.expr_text.GuardFronts.{no_atoms}
@@ -37,7 +37,7 @@ use Rattle.its_text.specs.FrontFaults.{Tokens}
 use Rattle.its_text.specs.FrontNames.{symbols_behind}
 use Rattle.its_text.specs.Steps.{step}
 use Rattle.its_reader.specs.Tests as tests
-use Rattle.its_reader.specs.Standing.{KnowsSections, KnowsSymbols, KnowsLed, KnowsLeft, KnowsAimed}
+use Rattle.its_reader.specs.Standing.{KnowsSymbols, KnowsLeft, KnowsAimed}
 use Rattle.its_reader.specs.Places.{InRight, RightSettled, LeadsTo, wrap_of, IsAimed, IsHeaded}
 use Rattle.its_reader.specs.PlaceSteps.{StaysBut}
 use Rattle.its_reader.specs.declared.draft.Draft.{Draft}
@@ -76,26 +76,17 @@ module _ (ts : Tokens) (next : Option Piece) where
       go (In _) h = cc
       go _ h = cc
 
-  -- what is known of a left term stays known while the target's name is read
-  led_stays : (l : Led) (old new : Draft) → KnowsLed ts l old → StaysBut old new → KnowsLed ts l new
-  led_stays l old new k s = record {
-    sections = subst (KnowsSections ts l.ruling.sections) (sym s.sections) k.sections;
-    rules_are = ap (λ v. map rule_of v.items) s.rules ∙ k.rules_are;
-    source_is = s.source ∙ k.source_is;
-    left_is = s.left ∙ k.left_is;
-  }
-
   aimed_known : (l : Led) (w : Wrap) (name : Name) (old new : Draft) → KnowsLeft ts l old → StaysBut old new → new.rule.name.now ≡ name → IsAimed ts w (record { led = l; wrap = wrap_of w; name = name }) new
   aimed_known l w name old new k s n = record {
     wrap_is = refl;
     aimed = record {
-      led = led_stays l old new k.led s;
+      led = led_kept ts l old new k.led s.sections s.rules s.source s.left s.cost;
       symbols = subst (KnowsSymbols (symbols_behind l)) (sym s.symbols) k.symbols;
       name_is = n;
       updates_are = ap (λ v. map term_of v.items) s.updates ∙ ap (map term_of) k.updates;
       guard = subst (λ g. (before : List Name) → IsWanting before no_atoms before g) (sym s.guard) k.guard;
     };
-    names_are = ap names_in s.variables ∙ k.arguments_are;
+    names_are = ap names_in s.variables ∙ k.names_are;
     expression = subst (λ e. IsFresh e) (sym s.expression) k.expression;
   }
 
@@ -139,16 +130,11 @@ module _ (ts : Tokens) (next : Option Piece) where
 
   -- an argument goes on, and what is known beside it stays
   goes_on_known : (w : Wrap) (a : Aimed) (arguments : List Sum) (e more : expression.Front) (p : inner.Piece) (old new : Draft) → a.wrap ≡ wrap_of w → KnowsAimed ts a arguments old
-      → Stands (names_with a.led arguments) e (names_in old.rule.variables) old.rule.expression → expression_steps.step e p ≡ Some more → IsModest p → GoesOn w old p new → IsArguing ts w a arguments more new
+      → Stands (names_with a.led arguments) e (names_in old.rule.variables) old.rule.expression → expression_steps.step e p ≡ Some more → IsModest p → GoesOn old p new → IsArguing ts w a arguments more new
   goes_on_known w a arguments e more p old new wrap k s led modest g = record {
     wrap_is = wrap;
     aimed = record {
-      led = record {
-        sections = subst (KnowsSections ts a.led.ruling.sections) (sym g.sections) k.led.sections;
-        rules_are = ap (λ v. map rule_of v.items) g.rules ∙ k.led.rules_are;
-        source_is = g.stays.source ∙ k.led.source_is;
-        left_is = g.stays.left ∙ k.led.left_is;
-      };
+      led = led_kept ts a.led old new k.led g.sections g.rules g.stays.source g.stays.left g.stays.cost;
       symbols = subst (KnowsSymbols (symbols_behind a.led)) (sym g.symbols) k.symbols;
       name_is = ap (λ v. v.now) g.stays.name ∙ k.name_is;
       updates_are = ap (λ v. map term_of v.items) g.stays.updates ∙ k.updates_are;
@@ -160,10 +146,10 @@ module _ (ts : Tokens) (next : Option Piece) where
   -- where an inner piece leads within an argument that doesn't end before it
   pub argument_leads : (w : Wrap) (a : Aimed) (arguments : List Sum) (e : expression.Front) (p : inner.Piece) (old new : Draft) (result : Option Place) → a.wrap ≡ wrap_of w → KnowsAimed ts a arguments old
       → Stands (names_with a.led arguments) e (names_in old.rule.variables) old.rule.expression → (ends_expression e (Some (In p)) ≡ true → expression_steps.finish e ≡ None) → IsModest p
-      → Takes (goes_on_with e p) w old p result new → LeadsTo ts next (argument_step a arguments e (expression_steps.step e p) p) result new
+      → Takes (goes_on_with e p) (places.InRight (rights.Arguing w)) old p result new → LeadsTo ts next (argument_step a arguments e (expression_steps.step e p) p) result new
   argument_leads w a arguments e p old new result wrap k s stops modest t = go (expression_steps.step e p) refl t
     where
-      go : (o : Option expression.Front) → expression_steps.step e p ≡ o → Takes (is_front o) w old p result new → LeadsTo ts next (argument_step a arguments e o p) result new
+      go : (o : Option expression.Front) → expression_steps.step e p ≡ o → Takes (is_front o) (places.InRight (rights.Arguing w)) old p result new → LeadsTo ts next (argument_step a arguments e o p) result new
       go (Some more) h t = rw t.0 (a, (arguments, (more, (refl, goes_on_known w a arguments e more p old new wrap k s h modest t.1))))
       go None h t =
           let none : expression_steps.finish e ≡ None = stops (ap (λ (o : Option expression.Front). not (is_front o)) h) in
@@ -190,16 +176,11 @@ module _ (ts : Tokens) (next : Option Piece) where
       → names_in old.rule.variables ≡ names_with a.led arguments → IsFresh old.rule.expression → AfterRight old new → IsHeaded ts (record { led = a.led; target = target }) new
   headed_known a arguments target old new t k names fresh h = record {
     headed = record {
-      led = record {
-        sections = subst (KnowsSections ts a.led.ruling.sections) (sym h.stays.sections) k.led.sections;
-        rules_are = ap (λ v. map rule_of v.items) h.stays.rules ∙ k.led.rules_are;
-        source_is = h.source ∙ k.led.source_is;
-        left_is = h.left ∙ k.led.left_is;
-      };
+      led = led_kept ts a.led old new k.led h.stays.sections h.stays.rules h.source h.left h.stays.cost;
       symbols = subst (λ (r : RightTerm). KnowsSymbols (with_right (symbols_behind a.led) r) new.symbols) (sym t) symbols;
       target_is = h.target ∙ (ap (λ n. position_of n (names_in old.symbols.names)) k.name_is ∙ (ap (position_of a.name) k.symbols.names ∙ (number_stays (symbols_behind a.led) a.name (length arguments)
           ∙ ap (λ (r : RightTerm). number_of (with_right (symbols_behind a.led) r) r.name) (sym t))));
-      updates_are = ap (λ v. map term_of v.items) h.stays.updates ∙ (k.updates_are ∙ ap (λ (r : RightTerm). updates_of (left_names a.led.left) r.arguments) (sym t));
+      updates_are = ap (λ v. map term_of v.items) h.stays.updates ∙ (k.updates_are ∙ ap (λ (r : RightTerm). updates_of (arrow_names a.led.left a.led.cost) r.arguments) (sym t));
     };
     names_are = ap names_in h.stays.variables ∙ (names ∙ ap (λ (r : RightTerm). names_with a.led r.arguments) (sym t));
     expression = subst (λ e. IsFresh e) (sym h.stays.expression) fresh;
@@ -207,7 +188,7 @@ module _ (ts : Tokens) (next : Option Piece) where
   }
     where
       count : length old.rule.updates.items ≡ length arguments
-      count = sym (length-terms term_of old.rule.updates.items) ∙ (ap length k.updates_are ∙ updates_count (left_names a.led.left) arguments)
+      count = sym (length-terms term_of old.rule.updates.items) ∙ (ap length k.updates_are ∙ updates_count (arrow_names a.led.left a.led.cost) arguments)
 
       symbols : KnowsSymbols (with_symbol (symbols_behind a.led) a.name (length arguments)) new.symbols
       symbols = symbols_with (symbols_behind a.led) a.name (length arguments) old.symbols new.symbols k.symbols
@@ -227,7 +208,7 @@ module _ (ts : Tokens) (next : Option Piece) where
       ∙ ap (λ n. not (n == length (term_in target).arguments)) (arity_at (with_right (symbols_behind a.led) (term_in target)) (term_in target).name))))
     where
       count : length old.rule.updates.items ≡ length (term_in target).arguments
-      count = sym (length-terms term_of old.rule.updates.items) ∙ (ap length k.updates_are ∙ (updates_count (left_names a.led.left) arguments ∙ ap (λ (r : RightTerm). length r.arguments) (sym t)))
+      count = sym (length-terms term_of old.rule.updates.items) ∙ (ap length k.updates_are ∙ (updates_count (arrow_names a.led.left a.led.cost) arguments ∙ ap (λ (r : RightTerm). length r.arguments) (sym t)))
 
   right_ends : (w : Wrap) (a : Aimed) (arguments : List Sum) (old new : Draft) → a.wrap ≡ wrap_of w → KnowsAimed ts a arguments old → names_in old.rule.variables ≡ names_with a.led arguments → IsFresh old.rule.expression
       → AfterRight old new → LeadsTo ts next (Some (right_shut a arguments)) (Some (behind_wrap w)) new
@@ -311,7 +292,7 @@ module _ (ts : Tokens) (next : Option Piece) where
           (
             record {
               headed = record {
-                led = record { sections = known.headed.led.sections; rules_are = known.headed.led.rules_are; source_is = known.headed.led.source_is; left_is = known.headed.led.left_is };
+                led = led_kept ts k.0 old (record old { rule = record old.rule { differs = false } }) known.headed.led refl refl refl refl refl;
                 symbols = known.headed.symbols;
                 target_is = known.headed.target_is;
                 updates_are = known.headed.updates_are;

@@ -1,5 +1,5 @@
 -- What a right term shows at the next token is what the code finds there.
-use Rattle.std.specs.Prelude.{◌≡◌, ℕ, suc, Bool, true, false, not, ◌&&◌, ◌==◌, nat_le, if◌then◌else◌, List, [], ◌∷◌}
+use Rattle.std.specs.Prelude.{◌≡◌, ℕ, suc, false, ◌&&◌, ◌==◌, nat_le, List, [], ◌∷◌}
 use Rattle.std.specs.Prelude.{◌++◌, length, Option, Some, None, refl}
 use Rattle.std.proofs.Common.{sym, ap, ◌∙◌, append-nil, arith}
 use Rattle.std.proofs.lemmas.Bool.Decides.{nat_tests}
@@ -10,15 +10,15 @@ use Rattle.its_text.specs.expr_text.Trees.{Sum, Number, Named, Bracketed}
 use Rattle.its_text.specs.expr_text.Fronts as expression
 use Rattle.its_text.specs.expr_text.Fronts.{Level, Operand, Wanted, BaseRead, CaretRead, ExponentRead}
 use Rattle.its_text.specs.expr_text.Steps as expression_steps
-use Rattle.its_text.specs.expr_text.FrontNames.{token_count, goes_on_with}
+use Rattle.its_text.specs.expr_text.FrontNames.{token_count}
 use Rattle.its_text.specs.Pieces.{Piece, In}
 use Rattle.its_text.specs.Kinds.{ManyTargets, Limit, LongName, TooManyArguments}
-use Rattle.its_text.specs.Numbering.{left_names}
+use Rattle.its_text.specs.Numbering.{arrow_names}
 use Rattle.its_text.specs.Fronts as fronts
 use Rattle.its_text.specs.Fronts.{Front, Led, Aimed}
 use Rattle.its_text.specs.FrontNames.{names_with}
-use Rattle.its_text.specs.FrontFaults.{Tokens, OpenExpression, fault_if, long_name, is_open, begins, ends_expression}
-use Rattle.its_text.specs.FrontFaults.{targets_again, targets_many, passes_arguments, expression_faults, token_faults}
+use Rattle.its_text.specs.FrontFaults.{Tokens, fault_if, long_name, is_open, begins}
+use Rattle.its_text.specs.FrontFaults.{targets_again, targets_many, passes_arguments, token_faults}
 use Rattle.its_text.specs.FrontFaults.{next_faults}
 use Rattle.its_reader.specs.Places.{RightSettled, IsArguing}
 use Rattle.its_reader.specs.FaultTests.{names_one, names_many, begins_full, right_faults, IsDigital}
@@ -28,7 +28,7 @@ use Rattle.its_reader.specs.declared.place.RightPlace.TheVariants as rights
 use Rattle.its_reader.specs.declared.draft.Draft.{Draft}
 use Rattle.its_reader.proofs.RightLaws.{length-terms, updates_count}
 use Rattle.its_reader.proofs.RightPromises.{first_stands}
-use Rattle.its_reader.proofs.GoingNotes.{going_is}
+use Rattle.its_reader.proofs.GoingNotes.{going_is, ended_going}
 
 -- one more than any number isn't 0
 pub not_none : (n : ℕ) → (suc n == 0) ≡ false
@@ -73,17 +73,7 @@ module _ (ts : Tokens) (at : ℕ) (next behind : Option Piece) (d : Draft) (f : 
       ∙ ap (λ n. (d.rule.expression.tokens == 0) && nat_le place_limit n && begins next) (sym count)
     where
       count : length d.rule.updates.items ≡ length arguments
-      count = sym (length-terms term_of d.rule.updates.items) ∙ (ap length k.aimed.updates_are ∙ updates_count (left_names a.led.left) arguments)
-
-  -- an argument that has ended shows nothing but a long name
-  ended_going : (e : expression.Front) (g : OpenExpression) (next : Option Piece) → g.front ≡ e → ends_expression e next ≡ true → token_faults at (Some g) next behind ≡ []
-  ended_going e g None same ends = refl
-  ended_going e g (Some (In p)) same ends = ap (λ e. if goes_on_with e p then expression_faults at g p behind else []) same ∙ go (goes_on_with e p) ends
-    where
-      go : (v : Bool) → not v ≡ true → (if v then expression_faults at g p behind else []) ≡ []
-      go true h = cc
-      go false h = refl
-  ended_going e g (Some _) same ends = refl
+      count = sym (length-terms term_of d.rule.updates.items) ∙ (ap length k.aimed.updates_are ∙ updates_count (arrow_names a.led.left a.led.cost) arguments)
 
   -- what a front of a right term shows at the next token is what the code finds there
   pub right_next : (place : RightPlace) → RightSettled ts next place d f → IsDigital next → next_faults at f next behind ≡ right_faults place d.rule at next behind
@@ -99,6 +89,6 @@ module _ (ts : Tokens) (at : ℕ) (next behind : Option Piece) (d : Draft) (f : 
   right_next (rights.Argued w) k digital = rw (
     k.1.1.1.1.0,
     finished_begun k.1.1.0 k.1.1.1.0 k.1.1.1.1.1.finish_is,
-    ended_going k.1.1.0 (record { names = names_with k.0.led k.1.0; front = k.1.1.0; leads_atom = false }) next refl k.1.1.1.1.1.ends,
+    ended_going at behind k.1.1.0 (record { names = names_with k.0.led k.1.0; front = k.1.1.0; leads_atom = false }) next refl k.1.1.1.1.1.ends,
   ) (simp append-nil)
   right_next rights.RightShut k digital = rw k.1.1.0 (simp append-nil)

@@ -28,7 +28,7 @@ use Rattle.its_text.specs.Fronts.{Front, Aimed}
 use Rattle.its_text.specs.FrontFaults.{Tokens}
 use Rattle.its_text.specs.Steps.{step}
 use Rattle.its_reader.specs.Tests as tests
-use Rattle.its_reader.specs.Places.{InRight, RightSettled, LeadsTo, IsAimed}
+use Rattle.its_reader.specs.Places.{RightSettled, LeadsTo, IsAimed}
 use Rattle.its_reader.specs.declared.draft.Draft.{Draft}
 use Rattle.its_reader.specs.declared.place.Wrap.{Wrap}
 use Rattle.its_reader.specs.declared.place.Wrap.TheVariants as wraps
@@ -79,37 +79,37 @@ within_promise p old new result t = go (tests.word p) refl t
 
 -- a piece within an argument leads somewhere in both, or nowhere in both
 argument_together : (w : Wrap) (a : Aimed) (arguments : List Sum) (e : expression.Front) (p : inner.Piece) (old new : Draft) (result : Option Place) → (ends_expression e (Some (In p)) ≡ true → expression_steps.finish e ≡ None)
-    → Takes (goes_on_with e p) w old p result new → GoTogether (argument_step a arguments e (expression_steps.step e p) p) result
+    → Takes (goes_on_with e p) (places.InRight (rights.Arguing w)) old p result new → GoTogether (argument_step a arguments e (expression_steps.step e p) p) result
 argument_together w a arguments e p old new result stops t = go (expression_steps.step e p) refl t
   where
-    go : (o : Option expression.Front) → expression_steps.step e p ≡ o → Takes (is_front o) w old p result new → GoTogether (argument_step a arguments e o p) result
+    go : (o : Option expression.Front) → expression_steps.step e p ≡ o → Takes (is_front o) (places.InRight (rights.Arguing w)) old p result new → GoTogether (argument_step a arguments e o p) result
     go (Some more) h t = rw t.0 tt
     go None h t =
         let none : expression_steps.finish e ≡ None = stops (ap (λ (o : Option expression.Front). not (is_front o)) h) in
         rw (none, t.0) tt
 
--- what the code takes is what goes on with the written argument
-takes_written : (w : Wrap) (before : List Name) (e : expression.Front) (p : inner.Piece) (old new : Draft) (result : Option Place) → Stands before e (names_in old.rule.variables) old.rule.expression
-    → Takes (goes_on_from (front_of old.rule.expression).outer (front_of old.rule.expression).operand p) w old p result new → Takes (goes_on_with e p) w old p result new
-takes_written w before e p old new result s t = subst (λ (v : Bool). Takes v w old p result new) (goes_on_is before e (names_in old.rule.variables) old.rule.expression p s) t
+-- what the code takes is what goes on with the written expression
+pub takes_written : (within : Place) (before : List Name) (e : expression.Front) (p : inner.Piece) (old new : Draft) (result : Option Place) → Stands before e (names_in old.rule.variables) old.rule.expression
+    → Takes (goes_on_from (front_of old.rule.expression).outer (front_of old.rule.expression).operand p) within old p result new → Takes (goes_on_with e p) within old p result new
+takes_written within before e p old new result s t = subst (λ (v : Bool). Takes v within old p result new) (goes_on_is before e (names_in old.rule.variables) old.rule.expression p s) t
 
 -- so it does in an argument that goes on
-pub arguing_promise : (w : Wrap) (p : Piece) (old new : Draft) (result : Option Place) → TakesPiece w old p result new → RightLeads (rights.Arguing w) old p result new
+pub arguing_promise : (w : Wrap) (p : Piece) (old new : Draft) (result : Option Place) → TakesPiece (places.InRight (rights.Arguing w)) old p result new → RightLeads (rights.Arguing w) old p result new
 arguing_promise w p old new result t = record {
   together = λ ts f k. rw k.1.1.1.0 (together p t (k.0) (k.1.0) (k.1.1.0) (k.1.1.1.1.0.expression) (k.1.1.1.1.1));
   each = λ ts next f k modest. rw k.1.1.1.0 (each ts next p t modest k.0 k.1.0 k.1.1.0 k.1.1.1.1.0 k.1.1.1.1.1);
 }
   where
-    together : (p : Piece) → TakesPiece w old p result new → (a : Aimed) (arguments : List Sum) (e : expression.Front) → Stands (names_with a.led arguments) e (names_in old.rule.variables) old.rule.expression
+    together : (p : Piece) → TakesPiece (places.InRight (rights.Arguing w)) old p result new → (a : Aimed) (arguments : List Sum) (e : expression.Front) → Stands (names_with a.led arguments) e (names_in old.rule.variables) old.rule.expression
         → (ends_expression e (Some p) ≡ true → expression_steps.finish e ≡ None) → GoTogether (step (fronts.Arguing a arguments e) p) result
-    together (In q) t a arguments e s stops = argument_together w a arguments e q old new result stops (takes_written w (names_with a.led arguments) e q old new result s t)
+    together (In q) t a arguments e s stops = argument_together w a arguments e q old new result stops (takes_written (places.InRight (rights.Arguing w)) (names_with a.led arguments) e q old new result s t)
     together Comma t a arguments e s stops = rw (stops refl, t.0) tt
     together _ t a arguments e s stops = rw t.0 tt
 
-    each : (ts : Tokens) (next : Option Piece) (p : Piece) → TakesPiece w old p result new → IsModestPiece p → (a : Aimed) (arguments : List Sum) (e : expression.Front) → IsArguing ts w a arguments e old
+    each : (ts : Tokens) (next : Option Piece) (p : Piece) → TakesPiece (places.InRight (rights.Arguing w)) old p result new → IsModestPiece p → (a : Aimed) (arguments : List Sum) (e : expression.Front) → IsArguing ts w a arguments e old
         → (ends_expression e (Some p) ≡ true → expression_steps.finish e ≡ None) → LeadsTo ts next (step (fronts.Arguing a arguments e) p) result new
     each ts next (In q) t modest a arguments e k stops =
-        argument_leads ts next w a arguments e q old new result k.wrap_is k.aimed k.expression stops modest (takes_written w (names_with a.led arguments) e q old new result k.expression t)
+        argument_leads ts next w a arguments e q old new result k.wrap_is k.aimed k.expression stops modest (takes_written (places.InRight (rights.Arguing w)) (names_with a.led arguments) e q old new result k.expression t)
     each ts next Comma t modest a arguments e k stops = rw (stops refl, t.0) tt
     each ts next _ t modest a arguments e k stops = rw t.0 tt
 
@@ -118,21 +118,21 @@ pub first_stands : (ts : Tokens) (w : Wrap) (a : Aimed) (d : Draft) → IsAimed 
 first_stands ts w a d k = subst (λ (b : List Name). Stands b expression.beginning (names_in d.rule.variables) d.rule.expression) k.names_are (fresh_stands (names_in d.rule.variables) d.rule.expression k.expression)
 
 -- so it does behind the opening bracket of the target, where none closes it at once
-pub opened_right_promise : (w : Wrap) (p : Piece) (old new : Draft) (result : Option Place) → tests.closes p ≡ false → TakesPiece w old p result new → RightLeads (rights.RightOpened w) old p result new
+pub opened_right_promise : (w : Wrap) (p : Piece) (old new : Draft) (result : Option Place) → tests.closes p ≡ false → TakesPiece (places.InRight (rights.Arguing w)) old p result new → RightLeads (rights.RightOpened w) old p result new
 opened_right_promise w p old new result c t = record {
   together = λ ts f k. rw k.1.0 (together p c t k.0 (first_stands ts w k.0 old k.1.1));
   each = λ ts next f k modest. rw k.1.0 (each ts next p c t modest k.0 k.1.1);
 }
   where
-    together : (p : Piece) → tests.closes p ≡ false → TakesPiece w old p result new → (a : Aimed) → Stands (names_with a.led []) expression.beginning (names_in old.rule.variables) old.rule.expression → GoTogether (step (fronts.RightOpened a) p) result
+    together : (p : Piece) → tests.closes p ≡ false → TakesPiece (places.InRight (rights.Arguing w)) old p result new → (a : Aimed) → Stands (names_with a.led []) expression.beginning (names_in old.rule.variables) old.rule.expression → GoTogether (step (fronts.RightOpened a) p) result
     together (In inner.Close) c t a s = cc
-    together (In q) c t a s = argument_together w a [] expression.beginning q old new result (λ h. refl) (takes_written w (names_with a.led []) expression.beginning q old new result s t)
+    together (In q) c t a s = argument_together w a [] expression.beginning q old new result (λ h. refl) (takes_written (places.InRight (rights.Arguing w)) (names_with a.led []) expression.beginning q old new result s t)
     together _ c t a s = rw t.0 tt
 
-    each : (ts : Tokens) (next : Option Piece) (p : Piece) → tests.closes p ≡ false → TakesPiece w old p result new → IsModestPiece p → (a : Aimed) → IsAimed ts w a old → LeadsTo ts next (step (fronts.RightOpened a) p) result new
+    each : (ts : Tokens) (next : Option Piece) (p : Piece) → tests.closes p ≡ false → TakesPiece (places.InRight (rights.Arguing w)) old p result new → IsModestPiece p → (a : Aimed) → IsAimed ts w a old → LeadsTo ts next (step (fronts.RightOpened a) p) result new
     each ts next (In inner.Close) c t modest a k = cc
     each ts next (In q) c t modest a k =
-        argument_leads ts next w a [] expression.beginning q old new result k.wrap_is k.aimed (first_stands ts w a old k) (λ h. refl) modest (takes_written w (names_with a.led []) expression.beginning q old new result (first_stands ts w a old k) t)
+        argument_leads ts next w a [] expression.beginning q old new result k.wrap_is k.aimed (first_stands ts w a old k) (λ h. refl) modest (takes_written (places.InRight (rights.Arguing w)) (names_with a.led []) expression.beginning q old new result (first_stands ts w a old k) t)
     each ts next _ c t modest a k = rw t.0 tt
 
 -- so it does behind that bracket, where one closes it at once

@@ -16,7 +16,8 @@ use Rattle.its_text.specs.expr_text.FrontNames.{before_expression}
 use Rattle.model.specs.Programs.{Name}
 use Rattle.its_text.specs.Pieces.{Piece}
 use Rattle.its_text.specs.Written.{Section}
-use Rattle.its_text.specs.Fronts.{Front, Arguing, MarkGuarding, SquareGuarding}
+use Rattle.its_text.specs.Numbering.{left_names}
+use Rattle.its_text.specs.Fronts.{Front, Costing, Arguing, MarkGuarding, SquareGuarding}
 use Rattle.its_text.specs.FrontNames.{names_with, headed_names}
 use Rattle.its_text.specs.Kinds.{Kind, kind_number, ArityDiffers}
 use Rattle.its_text.specs.Grammar.{programs}
@@ -125,6 +126,7 @@ atom_least at names (LeftSide c e) next = tt
 atom_least at names (RightSide c l sign e) next = choice_least (ends_expression e next) _ (right_side_least at (before_expression names (RightSide c l sign e)) l sign (expression_steps.finish e))
 
 ended_least : (at : ℕ) (f : Front) (next : Option Piece) → AtLeast 9 (ended_faults at f next)
+ended_least at (Costing r t e) next = choice_least (ends_expression e next) _ (argument_least at (left_names t) (expression_steps.finish e))
 ended_least at (Arguing a arguments e) next = choice_least (ends_expression e next) _ (argument_least at (names_with a.led arguments) (expression_steps.finish e))
 ended_least at (MarkGuarding h g) next = atom_least at (headed_names h) g next
 ended_least at (SquareGuarding h g) next = atom_least at (headed_names h) g next

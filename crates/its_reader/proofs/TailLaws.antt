@@ -11,7 +11,7 @@ use Rattle.expr_reader.specs.Variables.{names_in}
 use Rattle.expr_reader.specs.GuardStanding.{atoms_in, atoms_before}
 use Rattle.expr_reader.specs.declared.guard.GuardReader.{GuardReader}
 use Rattle.its_text.specs.Written.{Guard, NoGuard, BehindMark, InSquares}
-use Rattle.its_text.specs.Numbering.{left_names, term_in, with_guard, rule_names, rule_numbered}
+use Rattle.its_text.specs.Numbering.{left_names, arrow_names, term_in, with_guard, rule_names, rule_numbered}
 use Rattle.its_text.specs.Fronts.{Headed, rule_with, ruling_with}
 use Rattle.its_text.specs.FrontNames.{headed_names}
 use Rattle.its_text.specs.FrontFaults.{Tokens}
@@ -20,7 +20,8 @@ use Rattle.its_reader.specs.Standing.{symbols_headed}
 use Rattle.its_reader.specs.Places.{IsHeaded}
 use Rattle.its_reader.specs.TailSteps.{rule_in, KnowsWhole, RuleEnds}
 use Rattle.its_reader.specs.declared.draft.Draft.{Draft}
-use Rattle.its_reader.proofs.Numbers.{GoesOn, updates_stay, source_stays}
+use Rattle.its_text.proofs.ValidRules.{sums_extends}
+use Rattle.its_reader.proofs.Numbers.{GoesOn, updates_stay, cost_stays, source_stays}
 
 -- the variables go on with those of atoms, and of a guard
 atom_goes_on : (names : List Name) (a : Atom) → GoesOn names (with_atom names a)
@@ -39,6 +40,10 @@ guard_goes_on names (InSquares None) = ([], sym (append-nil names))
 guard_goes_on names (InSquares (Some atoms)) = atoms_go_on names atoms
 
 module _ (ts : Tokens) (h : Headed) (guard : Guard) where
+  -- the variables of the rule go on with those once its arrow is read
+  arrow_goes_on : GoesOn (arrow_names h.led.left h.led.cost) (rule_names (rule_with h guard))
+  arrow_goes_on = extended (arrow_names h.led.left h.led.cost) (headed_names h) (rule_names (rule_with h guard)) (sums_extends (arrow_names h.led.left h.led.cost) (term_in h.target).arguments) (guard_goes_on (headed_names h) guard)
+
   rule_is : (d : Draft) → KnowsWhole ts h guard d → rule_in d.rule ≡ limited_rule (rule_numbered (symbols_headed h) (rule_with h guard))
   rule_is d k = λ i. record {
     source = (k.headed.led.source_is ∙ source_stays (rule_with h guard) h.led.ruling.rules) i;
@@ -46,8 +51,9 @@ module _ (ts : Tokens) (h : Headed) (guard : Guard) where
     left = k.headed.led.left_is i;
     free = (ap (λ n. length (names_in d.rule.variables) - n) k.headed.led.left_is ∙ ap (λ ns. length ns - length h.led.left.arguments) k.names_are) i;
     names = k.names_are i;
-    updates = (k.headed.updates_are ∙ sym (updates_stay (left_names h.led.left) (term_in h.target).arguments (rule_names (rule_with h guard)) (guard_goes_on (headed_names h) guard))) i;
+    updates = (k.headed.updates_are ∙ sym (updates_stay (arrow_names h.led.left h.led.cost) (term_in h.target).arguments (rule_names (rule_with h guard)) (guard_goes_on (headed_names h) guard))) i;
     guard = k.atoms_are i;
+    cost = (k.headed.led.cost_is ∙ sym (cost_stays (left_names h.led.left) h.led.cost (rule_names (rule_with h guard)) arrow_goes_on)) i;
   }
 
   -- a whole rule is one of the rules

@@ -1,15 +1,19 @@
 -- What the next token behind a target shows is what the code finds there.
-use Rattle.std.specs.Prelude.{◌≡◌, ℕ, zero, suc, ◌<◌, Bool, true, false, not, ◌&&◌, ◌==◌, nat_le, if◌then◌else◌, List}
-use Rattle.std.specs.Prelude.{[], ◌∷◌, ◌++◌, length, Option, Some, None, refl}
+use Rattle.std.specs.Prelude.{◌≡◌, ℕ, zero, suc, ◌+◌, ◌-◌, ◌<◌, Bool, true, false, not, ◌&&◌, ◌==◌, nat_le}
+use Rattle.std.specs.Prelude.{if◌then◌else◌, List}
+use Rattle.std.specs.Prelude.{[], ◌∷◌, ◌++◌, length, Option, Some, None, option_map, refl}
 use Rattle.std.proofs.Common.{sym, ap, subst, ◌∙◌, append-nil, append_assoc, arith, inl, inr}
 use Rattle.std.proofs.lemmas.Bool.Decides.{nat_tests}
 use Rattle.model.specs.Programs.{Name}
 use Rattle.model.specs.Limits.{rule_limit, atom_limit}
 use Rattle.its_model.specs.Views.{atom_of}
+use Rattle.its_model.specs.Valid.{cost_atoms}
+use Rattle.poly_terms.specs.Views.{term_of}
 use Rattle.its_text.specs.expr_text.Pieces as inner
-use Rattle.its_text.specs.expr_text.Trees.{Named, Number, Bracketed}
+use Rattle.its_text.specs.expr_text.Trees.{Sum, Named, Number, Bracketed}
 use Rattle.its_text.specs.expr_text.Fronts as expression
-use Rattle.its_text.specs.expr_text.Fronts.{Level, Operand, Wanted, BaseRead, CaretRead, ExponentRead, Summed, NoSum, PlusAfter}
+use Rattle.its_text.specs.expr_text.Fronts.{Level, Operand, Wanted, BaseRead, CaretRead, ExponentRead, Summed, NoSum}
+use Rattle.its_text.specs.expr_text.Fronts.{PlusAfter}
 use Rattle.its_text.specs.expr_text.Fronts.{MinusAfter, Factored, NoProduct, TimesAfter, beginning}
 use Rattle.its_text.specs.expr_text.Steps as expression_steps
 use Rattle.its_text.specs.expr_text.Guards.{Atom, Atoms, First, Joined, count_of, atoms_terms}
@@ -29,9 +33,10 @@ use Rattle.expr_reader.specs.declared.guard.GuardReader.{GuardReader}
 use Rattle.expr_reader.proofs.Standing.{fresh_stands}
 use Rattle.its_text.specs.Pieces.{Piece, In}
 use Rattle.its_text.specs.Written.{NoGuard}
+use Rattle.its_text.specs.Numbering.{left_names, atoms_of_cost}
 use Rattle.its_text.specs.Kinds.{Limit, TooManyRules, TooManyAtoms, LongName}
 use Rattle.its_text.specs.Fronts as fronts
-use Rattle.its_text.specs.Fronts.{Front, Headed, rule_with}
+use Rattle.its_text.specs.Fronts.{Front, Led, Headed, rule_with}
 use Rattle.its_text.specs.FrontNames.{headed_names}
 use Rattle.its_text.specs.Steps.{guard_named}
 use Rattle.its_text.specs.FrontFaults as shown
@@ -39,8 +44,10 @@ use Rattle.its_text.specs.FrontFaults.{Tokens, OpenExpression, fault_if, long_na
 use Rattle.its_text.specs.FrontFaults.{can_end, ends_expression, is_full, open_expression_in, is_truth, is_left_side}
 use Rattle.its_text.specs.FrontFaults.{token_faults, next_faults}
 use Rattle.its_reader.specs.Tests.{inner_next}
+use Rattle.its_reader.specs.Standing.{KnowsLed, cost_of}
 use Rattle.its_reader.specs.Places.{TailSettled, IsGuard, IsHeaded}
-use Rattle.its_reader.specs.FaultTests.{IsDigital, truth_in, step_faults, atom_faults, atoms_full, rule_faults}
+use Rattle.its_reader.specs.FaultTests.{IsDigital, truth_in, step_faults, atom_faults, atoms_fill, atoms_full}
+use Rattle.its_reader.specs.FaultTests.{rule_faults}
 use Rattle.its_reader.specs.FaultTests.{mark_faults, behind_atoms_faults, guard_faults, tail_faults}
 use Rattle.its_reader.specs.declared.place.Fence.{Fence}
 use Rattle.its_reader.specs.declared.place.Fence.TheVariants as fences
@@ -60,6 +67,23 @@ atoms_counted names (Joined atoms joint a) = length-push (atoms_terms names atom
 as_many_atoms : (names : List Name) (atoms : Atoms) (r : GuardReader) → atoms_in r ≡ atoms_of names atoms → length r.atoms.items ≡ count_of atoms
 as_many_atoms names atoms r e =
     sym (length-terms atom_of r.atoms.items) ∙ (ap length e ∙ (length-terms limited_atom (atoms_terms names atoms) ∙ atoms_counted names atoms))
+
+-- the cost counts in the code as it does in what is written
+cost_counted : (names : List Name) (cost : Option Sum) → cost_atoms (cost_of names cost) ≡ atoms_of_cost cost
+cost_counted names None = refl
+cost_counted names (Some c) = refl
+
+-- a cost alone isn't as many as the limit
+few_beside : (begun : Bool) (cost : Option Sum) → false ≡ nat_le atom_limit (0 + atoms_of_cost cost) && begun
+few_beside begun None = refl
+few_beside begun (Some c) = refl
+
+-- beside a cost there are as many atoms as the limit where one less is there, and beside none where they are
+pub one_beside : (n : ℕ) → nat_le (atom_limit - 1) n ≡ nat_le atom_limit (n + 1)
+one_beside n = grind (arith, nat_tests)
+
+pub none_beside : (n : ℕ) → nat_le atom_limit n ≡ nat_le atom_limit (n + 0)
+none_beside n = grind (arith, nat_tests)
 
 -- tests that pass drop out
 kept : (a b : Bool) → a && true && true && b ≡ a && b
@@ -99,12 +123,12 @@ truth_begun e a h = go e.outer e.level e.operand h
         none (MinusAfter s) p n h = cc
 
 -- an atom that has ended has a token
-full_never : (g : GuardFront) (atoms : Atoms) → guards.finish g ≡ Some atoms → is_full g ≡ false
-full_never (RightSide c l sign e) atoms h = refl
-full_never (LeftSide NoAtoms e) atoms h = refl
-full_never (LeftSide (JointAfter before joint) e) atoms h = go (truth_of e) refl h
+full_never : (others : ℕ) (g : GuardFront) (atoms : Atoms) → guards.finish g ≡ Some atoms → is_full others g ≡ false
+full_never others (RightSide c l sign e) atoms h = refl
+full_never others (LeftSide NoAtoms e) atoms h = refl
+full_never others (LeftSide (JointAfter before joint) e) atoms h = go (truth_of e) refl h
   where
-    go : (o : Option Atom) → truth_of e ≡ o → ended (JointAfter before joint) o ≡ Some atoms → (token_count e == 0) && nat_le atom_limit (count_of before) ≡ false
+    go : (o : Option Atom) → truth_of e ≡ o → ended (JointAfter before joint) o ≡ Some atoms → (token_count e == 0) && nat_le atom_limit (count_of before + others) ≡ false
     go None t h = cc
     go (Some a) t h = rw (truth_begun e a t) refl
 
@@ -135,8 +159,8 @@ rules_shown fences.Square h g next = false
 module _ (ts : Tokens) (at : ℕ) (next behind : Option Piece) (d : Draft) (digital : IsDigital next) where
   -- what a guard shows
   guarded_shows : (fence : Fence) (h : Headed) (g : GuardFront) → next_faults at (guarded fence h g) next behind
-      ≡ fault_if (rules_shown fence h g next) (Limit TooManyRules) at ++ fault_if (is_full g && begins next) (Limit TooManyAtoms) at ++ fault_if (long_name next) (Limit LongName) at ++ token_faults at (open_expression_in (headed_names h) g) next behind
-  guarded_shows fences.Mark h g = ap (λ xs. xs ++ fault_if (is_full g && begins next) (Limit TooManyAtoms) at ++ fault_if (long_name next) (Limit LongName) at ++ token_faults at (open_expression_in (headed_names h) g) next behind)
+      ≡ fault_if (rules_shown fence h g next) (Limit TooManyRules) at ++ fault_if (is_full (atoms_of_cost h.led.cost) g && begins next) (Limit TooManyAtoms) at ++ fault_if (long_name next) (Limit LongName) at ++ token_faults at (open_expression_in (headed_names h) g) next behind
+  guarded_shows fences.Mark h g = ap (λ xs. xs ++ fault_if (is_full (atoms_of_cost h.led.cost) g && begins next) (Limit TooManyAtoms) at ++ fault_if (long_name next) (Limit LongName) at ++ token_faults at (open_expression_in (headed_names h) g) next behind)
       (append-nil (fault_if (rules_shown fences.Mark h g next) (Limit TooManyRules) at))
   guarded_shows fences.Square h g = refl
 
@@ -165,13 +189,13 @@ module _ (ts : Tokens) (at : ℕ) (next behind : Option Piece) (d : Draft) (digi
       now = record { names = before_expression names g; front = expression_in g; leads_atom = is_left_side g }
 
   -- within an atom
-  unread_shows : (fence : Fence) (h : Headed) (g : GuardFront) → rules_shown fence h g next ≡ false → is_full g && begins next ≡ atoms_full d.rule.guard next → is_read d.rule.guard.place ≡ false
+  unread_shows : (fence : Fence) (h : Headed) (g : GuardFront) → rules_shown fence h g next ≡ false → is_full (atoms_of_cost h.led.cost) g && begins next ≡ atoms_full d.rule next → is_read d.rule.guard.place ≡ false
       → Stands (before_expression (headed_names h) g) (expression_in g) (names_in d.rule.variables) d.rule.guard.expression → is_wanting d.rule.guard.place ≡ (is_left_side g && (token_count (expression_in g) == 0))
       → next_faults at (guarded fence h g) next behind ≡ guard_faults (is_read d.rule.guard.place) fence d at next behind
   unread_shows fence h g rules full read s w =
       guarded_shows fence h g
       ∙ ((λ i. fault_if (rules i) (Limit TooManyRules) at ++ fault_if (full i) (Limit TooManyAtoms) at ++ fault_if (long_name next) (Limit LongName) at ++ atom_shows (headed_names h) g s w i)
-      ∙ (append_assoc (fault_if (atoms_full d.rule.guard next) (Limit TooManyAtoms) at) (fault_if (long_name next) (Limit LongName) at) (step_faults d.rule d.rule.guard.expression (truth_in d.rule.guard (inner_next next) (inner_next behind)) at (inner_next next))
+      ∙ (append_assoc (fault_if (atoms_full d.rule next) (Limit TooManyAtoms) at) (fault_if (long_name next) (Limit LongName) at) (step_faults d.rule d.rule.guard.expression (truth_in d.rule.guard (inner_next next) (inner_next behind)) at (inner_next next))
       ∙ sym (ap (λ v. guard_faults v fence d at next behind) read)))
 
   -- no rule begins within an atom
@@ -191,19 +215,23 @@ module _ (ts : Tokens) (at : ℕ) (next behind : Option Piece) (d : Draft) (digi
   word_rests (Some (In _)) e = cc
   word_rests (Some _) e = cc
 
-  counted : (n : ℕ) → length d.rule.guard.atoms.items ≡ n → is_wanting d.rule.guard.place ≡ true → nat_le atom_limit n && begins next ≡ atoms_full d.rule.guard next
-  counted n e w = sym (ap (λ v. v && nat_le atom_limit (length d.rule.guard.atoms.items) && begins next) w ∙ ap (λ n. nat_le atom_limit n && begins next) e)
+  counted : (n : ℕ) (cost : Option Sum) (names : List Name) → length d.rule.guard.atoms.items ≡ n → option_map term_of d.rule.cost ≡ cost_of names cost → is_wanting d.rule.guard.place ≡ true
+      → nat_le atom_limit (n + atoms_of_cost cost) && begins next ≡ atoms_full d.rule next
+  counted n cost names e same w =
+      sym (ap (λ v. v && atoms_fill d.rule && begins next) w
+      ∙ (ap (λ m. nat_le atom_limit (m + cost_atoms (option_map term_of d.rule.cost)) && begins next) e
+      ∙ ap (λ m. nat_le atom_limit (n + m) && begins next) (ap cost_atoms same ∙ cost_counted names cost)))
 
   -- an atom is wanted
-  wanting_full : (names : List Name) (c : Conjoined) → atoms_in d.rule.guard ≡ atoms_before names c → is_wanting d.rule.guard.place ≡ true → is_full (LeftSide c beginning) && begins next ≡ atoms_full d.rule.guard next
-  wanting_full names NoAtoms a w = counted 0 (sym (length-terms atom_of d.rule.guard.atoms.items) ∙ ap length a) w
-  wanting_full names (JointAfter atoms joint) a w = counted (count_of atoms) (as_many_atoms names atoms d.rule.guard a) w
+  wanting_full : (l : Led) (names : List Name) (c : Conjoined) → KnowsLed ts l d → atoms_in d.rule.guard ≡ atoms_before names c → is_wanting d.rule.guard.place ≡ true → is_full (atoms_of_cost l.cost) (LeftSide c beginning) && begins next ≡ atoms_full d.rule next
+  wanting_full l names NoAtoms k a w = few_beside (begins next) l.cost ∙ counted 0 l.cost (left_names l.left) (sym (length-terms atom_of d.rule.guard.atoms.items) ∙ ap length a) k.cost_is w
+  wanting_full l names (JointAfter atoms joint) k a w = counted (count_of atoms) l.cost (left_names l.left) (as_many_atoms names atoms d.rule.guard a) k.cost_is w
 
-  wanting_shows : (fence : Fence) (h : Headed) (g : GuardFront) → IsWanting (headed_names h) g (names_in d.rule.variables) d.rule.guard → next_faults at (guarded fence h g) next behind ≡ guard_faults (is_read d.rule.guard.place) fence d at next behind
-  wanting_shows fence h g k =
+  wanting_shows : (fence : Fence) (h : Headed) (g : GuardFront) → KnowsLed ts h.led d → IsWanting (headed_names h) g (names_in d.rule.variables) d.rule.guard → next_faults at (guarded fence h g) next behind ≡ guard_faults (is_read d.rule.guard.place) fence d at next behind
+  wanting_shows fence h g led k =
       subst (λ g. next_faults at (guarded fence h g) next behind ≡ guard_faults (is_read d.rule.guard.place) fence d at next behind) (sym k.front_is)
       (unread_shows fence h (LeftSide k.conjoined beginning) (no_rule fence h (LeftSide k.conjoined beginning) (λ a b. refl))
-      (wanting_full (names_in d.rule.variables) k.conjoined k.atoms_are (ap is_wanting k.place_is)) (ap is_read k.place_is)
+      (wanting_full h.led (names_in d.rule.variables) k.conjoined led k.atoms_are (ap is_wanting k.place_is)) (ap is_read k.place_is)
       (subst (λ ns. Stands ns beginning (names_in d.rule.variables) d.rule.guard.expression) k.names_are (fresh_stands (names_in d.rule.variables) d.rule.guard.expression k.expression))
       (ap is_wanting k.place_is))
 
@@ -211,15 +239,15 @@ module _ (ts : Tokens) (at : ℕ) (next behind : Option Piece) (d : Draft) (digi
   positive : (n : ℕ) → 0 < n → (n == 0) ≡ false
   positive n h = grind (arith, nat_tests)
 
-  begun_full : (c : Conjoined) (e : expression.Front) → (token_count e == 0) ≡ false → is_full (LeftSide c e) ≡ false
-  begun_full NoAtoms e b = refl
-  begun_full (JointAfter atoms joint) e b = rw b refl
+  begun_full : (others : ℕ) (c : Conjoined) (e : expression.Front) → (token_count e == 0) ≡ false → is_full others (LeftSide c e) ≡ false
+  begun_full others NoAtoms e b = refl
+  begun_full others (JointAfter atoms joint) e b = rw b refl
 
   left_shows : (fence : Fence) (h : Headed) (g : GuardFront) → IsInLeft (inner_next next) (headed_names h) g (names_in d.rule.variables) d.rule.guard → next_faults at (guarded fence h g) next behind ≡ guard_faults (is_read d.rule.guard.place) fence d at next behind
   left_shows fence h g k =
       subst (λ g. next_faults at (guarded fence h g) next behind ≡ guard_faults (is_read d.rule.guard.place) fence d at next behind) (sym k.front_is)
       (unread_shows fence h (LeftSide k.conjoined k.read) (no_rule fence h (LeftSide k.conjoined k.read) (λ a b. ap (ended k.conjoined) (k.follows (word_rests next a))))
-      (ap (λ v. v && begins next) (begun_full k.conjoined k.read begun) ∙ sym (ap (λ v. v && nat_le atom_limit (length d.rule.guard.atoms.items) && begins next) wanting)) (ap is_read k.place_is) k.expression
+      (ap (λ v. v && begins next) (begun_full (atoms_of_cost h.led.cost) k.conjoined k.read begun) ∙ sym (ap (λ v. v && atoms_fill d.rule && begins next) wanting)) (ap is_read k.place_is) k.expression
       (wanting ∙ sym begun))
     where
       begun : (token_count k.read == 0) ≡ false
@@ -235,7 +263,7 @@ module _ (ts : Tokens) (at : ℕ) (next behind : Option Piece) (d : Draft) (digi
       (unread_shows fence h (RightSide k.right.conjoined k.right.left k.right.sign k.right.read)
       (no_rule fence h (RightSide k.right.conjoined k.right.left k.right.sign k.right.read)
       (λ a b. ap (λ o. ended k.right.conjoined (compared k.right.left k.right.sign o)) (k.goes_on (sym (ends_is k.right.read next) ∙ b))))
-      (sym (ap (λ v. v && nat_le atom_limit (length d.rule.guard.atoms.items) && begins next) wanting)) (ap is_read k.right.place_is) k.right.expression wanting)
+      (sym (ap (λ v. v && atoms_fill d.rule && begins next) wanting)) (ap is_read k.right.place_is) k.right.expression wanting)
     where
       wanting : is_wanting d.rule.guard.place ≡ false
       wanting = ap is_wanting k.right.place_is
@@ -266,20 +294,20 @@ module _ (ts : Tokens) (at : ℕ) (next behind : Option Piece) (d : Draft) (digi
           (λ i. is_word next && word_ends (expression_in g) next stops i && can_end (k.finish_is i) && nat_le rule_limit (suc (sym rules i)))
           ∙ kept (is_word next) (nat_le rule_limit (suc (length d.rules.items)))
 
-      by : (fence : Fence) → fault_if (rules_shown fence h g next) (Limit TooManyRules) at ++ fault_if (is_full g && begins next) (Limit TooManyAtoms) at ++ fault_if (long_name next) (Limit LongName) at ++ token_faults at (open_expression_in (headed_names h) g) next behind
+      by : (fence : Fence) → fault_if (rules_shown fence h g next) (Limit TooManyRules) at ++ fault_if (is_full (atoms_of_cost h.led.cost) g && begins next) (Limit TooManyAtoms) at ++ fault_if (long_name next) (Limit LongName) at ++ token_faults at (open_expression_in (headed_names h) g) next behind
           ≡ behind_atoms_faults fence d at next
       by fences.Mark =
-          (λ i. fault_if (shows_rules i) (Limit TooManyRules) at ++ fault_if (full_never g k.atoms k.finish_is i && begins next) (Limit TooManyAtoms) at ++ fault_if (long_name next) (Limit LongName) at ++ silent i)
+          (λ i. fault_if (shows_rules i) (Limit TooManyRules) at ++ fault_if (full_never (atoms_of_cost h.led.cost) g k.atoms k.finish_is i && begins next) (Limit TooManyAtoms) at ++ fault_if (long_name next) (Limit LongName) at ++ silent i)
           ∙ (append-nil (rule_faults d at next ++ [] ++ fault_if (long_name next) (Limit LongName) at) ∙ ap (λ xs. xs ++ fault_if (long_name next) (Limit LongName) at) (append-nil (rule_faults d at next)))
       by fences.Square =
-          (λ i. fault_if (full_never g k.atoms k.finish_is i && begins next) (Limit TooManyAtoms) at ++ fault_if (long_name next) (Limit LongName) at ++ silent i) ∙ append-nil (fault_if (long_name next) (Limit LongName) at)
+          (λ i. fault_if (full_never (atoms_of_cost h.led.cost) g k.atoms k.finish_is i && begins next) (Limit TooManyAtoms) at ++ fault_if (long_name next) (Limit LongName) at ++ silent i) ∙ append-nil (fault_if (long_name next) (Limit LongName) at)
 
-  settled_shows : (fence : Fence) (h : Headed) (g : GuardFront) → length d.rules.items ≡ length h.led.ruling.rules → IsSettled (inner_next next) (headed_names h) g (names_in d.rule.variables) d.rule.guard
+  settled_shows : (fence : Fence) (h : Headed) (g : GuardFront) → KnowsLed ts h.led d → length d.rules.items ≡ length h.led.ruling.rules → IsSettled (inner_next next) (headed_names h) g (names_in d.rule.variables) d.rule.guard
       → next_faults at (guarded fence h g) next behind ≡ guard_faults (is_read d.rule.guard.place) fence d at next behind
-  settled_shows fence h g rules (settled_none k) = wanting_shows fence h g k
-  settled_shows fence h g rules (settled_left k) = left_shows fence h g k
-  settled_shows fence h g rules (settled_right k) = right_shows fence h g k
-  settled_shows fence h g rules (settled_end k) = ended_shows fence h g rules k
+  settled_shows fence h g led rules (settled_none k) = wanting_shows fence h g led k
+  settled_shows fence h g led rules (settled_left k) = left_shows fence h g k
+  settled_shows fence h g led rules (settled_right k) = right_shows fence h g k
+  settled_shows fence h g led rules (settled_end k) = ended_shows fence h g rules k
 
   -- the front is that of the guard
   front_shows : (fence : Fence) (h : Headed) (g : GuardFront) (f : Front) → IsGuard next fence h g f → next_faults at f next behind ≡ next_faults at (guarded fence h g) next behind
@@ -309,4 +337,4 @@ module _ (ts : Tokens) (at : ℕ) (next behind : Option Piece) (d : Draft) (digi
   tail_next tails.Targeted f k = rw (k.1.0, as_many_rules k.0.led.ruling.rules d k.1.1.0.headed.led.rules_are) (simp append-nil)
   tail_next tails.GuardMarked f k = rw k.1.0 (marked_shows k.0 k.1.1 (as_many_rules k.0.led.ruling.rules d k.1.1.headed.led.rules_are) (is_word next) (is_open behind) refl refl)
   tail_next tails.SquareOpened f k = rw k.1.0 (fresh_shows k.0 k.1.1)
-  tail_next (tails.Guarding fence) f k = front_shows fence k.0 k.1.0 f k.1.1.0 ∙ settled_shows fence k.0 k.1.0 (as_many_rules k.0.led.ruling.rules d k.1.1.1.0.led.rules_are) k.1.1.1.1.1
+  tail_next (tails.Guarding fence) f k = front_shows fence k.0 k.1.0 f k.1.1.0 ∙ settled_shows fence k.0 k.1.0 k.1.1.1.0.led (as_many_rules k.0.led.ruling.rules d k.1.1.1.0.led.rules_are) k.1.1.1.1.1

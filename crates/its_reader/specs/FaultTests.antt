@@ -1,11 +1,13 @@
 -- What the code tests before it notes a fault.
-use Rattle.std.specs.Prelude.{ℕ, suc, Bool, true, false, ◌&&◌, ◌||◌, ◌==◌, if◌then◌else◌, not, IsTrue, ⊤, nat_lt}
-use Rattle.std.specs.Prelude.{nat_le, is_some, [], ◌++◌, length, codes, Option, Some, None}
+use Rattle.std.specs.Prelude.{ℕ, suc, ◌+◌, Bool, true, false, ◌&&◌, ◌||◌, ◌==◌, if◌then◌else◌, not, IsTrue, ⊤, nat_lt}
+use Rattle.std.specs.Prelude.{nat_le, is_some, [], ◌++◌, length, codes, Option, Some, None, option_map}
 use Rattle.model.specs.Programs.{Name}
 use Rattle.std.specs.List.{list_all}
 use Rattle.std.specs.Char.{is_ascii_digit}
 use Rattle.model.specs.Limits.{name_limit, place_limit, rule_limit, variable_limit, token_limit, coefficient_limit}
 use Rattle.model.specs.Limits.{atom_limit}
+use Rattle.poly_terms.specs.Views.{term_of}
+use Rattle.its_model.specs.Valid.{cost_atoms}
 use Rattle.its_text.specs.expr_text.Pieces as inner
 use Rattle.its_text.specs.expr_text.Terms.{number_of}
 use Rattle.its_text.specs.expr_text.TermFronts.{goes_on_from}
@@ -29,6 +31,8 @@ use Rattle.its_reader.specs.declared.draft.RuleDraft.{RuleDraft}
 use Rattle.its_reader.specs.declared.draft.Draft.{Draft}
 use Rattle.its_reader.specs.declared.place.LeftPlace.{LeftPlace}
 use Rattle.its_reader.specs.declared.place.LeftPlace.TheVariants as lefts
+use Rattle.its_reader.specs.declared.place.CostPlace.{CostPlace}
+use Rattle.its_reader.specs.declared.place.CostPlace.TheVariants as costs
 use Rattle.its_reader.specs.declared.place.RightPlace.{RightPlace}
 use Rattle.its_reader.specs.declared.place.RightPlace.TheVariants as rights
 use Rattle.its_reader.specs.declared.place.Fence.{Fence}
@@ -176,6 +180,15 @@ abbrev pub going_if : Bool → RuleDraft → ℕ → Option Piece → FaultList
 going_if true r at next = step_faults r r.expression false at (tests.inner_next next)
 going_if false r at next = []
 
+-- a cost is being read
+abbrev pub is_costing : CostPlace → Bool
+is_costing costs.Costing = true
+is_costing _ = false
+
+-- what the next token within the braces of a cost shows
+abbrev pub cost_faults : CostPlace → RuleDraft → ℕ → Option Piece → FaultList
+cost_faults place r at next = fault_if (long_name next) (Limit LongName) at ++ going_if (is_costing place) r at next
+
 -- what the next token of a right term shows
 abbrev pub right_faults : RightPlace → RuleDraft → ℕ → Option Piece → Option Piece → FaultList
 right_faults place r at next behind =
@@ -210,12 +223,16 @@ abbrev pub mark_faults : Bool → Draft → ℕ → Option Piece → Option Piec
 mark_faults true d at next behind = next_rule_faults d at next
 mark_faults false d at next behind = atom_faults d.rule at next behind
 
--- an atom begins behind as many as the limit
-abbrev pub atoms_full : GuardReader → Option Piece → Bool
-atoms_full r next = is_wanting r.place && nat_le atom_limit (length r.atoms.items) && begins next
+-- there are as many atoms as the limit, among which a cost counts as one
+abbrev pub atoms_fill : RuleDraft → Bool
+atoms_fill r = nat_le atom_limit (length r.guard.atoms.items + cost_atoms (option_map term_of r.cost))
+
+-- an atom begins behind them
+abbrev pub atoms_full : RuleDraft → Option Piece → Bool
+atoms_full r next = is_wanting r.guard.place && atoms_fill r && begins next
 
 abbrev pub another_atom_faults : RuleDraft → ℕ → Option Piece → Option Piece → FaultList
-another_atom_faults r at next behind = fault_if (atoms_full r.guard next) (Limit TooManyAtoms) at
+another_atom_faults r at next behind = fault_if (atoms_full r next) (Limit TooManyAtoms) at
     ++ atom_faults r at next behind
 
 -- what stands behind atoms that have ended
@@ -240,6 +257,7 @@ place_faults (places.InSections place) d at next behind =
     fault_if (repeats_in place d.sections next behind) RepeatedSection at
     ++ fault_if (long_name next) (Limit LongName) at
 place_faults (places.InLeft place) d at next behind = left_faults place d at next behind
+place_faults (places.InCost place) d at next behind = cost_faults place d.rule at next
 place_faults (places.InRight place) d at next behind = right_faults place d.rule at next behind
 place_faults (places.InTail place) d at next behind = tail_faults place d at next behind
 

@@ -1,5 +1,5 @@
 -- What the parts of the code promise where something ends before the next piece.
-use Rattle.std.specs.Prelude.{◌≡◌, ℕ, Bool, true, false, not, ◌&&◌, [], ◌∷◌, ◌++◌, map, Option, Some, None}
+use Rattle.std.specs.Prelude.{◌≡◌, ℕ, Bool, true, false, not, ◌&&◌, [], ◌∷◌, ◌++◌, map, Option, Some, None, option_map}
 use Rattle.model.specs.Terms.{Term}
 use Rattle.poly_terms.specs.Views.{term_of}
 use Rattle.poly_terms.specs.Faults.{first_fault}
@@ -14,11 +14,14 @@ use Rattle.its_text.specs.Kinds.{ArityDiffers}
 use Rattle.its_text.specs.FrontFaults.{FaultList, fault_if, expansion_faults}
 use Rattle.its_reader.specs.Tests.{inner_next}
 use Rattle.its_reader.specs.Faults.{maybe_kind}
+use Rattle.its_reader.specs.FaultTests.{is_costing}
 use Rattle.its_reader.specs.TailSteps.{StaysInGuard}
 use Rattle.its_reader.specs.declared.fault.Kind.{Kind}
 use Rattle.its_reader.specs.declared.place.Wrap.{Wrap}
 use Rattle.its_reader.specs.declared.place.LeftPlace.{LeftPlace}
 use Rattle.its_reader.specs.declared.place.LeftPlace.TheVariants as lefts
+use Rattle.its_reader.specs.declared.place.CostPlace.{CostPlace}
+use Rattle.its_reader.specs.declared.place.CostPlace.TheVariants as costs
 use Rattle.its_reader.specs.declared.place.RightPlace.{RightPlace}
 use Rattle.its_reader.specs.declared.place.RightPlace.TheVariants as rights
 use Rattle.its_reader.specs.declared.place.TailPlace.{TailPlace}
@@ -49,7 +52,7 @@ abbrev pub is_guarding : TailPlace → Bool
 is_guarding (tails.Guarding fence) = true
 is_guarding _ = false
 
--- an argument ends before the next piece
+-- an argument or a cost ends before the next piece
 abbrev pub ends_in : Expression → Option inner.Piece → Bool
 ends_in e next = can_end e && not (goes_on e next)
 
@@ -72,6 +75,7 @@ pub record AfterArgument (old : RuleDraft) (refusal : Option Kind) (new : RuleDr
   pub source : new.source ≡ old.source
   pub variables : new.variables ≡ old.variables
   pub guard : new.guard ≡ old.guard
+  pub cost : new.cost ≡ old.cost
 
 abbrev pub ArgumentSettles : Bool → Wrap → RuleDraft → Place → Option Kind → RuleDraft → Type 0
 ArgumentSettles true w old now refusal new = (now ≡ places.InRight (rights.Argued w)) × AfterArgument old refusal new
@@ -81,6 +85,28 @@ ArgumentSettles false w old now refusal new = (now ≡ places.InRight (rights.Ar
 pub record ArgumentIsSettled (w : Wrap) (old : RuleDraft) (next : Option inner.Piece) (now : Place)
     (refusal : Option Kind) (new : RuleDraft) : Type 0 where
   pub by : ArgumentSettles (ends_in old.expression next) w old now refusal new
+
+-- a cost has ended
+pub record AfterCost (old : RuleDraft) (refusal : Option Kind) (new : RuleDraft) : Type 0 where
+  pub made : Term
+  pub ends : Ends old.expression made
+  pub clears : Clears old.expression new.expression
+  pub cost : option_map term_of new.cost ≡ Some made
+  pub found_is : (at : ℕ) → maybe_kind refusal at ≡ expansion_faults at (first_fault made)
+  pub left : new.left ≡ old.left
+  pub source : new.source ≡ old.source
+  pub variables : new.variables ≡ old.variables
+  pub updates : new.updates ≡ old.updates
+  pub guard : new.guard ≡ old.guard
+
+-- within the braces of a cost
+abbrev pub CostSettlesBy : Bool → CostPlace → RuleDraft → Place → Option Kind → RuleDraft → Type 0
+CostSettlesBy true place old now refusal new = (now ≡ places.InCost costs.Costed) × AfterCost old refusal new
+CostSettlesBy false place old now refusal new = (now ≡ places.InCost place) × ((refusal ≡ None) × (new ≡ old))
+
+pub record CostSettles (place : CostPlace) (old : RuleDraft) (next : Option Piece) (now : Place)
+    (refusal : Option Kind) (new : RuleDraft) : Type 0 where
+  pub by : CostSettlesBy (is_costing place && ends_in old.expression (inner_next next)) place old now refusal new
 
 -- in a right term
 abbrev pub RightSettlesBy : Option Wrap → RightPlace → RuleDraft → Option Piece → Place → Option Kind → RuleDraft

@@ -12,6 +12,7 @@ use Rattle.its_reader.specs.Standing.{KnowsRuling, IsFreshRule}
 use Rattle.its_reader.specs.declared.place.LeftPlace.TheVariants as lefts
 use Rattle.its_reader.specs.declared.place.Place.TheVariants as places
 use Rattle.its_reader.specs.declared.place.RightPlace.TheVariants as rights
+use Rattle.its_reader.specs.declared.place.CostPlace.{CostPlace}
 use Rattle.its_reader.specs.declared.place.Wrap.{Wrap}
 use Rattle.its_reader.specs.declared.draft.RuleDraft.{RuleDraft}
 use Rattle.its_text.specs.expr_text.Pieces as inner
@@ -24,7 +25,7 @@ use Rattle.its_text.specs.Fronts.{Front, front_pieces}
 use Rattle.its_text.specs.Answers.{at_index}
 use Rattle.its_text.specs.Steps.{step}
 use Rattle.its_text.specs.FrontFaults.{Tokens}
-use Rattle.its_reader.specs.Places.{InSections, InLeft, RightSettled, TailSettled, LeadsTo}
+use Rattle.its_reader.specs.Places.{InSections, InLeft, CostSettled, RightSettled, TailSettled, LeadsTo}
 use Rattle.its_reader.specs.declared.draft.Draft.{Draft}
 use Rattle.its_reader.specs.declared.place.SectionPlace.{SectionPlace}
 use Rattle.its_reader.specs.declared.place.LeftPlace.{LeftPlace}
@@ -76,6 +77,7 @@ pub record StaysAround (old new : Draft) : Type 0 where
   pub updates : new.rule.updates ≡ old.rule.updates
   pub expression : new.rule.expression ≡ old.rule.expression
   pub guard : new.rule.guard ≡ old.rule.guard
+  pub cost : new.rule.cost ≡ old.rule.cost
 
 -- a piece names a left argument, or leads nowhere
 abbrev pub Named : Option Name → Option Place → Draft → Draft → Type 0
@@ -94,6 +96,7 @@ pub record StaysBeside (old new : Draft) : Type 0 where
   pub updates : new.rule.updates ≡ old.rule.updates
   pub expression : new.rule.expression ≡ old.rule.expression
   pub guard : new.rule.guard ≡ old.rule.guard
+  pub cost : new.rule.cost ≡ old.rule.cost
 
 -- a symbol is numbered that a term with so many arguments names
 pub record IsNumbered (name : Name) (arity : ℕ) (old new : Draft) : Type 0 where
@@ -127,11 +130,18 @@ pub record StaysBut (old new : Draft) : Type 0 where
   pub updates : new.rule.updates ≡ old.rule.updates
   pub expression : new.rule.expression ≡ old.rule.expression
   pub guard : new.rule.guard ≡ old.rule.guard
+  pub cost : new.rule.cost ≡ old.rule.cost
 
 -- a literal that a piece is holds digits, and isn't too large
 abbrev pub IsModestPiece : Piece → Type 0
 IsModestPiece (In p) = IsModest p
 IsModestPiece _ = ⊤
+
+-- within the braces of a cost
+pub record CostLeads (place : CostPlace) (old : Draft) (p : Piece) (result : Option Place) (new : Draft) : Type 0 where
+  pub together : (ts : Tokens) (f : Front) → CostSettled ts (Some p) place old f → GoTogether (step f p) result
+  pub each : (ts : Tokens) (next : Option Piece) (f : Front) → CostSettled ts (Some p) place old f
+      → IsModestPiece p → LeadsTo ts next (step f p) result new
 
 -- from the arrow to the end of the target
 pub record RightLeads (place : RightPlace) (old : Draft) (p : Piece) (result : Option Place)
@@ -164,9 +174,10 @@ pub record StaysInRule (old new : RuleDraft) : Type 0 where
   pub target : new.target ≡ old.target
   pub updates : new.updates ≡ old.updates
   pub guard : new.guard ≡ old.guard
+  pub cost : new.cost ≡ old.cost
 
--- an inner piece goes on with the argument, or leads nowhere
-pub record GoesOn (w : Wrap) (old : Draft) (p : inner.Piece) (new : Draft) : Type 0 where
+-- an inner piece goes on with the argument or the cost, or leads nowhere
+pub record GoesOn (old : Draft) (p : inner.Piece) (new : Draft) : Type 0 where
   pub leads : Leads (names_in old.rule.variables) old.rule.expression p
       (names_in new.rule.variables) new.rule.expression
   pub stays : StaysInRule old.rule new.rule
@@ -174,17 +185,18 @@ pub record GoesOn (w : Wrap) (old : Draft) (p : inner.Piece) (new : Draft) : Typ
   pub rules : new.rules ≡ old.rules
   pub symbols : new.symbols ≡ old.symbols
 
-abbrev pub Takes : Bool → Wrap → Draft → inner.Piece → Option Place → Draft → Type 0
-Takes true w old p result new = (result ≡ Some (places.InRight (rights.Arguing w))) × GoesOn w old p new
-Takes false w old p result new = (result ≡ None) × (new ≡ old)
+abbrev pub Takes : Bool → Place → Draft → inner.Piece → Option Place → Draft → Type 0
+Takes true within old p result new = (result ≡ Some within) × GoesOn old p new
+Takes false within old p result new = (result ≡ None) × (new ≡ old)
 
-abbrev pub TakesPiece : Wrap → Draft → Piece → Option Place → Draft → Type 0
-TakesPiece w old (In p) result new = Takes (goes_on_from (front_of old.rule.expression).outer
-    (front_of old.rule.expression).operand p) w old p result new
-TakesPiece w old _ result new = (result ≡ None) × (new ≡ old)
+abbrev pub TakesPiece : Place → Draft → Piece → Option Place → Draft → Type 0
+TakesPiece within old (In p) result new = Takes (goes_on_from (front_of old.rule.expression).outer
+    (front_of old.rule.expression).operand p) within old p result new
+TakesPiece within old _ result new = (result ≡ None) × (new ≡ old)
 
-pub record ArgumentTakes (w : Wrap) (old : Draft) (p : Piece) (result : Option Place) (new : Draft) : Type 0 where
-  pub each : TakesPiece w old p result new
+pub record ExpressionTakes (within : Place) (old : Draft) (p : Piece) (result : Option Place)
+    (new : Draft) : Type 0 where
+  pub each : TakesPiece within old p result new
 
 -- the right term has ended
 pub record AfterRight (old new : Draft) : Type 0 where

@@ -10,16 +10,16 @@ use Rattle.expr_reader.specs.Variables.{names_in}
 use Rattle.expr_reader.specs.Standing as expressions
 use Rattle.expr_reader.specs.GuardStanding.{IsWanting, Reads, IsSettled}
 use Rattle.its_text.specs.Pieces.{Piece, open_bracket}
-use Rattle.its_text.specs.Written.{Section, Start, RightTerm, Marked, BehindMark}
+use Rattle.its_text.specs.Written.{Section, Start, LeftTerm, RightTerm, Marked, BehindMark}
 use Rattle.its_text.specs.Fronts as fronts
 use Rattle.its_text.specs.Fronts.{Front, Ruling, Led, Aimed, Headed, ruling_with}
 use Rattle.its_text.specs.Steps.{guard_named}
 use Rattle.its_text.specs.FrontFaults.{Tokens, other_arity, is_open, ends_expression, bare_differs}
-use Rattle.its_text.specs.Numbering.{with_right, left_names}
-use Rattle.its_text.specs.FrontNames.{symbols_behind, names_with, headed_names}
+use Rattle.its_text.specs.Numbering.{with_right, left_names, arrow_names}
+use Rattle.its_text.specs.FrontNames.{symbols_led, symbols_behind, names_with, headed_names}
 use Rattle.its_reader.specs.Tests.{inner_next}
-use Rattle.its_reader.specs.Standing.{KnowsBetween, KnowsRuling, KnowsSource, KnowsLeft, KnowsAimed, KnowsHeaded}
-use Rattle.its_reader.specs.Standing.{IsFreshRule}
+use Rattle.its_reader.specs.Standing.{KnowsBetween, KnowsRuling, KnowsSource, KnowsSymbols, KnowsLed, KnowsLeft}
+use Rattle.its_reader.specs.Standing.{KnowsAimed, KnowsHeaded, IsFreshRule, without_cost}
 use Rattle.its_reader.specs.declared.draft.Draft.{Draft}
 use Rattle.its_reader.specs.declared.place.Wrap.{Wrap}
 use Rattle.its_reader.specs.declared.place.Wrap.TheVariants as wraps
@@ -29,6 +29,8 @@ use Rattle.its_reader.specs.declared.place.SectionPlace.{SectionPlace}
 use Rattle.its_reader.specs.declared.place.SectionPlace.TheVariants as sections
 use Rattle.its_reader.specs.declared.place.LeftPlace.{LeftPlace}
 use Rattle.its_reader.specs.declared.place.LeftPlace.TheVariants as lefts
+use Rattle.its_reader.specs.declared.place.CostPlace.{CostPlace}
+use Rattle.its_reader.specs.declared.place.CostPlace.TheVariants as costs
 use Rattle.its_reader.specs.declared.place.RightPlace.{RightPlace}
 use Rattle.its_reader.specs.declared.place.RightPlace.TheVariants as rights
 use Rattle.its_reader.specs.declared.place.TailPlace.{TailPlace}
@@ -69,8 +71,30 @@ InLeft ts next lefts.LeftRead d f = (r : Ruling) × ((name : Name) × ((a : Name
     × ((f ≡ fronts.LeftRead r name a earlier) × KnowsSource ts r name (a ∷ earlier) d))))
 InLeft ts next lefts.LeftParted d f = (r : Ruling) × ((name : Name) × ((a : Name) × ((earlier : List Name)
     × ((f ≡ fronts.LeftParted r name a earlier) × KnowsSource ts r name (a ∷ earlier) d))))
-InLeft ts next lefts.LeftShut d f = (l : Led) × ((f ≡ fronts.LeftShut l) × (KnowsLeft ts l d
-    × (d.rule.differs ≡ other_arity (symbols_behind l) l.left.name (length l.left.arguments))))
+InLeft ts next lefts.LeftShut d f = (r : Ruling) × ((t : LeftTerm) × ((f ≡ fronts.LeftShut r t)
+    × (KnowsLeft ts (without_cost r t) d
+    × (d.rule.differs ≡ other_arity (symbols_led r t) t.name (length t.arguments)))))
+
+-- some of a cost has been read
+pub record IsCosting (ts : Tokens) (r : Ruling) (t : LeftTerm) (e : expression.Front) (d : Draft) : Type 0 where
+  pub led : KnowsLed ts (without_cost r t) d
+  pub symbols : KnowsSymbols (symbols_led r t) d.symbols
+  pub updates : d.rule.updates.items ≡ []
+  pub guard : (before : List Name) → IsWanting before guards.no_atoms before d.rule.guard
+  pub expression : expressions.Stands (left_names t) e (names_in d.rule.variables) d.rule.expression
+
+-- a cost has ended before the next piece
+pub record IsCosted (ts : Tokens) (next : Option Piece) (r : Ruling) (t : LeftTerm) (e : expression.Front) (c : Sum)
+    (d : Draft) : Type 0 where
+  pub finish_is : expression_steps.finish e ≡ Some c
+  pub ends : ends_expression e next ≡ true
+  pub left : KnowsLeft ts (record { ruling = r; left = t; cost = Some c }) d
+
+-- within the braces of a cost
+abbrev pub InCost : Tokens → CostPlace → Draft → Front → Type 0
+InCost ts costs.Costing d f = (r : Ruling) × ((t : LeftTerm) × ((e : expression.Front) × ((f ≡ fronts.Costing r t e)
+    × IsCosting ts r t e d)))
+InCost ts costs.Costed d f = ⊥
 
 -- where a right term stands
 abbrev pub wrap_of : Wrap → fronts.Wrap
@@ -86,7 +110,7 @@ behind_wrap wraps.Alone = places.InTail tails.Targeted
 pub record IsAimed (ts : Tokens) (w : Wrap) (a : Aimed) (d : Draft) : Type 0 where
   pub wrap_is : a.wrap ≡ wrap_of w
   pub aimed : KnowsAimed ts a [] d
-  pub names_are : names_in d.rule.variables ≡ left_names a.led.left
+  pub names_are : names_in d.rule.variables ≡ arrow_names a.led.left a.led.cost
   pub expression : expressions.IsFresh d.rule.expression
 
 -- some of an argument behind others has been read
@@ -154,6 +178,15 @@ TailSettled ts next (tails.Guarding fence) d f =
     × (expressions.IsFresh d.rule.expression
     × IsSettled (inner_next next) (headed_names h) g (names_in d.rule.variables) d.rule.guard))))
 
+-- a cost that doesn't end before the next piece, and one that has ended
+abbrev pub CostSettled : Tokens → Option Piece → CostPlace → Draft → Front → Type 0
+CostSettled ts next costs.Costing d f =
+    (r : Ruling) × ((t : LeftTerm) × ((e : expression.Front) × ((f ≡ fronts.Costing r t e)
+    × (IsCosting ts r t e d × (ends_expression e next ≡ true → expression_steps.finish e ≡ None)))))
+CostSettled ts next costs.Costed d f =
+    (r : Ruling) × ((t : LeftTerm) × ((e : expression.Front) × ((c : Sum) × ((f ≡ fronts.Costing r t e)
+    × IsCosted ts next r t e c d))))
+
 -- an argument that doesn't end before the next piece, and one that has ended
 abbrev pub RightSettled : Tokens → Option Piece → RightPlace → Draft → Front → Type 0
 RightSettled ts next (rights.Arguing w) d f =
@@ -168,12 +201,14 @@ RightSettled ts next place d f = InRight ts next place d f
 abbrev pub StandsAt : Tokens → Option Piece → Place → Draft → Front → Type 0
 StandsAt ts next (places.InSections place) d f = InSections ts place d f
 StandsAt ts next (places.InLeft place) d f = InLeft ts next place d f
+StandsAt ts next (places.InCost place) d f = InCost ts place d f
 StandsAt ts next (places.InRight place) d f = InRight ts next place d f
 StandsAt ts next (places.InTail place) d f = InTail ts next place d f
 
 abbrev pub SettledAt : Tokens → Option Piece → Place → Draft → Front → Type 0
 SettledAt ts next (places.InSections place) d f = InSections ts place d f
 SettledAt ts next (places.InLeft place) d f = InLeft ts next place d f
+SettledAt ts next (places.InCost place) d f = CostSettled ts next place d f
 SettledAt ts next (places.InRight place) d f = RightSettled ts next place d f
 SettledAt ts next (places.InTail place) d f = TailSettled ts next place d f
 

@@ -1,11 +1,11 @@
 -- What the code knows of a text stands for a written front: the sections, the rules so far, and the rule that is read.
-use Rattle.std.specs.Prelude.{◌≡◌, ℕ, ◌+◌, List, [], ◌∷◌, ◌++◌, map, length, Option, Some, None, ⊤}
+use Rattle.std.specs.Prelude.{◌≡◌, ℕ, ◌+◌, List, [], ◌∷◌, ◌++◌, map, length, Option, Some, None, option_map, ⊤}
 use Rattle.model.specs.Programs as plain
 use Rattle.model.specs.Programs.{Name, Symbol}
 use Rattle.model.specs.Terms.{Term}
 use Rattle.its_model.specs.Views.{rule_of}
 use Rattle.its_text.specs.expr_text.Trees.{Sum}
-use Rattle.its_text.specs.expr_text.Terms.{sum_term}
+use Rattle.its_text.specs.expr_text.Terms.{with_sum, sum_term}
 use Rattle.its_text.specs.expr_text.TermFronts.{limited}
 use Rattle.expr_reader.specs.Variables.{names_in}
 use Rattle.expr_reader.specs.Standing.{IsFresh}
@@ -13,9 +13,10 @@ use Rattle.expr_reader.specs.GuardStanding.{IsWanting, limited_atom}
 use Rattle.its_text.specs.expr_text.GuardFronts.{no_atoms}
 use Rattle.poly_terms.specs.Views.{term_of}
 use Rattle.its_text.specs.Fronts.{Aimed, Headed}
-use Rattle.its_text.specs.Written.{WrittenRule, Section, Goal, Start, Variables, Rules, Comment, pieces_behind}
-use Rattle.its_text.specs.Numbering.{names_of, symbols_of, with_right, number_of, left_names, with_sums, term_in}
-use Rattle.its_text.specs.Numbering.{rules_of, rule_numbered}
+use Rattle.its_text.specs.Written.{LeftTerm, WrittenRule, Section, Goal, Start, Variables, Rules, Comment}
+use Rattle.its_text.specs.Written.{pieces_behind}
+use Rattle.its_text.specs.Numbering.{names_of, symbols_of, with_right, number_of, left_names, arrow_names, with_sums}
+use Rattle.its_text.specs.Numbering.{term_in, rules_of, rule_numbered}
 use Rattle.its_text.specs.Fronts.{Ruling, Led}
 use Rattle.its_text.specs.Answers.{at_index}
 use Rattle.its_text.specs.FrontFaults.{Tokens, has, is_goal, is_variables, is_rules}
@@ -69,6 +70,7 @@ limited_rule r = record {
   names = r.names;
   updates = map limited r.updates;
   guard = map limited_atom r.guard;
+  cost = option_map limited r.cost;
 }
 
 -- rules by numbers, each by the symbols once it is read
@@ -96,6 +98,7 @@ pub record IsFreshRule (r : RuleDraft) : Type 0 where
   pub updates : r.updates.items ≡ []
   pub expression : IsFresh r.expression
   pub guard : (before : List Name) → IsWanting before no_atoms before r.guard
+  pub cost : r.cost ≡ None
 
 -- between rules
 pub record KnowsRuling (ts : Tokens) (r : Ruling) (d : Draft) : Type 0 where
@@ -110,21 +113,32 @@ pub record KnowsSource (ts : Tokens) (r : Ruling) (name : Name) (arguments : Lis
   pub updates : d.rule.updates.items ≡ []
   pub expression : IsFresh d.rule.expression
   pub guard : (before : List Name) → IsWanting before no_atoms before d.rule.guard
+  pub cost : d.rule.cost ≡ None
 
--- the left term has been read
+-- a cost by numbers, over the variables once it is read
+abbrev pub cost_of : List Name → Option Sum → Option Term
+cost_of names None = None
+cost_of names (Some c) = Some (limited (sum_term (with_sum names c) c))
+
+-- the left term and its arrow have been read
 pub record KnowsLed (ts : Tokens) (l : Led) (d : Draft) : Type 0 where
   pub sections : KnowsSections ts l.ruling.sections d.sections
   pub rules_are : map rule_of d.rules.items ≡ rules_so_far l.ruling.rules
   pub source_is : d.rule.source ≡ number_of (symbols_behind l) l.left.name
   pub left_is : d.rule.left ≡ length l.left.arguments
+  pub cost_is : option_map term_of d.rule.cost ≡ cost_of (left_names l.left) l.cost
 
 pub record KnowsLeft (ts : Tokens) (l : Led) (d : Draft) : Type 0 where
   pub led : KnowsLed ts l d
   pub symbols : KnowsSymbols (symbols_behind l) d.symbols
-  pub arguments_are : names_in d.rule.variables ≡ left_names l.left
+  pub names_are : names_in d.rule.variables ≡ arrow_names l.left l.cost
   pub updates : d.rule.updates.items ≡ []
   pub expression : IsFresh d.rule.expression
   pub guard : (before : List Name) → IsWanting before no_atoms before d.rule.guard
+
+-- a left term whose arrow has no cost
+abbrev pub without_cost : Ruling → LeftTerm → Led
+without_cost r t = record { ruling = r; left = t; cost = None }
 
 -- right arguments by numbers, each over the variables once it is read
 abbrev pub updates_of : List Name → List Sum → List Term
@@ -136,7 +150,7 @@ pub record KnowsAimed (ts : Tokens) (a : Aimed) (arguments : List Sum) (d : Draf
   pub led : KnowsLed ts a.led d
   pub symbols : KnowsSymbols (symbols_behind a.led) d.symbols
   pub name_is : d.rule.name.now ≡ a.name
-  pub updates_are : map term_of d.rule.updates.items ≡ updates_of (left_names a.led.left) arguments
+  pub updates_are : map term_of d.rule.updates.items ≡ updates_of (arrow_names a.led.left a.led.cost) arguments
   pub guard : (before : List Name) → IsWanting before no_atoms before d.rule.guard
 
 -- the symbols once a target is read
@@ -148,4 +162,5 @@ pub record KnowsHeaded (ts : Tokens) (h : Headed) (d : Draft) : Type 0 where
   pub led : KnowsLed ts h.led d
   pub symbols : KnowsSymbols (symbols_headed h) d.symbols
   pub target_is : d.rule.target ≡ number_of (symbols_headed h) (term_in h.target).name
-  pub updates_are : map term_of d.rule.updates.items ≡ updates_of (left_names h.led.left) (term_in h.target).arguments
+  pub updates_are : map term_of d.rule.updates.items ≡ updates_of
+      (arrow_names h.led.left h.led.cost) (term_in h.target).arguments

@@ -1,6 +1,6 @@
 -- What the parts of the code behind a target promise: a whole rule ends, and a piece leads where it leads in a guard.
 use Rattle.std.specs.Prelude.{◌≡◌, ◌-◌, Bool, true, false, not, ◌&&◌, nat_lt, if◌then◌else◌, [], ◌∷◌, ◌++◌, map}
-use Rattle.std.specs.Prelude.{length, Option, Some, None}
+use Rattle.std.specs.Prelude.{length, Option, Some, None, option_map}
 use Rattle.std.specs.List.{list_all}
 use Rattle.std.specs.Char.{is_ascii_digit}
 use Rattle.model.specs.Programs as plain
@@ -45,6 +45,7 @@ rule_in r = record {
   names = names_in r.variables;
   updates = map term_of r.updates.items;
   guard = atoms_in r.guard;
+  cost = option_map term_of r.cost;
 }
 
 -- the whole of a rule has been read
@@ -111,6 +112,7 @@ pub record StaysInGuard (old new : RuleDraft) : Type 0 where
   pub target : new.target ≡ old.target
   pub updates : new.updates ≡ old.updates
   pub expression : new.expression ≡ old.expression
+  pub cost : new.cost ≡ old.cost
 
 pub record TakesMaybe (fence : Fence) (old : RuleDraft) (p behind : Option inner.Piece) (result : Option Place)
     (new : RuleDraft) : Type 0 where

@@ -3,9 +3,10 @@ use Rattle.std.specs.Prelude.{Bool, true, false, Option, Some, None}
 use Rattle.model.specs.Programs.{Name}
 use Rattle.text_core.specs.Names.{is_same}
 use Rattle.its_text.specs.expr_text.Pieces as inner
-use Rattle.its_text.specs.Pieces.{Piece, In, Comma, Arrow, GuardMark, SquareOpen, SquareClose, Remark}
+use Rattle.its_text.specs.Pieces.{Piece, In, Comma, Arrow, CostOpen, CostClose, GuardMark, SquareOpen, SquareClose}
+use Rattle.its_text.specs.Pieces.{Remark}
 
--- a piece is an opening bracket, a closing one, a comma, an arrow, what a comment says
+-- a piece is an opening bracket, a closing one, a comma, `->`
 abbrev pub opens : Piece → Bool
 opens (In inner.Open) = true
 opens _ = false
@@ -22,6 +23,16 @@ abbrev pub leads : Piece → Bool
 leads Arrow = true
 leads _ = false
 
+-- a piece is `-{`, `}>`
+abbrev pub opens_cost : Piece → Bool
+opens_cost CostOpen = true
+opens_cost _ = false
+
+abbrev pub closes_cost : Piece → Bool
+closes_cost CostClose = true
+closes_cost _ = false
+
+-- a piece is what a comment says
 abbrev pub remarks : Piece → Bool
 remarks (Remark bytes) = true
 remarks _ = false

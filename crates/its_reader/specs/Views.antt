@@ -6,8 +6,9 @@ use Rattle.expr_reader.specs.Views.{piece_of as inner_of}
 use Rattle.its_text.specs.Pieces as pieces
 use Rattle.its_text.specs.Lexing as lexing
 use Rattle.its_reader.specs.declared.piece.Piece.{Piece}
-use Rattle.its_reader.specs.declared.piece.Piece.TheVariants.{In, Comma, Arrow, GuardMark, SquareOpen, SquareClose}
-use Rattle.its_reader.specs.declared.piece.Piece.TheVariants.{Disjoining, Remark, Wrong, Strange}
+use Rattle.its_reader.specs.declared.piece.Piece.TheVariants.{In, Comma, Arrow, CostOpen, CostClose, GuardMark}
+use Rattle.its_reader.specs.declared.piece.Piece.TheVariants.{SquareOpen, SquareClose, Disjoining, Remark, Wrong}
+use Rattle.its_reader.specs.declared.piece.Piece.TheVariants.{Strange}
 use Rattle.its_reader.specs.declared.piece.Token.{Token}
 use Rattle.its_reader.specs.declared.lexer.Lexeme.{Lexeme}
 use Rattle.its_reader.specs.declared.lexer.Lexer.{Lexer}
@@ -19,6 +20,8 @@ abbrev pub piece_of : Piece → pieces.Piece
 piece_of (In p) = pieces.In (inner_of p)
 piece_of Comma = pieces.Comma
 piece_of Arrow = pieces.Arrow
+piece_of CostOpen = pieces.CostOpen
+piece_of CostClose = pieces.CostClose
 piece_of GuardMark = pieces.GuardMark
 piece_of SquareOpen = pieces.SquareOpen
 piece_of SquareClose = pieces.SquareClose

@@ -61,6 +61,7 @@ impl<'a> Draft<'a> {
         match place {
             Place::InSections(place) => self.sections.noted(best, place, ahead),
             Place::InLeft(place) => self.noted_in_left(best, place, ahead),
+            Place::InCost(place) => self.rule.noted_in_cost(best, place, ahead),
             Place::InRight(place) => self.rule.noted_in_right(best, place, ahead),
             Place::InTail(place) => self.noted_in_tail(best, place, ahead),
         }

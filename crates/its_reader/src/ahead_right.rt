@@ -191,7 +191,13 @@ impl<'a> RuleDraft<'a> {
             && begins_expression(next)
     }
 
-    fn noted_if_going(&self, best: Option<Fault>, going: bool, ahead: Ahead<'a>) -> Option<Fault>
+    /// Those of a token that goes on with an argument or a cost, where one can be read.
+    pub(crate) fn noted_if_going(
+        &self,
+        best: Option<Fault>,
+        going: bool,
+        ahead: Ahead<'a>,
+    ) -> Option<Fault>
         ensures { maybe_fault result ≡ first_among programs (maybe_fault best)
             (going_if going self.now ahead.entry.at (maybe_of ahead.entry.next)) }
     {

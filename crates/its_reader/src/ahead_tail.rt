@@ -1,7 +1,7 @@
 //! The refusals at the next token behind a target.
 
 ghost use Rattle.std.specs.Prelude.{◌≡◌, ◌&&◌, suc, nat_le, length};
-ghost use Rattle.model.specs.Limits.{rule_limit, atom_limit};
+ghost use Rattle.model.specs.Limits.{rule_limit};
 ghost use Rattle.text_core.specs.Reading.{first_among};
 ghost use Rattle.expr_reader.specs.GuardParts.{piece_in, is_wanting};
 ghost use Rattle.its_text.specs.Grammar.{programs};
@@ -22,7 +22,7 @@ use crate::fault::{Fault, Kind};
 use crate::piece::{Piece, inner_of, is_open};
 use crate::place::{Fence, TailPlace};
 use expr_reader::{GuardPlace, Piece as Inner};
-use model::{ATOM_LIMIT, RULE_LIMIT};
+use model::RULE_LIMIT;
 
 impl<'a> Draft<'a> {
     /// The first of a fault so far and those at the next token behind a target.
@@ -153,9 +153,9 @@ impl<'a> RuleDraft<'a> {
 
     // Whether an atom begins behind as many as the limit.
     fn passes_atoms(&self, next: Option<Piece<'a>>) -> bool
-        ensures { result ≡ plain_full self.now.guard (maybe_of next.entry) }
+        ensures { result ≡ plain_full self.now (maybe_of next.entry) }
     {
-        self.wants_atom() && self.guard.atoms.len() >= ATOM_LIMIT && begins_expression(next)
+        self.wants_atom() && self.has_atoms() && begins_expression(next)
     }
 
     // An atom is wanted.

@@ -43,10 +43,12 @@ pub(crate) struct RuleDraft<'a> {
     pub differs: bool,
     /// Its right arguments.
     pub updates: Vec<Expr>,
-    /// The argument that is being read.
+    /// The argument or the cost that is being read.
     pub expression: Expression,
     /// The guard that is being read.
     pub guard: GuardReader,
+    /// Its cost, where one is written.
+    pub cost: Option<Expr>,
 }
 
 /// The program so far.
@@ -73,6 +75,7 @@ impl<'a> RuleDraft<'a> {
             updates: Vec::new(alloc),
             expression: Expression::new(alloc),
             guard: GuardReader::new(alloc),
+            cost: None,
         }
     }
 }

@@ -15,7 +15,7 @@ pub enum LimitKind {
     Arity,
     /// More than 64 variables in a rule.
     Variables,
-    /// More than 64 atoms in a guard.
+    /// More than 64 atoms in a guard; a cost counts as one.
     Atoms,
     /// A name of more than 256 bytes.
     Name,
@@ -55,12 +55,12 @@ pub enum ReadError {
     /// Another number of arguments than at the symbol's first occurrence: the bracket that closes the term.
     #[error("arity differs at {at}")]
     ArityDiffers { at: u64 },
-    /// A literal over 2^63-1: its first byte; an expanded coefficient over 2^63-1: the last byte of the argument or
-    /// the atom.
+    /// A literal over 2^63-1: its first byte; an expanded coefficient over 2^63-1: the last byte of the argument, the
+    /// cost or the atom.
     #[error("number too large at {at}")]
     NumberTooLarge { at: u64 },
     /// A limit is passed: the first byte of what is one too many, or of the name; of an expression that expands to too
-    /// much, the last byte of the argument or the atom.
+    /// much, the last byte of the argument, the cost or the atom.
     #[error("limit at {at}")]
     Limit { kind: LimitKind, at: u64 },
     /// No rule leaves the start symbol, and nothing else stands against the text: the first byte of that symbol.

@@ -1,8 +1,8 @@
 //! From what is known at the end of a text to the program.
 
-ghost use Rattle.std.specs.Prelude.{◌≡◌, map, take, MatchOption, IfOk, Some, None};
+ghost use Rattle.std.specs.Prelude.{◌≡◌, map, MatchOption, IfOk, Some, None};
 ghost use Rattle.std.specs.List.{find};
-ghost use Rattle.its_model.specs.Views.{name_of, rule_of, symbol_of};
+ghost use Rattle.its_model.specs.Views.{rule_of, symbol_of};
 ghost use Rattle.expr_reader.specs.Variables.{names_in};
 ghost use Rattle.its_text.specs.Kinds as kinds;
 ghost use Rattle.its_reader.specs.Faults.{fault_in};
@@ -14,7 +14,7 @@ use crate::error::ReadError;
 use crate::fault::Kind;
 use crate::rules::name_from;
 use crate::symbols::Symbols;
-use its_model::{Name, Program, Rule, Symbol};
+use its_model::{Program, Rule, Symbol, left_names};
 use model::Memory;
 use std::alloc::Global;
 
@@ -37,26 +37,6 @@ fn first_leaving<'r>(rules: &'r [Rule], symbols: &Symbols<'_>, name: &[u8]) -> O
         }
     }
     None
-}
-
-// The same names once more.
-fn copied_names(alloc: Global, names: &[Name]) -> Result<Vec<Name>, Memory>
-    ensures { IfOk result (λ copies. map name_of copies.items ≡ map name_of names.now) }
-{
-    let mut copies = Vec::new(alloc);
-    for name in names {
-        copies.push(name_from(alloc, &name.bytes)?)?;
-    }
-    Ok(copies)
-}
-
-// The left names of a rule once more.
-fn left_names(alloc: Global, rule: &Rule) -> Result<Vec<Name>, Memory>
-    ensures { IfOk result (λ names. map name_of names.items ≡ take rule.now.left (map name_of rule.now.names.items)) }
-{
-    let mut names = copied_names(alloc, &rule.names)?;
-    names.truncate(rule.left as usize);
-    Ok(names)
 }
 
 // The symbols, each with the number of its places.

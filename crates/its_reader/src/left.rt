@@ -12,7 +12,7 @@ ghost use Rattle.its_reader.specs.PlaceSteps.{LeftLeads, RuleLeads, ArgumentLead
 
 use crate::draft::{Draft, RuleDraft};
 use crate::piece::Piece;
-use crate::place::{LeftPlace, Place, RightPlace, SectionPlace};
+use crate::place::{CostPlace, LeftPlace, Place, RightPlace, SectionPlace};
 use crate::symbols::{Symbols, narrow};
 use model::Memory;
 
@@ -128,11 +128,15 @@ impl<'a> Draft<'a> {
     }
 }
 
+// The arrow, or the braces of a cost.
 fn behind_left(piece: Piece<'_>) -> Option<Place>
-    ensures { result ≡ (if tests.leads (plain_of piece.entry) then Some (Place.InRight RightPlace.Arrowed) else None) }
+    ensures { result ≡ (if tests.leads (plain_of piece.entry) then Some (Place.InRight RightPlace.Arrowed)
+        else if tests.opens_cost (plain_of piece.entry) then Some (Place.InCost CostPlace.Costing) else None) }
 {
     if piece.leads() {
         Some(Place::InRight(RightPlace::Arrowed))
+    } else if piece.opens_cost() {
+        Some(Place::InCost(CostPlace::Costing))
     } else {
         None
     }
@@ -155,6 +159,7 @@ impl<'a> RuleDraft<'a> {
         ensures updates { self.new.updates ≡ self.old.updates }
         ensures expression { self.new.expression ≡ self.old.expression }
         ensures guard { self.new.guard ≡ self.old.guard }
+        ensures cost { self.new.cost ≡ self.old.cost }
     {
         let arity = narrow(self.variables.count())?;
         let known = symbols.of_term(self.name, arity)?;

@@ -47,7 +47,7 @@ fn minus<'a>(bytes: &[u8]) -> Lexeme<'a>
     if begins_with(bytes, b'>') {
         found(Piece::Arrow, 2)
     } else if begins_with(bytes, b'{') {
-        found(Piece::Wrong, 1)
+        found(Piece::CostOpen, 2)
     } else {
         found(Piece::In(Inner::Minus), 1)
     }
@@ -101,6 +101,7 @@ fn mark<'a>(first: u8, bytes: &[u8]) -> Lexeme<'a>
         b'&' => pair(bytes, b'&', Piece::In(Inner::Joining(Joint::Ampersands))),
         b'/' => pair(bytes, b'\\', Piece::In(Inner::Joining(Joint::Wedge))),
         b'|' => pair(bytes, b'|', Piece::Disjoining),
+        b'}' => pair(bytes, b'>', Piece::CostClose),
         128.. => found(Piece::Strange, 1),
         _ => found(Piece::Wrong, 1),
     }

@@ -18,6 +18,10 @@ pub(crate) enum Piece<'a> {
     Comma,
     /// `->`
     Arrow,
+    /// `-{`
+    CostOpen,
+    /// `}>`
+    CostClose,
     /// `:|:`
     GuardMark,
     /// `[`
@@ -177,6 +181,20 @@ impl<'a> Piece<'a> {
         ensures { result ≡ tests.leads (plain_of self.entry) }
     {
         matches!(self, Piece::Arrow)
+    }
+
+    /// Whether it is `-{`.
+    pub(crate) fn opens_cost(self) -> bool
+        ensures { result ≡ tests.opens_cost (plain_of self.entry) }
+    {
+        matches!(self, Piece::CostOpen)
+    }
+
+    /// Whether it is `}>`.
+    pub(crate) fn closes_cost(self) -> bool
+        ensures { result ≡ tests.closes_cost (plain_of self.entry) }
+    {
+        matches!(self, Piece::CostClose)
     }
 
     /// Whether it is what a comment says.

@@ -5,6 +5,7 @@ ghost use Rattle.its_reader.specs.FaultTests.{is_ruled as plain_ruled, wants_arg
 ghost use Rattle.its_reader.specs.FaultTests.{wants_left as plain_left, is_between as plain_between};
 ghost use Rattle.its_reader.specs.FaultTests.{wants_target_name as plain_targets, is_within as plain_within};
 ghost use Rattle.its_reader.specs.FaultTests.{is_in_argument as plain_argues, can_read_argument as plain_goes};
+ghost use Rattle.its_reader.specs.FaultTests.{is_costing as plain_costing};
 ghost use Rattle.its_reader.specs.PartEnds.{shuts_left, shuts_right, shuts_target, wrap_of_argument};
 ghost use Rattle.its_reader.specs.PartEnds.{is_guarding as plain_guarding};
 
@@ -62,14 +63,23 @@ pub(crate) enum LeftPlace {
     LeftRead,
     /// `,`; a left argument
     LeftParted,
-    /// The left term; `->`
+    /// The left term; `->` or `-{`
     LeftShut,
+}
+
+/// A place within the braces of a cost.
+#[derive(Clone, Copy)]
+pub(crate) enum CostPlace {
+    /// `-{` or a part of the cost; more of it
+    Costing,
+    /// The cost, which has ended; `}>`
+    Costed,
 }
 
 /// A place from the arrow to the end of the target.
 #[derive(Clone, Copy)]
 pub(crate) enum RightPlace {
-    /// `->`; `Com_1` or the target
+    /// `->` or `}>`; `Com_1` or the target
     Arrowed,
     /// `Com_1`; `(`
     ComNamed,
@@ -105,6 +115,7 @@ pub(crate) enum TailPlace {
 pub(crate) enum Place {
     InSections(SectionPlace),
     InLeft(LeftPlace),
+    InCost(CostPlace),
     InRight(RightPlace),
     InTail(TailPlace),
 }
@@ -129,6 +140,15 @@ impl LeftPlace {
         ensures { result ≡ shuts_left self }
     {
         matches!(self, LeftPlace::LeftShut)
+    }
+}
+
+impl CostPlace {
+    /// Whether the cost is being read.
+    pub(crate) fn is_costing(self) -> bool
+        ensures { result ≡ plain_costing self }
+    {
+        matches!(self, CostPlace::Costing)
     }
 }
 

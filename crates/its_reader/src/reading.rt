@@ -157,6 +157,10 @@ impl<'a> Draft<'a> {
                 let led = self.advance_in_left(left, token.piece)?;
                 Ok(led)
             }
+            Place::InCost(cost) => {
+                let costed = self.advance_in_cost(alloc, cost, token.piece)?;
+                Ok(costed)
+            }
             Place::InRight(right) => {
                 let aimed = self.advance_in_right(alloc, right, token.piece)?;
                 Ok(aimed)

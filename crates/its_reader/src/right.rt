@@ -5,20 +5,16 @@ ghost use Rattle.std.specs.Prelude.{[], slice_index};
 ghost use Rattle.text_core.specs.Names.{position_of};
 ghost use Rattle.its_text.specs.expr_text.Terms.{with_name};
 ghost use Rattle.expr_reader.specs.Variables.{names_in};
-ghost use Rattle.expr_reader.specs.Standing.{Leads};
-ghost use Rattle.expr_reader.specs.Views.{piece_of as inner_of};
 ghost use Rattle.its_reader.specs.Views.{piece_of as plain_of};
 ghost use Rattle.its_reader.specs.Places.{behind_wrap};
-ghost use Rattle.its_reader.specs.PlaceSteps.{RightLeads, TargetNames, AfterRight, ArgumentTakes, StaysInRule};
+ghost use Rattle.its_reader.specs.PlaceSteps.{RightLeads, TargetNames, AfterRight};
 
 use crate::draft::{Draft, RuleDraft};
 use crate::piece::Piece;
 use crate::place::{Place, RightPlace, TailPlace, Wrap};
-use crate::room::has_room;
 use crate::symbols::{Symbols, narrow};
-use expr_reader::Piece as Inner;
 use model::Memory;
-use std::alloc::{AllocError, Global};
+use std::alloc::Global;
 
 // A place of a right term, where a test passes.
 fn leads_if(test: bool, behind: RightPlace) -> Option<Place>
@@ -107,7 +103,8 @@ impl<'a> Draft<'a> {
             self.shut_right()?;
             Ok(Some(behind_right(wrap)))
         } else {
-            let reached = self.take_argument(alloc, wrap, piece)?;
+            let within = Place::InRight(RightPlace::Arguing(wrap));
+            let reached = self.take_expression(alloc, within, piece)?;
             Ok(reached)
         }
     }
@@ -121,7 +118,8 @@ impl<'a> Draft<'a> {
         ensures { IfOk result (λ reached. RightLeads (RightPlace.Arguing wrap) self.old
             (plain_of piece.entry) reached self.new) }
     {
-        let reached = self.take_argument(alloc, wrap, piece)?;
+        let within = Place::InRight(RightPlace::Arguing(wrap));
+        let reached = self.take_expression(alloc, within, piece)?;
         Ok(reached)
     }
 
@@ -149,28 +147,6 @@ impl<'a> Draft<'a> {
         }
     }
 
-    // A piece of an argument.
-    fn take_argument(
-        &mut self,
-        alloc: Global,
-        wrap: Wrap,
-        piece: Piece<'a>,
-    ) -> Result<Option<Place>, Memory>
-        ensures { IfOk result (λ reached. ArgumentTakes wrap self.old (plain_of piece.entry) reached self.new) }
-    {
-        match piece {
-            Piece::In(inner) => {
-                if self.rule.expression.goes_on_with(inner) {
-                    self.rule.take_inner(alloc, inner)?;
-                    Ok(Some(Place::InRight(RightPlace::Arguing(wrap))))
-                } else {
-                    Ok(None)
-                }
-            }
-            _ => Ok(None),
-        }
-    }
-
     // The right term ends.
     fn shut_right(&mut self) -> Result<(), Memory>
         ensures { OnOk result (AfterRight self.old self.new) }
@@ -181,19 +157,6 @@ impl<'a> Draft<'a> {
 }
 
 impl<'a> RuleDraft<'a> {
-    fn take_inner(&mut self, alloc: Global, piece: Inner<'a>) -> Result<(), Memory>
-        ensures leads { OnOk result (Leads (names_in self.old.variables) self.old.expression (inner_of piece.entry)
-            (names_in self.new.variables) self.new.expression) }
-        ensures stays { StaysInRule self.old self.new }
-    {
-        if has_room(&self.expression, &self.variables) {
-            self.expression.take(alloc, &mut self.variables, piece)?;
-            Ok(())
-        } else {
-            Err(AllocError)
-        }
-    }
-
     // The right term ends: its symbol is numbered.
     fn end_right(&mut self, symbols: &mut Symbols<'a>) -> Result<(), Memory>
         ensures names { OnOk result (names_in symbols.new.names
@@ -211,6 +174,7 @@ impl<'a> RuleDraft<'a> {
         ensures updates { self.new.updates ≡ self.old.updates }
         ensures expression { self.new.expression ≡ self.old.expression }
         ensures guard { self.new.guard ≡ self.old.guard }
+        ensures cost { self.new.cost ≡ self.old.cost }
     {
         let arity = narrow(self.updates.len())?;
         let known = symbols.of_term(self.name, arity)?;

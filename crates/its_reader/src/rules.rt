@@ -50,6 +50,7 @@ impl<'a> RuleDraft<'a> {
             names,
             updates: self.updates,
             guard,
+            cost: self.cost,
         })
     }
 }

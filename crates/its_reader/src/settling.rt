@@ -1,22 +1,22 @@
 //! What ends before the next piece, and the refusal at its last byte.
 
-ghost use Rattle.std.specs.Prelude.{◌≡◌, ◌&&◌, not, ℕ, IfOk};
+ghost use Rattle.std.specs.Prelude.{◌≡◌, ◌&&◌, ℕ, IfOk};
 ghost use Rattle.its_text.specs.Kinds as kinds;
-ghost use Rattle.its_text.specs.FrontFaults.{fault_if, expansion_faults};
-ghost use Rattle.expr_reader.specs.Faults.{fault_of as unexpanded_of};
-ghost use Rattle.expr_reader.specs.GuardParts.{piece_in, goes_on};
+ghost use Rattle.its_text.specs.FrontFaults.{fault_if};
+ghost use Rattle.expr_reader.specs.GuardParts.{piece_in};
 ghost use Rattle.its_reader.specs.Views.{maybe_of};
 ghost use Rattle.its_reader.specs.Faults.{maybe_kind};
 ghost use Rattle.its_reader.specs.TokenSteps.{Settles};
-ghost use Rattle.its_reader.specs.PartEnds.{ends_in, shuts_left, AfterArgument, ArgumentIsSettled, RightSettles};
+ghost use Rattle.its_reader.specs.PartEnds.{shuts_left, AfterArgument, ArgumentIsSettled, RightSettles};
 ghost use Rattle.its_reader.specs.PartEnds.{GuardStands, TailSettles};
 ghost use Rattle.its_reader.specs.Tests.{inner_next};
 
 use crate::draft::{Draft, RuleDraft};
+use crate::expression::{kind_of, refusal_of};
 use crate::fault::Kind;
 use crate::piece::{Piece, inner_of};
 use crate::place::{LeftPlace, Place, RightPlace, TailPlace, Wrap};
-use expr_reader::{Expression, Piece as Inner, Unexpanded};
+use expr_reader::Piece as Inner;
 use model::Memory;
 use std::alloc::Global;
 
@@ -42,28 +42,8 @@ fn arity_refusal(shuts: bool, differs: bool) -> Option<Kind>
     }
 }
 
-// The refusal for what stands in the way of expanding an expression.
-fn kind_of(fault: Option<Unexpanded>) -> Option<Kind>
-    ensures { (at : ℕ) → maybe_kind result at ≡ expansion_faults at (unexpanded_of fault) }
-{
-    match fault {
-        Some(fault) => Some(Kind::of(fault)),
-        None => None,
-    }
-}
-
-// Whether the next piece doesn't go on with an expression.
-fn ends(expression: &Expression, next: Option<Inner<'_>>) -> bool
-    ensures { result ≡ not (goes_on expression.now (piece_in next.entry)) }
-{
-    match next {
-        Some(piece) => !expression.goes_on_with(piece),
-        None => true,
-    }
-}
-
 impl<'a> Draft<'a> {
-    /// An argument or an atom ends where it can and the next piece doesn't go on with it.
+    /// A cost, an argument or an atom ends where it can and the next piece doesn't go on with it.
     pub(crate) fn settle(
         &mut self,
         alloc: Global,
@@ -81,6 +61,10 @@ impl<'a> Draft<'a> {
             Place::InLeft(left) => {
                 let refusal = self.rule.refusal_in_left(left);
                 Ok(PartEnd { place, refusal })
+            }
+            Place::InCost(cost) => {
+                let costed = self.rule.settle_in_cost(alloc, cost, next)?;
+                Ok(costed)
             }
             Place::InRight(right) => {
                 let argued = self.rule.settle_in_right(alloc, right, next)?;
@@ -135,7 +119,7 @@ impl<'a> RuleDraft<'a> {
         ensures { IfOk result (λ settled. ArgumentIsSettled wrap self.old
             (piece_in next.entry) settled.place settled.refusal self.new) }
     {
-        if self.argument_ends(next) {
+        if self.expression_ends(next) {
             let refusal = self.end_argument(alloc)?;
             Ok(PartEnd {
                 place: Place::InRight(RightPlace::Argued(wrap)),
@@ -149,19 +133,13 @@ impl<'a> RuleDraft<'a> {
         }
     }
 
-    fn argument_ends(&self, next: Option<Inner<'a>>) -> bool
-        ensures { result ≡ ends_in self.now.expression (piece_in next.entry) }
-    {
-        self.expression.can_end() && ends(&self.expression, next)
-    }
-
     fn end_argument(&mut self, alloc: Global) -> Result<Option<Kind>, Memory>
         ensures { IfOk result (λ refusal. AfterArgument self.old refusal self.new) }
     {
         let update = self.expression.finish(alloc)?;
-        let fault = expr_reader::expansion_fault(alloc, &update)?;
+        let refusal = refusal_of(alloc, &update)?;
         self.updates.push(update)?;
-        Ok(kind_of(fault))
+        Ok(refusal)
     }
 
     fn settle_in_tail(

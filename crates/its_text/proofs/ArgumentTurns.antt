@@ -2,7 +2,6 @@
 -- arguments of a right term, and behind it.
 use Rattle.std.proofs.Common.{◌≡◌, false, not, ◌↔◌, List, [], ◌∷◌, length, Option, Some, None, refl, ap, sym, subst}
 use Rattle.std.proofs.Common.{arith}
-use Rattle.std.proofs.lemmas.List.{length-reverse}
 use Rattle.expr_text.specs.model.Limits.{place_limit}
 use Rattle.expr_text.specs.Pieces as inner
 use Rattle.expr_text.specs.Trees.{Sum}
@@ -14,7 +13,7 @@ use Rattle.expr_text.proofs.Stability.{sum_extends}
 use Rattle.expr_text.proofs.FrontSteps.{token_ended, ended_there, names_ended}
 use Rattle.its_text.specs.Pieces.{Piece, In, Comma}
 use Rattle.its_text.specs.Written.{RightTerm, Target, Marked, Bare}
-use Rattle.its_text.specs.Numbering.{term_in, left_names, with_right}
+use Rattle.its_text.specs.Numbering.{term_in, arrow_names, with_right}
 use Rattle.its_text.specs.Fronts.{Led, Wrap, InCom, Alone, Aimed, RightOpened, Arguing, RightShut}
 use Rattle.its_text.specs.Steps.{shut_by, behind_comma, behind_argument, argument_step, behind_open, step}
 use Rattle.its_text.specs.FrontNames.{symbols_behind, names_with}
@@ -88,7 +87,7 @@ no_argument a = (
     symbol = h.1;
     few = omega arith;
     arguments = tt;
-    variables = (let few = h.0.0.1.1 in let same = length-reverse a.led.left.arguments in omega (arith, few, same));
+    variables = h.0.variables;
   },
 )
 
@@ -103,7 +102,7 @@ argument_ends a arguments e s same =
     let some = some_begun e (ended_there e s same) in
     let named = ap length (names_ended names e s same) in
     let stay = arguments_stay names (with_sum names s) (sum_extends names s) arguments
-    (sums_are_read (left_names a.led.left) arguments) in (
+    (sums_are_read (arrow_names a.led.left a.led.cost) arguments) in (
       λ h. (
         record {
           aimed = (h.led, h.symbol);

@@ -11,17 +11,18 @@ use Rattle.expr_text.specs.Guards.{Atoms}
 use Rattle.expr_text.specs.GuardFronts as guards
 use Rattle.expr_text.proofs.Ending.{close_ends, close_ends_guard}
 use Rattle.expr_text.proofs.Completing.{expression_completed, guard_completed}
-use Rattle.its_text.specs.Pieces.{Piece, In, Arrow, SquareClose, Remark, word, open_bracket, close_bracket}
-use Rattle.its_text.specs.Written.{RightTerm, Marked, Bare, NoGuard, BehindMark, InSquares, Section, Goal, Start}
+use Rattle.its_text.specs.Pieces.{Piece, In, Arrow, CostClose, SquareClose, Remark, word, open_bracket, close_bracket}
+use Rattle.its_text.specs.Written.{LeftTerm, RightTerm, Marked, Bare, NoGuard, BehindMark, InSquares, Section, Goal}
+use Rattle.its_text.specs.Written.{Start}
 use Rattle.its_text.specs.Written.{Variables, Comment}
 use Rattle.its_text.specs.Fronts.{Ruling, Led, Wrap, InCom, Alone, Aimed, Headed, Front, Between, Opened, GoalNamed}
 use Rattle.its_text.specs.Fronts.{GoalSaid, StartNamed, StartOpened, StartListed, StartSaid, StartShut, Listing}
-use Rattle.its_text.specs.Fronts.{CommentNamed, Ruled, SourceNamed, LeftOpened, LeftRead, LeftParted, LeftShut, Arrowed}
-use Rattle.its_text.specs.Fronts.{ComNamed, ComOpened, TargetNamed, RightOpened, Arguing, RightShut, Targeted}
+use Rattle.its_text.specs.Fronts.{CommentNamed, Ruled, SourceNamed, LeftOpened, LeftRead, LeftParted, LeftShut, Costing}
+use Rattle.its_text.specs.Fronts.{Arrowed, ComNamed, ComOpened, TargetNamed, RightOpened, Arguing, RightShut, Targeted}
 use Rattle.its_text.specs.Fronts.{GuardMarked, WordRead, MarkGuarding, SquareOpened, SquareGuarding, ruling_with}
 use Rattle.its_text.specs.Fronts.{section_of}
 use Rattle.its_text.specs.Steps.{behind_argument, argument_step, guard_ended, mark_guard_step, square_guard_step}
-use Rattle.its_text.specs.Steps.{square_ended, shut_by, right_shut, step}
+use Rattle.its_text.specs.Steps.{square_ended, shut_by, right_shut, left_shut, behind_left, cost_step, cost_ended, step}
 use Rattle.its_text.specs.Grammar.{programs}
 use Rattle.its_text.proofs.Ends.{ends}
 
@@ -98,14 +99,31 @@ com_named_goes l done at = back open_bracket done (com_opened_goes l (open_brack
 arrowed_goes : (l : Led) (done : List Piece) → At done (Arrowed l) → IsBeginning programs done
 arrowed_goes l done at = back (word (codes "f")) done (target_named_goes (record { led = l; wrap = Alone; name = codes "f" }) ((word (codes "f")) ∷ done) (onward done (Arrowed l) (TargetNamed (record { led = l; wrap = Alone; name = codes "f" })) (word (codes "f")) at refl))
 
-left_shut_goes : (l : Led) (done : List Piece) → At done (LeftShut l) → IsBeginning programs done
-left_shut_goes l done at = back Arrow done (arrowed_goes l (Arrow ∷ done) (onward done (LeftShut l) (Arrowed l) Arrow at refl))
+left_shut_goes : (r : Ruling) (t : LeftTerm) (done : List Piece) → At done (LeftShut r t) → IsBeginning programs done
+left_shut_goes r t done at =
+    back Arrow done (arrowed_goes (record { ruling = r; left = t; cost = None }) (Arrow ∷ done) (onward done (LeftShut r t) (behind_left r t None) Arrow at refl))
+
+-- a cost can be completed, and then its brace closes
+pub costing_steps : (r : Ruling) (t : LeftTerm) (done : List Piece) (e f : expression.Front) (p : inner.Piece)
+    → At done (Costing r t e) → expression_steps.step e p ≡ Some f → At (In p ∷ done) (Costing r t f)
+costing_steps r t done e f p at same = onward done (Costing r t e) (Costing r t f) (In p) at (ap (λ o. cost_step r t o) same)
+
+costing_ends : (r : Ruling) (t : LeftTerm) (done : List Piece) (e : expression.Front) (c : Sum)
+    → At done (Costing r t e) → expression_steps.finish e ≡ Some c → IsBeginning programs done
+costing_ends r t done e c at same =
+    back CostClose done (arrowed_goes (record { ruling = r; left = t; cost = Some c }) (CostClose ∷ done)
+    (onward done (Costing r t e) (behind_left r t (Some c)) CostClose at (ap (λ o. cost_ended r t o) same)))
+
+costing_goes : (r : Ruling) (t : LeftTerm) (e : expression.Front) (done : List Piece) → At done (Costing r t e) → IsBeginning programs done
+costing_goes r t e done at =
+    expression_completed In (λ behind f. At behind (Costing r t f)) (λ behind. IsBeginning programs behind)
+    (costing_steps r t) back (costing_ends r t) e done at
 
 left_opened_goes : (r : Ruling) (name : Name) (done : List Piece) → At done (LeftOpened r name) → IsBeginning programs done
-left_opened_goes r name done at = back close_bracket done (left_shut_goes (record { ruling = r; left = record { name = name; arguments = [] } }) (close_bracket ∷ done) (onward done (LeftOpened r name) (LeftShut (record { ruling = r; left = record { name = name; arguments = [] } })) close_bracket at refl))
+left_opened_goes r name done at = back close_bracket done (left_shut_goes r (record { name = name; arguments = [] }) (close_bracket ∷ done) (onward done (LeftOpened r name) (left_shut r name []) close_bracket at refl))
 
 left_read_goes : (r : Ruling) (name a : Name) (earlier : List Name) (done : List Piece) → At done (LeftRead r name a earlier) → IsBeginning programs done
-left_read_goes r name a earlier done at = back close_bracket done (left_shut_goes (record { ruling = r; left = record { name = name; arguments = a ∷ earlier } }) (close_bracket ∷ done) (onward done (LeftRead r name a earlier) (LeftShut (record { ruling = r; left = record { name = name; arguments = a ∷ earlier } })) close_bracket at refl))
+left_read_goes r name a earlier done at = back close_bracket done (left_shut_goes r (record { name = name; arguments = a ∷ earlier }) (close_bracket ∷ done) (onward done (LeftRead r name a earlier) (left_shut r name (a ∷ earlier)) close_bracket at refl))
 
 left_parted_goes : (r : Ruling) (name a : Name) (earlier : List Name) (done : List Piece) → At done (LeftParted r name a earlier) → IsBeginning programs done
 left_parted_goes r name a earlier done at = back (word (codes "f")) done (left_read_goes r name (codes "f") (a ∷ earlier) ((word (codes "f")) ∷ done) (onward done (LeftParted r name a earlier) (LeftRead r name (codes "f") (a ∷ earlier)) (word (codes "f")) at refl))
@@ -189,7 +207,8 @@ goes_on done (SourceNamed r name) at = source_named_goes r name done at
 goes_on done (LeftOpened r name) at = left_opened_goes r name done at
 goes_on done (LeftRead r name a earlier) at = left_read_goes r name a earlier done at
 goes_on done (LeftParted r name a earlier) at = left_parted_goes r name a earlier done at
-goes_on done (LeftShut l) at = left_shut_goes l done at
+goes_on done (LeftShut r t) at = left_shut_goes r t done at
+goes_on done (Costing r t e) at = costing_goes r t e done at
 goes_on done (Arrowed l) at = arrowed_goes l done at
 goes_on done (ComNamed l) at = com_named_goes l done at
 goes_on done (ComOpened l) at = com_opened_goes l done at

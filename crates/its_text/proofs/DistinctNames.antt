@@ -14,12 +14,13 @@ use Rattle.expr_text.specs.Trees.{base_behind}
 use Rattle.expr_text.specs.Terms.{with_name, with_sum, with_product, with_factor, with_base}
 use Rattle.expr_text.specs.Guards.{Atom, Always, Compared, Atoms, First, Joined, with_atom, with_atoms, atom_behind}
 use Rattle.expr_text.specs.Guards.{atoms_behind}
-use Rattle.its_text.specs.Pieces.{Piece, In, Comma, Arrow, GuardMark, SquareOpen, word, open_bracket}
+use Rattle.its_text.specs.Pieces.{Piece, In, Comma, CostOpen, GuardMark, SquareOpen, word, open_bracket}
 use Rattle.its_text.specs.Written.{LeftTerm, RightTerm, Target, Marked, Bare, Guard, NoGuard, BehindMark, InSquares}
 use Rattle.its_text.specs.Written.{WrittenRule, Section, Goal, Start, Variables, Rules, Comment, names_behind}
-use Rattle.its_text.specs.Written.{sums_behind, left_behind, right_behind, target_behind, maybe_behind, guard_behind}
-use Rattle.its_text.specs.Written.{rule_behind, rules_behind, words_behind, section_behind, pieces_behind}
-use Rattle.its_text.specs.Numbering.{term_in, with_sums, with_maybe, with_guard, left_names, rule_names, or_rules}
+use Rattle.its_text.specs.Written.{sums_behind, left_behind, right_behind, arrow_behind, target_behind, maybe_behind}
+use Rattle.its_text.specs.Written.{guard_behind, rule_behind, rules_behind, words_behind, section_behind, pieces_behind}
+use Rattle.its_text.specs.Numbering.{term_in, with_sums, with_maybe, with_guard, left_names, with_cost, arrow_names}
+use Rattle.its_text.specs.Numbering.{rule_names, or_rules}
 use Rattle.its_text.specs.Numbering.{rules_of}
 use Rattle.its_text.proofs.NamedPieces.{AreNamed}
 use Rattle.std.proofs.lemmas.Bool.{or_parts as neither}
@@ -184,6 +185,15 @@ target_named (Marked t) before h =
     record { name = x.name; good = x.good; earlier = x.earlier.1.1 }
 target_named (Bare t) before h = right_named t before h
 
+-- an arrow, and the cost that it has
+arrow_peel : (cost : Option Sum) (before : List Piece) → AreNamed (arrow_behind cost before) → AreNamed before
+arrow_peel None before h = h.1
+arrow_peel (Some c) before h = (sum_peel c (CostOpen ∷ before) h.1).1
+
+arrow_good : (cost : Option Sum) (before : List Piece) (names : List Name) → AreGood names → AreNamed (arrow_behind cost before) → AreGood (with_cost names cost)
+arrow_good None before names g h = g
+arrow_good (Some c) before names g h = sum_good c (CostOpen ∷ before) names g h.1
+
 -- and a guard
 pub record GuardNamed (g : Guard) (before : List Piece) : Type 0 where
   pub good : (names : List Name) → AreGood names → AreGood (with_guard names g)
@@ -211,14 +221,15 @@ pub record NamedRule (r : WrittenRule) : Type 0 where
 
 rule_named : (r : WrittenRule) (before : List Piece) → AreNamed (rule_behind r before) → NamedRule r × AreNamed before
 rule_named r before h =
-    let g = guard_named r.guard (target_behind r.target (Arrow ∷ left_behind r.left before)) h in
-    let t = target_named r.target (Arrow ∷ left_behind r.left before) g.earlier in
-    let l = left_named r.left before t.earlier.1 in (
+    let g = guard_named r.guard (target_behind r.target (arrow_behind r.cost (left_behind r.left before))) h in
+    let t = target_named r.target (arrow_behind r.cost (left_behind r.left before)) g.earlier in
+    let l = left_named r.left before (arrow_peel r.cost (left_behind r.left before) t.earlier) in (
       record {
         source = l.name;
         target = t.name;
         left = λ d. (all_reverse IsName r.left.arguments l.arguments, distinct_reverse r.left.arguments d);
-        names = λ d. g.good _ (t.good (left_names r.left) (all_reverse IsName r.left.arguments l.arguments, distinct_reverse r.left.arguments d));
+        names = λ d. g.good _ (t.good (arrow_names r.left r.cost) (arrow_good r.cost (left_behind r.left before) (left_names r.left)
+            (all_reverse IsName r.left.arguments l.arguments, distinct_reverse r.left.arguments d) t.earlier));
       },
       l.earlier,
     )

@@ -3,17 +3,18 @@ use Rattle.std.proofs.Common.{◌≡◌, List, Option, Some, ap}
 use Rattle.its_text.specs.Pieces.{Piece}
 use Rattle.its_text.specs.Fronts.{Front, Between, Opened, GoalNamed, GoalSaid, StartNamed, StartOpened, StartListed}
 use Rattle.its_text.specs.Fronts.{StartSaid, StartShut, Listing, CommentNamed}
-use Rattle.its_text.specs.Fronts.{Ruled, SourceNamed, LeftOpened, LeftRead, LeftParted, LeftShut, Arrowed, ComNamed}
-use Rattle.its_text.specs.Fronts.{ComOpened, TargetNamed, RightOpened, Arguing, RightShut, Targeted, GuardMarked}
-use Rattle.its_text.specs.Fronts.{WordRead, MarkGuarding, SquareOpened, SquareGuarding}
+use Rattle.its_text.specs.Fronts.{Ruled, SourceNamed, LeftOpened, LeftRead, LeftParted, LeftShut, Costing, Arrowed}
+use Rattle.its_text.specs.Fronts.{ComNamed, ComOpened, TargetNamed, RightOpened, Arguing, RightShut, Targeted}
+use Rattle.its_text.specs.Fronts.{GuardMarked, WordRead, MarkGuarding, SquareOpened, SquareGuarding}
 use Rattle.its_text.specs.Written.{Section}
 use Rattle.its_text.specs.Steps.{step, finish}
 use Rattle.its_text.proofs.StepCases.{HoldsOfSteps}
 use Rattle.its_text.proofs.SectionCases.{between_case, opened_case, goal_named_case, goal_said_case, start_named_case}
 use Rattle.its_text.proofs.SectionCases.{start_opened_case, start_listed_case, start_said_case, start_shut_case}
 use Rattle.its_text.proofs.SectionCases.{listing_case, comment_named_case}
-use Rattle.its_text.proofs.RuleCases.{ruled_case, source_named_case, left_opened_case, left_read_case, left_parted_case}
-use Rattle.its_text.proofs.RuleCases.{left_shut_case, arrowed_case, com_named_case, com_opened_case, target_named_case}
+use Rattle.its_text.proofs.SourceCases.{ruled_case, source_named_case, left_opened_case, left_read_case}
+use Rattle.its_text.proofs.SourceCases.{left_parted_case, left_shut_case, costing_case}
+use Rattle.its_text.proofs.RuleCases.{arrowed_case, com_named_case, com_opened_case, target_named_case}
 use Rattle.its_text.proofs.RuleCases.{right_opened_case, in_argument_case, right_shut_case, targeted_case}
 use Rattle.its_text.proofs.RuleCases.{guard_marked_case, word_read_case, mark_guarding_case, square_opened_case}
 use Rattle.its_text.proofs.RuleCases.{square_guarding_case}
@@ -37,7 +38,8 @@ module _ (P : Front → Piece → Option Front → Type 0) (each : HoldsOfSteps 
   of_step (LeftOpened r source) p = left_opened_case P each r source p
   of_step (LeftRead r source a earlier) p = left_read_case P each r source a earlier p
   of_step (LeftParted r source a earlier) p = left_parted_case P each r source a earlier p
-  of_step (LeftShut l) p = left_shut_case P each l p
+  of_step (LeftShut r t) p = left_shut_case P each r t p
+  of_step (Costing r t e) p = costing_case P each r t e p
   of_step (Arrowed l) p = arrowed_case P each l p
   of_step (ComNamed l) p = com_named_case P each l p
   of_step (ComOpened l) p = com_opened_case P each l p
@@ -70,7 +72,8 @@ ended (SourceNamed r source) ss same = cc
 ended (LeftOpened r source) ss same = cc
 ended (LeftRead r source a earlier) ss same = cc
 ended (LeftParted r source a earlier) ss same = cc
-ended (LeftShut l) ss same = cc
+ended (LeftShut r t) ss same = cc
+ended (Costing r t e) ss same = cc
 ended (Arrowed l) ss same = cc
 ended (ComNamed l) ss same = cc
 ended (ComOpened l) ss same = cc

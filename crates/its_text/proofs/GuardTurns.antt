@@ -1,5 +1,5 @@
 -- Along each step of a guard what is read is within the limits exactly where it was before, and the guard is quiet.
-use Rattle.std.proofs.Common.{◌≡◌, suc, ◌+◌, ◌≤◌, Bool, true, false, not, if◌then◌else◌, ◌&&◌, ◌↔◌, is_some, List}
+use Rattle.std.proofs.Common.{◌≡◌, ℕ, suc, ◌+◌, ◌≤◌, true, false, not, ◌&&◌, ◌↔◌, is_some, List}
 use Rattle.std.proofs.Common.{length, Option, Some, None, refl, ap, sym, subst, ◌∙◌, arith}
 use Rattle.std.specs.Prelude.{⊤}
 use Rattle.expr_text.specs.model.Programs.{Name}
@@ -13,84 +13,38 @@ use Rattle.expr_text.specs.Guards.{Atom, Always, Compared, Atoms, count_of, with
 use Rattle.expr_text.specs.GuardFronts as guards
 use Rattle.expr_text.specs.GuardFronts.{Conjoined, NoAtoms, JointAfter, GuardFront, LeftSide, RightSide, atoms_with}
 use Rattle.expr_text.specs.GuardFronts.{truth_of}
-use Rattle.expr_text.specs.FrontNames.{with_front, with_conjoined, goes_on_with, operates, begins_expression}
+use Rattle.expr_text.specs.FrontNames.{with_front, with_conjoined, goes_on_with, operates}
 use Rattle.expr_text.proofs.Stability.{extended, sum_extends}
-use Rattle.expr_text.proofs.FrontSteps.{token_ended, ended_there, with_piece, names_more, names_ended, begins_truth}
-use Rattle.expr_text.proofs.FrontSteps.{truth_more, truth_goes_on, IsAlways, truth_is_one}
+use Rattle.expr_text.proofs.FrontSteps.{token_ended, ended_there, names_ended}
+use Rattle.expr_text.proofs.FrontSteps.{IsAlways, truth_is_one}
 use Rattle.its_text.specs.Pieces.{Piece, In}
-use Rattle.its_text.specs.FrontFaults as shown
-use Rattle.its_text.specs.FrontFaults.{is_full, is_operating, ends_expression}
+use Rattle.its_text.specs.Numbering.{atoms_of_cost}
+use Rattle.its_text.specs.FrontFaults.{is_operating, ends_expression}
 use Rattle.its_text.specs.Spelling.{IsAtomWithin, AreAtomsWithin}
 use Rattle.expr_text.proofs.NamesRead.{Extends, atoms_are_read}
+use Rattle.its_text.proofs.ValidRules.{at_most_one}
 use Rattle.its_text.proofs.RoomLaws.{contrary, passes_not, and_false, atoms_stay}
-use Rattle.its_text.proofs.KeptFronts.{begun, AreConjoined, conjoined_count, counted, IsLeftKept, IsRightKept}
+use Rattle.its_text.proofs.KeptFronts.{AreConjoined, conjoined_count, IsLeftKept, IsRightKept}
 use Rattle.its_text.proofs.KeptFronts.{IsGuardKept, IsRightExpanded, IsAtomExpanded, IsGuardQuiet}
-use Rattle.its_text.proofs.ExpressionRoom.{goes_on, goes_off, room_for_token, room_for_piece, room_for_one, some_begun}
-use Rattle.its_text.proofs.ExpressionRoom.{leading, leading_room}
-
--- a choice whose test fails, and one whose test passes
-chosen_second : {X : Type 0} (v : Bool) (x y : X) → v ≡ false → (if v then x else y) ≡ y
-chosen_second true x y e = cc
-chosen_second false x y e = refl
-
-chosen_first : {X : Type 0} (v : Bool) (x y : X) → v ≡ true → (if v then x else y) ≡ x
-chosen_first true x y e = refl
-chosen_first false x y e = cc
-
--- the variables that count in behind one more piece
-counted_more : (names : List Name) (c : Conjoined) (e f : expression.Front) (p : inner.Piece) (behind : Option Piece)
-    → expression_steps.step e p ≡ Some f
-    → counted names c f behind
-    ≡ (if begins_truth e p && not (is_operating behind) then with_conjoined names c else with_piece
-    (with_front (with_conjoined names c) e) p)
-counted_more names c e f p behind same =
-    ap (λ v. if v && not (is_operating behind) then with_conjoined names c else with_front (with_conjoined names c) f)
-    (truth_more e f p same)
-    ∙ ap (λ ns. if begins_truth e p && not (is_operating behind) then with_conjoined names c else ns)
-    (names_more (with_conjoined names c) e f p same)
-
--- and before it
-counted_before : (names : List Name) (c : Conjoined) (e f : expression.Front) (p : inner.Piece)
-    → expression_steps.step e p ≡ Some f
-    → counted names c e (Some (In p)) ≡ with_front (with_conjoined names c) e
-counted_before names c e f p same =
-    chosen_second (is_some (truth_of e) && not (operates p)) (with_conjoined names c)
-    (with_front (with_conjoined names c) e) (truth_goes_on e f p same)
-
-room_in_left : (names : List Name) (c : Conjoined) (e f : expression.Front) (p : inner.Piece) (behind : Option Piece)
-    → expression_steps.step e p ≡ Some f
-    → (length (counted names c f behind) ≤ variable_limit)
-    ↔ ((length (counted names c e (Some (In p))) ≤ variable_limit) ×
-    (shown.passes_variables (leading (with_conjoined names c) e) p behind ≡ false))
-room_in_left names c e f p behind same =
-    let more = ap length (counted_more names c e f p behind same) in
-    let before = ap length (counted_before names c e f p same) in
-    let room = leading_room (with_conjoined names c) e p behind in (
-      λ h.
-          let k = room.0 (subst (λ n. n ≤ variable_limit) more h) in
-          (subst (λ n. n ≤ variable_limit) (sym before) k.0, k.1),
-      λ h. subst (λ n. n ≤ variable_limit) (sym more) (room.1 (subst (λ n. n ≤ variable_limit) before h.0, h.1)),
-    )
-
--- room for an atom
-room_for_atom : (c : Conjoined) (e f : expression.Front) (p : inner.Piece) → expression_steps.step e p ≡ Some f
-    → (conjoined_count c + begun f ≤ atom_limit)
-    ↔ ((conjoined_count c + begun e ≤ atom_limit) × ((is_full (LeftSide c e) && begins_expression p) ≡ false))
-room_for_atom NoAtoms e f p same = (λ h. (omega arith, refl), λ h. omega arith)
-room_for_atom (JointAfter atoms joint) e f p same = room_for_one atom_limit (count_of atoms) e f p same
+use Rattle.its_text.proofs.ExpressionRoom.{goes_on, goes_off, room_for_token, room_for_piece, some_begun}
+use Rattle.its_text.proofs.GuardRoom.{chosen_second, chosen_first, room_in_left, room_for_atom}
 
 -- a piece leads nowhere, or to a guard that keeps the limits exactly where the one before does and is quiet
-abbrev GuardTurns : List Name → GuardFront → inner.Piece → Option Piece → Option GuardFront → Type 0
-GuardTurns names g p behind None = ⊤
-GuardTurns names g p behind (Some k) =
-    IsGuardKept names k behind ↔ (IsGuardKept names g (Some (In p)) × IsGuardQuiet names g (Some (In p)) behind)
+abbrev GuardTurns : ℕ → List Name → GuardFront → inner.Piece → Option Piece → Option GuardFront → Type 0
+GuardTurns others names g p behind None = ⊤
+GuardTurns others names g p behind (Some k) =
+    IsGuardKept others names k behind ↔ (IsGuardKept others names g (Some (In p)) × IsGuardQuiet others names g (Some (In p)) behind)
 
-module _ (names : List Name) where
+module _ (cost : Option Sum) (names : List Name) where
+  -- as how many atoms the cost counts
+  abbrev others : ℕ
+  others = atoms_of_cost cost
+
   -- an atom's left side goes on
   left_goes_on : (c : Conjoined) (e f : expression.Front) (p : inner.Piece) (behind : Option Piece)
-      → expression_steps.step e p ≡ Some f → GuardTurns names (LeftSide c e) p behind (Some (LeftSide c f))
+      → expression_steps.step e p ≡ Some f → GuardTurns others names (LeftSide c e) p behind (Some (LeftSide c f))
   left_goes_on c e f p behind same =
-      let few = room_for_atom c e f p same in
+      let few = room_for_atom cost c e f p same in
       let tokens = room_for_token e f p same in
       let variables = room_in_left names c e f p behind same in (
         λ h.
@@ -113,7 +67,7 @@ module _ (names : List Name) where
   -- so does its right side
   right_goes_on : (c : Conjoined) (l : Sum) (sign : inner.Sign) (e f : expression.Front) (p : inner.Piece)
       (behind : Option Piece) → expression_steps.step e p ≡ Some f
-      → GuardTurns names (RightSide c l sign e) p behind (Some (RightSide c l sign f))
+      → GuardTurns others names (RightSide c l sign e) p behind (Some (RightSide c l sign f))
   right_goes_on c l sign e f p behind same =
       let tokens = room_for_token e f p same in
       let variables = room_for_piece (with_sum (with_conjoined names c) l) e f p behind same in
@@ -142,7 +96,7 @@ module _ (names : List Name) where
   -- a relation ends the left side
   related : (c : Conjoined) (e : expression.Front) (sign : inner.Sign) (behind : Option Piece) (l : Sum)
       → expression_steps.finish e ≡ Some l → expression_steps.step e (inner.Related sign) ≡ None
-      → GuardTurns names (LeftSide c e) (inner.Related sign) behind (Some (RightSide c l sign expression.beginning))
+      → GuardTurns others names (LeftSide c e) (inner.Related sign) behind (Some (RightSide c l sign expression.beginning))
   related c e sign behind l same off =
       let some = some_begun e (ended_there e l same) in
       let tokens = token_ended e l same in
@@ -175,7 +129,7 @@ module _ (names : List Name) where
 
   -- atoms that end are within the limits
   pub record AreEnded (atoms : Atoms) : Type 0 where
-    pub few : count_of atoms ≤ atom_limit
+    pub few : count_of atoms + others ≤ atom_limit
     pub within : AreAtomsWithin (with_atoms names atoms) atoms
     pub variables : length (with_atoms names atoms) ≤ variable_limit
 
@@ -196,7 +150,7 @@ module _ (names : List Name) where
   always_within c (Compared l sign r) is = absurd is
 
   truth_ends : (c : Conjoined) (e : expression.Front) (a : Atom) (next : Option Piece) → truth_of e ≡ Some a
-      → is_operating next ≡ false → AreEnded (atoms_with c a) ↔ IsLeftKept names c e next
+      → is_operating next ≡ false → AreEnded (atoms_with c a) ↔ IsLeftKept others names c e next
   truth_ends c e a next same operates =
       let one = truth_is_one e a same in
       let test : (is_some (truth_of e) && not (is_operating next)) ≡ true
@@ -246,7 +200,7 @@ module _ (names : List Name) where
   compared_ends : (c : Conjoined) (l : Sum) (sign : inner.Sign) (e : expression.Front) (r : Sum)
       → expression_steps.finish e ≡ Some r
       → AreEnded (atoms_with c (Compared l sign r))
-      ↔ (IsRightKept names c l e × IsRightExpanded (with_sum (with_conjoined names c) l) l sign (Some r))
+      ↔ (IsRightKept others names c l e × IsRightExpanded (with_sum (with_conjoined names c) l) l sign (Some r))
   compared_ends c l sign e r same =
       let tokens = token_ended e r same in
       let named = ap length (compared_names c l sign r ∙ names_ended (with_sum (with_conjoined names c) l) e r same) in
@@ -277,21 +231,21 @@ module _ (names : List Name) where
 
   left_ends : (c : Conjoined) (e : expression.Front) (atoms : Atoms) (next : Option Piece) (o : Option Atom)
       → truth_of e ≡ o → guards.ended c o ≡ Some atoms → is_operating next ≡ false
-      → AreEnded atoms ↔ (IsLeftKept names c e next × ⊤)
+      → AreEnded atoms ↔ (IsLeftKept others names c e next × ⊤)
   left_ends c e atoms next None same is operates = cc
   left_ends c e atoms next (Some a) same is operates =
       let ends = truth_ends c e a next same operates in
-      some_is (λ found. AreEnded found ↔ (IsLeftKept names c e next × ⊤)) (atoms_with c a) atoms is
+      some_is (λ found. AreEnded found ↔ (IsLeftKept others names c e next × ⊤)) (atoms_with c a) atoms is
       (λ h. (ends.0 h, tt), λ h. ends.1 h.0)
 
   right_ends : (c : Conjoined) (l : Sum) (sign : inner.Sign) (e : expression.Front) (atoms : Atoms)
       (next : Option Piece) (o : Option Sum) → expression_steps.finish e ≡ o
       → guards.ended c (guards.compared l sign o) ≡ Some atoms → ends_expression e next ≡ true
-      → AreEnded atoms ↔ (IsRightKept names c l e × IsAtomExpanded names (RightSide c l sign e) next)
+      → AreEnded atoms ↔ (IsRightKept others names c l e × IsAtomExpanded names (RightSide c l sign e) next)
   right_ends c l sign e atoms next None same is off = cc
   right_ends c l sign e atoms next (Some r) same is off =
       let ends = compared_ends c l sign e r same in
-      some_is (λ found. AreEnded found ↔ (IsRightKept names c l e × IsAtomExpanded names (RightSide c l sign e) next))
+      some_is (λ found. AreEnded found ↔ (IsRightKept others names c l e × IsAtomExpanded names (RightSide c l sign e) next))
       (atoms_with c (Compared l sign r)) atoms is (
         λ h.
             let k = ends.0 h in
@@ -302,14 +256,14 @@ module _ (names : List Name) where
   -- atoms that end are within the limits exactly where the guard was, and the last can be expanded
   pub guard_ends : (g : GuardFront) (atoms : Atoms) (next : Option Piece) → guards.finish g ≡ Some atoms
       → is_operating next ≡ false → ends_expression (guards.expression_in g) next ≡ true
-      → AreEnded atoms ↔ (IsGuardKept names g next × IsAtomExpanded names g next)
+      → AreEnded atoms ↔ (IsGuardKept others names g next × IsAtomExpanded names g next)
   guard_ends (LeftSide c e) atoms next same operates off = left_ends c e atoms next (truth_of e) refl same operates
   guard_ends (RightSide c l sign e) atoms next same operates off =
       right_ends c l sign e atoms next (expression_steps.finish e) refl same off
 
   -- the next atom is wanted
   atom_wanted : (atoms : Atoms) (joint : inner.Joint) (behind : Option Piece)
-      → IsLeftKept names (JointAfter atoms joint) expression.beginning behind ↔ AreEnded atoms
+      → IsLeftKept others names (JointAfter atoms joint) expression.beginning behind ↔ AreEnded atoms
   atom_wanted atoms joint behind = (
     λ h. record { few = (let few = h.few in omega (arith, few)); within = h.atoms; variables = h.variables },
     λ h. record {
@@ -322,7 +276,7 @@ module _ (names : List Name) where
 
   joined : (g : GuardFront) (joint : inner.Joint) (behind : Option Piece) (o : Option Atoms) → guards.finish g ≡ o
       → expression_steps.step (guards.expression_in g) (inner.Joining joint) ≡ None
-      → GuardTurns names g (inner.Joining joint) behind (guards.joined joint o)
+      → GuardTurns others names g (inner.Joining joint) behind (guards.joined joint o)
   joined g joint behind None same off = tt
   joined g joint behind (Some atoms) same off =
       let wanted = atom_wanted atoms joint behind in
@@ -343,13 +297,13 @@ module _ (names : List Name) where
 
   relates : (c : Conjoined) (e : expression.Front) (sign : inner.Sign) (behind : Option Piece) (o : Option Sum)
       → expression_steps.finish e ≡ o → expression_steps.step e (inner.Related sign) ≡ None
-      → GuardTurns names (LeftSide c e) (inner.Related sign) behind (guards.related c sign o)
+      → GuardTurns others names (LeftSide c e) (inner.Related sign) behind (guards.related c sign o)
   relates c e sign behind None same off = tt
   relates c e sign behind (Some l) same off = related c e sign behind l same off
 
   -- each step of a guard
   behind_turns : (g : GuardFront) (p : inner.Piece) (behind : Option Piece)
-      → expression_steps.step (guards.expression_in g) p ≡ None → GuardTurns names g p behind (guards.step_behind g p)
+      → expression_steps.step (guards.expression_in g) p ≡ None → GuardTurns others names g p behind (guards.step_behind g p)
   behind_turns (LeftSide c e) (inner.Related sign) behind off =
       relates c e sign behind (expression_steps.finish e) refl off
   behind_turns (RightSide c l sign e) (inner.Related other) behind off = tt
@@ -375,7 +329,7 @@ module _ (names : List Name) where
   behind_turns (RightSide c l sign e) inner.Caret behind off = tt
 
   within_turns : (g : GuardFront) (p : inner.Piece) (behind : Option Piece) (o : Option expression.Front)
-      → expression_steps.step (guards.expression_in g) p ≡ o → GuardTurns names g p behind (guards.within g o p)
+      → expression_steps.step (guards.expression_in g) p ≡ o → GuardTurns others names g p behind (guards.within g o p)
   within_turns (LeftSide c e) p behind (Some f) same = left_goes_on c e f p behind same
   within_turns (RightSide c l sign e) p behind (Some f) same = right_goes_on c l sign e f p behind same
   within_turns (LeftSide c e) p behind None same = behind_turns (LeftSide c e) p behind same
@@ -383,11 +337,13 @@ module _ (names : List Name) where
 
   -- along each step a guard is within the limits exactly where it was before, and it is quiet
   pub guard_turns : (g k : GuardFront) (p : inner.Piece) (behind : Option Piece) → guards.step g p ≡ Some k
-      → IsGuardKept names k behind ↔ (IsGuardKept names g (Some (In p)) × IsGuardQuiet names g (Some (In p)) behind)
+      → IsGuardKept others names k behind ↔ (IsGuardKept others names g (Some (In p)) × IsGuardQuiet others names g (Some (In p)) behind)
   guard_turns g k p behind same =
-      subst (GuardTurns names g p behind) same
+      subst (GuardTurns others names g p behind) same
       (within_turns g p behind (expression_steps.step (guards.expression_in g) p) refl)
 
   -- a guard begins within the limits where there aren't too many variables before it
-  pub guard_begins : (next : Option Piece) → length names ≤ variable_limit → IsGuardKept names guards.no_atoms next
-  guard_begins next few = record { atoms = tt; few = omega arith; tokens = omega arith; variables = few }
+  pub guard_begins : (next : Option Piece) → length names ≤ variable_limit → IsGuardKept others names guards.no_atoms next
+  guard_begins next few =
+      let one = at_most_one cost in
+      record { atoms = tt; few = omega (arith, one); tokens = omega arith; variables = few }

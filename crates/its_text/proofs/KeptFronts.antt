@@ -15,15 +15,17 @@ use Rattle.expr_text.specs.Guards.{count_of, relation_of}
 use Rattle.expr_text.specs.GuardFronts.{Conjoined, NoAtoms, JointAfter, GuardFront, LeftSide, RightSide, truth_of}
 use Rattle.expr_text.specs.FrontNames.{with_front, with_conjoined, token_count, goes_on_with}
 use Rattle.its_text.specs.Pieces.{Piece, In}
-use Rattle.its_text.specs.Written.{RightTerm, Target, Marked, Bare, Section}
-use Rattle.its_text.specs.Numbering.{is_com, arity_of, with_right, symbols_of, term_in, rules_of}
+use Rattle.its_text.specs.Written.{LeftTerm, RightTerm, Target, Marked, Bare, Section}
+use Rattle.its_text.specs.Numbering.{is_com, arity_of, with_right, symbols_of, term_in, left_names, atoms_of_cost}
+use Rattle.its_text.specs.Numbering.{arrow_names, rules_of}
 use Rattle.its_text.specs.Fronts.{Ruling, Led, Aimed, Headed, Front, Between, Opened, GoalNamed, GoalSaid, StartNamed}
 use Rattle.its_text.specs.Fronts.{StartOpened, StartListed, StartSaid, StartShut, Listing, CommentNamed, Ruled}
-use Rattle.its_text.specs.Fronts.{SourceNamed, LeftOpened, LeftRead, LeftParted, LeftShut, Arrowed, ComNamed, ComOpened}
-use Rattle.its_text.specs.Fronts.{TargetNamed, RightOpened, Arguing, RightShut, Targeted, GuardMarked, WordRead}
+use Rattle.its_text.specs.Fronts.{SourceNamed, LeftOpened, LeftRead, LeftParted, LeftShut, Costing, Arrowed, ComNamed}
+use Rattle.its_text.specs.Fronts.{ComOpened, TargetNamed, RightOpened, Arguing, RightShut, Targeted, GuardMarked}
+use Rattle.its_text.specs.Fronts.{WordRead}
 use Rattle.its_text.specs.Fronts.{MarkGuarding, SquareOpened, SquareGuarding}
 use Rattle.its_text.specs.Steps.{guard_named}
-use Rattle.its_text.specs.FrontNames.{symbols_behind, names_with, headed_names}
+use Rattle.its_text.specs.FrontNames.{symbols_led, symbols_behind, names_with, headed_names}
 use Rattle.its_text.specs.FrontFaults as shown
 use Rattle.its_text.specs.FrontFaults.{is_goal, is_start, is_variables, is_rules, has, repeats, is_word, is_open}
 use Rattle.its_text.specs.FrontFaults.{are_full}
@@ -31,8 +33,8 @@ use Rattle.its_text.specs.FrontFaults.{is_operator, is_operating, other_arity, b
 use Rattle.its_text.specs.FrontFaults.{open_expression_in}
 use Rattle.expr_text.specs.Differences.{differences, first_of_all}
 use Rattle.its_text.specs.FrontFaults.{passes_variables, is_large, ends_expression, is_full, begins}
-use Rattle.its_text.specs.Spelling.{times, AreRules, HaveRules, IsShort, AreArgumentsWithin, AreAtomsWithin}
-use Rattle.its_text.specs.Spelling.{AreRulesWithin, HaveRulesWithin}
+use Rattle.its_text.specs.Spelling.{times, AreRules, HaveRules, IsShort, AreArgumentsWithin, IsCostWithin}
+use Rattle.its_text.specs.Spelling.{AreAtomsWithin, AreRulesWithin, HaveRulesWithin}
 
 -- the next of the pieces
 abbrev pub first : List Piece → Option Piece
@@ -64,12 +66,24 @@ IsOpenRuling r = IsRulingKept r × (suc (length r.rules) ≤ rule_limit)
 abbrev pub AreLeft : List Name → Type 0
 AreLeft arguments = AreDistinct arguments × (length arguments ≤ place_limit)
 
--- a left term with as many arguments as its symbol has places
-abbrev pub IsLedOpen : Led → Type 0
-IsLedOpen l = IsOpenRuling l.ruling × AreLeft l.left.arguments
+-- a left term with such arguments, and as many of them as its symbol has places
+abbrev pub IsSourceOpen : Ruling → LeftTerm → Type 0
+IsSourceOpen r t = IsOpenRuling r × AreLeft t.arguments
 
-abbrev pub IsLedKept : Led → Type 0
-IsLedKept l = IsLedOpen l × (arity_of (symbols_behind l) l.left.name ≡ length l.left.arguments)
+abbrev pub IsSourceKept : Ruling → LeftTerm → Type 0
+IsSourceKept r t = IsSourceOpen r t × (arity_of (symbols_led r t) t.name ≡ length t.arguments)
+
+-- some of a cost
+pub record IsCostingKept (r : Ruling) (t : LeftTerm) (e : expression.Front) : Type 0 where
+  pub source : IsSourceKept r t
+  pub tokens : token_count e ≤ token_limit
+  pub variables : length (with_front (left_names t) e) ≤ variable_limit
+
+-- a left term with its arrow, whose cost is within the limits
+pub record IsLedKept (l : Led) : Type 0 where
+  pub source : IsSourceKept l.ruling l.left
+  pub cost : IsCostWithin (arrow_names l.left l.cost) l.cost
+  pub variables : length (arrow_names l.left l.cost) ≤ variable_limit
 
 abbrev pub IsAimedKept : Aimed → Type 0
 IsAimedKept a = IsLedKept a.led × (is_com a.name ≡ false)
@@ -119,28 +133,33 @@ counted names c e next =
     if is_some (truth_of e) && not (is_operating next) then with_conjoined names c else with_front
     (with_conjoined names c) e
 
--- some of an atom's left side, and of its right side
-pub record IsLeftKept (names : List Name) (c : Conjoined) (e : expression.Front) (next : Option Piece) : Type 0 where
+-- some of an atom's left side, and of its right side, where the rule's cost counts as so many atoms
+pub record IsLeftKept (others : ℕ) (names : List Name) (c : Conjoined) (e : expression.Front) (next : Option Piece)
+    : Type 0 where
   pub atoms : AreConjoined (with_conjoined names c) c
-  pub few : conjoined_count c + begun e ≤ atom_limit
+  pub few : (conjoined_count c + others) + begun e ≤ atom_limit
   pub tokens : token_count e ≤ token_limit
   pub variables : length (counted names c e next) ≤ variable_limit
 
-pub record IsRightKept (names : List Name) (c : Conjoined) (l : Sum) (e : expression.Front) : Type 0 where
+pub record IsRightKept (others : ℕ) (names : List Name) (c : Conjoined) (l : Sum) (e : expression.Front) : Type 0 where
   pub atoms : AreConjoined (with_conjoined names c) c
-  pub few : suc (conjoined_count c) ≤ atom_limit
+  pub few : suc (conjoined_count c) + others ≤ atom_limit
   pub left : IsShort l
   pub tokens : token_count e ≤ token_limit
   pub variables : length (with_front (with_sum (with_conjoined names c) l) e) ≤ variable_limit
 
-abbrev pub IsGuardKept : List Name → GuardFront → Option Piece → Type 0
-IsGuardKept names (LeftSide c e) next = IsLeftKept names c e next
-IsGuardKept names (RightSide c l sign e) next = IsRightKept names c l e
+abbrev pub IsGuardKept : ℕ → List Name → GuardFront → Option Piece → Type 0
+IsGuardKept others names (LeftSide c e) next = IsLeftKept others names c e next
+IsGuardKept others names (RightSide c l sign e) next = IsRightKept others names c l e
+
+-- a rule's guard is within the limits, beside its cost
+abbrev pub HasGuardKept : Headed → GuardFront → Option Piece → Type 0
+HasGuardKept h g next = IsGuardKept (atoms_of_cost h.led.cost) (headed_names h) g next
 
 -- a name behind `:|:` begins another rule before a bracket, and else an atom
 pub record IsWordKept (h : Headed) (name : Name) (next : Option Piece) : Type 0 where
   pub rule : is_open next ≡ true → suc (suc (length h.led.ruling.rules)) ≤ rule_limit
-  pub atom : is_open next ≡ false → IsGuardKept (headed_names h) (guard_named name) next
+  pub atom : is_open next ≡ false → HasGuardKept h (guard_named name) next
 
 -- what has been read is within the limits, where these pieces follow
 abbrev pub IsKept : Front → List Piece → Type 0
@@ -160,7 +179,8 @@ IsKept (SourceNamed r name) ps = IsOpenRuling r
 IsKept (LeftOpened r name) ps = IsOpenRuling r
 IsKept (LeftRead r name a earlier) ps = IsOpenRuling r × AreLeft (a ∷ earlier) × (is_operator (first ps) ≡ false)
 IsKept (LeftParted r name a earlier) ps = IsOpenRuling r × AreLeft (a ∷ earlier)
-IsKept (LeftShut l) ps = IsLedOpen l
+IsKept (LeftShut r t) ps = IsSourceOpen r t
+IsKept (Costing r t e) ps = IsCostingKept r t e
 IsKept (Arrowed l) ps = IsLedKept l
 IsKept (ComNamed l) ps = IsLedKept l
 IsKept (ComOpened l) ps = IsLedKept l
@@ -171,9 +191,9 @@ IsKept (RightShut l t) ps = HasRight l t
 IsKept (Targeted h) ps = IsTargetKept h.led h.target
 IsKept (GuardMarked h) ps = IsHeadedKept h
 IsKept (WordRead h name) ps = IsHeadedKept h × IsWordKept h name (first ps)
-IsKept (MarkGuarding h g) ps = IsHeadedKept h × IsGuardKept (headed_names h) g (first ps)
+IsKept (MarkGuarding h g) ps = IsHeadedKept h × HasGuardKept h g (first ps)
 IsKept (SquareOpened h) ps = IsHeadedKept h
-IsKept (SquareGuarding h g) ps = IsHeadedKept h × IsGuardKept (headed_names h) g (first ps)
+IsKept (SquareGuarding h g) ps = IsHeadedKept h × HasGuardKept h g (first ps)
 
 -- a name that is wanted as a left argument is new, there is room for it, and no operator follows
 abbrev pub IsLeftQuiet : List Name → Option Piece → Option Piece → Type 0
@@ -210,10 +230,18 @@ IsAtomExpanded names (RightSide c l sign e) next =
     ends_expression e next ≡ true → IsRightExpanded (with_sum (with_conjoined names c) l) l sign
     (expression_steps.finish e)
 
-pub record IsGuardQuiet (names : List Name) (g : GuardFront) (next behind : Option Piece) : Type 0 where
+pub record IsGuardQuiet (others : ℕ) (names : List Name) (g : GuardFront) (next behind : Option Piece) : Type 0 where
   pub atom : IsAtomExpanded names g next
-  pub few : (is_full g && begins next) ≡ false
+  pub few : (is_full others g && begins next) ≡ false
   pub going : IsGoingQuiet (open_expression_in names g) next behind
+
+-- a rule's guard is quiet, beside its cost
+abbrev pub HasGuardQuiet : Headed → GuardFront → Option Piece → Option Piece → Type 0
+HasGuardQuiet h g next behind = IsGuardQuiet (atoms_of_cost h.led.cost) (headed_names h) g next behind
+
+pub record IsCostQuiet (r : Ruling) (t : LeftTerm) (e : expression.Front) (next behind : Option Piece) : Type 0 where
+  pub cost : ends_expression e next ≡ true → IsArgumentExpanded (left_names t) (expression_steps.finish e)
+  pub going : IsGoingQuiet (shown.open_expression (Costing r t e) next behind) next behind
 
 pub record IsArgumentQuiet (a : Aimed) (arguments : List Sum) (e : expression.Front) (next behind : Option Piece) : Type
     0 where
@@ -240,7 +268,8 @@ IsQuiet (SourceNamed r name) next behind = ⊤
 IsQuiet (LeftOpened r name) next behind = IsLeftQuiet [] next behind
 IsQuiet (LeftRead r name a earlier) next behind = ⊤
 IsQuiet (LeftParted r name a earlier) next behind = IsLeftQuiet (a ∷ earlier) next behind
-IsQuiet (LeftShut l) next behind = other_arity (symbols_behind l) l.left.name (length l.left.arguments) ≡ false
+IsQuiet (LeftShut r t) next behind = other_arity (symbols_led r t) t.name (length t.arguments) ≡ false
+IsQuiet (Costing r t e) next behind = IsCostQuiet r t e next behind
 IsQuiet (Arrowed l) next behind = shown.targets_many (Arrowed l) next behind ≡ false
 IsQuiet (ComNamed l) next behind = ⊤
 IsQuiet (ComOpened l) next behind =
@@ -258,9 +287,9 @@ IsQuiet (WordRead h name) next behind =
     (shown.too_many_rules (WordRead h name) next behind ≡ false)
     × IsGoingQuiet (shown.open_expression (WordRead h name) next behind) next behind
 IsQuiet (MarkGuarding h g) next behind =
-    (shown.too_many_rules (MarkGuarding h g) next behind ≡ false) × IsGuardQuiet (headed_names h) g next behind
+    (shown.too_many_rules (MarkGuarding h g) next behind ≡ false) × HasGuardQuiet h g next behind
 IsQuiet (SquareOpened h) next behind = IsGoingQuiet (shown.open_expression (SquareOpened h) next behind) next behind
-IsQuiet (SquareGuarding h g) next behind = IsGuardQuiet (headed_names h) g next behind
+IsQuiet (SquareGuarding h g) next behind = HasGuardQuiet h g next behind
 
 -- the next piece is within its limits as a word or, where an expression goes on with it, as a literal
 abbrev pub IsNextSmall : Front → Option Piece → Option Piece → Type 0

@@ -7,14 +7,13 @@ use Rattle.expr_text.specs.model.Limits.{rule_limit, place_limit}
 use Rattle.expr_text.specs.text_core.Names.{is_same, is_among}
 use Rattle.expr_text.proofs.text_core.NameLaws.{same_equal}
 use Rattle.expr_text.specs.Pieces as inner
-use Rattle.its_text.specs.Pieces.{Piece, In, Comma, Arrow, word}
+use Rattle.its_text.specs.Pieces.{Piece, In, Comma, word}
 use Rattle.its_text.specs.Numbering.{is_com}
-use Rattle.its_text.specs.Fronts.{Ruling, Led, Alone, Aimed, Ruled, LeftOpened, LeftRead, LeftParted, LeftShut, Arrowed}
+use Rattle.its_text.specs.Fronts.{Ruling, Led, Alone, Aimed, Ruled, LeftOpened, LeftRead, LeftParted, Arrowed}
 use Rattle.its_text.specs.Fronts.{ComNamed, ComOpened, TargetNamed}
 use Rattle.its_text.specs.Steps.{behind_target_name, behind_rule, step}
-use Rattle.its_text.specs.FrontNames.{symbols_behind}
 use Rattle.its_text.specs.FrontFaults.{is_open}
-use Rattle.its_text.proofs.RoomLaws.{below, not_at, and_true, arity_same}
+use Rattle.its_text.proofs.RoomLaws.{below, not_at, and_true}
 use Rattle.its_text.proofs.KeptFronts.{first, IsRulingKept, IsOpenRuling, AreLeft}
 use Rattle.its_text.proofs.SectionTurns.{Turns, rules_done}
 
@@ -81,12 +80,6 @@ left_parted_turns r name a b earlier ps =
       λ h. let k = more.0 h.1 in ((h.0, k.0), (h.2, k.1, k.2)),
       λ h. (h.0.0, more.1 (h.0.1, h.1.1, h.1.2), h.1.0),
     )
-
--- the left term has as many arguments as its symbol has places
-pub arrow_turns : (l : Led) (ps : List Piece) → Turns (LeftShut l) Arrow ps (Some (Arrowed l))
-arrow_turns l ps =
-    let same = arity_same (symbols_behind l) l.left.name (length l.left.arguments) in
-    (λ h. (h.0, same.1 h.1), λ h. (h.0, same.0 h.1))
 
 -- a name that is `Com_` and digits is no target's, and `Com_1` is none within `Com_1(`
 com_open : (a o : Bool) → (a && not true && o) ≡ false

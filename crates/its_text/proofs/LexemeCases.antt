@@ -62,7 +62,8 @@ mark_is_mark b bytes =
     (of_either IsMark (b == 38) _ _ (of_either IsMark (begins_with 38 bytes) _ _ tt tt)
     (of_either IsMark (b == 47) _ _ (of_either IsMark (begins_with 92 bytes) _ _ tt tt)
     (of_either IsMark (b == 124) _ _ (of_either IsMark (begins_with 124 bytes) _ _ tt tt)
-    (of_either IsMark (nat_lt 127 b) _ _ tt tt))))))))))))))))
+    (of_either IsMark (b == 125) _ _ (of_either IsMark (begins_with 62 bytes) _ _ tt tt)
+    (of_either IsMark (nat_lt 127 b) _ _ tt tt)))))))))))))))))
 
 remark_is_mark : (b : ℕ) (bytes : List ℕ) (o : Option ℕ) → IsMark (remark_of b bytes o).piece
 remark_is_mark b bytes None = tt

@@ -10,7 +10,8 @@ use Rattle.expr_text.specs.text_core.Tokens.{Lexeme, LexesWithin, AreInOrder}
 use Rattle.expr_text.proofs.text_core.PrefixLaws.{prefix-rest}
 use Rattle.expr_text.proofs.text_core.Lexing.{in_order_in}
 use Rattle.expr_text.specs.Pieces as inner
-use Rattle.its_text.specs.Pieces.{Piece, In, Comma, SquareOpen, SquareClose, Disjoining, Wrong, Strange, open_bracket}
+use Rattle.its_text.specs.Pieces.{Piece, In, Comma, CostClose, SquareOpen, SquareClose, Disjoining, Wrong, Strange}
+use Rattle.its_text.specs.Pieces.{open_bracket}
 use Rattle.its_text.specs.Pieces.{close_bracket}
 use Rattle.its_text.specs.Lexing.{lexeme, minus_at, related_at, pair_at, guard_mark_at, mark_at, lexeme_at, Bend}
 use Rattle.its_text.specs.Lexing.{Opening, Closing, Neither, bend_of, one_more, closing_by, closing_at, Mode, Outside}
@@ -32,7 +33,7 @@ minus_fits : (bytes : List ℕ) → Fits (1 + length bytes) (minus_at bytes)
 minus_fits [] = (omega arith, omega arith)
 minus_fits (b ∷ bytes) =
     either_fits (1 + length (b ∷ bytes)) (begins_with 62 (b ∷ bytes)) _ _ (omega arith, omega arith)
-    (either_fits (1 + length (b ∷ bytes)) (begins_with 123 (b ∷ bytes)) _ _ (one_fits Wrong (b ∷ bytes)) (one_fits (In inner.Minus) (b ∷ bytes)))
+    (either_fits (1 + length (b ∷ bytes)) (begins_with 123 (b ∷ bytes)) _ _ (omega arith, omega arith) (one_fits (In inner.Minus) (b ∷ bytes)))
 
 related_fits : (with_equal alone : inner.Sign) (bytes : List ℕ) → Fits (1 + length bytes) (related_at with_equal alone bytes)
 related_fits with_equal alone [] = (omega arith, omega arith)
@@ -65,7 +66,8 @@ mark_fits b bytes =
     (either_fits most (b == 38) _ _ (pair_fits 38 (In (inner.Joining inner.Ampersands)) bytes)
     (either_fits most (b == 47) _ _ (pair_fits 92 (In (inner.Joining inner.Wedge)) bytes)
     (either_fits most (b == 124) _ _ (pair_fits 124 Disjoining bytes)
-    (either_fits most (nat_lt 127 b) _ _ (one_fits Strange bytes) (one_fits Wrong bytes)))))))))))))))))
+    (either_fits most (b == 125) _ _ (pair_fits 62 CostClose bytes)
+    (either_fits most (nat_lt 127 b) _ _ (one_fits Strange bytes) (one_fits Wrong bytes))))))))))))))))))
   where
     most : ℕ
     most = 1 + length bytes

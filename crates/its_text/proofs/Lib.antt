@@ -1,5 +1,6 @@
 pub mod StepCases
 pub mod SectionCases
+pub mod SourceCases
 pub mod RuleCases
 pub mod EveryStep
 pub mod StepLaws
@@ -25,7 +26,9 @@ pub mod QuietFronts
 pub mod SectionTurns
 pub mod ExpressionRoom
 pub mod LeftTurns
+pub mod CostTurns
 pub mod ArgumentTurns
+pub mod GuardRoom
 pub mod GuardTurns
 pub mod MadeRules
 pub mod RuleTurns

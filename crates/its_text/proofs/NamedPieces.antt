@@ -6,7 +6,7 @@ use Rattle.expr_text.specs.text_core.Tokens.{Token, pieces, token_then, tokens_i
 use Rattle.expr_text.specs.text_core.Readers.{onto}
 use Rattle.expr_text.proofs.text_core.PrefixLaws.{all_prefix}
 use Rattle.expr_text.specs.Pieces as inner
-use Rattle.its_text.specs.Pieces.{Piece, In, word}
+use Rattle.its_text.specs.Pieces.{Piece, In}
 use Rattle.its_text.proofs.LexemeCases.{IsMark, HoldsOfPieces, of_lexeme}
 use Rattle.its_text.specs.Lexing.{Mode, Outside, mode_behind, lexeme_in, lexer, tokens_of}
 

@@ -13,13 +13,15 @@ use Rattle.expr_text.specs.Trees.{Sum}
 use Rattle.expr_text.specs.Steps as expression_steps
 use Rattle.expr_text.specs.GuardFronts.{GuardFront, LeftSide, RightSide}
 use Rattle.expr_text.specs.FrontNames.{before_expression, goes_on_with, token_count}
-use Rattle.its_text.specs.Pieces.{Piece, In, Comma, Arrow, GuardMark, SquareOpen, SquareClose, Disjoining, Remark}
-use Rattle.its_text.specs.Pieces.{Wrong, Strange}
+use Rattle.its_text.specs.Pieces.{Piece, In, Comma, Arrow, CostOpen, CostClose, GuardMark, SquareOpen, SquareClose}
+use Rattle.its_text.specs.Pieces.{Disjoining, Remark, Wrong, Strange}
 use Rattle.its_text.specs.Fronts.{Front, Between, Opened, GoalNamed, GoalSaid, StartNamed, StartOpened, StartListed}
 use Rattle.its_text.specs.Fronts.{StartSaid, StartShut, Listing, CommentNamed, Ruled, SourceNamed, LeftOpened, LeftRead}
-use Rattle.its_text.specs.Fronts.{LeftParted, LeftShut, Arrowed, ComNamed, ComOpened, TargetNamed, RightOpened, Arguing}
+use Rattle.its_text.specs.Fronts.{LeftParted, LeftShut, Costing, Arrowed, ComNamed, ComOpened, TargetNamed, RightOpened}
+use Rattle.its_text.specs.Fronts.{Arguing}
 use Rattle.its_text.specs.Fronts.{RightShut, Targeted, GuardMarked, WordRead, MarkGuarding, SquareOpened}
 use Rattle.its_text.specs.Fronts.{SquareGuarding}
+use Rattle.its_text.specs.Numbering.{left_names}
 use Rattle.its_text.specs.FrontNames.{names_with, headed_names}
 use Rattle.expr_text.specs.text_core.Names.{is_among}
 use Rattle.its_text.specs.Kinds.{Kind, TooManyRules, TooManyArguments, TooManyVariables, TooManyAtoms, LongName}
@@ -85,6 +87,8 @@ left_at at (Some arguments) (Some (In (inner.Related sign))) behind = tt
 left_at at (Some arguments) (Some (In (inner.Joining joint))) behind = tt
 left_at at (Some arguments) (Some Comma) behind = tt
 left_at at (Some arguments) (Some Arrow) behind = tt
+left_at at (Some arguments) (Some CostOpen) behind = tt
+left_at at (Some arguments) (Some CostClose) behind = tt
 left_at at (Some arguments) (Some GuardMark) behind = tt
 left_at at (Some arguments) (Some SquareOpen) behind = tt
 left_at at (Some arguments) (Some SquareClose) behind = tt
@@ -104,6 +108,8 @@ token_at at (Some g) None behind = tt
 token_at at (Some g) (Some (In p)) behind = choice_at at (goes_on_with g.front p) (expression_faults at g p behind) (going_at at g p behind)
 token_at at (Some g) (Some Comma) behind = tt
 token_at at (Some g) (Some Arrow) behind = tt
+token_at at (Some g) (Some CostOpen) behind = tt
+token_at at (Some g) (Some CostClose) behind = tt
 token_at at (Some g) (Some GuardMark) behind = tt
 token_at at (Some g) (Some SquareOpen) behind = tt
 token_at at (Some g) (Some SquareClose) behind = tt
@@ -129,7 +135,8 @@ ended_at at (SourceNamed r source) next = tt
 ended_at at (LeftOpened r source) next = tt
 ended_at at (LeftRead r source a earlier) next = tt
 ended_at at (LeftParted r source a earlier) next = tt
-ended_at at (LeftShut l) next = tt
+ended_at at (LeftShut r t) next = tt
+ended_at at (Costing r t e) next = choice_at at (ends_expression e next) _ (argument_at at (left_names t) (expression_steps.finish e))
 ended_at at (Arrowed l) next = tt
 ended_at at (ComNamed l) next = tt
 ended_at at (ComOpened l) next = tt

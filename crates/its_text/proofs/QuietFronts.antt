@@ -12,13 +12,15 @@ use Rattle.expr_text.specs.Fronts as expression
 use Rattle.expr_text.specs.Steps as expression_steps
 use Rattle.expr_text.specs.GuardFronts.{GuardFront, LeftSide, RightSide}
 use Rattle.expr_text.specs.FrontNames.{with_conjoined, token_count, goes_on_with}
-use Rattle.its_text.specs.Pieces.{Piece, In, Comma, Arrow, GuardMark, SquareOpen, SquareClose, Disjoining, Remark}
-use Rattle.its_text.specs.Pieces.{Wrong, Strange}
-use Rattle.its_text.specs.Fronts.{Aimed, Front, Between, Opened, GoalNamed, GoalSaid, StartNamed, StartOpened}
+use Rattle.its_text.specs.Pieces.{Piece, In, Comma, Arrow, CostOpen, CostClose, GuardMark, SquareOpen, SquareClose}
+use Rattle.its_text.specs.Pieces.{Disjoining, Remark, Wrong, Strange}
+use Rattle.its_text.specs.Fronts.{Front, Between, Opened, GoalNamed, GoalSaid, StartNamed, StartOpened}
 use Rattle.its_text.specs.Fronts.{StartListed, StartSaid, StartShut, Listing, CommentNamed, Ruled, SourceNamed}
-use Rattle.its_text.specs.Fronts.{LeftOpened, LeftRead, LeftParted, LeftShut, Arrowed, ComNamed, ComOpened, TargetNamed}
-use Rattle.its_text.specs.Fronts.{RightOpened, Arguing, RightShut, Targeted, GuardMarked, WordRead, MarkGuarding}
+use Rattle.its_text.specs.Fronts.{LeftOpened, LeftRead, LeftParted, LeftShut, Costing, Arrowed, ComNamed, ComOpened}
+use Rattle.its_text.specs.Fronts.{TargetNamed, RightOpened, Arguing, RightShut, Targeted, GuardMarked, WordRead}
+use Rattle.its_text.specs.Fronts.{MarkGuarding}
 use Rattle.its_text.specs.Fronts.{SquareOpened, SquareGuarding}
+use Rattle.its_text.specs.Numbering.{left_names}
 use Rattle.its_text.specs.FrontNames.{names_with, headed_names}
 use Rattle.its_text.specs.Kinds.{TooManyArguments, TooManyVariables, TooManyTokens, Kind, LeftNotVariable, LeftRepeated}
 use Rattle.its_text.specs.Kinds.{NumberTooLarge, Limit}
@@ -103,6 +105,8 @@ left_quiet at arguments (Some (In (inner.Related sign))) behind = (λ h. tt, λ 
 left_quiet at arguments (Some (In (inner.Joining joint))) behind = (λ h. tt, λ h. refl)
 left_quiet at arguments (Some Comma) behind = (λ h. tt, λ h. refl)
 left_quiet at arguments (Some Arrow) behind = (λ h. tt, λ h. refl)
+left_quiet at arguments (Some CostOpen) behind = (λ h. tt, λ h. refl)
+left_quiet at arguments (Some CostClose) behind = (λ h. tt, λ h. refl)
 left_quiet at arguments (Some GuardMark) behind = (λ h. tt, λ h. refl)
 left_quiet at arguments (Some SquareOpen) behind = (λ h. tt, λ h. refl)
 left_quiet at arguments (Some SquareClose) behind = (λ h. tt, λ h. refl)
@@ -138,6 +142,8 @@ token_quiet at (Some g) None behind = (λ h. record { going = tt; small = tt }, 
 token_quiet at (Some g) (Some (In p)) behind = going_in_quiet at g p behind
 token_quiet at (Some g) (Some Comma) behind = (λ h. record { going = tt; small = tt }, λ h. refl)
 token_quiet at (Some g) (Some Arrow) behind = (λ h. record { going = tt; small = tt }, λ h. refl)
+token_quiet at (Some g) (Some CostOpen) behind = (λ h. record { going = tt; small = tt }, λ h. refl)
+token_quiet at (Some g) (Some CostClose) behind = (λ h. record { going = tt; small = tt }, λ h. refl)
 token_quiet at (Some g) (Some GuardMark) behind = (λ h. record { going = tt; small = tt }, λ h. refl)
 token_quiet at (Some g) (Some SquareOpen) behind = (λ h. record { going = tt; small = tt }, λ h. refl)
 token_quiet at (Some g) (Some SquareClose) behind = (λ h. record { going = tt; small = tt }, λ h. refl)
@@ -207,13 +213,11 @@ shows_none last at f next behind s =
 
 -- front by front
 module _ (last at : ℕ) (next behind : Option Piece) where
-  -- an argument that has ended shows nothing exactly where it can be expanded
-  ended_quiet : (a : Aimed) (arguments : List Sum) (e : expression.Front)
-      → (ended_faults last (Arguing a arguments e) next ≡ [])
-      ↔ (ends_expression e next ≡ true
-      → IsArgumentExpanded (names_with a.led arguments) (expression_steps.finish e))
-  ended_quiet a arguments e =
-      let names = names_with a.led arguments in
+  -- a cost or an argument that has ended shows nothing exactly where it can be expanded
+  ended_quiet : (names : List Name) (e : expression.Front)
+      → ((if ends_expression e next then argument_faults last names (expression_steps.finish e) else []) ≡ [])
+      ↔ (ends_expression e next ≡ true → IsArgumentExpanded names (expression_steps.finish e))
+  ended_quiet names e =
       let o = choice_quiet (ends_expression e next) (argument_faults last names (expression_steps.finish e)) in
       let x = argument_quiet last names (expression_steps.finish e) in
       (λ h k. x.0 (o.0 h k), λ h. o.1 (λ k. x.1 (h k)))
@@ -245,7 +249,9 @@ module _ (last at : ℕ) (next behind : Option Piece) where
   quiet_of (LeftOpened r source) s = (left_quiet at [] next behind).0 s.left
   quiet_of (LeftRead r source a earlier) s = tt
   quiet_of (LeftParted r source a earlier) s = (left_quiet at (a ∷ earlier) next behind).0 s.left
-  quiet_of (LeftShut l) s = s.arity
+  quiet_of (LeftShut r t) s = s.arity
+  quiet_of (Costing r t e) s =
+      record { cost = (ended_quiet (left_names t) e).0 s.ended; going = going_of (Costing r t e) s }
   quiet_of (Arrowed l) s = s.many
   quiet_of (ComNamed l) s = tt
   quiet_of (ComOpened l) s = (s.again, s.many)
@@ -253,7 +259,7 @@ module _ (last at : ℕ) (next behind : Option Piece) where
   quiet_of (RightOpened a) s = going_of (RightOpened a) s
   quiet_of (Arguing a arguments e) s =
       record {
-        argument = (ended_quiet a arguments e).0 s.ended;
+        argument = (ended_quiet (names_with a.led arguments) e).0 s.ended;
         few = s.arguments;
         going = going_of (Arguing a arguments e) s;
       }
@@ -328,7 +334,10 @@ module _ (last at : ℕ) (next behind : Option Piece) where
   silent_of (LeftParted r source a earlier) q m =
       all_silent (LeftParted r source a earlier) refl refl refl refl refl
       ((left_quiet at (a ∷ earlier) next behind).1 q) refl refl refl m.0 refl
-  silent_of (LeftShut l) q m = all_silent (LeftShut l) q refl refl refl refl refl refl refl refl m.0 refl
+  silent_of (LeftShut r t) q m = all_silent (LeftShut r t) q refl refl refl refl refl refl refl refl m.0 refl
+  silent_of (Costing r t e) q m =
+      all_silent (Costing r t e) refl ((ended_quiet (left_names t) e).1 q.cost) refl refl refl refl refl refl refl m.0
+      (token_of (Costing r t e) q.going m)
   silent_of (Arrowed l) q m = all_silent (Arrowed l) refl refl refl refl q refl refl refl refl m.0 refl
   silent_of (ComNamed l) q m = all_silent (ComNamed l) refl refl refl refl refl refl refl refl refl m.0 refl
   silent_of (ComOpened l) q m = all_silent (ComOpened l) refl refl q.0 refl q.1 refl refl refl refl m.0 refl
@@ -336,7 +345,7 @@ module _ (last at : ℕ) (next behind : Option Piece) where
   silent_of (RightOpened a) q m =
       all_silent (RightOpened a) refl refl refl refl refl refl refl refl refl m.0 (token_of (RightOpened a) q m)
   silent_of (Arguing a arguments e) q m =
-      all_silent (Arguing a arguments e) refl ((ended_quiet a arguments e).1 q.argument) refl refl refl refl refl
+      all_silent (Arguing a arguments e) refl ((ended_quiet (names_with a.led arguments) e).1 q.argument) refl refl refl refl refl
       q.few refl m.0 (token_of (Arguing a arguments e) q.going m)
   silent_of (RightShut l t) q m = all_silent (RightShut l t) q refl refl refl refl refl refl refl refl m.0 refl
   silent_of (Targeted h) q m = all_silent (Targeted h) q.0 refl refl refl refl refl q.1 refl refl m.0 refl

@@ -14,21 +14,21 @@ use Rattle.expr_text.specs.GuardFronts as guards
 use Rattle.expr_text.proofs.Ending.{word_ends_guard, close_ends_guard}
 use Rattle.expr_text.proofs.Reading.{behind_sum, sum_finish, expression_is_read}
 use Rattle.expr_text.proofs.GuardReading.{behind_atoms, atoms_finish, guard_is_read}
-use Rattle.its_text.specs.Pieces.{Piece, In, Comma, Arrow, GuardMark, SquareOpen, SquareClose, Remark, word}
-use Rattle.its_text.specs.Pieces.{open_bracket, close_bracket}
+use Rattle.its_text.specs.Pieces.{Piece, In, Comma, Arrow, CostOpen, CostClose, GuardMark, SquareOpen, SquareClose}
+use Rattle.its_text.specs.Pieces.{Remark, word, open_bracket, close_bracket}
 use Rattle.its_text.specs.Written.{LeftTerm, Target, Marked, Bare, Guard, NoGuard, BehindMark, InSquares, WrittenRule}
 use Rattle.its_text.specs.Written.{Section, Goal, Start, Variables, Rules, Comment, names_behind, sums_behind}
-use Rattle.its_text.specs.Written.{left_behind, right_behind, target_behind, guard_behind, rules_behind, words_behind}
-use Rattle.its_text.specs.Written.{section_behind, pieces_behind}
+use Rattle.its_text.specs.Written.{left_behind, right_behind, arrow_behind, target_behind, guard_behind, rules_behind}
+use Rattle.its_text.specs.Written.{words_behind, section_behind, pieces_behind}
 use Rattle.its_text.specs.Fronts.{Ruling, Led, InCom, Alone, Aimed, Headed, Front, Between, Opened, Listing, Ruled}
-use Rattle.its_text.specs.Fronts.{SourceNamed, LeftOpened, LeftRead, LeftShut, Arrowed, ComNamed, ComOpened}
+use Rattle.its_text.specs.Fronts.{SourceNamed, LeftOpened, LeftRead, LeftShut, Costing, Arrowed, ComNamed, ComOpened}
 use Rattle.its_text.specs.Fronts.{RightOpened, Arguing, RightShut, Targeted, GuardMarked, WordRead, MarkGuarding}
 use Rattle.its_text.specs.Fronts.{SquareOpened, SquareGuarding, ruling_with, section_of}
 use Rattle.its_text.specs.Steps.{behind_target_name, behind_comma, argument_step, guard_ended, mark_guard_step}
 use Rattle.its_text.specs.Steps.{guard_named, square_guard_step, square_ended, right_shut, behind_arrow, step}
-use Rattle.its_text.specs.Steps.{beginning, finish}
+use Rattle.its_text.specs.Steps.{left_shut, behind_left, cost_ended, beginning, finish}
 use Rattle.its_text.specs.Grammar.{IsTarget, HaveTargets, IsSection, AreSections, Writes, programs}
-use Rattle.its_text.proofs.Completing.{At, onward, argument_closes}
+use Rattle.its_text.proofs.Completing.{At, onward, costing_steps, argument_closes}
 
 -- nothing isn't something, and what is the same thing is the same
 abbrev pub Is : {X : Type 0} → X → Option X → Type 0
@@ -43,12 +43,12 @@ none_is_some {x = x} e = subst (λ o. Is x o) (sym e) refl
 pub some_is : {X : Type 0} {x y : X} → Some x ≡ Some y → x ≡ y
 some_is {x = x} e = subst (λ o. Is x o) e refl
 
--- a rule's head, and its left term, with the sections and rules before
-abbrev pub headed_at : List Section → List WrittenRule → LeftTerm → Target → Headed
-headed_at ss rules left target = record { led = record { ruling = record { sections = ss; rules = rules }; left = left }; target = target }
+-- a rule's left term with its arrow, and its head, with the sections and rules before
+abbrev pub led_at : List Section → List WrittenRule → WrittenRule → Led
+led_at ss rules r = record { ruling = record { sections = ss; rules = rules }; left = r.left; cost = r.cost }
 
-abbrev pub led_at : List Section → List WrittenRule → LeftTerm → Led
-led_at ss rules left = record { ruling = record { sections = ss; rules = rules }; left = left }
+abbrev pub headed_at : List Section → List WrittenRule → WrittenRule → Headed
+headed_at ss rules r = record { led = led_at ss rules r; target = r.target }
 
 -- the left arguments
 names_read : (r : Ruling) (name a : Name) (earlier : List Name) (done : List Piece) → At done (LeftOpened r name) → At (names_behind (a ∷ earlier) done) (LeftRead r name a earlier)
@@ -58,9 +58,19 @@ names_read r name a (b ∷ earlier) done at =
     (onward (names_behind (b ∷ earlier) done) (LeftRead r name b earlier) _ Comma (names_read r name b earlier done at) refl) refl
 
 left_read : (r : Ruling) (name : Name) (arguments : List Name) (done : List Piece) → At done (LeftOpened r name)
-    → At (close_bracket ∷ names_behind arguments done) (LeftShut (record { ruling = r; left = record { name = name; arguments = arguments } }))
+    → At (close_bracket ∷ names_behind arguments done) (left_shut r name arguments)
 left_read r name [] done at = onward done (LeftOpened r name) _ close_bracket at refl
 left_read r name (a ∷ earlier) done at = onward (names_behind (a ∷ earlier) done) (LeftRead r name a earlier) _ close_bracket (names_read r name a earlier done at) refl
+
+-- an arrow, with a cost or none
+arrow_read : (r : Ruling) (t : LeftTerm) (cost : Option Sum) (done : List Piece) → At done (LeftShut r t)
+    → At (arrow_behind cost done) (behind_left r t cost)
+arrow_read r t None done at = onward done (LeftShut r t) (behind_left r t None) Arrow at refl
+arrow_read r t (Some c) done at =
+    onward (sum_behind In c (CostOpen ∷ done)) (Costing r t (behind_sum [] c)) (behind_left r t (Some c)) CostClose
+    (expression_is_read In (λ behind e. At behind (Costing r t e)) (costing_steps r t) c (CostOpen ∷ done)
+    (onward done (LeftShut r t) (Costing r t expression.beginning) CostOpen at refl))
+    (ap (λ o. cost_ended r t o) (sum_finish c))
 
 -- an argument that is wanted: behind the bracket, or behind a comma
 abbrev pub Argues : Aimed → List Sum → List Piece → expression.Front → Type 0
@@ -180,7 +190,7 @@ Behind h (InSquares atoms) done = At done (Ruled (ruling_with h (InSquares atoms
 
 abbrev pub BehindRules : List Section → List WrittenRule → List Piece → Type 0
 BehindRules ss [] done = At done (Ruled (record { sections = ss; rules = [] }))
-BehindRules ss (r ∷ rules) done = Behind (headed_at ss rules r.left r.target) r.guard done
+BehindRules ss (r ∷ rules) done = Behind (headed_at ss rules r) r.guard done
 
 -- behind a rule the next one begins
 opens_behind : (h : Headed) (guard : Guard) (name : Name) (done : List Piece) → Behind h guard done
@@ -210,11 +220,11 @@ rule_opens : (ss : List Section) (rules : List WrittenRule) (name : Name) (done 
     → At (open_bracket ∷ word name ∷ done) (LeftOpened (record { sections = ss; rules = rules }) name)
 rule_opens ss [] name done at =
     onward (word name ∷ done) (SourceNamed (record { sections = ss; rules = [] }) name) _ open_bracket (onward done (Ruled (record { sections = ss; rules = [] })) _ (word name) at refl) refl
-rule_opens ss (r ∷ rules) name done at = opens_behind (headed_at ss rules r.left r.target) r.guard name done at
+rule_opens ss (r ∷ rules) name done at = opens_behind (headed_at ss rules r) r.guard name done at
 
 rules_close : (ss : List Section) (rules : List WrittenRule) (done : List Piece) → BehindRules ss rules done → At (close_bracket ∷ done) (Between (Rules rules ∷ ss))
 rules_close ss [] done at = onward done (Ruled (record { sections = ss; rules = [] })) _ close_bracket at refl
-rules_close ss (r ∷ rules) done at = closes_behind (headed_at ss rules r.left r.target) r.guard done at
+rules_close ss (r ∷ rules) done at = closes_behind (headed_at ss rules r) r.guard done at
 
 -- a guard in square brackets: its front, or the front before it
 abbrev pub Squares : Headed → List Piece → guards.GuardFront → Type 0
@@ -244,12 +254,11 @@ guard_read h (InSquares (Some atoms)) done at =
 rules_read : (ss : List Section) (rules : List WrittenRule) (done : List Piece) → HaveTargets rules → At done (Ruled (record { sections = ss; rules = [] })) → BehindRules ss rules (rules_behind rules done)
 rules_read ss [] done are at = at
 rules_read ss (r ∷ rules) done are at =
-    guard_read (headed_at ss rules r.left r.target) r.guard (target_behind r.target (Arrow ∷ left_behind r.left (rules_behind rules done)))
-    (target_read (led_at ss rules r.left) r.target (Arrow ∷ left_behind r.left (rules_behind rules done)) are.0
-    (onward (left_behind r.left (rules_behind rules done)) (LeftShut (led_at ss rules r.left)) (Arrowed (led_at ss rules r.left)) Arrow
+    guard_read (headed_at ss rules r) r.guard (target_behind r.target (arrow_behind r.cost (left_behind r.left (rules_behind rules done))))
+    (target_read (led_at ss rules r) r.target (arrow_behind r.cost (left_behind r.left (rules_behind rules done))) are.0
+    (arrow_read (record { sections = ss; rules = rules }) r.left r.cost (left_behind r.left (rules_behind rules done))
     (left_read (record { sections = ss; rules = rules }) r.left.name r.left.arguments (open_bracket ∷ word r.left.name ∷ rules_behind rules done)
-    (rule_opens ss rules r.left.name (rules_behind rules done) (rules_read ss rules done are.1 at)))
-    refl))
+    (rule_opens ss rules r.left.name (rules_behind rules done) (rules_read ss rules done are.1 at)))))
 
 -- the variables of a list
 words_read : (ss : List Section) (names : List Name) (done : List Piece) → At done (Listing ss []) → At (words_behind names done) (Listing ss names)

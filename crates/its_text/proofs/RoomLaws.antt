@@ -1,6 +1,6 @@
 -- What the tests of limits tell, and names and terms that don't change behind more names.
 use Rattle.std.proofs.Common.{◌≡◌, ℕ, suc, ◌≤◌, Bool, true, false, not, ◌&&◌, ◌||◌, if◌then◌else◌, ◌==◌, ◌↔◌, nat_le}
-use Rattle.std.proofs.Common.{List, [], ◌∷◌, ◌++◌, refl, ap, sym, ◌∙◌, arith}
+use Rattle.std.proofs.Common.{List, [], ◌∷◌, ◌++◌, Option, Some, None, refl, ap, sym, ◌∙◌, arith}
 use Rattle.std.proofs.lemmas.Bool.Decides.{nat_tests}
 use Rattle.std.specs.List.{AllByRecursion}
 use Rattle.expr_text.specs.model.Programs.{Name, Symbol}
@@ -14,10 +14,10 @@ use Rattle.its_text.specs.Written.{WrittenRule}
 use Rattle.its_text.specs.Numbering.{names_of, with_symbol, arity_of, term_in}
 use Rattle.expr_text.specs.Differences.{differences, first_of_all}
 use Rattle.its_text.specs.FrontFaults.{other_arity}
-use Rattle.its_text.specs.Spelling.{IsArgumentWithin, AreArgumentsWithin, IsAtomWithin, AreAtomsWithin, IsRule}
-use Rattle.its_text.specs.Spelling.{AreRules}
+use Rattle.its_text.specs.Spelling.{IsArgumentWithin, AreArgumentsWithin, IsCostWithin, IsAtomWithin, AreAtomsWithin}
+use Rattle.its_text.specs.Spelling.{IsRule, AreRules}
 use Rattle.expr_text.proofs.NamesRead.{Extends, term_along, AtomReads, AtomsRead}
-use Rattle.its_text.proofs.ValidRules.{AllRead}
+use Rattle.its_text.proofs.ValidRules.{AllRead, CostReads}
 use Rattle.its_text.proofs.ValidPrograms.{IsKnown}
 pub use Rattle.std.proofs.lemmas.Bool.{not-true as passes_not}
 
@@ -130,6 +130,11 @@ module _ (names last : List Name) (e : Extends names last) where
       let a = argument_stays s h.0 in
       let b = arguments_stay sums h.1 in
       (λ w. (a.0 w.0, b.0 w.1), λ w. (a.1 w.0, b.1 w.1))
+
+  -- so is a cost
+  pub cost_stays : (cost : Option Sum) → CostReads names cost → IsCostWithin names cost ↔ IsCostWithin last cost
+  cost_stays None h = (λ w. tt, λ w. tt)
+  cost_stays (Some c) h = argument_stays c h
 
   -- and atoms
   atom_stays : (a : Atom) → AtomReads names a → IsAtomWithin names a ↔ IsAtomWithin last a

@@ -1,149 +1,22 @@
--- What holds of each step that leads somewhere holds of each step in the rules.
+-- What holds of each step that leads somewhere holds of each step in the rules behind an arrow.
 use Rattle.std.specs.Prelude.{List, Option}
 use Rattle.expr_text.specs.model.Programs.{Name}
 use Rattle.expr_text.specs.Pieces as inner
 use Rattle.expr_text.specs.Trees.{Sum}
 use Rattle.expr_text.specs.Fronts as expression
 use Rattle.expr_text.specs.GuardFronts as guards
-use Rattle.its_text.specs.Pieces.{Piece, In, Comma, Arrow, GuardMark, SquareOpen, SquareClose, Disjoining, Remark}
-use Rattle.its_text.specs.Pieces.{Wrong, Strange}
+use Rattle.its_text.specs.Pieces.{Piece, In, Comma, Arrow, CostOpen, CostClose, GuardMark, SquareOpen, SquareClose}
+use Rattle.its_text.specs.Pieces.{Disjoining, Remark, Wrong, Strange}
 use Rattle.its_text.specs.Written.{RightTerm}
-use Rattle.its_text.specs.Fronts.{Front, Ruling, Led, Aimed, Headed, Ruled, SourceNamed, LeftOpened, LeftRead}
-use Rattle.its_text.specs.Fronts.{LeftParted, LeftShut, Arrowed, ComNamed, ComOpened, TargetNamed, RightOpened, Arguing}
-use Rattle.its_text.specs.Fronts.{RightShut, Targeted, GuardMarked, WordRead, MarkGuarding, SquareOpened}
+use Rattle.its_text.specs.Fronts.{Front, Led, Aimed, Headed}
+use Rattle.its_text.specs.Fronts.{Arrowed, ComNamed, ComOpened, TargetNamed, RightOpened}
+use Rattle.its_text.specs.Fronts.{Arguing, RightShut, Targeted, GuardMarked, WordRead, MarkGuarding, SquareOpened}
 use Rattle.its_text.specs.Fronts.{SquareGuarding}
 use Rattle.its_text.specs.Steps.{step}
 use Rattle.its_text.proofs.StepCases.{HoldsOfSteps}
 
 module _ (P : Front → Piece → Option Front → Type 0) (each : HoldsOfSteps P) where
-  -- behind `(RULES` and whole rules
-  pub ruled_case : (r : Ruling) (p : Piece) → P (Ruled r) p (step (Ruled r) p)
-  ruled_case r (In p) = each.ruled_piece r p
-  ruled_case r Comma = each.nowhere (Ruled r) Comma
-  ruled_case r Arrow = each.nowhere (Ruled r) Arrow
-  ruled_case r GuardMark = each.nowhere (Ruled r) GuardMark
-  ruled_case r SquareOpen = each.nowhere (Ruled r) SquareOpen
-  ruled_case r SquareClose = each.nowhere (Ruled r) SquareClose
-  ruled_case r Disjoining = each.nowhere (Ruled r) Disjoining
-  ruled_case r (Remark bytes) = each.nowhere (Ruled r) (Remark bytes)
-  ruled_case r Wrong = each.nowhere (Ruled r) Wrong
-  ruled_case r Strange = each.nowhere (Ruled r) Strange
-
-  -- behind a rule's source
-  pub source_named_case : (r : Ruling) (source : Name) (p : Piece)
-      → P (SourceNamed r source) p (step (SourceNamed r source) p)
-  source_named_case r source (In (inner.Word name)) = each.nowhere (SourceNamed r source) (In (inner.Word name))
-  source_named_case r source (In (inner.Digits ds)) = each.nowhere (SourceNamed r source) (In (inner.Digits ds))
-  source_named_case r source (In inner.Open) = each.source_named_open r source
-  source_named_case r source (In inner.Close) = each.nowhere (SourceNamed r source) (In inner.Close)
-  source_named_case r source (In inner.Plus) = each.nowhere (SourceNamed r source) (In inner.Plus)
-  source_named_case r source (In inner.Minus) = each.nowhere (SourceNamed r source) (In inner.Minus)
-  source_named_case r source (In inner.Times) = each.nowhere (SourceNamed r source) (In inner.Times)
-  source_named_case r source (In inner.Caret) = each.nowhere (SourceNamed r source) (In inner.Caret)
-  source_named_case r source (In (inner.Related sign)) = each.nowhere (SourceNamed r source) (In (inner.Related sign))
-  source_named_case r source (In (inner.Joining joint)) = each.nowhere (SourceNamed r source) (In (inner.Joining joint))
-  source_named_case r source Comma = each.nowhere (SourceNamed r source) Comma
-  source_named_case r source Arrow = each.nowhere (SourceNamed r source) Arrow
-  source_named_case r source GuardMark = each.nowhere (SourceNamed r source) GuardMark
-  source_named_case r source SquareOpen = each.nowhere (SourceNamed r source) SquareOpen
-  source_named_case r source SquareClose = each.nowhere (SourceNamed r source) SquareClose
-  source_named_case r source Disjoining = each.nowhere (SourceNamed r source) Disjoining
-  source_named_case r source (Remark bytes) = each.nowhere (SourceNamed r source) (Remark bytes)
-  source_named_case r source Wrong = each.nowhere (SourceNamed r source) Wrong
-  source_named_case r source Strange = each.nowhere (SourceNamed r source) Strange
-
-  -- behind the bracket that opens left arguments
-  pub left_opened_case : (r : Ruling) (source : Name) (p : Piece)
-      → P (LeftOpened r source) p (step (LeftOpened r source) p)
-  left_opened_case r source (In (inner.Word name)) = each.left_opened_word r source name
-  left_opened_case r source (In (inner.Digits ds)) = each.nowhere (LeftOpened r source) (In (inner.Digits ds))
-  left_opened_case r source (In inner.Open) = each.nowhere (LeftOpened r source) (In inner.Open)
-  left_opened_case r source (In inner.Close) = each.left_opened_close r source
-  left_opened_case r source (In inner.Plus) = each.nowhere (LeftOpened r source) (In inner.Plus)
-  left_opened_case r source (In inner.Minus) = each.nowhere (LeftOpened r source) (In inner.Minus)
-  left_opened_case r source (In inner.Times) = each.nowhere (LeftOpened r source) (In inner.Times)
-  left_opened_case r source (In inner.Caret) = each.nowhere (LeftOpened r source) (In inner.Caret)
-  left_opened_case r source (In (inner.Related sign)) = each.nowhere (LeftOpened r source) (In (inner.Related sign))
-  left_opened_case r source (In (inner.Joining joint)) = each.nowhere (LeftOpened r source) (In (inner.Joining joint))
-  left_opened_case r source Comma = each.nowhere (LeftOpened r source) Comma
-  left_opened_case r source Arrow = each.nowhere (LeftOpened r source) Arrow
-  left_opened_case r source GuardMark = each.nowhere (LeftOpened r source) GuardMark
-  left_opened_case r source SquareOpen = each.nowhere (LeftOpened r source) SquareOpen
-  left_opened_case r source SquareClose = each.nowhere (LeftOpened r source) SquareClose
-  left_opened_case r source Disjoining = each.nowhere (LeftOpened r source) Disjoining
-  left_opened_case r source (Remark bytes) = each.nowhere (LeftOpened r source) (Remark bytes)
-  left_opened_case r source Wrong = each.nowhere (LeftOpened r source) Wrong
-  left_opened_case r source Strange = each.nowhere (LeftOpened r source) Strange
-
-  -- behind a left argument
-  pub left_read_case : (r : Ruling) (source a : Name) (earlier : List Name) (p : Piece)
-      → P (LeftRead r source a earlier) p (step (LeftRead r source a earlier) p)
-  left_read_case r source a earlier (In (inner.Word name)) = each.nowhere (LeftRead r source a earlier) (In (inner.Word name))
-  left_read_case r source a earlier (In (inner.Digits ds)) = each.nowhere (LeftRead r source a earlier) (In (inner.Digits ds))
-  left_read_case r source a earlier (In inner.Open) = each.nowhere (LeftRead r source a earlier) (In inner.Open)
-  left_read_case r source a earlier (In inner.Close) = each.left_read_close r source a earlier
-  left_read_case r source a earlier (In inner.Plus) = each.nowhere (LeftRead r source a earlier) (In inner.Plus)
-  left_read_case r source a earlier (In inner.Minus) = each.nowhere (LeftRead r source a earlier) (In inner.Minus)
-  left_read_case r source a earlier (In inner.Times) = each.nowhere (LeftRead r source a earlier) (In inner.Times)
-  left_read_case r source a earlier (In inner.Caret) = each.nowhere (LeftRead r source a earlier) (In inner.Caret)
-  left_read_case r source a earlier (In (inner.Related sign)) = each.nowhere (LeftRead r source a earlier) (In (inner.Related sign))
-  left_read_case r source a earlier (In (inner.Joining joint)) = each.nowhere (LeftRead r source a earlier) (In (inner.Joining joint))
-  left_read_case r source a earlier Comma = each.left_read_comma r source a earlier
-  left_read_case r source a earlier Arrow = each.nowhere (LeftRead r source a earlier) Arrow
-  left_read_case r source a earlier GuardMark = each.nowhere (LeftRead r source a earlier) GuardMark
-  left_read_case r source a earlier SquareOpen = each.nowhere (LeftRead r source a earlier) SquareOpen
-  left_read_case r source a earlier SquareClose = each.nowhere (LeftRead r source a earlier) SquareClose
-  left_read_case r source a earlier Disjoining = each.nowhere (LeftRead r source a earlier) Disjoining
-  left_read_case r source a earlier (Remark bytes) = each.nowhere (LeftRead r source a earlier) (Remark bytes)
-  left_read_case r source a earlier Wrong = each.nowhere (LeftRead r source a earlier) Wrong
-  left_read_case r source a earlier Strange = each.nowhere (LeftRead r source a earlier) Strange
-
-  -- behind the comma after a left argument
-  pub left_parted_case : (r : Ruling) (source a : Name) (earlier : List Name) (p : Piece)
-      → P (LeftParted r source a earlier) p (step (LeftParted r source a earlier) p)
-  left_parted_case r source a earlier (In (inner.Word name)) = each.left_parted_word r source a earlier name
-  left_parted_case r source a earlier (In (inner.Digits ds)) = each.nowhere (LeftParted r source a earlier) (In (inner.Digits ds))
-  left_parted_case r source a earlier (In inner.Open) = each.nowhere (LeftParted r source a earlier) (In inner.Open)
-  left_parted_case r source a earlier (In inner.Close) = each.nowhere (LeftParted r source a earlier) (In inner.Close)
-  left_parted_case r source a earlier (In inner.Plus) = each.nowhere (LeftParted r source a earlier) (In inner.Plus)
-  left_parted_case r source a earlier (In inner.Minus) = each.nowhere (LeftParted r source a earlier) (In inner.Minus)
-  left_parted_case r source a earlier (In inner.Times) = each.nowhere (LeftParted r source a earlier) (In inner.Times)
-  left_parted_case r source a earlier (In inner.Caret) = each.nowhere (LeftParted r source a earlier) (In inner.Caret)
-  left_parted_case r source a earlier (In (inner.Related sign)) = each.nowhere (LeftParted r source a earlier) (In (inner.Related sign))
-  left_parted_case r source a earlier (In (inner.Joining joint)) = each.nowhere (LeftParted r source a earlier) (In (inner.Joining joint))
-  left_parted_case r source a earlier Comma = each.nowhere (LeftParted r source a earlier) Comma
-  left_parted_case r source a earlier Arrow = each.nowhere (LeftParted r source a earlier) Arrow
-  left_parted_case r source a earlier GuardMark = each.nowhere (LeftParted r source a earlier) GuardMark
-  left_parted_case r source a earlier SquareOpen = each.nowhere (LeftParted r source a earlier) SquareOpen
-  left_parted_case r source a earlier SquareClose = each.nowhere (LeftParted r source a earlier) SquareClose
-  left_parted_case r source a earlier Disjoining = each.nowhere (LeftParted r source a earlier) Disjoining
-  left_parted_case r source a earlier (Remark bytes) = each.nowhere (LeftParted r source a earlier) (Remark bytes)
-  left_parted_case r source a earlier Wrong = each.nowhere (LeftParted r source a earlier) Wrong
-  left_parted_case r source a earlier Strange = each.nowhere (LeftParted r source a earlier) Strange
-
-  -- behind the left term
-  pub left_shut_case : (l : Led) (p : Piece) → P (LeftShut l) p (step (LeftShut l) p)
-  left_shut_case l (In (inner.Word name)) = each.nowhere (LeftShut l) (In (inner.Word name))
-  left_shut_case l (In (inner.Digits ds)) = each.nowhere (LeftShut l) (In (inner.Digits ds))
-  left_shut_case l (In inner.Open) = each.nowhere (LeftShut l) (In inner.Open)
-  left_shut_case l (In inner.Close) = each.nowhere (LeftShut l) (In inner.Close)
-  left_shut_case l (In inner.Plus) = each.nowhere (LeftShut l) (In inner.Plus)
-  left_shut_case l (In inner.Minus) = each.nowhere (LeftShut l) (In inner.Minus)
-  left_shut_case l (In inner.Times) = each.nowhere (LeftShut l) (In inner.Times)
-  left_shut_case l (In inner.Caret) = each.nowhere (LeftShut l) (In inner.Caret)
-  left_shut_case l (In (inner.Related sign)) = each.nowhere (LeftShut l) (In (inner.Related sign))
-  left_shut_case l (In (inner.Joining joint)) = each.nowhere (LeftShut l) (In (inner.Joining joint))
-  left_shut_case l Comma = each.nowhere (LeftShut l) Comma
-  left_shut_case l Arrow = each.left_shut_arrow l
-  left_shut_case l GuardMark = each.nowhere (LeftShut l) GuardMark
-  left_shut_case l SquareOpen = each.nowhere (LeftShut l) SquareOpen
-  left_shut_case l SquareClose = each.nowhere (LeftShut l) SquareClose
-  left_shut_case l Disjoining = each.nowhere (LeftShut l) Disjoining
-  left_shut_case l (Remark bytes) = each.nowhere (LeftShut l) (Remark bytes)
-  left_shut_case l Wrong = each.nowhere (LeftShut l) Wrong
-  left_shut_case l Strange = each.nowhere (LeftShut l) Strange
-
-  -- behind `->`
+  -- behind the arrow
   pub arrowed_case : (l : Led) (p : Piece) → P (Arrowed l) p (step (Arrowed l) p)
   arrowed_case l (In (inner.Word name)) = each.arrowed_word l name
   arrowed_case l (In (inner.Digits ds)) = each.nowhere (Arrowed l) (In (inner.Digits ds))
@@ -157,6 +30,8 @@ module _ (P : Front → Piece → Option Front → Type 0) (each : HoldsOfSteps 
   arrowed_case l (In (inner.Joining joint)) = each.nowhere (Arrowed l) (In (inner.Joining joint))
   arrowed_case l Comma = each.nowhere (Arrowed l) Comma
   arrowed_case l Arrow = each.nowhere (Arrowed l) Arrow
+  arrowed_case l CostOpen = each.nowhere (Arrowed l) CostOpen
+  arrowed_case l CostClose = each.nowhere (Arrowed l) CostClose
   arrowed_case l GuardMark = each.nowhere (Arrowed l) GuardMark
   arrowed_case l SquareOpen = each.nowhere (Arrowed l) SquareOpen
   arrowed_case l SquareClose = each.nowhere (Arrowed l) SquareClose
@@ -179,6 +54,8 @@ module _ (P : Front → Piece → Option Front → Type 0) (each : HoldsOfSteps 
   com_named_case l (In (inner.Joining joint)) = each.nowhere (ComNamed l) (In (inner.Joining joint))
   com_named_case l Comma = each.nowhere (ComNamed l) Comma
   com_named_case l Arrow = each.nowhere (ComNamed l) Arrow
+  com_named_case l CostOpen = each.nowhere (ComNamed l) CostOpen
+  com_named_case l CostClose = each.nowhere (ComNamed l) CostClose
   com_named_case l GuardMark = each.nowhere (ComNamed l) GuardMark
   com_named_case l SquareOpen = each.nowhere (ComNamed l) SquareOpen
   com_named_case l SquareClose = each.nowhere (ComNamed l) SquareClose
@@ -201,6 +78,8 @@ module _ (P : Front → Piece → Option Front → Type 0) (each : HoldsOfSteps 
   com_opened_case l (In (inner.Joining joint)) = each.nowhere (ComOpened l) (In (inner.Joining joint))
   com_opened_case l Comma = each.nowhere (ComOpened l) Comma
   com_opened_case l Arrow = each.nowhere (ComOpened l) Arrow
+  com_opened_case l CostOpen = each.nowhere (ComOpened l) CostOpen
+  com_opened_case l CostClose = each.nowhere (ComOpened l) CostClose
   com_opened_case l GuardMark = each.nowhere (ComOpened l) GuardMark
   com_opened_case l SquareOpen = each.nowhere (ComOpened l) SquareOpen
   com_opened_case l SquareClose = each.nowhere (ComOpened l) SquareClose
@@ -223,6 +102,8 @@ module _ (P : Front → Piece → Option Front → Type 0) (each : HoldsOfSteps 
   target_named_case a (In (inner.Joining joint)) = each.nowhere (TargetNamed a) (In (inner.Joining joint))
   target_named_case a Comma = each.nowhere (TargetNamed a) Comma
   target_named_case a Arrow = each.nowhere (TargetNamed a) Arrow
+  target_named_case a CostOpen = each.nowhere (TargetNamed a) CostOpen
+  target_named_case a CostClose = each.nowhere (TargetNamed a) CostClose
   target_named_case a GuardMark = each.nowhere (TargetNamed a) GuardMark
   target_named_case a SquareOpen = each.nowhere (TargetNamed a) SquareOpen
   target_named_case a SquareClose = each.nowhere (TargetNamed a) SquareClose
@@ -236,6 +117,8 @@ module _ (P : Front → Piece → Option Front → Type 0) (each : HoldsOfSteps 
   right_opened_case a (In p) = each.right_opened_piece a p
   right_opened_case a Comma = each.nowhere (RightOpened a) Comma
   right_opened_case a Arrow = each.nowhere (RightOpened a) Arrow
+  right_opened_case a CostOpen = each.nowhere (RightOpened a) CostOpen
+  right_opened_case a CostClose = each.nowhere (RightOpened a) CostClose
   right_opened_case a GuardMark = each.nowhere (RightOpened a) GuardMark
   right_opened_case a SquareOpen = each.nowhere (RightOpened a) SquareOpen
   right_opened_case a SquareClose = each.nowhere (RightOpened a) SquareClose
@@ -250,6 +133,8 @@ module _ (P : Front → Piece → Option Front → Type 0) (each : HoldsOfSteps 
   in_argument_case a arguments e (In p) = each.in_argument_piece a arguments e p
   in_argument_case a arguments e Comma = each.in_argument_comma a arguments e
   in_argument_case a arguments e Arrow = each.nowhere (Arguing a arguments e) Arrow
+  in_argument_case a arguments e CostOpen = each.nowhere (Arguing a arguments e) CostOpen
+  in_argument_case a arguments e CostClose = each.nowhere (Arguing a arguments e) CostClose
   in_argument_case a arguments e GuardMark = each.nowhere (Arguing a arguments e) GuardMark
   in_argument_case a arguments e SquareOpen = each.nowhere (Arguing a arguments e) SquareOpen
   in_argument_case a arguments e SquareClose = each.nowhere (Arguing a arguments e) SquareClose
@@ -272,6 +157,8 @@ module _ (P : Front → Piece → Option Front → Type 0) (each : HoldsOfSteps 
   right_shut_case l t (In (inner.Joining joint)) = each.nowhere (RightShut l t) (In (inner.Joining joint))
   right_shut_case l t Comma = each.nowhere (RightShut l t) Comma
   right_shut_case l t Arrow = each.nowhere (RightShut l t) Arrow
+  right_shut_case l t CostOpen = each.nowhere (RightShut l t) CostOpen
+  right_shut_case l t CostClose = each.nowhere (RightShut l t) CostClose
   right_shut_case l t GuardMark = each.nowhere (RightShut l t) GuardMark
   right_shut_case l t SquareOpen = each.nowhere (RightShut l t) SquareOpen
   right_shut_case l t SquareClose = each.nowhere (RightShut l t) SquareClose
@@ -285,6 +172,8 @@ module _ (P : Front → Piece → Option Front → Type 0) (each : HoldsOfSteps 
   targeted_case h (In p) = each.targeted_piece h p
   targeted_case h Comma = each.nowhere (Targeted h) Comma
   targeted_case h Arrow = each.nowhere (Targeted h) Arrow
+  targeted_case h CostOpen = each.nowhere (Targeted h) CostOpen
+  targeted_case h CostClose = each.nowhere (Targeted h) CostClose
   targeted_case h GuardMark = each.targeted_mark h
   targeted_case h SquareOpen = each.targeted_square h
   targeted_case h SquareClose = each.nowhere (Targeted h) SquareClose
@@ -298,6 +187,8 @@ module _ (P : Front → Piece → Option Front → Type 0) (each : HoldsOfSteps 
   guard_marked_case h (In p) = each.guard_marked_piece h p
   guard_marked_case h Comma = each.nowhere (GuardMarked h) Comma
   guard_marked_case h Arrow = each.nowhere (GuardMarked h) Arrow
+  guard_marked_case h CostOpen = each.nowhere (GuardMarked h) CostOpen
+  guard_marked_case h CostClose = each.nowhere (GuardMarked h) CostClose
   guard_marked_case h GuardMark = each.nowhere (GuardMarked h) GuardMark
   guard_marked_case h SquareOpen = each.nowhere (GuardMarked h) SquareOpen
   guard_marked_case h SquareClose = each.nowhere (GuardMarked h) SquareClose
@@ -311,6 +202,8 @@ module _ (P : Front → Piece → Option Front → Type 0) (each : HoldsOfSteps 
   word_read_case h name (In p) = each.word_read_piece h name p
   word_read_case h name Comma = each.nowhere (WordRead h name) Comma
   word_read_case h name Arrow = each.nowhere (WordRead h name) Arrow
+  word_read_case h name CostOpen = each.nowhere (WordRead h name) CostOpen
+  word_read_case h name CostClose = each.nowhere (WordRead h name) CostClose
   word_read_case h name GuardMark = each.nowhere (WordRead h name) GuardMark
   word_read_case h name SquareOpen = each.nowhere (WordRead h name) SquareOpen
   word_read_case h name SquareClose = each.nowhere (WordRead h name) SquareClose
@@ -325,6 +218,8 @@ module _ (P : Front → Piece → Option Front → Type 0) (each : HoldsOfSteps 
   mark_guarding_case h g (In p) = each.mark_guarding_piece h g p
   mark_guarding_case h g Comma = each.nowhere (MarkGuarding h g) Comma
   mark_guarding_case h g Arrow = each.nowhere (MarkGuarding h g) Arrow
+  mark_guarding_case h g CostOpen = each.nowhere (MarkGuarding h g) CostOpen
+  mark_guarding_case h g CostClose = each.nowhere (MarkGuarding h g) CostClose
   mark_guarding_case h g GuardMark = each.nowhere (MarkGuarding h g) GuardMark
   mark_guarding_case h g SquareOpen = each.nowhere (MarkGuarding h g) SquareOpen
   mark_guarding_case h g SquareClose = each.nowhere (MarkGuarding h g) SquareClose
@@ -338,6 +233,8 @@ module _ (P : Front → Piece → Option Front → Type 0) (each : HoldsOfSteps 
   square_opened_case h (In p) = each.square_opened_piece h p
   square_opened_case h Comma = each.nowhere (SquareOpened h) Comma
   square_opened_case h Arrow = each.nowhere (SquareOpened h) Arrow
+  square_opened_case h CostOpen = each.nowhere (SquareOpened h) CostOpen
+  square_opened_case h CostClose = each.nowhere (SquareOpened h) CostClose
   square_opened_case h GuardMark = each.nowhere (SquareOpened h) GuardMark
   square_opened_case h SquareOpen = each.nowhere (SquareOpened h) SquareOpen
   square_opened_case h SquareClose = each.square_opened_square_close h
@@ -352,6 +249,8 @@ module _ (P : Front → Piece → Option Front → Type 0) (each : HoldsOfSteps 
   square_guarding_case h g (In p) = each.square_guarding_piece h g p
   square_guarding_case h g Comma = each.nowhere (SquareGuarding h g) Comma
   square_guarding_case h g Arrow = each.nowhere (SquareGuarding h g) Arrow
+  square_guarding_case h g CostOpen = each.nowhere (SquareGuarding h g) CostOpen
+  square_guarding_case h g CostClose = each.nowhere (SquareGuarding h g) CostClose
   square_guarding_case h g GuardMark = each.nowhere (SquareGuarding h g) GuardMark
   square_guarding_case h g SquareOpen = each.nowhere (SquareGuarding h g) SquareOpen
   square_guarding_case h g SquareClose = each.square_guarding_square_close h g

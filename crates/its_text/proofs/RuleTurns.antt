@@ -1,6 +1,6 @@
 -- Along each step what is read is within the limits exactly where it was before, and the front is quiet: behind a
 -- target, up to the end of the rule.
-use Rattle.std.proofs.Common.{◌≡◌, Bool, true, false, not, ◌&&◌, ◌==◌, ◌↔◌, nat_le, List, ◌∷◌, length}
+use Rattle.std.proofs.Common.{◌≡◌, ℕ, ◌+◌, Bool, true, false, not, ◌&&◌, ◌==◌, ◌↔◌, nat_le, List, ◌∷◌, length}
 use Rattle.std.proofs.Common.{Option, Some, None, refl, ap, sym, ◌∙◌, arith}
 use Rattle.std.proofs.lemmas.Bool.Decides.{nat_tests}
 use Rattle.expr_text.specs.model.Programs.{Name}
@@ -15,14 +15,15 @@ use Rattle.expr_text.specs.FrontNames.{token_count, is_front, goes_on_with}
 use Rattle.expr_text.proofs.FrontSteps.{truth_is_one}
 use Rattle.its_text.specs.Pieces.{Piece, In, GuardMark, SquareOpen, SquareClose, word}
 use Rattle.its_text.specs.Written.{NoGuard, BehindMark}
-use Rattle.its_text.specs.Fronts.{Headed, rule_with, ruling_with, Front, Targeted, GuardMarked, MarkGuarding}
+use Rattle.its_text.specs.Numbering.{atoms_of_cost}
+use Rattle.its_text.specs.Fronts.{Headed, rule_with, ruling_with, Targeted, GuardMarked, MarkGuarding}
 use Rattle.its_text.specs.Fronts.{SquareOpened, SquareGuarding}
 use Rattle.its_text.specs.Steps.{behind_rule, guard_ended, mark_guard_step, square_guard_step, square_ended, step}
 use Rattle.its_text.specs.FrontNames.{headed_names}
 use Rattle.its_text.specs.FrontFaults as shown
 use Rattle.its_text.specs.FrontFaults.{open_expression_in, can_end, ends_expression, is_full}
 use Rattle.its_text.proofs.RoomLaws.{contrary, and_false}
-use Rattle.its_text.proofs.KeptFronts.{first, IsHeadedKept, IsGuardKept, IsGoingQuiet}
+use Rattle.its_text.proofs.KeptFronts.{first, IsHeadedKept, HasGuardKept, IsGoingQuiet}
 use Rattle.its_text.proofs.SectionTurns.{Turns, rules_done}
 use Rattle.its_text.proofs.LeftTurns.{room_for_rule}
 use Rattle.its_text.proofs.MadeRules.{no_guard, no_squared, marked, in_squares}
@@ -71,13 +72,13 @@ square_turns h ps =
 -- the first piece of a guard
 pub guard_first : (h : Headed) (g : GuardFront) (p : inner.Piece) (behind : Option Piece)
     → guards.step guards.no_atoms p ≡ Some g
-    → (IsHeadedKept h × IsGuardKept (headed_names h) g behind)
+    → (IsHeadedKept h × HasGuardKept h g behind)
     ↔ (IsHeadedKept h × IsGoingQuiet (open_expression_in (headed_names h) guards.no_atoms) (Some (In p)) behind)
 guard_first h g p behind same =
-    let turns = guard_turns (headed_names h) guards.no_atoms g p behind same in (
+    let turns = guard_turns h.led.cost (headed_names h) guards.no_atoms g p behind same in (
       λ k. (k.0, (turns.0 k.1).1.going),
       λ k.
-          let begins = guard_begins (headed_names h) (Some (In p)) k.0.0.variables in
+          let begins = guard_begins h.led.cost (headed_names h) (Some (In p)) k.0.0.variables in
           (k.0, turns.1 (begins, record { atom = tt; few = refl; going = k.1 })),
     )
 
@@ -131,18 +132,18 @@ no_rule_within h g k (inner.Related sign) behind same = refl
 no_rule_within h g k (inner.Joining joint) behind same = refl
 
 -- atoms that can end don't begin another one
-not_full : (g : GuardFront) (atoms : Atoms) → guards.finish g ≡ Some atoms → is_full g ≡ false
-not_full (LeftSide NoAtoms e) atoms same = refl
-not_full (RightSide c l sign e) atoms same = refl
-not_full (LeftSide (JointAfter earlier joint) e) atoms same = go (truth_of e) refl same
+not_full : (others : ℕ) (g : GuardFront) (atoms : Atoms) → guards.finish g ≡ Some atoms → is_full others g ≡ false
+not_full others (LeftSide NoAtoms e) atoms same = refl
+not_full others (RightSide c l sign e) atoms same = refl
+not_full others (LeftSide (JointAfter earlier joint) e) atoms same = go (truth_of e) refl same
   where
     go : (o : Option Atom) → truth_of e ≡ o → guards.ended (JointAfter earlier joint) o ≡ Some atoms
-        → is_full (LeftSide (JointAfter earlier joint) e) ≡ false
+        → is_full others (LeftSide (JointAfter earlier joint) e) ≡ false
     go None t s = cc
     go (Some a) t s =
         let one = (truth_is_one e a t).0 in
         let some : (token_count e == 0) ≡ false = grind (arith, nat_tests, one) in
-        ap (λ (v : Bool). v && nat_le atom_limit (count_of earlier)) some
+        ap (λ (v : Bool). v && nat_le atom_limit (count_of earlier + others)) some
 
 -- a guard behind `:|:` that ends before another rule, or before the end of the section
 module _ (h : Headed) (g : GuardFront) (atoms : Atoms) (ends : guards.finish g ≡ Some atoms) (ps : List Piece) where
@@ -161,7 +162,7 @@ module _ (h : Headed) (g : GuardFront) (atoms : Atoms) (ends : guards.finish g �
       let made = marked h atoms in
       let over : ends_expression (guards.expression_in g) (Some (word n)) ≡ true
       = ap not (goes_off (guards.expression_in g) (inner.Word n) off) in
-      let ended = guard_ends (headed_names h) g atoms (Some (word n)) ends refl over in
+      let ended = guard_ends h.led.cost (headed_names h) g atoms (Some (word n)) ends refl over in
       let rules : shown.too_many_rules (MarkGuarding h g) (Some (word n)) (first ps) ≡ full
       = ap (λ (v : Bool). v && can_end (guards.finish g) && full) over ∙ ap (λ o. can_end o && full) ends in (
         λ k.
@@ -174,7 +175,7 @@ module _ (h : Headed) (g : GuardFront) (atoms : Atoms) (ends : guards.finish g �
                 record {
                   atom = z.1;
                   few = ap (λ (v : Bool). v && true)
-                      (not_full g atoms ends);
+                      (not_full (atoms_of_cost h.led.cost) g atoms ends);
                   going = off_quiet (inner.Word n) off;
                 },
               ),
@@ -187,7 +188,7 @@ module _ (h : Headed) (g : GuardFront) (atoms : Atoms) (ends : guards.finish g �
   close_ends off =
       let done = rules_done (ruling_with h (BehindMark (Some atoms))) in
       let made = marked h atoms in
-      let ended = guard_ends (headed_names h) g atoms (Some (In inner.Close)) ends refl
+      let ended = guard_ends h.led.cost (headed_names h) g atoms (Some (In inner.Close)) ends refl
       (ap not (goes_off (guards.expression_in g) inner.Close off)) in (
         λ k.
             let y = made.0 (done.0 k) in
@@ -213,7 +214,7 @@ module _ (h : Headed) (g : GuardFront) (atoms : Atoms) (ends : guards.finish g �
   square_ends : Turns (SquareGuarding h g) SquareClose ps (square_ended h (Some atoms))
   square_ends =
       let made = in_squares h atoms in
-      let ended = guard_ends (headed_names h) g atoms (Some SquareClose) ends refl refl in (
+      let ended = guard_ends h.led.cost (headed_names h) g atoms (Some SquareClose) ends refl refl in (
         λ k.
             let y = made.0 k in
             let z = ended.0 y.1 in
@@ -231,7 +232,7 @@ guard_ended_turns h g p ps (Some atoms) ends off = rule_ends h g atoms ends ps p
 guarding_turns : (h : Headed) (g : GuardFront) (p : inner.Piece) (ps : List Piece) (o : Option GuardFront)
     → guards.step g p ≡ o → Turns (MarkGuarding h g) (In p) ps (mark_guard_step h g o p)
 guarding_turns h g p ps (Some k) same =
-    let turns = guard_turns (headed_names h) g k p (first ps) same in (
+    let turns = guard_turns h.led.cost (headed_names h) g k p (first ps) same in (
       λ x. let y = turns.0 x.1 in ((x.0, y.0), (no_rule_within h g k p (first ps) same, y.1)),
       λ x. (x.0.0, turns.1 (x.0.1, x.1.1)),
     )
@@ -250,7 +251,7 @@ square_guarding_turns h g p ps = go (guards.step g p) refl
     go : (o : Option GuardFront) → guards.step g p ≡ o → Turns (SquareGuarding h g) (In p) ps (square_guard_step h o)
     go None same = tt
     go (Some k) same =
-        let turns = guard_turns (headed_names h) g k p (first ps) same in (
+        let turns = guard_turns h.led.cost (headed_names h) g k p (first ps) same in (
           λ x. let y = turns.0 x.1 in ((x.0, y.0), y.1),
           λ x. (x.0.0, turns.1 (x.0.1, x.1)),
         )

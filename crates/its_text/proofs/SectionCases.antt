@@ -2,8 +2,8 @@
 use Rattle.std.specs.Prelude.{List, Option}
 use Rattle.expr_text.specs.model.Programs.{Name}
 use Rattle.expr_text.specs.Pieces as inner
-use Rattle.its_text.specs.Pieces.{Piece, In, Comma, Arrow, GuardMark, SquareOpen, SquareClose, Disjoining, Remark}
-use Rattle.its_text.specs.Pieces.{Wrong, Strange}
+use Rattle.its_text.specs.Pieces.{Piece, In, Comma, Arrow, CostOpen, CostClose, GuardMark, SquareOpen, SquareClose}
+use Rattle.its_text.specs.Pieces.{Disjoining, Remark, Wrong, Strange}
 use Rattle.its_text.specs.Written.{Section}
 use Rattle.its_text.specs.Fronts.{Front, Between, Opened, GoalNamed, GoalSaid, StartNamed, StartOpened, StartListed}
 use Rattle.its_text.specs.Fronts.{StartSaid, StartShut, Listing, CommentNamed}
@@ -25,6 +25,8 @@ module _ (P : Front → Piece → Option Front → Type 0) (each : HoldsOfSteps 
   between_case ss (In (inner.Joining joint)) = each.nowhere (Between ss) (In (inner.Joining joint))
   between_case ss Comma = each.nowhere (Between ss) Comma
   between_case ss Arrow = each.nowhere (Between ss) Arrow
+  between_case ss CostOpen = each.nowhere (Between ss) CostOpen
+  between_case ss CostClose = each.nowhere (Between ss) CostClose
   between_case ss GuardMark = each.nowhere (Between ss) GuardMark
   between_case ss SquareOpen = each.nowhere (Between ss) SquareOpen
   between_case ss SquareClose = each.nowhere (Between ss) SquareClose
@@ -47,6 +49,8 @@ module _ (P : Front → Piece → Option Front → Type 0) (each : HoldsOfSteps 
   opened_case ss (In (inner.Joining joint)) = each.nowhere (Opened ss) (In (inner.Joining joint))
   opened_case ss Comma = each.nowhere (Opened ss) Comma
   opened_case ss Arrow = each.nowhere (Opened ss) Arrow
+  opened_case ss CostOpen = each.nowhere (Opened ss) CostOpen
+  opened_case ss CostClose = each.nowhere (Opened ss) CostClose
   opened_case ss GuardMark = each.nowhere (Opened ss) GuardMark
   opened_case ss SquareOpen = each.nowhere (Opened ss) SquareOpen
   opened_case ss SquareClose = each.nowhere (Opened ss) SquareClose
@@ -69,6 +73,8 @@ module _ (P : Front → Piece → Option Front → Type 0) (each : HoldsOfSteps 
   goal_named_case ss (In (inner.Joining joint)) = each.nowhere (GoalNamed ss) (In (inner.Joining joint))
   goal_named_case ss Comma = each.nowhere (GoalNamed ss) Comma
   goal_named_case ss Arrow = each.nowhere (GoalNamed ss) Arrow
+  goal_named_case ss CostOpen = each.nowhere (GoalNamed ss) CostOpen
+  goal_named_case ss CostClose = each.nowhere (GoalNamed ss) CostClose
   goal_named_case ss GuardMark = each.nowhere (GoalNamed ss) GuardMark
   goal_named_case ss SquareOpen = each.nowhere (GoalNamed ss) SquareOpen
   goal_named_case ss SquareClose = each.nowhere (GoalNamed ss) SquareClose
@@ -91,6 +97,8 @@ module _ (P : Front → Piece → Option Front → Type 0) (each : HoldsOfSteps 
   goal_said_case ss (In (inner.Joining joint)) = each.nowhere (GoalSaid ss) (In (inner.Joining joint))
   goal_said_case ss Comma = each.nowhere (GoalSaid ss) Comma
   goal_said_case ss Arrow = each.nowhere (GoalSaid ss) Arrow
+  goal_said_case ss CostOpen = each.nowhere (GoalSaid ss) CostOpen
+  goal_said_case ss CostClose = each.nowhere (GoalSaid ss) CostClose
   goal_said_case ss GuardMark = each.nowhere (GoalSaid ss) GuardMark
   goal_said_case ss SquareOpen = each.nowhere (GoalSaid ss) SquareOpen
   goal_said_case ss SquareClose = each.nowhere (GoalSaid ss) SquareClose
@@ -113,6 +121,8 @@ module _ (P : Front → Piece → Option Front → Type 0) (each : HoldsOfSteps 
   start_named_case ss (In (inner.Joining joint)) = each.nowhere (StartNamed ss) (In (inner.Joining joint))
   start_named_case ss Comma = each.nowhere (StartNamed ss) Comma
   start_named_case ss Arrow = each.nowhere (StartNamed ss) Arrow
+  start_named_case ss CostOpen = each.nowhere (StartNamed ss) CostOpen
+  start_named_case ss CostClose = each.nowhere (StartNamed ss) CostClose
   start_named_case ss GuardMark = each.nowhere (StartNamed ss) GuardMark
   start_named_case ss SquareOpen = each.nowhere (StartNamed ss) SquareOpen
   start_named_case ss SquareClose = each.nowhere (StartNamed ss) SquareClose
@@ -135,6 +145,8 @@ module _ (P : Front → Piece → Option Front → Type 0) (each : HoldsOfSteps 
   start_opened_case ss (In (inner.Joining joint)) = each.nowhere (StartOpened ss) (In (inner.Joining joint))
   start_opened_case ss Comma = each.nowhere (StartOpened ss) Comma
   start_opened_case ss Arrow = each.nowhere (StartOpened ss) Arrow
+  start_opened_case ss CostOpen = each.nowhere (StartOpened ss) CostOpen
+  start_opened_case ss CostClose = each.nowhere (StartOpened ss) CostClose
   start_opened_case ss GuardMark = each.nowhere (StartOpened ss) GuardMark
   start_opened_case ss SquareOpen = each.nowhere (StartOpened ss) SquareOpen
   start_opened_case ss SquareClose = each.nowhere (StartOpened ss) SquareClose
@@ -157,6 +169,8 @@ module _ (P : Front → Piece → Option Front → Type 0) (each : HoldsOfSteps 
   start_listed_case ss (In (inner.Joining joint)) = each.nowhere (StartListed ss) (In (inner.Joining joint))
   start_listed_case ss Comma = each.nowhere (StartListed ss) Comma
   start_listed_case ss Arrow = each.nowhere (StartListed ss) Arrow
+  start_listed_case ss CostOpen = each.nowhere (StartListed ss) CostOpen
+  start_listed_case ss CostClose = each.nowhere (StartListed ss) CostClose
   start_listed_case ss GuardMark = each.nowhere (StartListed ss) GuardMark
   start_listed_case ss SquareOpen = each.nowhere (StartListed ss) SquareOpen
   start_listed_case ss SquareClose = each.nowhere (StartListed ss) SquareClose
@@ -180,6 +194,8 @@ module _ (P : Front → Piece → Option Front → Type 0) (each : HoldsOfSteps 
   start_said_case ss start (In (inner.Joining joint)) = each.nowhere (StartSaid ss start) (In (inner.Joining joint))
   start_said_case ss start Comma = each.nowhere (StartSaid ss start) Comma
   start_said_case ss start Arrow = each.nowhere (StartSaid ss start) Arrow
+  start_said_case ss start CostOpen = each.nowhere (StartSaid ss start) CostOpen
+  start_said_case ss start CostClose = each.nowhere (StartSaid ss start) CostClose
   start_said_case ss start GuardMark = each.nowhere (StartSaid ss start) GuardMark
   start_said_case ss start SquareOpen = each.nowhere (StartSaid ss start) SquareOpen
   start_said_case ss start SquareClose = each.nowhere (StartSaid ss start) SquareClose
@@ -203,6 +219,8 @@ module _ (P : Front → Piece → Option Front → Type 0) (each : HoldsOfSteps 
   start_shut_case ss start (In (inner.Joining joint)) = each.nowhere (StartShut ss start) (In (inner.Joining joint))
   start_shut_case ss start Comma = each.nowhere (StartShut ss start) Comma
   start_shut_case ss start Arrow = each.nowhere (StartShut ss start) Arrow
+  start_shut_case ss start CostOpen = each.nowhere (StartShut ss start) CostOpen
+  start_shut_case ss start CostClose = each.nowhere (StartShut ss start) CostClose
   start_shut_case ss start GuardMark = each.nowhere (StartShut ss start) GuardMark
   start_shut_case ss start SquareOpen = each.nowhere (StartShut ss start) SquareOpen
   start_shut_case ss start SquareClose = each.nowhere (StartShut ss start) SquareClose
@@ -226,6 +244,8 @@ module _ (P : Front → Piece → Option Front → Type 0) (each : HoldsOfSteps 
   listing_case ss names (In (inner.Joining joint)) = each.nowhere (Listing ss names) (In (inner.Joining joint))
   listing_case ss names Comma = each.nowhere (Listing ss names) Comma
   listing_case ss names Arrow = each.nowhere (Listing ss names) Arrow
+  listing_case ss names CostOpen = each.nowhere (Listing ss names) CostOpen
+  listing_case ss names CostClose = each.nowhere (Listing ss names) CostClose
   listing_case ss names GuardMark = each.nowhere (Listing ss names) GuardMark
   listing_case ss names SquareOpen = each.nowhere (Listing ss names) SquareOpen
   listing_case ss names SquareClose = each.nowhere (Listing ss names) SquareClose
@@ -248,6 +268,8 @@ module _ (P : Front → Piece → Option Front → Type 0) (each : HoldsOfSteps 
   comment_named_case ss (In (inner.Joining joint)) = each.nowhere (CommentNamed ss) (In (inner.Joining joint))
   comment_named_case ss Comma = each.nowhere (CommentNamed ss) Comma
   comment_named_case ss Arrow = each.nowhere (CommentNamed ss) Arrow
+  comment_named_case ss CostOpen = each.nowhere (CommentNamed ss) CostOpen
+  comment_named_case ss CostClose = each.nowhere (CommentNamed ss) CostClose
   comment_named_case ss GuardMark = each.nowhere (CommentNamed ss) GuardMark
   comment_named_case ss SquareOpen = each.nowhere (CommentNamed ss) SquareOpen
   comment_named_case ss SquareClose = each.nowhere (CommentNamed ss) SquareClose

@@ -10,16 +10,17 @@ use Rattle.expr_text.specs.Steps as expression_steps
 use Rattle.expr_text.specs.Guards.{Atoms}
 use Rattle.expr_text.specs.GuardFronts as guards
 use Rattle.its_text.specs.Pieces.{Piece}
-use Rattle.its_text.specs.Written.{RightTerm, Guard, NoGuard, BehindMark, InSquares, Section}
+use Rattle.its_text.specs.Written.{LeftTerm, RightTerm, Guard, NoGuard, BehindMark, InSquares, Section}
 use Rattle.its_text.specs.Fronts.{Ruling, Led, Wrap, InCom, Alone, Aimed, Headed, Front, Between, Opened, GoalNamed}
 use Rattle.its_text.specs.Fronts.{GoalSaid, StartNamed, StartOpened, StartListed, StartSaid, StartShut, Listing}
-use Rattle.its_text.specs.Fronts.{CommentNamed, Ruled, SourceNamed, LeftOpened, LeftRead, LeftParted, LeftShut, Arrowed}
-use Rattle.its_text.specs.Fronts.{ComNamed, ComOpened, TargetNamed, RightOpened, Arguing, RightShut, Targeted}
+use Rattle.its_text.specs.Fronts.{CommentNamed, Ruled, SourceNamed, LeftOpened, LeftRead, LeftParted, LeftShut, Costing}
+use Rattle.its_text.specs.Fronts.{Arrowed, ComNamed, ComOpened, TargetNamed, RightOpened, Arguing, RightShut, Targeted}
 use Rattle.its_text.specs.Fronts.{GuardMarked, WordRead, MarkGuarding, SquareOpened, SquareGuarding, ruling_with}
 use Rattle.expr_text.specs.text_core.Choices.{when}
-use Rattle.its_text.specs.Steps.{section_named, behind_target_name, shut_by, behind_arrow, behind_rule, behind_comma}
+use Rattle.its_text.specs.Steps.{section_named, cost_step, cost_ended, behind_target_name, shut_by, behind_arrow}
+use Rattle.its_text.specs.Steps.{behind_rule, behind_comma}
 use Rattle.its_text.specs.Steps.{behind_argument, argument_step, guard_ended, mark_guard_step, square_guard_step}
-use Rattle.its_text.specs.Steps.{square_ended, guard_named, behind_mark, behind_word, behind_open, step, finish}
+use Rattle.its_text.specs.Steps.{square_ended, guard_named, behind_mark, behind_word, behind_open, step}
 use Rattle.its_text.specs.Grammar.{IsTarget, HaveTargets, AreSections}
 use Rattle.its_text.proofs.StepCases.{HoldsOfSteps}
 use Rattle.its_text.proofs.EveryStep.{of_step}
@@ -55,7 +56,8 @@ IsFront (SourceNamed r name) = IsRuling r
 IsFront (LeftOpened r name) = IsRuling r
 IsFront (LeftRead r name a earlier) = IsRuling r
 IsFront (LeftParted r name a earlier) = IsRuling r
-IsFront (LeftShut l) = IsRuling l.ruling
+IsFront (LeftShut r t) = IsRuling r
+IsFront (Costing r t e) = IsRuling r
 IsFront (Arrowed l) = IsRuling l.ruling
 IsFront (ComNamed l) = IsRuling l.ruling
 IsFront (ComOpened l) = IsRuling l.ruling
@@ -117,6 +119,14 @@ behind_rule_keeps r inner.Times h = tt
 behind_rule_keeps r inner.Caret h = tt
 behind_rule_keeps r (inner.Related sign) h = tt
 behind_rule_keeps r (inner.Joining joint) h = tt
+
+costing_keeps : (r : Ruling) (t : LeftTerm) (o : Option expression.Front) → IsRuling r → Keeps (cost_step r t o)
+costing_keeps r t None h = tt
+costing_keeps r t (Some more) h = h
+
+cost_ended_keeps : (r : Ruling) (t : LeftTerm) (o : Option Sum) → IsRuling r → Keeps (cost_ended r t o)
+cost_ended_keeps r t None h = tt
+cost_ended_keeps r t (Some c) h = h
 
 argued_keeps : (a : Aimed) (arguments : List Sum) (o : Option Sum) (p : inner.Piece) → IsAimed a → Keeps (behind_argument a arguments o p)
 argued_keeps a arguments None p h = tt
@@ -224,7 +234,10 @@ keeps_each = record {
   left_read_comma = λ r source a earlier k. k;
   left_read_close = λ r source a earlier k. k;
   left_parted_word = λ r source a earlier name k. k;
-  left_shut_arrow = λ l k. k;
+  left_shut_arrow = λ r t k. k;
+  left_shut_cost = λ r t k. k;
+  costing_piece = λ r t e p k. costing_keeps r t (expression_steps.step e p) k;
+  costing_close = λ r t e k. cost_ended_keeps r t (expression_steps.finish e) k;
   arrowed_word = λ l name k. behind_arrow_keeps l name k;
   com_named_open = λ l k. k;
   com_opened_word = λ l name k. (k, tt);

@@ -10,15 +10,18 @@ use Rattle.expr_text.specs.Guards.{Atoms}
 use Rattle.expr_text.specs.GuardFronts as guards
 use Rattle.expr_text.specs.GuardFronts.{GuardFront, LeftSide, RightSide}
 use Rattle.expr_text.specs.FrontNames.{is_front, goes_on_with}
-use Rattle.its_text.specs.Pieces.{Piece, In, Comma, Arrow, GuardMark, SquareOpen, SquareClose, Disjoining, Remark}
-use Rattle.its_text.specs.Pieces.{Wrong, Strange, digits}
-use Rattle.its_text.specs.Fronts.{Aimed, Headed, Front, Between, Opened, GoalNamed, GoalSaid, StartNamed, StartOpened}
+use Rattle.its_text.specs.Pieces.{Piece, In, Comma, Arrow, CostOpen, CostClose, GuardMark, SquareOpen, SquareClose}
+use Rattle.its_text.specs.Pieces.{Disjoining, Remark, Wrong, Strange, digits}
+use Rattle.its_text.specs.Written.{LeftTerm}
+use Rattle.its_text.specs.Fronts.{Ruling, Aimed, Headed, Front, Between, Opened, GoalNamed, GoalSaid, StartNamed}
+use Rattle.its_text.specs.Fronts.{StartOpened}
 use Rattle.its_text.specs.Fronts.{StartListed, StartSaid, StartShut, Listing, CommentNamed, Ruled, SourceNamed}
-use Rattle.its_text.specs.Fronts.{LeftOpened, LeftRead, LeftParted, LeftShut, Arrowed, ComNamed, ComOpened, TargetNamed}
-use Rattle.its_text.specs.Fronts.{RightOpened, Arguing, RightShut, Targeted, GuardMarked, WordRead, MarkGuarding}
+use Rattle.its_text.specs.Fronts.{LeftOpened, LeftRead, LeftParted, LeftShut, Costing, Arrowed, ComNamed, ComOpened}
+use Rattle.its_text.specs.Fronts.{TargetNamed, RightOpened, Arguing, RightShut, Targeted, GuardMarked, WordRead}
+use Rattle.its_text.specs.Fronts.{MarkGuarding}
 use Rattle.its_text.specs.Fronts.{SquareOpened, SquareGuarding}
 use Rattle.its_text.specs.Steps.{behind_argument, argument_step, guard_ended, mark_guard_step, square_guard_step}
-use Rattle.its_text.specs.Steps.{guard_named, step}
+use Rattle.its_text.specs.Steps.{cost_step, guard_named, step}
 use Rattle.its_text.specs.FrontFaults as shown
 use Rattle.its_text.specs.FrontFaults.{OpenExpression, is_large, long_name}
 use Rattle.its_text.specs.Spelling.{IsSmallInner, IsSmallPiece}
@@ -52,6 +55,8 @@ not_long (In (inner.Related sign)) h = refl
 not_long (In (inner.Joining joint)) h = refl
 not_long Comma h = refl
 not_long Arrow h = refl
+not_long CostOpen h = refl
+not_long CostClose h = refl
 not_long GuardMark h = refl
 not_long SquareOpen h = refl
 not_long SquareClose h = refl
@@ -65,6 +70,8 @@ going_small None p h = tt
 going_small (Some g) (In p) h = λ on. not_large p h
 going_small (Some g) Comma h = tt
 going_small (Some g) Arrow h = tt
+going_small (Some g) CostOpen h = tt
+going_small (Some g) CostClose h = tt
 going_small (Some g) GuardMark h = tt
 going_small (Some g) SquareOpen h = tt
 going_small (Some g) SquareClose h = tt
@@ -78,6 +85,11 @@ pub next_small : (f : Front) (p : Piece) (behind : Option Piece) → IsSmallPiec
 next_small f p behind h = (not_long p h, going_small (shown.open_expression f (Some p) behind) p h)
 
 -- digits that are taken go on with an expression, and so are small
+costing_digits : (r : Ruling) (t : LeftTerm) (o : Option expression.Front) (g : Front) → cost_step r t o ≡ Some g
+    → is_front o ≡ true
+costing_digits r t (Some f) g same = refl
+costing_digits r t None g same = cc
+
 argued_nowhere : (a : Aimed) (arguments : List Sum) (o : Option Sum) (ds : List ℕ) (g : Front)
     → ¬ (behind_argument a arguments o (inner.Digits ds) ≡ Some g)
 argued_nowhere a arguments None ds g same = cc
@@ -128,7 +140,9 @@ digits_small (SourceNamed r source) g ds behind same small = cc
 digits_small (LeftOpened r source) g ds behind same small = cc
 digits_small (LeftRead r source a earlier) g ds behind same small = cc
 digits_small (LeftParted r source a earlier) g ds behind same small = cc
-digits_small (LeftShut l) g ds behind same small = cc
+digits_small (LeftShut r t) g ds behind same small = cc
+digits_small (Costing r t e) g ds behind same small =
+    small (costing_digits r t (expression_steps.step e (inner.Digits ds)) g same)
 digits_small (Arrowed l) g ds behind same small = cc
 digits_small (ComNamed l) g ds behind same small = cc
 digits_small (ComOpened l) g ds behind same small = cc
@@ -163,6 +177,8 @@ small_next f g (In (inner.Related sign)) behind same h = tt
 small_next f g (In (inner.Joining joint)) behind same h = tt
 small_next f g Comma behind same h = tt
 small_next f g Arrow behind same h = tt
+small_next f g CostOpen behind same h = tt
+small_next f g CostClose behind same h = tt
 small_next f g GuardMark behind same h = tt
 small_next f g SquareOpen behind same h = tt
 small_next f g SquareClose behind same h = tt

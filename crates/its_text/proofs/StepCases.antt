@@ -8,13 +8,16 @@ use Rattle.expr_text.specs.Trees.{Sum}
 use Rattle.expr_text.specs.Fronts as expression
 use Rattle.expr_text.specs.Steps as expression_steps
 use Rattle.expr_text.specs.GuardFronts as guards
-use Rattle.its_text.specs.Pieces.{Piece, In, Comma, Arrow, GuardMark, SquareOpen, SquareClose, Remark}
-use Rattle.its_text.specs.Written.{RightTerm, Marked, NoGuard, InSquares, Section, Goal, Start, Variables, Comment}
+use Rattle.its_text.specs.Pieces.{Piece, In, Comma, Arrow, CostOpen, CostClose, GuardMark, SquareOpen, SquareClose}
+use Rattle.its_text.specs.Pieces.{Remark}
+use Rattle.its_text.specs.Written.{LeftTerm, RightTerm, Marked, NoGuard, InSquares, Section, Goal, Start, Variables}
+use Rattle.its_text.specs.Written.{Comment}
 use Rattle.its_text.specs.Fronts.{Ruling, Led, InCom, Aimed, Headed, Front, Between, Opened, GoalNamed, GoalSaid}
 use Rattle.its_text.specs.Fronts.{StartNamed, StartOpened, StartListed, StartSaid, StartShut, Listing, CommentNamed}
-use Rattle.its_text.specs.Fronts.{Ruled, SourceNamed, LeftOpened, LeftRead, LeftParted, LeftShut, Arrowed, ComNamed}
-use Rattle.its_text.specs.Fronts.{ComOpened, TargetNamed, RightOpened, Arguing, RightShut, Targeted, GuardMarked}
-use Rattle.its_text.specs.Fronts.{WordRead, MarkGuarding, SquareOpened, SquareGuarding, ruling_with}
+use Rattle.its_text.specs.Fronts.{Ruled, SourceNamed, LeftOpened, LeftRead, LeftParted, LeftShut, Costing, Arrowed}
+use Rattle.its_text.specs.Fronts.{ComNamed, ComOpened, TargetNamed, RightOpened, Arguing, RightShut, Targeted}
+use Rattle.its_text.specs.Fronts.{GuardMarked, WordRead, MarkGuarding, SquareOpened, SquareGuarding, ruling_with}
+use Rattle.its_text.specs.Steps.{behind_left, cost_step, cost_ended}
 use Rattle.its_text.specs.Steps.{section_named, left_shut, behind_target_name, behind_arrow, behind_target, behind_rule}
 use Rattle.its_text.specs.Steps.{behind_comma, argument_step}
 use Rattle.its_text.specs.Steps.{mark_guard_step, square_guard_step, square_ended, behind_mark, behind_word}
@@ -72,8 +75,15 @@ pub record HoldsOfSteps (P : Front → Piece → Option Front → Type 0) : Type
   pub left_parted_word : (r : Ruling) (name a : Name) (earlier : List Name) (b : Name)
       → P (LeftParted r name a earlier) (In (inner.Word b)) (Some (LeftRead r name b (a ∷ earlier)))
   -- behind the left term
-  pub left_shut_arrow : (l : Led) → P (LeftShut l) Arrow (Some (Arrowed l))
-  -- behind `->`
+  pub left_shut_arrow : (r : Ruling) (t : LeftTerm) → P (LeftShut r t) Arrow (Some (behind_left r t None))
+  pub left_shut_cost : (r : Ruling) (t : LeftTerm)
+      → P (LeftShut r t) CostOpen (Some (Costing r t expression.beginning))
+  -- in a cost
+  pub costing_piece : (r : Ruling) (t : LeftTerm) (e : expression.Front) (p : inner.Piece)
+      → P (Costing r t e) (In p) (cost_step r t (expression_steps.step e p))
+  pub costing_close : (r : Ruling) (t : LeftTerm) (e : expression.Front)
+      → P (Costing r t e) CostClose (cost_ended r t (expression_steps.finish e))
+  -- behind the arrow
   pub arrowed_word : (l : Led) (name : Name) → P (Arrowed l) (In (inner.Word name)) (Some (behind_arrow l name))
   -- behind `Com_1`
   pub com_named_open : (l : Led) → P (ComNamed l) (In inner.Open) (Some (ComOpened l))

@@ -12,17 +12,20 @@ use Rattle.expr_text.specs.Guards.{Atoms}
 use Rattle.expr_text.specs.GuardFronts as guards
 use Rattle.expr_text.proofs.StepLaws.{step_adds, finish_written, Adds, IsWritten}
 use Rattle.expr_text.proofs.GuardLaws.{guard_step_adds, guard_finish_written, GuardAdds, AreWritten}
-use Rattle.its_text.specs.Pieces.{Piece, In, Comma, GuardMark, SquareOpen, SquareClose, word, open_bracket}
-use Rattle.its_text.specs.Pieces.{close_bracket}
-use Rattle.its_text.specs.Written.{RightTerm, NoGuard, BehindMark, Section, sums_behind, pieces_behind}
+use Rattle.its_text.specs.Pieces.{Piece, In, Comma, CostOpen, CostClose, GuardMark, SquareOpen, SquareClose, word}
+use Rattle.its_text.specs.Pieces.{open_bracket, close_bracket}
+use Rattle.its_text.specs.Written.{LeftTerm, RightTerm, NoGuard, BehindMark, Section, sums_behind, left_behind}
+use Rattle.its_text.specs.Written.{pieces_behind}
 use Rattle.its_text.specs.Fronts.{Ruling, Led, Wrap, InCom, Alone, Aimed, Headed, Front, GoalNamed, GoalSaid}
-use Rattle.its_text.specs.Fronts.{StartNamed, StartListed, Listing, CommentNamed, Ruled, Arrowed, ComNamed, RightOpened}
+use Rattle.its_text.specs.Fronts.{StartNamed, StartListed, Listing, CommentNamed, Ruled, Costing, Arrowed, ComNamed}
+use Rattle.its_text.specs.Fronts.{RightOpened}
 use Rattle.its_text.specs.Fronts.{Arguing, GuardMarked, WordRead, MarkGuarding, SquareGuarding, ruling_with}
 use Rattle.its_text.specs.Fronts.{ruling_pieces, aimed_pieces, headed_pieces, parted_behind, front_pieces}
 use Rattle.expr_text.specs.text_core.Choices.{when}
+use Rattle.its_text.specs.Steps.{cost_step, cost_ended}
 use Rattle.its_text.specs.Steps.{section_named, behind_target_name, behind_arrow, shut_by, behind_rule, behind_comma}
 use Rattle.its_text.specs.Steps.{behind_argument, argument_step, guard_ended, mark_guard_step, square_guard_step}
-use Rattle.its_text.specs.Steps.{square_ended, guard_named, behind_mark, behind_word, behind_open, step, finish}
+use Rattle.its_text.specs.Steps.{square_ended, guard_named, behind_mark, behind_word, behind_open, step}
 use Rattle.its_text.proofs.StepCases.{HoldsOfSteps}
 use Rattle.its_text.proofs.EveryStep.{of_step}
 
@@ -110,6 +113,17 @@ arguing_leads : (a : Aimed) (arguments : List Sum) (e : expression.Front) (o : O
     → Adds In (parted_behind arguments (open_bracket ∷ aimed_pieces a)) e p o → Leads (front_pieces (Arguing a arguments e)) (In p) (argument_step a arguments e o p)
 arguing_leads a arguments e (Some more) p w = w
 arguing_leads a arguments e None p w = argued_leads a arguments e (expression_steps.finish e) p (finish_written In e (parted_behind arguments (open_bracket ∷ aimed_pieces a)))
+
+-- so do those of a cost
+costing_leads : (r : Ruling) (t : LeftTerm) (e : expression.Front) (o : Option expression.Front) (p : inner.Piece)
+    → Adds In (CostOpen ∷ left_behind t (ruling_pieces r)) e p o → Leads (front_pieces (Costing r t e)) (In p) (cost_step r t o)
+costing_leads r t e None p w = tt
+costing_leads r t e (Some more) p w = w
+
+cost_ended_leads : (r : Ruling) (t : LeftTerm) (e : expression.Front) (o : Option Sum)
+    → IsWritten In (CostOpen ∷ left_behind t (ruling_pieces r)) e o → Leads (front_pieces (Costing r t e)) CostClose (cost_ended r t o)
+cost_ended_leads r t e None w = tt
+cost_ended_leads r t e (Some c) w = ap (λ before. CostClose ∷ before) w
 
 guard_ended_leads : (h : Headed) (g : guards.GuardFront) (o : Option Atoms) (p : inner.Piece)
     → AreWritten In (GuardMark ∷ headed_pieces h) g o → Leads (front_pieces (MarkGuarding h g)) (In p) (guard_ended h o p)
@@ -200,7 +214,10 @@ leads_each = record {
   left_read_comma = λ r source a earlier. refl;
   left_read_close = λ r source a earlier. refl;
   left_parted_word = λ r source a earlier name. refl;
-  left_shut_arrow = λ l. refl;
+  left_shut_arrow = λ r t. refl;
+  left_shut_cost = λ r t. refl;
+  costing_piece = λ r t e p. costing_leads r t e (expression_steps.step e p) p (step_adds In e p (CostOpen ∷ left_behind t (ruling_pieces r)));
+  costing_close = λ r t e. cost_ended_leads r t e (expression_steps.finish e) (finish_written In e (CostOpen ∷ left_behind t (ruling_pieces r)));
   arrowed_word = λ l name. behind_arrow_leads l name;
   com_named_open = λ l. refl;
   com_opened_word = λ l name. refl;

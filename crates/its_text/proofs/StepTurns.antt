@@ -8,8 +8,9 @@ use Rattle.its_text.specs.Steps.{step}
 use Rattle.its_text.proofs.SectionTurns.{Turns, when_turns, goal_done, start_done, variables_done, comment_done}
 use Rattle.its_text.proofs.SectionTurns.{named_turns}
 use Rattle.its_text.proofs.LeftTurns.{ruled_turns, left_opened_turns, left_closed_turns, left_comma_turns}
-use Rattle.its_text.proofs.LeftTurns.{left_shut_turns, left_parted_turns, arrow_turns, arrowed_turns, com_opened_turns}
+use Rattle.its_text.proofs.LeftTurns.{left_shut_turns, left_parted_turns, arrowed_turns, com_opened_turns}
 use Rattle.its_text.proofs.LeftTurns.{target_opened_turns}
+use Rattle.its_text.proofs.CostTurns.{arrow_turns, cost_turns, costing_turns, cost_closed_turns}
 use Rattle.its_text.proofs.ArgumentTurns.{opened_turns, arguing_turns, parted_turns, right_shut_turns}
 use Rattle.its_text.proofs.RuleTurns.{targeted_turns, marks_turns, square_turns}
 use Rattle.its_text.proofs.RuleTurns.{mark_guarding_turns, square_opened_turns, square_closed_turns}
@@ -45,7 +46,10 @@ turns_each = record {
   left_read_comma = λ r source a earlier ps. left_comma_turns r source a earlier ps;
   left_read_close = λ r source a earlier ps. left_shut_turns r source a earlier ps;
   left_parted_word = λ r source a earlier name ps. left_parted_turns r source a name earlier ps;
-  left_shut_arrow = λ l ps. arrow_turns l ps;
+  left_shut_arrow = λ r t ps. arrow_turns r t ps;
+  left_shut_cost = λ r t ps. cost_turns r t ps;
+  costing_piece = λ r t e p ps. costing_turns r t e p ps;
+  costing_close = λ r t e ps. cost_closed_turns r t e ps;
   arrowed_word = λ l name ps. arrowed_turns l name ps (is_same name (codes "Com_1")) refl;
   com_named_open = λ l ps. (λ h. (h, tt), λ h. h.0);
   com_opened_word = λ l name ps. com_opened_turns l name ps;

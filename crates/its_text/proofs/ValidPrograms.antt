@@ -8,13 +8,14 @@ use Rattle.std.proofs.lemmas.List.{length-reverse}
 use Rattle.std.proofs.lemmas.Bool.Decides.{nat_tests}
 use Rattle.expr_text.specs.model.Programs as plain
 use Rattle.expr_text.specs.model.Programs.{Name, Symbol, Program, arity_in}
-use Rattle.expr_text.specs.its_model.Valid.{IsValidTerm, IsValidAtom, IsValidSymbol, IsValidRule, IsValid}
+use Rattle.expr_text.specs.its_model.Valid.{IsValidTerm, IsValidAtom, IsValidCost, IsValidSymbol, IsValidRule, IsValid}
 use Rattle.expr_text.specs.text_core.Names.{IsName, is_same, is_among, AreDistinct}
 use Rattle.expr_text.proofs.text_core.NameLaws.{same_equal}
 use Rattle.expr_text.proofs.Stability.{among_more, among_last, extended}
 use Rattle.its_text.specs.Written.{LeftTerm, WrittenRule, pieces_behind}
 use Rattle.its_text.specs.Numbering.{term_in, names_of, with_symbol, with_left, symbols_of, number_of, arity_of}
-use Rattle.its_text.specs.Numbering.{with_sums, left_names, rule_names, sums_terms, guard_terms, rule_numbered}
+use Rattle.its_text.specs.Numbering.{with_sums, left_names, arrow_names, rule_names, sums_terms, guard_terms, cost_term}
+use Rattle.its_text.specs.Numbering.{rule_numbered}
 use Rattle.its_text.specs.Numbering.{rules_numbered, start_of, rules_of, or_left, first_leaving, program_from}
 use Rattle.its_text.specs.Numbering.{program_of_parts}
 use Rattle.its_text.specs.Spelling.{IsRule, AreRules, HaveRules, IsRuleWithin, AreRulesWithin, HaveRulesWithin}
@@ -23,7 +24,8 @@ use Rattle.its_text.proofs.NamedPieces.{text_named, before_named, AreNamed}
 use Rattle.its_text.proofs.DistinctNames.{all_one_more, distinct_one_more, AreGood, NamedRule, AreRulesNamed}
 use Rattle.its_text.proofs.DistinctNames.{sections_named}
 use Rattle.its_text.proofs.ValidRules.{position_below, sums_extends, guard_extends, arguments_valid, arguments_count}
-use Rattle.its_text.proofs.ValidRules.{guard_valid, read_in_rule, no_fewer}
+use Rattle.its_text.proofs.ValidRules.{cost_extends, cost_along, cost_is_read, cost_valid, cost_counts, guard_valid}
+use Rattle.its_text.proofs.ValidRules.{read_in_rule, no_fewer}
 use Rattle.its_text.proofs.Reading.{some_is, none_is_some}
 
 -- the symbols have names that differ, and no more places than the limit
@@ -118,11 +120,16 @@ places_at (s ∷ symbols) n h = go (is_same n s.name) refl h (λ k. places_at sy
 rule_valid : (p : Program) (r : WrittenRule) → NamedRule r → IsRuleWithin r → IsRule p.symbols r → IsKnown p.symbols r → IsValidRule p (rule_numbered p.symbols r)
 rule_valid p r n w is known =
     let names = rule_names r in
-    let more = extended (left_names r.left) (with_sums (left_names r.left) (term_in r.target).arguments) names (sums_extends (left_names r.left) (term_in r.target).arguments) (guard_extends (with_sums (left_names r.left) (term_in r.target).arguments) r.guard) in
+    let arrow = arrow_names r.left r.cost in
+    let sums = with_sums arrow (term_in r.target).arguments in
+    let costs = cost_extends (left_names r.left) r.cost in
+    let behind = extended arrow sums names (sums_extends arrow (term_in r.target).arguments) (guard_extends sums r.guard) in
+    let more = extended (left_names r.left) arrow names costs behind in
     let fewer = no_fewer (left_names r.left) names more in
     let left = length-reverse r.left.arguments in
     let whole : length names ≡ length r.left.arguments + (length names - length r.left.arguments) = omega (arith, fewer, left) in
-    let guard = guard_valid (with_sums (left_names r.left) (term_in r.target).arguments) r.guard w.guard in
+    let guard = guard_valid r.cost sums r.guard w.guard in
+    let counts = cost_counts names r.cost in
     record {
       source = number_below p.symbols r.left.name known.0;
       target = number_below p.symbols (term_in r.target).name known.1;
@@ -132,10 +139,12 @@ rule_valid p r n w is known =
       names = (n.names is.left).0;
       distinct = (n.names is.left).1;
       few_variables = (let k = w.variables in omega (arith, whole, k));
-      few_atoms = guard.1;
+      few_atoms = (let few = guard.1 in omega (arith, few, counts));
       updates = subst (λ m. AllByRecursion (IsValidTerm m) (sums_terms names (term_in r.target).arguments)) whole
-          (arguments_valid names (term_in r.target).arguments (read_in_rule (left_names r.left) (term_in r.target).arguments r.guard) w.arguments);
+          (arguments_valid names (term_in r.target).arguments (read_in_rule arrow (term_in r.target).arguments r.guard) w.arguments);
       guard = subst (λ m. AllByRecursion (IsValidAtom m) (guard_terms names r.guard)) whole guard.0;
+      cost = subst (λ m. IsValidCost m (cost_term names r.cost)) whole
+          (cost_valid names r.cost (cost_along arrow names r.cost behind (cost_is_read (left_names r.left) r.cost)) w.cost);
     }
 
 -- all are

@@ -8,7 +8,7 @@ use Rattle.expr_text.specs.model.Programs.{Name}
 use Rattle.expr_text.specs.model.Terms.{Term}
 use Rattle.expr_text.specs.poly_terms.Checked.{ReadsBelow}
 use Rattle.expr_text.specs.poly_terms.Faults as polynomials
-use Rattle.expr_text.specs.its_model.Valid.{difference_of, IsValidTerm, IsValidAtom}
+use Rattle.expr_text.specs.its_model.Valid.{difference_of, IsValidTerm, IsValidAtom, IsValidCost, cost_atoms}
 use Rattle.expr_text.specs.text_core.Names.{is_same, is_among, position_of}
 use Rattle.expr_text.specs.Pieces as inner
 use Rattle.expr_text.specs.Trees.{Sum, Alone, Added, Subtracted, Product, Single, Multiplied, Factor, Plain, Raised}
@@ -21,9 +21,10 @@ use Rattle.expr_text.proofs.Stability.{extended}
 use Rattle.expr_text.proofs.NamesRead.{Extends, extends_self, sum_along, AtomReads, AtomsRead, atoms_extends}
 use Rattle.expr_text.proofs.NamesRead.{atoms_are_read}
 use Rattle.its_text.specs.Written.{Guard, NoGuard, BehindMark, InSquares}
-use Rattle.its_text.specs.Numbering.{with_sums, with_maybe, with_guard, sums_terms, guard_terms}
+use Rattle.its_text.specs.Numbering.{with_sums, with_maybe, with_guard, sums_terms, guard_terms, with_cost, cost_term}
+use Rattle.its_text.specs.Numbering.{atoms_of_cost}
 use Rattle.expr_text.specs.Differences.{differences, first_of_all}
-use Rattle.its_text.specs.Spelling.{AreArgumentsWithin, IsAtomWithin, AreAtomsWithin, IsGuardWithin}
+use Rattle.its_text.specs.Spelling.{AreArgumentsWithin, IsCostWithin, IsAtomWithin, AreAtomsWithin, IsGuardWithin}
 use Rattle.its_text.proofs.DistinctNames.{all_one_more}
 
 -- a name that is among names stands before their end
@@ -63,6 +64,11 @@ pub sums_extends : (names : List Name) (sums : List Sum) → Extends names (with
 sums_extends names [] = extends_self names
 sums_extends names (s ∷ sums) = extended names (with_sums names sums) (with_sum (with_sums names sums) s) (sums_extends names sums) (sum_extends (with_sums names sums) s)
 
+-- so do those of a cost
+pub cost_extends : (names : List Name) (cost : Option Sum) → Extends names (with_cost names cost)
+cost_extends names None = extends_self names
+cost_extends names (Some c) = sum_extends names c
+
 maybe_extends : (names : List Name) (o : Option Atoms) → Extends names (with_maybe names o)
 maybe_extends names None = extends_self names
 maybe_extends names (Some atoms) = atoms_extends names atoms
@@ -77,6 +83,21 @@ guard_extends names (InSquares o) = maybe_extends names o
 abbrev pub AllRead : List Name → List Sum → Type 0
 AllRead names [] = ⊤
 AllRead names (s ∷ sums) = SumReads names s × AllRead names sums
+
+-- a cost whose names are among names
+abbrev pub CostReads : List Name → Option Sum → Type 0
+CostReads names None = ⊤
+CostReads names (Some c) = SumReads names c
+
+-- the names of a cost are among any names to which its own extend
+pub cost_along : (names last : List Name) (cost : Option Sum) → Extends names last → CostReads names cost → CostReads last cost
+cost_along names last None e h = tt
+cost_along names last (Some c) e h = sum_along names last c e h
+
+-- and among the variables once it is read
+pub cost_is_read : (names : List Name) (cost : Option Sum) → CostReads (with_cost names cost) cost
+cost_is_read names None = tt
+cost_is_read names (Some c) = sum_is_read names c
 
 -- the names of arguments are among any names to which theirs extend
 pub all_read_more : (names last : List Name) (sums : List Sum) → Extends names last → AllRead names sums → AllRead last sums
@@ -94,6 +115,20 @@ pub arguments_valid : (names : List Name) (sums : List Sum) → AllRead names su
 arguments_valid names [] h w = tt
 arguments_valid names (s ∷ sums) h w =
     all_one_more (IsValidTerm (length names)) (sums_terms names sums) (sum_term names s) (arguments_valid names sums h.1 w.1) (record { variables = sum_below names s h.0; expands = w.0.expanded })
+
+-- so is a cost
+pub cost_valid : (names : List Name) (cost : Option Sum) → CostReads names cost → IsCostWithin names cost → IsValidCost (length names) (cost_term names cost)
+cost_valid names None h w = tt
+cost_valid names (Some c) h w = record { variables = sum_below names c h; expands = w.expanded }
+
+-- a cost counts as one atom at most, and by numbers as it is written
+pub at_most_one : (cost : Option Sum) → atoms_of_cost cost ≤ 1
+at_most_one None = omega arith
+at_most_one (Some c) = omega arith
+
+pub cost_counts : (names : List Name) (cost : Option Sum) → cost_atoms (cost_term names cost) ≡ atoms_of_cost cost
+cost_counts names None = refl
+cost_counts names (Some c) = refl
 
 -- there are as many terms as arguments
 pub arguments_count : (names : List Name) (sums : List Sum) → length (sums_terms names sums) ≡ length sums
@@ -133,14 +168,14 @@ atoms_count names (First a) = refl
 atoms_count names (Joined atoms joint a) =
     let e = length-append (atoms_terms names atoms) (atom_term names a ∷ []) in let k = atoms_count names atoms in omega (arith, e, k)
 
--- so is a guard, and it has no more atoms than the limit
-pub guard_valid : (names : List Name) (g : Guard) → IsGuardWithin (with_guard names g) g → AllByRecursion (IsValidAtom (length (with_guard names g))) (guard_terms (with_guard names g) g) × (length (guard_terms (with_guard names g) g) ≤ 64)
-guard_valid names NoGuard w = (tt, omega arith)
-guard_valid names (BehindMark None) w = (tt, omega arith)
-guard_valid names (BehindMark (Some atoms)) w =
+-- so is a guard, and beside the cost it has no more atoms than the limit
+pub guard_valid : (cost : Option Sum) (names : List Name) (g : Guard) → IsGuardWithin (atoms_of_cost cost) (with_guard names g) g → AllByRecursion (IsValidAtom (length (with_guard names g))) (guard_terms (with_guard names g) g) × (length (guard_terms (with_guard names g) g) + atoms_of_cost cost ≤ 64)
+guard_valid cost names NoGuard w = (tt, (let one = at_most_one cost in omega (arith, one)))
+guard_valid cost names (BehindMark None) w = (tt, (let one = at_most_one cost in omega (arith, one)))
+guard_valid cost names (BehindMark (Some atoms)) w =
     (atoms_valid (with_atoms names atoms) atoms (atoms_are_read names atoms) w.1, (let e = atoms_count (with_atoms names atoms) atoms in let k = w.0 in omega (arith, e, k)))
-guard_valid names (InSquares None) w = (tt, omega arith)
-guard_valid names (InSquares (Some atoms)) w =
+guard_valid cost names (InSquares None) w = (tt, (let one = at_most_one cost in omega (arith, one)))
+guard_valid cost names (InSquares (Some atoms)) w =
     (atoms_valid (with_atoms names atoms) atoms (atoms_are_read names atoms) w.1, (let e = atoms_count (with_atoms names atoms) atoms in let k = w.0 in omega (arith, e, k)))
 
 -- the arguments' names are among those of the whole rule

@@ -10,12 +10,12 @@ use Rattle.expr_text.specs.GuardFronts.{GuardFront}
 use Rattle.its_text.specs.Pieces.{Piece, In, word}
 use Rattle.its_text.specs.Written.{NoGuard, BehindMark}
 use Rattle.its_text.specs.Fronts.{Headed, rule_with, ruling_with, Front, GuardMarked, WordRead, MarkGuarding}
-use Rattle.its_text.specs.Steps.{guard_named, behind_mark, behind_word, step}
+use Rattle.its_text.specs.Steps.{guard_named, behind_mark, behind_word}
 use Rattle.its_text.specs.FrontNames.{headed_names}
 use Rattle.its_text.specs.FrontFaults as shown
 use Rattle.its_text.specs.FrontFaults.{open_expression_in, is_open}
 use Rattle.its_text.proofs.RoomLaws.{contrary}
-use Rattle.its_text.proofs.KeptFronts.{first, IsHeadedKept, IsGuardKept, IsGoingQuiet}
+use Rattle.its_text.proofs.KeptFronts.{first, IsHeadedKept, HasGuardKept, IsGoingQuiet}
 use Rattle.its_text.proofs.SectionTurns.{Turns, rules_done}
 use Rattle.its_text.proofs.LeftTurns.{room_for_rule}
 use Rattle.its_text.proofs.MadeRules.{no_marked}
@@ -69,7 +69,7 @@ marked_word h name ps false e =
 
 marked_first : (h : Headed) (g : GuardFront) (p : inner.Piece) (ps : List Piece)
     → guards.step guards.no_atoms p ≡ Some g
-    → (IsHeadedKept h × IsGuardKept (headed_names h) g (first ps))
+    → (IsHeadedKept h × HasGuardKept h g (first ps))
     ↔ (IsHeadedKept h
     × ((false ≡ false) × IsGoingQuiet (open_expression_in (headed_names h) guards.no_atoms) (Some (In p)) (first ps)))
 marked_first h g p ps same =

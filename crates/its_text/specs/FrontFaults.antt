@@ -1,5 +1,6 @@
 -- The faults that a front of a program's text shows against the tokens before it and behind it.
-use Rattle.std.specs.Prelude.{ℕ, ◌-◌, Bool, true, false, not, ◌&&◌, ◌||◌, if◌then◌else◌, nat_lt, nat_le, ◌==◌, List}
+use Rattle.std.specs.Prelude.{ℕ, ◌+◌, ◌-◌, Bool, true, false, not, ◌&&◌, ◌||◌, if◌then◌else◌, nat_lt, nat_le, ◌==◌}
+use Rattle.std.specs.Prelude.{List}
 use Rattle.std.specs.Prelude.{[], ◌∷◌, ◌++◌, length, codes, Option, Some, None}
 use Rattle.expr_text.specs.model.Programs.{Name, Symbol}
 use Rattle.expr_text.specs.model.Limits.{rule_limit, place_limit, variable_limit, atom_limit, name_limit, token_limit}
@@ -23,12 +24,12 @@ use Rattle.expr_text.specs.FrontNames.{begins_expression, truth_worded}
 use Rattle.its_text.specs.Pieces.{Piece, In, Disjoining, Strange}
 use Rattle.its_text.specs.Written.{Target, Marked, Bare, NoGuard, WrittenRule, Section, Goal, Start, Variables, Rules}
 use Rattle.its_text.specs.Written.{Comment}
-use Rattle.its_text.specs.Numbering.{is_com, arity_of, with_right}
-use Rattle.its_text.specs.Fronts.{Led, rule_with, Front, Between, Ruled, LeftOpened, LeftParted, LeftShut, Arrowed}
-use Rattle.its_text.specs.Fronts.{ComOpened, RightOpened, Arguing, RightShut, Targeted, GuardMarked, WordRead}
+use Rattle.its_text.specs.Numbering.{is_com, arity_of, with_right, left_names, atoms_of_cost}
+use Rattle.its_text.specs.Fronts.{Led, rule_with, Front, Between, Ruled, LeftOpened, LeftParted, LeftShut, Costing}
+use Rattle.its_text.specs.Fronts.{Arrowed, ComOpened, RightOpened, Arguing, RightShut, Targeted, GuardMarked, WordRead}
 use Rattle.its_text.specs.Fronts.{MarkGuarding, SquareOpened, SquareGuarding}
 use Rattle.its_text.specs.Steps.{guard_named}
-use Rattle.its_text.specs.FrontNames.{symbols_behind, names_with, headed_names}
+use Rattle.its_text.specs.FrontNames.{symbols_led, symbols_behind, names_with, headed_names}
 use Rattle.its_text.specs.Kinds.{TooManyRules, TooManyArguments, TooManyVariables, TooManyAtoms, LongName}
 use Rattle.its_text.specs.Kinds.{TooManyTokens, TooManyTerms, HighDegree, Kind, NotAscii, Syntax, RepeatedSection}
 use Rattle.its_text.specs.Kinds.{ManyTargets, LeftNotVariable, LeftRepeated, ArityDiffers, NumberTooLarge, Limit}
@@ -182,7 +183,7 @@ bare_differs l (Marked t) = false
 bare_differs l (Bare t) = other_arity (with_right (symbols_behind l) t) t.name (length t.arguments)
 
 abbrev pub has_other_arity : Front → Bool
-has_other_arity (LeftShut l) = other_arity (symbols_behind l) l.left.name (length l.left.arguments)
+has_other_arity (LeftShut r t) = other_arity (symbols_led r t) t.name (length t.arguments)
 has_other_arity (RightShut l t) = other_arity (with_right (symbols_behind l) t) t.name (length t.arguments)
 has_other_arity (Targeted h) = bare_differs h.led h.target
 has_other_arity _ = false
@@ -203,6 +204,7 @@ open_expression_in names g =
     Some (record { names = before_expression names g; front = guards.expression_in g; leads_atom = is_left_side g })
 
 abbrev pub open_expression : Front → Option Piece → Option Piece → Option OpenExpression
+open_expression (Costing r t e) next behind = Some (record { names = left_names t; front = e; leads_atom = false })
 open_expression (RightOpened a) next behind =
     Some (record { names = names_with a.led []; front = expression.beginning; leads_atom = false })
 open_expression (Arguing a arguments e) next behind =
@@ -258,15 +260,16 @@ passes_arguments (Arguing a arguments e) next =
     (token_count e == 0) && nat_le place_limit (length arguments) && begins next
 passes_arguments _ next = false
 
--- an atom begins with it behind as many as the limit
-abbrev pub is_full : GuardFront → Bool
-is_full (LeftSide NoAtoms e) = false
-is_full (LeftSide (JointAfter atoms joint) e) = (token_count e == 0) && nat_le atom_limit (count_of atoms)
-is_full (RightSide c l sign e) = false
+-- an atom begins with it behind as many as the limit, with so many others that the rule's cost counts as
+abbrev pub is_full : ℕ → GuardFront → Bool
+is_full others (LeftSide NoAtoms e) = false
+is_full others (LeftSide (JointAfter atoms joint) e) =
+    (token_count e == 0) && nat_le atom_limit (count_of atoms + others)
+is_full others (RightSide c l sign e) = false
 
 abbrev pub another_atom : Front → Option Piece → Bool
-another_atom (MarkGuarding h g) next = is_full g && begins next
-another_atom (SquareGuarding h g) next = is_full g && begins next
+another_atom (MarkGuarding h g) next = is_full (atoms_of_cost h.led.cost) g && begins next
+another_atom (SquareGuarding h g) next = is_full (atoms_of_cost h.led.cost) g && begins next
 another_atom _ next = false
 
 -- the refusal for what stands in the way of expanding an expression
@@ -279,7 +282,7 @@ abbrev pub expansion_faults : ℕ → Option polynomials.Fault → FaultList
 expansion_faults at None = []
 expansion_faults at (Some fault) = record { kind = expansion_kind fault; at = at } ∷ []
 
--- an argument has ended: it can't be expanded
+-- an argument or a cost has ended: it can't be expanded
 abbrev pub argument_faults : ℕ → List Name → Option Sum → FaultList
 argument_faults at names None = []
 argument_faults at names (Some s) =
@@ -301,8 +304,10 @@ atom_faults at names (RightSide c l sign e) next =
     if ends_expression e next then right_side_faults at (before_expression names (RightSide c l sign e)) l sign
     (expression_steps.finish e) else []
 
--- what has ended behind the last token, an argument or an atom, can't be expanded
+-- what has ended behind the last token, a cost, an argument or an atom, can't be expanded
 abbrev pub ended_faults : ℕ → Front → Option Piece → FaultList
+ended_faults at (Costing r t e) next =
+    if ends_expression e next then argument_faults at (left_names t) (expression_steps.finish e) else []
 ended_faults at (Arguing a arguments e) next =
     if ends_expression e next then argument_faults at (names_with a.led arguments) (expression_steps.finish e) else []
 ended_faults at (MarkGuarding h g) next = atom_faults at (headed_names h) g next

@@ -2,19 +2,20 @@
 use Rattle.std.specs.Prelude.{List}
 use Rattle.expr_text.specs.model.Programs.{Name, Symbol}
 use Rattle.expr_text.specs.Trees.{Sum}
-use Rattle.its_text.specs.Numbering.{symbols_of, with_left, term_in, left_names, with_sums}
-use Rattle.its_text.specs.Fronts.{Led, Headed}
+use Rattle.its_text.specs.Written.{LeftTerm}
+use Rattle.its_text.specs.Numbering.{symbols_of, with_left, term_in, arrow_names, with_sums}
+use Rattle.its_text.specs.Fronts.{Ruling, Led, Headed}
 
--- the symbols before a left term, and before a right one
-abbrev pub symbols_before : Led → List Symbol
-symbols_before l = symbols_of l.ruling.rules
+-- the symbols behind a left term, and so before a right one
+abbrev pub symbols_led : Ruling → LeftTerm → List Symbol
+symbols_led r t = with_left (symbols_of r.rules) t
 
 abbrev pub symbols_behind : Led → List Symbol
-symbols_behind l = with_left (symbols_before l) l.left
+symbols_behind l = symbols_led l.ruling l.left
 
--- the variables once a left term and arguments are read
+-- the variables once a left term, its arrow and arguments are read
 abbrev pub names_with : Led → List Sum → List Name
-names_with l arguments = with_sums (left_names l.left) arguments
+names_with l arguments = with_sums (arrow_names l.left l.cost) arguments
 
 -- the variables once a target is read
 abbrev pub headed_names : Headed → List Name

@@ -1,23 +1,24 @@
 -- The part of a program's text that has been read, as the tree so far.
-use Rattle.std.specs.Prelude.{List, [], ◌∷◌, codes}
+use Rattle.std.specs.Prelude.{List, [], ◌∷◌, codes, Option}
 use Rattle.expr_text.specs.model.Programs.{Name}
 use Rattle.expr_text.specs.Trees.{Sum}
 use Rattle.expr_text.specs.Fronts.{Front as ExpressionFront, front_behind as expression_behind}
 use Rattle.expr_text.specs.GuardFronts.{GuardFront, guard_behind as atoms_behind}
-use Rattle.its_text.specs.Pieces.{Piece, In, Comma, Arrow, GuardMark, SquareOpen, word, open_bracket, close_bracket}
+use Rattle.its_text.specs.Pieces.{Piece, In, Comma, CostOpen, GuardMark, SquareOpen, word, open_bracket, close_bracket}
 use Rattle.its_text.specs.Written.{LeftTerm, RightTerm, Target, Marked, Bare, Guard, WrittenRule, Section, Rules}
-use Rattle.its_text.specs.Written.{names_behind, sums_behind, left_behind, right_behind, target_behind, rules_behind}
-use Rattle.its_text.specs.Written.{words_behind, pieces_behind}
+use Rattle.its_text.specs.Written.{names_behind, sums_behind, left_behind, right_behind, arrow_behind, target_behind}
+use Rattle.its_text.specs.Written.{rules_behind, words_behind, pieces_behind}
 
 -- the sections before, and the rules so far of the section that is being read
 pub record Ruling : Type 0 where
   pub sections : List Section
   pub rules : List WrittenRule
 
--- a rule's left term is read
+-- a rule's left term and its arrow are read, with a cost or none
 pub record Led : Type 0 where
   pub ruling : Ruling
   pub left : LeftTerm
+  pub cost : Option Sum
 
 -- where a right term stands: within `Com_1(` and `)`, or alone
 pub data Wrap : Type 0 where
@@ -61,8 +62,10 @@ pub data Front : Type 0 where
   LeftOpened : Ruling → Name → Front
   LeftRead : Ruling → Name → Name → List Name → Front
   LeftParted : Ruling → Name → Name → List Name → Front
-  LeftShut : Led → Front
-  -- `->`, then `Com_1`, then its `(`
+  LeftShut : Ruling → LeftTerm → Front
+  -- `-{` and some of a cost
+  Costing : Ruling → LeftTerm → ExpressionFront → Front
+  -- the arrow, then `Com_1`, then its `(`
   Arrowed : Led → Front
   ComNamed : Led → Front
   ComOpened : Led → Front
@@ -82,7 +85,7 @@ pub data Front : Type 0 where
 
 -- the rule whose target is read, with a guard
 abbrev pub rule_with : Headed → Guard → WrittenRule
-rule_with h guard = record { left = h.led.left; target = h.target; guard = guard }
+rule_with h guard = record { left = h.led.left; cost = h.led.cost; target = h.target; guard = guard }
 
 -- the rules, with that one
 abbrev pub ruling_with : Headed → Guard → Ruling
@@ -102,20 +105,20 @@ abbrev pub ruling_pieces : Ruling → List Piece
 ruling_pieces r = rules_behind r.rules (word (codes "RULES") ∷ open_bracket ∷ pieces_behind r.sections)
 
 abbrev pub led_pieces : Led → List Piece
-led_pieces l = left_behind l.left (ruling_pieces l.ruling)
+led_pieces l = arrow_behind l.cost (left_behind l.left (ruling_pieces l.ruling))
 
 abbrev pub com_pieces : Led → List Piece
-com_pieces l = open_bracket ∷ word (codes "Com_1") ∷ Arrow ∷ led_pieces l
+com_pieces l = open_bracket ∷ word (codes "Com_1") ∷ led_pieces l
 
 abbrev pub wrap_pieces : Led → Wrap → List Piece
 wrap_pieces l InCom = com_pieces l
-wrap_pieces l Alone = Arrow ∷ led_pieces l
+wrap_pieces l Alone = led_pieces l
 
 abbrev pub aimed_pieces : Aimed → List Piece
 aimed_pieces a = word a.name ∷ wrap_pieces a.led a.wrap
 
 abbrev pub headed_pieces : Headed → List Piece
-headed_pieces h = target_behind h.target (Arrow ∷ led_pieces h.led)
+headed_pieces h = target_behind h.target (led_pieces h.led)
 
 -- arguments with a comma behind the last one
 abbrev pub parted_behind : List Sum → List Piece → List Piece
@@ -146,9 +149,10 @@ front_pieces (LeftOpened r name) = open_bracket ∷ word name ∷ ruling_pieces 
 front_pieces (LeftRead r name a earlier) = names_behind (a ∷ earlier) (open_bracket ∷ word name ∷ ruling_pieces r)
 front_pieces (LeftParted r name a earlier) =
     Comma ∷ names_behind (a ∷ earlier) (open_bracket ∷ word name ∷ ruling_pieces r)
-front_pieces (LeftShut l) = led_pieces l
-front_pieces (Arrowed l) = Arrow ∷ led_pieces l
-front_pieces (ComNamed l) = word (codes "Com_1") ∷ Arrow ∷ led_pieces l
+front_pieces (LeftShut r t) = left_behind t (ruling_pieces r)
+front_pieces (Costing r t e) = expression_behind In e (CostOpen ∷ left_behind t (ruling_pieces r))
+front_pieces (Arrowed l) = led_pieces l
+front_pieces (ComNamed l) = word (codes "Com_1") ∷ led_pieces l
 front_pieces (ComOpened l) = com_pieces l
 front_pieces (TargetNamed a) = aimed_pieces a
 front_pieces (RightOpened a) = open_bracket ∷ aimed_pieces a

@@ -9,18 +9,18 @@ use Rattle.expr_text.specs.text_core.Names.{begins_name, continues_name, is_same
 use Rattle.expr_text.specs.text_core.Bytes.{is_white_space, begins_with}
 use Rattle.expr_text.specs.text_core.Tokens.{Token, Lexeme, Lexer, tokens_in}
 use Rattle.expr_text.specs.Pieces as inner
-use Rattle.its_text.specs.Pieces.{Piece, In, Comma, Arrow, GuardMark, SquareOpen, SquareClose, Disjoining, Remark}
-use Rattle.its_text.specs.Pieces.{Wrong, Strange, word, digits, open_bracket, close_bracket}
+use Rattle.its_text.specs.Pieces.{Piece, In, Comma, Arrow, CostOpen, CostClose, GuardMark, SquareOpen, SquareClose}
+use Rattle.its_text.specs.Pieces.{Disjoining, Remark, Wrong, Strange, word, digits, open_bracket, close_bracket}
 
 -- a piece of so many bytes
 abbrev pub lexeme : Piece → ℕ → Lexeme (Option Piece)
 lexeme p len = record { piece = Some p; len = len }
 
--- what `-`, `>`, `<` and `=` begin, with the bytes behind
+-- what `-` begins, with the bytes behind
 abbrev pub minus_at : List ℕ → Lexeme (Option Piece)
 minus_at bytes =
     if begins_with 62 bytes then lexeme Arrow 2
-    else if begins_with 123 bytes then lexeme Wrong 1
+    else if begins_with 123 bytes then lexeme CostOpen 2
     else lexeme (In inner.Minus) 1
 
 -- one of two relations, by whether `=` follows
@@ -57,6 +57,7 @@ mark_at b bytes =
     else if b == 38 then pair_at 38 (In (inner.Joining inner.Ampersands)) bytes
     else if b == 47 then pair_at 92 (In (inner.Joining inner.Wedge)) bytes
     else if b == 124 then pair_at 124 Disjoining bytes
+    else if b == 125 then pair_at 62 CostClose bytes
     else if nat_lt 127 b then lexeme Strange 1
     else lexeme Wrong 1
 

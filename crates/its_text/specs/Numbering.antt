@@ -69,9 +69,24 @@ with_guard names (InSquares atoms) = with_maybe names atoms
 abbrev pub left_names : LeftTerm → List Name
 left_names t = reverse t.arguments
 
--- the variables of a rule: the left ones, then the free ones in order of first occurrence in its text
+-- the variables once a cost is read
+abbrev pub with_cost : List Name → Option Sum → List Name
+with_cost names None = names
+with_cost names (Some c) = with_sum names c
+
+-- as how many atoms of its rule a cost counts: as one, where there is one
+abbrev pub atoms_of_cost : Option Sum → ℕ
+atoms_of_cost None = 0
+atoms_of_cost (Some c) = 1
+
+-- the variables once an arrow is read, behind a left term
+abbrev pub arrow_names : LeftTerm → Option Sum → List Name
+arrow_names t cost = with_cost (left_names t) cost
+
+-- the variables of a rule: the left ones, then the free ones in order of first occurrence in its text, where the cost
+-- stands before the target
 abbrev pub rule_names : WrittenRule → List Name
-rule_names r = with_guard (with_sums (left_names r.left) (term_in r.target).arguments) r.guard
+rule_names r = with_guard (with_sums (arrow_names r.left r.cost) (term_in r.target).arguments) r.guard
 
 -- the atoms of a guard over variables with these names
 abbrev pub maybe_terms : List Name → Option Atoms → List plain.Atom
@@ -88,6 +103,11 @@ abbrev pub sums_terms : List Name → List Sum → List Term
 sums_terms names [] = []
 sums_terms names (s ∷ earlier) = sums_terms names earlier ++ sum_term names s ∷ []
 
+-- a cost over variables with these names
+abbrev pub cost_term : List Name → Option Sum → Option Term
+cost_term names None = None
+cost_term names (Some c) = Some (sum_term names c)
+
 -- a rule by numbers
 abbrev pub rule_numbered : List Symbol → WrittenRule → plain.Rule
 rule_numbered symbols r = record {
@@ -98,6 +118,7 @@ rule_numbered symbols r = record {
   names = rule_names r;
   updates = sums_terms (rule_names r) (term_in r.target).arguments;
   guard = guard_terms (rule_names r) r.guard;
+  cost = cost_term (rule_names r) r.cost;
 }
 
 -- rules by numbers, in order

@@ -3,12 +3,14 @@ use Rattle.std.specs.Prelude.{ℕ, List}
 use Rattle.expr_text.specs.model.Programs.{Name}
 use Rattle.expr_text.specs.Pieces as inner
 
--- a piece: one of an expression or a guard, a mark of its own, what a comment says with its closing bracket, bytes that
--- begin no piece, or a byte over 127
+-- a piece: one of an expression or a guard, a mark of its own (`-{` and `}>` stand round a cost), what a comment says
+-- with its closing bracket, bytes that begin no piece, or a byte over 127
 pub data Piece : Type 0 where
   In : inner.Piece → Piece
   Comma : Piece
   Arrow : Piece
+  CostOpen : Piece
+  CostClose : Piece
   GuardMark : Piece
   SquareOpen : Piece
   SquareClose : Piece

@@ -1,5 +1,6 @@
 -- What a text spells, and the limits on texts.
-use Rattle.std.specs.Prelude.{◌≡◌, ℕ, suc, ◌≤◌, Bool, if◌then◌else◌, List, [], ◌∷◌, length, Option, Some, None, IsFalse}
+use Rattle.std.specs.Prelude.{◌≡◌, ℕ, suc, ◌+◌, ◌≤◌, Bool, if◌then◌else◌, List, [], ◌∷◌, length, Option, Some, None}
+use Rattle.std.specs.Prelude.{IsFalse}
 use Rattle.std.specs.Prelude.{⊤}
 use Rattle.expr_text.specs.model.Programs.{Name, Symbol, Program}
 use Rattle.expr_text.specs.model.Limits.{rule_limit, place_limit, variable_limit, atom_limit, name_limit, token_limit}
@@ -15,7 +16,8 @@ use Rattle.expr_text.specs.Guards.{Atom, Always, Compared, Atoms, First, Joined,
 use Rattle.its_text.specs.Pieces.{Piece, In}
 use Rattle.its_text.specs.Lexing.{tokens_of}
 use Rattle.its_text.specs.Written.{Guard, NoGuard, BehindMark, InSquares, WrittenRule, Section, pieces_behind}
-use Rattle.its_text.specs.Numbering.{is_com, term_in, symbols_of, arity_of, rule_names, rules_of, program_numbered}
+use Rattle.its_text.specs.Numbering.{is_com, term_in, symbols_of, arity_of, atoms_of_cost, rule_names, rules_of}
+use Rattle.its_text.specs.Numbering.{program_numbered}
 use Rattle.its_text.specs.Grammar.{Writes}
 use Rattle.expr_text.specs.Differences.{differences, first_of_all}
 use Rattle.its_text.specs.FrontFaults.{is_goal, is_start, is_variables, is_rules}
@@ -80,7 +82,7 @@ AreSmall (p ∷ ps) = IsSmallPiece p × AreSmall ps
 abbrev pub IsShort : Sum → Type 0
 IsShort s = length (sum_behind (λ p. p) s []) ≤ token_limit
 
--- an argument is short, and can be expanded
+-- an argument or a cost is short, and can be expanded
 pub record IsArgumentWithin (names : List Name) (s : Sum) : Type 0 where
   pub tokens : IsShort s
   pub expanded : polynomials.first_fault (sum_term names s) ≡ None
@@ -99,15 +101,20 @@ abbrev pub AreAtomsWithin : List Name → Atoms → Type 0
 AreAtomsWithin names (First a) = IsAtomWithin names a
 AreAtomsWithin names (Joined atoms joint a) = AreAtomsWithin names atoms × IsAtomWithin names a
 
--- a guard has no more atoms than the limit
-abbrev pub IsMaybeWithin : List Name → Option Atoms → Type 0
-IsMaybeWithin names None = ⊤
-IsMaybeWithin names (Some atoms) = (count_of atoms ≤ atom_limit) × AreAtomsWithin names atoms
+-- a cost is within, where there is one
+abbrev pub IsCostWithin : List Name → Option Sum → Type 0
+IsCostWithin names None = ⊤
+IsCostWithin names (Some c) = IsArgumentWithin names c
 
-abbrev pub IsGuardWithin : List Name → Guard → Type 0
-IsGuardWithin names NoGuard = ⊤
-IsGuardWithin names (BehindMark atoms) = IsMaybeWithin names atoms
-IsGuardWithin names (InSquares atoms) = IsMaybeWithin names atoms
+-- a guard has no more atoms than the limit, beside so many that its rule's cost counts as
+abbrev pub IsMaybeWithin : ℕ → List Name → Option Atoms → Type 0
+IsMaybeWithin others names None = ⊤
+IsMaybeWithin others names (Some atoms) = (count_of atoms + others ≤ atom_limit) × AreAtomsWithin names atoms
+
+abbrev pub IsGuardWithin : ℕ → List Name → Guard → Type 0
+IsGuardWithin others names NoGuard = ⊤
+IsGuardWithin others names (BehindMark atoms) = IsMaybeWithin others names atoms
+IsGuardWithin others names (InSquares atoms) = IsMaybeWithin others names atoms
 
 -- a rule has no more arguments on each side than a symbol may have places, and no more variables than the limit
 pub record IsRuleWithin (r : WrittenRule) : Type 0 where
@@ -115,7 +122,8 @@ pub record IsRuleWithin (r : WrittenRule) : Type 0 where
   pub right : length (term_in r.target).arguments ≤ place_limit
   pub variables : length (rule_names r) ≤ variable_limit
   pub arguments : AreArgumentsWithin (rule_names r) (term_in r.target).arguments
-  pub guard : IsGuardWithin (rule_names r) r.guard
+  pub cost : IsCostWithin (rule_names r) r.cost
+  pub guard : IsGuardWithin (atoms_of_cost r.cost) (rule_names r) r.guard
 
 abbrev pub AreRulesWithin : List WrittenRule → Type 0
 AreRulesWithin [] = ⊤

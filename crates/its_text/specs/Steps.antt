@@ -9,13 +9,14 @@ use Rattle.expr_text.specs.Fronts as expression
 use Rattle.expr_text.specs.Steps as expression_steps
 use Rattle.expr_text.specs.Guards.{Atoms}
 use Rattle.expr_text.specs.GuardFronts as guards
-use Rattle.its_text.specs.Pieces.{Piece, In, Comma, Arrow, GuardMark, SquareOpen, SquareClose, Remark}
-use Rattle.its_text.specs.Written.{RightTerm, Target, Marked, Bare, NoGuard, BehindMark, InSquares, Section, Goal}
-use Rattle.its_text.specs.Written.{Start, Variables, Comment}
+use Rattle.its_text.specs.Pieces.{Piece, In, Comma, Arrow, CostOpen, CostClose, GuardMark, SquareOpen, SquareClose}
+use Rattle.its_text.specs.Pieces.{Remark}
+use Rattle.its_text.specs.Written.{LeftTerm, RightTerm, Target, Marked, Bare, NoGuard, BehindMark, InSquares, Section}
+use Rattle.its_text.specs.Written.{Goal, Start, Variables, Comment}
 use Rattle.its_text.specs.Fronts.{Ruling, Led, Wrap, InCom, Alone, Aimed, Headed, Front, Between, Opened, GoalNamed}
 use Rattle.its_text.specs.Fronts.{GoalSaid, StartNamed, StartOpened, StartListed, StartSaid, StartShut, Listing}
-use Rattle.its_text.specs.Fronts.{CommentNamed, Ruled, SourceNamed, LeftOpened, LeftRead, LeftParted, LeftShut, Arrowed}
-use Rattle.its_text.specs.Fronts.{ComNamed, ComOpened, TargetNamed, RightOpened, Arguing, RightShut, Targeted}
+use Rattle.its_text.specs.Fronts.{CommentNamed, Ruled, SourceNamed, LeftOpened, LeftRead, LeftParted, LeftShut, Costing}
+use Rattle.its_text.specs.Fronts.{Arrowed, ComNamed, ComOpened, TargetNamed, RightOpened, Arguing, RightShut, Targeted}
 use Rattle.its_text.specs.Fronts.{GuardMarked, WordRead, MarkGuarding, SquareOpened, SquareGuarding, ruling_with}
 use Rattle.its_text.specs.Fronts.{section_of}
 
@@ -31,7 +32,21 @@ section_named ss name =
 
 -- the left term ends
 abbrev pub left_shut : Ruling → Name → List Name → Front
-left_shut r name arguments = LeftShut (record { ruling = r; left = record { name = name; arguments = arguments } })
+left_shut r name arguments = LeftShut r (record { name = name; arguments = arguments })
+
+-- the arrow is read behind a left term, with a cost or none
+abbrev pub behind_left : Ruling → LeftTerm → Option Sum → Front
+behind_left r t cost = Arrowed (record { ruling = r; left = t; cost = cost })
+
+-- a cost goes on, where it can
+abbrev pub cost_step : Ruling → LeftTerm → Option expression.Front → Option Front
+cost_step r t None = None
+cost_step r t (Some more) = Some (Costing r t more)
+
+-- a cost ends, where it can
+abbrev pub cost_ended : Ruling → LeftTerm → Option Sum → Option Front
+cost_ended r t None = None
+cost_ended r t (Some c) = Some (behind_left r t (Some c))
 
 -- a right term's name, by where it stands
 abbrev pub behind_target_name : Led → Wrap → Name → Front
@@ -134,7 +149,10 @@ step (LeftOpened r name) (In inner.Close) = Some (left_shut r name [])
 step (LeftRead r name a earlier) Comma = Some (LeftParted r name a earlier)
 step (LeftRead r name a earlier) (In inner.Close) = Some (left_shut r name (a ∷ earlier))
 step (LeftParted r name a earlier) (In (inner.Word b)) = Some (LeftRead r name b (a ∷ earlier))
-step (LeftShut l) Arrow = Some (Arrowed l)
+step (LeftShut r t) Arrow = Some (behind_left r t None)
+step (LeftShut r t) CostOpen = Some (Costing r t expression.beginning)
+step (Costing r t e) (In p) = cost_step r t (expression_steps.step e p)
+step (Costing r t e) CostClose = cost_ended r t (expression_steps.finish e)
 step (Arrowed l) (In (inner.Word name)) = Some (behind_arrow l name)
 step (ComNamed l) (In inner.Open) = Some (ComOpened l)
 step (ComOpened l) (In (inner.Word name)) = Some (behind_target_name l InCom name)

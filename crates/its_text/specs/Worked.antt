@@ -1,7 +1,9 @@
 -- What was worked out by hand of the texts of programs.
-use Rattle.std.specs.Prelude.{◌≡◌, ℕ, ◌++◌, List, [], ◌∷◌, length, codes, pos}
-use Rattle.expr_text.specs.model.Terms.{Term, Literal, Variable, Negation, Subtraction, Multiplication, Exponentiation}
-use Rattle.expr_text.specs.model.Programs.{Name, Symbol, Rule, Program, Atom, Always, Compare, AtLeast, MoreThan, AtMost}
+use Rattle.std.specs.Prelude.{◌≡◌, ℕ, ◌++◌, List, [], ◌∷◌, length, codes, pos, Option, Some, None}
+use Rattle.expr_text.specs.model.Terms.{Term, Literal, Variable, Negation, Addition, Subtraction, Multiplication}
+use Rattle.expr_text.specs.model.Terms.{Exponentiation}
+use Rattle.expr_text.specs.model.Programs.{Name, Symbol, Rule, Program, Atom, Always, Compare, AtLeast, MoreThan}
+use Rattle.expr_text.specs.model.Programs.{AtMost}
 use Rattle.expr_text.specs.model.Programs.{LessThan, EqualTo}
 use Rattle.expr_text.specs.text_core.Reading.{Stands, Refused}
 use Rattle.its_text.specs.Kinds.{Kind, NotAscii, Syntax, MissingSection, RepeatedSection, ManyTargets, LeftNotVariable}
@@ -73,8 +75,32 @@ pub record FirstFaults : Type 0 where
       (Limit HighDegree)
   -- the -1 of a strict relation counts
   pub strict : RefusedAt (with_rules (codes "l0(A) -> Com_1(l1(A)) :|: A > 9223372036854775807")) 87 NumberTooLarge
-  -- `-` before a brace is no token
+  -- a cost is one expression: not two, nor none
+  pub two_costs : RefusedAt (with_rules (codes "l0(A) -{A,1}> Com_1(l1(A))")) 48 Syntax
+  pub no_cost : RefusedAt (with_rules (codes "l0(A) -{}> Com_1(l1(A))")) 47 Syntax
+  -- nor a comparison; `}>` doesn't stand before the bracket that closes
+  pub compared_cost : RefusedAt (with_rules (codes "l0(A) -{A>1}> Com_1(l1(A))")) 48 Syntax
+  pub open_cost : RefusedAt (with_rules (codes "l0(A) -{(A}> Com_1(l1(A))")) 49 Syntax
+  pub bars_in_cost : RefusedAt (with_rules (codes "l0(A) -{A||1}> Com_1(l1(A))")) 48 Disjunction
+  -- one that can't be expanded, at its last byte, also where the next token can't follow
+  pub high_cost : RefusedAt (with_rules (codes "l0(A) -{A^9}> Com_1(l1(A))")) 49 (Limit HighDegree)
+  pub large_cost : RefusedAt (with_rules (codes "l0(A) -{9223372036854775807*2}> Com_1(l1(A))")) 67 NumberTooLarge
+  pub ended_cost : RefusedAt (with_rules (codes "l0(A) -{A^9 , 1}> Com_1(l1(A))")) 49 (Limit HighDegree)
+  -- one that goes on can be
+  pub going_cost : RefusedAt (with_rules (codes "l0(A) -{A^9+}> Com_1(l1(A))")) 51 Syntax
+  -- a literal that is too large in a cost
+  pub literal_in_cost : RefusedAt (with_rules (codes "l0(A) -{9223372036854775808}> Com_1(l1(A))")) 47 NumberTooLarge
+  -- behind a cost stands a target, as behind `->`
+  pub two_arrows : RefusedAt (with_rules (codes "l0(A) -{A}> -> l1(A)")) 51 Syntax
+  pub two_targets_at_cost : RefusedAt (with_rules (codes "l0(A) -{A}> Com_2(l1(A),l2(A))")) 51 ManyTargets
+  pub arity_at_cost : RefusedAt (with_rules (codes "l0(A) -{A}> l0(A,A)")) 57 ArityDiffers
+  -- `-{` is one token, which stands between a rule's terms alone; so is `}>`
   pub brace : RefusedAt (with_rules (codes "l0(A) -> Com_1(l1(A -{")) 59 Syntax
+  pub cost_behind_arrow : RefusedAt (with_rules (codes "l0(A) -> -{A}> l1(A)")) 48 Syntax
+  pub cost_unopened : RefusedAt (with_rules (codes "l0(A) }> Com_1(l1(A))")) 45 Syntax
+  -- braces by themselves are none
+  pub brace_alone : RefusedAt (with_rules (codes "l0(A) - {A}> Com_1(l1(A))")) 45 Syntax
+  pub closing_alone : RefusedAt (with_rules (codes "l0(A) -{A} > Com_1(l1(A))")) 48 Syntax
   -- the atom that always holds, and then a bracket
   pub truth_and_bracket : RefusedAt (with_rules (codes "l0(A) -> Com_1(l1(A)) :|: A > 1 && TRUE (")) 79 Syntax
   -- a symbol without brackets
@@ -119,9 +145,9 @@ symbols a b = record { name = l0; arity = a } ∷ record { name = l1; arity = b 
 abbrev pub started : List Symbol → List Rule → Program
 started s rules = record { symbols = s; start = 0; start_names = name 65 ∷ []; rules = rules }
 
--- a rule from l0 to l1 with the left variable A
-abbrev pub from_l0 : List Name → List Term → List Atom → Rule
-from_l0 free updates guard =
+-- a rule from l0 to l1 with the left variable A, and a cost or none
+abbrev pub from_l0_costing : Option Term → List Name → List Term → List Atom → Rule
+from_l0_costing cost free updates guard =
     record {
       source = 0;
       target = 1;
@@ -130,7 +156,12 @@ from_l0 free updates guard =
       names = name 65 ∷ free;
       updates = updates;
       guard = guard;
+      cost = cost;
     }
+
+-- one without a cost
+abbrev pub from_l0 : List Name → List Term → List Atom → Rule
+from_l0 free updates guard = from_l0_costing None free updates guard
 
 -- the text spells the program
 abbrev pub IsReadAs : List ℕ → Program → Type 0
@@ -157,6 +188,20 @@ pub record Programs : Type 0 where
   pub free_variables : IsReadAs (with_rules (codes "l0(A) -> l1(C,B) :|: D == C")) (started (symbols 1 2)
       (from_l0 (name 67 ∷ name 66 ∷ name 68 ∷ []) (Variable 1 ∷ Variable 2 ∷ [])
       (Compare (Variable 3) EqualTo (Variable 1) ∷ []) ∷ []))
+  -- an arrow with a cost, with blanks and without
+  pub costing : IsReadAs (with_rules (codes "l0(A) -{A}> Com_1(l1(A))"))
+      (started (symbols 1 1) (from_l0_costing (Some (Variable 0)) [] (Variable 0 ∷ []) [] ∷ []))
+  pub costing_more : IsReadAs (with_rules (codes "l0(A)-{ 2*A+(1) }>l1(A) l0(A)->l1(1)")) (started (symbols 1 1)
+      (from_l0_costing (Some (Addition (Multiplication (Literal (pos 2)) (Variable 0)) (Literal (pos 1)))) []
+      (Variable 0 ∷ []) [] ∷ from_l0 [] (Literal (pos 1) ∷ []) [] ∷ []))
+  -- in the text the cost stands before the target
+  pub free_in_cost : IsReadAs (with_rules (codes "l0(A) -{D*C}> l1(B,C) :|: B == E")) (started (symbols 1 2)
+      (from_l0_costing (Some (Multiplication (Variable 1) (Variable 2))) (name 68 ∷ name 67 ∷ name 66 ∷ name 69 ∷ [])
+      (Variable 3 ∷ Variable 2 ∷ []) (Compare (Variable 3) EqualTo (Variable 4) ∷ []) ∷ []))
+  -- in a cost `Com_1` and `TRUE` are names like others
+  pub names_in_cost : IsReadAs (with_rules (codes "l0(A) -{Com_1-TRUE}> Com_1(l1(A))")) (started (symbols 1 1)
+      (from_l0_costing (Some (Subtraction (Variable 1) (Variable 2)))
+      (codes "Com_1" ∷ codes "TRUE" ∷ []) (Variable 0 ∷ []) [] ∷ []))
   -- sums, differences and products group to the left, `-A^2` is `-(A^2)`, and brackets leave no node
   pub grouping : IsReadAs (with_rules (codes "l0(A) -> l1(A-1-2*A*3,-A^2,-(A)*2)")) (started (symbols 1 3)
       (from_l0 [] (Subtraction (Subtraction (Variable 0) (Literal (pos 1)))
@@ -179,6 +224,7 @@ pub record Programs : Type 0 where
               names = name 66 ∷ [];
               updates = Literal (pos 0) ∷ [];
               guard = [];
+              cost = None;
             }
             ∷ record {
               source = 1;
@@ -188,6 +234,7 @@ pub record Programs : Type 0 where
               names = name 65 ∷ [];
               updates = Literal (pos 7) ∷ [];
               guard = [];
+              cost = None;
             } ∷ [];
       })
   -- the largest literal

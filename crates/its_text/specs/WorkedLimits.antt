@@ -44,10 +44,25 @@ name_bytes n = with_rules (codes "l0()->" ++ (replicate n 118 ++ codes "()"))
 abbrev pub minuses : ℕ → List ℕ
 minuses n = codes "(STARTTERM (FUNCTIONSYMBOLS l0))(RULES l0()->l1(" ++ replicate n 45
 
+-- rules with so many variables in a cost, atoms beside one, and `-` in one
+abbrev pub variables_in_cost : ℕ → List ℕ
+variables_in_cost n = with_rules (codes "l0()-{" ++ (joined variable (codes "*0*") 0 n ++ codes "}>l1()"))
+
+abbrev pub atoms_beside_cost : ℕ → List ℕ
+atoms_beside_cost n = with_rules (codes "l0()-{0}>l1():|:" ++ joined (λ i. codes "TRUE") (codes "&&") 0 n)
+
+abbrev pub minuses_in_cost : ℕ → List ℕ
+minuses_in_cost n = codes "(STARTTERM (FUNCTIONSYMBOLS l0))(RULES l0()-{" ++ replicate n 45
+
 -- a product of a sum of 8 variables and one of so many others
 abbrev pub products : ℕ → List ℕ
 products n = with_rules (codes "l0()->l1((" ++ (joined variable (codes "+") 0 8
     ++ (codes ")*(" ++ (joined variable (codes "+") 10 n ++ codes "))"))))
+
+-- the same product as a cost
+abbrev pub products_in_cost : ℕ → List ℕ
+products_in_cost n = with_rules (codes "l0()-{(" ++ (joined variable (codes "+") 0 8
+    ++ (codes ")*(" ++ (joined variable (codes "+") 10 n ++ codes ")}>l1()"))))
 
 -- texts are read at a limit, and past it are refused where what is one too many begins
 pub record LimitsAreWorkedOut : Type 0 where
@@ -61,6 +76,11 @@ pub record LimitsAreWorkedOut : Type 0 where
   pub variables_passed : RefusedAt (variables 65) 432 (Limit TooManyVariables)
   pub atoms_full : IsRead (atoms 64)
   pub atoms_passed : RefusedAt (atoms 65) 436 (Limit TooManyAtoms)
+  -- a cost may have 64 variables, and counts as one atom
+  pub cost_variables_full : IsRead (variables_in_cost 64)
+  pub cost_variables_passed : RefusedAt (variables_in_cost 65) 429 (Limit TooManyVariables)
+  pub beside_cost_full : IsRead (atoms_beside_cost 63)
+  pub beside_cost_passed : RefusedAt (atoms_beside_cost 64) 433 (Limit TooManyAtoms)
   -- a name of 256 bytes
   pub name_full : IsRead (name_bytes 256)
   pub name_passed : RefusedAt (name_bytes 257) 45 (Limit LongName)
@@ -68,8 +88,13 @@ pub record LimitsAreWorkedOut : Type 0 where
   -- more at that token
   pub tokens_full : RefusedAt (minuses 1024) 1072 Syntax
   pub tokens_passed : RefusedAt (minuses 1025) 1072 (Limit TooManyTokens)
+  -- so is a cost
+  pub cost_tokens_full : RefusedAt (minuses_in_cost 1024) 1069 Syntax
+  pub cost_tokens_passed : RefusedAt (minuses_in_cost 1025) 1069 (Limit TooManyTokens)
   -- 64 terms; one of more is refused at its last byte
   pub terms_full : IsRead (products 8)
   pub terms_passed : RefusedAt (products 9) 118 (Limit TooManyTerms)
+  pub cost_terms_full : IsRead (products_in_cost 8)
+  pub cost_terms_passed : RefusedAt (products_in_cost 9) 115 (Limit TooManyTerms)
   -- degree 8
   pub degree_full : IsRead (with_rules (codes "l0(A)->l1(A^8)"))

@@ -3,8 +3,8 @@ use Rattle.std.specs.Prelude.{ℕ, List, [], ◌∷◌, codes, Option, Some, Non
 use Rattle.expr_text.specs.model.Programs.{Name}
 use Rattle.expr_text.specs.Trees.{Sum, sum_behind}
 use Rattle.expr_text.specs.Guards.{Atoms, atoms_behind}
-use Rattle.its_text.specs.Pieces.{Piece, In, Comma, Arrow, GuardMark, SquareOpen, SquareClose, Remark, word}
-use Rattle.its_text.specs.Pieces.{open_bracket, close_bracket}
+use Rattle.its_text.specs.Pieces.{Piece, In, Comma, Arrow, CostOpen, CostClose, GuardMark, SquareOpen, SquareClose}
+use Rattle.its_text.specs.Pieces.{Remark, word, open_bracket, close_bracket}
 
 -- a rule's left term: a symbol with the names of its arguments
 pub record LeftTerm : Type 0 where
@@ -27,9 +27,10 @@ pub data Guard : Type 0 where
   BehindMark : Option Atoms → Guard
   InSquares : Option Atoms → Guard
 
--- a rule leads from the left term to its target
+-- a rule leads from the left term to its target, by an arrow that has a cost or none
 pub record WrittenRule : Type 0 where
   pub left : LeftTerm
+  pub cost : Option Sum
   pub target : Target
   pub guard : Guard
 
@@ -58,6 +59,11 @@ left_behind t before = close_bracket ∷ names_behind t.arguments (open_bracket 
 abbrev pub right_behind : RightTerm → List Piece → List Piece
 right_behind t before = close_bracket ∷ sums_behind t.arguments (open_bracket ∷ word t.name ∷ before)
 
+-- an arrow: `->`, or a cost within `-{` and `}>`
+abbrev pub arrow_behind : Option Sum → List Piece → List Piece
+arrow_behind None before = Arrow ∷ before
+arrow_behind (Some c) before = CostClose ∷ sum_behind In c (CostOpen ∷ before)
+
 abbrev pub target_behind : Target → List Piece → List Piece
 target_behind (Marked t) before = close_bracket ∷ right_behind t (open_bracket ∷ word (codes "Com_1") ∷ before)
 target_behind (Bare t) before = right_behind t before
@@ -72,7 +78,7 @@ guard_behind (BehindMark atoms) before = maybe_behind atoms (GuardMark ∷ befor
 guard_behind (InSquares atoms) before = SquareClose ∷ maybe_behind atoms (SquareOpen ∷ before)
 
 abbrev pub rule_behind : WrittenRule → List Piece → List Piece
-rule_behind r before = guard_behind r.guard (target_behind r.target (Arrow ∷ left_behind r.left before))
+rule_behind r before = guard_behind r.guard (target_behind r.target (arrow_behind r.cost (left_behind r.left before)))
 
 abbrev pub rules_behind : List WrittenRule → List Piece → List Piece
 rules_behind [] before = before

@@ -12,7 +12,8 @@ use Rattle.its_model.specs.Valid.{IsValid, IsValidRule}
 use Rattle.its_model.specs.linear_forms.Forms.{at}
 use Rattle.its_model.specs.linear_forms.Questions.{Group}
 use Rattle.its_model.specs.linear_forms.QuestionLaws.{after}
-use Rattle.its_model.specs.linear_forms.RuleQuestions.{RankedSet, rank_question, symbols_of_set, coefficients, move_group}
+use Rattle.its_model.specs.linear_forms.RuleQuestions.{RankedSet, rank_question, symbols_of_set, coefficients}
+use Rattle.its_model.specs.linear_forms.RuleQuestions.{move_group}
 use Rattle.its_model.specs.linear_forms.RuleQuestions.{floor_group}
 use Rattle.outcome.specs.proof_nodes.Gaps.{SymbolPlace, Gap}
 use Rattle.outcome.specs.proof_nodes.Known as nodes

@@ -1,10 +1,13 @@
 -- The texts that the program writes, but for its report and the usage text.
 use Rattle.std.specs.Prelude.{ℕ, List, ◌++◌, codes, decimal}
 use Rattle.its_model.specs.text_core.Readers.{Fault}
-use Rattle.its_reader.specs.its_text.Kinds.{LimitKind, TooManyRules, TooManyArguments, TooManyVariables, TooManyAtoms, LongName}
+use Rattle.its_reader.specs.its_text.Kinds.{LimitKind, TooManyRules, TooManyArguments, TooManyVariables, TooManyAtoms}
+use Rattle.its_reader.specs.its_text.Kinds.{LongName}
 use Rattle.its_reader.specs.its_text.Kinds.{TooManyTokens, TooManyTerms, HighDegree}
-use Rattle.its_reader.specs.its_text.Kinds.{Kind, NotAscii, Syntax, MissingSection, RepeatedSection, ManyTargets, LeftNotVariable}
-use Rattle.its_reader.specs.its_text.Kinds.{LeftRepeated, ArityDiffers, NumberTooLarge, Limit, StartUnknown, Disjunction}
+use Rattle.its_reader.specs.its_text.Kinds.{Kind, NotAscii, Syntax, MissingSection, RepeatedSection, ManyTargets}
+use Rattle.its_reader.specs.its_text.Kinds.{LeftNotVariable}
+use Rattle.its_reader.specs.its_text.Kinds.{LeftRepeated, ArityDiffers, NumberTooLarge, Limit, StartUnknown}
+use Rattle.its_reader.specs.its_text.Kinds.{Disjunction}
 
 -- the text where a file can't be had
 abbrev pub read_fault_text : List ℕ

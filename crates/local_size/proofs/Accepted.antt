@@ -17,7 +17,8 @@ use Rattle.guard_prep.specs.its_model.Valid.{IsValid}
 use Rattle.guard_prep.specs.Prepared.{Prepared, prepared, rows_of}
 use Rattle.guard_prep.proofs.StepLaws.{preparable}
 use Rattle.proof_tree.specs.proof_nodes.Nodes.{Spot, Arm, LocalBound}
-use Rattle.proof_tree.specs.proof_nodes.AcceptsSizes.{HasLinearShape, HasArmShape, HasMemberShape, left_in, left_of, Side, Up, Low}
+use Rattle.proof_tree.specs.proof_nodes.AcceptsSizes.{HasLinearShape, HasArmShape, HasMemberShape, left_in, left_of}
+use Rattle.proof_tree.specs.proof_nodes.AcceptsSizes.{Side, Up, Low}
 use Rattle.proof_tree.specs.proof_nodes.AcceptsSizes.{arm_goal, AcceptsArm}
 use Rattle.proof_tree.specs.proof_nodes.Combined.{form_at}
 use Rattle.proof_tree.specs.proof_setting.Setting.{rows_in, news_in, setting_of}

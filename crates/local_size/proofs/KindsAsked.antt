@@ -6,7 +6,8 @@ use Rattle.std.specs.List.{All, range_with_len}
 use Rattle.std.proofs.lemmas.List.Elements.{All-nil, All-cons, All-head, All-tail, All-append, All-filter}
 use Rattle.simplex_core.specs.linear_forms.Forms.{Form}
 use Rattle.simplex_core.specs.linear_forms.RuleQuestions.{RuleForms}
-use Rattle.proof_tree.specs.rule_forms.Kinds.{Kind, Number, Argument, Affine, Plus, Minus, arguments, places_from, kinds_for}
+use Rattle.proof_tree.specs.rule_forms.Kinds.{Kind, Number, Argument, Affine, Plus, Minus, arguments, places_from}
+use Rattle.proof_tree.specs.rule_forms.Kinds.{kinds_for}
 use Rattle.proof_tree.specs.rule_forms.Questions.{IsKindOf}
 use Rattle.proof_tree.specs.proof_nodes.Nodes.{Arm}
 use Rattle.local_size.specs.Sides.{ArmFound, NoneFound, ComesTo, SearchComesTo}

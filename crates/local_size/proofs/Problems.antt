@@ -14,7 +14,7 @@ use Rattle.proof_tree.specs.rule_forms.Kinds as plain
 use Rattle.proof_tree.specs.rule_forms.Kinds.{Number, Argument, Affine}
 use Rattle.proof_tree.specs.rule_forms.Questions as kinds
 use Rattle.proof_tree.specs.rule_forms.Questions.{IsKindOf}
-use Rattle.local_size.specs.SoughtParts.{sought_places, fixed_part}
+use Rattle.proof_tree.specs.rule_forms.SoughtParts.{sought_places, fixed_part}
 use Rattle.proof_tree.proofs.rule_forms.Shapes.{places-within, argument_length, question-shaped}
 use Rattle.poly_terms.specs.declared.poly.Row.{Row}
 use Rattle.poly_terms.specs.Views.{form_of}

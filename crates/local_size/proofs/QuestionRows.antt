@@ -7,7 +7,7 @@ use Rattle.simplex_core.specs.linear_forms.Combinations.{form_times}
 use Rattle.simplex_core.specs.linear_forms.RuleQuestions.{before_rule}
 use Rattle.proof_tree.specs.rule_forms.Kinds as plain
 use Rattle.proof_tree.specs.rule_forms.Kinds.{Number, Argument, Affine, Plus, Minus}
-use Rattle.local_size.specs.SoughtParts.{fixed_part}
+use Rattle.proof_tree.specs.rule_forms.SoughtParts.{fixed_part}
 use Rattle.rule_questions.specs.SmallForms.{IsSmall}
 use Rattle.rule_questions.proofs.Sums.{constant-small, unknown-small}
 use Rattle.local_size.proofs.Values.{opposite-small}

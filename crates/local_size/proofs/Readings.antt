@@ -11,7 +11,7 @@ use Rattle.simplex_core.proofs.linear_forms.ListLaws.{after-is}
 use Rattle.proof_tree.specs.rule_forms.Kinds as plain
 use Rattle.proof_tree.specs.rule_forms.Kinds.{Number, Argument, Affine}
 use Rattle.proof_tree.specs.rule_forms.Questions.{question_of, form_of}
-use Rattle.local_size.specs.SoughtParts.{sought_places}
+use Rattle.proof_tree.specs.rule_forms.SoughtParts.{sought_places}
 use Rattle.simplex_core.specs.Trips.{IsScaledSolution, IsScaledDual}
 use Rattle.proof_tree.specs.proof_nodes.Nodes.{Linear}
 use Rattle.rule_questions.specs.GroupLines.{group_lines}

@@ -11,7 +11,7 @@ use Rattle.simplex_core.specs.linear_forms.QuestionLaws.{parameters_of}
 use Rattle.simplex_core.specs.linear_forms.RuleQuestions.{RuleForms}
 use Rattle.proof_tree.specs.rule_forms.Kinds as plain
 use Rattle.proof_tree.specs.rule_forms.Questions.{question_of, form_of}
-use Rattle.local_size.specs.SoughtParts.{sought_places}
+use Rattle.proof_tree.specs.rule_forms.SoughtParts.{sought_places}
 use Rattle.guard_prep.specs.Prepared.{Prepared}
 use Rattle.proof_tree.specs.proof_nodes.AcceptsSizes.{Side}
 use Rattle.simplex_core.specs.declared.problem.Problem.{Problem}

@@ -3,7 +3,6 @@ pub mod Sides
 pub mod Places
 pub mod LocalAnswers
 -- how the code asks and reads them
-pub mod SoughtParts
 pub mod Asking
 -- what the answers are worth
 pub mod LocalLaws

@@ -1,5 +1,5 @@
 -- Worked values of what is asked of places, of the first arm on a side, and of loose sides.
-use Rattle.std.specs.Prelude.{◌≡◌, true, false, [], ◌∷◌, pos, negsuc}
+use Rattle.std.specs.Prelude.{◌≡◌, true, false, [], ◌∷◌, pos, negsuc, None}
 use Rattle.proof_tree.specs.rule_forms.Kinds.{Number, Argument, Affine, Plus, Minus}
 use Rattle.proof_tree.specs.rule_forms.Worked.{line_form}
 use Rattle.poly_terms.specs.model.Terms.{Term, Variable, Literal, Addition, Subtraction}
@@ -29,6 +29,7 @@ falling_rule = record {
   names = (65 ∷ []) ∷ [];
   updates = Subtraction (Variable 0) (Literal (pos 1)) ∷ [];
   guard = Compare (Variable 0) AtLeast (Literal (pos 1)) ∷ [];
+  cost = None;
 }
 
 -- A*A is a polynomial of degree 2 or more over left variables, and so is A*A + B - B; A*B reads a free variable, and

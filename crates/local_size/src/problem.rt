@@ -4,7 +4,7 @@ ghost use Rattle.std.specs.Prelude.{◌≡◌, ◌+◌, ◌<◌, ◌^◌, ◌++�
 ghost use Rattle.std.specs.List.{range_with_len};
 ghost use Rattle.simplex_core.specs.linear_forms.RuleQuestions.{before_rule};
 ghost use Rattle.proof_tree.specs.rule_forms.Questions.{question_of, IsKindOf};
-ghost use Rattle.local_size.specs.SoughtParts.{sought_places};
+ghost use Rattle.proof_tree.specs.rule_forms.SoughtParts.{sought_places};
 ghost use Rattle.guard_prep.specs.Views.{prepared_of};
 ghost use Rattle.poly_terms.specs.Views.{form_of};
 ghost use Rattle.lp_builder.specs.Descriptions.{goal_forms, AreParameters};

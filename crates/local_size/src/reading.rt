@@ -7,7 +7,7 @@ ghost use Rattle.simplex_core.specs.linear_forms.Questions.{listed};
 ghost use Rattle.simplex_core.specs.linear_forms.QuestionLaws.{parameters_of};
 ghost use Rattle.proof_tree.specs.rule_forms.Kinds.{unit_of};
 ghost use Rattle.proof_tree.specs.rule_forms.Questions.{form_of};
-ghost use Rattle.local_size.specs.SoughtParts.{sought_places};
+ghost use Rattle.proof_tree.specs.rule_forms.SoughtParts.{sought_places};
 ghost use Rattle.proof_tree.specs.proof_nodes.Nodes.{Linear};
 ghost use Rattle.proof_tree.specs.Views.{arm_of};
 ghost use Rattle.simplex_core.specs.Scaling.{AreWithin};

@@ -7,7 +7,7 @@ ghost use Rattle.proof_tree.specs.rule_forms.Kinds.{unit_of};
 ghost use Rattle.poly_terms.specs.model.Limits.{coefficient_limit};
 ghost use Rattle.poly_terms.specs.Views.{form_of};
 ghost use Rattle.rule_questions.specs.SmallForms.{IsSmall};
-ghost use Rattle.local_size.specs.SoughtParts.{fixed_part};
+ghost use Rattle.proof_tree.specs.rule_forms.SoughtParts.{fixed_part};
 ghost use Rattle.local_size.specs.Asking.{kind_of, sign_of};
 
 use crate::kinds::{Kind, Sign};

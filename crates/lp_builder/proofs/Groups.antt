@@ -6,7 +6,8 @@ use Rattle.std.specs.List.{All}
 use Rattle.std.proofs.lemmas.List.{append-nil, map-append, length-append}
 use Rattle.std.proofs.lemmas.List.Elements.{All-append, All-cons, All-nil, All-map, All-weaker}
 use Rattle.simplex_core.specs.linear_forms.Forms.{Form}
-use Rattle.simplex_core.specs.linear_forms.Questions.{Group, IsGroupShaped, Equation, line, listed, equations, group_columns}
+use Rattle.simplex_core.specs.linear_forms.Questions.{Group, IsGroupShaped, Equation, line, listed, equations}
+use Rattle.simplex_core.specs.linear_forms.Questions.{group_columns}
 use Rattle.simplex_core.proofs.linear_forms.ListLaws.{length-listed}
 use Rattle.simplex_core.proofs.linear_forms.SolutionLaws.{length-map}
 use Rattle.poly_terms.specs.declared.poly.Row.{Row}

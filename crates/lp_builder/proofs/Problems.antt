@@ -6,7 +6,8 @@ use Rattle.std.specs.List.{All}
 use Rattle.std.proofs.lemmas.List.{length-replicate}
 use Rattle.simplex_core.specs.linear_forms.Forms.{at}
 use Rattle.simplex_core.specs.linear_forms.ProgramLaws.{Agree}
-use Rattle.simplex_core.specs.linear_forms.Questions.{Question, IsShaped, Equation, no_equation, equations, group_columns, double}
+use Rattle.simplex_core.specs.linear_forms.Questions.{Question, IsShaped, Equation, no_equation, equations}
+use Rattle.simplex_core.specs.linear_forms.Questions.{group_columns, double}
 use Rattle.simplex_core.specs.linear_forms.Questions.{on_both, on_plus, program_of_question}
 use Rattle.simplex_core.proofs.linear_forms.SolutionLaws.{length-map, lines-fit}
 use Rattle.simplex_core.proofs.linear_forms.ColumnLaws.{get_or-map}

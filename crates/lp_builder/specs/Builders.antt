@@ -2,7 +2,8 @@
 use Rattle.std.specs.Prelude.{◌≡◌, ℕ, ◌+◌, ◌*◌, ◌^◌, ◌<◌, List, [], ◌∷◌, ◌++◌, length, map}
 use Rattle.std.specs.List.{All}
 use Rattle.simplex_core.specs.linear_forms.ProgramLaws.{Agree}
-use Rattle.simplex_core.specs.linear_forms.Questions.{Group, IsGroupShaped, equations, group_columns, program_of_question}
+use Rattle.simplex_core.specs.linear_forms.Questions.{Group, IsGroupShaped, equations, group_columns}
+use Rattle.simplex_core.specs.linear_forms.Questions.{program_of_question}
 use Rattle.simplex_core.specs.declared.problem.Problem.{Problem}
 use Rattle.simplex_core.specs.Problem.{program_of, IsProper}
 use Rattle.lp_builder.specs.declared.description.Cost.{Cost}

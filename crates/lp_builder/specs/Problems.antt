@@ -1,7 +1,8 @@
 -- When a problem holds a question.
 use Rattle.std.specs.Prelude.{◌≡◌, ◌^◌, ◌+◌, ◌<◌, ◌++◌, length, map, replicate, pos}
 use Rattle.simplex_core.specs.linear_forms.ProgramLaws.{Agree}
-use Rattle.simplex_core.specs.linear_forms.Questions.{Question, IsShaped, equations, group_columns, double, on_both, on_plus}
+use Rattle.simplex_core.specs.linear_forms.Questions.{Question, IsShaped, equations, group_columns, double, on_both}
+use Rattle.simplex_core.specs.linear_forms.Questions.{on_plus}
 use Rattle.simplex_core.specs.linear_forms.Questions.{program_of_question}
 use Rattle.simplex_core.specs.declared.problem.Problem.{Problem}
 use Rattle.simplex_core.specs.Problem.{program_of, IsProper}

@@ -24,7 +24,7 @@ without_free (x ∷ y ∷ []) (f ∷ fs) two none = absurd (omega (arith, none))
 
 -- what rule 1 does: it leads from l0 to l1, and both places keep their values
 pub record Enters (b c : Config) : Type 0 where
-  source : b.at ≡ 0
+  pub source : b.at ≡ 0
   target : c.at ≡ 1
   first : place_value c 1 ≡ place_value b 1
   second : place_value c 2 ≡ place_value b 2
@@ -42,7 +42,7 @@ enters_so b c free h =
 
 -- what rule 2 does: it stays at l1, where A is from 1 to 9, and gives A - 1 and -A
 pub record Loops (b c : Config) : Type 0 where
-  source : b.at ≡ 1
+  pub source : b.at ≡ 1
   target : c.at ≡ 1
   low : pos 1 ≤ℤ place_value b 1
   high : place_value b 1 ≤ℤ pos 9

@@ -5,6 +5,8 @@ pub mod WorkedValues
 pub mod WorkedRuns
 pub mod CountdownRuns
 pub mod WorkedFacts
+pub mod CostLaws
+pub mod WorkedCosts
 pub mod StepLaws
 pub mod PathValues
 pub mod Membership

@@ -2,12 +2,15 @@
 use Rattle.std.specs.Prelude.{◌≡◌, ℕ, ◌≤◌, List, length, ℤ, nat_abs}
 use Rattle.model.specs.Programs.{Program}
 use Rattle.model.specs.Runs.{Config, Step, IsRun, count, last_rule, place_value, sizes_of_start}
+use Rattle.model.specs.Costs.{spent}
 use Rattle.model.specs.Bounds.{Bound, val}
 
--- a bound on how often a rule occurs, or on the absolute value at a place after a rule
+-- a bound on how often a rule occurs, on the absolute value at a place after a rule, or on what all steps by a rule
+-- cost together
 pub data Fact : Type 0 where
   Time : ℕ → Bound → Fact
   Size : ℕ → ℕ → Bound → Fact
+  Cost : ℕ → Bound → Fact
 
 -- in every run, from any integers and by any choice of rules, the rule occurs at most as often as the bound says
 pub record HoldsTime (p : Program) (rule : ℕ) (bound : Bound) : Type 0 where
@@ -20,6 +23,12 @@ pub record HoldsSize (p : Program) (rule place : ℕ) (bound : Bound) : Type 0 w
   pub each : (start : List ℤ) (steps : List Step) (c : Config) → IsRun p start steps c → last_rule steps ≡ rule
       → nat_abs (place_value c place) ≤ val bound (sizes_of_start start)
 
+-- in every run, from any integers and by any choice of rules, the steps by the rule together cost at most what the
+-- bound says
+pub record HoldsCost (p : Program) (rule : ℕ) (bound : Bound) : Type 0 where
+  pub each : (start : List ℤ) (steps : List Step) (c : Config) → IsRun p start steps c
+      → spent p rule start steps ≤ val bound (sizes_of_start start)
+
 -- every run has at most as many steps as the bound says
 pub record HoldsTotal (p : Program) (bound : Bound) : Type 0 where
   pub each : (start : List ℤ) (steps : List Step) (c : Config) → IsRun p start steps c
@@ -29,3 +38,4 @@ pub record HoldsTotal (p : Program) (bound : Bound) : Type 0 where
 abbrev pub Holds : Program → Fact → Type 0
 Holds p (Time t b) = HoldsTime p t b
 Holds p (Size t i b) = HoldsSize p t i b
+Holds p (Cost t b) = HoldsCost p t b

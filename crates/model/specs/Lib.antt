@@ -4,6 +4,7 @@ pub mod Polynomials
 pub mod Programs
 pub mod Runs
 pub mod Bounds
+pub mod Costs
 pub mod Facts
 pub mod Paths
 pub mod Entries
@@ -14,4 +15,5 @@ pub mod Laws
 pub mod Worked
 pub mod WorkedRuns
 pub mod WorkedFacts
+pub mod WorkedCosts
 pub mod PathValues

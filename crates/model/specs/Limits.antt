@@ -13,7 +13,7 @@ place_limit = 32
 abbrev pub variable_limit : ℕ
 variable_limit = 64
 
--- the most atoms of a guard
+-- the most atoms of a rule: those of its guard, and one more for a cost
 abbrev pub atom_limit : ℕ
 atom_limit = 64
 
@@ -21,7 +21,7 @@ atom_limit = 64
 abbrev pub name_limit : ℕ
 name_limit = 256
 
--- the most tokens of an argument, or of a side of an atom
+-- the most tokens of an argument, of a cost, or of a side of an atom
 abbrev pub token_limit : ℕ
 token_limit = 1024
 

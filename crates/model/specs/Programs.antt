@@ -26,7 +26,7 @@ pub record Symbol : Type 0 where
   pub arity : ℕ
 
 -- a rule: symbols by number, the number of its left and of its free variables, the names of both (the left ones first),
--- an update for each place of the target, and the atoms of the guard
+-- an update for each place of the target, the atoms of the guard, and the cost where one is written
 pub record Rule : Type 0 where
   pub source : ℕ
   pub target : ℕ
@@ -35,6 +35,7 @@ pub record Rule : Type 0 where
   pub names : List Name
   pub updates : List Term
   pub guard : List Atom
+  pub cost : Option Term
 
 -- a program: its symbols, the start symbol, the names of the start arguments, and the rules
 pub record Program : Type 0 where

@@ -74,6 +74,7 @@ with_free = record {
   names = (65 ∷ []) ∷ (67 ∷ []) ∷ [];
   updates = Addition (Variable 0) (Variable 1) ∷ [];
   guard = Always ∷ Compare (Variable 0) AtLeast (Variable 1) ∷ [];
+  cost = None;
 }
 
 -- a configuration with one value, and one with two
@@ -97,7 +98,7 @@ pub record StepsLead : Type 0 where
 
 -- a rule without variables from one symbol to another
 abbrev pub bare_rule : ℕ → ℕ → Rule
-bare_rule s t = record { source = s; target = t; left = 0; free = 0; names = []; updates = []; guard = [] }
+bare_rule s t = record { source = s; target = t; left = 0; free = 0; names = []; updates = []; guard = []; cost = None }
 
 -- the symbol l0 with one place, and l1 with none
 abbrev pub two_symbols : List Symbol

@@ -1,5 +1,5 @@
 -- Steps and runs of a small program with a loop, and relations below zero, as they were worked out by hand.
-use Rattle.std.specs.Prelude.{List, [], ◌∷◌, ℤ, pos, negsuc}
+use Rattle.std.specs.Prelude.{List, [], ◌∷◌, ℤ, pos, negsuc, None}
 use Rattle.model.specs.Terms.{Literal, Variable, Negation, Subtraction}
 use Rattle.model.specs.Programs.{Name, AtLeast, MoreThan, AtMost, LessThan, EqualTo, Related, Compare, Rule, Program}
 use Rattle.model.specs.Runs.{Config, IsStep, IsRun}
@@ -32,6 +32,7 @@ entering = record {
   names = two_names;
   updates = Variable 0 ∷ Variable 1 ∷ [];
   guard = [];
+  cost = None;
 }
 
 -- the rule l1(A, B) -> l1(A - 1, -A) where A >= 1 and A <= 9
@@ -44,6 +45,7 @@ looping = record {
   names = two_names;
   updates = Subtraction (Variable 0) (Literal (pos 1)) ∷ Negation (Variable 0) ∷ [];
   guard = Compare (Variable 0) AtLeast (Literal (pos 1)) ∷ Compare (Variable 0) AtMost (Literal (pos 9)) ∷ [];
+  cost = None;
 }
 
 -- a program with these rules over l0 and l1, of two places each, which starts at l0

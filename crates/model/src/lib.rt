@@ -5,6 +5,7 @@
 //! is the error that all these crates share.
 #![tactic(auto)]
 
+mod costs;
 mod limits;
 mod runs;
 
@@ -14,6 +15,7 @@ ghost use Rattle.model.specs.Worked.{RelationsHold, StepsLead, PlacesAndRulesCou
 ghost use Rattle.model.specs.WorkedRuns.{RelationsHoldBelowZero, StepsAreSteps, RunsAreRuns};
 ghost use Rattle.model.specs.WorkedFacts.{StepsAndPlacesAreCounted, TimesHold, TotalsHold, SizesHold};
 
+pub use costs::{costs_go_step_by_step, worked_costs_hold};
 pub use limits::{
     ATOM_LIMIT, COEFFICIENT_LIMIT, DEGREE_LIMIT, MONOMIAL_LIMIT, NAME_LIMIT, PLACE_LIMIT,
     RULE_LIMIT, TOKEN_LIMIT, VARIABLE_LIMIT, limits_are_as_defined,

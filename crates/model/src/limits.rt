@@ -13,13 +13,13 @@ pub const PLACE_LIMIT: usize = 32;
 /// The most variables of a rule, the free ones included.
 pub const VARIABLE_LIMIT: usize = 64;
 
-/// The most atoms of a guard.
+/// The most atoms of a rule: those of its guard, and one more for a cost.
 pub const ATOM_LIMIT: usize = 64;
 
 /// The most bytes of a name.
 pub const NAME_LIMIT: usize = 256;
 
-/// The most tokens of an argument, or of a side of an atom.
+/// The most tokens of an argument, of a cost, or of a side of an atom.
 pub const TOKEN_LIMIT: usize = 1024;
 
 /// The most monomials of an expanded expression.

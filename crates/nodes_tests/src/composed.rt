@@ -19,6 +19,7 @@ pub(crate) fn rule(alloc: Global, source: u32, target: u32) -> Rule {
         names: Vec::new(alloc),
         updates: Vec::new(alloc),
         guard: Vec::new(alloc),
+        cost: None,
     }
 }
 

@@ -1,6 +1,6 @@
 //! Tests of the fractions and of the simplex method through their public calls: fractions beside worked values,
-//! programs with worked answers, questions as the builder writes them, the definition's plain reading, and a program
-//! at size.
+//! programs with worked answers, questions as the builder writes them, the definition's plain reading, sparse rows, and
+//! programs at size.
 #![tactic(auto)]
 
 #[cfg(test)]
@@ -14,9 +14,11 @@ mod fractions;
 #[cfg(test)]
 mod large;
 #[cfg(test)]
-mod plain;
+mod listed;
 #[cfg(test)]
-mod proper;
+mod many;
+#[cfg(test)]
+mod plain;
 #[cfg(test)]
 mod questions;
 #[cfg(test)]
@@ -24,4 +26,8 @@ mod rows;
 #[cfg(test)]
 mod scaled;
 #[cfg(test)]
+mod sparse;
+#[cfg(test)]
 mod tables;
+#[cfg(test)]
+mod uncommon;

@@ -1,11 +1,12 @@
 //! The worked programs, solved and compared.
 
 use crate::extremes::{EXTREMES, LONE};
-use crate::proper::is_proper;
 use crate::tables::{Answer, CHOICES, Row, SMALL};
+use crate::uncommon::UNCOMMON;
 use Answer::{Budget, Infeasible, Optimal, Range};
 use frac128::Frac;
 use model::Memory;
+use sample_questions::is_proper;
 use simplex_core::{Entry, Problem, SolveError, Solved, solve};
 use std::alloc::Global;
 use std::process::Abort;
@@ -131,22 +132,6 @@ fn one_number_out_of_range_is_enough_wherever_it_stands(rt: HostRuntime) -> Resu
 }
 
 #[test]
-fn a_table_of_more_than_16_million_numbers_is_too_wide(rt: HostRuntime) -> Result<(), Fail> {
-    let alloc = rt.alloc();
-    let problem = Problem {
-        rows: 4_000,
-        cols: 0,
-        entries: Vec::new(alloc),
-        right: vec![in alloc; 0; 4_000]?,
-        first: Vec::new(alloc),
-        second: Vec::new(alloc),
-    };
-    let got = solved(&rt, alloc, &problem, 9);
-    assert_eq!(rt;
-        got,
-        Err(SolveError::Wide {
-            entries: 16_004_000
-        })
-    );
-    Ok(())
+fn columns_without_a_common_denominator_are_solved_as_others(rt: HostRuntime) -> Result<(), Fail> {
+    compare_all(&rt, rt.alloc(), &UNCOMMON)
 }

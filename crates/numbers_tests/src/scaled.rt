@@ -1,9 +1,9 @@
 //! Answers in whole numbers: at the limits of what they may be, on both sides, and what trips.
 
-use crate::proper::is_proper;
 use Whole::{Dual, Solution, Tripped};
 use linear_forms::TripCause;
 use model::Memory;
+use sample_questions::is_proper;
 use simplex_core::{Answer, Entry, Numerators, Problem, solve_scaled};
 use std::alloc::Global;
 use std::process::Abort;

@@ -38,6 +38,7 @@ pub(crate) fn program(alloc: Global, nodes: u32, edges: &[(u32, u32)]) -> Result
             names: Vec::new(alloc),
             updates: Vec::new(alloc),
             guard: Vec::new(alloc),
+            cost: None,
         })?;
     }
     Ok(Program {

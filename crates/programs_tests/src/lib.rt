@@ -1,4 +1,4 @@
-//! Tests of programs and their steps, polynomials, rows, graphs and certificates by public calls alone, a
+//! Tests of programs, their steps and costs, polynomials, rows, graphs and certificates by public calls alone, a
 //! module for each subject.
 #![tactic(auto)]
 
@@ -8,6 +8,8 @@ mod certificates;
 mod closure;
 #[cfg(test)]
 mod components;
+#[cfg(test)]
+mod costs;
 #[cfg(test)]
 mod expansions;
 #[cfg(test)]
@@ -26,5 +28,7 @@ mod trees;
 mod trying;
 #[cfg(test)]
 mod values;
+#[cfg(test)]
+mod written;
 #[cfg(test)]
 mod wrong;

@@ -67,6 +67,7 @@ fn rule(alloc: Global, updates: &[&[i128]], guard: &[Part]) -> Result<Rule, Memo
         names: Vec::new(alloc),
         updates: values,
         guard: atoms,
+        cost: None,
     })
 }
 

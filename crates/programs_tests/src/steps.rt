@@ -1,51 +1,20 @@
 //! Steps in 128 bits: which are taken, and what keeps the others from being steps.
 
 use crate::trees::tree;
-use crate::trying::{Outcome, tried_step};
+use crate::trying::{Body, Outcome, tried_step};
+use crate::written::Part::{self, Is, True};
+use crate::written::{atoms, trees};
 use crate::wrong::note_unless;
-use Part::{Is, True};
-use Rel::{Eq, Ge, Gt, Le, Lt};
-use its_model::{Atom, Config, Rel, Step, StepError};
+use its_model::Rel::{Eq, Ge, Gt, Le, Lt};
+use its_model::{Atom, Config, Step, StepError};
 use poly_terms::Expr;
 use std::alloc::Global;
 use std::test::Fail;
 
 /// 2^127 - 1 and -2^127.
-const MOST: i128 = 0x7fff_ffff_ffff_ffff_ffff_ffff_ffff_ffff;
+pub(crate) const MOST: i128 = 0x7fff_ffff_ffff_ffff_ffff_ffff_ffff_ffff;
 
-const LEAST: i128 = -MOST - 1;
-
-// An atom as a table writes it.
-#[derive(Clone, Copy)]
-enum Part {
-    True,
-    Is(&'static str, Rel, &'static str),
-}
-
-// The expressions of texts.
-fn trees(alloc: Global, texts: &[&str]) -> Result<Vec<Expr>, Fail> {
-    let mut updates = Vec::new(alloc);
-    for text in texts {
-        updates.push(tree(alloc, text)?)?;
-    }
-    Ok(updates)
-}
-
-// The guard that is written.
-fn atoms(alloc: Global, parts: &[Part]) -> Result<Vec<Atom>, Fail> {
-    let mut guard = Vec::new(alloc);
-    for part in parts {
-        guard.push(match part {
-            True => Atom::Always,
-            Is(left, rel, right) => Atom::Compare {
-                left: tree(alloc, left)?,
-                rel: *rel,
-                right: tree(alloc, right)?,
-            },
-        })?;
-    }
-    Ok(guard)
-}
+pub(crate) const LEAST: i128 = -MOST - 1;
 
 /// A step as a table writes it: by rule 1 from l, and what is wanted of it.
 #[derive(Clone, Copy)]
@@ -55,6 +24,16 @@ struct Case {
     values: [i128; 2],
     free: i128,
     wanted: Result<&'static [i128], StepError>,
+}
+
+// The parts of a rule from l without a cost.
+fn plain(updates: Vec<Expr>, guard: Vec<Atom>) -> Body {
+    Body {
+        letter: b'l',
+        updates,
+        guard,
+        cost: None,
+    }
 }
 
 // Whether what came of a step is what was wanted.
@@ -304,8 +283,8 @@ fn check_cases(alloc: Global, wrong: &mut String) -> Result<(), Fail> {
             rule: 1,
             free: vec![in alloc; case.free]?,
         };
-        let updates = trees(alloc, case.updates)?;
-        let taken = tried_step(alloc, updates, atoms(alloc, case.guard)?, &now, &step)?;
+        let body = plain(trees(alloc, case.updates)?, atoms(alloc, case.guard)?);
+        let taken = tried_step(alloc, body, &now, &step)?;
         note_unless(alloc, wrong, is_as_wanted(&taken, case.wanted), "case", i)?;
     }
     Ok(())
@@ -336,7 +315,8 @@ fn check_starts(alloc: Global, wrong: &mut String) -> Result<(), Fail> {
             free: free.to_vec(alloc)?,
         };
         let guard = atoms(alloc, &[Is("A", Gt, "B")])?;
-        let taken = tried_step(alloc, trees(alloc, &["A"])?, guard, &now, &step)?;
+        let body = plain(trees(alloc, &["A"])?, guard);
+        let taken = tried_step(alloc, body, &now, &step)?;
         note_unless(alloc, wrong, is_as_wanted(&taken, *wanted), "start", i)?;
     }
     Ok(())
@@ -380,13 +360,8 @@ fn check_last(alloc: Global, wrong: &mut String) -> Result<(), Fail> {
             rule: 1,
             free: vec![in alloc; *free]?,
         };
-        let taken = tried_step(
-            alloc,
-            most_updates(alloc)?,
-            longest_guard(alloc)?,
-            &now,
-            &step,
-        )?;
+        let body = plain(most_updates(alloc)?, longest_guard(alloc)?);
+        let taken = tried_step(alloc, body, &now, &step)?;
         note_unless(alloc, wrong, is_last(&taken, *wanted), "last", i)?;
     }
     Ok(())

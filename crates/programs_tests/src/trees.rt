@@ -1,11 +1,11 @@
 //! Expressions and rules for tests, written shortly, and whether they may be handed to a call.
 
-ghost use Rattle.std.specs.Prelude.{◌≡◌, map, true, None, IfOk, IfSome};
+ghost use Rattle.std.specs.Prelude.{◌≡◌, map, option_map, true, None, IfOk, IfSome};
 ghost use Rattle.std.specs.List.{AllByRecursion};
 ghost use Rattle.poly_terms.specs.Checked.{ReadsBelow};
 ghost use Rattle.poly_terms.specs.Faults.{first_fault};
 ghost use Rattle.poly_terms.specs.Views.{term_of};
-ghost use Rattle.its_model.specs.Valid.{IsValidAtom, IsValidTerm, difference_of};
+ghost use Rattle.its_model.specs.Valid.{IsValidAtom, IsValidCost, IsValidTerm, difference_of};
 ghost use Rattle.its_model.specs.Views.{atom_of, relation_of};
 
 use its_model::{Atom, Rel};
@@ -142,6 +142,16 @@ fn is_valid_update(alloc: Global, n: usize, u: &Expr) -> bool
     match expand(alloc, u) {
         Ok(_) => reads_below(n, u),
         Err(_) => false,
+    }
+}
+
+/// Whether a cost, where there is one, can be expanded and reads variables below n alone.
+pub(crate) fn is_valid_cost(alloc: Global, n: usize, cost: &Option<Expr>) -> bool
+    ensures { result ≡ true → IsValidCost n (option_map term_of cost.now) }
+{
+    match cost {
+        None => true,
+        Some(c) => is_valid_update(alloc, n, c),
     }
 }
 

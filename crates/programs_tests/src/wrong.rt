@@ -1,7 +1,7 @@
 //! The tests of this crate: no row of a table comes to something else than it says.
 
 use crate::{
-    certificates, components, expansions, graph_closures, graphs, rows, slow, steps, values,
+    certificates, components, costs, expansions, graph_closures, graphs, rows, slow, steps, values,
 };
 use model::Memory;
 use std::alloc::Global;
@@ -22,12 +22,14 @@ pub(crate) fn note_unless(
     wrong.push_str(words.as_str())
 }
 
-// What is wrong with programs, their steps and their expressions, as the names of tables and the numbers of their rows.
+// What is wrong with programs, their steps, costs and expressions, as the names of tables and the numbers of their
+// rows.
 fn wrong_programs(alloc: Global) -> Result<String, Fail> {
     let mut wrong = String::new(alloc);
     values::check(alloc, &mut wrong)?;
     expansions::check(alloc, &mut wrong)?;
     steps::check(alloc, &mut wrong)?;
+    costs::check(alloc, &mut wrong)?;
     rows::check(alloc, &mut wrong)?;
     certificates::check(alloc, &mut wrong)?;
     Ok(wrong)

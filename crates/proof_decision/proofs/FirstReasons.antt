@@ -4,12 +4,14 @@ use Rattle.std.specs.Bool.{Decides}
 use Rattle.std.proofs.lemmas.Bool.Decides.{Decides-and}
 use Rattle.proof_setting.specs.model.Facts.{Fact}
 use Rattle.proof_setting.specs.linear_forms.Certificates.{minus_one}
-use Rattle.proof_setting.specs.proof_nodes.Nodes.{Proof, Cite, Start, Empty, Unreached, Never, Rank, Spread, Cycle, Weaken, Proofs}
-use Rattle.proof_setting.specs.proof_nodes.Nodes.{NoProof, AndProof}
+use Rattle.proof_setting.specs.proof_nodes.Nodes.{Proof, Cite, Start, Empty, Unreached, Never, Rank, Spread, Cycle}
+use Rattle.proof_setting.specs.proof_nodes.Nodes.{Weaken, Charge}
+use Rattle.proof_setting.specs.proof_nodes.Nodes.{Proofs, NoProof, AndProof}
 use Rattle.proof_setting.specs.proof_nodes.Known.{table_of}
 use Rattle.proof_setting.specs.proof_nodes.Setting.{Setting}
 use Rattle.proof_setting.specs.proof_nodes.AcceptsPlain.{may_run}
-use Rattle.proof_setting.specs.proof_nodes.Acceptance.{facts_of, joined_facts, AcceptsNode, Accepts, AllAccepted, AcceptsFrom}
+use Rattle.proof_setting.specs.proof_nodes.Acceptance.{facts_of, joined_facts, AcceptsNode, Accepts, AllAccepted}
+use Rattle.proof_setting.specs.proof_nodes.Acceptance.{AcceptsFrom}
 use Rattle.proof_setting.specs.proof_nodes.Acceptance.{AcceptsLemmas}
 use Rattle.proof_setting.specs.proof_nodes.Reasons.{Reason}
 use Rattle.proof_setting.specs.proof_nodes.Checks.{checks_of, IsFirstReason}
@@ -23,6 +25,7 @@ use Rattle.proof_decision.proofs.PlainTests.{decides-zero_time, decides-weaken_s
 use Rattle.proof_decision.proofs.ReachTests.{decides-unreached}
 use Rattle.proof_decision.proofs.RankTests.{rank-decides}
 use Rattle.proof_decision.proofs.SizeTests.{spread-decides, cycle-decides}
+use Rattle.proof_decision.proofs.CostTests.{cost-decides}
 
 module _ (s : Setting) (past : List (List Fact)) where
   -- the tests of a node decide its checks
@@ -42,6 +45,7 @@ module _ (s : Setting) (past : List (List Fact)) where
   tests-decide (Cycle members uses) = cycle-decides s (table_of (joined_facts s past uses)) members
   tests-decide (Weaken child b) =
       (refl, (decides-weaken_shape s.program b, (refl, (decides-weaker s (facts_of s past child) b, tt))))
+  tests-decide (Charge node uses) = cost-decides s (table_of (joined_facts s past uses)) node
 
   -- a reason is computed exactly where it is the first
   reason-decided : (proof : Proof) (r : Reason) → (first_reason s past proof ≡ Some r) ↔ IsFirstReason s past proof r
@@ -93,6 +97,7 @@ module _ (s : Setting) where
     decides-proof past (Cycle ms uses) = Decides-and _ _ (decides-uses past uses) (decides-node past (Cycle ms uses))
     decides-proof past (Weaken child b) =
         Decides-and _ _ (decides-proof past child) (decides-node past (Weaken child b))
+    decides-proof past (Charge node uses) = Decides-and _ _ (decides-uses past uses) (decides-node past (Charge node uses))
 
     decides-uses : (past : List (List Fact)) (uses : Proofs) → Decides (accepts_all s past uses) (AllAccepted s past uses)
     decides-uses past NoProof = decides-yes tt

@@ -3,6 +3,7 @@ pub mod NumberTests
 pub mod PlainTests
 pub mod RankTests
 pub mod SizeTests
+pub mod CostTests
 pub mod NumberLists
 pub mod ReachTests
 pub mod FirstReasons
@@ -10,3 +11,4 @@ pub mod WorkedLoops
 pub mod WorkedLemmas
 pub mod WorkedOrder
 pub mod WorkedShapes
+pub mod WorkedCosts

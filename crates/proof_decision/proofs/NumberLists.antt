@@ -4,7 +4,8 @@ use Rattle.std.proofs.Common.{length, filter, filter_map, Option, Some, None, re
 use Rattle.std.proofs.lemmas.Bool.{or_left, or_right}
 use Rattle.std.proofs.lemmas.List.Elements.{Contains-append_left, Contains-append_right}
 use Rattle.proof_setting.specs.model.Entries.{is_in}
-use Rattle.proof_setting.proofs.model.Membership.{same_number, no_is_not_yes, is_in-cases, contains-is_in, is_in-contained}
+use Rattle.proof_setting.proofs.model.Membership.{same_number, no_is_not_yes, is_in-cases, contains-is_in}
+use Rattle.proof_setting.proofs.model.Membership.{is_in-contained}
 
 -- what is in one of two lists is in their join
 pub in-left : (xs ys : List ℕ) (x : ℕ) → is_in x xs ≡ true → is_in x (xs ++ ys) ≡ true

@@ -3,13 +3,15 @@ use Rattle.std.proofs.Common.{◌≡◌, ℕ, zero, suc, ◌&&◌, Bool, List, [
 use Rattle.std.specs.Bool.{Decides}
 use Rattle.std.proofs.lemmas.Bool.Decides.{Decides-ltb, Decides-and, Decides-like}
 use Rattle.proof_setting.specs.model.Programs.{Program, Rule, rule_at, arity_of}
-use Rattle.proof_setting.specs.model.Bounds.{Bound, Constant, Input, SumOf, ProductOf, MaximumOf, PowerOf, Parts, NoParts, Part}
+use Rattle.proof_setting.specs.model.Bounds.{Bound, Constant, Input, SumOf, ProductOf, MaximumOf, PowerOf, Parts}
+use Rattle.proof_setting.specs.model.Bounds.{NoParts, Part}
 use Rattle.proof_setting.specs.model.Bounds.{EachNode, EachNodeOfAll}
-use Rattle.proof_setting.specs.model.Facts.{Fact, Time, Size}
+use Rattle.proof_setting.specs.model.Facts.{Fact, Time, Size, Cost}
 use Rattle.proof_setting.specs.bound_expr.Limits.{constant_limit}
 use Rattle.proof_setting.specs.bound_expr.Numbers.{IsInputBelow, IsTidyNumber}
 use Rattle.proof_setting.specs.proof_nodes.Setting.{Setting}
-use Rattle.proof_setting.specs.proof_nodes.AcceptsPlain.{IsRule, AcceptsCite, HasEmptyShape, IsOneTime, IsZeroTime, HasWeakenShape}
+use Rattle.proof_setting.specs.proof_nodes.AcceptsPlain.{IsRule, AcceptsCite, HasEmptyShape, IsOneTime, IsZeroTime}
+use Rattle.proof_setting.specs.proof_nodes.AcceptsPlain.{HasWeakenShape}
 use Rattle.proof_setting.specs.proof_nodes.AcceptsPlain.{IsWeaker}
 use Rattle.proof_decision.specs.Plain.{is_rule, is_earlier, is_one_time, is_zero_time, each_node, each_node_of_all}
 use Rattle.proof_decision.specs.Plain.{is_input_below, is_tidy_number, has_weaken_shape, is_weaker}
@@ -44,6 +46,7 @@ decides-empty_shape s t ms =
 pub decides-one_time : (facts : List Fact) → Decides (is_one_time facts) (IsOneTime facts)
 decides-one_time [] = decides-no (λ h. h)
 decides-one_time (Size t i b ∷ facts) = decides-no (λ h. h)
+decides-one_time (Cost t b ∷ facts) = decides-no (λ h. h)
 decides-one_time (Time zero b ∷ facts) = decides-no (λ h. h)
 decides-one_time (Time (suc t) b ∷ []) = decides-yes tt
 decides-one_time (Time (suc t) b ∷ f ∷ facts) = decides-no (λ h. h)
@@ -52,6 +55,7 @@ decides-one_time (Time (suc t) b ∷ f ∷ facts) = decides-no (λ h. h)
 pub decides-zero_time : (facts : List Fact) → Decides (is_zero_time facts) (IsZeroTime facts)
 decides-zero_time [] = decides-no (λ h. h)
 decides-zero_time (Size t i b ∷ facts) = decides-no (λ h. h)
+decides-zero_time (Cost t b ∷ facts) = decides-no (λ h. h)
 decides-zero_time (Time t b ∷ facts) = ((λ e. e), (λ e. e))
 
 -- nodes of a bound
@@ -103,5 +107,7 @@ pub decides-weaker : (s : Setting) (facts : List Fact) (b : Bound) → Decides (
 decides-weaker s [] b = decides-no (λ h. h)
 decides-weaker s (Time t a ∷ []) b = ((λ e. e), (λ e. e))
 decides-weaker s (Size t i a ∷ []) b = ((λ e. e), (λ e. e))
+decides-weaker s (Cost t a ∷ []) b = ((λ e. e), (λ e. e))
 decides-weaker s (Time t a ∷ f ∷ facts) b = decides-no (λ h. h)
 decides-weaker s (Size t i a ∷ f ∷ facts) b = decides-no (λ h. h)
+decides-weaker s (Cost t a ∷ f ∷ facts) b = decides-no (λ h. h)

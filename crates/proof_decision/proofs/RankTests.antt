@@ -27,7 +27,8 @@ use Rattle.proof_decision.proofs.NumberTests.{decides-ascending, decides-implies
 use Rattle.proof_decision.proofs.PlainTests.{decides-rule}
 
 -- what is known
-decides-known : (o : Option Bound) → Decides (is_some o) (IsKnown o)
+-- whether a bound is known is decided
+pub decides-known : (o : Option Bound) → Decides (is_some o) (IsKnown o)
 decides-known (Some b) = decides-yes (b, refl)
 decides-known None = decides-no (λ h. no h.0 h.1)
   where

@@ -8,7 +8,8 @@ use Rattle.std.proofs.lemmas.List.FromFn.{length-range_with_len}
 use Rattle.proof_setting.specs.model.Programs.{Program, Rule, rule_at}
 use Rattle.proof_setting.specs.model.Paths.{Here, Onward, IsReached, source_in, source_of, target_of, entry_and_rules}
 use Rattle.proof_setting.specs.model.Entries.{is_in}
-use Rattle.proof_setting.proofs.model.Membership.{same_number, no_is_not_yes, is_in-cases, is_in-filter, filter-in, list_any-from}
+use Rattle.proof_setting.proofs.model.Membership.{same_number, no_is_not_yes, is_in-cases, is_in-filter, filter-in}
+use Rattle.proof_setting.proofs.model.Membership.{list_any-from}
 use Rattle.proof_setting.proofs.model.Membership.{list_any-told, rule_is_numbered}
 use Rattle.proof_setting.proofs.model.StepLaws.{source_of-rule, target_of-rule}
 use Rattle.proof_setting.specs.proof_nodes.AcceptsPlain.{IsUnreached}

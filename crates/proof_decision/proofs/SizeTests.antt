@@ -14,11 +14,14 @@ use Rattle.proof_setting.specs.proof_nodes.Nodes.{Spot, Arm, Linear, Poly, Membe
 use Rattle.proof_setting.specs.proof_nodes.Known.{Table}
 use Rattle.proof_setting.specs.proof_nodes.Setting.{Setting}
 use Rattle.proof_setting.specs.proof_nodes.ComposedSizes.{poly_at, has_variable, is_member}
-use Rattle.proof_setting.specs.proof_nodes.AcceptsSizes.{IsSpot, HasArmShape, left_of, HasMemberShape, Side, Up, Low, ReadsLeft}
-use Rattle.proof_setting.specs.proof_nodes.AcceptsSizes.{AcceptsArm, IsPolynomialUpdate, ComesBefore, AreAscending, HasCycleShape}
+use Rattle.proof_setting.specs.proof_nodes.AcceptsSizes.{IsSpot, HasArmShape, left_of, HasMemberShape, Side, Up, Low}
+use Rattle.proof_setting.specs.proof_nodes.AcceptsSizes.{ReadsLeft}
+use Rattle.proof_setting.specs.proof_nodes.AcceptsSizes.{AcceptsArm, IsPolynomialUpdate, ComesBefore, AreAscending}
+use Rattle.proof_setting.specs.proof_nodes.AcceptsSizes.{HasCycleShape}
 use Rattle.proof_setting.specs.proof_nodes.AcceptsSizes.{IsStraightArm, spread_size, cycle_size}
 use Rattle.proof_setting.specs.proof_nodes.Reasons.{Check}
-use Rattle.proof_setting.specs.proof_nodes.Checks.{check_up, check_low, needed_into, needed_times, straight_from, straight_into}
+use Rattle.proof_setting.specs.proof_nodes.Checks.{check_up, check_low, needed_into, needed_times, straight_from}
+use Rattle.proof_setting.specs.proof_nodes.Checks.{straight_into}
 use Rattle.proof_setting.specs.proof_nodes.Checks.{spread_checks, cycle_checks}
 use Rattle.proof_decision.specs.Tests.{Test}
 use Rattle.proof_decision.specs.Sizes.{is_place_after, has_arm_shape, has_member_shape, is_over_left, accepts_arm}
@@ -55,8 +58,8 @@ decides-spot p spot = go (rule_at p spot.rule) refl
             back : Some r ≡ Some q → r ≡ q
             back l = cc
 
--- arms and members
-decides-arm_shape : (s : Setting) (t left : ℕ) (arm : Arm) → Decides (has_arm_shape s t left arm) (HasArmShape s t left arm)
+-- whether an arm has its shape is decided
+pub decides-arm_shape : (s : Setting) (t left : ℕ) (arm : Arm) → Decides (has_arm_shape s t left arm) (HasArmShape s t left arm)
 decides-arm_shape s t left Poly = decides-yes tt
 decides-arm_shape s t left (Linear den form ms) =
     Decides-like (has_arm_shape s t left (Linear den form ms))
@@ -100,7 +103,8 @@ decides-polynomial s spot = go (poly_at s spot) refl
             back : Some q ≡ Some x → q ≡ x
             back l = cc
 
-decides-arm : (s : Setting) (spot : Spot) (side : Side) (arm : Arm)
+-- whether an arm is accepted is decided
+pub decides-arm : (s : Setting) (spot : Spot) (side : Side) (arm : Arm)
     → Decides (accepts_arm s spot side arm) (AcceptsArm s spot side arm)
 decides-arm s spot side (Linear den form ms) = decides-implies _ ms _
 decides-arm s spot side Poly = decides-polynomial s spot

@@ -1,8 +1,9 @@
 -- Whether a proof node is accepted, by computing: the first reason why it isn't. And so whether lemmas are.
 use Rattle.std.specs.Prelude.{◌&&◌, Bool, true, List, [], ◌∷◌, ◌++◌, Option, is_none}
 use Rattle.proof_setting.specs.model.Facts.{Fact}
-use Rattle.proof_setting.specs.proof_nodes.Nodes.{Proof, Cite, Start, Empty, Unreached, Never, Rank, Spread, Cycle, Weaken, Proofs}
-use Rattle.proof_setting.specs.proof_nodes.Nodes.{NoProof, AndProof}
+use Rattle.proof_setting.specs.proof_nodes.Nodes.{Proof, Cite, Start, Empty, Unreached, Never, Rank, Spread, Cycle}
+use Rattle.proof_setting.specs.proof_nodes.Nodes.{Weaken, Charge}
+use Rattle.proof_setting.specs.proof_nodes.Nodes.{Proofs, NoProof, AndProof}
 use Rattle.proof_setting.specs.proof_nodes.Known.{table_of}
 use Rattle.proof_setting.specs.proof_nodes.Setting.{Setting}
 use Rattle.proof_setting.specs.proof_nodes.AcceptsPlain.{may_run}
@@ -12,6 +13,7 @@ use Rattle.proof_decision.specs.Tests.{Test, first_failing}
 use Rattle.proof_decision.specs.Plain.{cite_tests, empty_tests, unreached_tests, never_tests, weaken_tests}
 use Rattle.proof_decision.specs.Ranking.{rank_tests}
 use Rattle.proof_decision.specs.Sizes.{spread_tests, cycle_tests}
+use Rattle.proof_decision.specs.Costs.{cost_tests}
 
 -- the tests of a node after lemmas with these facts, in the order in which they are made
 abbrev pub tests_of : Setting → List (List Fact) → Proof → List Test
@@ -24,6 +26,7 @@ tests_of s past (Rank node uses) = rank_tests s (table_of (joined_facts s past u
 tests_of s past (Spread m uses) = spread_tests s (table_of (joined_facts s past uses)) m
 tests_of s past (Cycle members uses) = cycle_tests s (table_of (joined_facts s past uses)) members
 tests_of s past (Weaken child b) = weaken_tests s (facts_of s past child) b
+tests_of s past (Charge node uses) = cost_tests s (table_of (joined_facts s past uses)) node
 
 -- the first reason why a node isn't accepted after lemmas with these facts, where all that it rests on is
 abbrev pub first_reason : Setting → List (List Fact) → Proof → Option Reason
@@ -45,6 +48,7 @@ abbrev mutual
   accepts s past (Spread m uses) = accepts_all s past uses && accepts_node s past (Spread m uses)
   accepts s past (Cycle members uses) = accepts_all s past uses && accepts_node s past (Cycle members uses)
   accepts s past (Weaken child b) = accepts s past child && accepts_node s past (Weaken child b)
+  accepts s past (Charge node uses) = accepts_all s past uses && accepts_node s past (Charge node uses)
 
   pub accepts_all : Setting → List (List Fact) → Proofs → Bool
   accepts_all s past NoProof = true

@@ -8,6 +8,7 @@ pub mod WorkedLoops
 pub mod WorkedLemmas
 pub mod WorkedOrder
 pub mod WorkedShapes
+pub mod WorkedCosts
 -- the machinery of the functions inside and of the proofs
 pub mod Tests
 pub mod Numbers
@@ -15,3 +16,4 @@ pub mod Reaching
 pub mod Plain
 pub mod Ranking
 pub mod Sizes
+pub mod Costs

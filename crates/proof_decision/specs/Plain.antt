@@ -1,8 +1,9 @@
 -- Tests of the nodes that solve nothing.
 use Rattle.std.specs.Prelude.{ℕ, suc, ◌&&◌, nat_lt, nat_le, Bool, true, false, List, [], ◌∷◌, length, is_some}
 use Rattle.proof_setting.specs.model.Programs.{Program, rule_at, arity_of}
-use Rattle.proof_setting.specs.model.Bounds.{Bound, Constant, Input, SumOf, ProductOf, MaximumOf, PowerOf, Parts, NoParts, Part}
-use Rattle.proof_setting.specs.model.Facts.{Fact, Time, Size}
+use Rattle.proof_setting.specs.model.Bounds.{Bound, Constant, Input, SumOf, ProductOf, MaximumOf, PowerOf, Parts}
+use Rattle.proof_setting.specs.model.Bounds.{NoParts, Part}
+use Rattle.proof_setting.specs.model.Facts.{Fact, Time, Size, Cost}
 use Rattle.proof_setting.specs.bound_expr.Limits.{constant_limit}
 use Rattle.proof_setting.specs.linear_forms.Certificates.{minus_one}
 use Rattle.proof_setting.specs.proof_nodes.Known.{is_zero_bound}
@@ -82,6 +83,7 @@ has_weaken_shape p b = each_node (is_input_below (arity_of p p.start)) b && each
 abbrev pub is_weaker : Setting → List Fact → Bound → Bool
 is_weaker s (Time t a ∷ []) b = s.below a b
 is_weaker s (Size t i a ∷ []) b = s.below a b
+is_weaker s (Cost t a ∷ []) b = s.below a b
 is_weaker s facts b = false
 
 -- a weaker bound may be written, and is one

@@ -9,7 +9,8 @@ use Rattle.proof_setting.specs.proof_nodes.Nodes.{Spot, Arm, Linear, Poly, Membe
 use Rattle.proof_setting.specs.proof_nodes.Known.{Table}
 use Rattle.proof_setting.specs.proof_nodes.Setting.{Setting}
 use Rattle.proof_setting.specs.proof_nodes.ComposedSizes.{poly_at, is_member}
-use Rattle.proof_setting.specs.proof_nodes.AcceptsSizes.{left_of, Side, Up, Low, arm_goal, new_value, spread_size, cycle_size}
+use Rattle.proof_setting.specs.proof_nodes.AcceptsSizes.{left_of, Side, Up, Low, arm_goal, new_value, spread_size}
+use Rattle.proof_setting.specs.proof_nodes.AcceptsSizes.{cycle_size}
 use Rattle.proof_setting.specs.proof_nodes.Reasons.{Shape, ArmUp, ArmLow, Bent, for_each}
 use Rattle.proof_setting.specs.proof_nodes.Checks.{needed_into, needed_times}
 use Rattle.proof_decision.specs.Tests.{Test, test}

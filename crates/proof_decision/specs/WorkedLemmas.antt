@@ -2,7 +2,8 @@
 use Rattle.std.specs.Prelude.{◌≡◌, ℕ, List, [], ◌∷◌, ℤ, pos, Some}
 use Rattle.proof_setting.specs.model.Bounds.{Constant, Input}
 use Rattle.proof_setting.specs.model.Facts.{Fact, Time, Size}
-use Rattle.proof_setting.specs.proof_nodes.Nodes.{Member, Proof, Cite, Empty, Unreached, Never, Spread, Cycle, Weaken, NoProof}
+use Rattle.proof_setting.specs.proof_nodes.Nodes.{Member, Proof, Cite, Empty, Unreached, Never, Spread, Cycle, Weaken}
+use Rattle.proof_setting.specs.proof_nodes.Nodes.{NoProof}
 use Rattle.proof_setting.specs.proof_nodes.Reasons.{Move, Floor, MissingSize, Bent}
 use Rattle.proof_setting.specs.proof_nodes.Acceptance.{AcceptsLemmas, facts_of_lemmas}
 use Rattle.proof_setting.specs.Setting.{setting_of}

@@ -4,7 +4,8 @@ use Rattle.proof_setting.specs.model.Bounds.{Bound, SumOf, ProductOf, MaximumOf,
 use Rattle.proof_setting.specs.model.Facts.{Fact}
 use Rattle.proof_setting.specs.model.Programs.{Program}
 use Rattle.proof_setting.specs.linear_forms.Forms.{Form}
-use Rattle.proof_setting.specs.proof_nodes.Nodes.{Arm, Linear, Poly, Member, SymbolForm, Proof, Cite, Start, Rank, Proofs, NoProof}
+use Rattle.proof_setting.specs.proof_nodes.Nodes.{Arm, Linear, Poly, Member, SymbolForm, Proof, Cite, Start, Rank}
+use Rattle.proof_setting.specs.proof_nodes.Nodes.{Proofs, NoProof}
 use Rattle.proof_setting.specs.proof_nodes.Nodes.{AndProof}
 use Rattle.proof_setting.specs.proof_nodes.Reasons.{Reason}
 use Rattle.proof_setting.specs.Setting.{setting_of}

@@ -2,9 +2,11 @@
 use Rattle.std.specs.Prelude.{◌≡◌, ℕ, List, [], ◌∷◌, ℤ, pos, Some}
 use Rattle.proof_setting.specs.model.Bounds.{Constant, Input}
 use Rattle.proof_setting.specs.model.Facts.{Fact, Time, Size}
-use Rattle.proof_setting.specs.proof_nodes.Nodes.{Member, Proof, Cite, Start, Empty, Never, Spread, Cycle, Weaken, Proofs, NoProof}
+use Rattle.proof_setting.specs.proof_nodes.Nodes.{Member, Proof, Cite, Start, Empty, Never, Spread, Cycle, Weaken}
+use Rattle.proof_setting.specs.proof_nodes.Nodes.{Proofs, NoProof}
 use Rattle.proof_setting.specs.proof_nodes.Setting.{Setting}
-use Rattle.proof_setting.specs.proof_nodes.Reasons.{Shape, Move, Floor, ArmUp, ArmLow, MissingTime, MissingSize, Bent, Large}
+use Rattle.proof_setting.specs.proof_nodes.Reasons.{Shape, Move, Floor, ArmUp, ArmLow, MissingTime, MissingSize, Bent}
+use Rattle.proof_setting.specs.proof_nodes.Reasons.{Large}
 use Rattle.proof_setting.specs.proof_nodes.Worked.{entered_member, doubled}
 use Rattle.proof_setting.specs.proof_nodes.WorkedSettings as settings
 use Rattle.proof_setting.specs.proof_nodes.WorkedReasons.{tower, towering}
@@ -96,6 +98,9 @@ doubling_towers = record {
   rows = settings.no_rows;
   news = settings.doubling_news;
   poly = settings.no_poly;
+  cost_rows = settings.no_rows;
+  cost_value = settings.no_cost;
+  cost_poly = settings.no_cost_poly;
   rewrite = λ b. tower 200;
   below = settings.zero_below;
 }

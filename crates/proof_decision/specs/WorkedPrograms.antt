@@ -1,5 +1,5 @@
 -- Small programs over which nodes are judged.
-use Rattle.std.specs.Prelude.{ℕ, List, [], ◌∷◌, map, pos}
+use Rattle.std.specs.Prelude.{ℕ, List, [], ◌∷◌, map, pos, None}
 use Rattle.proof_setting.specs.model.Terms.{Term, Literal, Variable, Subtraction, Multiplication}
 use Rattle.proof_setting.specs.model.Programs.{AtLeast, AtMost, Atom, Compare, Rule, Program}
 
@@ -13,6 +13,7 @@ rule source target left free updates guard = record {
   names = [];
   updates = updates;
   guard = guard;
+  cost = None;
 }
 
 -- a program over symbols with so many places each, which starts at the first one

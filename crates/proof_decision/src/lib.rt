@@ -10,6 +10,7 @@ ghost use Rattle.proof_decision.specs.WorkedOrder.{RankReasonsAreInOrder, LoopRe
 ghost use Rattle.proof_decision.specs.WorkedOrder.{SizeReasonsAreInOrder, PlainReasonsAreInOrder};
 ghost use Rattle.proof_decision.specs.WorkedShapes.{ShapesAreRefused, RankLimitsAreMet, ArmLimitsAreMet};
 ghost use Rattle.proof_decision.specs.WorkedShapes.{WeakerLimitsAreMet, FirstFactsCount};
+ghost use Rattle.proof_decision.specs.WorkedCosts.{CostsAreJudged, CostReasonsAreInOrder};
 
 /// The first reason that is computed is the first reason of the node, and none is computed exactly where the node is
 /// accepted.
@@ -48,4 +49,11 @@ pub fn shapes_are_as_worked_out()
     ensures arms { ArmLimitsAreMet }
     ensures weaker { WeakerLimitsAreMet }
     ensures facts { FirstFactsCount }
+{}
+
+/// Lemmas on programs with costs are accepted, with the facts that were worked out by hand, and of nodes on costs that
+/// are refused the reason that is told is the one that was worked out.
+pub fn costs_are_as_worked_out()
+    ensures judged { CostsAreJudged }
+    ensures reasons { CostReasonsAreInOrder }
 {}

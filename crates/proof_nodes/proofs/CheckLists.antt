@@ -5,7 +5,8 @@ use Rattle.std.specs.List.{AllByRecursion, range_with_len}
 use Rattle.run_counting.specs.model.Entries.{is_in}
 use Rattle.proof_nodes.specs.Reasons.{Reason, Check, for_each, AllPass, IsFirstAmong}
 use Rattle.proof_nodes.proofs.Stable.{IsStable}
-use Rattle.run_counting.proofs.model.Membership.{same_number, no_is_not_yes, is_in-cases, is_in-filter, filter-in, is_in-numbers}
+use Rattle.run_counting.proofs.model.Membership.{same_number, no_is_not_yes, is_in-cases, is_in-filter, filter-in}
+use Rattle.run_counting.proofs.model.Membership.{is_in-numbers}
 use Rattle.std.proofs.lemmas.Bool.{or_left, or_right}
 
 -- where all pass no reason is the first

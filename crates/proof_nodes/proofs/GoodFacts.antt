@@ -5,7 +5,7 @@ use Rattle.std.proofs.lemmas.Bool.{and_parts}
 use Rattle.std.proofs.lemmas.List.Elements.{All-head, All-tail}
 use Rattle.run_counting.specs.model.Programs.{Program}
 use Rattle.run_counting.specs.model.Bounds.{Bound, IsBased}
-use Rattle.run_counting.specs.model.Facts.{Fact, Time, Size, HoldsTime, HoldsSize, Holds}
+use Rattle.run_counting.specs.model.Facts.{Fact, Time, Size, Cost, HoldsTime, HoldsSize, Holds}
 use Rattle.proof_nodes.specs.Known.{IsKnown, known, time_in, size_in, Table, table_of}
 use Rattle.proof_nodes.specs.Laws.{HasBasedBound}
 use Rattle.run_counting.proofs.model.Membership.{told_same}
@@ -23,6 +23,7 @@ time-good p [] good t b h = absurd (none_some h)
     none_some : None ≡ Some b → ⊥
     none_some e = cc
 time-good p (Size u i c ∷ facts) good t b h = time-good p facts (All-tail (IsGood p) (Size u i c) facts good) t b h
+time-good p (Cost u c ∷ facts) good t b h = time-good p facts (All-tail (IsGood p) (Cost u c) facts good) t b h
 time-good p (Time u c ∷ facts) good t b h =
     go (u == t) refl (All-head (IsGood p) (Time u c) facts good)
     (λ k. time-good p facts (All-tail (IsGood p) (Time u c) facts good) t b k)
@@ -47,6 +48,7 @@ size-good p [] good t i b h = absurd (none_some h)
     none_some : None ≡ Some b → ⊥
     none_some e = cc
 size-good p (Time u c ∷ facts) good t i b h = size-good p facts (All-tail (IsGood p) (Time u c) facts good) t i b h
+size-good p (Cost u c ∷ facts) good t i b h = size-good p facts (All-tail (IsGood p) (Cost u c) facts good) t i b h
 size-good p (Size u j c ∷ facts) good t i b h =
     go ((u == t) && (j == i)) refl (All-head (IsGood p) (Size u j c) facts good)
     (λ k. size-good p facts (All-tail (IsGood p) (Size u j c) facts good) t i b k)

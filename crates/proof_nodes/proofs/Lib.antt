@@ -14,12 +14,14 @@ pub mod LoopGrowth
 pub mod Flows
 pub mod LoopBounds
 pub mod CycleSoundness
+pub mod CostSoundness
 pub mod Soundness
 pub mod Stable
 pub mod StableShapes
 pub mod CheckLists
 pub mod FirstReasons
 pub mod SizeReasons
+pub mod CostReasons
 pub mod ReasonsInLine
 pub mod WorkedFaithful
 pub mod WorkedRefused
@@ -27,5 +29,7 @@ pub mod WorkedAccepted
 pub mod WorkedPlain
 pub mod WorkedSizes
 pub mod WorkedReasons
+pub mod WorkedCosts
+pub mod WorkedPaying
 -- the lemmas of the crates below, which callers name through this one
 pub use Rattle.rule_forms.proofs as rule_forms

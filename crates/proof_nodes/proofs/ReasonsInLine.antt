@@ -1,7 +1,7 @@
 -- First reasons are in line with acceptance, node by node.
 use Rattle.std.proofs.Common.{List}
 use Rattle.run_counting.specs.model.Facts.{Fact}
-use Rattle.proof_nodes.specs.Nodes.{Proof, Cite, Start, Empty, Unreached, Never, Rank, Spread, Cycle, Weaken}
+use Rattle.proof_nodes.specs.Nodes.{Proof, Cite, Start, Empty, Unreached, Never, Rank, Spread, Cycle, Weaken, Charge}
 use Rattle.proof_nodes.specs.Known.{table_of}
 use Rattle.proof_nodes.specs.Setting.{Setting}
 use Rattle.proof_nodes.specs.AcceptsPlain.{may_run}
@@ -16,6 +16,7 @@ use Rattle.proof_nodes.proofs.CheckLists.{passed_has_none, first_is_one, AreStab
 use Rattle.proof_nodes.proofs.FirstReasons.{rank-passes, passes-rank, rank-stable}
 use Rattle.proof_nodes.proofs.SizeReasons.{spread-passes, passes-spread, spread-stable, cycle-passes, passes-cycle}
 use Rattle.proof_nodes.proofs.SizeReasons.{cycle-stable}
+use Rattle.proof_nodes.proofs.CostReasons.{cost-passes, passes-cost, cost-stable}
 
 module _ (s : Setting) (past : List (List Fact)) where
   -- the checks of an accepted node pass
@@ -29,6 +30,7 @@ module _ (s : Setting) (past : List (List Fact)) where
   accepted-passes (Spread m uses) h = spread-passes s (table_of (joined_facts s past uses)) m h
   accepted-passes (Cycle members uses) h = cycle-passes s (table_of (joined_facts s past uses)) members h
   accepted-passes (Weaken child b) h = (h.shape, (h.weaker, tt))
+  accepted-passes (Charge node uses) h = cost-passes s (table_of (joined_facts s past uses)) node h
 
   -- a node whose checks pass is accepted
   passed-accepts : (proof : Proof) → AllPass (checks_of s past proof) → AcceptsNode s past proof
@@ -41,6 +43,7 @@ module _ (s : Setting) (past : List (List Fact)) where
   passed-accepts (Spread m uses) h = passes-spread s (table_of (joined_facts s past uses)) m h
   passed-accepts (Cycle members uses) h = passes-cycle s (table_of (joined_facts s past uses)) members h
   passed-accepts (Weaken child b) h = record { shape = h.0; weaker = h.1.0 }
+  passed-accepts (Charge node uses) h = passes-cost s (table_of (joined_facts s past uses)) node h
 
   -- none can fail without being false
   checks-stable : (proof : Proof) → AreStable (checks_of s past proof)
@@ -54,6 +57,7 @@ module _ (s : Setting) (past : List (List Fact)) where
   checks-stable (Spread m uses) = spread-stable s (table_of (joined_facts s past uses)) m
   checks-stable (Cycle members uses) = cycle-stable s (table_of (joined_facts s past uses)) members
   checks-stable (Weaken child b) = (stable-weaken_shape s.program b, (stable-weaker s (facts_of s past child) b, tt))
+  checks-stable (Charge node uses) = cost-stable s (table_of (joined_facts s past uses)) node
 
 -- the law
 pub first-reasons-in-line : FirstReasonsAreInLine

@@ -7,7 +7,7 @@ use Rattle.std.proofs.lemmas.List.Elements.{All-from_recursion, recursion_from_A
 use Rattle.run_counting.specs.model.Paths.{pre}
 use Rattle.run_counting.specs.model.Polynomials.{Monomial, Polynomial}
 use Rattle.rule_forms.specs.linear_forms.Forms.{at}
-use Rattle.proof_nodes.specs.Nodes.{Arm, Linear, Poly, Member}
+use Rattle.proof_nodes.specs.Nodes.{Spot, Arm, Linear, Poly, Member}
 use Rattle.run_counting.specs.model.Entries.{is_in}
 use Rattle.proof_nodes.specs.Known.{IsKnown, Table}
 use Rattle.proof_nodes.specs.Setting.{Setting}
@@ -41,17 +41,18 @@ polynomial-left left (m ∷ q) h j k = go (is_in j m.vars) refl k (polynomial-le
     go true e l later = variable-left left m.vars (recursion_from_All (λ v. v < left) m.vars h.0) j e
     go false e l later = later l
 
-module _ (s : Setting) (table : Table) (members : List Member) where
-  -- an accepted arm reads left places alone
-  reads-left : (m : Member) (side : Side) (arm : Arm) → HasArmShape s m.spot.rule (left_of s.program m.spot.rule) arm
-      → AcceptsArm s m.spot side arm → (j : ℕ) → reads (poly_at s m.spot) arm j ≡ true → j < left_of s.program m.spot.rule
-  reads-left m side (Linear den form ms) shape ok j r =
-      subst (λ n. j < n) shape.long (listed_coefficient form.coefs j (told-not_zero (at form.coefs j) r))
-  reads-left m side Poly shape ok j r =
-      polynomial-left (left_of s.program m.spot.rule) ok.polynomial
-      (recursion_from_All _ ok.polynomial ok.left_alone) j
-      (subst (λ (o : Option Polynomial). has_variable o j ≡ true) ok.bent r)
+-- an accepted arm reads left places alone
+pub reads-left : (s : Setting) (spot : Spot) (side : Side) (arm : Arm)
+    → HasArmShape s spot.rule (left_of s.program spot.rule) arm → AcceptsArm s spot side arm → (j : ℕ)
+    → reads (poly_at s spot) arm j ≡ true → j < left_of s.program spot.rule
+reads-left s spot side (Linear den form ms) shape ok j r =
+    subst (λ n. j < n) shape.long (listed_coefficient form.coefs j (told-not_zero (at form.coefs j) r))
+reads-left s spot side Poly shape ok j r =
+    polynomial-left (left_of s.program spot.rule) ok.polynomial
+    (recursion_from_All _ ok.polynomial ok.left_alone) j
+    (subst (λ (o : Option Polynomial). has_variable o j ≡ true) ok.bent r)
 
+module _ (s : Setting) (table : Table) (members : List Member) where
   -- the test that a place is read and is no member
   abbrev is_needed : Member → Arm → ℕ → ℕ → Bool
   is_needed m arm e j = reads (poly_at s m.spot) arm j && not (is_member members e j)
@@ -78,7 +79,7 @@ module _ (s : Setting) (table : Table) (members : List Member) where
   arm-known m side arm shape ok e h j r n =
       below-each (λ i. IsKnown (table.size e (suc i))) (is_needed m arm e) (left_of s.program m.spot.rule)
       (map-each (HasSize table) (λ i. record { rule = e; place = suc i }) _ h)
-      j (reads-left m side arm shape ok j r) (needed-told m arm e j r n)
+      j (reads-left s m.spot side arm shape ok j r) (needed-told m arm e j r n)
 
   known-arm : (m : Member) (arm : Arm) (e : ℕ) → ArmHasSizes s table members m.spot arm e
       → AllByRecursion (HasSize table) (needed_by s members m arm e)

@@ -3,13 +3,14 @@ use Rattle.std.proofs.Common.{ℕ, zero, suc, List, [], ◌∷◌, ◌++◌, All
 use Rattle.std.proofs.lemmas.List.Elements.{All-nil, All-cons, All-head, All-tail, All-append, All-push, All-weaker}
 use Rattle.run_counting.specs.model.Programs.{Program}
 use Rattle.run_counting.specs.model.Bounds.{Constant}
-use Rattle.run_counting.specs.model.Facts.{Fact, Time, Size, Holds}
-use Rattle.proof_nodes.specs.Nodes.{Proof, Cite, Start, Empty, Unreached, Never, Rank, Spread, Cycle, Weaken, Proofs}
-use Rattle.proof_nodes.specs.Nodes.{NoProof, AndProof}
+use Rattle.run_counting.specs.model.Facts.{Fact, Time, Size, Cost, Holds}
+use Rattle.proof_nodes.specs.Nodes.{Proof, Cite, Start, Empty, Unreached, Never, Rank, Spread, Cycle, Weaken, Charge}
+use Rattle.proof_nodes.specs.Nodes.{Proofs, NoProof, AndProof}
 use Rattle.proof_nodes.specs.Setting.{Setting, IsFaithful}
 use Rattle.proof_nodes.specs.Known.{table_of}
 use Rattle.proof_nodes.specs.AcceptsRank.{rank_time}
 use Rattle.proof_nodes.specs.AcceptsSizes.{spread_size}
+use Rattle.proof_nodes.specs.AcceptsCosts.{node_cost}
 use Rattle.proof_nodes.specs.Acceptance.{facts_of_lemma, facts_of, joined_facts, Accepts, AllAccepted, AcceptsFrom}
 use Rattle.proof_nodes.specs.Acceptance.{facts_from, AcceptsLemmas, facts_of_lemmas}
 use Rattle.proof_nodes.specs.Laws.{AcceptedFactsHold, HasBasedBound, AcceptedBoundsAreBased}
@@ -19,6 +20,7 @@ use Rattle.proof_nodes.proofs.Weaker.{start-good, weaken-good}
 use Rattle.proof_nodes.proofs.RankSoundness.{rank-good}
 use Rattle.proof_nodes.proofs.SpreadSoundness.{spread-good}
 use Rattle.proof_nodes.proofs.CycleSoundness.{cycle-good}
+use Rattle.proof_nodes.proofs.CostSoundness.{cost-good}
 
 -- all facts of a lemma are good
 abbrev AreGood : Program → List Fact → Type 0
@@ -55,6 +57,10 @@ module _ (s : Setting) (true_to : IsFaithful s) (past : List (List Fact)) (good 
         (spread-good s true_to (table_of (joined_facts s past uses)) (table-good s.program (joined_facts s past uses) (uses-good uses h.0)) m h.1)
     node-good (Cycle members uses) h = cycle-good s true_to (table_of (joined_facts s past uses)) (table-good s.program (joined_facts s past uses) (uses-good uses h.0)) members h.1
     node-good (Weaken child b) h = weaken-good s true_to (facts_of s past child) (node-good child h.0) b h.1
+    node-good (Charge node uses) h =
+        one_good s.program (Cost node.rule (node_cost s (table_of (joined_facts s past uses)) node))
+        (cost-good s true_to (table_of (joined_facts s past uses))
+        (table-good s.program (joined_facts s past uses) (uses-good uses h.0)) node h.1)
 
     uses-good : (uses : Proofs) → AllAccepted s past uses → AreGood s.program (joined_facts s past uses)
     uses-good NoProof h = All-nil (IsGood s.program)

@@ -54,12 +54,12 @@ no_empty_run p spot h same = none_some (ap (λ (u : ℕ). rule_at p u) same ∙ 
     none_some e = cc
 
 -- no place lies inside, so no polynomial reads one
-stays_out : (s : Setting) (spot : Spot) (arm : Arm) → StaysOutside s spot no_place arm
+pub stays_out : (s : Setting) (spot : Spot) (arm : Arm) → StaysOutside s spot no_place arm
 stays_out s spot (Linear den form multipliers) = tt
 stays_out s spot Poly = λ j k. refl
 
 -- with no place inside the offset is the arm as a bound
-whole_arm : (o : Option Polynomial) (arm : Arm) (sizes : ℕ → Bound) (m : List ℕ)
+pub whole_arm : (o : Option Polynomial) (arm : Arm) (sizes : ℕ → Bound) (m : List ℕ)
     → val (offset_of o arm no_place sizes) m ≡ val (arm_bound o arm sizes) m
 whole_arm o (Linear den form multipliers) sizes m = refl
 whole_arm o Poly sizes m = refl

@@ -5,7 +5,8 @@ use Rattle.std.specs.Prelude.{ℤ, pos, negsuc, ◌≤ℤ◌, ◌<ℤ◌}
 use Rattle.std.proofs.lemmas.Int.{ints}
 use Rattle.std.proofs.lemmas.Bool.Decides.{eqb_tells}
 use Rattle.std.proofs.lemmas.Bool.{cases_lt as order}
-use Rattle.run_counting.specs.model.Bounds.{Bound, Constant, Input, SumOf, ProductOf, MaximumOf, PowerOf, Parts, NoParts, Part}
+use Rattle.run_counting.specs.model.Bounds.{Bound, Constant, Input, SumOf, ProductOf, MaximumOf, PowerOf, Parts}
+use Rattle.run_counting.specs.model.Bounds.{NoParts, Part}
 use Rattle.run_counting.specs.model.Bounds.{EachNode, EachNodeOfAll}
 use Rattle.rule_forms.specs.linear_forms.Forms.{Form}
 use Rattle.rule_forms.specs.linear_forms.Certificates.{Implies}

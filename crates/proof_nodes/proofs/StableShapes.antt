@@ -5,7 +5,7 @@ use Rattle.std.specs.Prelude.{nat_abs}
 use Rattle.std.proofs.lemmas.Bool.{cases_lt as order}
 use Rattle.run_counting.specs.model.Programs.{Program, Rule, rule_at, arity_of}
 use Rattle.run_counting.specs.model.Bounds.{Bound, Constant, Input, SumOf, ProductOf, MaximumOf, PowerOf}
-use Rattle.run_counting.specs.model.Facts.{Fact, Time, Size}
+use Rattle.run_counting.specs.model.Facts.{Fact, Time, Size, Cost}
 use Rattle.run_counting.specs.model.Polynomials.{Monomial, Polynomial}
 use Rattle.rule_forms.specs.linear_forms.Forms.{Form}
 use Rattle.bound_expr.specs.Numbers.{IsInputBelow, IsTidyNumber}
@@ -75,6 +75,7 @@ stable-empty_shape s t ms h = record {
 pub stable-one_time : (facts : List Fact) → IsStable (IsOneTime facts)
 stable-one_time [] h = stable-never h
 stable-one_time (Size t i b ∷ facts) h = stable-never h
+stable-one_time (Cost t b ∷ facts) h = stable-never h
 stable-one_time (Time zero b ∷ facts) h = stable-never h
 stable-one_time (Time (suc t) b ∷ []) h = tt
 stable-one_time (Time (suc t) b ∷ f ∷ facts) h = stable-never h
@@ -83,6 +84,7 @@ stable-one_time (Time (suc t) b ∷ f ∷ facts) h = stable-never h
 pub stable-zero_time : (facts : List Fact) → IsStable (IsZeroTime facts)
 stable-zero_time [] h = stable-never h
 stable-zero_time (Size t i b ∷ facts) h = stable-never h
+stable-zero_time (Cost t b ∷ facts) h = stable-never h
 stable-zero_time (Time t b ∷ facts) h = stable-bool _ _ h
 
 stable-input : (n : ℕ) (b : Bound) → IsStable (IsInputBelow n b)
@@ -114,8 +116,10 @@ pub stable-weaker : (s : Setting) (facts : List Fact) (b : Bound) → IsStable (
 stable-weaker s [] b h = stable-never h
 stable-weaker s (Time t a ∷ []) b h = stable-bool _ _ h
 stable-weaker s (Size t i a ∷ []) b h = stable-bool _ _ h
+stable-weaker s (Cost t a ∷ []) b h = stable-bool _ _ h
 stable-weaker s (Time t a ∷ f ∷ facts) b h = stable-never h
 stable-weaker s (Size t i a ∷ f ∷ facts) b h = stable-never h
+stable-weaker s (Cost t a ∷ f ∷ facts) b h = stable-never h
 
 -- that a composed bound is small can't fail without being false
 pub stable-small : (rewrite : Bound → Bound) (b : Bound) → IsStable (IsSmallComposed rewrite b)
@@ -175,7 +179,8 @@ stable-spot p spot h = go (rule_at p spot.rule) refl
             back : Some r ≡ Some q → r ≡ q
             back g = cc
 
-stable-arm_shape : (s : Setting) (t left : ℕ) (arm : Arm) → IsStable (HasArmShape s t left arm)
+-- the shape of an arm can't fail without being false
+pub stable-arm_shape : (s : Setting) (t left : ℕ) (arm : Arm) → IsStable (HasArmShape s t left arm)
 stable-arm_shape s t left Poly h = tt
 stable-arm_shape s t left (Linear den form ms) h = record {
   over = stable-le _ _ (λ n. h (λ k. n k.over));

@@ -7,7 +7,7 @@ use Rattle.std.proofs.lemmas.List.Elements.{All-nil, All-cons, All-head, All-tai
 use Rattle.run_counting.specs.model.Programs.{Program, Rule, rule_at}
 use Rattle.run_counting.specs.model.Runs.{Config, Step, IsStep, IsRun, count, one_if_same, last_rule, sizes_of_start}
 use Rattle.run_counting.specs.model.Bounds.{Bound, Constant, val}
-use Rattle.run_counting.specs.model.Facts.{Fact, Time, Size, HoldsTime, HoldsSize}
+use Rattle.run_counting.specs.model.Facts.{Fact, Time, Size, Cost, HoldsTime, HoldsSize}
 use Rattle.run_counting.proofs.model.RunLaws.{one_if_same-same, one_if_same-other}
 use Rattle.rule_forms.specs.linear_forms.Certificates.{Implies, minus_one}
 use Rattle.rule_forms.proofs.linear_forms.CertificateLaws.{no_point}
@@ -80,6 +80,8 @@ zero_time p [] good t h start steps c run = absurd (no h)
     no e = cc
 zero_time p (Size u i b ∷ facts) good t h start steps c run =
     zero_time p facts (All-tail (IsGood p) (Size u i b) facts good) t h start steps c run
+zero_time p (Cost u b ∷ facts) good t h start steps c run =
+    zero_time p facts (All-tail (IsGood p) (Cost u b) facts good) t h start steps c run
 zero_time p (Time u b ∷ facts) good t h start steps c run =
     go ((u == t) && is_zero_bound b) refl (All-head (IsGood p) (Time u b) facts good)
     (λ k. zero_time p facts (All-tail (IsGood p) (Time u b) facts good) t k start steps c run)
@@ -172,5 +174,6 @@ never-good p (Time (suc t) b ∷ []) good h =
     let here : IsGood p (Time (suc t) b) = All-head (IsGood p) (Time (suc t) b) [] good in
     never_sizes p t b here.holds h.zero (places_at p (target_of p (suc t)))
 never-good p (Size t i b ∷ facts) good h = absurd h.shape
+never-good p (Cost t b ∷ facts) good h = absurd h.shape
 never-good p (Time zero b ∷ f ∷ facts) good h = absurd h.shape
 never-good p (Time (suc t) b ∷ f ∷ facts) good h = absurd h.shape

@@ -6,7 +6,7 @@ use Rattle.std.proofs.lemmas.List.Elements.{All-nil, All-cons, All-head}
 use Rattle.run_counting.specs.model.Programs.{Program, rule_at}
 use Rattle.run_counting.specs.model.Runs.{Config, Step, IsRun, last_rule, place_value, sizes_of_start}
 use Rattle.run_counting.specs.model.Bounds.{Bound, Constant, Input, IsBased}
-use Rattle.run_counting.specs.model.Facts.{Fact, Time, Size, HoldsTime, HoldsSize}
+use Rattle.run_counting.specs.model.Facts.{Fact, Time, Size, Cost, HoldsTime, HoldsSize, HoldsCost}
 use Rattle.run_counting.proofs.model.RunLaws.{entry_once}
 use Rattle.bound_expr.proofs.Nodes.{HasTidyNumbers-based}
 use Rattle.rule_forms.specs.linear_forms.Forms.{at}
@@ -65,6 +65,7 @@ pub weaken-good : (s : Setting) → IsFaithful s → (facts : List Fact) → All
 weaken-good s true_to [] good b h = absurd h.weaker
 weaken-good s true_to (Time t a ∷ f ∷ facts) good b h = absurd h.weaker
 weaken-good s true_to (Size t i a ∷ f ∷ facts) good b h = absurd h.weaker
+weaken-good s true_to (Cost t a ∷ f ∷ facts) good b h = absurd h.weaker
 weaken-good s true_to (Time t a ∷ []) good b h =
     let here : IsGood s.program (Time t a) = All-head (IsGood s.program) (Time t a) [] good in
     let time : HoldsTime s.program t a = here.holds in
@@ -85,3 +86,13 @@ weaken-good s true_to (Size t i a ∷ []) good b h =
           (true_to.order a b here.based based h.weaker (sizes_of_start start));
     } in
     All-cons (IsGood s.program) (Size t i b) [] (record { holds = weaker; based = based }) (All-nil (IsGood s.program))
+weaken-good s true_to (Cost t a ∷ []) good b h =
+    let here : IsGood s.program (Cost t a) = All-head (IsGood s.program) (Cost t a) [] good in
+    let cost : HoldsCost s.program t a = here.holds in
+    let based : IsBased b = HasTidyNumbers-based b h.shape.numbers in
+    let weaker : HoldsCost s.program t b =
+    record {
+      each = λ start steps c run. le_trans (cost.each start steps c run)
+          (true_to.order a b here.based based h.weaker (sizes_of_start start));
+    } in
+    All-cons (IsGood s.program) (Cost t b) [] (record { holds = weaker; based = based }) (All-nil (IsGood s.program))

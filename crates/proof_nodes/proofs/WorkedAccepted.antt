@@ -53,7 +53,7 @@ pub small : (n : ℕ) → n ≤ 1 → IsInLimit n
 small n h = omega arith
 
 -- a form over one place with small numbers
-one_place : (a c : ℤ) → nat_abs a ≤ 1 → nat_abs c ≤ 1 → IsFormInLimit (form (a ∷ []) c)
+pub one_place : (a c : ℤ) → nat_abs a ≤ 1 → nat_abs c ≤ 1 → IsFormInLimit (form (a ∷ []) c)
 one_place a c h k = record {
   coefs = All-cons (λ (x : ℤ). IsInLimit (nat_abs x)) a [] (small (nat_abs a) h)
       (All-nil (λ (x : ℤ). IsInLimit (nat_abs x)));

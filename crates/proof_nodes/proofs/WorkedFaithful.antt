@@ -6,10 +6,11 @@ use Rattle.std.proofs.lemmas.Int.{ints}
 use Rattle.std.proofs.lemmas.Bool.{and_parts}
 use Rattle.std.proofs.lemmas.List.{get_or_append_left}
 use Rattle.std.proofs.lemmas.List.Elements.{All-nil, All-cons, All-head}
-use Rattle.run_counting.specs.model.Terms.{Literal, Variable}
+use Rattle.run_counting.specs.model.Terms.{Term, Literal, Variable}
 use Rattle.run_counting.specs.model.Programs.{Rule, rule_at, arity_of, AtLeast, Atom, Compare, AtomHolds}
 use Rattle.run_counting.specs.model.Runs.{Config, Leads}
-use Rattle.run_counting.specs.model.Bounds.{Bound, Constant, Input, SumOf, ProductOf, MaximumOf, PowerOf, Parts, NoParts, Part, val}
+use Rattle.run_counting.specs.model.Bounds.{Bound, Constant, Input, SumOf, ProductOf, MaximumOf, PowerOf, Parts}
+use Rattle.run_counting.specs.model.Bounds.{NoParts, Part, val}
 use Rattle.run_counting.specs.model.Bounds.{val_sum, val_product, val_maximum, IsBased}
 use Rattle.run_counting.specs.model.Polynomials.{Polynomial}
 use Rattle.rule_forms.specs.linear_forms.Forms.{Form, at, form_value}
@@ -61,15 +62,16 @@ mutual
       go true e one rest = ap (λ (n : ℕ). n * val_product bs m) (one e) ∙ omega arith
       go false e one rest = ap (λ (n : ℕ). val b m * n) (rest (rw e at h)) ∙ omega arith
 
--- folding keeps values and bases
-folded_val : (b : Bound) (m : List ℕ) → val (folded b) m ≡ val b m
+-- folding keeps values
+pub folded_val : (b : Bound) (m : List ℕ) → val (folded b) m ≡ val b m
 folded_val b m = go (is_nothing b) refl
   where
     go : (v : Bool) → is_nothing b ≡ v → val (folded b) m ≡ val b m
     go true e = rw e (sym (nothing_val b m e))
     go false e = rw e refl
 
-folded-based : (b : Bound) → IsBased b → IsBased (folded b)
+-- and bases
+pub folded-based : (b : Bound) → IsBased b → IsBased (folded b)
 folded-based b h = go (is_nothing b) refl
   where
     go : (v : Bool) → is_nothing b ≡ v → IsBased (folded b)
@@ -77,7 +79,7 @@ folded-based b h = go (is_nothing b) refl
     go false e = rw e h
 
 -- only the constant 0 is below
-zero_first : (a b : Bound) → zero_below a b ≡ true → (m : List ℕ) → val a m ≤ val b m
+pub zero_first : (a b : Bound) → zero_below a b ≡ true → (m : List ℕ) → val a m ≤ val b m
 zero_first (Constant zero) b h m = omega arith
 zero_first (Constant (suc n)) b h m = absurd (no h)
   where
@@ -89,7 +91,7 @@ zero_first a b h m = absurd (no h)
     no e = cc
 
 -- the first value of an environment is that of the configuration
-first_in_env : (xs free : List ℤ) → length xs ≡ 1 → at (xs ++ free) 0 ≡ at xs 0
+pub first_in_env : (xs free : List ℤ) → length xs ≡ 1 → at (xs ++ free) 0 ≡ at xs 0
 first_in_env xs free h = get_or_append_left xs free (pos 0) 0 (omega (arith, h))
 
 -- a step by the first rule is a point
@@ -150,6 +152,7 @@ pub counting_is_faithful : IsFaithful counting
 counting_is_faithful = record {
   places = λ t r e. one_place t r e;
   steps = λ c step d h. by_rule step.rule h.rule c step.free d h.numbered h.leads;
+  costs = λ c step d h. absurd (no_cost_at step.rule h.rule h.cost h.numbered h.written);
   values = λ b based m. folded_val b m;
   bases = λ b based. folded-based b based;
   order = λ a b h k below m. zero_first a b below m;
@@ -169,6 +172,30 @@ counting_is_faithful = record {
         same : count_down ≡ r
         same = cc
     one_place (suc (suc (suc t))) r e = absurd (none_some e)
+      where
+        none_some : None ≡ Some r → ⊥
+        none_some x = cc
+
+    no_cost_at : (t : ℕ) (r : Rule) (cost : Term) → rule_at counting.program t ≡ Some r → r.cost ≡ Some cost → ⊥
+    no_cost_at zero r cost e f = none_some e
+      where
+        none_some : None ≡ Some r → ⊥
+        none_some x = cc
+    no_cost_at (suc zero) r cost e f = none_some (ap (λ (q : Rule). q.cost) same ∙ f)
+      where
+        same : enter ≡ r
+        same = cc
+
+        none_some : None ≡ Some cost → ⊥
+        none_some x = cc
+    no_cost_at (suc (suc zero)) r cost e f = none_some (ap (λ (q : Rule). q.cost) same ∙ f)
+      where
+        same : count_down ≡ r
+        same = cc
+
+        none_some : None ≡ Some cost → ⊥
+        none_some x = cc
+    no_cost_at (suc (suc (suc t))) r cost e f = none_some e
       where
         none_some : None ≡ Some r → ⊥
         none_some x = cc

@@ -25,7 +25,7 @@ use Rattle.proof_nodes.proofs.WorkedAccepted.{of_one, of_two, small, implies_one
 use Rattle.proof_nodes.proofs.WorkedRefused.{no_rows_combine, nothing_known}
 
 -- both variables of the square are the first place
-below_one : All (λ (v : ℕ). v < 1) (0 ∷ 0 ∷ [])
+pub below_one : All (λ (v : ℕ). v < 1) (0 ∷ 0 ∷ [])
 below_one = All-cons (λ (v : ℕ). v < 1) 0 (0 ∷ []) (omega arith)
     (All-cons (λ (v : ℕ). v < 1) 0 [] (omega arith) (All-nil (λ (v : ℕ). v < 1)))
 
@@ -47,7 +47,7 @@ is_square_too = record {
 }
 
 -- the square reads the first place alone
-no_other_place : (j : ℕ) → reads (Some square) Poly (suc j) ≡ true → ⊥
+pub no_other_place : (j : ℕ) → reads (Some square) Poly (suc j) ≡ true → ⊥
 no_other_place j k = go (suc j == 0) refl
   where
     go : (v : Bool) → (suc j == 0) ≡ v → ⊥

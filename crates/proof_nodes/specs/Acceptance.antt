@@ -1,14 +1,15 @@
 -- When a proof is accepted, and the facts that it then states.
 use Rattle.std.specs.Prelude.{ℕ, zero, suc, List, [], ◌∷◌, ◌++◌, ⊤}
 use Rattle.run_counting.specs.model.Bounds.{Constant}
-use Rattle.run_counting.specs.model.Facts.{Fact, Time, Size}
-use Rattle.proof_nodes.specs.Nodes.{Proof, Cite, Start, Empty, Unreached, Never, Rank, Spread, Cycle, Weaken, Proofs}
-use Rattle.proof_nodes.specs.Nodes.{NoProof, AndProof}
+use Rattle.run_counting.specs.model.Facts.{Fact, Time, Size, Cost}
+use Rattle.proof_nodes.specs.Nodes.{Proof, Cite, Start, Empty, Unreached, Never, Rank, Spread, Cycle, Weaken, Charge}
+use Rattle.proof_nodes.specs.Nodes.{Proofs, NoProof, AndProof}
 use Rattle.proof_nodes.specs.Known.{table_of}
 use Rattle.proof_nodes.specs.AcceptsPlain.{AcceptsCite, AcceptsEmpty, AcceptsUnreached, AcceptsNever, AcceptsWeaken}
 use Rattle.proof_nodes.specs.AcceptsPlain.{may_run, start_facts, never_facts, weakened}
 use Rattle.proof_nodes.specs.AcceptsRank.{AcceptsRank, rank_time}
 use Rattle.proof_nodes.specs.AcceptsSizes.{AcceptsSpread, AcceptsCycle, spread_size, cycle_size, cycle_facts}
+use Rattle.proof_nodes.specs.AcceptsCosts.{AcceptsCost, node_cost}
 use Rattle.proof_nodes.specs.Setting.{Setting}
 
 -- the facts of the lemma with a number, counted from 1; where there is none, no fact
@@ -33,6 +34,7 @@ abbrev mutual
   facts_of s past (Cycle members uses) =
       cycle_facts (s.rewrite (cycle_size s (table_of (joined_facts s past uses)) members)) members
   facts_of s past (Weaken child b) = weakened (facts_of s past child) b
+  facts_of s past (Charge node uses) = Cost node.rule (node_cost s (table_of (joined_facts s past uses)) node) ∷ []
 
   pub joined_facts : Setting → List (List Fact) → Proofs → List Fact
   joined_facts s past NoProof = []
@@ -49,6 +51,7 @@ AcceptsNode s past (Rank node uses) = AcceptsRank s (table_of (joined_facts s pa
 AcceptsNode s past (Spread m uses) = AcceptsSpread s (table_of (joined_facts s past uses)) m
 AcceptsNode s past (Cycle members uses) = AcceptsCycle s (table_of (joined_facts s past uses)) members
 AcceptsNode s past (Weaken child b) = AcceptsWeaken s (facts_of s past child) b
+AcceptsNode s past (Charge node uses) = AcceptsCost s (table_of (joined_facts s past uses)) node
 
 -- a proof is accepted after lemmas with these facts: all that it rests on is, and its node itself is
 abbrev mutual
@@ -62,6 +65,7 @@ abbrev mutual
   Accepts s past (Spread m uses) = AllAccepted s past uses × AcceptsNode s past (Spread m uses)
   Accepts s past (Cycle members uses) = AllAccepted s past uses × AcceptsNode s past (Cycle members uses)
   Accepts s past (Weaken child b) = Accepts s past child × AcceptsNode s past (Weaken child b)
+  Accepts s past (Charge node uses) = AllAccepted s past uses × AcceptsNode s past (Charge node uses)
 
   pub AllAccepted : Setting → List (List Fact) → Proofs → Type 0
   AllAccepted s past NoProof = ⊤

@@ -4,7 +4,7 @@ use Rattle.std.specs.Prelude.{◌≡◌, ℕ, suc, ◌-◌, ◌≤◌, not, Bool
 use Rattle.std.specs.List.{range_with_len}
 use Rattle.run_counting.specs.model.Programs.{Program, Rule, rule_at, arity_of}
 use Rattle.run_counting.specs.model.Bounds.{Bound, Constant, Input}
-use Rattle.run_counting.specs.model.Facts.{Fact, Time, Size}
+use Rattle.run_counting.specs.model.Facts.{Fact, Time, Size, Cost}
 use Rattle.bound_expr.specs.Numbers.{HasTidyNumbers, ReadsBelow}
 use Rattle.rule_forms.specs.linear_forms.Certificates.{Implies, minus_one}
 use Rattle.run_counting.specs.model.Paths.{target_of, IsReached}
@@ -97,6 +97,7 @@ pub record HasWeakenShape (p : Program) (b : Bound) : Type 0 where
 abbrev pub IsWeaker : Setting → List Fact → Bound → Type 0
 IsWeaker s (Time t a ∷ []) b = s.below a b ≡ true
 IsWeaker s (Size t i a ∷ []) b = s.below a b ≡ true
+IsWeaker s (Cost t a ∷ []) b = s.below a b ≡ true
 IsWeaker s facts b = ⊥
 
 -- a weaker bound: the child has exactly one fact, and its bound is below the new one
@@ -108,4 +109,5 @@ pub record AcceptsWeaken (s : Setting) (facts : List Fact) (b : Bound) : Type 0 
 abbrev pub weakened : List Fact → Bound → List Fact
 weakened (Time t a ∷ []) b = Time t b ∷ []
 weakened (Size t i a ∷ []) b = Size t i b ∷ []
+weakened (Cost t a ∷ []) b = Cost t b ∷ []
 weakened facts b = []

@@ -1,5 +1,6 @@
 -- The checks of each kind of node, in the order in which they are made.
-use Rattle.std.specs.Prelude.{ℕ, suc, ◌&&◌, ◌||◌, not, Bool, List, [], ◌∷◌, ◌++◌, length, map, filter, if◌then◌else◌}
+use Rattle.std.specs.Prelude.{◌≡◌, ℕ, suc, ◌&&◌, ◌||◌, not, Bool, true, List, [], ◌∷◌, ◌++◌, length, map, filter}
+use Rattle.std.specs.Prelude.{if◌then◌else◌}
 use Rattle.std.specs.List.{range_with_len}
 use Rattle.run_counting.specs.model.Bounds.{Bound}
 use Rattle.run_counting.specs.model.Facts.{Fact}
@@ -9,8 +10,8 @@ use Rattle.bound_expr.specs.Measure.{is_large, capped_node_count}
 use Rattle.rule_forms.specs.linear_forms.Forms.{at}
 use Rattle.rule_forms.specs.linear_forms.Certificates.{Implies, minus_one}
 use Rattle.proof_nodes.specs.Nodes.{Spot, Arm, Member, RankNode, Proof, Cite, Start, Empty, Unreached, Never, Rank}
-use Rattle.proof_nodes.specs.Nodes.{Spread, Cycle, Weaken}
-use Rattle.proof_nodes.specs.Known.{IsKnown, Table, table_of}
+use Rattle.proof_nodes.specs.Nodes.{Spread, Cycle, Weaken, Charge, CostBy, EmptyCost, NeverCost, ArmCost, CostNode}
+use Rattle.proof_nodes.specs.Known.{IsKnown, known, is_zero_bound, Table, table_of}
 use Rattle.proof_nodes.specs.Limits.{IsSmallComposed}
 use Rattle.run_counting.specs.model.Entries.{entries}
 use Rattle.proof_nodes.specs.ComposedSizes.{poly_at, reads, is_member, rules_of, flows, multiplies, adds}
@@ -19,6 +20,7 @@ use Rattle.proof_nodes.specs.AcceptsPlain.{IsZeroTime, HasWeakenShape, IsWeaker}
 use Rattle.proof_nodes.specs.AcceptsRank.{HasRankShape, Loses, HasFloor, at_target, rank_time}
 use Rattle.proof_nodes.specs.AcceptsSizes.{HasMemberShape, AcceptsUp, AcceptsLow, HasCycleShape, IsStraightArm, left_of}
 use Rattle.proof_nodes.specs.AcceptsSizes.{spread_size, cycle_size}
+use Rattle.proof_nodes.specs.AcceptsCosts.{HasCostShape, AcceptsCostArm, arm_cost}
 use Rattle.proof_nodes.specs.Acceptance.{facts_of, joined_facts}
 use Rattle.proof_nodes.specs.Setting.{Setting}
 use Rattle.proof_nodes.specs.Reasons.{Reason, Shape, NotEmpty, Reached, NotZero, Move, Floor, ArmUp, ArmLow}
@@ -134,6 +136,29 @@ cycle_checks s table members =
     (for_each (check_time table) (needed_times s table members)
     (check_small s (cycle_size s table members) ∷ [])))))
 
+-- the sizes that the arm of a cost needs after these rules, places ascending after each
+abbrev pub needed_at_cost : Setting → ℕ → Arm → List ℕ → List Spot
+needed_at_cost s t arm [] = []
+needed_at_cost s t arm (e ∷ es) =
+    spots_after e (filter (reads (s.cost_poly t) arm) (range_with_len 0 (left_of s.program t)))
+    ++ needed_at_cost s t arm es
+
+-- the checks of how a cost is shown
+abbrev pub cost_checks_by : Setting → Table → ℕ → CostBy → List Check
+cost_checks_by s table t (EmptyCost multipliers) =
+    check NotEmpty (Implies (s.cost_rows t) multipliers minus_one) ∷ []
+cost_checks_by s table t NeverCost =
+    check_time table t ∷ check NotZero (is_zero_bound (known (table.time t)) ≡ true) ∷ []
+cost_checks_by s table t (ArmCost arm) =
+    check (ArmUp t 0) (AcceptsCostArm s t arm) ∷
+    check_time table t ∷
+    for_each (check_size table) (needed_at_cost s t arm (pre s.program t))
+    (check_small s (arm_cost s table t arm) ∷ [])
+
+-- the checks of a node on a cost
+abbrev pub cost_checks : Setting → Table → CostNode → List Check
+cost_checks s table node = check Shape (HasCostShape s node) ∷ cost_checks_by s table node.rule node.by
+
 -- the checks of an unreached rule
 abbrev pub unreached_checks : Setting → (ℕ → Bool) → ℕ → List Check
 unreached_checks s is_allowed t =
@@ -153,6 +178,7 @@ checks_of s past (Spread m uses) = spread_checks s (table_of (joined_facts s pas
 checks_of s past (Cycle members uses) = cycle_checks s (table_of (joined_facts s past uses)) members
 checks_of s past (Weaken child b) =
     check Shape (HasWeakenShape s.program b) ∷ check NotWeaker (IsWeaker s (facts_of s past child) b) ∷ []
+checks_of s past (Charge node uses) = cost_checks s (table_of (joined_facts s past uses)) node
 
 -- the first reason why a node isn't accepted, where all that it rests on is
 abbrev pub IsFirstReason : Setting → List (List Fact) → Proof → Reason → Type 0

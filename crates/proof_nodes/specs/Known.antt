@@ -1,7 +1,7 @@
 -- What is known where a node is judged: a table of bounds, and facts as they are looked up, the first that matches.
 use Rattle.std.specs.Prelude.{◌≡◌, ℕ, zero, ◌==◌, ◌&&◌, Bool, true, false, cond, List, [], ◌∷◌, Option, Some, None}
 use Rattle.run_counting.specs.model.Bounds.{Bound, Constant}
-use Rattle.run_counting.specs.model.Facts.{Fact, Time, Size}
+use Rattle.run_counting.specs.model.Facts.{Fact, Time, Size, Cost}
 
 -- the bound is known
 abbrev pub IsKnown : Option Bound → Type 0
@@ -17,12 +17,14 @@ abbrev pub time_in : List Fact → ℕ → Option Bound
 time_in [] t = None
 time_in (Time u b ∷ facts) t = cond (u == t) (Some b) (time_in facts t)
 time_in (Size u i b ∷ facts) t = time_in facts t
+time_in (Cost u b ∷ facts) t = time_in facts t
 
 -- the first size of a place after a rule
 abbrev pub size_in : List Fact → ℕ → ℕ → Option Bound
 size_in [] t i = None
 size_in (Time u b ∷ facts) t i = size_in facts t i
 size_in (Size u j b ∷ facts) t i = cond ((u == t) && (j == i)) (Some b) (size_in facts t i)
+size_in (Cost u b ∷ facts) t i = size_in facts t i
 
 -- a table of bounds: each rule has a time or none, and each place after a rule a size or none
 pub record Table : Type 0 where
@@ -43,3 +45,4 @@ abbrev pub has_zero_time : List Fact → ℕ → Bool
 has_zero_time [] t = false
 has_zero_time (Time u b ∷ facts) t = cond ((u == t) && is_zero_bound b) true (has_zero_time facts t)
 has_zero_time (Size u i b ∷ facts) t = has_zero_time facts t
+has_zero_time (Cost u b ∷ facts) t = has_zero_time facts t

@@ -1,6 +1,6 @@
 -- The laws of accepted proofs.
 use Rattle.std.specs.Prelude.{List, All}
-use Rattle.run_counting.specs.model.Facts.{Fact, Time, Size, Holds}
+use Rattle.run_counting.specs.model.Facts.{Fact, Time, Size, Cost, Holds}
 use Rattle.run_counting.specs.model.Bounds.{Bound, IsBased}
 use Rattle.proof_nodes.specs.Nodes.{Proof}
 use Rattle.proof_nodes.specs.Setting.{Setting, IsFaithful}
@@ -15,6 +15,7 @@ pub record AcceptedFactsHold : Type 0 where
 abbrev pub bound_in : Fact → Bound
 bound_in (Time t b) = b
 bound_in (Size t i b) = b
+bound_in (Cost t b) = b
 
 -- every base in the bound of a fact is at least 1
 abbrev pub HasBasedBound : Fact → Type 0

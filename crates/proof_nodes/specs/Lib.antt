@@ -11,6 +11,7 @@ pub mod Limits
 pub mod AcceptsPlain
 pub mod AcceptsRank
 pub mod AcceptsSizes
+pub mod AcceptsCosts
 pub mod Acceptance
 pub mod Reasons
 pub mod Checks
@@ -22,6 +23,7 @@ pub mod WorkedSettings
 pub mod Worked
 pub mod WorkedSizes
 pub mod WorkedReasons
+pub mod WorkedCosts
 -- the machinery of the functions inside and of the proofs
 pub mod Combined
 -- the crates below, which callers name through this one

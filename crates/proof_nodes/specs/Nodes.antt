@@ -40,6 +40,18 @@ pub record RankNode : Type 0 where
   pub moves : List (List ℕ)
   pub floor : List ℕ
 
+-- how it is shown what the steps by a rule cost: the cost rows, each times its multiplier, add up to -1; the rule never
+-- runs; or an arm over the cost, in the rule's left arguments
+pub data CostBy : Type 0 where
+  EmptyCost : List ℕ → CostBy
+  NeverCost : CostBy
+  ArmCost : Arm → CostBy
+
+-- what a node on the cost of a rule holds beside its uses
+pub record CostNode : Type 0 where
+  pub rule : ℕ
+  pub by : CostBy
+
 -- a node with all that it rests on, and a list of such nodes
 mutual
   pub data Proof : Type 0 where
@@ -52,6 +64,7 @@ mutual
     Spread : Member → Proofs → Proof
     Cycle : List Member → Proofs → Proof
     Weaken : Proof → Bound → Proof
+    Charge : CostNode → Proofs → Proof
 
   pub data Proofs : Type 0 where
     NoProof : Proofs

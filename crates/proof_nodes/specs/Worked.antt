@@ -1,6 +1,7 @@
 -- What is accepted and what isn't, worked out by hand.
 use Rattle.std.specs.Prelude.{◌≡◌, ℕ, List, [], ◌∷◌, ℤ, pos, negsuc, Option, Some}
-use Rattle.run_counting.specs.model.Bounds.{Bound, Constant, Input, SumOf, ProductOf, MaximumOf, PowerOf, Parts, NoParts, Part, val}
+use Rattle.run_counting.specs.model.Bounds.{Bound, Constant, Input, SumOf, ProductOf, MaximumOf, PowerOf, Parts}
+use Rattle.run_counting.specs.model.Bounds.{NoParts, Part, val}
 use Rattle.run_counting.specs.model.Facts.{Fact, Time, Size}
 use Rattle.proof_nodes.specs.Nodes.{Arm, Linear, Member, SymbolForm, RankNode, Proof, Cite, Start, Empty, Unreached}
 use Rattle.proof_nodes.specs.Nodes.{Never, Rank, Spread, Cycle, Weaken, Proofs, NoProof, AndProof}

@@ -6,7 +6,8 @@ use Rattle.proof_nodes.specs.Setting.{Setting}
 use Rattle.proof_nodes.specs.Reasons.{Shape, NotEmpty, Reached, NotZero, Move, Floor, ArmUp, ArmLow, MissingTime}
 use Rattle.proof_nodes.specs.Reasons.{MissingSize, Bent, Large, NotWeaker}
 use Rattle.proof_nodes.specs.Checks.{IsFirstReason}
-use Rattle.proof_nodes.specs.WorkedSettings.{counting, stuck, counting_rows, counting_news, no_poly, zero_below}
+use Rattle.proof_nodes.specs.WorkedSettings.{counting, stuck, counting_rows, counting_news, no_poly, no_rows, no_cost}
+use Rattle.proof_nodes.specs.WorkedSettings.{no_cost_poly, zero_below}
 use Rattle.proof_nodes.specs.Worked.{arm, only, once, down, down_alone, empty_loop, first_fact, first_and_size}
 use Rattle.proof_nodes.specs.WorkedSizes.{squaring, bent_member, wrong_low, one_size}
 
@@ -22,6 +23,9 @@ towering = record {
   rows = counting_rows;
   news = counting_news;
   poly = no_poly;
+  cost_rows = no_rows;
+  cost_value = no_cost;
+  cost_poly = no_cost_poly;
   rewrite = λ b. tower 200;
   below = zero_below;
 }

@@ -4,7 +4,8 @@ use Rattle.std.specs.Prelude.{None}
 use Rattle.run_counting.specs.model.Terms.{Term, Literal, Variable, Subtraction, Multiplication}
 use Rattle.run_counting.specs.model.Programs.{AtLeast, Atom, Compare, Symbol, Rule, Program}
 use Rattle.run_counting.specs.model.Polynomials.{Polynomial}
-use Rattle.run_counting.specs.model.Bounds.{Bound, Constant, Input, SumOf, ProductOf, MaximumOf, PowerOf, Parts, NoParts, Part}
+use Rattle.run_counting.specs.model.Bounds.{Bound, Constant, Input, SumOf, ProductOf, MaximumOf, PowerOf, Parts}
+use Rattle.run_counting.specs.model.Bounds.{NoParts, Part}
 use Rattle.rule_forms.specs.linear_forms.Forms.{Form}
 use Rattle.proof_nodes.specs.Setting.{Setting}
 
@@ -53,6 +54,7 @@ rule_over source target free update guard = record {
   names = [];
   updates = update ∷ [];
   guard = guard;
+  cost = None;
 }
 
 -- a program over three symbols with one place each
@@ -67,6 +69,17 @@ program_with rules = record {
 -- no update has degree 2 or more
 abbrev pub no_poly : ℕ → ℕ → Option Polynomial
 no_poly t i = None
+
+-- no rule has a row
+abbrev pub no_rows : ℕ → List Form
+no_rows t = []
+
+-- no rule has a cost
+abbrev pub no_cost : ℕ → Form
+no_cost t = form [] (pos 0)
+
+abbrev pub no_cost_poly : ℕ → Option Polynomial
+no_cost_poly t = None
 
 -- k(A) -> l(A), and l(A) -> l(A - 1) where A >= 1
 abbrev pub enter : Rule
@@ -95,13 +108,12 @@ counting = record {
   rows = counting_rows;
   news = counting_news;
   poly = no_poly;
+  cost_rows = no_rows;
+  cost_value = no_cost;
+  cost_poly = no_cost_poly;
   rewrite = folded;
   below = zero_below;
 }
-
--- no rule has a row
-abbrev pub no_rows : ℕ → List Form
-no_rows t = []
 
 -- the same without a guard: it falls for ever
 abbrev pub falling : Setting
@@ -110,6 +122,9 @@ falling = record {
   rows = no_rows;
   news = counting_news;
   poly = no_poly;
+  cost_rows = no_rows;
+  cost_value = no_cost;
+  cost_poly = no_cost_poly;
   rewrite = folded;
   below = zero_below;
 }
@@ -124,6 +139,9 @@ guessing = record {
   rows = no_rows;
   news = free_news;
   poly = no_poly;
+  cost_rows = no_rows;
+  cost_value = no_cost;
+  cost_poly = no_cost_poly;
   rewrite = folded;
   below = zero_below;
 }
@@ -135,6 +153,9 @@ apart = record {
   rows = no_rows;
   news = counting_news;
   poly = no_poly;
+  cost_rows = no_rows;
+  cost_value = no_cost;
+  cost_poly = no_cost_poly;
   rewrite = folded;
   below = zero_below;
 }
@@ -155,6 +176,9 @@ doubling = record {
   rows = no_rows;
   news = doubling_news;
   poly = no_poly;
+  cost_rows = no_rows;
+  cost_value = no_cost;
+  cost_poly = no_cost_poly;
   rewrite = folded;
   below = zero_below;
 }
@@ -175,6 +199,9 @@ stuck = record {
   rows = stuck_rows;
   news = counting_news;
   poly = no_poly;
+  cost_rows = no_rows;
+  cost_value = no_cost;
+  cost_poly = no_cost_poly;
   rewrite = folded;
   below = zero_below;
 }

@@ -9,8 +9,9 @@ use Rattle.proof_nodes.specs.Known.{table_of}
 use Rattle.proof_nodes.specs.Setting.{Setting}
 use Rattle.proof_nodes.specs.AcceptsSizes.{HasSizesAfter}
 use Rattle.proof_nodes.specs.Acceptance.{Accepts}
-use Rattle.proof_nodes.specs.WorkedSettings.{rule_over, program_with, no_rows, folded, zero_below, counting}
-use Rattle.proof_nodes.specs.WorkedSettings.{counting_news, doubling}
+use Rattle.proof_nodes.specs.WorkedSettings.{rule_over, program_with, no_rows, no_cost, no_cost_poly, folded}
+use Rattle.proof_nodes.specs.WorkedSettings.{zero_below}
+use Rattle.proof_nodes.specs.WorkedSettings.{counting, counting_news, doubling}
 use Rattle.proof_nodes.specs.Worked.{arm, only, down, entered_member, looped_member, doubled}
 
 -- A * A as a polynomial
@@ -31,6 +32,9 @@ squaring = record {
   rows = no_rows;
   news = counting_news;
   poly = squares;
+  cost_rows = no_rows;
+  cost_value = no_cost;
+  cost_poly = no_cost_poly;
   rewrite = folded;
   below = zero_below;
 }

@@ -10,6 +10,7 @@ ghost use Rattle.proof_nodes.specs.Worked.{CountingIsFaithful, FourLemmasAreAcce
 ghost use Rattle.proof_nodes.specs.Worked.{PlainNodesAreJudged, FormulasAreWhole};
 ghost use Rattle.proof_nodes.specs.WorkedSizes.{SizeNodesAreJudged};
 ghost use Rattle.proof_nodes.specs.WorkedReasons.{ReasonsComeInOrder};
+ghost use Rattle.proof_nodes.specs.WorkedCosts.{CostNodesAreJudged, CostReasonsComeInOrder, PayingIsFaithful};
 
 /// Where all lemmas of a list are accepted, every fact of every lemma holds on all runs, whoever made the lemmas.
 pub fn accepted_facts_hold()
@@ -37,6 +38,14 @@ pub fn worked_values_hold()
     ensures sizes { SizeNodesAreJudged }
     ensures whole { FormulasAreWhole }
     ensures reasons { ReasonsComeInOrder }
+{}
+
+/// Nodes on costs are judged as was worked out by hand, with the first reasons and the facts; and the premises of the
+/// laws are met by a program with a cost.
+pub fn worked_costs_hold()
+    ensures faithful { PayingIsFaithful }
+    ensures judged { CostNodesAreJudged }
+    ensures reasons { CostReasonsComeInOrder }
 {}
 
 /// A node has no first reason exactly where it is accepted, and it has at most one.

@@ -1,28 +1,28 @@
 -- Why the setting of a valid program says what is true.
-use Rattle.std.proofs.Common.{◌≡◌, ◌↔◌, ℕ, zero, suc, ◌+◌, ◌≤◌, Bool, true, false, if◌then◌else◌, List, [], ◌∷◌, ◌++◌}
-use Rattle.std.proofs.Common.{map, slice_get, Option, Some, None, refl, sym, ap, ◌∙◌, subst, arith, nat_lt}
+use Rattle.std.proofs.Common.{◌≡◌, ◌↔◌, ℕ, zero, suc, ◌≤◌, Bool, true, false, if◌then◌else◌, List, [], ◌∷◌, ◌++◌}
+use Rattle.std.proofs.Common.{map, slice_get, option_map, Option, Some, None, refl, sym, ap, ◌∙◌, subst, arith}
 use Rattle.std.specs.Prelude.{ℤ, pos}
-use Rattle.std.proofs.lemmas.Int.{ints}
 use Rattle.std.proofs.lemmas.Bool.Decides.{nat_tests}
 use Rattle.guard_prep.specs.model.Terms.{Term, value}
-use Rattle.guard_prep.specs.model.Programs.{Program, Rule, rule_at, arity_of}
+use Rattle.guard_prep.specs.model.Programs.{Program, Rule, rule_at}
 use Rattle.guard_prep.specs.model.Runs.{Config, Step, IsStep}
-use Rattle.guard_prep.specs.model.Bounds.{Bound}
+use Rattle.guard_prep.specs.model.Costs.{cost_rule, entering_cost}
 use Rattle.guard_prep.specs.model.Polynomials.{Polynomial, polynomial_value, degree_of}
 use Rattle.guard_prep.specs.linear_forms.Forms.{Form, at, form_value}
 use Rattle.guard_prep.specs.linear_forms.Points.{IsPoint}
 use Rattle.guard_prep.specs.poly_terms.Expanding.{expanded}
 use Rattle.guard_prep.proofs.poly_terms.Values.{expanded-value}
 use Rattle.guard_prep.specs.its_model.Valid.{IsValid}
-use Rattle.guard_prep.specs.Prepared.{is_bent, polys_of}
+use Rattle.guard_prep.specs.Prepared.{is_bent, polys_of, news_of}
 use Rattle.guard_prep.specs.Laws.{point_of}
-use Rattle.guard_prep.proofs.StepLaws.{valid-at, steps-are-points}
+use Rattle.guard_prep.proofs.StepLaws.{valid-at, steps-are-points, costs-are-points}
 use Rattle.bound_table.proofs.TableInForce.{rewritten-value, rewritten-numbers}
 use Rattle.bound_table.proofs.BelowSound.{below-sound}
 use Rattle.proof_nodes.specs.Combined.{form_at}
-use Rattle.proof_nodes.specs.Setting.{StepPoint}
+use Rattle.proof_nodes.specs.Setting.{StepPoint, only_place, costs_of, IsCostStep}
 use Rattle.proof_nodes.proofs.Soundness.{accepted_facts_hold}
-use Rattle.proof_setting.specs.Setting.{rows_in, news_in, polys_in, where_bent, bent_at, setting_of}
+use Rattle.proof_setting.specs.Setting.{rows_in, news_in, polys_in, bent_at, cost_rule_in, cost_rule_at}
+use Rattle.proof_setting.specs.Setting.{setting_of}
 use Rattle.proof_setting.specs.Laws.{SettingsAreFaithful, AcceptedFactsHold, IsBentUpdate, PolynomialsAreBent}
 
 -- the value of the form at a position is that position's value
@@ -70,12 +70,50 @@ step-point p v c s d i =
           ∙ ap (λ (xs : List ℤ). at xs j) (sym i.leads.values));
     }
 
+-- the new value of a cost rule is its only one
+only-new : (r : Rule) (e : Term) → news_of (cost_rule r e) ≡ form_at (news_of (cost_rule r e)) 0 ∷ []
+only-new r e = go (is_bent (expanded e)) refl
+  where
+    go : (b : Bool) → is_bent (expanded e) ≡ b → news_of (cost_rule r e) ≡ form_at (news_of (cost_rule r e)) 0 ∷ []
+    go true h = rw h refl
+    go false h = rw h refl
+
+-- the polynomial that is told of a cost has the cost's value
+value-only : (env : List ℤ) (e : Term) (j : ℕ) (q : Polynomial) → only_place (bent_at (expanded e ∷ []) 0) j ≡ Some q
+    → polynomial_value q env ≡ at (value e env ∷ []) j
+value-only env e zero q h = value-bent_at (e ∷ []) env 0 q h
+value-only env e (suc j) q h = absurd (none_some h)
+  where
+    none_some : None ≡ Some q → ⊥
+    none_some k = cc
+
+-- a step by a cost rule is a point of the setting's cost rows
+cost-point : (p : Program) → IsValid p → (c : Config) (s : Step) (d : Config) → IsCostStep p c s d
+    → StepPoint (costs_of (setting_of p)) s.rule c s.free d
+cost-point p v c s d i =
+    let r : Rule = cost_rule i.rule i.cost in
+    let h = costs-are-points.steps p s.rule i.rule i.cost (entering_cost c) d s.free v i.numbered i.written i.leads in
+    let here : (P : Option Rule → Type 0) → P (Some r) → P (cost_rule_at p s.rule) =
+    λ P k. subst P (sym (ap cost_rule_in i.numbered ∙ ap (λ (o : Option Term). option_map (λ e. cost_rule i.rule e) o) i.written)) k in
+    let z : ℕ → ℤ = at (point_of r (c.values ++ s.free)) in record {
+      z = z;
+      point = here (λ o. IsPoint (rows_in o) z (pos 1)) h.point;
+      left = h.left;
+      news = here (λ o. (j : ℕ) → form_value (form_at (form_at (news_in o) 0 ∷ []) j) z (pos 1) ≡ at d.values j)
+          (λ j. ap (λ (fs : List Form). form_value (form_at fs j) z (pos 1)) (sym (only-new i.rule i.cost))
+          ∙ (value-form_at (news_in (Some r)) z j ∙ ap (λ (xs : List ℤ). at xs j) h.news));
+      bent = here (λ o. (j : ℕ) (x : Polynomial) → only_place (bent_at (polys_in o) 0) j ≡ Some x
+          → polynomial_value x (c.values ++ s.free) ≡ at d.values j)
+          (λ j x e. value-only (c.values ++ s.free) i.cost j x e ∙ ap (λ (xs : List ℤ). at xs j) (sym i.leads.values));
+    }
+
 -- so it says what is true
 pub settings-faithful : SettingsAreFaithful
 settings-faithful = record {
   each = λ p v. record {
     places = λ t r e. (valid-at p t r v e).left;
     steps = λ c s d i. step-point p v c s d i;
+    costs = λ c s d i. cost-point p v c s d i;
     values = λ b based m. (rewritten-value b based).each m;
     bases = λ b based. (rewritten-numbers b).bases 1 based;
     order = λ a b h k below m. (below-sound a b h k below).each m;

@@ -4,9 +4,8 @@ use Rattle.std.proofs.lemmas.Bool.{true≢false}
 use Rattle.guard_prep.specs.model.Bounds.{Bound}
 use Rattle.bound_table.specs.bound_expr.Measure.{is_large, capped_node_count}
 use Rattle.bound_table.specs.InForce.{rewritten}
-use Rattle.bound_table.specs.Within.{Answer, Fits, TooLarge, unless_large, rewritten_within}
+use Rattle.bound_table.specs.Within.{Answer, Fits, TooLarge, rewritten_within}
 use Rattle.proof_nodes.specs.Limits.{IsSmallComposed}
-use Rattle.proof_nodes.specs.Checks.{large_nodes}
 use Rattle.proof_setting.specs.Laws.{SmallBoundsAreRewritten}
 
 -- the same answers

@@ -15,8 +15,8 @@ use Rattle.proof_nodes.specs.Setting.{IsFaithful}
 use Rattle.proof_nodes.specs.Acceptance.{AcceptsLemmas, facts_of_lemmas}
 use Rattle.proof_setting.specs.Setting.{setting_of}
 
--- the setting of a valid program says what is true: each step is a point of its rule's rows, rewriting keeps values and
--- bases, and what is below has no greater value
+-- the setting of a valid program says what is true: each step is a point of its rule's rows, each step by a cost rule a
+-- point of the cost rows, rewriting keeps values and bases, and what is below has no greater value
 pub record SettingsAreFaithful : Type 0 where
   pub each : (p : Program) → IsValid p → IsFaithful (setting_of p)
 

@@ -5,7 +5,7 @@ use Rattle.guard_prep.specs.model.Programs.{MoreThan, Compare, Rule, Program}
 use Rattle.guard_prep.specs.linear_forms.Forms.{Form}
 use Rattle.proof_setting.specs.Setting.{setting_of}
 
--- k(A) -> k(A - 2) where 2 * A > 3, and k(A) -> k(A * A)
+-- k(A) -> k(A - 2) where 2 * A > 3, for a cost of 2 * A - 5; k(A) -> k(A * A), for a cost of A * A; and k(A) -> k(A)
 abbrev pub halving : Rule
 halving = record {
   source = 0;
@@ -15,6 +15,7 @@ halving = record {
   names = [];
   updates = Subtraction (Variable 0) (Literal (pos 2)) ∷ [];
   guard = Compare (Multiplication (Literal (pos 2)) (Variable 0)) MoreThan (Literal (pos 3)) ∷ [];
+  cost = Some (Subtraction (Multiplication (Literal (pos 2)) (Variable 0)) (Literal (pos 5)));
 }
 
 abbrev pub squaring : Rule
@@ -26,28 +27,52 @@ squaring = record {
   names = [];
   updates = Multiplication (Variable 0) (Variable 0) ∷ [];
   guard = [];
+  cost = Some (Multiplication (Variable 0) (Variable 0));
 }
 
-abbrev pub two_rules : Program
-two_rules = record {
+abbrev pub staying : Rule
+staying = record {
+  source = 0;
+  target = 0;
+  left = 1;
+  free = 0;
+  names = [];
+  updates = Variable 0 ∷ [];
+  guard = [];
+  cost = None;
+}
+
+abbrev pub three_rules : Program
+three_rules = record {
   symbols = record { name = 107 ∷ []; arity = 1 } ∷ [];
   start = 0;
   start_names = (65 ∷ []) ∷ [];
-  rules = halving ∷ squaring ∷ [];
+  rules = halving ∷ squaring ∷ staying ∷ [];
 }
 
 abbrev pub form : List ℤ → ℤ → Form
 form coefs constant = record { coefs = coefs; constant = constant }
 
 -- 2 * A > 3 is tightened to A - 2 >= 0; the new value of the first rule is A - 2, that of the second an unknown of its
--- own, of which the square is told; and there is no rule 0 and no rule 3
+-- own, of which the square is told; and there is no rule 0 and no rule 4. Of the first rule's cost 2 * A - 5 >= 0 is
+-- tightened to A - 3 >= 0, behind the row of its guard, and its value is 2 * A - 5; that of the second one is an unknown
+-- of its own, of which the square is told, and gives no row; the third rule has no cost
 pub record SettingsAreAsWorkedOut : Type 0 where
-  pub rows : (setting_of two_rules).rows 1 ≡ form (pos 1 ∷ []) (negsuc 1) ∷ []
-  pub news : (setting_of two_rules).news 1 ≡ form (pos 1 ∷ []) (negsuc 1) ∷ []
-  pub flat : (setting_of two_rules).poly 1 0 ≡ None
-  pub no_rows : (setting_of two_rules).rows 2 ≡ []
-  pub bent_news : (setting_of two_rules).news 2 ≡ form (pos 0 ∷ pos 1 ∷ []) (pos 0) ∷ []
-  pub bent : (setting_of two_rules).poly 2 0 ≡ Some (record { coef = pos 1; vars = 0 ∷ 0 ∷ [] } ∷ [])
-  pub past_the_places : (setting_of two_rules).poly 2 1 ≡ None
-  pub no_rule_0 : (setting_of two_rules).rows 0 ≡ []
-  pub no_rule_3 : (setting_of two_rules).news 3 ≡ []
+  pub rows : (setting_of three_rules).rows 1 ≡ form (pos 1 ∷ []) (negsuc 1) ∷ []
+  pub news : (setting_of three_rules).news 1 ≡ form (pos 1 ∷ []) (negsuc 1) ∷ []
+  pub flat : (setting_of three_rules).poly 1 0 ≡ None
+  pub no_rows : (setting_of three_rules).rows 2 ≡ []
+  pub bent_news : (setting_of three_rules).news 2 ≡ form (pos 0 ∷ pos 1 ∷ []) (pos 0) ∷ []
+  pub bent : (setting_of three_rules).poly 2 0 ≡ Some (record { coef = pos 1; vars = 0 ∷ 0 ∷ [] } ∷ [])
+  pub past_the_places : (setting_of three_rules).poly 2 1 ≡ None
+  pub no_rule_0 : (setting_of three_rules).rows 0 ≡ []
+  pub no_rule_4 : (setting_of three_rules).news 4 ≡ []
+  pub cost_rows :
+      (setting_of three_rules).cost_rows 1 ≡ form (pos 1 ∷ []) (negsuc 1) ∷ form (pos 1 ∷ []) (negsuc 2) ∷ []
+  pub cost_value : (setting_of three_rules).cost_value 1 ≡ form (pos 2 ∷ []) (negsuc 4)
+  pub flat_cost : (setting_of three_rules).cost_poly 1 ≡ None
+  pub no_cost_rows : (setting_of three_rules).cost_rows 2 ≡ []
+  pub bent_cost_value : (setting_of three_rules).cost_value 2 ≡ form (pos 0 ∷ pos 1 ∷ []) (pos 0)
+  pub bent_cost : (setting_of three_rules).cost_poly 2 ≡ Some (record { coef = pos 1; vars = 0 ∷ 0 ∷ [] } ∷ [])
+  pub without_cost : (setting_of three_rules).cost_rows 3 ≡ []
+  pub value_without_cost : (setting_of three_rules).cost_value 3 ≡ form [] (pos 0)

@@ -4,7 +4,7 @@ use Rattle.std.proofs.Common.{Some, None, refl, sym, ap, ◌∙◌}
 use Rattle.std.proofs.lemmas.List.{drop_more, drop_all}
 use Rattle.poly_terms.specs.model.Bounds as plain
 use Rattle.poly_terms.specs.model.Facts as facts
-use Rattle.poly_terms.specs.model.Facts.{Time, Size}
+use Rattle.poly_terms.specs.model.Facts.{Time, Size, Cost}
 use Rattle.proof_setting.specs.proof_nodes.Known.{time_in, size_in}
 use Rattle.proof_tree.specs.declared.fact.Fact.{Fact}
 use Rattle.proof_tree.specs.Views.{fact_of, facts_of}
@@ -28,6 +28,10 @@ time_here (Size u i c) fs t b h = absurd (no h)
   where
     no : Some b ≡ None → ⊥
     no k = cc
+time_here (Cost u c) fs t b h = absurd (no h)
+  where
+    no : Some b ≡ None → ⊥
+    no k = cc
 
 time_later : (f : facts.Fact) (fs : List facts.Fact) (t : ℕ) → None ≡ time_by_fact f t → time_in (f ∷ fs) t ≡ time_in fs t
 time_later (Time u c) fs t h = go (u == t) refl
@@ -39,6 +43,7 @@ time_later (Time u c) fs t h = go (u == t) refl
         no k = cc
     go false e = rw e refl
 time_later (Size u i c) fs t h = refl
+time_later (Cost u c) fs t h = refl
 
 -- the same of sizes
 size_here : (f : facts.Fact) (fs : List facts.Fact) (t i : ℕ) (b : plain.Bound) → Some b ≡ size_by_fact f t i → Some b ≡ size_in (f ∷ fs) t i
@@ -54,6 +59,10 @@ size_here (Time u c) fs t i b h = absurd (no h)
   where
     no : Some b ≡ None → ⊥
     no k = cc
+size_here (Cost u c) fs t i b h = absurd (no h)
+  where
+    no : Some b ≡ None → ⊥
+    no k = cc
 
 size_later : (f : facts.Fact) (fs : List facts.Fact) (t i : ℕ) → None ≡ size_by_fact f t i → size_in (f ∷ fs) t i ≡ size_in fs t i
 size_later (Size u j c) fs t i h = go ((u == t) && (j == i)) refl
@@ -65,6 +74,7 @@ size_later (Size u j c) fs t i h = go ((u == t) && (j == i)) refl
         no k = cc
     go false e = rw e refl
 size_later (Time u c) fs t i h = refl
+size_later (Cost u c) fs t i h = refl
 
 module _ (fs : List Fact) (i : ℕ) (t : ℕ) where
   -- a loop over facts for a time: it is found, passed, or there is none

@@ -5,7 +5,7 @@ use Rattle.bound_expr.specs.Views.{bound_of}
 use Rattle.proof_setting.specs.proof_nodes.Nodes as nodes
 use Rattle.proof_setting.specs.proof_nodes.Nodes.{NoProof, AndProof}
 use Rattle.proof_tree.specs.declared.fact.Fact.{Fact}
-use Rattle.proof_tree.specs.declared.fact.Fact.TheVariants.{Time, Size}
+use Rattle.proof_tree.specs.declared.fact.Fact.TheVariants.{Time, Size, Cost}
 use Rattle.proof_tree.specs.declared.arm.Spot.{Spot}
 use Rattle.proof_tree.specs.declared.arm.Arm.{Arm}
 use Rattle.proof_tree.specs.declared.arm.Arm.TheVariants as arms
@@ -15,14 +15,17 @@ use Rattle.proof_tree.specs.declared.rank.Form.{Form}
 use Rattle.proof_tree.specs.declared.rank.RankNode.{RankNode}
 use Rattle.proof_tree.specs.declared.proof.Proof.{Proof}
 use Rattle.proof_tree.specs.declared.proof.EmptyNode.{EmptyNode}
+use Rattle.proof_tree.specs.declared.proof.CostBy.{CostBy}
+use Rattle.proof_tree.specs.declared.proof.CostBy.TheVariants as costs
 use Rattle.proof_tree.specs.declared.proof.Proof.TheOpen.{Proof-F, UnreachedNode-F, SpreadNode-F, CycleNode-F}
-use Rattle.proof_tree.specs.declared.proof.Proof.TheOpen.{RankNode-F}
+use Rattle.proof_tree.specs.declared.proof.Proof.TheOpen.{RankNode-F, CostNode-F}
 use Rattle.proof_tree.specs.declared.proof.Proof.TheFolds.{fold-Proof}
 
 -- a fact as plain data
 abbrev pub fact_of : Fact → facts.Fact
 fact_of (Time t b) = facts.Time t (bound_of b)
 fact_of (Size t i b) = facts.Size t i (bound_of b)
+fact_of (Cost t b) = facts.Cost t (bound_of b)
 
 -- facts as plain data
 abbrev pub facts_of : List Fact → List facts.Fact
@@ -70,8 +73,14 @@ uses_of (p ∷ ps) = AndProof p (uses_of ps)
 abbrev pub empty_of : EmptyNode → nodes.Proof
 empty_of n = nodes.Empty n.rule n.multipliers.items
 
+-- how a cost is shown as plain data
+abbrev pub cost_by_of : CostBy → nodes.CostBy
+cost_by_of (costs.Empty multipliers) = nodes.EmptyCost multipliers.items
+cost_by_of costs.Never = nodes.NeverCost
+cost_by_of (costs.Arm arm) = nodes.ArmCost (arm_of arm)
+
 -- one layer of each type, with the plain proof of each child in its place
-abbrev pub proof_step : Proof-F nodes.Proof nodes.Proof nodes.Proof nodes.Proof nodes.Proof → nodes.Proof
+abbrev pub proof_step : Proof-F nodes.Proof nodes.Proof nodes.Proof nodes.Proof nodes.Proof nodes.Proof → nodes.Proof
 proof_step (Proof-F.Cite n) = nodes.Cite n
 proof_step Proof-F.Start = nodes.Start
 proof_step (Proof-F.Empty n) = empty_of n.value
@@ -81,17 +90,21 @@ proof_step (Proof-F.Rank n) = n.value
 proof_step (Proof-F.Spread n) = n.value
 proof_step (Proof-F.Cycle n) = n.value
 proof_step (Proof-F.Weaken child b) = nodes.Weaken child.value (bound_of b)
+proof_step (Proof-F.Cost n) = n.value
 
-abbrev pub unreached_step : UnreachedNode-F nodes.Proof nodes.Proof nodes.Proof nodes.Proof nodes.Proof → nodes.Proof
+abbrev pub unreached_step : UnreachedNode-F nodes.Proof nodes.Proof nodes.Proof nodes.Proof nodes.Proof nodes.Proof
+    → nodes.Proof
 unreached_step n = nodes.Unreached n.rule (uses_of n.uses.items)
 
-abbrev pub spread_step : SpreadNode-F nodes.Proof nodes.Proof nodes.Proof nodes.Proof nodes.Proof → nodes.Proof
+abbrev pub spread_step : SpreadNode-F nodes.Proof nodes.Proof nodes.Proof nodes.Proof nodes.Proof nodes.Proof
+    → nodes.Proof
 spread_step n = nodes.Spread (record { spot = spot_of n.spot; local = local_of n.local }) (uses_of n.uses.items)
 
-abbrev pub cycle_step : CycleNode-F nodes.Proof nodes.Proof nodes.Proof nodes.Proof nodes.Proof → nodes.Proof
+abbrev pub cycle_step : CycleNode-F nodes.Proof nodes.Proof nodes.Proof nodes.Proof nodes.Proof nodes.Proof
+    → nodes.Proof
 cycle_step n = nodes.Cycle (map member_of n.members.items) (uses_of n.uses.items)
 
-abbrev pub rank_step : RankNode-F nodes.Proof nodes.Proof nodes.Proof nodes.Proof nodes.Proof → nodes.Proof
+abbrev pub rank_step : RankNode-F nodes.Proof nodes.Proof nodes.Proof nodes.Proof nodes.Proof nodes.Proof → nodes.Proof
 rank_step n = nodes.Rank (record {
   rule = n.rule;
   set = n.set.items;
@@ -101,7 +114,10 @@ rank_step n = nodes.Rank (record {
   floor = n.floor.items;
 }) (uses_of n.uses.items)
 
+abbrev pub cost_step : CostNode-F nodes.Proof nodes.Proof nodes.Proof nodes.Proof nodes.Proof nodes.Proof → nodes.Proof
+cost_step n = nodes.Charge (record { rule = n.rule; by = cost_by_of n.by }) (uses_of n.uses.items)
+
 -- a proof as plain data
 abbrev pub proof_of : Proof → nodes.Proof
-proof_of = fold-Proof nodes.Proof nodes.Proof nodes.Proof nodes.Proof nodes.Proof proof_step cycle_step spread_step
-    unreached_step rank_step
+proof_of = fold-Proof nodes.Proof nodes.Proof nodes.Proof nodes.Proof nodes.Proof nodes.Proof proof_step cost_step
+    cycle_step spread_step unreached_step rank_step

@@ -33,7 +33,7 @@ pub enum EmptyAnswer {
     Tripped(Trip),
 }
 
-/// Why a node is not accepted.
+/// Why a node is not accepted; place 0 stands for the cost of the rule.
 #[derive(Clone, Copy, Debug, PartialEq, Eq, Hash)]
 pub enum Reason {
     Shape,

@@ -31,7 +31,7 @@ pub use known::{Known, Stated};
 pub use linear_forms::TripCause;
 pub use lookup::{size_in, time_in};
 pub use places::{has_spot, known_or_zero, rounded_coefficient};
-pub use proof::{CycleNode, EmptyNode, Proof, SpreadNode, UnreachedNode, cite};
+pub use proof::{CostBy, CostNode, CycleNode, EmptyNode, Proof, SpreadNode, UnreachedNode, cite};
 pub use rank::{Form, RankNode};
 pub use ranking::{rank_form, rank_time};
 pub use reading::{bent_update, places_read};

@@ -39,6 +39,7 @@ fn time_by(fact: &Fact, of_rule: u32) -> Option<&Bound>
     match fact {
         Fact::Time { rule, bound } => if *rule == of_rule { Some(bound) } else { None },
         Fact::Size { .. } => None,
+        Fact::Cost { .. } => None,
     }
 }
 
@@ -53,5 +54,6 @@ fn size_by(fact: &Fact, of_rule: u32, of_place: u32) -> Option<&Bound>
         } else {
             None
         },
+        Fact::Cost { .. } => None,
     }
 }

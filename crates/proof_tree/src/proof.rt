@@ -4,7 +4,7 @@ ghost use Rattle.std.specs.Prelude.{◌≡◌};
 ghost use Rattle.proof_setting.specs.proof_nodes.Nodes.{Cite};
 ghost use Rattle.proof_tree.specs.Views.{proof_of};
 
-use crate::arm::{LocalBound, Member, Spot};
+use crate::arm::{Arm, LocalBound, Member, Spot};
 use crate::rank::RankNode;
 use bound_expr::Bound;
 
@@ -30,6 +30,8 @@ pub enum Proof {
     Cycle(Box<CycleNode>),
     /// A fact with a bound that is not below its own.
     Weaken(Box<Proof>, Bound),
+    /// What the steps by a rule cost together.
+    Cost(Box<CostNode>),
 }
 
 /// A rule whose rows, each times its multiplier, add up to -1.
@@ -62,6 +64,26 @@ pub struct SpreadNode {
 pub struct CycleNode {
     pub members: Vec<Member>,
     pub uses: Vec<Proof>,
+}
+
+/// A rule with a cost, how the cost is shown, and what its time and its sizes before rest on.
+#[derive(Debug, PartialEq, Eq, Drop)]
+#[cycle(proof)]
+pub struct CostNode {
+    pub rule: u32,
+    pub by: CostBy,
+    pub uses: Vec<Proof>,
+}
+
+/// How the cost of a rule is shown. The cost rows are those of its guard and of the atom that its cost is at least 0.
+#[derive(Debug, PartialEq, Eq, Drop)]
+pub enum CostBy {
+    /// The cost rows, each times its multiplier, add up to -1, so that no step costs anything.
+    Empty(Vec<u64>),
+    /// The rule never runs.
+    Never,
+    /// The cost is at most an arm over the cost rows.
+    Arm(Arm),
 }
 
 /// An earlier lemma as a node.

@@ -6,7 +6,8 @@ ghost use Rattle.poly_terms.specs.model.Paths.{target_of as target_of_rule};
 ghost use Rattle.bound_expr.specs.Views.{bound_of, bounds_of, parts_of};
 ghost use Rattle.bound_table.specs.Within.{answer_of, rewritten_within};
 ghost use Rattle.its_model.specs.Views.{program_of};
-ghost use Rattle.proof_setting.specs.proof_nodes.Composed.{rank_form as rank_form_of, both_parts, parts_for, entry_bound, time_of};
+ghost use Rattle.proof_setting.specs.proof_nodes.Composed.{rank_form as rank_form_of, both_parts, parts_for};
+ghost use Rattle.proof_setting.specs.proof_nodes.Composed.{entry_bound, time_of};
 ghost use Rattle.proof_tree.specs.Views.{form_of, rank_of};
 ghost use Rattle.proof_tree.specs.Sizes.{form_found, IsShort};
 

@@ -13,7 +13,8 @@ use Rattle.simplex_core.specs.linear_forms.Certificates.{Implies}
 use Rattle.simplex_core.specs.linear_forms.Limits.{certificate_limit}
 use Rattle.simplex_core.specs.linear_forms.Questions.{double}
 use Rattle.simplex_core.specs.linear_forms.QuestionLaws.{after, parameters_of}
-use Rattle.simplex_core.specs.linear_forms.RuleQuestions.{RankedSet, constant_form, has_symbol, symbols_of_set, rank_question}
+use Rattle.simplex_core.specs.linear_forms.RuleQuestions.{RankedSet, constant_form, has_symbol, symbols_of_set}
+use Rattle.simplex_core.specs.linear_forms.RuleQuestions.{rank_question}
 use Rattle.simplex_core.proofs.linear_forms.ListLaws.{length-listed, after-is, All-front, All-behind}
 use Rattle.simplex_core.proofs.linear_forms.SolutionLaws.{All-listed}
 use Rattle.proof_tree.specs.rule_forms.Ranking.{Function}

@@ -7,7 +7,8 @@ use Rattle.std.specs.List.{All, list_any, range_with_len}
 use Rattle.std.proofs.lemmas.Bool.Decides.{eqb_tells}
 use Rattle.std.proofs.lemmas.List.Elements.{All-nil, All-cons, All-head, All-tail, All-weaker, All-append, All-filter}
 use Rattle.std.proofs.lemmas.List.Elements.{All-map}
-use Rattle.simplex_core.specs.linear_forms.RuleQuestions.{RankedSet, Coefficient, has_symbol, symbols_of_set, open_places}
+use Rattle.simplex_core.specs.linear_forms.RuleQuestions.{RankedSet, Coefficient, has_symbol, symbols_of_set}
+use Rattle.simplex_core.specs.linear_forms.RuleQuestions.{open_places}
 use Rattle.simplex_core.specs.linear_forms.RuleQuestions.{coefficients}
 use Rattle.simplex_core.proofs.linear_forms.ColumnLaws.{get_or-map}
 use Rattle.simplex_core.proofs.linear_forms.SolutionLaws.{length-map}

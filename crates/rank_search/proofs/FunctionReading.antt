@@ -9,7 +9,8 @@ use Rattle.std.proofs.lemmas.Bool.{eq-eqb}
 use Rattle.std.proofs.lemmas.List.{drop_more, drop_all}
 use Rattle.std.proofs.lemmas.List.Elements.{All-nil, All-cons, All-head, All-tail, All-filter}
 use Rattle.simplex_core.specs.linear_forms.Questions.{listed}
-use Rattle.simplex_core.specs.linear_forms.RuleQuestions.{RankedSet, Coefficient, coefficients, has_symbol, symbols_of_set}
+use Rattle.simplex_core.specs.linear_forms.RuleQuestions.{RankedSet, Coefficient, coefficients, has_symbol}
+use Rattle.simplex_core.specs.linear_forms.RuleQuestions.{symbols_of_set}
 use Rattle.simplex_core.proofs.linear_forms.SolutionLaws.{length-map}
 use Rattle.proof_tree.specs.rule_forms.RankLaws.{coefficient, function_of}
 use Rattle.proof_tree.proofs.rule_forms.Losses.{share, share-other, share-own}

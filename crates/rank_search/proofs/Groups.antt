@@ -9,7 +9,8 @@ use Rattle.std.proofs.lemmas.Option.{slice_get-map}
 use Rattle.simplex_core.specs.linear_forms.Forms.{Form}
 use Rattle.simplex_core.specs.linear_forms.Questions.{Group, listed, group_columns}
 use Rattle.simplex_core.specs.linear_forms.QuestionLaws.{after, multipliers_of, multipliers_by_group}
-use Rattle.simplex_core.specs.linear_forms.RuleQuestions.{RankedSet, symbols_of_set, coefficients, move_group, floor_group}
+use Rattle.simplex_core.specs.linear_forms.RuleQuestions.{RankedSet, symbols_of_set, coefficients, move_group}
+use Rattle.simplex_core.specs.linear_forms.RuleQuestions.{floor_group}
 use Rattle.simplex_core.specs.linear_forms.RuleQuestions.{rank_question}
 use Rattle.simplex_core.proofs.linear_forms.ListLaws.{after-add, after-is, length-listed}
 use Rattle.poly_terms.specs.model.Programs.{Program, Rule}

@@ -8,7 +8,8 @@ use Rattle.simplex_core.specs.linear_forms.Causes.{Cause, cause_of}
 use Rattle.simplex_core.specs.linear_forms.Forms.{at}
 use Rattle.simplex_core.specs.linear_forms.Questions.{double, group_columns, program_of_question}
 use Rattle.simplex_core.specs.linear_forms.QuestionLaws.{after, parameters_of, multipliers_by_group}
-use Rattle.simplex_core.specs.linear_forms.RuleQuestions.{RankedSet, Coefficient, symbols_of_set, coefficients, rank_question}
+use Rattle.simplex_core.specs.linear_forms.RuleQuestions.{RankedSet, Coefficient, symbols_of_set, coefficients}
+use Rattle.simplex_core.specs.linear_forms.RuleQuestions.{rank_question}
 use Rattle.simplex_core.proofs.linear_forms.ElementLaws.{program-columns}
 use Rattle.simplex_core.proofs.linear_forms.SolutionLaws.{length-map}
 use Rattle.poly_terms.specs.model.Programs.{Program, arity_of}

@@ -9,7 +9,8 @@ use Rattle.simplex_core.specs.linear_forms.Certificates.{minus_one}
 use Rattle.simplex_core.specs.linear_forms.Combinations.{zero_form}
 use Rattle.simplex_core.specs.linear_forms.ProgramLaws.{Agree}
 use Rattle.simplex_core.specs.linear_forms.Questions.{Group, Question, IsGroupShaped, program_of_question}
-use Rattle.simplex_core.specs.linear_forms.RuleQuestions.{RuleForms, RankedSet, Coefficient, symbols_of_set, coefficients}
+use Rattle.simplex_core.specs.linear_forms.RuleQuestions.{RuleForms, RankedSet, Coefficient, symbols_of_set}
+use Rattle.simplex_core.specs.linear_forms.RuleQuestions.{coefficients}
 use Rattle.simplex_core.specs.linear_forms.RuleQuestions.{move_group, floor_group, size_at, height_at, rank_question}
 use Rattle.simplex_core.proofs.linear_forms.ColumnLaws.{get_or-map}
 use Rattle.simplex_core.proofs.linear_forms.ListLaws.{All-front, All-behind}

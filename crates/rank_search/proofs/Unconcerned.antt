@@ -2,7 +2,8 @@
 use Rattle.std.proofs.Common.{◌≡◌, refl, Bool, true, false, ◌||◌, nat_eq, if◌then◌else◌}
 use Rattle.std.proofs.lemmas.Bool.{true≢false}
 use Rattle.simplex_core.specs.linear_forms.Combinations.{form_sum, zero_form}
-use Rattle.simplex_core.specs.linear_forms.RuleQuestions.{RuleForms, Coefficient, opposite, before_rule, after_rule, at_source}
+use Rattle.simplex_core.specs.linear_forms.RuleQuestions.{RuleForms, Coefficient, opposite, before_rule, after_rule}
+use Rattle.simplex_core.specs.linear_forms.RuleQuestions.{at_source}
 use Rattle.simplex_core.specs.linear_forms.RuleQuestions.{at_target}
 use Rattle.rank_search.specs.declared.goals.Part.{Part}
 use Rattle.rank_search.specs.declared.goals.Part.TheVariants.{Move, Fall, Floor}

@@ -7,6 +7,7 @@ mod beginnings;
 mod changed;
 mod guards;
 mod outcomes;
+mod runs;
 mod writing;
 
 use std::io;

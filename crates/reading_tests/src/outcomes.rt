@@ -48,7 +48,8 @@ fn push_program(out: &mut Vec<u8>, p: &Program) -> Result<(), Memory> {
     Ok(())
 }
 
-// A rule: from where to where, how many left and free variables there are, their names, the updates, the guard.
+// A rule: from where to where, how many left and free variables there are, their names, the updates, the guard, and
+// the cost where there is one.
 fn push_rule(out: &mut Vec<u8>, rule: &Rule) -> Result<(), Memory> {
     out.extend_from_slice(b" | ")?;
     push_number(out, rule.source as i128)?;
@@ -66,7 +67,17 @@ fn push_rule(out: &mut Vec<u8>, rule: &Rule) -> Result<(), Memory> {
     for atom in &rule.guard {
         push_atom(out, atom)?;
     }
-    Ok(())
+    push_cost(out, &rule.cost)
+}
+
+fn push_cost(out: &mut Vec<u8>, cost: &Option<Expr>) -> Result<(), Memory> {
+    match cost {
+        Some(cost) => {
+            out.extend_from_slice(b" $ ")?;
+            push_expr(out, cost)
+        }
+        None => Ok(()),
+    }
 }
 
 fn push_atom(out: &mut Vec<u8>, atom: &Atom) -> Result<(), Memory> {

@@ -25,6 +25,7 @@ told = record {
         few_atoms = omega arith;
         updates = (record { variables = omega arith; expands = refl }, tt);
         guard = tt;
+        cost = tt;
       },
       tt,
     );

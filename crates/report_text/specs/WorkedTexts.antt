@@ -25,6 +25,7 @@ leading_to n = record {
     names = codes "unknown" ∷ [];
     updates = replicate n (Variable 0);
     guard = [];
+    cost = None;
   } ∷ [];
 }
 

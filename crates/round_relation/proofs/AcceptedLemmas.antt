@@ -7,14 +7,15 @@ use Rattle.std.proofs.lemmas.List.{append-nil}
 use Rattle.std.proofs.lemmas.List.Elements.{All-weaker}
 use Rattle.rule_questions.specs.model.Programs.{Rule, rule_at}
 use Rattle.rule_questions.specs.model.Bounds.{Bound, Constant}
-use Rattle.rule_questions.specs.model.Facts.{Fact, Time, Size}
+use Rattle.rule_questions.specs.model.Facts.{Fact, Time, Size, Cost}
 use Rattle.rule_questions.specs.model.Entries.{is_in}
 use Rattle.rule_questions.proofs.model.Membership.{is_in-filter, filter-in}
 use Rattle.rule_questions.specs.proof_nodes.Nodes.{Proof}
 use Rattle.rule_questions.specs.proof_nodes.Known.{Table}
 use Rattle.rule_questions.specs.proof_nodes.Setting.{Setting}
 use Rattle.rule_questions.specs.proof_nodes.AcceptsPlain.{IsRule}
-use Rattle.rule_questions.specs.proof_nodes.Acceptance.{facts_of_lemma, AcceptsFrom, facts_from, AcceptsLemmas, facts_of_lemmas}
+use Rattle.rule_questions.specs.proof_nodes.Acceptance.{facts_of_lemma, AcceptsFrom, facts_from, AcceptsLemmas}
+use Rattle.rule_questions.specs.proof_nodes.Acceptance.{facts_of_lemmas}
 use Rattle.round_relation.specs.Tables.{rule_numbers, IsPlace, KnowsStart, IsTableOf}
 use Rattle.round_relation.specs.Searches.{Searches, searches_of}
 use Rattle.round_relation.specs.Beginning.{IsDead}
@@ -57,6 +58,7 @@ pub record Stands (s : Setting) (tab : Table) (proofs : List Proof) : Type 0 whe
 pub kept_of : (old new : Table) → Keeps old new → (f : Fact) → IsFactOf old f → IsFactOf new f
 kept_of old new keeps (Time t b) h = keeps.times t b h
 kept_of old new keeps (Size t i b) h = keeps.sizes t i b h
+kept_of old new keeps (Cost t b) h = absurd h
 
 -- lemmas that state bounds of a table alone state bounds of any that keeps what it knows
 pub are_kept : (old new : Table) → Keeps old new → (past : List (List Fact)) → All (AreFactsOf old) past

@@ -11,7 +11,8 @@ use Rattle.rule_questions.specs.model.Paths.{Here, Onward, HasPath, target_of}
 use Rattle.rule_questions.specs.model.Entries.{is_in}
 use Rattle.rule_questions.specs.proof_nodes.Known.{Table, has_zero_time}
 use Rattle.rule_questions.specs.proof_nodes.Setting.{Setting, IsFaithful}
-use Rattle.rule_questions.specs.proof_nodes.AcceptsPlain.{IsRule, IsUnreached, may_run, places_at, zero_sizes, start_sizes}
+use Rattle.rule_questions.specs.proof_nodes.AcceptsPlain.{IsRule, IsUnreached, may_run, places_at, zero_sizes}
+use Rattle.rule_questions.specs.proof_nodes.AcceptsPlain.{start_sizes}
 use Rattle.rule_questions.proofs.model.Membership.{is_in-cases, no_is_not_yes, slice_get-below}
 use Rattle.rule_questions.proofs.proof_nodes.GoodFacts.{IsGood, IsGoodTable}
 use Rattle.rule_questions.proofs.proof_nodes.UnusedRules.{empty-good, unreached-good, never-good}

@@ -6,8 +6,10 @@ use Rattle.std.proofs.lemmas.Bool.{and_parts, or_left, or_right}
 use Rattle.std.proofs.lemmas.List.Sums.{count_by-le-length}
 use Rattle.rule_questions.specs.model.Programs.{Program, rule_at}
 use Rattle.rule_questions.specs.model.Entries.{is_in}
-use Rattle.rule_questions.specs.model.Paths.{Here, Onward, HasEdge, HasPath, source_of, target_of, source_in, target_in, same_symbol}
-use Rattle.rule_questions.proofs.model.Membership.{same_number, told_same, no_is_not_yes, is_in-cases, list_any-from, list_any-told}
+use Rattle.rule_questions.specs.model.Paths.{Here, Onward, HasEdge, HasPath, source_of, target_of, source_in, target_in}
+use Rattle.rule_questions.specs.model.Paths.{same_symbol}
+use Rattle.rule_questions.proofs.model.Membership.{same_number, told_same, no_is_not_yes, is_in-cases, list_any-from}
+use Rattle.rule_questions.proofs.model.Membership.{list_any-told}
 use Rattle.round_relation.specs.Tables.{rule_numbers}
 use Rattle.round_relation.proofs.Cases.{either, told, counts-first}
 use Rattle.round_relation.proofs.Numbered.{rule_in}

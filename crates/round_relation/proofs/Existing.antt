@@ -6,8 +6,10 @@ use Rattle.std.specs.List.{list_any, range_with_len, Contains}
 use Rattle.std.proofs.lemmas.Bool.{and_parts, or_left, or_right}
 use Rattle.rule_questions.specs.model.Programs.{Program, Symbol, arity_of}
 use Rattle.rule_questions.specs.model.Entries.{is_in, entries}
-use Rattle.rule_questions.specs.model.Paths.{HasPath, LeadsBackTo, IsInSet, source_of, target_of, source_in, same_symbol}
-use Rattle.rule_questions.proofs.model.Membership.{same_number, told_same, no_is_not_yes, is_in-cases, is_in-filter, filter-in}
+use Rattle.rule_questions.specs.model.Paths.{HasPath, LeadsBackTo, IsInSet, source_of, target_of, source_in}
+use Rattle.rule_questions.specs.model.Paths.{same_symbol}
+use Rattle.rule_questions.proofs.model.Membership.{same_number, told_same, no_is_not_yes, is_in-cases, is_in-filter}
+use Rattle.rule_questions.proofs.model.Membership.{filter-in}
 use Rattle.rule_questions.proofs.model.Membership.{list_any-from, list_any-told, is_in-numbers}
 use Rattle.rule_questions.proofs.model.Membership.{slice_get-below}
 use Rattle.rule_questions.specs.proof_nodes.Gaps.{SymbolPlace}

@@ -5,7 +5,7 @@ use Rattle.std.specs.List.{Contains}
 use Rattle.std.proofs.lemmas.Bool.{and_parts}
 use Rattle.std.proofs.lemmas.List.Elements.{All-nil, All-head, All-tail}
 use Rattle.rule_questions.specs.model.Bounds.{Bound}
-use Rattle.rule_questions.specs.model.Facts.{Fact, Time, Size}
+use Rattle.rule_questions.specs.model.Facts.{Fact, Time, Size, Cost}
 use Rattle.rule_questions.proofs.model.Membership.{same_number, told_same, no_is_not_yes}
 use Rattle.rule_questions.specs.proof_nodes.Known.{Table, time_in, size_in}
 use Rattle.rule_questions.specs.proof_nodes.Acceptance.{facts_of_lemma}
@@ -55,6 +55,7 @@ time_from : (tab : Table) (facts : List Fact) → AreFactsOf tab facts → (t : 
 time_from tab [] are t b h = absurd (none_some b h)
 time_from tab (Size u i c ∷ facts) are t b h =
     time_from tab facts (All-tail (IsFactOf tab) (Size u i c) facts are) t b h
+time_from tab (Cost u c ∷ facts) are t b h = absurd (All-head (IsFactOf tab) (Cost u c) facts are)
 time_from tab (Time u c ∷ facts) are t b h =
     go (u == t) refl (All-head (IsFactOf tab) (Time u c) facts are)
     (λ k. time_from tab facts (All-tail (IsFactOf tab) (Time u c) facts are) t b k)
@@ -72,6 +73,7 @@ size_from : (tab : Table) (facts : List Fact) → AreFactsOf tab facts → (t i 
 size_from tab [] are t i b h = absurd (none_some b h)
 size_from tab (Time u c ∷ facts) are t i b h =
     size_from tab facts (All-tail (IsFactOf tab) (Time u c) facts are) t i b h
+size_from tab (Cost u c ∷ facts) are t i b h = absurd (All-head (IsFactOf tab) (Cost u c) facts are)
 size_from tab (Size u j c ∷ facts) are t i b h =
     go ((u == t) && (j == i)) refl (All-head (IsFactOf tab) (Size u j c) facts are)
     (λ k. size_from tab facts (All-tail (IsFactOf tab) (Size u j c) facts are) t i b k)
@@ -96,6 +98,16 @@ time_found (Size u i c ∷ facts) t b h = go (contains-cases (Time t b) (Size u 
     other e = cc
 
     go : (Size u i c ≡ Time t b) ⊎ Contains facts (Time t b) →
+        (Contains facts (Time t b) → (d : Bound) × (time_in facts t ≡ Some d))
+        → (d : Bound) × (time_in facts t ≡ Some d)
+    go (inl e) ih = absurd (other e)
+    go (inr m) ih = ih m
+time_found (Cost u c ∷ facts) t b h = go (contains-cases (Time t b) (Cost u c) facts h) (time_found facts t b)
+  where
+    other : Cost u c ≡ Time t b → ⊥
+    other e = cc
+
+    go : (Cost u c ≡ Time t b) ⊎ Contains facts (Time t b) →
         (Contains facts (Time t b) → (d : Bound) × (time_in facts t ≡ Some d))
         → (d : Bound) × (time_in facts t ≡ Some d)
     go (inl e) ih = absurd (other e)
@@ -128,6 +140,16 @@ size_found (Time u c ∷ facts) t i b h = go (contains-cases (Size t i b) (Time 
     other e = cc
 
     go : (Time u c ≡ Size t i b) ⊎ Contains facts (Size t i b) →
+        (Contains facts (Size t i b) → (d : Bound) × (size_in facts t i ≡ Some d))
+        → (d : Bound) × (size_in facts t i ≡ Some d)
+    go (inl e) ih = absurd (other e)
+    go (inr m) ih = ih m
+size_found (Cost u c ∷ facts) t i b h = go (contains-cases (Size t i b) (Cost u c) facts h) (size_found facts t i b)
+  where
+    other : Cost u c ≡ Size t i b → ⊥
+    other e = cc
+
+    go : (Cost u c ≡ Size t i b) ⊎ Contains facts (Size t i b) →
         (Contains facts (Size t i b) → (d : Bound) × (size_in facts t i ≡ Some d))
         → (d : Bound) × (size_in facts t i ≡ Some d)
     go (inl e) ih = absurd (other e)

@@ -8,14 +8,15 @@ use Rattle.std.proofs.lemmas.List.Elements.{All-nil, All-cons, All-push}
 use Rattle.std.proofs.lemmas.List.FromFn.{length-range_with_len, get_or-range_with_len}
 use Rattle.rule_questions.specs.model.Programs.{Program, Rule, rule_at}
 use Rattle.rule_questions.specs.model.Bounds.{Bound, Constant}
-use Rattle.rule_questions.specs.model.Facts.{Fact, Time, Size}
+use Rattle.rule_questions.specs.model.Facts.{Fact, Time, Size, Cost}
 use Rattle.rule_questions.specs.model.Entries.{is_in}
 use Rattle.rule_questions.specs.model.Paths.{Here, Onward, HasPath, target_of}
 use Rattle.rule_questions.proofs.model.Membership.{same_number, is_in-cases, contains-is_in, no_is_not_yes}
 use Rattle.rule_questions.specs.proof_nodes.Nodes.{Proof}
 use Rattle.rule_questions.specs.proof_nodes.Known.{Table, is_zero_bound, has_zero_time}
 use Rattle.rule_questions.specs.proof_nodes.Setting.{Setting}
-use Rattle.rule_questions.specs.proof_nodes.AcceptsPlain.{IsRule, IsUnreached, AcceptsNever, may_run, zero_sizes, places_at}
+use Rattle.rule_questions.specs.proof_nodes.AcceptsPlain.{IsRule, IsUnreached, AcceptsNever, may_run, zero_sizes}
+use Rattle.rule_questions.specs.proof_nodes.AcceptsPlain.{places_at}
 use Rattle.rule_questions.specs.proof_nodes.AcceptsPlain.{never_facts}
 use Rattle.rule_questions.specs.proof_nodes.Acceptance.{facts_of, facts_of_lemma, joined_facts, AcceptsFrom, facts_from}
 use Rattle.round_relation.specs.Searches.{Searches, NoPoint}
@@ -132,6 +133,7 @@ never_no_time p [] = nothing_no_time
 never_no_time p (Time t b ∷ []) = sizes_no_time t (places_at p (target_of p t))
 never_no_time p (Time t b ∷ f ∷ facts) = nothing_no_time
 never_no_time p (Size t i b ∷ facts) = nothing_no_time
+never_no_time p (Cost t b ∷ facts) = nothing_no_time
 
 -- a time of 0 that is stated says that the rule never runs
 zero_said : (facts : List Fact) (t : ℕ) → Contains facts (Time t (Constant 0)) → has_zero_time facts t ≡ true
@@ -142,6 +144,15 @@ zero_said (Size u i b ∷ facts) t c = go (contains-cases (Time t (Constant 0)) 
     other e = cc
 
     go : (Size u i b ≡ Time t (Constant 0)) ⊎ Contains facts (Time t (Constant 0))
+        → (Contains facts (Time t (Constant 0)) → has_zero_time facts t ≡ true) → has_zero_time facts t ≡ true
+    go (inl e) ih = absurd (other e)
+    go (inr m) ih = ih m
+zero_said (Cost u b ∷ facts) t c = go (contains-cases (Time t (Constant 0)) (Cost u b) facts c) (zero_said facts t)
+  where
+    other : Cost u b ≡ Time t (Constant 0) → ⊥
+    other e = cc
+
+    go : (Cost u b ≡ Time t (Constant 0)) ⊎ Contains facts (Time t (Constant 0))
         → (Contains facts (Time t (Constant 0)) → has_zero_time facts t ≡ true) → has_zero_time facts t ≡ true
     go (inl e) ih = absurd (other e)
     go (inr m) ih = ih m

@@ -15,7 +15,8 @@ use Rattle.rule_questions.specs.rule_forms.Bounds.{height}
 use Rattle.rule_questions.specs.proof_nodes.Nodes.{RankNode}
 use Rattle.rule_questions.specs.proof_nodes.Numbers.{rounded_up}
 use Rattle.rule_questions.specs.proof_nodes.Known.{Table, IsKnown, known}
-use Rattle.rule_questions.specs.proof_nodes.Composed.{both_parts, parts_for, place_parts, no_place, rank_form, entry_bound, time_of}
+use Rattle.rule_questions.specs.proof_nodes.Composed.{both_parts, parts_for, place_parts, no_place, rank_form}
+use Rattle.rule_questions.specs.proof_nodes.Composed.{entry_bound, time_of}
 use Rattle.rule_questions.specs.proof_nodes.Composed.{sizes_after}
 use Rattle.round_relation.proofs.Cases.{either, told}
 use Rattle.round_relation.specs.Uses.{Need, NeedsTime, NeedsSize, read_places, entry_needs, needs_of_all, rank_needs}

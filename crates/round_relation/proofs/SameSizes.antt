@@ -18,13 +18,18 @@ use Rattle.rule_questions.specs.proof_nodes.Known.{Table, IsKnown, known}
 use Rattle.rule_questions.specs.proof_nodes.Setting.{Setting}
 use Rattle.rule_questions.specs.proof_nodes.Limits.{IsSmallComposed}
 use Rattle.rule_questions.specs.proof_nodes.Composed.{both_parts, no_place, rest_bound, sizes_after}
-use Rattle.rule_questions.specs.proof_nodes.ComposedSizes.{monomial_bound, monomial_parts, polynomial_bound, arm_bound, has_variable}
-use Rattle.rule_questions.specs.proof_nodes.ComposedSizes.{reads, poly_at, spread_part, is_member, slope_of, offset_of, Flow, flow}
-use Rattle.rule_questions.specs.proof_nodes.ComposedSizes.{flows_from, flows_into, flows, multiplies, adds, rules_of, addition_of}
+use Rattle.rule_questions.specs.proof_nodes.ComposedSizes.{monomial_bound, monomial_parts, polynomial_bound, arm_bound}
+use Rattle.rule_questions.specs.proof_nodes.ComposedSizes.{has_variable}
+use Rattle.rule_questions.specs.proof_nodes.ComposedSizes.{reads, poly_at, spread_part, is_member, slope_of, offset_of}
+use Rattle.rule_questions.specs.proof_nodes.ComposedSizes.{Flow, flow}
+use Rattle.rule_questions.specs.proof_nodes.ComposedSizes.{flows_from, flows_into, flows, multiplies, adds, rules_of}
+use Rattle.rule_questions.specs.proof_nodes.ComposedSizes.{addition_of}
 use Rattle.rule_questions.specs.proof_nodes.ComposedSizes.{factor_of, base_of, growth_parts, addition_parts, loop_bound}
 use Rattle.rule_questions.specs.proof_nodes.Checks.{needed_into, needed_times}
-use Rattle.rule_questions.specs.proof_nodes.AcceptsSizes.{HasMemberShape, AcceptsUp, AcceptsLow, HasSizesBefore, AcceptsSpread}
-use Rattle.rule_questions.specs.proof_nodes.AcceptsSizes.{IsStraightArm, IsStraight, AcceptsCycle, spread_size, cycle_size}
+use Rattle.rule_questions.specs.proof_nodes.AcceptsSizes.{HasMemberShape, AcceptsUp, AcceptsLow, HasSizesBefore}
+use Rattle.rule_questions.specs.proof_nodes.AcceptsSizes.{AcceptsSpread}
+use Rattle.rule_questions.specs.proof_nodes.AcceptsSizes.{IsStraightArm, IsStraight, AcceptsCycle, spread_size}
+use Rattle.rule_questions.specs.proof_nodes.AcceptsSizes.{cycle_size}
 use Rattle.rule_questions.proofs.proof_nodes.FirstReasons.{HasSize}
 use Rattle.rule_questions.proofs.proof_nodes.SizeReasons.{members-known, known-members}
 use Rattle.round_relation.specs.NewSizes.{has_spot}

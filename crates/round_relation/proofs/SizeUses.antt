@@ -12,7 +12,8 @@ use Rattle.rule_questions.specs.proof_nodes.Known.{Table, IsKnown, table_of}
 use Rattle.rule_questions.specs.proof_nodes.Setting.{Setting}
 use Rattle.rule_questions.specs.proof_nodes.ComposedSizes.{rules_of, flows}
 use Rattle.rule_questions.specs.proof_nodes.Checks.{needed_into, needed_times}
-use Rattle.rule_questions.specs.proof_nodes.AcceptsSizes.{HasSizesBefore, AcceptsSpread, AcceptsCycle, spread_size, cycle_size}
+use Rattle.rule_questions.specs.proof_nodes.AcceptsSizes.{HasSizesBefore, AcceptsSpread, AcceptsCycle, spread_size}
+use Rattle.rule_questions.specs.proof_nodes.AcceptsSizes.{cycle_size}
 use Rattle.rule_questions.specs.proof_nodes.AcceptsSizes.{cycle_facts}
 use Rattle.rule_questions.specs.proof_nodes.Acceptance.{facts_of, joined_facts, Accepts}
 use Rattle.rule_questions.proofs.proof_nodes.FirstReasons.{HasSize}

@@ -11,9 +11,11 @@ use Rattle.rule_questions.specs.proof_nodes.Nodes.{Spot, Member, LocalBound, Pro
 use Rattle.rule_questions.specs.proof_nodes.Known.{Table, table_of}
 use Rattle.rule_questions.specs.proof_nodes.AcceptsPlain.{IsRule}
 use Rattle.rule_questions.specs.proof_nodes.AcceptsSizes.{AcceptsSpread, AcceptsCycle}
-use Rattle.rule_questions.specs.proof_nodes.Acceptance.{facts_of_lemma, joined_facts, Accepts, AcceptsLemmas, facts_of_lemmas}
+use Rattle.rule_questions.specs.proof_nodes.Acceptance.{facts_of_lemma, joined_facts, Accepts, AcceptsLemmas}
+use Rattle.rule_questions.specs.proof_nodes.Acceptance.{facts_of_lemmas}
 use Rattle.rule_questions.specs.proof_nodes.WorkedSettings.{counting}
-use Rattle.rule_questions.specs.proof_nodes.Worked.{only, once, once_time, entered_member, entered_size, looped, looped_member}
+use Rattle.rule_questions.specs.proof_nodes.Worked.{only, once, once_time, entered_member, entered_size, looped}
+use Rattle.rule_questions.specs.proof_nodes.Worked.{looped_member}
 use Rattle.rule_questions.specs.proof_nodes.Worked.{looped_size, down_time}
 use Rattle.rule_questions.proofs.proof_nodes.WorkedAccepted.{entered_accepted, four_accepted}
 use Rattle.round_relation.specs.Tables.{lacks, IsPlace}

@@ -6,7 +6,8 @@ use Rattle.rule_questions.specs.linear_forms.Points.{IsPoint, IsRay}
 use Rattle.rule_questions.specs.proof_nodes.Nodes.{Spot, Member}
 use Rattle.rule_questions.specs.proof_nodes.Setting.{Setting}
 use Rattle.rule_questions.specs.proof_nodes.Known.{Table}
-use Rattle.rule_questions.specs.proof_nodes.AcceptsSizes.{AcceptsSpread, AcceptsCycle, spread_size, cycle_size, left_of, new_value}
+use Rattle.rule_questions.specs.proof_nodes.AcceptsSizes.{AcceptsSpread, AcceptsCycle, spread_size, cycle_size, left_of}
+use Rattle.rule_questions.specs.proof_nodes.AcceptsSizes.{new_value}
 use Rattle.rule_questions.specs.proof_nodes.Reasons.{Reason, MissingTime, MissingSize, Bent, Large, IsFirstAmong}
 use Rattle.rule_questions.specs.proof_nodes.Checks.{spread_checks, cycle_checks}
 use Rattle.rule_questions.specs.proof_tree.declared.answer.Question.TheVariants as asked

@@ -3,7 +3,7 @@ use Rattle.std.specs.Prelude.{◌≡◌, ℕ, true, List, Option, Some, None}
 use Rattle.std.specs.List.{All}
 use Rattle.rule_questions.specs.model.Programs.{Program}
 use Rattle.rule_questions.specs.model.Bounds.{Bound}
-use Rattle.rule_questions.specs.model.Facts.{Fact, Time, Size}
+use Rattle.rule_questions.specs.model.Facts.{Fact, Time, Size, Cost}
 use Rattle.rule_questions.specs.proof_nodes.Nodes.{Spot, Proof}
 use Rattle.rule_questions.specs.proof_nodes.Acceptance.{AcceptsLemmas, facts_of_lemmas}
 use Rattle.rule_questions.specs.proof_nodes.Setting.{Setting}
@@ -25,10 +25,11 @@ IsUniform size c = (t i u j : ℕ) → has_spot c t i ≡ true → has_spot c u 
 abbrev pub AreUniform : Sizes → List (List Spot) → Type 0
 AreUniform size cs = (c : List Spot) → IsOneOf cs c → IsUniform size c
 
--- the fact is that of a table
+-- the fact is that of a table, which has times and sizes alone
 abbrev pub IsFactOf : Table → Fact → Type 0
 IsFactOf tab (Time t b) = tab.time t ≡ Some b
 IsFactOf tab (Size t i b) = tab.size t i ≡ Some b
+IsFactOf tab (Cost t b) = ⊥
 
 -- all these facts are
 abbrev pub AreFactsOf : Table → List Fact → Type 0

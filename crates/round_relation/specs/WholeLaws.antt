@@ -4,7 +4,8 @@ use Rattle.std.specs.List.{All}
 use Rattle.rule_questions.specs.model.Bounds.{Bound}
 use Rattle.rule_questions.specs.model.Facts.{Fact, Size}
 use Rattle.rule_questions.specs.proof_nodes.Nodes.{Spot, Member, Proof, Spread, Cycle}
-use Rattle.rule_questions.specs.proof_nodes.AcceptsSizes.{AcceptsSpread, AcceptsCycle, spread_size, cycle_size, cycle_facts}
+use Rattle.rule_questions.specs.proof_nodes.AcceptsSizes.{AcceptsSpread, AcceptsCycle, spread_size, cycle_size}
+use Rattle.rule_questions.specs.proof_nodes.AcceptsSizes.{cycle_facts}
 use Rattle.rule_questions.specs.proof_nodes.Acceptance.{Accepts, facts_of, AcceptsLemmas, facts_of_lemmas}
 use Rattle.rule_questions.specs.proof_nodes.Setting.{Setting}
 use Rattle.rule_questions.specs.proof_nodes.Known.{Table}

@@ -5,7 +5,8 @@ use Rattle.rule_questions.specs.model.Bounds.{Bound}
 use Rattle.rule_questions.specs.proof_nodes.Nodes.{Spot, Proof, Start, Cite, Spread, Cycle}
 use Rattle.rule_questions.specs.proof_nodes.Known.{Table}
 use Rattle.rule_questions.specs.proof_nodes.WorkedSettings.{counting, doubling}
-use Rattle.rule_questions.specs.proof_nodes.Worked.{only, once, once_time, entered_member, entered_size, looped_member, looped_size}
+use Rattle.rule_questions.specs.proof_nodes.Worked.{only, once, once_time, entered_member, entered_size, looped_member}
+use Rattle.rule_questions.specs.proof_nodes.Worked.{looped_size}
 use Rattle.rule_questions.specs.proof_nodes.Worked.{doubled, three_times, all_inputs}
 use Rattle.outcome.specs.Reports.{SizeUntimed}
 use Rattle.round_relation.specs.Searches.{SizeAnswers, size_searches_of, Sizing, Found, NotFound}

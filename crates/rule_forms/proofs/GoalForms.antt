@@ -1,34 +1,23 @@
 -- The goal of a kind's question at parameters is the form of the kind that they stand for, less the new value.
-use Rattle.std.proofs.Common.{◌≡◌, ℕ, zero, suc, ◌<◌, ◌≤◌, ap, arith, refl, sym, ◌∙◌, List, [], ◌∷◌, ◌++◌, map, Bool}
+use Rattle.std.proofs.Common.{◌≡◌, ℕ, zero, suc, ◌<◌, ◌≤◌, ap, arith, refl, sym, ◌∙◌, [], ◌∷◌, map, Bool}
 use Rattle.std.proofs.Common.{true, false, if◌then◌else◌, nat_eq, ◌⊎◌, inl, inr}
 use Rattle.std.specs.Prelude.{ℤ, pos, negsuc, ◌+ℤ◌, ◌*ℤ◌, neg_ℤ}
-use Rattle.std.specs.List.{range_with_len}
 use Rattle.std.proofs.lemmas.Int.{ints}
 use Rattle.std.proofs.lemmas.Bool.{cases_lt, eqb-true, eqb-false}
 use Rattle.linear_forms.specs.int_laws.Polynomial.{variable, constant, ◌⊕◌, ◌⊗◌, negated}
 use Rattle.linear_forms.proofs.int_laws.Identities.{identity}
 use Rattle.linear_forms.proofs.int_laws.RingLaws.{mul-zero_ℤ}
 use Rattle.linear_forms.specs.Forms.{Form, at, list_dot}
-use Rattle.linear_forms.specs.Combinations.{form_sum, form_times, zero_form, combination}
+use Rattle.linear_forms.specs.Combinations.{form_sum, form_times, combination}
 use Rattle.linear_forms.specs.Questions.{Group, goal_at, listed}
 use Rattle.linear_forms.specs.RuleQuestions.{RuleForms, before_rule, unknown_form, opposite}
 use Rattle.linear_forms.proofs.CombinationLaws.{at-sum, at-times}
 use Rattle.rule_forms.specs.Kinds.{AreSame, Kind, Number, Argument, Affine, unit_of}
+use Rattle.rule_forms.specs.SoughtParts.{sought_places, fixed_part}
 use Rattle.rule_forms.specs.Questions.{form_of, excess, IsKindOf}
 use Rattle.rule_forms.proofs.Forms.{at-zeros, at-listed, at-past, at-itself, at-other}
 use Rattle.rule_forms.proofs.Combined.{at-combination, constant-combination, arguments_and_one, no_coef, own_coef}
 use Rattle.rule_forms.proofs.Combined.{own_constant}
-
--- the places whose coefficients are sought, place 0 being the constant, and the part that is fixed
-abbrev pub sought_places : ℕ → Kind → List ℕ
-sought_places left Number = 0 ∷ []
-sought_places left (Argument place sign) = []
-sought_places left Affine = range_with_len 1 left ++ (0 ∷ [])
-
-abbrev pub fixed_part : Kind → Form
-fixed_part Number = zero_form
-fixed_part (Argument place sign) = form_times (unit_of sign) (before_rule place)
-fixed_part Affine = zero_form
 
 -- the sought form, with its fixed part
 abbrev pub sought : ℕ → Kind → (ℕ → ℤ) → ℤ → Form

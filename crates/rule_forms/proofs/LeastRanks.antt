@@ -10,12 +10,11 @@ use Rattle.std.proofs.lemmas.Bool.{eqb-true, ne_eqb}
 use Rattle.linear_forms.specs.int_laws.Sums.{sum_to}
 use Rattle.linear_forms.proofs.int_laws.RingLaws.{mul_comm_ℤ}
 use Rattle.linear_forms.proofs.int_laws.OrderLaws.{mul-le-mul_ℤ}
-use Rattle.linear_forms.specs.Forms.{at}
 use Rattle.linear_forms.specs.Sizes.{total_size}
 use Rattle.linear_forms.specs.LinearProgram.{IsSolution, IsLeast}
 use Rattle.linear_forms.specs.Questions.{listed, program_of_question}
 use Rattle.linear_forms.specs.QuestionLaws.{positive_part, size_weight, height_weight, parameters_of}
-use Rattle.linear_forms.specs.RuleQuestions.{RankedSet, Coefficient, has_symbol, coefficients, size_at, height_at}
+use Rattle.linear_forms.specs.RuleQuestions.{RankedSet, Coefficient, has_symbol, size_at, height_at}
 use Rattle.linear_forms.specs.RuleQuestions.{rank_question}
 use Rattle.linear_forms.proofs.ListLaws.{sum_to-first}
 use Rattle.linear_forms.proofs.WeightLaws.{least-sizes, least-heights}

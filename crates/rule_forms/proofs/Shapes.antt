@@ -1,6 +1,6 @@
 -- The questions of all kinds have their shape, and one group.
 use Rattle.std.proofs.Common.{ℕ, zero, suc, ◌≤◌, arith, refl, [], ◌∷◌, length, replicate, length-append}
-use Rattle.std.specs.Prelude.{ℤ, pos, negsuc, ◌*ℤ◌}
+use Rattle.std.specs.Prelude.{pos, negsuc, ◌*ℤ◌}
 use Rattle.std.specs.List.{All, range_with_len}
 use Rattle.std.proofs.lemmas.List.{length-replicate}
 use Rattle.std.proofs.lemmas.List.Elements.{All-cons, All-nil, All-append, All-map, All-weaker}
@@ -10,7 +10,8 @@ use Rattle.linear_forms.specs.RuleQuestions.{RuleForms, before_rule}
 use Rattle.linear_forms.proofs.SolutionLaws.{length-map}
 use Rattle.rule_forms.specs.Kinds.{Kind, Number, Argument, Affine, unit_of}
 use Rattle.rule_forms.specs.Questions.{question_of, IsKindOf, Fits}
-use Rattle.rule_forms.proofs.GoalForms.{sought_places, fixed_part, group_of}
+use Rattle.rule_forms.specs.SoughtParts.{sought_places, fixed_part}
+use Rattle.rule_forms.proofs.GoalForms.{group_of}
 pub use Rattle.linear_forms.proofs.RuleShapes.{range-below as ranged}
 pub use Rattle.linear_forms.proofs.CombinationLaws.{length-sum as sum_length}
 

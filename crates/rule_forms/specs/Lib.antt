@@ -3,6 +3,7 @@
 pub mod Kinds
 pub mod Bounds
 pub mod Questions
+pub mod SoughtParts
 pub mod Laws
 pub mod Ranking
 pub mod RankLaws

@@ -9,7 +9,8 @@ use Rattle.std.proofs.lemmas.List.Elements.{All-weaker, All-from_recursion}
 use Rattle.poly_terms.specs.linear_forms.Forms.{Form, at, form_value}
 use Rattle.poly_terms.specs.linear_forms.Certificates.{Implies, minus_one}
 use Rattle.poly_terms.specs.linear_forms.Limits.{certificate_limit, point_limit}
-use Rattle.poly_terms.specs.linear_forms.Questions.{Group, Question, IsShaped, listed, line, goal_at, program_of_question}
+use Rattle.poly_terms.specs.linear_forms.Questions.{Group, Question, IsShaped, listed, line, goal_at}
+use Rattle.poly_terms.specs.linear_forms.Questions.{program_of_question}
 use Rattle.poly_terms.specs.linear_forms.QuestionLaws.{multipliers_of, elements_of, Refutes, parameters_of}
 use Rattle.poly_terms.specs.linear_forms.RuleQuestions.{empty_question}
 use Rattle.poly_terms.specs.linear_forms.RuleQuestionLaws.{IsRuleShaped}

@@ -7,7 +7,7 @@ use Rattle.frac128.specs.Fraction.{IsFraction}
 use Rattle.int_laws.specs.Polynomial.{variable, constant, ◌⊖◌, ◌⊗◌}
 use Rattle.int_laws.proofs.Identities.{identity_by_one}
 use Rattle.int_laws.proofs.OrderLaws.{mul-cancel_ℤ}
-use Rattle.simplex_core.specs.declared.dense_table.DenseTable.{DenseTable}
+use Rattle.simplex_core.specs.declared.sparse_table.SparseTable.{SparseTable}
 use Rattle.linear_forms.specs.LinearProgram.{LinearProgram}
 use Rattle.simplex_core.specs.Tableau.{Tableau, unknowns, cost_row, sign_of, artificial}
 use Rattle.simplex_core.specs.Bland.{dual_of}
@@ -15,10 +15,10 @@ use Rattle.simplex_core.specs.Positions.{InTable}
 use Rattle.simplex_core.specs.Cells.{cell, IsBasicNumber, HoldsBasic, HoldsDual, Shows}
 use Rattle.simplex_core.specs.Outcome.{HoldsPoint, IsBasicValue}
 use Rattle.simplex_core.specs.TableClauses.{HoldsBasicSolution, AreSides}
-use Rattle.simplex_core.proofs.PivotedTable.{cell-there}
+use Rattle.simplex_core.proofs.TableLines.{cell-there}
 
 -- the basic solution
-pub solution-read : (p : LinearProgram) (a : DenseTable) (t : Tableau) (at : List Frac) → Shows p a t → HoldsBasic a a.rows at → HoldsBasicSolution p t at
+pub solution-read : (p : LinearProgram) (a : SparseTable) (t : Tableau) (at : List Frac) → Shows p a t → HoldsBasic a a.rows at → HoldsBasicSolution p t at
 solution-read p a t at shows holds = record { length_is = holds.length_is ∙ shows.columns; each = λ j f read. value j f (holds.each j f read) }
   where
     value : (j : ℕ) (f : Frac) → IsBasicNumber a a.rows j f → IsBasicValue p t j f
@@ -33,7 +33,7 @@ solution-read p a t at shows holds = record { length_is = holds.length_is ∙ sh
     value j f (inr none) = inr (none.0, λ i l e. none.1 i (let r = shows.rows in omega arith) (shows.basis i l ∙ e))
 
 -- the dual
-pub dual-read : (p : LinearProgram) (a : DenseTable) (t : Tableau) (right : List ℤ) (dual : List Frac) → Shows p a t → AreSides p right → HoldsDual a right a.rows dual
+pub dual-read : (p : LinearProgram) (a : SparseTable) (t : Tableau) (right : List ℤ) (dual : List Frac) → Shows p a t → AreSides p right → HoldsDual a right a.rows dual
     → HoldsPoint p.rows dual (dual_of p t) (t.scale (cost_row p 0))
 dual-read p a t right dual shows sides holds = record { length_is = holds.length_is ∙ shows.rows; each = each }
   where
@@ -52,7 +52,7 @@ dual-read p a t right dual shows sides holds = record { length_is = holds.length
         let columns = shows.columns in
         let inside = slice_get_within dual i y read in
         let size = holds.length_is in
-        let there = cell-there a a.rows (a.columns + i) (omega arith) (omega arith) in
+        let there = cell-there a a.rows (a.columns + i) (record { row = omega arith; column = omega arith; cost = λ l. omega arith }) in
         let x = there.0 in
         let row : a.rows ≡ cost_row p 0 = omega arith in
         let column : a.columns + i ≡ artificial p i = omega arith in

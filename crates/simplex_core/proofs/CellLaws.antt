@@ -1,11 +1,11 @@
 -- What stays true of the cells of a table while its rows are cleared.
-use Rattle.std.proofs.Common.{◌≡◌, ◌≢◌, ℕ, ◌+◌, ◌<◌, ◌≤◌, arith, refl, sym, ◌∙◌, subst, ◌⊎◌, inl, inr, [], ◌∷◌, Some}
+use Rattle.std.proofs.Common.{◌≡◌, ◌≢◌, ℕ, ◌+◌, ◌<◌, ◌≤◌, arith, refl, sym, ◌∙◌, subst, ◌⊎◌, inl, inr, [], ◌∷◌}
 use Rattle.std.specs.Prelude.{pos}
 use Rattle.frac128.specs.declared.frac.Frac.{Frac}
 use Rattle.int_laws.specs.Polynomial.{variable, constant, ◌⊖◌, ◌⊗◌}
 use Rattle.int_laws.proofs.Identities.{identity_by_one}
-use Rattle.simplex_core.specs.declared.dense_table.DenseTable.{DenseTable}
-use Rattle.simplex_core.specs.Cells.{width, cell, ChangesCell, ChangesRow, KeepsRow, IsRowBelow, IsRowClearedBy}
+use Rattle.simplex_core.specs.declared.sparse_table.SparseTable.{SparseTable}
+use Rattle.simplex_core.specs.Cells.{width, cell, ChangesRow, KeepsRow, IsRowBelow, IsRowClearedBy}
 use Rattle.simplex_core.specs.Cells.{IsLessMultiple}
 use Rattle.simplex_core.specs.Positions.{InTable}
 use Rattle.simplex_core.proofs.Invariant.{same_or_other}
@@ -19,7 +19,7 @@ InTable-same rows columns rows' columns' i j e f h = record {
 }
 
 -- a row of the same numbers is as small
-pub IsRowBelow-same : (bits : ℕ) (a b : DenseTable) (i : ℕ) → b.rows ≡ a.rows → b.columns ≡ a.columns
+pub IsRowBelow-same : (bits : ℕ) (a b : SparseTable) (i : ℕ) → b.rows ≡ a.rows → b.columns ≡ a.columns
     → ((j : ℕ) → j < width a → cell b i j ≡ cell a i j) → IsRowBelow bits a i → IsRowBelow bits b i
 IsRowBelow-same bits a b i e f same h = record {
   each = λ j g inside is.
@@ -28,7 +28,7 @@ IsRowBelow-same bits a b i e f same h = record {
 }
 
 -- a change of another row, or of the row itself by nothing, keeps a row
-pub KeepsRow-more : (a b d : DenseTable) (r i : ℕ) → KeepsRow a b r → ChangesRow b d i → (i ≡ r → KeepsRow b d i) → KeepsRow a d r
+pub KeepsRow-more : (a b d : SparseTable) (r i : ℕ) → KeepsRow a b r → ChangesRow b d i → (i ≡ r → KeepsRow b d i) → KeepsRow a d r
 KeepsRow-more a b d r i kept changes same = record {
   rows = changes.rows ∙ kept.rows;
   columns = changes.columns ∙ kept.columns;
@@ -41,7 +41,7 @@ KeepsRow-more a b d r i kept changes same = record {
     go j l w (inr n) = changes.others r j n w ∙ kept.row j l
 
 -- a row that was cleared from a table with the same rows was cleared from the first
-pub IsRowClearedBy-from : (a b d : DenseTable) (i r c : ℕ) → c < width a → KeepsRow a b r → ((j : ℕ) → j < width a → cell b i j ≡ cell a i j)
+pub IsRowClearedBy-from : (a b d : SparseTable) (i r c : ℕ) → c < width a → KeepsRow a b r → ((j : ℕ) → j < width a → cell b i j ≡ cell a i j)
     → IsRowClearedBy b d i r c → IsRowClearedBy a d i r c
 IsRowClearedBy-from a b d i r c l kept same h = record {
   each = λ j f factor y g inside is_f is_factor is_y is_g.
@@ -50,7 +50,7 @@ IsRowClearedBy-from a b d i r c l kept same h = record {
 }
 
 -- a row that was cleared stays so where another row changes
-pub IsRowClearedBy-kept : (a b d : DenseTable) (i r c k : ℕ) → i ≢ k → b.rows ≡ a.rows → b.columns ≡ a.columns → ChangesRow b d k → IsRowClearedBy a b i r c → IsRowClearedBy a d i r c
+pub IsRowClearedBy-kept : (a b d : SparseTable) (i r c k : ℕ) → i ≢ k → b.rows ≡ a.rows → b.columns ≡ a.columns → ChangesRow b d k → IsRowClearedBy a b i r c → IsRowClearedBy a d i r c
 IsRowClearedBy-kept a b d i r c k apart e m changes h = record {
   each = λ j f factor y g inside is_f is_factor is_y is_g.
       h.each j f factor y g inside is_f is_factor is_y
@@ -66,7 +66,7 @@ less_no_multiple f factor b none =
     ((variable 4 ⊗ variable 1) ⊗ variable 1) (variable 2) (constant (pos 0)) none refl
 
 -- one row more is cleared
-pub cleared-step : (a b d : DenseTable) (r c n : ℕ) → c < width a → KeepsRow a b r → ChangesRow b d n
+pub cleared-step : (a b d : SparseTable) (r c n : ℕ) → c < width a → KeepsRow a b r → ChangesRow b d n
     → ((i j : ℕ) → n ≤ i → j < width a → cell b i j ≡ cell a i j)
     → ((i : ℕ) → i ≢ r → i < n → IsRowClearedBy a b i r c)
     → (n ≢ r → IsRowClearedBy b d n r c)
@@ -78,21 +78,3 @@ cleared-step a b d r c n wide kept changes rest done cleared i apart l = go (sam
         subst (λ (k : ℕ). IsRowClearedBy a d k r c) (sym e)
         (IsRowClearedBy-from a b d n r c wide kept (λ j w. rest n j (omega arith) w) (cleared (λ f. apart (e ∙ f))))
     go (inr f) = IsRowClearedBy-kept a b d i r c n f kept.rows kept.columns changes (done i apart (omega arith))
-
--- one number more of a row is cleared
-pub number-step : (a b d : DenseTable) (r p n : ℕ) (factor : Frac) → p ≢ r → n < width a → ChangesRow a b r → ChangesCell b d r n
-    → ((j : ℕ) → n ≤ j → j < width a → cell b r j ≡ cell a r j)
-    → ((f y g : Frac) → cell b r n ≡ Some f → cell b p n ≡ Some y → cell d r n ≡ Some g → IsLessMultiple f factor y g)
-    → ((j : ℕ) (f y g : Frac) → j < n → cell a r j ≡ Some f → cell a p j ≡ Some y → cell b r j ≡ Some g → IsLessMultiple f factor y g)
-    → (j : ℕ) (f y g : Frac) → j < n + 1 → cell a r j ≡ Some f → cell a p j ≡ Some y → cell d r j ≡ Some g → IsLessMultiple f factor y g
-number-step a b d r p n factor apart wide changes cell_changes rest cleared done j f y g l is_f is_y is_g = go (same_or_other j n)
-  where
-    go : (j ≡ n) ⊎ (j ≢ n) → IsLessMultiple f factor y g
-    go (inl e) =
-        cleared f y g (rest n (omega arith) wide ∙ subst (λ (k : ℕ). cell a r k ≡ Some f) e is_f)
-        (changes.others p n apart wide ∙ subst (λ (k : ℕ). cell a p k ≡ Some y) e is_y) (subst (λ (k : ℕ). cell d r k ≡ Some g) e is_g)
-    go (inr m) =
-        let below : j < n = omega arith in
-        let rows = changes.rows in
-        let columns = changes.columns in
-        done j f y g below is_f is_y (sym (cell_changes.others r j (omega (arith, wide, below, rows, columns)) (λ _ e. m e)) ∙ is_g)

@@ -134,6 +134,20 @@ goes_before-false p t c i r h before = go before
         at_most : (a b : ℤ) → a ≡ b → a ≤ℤ b
         at_most a b e = omega (arith, ints)
 
+-- a row never goes before itself
+pub self_not_before : (p : LinearProgram) (t : Tableau) (c r : ℕ) → goes_before p t c r r ≡ false
+self_not_before p t c r = go (goes_before p t c r r) refl
+  where
+    go : (v : Bool) → goes_before p t c r r ≡ v → goes_before p t c r r ≡ false
+    go true e = absurd (before_irrefl (ratio p t c r) (goes_before-true p t c r r e))
+    go false e = e
+
+-- where neither of two quotients is less, the basic columns decide which row goes before
+pub columns-decide : (u v w : Bool) → u ≡ false → v ≡ false → w ≡ (u || (not v && w))
+columns-decide true v w e f = cc
+columns-decide false true w e f = cc
+columns-decide false false w e f = refl
+
 -- a candidate's entry is over 0
 pub candidate-positive : (t : Tableau) (c i : ℕ) → is_candidate t c i ≡ true → pos 0 <ℤ t.entry i c
 candidate-positive t c i h = int_lt-true _ _ h

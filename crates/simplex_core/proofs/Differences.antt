@@ -53,11 +53,3 @@ same_less x y z x' y' z' r ex ey ez e =
 -- a fraction of two numbers, each as it was handed on
 pub same_fraction : (n d x y x' y' : ℤ) → x' ≡ x → y' ≡ y → n *ℤ y' ≡ x' *ℤ d → n *ℤ y ≡ x *ℤ d
 same_fraction n d x y x' y' ex ey e = ap (λ (w : ℤ). n *ℤ w) (sym ey) ∙ (e ∙ ap (λ (w : ℤ). w *ℤ d) ex)
-
--- a/b less a multiple of 0 is a/b
-pub less_zero : (a b m n c d : ℤ) → c ≡ pos 0 → a *ℤ ((b *ℤ n) *ℤ d) ≡ ((a *ℤ n) *ℤ d -ℤ (m *ℤ c) *ℤ b) *ℤ b
-less_zero a b m n c d zero =
-    identity_by_one (a ∷ b ∷ m ∷ n ∷ c ∷ d ∷ [])
-    (variable 0 ⊗ ((variable 1 ⊗ variable 3) ⊗ variable 5))
-    (((variable 0 ⊗ variable 3) ⊗ variable 5 ⊖ (variable 2 ⊗ variable 4) ⊗ variable 1) ⊗ variable 1)
-    ((variable 2 ⊗ variable 1) ⊗ variable 1) (variable 4) (constant (pos 0)) zero refl

@@ -8,7 +8,7 @@ use Rattle.frac128.specs.declared.frac.Frac.{Frac}
 use Rattle.frac128.specs.Fraction.{IsFraction}
 use Rattle.int_laws.specs.Polynomial.{variable, constant, ◌⊖◌, ◌⊗◌}
 use Rattle.int_laws.proofs.Identities.{identity_by_one}
-use Rattle.simplex_core.specs.declared.dense_table.DenseTable.{DenseTable}
+use Rattle.simplex_core.specs.declared.sparse_table.SparseTable.{SparseTable}
 use Rattle.simplex_core.specs.Tableau.{sign_of}
 use Rattle.simplex_core.specs.Cells.{cell, IsBasicNumber, HoldsBasic, HoldsDual}
 use Rattle.simplex_core.proofs.Searches.{last_or_before}
@@ -16,7 +16,7 @@ use Rattle.simplex_core.proofs.Invariant.{same_or_other}
 use Rattle.simplex_core.proofs.Positions.{slice_get-set_same, slice_get-set_other}
 
 -- a number of a column that the next row isn't solved for
-other_number : (table : DenseTable) (m j : ℕ) (f : Frac) → slice_index table.basis.items m ≢ j → IsBasicNumber table m j f → IsBasicNumber table (m + 1) j f
+other_number : (table : SparseTable) (m j : ℕ) (f : Frac) → slice_index table.basis.items m ≢ j → IsBasicNumber table m j f → IsBasicNumber table (m + 1) j f
 other_number table m j f apart (inl h) = inl (h.0, omega (arith, h.1), h.2, h.3)
 other_number table m j f apart (inr h) = inr (h.0, λ i l. go i (last_or_before m i (omega arith)))
   where
@@ -25,7 +25,7 @@ other_number table m j f apart (inr h) = inr (h.0, λ i l. go i (last_or_before 
     go i (inr l) = h.1 i l
 
 -- the next row's right side is written
-pub basic-written : (table : DenseTable) (m b : ℕ) (at : List Frac) (g : Frac) → HoldsBasic table m at → slice_index table.basis.items m ≡ b → b < length at
+pub basic-written : (table : SparseTable) (m b : ℕ) (at : List Frac) (g : Frac) → HoldsBasic table m at → slice_index table.basis.items m ≡ b → b < length at
     → cell table m (table.columns + table.rows) ≡ Some g → HoldsBasic table (m + 1) (slice_set at b g)
 basic-written table m b at g h solved wide is = record {
   length_is = length-set at b g ∙ h.length_is;
@@ -40,7 +40,7 @@ basic-written table m b at g h solved wide is = record {
     go j f read (inr d) = other_number table m j f (λ e. d (sym (sym solved ∙ e))) (h.each j f (sym (slice_get-set_other at b j g d) ∙ read))
 
 -- the next row isn't solved for a column of the program
-pub basic-skipped : (table : DenseTable) (m b : ℕ) (at : List Frac) → HoldsBasic table m at → slice_index table.basis.items m ≡ b → table.columns ≤ b → HoldsBasic table (m + 1) at
+pub basic-skipped : (table : SparseTable) (m b : ℕ) (at : List Frac) → HoldsBasic table m at → slice_index table.basis.items m ≡ b → table.columns ≤ b → HoldsBasic table (m + 1) at
 basic-skipped table m b at h solved above = record {
   length_is = h.length_is;
   each = λ j f read.
@@ -50,18 +50,18 @@ basic-skipped table m b at h solved above = record {
 }
 
 -- the element that was added
-slice_get-last : {X : Type 0} (xs : List X) (x : X) → slice_get (xs ++ (x ∷ [])) (length xs) ≡ Some x
+pub slice_get-last : {X : Type 0} (xs : List X) (x : X) → slice_get (xs ++ (x ∷ [])) (length xs) ≡ Some x
 slice_get-last [] x = refl
 slice_get-last (y ∷ ys) x = slice_get-last ys x
 
 -- the elements before the one that was added
-slice_get-before : {X : Type 0} (xs : List X) (x : X) (k : ℕ) → k < length xs → slice_get (xs ++ (x ∷ [])) k ≡ slice_get xs k
+pub slice_get-before : {X : Type 0} (xs : List X) (x : X) (k : ℕ) → k < length xs → slice_get (xs ++ (x ∷ [])) k ≡ slice_get xs k
 slice_get-before [] x k l = absurd (omega arith)
 slice_get-before (y ∷ ys) x zero l = refl
 slice_get-before (y ∷ ys) x (suc k) l = slice_get-before ys x k (omega arith)
 
 -- the next row's number of the dual is added
-pub dual-added : (table : DenseTable) (right : List ℤ) (m : ℕ) (dual : List Frac) (y : Frac) → HoldsDual table right m dual
+pub dual-added : (table : SparseTable) (right : List ℤ) (m : ℕ) (dual : List Frac) (y : Frac) → HoldsDual table right m dual
     → ((x : Frac) → cell table table.rows (table.columns + m) ≡ Some x → IsFraction y (sign_of (slice_index_or right m (pos 0)) *ℤ (x.den -ℤ x.num)) x.den)
     → HoldsDual table right (m + 1) (dual ++ (y ∷ []))
 dual-added table right m dual y h here = record {

@@ -1,25 +1,22 @@
 -- The table that was filled from a problem shows the first tableau.
-use Rattle.std.proofs.Common.{◌≡◌, ◌≢◌, ℕ, zero, suc, ◌+◌, ◌-◌, ◌<◌, ◌≤◌, ◌^◌, ap, arith, refl, sym, ◌∙◌, subst, ◌⊎◌}
-use Rattle.std.proofs.Common.{inl, inr, List, [], ◌∷◌, Some, Bool, true, false}
-use Rattle.std.specs.Prelude.{ℤ, pos, negsuc, ◌-ℤ◌, ◌*ℤ◌, slice_get, slice_index, slice_index_or, unsigned_abs, int_lt}
-use Rattle.std.specs.Prelude.{nat_eq, ◌&&◌, if◌then◌else◌}
+use Rattle.std.proofs.Common.{◌≡◌, ◌≢◌, ℕ, zero, suc, ◌+◌, ◌-◌, ◌<◌, ◌≤◌, ap, arith, refl, sym, ◌∙◌, ◌⊎◌}
+use Rattle.std.proofs.Common.{inl, inr, List, Some}
+use Rattle.std.specs.Prelude.{ℤ, pos, ◌-ℤ◌, ◌*ℤ◌, slice_index, slice_index_or}
 use Rattle.std.proofs.lemmas.Bool.{cases_lt}
 use Rattle.std.proofs.lemmas.Int.{ints}
 use Rattle.frac128.specs.declared.frac.Frac.{Frac}
 use Rattle.int_laws.proofs.RingLaws.{mul-zero_ℤ, zero-mul_ℤ}
 use Rattle.int_laws.specs.Sums.{sum_to}
 use Rattle.int_laws.proofs.SumLaws.{sum_to-same, sum_to-zero}
-use Rattle.simplex_core.specs.declared.dense_table.DenseTable.{DenseTable}
-use Rattle.simplex_core.specs.declared.problem.Entry.{Entry}
+use Rattle.simplex_core.specs.declared.sparse_table.SparseTable.{SparseTable}
 use Rattle.simplex_core.specs.declared.problem.Problem.{Problem}
 use Rattle.linear_forms.specs.LinearProgram.{LinearProgram}
 use Rattle.simplex_core.specs.Tableau.{artificial, cost_row, sign_of, equation, cost, first_reduced_cost, first_tableau}
 use Rattle.simplex_core.specs.Problem.{entry_value, program_of, IsProper}
 use Rattle.simplex_core.specs.Positions.{InTable}
 use Rattle.simplex_core.specs.Cells.{cell, Shows}
-use Rattle.simplex_core.specs.Building.{HoldsWhole, HasSmallEquations, signed_entries, with_equations, cost_number}
-use Rattle.simplex_core.specs.Building.{with_costs}
-use Rattle.simplex_core.specs.Numbers.{AreEntriesBelow}
+use Rattle.simplex_core.specs.Building.{HoldsWhole, signed_entries, with_equations, cost_number}
+use Rattle.simplex_core.specs.Building.{with_costs, AreZeroFrom, AreCostsZeroFrom, AreSumsOf}
 use Rattle.simplex_core.proofs.Invariant.{same_or_other}
 use Rattle.simplex_core.proofs.Regions.{choose-below, choose-above, choose-same, choose-other, equation-column}
 use Rattle.simplex_core.proofs.Regions.{equation-artificial, equation-other_artificial, equation-right, cost-none}
@@ -30,36 +27,38 @@ use Rattle.simplex_core.proofs.ProgramFields.{program-columns, program-rows, pro
 use Rattle.simplex_core.proofs.ProgramFields.{program-first, program-second}
 use Rattle.simplex_core.proofs.WrittenNumbers.{entry_value-outside}
 
--- an entry's number is small
-entry_value-below : (es : List Entry) (i j : ℕ) → ((k : ℕ) (e : Entry) → slice_get es k ≡ Some e → unsigned_abs e.value < 2 ^ 31) → unsigned_abs (entry_value es i j) < 2 ^ 31
-entry_value-below [] i j h = omega arith
-entry_value-below (e ∷ es) i j h = go (nat_eq e.row i && nat_eq e.col j) (h 0 e refl) (entry_value-below es i j (λ k x is. h (suc k) x is))
-  where
-    go : (b : Bool) → unsigned_abs e.value < 2 ^ 31 → unsigned_abs (entry_value es i j) < 2 ^ 31 → unsigned_abs (if b then e.value else entry_value es i j) < 2 ^ 31
-    go true x y = x
-    go false x y = y
-
--- a sign keeps a size
-signed-below : (b z : ℤ) → unsigned_abs z < 2 ^ 31 → unsigned_abs (sign_of b *ℤ z) < 2 ^ 31
-signed-below b z l = go (int_lt b (pos 0))
-  where
-    go : (v : Bool) → unsigned_abs ((if v then negsuc 0 else pos 1) *ℤ z) < 2 ^ 31
-    go true = omega (arith, ints, l)
-    go false = omega (arith, ints, l)
-
 -- the filled equations in a column of the program
-filled-column : (m n : ℕ) (right : List ℤ) (g : ℕ → ℕ → ℤ) (i j : ℕ) → i < m → j < n → with_equations m n right g m i j ≡ g i j
+pub filled-column : (m n : ℕ) (right : List ℤ) (g : ℕ → ℕ → ℤ) (i j : ℕ) → i < m → j < n → with_equations m n right g m i j ≡ g i j
 filled-column m n right g i j l k =
     choose-below i m _ (g i j) l ∙ (choose-other j (n + i) (pos 1) _ (omega arith) ∙ choose-other j (n + m) _ (g i j) (omega arith))
 
--- the equations' numbers of a filled table are small
-pub filled-small : (table : DenseTable) (right : List ℤ) (es : List Entry) → AreEntriesBelow es
-    → HoldsWhole table (with_equations table.rows table.columns right (signed_entries es right) table.rows) → HasSmallEquations table
-filled-small table right es below holds = record {
-  each = λ i j f l k is.
-      let num = holds.num i j f (omega arith) (omega arith) is ∙ filled-column table.rows table.columns right (signed_entries es right) i j l k in
-      subst (λ (z : ℤ). unsigned_abs z < 2 ^ 31) (sym num)
-      (signed-below (slice_index_or right i (pos 0)) (entry_value es i j) (entry_value-below es i j below.each));
+-- the filled equations have the sums that the entries have
+pub filled-sums : (m n : ℕ) (right sums : List ℤ) (g : ℕ → ℕ → ℤ) → AreSumsOf g m n sums → AreSumsOf (with_equations m n right g m) m n sums
+filled-sums m n right sums g are = record {
+  each = λ j l. are.each j l ∙ sum_to-same m (λ i. g i j) (λ i. with_equations m n right g m i j) (λ i k. sym (filled-column m n right g i j k l));
+}
+
+-- where the entries alone are written, the artificial unknowns are 0
+pub artificial-zero : (q : Problem) (table : SparseTable) (sides : List ℤ) → IsProper q → table.columns ≡ q.cols → HoldsWhole table (signed_entries q.entries.items sides)
+    → AreZeroFrom table 0
+artificial-zero q table sides proper columns holds = record {
+  each = λ i _ l. record {
+    each = λ f is.
+        holds.num i (table.columns + i) f (omega arith) (omega arith) is
+        ∙ mul-zero_ℤ _ _ (entry_value-outside q.rows q.cols q.entries.items i (table.columns + i) proper.inside (inr (omega (arith, columns))));
+  };
+}
+
+-- where the equations alone are written, the cost rows are 0
+pub costs-zero : (q : Problem) (table : SparseTable) (m n : ℕ) (right sides : List ℤ) → IsProper q → table.rows ≡ m → m ≡ q.rows
+    → HoldsWhole table (with_equations m n right (signed_entries q.entries.items sides) m) → AreCostsZeroFrom table 0
+costs-zero q table m n right sides proper rows same holds = record {
+  each = λ k j few _ l. record {
+    each = λ f is.
+        holds.num (table.rows + k) j f (omega arith) (omega arith) is
+        ∙ (choose-above (table.rows + k) m _ (signed_entries q.entries.items sides (table.rows + k) j) (omega (arith, rows))
+        ∙ mul-zero_ℤ _ _ (entry_value-outside q.rows q.cols q.entries.items (table.rows + k) j proper.inside (inl (omega (arith, rows, same)))));
+  };
 }
 
 -- the filled equations are the program's
@@ -156,8 +155,34 @@ costs-are q m n r j proper em en few k = go (cases_lt j n)
         ∙ (mul-zero_ℤ _ _ (entry_value-outside q.rows q.cols q.entries.items (m + r) j proper.inside (inl (omega (arith, rows, columns))))
         ∙ (sym (first-cost-artificial p r (j - n) (omega (arith, rows, columns))) ∙ (first-cost p r (artificial p (j - n)) ∙ ap (λ (y : ℕ). first_reduced_cost p r y) (omega (arith, rows, columns)))))))
 
+-- the filled numbers are those of the first tableau
+pub filled-entry : (q : Problem) (i j : ℕ) → IsProper q → InTable q.rows q.cols i j
+    → with_costs q.rows (with_equations q.rows q.cols q.right.items (signed_entries q.entries.items q.right.items) q.rows) q.first.items q.second.items q.cols i j
+    ≡ (first_tableau (program_of q)).entry i j
+filled-entry q i j proper inside = go (cases_lt i q.rows)
+  where
+    p : LinearProgram
+    p = program_of q
+
+    rows : p.rows ≡ q.rows
+    rows = program-rows q
+
+    go : (i < q.rows) ⊎ (q.rows ≤ i)
+        → with_costs q.rows (with_equations q.rows q.cols q.right.items (signed_entries q.entries.items q.right.items) q.rows) q.first.items q.second.items q.cols i j ≡ (first_tableau p).entry i j
+    go (inl l) =
+        let k = inside.column in
+        choose-below i q.rows _ _ l ∙ (equations-are q q.rows q.cols i j proper refl refl l k ∙ sym (first-row p i j (omega (arith, rows))))
+    go (inr l) =
+        let r = inside.row in
+        let k = inside.cost l in
+        let e : i ≡ q.rows + (i - q.rows) = omega arith in
+        let c : i ≡ cost_row p (i - q.rows) = omega (arith, rows) in
+        ap (λ (x : ℕ). with_costs q.rows (with_equations q.rows q.cols q.right.items (signed_entries q.entries.items q.right.items) q.rows) q.first.items q.second.items q.cols x j) e
+        ∙ (costs-are q q.rows q.cols (i - q.rows) j proper refl refl (omega arith) k
+        ∙ (sym (first-cost p (i - q.rows) j) ∙ ap (λ (x : ℕ). (first_tableau p).entry x j) (sym c)))
+
 -- the filled table shows the first tableau
-pub filled-shows : (q : Problem) (table : DenseTable) → IsProper q → table.rows ≡ q.rows → table.columns ≡ q.cols
+pub filled-shows : (q : Problem) (table : SparseTable) → IsProper q → table.rows ≡ q.rows → table.columns ≡ q.cols
     → HoldsWhole table (with_costs table.rows (with_equations table.rows table.columns q.right.items (signed_entries q.entries.items q.right.items) table.rows) q.first.items q.second.items table.columns)
     → ((i : ℕ) → i < q.rows → slice_index table.basis.items i ≡ q.cols + i)
     → Shows (program_of q) table (first_tableau (program_of q))

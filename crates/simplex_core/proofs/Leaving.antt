@@ -15,7 +15,7 @@ use Rattle.simplex_core.proofs.Invariant.{IsTableauOf, same_or_other}
 use Rattle.simplex_core.proofs.Regions.{choose-same, choose-other}
 use Rattle.simplex_core.proofs.Points.{point}
 use Rattle.simplex_core.proofs.Choices.{IsBefore, ratio, before_trans, before_irrefl, goes_before-true}
-use Rattle.simplex_core.proofs.Choices.{goes_before-false, candidate-positive, leaving-there, not-true}
+use Rattle.simplex_core.proofs.Choices.{goes_before-false, self_not_before, candidate-positive, leaving-there, not-true}
 
 -- where no number below n passes and n does, n is the least
 pub least-here : (n m : ℕ) (f : ℕ → Bool) → n < m → least n f ≡ None → f n ≡ true → least m f ≡ Some n
@@ -105,15 +105,8 @@ best-none p t c m none here i l = go (last_or_before m i (omega arith))
 pub best-first : (p : LinearProgram) (t : Tableau) (c m : ℕ) → IsBestOf p t c m None → is_candidate t c m ≡ true → IsBest p t c (m + 1) m
 best-first p t c m none here = record { row = omega arith; candidate = here; best = λ i l cand. go i cand (last_or_before m i (omega arith)) }
   where
-    self : goes_before p t c m m ≡ false
-    self = go (goes_before p t c m m) refl
-      where
-        go : (v : Bool) → goes_before p t c m m ≡ v → goes_before p t c m m ≡ false
-        go true e = absurd (before_irrefl (ratio p t c m) (goes_before-true p t c m m e))
-        go false e = e
-
     go : (i : ℕ) → is_candidate t c i ≡ true → (i ≡ m) ⊎ (i < m) → goes_before p t c i m ≡ false
-    go i cand (inl e) = ap (λ (k : ℕ). goes_before p t c k m) e ∙ self
+    go i cand (inl e) = ap (λ (k : ℕ). goes_before p t c k m) e ∙ self_not_before p t c m
     go i cand (inr k) = let a = none i k in cc
 
 -- the best stays so where the next row is no candidate, or doesn't go before it

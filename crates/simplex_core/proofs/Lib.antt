@@ -16,6 +16,9 @@ pub mod FractionSizes
 pub mod Positions
 pub mod Differences
 pub mod CellLaws
+pub mod TableLines
+pub mod LineArithmetic
+pub mod Entering
 pub mod PivotedTable
 pub mod Signs
 pub mod Leaving
@@ -27,6 +30,7 @@ pub mod Rounds
 pub mod WrittenNumbers
 pub mod ProgramFields
 pub mod FirstTable
+pub mod EntrySums
 pub mod Large
 pub mod AnswerCases
 pub mod ArtificialSums
@@ -40,3 +44,11 @@ pub mod SmallRows
 -- the lemmas of the crates below, which callers name through this one
 pub use Rattle.int_laws.proofs as int_laws
 pub use Rattle.linear_forms.proofs as linear_forms
+pub mod ColumnTableLaws
+pub mod CellChoices
+pub mod PivotedColumns
+pub mod ColumnExtraction
+pub mod ColumnResults
+pub mod Halts
+pub mod ColumnLists
+pub mod FirstColumns

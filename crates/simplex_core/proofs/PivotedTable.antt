@@ -1,23 +1,22 @@
 -- After a pivot of the table it shows the tableau after the pivot.
-use Rattle.std.proofs.Common.{◌≡◌, ◌≢◌, ℕ, ◌+◌, ◌*◌, ◌<◌, ap, arith, refl, sym, ◌∙◌, subst, ◌⊎◌, inl, inr, [], ◌∷◌}
-use Rattle.std.proofs.Common.{Some, length}
+use Rattle.std.proofs.Common.{◌≡◌, ◌≢◌, ℕ, ◌+◌, ◌<◌, ap, arith, refl, sym, ◌∙◌, subst, ◌⊎◌, inl, inr, [], ◌∷◌}
+use Rattle.std.proofs.Common.{Some}
 use Rattle.std.specs.Prelude.{ℤ, pos, ◌-ℤ◌, ◌*ℤ◌, ◌<ℤ◌, slice_index, slice_set}
-use Rattle.std.proofs.Math.Nat.{mul-le-mul_right}
 use Rattle.std.proofs.lemmas.List.{get_or-set_same, get_or-set_other}
 use Rattle.frac128.specs.declared.frac.Frac.{Frac}
 use Rattle.frac128.specs.Fraction.{IsFraction}
 use Rattle.int_laws.specs.Polynomial.{variable, constant, ◌⊖◌, ◌⊗◌}
 use Rattle.int_laws.proofs.Identities.{identity, identity_by_one}
 use Rattle.int_laws.proofs.OrderLaws.{mul-cancel_ℤ, mul-positive_ℤ}
-use Rattle.simplex_core.specs.declared.dense_table.DenseTable.{DenseTable}
+use Rattle.simplex_core.specs.declared.sparse_table.SparseTable.{SparseTable}
 use Rattle.linear_forms.specs.LinearProgram.{LinearProgram}
 use Rattle.simplex_core.specs.Tableau.{Tableau, pivot}
-use Rattle.simplex_core.specs.Cells.{width, cell, IsPivoted, Shows}
+use Rattle.simplex_core.specs.Cells.{cell, IsPivoted, Shows}
 use Rattle.simplex_core.specs.Positions.{InTable}
 use Rattle.simplex_core.proofs.Invariant.{same_or_other}
 use Rattle.simplex_core.proofs.Regions.{pivot-row, pivot-other, pivot-scale, pivot-other_scale, pivot-basis}
 use Rattle.simplex_core.proofs.Regions.{pivot-other_basis}
-use Rattle.simplex_core.proofs.Positions.{slice_get-there}
+use Rattle.simplex_core.proofs.TableLines.{cell-there}
 use Rattle.simplex_core.proofs.CellLaws.{InTable-same}
 
 -- f/g is (n/d) / (m/b), where n/d is x/s and m/b is y/s: so it is x/y
@@ -53,29 +52,19 @@ difference-shows f g n d h k u v s x y z w pd pk pv first second third cleared =
     (((variable 0 ⊗ variable 1) ⊗ variable 3) ⊗ ((variable 4 ⊗ variable 5 ⊖ variable 6 ⊗ variable 7) ⊗ variable 8))
     (constant (pos 0) ⊖ (variable 6 ⊗ variable 1) ⊗ variable 0 ⊗ variable 8) (variable 2 ⊗ variable 5) (variable 7 ⊗ variable 3) third refl))))
 
--- there is a number in each row and column of a table
-pub cell-there : (a : DenseTable) (i j : ℕ) → i < a.rows + 3 → j < width a → (f : Frac) × (cell a i j ≡ Some f)
-cell-there a i j l m = slice_get-there a.numbers.items (i * width a + j) (below i j (a.rows + 3) (width a) (length a.numbers.items) a.shape l m)
-  where
-    below : (i j h w n : ℕ) → n ≡ h * w → i < h → j < w → i * w + j < n
-    below i j h w n e l m = let p = mul-le-mul_right w l in omega (arith, e, p)
-
 -- the pivot row of the table shows that of the tableau
-pivot_row-shows : (p : LinearProgram) (a e : DenseTable) (t : Tableau) (r c j : ℕ) (f : Frac) → Shows p a t → IsPivoted a e r c → r < p.rows → c < p.columns
+pivot_row-shows : (p : LinearProgram) (a e : SparseTable) (t : Tableau) (r c j : ℕ) (f : Frac) → Shows p a t → IsPivoted a e r c → r < p.rows → c < p.columns
     → InTable p.rows p.columns r j → cell e r j ≡ Some f → IsFraction f (t.entry r j) (t.entry r c)
 pivot_row-shows p a e t r c j f shows pivoted lr lc inside is =
-    let row : r < a.rows + 3 = let m = shows.rows in omega arith in
-    let column : c < width a = let m = shows.rows in let n = shows.columns in omega arith in
-    let wide : j < width a = let m = shows.rows in let n = shows.columns in let k = inside.column in omega arith in
-    let old = cell-there a r j row wide in
-    let by = cell-there a r c row column in
     let at_pivot : InTable p.rows p.columns r c = record { row = omega arith; column = omega arith; cost = λ k. absurd (omega arith) } in
+    let old = cell-there a r j (InTable-same p.rows p.columns a.rows a.columns r j (sym shows.rows) (sym shows.columns) inside) in
+    let by = cell-there a r c (InTable-same p.rows p.columns a.rows a.columns r c (sym shows.rows) (sym shows.columns) at_pivot) in
     quotient-shows f.num f.den old.0.num old.0.den by.0.num by.0.den (t.scale r) (t.entry r j) (t.entry r c) old.0.positive by.0.positive
     (shows.numbers r j old.0 inside old.1) (shows.numbers r c by.0 at_pivot by.1)
     (pivoted.divided j old.0 by.0 f (InTable-same p.rows p.columns a.rows a.columns r j (sym shows.rows) (sym shows.columns) inside) old.1 by.1 is)
 
 -- another row of the table shows that of the tableau
-other_row-shows : (p : LinearProgram) (a e : DenseTable) (t : Tableau) (r c i j : ℕ) (f : Frac) → Shows p a t → IsPivoted a e r c → r < p.rows → c < p.columns → i ≢ r
+other_row-shows : (p : LinearProgram) (a e : SparseTable) (t : Tableau) (r c i j : ℕ) (f : Frac) → Shows p a t → IsPivoted a e r c → r < p.rows → c < p.columns → i ≢ r
     → InTable p.rows p.columns i j → cell e i j ≡ Some f
     → IsFraction f (t.entry i j *ℤ t.entry r c -ℤ t.entry i c *ℤ t.entry r j) (t.scale i *ℤ t.entry r c)
 other_row-shows p a e t r c i j f shows pivoted lr lc apart inside is =
@@ -85,11 +74,11 @@ other_row-shows p a e t r c i j f shows pivoted lr lc apart inside is =
     let n' = pivoted.columns in
     let k = inside.row in
     let l = inside.column in
-    let old = cell-there a i j (omega arith) (omega arith) in
-    let factor = cell-there a i c (omega arith) (omega arith) in
-    let divided = cell-there e r j (omega arith) (omega arith) in
     let at_row : InTable p.rows p.columns r j = record { row = omega arith; column = l; cost = λ b. absurd (omega arith) } in
     let at_column : InTable p.rows p.columns i c = record { row = k; column = omega arith; cost = λ b. omega arith } in
+    let old = cell-there a i j (InTable-same p.rows p.columns a.rows a.columns i j (sym m) (sym n) inside) in
+    let factor = cell-there a i c (InTable-same p.rows p.columns a.rows a.columns i c (sym m) (sym n) at_column) in
+    let divided = cell-there e r j (InTable-same p.rows p.columns e.rows e.columns r j (sym (m' ∙ m)) (sym (n' ∙ n)) at_row) in
     difference-shows f.num f.den old.0.num old.0.den factor.0.num factor.0.den divided.0.num divided.0.den (t.scale i) (t.entry i j) (t.entry r c) (t.entry i c) (t.entry r j)
     old.0.positive factor.0.positive divided.0.positive
     (shows.numbers i j old.0 inside old.1) (shows.numbers i c factor.0 at_column factor.1)
@@ -97,7 +86,7 @@ other_row-shows p a e t r c i j f shows pivoted lr lc apart inside is =
     (pivoted.cleared i j old.0 factor.0 divided.0 f apart (InTable-same p.rows p.columns a.rows a.columns i j (sym m) (sym n) inside) old.1 factor.1 divided.1 is)
 
 -- the scales are over 0 after a pivot at an entry over 0
-pivot_scale-positive : (p : LinearProgram) (t : Tableau) (r c i : ℕ) → ((k : ℕ) → k < p.rows + 3 → pos 0 <ℤ t.scale k) → pos 0 <ℤ t.entry r c → i < p.rows + 3
+pub pivot_scale-positive : (p : LinearProgram) (t : Tableau) (r c i : ℕ) → ((k : ℕ) → k < p.rows + 3 → pos 0 <ℤ t.scale k) → pos 0 <ℤ t.entry r c → i < p.rows + 3
     → (i ≡ r) ⊎ (i ≢ r) → pos 0 <ℤ (pivot t r c).scale i
 pivot_scale-positive p t r c i scales entry l (inl s) =
     subst (λ (k : ℕ). pos 0 <ℤ (pivot t r c).scale k) (sym s) (subst (λ (z : ℤ). pos 0 <ℤ z) (sym (pivot-scale t r c)) entry)
@@ -105,7 +94,7 @@ pivot_scale-positive p t r c i scales entry l (inr d) =
     subst (λ (z : ℤ). pos 0 <ℤ z) (sym (pivot-other_scale t r c i d)) (mul-positive_ℤ (t.scale i) (t.entry r c) (scales i l) entry)
 
 -- after a pivot of the table at an entry over 0 it shows the tableau after the pivot
-pub pivot-shows : (p : LinearProgram) (a e : DenseTable) (t : Tableau) (r c : ℕ) → Shows p a t → IsPivoted a e r c → r < p.rows → c < p.columns → pos 0 <ℤ t.entry r c
+pub pivot-shows : (p : LinearProgram) (a e : SparseTable) (t : Tableau) (r c : ℕ) → Shows p a t → IsPivoted a e r c → r < p.rows → c < p.columns → pos 0 <ℤ t.entry r c
     → Shows p e (pivot t r c)
 pivot-shows p a e t r c shows pivoted lr lc entry = record {
   positive = λ i l. pivot_scale-positive p t r c i shows.positive entry l (same_or_other i r);

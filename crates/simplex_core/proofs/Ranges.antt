@@ -1,5 +1,5 @@
 -- The table's numbers are in range exactly where the tableau's are.
-use Rattle.std.proofs.Common.{◌≡◌, ◌<◌, ◌^◌, arith, refl, sym, subst, [], ◌∷◌, Bool, true, false}
+use Rattle.std.proofs.Common.{◌≡◌, ◌<◌, ◌^◌, refl, sym, subst, [], ◌∷◌, Bool, true, false}
 use Rattle.std.specs.Prelude.{ℤ, pos, ◌*ℤ◌, ◌<ℤ◌, unsigned_abs, MatchBool}
 use Rattle.frac128.specs.declared.frac.Frac.{Frac}
 use Rattle.frac128.specs.Fraction.{IsFraction}
@@ -7,7 +7,7 @@ use Rattle.frac128.proofs.Uniqueness.{same_parts}
 use Rattle.int_laws.specs.Polynomial.{variable, constant, ◌⊖◌, ◌⊗◌}
 use Rattle.int_laws.proofs.Identities.{identity_by_two}
 use Rattle.int_laws.proofs.OrderLaws.{mul-cancel_ℤ}
-use Rattle.simplex_core.specs.declared.dense_table.DenseTable.{DenseTable}
+use Rattle.simplex_core.specs.declared.sparse_table.SparseTable.{SparseTable}
 use Rattle.linear_forms.specs.LinearProgram.{LinearProgram}
 use Rattle.simplex_core.specs.Tableau.{Tableau}
 use Rattle.simplex_core.specs.Sizes.{IsBelow}
@@ -15,7 +15,7 @@ use Rattle.simplex_core.specs.Cells.{AreSmall, HasLarge, Shows, ShowsTested}
 use Rattle.simplex_core.specs.Outcome.{IsSmallRatio, IsInRange}
 use Rattle.simplex_core.specs.TableClauses.{ShowsInRange, ShowsOutOfRange}
 use Rattle.simplex_core.proofs.CellLaws.{InTable-same}
-use Rattle.simplex_core.proofs.PivotedTable.{cell-there}
+use Rattle.simplex_core.proofs.TableLines.{cell-there}
 
 -- a small fraction shows a small ratio
 small-shows : (f : Frac) (z s : ℤ) → pos 0 <ℤ s → IsFraction f z s → IsBelow 31 f → IsSmallRatio z s
@@ -33,20 +33,21 @@ small-shows f z s positive shows below = record {
         (constant (pos 0) ⊖ variable 1) (variable 4 ⊗ variable 2) (variable 3 ⊗ variable 5) same shows refl)
 
 -- a table of small numbers shows a tableau in range
-pub small-in_range : (p : LinearProgram) (a : DenseTable) (t : Tableau) → Shows p a t → AreSmall a → IsInRange p t
+pub small-in_range : (p : LinearProgram) (a : SparseTable) (t : Tableau) → Shows p a t → AreSmall a → IsInRange p t
 small-in_range p a t shows small = record {
   each = λ i j inside.
       let rows = shows.rows in
       let columns = shows.columns in
       let r = inside.row in
       let k = inside.column in
-      let there = cell-there a i j (omega arith) (omega arith) in
+      let inside' = InTable-same p.rows p.columns a.rows a.columns i j (sym rows) (sym columns) inside in
+      let there = cell-there a i j inside' in
       small-shows there.0 (t.entry i j) (t.scale i) (shows.positive i r) (shows.numbers i j there.0 inside there.1)
       (small.each i j there.0 (InTable-same p.rows p.columns a.rows a.columns i j (sym rows) (sym columns) inside) there.1);
 }
 
 -- a table with a number that isn't small shows a tableau out of range
-pub large-out_of_range : (p : LinearProgram) (a : DenseTable) (t : Tableau) → Shows p a t → HasLarge a → ¬ IsInRange p t
+pub large-out_of_range : (p : LinearProgram) (a : SparseTable) (t : Tableau) → Shows p a t → HasLarge a → ¬ IsInRange p t
 large-out_of_range p a t shows large range =
     let inside = InTable-same a.rows a.columns p.rows p.columns large.row large.column shows.rows shows.columns large.in_table in
     let f = large.number in
@@ -54,7 +55,7 @@ large-out_of_range p a t shows large range =
     large.large (record { num = small.0; den = small.1 })
 
 -- a table that shows a tableau in range has small numbers
-pub in_range-small : (p : LinearProgram) (a : DenseTable) (t : Tableau) → Shows p a t → IsInRange p t → AreSmall a
+pub in_range-small : (p : LinearProgram) (a : SparseTable) (t : Tableau) → Shows p a t → IsInRange p t → AreSmall a
 in_range-small p a t shows range = record {
   each = λ i j f inside is.
       let there = InTable-same a.rows a.columns p.rows p.columns i j shows.rows shows.columns inside in
@@ -63,6 +64,6 @@ in_range-small p a t shows range = record {
 }
 
 -- what a table has noted tells whether the tableaux that it shows are in range
-pub range-told : (a : DenseTable) (v : Bool) → a.is_small ≡ v → MatchBool v (ShowsInRange ShowsTested a) (ShowsOutOfRange ShowsTested a)
+pub range-told : (a : SparseTable) (v : Bool) → a.is_small ≡ v → MatchBool v (ShowsInRange ShowsTested a) (ShowsOutOfRange ShowsTested a)
 range-told a true e = record { each = λ p t s. small-in_range p a t s.shows (subst (λ (b : Bool). MatchBool b (AreSmall a) (HasLarge a)) e s.range) }
 range-told a false e = record { each = λ p t s. large-out_of_range p a t s.shows (subst (λ (b : Bool). MatchBool b (AreSmall a) (HasLarge a)) e s.range) }

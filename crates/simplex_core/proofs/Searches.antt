@@ -12,11 +12,6 @@ pub second_fails : (a b : Bool) → (a && b) ≡ false → a ≡ true → b ≡ 
 second_fails true b h k = h
 second_fails false b h k = cc
 
--- a conjunction whose second part holds
-pub and_yes : (a b : Bool) → b ≡ true → (a && b) ≡ a
-and_yes true b h = h
-and_yes false b h = refl
-
 -- what each number below n passes, a number below n passes
 pub every-each : (n : ℕ) (f : ℕ → Bool) → every n f ≡ true → (j : ℕ) → j < n → f j ≡ true
 every-each zero f h j l = absurd (omega arith)

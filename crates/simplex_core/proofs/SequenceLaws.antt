@@ -1,6 +1,6 @@
 -- Each tableau of the sequence is one of the program's, and the sequence ends only as infeasible or
 -- as optimal.
-use Rattle.std.proofs.Common.{◌≡◌, ℕ, zero, suc, ◌<◌, arith, refl, ◌∙◌, subst, ◌⊎◌, inl, inr, Bool, true, false, Option}
+use Rattle.std.proofs.Common.{◌≡◌, ℕ, zero, suc, ◌<◌, arith, refl, ◌∙◌, subst, Bool, true, false, Option}
 use Rattle.std.proofs.Common.{Some, None}
 use Rattle.std.specs.Prelude.{pos, ◌<ℤ◌, if◌then◌else◌}
 use Rattle.linear_forms.specs.LinearProgram.{LinearProgram, HasNonnegativeCosts}
@@ -66,21 +66,6 @@ next-is p t t' h = go (is_infeasible p t) (entering p t) refl refl h
     go true o f e h = cc
     go false None f e h = cc
     go false (Some c) f e h = at_row c (leaving p t c) f e refl h
-
--- the sequence ends only as infeasible, or where no column may enter
-pub next-none : (p : LinearProgram) (t : Tableau) → HasNonnegativeCosts p → IsTableauOf p t → next p t ≡ None
-    → (is_infeasible p t ≡ true) ⊎ ((is_infeasible p t ≡ false) × (entering p t ≡ None))
-next-none p t costs s h = go (is_infeasible p t) (entering p t) refl refl h
-  where
-    at_row : (c : ℕ) (o : Option ℕ) → entering p t ≡ Some c → leaving p t c ≡ o → pivot_at t c o ≡ None → ⊥
-    at_row c None e l h = let there = (entering-leaving p t c costs s e).1 in cc
-    at_row c (Some r) e l h = cc
-
-    go : (v : Bool) (o : Option ℕ) → is_infeasible p t ≡ v → entering p t ≡ o → (if v then None else step_in p t o) ≡ None
-        → (is_infeasible p t ≡ true) ⊎ ((is_infeasible p t ≡ false) × (entering p t ≡ None))
-    go true o f e h = inl f
-    go false None f e h = inr (f, e)
-    go false (Some c) f e h = absurd (at_row c (leaving p t c) e refl h)
 
 -- the next tableau is one of the program's
 pub next-is_tableau : (p : LinearProgram) (t t' : Tableau) → IsTableauOf p t → next p t ≡ Some t' → IsTableauOf p t'

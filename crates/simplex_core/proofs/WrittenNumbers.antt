@@ -4,20 +4,21 @@ use Rattle.std.proofs.Common.{List, [], ◌∷◌, ◌++◌, take, Some, Bool, t
 use Rattle.std.specs.Prelude.{ℤ, pos, ◌*ℤ◌, slice_get, slice_index_or, nat_eq, nat_lt, ◌&&◌, if◌then◌else◌}
 use Rattle.std.proofs.lemmas.Bool.{eqb-true, eq-eqb}
 use Rattle.frac128.specs.declared.frac.Frac.{Frac}
-use Rattle.simplex_core.specs.declared.dense_table.DenseTable.{DenseTable}
+use Rattle.simplex_core.specs.declared.sparse_table.SparseTable.{SparseTable}
 use Rattle.simplex_core.specs.declared.problem.Entry.{Entry}
 use Rattle.simplex_core.specs.Tableau.{sign_of}
 use Rattle.simplex_core.specs.Problem.{entry_value}
 use Rattle.simplex_core.specs.Cells.{width, cell}
 use Rattle.simplex_core.specs.Building.{HoldsWhole, WritesWhole, signed_entries, with_equations, cost_number}
-use Rattle.simplex_core.specs.Building.{with_costs}
+use Rattle.simplex_core.specs.Building.{with_costs, IsZeroAt}
+use Rattle.int_laws.proofs.RingLaws.{mul-zero_ℤ}
 use Rattle.simplex_core.specs.Numbers.{AreInCells}
 use Rattle.std.proofs.lemmas.Bool.{cases_lt}
 use Rattle.simplex_core.proofs.Invariant.{same_or_other}
 use Rattle.simplex_core.proofs.Regions.{choose-below, choose-above, choose-same, choose-other}
 
 -- the whole numbers of a table after one more is written
-pub HoldsWhole-written_within : (a b : DenseTable) (r c : ℕ) (z : ℤ) (g h : ℕ → ℕ → ℤ) → HoldsWhole a g → WritesWhole a b r c z → h r c ≡ z
+pub HoldsWhole-written_within : (a b : SparseTable) (r c : ℕ) (z : ℤ) (g h : ℕ → ℕ → ℤ) → HoldsWhole a g → WritesWhole a b r c z → h r c ≡ z
     → ((i j : ℕ) → i < a.rows + 3 → (i ≡ r → j ≡ c → ⊥) → h i j ≡ g i j) → HoldsWhole b h
 HoldsWhole-written_within a b r c z g h holds writes here others = record {
   num = λ i j f l m is. num i j f l m is (same_or_other i r) (same_or_other j c);
@@ -49,23 +50,31 @@ HoldsWhole-written_within a b r c z g h holds writes here others = record {
     den i j f l m is (inr d) w = holds.den i j f (old_row i l) (old_column j m) (before i j f (λ e _. d e) m is)
 
 -- the whole numbers after one more is written
-pub HoldsWhole-written : (a b : DenseTable) (r c : ℕ) (z : ℤ) (g h : ℕ → ℕ → ℤ) → HoldsWhole a g → WritesWhole a b r c z → h r c ≡ z
+pub HoldsWhole-written : (a b : SparseTable) (r c : ℕ) (z : ℤ) (g h : ℕ → ℕ → ℤ) → HoldsWhole a g → WritesWhole a b r c z → h r c ≡ z
     → ((i j : ℕ) → (i ≡ r → j ≡ c → ⊥) → h i j ≡ g i j) → HoldsWhole b h
 HoldsWhole-written a b r c z g h holds writes here others =
     HoldsWhole-written_within a b r c z g h holds writes here (λ i j _ apart. others i j apart)
 
 -- the test of an entry's cell, where it passes
-at_cell : (e : Entry) (i j : ℕ) → e.row ≡ i → e.col ≡ j → (nat_eq e.row i && nat_eq e.col j) ≡ true
+pub at_cell : (e : Entry) (i j : ℕ) → e.row ≡ i → e.col ≡ j → (nat_eq e.row i && nat_eq e.col j) ≡ true
 at_cell e i j r c = ap (λ (b : Bool). b && nat_eq e.col j) (eq-eqb e.row i r) ∙ eq-eqb e.col j c
 
 -- the test of an entry's cell, where it fails
-off_cell : (e : Entry) (i j : ℕ) → (e.row ≡ i → e.col ≡ j → ⊥) → (nat_eq e.row i && nat_eq e.col j) ≡ false
+pub off_cell : (e : Entry) (i j : ℕ) → (e.row ≡ i → e.col ≡ j → ⊥) → (nat_eq e.row i && nat_eq e.col j) ≡ false
 off_cell e i j apart = go (nat_eq e.row i) (nat_eq e.col j) refl refl
   where
     go : (a b : Bool) → nat_eq e.row i ≡ a → nat_eq e.col j ≡ b → (a && b) ≡ false
     go true true x y = absurd (apart (eqb-true e.row i x) (eqb-true e.col j y))
     go true false x y = refl
     go false b x y = refl
+
+-- the number of a cell without an entry is 0
+pub entry_value-absent : (es : List Entry) (i j : ℕ) → ((k : ℕ) (d : Entry) → slice_get es k ≡ Some d → d.row ≡ i → d.col ≡ j → ⊥)
+    → entry_value es i j ≡ pos 0
+entry_value-absent [] i j none = refl
+entry_value-absent (d ∷ es) i j none =
+    ap (λ (b : Bool). if b then d.value else entry_value es i j) (off_cell d i j (none 0 d refl))
+    ∙ entry_value-absent es i j (λ k x is. none (suc k) x is)
 
 -- an entry that is added elsewhere
 pub entry_value-other : (es : List Entry) (e : Entry) (i j : ℕ) → (e.row ≡ i → e.col ≡ j → ⊥) → entry_value (es ++ (e ∷ [])) i j ≡ entry_value es i j
@@ -106,21 +115,47 @@ slice_get-take (y ∷ ys) zero k x h = cc
 slice_get-take (y ∷ ys) (suc m) zero x h = (omega arith, h)
 slice_get-take (y ∷ ys) (suc m) (suc k) x h = let r = slice_get-take ys m k x h in (omega (arith, r.0), r.1)
 
+-- the first entries, with one more
+take-more : (es : List Entry) (k : ℕ) (e : Entry) → slice_get es k ≡ Some e → take (k + 1) es ≡ take k es ++ (e ∷ [])
+take-more es k e is = ap (λ (n : ℕ). take n es) (add-one k) ∙ take-next es k e is
+
+-- in an entry's cell the entries before it have 0
+pub signed-absent : (rows columns k : ℕ) (es : List Entry) (right : List ℤ) (e : Entry) → AreInCells rows columns es → slice_get es k ≡ Some e
+    → signed_entries (take k es) right e.row e.col ≡ pos 0
+signed-absent rows columns k es right e cells is =
+    mul-zero_ℤ (sign_of (slice_index_or right e.row (pos 0))) (entry_value (take k es) e.row e.col)
+    (entry_value-absent (take k es) e.row e.col (λ m d read r c. let within = slice_get-take es k m d read in cells.once m k d e within.0 within.1 is r c))
+
+-- in an entry's cell the entries up to it have its number
+pub signed-new : (rows columns k : ℕ) (es : List Entry) (right : List ℤ) (e : Entry) → AreInCells rows columns es → slice_get es k ≡ Some e
+    → signed_entries (take (k + 1) es) right e.row e.col ≡ sign_of (slice_index_or right e.row (pos 0)) *ℤ e.value
+signed-new rows columns k es right e cells is =
+    ap (λ (xs : List Entry). sign_of (slice_index_or right e.row (pos 0)) *ℤ entry_value xs e.row e.col) (take-more es k e is)
+    ∙ ap (λ (z : ℤ). sign_of (slice_index_or right e.row (pos 0)) *ℤ z)
+    (entry_value-new (take k es) e e.row e.col refl refl (λ m d at r c. let within = slice_get-take es k m d at in cells.once m k d e within.0 within.1 is r c))
+
+-- in another cell the entries up to one have what those before it have
+pub signed-other : (k : ℕ) (es : List Entry) (right : List ℤ) (e : Entry) (i j : ℕ) → slice_get es k ≡ Some e → (e.row ≡ i → e.col ≡ j → ⊥)
+    → signed_entries (take (k + 1) es) right i j ≡ signed_entries (take k es) right i j
+signed-other k es right e i j is apart =
+    ap (λ (xs : List Entry). sign_of (slice_index_or right i (pos 0)) *ℤ entry_value xs i j) (take-more es k e is)
+    ∙ ap (λ (z : ℤ). sign_of (slice_index_or right i (pos 0)) *ℤ z) (entry_value-other (take k es) e i j apart)
+
+-- the number of an entry's cell is 0 before it is written
+pub entries-zero : (rows columns : ℕ) (a : SparseTable) (es : List Entry) (right : List ℤ) (k : ℕ) (e : Entry) → AreInCells rows columns es → slice_get es k ≡ Some e
+    → HoldsWhole a (signed_entries (take k es) right) → e.row < a.rows + 3 → e.col < width a → IsZeroAt a e.row e.col
+entries-zero rows columns a es right k e cells is holds row col = record {
+  each = λ f at. holds.num e.row e.col f row col at ∙ signed-absent rows columns k es right e cells is;
+}
+
 -- one more entry is written
-pub entries-step : (rows columns : ℕ) (a b : DenseTable) (es : List Entry) (right : List ℤ) (k : ℕ) (e : Entry) → AreInCells rows columns es → slice_get es k ≡ Some e
+pub entries-step : (rows columns : ℕ) (a b : SparseTable) (es : List Entry) (right : List ℤ) (k : ℕ) (e : Entry) → AreInCells rows columns es → slice_get es k ≡ Some e
     → HoldsWhole a (signed_entries (take k es) right) → WritesWhole a b e.row e.col (sign_of (slice_index_or right e.row (pos 0)) *ℤ e.value)
     → HoldsWhole b (signed_entries (take (k + 1) es) right)
 entries-step rows columns a b es right k e cells is holds writes =
     HoldsWhole-written a b e.row e.col _ (signed_entries (take k es) right) (signed_entries (take (k + 1) es) right) holds writes
-    (ap (λ (xs : List Entry). sign_of (slice_index_or right e.row (pos 0)) *ℤ entry_value xs e.row e.col) more
-    ∙ ap (λ (z : ℤ). sign_of (slice_index_or right e.row (pos 0)) *ℤ z)
-    (entry_value-new (take k es) e e.row e.col refl refl (λ m d at r c. let within = slice_get-take es k m d at in cells.once m k d e within.0 within.1 is r c)))
-    (λ i j apart.
-    ap (λ (xs : List Entry). sign_of (slice_index_or right i (pos 0)) *ℤ entry_value xs i j) more
-    ∙ ap (λ (z : ℤ). sign_of (slice_index_or right i (pos 0)) *ℤ z) (entry_value-other (take k es) e i j (λ r c. apart (sym r) (sym c))))
-  where
-    more : take (k + 1) es ≡ take k es ++ (e ∷ [])
-    more = ap (λ (n : ℕ). take n es) (add-one k) ∙ take-next es k e is
+    (signed-new rows columns k es right e cells is)
+    (λ i j apart. signed-other k es right e i j is (λ r c. apart (sym r) (sym c)))
 
 -- a written number, and else as before
 abbrev with_number : ℕ → ℕ → ℤ → (ℕ → ℕ → ℤ) → ℕ → ℕ → ℤ
@@ -141,7 +176,7 @@ with_number-other r c z g i j apart = ap (λ (b : Bool). if b then z else g i j)
     go false b x y = refl
 
 -- one more row's artificial unknown and right side are written
-pub equations-step : (m n : ℕ) (right : List ℤ) (g : ℕ → ℕ → ℤ) (k : ℕ) (a b d : DenseTable) → k < m
+pub equations-step : (m n : ℕ) (right : List ℤ) (g : ℕ → ℕ → ℤ) (k : ℕ) (a b d : SparseTable) → k < m
     → HoldsWhole a (with_equations m n right g k) → WritesWhole a b k (n + k) (pos 1)
     → WritesWhole b d k (n + m) (sign_of (slice_index_or right k (pos 0)) *ℤ slice_index_or right k (pos 0))
     → HoldsWhole d (with_equations m n right g (k + 1))
@@ -192,7 +227,7 @@ equations-step m n right g k a b d l holds first second =
             ∙ (sym (choose-above i k (inner i j) (g i j) f) ∙ sym (with_number-other k (n + k) (pos 1) before i j (λ e _. d e)))
 
 -- one more column of the cost rows is written
-pub costs-step : (m : ℕ) (g : ℕ → ℕ → ℤ) (f s : List ℤ) (k : ℕ) (a b d e : DenseTable) → a.rows ≡ m → b.rows ≡ m → d.rows ≡ m
+pub costs-step : (m : ℕ) (g : ℕ → ℕ → ℤ) (f s : List ℤ) (k : ℕ) (a b d e : SparseTable) → a.rows ≡ m → b.rows ≡ m → d.rows ≡ m
     → HoldsWhole a (with_costs m g f s k)
     → WritesWhole a b m k (cost_number m g f s 0 k) → WritesWhole b d (m + 1) k (cost_number m g f s 1 k) → WritesWhole d e (m + 2) k (cost_number m g f s 2 k)
     → HoldsWhole e (with_costs m g f s (k + 1))

@@ -1,17 +1,17 @@
 -- The table while it is being filled: whole numbers that are known.
-use Rattle.std.specs.Prelude.{◌≡◌, ℕ, zero, suc, ◌+◌, ◌-◌, ◌<◌, ℤ, pos, ◌-ℤ◌, ◌*ℤ◌, unsigned_abs, nat_lt, nat_eq}
+use Rattle.std.specs.Prelude.{◌≡◌, ℕ, zero, suc, ◌+◌, ◌-◌, ◌^◌, ◌<◌, ◌≤◌, ℤ, pos, ◌-ℤ◌, ◌*ℤ◌, unsigned_abs, nat_lt}
+use Rattle.std.specs.Prelude.{nat_eq}
 use Rattle.std.specs.Prelude.{if◌then◌else◌, List, Some, slice_index_or}
 use Rattle.int_laws.specs.Sums.{sum_to}
 use Rattle.frac128.specs.declared.frac.Frac.{Frac}
-use Rattle.simplex_core.specs.declared.dense_table.DenseTable.{DenseTable}
+use Rattle.simplex_core.specs.declared.sparse_table.SparseTable.{SparseTable}
 use Rattle.simplex_core.specs.declared.problem.Entry.{Entry}
 use Rattle.simplex_core.specs.Tableau.{sign_of}
 use Rattle.simplex_core.specs.Problem.{entry_value}
-use Rattle.simplex_core.specs.Sizes.{number_limit}
 use Rattle.simplex_core.specs.Cells.{width, cell, ChangesCell}
 
 -- each number of the table is the whole number g i j
-pub record HoldsWhole (table : DenseTable) (g : ℕ → ℕ → ℤ) : Type 0 where
+pub record HoldsWhole (table : SparseTable) (g : ℕ → ℕ → ℤ) : Type 0 where
   pub num : (i j : ℕ) (f : Frac) → i < table.rows + 3 → j < width table → cell table i j ≡ Some f → f.num ≡ g i j
   pub den : (i j : ℕ) (f : Frac) → i < table.rows + 3 → j < width table → cell table i j ≡ Some f → f.den ≡ pos 1
 
@@ -41,23 +41,34 @@ abbrev pub with_costs : ℕ → (ℕ → ℕ → ℤ) → List ℤ → List ℤ 
 with_costs m g first second k i j =
     if nat_lt i m then g i j else if nat_lt j k then cost_number m g first second (i - m) j else g i j
 
--- the equations' numbers in the program's columns are below 2^31 in absolute value
-pub record HasSmallEquations (table : DenseTable) : Type 0 where
-  pub each : (i j : ℕ) (f : Frac) → i < table.rows → j < table.columns → cell table i j ≡ Some f
-      → unsigned_abs f.num < number_limit
+-- the number in row i and column j is 0
+pub record IsZeroAt (table : SparseTable) (i j : ℕ) : Type 0 where
+  pub each : (f : Frac) → cell table i j ≡ Some f → f.num ≡ pos 0
 
--- the equations' numbers are as before
-pub record KeepsEquations (old new : DenseTable) : Type 0 where
-  pub each : (i j : ℕ) → i < old.rows → j < width old → cell new i j ≡ cell old i j
+-- from row k on the artificial unknown of each equation is 0 in it
+pub record AreZeroFrom (table : SparseTable) (k : ℕ) : Type 0 where
+  pub each : (i : ℕ) → k ≤ i → i < table.rows → IsZeroAt table i (table.columns + i)
+
+-- the cost rows are 0 in the program's columns from column k on
+pub record AreCostsZeroFrom (table : SparseTable) (k : ℕ) : Type 0 where
+  pub each : (q j : ℕ) → q < 3 → k ≤ j → j < table.columns → IsZeroAt table (table.rows + q) j
+
+-- the list has the sums of the numbers g over m rows, one for each of n columns
+pub record AreSumsOf (g : ℕ → ℕ → ℤ) (m n : ℕ) (sums : List ℤ) : Type 0 where
+  pub each : (j : ℕ) → j < n → slice_index_or sums j (pos 0) ≡ sum_to m (λ i. g i j)
+
+-- each of the numbers has an absolute value below 2^127
+pub record AreNarrowNumbers (numbers : List ℤ) : Type 0 where
+  pub each : (k : ℕ) → unsigned_abs (slice_index_or numbers k (pos 0)) < 2 ^ 127
 
 -- a whole number is written in a row and a column, and the table is else as before
-pub record WritesWhole (old new : DenseTable) (row column : ℕ) (number : ℤ) : Type 0 where
+pub record WritesWhole (old new : SparseTable) (row column : ℕ) (number : ℤ) : Type 0 where
   pub changes : ChangesCell old new row column
   pub num : (f : Frac) → cell new row column ≡ Some f → f.num ≡ number
   pub den : (f : Frac) → cell new row column ≡ Some f → f.den ≡ pos 1
 
 -- the table has the same rows, columns and basis
-pub record KeepsShape (old new : DenseTable) : Type 0 where
+pub record KeepsShape (old new : SparseTable) : Type 0 where
   pub rows : new.rows ≡ old.rows
   pub columns : new.columns ≡ old.columns
   pub basis : new.basis.items ≡ old.basis.items

@@ -12,8 +12,13 @@ pub mod Laws
 pub mod Search
 pub mod Sizes
 pub mod Positions
+pub mod Lines
 pub mod Cells
+pub mod ColumnTables
+pub mod ColumnBuilding
+pub mod ColumnResults
 pub mod TableClauses
+pub mod Halts
 pub mod Numbers
 pub mod Building
 -- the crates below, which callers name through this one

@@ -40,4 +40,4 @@ table_size p = p.rows * (p.columns + p.rows + 1)
 
 -- the most numbers that they may have
 abbrev pub widest : ℕ
-widest = 16000000
+widest = 40000000000

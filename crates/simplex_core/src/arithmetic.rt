@@ -54,7 +54,7 @@ pub(crate) fn quotient(a: Frac, b: Frac) -> Frac
 }
 
 /// A number of a tableau less another.
-fn difference(a: Frac, b: Frac) -> Frac
+pub(crate) fn difference(a: Frac, b: Frac) -> Frac
     requires a_small { IsBelow 31 a }
     requires b_small { IsBelow 31 b }
     ensures { IsFraction result (a.num *ℤ b.den -ℤ b.num *ℤ a.den) (a.den *ℤ b.den) }
@@ -94,7 +94,7 @@ fn less_whole_multiple(a: i128, factor: i128, b: i128) -> Frac
 }
 
 /// The fraction `over / under` in lowest terms.
-fn lowest(over: i128, under: i128) -> Frac
+pub(crate) fn lowest(over: i128, under: i128) -> Frac
     requires over_bounded { unsigned_abs over < 2 ^ 125 }
     requires under_bounded { unsigned_abs under < 2 ^ 125 }
     requires nonzero { under ≢ pos 0 }

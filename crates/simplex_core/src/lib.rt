@@ -4,13 +4,14 @@
 mod answers;
 mod arithmetic;
 mod checking;
-mod dense_table;
+mod column_table;
 mod laws;
 mod problem;
 mod scaling;
 mod sequence;
 mod simplex_table;
 mod solving;
+mod sparse_table;
 
 pub use answers::{Answer, solve_scaled};
 pub use laws::{
@@ -20,3 +21,4 @@ pub use laws::{
 pub use problem::{Entry, Problem, SolveError, Solved};
 pub use scaling::Numerators;
 pub use solving::solve;
+pub use sparse_rows::{SparseError, SparseRow};

@@ -4,11 +4,33 @@ ghost use Rattle.std.specs.Prelude.{◌≡◌, ℕ, length, MatchResult};
 ghost use Rattle.linear_forms.specs.LinearProgram.{HasNonnegativeCosts};
 ghost use Rattle.simplex_core.specs.Tableau.{first_tableau};
 ghost use Rattle.simplex_core.specs.Problem.{program_of};
-ghost use Rattle.simplex_core.specs.Outcome.{IsEnd, IsTrip};
+ghost use Rattle.simplex_core.specs.Outcome.{IsEnd};
+ghost use Rattle.simplex_core.specs.Halts.{IsHalt};
 
 use crate::problem::{Problem, SolveError, Solved};
-use crate::simplex_table::SimplexTable;
-use std::alloc::Global;
+use crate::simplex_table::{SimplexTable, Unmade};
+use std::alloc::{AllocError, Global};
+
+/// Why the sequence isn't followed to an end.
+#[derive(Debug, Drop, PartialEq, Eq)]
+pub(crate) enum Halt {
+    /// It trips.
+    Trip(SolveError),
+    /// A number has no room in the table; this says nothing of the sequence.
+    Beyond,
+}
+
+impl From<AllocError> for Halt {
+    ghost use Rattle.std.specs.Prelude.{◌≡◌};
+    ghost use Rattle.simplex_core.specs.declared.problem.SolveError.TheVariants.{Memory};
+    ghost use Rattle.simplex_core.specs.declared.sequence.Halt.TheVariants.{Trip};
+
+    ghost from_gives = { λ _ e. e ≡ Trip Memory };
+
+    fn from(_: AllocError) -> Halt {
+        Halt::Trip(SolveError::Memory)
+    }
+}
 
 /// Follows the sequence from the first tableau.
 pub(crate) fn run<T: SimplexTable + Drop>(
@@ -16,17 +38,18 @@ pub(crate) fn run<T: SimplexTable + Drop>(
     problem: &Problem,
     table: T,
     pivots: u32,
-) -> Result<Solved, SolveError>
+) -> Result<Solved, Halt>
     requires costs { HasNonnegativeCosts (program_of problem.now) }
     requires right { length problem.now.right.items ≡ problem.now.rows }
     requires first { T.shows (program_of problem.now) table (first_tableau (program_of problem.now)) }
-    ensures { MatchResult result (IsEnd (program_of problem.now) pivots) (IsTrip (program_of problem.now) pivots) }
+    ensures { MatchResult result (IsEnd (program_of problem.now) pivots)
+        (IsHalt T.gives_up (program_of problem.now) pivots) }
 {
     let mut table = table;
     let mut made = 0;
     'pivoting: loop {
         if !table.is_in_range() {
-            return Err(SolveError::Range { pivot: made });
+            return Err(Halt::Trip(SolveError::Range { pivot: made }));
         }
         if table.is_infeasible() {
             let dual = table.dual(alloc, problem.right.as_slice())?;
@@ -42,9 +65,12 @@ pub(crate) fn run<T: SimplexTable + Drop>(
             });
         };
         if made == pivots {
-            return Err(SolveError::Budget { pivots });
+            return Err(Halt::Trip(SolveError::Budget { pivots }));
         }
-        table.advance(alloc, column)?;
-        made += 1;
+        match table.advance(alloc, column) {
+            Ok(()) => made += 1,
+            Err(Unmade::Beyond) => return Err(Halt::Beyond),
+            Err(Unmade::Memory) => return Err(Halt::Trip(SolveError::Memory)),
+        }
     }
 }

@@ -1,23 +1,47 @@
 //! What the method sees of its table.
 
-ghost use Rattle.std.specs.Prelude.{◌≡◌, ℕ, MatchBool, IfOk};
+ghost use Rattle.std.specs.Prelude.{◌≡◌, ℕ, MatchBool, MatchResult, IfOk};
 ghost use Rattle.linear_forms.specs.LinearProgram.{LinearProgram};
 ghost use Rattle.simplex_core.specs.Tableau.{Tableau};
 ghost use Rattle.simplex_core.specs.Bland.{is_infeasible, entering};
 ghost use Rattle.simplex_core.specs.TableClauses.{ShowsInRange, ShowsOutOfRange, MayPivot, IsAdvanced, MayGiveDual};
 ghost use Rattle.simplex_core.specs.TableClauses.{GivesSolution, GivesBasis, GivesDual};
+ghost use Rattle.simplex_core.specs.Halts.{IsUnmade};
 
 use frac128::Frac;
 use std::alloc::{AllocError, Global};
+
+/// Why a table makes no pivot.
+#[derive(Debug, Drop, PartialEq, Eq)]
+pub(crate) enum Unmade {
+    /// A number has no room in the table; this says nothing of the tableau.
+    Beyond,
+    /// Memory ran out.
+    Memory,
+}
+
+impl From<AllocError> for Unmade {
+    ghost use Rattle.std.specs.Prelude.{◌≡◌};
+    ghost use Rattle.simplex_core.specs.declared.simplex_table.Unmade.TheVariants.{Memory};
+
+    ghost from_gives = { λ _ e. e ≡ Memory };
+
+    fn from(_: AllocError) -> Unmade {
+        Unmade::Memory
+    }
+}
 
 /// A table of numbers that shows a tableau: its tests, Bland's choice and pivot, and what is read off it
 /// at an end. The method is written over it and rests on its clauses alone, so they leave open how the
 /// numbers are kept.
 ///
 /// Its meaning is `shows`: the numbers and the basis are those of this tableau, and the sizes those of this
-/// linear program. A tableau is told up to the scales of its rows, so it is a relation.
+/// linear program. A tableau is told up to the scales of its rows, so it is a relation. `gives_up` is what
+/// follows where a number has no room: a table that has room for all has ⊥ there.
 pub(crate) trait SimplexTable {
     ghost shows: { LinearProgram → Self → Tableau → Type 0 };
+
+    ghost gives_up: { Type 0 };
 
     /// Whether each number is in range: in lowest terms its numerator and denominator are below 2^31.
     fn is_in_range(&self) -> bool
@@ -31,10 +55,11 @@ pub(crate) trait SimplexTable {
     fn entering(&self) -> Option<usize>
         ensures { (p : LinearProgram) (t : Tableau) → shows p self.now t → result ≡ entering p t };
 
-    /// Pivots at the leaving row of the entering column. Error: memory ran out; the table is then open.
-    fn advance(&mut self, alloc: Global, column: usize) -> Result<(), AllocError>
+    /// Pivots at the leaving row of the entering column. Error: memory ran out, or a number has no room; the table is
+    /// then open.
+    fn advance(&mut self, alloc: Global, column: usize) -> Result<(), Unmade>
         requires { MayPivot shows self.old column }
-        ensures { IfOk result (λ _. IsAdvanced shows self.old self.new column) };
+        ensures { MatchResult result (λ _. IsAdvanced shows self.old self.new column) (IsUnmade gives_up) };
 
     /// The basic solution, one number for each column of the program. Error: memory ran out.
     fn solution(&self, alloc: Global) -> Result<Vec<Frac>, AllocError>

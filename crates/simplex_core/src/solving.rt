@@ -1,19 +1,20 @@
 //! The public call.
 
-ghost use Rattle.std.specs.Prelude.{MatchBool};
+ghost use Rattle.std.specs.Prelude.{MatchBool, MatchResult, IfSome};
 ghost use Rattle.simplex_core.specs.Tableau.{first_tableau};
 ghost use Rattle.simplex_core.specs.Problem.{program_of, IsProper};
 ghost use Rattle.simplex_core.specs.Numbers.{HasSmallNumbers};
-ghost use Rattle.simplex_core.specs.Outcome.{IsInRange, IsAnswer};
+ghost use Rattle.simplex_core.specs.Outcome.{IsInRange, IsAnswer, IsEnd, IsTrip};
 
 use crate::checking::{are_below, are_entries_below};
-use crate::dense_table::{first_table, tested};
+use crate::column_table::first_columns;
 use crate::problem::{Problem, SolveError, Solved};
-use crate::sequence::run;
+use crate::sequence::{Halt, run};
+use crate::sparse_table::{first_table, tested};
 use std::alloc::Global;
 
 /// The most numbers that the equations of a table may have.
-const WIDEST: u64 = 16_000_000;
+const WIDEST: u64 = 40_000_000_000;
 
 /// Whether the numbers of a problem are below 2^31; else the first tableau is out of range.
 fn has_small_numbers(problem: &Problem) -> bool
@@ -41,10 +42,10 @@ fn has_small_numbers(problem: &Problem) -> bool
 /// (`least_costs_least` says what that is): the last basic solution, with 0 for each unknown that no row
 /// is solved for. `Infeasible` comes exactly where there is no solution and nothing trips
 /// (`outcome_tells_solutions`), with a dual that shows it (`dual_excludes_solutions`).
-/// `Wide` comes before all where the equations of the table would have more than 16,000,000 numbers; `Range` at the
-/// first tableau with a number out of range; `Budget` where the allowed pivots are made and another is
-/// needed; `Memory` where memory runs out. Source: R. G. Bland, New finite pivoting rules for the
-/// simplex method, 1977.
+/// `Wide` comes before all where the equations of the table would have more than 40,000,000,000 numbers;
+/// `Range` at the first tableau with a number out of range; `Budget` where the allowed pivots are made and
+/// another is needed; `Memory` where memory runs out. Source: R. G. Bland, New finite pivoting rules for
+/// the simplex method, 1977.
 ///
 /// # Errors
 ///
@@ -61,6 +62,53 @@ pub fn solve(alloc: Global, problem: &Problem, pivots: u32) -> Result<Solved, So
     if !has_small_numbers(problem) {
         return Err(SolveError::Range { pivot: 0 });
     }
+    follow(alloc, problem, pivots)
+}
+
+/// Follows the sequence with a table of columns, and where a number has no room there, anew with one of fractions.
+fn follow(alloc: Global, problem: &Problem, pivots: u32) -> Result<Solved, SolveError>
+    requires proper { IsProper problem.now }
+    requires small { HasSmallNumbers problem.now }
+    ensures { MatchResult result (IsEnd (program_of problem.now) pivots) (IsTrip (program_of problem.now) pivots) }
+{
+    match follow_by_columns(alloc, problem, pivots) {
+        Ok(Some(solved)) => Ok(solved),
+        Ok(None) => follow_by_fractions(alloc, problem, pivots),
+        Err(error) => Err(error),
+    }
+}
+
+/// Follows the sequence with a table of columns. None where a number has no room there.
+fn follow_by_columns(
+    alloc: Global,
+    problem: &Problem,
+    pivots: u32,
+) -> Result<Option<Solved>, SolveError>
+    requires proper { IsProper problem.now }
+    requires small { HasSmallNumbers problem.now }
+    ensures { MatchResult result (λ found. IfSome found (IsEnd (program_of problem.now) pivots))
+        (IsTrip (program_of problem.now) pivots) }
+{
+    let Some(table) = first_columns(alloc, problem)? else {
+        return Ok(None);
+    };
+    match run(alloc, problem, table, pivots) {
+        Ok(solved) => Ok(Some(solved)),
+        Err(Halt::Trip(error)) => Err(error),
+        Err(Halt::Beyond) => Ok(None),
+    }
+}
+
+/// Follows the sequence with a table of fractions, which has room for each number of a tableau in range.
+fn follow_by_fractions(alloc: Global, problem: &Problem, pivots: u32) -> Result<Solved, SolveError>
+    requires proper { IsProper problem.now }
+    requires small { HasSmallNumbers problem.now }
+    ensures { MatchResult result (IsEnd (program_of problem.now) pivots) (IsTrip (program_of problem.now) pivots) }
+{
     let table = first_table(alloc, problem)?;
-    run(alloc, problem, tested(table), pivots)
+    match run(alloc, problem, tested(table), pivots) {
+        Ok(solved) => Ok(solved),
+        Err(Halt::Trip(error)) => Err(error),
+        Err(Halt::Beyond) => unreachable!(),
+    }
 }

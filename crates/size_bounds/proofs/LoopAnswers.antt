@@ -12,8 +12,10 @@ use Rattle.proof_tree.specs.proof_nodes.Known.{IsKnown, Table}
 use Rattle.proof_tree.specs.proof_nodes.Limits.{IsSmallComposed}
 use Rattle.proof_tree.specs.proof_nodes.ComposedSizes.{Flow, flows, base_of, rules_of}
 use Rattle.proof_tree.specs.proof_nodes.AcceptsSizes.{AcceptsUp, AcceptsLow, AcceptsCycle, cycle_size}
-use Rattle.proof_tree.specs.proof_nodes.Reasons.{Reason, MissingTime, MissingSize, Bent, Large, Check, for_each, IsFirstAmong}
-use Rattle.proof_tree.specs.proof_nodes.Checks.{large_nodes, check_up, check_low, check_size, check_time, check_small, needed_into}
+use Rattle.proof_tree.specs.proof_nodes.Reasons.{Reason, MissingTime, MissingSize, Bent, Large, Check, for_each}
+use Rattle.proof_tree.specs.proof_nodes.Reasons.{IsFirstAmong}
+use Rattle.proof_tree.specs.proof_nodes.Checks.{large_nodes, check_up, check_low, check_size, check_time, check_small}
+use Rattle.proof_tree.specs.proof_nodes.Checks.{needed_into}
 use Rattle.proof_tree.specs.proof_nodes.Checks.{needed_times, straight_into, cycle_checks}
 use Rattle.proof_tree.proofs.proof_nodes.CheckLists.{passes_each}
 use Rattle.proof_tree.proofs.proof_nodes.SizeReasons.{passes-cycle}

@@ -4,7 +4,8 @@ use Rattle.model.specs.Bounds.{Bound, SumOf, ProductOf, PowerOf, Parts, NoParts,
 use Rattle.model.specs.Programs.{Program}
 use Rattle.proof_tree.specs.proof_nodes.Known.{known}
 use Rattle.proof_tree.specs.proof_nodes.Composed.{both_parts}
-use Rattle.proof_tree.specs.proof_nodes.ComposedSizes.{Flow, base_of, factor_of, addition_of, multiplies, adds, growth_parts}
+use Rattle.proof_tree.specs.proof_nodes.ComposedSizes.{Flow, base_of, factor_of, addition_of, multiplies, adds}
+use Rattle.proof_tree.specs.proof_nodes.ComposedSizes.{growth_parts}
 use Rattle.proof_tree.specs.proof_nodes.ComposedSizes.{addition_parts, loop_bound}
 use Rattle.proof_tree.specs.proof_setting.Setting.{setting_of}
 use Rattle.proof_tree.specs.Sizes.{joined}

@@ -14,7 +14,7 @@ use Rattle.proof_tree.specs.proof_nodes.Nodes.{Spot, Member}
 use Rattle.proof_tree.specs.proof_nodes.AcceptsSizes.{cycle_facts}
 use Rattle.proof_tree.specs.Views.{facts_of}
 use Rattle.proof_tree.specs.declared.fact.Fact.{Fact}
-use Rattle.proof_tree.specs.declared.fact.Fact.TheVariants.{Time, Size}
+use Rattle.proof_tree.specs.declared.fact.Fact.TheVariants.{Time, Size, Cost}
 use Rattle.size_bounds.specs.round_relation.Tables.{lacks}
 use Rattle.size_bounds.specs.round_relation.NewSizes.{has_spot, is_unsized}
 use Rattle.size_bounds.specs.Tables.{row_at, bound_stored}
@@ -51,6 +51,7 @@ unsized_none (Some s) e = absurd (none_some (bound_of s.bound) (sym e))
 pub fact_known : (rows : List (List (Option Stored))) (n : ℕ) (f : Fact) (t i : ℕ) (s : Stored) → placed rows t i ≡ Some s
     → placed (put_fact rows n f) t i ≡ Some s
 fact_known rows n (Time u b) t i s e = e
+fact_known rows n (Cost u b) t i s e = e
 fact_known rows n (Size u j b) t i s e = place_known rows u j t i _ s e
 
 -- a size that is known stays when facts are written
@@ -63,6 +64,7 @@ facts_known rows n (f ∷ facts) t i s e = facts_known (put_fact rows n f) n fac
 fact_long : (rows : List (List (Option Stored))) (n : ℕ) (f : Fact)
     → map (λ (row : List (Option Stored)). length row) (put_fact rows n f) ≡ map (λ (row : List (Option Stored)). length row) rows
 fact_long rows n (Time u b) = refl
+fact_long rows n (Cost u b) = refl
 fact_long rows n (Size u j b) = place_long rows u j _
 
 -- rows are as long as before when facts are written
@@ -74,6 +76,7 @@ facts_long rows n (f ∷ facts) = facts_long (put_fact rows n f) n facts ∙ fac
 -- no more sizes are missing than before
 fact_few : (rows : List (List (Option Stored))) (n : ℕ) (f : Fact) → count_unsized (put_fact rows n f) ≤ count_unsized rows
 fact_few rows n (Time u b) = omega arith
+fact_few rows n (Cost u b) = omega arith
 fact_few rows n (Size u j b) = place_few rows u j _
 
 -- no more sizes are missing than before when facts are written
@@ -113,6 +116,7 @@ pub facts_other : (b : Bound) (spots : List Spot) (rows : List (List (Option Sto
 facts_other b spots rows n [] t i e h = refl
 facts_other b [] rows n (f ∷ facts) t i e h = absurd (let x : ⊥ = cc in x)
 facts_other b (m ∷ spots) rows n (Time u c ∷ facts) t i e h = absurd (let x : ⊥ = cc in x)
+facts_other b (m ∷ spots) rows n (Cost u c ∷ facts) t i e h = absurd (let x : ⊥ = cc in x)
 facts_other b (m ∷ spots) rows n (Size u j c ∷ facts) t i e h =
     let fr = front u j (bound_of c) (facts_of facts) m b spots e in
     let parts = neither ((m.rule == t) && (m.place == i)) (has_spot spots t i) h in
@@ -142,6 +146,7 @@ pub stored_here : (b : Bound) (spots : List Spot) (rows : List (List (Option Sto
 stored_here b [] rows n facts t i e h none l k = absurd (no_is_not_yes false refl h)
 stored_here b (m ∷ spots) rows n [] t i e h none l k = absurd (let x : ⊥ = cc in x)
 stored_here b (m ∷ spots) rows n (Time u c ∷ facts) t i e h none l k = absurd (let x : ⊥ = cc in x)
+stored_here b (m ∷ spots) rows n (Cost u c ∷ facts) t i e h none l k = absurd (let x : ⊥ = cc in x)
 stored_here b (m ∷ spots) rows n (Size u j c ∷ facts) t i e h none l k =
     go ((m.rule == t) && (m.place == i)) refl h (λ g q w. stored_here b spots (put_place rows u j (stored_with c n)) n facts t i fr.rest g q l w)
   where
@@ -182,6 +187,7 @@ pub facts_fewer : (b : Bound) (spots : List Spot) (rows : List (List (Option Sto
 facts_fewer b [] rows n facts e within h = absurd (no_is_not_yes false refl h)
 facts_fewer b (m ∷ spots) rows n [] e within h = absurd (let x : ⊥ = cc in x)
 facts_fewer b (m ∷ spots) rows n (Time u c ∷ facts) e within h = absurd (let x : ⊥ = cc in x)
+facts_fewer b (m ∷ spots) rows n (Cost u c ∷ facts) e within h = absurd (let x : ⊥ = cc in x)
 facts_fewer b (m ∷ spots) rows n (Size u j c ∷ facts) e within h =
     go (placed rows u j) refl (λ r q w. facts_fewer b spots r n facts fr.rest q w)
   where

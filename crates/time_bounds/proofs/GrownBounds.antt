@@ -15,11 +15,15 @@ use Rattle.proof_tree.specs.proof_nodes.Nodes.{Arm, Linear, Poly, Member}
 use Rattle.proof_tree.specs.proof_nodes.Known.{IsKnown, Table, known}
 use Rattle.proof_tree.specs.proof_nodes.Numbers.{rounded_up}
 use Rattle.proof_tree.specs.proof_nodes.Composed.{both_parts, parts_for, place_parts, no_place, sizes_after}
-use Rattle.proof_tree.specs.proof_nodes.ComposedSizes.{monomial_parts, polynomial_bound, arm_bound, has_variable, reads, poly_at}
-use Rattle.proof_tree.specs.proof_nodes.ComposedSizes.{spread_part, is_member, slope_of, offset_of, Flow, flow, flows_from}
-use Rattle.proof_tree.specs.proof_nodes.ComposedSizes.{flows_into, flows, factor_of, addition_of, base_of, rules_of, multiplies}
+use Rattle.proof_tree.specs.proof_nodes.ComposedSizes.{monomial_parts, polynomial_bound, arm_bound, has_variable, reads}
+use Rattle.proof_tree.specs.proof_nodes.ComposedSizes.{poly_at}
+use Rattle.proof_tree.specs.proof_nodes.ComposedSizes.{spread_part, is_member, slope_of, offset_of, Flow, flow}
+use Rattle.proof_tree.specs.proof_nodes.ComposedSizes.{flows_from}
+use Rattle.proof_tree.specs.proof_nodes.ComposedSizes.{flows_into, flows, factor_of, addition_of, base_of, rules_of}
+use Rattle.proof_tree.specs.proof_nodes.ComposedSizes.{multiplies}
 use Rattle.proof_tree.specs.proof_nodes.ComposedSizes.{adds, growth_parts, addition_parts, loop_bound}
-use Rattle.proof_tree.specs.proof_nodes.AcceptsSizes.{ArmHasSizes, HasSizesAfter, HasSizesBefore, IsStraightArm, IsStraight}
+use Rattle.proof_tree.specs.proof_nodes.AcceptsSizes.{ArmHasSizes, HasSizesAfter, HasSizesBefore, IsStraightArm}
+use Rattle.proof_tree.specs.proof_nodes.AcceptsSizes.{IsStraight}
 use Rattle.proof_tree.specs.proof_nodes.AcceptsSizes.{spread_size, cycle_size}
 use Rattle.proof_tree.specs.proof_nodes.Setting.{Setting}
 use Rattle.proof_tree.proofs.proof_nodes.CheckLists.{each-in, in-each}

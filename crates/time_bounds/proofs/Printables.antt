@@ -33,7 +33,8 @@ use Rattle.outcome.specs.Reports.{Timed, Untimed, NoTime, NoFunction, TimeTrippe
 use Rattle.size_bounds.specs.round_relation.Tables.{IsPlace}
 use Rattle.size_bounds.specs.round_relation.Beginning.{IsDead, IsFirstTable}
 use Rattle.size_bounds.specs.round_relation.Sets.{IsSetOfRule}
-use Rattle.size_bounds.specs.round_relation.Searches.{Searches, SizeSearches, Ranking, Ranked, Unranked, RankTripped, Sizing, Found}
+use Rattle.size_bounds.specs.round_relation.Searches.{Searches, SizeSearches, Ranking, Ranked, Unranked, RankTripped}
+use Rattle.size_bounds.specs.round_relation.Searches.{Sizing, Found}
 use Rattle.size_bounds.specs.round_relation.Searches.{NotFound}
 use Rattle.size_bounds.specs.round_relation.NewTimes.{SaysTime, bound_in, GivesTime}
 use Rattle.size_bounds.specs.round_relation.NewSizes.{Sizes, has_spot, size_by, TriesSize, TriesSizes}

@@ -38,7 +38,8 @@ use Rattle.rank_search.proofs.NodeLaws.{nodes-rank}
 use Rattle.rank_search.proofs.Accepted.{nodes-accepted}
 use Rattle.rank_search.proofs.RankExact.{answers-exact}
 use Rattle.size_bounds.specs.round_relation.Searches.{Emptiness, NoPoint, HasPoint, EmptyTripped, Ranking}
-use Rattle.size_bounds.specs.round_relation.Right.{EmptyTrips, NoneTrips, IsFirstTrip, IsRightEmptiness, IsRightRanking, IsQuestion}
+use Rattle.size_bounds.specs.round_relation.Right.{EmptyTrips, NoneTrips, IsFirstTrip, IsRightEmptiness, IsRightRanking}
+use Rattle.size_bounds.specs.round_relation.Right.{IsQuestion}
 use Rattle.size_bounds.specs.round_relation.Right.{AreRight}
 use Rattle.size_bounds.proofs.round_relation.Cases.{either}
 use Rattle.time_bounds.specs.SearchLaws.{ProgramSearchesAreRight}

@@ -16,10 +16,12 @@ use Rattle.proof_tree.specs.proof_nodes.Nodes.{Spot, Arm, Linear, Poly, Member}
 use Rattle.proof_tree.specs.proof_nodes.Known.{known}
 use Rattle.proof_tree.specs.proof_nodes.Setting.{Setting}
 use Rattle.proof_tree.specs.proof_nodes.Composed.{sizes_after}
-use Rattle.proof_tree.specs.proof_nodes.ComposedSizes.{monomial_bound, monomial_parts, polynomial_bound, arm_bound, poly_at}
+use Rattle.proof_tree.specs.proof_nodes.ComposedSizes.{monomial_bound, monomial_parts, polynomial_bound, arm_bound}
+use Rattle.proof_tree.specs.proof_nodes.ComposedSizes.{poly_at}
 use Rattle.proof_tree.specs.proof_nodes.ComposedSizes.{spread_part, spread_of, is_member, offset_of, Flow, flows_from}
 use Rattle.proof_tree.specs.proof_nodes.ComposedSizes.{flows_into, flows, offsets, is_outer, is_inner}
-use Rattle.proof_tree.specs.proof_nodes.ComposedSizes.{factor_of, rules_of, multiplies, adds, growth_parts, addition_parts}
+use Rattle.proof_tree.specs.proof_nodes.ComposedSizes.{factor_of, rules_of, multiplies, adds, growth_parts}
+use Rattle.proof_tree.specs.proof_nodes.ComposedSizes.{addition_parts}
 use Rattle.proof_tree.specs.proof_nodes.ComposedSizes.{loop_bound, cycle_of}
 use Rattle.proof_tree.specs.proof_nodes.AcceptsSizes.{HasArmShape, HasMemberShape, left_of}
 use Rattle.proof_tree.proofs.proof_nodes.CheckLists.{each-append}

@@ -1,7 +1,7 @@
 -- Lists of rows in which values are written at places after rules, where there is none.
 use Rattle.std.specs.Prelude.{ℕ, zero, suc, ◌+◌, List, [], ◌∷◌, map, Option, Some, None}
 use Rattle.proof_tree.specs.declared.fact.Fact.{Fact}
-use Rattle.proof_tree.specs.declared.fact.Fact.TheVariants.{Time, Size}
+use Rattle.proof_tree.specs.declared.fact.Fact.TheVariants.{Time, Size, Cost}
 use Rattle.outcome.specs.declared.entry.Stored.{Stored}
 use Rattle.size_bounds.specs.declared.table.Table.{Table}
 use Rattle.size_bounds.specs.Tables.{entry_at, row_at}
@@ -38,6 +38,7 @@ put_place (row ∷ rows) (suc t) i a = row ∷ put_place rows t i a
 abbrev pub put_fact : List (List (Option Stored)) → ℕ → Fact → List (List (Option Stored))
 put_fact rows lemma (Time t b) = rows
 put_fact rows lemma (Size t i b) = put_place rows t i (record { bound = b; lemma = lemma })
+put_fact rows lemma (Cost t b) = rows
 
 abbrev pub put_facts : List (List (Option Stored)) → ℕ → List Fact → List (List (Option Stored))
 put_facts rows lemma [] = rows

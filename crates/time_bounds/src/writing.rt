@@ -26,6 +26,7 @@ fn write_fact(table: &mut Table, fact: Fact, lemma: u32)
 {
     match fact {
         Fact::Time { .. } => {}
+        Fact::Cost { .. } => {}
         Fact::Size { rule, place, bound } => write_place(
             &mut table.sizes,
             rule,

@@ -57,4 +57,4 @@ value_of-returns-in-Power t c =
     let whole : bound_of c.args.bound.now ≡ PowerOf c.in-Power.base (bound_of exponent) =
     ap bound_of c.in-Power.is ∙ bound_of-Power c.in-Power.base c.in-Power.exponent in
     power-step c.in-Power.base (bound_of exponent) (bound_of c.args.bound.now) at c.from.result c.value_of.result
-    c.power.result cap (omega arith) whole base raised c.power.ensures
+    c.capped_power.result cap (omega arith) whole base raised c.capped_power.ensures

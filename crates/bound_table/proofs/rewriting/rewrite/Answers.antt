@@ -1,5 +1,5 @@
 use Rattle.bound_table.specs.InForce.{rewritten}
-use Rattle.bound_table.proofs.TableInForce.{small-tidying}
+use Rattle.bound_table.proofs.TableInForce.{in_force-tidying}
 use Rattle.bound_table.proofs.rewriting.rewrite.Goals as goal
 
 pub returns-clause-outcome : goal.returns-clause-outcome
@@ -7,4 +7,4 @@ unfolding rewritten
 returns-clause-outcome c = c.simplify.ensures.outcome
 
 pub returns-clause-tidy : goal.returns-clause-tidy
-returns-clause-tidy c has = c.simplify.ensures.tidy small-tidying has
+returns-clause-tidy c has = c.simplify.ensures.tidy in_force-tidying has

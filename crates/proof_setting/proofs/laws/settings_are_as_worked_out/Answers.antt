@@ -13,5 +13,13 @@ returns c = record {
   bent = refl;
   past_the_places = refl;
   no_rule_0 = refl;
-  no_rule_3 = refl;
+  no_rule_4 = refl;
+  cost_rows = refl;
+  cost_value = refl;
+  flat_cost = refl;
+  no_cost_rows = refl;
+  bent_cost_value = refl;
+  bent_cost = refl;
+  without_cost = refl;
+  value_without_cost = refl;
 }

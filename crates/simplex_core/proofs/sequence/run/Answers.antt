@@ -75,7 +75,7 @@ pivoting-preserved g c =
     let inv = c.pivoting.invariant in
     let feasible : is_infeasible p inv.last ≡ false = sym (c.is_infeasible.ensures p inv.last inv.shows) ∙ c.if-is_infeasible.false in
     let enters : entering p inv.last ≡ Some c.in-Some.column = sym (c.entering.ensures p inv.last inv.shows) ∙ c.in-Some.is in
-    let step = c.in_ok-advance.ensures in
+    let step = c.in-Ok.ensures in
     record {
       within = let w = inv.within in omega arith;
       last = pivot inv.last step.row c.in-Some.column;

@@ -34,7 +34,4 @@ returns c =
     let rows : c.from-rows.result ≡ q.rows = search rules in
     let cols : c.from.result ≡ q.cols = search rules in
     let size = ap (λ (r : ℕ). r * (c.from.result + r + 1)) rows ∙ (ap (λ (n : ℕ). q.rows * (n + q.rows + 1)) cols ∙ sym (size-is q)) in
-    answer (program_of q) c.args.pivots c.run.result (omega (arith, size)) c.run.ensures
-
-pub run-requires-clause-first : goal.run-requires-clause-first
-run-requires-clause-first c = c.tested.ensures (program_of c.args.problem.now) (first_tableau (program_of c.args.problem.now)) c.in_ok-table.ensures
+    answer (program_of q) c.args.pivots c.follow.result (omega (arith, size)) c.follow.ensures

@@ -1,6 +1,6 @@
 use Rattle.its_reader.specs.declared.place.Place.TheVariants as places
-use Rattle.its_reader.proofs.AdvanceLaws.{in_advanced_place, sections_advance, left_advances, right_advances}
-use Rattle.its_reader.proofs.AdvanceLaws.{tail_advances}
+use Rattle.its_reader.proofs.AdvanceLaws.{in_advanced_place, sections_advance, left_advances, cost_advances}
+use Rattle.its_reader.proofs.AdvanceLaws.{right_advances, tail_advances}
 use Rattle.its_reader.proofs.draft.Draft.advance.Goals as goal
 
 pub returns-in-InSections : goal.returns-in-InSections
@@ -9,6 +9,9 @@ returns-in-InSections c =
 
 pub returns-in_ok-led-in-InLeft : goal.returns-in_ok-led-in-InLeft
 returns-in_ok-led-in-InLeft c = in_advanced_place c.args.place (places.InLeft c.in-InLeft.left) c.args.self.now _ _ _ _ c.in-InLeft.is (left_advances c.in-InLeft.left c.args.self.now _ _ _ _ c.in_ok-led-in-InLeft.ensures)
+
+pub returns-in_ok-costed-in-InCost : goal.returns-in_ok-costed-in-InCost
+returns-in_ok-costed-in-InCost c = in_advanced_place c.args.place (places.InCost c.in-InCost.cost) c.args.self.now _ _ _ _ c.in-InCost.is (cost_advances c.in-InCost.cost c.args.self.now _ _ _ _ c.in_ok-costed-in-InCost.ensures)
 
 pub returns-in_ok-aimed-in-InRight : goal.returns-in_ok-aimed-in-InRight
 returns-in_ok-aimed-in-InRight c = in_advanced_place c.args.place (places.InRight c.in-InRight.right) c.args.self.now _ _ _ _ c.in-InRight.is (right_advances c.in-InRight.right c.args.self.now _ _ _ _ c.in_ok-aimed-in-InRight.ensures)

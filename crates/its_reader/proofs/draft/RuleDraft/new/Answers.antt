@@ -1,4 +1,4 @@
-use Rattle.std.proofs.Common.{rules}
+use Rattle.std.proofs.Common.{rules, refl}
 use Rattle.its_reader.proofs.draft.RuleDraft.new.Goals as goal
 
 pub returns : goal.returns
@@ -7,4 +7,5 @@ returns c = record {
   updates = search rules;
   expression = c.new-3.ensures;
   guard = c.new-4.ensures;
+  cost = refl;
 }

@@ -10,6 +10,6 @@ use Rattle.its_reader.specs.FaultTests.{atoms_full, atom_faults}
 use Rattle.its_reader.proofs.draft.RuleDraft.noted_another.Goals as goal
 
 pub returns : goal.returns
-returns c = one_more (maybe_fault c.args.best) _ _ (fault_if (atoms_full c.args.self.now.guard (maybe_of c.args.ahead.next)) (Limit TooManyAtoms) c.args.ahead.at) (atom_faults c.args.self.now c.args.ahead.at (maybe_of c.args.ahead.next) (maybe_of c.args.ahead.behind))
+returns c = one_more (maybe_fault c.args.best) _ _ (fault_if (atoms_full c.args.self.now (maybe_of c.args.ahead.next)) (Limit TooManyAtoms) c.args.ahead.at) (atom_faults c.args.self.now c.args.ahead.at (maybe_of c.args.ahead.next) (maybe_of c.args.ahead.behind))
     (c.first_where-counted.ensures ∙ ap (λ v. first_among programs (maybe_fault c.args.best) (fault_if v (Limit TooManyAtoms) c.args.ahead.at)) c.passes_atoms-full.ensures)
     c.noted_atom.ensures

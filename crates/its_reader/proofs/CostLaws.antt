@@ -1,0 +1,110 @@
+-- Where each piece leads within the braces of a cost.
+use Rattle.std.specs.Prelude.{◌≡◌, true, not, if◌then◌else◌, List, Option, Some, None, refl}
+use Rattle.std.proofs.Common.{sym, ap, subst, ◌∙◌}
+use Rattle.model.specs.Programs.{Name}
+use Rattle.its_text.specs.expr_text.Pieces as inner
+use Rattle.its_text.specs.expr_text.Fronts as expression
+use Rattle.its_text.specs.expr_text.Steps as expression_steps
+use Rattle.its_text.specs.expr_text.FrontNames.{is_front, goes_on_with}
+use Rattle.its_text.specs.expr_text.GuardFronts.{no_atoms}
+use Rattle.expr_reader.specs.Standing.{IsModest}
+use Rattle.expr_reader.specs.GuardStanding.{IsWanting}
+use Rattle.its_text.specs.Pieces.{Piece, In, CostClose}
+use Rattle.its_text.specs.Written.{LeftTerm}
+use Rattle.its_text.specs.Numbering.{left_names}
+use Rattle.its_text.specs.Fronts as fronts
+use Rattle.its_text.specs.Fronts.{Front, Ruling}
+use Rattle.its_text.specs.FrontNames.{symbols_led}
+use Rattle.its_text.specs.FrontFaults.{Tokens, ends_expression}
+use Rattle.its_text.specs.Steps.{step, cost_step}
+use Rattle.its_reader.specs.Tests as tests
+use Rattle.its_reader.specs.Standing.{KnowsSymbols, without_cost}
+use Rattle.its_reader.specs.Places.{CostSettled, LeadsTo, IsCosting, IsCosted}
+use Rattle.its_reader.specs.PlaceSteps.{GoTogether, IsModestPiece, GoesOn, Takes, TakesPiece, CostLeads}
+use Rattle.its_reader.specs.declared.draft.Draft.{Draft}
+use Rattle.its_reader.specs.declared.place.CostPlace.{CostPlace}
+use Rattle.its_reader.specs.declared.place.CostPlace.TheVariants as costs
+use Rattle.its_reader.specs.declared.place.RightPlace.TheVariants as rights
+use Rattle.its_reader.specs.declared.place.Place.{Place}
+use Rattle.its_reader.specs.declared.place.Place.TheVariants as places
+use Rattle.its_reader.proofs.LeftLaws.{leads_together}
+use Rattle.its_reader.proofs.LedLaws.{led_kept}
+use Rattle.its_reader.proofs.RightPromises.{takes_written}
+
+-- the place within the braces while a cost is read
+abbrev reading : Place
+reading = places.InCost costs.Costing
+
+module _ (r : Ruling) (t : LeftTerm) (e : expression.Front) (p : inner.Piece) (old new : Draft) (result : Option Place) where
+  -- a piece goes on with a cost, and what is known beside it stays
+  cost_goes_on : (ts : Tokens) (more : expression.Front) → IsCosting ts r t e old → expression_steps.step e p ≡ Some more → IsModest p → GoesOn old p new → IsCosting ts r t more new
+  cost_goes_on ts more k led modest g = record {
+    led = led_kept ts (without_cost r t) old new k.led g.sections g.rules g.stays.source g.stays.left g.stays.cost;
+    symbols = subst (KnowsSymbols (symbols_led r t)) (sym g.symbols) k.symbols;
+    updates = ap (λ v. v.items) g.stays.updates ∙ k.updates;
+    guard = subst (λ g. (before : List Name) → IsWanting before no_atoms before g) (sym g.stays.guard) k.guard;
+    expression = g.leads.each (left_names t) e more k.expression led modest;
+  }
+
+  -- where a piece of an expression leads within a cost
+  inner_leads : (ts : Tokens) (next : Option Piece) → IsCosting ts r t e old → IsModest p → Takes (goes_on_with e p) reading old p result new → LeadsTo ts next (cost_step r t (expression_steps.step e p)) result new
+  inner_leads ts next k modest h = go (expression_steps.step e p) refl h
+    where
+      go : (o : Option expression.Front) → expression_steps.step e p ≡ o → Takes (is_front o) reading old p result new → LeadsTo ts next (cost_step r t o) result new
+      go (Some more) led h = rw h.0 (r, (t, (more, (refl, cost_goes_on ts more k led modest h.1))))
+      go None led h = rw h.0 tt
+
+  -- it leads somewhere in both, or nowhere in both
+  inner_together : Takes (goes_on_with e p) reading old p result new → GoTogether (cost_step r t (expression_steps.step e p)) result
+  inner_together h = go (expression_steps.step e p) h
+    where
+      go : (o : Option expression.Front) → Takes (is_front o) reading old p result new → GoTogether (cost_step r t o) result
+      go (Some more) h = rw h.0 tt
+      go None h = rw h.0 tt
+
+-- in a cost that goes on the code leads where what is written does
+pub costing_promise : (p : Piece) (old new : Draft) (result : Option Place) → TakesPiece reading old p result new → CostLeads costs.Costing old p result new
+costing_promise p old new result h = record {
+  together = λ ts f k. rw k.1.1.1.0 (together ts p h k.0 k.1.0 k.1.1.0 k.1.1.1.1.0 k.1.1.1.1.1);
+  each = λ ts next f k modest. rw k.1.1.1.0 (each ts next p h modest k.0 k.1.0 k.1.1.0 k.1.1.1.1.0 k.1.1.1.1.1);
+}
+  where
+    together : (ts : Tokens) (p : Piece) → TakesPiece reading old p result new → (r : Ruling) (t : LeftTerm) (e : expression.Front) → IsCosting ts r t e old
+        → (ends_expression e (Some p) ≡ true → expression_steps.finish e ≡ None) → GoTogether (step (fronts.Costing r t e) p) result
+    together ts (In q) h r t e k stops = inner_together r t e q old new result (takes_written reading (left_names t) e q old new result k.expression h)
+    together ts CostClose h r t e k stops = rw (stops refl, h.0) tt
+    together ts _ h r t e k stops = rw h.0 tt
+
+    each : (ts : Tokens) (next : Option Piece) (p : Piece) → TakesPiece reading old p result new → IsModestPiece p → (r : Ruling) (t : LeftTerm) (e : expression.Front) → IsCosting ts r t e old
+        → (ends_expression e (Some p) ≡ true → expression_steps.finish e ≡ None) → LeadsTo ts next (step (fronts.Costing r t e) p) result new
+    each ts next (In q) h modest r t e k stops = inner_leads r t e q old new result ts next k modest (takes_written reading (left_names t) e q old new result k.expression h)
+    each ts next CostClose h modest r t e k stops = rw (stops refl, h.0) tt
+    each ts next _ h modest r t e k stops = rw h.0 tt
+
+-- behind a cost that has ended only `}>` leads on
+costed_leads : (ts : Tokens) (next : Option Piece) (p : Piece) (f : Front) (d : Draft) → CostSettled ts (Some p) costs.Costed d f
+    → LeadsTo ts next (step f p) (if tests.closes_cost p then Some (places.InRight rights.Arrowed) else None) d
+costed_leads ts next p f d k = rw k.1.1.1.1.0 (go p known.ends)
+  where
+    known : IsCosted ts (Some p) k.0 k.1.0 k.1.1.0 k.1.1.1.0 d
+    known = k.1.1.1.1.1
+
+    stopped : (o : Option expression.Front) → not (is_front o) ≡ true → LeadsTo ts next (cost_step k.0 k.1.0 o) None d
+    stopped (Some more) n = cc
+    stopped None n = tt
+
+    go : (p : Piece) → ends_expression k.1.1.0 (Some p) ≡ true → LeadsTo ts next (step (fronts.Costing k.0 k.1.0 k.1.1.0) p) (if tests.closes_cost p then Some (places.InRight rights.Arrowed) else None) d
+    go (In q) ends = stopped (expression_steps.step k.1.1.0 q) ends
+    go CostClose ends = rw known.finish_is (record { ruling = k.0; left = k.1.0; cost = Some k.1.1.1.0 }, (refl, known.left))
+    go _ ends = tt
+
+-- so does the code
+pub costed_promise : (p : Piece) (old : Draft) (result : Option Place) → result ≡ (if tests.closes_cost p then Some (places.InRight rights.Arrowed) else None) → CostLeads costs.Costed old p result old
+costed_promise p old result h = record {
+  together = λ ts f k. leads_together ts None (step f p) result old (rw h (costed_leads ts None p f old k));
+  each = λ ts next f k modest. rw h (costed_leads ts next p f old k);
+}
+
+-- the place within the braces of a cost may be told by an equation
+pub in_cost_place : (place known : CostPlace) (old new : Draft) (p : Piece) (result : Option Place) → place ≡ known → CostLeads known old p result new → CostLeads place old p result new
+in_cost_place place known old new p result e h = subst (λ (q : CostPlace). CostLeads q old p result new) (sym e) h

@@ -1,0 +1,40 @@
+//! The cell of a list at a place.
+
+ghost use Rattle.std.specs.Prelude.{◌≡◌, MatchResult};
+ghost use Rattle.merges.specs.Listing.{IsListing, listed, IsAt, LiesAt};
+
+use crate::cell::Cell;
+
+/// The index of the cell at a place, or the index at which a cell of that place would stand. It is looked for by
+/// halving.
+pub fn search<C: Cell>(cells: &[C], place: u32) -> Result<usize, usize>
+    requires { IsListing C.place_of C.fits cells.now }
+    ensures { MatchResult result (IsAt C.place_of cells.now place) (LiesAt C.place_of cells.now place) }
+{
+    let mut low = 0;
+    let mut high = cells.len();
+    'halving: while low < high {
+        let middle = low + (high - low) / 2;
+        let found = cells[middle].place();
+        if found == place {
+            return Ok(middle);
+        }
+        if found < place {
+            low = middle + 1;
+        } else {
+            high = middle;
+        }
+    }
+    Err(low)
+}
+
+/// The cell of a list at a place, if it has one there.
+pub fn find<C: Cell>(cells: &[C], place: u32) -> Option<C>
+    requires { IsListing C.place_of C.fits cells.now }
+    ensures { result ≡ listed C.place_of cells.now place }
+{
+    match search(cells, place) {
+        Ok(index) => Some(cells[index]),
+        Err(_) => None,
+    }
+}

@@ -1,0 +1,11 @@
+pub mod RuleLaws
+pub mod RunLaws
+pub mod Passing
+pub mod Digits
+pub mod Derived
+pub mod DerivedText
+pub mod DerivedRuns
+pub mod Written
+pub mod WrittenText
+pub mod RunAnswers
+pub mod WorkedRuns

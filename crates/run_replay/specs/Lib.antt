@@ -1,0 +1,12 @@
+-- what the contracts of this crate, and of those above it, cite
+pub mod Runs
+pub mod Grammar
+pub mod State
+pub mod Texts
+pub mod Spelled
+pub mod Views
+pub mod Worked
+-- the crates below, which callers name through this one
+pub use Rattle.text_grammar.specs.text_core
+pub use Rattle.text_grammar.specs as text_grammar
+pub use Rattle.its_model.specs as its_model

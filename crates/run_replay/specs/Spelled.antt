@@ -1,0 +1,56 @@
+-- The one text of a run, and which runs of a program have one that is taken.
+use Rattle.std.specs.Prelude.{◌≡◌, ℕ, ◌^◌, ◌<◌, ◌≤◌, List, [], ◌∷◌, ◌++◌, codes, length, Some, ℤ, unsigned_abs, ⊤}
+use Rattle.std.specs.Fmt.{decimal, signed_decimal}
+use Rattle.its_model.specs.model.Programs.{Program, Rule, rule_at, arity_of}
+use Rattle.its_model.specs.model.Runs.{Step}
+use Rattle.run_replay.specs.Runs.{Run, step_limit, value_limit}
+
+-- values, with a blank before each
+abbrev pub values_text : List ℤ → List ℕ
+values_text [] = []
+values_text (v ∷ vs) = 32 ∷ (signed_decimal v ++ values_text vs)
+
+-- steps, each as a line with its rule and the values of its free variables
+abbrev pub steps_text : List Step → List ℕ
+steps_text [] = []
+steps_text (s ∷ ss) = codes "step " ++ (decimal s.rule ++ (values_text s.free ++ 10 ∷ steps_text ss))
+
+-- the text of a run
+abbrev pub text_of : Run → List ℕ
+text_of r =
+    codes "koat-run 1" ++ 10 ∷ (codes "start" ++ (values_text r.start ++ 10 ∷ (steps_text r.steps ++ (codes "end" ++ 10 ∷ []))))
+
+-- each value is at most 2^63-1 in absolute value
+abbrev pub AreSmall : List ℤ → Type 0
+AreSmall [] = ⊤
+AreSmall (v ∷ vs) = (unsigned_abs v ≤ value_limit) × AreSmall vs
+
+-- a step is by a rule that there is, whose number its type holds, and has a value for each of its free variables
+pub record IsStepOf (p : Program) (s : Step) : Type 0 where
+  pub rule : Rule
+  pub numbered : rule_at p s.rule ≡ Some rule
+  pub held : s.rule < 2 ^ 32
+  pub free : length s.free ≡ rule.free
+  pub small : AreSmall s.free
+
+-- each step is
+abbrev pub AreStepsOf : Program → List Step → Type 0
+AreStepsOf p [] = ⊤
+AreStepsOf p (s ∷ ss) = IsStepOf p s × AreStepsOf p ss
+
+-- a run is one of a program, within the limits: a value for each start place, steps by rules that there are, values of
+-- at most 2^63-1 in absolute value, and at most 1,000,000 steps
+pub record IsWithin (p : Program) (r : Run) : Type 0 where
+  pub start : length r.start ≡ arity_of p p.start
+  pub values : AreSmall r.start
+  pub steps : AreStepsOf p r.steps
+  pub count : length r.steps ≤ step_limit
+
+-- the bytes are the text of a run of a program within the limits
+pub record IsTextWithin (p : Program) (bytes : List ℕ) (r : Run) : Type 0 where
+  pub text : text_of r ≡ bytes
+  pub within : IsWithin p r
+
+-- bytes are the text of one run at most, whatever the program
+pub record OneRun : Type 0 where
+  pub each : (p : Program) (bytes : List ℕ) (a b : Run) → IsTextWithin p bytes a → IsTextWithin p bytes b → a ≡ b

@@ -1,0 +1,14 @@
+//! The laws of run texts.
+
+ghost use Rattle.run_replay.specs.Spelled.{OneRun};
+ghost use Rattle.run_replay.specs.Worked.{RunsAreTold};
+
+/// What reading small run texts comes to is what was worked out by hand. It has no code: its contract is the law.
+pub fn worked_runs_hold()
+    ensures { RunsAreTold }
+{}
+
+/// Bytes are the text of one run at most. It has no code: its contract is the law.
+pub fn texts_are_of_one_run()
+    ensures { OneRun }
+{}

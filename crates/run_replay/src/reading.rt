@@ -1,0 +1,73 @@
+//! From a text to its run.
+
+ghost use Rattle.std.specs.Prelude.{◌≡◌, Some, length};
+ghost use Rattle.its_model.specs.Views.{program_of};
+ghost use Rattle.text_grammar.specs.text_core.Reading.{answer};
+ghost use Rattle.text_grammar.specs.Texts.{reader};
+ghost use Rattle.run_replay.specs.Grammar.{tokens};
+ghost use Rattle.run_replay.specs.Runs.{Run};
+ghost use Rattle.run_replay.specs.Texts.{runs_of};
+ghost use Rattle.run_replay.specs.Spelled.{IsTextWithin};
+ghost use Rattle.run_replay.specs.Views.{Answers, GivesBack, Says, refusal_in};
+
+use crate::bytes::Bytes;
+use crate::error::RunTextError;
+use crate::file::RunFile;
+use crate::grammar::{CLASSES, ROUNDS, RUN_GRAMMAR};
+use crate::phase::RunKind;
+use crate::state::State;
+use its_model::Program;
+use std::alloc::Global;
+use text_grammar::{Cut, OneMode, Refusal, Tables, read};
+
+/// Reads the run that a text stands for, as one of a program.
+///
+/// The first line is `koat-run 1`. The second one is `start` with a value for each place of the start symbol. Then come
+/// any number of lines `step`, each with the number of a rule and a value for each of its free variables, and a line
+/// `end`. One blank stands before each value, and each line ends with a line feed. Values are decimal, with `-` before
+/// them where they are below 0, and without leading zeros.
+///
+/// # Errors
+///
+/// The refusal at the least position is the answer. `Syntax` stands at the first byte that can't follow, or at the
+/// text's length where it ends too early; `NumberTooLarge` at the first byte of a value over 2^63-1 in absolute value;
+/// `BadReference` at the first byte of a number that no rule has; `ArityDiffers` at the line feed of a line with
+/// another number of values; `Limit` at the first byte of step line 1,000,001. `Memory` comes where memory ran out.
+pub fn read_run(alloc: Global, p: &Program, bytes: &[u8]) -> Result<RunFile, RunTextError>
+    ensures answer { Answers (program_of p.now) bytes.now result }
+    ensures complete { (r : Run) → IsTextWithin (program_of p.now) bytes.now r → GivesBack r result }
+{
+    judge(alloc, p, bytes)
+}
+
+// The answer to a text.
+fn judge(alloc: Global, p: &Program, bytes: &[u8]) -> Result<RunFile, RunTextError>
+    ensures { Says (answer (reader (runs_of (program_of p.now))) (length bytes.now) (tokens bytes.now)) result }
+{
+    let tables = Tables::new(alloc, &RUN_GRAMMAR, CLASSES, ROUNDS)?;
+    let cut = Cut::new(Bytes, OneMode::Plain, bytes);
+    match read(
+        alloc,
+        &tables,
+        State::new(alloc, p),
+        cut,
+        bytes.len() as u64,
+    ) {
+        Ok(file) => Ok(file),
+        Err(Refusal::Refuses(fault)) => Err(error_of(fault.kind, fault.at)),
+        Err(Refusal::Memory) => Err(RunTextError::Memory),
+    }
+}
+
+// The error that stands for the refusal of a kind at a position.
+fn error_of(kind: RunKind, at: u64) -> RunTextError
+    ensures { refusal_in result ≡ Some (record { kind = kind; at = at }) }
+{
+    match kind {
+        RunKind::Syntax => RunTextError::Syntax { at },
+        RunKind::NumberTooLarge => RunTextError::NumberTooLarge { at },
+        RunKind::BadReference => RunTextError::BadReference { at },
+        RunKind::ArityDiffers => RunTextError::ArityDiffers { at },
+        RunKind::Limit => RunTextError::Limit { at },
+    }
+}

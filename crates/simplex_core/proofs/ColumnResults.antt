@@ -1,0 +1,70 @@
+-- What is read off the table of columns is the tableau's that it shows.
+use Rattle.std.proofs.Common.{◌≡◌, ℕ, ◌+◌, ◌<◌, ap, arith, refl, sym, ◌∙◌, subst, inl, inr, List, Some, [], ◌∷◌}
+use Rattle.std.specs.Prelude.{ℤ, pos, ◌-ℤ◌, ◌*ℤ◌, ◌<ℤ◌, slice_get, slice_index_or}
+use Rattle.std.proofs.lemmas.Option.{slice_get_within}
+use Rattle.frac128.specs.declared.frac.Frac.{Frac}
+use Rattle.frac128.specs.Fraction.{IsFraction}
+use Rattle.int_laws.specs.Polynomial.{variable, constant, ◌⊖◌, ◌⊗◌}
+use Rattle.int_laws.proofs.Identities.{identity_by_one, identity_by_two}
+use Rattle.int_laws.proofs.OrderLaws.{mul-cancel_ℤ}
+use Rattle.simplex_core.specs.declared.column_table.ColumnTable.{ColumnTable}
+use Rattle.linear_forms.specs.LinearProgram.{LinearProgram}
+use Rattle.simplex_core.specs.Tableau.{Tableau, unknowns, cost_row, sign_of, artificial}
+use Rattle.simplex_core.specs.Bland.{dual_of}
+use Rattle.sparse_columns.specs.Columns.{numerator}
+use Rattle.simplex_core.specs.ColumnTables.{ShowsColumns}
+use Rattle.simplex_core.specs.ColumnResults.{IsBasicOf, HoldsBasicOf, HoldsDualOf}
+use Rattle.simplex_core.specs.Outcome.{HoldsPoint, IsBasicValue}
+use Rattle.simplex_core.specs.TableClauses.{HoldsBasicSolution, AreSides}
+use Rattle.simplex_core.proofs.Positions.{slice_get-there}
+
+-- the basic solution
+pub columns_solution-read : (p : LinearProgram) (a : ColumnTable) (t : Tableau) (at : List Frac) → ShowsColumns p a t → HoldsBasicOf a a.rows at → HoldsBasicSolution p t at
+columns_solution-read p a t at shows holds = record { length_is = holds.length_is ∙ shows.columns; each = λ j f read. value j f (holds.each j f read) }
+  where
+    same_value : (y z n d s e : ℤ) → pos 0 <ℤ d → n *ℤ s ≡ e *ℤ d → y *ℤ d ≡ n *ℤ z → y *ℤ s ≡ e *ℤ z
+    same_value y z n d s e positive shown given =
+        mul-cancel_ℤ d (y *ℤ s) (e *ℤ z) positive
+        (identity_by_two (y ∷ z ∷ n ∷ d ∷ s ∷ e ∷ []) (variable 3 ⊗ (variable 0 ⊗ variable 4)) (variable 3 ⊗ (variable 5 ⊗ variable 1))
+        (variable 4) (variable 0 ⊗ variable 3) (variable 2 ⊗ variable 1) (variable 1) (variable 2 ⊗ variable 4) (variable 5 ⊗ variable 3) given shown refl)
+
+    over : (i : ℕ) (f : Frac) → i < p.rows → IsFraction f (numerator a.right i) a.right.den → IsFraction f (t.entry i (unknowns p)) (t.scale i)
+    over i f l given = same_value f.num f.den (numerator a.right i) a.right.den (t.scale i) (t.entry i (unknowns p)) a.right.positive (shows.right i l) given
+
+    value : (j : ℕ) (f : Frac) → IsBasicOf a a.rows j f → IsBasicValue p t j f
+    value j f (inl found) =
+        let i = found.0 in
+        let rows = shows.rows in
+        let l : i < p.rows = omega (arith, found.1) in
+        inl (i, l, sym (shows.basis i l) ∙ found.2, over i f l found.3)
+    value j f (inr none) = inr (none.0, λ i l e. none.1 i (let r = shows.rows in omega arith) (shows.basis i l ∙ e))
+
+-- the dual
+pub columns_dual-read : (p : LinearProgram) (a : ColumnTable) (t : Tableau) (right : List ℤ) (dual : List Frac) → ShowsColumns p a t → AreSides p right → HoldsDualOf a right a.rows dual
+    → HoldsPoint p.rows dual (dual_of p t) (t.scale (cost_row p 0))
+columns_dual-read p a t right dual shows sides holds = record { length_is = holds.length_is ∙ shows.rows; each = each }
+  where
+    scaled : (y z n d s e g : ℤ) → pos 0 <ℤ d → n *ℤ s ≡ e *ℤ d → y *ℤ d ≡ (g *ℤ (d -ℤ n)) *ℤ z → y *ℤ s ≡ (g *ℤ (s -ℤ e)) *ℤ z
+    scaled y z n d s e g positive shown given =
+        mul-cancel_ℤ d (y *ℤ s) ((g *ℤ (s -ℤ e)) *ℤ z) positive
+        (identity_by_one (y ∷ z ∷ n ∷ d ∷ s ∷ g ∷ []) (variable 3 ⊗ (variable 0 ⊗ variable 4)) (((variable 5 ⊗ (variable 3 ⊖ variable 2)) ⊗ variable 1) ⊗ variable 4)
+        (variable 4) (variable 0 ⊗ variable 3) ((variable 5 ⊗ (variable 3 ⊖ variable 2)) ⊗ variable 1) given refl
+        ∙ identity_by_one (z ∷ n ∷ d ∷ s ∷ e ∷ g ∷ []) (((variable 5 ⊗ (variable 2 ⊖ variable 1)) ⊗ variable 0) ⊗ variable 3)
+        (variable 2 ⊗ ((variable 5 ⊗ (variable 3 ⊖ variable 4)) ⊗ variable 0))
+        (constant (pos 0) ⊖ variable 5 ⊗ variable 0) (variable 1 ⊗ variable 3) (variable 4 ⊗ variable 2) shown refl)
+
+    each : (i : ℕ) (y : Frac) → slice_get dual i ≡ Some y → IsFraction y (dual_of p t i) (t.scale (cost_row p 0))
+    each i y read =
+        let rows = shows.rows in
+        let columns = shows.columns in
+        let inside = slice_get_within dual i y read in
+        let size = holds.length_is in
+        let there = slice_get-there a.columns.items (a.width + i) (let u = a.unknowns in omega arith) in
+        let x = there.0 in
+        let row : a.rows ≡ cost_row p 0 = omega arith in
+        let column : a.width + i ≡ artificial p i = omega arith in
+        let shown = shows.numbers (cost_row p 0) (artificial p i) x (omega arith) (ap (λ (j : ℕ). slice_get a.columns.items j) (sym column) ∙ there.1) in
+        let given = holds.each i y x (omega arith) read there.1 in
+        scaled y.num y.den (numerator x (cost_row p 0)) x.den (t.scale (cost_row p 0)) (t.entry (cost_row p 0) (artificial p i)) (sign_of (p.right i)) x.positive shown
+        (subst (λ (z : ℤ). y.num *ℤ x.den ≡ (sign_of z *ℤ (x.den -ℤ numerator x (cost_row p 0))) *ℤ y.den) (sides.each i)
+        (subst (λ (r : ℕ). y.num *ℤ x.den ≡ (sign_of (slice_index_or right i (pos 0)) *ℤ (x.den -ℤ numerator x r)) *ℤ y.den) row given))

@@ -1,0 +1,143 @@
+-- What columns that show a tableau say of its numbers.
+use Rattle.std.proofs.Common.{◌≡◌, ℕ, ◌+◌, ◌<◌, ◌≤◌, ◌^◌, ap, arith, refl, sym, ◌∙◌, subst, ◌⊎◌, inl, inr, List, [], ◌∷◌, Some, length, get_or, of_z}
+use Rattle.std.specs.Prelude.{ℤ, pos, ◌-ℤ◌, ◌*ℤ◌, ◌<ℤ◌, int_lt, nat_eq, unsigned_abs, slice_get, FitsSigned}
+use Rattle.std.specs.Int.{w64}
+use Rattle.std.proofs.lemmas.Int.{ints}
+use Rattle.std.proofs.lemmas.Bool.{eqb-true, eq-eqb, cases_lt}
+use Rattle.std.proofs.lemmas.Option.{slice_get_read}
+use Rattle.int_laws.specs.NormalForm.{is_zero}
+use Rattle.int_laws.specs.Polynomial.{variable, constant, ◌⊖◌, ◌⊗◌}
+use Rattle.int_laws.proofs.Identities.{identity_by_two}
+use Rattle.int_laws.proofs.OrderLaws.{mul-cancel_ℤ, mul-positive_ℤ, mul-lt-mul_ℤ, lt-of-mul_ℤ}
+use Rattle.int_laws.proofs.RingLaws.{mul_comm_ℤ}
+use Rattle.sparse_columns.specs.declared.cell.Cell.{Cell}
+use Rattle.sparse_columns.specs.declared.column.Column.{Column}
+use Rattle.sparse_columns.specs.Numbers.{number_of}
+use Rattle.sparse_columns.specs.Columns.{numerator, IsCleared}
+use Rattle.sparse_columns.proofs.Lookups.{number_of-small}
+use Rattle.linear_forms.specs.LinearProgram.{LinearProgram}
+use Rattle.simplex_core.specs.Tableau.{Tableau, unknowns}
+use Rattle.simplex_core.specs.Positions.{InTable}
+use Rattle.simplex_core.specs.Outcome.{IsSmallRatio, IsInRange}
+use Rattle.simplex_core.specs.declared.column_table.ColumnTable.{ColumnTable}
+use Rattle.simplex_core.specs.ColumnTables.{ShowsColumns, IsCellOf, ClearsColumns, ClearsColumn}
+use Rattle.simplex_core.proofs.FractionSizes.{lowest-least}
+use Rattle.simplex_core.proofs.Positions.{slice_get-there}
+use Rattle.simplex_core.proofs.Searches.{last_or_before}
+use Rattle.simplex_core.proofs.Choices.{int_lt-true, lt-int_lt}
+use Rattle.simplex_core.proofs.Signs.{same_test, products-show, is_zero-true}
+
+-- a column of the program that is read is the table's
+pub column-read : (a : ColumnTable) (j : ℕ) (x : Column) → j < a.width → x ≡ get_or a.columns.items j x → slice_get a.columns.items j ≡ Some x
+column-read a j x l e = slice_get_read a.columns.items (length a.columns.items) j x refl (let u = a.unknowns in omega arith) e
+
+-- there is a column for each unknown of the program
+pub column-there : (a : ColumnTable) (j : ℕ) → j < a.width → (x : Column) × (slice_get a.columns.items j ≡ Some x)
+column-there a j l = slice_get-there a.columns.items j (let u = a.unknowns in omega arith)
+
+-- a cell's number shows the entry in its row
+pub shown-cell : (p : LinearProgram) (a : ColumnTable) (t : Tableau) (j : ℕ) (e : Cell) (x : Column) → ShowsColumns p a t → IsCellOf a j e → slice_get a.columns.items j ≡ Some x
+    → e.number *ℤ t.scale e.row ≡ t.entry e.row j *ℤ x.den
+shown-cell p a t j e x shows own is =
+    let rows = shows.rows in
+    let row = own.row in
+    ap (λ (z : ℤ). z *ℤ t.scale e.row) (sym (own.number x is)) ∙ shows.numbers e.row j x (omega arith) is
+
+-- the code's test for 0
+pub zero-test_small : (z : ℤ) → FitsSigned w64 z → nat_eq (of_z w64 z) 0 ≡ is_zero z
+zero-test_small z fits =
+    same_test _ _
+    (λ h. ap is_zero (none (eqb-true (of_z w64 z) 0 h)))
+    (λ h. eq-eqb (of_z w64 z) 0 (ap (of_z w64) (is_zero-true z h)))
+  where
+    none : of_z w64 z ≡ 0 → z ≡ pos 0
+    none e = omega (arith, ints)
+
+-- the order of two numbers is that of their multiples by a number over 0
+order-scaled : (v w k : ℤ) → pos 0 <ℤ k → int_lt v w ≡ int_lt (v *ℤ k) (w *ℤ k)
+order-scaled v w k positive =
+    same_test _ _
+    (λ h. lt-int_lt _ _ (both _ _ _ _ (mul_comm_ℤ k v) (mul_comm_ℤ k w) (mul-lt-mul_ℤ k v w positive (int_lt-true v w h))))
+    (λ h. lt-int_lt v w (lt-of-mul_ℤ k v w positive (both _ _ _ _ (mul_comm_ℤ v k) (mul_comm_ℤ w k) (int_lt-true _ _ h))))
+  where
+    both : (v w v' w' : ℤ) → v ≡ v' → w ≡ w' → v <ℤ w → v' <ℤ w'
+    both v w v' w' e f l = omega (arith, ints)
+
+-- the order of the products of numbers of two columns is that of the products of the entries
+pub quotients-show : (a b c d u v s r x y z w : ℤ) → pos 0 <ℤ u → pos 0 <ℤ v → pos 0 <ℤ s → pos 0 <ℤ r
+    → a *ℤ s ≡ x *ℤ u → b *ℤ r ≡ y *ℤ v → c *ℤ r ≡ z *ℤ u → d *ℤ s ≡ w *ℤ v → int_lt (a *ℤ b) (c *ℤ d) ≡ int_lt (x *ℤ y) (z *ℤ w)
+quotients-show a b c d u v s r x y z w pu pv ps pr ea eb ec ed =
+    order-scaled (a *ℤ b) (c *ℤ d) (u *ℤ v) (mul-positive_ℤ u v pu pv)
+    ∙ products-show a b c d u v u v s r x y z w pu pv pu pv ps pr ea eb ec ed
+
+-- a number over a denominator, both below 2^31, is small in lowest terms
+small_ratio : (n d z s : ℤ) → pos 0 <ℤ d → pos 0 <ℤ s → n *ℤ s ≡ z *ℤ d → unsigned_abs n < 2 ^ 31 → unsigned_abs d < 2 ^ 31 → IsSmallRatio z s
+small_ratio n d z s pd ps shows small_n small_d = record {
+  each = λ n' d' pd' lowest same.
+      let least = lowest-least n' d' n d lowest (λ e. let zero : d ≡ pos 0 = e in omega (arith, ints)) (crossed n' d' same) in
+      (omega (arith, least.0, small_n), omega (arith, least.1, small_d));
+}
+  where
+    crossed : (n' d' : ℤ) → n' *ℤ s ≡ z *ℤ d' → n' *ℤ d ≡ n *ℤ d'
+    crossed n' d' same =
+        mul-cancel_ℤ s (n' *ℤ d) (n *ℤ d') ps
+        (identity_by_two (n' ∷ d' ∷ s ∷ z ∷ n ∷ d ∷ []) (variable 2 ⊗ (variable 0 ⊗ variable 5)) (variable 2 ⊗ (variable 4 ⊗ variable 1))
+        (variable 5) (variable 0 ⊗ variable 2) (variable 3 ⊗ variable 1)
+        (constant (pos 0) ⊖ variable 1) (variable 4 ⊗ variable 2) (variable 3 ⊗ variable 5) same shows refl)
+
+-- the number in each row of a column is below 2^31
+numerator-small : (x : Column) (i : ℕ) → unsigned_abs (numerator x i) < 2 ^ 31
+numerator-small x i = number_of-small x.cells.items.items i x.cells.ascending
+
+-- columns show a tableau in range
+pub columns-in_range : (p : LinearProgram) (a : ColumnTable) (t : Tableau) → ShowsColumns p a t → IsInRange p t
+columns-in_range p a t shows = record { each = λ i j inside. go i j inside (last_or_before (unknowns p) j (let l = inside.column in omega arith)) }
+  where
+    equation_row : (i j : ℕ) → InTable p.rows p.columns i j → j ≡ unknowns p → (i < p.rows) ⊎ (p.rows ≤ i) → i < p.rows
+    equation_row i j inside e (inl l) = l
+    equation_row i j inside e (inr l) = let cost = inside.cost l in absurd (omega (arith, e, cost))
+
+    go : (i j : ℕ) → InTable p.rows p.columns i j → (j ≡ unknowns p) ⊎ (j < unknowns p) → IsSmallRatio (t.entry i j) (t.scale i)
+    go i j inside (inl e) =
+        let below = equation_row i j inside e (cases_lt i p.rows) in
+        subst (λ (k : ℕ). IsSmallRatio (t.entry i k) (t.scale i)) (sym e)
+        (small_ratio (numerator a.right i) a.right.den (t.entry i (unknowns p)) (t.scale i) a.right.positive (shows.positive i inside.row) (shows.right i below) (numerator-small a.right i) a.right.small)
+    go i j inside (inr l) =
+        let there = slice_get-there a.columns.items j (let u = a.unknowns in let r = shows.rows in let w = shows.columns in omega arith) in
+        small_ratio (numerator there.0 i) there.0.den (t.entry i j) (t.scale i) there.0.positive (shows.positive i inside.row) (shows.numbers i j there.0 inside.row there.1) (numerator-small there.0 i) there.0.small
+
+-- a column with 0 in a row is cleared there as it is
+pub cleared-none : (x : Column) (r : ℕ) (pivot : ℤ) (shifted : List Cell) → numerator x r ≡ pos 0 → IsCleared x x r pivot shifted
+cleared-none x r pivot shifted zero = record {
+  over = pos 0;
+  under = pos 1;
+  divisor = pos 1;
+  under_positive = omega (arith, ints);
+  positive = omega (arith, ints);
+  ratio = nothing pivot (numerator x r) zero;
+  numbers = λ i. same (numerator x i) (number_of shifted i);
+  den = refl;
+}
+  where
+    nothing : (v w : ℤ) → w ≡ pos 0 → v *ℤ pos 0 ≡ w *ℤ pos 1
+    nothing v w e = omega (arith, ints)
+
+    same : (v w : ℤ) → v *ℤ pos 1 ≡ v *ℤ pos 1 -ℤ w *ℤ pos 0
+    same v w = omega (arith, ints)
+
+-- one more column is cleared
+pub clears-more : (a b d : ColumnTable) (r : ℕ) (pivot : ℤ) (shifted : List Cell) (m : ℕ) → ClearsColumns a b r pivot shifted m → ClearsColumn b d m r pivot shifted
+    → ClearsColumns a d r pivot shifted (m + 1)
+clears-more a b d r pivot shifted m all one = record {
+  rows = one.rows ∙ all.rows;
+  columns = one.columns ∙ all.columns;
+  basis = one.basis ∙ all.basis;
+  right = one.right ∙ all.right;
+  cleared = λ j x y l is_x is_y. go j x y is_x is_y (last_or_before m j (omega arith));
+  others = λ j l. one.others j (λ e. omega arith) ∙ all.others j (omega arith);
+}
+  where
+    go : (j : ℕ) (x y : Column) → slice_get a.columns.items j ≡ Some x → slice_get d.columns.items j ≡ Some y → (j ≡ m) ⊎ (j < m) → IsCleared x y r pivot shifted
+    go j x y is_x is_y (inl e) =
+        one.cleared x y (all.others m (omega arith) ∙ (ap (λ (k : ℕ). slice_get a.columns.items k) (sym e) ∙ is_x)) (ap (λ (k : ℕ). slice_get d.columns.items k) (sym e) ∙ is_y)
+    go j x y is_x is_y (inr l) = all.cleared j x y l is_x (sym (one.others j (λ e. omega arith)) ∙ is_y)

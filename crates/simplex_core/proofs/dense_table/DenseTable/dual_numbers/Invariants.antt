@@ -1,6 +1,0 @@
-use Rattle.simplex_core.specs.Cells.{HoldsDual}
-use Rattle.simplex_core.proofs.dense_table.DenseTable.dual_numbers.Given as goal
-
--- the dual's numbers for the rows before this one
-abbrev pub invariant-loop-row : goal.invariant-loop-row
-invariant-loop-row l = HoldsDual l.self l.right l.row l.dual.items

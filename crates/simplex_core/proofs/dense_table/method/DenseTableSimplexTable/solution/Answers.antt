@@ -1,8 +1,0 @@
-use Rattle.std.proofs.lemmas.Result.{IfOk-weaker}
-use Rattle.simplex_core.proofs.BasicNumbers.{solution-read}
-use Rattle.simplex_core.proofs.dense_table.method.DenseTableSimplexTable.solution.Goals as goal
-
-pub returns : goal.returns
-returns c =
-    IfOk-weaker c.basic_numbers.result _ _ (λ at holds. record { each = λ p t s. solution-read p c.args.self.now t at.items s.shows holds })
-    c.basic_numbers.ensures

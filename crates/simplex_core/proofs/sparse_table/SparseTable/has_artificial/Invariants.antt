@@ -1,0 +1,12 @@
+use Rattle.std.proofs.Common.{◌≡◌, false}
+use Rattle.std.specs.Prelude.{pos, int_lt, nat_le, ◌&&◌}
+use Rattle.simplex_core.specs.Cells.{Shows}
+use Rattle.linear_forms.specs.LinearProgram.{LinearProgram}
+use Rattle.simplex_core.specs.Tableau.{Tableau, unknowns}
+use Rattle.simplex_core.specs.Search.{some}
+use Rattle.simplex_core.proofs.sparse_table.SparseTable.has_artificial.Given as goal
+
+-- no artificial unknown before this row is over 0
+abbrev pub invariant-loop-row : goal.invariant-loop-row
+invariant-loop-row l = (p : LinearProgram) (t : Tableau) → Shows p l.self t
+    → some l.row (λ i. nat_le p.columns (t.basis i) && int_lt (pos 0) (t.entry i (unknowns p))) ≡ false

@@ -1,0 +1,80 @@
+-- How a table of columns shows a tableau.
+use Rattle.std.specs.Prelude.{◌≡◌, ◌≢◌, ℕ, ◌+◌, ◌<◌, ◌≤◌, ℤ, pos, ◌-ℤ◌, ◌*ℤ◌, ◌<ℤ◌, List, Option, Some, None, false}
+use Rattle.std.specs.Prelude.{true, slice_get}
+use Rattle.std.specs.Prelude.{slice_index, slice_set}
+use Rattle.sparse_columns.specs.declared.cell.Cell.{Cell}
+use Rattle.sparse_columns.specs.declared.column.Column.{Column}
+use Rattle.sparse_columns.specs.Numbers.{alone, number_of}
+use Rattle.sparse_columns.specs.Columns.{numerator, IsCleared}
+use Rattle.simplex_core.specs.declared.column_table.ColumnTable.{ColumnTable}
+use Rattle.linear_forms.specs.LinearProgram.{LinearProgram}
+use Rattle.simplex_core.specs.Tableau.{Tableau, unknowns}
+use Rattle.simplex_core.specs.Bland.{is_candidate, goes_before}
+
+-- the column's number in row i is the entry over the scale: numerator times scale is entry times denominator
+abbrev pub ShowsNumber : Column → ℕ → ℤ → ℤ → Type 0
+ShowsNumber column i entry scale = numerator column i *ℤ scale ≡ entry *ℤ column.den
+
+-- the table shows the tableau: its columns' numbers are the tableau's, over scales over 0, and its basis is
+pub record ShowsColumns (p : LinearProgram) (table : ColumnTable) (t : Tableau) : Type 0 where
+  pub rows : table.rows ≡ p.rows
+  pub columns : table.width ≡ p.columns
+  pub positive : (i : ℕ) → i < p.rows + 3 → pos 0 <ℤ t.scale i
+  pub numbers : (i j : ℕ) (c : Column) → i < p.rows + 3 → slice_get table.columns.items j ≡ Some c
+      → ShowsNumber c i (t.entry i j) (t.scale i)
+  pub right : (i : ℕ) → i < p.rows → ShowsNumber table.right i (t.entry i (unknowns p)) (t.scale i)
+  pub basis : (i : ℕ) → i < p.rows → slice_index table.basis.items i ≡ t.basis i
+
+-- the cell is in an equation, and has the number of column j there
+pub record IsCellOf (table : ColumnTable) (j : ℕ) (cell : Cell) : Type 0 where
+  pub row : cell.row < table.rows
+  pub number : (c : Column) → slice_get table.columns.items j ≡ Some c → numerator c cell.row ≡ cell.number
+
+-- of the first m cells, the cell is in a row with an entry over 0 in column c, and none that is goes before it;
+-- no cell, where none is
+abbrev pub IsBestCell : LinearProgram → Tableau → ℕ → List Cell → ℕ → Option Cell → Type 0
+IsBestCell p t c cells m None =
+    (k : ℕ) (e : Cell) → k < m → slice_get cells k ≡ Some e → is_candidate t c e.row ≡ false
+IsBestCell p t c cells m (Some d) =
+    (is_candidate t c d.row ≡ true)
+    × ((k : ℕ) (e : Cell) → k < m → slice_get cells k ≡ Some e → is_candidate t c e.row ≡ true
+    → goes_before p t c e.row d.row ≡ false)
+
+-- the cells are the numbers of column c, less its denominator in row r
+pub record AreShifted (table : ColumnTable) (r c : ℕ) (shifted : List Cell) : Type 0 where
+  pub each : (i : ℕ) (x : Column) → slice_get table.columns.items c ≡ Some x
+      → number_of shifted i ≡ numerator x i -ℤ alone r x.den i
+
+-- the table is the old one with the shifted cells' multiples taken from each column, and from the right sides in the
+-- equations, after which row r is solved for column c
+pub record IsPivotedBy (old new : ColumnTable) (r c : ℕ) (pivot : ℤ) (shifted : List Cell) : Type 0 where
+  pub rows : new.rows ≡ old.rows
+  pub columns : new.width ≡ old.width
+  pub basis : new.basis.items ≡ slice_set old.basis.items r c
+  pub shifts : AreShifted old r c shifted
+  pub pivot_is : (x : Column) → slice_get old.columns.items c ≡ Some x → pivot ≡ numerator x r
+  pub cleared : (j : ℕ) (a b : Column) → slice_get old.columns.items j ≡ Some a → slice_get new.columns.items j ≡ Some b
+      → IsCleared a b r pivot shifted
+  pub front : List Cell
+  pub fronts : (i : ℕ) → i < old.rows → number_of front i ≡ number_of shifted i
+  pub right : IsCleared old.right new.right r pivot front
+
+-- the first m columns' numbers in row r are cleared, and the others are as before, as is all else
+pub record ClearsColumns (old new : ColumnTable) (r : ℕ) (pivot : ℤ) (shifted : List Cell) (m : ℕ) : Type 0 where
+  pub rows : new.rows ≡ old.rows
+  pub columns : new.width ≡ old.width
+  pub basis : new.basis.items ≡ old.basis.items
+  pub right : new.right ≡ old.right
+  pub cleared : (j : ℕ) (a b : Column) → j < m → slice_get old.columns.items j ≡ Some a
+      → slice_get new.columns.items j ≡ Some b → IsCleared a b r pivot shifted
+  pub others : (j : ℕ) → m ≤ j → slice_get new.columns.items j ≡ slice_get old.columns.items j
+
+-- one column's number in row r is cleared, and all else is as before
+pub record ClearsColumn (old new : ColumnTable) (position r : ℕ) (pivot : ℤ) (shifted : List Cell) : Type 0 where
+  pub rows : new.rows ≡ old.rows
+  pub columns : new.width ≡ old.width
+  pub basis : new.basis.items ≡ old.basis.items
+  pub right : new.right ≡ old.right
+  pub cleared : (a b : Column) → slice_get old.columns.items position ≡ Some a
+      → slice_get new.columns.items position ≡ Some b → IsCleared a b r pivot shifted
+  pub others : (j : ℕ) → j ≢ position → slice_get new.columns.items j ≡ slice_get old.columns.items j

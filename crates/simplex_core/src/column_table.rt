@@ -1,0 +1,29 @@
+//! A table that keeps the columns of the tableau: whole numbers over one denominator a column, without zeros.
+
+mod entering;
+mod first;
+mod leaving;
+mod method;
+mod pivoting;
+mod results;
+
+ghost use Rattle.std.specs.Prelude.{◌≡◌, ◌+◌, ◌<◌, ◌^◌, length};
+
+pub(crate) use first::first_columns;
+use sparse_columns::Column;
+
+/// The columns of a tableau, those of the artificial unknowns behind the program's, and that of the right sides. The
+/// cost rows are rows behind the equations'; the right sides have none. Each number and each denominator is below 2^31
+/// by its type, so such a table is in range.
+#[derive(Debug, Drop)]
+pub(crate) struct ColumnTable {
+    columns: Vec<Column>,
+    right: Column,
+    basis: Vec<u32>,
+    rows: u32,
+    width: u32,
+    ghost unknowns: { length columns.items ≡ width + rows },
+    ghost based: { length basis.items ≡ rows },
+    ghost few_rows: { rows < 2 ^ 31 },
+    ghost few_columns: { width < 2 ^ 31 },
+}

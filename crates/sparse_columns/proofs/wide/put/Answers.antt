@@ -1,0 +1,15 @@
+use Rattle.std.proofs.Common.{ap, ◌∙◌, List}
+use Rattle.std.specs.Prelude.{ℤ, ◌+ℤ◌}
+use Rattle.std.specs.Int.{w64}
+use Rattle.std.proofs.lemmas.Int.{to_z-of_z}
+use Rattle.sparse_columns.specs.declared.wide.Wide.{Wide}
+use Rattle.sparse_columns.specs.Numbers.{alone}
+use Rattle.sparse_columns.specs.Wide.{wide_number}
+use Rattle.sparse_columns.proofs.Merging.{wide_number-append}
+use Rattle.sparse_columns.proofs.wide.put.Goals as goal
+
+pub returns : goal.returns
+returns c i =
+    ap (λ (ws : List Wide). wide_number ws i) c.in_ok-push.ensures.items
+    ∙ (wide_number-append c.args.wide.now.items _ i
+    ∙ ap (λ (z : ℤ). wide_number c.args.wide.now.items i +ℤ alone c.args.row z i) (to_z-of_z w64 c.args.number c.ranges.number))

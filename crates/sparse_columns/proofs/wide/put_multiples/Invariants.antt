@@ -1,0 +1,11 @@
+use Rattle.std.proofs.Common.{◌≡◌, ℕ, drop}
+use Rattle.std.specs.Prelude.{◌+ℤ◌, ◌*ℤ◌}
+use Rattle.sparse_columns.specs.Numbers.{number_of}
+use Rattle.sparse_columns.specs.Wide.{wide_number}
+use Rattle.sparse_columns.proofs.wide.put_multiples.Given as goal
+
+-- what is there and the multiples of what is left are what was there and the multiples of all
+abbrev pub invariant-loop-cell : goal.invariant-loop-cell
+invariant-loop-cell l =
+    (i : ℕ) → wide_number l.wide.items i +ℤ number_of (drop l.cell-index l.cells) i *ℤ l.factor
+    ≡ wide_number l.fn.wide.items i +ℤ number_of l.cells i *ℤ l.factor

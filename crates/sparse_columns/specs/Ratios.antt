@@ -1,0 +1,6 @@
+-- Ratios in whole numbers.
+use Rattle.std.specs.Prelude.{◌≡◌, ℤ, ◌*ℤ◌}
+
+-- over is to under as number is to pivot
+abbrev pub IsRatio : ℤ → ℤ → ℤ → ℤ → Type 0
+IsRatio number pivot over under = pivot *ℤ over ≡ number *ℤ under

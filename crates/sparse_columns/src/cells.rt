@@ -1,0 +1,155 @@
+//! The numbers of a column.
+
+ghost use Rattle.std.specs.Prelude.{◌≡◌, ℕ, ◌<◌, ◌≤◌, ◌^◌, ◌++◌, [], ◌∷◌, pos, unsigned_abs, true, length, IfOk, IfSome, false, Some, slice_get, ◌≢◌, ◌+ℤ◌};
+ghost use Rattle.std.specs.Prelude.{if◌then◌else◌};
+ghost use Rattle.sparse_columns.specs.declared.cell.Cell.{Cell};
+ghost use Rattle.int_laws.specs.Sums.{sum_to};
+ghost use Rattle.sparse_columns.specs.Order.{IsAscending, IsBefore, IsFrom};
+
+use crate::cell::Cell;
+use crate::totals::sum_of;
+use std::alloc::{AllocError, Global};
+
+/// The numbers of a column that aren't 0, by ascending rows.
+#[derive(Debug, Drop)]
+pub struct Cells {
+    items: Vec<Cell>,
+    ghost ascending: { IsAscending items.items },
+}
+
+impl Cells {
+    ghost use Rattle.sparse_columns.specs.Numbers.{alone, number, number_of, AreNumbers, Puts};
+
+    /// No numbers.
+    pub fn new(alloc: Global) -> Cells
+        ensures { (i : ℕ) → number result i ≡ pos 0 }
+    {
+        Cells {
+            items: Vec::new(alloc),
+        }
+    }
+
+    /// No numbers, with room for some.
+    pub fn with_capacity(alloc: Global, capacity: usize) -> Result<Cells, AllocError>
+        ensures { IfOk result (λ cells. (i : ℕ) → number cells i ≡ pos 0) }
+    {
+        Ok(Cells {
+            items: Vec::with_capacity(alloc, capacity)?,
+        })
+    }
+
+    /// The cells.
+    pub fn as_slice(&self) -> &[Cell]
+        ensures items { result.now ≡ self.now.items.items }
+        ensures ascending { IsAscending result.now }
+    {
+        self.items.as_slice()
+    }
+
+    /// The cells in rows before this one.
+    pub fn before(&self, row: u32) -> &[Cell]
+        ensures numbers { (i : ℕ) → i < row → number_of result.now i ≡ number self.now i }
+        ensures lists { AreNumbers result.now (number self.now) row }
+    {
+        let cells = self.items.as_slice();
+        &cells[..first_from(cells, row)]
+    }
+
+    /// Puts a number in a row that has none, if it is below 2^31 in absolute value; 0 needs no room. The answer is whether
+    /// it was put. Behind the others it takes no time, else the later ones are moved.
+    ///
+    /// # Errors
+    ///
+    /// `AllocError` where an allocation fails.
+    pub fn put(&mut self, row: u32, value: i64) -> Result<bool, AllocError>
+        ensures { IfOk result (λ is_put. is_put ≡ true → Puts self.old self.new row value) }
+    {
+        if value == 0 {
+            return Ok(true);
+        }
+        let Some(cell) = Cell::new(row, value) else {
+            return Ok(false);
+        };
+        if self.append(cell)? {
+            return Ok(true);
+        }
+        self.insert(cell)
+    }
+
+    /// Appends a cell, if its row comes behind those of all others. The answer is whether it was appended; else the cells
+    /// are as before.
+    fn append(&mut self, cell: Cell) -> Result<bool, AllocError>
+        ensures { IfOk result (λ is_put. self.new.items.items
+            ≡ (if is_put then self.old.items.items ++ cell ∷ [] else self.old.items.items)) }
+    {
+        if let Some(last) = self.items.last()
+            && last.row >= cell.row
+        {
+            return Ok(false);
+        }
+        self.items.push(cell)?;
+        Ok(true)
+    }
+
+    /// Inserts a cell, if its row has none. The answer is whether it was inserted.
+    fn insert(&mut self, cell: Cell) -> Result<bool, AllocError>
+        ensures { IfOk result (λ is_put. is_put ≡ true → (i : ℕ)
+            → number self.new i ≡ number self.old i +ℤ alone cell.row cell.number i) }
+    {
+        let position = first_from(self.items.as_slice(), cell.row);
+        if self.has_row_at(position, cell.row) {
+            return Ok(false);
+        }
+        self.items.insert(position, cell)?;
+        Ok(true)
+    }
+
+    /// Whether the cell at a position is in a row.
+    fn has_row_at(&self, position: usize, row: u32) -> bool
+        ensures { result ≡ false → (c : Cell) → slice_get self.now.items.items position ≡ Some c → c.row ≢ row }
+    {
+        position < self.items.len() && self.items[position].row == row
+    }
+
+    /// The sum of the numbers. None where a sum on the way has no room.
+    pub fn total(&self) -> Option<i64>
+        ensures { IfSome result (λ sum. (m : ℕ) → ((i : ℕ) → m ≤ i → number self.now i ≡ pos 0)
+            → sum ≡ sum_to m (number self.now)) }
+    {
+        sum_of(self.items.as_slice())
+    }
+
+    /// The number in a row.
+    pub fn at(&self, row: u32) -> i64
+        ensures value { result ≡ number self.now row }
+        ensures bounded { unsigned_abs result < 2 ^ 31 }
+    {
+        let cells = self.items.as_slice();
+        let position = first_from(cells, row);
+        if position < cells.len() && cells[position].row == row {
+            cells[position].value()
+        } else {
+            0
+        }
+    }
+}
+
+/// The position of the first cell whose row is at least this one.
+fn first_from(cells: &[Cell], row: u32) -> usize
+    requires { IsAscending cells.now }
+    ensures within { result ≤ length cells.now }
+    ensures before { IsBefore cells.now result row }
+    ensures from { IsFrom cells.now result row }
+{
+    let mut low = 0;
+    let mut high = cells.len();
+    while low < high {
+        let middle = low + (high - low) / 2;
+        if cells[middle].row < row {
+            low = middle + 1;
+        } else {
+            high = middle;
+        }
+    }
+    low
+}

@@ -1,0 +1,27 @@
+//! Sums of the numbers of cells.
+
+ghost use Rattle.std.specs.Prelude.{◌≡◌, ◌+ℤ◌, IfSome};
+ghost use Rattle.sparse_columns.specs.Numbers.{total_of};
+
+use crate::cell::Cell;
+
+/// The sum of the numbers of cells. None where a sum on the way has no room.
+pub(crate) fn sum_of(cells: &[Cell]) -> Option<i64>
+    ensures { IfSome result (λ sum. sum ≡ total_of cells.now) }
+{
+    let mut sum = 0;
+    for cell in cells {
+        let Some(next) = plus(sum, cell.value()) else {
+            return None;
+        };
+        sum = next;
+    }
+    Some(sum)
+}
+
+/// The sum of two numbers. None where it has no room.
+fn plus(a: i64, b: i64) -> Option<i64>
+    ensures { IfSome result (λ sum. sum ≡ a +ℤ b) }
+{
+    a.checked_add(b)
+}

@@ -1,0 +1,17 @@
+pub mod Tests
+pub mod Events
+pub mod LeadLaws
+pub mod TableLaws
+pub mod Readable
+pub mod Parsing
+pub mod Completing
+pub mod ReaderLaws
+pub mod FloorLaws
+pub mod FirstLaws
+pub mod ReadingLaws
+pub mod CutLaws
+pub mod SilenceLaws
+pub mod Induction
+pub mod WorkedGrammars
+-- the crate below, of which those above cite lemmas through this one
+pub use Rattle.text_core.proofs as text_core

@@ -1,0 +1,50 @@
+-- Grammars as data, and what they derive.
+use Rattle.std.specs.Prelude.{ℕ, List, [], ◌∷◌, ◌++◌, slice_index_or}
+use Rattle.text_core.specs.Faults.{Among}
+use Rattle.text_grammar.specs.declared.symbol.Symbol.{Symbol}
+use Rattle.text_grammar.specs.declared.symbol.Symbol.TheVariants.{Piece, Made, Mark}
+use Rattle.text_grammar.specs.declared.symbol.Item.{Item}
+use Rattle.text_grammar.specs.declared.symbol.Item.TheVariants.{APiece, AMade, AMark, Or, End}
+
+-- the alternatives of each nonterminal, of which number 0 is the text; which of so many classes a piece belongs to, and
+-- a piece of each; and how often a table is made from the one before
+pub record Grammar (P : Type 0) : Type 0 where
+  pub rules : List (List (List Symbol))
+  pub classes : ℕ
+  pub class_of : P → ℕ
+  pub sample : ℕ → P
+  pub rounds : ℕ
+
+-- what happens along a text: a piece is read, or what a mark stands for is done
+pub data Event (P : Type 0) : Type 0 where
+  Read : P → Event P
+  Did : ℕ → Event P
+
+-- the alternatives of a nonterminal
+abbrev pub alternatives : List (List (List Symbol)) → ℕ → List (List Symbol)
+alternatives rules n = slice_index_or rules n []
+
+module _ {P : Type 0} (g : Grammar P) where
+  -- symbols derive events and pieces: nothing derives nothing; a class derives a piece of it, which is read; a mark
+  -- derives no piece, and is done; and a nonterminal derives what one of its alternatives does in its place
+  pub data Derives : List Symbol → List (Event P) → List P → Type 0 where
+    nothing : Derives [] [] []
+    piece : (p : P) {rest : List Symbol} {es : List (Event P)} {ps : List P} → Derives rest es ps
+        → Derives (Piece (g.class_of p) ∷ rest) (Read p ∷ es) (p ∷ ps)
+    mark : (m : ℕ) {rest : List Symbol} {es : List (Event P)} {ps : List P} → Derives rest es ps
+        → Derives (Mark m ∷ rest) (Did m ∷ es) ps
+    made : (n : ℕ) (body : List Symbol) {rest : List Symbol} {es : List (Event P)} {ps : List P}
+        → Among body (alternatives g.rules n) → Derives (body ++ rest) es ps → Derives (Made n ∷ rest) es ps
+
+-- the rules that items spell, behind alternatives and symbols of the first one that have been read
+abbrev pub rules_behind : List (List Symbol) → List Symbol → List Item → List (List (List Symbol))
+rules_behind bodies body [] = []
+rules_behind bodies body (APiece c ∷ items) = rules_behind bodies (body ++ Piece c ∷ []) items
+rules_behind bodies body (AMade n ∷ items) = rules_behind bodies (body ++ Made n ∷ []) items
+rules_behind bodies body (AMark m ∷ items) = rules_behind bodies (body ++ Mark m ∷ []) items
+rules_behind bodies body (Or ∷ items) = rules_behind (bodies ++ body ∷ []) [] items
+rules_behind bodies body (End ∷ items) = (bodies ++ body ∷ []) ∷ rules_behind [] [] items
+
+-- the rules that items spell: `Or` stands between alternatives, and `End` behind each rule
+abbrev pub rules_of : List Item → List (List (List Symbol))
+rules_of items = rules_behind [] [] items

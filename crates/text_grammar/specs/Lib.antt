@@ -1,0 +1,13 @@
+-- what the contracts of this crate, and of those above it, cite
+pub mod Grammars
+pub mod Leads
+pub mod Sounding
+pub mod Texts
+pub mod Silence
+pub mod Views
+pub mod Tabled
+pub mod Worked
+pub mod Marks
+pub mod Following
+-- the crate below, which callers name through this one
+pub use Rattle.text_core.specs as text_core

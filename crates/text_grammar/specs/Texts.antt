@@ -1,0 +1,112 @@
+-- Texts of a grammar: what their events stand for, what stands against them, and how they are read.
+use Rattle.std.specs.Prelude.{◌≡◌, ℕ, ◌≤◌, ◌<◌, IsTrue, List, [], ◌∷◌, Option, Some, None, ⊤}
+use Rattle.text_core.specs.Tokens.{Token}
+use Rattle.text_core.specs.Readers.{Fault, Reader, onto}
+use Rattle.text_core.specs.Faults.{Among}
+use Rattle.text_core.specs.Reading.{first_among}
+use Rattle.text_grammar.specs.declared.symbol.Symbol.{Symbol}
+use Rattle.text_grammar.specs.declared.symbol.Symbol.TheVariants.{Made}
+use Rattle.text_grammar.specs.Grammars.{Grammar, Event, Read, Did, Derives}
+use Rattle.text_grammar.specs.Leads.{Lead, Matches, Passes, Stuck, lead, row_of}
+use Rattle.text_grammar.specs.Sounding.{is_readable}
+
+-- texts in pieces P that stand for trees T and are refused for kinds K
+pub record Text (P T K : Type 0) : Type 0 where
+  pub grammar : Grammar P
+  -- the tree that events stand for
+  pub value : List (Event P) → T
+  -- what stands against a token that can follow, behind events, the last one first
+  pub faults : List (Event P) → Token P → List (Fault K)
+  -- behind events, the last one first, nothing is shown any more before this position, where the next token is at that
+  pub floor : List (Event P) → ℕ → ℕ
+  -- of two kinds at one position the one with the lesser number comes first
+  pub number : K → ℕ
+  -- the kind of refusal where this piece can't follow, or the text ends too early
+  pub off : Option P → K
+
+-- what has been read so far, the last event first, and the symbols that are expected
+pub record Front (P : Type 0) : Type 0 where
+  pub events : List (Event P)
+  pub expected : List Symbol
+
+-- events behind marks, the last one first
+abbrev pub did : {P : Type 0} → List (Event P) → List ℕ → List (Event P)
+did es [] = es
+did es (m ∷ ms) = did (Did m ∷ es) ms
+
+-- marks are done before events
+abbrev pub marked : {P : Type 0} → List ℕ → List (Event P) → List (Event P)
+marked [] es = es
+marked (m ∷ ms) es = Did m ∷ marked ms es
+
+-- the front behind a piece that is matched
+abbrev pub stepped : {P : Type 0} → List (Event P) → P → Lead → Option (Front P)
+stepped es p (Matches ms rest) = Some (record { events = Read p ∷ did es ms; expected = rest })
+stepped es p (Passes ms) = None
+stepped es p Stuck = None
+
+-- the first piece of tokens
+abbrev pub first_piece : {P : Type 0} → List (Token P) → Option P
+first_piece [] = None
+first_piece (t ∷ ts) = Some t.piece
+
+module _ {P T K : Type 0} (x : Text P T K) where
+  -- what the symbols that are expected lead to at a piece
+  abbrev pub lead_at : Front P → P → Lead
+  lead_at f p = lead (x.grammar.class_of p) (row_of x.grammar (x.grammar.class_of p)) f.expected
+
+  -- the tree of a text that ends here
+  abbrev pub ended_by : List (Event P) → Lead → Option T
+  ended_by es (Passes ms) = Some (x.value (onto (did es ms) []))
+  ended_by es (Matches ms rest) = None
+  ended_by es Stuck = None
+
+  -- what stands against a token, by what it leads to
+  abbrev pub shown_by : List (Event P) → Token P → Lead → List (Fault K)
+  shown_by es t (Matches ms rest) = x.faults (did es ms) t
+  shown_by es t (Passes ms) = []
+  shown_by es t Stuck = []
+
+  abbrev pub shown_next : Front P → List (Token P) → List (Fault K)
+  shown_next f [] = []
+  shown_next f (t ∷ rest) = shown_by f.events t (lead_at f t.piece)
+
+  -- the tree is written as these pieces: the text derives events that stand for it, and these pieces
+  abbrev pub Writes : T → List P → Type 0
+  Writes tree ps = (es : List (Event P)) × Derives x.grammar (Made 0 ∷ []) es ps × (x.value es ≡ tree)
+
+  -- the reader of the texts
+  abbrev pub reader : Reader P T (Front P) K
+  reader = record {
+    Writes = Writes;
+    beginning = record { events = []; expected = Made 0 ∷ [] };
+    step = λ f p. stepped f.events p (lead_at f p);
+    finish = λ f. ended_by f.events (lead x.grammar.classes (row_of x.grammar x.grammar.classes) f.expected);
+    number = x.number;
+    shown = λ n done f rest. shown_next f rest;
+    off = λ f rest. x.off (first_piece rest);
+  }
+
+  -- a text is lawful: its grammar can be read, each piece has one of the classes, kinds differ in their numbers, and
+  -- the floor is kept: it isn't behind the next token, nothing is shown before it, and it never falls
+  pub record IsLawful : Type 0 where
+    pub readable : IsTrue (is_readable x.grammar)
+    pub classed : (p : P) → x.grammar.class_of p < x.grammar.classes
+    pub differ : (a b : K) → x.number a ≡ x.number b → a ≡ b
+    pub floor_next : (es : List (Event P)) (at : ℕ) → x.floor es at ≤ at
+    pub floor_shown : (es : List (Event P)) (t : Token P) (y : Fault K) → Among y (x.faults es t)
+        → x.floor es t.at ≤ y.at
+    pub floor_did : (es : List (Event P)) (m at : ℕ) → x.floor es at ≤ x.floor (Did m ∷ es) at
+    pub floor_read : (es : List (Event P)) (t : Token P) (at : ℕ) → t.at < t.upto → t.upto ≤ at
+        → x.floor es t.at ≤ x.floor (Read t.piece ∷ es) at
+
+  -- nothing stands against the tokens of events, behind others, the last one first
+  abbrev pub IsSilent : List (Event P) → List (Event P) → List (Token P) → Type 0
+  IsSilent before [] ts = ⊤
+  IsSilent before (Did m ∷ es) ts = IsSilent (Did m ∷ before) es ts
+  IsSilent before (Read p ∷ es) [] = ⊤
+  IsSilent before (Read p ∷ es) (t ∷ ts) = (x.faults before t ≡ []) × IsSilent (Read p ∷ before) es ts
+
+  -- the first of a refusal so far and others
+  abbrev pub first_shown : Option (Fault K) → List (Fault K) → Option (Fault K)
+  first_shown best shown = first_among reader best shown

@@ -1,0 +1,120 @@
+-- Which small grammars can be read, worked out by hand on both sides, and what one of them derives.
+use Rattle.std.specs.Prelude.{◌≡◌, ℕ, ◌==◌, if◌then◌else◌, true, false, List, [], ◌∷◌}
+use Rattle.text_core.specs.Laws.{Laws, AnswersAll, OneTree, OneFirst}
+use Rattle.text_core.specs.Readers.{IsBeginning, IsWhole}
+use Rattle.text_grammar.specs.declared.symbol.Symbol.{Symbol}
+use Rattle.text_grammar.specs.declared.symbol.Symbol.TheVariants.{Piece, Made, Mark}
+use Rattle.text_grammar.specs.declared.symbol.Item.TheVariants.{APiece, AMade, AMark, Or, End}
+use Rattle.text_grammar.specs.Grammars.{Grammar, Event, Read, rules_of}
+use Rattle.text_grammar.specs.Sounding.{is_readable}
+use Rattle.text_grammar.specs.Texts.{Text, Writes, reader}
+use Rattle.text_grammar.specs.Silence.{StandsWhereSilent}
+
+-- pieces 0 and 1, and all others as 2
+abbrev pub class_of : ℕ → ℕ
+class_of p = if p == 0 then 0 else if p == 1 then 1 else 2
+
+-- the grammar with these rules
+abbrev pub grammar_with : List (List (List Symbol)) → Grammar ℕ
+grammar_with rules = record { rules = rules; classes = 3; class_of = class_of; sample = λ c. c; rounds = 5 }
+
+-- brackets: a text is nothing, or 0, a text, and 1
+abbrev pub brackets : Grammar ℕ
+brackets = grammar_with (((Piece 0 ∷ Made 0 ∷ Piece 1 ∷ []) ∷ [] ∷ []) ∷ [])
+
+-- the grammar with these rules can be read, or it can't
+abbrev pub Can : List (List (List Symbol)) → Type 0
+Can rules = is_readable (grammar_with rules) ≡ true
+
+abbrev pub Cannot : List (List (List Symbol)) → Type 0
+Cannot rules = is_readable (grammar_with rules) ≡ false
+
+-- the grammar of text = more; more = last; last = 0, with a table that is made so often
+abbrev pub chain : ℕ → Grammar ℕ
+chain rounds = record (grammar_with (((Made 1 ∷ []) ∷ []) ∷ ((Made 2 ∷ []) ∷ []) ∷ ((Piece 0 ∷ []) ∷ []) ∷ [])) {
+  rounds = rounds;
+}
+
+-- which grammars can be read
+pub record GrammarsAreTold : Type 0 where
+  pub brackets_can : is_readable brackets ≡ true
+  -- a row of 0 with 1 between: text = 0 more; more = 1 0 more | nothing
+  pub row : Can (((Piece 0 ∷ Made 1 ∷ []) ∷ []) ∷ ((Piece 1 ∷ Piece 0 ∷ Made 1 ∷ []) ∷ [] ∷ []) ∷ [])
+  -- marks stand anywhere: text = a mark, 0, a mark, text | a mark, 1
+  pub marks : Can (((Mark 0 ∷ Piece 0 ∷ Mark 1 ∷ Made 0 ∷ []) ∷ (Mark 2 ∷ Piece 1 ∷ []) ∷ []) ∷ [])
+  -- left recursion: text = text 0 | 0
+  pub left_recursion : Cannot (((Made 0 ∷ Piece 0 ∷ []) ∷ (Piece 0 ∷ []) ∷ []) ∷ [])
+  -- two alternatives that begin alike: text = 0 1 | 0 2
+  pub alike : Cannot (((Piece 0 ∷ Piece 1 ∷ []) ∷ (Piece 0 ∷ Piece 2 ∷ []) ∷ []) ∷ [])
+  -- two that differ in their marks alone
+  pub marks_alone : Cannot (((Mark 0 ∷ []) ∷ (Mark 1 ∷ []) ∷ []) ∷ [])
+  -- the dangling else: text = 0 text more | 2; more = 1 text | nothing
+  pub dangling_else : Cannot (((Piece 0 ∷ Made 0 ∷ Made 1 ∷ []) ∷ (Piece 2 ∷ []) ∷ [])
+      ∷ ((Piece 1 ∷ Made 0 ∷ []) ∷ [] ∷ []) ∷ [])
+  -- an else that is closed: text = 0 text more 2 | nothing; more = 1 text | nothing
+  pub closed_else : Can (((Piece 0 ∷ Made 0 ∷ Made 1 ∷ Piece 2 ∷ []) ∷ [] ∷ [])
+      ∷ ((Piece 1 ∷ Made 0 ∷ []) ∷ [] ∷ []) ∷ [])
+  -- left recursion behind what derives nothing: text = more text 0 | 1; more = nothing
+  pub hidden_recursion : Cannot (((Made 1 ∷ Made 0 ∷ Piece 0 ∷ []) ∷ (Piece 1 ∷ []) ∷ []) ∷ ([] ∷ []) ∷ [])
+  -- and through another nonterminal: text = more 0 | 1; more = text
+  pub indirect_recursion : Cannot (((Made 1 ∷ Piece 0 ∷ []) ∷ (Piece 1 ∷ []) ∷ []) ∷ ((Made 0 ∷ []) ∷ []) ∷ [])
+  -- alternatives whose nonterminals begin alike: text = more 1 | last; more = 0; last = 0
+  pub alike_behind : Cannot (((Made 1 ∷ Piece 1 ∷ []) ∷ (Made 2 ∷ []) ∷ [])
+      ∷ ((Piece 0 ∷ []) ∷ []) ∷ ((Piece 0 ∷ []) ∷ []) ∷ [])
+  -- a table that isn't whole yet, and one that is
+  pub too_few_rounds : is_readable (chain 2) ≡ false
+  pub enough_rounds : is_readable (chain 3) ≡ true
+  -- a piece that isn't of the class that it stands for; and no rule at all
+  pub other_sample : is_readable (record brackets { sample = λ c. 0 }) ≡ false
+  pub nothing_at_all : Cannot []
+  -- what can't be completed: text = 0 text; and a nonterminal, or a class, that isn't there
+  pub endless : Cannot (((Piece 0 ∷ Made 0 ∷ []) ∷ []) ∷ [])
+  pub no_rule : Cannot (((Piece 0 ∷ Made 1 ∷ []) ∷ []) ∷ [])
+  pub no_class : Cannot (((Piece 3 ∷ []) ∷ []) ∷ [])
+  -- what is passed before what can follow it: text = more 0; more = 0 | nothing
+  pub passed_before : Cannot (((Made 1 ∷ Piece 0 ∷ []) ∷ []) ∷ ((Piece 0 ∷ []) ∷ [] ∷ []) ∷ [])
+
+-- which rules items spell
+pub record RulesAreSpelled : Type 0 where
+  -- `0 text 1 | nothing` is that of brackets
+  pub brackets_spelled : rules_of (APiece 0 ∷ AMade 0 ∷ APiece 1 ∷ Or ∷ End ∷ []) ≡ brackets.rules
+  -- no item spells no rule, `End` alone one whose one alternative is nothing, and what has no `End` none
+  pub none : rules_of [] ≡ []
+  pub one : rules_of (End ∷ []) ≡ ([] ∷ []) ∷ []
+  pub open_end : rules_of (APiece 0 ∷ Or ∷ AMark 1 ∷ []) ≡ []
+  pub two : rules_of (AMark 1 ∷ End ∷ APiece 0 ∷ End ∷ []) ≡ ((Mark 1 ∷ []) ∷ []) ∷ ((Piece 0 ∷ []) ∷ []) ∷ []
+
+-- texts of brackets, which stand for their events, with nothing against them
+abbrev pub bracket_text : Text ℕ (List (Event ℕ)) ℕ
+bracket_text = record {
+  grammar = brackets;
+  value = λ es. es;
+  faults = λ es t. [];
+  floor = λ es at. at;
+  number = λ kind. kind;
+  off = λ piece. 1;
+}
+
+-- what brackets derive: 0 0 1 1 and nothing at all, and neither 0 nor 1 0; pieces that are done have the last one first
+pub record BracketsAreTold : Type 0 where
+  pub two : Writes bracket_text (Read 0 ∷ Read 0 ∷ Read 1 ∷ Read 1 ∷ []) (0 ∷ 0 ∷ 1 ∷ 1 ∷ [])
+  pub nothing_at_all : Writes bracket_text [] []
+  pub open_begins : IsBeginning (reader bracket_text) (0 ∷ [])
+  pub open_is_none : ¬ IsWhole (reader bracket_text) (0 ∷ [])
+  pub closed_first : ¬ IsBeginning (reader bracket_text) (1 ∷ [])
+  pub other : ¬ IsBeginning (reader bracket_text) (2 ∷ [])
+
+-- a lawful text is read as the laws of readers have it, and a tree stands exactly where it is derived in silence
+pub record TextsAreRead {P T K : Type 0} (x : Text P T K) : Type 0 where
+  pub laws : Laws (reader x)
+  pub answers : AnswersAll (reader x)
+  pub one_tree : OneTree (reader x)
+  pub one_first : OneFirst (reader x)
+  pub silence : StandsWhereSilent x
+
+-- all of it; the laws hold of every lawful text
+pub record WorkedGrammars : Type 0 where
+  pub grammars : GrammarsAreTold
+  pub spelled : RulesAreSpelled
+  pub brackets_told : BracketsAreTold
+  pub brackets_read : TextsAreRead bracket_text

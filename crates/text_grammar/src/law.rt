@@ -1,0 +1,19 @@
+//! The laws of grammars.
+
+ghost use Rattle.text_grammar.specs.Texts.{IsLawful};
+ghost use Rattle.text_grammar.specs.Worked.{TextsAreRead, WorkedGrammars};
+
+use crate::text::Text;
+
+/// Which grammars can be read, which rules items spell and what brackets derive is what was worked out by hand, on both
+/// sides, and the reader of brackets keeps the laws. It has no code: its contract is the law.
+pub fn worked_grammars_hold()
+    ensures { WorkedGrammars }
+{}
+
+/// A lawful text is read as the laws of readers have it: it has one answer, the tree or the first fault, and a tree
+/// stands exactly where it is derived with nothing against its tokens. It has no code: its contract is the law.
+pub fn lawful_texts_are_read<X: Text>(text: &X)
+    requires { IsLawful (X.text_of text.now) }
+    ensures { TextsAreRead (X.text_of text.now) }
+{}

@@ -1,0 +1,27 @@
+//! Symbols of a grammar, and how its rules are spelled in a row.
+
+/// What a body is made of.
+#[derive(Clone, Copy, Debug, PartialEq, Eq)]
+pub enum Symbol {
+    /// A piece of this class.
+    Piece(u32),
+    /// A nonterminal.
+    Made(u32),
+    /// A mark: what it stands for is done here.
+    Mark(u32),
+}
+
+/// An item of the row that spells a grammar's rules.
+#[derive(Clone, Copy, Debug, PartialEq, Eq)]
+pub enum Item {
+    /// A piece of this class comes next in the body.
+    APiece(u32),
+    /// A nonterminal comes next in the body.
+    AMade(u32),
+    /// A mark comes next in the body.
+    AMark(u32),
+    /// The body ends, and another alternative begins.
+    Or,
+    /// The body ends, and with it the nonterminal's alternatives.
+    End,
+}

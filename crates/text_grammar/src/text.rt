@@ -1,0 +1,92 @@
+//! What a text of a grammar brings of its own, and where its tokens come from.
+
+ghost use Rattle.std.specs.Prelude.{◌≡◌, ℕ, List, [], ◌∷◌, None, IfOk, OnOk, MatchOption};
+ghost use Rattle.text_core.specs.Readers.{onto};
+ghost use Rattle.text_core.specs.Tokens.{Token as TokenOf};
+ghost use Rattle.text_grammar.specs.Grammars.{Event, Read, Did};
+ghost use Rattle.text_grammar.specs.Texts.{Text as TextOf, first_shown};
+ghost use Rattle.text_grammar.specs.Marks.{token_of, fault_of};
+
+use crate::token::{Fault, Token};
+use std::alloc::AllocError;
+
+/// The tokens of a text, one by one.
+pub trait Tokens {
+    type Piece: Copy;
+
+    // the tokens that are left
+    ghost left: { Self → List (TokenOf Self.Piece) };
+
+    /// The next token, and none where the text ends.
+    fn pull(&mut self) -> Option<Token<Self::Piece>>
+        ensures { MatchOption result (left self.old ≡ []) (λ t. left self.old ≡ token_of t ∷ left self.new) };
+}
+
+/// A text of a grammar: what it remembers of its events, what stands against a token, and what it makes of them all.
+pub trait Text {
+    type Piece: Copy;
+
+    type Kind: Copy;
+
+    type Made;
+
+    // the trees that texts stand for; the text's grammar, its fold and its faults; what is known of the events so far,
+    // the last one first; and what is made of a tree
+    ghost Tree: { Type 0 };
+
+    ghost text_of: { Self → TextOf Self.Piece Tree Self.Kind };
+
+    ghost Knows: { Self → List (Event Self.Piece) → Type 0 };
+
+    ghost Makes: { Self.Made → Tree → Type 0 };
+
+    /// The class of a piece.
+    fn class(&self, piece: Self::Piece) -> u32
+        ensures { result ≡ (text_of self.now).grammar.class_of piece };
+
+    /// Does what a mark stands for.
+    ///
+    /// # Errors
+    ///
+    /// `AllocError` where an allocation fails.
+    fn did(&mut self, mark: u32) -> Result<(), AllocError>
+        ensures same { text_of self.new ≡ text_of self.old }
+        ensures known { OnOk result ((es : List (Event Self.Piece)) → Knows self.old es
+            → Knows self.new (Did mark ∷ es)) };
+
+    /// Reads a piece.
+    ///
+    /// # Errors
+    ///
+    /// `AllocError` where an allocation fails.
+    fn take(&mut self, piece: Self::Piece) -> Result<(), AllocError>
+        ensures same { text_of self.new ≡ text_of self.old }
+        ensures known { OnOk result ((es : List (Event Self.Piece)) → Knows self.old es
+            → Knows self.new (Read piece ∷ es)) };
+
+    /// The first of what stands against a token that can follow.
+    fn fault(&self, token: Token<Self::Piece>) -> Option<Fault<Self::Kind>>
+        ensures { (es : List (Event Self.Piece)) → Knows self.now es
+            → fault_of result ≡ first_shown (text_of self.now) None ((text_of self.now).faults es (token_of token)) };
+
+    /// The position before which nothing is shown any more, where the next token is at this one.
+    fn floor(&self, at: u64) -> u64
+        ensures { (es : List (Event Self.Piece)) → Knows self.now es → result ≡ (text_of self.now).floor es at };
+
+    /// The number of a kind: of two kinds at one position the one with the lesser number comes first.
+    fn number(&self, kind: Self::Kind) -> u32
+        ensures { result ≡ (text_of self.now).number kind };
+
+    /// The kind of refusal where this piece can't follow, or the text ends too early.
+    fn off(&self, piece: Option<Self::Piece>) -> Self::Kind
+        ensures { result ≡ (text_of self.now).off piece };
+
+    /// What is made of a whole text.
+    ///
+    /// # Errors
+    ///
+    /// `AllocError` where an allocation fails.
+    fn finish(self) -> Result<Self::Made, AllocError>
+        ensures { (es : List (Event Self.Piece)) → Knows self es
+            → IfOk result (λ made. Makes made ((text_of self).value (onto es []))) };
+}
