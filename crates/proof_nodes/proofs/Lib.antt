@@ -23,6 +23,9 @@ pub mod FirstReasons
 pub mod SizeReasons
 pub mod CostReasons
 pub mod ReasonsInLine
+pub mod GapPoints
+pub mod GapExclusion
+pub mod GapsInLine
 pub mod WorkedFaithful
 pub mod WorkedRefused
 pub mod WorkedAccepted

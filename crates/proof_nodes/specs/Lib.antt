@@ -15,9 +15,11 @@ pub mod AcceptsCosts
 pub mod Acceptance
 pub mod Reasons
 pub mod Checks
+pub mod GapChecks
 pub mod Feeding
 -- laws, and values that were worked out by hand
 pub mod ReasonLaws
+pub mod GapLaws
 pub mod Laws
 pub mod WorkedSettings
 pub mod Worked

@@ -4,6 +4,7 @@
 #![tactic(auto)]
 
 ghost use Rattle.proof_nodes.specs.Feeding.{LoopsGrow};
+ghost use Rattle.proof_nodes.specs.GapLaws.{GapsExcludeFunctions, GapChecksAreInLine};
 ghost use Rattle.proof_nodes.specs.Laws.{AcceptedFactsHold, AcceptedBoundsAreBased};
 ghost use Rattle.proof_nodes.specs.ReasonLaws.{FirstReasonsAreInLine};
 ghost use Rattle.proof_nodes.specs.Worked.{CountingIsFaithful, FourLemmasAreAccepted, MistakesAreRefused};
@@ -51,4 +52,15 @@ pub fn worked_costs_hold()
 /// A node has no first reason exactly where it is accepted, and it has at most one.
 pub fn first_reasons_are_in_line()
     ensures { FirstReasonsAreInLine }
+{}
+
+/// Where a gap holds that is about a set of rules, no affine function ranks its strict rule without looking at a shut
+/// place: the gap alone shows it, whoever made it.
+pub fn gaps_exclude_functions()
+    ensures { GapsExcludeFunctions }
+{}
+
+/// The checks of a gap all pass exactly where it holds, and it has at most one first fault.
+pub fn gap_checks_are_in_line()
+    ensures { GapChecksAreInLine }
 {}
