@@ -13,7 +13,6 @@ use Rattle.run_counting.specs.model.Programs.{Program, arity_of}
 use Rattle.rule_forms.specs.linear_forms.Forms.{Form, at, form_value}
 use Rattle.rule_forms.specs.linear_forms.Certificates.{minus_one}
 use Rattle.rule_forms.specs.linear_forms.Combinations.{form_sum, zero_form}
-use Rattle.rule_forms.specs.linear_forms.Points.{IsPoint}
 use Rattle.rule_forms.specs.linear_forms.Questions.{Group}
 use Rattle.rule_forms.specs.linear_forms.QuestionLaws.{Element, AreElements, Refutes, total_of, fixed_total}
 use Rattle.rule_forms.specs.linear_forms.RuleQuestions.{RankedSet, Coefficient, opposite, at_source, at_target}
@@ -25,15 +24,13 @@ use Rattle.rule_forms.specs.RankLaws.{IsSetOf, HavePointsOf}
 use Rattle.rule_forms.proofs.linear_forms.ColumnLaws.{get_or-map}
 use Rattle.rule_forms.proofs.linear_forms.CombinationLaws.{form_value-sum, form_value-times}
 use Rattle.rule_forms.proofs.linear_forms.RefutationLaws.{refuted-has_none}
-use Rattle.rule_forms.proofs.linear_forms.SolutionLaws.{length-map}
 use Rattle.rule_forms.proofs.RankExclusion.{numbers_of, ranks-hold, rank-points}
 use Rattle.rule_forms.proofs.RankSolutions.{rank-shaped}
 use Rattle.run_counting.proofs.model.Membership.{no_is_not_yes}
 use Rattle.proof_nodes.specs.Gaps.{ScaledPoint, Gap, is_shut}
-use Rattle.proof_nodes.specs.GapChecks.{MeetsAt, IsPointOf, value_at, net, balance, point_of, balanced_at, balanced}
+use Rattle.proof_nodes.specs.GapChecks.{MeetsAt, value_at, net, balance, point_of, balanced_at, balanced}
 use Rattle.proof_nodes.specs.GapChecks.{GapHolds}
 use Rattle.proof_nodes.specs.GapLaws.{IsAbout, GapsExcludeFunctions}
-use Rattle.proof_nodes.specs.Graph.{symbols_of}
 use Rattle.proof_nodes.proofs.CheckLists.{in-each, each-append, append-each, map-each, each-map}
 use Rattle.proof_nodes.proofs.GapPoints.{AreEach, each-long, of-each}
 

@@ -1,6 +1,6 @@
 -- The checks of a gap are in line with when it holds.
-use Rattle.std.proofs.Common.{◌≡◌, ℕ, true, List, refl}
-use Rattle.std.specs.Prelude.{◌↔◌, pos}
+use Rattle.std.proofs.Common.{◌≡◌, ℕ}
+use Rattle.std.specs.Prelude.{pos}
 use Rattle.std.proofs.lemmas.List.Elements.{All-from_recursion, recursion_from_All}
 use Rattle.run_counting.specs.model.Programs.{Program}
 use Rattle.rule_forms.specs.linear_forms.RuleQuestions.{RuleForms}

@@ -34,5 +34,6 @@ pub mod WorkedSizes
 pub mod WorkedReasons
 pub mod WorkedCosts
 pub mod WorkedPaying
+pub mod WorkedGaps
 -- the lemmas of the crates below, which callers name through this one
 pub use Rattle.rule_forms.proofs as rule_forms

@@ -26,6 +26,7 @@ pub mod Worked
 pub mod WorkedSizes
 pub mod WorkedReasons
 pub mod WorkedCosts
+pub mod WorkedGaps
 -- the machinery of the functions inside and of the proofs
 pub mod Combined
 -- the crates below, which callers name through this one

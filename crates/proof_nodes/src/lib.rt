@@ -11,6 +11,7 @@ ghost use Rattle.proof_nodes.specs.Worked.{CountingIsFaithful, FourLemmasAreAcce
 ghost use Rattle.proof_nodes.specs.Worked.{PlainNodesAreJudged, FormulasAreWhole};
 ghost use Rattle.proof_nodes.specs.WorkedSizes.{SizeNodesAreJudged};
 ghost use Rattle.proof_nodes.specs.WorkedReasons.{ReasonsComeInOrder};
+ghost use Rattle.proof_nodes.specs.WorkedGaps.{GapsAreJudged};
 ghost use Rattle.proof_nodes.specs.WorkedCosts.{CostNodesAreJudged, CostReasonsComeInOrder, PayingIsFaithful};
 
 /// Where all lemmas of a list are accepted, every fact of every lemma holds on all runs, whoever made the lemmas.
@@ -63,4 +64,9 @@ pub fn gaps_exclude_functions()
 /// The checks of a gap all pass exactly where it holds, and it has at most one first fault.
 pub fn gap_checks_are_in_line()
     ensures { GapChecksAreInLine }
+{}
+
+/// Gaps of three small programs hold, and changed ones have the faults that were worked out by hand.
+pub fn worked_gaps_hold()
+    ensures { GapsAreJudged }
 {}
