@@ -26,6 +26,11 @@ pub mod ReasonsInLine
 pub mod GapPoints
 pub mod GapExclusion
 pub mod GapsInLine
+pub mod StableGaps
+pub mod FirstFailures
+pub mod Numbering
+pub mod Refusals
+pub mod FilesInLine
 pub mod WorkedFaithful
 pub mod WorkedRefused
 pub mod WorkedAccepted

@@ -16,10 +16,13 @@ pub mod Acceptance
 pub mod Reasons
 pub mod Checks
 pub mod GapChecks
+pub mod Numbering
+pub mod Refusals
 pub mod Feeding
 -- laws, and values that were worked out by hand
 pub mod ReasonLaws
 pub mod GapLaws
+pub mod RefusalLaws
 pub mod Laws
 pub mod WorkedSettings
 pub mod Worked

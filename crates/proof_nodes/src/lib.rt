@@ -7,6 +7,8 @@ ghost use Rattle.proof_nodes.specs.Feeding.{LoopsGrow};
 ghost use Rattle.proof_nodes.specs.GapLaws.{GapsExcludeFunctions, GapChecksAreInLine};
 ghost use Rattle.proof_nodes.specs.Laws.{AcceptedFactsHold, AcceptedBoundsAreBased};
 ghost use Rattle.proof_nodes.specs.ReasonLaws.{FirstReasonsAreInLine};
+ghost use Rattle.proof_nodes.specs.RefusalLaws.{LemmasAreTheirNodes, RefusalsAreInLine, FileRefusalsAreInLine};
+ghost use Rattle.proof_nodes.specs.RefusalLaws.{AcceptedFilesHold};
 ghost use Rattle.proof_nodes.specs.Worked.{CountingIsFaithful, FourLemmasAreAccepted, MistakesAreRefused};
 ghost use Rattle.proof_nodes.specs.Worked.{PlainNodesAreJudged, FormulasAreWhole};
 ghost use Rattle.proof_nodes.specs.WorkedSizes.{SizeNodesAreJudged};
@@ -69,4 +71,19 @@ pub fn gap_checks_are_in_line()
 /// Gaps of three small programs hold, and changed ones have the faults that were worked out by hand.
 pub fn worked_gaps_hold()
     ensures { GapsAreJudged }
+{}
+
+/// A lemma is accepted exactly where each of its nodes is accepted by itself. Lemmas are accepted exactly where there is
+/// no node at which they are refused, and there is one such node at most, with one reason. A file is accepted exactly
+/// where there is neither such a node nor a gap at which it is refused; there aren't both; and there is one such gap at
+/// most, with one fault.
+pub fn refusals_are_in_line()
+    ensures nodes { LemmasAreTheirNodes }
+    ensures lemmas { RefusalsAreInLine }
+    ensures files { FileRefusalsAreInLine }
+{}
+
+/// Of an accepted file every fact of every lemma holds on all runs, and every gap excludes functions, whoever made it.
+pub fn accepted_files_hold()
+    ensures { AcceptedFilesHold }
 {}
