@@ -40,5 +40,6 @@ pub mod WorkedReasons
 pub mod WorkedCosts
 pub mod WorkedPaying
 pub mod WorkedGaps
+pub mod WorkedRefusals
 -- the lemmas of the crates below, which callers name through this one
 pub use Rattle.rule_forms.proofs as rule_forms

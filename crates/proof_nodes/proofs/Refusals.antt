@@ -59,9 +59,10 @@ module _ (s : Setting) where
   -- of a list that is cut twice before a lemma that fails, those before it being accepted, the two cuts are one
   one_cut : (past : List (List Fact)) (b c : List Proof) (x y : Proof) (d e : List Proof) (i j : ℕ) (q r : Reason)
       → b ++ x ∷ d ≡ c ++ y ∷ e → AcceptsFrom s past b → AcceptsFrom s past c → FailsAt (facts_from s past b) x i q
-      → FailsAt (facts_from s past c) y j r → (length b ≡ length c) × ((i ≡ j) × (q ≡ r))
+      → FailsAt (facts_from s past c) y j r → (length b ≡ length c) × (i ≡ j) × (q ≡ r)
   one_cut past [] [] x y d e i j q r same h k f g =
-      (refl, one_node past x i j q r f (subst (λ (z : Proof). FailsAt past z j r) (sym (same_head x y d e same)) g))
+      let node = one_node past x i j q r f (subst (λ (z : Proof). FailsAt past z j r) (sym (same_head x y d e same)) g) in
+      (refl, node.0, node.1)
   one_cut past [] (z ∷ c) x y d e i j q r same h k f g =
       absurd (accepted-whole past z k.0 i q (subst (λ (w : Proof). FailsAt past w i q) (same_head x z d (c ++ y ∷ e) same) f))
   one_cut past (z ∷ b) [] x y d e i j q r same h k f g =
@@ -72,7 +73,7 @@ module _ (s : Setting) where
       one_cut (after past z) b c x y d e i j q r (same_tail z w (b ++ x ∷ d) (c ++ y ∷ e) same) h.1
       (subst (λ (v : Proof). AcceptsFrom s (after past v) c) (sym head) k.1) f
       (subst (λ (v : Proof). FailsAt (facts_from s (after past v) c) y j r) (sym head) g) in
-      (ap (λ (n : ℕ). suc n) rest.0, rest.1)
+      (ap (λ (n : ℕ). suc n) rest.0, rest.1, rest.2)
 
   -- lemmas of which none fails after those before it are accepted
   none-accepts : (past : List (List Fact)) (proofs : List Proof)
@@ -113,5 +114,5 @@ refusals-in-line = record {
       let same =
       one_cut s [] h.before k.before h.proof k.proof h.behind k.behind i j q r (sym h.whole ∙ k.whole) h.accepted
       k.accepted h.first k.first in
-      (h.number ∙ (ap (λ (n : ℕ). suc n) same.0 ∙ sym k.number), same.1);
+      (h.number ∙ (ap (λ (n : ℕ). suc n) same.0 ∙ sym k.number), same.1, same.2);
 }

@@ -30,6 +30,7 @@ pub mod WorkedSizes
 pub mod WorkedReasons
 pub mod WorkedCosts
 pub mod WorkedGaps
+pub mod WorkedRefusals
 -- the machinery of the functions inside and of the proofs
 pub mod Combined
 -- the crates below, which callers name through this one

@@ -29,7 +29,7 @@ pub record HasNoRefusal (s : Setting) (proofs : List Proof) : Type 0 where
 pub record RefusalsAreInLine : Type 0 where
   pub none : (s : Setting) (proofs : List Proof) → AcceptsLemmas s proofs ↔ HasNoRefusal s proofs
   pub one : (s : Setting) (proofs : List Proof) (l m i j : ℕ) (q r : Reason) → IsRefusedAt s proofs l i q
-      → IsRefusedAt s proofs m j r → (l ≡ m) × ((i ≡ j) × (q ≡ r))
+      → IsRefusedAt s proofs m j r → (l ≡ m) × (i ≡ j) × (q ≡ r)
 
 -- there is no gap at which this file is refused
 pub record HasNoGapRefusal (s : Setting) (rule : ℕ → RuleForms) (f : ProofFile) : Type 0 where

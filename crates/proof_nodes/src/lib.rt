@@ -14,6 +14,7 @@ ghost use Rattle.proof_nodes.specs.Worked.{PlainNodesAreJudged, FormulasAreWhole
 ghost use Rattle.proof_nodes.specs.WorkedSizes.{SizeNodesAreJudged};
 ghost use Rattle.proof_nodes.specs.WorkedReasons.{ReasonsComeInOrder};
 ghost use Rattle.proof_nodes.specs.WorkedGaps.{GapsAreJudged};
+ghost use Rattle.proof_nodes.specs.WorkedRefusals.{NodesAreNumbered, LemmasAreRefused, FilesAreJudged};
 ghost use Rattle.proof_nodes.specs.WorkedCosts.{CostNodesAreJudged, CostReasonsComeInOrder, PayingIsFaithful};
 
 /// Where all lemmas of a list are accepted, every fact of every lemma holds on all runs, whoever made the lemmas.
@@ -86,4 +87,12 @@ pub fn refusals_are_in_line()
 /// Of an accepted file every fact of every lemma holds on all runs, and every gap excludes functions, whoever made it.
 pub fn accepted_files_hold()
     ensures { AcceptedFilesHold }
+{}
+
+/// Nodes have the numbers that were worked out by hand; lemmas with mistakes are refused at the node, and files with
+/// gaps that don't hold at the gap, that were worked out, and for that reason.
+pub fn worked_refusals_hold()
+    ensures numbered { NodesAreNumbered }
+    ensures lemmas { LemmasAreRefused }
+    ensures files { FilesAreJudged }
 {}
