@@ -31,6 +31,9 @@ pub mod FirstFailures
 pub mod Numbering
 pub mod Refusals
 pub mod FilesInLine
+pub mod ComposedNumbers
+pub mod SizeNumbers
+pub mod PrintableFacts
 pub mod WorkedFaithful
 pub mod WorkedRefused
 pub mod WorkedAccepted

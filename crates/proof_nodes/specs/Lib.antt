@@ -24,6 +24,7 @@ pub mod ReasonLaws
 pub mod GapLaws
 pub mod RefusalLaws
 pub mod Laws
+pub mod Printable
 pub mod WorkedSettings
 pub mod Worked
 pub mod WorkedSizes

@@ -6,6 +6,7 @@
 ghost use Rattle.proof_nodes.specs.Feeding.{LoopsGrow};
 ghost use Rattle.proof_nodes.specs.GapLaws.{GapsExcludeFunctions, GapChecksAreInLine};
 ghost use Rattle.proof_nodes.specs.Laws.{AcceptedFactsHold, AcceptedBoundsAreBased};
+ghost use Rattle.proof_nodes.specs.Printable.{AcceptedFactsArePrintable};
 ghost use Rattle.proof_nodes.specs.ReasonLaws.{FirstReasonsAreInLine};
 ghost use Rattle.proof_nodes.specs.RefusalLaws.{LemmasAreTheirNodes, RefusalsAreInLine, FileRefusalsAreInLine};
 ghost use Rattle.proof_nodes.specs.RefusalLaws.{AcceptedFilesHold};
@@ -95,4 +96,10 @@ pub fn worked_refusals_hold()
     ensures numbered { NodesAreNumbered }
     ensures lemmas { LemmasAreRefused }
     ensures files { FilesAreJudged }
+{}
+
+/// The facts of accepted lemmas have bounds with tidy numbers over the start arguments alone, and they are tidy where each
+/// bound that the lemmas write is.
+pub fn accepted_facts_are_printable()
+    ensures { AcceptedFactsArePrintable }
 {}
