@@ -77,7 +77,8 @@ excludes p rule g h = record {
 -- what an accepted file is worth
 pub accepted-files-hold : AcceptedFilesHold
 accepted-files-hold = record {
-  facts = λ s true_to rule f h. accepted_facts_hold.each s true_to f.lemmas h.lemmas;
-  gaps = λ s rule f h.
-      All-weaker (GapHolds s.program rule) (ExcludesFunctions s.program rule) (excludes s.program rule) f.gaps h.gaps;
+  each = λ s true_to rule f h. record {
+    facts = accepted_facts_hold.each s true_to f.lemmas h.lemmas;
+    gaps = All-weaker (GapHolds s.program rule) (ExcludesFunctions s.program rule) (excludes s.program rule) f.gaps h.gaps;
+  };
 }

@@ -44,5 +44,6 @@ pub mod WorkedCosts
 pub mod WorkedPaying
 pub mod WorkedGaps
 pub mod WorkedRefusals
+pub mod WorkedPrintable
 -- the lemmas of the crates below, which callers name through this one
 pub use Rattle.rule_forms.proofs as rule_forms

@@ -32,6 +32,7 @@ pub mod WorkedReasons
 pub mod WorkedCosts
 pub mod WorkedGaps
 pub mod WorkedRefusals
+pub mod WorkedPrintable
 -- the machinery of the functions inside and of the proofs
 pub mod Combined
 -- the crates below, which callers name through this one

@@ -49,9 +49,12 @@ pub record FileRefusalsAreInLine : Type 0 where
 pub record ExcludesFunctions (p : Program) (rule : ℕ → RuleForms) (g : Gap) : Type 0 where
   pub each : (b : RankedSet) → b.rule ≡ rule → IsSetOf b → IsAbout p b g → NoRank b
 
--- of an accepted file every fact of every lemma holds on all runs, and every gap excludes functions, whoever made it
+-- of a file every fact of every lemma holds on all runs, and every gap excludes functions
+pub record FileHolds (s : Setting) (rule : ℕ → RuleForms) (f : ProofFile) : Type 0 where
+  pub facts : All (All (Holds s.program)) (facts_of_lemmas s f.lemmas)
+  pub gaps : All (ExcludesFunctions s.program rule) f.gaps
+
+-- an accepted file is worth that, whoever made it
 pub record AcceptedFilesHold : Type 0 where
-  pub facts : (s : Setting) → IsFaithful s → (rule : ℕ → RuleForms) (f : ProofFile) → AcceptsFile s rule f
-      → All (All (Holds s.program)) (facts_of_lemmas s f.lemmas)
-  pub gaps : (s : Setting) (rule : ℕ → RuleForms) (f : ProofFile) → AcceptsFile s rule f
-      → All (ExcludesFunctions s.program rule) f.gaps
+  pub each : (s : Setting) → IsFaithful s → (rule : ℕ → RuleForms) (f : ProofFile) → AcceptsFile s rule f
+      → FileHolds s rule f

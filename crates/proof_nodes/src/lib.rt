@@ -15,6 +15,7 @@ ghost use Rattle.proof_nodes.specs.Worked.{PlainNodesAreJudged, FormulasAreWhole
 ghost use Rattle.proof_nodes.specs.WorkedSizes.{SizeNodesAreJudged};
 ghost use Rattle.proof_nodes.specs.WorkedReasons.{ReasonsComeInOrder};
 ghost use Rattle.proof_nodes.specs.WorkedGaps.{GapsAreJudged};
+ghost use Rattle.proof_nodes.specs.WorkedPrintable.{PrintingIsJudged};
 ghost use Rattle.proof_nodes.specs.WorkedRefusals.{NodesAreNumbered, LemmasAreRefused, FilesAreJudged};
 ghost use Rattle.proof_nodes.specs.WorkedCosts.{CostNodesAreJudged, CostReasonsComeInOrder, PayingIsFaithful};
 
@@ -102,4 +103,9 @@ pub fn worked_refusals_hold()
 /// bound that the lemmas write is.
 pub fn accepted_facts_are_printable()
     ensures { AcceptedFactsArePrintable }
+{}
+
+/// Facts can be printed, or can't, as was worked out by hand.
+pub fn worked_printing_holds()
+    ensures { PrintingIsJudged }
 {}

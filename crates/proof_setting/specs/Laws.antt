@@ -1,5 +1,5 @@
 -- What the settings of valid programs say, and what accepted lemmas are worth for them.
-use Rattle.std.specs.Prelude.{◌≡◌, ◌↔◌, ℕ, ◌≤◌, List, All, Some, slice_get}
+use Rattle.std.specs.Prelude.{◌≡◌, ◌↔◌, ℕ, ◌≤◌, List, length, All, Some, slice_get}
 use Rattle.guard_prep.specs.model.Bounds.{Bound}
 use Rattle.guard_prep.specs.model.Programs.{Program, Rule, rule_at}
 use Rattle.guard_prep.specs.model.Facts.{Holds}
@@ -13,6 +13,11 @@ use Rattle.proof_nodes.specs.Limits.{IsSmallComposed}
 use Rattle.proof_nodes.specs.Checks.{large_nodes}
 use Rattle.proof_nodes.specs.Setting.{IsFaithful}
 use Rattle.proof_nodes.specs.Acceptance.{AcceptsLemmas, facts_of_lemmas}
+use Rattle.proof_nodes.specs.rule_forms.linear_forms.RuleQuestions.{RuleForms}
+use Rattle.proof_nodes.specs.Gaps.{ProofFile}
+use Rattle.proof_nodes.specs.Refusals.{AcceptsFile}
+use Rattle.proof_nodes.specs.RefusalLaws.{FileHolds}
+use Rattle.proof_nodes.specs.Printable.{IsTidying, HasTidyFactNumbers, IsPrintableFact, WritesTidyBounds}
 use Rattle.proof_setting.specs.Setting.{setting_of}
 
 -- the setting of a valid program says what is true: each step is a point of its rule's rows, each step by a cost rule a
@@ -25,6 +30,25 @@ pub record SettingsAreFaithful : Type 0 where
 pub record AcceptedFactsHold : Type 0 where
   pub each : (p : Program) → IsValid p → (proofs : List Proof) → AcceptsLemmas (setting_of p) proofs
       → All (All (Holds p)) (facts_of_lemmas (setting_of p) proofs)
+
+-- and so of a file that is accepted for a valid program every fact holds on all of its runs, and every gap excludes
+-- functions
+pub record AcceptedFilesHold : Type 0 where
+  pub each : (p : Program) → IsValid p → (rule : ℕ → RuleForms) (f : ProofFile) → AcceptsFile (setting_of p) rule f
+      → FileHolds (setting_of p) rule f
+
+-- the setting of a valid program makes bounds that can be printed
+pub record SettingsAreTidying : Type 0 where
+  pub each : (p : Program) → IsValid p → IsTidying (setting_of p)
+
+-- the facts of lemmas that are accepted for a valid program have bounds with tidy numbers over its start arguments
+-- alone; and where each bound that the lemmas write is tidy, so is each bound of their facts
+pub record AcceptedFactsArePrintable : Type 0 where
+  pub numbers : (p : Program) → IsValid p → (proofs : List Proof) → AcceptsLemmas (setting_of p) proofs
+      → All (All (HasTidyFactNumbers (length p.start_names))) (facts_of_lemmas (setting_of p) proofs)
+  pub tidy : (p : Program) → IsValid p → (proofs : List Proof) → AcceptsLemmas (setting_of p) proofs
+      → All WritesTidyBounds proofs
+      → All (All (IsPrintableFact (length p.start_names))) (facts_of_lemmas (setting_of p) proofs)
 
 -- the expanded update at a place, and it has degree 2 or more
 pub record IsBentUpdate (r : Rule) (i : ℕ) (q : Polynomial) : Type 0 where

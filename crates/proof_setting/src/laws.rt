@@ -1,7 +1,8 @@
 //! What settings say, and what it is worth.
 
 ghost use Rattle.proof_setting.specs.Laws.{SettingsAreFaithful, AcceptedFactsHold, PolynomialsAreBent};
-ghost use Rattle.proof_setting.specs.Laws.{SmallBoundsAreRewritten};
+ghost use Rattle.proof_setting.specs.Laws.{SmallBoundsAreRewritten, AcceptedFilesHold, SettingsAreTidying};
+ghost use Rattle.proof_setting.specs.Laws.{AcceptedFactsArePrintable};
 ghost use Rattle.proof_setting.specs.Worked.{SettingsAreAsWorkedOut};
 
 /// The setting of a valid program says what is true of it. It has no code, as all functions here: its contract is the
@@ -14,6 +15,20 @@ pub fn settings_are_faithful()
 /// whoever made the lemmas.
 pub fn accepted_facts_hold()
     ensures { AcceptedFactsHold }
+{}
+
+/// Of a file that is accepted for a valid program every fact of every lemma holds on all of its runs, and every gap
+/// excludes functions, whoever made the file.
+pub fn accepted_files_hold()
+    ensures { AcceptedFilesHold }
+{}
+
+/// The facts of lemmas that are accepted for a valid program have bounds with tidy numbers over its start arguments
+/// alone, and they are tidy, so that they can be printed, where each bound that the lemmas write is; for its setting makes
+/// bounds that can be printed.
+pub fn accepted_facts_are_printable()
+    ensures tidying { SettingsAreTidying }
+    ensures printable { AcceptedFactsArePrintable }
 {}
 
 /// The polynomial of a place is told exactly where the expanded update there has degree 2 or more.
