@@ -1,5 +1,5 @@
 -- The setting of a valid program makes bounds that can be printed, and so the facts of accepted lemmas can be.
-use Rattle.std.proofs.Common.{◌≡◌, ℕ, zero, suc, ◌+◌, ◌≤◌, Bool, true, false, if◌then◌else◌, List, [], ◌∷◌, length, map}
+use Rattle.std.proofs.Common.{◌≡◌, ℕ, zero, suc, ◌+◌, Bool, true, false, if◌then◌else◌, List, [], ◌∷◌, map}
 use Rattle.std.proofs.Common.{option_map, Option, Some, None, refl, sym, subst, arith, All}
 use Rattle.std.specs.List.{AllByRecursion}
 use Rattle.guard_prep.specs.model.Limits.{coefficient_limit}
@@ -15,7 +15,7 @@ use Rattle.guard_prep.specs.Prepared.{is_bent}
 use Rattle.guard_prep.proofs.StepLaws.{valid-at}
 use Rattle.bound_table.proofs.TableInForce.{rewritten-tidy, rewritten-reads}
 use Rattle.proof_nodes.specs.Acceptance.{facts_of_lemmas}
-use Rattle.proof_nodes.specs.Printable.{HasSmallCoefficients, IsTidying, HasTidyFactNumbers, IsPrintableFact}
+use Rattle.proof_nodes.specs.Printable.{HasSmallCoefficients, HasTidyFactNumbers, IsPrintableFact}
 use Rattle.proof_nodes.proofs.PrintableFacts.{accepted-facts-printable}
 use Rattle.proof_nodes.proofs.FilesInLine.{accepted-files-hold}
 use Rattle.proof_setting.specs.Setting.{polys_in, bent_at, cost_rule_in, setting_of}
