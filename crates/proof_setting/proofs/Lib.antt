@@ -1,5 +1,6 @@
 pub mod Faithful
 pub mod Small
+pub mod RankedSets
 -- the lemmas of the crates below, which callers name through this one
 pub use Rattle.guard_prep.proofs.model
 pub use Rattle.guard_prep.proofs.int_laws

@@ -1,5 +1,6 @@
 //! What settings say, and what it is worth.
 
+ghost use Rattle.proof_setting.specs.GapLaws.{GapsExcludeFunctions};
 ghost use Rattle.proof_setting.specs.Laws.{SettingsAreFaithful, AcceptedFactsHold, PolynomialsAreBent};
 ghost use Rattle.proof_setting.specs.Laws.{SmallBoundsAreRewritten};
 ghost use Rattle.proof_setting.specs.Worked.{SettingsAreAsWorkedOut};
@@ -30,4 +31,10 @@ pub fn small_bounds_are_rewritten()
 /// The setting of a small program is what was worked out by hand.
 pub fn settings_are_as_worked_out()
     ensures { SettingsAreAsWorkedOut }
+{}
+
+/// Where a gap holds for a valid program, no affine function ranks its strict rule over its set without looking at one
+/// of its shut places, whoever made the gap.
+pub fn gaps_exclude_functions()
+    ensures { GapsExcludeFunctions }
 {}

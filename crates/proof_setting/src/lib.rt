@@ -6,6 +6,6 @@
 mod laws;
 
 pub use laws::{
-    accepted_facts_hold, polynomials_are_bent, settings_are_as_worked_out, settings_are_faithful,
-    small_bounds_are_rewritten,
+    accepted_facts_hold, gaps_exclude_functions, polynomials_are_bent, settings_are_as_worked_out,
+    settings_are_faithful, small_bounds_are_rewritten,
 };
