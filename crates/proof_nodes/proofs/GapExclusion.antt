@@ -79,7 +79,7 @@ module _ (b : RankedSet) (cs : List Coefficient) (floor : ScaledPoint) where
       joined v x o y r n s f g h = omega (arith, ints, f, g, h)
 
   -- the fixed form of a rule's group gives nothing, and of the strict rule's the denominator with a minus
-  fixed-part : (s : Bool) (z : ScaledPoint)
+  pub fixed-part : (s : Bool) (z : ScaledPoint)
       → value_at (if s then minus_one else zero_form) z ≡ (if s then neg_ℤ (pos z.den) else pos 0)
   fixed-part true z = value (pos z.den)
     where
@@ -152,7 +152,7 @@ module _ (b : RankedSet) (cs : List Coefficient) (floor : ScaledPoint) where
 module _ (P : Coefficient → Type 0) (p : Program) (b : RankedSet) (g : Gap)
     (shut : (s i : ℕ) → b.shut s i ≡ is_shut g.shut s i) (places : (s : ℕ) → b.arity s ≡ arity_of p s) where
   -- the places of a symbol that aren't shut
-  same-open : (s : ℕ) → open_places b s ≡ filter (λ i. not (is_shut g.shut s i)) (range_with_len 1 (arity_of p s))
+  pub same-open : (s : ℕ) → open_places b s ≡ filter (λ i. not (is_shut g.shut s i)) (range_with_len 1 (arity_of p s))
   same-open s =
       ap (λ (n : ℕ). filter (λ i. not (b.shut s i)) (range_with_len 1 n)) (places s)
       ∙ filter_agree (λ i. not (b.shut s i)) (λ i. not (is_shut g.shut s i)) (λ i. ap (λ (v : Bool). not v) (shut s i))

@@ -25,6 +25,7 @@ pub mod CostReasons
 pub mod ReasonsInLine
 pub mod GapPoints
 pub mod GapExclusion
+pub mod RefutedGaps
 pub mod GapsInLine
 pub mod StableGaps
 pub mod FirstFailures

@@ -44,8 +44,8 @@ pub record AcceptsFile (s : Setting) (rule : ℕ → RuleForms) (f : ProofFile) 
   pub lemmas : AcceptsLemmas s f.lemmas
   pub gaps : All (GapHolds s.program rule) f.gaps
 
--- a file is refused at a gap, counted from 1: all lemmas are accepted, and this gap is the first that doesn't hold, with
--- this as its first fault
+-- a file is refused at a gap, counted from 1: all lemmas are accepted, and this gap is the first that doesn't hold,
+-- with this as its first fault
 pub record IsRefusedAtGap (s : Setting) (rule : ℕ → RuleForms) (f : ProofFile) (gap : ℕ) (fault : GapFault)
     : Type 0 where
   pub lemmas : AcceptsLemmas s f.lemmas

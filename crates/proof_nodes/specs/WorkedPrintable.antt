@@ -10,9 +10,10 @@ use Rattle.proof_nodes.specs.Printable.{WritesTidyBounds}
 use Rattle.proof_nodes.specs.WorkedSettings.{counting}
 use Rattle.proof_nodes.specs.Worked.{one_part, once}
 
--- A + 7 over one start argument can be printed, over none it can't; a sum of one part can't, though its numbers are tidy;
--- a base of 1 and a constant past the limit aren't. A lemma writes what its Weaken nodes write, wherever they stand, and
--- no other bound. A coefficient is small up to the limit. A rewriting that leaves a sum of one part makes no tidy bounds
+-- A + 7 over one start argument can be printed, over none it can't; a sum of one part can't, though its numbers are
+-- tidy; a base of 1 and a constant past the limit aren't. A lemma writes what its Weaken nodes write, wherever they
+-- stand, and no other bound. A coefficient is small up to the limit. A rewriting that leaves a sum of one part makes no
+-- tidy bounds
 pub record PrintingIsJudged : Type 0 where
   pub sum : IsPrintableFact 1 (Time 1 (SumOf (both_parts (Input 0) (Constant 7))))
   pub no_argument : ¬ (IsPrintableFact 0 (Size 1 1 (Input 0)))

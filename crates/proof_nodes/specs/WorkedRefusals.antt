@@ -10,7 +10,8 @@ use Rattle.proof_nodes.specs.Setting.{Setting}
 use Rattle.proof_nodes.specs.Reasons.{Reason, Shape, Floor, MissingTime}
 use Rattle.proof_nodes.specs.Refusals.{IsRefusedAt, AcceptsFile, IsRefusedAtGap}
 use Rattle.proof_nodes.specs.RefusalLaws.{HasNoRefusal}
-use Rattle.proof_nodes.specs.WorkedSettings.{form, counting, no_poly, no_rows, no_cost, no_cost_poly, folded, zero_below}
+use Rattle.proof_nodes.specs.WorkedSettings.{form, counting, no_poly, no_rows, no_cost, no_cost_poly, folded}
+use Rattle.proof_nodes.specs.WorkedSettings.{zero_below}
 use Rattle.proof_nodes.specs.Worked.{only, once, down, down_alone, entered, looped, four_lemmas}
 use Rattle.proof_nodes.specs.WorkedGaps.{turning, turning_forms, scaled, gap_over, gap_of_one}
 

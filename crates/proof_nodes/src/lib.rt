@@ -76,10 +76,10 @@ pub fn worked_gaps_hold()
     ensures { GapsAreJudged }
 {}
 
-/// A lemma is accepted exactly where each of its nodes is accepted by itself. Lemmas are accepted exactly where there is
-/// no node at which they are refused, and there is one such node at most, with one reason. A file is accepted exactly
-/// where there is neither such a node nor a gap at which it is refused; there aren't both; and there is one such gap at
-/// most, with one fault.
+/// A lemma is accepted exactly where each of its nodes is accepted by itself. Lemmas are accepted exactly where there
+/// is no node at which they are refused, and there is one such node at most, with one reason. A file is accepted
+/// exactly where there is neither such a node nor a gap at which it is refused; there aren't both; and there is one
+/// such gap at most, with one fault.
 pub fn refusals_are_in_line()
     ensures nodes { LemmasAreTheirNodes }
     ensures lemmas { RefusalsAreInLine }
@@ -99,8 +99,8 @@ pub fn worked_refusals_hold()
     ensures files { FilesAreJudged }
 {}
 
-/// The facts of accepted lemmas have bounds with tidy numbers over the start arguments alone, and they are tidy where each
-/// bound that the lemmas write is.
+/// The facts of accepted lemmas have bounds with tidy numbers over the start arguments alone, and they are tidy where
+/// each bound that the lemmas write is.
 pub fn accepted_facts_are_printable()
     ensures { AcceptedFactsArePrintable }
 {}

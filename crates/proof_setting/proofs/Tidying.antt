@@ -17,10 +17,8 @@ use Rattle.bound_table.proofs.TableInForce.{rewritten-tidy, rewritten-reads}
 use Rattle.proof_nodes.specs.Acceptance.{facts_of_lemmas}
 use Rattle.proof_nodes.specs.Printable.{HasSmallCoefficients, HasTidyFactNumbers, IsPrintableFact}
 use Rattle.proof_nodes.proofs.PrintableFacts.{accepted-facts-printable}
-use Rattle.proof_nodes.proofs.FilesInLine.{accepted-files-hold}
 use Rattle.proof_setting.specs.Setting.{polys_in, bent_at, cost_rule_in, setting_of}
-use Rattle.proof_setting.specs.Laws.{AcceptedFilesHold, SettingsAreTidying, AcceptedFactsArePrintable}
-use Rattle.proof_setting.proofs.Faithful.{settings-faithful}
+use Rattle.proof_setting.specs.Laws.{SettingsAreTidying, AcceptedFactsArePrintable}
 
 -- coefficients of at most 2^63 - 1 are small
 bounded-small : (q : Polynomial) → IsBounded coefficient_limit q → HasSmallCoefficients q
@@ -91,10 +89,4 @@ facts-printable = record {
   tidy = λ p valid proofs h w.
       subst (λ (n : ℕ). All (All (IsPrintableFact n)) (facts_of_lemmas (setting_of p) proofs)) (sym valid.start_places)
       (accepted-facts-printable.tidy (setting_of p) (settings-tidying.each p valid) proofs h w);
-}
-
--- and a file that is accepted holds
-pub files-hold : AcceptedFilesHold
-files-hold = record {
-  each = λ p valid rule f h. accepted-files-hold.each (setting_of p) (settings-faithful.each p valid) rule f h;
 }

@@ -13,12 +13,12 @@ use Rattle.proof_nodes.specs.Limits.{IsSmallComposed}
 use Rattle.proof_nodes.specs.Checks.{large_nodes}
 use Rattle.proof_nodes.specs.Setting.{IsFaithful}
 use Rattle.proof_nodes.specs.Acceptance.{AcceptsLemmas, facts_of_lemmas}
-use Rattle.proof_nodes.specs.rule_forms.linear_forms.RuleQuestions.{RuleForms}
+use Rattle.proof_nodes.specs.rule_forms.Ranking.{NoRank}
 use Rattle.proof_nodes.specs.Gaps.{ProofFile}
 use Rattle.proof_nodes.specs.Refusals.{AcceptsFile}
-use Rattle.proof_nodes.specs.RefusalLaws.{FileHolds}
 use Rattle.proof_nodes.specs.Printable.{IsTidying, HasTidyFactNumbers, IsPrintableFact, WritesTidyBounds}
 use Rattle.proof_setting.specs.Setting.{setting_of}
+use Rattle.proof_setting.specs.RankedSets.{forms_at, ranked_set}
 
 -- the setting of a valid program says what is true: each step is a point of its rule's rows, each step by a cost rule a
 -- point of the cost rows, rewriting keeps values and bases, and what is below has no greater value
@@ -31,11 +31,15 @@ pub record AcceptedFactsHold : Type 0 where
   pub each : (p : Program) → IsValid p → (proofs : List Proof) → AcceptsLemmas (setting_of p) proofs
       → All (All (Holds p)) (facts_of_lemmas (setting_of p) proofs)
 
--- and so of a file that is accepted for a valid program every fact holds on all of its runs, and every gap excludes
--- functions
+-- what a file says of a program is so: every fact of every lemma holds on all runs, and no affine function ranks the
+-- strict rule of a gap over its set without looking at one of its shut places
+pub record FileHolds (p : Program) (f : ProofFile) : Type 0 where
+  pub facts : All (All (Holds p)) (facts_of_lemmas (setting_of p) f.lemmas)
+  pub gaps : All (λ g. NoRank (ranked_set p g.set g.rule g.shut)) f.gaps
+
+-- so it is of a file that is accepted for a valid program, whoever made it
 pub record AcceptedFilesHold : Type 0 where
-  pub each : (p : Program) → IsValid p → (rule : ℕ → RuleForms) (f : ProofFile) → AcceptsFile (setting_of p) rule f
-      → FileHolds (setting_of p) rule f
+  pub each : (p : Program) → IsValid p → (f : ProofFile) → AcceptsFile (setting_of p) (forms_at p) f → FileHolds p f
 
 -- the setting of a valid program makes bounds that can be printed
 pub record SettingsAreTidying : Type 0 where

@@ -1,5 +1,6 @@
 //! What settings say, and what it is worth.
 
+ghost use Rattle.proof_setting.specs.GapLaws.{GapsExcludeFunctions};
 ghost use Rattle.proof_setting.specs.Laws.{SettingsAreFaithful, AcceptedFactsHold, PolynomialsAreBent};
 ghost use Rattle.proof_setting.specs.Laws.{SmallBoundsAreRewritten, AcceptedFilesHold, SettingsAreTidying};
 ghost use Rattle.proof_setting.specs.Laws.{AcceptedFactsArePrintable};
@@ -17,15 +18,15 @@ pub fn accepted_facts_hold()
     ensures { AcceptedFactsHold }
 {}
 
-/// Of a file that is accepted for a valid program every fact of every lemma holds on all of its runs, and every gap
-/// excludes functions, whoever made the file.
+/// Of a file that is accepted for a valid program every fact of every lemma holds on all of its runs, and no affine
+/// function ranks the strict rule of a gap over its set without looking at a shut place, whoever made the file.
 pub fn accepted_files_hold()
     ensures { AcceptedFilesHold }
 {}
 
-/// The facts of lemmas that are accepted for a valid program have bounds with tidy numbers over its start arguments
-/// alone, and they are tidy, so that they can be printed, where each bound that the lemmas write is; for its setting makes
-/// bounds that can be printed.
+/// The setting of a valid program makes bounds that can be printed; so the facts of lemmas that are accepted for it
+/// have bounds with tidy numbers over its start arguments alone, and they are tidy where each bound that the lemmas
+/// write is.
 pub fn accepted_facts_are_printable()
     ensures tidying { SettingsAreTidying }
     ensures printable { AcceptedFactsArePrintable }
@@ -45,4 +46,10 @@ pub fn small_bounds_are_rewritten()
 /// The setting of a small program is what was worked out by hand.
 pub fn settings_are_as_worked_out()
     ensures { SettingsAreAsWorkedOut }
+{}
+
+/// Where a gap holds for a valid program, no affine function ranks its strict rule over its set without looking at one
+/// of its shut places, whoever made the gap.
+pub fn gaps_exclude_functions()
+    ensures { GapsExcludeFunctions }
 {}

@@ -11,10 +11,9 @@ use Rattle.rule_questions.specs.proof_nodes.Setting.{Setting}
 use Rattle.rule_questions.specs.proof_nodes.Composed.{rank_form}
 use Rattle.rule_questions.specs.proof_nodes.AcceptsPlain.{IsRule, AcceptsEmpty}
 use Rattle.rule_questions.specs.proof_nodes.AcceptsRank.{HasRankShape, Loses, HasFloor}
-use Rattle.rule_questions.specs.proof_tree.Shut.{is_shut}
 use Rattle.rule_questions.specs.proof_tree.declared.answer.Trip.{Trip}
 use Rattle.rule_questions.specs.proof_tree.declared.answer.Question.TheVariants as asked
-use Rattle.rule_questions.specs.proof_nodes.Gaps.{SymbolPlace, Gap}
+use Rattle.rule_questions.specs.proof_nodes.Gaps.{SymbolPlace, Gap, is_shut}
 use Rattle.rule_questions.specs.ProgramQuestions.{ranked_set}
 use Rattle.round_relation.specs.Searches.{Searches, Emptiness, NoPoint, HasPoint, EmptyTripped, Ranking, Ranked}
 use Rattle.round_relation.specs.Searches.{Unranked, RankTripped}

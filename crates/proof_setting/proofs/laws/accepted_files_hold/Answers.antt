@@ -1,4 +1,4 @@
-use Rattle.proof_setting.proofs.Tidying as lemmas
+use Rattle.proof_setting.proofs.Files as lemmas
 use Rattle.proof_setting.proofs.laws.accepted_files_hold.Goals as goal
 
 pub returns : goal.returns
