@@ -29,13 +29,14 @@ abbrev pub has_key : List Spot → ℕ → ℕ → Bool
 has_key [] t i = false
 has_key (k ∷ keys) t i = ((k.rule == t) && (k.place == i)) || has_key keys t i
 
--- the fact that a bound of a key is
+-- the fact that a bound of a rule at a place is
+abbrev pub place_fact : ℕ → ℕ → Bound → Fact
+place_fact t zero b = Time t b
+place_fact t (suc i) b = Size t (suc i) b
+
+-- and at a key
 abbrev pub fact_at : Spot → Bound → Fact
 fact_at k b = place_fact k.rule k.place b
-  where
-    place_fact : ℕ → ℕ → Bound → Fact
-    place_fact t zero b = Time t b
-    place_fact t (suc i) b = Size t (suc i) b
 
 -- the sizes among bounds; place 0 is no place of a target
 abbrev pub size_by : Bounds → ℕ → ℕ → Option Bound

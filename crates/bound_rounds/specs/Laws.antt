@@ -10,7 +10,7 @@ use Rattle.rule_questions.specs.proof_nodes.Nodes.{Spot}
 use Rattle.rule_questions.specs.proof_nodes.Acceptance.{AcceptsLemmas, facts_of_lemmas, facts_of_lemma}
 use Rattle.rule_questions.specs.proof_nodes.AcceptsPlain.{IsRule, places_at}
 use Rattle.rule_questions.specs.proof_nodes.Setting.{Setting, IsFaithful}
-use Rattle.bound_rounds.specs.Keys.{Bounds, key, at_key, fact_at, has_key, lacks, rule_numbers}
+use Rattle.bound_rounds.specs.Keys.{Bounds, place_fact, has_key, lacks, rule_numbers}
 use Rattle.bound_rounds.specs.Finds.{Find, bounds_of, number_in, facts_of_find}
 use Rattle.bound_rounds.specs.Needs.{lemmas_of}
 use Rattle.bound_rounds.specs.Standing.{AllStand}
@@ -30,12 +30,12 @@ pub record StandingFindsHaveLemmas : Type 0 where
 pub record FindsAreNumbered : Type 0 where
   pub each : (s : Setting) (fs : List Find) → AllStand s fs → (t i : ℕ) (b : Bound) → IsRule s.program t
       → bounds_of s.program fs t i ≡ Some b
-      → Contains (facts_of_lemma (facts_of_lemmas s (lemmas_of fs)) (number_in fs t i)) (fact_at (key t i) b)
+      → Contains (facts_of_lemma (facts_of_lemmas s (lemmas_of fs)) (number_in fs t i)) (place_fact t i b)
 
 -- every bound that is known with finds that stand holds on all runs
 pub record StandingFindsHold : Type 0 where
   pub each : (s : Setting) → IsFaithful s → (fs : List Find) → AllStand s fs → (t i : ℕ) (b : Bound)
-      → bounds_of s.program fs t i ≡ Some b → Holds s.program (fact_at (key t i) b)
+      → bounds_of s.program fs t i ≡ Some b → Holds s.program (place_fact t i b)
 
 -- what rounds find stands, where the answers of the searches are right
 pub record MadeFindsStand : Type 0 where
