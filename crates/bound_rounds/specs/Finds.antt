@@ -1,6 +1,6 @@
 -- What is found, one after the other: the list of finds is all that rounds know. Known bounds, and the numbers of
 -- lemmas, are read off it.
-use Rattle.std.specs.Prelude.{ℕ, zero, suc, ◌+◌, cond, List, [], ◌∷◌, map, Option, Some, None}
+use Rattle.std.specs.Prelude.{ℕ, zero, suc, cond, List, [], ◌∷◌, map, Option, Some, None}
 use Rattle.rule_questions.specs.model.Programs.{Program}
 use Rattle.rule_questions.specs.model.Bounds.{Bound}
 use Rattle.rule_questions.specs.model.Facts.{Fact}

@@ -1,6 +1,6 @@
 -- Laws of finds and of rounds: finds that stand give accepted lemmas, which state them and hold on all runs; what rounds
 -- find stands; rounds end, at one list of finds; and what is missing there has one reason.
-use Rattle.std.specs.Prelude.{◌≡◌, ◌⊎◌, ℕ, ◌+◌, ◌<◌, List, [], ◌∷◌, ◌++◌, map, Some, None}
+use Rattle.std.specs.Prelude.{◌≡◌, ◌⊎◌, ℕ, ◌+◌, ◌<◌, true, List, [], ◌∷◌, ◌++◌, map, Some, None}
 use Rattle.std.specs.List.{count_by, Contains}
 use Rattle.rule_questions.specs.model.Programs.{Program}
 use Rattle.rule_questions.specs.model.Bounds.{Bound}
@@ -15,7 +15,7 @@ use Rattle.bound_rounds.specs.Finds.{Find, bounds_of, number_in, facts_of_find}
 use Rattle.bound_rounds.specs.Needs.{lemmas_of}
 use Rattle.bound_rounds.specs.Standing.{AllStand}
 use Rattle.bound_rounds.specs.Searches.{Answers, searches_of, NoBound}
-use Rattle.bound_rounds.specs.Components.{AreComponentsOf, AreApart, IsCovered, IsOneOf}
+use Rattle.bound_rounds.specs.Components.{AreComponentsOf, IsCovered, IsOneOf}
 use Rattle.bound_rounds.specs.Beginning.{AreFirst}
 use Rattle.bound_rounds.specs.Rounds.{IsRound, IsMade, IsClosed, IsLast, IsNoBound}
 use Rattle.bound_rounds.specs.Right.{AreRight}
