@@ -2,3 +2,10 @@
 //! at the places of its target. What is found is a list, off which known bounds and lemmas are read. Definitions in
 //! `specs/` and their laws: the functions here have no code, and the contract of each is a law.
 #![tactic(auto)]
+
+ghost use Rattle.bound_rounds.specs.Laws.{LastFindsAreOne};
+
+/// Rounds make one last list of finds, with which a bound that is missing has one reason.
+pub fn last_finds_are_one()
+    ensures { LastFindsAreOne }
+{}
