@@ -13,3 +13,6 @@ pub mod FindsAreOne
 -- sets and shut places exist
 pub mod PathTests
 pub mod SetsExist
+-- missing bounds have reasons, and there are last finds
+pub mod ReasonsExist
+pub mod LastExists

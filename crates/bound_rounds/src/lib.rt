@@ -3,9 +3,14 @@
 //! `specs/` and their laws: the functions here have no code, and the contract of each is a law.
 #![tactic(auto)]
 
-ghost use Rattle.bound_rounds.specs.Laws.{LastFindsAreOne};
+ghost use Rattle.bound_rounds.specs.Laws.{LastFindsAreOne, MissingBoundsHaveReasons};
 
 /// Rounds make one last list of finds, with which a bound that is missing has one reason.
 pub fn last_finds_are_one()
     ensures { LastFindsAreOne }
+{}
+
+/// Where a round finds nothing new, each missing bound has its reason.
+pub fn missing_bounds_have_reasons()
+    ensures { MissingBoundsHaveReasons }
 {}
