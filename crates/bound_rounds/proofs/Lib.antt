@@ -5,3 +5,7 @@ pub mod Contained
 -- keys among keys, and finds one after another
 pub mod Keys
 pub mod FindLists
+-- what lemmas rest on, by the numbers of what they need
+pub mod FactLists
+pub mod CitedFacts
+pub mod NeededFacts
