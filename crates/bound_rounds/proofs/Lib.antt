@@ -1,6 +1,16 @@
--- telling cases apart, what lists contain, and numbers of rules and places
+-- telling cases apart
 pub mod Cases
+-- what lists contain
 pub mod Contained
+-- keys among keys, and finds one after another
+pub mod Keys
+pub mod FindLists
+pub mod FindLists
+-- what lemmas rest on, by the numbers of what they need
+pub mod FactLists
+pub mod CitedFacts
+pub mod NeededFacts
+-- numbers of rules and places
 pub mod RuleNumbers
 pub mod Edges
 -- where answers are one, so are rounds and the last finds
