@@ -51,7 +51,7 @@ component_one (x ∷ cs) apart c d t i (inr h) m (inl f) n =
 component_one (x ∷ cs) apart c d t i (inr h) m (inr k) n = component_one cs apart.1 c d t i h m k n
 
 -- the key of a time is at place 0
-time_has : (u t i : ℕ) → has_key (time_key u ∷ []) t i ≡ true → (u ≡ t) × (i ≡ 0)
+pub time_has : (u t i : ℕ) → has_key (time_key u ∷ []) t i ≡ true → (u ≡ t) × (i ≡ 0)
 time_has u t i h = go ((u == t) && (0 == i)) refl h
   where
     go : (v : Bool) → ((u == t) && (0 == i)) ≡ v → (v || false) ≡ true → (u ≡ t) × (i ≡ 0)

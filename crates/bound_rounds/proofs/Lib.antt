@@ -5,7 +5,6 @@ pub mod Contained
 -- keys among keys, and finds one after another
 pub mod Keys
 pub mod FindLists
-pub mod FindLists
 -- what lemmas rest on, by the numbers of what they need
 pub mod FactLists
 pub mod CitedFacts
@@ -26,3 +25,9 @@ pub mod SetsExist
 -- missing bounds have reasons, and there are last finds
 pub mod ReasonsExist
 pub mod LastExists
+-- what was worked out by hand
+pub mod WorkedFinds
+pub mod WorkedSets
+pub mod WorkedShut
+pub mod WorkedComponents
+pub mod WorkedRounds

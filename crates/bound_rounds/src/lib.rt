@@ -4,6 +4,8 @@
 #![tactic(auto)]
 
 ghost use Rattle.bound_rounds.specs.Laws.{LastFindsAreOne, MissingBoundsHaveReasons};
+ghost use Rattle.bound_rounds.specs.WorkedFinds.{FindsAreReadOff, KeysAreWorkedOut, NeedsAreWorkedOut};
+ghost use Rattle.bound_rounds.specs.WorkedFinds.{LemmasAreWorkedOut};
 
 /// Rounds make one last list of finds, with which a bound that is missing has one reason.
 pub fn last_finds_are_one()
@@ -13,4 +15,13 @@ pub fn last_finds_are_one()
 /// Where a round finds nothing new, each missing bound has its reason.
 pub fn missing_bounds_have_reasons()
     ensures { MissingBoundsHaveReasons }
+{}
+
+/// What is read off finds of the program that counts down, what nodes need, and their lemmas, is what was worked out by
+/// hand.
+pub fn finds_are_as_worked_out()
+    ensures finds { FindsAreReadOff }
+    ensures keys { KeysAreWorkedOut }
+    ensures needs { NeedsAreWorkedOut }
+    ensures lemmas { LemmasAreWorkedOut }
 {}
