@@ -31,3 +31,5 @@ pub mod WorkedSets
 pub mod WorkedShut
 pub mod WorkedComponents
 pub mod WorkedRounds
+pub mod WorkedLaterRounds
+pub mod WorkedReasons

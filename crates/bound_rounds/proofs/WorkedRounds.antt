@@ -36,13 +36,13 @@ use Rattle.bound_rounds.proofs.WorkedShut.{place_after_2}
 use Rattle.bound_rounds.proofs.WorkedComponents as parts
 
 -- what is told where a bound is missing is found
-tells_tries : (q : Searches) (s : Setting) (fs : List Find) (g : Target) (a : Answer)
+pub tells_tries : (q : Searches) (s : Setting) (fs : List Find) (g : Target) (a : Answer)
     → is_open (bounds_of s.program fs) g ≡ true → Tells q s (bounds_of s.program fs) g a → Tries q s fs g (finds_by g a)
 tells_tries q s fs g a e tells =
     record { known = λ k. absurd (false_true (sym k ∙ e)); tried = λ k. (a, tells, refl) }
 
 -- and what is known isn't asked for
-known_tries : (q : Searches) (s : Setting) (fs : List Find) (g : Target) → is_open (bounds_of s.program fs) g ≡ false
+pub known_tries : (q : Searches) (s : Setting) (fs : List Find) (g : Target) → is_open (bounds_of s.program fs) g ≡ false
     → Tries q s fs g []
 known_tries q s fs g e = record { known = λ k. refl; tried = λ k. absurd (false_true (sym e ∙ k)) }
 
@@ -60,11 +60,11 @@ first_rule [] = 0
 first_rule (f ∷ fs) = rule_of_keys f.keys
 
 module _ (rank : List ℕ → ℕ → List SymbolPlace → Ranking) (cs : List (List Spot)) where
-  abbrev q : Searches
+  abbrev pub q : Searches
   q = searches_of (answers_with rank cs)
 
   -- the rank question of a rule has its answer
-  told_time : (bs : Bounds) (t : ℕ) (set : List ℕ) (shut : List SymbolPlace) → IsSetOfRule counting.program bs t set
+  pub told_time : (bs : Bounds) (t : ℕ) (set : List ℕ) (shut : List SymbolPlace) → IsSetOfRule counting.program bs t set
       → AreShutOf counting.program bs set shut → (a : Answer) → TellsRanking counting bs (rank set t shut) a
       → TellsTime q counting bs t a
   told_time bs t set shut is are a tells = record {
@@ -94,7 +94,7 @@ module _ (rank : List ℕ → ℕ → List SymbolPlace → Ranking) (cs : List (
       not_empty : (t : ℕ) (m : List ℕ) → (answers_with rank cs).empty t ≡ NoPoint m → ⊥
       not_empty t m e = cc
 
-abbrev by_value : Searches
+abbrev pub by_value : Searches
 by_value = searches_of value_where_open
 
 -- with nothing known both rules are ranked, each over its set
@@ -115,10 +115,10 @@ second_tells =
     (record { before = refl; after = refl }, refl, refl, refl)
 
 -- with the time of rule 1 the size after it is found, and with that size the one after rule 2
-abbrev entered_answer : Answer
+abbrev pub entered_answer : Answer
 entered_answer = Found (SpreadBy entered_member) (key 0 1 ∷ key 0 1 ∷ []) entered_size
 
-abbrev looped_answer : Answer
+abbrev pub looped_answer : Answer
 looped_answer = Found (CycleBy (looped_member ∷ [])) (key 1 1 ∷ []) looped_size
 
 round : IsRound by_value counting [] (first_time ∷ second_time ∷ entered_find ∷ looped_find ∷ [])
@@ -163,7 +163,7 @@ round = record {
 }
 
 -- where all are known a round finds nothing
-closed_by : (fs : List Find) → is_open (bounds_of counting.program fs) (TimeOf 1) ≡ false
+pub closed_by : (fs : List Find) → is_open (bounds_of counting.program fs) (TimeOf 1) ≡ false
     → is_open (bounds_of counting.program fs) (TimeOf 2) ≡ false
     → fs ++ [] ≡ fs
     → is_open (bounds_of counting.program fs) (SizesOf (key 1 1 ∷ [])) ≡ false

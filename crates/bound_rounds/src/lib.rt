@@ -6,6 +6,8 @@
 ghost use Rattle.bound_rounds.specs.Laws.{LastFindsAreOne, MissingBoundsHaveReasons};
 ghost use Rattle.bound_rounds.specs.WorkedFinds.{FindsAreReadOff, KeysAreWorkedOut, NeedsAreWorkedOut};
 ghost use Rattle.bound_rounds.specs.WorkedFinds.{LemmasAreWorkedOut};
+ghost use Rattle.bound_rounds.specs.WorkedSets.{SetsOfCounting, ShutOfCounting};
+ghost use Rattle.bound_rounds.specs.WorkedRounds.{FirstRoundIsWorkedOut, LaterRoundsAreWorkedOut, ReasonsAreWorkedOut};
 
 /// Rounds make one last list of finds, with which a bound that is missing has one reason.
 pub fn last_finds_are_one()
@@ -24,4 +26,18 @@ pub fn finds_are_as_worked_out()
     ensures keys { KeysAreWorkedOut }
     ensures needs { NeedsAreWorkedOut }
     ensures lemmas { LemmasAreWorkedOut }
+{}
+
+/// The sets of the rules of that program, and their shut places, are those worked out by hand.
+pub fn sets_are_as_worked_out()
+    ensures sets { SetsOfCounting }
+    ensures shut { ShutOfCounting }
+{}
+
+/// The rounds of that program, from nothing and from the time of its first rule, and why bounds are missing where
+/// nothing ranks, are those worked out by hand.
+pub fn rounds_are_as_worked_out()
+    ensures first { FirstRoundIsWorkedOut }
+    ensures later { LaterRoundsAreWorkedOut }
+    ensures reasons { ReasonsAreWorkedOut }
 {}
