@@ -33,3 +33,5 @@ pub mod WorkedComponents
 pub mod WorkedRounds
 pub mod WorkedLaterRounds
 pub mod WorkedReasons
+pub mod WorkedUnreached
+pub mod WorkedStanding

@@ -20,3 +20,4 @@ pub mod WorkedFinds
 pub mod WorkedSets
 pub mod WorkedStanding
 pub mod WorkedRounds
+pub mod WorkedFirst

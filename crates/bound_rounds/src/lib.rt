@@ -7,6 +7,7 @@ ghost use Rattle.bound_rounds.specs.Laws.{LastFindsAreOne, MissingBoundsHaveReas
 ghost use Rattle.bound_rounds.specs.WorkedFinds.{FindsAreReadOff, KeysAreWorkedOut, NeedsAreWorkedOut};
 ghost use Rattle.bound_rounds.specs.WorkedFinds.{LemmasAreWorkedOut};
 ghost use Rattle.bound_rounds.specs.WorkedSets.{SetsOfCounting, ShutOfCounting};
+ghost use Rattle.bound_rounds.specs.WorkedStanding.{StandingIsWorkedOut};
 ghost use Rattle.bound_rounds.specs.WorkedRounds.{FirstRoundIsWorkedOut, LaterRoundsAreWorkedOut, ReasonsAreWorkedOut};
 
 /// Rounds make one last list of finds, with which a bound that is missing has one reason.
@@ -40,4 +41,9 @@ pub fn rounds_are_as_worked_out()
     ensures first { FirstRoundIsWorkedOut }
     ensures later { LaterRoundsAreWorkedOut }
     ensures reasons { ReasonsAreWorkedOut }
+{}
+
+/// Which finds of that program stand, and of one with a rule that is never reached, is what was worked out by hand.
+pub fn standing_is_as_worked_out()
+    ensures { StandingIsWorkedOut }
 {}
