@@ -35,3 +35,5 @@ pub mod WorkedLaterRounds
 pub mod WorkedReasons
 pub mod WorkedUnreached
 pub mod WorkedStanding
+pub mod WorkedFirst
+pub mod WorkedRight

@@ -24,13 +24,13 @@ pub rule_2 : IsRule counting.program 2
 rule_2 = record { rule = count_down; numbered = refl }
 
 -- rules 1 and 2 are all there are
-no_rule_0 : IsRule counting.program 0 → ⊥
+pub no_rule_0 : IsRule counting.program 0 → ⊥
 no_rule_0 h = none h.rule h.numbered
   where
     none : (r : Rule) → None ≡ Some r → ⊥
     none r e = cc
 
-no_rule_3 : (t : ℕ) → IsRule counting.program (suc (suc (suc t))) → ⊥
+pub no_rule_3 : (t : ℕ) → IsRule counting.program (suc (suc (suc t))) → ⊥
 no_rule_3 t h = none h.rule h.numbered
   where
     none : (r : Rule) → None ≡ Some r → ⊥

@@ -33,6 +33,7 @@ use Rattle.bound_rounds.specs.WorkedFinds.{once_find, entered_find, alone_find, 
 use Rattle.bound_rounds.specs.WorkedStanding.{ranked_find, StandingIsWorkedOut}
 use Rattle.bound_rounds.proofs.Cases.{false_true, true_false}
 use Rattle.bound_rounds.proofs.FindLists.{bounds_of-kept}
+use Rattle.bound_rounds.proofs.WorkedUnreached.{IsKnownIn, IsNew, first_over}
 use Rattle.bound_rounds.proofs.WorkedUnreached as unreached
 
 -- a function that is accepted over a table is so over bounds that know what comes in by its only entry
@@ -139,13 +140,7 @@ looped_ok =
     low_2 zero r n = absurd (false_true r)
     low_2 (suc j) r n = absurd (false_true r)
 
--- one key that is known, or that isn't yet
-abbrev IsKnownIn : Bounds → Spot → Type 0
-IsKnownIn bs k = IsKnown (at_key bs k)
-
-abbrev IsNew : Bounds → Spot → Type 0
-IsNew bs k = at_key bs k ≡ None
-
+-- one key that is new, or that is known
 one_new : (bs : Bounds) (k : Spot) → IsNew bs k → All (IsNew bs) (k ∷ [])
 one_new bs k h = All-cons (IsNew bs) k [] h (All-nil (IsNew bs))
 
@@ -227,20 +222,6 @@ not_known earlier f a k missing h =
     none_some h.0 (sym missing ∙ subst (λ (fs : List Find). at_key (known_with fs) k ≡ Some h.0) a.begins.same
     (bounds_of-kept counting.program a.before a.begins.between k.rule k.place h.0 h.1))
 
--- what begins nothing is nothing
-begins_nothing : (fs : List Find) → IsBeginning fs [] → fs ≡ []
-begins_nothing [] h = refl
-begins_nothing (f ∷ fs) h = absurd (some h.same)
-  where
-    some : {x : Find} {xs : List Find} → x ∷ xs ≡ [] → ⊥
-    some e = cc
-
--- the first find stands over nothing
-first_over : (f : Find) (fs : List Find) → AllStand counting (f ∷ fs) → Stands counting (known_with []) f
-first_over f fs h =
-    subst (λ (before : List Find). Stands counting (known_with before) f)
-    (begins_nothing h.each.0.before h.each.0.begins) h.each.0.stands
-
 abbrev first_place : List Spot → ℕ
 first_place [] = 0
 first_place (k ∷ keys) = k.place
@@ -268,7 +249,7 @@ not_twice h =
     (All-head (IsNew (known_with (once_find ∷ []))) (time_key 1) [] h.each.1.0.fresh)
 
 not_bound : AllStand counting (ranked_find (time_key 1 ∷ []) once_node (time_key 0 ∷ []) (Constant 1) ∷ []) → ⊥
-not_bound h = other (first_over (ranked_find (time_key 1 ∷ []) once_node (time_key 0 ∷ []) (Constant 1)) [] h).bound
+not_bound h = other (first_over counting (ranked_find (time_key 1 ∷ []) once_node (time_key 0 ∷ []) (Constant 1)) [] h).bound
   where
     other : Constant 1 ≡ once_time → ⊥
     other e = cc

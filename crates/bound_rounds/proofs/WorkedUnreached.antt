@@ -9,6 +9,7 @@ use Rattle.rule_questions.specs.model.Paths.{Here, Onward, HasEdge, HasPath}
 use Rattle.rule_questions.proofs.model.Cases.{none_some}
 use Rattle.rule_questions.specs.proof_nodes.Nodes.{Spot}
 use Rattle.rule_questions.specs.proof_nodes.Known.{IsKnown}
+use Rattle.rule_questions.specs.proof_nodes.Setting.{Setting}
 use Rattle.rule_questions.specs.proof_nodes.AcceptsPlain.{IsRule, IsUnreached}
 use Rattle.rule_questions.specs.proof_nodes.WorkedSettings.{apart, enter, rule_over}
 use Rattle.bound_rounds.specs.Keys.{Bounds, key, time_key, at_key}
@@ -72,10 +73,10 @@ reached f out = out enter refl (Here refl)
 abbrev known_with : List Find → Bounds
 known_with fs = bounds_of apart.program fs
 
-abbrev IsKnownIn : Bounds → Spot → Type 0
+abbrev pub IsKnownIn : Bounds → Spot → Type 0
 IsKnownIn bs k = IsKnown (at_key bs k)
 
-abbrev IsNew : Bounds → Spot → Type 0
+abbrev pub IsNew : Bounds → Spot → Type 0
 IsNew bs k = at_key bs k ≡ None
 
 abbrev IsTime : Spot → Type 0
@@ -137,15 +138,15 @@ begins_nothing (f ∷ fs) h = absurd (some h.same)
     some e = cc
 
 -- the first find stands over nothing
-first_over : (f : Find) (fs : List Find) → AllStand apart (f ∷ fs) → Stands apart (known_with []) f
-first_over f fs h =
-    subst (λ (before : List Find). Stands apart (known_with before) f)
+pub first_over : (s : Setting) (f : Find) (fs : List Find) → AllStand s (f ∷ fs) → Stands s (bounds_of s.program []) f
+first_over s f fs h =
+    subst (λ (before : List Find). Stands s (bounds_of s.program before) f)
     (begins_nothing h.each.0.before h.each.0.begins) h.each.0.stands
 
 pub not_without_time : AllStand apart (never_find apart.program 2 ∷ []) → ⊥
-not_without_time h = none_some (Constant 0) (first_over (never_find apart.program 2) [] h).accepted.zero
+not_without_time h = none_some (Constant 0) (first_over apart (never_find apart.program 2) [] h).accepted.zero
 
 pub not_resting_on_others : AllStand apart (unreached_find (time_key 1 ∷ []) 2 ∷ []) → ⊥
 not_resting_on_others h =
     none_some (Constant 0) (All-head (IsZeroTime (known_with [])) (time_key 1) []
-    (first_over (unreached_find (time_key 1 ∷ []) 2) [] h).accepted.0.zero)
+    (first_over apart (unreached_find (time_key 1 ∷ []) 2) [] h).accepted.0.zero)

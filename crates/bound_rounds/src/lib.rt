@@ -8,6 +8,7 @@ ghost use Rattle.bound_rounds.specs.WorkedFinds.{FindsAreReadOff, KeysAreWorkedO
 ghost use Rattle.bound_rounds.specs.WorkedFinds.{LemmasAreWorkedOut};
 ghost use Rattle.bound_rounds.specs.WorkedSets.{SetsOfCounting, ShutOfCounting};
 ghost use Rattle.bound_rounds.specs.WorkedStanding.{StandingIsWorkedOut};
+ghost use Rattle.bound_rounds.specs.WorkedFirst.{FirstFindsAreWorkedOut, RightAnswersAreWorkedOut};
 ghost use Rattle.bound_rounds.specs.WorkedRounds.{FirstRoundIsWorkedOut, LaterRoundsAreWorkedOut, ReasonsAreWorkedOut};
 
 /// Rounds make one last list of finds, with which a bound that is missing has one reason.
@@ -46,4 +47,11 @@ pub fn rounds_are_as_worked_out()
 /// Which finds of that program stand, and of one with a rule that is never reached, is what was worked out by hand.
 pub fn standing_is_as_worked_out()
     ensures { StandingIsWorkedOut }
+{}
+
+/// What is found before the first round of programs with rules that never run, and which answers are right, is what was
+/// worked out by hand.
+pub fn first_finds_are_as_worked_out()
+    ensures first { FirstFindsAreWorkedOut }
+    ensures right { RightAnswersAreWorkedOut }
 {}
