@@ -1,0 +1,7 @@
+-- keys among others, and known bounds
+pub mod KeyLists
+pub mod KnownBounds
+pub mod Numbered
+-- nodes that are accepted, and what they need
+pub mod EntryBounds
+pub mod AcceptedRanks
