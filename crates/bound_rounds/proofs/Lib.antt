@@ -5,3 +5,6 @@ pub mod Numbered
 -- nodes that are accepted, and what they need
 pub mod EntryBounds
 pub mod AcceptedRanks
+pub mod KnownNeeds
+-- finds that stand
+pub mod FreshFinds

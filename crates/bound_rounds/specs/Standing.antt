@@ -1,5 +1,5 @@
 -- When finds stand: each is accepted over bounds that finds before it say.
-use Rattle.std.specs.Prelude.{◌≡◌, ℕ, not, Bool, List, [], ◌∷◌, ◌++◌, Some, ⊤}
+use Rattle.std.specs.Prelude.{◌≡◌, ℕ, not, Bool, List, [], ◌∷◌, ◌++◌, Some, None, ⊤}
 use Rattle.std.specs.List.{All}
 use Rattle.rule_questions.specs.model.Programs.{Program}
 use Rattle.rule_questions.specs.model.Bounds.{Bound, Constant}
@@ -70,11 +70,18 @@ pub record IsBeginning (before fs : List Find) : Type 0 where
   pub between : List Find
   pub same : before ++ between ≡ fs
 
--- finds stand after earlier ones: each over what is known with some of those before it, from the first on
+-- a find stands after earlier ones: over what is known with some of those before it, from the first on; and with all of
+-- them none of its keys is known yet
+pub record StandsAfter (s : Setting) (earlier : List Find) (f : Find) : Type 0 where
+  pub before : List Find
+  pub begins : IsBeginning before earlier
+  pub stands : Stands s (bounds_of s.program before) f
+  pub fresh : All (λ k. at_key (bounds_of s.program earlier) k ≡ None) f.keys
+
+-- so does each of these, after earlier ones and those before it
 abbrev pub StandAfter : Setting → List Find → List Find → Type 0
 StandAfter s earlier [] = ⊤
-StandAfter s earlier (f ∷ fs) = (before : List Find) × IsBeginning before earlier
-    × Stands s (bounds_of s.program before) f × StandAfter s (earlier ++ f ∷ []) fs
+StandAfter s earlier (f ∷ fs) = StandsAfter s earlier f × StandAfter s (earlier ++ f ∷ []) fs
 
 -- all finds of a list stand
 pub record AllStand (s : Setting) (fs : List Find) : Type 0 where
