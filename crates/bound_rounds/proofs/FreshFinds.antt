@@ -10,8 +10,10 @@ use Rattle.rule_questions.specs.proof_nodes.Setting.{Setting}
 use Rattle.bound_rounds.specs.Keys.{Bounds, at_key, has_key}
 use Rattle.bound_rounds.specs.Finds.{Find, found, bounds_of}
 use Rattle.bound_rounds.specs.Standing.{Stands, IsBeginning, StandAfter}
-use Rattle.bound_rounds.proofs.KeyLists.{told, at_each, of_all}
-use Rattle.bound_rounds.proofs.KnownBounds.{missing_still, found_later}
+use Rattle.bound_rounds.proofs.Cases.{told}
+use Rattle.bound_rounds.proofs.Keys.{has_key-all}
+use Rattle.bound_rounds.proofs.FindLists.{found-later}
+use Rattle.bound_rounds.proofs.MissingBounds.{all-has_key, missing_still}
 
 -- numbers ascend, from this one on
 abbrev pub AscendFrom : ℕ → List ℕ → Type 0
@@ -76,17 +78,17 @@ module _ (p : Program) (earlier : List Find) (f : Find) (t : ℕ) (own : AreOfRu
   other_rule : (u : ℕ) (keys : List Spot) → t < u → AreOfRule u keys → AreFresh (bounds_of p earlier) keys
       → AreFresh (bounds_of p (earlier ++ f ∷ [])) keys
   other_rule u keys more others fresh =
-      of_all (λ v i. bounds_of p (earlier ++ f ∷ []) v i ≡ None) keys each
+      all-has_key (λ k. at_key (bounds_of p (earlier ++ f ∷ [])) k ≡ None) keys each
     where
       each : (v i : ℕ) → has_key keys v i ≡ true → bounds_of p (earlier ++ f ∷ []) v i ≡ None
       each v i m =
-          missing_still p earlier (f ∷ []) v i (at_each (λ x j. bounds_of p earlier x j ≡ None) keys fresh v i m)
-          (told (has_key f.keys v i) mine (λ k. found_later f [] v i k))
+          missing_still p earlier (f ∷ []) v i (has_key-all (λ k. at_key (bounds_of p earlier) k ≡ None) keys v i fresh m)
+          (told (has_key f.keys v i) mine (λ k. found-later f [] v i k))
         where
           mine : has_key f.keys v i ≡ true → found (f ∷ []) v i ≡ None
           mine k =
-              let other : v ≡ u = at_each (λ x j. x ≡ u) keys others v i m in
-              let same : v ≡ t = at_each (λ x j. x ≡ t) f.keys own v i k in
+              let other : v ≡ u = has_key-all (λ k. k.rule ≡ u) keys v i others m in
+              let same : v ≡ t = has_key-all (λ k. k.rule ≡ t) f.keys v i own k in
               absurd (omega (arith, other, same, more))
 
   -- and so do those of finds of later rules

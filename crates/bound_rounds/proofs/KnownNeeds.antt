@@ -1,5 +1,5 @@
 -- What an accepted node needs is known.
-use Rattle.std.proofs.Common.{◌≡◌, ◌≢◌, ◌⊎◌, inl, inr, ℕ, zero, suc, ◌+◌, ◌==◌, Bool, true, false, List, [], ◌∷◌, ◌++◌}
+use Rattle.std.proofs.Common.{◌≡◌, ◌≢◌, ◌⊎◌, inl, inr, ℕ, zero, suc, ◌+◌, ◌==◌, ◌||◌, Some, Bool, true, false, List, [], ◌∷◌, ◌++◌}
 use Rattle.std.proofs.Common.{map, refl, sym, ap, subst, arith, All}
 use Rattle.std.specs.Prelude.{ℤ, pos}
 use Rattle.std.specs.List.{AllByRecursion}
@@ -16,12 +16,12 @@ use Rattle.rule_questions.specs.proof_nodes.Nodes.{Spot, Member, RankNode}
 use Rattle.rule_questions.specs.proof_nodes.Known.{IsKnown}
 use Rattle.rule_questions.specs.proof_nodes.Setting.{Setting}
 use Rattle.rule_questions.specs.proof_nodes.Composed.{rank_form}
-use Rattle.rule_questions.specs.proof_nodes.ComposedSizes.{rules_of, flows}
+use Rattle.rule_questions.specs.proof_nodes.ComposedSizes.{rules_of, flows, multiplies, adds}
 use Rattle.rule_questions.specs.proof_nodes.Checks.{needed_into, needed_times}
 use Rattle.rule_questions.specs.proof_nodes.AcceptsRank.{AcceptsRank}
 use Rattle.rule_questions.specs.proof_nodes.AcceptsSizes.{HasSizesBefore, AcceptsSpread, AcceptsCycle}
 use Rattle.rule_questions.proofs.proof_nodes.FirstReasons.{HasSize}
-use Rattle.rule_questions.proofs.proof_nodes.SizeReasons.{known-members, needs_time}
+use Rattle.rule_questions.proofs.proof_nodes.SizeReasons.{known-members}
 use Rattle.bound_rounds.specs.Keys.{Bounds, key, time_key, at_key, size_by, over}
 use Rattle.bound_rounds.specs.Needs.{read_places, entry_needs, needs_of_all, rank_needs, spread_needs, cycle_needs}
 
@@ -128,5 +128,5 @@ module _ (b : Bounds) where
       where
         times : (t : ℕ) → is_in t (needed_times s (over b) members) ≡ true → IsKnown (b t 0)
         times t i =
-            let k = filter-in (needs_time s (flows s members (over b).size)) (rules_of s members) t i in
+            let k = filter-in (λ u. multiplies (flows s members (over b).size) u || adds s (flows s members (over b).size) u) (rules_of s members) t i in
             ok.times t k.0 k.1

@@ -1,10 +1,19 @@
--- keys among others, and known bounds
-pub mod KeyLists
-pub mod KnownBounds
+-- telling cases apart
+pub mod Cases
+-- what lists contain
+pub mod Contained
+-- keys among keys, and finds one after another
+pub mod Keys
+pub mod FindLists
+-- rules and places by their numbers
 pub mod Numbered
+-- what is missing, and finds that are fresh
+pub mod MissingBounds
+pub mod FreshFinds
 -- nodes that are accepted, and what they need
 pub mod EntryBounds
 pub mod AcceptedRanks
 pub mod KnownNeeds
--- finds that stand
-pub mod FreshFinds
+-- finds before the first round
+pub mod SameDead
+pub mod ZeroTimes
