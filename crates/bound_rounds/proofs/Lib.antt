@@ -17,3 +17,7 @@ pub mod KnownNeeds
 -- finds before the first round
 pub mod SameDead
 pub mod ZeroTimes
+pub mod FirstFindsStand
+-- finds of rounds
+pub mod TimesStand
+pub mod WholeFinds

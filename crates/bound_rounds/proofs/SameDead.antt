@@ -7,7 +7,8 @@ use Rattle.rule_questions.specs.proof_nodes.AcceptsPlain.{IsRule}
 use Rattle.bound_rounds.specs.Components.{IsDead}
 
 module _ (p : Program) (f g : ℕ → Bool) (there : (t : ℕ) → IsRule p t → f t ≡ true → g t ≡ true) where
-  path_on : (x y : ℕ) → HasPath p (λ e. not (g e)) x y → HasPath p (λ e. not (f e)) x y
+  -- a path by rules that are not in the longer list is one by rules that are not in the shorter
+  pub path_on : (x y : ℕ) → HasPath p (λ e. not (g e)) x y → HasPath p (λ e. not (f e)) x y
   path_on x y (Here e) = Here e
   path_on x y (Onward {b = z} r edge) = Onward (path_on x z r) (record {
     number = edge.number;
