@@ -95,7 +95,7 @@ empties_stand q s right (t ∷ ts) rules fs (m, shown, (rest, e, later)) =
     })
     (empties_stand q s right ts (λ u k. rules u (or_right (u == t) (is_in u ts) k)) rest later))
 
-module _ (q : Searches) (s : Setting) (right : AreRight q s) (fs : List Find) (h : AreFirst q s.program fs) where
+module _ (q : Searches) (s : Setting) (fs : List Find) (h : AreFirst q s.program fs) where
   -- the empty rules, those that are cut off, and those of both that lead to places
   abbrev pub empty_ones : List ℕ
   empty_ones = filter h.is_empty (rule_numbers s.program)
@@ -199,8 +199,8 @@ module _ (q : Searches) (s : Setting) (right : AreRight q s) (fs : List Find) (h
       ∙ zero_missing (empty_ones ++ cut_ones) (h.empties ++ cuts) zero_both t i (λ k place. omega (arith, place, low))
 
   -- the finds of empty rules come first
-  empties_first : StandAfter s [] h.empties
-  empties_first =
+  empties_first : AreRight q s → StandAfter s [] h.empties
+  empties_first right =
       stand_over s [] [] h.empties (begins_itself [])
       (empties_stand q s right empty_ones (λ t m. (empty_rule t m).0) h.empties h.are_empties)
       (fresh_by_rules s.program h.empties 1 []
@@ -292,8 +292,8 @@ module _ (q : Searches) (s : Setting) (right : AreRight q s) (fs : List Find) (h
       never_fresh)))
 
   -- so the finds before the first round stand
-  pub first_stand : StandAfter s [] fs
-  first_stand =
+  pub first_stand : AreRight q s → StandAfter s [] fs
+  first_stand right =
       subst (λ (xs : List Find). StandAfter s [] xs) (sym h.in_order)
-      (stand-append s [] h.empties (cuts ++ nevers) empties_first
+      (stand-append s [] h.empties (cuts ++ nevers) (empties_first right)
       (stand-append s h.empties cuts nevers cuts_first nevers_first))

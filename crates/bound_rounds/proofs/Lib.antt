@@ -21,3 +21,4 @@ pub mod FirstFindsStand
 -- finds of rounds
 pub mod TimesStand
 pub mod WholeFinds
+pub mod SizesStand

@@ -4,15 +4,16 @@ use Rattle.std.proofs.Common.{None, refl, sym, ◌∙◌, ap, subst, arith, All}
 use Rattle.std.proofs.lemmas.Bool.{or_cases, false_from_ne_true}
 use Rattle.std.proofs.lemmas.List.Elements.{All-nil, All-cons, All-head, All-tail, All-append, All-map}
 use Rattle.rule_questions.specs.model.Programs.{Program}
+use Rattle.rule_questions.specs.model.Entries.{is_in}
 use Rattle.rule_questions.specs.proof_nodes.Nodes.{Spot}
 use Rattle.rule_questions.specs.proof_nodes.Setting.{Setting}
 use Rattle.bound_rounds.specs.Keys.{Bounds, time_key, at_key, has_key, lacks, rule_numbers}
-use Rattle.bound_rounds.specs.Finds.{Find, found, bounds_of}
+use Rattle.bound_rounds.specs.Finds.{Find, found, bounds_of, keys_after}
 use Rattle.bound_rounds.specs.Searches.{Searches, searches_of, Answers}
 use Rattle.bound_rounds.specs.Answers.{TimeOf, SizesOf, are_open, Answer, Found, Lacks, finds_by}
-use Rattle.bound_rounds.specs.Components.{IsCovered, IsOneOf, AreApart, AreComponentsOf}
+use Rattle.bound_rounds.specs.Components.{IsCovered, IsOneOf, AreApart, AreComponentsOf, IsDead}
 use Rattle.bound_rounds.specs.Beginning.{AreFirst, never_find}
-use Rattle.bound_rounds.specs.Rounds.{TriesAll, Together, InTurn, IsRound, IsMade, Begun, Made}
+use Rattle.bound_rounds.specs.Rounds.{Tries, TriesAll, Together, InTurn, IsRound, IsMade, Begun, Made}
 use Rattle.bound_rounds.specs.Right.{AreRight}
 use Rattle.bound_rounds.specs.Laws.{AreUniform, ComponentsAreUniform}
 use Rattle.bound_rounds.proofs.Cases.{either, told, false_true, lacks_none}
@@ -115,4 +116,92 @@ module _ (q : Searches) (s : Setting) (cs : List (List Spot)) (are : AreComponen
       (of_each_in (λ (t : ℕ). IsWhole c (never_find s.program t)) (sized_ones q s fs h) never))))
     where
       never : (t : ℕ) → is_in t (sized_ones q s fs h) ≡ true → IsWhole c (never_find s.program t)
-      never t m = ?
+      never t m = inr (λ u i n. false_from_ne_true (has_key (keys_after s.program t) u i) (other u i n))
+        where
+          other : (u i : ℕ) → has_key c u i ≡ true → has_key (keys_after s.program t) u i ≡ true → ⊥
+          other u i n k =
+              let rule = sized_rule q s fs h t m in
+              let live = (are.live u i).0 (member_covered cs c u i one n) in
+              let same = (keys_after-told s.program t u i k).0 in
+              live.1 (subst (λ (x : ℕ). IsDead s.program are.is_empty x) same
+              (dead_by s.program h.is_empty are.is_empty (λ e is k. (are.empty e is).1 ((h.empty e is).0 k)) t rule.0
+              rule.1))
+
+  -- nor has one of a rule in a round
+  pub times_whole : (fs : List Find) (ts : List ℕ) (times : List Find) → TriesAll q s Together fs (map TimeOf ts) times
+      → All (IsWhole c) times
+  times_whole fs [] times none = subst (λ (xs : List Find). All (IsWhole c) xs) (sym none) (All-nil (IsWhole c))
+  times_whole fs (t ∷ ts) times (first, tries, (rest, e, later)) =
+      subst (λ (xs : List Find). All (IsWhole c) xs) (sym e)
+      (All-append (IsWhole c) first rest
+      (by_answer (λ (xs : List Find). All (IsWhole c) xs) q s fs (TimeOf t) first tries (All-nil (IsWhole c))
+      (λ open_now a tells. answer a))
+      (times_whole fs ts rest later))
+    where
+      answer : (a : Answer) → All (IsWhole c) (finds_by (TimeOf t) a)
+      answer (Found node needs bound) =
+          All-cons (IsWhole c) (record { keys = time_key t ∷ []; node = node; needs = needs; bound = bound }) []
+          (time_whole (record { keys = time_key t ∷ []; node = node; needs = needs; bound = bound }) t refl)
+          (All-nil (IsWhole c))
+      answer (Lacks why) = All-nil (IsWhole c)
+
+  -- and one of a component has all, where it is the same component, else none
+  size_whole : (d : List Spot) → IsOneOf cs d → (a : Answer) → All (IsWhole c) (finds_by (SizesOf d) a)
+  size_whole d two (Lacks why) = All-nil (IsWhole c)
+  size_whole d two (Found node needs bound) =
+      All-cons (IsWhole c) (record { keys = d; node = node; needs = needs; bound = bound }) []
+      (either (same_or_apart cs are.apart c d one two)
+      (λ same. inl (λ t i m. subst (λ (ks : List Spot). has_key ks t i ≡ true) same m)) (λ apart. inr apart))
+      (All-nil (IsWhole c))
+
+  -- what a component was tried for has all members of it, or none
+  pub tried_whole : (fs : List Find) (d : List Spot) → IsOneOf cs d → (more : List Find)
+      → Tries q s fs (SizesOf d) more → All (IsWhole c) more
+  tried_whole fs d two more tries =
+      by_answer (λ (xs : List Find). All (IsWhole c) xs) q s fs (SizesOf d) more tries (All-nil (IsWhole c))
+      (λ open_now a tells. size_whole d two a)
+
+  pub sizes_whole : (fs : List Find) (ds : List (List Spot)) → ((d : List Spot) → IsOneOf ds d → IsOneOf cs d)
+      → (sizes : List Find) → TriesAll q s InTurn fs (map SizesOf ds) sizes → All (IsWhole c) sizes
+  sizes_whole fs [] two sizes none = subst (λ (xs : List Find). All (IsWhole c) xs) (sym none) (All-nil (IsWhole c))
+  sizes_whole fs (d ∷ ds) two sizes (first, tries, (rest, e, later)) =
+      subst (λ (xs : List Find). All (IsWhole c) xs) (sym e)
+      (All-append (IsWhole c) first rest (tried_whole fs d (two d (inl refl)) first tries)
+      (sizes_whole (fs ++ first) ds (λ x k. two x (inr k)) rest later))
+
+  -- so all members have one bound, or none has one
+  pub uniform_bounds : (fs : List Find) → All (IsWhole c) fs → AreUniform (bounds_of s.program fs) c
+  uniform_bounds fs whole t i u j m n =
+      rule_bounds s.program fs t i ((are.live t i).0 (member_covered cs c t i one m)).0
+      ∙ (uniform_found c fs whole t i u j m n
+      ∙ sym (rule_bounds s.program fs u j ((are.live u j).0 (member_covered cs c u j one n)).0))
+
+module _ (a : Answers) (s : Setting) (right : AreRight (searches_of a) s) where
+  -- the components are those of the places of live rules
+  pub live_components : AreComponentsOf (searches_of a) s.program a.components
+  live_components = right.components a.components refl
+
+  -- all that is found in a round has all members of a component, or none
+  pub round_whole : (fs more : List Find) → IsRound (searches_of a) s fs more → (c : List Spot)
+      → IsOneOf a.components c → All (IsWhole c) more
+  round_whole fs more n c one =
+      subst (λ (xs : List Find). All (IsWhole c) xs) (sym n.all)
+      (All-append (IsWhole c) n.times n.sizes
+      (times_whole (searches_of a) s a.components live_components c one fs (rule_numbers s.program) n.times n.timed)
+      (sizes_whole (searches_of a) s a.components live_components c one (fs ++ n.times) n.components
+      (λ d k. subst (λ (cs : List (List Spot)). IsOneOf cs d) (sym n.are_components) k) n.sizes n.sized))
+
+  -- and so has all that rounds make
+  pub made_whole : (fs : List Find) → IsMade (searches_of a) s fs → (c : List Spot) → IsOneOf a.components c
+      → All (IsWhole c) fs
+  made_whole fs (Begun h) c one = first_whole (searches_of a) s a.components live_components c one fs h
+  made_whole fs (Made {fs = old} {more = more} m n) c one =
+      All-append (IsWhole c) old more (made_whole old m c one) (round_whole old more n c one)
+
+-- the members of each component have one size or none with all finds that rounds make
+pub uniform_components : ComponentsAreUniform
+uniform_components = record {
+  each = λ a s right fs made keys one.
+      uniform_bounds (searches_of a) s a.components (live_components a s right) keys one fs
+      (made_whole a s right fs made keys one);
+}
