@@ -22,3 +22,6 @@ pub mod FirstFindsStand
 pub mod TimesStand
 pub mod WholeFinds
 pub mod SizesStand
+-- rounds end
+pub mod MissingFalls
+pub mod Ends

@@ -55,13 +55,13 @@ sizing_stands s b keys (CycleBy members) same ok = record {
 
 module _ (q : Searches) (s : Setting) (right : AreRight q s) where
   -- what an answer about a component gives stands over these bounds
-  size_stands : (b : Bounds) (keys : List Spot) (a : Answer) → TellsSize q s b keys a
-      → All (Stands s b) (finds_by (SizesOf keys) a)
-  size_stands b keys a h = go h.answer h.answered h.tells
+  size_stands : (b : Bounds) (keys : List Spot) → is_open b (SizesOf keys) ≡ true → (a : Answer)
+      → TellsSize q s b keys a → All (Stands s b) (finds_by (SizesOf keys) a)
+  size_stands b keys open_now a h = go h.answer h.answered h.tells
     where
       go : (x : Sizing) → q.Sizes b keys x → TellsSizing s b x a → All (Stands s b) (finds_by (SizesOf keys) a)
       go (SizedBy node) answered tells =
-          let r = right.sizes b keys (SizedBy node) answered in
+          let r = right.sizes b keys (SizedBy node) open_now answered in
           subst (λ (y : Answer). All (Stands s b) (finds_by (SizesOf keys) y)) (sym tells)
           (All-cons (Stands s b) (sizing_find s b keys node) [] (sizing_stands s b keys node r.same r.accepted)
           (All-nil (Stands s b)))
@@ -94,7 +94,7 @@ module _ (q : Searches) (s : Setting) (right : AreRight q s) where
             → TellsSize q s (bounds_of s.program fs) c a → StandAfter s fs (finds_by (SizesOf c) a)
         answer open_now a tells =
             stand_over s fs fs (finds_by (SizesOf c) a) (begins_itself fs)
-            (size_stands (bounds_of s.program fs) c a tells) (tried_fresh fs whole c one open_now a)
+            (size_stands (bounds_of s.program fs) c open_now a tells) (tried_fresh fs whole c one open_now a)
 
     -- so does what is found for some components, one after the other
     pub sizes_stand : (fs : List Find) → AllWhole fs → (ds : List (List Spot))

@@ -43,7 +43,7 @@ uniform_found c (f ∷ fs) whole t i u j m n =
     go (inr none) rest = found-later f fs t i (none t i m) ∙ (rest ∙ sym (found-later f fs u j (none u j n)))
 
 -- where a bound of these keys is missing, here is one
-open_one : (b : Bounds) (c : List Spot) → are_open b c ≡ true → (t : ℕ) × ((i : ℕ) × (has_key c t i ≡ true) ×
+pub open_one : (b : Bounds) (c : List Spot) → are_open b c ≡ true → (t : ℕ) × ((i : ℕ) × (has_key c t i ≡ true) ×
     (b t i ≡ None))
 open_one b [] h = absurd (false_true h)
 open_one b (k ∷ c) h =

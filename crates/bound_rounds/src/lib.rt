@@ -2,3 +2,20 @@
 //! at the places of its target. What is found is a list, off which known bounds and lemmas are read. Definitions in
 //! `specs/` and their laws: the functions here have no code, and the contract of each is a law.
 #![tactic(auto)]
+
+ghost use Rattle.bound_rounds.specs.Laws.{MadeFindsStand, RoundsEnd, ComponentsAreUniform};
+
+/// What rounds find stands, where the answers of the searches are right.
+pub fn made_finds_stand()
+    ensures { MadeFindsStand }
+{}
+
+/// Each round finds a bound that was missing, or it finds nothing.
+pub fn rounds_end()
+    ensures { RoundsEnd }
+{}
+
+/// With all finds that rounds make the members of a component have one size, or none has one.
+pub fn components_are_uniform()
+    ensures { ComponentsAreUniform }
+{}
