@@ -14,6 +14,7 @@ use Rattle.bound_rounds.specs.Beginning.{AreFirst}
 use Rattle.bound_rounds.specs.Rounds.{IsRound, IsMade, Begun, Made, IsLast, IsTarget, IsNoBound}
 use Rattle.bound_rounds.specs.Right.{AreOne}
 use Rattle.bound_rounds.specs.Laws.{LastFindsAreOne}
+use Rattle.bound_rounds.proofs.WholeFinds.{member_covered}
 use Rattle.bound_rounds.proofs.FirstIsOne.{first_one}
 use Rattle.bound_rounds.proofs.RoundIsOne.{tells_one, round_one}
 use Rattle.bound_rounds.proofs.LastIsOne.{IsAfter, last_after_one}
@@ -31,13 +32,6 @@ answers_one a = record {
 pub append-none : (fs : List Find) → fs ++ [] ≡ fs
 append-none [] = refl
 append-none (f ∷ fs) = ap (λ (gs : List Find). f ∷ gs) (append-none fs)
-
--- a member of one of the components is covered
-pub member_covered : (cs : List (List Spot)) (c : List Spot) (t i : ℕ) → IsOneOf cs c → has_key c t i ≡ true → IsCovered
-    cs t i
-member_covered [] c t i one m = absurd one
-member_covered (d ∷ cs) c t i (inl e) m = inl (subst (λ (x : List Spot). has_key x t i ≡ true) (sym e) m)
-member_covered (d ∷ cs) c t i (inr one) m = inr (member_covered cs c t i one m)
 
 -- a place is a member of one component alone
 component_one : (cs : List (List Spot)) → AreApart cs → (c d : List Spot) (t i : ℕ) → IsOneOf cs c → has_key c t i

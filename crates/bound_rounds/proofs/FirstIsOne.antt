@@ -14,8 +14,8 @@ use Rattle.bound_rounds.specs.Searches.{Searches, Emptiness, NoPoint}
 use Rattle.bound_rounds.specs.Beginning.{empty_find, unreached_find, never_find, AreEmptyFinds, has_places, is_cut}
 use Rattle.bound_rounds.specs.Beginning.{is_dead, zeroed, first_finds, AreFirst}
 use Rattle.bound_rounds.specs.Right.{AreOne}
-use Rattle.bound_rounds.proofs.RuleNumbers.{in_rules}
-use Rattle.bound_rounds.proofs.SameUnreached.{unreached_by}
+use Rattle.bound_rounds.proofs.Numbered.{in_rules}
+use Rattle.bound_rounds.proofs.SameDead.{path_on}
 
 -- tests that are the same for all numbers of a list keep the same of them
 filter-same : (f g : ℕ → Bool) (ns : List ℕ) → ((n : ℕ) → is_in n ns ≡ true → f n ≡ g n) → filter f ns ≡ filter g ns
@@ -61,8 +61,10 @@ module _ (q : Searches) (one : AreOne q) (p : Program) (x y : List Find) (h : Ar
       let here = h.unreached t rule e in
       let there = k.unreached t rule (sym (same_empty t rule) ∙ e) in
       same_tests (h.is_unreached t) (k.is_unreached t)
-      (λ u. there.1 (unreached_by p h.is_empty k.is_empty (λ n r f. sym (same_empty n r) ∙ f) t (here.0 u)))
-      (λ u. here.1 (unreached_by p k.is_empty h.is_empty (λ n r f. same_empty n r ∙ f) t (there.0 u)))
+      (λ u. there.1 (λ r n way. here.0 u r n (path_on p h.is_empty k.is_empty (λ m s f. sym (same_empty m s) ∙ f)
+      p.start r.source way)))
+      (λ u. here.1 (λ r n way. there.0 u r n (path_on p k.is_empty h.is_empty (λ m s f. same_empty m s ∙ f)
+      p.start r.source way)))
 
   same_cut : (t : ℕ) → IsRule p t → is_cut h.is_empty h.is_unreached t ≡ is_cut k.is_empty k.is_unreached t
   same_cut t rule = go (h.is_empty t) refl

@@ -28,9 +28,10 @@ use Rattle.bound_rounds.specs.Components.{IsEmpty, AreComponentsOf}
 use Rattle.bound_rounds.specs.Beginning.{empty_find, AreEmptyFinds, first_finds, AreFirst}
 use Rattle.bound_rounds.specs.Rounds.{Tries, Manner, Together, InTurn, known_next, TriesAll, IsRound, IsMade, Begun}
 use Rattle.bound_rounds.specs.Rounds.{Made, IsLast}
-use Rattle.bound_rounds.specs.Laws.{missing, RoundsEnd, LastFindsExist}
+use Rattle.bound_rounds.specs.Laws.{missing, LastFindsExist}
 use Rattle.bound_rounds.proofs.Cases.{either, false_true, told}
-use Rattle.bound_rounds.proofs.RuleNumbers.{in_rules}
+use Rattle.bound_rounds.proofs.Numbered.{in_rules}
+use Rattle.bound_rounds.proofs.Ends.{ends}
 use Rattle.bound_rounds.proofs.PathTests.{paths_told}
 use Rattle.bound_rounds.proofs.SetsExist.{set_there, shut_there}
 
@@ -219,7 +220,7 @@ module _ (a : Answers) (s : Setting) where
         },
       )
 
-  module _ (ends : RoundsEnd) (components : AreComponentsOf (searches_of a) s.program a.components) where
+  module _ (components : AreComponentsOf (searches_of a) s.program a.components) where
     -- rounds go on to the last, as each but that finds a bound that was missing
     go_on : (fuel : ℕ) (fs : List Find) → IsMade (searches_of a) s fs
         → missing s.program (bounds_of s.program fs) ≤ fuel → (last : List Find) × IsLast (searches_of a) s last
@@ -244,10 +245,10 @@ module _ (a : Answers) (s : Setting) where
         let first = first_there in
         go_on (missing s.program (bounds_of s.program first.0)) first.0 (Begun first.1) (omega arith)
 
--- there are first finds, there is a round over all finds, and where rounds end there are last ones
-pub last_finds_by : RoundsEnd → LastFindsExist
-last_finds_by ends = record {
+-- there are first finds, there is a round over all finds, and there are last ones
+pub last_finds : LastFindsExist
+last_finds = record {
   first = λ a s. first_there a s;
   next = λ a s components fs. round_there a s components fs;
-  last = λ a s components. last_there a s ends components;
+  last = λ a s components. last_there a s components;
 }

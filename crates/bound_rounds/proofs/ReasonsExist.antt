@@ -18,7 +18,7 @@ use Rattle.bound_rounds.specs.Rounds.{Tries, Manner, Together, InTurn, known_nex
 use Rattle.bound_rounds.specs.Rounds.{IsNoBound}
 use Rattle.bound_rounds.specs.Laws.{MissingBoundsHaveReasons}
 use Rattle.bound_rounds.proofs.Cases.{either, told}
-use Rattle.bound_rounds.proofs.RuleNumbers.{rule_in}
+use Rattle.bound_rounds.proofs.Numbered.{rule_in}
 use Rattle.bound_rounds.proofs.FindsAreOne.{append-none}
 
 -- a key that is among some and has no bound makes one of them open

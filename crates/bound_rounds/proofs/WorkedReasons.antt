@@ -14,7 +14,8 @@ use Rattle.bound_rounds.specs.Rounds.{IsClosed, Begun, IsTarget, IsNoBound}
 use Rattle.bound_rounds.specs.WorkedFinds.{once_find}
 use Rattle.bound_rounds.specs.WorkedSets.{nothing_known}
 use Rattle.bound_rounds.specs.WorkedRounds.{gap_over, never_ranks, alone, nothing_ranks, ReasonsAreWorkedOut}
-use Rattle.bound_rounds.proofs.FindsAreOne.{answers_one, time_has, member_covered, reason_one}
+use Rattle.bound_rounds.proofs.FindsAreOne.{answers_one, time_has, reason_one}
+use Rattle.bound_rounds.proofs.WholeFinds.{member_covered}
 use Rattle.bound_rounds.proofs.WorkedSets.{first as first_set, second as second_set}
 use Rattle.bound_rounds.proofs.WorkedShut.{none_shut, none_shut_first, open_places, place_after_2}
 use Rattle.bound_rounds.proofs.WorkedComponents as parts

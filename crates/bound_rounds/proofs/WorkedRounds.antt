@@ -29,7 +29,7 @@ use Rattle.bound_rounds.specs.WorkedRounds.{ReasonsAreWorkedOut}
 use Rattle.bound_rounds.proofs.Cases.{false_true}
 use Rattle.bound_rounds.proofs.FirstIsOne.{first_one}
 use Rattle.bound_rounds.proofs.RoundIsOne.{round_one}
-use Rattle.bound_rounds.proofs.FindsAreOne.{answers_one, time_has, member_covered, reason_one}
+use Rattle.bound_rounds.proofs.FindsAreOne.{answers_one}
 use Rattle.bound_rounds.proofs.WorkedSets.{first as first_set, second as second_set, alone_set}
 use Rattle.bound_rounds.proofs.WorkedShut.{none_shut, none_shut_first, none_shut_alone, open_places, one_shut}
 use Rattle.bound_rounds.proofs.WorkedShut.{place_after_2}

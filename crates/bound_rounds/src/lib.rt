@@ -3,7 +3,8 @@
 //! `specs/` and their laws: the functions here have no code, and the contract of each is a law.
 #![tactic(auto)]
 
-ghost use Rattle.bound_rounds.specs.Laws.{LastFindsAreOne, MissingBoundsHaveReasons};
+ghost use Rattle.bound_rounds.specs.Laws.{MadeFindsStand, RoundsEnd, ComponentsAreUniform, LastFindsAreOne};
+ghost use Rattle.bound_rounds.specs.Laws.{LastFindsExist, MissingBoundsHaveReasons};
 ghost use Rattle.bound_rounds.specs.WorkedFinds.{FindsAreReadOff, KeysAreWorkedOut, NeedsAreWorkedOut};
 ghost use Rattle.bound_rounds.specs.WorkedFinds.{LemmasAreWorkedOut};
 ghost use Rattle.bound_rounds.specs.WorkedSets.{SetsOfCounting, ShutOfCounting};
@@ -11,9 +12,30 @@ ghost use Rattle.bound_rounds.specs.WorkedStanding.{StandingIsWorkedOut};
 ghost use Rattle.bound_rounds.specs.WorkedFirst.{FirstFindsAreWorkedOut, RightAnswersAreWorkedOut};
 ghost use Rattle.bound_rounds.specs.WorkedRounds.{FirstRoundIsWorkedOut, LaterRoundsAreWorkedOut, ReasonsAreWorkedOut};
 
+/// What rounds find stands, where the answers of the searches are right.
+pub fn made_finds_stand()
+    ensures { MadeFindsStand }
+{}
+
+/// Each round finds a bound that was missing, or it finds nothing.
+pub fn rounds_end()
+    ensures { RoundsEnd }
+{}
+
+/// With all finds that rounds make the members of a component have one size, or none has one.
+pub fn components_are_uniform()
+    ensures { ComponentsAreUniform }
+{}
+
 /// Rounds make one last list of finds, with which a bound that is missing has one reason.
 pub fn last_finds_are_one()
     ensures { LastFindsAreOne }
+{}
+
+/// There are first finds; where the components are those of the places of live rules, there is a round over all finds, and
+/// there are last ones.
+pub fn last_finds_exist()
+    ensures { LastFindsExist }
 {}
 
 /// Where a round finds nothing new, each missing bound has its reason.
