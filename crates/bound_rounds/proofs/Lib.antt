@@ -53,3 +53,4 @@ pub mod WorkedUnreached
 pub mod WorkedStanding
 pub mod WorkedFirst
 pub mod WorkedRight
+pub mod WorkedAnswers

@@ -80,7 +80,7 @@ alone_ok = rank_over _ alone_node alone_accepted.1 (known_with two) 1 refl (once
     (λ j n. reads_first (pos 1) (λ i. IsKnown ((over (known_with two)).size 1 (suc i))) (entered_size, refl) j n)
     (record { before = refl; after = refl })
 
-entered_ok : AcceptsSpread counting (over (known_with [])) entered_member
+pub entered_ok : AcceptsSpread counting (over (known_with [])) entered_member
 entered_ok =
     let ok = (entered_accepted []).1 in
     record {
@@ -104,7 +104,7 @@ looped_there : Accepts counting ((Time 1 once_time ∷ []) ∷ (Time 2 down_time
 unfolding AcceptsLemmas
 looped_there = four_accepted.1.1.1.0
 
-looped_ok : AcceptsCycle counting (over (known_with two)) (looped_member ∷ [])
+pub looped_ok : AcceptsCycle counting (over (known_with two)) (looped_member ∷ [])
 looped_ok =
     let ok = looped_there.1 in
     record {

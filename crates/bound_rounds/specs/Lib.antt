@@ -21,3 +21,4 @@ pub mod WorkedSets
 pub mod WorkedStanding
 pub mod WorkedRounds
 pub mod WorkedFirst
+pub mod WorkedAnswers

@@ -10,6 +10,7 @@ ghost use Rattle.bound_rounds.specs.WorkedFinds.{LemmasAreWorkedOut};
 ghost use Rattle.bound_rounds.specs.WorkedSets.{SetsOfCounting, ShutOfCounting};
 ghost use Rattle.bound_rounds.specs.WorkedStanding.{StandingIsWorkedOut};
 ghost use Rattle.bound_rounds.specs.WorkedFirst.{FirstFindsAreWorkedOut, RightAnswersAreWorkedOut};
+ghost use Rattle.bound_rounds.specs.WorkedAnswers.{AnswersAreWorkedOut, RightSizesAreWorkedOut, MissingIsWorkedOut};
 ghost use Rattle.bound_rounds.specs.WorkedRounds.{FirstRoundIsWorkedOut, LaterRoundsAreWorkedOut, ReasonsAreWorkedOut};
 
 /// What rounds find stands, where the answers of the searches are right.
@@ -76,4 +77,12 @@ pub fn standing_is_as_worked_out()
 pub fn first_finds_are_as_worked_out()
     ensures first { FirstFindsAreWorkedOut }
     ensures right { RightAnswersAreWorkedOut }
+{}
+
+/// What answers of the program that counts down tell, which sizes are right, and how many bounds are missing, is what was
+/// worked out by hand.
+pub fn answers_are_as_worked_out()
+    ensures answers { AnswersAreWorkedOut }
+    ensures sizes { RightSizesAreWorkedOut }
+    ensures missing { MissingIsWorkedOut }
 {}
