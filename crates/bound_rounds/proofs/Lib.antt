@@ -9,3 +9,6 @@ pub mod FindLists
 pub mod FactLists
 pub mod CitedFacts
 pub mod NeededFacts
+-- over tables that agree on what nodes need, they compose the same bounds and are accepted alike
+pub mod SameTimes
+pub mod SameSizes
