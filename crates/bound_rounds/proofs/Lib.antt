@@ -12,3 +12,5 @@ pub mod NeededFacts
 -- over tables that agree on what nodes need, they compose the same bounds and are accepted alike
 pub mod SameTimes
 pub mod SameSizes
+-- the lemma of each node is accepted, and states what the node composes
+pub mod NodeLemmas
