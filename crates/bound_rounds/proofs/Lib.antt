@@ -14,3 +14,8 @@ pub mod SameTimes
 pub mod SameSizes
 -- the lemma of each node is accepted, and states what the node composes
 pub mod NodeLemmas
+-- rules and places by their numbers
+pub mod Numbered
+-- finds that stand give lemmas
+pub mod StartFacts
+pub mod StandingKeys
