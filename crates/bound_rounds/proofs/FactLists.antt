@@ -1,6 +1,6 @@
 -- Facts of known bounds: what is looked up among them, and the lemmas that state them by their numbers.
-use Rattle.std.proofs.Common.{◌≡◌, ◌⊎◌, inl, inr, ℕ, zero, suc, ◌≤◌, ◌==◌, ◌&&◌, Bool, true, false, List, [], ◌∷◌, ◌++◌}
-use Rattle.std.proofs.Common.{length, Some, None, refl, sym, ◌∙◌, ap, subst, arith, All}
+use Rattle.std.proofs.Common.{◌≡◌, ◌⊎◌, inl, inr, ℕ, zero, suc, ◌≤◌, ◌==◌, ◌&&◌, true, false, List, [], ◌∷◌}
+use Rattle.std.proofs.Common.{length, Some, None, refl, sym, ap, subst, arith, All}
 use Rattle.std.specs.List.{Contains}
 use Rattle.std.proofs.lemmas.Bool.{and_parts, and_from}
 use Rattle.std.proofs.lemmas.List.Elements.{All-nil, All-head, All-tail}
@@ -11,7 +11,7 @@ use Rattle.rule_questions.specs.proof_nodes.Known.{time_in, size_in, is_zero_bou
 use Rattle.rule_questions.specs.proof_nodes.Acceptance.{facts_of_lemma}
 use Rattle.bound_rounds.specs.Keys.{Bounds, place_fact, size_by}
 use Rattle.bound_rounds.proofs.Cases.{told, none_some}
-use Rattle.bound_rounds.proofs.Contained.{contains-cases, contains-none, contains-later}
+use Rattle.bound_rounds.proofs.Contained.{contains-cases, contains-none}
 
 -- the fact is that of a known bound, of a time or of a size
 abbrev pub IsFactOf : Bounds → Fact → Type 0

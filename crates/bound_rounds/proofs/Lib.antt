@@ -19,3 +19,6 @@ pub mod Numbered
 -- finds that stand give lemmas
 pub mod StartFacts
 pub mod StandingKeys
+pub mod FindFacts
+pub mod StandingLemmas
+pub mod StandingLaws

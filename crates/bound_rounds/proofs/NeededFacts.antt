@@ -1,5 +1,5 @@
 -- What a lemma rests on by the numbers of what it needs: it is accepted, and at each needed key it says what is known.
-use Rattle.std.proofs.Common.{◌≡◌, ◌≢◌, ◌⊎◌, inl, inr, ℕ, zero, suc, ◌==◌, true, List, [], ◌∷◌, map, Some, refl, sym, ◌∙◌, subst, All}
+use Rattle.std.proofs.Common.{◌≡◌, ◌≢◌, ◌⊎◌, inl, inr, ℕ, zero, suc, true, List, [], ◌∷◌, map, Some, sym, ◌∙◌, subst, All}
 use Rattle.std.specs.List.{Contains}
 use Rattle.rule_questions.specs.model.Bounds.{Bound}
 use Rattle.rule_questions.specs.model.Facts.{Fact, Time}
@@ -12,7 +12,6 @@ use Rattle.rule_questions.specs.proof_nodes.AcceptsPlain.{IsRule, start_facts}
 use Rattle.rule_questions.specs.proof_nodes.Acceptance.{facts_of_lemma, joined_facts, AllAccepted}
 use Rattle.bound_rounds.specs.Keys.{Bounds, key, at_key, has_key, place_fact, size_by}
 use Rattle.bound_rounds.specs.Needs.{uses_for}
-use Rattle.bound_rounds.proofs.Cases.{either}
 use Rattle.bound_rounds.proofs.Contained.{contains-none, contains-map, map-contains, contained-all}
 use Rattle.bound_rounds.proofs.Keys.{has_key-contained}
 use Rattle.bound_rounds.proofs.FactLists.{AreFactsOf, IsFactOf, IsNumbered, same_time, same_size, no_size, stating_numbered}

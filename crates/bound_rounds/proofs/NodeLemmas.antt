@@ -1,20 +1,19 @@
 -- The lemma of a node that is accepted over known bounds, where lemmas state these: it is accepted after them, and states
 -- the bound that the node composes, for each of its keys.
-use Rattle.std.proofs.Common.{◌≡◌, ◌≢◌, ℕ, zero, suc, ◌<◌, ◌≤◌, not, Bool, true, false, List, [], ◌∷◌, ◌++◌, map, Some, refl}
+use Rattle.std.proofs.Common.{◌≡◌, ◌≢◌, ℕ, zero, suc, ◌<◌, ◌≤◌, not, Bool, true, List, [], ◌∷◌, map, Some, refl}
 use Rattle.std.proofs.Common.{sym, ◌∙◌, ap, subst, arith, All}
 use Rattle.std.specs.Prelude.{pos, Option, None}
-use Rattle.std.specs.List.{Contains, range_with_len}
-use Rattle.std.proofs.lemmas.Bool.{not-true}
+use Rattle.std.specs.List.{Contains}
 use Rattle.std.proofs.lemmas.List.Elements.{All-nil, All-head, All-tail}
 use Rattle.std.proofs.lemmas.List.FromFn.{length-range_with_len, get_or-range_with_len}
-use Rattle.rule_questions.specs.model.Programs.{Program, Rule, rule_at, arity_of}
+use Rattle.rule_questions.specs.model.Programs.{Program, arity_of}
 use Rattle.rule_questions.specs.model.Bounds.{Bound, Constant}
 use Rattle.rule_questions.specs.model.Facts.{Fact, Time, Size}
 use Rattle.rule_questions.specs.model.Entries.{is_in, entries}
 use Rattle.rule_questions.specs.model.Paths.{Here, Onward, HasPath, target_of}
 use Rattle.rule_questions.proofs.model.Membership.{no_is_not_yes}
 use Rattle.rule_questions.specs.linear_forms.Forms.{at}
-use Rattle.rule_questions.specs.proof_nodes.Nodes.{Spot, Member, RankNode, Rank, Unreached, Never, Cite, Spread, Cycle}
+use Rattle.rule_questions.specs.proof_nodes.Nodes.{Spot, Member, RankNode, Rank, Never, Cite, Spread, Cycle}
 use Rattle.rule_questions.specs.proof_nodes.Known.{IsKnown, table_of, has_zero_time}
 use Rattle.rule_questions.specs.proof_nodes.Setting.{Setting}
 use Rattle.rule_questions.specs.proof_nodes.Composed.{rank_form}
@@ -25,7 +24,7 @@ use Rattle.rule_questions.specs.proof_nodes.AcceptsRank.{AcceptsRank, rank_time}
 use Rattle.rule_questions.specs.proof_nodes.AcceptsSizes.{AcceptsSpread, AcceptsCycle, HasMemberShape, spread_size}
 use Rattle.rule_questions.specs.proof_nodes.AcceptsSizes.{cycle_size, cycle_facts}
 use Rattle.rule_questions.specs.proof_nodes.Acceptance.{facts_of, facts_of_lemma, joined_facts, Accepts}
-use Rattle.bound_rounds.specs.Keys.{Bounds, key, time_key, at_key, has_key, place_fact, fact_at, over}
+use Rattle.bound_rounds.specs.Keys.{Bounds, key, time_key, at_key, has_key, fact_at, over}
 use Rattle.bound_rounds.specs.Finds.{Node, EmptyBy, UnreachedBy, NeverBy, RankBy, SpreadBy, CycleBy, keys_of}
 use Rattle.bound_rounds.specs.Finds.{keys_after}
 use Rattle.bound_rounds.specs.Needs.{rank_needs, spread_needs, cycle_needs, uses_for, lemma_by}
@@ -124,8 +123,7 @@ module _ (s : Setting) (past : List (List Fact)) (number : ℕ → ℕ → ℕ) 
     never_lemma =
         let there = stating_numbered past (number t 0) (Time t (Constant 0))
         (subst (λ (fs : List Fact). Contains fs (Time t (Constant 0))) (sym stated_alone)
-        (contains-first (Time t (Constant 0)) [])) in
-        (
+        (contains-first (Time t (Constant 0)) [])) in (
           record { least = there.least; earlier = there.earlier },
           subst (λ (fs : List Fact). AcceptsNever fs) (sym stated_alone) (one_zero t never.rule),
         )

@@ -1,6 +1,6 @@
 -- Over tables with the same bounds where a ranking node looks, it composes the same time and is accepted alike; and
 -- what it needs are all bounds at which it looks.
-use Rattle.std.proofs.Common.{◌≡◌, ◌≢◌, ◌⊎◌, inl, inr, ℕ, zero, suc, ◌+◌, ◌==◌, Bool, true, false, List, [], ◌∷◌, ◌++◌}
+use Rattle.std.proofs.Common.{◌≡◌, ◌≢◌, ℕ, zero, suc, ◌+◌, ◌==◌, Bool, true, false, List, [], ◌∷◌}
 use Rattle.std.proofs.Common.{map, refl, sym, ◌∙◌, ap, subst, arith}
 use Rattle.std.specs.Prelude.{ℤ, pos, nat_abs, Option}
 use Rattle.std.proofs.lemmas.Bool.{or_left, or_right}
@@ -13,13 +13,13 @@ use Rattle.rule_questions.proofs.model.Entries.{listed-from}
 use Rattle.rule_questions.proofs.model.Membership.{same_number, is_in-cases, no_is_not_yes}
 use Rattle.rule_questions.specs.linear_forms.Forms.{at}
 use Rattle.rule_questions.specs.rule_forms.Bounds.{height}
-use Rattle.rule_questions.specs.proof_nodes.Nodes.{Spot, RankNode}
+use Rattle.rule_questions.specs.proof_nodes.Nodes.{RankNode}
 use Rattle.rule_questions.specs.proof_nodes.Numbers.{rounded_up}
-use Rattle.rule_questions.specs.proof_nodes.Known.{Table, IsKnown, known}
+use Rattle.rule_questions.specs.proof_nodes.Known.{Table, known}
 use Rattle.rule_questions.specs.proof_nodes.Setting.{Setting}
 use Rattle.rule_questions.specs.proof_nodes.Limits.{IsSmallComposed}
 use Rattle.rule_questions.specs.proof_nodes.Composed.{both_parts, parts_for, place_parts, no_place, rank_form}
-use Rattle.rule_questions.specs.proof_nodes.Composed.{entry_bound, time_of, sizes_after}
+use Rattle.rule_questions.specs.proof_nodes.Composed.{entry_bound, sizes_after}
 use Rattle.rule_questions.specs.proof_nodes.AcceptsRank.{AcceptsRank, rank_time}
 use Rattle.bound_rounds.specs.Keys.{key, time_key, has_key}
 use Rattle.bound_rounds.specs.Needs.{read_places, entry_needs, needs_of_all, rank_needs}
