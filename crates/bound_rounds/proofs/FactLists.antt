@@ -36,32 +36,36 @@ passed x y ys other h = go (contains-cases x y ys h)
     go (inl e) = absurd (other e)
     go (inr m) = m
 
--- a size isn't a time, and a cost is neither
+-- a size isn't a time
 size_time : (u i t : ℕ) (c d : Bound) → Size u i c ≡ Time t d → ⊥
 size_time u i t c d e = cc
 
+-- and a time isn't a size
 time_size : (u t i : ℕ) (c d : Bound) → Time u c ≡ Size t i d → ⊥
 time_size u t i c d e = cc
 
--- two times that are the same are of one rule, and have one bound
+-- two times that are the same are of one rule
 time_rule : (u t : ℕ) (c d : Bound) → Time u c ≡ Time t d → u ≡ t
 time_rule u t c d e = cc
 
+-- and have one bound
 time_bound : (u t : ℕ) (c d : Bound) → Time u c ≡ Time t d → c ≡ d
 time_bound u t c d e = cc
 
--- two sizes that are the same are of one place after one rule
+-- two sizes that are the same are after one rule
 size_rule : (u j t i : ℕ) (c d : Bound) → Size u j c ≡ Size t i d → u ≡ t
 size_rule u j t i c d e = cc
 
+-- and at one place
 size_place : (u j t i : ℕ) (c d : Bound) → Size u j c ≡ Size t i d → j ≡ i
 size_place u j t i c d e = cc
 
--- two times with different rules aren't the same, nor two sizes at different places
+-- two times of different rules aren't the same
 other_time : (u t : ℕ) (c d : Bound) → (u == t) ≡ false → Time u c ≡ Time t d → ⊥
 other_time u t c d n e =
     no_is_not_yes (u == t) n (subst (λ (m : ℕ). (u == m) ≡ true) (time_rule u t c d e) (same_number u))
 
+-- nor are two sizes at different places
 other_size : (u j t i : ℕ) (c d : Bound) → ((u == t) && (j == i)) ≡ false → Size u j c ≡ Size t i d → ⊥
 other_size u j t i c d n e =
     no_is_not_yes ((u == t) && (j == i)) n

@@ -1,5 +1,5 @@
--- The lemma of a node that is accepted over known bounds, where lemmas state these: it is accepted after them, and states
--- the bound that the node composes, for each of its keys.
+-- The lemma of a node that is accepted over known bounds, where lemmas state these: it is accepted after them, and
+-- states the bound that the node composes, for each of its keys.
 use Rattle.std.proofs.Common.{◌≡◌, ◌≢◌, ℕ, zero, suc, ◌<◌, ◌≤◌, not, Bool, true, List, [], ◌∷◌, map, Some, refl}
 use Rattle.std.proofs.Common.{sym, ◌∙◌, ap, subst, arith, All}
 use Rattle.std.specs.Prelude.{pos, Option, None}
@@ -83,21 +83,25 @@ module _ (s : Setting) (past : List (List Fact)) (number : ℕ → ℕ → ℕ) 
   module _ (needs : List Spot) (known : All (λ k. IsKnown (at_key b k)) needs) where
     -- a rule that is unreached by others than those whose times of 0 are needed
     module _ (zeros : AreZeroTimes b needs) where
+      -- a needed time of 0 is stated
       zero_stated : (t : ℕ) → has_key needs t 0 ≡ true → has_zero_time (joined needs) t ≡ true
       zero_stated t m =
           let h = need_stated s past number b all say needs known t 0 m in
-          let zero_there : b t 0 ≡ Some (Constant 0) = has_key-all (λ k. b k.rule 0 ≡ Some (Constant 0)) needs t 0 zeros.zero m in
+          let zero_there : b t 0 ≡ Some (Constant 0) = has_key-all
+          (λ k. b k.rule 0 ≡ Some (Constant 0)) needs t 0 zeros.zero m in
           let same : h.0 ≡ Constant 0 = some_bound h.0 (sym h.1 ∙ zero_there) in
           zero_said (joined needs) t (subst (λ (c : Bound). Contains (joined needs) (Time t c)) same h.2)
         where
           some_bound : (c : Bound) → Some c ≡ Some (Constant 0) → c ≡ Constant 0
           some_bound c e = cc
 
+      -- so a rule that may run, as far as is stated, is none of those whose times are needed
       left_of_all : (t : ℕ) → IsRule s.program t → may_run (joined needs) t ≡ true → is_left needs t ≡ true
       left_of_all t rule may =
           told (has_key needs t 0)
           (λ m. absurd (no_is_not_yes (may_run (joined needs) t) (ap not (zero_stated t m)) may)) (λ n. ap not n)
 
+      -- and a rule that is unreached by the others is so by those that may run
       unreached_accepted : (t : ℕ) → AcceptsUnreached s.program (is_left needs) t
           → AcceptsUnreached s.program (may_run (joined needs)) t
       unreached_accepted t ok = record {
@@ -106,19 +110,23 @@ module _ (s : Setting) (past : List (List Fact)) (number : ℕ → ℕ → ℕ) 
             (path_by s.program (may_run (joined needs)) (is_left needs) left_of_all s.program.start r.source way);
       }
 
+      -- its lemma is accepted
       pub unreached_lemma : (t : ℕ) → AcceptsUnreached s.program (is_left needs) t
           → Accepts s past (lemma_by number (UnreachedBy t) needs)
       unreached_lemma t ok = (needs_accepted s past number b all say needs known, unreached_accepted t ok)
 
   -- the sizes of a rule that never runs
   module _ (t : ℕ) (never : NeverRuns s.program b t) where
+    -- the lemma of its time states that this is 0, and nothing else
     stated_alone : facts_of_lemma past (number t 0) ≡ Time t (Constant 0) ∷ []
     stated_alone = say.alone t (Constant 0) never.rule never.zero
 
+    -- which is what is asked for
     one_zero : (u : ℕ) → IsRule s.program u → AcceptsNever (Time u (Constant 0) ∷ [])
     one_zero zero rule = absurd (none_some rule.rule rule.numbered)
     one_zero (suc u) rule = record { shape = tt; zero = refl }
 
+    -- its lemma is accepted
     pub never_lemma : Accepts s past (Never (Cite (number t 0)))
     never_lemma =
         let there = stating_numbered past (number t 0) (Time t (Constant 0))
@@ -128,6 +136,7 @@ module _ (s : Setting) (past : List (List Fact)) (number : ℕ → ℕ → ℕ) 
           subst (λ (fs : List Fact). AcceptsNever fs) (sym stated_alone) (one_zero t never.rule),
         )
 
+    -- and states size 0 at each place after the rule
     pub never_states : facts_of s past (Never (Cite (number t 0)))
         ≡ facts_with (Constant 0) (keys_after s.program t)
     never_states =
@@ -144,11 +153,13 @@ module _ (s : Setting) (past : List (List Fact)) (number : ℕ → ℕ → ℕ) 
   -- a ranking function
   module _ (node : RankNode) (known : All (λ k. IsKnown (at_key b k)) (rank_needs s.program node))
       (ok : AcceptsRank s (over b) node) where
+    -- the times of the entries are stated as they are known
     times_same : (e : ℕ) → is_in e (entries s.program node.set) ≡ true
         → (table_of (joined (rank_needs s.program node))).time e ≡ (over b).time e
     times_same e m =
         needed_time s past number b all say (rank_needs s.program node) known e (time_needed s.program node e m)
 
+    -- and so are their sizes where the function reads
     sizes_same : (e j : ℕ) → is_in e (entries s.program node.set) ≡ true
         → at (rank_form node.forms (target_of s.program e)).coefs j ≢ pos 0
         → (table_of (joined (rank_needs s.program node))).size e (suc j) ≡ (over b).size e (suc j)
@@ -156,12 +167,14 @@ module _ (s : Setting) (past : List (List Fact)) (number : ℕ → ℕ → ℕ) 
         needed_size s past number b all say (rank_needs s.program node) known e (suc j)
         (size_needed s.program node e j m reads)
 
+    -- its lemma is accepted
     pub rank_lemma : Accepts s past (Rank node (uses_for number (rank_needs s.program node)))
     rank_lemma = (
       needs_accepted s past number b all say (rank_needs s.program node) known,
       rank_accepted s (over b) (table_of (joined (rank_needs s.program node))) node times_same sizes_same ok,
     )
 
+    -- and states the time that the function composes over what is known
     pub rank_states : facts_of s past (Rank node (uses_for number (rank_needs s.program node)))
         ≡ facts_with (s.rewrite (rank_time s node (over b))) (time_key node.rule ∷ [])
     rank_states =
@@ -169,17 +182,21 @@ module _ (s : Setting) (past : List (List Fact)) (number : ℕ → ℕ → ℕ) 
         (rank_time-same s (over b) (table_of (joined (rank_needs s.program node))) node times_same sizes_same)
 
   -- a place that doesn't loop
-  module _ (m : Member) (known : All (λ k. IsKnown (at_key b k)) (spread_needs s m)) (ok : AcceptsSpread s (over b) m) where
+  module _ (m : Member) (known : All (λ k. IsKnown (at_key b k)) (spread_needs s m))
+      (ok : AcceptsSpread s (over b) m) where
+    -- the sizes that its arms read are stated as they are known
     spread_same : (t i : ℕ) → has_key (spread_needs s m) t i ≡ true
         → (table_of (joined (spread_needs s m))).size t i ≡ (over b).size t i
     spread_same = needed_size s past number b all say (spread_needs s m) known
 
+    -- its lemma is accepted
     pub spread_lemma : Accepts s past (Spread m (uses_for number (spread_needs s m)))
     spread_lemma = (
       needs_accepted s past number b all say (spread_needs s m) known,
       spread_accepted s (over b) (table_of (joined (spread_needs s m))) m ok spread_same,
     )
 
+    -- and states the size that it composes over what is known
     pub spread_states : facts_of s past (Spread m (uses_for number (spread_needs s m)))
         ≡ facts_with (s.rewrite (spread_size s (over b) m)) (m.spot ∷ [])
     spread_states =
@@ -191,24 +208,28 @@ module _ (s : Setting) (past : List (List Fact)) (number : ℕ → ℕ → ℕ) 
   -- a loop
   module _ (members : List Member) (known : All (λ k. IsKnown (at_key b k)) (cycle_needs s (over b) members))
       (ok : AcceptsCycle s (over b) members) where
+    -- the sizes and the times that it needs
     abbrev loop_sizes : List Spot
     loop_sizes = needed_into s members members
 
     abbrev loop_times : List ℕ
     loop_times = needed_times s (over b) members
 
+    -- the sizes are stated as they are known
     loop_sizes_same : (t i : ℕ) → has_key loop_sizes t i ≡ true
         → (table_of (joined (cycle_needs s (over b) members))).size t i ≡ (over b).size t i
     loop_sizes_same t i m =
         needed_size s past number b all say (cycle_needs s (over b) members) known t i
         (has_key-left loop_sizes (map time_key loop_times) t i m)
 
+    -- and so are the times
     loop_times_same : (t : ℕ) → is_in t loop_times ≡ true
         → (table_of (joined (cycle_needs s (over b) members))).time t ≡ (over b).time t
     loop_times_same t m =
         needed_time s past number b all say (cycle_needs s (over b) members) known t
         (has_key-right loop_sizes (map time_key loop_times) t 0 (has_time_key loop_times t m))
 
+    -- its lemma is accepted
     pub cycle_lemma : Accepts s past (Cycle members (uses_for number (cycle_needs s (over b) members)))
     cycle_lemma = (
       needs_accepted s past number b all say (cycle_needs s (over b) members) known,
@@ -216,6 +237,7 @@ module _ (s : Setting) (past : List (List Fact)) (number : ℕ → ℕ → ℕ) 
           loop_times_same,
     )
 
+    -- and states the size that it composes over what is known, for each member
     pub cycle_states : facts_of s past (Cycle members (uses_for number (cycle_needs s (over b) members)))
         ≡ facts_with (s.rewrite (cycle_size s (over b) members)) (map (λ m. m.spot) members)
     cycle_states =

@@ -48,6 +48,7 @@ monomials-same (m ∷ ms) f g h =
     ∙ ap (λ (bs : Parts). Part (monomial_bound g m) bs)
     (monomials-same ms f g (λ j k. h j (or_right (is_in j m.vars) (list_any (λ n. is_in j n.vars) ms) k)))
 
+-- and so where there is none
 polynomial-same : (o : Option Polynomial) (f g : ℕ → Bound) → ((j : ℕ) → has_variable o j ≡ true → f j ≡ g j)
     → polynomial_bound o f ≡ polynomial_bound o g
 polynomial-same None f g h = refl
@@ -72,15 +73,18 @@ arm-same o Poly f g h = polynomial-same o f g h
 abbrev listed_table : List Spot → Table
 listed_table spots = record { time = λ t. None; size = λ t i. cond (has_key spots t i) (Some (Constant 0)) None }
 
+-- it knows the size of each of these
 listed_known : (spots : List Spot) (t i : ℕ) → has_key spots t i ≡ true → IsKnown ((listed_table spots).size t i)
 listed_known spots t i m = (Constant 0, rw m refl)
 
+-- and of no other
 known_listed : (spots : List Spot) (t i : ℕ) → IsKnown ((listed_table spots).size t i) → has_key spots t i ≡ true
 known_listed spots t i h = told (has_key spots t i) (λ e. e) (λ e. absurd (nothing h.0 (rw e at h.1)))
   where
     nothing : (b : Bound) → None ≡ Some b → ⊥
     nothing b e = cc
 
+-- so it has the sizes of places that are all among these
 each_listed : (all xs : List Spot) → ((t i : ℕ) → has_key xs t i ≡ true → has_key all t i ≡ true)
     → AllByRecursion (HasSize (listed_table all)) xs
 each_listed all [] h = tt
@@ -142,13 +146,16 @@ module _ (s : Setting) (members : List Member) (a b : ℕ → ℕ → Option Bou
       polynomial-same (poly_at s m.spot) (sizes_after a e) (sizes_after b e)
       (λ j r. ap known (h j r (straight j r)))
 
+  -- what flows into a member with an offset
   abbrev flow_with : Member → Arm → ℕ → Bound → Flow
   flow_with m arm e o = record { rule = m.spot.rule; slope = slope_of arm (is_member members e); offset = o }
 
+  -- and so is what flows by one arm from one rule
   flow-same : (m : Member) (arm : Arm) (e : ℕ) → AgreeOn m arm e → IsStraightArm s members m e arm
       → flow s members a m arm e ≡ flow s members b m arm e
   flow-same m arm e h straight = ap (flow_with m arm e) (offset-same m arm e h straight)
 
+  -- and from these rules by both
   flows_from-same : (m : Member) (es : List ℕ)
       → ((e : ℕ) → is_in e es ≡ true → AgreeOn m m.local.up e × AgreeOn m m.local.low e)
       → ((e : ℕ) → is_in e es ≡ true → IsStraightArm s members m e m.local.up)
@@ -195,6 +202,7 @@ growth-same fs f g (t ∷ ts) last h =
         ∙ ap (λ (bs : Parts). Part (PowerOf (factor_of fs t) (known (g t))) bs) rest)
     go false e rest = rw e rest
 
+-- and the same parts of what is added
 addition-same : (s : Setting) (fs : List Flow) (f g : ℕ → Option Bound) (ts : List ℕ)
     → ((t : ℕ) → is_in t ts ≡ true → adds s fs t ≡ true → f t ≡ g t)
     → addition_parts s fs f ts ≡ addition_parts s fs g ts
@@ -217,6 +225,7 @@ addition-same s fs f g (t ∷ ts) h =
 abbrev pub needs_time : Setting → List Flow → ℕ → Bool
 needs_time s fs t = multiplies fs t || adds s fs t
 
+-- and so the same size of a loop
 loop-same : (s : Setting) (fs : List Flow) (f g : ℕ → Option Bound) (ts : List ℕ)
     → ((t : ℕ) → is_in t ts ≡ true → needs_time s fs t ≡ true → f t ≡ g t)
     → loop_bound s fs f ts ≡ loop_bound s fs g ts
@@ -265,6 +274,7 @@ module _ (s : Setting) (a b : Table) (m : Member) (ok : AcceptsSpread s a m)
 module _ (s : Setting) (a b : Table) (members : List Member) (ok : AcceptsCycle s a members)
     (sizes : (t i : ℕ) → has_key (needed_into s members members) t i ≡ true → b.size t i ≡ a.size t i)
     (times : (t : ℕ) → is_in t (needed_times s a members) ≡ true → b.time t ≡ a.time t) where
+  -- what is right of the members, one by one
   shapes : AllByRecursion (HasMemberShape s) members
   shapes = recursion_from_All (HasMemberShape s) members ok.shape.each
 
@@ -280,6 +290,7 @@ module _ (s : Setting) (a b : Table) (members : List Member) (ok : AcceptsCycle 
       flows_into-same s members b.size a.size members (agree_all s members b.size a.size members shapes ups lows sizes)
       (recursion_from_All (IsStraight s members) members ok.straight)
 
+  -- the times of the rules that multiply or add are the same
   time-same : (t : ℕ) → is_in t (rules_of s members) ≡ true → needs_time s (flows s members a.size) t ≡ true → b.time t
       ≡ a.time t
   time-same t i n = times t (is_in-filter (needs_time s (flows s members a.size)) (rules_of s members) t i n)

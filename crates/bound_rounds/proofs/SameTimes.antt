@@ -114,6 +114,7 @@ read-in (c ∷ cs) i (suc k) h =
     go false e m = rw e (or_right (suc k + i == i) (is_in (suc k + i) (read_places (suc i) cs)) m)
 
 module _ (p : Program) (node : RankNode) where
+  -- the coefficients of the function where an entry leads to
   abbrev coefs_at : ℕ → List ℤ
   coefs_at e = (rank_form node.forms (target_of p e)).coefs
 

@@ -32,6 +32,7 @@ states : (s : Setting) (fs : List Find) → AllStand s fs → facts_of_lemmas s 
 unfolding facts_of_lemmas
 states s fs h = (all_have_lemmas s fs h).facts
 
+-- so finds that stand have lemmas
 pub have_lemmas : StandingFindsHaveLemmas
 have_lemmas = record { accepted = accepted; stated = states }
 
@@ -43,11 +44,13 @@ numbered s fs h t i b e =
     (sym (states s fs h)) (found_stated s fs (all_have_lemmas s fs h).sound t i b e)
 
 -- what is known of a rule was found
-of_rule : (s : Setting) (fs : List Find) (t i : ℕ) (b : Bound) → IsRule s.program t → bounds_of s.program fs t i ≡ Some b
+of_rule : (s : Setting) (fs : List Find) (t i : ℕ) (b : Bound) → IsRule s.program t
+    → bounds_of s.program fs t i ≡ Some b
     → found fs t i ≡ Some b
 of_rule s fs zero i b rule e = absurd (none_some rule.rule rule.numbered)
 of_rule s fs (suc t) i b rule e = e
 
+-- so what is known of a rule is numbered
 pub are_numbered : FindsAreNumbered
 are_numbered = record { each = λ s fs h t i b rule e. numbered s fs h t i b (of_rule s fs t i b rule e) }
 
@@ -68,5 +71,6 @@ holds s faithful fs h t i b e = go (first_of-cases (start_bounds s.program t i) 
         (accepted_facts_hold.each s faithful (lemmas_of fs) (accepted s fs h)) (number_in fs t i))
         (numbered s fs h t i b later.1)
 
+-- so what is known with finds that stand holds
 pub hold : StandingFindsHold
 hold = record { each = holds }

@@ -77,21 +77,26 @@ module _ (s : Setting) where
       lemma ∙ (find_states_alone at.0 t ((sound.keys at.0 at.1 t 0 at.2).alone refl)
       ∙ ap (λ (x : Bound). Time t x ∷ []) at.3)
 
-  -- bounds that are known with earlier finds are stated by their lemmas, by the numbers in a list which begins with them
-  module _ (before between earlier more : List Find) (begins : before ++ between ≡ earlier) (sound : AreSound s earlier) where
+  -- bounds that are known with earlier finds are stated by their lemmas, by the numbers in a list that begins with them
+  module _ (before between earlier more : List Find) (begins : before ++ between ≡ earlier)
+      (sound : AreSound s earlier) where
+    -- the number of the lemma of a key in that list
     abbrev number : ℕ → ℕ → ℕ
     number = number_in (earlier ++ more)
 
+    -- what is known with those that stand first stays
     keeps : (t i : ℕ) (c : Bound) → bounds_of s.program before t i ≡ Some c → bounds_of s.program earlier t i ≡ Some c
     keeps t i c e =
         subst (λ (fs : List Find). bounds_of s.program fs t i ≡ Some c) begins
         (bounds_of-kept s.program before between t i c e)
 
+    -- and so does what they found
     found_kept : (t i : ℕ) (c : Bound) → found before t i ≡ Some c → found earlier t i ≡ Some c
     found_kept t i c e =
         subst (λ (fs : List Find). found fs t i ≡ Some c) begins
         (found-append before between t i ∙ first_of-some (found before t i) (found between t i) c e)
 
+    -- what is known with them is stated
     stated : (t i : ℕ) (c : Bound) → bounds_of s.program before t i ≡ Some c
         → IsStatedBy s (facts_of_finds earlier) number t i c
     stated t i c e = go (first_of-cases (start_bounds s.program t i) (found before t i) c e)
@@ -106,6 +111,7 @@ module _ (s : Setting) where
             inr (subst (λ (n : ℕ). Contains (facts_of_lemma (facts_of_finds earlier) n) (place_fact t i c))
             (sym (number_in-kept earlier more t i c there)) (found_stated earlier sound t i c there))
 
+    -- and the lemma of a rule's time states nothing else
     alone : (t : ℕ) (c : Bound) → IsRule s.program t → bounds_of s.program before t 0 ≡ Some c
         → facts_of_lemma (facts_of_finds earlier) (number t 0) ≡ Time t c ∷ []
     alone zero c rule e = absurd (none_some rule.rule rule.numbered)
@@ -114,6 +120,7 @@ module _ (s : Setting) where
         ap (facts_of_lemma (facts_of_finds earlier)) (number_in-kept earlier more (suc t) 0 c there)
         ∙ found_alone earlier sound (suc t) c there
 
+    -- so the lemmas say what is known
     earlier_say : SayBounds s (facts_of_finds earlier) number (bounds_of s.program before) (bounds_of s.program earlier)
     earlier_say = record {
       keeps = keeps;
@@ -125,13 +132,15 @@ module _ (s : Setting) where
       alone = alone;
     }
 
-    -- the lemma of a find that stands after them is accepted, and states what the find does
+    -- the lemma of a find that stands after them
     module _ (f : Find) (stands : Stands s (bounds_of s.program before) f) where
+      -- it is accepted
       find_lemma : Accepts s (facts_of_finds earlier) (lemma_by number f.node f.needs)
       find_lemma =
           node_lemma s (facts_of_finds earlier) number (bounds_of s.program before) (bounds_of s.program earlier)
           earlier_say f.node f.needs stands.accepted stands.needs stands.known
 
+      -- and states what the find does
       lemma_states : facts_of s (facts_of_finds earlier) (lemma_by number f.node f.needs) ≡ facts_of_find f
       lemma_states =
           node_states s (facts_of_finds earlier) number (bounds_of s.program before) (bounds_of s.program earlier)
@@ -141,9 +150,11 @@ module _ (s : Setting) where
 
   -- sound finds are so with one more that stands after them
   module _ (earlier : List Find) (sound : AreSound s earlier) (f : Find) (after : StandsAfter s earlier f) where
+    -- what is known with all of them
     abbrev new_bounds : Bounds
     new_bounds = bounds_of s.program (earlier ++ f ∷ [])
 
+    -- the keys of the further find are those of rules
     own_keys : (g : Find) → Contains (f ∷ []) g → (t i : ℕ) → has_key g.keys t i ≡ true → IsKeyOf s.program g.keys t i
     own_keys g m =
         either (contains-cases g f [] m)
@@ -151,6 +162,7 @@ module _ (s : Setting) where
         (standing_key s (bounds_of s.program after.before) f after.stands))
         (λ none. absurd (contains-none g none))
 
+    -- each of its facts is known, since none of its keys had a bound
     own_fact : (k : Spot) → Contains f.keys k → IsFactOf new_bounds (fact_at k f.bound)
     own_fact k m =
         place_fact_of new_bounds k.rule k.place f.bound
@@ -158,12 +170,14 @@ module _ (s : Setting) where
         (contained-all (λ x. at_key (bounds_of s.program earlier) x ≡ None) f.keys k after.fresh m)
         ∙ found-here f [] k.rule k.place (contained-has_key f.keys k m))
 
+    -- so are all of them
     own_known : AreFactsOf new_bounds (facts_of_find f)
     own_known =
         All-map (IsFactOf new_bounds) (λ k. fact_at k f.bound) f.keys
         (All-weaker (Contains f.keys) (λ k. IsFactOf new_bounds (fact_at k f.bound)) own_fact f.keys
         (All-contains_itself f.keys))
 
+    -- and what the others state still is
     still_known : All (AreFactsOf new_bounds) (facts_of_finds earlier)
     still_known =
         All-weaker (AreFactsOf (bounds_of s.program earlier)) (AreFactsOf new_bounds)
@@ -171,6 +185,7 @@ module _ (s : Setting) where
         (fact_kept (bounds_of s.program earlier) new_bounds (bounds_of-kept s.program earlier (f ∷ []))) facts h)
         (facts_of_finds earlier) sound.known
 
+    -- so all are sound
     one_more : AreSound s (earlier ++ f ∷ [])
     one_more = record {
       keys = λ g m. either (contains-either g earlier (f ∷ []) m) (sound.keys g) (own_keys g);
@@ -185,6 +200,7 @@ module _ (s : Setting) where
         ≡ facts_of_finds fs
     pub sound : AreSound s fs
 
+  -- finds that stand after sound ones have lemmas
   have_lemmas : (fs earlier rest : List Find) → earlier ++ rest ≡ fs → AreSound s earlier → StandAfter s earlier rest
       → HaveLemmas fs earlier rest
   have_lemmas fs earlier [] whole sound h =

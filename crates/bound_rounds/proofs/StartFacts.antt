@@ -53,6 +53,7 @@ start_place_stated p (suc j) c e = told (nat_lt j (arity_of p p.start)) below (�
         (size_among (places_at p (Some p.start)) (suc j)
         (in_range (arity_of p p.start) (suc j) (omega arith) (omega (arith, low)))))
 
+-- and it is known of the virtual entry alone
 pub start_stated : (p : Program) (t i : ℕ) (c : Bound) → start_bounds p t i ≡ Some c
     → (t ≡ 0) × Contains (start_facts p) (place_fact t i c)
 start_stated p zero i c e = (refl, start_place_stated p i c e)
