@@ -1,6 +1,6 @@
 -- Facts of known bounds: what is looked up among them, and the lemmas that state them by their numbers.
-use Rattle.std.proofs.Common.{◌≡◌, ◌⊎◌, inl, inr, ℕ, zero, suc, ◌≤◌, ◌==◌, ◌&&◌, Bool, true, false, List, [], ◌∷◌, ◌++◌}
-use Rattle.std.proofs.Common.{length, Some, refl, sym, ◌∙◌, ap, subst, arith, All}
+use Rattle.std.proofs.Common.{◌≡◌, ◌⊎◌, inl, inr, ℕ, zero, suc, ◌≤◌, ◌==◌, ◌&&◌, true, false, List, [], ◌∷◌}
+use Rattle.std.proofs.Common.{length, Some, None, refl, sym, ap, subst, arith, All}
 use Rattle.std.specs.List.{Contains}
 use Rattle.std.proofs.lemmas.Bool.{and_parts, and_from}
 use Rattle.std.proofs.lemmas.List.Elements.{All-nil, All-head, All-tail}
@@ -10,8 +10,8 @@ use Rattle.rule_questions.proofs.model.Membership.{same_number, told_same, no_is
 use Rattle.rule_questions.specs.proof_nodes.Known.{time_in, size_in, is_zero_bound, has_zero_time}
 use Rattle.rule_questions.specs.proof_nodes.Acceptance.{facts_of_lemma}
 use Rattle.bound_rounds.specs.Keys.{Bounds, place_fact, size_by}
-use Rattle.bound_rounds.proofs.Cases.{told}
-use Rattle.bound_rounds.proofs.Contained.{contains-cases, contains-none, contains-later}
+use Rattle.bound_rounds.proofs.Cases.{told, none_some}
+use Rattle.bound_rounds.proofs.Contained.{contains-cases, contains-none}
 
 -- the fact is that of a known bound, of a time or of a size
 abbrev pub IsFactOf : Bounds → Fact → Type 0
@@ -36,32 +36,36 @@ passed x y ys other h = go (contains-cases x y ys h)
     go (inl e) = absurd (other e)
     go (inr m) = m
 
--- a size isn't a time, and a cost is neither
+-- a size isn't a time
 size_time : (u i t : ℕ) (c d : Bound) → Size u i c ≡ Time t d → ⊥
 size_time u i t c d e = cc
 
+-- and a time isn't a size
 time_size : (u t i : ℕ) (c d : Bound) → Time u c ≡ Size t i d → ⊥
 time_size u t i c d e = cc
 
--- two times that are the same are of one rule, and have one bound
+-- two times that are the same are of one rule
 time_rule : (u t : ℕ) (c d : Bound) → Time u c ≡ Time t d → u ≡ t
 time_rule u t c d e = cc
 
+-- and have one bound
 time_bound : (u t : ℕ) (c d : Bound) → Time u c ≡ Time t d → c ≡ d
 time_bound u t c d e = cc
 
--- two sizes that are the same are of one place after one rule
+-- two sizes that are the same are after one rule
 size_rule : (u j t i : ℕ) (c d : Bound) → Size u j c ≡ Size t i d → u ≡ t
 size_rule u j t i c d e = cc
 
+-- and at one place
 size_place : (u j t i : ℕ) (c d : Bound) → Size u j c ≡ Size t i d → j ≡ i
 size_place u j t i c d e = cc
 
--- two times with different rules aren't the same, nor two sizes at different places
+-- two times of different rules aren't the same
 other_time : (u t : ℕ) (c d : Bound) → (u == t) ≡ false → Time u c ≡ Time t d → ⊥
 other_time u t c d n e =
     no_is_not_yes (u == t) n (subst (λ (m : ℕ). (u == m) ≡ true) (time_rule u t c d e) (same_number u))
 
+-- nor are two sizes at different places
 other_size : (u j t i : ℕ) (c d : Bound) → ((u == t) && (j == i)) ≡ false → Size u j c ≡ Size t i d → ⊥
 other_size u j t i c d n e =
     no_is_not_yes ((u == t) && (j == i)) n
@@ -113,6 +117,23 @@ same_size b (Size u j d ∷ facts) are t i c h =
     later : ((u == t) && (j == i)) ≡ false → size_in facts t i ≡ size_by b t i
         → size_in (Size u j d ∷ facts) t i ≡ size_by b t i
     later e ih = rw e ih
+
+-- no size is looked up at place 0
+pub no_size : (b : Bounds) (facts : List Fact) → AreFactsOf b facts → (t : ℕ) → size_in facts t 0 ≡ None
+no_size b [] are t = refl
+no_size b (Time u d ∷ facts) are t = no_size b facts (All-tail (IsFactOf b) (Time u d) facts are) t
+no_size b (Cost u d ∷ facts) are t = no_size b facts (All-tail (IsFactOf b) (Cost u d) facts are) t
+no_size b (Size u zero d ∷ facts) are t = absurd (none_some d (All-head (IsFactOf b) (Size u 0 d) facts are))
+no_size b (Size u (suc j) d ∷ facts) are t =
+    later (no_size b facts (All-tail (IsFactOf b) (Size u (suc j) d) facts are) t)
+  where
+    other : ((u == t) && (suc j == 0)) ≡ false
+    other =
+        told ((u == t) && (suc j == 0))
+        (λ e. absurd (omega (arith, told_same (suc j) 0 (and_parts (u == t) (suc j == 0) e).1))) (λ e. e)
+
+    later : size_in facts t 0 ≡ None → size_in (Size u (suc j) d ∷ facts) t 0 ≡ None
+    later ih = rw other ih
 
 -- a time of 0 that is stated says that the rule never runs
 pub zero_said : (facts : List Fact) (t : ℕ) → Contains facts (Time t (Constant 0)) → has_zero_time facts t ≡ true

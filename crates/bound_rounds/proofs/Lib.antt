@@ -29,6 +29,17 @@ pub mod Ends
 pub mod FactLists
 pub mod CitedFacts
 pub mod NeededFacts
+-- over tables that agree on what nodes need, they compose the same bounds and are accepted alike
+pub mod SameTimes
+pub mod SameSizes
+-- the lemma of each node is accepted, and states what the node composes
+pub mod NodeLemmas
+-- finds that stand give lemmas
+pub mod StartFacts
+pub mod StandingKeys
+pub mod FindFacts
+pub mod StandingLemmas
+pub mod StandingLaws
 -- where answers are one, so are rounds and the last finds
 pub mod OneOrder
 pub mod LastIsOne

@@ -3,15 +3,31 @@
 //! `specs/` and their laws: the functions here have no code, and the contract of each is a law.
 #![tactic(auto)]
 
-ghost use Rattle.bound_rounds.specs.Laws.{MadeFindsStand, RoundsEnd, ComponentsAreUniform, LastFindsAreOne};
-ghost use Rattle.bound_rounds.specs.Laws.{LastFindsExist, MissingBoundsHaveReasons};
+ghost use Rattle.bound_rounds.specs.Laws.{StandingFindsHaveLemmas, FindsAreNumbered, StandingFindsHold, MadeFindsStand};
+ghost use Rattle.bound_rounds.specs.Laws.{RoundsEnd, ComponentsAreUniform, LastFindsAreOne, LastFindsExist};
+ghost use Rattle.bound_rounds.specs.Laws.{MissingBoundsHaveReasons};
 ghost use Rattle.bound_rounds.specs.WorkedFinds.{FindsAreReadOff, KeysAreWorkedOut, NeedsAreWorkedOut};
 ghost use Rattle.bound_rounds.specs.WorkedFinds.{LemmasAreWorkedOut};
 ghost use Rattle.bound_rounds.specs.WorkedSets.{SetsOfCounting, ShutOfCounting};
 ghost use Rattle.bound_rounds.specs.WorkedStanding.{StandingIsWorkedOut};
 ghost use Rattle.bound_rounds.specs.WorkedFirst.{FirstFindsAreWorkedOut, RightAnswersAreWorkedOut};
-ghost use Rattle.bound_rounds.specs.WorkedAnswers.{AnswersAreWorkedOut, RightSizesAreWorkedOut, MissingIsWorkedOut};
 ghost use Rattle.bound_rounds.specs.WorkedRounds.{FirstRoundIsWorkedOut, LaterRoundsAreWorkedOut, ReasonsAreWorkedOut};
+ghost use Rattle.bound_rounds.specs.WorkedAnswers.{AnswersAreWorkedOut, RightSizesAreWorkedOut, MissingIsWorkedOut};
+
+/// The lemmas of finds that stand are accepted, and each states what its find does.
+pub fn standing_finds_have_lemmas()
+    ensures { StandingFindsHaveLemmas }
+{}
+
+/// A bound that was found is a fact of the lemma whose number its key has.
+pub fn finds_are_numbered()
+    ensures { FindsAreNumbered }
+{}
+
+/// Each bound that is known with finds that stand holds on all runs.
+pub fn standing_finds_hold()
+    ensures { StandingFindsHold }
+{}
 
 /// What rounds find stands, where the answers of the searches are right.
 pub fn made_finds_stand()
@@ -59,14 +75,6 @@ pub fn sets_are_as_worked_out()
     ensures shut { ShutOfCounting }
 {}
 
-/// The rounds of that program, from nothing and from the time of its first rule, and why bounds are missing where
-/// nothing ranks, are those worked out by hand.
-pub fn rounds_are_as_worked_out()
-    ensures first { FirstRoundIsWorkedOut }
-    ensures later { LaterRoundsAreWorkedOut }
-    ensures reasons { ReasonsAreWorkedOut }
-{}
-
 /// Which finds of that program stand, and of one with a rule that is never reached, is what was worked out by hand.
 pub fn standing_is_as_worked_out()
     ensures { StandingIsWorkedOut }
@@ -77,6 +85,14 @@ pub fn standing_is_as_worked_out()
 pub fn first_finds_are_as_worked_out()
     ensures first { FirstFindsAreWorkedOut }
     ensures right { RightAnswersAreWorkedOut }
+{}
+
+/// The rounds of that program, from nothing and from the time of its first rule, and why bounds are missing where
+/// nothing ranks, are those worked out by hand.
+pub fn rounds_are_as_worked_out()
+    ensures first { FirstRoundIsWorkedOut }
+    ensures later { LaterRoundsAreWorkedOut }
+    ensures reasons { ReasonsAreWorkedOut }
 {}
 
 /// What answers of the program that counts down tell, which sizes are right, and how many bounds are missing, is what was
