@@ -1,5 +1,5 @@
 -- Where answers are one, so is the last list of finds, and so is the reason of each bound that is missing.
-use Rattle.std.proofs.Common.{◌≡◌, ◌⊎◌, inl, inr, ℕ, suc, ◌≤◌, ◌==◌, ◌&&◌, ◌||◌, Bool, true, false, List, [], ◌∷◌, ◌++◌, refl, sym, ◌∙◌}
+use Rattle.std.proofs.Common.{◌≡◌, inl, inr, ℕ, suc, ◌==◌, ◌&&◌, ◌||◌, Bool, true, false, List, [], ◌∷◌, ◌++◌, refl, sym, ◌∙◌}
 use Rattle.std.proofs.Common.{ap, subst, arith}
 use Rattle.std.proofs.lemmas.Bool.{and_parts}
 use Rattle.rule_questions.proofs.model.Membership.{told_same, no_is_not_yes}
@@ -9,7 +9,7 @@ use Rattle.bound_rounds.specs.Keys.{has_key, time_key}
 use Rattle.bound_rounds.specs.Finds.{Find, bounds_of}
 use Rattle.bound_rounds.specs.Searches.{Searches, Answers, searches_of, NoBound}
 use Rattle.bound_rounds.specs.Answers.{Target, TimeOf, SizesOf, keys_asked, Lacks, Tells}
-use Rattle.bound_rounds.specs.Components.{AreComponentsOf, AreApart, IsCovered, IsOneOf}
+use Rattle.bound_rounds.specs.Components.{AreComponentsOf, AreApart, IsOneOf}
 use Rattle.bound_rounds.specs.Beginning.{AreFirst}
 use Rattle.bound_rounds.specs.Rounds.{IsRound, IsMade, Begun, Made, IsLast, IsTarget, IsNoBound}
 use Rattle.bound_rounds.specs.Right.{AreOne}

@@ -1,5 +1,5 @@
 -- Where answers are one, so are the finds before the first round.
-use Rattle.std.proofs.Common.{◌≡◌, ◌↔◌, ℕ, ◌==◌, Bool, not, true, false, cond, List, [], ◌∷◌, ◌++◌, filter, map}
+use Rattle.std.proofs.Common.{◌≡◌, ℕ, ◌==◌, Bool, true, false, List, [], ◌∷◌, ◌++◌, filter, map}
 use Rattle.std.proofs.Common.{refl, sym, ◌∙◌, ap, subst}
 use Rattle.std.proofs.lemmas.Bool.{or_left, or_right}
 use Rattle.rule_questions.specs.model.Entries.{is_in}
@@ -7,12 +7,12 @@ use Rattle.rule_questions.specs.model.Paths.{target_of}
 use Rattle.rule_questions.specs.model.Programs.{Program}
 use Rattle.rule_questions.proofs.model.Cases.{same_tests}
 use Rattle.rule_questions.proofs.model.Membership.{same_number}
-use Rattle.rule_questions.specs.proof_nodes.AcceptsPlain.{IsRule, IsUnreached}
+use Rattle.rule_questions.specs.proof_nodes.AcceptsPlain.{IsRule}
 use Rattle.bound_rounds.specs.Keys.{rule_numbers, time_key}
 use Rattle.bound_rounds.specs.Finds.{Find}
-use Rattle.bound_rounds.specs.Searches.{Searches, Emptiness, NoPoint}
+use Rattle.bound_rounds.specs.Searches.{Searches, NoPoint}
 use Rattle.bound_rounds.specs.Beginning.{empty_find, unreached_find, never_find, AreEmptyFinds, has_places, is_cut}
-use Rattle.bound_rounds.specs.Beginning.{is_dead, zeroed, first_finds, AreFirst}
+use Rattle.bound_rounds.specs.Beginning.{is_dead, zeroed, AreFirst}
 use Rattle.bound_rounds.specs.Right.{AreOne}
 use Rattle.bound_rounds.proofs.Numbered.{in_rules}
 use Rattle.bound_rounds.proofs.SameDead.{path_on}

@@ -1,12 +1,10 @@
 -- There are finds before the first round, there is a round over all finds, and there are last ones.
-use Rattle.std.proofs.Common.{◌≡◌, ◌⊎◌, ◌↔◌, inl, inr, ℕ, zero, suc, ◌<◌, ◌≤◌, ◌==◌, Bool, not, true, false, List, []}
+use Rattle.std.proofs.Common.{◌≡◌, ◌↔◌, ℕ, zero, suc, ◌≤◌, ◌==◌, Bool, not, true, false, List, []}
 use Rattle.std.proofs.Common.{◌∷◌, ◌++◌, filter, map, Option, Some, None, refl, sym, ◌∙◌, ap, subst, arith}
 use Rattle.std.proofs.lemmas.Bool.{or_left, or_right}
-use Rattle.rule_questions.specs.model.Programs.{Rule, rule_at}
 use Rattle.rule_questions.specs.model.Bounds.{Bound, Constant}
 use Rattle.rule_questions.specs.model.Entries.{is_in}
-use Rattle.rule_questions.specs.model.Paths.{HasPath, source_of, source_in}
-use Rattle.rule_questions.proofs.model.Cases.{none_some}
+use Rattle.rule_questions.specs.model.Paths.{source_of, source_in}
 use Rattle.rule_questions.proofs.model.Membership.{no_is_not_yes, same_number, filter-in}
 use Rattle.rule_questions.specs.bound_expr.Measure.{is_large}
 use Rattle.rule_questions.specs.proof_nodes.Nodes.{Spot}
@@ -26,7 +24,7 @@ use Rattle.bound_rounds.specs.Answers.{Target, TimeOf, SizesOf, is_open, Answer,
 use Rattle.bound_rounds.specs.Answers.{TellsRanking, TellsSizing, TellsTime, Tells}
 use Rattle.bound_rounds.specs.Components.{IsEmpty, AreComponentsOf}
 use Rattle.bound_rounds.specs.Beginning.{empty_find, AreEmptyFinds, first_finds, AreFirst}
-use Rattle.bound_rounds.specs.Rounds.{Tries, Manner, Together, InTurn, known_next, TriesAll, IsRound, IsMade, Begun}
+use Rattle.bound_rounds.specs.Rounds.{Tries, Together, InTurn, TriesAll, IsRound, IsMade, Begun}
 use Rattle.bound_rounds.specs.Rounds.{Made, IsLast}
 use Rattle.bound_rounds.specs.Laws.{missing, LastFindsExist}
 use Rattle.bound_rounds.proofs.Cases.{either, false_true, told}
@@ -227,18 +225,24 @@ module _ (a : Answers) (s : Setting) where
     go_on zero fs made few =
         let next = round_there components fs in
         either (ends.each a s fs next.0 next.1) (λ less. absurd (omega (arith, less, few)))
-        (λ e. (fs, record {
-          made = made;
-          closed = subst (λ (more : List Find). IsRound (searches_of a) s fs more) e next.1;
-        }))
+        (λ e. (
+          fs,
+          record {
+            made = made;
+            closed = subst (λ (more : List Find). IsRound (searches_of a) s fs more) e next.1;
+          },
+        ))
     go_on (suc fuel) fs made few =
         let next = round_there components fs in
         either (ends.each a s fs next.0 next.1)
         (λ less. go_on fuel (fs ++ next.0) (Made made next.1) (omega (arith, less, few)))
-        (λ e. (fs, record {
-          made = made;
-          closed = subst (λ (more : List Find). IsRound (searches_of a) s fs more) e next.1;
-        }))
+        (λ e. (
+          fs,
+          record {
+            made = made;
+            closed = subst (λ (more : List Find). IsRound (searches_of a) s fs more) e next.1;
+          },
+        ))
 
     pub last_there : (fs : List Find) × IsLast (searches_of a) s fs
     last_there =

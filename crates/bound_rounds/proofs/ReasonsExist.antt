@@ -3,21 +3,20 @@ use Rattle.std.proofs.Common.{◌≡◌, ◌⊎◌, inl, inr, ℕ, ◌==◌, ◌
 use Rattle.std.proofs.Common.{None, refl, sym, ◌∙◌, ap, subst}
 use Rattle.std.proofs.lemmas.Bool.{and_parts, or_left, or_right}
 use Rattle.rule_questions.specs.model.Entries.{is_in}
-use Rattle.rule_questions.specs.model.Bounds.{Bound}
 use Rattle.rule_questions.proofs.model.Membership.{told_same, same_number, is_in-cases, no_is_not_yes}
 use Rattle.rule_questions.specs.proof_nodes.Nodes.{Spot}
 use Rattle.rule_questions.specs.proof_nodes.AcceptsPlain.{IsRule}
 use Rattle.rule_questions.specs.proof_nodes.Setting.{Setting}
 use Rattle.bound_rounds.specs.Keys.{Bounds, has_key, at_key, lacks, rule_numbers}
-use Rattle.bound_rounds.specs.Finds.{Node, Find, bounds_of}
+use Rattle.bound_rounds.specs.Finds.{Find, bounds_of}
 use Rattle.bound_rounds.specs.Searches.{Searches, searches_of, NoBound}
-use Rattle.bound_rounds.specs.Answers.{Target, TimeOf, SizesOf, keys_asked, are_open, is_open, Answer, Found, Lacks}
+use Rattle.bound_rounds.specs.Answers.{Target, TimeOf, SizesOf, keys_asked, are_open, Answer, Found, Lacks}
 use Rattle.bound_rounds.specs.Answers.{finds_by, Tells}
 use Rattle.bound_rounds.specs.Components.{IsCovered, IsOneOf}
 use Rattle.bound_rounds.specs.Rounds.{Tries, Manner, Together, InTurn, known_next, TriesAll, IsClosed, IsTarget}
 use Rattle.bound_rounds.specs.Rounds.{IsNoBound}
 use Rattle.bound_rounds.specs.Laws.{MissingBoundsHaveReasons}
-use Rattle.bound_rounds.proofs.Cases.{either, told}
+use Rattle.bound_rounds.proofs.Cases.{either}
 use Rattle.bound_rounds.proofs.Numbered.{rule_in}
 use Rattle.bound_rounds.proofs.FindsAreOne.{append-none}
 

@@ -1,5 +1,5 @@
 -- Where answers are one, a round over some finds finds one list.
-use Rattle.std.proofs.Common.{◌≡◌, ℕ, true, false, List, [], ◌∷◌, ◌++◌, map, refl, sym, ◌∙◌, ap, subst}
+use Rattle.std.proofs.Common.{◌≡◌, ℕ, true, List, [], ◌∷◌, ◌++◌, map, sym, ◌∙◌, ap, subst}
 use Rattle.rule_questions.specs.model.Bounds.{Bound}
 use Rattle.rule_questions.specs.proof_nodes.Nodes.{Spot}
 use Rattle.rule_questions.specs.proof_nodes.Gaps.{SymbolPlace}

@@ -1,7 +1,7 @@
 -- What answers of the program that counts down tell, and which are right.
-use Rattle.std.proofs.Common.{◌≡◌, ◌⊎◌, inl, inr, ℕ, zero, suc, ◌≤◌, true, false, List, [], ◌∷◌, length, map, Option, Some}
+use Rattle.std.proofs.Common.{◌≡◌, inl, inr, ℕ, true, List, [], ◌∷◌, map, Option, Some}
 use Rattle.std.proofs.Common.{None}
-use Rattle.std.proofs.Common.{refl, sym, ◌∙◌, ap, subst, arith, All}
+use Rattle.std.proofs.Common.{refl, sym, ◌∙◌, ap, subst, arith}
 use Rattle.std.proofs.lemmas.List.Elements.{All-head}
 use Rattle.rule_questions.specs.model.Bounds.{Bound, Constant}
 use Rattle.rule_questions.proofs.model.Cases.{none_some, some_none}
@@ -12,18 +12,18 @@ use Rattle.rule_questions.specs.proof_nodes.Reasons.{Reason, Shape, IsFirstAmong
 use Rattle.rule_questions.specs.proof_nodes.Reasons as reasons
 use Rattle.rule_questions.specs.proof_nodes.AcceptsSizes.{AcceptsUp, AcceptsLow, HasSizesBefore}
 use Rattle.rule_questions.specs.proof_nodes.WorkedSettings.{counting}
-use Rattle.rule_questions.specs.proof_nodes.Worked.{once_node, once_time, entered_member, entered_size, looped_member}
+use Rattle.rule_questions.specs.proof_nodes.Worked.{once_time, entered_member, entered_size, looped_member}
 use Rattle.bound_rounds.specs.Keys.{Bounds, key, time_key, has_key, over}
 use Rattle.bound_rounds.specs.Finds.{Node, EmptyBy, UnreachedBy, NeverBy, RankBy, SpreadBy, CycleBy, bounds_of}
 use Rattle.bound_rounds.specs.Searches.{Sizing, SizedBy, Unsized, NoBound, NoFunction, Tripped, Loose, Missing, Bent}
 use Rattle.bound_rounds.specs.Searches.{Untimed, TooLarge}
 use Rattle.bound_rounds.specs.Answers.{Found, Lacks}
-use Rattle.bound_rounds.specs.Right.{IsSizingOf, IsRightSizing, IsReasonFor, FailsAlone, FailsTogether, IsFirstCause}
+use Rattle.bound_rounds.specs.Right.{IsSizingOf, IsRightSizing, IsReasonFor, FailsTogether, IsFirstCause}
 use Rattle.bound_rounds.specs.Laws.{AreUniform}
 use Rattle.bound_rounds.specs.WorkedFinds.{seven}
-use Rattle.bound_rounds.specs.WorkedSets.{nothing_known, once_known, entered_known}
+use Rattle.bound_rounds.specs.WorkedSets.{nothing_known, once_known}
 use Rattle.bound_rounds.specs.WorkedAnswers.{AnswersAreWorkedOut, RightSizesAreWorkedOut, MissingIsWorkedOut}
-use Rattle.bound_rounds.proofs.Cases.{false_true, either}
+use Rattle.bound_rounds.proofs.Cases.{either}
 use Rattle.bound_rounds.proofs.Keys.{has_key-cases, has_key-none}
 use Rattle.bound_rounds.proofs.WorkedStanding.{entered_ok, looped_ok}
 

@@ -1,6 +1,6 @@
 -- The components of the places of the program that counts down.
-use Rattle.std.proofs.Common.{◌≡◌, ◌⊎◌, inl, inr, ℕ, suc, zero, ◌≤◌, ◌==◌, ◌&&◌, ◌||◌, Bool, not, true, false, List, []}
-use Rattle.std.proofs.Common.{◌∷◌, Some, None, refl, sym, ◌∙◌, ap, subst, arith}
+use Rattle.std.proofs.Common.{◌≡◌, inl, inr, ℕ, suc, zero, ◌==◌, ◌&&◌, ◌||◌, Bool, not, true, false, List, []}
+use Rattle.std.proofs.Common.{◌∷◌, Some, None, refl, sym, ap, subst, arith}
 use Rattle.std.proofs.lemmas.Bool.{and_parts}
 use Rattle.std.proofs.lemmas.List.Elements.{All-nil, All-cons}
 use Rattle.rule_questions.specs.model.Programs.{Rule}

@@ -1,5 +1,5 @@
 -- What is found before the first round of programs with a rule that is never reached.
-use Rattle.std.proofs.Common.{◌≡◌, ◌⊎◌, ◌↔◌, inl, inr, ℕ, zero, suc, ◌≤◌, Bool, not, true, false, List, [], ◌∷◌, length}
+use Rattle.std.proofs.Common.{◌≡◌, ◌↔◌, inl, inr, ℕ, zero, suc, ◌≤◌, Bool, not, true, false, List, [], ◌∷◌, length}
 use Rattle.std.proofs.Common.{Some, None, refl, sym, ◌∙◌, ap, subst, arith}
 use Rattle.std.proofs.lemmas.List.Elements.{All-nil, All-cons}
 use Rattle.rule_questions.specs.model.Programs.{Rule, rule_at, arity_of}
@@ -8,11 +8,11 @@ use Rattle.rule_questions.specs.model.Paths.{Here, Onward, HasEdge, HasPath}
 use Rattle.rule_questions.proofs.model.Cases.{some_same}
 use Rattle.rule_questions.specs.proof_nodes.Nodes.{Spot}
 use Rattle.rule_questions.specs.proof_nodes.AcceptsPlain.{IsRule, IsUnreached}
-use Rattle.rule_questions.specs.proof_nodes.WorkedSettings.{apart, counting, enter, count_down}
+use Rattle.rule_questions.specs.proof_nodes.WorkedSettings.{apart, counting, count_down}
 use Rattle.rule_questions.specs.proof_tree.declared.answer.Question.TheVariants as asked
 use Rattle.bound_rounds.specs.Keys.{Bounds, IsPlace, key, time_key, has_key}
 use Rattle.bound_rounds.specs.Finds.{Find, bounds_of}
-use Rattle.bound_rounds.specs.Searches.{Searches, searches_of, Emptiness, NoPoint, HasPoint, RankTripped, Unsized}
+use Rattle.bound_rounds.specs.Searches.{Searches, searches_of, NoPoint, HasPoint, RankTripped, Unsized}
 use Rattle.bound_rounds.specs.Searches.{Tripped}
 use Rattle.bound_rounds.specs.Answers.{TimeOf, SizesOf, Lacks, TellsTime, TellsSize}
 use Rattle.bound_rounds.specs.Components.{IsEmpty, IsDead, AreSpotsAscending, IsCovered, AreComponentsOf}
@@ -27,7 +27,7 @@ use Rattle.bound_rounds.proofs.SetsExist.{set_there, shut_there}
 use Rattle.bound_rounds.proofs.WorkedComponents.{lone_told}
 use Rattle.bound_rounds.proofs.WorkedComponents as counted
 use Rattle.bound_rounds.proofs.WorkedRounds.{tells_tries, known_tries}
-use Rattle.bound_rounds.proofs.WorkedUnreached.{rule_1, rule_2, no_rule_0, no_rule_3, no_way, reached}
+use Rattle.bound_rounds.proofs.WorkedUnreached.{rule_1, no_rule_0, no_rule_3, no_way, reached}
 
 abbrev by_trips : Searches
 by_trips = searches_of all_trips
@@ -80,8 +80,12 @@ alive (inr u) = reached (λ e. true) u
 covered_place : (t i : ℕ) → IsCovered ((key 1 1 ∷ []) ∷ []) t i → IsLivePlace t i
 covered_place t i (inl m) =
     let same = lone_told (key 1 1) t i m in
-    subst (λ (n : ℕ). IsLivePlace n i) same.0 (rule_1, alive, subst (λ (n : ℕ). IsPlace apart.program 1 n) same.1
-    (record { symbol = 1; target = refl; least = omega arith; last = omega arith }))
+    subst (λ (n : ℕ). IsLivePlace n i) same.0 (
+      rule_1,
+      alive,
+      subst (λ (n : ℕ). IsPlace apart.program 1 n) same.1
+          (record { symbol = 1; target = refl; least = omega arith; last = omega arith }),
+    )
 covered_place t i (inr x) = absurd x
 
 is_covered : (t i : ℕ) → IsRule apart.program t → ¬ (IsDead apart.program (λ e. false) t) → IsPlace apart.program t i

@@ -3,11 +3,11 @@ use Rattle.std.proofs.Common.{◌≡◌, ℕ, List, [], ◌∷◌, length, refl,
 use Rattle.rule_questions.specs.proof_nodes.Nodes.{Spot}
 use Rattle.rule_questions.specs.proof_nodes.WorkedSettings.{counting}
 use Rattle.rule_questions.specs.proof_nodes.Worked.{entered_size, entered_member, looped_member}
-use Rattle.bound_rounds.specs.Keys.{Bounds, key, time_key}
+use Rattle.bound_rounds.specs.Keys.{key, time_key}
 use Rattle.bound_rounds.specs.Finds.{RankBy, SpreadBy, CycleBy, Find, bounds_of}
 use Rattle.bound_rounds.specs.Searches.{Searches, searches_of, SizedBy, Unsized, NoFunction, Missing}
 use Rattle.bound_rounds.specs.Answers.{TimeOf, SizesOf, Answer, Found, Lacks, TellsTime}
-use Rattle.bound_rounds.specs.Rounds.{Tries, TriesAll, Together, InTurn, IsRound, IsClosed}
+use Rattle.bound_rounds.specs.Rounds.{TriesAll, Together, IsRound}
 use Rattle.bound_rounds.specs.WorkedFinds.{once_find, entered_find, looped_find, alone_time}
 use Rattle.bound_rounds.specs.WorkedSets.{once_known, place}
 use Rattle.bound_rounds.specs.WorkedRounds.{value_ranks, gap_over, ranks_open, alone, turned, value_where_open}

@@ -6,12 +6,10 @@ use Rattle.rule_questions.specs.proof_nodes.Nodes.{Spot}
 use Rattle.rule_questions.specs.proof_nodes.WorkedSettings.{counting}
 use Rattle.rule_questions.specs.proof_nodes.Worked.{once_time}
 use Rattle.bound_rounds.specs.Keys.{key, has_key}
-use Rattle.bound_rounds.specs.Finds.{Find}
 use Rattle.bound_rounds.specs.Searches.{Searches, searches_of, Unsized, NoBound, NoFunction, Missing, Untimed, TooLarge}
 use Rattle.bound_rounds.specs.Answers.{Target, TimeOf, SizesOf, keys_asked, Lacks, TellsTime, TellsSize}
 use Rattle.bound_rounds.specs.Components.{IsOneOf}
 use Rattle.bound_rounds.specs.Rounds.{IsClosed, Begun, IsTarget, IsNoBound}
-use Rattle.bound_rounds.specs.WorkedFinds.{once_find}
 use Rattle.bound_rounds.specs.WorkedSets.{nothing_known}
 use Rattle.bound_rounds.specs.WorkedRounds.{gap_over, never_ranks, alone, nothing_ranks, ReasonsAreWorkedOut}
 use Rattle.bound_rounds.proofs.FindsAreOne.{answers_one, time_has, reason_one}

@@ -1,6 +1,6 @@
 -- Answers that are right, and others that aren't.
-use Rattle.std.proofs.Common.{◌≡◌, ◌⊎◌, inl, inr, ℕ, zero, suc, true, false, List, [], ◌∷◌, length, refl, sym, subst}
-use Rattle.std.proofs.Common.{arith, All}
+use Rattle.std.proofs.Common.{◌≡◌, ◌⊎◌, inl, inr, ℕ, suc, true, List, [], ◌∷◌, refl, sym, subst}
+use Rattle.std.proofs.Common.{arith}
 use Rattle.std.specs.Prelude.{pos, ◌≤ℤ◌}
 use Rattle.std.proofs.lemmas.Int.{ints}
 use Rattle.std.proofs.lemmas.List.Elements.{All-nil}
@@ -14,7 +14,7 @@ use Rattle.rule_questions.specs.proof_nodes.WorkedSettings.{apart, counting}
 use Rattle.rule_questions.specs.proof_tree.declared.answer.Trip.{Trip}
 use Rattle.rule_questions.specs.proof_tree.declared.answer.Question.{Question}
 use Rattle.rule_questions.specs.proof_tree.declared.answer.Question.TheVariants as asked
-use Rattle.bound_rounds.specs.Keys.{Bounds, key}
+use Rattle.bound_rounds.specs.Keys.{Bounds}
 use Rattle.bound_rounds.specs.Searches.{searches_of, Emptiness, NoPoint, HasPoint, EmptyTripped, Ranking, RankTripped}
 use Rattle.bound_rounds.specs.Searches.{Sizing}
 use Rattle.bound_rounds.specs.Answers.{are_open}

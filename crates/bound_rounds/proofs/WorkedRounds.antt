@@ -1,38 +1,32 @@
 -- Rounds of the program that counts down.
-use Rattle.std.proofs.Common.{◌≡◌, inl, inr, ℕ, ◌==◌, true, false, List, [], ◌∷◌, ◌++◌, length, map, Option, Some, None}
+use Rattle.std.proofs.Common.{◌≡◌, inr, ℕ, true, false, List, [], ◌∷◌, ◌++◌, length, map}
 use Rattle.std.proofs.Common.{refl, sym, ◌∙◌, ap, subst, arith}
-use Rattle.rule_questions.proofs.model.Cases.{some_none}
-use Rattle.rule_questions.specs.proof_nodes.Gaps.{SymbolPlace, Gap}
+use Rattle.rule_questions.specs.proof_nodes.Gaps.{SymbolPlace}
 use Rattle.rule_questions.specs.proof_nodes.Nodes.{Spot}
-use Rattle.rule_questions.specs.proof_nodes.AcceptsPlain.{IsRule, IsUnreached}
 use Rattle.rule_questions.specs.proof_nodes.Setting.{Setting}
-use Rattle.rule_questions.specs.proof_nodes.WorkedSettings.{counting, enter, count_down}
-use Rattle.rule_questions.specs.proof_nodes.Worked.{entered_size, looped_size, down_time, once_time, entered_member}
+use Rattle.rule_questions.specs.proof_nodes.WorkedSettings.{counting}
+use Rattle.rule_questions.specs.proof_nodes.Worked.{entered_size, looped_size, down_time, entered_member}
 use Rattle.rule_questions.specs.proof_nodes.Worked.{looped_member}
-use Rattle.bound_rounds.specs.Keys.{Bounds, key, time_key, has_key, rule_numbers}
+use Rattle.bound_rounds.specs.Keys.{Bounds, key, time_key}
 use Rattle.bound_rounds.specs.Finds.{RankBy, SpreadBy, CycleBy, Find, bounds_of}
 use Rattle.bound_rounds.specs.Sets.{IsSetOfRule, AreShutOf}
-use Rattle.bound_rounds.specs.Searches.{Searches, Answers, searches_of, NoPoint, Ranking, Ranked, Unranked, Sizing}
-use Rattle.bound_rounds.specs.Searches.{SizedBy, Unsized, NoBound, NoFunction, Missing, Untimed, TooLarge}
-use Rattle.bound_rounds.specs.Answers.{Target, TimeOf, SizesOf, keys_asked, is_open, Answer, Found, Lacks, finds_by}
-use Rattle.bound_rounds.specs.Answers.{TellsRanking, TellsTime, TellsSize, Tells}
-use Rattle.bound_rounds.specs.Components.{IsDead, IsOneOf}
+use Rattle.bound_rounds.specs.Searches.{Searches, searches_of, NoPoint, Ranking}
+use Rattle.bound_rounds.specs.Searches.{SizedBy}
+use Rattle.bound_rounds.specs.Answers.{Target, TimeOf, SizesOf, is_open, Answer, Found, finds_by}
+use Rattle.bound_rounds.specs.Answers.{TellsRanking, TellsTime, Tells}
 use Rattle.bound_rounds.specs.Beginning.{AreFirst}
-use Rattle.bound_rounds.specs.Rounds.{Tries, TriesAll, Together, InTurn, IsRound, IsClosed, IsLast, Begun, Made, IsTarget}
-use Rattle.bound_rounds.specs.Rounds.{IsNoBound}
-use Rattle.bound_rounds.specs.WorkedFinds.{once_find, entered_find, looped_find, alone_time}
-use Rattle.bound_rounds.specs.WorkedSets.{nothing_known, once_known, place}
-use Rattle.bound_rounds.specs.WorkedRounds.{value_ranks, gap_over, ranks_open, never_ranks, alone, turned, answers_with}
-use Rattle.bound_rounds.specs.WorkedRounds.{value_where_open, value_turned, nothing_ranks, first_time, second_time}
-use Rattle.bound_rounds.specs.WorkedRounds.{later_time, FirstRoundIsWorkedOut, LaterRoundsAreWorkedOut}
-use Rattle.bound_rounds.specs.WorkedRounds.{ReasonsAreWorkedOut}
+use Rattle.bound_rounds.specs.Rounds.{Tries, TriesAll, InTurn, IsRound, IsClosed, Begun, Made}
+use Rattle.bound_rounds.specs.WorkedFinds.{once_find, entered_find, looped_find}
+use Rattle.bound_rounds.specs.WorkedSets.{nothing_known}
+use Rattle.bound_rounds.specs.WorkedRounds.{value_ranks, ranks_open, alone, answers_with}
+use Rattle.bound_rounds.specs.WorkedRounds.{value_where_open, first_time, second_time}
+use Rattle.bound_rounds.specs.WorkedRounds.{FirstRoundIsWorkedOut}
 use Rattle.bound_rounds.proofs.Cases.{false_true}
 use Rattle.bound_rounds.proofs.FirstIsOne.{first_one}
 use Rattle.bound_rounds.proofs.RoundIsOne.{round_one}
 use Rattle.bound_rounds.proofs.FindsAreOne.{answers_one}
-use Rattle.bound_rounds.proofs.WorkedSets.{first as first_set, second as second_set, alone_set}
-use Rattle.bound_rounds.proofs.WorkedShut.{none_shut, none_shut_first, none_shut_alone, open_places, one_shut}
-use Rattle.bound_rounds.proofs.WorkedShut.{place_after_2}
+use Rattle.bound_rounds.proofs.WorkedSets.{first as first_set, second as second_set}
+use Rattle.bound_rounds.proofs.WorkedShut.{none_shut, none_shut_first, open_places}
 use Rattle.bound_rounds.proofs.WorkedComponents as parts
 
 -- what is told where a bound is missing is found

@@ -1,12 +1,12 @@
 -- The shut places of sets of the program that counts down.
-use Rattle.std.proofs.Common.{◌≡◌, ◌⊎◌, inl, inr, ℕ, ◌≤◌, true, List, [], ◌∷◌, Option, Some, None, refl, sym, ◌∙◌, ap}
+use Rattle.std.proofs.Common.{◌≡◌, ◌⊎◌, inl, inr, ℕ, ◌≤◌, true, List, [], ◌∷◌, Some, None, refl, sym, ◌∙◌, ap}
 use Rattle.std.proofs.Common.{subst, arith}
 use Rattle.std.specs.List.{Contains}
 use Rattle.rule_questions.specs.model.Programs.{arity_of}
 use Rattle.rule_questions.specs.model.Bounds.{Bound, Input}
 use Rattle.rule_questions.specs.model.Entries.{is_in}
 use Rattle.rule_questions.specs.model.Paths.{target_of}
-use Rattle.rule_questions.proofs.model.Cases.{none_some, some_none, some_same}
+use Rattle.rule_questions.proofs.model.Cases.{some_none, some_same}
 use Rattle.rule_questions.proofs.model.Membership.{is_in-cases}
 use Rattle.rule_questions.specs.proof_nodes.Gaps.{SymbolPlace}
 use Rattle.rule_questions.specs.proof_nodes.WorkedSettings.{counting}

@@ -1,34 +1,30 @@
 -- Finds of the program that counts down that stand, and others that don't.
-use Rattle.std.proofs.Common.{◌≡◌, ◌≢◌, ◌⊎◌, inl, inr, ℕ, zero, suc, ◌||◌, true, false, List, [], ◌∷◌, ◌++◌, length}
-use Rattle.std.proofs.Common.{Option, Some, None, refl, sym, ◌∙◌, ap, subst, arith, All}
+use Rattle.std.proofs.Common.{◌≡◌, ◌≢◌, ℕ, zero, suc, ◌||◌, true, List, [], ◌∷◌, ◌++◌, length}
+use Rattle.std.proofs.Common.{Some, None, refl, sym, ◌∙◌, ap, subst, arith, All}
 use Rattle.std.specs.Prelude.{ℤ, pos}
 use Rattle.std.proofs.lemmas.List.Elements.{All-nil, All-cons, All-head, All-tail}
-use Rattle.rule_questions.specs.model.Programs.{Program, Rule}
-use Rattle.rule_questions.specs.model.Bounds.{Bound, Constant, Input}
+use Rattle.rule_questions.specs.model.Bounds.{Constant, Input}
 use Rattle.rule_questions.specs.model.Facts.{Time, Size}
 use Rattle.rule_questions.specs.model.Entries.{is_in, IsEntry, entries}
 use Rattle.rule_questions.proofs.model.Entries.{listed-from}
 use Rattle.rule_questions.proofs.model.Cases.{none_some, some_none}
 use Rattle.rule_questions.specs.linear_forms.Forms.{at}
-use Rattle.rule_questions.specs.proof_nodes.Nodes.{Spot, Member, RankNode, AndProof, Cite}
+use Rattle.rule_questions.specs.proof_nodes.Nodes.{Spot, RankNode}
 use Rattle.rule_questions.specs.proof_nodes.Known.{IsKnown, Table}
-use Rattle.rule_questions.specs.proof_nodes.Setting.{Setting}
 use Rattle.rule_questions.specs.proof_nodes.Limits.{IsSmallComposed}
 use Rattle.rule_questions.specs.proof_nodes.Acceptance.{Accepts, AcceptsLemmas}
-use Rattle.rule_questions.specs.proof_nodes.AcceptsPlain.{IsRule}
 use Rattle.rule_questions.specs.proof_nodes.AcceptsRank.{AcceptsRank, at_target, rank_time}
 use Rattle.rule_questions.specs.proof_nodes.AcceptsSizes.{AcceptsSpread, AcceptsCycle, ArmHasSizes, HasSizesAfter}
 use Rattle.rule_questions.specs.proof_nodes.AcceptsSizes.{HasSizesBefore}
 use Rattle.rule_questions.specs.proof_nodes.ComposedSizes.{Flow, flows, multiplies, adds}
-use Rattle.rule_questions.specs.proof_nodes.WorkedSettings.{counting, apart}
+use Rattle.rule_questions.specs.proof_nodes.WorkedSettings.{counting}
 use Rattle.rule_questions.specs.proof_nodes.Worked.{once_node, once_time, down_time, alone_node, entered_member}
 use Rattle.rule_questions.specs.proof_nodes.Worked.{entered_size, looped, looped_member}
 use Rattle.rule_questions.proofs.proof_nodes.WorkedAccepted.{of_one, of_two, once_accepted, entered_accepted}
 use Rattle.rule_questions.proofs.proof_nodes.WorkedAccepted.{four_accepted, alone_accepted}
 use Rattle.bound_rounds.specs.Keys.{Bounds, key, time_key, at_key, over}
-use Rattle.bound_rounds.specs.Finds.{RankBy, Find, bounds_of}
-use Rattle.bound_rounds.specs.Standing.{composed, Stands, IsBeginning, StandsAfter, StandAfter, AllStand}
-use Rattle.bound_rounds.specs.Beginning.{unreached_find, never_find}
+use Rattle.bound_rounds.specs.Finds.{Find, bounds_of}
+use Rattle.bound_rounds.specs.Standing.{Stands, StandsAfter, AllStand}
 use Rattle.bound_rounds.specs.WorkedFinds.{once_find, entered_find, alone_find, looped_find, alone_time}
 use Rattle.bound_rounds.specs.WorkedStanding.{ranked_find, StandingIsWorkedOut}
 use Rattle.bound_rounds.proofs.Cases.{false_true, true_false}

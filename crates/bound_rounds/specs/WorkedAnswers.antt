@@ -1,13 +1,12 @@
 -- What answers tell, which are right, and how many bounds are missing, as it was worked out by hand of the program that
 -- counts down: k(A) -> l(A), and l(A) -> l(A - 1) where A >= 1.
-use Rattle.std.specs.Prelude.{◌≡◌, ℕ, true, false, List, [], ◌∷◌}
+use Rattle.std.specs.Prelude.{◌≡◌, ℕ, true, false, [], ◌∷◌}
 use Rattle.rule_questions.specs.model.Bounds.{Constant}
-use Rattle.rule_questions.specs.proof_nodes.Nodes.{Spot}
 use Rattle.rule_questions.specs.proof_nodes.WorkedSettings.{counting}
 use Rattle.rule_questions.specs.proof_nodes.WorkedReasons.{towering}
 use Rattle.rule_questions.specs.proof_nodes.Worked.{once_node, once_time, entered_member, entered_size, looped_member}
 use Rattle.bound_rounds.specs.Keys.{Bounds, key, time_key}
-use Rattle.bound_rounds.specs.Finds.{Node, RankBy, SpreadBy, CycleBy, bounds_of}
+use Rattle.bound_rounds.specs.Finds.{RankBy, SpreadBy, CycleBy, bounds_of}
 use Rattle.bound_rounds.specs.Searches.{Sizing, SizedBy, Unsized, Missing, Untimed, TooLarge}
 use Rattle.bound_rounds.specs.Answers.{TimeOf, SizesOf, is_open, Found, Lacks, Composes, TellsSizing}
 use Rattle.bound_rounds.specs.Right.{IsRightSizing}

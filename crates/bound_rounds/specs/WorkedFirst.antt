@@ -8,7 +8,7 @@ use Rattle.rule_questions.specs.proof_tree.declared.answer.Trip.{Trip}
 use Rattle.rule_questions.specs.proof_tree.declared.answer.Question.{Question}
 use Rattle.rule_questions.specs.proof_tree.declared.answer.Question.TheVariants as asked
 use Rattle.rule_questions.specs.linear_forms.declared.trip_cause.TripCause.TheVariants as causes
-use Rattle.bound_rounds.specs.Keys.{Bounds, key, time_key}
+use Rattle.bound_rounds.specs.Keys.{key, time_key}
 use Rattle.bound_rounds.specs.Finds.{Find, bounds_of}
 use Rattle.bound_rounds.specs.Searches.{Answers, Emptiness, NoPoint, HasPoint, RankTripped, Sizing, Unsized, Tripped}
 use Rattle.bound_rounds.specs.Searches.{searches_of}
