@@ -134,43 +134,142 @@ gaps_judged = record {
       passed-holds turning turning_forms (gap_of_one [] (pos 1) 1 (pos 0) 0 (pos 1) 1) (
         turning_shape (pos 1) 1 (pos 0) 0 1 (omega arith) (omega arith) (omega arith)
             (omega arith) (omega arith),
-        (no_rows (scaled (pos 1 ∷ []) 1), (no_rows (scaled (pos 0 ∷ []) 0), (free_kept, (refl, (refl, (loses_one 0, tt)))))),
+        (
+          no_rows (scaled (pos 1 ∷ []) 1),
+          (
+            no_rows (scaled (pos 0 ∷ []) 0),
+            (
+              free_kept,
+              (
+                refl,
+                (
+                  refl,
+                  (
+                    loses_one 0,
+                    tt,
+                  ),
+                ),
+              ),
+            ),
+          ),
+        ),
       );
   pairs_hold =
-      passed-holds pairs pairs_forms (gap_over 2 [] pair_move pair_floor pair_move)
-      (pairs_shape, (one_row pair_row pair_move (omega (arith, ints)), (one_row pair_row pair_floor (omega (arith, ints)), (record { denominator = omega (arith, ints); meets = one_row pair_row pair_move (omega (arith, ints)) }, (refl, (refl, (refl, (loses_one 0, tt))))))));
+      passed-holds pairs pairs_forms (gap_over 2 [] pair_move pair_floor pair_move) (
+        pairs_shape,
+        (
+          one_row pair_row pair_move (omega (arith, ints)),
+          (
+            one_row pair_row pair_floor (omega (
+              arith,
+              ints,
+            )),
+            (
+              record {
+                denominator = omega (arith, ints);
+                meets = one_row pair_row pair_move (omega (
+                  arith,
+                  ints,
+                ));
+              },
+              (refl, (refl, (refl, (loses_one 0, tt)))),
+            ),
+          ),
+        ),
+      );
   guessed_holds =
-      passed-holds guessed guessed_forms (gap_of_one place_of_l (pos 1) 1 (pos 1) 0 (pos 1) 1)
-      (guessed_shape place_of_l (pos 1) (pos 1) (pos 1) (omega arith) (omega arith) (omega arith), (met_at_1, (met_along_1, (one_kept, (refl, (loses_one 0, tt))))));
+      passed-holds guessed guessed_forms (gap_of_one place_of_l (pos 1) 1 (pos 1) 0 (pos 1) 1) (
+        guessed_shape place_of_l (pos 1) (pos 1) (pos 1) (omega arith) (omega arith) (omega arith),
+        (
+          met_at_1,
+          (met_along_1, (one_kept, (refl, (loses_one 0, tt)))),
+        ),
+      );
   place_unbalanced =
       inr (
         turning_shape (pos 1) 1 (pos 1) 0 1 (omega arith) (omega arith) (omega arith)
             (omega arith) (omega arith),
-        inr (no_rows (scaled (pos 1 ∷ []) 1), inr (no_rows (scaled (pos 1 ∷ []) 0), inr (free_kept, inr (refl, inl ((λ (e : pos 1 ≡ pos 0). omega (arith, ints, e)), refl, (loses_one 0, tt)))))),
+        inr (
+          no_rows (scaled (pos 1 ∷ []) 1),
+          inr (
+            no_rows (scaled (pos 1 ∷ []) 0),
+            inr (
+              free_kept,
+              inr (
+                refl,
+                inl ((λ (e : pos 1 ≡ pos 0). omega (arith, ints, e)), refl, (loses_one 0, tt)),
+              ),
+            ),
+          ),
+        ),
       );
   constant_unbalanced =
       inr (
         turning_shape (pos 1) 1 (pos 0) 1 1 (omega arith) (omega arith) (omega arith)
             (omega arith) (omega arith),
-        inr (no_rows (scaled (pos 1 ∷ []) 1), inr (no_rows (scaled (pos 0 ∷ []) 1), inr (free_kept, inl ((λ (e : pos 1 ≡ pos 0). omega (arith, ints, e)), refl, (refl, (loses_one 1, tt)))))),
+        inr (
+          no_rows (scaled (pos 1 ∷ []) 1),
+          inr (
+            no_rows (scaled (pos 0 ∷ []) 1),
+            inr (
+              free_kept,
+              inl ((λ (e : pos 1 ≡ pos 0). omega (arith, ints, e)), refl, (refl, (loses_one 1, tt))),
+            ),
+          ),
+        ),
       );
   constant_first =
       inr (
         turning_shape (pos 1) 1 (pos 1) 1 1 (omega arith) (omega arith) (omega arith)
             (omega arith) (omega arith),
-        inr (no_rows (scaled (pos 1 ∷ []) 1), inr (no_rows (scaled (pos 1 ∷ []) 1), inr (free_kept, inl ((λ (e : pos 1 ≡ pos 0). omega (arith, ints, e)), refl)))),
+        inr (
+          no_rows (scaled (pos 1 ∷ []) 1),
+          inr (
+            no_rows (scaled (pos 1 ∷ []) 1),
+            inr (
+              free_kept,
+              inl ((λ (e : pos 1 ≡ pos 0). omega (arith, ints, e)), refl),
+            ),
+          ),
+        ),
       );
   nothing_lost =
       inr (
         turning_shape (pos 0) 0 (pos 0) 0 1 (omega arith) (omega arith) (omega arith)
             (omega arith) (omega arith),
-        inr (no_rows (scaled (pos 0 ∷ []) 0), inr (no_rows (scaled (pos 0 ∷ []) 0), inr (free_kept, inr (refl, inr (refl, inl ((λ h. h (refl, refl)), refl, tt)))))),
+        inr (
+          no_rows (scaled (pos 0 ∷ []) 0),
+          inr (
+            no_rows (scaled (pos 0 ∷ []) 0),
+            inr (
+              free_kept,
+              inr (
+                refl,
+                inr (refl, inl ((λ h. h (refl, refl)), refl, tt)),
+              ),
+            ),
+          ),
+        ),
       );
   ray_kept =
       inr (
         turning_shape (pos 1) 1 (pos 0) 0 0 (omega arith) (omega arith) (omega arith)
             (omega arith) (omega arith),
-        inr (no_rows (scaled (pos 1 ∷ []) 1), inr (no_rows (scaled (pos 0 ∷ []) 0), inl ((λ h. omega (arith, ints, h.denominator)), refl, (refl, (refl, (loses_one 0, tt)))))),
+        inr (
+          no_rows (scaled (pos 1 ∷ []) 1),
+          inr (
+            no_rows (scaled (pos 0 ∷ []) 0),
+            inl (
+              (λ h. omega (
+                arith,
+                ints,
+                h.denominator,
+              )),
+              refl,
+              (refl, (refl, (loses_one 0, tt))),
+            ),
+          ),
+        ),
       );
   past_the_limit =
       inl ((λ h. past (All-head (λ (x : ℤ). nat_abs x ≤ point_limit) (pos (2 ^ 45 + 1)) [] (h.moves 2 refl).parts_limit)), refl, (no_rows (scaled (pos (2 ^ 45 + 1) ∷ []) 1), (no_rows (scaled (pos 0 ∷ []) 0), (free_kept, (refl, (refl, (loses_one 0, tt)))))));
@@ -178,18 +277,100 @@ gaps_judged = record {
       passed-holds turning turning_forms (gap_of_one [] (pos (2 ^ 45)) 1 (pos 0) 0 (pos 1) 1) (
         turning_shape (pos (2 ^ 45)) 1 (pos 0) 0 1 (omega arith) (omega arith) (omega arith)
             (omega arith) (omega arith),
-        (no_rows (scaled (pos (2 ^ 45) ∷ []) 1), (no_rows (scaled (pos 0 ∷ []) 0), (free_kept, (refl, (refl, (loses_one 0, tt)))))),
+        (
+          no_rows (scaled (pos (2 ^ 45) ∷ []) 1),
+          (
+            no_rows (scaled (pos 0 ∷ []) 0),
+            (
+              free_kept,
+              (
+                refl,
+                (
+                  refl,
+                  (loses_one 0, tt),
+                ),
+              ),
+            ),
+          ),
+        ),
       );
   other_set =
       inl ((λ h. differ h.inside), refl);
   move_off =
-      inr (guessed_shape place_of_l (pos 0) (pos 1) (pos 1) (omega arith) (omega arith) (omega arith), inl ((λ h. omega (arith, ints, row_met row (scaled (pos 0 ∷ []) 1) h)), refl, (met_along_1, (one_kept, (refl, (loses_one 0, tt))))));
+      inr (
+        guessed_shape place_of_l (pos 0) (pos 1) (pos 1) (omega arith) (omega arith) (omega arith),
+        inl (
+          (λ h. omega (arith, ints, row_met row (scaled (pos 0 ∷ []) 1) h)),
+          refl,
+          (
+            met_along_1,
+            (
+              one_kept,
+              (
+                refl,
+                (loses_one 0, tt),
+              ),
+            ),
+          ),
+        ),
+      );
   floor_off =
-      inr (guessed_shape place_of_l (pos 1) (negsuc 0) (pos 1) (omega arith) (omega arith) (omega arith), inr (met_at_1, inl ((λ h. omega (arith, ints, row_met row (scaled (negsuc 0 ∷ []) 0) h)), refl, (one_kept, (refl, (loses_one 0, tt))))));
+      inr (
+        guessed_shape place_of_l (pos 1) (negsuc 0) (pos 1) (omega arith) (omega arith) (omega arith),
+        inr (
+          met_at_1,
+          inl (
+            (λ h. omega (arith, ints, row_met row (scaled (negsuc 0 ∷ []) 0) h)),
+            refl,
+            (
+              one_kept,
+              (refl, (loses_one 0, tt)),
+            ),
+          ),
+        ),
+      );
   move_first =
-      inr (guessed_shape place_of_l (pos 0) (negsuc 0) (pos 1) (omega arith) (omega arith) (omega arith), inl ((λ h. omega (arith, ints, row_met row (scaled (pos 0 ∷ []) 1) h)), refl));
+      inr (
+        guessed_shape place_of_l (pos 0) (negsuc 0) (pos 1) (omega arith) (omega arith) (omega arith),
+        inl ((λ h. omega (arith, ints, row_met row (scaled (pos 0 ∷ []) 1) h)), refl),
+      );
   kept_off =
-      inr (guessed_shape place_of_l (pos 1) (pos 1) (pos 0) (omega arith) (omega arith) (omega arith), inr (met_at_1, inr (met_along_1, inl ((λ h. omega (arith, ints, row_met row (scaled (pos 0 ∷ []) 1) h.meets)), refl, (refl, (loses_one 0, tt))))));
+      inr (
+        guessed_shape place_of_l (pos 1) (pos 1) (pos 0) (omega arith) (omega arith) (omega arith),
+        inr (
+          met_at_1,
+          inr (
+            met_along_1,
+            inl (
+              (λ h. omega (arith, ints, row_met row (scaled (pos 0 ∷ []) 1) h.meets)),
+              refl,
+              (
+                refl,
+                (loses_one 0, tt),
+              ),
+            ),
+          ),
+        ),
+      );
   not_shut =
-      inr (guessed_shape [] (pos 1) (pos 1) (pos 1) (omega arith) (omega arith) (omega arith), inr (met_at_1, inr (met_along_1, inr (one_kept, inr (refl, inl ((λ (e : pos 2 ≡ pos 0). omega (arith, ints, e)), refl, (loses_one 0, tt)))))));
+      inr (
+        guessed_shape [] (pos 1) (pos 1) (pos 1) (omega arith) (omega arith) (omega arith),
+        inr (
+          met_at_1,
+          inr (
+            met_along_1,
+            inr (
+              one_kept,
+              inr (
+                refl,
+                inl (
+                  (λ (e : pos 2 ≡ pos 0). omega (arith, ints, e)),
+                  refl,
+                  (loses_one 0, tt),
+                ),
+              ),
+            ),
+          ),
+        ),
+      );
 }

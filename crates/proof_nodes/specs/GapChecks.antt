@@ -15,9 +15,9 @@ use Rattle.proof_nodes.specs.Numbers.{IsAscending}
 use Rattle.proof_nodes.specs.Reasons.{CheckOf, check, for_each}
 
 -- why a gap isn't accepted, in the words of the proof text and in their order: wrong lengths, a wrong set or numbers
--- past the limit; the move of a rule that isn't a point or a ray of its rows; nor is the floor; the kept point of a rule
--- that isn't a point of its rows; the balance of a place of a symbol, where place 0 is its constant; and nothing is
--- lost, since neither the strict rule's move nor the floor has a denominator
+-- past the limit; the move of a rule that isn't a point or a ray of its rows; a floor that isn't; the kept point of a
+-- rule that isn't a point of its rows; the balance of a place of a symbol, where place 0 is its constant; and nothing
+-- is lost, since neither the strict rule's move nor the floor has a denominator
 pub data GapFault : Type 0 where
   WrongShape : GapFault
   MoveOff : ℕ → GapFault
@@ -38,9 +38,9 @@ point_of [] zs t = record { parts = []; den = 0 }
 point_of (u ∷ set) [] t = record { parts = []; den = 0 }
 point_of (u ∷ set) (z ∷ zs) t = cond (u == t) z (point_of set zs t)
 
--- what has to be right before anything else: the set is ascending, has only numbers of rules and holds the strict rule;
--- there is one move and one kept point for each rule of the set; and each point has a part for each unknown of its rule,
--- and numbers within the limit
+-- what has to be right before anything else: the set is ascending, has only numbers of rules and holds the strict
+-- rule; there is one move and one kept point for each rule of the set; and each point has a part for each unknown of
+-- its rule, and numbers within the limit
 pub record HasGapShape (p : Program) (rule : ℕ → RuleForms) (g : Gap) : Type 0 where
   pub ascending : IsAscending g.set
   pub rules : (t : ℕ) → is_in t g.set ≡ true → IsRule p t
@@ -70,13 +70,13 @@ net rule c (t ∷ ts) [] = pos 0
 net rule c (t ∷ ts) (z ∷ zs) =
     (value_at (at_source (rule t) c) z -ℤ value_at (at_target (rule t) c) z) +ℤ net rule c ts zs
 
--- the balance of a place of a symbol: what leaves it by the moves, less what arrives there, and what the floor has there
--- where the strict rule leaves the symbol
+-- the balance of a place of a symbol: what leaves it by the moves, less what arrives there, and what the floor has
+-- there where the strict rule leaves the symbol
 abbrev pub balance : (ℕ → RuleForms) → Gap → Coefficient → ℤ
 balance rule g c = net rule c g.set g.moves +ℤ value_at (at_source (rule g.rule) c) g.floor
 
--- the places of symbols that have a balance: for each symbol first its constant, place 0, and then each place that isn't
--- shut
+-- the places of symbols that have a balance: for each symbol first its constant, place 0, and then each place that
+-- isn't shut
 abbrev pub balanced_at : Program → Gap → List ℕ → List Coefficient
 balanced_at p g [] = []
 balanced_at p g (s ∷ ss) =

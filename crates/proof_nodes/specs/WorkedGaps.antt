@@ -123,8 +123,8 @@ abbrev pub place_of_l : List SymbolPlace
 place_of_l = record { symbol = 1; place = 1 } ∷ []
 
 -- the gaps of three programs hold. Of the first one a floor that moves leaves the place unbalanced, a floor with a
--- denominator the constant, and a floor with both the constant first; with a move that is nothing nothing is lost; a kept
--- ray isn't kept; and a number past the limit is a wrong shape, as a set without the rule is. Of a rule with a row a
+-- denominator the constant, and a floor with both the constant first; with a move that is nothing nothing is lost; a
+-- kept ray isn't kept; and a number past the limit is a wrong shape, as a set without the rule is. Of a rule with a row a
 -- move, a floor and a kept point off it are told, the move before the floor; and where its place isn't shut it isn't
 -- balanced
 pub record GapsAreJudged : Type 0 where
@@ -157,7 +157,8 @@ pub record GapsAreJudged : Type 0 where
   pub floor_off :
       FailsAlone (gap_checks guessed guessed_forms (gap_of_one place_of_l (pos 1) 1 (negsuc 0) 0 (pos 1) 1)) FloorOff
   pub move_first :
-      IsFirstAmong (gap_checks guessed guessed_forms (gap_of_one place_of_l (pos 0) 1 (negsuc 0) 0 (pos 1) 1)) (MoveOff 2)
+      IsFirstAmong (gap_checks guessed guessed_forms (gap_of_one place_of_l (pos 0) 1 (negsuc 0) 0 (pos 1) 1))
+      (MoveOff 2)
   pub kept_off :
       FailsAlone (gap_checks guessed guessed_forms (gap_of_one place_of_l (pos 1) 1 (pos 1) 0 (pos 0) 1)) (NotKept 2)
   pub not_shut :
