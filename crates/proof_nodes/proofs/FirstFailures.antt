@@ -1,6 +1,7 @@
 -- The first element of a list that fails: there is one at most, and none exactly where all pass.
-use Rattle.std.proofs.Common.{◌≡◌, ℕ, suc, List, [], ◌∷◌, ◌++◌, length, refl, sym, ◌∙◌, ap, subst}
+use Rattle.std.proofs.Common.{◌≡◌, ℕ, suc, ◌+◌, List, [], ◌∷◌, ◌++◌, length, refl, sym, ◌∙◌, ap, subst, arith}
 use Rattle.std.specs.List.{AllByRecursion}
+use Rattle.std.proofs.lemmas.List.{append_assoc}
 use Rattle.std.proofs.lemmas.List.Elements.{All-nil, All-cons, recursion_from_All}
 use Rattle.proof_nodes.specs.Refusals.{FailsFirst}
 
@@ -57,6 +58,29 @@ module _ {A R : Type 0} (Passes : A → Type 0) (Fails : A → R → Type 0) whe
     whole = ap (λ (ys : List A). x ∷ ys) k.whole;
     number = ap (λ (i : ℕ). suc i) k.number;
     passed = All-cons Passes x k.before h k.passed;
+    fails = k.fails;
+  }
+
+  -- behind elements that all pass
+  pub first-after : (xs ys : List A) (n : ℕ) (r : R) → AllByRecursion Passes xs → FailsFirst Passes Fails ys n r
+      → FailsFirst Passes Fails (xs ++ ys) (length xs + n) r
+  first-after [] ys n r h k =
+      let count : n ≡ 0 + n = omega arith in subst (λ (m : ℕ). FailsFirst Passes Fails ys m r) count k
+  first-after (x ∷ xs) ys n r h k =
+      let count : suc (length xs + n) ≡ suc (length xs) + n = omega arith in
+      subst (λ (m : ℕ). FailsFirst Passes Fails (x ∷ xs ++ ys) m r) count
+      (first-behind x (xs ++ ys) (length xs + n) r h.0 (first-after xs ys n r h.1 k))
+
+  -- and before any others
+  pub first-before : (xs ys : List A) (n : ℕ) (r : R) → FailsFirst Passes Fails xs n r
+      → FailsFirst Passes Fails (xs ++ ys) n r
+  first-before xs ys n r k = record {
+    before = k.before;
+    at = k.at;
+    behind = k.behind ++ ys;
+    whole = ap (λ (zs : List A). zs ++ ys) k.whole ∙ append_assoc k.before (k.at ∷ k.behind) ys;
+    number = k.number;
+    passed = k.passed;
     fails = k.fails;
   }
 
