@@ -1,5 +1,6 @@
--- What is found before the first round, and answers that are right, as they were worked out by hand: of k(A) -> l(A), and
--- m(A) -> m(A), which is never reached; and of k(A) -> l(A), and l(A) -> l(A - 1), where rule 1 is told to be empty.
+-- What is found before the first round, and answers that are right, as they were worked out by hand: of k(A) -> l(A),
+-- and m(A) -> m(A), which is never reached; and of k(A) -> l(A), and l(A) -> l(A - 1), where rule 1 is told to be
+-- empty.
 use Rattle.std.specs.Prelude.{◌≡◌, ℕ, zero, suc, List, [], ◌∷◌, Some, None}
 use Rattle.rule_questions.specs.model.Bounds.{Constant}
 use Rattle.rule_questions.specs.proof_nodes.Nodes.{Spot}
@@ -59,11 +60,12 @@ cut_off = record {
 -- its time; that of rule 2, which no other rule reaches; and then the sizes after both
 abbrev pub four_finds : List Find
 four_finds =
-    empty_find 1 [] ∷ unreached_find (time_key 1 ∷ []) 2 ∷ never_find counting.program 1 ∷ never_find counting.program 2 ∷ []
+    empty_find 1 [] ∷ unreached_find (time_key 1 ∷ []) 2 ∷
+    never_find counting.program 1 ∷ never_find counting.program 2 ∷ []
 
--- before the first round rule 2 is known to be 0, and so is the size after it, by these two finds in this order, and by no
--- more and no fewer; where nothing else is found they are the last. Where rule 1 is empty and rule 2 unreached without it,
--- the times come first, and the second rests on the first
+-- before the first round rule 2 is known to be 0, and so is the size after it, by these two finds in this order, and by
+-- no more and no fewer; where nothing else is found they are the last. Where rule 1 is empty and rule 2 unreached
+-- without it, the times come first, and the second rests on the first
 pub record FirstFindsAreWorkedOut : Type 0 where
   pub first : AreFirst (searches_of all_trips) apart.program two_finds
   pub zero_time : bounds_of apart.program two_finds 2 0 ≡ Some (Constant 0)

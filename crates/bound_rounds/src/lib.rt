@@ -49,8 +49,8 @@ pub fn last_finds_are_one()
     ensures { LastFindsAreOne }
 {}
 
-/// There are first finds; where the components are those of the places of live rules, there is a round over all finds, and
-/// there are last ones.
+/// There are first finds; where the components are those of the places of live rules, there is a round over all finds,
+/// and there are last ones.
 pub fn last_finds_exist()
     ensures { LastFindsExist }
 {}
@@ -95,8 +95,8 @@ pub fn rounds_are_as_worked_out()
     ensures reasons { ReasonsAreWorkedOut }
 {}
 
-/// What answers of the program that counts down tell, which sizes are right, and how many bounds are missing, is what was
-/// worked out by hand.
+/// What answers of the program that counts down tell, which sizes are right, and how many bounds are missing, is what
+/// was worked out by hand.
 pub fn answers_are_as_worked_out()
     ensures answers { AnswersAreWorkedOut }
     ensures sizes { RightSizesAreWorkedOut }
