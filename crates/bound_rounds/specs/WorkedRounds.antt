@@ -11,7 +11,7 @@ use Rattle.bound_rounds.specs.Searches.{Answers, HasPoint, Ranking, Ranked, Unra
 use Rattle.bound_rounds.specs.Searches.{NoFunction, Missing, Untimed, TooLarge, searches_of}
 use Rattle.bound_rounds.specs.Components.{AreComponentsOf}
 use Rattle.bound_rounds.specs.Beginning.{AreFirst}
-use Rattle.bound_rounds.specs.Rounds.{IsRound, IsClosed, IsLast, IsNoBound}
+use Rattle.bound_rounds.specs.Rounds.{IsRound, IsMade, IsClosed, IsLast, IsNoBound}
 use Rattle.bound_rounds.specs.WorkedFinds.{once_find, entered_find, looped_find, alone_time}
 use Rattle.bound_rounds.specs.WorkedStanding.{ranked_find}
 
@@ -104,6 +104,7 @@ pub record FirstRoundIsWorkedOut : Type 0 where
       (first_time ∷ second_time ∷ entered_find ∷ looped_find ∷ [])
   pub last : IsLast (searches_of value_where_open) counting
       (first_time ∷ second_time ∷ entered_find ∷ looped_find ∷ [])
+  pub not_made : ¬ (IsMade (searches_of value_where_open) counting (once_find ∷ []))
   pub not_last_at_first : ¬ (IsLast (searches_of value_where_open) counting [])
   pub not_too_many : ¬ (IsRound (searches_of value_where_open) counting []
       (first_time ∷ second_time ∷ entered_find ∷ looped_find ∷ looped_find ∷ []))
@@ -138,6 +139,10 @@ pub record ReasonsAreWorkedOut : Type 0 where
   pub not_lacking : ¬ (AreComponentsOf (searches_of nothing_ranks) counting.program ((key 1 1 ∷ []) ∷ []))
   pub not_twice : ¬ (AreComponentsOf (searches_of nothing_ranks) counting.program
       ((key 1 1 ∷ []) ∷ (key 1 1 ∷ []) ∷ (key 2 1 ∷ []) ∷ []))
+  pub not_descending : ¬ (AreComponentsOf (searches_of nothing_ranks) counting.program
+      ((key 2 1 ∷ key 1 1 ∷ []) ∷ []))
+  pub not_of_entry : ¬ (AreComponentsOf (searches_of nothing_ranks) counting.program
+      ((key 0 1 ∷ []) ∷ (key 1 1 ∷ []) ∷ (key 2 1 ∷ []) ∷ []))
   pub last : IsLast (searches_of nothing_ranks) counting []
   pub first_time : IsNoBound (searches_of nothing_ranks) counting [] 1 0 (NoFunction (gap_over (1 ∷ []) 1 []))
   pub second_time : IsNoBound (searches_of nothing_ranks) counting [] 2 0 (NoFunction (gap_over (1 ∷ 2 ∷ []) 2 []))

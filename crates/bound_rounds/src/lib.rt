@@ -11,6 +11,7 @@ ghost use Rattle.bound_rounds.specs.WorkedFinds.{LemmasAreWorkedOut};
 ghost use Rattle.bound_rounds.specs.WorkedSets.{SetsOfCounting, ShutOfCounting};
 ghost use Rattle.bound_rounds.specs.WorkedStanding.{StandingIsWorkedOut};
 ghost use Rattle.bound_rounds.specs.WorkedFirst.{FirstFindsAreWorkedOut, RightAnswersAreWorkedOut};
+ghost use Rattle.bound_rounds.specs.WorkedFirst.{RightRankingsAreWorkedOut};
 ghost use Rattle.bound_rounds.specs.WorkedRounds.{FirstRoundIsWorkedOut, LaterRoundsAreWorkedOut, ReasonsAreWorkedOut};
 ghost use Rattle.bound_rounds.specs.WorkedAnswers.{AnswersAreWorkedOut, RightSizesAreWorkedOut, MissingIsWorkedOut};
 
@@ -85,6 +86,7 @@ pub fn standing_is_as_worked_out()
 pub fn first_finds_are_as_worked_out()
     ensures first { FirstFindsAreWorkedOut }
     ensures right { RightAnswersAreWorkedOut }
+    ensures rankings { RightRankingsAreWorkedOut }
 {}
 
 /// The rounds of that program, from nothing and from the time of its first rule, and why bounds are missing where
