@@ -1,5 +1,6 @@
 -- Where answers are one, so is the last list of finds, and so is the reason of each bound that is missing.
-use Rattle.std.proofs.Common.{◌≡◌, inl, inr, ℕ, suc, ◌==◌, ◌&&◌, ◌||◌, Bool, true, false, List, [], ◌∷◌, ◌++◌, refl, sym, ◌∙◌}
+use Rattle.std.proofs.Common.{◌≡◌, ◌⊎◌, inl, inr, ℕ, zero, suc, ◌==◌, ◌&&◌, ◌||◌, Bool, true, false, List, [], ◌∷◌, ◌++◌}
+use Rattle.std.proofs.Common.{refl, sym, ◌∙◌}
 use Rattle.std.proofs.Common.{ap, subst, arith}
 use Rattle.std.proofs.lemmas.Bool.{and_parts}
 use Rattle.rule_questions.proofs.model.Membership.{told_same, no_is_not_yes}
@@ -17,7 +18,7 @@ use Rattle.bound_rounds.specs.Laws.{LastFindsAreOne}
 use Rattle.bound_rounds.proofs.WholeFinds.{member_covered}
 use Rattle.bound_rounds.proofs.FirstIsOne.{first_one}
 use Rattle.bound_rounds.proofs.RoundIsOne.{tells_one, round_one}
-use Rattle.bound_rounds.proofs.LastIsOne.{IsAfter, last_after_one}
+use Rattle.bound_rounds.proofs.LastIsOne.{IsAfter, after_last, last_after_one}
 
 -- searches that are functions have one answer to each question
 pub answers_one : (a : Answers) → AreOne (searches_of a)
@@ -75,6 +76,20 @@ module _ (q : Searches) (one : AreOne q) (s : Setting) where
   made_after fs (Begun h) = (0, h)
   made_after fs (Made {fs = old} {more = more} m r) =
       let before = made_after old m in (suc before.0, (old, before.1, (more, r, refl)))
+
+  -- after a first round to the last ones finds are the first ones or those
+  pub made_of_two : (first last : List Find) → AreFirst q s.program first → IsRound q s first last → IsRound q s
+      (first ++ last) [] → (fs : List Find) → IsMade q s fs → (fs ≡ first) ⊎ (fs ≡ first ++ last)
+  made_of_two first last begins round closed fs made =
+      let after = made_after fs made in by after.0 after.1
+    where
+      by : (n : ℕ) → IsAfter (AreFirst q s.program) Follows begin_one next_one n fs
+          → (fs ≡ first) ⊎ (fs ≡ first ++ last)
+      by zero h = inl (begin_one fs first h begins)
+      by (suc n) h =
+          inr (after_last (AreFirst q s.program) Follows begin_one next_one 1 (first ++ last)
+          (first, begins, (last, round, refl)) ([], closed, sym (append-none (first ++ last))) n (suc n)
+          (omega arith) fs h)
 
   -- the last finds are one list
   pub last_one : (x y : List Find) → IsLast q s x → IsLast q s y → x ≡ y

@@ -16,7 +16,7 @@ module _ {A : Type 0} (Begins : A → Type 0) (Follows : A → A → Type 0) (be
       next_one k.0 a b (subst (λ (c : A). Follows c a) before h.2) k.2
 
   -- after one that is its own next all are that one
-  after_last : (n : ℕ) (a : A) → IsAfter n a → Follows a a → (k m : ℕ) → m ≡ k + n → (b : A) → IsAfter m b
+  pub after_last : (n : ℕ) (a : A) → IsAfter n a → Follows a a → (k m : ℕ) → m ≡ k + n → (b : A) → IsAfter m b
       → b ≡ a
   after_last n a h closed zero m e b there =
       let same : m ≡ n = omega (arith, e) in

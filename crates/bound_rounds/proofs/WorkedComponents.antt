@@ -2,13 +2,14 @@
 use Rattle.std.proofs.Common.{◌≡◌, inl, inr, ℕ, suc, zero, ◌==◌, ◌&&◌, ◌||◌, Bool, not, true, false, List, []}
 use Rattle.std.proofs.Common.{◌∷◌, Some, None, refl, sym, ap, subst, arith}
 use Rattle.std.proofs.lemmas.Bool.{and_parts}
-use Rattle.std.proofs.lemmas.List.Elements.{All-nil, All-cons}
+use Rattle.std.proofs.lemmas.List.Elements.{All-nil, All-cons, All-head}
 use Rattle.rule_questions.specs.model.Programs.{Rule}
 use Rattle.rule_questions.specs.model.Paths.{Here, Onward, IsReached}
 use Rattle.rule_questions.proofs.model.Membership.{told_same, no_is_not_yes}
 use Rattle.rule_questions.specs.proof_nodes.Gaps.{SymbolPlace}
 use Rattle.rule_questions.specs.proof_nodes.Nodes.{Spot}
 use Rattle.rule_questions.specs.proof_nodes.AcceptsPlain.{IsRule}
+use Rattle.rule_questions.specs.proof_nodes.AcceptsSizes.{ComesBefore}
 use Rattle.rule_questions.specs.proof_nodes.WorkedSettings.{counting, enter, count_down}
 use Rattle.bound_rounds.specs.Keys.{IsPlace, key, has_key}
 use Rattle.bound_rounds.specs.Searches.{searches_of, NoPoint, Ranking}
@@ -169,3 +170,16 @@ module _ (rank : List ℕ → ℕ → List SymbolPlace → Ranking) (cs : List (
   pub not_twice : AreComponentsOf (searches_of (answers_with rank cs)) counting.program
       ((key 1 1 ∷ []) ∷ (key 1 1 ∷ []) ∷ (key 2 1 ∷ []) ∷ []) → ⊥
   not_twice h = h.apart.0 1 1 refl (inl refl)
+
+  -- nor one whose members descend, nor one with a place after the virtual entry
+  pub not_descending : AreComponentsOf (searches_of (answers_with rank cs)) counting.program
+      ((key 2 1 ∷ key 1 1 ∷ []) ∷ []) → ⊥
+  not_descending h = turned_round (All-head AreSpotsAscending (key 2 1 ∷ key 1 1 ∷ []) [] h.ascending).0
+    where
+      turned_round : ComesBefore (key 2 1) (key 1 1) → ⊥
+      turned_round (inl l) = omega (arith, l)
+      turned_round (inr l) = let same = l.0 in omega (arith, same)
+
+  pub not_of_entry : AreComponentsOf (searches_of (answers_with rank cs)) counting.program
+      ((key 0 1 ∷ []) ∷ (key 1 1 ∷ []) ∷ (key 2 1 ∷ []) ∷ []) → ⊥
+  not_of_entry h = no_rule_0 ((h.live 0 1).0 (inl refl)).0

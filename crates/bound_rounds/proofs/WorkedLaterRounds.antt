@@ -23,27 +23,31 @@ use Rattle.bound_rounds.proofs.WorkedRounds.{looped_answer}
 abbrev by_turned : Searches
 by_turned = searches_of value_turned
 
+-- the same with any components
+abbrev by_open : List (List Spot) → Searches
+by_open cs = searches_of (answers_with ranks_open cs)
+
 -- rule 2 alone isn't ranked while its place is shut
 abbrev shut_answer : Answer
 shut_answer = Lacks (NoFunction (gap_over (2 ∷ []) 2 (place 1 1 ∷ [])))
 
-shut_tells : (cs : List (List Spot)) → TellsTime (searches_of (answers_with ranks_open cs)) counting once_known 2 shut_answer
+shut_tells : (cs : List (List Spot)) → TellsTime (by_open cs) counting once_known 2 shut_answer
 shut_tells cs =
     told_time ranks_open cs once_known 2 (2 ∷ []) (place 1 1 ∷ []) (alone_set once_known refl refl)
     (one_shut once_known refl) shut_answer refl
 
 -- so no time is found
-times_of_round : (cs : List (List Spot)) → TriesAll (searches_of (answers_with ranks_open cs)) counting Together (once_find ∷ [])
+times_of_round : (cs : List (List Spot)) → TriesAll (by_open cs) counting Together (once_find ∷ [])
     (TimeOf 1 ∷ TimeOf 2 ∷ []) []
 times_of_round cs = (
   [],
-  known_tries (searches_of (answers_with ranks_open cs)) counting (once_find ∷ []) (TimeOf 1) refl,
+  known_tries (by_open cs) counting (once_find ∷ []) (TimeOf 1) refl,
   (
     [],
     refl,
     (
       [],
-      tells_tries (searches_of (answers_with ranks_open cs)) counting (once_find ∷ []) (TimeOf 2) shut_answer refl (shut_tells cs),
+      tells_tries (by_open cs) counting (once_find ∷ []) (TimeOf 2) shut_answer refl (shut_tells cs),
       ([], refl, refl),
     ),
   ),
@@ -140,7 +144,8 @@ time = record {
   sizes = [];
   sized = (
     [],
-    known_tries by_value counting (once_find ∷ entered_find ∷ looped_find ∷ later_time ∷ []) (SizesOf (key 1 1 ∷ [])) refl,
+    known_tries by_value counting (once_find ∷ entered_find ∷ looped_find ∷ later_time ∷ [])
+        (SizesOf (key 1 1 ∷ [])) refl,
     (
       [],
       refl,

@@ -125,6 +125,8 @@ reasons_told = record {
   components = parts.components never_ranks alone;
   not_lacking = parts.not_lacking never_ranks alone;
   not_twice = parts.not_twice never_ranks alone;
+  not_descending = parts.not_descending never_ranks alone;
+  not_of_entry = parts.not_of_entry never_ranks alone;
   last = record { made = Begun (nothing_first never_ranks alone); closed = closed };
   first_time = record { missing = refl; target = TimeOf 1; asked = parts.rule_1; has = refl; tells = first_tells };
   second_time = second_time;

@@ -14,12 +14,17 @@ use Rattle.rule_questions.specs.proof_nodes.WorkedSettings.{apart, counting}
 use Rattle.rule_questions.specs.proof_tree.declared.answer.Trip.{Trip}
 use Rattle.rule_questions.specs.proof_tree.declared.answer.Question.{Question}
 use Rattle.rule_questions.specs.proof_tree.declared.answer.Question.TheVariants as asked
+use Rattle.rule_questions.specs.proof_nodes.Worked.{alone_node}
+use Rattle.rule_questions.proofs.proof_nodes.WorkedAccepted.{alone_accepted}
+use Rattle.std.proofs.Common.{length, ap}
 use Rattle.bound_rounds.specs.Keys.{Bounds}
 use Rattle.bound_rounds.specs.Searches.{searches_of, Emptiness, NoPoint, HasPoint, EmptyTripped, Ranking, RankTripped}
 use Rattle.bound_rounds.specs.Searches.{Sizing}
 use Rattle.bound_rounds.specs.Answers.{are_open}
 use Rattle.bound_rounds.specs.Components.{AreComponentsOf}
+use Rattle.bound_rounds.specs.Right.{ReadsNoShut, EmptyTrips, IsFirstTrip}
 use Rattle.bound_rounds.specs.Right.{AreRight, IsRightEmptiness, IsRightRanking, IsRightSizing, IsQuestion}
+use Rattle.bound_rounds.specs.WorkedFirst.{none_told, RightRankingsAreWorkedOut}
 use Rattle.bound_rounds.specs.WorkedFirst.{trip, trips_as, all_trips, cut_off, RightAnswersAreWorkedOut}
 use Rattle.bound_rounds.proofs.Cases.{false_true}
 use Rattle.bound_rounds.proofs.Keys.{has_key-first}
@@ -87,3 +92,45 @@ not_empty h =
 
 pub right_told : RightAnswersAreWorkedOut
 right_told = record { right = right; not_another = not_another; not_empty = not_empty }
+
+-- the function that ranks rule 2 over itself alone reads the place of l
+reads_place : ReadsNoShut alone_node (record { symbol = 1; place = 1 } ∷ []) → ⊥
+reads_place h = let e : pos 1 ≡ pos 0 = h 1 0 refl in omega (arith, ints, e)
+
+trip_of_none : (t : ℕ) → EmptyTrips (searches_of all_trips) t → ⊥
+trip_of_none t h = none h.1
+  where
+    none : {x : Trip} → HasPoint (record { parts = []; den = 1 }) ≡ EmptyTripped x → ⊥
+    none e = cc
+
+trips_one : (x y : Trip) → EmptyTripped x ≡ EmptyTripped y → x ≡ y
+trips_one x y e = cc
+
+second_trip : IsFirstTrip (searches_of none_told) (1 ∷ 2 ∷ []) (trip (asked.Empty 2)) → ⊥
+second_trip (inl e) = other e
+  where
+    other : EmptyTripped (trip (asked.Empty 1)) ≡ EmptyTripped (trip (asked.Empty 2)) → ⊥
+    other same =
+        let questions : ◌≡◌ {A = Question} (asked.Empty 1) (asked.Empty 2) =
+        ap (λ (x : Trip). x.question) (trips_one (trip (asked.Empty 1)) (trip (asked.Empty 2)) same) in
+        let numbers : ◌≡◌ {A = ℕ} 1 2 = cc in omega (arith, numbers)
+second_trip (inr h) = h.0 (trip (asked.Empty 1), refl)
+
+pub rankings_told : RightRankingsAreWorkedOut
+rankings_told = record {
+  ranks = record {
+    rule = refl;
+    same_set = refl;
+    shape = alone_accepted.1.shape;
+    moves = alone_accepted.1.moves;
+    floor = alone_accepted.1.floor;
+    reads = λ a j m. absurd (false_true m);
+  };
+  not_other_set = λ h. let n : ◌≡◌ {A = ℕ} 1 2 = ap length h.same_set in omega (arith, n);
+  not_other_rule = λ h. let n : ◌≡◌ {A = ℕ} 2 1 = h.rule in omega (arith, n);
+  not_shut = λ h. reads_place h.reads;
+  first_trip = inl refl;
+  not_second_trip = second_trip;
+  none_trips = λ u m. trip_of_none u;
+  some_trip = λ h. h 1 refl (trip (asked.Empty 1), refl);
+}

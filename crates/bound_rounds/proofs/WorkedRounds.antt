@@ -1,5 +1,5 @@
 -- Rounds of the program that counts down.
-use Rattle.std.proofs.Common.{◌≡◌, inr, ℕ, true, false, List, [], ◌∷◌, ◌++◌, length, map}
+use Rattle.std.proofs.Common.{◌≡◌, ◌⊎◌, inl, inr, ℕ, true, false, List, [], ◌∷◌, ◌++◌, length, map}
 use Rattle.std.proofs.Common.{refl, sym, ◌∙◌, ap, subst, arith}
 use Rattle.rule_questions.specs.proof_nodes.Gaps.{SymbolPlace}
 use Rattle.rule_questions.specs.proof_nodes.Nodes.{Spot}
@@ -24,7 +24,7 @@ use Rattle.bound_rounds.specs.WorkedRounds.{FirstRoundIsWorkedOut}
 use Rattle.bound_rounds.proofs.Cases.{false_true}
 use Rattle.bound_rounds.proofs.FirstIsOne.{first_one}
 use Rattle.bound_rounds.proofs.RoundIsOne.{round_one}
-use Rattle.bound_rounds.proofs.FindsAreOne.{answers_one}
+use Rattle.bound_rounds.proofs.FindsAreOne.{answers_one, made_of_two}
 use Rattle.bound_rounds.proofs.WorkedSets.{first as first_set, second as second_set}
 use Rattle.bound_rounds.proofs.WorkedShut.{none_shut, none_shut_first, open_places}
 use Rattle.bound_rounds.proofs.WorkedComponents as parts
@@ -201,6 +201,8 @@ first_round = record {
     made = Made (Begun (nothing_first ranks_open alone)) round;
     closed = closed_by four refl refl refl refl refl;
   };
+  not_made = λ h. made (made_of_two by_value (answers_one value_where_open) counting [] four
+      (nothing_first ranks_open alone) round (closed_by four refl refl refl refl refl) (once_find ∷ []) h);
   not_last_at_first = λ h. nothing (other [] h.closed);
   not_too_many = λ h. many (other (first_time ∷ second_time ∷ entered_find ∷ looped_find ∷ looped_find ∷ []) h);
   not_too_few = λ h. few (other (first_time ∷ second_time ∷ entered_find ∷ []) h);
@@ -214,6 +216,10 @@ first_round = record {
         let same = first_one by_value (answers_one value_where_open) counting.program (once_find ∷ []) [] h
         (nothing_first ranks_open alone) in
         let n : ◌≡◌ {A = ℕ} 1 0 = lengths (once_find ∷ []) [] same in omega (arith, n)
+
+    made : (once_find ∷ [] ≡ []) ⊎ (once_find ∷ [] ≡ four) → ⊥
+    made (inl e) = let n : ◌≡◌ {A = ℕ} 1 0 = ap length e in omega (arith, n)
+    made (inr e) = let n : ◌≡◌ {A = ℕ} 1 4 = ap length e in omega (arith, n)
 
     nothing : [] ≡ four → ⊥
     nothing e = let n : ◌≡◌ {A = ℕ} 0 4 = lengths [] four e in omega (arith, n)

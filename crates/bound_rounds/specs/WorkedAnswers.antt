@@ -14,9 +14,9 @@ use Rattle.bound_rounds.specs.Laws.{missing, AreUniform}
 use Rattle.bound_rounds.specs.WorkedFinds.{seven}
 use Rattle.bound_rounds.specs.WorkedSets.{nothing_known, once_known, entered_known}
 
--- something is asked for where one of its bounds is missing, and not where all are known, or where it is nothing. A node
--- tells the bound that it composes, with exactly what it needs; where this bound is large, that alone, with how many nodes
--- it has
+-- something is asked for where one of its bounds is missing, and not where all are known, or where it is nothing. A
+-- node tells the bound that it composes, with exactly what it needs; where this bound is large, that alone, with how
+-- many nodes it has
 pub record AnswersAreWorkedOut : Type 0 where
   pub asked : is_open once_known (SizesOf (time_key 1 ∷ key 1 1 ∷ [])) ≡ true
   pub time_asked : is_open once_known (TimeOf 2) ≡ true
@@ -51,8 +51,8 @@ pub record RightSizesAreWorkedOut : Type 0 where
   pub reason : IsRightSizing counting once_known (key 2 1 ∷ []) (Unsized (Missing (key 1 1)))
   pub of_nothing : (b : Bounds) (answer : Sizing) → ¬ (IsRightSizing counting b [] answer)
 
--- at first both times and both sizes are missing, and each find takes its own away. Places are uniform where all have one
--- bound, or none has one
+-- at first both times and both sizes are missing, and each find takes its own away. Places are uniform where all have
+-- one bound, or none has one
 pub record MissingIsWorkedOut : Type 0 where
   pub at_first : missing counting.program nothing_known ≡ 4
   pub with_time : missing counting.program once_known ≡ 3

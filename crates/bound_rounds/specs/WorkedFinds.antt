@@ -62,8 +62,8 @@ abbrev pub both_keys : Find
 both_keys = seven (time_key 1 ∷ key 1 1 ∷ [])
 
 -- with no finds the virtual entry alone is known: its time, and the size at its only place. The first find of a key
--- counts, and no find takes the place of the virtual entry. A key has the number of its first find, counted from 1; what
--- isn't found has none, and the virtual entry has 0
+-- counts, and no find takes the place of the virtual entry. A key has the number of its first find, counted from 1;
+-- what isn't found has none, and the virtual entry has 0
 pub record FindsAreReadOff : Type 0 where
   pub entry_time : bounds_of counting.program [] 0 0 ≡ Some (Constant 1)
   pub entry_size : bounds_of counting.program [] 0 1 ≡ Some (Input 0)
@@ -113,9 +113,9 @@ value_over set = record {
 }
 
 -- over rule 2 alone rule 1 is the entry, whose time and size are needed; over both it is the virtual entry, after which
--- the function reads nothing. Both arms of rule 1 read what comes before it; of rule 2 the up arm alone reads, and nothing
--- is added, so no time is needed; where the loop doubles, both arms read, and the time of its rule comes last. The
--- virtual entry stands first, whatever is needed first, and no lemma is cited twice
+-- the function reads nothing. Both arms of rule 1 read what comes before it; of rule 2 the up arm alone reads, and
+-- nothing is added, so no time is needed; where the loop doubles, both arms read, and the time of its rule comes last.
+-- The virtual entry stands first, whatever is needed first, and no lemma is cited twice
 pub record NeedsAreWorkedOut : Type 0 where
   pub of_alone : rank_needs counting.program (value_over (2 ∷ [])) ≡ time_key 1 ∷ key 1 1 ∷ []
   pub of_both : rank_needs counting.program (value_over (1 ∷ 2 ∷ [])) ≡ time_key 0 ∷ []
@@ -129,8 +129,8 @@ pub record NeedsAreWorkedOut : Type 0 where
   pub start_first : uses_from (3 ∷ 0 ∷ 3 ∷ 1 ∷ []) ≡ AndProof Start (AndProof (Cite 3) (AndProof (Cite 1) NoProof))
   pub in_order : uses_from (5 ∷ 2 ∷ 5 ∷ 4 ∷ 2 ∷ []) ≡ AndProof (Cite 5) (AndProof (Cite 2) (AndProof (Cite 4) NoProof))
 
--- the lemmas of finds, each of which cites those before it that state what it needs: of the program that counts down; of
--- one with an unreached rule; and of one with an empty rule
+-- the lemmas of finds, each of which cites those before it that state what it needs: of the program that counts down;
+-- of one with an unreached rule; and of one with an empty rule
 pub record LemmasAreWorkedOut : Type 0 where
   pub counting_down : lemmas_of (once_find ∷ entered_find ∷ alone_find ∷ looped_find ∷ [])
       ≡ once ∷ entered ∷ down_alone (AndProof (Cite 1) (only (Cite 2)))

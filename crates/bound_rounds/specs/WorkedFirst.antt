@@ -1,20 +1,23 @@
--- What is found before the first round, and answers that are right, as they were worked out by hand: of k(A) -> l(A), and
--- m(A) -> m(A), which is never reached; and of k(A) -> l(A), and l(A) -> l(A - 1), where rule 1 is told to be empty.
+-- What is found before the first round, and answers that are right, as they were worked out by hand: of k(A) -> l(A),
+-- and m(A) -> m(A), which is never reached; and of k(A) -> l(A), and l(A) -> l(A - 1), where rule 1 is told to be
+-- empty.
 use Rattle.std.specs.Prelude.{◌≡◌, ℕ, zero, suc, List, [], ◌∷◌, Some, None}
 use Rattle.rule_questions.specs.model.Bounds.{Constant}
 use Rattle.rule_questions.specs.proof_nodes.Nodes.{Spot}
 use Rattle.rule_questions.specs.proof_nodes.WorkedSettings.{apart, counting}
+use Rattle.rule_questions.specs.proof_nodes.Worked.{alone_node}
 use Rattle.rule_questions.specs.proof_tree.declared.answer.Trip.{Trip}
 use Rattle.rule_questions.specs.proof_tree.declared.answer.Question.{Question}
 use Rattle.rule_questions.specs.proof_tree.declared.answer.Question.TheVariants as asked
 use Rattle.rule_questions.specs.linear_forms.declared.trip_cause.TripCause.TheVariants as causes
 use Rattle.bound_rounds.specs.Keys.{key, time_key}
 use Rattle.bound_rounds.specs.Finds.{Find, bounds_of}
-use Rattle.bound_rounds.specs.Searches.{Answers, Emptiness, NoPoint, HasPoint, RankTripped, Sizing, Unsized, Tripped}
+use Rattle.bound_rounds.specs.Searches.{Answers, Emptiness, NoPoint, HasPoint, EmptyTripped, Ranked, RankTripped}
+use Rattle.bound_rounds.specs.Searches.{Sizing, Unsized, Tripped}
 use Rattle.bound_rounds.specs.Searches.{searches_of}
 use Rattle.bound_rounds.specs.Beginning.{empty_find, unreached_find, never_find, AreFirst}
 use Rattle.bound_rounds.specs.Rounds.{IsLast, IsNoBound}
-use Rattle.bound_rounds.specs.Right.{AreRight}
+use Rattle.bound_rounds.specs.Right.{AreRight, IsRightRanking, IsFirstTrip, NoneTrips}
 
 -- a linear program passed a limit
 abbrev pub trip : Question → Trip
@@ -59,11 +62,12 @@ cut_off = record {
 -- its time; that of rule 2, which no other rule reaches; and then the sizes after both
 abbrev pub four_finds : List Find
 four_finds =
-    empty_find 1 [] ∷ unreached_find (time_key 1 ∷ []) 2 ∷ never_find counting.program 1 ∷ never_find counting.program 2 ∷ []
+    empty_find 1 [] ∷ unreached_find (time_key 1 ∷ []) 2 ∷
+    never_find counting.program 1 ∷ never_find counting.program 2 ∷ []
 
--- before the first round rule 2 is known to be 0, and so is the size after it, by these two finds in this order, and by no
--- more and no fewer; where nothing else is found they are the last. Where rule 1 is empty and rule 2 unreached without it,
--- the times come first, and the second rests on the first
+-- before the first round rule 2 is known to be 0, and so is the size after it, by these two finds in this order, and by
+-- no more and no fewer; where nothing else is found they are the last. Where rule 1 is empty and rule 2 unreached
+-- without it, the times come first, and the second rests on the first
 pub record FirstFindsAreWorkedOut : Type 0 where
   pub first : AreFirst (searches_of all_trips) apart.program two_finds
   pub zero_time : bounds_of apart.program two_finds 2 0 ≡ Some (Constant 0)
@@ -84,6 +88,28 @@ pub record FirstFindsAreWorkedOut : Type 0 where
   pub not_rule_by_rule : ¬ (AreFirst (searches_of cut_off) counting.program
       (empty_find 1 [] ∷ never_find counting.program 1 ∷ unreached_find (time_key 1 ∷ []) 2
       ∷ never_find counting.program 2 ∷ []))
+
+-- the emptiness question of each rule trips
+abbrev pub none_told : Answers
+none_told = record {
+  empty = λ t. EmptyTripped (trip (asked.Empty t));
+  rank = all_trips.rank;
+  components = [];
+  size = all_trips.size;
+}
+
+-- a function is the right answer where it ranks the rule over exactly the set and reads no shut place. Of the rules of a
+-- set whose emptiness question trips the first counts
+pub record RightRankingsAreWorkedOut : Type 0 where
+  pub ranks : IsRightRanking (searches_of all_trips) counting (2 ∷ []) 2 [] (Ranked alone_node)
+  pub not_other_set : ¬ (IsRightRanking (searches_of all_trips) counting (1 ∷ 2 ∷ []) 2 [] (Ranked alone_node))
+  pub not_other_rule : ¬ (IsRightRanking (searches_of all_trips) counting (2 ∷ []) 1 [] (Ranked alone_node))
+  pub not_shut : ¬ (IsRightRanking (searches_of all_trips) counting (2 ∷ []) 2
+      (record { symbol = 1; place = 1 } ∷ []) (Ranked alone_node))
+  pub first_trip : IsFirstTrip (searches_of none_told) (1 ∷ 2 ∷ []) (trip (asked.Empty 1))
+  pub not_second_trip : ¬ (IsFirstTrip (searches_of none_told) (1 ∷ 2 ∷ []) (trip (asked.Empty 2)))
+  pub none_trips : NoneTrips (searches_of all_trips) (1 ∷ 2 ∷ [])
+  pub some_trip : ¬ (NoneTrips (searches_of none_told) (1 ∷ 2 ∷ []))
 
 -- trips told as their own are right, and as those of another rule they aren't; nor is a rule right that is told to be
 -- empty where no multipliers show it

@@ -1,4 +1,5 @@
--- Rounds of a program that counts down, as they were worked out by hand: k(A) -> l(A), and l(A) -> l(A - 1) where A >= 1.
+-- Rounds of a program that counts down, as they were worked out by hand: k(A) -> l(A), and l(A) -> l(A - 1) where A >=
+-- 1.
 use Rattle.std.specs.Prelude.{ℕ, ◌==◌, cond, List, [], ◌∷◌, pos}
 use Rattle.rule_questions.specs.proof_nodes.Nodes.{Spot, RankNode}
 use Rattle.rule_questions.specs.proof_nodes.Gaps.{SymbolPlace, Gap}
@@ -10,7 +11,7 @@ use Rattle.bound_rounds.specs.Searches.{Answers, HasPoint, Ranking, Ranked, Unra
 use Rattle.bound_rounds.specs.Searches.{NoFunction, Missing, Untimed, TooLarge, searches_of}
 use Rattle.bound_rounds.specs.Components.{AreComponentsOf}
 use Rattle.bound_rounds.specs.Beginning.{AreFirst}
-use Rattle.bound_rounds.specs.Rounds.{IsRound, IsClosed, IsLast, IsNoBound}
+use Rattle.bound_rounds.specs.Rounds.{IsRound, IsMade, IsClosed, IsLast, IsNoBound}
 use Rattle.bound_rounds.specs.WorkedFinds.{once_find, entered_find, looped_find, alone_time}
 use Rattle.bound_rounds.specs.WorkedStanding.{ranked_find}
 
@@ -94,8 +95,8 @@ abbrev pub later_time : Find
 later_time = ranked_find (time_key 2 ∷ []) (value_ranks (2 ∷ []) 2) (time_key 1 ∷ key 1 1 ∷ []) alone_time
 
 -- where a round begins with nothing, it finds both times, each with nothing known, and then both sizes, with the new
--- times and the sizes found so far; a second finds nothing. No list that has one more or one less is a round, nor one in
--- another order; nor what is found where sizes are tried with the times from before, or times with the new ones
+-- times and the sizes found so far; a second finds nothing. No list that has one more or one less is a round, nor one
+-- in another order; nor what is found where sizes are tried with the times from before, or times with the new ones
 pub record FirstRoundIsWorkedOut : Type 0 where
   pub first : AreFirst (searches_of value_where_open) counting.program []
   pub not_known_too_early : ¬ (AreFirst (searches_of value_where_open) counting.program (once_find ∷ []))
@@ -103,6 +104,7 @@ pub record FirstRoundIsWorkedOut : Type 0 where
       (first_time ∷ second_time ∷ entered_find ∷ looped_find ∷ [])
   pub last : IsLast (searches_of value_where_open) counting
       (first_time ∷ second_time ∷ entered_find ∷ looped_find ∷ [])
+  pub not_made : ¬ (IsMade (searches_of value_where_open) counting (once_find ∷ []))
   pub not_last_at_first : ¬ (IsLast (searches_of value_where_open) counting [])
   pub not_too_many : ¬ (IsRound (searches_of value_where_open) counting []
       (first_time ∷ second_time ∷ entered_find ∷ looped_find ∷ looped_find ∷ []))
@@ -114,8 +116,8 @@ pub record FirstRoundIsWorkedOut : Type 0 where
   pub not_times_by_new_times : ¬ (IsRound (searches_of value_where_open) counting []
       (first_time ∷ entered_find ∷ looped_find ∷ []))
 
--- where the time of rule 1 is known at first, rule 2 is alone: its place is shut, so that the round finds the sizes alone,
--- and the next the time. Where the components come in turn, the size of rule 2 has to wait for the next round
+-- where the time of rule 1 is known at first, rule 2 is alone: its place is shut, so that the round finds the sizes
+-- alone, and the next the time. Where the components come in turn, the size of rule 2 has to wait for the next round
 pub record LaterRoundsAreWorkedOut : Type 0 where
   pub sizes : IsRound (searches_of value_where_open) counting (once_find ∷ []) (entered_find ∷ looped_find ∷ [])
   pub not_time_at_once : ¬ (IsRound (searches_of value_where_open) counting (once_find ∷ [])
@@ -129,14 +131,18 @@ pub record LaterRoundsAreWorkedOut : Type 0 where
   pub in_turn : IsRound (searches_of value_turned) counting (once_find ∷ []) (entered_find ∷ [])
   pub not_too_early : ¬ (IsRound (searches_of value_turned) counting (once_find ∷ []) (looped_find ∷ entered_find ∷ []))
 
--- each place after a rule is in one component; where nothing ranks, the first finds are the last: each rule has no time by
--- the gap of its set, and no size is found, for its own reason. No other reason is one, and what is known, or is no place,
--- has none
+-- each place after a rule is in one component; where nothing ranks, the first finds are the last: each rule has no time
+-- by the gap of its set, and no size is found, for its own reason. No other reason is one, and what is known, or is no
+-- place, has none
 pub record ReasonsAreWorkedOut : Type 0 where
   pub components : AreComponentsOf (searches_of nothing_ranks) counting.program alone
   pub not_lacking : ¬ (AreComponentsOf (searches_of nothing_ranks) counting.program ((key 1 1 ∷ []) ∷ []))
   pub not_twice : ¬ (AreComponentsOf (searches_of nothing_ranks) counting.program
       ((key 1 1 ∷ []) ∷ (key 1 1 ∷ []) ∷ (key 2 1 ∷ []) ∷ []))
+  pub not_descending : ¬ (AreComponentsOf (searches_of nothing_ranks) counting.program
+      ((key 2 1 ∷ key 1 1 ∷ []) ∷ []))
+  pub not_of_entry : ¬ (AreComponentsOf (searches_of nothing_ranks) counting.program
+      ((key 0 1 ∷ []) ∷ (key 1 1 ∷ []) ∷ (key 2 1 ∷ []) ∷ []))
   pub last : IsLast (searches_of nothing_ranks) counting []
   pub first_time : IsNoBound (searches_of nothing_ranks) counting [] 1 0 (NoFunction (gap_over (1 ∷ []) 1 []))
   pub second_time : IsNoBound (searches_of nothing_ranks) counting [] 2 0 (NoFunction (gap_over (1 ∷ 2 ∷ []) 2 []))

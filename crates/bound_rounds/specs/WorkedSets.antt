@@ -1,5 +1,5 @@
--- Sets and shut places of a program that counts down, as they were worked out by hand: k(A) -> l(A), and l(A) -> l(A - 1)
--- where A >= 1.
+-- Sets and shut places of a program that counts down, as they were worked out by hand: k(A) -> l(A), and l(A) -> l(A -
+-- 1) where A >= 1.
 use Rattle.std.specs.Prelude.{ℕ, [], ◌∷◌}
 use Rattle.rule_questions.specs.proof_nodes.Gaps.{SymbolPlace}
 use Rattle.rule_questions.specs.proof_nodes.WorkedSettings.{counting}
@@ -32,8 +32,8 @@ abbrev pub place : ℕ → ℕ → SymbolPlace
 place symbol i = record { symbol = symbol; place = i }
 
 -- where rule 1 has a time and rule 2 is alone, rule 1 enters l, and no size is known after it: the only place of l is
--- shut, and it isn't once the size is known. Over both rules the virtual entry enters k, after which a size is known: no
--- place is shut
+-- shut, and it isn't once the size is known. Over both rules the virtual entry enters k, after which a size is known:
+-- no place is shut
 pub record ShutOfCounting : Type 0 where
   pub alone : AreShutOf counting.program once_known (2 ∷ []) (place 1 1 ∷ [])
   pub not_none : ¬ (AreShutOf counting.program once_known (2 ∷ []) [])

@@ -15,10 +15,10 @@ use Rattle.bound_rounds.specs.WorkedFinds.{once_find, entered_find, looped_find,
 abbrev pub ranked_find : List Spot → RankNode → List Spot → Bound → Find
 ranked_find keys node needs bound = record { keys = keys; node = RankBy node; needs = needs; bound = bound }
 
--- each of the four finds rests on those before it. A find before what it needs doesn't stand, nor does one twice, nor one
--- with another bound than the composed one, with its needs in another order, with one of them twice, without one, or for
--- another key. Of the program with an unreached rule its time stands, and then the size after it, which doesn't without
--- the time; and with another rule's time among what it needs, which isn't 0, the rule isn't unreached
+-- each of the four finds rests on those before it. A find before what it needs doesn't stand, nor does one twice, nor
+-- one with another bound than the composed one, with its needs in another order, with one of them twice, without one,
+-- or for another key. Of the program with an unreached rule its time stands, and then the size after it, which doesn't
+-- without the time; and with another rule's time among what it needs, which isn't 0, the rule isn't unreached
 pub record StandingIsWorkedOut : Type 0 where
   pub none : AllStand counting []
   pub four : AllStand counting (once_find ∷ entered_find ∷ alone_find ∷ looped_find ∷ [])

@@ -11,6 +11,7 @@ ghost use Rattle.bound_rounds.specs.WorkedFinds.{LemmasAreWorkedOut};
 ghost use Rattle.bound_rounds.specs.WorkedSets.{SetsOfCounting, ShutOfCounting};
 ghost use Rattle.bound_rounds.specs.WorkedStanding.{StandingIsWorkedOut};
 ghost use Rattle.bound_rounds.specs.WorkedFirst.{FirstFindsAreWorkedOut, RightAnswersAreWorkedOut};
+ghost use Rattle.bound_rounds.specs.WorkedFirst.{RightRankingsAreWorkedOut};
 ghost use Rattle.bound_rounds.specs.WorkedRounds.{FirstRoundIsWorkedOut, LaterRoundsAreWorkedOut, ReasonsAreWorkedOut};
 ghost use Rattle.bound_rounds.specs.WorkedAnswers.{AnswersAreWorkedOut, RightSizesAreWorkedOut, MissingIsWorkedOut};
 
@@ -49,8 +50,8 @@ pub fn last_finds_are_one()
     ensures { LastFindsAreOne }
 {}
 
-/// There are first finds; where the components are those of the places of live rules, there is a round over all finds, and
-/// there are last ones.
+/// There are first finds; where the components are those of the places of live rules, there is a round over all finds,
+/// and there are last ones.
 pub fn last_finds_exist()
     ensures { LastFindsExist }
 {}
@@ -85,6 +86,7 @@ pub fn standing_is_as_worked_out()
 pub fn first_finds_are_as_worked_out()
     ensures first { FirstFindsAreWorkedOut }
     ensures right { RightAnswersAreWorkedOut }
+    ensures rankings { RightRankingsAreWorkedOut }
 {}
 
 /// The rounds of that program, from nothing and from the time of its first rule, and why bounds are missing where
@@ -95,8 +97,8 @@ pub fn rounds_are_as_worked_out()
     ensures reasons { ReasonsAreWorkedOut }
 {}
 
-/// What answers of the program that counts down tell, which sizes are right, and how many bounds are missing, is what was
-/// worked out by hand.
+/// What answers of the program that counts down tell, which sizes are right, and how many bounds are missing, is what
+/// was worked out by hand.
 pub fn answers_are_as_worked_out()
     ensures answers { AnswersAreWorkedOut }
     ensures sizes { RightSizesAreWorkedOut }
