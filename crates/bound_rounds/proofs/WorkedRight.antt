@@ -1,6 +1,6 @@
 -- Answers that are right, and others that aren't.
-use Rattle.std.proofs.Common.{◌≡◌, ◌⊎◌, inl, inr, ℕ, suc, true, List, [], ◌∷◌, refl, sym, subst}
-use Rattle.std.proofs.Common.{arith}
+use Rattle.std.proofs.Common.{◌≡◌, ◌⊎◌, inl, inr, ℕ, suc, true, List, [], ◌∷◌, length, refl, sym, ap}
+use Rattle.std.proofs.Common.{subst, arith}
 use Rattle.std.specs.Prelude.{pos, ◌≤ℤ◌}
 use Rattle.std.proofs.lemmas.Int.{ints}
 use Rattle.std.proofs.lemmas.List.Elements.{All-nil}
@@ -11,12 +11,11 @@ use Rattle.rule_questions.specs.proof_nodes.Gaps.{SymbolPlace}
 use Rattle.rule_questions.specs.proof_nodes.Nodes.{Spot}
 use Rattle.rule_questions.specs.proof_nodes.AcceptsPlain.{IsRule}
 use Rattle.rule_questions.specs.proof_nodes.WorkedSettings.{apart, counting}
+use Rattle.rule_questions.specs.proof_nodes.Worked.{alone_node}
 use Rattle.rule_questions.specs.proof_tree.declared.answer.Trip.{Trip}
 use Rattle.rule_questions.specs.proof_tree.declared.answer.Question.{Question}
 use Rattle.rule_questions.specs.proof_tree.declared.answer.Question.TheVariants as asked
-use Rattle.rule_questions.specs.proof_nodes.Worked.{alone_node}
 use Rattle.rule_questions.proofs.proof_nodes.WorkedAccepted.{alone_accepted}
-use Rattle.std.proofs.Common.{length, ap}
 use Rattle.bound_rounds.specs.Keys.{Bounds}
 use Rattle.bound_rounds.specs.Searches.{searches_of, Emptiness, NoPoint, HasPoint, EmptyTripped, Ranking, RankTripped}
 use Rattle.bound_rounds.specs.Searches.{Sizing}
