@@ -2,12 +2,11 @@
 use Rattle.std.proofs.Common.{◌≡◌, inl, inr, ℕ, zero, suc, true, List, Option, Some, None, refl, sym, ◌∙◌, ap, subst}
 use Rattle.std.proofs.Common.{slice_get}
 use Rattle.rule_questions.specs.model.Programs.{Program, Rule}
-use Rattle.rule_questions.specs.model.Bounds.{Constant}
 use Rattle.rule_questions.specs.model.Paths.{IsInSet, target_of, target_in}
 use Rattle.rule_questions.proofs.model.Entries.{listed-from}
 use Rattle.rule_questions.proofs.model.Membership.{no_is_not_yes}
 use Rattle.rule_questions.specs.proof_nodes.Nodes.{RankNode}
-use Rattle.rule_questions.specs.proof_nodes.Known.{Table, IsKnown}
+use Rattle.rule_questions.specs.proof_nodes.Known.{IsKnown}
 use Rattle.rule_questions.specs.proof_nodes.Setting.{Setting}
 use Rattle.rule_questions.specs.proof_nodes.Limits.{IsSmallComposed}
 use Rattle.rule_questions.specs.proof_nodes.AcceptsPlain.{IsRule}

@@ -1,5 +1,5 @@
 -- Each find of a round has a key whose bound was missing before the round: so rounds end.
-use Rattle.std.proofs.Common.{◌≡◌, ◌⊎◌, inl, inr, ℕ, ◌<◌, ◌==◌, true, List, [], ◌∷◌, ◌++◌, map, Some, None, refl, sym}
+use Rattle.std.proofs.Common.{◌≡◌, ◌⊎◌, inl, inr, ℕ, ◌<◌, ◌==◌, true, List, [], ◌∷◌, ◌++◌, map, None, refl, sym}
 use Rattle.std.proofs.Common.{◌∙◌, subst, All}
 use Rattle.std.proofs.lemmas.Bool.{or_left, or_right}
 use Rattle.std.proofs.lemmas.List.Elements.{All-nil, All-cons, All-head, All-append, All-weaker}
@@ -14,7 +14,7 @@ use Rattle.bound_rounds.specs.Finds.{Find, bounds_of}
 use Rattle.bound_rounds.specs.Searches.{Searches, searches_of}
 use Rattle.bound_rounds.specs.Answers.{TimeOf, SizesOf, is_open, Answer, Found, Lacks, finds_by}
 use Rattle.bound_rounds.specs.Components.{IsOneOf, AreComponentsOf}
-use Rattle.bound_rounds.specs.Rounds.{Tries, TriesAll, Together, InTurn, IsRound}
+use Rattle.bound_rounds.specs.Rounds.{TriesAll, Together, InTurn, IsRound}
 use Rattle.bound_rounds.specs.Laws.{missing, RoundsEnd}
 use Rattle.bound_rounds.proofs.Keys.{has_key-first}
 use Rattle.bound_rounds.proofs.FindLists.{bounds_of-new, bounds_of-kept, found-here}

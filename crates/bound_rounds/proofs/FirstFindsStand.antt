@@ -1,10 +1,10 @@
 -- The finds before the first round stand.
-use Rattle.std.proofs.Common.{◌≡◌, ◌⊎◌, inl, inr, ℕ, suc, ◌≤◌, ◌==◌, Bool, not, true, false, List, [], ◌∷◌, ◌++◌}
+use Rattle.std.proofs.Common.{◌≡◌, inl, inr, ℕ, ◌≤◌, ◌==◌, Bool, not, true, false, List, [], ◌∷◌, ◌++◌}
 use Rattle.std.proofs.Common.{length, map, filter, Some, None, refl, sym, ◌∙◌, ap, subst, arith, All}
 use Rattle.std.proofs.lemmas.Bool.{and_parts, and_from, not-true, not_from_false, or_left, or_right}
 use Rattle.std.proofs.lemmas.List.Elements.{All-nil, All-cons, All-map}
 use Rattle.rule_questions.specs.model.Programs.{Program}
-use Rattle.rule_questions.specs.model.Bounds.{Bound, Constant}
+use Rattle.rule_questions.specs.model.Bounds.{Constant}
 use Rattle.rule_questions.specs.model.Entries.{is_in}
 use Rattle.rule_questions.specs.model.Paths.{target_of}
 use Rattle.rule_questions.proofs.model.Membership.{same_number, is_in-cases, is_in-filter, filter-in, no_is_not_yes}
@@ -13,20 +13,19 @@ use Rattle.rule_questions.specs.proof_nodes.Known.{IsKnown}
 use Rattle.rule_questions.specs.proof_nodes.Setting.{Setting}
 use Rattle.rule_questions.specs.proof_nodes.AcceptsPlain.{IsRule, IsUnreached, places_at}
 use Rattle.bound_rounds.specs.Keys.{Bounds, key, time_key, at_key, has_key, rule_numbers, IsPlace}
-use Rattle.bound_rounds.specs.Finds.{Find, found, bounds_of, keys_after}
-use Rattle.bound_rounds.specs.Standing.{Stands, StandAfter, is_left, IsBeginning}
+use Rattle.bound_rounds.specs.Finds.{Find, bounds_of, keys_after}
+use Rattle.bound_rounds.specs.Standing.{Stands, StandAfter, is_left}
 use Rattle.bound_rounds.specs.Searches.{Searches, NoPoint}
 use Rattle.bound_rounds.specs.Components.{IsDead}
 use Rattle.bound_rounds.specs.Beginning.{AreEmptyFinds, AreFirst, empty_find, unreached_find, never_find, is_cut, is_dead}
-use Rattle.bound_rounds.specs.Beginning.{zeroed, first_finds, has_places}
+use Rattle.bound_rounds.specs.Beginning.{zeroed, has_places}
 use Rattle.bound_rounds.specs.Right.{AreRight}
-use Rattle.bound_rounds.proofs.Cases.{either, told}
+use Rattle.bound_rounds.proofs.Cases.{either}
 use Rattle.bound_rounds.proofs.Keys.{has_key-cases, has_key-none, has_time_key}
-use Rattle.bound_rounds.proofs.FindLists.{bounds_of-append, found-append}
 use Rattle.bound_rounds.proofs.MissingBounds.{all-has_key, rule_bounds}
 use Rattle.bound_rounds.proofs.Numbered.{rule_in, in_rules, in_places}
-use Rattle.bound_rounds.proofs.FreshFinds.{AscendFrom, range_ascends, filter_ascends, AreOfRule, RulesAscend}
-use Rattle.bound_rounds.proofs.FreshFinds.{made_ascend, AreFresh, AllFresh, fresh_by_rules, begins_itself, stand_over}
+use Rattle.bound_rounds.proofs.FreshFinds.{AscendFrom, range_ascends, filter_ascends, AreOfRule}
+use Rattle.bound_rounds.proofs.FreshFinds.{made_ascend, AreFresh, fresh_by_rules, begins_itself, stand_over}
 use Rattle.bound_rounds.proofs.FreshFinds.{stand-append}
 use Rattle.bound_rounds.proofs.KnownNeeds.{of_each_in}
 use Rattle.bound_rounds.proofs.SameDead.{path_on}
@@ -43,9 +42,10 @@ places_of t (j ∷ is) u i m =
   where
     here : key t j ≡ key u i → (t ≡ u) × (is_in i (j ∷ is) ≡ true)
     here e =
-        let place : j ≡ i = ap (λ (k : Spot). k.place) e in
-        (ap (λ (k : Spot). k.rule) e,
-        or_left (i == j) (is_in i is) (subst (λ (n : ℕ). (n == j) ≡ true) place (same_number j)))
+        let place : j ≡ i = ap (λ (k : Spot). k.place) e in (
+          ap (λ (k : Spot). k.rule) e,
+          or_left (i == j) (is_in i is) (subst (λ (n : ℕ). (n == j) ≡ true) place (same_number j)),
+        )
 
 -- the keys of the places after a rule
 pub keys_after-told : (p : Program) (t u i : ℕ) → has_key (keys_after p t) u i ≡ true → (t ≡ u) × IsPlace p t i

@@ -1,6 +1,6 @@
 -- Finds whose keys are of rules that ascend are fresh one after the other, where each is at first.
 use Rattle.std.proofs.Common.{◌≡◌, ℕ, zero, suc, ◌+◌, ◌<◌, ◌≤◌, Bool, true, false, List, [], ◌∷◌, ◌++◌, map, filter}
-use Rattle.std.proofs.Common.{Option, Some, None, refl, sym, ◌∙◌, ap, subst, arith, All}
+use Rattle.std.proofs.Common.{None, refl, sym, ◌∙◌, ap, subst, arith, All}
 use Rattle.std.specs.List.{range_with_len}
 use Rattle.std.proofs.lemmas.List.{append_assoc, append-nil}
 use Rattle.std.proofs.lemmas.List.Elements.{All-nil, All-cons, All-head, All-tail}
@@ -28,8 +28,11 @@ ascend_lower n m (k ∷ ns) low h = let least = h.0 in (omega (arith, low, least
 -- the numbers of a range ascend
 pub range_ascends : (n k : ℕ) → AscendFrom n (range_with_len n k)
 range_ascends n zero = tt
-range_ascends n (suc k) = (omega arith, ascend_lower (suc n) (n + 1) (range_with_len (n + 1) k) (omega arith)
-    (range_ascends (n + 1) k))
+range_ascends n (suc k) = (
+  omega arith,
+  ascend_lower (suc n) (n + 1) (range_with_len (n + 1) k) (omega arith)
+      (range_ascends (n + 1) k),
+)
 
 -- and so do those of them that pass a test
 pub filter_ascends : (test : ℕ → Bool) (n : ℕ) (ns : List ℕ) → AscendFrom n ns → AscendFrom n (filter test ns)

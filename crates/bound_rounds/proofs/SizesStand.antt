@@ -1,5 +1,5 @@
 -- What is found in a round for components stands after what was found before.
-use Rattle.std.proofs.Common.{◌≡◌, inl, inr, ℕ, true, List, [], ◌∷◌, ◌++◌, map, Some, None, refl, sym, ap, subst, All}
+use Rattle.std.proofs.Common.{◌≡◌, inl, inr, true, List, [], ◌∷◌, ◌++◌, map, None, refl, sym, subst, All}
 use Rattle.std.proofs.lemmas.List.Elements.{All-nil, All-cons, All-append}
 use Rattle.rule_questions.specs.proof_nodes.Nodes.{Spot}
 use Rattle.rule_questions.specs.proof_nodes.Setting.{Setting}
@@ -7,7 +7,7 @@ use Rattle.bound_rounds.specs.Keys.{Bounds, at_key, rule_numbers}
 use Rattle.bound_rounds.specs.Finds.{Node, EmptyBy, UnreachedBy, NeverBy, RankBy, SpreadBy, CycleBy, Find, bounds_of}
 use Rattle.bound_rounds.specs.Finds.{keys_of}
 use Rattle.bound_rounds.specs.Needs.{needs_of}
-use Rattle.bound_rounds.specs.Standing.{composed, Stands, StandAfter, AllStand}
+use Rattle.bound_rounds.specs.Standing.{composed, Stands, StandAfter}
 use Rattle.bound_rounds.specs.Searches.{Searches, searches_of, Answers, Sizing, SizedBy, Unsized}
 use Rattle.bound_rounds.specs.Answers.{SizesOf, is_open, Answer, Found, Lacks, finds_by, TellsSizing, TellsSize}
 use Rattle.bound_rounds.specs.Components.{IsOneOf, AreComponentsOf}
@@ -15,7 +15,7 @@ use Rattle.bound_rounds.specs.Rounds.{Tries, TriesAll, InTurn, IsRound, IsMade, 
 use Rattle.bound_rounds.specs.Right.{AcceptsSizing, AreRight}
 use Rattle.bound_rounds.specs.Laws.{MadeFindsStand}
 use Rattle.bound_rounds.proofs.MissingBounds.{all-has_key}
-use Rattle.bound_rounds.proofs.FreshFinds.{AreFresh, FreshAfter, begins_itself, stand_over, stand-append}
+use Rattle.bound_rounds.proofs.FreshFinds.{FreshAfter, begins_itself, stand_over, stand-append}
 use Rattle.bound_rounds.proofs.KnownNeeds.{spread_known, cycle_known}
 use Rattle.bound_rounds.proofs.FirstFindsStand.{first_stand}
 use Rattle.bound_rounds.proofs.TimesStand.{by_answer, round_times_stand}

@@ -1,9 +1,8 @@
 -- Each find has all members of a component among its keys, or none: so they have one bound, or none has one.
-use Rattle.std.proofs.Common.{◌≡◌, ◌⊎◌, inl, inr, ℕ, suc, ◌≤◌, ◌||◌, Bool, not, true, false, List, [], ◌∷◌, ◌++◌, map}
-use Rattle.std.proofs.Common.{None, refl, sym, ◌∙◌, ap, subst, arith, All}
+use Rattle.std.proofs.Common.{◌≡◌, ◌⊎◌, inl, inr, ℕ, ◌≤◌, true, false, List, [], ◌∷◌, ◌++◌, map}
+use Rattle.std.proofs.Common.{None, refl, sym, ◌∙◌, subst, arith, All}
 use Rattle.std.proofs.lemmas.Bool.{or_cases, false_from_ne_true}
 use Rattle.std.proofs.lemmas.List.Elements.{All-nil, All-cons, All-head, All-tail, All-append, All-map}
-use Rattle.rule_questions.specs.model.Programs.{Program}
 use Rattle.rule_questions.specs.model.Entries.{is_in}
 use Rattle.rule_questions.specs.proof_nodes.Nodes.{Spot}
 use Rattle.rule_questions.specs.proof_nodes.Setting.{Setting}
@@ -16,7 +15,7 @@ use Rattle.bound_rounds.specs.Beginning.{AreFirst, never_find}
 use Rattle.bound_rounds.specs.Rounds.{Tries, TriesAll, Together, InTurn, IsRound, IsMade, Begun, Made}
 use Rattle.bound_rounds.specs.Right.{AreRight}
 use Rattle.bound_rounds.specs.Laws.{AreUniform, ComponentsAreUniform}
-use Rattle.bound_rounds.proofs.Cases.{either, told, false_true, lacks_none}
+use Rattle.bound_rounds.proofs.Cases.{either, false_true, lacks_none}
 use Rattle.bound_rounds.proofs.Keys.{has_key-first, has_key-later}
 use Rattle.bound_rounds.proofs.FindLists.{found-here, found-later}
 use Rattle.bound_rounds.proofs.MissingBounds.{rule_bounds}

@@ -1,6 +1,6 @@
 -- Finds that say of each of these rules that its time is 0.
-use Rattle.std.proofs.Common.{◌≡◌, ◌⊎◌, inl, inr, ℕ, suc, ◌==◌, true, false, List, [], ◌∷◌, ◌++◌, map, Some, None}
-use Rattle.std.proofs.Common.{refl, sym, ◌∙◌, ap, subst, All}
+use Rattle.std.proofs.Common.{◌≡◌, ℕ, suc, ◌==◌, true, false, List, [], ◌∷◌, ◌++◌, map, Some, None}
+use Rattle.std.proofs.Common.{refl, sym, ◌∙◌, ap, subst}
 use Rattle.std.proofs.lemmas.Bool.{or_left, or_right}
 use Rattle.std.proofs.lemmas.List.Elements.{All-nil, All-cons}
 use Rattle.rule_questions.specs.model.Bounds.{Bound, Constant}
@@ -9,7 +9,7 @@ use Rattle.rule_questions.proofs.model.Membership.{same_number, is_in-cases, no_
 use Rattle.rule_questions.specs.proof_nodes.Nodes.{Spot}
 use Rattle.bound_rounds.specs.Keys.{Bounds, time_key, at_key, has_key}
 use Rattle.bound_rounds.specs.Finds.{Find, found}
-use Rattle.bound_rounds.specs.Searches.{Searches, NoPoint}
+use Rattle.bound_rounds.specs.Searches.{Searches}
 use Rattle.bound_rounds.specs.Beginning.{AreEmptyFinds, empty_find, unreached_find}
 use Rattle.bound_rounds.proofs.Cases.{either, told}
 use Rattle.bound_rounds.proofs.Keys.{has_key-cases, has_key-first, has_key-none}
@@ -35,9 +35,13 @@ empties_zero q (t ∷ ts) fs (m, shown, (rest, e, later)) =
 -- and with those of unreached ones
 pub unreached_zero : (dead : List Spot) (ts : List ℕ) → AreZeroTimesOf ts (map (unreached_find dead) ts)
 unreached_zero dead [] = refl
-unreached_zero dead (t ∷ ts) =
-    (unreached_find dead t, map (unreached_find dead) ts, refl, record { keys = refl; bound = refl },
-    unreached_zero dead ts)
+unreached_zero dead (t ∷ ts) = (
+  unreached_find dead t,
+  map (unreached_find dead) ts,
+  refl,
+  record { keys = refl; bound = refl },
+  unreached_zero dead ts,
+)
 
 -- the finds of some rules and then of others are those of all
 pub zero_times-append : (ts us : List ℕ) (fs gs : List Find) → AreZeroTimesOf ts fs → AreZeroTimesOf us gs
@@ -51,10 +55,13 @@ pub zero_times_ascend : (n : ℕ) (ts : List ℕ) (fs : List Find) → AscendFro
     → RulesAscend n fs
 zero_times_ascend n [] fs up h = subst (λ (xs : List Find). RulesAscend n xs) (sym h) tt
 zero_times_ascend n (t ∷ ts) fs up (f, rest, e, is, later) =
-    subst (λ (xs : List Find). RulesAscend n xs) (sym e)
-    (t, up.0, subst (λ (ks : List Spot). AreOfRule t ks) (sym is.keys)
-    (All-cons (λ (k : Spot). k.rule ≡ t) (time_key t) [] refl (All-nil (λ (k : Spot). k.rule ≡ t))),
-    zero_times_ascend (suc t) ts rest up.1 later)
+    subst (λ (xs : List Find). RulesAscend n xs) (sym e) (
+      t,
+      up.0,
+      subst (λ (ks : List Spot). AreOfRule t ks) (sym is.keys)
+          (All-cons (λ (k : Spot). k.rule ≡ t) (time_key t) [] refl (All-nil (λ (k : Spot). k.rule ≡ t))),
+      zero_times_ascend (suc t) ts rest up.1 later,
+    )
 
 -- a key of a time of a rule is that of the rule alone
 pub only_time : (u t i : ℕ) → has_key (time_key u ∷ []) t i ≡ true → (u ≡ t) × (0 ≡ i)
