@@ -21,7 +21,8 @@ first_of-none None y e = refl
 first_of-none (Some a) y e = absurd (none_some a (sym e))
 
 -- a bound that is the first of two is one of them
-pub first_of-cases : (x y : Option Bound) (b : Bound) → first_of x y ≡ Some b → (x ≡ Some b) ⊎ ((x ≡ None) × (y ≡ Some b))
+pub first_of-cases : (x y : Option Bound) (b : Bound) → first_of x y ≡ Some b
+    → (x ≡ Some b) ⊎ ((x ≡ None) × (y ≡ Some b))
 first_of-cases None y b e = inr (refl, e)
 first_of-cases (Some a) y b e = inl e
 
@@ -70,10 +71,11 @@ pub bounds_of-missing : (p : Program) (fs gs : List Find) (t i : ℕ) → bounds
 bounds_of-missing p fs gs t i e =
     first_of-missing (bounds_of p fs t i) (found gs t i) (sym (bounds_of-append p fs gs t i) ∙ e)
 
--- what one find says
+-- what the first find says of its keys counts
 pub found-here : (f : Find) (fs : List Find) (t i : ℕ) → has_key f.keys t i ≡ true → found (f ∷ fs) t i ≡ Some f.bound
 found-here f fs t i e = rw e refl
 
+-- where it hasn't the key, what the others say counts
 pub found-later : (f : Find) (fs : List Find) (t i : ℕ) → has_key f.keys t i ≡ false
     → found (f ∷ fs) t i ≡ found fs t i
 found-later f fs t i e = rw e refl

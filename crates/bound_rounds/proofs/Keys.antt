@@ -64,7 +64,7 @@ has_key-all P (k ∷ keys) t i h m =
     either (has_key-cases k keys t i m) (λ e. subst P e (All-head P k keys h))
     (λ later. has_key-all P keys t i (All-tail P k keys h) later)
 
--- a key is among joined keys where it is among the first or among the second
+-- a key is among joined keys where it is among the first
 pub has_key-left : (xs ys : List Spot) (t i : ℕ) → has_key xs t i ≡ true → has_key (xs ++ ys) t i ≡ true
 has_key-left [] ys t i m = absurd (has_key-none t i m)
 has_key-left (x ∷ xs) ys t i m =
@@ -72,6 +72,7 @@ has_key-left (x ∷ xs) ys t i m =
     (λ e. or_left ((x.rule == t) && (x.place == i)) (has_key (xs ++ ys) t i) e)
     (λ later. has_key-later x (xs ++ ys) t i (has_key-left xs ys t i later))
 
+-- or among the second
 pub has_key-right : (xs ys : List Spot) (t i : ℕ) → has_key ys t i ≡ true → has_key (xs ++ ys) t i ≡ true
 has_key-right [] ys t i m = m
 has_key-right (x ∷ xs) ys t i m = has_key-later x (xs ++ ys) t i (has_key-right xs ys t i m)
