@@ -32,7 +32,7 @@ use Rattle.bound_rounds.proofs.SameDead.{path_on}
 use Rattle.bound_rounds.proofs.ZeroTimes.{AreZeroTimesOf, empties_zero, unreached_zero, zero_times-append}
 use Rattle.bound_rounds.proofs.ZeroTimes.{zero_times_ascend, zero_found, zero_missing, zero_fresh}
 
--- the number of a place after a rule among the keys of these places is one of them, and the rule is that rule
+-- a key among those of these places after a rule is of that rule and of one of these places
 places_of : (t : ℕ) (is : List ℕ) (u i : ℕ) → has_key (map (λ j. key t j) is) u i ≡ true
     → (t ≡ u) × (is_in i is ≡ true)
 places_of t [] u i m = absurd (has_key-none u i m)
@@ -47,7 +47,7 @@ places_of t (j ∷ is) u i m =
           or_left (i == j) (is_in i is) (subst (λ (n : ℕ). (n == j) ≡ true) place (same_number j)),
         )
 
--- the keys of the places after a rule
+-- a key of the places after a rule is of that rule and of one of its places
 pub keys_after-told : (p : Program) (t u i : ℕ) → has_key (keys_after p t) u i ≡ true → (t ≡ u) × IsPlace p t i
 keys_after-told p t u i m =
     let both = places_of t (places_at p (target_of p t)) u i m in (both.0, in_places p t i both.1)
@@ -61,7 +61,7 @@ after_of_rule p t =
 pub time_of_rule : (t : ℕ) → AreOfRule t (time_key t ∷ [])
 time_of_rule t = All-cons (λ (k : Spot). k.rule ≡ t) (time_key t) [] refl (All-nil (λ (k : Spot). k.rule ≡ t))
 
--- a number in either of two lists is in both joined
+-- a number in the first of two lists is in both joined
 in-left : (n : ℕ) (xs ys : List ℕ) → is_in n xs ≡ true → is_in n (xs ++ ys) ≡ true
 in-left n [] ys m = absurd (no_is_not_yes false refl m)
 in-left n (x ∷ xs) ys m =
@@ -69,6 +69,7 @@ in-left n (x ∷ xs) ys m =
     (λ e. or_left (n == x) (is_in n (xs ++ ys)) (subst (λ (k : ℕ). (n == k) ≡ true) e (same_number n)))
     (λ l. or_right (n == x) (is_in n (xs ++ ys)) (in-left n xs ys l))
 
+-- and so is one in the second
 in-right : (n : ℕ) (xs ys : List ℕ) → is_in n ys ≡ true → is_in n (xs ++ ys) ≡ true
 in-right n [] ys m = m
 in-right n (x ∷ xs) ys m = or_right (n == x) (is_in n (xs ++ ys)) (in-right n xs ys m)
@@ -116,10 +117,12 @@ module _ (q : Searches) (s : Setting) (fs : List Find) (h : AreFirst q s.program
   abbrev pub nevers : List Find
   nevers = map (never_find s.program) sized_ones
 
+  -- an empty one is a rule that is told to be empty
   empty_rule : (t : ℕ) → is_in t empty_ones ≡ true → IsRule s.program t × (h.is_empty t ≡ true)
   empty_rule t m =
       let kept = filter-in h.is_empty (rule_numbers s.program) t m in (in_rules s.program t kept.0, kept.1)
 
+  -- and each such rule is among them
   empty_there : (t : ℕ) → IsRule s.program t → h.is_empty t ≡ true → is_in t empty_ones ≡ true
   empty_there t rule e =
       is_in-filter h.is_empty (rule_numbers s.program) t (rule_in s.program t rule.rule rule.numbered) e
@@ -163,6 +166,7 @@ module _ (q : Searches) (s : Setting) (fs : List Find) (h : AreFirst q s.program
                 (and_from (not (h.is_empty t)) (h.is_unreached t) (not_from_false (h.is_empty t) e) out)),
           )
 
+  -- the finds of empty rules say that their times are 0
   zero_empties : AreZeroTimesOf empty_ones h.empties
   zero_empties = empties_zero q empty_ones h.empties h.are_empties
 
@@ -175,24 +179,26 @@ module _ (q : Searches) (s : Setting) (fs : List Find) (h : AreFirst q s.program
   ascending : AscendFrom 1 (rule_numbers s.program)
   ascending = range_ascends 1 (length s.program.rules)
 
-  -- with the empty rules alone the times of these are 0, and no other time is known
+  -- with the finds of empty rules alone their times are known to be 0
   empty_known : (t : ℕ) → is_in t empty_ones ≡ true → bounds_of s.program h.empties t 0 ≡ Some (Constant 0)
   empty_known t m =
       rule_bounds s.program h.empties t 0 (empty_rule t m).0 ∙ zero_found empty_ones h.empties zero_empties t m
 
+  -- and those of rules that are cut off are missing
   cut_missing : (t : ℕ) → is_in t cut_ones ≡ true → bounds_of s.program h.empties t 0 ≡ None
   cut_missing t m =
       rule_bounds s.program h.empties t 0 (cut_rule t m).0
       ∙ zero_missing empty_ones h.empties zero_empties t 0
       (λ k place. no_is_not_yes (h.is_empty t) (cut_rule t m).1 (empty_rule t k).1)
 
-  -- with all times before the first round that of each of these rules is 0, and no size is known
+  -- with all times before the first round that of each rule that never runs and leads to places is 0
   dead_known : (t : ℕ) → is_in t sized_ones ≡ true → bounds_of s.program (h.empties ++ cuts) t 0 ≡ Some (Constant 0)
   dead_known t m =
       let rule = sized_rule t m in
       rule_bounds s.program (h.empties ++ cuts) t 0 rule.0
       ∙ zero_found (empty_ones ++ cut_ones) (h.empties ++ cuts) zero_both t rule.2
 
+  -- and each size is missing
   size_missing : (t i : ℕ) → IsRule s.program t → 1 ≤ i → bounds_of s.program (h.empties ++ cuts) t i ≡ None
   size_missing t i rule low =
       rule_bounds s.program (h.empties ++ cuts) t i rule

@@ -62,10 +62,7 @@ ranked_stands s b t node n needs bound rule ok same_node same_needs same_bound =
     })
 
 module _ (q : Searches) (s : Setting) (right : AreRight q s) (fs : List Find) where
-  -- what is known before the round; the virtual entry has a time
-  abbrev known_now : Bounds
-  known_now = bounds_of s.program fs
-
+  -- the virtual entry has a time
   begun : IsKnown (bounds_of s.program fs 0 0)
   begun = (Constant 1, refl)
 

@@ -97,6 +97,7 @@ module _ (q : Searches) (s : Setting) (cs : List (List Spot)) (are : AreComponen
           let low = place_from_one u i m in
           omega (arith, place, low)
 
+  -- nor has one of those that say times of 0
   zero_whole : (ts : List ℕ) (fs : List Find) → AreZeroTimesOf ts fs → All (IsWhole c) fs
   zero_whole [] fs h = subst (λ (xs : List Find). All (IsWhole c) xs) (sym h) (All-nil (IsWhole c))
   zero_whole (t ∷ ts) fs (f, rest, e, is, later) =
