@@ -19,7 +19,7 @@ use Rattle.rule_questions.proofs.model.Membership.{same_number, told_same, no_is
 use Rattle.rule_questions.specs.proof_nodes.Gaps.{SymbolPlace}
 use Rattle.bound_rounds.specs.Keys.{Bounds, lacks, is_untimed, IsPlace}
 use Rattle.bound_rounds.specs.Sets.{IsSetOfRule, IsShut, AreShutOf}
-use Rattle.rule_questions.specs.proof_tree.Shut.{is_shut}
+use Rattle.rule_questions.specs.proof_nodes.Gaps.{is_shut}
 use Rattle.rule_questions.proofs.model.PathLaws.{Path-then as path_then}
 use Rattle.rule_questions.proofs.proof_nodes.RankSoundness.{rank_form-long as form_long}
 

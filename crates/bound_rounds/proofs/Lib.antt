@@ -40,22 +40,6 @@ pub mod SizesStand
 -- rounds end
 pub mod MissingFalls
 pub mod Ends
-<<<<<<< HEAD
--- what lemmas rest on, by the numbers of what they need
-pub mod FactLists
-pub mod CitedFacts
-pub mod NeededFacts
--- over tables that agree on what nodes need, they compose the same bounds and are accepted alike
-pub mod SameTimes
-pub mod SameSizes
--- the lemma of each node is accepted, and states what the node composes
-pub mod NodeLemmas
--- finds that stand give lemmas
-pub mod StartFacts
-pub mod StandingKeys
-pub mod FindFacts
-pub mod StandingLemmas
-pub mod StandingLaws
 -- where answers are one, so are rounds and the last finds
 pub mod OneOrder
 pub mod LastIsOne
@@ -81,5 +65,3 @@ pub mod WorkedStanding
 pub mod WorkedFirst
 pub mod WorkedRight
 pub mod WorkedAnswers
-=======
->>>>>>> 3d072feafc69b924f4c42d2df9e4e54717f10f57

@@ -15,10 +15,9 @@ use Rattle.rule_questions.specs.proof_nodes.AcceptsSizes.{AcceptsSpread, Accepts
 use Rattle.rule_questions.specs.proof_nodes.Reasons.{Reason, MissingTime, MissingSize, Large, IsFirstAmong}
 use Rattle.rule_questions.specs.proof_nodes.Reasons as reasons
 use Rattle.rule_questions.specs.proof_nodes.Checks.{spread_checks, cycle_checks}
-use Rattle.rule_questions.specs.proof_tree.Shut.{is_shut}
 use Rattle.rule_questions.specs.proof_tree.declared.answer.Trip.{Trip}
 use Rattle.rule_questions.specs.proof_tree.declared.answer.Question.TheVariants as asked
-use Rattle.rule_questions.specs.proof_nodes.Gaps.{ScaledPoint, SymbolPlace, Gap}
+use Rattle.rule_questions.specs.proof_nodes.Gaps.{ScaledPoint, SymbolPlace, Gap, is_shut}
 use Rattle.rule_questions.specs.ProgramQuestions.{ranked_set}
 use Rattle.bound_rounds.specs.Keys.{Bounds, has_key, over}
 use Rattle.bound_rounds.specs.Finds.{Node, EmptyBy, UnreachedBy, NeverBy, RankBy, SpreadBy, CycleBy, keys_of}

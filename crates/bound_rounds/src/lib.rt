@@ -3,7 +3,6 @@
 //! `specs/` and their laws: the functions here have no code, and the contract of each is a law.
 #![tactic(auto)]
 
-<<<<<<< HEAD
 ghost use Rattle.bound_rounds.specs.Laws.{StandingFindsHaveLemmas, FindsAreNumbered, StandingFindsHold, MadeFindsStand};
 ghost use Rattle.bound_rounds.specs.Laws.{RoundsEnd, ComponentsAreUniform, LastFindsAreOne, LastFindsExist};
 ghost use Rattle.bound_rounds.specs.Laws.{MissingBoundsHaveReasons};
@@ -15,10 +14,6 @@ ghost use Rattle.bound_rounds.specs.WorkedFirst.{FirstFindsAreWorkedOut, RightAn
 ghost use Rattle.bound_rounds.specs.WorkedFirst.{RightRankingsAreWorkedOut};
 ghost use Rattle.bound_rounds.specs.WorkedRounds.{FirstRoundIsWorkedOut, LaterRoundsAreWorkedOut, ReasonsAreWorkedOut};
 ghost use Rattle.bound_rounds.specs.WorkedAnswers.{AnswersAreWorkedOut, RightSizesAreWorkedOut, MissingIsWorkedOut};
-=======
-ghost use Rattle.bound_rounds.specs.Laws.{StandingFindsHaveLemmas, FindsAreNumbered, StandingFindsHold};
-ghost use Rattle.bound_rounds.specs.Laws.{MadeFindsStand, RoundsEnd, ComponentsAreUniform};
->>>>>>> 3d072feafc69b924f4c42d2df9e4e54717f10f57
 
 /// The lemmas of finds that stand are accepted, and each states what its find does.
 pub fn standing_finds_have_lemmas()
@@ -48,7 +43,6 @@ pub fn rounds_end()
 /// With all finds that rounds make the members of a component have one size, or none has one.
 pub fn components_are_uniform()
     ensures { ComponentsAreUniform }
-<<<<<<< HEAD
 {}
 
 /// Rounds make one last list of finds, with which a bound that is missing has one reason.
@@ -109,6 +103,4 @@ pub fn answers_are_as_worked_out()
     ensures answers { AnswersAreWorkedOut }
     ensures sizes { RightSizesAreWorkedOut }
     ensures missing { MissingIsWorkedOut }
-=======
->>>>>>> 3d072feafc69b924f4c42d2df9e4e54717f10f57
 {}
