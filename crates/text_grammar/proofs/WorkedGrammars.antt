@@ -7,6 +7,7 @@ use Rattle.text_grammar.specs.Texts.{Text, reader, IsLawful}
 use Rattle.text_grammar.specs.Worked.{class_of, bracket_text, GrammarsAreTold, RulesAreSpelled, BracketsAreTold, TextsAreRead, WorkedGrammars}
 use Rattle.text_grammar.proofs.ReaderLaws.{reader_laws}
 use Rattle.text_grammar.proofs.SilenceLaws.{stands_where_silent}
+use Rattle.text_grammar.proofs.PartLaws.{derived_value, value_derived}
 
 grammars : GrammarsAreTold
 grammars = record {
