@@ -1,6 +1,6 @@
 -- Derivations and values of nonterminals: what is derived with nothing against it is what the parts of a value spell, and
 -- the other way round, for every grammar whose alternatives do so.
-use Rattle.std.proofs.Common.{◌≡◌, ℕ, List, [], ◌∷◌, ◌++◌, refl, ap, sym, subst, ◌∙◌, append_assoc, append-nil, Option, Some, None}
+use Rattle.std.proofs.Common.{◌≡◌, ℕ, List, [], ◌∷◌, ◌++◌, refl, ap, sym, subst, ◌∙◌, append_assoc, append-nil, Option, Some, None, inl, inr}
 use Rattle.std.specs.Prelude.{⊤}
 use Rattle.text_core.specs.Faults.{Among}
 use Rattle.text_grammar.specs.declared.symbol.Symbol.{Symbol}
@@ -11,6 +11,12 @@ use Rattle.text_grammar.specs.Parts.{Part, Says, Does, Puts, Atoms, events_of, s
 use Rattle.text_grammar.proofs.Events.{derived_both}
 use Rattle.text_grammar.proofs.FoldLaws.{after_append, passes_append, passes_split}
 use Rattle.text_grammar.proofs.Induction.{StandsAlong, derived_stands}
+
+module _ {P : Type 0} (g : Grammar P) (only : ℕ → Option P) where
+  -- a class that has only one piece has that one
+  pub record IsOnly : Type 0 where
+    pub one : (c : ℕ) (p q : P) → only c ≡ Some p → g.class_of q ≡ c → q ≡ p
+    pub its : (c : ℕ) (p : P) → only c ≡ Some p → g.class_of p ≡ c
 
 module _ {P S T K A : Type 0} (f : Fold P S T K) (a : Atoms P S A) where
   -- parts one behind the other
@@ -67,20 +73,36 @@ module _ {P S T K A : Type 0} (f : Fold P S T K) (a : Atoms P S A) where
     pub comes : come f a s xs ≡ t
 
   module _ (g : Grammar P) (only : ℕ → Option P) (V : ℕ → Type 0) (parts : (n : ℕ) → V n → List (Part P A)) where
-    -- a class that has only one piece has that one
-    pub record IsOnly : Type 0 where
-      pub one : (c : ℕ) (p q : P) → only c ≡ Some p → g.class_of q ≡ c → q ≡ p
-      pub its : (c : ℕ) (p : P) → only c ≡ Some p → g.class_of p ≡ c
-
     -- parts of a nonterminal before others
     parts_made : (n : ℕ) (ss : List Symbol) (v : V n) (vs : Values g only V parts ss) → body_parts g only V parts (Made n ∷ ss) (v, vs) ≡ parts n v ++ body_parts g only V parts ss vs
     parts_made n [] v vs = sym (append-nil (parts n v))
     parts_made n (s ∷ ss) v vs = refl
 
-    -- values within a nonterminal's alternative make a value of its own, which spells the same and comes to the same
+    -- values within an alternative make a value of its nonterminal, which spells the same and comes to the same
+    abbrev pub Gives : ℕ → List Symbol → Type 0
+    Gives n body = (vs : Values g only V parts body) (s t : S) (ps : List P) → ComesTo s t ps (body_parts g only V parts body vs) → (v : V n) × ComesTo s t ps (parts n v)
+
+    abbrev pub AllGive : ℕ → List (List Symbol) → Type 0
+    AllGive n [] = ⊤
+    AllGive n (body ∷ bodies) = Gives n body × AllGive n bodies
+
+    -- so it is with each alternative
     pub record AreMade : Type 0 where
-      pub each : (n : ℕ) (body : List Symbol) → Among body (alternatives g.rules n) → (vs : Values g only V parts body) (s t : S) (ps : List P)
-          → ComesTo s t ps (body_parts g only V parts body vs) → (v : V n) × ComesTo s t ps (parts n v)
+      pub each : (n : ℕ) → AllGive n (alternatives g.rules n)
+
+    -- values within an alternative are those of a value of the nonterminal, for each of some
+    abbrev pub AllMake : ℕ → List (List Symbol) → Type 0
+    AllMake n [] = ⊤
+    AllMake n (body ∷ bodies) = ((vs : Values g only V parts body) → (v : V n) × (parts n v ≡ body_parts g only V parts body vs)) × AllMake n bodies
+
+    pub makes_give : (n : ℕ) (bodies : List (List Symbol)) → AllMake n bodies → AllGive n bodies
+    makes_give n [] h = tt
+    makes_give n (body ∷ bodies) h = (λ vs s t ps c. let v = h.0 vs in (v.0, subst (ComesTo s t ps) (sym v.1) c), makes_give n bodies h.1)
+
+    pub all_given : (n : ℕ) (bodies : List (List Symbol)) → AllGive n bodies → (body : List Symbol) → Among body bodies → Gives n body
+    all_given n [] h body b = absurd b
+    all_given n (other ∷ bodies) h body (inl e) = subst (Gives n) (sym e) h.0
+    all_given n (other ∷ bodies) h body (inr b) = all_given n bodies h.1 body b
 
     -- what a nonterminal stands for: with nothing against it, it is a value
     abbrev pub StandsFor : ℕ → List (Event P) → List P → Type 0
@@ -91,7 +113,7 @@ module _ {P S T K A : Type 0} (f : Fold P S T K) (a : Atoms P S A) where
     Within ss s t ps = (vs : Values g only V parts ss) × ComesTo s t ps (body_parts g only V parts ss vs)
 
     -- a piece, and values behind it
-    within_piece : IsOnly → (c : ℕ) (ss : List Symbol) (p : P) (s t : S) (ps : List P) → g.class_of p ≡ c → f.against s p ≡ None → Within ss (f.read p s) t ps → Within (Piece c ∷ ss) s t (p ∷ ps)
+    within_piece : IsOnly g only → (c : ℕ) (ss : List Symbol) (p : P) (s t : S) (ps : List P) → g.class_of p ≡ c → f.against s p ≡ None → Within ss (f.read p s) t ps → Within (Piece c ∷ ss) s t (p ∷ ps)
     within_piece h c ss p s t ps k n w = go (only c) refl
       where
         go : (o : Option P) → only c ≡ o → (vs : Chosen g only V parts o c (Values g only V parts ss)) × ComesTo s t (p ∷ ps) (chosen_parts g only V parts o c (body_parts g only V parts ss) vs)
@@ -103,7 +125,7 @@ module _ {P S T K A : Type 0} (f : Fold P S T K) (a : Atoms P S A) where
         go None e = ((p, k, w.0), record { spells = ap (λ (qs : List P). p ∷ qs) w.1.spells; stands = (n, w.1.stands); comes = w.1.comes })
 
     -- what stands along symbols with nothing against it is values within them
-    within : IsOnly → (ss : List Symbol) (es : List (Event P)) (ps : List P) → StandsAlong g StandsFor ss es ps → (s : S) → Passes f s es → Within ss s (after f s es) ps
+    within : IsOnly g only → (ss : List Symbol) (es : List (Event P)) (ps : List P) → StandsAlong g StandsFor ss es ps → (s : S) → Passes f s es → Within ss s (after f s es) ps
     within h [] es ps (e, k) s passes = (tt, record { spells = sym k; stands = tt; comes = ap (after f s) (sym e) })
     within h (Piece c ∷ ss) es ps (p, fs, qs, k, e, i, w) s passes =
         let here = subst (Passes f s) e passes in
@@ -124,9 +146,9 @@ module _ {P S T K A : Type 0} (f : Fold P S T K) (a : Atoms P S A) where
         } in ((v.0, r.0), subst (ComesTo s (after f s es) ps) (sym (parts_made n ss v.0 r.0)) whole)
 
     -- what is derived with nothing against it is a value
-    pub derived_value : IsOnly → AreMade → (n : ℕ) {es : List (Event P)} {ps : List P} → Derives g (Made n ∷ []) es ps → StandsFor n es ps
+    pub derived_value : IsOnly g only → AreMade → (n : ℕ) {es : List (Event P)} {ps : List P} → Derives g (Made n ∷ []) es ps → StandsFor n es ps
     derived_value h k n {es} {ps} d s passes =
-        let w = within h (Made n ∷ []) es ps (derived_stands g StandsFor (λ m body among fs qs along t p. let r = within h body fs qs along t p in k.each m body among r.0 t (after f t fs) qs r.1) d) s passes in
+        let w = within h (Made n ∷ []) es ps (derived_stands g StandsFor (λ m body among fs qs along t p. let r = within h body fs qs along t p in all_given m (alternatives g.rules m) (k.each m) body among r.0 t (after f t fs) qs r.1) d) s passes in
         (w.0.0, w.1)
 
     -- a value is derived
@@ -145,7 +167,7 @@ module _ {P S T K A : Type 0} (f : Fold P S T K) (a : Atoms P S A) where
     AreDerived (Made n ∷ ss) (v, vs) = Derived n v × AreDerived ss vs
 
     -- and so are the symbols
-    body_derived : IsOnly → (ss : List Symbol) (vs : Values g only V parts ss) → AreDerived ss vs → Derives g ss (events_of f a (body_parts g only V parts ss vs)) (spelled f a (body_parts g only V parts ss vs))
+    body_derived : IsOnly g only → (ss : List Symbol) (vs : Values g only V parts ss) → AreDerived ss vs → Derives g ss (events_of f a (body_parts g only V parts ss vs)) (spelled f a (body_parts g only V parts ss vs))
     body_derived h [] u d = nothing
     body_derived h (Piece c ∷ ss) vs d = go (only c) refl vs d (body_derived h ss)
       where
@@ -162,7 +184,7 @@ module _ {P S T K A : Type 0} (f : Fold P S T K) (a : Atoms P S A) where
         (subst (λ (ps : List P). Derives g (Made n ∷ ss) (events_of f a (parts n v) ++ events_of f a rest) ps) (sym (spelled-append (parts n v) rest)) (derived_both g d.0 (body_derived h ss vs d.1))))
 
     -- a nonterminal derives the parts of an alternative whose values are derived
-    pub value_derived : IsOnly → (n : ℕ) (body : List Symbol) → Among body (alternatives g.rules n) → (vs : Values g only V parts body) → AreDerived body vs
+    pub value_derived : IsOnly g only → (n : ℕ) (body : List Symbol) → Among body (alternatives g.rules n) → (vs : Values g only V parts body) → AreDerived body vs
         → Derives g (Made n ∷ []) (events_of f a (body_parts g only V parts body vs)) (spelled f a (body_parts g only V parts body vs))
     value_derived h n body among vs d =
         made n body among (subst (λ (ss : List Symbol). Derives g ss (events_of f a (body_parts g only V parts body vs)) (spelled f a (body_parts g only V parts body vs))) (sym (append-nil body)) (body_derived h body vs d))
