@@ -1,6 +1,6 @@
 use Rattle.std.proofs.Common.{sym, subst, List, length}
 use Rattle.text_grammar.specs.text_core.Tokens.{Token, AreInOrder}
-use Rattle.run_replay.proofs.RunAnswers.{tokens_in_order}
+use Rattle.text_grammar.proofs.ByteLaws.{tokens_in_order}
 use Rattle.run_replay.proofs.reading.judge.Goals as goal
 
 pub read-requires-clause-ordered : goal.read-requires-clause-ordered
