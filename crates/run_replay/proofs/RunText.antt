@@ -154,11 +154,25 @@ module _ (p : Program) where
       let r = rule_in p s.rule h.0.rule h.0.numbered in
       let count : length (steps ++ s ∷ []) + length ss ≤ step_limit = (let l = length-append steps (s ∷ []) in omega (arith, l, few)) in
       let line : Stands (stepping start steps s.rule) (values_parts s.free ++ (Says 10 ∷ Does 5 ∷ steps_parts ss)) =
-      line_stands s.free 5 (steps_parts ss) (stepping start steps s.rule) h.0.rule.free (λ n. refl) (ap free_in h.0.numbered) refl h.0.small h.0.free (steps_stand ss start (steps ++ s ∷ []) s.rule h.1 count) in
-      (when_none (nat_le step_limit (length steps)) Limit (has_room (length steps) (omega (arith, few))), (refl, (refl, (refl, (refl, (
-        when_none (is_no_rule p s.rule) BadReference (rule_taken p s.rule r.0 r.1 h.0.held),
-        subst (λ (n : ℕ). Stands (stepping start steps n) (values_parts s.free ++ (Says 10 ∷ Does 5 ∷ steps_parts ss))) (sym (capped s.rule h.0.held)) line,
-      ))))))
+      line_stands s.free 5 (steps_parts ss) (stepping start steps s.rule) h.0.rule.free (λ n. refl) (ap free_in h.0.numbered) refl h.0.small h.0.free (steps_stand ss start (steps ++ s ∷ []) s.rule h.1 count) in (
+        when_none (nat_le step_limit (length steps)) Limit (has_room (length steps) (omega (arith, few))),
+        (
+          refl,
+          (
+            refl,
+            (
+              refl,
+              (
+                refl,
+                (
+                  when_none (is_no_rule p s.rule) BadReference (rule_taken p s.rule r.0 r.1 h.0.held),
+                  subst (λ (n : ℕ). Stands (stepping start steps n) (values_parts s.free ++ (Says 10 ∷ Does 5 ∷ steps_parts ss))) (sym (capped s.rule h.0.held)) line,
+                ),
+              ),
+            ),
+          ),
+        ),
+      )
 
   stand_steps : (ss : List Step) (start : List ℤ) (steps : List Step) (rule : ℕ) → Stands (lined start steps rule) (steps_parts ss) → AreStepsOf p ss × (length steps ≤ step_limit → length steps + length ss ≤ step_limit)
   stand_steps [] start steps rule h = (tt, λ l. omega (arith, l))

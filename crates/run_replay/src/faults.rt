@@ -3,8 +3,8 @@
 ghost use Rattle.std.specs.Prelude.{◌≡◌};
 ghost use Rattle.its_model.specs.Views.{program_of};
 ghost use Rattle.its_model.specs.model.Programs.{rule_at, arity_of};
-ghost use Rattle.run_replay.specs.Texts.{against_number as number_fault, differs, free_in, is_full as is_full_at, wanted};
-ghost use Rattle.run_replay.specs.Texts.{is_no_rule as is_no_rule_at};
+ghost use Rattle.run_replay.specs.Texts.{against_number as number_fault, differs, free_in, wanted};
+ghost use Rattle.run_replay.specs.Texts.{is_no_rule as is_no_rule_at, is_full as is_full_at};
 
 use crate::phase::{Phase, RunKind};
 use its_model::Program;

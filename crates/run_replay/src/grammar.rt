@@ -1,8 +1,10 @@
 //! The grammar of run files, over single bytes.
 
 use text_grammar::Item::{self, AMade, AMark, APiece, End, Or};
-use text_grammar::{DIGITS, MINUS, MORE, NATURAL, NATURAL_READ, NUMBER, NUMBER_BEGINS};
-use text_grammar::{ONE, POSITIVE, VALUE, VALUE_READ, ZERO};
+use text_grammar::{
+    DIGITS, MINUS, MORE, NATURAL, NATURAL_READ, NUMBER, NUMBER_BEGINS, ONE, POSITIVE, VALUE,
+    VALUE_READ, ZERO,
+};
 
 /// The letters of its words, of which each is a class behind those of digits and `-`.
 #[rattlefmt::skip]
@@ -10,17 +12,29 @@ pub const LETTERS: [u8; 13] =
     [b' ', b'\n', b's', b't', b'e', b'p', b'a', b'd', b'k', b'n', b'o', b'r', b'u'];
 
 const BLANK: u32 = 4;
+
 const LINE_FEED: u32 = 5;
+
 const S: u32 = 6;
+
 const T: u32 = 7;
+
 const E: u32 = 8;
+
 const P: u32 = 9;
+
 const A: u32 = 10;
+
 const D: u32 = 11;
+
 const K: u32 = 12;
+
 const N: u32 = 13;
+
 const O: u32 = 14;
+
 const R: u32 = 15;
+
 const U: u32 = 16;
 
 /// How many classes of bytes there are.
@@ -36,6 +50,7 @@ pub const START_READ: u32 = 4;
 pub const STEP_READ: u32 = 5;
 
 const VALUES: u32 = 6;
+
 const LINES: u32 = 7;
 
 /// The rules: text, those of numbers, values, lines.

@@ -18,8 +18,9 @@ use crate::phase::{Phase, RunKind};
 use its_model::{Program, Step};
 use std::alloc::{AllocError, Global};
 use std::mem::replace;
-use text_grammar::{Fault, Text, Token};
-use text_grammar::{NATURAL_READ, NUMBER_BEGINS, Numeral, VALUE_READ, class_of};
+use text_grammar::{
+    Fault, NATURAL_READ, NUMBER_BEGINS, Numeral, Text, Token, VALUE_READ, class_of,
+};
 
 /// A run file of a program, as far as it has been read.
 #[derive(Drop)]
@@ -121,7 +122,8 @@ impl<'a> Text for State<'a> {
     }
 
     fn fault(&self, token: Token<u8>) -> Option<Fault<RunKind>>
-        ensures { (es : List (Event ℕ)) → state_of self.now ≡ state (fold_of (run_bytes (program_of self.now.program.now))) es
+        ensures { (es : List (Event ℕ))
+            → state_of self.now ≡ state (fold_of (run_bytes (program_of self.now.program.now))) es
             → fault_of result ≡ first_shown (runs_of (program_of self.now.program.now)) None
             ((runs_of (program_of self.now.program.now)).faults es (token_of token)) }
     {

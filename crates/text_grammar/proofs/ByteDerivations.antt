@@ -113,9 +113,13 @@ module _ {S T K : Type 0} (x : ByteText S T K) (bounded : IsBounded x) (numbers 
   digits_made : Making 5 digits_rule
   digits_made = (
     λ (d, u). (record { bytes = 48 ∷ d.bytes; digits = (digit_below 48 (omega arith) (omega arith), d.digits) }, refl),
-    (λ (d, u). (record { bytes = 49 ∷ d.bytes; digits = (digit_below 49 (omega arith) (omega arith), d.digits) }, refl),
-    (λ (c, k, (d, u)). let r = many x.letters c k in (record { bytes = c ∷ d.bytes; digits = (digit_below c (let l = r.0 in omega (arith, l)) r.1, d.digits) }, refl),
-    (λ u. (record { bytes = []; digits = tt }, refl), tt))),
+    (
+      λ (d, u). (record { bytes = 49 ∷ d.bytes; digits = (digit_below 49 (omega arith) (omega arith), d.digits) }, refl),
+      (
+        λ (c, k, (d, u)). let r = many x.letters c k in (record { bytes = c ∷ d.bytes; digits = (digit_below c (let l = r.0 in omega (arith, l)) r.1, d.digits) }, refl),
+        (λ u. (record { bytes = []; digits = tt }, refl), tt),
+      ),
+    ),
   )
 
   -- so each alternative is made of values

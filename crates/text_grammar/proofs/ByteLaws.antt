@@ -72,7 +72,7 @@ module _ (letters : List ℕ) where
       some : (b : ℕ) → Some b ≡ Some p → b ≡ p
       some b e = cc
 
-      go : (u v w y : Bool) → (q == 48) ≡ u → (q == 49) ≡ v → (q == 45) ≡ y → only letters (cond u 0 (cond v 1 (cond w 2 (cond y 3 (suc (suc (suc (suc (place_of letters q)))))))) ) ≡ Some p → q ≡ p
+      go : (u v w y : Bool) → (q == 48) ≡ u → (q == 49) ≡ v → (q == 45) ≡ y → only letters (cond u 0 (cond v 1 (cond w 2 (cond y 3 (suc (suc (suc (suc (place_of letters q))))))))) ≡ Some p → q ≡ p
       go true v w y f g k e = eqb-true q 48 f ∙ some 48 e
       go false true w y f g k e = eqb-true q 49 g ∙ some 49 e
       go false false true y f g k e = cc

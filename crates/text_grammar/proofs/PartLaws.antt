@@ -117,11 +117,14 @@ module _ {P S T K A : Type 0} (f : Fold P S T K) (a : Atoms P S A) where
     within_piece h c ss p s t ps k n w = go (only c) refl
       where
         go : (o : Option P) → only c ≡ o → (vs : Chosen g only V parts o c (Values g only V parts ss)) × ComesTo s t (p ∷ ps) (chosen_parts g only V parts o c (body_parts g only V parts ss) vs)
-        go (Some q) e = let same = h.one c q p e k in (w.0, subst (λ (x : P). ComesTo s t (p ∷ ps) (Says x ∷ body_parts g only V parts ss w.0)) same (record {
-          spells = ap (λ (qs : List P). p ∷ qs) w.1.spells;
-          stands = (n, w.1.stands);
-          comes = w.1.comes;
-        }))
+        go (Some q) e = let same = h.one c q p e k in (
+          w.0,
+          subst (λ (x : P). ComesTo s t (p ∷ ps) (Says x ∷ body_parts g only V parts ss w.0)) same (record {
+            spells = ap (λ (qs : List P). p ∷ qs) w.1.spells;
+            stands = (n, w.1.stands);
+            comes = w.1.comes;
+          }),
+        )
         go None e = ((p, k, w.0), record { spells = ap (λ (qs : List P). p ∷ qs) w.1.spells; stands = (n, w.1.stands); comes = w.1.comes })
 
     -- what stands along symbols with nothing against it is values within them

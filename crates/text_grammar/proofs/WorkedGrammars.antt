@@ -7,9 +7,6 @@ use Rattle.text_grammar.specs.Texts.{Text, reader, IsLawful}
 use Rattle.text_grammar.specs.Worked.{class_of, bracket_text, GrammarsAreTold, RulesAreSpelled, BracketsAreTold, TextsAreRead, WorkedGrammars}
 use Rattle.text_grammar.proofs.ReaderLaws.{reader_laws}
 use Rattle.text_grammar.proofs.SilenceLaws.{stands_where_silent}
-use Rattle.text_grammar.proofs.Numerals.{numbers_put, plain_stands, decimal_of}
-use Rattle.text_grammar.proofs.ByteLaws.{bytes_lawful, bytes_only}
-use Rattle.text_grammar.proofs.ByteDerivations.{answered, taken}
 
 grammars : GrammarsAreTold
 grammars = record {

@@ -88,7 +88,8 @@ pub record HasNumbers (rules : List (List (List Symbol))) : Type 0 where
   pub positive : alternatives rules 4 ≡ positive_rule
   pub digits : alternatives rules 5 ≡ digits_rule
 
--- the number that is being spelled: its sign, its value up to 2^64, and how many bytes of it have been read, up to 2^64-1
+-- the number that is being spelled: its sign, its value up to 2^64, and how many bytes of it have been read, up to
+-- 2^64-1
 pub record Numeral : Type 0 where
   pub negative : Bool
   pub number : ℕ

@@ -48,28 +48,28 @@ module _ {P S T K A : Type 0} (f : Fold P S T K) (a : Atoms P S A) where
 
 -- values of nonterminals, and the parts that they are made of; the piece of a class that has only one
 module _ {P A : Type 0} (g : Grammar P) (only : ℕ → Option P) (V : ℕ → Type 0) (parts : (n : ℕ) → V n → List (Part P A))
-    where
-  -- a piece of a class, unless the class has only one, and then the rest
-  abbrev pub Chosen : Option P → ℕ → Type 0 → Type 0
-  Chosen (Some p) c rest = rest
-  Chosen None c rest = (p : P) × (g.class_of p ≡ c) × rest
+  where
+    -- a piece of a class, unless the class has only one, and then the rest
+    abbrev pub Chosen : Option P → ℕ → Type 0 → Type 0
+    Chosen (Some p) c rest = rest
+    Chosen None c rest = (p : P) × (g.class_of p ≡ c) × rest
 
-  -- the values within symbols
-  abbrev pub Values : List Symbol → Type 0
-  Values [] = ⊤
-  Values (Piece c ∷ ss) = Chosen (only c) c (Values ss)
-  Values (Mark m ∷ ss) = Values ss
-  Values (Made n ∷ ss) = V n × Values ss
+    -- the values within symbols
+    abbrev pub Values : List Symbol → Type 0
+    Values [] = ⊤
+    Values (Piece c ∷ ss) = Chosen (only c) c (Values ss)
+    Values (Mark m ∷ ss) = Values ss
+    Values (Made n ∷ ss) = V n × Values ss
 
-  abbrev pub chosen_parts : {R : Type 0} → (o : Option P) → (c : ℕ) → (R → List (Part P A)) → Chosen o c R
-      → List (Part P A)
-  chosen_parts (Some p) c more vs = Says p ∷ more vs
-  chosen_parts None c more (p, k, vs) = Says p ∷ more vs
+    abbrev pub chosen_parts : {R : Type 0} → (o : Option P) → (c : ℕ) → (R → List (Part P A)) → Chosen o c R
+        → List (Part P A)
+    chosen_parts (Some p) c more vs = Says p ∷ more vs
+    chosen_parts None c more (p, k, vs) = Says p ∷ more vs
 
-  -- the parts of symbols with these values
-  abbrev pub body_parts : (ss : List Symbol) → Values ss → List (Part P A)
-  body_parts [] u = []
-  body_parts (Piece c ∷ ss) vs = chosen_parts (only c) c (body_parts ss) vs
-  body_parts (Mark m ∷ ss) vs = Does m ∷ body_parts ss vs
-  body_parts (Made n ∷ []) (v, u) = parts n v
-  body_parts (Made n ∷ s ∷ ss) (v, vs) = parts n v ++ body_parts (s ∷ ss) vs
+    -- the parts of symbols with these values
+    abbrev pub body_parts : (ss : List Symbol) → Values ss → List (Part P A)
+    body_parts [] u = []
+    body_parts (Piece c ∷ ss) vs = chosen_parts (only c) c (body_parts ss) vs
+    body_parts (Mark m ∷ ss) vs = Does m ∷ body_parts ss vs
+    body_parts (Made n ∷ []) (v, u) = parts n v
+    body_parts (Made n ∷ s ∷ ss) (v, vs) = parts n v ++ body_parts (s ∷ ss) vs

@@ -16,8 +16,10 @@ mod tables;
 mod text;
 mod token;
 
-pub use bytes::{Bytes, DIGITS, MINUS, MORE, NATURAL, NATURAL_READ, NUMBER, NUMBER_BEGINS, ONE};
-pub use bytes::{POSITIVE, VALUE, VALUE_READ, ZERO, class_of};
+pub use bytes::{
+    Bytes, DIGITS, MINUS, MORE, NATURAL, NATURAL_READ, NUMBER, NUMBER_BEGINS, ONE, POSITIVE, VALUE,
+    VALUE_READ, ZERO, class_of,
+};
 pub use cut::{Cut, Lexeme, Lexer, OneMode};
 pub use law::{lawful_texts_are_read, worked_grammars_hold};
 pub use numeral::Numeral;
