@@ -3,12 +3,18 @@ use Rattle.std.proofs.Common.{◌≡◌, ℕ, List, [], ◌∷◌, length, Ok, E
 use Rattle.std.specs.Prelude.{Result, Option, Some, None, IfSome}
 use Rattle.its_model.specs.model.Programs.{Program}
 use Rattle.text_grammar.specs.text_core.Readers.{Fault}
+use Rattle.text_grammar.specs.text_core.Tokens.{Token}
 use Rattle.text_grammar.specs.text_core.Faults.{IsFirst}
 use Rattle.text_grammar.specs.text_core.Reading.{Answer, Stands, Refused, answer}
 use Rattle.text_grammar.specs.text_core.Reading as reading
 use Rattle.text_grammar.proofs.text_core.FirstFaults.{answer_is}
 use Rattle.text_grammar.specs.Texts.{reader}
 use Rattle.text_grammar.specs.ByteTexts.{tokens}
+use Rattle.text_grammar.specs.Following as following
+use Rattle.text_grammar.specs.Marks.{refusal_of}
+use Rattle.text_grammar.specs.declared.token.Refusal.{Refusal}
+use Rattle.text_grammar.specs.declared.token.Refusal.TheVariants.{Refuses}
+use Rattle.text_grammar.specs.declared.token.Fault.{Fault as CodeFault}
 use Rattle.text_grammar.proofs.ReaderLaws.{reader_laws}
 use Rattle.text_grammar.proofs.ByteDerivations.{answered, taken}
 use Rattle.run_replay.specs.declared.file.RunFile.{RunFile}
@@ -17,7 +23,7 @@ use Rattle.run_replay.specs.declared.error.RunTextError.{RunTextError}
 use Rattle.run_replay.specs.Runs.{Run}
 use Rattle.run_replay.specs.Texts.{run_bytes, runs_of}
 use Rattle.run_replay.specs.Spelled.{text_of, IsWithin, IsTextWithin, OneRun}
-use Rattle.run_replay.specs.Views.{refusal_in, Says, Answers, GivesBack}
+use Rattle.run_replay.specs.Views.{run_of, refusal_in, Says, Answers, GivesBack}
 use Rattle.run_replay.proofs.RunParts.{RunValue, run_parts, bounded, readable, numbers, runs_made, runs_lawful, run_derived}
 use Rattle.run_replay.proofs.RunText.{run_spells, run_stands, stand_run, run_comes}
 
@@ -64,3 +70,24 @@ says_gives_back p bytes result r h w =
     go : (result : Result RunFile RunTextError) → Says (Stands r) result → GivesBack r result
     go (Ok file) s = s
     go (Err e) s = s
+
+-- what reading says of an answer a result says, for programs and tokens that are the same
+pub read_says : (p q : Program) (n : ℕ) (us ts : List (Token ℕ)) (result : Result RunFile (Refusal RunKind)) → q ≡ p → us ≡ ts → following.Says (λ file r. run_of file ≡ r) (answer (reader (runs_of q)) n us) result
+    → (file : RunFile) → result ≡ Ok file → Says (answer (reader (runs_of p)) n ts) (Ok file)
+read_says p q n us ts result e f h file is =
+    subst (λ (o : Program). Says (answer (reader (runs_of o)) n ts) (Ok file)) e (subst (λ (vs : List (Token ℕ)). Says (answer (reader (runs_of q)) n vs) (Ok file)) f
+    (go (answer (reader (runs_of q)) n us) (subst (following.Says (λ file r. run_of file ≡ r) (answer (reader (runs_of q)) n us)) is h)))
+  where
+    go : (a : Answer Run RunKind) → following.Says (λ file r. run_of file ≡ r) a (Ok file) → Says a (Ok file)
+    go (Stands r) s = s
+    go (Refused x) s = s
+
+pub read_refuses : (p q : Program) (n : ℕ) (us ts : List (Token ℕ)) (result : Result RunFile (Refusal RunKind)) → q ≡ p → us ≡ ts → following.Says (λ file r. run_of file ≡ r) (answer (reader (runs_of q)) n us) result
+    → (y : CodeFault RunKind) (x : Refusal RunKind) (error : RunTextError) → result ≡ Err x → x ≡ Refuses y → refusal_in error ≡ Some (refusal_of y) → Says (answer (reader (runs_of p)) n ts) (Err error)
+read_refuses p q n us ts result e f h y x error is same told =
+    subst (λ (o : Program). Says (answer (reader (runs_of o)) n ts) (Err error)) e (subst (λ (vs : List (Token ℕ)). Says (answer (reader (runs_of q)) n vs) (Err error)) f
+    (go (answer (reader (runs_of q)) n us) (subst (λ (z : Refusal RunKind). following.Says (λ file r. run_of file ≡ r) (answer (reader (runs_of q)) n us) (Err z)) same (subst (following.Says (λ file r. run_of file ≡ r) (answer (reader (runs_of q)) n us)) is h))))
+  where
+    go : (a : Answer Run RunKind) → following.Says (λ file r. run_of file ≡ r) a (Err (Refuses y)) → Says a (Err error)
+    go (Stands r) s = absurd s
+    go (Refused x) s = subst (λ (o : Option (Fault RunKind)). IfSome o (λ z. z ≡ x)) (sym told) s
