@@ -155,8 +155,8 @@ IsRightSizing s b keys (SizedBy node) = IsSizingOf s b keys node
 IsRightSizing s b keys (Unsized why) = IsCause s b keys why
 
 -- all answers are right: those about emptiness for each rule; those to rank questions for each set of rules that holds
--- the rule; the components are those of the places of live rules; and each size, or why there is none, is right over the
--- bounds over which the places were tried, as one of them has no size there
+-- the rule; the components are those of the places of live rules; and each size, or why there is none, is right over
+-- the bounds over which the places were tried, as one of them has no size there
 pub record AreRight (q : Searches) (s : Setting) : Type 0 where
   pub empty : (t : ℕ) (e : Emptiness) → IsRule s.program t → q.Empties t e → IsRightEmptiness s t e
   pub rank : (set : List ℕ) (t : ℕ) (shut : List SymbolPlace) (r : Ranking) → IsQuestion s.program set t

@@ -98,8 +98,8 @@ none_told = record {
   size = all_trips.size;
 }
 
--- a function is the right answer where it ranks the rule over exactly the set and reads no shut place. Of the rules of a
--- set whose emptiness question trips the first counts
+-- a function is the right answer where it ranks the rule over exactly the set and reads no shut place. Of the rules of
+-- a set whose emptiness question trips the first counts
 pub record RightRankingsAreWorkedOut : Type 0 where
   pub ranks : IsRightRanking (searches_of all_trips) counting (2 ∷ []) 2 [] (Ranked alone_node)
   pub not_other_set : ¬ (IsRightRanking (searches_of all_trips) counting (1 ∷ 2 ∷ []) 2 [] (Ranked alone_node))
