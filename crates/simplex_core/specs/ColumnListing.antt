@@ -24,6 +24,10 @@ pub record AreListed (columns : List Column) (lists : List RowColumns) (n m : �
 pub record AreRowsBelow (cells : List Cell) (n : ℕ) : Type 0 where
   pub each : (k : ℕ) (c : Cell) → slice_get cells k ≡ Some c → c.row < n
 
+-- the cells are numbers of the column
+pub record AreCellsOf (x : Column) (cells : List Cell) : Type 0 where
+  pub each : (k : ℕ) (c : Cell) → slice_get cells k ≡ Some c → numerator x c.row ≡ c.number
+
 -- column j is put into the list of a cell's row, where the column x has 0, and each list names what it did
 pub record PutsAt (old new : List RowColumns) (x : Column) (c : Cell) (j : ℕ) : Type 0 where
   pub length_is : length new ≡ length old

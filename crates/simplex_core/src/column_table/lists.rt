@@ -1,7 +1,9 @@
 //! For each row the columns that may have a number there.
 
-ghost use Rattle.std.specs.Prelude.{◌≡◌, ◌<◌, ◌^◌, IfOk, length, ◌++◌, [], ◌∷◌};
-ghost use Rattle.simplex_core.specs.ColumnListing.{AreListed, PutsAt, PutsNew, AreRowsBelow};
+ghost use Rattle.std.specs.Prelude.{◌≡◌, ◌<◌, ◌^◌, IfOk, true, Some, slice_get, length, ◌++◌, [], ◌∷◌};
+ghost use Rattle.simplex_core.specs.ColumnListing.{AreListed, PutsAt, PutsNew, AreRowsBelow, AreCellsOf};
+ghost use Rattle.sparse_columns.specs.declared.cell.Cell.{Cell};
+ghost use Rattle.sparse_columns.specs.declared.column.Column.{Column};
 
 use sparse_columns::{Cell, Column};
 use std::alloc::{AllocError, Global};
@@ -52,7 +54,7 @@ pub(super) fn first_lists(
     let mut lists = empty_lists(alloc, rows)?;
     for position in 0..columns.len() {
         let cells = columns[position].cells().before(rows);
-        put_new(&mut lists, &none, cells, position as u32)?;
+        put_new(&mut lists, &none, rows, cells, position as u32)?;
     }
     Ok(lists)
 }
@@ -68,10 +70,11 @@ fn empty_lists(alloc: Global, rows: u32) -> Result<Vec<RowColumns>, AllocError>
     Ok(lists)
 }
 
-/// Puts a position into the list of the row of each cell where a column has 0.
+/// Puts a position into the list of the row of each cell where a column has 0. The cells are in rows before this one.
 pub(super) fn put_new(
     lists: &mut Vec<RowColumns>,
     column: &Column,
+    rows: u32,
     cells: &[Cell],
     position: u32,
 ) -> Result<(), AllocError>
@@ -80,25 +83,46 @@ pub(super) fn put_new(
     ensures puts { IfOk result (λ _. PutsNew lists.old.items lists.new.items column.now cells.now position
         (length cells.now)) }
 {
+    let own = column.cells().before(rows);
+    let mut index = 0;
     for cell in cells {
-        put(lists, column, *cell, position)?;
+        index = first_behind(own, index, cell.row);
+        put(lists, own, index, *cell, position)?;
     }
     Ok(())
 }
 
-/// Puts a position into the list of a cell's row, if a column has 0 there.
+/// The first index from one on whose cell isn't in a row before this one, where the rows ascend.
+fn first_behind(cells: &[Cell], index: usize, row: u32) -> usize {
+    let mut found = index;
+    while found < cells.len() && cells[found].row < row {
+        found += 1;
+    }
+    found
+}
+
+/// Puts a position into the list of a cell's row, unless a column's own cell at an index is in that row.
 fn put(
     lists: &mut Vec<RowColumns>,
-    column: &Column,
+    own: &[Cell],
+    index: usize,
     cell: Cell,
     position: u32,
 ) -> Result<(), AllocError>
     requires { cell.row < length lists.old.items }
     ensures size { length lists.new.items ≡ length lists.old.items }
-    ensures puts { IfOk result (λ _. PutsAt lists.old.items lists.new.items column.now cell position) }
+    ensures puts { IfOk result (λ _. (x : Column) → AreCellsOf x own.now
+        → PutsAt lists.old.items lists.new.items x cell position) }
 {
-    if column.at(cell.row) != 0 {
+    if is_in_row(own, index, cell.row) {
         return Ok(());
     }
     lists[cell.row as usize].push(position)
+}
+
+/// Whether there is a cell at an index, and it is in this row.
+fn is_in_row(cells: &[Cell], index: usize, row: u32) -> bool
+    ensures { result ≡ true → (c : Cell) × (slice_get cells.now index ≡ Some c) × (c.row ≡ row) }
+{
+    index < cells.len() && cells[index].row == row
 }

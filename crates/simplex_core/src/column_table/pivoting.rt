@@ -83,6 +83,7 @@ impl ColumnTable {
         put_new(
             &mut self.lists,
             &self.columns[position as usize],
+            self.rows,
             cells,
             position,
         )

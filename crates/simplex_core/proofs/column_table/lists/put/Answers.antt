@@ -1,6 +1,5 @@
-use Rattle.std.proofs.Common.{◌≡◌, ◌≢◌, ◌∙◌, sym, arith, refl, length}
-use Rattle.std.specs.Prelude.{pos}
-use Rattle.std.proofs.lemmas.Int.{ints}
+use Rattle.std.proofs.Common.{◌≡◌, ◌≢◌, ◌∙◌, sym, ap, refl, length, subst, ℕ}
+use Rattle.std.specs.Prelude.{ℤ, pos}
 use Rattle.std.proofs.lemmas.Result.{IfOk-weaker}
 use Rattle.std.proofs.lemmas.List.{length-set}
 use Rattle.std.proofs.lemmas.Option.{slice_get_read}
@@ -8,20 +7,20 @@ use Rattle.sparse_columns.specs.Columns.{numerator}
 use Rattle.simplex_core.proofs.ColumnListings.{name-put, name-kept}
 use Rattle.simplex_core.proofs.column_table.lists.put.Goals as goal
 
-pub returns-then-at-ne0-clause-puts : goal.returns-then-at-ne0-clause-puts
-returns-then-at-ne0-clause-puts c =
-    let value = c.at.ensures.value in
-    let bounded = c.at.ensures.bounded in
-    let test = c.if-at-ne0.true in
-    let other : numerator c.args.column.now c.args.cell.row ≢ pos 0 = λ e. (let none = value ∙ e in omega (arith, ints, none, bounded, test)) in
-    name-kept c.args.lists.now.items c.args.column.now c.args.cell c.args.position other
+pub returns-then-is_in_row-clause-puts : goal.returns-then-is_in_row-clause-puts
+returns-then-is_in_row-clause-puts c x own =
+    let there = c.is_in_row.ensures c.if-is_in_row.true in
+    let number = own.each c.args.index there.0 there.1 in
+    let other : numerator x c.args.cell.row ≢ pos 0 =
+    subst (λ (i : ℕ). numerator x i ≢ pos 0) there.2 (subst (λ (z : ℤ). z ≢ pos 0) (sym number) there.0.nonzero) in
+    name-kept c.args.lists.now.items x c.args.cell c.args.position other
 
 pub returns-clause-size : goal.returns-clause-size
 returns-clause-size c = length-set c.args.lists.now.items c.args.cell.row c.push.new.self
 
 pub returns-clause-puts : goal.returns-clause-puts
-returns-clause-puts c = IfOk-weaker c.push.result _ _ (λ _ more.
+returns-clause-puts c = IfOk-weaker c.push.result _ _ (λ _ more x own.
     let items = c.args.lists.now.items in
     let list = c.index_mut.result.now in
     let is = slice_get_read items (length items) c.args.cell.row list refl c.requires c.index_mut.ensures.value in
-    name-put items c.args.column.now c.args.cell c.args.position list c.push.new.self is more) c.push.ensures
+    name-put items x c.args.cell c.args.position list c.push.new.self is more) c.push.ensures

@@ -1,6 +1,6 @@
-use Rattle.std.proofs.Common.{◌≡◌, subst, ℕ, length, refl, arith}
+use Rattle.std.proofs.Common.{◌≡◌, ◌∙◌, sym, subst, ℕ, length, refl, arith}
 use Rattle.std.proofs.lemmas.Option.{slice_get_read}
-use Rattle.simplex_core.specs.ColumnListing.{PutsNew}
+use Rattle.simplex_core.specs.ColumnListing.{PutsNew, AreCellsOf}
 use Rattle.simplex_core.proofs.ColumnListings.{new-none, new-more}
 use Rattle.simplex_core.proofs.column_table.lists.put_new.Goals as goal
 
@@ -21,8 +21,9 @@ loop-cell-preserved c =
     let cells = c.args.cells.now in
     let cell = c.cell-item.result in
     let at = slice_get_read cells (length cells) c.loop-cell.cell-index cell refl c.loop-cell-test.true c.cell-item.is in
+    let own : AreCellsOf c.args.column.now c.before-own.result.now = record { each = λ k e is. sym (c.cells.ensures e.row) ∙ c.before-own.ensures.lists.each k e is } in
     new-more c.args.lists.now.items c.loop-cell.lists.items c.put.new.lists.items c.args.column.now cells cell c.args.position c.loop-cell.cell-index
-    c.loop-cell.invariant c.in_ok-put.ensures.puts at
+    c.loop-cell.invariant (c.in_ok-put.ensures.puts c.args.column.now own) at
 
 pub returns-clause-puts : goal.returns-clause-puts
 returns-clause-puts c =
