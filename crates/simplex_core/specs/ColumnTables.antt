@@ -1,5 +1,5 @@
 -- How a table of columns shows a tableau.
-use Rattle.std.specs.Prelude.{◌≡◌, ◌≢◌, ℕ, ◌+◌, ◌<◌, ◌≤◌, ℤ, pos, ◌-ℤ◌, ◌*ℤ◌, ◌<ℤ◌, List, Option, Some, None, Bool, false}
+use Rattle.std.specs.Prelude.{◌≡◌, ◌≢◌, ℕ, ◌+◌, ◌<◌, ℤ, pos, ◌-ℤ◌, ◌*ℤ◌, ◌<ℤ◌, List, Option, Some, None, Bool, false}
 use Rattle.std.specs.Prelude.{true, slice_get}
 use Rattle.std.specs.Prelude.{slice_index, slice_set}
 use Rattle.sparse_columns.specs.declared.cell.Cell.{Cell}

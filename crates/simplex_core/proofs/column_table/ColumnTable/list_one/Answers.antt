@@ -1,5 +1,4 @@
-use Rattle.std.proofs.Common.{◌≡◌, ◌<◌, sym, ◌∙◌, ap, refl, arith, length, subst}
-use Rattle.std.specs.Prelude.{pos}
+use Rattle.std.proofs.Common.{◌≡◌, sym, ◌∙◌, ap, refl, length}
 use Rattle.std.proofs.lemmas.Result.{IfOk-weaker}
 use Rattle.std.proofs.lemmas.Option.{slice_get_read, slice_get_within, same_Some}
 use Rattle.sparse_columns.specs.declared.column.Column.{Column}

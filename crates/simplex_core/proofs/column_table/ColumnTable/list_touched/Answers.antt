@@ -1,7 +1,6 @@
-use Rattle.std.proofs.Common.{◌≡◌, ℕ, ap, subst, length, get_or, refl, arith}
+use Rattle.std.proofs.Common.{◌≡◌, ℕ, subst, length, get_or, refl, arith}
 use Rattle.std.proofs.lemmas.Option.{slice_get-get_or}
 use Rattle.simplex_core.specs.ColumnTables.{ListsTouched}
-use Rattle.simplex_core.specs.ColumnListing.{AreRowsBelow}
 use Rattle.simplex_core.proofs.ColumnListings.{touched-more}
 use Rattle.simplex_core.proofs.column_table.ColumnTable.list_touched.Goals as goal
 

@@ -1,8 +1,5 @@
-use Rattle.std.proofs.Common.{◌≡◌, ◌≢◌, ℕ, ◌<◌, ap, sym, ◌∙◌, subst, Some, length, refl, arith}
-use Rattle.std.specs.Prelude.{pos, slice_get}
+use Rattle.std.proofs.Common.{◌≡◌, ℕ, sym, ◌∙◌, subst, length, refl, arith}
 use Rattle.std.proofs.lemmas.Option.{slice_get_read}
-use Rattle.sparse_columns.specs.declared.cell.Cell.{Cell}
-use Rattle.sparse_columns.specs.Columns.{numerator}
 use Rattle.simplex_core.specs.ColumnListing.{AreListed}
 use Rattle.simplex_core.proofs.ColumnListings.{listed-more}
 use Rattle.simplex_core.proofs.column_table.lists.first_lists.Goals as goal
