@@ -18,7 +18,8 @@ pub record Names (lists : List RowColumns) (i j : ℕ) : Type 0 where
 
 -- of the first m columns, the list of each of the first n rows names those with a number there
 pub record AreListed (columns : List Column) (lists : List RowColumns) (n m : ℕ) : Type 0 where
-  pub each : (i j : ℕ) (x : Column) → i < n → j < m → slice_get columns j ≡ Some x → numerator x i ≢ pos 0 → Names lists i j
+  pub each : (i j : ℕ) (x : Column) → i < n → j < m → slice_get columns j ≡ Some x → numerator x i ≢ pos 0
+      → Names lists i j
 
 -- the cells are in the first n rows
 pub record AreRowsBelow (cells : List Cell) (n : ℕ) : Type 0 where

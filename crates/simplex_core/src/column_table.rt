@@ -16,8 +16,8 @@ use sparse_columns::Column;
 
 /// The columns of a tableau, those of the artificial unknowns behind the program's, and that of the right sides. The
 /// cost rows are rows behind the equations'; the right sides have none. Each number and each denominator is below 2^31
-/// by its type, so such a table is in range. For each equation's row the columns that may have a number there are listed,
-/// so that a pivot looks at no others.
+/// by its type, so such a table is in range. For each equation's row the columns that may have a number there are
+/// listed, so that a pivot looks at no others.
 #[derive(Debug, Drop)]
 pub(crate) struct ColumnTable {
     columns: Vec<Column>,
