@@ -66,7 +66,7 @@ pub record RoundsEnd : Type 0 where
 pub record MissingBoundsHaveReasons : Type 0 where
   pub times : (a : Answers) (s : Setting) (fs : List Find) → IsClosed (searches_of a) s fs → (t : ℕ)
       → IsRule s.program t → bounds_of s.program fs t 0 ≡ None → (why : NoBound)
-          × IsNoBound (searches_of a) s fs t 0 why
+      × IsNoBound (searches_of a) s fs t 0 why
   pub sizes : (a : Answers) (s : Setting) (fs : List Find) → IsClosed (searches_of a) s fs → (t i : ℕ)
       → IsCovered a.components t i → bounds_of s.program fs t i ≡ None
       → (why : NoBound) × IsNoBound (searches_of a) s fs t i why

@@ -60,10 +60,13 @@ module _ (n : ℕ) where
       → AreElements gs (map element_of (points_of y gs))
   seen-elements y [] shaped h = tt
   seen-elements y (g ∷ gs) shaped h = (
-    (omega (arith, ints), record {
-      each = λ k d l. subst (λ (v : ℤ). pos 0 ≤ℤ v)
-          (seen _ g.unknowns y ((All-head (IsGroupShaped n) g gs shaped).rows_fit k d l) h.0.0) (h.0.1.each k d l);
-    }),
+    (
+      omega (arith, ints),
+      record {
+        each = λ k d l. subst (λ (v : ℤ). pos 0 ≤ℤ v)
+            (seen _ g.unknowns y ((All-head (IsGroupShaped n) g gs shaped).rows_fit k d l) h.0.0) (h.0.1.each k d l);
+      },
+    ),
     seen-elements (after (suc g.unknowns) y) gs (All-tail (IsGroupShaped n) g gs shaped) h.1,
   )
 
