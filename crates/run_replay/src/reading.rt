@@ -5,10 +5,11 @@ ghost use Rattle.its_model.specs.Views.{program_of};
 ghost use Rattle.text_grammar.specs.text_core.Reading.{answer};
 ghost use Rattle.text_grammar.specs.Texts.{reader};
 ghost use Rattle.text_grammar.specs.ByteTexts.{tokens};
+ghost use Rattle.text_grammar.specs.Results.{Tells};
 ghost use Rattle.run_replay.specs.Runs.{Run};
 ghost use Rattle.run_replay.specs.Texts.{runs_of};
 ghost use Rattle.run_replay.specs.Spelled.{IsTextWithin};
-ghost use Rattle.run_replay.specs.Views.{Answers, GivesBack, Says, refusal_in};
+ghost use Rattle.run_replay.specs.Views.{Answers, GivesBack, refusal_in, run_of};
 
 use crate::error::RunTextError;
 use crate::file::RunFile;
@@ -41,7 +42,8 @@ pub fn read_run(alloc: Global, p: &Program, bytes: &[u8]) -> Result<RunFile, Run
 
 // The answer to a text.
 fn judge(alloc: Global, p: &Program, bytes: &[u8]) -> Result<RunFile, RunTextError>
-    ensures { Says (answer (reader (runs_of (program_of p.now))) (length bytes.now) (tokens bytes.now)) result }
+    ensures { Tells run_of refusal_in (answer (reader (runs_of (program_of p.now))) (length bytes.now)
+        (tokens bytes.now)) result }
 {
     let tables = Tables::new(alloc, &RUN_GRAMMAR, CLASSES, ROUNDS)?;
     let cut = Cut::new(Bytes, OneMode::Plain, bytes);
