@@ -3,8 +3,6 @@ use Rattle.std.specs.Prelude.{ℕ, List, map, Result, Option, Some, None}
 use Rattle.its_model.specs.Views.{step_of}
 use Rattle.its_model.specs.model.Programs.{Program}
 use Rattle.text_grammar.specs.text_core.Readers.{Fault}
-use Rattle.text_grammar.specs.ByteTexts.{Spelling}
-use Rattle.text_grammar.specs.CodeBytes.{numeral_of}
 use Rattle.text_grammar.specs.Results.{IsRight, Yields}
 use Rattle.run_replay.specs.declared.file.RunFile.{RunFile}
 use Rattle.run_replay.specs.declared.text.State as code
@@ -30,9 +28,6 @@ own_of s = record {
   values = s.values.items;
   rule = s.rule;
 }
-
-abbrev pub state_of : code.State → Spelling State
-state_of s = record { own = own_of s; numeral = numeral_of s.numeral }
 
 -- the refusal that an error stands for; want of memory stands for none
 abbrev pub refusal_in : RunTextError → Option (Fault RunKind)

@@ -18,7 +18,7 @@ use crate::phase::RunKind;
 use crate::text::State;
 use its_model::Program;
 use std::alloc::Global;
-use text_grammar::{Bytes, Cut, OneMode, Refusal, Tables, read};
+use text_grammar::{Bytes, Cut, OneMode, Refusal, Spelling, Tables, read};
 
 /// Reads the run that a text stands for, as one of a program.
 ///
@@ -50,7 +50,7 @@ fn judge(alloc: Global, p: &Program, bytes: &[u8]) -> Result<RunFile, RunTextErr
     match read(
         alloc,
         &tables,
-        State::new(alloc, p),
+        Spelling::new(State::new(alloc, p)),
         cut,
         bytes.len() as u64,
     ) {
