@@ -1,8 +1,8 @@
 -- Run files and what they are made of, both ways.
-use Rattle.std.proofs.Common.{◌≡◌, ℕ, zero, suc, ◌+◌, ◌-◌, ◌^◌, ◌<◌, ◌≤◌, Bool, true, false, List, [], ◌∷◌, ◌++◌}
+use Rattle.std.proofs.Common.{◌≡◌, ℕ, zero, suc, ◌^◌, ◌<◌, ◌≤◌, Bool, true, false, List, [], ◌∷◌, ◌++◌}
 use Rattle.std.proofs.Common.{length, refl, ap, arith, inl}
 use Rattle.std.proofs.Common.{inr, None}
-use Rattle.std.specs.Prelude.{not, nat_lt, ℤ, codes}
+use Rattle.std.specs.Prelude.{nat_lt, ℤ, codes}
 use Rattle.std.proofs.lemmas.Bool.Decides.{nat_tests}
 use Rattle.its_model.specs.model.Programs.{Program}
 use Rattle.its_model.specs.model.Runs.{Step}
