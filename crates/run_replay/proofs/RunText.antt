@@ -59,6 +59,14 @@ room n h = grind (arith, nat_tests)
 has_room : (n : ℕ) → n + 1 ≤ step_limit → nat_le step_limit n ≡ false
 has_room n h = grind (arith, nat_tests)
 
+-- a line of values that ends at a mark, before others
+abbrev line_parts : List ℤ → ℕ → List (Part ℕ Numbered) → List (Part ℕ Numbered)
+line_parts vs m xs = values_parts vs ++ (Says 10 ∷ Does m ∷ xs)
+
+-- no number is being spelled
+abbrev from : State → Spelling State
+from s = record { own = s; numeral = fresh }
+
 module _ (p : Program) where
   abbrev text_in : List (Part ℕ Numbered) → List ℕ
   text_in xs = spelled (fold_of (run_bytes p)) (numbers_of (run_bytes p)) xs
@@ -69,7 +77,7 @@ module _ (p : Program) where
   values_spell (v ∷ vs) = ap (λ (bs : List ℕ). 32 ∷ (signed_decimal v ++ bs)) (values_spell vs)
 
   line_spells : (vs : List ℤ) (m : ℕ) (xs : List (Part ℕ Numbered))
-      → text_in (values_parts vs ++ (Says 10 ∷ Does m ∷ xs)) ≡ values_text vs ++ 10 ∷ text_in xs
+      → text_in (line_parts vs m xs) ≡ values_text vs ++ 10 ∷ text_in xs
   line_spells vs m xs =
       spelled-append (fold_of (run_bytes p)) (numbers_of (run_bytes p)) (values_parts vs) (Says 10 ∷ Does m ∷ xs) ∙ ap
       (λ (bs : List ℕ). bs ++ 10 ∷ text_in xs) (values_spell vs)
@@ -92,19 +100,16 @@ module _ (p : Program) where
 
   -- what parts come to from a state on, and that nothing stands against them
   abbrev Stands : State → List (Part ℕ Numbered) → Type 0
-  Stands s xs = Stand (fold_of (run_bytes p)) (numbers_of (run_bytes p)) (record { own = s; numeral = fresh }) xs
+  Stands s xs = Stand (fold_of (run_bytes p)) (numbers_of (run_bytes p)) (from s) xs
 
   abbrev comes : State → List (Part ℕ Numbered) → Spelling State
-  comes s xs = come (fold_of (run_bytes p)) (numbers_of (run_bytes p)) (record { own = s; numeral = fresh }) xs
+  comes s xs = come (fold_of (run_bytes p)) (numbers_of (run_bytes p)) (from s) xs
 
   -- values are added to those of the line
-  values_come : (vs : List ℤ) (s : State) → comes s (values_parts vs)
-      ≡ record { own = record s { values = s.values ++ vs }; numeral = fresh }
-  values_come [] s =
-      ap (λ (ws : List ℤ). record { own = record s { values = ws }; numeral = fresh }) (sym (append-nil s.values))
+  values_come : (vs : List ℤ) (s : State) → comes s (values_parts vs) ≡ from (record s { values = s.values ++ vs })
+  values_come [] s = ap (λ (ws : List ℤ). from (record s { values = ws })) (sym (append-nil s.values))
   values_come (v ∷ vs) s =
-      values_come vs (record s { values = s.values ++ v ∷ [] }) ∙ ap
-      (λ (ws : List ℤ). record { own = record s { values = ws }; numeral = fresh })
+      values_come vs (record s { values = s.values ++ v ∷ [] }) ∙ ap (λ (ws : List ℤ). from (record s { values = ws }))
       (append_assoc s.values (v ∷ []) vs)
 
   -- where values are read
@@ -133,43 +138,36 @@ module _ (p : Program) where
 
   -- a state at the end of a line with these values, and behind its mark
   abbrev ended : State → List ℤ → ℕ → Spelling State
-  ended s vs m = (fold_of (run_bytes p)).done m (record { own = record s { values = vs }; numeral = fresh })
+  ended s vs m = (fold_of (run_bytes p)).done m (from (record s { values = vs }))
 
   abbrev StandsFrom : Spelling State → List (Part ℕ Numbered) → Type 0
   StandsFrom t xs = Stand (fold_of (run_bytes p)) (numbers_of (run_bytes p)) t xs
 
-  values_end : (vs : List ℤ) (s : State) → s.values ≡ []
-      → comes s (values_parts vs) ≡ record { own = record s { values = vs }; numeral = fresh }
-  values_end vs s none =
-      values_come vs s ∙ ap (λ (ws : List ℤ). record { own = record s { values = ws ++ vs }; numeral = fresh }) none
+  values_end : (vs : List ℤ) (s : State) → s.values ≡ [] → comes s (values_parts vs) ≡ from (record s { values = vs })
+  values_end vs s none = values_come vs s ∙ ap (λ (ws : List ℤ). from (record s { values = ws ++ vs })) none
 
   -- a line of values and what is behind it stand exactly where the values are small, as many as there have to be, and
   -- what is behind stands
   line_stands : (vs : List ℤ) (m : ℕ) (xs : List (Part ℕ Numbered)) (s : State) (k : ℕ) → Valued s.phase
       → wanted p s.phase s.rule ≡ Some k → s.values ≡ [] → AreSmall vs → length vs ≡ k
-      → StandsFrom (ended s vs m) xs → Stands s (values_parts vs ++ (Says 10 ∷ Does m ∷ xs))
+      → StandsFrom (ended s vs m) xs → Stands s (line_parts vs m xs)
   line_stands vs m xs s k f w none small count h =
       let same : differs (wanted p s.phase s.rule) (length vs)
       ≡ false = subst (λ (o : Option ℕ). differs o (length vs) ≡ false) (sym w) (differs_not k (length vs) count) in
-      stand_append (fold_of (run_bytes p)) (numbers_of (run_bytes p)) (record {
-        own =
-            s;
-        numeral = fresh;
-      }) (values_parts vs) (Says 10 ∷ Does m ∷ xs) (values_stand vs s f small)
+      stand_append (fold_of (run_bytes p)) (numbers_of (run_bytes p)) (from s) (values_parts vs) (Says 10 ∷ Does m ∷ xs)
+      (values_stand vs s f small)
       (subst (λ (t : Spelling State). StandsFrom t (Says 10 ∷ Does m ∷ xs)) (sym (values_end vs s none))
       (when_none (differs (wanted p s.phase s.rule) (length vs)) ArityDiffers same, h))
 
   stand_line : (vs : List ℤ) (m : ℕ) (xs : List (Part ℕ Numbered)) (s : State) (k : ℕ) → Valued s.phase
       → wanted p s.phase s.rule ≡ Some k → s.values ≡ []
-      → Stands s (values_parts vs ++ (Says 10 ∷ Does m ∷ xs)) → AreSmall vs × (length vs ≡ k)
-      × StandsFrom (ended s vs m) xs
+      → Stands s (line_parts vs m xs) → AreSmall vs × (length vs ≡ k) × StandsFrom (ended s vs m) xs
   stand_line vs m xs s k f w none h =
       let split =
-      stand_split (fold_of (run_bytes p)) (numbers_of (run_bytes p)) (record { own = s; numeral = fresh })
-      (values_parts vs) (Says 10 ∷ Does m ∷ xs) h in
-      let behind : StandsFrom (record { own = record s { values = vs }; numeral = fresh })
-      (Says 10 ∷ Does m ∷ xs) = subst (λ (t : Spelling State). StandsFrom t (Says 10 ∷ Does m ∷ xs))
-      (values_end vs s none) split.1 in (
+      stand_split (fold_of (run_bytes p)) (numbers_of (run_bytes p)) (from s) (values_parts vs)
+      (Says 10 ∷ Does m ∷ xs) h in
+      let behind : StandsFrom (from (record s { values = vs })) (Says 10 ∷ Does m ∷ xs) = subst
+      (λ (t : Spelling State). StandsFrom t (Says 10 ∷ Does m ∷ xs)) (values_end vs s none) split.1 in (
         stand_values vs s f split.0,
         not_differs k (length vs) (subst (λ (o : Option ℕ). differs o (length vs) ≡ false) w
             (none_when (differs (wanted p s.phase s.rule) (length vs)) ArityDiffers behind.0)),
@@ -177,14 +175,9 @@ module _ (p : Program) where
       )
 
   line_comes : (vs : List ℤ) (m : ℕ) (xs : List (Part ℕ Numbered)) (s : State) → s.values ≡ []
-      → comes s (values_parts vs ++ (Says 10 ∷ Does m ∷ xs))
-      ≡ come (fold_of (run_bytes p)) (numbers_of (run_bytes p)) (ended s vs m) xs
+      → comes s (line_parts vs m xs) ≡ come (fold_of (run_bytes p)) (numbers_of (run_bytes p)) (ended s vs m) xs
   line_comes vs m xs s none =
-      come-append (fold_of (run_bytes p)) (numbers_of (run_bytes p)) (record {
-        own =
-            s;
-        numeral = fresh;
-      }) (values_parts vs) (Says 10 ∷ Does m ∷ xs)
+      come-append (fold_of (run_bytes p)) (numbers_of (run_bytes p)) (from s) (values_parts vs) (Says 10 ∷ Does m ∷ xs)
       ∙ ap (λ (t : Spelling State). come (fold_of (run_bytes p)) (numbers_of (run_bytes p)) t (Says 10 ∷ Does m ∷ xs))
       (values_end vs s none)
 
@@ -206,29 +199,15 @@ module _ (p : Program) where
       let r = rule_in p s.rule h.0.rule h.0.numbered in
       let count : length (steps ++ s ∷ []) + length ss
       ≤ step_limit = (let l = length-append steps (s ∷ []) in omega (arith, l, few)) in
-      let line : Stands (stepping start steps s.rule) (values_parts s.free ++ (Says 10 ∷ Does 5 ∷ steps_parts ss)) =
+      let line : Stands (stepping start steps s.rule) (line_parts s.free 5 (steps_parts ss)) =
       line_stands s.free 5 (steps_parts ss) (stepping start steps s.rule) h.0.rule.free (λ n. refl)
-      (ap free_in h.0.numbered) refl h.0.small h.0.free
-      (steps_stand ss start (steps ++ s ∷ []) s.rule h.1 count) in (
-        when_none (nat_le step_limit (length steps)) Limit (has_room (length steps) (omega (arith, few))),
-        (
-          refl,
-          (
-            refl,
-            (
-              refl,
-              (
-                refl,
-                (
-                  when_none (is_no_rule p s.rule) BadReference (rule_taken p s.rule r.0 r.1 h.0.held),
-                  subst (λ (n : ℕ). Stands (stepping start steps n)
-                      (values_parts s.free ++ (Says 10 ∷ Does 5 ∷ steps_parts ss))) (sym (capped s.rule h.0.held)) line,
-                ),
-              ),
-            ),
-          ),
-        ),
-      )
+      (ap free_in h.0.numbered) refl h.0.small h.0.free (steps_stand ss start (steps ++ s ∷ []) s.rule h.1 count) in
+      let free =
+      subst (λ (n : ℕ). Stands (stepping start steps n) (line_parts s.free 5 (steps_parts ss)))
+      (sym (capped s.rule h.0.held)) line in
+      let named = when_none (is_no_rule p s.rule) BadReference (rule_taken p s.rule r.0 r.1 h.0.held) in
+      let some = when_none (nat_le step_limit (length steps)) Limit (has_room (length steps) (omega (arith, few))) in
+      (some, (refl, (refl, (refl, (refl, (named, free))))))
 
   stand_steps : (ss : List Step) (start : List ℤ) (steps : List Step) (rule : ℕ)
       → Stands (lined start steps rule) (steps_parts ss) → AreStepsOf p ss
@@ -237,9 +216,8 @@ module _ (p : Program) where
   stand_steps (s ∷ ss) start steps rule h =
       let r = rule_passed p s.rule (none_when (is_no_rule p s.rule) BadReference h.1.1.1.1.1.0) in
       let q = rule_there p s.rule r.0 r.1 in
-      let free : Stands (stepping start steps s.rule)
-      (values_parts s.free ++ (Says 10 ∷ Does 5 ∷ steps_parts ss)) = subst
-      (λ (n : ℕ). Stands (stepping start steps n) (values_parts s.free ++ (Says 10 ∷ Does 5 ∷ steps_parts ss)))
+      let free : Stands (stepping start steps s.rule) (line_parts s.free 5 (steps_parts ss)) = subst
+      (λ (n : ℕ). Stands (stepping start steps n) (line_parts s.free 5 (steps_parts ss)))
       (capped s.rule r.2) h.1.1.1.1.1.1 in
       let line =
       stand_line s.free 5 (steps_parts ss) (stepping start steps s.rule) q.0.free (λ n. refl)
@@ -259,7 +237,7 @@ module _ (p : Program) where
   steps_come (s ∷ ss) start steps rule h =
       let e : comes (lined start steps rule) (steps_parts (s ∷ ss))
       ≡ comes (lined start (steps ++ s ∷ []) s.rule) (steps_parts ss) =
-      ap (λ (n : ℕ). comes (stepping start steps n) (values_parts s.free ++ (Says 10 ∷ Does 5 ∷ steps_parts ss)))
+      ap (λ (n : ℕ). comes (stepping start steps n) (line_parts s.free 5 (steps_parts ss)))
       (capped s.rule h.0.held) ∙ line_comes s.free 5 (steps_parts ss) (stepping start steps s.rule) refl in
       let w = steps_come ss start (steps ++ s ∷ []) s.rule h.1 in (
         ap (λ (t : Spelling State). t.own.start) e ∙ w.0,
