@@ -23,12 +23,12 @@ use Rattle.bound_rounds.specs.Right.{AreRight}
 use Rattle.bound_rounds.proofs.Cases.{either}
 use Rattle.bound_rounds.proofs.Keys.{has_key-cases, has_key-none, has_time_key}
 use Rattle.bound_rounds.proofs.MissingBounds.{all-has_key, rule_bounds}
-use Rattle.bound_rounds.proofs.Numbered.{rule_in, in_rules, in_places}
+use Rattle.bound_rounds.proofs.RuleNumbers.{rule_in, in_rules, in_places}
 use Rattle.bound_rounds.proofs.FreshFinds.{AscendFrom, range_ascends, filter_ascends, AreOfRule}
 use Rattle.bound_rounds.proofs.FreshFinds.{made_ascend, AreFresh, fresh_by_rules, begins_itself, stand_over}
 use Rattle.bound_rounds.proofs.FreshFinds.{stand-append}
 use Rattle.bound_rounds.proofs.KnownNeeds.{of_each_in}
-use Rattle.bound_rounds.proofs.SameDead.{path_on}
+use Rattle.bound_rounds.proofs.DeadRules.{path_on}
 use Rattle.bound_rounds.proofs.ZeroTimes.{AreZeroTimesOf, empties_zero, unreached_zero, zero_times-append}
 use Rattle.bound_rounds.proofs.ZeroTimes.{zero_times_ascend, zero_found, zero_missing, zero_fresh}
 

@@ -11,7 +11,7 @@ use Rattle.rule_questions.specs.proof_nodes.AcceptsPlain.{IsRule, places_at}
 use Rattle.bound_rounds.specs.Keys.{Bounds, lacks, rule_numbers, IsPlace}
 use Rattle.bound_rounds.specs.Laws.{unsized, all_unsized, missing}
 use Rattle.bound_rounds.proofs.Cases.{either, false_true, count-first, none_some, some_none}
-use Rattle.bound_rounds.proofs.Numbered.{rule_in, place_in}
+use Rattle.bound_rounds.proofs.RuleNumbers.{rule_in, place_in}
 
 -- the second knows all that the first does
 abbrev pub KnowsAll : (ℕ → Option Bound) → (ℕ → Option Bound) → Type 0

@@ -15,7 +15,7 @@ use Rattle.bound_rounds.specs.Keys.{Bounds, IsPlace}
 use Rattle.bound_rounds.specs.Sets.{StandsBefore, IsShut, AreShutOf}
 use Rattle.bound_rounds.specs.WorkedSets.{nothing_known, once_known, entered_known, place, ShutOfCounting}
 use Rattle.bound_rounds.proofs.Cases.{false_true}
-use Rattle.bound_rounds.proofs.Contained.{contains-cases, contains-none, contains-first}
+use Rattle.bound_rounds.proofs.ListMembers.{contains-cases, contains-none, contains-first}
 
 -- a place after the virtual entry, and one after either rule, is place 1
 pub entry_place : (i : ℕ) → IsPlace counting.program 0 i → i ≡ 1

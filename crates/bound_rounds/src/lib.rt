@@ -20,7 +20,7 @@ pub fn standing_finds_have_lemmas()
     ensures { StandingFindsHaveLemmas }
 {}
 
-/// A bound that was found is a fact of the lemma whose number its key has.
+/// A bound that was found is a fact of the lemma whose number its key has, and one find alone states it.
 pub fn finds_are_numbered()
     ensures { FindsAreNumbered }
 {}
@@ -40,23 +40,26 @@ pub fn rounds_end()
     ensures { RoundsEnd }
 {}
 
-/// With all finds that rounds make the members of a component have one size, or none has one.
+/// Where the components are those of the places of live rules, the members of each have one size or none with all finds
+/// that rounds make.
 pub fn components_are_uniform()
     ensures { ComponentsAreUniform }
 {}
 
-/// Rounds make one last list of finds, with which a bound that is missing has one reason.
+/// Rounds make one last list of finds; a time that is missing has one reason, and so has a size where no place is a
+/// member of two components.
 pub fn last_finds_are_one()
     ensures { LastFindsAreOne }
 {}
 
-/// There are first finds; where the components are those of the places of live rules, there is a round over all finds,
-/// and there are last ones.
+/// There are first finds; where the components are those of the places of live rules, there is a round over each list of
+/// finds, and there are last ones.
 pub fn last_finds_exist()
     ensures { LastFindsExist }
 {}
 
-/// Where a round finds nothing new, each missing bound has its reason.
+/// Where a round finds nothing new, each missing time of a rule has a reason, and so has each missing size in a
+/// component; with the last finds each missing size of a place after a rule has one.
 pub fn missing_bounds_have_reasons()
     ensures { MissingBoundsHaveReasons }
 {}
