@@ -66,3 +66,4 @@ pub mod WorkedStanding
 pub mod WorkedFirst
 pub mod WorkedRight
 pub mod WorkedAnswers
+pub mod WorkedCauses

@@ -23,3 +23,4 @@ pub mod WorkedStanding
 pub mod WorkedRounds
 pub mod WorkedFirst
 pub mod WorkedAnswers
+pub mod WorkedCauses

@@ -13,6 +13,7 @@ ghost use Rattle.bound_rounds.specs.WorkedStanding.{StandingIsWorkedOut};
 ghost use Rattle.bound_rounds.specs.WorkedFirst.{FirstFindsAreWorkedOut, RightAnswersAreWorkedOut};
 ghost use Rattle.bound_rounds.specs.WorkedFirst.{RightRankingsAreWorkedOut};
 ghost use Rattle.bound_rounds.specs.WorkedRounds.{FirstRoundIsWorkedOut, LaterRoundsAreWorkedOut, ReasonsAreWorkedOut};
+ghost use Rattle.bound_rounds.specs.WorkedCauses.{RightCausesAreWorkedOut, WrongGapsAreWorkedOut};
 ghost use Rattle.bound_rounds.specs.WorkedAnswers.{AnswersAreWorkedOut, RightSizesAreWorkedOut, MissingIsWorkedOut};
 
 /// The lemmas of finds that stand are accepted, and each states what its find does.
@@ -101,9 +102,11 @@ pub fn rounds_are_as_worked_out()
 {}
 
 /// What answers of the program that counts down tell, which sizes are right, and how many bounds are missing, is what
-/// was worked out by hand.
+/// was worked out by hand; and so is which reasons of places and which gaps are right, on small programs.
 pub fn answers_are_as_worked_out()
     ensures answers { AnswersAreWorkedOut }
     ensures sizes { RightSizesAreWorkedOut }
     ensures missing { MissingIsWorkedOut }
+    ensures causes { RightCausesAreWorkedOut }
+    ensures gaps { WrongGapsAreWorkedOut }
 {}
