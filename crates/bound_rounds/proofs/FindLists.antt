@@ -37,11 +37,13 @@ first_of-assoc None y z = refl
 first_of-assoc (Some a) y z = refl
 
 -- what is found of a key in joined lists is what is found in the first, or else in the second
-pub found-append : (fs gs : List Find) (t i : ℕ) → bound_found (fs ++ gs) t i ≡ first_of (bound_found fs t i) (bound_found gs t i)
+pub found-append : (fs gs : List Find) (t i : ℕ)
+    → bound_found (fs ++ gs) t i ≡ first_of (bound_found fs t i) (bound_found gs t i)
 found-append [] gs t i = refl
 found-append (f ∷ fs) gs t i = go (has_key f.keys t i) refl (found-append fs gs t i)
   where
-    go : (v : Bool) → has_key f.keys t i ≡ v → bound_found (fs ++ gs) t i ≡ first_of (bound_found fs t i) (bound_found gs t i)
+    go : (v : Bool) → has_key f.keys t i ≡ v
+        → bound_found (fs ++ gs) t i ≡ first_of (bound_found fs t i) (bound_found gs t i)
         → bound_found (f ∷ fs ++ gs) t i ≡ first_of (bound_found (f ∷ fs) t i) (bound_found gs t i)
     go true e ih = rw e refl
     go false e ih = rw e ih
@@ -72,7 +74,8 @@ bounds_of-missing p fs gs t i e =
     first_of-missing (bounds_of p fs t i) (bound_found gs t i) (sym (bounds_of-append p fs gs t i) ∙ e)
 
 -- what the first find says of its keys counts
-pub found-here : (f : Find) (fs : List Find) (t i : ℕ) → has_key f.keys t i ≡ true → bound_found (f ∷ fs) t i ≡ Some f.bound
+pub found-here : (f : Find) (fs : List Find) (t i : ℕ) → has_key f.keys t i ≡ true
+    → bound_found (f ∷ fs) t i ≡ Some f.bound
 found-here f fs t i e = rw e refl
 
 -- where it hasn't the key, what the others say counts

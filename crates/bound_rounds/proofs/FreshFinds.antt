@@ -85,7 +85,8 @@ module _ (p : Program) (earlier : List Find) (f : Find) (t : ℕ) (own : AreOfRu
     where
       each : (v i : ℕ) → has_key keys v i ≡ true → bounds_of p (earlier ++ f ∷ []) v i ≡ None
       each v i m =
-          missing_still p earlier (f ∷ []) v i (has_key-all (λ k. at_key (bounds_of p earlier) k ≡ None) keys v i fresh m)
+          missing_still p earlier (f ∷ []) v i
+          (has_key-all (λ k. at_key (bounds_of p earlier) k ≡ None) keys v i fresh m)
           (told (has_key f.keys v i) mine (λ k. found-later f [] v i k))
         where
           mine : has_key f.keys v i ≡ true → bound_found (f ∷ []) v i ≡ None

@@ -1,5 +1,6 @@
--- telling cases apart
+-- telling cases apart, and counting
 pub mod Cases
+pub mod Counts
 -- what lists contain
 pub mod ListMembers
 -- keys among keys, and finds one after another
@@ -67,3 +68,5 @@ pub mod WorkedFirst
 pub mod WorkedRight
 pub mod WorkedAnswers
 pub mod WorkedCauses
+pub mod WorkedBeginnings
+pub mod WorkedLastRounds

@@ -1,5 +1,6 @@
 -- Where a round finds nothing new, each missing bound has a reason.
-use Rattle.std.proofs.Common.{◌≡◌, ◌⊎◌, inl, inr, ℕ, zero, suc, ◌==◌, ◌&&◌, ◌||◌, Bool, true, false, List, [], ◌∷◌, ◌++◌, map}
+use Rattle.std.proofs.Common.{◌≡◌, ◌⊎◌, inl, inr, ℕ, zero, suc, ◌==◌, ◌&&◌, ◌||◌, Bool, true, false, List, [], ◌∷◌}
+use Rattle.std.proofs.Common.{◌++◌, map}
 use Rattle.std.proofs.Common.{None, refl, sym, ◌∙◌, ap, subst, arith}
 use Rattle.std.proofs.lemmas.Bool.{and_parts, or_left, or_right}
 use Rattle.rule_questions.specs.model.Entries.{is_in}
@@ -118,7 +119,8 @@ module _ (q : Searches) (s : Setting) (fs : List Find) where
         why_of (TimeOf t) (nothing_of Together (map TimeOf (rule_numbers s.program))
         (subst (λ (zs : List Find). TriesAll q s Together fs (map TimeOf (rule_numbers s.program)) zs) none_found.0
         closed.timed) (TimeOf t)
-        (time_asked (rule_numbers s.program) t (rule_in s.program t rule.rule rule.numbered))) t 0 (rule, refl) here missing
+        (time_asked (rule_numbers s.program) t (rule_in s.program t rule.rule rule.numbered))) t 0 (rule, refl) here
+        missing
       where
         here : has_key (keys_asked (TimeOf t)) t 0 ≡ true
         here = or_left ((t == t) && (0 == 0)) false (rw (same_number t) refl)

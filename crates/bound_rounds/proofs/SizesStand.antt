@@ -10,7 +10,8 @@ use Rattle.bound_rounds.specs.Finds.{keys_of}
 use Rattle.bound_rounds.specs.Needs.{needs_of}
 use Rattle.bound_rounds.specs.Standing.{composed_bound, Stands, StandAfter}
 use Rattle.bound_rounds.specs.Searches.{Searches, searches_of, Answers, Sizing, SizedBy, Unsized}
-use Rattle.bound_rounds.specs.Answers.{SizesOf, are_open, is_open, Answer, Found, Lacks, finds_by, TellsSizing, TellsSize}
+use Rattle.bound_rounds.specs.Answers.{SizesOf, are_open, is_open, Answer, Found, Lacks, finds_by, TellsSizing}
+use Rattle.bound_rounds.specs.Answers.{TellsSize}
 use Rattle.bound_rounds.specs.Components.{IsOneOf, AreComponentsOf}
 use Rattle.bound_rounds.specs.Rounds.{Tries, TriesAll, InTurn, IsRound, IsMade, Begun, Made}
 use Rattle.bound_rounds.specs.Right.{AcceptsSizing, AreRight}
@@ -21,7 +22,8 @@ use Rattle.bound_rounds.proofs.FreshFinds.{FreshAfter, begins_itself, stand_over
 use Rattle.bound_rounds.proofs.KnownNeeds.{spread_known, cycle_known}
 use Rattle.bound_rounds.proofs.FirstFindsStand.{first_stand}
 use Rattle.bound_rounds.proofs.TimesStand.{by_answer, round_times_stand}
-use Rattle.bound_rounds.proofs.UniformComponents.{IsWhole, open_all, tried_whole, times_whole, uniform_bounds, made_whole}
+use Rattle.bound_rounds.proofs.UniformComponents.{IsWhole, open_all, tried_whole, times_whole, uniform_bounds}
+use Rattle.bound_rounds.proofs.UniformComponents.{made_whole}
 
 -- the find of an accepted node that gives sizes
 abbrev pub sizing_find : Setting → Bounds → List Spot → Node → Find

@@ -49,7 +49,8 @@ fact_kept b all keeps (Cost t c) h = absurd h
 
 module _ (s : Setting) where
   -- a bound that is found with sound finds is that of a rule
-  pub found_rule : (fs : List Find) → AreSound s fs → (t i : ℕ) (c : Bound) → bound_found fs t i ≡ Some c → IsRule s.program t
+  pub found_rule : (fs : List Find) → AreSound s fs → (t i : ℕ) (c : Bound) → bound_found fs t i ≡ Some c
+      → IsRule s.program t
   found_rule fs sound t i c e =
       let at = found_lemma fs t i c e in
       (sound.keys at.0 at.1 t i at.2).rule
@@ -101,7 +102,8 @@ module _ (s : Setting) where
         → IsStatedBy s (facts_of_finds earlier) number t i c
     stated t i c e = go (first_of-cases (start_bounds s.program t i) (bound_found before t i) c e)
       where
-        go : (start_bounds s.program t i ≡ Some c) ⊎ ((start_bounds s.program t i ≡ None) × (bound_found before t i ≡ Some c))
+        go : (start_bounds s.program t i ≡ Some c)
+            ⊎ ((start_bounds s.program t i ≡ None) × (bound_found before t i ≡ Some c))
             → IsStatedBy s (facts_of_finds earlier) number t i c
         go (inl first) =
             let at = start_stated s.program t i c first in

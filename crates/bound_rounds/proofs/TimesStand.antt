@@ -16,7 +16,8 @@ use Rattle.bound_rounds.specs.Finds.{Node, RankBy, Find, bounds_of}
 use Rattle.bound_rounds.specs.Needs.{needs_of}
 use Rattle.bound_rounds.specs.Standing.{composed_bound, Stands, StandAfter}
 use Rattle.bound_rounds.specs.Searches.{Searches, Ranking, Ranked, Unranked, RankTripped, NoBound, NoFunction, Tripped}
-use Rattle.bound_rounds.specs.Answers.{Target, TimeOf, is_open, Answer, Found, Lacks, finds_by, TellsRanking, TellsTime, Tells}
+use Rattle.bound_rounds.specs.Answers.{Target, TimeOf, is_open, Answer, Found, Lacks, finds_by, TellsRanking, TellsTime}
+use Rattle.bound_rounds.specs.Answers.{Tells}
 use Rattle.bound_rounds.specs.Rounds.{Tries, TriesAll, Together}
 use Rattle.bound_rounds.specs.Right.{AreRight}
 use Rattle.bound_rounds.proofs.Cases.{either, told, false_true, lacks_none}

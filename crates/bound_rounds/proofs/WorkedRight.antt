@@ -47,7 +47,8 @@ right = record { empty = empty; rank = rank; components = parts; sizes = sizes }
     rank set t shut r question same =
         subst (λ (x : Ranking). IsRightRanking (searches_of all_trips) apart set t shut x) same (inl refl)
 
-    parts : (cs : List (List Spot)) → all_trips.components ≡ cs → AreComponentsOf (searches_of all_trips) apart.program cs
+    parts : (cs : List (List Spot)) → all_trips.components ≡ cs
+        → AreComponentsOf (searches_of all_trips) apart.program cs
     parts cs same =
         subst (λ (ds : List (List Spot)). AreComponentsOf (searches_of all_trips) apart.program ds) same
         (components (λ t. t))

@@ -40,7 +40,8 @@ place_after_2 i h =
 entry_open : (bs : Bounds) (set : List ℕ) (entry : ℕ) (b : Bound) → bs entry 1 ≡ Some b
     → ((i : ℕ) → IsPlace counting.program entry i → i ≡ 1)
     → ((e : ℕ) → is_in e (entry ∷ []) ≡ true → e ≡ entry) → (s : SymbolPlace)
-    → ((h : IsShut counting.program bs set s) → is_in h.entry (entry ∷ []) ≡ true) → IsShut counting.program bs set s → ⊥
+    → ((h : IsShut counting.program bs set s) → is_in h.entry (entry ∷ []) ≡ true) → IsShut counting.program bs set s
+    → ⊥
 entry_open bs set entry b known only lone s enters h =
     let same = lone h.entry (enters h) in
     let there = subst (λ (n : ℕ). IsPlace counting.program n s.place) same h.place in

@@ -74,7 +74,8 @@ pub zero_found : (ts : List ℕ) (fs : List Find) → AreZeroTimesOf ts fs → (
     → bound_found fs t 0 ≡ Some (Constant 0)
 zero_found [] fs h t m = absurd (no_is_not_yes false refl m)
 zero_found (u ∷ ts) fs (f, rest, e, is, later) t m =
-    subst (λ (xs : List Find). bound_found xs t 0 ≡ Some (Constant 0)) (sym e) (told (has_key f.keys t 0) here (other (zero_found ts rest later t)))
+    subst (λ (xs : List Find). bound_found xs t 0 ≡ Some (Constant 0)) (sym e)
+    (told (has_key f.keys t 0) here (other (zero_found ts rest later t)))
   where
     here : has_key f.keys t 0 ≡ true → bound_found (f ∷ rest) t 0 ≡ Some (Constant 0)
     here k = found-here f rest t 0 k ∙ ap (λ (b : Bound). Some b) is.bound

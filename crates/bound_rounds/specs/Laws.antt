@@ -26,7 +26,7 @@ pub record StandingFindsHaveLemmas : Type 0 where
   pub stated : (s : Setting) (fs : List Find) → AllStand s fs
       → facts_of_lemmas s (lemmas_of fs) ≡ map facts_of_find fs
 
--- a bound that was found is a fact of the lemma whose number its key has; and of each key one find alone states a bound,
+-- a bound that was found is a fact of the lemma whose number its key has; and one find alone states the bound of a key,
 -- which is the known one
 pub record FindsAreNumbered : Type 0 where
   pub each : (s : Setting) (fs : List Find) → AllStand s fs → (t i : ℕ) (b : Bound) → IsRule s.program t
@@ -77,8 +77,8 @@ pub record MissingBoundsHaveReasons : Type 0 where
       → IsRule s.program t → IsPlace s.program t i → bounds_of s.program fs t i ≡ None
       → (why : NoBound) × IsNoBound (searches_of a) s fs t i why
 
--- rounds make one last list of finds; a time that is missing has one reason, and so has a size where no place is a member
--- of two components
+-- rounds make one last list of finds; a time that is missing has one reason, and so has a size where no place is in two
+-- components
 pub record LastFindsAreOne : Type 0 where
   pub last : (a : Answers) (s : Setting) (x y : List Find) → IsLast (searches_of a) s x → IsLast (searches_of a) s y
       → x ≡ y

@@ -24,3 +24,5 @@ pub mod WorkedRounds
 pub mod WorkedFirst
 pub mod WorkedAnswers
 pub mod WorkedCauses
+pub mod WorkedBeginnings
+pub mod WorkedLastRounds

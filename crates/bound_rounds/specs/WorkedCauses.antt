@@ -1,5 +1,6 @@
--- Why places have no size, and which gaps are right, as it was worked out by hand: of k(A) -> l(A), and l(A) -> l(A - 1)
--- where A >= 1; of k(A) -> l(C); of k(A) -> l(A), and l(A) -> l(2 * A); and of k(A) -> l(A * A), and l(A) -> l(A * A).
+-- Why places have no size, and which gaps are right, as it was worked out by hand: of k(A) -> l(A), and
+-- l(A) -> l(A - 1) where A >= 1; of k(A) -> l(C); of k(A) -> l(A), and l(A) -> l(2 * A); and of k(A) -> l(A * A), and
+-- l(A) -> l(A * A).
 use Rattle.std.specs.Prelude.{ℕ, zero, suc, List, [], ◌∷◌, ℤ, pos, Some, None}
 use Rattle.rule_questions.specs.model.Bounds.{Input}
 use Rattle.rule_questions.specs.proof_nodes.Gaps.{ScaledPoint}

@@ -11,7 +11,8 @@ use Rattle.rule_questions.specs.proof_nodes.Worked.{one_part, one_times, only, o
 use Rattle.rule_questions.specs.proof_nodes.Worked.{down_alone, entered_member, entered, entered_size, looped_member}
 use Rattle.rule_questions.specs.proof_nodes.Worked.{looped_size, doubled, three_times, all_inputs}
 use Rattle.bound_rounds.specs.Keys.{key, time_key, has_key, place_fact, over}
-use Rattle.bound_rounds.specs.Finds.{RankBy, EmptyBy, UnreachedBy, NeverBy, SpreadBy, CycleBy, Find, keys_of, bound_found}
+use Rattle.bound_rounds.specs.Finds.{RankBy, EmptyBy, UnreachedBy, NeverBy, SpreadBy, CycleBy, Find, keys_of}
+use Rattle.bound_rounds.specs.Finds.{bound_found}
 use Rattle.bound_rounds.specs.Finds.{bounds_of, number_in, facts_of_find}
 use Rattle.bound_rounds.specs.Needs.{rank_needs, spread_needs, cycle_needs, uses_from, lemmas_of}
 use Rattle.bound_rounds.specs.Beginning.{empty_find, unreached_find, never_find}

@@ -13,6 +13,8 @@ ghost use Rattle.bound_rounds.specs.WorkedStanding.{StandingIsWorkedOut};
 ghost use Rattle.bound_rounds.specs.WorkedFirst.{FirstFindsAreWorkedOut, RightAnswersAreWorkedOut};
 ghost use Rattle.bound_rounds.specs.WorkedFirst.{RightRankingsAreWorkedOut};
 ghost use Rattle.bound_rounds.specs.WorkedRounds.{FirstRoundIsWorkedOut, LaterRoundsAreWorkedOut, ReasonsAreWorkedOut};
+ghost use Rattle.bound_rounds.specs.WorkedBeginnings.{BeginningsAreWorkedOut, EmptyFindsAreWorkedOut};
+ghost use Rattle.bound_rounds.specs.WorkedLastRounds.{LastRoundsAreWorkedOut};
 ghost use Rattle.bound_rounds.specs.WorkedCauses.{RightCausesAreWorkedOut, WrongGapsAreWorkedOut};
 ghost use Rattle.bound_rounds.specs.WorkedAnswers.{AnswersAreWorkedOut, RightSizesAreWorkedOut, MissingIsWorkedOut};
 
@@ -53,8 +55,8 @@ pub fn last_finds_are_one()
     ensures { LastFindsAreOne }
 {}
 
-/// There are first finds; where the components are those of the places of live rules, there is a round over each list of
-/// finds, and there are last ones.
+/// There are first finds; where the components are those of the places of live rules, there is a round over each list
+/// of finds, and there are last ones.
 pub fn last_finds_exist()
     ensures { LastFindsExist }
 {}
@@ -80,9 +82,11 @@ pub fn sets_are_as_worked_out()
     ensures shut { ShutOfCounting }
 {}
 
-/// Which finds of that program stand, and of one with a rule that is never reached, is what was worked out by hand.
+/// Which finds of that program stand, and of ones with a rule that is never reached or empty, is what was worked out by
+/// hand.
 pub fn standing_is_as_worked_out()
-    ensures { StandingIsWorkedOut }
+    ensures standing { StandingIsWorkedOut }
+    ensures empty { EmptyFindsAreWorkedOut }
 {}
 
 /// What is found before the first round of programs with rules that never run, and which answers are right, is what was
@@ -91,14 +95,16 @@ pub fn first_finds_are_as_worked_out()
     ensures first { FirstFindsAreWorkedOut }
     ensures right { RightAnswersAreWorkedOut }
     ensures rankings { RightRankingsAreWorkedOut }
+    ensures beginnings { BeginningsAreWorkedOut }
 {}
 
-/// The rounds of that program, from nothing and from the time of its first rule, and why bounds are missing where
-/// nothing ranks, are those worked out by hand.
+/// The rounds of that program, from nothing and from the time of its first rule, one alone and two, and of a component of
+/// two members, and why bounds are missing where nothing ranks or a bound is too large, are those worked out by hand.
 pub fn rounds_are_as_worked_out()
     ensures first { FirstRoundIsWorkedOut }
     ensures later { LaterRoundsAreWorkedOut }
     ensures reasons { ReasonsAreWorkedOut }
+    ensures last { LastRoundsAreWorkedOut }
 {}
 
 /// What answers of the program that counts down tell, which sizes are right, and how many bounds are missing, is what
