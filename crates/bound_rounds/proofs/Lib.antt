@@ -68,5 +68,6 @@ pub mod WorkedFirst
 pub mod WorkedRight
 pub mod WorkedAnswers
 pub mod WorkedCauses
+pub mod WorkedCutOff
 pub mod WorkedBeginnings
 pub mod WorkedLastRounds

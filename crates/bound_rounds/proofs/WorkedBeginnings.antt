@@ -25,6 +25,7 @@ use Rattle.bound_rounds.proofs.FindLists.{bounds_of-kept}
 use Rattle.bound_rounds.proofs.FirstIsOne.{first_one}
 use Rattle.bound_rounds.proofs.FindsAreOne.{answers_one}
 use Rattle.bound_rounds.proofs.WorkedComponents as counted
+use Rattle.bound_rounds.proofs.WorkedCutOff.{on_empty, not_before_empty, not_on_nothing}
 use Rattle.bound_rounds.proofs.WorkedUnreached.{no_rule_0, no_rule_3, reached, IsKnownIn, IsNew, first_over}
 
 -- the numbers that are told
@@ -292,4 +293,7 @@ empty_told = record {
   stand = stand;
   not_shown = λ h. plain_nodes.not_empty (first_over stuck (empty_find 2 (1 ∷ 0 ∷ [])) [] h).accepted;
   not_running = not_running;
+  on_empty = on_empty;
+  not_before_empty = not_before_empty;
+  not_on_nothing = not_on_nothing;
 }

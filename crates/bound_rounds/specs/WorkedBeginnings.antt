@@ -1,10 +1,15 @@
 -- What is found before the first round, as it was worked out by hand: where two rules are told to be empty, where one
 -- that is unreached is empty too, where all emptiness questions trip, and where a rule leads to no place; and finds of
 -- programs with an empty rule that stand, or don't.
-use Rattle.std.specs.Prelude.{◌≡◌, ℕ, zero, suc, List, [], ◌∷◌, None}
-use Rattle.rule_questions.specs.model.Programs.{Rule, Program}
+use Rattle.std.specs.Prelude.{◌≡◌, ℕ, zero, suc, List, [], ◌∷◌, pos, negsuc, None}
+use Rattle.rule_questions.specs.model.Terms.{Literal, Variable}
+use Rattle.rule_questions.specs.model.Programs.{AtLeast, Compare, Rule, Program}
+use Rattle.rule_questions.specs.linear_forms.Forms.{Form}
+use Rattle.rule_questions.specs.proof_nodes.Setting.{Setting}
 use Rattle.rule_questions.specs.proof_nodes.Nodes.{AndProof, Empty, Unreached, Never, Cite}
 use Rattle.rule_questions.specs.proof_nodes.Worked.{only}
+use Rattle.rule_questions.specs.proof_nodes.WorkedSettings.{form, rule_over, program_with, no_poly, no_rows, no_cost}
+use Rattle.rule_questions.specs.proof_nodes.WorkedSettings.{no_cost_poly, folded, zero_below, counting_news}
 use Rattle.rule_questions.specs.proof_nodes.WorkedSettings.{symbol_of, counting, apart, stuck, two_ways_in}
 use Rattle.bound_rounds.specs.Keys.{time_key}
 use Rattle.bound_rounds.specs.Finds.{Find}
@@ -69,6 +74,29 @@ leaving = record {
   rules = leave ∷ [];
 }
 
+-- k(A) -> l(A) where A >= 1 and A <= 0, and l(A) -> l(A)
+abbrev pub never_enter : Rule
+never_enter = rule_over 0 1 0 (Variable 0)
+    (Compare (Variable 0) AtLeast (Literal (pos 1)) ∷ Compare (Literal (pos 0)) AtLeast (Variable 0) ∷ [])
+
+abbrev pub first_rows : ℕ → List Form
+first_rows zero = []
+first_rows (suc zero) = form (pos 1 ∷ []) (negsuc 0) ∷ form (negsuc 0 ∷ []) (pos 0) ∷ []
+first_rows (suc (suc t)) = []
+
+abbrev pub cut_short : Setting
+cut_short = record {
+  program = program_with (never_enter ∷ rule_over 1 1 0 (Variable 0) [] ∷ []);
+  rows = first_rows;
+  news = counting_news;
+  poly = no_poly;
+  cost_rows = no_rows;
+  cost_value = no_cost;
+  cost_poly = no_cost_poly;
+  rewrite = folded;
+  below = zero_below;
+}
+
 -- an unreached rule rests on all that are empty, as its lemma cites them; one that is empty too is that alone; a rule
 -- whose emptiness question tripped may run; and a rule without places after it has no find for their sizes
 pub record BeginningsAreWorkedOut : Type 0 where
@@ -86,8 +114,13 @@ pub record BeginningsAreWorkedOut : Type 0 where
   pub not_without_place : ¬ (AreFirst (searches_of cut_off) leaving (empty_find 1 [] ∷ never_find leaving 1 ∷ []))
 
 -- the time of an empty rule stands, by multipliers that show it and by no others, and then the sizes after it; after a
--- rule whose time isn't 0 they don't
+-- rule whose time isn't 0 they don't. A rule that is unreached without an empty one stands behind that one, and rests on
+-- it
 pub record EmptyFindsAreWorkedOut : Type 0 where
   pub stand : AllStand stuck (empty_find 2 (1 ∷ 1 ∷ []) ∷ never_find stuck.program 2 ∷ [])
   pub not_shown : ¬ (AllStand stuck (empty_find 2 (1 ∷ 0 ∷ []) ∷ []))
   pub not_running : ¬ (AllStand counting (once_find ∷ never_find counting.program 1 ∷ []))
+  pub on_empty : AllStand cut_short (empty_find 1 (1 ∷ 1 ∷ []) ∷ unreached_find (time_key 1 ∷ []) 2 ∷ [])
+  pub not_before_empty :
+      ¬ (AllStand cut_short (unreached_find (time_key 1 ∷ []) 2 ∷ empty_find 1 (1 ∷ 1 ∷ []) ∷ []))
+  pub not_on_nothing : ¬ (AllStand cut_short (empty_find 1 (1 ∷ 1 ∷ []) ∷ unreached_find [] 2 ∷ []))
