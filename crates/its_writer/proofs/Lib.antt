@@ -1,0 +1,5 @@
+pub mod Numerals
+pub mod Lexed
+pub mod ExpressionsRead
+pub mod RulesRead
+pub mod TextsRead
