@@ -3,3 +3,10 @@ pub mod Lexed
 pub mod ExpressionsRead
 pub mod RulesRead
 pub mod TextsRead
+pub mod Written
+pub mod NamesAt
+pub mod TermsBack
+pub mod ProgramsBack
+pub mod TermsOrdered
+pub mod ProgramsOrdered
+pub mod SpellingLaws

@@ -54,23 +54,35 @@ pub record IsWritableProgram (p : Program) : Type 0 where
   pub variables : AllByRecursion IsName (variables_of p)
   pub rules : AllByRecursion (IsWritableRule (symbol_names p)) p.rules
 
+-- what stands before the start symbol
+abbrev before_start : List Piece
+before_start = word (codes "FUNCTIONSYMBOLS") ∷ open_bracket ∷ word (codes "STARTTERM") ∷ open_bracket ∷ pieces_behind (Goal ∷ [])
+
+-- the text begins
+text_begins : (rest : List ℕ) → lexed Outside (codes "(GOAL COMPLEXITY)\n(STARTTERM (FUNCTIONSYMBOLS " ++ rest) ≡ onto before_start (lexed (Within 1) rest)
+text_begins rest = ap (onto before_start) (moved (Within 1) 46 rest)
+
+-- the section of the rules begins
+rules_begin : (rest : List ℕ) → lexed (Within 0) (codes ")\n(RULES\n" ++ rest) ≡ close_bracket ∷ open_bracket ∷ word (codes "RULES") ∷ lexed (Within 0) rest
+rules_begin rest = ap (λ ps. close_bracket ∷ open_bracket ∷ word (codes "RULES") ∷ ps) (moved (Within 0) 9 rest)
+
 -- the canonical text
-pub canonical_read : (p : Program) → IsWritableProgram p → Writes (canonical_sections p) (pieces (tokens_of (canonical_text p)))
-canonical_read p w =
+canonical_lexed : (p : Program) → IsWritableProgram p → lexed Outside (canonical_text p) ≡ onto (pieces_behind (canonical_sections p)) []
+canonical_lexed p w =
     let start : Name = name_at (symbol_names p) p.start in
     let rules : List ℕ = each_then (rule_then (symbol_names p)) p.rules (41 ∷ 10 ∷ []) in
     let variables : List ℕ = each_then (led_by (codes " ") name_then) (variables_of p) (codes ")\n(RULES\n" ++ rules) in
-    let behind1 : List Piece = pieces_behind (Goal ∷ []) in
-    let behind2 : List Piece = pieces_behind (Start start ∷ Goal ∷ []) in
-    let behind3 : List Piece = pieces_behind (Variables (onto (variables_of p) []) ∷ Start start ∷ Goal ∷ []) in
-    record {
-      are = (targets_written (symbol_names p) [] p.rules tt, (tt, (tt, (tt, tt))));
-      pieces = sym (
-          ap (onto (open_bracket ∷ behind1)) (ap (λ ps. word (codes "STARTTERM") ∷ open_bracket ∷ word (codes "FUNCTIONSYMBOLS") ∷ ps)
-          (moved (Within 1) 46 (start ++ (codes "))\n(VAR" ++ variables)) ∙ word_lexed 1 start (codes "))\n(VAR" ++ variables) w.start refl))
-          ∙ ap (onto (word start ∷ word (codes "FUNCTIONSYMBOLS") ∷ open_bracket ∷ word (codes "STARTTERM") ∷ open_bracket ∷ behind1)) (variables_begin (variables_of p) rules)
-          ∙ words_read [] (variables_of p) (word (codes "VAR") ∷ open_bracket ∷ behind2) (codes ")\n(RULES\n" ++ rules) w.variables refl
-          ∙ ap (onto (word (codes "RULES") ∷ open_bracket ∷ behind3)) (moved (Within 0) 9 rules)
-          ∙ rules_read (symbol_names p) [] p.rules (word (codes "RULES") ∷ open_bracket ∷ behind3) (41 ∷ 10 ∷ []) w.rules
-        );
-    }
+    let before_names : List Piece = word (codes "VAR") ∷ open_bracket ∷ pieces_behind (Start start ∷ Goal ∷ []) in
+    let before_rules : List Piece = word (codes "RULES") ∷ open_bracket ∷ pieces_behind (Variables (onto (variables_of p) []) ∷ Start start ∷ Goal ∷ []) in
+    let first : lexed Outside (canonical_text p) ≡ onto before_start (lexed (Within 1) (start ++ (codes "))\n(VAR" ++ variables))) = text_begins (start ++ (codes "))\n(VAR" ++ variables)) in
+    let second : lexed (Within 1) (start ++ (codes "))\n(VAR" ++ variables)) ≡ word start ∷ lexed (Within 1) (codes "))\n(VAR" ++ variables) = word_lexed 1 start (codes "))\n(VAR" ++ variables) w.start refl in
+    let third : onto (word start ∷ before_start) (lexed (Within 1) (codes "))\n(VAR" ++ variables)) ≡ onto before_names (lexed (Within 0) variables) = ap (onto (word start ∷ before_start)) (variables_begin (variables_of p) rules) in
+    let fourth : onto before_names (lexed (Within 0) variables) ≡ onto (words_behind (onto (variables_of p) []) before_names) (lexed (Within 0) (codes ")\n(RULES\n" ++ rules)) =
+    words_read [] (variables_of p) before_names (codes ")\n(RULES\n" ++ rules) w.variables refl in
+    let fifth : onto (words_behind (onto (variables_of p) []) before_names) (lexed (Within 0) (codes ")\n(RULES\n" ++ rules)) ≡ onto before_rules (lexed (Within 0) rules) =
+    ap (onto (words_behind (onto (variables_of p) []) before_names)) (rules_begin rules) in
+    let sixth : onto before_rules (lexed (Within 0) rules) ≡ onto (pieces_behind (canonical_sections p)) [] = rules_read (symbol_names p) [] p.rules before_rules (41 ∷ 10 ∷ []) w.rules in
+    first ∙ ap (onto before_start) second ∙ third ∙ fourth ∙ fifth ∙ sixth
+
+pub canonical_read : (p : Program) → IsWritableProgram p → Writes (canonical_sections p) (pieces (tokens_of (canonical_text p)))
+canonical_read p w = record { are = (targets_written (symbol_names p) [] p.rules tt, (tt, (tt, (tt, tt)))); pieces = sym (canonical_lexed p w) }

@@ -8,3 +8,9 @@ ghost use Rattle.its_writer.specs.Worked.{WorkedTexts};
 pub fn worked_texts_hold()
     ensures { WorkedTexts }
 {}
+
+/// A text spells a program only where its names, numbers and literals are as reading gives them, and where they are, its
+/// canonical text spells it.
+pub fn spelled_programs_are_known()
+    ensures { SpelledPrograms }
+{}

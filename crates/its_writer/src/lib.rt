@@ -14,7 +14,7 @@ mod rule;
 
 
 
-pub use law::{worked_texts_hold};
+pub use law::{spelled_programs_are_known, worked_texts_hold};
 pub use poly_terms::Memory;
 pub use printing::print;
 

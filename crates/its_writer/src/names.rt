@@ -1,6 +1,6 @@
 //! The names of all variables of a program.
 
-ghost use Rattle.std.specs.Prelude.{◌≡◌, ◌++◌, [], codes, map, IfOk, OnOk};
+ghost use Rattle.std.specs.Prelude.{◌≡◌, [], codes, drop, map, take, IfOk, OnOk};
 ghost use Rattle.its_text.specs.expr_text.text_core.Names.{name_of};
 ghost use Rattle.its_model.specs.Views.{rule_of};
 ghost use Rattle.expr_reader.specs.Variables.{names_in};
@@ -40,6 +40,20 @@ pub(crate) fn variables_of<'a>(alloc: Global, rules: &'a [Rule]) -> Result<Varia
     Ok(known)
 }
 
+// The name with a number behind a blank, where there is one.
+fn write_variable(text: &mut Vec<u8>, known: &Variables<'_>, number: usize) -> Result<(), Memory>
+    ensures { OnOk result (WritesAll text.old.items text.new.items
+        (each_then (led_by (codes " ") name_then) (take 1 (drop number (names_in known.now))))) }
+{
+    match known.names().get_index(number) {
+        Some(name) => {
+            write_bytes(text, b" ")?;
+            write_bytes(text, name)
+        }
+        None => Ok(()),
+    }
+}
+
 /// Names, each behind a blank.
 ///
 /// # Errors
@@ -50,10 +64,7 @@ pub(crate) fn write_variables(text: &mut Vec<u8>, known: &Variables<'_>) -> Resu
         (each_then (led_by (codes " ") name_then) (names_in known.now))) }
 {
     for i in 0..known.count() {
-        if let Some(name) = known.names().get_index(i) {
-            write_bytes(text, b" ")?;
-            write_bytes(text, name)?;
-        }
+        write_variable(text, known, i)?;
     }
     Ok(())
 }
