@@ -10,3 +10,5 @@ pub mod ProgramsBack
 pub mod TermsOrdered
 pub mod ProgramsOrdered
 pub mod SpellingLaws
+pub mod GeneratedLaws
+pub mod GeneratedWithin

@@ -32,6 +32,19 @@ module _ {X Y : Type 0} (view : X → Y) (text : Y → List ℕ → List ℕ) wh
     each = λ rest. ap (λ (ys : List X). new ++ each_then (led_by led text) (map view ys) rest) (sym (drop_all i xs h)) ∙ a.each rest;
   }
 
+  -- the same without what leads
+  pub written_next : (xs : List X) (i : ℕ) (x : X) (old mid new : List ℕ) (all : List ℕ → List ℕ) → i < length xs → x ≡ get_or xs i x
+      → Writes old mid all (each_then text (map view (drop i xs))) → WritesAll mid new (text (view x)) → Writes old new all (each_then text (map view (drop (i + 1) xs)))
+  written_next xs i x old mid new all h is a c = record {
+    each = λ rest.
+        let left : List ℕ = each_then text (map view (drop (i + 1) xs)) rest in
+        let more : drop i xs ≡ x ∷ drop (i + 1) xs = drop_more xs i x h ∙ ap (λ (y : X). y ∷ drop (i + 1) xs) (sym is) in
+        c.each left ∙ ap (λ (ys : List X). mid ++ each_then text (map view ys) rest) (sym more) ∙ a.each rest;
+  }
+
+  pub written_end : (xs : List X) (i : ℕ) (old new : List ℕ) (all : List ℕ → List ℕ) → length xs ≤ i → Writes old new all (each_then text (map view (drop i xs))) → WritesAll old new all
+  written_end xs i old new all h a = record { each = λ rest. ap (λ (ys : List X). new ++ each_then text (map view ys) rest) (sym (drop_all i xs h)) ∙ a.each rest }
+
 -- so many elements at most, as they are read
 pub taken : {X Y : Type 0} (view : X → Y) (xs : List X) (n : ℕ) → map view (take (min (length xs) n) xs) ≡ take n (map view xs)
 taken view [] zero = refl

@@ -5,6 +5,7 @@
 #![tactic(auto)]
 mod bytes;
 mod expression;
+mod generator;
 mod law;
 mod names;
 mod printing;
@@ -14,6 +15,7 @@ mod rule;
 
 
 
+pub use generator::generate;
 pub use law::{spelled_programs_are_known, worked_texts_hold};
 pub use poly_terms::Memory;
 pub use printing::print;
