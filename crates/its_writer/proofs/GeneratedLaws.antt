@@ -105,7 +105,7 @@ two_order m i e =
     let again : known_with (known_with m i) i ≡ m = ap (λ k. known_with k i) at ∙ at in
     let third : known_with (known_with (known_with m i) i) i ≡ m = ap (λ k. known_with k i) again ∙ at in
     let last : known_with m (suc i) ≡ suc m = ap (known_with m) e ∙ known_next m in (
-      (omega (arith, e), omega (arith, at, e), omega (arith, again, e), omega (arith, third, e), tt),
+      (omega (arith, e), omega (arith, at, e), (omega (arith, again, e), omega (arith, third, e), tt)),
       ap (λ k. known_with k (suc i)) third ∙ last,
     )
 

@@ -22,7 +22,7 @@ use Rattle.its_writer.specs.Generated.{location, two_names, entry_rule, counting
 use Rattle.its_writer.specs.Generated.{generated}
 use Rattle.its_writer.proofs.Numerals.{numeral_decimal}
 use Rattle.its_writer.proofs.NamesAt.{names_count}
-use Rattle.its_writer.proofs.ProgramsBack.{spellable_spells}
+use Rattle.its_writer.proofs.ProgramsBack.{spellable_within}
 use Rattle.its_writer.proofs.GeneratedLaws.{locations_count, rules_all, generated_spellable}
 use Rattle.its_text.specs.Numbering.{names_of}
 use Rattle.its_text.proofs.ValidPrograms.{names_one_more}
@@ -165,7 +165,7 @@ generated_within n few =
     }
 
 pub generated_spelled : (n : ℕ) → n ≤ 100 → SpellsWithin (canonical_text (generated n)) (generated n)
-generated_spelled n few = record { spells = spellable_spells (generated n) (generated_spellable n); within = generated_within n few }
+generated_spelled n few = spellable_within (generated n) (generated_spellable n) (generated_within n few)
 
 pub generated_valid : (n : ℕ) → n ≤ 100 → IsValid (generated n)
 generated_valid n few = spelled_valid (canonical_text (generated n)) (generated n) (generated_spelled n few)

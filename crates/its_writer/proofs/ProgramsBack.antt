@@ -19,7 +19,7 @@ use Rattle.its_text.specs.Numbering as numbered
 use Rattle.its_text.specs.Numbering.{with_left, with_right, term_in, symbols_of, number_of, arrow_names, rule_names, rule_numbered}
 use Rattle.its_text.specs.Numbering.{rules_numbered, or_left, first_leaving, program_from, program_numbered, with_sums, with_guard}
 use Rattle.its_text.specs.Numbering.{with_cost, names_of, sums_terms, guard_terms, cost_term}
-use Rattle.its_text.specs.Spelling.{IsRule, AreRules, StandOnce, Spells}
+use Rattle.its_text.specs.Spelling.{IsRule, AreRules, StandOnce, Spells, AreWithin, SpellsWithin}
 use Rattle.its_text.proofs.DistinctNames.{all_one_more, distinct_reverse}
 use Rattle.its_text.proofs.Reading.{some_is}
 use Rattle.its_writer.specs.Expressions.{name_at}
@@ -182,10 +182,10 @@ rules_back p are differ (r ∷ rules) n done order h is =
     record {
       known = λ same.
           rest.known (
-            ap (λ ss. with_right (with_left ss (left_of (symbol_names p) r)) (term_in (rule_written (symbol_names p) r).target)) same
-            ∙ ap (λ ss. with_right ss (term_in (rule_written (symbol_names p) r).target))
-            (symbols_with p.symbols n r.source (length (onto (left_names r) [])) differ order.0 source (is.0.source_arity ∙ sym one.left))
-            ∙ symbols_with p.symbols m r.target (length (arguments_written r.names [] r.updates)) differ order.1 target (is.0.target_arity ∙ sym one.right)
+          ap (λ ss. with_right (with_left ss (left_of (symbol_names p) r)) (term_in (rule_written (symbol_names p) r).target)) same
+          ∙ ap (λ ss. with_right ss (term_in (rule_written (symbol_names p) r).target))
+          (symbols_with p.symbols n r.source (length (onto (left_names r) [])) differ order.0 source (is.0.source_arity ∙ sym one.left))
+          ∙ symbols_with p.symbols m r.target (length (arguments_written r.names [] r.updates)) differ order.1 target (is.0.target_arity ∙ sym one.right)
           );
       numbered = rest.numbered ∙ append_assoc (rules_numbered p.symbols done) (rule_numbered p.symbols (rule_written (symbol_names p) r) ∷ []) rules
           ∙ ap (λ q. rules_numbered p.symbols done ++ q ∷ rules) one.numbered;
@@ -287,3 +287,8 @@ spellable_spells p is =
     take_all_symbols : (ss : List Symbol) → take (length ss) ss ≡ ss
     take_all_symbols [] = refl
     take_all_symbols (s ∷ ss) = ap (λ ts. s ∷ ts) (take_all_symbols ss)
+
+-- it does so within the limits, where the written sections are
+pub spellable_within : (p : Program) → IsSpellable p → AreWithin (canonical_sections p) → SpellsWithin (canonical_text p) p
+unfolding spellable_spells
+spellable_within p is w = record { spells = spellable_spells p is; within = w }

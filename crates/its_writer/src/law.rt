@@ -1,6 +1,6 @@
 //! What holds of canonical texts.
 
-ghost use Rattle.its_writer.specs.Answers.{SpelledPrograms};
+ghost use Rattle.its_writer.specs.Answers.{GeneratedAreSpelled, SpelledPrograms};
 ghost use Rattle.its_writer.specs.Worked.{WorkedTexts};
 
 /// Canonical texts, and which programs a text spells, are what was worked out by hand. It has no code: its contract is
@@ -13,4 +13,9 @@ pub fn worked_texts_hold()
 /// canonical text spells it.
 pub fn spelled_programs_are_known()
     ensures { SpelledPrograms }
+{}
+
+/// Up to n = 100 the canonical text of the generated program spells it within the limits, and so the program is valid.
+pub fn generated_programs_are_spelled()
+    ensures { GeneratedAreSpelled }
 {}

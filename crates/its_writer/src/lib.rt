@@ -3,20 +3,14 @@
 //! then read back as that program where it is within the limits; `generate` gives the program of a number, whose
 //! printed text is within them.
 #![tactic(auto)]
+
 mod bytes;
 mod expression;
-mod generator;
 mod law;
 mod names;
 mod printing;
 mod rule;
 
-
-
-
-
-pub use generator::generate;
-pub use law::{spelled_programs_are_known, worked_texts_hold};
+pub use law::{generated_programs_are_spelled, spelled_programs_are_known, worked_texts_hold};
 pub use poly_terms::Memory;
 pub use printing::print;
-

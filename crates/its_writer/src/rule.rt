@@ -15,7 +15,11 @@ use its_model::{Name, Rule, Symbol};
 use poly_terms::{Expr, Memory};
 
 /// The name of the symbol with a number, where there is one.
-pub(crate) fn write_symbol(text: &mut Vec<u8>, symbols: &[Symbol], number: u32) -> Result<(), Memory>
+pub(crate) fn write_symbol(
+    text: &mut Vec<u8>,
+    symbols: &[Symbol],
+    number: u32,
+) -> Result<(), Memory>
     ensures { OnOk result (WritesAll text.old.items text.new.items
         (λ rest. name_at (map (λ s. s.name) (map symbol_of symbols.now)) number ++ rest)) }
 {
