@@ -12,3 +12,4 @@ pub mod ProgramsOrdered
 pub mod SpellingLaws
 pub mod GeneratedLaws
 pub mod GeneratedWithin
+pub mod WorkedValues

@@ -1,12 +1,12 @@
 //! What holds of canonical texts.
 
 ghost use Rattle.its_writer.specs.Answers.{GeneratedAreSpelled, SpelledPrograms};
-ghost use Rattle.its_writer.specs.Worked.{WorkedTexts};
+ghost use Rattle.its_writer.specs.Worked.{WorkedValues};
 
 /// Canonical texts, and which programs a text spells, are what was worked out by hand. It has no code: its contract is
 /// the law.
-pub fn worked_texts_hold()
-    ensures { WorkedTexts }
+pub fn worked_values_hold()
+    ensures { WorkedValues }
 {}
 
 /// A text spells a program only where its names, numbers and literals are as reading gives them, and where they are, its

@@ -11,6 +11,6 @@ mod names;
 mod printing;
 mod rule;
 
-pub use law::{generated_programs_are_spelled, spelled_programs_are_known, worked_texts_hold};
+pub use law::{generated_programs_are_spelled, spelled_programs_are_known, worked_values_hold};
 pub use poly_terms::Memory;
 pub use printing::print;
