@@ -22,8 +22,8 @@ arrow_then names (Some c) rest = codes "-{" ++ expression_then names c (codes "}
 -- a rule in a line of its own, behind two blanks
 abbrev pub rule_then : List Name → Rule → List ℕ → List ℕ
 rule_then symbols r rest =
-    codes "  " ++ (name_at symbols r.source ++ (codes "(" ++ joined_then (codes ",") name_then (left_names r) (codes ") "
-    ++ arrow_then r.names r.cost (codes " Com_1(" ++ (name_at symbols r.target ++ (codes "("
+    codes "  " ++ (name_at symbols r.source ++ (codes "(" ++ joined_then (codes ",") name_then (left_names r)
+    (codes ") " ++ arrow_then r.names r.cost (codes " Com_1(" ++ (name_at symbols r.target ++ (codes "("
     ++ joined_then (codes ",") (expression_then r.names) r.updates (codes "))"
     ++ guard_then r.names r.guard (codes "\n" ++ rest))))))))
 

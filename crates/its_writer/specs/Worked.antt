@@ -53,8 +53,10 @@ over_f_g rules = record {
 abbrev pub sample : Program
 sample = over_f_g
     (costly
-    (Negation (Exponentiation (Variable 0) 2) ∷ Multiplication (Addition (Variable 0) (Literal (pos 10))) (Variable 1) ∷ [])
-    (Always ∷ Compare (Variable 1) LessThan (Subtraction (Subtraction (Variable 0) (Variable 1)) (Negation (Variable 0)))
+    (Negation (Exponentiation (Variable 0) 2)
+    ∷ Multiplication (Addition (Variable 0) (Literal (pos 10))) (Variable 1) ∷ [])
+    (Always
+    ∷ Compare (Variable 1) LessThan (Subtraction (Subtraction (Variable 0) (Variable 1)) (Negation (Variable 0)))
     ∷ Compare (Variable 0) EqualTo (Exponentiation (Negation (Variable 1)) 3) ∷ []) ∷ back_rule (Literal (pos 0)) ∷ [])
 
 -- a rule with a literal that is negative, and one with the opposite of a literal
@@ -70,7 +72,8 @@ pub record WorkedTexts : Type 0 where
       ≡ codes "(GOAL COMPLEXITY)\n(STARTTERM (FUNCTIONSYMBOLS l0))\n(VAR A B)\n(RULES\n  l0(A,B) -> Com_1(l1(A,B))\n"
       ++ codes "  l1(A,B) -> Com_1(l1(A-1,B)) :|: A >= 1\n  l1(A,B) -> Com_1(l2(B,B))\n)\n"
   pub operations : canonical_text sample
-      ≡ codes "(GOAL COMPLEXITY)\n(STARTTERM (FUNCTIONSYMBOLS f))\n(VAR X Y Z)\n(RULES\n  f(X) -{2*Y}> Com_1(g(-(X^2),(X+10)*Y))"
+      ≡ codes "(GOAL COMPLEXITY)\n(STARTTERM (FUNCTIONSYMBOLS f))\n(VAR X Y Z)\n(RULES\n"
+      ++ codes "  f(X) -{2*Y}> Com_1(g(-(X^2),(X+10)*Y))"
       ++ codes " :|: TRUE && Y < (X-Y)-(-X) && X = (-Y)^3\n  g(Y,Z) -> Com_1(f(0))\n)\n"
   -- it is read back
   pub read_back : verdict (canonical_text sample) ≡ Stands sample

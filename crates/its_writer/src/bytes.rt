@@ -20,7 +20,8 @@ pub(crate) fn write_bytes(text: &mut Vec<u8>, bytes: &[u8]) -> Result<(), Memory
 
 /// The name with a number, where there is one.
 pub(crate) fn write_name(text: &mut Vec<u8>, names: &[Name], number: u32) -> Result<(), Memory>
-    ensures { OnOk result (WritesAll text.old.items text.new.items (λ rest. name_at (map name_of names.now) number ++ rest)) }
+    ensures { OnOk result (WritesAll text.old.items text.new.items
+        (λ rest. name_at (map name_of names.now) number ++ rest)) }
 {
     match names.get(number as usize) {
         Some(name) => write_bytes(text, &name.bytes),

@@ -27,7 +27,8 @@ fn is_operation(e: &Expr) -> bool
 /// `Memory` where an allocation fails; what stands in `text` is then open.
 #[cycle(write)]
 pub(crate) fn write_expression(text: &mut Vec<u8>, names: &[Name], e: &Expr) -> Result<(), Memory>
-    ensures { OnOk result (WritesAll text.old.items text.new.items (expression_then (map name_of names.now) (term_of e.now))) }
+    ensures { OnOk result (WritesAll text.old.items text.new.items
+        (expression_then (map name_of names.now) (term_of e.now))) }
 {
     match e {
         Expr::Num(z) => write_integer(text, *z),
@@ -62,7 +63,8 @@ pub(crate) fn write_expression(text: &mut Vec<u8>, names: &[Name], e: &Expr) -> 
 // An operand: in brackets where it is an operation itself.
 #[cycle(write)]
 fn write_operand(text: &mut Vec<u8>, names: &[Name], e: &Expr) -> Result<(), Memory>
-    ensures { OnOk result (WritesAll text.old.items text.new.items (operand_then (map name_of names.now) (term_of e.now))) }
+    ensures { OnOk result (WritesAll text.old.items text.new.items
+        (operand_then (map name_of names.now) (term_of e.now))) }
 {
     if is_operation(e) {
         write_bytes(text, b"(")?;
@@ -88,7 +90,8 @@ fn sign_of(rel: Rel) -> &'static [u8]
 
 // An atom.
 fn write_atom(text: &mut Vec<u8>, names: &[Name], atom: &Atom) -> Result<(), Memory>
-    ensures { OnOk result (WritesAll text.old.items text.new.items (atom_then (map name_of names.now) (atom_of atom.now))) }
+    ensures { OnOk result (WritesAll text.old.items text.new.items
+        (atom_then (map name_of names.now) (atom_of atom.now))) }
 {
     match atom {
         Atom::Always => write_bytes(text, b"TRUE"),
@@ -106,7 +109,8 @@ fn write_atom(text: &mut Vec<u8>, names: &[Name], atom: &Atom) -> Result<(), Mem
 ///
 /// `Memory` where an allocation fails; what stands in `text` is then open.
 pub(crate) fn write_guard(text: &mut Vec<u8>, names: &[Name], guard: &[Atom]) -> Result<(), Memory>
-    ensures { OnOk result (WritesAll text.old.items text.new.items (guard_then (map name_of names.now) (map atom_of guard.now))) }
+    ensures { OnOk result (WritesAll text.old.items text.new.items
+        (guard_then (map name_of names.now) (map atom_of guard.now))) }
 {
     let Some((first, others)) = guard.split_first() else {
         return Ok(());

@@ -9,8 +9,8 @@ pub fn worked_values_hold()
     ensures { WorkedValues }
 {}
 
-/// A text spells a program only where its names, numbers and literals are as reading gives them, and where they are, its
-/// canonical text spells it.
+/// A text spells a program only where its names, numbers and literals are as reading gives them, and where they are,
+/// its canonical text spells it.
 pub fn spelled_programs_are_known()
     ensures { SpelledPrograms }
 {}

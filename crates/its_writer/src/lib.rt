@@ -1,7 +1,8 @@
-//! The writer of program texts: from a program to its canonical text, and the programs that a number makes.
-//! Contract to the layer above: `print` gives the canonical text, which spells the program where some text does, and is
-//! then read back as that program where it is within the limits; `generate` gives the program of a number, whose
-//! printed text is within them.
+//! The writer of program texts: from a program to its canonical text.
+//! Contract to the layer above: `print` gives the canonical text, which spells the program where some text does, and
+//! is then read back as that program where it is within the limits (`spelled_programs_are_known` says which programs a
+//! text spells). The generated programs are definitions, whose canonical texts are within the limits
+//! (`generated_programs_are_spelled`).
 #![tactic(auto)]
 
 mod bytes;

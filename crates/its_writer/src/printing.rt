@@ -14,9 +14,8 @@ use its_model::{Program, Rule, Symbol};
 use poly_terms::Memory;
 use std::alloc::Global;
 
-/// The canonical text of a program, of any depth of its expressions: the call goes as deep as they do. It is the text
-/// that spells the program, where any text does; a number that has no name or symbol is left out, and a negative literal
-/// has its sign.
+/// The canonical text of a program, of any depth of its expressions: the call goes as deep as they do. It spells the
+/// program, where any text does; a number that has no name or symbol is left out, and a negative literal has its sign.
 ///
 /// # Errors
 ///
