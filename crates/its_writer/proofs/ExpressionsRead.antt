@@ -1,5 +1,5 @@
 -- The canonical text of an expression is read as the expression that is written.
-use Rattle.std.proofs.Common.{◌≡◌, ℕ, suc, ◌+◌, true, false, List, [], ◌∷◌, ◌++◌, refl, ap, sym, ◌∙◌}
+use Rattle.std.proofs.Common.{◌≡◌, ℕ, suc, true, List, ◌∷◌, ◌++◌, refl, ap, ◌∙◌}
 use Rattle.std.specs.Prelude.{codes}
 use Rattle.its_text.specs.expr_text.model.Programs.{Name}
 use Rattle.its_text.specs.expr_text.model.Terms.{Term, Literal, Variable, Negation, Addition, Subtraction}
@@ -11,9 +11,9 @@ use Rattle.its_text.proofs.expr_text.text_core.PrefixLaws.{Stops}
 use Rattle.its_text.specs.expr_text.Pieces as inner
 use Rattle.its_text.specs.expr_text.Trees.{Sum, Bracketed, sum_behind, base_behind}
 use Rattle.its_text.specs.Pieces.{Piece, In, word, digits}
-use Rattle.its_text.specs.Lexing.{Mode, Within}
+use Rattle.its_text.specs.Lexing.{Within}
 use Rattle.its_writer.specs.Layout.{numeral, integer_then, bracketed_then}
-use Rattle.its_writer.specs.Expressions.{name_at, is_operation, expression_then, operand_then}
+use Rattle.its_writer.specs.Expressions.{name_at, expression_then, operand_then}
 use Rattle.its_writer.specs.Sections.{operand_written, expression_written}
 use Rattle.its_writer.specs.Spellable.{IsNatural}
 use Rattle.its_writer.proofs.Lexed.{lexed, moved, word_lexed, numeral_lexed, IsApart, minus_lexed, name_apart, numeral_apart}

@@ -1,22 +1,21 @@
 -- The generated programs are spelled by their canonical texts.
-use Rattle.std.proofs.Common.{◌≡◌, ℕ, zero, suc, ◌+◌, ◌<◌, ◌≤◌, Bool, true, false, if◌then◌else◌, ◌&&◌, List, [], ◌∷◌, ◌++◌}
-use Rattle.std.proofs.Common.{length, length-append, nat_eq, Option, Some, None, refl, ap, sym, subst, ◌∙◌, arith, append_assoc}
-use Rattle.std.specs.Prelude.{codes, slice_get}
+use Rattle.std.proofs.Common.{◌≡◌, ℕ, zero, suc, ◌+◌, ◌<◌, ◌≤◌, Bool, true, false, if◌then◌else◌, List, [], ◌∷◌, ◌++◌}
+use Rattle.std.proofs.Common.{length, length-append, nat_eq, Some, refl, ap, sym, subst, ◌∙◌, arith}
+use Rattle.std.specs.Prelude.{slice_get}
 use Rattle.std.specs.List.{AllByRecursion, list_all}
 use Rattle.std.specs.Char.{is_ascii_digit}
 use Rattle.std.specs.Str.Parse.{digits_value}
 use Rattle.std.proofs.lemmas.Bool.{and_parts}
 use Rattle.std.proofs.lemmas.Bool.Decides.{nat_tests}
-use Rattle.its_text.specs.expr_text.model.Programs.{Name, Symbol, Rule, Program, arity_of, arity_in}
+use Rattle.its_text.specs.expr_text.model.Programs.{Name, Symbol, Rule, arity_of, arity_in}
 use Rattle.its_text.specs.expr_text.text_core.Names.{IsName, continues_name, is_same, is_among, AreDistinct}
 use Rattle.its_text.proofs.expr_text.text_core.NameLaws.{same_equal}
 use Rattle.its_text.specs.Numbering.{names_of, is_com}
-use Rattle.its_text.specs.Spelling.{Spells}
 use Rattle.its_text.proofs.DistinctNames.{all_one_more, none_of_more, distinct_one_more}
 use Rattle.its_text.proofs.ValidPrograms.{names_one_more}
 use Rattle.its_writer.specs.Layout.{numeral}
 use Rattle.its_writer.specs.Expressions.{name_at}
-use Rattle.its_writer.specs.Texts.{symbol_names, left_names, canonical_text}
+use Rattle.its_writer.specs.Texts.{symbol_names, left_names}
 use Rattle.its_writer.specs.Spellable.{known_with, IsSpellableRule, symbols_behind, AreInOrder, names_at, IsSpellable}
 use Rattle.its_writer.specs.Generated.{location, two_names, entry_rule, counting_rule, leaving_rule, locations, generated_rules}
 use Rattle.its_writer.specs.Generated.{generated}

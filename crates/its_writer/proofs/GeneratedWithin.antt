@@ -1,16 +1,14 @@
 -- The canonical texts of the generated programs are within the limits.
-use Rattle.std.proofs.Common.{◌≡◌, ℕ, zero, suc, ◌+◌, ◌*◌, ◌<◌, ◌≤◌, Bool, true, false, List, [], ◌∷◌, ◌++◌, length, length-append}
-use Rattle.std.proofs.Common.{Option, Some, None, refl, ap, sym, subst, ◌∙◌, arith}
-use Rattle.std.specs.Prelude.{codes}
+use Rattle.std.proofs.Common.{◌≡◌, ℕ, zero, suc, ◌+◌, ◌*◌, ◌<◌, ◌≤◌, List, [], ◌∷◌, ◌++◌, length, length-append}
+use Rattle.std.proofs.Common.{refl, ap, sym, subst, ◌∙◌, arith}
 use Rattle.std.specs.List.{AllByRecursion}
 use Rattle.std.proofs.lemmas.Fmt.{length-decimal-le_wide}
 use Rattle.its_text.specs.expr_text.model.Limits.{name_limit, coefficient_limit}
-use Rattle.its_text.specs.expr_text.model.Programs.{Name, Rule, Program}
+use Rattle.its_text.specs.expr_text.model.Programs.{Name, Rule}
 use Rattle.its_text.specs.expr_text.its_model.Valid.{IsValid}
 use Rattle.its_text.specs.expr_text.text_core.Readers.{onto}
-use Rattle.its_text.specs.expr_text.Terms.{with_name}
 use Rattle.its_text.specs.Pieces.{Piece}
-use Rattle.its_text.specs.Written.{WrittenRule, rules_behind, rule_behind, words_behind, pieces_behind, section_behind, Start}
+use Rattle.its_text.specs.Written.{WrittenRule, rules_behind, rule_behind, pieces_behind, Start}
 use Rattle.its_text.specs.Written.{Variables, Goal}
 use Rattle.its_text.specs.Spelling.{AreSmall, IsRuleWithin, AreRulesWithin, AreWithin, SpellsWithin}
 use Rattle.its_text.proofs.ValidPrograms.{spelled_valid}
@@ -34,7 +32,7 @@ short_location i h =
     let same : length (numeral i) ≤ 3 = subst (λ (ds : List ℕ). length ds ≤ 3) (sym (numeral_decimal i (omega (arith, h)))) (length-decimal-le_wide 3 i (omega arith) (omega (arith, h)) (omega (arith, h))) in
     omega (arith, same)
 
-abbrev IsShortName : Name → Type 0
+abbrev pub IsShortName : Name → Type 0
 IsShortName n = length n ≤ name_limit
 
 short_names : (m : ℕ) → m ≤ 1000 → AllByRecursion IsShortName (names_of (locations m))
@@ -48,7 +46,7 @@ short_at [] i is h = absurd (omega (arith, h))
 short_at (n ∷ names) zero is h = is.0
 short_at (n ∷ names) (suc i) is h = short_at names i is.1 (omega (arith, h))
 
-symbol_short : (n i : ℕ) → n ≤ 100 → i < n + 2 → IsShortName (name_at (symbol_names (generated n)) i)
+pub symbol_short : (n i : ℕ) → n ≤ 100 → i < n + 2 → IsShortName (name_at (symbol_names (generated n)) i)
 symbol_short n i few h =
     short_at (names_of (locations (n + 2))) i (short_names (n + 2) (omega (arith, few)))
     (let c = locations_count (n + 2) in let d = names_count (locations (n + 2)) in omega (arith, c, d, h))
@@ -120,7 +118,7 @@ written_count : (symbols : List Name) (done : List WrittenRule) (rules : List Ru
 written_count symbols done [] = let e : length done ≡ length done + 0 = omega arith in e
 written_count symbols done (r ∷ rules) = let e = written_count symbols (rule_written symbols r ∷ done) rules in omega (arith, e)
 
-rules_count : (n : ℕ) → length (generated_rules n) ≡ 1 + 2 * n
+pub rules_count : (n : ℕ) → length (generated_rules n) ≡ 1 + 2 * n
 rules_count zero = refl
 rules_count (suc n) =
     let e = length-append (generated_rules n) (counting_rule (suc n) ∷ leaving_rule (suc n) ∷ []) in let k = rules_count n in omega (arith, e, k)
@@ -130,7 +128,7 @@ with_joined : (xs ys : List Rule) (known : List Name) → with_rules known (xs +
 with_joined [] ys known = refl
 with_joined (x ∷ xs) ys known = with_joined xs ys (with_names known x.names)
 
-variables_are : (n : ℕ) → with_rules [] (generated_rules n) ≡ two_names
+pub variables_are : (n : ℕ) → with_rules [] (generated_rules n) ≡ two_names
 variables_are zero = refl
 variables_are (suc n) =
     with_joined (generated_rules n) (counting_rule (suc n) ∷ leaving_rule (suc n) ∷ []) []

@@ -1,7 +1,7 @@
 -- The pieces of the parts of a text, one behind the other.
-use Rattle.std.proofs.Common.{◌≡◌, ℕ, zero, suc, ◌+◌, ◌<◌, Bool, true, false, if◌then◌else◌, List, [], ◌∷◌, ◌++◌, length}
-use Rattle.std.proofs.Common.{drop, Some, refl, sym, ap, ◌∙◌, arith}
-use Rattle.std.specs.Prelude.{◌==◌, ⊤}
+use Rattle.std.proofs.Common.{◌≡◌, ℕ, suc, ◌+◌, true, false, List, [], ◌∷◌, ◌++◌, length}
+use Rattle.std.proofs.Common.{drop, Some, refl, ap, ◌∙◌, arith}
+use Rattle.std.specs.Prelude.{◌==◌}
 use Rattle.std.specs.List.{list_all}
 use Rattle.std.specs.Char.{is_ascii_digit}
 use Rattle.std.proofs.lemmas.Bool.Decides.{nat_tests}
@@ -9,13 +9,12 @@ use Rattle.std.proofs.lemmas.Bool.{and_parts}
 use Rattle.its_text.specs.expr_text.model.Programs.{Name}
 use Rattle.its_text.specs.expr_text.text_core.Names.{IsName, begins_name, continues_name}
 use Rattle.its_text.specs.expr_text.text_core.Bytes.{is_white_space, begins_with}
-use Rattle.its_text.specs.expr_text.text_core.Tokens.{Lexeme, pieces, tokens_in}
-use Rattle.its_text.specs.expr_text.text_core.Prefixes.{prefix}
+use Rattle.its_text.specs.expr_text.text_core.Tokens.{pieces, tokens_in}
 use Rattle.its_text.proofs.expr_text.text_core.PrefixLaws.{Stops, prefix-append}
 use Rattle.its_text.proofs.expr_text.text_core.Lexing.{tokens_in-first, pieces_in}
 use Rattle.its_text.specs.expr_text.Pieces as inner
 use Rattle.its_text.specs.Pieces.{Piece, In, word, digits}
-use Rattle.its_text.specs.Lexing.{Mode, Within, lexer, lexeme, lexeme_at, minus_at, mark_at, mode_behind}
+use Rattle.its_text.specs.Lexing.{Mode, Within, lexer, lexeme, lexeme_at, minus_at, mode_behind}
 use Rattle.its_writer.specs.Layout.{numeral}
 use Rattle.its_writer.proofs.Numerals.{IsNumeral, numeral_is}
 

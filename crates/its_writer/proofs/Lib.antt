@@ -12,4 +12,6 @@ pub mod ProgramsOrdered
 pub mod SpellingLaws
 pub mod GeneratedLaws
 pub mod GeneratedWithin
+pub mod GeneratedShort
+pub mod GeneratedMade
 pub mod WorkedValues

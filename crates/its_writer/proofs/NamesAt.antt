@@ -1,11 +1,11 @@
 -- Names that differ, by their numbers.
 use Rattle.std.proofs.Common.{◌≡◌, ℕ, zero, suc, ◌+◌, ◌<◌, ◌≤◌, nat_lt, Bool, true, false, cond, not, if◌then◌else◌, ◌||◌, List}
-use Rattle.std.proofs.Common.{[], ◌∷◌, ◌++◌, length, map, take, Option, Some, None, refl, ap, sym, subst, ◌∙◌, arith}
+use Rattle.std.proofs.Common.{[], ◌∷◌, ◌++◌, length, take, refl, ap, sym, ◌∙◌, arith}
 use Rattle.std.specs.Prelude.{slice_get}
 use Rattle.std.specs.List.{AllByRecursion}
 use Rattle.std.proofs.lemmas.Bool.{or_parts as neither}
 use Rattle.std.proofs.lemmas.Bool.Decides.{nat_tests}
-use Rattle.its_text.specs.expr_text.model.Programs.{Name, Symbol, Program, arity_of, arity_in}
+use Rattle.its_text.specs.expr_text.model.Programs.{Name, Symbol, arity_in}
 use Rattle.its_text.specs.expr_text.text_core.Names.{IsName, is_same, is_among, position_of, AreDistinct}
 use Rattle.its_text.proofs.expr_text.text_core.NameLaws.{is_same_self}
 use Rattle.its_text.specs.expr_text.Terms.{with_name}

@@ -1,14 +1,13 @@
 -- The written sections of a program that a text spells stand for it.
-use Rattle.std.proofs.Common.{◌≡◌, ℕ, zero, suc, ◌+◌, ◌-◌, ◌<◌, ◌≤◌, nat_eq, Bool, true, false, if◌then◌else◌, ◌||◌, List, []}
-use Rattle.std.proofs.Common.{◌∷◌, ◌++◌, length, length-append, take, reverse, Option, Some, None, refl, ap, sym, subst, ◌∙◌}
+use Rattle.std.proofs.Common.{◌≡◌, ℕ, zero, suc, ◌+◌, ◌-◌, ◌<◌, ◌≤◌, nat_eq, Bool, true, false, if◌then◌else◌, List, []}
+use Rattle.std.proofs.Common.{◌∷◌, ◌++◌, length, take, reverse, Some, None, refl, ap, sym, subst, ◌∙◌}
 use Rattle.std.proofs.Common.{arith, append_assoc, append-nil}
-use Rattle.std.specs.Prelude.{⊤, slice_get}
 use Rattle.std.specs.List.{AllByRecursion}
 use mathlib.Core.List.{reverse-cons}
 use Rattle.std.proofs.lemmas.List.{reverse-reverse}
 use Rattle.std.proofs.lemmas.Bool.{or_parts as neither}
 use Rattle.std.proofs.lemmas.Bool.Decides.{nat_tests}
-use Rattle.its_text.specs.expr_text.model.Programs.{Name, Symbol, Rule, Program, arity_of, arity_in}
+use Rattle.its_text.specs.expr_text.model.Programs.{Name, Symbol, Rule, Program}
 use Rattle.its_text.specs.expr_text.model.Terms.{Term}
 use Rattle.its_text.specs.expr_text.text_core.Names.{IsName, is_same, is_among, position_of, AreDistinct}
 use Rattle.its_text.specs.expr_text.text_core.Readers.{onto}
@@ -19,18 +18,18 @@ use Rattle.its_text.specs.Numbering as numbered
 use Rattle.its_text.specs.Numbering.{with_left, with_right, term_in, symbols_of, number_of, arrow_names, rule_names, rule_numbered}
 use Rattle.its_text.specs.Numbering.{rules_numbered, or_left, first_leaving, program_from, program_numbered, with_sums, with_guard}
 use Rattle.its_text.specs.Numbering.{with_cost, names_of, sums_terms, guard_terms, cost_term}
-use Rattle.its_text.specs.Spelling.{IsRule, AreRules, StandOnce, Spells, AreWithin, SpellsWithin}
+use Rattle.its_text.specs.Spelling.{IsRule, AreRules, Spells, AreWithin, SpellsWithin}
 use Rattle.its_text.proofs.DistinctNames.{all_one_more, distinct_reverse}
 use Rattle.its_text.proofs.Reading.{some_is}
 use Rattle.its_writer.specs.Expressions.{name_at}
-use Rattle.its_writer.specs.Texts.{symbol_names, left_names, with_names, with_rules, variables_of, canonical_text}
+use Rattle.its_writer.specs.Texts.{symbol_names, left_names, with_names, with_rules, canonical_text}
 use Rattle.its_writer.specs.Sections.{rule_written, rules_written, canonical_sections, arguments_written, guard_written, cost_written}
-use Rattle.its_writer.specs.Spellable.{known_with, known_behind_all, known_behind, IsSpellableTerm, AreSpellable, terms_of}
+use Rattle.its_writer.specs.Spellable.{known_with, known_behind_all, known_behind, AreSpellable}
 use Rattle.its_writer.specs.Spellable.{terms_of_cost, terms_of_guard, IsSpellableRule, symbols_behind, AreInOrder, names_at, IsSpellable}
 use Rattle.its_writer.proofs.NamesAt.{name_at_is, position_at, known_grows, known_above, names_count, symbols_with, places_named}
 use Rattle.its_writer.proofs.TermsBack.{all_grow, arguments_back, cost_back, guard_back}
 use Rattle.its_writer.proofs.RulesRead.{IsWritableRule}
-use Rattle.its_writer.proofs.TextsRead.{IsWritableProgram, canonical_read}
+use Rattle.its_writer.proofs.TextsRead.{canonical_read}
 
 -- what was put on in order, the last one first, is that in the other order
 pub onto_back : {X : Type 0} (xs rest : List X) → reverse (onto xs rest) ≡ reverse rest ++ xs

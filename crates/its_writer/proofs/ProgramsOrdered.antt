@@ -1,12 +1,11 @@
 -- A program that a text spells has its symbols and variables numbered as they occur.
-use Rattle.std.proofs.Common.{◌≡◌, ℕ, zero, suc, ◌+◌, ◌-◌, ◌<◌, ◌≤◌, nat_eq, Bool, true, false, cond, not, if◌then◌else◌, ◌||◌}
-use Rattle.std.proofs.Common.{List, [], ◌∷◌, ◌++◌, length, length-append, take, Option, Some, None, refl, ap, sym, subst, ◌∙◌}
+use Rattle.std.proofs.Common.{◌≡◌, ℕ, zero, suc, ◌+◌, ◌-◌, ◌≤◌, nat_eq, Bool, true, false, cond, not, if◌then◌else◌, ◌||◌}
+use Rattle.std.proofs.Common.{List, [], ◌∷◌, ◌++◌, length, take, Option, Some, None, refl, ap, sym, subst, ◌∙◌}
 use Rattle.std.proofs.Common.{arith}
 use Rattle.std.specs.Prelude.{slice_get}
 use Rattle.std.specs.List.{AllByRecursion}
 use Rattle.std.proofs.lemmas.List.{length-reverse}
 use Rattle.std.proofs.lemmas.Bool.Decides.{nat_tests}
-use Rattle.its_text.specs.expr_text.model.Programs as plain
 use Rattle.its_text.specs.expr_text.model.Programs.{Name, Symbol, Rule, Program, arity_in}
 use Rattle.its_text.specs.expr_text.text_core.Names.{IsName, is_same, is_among, position_of, AreDistinct}
 use Rattle.its_text.proofs.expr_text.text_core.NameLaws.{is_same_self, same_equal}
@@ -30,7 +29,7 @@ use Rattle.its_writer.specs.Spellable.{known_behind_all, AreSpellable}
 use Rattle.its_writer.specs.Spellable.{known_with, terms_of, terms_of_cost, terms_of_guard, IsSpellableRule, symbols_behind}
 use Rattle.its_writer.specs.Spellable.{AreInOrder, names_at, IsSpellable}
 use Rattle.its_writer.proofs.NamesAt.{names_count}
-use Rattle.its_writer.proofs.TermsOrdered.{IsNext, name_next, AreOrdered, more_ordered, sums_ordered, cost_ordered, guard_ordered}
+use Rattle.its_writer.proofs.TermsOrdered.{name_next, AreOrdered, more_ordered, sums_ordered, cost_ordered, guard_ordered}
 
 -- the name at the position of one is that one
 name_back : (n : Name) (names : List Name) → is_among n names ≡ true → name_at names (position_of n names) ≡ n

@@ -1,5 +1,5 @@
 -- The canonical text of a rule is read as the rule that is written.
-use Rattle.std.proofs.Common.{◌≡◌, ℕ, zero, suc, ◌+◌, List, [], ◌∷◌, ◌++◌, Option, Some, None, refl, ap, sym, ◌∙◌}
+use Rattle.std.proofs.Common.{◌≡◌, ℕ, List, [], ◌∷◌, ◌++◌, Option, Some, None, refl, ap, ◌∙◌}
 use Rattle.std.specs.Prelude.{codes, ⊤}
 use Rattle.std.specs.List.{AllByRecursion}
 use Rattle.its_text.specs.expr_text.model.Programs as plain

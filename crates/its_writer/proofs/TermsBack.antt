@@ -1,7 +1,7 @@
 -- What is written stands for the expressions that it was made of.
-use Rattle.std.proofs.Common.{◌≡◌, ℕ, zero, suc, ◌+◌, ◌<◌, ◌≤◌, List, [], ◌∷◌, ◌++◌, length, take, Option, Some, None}
+use Rattle.std.proofs.Common.{◌≡◌, ℕ, ◌+◌, ◌<◌, ◌≤◌, List, [], ◌∷◌, ◌++◌, length, take, Option, Some, None}
 use Rattle.std.proofs.Common.{refl, ap, sym, subst, ◌∙◌, arith, append_assoc, append-nil}
-use Rattle.std.specs.Prelude.{pos, negsuc, ⊤}
+use Rattle.std.specs.Prelude.{pos, negsuc}
 use Rattle.std.specs.List.{AllByRecursion}
 use Rattle.std.specs.Str.Parse.{digits_value}
 use Rattle.its_text.specs.expr_text.model.Programs as plain
@@ -15,10 +15,9 @@ use Rattle.its_text.specs.expr_text.Terms.{with_sum, with_base, sum_term, base_t
 use Rattle.its_text.specs.expr_text.Guards.{Atoms, First, Joined, relation_of, with_atom, with_atoms, atom_term, atoms_terms}
 use Rattle.its_text.specs.Numbering.{with_sums, sums_terms, with_cost, cost_term, with_guard, guard_terms}
 use Rattle.its_writer.specs.Layout.{numeral}
-use Rattle.its_writer.specs.Expressions.{name_at}
 use Rattle.its_writer.specs.Sections.{operand_written, expression_written, arguments_written, sign_written, atom_written}
 use Rattle.its_writer.specs.Sections.{atoms_written, guard_written, cost_written}
-use Rattle.its_writer.specs.Spellable.{known_with, known_behind, IsSpellableTerm, known_behind_all, AreSpellable}
+use Rattle.its_writer.specs.Spellable.{known_behind, IsSpellableTerm, known_behind_all, AreSpellable}
 use Rattle.its_writer.specs.Spellable.{terms_of_cost, terms_before, terms_of_guard}
 use Rattle.its_writer.proofs.Numerals.{numeral_is}
 use Rattle.its_writer.proofs.NamesAt.{name_at_is, position_at, first_with, known_grows, known_above}

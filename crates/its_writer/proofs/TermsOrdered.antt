@@ -1,6 +1,6 @@
 -- What is read numbers its variables as they occur, and its literals aren't negative.
-use Rattle.std.proofs.Common.{◌≡◌, ℕ, zero, suc, ◌+◌, ◌<◌, ◌≤◌, nat_lt, Bool, true, false, cond, not, if◌then◌else◌, List, []}
-use Rattle.std.proofs.Common.{◌∷◌, ◌++◌, length, length-append, Option, Some, None, refl, ap, sym, subst, ◌∙◌, arith, append_assoc}
+use Rattle.std.proofs.Common.{◌≡◌, ℕ, suc, ◌+◌, ◌<◌, ◌≤◌, nat_lt, Bool, true, false, cond, not, if◌then◌else◌, List, []}
+use Rattle.std.proofs.Common.{◌∷◌, ◌++◌, length, length-append, Option, Some, None, refl, ap, sym, subst, ◌∙◌, arith}
 use Rattle.std.proofs.lemmas.Bool.{or_parts as neither}
 use Rattle.std.proofs.lemmas.Bool.Decides.{nat_tests}
 use Rattle.its_text.specs.expr_text.model.Programs as plain
@@ -15,11 +15,11 @@ use Rattle.its_text.specs.expr_text.Terms.{product_term, factor_term, base_term}
 use Rattle.its_text.specs.expr_text.Guards.{Atom, Always, Compared, Atoms, First, Joined, with_atom, with_atoms, atom_term}
 use Rattle.its_text.specs.expr_text.Guards.{atoms_terms}
 use Rattle.its_text.proofs.expr_text.Stability.{position_stays, among_last, extended, sum_extends}
-use Rattle.its_text.proofs.expr_text.NamesRead.{Extends, extends_self, atoms_extends}
+use Rattle.its_text.proofs.expr_text.NamesRead.{Extends, atoms_extends}
 use Rattle.its_text.specs.Written.{Guard, NoGuard, BehindMark, InSquares}
 use Rattle.its_text.specs.Numbering.{with_sums, sums_terms, with_maybe, maybe_terms, with_guard, guard_terms, with_cost}
 use Rattle.its_text.specs.Numbering.{cost_term}
-use Rattle.its_text.proofs.ValidRules.{position_below, sums_extends}
+use Rattle.its_text.proofs.ValidRules.{position_below}
 use Rattle.its_writer.specs.Spellable.{known_with, known_behind, IsSpellableTerm, known_behind_all, AreSpellable}
 use Rattle.its_writer.specs.Spellable.{terms_of_cost, terms_before, terms_of_guard}
 

@@ -4,7 +4,7 @@ use Rattle.its_text.specs.expr_text.model.Programs.{Name, Relation, AtLeast, Mor
 use Rattle.its_text.specs.expr_text.model.Programs.{Always, Compare}
 use Rattle.its_text.specs.expr_text.model.Terms.{Term, Literal, Variable, Negation, Addition, Subtraction}
 use Rattle.its_text.specs.expr_text.model.Terms.{Multiplication, Exponentiation}
-use Rattle.its_writer.specs.Layout.{integer_then, bracketed_then, led_by, joined_then}
+use Rattle.its_writer.specs.Layout.{integer_then, bracketed_then, joined_then}
 
 -- the name with a number, from 0
 abbrev pub name_at : List Name → ℕ → Name

@@ -1,5 +1,5 @@
 -- A program as it is written in its canonical text.
-use Rattle.std.specs.Prelude.{ℕ, Bool, true, false, List, [], ◌∷◌, nat_abs, Option, Some, None}
+use Rattle.std.specs.Prelude.{List, [], ◌∷◌, nat_abs, Option, Some, None}
 use Rattle.its_text.specs.expr_text.model.Programs as plain
 use Rattle.its_text.specs.expr_text.model.Programs.{Name, Relation, AtLeast, MoreThan, AtMost, LessThan, EqualTo}
 use Rattle.its_text.specs.expr_text.model.Terms.{Term, Literal, Variable, Negation, Addition, Subtraction}

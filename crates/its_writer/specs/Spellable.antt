@@ -1,8 +1,8 @@
 -- Which programs a text spells: names, numbers and literals are as reading gives them.
-use Rattle.std.specs.Prelude.{◌≡◌, ℕ, suc, ◌+◌, ◌≤◌, ◌<◌, nat_lt, nat_eq, if◌then◌else◌, List, [], ◌∷◌, map, length, ℤ}
+use Rattle.std.specs.Prelude.{◌≡◌, ℕ, suc, ◌+◌, ◌≤◌, ◌<◌, nat_lt, nat_eq, if◌then◌else◌, List, [], ◌∷◌, length, ℤ}
 use Rattle.std.specs.Prelude.{◌++◌, pos, negsuc, Option, Some, None, IsFalse, ⊤}
 use Rattle.std.specs.List.{AllByRecursion}
-use Rattle.its_text.specs.expr_text.model.Programs.{Name, Atom, Always, Compare, Symbol, Rule, Program, arity_of}
+use Rattle.its_text.specs.expr_text.model.Programs.{Name, Atom, Always, Compare, Rule, Program, arity_of}
 use Rattle.its_text.specs.expr_text.model.Terms.{Term, Literal, Variable, Negation, Addition, Subtraction}
 use Rattle.its_text.specs.expr_text.model.Terms.{Multiplication, Exponentiation}
 use Rattle.its_text.specs.expr_text.text_core.Names.{IsName, AreDistinct}

@@ -1,6 +1,6 @@
 -- What was worked out by hand of canonical texts, and of which programs a text spells.
-use Rattle.std.specs.Prelude.{◌≡◌, ℕ, List, [], ◌∷◌, ◌++◌, codes, pos, negsuc, Option, Some, None}
-use Rattle.its_text.specs.expr_text.model.Programs.{Name, AtLeast, MoreThan, AtMost, LessThan, EqualTo, Atom, Always}
+use Rattle.std.specs.Prelude.{◌≡◌, List, [], ◌∷◌, ◌++◌, codes, pos, negsuc, Some, None}
+use Rattle.its_text.specs.expr_text.model.Programs.{Name, LessThan, EqualTo, Atom, Always}
 use Rattle.its_text.specs.expr_text.model.Programs.{Compare, Rule, Program}
 use Rattle.its_text.specs.expr_text.model.Terms.{Term, Literal, Variable, Negation, Addition, Subtraction}
 use Rattle.its_text.specs.expr_text.model.Terms.{Multiplication, Exponentiation}

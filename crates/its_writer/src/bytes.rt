@@ -3,7 +3,7 @@
 ghost use Rattle.std.specs.Prelude.{◌++◌, OnOk};
 ghost use Rattle.its_text.specs.expr_text.text_core.Names.{name_of};
 ghost use Rattle.its_writer.specs.Expressions.{name_at};
-ghost use Rattle.std.specs.Prelude.{map};
+ghost use Rattle.std.specs.Prelude.{map, pos};
 ghost use Rattle.its_writer.specs.Layout.{integer_then};
 ghost use Rattle.its_writer.specs.Printing.{WritesAll};
 
@@ -34,4 +34,11 @@ pub(crate) fn write_integer(text: &mut Vec<u8>, z: i128) -> Result<(), Memory>
     ensures { OnOk result (WritesAll text.old.items text.new.items (integer_then z)) }
 {
     write_bytes(text, Buffer::new().format(z).as_bytes())
+}
+
+/// A number in decimal digits.
+pub(crate) fn write_number(text: &mut Vec<u8>, number: u32) -> Result<(), Memory>
+    ensures { OnOk result (WritesAll text.old.items text.new.items (integer_then (pos number))) }
+{
+    write_integer(text, i128::from(number))
 }

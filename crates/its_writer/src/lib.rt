@@ -7,11 +7,13 @@
 
 mod bytes;
 mod expression;
+mod generator;
 mod law;
 mod names;
 mod printing;
 mod rule;
 
+pub use generator::generate;
 pub use law::{generated_programs_are_spelled, spelled_programs_are_known, worked_values_hold};
 pub use poly_terms::Memory;
 pub use printing::print;

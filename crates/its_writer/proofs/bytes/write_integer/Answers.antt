@@ -2,7 +2,6 @@
 use Rattle.std.proofs.Common.{arith, ◌∙◌}
 use Rattle.std.proofs.lemmas.Int.{ints, to_z-of_z}
 use Rattle.its_writer.proofs.Numerals.{integer_written}
-use Rattle.its_writer.proofs.TextsRead.{canonical_read}
 use Rattle.its_writer.proofs.bytes.write_integer.Goals as goal
 
 pub returns : goal.returns

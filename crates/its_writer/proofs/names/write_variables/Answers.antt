@@ -1,7 +1,6 @@
 -- One name more is written, and none is left.
-use Rattle.std.proofs.Common.{arith, ap, subst, sym}
 use Rattle.expr_reader.specs.Variables.{names_in}
-use Rattle.its_writer.proofs.Written.{name_more, names_whole}
+use Rattle.its_writer.proofs.Written.{name_more}
 use Rattle.its_writer.proofs.names.write_variables.Goals as goal
 
 pub loop-i-preserved : goal.loop-i-preserved

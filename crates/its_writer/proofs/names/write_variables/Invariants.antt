@@ -1,4 +1,4 @@
-use Rattle.std.proofs.Common.{drop, map}
+use Rattle.std.proofs.Common.{drop}
 use Rattle.std.specs.Prelude.{codes}
 use Rattle.expr_reader.specs.Variables.{names_in}
 use Rattle.its_writer.specs.Layout.{each_then, led_by}
