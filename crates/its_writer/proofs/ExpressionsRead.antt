@@ -14,7 +14,7 @@ use Rattle.its_text.specs.Pieces.{Piece, In, word, digits}
 use Rattle.its_text.specs.Lexing.{Within}
 use Rattle.its_writer.specs.Layout.{numeral, integer_then, bracketed_then}
 use Rattle.its_writer.specs.Expressions.{name_at, expression_then, operand_then}
-use Rattle.its_writer.specs.Sections.{operand_written, expression_written}
+use Rattle.its_writer.proofs.CanonicalSections.{operand_written, expression_written}
 use Rattle.its_writer.specs.Spellable.{IsNatural}
 use Rattle.its_writer.proofs.Lexed.{lexed, moved, word_lexed, numeral_lexed, IsApart, minus_lexed, name_apart, numeral_apart}
 

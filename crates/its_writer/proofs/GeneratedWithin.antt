@@ -15,7 +15,7 @@ use Rattle.its_text.proofs.ValidPrograms.{spelled_valid}
 use Rattle.its_writer.specs.Layout.{numeral}
 use Rattle.its_writer.specs.Expressions.{name_at}
 use Rattle.its_writer.specs.Texts.{symbol_names, with_names, with_rules, variables_of, canonical_text}
-use Rattle.its_writer.specs.Sections.{rule_written, rules_written, canonical_sections}
+use Rattle.its_writer.proofs.CanonicalSections.{rule_written, rules_written, canonical_sections}
 use Rattle.its_writer.specs.Generated.{location, two_names, entry_rule, counting_rule, leaving_rule, locations, generated_rules}
 use Rattle.its_writer.specs.Generated.{generated}
 use Rattle.its_writer.proofs.Numerals.{numeral_decimal}

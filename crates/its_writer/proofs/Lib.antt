@@ -1,3 +1,4 @@
+pub mod CanonicalSections
 pub mod Numerals
 pub mod Lexed
 pub mod ExpressionsRead

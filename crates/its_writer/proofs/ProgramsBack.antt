@@ -23,7 +23,7 @@ use Rattle.its_text.proofs.DistinctNames.{all_one_more, distinct_reverse}
 use Rattle.its_text.proofs.Reading.{some_is}
 use Rattle.its_writer.specs.Expressions.{name_at}
 use Rattle.its_writer.specs.Texts.{symbol_names, left_names, with_names, with_rules, canonical_text}
-use Rattle.its_writer.specs.Sections.{rule_written, rules_written, canonical_sections, arguments_written, guard_written, cost_written}
+use Rattle.its_writer.proofs.CanonicalSections.{rule_written, rules_written, canonical_sections, arguments_written, guard_written, cost_written}
 use Rattle.its_writer.specs.Spellable.{known_with, known_behind_all, known_behind, AreSpellable}
 use Rattle.its_writer.specs.Spellable.{terms_of_cost, terms_of_guard, IsSpellableRule, symbols_behind, AreInOrder, names_at, IsSpellable}
 use Rattle.its_writer.proofs.NamesAt.{name_at_is, position_at, known_grows, known_above, names_count, symbols_with, places_named}

@@ -18,8 +18,8 @@ use Rattle.its_text.specs.Written.{WrittenRule}
 use Rattle.its_writer.specs.Layout.{each_then, led_by, joined_then}
 use Rattle.its_writer.specs.Expressions.{name_at, name_then, expression_then, sign_of, atom_then, guard_then}
 use Rattle.its_writer.specs.Texts.{left_names, arrow_then, rule_then}
-use Rattle.its_writer.specs.Sections.{expression_written, arguments_written, sign_written, atom_written, atoms_written}
-use Rattle.its_writer.specs.Sections.{guard_written, cost_written, rule_written, rules_written}
+use Rattle.its_writer.proofs.CanonicalSections.{expression_written, arguments_written, sign_written, atom_written, atoms_written}
+use Rattle.its_writer.proofs.CanonicalSections.{guard_written, cost_written, rule_written, rules_written}
 use Rattle.its_writer.proofs.Lexed.{lexed, moved, word_lexed}
 use Rattle.its_writer.proofs.ExpressionsRead.{IsWritable, IsRead, expression_read}
 

@@ -15,8 +15,8 @@ use Rattle.its_text.specs.expr_text.Terms.{with_sum, with_base, sum_term, base_t
 use Rattle.its_text.specs.expr_text.Guards.{Atoms, First, Joined, relation_of, with_atom, with_atoms, atom_term, atoms_terms}
 use Rattle.its_text.specs.Numbering.{with_sums, sums_terms, with_cost, cost_term, with_guard, guard_terms}
 use Rattle.its_writer.specs.Layout.{numeral}
-use Rattle.its_writer.specs.Sections.{operand_written, expression_written, arguments_written, sign_written, atom_written}
-use Rattle.its_writer.specs.Sections.{atoms_written, guard_written, cost_written}
+use Rattle.its_writer.proofs.CanonicalSections.{operand_written, expression_written, arguments_written, sign_written, atom_written}
+use Rattle.its_writer.proofs.CanonicalSections.{atoms_written, guard_written, cost_written}
 use Rattle.its_writer.specs.Spellable.{known_behind, IsSpellableTerm, known_behind_all, AreSpellable}
 use Rattle.its_writer.specs.Spellable.{terms_of_cost, terms_before, terms_of_guard}
 use Rattle.its_writer.proofs.Numerals.{numeral_is}

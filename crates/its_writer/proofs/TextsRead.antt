@@ -16,7 +16,7 @@ use Rattle.its_text.specs.Written.{WrittenRule}
 use Rattle.its_writer.specs.Layout.{each_then, led_by}
 use Rattle.its_writer.specs.Expressions.{name_at, name_then}
 use Rattle.its_writer.specs.Texts.{symbol_names, variables_of, rule_then, canonical_text}
-use Rattle.its_writer.specs.Sections.{rule_written, rules_written, canonical_sections}
+use Rattle.its_writer.proofs.CanonicalSections.{rule_written, rules_written, canonical_sections}
 use Rattle.its_writer.proofs.Lexed.{lexed, moved, word_lexed}
 use Rattle.its_writer.proofs.RulesRead.{IsWritableRule, rules_read}
 

@@ -2,7 +2,6 @@
 pub mod Layout
 pub mod Expressions
 pub mod Texts
-pub mod Sections
 pub mod Spellable
 pub mod Answers
 pub mod Generated

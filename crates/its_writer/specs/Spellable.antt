@@ -39,24 +39,27 @@ IsSpellableTerm n (Subtraction d e) = IsSpellableTerm n d × IsSpellableTerm (kn
 IsSpellableTerm n (Multiplication d e) = IsSpellableTerm n d × IsSpellableTerm (known_behind n d) e
 IsSpellableTerm n (Exponentiation e m) = IsSpellableTerm n e
 
--- so are expressions in their order
+-- how many variables are known behind expressions, where so many are before them
 abbrev pub known_behind_all : ℕ → List Term → ℕ
 known_behind_all n [] = n
 known_behind_all n (e ∷ es) = known_behind_all (known_behind n e) es
 
+-- expressions in their order, each with the variables known before it
 abbrev pub AreSpellable : ℕ → List Term → Type 0
 AreSpellable n [] = ⊤
 AreSpellable n (e ∷ es) = IsSpellableTerm n e × AreSpellable (known_behind n e) es
 
--- the expressions of a cost, of an atom and of a guard
+-- the expression of a cost, where there is one
 abbrev pub terms_of_cost : Option Term → List Term
 terms_of_cost None = []
 terms_of_cost (Some c) = c ∷ []
 
+-- the two sides of an atom, before other expressions
 abbrev pub terms_before : Atom → List Term → List Term
 terms_before Always terms = terms
 terms_before (Compare d relation e) terms = d ∷ e ∷ terms
 
+-- the expressions of a guard, in order
 abbrev pub terms_of_guard : List Atom → List Term
 terms_of_guard [] = []
 terms_of_guard (a ∷ atoms) = terms_before a (terms_of_guard atoms)

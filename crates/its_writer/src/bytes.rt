@@ -1,9 +1,8 @@
 //! Bytes, names and integers behind a text.
 
-ghost use Rattle.std.specs.Prelude.{◌++◌, OnOk};
+ghost use Rattle.std.specs.Prelude.{◌++◌, map, pos, OnOk};
 ghost use Rattle.its_text.specs.expr_text.text_core.Names.{name_of};
 ghost use Rattle.its_writer.specs.Expressions.{name_at};
-ghost use Rattle.std.specs.Prelude.{map, pos};
 ghost use Rattle.its_writer.specs.Layout.{integer_then};
 ghost use Rattle.its_writer.specs.Printing.{WritesAll};
 
@@ -12,6 +11,10 @@ use its_model::Name;
 use poly_terms::Memory;
 
 /// Bytes as they are.
+///
+/// # Errors
+///
+/// `Memory` where an allocation fails; what stands in `text` is then open.
 pub(crate) fn write_bytes(text: &mut Vec<u8>, bytes: &[u8]) -> Result<(), Memory>
     ensures { OnOk result (WritesAll text.old.items text.new.items (λ rest. bytes.now ++ rest)) }
 {
@@ -19,6 +22,10 @@ pub(crate) fn write_bytes(text: &mut Vec<u8>, bytes: &[u8]) -> Result<(), Memory
 }
 
 /// The name with a number, where there is one.
+///
+/// # Errors
+///
+/// `Memory` where an allocation fails; what stands in `text` is then open.
 pub(crate) fn write_name(text: &mut Vec<u8>, names: &[Name], number: u32) -> Result<(), Memory>
     ensures { OnOk result (WritesAll text.old.items text.new.items
         (λ rest. name_at (map name_of names.now) number ++ rest)) }
@@ -29,7 +36,11 @@ pub(crate) fn write_name(text: &mut Vec<u8>, names: &[Name], number: u32) -> Res
     }
 }
 
-/// An integer in decimal digits.
+/// An integer in decimal digits, behind `-` where it is negative.
+///
+/// # Errors
+///
+/// `Memory` where an allocation fails; what stands in `text` is then open.
 pub(crate) fn write_integer(text: &mut Vec<u8>, z: i128) -> Result<(), Memory>
     ensures { OnOk result (WritesAll text.old.items text.new.items (integer_then z)) }
 {
@@ -37,6 +48,10 @@ pub(crate) fn write_integer(text: &mut Vec<u8>, z: i128) -> Result<(), Memory>
 }
 
 /// A number in decimal digits.
+///
+/// # Errors
+///
+/// `Memory` where an allocation fails; what stands in `text` is then open.
 pub(crate) fn write_number(text: &mut Vec<u8>, number: u32) -> Result<(), Memory>
     ensures { OnOk result (WritesAll text.old.items text.new.items (integer_then (pos number))) }
 {

@@ -151,7 +151,7 @@ fn rules(alloc: Global, n: u32) -> Result<Vec<Rule>, Memory>
 pub fn generate(alloc: Global, n: u32) -> Result<Program, Memory>
     requires { n ≤ 100 }
     ensures program { IfOk result (λ p. program_of p ≡ generated n) }
-    ensures within { IfOk result (λ p. SpellsWithin (canonical_text (program_of p)) (program_of p)) }
+    ensures spelled { IfOk result (λ p. SpellsWithin (canonical_text (program_of p)) (program_of p)) }
     ensures valid { IfOk result (λ p. IsValid (program_of p)) }
 {
     Ok(Program {

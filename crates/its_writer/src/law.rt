@@ -11,11 +11,12 @@ pub fn worked_values_hold()
 
 /// A text spells a program only where its names, numbers and literals are as reading gives them, and where they are,
 /// its canonical text spells it.
-pub fn spelled_programs_are_known()
+pub fn spelled_programs_are_spellable()
     ensures { SpelledPrograms }
 {}
 
-/// Up to n = 100 the canonical text of the generated program spells it within the limits, and so the program is valid.
+/// Up to n = 100 the canonical text of the generated program spells it within the limits, has no more bytes than the file
+/// of a program may have, and so the program is valid.
 pub fn generated_programs_are_spelled()
     ensures { GeneratedAreSpelled }
 {}

@@ -15,7 +15,8 @@ use poly_terms::Memory;
 use std::alloc::Global;
 
 /// The canonical text of a program, of any depth of its expressions: the call goes as deep as they do. It spells the
-/// program, where any text does; a number that has no name or symbol is left out, and a negative literal has its sign.
+/// program, where any text does. A number that has no name or symbol is left out, and a negative literal has its sign
+/// and no brackets, so the text then spells another program, which may have other values: `-7^2` is `-(7^2)`.
 ///
 /// # Errors
 ///

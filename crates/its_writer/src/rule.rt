@@ -15,6 +15,10 @@ use its_model::{Name, Rule, Symbol};
 use poly_terms::{Expr, Memory};
 
 /// The name of the symbol with a number, where there is one.
+///
+/// # Errors
+///
+/// `Memory` where an allocation fails; what stands in `text` is then open.
 pub(crate) fn write_symbol(
     text: &mut Vec<u8>,
     symbols: &[Symbol],

@@ -8,8 +8,8 @@ use Rattle.its_writer.proofs.GeneratedMade.{program_made}
 use Rattle.its_writer.proofs.GeneratedWithin.{generated_spelled, generated_valid}
 use Rattle.its_writer.proofs.generator.generate.Goals as goal
 
-pub returns-clause-within : goal.returns-clause-within
-returns-clause-within c =
+pub returns-clause-spelled : goal.returns-clause-spelled
+returns-clause-spelled c =
     let p : Program = record {
       symbols = c.in_ok-locations.field-0;
       start = 0;
