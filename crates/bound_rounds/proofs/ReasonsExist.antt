@@ -150,6 +150,10 @@ reasons_stand = record {
   sizes = λ a s fs closed t i covered missing. size_why (searches_of a) s fs closed t i
       (subst (λ (cs : List (List Spot)). IsCovered cs t i) closed.are_components covered) missing;
   places = λ a s fs last t i rule place missing. size_why (searches_of a) s fs last.closed t i
-      ((last.closed.live.live t i).1 (rule, missing_live (searches_of a) s last.closed.components last.closed.live fs
-      last.made t i rule place missing, place)) missing;
+      ((last.closed.live.live t i).1 (
+        rule,
+        missing_live (searches_of a) s last.closed.components last.closed.live fs
+            last.made t i rule place missing,
+        place,
+      )) missing;
 }
