@@ -8,17 +8,17 @@ use Rattle.rule_questions.specs.model.Bounds.{Constant}
 use Rattle.rule_questions.specs.model.Paths.{Here, Onward, HasEdge, HasPath}
 use Rattle.rule_questions.specs.proof_nodes.AcceptsPlain.{IsRule, IsUnreached}
 use Rattle.rule_questions.specs.proof_nodes.Worked.{once_time}
-use Rattle.rule_questions.specs.proof_nodes.WorkedSettings.{apart, counting, stuck, two_ways_in, enter, count_down}
+use Rattle.rule_questions.specs.proof_nodes.WorkedSettings.{apart, counting, stuck, two_ways_in, count_down}
 use Rattle.rule_questions.proofs.proof_nodes.WorkedPlain.{plain_nodes}
 use Rattle.bound_rounds.specs.Keys.{Bounds, key, time_key}
 use Rattle.bound_rounds.specs.Finds.{Find, bounds_of}
-use Rattle.bound_rounds.specs.Searches.{searches_of, NoPoint, HasPoint, EmptyTripped}
+use Rattle.bound_rounds.specs.Searches.{searches_of, NoPoint, HasPoint}
 use Rattle.bound_rounds.specs.Components.{IsEmpty}
 use Rattle.bound_rounds.specs.Beginning.{empty_find, unreached_find, never_find, AreFirst}
 use Rattle.bound_rounds.specs.Standing.{Stands, AllStand}
 use Rattle.bound_rounds.specs.WorkedFinds.{once_find}
 use Rattle.bound_rounds.specs.WorkedFirst.{cut_off, none_told}
-use Rattle.bound_rounds.specs.WorkedBeginnings.{first_two_empty, second_empty, told_empty, six_finds, six_on_one, leave}
+use Rattle.bound_rounds.specs.WorkedBeginnings.{first_two_empty, second_empty, told_empty, six_finds, six_on_one}
 use Rattle.bound_rounds.specs.WorkedBeginnings.{leaving, BeginningsAreWorkedOut, EmptyFindsAreWorkedOut}
 use Rattle.bound_rounds.proofs.Cases.{false_true, true_false}
 use Rattle.bound_rounds.proofs.FindLists.{bounds_of-kept}
