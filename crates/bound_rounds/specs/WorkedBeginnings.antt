@@ -114,8 +114,8 @@ pub record BeginningsAreWorkedOut : Type 0 where
   pub not_without_place : ¬ (AreFirst (searches_of cut_off) leaving (empty_find 1 [] ∷ never_find leaving 1 ∷ []))
 
 -- the time of an empty rule stands, by multipliers that show it and by no others, and then the sizes after it; after a
--- rule whose time isn't 0 they don't. A rule that is unreached without an empty one stands behind that one, and rests on
--- it
+-- rule whose time isn't 0 they don't. A rule that is unreached without an empty one stands behind that one, and rests
+-- on it
 pub record EmptyFindsAreWorkedOut : Type 0 where
   pub stand : AllStand stuck (empty_find 2 (1 ∷ 1 ∷ []) ∷ never_find stuck.program 2 ∷ [])
   pub not_shown : ¬ (AllStand stuck (empty_find 2 (1 ∷ 0 ∷ []) ∷ []))

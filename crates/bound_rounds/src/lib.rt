@@ -99,7 +99,8 @@ pub fn first_finds_are_as_worked_out()
 {}
 
 /// The rounds of that program, from nothing and from the time of its first rule, one alone and two, and of a component
-/// of two members, and why bounds are missing where nothing ranks or a bound is too large, are those worked out by hand.
+/// of two members, and why bounds are missing where nothing ranks or a bound is too large, are those worked out by
+/// hand.
 pub fn rounds_are_as_worked_out()
     ensures first { FirstRoundIsWorkedOut }
     ensures later { LaterRoundsAreWorkedOut }

@@ -19,8 +19,8 @@ pub record SpelledPrograms : Type 0 where
   pub spelled : (bytes : List ℕ) (p : Program) → Spells bytes p → IsSpellable p
   pub spells : (p : Program) → IsSpellable p → Spells (canonical_text p) p
 
--- up to n = 100 the canonical text of the generated program spells it within the limits, has no more bytes than the file
--- of a program may have, and so the program is valid
+-- up to n = 100 the canonical text of the generated program spells it within the limits, has no more bytes than the
+-- file of a program may have, and so the program is valid
 pub record GeneratedAreSpelled : Type 0 where
   pub within : (n : ℕ) → n ≤ 100 → SpellsWithin (canonical_text (generated n)) (generated n)
   pub short : (n : ℕ) → n ≤ 100 → length (canonical_text (generated n)) ≤ 4194304

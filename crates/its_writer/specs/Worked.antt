@@ -7,8 +7,8 @@ use Rattle.its_text.specs.expr_text.model.Terms.{Multiplication, Exponentiation}
 use Rattle.its_text.specs.expr_text.text_core.Reading.{Stands}
 use Rattle.its_text.specs.Answers.{verdict}
 use Rattle.its_writer.specs.Texts.{canonical_text}
-use Rattle.its_writer.specs.Spellable.{known_behind, IsSpellableTerm, AreSpellable, terms_of, symbols_behind, AreInOrder}
-use Rattle.its_writer.specs.Spellable.{names_at, IsSpellable}
+use Rattle.its_writer.specs.Spellable.{known_behind, IsSpellableTerm, AreSpellable, terms_of, symbols_behind}
+use Rattle.its_writer.specs.Spellable.{AreInOrder, names_at, IsSpellable}
 use Rattle.its_writer.specs.Generated.{generated}
 
 -- the names X and Y

@@ -15,8 +15,8 @@ pub fn spelled_programs_are_spellable()
     ensures { SpelledPrograms }
 {}
 
-/// Up to n = 100 the canonical text of the generated program spells it within the limits, has no more bytes than the file
-/// of a program may have, and so the program is valid.
+/// Up to n = 100 the canonical text of the generated program spells it within the limits, has no more bytes than the
+/// file of a program may have, and so the program is valid.
 pub fn generated_programs_are_spelled()
     ensures { GeneratedAreSpelled }
 {}
