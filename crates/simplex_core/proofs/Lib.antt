@@ -51,5 +51,4 @@ pub mod ColumnExtraction
 pub mod ColumnResults
 pub mod Halts
 pub mod ColumnLists
-pub mod ColumnListings
 pub mod FirstColumns
