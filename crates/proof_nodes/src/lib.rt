@@ -1,6 +1,6 @@
-//! Proof nodes as plain data, when each is accepted, and why what accepted nodes state holds on every run: definitions
-//! in `specs/` and their laws. The functions here have no code: the contract of each is a law, or values that were
-//! worked out by hand.
+//! Proof nodes as plain data, when each is accepted, and why what accepted nodes state holds on every run; when a gap
+//! holds and why it then excludes functions, and where files are refused: definitions in `specs/` and their laws. The
+//! functions here have no code: the contract of each is a law, or values that were worked out by hand.
 #![tactic(auto)]
 
 ghost use Rattle.proof_nodes.specs.Feeding.{LoopsGrow};
@@ -66,7 +66,7 @@ pub fn gaps_exclude_functions()
     ensures { GapsExcludeFunctions }
 {}
 
-/// The checks of a gap all pass exactly where it holds, and it has at most one first fault.
+/// The checks of a gap all pass exactly where it holds, and exactly there it has no first fault; it has at most one.
 pub fn gap_checks_are_in_line()
     ensures { GapChecksAreInLine }
 {}
@@ -99,8 +99,8 @@ pub fn worked_refusals_hold()
     ensures files { FilesAreJudged }
 {}
 
-/// The facts of accepted lemmas have bounds with tidy numbers over the start arguments alone, and they are tidy where
-/// each bound that the lemmas write is.
+/// Over a setting that makes bounds that can be printed: the facts of accepted lemmas have bounds with tidy numbers over
+/// the start arguments alone, and they are tidy where each bound that the lemmas write is.
 pub fn accepted_facts_are_printable()
     ensures { AcceptedFactsArePrintable }
 {}
