@@ -15,6 +15,9 @@ ghost use Rattle.proof_nodes.specs.Worked.{PlainNodesAreJudged, FormulasAreWhole
 ghost use Rattle.proof_nodes.specs.WorkedSizes.{SizeNodesAreJudged};
 ghost use Rattle.proof_nodes.specs.WorkedReasons.{ReasonsComeInOrder};
 ghost use Rattle.proof_nodes.specs.WorkedGaps.{GapsAreJudged};
+ghost use Rattle.proof_nodes.specs.WorkedGapSets.{GapsOfTwoRulesAreJudged};
+ghost use Rattle.proof_nodes.specs.WorkedGapShapes.{GapLimitsAreJudged, GapShapesAreJudged, GapFaultsComeInOrder};
+ghost use Rattle.proof_nodes.specs.WorkedGapShapes.{ShutPlacesAreJudged};
 ghost use Rattle.proof_nodes.specs.WorkedPrintable.{PrintingIsJudged};
 ghost use Rattle.proof_nodes.specs.WorkedRefusals.{NodesAreNumbered, LemmasAreRefused, FilesAreJudged};
 ghost use Rattle.proof_nodes.specs.WorkedCosts.{CostNodesAreJudged, CostReasonsComeInOrder, PayingIsFaithful};
@@ -71,9 +74,15 @@ pub fn gap_checks_are_in_line()
     ensures { GapChecksAreInLine }
 {}
 
-/// Gaps of three small programs hold, and changed ones have the faults that were worked out by hand.
+/// Gaps of small programs hold, over one rule and over two, up to the limits of numbers, and with shut places; and
+/// changed ones have the faults that were worked out by hand.
 pub fn worked_gaps_hold()
-    ensures { GapsAreJudged }
+    ensures small { GapsAreJudged }
+    ensures two_rules { GapsOfTwoRulesAreJudged }
+    ensures limits { GapLimitsAreJudged }
+    ensures shapes { GapShapesAreJudged }
+    ensures order { GapFaultsComeInOrder }
+    ensures shut { ShutPlacesAreJudged }
 {}
 
 /// A lemma is accepted exactly where each of its nodes is accepted by itself. Lemmas are accepted exactly where there
