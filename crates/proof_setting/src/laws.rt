@@ -3,7 +3,7 @@
 ghost use Rattle.proof_setting.specs.GapLaws.{GapsExcludeFunctions};
 ghost use Rattle.proof_setting.specs.Laws.{SettingsAreFaithful, AcceptedFactsHold, PolynomialsAreBent};
 ghost use Rattle.proof_setting.specs.Laws.{SmallBoundsAreRewritten, AcceptedFilesHold, SettingsAreTidying};
-ghost use Rattle.proof_setting.specs.Laws.{AcceptedFactsArePrintable};
+ghost use Rattle.proof_setting.specs.Laws.{AcceptedFactsArePrintable, FormsAreThoseOfSettings};
 ghost use Rattle.proof_setting.specs.Worked.{SettingsAreAsWorkedOut};
 
 /// The setting of a valid program says what is true of it. It has no code, as all functions here: its contract is the
@@ -22,6 +22,11 @@ pub fn accepted_facts_hold()
 /// function ranks the strict rule of a gap over its set without looking at a shut place, whoever made the file.
 pub fn accepted_files_hold()
     ensures { AcceptedFilesHold }
+{}
+
+/// What questions and gaps see of a rule of a program are the rows and new values over which nodes are judged.
+pub fn forms_are_those_of_settings()
+    ensures { FormsAreThoseOfSettings }
 {}
 
 /// The setting of a valid program makes bounds that can be printed; so the facts of lemmas that are accepted for it
