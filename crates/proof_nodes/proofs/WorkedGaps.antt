@@ -25,8 +25,8 @@ one_point r e x d h k = record {
 }
 
 -- a point of two parts with numbers within the limit
-pub pair_point : (r : RuleForms) → r.unknowns ≡ 2 → (x y : ℤ) (d : ℕ) → nat_abs x ≤ point_limit → nat_abs y ≤ point_limit
-    → d ≤ point_limit → IsGapPoint r (scaled (x ∷ y ∷ []) d)
+pub pair_point : (r : RuleForms) → r.unknowns ≡ 2 → (x y : ℤ) (d : ℕ) → nat_abs x ≤ point_limit
+    → nat_abs y ≤ point_limit → d ≤ point_limit → IsGapPoint r (scaled (x ∷ y ∷ []) d)
 pair_point r e x y d h i k = record {
   long = omega (arith, e);
   parts_limit =
@@ -36,8 +36,8 @@ pair_point r e x y d h i k = record {
 }
 
 -- the shape of a gap of the second rule over itself
-pub shape_over : (p : Program) (rule : ℕ → RuleForms) (shut : List SymbolPlace) (move floor kept : ScaledPoint) → IsRule p 2
-    → IsGapPoint (rule 2) move → IsGapPoint (rule 2) floor → IsGapPoint (rule 2) kept
+pub shape_over : (p : Program) (rule : ℕ → RuleForms) (shut : List SymbolPlace) (move floor kept : ScaledPoint)
+    → IsRule p 2 → IsGapPoint (rule 2) move → IsGapPoint (rule 2) floor → IsGapPoint (rule 2) kept
     → HasGapShape p rule (gap_over 2 shut move floor kept)
 shape_over p rule shut move floor kept i m f k = record {
   ascending = tt;

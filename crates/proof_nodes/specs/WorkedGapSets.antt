@@ -53,8 +53,8 @@ abbrev pub gap_of_two : ℕ → ScaledPoint → ScaledPoint → ScaledPoint → 
 gap_of_two t move next floor kept last = gap_with t (2 ∷ 3 ∷ []) [] (move ∷ next ∷ []) floor (kept ∷ last ∷ [])
 
 -- a gap over two rules holds, whichever is strict. The floor counts at the symbol that the strict rule leaves and at no
--- other, and is looked at over that rule's rows; each move and each kept point is looked at over its own rule's rows; of
--- two symbols, two places and two rules the lesser is told; and it is the strict rule's move that has to lose
+-- other, and is looked at over that rule's rows; each move and each kept point is looked at over its own rule's rows;
+-- of two symbols, two places and two rules the lesser is told; and it is the strict rule's move that has to lose
 -- something, not another rule's
 pub record GapsOfTwoRulesAreJudged : Type 0 where
   pub second_strict : GapHolds crossing crossing_forms (gap_of_two 2 one one nowhere one one)

@@ -108,8 +108,8 @@ pub fn worked_refusals_hold()
     ensures files { FilesAreJudged }
 {}
 
-/// Over a setting that makes bounds that can be printed: the facts of accepted lemmas have bounds with tidy numbers over
-/// the start arguments alone, and they are tidy where each bound that the lemmas write is.
+/// Over a setting that makes bounds that can be printed: the facts of accepted lemmas have bounds with tidy numbers
+/// over the start arguments alone, and they are tidy where each bound that the lemmas write is.
 pub fn accepted_facts_are_printable()
     ensures { AcceptedFactsArePrintable }
 {}

@@ -8,6 +8,7 @@ mod laws;
 
 pub use laws::{
     accepted_facts_are_printable, accepted_facts_hold, accepted_files_hold,
-    forms_are_those_of_settings, gaps_exclude_functions, polynomials_are_bent,
-    settings_are_as_worked_out, settings_are_faithful, small_bounds_are_rewritten,
+    forms_are_those_of_settings, gaps_are_as_worked_out, gaps_exclude_functions,
+    polynomials_are_bent, settings_are_as_worked_out, settings_are_faithful,
+    small_bounds_are_rewritten,
 };
