@@ -32,7 +32,7 @@ use Rattle.proof_tree.proofs.proof_nodes.GapPoints.{AreEach, each-long, each-of}
 use Rattle.proof_tree.proofs.proof_nodes.RefutedGaps.{refuted-holds}
 use Rattle.proof_tree.specs.declared.answer.EmptyAnswer.{EmptyAnswer}
 use Rattle.proof_tree.specs.declared.answer.EmptyAnswer.TheVariants as answers
-use Rattle.proof_tree.specs.AnswerViews.{scaled_of}
+use Rattle.proof_tree.specs.AnswerViews.{scaled_of, gap_of}
 use Rattle.proof_tree.specs.guard_prep.Prepared.{prepared}
 use Rattle.rule_questions.specs.EmptyAnswers.{IsNearPoint}
 use Rattle.rule_questions.specs.ProgramQuestions.{forms_in, forms_at, ranked_set}
@@ -60,10 +60,13 @@ module _ (n : ℕ) where
       → AreElements gs (map element_of (points_of y gs))
   seen-elements y [] shaped h = tt
   seen-elements y (g ∷ gs) shaped h = (
-    (omega (arith, ints), record {
-      each = λ k d l. subst (λ (v : ℤ). pos 0 ≤ℤ v)
-          (seen _ g.unknowns y ((All-head (IsGroupShaped n) g gs shaped).rows_fit k d l) h.0.0) (h.0.1.each k d l);
-    }),
+    (
+      omega (arith, ints),
+      record {
+        each = λ k d l. subst (λ (v : ℤ). pos 0 ≤ℤ v)
+            (seen _ g.unknowns y ((All-head (IsGroupShaped n) g gs shaped).rows_fit k d l) h.0.0) (h.0.1.each k d l);
+      },
+    ),
     seen-elements (after (suc g.unknowns) y) gs (All-tail (IsGroupShaped n) g gs shaped) h.1,
   )
 
@@ -268,6 +271,10 @@ module _ (p : Program) (set : List ℕ) (strict : ℕ) (shut : List SymbolPlace)
 -- gaps that are found hold
 pub gaps-found-hold : FoundGapsHold
 gaps-found-hold = record {
-  each = λ p set strict shut pivots empties g valid rules known r.
-      found-holds p set strict shut pivots empties valid rules known g r;
+  each = λ p set strict shut pivots empties g valid rules known r. record {
+    rule = r.0.numbered;
+    same_set = r.0.same_set;
+    same_shut = r.0.same_shut;
+    holds = found-holds p set strict shut pivots empties valid rules known (gap_of g) r.0;
+  };
 }
