@@ -33,7 +33,9 @@ module _ {A R : Type 0} (Passes : A → Type 0) (Fails : A → R → Type 0)
   pub first-one : ((x : A) (q r : R) → Fails x q → Fails x r → q ≡ r) → (xs : List A) (m n : ℕ) (q r : R)
       → FailsFirst Passes Fails xs m q → FailsFirst Passes Fails xs n r → (m ≡ n) × (q ≡ r)
   first-one one xs m n q r h k =
-      let both = one_cut one h.before k.before h.at k.at h.behind k.behind q r (sym h.whole ∙ k.whole) (recursion_from_All Passes h.before h.passed) (recursion_from_All Passes k.before k.passed) h.fails k.fails in
+      let both =
+      one_cut one h.before k.before h.element k.element h.behind k.behind q r (sym h.whole ∙ k.whole)
+      (recursion_from_All Passes h.before h.passed) (recursion_from_All Passes k.before k.passed) h.fails k.fails in
       (h.number ∙ (ap (λ (i : ℕ). suc i) both.0 ∙ sym k.number), both.1)
 
   -- where all elements pass, the one before which the list is cut passes
@@ -44,7 +46,7 @@ module _ {A R : Type 0} (Passes : A → Type 0) (Fails : A → R → Type 0)
   -- where all elements pass, none is the first to fail
   pub passed-none : (xs : List A) → AllByRecursion Passes xs → (n : ℕ) (r : R) → ¬ (FailsFirst Passes Fails xs n r)
   passed-none xs h n r k =
-      apart k.at (at_cut k.before k.at k.behind (subst (λ (ys : List A). AllByRecursion Passes ys) k.whole h)) r k.fails
+      apart k.element (at_cut k.before k.element k.behind (subst (λ (ys : List A). AllByRecursion Passes ys) k.whole h)) r k.fails
 
 -- the first of a list that fails is the first of a longer one, whose elements in front pass
 module _ {A R : Type 0} (Passes : A → Type 0) (Fails : A → R → Type 0) where
@@ -53,7 +55,7 @@ module _ {A R : Type 0} (Passes : A → Type 0) (Fails : A → R → Type 0) whe
       → FailsFirst Passes Fails (x ∷ xs) (suc n) r
   first-behind x xs n r h k = record {
     before = x ∷ k.before;
-    at = k.at;
+    element = k.element;
     behind = k.behind;
     whole = ap (λ (ys : List A). x ∷ ys) k.whole;
     number = ap (λ (i : ℕ). suc i) k.number;
@@ -76,9 +78,9 @@ module _ {A R : Type 0} (Passes : A → Type 0) (Fails : A → R → Type 0) whe
       → FailsFirst Passes Fails (xs ++ ys) n r
   first-before xs ys n r k = record {
     before = k.before;
-    at = k.at;
+    element = k.element;
     behind = k.behind ++ ys;
-    whole = ap (λ (zs : List A). zs ++ ys) k.whole ∙ append_assoc k.before (k.at ∷ k.behind) ys;
+    whole = ap (λ (zs : List A). zs ++ ys) k.whole ∙ append_assoc k.before (k.element ∷ k.behind) ys;
     number = k.number;
     passed = k.passed;
     fails = k.fails;
@@ -88,7 +90,7 @@ module _ {A R : Type 0} (Passes : A → Type 0) (Fails : A → R → Type 0) whe
   pub first-here : (x : A) (xs : List A) (r : R) → Fails x r → FailsFirst Passes Fails (x ∷ xs) 1 r
   first-here x xs r f = record {
     before = [];
-    at = x;
+    element = x;
     behind = xs;
     whole = refl;
     number = refl;

@@ -6,9 +6,11 @@ use Rattle.run_counting.specs.model.Programs.{Program}
 use Rattle.rule_forms.specs.linear_forms.RuleQuestions.{RuleForms}
 use Rattle.proof_nodes.specs.Gaps.{Gap}
 use Rattle.proof_nodes.specs.GapChecks.{GapHolds, MeetsAt, IsPointOf, balance, balanced, point_of, gap_checks}
-use Rattle.proof_nodes.specs.GapLaws.{GapChecksAreInLine}
+use Rattle.proof_nodes.specs.GapLaws.{HasNoFault, GapChecksAreInLine}
 use Rattle.proof_nodes.specs.Reasons.{AllPass}
-use Rattle.proof_nodes.proofs.CheckLists.{passed_has_none, first_is_one, each_passes, passes_each, each-in, in-each}
+use Rattle.proof_nodes.proofs.CheckLists.{passed_has_none, none_passes, first_is_one, each_passes, passes_each, each-in}
+use Rattle.proof_nodes.proofs.CheckLists.{in-each}
+use Rattle.proof_nodes.proofs.StableGaps.{gap-stable}
 
 module _ (p : Program) (rule : ℕ → RuleForms) (g : Gap) where
   -- a gap whose checks all pass holds
@@ -37,10 +39,18 @@ module _ (p : Program) (rule : ℕ → RuleForms) (g : Gap) where
     ),
   )
 
+  -- a gap that holds has no first fault
+  pub holds-faultless : GapHolds p rule g → HasNoFault p rule g
+  holds-faultless h = record { none = passed_has_none (gap_checks p rule g) (holds-passed h) }
+
+  -- a gap without a first fault holds
+  pub faultless-holds : HasNoFault p rule g → GapHolds p rule g
+  faultless-holds h = passed-holds (none_passes (gap_checks p rule g) (gap-stable p rule g) h.none)
+
 -- the checks are in line
 pub gap-checks-in-line : GapChecksAreInLine
 gap-checks-in-line = record {
   pass = λ p rule g. (passed-holds p rule g, holds-passed p rule g);
-  none = λ p rule g x h. passed_has_none (gap_checks p rule g) (holds-passed p rule g h) x;
+  none = λ p rule g. (holds-faultless p rule g, faultless-holds p rule g);
   one = λ p rule g x y. first_is_one (gap_checks p rule g) x y;
 }

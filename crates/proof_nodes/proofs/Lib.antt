@@ -44,6 +44,8 @@ pub mod WorkedReasons
 pub mod WorkedCosts
 pub mod WorkedPaying
 pub mod WorkedGaps
+pub mod WorkedGapSets
+pub mod WorkedGapShapes
 pub mod WorkedRefusals
 pub mod WorkedPrintable
 -- the lemmas of the crates below, which callers name through this one

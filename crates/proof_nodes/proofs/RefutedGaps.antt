@@ -1,23 +1,20 @@
 -- Points that refute the question for a function are the moves and the floor of a gap that holds.
-use Rattle.std.proofs.Common.{◌≡◌, ℕ, zero, suc, ◌<◌, not, Bool, true, false, if◌then◌else◌, nat_eq, List, [], ◌∷◌, ◌++◌}
+use Rattle.std.proofs.Common.{◌≡◌, ℕ, not, Bool, true, false, if◌then◌else◌, nat_eq, List, [], ◌∷◌, ◌++◌}
 use Rattle.std.proofs.Common.{length, map, filter, get_or, refl, sym, ◌∙◌, ap, subst, arith, All}
 use Rattle.std.specs.Prelude.{ℤ, pos, negsuc, neg_ℤ, ◌+ℤ◌, ◌*ℤ◌, ◌<ℤ◌}
 use Rattle.std.specs.List.{AllByRecursion, range_with_len}
 use Rattle.std.proofs.lemmas.Int.{ints}
 use Rattle.std.proofs.lemmas.Bool.{eqb-true}
-use Rattle.std.proofs.lemmas.List.Elements.{All-from_recursion, recursion_from_All, All-from_get_or, filter_agree}
+use Rattle.std.proofs.lemmas.List.Elements.{All-from_recursion, recursion_from_All, All-from_get_or}
 use Rattle.run_counting.specs.model.Entries.{is_in}
 use Rattle.run_counting.specs.model.Programs.{Program, arity_of}
-use Rattle.rule_forms.specs.linear_forms.Certificates.{minus_one}
-use Rattle.rule_forms.specs.linear_forms.Combinations.{zero_form}
-use Rattle.rule_forms.specs.linear_forms.QuestionLaws.{AreElements, Refutes, total_of, fixed_total}
+use Rattle.rule_forms.specs.linear_forms.QuestionLaws.{AreElements, Refutes, fixed_total}
 use Rattle.rule_forms.specs.linear_forms.RuleQuestions.{RankedSet, Coefficient, at_source, open_places, coefficients}
 use Rattle.rule_forms.specs.linear_forms.RuleQuestions.{rank_question, symbols_of_set}
 use Rattle.proof_nodes.specs.Gaps.{ScaledPoint, Gap, is_shut}
 use Rattle.proof_nodes.specs.GapChecks.{HasGapShape, MeetsAt, IsPointOf, value_at, net, balance, point_of, balanced_at}
 use Rattle.proof_nodes.specs.GapChecks.{balanced, GapHolds}
 use Rattle.proof_nodes.specs.GapLaws.{IsAbout}
-use Rattle.proof_nodes.specs.Graph.{symbols_of}
 use Rattle.proof_nodes.proofs.CheckLists.{each-append, append-each, map-each, each-map}
 use Rattle.proof_nodes.proofs.GapExclusion.{groups_with, elements_with, total-is, fixed-part, same-open}
 use Rattle.proof_nodes.proofs.GapPoints.{AreEach, each-of, of-each}

@@ -1,5 +1,5 @@
 -- Gaps on small programs, and the faults of others.
-use Rattle.std.proofs.Common.{◌≡◌, inl, inr, ℕ, ◌+◌, ◌≤◌, ◌^◌, true, false, List, [], ◌∷◌, refl, arith}
+use Rattle.std.proofs.Common.{◌≡◌, ◌⊎◌, inl, inr, ℕ, ◌+◌, ◌≤◌, ◌^◌, true, false, List, [], ◌∷◌, refl, arith}
 use Rattle.std.specs.Prelude.{ℤ, pos, negsuc, nat_abs, ◌≤ℤ◌}
 use Rattle.std.proofs.lemmas.Int.{ints}
 use Rattle.std.proofs.lemmas.List.Elements.{All-cons, All-nil, All-head}
@@ -16,7 +16,7 @@ use Rattle.proof_nodes.proofs.GapsInLine.{passed-holds}
 use Rattle.proof_nodes.proofs.WorkedAccepted.{of_one}
 
 -- a point of one part with numbers within the limit
-one_point : (r : RuleForms) → r.unknowns ≡ 1 → (x : ℤ) (d : ℕ) → nat_abs x ≤ point_limit → d ≤ point_limit
+pub one_point : (r : RuleForms) → r.unknowns ≡ 1 → (x : ℤ) (d : ℕ) → nat_abs x ≤ point_limit → d ≤ point_limit
     → IsGapPoint r (scaled (x ∷ []) d)
 one_point r e x d h k = record {
   long = omega (arith, e);
@@ -25,8 +25,8 @@ one_point r e x d h k = record {
 }
 
 -- a point of two parts with numbers within the limit
-pair_point : (r : RuleForms) → r.unknowns ≡ 2 → (x y : ℤ) (d : ℕ) → nat_abs x ≤ point_limit → nat_abs y ≤ point_limit
-    → d ≤ point_limit → IsGapPoint r (scaled (x ∷ y ∷ []) d)
+pub pair_point : (r : RuleForms) → r.unknowns ≡ 2 → (x y : ℤ) (d : ℕ) → nat_abs x ≤ point_limit
+    → nat_abs y ≤ point_limit → d ≤ point_limit → IsGapPoint r (scaled (x ∷ y ∷ []) d)
 pair_point r e x y d h i k = record {
   long = omega (arith, e);
   parts_limit =
@@ -36,8 +36,8 @@ pair_point r e x y d h i k = record {
 }
 
 -- the shape of a gap of the second rule over itself
-shape_over : (p : Program) (rule : ℕ → RuleForms) (shut : List SymbolPlace) (move floor kept : ScaledPoint) → IsRule p 2
-    → IsGapPoint (rule 2) move → IsGapPoint (rule 2) floor → IsGapPoint (rule 2) kept
+pub shape_over : (p : Program) (rule : ℕ → RuleForms) (shut : List SymbolPlace) (move floor kept : ScaledPoint)
+    → IsRule p 2 → IsGapPoint (rule 2) move → IsGapPoint (rule 2) floor → IsGapPoint (rule 2) kept
     → HasGapShape p rule (gap_over 2 shut move floor kept)
 shape_over p rule shut move floor kept i m f k = record {
   ascending = tt;
@@ -51,11 +51,11 @@ shape_over p rule shut move floor kept i m f k = record {
 }
 
 -- a rule without rows is met everywhere
-no_rows : (z : ScaledPoint) → MeetsAt [] z
+pub no_rows : (z : ScaledPoint) → MeetsAt [] z
 no_rows z = record { each = All-nil (λ r. pos 0 ≤ℤ form_value r (at z.parts) (pos z.den)) }
 
 -- one row is met where it is at least 0
-one_row : (r : Form) (z : ScaledPoint) → pos 0 ≤ℤ value_at r z → MeetsAt (r ∷ []) z
+pub one_row : (r : Form) (z : ScaledPoint) → pos 0 ≤ℤ value_at r z → MeetsAt (r ∷ []) z
 one_row r z h = record {
   each =
       All-cons (λ f. pos 0 ≤ℤ form_value f (at z.parts) (pos z.den)) r [] h
@@ -63,53 +63,55 @@ one_row r z h = record {
 }
 
 -- and there alone
-row_met : (r : Form) (z : ScaledPoint) → MeetsAt (r ∷ []) z → pos 0 ≤ℤ value_at r z
+pub row_met : (r : Form) (z : ScaledPoint) → MeetsAt (r ∷ []) z → pos 0 ≤ℤ value_at r z
 row_met r z h = All-head (λ f. pos 0 ≤ℤ form_value f (at z.parts) (pos z.den)) r [] h.each
 
 -- the shape of the gaps of the first and of the second program
-turning_shape : (move : ℤ) (m : ℕ) (floor : ℤ) (f : ℕ) (k : ℕ) → nat_abs move ≤ 2 ^ 45 → nat_abs floor ≤ 1
-    → m ≤ 1 → f ≤ 1 → k ≤ 1 → HasGapShape turning turning_forms (gap_of_one [] move m floor f (pos 1) k)
-turning_shape move m floor f k a b c d e =
-    shape_over turning turning_forms [] (scaled (move ∷ []) m) (scaled (floor ∷ []) f) (scaled (pos 1 ∷ []) k)
+pub turning_shape : (shut : List SymbolPlace) (move : ℤ) (m : ℕ) (floor : ℤ) (f : ℕ) (k : ℕ) → nat_abs move ≤ 2 ^ 45
+    → nat_abs floor ≤ 1 → m ≤ 2 ^ 45 → f ≤ 1 → k ≤ 2 ^ 45
+    → HasGapShape turning turning_forms (gap_of_one shut move m floor f (pos 1) k)
+turning_shape shut move m floor f k a b c d e =
+    shape_over turning turning_forms shut (scaled (move ∷ []) m) (scaled (floor ∷ []) f) (scaled (pos 1 ∷ []) k)
     (record { rule = _; numbered = refl })
-    (one_point (turning_forms 2) refl move m a (omega (arith, c)))
+    (one_point (turning_forms 2) refl move m a c)
     (one_point (turning_forms 2) refl floor f (omega (arith, b)) (omega (arith, d)))
-    (one_point (turning_forms 2) refl (pos 1) k (omega arith) (omega (arith, e)))
+    (one_point (turning_forms 2) refl (pos 1) k (omega arith) e)
 
-guessed_shape : (shut : List SymbolPlace) (move floor kept : ℤ) → nat_abs move ≤ 1 → nat_abs floor ≤ 1
+pub guessed_shape : (shut : List SymbolPlace) (move floor kept : ℤ) → nat_abs move ≤ 1 → nat_abs floor ≤ 2 ^ 45
     → nat_abs kept ≤ 1 → HasGapShape guessed guessed_forms (gap_of_one shut move 1 floor 0 kept 1)
 guessed_shape shut move floor kept a b c =
     shape_over guessed guessed_forms shut (scaled (move ∷ []) 1) (scaled (floor ∷ []) 0) (scaled (kept ∷ []) 1)
     (record { rule = _; numbered = refl })
     (one_point (guessed_forms 2) refl move 1 (omega (arith, a)) (omega arith))
-    (one_point (guessed_forms 2) refl floor 0 (omega (arith, b)) (omega arith))
+    (one_point (guessed_forms 2) refl floor 0 b (omega arith))
     (one_point (guessed_forms 2) refl kept 1 (omega (arith, c)) (omega arith))
 
 -- a denominator of 1 loses something
-loses_one : (f : ℕ) → ¬ (◌≡◌ {A = ℕ} 1 0 × (f ≡ 0))
+pub loses_one : (f : ℕ) → ¬ (◌≡◌ {A = ℕ} 1 0 × (f ≡ 0))
 loses_one f e = omega (arith, e.0)
 
 -- the row of the rule that counts down
-abbrev row : Form
+abbrev pub row : Form
 row = record { coefs = pos 1 ∷ []; constant = negsuc 0 }
 
-met_at_1 : MeetsAt (row ∷ []) (scaled (pos 1 ∷ []) 1)
+-- where it is met, and kept
+pub met_at_1 : MeetsAt (row ∷ []) (scaled (pos 1 ∷ []) 1)
 met_at_1 = one_row row (scaled (pos 1 ∷ []) 1) (omega (arith, ints))
 
-met_along_1 : MeetsAt (row ∷ []) (scaled (pos 1 ∷ []) 0)
+pub met_along_1 : MeetsAt (row ∷ []) (scaled (pos 1 ∷ []) 0)
 met_along_1 = one_row row (scaled (pos 1 ∷ []) 0) (omega (arith, ints))
 
-one_kept : IsPointOf (row ∷ []) (scaled (pos 1 ∷ []) 1)
+pub one_kept : IsPointOf (row ∷ []) (scaled (pos 1 ∷ []) 1)
 one_kept = record { denominator = omega (arith, ints); meets = met_at_1 }
 
-free_kept : IsPointOf [] (scaled (pos 1 ∷ []) 1)
+pub free_kept : IsPointOf [] (scaled (pos 1 ∷ []) 1)
 free_kept = record { denominator = omega (arith, ints); meets = no_rows (scaled (pos 1 ∷ []) 1) }
 
 -- the row and the points of the rule over two places
-abbrev pair_row : Form
+abbrev pub pair_row : Form
 pair_row = record { coefs = pos 1 ∷ pos 0 ∷ []; constant = negsuc 0 }
 
-abbrev pair_move : ScaledPoint
+abbrev pub pair_move : ScaledPoint
 pair_move = scaled (pos 1 ∷ pos 1 ∷ []) 1
 
 abbrev pair_floor : ScaledPoint
@@ -122,9 +124,29 @@ pairs_shape =
     (pair_point (pairs_forms 2) refl (pos 1) (negsuc 0) 0 (omega arith) (omega arith) (omega arith))
     (pair_point (pairs_forms 2) refl (pos 1) (pos 1) 1 (omega arith) (omega arith) (omega arith))
 
-past : 2 ^ 45 + 1 ≤ point_limit → ⊥
+-- what passes, and what is behind it
+pub both : {A B : Type 0} → A → B → A × B
+both a b = (a, b)
+
+-- what passes, and what fails behind it
+pub behind : {A B C : Type 0} → A → B → C ⊎ (A × B)
+behind a b = inr (a, b)
+
+-- a balance that is another number isn't 0
+pub one_is_some : ¬ (pos 1 ≡ pos 0)
+one_is_some e = omega (arith, ints, e)
+
+pub two_is_some : ¬ (pos 2 ≡ pos 0)
+two_is_some e = omega (arith, ints, e)
+
+pub minus_one_is_some : ¬ (negsuc 0 ≡ pos 0)
+minus_one_is_some e = omega (arith, ints, e)
+
+-- the number behind the limit is past it
+pub past : 2 ^ 45 + 1 ≤ point_limit → ⊥
 past h = omega (arith, h)
 
+-- no isn't yes
 differ : false ≡ true → ⊥
 differ h = cc
 
@@ -132,7 +154,7 @@ pub gaps_judged : GapsAreJudged
 gaps_judged = record {
   turning_holds =
       passed-holds turning turning_forms (gap_of_one [] (pos 1) 1 (pos 0) 0 (pos 1) 1) (
-        turning_shape (pos 1) 1 (pos 0) 0 1 (omega arith) (omega arith) (omega arith)
+        turning_shape [] (pos 1) 1 (pos 0) 0 1 (omega arith) (omega arith) (omega arith)
             (omega arith) (omega arith),
         (
           no_rows (scaled (pos 1 ∷ []) 1),
@@ -187,7 +209,7 @@ gaps_judged = record {
       );
   place_unbalanced =
       inr (
-        turning_shape (pos 1) 1 (pos 1) 0 1 (omega arith) (omega arith) (omega arith)
+        turning_shape [] (pos 1) 1 (pos 1) 0 1 (omega arith) (omega arith) (omega arith)
             (omega arith) (omega arith),
         inr (
           no_rows (scaled (pos 1 ∷ []) 1),
@@ -197,7 +219,7 @@ gaps_judged = record {
               free_kept,
               inr (
                 refl,
-                inl ((λ (e : pos 1 ≡ pos 0). omega (arith, ints, e)), refl, (loses_one 0, tt)),
+                inl (one_is_some, refl, (loses_one 0, tt)),
               ),
             ),
           ),
@@ -205,7 +227,7 @@ gaps_judged = record {
       );
   constant_unbalanced =
       inr (
-        turning_shape (pos 1) 1 (pos 0) 1 1 (omega arith) (omega arith) (omega arith)
+        turning_shape [] (pos 1) 1 (pos 0) 1 1 (omega arith) (omega arith) (omega arith)
             (omega arith) (omega arith),
         inr (
           no_rows (scaled (pos 1 ∷ []) 1),
@@ -213,14 +235,14 @@ gaps_judged = record {
             no_rows (scaled (pos 0 ∷ []) 1),
             inr (
               free_kept,
-              inl ((λ (e : pos 1 ≡ pos 0). omega (arith, ints, e)), refl, (refl, (loses_one 1, tt))),
+              inl (one_is_some, refl, (refl, (loses_one 1, tt))),
             ),
           ),
         ),
       );
   constant_first =
       inr (
-        turning_shape (pos 1) 1 (pos 1) 1 1 (omega arith) (omega arith) (omega arith)
+        turning_shape [] (pos 1) 1 (pos 1) 1 1 (omega arith) (omega arith) (omega arith)
             (omega arith) (omega arith),
         inr (
           no_rows (scaled (pos 1 ∷ []) 1),
@@ -228,14 +250,14 @@ gaps_judged = record {
             no_rows (scaled (pos 1 ∷ []) 1),
             inr (
               free_kept,
-              inl ((λ (e : pos 1 ≡ pos 0). omega (arith, ints, e)), refl),
+              inl (one_is_some, refl),
             ),
           ),
         ),
       );
   nothing_lost =
       inr (
-        turning_shape (pos 0) 0 (pos 0) 0 1 (omega arith) (omega arith) (omega arith)
+        turning_shape [] (pos 0) 0 (pos 0) 0 1 (omega arith) (omega arith) (omega arith)
             (omega arith) (omega arith),
         inr (
           no_rows (scaled (pos 0 ∷ []) 0),
@@ -253,7 +275,7 @@ gaps_judged = record {
       );
   ray_kept =
       inr (
-        turning_shape (pos 1) 1 (pos 0) 0 0 (omega arith) (omega arith) (omega arith)
+        turning_shape [] (pos 1) 1 (pos 0) 0 0 (omega arith) (omega arith) (omega arith)
             (omega arith) (omega arith),
         inr (
           no_rows (scaled (pos 1 ∷ []) 1),
@@ -275,7 +297,7 @@ gaps_judged = record {
       inl ((λ h. past (All-head (λ (x : ℤ). nat_abs x ≤ point_limit) (pos (2 ^ 45 + 1)) [] (h.moves 2 refl).parts_limit)), refl, (no_rows (scaled (pos (2 ^ 45 + 1) ∷ []) 1), (no_rows (scaled (pos 0 ∷ []) 0), (free_kept, (refl, (refl, (loses_one 0, tt)))))));
   at_the_limit =
       passed-holds turning turning_forms (gap_of_one [] (pos (2 ^ 45)) 1 (pos 0) 0 (pos 1) 1) (
-        turning_shape (pos (2 ^ 45)) 1 (pos 0) 0 1 (omega arith) (omega arith) (omega arith)
+        turning_shape [] (pos (2 ^ 45)) 1 (pos 0) 0 1 (omega arith) (omega arith) (omega arith)
             (omega arith) (omega arith),
         (
           no_rows (scaled (pos (2 ^ 45) ∷ []) 1),
@@ -364,7 +386,7 @@ gaps_judged = record {
               inr (
                 refl,
                 inl (
-                  (λ (e : pos 2 ≡ pos 0). omega (arith, ints, e)),
+                  two_is_some,
                   refl,
                   (loses_one 0, tt),
                 ),

@@ -2,7 +2,7 @@
 use Rattle.std.proofs.Common.{◌≡◌, inl, inr, ℕ, ◌≤◌, List, [], ◌∷◌, refl, arith}
 use Rattle.std.proofs.lemmas.List.Elements.{All-nil, All-cons}
 use Rattle.run_counting.specs.model.Facts.{Fact}
-use Rattle.proof_nodes.specs.Nodes.{Proof, Cite, Start, Never}
+use Rattle.proof_nodes.specs.Nodes.{Proof, Cite, Start, Empty, Never}
 use Rattle.proof_nodes.specs.Gaps.{Gap}
 use Rattle.proof_nodes.specs.GapChecks.{GapFault, GapHolds, WrongShape, NotKept, Unbalanced, LosesNothing, gap_checks}
 use Rattle.proof_nodes.specs.Acceptance.{AcceptsNode, AcceptsLemmas, facts_of_lemmas}
@@ -13,7 +13,7 @@ use Rattle.proof_nodes.specs.WorkedSettings.{counting}
 use Rattle.proof_nodes.specs.Worked.{once, down, entered, looped, four_lemmas, first_fact}
 use Rattle.proof_nodes.specs.Worked.{first_and_size}
 use Rattle.proof_nodes.specs.WorkedGaps.{FailsAlone, turning, turning_forms}
-use Rattle.proof_nodes.specs.WorkedRefusals.{NodesAreNumbered, without_floor, without_time}
+use Rattle.proof_nodes.specs.WorkedRefusals.{NodesAreNumbered, without_floor, without_time, counting_forms}
 use Rattle.proof_nodes.specs.WorkedRefusals.{LemmasAreRefused, turning_round, turning_gap, moved_floor}
 use Rattle.proof_nodes.specs.WorkedRefusals.{moved_nowhere, kept_ray, other_set, turning_file, FilesAreJudged}
 use Rattle.proof_nodes.proofs.FirstFailures.{same_head, first-here, first-behind}
@@ -40,6 +40,12 @@ nodes_numbered = record {
   never = refl;
   weaker = refl;
   two_uses = refl;
+  start = refl;
+  empty = refl;
+  unreached = refl;
+  spread = refl;
+  cycle = refl;
+  charge = refl;
   not_parent_first = λ e. other_node (same_head _ _ _ _ e);
   not_last_use_first = λ e. other_number (same_head _ _ _ _ e);
 }
@@ -96,6 +102,33 @@ itself_refused = record {
   first = alone [] (Cite 1) Shape (inl ((λ h. let low : 1 ≤ 0 = h.earlier in omega (arith, low)), refl));
 }
 
+-- a lemma that cites a lemma 0
+none_refused : IsRefusedAt counting (Cite 0 ∷ []) 1 1 Shape
+unfolding AcceptsLemmas facts_of_lemmas
+none_refused = record {
+  before = [];
+  proof = Cite 0;
+  behind = [];
+  whole = refl;
+  number = refl;
+  accepted = tt;
+  first = alone [] (Cite 0) Shape (inl ((λ h. let low : 1 ≤ 0 = h.least in omega (arith, low)), refl));
+}
+
+-- a multiplier for a rule without rows
+multiplier_refused : IsRefusedAt counting (Empty 1 (1 ∷ []) ∷ []) 1 1 Shape
+unfolding AcceptsLemmas facts_of_lemmas
+multiplier_refused = record {
+  before = [];
+  proof = Empty 1 (1 ∷ []);
+  behind = [];
+  whole = refl;
+  number = refl;
+  accepted = tt;
+  first = alone [] (Empty 1 (1 ∷ [])) Shape
+      (inl ((λ h. let same : ◌≡◌ {A = ℕ} 1 0 = h.one_each.long in omega (arith, same)), refl));
+}
+
 -- a lemma that cites a later one
 later_refused : IsRefusedAt counting (once ∷ Never (Cite 3) ∷ entered ∷ []) 2 1 Shape
 unfolding AcceptsLemmas facts_of_lemmas
@@ -135,6 +168,8 @@ lemmas_refused = record {
   floor_alone = λ l i r h. refusals-in-line.one counting without_floor l 2 i 2 r Floor h floor_refused;
   itself = itself_refused;
   later = later_refused;
+  none_cited = none_refused;
+  too_many_multipliers = multiplier_refused;
   third_node = third_refused;
   first_lemma = first_refused;
   not_second = λ h.
@@ -153,6 +188,11 @@ alone_first (c ∷ cs) r (inr h) = inr (h.0, alone_first cs r h.1)
 start_accepted : AcceptsLemmas turning_round (Start ∷ [])
 unfolding AcceptsLemmas
 start_accepted = (tt, tt)
+
+-- no lemma at all is accepted
+none_accepted : AcceptsLemmas turning_round []
+unfolding AcceptsLemmas
+none_accepted = tt
 
 -- a file whose first gap has this fault
 refused_first : (g : Gap) (gs : List Gap) (x : GapFault) → IsFirstFault turning turning_forms g x
@@ -180,7 +220,8 @@ itself_accepted h = let low : 1 ≤ 0 = h.0.earlier in omega (arith, low)
 -- files as they were judged
 pub files_judged : FilesAreJudged
 files_judged = record {
-  four = record { lemmas = four_accepted; gaps = All-nil (GapHolds counting.program turning_forms) };
+  nothing = record { lemmas = none_accepted; gaps = All-nil (GapHolds turning turning_forms) };
+  four = record { lemmas = four_accepted; gaps = All-nil (GapHolds counting.program counting_forms) };
   gap = record {
     lemmas = start_accepted;
     gaps = All-cons (GapHolds turning turning_forms) turning_gap [] gaps_judged.turning_holds

@@ -14,10 +14,11 @@ use Rattle.proof_nodes.specs.Graph.{symbols_of}
 use Rattle.proof_nodes.specs.Numbers.{IsAscending}
 use Rattle.proof_nodes.specs.Reasons.{CheckOf, check, for_each}
 
--- why a gap isn't accepted, in the words of the proof text and in their order: wrong lengths, a wrong set or numbers
--- past the limit; the move of a rule that isn't a point or a ray of its rows; a floor that isn't; the kept point of a
--- rule that isn't a point of its rows; the balance of a place of a symbol, where place 0 is its constant; and nothing
--- is lost, since neither the strict rule's move nor the floor has a denominator
+-- why a gap isn't accepted, in the order in which it is told; in the proof text `shape`, `move`, `floor`, `kept`,
+-- `balance` and `nothing`: a wrong set, wrong lengths or numbers past the limit; the move of a rule that isn't a point
+-- or a ray of its rows; a floor that isn't; the kept point of a rule that isn't a point of its rows; the balance of a
+-- place of a symbol, where place 0 is its constant; and nothing is lost, since neither the strict rule's move nor the
+-- floor has a denominator
 pub data GapFault : Type 0 where
   WrongShape : GapFault
   MoveOff : ℕ → GapFault
@@ -99,20 +100,23 @@ pub record GapHolds (p : Program) (rule : ℕ → RuleForms) (g : Gap) : Type 0 
   pub balances : All (λ c. balance rule g c ≡ pos 0) (balanced p g)
   pub loses : ¬ (((point_of g.set g.moves g.rule).den ≡ 0) × (g.floor.den ≡ 0))
 
--- the checks of a gap
+-- the move of a rule is a point or a ray of its rows
 abbrev pub check_move : (ℕ → RuleForms) → Gap → ℕ → CheckOf GapFault
 check_move rule g t = check (MoveOff t) (MeetsAt (rule t).rows (point_of g.set g.moves t))
 
+-- the kept point of a rule is a point of its rows
 abbrev pub check_kept : (ℕ → RuleForms) → Gap → ℕ → CheckOf GapFault
 check_kept rule g t = check (NotKept t) (IsPointOf (rule t).rows (point_of g.set g.kept t))
 
+-- a balance is 0
 abbrev pub check_balance : (ℕ → RuleForms) → Gap → Coefficient → CheckOf GapFault
 check_balance rule g c = check (Unbalanced c.symbol c.place) (balance rule g c ≡ pos 0)
 
+-- the strict rule's move or the floor has a denominator
 abbrev pub check_loss : Gap → CheckOf GapFault
 check_loss g = check LosesNothing (¬ (((point_of g.set g.moves g.rule).den ≡ 0) × (g.floor.den ≡ 0)))
 
--- in the order in which they are made
+-- the checks of a gap, in the order in which they are made
 abbrev pub gap_checks : Program → (ℕ → RuleForms) → Gap → List (CheckOf GapFault)
 gap_checks p rule g =
     check WrongShape (HasGapShape p rule g) ∷

@@ -22,10 +22,13 @@ pub record IsAbout (p : Program) (b : RankedSet) (g : Gap) : Type 0 where
 pub record GapsExcludeFunctions : Type 0 where
   pub each : (p : Program) (b : RankedSet) (g : Gap) → IsSetOf b → IsAbout p b g → GapHolds p b.rule g → NoRank b
 
--- the checks of a gap all pass exactly where it holds, and then no fault is the first; and at most one is
+-- no fault of a gap is the first
+pub record HasNoFault (p : Program) (rule : ℕ → RuleForms) (g : Gap) : Type 0 where
+  pub none : (x : GapFault) → ¬ (IsFirstAmong (gap_checks p rule g) x)
+
+-- the checks of a gap all pass exactly where it holds, which is exactly where no fault is the first; and at most one is
 pub record GapChecksAreInLine : Type 0 where
   pub pass : (p : Program) (rule : ℕ → RuleForms) (g : Gap) → AllPass (gap_checks p rule g) ↔ GapHolds p rule g
-  pub none : (p : Program) (rule : ℕ → RuleForms) (g : Gap) (x : GapFault)
-      → GapHolds p rule g → ¬ (IsFirstAmong (gap_checks p rule g) x)
+  pub none : (p : Program) (rule : ℕ → RuleForms) (g : Gap) → GapHolds p rule g ↔ HasNoFault p rule g
   pub one : (p : Program) (rule : ℕ → RuleForms) (g : Gap) (x y : GapFault)
       → IsFirstAmong (gap_checks p rule g) x → IsFirstAmong (gap_checks p rule g) y → x ≡ y

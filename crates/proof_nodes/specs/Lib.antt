@@ -31,6 +31,8 @@ pub mod WorkedSizes
 pub mod WorkedReasons
 pub mod WorkedCosts
 pub mod WorkedGaps
+pub mod WorkedGapSets
+pub mod WorkedGapShapes
 pub mod WorkedRefusals
 pub mod WorkedPrintable
 -- the machinery of the functions inside and of the proofs

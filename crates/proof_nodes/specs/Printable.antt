@@ -19,7 +19,7 @@ abbrev pub HasSmallCoefficients : Polynomial → Type 0
 HasSmallCoefficients q = AllByRecursion (λ m. nat_abs m.coef ≤ constant_limit) q
 
 -- a setting makes bounds that can be printed: its polynomials have small coefficients; what it rewrites becomes tidy
--- where the numbers are, and reads no input that it didn't read before
+-- where its bases and constants are those of a tidy bound, and reads no input that it didn't read before
 pub record IsTidying (s : Setting) : Type 0 where
   pub updates : (t i : ℕ) (q : Polynomial) → s.poly t i ≡ Some q → HasSmallCoefficients q
   pub costs : (t : ℕ) (q : Polynomial) → s.cost_poly t ≡ Some q → HasSmallCoefficients q

@@ -45,7 +45,8 @@ pub record FileRefusalsAreInLine : Type 0 where
   pub one : (s : Setting) (rule : ℕ → RuleForms) (f : ProofFile) (g h : ℕ) (x y : GapFault)
       → IsRefusedAtGap s rule f g x → IsRefusedAtGap s rule f h y → (g ≡ h) × (x ≡ y)
 
--- of every set of rules that a gap is about, no function ranks the strict rule without looking at a shut place
+-- of every set of rules with these forms that a gap is about, no function ranks the strict rule without looking at a
+-- shut place
 pub record ExcludesFunctions (p : Program) (rule : ℕ → RuleForms) (g : Gap) : Type 0 where
   pub each : (b : RankedSet) → b.rule ≡ rule → IsSetOf b → IsAbout p b g → NoRank b
 

@@ -15,12 +15,12 @@ use Rattle.proof_nodes.specs.Checks.{IsFirstReason}
 pub record FailsFirst {A R : Type 0} (Passes : A → Type 0) (Fails : A → R → Type 0) (xs : List A) (n : ℕ) (why : R)
     : Type 0 where
   pub before : List A
-  pub at : A
+  pub element : A
   pub behind : List A
-  pub whole : xs ≡ before ++ at ∷ behind
+  pub whole : xs ≡ before ++ element ∷ behind
   pub number : n ≡ suc (length before)
   pub passed : All Passes before
-  pub fails : Fails at why
+  pub fails : Fails element why
 
 -- a list of lemmas is refused at a node of a lemma, both counted from 1: the lemmas before are accepted, and after them
 -- this node is the first of the lemma that isn't accepted by itself, with this as its first reason

@@ -102,16 +102,27 @@ pairs_forms =
 abbrev pub scaled : List ℤ → ℕ → ScaledPoint
 scaled parts den = record { parts = parts; den = den }
 
+-- the point 1, and the ray that goes nowhere
+abbrev pub one : ScaledPoint
+one = scaled (pos 1 ∷ []) 1
+
+abbrev pub nowhere : ScaledPoint
+nowhere = scaled (pos 0 ∷ []) 0
+
+-- a gap of a rule over a set of rules, with shut places, moves, the floor and kept points
+abbrev pub gap_with : ℕ → List ℕ → List SymbolPlace → List ScaledPoint → ScaledPoint → List ScaledPoint → Gap
+gap_with rule set shut moves floor kept = record {
+  rule = rule;
+  set = set;
+  shut = shut;
+  moves = moves;
+  floor = floor;
+  kept = kept;
+}
+
 -- a gap of the second rule over a set of one rule, with the move, the floor and the kept point
 abbrev pub gap_over : ℕ → List SymbolPlace → ScaledPoint → ScaledPoint → ScaledPoint → Gap
-gap_over t shut move floor kept = record {
-  rule = 2;
-  set = t ∷ [];
-  shut = shut;
-  moves = move ∷ [];
-  floor = floor;
-  kept = kept ∷ [];
-}
+gap_over t shut move floor kept = gap_with 2 (t ∷ []) shut (move ∷ []) floor (kept ∷ [])
 
 -- the same over the second rule itself, with points of one part
 abbrev pub gap_of_one : List SymbolPlace → ℤ → ℕ → ℤ → ℕ → ℤ → ℕ → Gap
@@ -124,8 +135,8 @@ place_of_l = record { symbol = 1; place = 1 } ∷ []
 
 -- the gaps of three programs hold. Of the first one a floor that moves leaves the place unbalanced, a floor with a
 -- denominator the constant, and a floor with both the constant first; with a move that is nothing nothing is lost; a
--- kept ray isn't kept; and a number past the limit is a wrong shape, as a set without the rule is. Of a rule with a row a
--- move, a floor and a kept point off it are told, the move before the floor; and where its place isn't shut it isn't
+-- kept ray isn't kept; and a number past the limit is a wrong shape, as a set without the rule is. Of a rule with a row
+-- a move, a floor and a kept point off it are told, the move before the floor; and where its place isn't shut it isn't
 -- balanced
 pub record GapsAreJudged : Type 0 where
   pub turning_holds : GapHolds turning turning_forms (gap_of_one [] (pos 1) 1 (pos 0) 0 (pos 1) 1)

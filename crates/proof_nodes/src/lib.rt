@@ -1,6 +1,6 @@
-//! Proof nodes as plain data, when each is accepted, and why what accepted nodes state holds on every run: definitions
-//! in `specs/` and their laws. The functions here have no code: the contract of each is a law, or values that were
-//! worked out by hand.
+//! Proof nodes as plain data, when each is accepted, and why what accepted nodes state holds on every run; when a gap
+//! holds and why it then excludes functions, and where files are refused: definitions in `specs/` and their laws. The
+//! functions here have no code: the contract of each is a law, or values that were worked out by hand.
 #![tactic(auto)]
 
 ghost use Rattle.proof_nodes.specs.Feeding.{LoopsGrow};
@@ -15,6 +15,9 @@ ghost use Rattle.proof_nodes.specs.Worked.{PlainNodesAreJudged, FormulasAreWhole
 ghost use Rattle.proof_nodes.specs.WorkedSizes.{SizeNodesAreJudged};
 ghost use Rattle.proof_nodes.specs.WorkedReasons.{ReasonsComeInOrder};
 ghost use Rattle.proof_nodes.specs.WorkedGaps.{GapsAreJudged};
+ghost use Rattle.proof_nodes.specs.WorkedGapSets.{GapsOfTwoRulesAreJudged};
+ghost use Rattle.proof_nodes.specs.WorkedGapShapes.{GapLimitsAreJudged, GapShapesAreJudged, GapFaultsComeInOrder};
+ghost use Rattle.proof_nodes.specs.WorkedGapShapes.{ShutPlacesAreJudged};
 ghost use Rattle.proof_nodes.specs.WorkedPrintable.{PrintingIsJudged};
 ghost use Rattle.proof_nodes.specs.WorkedRefusals.{NodesAreNumbered, LemmasAreRefused, FilesAreJudged};
 ghost use Rattle.proof_nodes.specs.WorkedCosts.{CostNodesAreJudged, CostReasonsComeInOrder, PayingIsFaithful};
@@ -66,14 +69,20 @@ pub fn gaps_exclude_functions()
     ensures { GapsExcludeFunctions }
 {}
 
-/// The checks of a gap all pass exactly where it holds, and it has at most one first fault.
+/// The checks of a gap all pass exactly where it holds, and exactly there it has no first fault; it has at most one.
 pub fn gap_checks_are_in_line()
     ensures { GapChecksAreInLine }
 {}
 
-/// Gaps of three small programs hold, and changed ones have the faults that were worked out by hand.
+/// Gaps of small programs hold, over one rule and over two, up to the limits of numbers, and with shut places; and
+/// changed ones have the faults that were worked out by hand.
 pub fn worked_gaps_hold()
-    ensures { GapsAreJudged }
+    ensures small { GapsAreJudged }
+    ensures two_rules { GapsOfTwoRulesAreJudged }
+    ensures limits { GapLimitsAreJudged }
+    ensures shapes { GapShapesAreJudged }
+    ensures order { GapFaultsComeInOrder }
+    ensures shut { ShutPlacesAreJudged }
 {}
 
 /// A lemma is accepted exactly where each of its nodes is accepted by itself. Lemmas are accepted exactly where there
@@ -99,8 +108,8 @@ pub fn worked_refusals_hold()
     ensures files { FilesAreJudged }
 {}
 
-/// The facts of accepted lemmas have bounds with tidy numbers over the start arguments alone, and they are tidy where
-/// each bound that the lemmas write is.
+/// Over a setting that makes bounds that can be printed: the facts of accepted lemmas have bounds with tidy numbers
+/// over the start arguments alone, and they are tidy where each bound that the lemmas write is.
 pub fn accepted_facts_are_printable()
     ensures { AcceptedFactsArePrintable }
 {}

@@ -31,6 +31,15 @@ pub record AcceptedFactsHold : Type 0 where
   pub each : (p : Program) → IsValid p → (proofs : List Proof) → AcceptsLemmas (setting_of p) proofs
       → All (All (Holds p)) (facts_of_lemmas (setting_of p) proofs)
 
+-- a file is accepted for a program
+abbrev pub AcceptsFileFor : Program → ProofFile → Type 0
+AcceptsFileFor p f = AcceptsFile (setting_of p) (forms_at p) f
+
+-- what questions see of a rule are the rows and new values over which nodes are judged
+pub record FormsAreThoseOfSettings : Type 0 where
+  pub rows : (p : Program) (t : ℕ) → (forms_at p t).rows ≡ (setting_of p).rows t
+  pub news : (p : Program) (t : ℕ) → (forms_at p t).news ≡ (setting_of p).news t
+
 -- what a file says of a program is so: every fact of every lemma holds on all runs, and no affine function ranks the
 -- strict rule of a gap over its set without looking at one of its shut places
 pub record FileHolds (p : Program) (f : ProofFile) : Type 0 where
@@ -39,7 +48,7 @@ pub record FileHolds (p : Program) (f : ProofFile) : Type 0 where
 
 -- so it is of a file that is accepted for a valid program, whoever made it
 pub record AcceptedFilesHold : Type 0 where
-  pub each : (p : Program) → IsValid p → (f : ProofFile) → AcceptsFile (setting_of p) (forms_at p) f → FileHolds p f
+  pub each : (p : Program) → IsValid p → (f : ProofFile) → AcceptsFileFor p f → FileHolds p f
 
 -- the setting of a valid program makes bounds that can be printed
 pub record SettingsAreTidying : Type 0 where

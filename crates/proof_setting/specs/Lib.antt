@@ -5,6 +5,7 @@ pub mod RankedSets
 pub mod Laws
 pub mod GapLaws
 pub mod Worked
+pub mod WorkedGaps
 -- the crates below, which callers name through this one
 pub use Rattle.guard_prep.specs.model
 pub use Rattle.guard_prep.specs.linear_forms

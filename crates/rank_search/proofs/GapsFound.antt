@@ -32,7 +32,7 @@ use Rattle.proof_tree.proofs.proof_nodes.GapPoints.{AreEach, each-long, each-of}
 use Rattle.proof_tree.proofs.proof_nodes.RefutedGaps.{refuted-holds}
 use Rattle.proof_tree.specs.declared.answer.EmptyAnswer.{EmptyAnswer}
 use Rattle.proof_tree.specs.declared.answer.EmptyAnswer.TheVariants as answers
-use Rattle.proof_tree.specs.AnswerViews.{scaled_of}
+use Rattle.proof_tree.specs.AnswerViews.{scaled_of, gap_of}
 use Rattle.proof_tree.specs.guard_prep.Prepared.{prepared}
 use Rattle.rule_questions.specs.EmptyAnswers.{IsNearPoint}
 use Rattle.rule_questions.specs.ProgramQuestions.{forms_in, forms_at, ranked_set}
@@ -271,6 +271,10 @@ module _ (p : Program) (set : List ℕ) (strict : ℕ) (shut : List SymbolPlace)
 -- gaps that are found hold
 pub gaps-found-hold : FoundGapsHold
 gaps-found-hold = record {
-  each = λ p set strict shut pivots empties g valid rules known r.
-      found-holds p set strict shut pivots empties valid rules known g r;
+  each = λ p set strict shut pivots empties g valid rules known r. record {
+    rule = r.0.numbered;
+    same_set = r.0.same_set;
+    same_shut = r.0.same_shut;
+    holds = found-holds p set strict shut pivots empties valid rules known (gap_of g) r.0;
+  };
 }
