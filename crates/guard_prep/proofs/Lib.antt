@@ -4,7 +4,7 @@ mod RangeLaws
 pub mod PointLaws
 mod LinearPart
 pub mod SizeLaws
-pub mod CertificateSizes
+mod CertificateSizes
 pub mod StepLaws
 mod WorkedPoints
 -- the lemmas of the crates below, which callers name through this one

@@ -7,6 +7,7 @@ use Rattle.std.specs.List.{AllByRecursion, range_with_len}
 use Rattle.std.proofs.lemmas.Bool.{cases_lt, eq-eqb, ne_eqb}
 use Rattle.std.proofs.lemmas.Int.{ints}
 use Rattle.std.proofs.lemmas.List.{drop_more, drop_all}
+use Rattle.std.proofs.Math.ListN.{get_or-map}
 use Rattle.linear_forms.specs.Forms.{Form}
 use Rattle.linear_forms.specs.Combinations.{zero_form}
 use Rattle.linear_forms.specs.RuleQuestions.{RuleForms, Coefficient, before_rule, after_rule, at_source, at_target}
@@ -17,6 +18,8 @@ use Rattle.proof_setting.specs.proof_nodes.AcceptsPlain.{IsRule}
 use Rattle.proof_setting.specs.proof_nodes.GapChecks.{value_at, net, balanced_at}
 use Rattle.proof_setting.specs.proof_nodes.Gaps.{ScaledPoint, Gap}
 use Rattle.proof_setting.proofs.proof_nodes.CheckLists.{each-append}
+use Rattle.farkas_cert.specs.declared.scaled.Scaled.{Scaled}
+use Rattle.proof_tree.specs.AnswerViews.{scaled_of}
 use Rattle.proof_tree.specs.GapTests.{IsFirstFailing, coefficient_at, places_at}
 
 -- what fails first in a list fails first in a longer one
@@ -83,6 +86,38 @@ module _ (test : ℕ → Bool) where
             same : a ≡ k
             same = omega (arith, l, b)
 
+-- a test that isn't passed
+not-passed : (v : Bool) → not v ≡ true → v ≡ false
+not-passed true e = absurd (let no : ⊥ = cc in no)
+not-passed false e = refl
+
+-- the places of a symbol, of which place 0 counts in any case and others where they aren't closed
+module _ (P : Coefficient → Type 0) (symbol n : ℕ) (is_closed : ℕ → Bool) where
+  -- where it holds of each place that counts, it holds of all
+  pub places-hold : ((i : ℕ) → i < n + 1 → (i ≡ 0) ⊎ (is_closed i ≡ false) → P (coefficient_at symbol i))
+      → AllByRecursion P (map (coefficient_at symbol) (0 ∷ filter (λ i. not (is_closed i)) (range_with_len 1 n)))
+  places-hold h = (
+    h 0 (omega arith) (inl refl),
+    blocks-hold (λ i. not (is_closed i)) P (map (coefficient_at symbol)) (λ i. coefficient_at symbol i ∷ []) refl
+        (λ s ss. refl) 1 n
+        (λ i a b t. (h i (omega (arith, b)) (inr (not-passed (is_closed i) t)), tt)),
+  )
+
+  -- where it holds of each place before one that counts, and not of that one, that one is the first of which it doesn't
+  pub places-fail : (k : ℕ) → k < n + 1
+      → ((i : ℕ) → i < k → (i ≡ 0) ⊎ (is_closed i ≡ false) → P (coefficient_at symbol i))
+      → (k ≡ 0) ⊎ (is_closed k ≡ false) → ¬ (P (coefficient_at symbol k))
+      → IsFirstFailing P (map (coefficient_at symbol) (0 ∷ filter (λ i. not (is_closed i)) (range_with_len 1 n)))
+      (coefficient_at symbol k)
+  places-fail zero l h o f = inl (f, refl)
+  places-fail (suc k) l h (inl e) f = absurd (omega (arith, e))
+  places-fail (suc k) l h (inr o) f = inr (
+    h 0 (omega arith) (inl refl),
+    blocks-fail (λ i. not (is_closed i)) P (map (coefficient_at symbol)) (λ i. coefficient_at symbol i ∷ []) refl
+        (λ s ss. refl) 1 n (suc k) (coefficient_at symbol (suc k)) (omega arith) (omega (arith, l))
+        (λ i a b t. (h i b (inr (not-passed (is_closed i) t)), tt)) (ap not o) (inl (f, refl)),
+  )
+
 -- the first elements of a list are what is moved, and what is left is the rest
 module _ (rule : ℕ → RuleForms) (c : Coefficient) (set : List ℕ) (zs : List ScaledPoint) where
   -- what one rule adds to what is left
@@ -99,6 +134,22 @@ module _ (rule : ℕ → RuleForms) (c : Coefficient) (set : List ℕ) (zs : Lis
   -- where no rule is left, nothing is
   pub net-end : (i : ℕ) → length set ≤ i → net rule c (drop i set) (drop i zs) ≡ pos 0
   net-end i h = ap (λ (ts : List ℕ). net rule c ts (drop i zs)) (drop_all set i h)
+
+-- so what a rule that was judged by itself adds
+pub net-step : (rule : ℕ → RuleForms) (c : Coefficient) (set : List ℕ) (moves : List Scaled) (i : ℕ) (m : Scaled) (r : ℤ)
+    → length (map scaled_of moves) ≡ length set → i < length set → m ≡ get_or moves i m
+    → r ≡ value_at (at_source (rule (get_or set i 0)) c) (scaled_of m)
+    -ℤ value_at (at_target (rule (get_or set i 0)) c) (scaled_of m)
+    → net rule c (drop i set) (drop i (map scaled_of moves))
+    ≡ r +ℤ net rule c (drop (i + 1) set) (drop (i + 1) (map scaled_of moves))
+net-step rule c set moves i m r l h e v =
+    net-next rule c set (map scaled_of moves) i 0 (scaled_of m) l h
+    ∙ (ap (λ (z : ScaledPoint). (value_at (at_source (rule (get_or set i 0)) c) z
+    -ℤ value_at (at_target (rule (get_or set i 0)) c) z) +ℤ rest) (get_or-map scaled_of moves i m ∙ ap scaled_of (sym e))
+    ∙ ap (λ (x : ℤ). x +ℤ rest) (sym v))
+  where
+    rest : ℤ
+    rest = net rule c (drop (i + 1) set) (drop (i + 1) (map scaled_of moves))
 
 -- the value of the form that is 0 everywhere
 pub value-zero : (z : ScaledPoint) → pos 0 ≡ value_at zero_form z

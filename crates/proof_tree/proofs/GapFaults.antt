@@ -2,33 +2,34 @@
 use Rattle.std.proofs.Common.{◌≡◌, ◌≢◌, ◌⊎◌, inl, inr, ℕ, zero, suc, ◌+◌, ◌<◌, ◌≤◌, ◌==◌, ◌||◌, Bool, true, false, cond}
 use Rattle.std.proofs.Common.{List, [], ◌∷◌, length, map, take, get_or, Option, Some, None, option_map, refl, sym, ap, ◌∙◌}
 use Rattle.std.proofs.Common.{subst, arith}
-use Rattle.std.specs.Prelude.{slice_get}
+use Rattle.std.specs.Prelude.{slice_get, ℤ, nat_abs}
 use Rattle.std.specs.List.{All, AllByRecursion}
 use Rattle.std.proofs.lemmas.Bool.{ne_eqb, or_right}
-use Rattle.std.proofs.lemmas.List.Elements.{All-nil, All-head, All-tail}
+use Rattle.std.proofs.lemmas.List.Elements.{All-nil, All-cons, All-head, All-tail}
 use Rattle.std.proofs.lemmas.Option.{slice_get-map}
 use Rattle.linear_forms.specs.Forms.{Form}
 use Rattle.linear_forms.specs.RuleQuestions.{RuleForms}
 use Rattle.poly_terms.specs.model.Entries.{is_in}
+use Rattle.poly_terms.specs.model.Limits.{coefficient_limit}
 use Rattle.poly_terms.specs.model.Programs.{Program, Rule, rule_at}
 use Rattle.poly_terms.proofs.model.Membership.{same_number, slice_get-below}
 use Rattle.its_model.specs.Valid.{IsValid}
-use Rattle.farkas_cert.specs.Sizes.{HasRowNumbers}
+use Rattle.farkas_cert.specs.Sizes.{row_limit, AreRowNumbers, HasRowNumbers}
 use Rattle.guard_prep.specs.declared.rule_rows.RuleRows.{RuleRows}
+use Rattle.guard_prep.specs.Laws.{IsSmallForm}
 use Rattle.guard_prep.specs.Prepared.{Prepared, prepared, rows_of, news_of, unknowns_of}
 use Rattle.guard_prep.specs.Views.{prepared_of}
-use Rattle.guard_prep.proofs.CertificateSizes.{all-numbers}
 use Rattle.guard_prep.proofs.SizeLaws.{rows-are-small}
 use Rattle.guard_prep.proofs.StepLaws.{preparable}
 use Rattle.proof_setting.specs.RankedSets.{forms_in, forms_at}
 use Rattle.proof_setting.specs.proof_nodes.AcceptsPlain.{IsRule}
-use Rattle.proof_setting.specs.proof_nodes.GapChecks.{IsGapPoint, point_of}
-use Rattle.proof_setting.specs.proof_nodes.Gaps.{ScaledPoint}
+use Rattle.proof_setting.specs.proof_nodes.GapChecks.{HasGapShape, IsGapPoint, point_of}
+use Rattle.proof_setting.specs.proof_nodes.Gaps.{ScaledPoint, Gap}
 use Rattle.proof_setting.specs.proof_nodes.Numbers.{IsAscending}
 use Rattle.proof_setting.specs.proof_nodes.Reasons.{CheckOf, for_each, IsFirstAmong}
 use Rattle.proof_setting.proofs.proof_nodes.GapPoints.{first-least, rest-ascends}
 use Rattle.proof_tree.specs.Composing.{AreRowsOf}
-use Rattle.proof_tree.specs.GapTests.{prep_in, forms_by_prep, forms_by, IsNear, HaveSmallRows, IsFirstFailing}
+use Rattle.proof_tree.specs.GapTests.{prep_in, forms_by_prep, forms_by, IsNear, AreNearPoints, HaveSmallRows, IsFirstFailing}
 
 -- the element behind those that hold, which doesn't, is the first that fails
 pub failing-at : {A : Type 0} (P : A → Type 0) (xs : List A) (i : ℕ) (d : A) → i < length xs → All P (take i xs)
@@ -128,6 +129,19 @@ forms-alike p preps h (suc t) =
           news = ap (λ (x : Prepared). x.news) (sym same);
         }
 
+-- a small form has numbers below 2^63
+small-numbers : (n : ℕ) (f : Form) → IsSmallForm n f → HasRowNumbers f
+small-numbers n f h = record { coefs = each f.coefs h.coefs; constant = omega (arith, h.constant) }
+  where
+    each : (xs : List ℤ) → AllByRecursion (λ a. nat_abs a ≤ coefficient_limit) xs → AreRowNumbers xs
+    each [] k = All-nil (λ (x : ℤ). nat_abs x < row_limit)
+    each (x ∷ xs) k = All-cons (λ (a : ℤ). nat_abs a < row_limit) x xs (omega (arith, k.0)) (each xs k.1)
+
+-- so have all small forms of a list
+all-numbers : (n : ℕ) (fs : List Form) → AllByRecursion (IsSmallForm n) fs → All HasRowNumbers fs
+all-numbers n [] h = All-nil HasRowNumbers
+all-numbers n (f ∷ fs) h = All-cons HasRowNumbers f fs (small-numbers n f h.0) (all-numbers n fs h.1)
+
 module _ (p : Program) (valid : IsValid p) where
   -- the rows and new values of a rule of a valid program have small numbers, and it has few unknowns
   small-rows : (t : ℕ) → All HasRowNumbers (forms_at p t).rows
@@ -165,3 +179,21 @@ module _ (p : Program) (valid : IsValid p) where
     rows = λ t. subst (All HasRowNumbers) (forms-alike p preps h t).rows (small-rows t);
     news = λ t. subst (All HasRowNumbers) (forms-alike p preps h t).news (small-news t);
   }
+
+  -- the points of a gap whose shape is right are near
+  pub near-moves : (g : Gap) → HasGapShape p (forms_at p) g → AreNearPoints g.set g.moves
+  near-moves g h = record {
+    ascending = h.ascending;
+    long = h.one_move;
+    near = λ t i. gap-point-near t (point_of g.set g.moves t) (h.moves t i);
+  }
+
+  pub near-kept : (g : Gap) → HasGapShape p (forms_at p) g → AreNearPoints g.set g.kept
+  near-kept g h = record {
+    ascending = h.ascending;
+    long = h.one_kept;
+    near = λ t i. gap-point-near t (point_of g.set g.kept t) (h.kept t i);
+  }
+
+  pub near-floor : (g : Gap) → HasGapShape p (forms_at p) g → IsNear g.floor
+  near-floor g h = gap-point-near g.rule g.floor h.floor

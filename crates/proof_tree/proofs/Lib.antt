@@ -5,6 +5,10 @@ pub mod Rules
 pub mod NumberSets
 pub mod Spreads
 pub mod GapFaults
+pub mod GapPositions
+pub mod GapShapes
+pub mod GapValues
+pub mod FirstFaults
 pub mod Balances
 pub mod ReadPlaces
 pub mod BentUpdates

@@ -1,22 +1,25 @@
 -- What finding the first fault of a gap meets: points with small numbers, the rows and new values that were prepared of a
 -- rule, and the first element of a list that fails.
 use Rattle.std.specs.Prelude.{◌≡◌, ◌⊎◌, ℕ, zero, suc, ◌≤◌, true, List, [], ◌∷◌, length, option_map, Option, Some, None}
-use Rattle.std.specs.Prelude.{slice_get, ◌*◌, ◌^◌, pos, map, filter, not}
+use Rattle.std.specs.Prelude.{slice_get, ◌*◌, ◌^◌, ◌||◌, Bool, pos, map, filter, not}
 use denote.Ref.{Bor}
 use Rattle.linear_forms.specs.Limits.{point_limit}
 use Rattle.linear_forms.specs.RuleQuestions.{RuleForms, Coefficient}
 use Rattle.poly_terms.specs.model.Entries.{is_in}
+use Rattle.poly_terms.specs.model.Paths.{source_of, target_of, same_symbol}
 use Rattle.poly_terms.specs.model.Programs.{Program, arity_of}
 use Rattle.farkas_cert.specs.Sizes.{AreParts, HasRowNumbers}
+use Rattle.farkas_cert.specs.declared.scaled.Scaled.{Scaled}
 use Rattle.guard_prep.specs.declared.rule_rows.RuleRows.{RuleRows}
 use Rattle.guard_prep.specs.Views.{prepared_of}
 use Rattle.proof_setting.specs.proof_nodes.AcceptsPlain.{IsRule}
 use Rattle.proof_setting.specs.RankedSets.{forms_of, forms_at}
-use Rattle.proof_setting.specs.proof_nodes.GapChecks.{point_of, balance}
+use Rattle.proof_setting.specs.proof_nodes.GapChecks.{IsGapPoint, point_of, balance}
 use Rattle.proof_setting.specs.proof_nodes.Gaps.{ScaledPoint}
 use Rattle.proof_setting.specs.proof_nodes.Gaps as plain
 use Rattle.proof_setting.specs.proof_nodes.Numbers.{IsAscending}
 use Rattle.std.specs.List.{All, AllByRecursion, range_with_len}
+use Rattle.proof_tree.specs.AnswerViews.{scaled_of}
 
 -- what was prepared of the rule with a number; rules count from 1
 abbrev pub prep_in : List RuleRows → ℕ → Option RuleRows
@@ -44,6 +47,11 @@ pub record AreNearPoints (set : List ℕ) (zs : List ScaledPoint) : Type 0 where
   pub long : length zs ≡ length set
   pub near : (t : ℕ) → is_in t set ≡ true → IsNear (point_of set zs t)
 
+-- there is a scaled point for each rule of a set, with a part for each of the rule's unknowns and numbers within the limit
+abbrev pub HaveGapPoints : List RuleRows → List ℕ → List Scaled → Type 0
+HaveGapPoints preps set zs = (length zs ≡ length set)
+    × AllByRecursion (λ t. IsGapPoint (forms_by preps t) (point_of set (map scaled_of zs) t)) set
+
 -- the rows and the new values of each rule have small numbers
 pub record HaveSmallRows (preps : List RuleRows) : Type 0 where
   pub rows : (t : ℕ) → All HasRowNumbers (forms_by preps t).rows
@@ -68,6 +76,10 @@ value_limit = 129 * 2 ^ 108
 
 abbrev pub net_limit : ℕ
 net_limit = 130 * 2 ^ 108
+
+-- a rule leaves the symbol or leads to it
+abbrev pub touches_by : Program → ℕ → ℕ → Bool
+touches_by p t a = same_symbol (Some a) (source_of p t) || same_symbol (Some a) (target_of p t)
 
 -- the balance of a coefficient is 0
 abbrev pub IsBalanced : Program → plain.Gap → Coefficient → Type 0

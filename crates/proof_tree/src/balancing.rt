@@ -1,14 +1,14 @@
 //! Which balance of a gap isn't 0.
 
 ghost use Rattle.std.specs.Prelude.{◌≡◌, ◌≢◌, ◌≤◌, ◌*◌, ◌&&◌, not, nat_eq, length, map, pos, ◌-ℤ◌, MatchOption};
-ghost use Rattle.std.specs.Prelude.{unsigned_abs, ◌||◌, IsTrue, ◌↔◌, ◌⊎◌, false, Some};
+ghost use Rattle.std.specs.Prelude.{unsigned_abs, IsTrue, ◌↔◌, ◌⊎◌, true, false, Some};
 ghost use Rattle.std.specs.List.{All, AllByRecursion};
 ghost use Rattle.linear_forms.specs.Limits.{point_limit};
 ghost use Rattle.linear_forms.specs.RuleQuestions.{at_source, at_target, before_rule, after_rule};
 ghost use Rattle.farkas_cert.specs.Sizes.{HasRowNumbers};
 ghost use Rattle.its_model.specs.Valid.{IsValid};
 ghost use Rattle.its_model.specs.Views.{program_of};
-ghost use Rattle.poly_terms.specs.model.Paths.{source_of as source_of_rule, target_of as target_of_rule, same_symbol};
+ghost use Rattle.poly_terms.specs.model.Paths.{same_symbol};
 ghost use Rattle.poly_terms.specs.model.Programs.{arity_of};
 ghost use Rattle.proof_setting.specs.RankedSets.{forms_at};
 ghost use Rattle.proof_setting.specs.proof_nodes.AcceptsPlain.{IsRule};
@@ -18,7 +18,7 @@ ghost use Rattle.proof_setting.specs.proof_nodes.Graph.{touches};
 ghost use Rattle.proof_tree.specs.AnswerViews.{scaled_of, shut_of, gap_of};
 ghost use Rattle.proof_tree.specs.Composing.{AreRowsOf};
 ghost use Rattle.proof_tree.specs.GapTests.{forms_by, IsNear, IsFirstFailing};
-ghost use Rattle.proof_tree.specs.GapTests.{coefficient_at, value_limit, net_limit, IsBalanced, places_at};
+ghost use Rattle.proof_tree.specs.GapTests.{coefficient_at, value_limit, net_limit, touches_by, IsBalanced, places_at};
 
 use crate::entering::{source_of, target_of};
 use crate::gap::Gap;
@@ -167,35 +167,49 @@ fn is_shut(shut: &[(u32, u32)], symbol: u32, place: u32) -> bool
     false
 }
 
-// Whether it is the symbol.
-fn is_symbol(found: Option<u32>, symbol: u32) -> bool
-    ensures { result ≡ same_symbol (Some symbol) found }
+// The number of a symbol, where it was found.
+fn number_if(found: Option<u32>, symbol: usize) -> Option<u32>
+    ensures { MatchOption result (same_symbol (Some symbol) found.entry ≡ false)
+        (λ number. (number ≡ symbol) × (same_symbol (Some symbol) found.entry ≡ true)) }
 {
     match found {
-        Some(other) => symbol == other,
-        None => false,
+        Some(number) => if number as usize == symbol { Some(number) } else { None },
+        None => None,
     }
 }
 
-// Whether a rule leaves the symbol or leads to it.
-fn touches_symbol(p: &Program, rule: u32, symbol: u32) -> bool
-    ensures { result ≡ same_symbol (Some symbol) (source_of_rule (program_of p.now) rule)
-        || same_symbol (Some symbol) (target_of_rule (program_of p.now) rule) }
+// The number of a symbol, where a rule leaves it or leads to it.
+fn touching(p: &Program, rule: u32, symbol: usize) -> Option<u32>
+    ensures { MatchOption result (touches_by (program_of p.now) rule symbol ≡ false)
+        (λ number. (number ≡ symbol) × (touches_by (program_of p.now) rule symbol ≡ true)) }
 {
-    is_symbol(source_of(p, rule), symbol) || is_symbol(target_of(p, rule), symbol)
+    match number_if(source_of(p, rule), symbol) {
+        Some(number) => Some(number),
+        None => number_if(target_of(p, rule), symbol),
+    }
 }
 
-// Whether a rule of the set leaves the symbol or leads to it.
-fn is_touched(p: &Program, set: &[u32], symbol: u32) -> bool
-    ensures { result ≡ touches (program_of p.now) set.now symbol }
+// The number of a symbol, where a rule of the set leaves it or leads to it.
+fn touched(p: &Program, set: &[u32], symbol: usize) -> Option<u32>
+    ensures { MatchOption result (touches (program_of p.now) set.now symbol ≡ false)
+        (λ number. (number ≡ symbol) × (touches (program_of p.now) set.now symbol ≡ true)) }
 {
     for rule in set {
-        let is_here = touches_symbol(p, *rule, symbol);
-        if is_here {
-            return true;
+        if let Some(number) = touching(p, *rule, symbol) {
+            return Some(number);
         }
     }
-    false
+    None
+}
+
+// The number of places of a symbol, 0 where there is no such symbol.
+fn arity_at(p: &Program, symbol: u32) -> u32
+    ensures { result ≡ arity_of (program_of p.now) symbol }
+{
+    match p.symbols.get(symbol as usize) {
+        Some(s) => s.arity,
+        None => 0,
+    }
 }
 
 // Whether a place of a symbol that isn't shut isn't balanced.
@@ -213,17 +227,16 @@ fn is_off(p: &Program, preps: &[RuleRows], g: &Gap, symbol: u32, place: u32) -> 
 }
 
 // The first place of a symbol that isn't shut and isn't balanced, the constant, place 0, before all others.
-fn first_place(p: &Program, preps: &[RuleRows], g: &Gap, symbol: u32, arity: u32) -> Option<u32>
+fn first_place(p: &Program, preps: &[RuleRows], g: &Gap, symbol: u32) -> Option<u32>
     requires valid { IsValid (program_of p.now) }
     requires rows { AreRowsOf preps.now (program_of p.now) }
     requires shape { HasGapShape (program_of p.now) (forms_at (program_of p.now)) (gap_of g.now) }
-    requires arity { (arity ≡ arity_of (program_of p.now) symbol) × (arity ≤ 32) }
     ensures { MatchOption result
         (AllByRecursion (IsBalanced (program_of p.now) (gap_of g.now)) (places_at (program_of p.now) (gap_of g.now) symbol))
         (λ place. IsFirstFailing (IsBalanced (program_of p.now) (gap_of g.now))
             (places_at (program_of p.now) (gap_of g.now) symbol) (coefficient_at symbol place)) }
 {
-    for place in 0..arity + 1 {
+    for place in 0..arity_at(p, symbol) + 1 {
         let off = is_off(p, preps, g, symbol, place);
         if off {
             return Some(place);
@@ -244,10 +257,9 @@ pub(crate) fn first_unbalanced(p: &Program, preps: &[RuleRows], g: &Gap) -> Opti
             (balanced (program_of p.now) (gap_of g.now)) (coefficient_at c.0 c.1)) }
 {
     for symbol in 0..p.symbols.len() {
-        let touched = is_touched(p, &g.set, symbol as u32);
-        if touched {
-            if let Some(place) = first_place(p, preps, g, symbol as u32, p.symbols[symbol].arity) {
-                return Some((symbol as u32, place));
+        if let Some(number) = touched(p, &g.set, symbol) {
+            if let Some(place) = first_place(p, preps, g, number) {
+                return Some((number, place));
             }
         }
     }

@@ -1,7 +1,7 @@
 use Rattle.std.proofs.Common.{◌≡◌, drop}
 use Rattle.its_model.specs.Views.{program_of}
 use Rattle.proof_setting.specs.proof_nodes.Graph.{touches}
-use Rattle.proof_tree.proofs.balancing.is_touched.Given as goal
+use Rattle.proof_tree.proofs.balancing.touched.Given as goal
 
 abbrev pub invariant-loop-rule : goal.invariant-loop-rule
 invariant-loop-rule l =

@@ -1,0 +1,16 @@
+use Rattle.std.proofs.Common.{◌≤◌, refl, take, length, subst, arith}
+use Rattle.std.specs.Prelude.{ℤ, pos, nat_abs}
+use Rattle.std.specs.List.{All}
+use Rattle.std.proofs.lemmas.Int.{ints}
+use Rattle.std.proofs.lemmas.List.{take_all}
+use Rattle.std.proofs.lemmas.List.Elements.{All-more}
+use Rattle.linear_forms.specs.Limits.{point_limit}
+use Rattle.proof_tree.proofs.gap_shape.are_parts.Goals as goal
+
+pub loop-part-preserved : goal.loop-part-preserved
+loop-part-preserved c =
+    All-more (λ x. nat_abs x ≤ point_limit) c.args.parts.now c.loop-part.part-index (pos 0) (omega arith) c.loop-part.invariant ?
+
+pub returns : goal.returns
+returns c =
+    (λ e. subst (All (λ x. nat_abs x ≤ point_limit)) (take_all c.loop-part.part-index c.args.parts.now (omega arith)) c.loop-part.invariant, λ h. refl)
