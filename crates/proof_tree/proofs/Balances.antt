@@ -61,6 +61,7 @@ module _ (test : ℕ → Bool) where
         → IsFirstFailing P (block k) y → IsFirstFailing P (blocks (filter test (range_with_len a n))) y
     blocks-fail a zero k y l m h t f = absurd (omega (arith, l, m))
     blocks-fail a (suc n) k y l m h t f = go (cases_lt a k)
+        (λ b. blocks-fail (a + 1) n k y (omega (arith, b)) (omega (arith, m)) (λ s c d e. h s (omega (arith, c)) d e) t f)
       where
         rest : List ℕ
         rest = filter test (range_with_len (a + 1) n)
@@ -72,11 +73,10 @@ module _ (test : ℕ → Bool) where
             (failing-behind P (block a) (blocks rest) y (h a (omega arith) b e) later)
         passed false e b later = later
 
-        go : (a < k) ⊎ (k ≤ a) → IsFirstFailing P (blocks (cond (test a) (a ∷ rest) rest)) y
-        go (inl b) =
-            passed (test a) refl b
-            (blocks-fail (a + 1) n k y (omega (arith, b)) (omega (arith, m)) (λ s c d e. h s (omega (arith, c)) d e) t f)
-        go (inr b) =
+        go : (a < k) ⊎ (k ≤ a) → (a < k → IsFirstFailing P (blocks rest) y)
+            → IsFirstFailing P (blocks (cond (test a) (a ∷ rest) rest)) y
+        go (inl b) later = passed (test a) refl b (later b)
+        go (inr b) later =
             subst (λ (v : Bool). IsFirstFailing P (blocks (cond v (a ∷ rest) rest)) y)
             (sym (ap test same ∙ t))
             (subst (λ (xs : List A). IsFirstFailing P xs y) (sym (more a rest))
@@ -133,7 +133,7 @@ module _ (rule : ℕ → RuleForms) (c : Coefficient) (set : List ℕ) (zs : Lis
 
   -- where no rule is left, nothing is
   pub net-end : (i : ℕ) → length set ≤ i → net rule c (drop i set) (drop i zs) ≡ pos 0
-  net-end i h = ap (λ (ts : List ℕ). net rule c ts (drop i zs)) (drop_all set i h)
+  net-end i h = ap (λ (ts : List ℕ). net rule c ts (drop i zs)) (drop_all i set h)
 
 -- so what a rule that was judged by itself adds
 pub net-step : (rule : ℕ → RuleForms) (c : Coefficient) (set : List ℕ) (moves : List Scaled) (i : ℕ) (m : Scaled) (r : ℤ)

@@ -35,16 +35,16 @@ module _ (p : Program) (preps : List RuleRows) (rows : AreRowsOf preps p) (g : G
   point-prepared t z h = subst (λ (fs : List Form). IsPointOf fs z) (forms-alike p preps rows t).rows h
 
   -- the move of a rule, and its kept point, as they were judged and as they are to be
-  Moves : List ℕ → List Scaled → ℕ → Type 0
+  abbrev Moves : List ℕ → List Scaled → ℕ → Type 0
   Moves set zs t = MeetsAt (forms_by preps t).rows (point_of set (map scaled_of zs) t)
 
-  Keeps : List ℕ → List Scaled → ℕ → Type 0
+  abbrev Keeps : List ℕ → List Scaled → ℕ → Type 0
   Keeps set zs t = IsPointOf (forms_by preps t).rows (point_of set (map scaled_of zs) t)
 
-  MovesRight : ℕ → Type 0
+  abbrev MovesRight : ℕ → Type 0
   MovesRight t = MeetsAt (forms_at p t).rows (point_of g.set.items (map scaled_of g.moves.items) t)
 
-  KeepsRight : ℕ → Type 0
+  abbrev KeepsRight : ℕ → Type 0
   KeepsRight t = IsPointOf (forms_at p t).rows (point_of g.set.items (map scaled_of g.kept.items) t)
 
   module _ (shape : HasGapShape p (forms_at p) (gap_of g)) where

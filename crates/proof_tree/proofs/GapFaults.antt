@@ -10,7 +10,7 @@ use Rattle.std.proofs.lemmas.Option.{slice_get-map}
 use Rattle.linear_forms.specs.Forms.{Form}
 use Rattle.linear_forms.specs.RuleQuestions.{RuleForms}
 use Rattle.poly_terms.specs.model.Entries.{is_in}
-use Rattle.poly_terms.specs.model.Limits.{coefficient_limit}
+use Rattle.poly_terms.specs.model.Limits.{coefficient_limit, rule_limit}
 use Rattle.poly_terms.specs.model.Programs.{Program, Rule, rule_at}
 use Rattle.poly_terms.proofs.model.Membership.{same_number, slice_get-below}
 use Rattle.its_model.specs.Valid.{IsValid}
@@ -27,7 +27,10 @@ use Rattle.proof_setting.specs.proof_nodes.GapChecks.{HasGapShape, IsGapPoint, p
 use Rattle.proof_setting.specs.proof_nodes.Gaps.{ScaledPoint, Gap}
 use Rattle.proof_setting.specs.proof_nodes.Numbers.{IsAscending}
 use Rattle.proof_setting.specs.proof_nodes.Reasons.{CheckOf, for_each, IsFirstAmong}
+use Rattle.proof_setting.proofs.proof_nodes.CheckLists.{in-each}
 use Rattle.proof_setting.proofs.proof_nodes.GapPoints.{first-least, rest-ascends}
+use Rattle.farkas_cert.specs.declared.scaled.Scaled.{Scaled}
+use Rattle.proof_tree.specs.AnswerViews.{scaled_of}
 use Rattle.proof_tree.specs.Composing.{AreRowsOf}
 use Rattle.proof_tree.specs.GapTests.{prep_in, forms_by_prep, forms_by, IsNear, AreNearPoints, HaveSmallRows, IsFirstFailing}
 
@@ -83,6 +86,12 @@ point-at (u ∷ ts) (z ∷ zs) (suc i) d e a l h =
     (ne_eqb u (get_or ts i d) (λ k. omega (arith, k, first-least u ts a (get_or ts i d) (in-list ts i d (omega (arith, h))))))
     ∙ point-at ts zs i d e (rest-ascends u ts a) (omega (arith, l)) (omega (arith, h))
 
+-- a list has an element at each position below its length
+slice_get-reaches : {A : Type 0} (xs : List A) (i : ℕ) → i < length xs → slice_get xs i ≢ None
+slice_get-reaches [] i l e = absurd (omega (arith, l))
+slice_get-reaches (x ∷ xs) zero l e = absurd (let no : ⊥ = cc in no)
+slice_get-reaches (x ∷ xs) (suc i) l e = slice_get-reaches xs i (omega (arith, l)) e
+
 -- the number of a rule is that of one from the first to the last
 pub rule-range : (p : Program) (t : ℕ) → IsRule p t → (1 ≤ t) × (t ≤ length p.rules)
 rule-range p t i = go t i.rule i.numbered
@@ -90,6 +99,15 @@ rule-range p t i = go t i.rule i.numbered
     go : (u : ℕ) (r : Rule) → rule_at p u ≡ Some r → (1 ≤ u) × (u ≤ length p.rules)
     go zero r e = absurd (let no : ⊥ = cc in no)
     go (suc u) r e = (omega arith, omega (arith, slice_get-below p.rules u r e))
+
+-- a number from the first to the last is that of a rule
+pub rule-within : (p : Program) (t : ℕ) → t ≢ 0 → t ≤ length p.rules → IsRule p t
+rule-within p zero n l = absurd (n refl)
+rule-within p (suc t) n l = go (slice_get p.rules t) refl
+  where
+    go : (o : Option Rule) → slice_get p.rules t ≡ o → IsRule p (suc t)
+    go None e = absurd (let k = slice_get-reaches p.rules t (omega (arith, l)) in k e)
+    go (Some r) e = record { rule = r; numbered = e }
 
 -- an ascending list of numbers of rules is no longer than the program
 rules-from : (p : Program) (x : ℕ) (ys : List ℕ) → IsAscending (x ∷ ys) → AllByRecursion (IsRule p) (x ∷ ys)
@@ -141,6 +159,13 @@ small-numbers n f h = record { coefs = each f.coefs h.coefs; constant = omega (a
 all-numbers : (n : ℕ) (fs : List Form) → AllByRecursion (IsSmallForm n) fs → All HasRowNumbers fs
 all-numbers n [] h = All-nil HasRowNumbers
 all-numbers n (f ∷ fs) h = All-cons HasRowNumbers f fs (small-numbers n f h.0) (all-numbers n fs h.1)
+
+-- near points of a set are near as the same lists
+pub same-near : (xs ys : List ℕ) (zs ws : List Scaled) → xs ≡ ys → zs ≡ ws → AreNearPoints xs (map scaled_of zs)
+    → AreNearPoints ys (map scaled_of ws)
+same-near xs ys zs ws e f h =
+    subst (λ (vs : List Scaled). AreNearPoints ys (map scaled_of vs)) f
+    (subst (λ (ts : List ℕ). AreNearPoints ts (map scaled_of zs)) e h)
 
 module _ (p : Program) (valid : IsValid p) where
   -- the rows and new values of a rule of a valid program have small numbers, and it has few unknowns
@@ -197,3 +222,8 @@ module _ (p : Program) (valid : IsValid p) where
 
   pub near-floor : (g : Gap) → HasGapShape p (forms_at p) g → IsNear g.floor
   near-floor g h = gap-point-near g.rule g.floor h.floor
+
+  -- the set of a gap whose shape is right has at most as many rules as a program may have
+  pub shape-short : (g : Gap) → HasGapShape p (forms_at p) g → length g.set ≤ rule_limit
+  shape-short g h =
+      omega (arith, set-short p g.set h.ascending (in-each (IsRule p) g.set h.rules), valid.few_rules)

@@ -1,5 +1,5 @@
 -- When the shape of a gap is right, as what was prepared of the rules tells it.
-use Rattle.std.proofs.Common.{◌≡◌, ℕ, List, length, map, sym, ◌∙◌}
+use Rattle.std.proofs.Common.{◌≡◌, ℕ, List, length, map, sym, ◌∙◌, subst}
 use Rattle.std.specs.List.{AllByRecursion}
 use Rattle.std.proofs.lemmas.List.{length-map}
 use Rattle.linear_forms.specs.RuleQuestions.{RuleForms}
@@ -69,3 +69,9 @@ module _ (p : Program) (preps : List RuleRows) (rows : AreRowsOf preps p) where
           (λ u. IsGapPoint (forms_by preps u) (point_of g.set.items (map scaled_of g.kept.items) u)) g.set.items k.1 t i);
       floor = from-prepared g.rule (scaled_of g.floor) f;
     }
+
+-- what holds of a set and its points holds of the same lists
+pub same-points : (preps : List RuleRows) (xs ys : List ℕ) (zs ws : List Scaled) → xs ≡ ys → zs ≡ ws
+    → HaveGapPoints preps xs zs → HaveGapPoints preps ys ws
+same-points preps xs ys zs ws e f h =
+    subst (λ (vs : List Scaled). HaveGapPoints preps ys vs) f (subst (λ (ts : List ℕ). HaveGapPoints preps ts zs) e h)

@@ -96,3 +96,7 @@ pub record IsGapSet (p : Program) (g : plain.Gap) : Type 0 where
   pub ascending : IsAscending g.set
   pub rules : AllByRecursion (IsRule p) g.set
   pub inside : is_in g.rule g.set ≡ true
+
+-- the denominators of the strict rule's move and of the floor are both 0
+abbrev pub HasNoDenominators : plain.Gap → Type 0
+HasNoDenominators g = ((point_of g.set g.moves g.rule).den ≡ 0) × (g.floor.den ≡ 0)

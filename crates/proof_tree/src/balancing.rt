@@ -169,8 +169,8 @@ fn is_shut(shut: &[(u32, u32)], symbol: u32, place: u32) -> bool
 
 // The number of a symbol, where it was found.
 fn number_if(found: Option<u32>, symbol: usize) -> Option<u32>
-    ensures { MatchOption result (same_symbol (Some symbol) found.entry ≡ false)
-        (λ number. (number ≡ symbol) × (same_symbol (Some symbol) found.entry ≡ true)) }
+    ensures { MatchOption result (same_symbol (Some symbol) found ≡ false)
+        (λ number. (number ≡ symbol) × (same_symbol (Some symbol) found ≡ true)) }
 {
     match found {
         Some(number) => if number as usize == symbol { Some(number) } else { None },
@@ -189,12 +189,12 @@ fn touching(p: &Program, rule: u32, symbol: usize) -> Option<u32>
     }
 }
 
-// The number of a symbol, where a rule of the set leaves it or leads to it.
-fn touched(p: &Program, set: &[u32], symbol: usize) -> Option<u32>
-    ensures { MatchOption result (touches (program_of p.now) set.now symbol ≡ false)
-        (λ number. (number ≡ symbol) × (touches (program_of p.now) set.now symbol ≡ true)) }
+// The number of a symbol, where a rule of the gap's set leaves it or leads to it.
+fn touched(p: &Program, g: &Gap, symbol: usize) -> Option<u32>
+    ensures { MatchOption result (touches (program_of p.now) g.now.set.items symbol ≡ false)
+        (λ number. (number ≡ symbol) × (touches (program_of p.now) g.now.set.items symbol ≡ true)) }
 {
-    for rule in set {
+    for rule in &g.set {
         if let Some(number) = touching(p, *rule, symbol) {
             return Some(number);
         }
@@ -210,6 +210,14 @@ fn arity_at(p: &Program, symbol: u32) -> u32
         Some(s) => s.arity,
         None => 0,
     }
+}
+
+// The number of places of a symbol of a valid program, of which there are few.
+fn places_of(p: &Program, symbol: u32) -> u32
+    requires { IsValid (program_of p.now) }
+    ensures { (result ≡ arity_of (program_of p.now) symbol) × (result ≤ 32) }
+{
+    arity_at(p, symbol)
 }
 
 // Whether a place of a symbol that isn't shut isn't balanced.
@@ -236,7 +244,7 @@ fn first_place(p: &Program, preps: &[RuleRows], g: &Gap, symbol: u32) -> Option<
         (λ place. IsFirstFailing (IsBalanced (program_of p.now) (gap_of g.now))
             (places_at (program_of p.now) (gap_of g.now) symbol) (coefficient_at symbol place)) }
 {
-    for place in 0..arity_at(p, symbol) + 1 {
+    for place in 0..places_of(p, symbol) + 1 {
         let off = is_off(p, preps, g, symbol, place);
         if off {
             return Some(place);
@@ -257,7 +265,7 @@ pub(crate) fn first_unbalanced(p: &Program, preps: &[RuleRows], g: &Gap) -> Opti
             (balanced (program_of p.now) (gap_of g.now)) (coefficient_at c.0 c.1)) }
 {
     for symbol in 0..p.symbols.len() {
-        if let Some(number) = touched(p, &g.set, symbol) {
+        if let Some(number) = touched(p, g, symbol) {
             if let Some(place) = first_place(p, preps, g, number) {
                 return Some((number, place));
             }

@@ -1,14 +1,15 @@
 //! Why a gap doesn't hold.
 
-ghost use Rattle.std.specs.Prelude.{◌≡◌, MatchOption, IfNone, IsTrue, ◌↔◌};
+ghost use Rattle.std.specs.Prelude.{◌≡◌, length, MatchOption, IsTrue, ◌↔◌};
 ghost use Rattle.its_model.specs.Valid.{IsValid};
 ghost use Rattle.its_model.specs.Views.{program_of};
 ghost use Rattle.proof_setting.specs.GapLaws.{GapsExcludeFunctions};
 ghost use Rattle.proof_setting.specs.RankedSets.{forms_at};
-ghost use Rattle.proof_setting.specs.proof_nodes.GapChecks.{GapHolds, HasGapShape, point_of, gap_checks};
+ghost use Rattle.proof_setting.specs.proof_nodes.GapChecks.{GapHolds, gap_checks};
 ghost use Rattle.proof_setting.specs.proof_nodes.Reasons.{IsFirstAmong};
 ghost use Rattle.proof_tree.specs.AnswerViews.{fault_of, gap_of};
 ghost use Rattle.proof_tree.specs.Composing.{AreRowsOf};
+ghost use Rattle.proof_tree.specs.GapTests.{HasNoDenominators};
 
 use crate::answer::GapFault;
 use crate::balancing::first_unbalanced;
@@ -45,10 +46,18 @@ pub fn gap_fault(p: &Program, preps: &[RuleRows], g: &Gap) -> Option<GapFault>
     if let Some((symbol, place)) = first_unbalanced(p, preps, g) {
         return Some(GapFault::Balance { symbol, place });
     }
-    if den_of(&g.set, &g.moves, g.rule) == 0 && g.floor.den == 0 {
+    if loses_nothing(g) {
         return Some(GapFault::Nothing);
     }
     None
+}
+
+// Whether the denominators of the strict rule's move and of the floor are both 0.
+fn loses_nothing(g: &Gap) -> bool
+    requires { length g.now.moves.items ≡ length g.now.set.items }
+    ensures { IsTrue result ↔ HasNoDenominators (gap_of g.now) }
+{
+    den_of(&g.set, &g.moves, g.rule) == 0 && g.floor.den == 0
 }
 
 /// Where a gap holds for a valid program, no affine function ranks its strict rule over its set without looking at one

@@ -6,11 +6,11 @@ ghost use Rattle.linear_forms.specs.Limits.{point_limit};
 ghost use Rattle.its_model.specs.Views.{program_of};
 ghost use Rattle.proof_setting.specs.RankedSets.{forms_at};
 ghost use Rattle.proof_setting.specs.proof_nodes.AcceptsPlain.{IsRule};
-ghost use Rattle.proof_setting.specs.proof_nodes.GapChecks.{HasGapShape, IsGapPoint, point_of};
+ghost use Rattle.proof_setting.specs.proof_nodes.GapChecks.{HasGapShape, IsGapPoint};
 ghost use Rattle.proof_setting.specs.proof_nodes.Numbers.{IsAscending};
 ghost use Rattle.proof_tree.specs.AnswerViews.{scaled_of, gap_of};
 ghost use Rattle.proof_tree.specs.Composing.{AreRowsOf};
-ghost use Rattle.proof_tree.specs.GapTests.{forms_by, IsGapSet};
+ghost use Rattle.proof_tree.specs.GapTests.{forms_by, HaveGapPoints, IsGapSet};
 
 use crate::gap::Gap;
 use crate::gap_points::prep_at;
@@ -85,8 +85,7 @@ fn is_gap_point(preps: &[RuleRows], rule: u32, z: &Scaled) -> bool
 // Whether there is a scaled point for each rule of a set, each of which is like that.
 fn are_gap_points(preps: &[RuleRows], set: &[u32], zs: &[Scaled]) -> bool
     requires { IsAscending set.now }
-    ensures { IsTrue result ↔ ((length zs.now ≡ length set.now) × AllByRecursion (λ t. IsGapPoint (forms_by preps.now t)
-        (point_of set.now (map scaled_of zs.now) t)) set.now) }
+    ensures { IsTrue result ↔ HaveGapPoints preps.now set.now zs.now }
 {
     if zs.len() != set.len() {
         return false;
@@ -108,7 +107,11 @@ pub(crate) fn has_gap_shape(p: &Program, preps: &[RuleRows], g: &Gap) -> bool
     if !is_gap_set(p, g) {
         return false;
     }
-    are_gap_points(preps, &g.set, &g.moves)
-        && are_gap_points(preps, &g.set, &g.kept)
-        && is_gap_point(preps, g.rule, &g.floor)
+    if !are_gap_points(preps, &g.set, &g.moves) {
+        return false;
+    }
+    if !are_gap_points(preps, &g.set, &g.kept) {
+        return false;
+    }
+    is_gap_point(preps, g.rule, &g.floor)
 }

@@ -1,4 +1,6 @@
 use Rattle.std.proofs.Common.{◌≡◌, sym, ◌∙◌, ap}
+use Rattle.std.proofs.lemmas.Int.{to_z-of_z}
+use mir.Syntax.{w128}
 use Rattle.linear_forms.specs.Forms.{Form}
 use Rattle.linear_forms.specs.RuleQuestions.{after_rule}
 use Rattle.its_model.specs.Views.{program_of}
@@ -16,6 +18,7 @@ returns-then-target-symbol-clause-value c =
     let z = scaled_of c.args.z.now in
     let prepared = after-same (forms_at p c.args.rule) (forms_by c.args.preps.now c.args.rule) c.args.place
         (forms-alike p c.args.preps.now c.requires.rows c.args.rule).news in
-    c.new_value.ensures.value
+    to_z-of_z w128 c.new_value.result (record { sfits = c.new_value.type_inv })
+    ∙ (c.new_value.ensures.value
     ∙ (ap (λ (f : Form). value_at f z) (sym prepared)
-    ∙ arrives p c.args.rule c.requires.rule c.args.symbol c.args.place z c.in-Some.target (sym c.in-Some.is ∙ c.target_of.ensures) c.if-target-symbol.true)
+    ∙ arrives p c.args.rule c.requires.rule c.args.symbol c.args.place z c.in-Some.target c.in-Some.ensures c.if-target-symbol.true))

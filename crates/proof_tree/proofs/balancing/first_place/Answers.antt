@@ -1,28 +1,25 @@
-use Rattle.std.proofs.Common.{rules, ◌≡◌, ◌≢◌, ◌≤◌, ◌*◌, ◌&&◌, not, nat_eq, length, map, pos, ◌-ℤ◌, MatchOption, unsigned_abs, ◌||◌, IsTrue, ◌↔◌, ◌⊎◌, false, Some, ℕ, ◌+◌, ◌-◌, ◌<◌, ◌/◌, ◌%◌, Bool, true, nat_lt, List, [], ◌∷◌, ◌++◌, slice_index_or, slice_set, bit_and, bit_or, Fits, w8, w32, w64, Bor, MutBor}
-use Rattle.std.specs.List.{All, AllByRecursion}
-use Rattle.linear_forms.specs.Limits.{point_limit}
-use Rattle.linear_forms.specs.RuleQuestions.{at_source, at_target, before_rule, after_rule}
-use Rattle.farkas_cert.specs.Sizes.{HasRowNumbers}
-use Rattle.its_model.specs.Valid.{IsValid}
-use Rattle.its_model.specs.Views.{program_of}
-use Rattle.poly_terms.specs.model.Paths.{source_of as source_of_rule}
-use Rattle.poly_terms.specs.model.Paths.{target_of as target_of_rule}
-use Rattle.poly_terms.specs.model.Paths.{same_symbol}
+use Rattle.std.proofs.Common.{◌≡◌, ap, arith}
 use Rattle.poly_terms.specs.model.Programs.{arity_of}
-use Rattle.proof_setting.specs.RankedSets.{forms_at}
-use Rattle.proof_setting.specs.proof_nodes.AcceptsPlain.{IsRule}
-use Rattle.proof_setting.specs.proof_nodes.GapChecks.{HasGapShape, value_at, net, balance, balanced}
-use Rattle.proof_setting.specs.proof_nodes.Gaps.{is_shut as is_shut_place}
-use Rattle.proof_setting.specs.proof_nodes.Graph.{touches}
-use Rattle.proof_tree.specs.AnswerViews.{scaled_of, shut_of, gap_of}
-use Rattle.proof_tree.specs.Composing.{AreRowsOf}
-use Rattle.proof_tree.specs.GapTests.{forms_by, IsNear, IsFirstFailing, coefficient_at, value_limit, net_limit, IsBalanced, places_at}
+use Rattle.its_model.specs.Views.{program_of}
+use Rattle.proof_setting.specs.proof_nodes.Gaps.{is_shut}
+use Rattle.proof_tree.specs.AnswerViews.{gap_of}
+use Rattle.proof_tree.specs.GapTests.{IsBalanced}
+use Rattle.proof_tree.proofs.Balances.{places-hold, places-fail}
 use Rattle.proof_tree.proofs.balancing.first_place.Goals as goal
 
--- src/balancing.rt:229:13
 pub returns-then-off : goal.returns-then-off
-returns-then-off c = ?
+returns-then-off c =
+    let p = program_of c.args.p.now in
+    let g = gap_of c.args.g.now in
+    let off = c.is_off-off.ensures.0 c.if-off.true in
+    let count = c.places_of-place-end.ensures.0 in
+    places-fail (IsBalanced p g) c.args.symbol (arity_of p c.args.symbol) (is_shut g.shut c.args.symbol) c.loop-place.place
+    (omega (arith, count, c.loop-place-test.true)) c.loop-place.invariant off.1 off.0
 
--- src/balancing.rt:216:1
 pub returns : goal.returns
-returns c = ?
+returns c =
+    let p = program_of c.args.p.now in
+    let g = gap_of c.args.g.now in
+    let count = c.places_of-place-end.ensures.0 in
+    places-hold (IsBalanced p g) c.args.symbol (arity_of p c.args.symbol) (is_shut g.shut c.args.symbol)
+    (λ i l. c.loop-place.invariant i (omega (arith, l, count, c.loop-place-test.false)))

@@ -1,44 +1,28 @@
-use Rattle.std.proofs.Common.{rules, ◌≡◌, ◌≢◌, ◌≤◌, ◌*◌, ◌&&◌, not, nat_eq, length, map, pos, ◌-ℤ◌, MatchOption, unsigned_abs, ◌||◌, IsTrue, ◌↔◌, ◌⊎◌, false, Some, ℕ, ◌+◌, ◌-◌, ◌<◌, ◌/◌, ◌%◌, Bool, true, nat_lt, List, [], ◌∷◌, ◌++◌, slice_index_or, slice_set, bit_and, bit_or, Fits, w8, w32, w64, Bor, MutBor}
-use Rattle.std.specs.List.{All, AllByRecursion}
-use Rattle.linear_forms.specs.Limits.{point_limit}
-use Rattle.linear_forms.specs.RuleQuestions.{at_source, at_target, before_rule, after_rule}
-use Rattle.farkas_cert.specs.Sizes.{HasRowNumbers}
-use Rattle.its_model.specs.Valid.{IsValid}
-use Rattle.its_model.specs.Views.{program_of}
-use Rattle.poly_terms.specs.model.Paths.{source_of as source_of_rule}
-use Rattle.poly_terms.specs.model.Paths.{target_of as target_of_rule}
-use Rattle.poly_terms.specs.model.Paths.{same_symbol}
-use Rattle.poly_terms.specs.model.Programs.{arity_of}
-use Rattle.proof_setting.specs.RankedSets.{forms_at}
-use Rattle.proof_setting.specs.proof_nodes.AcceptsPlain.{IsRule}
-use Rattle.proof_setting.specs.proof_nodes.GapChecks.{HasGapShape, value_at, net, balance, balanced}
-use Rattle.proof_setting.specs.proof_nodes.Gaps.{is_shut as is_shut_place}
+use Rattle.std.proofs.Common.{◌≡◌, ℕ, length, refl, subst, arith}
+use Rattle.std.proofs.lemmas.List.{length-map}
+use Rattle.its_model.specs.Views.{program_of, symbol_of}
+use Rattle.proof_setting.specs.proof_nodes.GapChecks.{balanced_at}
 use Rattle.proof_setting.specs.proof_nodes.Graph.{touches}
-use Rattle.proof_tree.specs.AnswerViews.{scaled_of, shut_of, gap_of}
-use Rattle.proof_tree.specs.Composing.{AreRowsOf}
-use Rattle.proof_tree.specs.GapTests.{forms_by, IsNear, IsFirstFailing, coefficient_at, value_limit, net_limit, IsBalanced, places_at}
+use Rattle.proof_tree.specs.AnswerViews.{gap_of}
+use Rattle.proof_tree.specs.GapTests.{IsBalanced, IsFirstFailing, coefficient_at, places_at}
+use Rattle.proof_tree.proofs.Balances.{blocks-hold, blocks-fail}
 use Rattle.proof_tree.proofs.balancing.first_unbalanced.Goals as goal
 
--- src/balancing.rt:247:45
-pub overflow_cast-symbol : goal.overflow_cast-symbol
-overflow_cast-symbol c = ?
+pub returns-in-Some-first_place : goal.returns-in-Some-first_place
+returns-in-Some-first_place c =
+    let p = program_of c.args.p.now in
+    let g = gap_of c.args.g.now in
+    let count = length-map c.args.p.now.symbols.items symbol_of in
+    blocks-fail (touches p g.set) (IsBalanced p g) (balanced_at p g) (places_at p g) refl (λ s ss. refl) 0 (length p.symbols)
+    c.loop-symbol.symbol (coefficient_at c.in-Some.number c.in-Some-first_place.place) (omega arith) (omega (arith, count))
+    (λ s a b t. c.loop-symbol.invariant s b t) c.in-Some.ensures.1
+    (subst (λ (s : ℕ). IsFirstFailing (IsBalanced p g) (places_at p g s) (coefficient_at c.in-Some.number c.in-Some-first_place.place))
+    c.in-Some.ensures.0 c.in-Some-first_place.ensures)
 
--- src/balancing.rt:249:59
-pub overflow_cast-symbol-then-touched : goal.overflow_cast-symbol-then-touched
-overflow_cast-symbol-then-touched c = ?
-
--- src/balancing.rt:249:34
-pub first_place-requires-clause-arity : goal.first_place-requires-clause-arity
-first_place-requires-clause-arity c = ?
-
--- src/balancing.rt:250:30
-pub overflow_cast-result : goal.overflow_cast-result
-overflow_cast-result c = ?
-
--- src/balancing.rt:250:17
-pub returns-in-Some : goal.returns-in-Some
-returns-in-Some c = ?
-
--- src/balancing.rt:237:1
 pub returns : goal.returns
-returns c = ?
+returns c =
+    let p = program_of c.args.p.now in
+    let g = gap_of c.args.g.now in
+    let count = length-map c.args.p.now.symbols.items symbol_of in
+    blocks-hold (touches p g.set) (IsBalanced p g) (balanced_at p g) (places_at p g) refl (λ s ss. refl) 0 (length p.symbols)
+    (λ s a b t. c.loop-symbol.invariant s (omega (arith, b, count)) t)

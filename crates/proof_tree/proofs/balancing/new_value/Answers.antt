@@ -1,28 +1,26 @@
-use Rattle.std.proofs.Common.{rules, ◌≡◌, ◌≢◌, ◌≤◌, ◌*◌, ◌&&◌, not, nat_eq, length, map, pos, ◌-ℤ◌, MatchOption, unsigned_abs, ◌||◌, IsTrue, ◌↔◌, ◌⊎◌, false, Some, ℕ, ◌+◌, ◌-◌, ◌<◌, ◌/◌, ◌%◌, Bool, true, nat_lt, List, [], ◌∷◌, ◌++◌, slice_index_or, slice_set, bit_and, bit_or, Fits, w8, w32, w64, Bor, MutBor, ℤ, ◌+ℤ◌, ◌*ℤ◌, ◌≤ℤ◌, ◌<ℤ◌, FitsSigned, to_z, of_z}
-use Rattle.std.specs.List.{All, AllByRecursion}
-use Rattle.linear_forms.specs.Limits.{point_limit}
-use Rattle.linear_forms.specs.RuleQuestions.{at_source, at_target, before_rule, after_rule}
-use Rattle.farkas_cert.specs.Sizes.{HasRowNumbers}
-use Rattle.its_model.specs.Valid.{IsValid}
-use Rattle.its_model.specs.Views.{program_of}
-use Rattle.poly_terms.specs.model.Paths.{source_of as source_of_rule}
-use Rattle.poly_terms.specs.model.Paths.{target_of as target_of_rule}
-use Rattle.poly_terms.specs.model.Paths.{same_symbol}
-use Rattle.poly_terms.specs.model.Programs.{arity_of}
-use Rattle.proof_setting.specs.RankedSets.{forms_at}
-use Rattle.proof_setting.specs.proof_nodes.AcceptsPlain.{IsRule}
-use Rattle.proof_setting.specs.proof_nodes.GapChecks.{HasGapShape, value_at, net, balance, balanced}
-use Rattle.proof_setting.specs.proof_nodes.Gaps.{is_shut as is_shut_place}
-use Rattle.proof_setting.specs.proof_nodes.Graph.{touches}
-use Rattle.proof_tree.specs.AnswerViews.{scaled_of, shut_of, gap_of}
-use Rattle.proof_tree.specs.Composing.{AreRowsOf}
-use Rattle.proof_tree.specs.GapTests.{forms_by, IsNear, IsFirstFailing, coefficient_at, value_limit, net_limit, IsBalanced, places_at}
+use Rattle.std.proofs.Common.{◌≡◌, ◌≢◌, ◌-◌, ◌<◌, ◌≤◌, get_or, length, List, sym, subst, ◌∙◌, ap, arith, Some}
+use Rattle.std.proofs.lemmas.Bool.{ltb-true}
+use Rattle.std.proofs.lemmas.Int.{to_z-of_z}
+use Rattle.std.proofs.lemmas.List.{get_or_default}
+use mir.Syntax.{w128}
+use Rattle.linear_forms.specs.Forms.{Form}
+use Rattle.poly_terms.specs.declared.poly.Row.{Row}
+use Rattle.proof_setting.specs.proof_nodes.GapChecks.{value_at}
+use Rattle.proof_tree.specs.AnswerViews.{scaled_of}
+use Rattle.proof_tree.proofs.GapValues.{new-is, new-small, row-read}
 use Rattle.proof_tree.proofs.balancing.new_value.Goals as goal
 
--- src/balancing.rt:57:26
 pub row_value-requires-clause-numbers : goal.row_value-requires-clause-numbers
-row_value-requires-clause-numbers c = ?
+row_value-requires-clause-numbers c =
+    let found = c.in-Some-get.ensures.lookup in
+    let at = row-read c.in-Some.prep.now (c.args.place - 1) c.deref.result.now c.in-Some-get.row.now c.deref.ensures.value found.0 found.1 in
+    new-small c.args.preps.now c.args.rule c.args.place c.in-Some.prep.now c.in-Some-get.row.now c.in-Some.ensures at.0 at.1 c.requires.news
 
--- src/balancing.rt:46:1
 pub returns-in-Some-get-clause-value : goal.returns-in-Some-get-clause-value
-returns-in-Some-get-clause-value c = ?
+returns-in-Some-get-clause-value c =
+    let found = c.in-Some-get.ensures.lookup in
+    let at = row-read c.in-Some.prep.now (c.args.place - 1) c.deref.result.now c.in-Some-get.row.now c.deref.ensures.value found.0 found.1 in
+    to_z-of_z w128 c.row_value.result (record { sfits = c.row_value.type_inv })
+    ∙ (c.row_value.ensures.value
+    ∙ ap (λ (f : Form). value_at f (scaled_of c.args.z.now))
+    (new-is c.args.preps.now c.args.rule c.args.place c.in-Some.prep.now c.in-Some-get.row.now c.in-Some.ensures at.0 at.1 (omega (arith, c.if-place-eq0.false))))

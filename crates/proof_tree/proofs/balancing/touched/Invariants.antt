@@ -5,4 +5,4 @@ use Rattle.proof_tree.proofs.balancing.touched.Given as goal
 
 abbrev pub invariant-loop-rule : goal.invariant-loop-rule
 invariant-loop-rule l =
-    touches (program_of l.p) (drop l.rule-index l.set) l.symbol ≡ touches (program_of l.p) l.set l.symbol
+    touches (program_of l.p) (drop l.rule-index l.g.set.items) l.symbol ≡ touches (program_of l.p) l.g.set.items l.symbol

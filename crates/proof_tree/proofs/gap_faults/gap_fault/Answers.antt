@@ -1,58 +1,83 @@
-use Rattle.std.proofs.Common.{rules, ◌≡◌, MatchOption, IfNone, IsTrue, ◌↔◌, ℕ, ◌+◌, ◌-◌, ◌*◌, ◌<◌, ◌≤◌, length, ◌/◌, ◌%◌, Bool, true, false, nat_eq, nat_lt, List, [], ◌∷◌, ◌++◌, slice_index_or, slice_set, bit_and, bit_or, Fits, w8, w32, w64, Bor, MutBor}
-use Rattle.its_model.specs.Valid.{IsValid}
+use Rattle.std.proofs.Common.{◌≡◌, ℕ, List, map, sym, subst, inl, refl}
+use Rattle.farkas_cert.specs.declared.scaled.Scaled.{Scaled}
 use Rattle.its_model.specs.Views.{program_of}
-use Rattle.proof_setting.specs.GapLaws.{GapsExcludeFunctions}
-use Rattle.proof_setting.specs.RankedSets.{forms_at}
-use Rattle.proof_setting.specs.proof_nodes.GapChecks.{GapHolds, HasGapShape, point_of, gap_checks}
-use Rattle.proof_setting.specs.proof_nodes.Reasons.{IsFirstAmong}
-use Rattle.proof_tree.specs.AnswerViews.{fault_of, gap_of}
-use Rattle.proof_tree.specs.Composing.{AreRowsOf}
+use Rattle.proof_tree.specs.AnswerViews.{gap_of, scaled_of}
+use Rattle.proof_tree.specs.GapTests.{AreNearPoints}
+use Rattle.proof_tree.proofs.FirstFaults.{first-move, first-floor, first-kept, first-balance, first-loss, gap-holds}
+use Rattle.proof_tree.proofs.GapFaults.{have-small, near-moves, near-kept, near-floor, same-near}
 use Rattle.proof_tree.proofs.gap_faults.gap_fault.Goals as goal
 
--- src/gap_faults.rt:36:25
 pub first_off-requires-clause-rows : goal.first_off-requires-clause-rows
-first_off-requires-clause-rows c = ?
+first_off-requires-clause-rows c = have-small (program_of c.args.p.now) c.requires.valid c.args.preps.now c.requires.rows
 
--- src/gap_faults.rt:36:25
 pub first_off-requires-clause-near : goal.first_off-requires-clause-near
-first_off-requires-clause-near c = ?
+first_off-requires-clause-near c =
+    same-near _ _ _ _ (sym c.deref.ensures.value) (sym c.deref-2.ensures.value)
+    (near-moves (program_of c.args.p.now) c.requires.valid (gap_of c.args.g.now) (c.has_gap_shape.ensures.0 c.if-not-has_gap_shape.false))
 
--- src/gap_faults.rt:37:9
 pub returns-in-Some : goal.returns-in-Some
-returns-in-Some c = ?
+returns-in-Some c =
+    first-move (program_of c.args.p.now) c.args.preps.now c.requires.rows c.args.g.now
+    (c.has_gap_shape.ensures.0 c.if-not-has_gap_shape.false)
+    c.deref.result.now c.deref-2.result.now c.in-Some.rule c.deref.ensures.value c.deref-2.ensures.value c.in-Some.ensures
 
--- src/gap_faults.rt:39:9
 pub is_met-requires-clause-rows : goal.is_met-requires-clause-rows
-is_met-requires-clause-rows c = ?
+is_met-requires-clause-rows c =
+    (have-small (program_of c.args.p.now) c.requires.valid c.args.preps.now c.requires.rows).rows c.args.g.now.rule
 
--- src/gap_faults.rt:39:9
 pub is_met-requires-clause-near : goal.is_met-requires-clause-near
-is_met-requires-clause-near c = ?
+is_met-requires-clause-near c =
+    near-floor (program_of c.args.p.now) c.requires.valid (gap_of c.args.g.now) (c.has_gap_shape.ensures.0 c.if-not-has_gap_shape.false)
 
--- src/gap_faults.rt:40:9
 pub returns-then-not-is_met : goal.returns-then-not-is_met
-returns-then-not-is_met c = ?
+returns-then-not-is_met c =
+    first-floor (program_of c.args.p.now) c.args.preps.now c.requires.rows c.args.g.now
+    (c.has_gap_shape.ensures.0 c.if-not-has_gap_shape.false)
+    c.deref.result.now c.deref-2.result.now c.deref.ensures.value c.deref-2.ensures.value c.in_default.ensures
+    (λ m. let t = c.if-not-is_met.ensures.1 m in let no : ⊥ = cc in no)
 
--- src/gap_faults.rt:42:25
 pub first_not_kept-requires-clause-rows : goal.first_not_kept-requires-clause-rows
-first_not_kept-requires-clause-rows c = ?
+first_not_kept-requires-clause-rows c = have-small (program_of c.args.p.now) c.requires.valid c.args.preps.now c.requires.rows
 
--- src/gap_faults.rt:42:25
 pub first_not_kept-requires-clause-near : goal.first_not_kept-requires-clause-near
-first_not_kept-requires-clause-near c = ?
+first_not_kept-requires-clause-near c =
+    same-near _ _ _ _ (sym c.deref-3.ensures.value) (sym c.deref-4.ensures.value)
+    (near-kept (program_of c.args.p.now) c.requires.valid (gap_of c.args.g.now) (c.has_gap_shape.ensures.0 c.if-not-has_gap_shape.false))
 
--- src/gap_faults.rt:43:9
 pub returns-in-Some-first_not_kept : goal.returns-in-Some-first_not_kept
-returns-in-Some-first_not_kept c = ?
+returns-in-Some-first_not_kept c =
+    first-kept (program_of c.args.p.now) c.args.preps.now c.requires.rows c.args.g.now
+    (c.has_gap_shape.ensures.0 c.if-not-has_gap_shape.false)
+    c.deref.result.now c.deref-2.result.now c.deref.ensures.value c.deref-2.ensures.value c.in_default.ensures
+    (c.is_met.ensures.0 c.if-not-is_met.false)
+    c.deref-3.result.now c.deref-4.result.now c.in-Some-first_not_kept.rule c.deref-3.ensures.value c.deref-4.ensures.value
+    c.in-Some-first_not_kept.ensures
 
--- src/gap_faults.rt:46:9
 pub returns-in-Some-first_unbalanced : goal.returns-in-Some-first_unbalanced
-returns-in-Some-first_unbalanced c = ?
+returns-in-Some-first_unbalanced c =
+    first-balance (program_of c.args.p.now) c.args.preps.now c.requires.rows c.args.g.now
+    (c.has_gap_shape.ensures.0 c.if-not-has_gap_shape.false)
+    c.deref.result.now c.deref-2.result.now c.deref.ensures.value c.deref-2.ensures.value c.in_default.ensures
+    (c.is_met.ensures.0 c.if-not-is_met.false)
+    c.deref-3.result.now c.deref-4.result.now c.deref-3.ensures.value c.deref-4.ensures.value
+    c.in_default-first_not_kept.ensures c.in-Some-first_unbalanced.symbol c.in-Some-first_unbalanced.place c.in-Some-first_unbalanced.ensures
 
--- src/gap_faults.rt:49:9
-pub returns-then-g-eq0 : goal.returns-then-g-eq0
-returns-then-g-eq0 c = ?
+pub returns-then-loses_nothing : goal.returns-then-loses_nothing
+returns-then-loses_nothing c =
+    let both = c.loses_nothing.ensures.0 c.if-loses_nothing.true in
+    first-loss (program_of c.args.p.now) c.args.preps.now c.requires.rows c.args.g.now
+    (c.has_gap_shape.ensures.0 c.if-not-has_gap_shape.false)
+    c.deref.result.now c.deref-2.result.now c.deref.ensures.value c.deref-2.ensures.value c.in_default.ensures
+    (c.is_met.ensures.0 c.if-not-is_met.false)
+    c.deref-3.result.now c.deref-4.result.now c.deref-3.ensures.value c.deref-4.ensures.value
+    c.in_default-first_not_kept.ensures c.in_default-first_unbalanced.ensures both.0 both.1
 
--- src/gap_faults.rt:26:1
 pub returns : goal.returns
-returns c = ?
+returns c =
+    gap-holds (program_of c.args.p.now) c.args.preps.now c.requires.rows c.args.g.now
+    (c.has_gap_shape.ensures.0 c.if-not-has_gap_shape.false)
+    c.deref.result.now c.deref-2.result.now c.deref.ensures.value c.deref-2.ensures.value c.in_default.ensures
+    (c.is_met.ensures.0 c.if-not-is_met.false)
+    c.deref-3.result.now c.deref-4.result.now c.deref-3.ensures.value c.deref-4.ensures.value
+    c.in_default-first_not_kept.ensures c.in_default-first_unbalanced.ensures
+    (λ both. let t = c.loses_nothing.ensures.1 both in let no : ⊥ = cc in no)

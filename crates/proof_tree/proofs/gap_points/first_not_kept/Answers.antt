@@ -18,7 +18,7 @@ is_kept-is_point-requires-clause-near c =
     subst IsNear (position-is (λ t z. IsNear z) c.args.set.now c.args.kept.now c.loop-i.i c.index-kept-i.result near.ascending near.long (omega arith) c.index-kept-i.is)
     (near.near (get_or c.args.set.now c.loop-i.i 0) (in-list c.args.set.now c.loop-i.i 0 (omega arith)))
 
-pub returns-then-not-is_point : goal.returns-then-not-met
+pub returns-then-not-is_point : goal.returns-then-not-is_point
 returns-then-not-is_point c =
     let near = c.requires.near in
     position-fails (IsKept c.args.preps.now) c.args.set.now c.args.kept.now c.loop-i.i c.index-kept-i.result near.ascending near.long (omega arith) c.index-kept-i.is
@@ -28,7 +28,7 @@ pub loop-i-preserved : goal.loop-i-preserved
 loop-i-preserved c =
     let near = c.requires.near in
     position-more (IsKept c.args.preps.now) c.args.set.now c.args.kept.now c.loop-i.i c.index-kept-i.result near.ascending near.long (omega arith) c.index-kept-i.is
-    c.loop-i.invariant (c.is_kept-is_point.ensures.0 cc)
+    c.loop-i.invariant (c.is_kept-is_point.ensures.0 c.if-not-is_point.false)
 
 pub returns : goal.returns
 returns c =

@@ -28,7 +28,7 @@ pub loop-i-preserved : goal.loop-i-preserved
 loop-i-preserved c =
     let near = c.requires.near in
     position-more (IsMet c.args.preps.now) c.args.set.now c.args.moves.now c.loop-i.i c.index-moves-i.result near.ascending near.long (omega arith) c.index-moves-i.is
-    c.loop-i.invariant (c.is_met-met.ensures.0 cc)
+    c.loop-i.invariant (c.is_met-met.ensures.0 c.if-not-met.false)
 
 pub returns : goal.returns
 returns c =

@@ -23,7 +23,7 @@ pub loop-i-preserved : goal.loop-i-preserved
 loop-i-preserved c =
     let long : length (map scaled_of c.args.zs.now) ≡ length c.args.set.now = length-map c.args.zs.now scaled_of ∙ omega arith in
     position-more (Fits c.args.preps.now) c.args.set.now c.args.zs.now c.loop-i.i c.index-zs-i.result c.requires long (omega arith) c.index-zs-i.is
-    c.loop-i.invariant (c.is_gap_point-fits.ensures.0 cc)
+    c.loop-i.invariant (c.is_gap_point-fits.ensures.0 c.if-not-fits.false)
 
 pub returns : goal.returns
 returns c =

@@ -1,20 +1,21 @@
-use Rattle.std.proofs.Common.{rules, ◌≡◌, ◌↔◌, ◌≤◌, ℕ, length, map, true, IsTrue, nat_abs, ◌+◌, ◌-◌, ◌*◌, ◌<◌, ◌/◌, ◌%◌, Bool, false, nat_eq, nat_lt, List, [], ◌∷◌, ◌++◌, slice_index_or, slice_set, bit_and, bit_or, Fits, w8, w32, w64, Bor, MutBor}
-use Rattle.std.specs.List.{All, AllByRecursion}
-use Rattle.linear_forms.specs.Limits.{point_limit}
-use Rattle.its_model.specs.Views.{program_of}
-use Rattle.proof_setting.specs.RankedSets.{forms_at}
+use Rattle.std.proofs.Common.{◌≡◌, ◌<◌, ◌≤◌, length, get_or, refl, arith}
+use Rattle.std.proofs.lemmas.List.{length-map}
+use Rattle.std.proofs.lemmas.List.Elements.{All-more}
+use Rattle.its_model.specs.Views.{program_of, rule_of}
 use Rattle.proof_setting.specs.proof_nodes.AcceptsPlain.{IsRule}
-use Rattle.proof_setting.specs.proof_nodes.GapChecks.{HasGapShape, IsGapPoint, point_of}
-use Rattle.proof_setting.specs.proof_nodes.Numbers.{IsAscending}
-use Rattle.proof_tree.specs.AnswerViews.{scaled_of, gap_of}
-use Rattle.proof_tree.specs.Composing.{AreRowsOf}
-use Rattle.proof_tree.specs.GapTests.{forms_by, IsGapSet}
+use Rattle.proof_tree.proofs.GapFaults.{rule-within}
+use Rattle.proof_tree.proofs.GapPositions.{all-done}
 use Rattle.proof_tree.proofs.gap_shape.are_rules.Goals as goal
 
--- src/gap_shape.rt:41:5
 pub loop-number-preserved : goal.loop-number-preserved
-loop-number-preserved c = ?
+loop-number-preserved c =
+    let i = c.loop-number.number-index in
+    let n = get_or c.args.numbers.now i 0 in
+    let count = length-map c.args.p.now.rules.items rule_of in
+    let high : n ≤ length c.args.p.now.rules.items = omega (arith, c.if-number-len.false, c.len.ensures, c.args.p.now.rules.ok.0) in
+    All-more (IsRule (program_of c.args.p.now)) c.args.numbers.now i 0 c.loop-number-test.true c.loop-number.invariant
+    (rule-within (program_of c.args.p.now) n (λ e. c.if-number-eq0.false e) (omega (arith, high, count)))
 
--- src/gap_shape.rt:38:1
 pub returns : goal.returns
-returns c = ?
+returns c =
+    (λ e. all-done (IsRule (program_of c.args.p.now)) c.args.numbers.now c.loop-number.number-index c.loop-number-test.false c.loop-number.invariant, λ h. refl)

@@ -4,7 +4,7 @@ use Rattle.proof_tree.proofs.gap_shape.ascends.Goals as goal
 
 pub returns-then-numbers-i : goal.returns-then-numbers-i
 returns-then-numbers-i c =
-    (λ e. absurd (let no : ⊥ = cc in no), λ a. absurd (ascends-not c.args.numbers.now c.loop-i.i (omega arith) (omega arith) (omega arith) a))
+    (λ e. absurd (let no : ⊥ = cc in no), λ a. absurd (ascends-not c.args.numbers.now c.loop-i.i c.loop-i.auto.i c.loop-i-test.true c.if-numbers-i.true a))
 
 pub returns : goal.returns
-returns c = (λ e. ascends-from c.args.numbers.now (λ k l. c.loop-i.invariant k (omega (arith, l))), λ a. refl)
+returns c = (λ e. ascends-from c.args.numbers.now (λ k l. c.loop-i.invariant k (omega (arith, l, c.loop-i-test.false))), λ a. refl)
