@@ -42,7 +42,7 @@ before-found (suc u) z x l m e =
 
 -- a part that was read, in 64 and then in 128 bits
 pub part-read : (z : ScaledPoint) (place : ℕ) (x r : ℤ) → AreParts z.parts → (xs : List ℤ) → xs ≡ z.parts → place ≢ 0
-    → true ≡ nat_lt (place - 1) (length xs) → x ≡ get_or xs (place - 1) (pos 0) → r ≡ to_z w64 (of_z w64 x)
+    → true ≡ nat_lt (place - 1) (length xs) → x ≡ get_or xs (place - 1) x → r ≡ to_z w64 (of_z w64 x)
     → to_z w128 (of_z w128 r) ≡ value_at (before_rule place) z
 part-read z place x r small xs e n l f g =
     to_z-of_z w128 r (fits_signed_from_abs w128 r (omega (arith, ap unsigned_abs same, size)))
@@ -52,9 +52,7 @@ part-read z place x r small xs e n l f g =
     within = subst (λ (ys : List ℤ). place - 1 < length ys) e (ltb-true (place - 1) (length xs) (sym l))
 
     found : x ≡ get_or z.parts (place - 1) x
-    found =
-        subst (λ (ys : List ℤ). x ≡ get_or ys (place - 1) (pos 0)) e f
-        ∙ get_or_default z.parts (place - 1) (pos 0) x within
+    found = subst (λ (ys : List ℤ). x ≡ get_or ys (place - 1) x) e f
 
     size : unsigned_abs x ≤ point_limit
     size = subst (λ (y : ℤ). unsigned_abs y ≤ point_limit)
