@@ -1,7 +1,7 @@
 -- The balances of a gap, place by place and symbol by symbol.
-use Rattle.std.proofs.Common.{◌≡◌, ◌≢◌, ◌⊎◌, inl, inr, ℕ, zero, suc, ◌+◌, ◌*◌, ◌<◌, ◌≤◌, not, Bool, true, false, cond}
-use Rattle.std.proofs.Common.{if◌then◌else◌, nat_eq, List, [], ◌∷◌, ◌++◌, length, map, filter, drop, get_or, Option, Some}
-use Rattle.std.proofs.Common.{None, refl, sym, ap, ◌∙◌, subst, arith}
+use Rattle.std.proofs.Common.{◌≡◌, ◌≢◌, ◌⊎◌, inl, inr, ℕ, zero, suc, ◌+◌, ◌<◌, ◌≤◌, not, Bool, true, false, cond}
+use Rattle.std.proofs.Common.{if◌then◌else◌, List, [], ◌∷◌, ◌++◌, length, map, filter, drop, get_or, Option, Some}
+use Rattle.std.proofs.Common.{refl, sym, ap, ◌∙◌, subst, arith}
 use Rattle.std.specs.Prelude.{ℤ, pos, ◌+ℤ◌, ◌-ℤ◌, ◌*ℤ◌, slice_index_or}
 use Rattle.std.specs.List.{AllByRecursion, range_with_len}
 use Rattle.std.proofs.lemmas.Bool.{cases_lt, eq-eqb, ne_eqb}
@@ -15,12 +15,12 @@ use Rattle.poly_terms.specs.model.Paths.{source_in, source_of, target_in, target
 use Rattle.poly_terms.specs.model.Programs.{Program, Rule, rule_at}
 use Rattle.proof_setting.specs.RankedSets.{forms_in, forms_at}
 use Rattle.proof_setting.specs.proof_nodes.AcceptsPlain.{IsRule}
-use Rattle.proof_setting.specs.proof_nodes.GapChecks.{value_at, net, balanced_at}
-use Rattle.proof_setting.specs.proof_nodes.Gaps.{ScaledPoint, Gap}
+use Rattle.proof_setting.specs.proof_nodes.GapChecks.{value_at, net}
+use Rattle.proof_setting.specs.proof_nodes.Gaps.{ScaledPoint}
 use Rattle.proof_setting.proofs.proof_nodes.CheckLists.{each-append}
 use Rattle.farkas_cert.specs.declared.scaled.Scaled.{Scaled}
 use Rattle.proof_tree.specs.AnswerViews.{scaled_of}
-use Rattle.proof_tree.specs.GapTests.{IsFirstFailing, coefficient_at, places_at}
+use Rattle.proof_tree.specs.GapTests.{IsFirstFailing, coefficient_at}
 
 -- what fails first in a list fails first in a longer one
 pub failing-front : {A : Type 0} (P : A → Type 0) (xs ys : List A) (y : A) → IsFirstFailing P xs y

@@ -1,13 +1,12 @@
 -- Which fault of a gap is the first, from what was found of its shape, its points and its balances.
-use Rattle.std.proofs.Common.{◌≡◌, ◌⊎◌, inl, inr, ℕ, List, map, refl, sym, subst}
-use Rattle.std.specs.Prelude.{pos}
+use Rattle.std.proofs.Common.{◌≡◌, inl, inr, ℕ, List, map, refl, sym, subst}
 use Rattle.std.specs.List.{AllByRecursion}
 use Rattle.linear_forms.specs.Forms.{Form}
 use Rattle.poly_terms.specs.model.Programs.{Program}
 use Rattle.farkas_cert.specs.declared.scaled.Scaled.{Scaled}
 use Rattle.guard_prep.specs.declared.rule_rows.RuleRows.{RuleRows}
 use Rattle.proof_setting.specs.RankedSets.{forms_at}
-use Rattle.proof_setting.specs.proof_nodes.GapChecks.{GapFault, MoveOff, FloorOff, NotKept, Unbalanced, LosesNothing}
+use Rattle.proof_setting.specs.proof_nodes.GapChecks.{MoveOff, FloorOff, NotKept, Unbalanced, LosesNothing}
 use Rattle.proof_setting.specs.proof_nodes.GapChecks.{GapHolds, HasGapShape, MeetsAt, IsPointOf, point_of, gap_checks}
 use Rattle.proof_setting.specs.proof_nodes.GapChecks.{check_move, check_kept, check_balance, balanced}
 use Rattle.proof_setting.specs.proof_nodes.Gaps.{ScaledPoint}

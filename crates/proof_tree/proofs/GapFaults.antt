@@ -1,5 +1,5 @@
 -- The first fault of a gap: what fails first, and what was prepared of the rules.
-use Rattle.std.proofs.Common.{◌≡◌, ◌≢◌, ◌⊎◌, inl, inr, ℕ, zero, suc, ◌+◌, ◌<◌, ◌≤◌, ◌==◌, ◌||◌, Bool, true, false, cond}
+use Rattle.std.proofs.Common.{◌≡◌, ◌≢◌, inl, inr, ℕ, zero, suc, ◌+◌, ◌<◌, ◌≤◌, ◌==◌, ◌||◌, Bool, true, cond}
 use Rattle.std.proofs.Common.{List, [], ◌∷◌, length, map, take, get_or, Option, Some, None, option_map, refl, sym, ap, ◌∙◌}
 use Rattle.std.proofs.Common.{subst, arith}
 use Rattle.std.specs.Prelude.{slice_get, ℤ, nat_abs}
@@ -32,7 +32,7 @@ use Rattle.proof_setting.proofs.proof_nodes.GapPoints.{first-least, rest-ascends
 use Rattle.farkas_cert.specs.declared.scaled.Scaled.{Scaled}
 use Rattle.proof_tree.specs.AnswerViews.{scaled_of}
 use Rattle.proof_tree.specs.Composing.{AreRowsOf}
-use Rattle.proof_tree.specs.GapTests.{prep_in, forms_by_prep, forms_by, IsNear, AreNearPoints, HaveSmallRows, IsFirstFailing}
+use Rattle.proof_tree.specs.GapTests.{forms_by_prep, forms_by, IsNear, AreNearPoints, HaveSmallRows, IsFirstFailing}
 
 -- the element behind those that hold, which doesn't, is the first that fails
 pub failing-at : {A : Type 0} (P : A → Type 0) (xs : List A) (i : ℕ) (d : A) → i < length xs → All P (take i xs)

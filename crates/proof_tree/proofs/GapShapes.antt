@@ -1,6 +1,5 @@
 -- When the shape of a gap is right, as what was prepared of the rules tells it.
-use Rattle.std.proofs.Common.{◌≡◌, ℕ, List, length, map, sym, ◌∙◌, subst}
-use Rattle.std.specs.List.{AllByRecursion}
+use Rattle.std.proofs.Common.{◌≡◌, ℕ, List, map, sym, ◌∙◌, subst}
 use Rattle.std.proofs.lemmas.List.{length-map}
 use Rattle.linear_forms.specs.RuleQuestions.{RuleForms}
 use Rattle.poly_terms.specs.model.Programs.{Program}
@@ -10,14 +9,12 @@ use Rattle.proof_setting.specs.RankedSets.{forms_at}
 use Rattle.proof_setting.specs.proof_nodes.AcceptsPlain.{IsRule}
 use Rattle.proof_setting.specs.proof_nodes.GapChecks.{HasGapShape, IsGapPoint, point_of}
 use Rattle.proof_setting.specs.proof_nodes.Gaps.{ScaledPoint}
-use Rattle.proof_setting.specs.proof_nodes.Numbers.{IsAscending}
 use Rattle.proof_setting.proofs.proof_nodes.CheckLists.{each-in, in-each}
-use Rattle.poly_terms.specs.model.Entries.{is_in}
 use Rattle.proof_tree.specs.declared.gap.Gap.{Gap}
 use Rattle.proof_tree.specs.AnswerViews.{scaled_of, gap_of}
 use Rattle.proof_tree.specs.Composing.{AreRowsOf}
 use Rattle.proof_tree.specs.GapTests.{forms_by, IsGapSet, HaveGapPoints}
-use Rattle.proof_tree.proofs.GapFaults.{AreAlike, forms-alike}
+use Rattle.proof_tree.proofs.GapFaults.{forms-alike}
 
 -- the forms of a rule in a gap's point are alike from both sides
 point-alike : (r s : RuleForms) (z : ScaledPoint) → r.unknowns ≡ s.unknowns → IsGapPoint r z → IsGapPoint s z

@@ -1,7 +1,7 @@
 -- The parts of a place at a scaled point, and its new value.
-use Rattle.std.proofs.Common.{◌≡◌, ◌≢◌, true, ℕ, zero, suc, ◌+◌, ◌-◌, ◌<◌, ◌≤◌, List, [], ◌∷◌, ◌++◌, length, map, replicate, get_or}
-use Rattle.std.proofs.Common.{Option, Some, None, sym, ◌∙◌, ap, subst, arith}
-use Rattle.std.specs.Prelude.{ℤ, pos, ◌+ℤ◌, ◌*ℤ◌, slice_index_or, nat_lt, unsigned_abs}
+use Rattle.std.proofs.Common.{◌≡◌, ◌≢◌, true, ℕ, zero, suc, ◌-◌, ◌<◌, ◌≤◌, List, [], ◌∷◌, ◌++◌, length, map, replicate, get_or}
+use Rattle.std.proofs.Common.{Option, Some, sym, ◌∙◌, ap, subst, arith}
+use Rattle.std.specs.Prelude.{ℤ, pos, nat_lt, unsigned_abs}
 use Rattle.std.specs.List.{All}
 use Rattle.std.proofs.lemmas.Int.{ints, to_z-of_z, fits_signed_from_abs}
 use mir.Syntax.{w64, w128}
@@ -11,7 +11,7 @@ use Rattle.std.proofs.lemmas.List.{length-map, get_or_past, get_or_default}
 use Rattle.std.proofs.lemmas.Bool.{ltb-true}
 use Rattle.std.proofs.lemmas.List as lists
 use Rattle.std.proofs.lemmas.List.Elements.{All-get_or}
-use Rattle.linear_forms.specs.Forms.{Form, at, list_dot}
+use Rattle.linear_forms.specs.Forms.{at, list_dot}
 use Rattle.linear_forms.specs.Combinations.{zero_form}
 use Rattle.linear_forms.specs.RuleQuestions.{before_rule, after_rule}
 use Rattle.poly_terms.specs.declared.poly.Row.{Row}
@@ -70,9 +70,10 @@ before-past (suc u) z l m = sym (before-is u z ∙ get_or_past z.parts u (pos 0)
 -- a row that was found among the new values of what was prepared
 pub row-read : (m : RuleRows) (i : ℕ) (xs : List Row) (row : Row) → xs ≡ m.news.items → true ≡ nat_lt i (length xs)
     → row ≡ get_or xs i row → (i < length m.news.items) × (row ≡ get_or m.news.items i row)
-row-read m i xs row e l f =
-    (subst (λ (ys : List Row). i < length ys) e (ltb-true i (length xs) (sym l)),
-    subst (λ (ys : List Row). row ≡ get_or ys i row) e f)
+row-read m i xs row e l f = (
+  subst (λ (ys : List Row). i < length ys) e (ltb-true i (length xs) (sym l)),
+  subst (λ (ys : List Row). row ≡ get_or ys i row) e f,
+)
 
 module _ (preps : List RuleRows) (rule place : ℕ) (m : RuleRows) (row : Row) (e : Some m ≡ prep_in preps rule)
     (l : place - 1 < length m.news.items) (r : row ≡ get_or m.news.items (place - 1) row) where

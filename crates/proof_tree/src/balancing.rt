@@ -70,20 +70,17 @@ fn leaving(p: &Program, rule: u32, z: &Scaled, symbol: u32, place: u32) -> i128
     ensures size { unsigned_abs result ≤ point_limit }
 {
     match source_of(p, rule) {
-        Some(source) => if source == symbol { left_part(z, place) } else { 0 },
+        Some(source) => if source == symbol {
+            left_part(z, place)
+        } else {
+            0
+        },
         None => 0,
     }
 }
 
 // What arrives at a place of a symbol by a rule from a scaled point.
-fn arriving(
-    p: &Program,
-    preps: &[RuleRows],
-    rule: u32,
-    z: &Scaled,
-    symbol: u32,
-    place: u32,
-) -> i128
+fn arriving(p: &Program, preps: &[RuleRows], rule: u32, z: &Scaled, symbol: u32, place: u32) -> i128
     requires rows { AreRowsOf preps.now (program_of p.now) }
     requires news { All HasRowNumbers (forms_by preps.now rule).news }
     requires rule { IsRule (program_of p.now) rule }
@@ -93,20 +90,17 @@ fn arriving(
     ensures size { unsigned_abs result ≤ value_limit }
 {
     match target_of(p, rule) {
-        Some(target) => if target == symbol { new_value(preps, rule, z, place) } else { 0 },
+        Some(target) => if target == symbol {
+            new_value(preps, rule, z, place)
+        } else {
+            0
+        },
         None => 0,
     }
 }
 
 // What leaves a place of a symbol by a rule at a scaled point, less what arrives there.
-fn net_of(
-    p: &Program,
-    preps: &[RuleRows],
-    rule: u32,
-    z: &Scaled,
-    symbol: u32,
-    place: u32,
-) -> i128
+fn net_of(p: &Program, preps: &[RuleRows], rule: u32, z: &Scaled, symbol: u32, place: u32) -> i128
     requires rows { AreRowsOf preps.now (program_of p.now) }
     requires news { All HasRowNumbers (forms_by preps.now rule).news }
     requires rule { IsRule (program_of p.now) rule }
@@ -173,7 +167,11 @@ fn number_if(found: Option<u32>, symbol: usize) -> Option<u32>
         (λ number. (number ≡ symbol) × (same_symbol (Some symbol) found ≡ true)) }
 {
     match found {
-        Some(number) => if number as usize == symbol { Some(number) } else { None },
+        Some(number) => if number as usize == symbol {
+            Some(number)
+        } else {
+            None
+        },
         None => None,
     }
 }
@@ -242,7 +240,7 @@ fn first_place(p: &Program, preps: &[RuleRows], g: &Gap, symbol: u32) -> Option<
     ensures { MatchOption result
         (AllByRecursion (IsBalanced (program_of p.now) (gap_of g.now)) (places_at (program_of p.now) (gap_of g.now) symbol))
         (λ place. IsFirstFailing (IsBalanced (program_of p.now) (gap_of g.now))
-            (places_at (program_of p.now) (gap_of g.now) symbol) (coefficient_at symbol place)) }
+        (places_at (program_of p.now) (gap_of g.now) symbol) (coefficient_at symbol place)) }
 {
     for place in 0..places_of(p, symbol) + 1 {
         let off = is_off(p, preps, g, symbol, place);
@@ -262,7 +260,7 @@ pub(crate) fn first_unbalanced(p: &Program, preps: &[RuleRows], g: &Gap) -> Opti
     ensures { MatchOption result
         (AllByRecursion (IsBalanced (program_of p.now) (gap_of g.now)) (balanced (program_of p.now) (gap_of g.now)))
         (λ c. IsFirstFailing (IsBalanced (program_of p.now) (gap_of g.now))
-            (balanced (program_of p.now) (gap_of g.now)) (coefficient_at c.0 c.1)) }
+        (balanced (program_of p.now) (gap_of g.now)) (coefficient_at c.0 c.1)) }
 {
     for symbol in 0..p.symbols.len() {
         if let Some(number) = touched(p, g, symbol) {

@@ -39,9 +39,9 @@ pub(crate) fn first_off(preps: &[RuleRows], set: &[u32], moves: &[Scaled]) -> Op
     requires near { AreNearPoints set.now (map scaled_of moves.now) }
     ensures { MatchOption result
         (AllByRecursion (λ t. MeetsAt (forms_by preps.now t).rows
-            (point_of set.now (map scaled_of moves.now) t)) set.now)
+        (point_of set.now (map scaled_of moves.now) t)) set.now)
         (λ u. IsFirstFailing (λ t. MeetsAt (forms_by preps.now t).rows
-            (point_of set.now (map scaled_of moves.now) t)) set.now u) }
+        (point_of set.now (map scaled_of moves.now) t)) set.now u) }
 {
     for i in 0..set.len() {
         let met = is_met(preps, set[i], &moves[i]);
@@ -70,9 +70,9 @@ pub(crate) fn first_not_kept(preps: &[RuleRows], set: &[u32], kept: &[Scaled]) -
     requires near { AreNearPoints set.now (map scaled_of kept.now) }
     ensures { MatchOption result
         (AllByRecursion (λ t. IsPointOf (forms_by preps.now t).rows
-            (point_of set.now (map scaled_of kept.now) t)) set.now)
+        (point_of set.now (map scaled_of kept.now) t)) set.now)
         (λ u. IsFirstFailing (λ t. IsPointOf (forms_by preps.now t).rows
-            (point_of set.now (map scaled_of kept.now) t)) set.now u) }
+        (point_of set.now (map scaled_of kept.now) t)) set.now u) }
 {
     for i in 0..set.len() {
         let is_point = is_kept(preps, set[i], &kept[i]);

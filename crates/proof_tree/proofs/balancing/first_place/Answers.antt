@@ -1,4 +1,4 @@
-use Rattle.std.proofs.Common.{◌≡◌, ap, arith}
+use Rattle.std.proofs.Common.{arith}
 use Rattle.poly_terms.specs.model.Programs.{arity_of}
 use Rattle.its_model.specs.Views.{program_of}
 use Rattle.proof_setting.specs.proof_nodes.Gaps.{is_shut}

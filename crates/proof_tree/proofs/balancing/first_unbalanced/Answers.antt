@@ -1,4 +1,4 @@
-use Rattle.std.proofs.Common.{◌≡◌, ℕ, length, refl, subst, arith}
+use Rattle.std.proofs.Common.{ℕ, length, refl, subst, arith}
 use Rattle.std.proofs.lemmas.List.{length-map}
 use Rattle.its_model.specs.Views.{program_of, symbol_of}
 use Rattle.proof_setting.specs.proof_nodes.GapChecks.{balanced_at}

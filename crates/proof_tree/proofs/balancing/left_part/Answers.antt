@@ -1,12 +1,8 @@
-use Rattle.std.proofs.Common.{◌≡◌, ◌≢◌, ℕ, ◌+◌, ◌-◌, ◌<◌, ◌≤◌, ◌^◌, get_or, length, List, sym, subst, ◌∙◌, ap, arith, to_z, of_z}
-use Rattle.std.specs.Prelude.{ℤ, pos, nat_lt}
-use Rattle.std.proofs.lemmas.Int.{ints, to_z-of_z, fits_signed_from_abs}
-use Rattle.std.proofs.lemmas.List.Elements.{All-get_or}
+use Rattle.std.proofs.Common.{◌-◌, ◌≤◌, length, List, ap, arith}
+use Rattle.std.specs.Prelude.{ℤ}
 use Rattle.std.proofs.lemmas.Bool.Decides.{nat_tests}
-use mir.Syntax.{w64, w128}
-use Rattle.linear_forms.specs.Limits.{point_limit}
 use Rattle.proof_tree.specs.AnswerViews.{scaled_of}
-use Rattle.proof_tree.proofs.GapValues.{before-found, before-past, part-read}
+use Rattle.proof_tree.proofs.GapValues.{before-past, part-read}
 use Rattle.proof_tree.proofs.balancing.left_part.Goals as goal
 
 pub returns-in-Some-clause-value : goal.returns-in-Some-clause-value

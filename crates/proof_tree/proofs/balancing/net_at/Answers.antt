@@ -1,17 +1,17 @@
-use Rattle.std.proofs.Common.{◌≡◌, ℕ, ◌+◌, ◌*◌, ◌^◌, ◌<◌, ◌≤◌, List, length, map, get_or, subst, sym, ◌∙◌, ap, arith, to_z, drop}
-use Rattle.std.specs.Prelude.{ℤ, pos, ◌+ℤ◌, ◌-ℤ◌, unsigned_abs}
+use Rattle.std.proofs.Common.{◌≡◌, ℕ, ◌+◌, ◌*◌, ◌<◌, ◌≤◌, length, get_or, subst, sym, ◌∙◌, ap, arith, to_z}
+use Rattle.std.specs.Prelude.{ℤ, ◌+ℤ◌, ◌-ℤ◌, unsigned_abs}
 use Rattle.std.specs.Int.{w128}
 use Rattle.std.proofs.lemmas.Int.{fits_signed_from_abs, to_z-of_z}
-use Rattle.std.proofs.lemmas.List.{length-map, get_or_default}
-use Rattle.farkas_cert.proofs.Products.{read_sum, sum-le, moved, all_done}
+use Rattle.std.proofs.lemmas.List.{get_or_default}
+use Rattle.farkas_cert.proofs.Products.{read_sum, sum-le, moved}
 use Rattle.linear_forms.specs.RuleQuestions.{at_source, at_target}
-use Rattle.its_model.specs.Views.{program_of, rule_of}
+use Rattle.its_model.specs.Views.{program_of}
 use Rattle.proof_setting.specs.RankedSets.{forms_at}
 use Rattle.proof_setting.specs.proof_nodes.AcceptsPlain.{IsRule}
-use Rattle.proof_setting.specs.proof_nodes.GapChecks.{value_at, net}
+use Rattle.proof_setting.specs.proof_nodes.GapChecks.{value_at}
 use Rattle.proof_tree.specs.AnswerViews.{gap_of, scaled_of}
 use Rattle.proof_tree.specs.GapTests.{coefficient_at, net_limit, IsNear}
-use Rattle.proof_tree.proofs.Balances.{net-step, net-end}
+use Rattle.proof_tree.proofs.Balances.{net-step}
 use Rattle.proof_tree.proofs.GapFaults.{in-list, shape-short, have-small, near-moves}
 use Rattle.proof_tree.proofs.GapPositions.{position-is}
 use Rattle.proof_tree.proofs.balancing.net_at.Goals as goal
@@ -65,7 +65,7 @@ loop-i-preserved c =
     let bounded : unsigned_abs s + unsigned_abs r ≤ (i + 1) * net_limit = omega (arith, c.loop-i.invariant.size, c.net_of-sum.ensures.size) in
     let sum = read_sum s r (record { sfits = c.net_of-sum.type_inv }) (omega (arith, bounded, inside, few)) in
     let value : r ≡ value_at (at_source (rule (get_or set i 0)) at) (scaled_of m) -ℤ value_at (at_target (rule (get_or set i 0)) at) (scaled_of m)
-        = subst (λ (u : ℕ). r ≡ value_at (at_source (rule u) at) (scaled_of m) -ℤ value_at (at_target (rule u) at) (scaled_of m)) t c.net_of-sum.ensures.value in
+    = subst (λ (u : ℕ). r ≡ value_at (at_source (rule u) at) (scaled_of m) -ℤ value_at (at_target (rule u) at) (scaled_of m)) t c.net_of-sum.ensures.value in
     record {
       sum = moved s r _ _ _ _ sum c.loop-i.invariant.sum
           (net-step rule at set g.moves.items i m r c.requires.shape.one_move inside c.index-in-loop-i.ensures value);

@@ -1,10 +1,7 @@
-use Rattle.std.proofs.Common.{◌≡◌, ◌≢◌, ◌-◌, ◌<◌, ◌≤◌, get_or, length, List, sym, subst, ◌∙◌, ap, arith, Some}
-use Rattle.std.proofs.lemmas.Bool.{ltb-true}
+use Rattle.std.proofs.Common.{◌-◌, ◌∙◌, ap, arith}
 use Rattle.std.proofs.lemmas.Int.{to_z-of_z}
-use Rattle.std.proofs.lemmas.List.{get_or_default}
 use mir.Syntax.{w128}
 use Rattle.linear_forms.specs.Forms.{Form}
-use Rattle.poly_terms.specs.declared.poly.Row.{Row}
 use Rattle.proof_setting.specs.proof_nodes.GapChecks.{value_at}
 use Rattle.proof_tree.specs.AnswerViews.{scaled_of}
 use Rattle.proof_tree.proofs.GapValues.{new-is, new-small, row-read}

@@ -1,8 +1,6 @@
-use Rattle.std.proofs.Common.{◌≡◌, ℕ, List, map, sym, subst, inl, refl}
-use Rattle.farkas_cert.specs.declared.scaled.Scaled.{Scaled}
+use Rattle.std.proofs.Common.{sym}
 use Rattle.its_model.specs.Views.{program_of}
-use Rattle.proof_tree.specs.AnswerViews.{gap_of, scaled_of}
-use Rattle.proof_tree.specs.GapTests.{AreNearPoints}
+use Rattle.proof_tree.specs.AnswerViews.{gap_of}
 use Rattle.proof_tree.proofs.FirstFaults.{first-move, first-floor, first-kept, first-balance, first-loss, gap-holds}
 use Rattle.proof_tree.proofs.GapFaults.{have-small, near-moves, near-kept, near-floor, same-near}
 use Rattle.proof_tree.proofs.gap_faults.gap_fault.Goals as goal

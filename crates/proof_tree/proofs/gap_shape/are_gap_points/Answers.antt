@@ -14,10 +14,11 @@ Fits preps t z = IsGapPoint (forms_by preps t) z
 
 pub returns-then-not-fits : goal.returns-then-not-fits
 returns-then-not-fits c =
-    let long : length (map scaled_of c.args.zs.now) ≡ length c.args.set.now = length-map c.args.zs.now scaled_of ∙ omega arith in
-    (λ e. absurd (let no : ⊥ = cc in no),
-    λ h. absurd (position-breaks (Fits c.args.preps.now) c.args.set.now c.args.zs.now c.loop-i.i c.index-zs-i.result c.requires long (omega arith) c.index-zs-i.is
-    (λ m. let t = c.is_gap_point-fits.ensures.1 m in let no : ⊥ = cc in no) h.1))
+    let long : length (map scaled_of c.args.zs.now) ≡ length c.args.set.now = length-map c.args.zs.now scaled_of ∙ omega arith in (
+      λ e. absurd (let no : ⊥ = cc in no),
+      λ h. absurd (position-breaks (Fits c.args.preps.now) c.args.set.now c.args.zs.now c.loop-i.i c.index-zs-i.result c.requires long (omega arith) c.index-zs-i.is
+          (λ m. let t = c.is_gap_point-fits.ensures.1 m in let no : ⊥ = cc in no) h.1),
+    )
 
 pub loop-i-preserved : goal.loop-i-preserved
 loop-i-preserved c =
