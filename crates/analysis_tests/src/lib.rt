@@ -4,8 +4,6 @@
 #[cfg(test)]
 mod found;
 #[cfg(test)]
-mod gaps;
-#[cfg(test)]
 mod locals;
 #[cfg(test)]
 mod loops;

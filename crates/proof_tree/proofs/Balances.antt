@@ -1,17 +1,16 @@
 -- The balances of a gap, place by place and symbol by symbol.
-use Rattle.std.proofs.Common.{◌≡◌, ◌≢◌, ◌⊎◌, inl, inr, ℕ, zero, suc, ◌+◌, ◌<◌, ◌≤◌, not, Bool, true, false, cond}
+use Rattle.std.proofs.Common.{◌≡◌, ◌⊎◌, inl, inr, ℕ, zero, suc, ◌+◌, ◌<◌, ◌≤◌, not, Bool, true, false, cond}
 use Rattle.std.proofs.Common.{if◌then◌else◌, List, [], ◌∷◌, ◌++◌, length, map, filter, drop, get_or, Option, Some}
 use Rattle.std.proofs.Common.{refl, sym, ap, ◌∙◌, subst, arith}
-use Rattle.std.specs.Prelude.{ℤ, pos, ◌+ℤ◌, ◌-ℤ◌, ◌*ℤ◌, slice_index_or}
+use Rattle.std.specs.Prelude.{ℤ, pos, ◌+ℤ◌, ◌-ℤ◌, slice_index_or}
 use Rattle.std.specs.List.{AllByRecursion, range_with_len}
-use Rattle.std.proofs.lemmas.Bool.{cases_lt, eq-eqb, ne_eqb}
-use Rattle.std.proofs.lemmas.Int.{ints}
+use Rattle.std.proofs.lemmas.Bool.{cases_lt, eq-eqb}
 use Rattle.std.proofs.lemmas.List.{drop_more, drop_all}
 use Rattle.std.proofs.Math.ListN.{get_or-map}
 use Rattle.linear_forms.specs.Forms.{Form}
 use Rattle.linear_forms.specs.Combinations.{zero_form}
-use Rattle.linear_forms.specs.RuleQuestions.{RuleForms, Coefficient, before_rule, after_rule, at_source, at_target}
-use Rattle.poly_terms.specs.model.Paths.{source_in, source_of, target_in, target_of}
+use Rattle.linear_forms.specs.RuleQuestions.{RuleForms, Coefficient, after_rule, at_source, at_target}
+use Rattle.poly_terms.specs.model.Paths.{target_in, target_of}
 use Rattle.poly_terms.specs.model.Programs.{Program, Rule, rule_at}
 use Rattle.proof_setting.specs.RankedSets.{forms_in, forms_at}
 use Rattle.proof_setting.specs.proof_nodes.AcceptsPlain.{IsRule}
@@ -151,18 +150,8 @@ net-step rule c set moves i m r l h e v =
     rest : ℤ
     rest = net rule c (drop (i + 1) set) (drop (i + 1) (map scaled_of moves))
 
--- the value of the form that is 0 everywhere
-pub value-zero : (z : ScaledPoint) → pos 0 ≡ value_at zero_form z
-value-zero z = nothing (pos z.den)
-  where
-    nothing : (d : ℤ) → pos 0 ≡ pos 0 +ℤ pos 0 *ℤ d
-    nothing d = omega (arith, ints)
-
 module _ (p : Program) (t : ℕ) (is : IsRule p t) where
-  -- where a rule comes from and leads to
-  pub source-is : source_of p t ≡ Some (forms_at p t).source
-  source-is = subst (λ (o : Option Rule). source_in o ≡ Some (forms_in o).source) (sym is.numbered) refl
-
+  -- where a rule leads to
   pub target-is : target_of p t ≡ Some (forms_at p t).target
   target-is = go t is.rule is.numbered
     where
@@ -171,41 +160,13 @@ module _ (p : Program) (t : ℕ) (is : IsRule p t) where
       go (suc u) r e = subst (λ (o : Option Rule). target_in o ≡ Some (forms_in o).target) (sym e) refl
 
   module _ (symbol place : ℕ) (z : ScaledPoint) where
-    -- what leaves the symbol that the rule comes from, and another one
-    pub leaves : (s : ℕ) → Some s ≡ source_of p t → s ≡ symbol
-        → value_at (before_rule place) z ≡ value_at (at_source (forms_at p t) (coefficient_at symbol place)) z
-    leaves s e f =
-        ap (λ (v : Bool). value_at (if v then before_rule place else zero_form) z)
-        (sym (eq-eqb symbol (forms_at p t).source (sym f ∙ same)))
-      where
-        same : s ≡ (forms_at p t).source
-        same = let g : Some s ≡ Some (forms_at p t).source = e ∙ source-is in cc
-
-    pub leaves-none : (s : ℕ) → Some s ≡ source_of p t → s ≢ symbol
-        → pos 0 ≡ value_at (at_source (forms_at p t) (coefficient_at symbol place)) z
-    leaves-none s e f =
-        value-zero z ∙ ap (λ (v : Bool). value_at (if v then before_rule place else zero_form) z)
-        (sym (ne_eqb symbol (forms_at p t).source (λ g. f (same ∙ sym g))))
-      where
-        same : s ≡ (forms_at p t).source
-        same = let g : Some s ≡ Some (forms_at p t).source = e ∙ source-is in cc
-
-    -- what arrives at the symbol that the rule leads to, and at another one
+    -- what arrives at the symbol that the rule leads to
     pub arrives : (s : ℕ) → Some s ≡ target_of p t → s ≡ symbol
         → value_at (after_rule (forms_at p t) place) z
         ≡ value_at (at_target (forms_at p t) (coefficient_at symbol place)) z
     arrives s e f =
         ap (λ (v : Bool). value_at (if v then after_rule (forms_at p t) place else zero_form) z)
         (sym (eq-eqb symbol (forms_at p t).target (sym f ∙ same)))
-      where
-        same : s ≡ (forms_at p t).target
-        same = let g : Some s ≡ Some (forms_at p t).target = e ∙ target-is in cc
-
-    pub arrives-none : (s : ℕ) → Some s ≡ target_of p t → s ≢ symbol
-        → pos 0 ≡ value_at (at_target (forms_at p t) (coefficient_at symbol place)) z
-    arrives-none s e f =
-        value-zero z ∙ ap (λ (v : Bool). value_at (if v then after_rule (forms_at p t) place else zero_form) z)
-        (sym (ne_eqb symbol (forms_at p t).target (λ g. f (same ∙ sym g))))
       where
         same : s ≡ (forms_at p t).target
         same = let g : Some s ≡ Some (forms_at p t).target = e ∙ target-is in cc
