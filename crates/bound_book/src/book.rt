@@ -41,7 +41,11 @@ impl Book {
     ) -> Result<(), Memory>
         requires few { length self.old.finds.items + 1 < 2 ^ 32 - 1 }
         ensures finds { OnOk result (finds_of self.new.finds.items ≡ finds_of self.old.finds.items ++ record {
-            keys = map spot_of keys.items; node = node_of node; needs = map spot_of needs.items; bound = bound_of bound } ∷ []) }
+          keys = map spot_of keys.items;
+          node = node_of node;
+          needs = map spot_of needs.items;
+          bound = bound_of bound;
+        } ∷ []) }
         ensures written { OnOk result (IsWritten self.old.table (map spot_of keys.items) (bound_of bound)
             (length self.old.finds.items + 1) self.new.table) }
         ensures book { OnOk result ((p : Program) → IsBook p self.old.table self.old.finds.items

@@ -67,7 +67,8 @@ fn lemma(alloc: Global, table: &Table, find: Find) -> Result<Proof, Memory>
 
 // The lemma of a rule whose source is not reached.
 fn unreached_lemma(alloc: Global, table: &Table, rule: u32, needs: &[Spot]) -> Result<Proof, Memory>
-    ensures { IfOk result (λ lemma. proof_of lemma ≡ lemma_by (number_at table.now) (UnreachedBy rule) (map spot_of needs.now)) }
+    ensures { IfOk result (λ lemma. proof_of lemma
+        ≡ lemma_by (number_at table.now) (UnreachedBy rule) (map spot_of needs.now)) }
 {
     let uses = cited(alloc, table, needs)?;
     Ok(Proof::Unreached(Box::new(alloc, UnreachedNode { rule, uses })?))
