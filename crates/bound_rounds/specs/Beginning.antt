@@ -11,8 +11,8 @@ use Rattle.bound_rounds.specs.Finds.{EmptyBy, UnreachedBy, NeverBy, Find, keys_a
 use Rattle.bound_rounds.specs.Searches.{Searches, NoPoint}
 use Rattle.bound_rounds.specs.Components.{IsEmpty}
 
--- time 0 of an empty rule, and of one that is unreached by other rules than these; and size 0 at each place after a rule
--- whose time is 0
+-- time 0 of an empty rule, and of one that is unreached by other rules than these; and size 0 at each place after a
+-- rule whose time is 0
 abbrev pub empty_find : ℕ → List ℕ → Find
 empty_find t multipliers = record {
   keys = time_key t ∷ [];

@@ -19,8 +19,8 @@ pub data Node : Type 0 where
   SpreadBy : Member → Node
   CycleBy : List Member → Node
 
--- what was found: for these keys, which all get one bound, a node; the keys of the bounds that it needs, in the order in
--- which it needs them; and the bound that it composes of these
+-- what was found: for these keys, which all get one bound, a node; the keys of the bounds that it needs, in the order
+-- in which it needs them; and the bound that it composes of these
 pub record Find : Type 0 where
   pub keys : List Spot
   pub node : Node

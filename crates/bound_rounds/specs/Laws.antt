@@ -1,5 +1,5 @@
--- Laws of finds and of rounds: finds that stand give accepted lemmas, which state them and hold on all runs; what rounds
--- find stands; rounds end, at one list of finds; and what is missing there has one reason.
+-- Laws of finds and of rounds: finds that stand give accepted lemmas, which state them and hold on all runs; what
+-- rounds find stands; rounds end, at one list of finds; and what is missing there has one reason.
 use Rattle.std.specs.Prelude.{◌≡◌, ◌⊎◌, ℕ, ◌+◌, ◌<◌, true, List, [], ◌∷◌, ◌++◌, map, Some, None}
 use Rattle.std.specs.List.{count_by, Contains}
 use Rattle.rule_questions.specs.model.Programs.{Program}
@@ -54,18 +54,19 @@ all_unsized p b (t ∷ ts) = unsized p b t + all_unsized p b ts
 abbrev pub missing : Program → Bounds → ℕ
 missing p b = count_by (λ t. lacks (b t 0)) (rule_numbers p) + all_unsized p b (rule_numbers p)
 
--- rounds end: each finds a bound that was missing, or it is closed. So there are no more rounds than bounds missing with
--- the first finds, and one
+-- rounds end: each finds a bound that was missing, or it is closed. So there are no more rounds than bounds missing
+-- with the first finds, and one
 pub record RoundsEnd : Type 0 where
   pub each : (a : Answers) (s : Setting) (fs more : List Find) → IsRound (searches_of a) s fs more
       → (missing s.program (bounds_of s.program (fs ++ more)) < missing s.program (bounds_of s.program fs))
       ⊎ (more ≡ [])
 
--- where a round finds nothing new each missing time of a rule has a reason, and so has each missing size of a place in a
--- component
+-- where a round finds nothing new each missing time of a rule has a reason, and so has each missing size of a place in
+-- a component
 pub record MissingBoundsHaveReasons : Type 0 where
   pub times : (a : Answers) (s : Setting) (fs : List Find) → IsClosed (searches_of a) s fs → (t : ℕ)
-      → IsRule s.program t → bounds_of s.program fs t 0 ≡ None → (why : NoBound) × IsNoBound (searches_of a) s fs t 0 why
+      → IsRule s.program t → bounds_of s.program fs t 0 ≡ None → (why : NoBound)
+      × IsNoBound (searches_of a) s fs t 0 why
   pub sizes : (a : Answers) (s : Setting) (fs : List Find) → IsClosed (searches_of a) s fs → (t i : ℕ)
       → IsCovered a.components t i → bounds_of s.program fs t i ≡ None
       → (why : NoBound) × IsNoBound (searches_of a) s fs t i why

@@ -15,3 +15,10 @@ pub mod Rounds
 pub mod Right
 -- laws
 pub mod Laws
+-- what was worked out by hand
+pub mod WorkedFinds
+pub mod WorkedSets
+pub mod WorkedStanding
+pub mod WorkedRounds
+pub mod WorkedFirst
+pub mod WorkedAnswers

@@ -15,16 +15,16 @@ use Rattle.rule_questions.specs.proof_nodes.AcceptsSizes.{AcceptsSpread, Accepts
 use Rattle.rule_questions.specs.proof_nodes.Reasons.{Reason, MissingTime, MissingSize, Large, IsFirstAmong}
 use Rattle.rule_questions.specs.proof_nodes.Reasons as reasons
 use Rattle.rule_questions.specs.proof_nodes.Checks.{spread_checks, cycle_checks}
-use Rattle.rule_questions.specs.proof_tree.Shut.{is_shut}
 use Rattle.rule_questions.specs.proof_tree.declared.answer.Trip.{Trip}
 use Rattle.rule_questions.specs.proof_tree.declared.answer.Question.TheVariants as asked
-use Rattle.rule_questions.specs.proof_nodes.Gaps.{ScaledPoint, SymbolPlace, Gap}
+use Rattle.rule_questions.specs.proof_nodes.Gaps.{ScaledPoint, SymbolPlace, Gap, is_shut}
 use Rattle.rule_questions.specs.ProgramQuestions.{ranked_set}
 use Rattle.bound_rounds.specs.Keys.{Bounds, has_key, over}
 use Rattle.bound_rounds.specs.Finds.{Node, EmptyBy, UnreachedBy, NeverBy, RankBy, SpreadBy, CycleBy, keys_of}
 use Rattle.bound_rounds.specs.Searches.{Searches, NoBound, NoFunction, Tripped, Loose, Missing, Bent, Untimed, TooLarge}
 use Rattle.bound_rounds.specs.Searches.{Emptiness, NoPoint, HasPoint, EmptyTripped, Ranking, Ranked, Unranked}
 use Rattle.bound_rounds.specs.Searches.{RankTripped, Sizing, SizedBy, Unsized}
+use Rattle.bound_rounds.specs.Answers.{are_open}
 use Rattle.bound_rounds.specs.Components.{AreComponentsOf}
 
 -- the function reads no shut place: its coefficients there are 0
@@ -155,14 +155,15 @@ IsRightSizing s b keys (SizedBy node) = IsSizingOf s b keys node
 IsRightSizing s b keys (Unsized why) = IsCause s b keys why
 
 -- all answers are right: those about emptiness for each rule; those to rank questions for each set of rules that holds
--- the rule; the components are those of the places of live rules; and each size, or why there is none, is right over the
--- bounds over which the component was tried
+-- the rule; the components are those of the places of live rules; and each size, or why there is none, is right over
+-- the bounds over which the places were tried, as one of them has no size there
 pub record AreRight (q : Searches) (s : Setting) : Type 0 where
   pub empty : (t : ℕ) (e : Emptiness) → IsRule s.program t → q.Empties t e → IsRightEmptiness s t e
   pub rank : (set : List ℕ) (t : ℕ) (shut : List SymbolPlace) (r : Ranking) → IsQuestion s.program set t
       → q.Ranks set t shut r → IsRightRanking q s set t shut r
   pub components : (cs : List (List Spot)) → q.AreComponents cs → AreComponentsOf q s.program cs
-  pub sizes : (b : Bounds) (keys : List Spot) (answer : Sizing) → q.Sizes b keys answer → IsRightSizing s b keys answer
+  pub sizes : (b : Bounds) (keys : List Spot) (answer : Sizing) → are_open b keys ≡ true → q.Sizes b keys answer
+      → IsRightSizing s b keys answer
 
 -- each question has one answer: each rank question, the components, and each component where these bounds are known
 pub record AreOne (q : Searches) : Type 0 where

@@ -56,8 +56,8 @@ AreNeeds s b (RankBy node) needs = needs ≡ needs_of s b (RankBy node)
 AreNeeds s b (SpreadBy m) needs = needs ≡ needs_of s b (SpreadBy m)
 AreNeeds s b (CycleBy members) needs = needs ≡ needs_of s b (CycleBy members)
 
--- a find stands over bounds: its keys are those of its node, which is accepted there; it needs what the node does, all of
--- which is known; and its bound is the one that the node composes
+-- a find stands over bounds: its keys are those of its node, which is accepted there; it needs what the node does, all
+-- of which is known; and its bound is the one that the node composes
 pub record Stands (s : Setting) (b : Bounds) (f : Find) : Type 0 where
   pub keys : f.keys ≡ keys_of s.program f.node
   pub accepted : AcceptsOver s b f.node f.needs

@@ -3,7 +3,17 @@
 //! `specs/` and their laws: the functions here have no code, and the contract of each is a law.
 #![tactic(auto)]
 
-ghost use Rattle.bound_rounds.specs.Laws.{StandingFindsHaveLemmas, FindsAreNumbered, StandingFindsHold};
+ghost use Rattle.bound_rounds.specs.Laws.{StandingFindsHaveLemmas, FindsAreNumbered, StandingFindsHold, MadeFindsStand};
+ghost use Rattle.bound_rounds.specs.Laws.{RoundsEnd, ComponentsAreUniform, LastFindsAreOne, LastFindsExist};
+ghost use Rattle.bound_rounds.specs.Laws.{MissingBoundsHaveReasons};
+ghost use Rattle.bound_rounds.specs.WorkedFinds.{FindsAreReadOff, KeysAreWorkedOut, NeedsAreWorkedOut};
+ghost use Rattle.bound_rounds.specs.WorkedFinds.{LemmasAreWorkedOut};
+ghost use Rattle.bound_rounds.specs.WorkedSets.{SetsOfCounting, ShutOfCounting};
+ghost use Rattle.bound_rounds.specs.WorkedStanding.{StandingIsWorkedOut};
+ghost use Rattle.bound_rounds.specs.WorkedFirst.{FirstFindsAreWorkedOut, RightAnswersAreWorkedOut};
+ghost use Rattle.bound_rounds.specs.WorkedFirst.{RightRankingsAreWorkedOut};
+ghost use Rattle.bound_rounds.specs.WorkedRounds.{FirstRoundIsWorkedOut, LaterRoundsAreWorkedOut, ReasonsAreWorkedOut};
+ghost use Rattle.bound_rounds.specs.WorkedAnswers.{AnswersAreWorkedOut, RightSizesAreWorkedOut, MissingIsWorkedOut};
 
 /// The lemmas of finds that stand are accepted, and each states what its find does.
 pub fn standing_finds_have_lemmas()
@@ -18,4 +28,79 @@ pub fn finds_are_numbered()
 /// Each bound that is known with finds that stand holds on all runs.
 pub fn standing_finds_hold()
     ensures { StandingFindsHold }
+{}
+
+/// What rounds find stands, where the answers of the searches are right.
+pub fn made_finds_stand()
+    ensures { MadeFindsStand }
+{}
+
+/// Each round finds a bound that was missing, or it finds nothing.
+pub fn rounds_end()
+    ensures { RoundsEnd }
+{}
+
+/// With all finds that rounds make the members of a component have one size, or none has one.
+pub fn components_are_uniform()
+    ensures { ComponentsAreUniform }
+{}
+
+/// Rounds make one last list of finds, with which a bound that is missing has one reason.
+pub fn last_finds_are_one()
+    ensures { LastFindsAreOne }
+{}
+
+/// There are first finds; where the components are those of the places of live rules, there is a round over all finds,
+/// and there are last ones.
+pub fn last_finds_exist()
+    ensures { LastFindsExist }
+{}
+
+/// Where a round finds nothing new, each missing bound has its reason.
+pub fn missing_bounds_have_reasons()
+    ensures { MissingBoundsHaveReasons }
+{}
+
+/// What is read off finds of the program that counts down, what nodes need, and their lemmas, is what was worked out by
+/// hand.
+pub fn finds_are_as_worked_out()
+    ensures finds { FindsAreReadOff }
+    ensures keys { KeysAreWorkedOut }
+    ensures needs { NeedsAreWorkedOut }
+    ensures lemmas { LemmasAreWorkedOut }
+{}
+
+/// The sets of the rules of that program, and their shut places, are those worked out by hand.
+pub fn sets_are_as_worked_out()
+    ensures sets { SetsOfCounting }
+    ensures shut { ShutOfCounting }
+{}
+
+/// Which finds of that program stand, and of one with a rule that is never reached, is what was worked out by hand.
+pub fn standing_is_as_worked_out()
+    ensures { StandingIsWorkedOut }
+{}
+
+/// What is found before the first round of programs with rules that never run, and which answers are right, is what was
+/// worked out by hand.
+pub fn first_finds_are_as_worked_out()
+    ensures first { FirstFindsAreWorkedOut }
+    ensures right { RightAnswersAreWorkedOut }
+    ensures rankings { RightRankingsAreWorkedOut }
+{}
+
+/// The rounds of that program, from nothing and from the time of its first rule, and why bounds are missing where
+/// nothing ranks, are those worked out by hand.
+pub fn rounds_are_as_worked_out()
+    ensures first { FirstRoundIsWorkedOut }
+    ensures later { LaterRoundsAreWorkedOut }
+    ensures reasons { ReasonsAreWorkedOut }
+{}
+
+/// What answers of the program that counts down tell, which sizes are right, and how many bounds are missing, is what
+/// was worked out by hand.
+pub fn answers_are_as_worked_out()
+    ensures answers { AnswersAreWorkedOut }
+    ensures sizes { RightSizesAreWorkedOut }
+    ensures missing { MissingIsWorkedOut }
 {}

@@ -1,5 +1,8 @@
 pub mod Faithful
 pub mod Small
+pub mod RankedSets
+pub mod Tidying
+pub mod Files
 -- the lemmas of the crates below, which callers name through this one
 pub use Rattle.guard_prep.proofs.model
 pub use Rattle.guard_prep.proofs.int_laws

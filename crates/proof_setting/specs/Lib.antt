@@ -1,7 +1,9 @@
 -- what the contracts of this crate, and of those above it, cite
 pub mod Setting
+pub mod RankedSets
 -- laws, and values that were worked out by hand
 pub mod Laws
+pub mod GapLaws
 pub mod Worked
 -- the crates below, which callers name through this one
 pub use Rattle.guard_prep.specs.model

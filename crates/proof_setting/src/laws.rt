@@ -1,7 +1,9 @@
 //! What settings say, and what it is worth.
 
+ghost use Rattle.proof_setting.specs.GapLaws.{GapsExcludeFunctions};
 ghost use Rattle.proof_setting.specs.Laws.{SettingsAreFaithful, AcceptedFactsHold, PolynomialsAreBent};
-ghost use Rattle.proof_setting.specs.Laws.{SmallBoundsAreRewritten};
+ghost use Rattle.proof_setting.specs.Laws.{SmallBoundsAreRewritten, AcceptedFilesHold, SettingsAreTidying};
+ghost use Rattle.proof_setting.specs.Laws.{AcceptedFactsArePrintable};
 ghost use Rattle.proof_setting.specs.Worked.{SettingsAreAsWorkedOut};
 
 /// The setting of a valid program says what is true of it. It has no code, as all functions here: its contract is the
@@ -14,6 +16,20 @@ pub fn settings_are_faithful()
 /// whoever made the lemmas.
 pub fn accepted_facts_hold()
     ensures { AcceptedFactsHold }
+{}
+
+/// Of a file that is accepted for a valid program every fact of every lemma holds on all of its runs, and no affine
+/// function ranks the strict rule of a gap over its set without looking at a shut place, whoever made the file.
+pub fn accepted_files_hold()
+    ensures { AcceptedFilesHold }
+{}
+
+/// The setting of a valid program makes bounds that can be printed; so the facts of lemmas that are accepted for it
+/// have bounds with tidy numbers over its start arguments alone, and they are tidy where each bound that the lemmas
+/// write is.
+pub fn accepted_facts_are_printable()
+    ensures tidying { SettingsAreTidying }
+    ensures printable { AcceptedFactsArePrintable }
 {}
 
 /// The polynomial of a place is told exactly where the expanded update there has degree 2 or more.
@@ -30,4 +46,10 @@ pub fn small_bounds_are_rewritten()
 /// The setting of a small program is what was worked out by hand.
 pub fn settings_are_as_worked_out()
     ensures { SettingsAreAsWorkedOut }
+{}
+
+/// Where a gap holds for a valid program, no affine function ranks its strict rule over its set without looking at one
+/// of its shut places, whoever made the gap.
+pub fn gaps_exclude_functions()
+    ensures { GapsExcludeFunctions }
 {}

@@ -11,7 +11,8 @@ use Rattle.its_model.specs.Valid.{IsValid}
 use Rattle.poly_terms.specs.model.Entries.{is_in, IsEntry}
 use Rattle.proof_tree.specs.proof_nodes.AcceptsRank.{at_target, rank_time, HasRankShape, Loses, HasFloor, AcceptsRank}
 use Rattle.proof_tree.specs.proof_nodes.Composed.{rank_form}
-use Rattle.proof_tree.specs.proof_nodes.Gaps.{SymbolPlace}
+use Rattle.proof_tree.specs.proof_nodes.GapChecks.{GapHolds}
+use Rattle.proof_tree.specs.proof_nodes.Gaps.{Gap, SymbolPlace, is_shut}
 use Rattle.proof_tree.specs.proof_nodes.Known.{IsKnown, Table}
 use Rattle.proof_tree.specs.proof_nodes.Limits.{IsSmallComposed}
 use Rattle.proof_tree.specs.proof_nodes.Nodes.{RankNode}
@@ -19,10 +20,9 @@ use Rattle.proof_tree.specs.proof_nodes.Setting.{Setting}
 use Rattle.proof_tree.specs.proof_setting.Setting.{setting_of}
 use Rattle.proof_tree.specs.declared.answer.EmptyAnswer.{EmptyAnswer}
 use Rattle.rank_search.specs.declared.answer.RankAnswer.{RankAnswer}
-use Rattle.proof_tree.specs.Shut.{is_shut}
-use Rattle.rule_questions.specs.ProgramQuestions.{ranked_set}
+use Rattle.rule_questions.specs.ProgramQuestions.{forms_at, ranked_set}
 use Rattle.rule_questions.specs.Programs.{NothingTrips}
-use Rattle.rank_search.specs.RankAnswers.{IsRuleSet, rank_program, IsRankNode, IsRankAnswer}
+use Rattle.rank_search.specs.RankAnswers.{IsRuleSet, rank_program, IsRankNode, IsReadOff, IsRankAnswer}
 use Rattle.rule_questions.specs.RuleAnswers.{AreEmptyAnswers}
 use Rattle.rank_search.specs.RankAnswers.{first_trip, SaysRanked, SaysNoRank, SaysTripped}
 
@@ -94,3 +94,10 @@ pub record RankAnswersAreExact : Type 0 where
       → SaysTripped a
       ↔ ((¬ NothingTrips (rank_program b) pivots)
       ⊎ (NothingTrips (rank_program b) pivots × (¬ HasSolution (rank_program b)) × ¬ (first_trip empties b.set ≡ None)))
+
+-- the gap of a `NoRank` answer, which has the set, the strict rule and the shut places that were handed in, holds
+pub record FoundGapsHold : Type 0 where
+  pub each : (p : Program) (set : List ℕ) (strict : ℕ) (shut : List SymbolPlace) (pivots : ℕ)
+      (empties : List EmptyAnswer) (g : Gap)
+      → IsValid p → IsRuleSet p set strict → AreEmptyAnswers p pivots empties
+      → IsReadOff (ranked_set p set strict shut) shut pivots empties g → GapHolds p (forms_at p) g

@@ -21,6 +21,7 @@ mod symbols;
 pub use answer::RankAnswer;
 pub use emptiness::find_empty;
 pub use laws::{
-    rank_answers_are_exact, rank_answers_are_one, ranked_nodes_are_accepted, ranked_nodes_rank,
+    found_gaps_hold, rank_answers_are_exact, rank_answers_are_one, ranked_nodes_are_accepted,
+    ranked_nodes_rank,
 };
 pub use ranking::find_rank;

@@ -2,54 +2,44 @@
 use Rattle.std.proofs.Common.{◌≡◌, ℕ, List, [], ◌∷◌, length, Ok, Err, refl, sym, subst, arith, ◌+◌, ap, ◌∙◌}
 use Rattle.std.specs.Prelude.{Result, Option, Some, None, IfSome}
 use Rattle.its_model.specs.model.Programs.{Program}
-use Rattle.text_grammar.specs.text_core.Tokens.{AreInOrder}
 use Rattle.text_grammar.specs.text_core.Readers.{Fault}
+use Rattle.text_grammar.specs.text_core.Tokens.{Token}
 use Rattle.text_grammar.specs.text_core.Faults.{IsFirst}
 use Rattle.text_grammar.specs.text_core.Reading.{Answer, Stands, Refused, answer}
 use Rattle.text_grammar.specs.text_core.Reading as reading
 use Rattle.text_grammar.proofs.text_core.FirstFaults.{answer_is}
-use Rattle.text_grammar.proofs.text_core.Lexing.{in_order_in}
-use Rattle.text_grammar.specs.declared.cut.OneMode.TheVariants.{Plain}
 use Rattle.text_grammar.specs.Texts.{reader}
+use Rattle.text_grammar.specs.ByteTexts.{tokens}
+use Rattle.text_grammar.specs.Following as following
+use Rattle.text_grammar.specs.Marks.{refusal_of}
+use Rattle.text_grammar.specs.declared.token.Refusal.{Refusal}
+use Rattle.text_grammar.specs.declared.token.Refusal.TheVariants.{Refuses}
+use Rattle.text_grammar.specs.declared.token.Fault.{Fault as CodeFault}
 use Rattle.text_grammar.proofs.ReaderLaws.{reader_laws}
-use Rattle.text_grammar.proofs.SilenceLaws.{stands_where_silent}
+use Rattle.text_grammar.proofs.ByteDerivations.{answered, taken}
 use Rattle.run_replay.specs.declared.file.RunFile.{RunFile}
 use Rattle.run_replay.specs.declared.phase.RunKind.{RunKind}
 use Rattle.run_replay.specs.declared.error.RunTextError.{RunTextError}
 use Rattle.run_replay.specs.Runs.{Run}
-use Rattle.run_replay.specs.Grammar.{bytes_lexer, bytes_within, grammar, tokens}
-use Rattle.run_replay.specs.State.{nothing_read}
-use Rattle.run_replay.specs.Texts.{run_in, runs_of}
+use Rattle.run_replay.specs.Texts.{run_bytes, runs_of}
 use Rattle.run_replay.specs.Spelled.{text_of, IsWithin, IsTextWithin, OneRun}
-use Rattle.run_replay.specs.Views.{refusal_in, Says, Answers, GivesBack}
-use Rattle.text_grammar.specs.declared.symbol.Symbol.TheVariants.{Made}
-use Rattle.text_grammar.specs.Grammars.{Derives}
-use Rattle.run_replay.proofs.Passing.{after, derived_reads, silent_passes, passes_silent, state_after, pieces_bytes}
-use Rattle.run_replay.proofs.DerivedRuns.{derived_run}
-use Rattle.run_replay.proofs.WrittenText.{text_written}
-use Rattle.run_replay.proofs.RunLaws.{runs_lawful}
-
--- the tokens of bytes are in order
-pub tokens_in_order : (bytes : List ℕ) → AreInOrder 0 (tokens bytes) (length bytes)
-tokens_in_order bytes = let o = in_order_in bytes_lexer bytes_within bytes Plain 0 0 (omega arith) in subst (AreInOrder 0 (tokens bytes)) (let e : 0 + length bytes ≡ length bytes = omega arith in e) (subst (λ (n : ℕ). AreInOrder n (tokens bytes) (0 + length bytes)) (let e : 0 + 0 ≡ 0 = omega arith in e) o)
+use Rattle.run_replay.specs.Views.{run_of, refusal_in, Says, Answers, GivesBack}
+use Rattle.run_replay.proofs.RunParts.{RunValue, run_parts, bounded, readable, numbers, runs_made, runs_lawful, run_derived}
+use Rattle.run_replay.proofs.RunText.{run_spells, run_stands, stand_run, run_comes}
 
 -- where a run is answered, the bytes are its text, within the limits
 stands_written : (p : Program) (bytes : List ℕ) (r : Run) → answer (reader (runs_of p)) (length bytes) (tokens bytes) ≡ Stands r → IsTextWithin p bytes r
 stands_written p bytes r e =
-    let w = (stands_where_silent (runs_of p) (runs_lawful p)).stands (length bytes) (tokens bytes) r e in
-    let d = derived_run p w.1 (silent_passes p [] w.0 (tokens bytes) (derived_reads grammar w.1) w.3) in
-    let same : run_in (after nothing_read w.0) ≡ r = sym (ap run_in (state_after [] w.0)) ∙ w.2 in record {
-      text = ap text_of (sym same) ∙ d.0 ∙ pieces_bytes bytes;
-      within = subst (IsWithin p) same d.1;
-    }
+    let w = answered (run_bytes p) (bounded p) (numbers p) (readable p) RunValue run_parts (runs_made p) (runs_lawful p) bytes r e in
+    let h = stand_run p w.0 w.2 in
+    let same : w.0 ≡ r = sym (run_comes p w.0 h) ∙ w.3 in
+    record { text = ap text_of (sym same) ∙ sym (run_spells p w.0) ∙ w.1; within = subst (IsWithin p) same h }
 
 -- and the other way round
 written_stands : (p : Program) (bytes : List ℕ) (r : Run) → IsTextWithin p bytes r → answer (reader (runs_of p)) (length bytes) (tokens bytes) ≡ Stands r
 written_stands p bytes r h =
-    let w = text_written p r h.within in
-    let d = subst (Derives grammar (Made 0 ∷ []) w.events) (h.text ∙ sym (pieces_bytes bytes)) w.derives in
-    (stands_where_silent (runs_of p) (runs_lawful p)).silent (length bytes) (tokens bytes) w.events d (passes_silent p [] w.events (tokens bytes) (derived_reads grammar d) w.passes)
-    ∙ ap (λ (q : Run). Stands q) (ap run_in (state_after [] w.events) ∙ w.ends)
+    taken (run_bytes p) (bounded p) (numbers p) (readable p) RunValue run_parts (runs_lawful p) r (run_derived p r h.within) (run_stands p r h.within) bytes (run_spells p r ∙ h.text)
+    ∙ ap (λ (q : Run). Stands q) (run_comes p r h.within)
 
 -- bytes are the text of one run at most
 pub one_run : OneRun
@@ -80,3 +70,24 @@ says_gives_back p bytes result r h w =
     go : (result : Result RunFile RunTextError) → Says (Stands r) result → GivesBack r result
     go (Ok file) s = s
     go (Err e) s = s
+
+-- what reading says of an answer a result says, for programs and tokens that are the same
+pub read_says : (p q : Program) (n : ℕ) (us ts : List (Token ℕ)) (result : Result RunFile (Refusal RunKind)) → q ≡ p → us ≡ ts → following.Says (λ file r. run_of file ≡ r) (answer (reader (runs_of q)) n us) result
+    → (file : RunFile) → result ≡ Ok file → Says (answer (reader (runs_of p)) n ts) (Ok file)
+read_says p q n us ts result e f h file is =
+    subst (λ (o : Program). Says (answer (reader (runs_of o)) n ts) (Ok file)) e (subst (λ (vs : List (Token ℕ)). Says (answer (reader (runs_of q)) n vs) (Ok file)) f
+    (go (answer (reader (runs_of q)) n us) (subst (following.Says (λ file r. run_of file ≡ r) (answer (reader (runs_of q)) n us)) is h)))
+  where
+    go : (a : Answer Run RunKind) → following.Says (λ file r. run_of file ≡ r) a (Ok file) → Says a (Ok file)
+    go (Stands r) s = s
+    go (Refused x) s = s
+
+pub read_refuses : (p q : Program) (n : ℕ) (us ts : List (Token ℕ)) (result : Result RunFile (Refusal RunKind)) → q ≡ p → us ≡ ts → following.Says (λ file r. run_of file ≡ r) (answer (reader (runs_of q)) n us) result
+    → (y : CodeFault RunKind) (x : Refusal RunKind) (error : RunTextError) → result ≡ Err x → x ≡ Refuses y → refusal_in error ≡ Some (refusal_of y) → Says (answer (reader (runs_of p)) n ts) (Err error)
+read_refuses p q n us ts result e f h y x error is same told =
+    subst (λ (o : Program). Says (answer (reader (runs_of o)) n ts) (Err error)) e (subst (λ (vs : List (Token ℕ)). Says (answer (reader (runs_of q)) n vs) (Err error)) f
+    (go (answer (reader (runs_of q)) n us) (subst (λ (z : Refusal RunKind). following.Says (λ file r. run_of file ≡ r) (answer (reader (runs_of q)) n us) (Err z)) same (subst (following.Says (λ file r. run_of file ≡ r) (answer (reader (runs_of q)) n us)) is h))))
+  where
+    go : (a : Answer Run RunKind) → following.Says (λ file r. run_of file ≡ r) a (Err (Refuses y)) → Says a (Err error)
+    go (Stands r) s = absurd s
+    go (Refused x) s = subst (λ (o : Option (Fault RunKind)). IfSome o (λ z. z ≡ x)) (sym told) s

@@ -6,17 +6,17 @@ use Rattle.text_grammar.specs.text_core.Readers.{Fault}
 use Rattle.text_grammar.specs.text_core.Faults.{IsFirst}
 use Rattle.text_grammar.specs.text_core.Reading.{Answer, Stands, Refused}
 use Rattle.text_grammar.specs.Texts.{reader}
+use Rattle.text_grammar.specs.ByteTexts.{Spelling, tokens}
+use Rattle.text_grammar.specs.CodeBytes.{numeral_of}
 use Rattle.run_replay.specs.declared.file.RunFile.{RunFile}
-use Rattle.run_replay.specs.declared.state.State as code
+use Rattle.run_replay.specs.declared.text.State as code
 use Rattle.run_replay.specs.declared.phase.RunKind.{RunKind}
 use Rattle.run_replay.specs.declared.phase.RunKind.TheVariants as kind
 use Rattle.run_replay.specs.declared.error.RunTextError.{RunTextError}
 use Rattle.run_replay.specs.declared.error.RunTextError.TheVariants.{Syntax, NumberTooLarge, BadReference}
 use Rattle.run_replay.specs.declared.error.RunTextError.TheVariants.{ArityDiffers, Limit, Memory}
 use Rattle.run_replay.specs.Runs.{Run}
-use Rattle.run_replay.specs.State.{State}
-use Rattle.run_replay.specs.Grammar.{tokens}
-use Rattle.run_replay.specs.Texts.{runs_of}
+use Rattle.run_replay.specs.Texts.{State, runs_of}
 use Rattle.run_replay.specs.Spelled.{IsTextWithin}
 
 -- a run file as plain data
@@ -24,17 +24,17 @@ abbrev pub run_of : RunFile → Run
 run_of r = record { start = r.start.items; steps = map step_of r.steps.items }
 
 -- what is remembered, as plain data
-abbrev pub state_of : code.State → State
-state_of s = record {
+abbrev pub own_of : code.State → State
+own_of s = record {
   phase = s.phase;
   start = s.start.items;
   steps = map step_of s.steps.items;
   values = s.values.items;
   rule = s.rule;
-  negative = s.negative;
-  number = s.number;
-  spelled = s.spelled;
 }
+
+abbrev pub state_of : code.State → Spelling State
+state_of s = record { own = own_of s; numeral = numeral_of s.numeral }
 
 -- the refusal that an error stands for; want of memory stands for none
 abbrev pub refusal_in : RunTextError → Option (Fault RunKind)

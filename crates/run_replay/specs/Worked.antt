@@ -6,7 +6,7 @@ use Rattle.text_grammar.specs.Texts.{reader}
 use Rattle.run_replay.specs.declared.phase.RunKind.{RunKind}
 use Rattle.run_replay.specs.declared.phase.RunKind.TheVariants.{Syntax, NumberTooLarge, BadReference, ArityDiffers}
 use Rattle.run_replay.specs.Runs.{Run}
-use Rattle.run_replay.specs.Grammar.{tokens}
+use Rattle.text_grammar.specs.ByteTexts.{tokens}
 use Rattle.run_replay.specs.declared.phase.Phase.TheVariants.{InStart, InRule}
 use Rattle.run_replay.specs.Texts.{runs_of, is_full}
 use Rattle.run_replay.specs.Spelled.{text_of}

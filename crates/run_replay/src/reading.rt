@@ -4,21 +4,20 @@ ghost use Rattle.std.specs.Prelude.{◌≡◌, Some, length};
 ghost use Rattle.its_model.specs.Views.{program_of};
 ghost use Rattle.text_grammar.specs.text_core.Reading.{answer};
 ghost use Rattle.text_grammar.specs.Texts.{reader};
-ghost use Rattle.run_replay.specs.Grammar.{tokens};
+ghost use Rattle.text_grammar.specs.ByteTexts.{tokens};
 ghost use Rattle.run_replay.specs.Runs.{Run};
 ghost use Rattle.run_replay.specs.Texts.{runs_of};
 ghost use Rattle.run_replay.specs.Spelled.{IsTextWithin};
 ghost use Rattle.run_replay.specs.Views.{Answers, GivesBack, Says, refusal_in};
 
-use crate::bytes::Bytes;
 use crate::error::RunTextError;
 use crate::file::RunFile;
 use crate::grammar::{CLASSES, ROUNDS, RUN_GRAMMAR};
 use crate::phase::RunKind;
-use crate::state::State;
+use crate::text::State;
 use its_model::Program;
 use std::alloc::Global;
-use text_grammar::{Cut, OneMode, Refusal, Tables, read};
+use text_grammar::{Bytes, Cut, OneMode, Refusal, Tables, read};
 
 /// Reads the run that a text stands for, as one of a program.
 ///

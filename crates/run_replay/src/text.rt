@@ -1,31 +1,45 @@
-//! Run files as texts of a grammar.
+//! Run files as texts of a grammar: what is remembered of one while it is read.
 
 ghost use Rattle.std.specs.Prelude.{◌≡◌, ℕ, List, [], None};
 ghost use Rattle.its_model.specs.Views.{program_of};
+ghost use Rattle.text_grammar.specs.Folds.{state};
+ghost use Rattle.text_grammar.specs.ByteTexts.{fold_of};
 ghost use Rattle.text_grammar.specs.Grammars.{Event};
 ghost use Rattle.text_grammar.specs.Marks.{fault_of, token_of};
 ghost use Rattle.text_grammar.specs.Texts.{first_shown};
 ghost use Rattle.run_replay.specs.Runs.{Run};
-ghost use Rattle.run_replay.specs.State.{state};
-ghost use Rattle.run_replay.specs.Texts.{runs_of};
-ghost use Rattle.run_replay.specs.Views.{run_of, state_of};
+ghost use Rattle.run_replay.specs.Texts.{run_bytes, runs_of, against_byte as byte_fault};
+ghost use Rattle.run_replay.specs.Views.{run_of, own_of, state_of};
 
-use crate::faults::{fault_of_number, has_other_arity, is_full};
+use crate::faults::{against_number, has_other_arity, is_full};
 use crate::file::RunFile;
-use crate::grammar::{RULE_READ, START_READ, STARTED, STEP_READ, VALUE_READ, class_of};
-use crate::numbers::{one_digit_more, signed};
+use crate::grammar::{LETTERS, START_READ, STARTED, STEP_READ};
 use crate::phase::{Phase, RunKind};
-use crate::state::State;
 use its_model::{Program, Step};
 use std::alloc::{AllocError, Global};
 use std::mem::replace;
-use text_grammar::{Fault, Text, Token};
+use text_grammar::{
+    Fault, NATURAL_READ, NUMBER_BEGINS, Numeral, Text, Token, VALUE_READ, class_of,
+};
+
+/// A run file of a program, as far as it has been read.
+#[derive(Drop)]
+pub struct State<'a> {
+    pub alloc: Global,
+    pub program: &'a Program,
+    pub phase: Phase,
+    pub start: Vec<i128>,
+    pub steps: Vec<Step>,
+    pub values: Vec<i128>,
+    pub rule: u32,
+    pub numeral: Numeral,
+}
 
 impl<'a> State<'a> {
     /// Nothing has been read.
     pub fn new(alloc: Global, program: &'a Program) -> State<'a>
         ensures program { result.program.now ≡ program.now }
-        ensures state { state_of result ≡ state [] }
+        ensures state { state_of result ≡ state (fold_of (run_bytes (program_of program.now))) [] }
     {
         State {
             alloc,
@@ -35,9 +49,20 @@ impl<'a> State<'a> {
             steps: Vec::new(alloc),
             values: Vec::new(alloc),
             rule: 0,
-            negative: false,
-            number: 0,
-            spelled: 0,
+            numeral: Numeral::new(),
+        }
+    }
+
+    // What stands against a byte that isn't a digit.
+    fn against_byte(&self, byte: u8) -> Option<RunKind>
+        ensures { result ≡ byte_fault (program_of self.now.program.now) (own_of self.now) byte }
+    {
+        match byte {
+            b'\n' if has_other_arity(self.program, self.phase, self.rule, self.values.len()) => {
+                Some(RunKind::ArityDiffers)
+            }
+            b's' if is_full(self.phase, self.steps.len()) => Some(RunKind::Limit),
+            _ => None,
         }
     }
 }
@@ -53,25 +78,30 @@ impl<'a> Text for State<'a> {
 
     ghost text_of = { λ s. runs_of (program_of s.program.now) };
 
-    ghost Knows = { λ s es. state_of s ≡ state es };
+    ghost Knows = { λ s es. state_of s ≡ state (fold_of (run_bytes (program_of s.program.now))) es };
 
     ghost Makes = { λ file r. run_of file ≡ r };
 
     fn class(&self, piece: u8) -> u32 {
-        class_of(piece)
+        class_of(&LETTERS, piece)
     }
 
     fn did(&mut self, mark: u32) -> Result<(), AllocError> {
         match mark {
+            NUMBER_BEGINS => self.numeral = Numeral::new(),
+            VALUE_READ => {
+                self.values.push(self.numeral.value())?;
+                self.numeral = Numeral::new();
+            }
+            NATURAL_READ => {
+                self.phase = Phase::InStep;
+                self.rule = self.numeral.number.min(u128::from(u32::MAX)) as u32;
+                self.numeral = Numeral::new();
+            }
             STARTED => self.phase = Phase::InStart,
-            VALUE_READ => self.values.push(signed(self.negative, self.number))?,
             START_READ => {
                 self.phase = Phase::InRule;
                 self.start = replace(&mut self.values, Vec::new(self.alloc));
-            }
-            RULE_READ => {
-                self.phase = Phase::InStep;
-                self.rule = self.number.min(u128::from(u32::MAX)) as u32;
             }
             STEP_READ => {
                 self.phase = Phase::InRule;
@@ -87,43 +117,32 @@ impl<'a> Text for State<'a> {
     }
 
     fn take(&mut self, piece: u8) -> Result<(), AllocError> {
-        if piece == b' ' {
-            self.negative = false;
-            self.number = 0;
-            self.spelled = 0;
-        } else if piece == b'-' {
-            self.negative = true;
-            self.spelled = self.spelled.saturating_add(1);
-        } else if piece.is_ascii_digit() {
-            self.number = one_digit_more(self.number, piece);
-            self.spelled = self.spelled.saturating_add(1);
-        } else {
-            self.spelled = 0;
-        }
+        self.numeral.take(piece);
         Ok(())
     }
 
     fn fault(&self, token: Token<u8>) -> Option<Fault<RunKind>>
-        ensures { (es : List (Event ℕ)) → state_of self.now ≡ state es
+        ensures { (es : List (Event ℕ))
+            → state_of self.now ≡ state (fold_of (run_bytes (program_of self.now.program.now))) es
             → fault_of result ≡ first_shown (runs_of (program_of self.now.program.now)) None
             ((runs_of (program_of self.now.program.now)).faults es (token_of token)) }
     {
         if token.piece.is_ascii_digit() {
-            let at = token.at.saturating_sub(self.spelled);
-            return fault_of_number(self.program, self.phase, self.number, token.piece, at);
+            let number = self.numeral.more(token.piece);
+            let at = self.numeral.begins_at(token.at);
+            return match against_number(self.program, self.phase, number) {
+                Some(kind) => Some(Fault { kind, at }),
+                None => None,
+            };
         }
-        let kind = match token.piece {
-            b'\n' if has_other_arity(self.program, self.phase, self.rule, self.values.len()) => {
-                RunKind::ArityDiffers
-            }
-            b's' if is_full(self.phase, self.steps.len()) => RunKind::Limit,
-            _ => return None,
-        };
-        Some(Fault { kind, at: token.at })
+        match self.against_byte(token.piece) {
+            Some(kind) => Some(Fault { kind, at: token.at }),
+            None => None,
+        }
     }
 
     fn floor(&self, at: u64) -> u64 {
-        at.saturating_sub(self.spelled)
+        self.numeral.begins_at(at)
     }
 
     fn number(&self, kind: RunKind) -> u32 {

@@ -1,10 +1,10 @@
 -- What columns that show a tableau say of its numbers.
-use Rattle.std.proofs.Common.{◌≡◌, ℕ, ◌+◌, ◌<◌, ◌≤◌, ◌^◌, ap, arith, refl, sym, ◌∙◌, subst, ◌⊎◌, inl, inr, List, [], ◌∷◌, Some, length, get_or, of_z}
+use Rattle.std.proofs.Common.{◌≡◌, ℕ, ◌<◌, ◌≤◌, ◌^◌, ap, arith, refl, sym, ◌∙◌, subst, ◌⊎◌, inl, inr, ◌≢◌, Bool, true, false, List, [], ◌∷◌, Some, length, get_or, of_z}
 use Rattle.std.specs.Prelude.{ℤ, pos, ◌-ℤ◌, ◌*ℤ◌, ◌<ℤ◌, int_lt, nat_eq, unsigned_abs, slice_get, FitsSigned}
 use Rattle.std.specs.Int.{w64}
 use Rattle.std.proofs.lemmas.Int.{ints}
 use Rattle.std.proofs.lemmas.Bool.{eqb-true, eq-eqb, cases_lt}
-use Rattle.std.proofs.lemmas.Option.{slice_get_read}
+use Rattle.std.proofs.lemmas.Option.{slice_get_read, slice_get_within, same_Some}
 use Rattle.int_laws.specs.NormalForm.{is_zero}
 use Rattle.int_laws.specs.Polynomial.{variable, constant, ◌⊖◌, ◌⊗◌}
 use Rattle.int_laws.proofs.Identities.{identity_by_two}
@@ -20,9 +20,11 @@ use Rattle.simplex_core.specs.Tableau.{Tableau, unknowns}
 use Rattle.simplex_core.specs.Positions.{InTable}
 use Rattle.simplex_core.specs.Outcome.{IsSmallRatio, IsInRange}
 use Rattle.simplex_core.specs.declared.column_table.ColumnTable.{ColumnTable}
-use Rattle.simplex_core.specs.ColumnTables.{ShowsColumns, IsCellOf, ClearsColumns, ClearsColumn}
+use Rattle.simplex_core.specs.ColumnTables.{ShowsColumns, IsCellOf, ClearsColumns, ClearsListed}
 use Rattle.simplex_core.proofs.FractionSizes.{lowest-least}
 use Rattle.simplex_core.proofs.Positions.{slice_get-there}
+use Rattle.simplex_core.specs.ColumnListing.{Contains}
+use Rattle.simplex_core.proofs.ColumnListings.{zero_or_other}
 use Rattle.simplex_core.proofs.Searches.{last_or_before}
 use Rattle.simplex_core.proofs.Choices.{int_lt-true, lt-int_lt}
 use Rattle.simplex_core.proofs.Signs.{same_test, products-show, is_zero-true}
@@ -125,19 +127,28 @@ cleared-none x r pivot shifted zero = record {
     same : (v w : ℤ) → v *ℤ pos 1 ≡ v *ℤ pos 1 -ℤ w *ℤ pos 0
     same v w = omega (arith, ints)
 
--- one more column is cleared
-pub clears-more : (a b d : ColumnTable) (r : ℕ) (pivot : ℤ) (shifted : List Cell) (m : ℕ) → ClearsColumns a b r pivot shifted m → ClearsColumn b d m r pivot shifted
-    → ClearsColumns a d r pivot shifted (m + 1)
-clears-more a b d r pivot shifted m all one = record {
-  rows = one.rows ∙ all.rows;
-  columns = one.columns ∙ all.columns;
-  basis = one.basis ∙ all.basis;
-  right = one.right ∙ all.right;
-  cleared = λ j x y l is_x is_y. go j x y is_x is_y (last_or_before m j (omega arith));
-  others = λ j l. one.others j (λ e. omega arith) ∙ all.others j (omega arith);
+-- where the columns with a mark are cleared, and each with a number in the row has one, all are
+pub marked-all : (a b : ColumnTable) (r : ℕ) (pivot : ℤ) (shifted : List Cell) (listed : List ℕ) (marks : List Bool) → ClearsListed a b r pivot shifted listed (length listed) marks
+    → ((j : ℕ) (x : Column) → slice_get a.columns.items j ≡ Some x → numerator x r ≢ pos 0 → Contains listed j) → ClearsColumns a b r pivot shifted
+marked-all a b r pivot shifted listed marks all covers = record {
+  rows = all.rows;
+  columns = all.columns;
+  basis = all.basis;
+  right = all.right;
+  lists = all.lists;
+  cleared = λ j x y is_x is_y.
+      let mark = slice_get-there marks j (let within = slice_get_within a.columns.items j x is_x in let size = all.marked.length_is in omega (arith, within, size)) in
+      go j x y is_x is_y mark.0 mark.1 (zero_or_other (numerator x r));
 }
   where
-    go : (j : ℕ) (x y : Column) → slice_get a.columns.items j ≡ Some x → slice_get d.columns.items j ≡ Some y → (j ≡ m) ⊎ (j < m) → IsCleared x y r pivot shifted
-    go j x y is_x is_y (inl e) =
-        one.cleared x y (all.others m (omega arith) ∙ (ap (λ (k : ℕ). slice_get a.columns.items k) (sym e) ∙ is_x)) (ap (λ (k : ℕ). slice_get d.columns.items k) (sym e) ∙ is_y)
-    go j x y is_x is_y (inr l) = all.cleared j x y l is_x (sym (one.others j (λ e. omega arith)) ∙ is_y)
+    go : (j : ℕ) (x y : Column) → slice_get a.columns.items j ≡ Some x → slice_get b.columns.items j ≡ Some y → (mark : Bool) → slice_get marks j ≡ Some mark
+        → (numerator x r ≡ pos 0) ⊎ (numerator x r ≢ pos 0) → IsCleared x y r pivot shifted
+    go j x y is_x is_y true mark z = all.marked.cleared j x y mark is_x is_y
+    go j x y is_x is_y false mark (inl e) =
+        let same : x ≡ y = same_Some x y (sym is_x ∙ (sym (all.marked.others j (λ h. let wrong : Some false ≡ Some true = sym mark ∙ h in cc)) ∙ is_y)) in
+        subst (λ (w : Column). IsCleared x w r pivot shifted) same (cleared-none x r pivot shifted e)
+    go j x y is_x is_y false mark (inr d) =
+        let named = covers j x is_x d in
+        let told = all.marked.marked named.at j (slice_get_within listed named.at j named.is) named.is (slice_get_within a.columns.items j x is_x) in
+        let wrong : Some false ≡ Some true = sym mark ∙ told in
+        absurd (let other : false ≡ true = same_Some false true wrong in cc)

@@ -1,0 +1,5 @@
+use Rattle.bound_rounds.proofs.WorkedAnswers.{answers_told, right_sizes, missing_told}
+use Rattle.bound_rounds.proofs.answers_are_as_worked_out.Goals as goal
+
+pub returns : goal.returns
+returns c = record { answers = answers_told; sizes = right_sizes; missing = missing_told }
