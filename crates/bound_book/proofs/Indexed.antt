@@ -11,6 +11,7 @@ use Rattle.model.proofs.Membership.{slice_get-below}
 use Rattle.bound_expr.specs.Views.{bound_of}
 use Rattle.bound_rounds.specs.Keys.{IsPlace, has_key}
 use Rattle.bound_rounds.specs.Finds as plain
+use Rattle.bound_rounds.specs.Laws.{missing}
 use Rattle.bound_rounds.proofs.Cases.{told, true_false}
 use Rattle.bound_rounds.proofs.FindLists.{bounds_of-append, bounds_of-new, first_of-missing, found-here, found-later}
 use Rattle.bound_rounds.proofs.Keys.{has_key-all}
@@ -24,6 +25,7 @@ use Rattle.bound_book.specs.ByKey.{bounds_in, number_at, rows_of, is_free, IsWri
 use Rattle.bound_book.specs.Books.{HasKeys, IsBook, IsKey, AreOpen}
 use Rattle.bound_book.specs.Views.{find_of, finds_of}
 use Rattle.bound_book.proofs.Entries.{free_within}
+use Rattle.bound_book.proofs.Room.{find_falls}
 
 -- where no bound is stored, nothing is
 pub unstored : (o : Option Stored) → bound_stored o ≡ None → o ≡ None
@@ -176,18 +178,33 @@ numbers_taken p old new finds g book open_keys written t i = told (has_key g.key
         ∙ (first_fails (has_key g.keys (suc t) i) (is_free old (suc t) i) (length finds + 1) (number_at old (suc t) i) m
         ∙ (book.numbers (suc t) i ∙ sym (number-other 0 (finds_of finds) g (suc t) i m)))
 
+-- what is written at keys, with a number, is written at the same keys with the same number
+written_same : (old new : Table) (xs ys : List Spot) (b : Bound) (m n : ℕ) → xs ≡ ys → m ≡ n
+    → IsWritten old xs b m new → IsWritten old ys b n new
+written_same old new xs ys b m n e f h =
+    subst (λ (ks : List Spot). IsWritten old ks b n new) e (subst (λ (k : ℕ). IsWritten old xs b k new) f h)
+
 -- a find whose keys were open is taken where its bound is written at them with its number
-pub taken : (p : Program) (old new : Table) (finds whole : List Find) (f : Find) → whole ≡ finds ++ f ∷ []
-    → length finds + 1 < 2 ^ 32 - 1 → IsWritten old (find_of f).keys (find_of f).bound (length finds + 1) new
-    → IsBook p old finds → AreOpen p (finds_of finds) (find_of f).keys → IsBook p new whole
-taken p old new finds whole f is few written book open_keys = record {
+pub taken : (p : Program) (old new : Table) (finds whole : List Find) (f : Find) (keys : List Spot) (n : ℕ)
+    → whole ≡ finds ++ f ∷ [] → keys ≡ (find_of f).keys → n ≡ length finds + 1
+    → IsWritten old keys (find_of f).bound n new → IsBook p old finds → AreOpen p (finds_of finds) (find_of f).keys
+    → IsBook p new whole
+taken p old new finds whole f keys n is same number wrote book open_keys = record {
   bounds = λ t i. bounds_taken p old new finds (find_of f) (length finds + 1) book open_keys written t i
       ∙ ap (λ (fs : List plain.Find). plain.bounds_of p fs t i) (sym seen);
   numbers = λ t i. numbers_taken p old new finds (find_of f) book open_keys written t i
       ∙ ap (λ (fs : List plain.Find). plain.number_in fs t i) (sym seen);
   keys = record { times = written.times ∙ book.keys.times; rows = written.rows ∙ book.keys.rows };
-  few = let long = ap length is ∙ length-append finds (f ∷ []) in omega (arith, long, few);
+  few =
+      let long = ap length is ∙ length-append finds (f ∷ []) in
+      let less = find_falls p (finds_of finds) (find_of f) open_keys in
+      let same = ap (λ (fs : List plain.Find). missing p (plain.bounds_of p fs)) seen in
+      let few = book.few in
+      omega (arith, long, less, same, few);
 }
   where
+    written : IsWritten old (find_of f).keys (find_of f).bound (length finds + 1) new
+    written = written_same old new keys (find_of f).keys (find_of f).bound n (length finds + 1) same number wrote
+
     seen : finds_of whole ≡ finds_of finds ++ find_of f ∷ []
     seen = ap finds_of is ∙ map-append find_of finds (f ∷ [])

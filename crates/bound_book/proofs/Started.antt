@@ -8,6 +8,7 @@ use Rattle.std.proofs.lemmas.List.{length-map, length-replicate, map-append}
 use Rattle.std.proofs.lemmas.List.FromFn.{length-range_with_len}
 use Rattle.model.specs.Bounds.{Bound, Constant, Input}
 use Rattle.model.specs.Programs.{Program, Rule, arity_of}
+use Rattle.its_model.specs.Valid.{IsValid}
 use Rattle.bound_rounds.proofs.Cases.{told}
 use Rattle.bound_rounds.specs.Keys.{start_bounds, start_size}
 use Rattle.bound_rounds.specs.Finds as plain
@@ -18,6 +19,7 @@ use Rattle.bound_book.specs.declared.find.Find.{Find}
 use Rattle.bound_book.specs.Books.{HasKeys, IsBook}
 use Rattle.bound_book.specs.ByKey.{bounds_in, number_at, rows_of, stored_in}
 use Rattle.bound_book.specs.Views.{finds_of}
+use Rattle.bound_book.proofs.Room.{missing_few}
 use Rattle.bound_book.specs.Starting.{start_row, empty_rows, IsStartRow, AreStartTimes, AreFirstRows, AreStartSizes}
 
 -- one of the same more
@@ -144,9 +146,9 @@ start_long n os h =
     ∙ (ap length h.bounds ∙ (length-map (range_with_len 0 n) (λ i. Some (Input i)) ∙ length-range_with_len 0 n))
 
 -- the table before anything is found is the index of no finds
-pub started : (p : Program) (tab : Table) (finds : List Find) → AreStartTimes (length p.rules) tab.times.items
-    → AreStartSizes p (rows_of tab) → finds ≡ [] → IsBook p tab finds
-started p tab finds times sizes none = record {
+pub started : (p : Program) (tab : Table) (finds : List Find) → IsValid p
+    → AreStartTimes (length p.rules) tab.times.items → AreStartSizes p (rows_of tab) → finds ≡ [] → IsBook p tab finds
+started p tab finds valid times sizes none = record {
   bounds = λ t i. bounds t i ∙ (first t i ∙ ap (λ (fs : List Find). plain.bounds_of p (finds_of fs) t i) (sym none));
   numbers = λ t i. numbers t i ∙ (zeros t i ∙ ap (λ (fs : List Find). plain.number_in (finds_of fs) t i) (sym none));
   keys = record {
@@ -156,7 +158,10 @@ started p tab finds times sizes none = record {
         (start_long (arity_of p p.start) sizes.first sizes.row)
         ∙ ap (λ (ns : List ℕ). arity_of p p.start ∷ ns) (rows_long p p.rules));
   };
-  few = let long = ap length none in omega (arith, long);
+  few =
+      let long = ap length none in
+      let few = missing_few p valid (plain.bounds_of p (finds_of finds)) in
+      omega (arith, long, few);
 }
   where
     time_at : (t : ℕ) → stored_in tab t 0 ≡ entry_at (times.first ∷ replicate (length p.rules) None) t
@@ -174,7 +179,10 @@ started p tab finds times sizes none = record {
     bounds zero (suc i) =
         ap bound_stored (size_at 0 i)
         ∙ (bound_at sizes.first i
-        ∙ (ap (λ (os : List (Option Bound)). entry_at os i) sizes.row.bounds ∙ argument_at 0 (arity_of p p.start) i))
+        ∙ (ap (λ (os : List (Option Bound)). entry_at os i) sizes.row.bounds
+        ∙ (argument_at 0 (arity_of p p.start) i
+        ∙ ap (λ (j : ℕ). cond (nat_lt i (arity_of p p.start)) (Some (Input j)) None)
+        (let same : 0 + i ≡ i = omega arith in same))))
     bounds (suc t) i = ap bound_stored (rule_at_none t i)
 
     alone : (o : Option Bound) → o ≡ plain.first_of o None

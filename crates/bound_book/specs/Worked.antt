@@ -23,15 +23,15 @@ pub record TablesAreReadByKey : Type 0 where
 
 -- a value is written where there is room for it and nothing stands, and not elsewhere
 pub record ValuesArePutByKey : Type 0 where
-  pub time : put_time (None ∷ None ∷ []) 1 0 7 ≡ None ∷ Some 7 ∷ []
-  pub no_time : put_time (None ∷ None ∷ []) 1 1 7 ≡ None ∷ None ∷ []
-  pub size : put_place ([] ∷ (None ∷ None ∷ []) ∷ []) 1 2 7 ≡ [] ∷ (None ∷ Some 7 ∷ []) ∷ []
-  pub no_size : put_place ([] ∷ (None ∷ None ∷ []) ∷ []) 1 0 7 ≡ [] ∷ (None ∷ None ∷ []) ∷ []
-  pub past : put_place ([] ∷ (None ∷ None ∷ []) ∷ []) 1 3 7 ≡ [] ∷ (None ∷ None ∷ []) ∷ []
-  pub kept : put_time (Some 5 ∷ []) 0 0 7 ≡ Some 5 ∷ []
-  pub free : is_free_at (Some 5 ∷ None ∷ []) 1 ≡ true
-  pub filled : is_free_at (Some 5 ∷ None ∷ []) 0 ≡ false
-  pub beyond : is_free_at (Some 5 ∷ None ∷ []) 2 ≡ false
+  pub time : put_time {A = ℕ} (None ∷ None ∷ []) 1 0 7 ≡ None ∷ Some 7 ∷ []
+  pub no_time : put_time {A = ℕ} (None ∷ None ∷ []) 1 1 7 ≡ None ∷ None ∷ []
+  pub size : put_place {A = ℕ} ([] ∷ (None ∷ None ∷ []) ∷ []) 1 2 7 ≡ [] ∷ (None ∷ Some 7 ∷ []) ∷ []
+  pub no_size : put_place {A = ℕ} ([] ∷ (None ∷ None ∷ []) ∷ []) 1 0 7 ≡ [] ∷ (None ∷ None ∷ []) ∷ []
+  pub past : put_place {A = ℕ} ([] ∷ (None ∷ None ∷ []) ∷ []) 1 3 7 ≡ [] ∷ (None ∷ None ∷ []) ∷ []
+  pub kept : put_time {A = ℕ} (Some 5 ∷ []) 0 0 7 ≡ Some 5 ∷ []
+  pub free : is_free_at {A = ℕ} (Some 5 ∷ None ∷ []) 1 ≡ true
+  pub filled : is_free_at {A = ℕ} (Some 5 ∷ None ∷ []) 0 ≡ false
+  pub beyond : is_free_at {A = ℕ} (Some 5 ∷ None ∷ []) 2 ≡ false
 
 -- the table of one find has its bound at its key, with the number 1 and no other
 pub record BooksHaveTheirFinds : Type 0 where

@@ -52,7 +52,7 @@ impl Book {
             → AreOpen p (finds_of self.old.finds.items) (map spot_of keys.items)
             → IsBook p self.new.table self.new.finds.items) }
     {
-        let number = self.finds.len() as u32 + 1;
+        let number = self.next_number();
         put_each(alloc, &mut self.table, &keys, &bound, number)?;
         self.finds.push(Find {
             keys,
@@ -61,5 +61,13 @@ impl Book {
             bound,
         })?;
         Ok(())
+    }
+
+    // The number of the lemma of what is found next.
+    fn next_number(&self) -> u32
+        requires few { length self.now.finds.items + 1 < 2 ^ 32 - 1 }
+        ensures { result ≡ length self.now.finds.items + 1 }
+    {
+        self.finds.len() as u32 + 1
     }
 }

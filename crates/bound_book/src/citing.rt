@@ -26,10 +26,17 @@ use std::alloc::Global;
 ///
 /// `Memory` where an allocation fails.
 pub fn lemmas(alloc: Global, table: &Table, finds: Vec<Find>) -> Result<Vec<Proof>, Memory>
-    ensures by_table { IfOk result (λ lemmas. map proof_of lemmas.items
-        ≡ map (λ f. lemma_by (number_at table.now) f.node f.needs) (finds_of finds.items)) }
-    ensures by_finds { IfOk result (λ lemmas. (p : Program) → IsBook p table.now finds.items
+    ensures { IfOk result (λ lemmas. (p : Program) → IsBook p table.now finds.items
         → map proof_of lemmas.items ≡ lemmas_of (finds_of finds.items)) }
+{
+    let lemmas = lemmas_by_numbers(alloc, table, finds)?;
+    Ok(lemmas)
+}
+
+// A lemma for each find, in order, which rests on the lemmas of the numbers of a table.
+fn lemmas_by_numbers(alloc: Global, table: &Table, finds: Vec<Find>) -> Result<Vec<Proof>, Memory>
+    ensures { IfOk result (λ lemmas. map proof_of lemmas.items
+        ≡ map (λ f. lemma_by (number_at table.now) f.node f.needs) (finds_of finds.items)) }
 {
     let mut lemmas = Vec::new(alloc);
     for find in finds {

@@ -1,5 +1,5 @@
-use Rattle.std.proofs.Common.{map, subst}
-use Rattle.bound_expr.specs.Views.{bound_of}
+use Rattle.std.proofs.Common.{map, ap}
+use Rattle.proof_tree.specs.Views.{spot_of}
 use Rattle.bound_book.proofs.Indexed.{taken}
 use Rattle.bound_book.proofs.book.Book.take.Goals as goal
 
@@ -10,4 +10,5 @@ returns-clause-book c = λ p book keys.
       node = c.args.node;
       needs = c.args.needs;
       bound = c.args.bound;
-    } c.in_ok-push.ensures.items c.requires.few (let written = c.in_ok-put_each.ensures in search) book keys
+    } _ _ c.in_ok-push.ensures.items (ap (map spot_of) c.deref.ensures.value) c.next_number-number.ensures
+    c.in_ok-put_each.ensures book keys

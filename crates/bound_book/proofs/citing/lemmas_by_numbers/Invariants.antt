@@ -3,7 +3,7 @@ use Rattle.bound_rounds.specs.Needs.{lemma_by}
 use Rattle.proof_tree.specs.Views.{proof_of}
 use Rattle.bound_book.specs.ByKey.{number_at}
 use Rattle.bound_book.specs.Views.{finds_of}
-use Rattle.bound_book.proofs.citing.lemmas.Given as goal
+use Rattle.bound_book.proofs.citing.lemmas_by_numbers.Given as goal
 
 abbrev pub invariant-loop-find : goal.invariant-loop-find
 invariant-loop-find l =
