@@ -13,7 +13,7 @@ use Rattle.rule_questions.specs.proof_nodes.Acceptance.{facts_of_lemma, joined_f
 use Rattle.rule_questions.specs.proof_nodes.Setting.{Setting}
 use Rattle.bound_rounds.specs.Needs.{once, cites, uses_from}
 use Rattle.bound_rounds.proofs.Cases.{either}
-use Rattle.bound_rounds.proofs.Contained.{contains-left, contains-right}
+use Rattle.bound_rounds.proofs.ListMembers.{contains-left, contains-right}
 use Rattle.bound_rounds.proofs.FactLists.{IsNumbered}
 
 -- a number that isn't 0 passes the test for that, and no other does

@@ -11,7 +11,7 @@ use Rattle.rule_questions.specs.proof_nodes.Known.{time_in, size_in, is_zero_bou
 use Rattle.rule_questions.specs.proof_nodes.Acceptance.{facts_of_lemma}
 use Rattle.bound_rounds.specs.Keys.{Bounds, place_fact, size_by}
 use Rattle.bound_rounds.proofs.Cases.{told, none_some}
-use Rattle.bound_rounds.proofs.Contained.{contains-cases, contains-none}
+use Rattle.bound_rounds.proofs.ListMembers.{contains-cases, contains-none}
 
 -- the fact is that of a known bound, of a time or of a size
 abbrev pub IsFactOf : Bounds → Fact → Type 0

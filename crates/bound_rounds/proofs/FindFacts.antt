@@ -7,9 +7,9 @@ use Rattle.rule_questions.specs.model.Facts.{Fact, Time}
 use Rattle.rule_questions.specs.proof_nodes.Nodes.{Spot}
 use Rattle.rule_questions.specs.proof_nodes.Acceptance.{facts_of_lemma}
 use Rattle.bound_rounds.specs.Keys.{key, time_key, has_key, place_fact, fact_at}
-use Rattle.bound_rounds.specs.Finds.{Find, found, number_from, facts_of_find}
+use Rattle.bound_rounds.specs.Finds.{Find, bound_found, number_from, facts_of_find}
 use Rattle.bound_rounds.proofs.Cases.{told, none_some, some_same}
-use Rattle.bound_rounds.proofs.Contained.{contains-first, contains-later, contains-map}
+use Rattle.bound_rounds.proofs.ListMembers.{contains-first, contains-later, contains-map}
 use Rattle.bound_rounds.proofs.Keys.{has_key-contained}
 use Rattle.bound_rounds.proofs.FindLists.{found-here, found-later}
 
@@ -38,7 +38,7 @@ pub record IsAtNumber (n : ℕ) (fs : List Find) (t i : ℕ) (c : Bound) (m : �
   pub lemma : facts_of_lemma (facts_of_finds fs) (suc place) ≡ facts_of_find find
 
 -- a key that is found has the number of a find which has it
-pub at_number : (n : ℕ) (fs : List Find) (t i : ℕ) (c : Bound) → found fs t i ≡ Some c
+pub at_number : (n : ℕ) (fs : List Find) (t i : ℕ) (c : Bound) → bound_found fs t i ≡ Some c
     → IsAtNumber n fs t i c (number_from n fs t i)
 at_number n [] t i c e = absurd (none_some c e)
 at_number n (f ∷ fs) t i c e =
@@ -68,7 +68,7 @@ at_number n (f ∷ fs) t i c e =
     }
 
 -- the lemma with the number of a key that is found states all that a find which has it does
-pub found_lemma : (fs : List Find) (t i : ℕ) (c : Bound) → found fs t i ≡ Some c
+pub found_lemma : (fs : List Find) (t i : ℕ) (c : Bound) → bound_found fs t i ≡ Some c
     → (f : Find) × Contains fs f × (has_key f.keys t i ≡ true) × (f.bound ≡ c)
     × (facts_of_lemma (facts_of_finds fs) (number_from 0 fs t i) ≡ facts_of_find f)
 found_lemma fs t i c e =

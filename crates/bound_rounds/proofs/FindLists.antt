@@ -6,9 +6,9 @@ use Rattle.std.specs.List.{Contains}
 use Rattle.rule_questions.specs.model.Programs.{Program}
 use Rattle.rule_questions.specs.model.Bounds.{Bound}
 use Rattle.bound_rounds.specs.Keys.{has_key, start_bounds}
-use Rattle.bound_rounds.specs.Finds.{Find, found, first_of, bounds_of, number_from, number_in}
+use Rattle.bound_rounds.specs.Finds.{Find, bound_found, first_of, bounds_of, number_from, number_in}
 use Rattle.bound_rounds.proofs.Cases.{told, none_some, some_same}
-use Rattle.bound_rounds.proofs.Contained.{contains-first, contains-later}
+use Rattle.bound_rounds.proofs.ListMembers.{contains-first, contains-later}
 
 -- of two bounds the first counts, where there is one
 pub first_of-some : (x y : Option Bound) (b : Bound) → x ≡ Some b → first_of x y ≡ Some b
@@ -37,56 +37,59 @@ first_of-assoc None y z = refl
 first_of-assoc (Some a) y z = refl
 
 -- what is found of a key in joined lists is what is found in the first, or else in the second
-pub found-append : (fs gs : List Find) (t i : ℕ) → found (fs ++ gs) t i ≡ first_of (found fs t i) (found gs t i)
+pub found-append : (fs gs : List Find) (t i : ℕ)
+    → bound_found (fs ++ gs) t i ≡ first_of (bound_found fs t i) (bound_found gs t i)
 found-append [] gs t i = refl
 found-append (f ∷ fs) gs t i = go (has_key f.keys t i) refl (found-append fs gs t i)
   where
-    go : (v : Bool) → has_key f.keys t i ≡ v → found (fs ++ gs) t i ≡ first_of (found fs t i) (found gs t i)
-        → found (f ∷ fs ++ gs) t i ≡ first_of (found (f ∷ fs) t i) (found gs t i)
+    go : (v : Bool) → has_key f.keys t i ≡ v
+        → bound_found (fs ++ gs) t i ≡ first_of (bound_found fs t i) (bound_found gs t i)
+        → bound_found (f ∷ fs ++ gs) t i ≡ first_of (bound_found (f ∷ fs) t i) (bound_found gs t i)
     go true e ih = rw e refl
     go false e ih = rw e ih
 
 -- what is known with joined lists is what is known with the first, or else what is found in the second
 pub bounds_of-append : (p : Program) (fs gs : List Find) (t i : ℕ)
-    → bounds_of p (fs ++ gs) t i ≡ first_of (bounds_of p fs t i) (found gs t i)
+    → bounds_of p (fs ++ gs) t i ≡ first_of (bounds_of p fs t i) (bound_found gs t i)
 bounds_of-append p fs gs t i =
     ap (λ (o : Option Bound). first_of (start_bounds p t i) o) (found-append fs gs t i)
-    ∙ first_of-assoc (start_bounds p t i) (found fs t i) (found gs t i)
+    ∙ first_of-assoc (start_bounds p t i) (bound_found fs t i) (bound_found gs t i)
 
 -- a known bound stays when finds are added
 pub bounds_of-kept : (p : Program) (fs gs : List Find) (t i : ℕ) (b : Bound) → bounds_of p fs t i ≡ Some b
     → bounds_of p (fs ++ gs) t i ≡ Some b
 bounds_of-kept p fs gs t i b e =
-    bounds_of-append p fs gs t i ∙ first_of-some (bounds_of p fs t i) (found gs t i) b e
+    bounds_of-append p fs gs t i ∙ first_of-some (bounds_of p fs t i) (bound_found gs t i) b e
 
 -- of a key that isn't known, what added finds say is known
 pub bounds_of-new : (p : Program) (fs gs : List Find) (t i : ℕ) → bounds_of p fs t i ≡ None
-    → bounds_of p (fs ++ gs) t i ≡ found gs t i
+    → bounds_of p (fs ++ gs) t i ≡ bound_found gs t i
 bounds_of-new p fs gs t i e =
-    bounds_of-append p fs gs t i ∙ first_of-none (bounds_of p fs t i) (found gs t i) e
+    bounds_of-append p fs gs t i ∙ first_of-none (bounds_of p fs t i) (bound_found gs t i) e
 
 -- where a bound is missing with joined lists, it is missing with the first, and isn't found in the second
 pub bounds_of-missing : (p : Program) (fs gs : List Find) (t i : ℕ) → bounds_of p (fs ++ gs) t i ≡ None
-    → (bounds_of p fs t i ≡ None) × (found gs t i ≡ None)
+    → (bounds_of p fs t i ≡ None) × (bound_found gs t i ≡ None)
 bounds_of-missing p fs gs t i e =
-    first_of-missing (bounds_of p fs t i) (found gs t i) (sym (bounds_of-append p fs gs t i) ∙ e)
+    first_of-missing (bounds_of p fs t i) (bound_found gs t i) (sym (bounds_of-append p fs gs t i) ∙ e)
 
 -- what the first find says of its keys counts
-pub found-here : (f : Find) (fs : List Find) (t i : ℕ) → has_key f.keys t i ≡ true → found (f ∷ fs) t i ≡ Some f.bound
+pub found-here : (f : Find) (fs : List Find) (t i : ℕ) → has_key f.keys t i ≡ true
+    → bound_found (f ∷ fs) t i ≡ Some f.bound
 found-here f fs t i e = rw e refl
 
 -- where it hasn't the key, what the others say counts
 pub found-later : (f : Find) (fs : List Find) (t i : ℕ) → has_key f.keys t i ≡ false
-    → found (f ∷ fs) t i ≡ found fs t i
+    → bound_found (f ∷ fs) t i ≡ bound_found fs t i
 found-later f fs t i e = rw e refl
 
 -- a bound that is found is that of a find which has the key
-pub found-find : (fs : List Find) (t i : ℕ) (b : Bound) → found fs t i ≡ Some b
+pub found-find : (fs : List Find) (t i : ℕ) (b : Bound) → bound_found fs t i ≡ Some b
     → (f : Find) × Contains fs f × (has_key f.keys t i ≡ true) × (f.bound ≡ b)
 found-find [] t i b e = absurd (none_some b e)
 found-find (f ∷ fs) t i b e = told (has_key f.keys t i) here (λ m. later (found-find fs t i b (skipped m)))
   where
-    skipped : has_key f.keys t i ≡ false → found fs t i ≡ Some b
+    skipped : has_key f.keys t i ≡ false → bound_found fs t i ≡ Some b
     skipped m = sym (found-later f fs t i m) ∙ e
 
     here : has_key f.keys t i ≡ true → (g : Find) × Contains (f ∷ fs) g × (has_key g.keys t i ≡ true) × (g.bound ≡ b)
@@ -97,7 +100,7 @@ found-find (f ∷ fs) t i b e = told (has_key f.keys t i) here (λ m. later (fou
     later rest = (rest.0, contains-later rest.0 f fs rest.1, rest.2, rest.3)
 
 -- the number of a key that is found stays when finds are added
-pub number_from-kept : (n : ℕ) (fs gs : List Find) (t i : ℕ) (b : Bound) → found fs t i ≡ Some b
+pub number_from-kept : (n : ℕ) (fs gs : List Find) (t i : ℕ) (b : Bound) → bound_found fs t i ≡ Some b
     → number_from n (fs ++ gs) t i ≡ number_from n fs t i
 number_from-kept n [] gs t i b e = absurd (none_some b e)
 number_from-kept n (f ∷ fs) gs t i b e =
@@ -112,7 +115,7 @@ number_from-kept n (f ∷ fs) gs t i b e =
     later m ih = rw m ih
 
 -- and so does that of its lemma
-pub number_in-kept : (fs gs : List Find) (t i : ℕ) (b : Bound) → found fs t i ≡ Some b
+pub number_in-kept : (fs gs : List Find) (t i : ℕ) (b : Bound) → bound_found fs t i ≡ Some b
     → number_in (fs ++ gs) t i ≡ number_in fs t i
 number_in-kept fs gs zero i b e = refl
 number_in-kept fs gs (suc t) i b e = number_from-kept 0 fs gs (suc t) i b e

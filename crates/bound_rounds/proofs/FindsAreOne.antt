@@ -1,21 +1,18 @@
 -- Where answers are one, so is the last list of finds, and so is the reason of each bound that is missing.
-use Rattle.std.proofs.Common.{◌≡◌, ◌⊎◌, inl, inr, ℕ, zero, suc, ◌==◌, ◌&&◌, ◌||◌, Bool, true, false, List, [], ◌∷◌, ◌++◌}
-use Rattle.std.proofs.Common.{refl, sym, ◌∙◌}
-use Rattle.std.proofs.Common.{ap, subst, arith}
-use Rattle.std.proofs.lemmas.Bool.{and_parts}
-use Rattle.rule_questions.proofs.model.Membership.{told_same, no_is_not_yes}
+use Rattle.std.proofs.Common.{◌≡◌, ◌⊎◌, inl, inr, ℕ, zero, suc, true, List, [], ◌∷◌, ◌++◌, refl, sym, ◌∙◌, ap}
+use Rattle.std.proofs.Common.{subst, arith}
 use Rattle.rule_questions.specs.proof_nodes.Nodes.{Spot}
 use Rattle.rule_questions.specs.proof_nodes.Setting.{Setting}
-use Rattle.bound_rounds.specs.Keys.{has_key, time_key}
+use Rattle.bound_rounds.specs.Keys.{has_key}
 use Rattle.bound_rounds.specs.Finds.{Find, bounds_of}
 use Rattle.bound_rounds.specs.Searches.{Searches, Answers, searches_of, NoBound}
-use Rattle.bound_rounds.specs.Answers.{Target, TimeOf, SizesOf, keys_asked, Lacks, Tells}
-use Rattle.bound_rounds.specs.Components.{AreComponentsOf, AreApart, IsOneOf}
+use Rattle.bound_rounds.specs.Answers.{Target, TimeOf, SizesOf, Lacks, Tells}
+use Rattle.bound_rounds.specs.Components.{AreApart, IsOneOf}
 use Rattle.bound_rounds.specs.Beginning.{AreFirst}
-use Rattle.bound_rounds.specs.Rounds.{IsRound, IsMade, Begun, Made, IsLast, IsTarget, IsNoBound}
+use Rattle.bound_rounds.specs.Rounds.{IsRound, IsMade, Begun, Made, IsLast, IsAskedFor, IsNoBound}
 use Rattle.bound_rounds.specs.Right.{AreOne}
 use Rattle.bound_rounds.specs.Laws.{LastFindsAreOne}
-use Rattle.bound_rounds.proofs.WholeFinds.{member_covered}
+use Rattle.bound_rounds.proofs.UniformComponents.{member_covered}
 use Rattle.bound_rounds.proofs.FirstIsOne.{first_one}
 use Rattle.bound_rounds.proofs.RoundIsOne.{tells_one, round_one}
 use Rattle.bound_rounds.proofs.LastIsOne.{IsAfter, after_last, last_after_one}
@@ -44,16 +41,6 @@ component_one (x ∷ cs) apart c d t i (inl e) m (inr k) n =
 component_one (x ∷ cs) apart c d t i (inr h) m (inl f) n =
     absurd (apart.0 t i (subst (λ (y : List Spot). has_key y t i ≡ true) (sym f) n) (member_covered cs c t i h m))
 component_one (x ∷ cs) apart c d t i (inr h) m (inr k) n = component_one cs apart.1 c d t i h m k n
-
--- the key of a time is at place 0
-pub time_has : (u t i : ℕ) → has_key (time_key u ∷ []) t i ≡ true → (u ≡ t) × (i ≡ 0)
-time_has u t i h = go ((u == t) && (0 == i)) refl h
-  where
-    go : (v : Bool) → ((u == t) && (0 == i)) ≡ v → (v || false) ≡ true → (u ≡ t) × (i ≡ 0)
-    go true e k =
-        let parts = and_parts (u == t) (0 == i) e in
-        (told_same u t parts.0, sym (told_same 0 i parts.1))
-    go false e k = absurd (no_is_not_yes false refl k)
 
 lacks_one : (v w : NoBound) → Lacks v ≡ Lacks w → v ≡ w
 lacks_one v w e = cc
@@ -99,42 +86,49 @@ module _ (q : Searches) (one : AreOne q) (s : Setting) where
       last_after_one (AreFirst q s.program) Follows begin_one next_one a.0 b.0 x y a.1
       ([], h.closed, sym (append-none x)) b.1 ([], k.closed, sym (append-none y))
 
-  module _ (cs : List (List Spot)) (are : q.AreComponents cs) (of : AreComponentsOf q s.program cs) where
-    -- a place of a component isn't that of a time
-    not_a_time : (keys : List Spot) (t i : ℕ) → IsOneOf cs keys → has_key keys t i ≡ true → i ≡ 0 → ⊥
-    not_a_time keys t i is m e =
-        let least = ((of.live t i).0 (member_covered cs keys t i is m)).2.least in omega (arith, least, e)
+  -- where a key is asked for in one way, the reason why its bound is missing is one
+  reason_by : (fs : List Find) (t i : ℕ) → ((x y : Target) → IsAskedFor q s t i x → IsAskedFor q s t i y → x ≡ y)
+      → (v w : NoBound) → IsNoBound q s fs t i v → IsNoBound q s fs t i w → v ≡ w
+  reason_by fs t i target v w h k =
+      let same = target h.target k.target h.asked k.asked in
+      lacks_one v w (tells_one q one s (bounds_of s.program fs) k.target (Lacks v) (Lacks w)
+      (subst (λ (g : Target). Tells q s (bounds_of s.program fs) g (Lacks v)) same h.tells) k.tells)
 
+  -- a time is asked for in one way
+  one_time : (t : ℕ) (x y : Target) → IsAskedFor q s t 0 x → IsAskedFor q s t 0 y → x ≡ y
+  one_time t (TimeOf u) (TimeOf w) a b = ap (λ (v : ℕ). TimeOf v) (a.1 ∙ sym b.1)
+  one_time t (TimeOf u) (SizesOf keys) a b = absurd b
+  one_time t (SizesOf keys) y a b = absurd a
+
+  -- so it has one reason
+  pub time_reason : (fs : List Find) (t : ℕ) (v w : NoBound) → IsNoBound q s fs t 0 v → IsNoBound q s fs t 0 w
+      → v ≡ w
+  time_reason fs t v w h k = reason_by fs t 0 (one_time t) v w h k
+
+  module _ (cs : List (List Spot)) (are : q.AreComponents cs) (apart : AreApart cs) where
     -- a component of the searches is one of these
-    of_these : (keys : List Spot) → IsTarget q s (SizesOf keys) → IsOneOf cs keys
-    of_these keys h =
-        subst (λ (ds : List (List Spot)). IsOneOf ds keys) (one.components h.0 cs h.1 are) h.2
+    of_these : (ds : List (List Spot)) (keys : List Spot) → q.AreComponents ds → IsOneOf ds keys → IsOneOf cs keys
+    of_these ds keys h is = subst (λ (es : List (List Spot)). IsOneOf es keys) (one.components ds cs h are) is
 
-    -- a key is asked for in one way
-    target_one : (x y : Target) (t i : ℕ) → IsTarget q s x → IsTarget q s y → has_key (keys_asked x) t i ≡ true
-        → has_key (keys_asked y) t i ≡ true → x ≡ y
-    target_one (TimeOf u) (TimeOf w) t i a b m n =
-        ap (λ (v : ℕ). TimeOf v) ((time_has u t i m).0 ∙ sym (time_has w t i n).0)
-    target_one (TimeOf u) (SizesOf keys) t i a b m n =
-        absurd (not_a_time keys t i (of_these keys b) n (time_has u t i m).1)
-    target_one (SizesOf keys) (TimeOf w) t i a b m n =
-        absurd (not_a_time keys t i (of_these keys a) m (time_has w t i n).1)
-    target_one (SizesOf keys) (SizesOf others) t i a b m n =
+    -- where no place is a member of two components, a key is asked for in one way
+    one_target : (t i : ℕ) (x y : Target) → IsAskedFor q s t i x → IsAskedFor q s t i y → x ≡ y
+    one_target t zero x y a b = one_time t x y a b
+    one_target t (suc i) (TimeOf u) y a b = absurd a
+    one_target t (suc i) (SizesOf keys) (TimeOf w) a b = absurd b
+    one_target t (suc i) (SizesOf keys) (SizesOf others) a b =
         ap (λ (ks : List Spot). SizesOf ks)
-        (component_one cs of.apart keys others t i (of_these keys a) m (of_these others b) n)
+        (component_one cs apart keys others t (suc i) (of_these a.0 keys a.1 a.2) a.3 (of_these b.0 others b.1 b.2) b.3)
 
     -- so the reason why a bound is missing is one
     pub reason_one : (fs : List Find) (t i : ℕ) (v w : NoBound) → IsNoBound q s fs t i v → IsNoBound q s fs t i w
         → v ≡ w
-    reason_one fs t i v w h k =
-        let same = target_one h.target k.target t i h.asked k.asked h.has k.has in
-        lacks_one v w (tells_one q one s (bounds_of s.program fs) k.target (Lacks v) (Lacks w)
-        (subst (λ (g : Target). Tells q s (bounds_of s.program fs) g (Lacks v)) same h.tells) k.tells)
+    reason_one fs t i v w h k = reason_by fs t i (one_target t i) v w h k
 
--- rounds make one last list of finds, and a bound that is missing has one reason where components are apart
+-- rounds make one last list of finds, and a bound that is missing has one reason, a size where components are apart
 pub last_finds_one : LastFindsAreOne
 last_finds_one = record {
   last = λ a s x y h k. last_one (searches_of a) (answers_one a) s x y h k;
-  reason = λ a s components fs t i v w h k. reason_one (searches_of a) (answers_one a) s a.components refl components
-      fs t i v w h k;
+  time = λ a s fs t v w h k. time_reason (searches_of a) (answers_one a) s fs t v w h k;
+  size = λ a s apart fs t i v w h k. reason_one (searches_of a) (answers_one a) s a.components refl apart fs t i v w
+      h k;
 }

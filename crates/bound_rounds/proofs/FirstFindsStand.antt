@@ -17,18 +17,19 @@ use Rattle.bound_rounds.specs.Finds.{Find, bounds_of, keys_after}
 use Rattle.bound_rounds.specs.Standing.{Stands, StandAfter, is_left}
 use Rattle.bound_rounds.specs.Searches.{Searches, NoPoint}
 use Rattle.bound_rounds.specs.Components.{IsDead}
-use Rattle.bound_rounds.specs.Beginning.{AreEmptyFinds, AreFirst, empty_find, unreached_find, never_find, is_cut, is_dead}
+use Rattle.bound_rounds.specs.Beginning.{AreEmptyFinds, AreFirst, empty_find, unreached_find, never_find, is_cut}
+use Rattle.bound_rounds.specs.Beginning.{is_dead}
 use Rattle.bound_rounds.specs.Beginning.{zeroed, has_places}
 use Rattle.bound_rounds.specs.Right.{AreRight}
 use Rattle.bound_rounds.proofs.Cases.{either}
 use Rattle.bound_rounds.proofs.Keys.{has_key-cases, has_key-none, has_time_key}
 use Rattle.bound_rounds.proofs.MissingBounds.{all-has_key, rule_bounds}
-use Rattle.bound_rounds.proofs.Numbered.{rule_in, in_rules, in_places}
+use Rattle.bound_rounds.proofs.RuleNumbers.{rule_in, in_rules, in_places}
 use Rattle.bound_rounds.proofs.FreshFinds.{AscendFrom, range_ascends, filter_ascends, AreOfRule}
 use Rattle.bound_rounds.proofs.FreshFinds.{made_ascend, AreFresh, fresh_by_rules, begins_itself, stand_over}
 use Rattle.bound_rounds.proofs.FreshFinds.{stand-append}
 use Rattle.bound_rounds.proofs.KnownNeeds.{of_each_in}
-use Rattle.bound_rounds.proofs.SameDead.{path_on}
+use Rattle.bound_rounds.proofs.DeadRules.{path_on}
 use Rattle.bound_rounds.proofs.ZeroTimes.{AreZeroTimesOf, empties_zero, unreached_zero, zero_times-append}
 use Rattle.bound_rounds.proofs.ZeroTimes.{zero_times_ascend, zero_found, zero_missing, zero_fresh}
 
@@ -273,7 +274,8 @@ module _ (q : Searches) (s : Setting) (fs : List Find) (h : AreFirst q s.program
   never_fresh : (t : ℕ) → is_in t sized_ones ≡ true
       → AreFresh (bounds_of s.program (h.empties ++ cuts)) (keys_after s.program t)
   never_fresh t m =
-      all-has_key (λ (k : Spot). at_key (bounds_of s.program (h.empties ++ cuts)) k ≡ None) (keys_after s.program t) each
+      all-has_key (λ (k : Spot). at_key (bounds_of s.program (h.empties ++ cuts)) k ≡ None) (keys_after s.program t)
+      each
     where
       each : (u i : ℕ) → has_key (keys_after s.program t) u i ≡ true
           → bounds_of s.program (h.empties ++ cuts) u i ≡ None
@@ -293,7 +295,8 @@ module _ (q : Searches) (s : Setting) (fs : List Find) (h : AreFirst q s.program
       (filter_ascends (λ t. has_places s.program (target_of s.program t)) 1
       (filter (is_dead h.is_empty h.is_unreached) (rule_numbers s.program))
       (filter_ascends (is_dead h.is_empty h.is_unreached) 1 (rule_numbers s.program) ascending)))
-      (All-map (λ (f : Find). AreFresh (bounds_of s.program (h.empties ++ cuts)) f.keys) (never_find s.program) sized_ones
+      (All-map (λ (f : Find). AreFresh (bounds_of s.program (h.empties ++ cuts)) f.keys) (never_find s.program)
+      sized_ones
       (of_each_in (λ (t : ℕ). AreFresh (bounds_of s.program (h.empties ++ cuts)) (keys_after s.program t)) sized_ones
       never_fresh)))
 

@@ -14,8 +14,8 @@ use Rattle.bound_rounds.specs.Searches.{Searches, NoPoint}
 use Rattle.bound_rounds.specs.Beginning.{empty_find, unreached_find, never_find, AreEmptyFinds, has_places, is_cut}
 use Rattle.bound_rounds.specs.Beginning.{is_dead, zeroed, AreFirst}
 use Rattle.bound_rounds.specs.Right.{AreOne}
-use Rattle.bound_rounds.proofs.Numbered.{in_rules}
-use Rattle.bound_rounds.proofs.SameDead.{path_on}
+use Rattle.bound_rounds.proofs.RuleNumbers.{in_rules}
+use Rattle.bound_rounds.proofs.DeadRules.{path_on}
 
 -- tests that are the same for all numbers of a list keep the same of them
 filter-same : (f g : ℕ → Bool) (ns : List ℕ) → ((n : ℕ) → is_in n ns ≡ true → f n ≡ g n) → filter f ns ≡ filter g ns

@@ -8,7 +8,7 @@ use Rattle.rule_questions.specs.model.Programs.{Program}
 use Rattle.rule_questions.specs.proof_nodes.Nodes.{Spot}
 use Rattle.rule_questions.specs.proof_nodes.Setting.{Setting}
 use Rattle.bound_rounds.specs.Keys.{Bounds, at_key, has_key}
-use Rattle.bound_rounds.specs.Finds.{Find, found, bounds_of}
+use Rattle.bound_rounds.specs.Finds.{Find, bound_found, bounds_of}
 use Rattle.bound_rounds.specs.Standing.{Stands, IsBeginning, StandAfter}
 use Rattle.bound_rounds.proofs.Cases.{told}
 use Rattle.bound_rounds.proofs.Keys.{has_key-all}
@@ -85,10 +85,11 @@ module _ (p : Program) (earlier : List Find) (f : Find) (t : ℕ) (own : AreOfRu
     where
       each : (v i : ℕ) → has_key keys v i ≡ true → bounds_of p (earlier ++ f ∷ []) v i ≡ None
       each v i m =
-          missing_still p earlier (f ∷ []) v i (has_key-all (λ k. at_key (bounds_of p earlier) k ≡ None) keys v i fresh m)
+          missing_still p earlier (f ∷ []) v i
+          (has_key-all (λ k. at_key (bounds_of p earlier) k ≡ None) keys v i fresh m)
           (told (has_key f.keys v i) mine (λ k. found-later f [] v i k))
         where
-          mine : has_key f.keys v i ≡ true → found (f ∷ []) v i ≡ None
+          mine : has_key f.keys v i ≡ true → bound_found (f ∷ []) v i ≡ None
           mine k =
               let other : v ≡ u = has_key-all (λ k. k.rule ≡ u) keys v i others m in
               let same : v ≡ t = has_key-all (λ k. k.rule ≡ t) f.keys v i own k in

@@ -11,7 +11,7 @@ use Rattle.rule_questions.proofs.model.Membership.{same_number, told_same, is_in
 use Rattle.rule_questions.specs.proof_nodes.Nodes.{Spot}
 use Rattle.bound_rounds.specs.Keys.{key, time_key, has_key, place_fact}
 use Rattle.bound_rounds.proofs.Cases.{either, told}
-use Rattle.bound_rounds.proofs.Contained.{contains-cases, contains-none, contains-first, contains-later}
+use Rattle.bound_rounds.proofs.ListMembers.{contains-cases, contains-none, contains-first, contains-later}
 
 -- a key is among keys that begin with it
 pub has_key-first : (k : Spot) (keys : List Spot) → has_key (k ∷ keys) k.rule k.place ≡ true

@@ -1,5 +1,6 @@
 -- What an accepted node needs is known.
-use Rattle.std.proofs.Common.{◌≡◌, ◌≢◌, ◌⊎◌, inl, inr, ℕ, zero, suc, ◌+◌, ◌==◌, ◌||◌, Some, Bool, true, false, List, [], ◌∷◌}
+use Rattle.std.proofs.Common.{◌≡◌, ◌≢◌, ◌⊎◌, inl, inr, ℕ, zero, suc, ◌+◌, ◌==◌, ◌||◌, Some, Bool, true, false, List, []}
+use Rattle.std.proofs.Common.{◌∷◌}
 use Rattle.std.proofs.Common.{map, refl, sym, ap, subst, arith, All}
 use Rattle.std.specs.Prelude.{ℤ, pos}
 use Rattle.std.specs.List.{AllByRecursion}
@@ -90,7 +91,8 @@ module _ (b : Bounds) where
         → IsKnown (b e (suc j))) → All IsKnownAt (needs_of_all p node es)
     entries_known [] times sizes = All-nil IsKnownAt
     entries_known (e ∷ es) times sizes =
-        All-append IsKnownAt (entry_needs p node e) (needs_of_all p node es) (entry_known e (times e first) (sizes e first))
+        All-append IsKnownAt (entry_needs p node e) (needs_of_all p node es)
+        (entry_known e (times e first) (sizes e first))
         (entries_known es (λ x m. times x (or_right (x == e) (is_in x es) m))
         (λ x m. sizes x (or_right (x == e) (is_in x es) m)))
       where
@@ -128,5 +130,7 @@ module _ (b : Bounds) where
       where
         times : (t : ℕ) → is_in t (needed_times s (over b) members) ≡ true → IsKnown (b t 0)
         times t i =
-            let k = filter-in (λ u. multiplies (flows s members (over b).size) u || adds s (flows s members (over b).size) u) (rules_of s members) t i in
+            let k = filter-in
+            (λ u. multiplies (flows s members (over b).size) u || adds s (flows s members (over b).size) u)
+            (rules_of s members) t i in
             ok.times t k.0 k.1

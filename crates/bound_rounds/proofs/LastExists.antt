@@ -16,7 +16,7 @@ use Rattle.rule_questions.specs.proof_nodes.AcceptsRank.{rank_time}
 use Rattle.bound_rounds.specs.Keys.{Bounds, over, rule_numbers}
 use Rattle.bound_rounds.specs.Finds.{Node, RankBy, Find, bounds_of}
 use Rattle.bound_rounds.specs.Needs.{needs_of}
-use Rattle.bound_rounds.specs.Standing.{composed}
+use Rattle.bound_rounds.specs.Standing.{composed_bound}
 use Rattle.bound_rounds.specs.Searches.{Answers, searches_of, Emptiness, NoPoint, HasPoint, EmptyTripped, Ranking}
 use Rattle.bound_rounds.specs.Searches.{Ranked, Unranked, RankTripped, Sizing, SizedBy, Unsized, NoFunction, Tripped}
 use Rattle.bound_rounds.specs.Searches.{TooLarge}
@@ -28,8 +28,8 @@ use Rattle.bound_rounds.specs.Rounds.{Tries, Together, InTurn, TriesAll, IsRound
 use Rattle.bound_rounds.specs.Rounds.{Made, IsLast}
 use Rattle.bound_rounds.specs.Laws.{missing, LastFindsExist}
 use Rattle.bound_rounds.proofs.Cases.{either, false_true, told}
-use Rattle.bound_rounds.proofs.Numbered.{in_rules}
-use Rattle.bound_rounds.proofs.Ends.{ends}
+use Rattle.bound_rounds.proofs.RuleNumbers.{in_rules}
+use Rattle.bound_rounds.proofs.RoundsEnd.{ends}
 use Rattle.bound_rounds.proofs.PathTests.{paths_told}
 use Rattle.bound_rounds.proofs.SetsExist.{set_there, shut_there}
 
@@ -56,7 +56,7 @@ ranking_tells s bs (RankTripped t) = (Lacks (Tripped t), refl)
 
 -- and so does one about a component
 sizing_tells : (s : Setting) (bs : Bounds) (answer : Sizing) → (a : Answer) × TellsSizing s bs answer a
-sizing_tells s bs (SizedBy node) = (Found node (needs_of s bs node) (composed s bs node), refl)
+sizing_tells s bs (SizedBy node) = (Found node (needs_of s bs node) (composed_bound s bs node), refl)
 sizing_tells s bs (Unsized why) = (Lacks why, refl)
 
 -- whether multipliers show a rule empty

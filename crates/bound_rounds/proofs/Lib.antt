@@ -1,12 +1,13 @@
--- telling cases apart
+-- telling cases apart, and counting
 pub mod Cases
+pub mod Counts
 -- what lists contain
-pub mod Contained
+pub mod ListMembers
 -- keys among keys, and finds one after another
 pub mod Keys
 pub mod FindLists
 -- rules and places by their numbers
-pub mod Numbered
+pub mod RuleNumbers
 -- what lemmas rest on, by the numbers of what they need
 pub mod FactLists
 pub mod CitedFacts
@@ -30,16 +31,16 @@ pub mod EntryBounds
 pub mod AcceptedRanks
 pub mod KnownNeeds
 -- finds before the first round
-pub mod SameDead
+pub mod DeadRules
 pub mod ZeroTimes
 pub mod FirstFindsStand
 -- finds of rounds
 pub mod TimesStand
-pub mod WholeFinds
+pub mod UniformComponents
 pub mod SizesStand
 -- rounds end
 pub mod MissingFalls
-pub mod Ends
+pub mod RoundsEnd
 -- where answers are one, so are rounds and the last finds
 pub mod OneOrder
 pub mod LastIsOne
@@ -50,6 +51,7 @@ pub mod FindsAreOne
 pub mod PathTests
 pub mod SetsExist
 -- missing bounds have reasons, and there are last finds
+pub mod DeadPlaces
 pub mod ReasonsExist
 pub mod LastExists
 -- what was worked out by hand
@@ -65,3 +67,7 @@ pub mod WorkedStanding
 pub mod WorkedFirst
 pub mod WorkedRight
 pub mod WorkedAnswers
+pub mod WorkedCauses
+pub mod WorkedCutOff
+pub mod WorkedBeginnings
+pub mod WorkedLastRounds

@@ -10,8 +10,9 @@ use Rattle.rule_questions.proofs.model.Membership.{is_in-cases}
 use Rattle.rule_questions.specs.proof_nodes.AcceptsPlain.{IsRule, places_at}
 use Rattle.bound_rounds.specs.Keys.{Bounds, lacks, rule_numbers, IsPlace}
 use Rattle.bound_rounds.specs.Laws.{unsized, all_unsized, missing}
-use Rattle.bound_rounds.proofs.Cases.{either, false_true, count-first, none_some, some_none}
-use Rattle.bound_rounds.proofs.Numbered.{rule_in, place_in}
+use Rattle.bound_rounds.proofs.Cases.{either, false_true, none_some, some_none}
+use Rattle.bound_rounds.proofs.Counts.{count-first}
+use Rattle.bound_rounds.proofs.RuleNumbers.{rule_in, place_in}
 
 -- the second knows all that the first does
 abbrev pub KnowsAll : (ℕ → Option Bound) → (ℕ → Option Bound) → Type 0
@@ -100,7 +101,8 @@ module _ (p : Program) (b c : Bounds) (known : (t : ℕ) → KnowsAll (b t) (c t
           omega (arith, first, less)
 
   -- where such a bound was missing and is known, fewer bounds are missing
-  pub missing_falls : (t i : ℕ) (x : Bound) → IsKeyOfRule p t i → b t i ≡ None → c t i ≡ Some x → missing p c < missing p b
+  pub missing_falls : (t i : ℕ) (x : Bound) → IsKeyOfRule p t i → b t i ≡ None → c t i ≡ Some x
+      → missing p c < missing p b
   missing_falls t i x is e k = by is.1
     where
       listed : is_in t (rule_numbers p) ≡ true

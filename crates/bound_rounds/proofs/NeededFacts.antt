@@ -13,7 +13,7 @@ use Rattle.rule_questions.specs.proof_nodes.AcceptsPlain.{IsRule, start_facts}
 use Rattle.rule_questions.specs.proof_nodes.Acceptance.{facts_of_lemma, joined_facts, AllAccepted}
 use Rattle.bound_rounds.specs.Keys.{Bounds, key, at_key, has_key, place_fact, size_by}
 use Rattle.bound_rounds.specs.Needs.{uses_for}
-use Rattle.bound_rounds.proofs.Contained.{contains-none, contains-map, map-contains, contained-all}
+use Rattle.bound_rounds.proofs.ListMembers.{contains-none, contains-map, map-contains, contained-all}
 use Rattle.bound_rounds.proofs.Keys.{has_key-contained}
 use Rattle.bound_rounds.proofs.FactLists.{AreFactsOf, IsFactOf, IsNumbered, same_time, same_size, no_size}
 use Rattle.bound_rounds.proofs.FactLists.{stating_numbered}

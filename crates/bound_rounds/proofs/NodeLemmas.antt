@@ -28,11 +28,11 @@ use Rattle.bound_rounds.specs.Keys.{Bounds, key, time_key, at_key, has_key, fact
 use Rattle.bound_rounds.specs.Finds.{Node, EmptyBy, UnreachedBy, NeverBy, RankBy, SpreadBy, CycleBy, keys_of}
 use Rattle.bound_rounds.specs.Finds.{keys_after}
 use Rattle.bound_rounds.specs.Needs.{rank_needs, spread_needs, cycle_needs, uses_for, lemma_by}
-use Rattle.bound_rounds.specs.Standing.{composed, is_left, AreZeroTimes, NeverRuns, AcceptsOver, AreNeeds}
+use Rattle.bound_rounds.specs.Standing.{composed_bound, is_left, AreZeroTimes, NeverRuns, AcceptsOver, AreNeeds}
 use Rattle.bound_rounds.proofs.Cases.{told, none_some}
 use Rattle.bound_rounds.proofs.Keys.{has_key-all, has_key-left, has_key-right, has_time_key, size_fact}
 use Rattle.bound_rounds.proofs.FactLists.{zero_said, stating_numbered}
-use Rattle.bound_rounds.proofs.Contained.{contains-first}
+use Rattle.bound_rounds.proofs.ListMembers.{contains-first}
 use Rattle.bound_rounds.proofs.NeededFacts.{SayBounds, needs_accepted, need_stated, needed_time, needed_size}
 use Rattle.bound_rounds.proofs.SameTimes.{rank_time-same, rank_accepted, time_needed, size_needed}
 use Rattle.bound_rounds.proofs.SameSizes.{spread_size-same, spread_accepted, cycle_size-same, cycle_accepted}
@@ -265,7 +265,7 @@ module _ (s : Setting) (past : List (List Fact)) (number : ℕ → ℕ → ℕ) 
   -- and states the bound that the node composes for each of its keys
   pub node_states : (node : Node) (needs : List Spot) → AcceptsOver s b node needs → AreNeeds s b node needs
       → All (λ k. IsKnown (at_key b k)) needs
-      → facts_of s past (lemma_by number node needs) ≡ facts_with (composed s b node) (keys_of s.program node)
+      → facts_of s past (lemma_by number node needs) ≡ facts_with (composed_bound s b node) (keys_of s.program node)
   node_states (EmptyBy t multipliers) needs ok are known = refl
   node_states (UnreachedBy t) needs ok are known = refl
   node_states (NeverBy t) needs ok are known = never_states t ok

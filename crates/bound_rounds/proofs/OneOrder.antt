@@ -8,7 +8,7 @@ use Rattle.bound_rounds.specs.Keys.{Bounds}
 use Rattle.rule_questions.specs.proof_nodes.Numbers.{IsAscending}
 use Rattle.bound_rounds.specs.Sets.{IsSetOfRule, StandsBefore, ArePlacesInOrder, AreShutOf}
 use Rattle.bound_rounds.proofs.Cases.{either}
-use Rattle.bound_rounds.proofs.Contained.{contains-cases, contains-none, contains-first, contains-later}
+use Rattle.bound_rounds.proofs.ListMembers.{contains-cases, contains-none, contains-first, contains-later}
 
 -- each element stands before the next
 abbrev pub IsChain : {A : Type 0} → (A → A → Type 0) → List A → Type 0

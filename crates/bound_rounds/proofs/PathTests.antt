@@ -11,8 +11,9 @@ use Rattle.rule_questions.specs.model.Paths.{same_symbol}
 use Rattle.rule_questions.proofs.model.Membership.{same_number, told_same, no_is_not_yes, is_in-cases, list_any-from}
 use Rattle.rule_questions.proofs.model.Membership.{list_any-told}
 use Rattle.bound_rounds.specs.Keys.{rule_numbers}
-use Rattle.bound_rounds.proofs.Cases.{either, told, counts-first}
-use Rattle.bound_rounds.proofs.Numbered.{rule_in}
+use Rattle.bound_rounds.proofs.Cases.{either, told}
+use Rattle.bound_rounds.proofs.Counts.{counts-first}
+use Rattle.bound_rounds.proofs.RuleNumbers.{rule_in}
 use Rattle.bound_rounds.proofs.EntryBounds.{edge_by, one_symbol}
 
 -- of two tests of which the second passes what the first does, the second passes more, or the same

@@ -1,6 +1,7 @@
 -- Where a round finds nothing new, each missing bound has a reason.
-use Rattle.std.proofs.Common.{◌≡◌, ◌⊎◌, inl, inr, ℕ, ◌==◌, ◌&&◌, ◌||◌, Bool, true, false, List, [], ◌∷◌, ◌++◌, map}
-use Rattle.std.proofs.Common.{None, refl, sym, ◌∙◌, ap, subst}
+use Rattle.std.proofs.Common.{◌≡◌, ◌⊎◌, inl, inr, ℕ, zero, suc, ◌==◌, ◌&&◌, ◌||◌, Bool, true, false, List, [], ◌∷◌}
+use Rattle.std.proofs.Common.{◌++◌, map}
+use Rattle.std.proofs.Common.{None, refl, sym, ◌∙◌, ap, subst, arith}
 use Rattle.std.proofs.lemmas.Bool.{and_parts, or_left, or_right}
 use Rattle.rule_questions.specs.model.Entries.{is_in}
 use Rattle.rule_questions.proofs.model.Membership.{told_same, same_number, is_in-cases, no_is_not_yes}
@@ -13,11 +14,12 @@ use Rattle.bound_rounds.specs.Searches.{Searches, searches_of, NoBound}
 use Rattle.bound_rounds.specs.Answers.{Target, TimeOf, SizesOf, keys_asked, are_open, Answer, Found, Lacks}
 use Rattle.bound_rounds.specs.Answers.{finds_by, Tells}
 use Rattle.bound_rounds.specs.Components.{IsCovered, IsOneOf}
-use Rattle.bound_rounds.specs.Rounds.{Tries, Manner, Together, InTurn, known_next, TriesAll, IsClosed, IsTarget}
-use Rattle.bound_rounds.specs.Rounds.{IsNoBound}
+use Rattle.bound_rounds.specs.Rounds.{Tries, Manner, Together, InTurn, known_next, TriesAll, IsClosed}
+use Rattle.bound_rounds.specs.Rounds.{IsAskedFor, IsNoBound}
 use Rattle.bound_rounds.specs.Laws.{MissingBoundsHaveReasons}
 use Rattle.bound_rounds.proofs.Cases.{either}
-use Rattle.bound_rounds.proofs.Numbered.{rule_in}
+use Rattle.bound_rounds.proofs.RuleNumbers.{rule_in}
+use Rattle.bound_rounds.proofs.DeadPlaces.{missing_live}
 use Rattle.bound_rounds.proofs.FindsAreOne.{append-none}
 
 -- a key that is among some and has no bound makes one of them open
@@ -89,22 +91,22 @@ module _ (q : Searches) (s : Setting) (fs : List Find) where
       (subst (λ (zs : List Find). TriesAll q s manner (known_next manner fs h.0) gs zs) none.1 h.2.2)) g m
 
   -- an answer that finds nothing says why
-  says_why : (g : Target) (t i : ℕ) → bounds_of s.program fs t i ≡ None → IsTarget q s g
-      → has_key (keys_asked g) t i ≡ true → (a : Answer) → Tells q s (bounds_of s.program fs) g a → [] ≡ finds_by g a
+  says_why : (g : Target) (t i : ℕ) → bounds_of s.program fs t i ≡ None → IsAskedFor q s t i g
+      → (a : Answer) → Tells q s (bounds_of s.program fs) g a → [] ≡ finds_by g a
       → (why : NoBound) × IsNoBound q s fs t i why
-  says_why g t i missing asked has (Found node needs bound) tells e = absurd (nothing e)
+  says_why g t i missing asked (Found node needs bound) tells e = absurd (nothing e)
     where
       nothing : {x : Find} {xs : List Find} → [] ≡ x ∷ xs → ⊥
       nothing n = cc
-  says_why g t i missing asked has (Lacks why) tells e =
-      (why, record { missing = missing; target = g; asked = asked; has = has; tells = tells })
+  says_why g t i missing asked (Lacks why) tells e =
+      (why, record { missing = missing; target = g; asked = asked; tells = tells })
 
   -- so each key that is missing of it has a reason
-  why_of : (g : Target) → Tries q s fs g [] → (t i : ℕ) → IsTarget q s g → has_key (keys_asked g) t i ≡ true
+  why_of : (g : Target) → Tries q s fs g [] → (t i : ℕ) → IsAskedFor q s t i g → has_key (keys_asked g) t i ≡ true
       → bounds_of s.program fs t i ≡ None → (why : NoBound) × IsNoBound q s fs t i why
   why_of g h t i asked has missing =
       let tried = h.tried (open_by (bounds_of s.program fs) (keys_asked g) t i has missing) in
-      says_why g t i missing asked has tried.0 tried.1 tried.2
+      says_why g t i missing asked tried.0 tried.1 tried.2
 
   module _ (closed : IsClosed q s fs) where
     none_found : (closed.times ≡ []) × (closed.sizes ≡ [])
@@ -117,7 +119,8 @@ module _ (q : Searches) (s : Setting) (fs : List Find) where
         why_of (TimeOf t) (nothing_of Together (map TimeOf (rule_numbers s.program))
         (subst (λ (zs : List Find). TriesAll q s Together fs (map TimeOf (rule_numbers s.program)) zs) none_found.0
         closed.timed) (TimeOf t)
-        (time_asked (rule_numbers s.program) t (rule_in s.program t rule.rule rule.numbered))) t 0 rule here missing
+        (time_asked (rule_numbers s.program) t (rule_in s.program t rule.rule rule.numbered))) t 0 (rule, refl) here
+        missing
       where
         here : has_key (keys_asked (TimeOf t)) t 0 ≡ true
         here = or_left ((t == t) && (0 == 0)) false (rw (same_number t) refl)
@@ -125,11 +128,13 @@ module _ (q : Searches) (s : Setting) (fs : List Find) where
     -- and so has a missing size of a place in a component
     pub size_why : (t i : ℕ) → IsCovered closed.components t i → bounds_of s.program fs t i ≡ None
         → (why : NoBound) × IsNoBound q s fs t i why
-    size_why t i covered missing =
-        let member = covered_member closed.components t i covered in
+    size_why t zero covered missing =
+        let low = ((closed.live.live t 0).0 covered).2.least in absurd (omega (arith, low))
+    size_why t (suc i) covered missing =
+        let member = covered_member closed.components t (suc i) covered in
         why_of (SizesOf member.0) (nothing_of InTurn (map SizesOf closed.components) none (SizesOf member.0)
-        (size_asked closed.components member.0 member.1)) t i
-        (closed.components, closed.are_components, member.1) member.2 missing
+        (size_asked closed.components member.0 member.1)) t (suc i)
+        (closed.components, closed.are_components, member.1, member.2) member.2 missing
       where
         none : TriesAll q s InTurn fs (map SizesOf closed.components) []
         none =
@@ -137,10 +142,18 @@ module _ (q : Searches) (s : Setting) (fs : List Find) where
             (subst (λ (zs : List Find). TriesAll q s InTurn zs (map SizesOf closed.components) closed.sizes)
             (stays InTurn closed.times none_found.0) closed.sized)
 
--- where a round finds nothing new, each missing time of a rule and each missing size in a component has a reason
+-- where a round finds nothing new, each missing time of a rule and each missing size in a component has a reason; and
+-- with the last finds each missing size of a place after a rule has one
 pub reasons_stand : MissingBoundsHaveReasons
 reasons_stand = record {
   times = λ a s fs closed t rule missing. time_why (searches_of a) s fs closed t rule missing;
   sizes = λ a s fs closed t i covered missing. size_why (searches_of a) s fs closed t i
       (subst (λ (cs : List (List Spot)). IsCovered cs t i) closed.are_components covered) missing;
+  places = λ a s fs last t i rule place missing. size_why (searches_of a) s fs last.closed t i
+      ((last.closed.live.live t i).1 (
+        rule,
+        missing_live (searches_of a) s last.closed.components last.closed.live fs
+            last.made t i rule place missing,
+        place,
+      )) missing;
 }

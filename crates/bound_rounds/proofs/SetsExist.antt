@@ -19,11 +19,11 @@ use Rattle.rule_questions.specs.proof_nodes.AcceptsPlain.{IsRule, places_at}
 use Rattle.bound_rounds.specs.Keys.{Bounds, rule_numbers, lacks, is_untimed}
 use Rattle.bound_rounds.specs.Sets.{IsSetOfRule, IsShut, StandsBefore, ArePlacesInOrder, AreShutOf}
 use Rattle.bound_rounds.proofs.Cases.{either, some_same, told, lacks_none}
-use Rattle.bound_rounds.proofs.Numbered.{rule_in, place_in, in_places}
+use Rattle.bound_rounds.proofs.RuleNumbers.{rule_in, place_in, in_places}
 use Rattle.bound_rounds.proofs.EntryBounds.{one_symbol}
 use Rattle.bound_rounds.proofs.AcceptedRanks.{leading_rule}
-use Rattle.bound_rounds.proofs.Contained.{contains-cases, contains-none, contains-first, contains-later}
-use Rattle.bound_rounds.proofs.Contained.{contains-left, contains-right, contains-either}
+use Rattle.bound_rounds.proofs.ListMembers.{contains-cases, contains-none, contains-first, contains-later}
+use Rattle.bound_rounds.proofs.ListMembers.{contains-left, contains-right, contains-either}
 use Rattle.bound_rounds.proofs.OneOrder.{IsChain, chain-append}
 use Rattle.bound_rounds.proofs.PathTests.{passes_at, paths_told}
 

@@ -1,5 +1,6 @@
 -- What is found in a round for components stands after what was found before.
-use Rattle.std.proofs.Common.{◌≡◌, inl, inr, true, List, [], ◌∷◌, ◌++◌, map, None, refl, sym, subst, All}
+use Rattle.std.proofs.Common.{◌≡◌, inl, inr, ◌≤◌, true, List, [], ◌∷◌, ◌++◌, length, map, None, refl, sym, subst}
+use Rattle.std.proofs.Common.{arith, All}
 use Rattle.std.proofs.lemmas.List.Elements.{All-nil, All-cons, All-append}
 use Rattle.rule_questions.specs.proof_nodes.Nodes.{Spot}
 use Rattle.rule_questions.specs.proof_nodes.Setting.{Setting}
@@ -7,20 +8,22 @@ use Rattle.bound_rounds.specs.Keys.{Bounds, at_key, rule_numbers}
 use Rattle.bound_rounds.specs.Finds.{Node, EmptyBy, UnreachedBy, NeverBy, RankBy, SpreadBy, CycleBy, Find, bounds_of}
 use Rattle.bound_rounds.specs.Finds.{keys_of}
 use Rattle.bound_rounds.specs.Needs.{needs_of}
-use Rattle.bound_rounds.specs.Standing.{composed, Stands, StandAfter}
+use Rattle.bound_rounds.specs.Standing.{composed_bound, Stands, StandAfter}
 use Rattle.bound_rounds.specs.Searches.{Searches, searches_of, Answers, Sizing, SizedBy, Unsized}
-use Rattle.bound_rounds.specs.Answers.{SizesOf, is_open, Answer, Found, Lacks, finds_by, TellsSizing, TellsSize}
+use Rattle.bound_rounds.specs.Answers.{SizesOf, are_open, is_open, Answer, Found, Lacks, finds_by, TellsSizing}
+use Rattle.bound_rounds.specs.Answers.{TellsSize}
 use Rattle.bound_rounds.specs.Components.{IsOneOf, AreComponentsOf}
 use Rattle.bound_rounds.specs.Rounds.{Tries, TriesAll, InTurn, IsRound, IsMade, Begun, Made}
 use Rattle.bound_rounds.specs.Right.{AcceptsSizing, AreRight}
 use Rattle.bound_rounds.specs.Laws.{MadeFindsStand}
+use Rattle.bound_rounds.proofs.Cases.{false_true}
 use Rattle.bound_rounds.proofs.MissingBounds.{all-has_key}
 use Rattle.bound_rounds.proofs.FreshFinds.{FreshAfter, begins_itself, stand_over, stand-append}
 use Rattle.bound_rounds.proofs.KnownNeeds.{spread_known, cycle_known}
 use Rattle.bound_rounds.proofs.FirstFindsStand.{first_stand}
 use Rattle.bound_rounds.proofs.TimesStand.{by_answer, round_times_stand}
-use Rattle.bound_rounds.proofs.WholeFinds.{IsWhole, open_all, tried_whole, times_whole, uniform_bounds, live_components}
-use Rattle.bound_rounds.proofs.WholeFinds.{made_whole}
+use Rattle.bound_rounds.proofs.UniformComponents.{IsWhole, open_all, tried_whole, times_whole, uniform_bounds}
+use Rattle.bound_rounds.proofs.UniformComponents.{made_whole}
 
 -- the find of an accepted node that gives sizes
 abbrev pub sizing_find : Setting → Bounds → List Spot → Node → Find
@@ -28,7 +31,7 @@ sizing_find s b keys node = record {
   keys = keys;
   node = node;
   needs = needs_of s b node;
-  bound = composed s b node;
+  bound = composed_bound s b node;
 }
 
 -- it stands
@@ -40,18 +43,23 @@ sizing_stands s b keys (NeverBy t) same ok = absurd ok
 sizing_stands s b keys (RankBy node) same ok = absurd ok
 sizing_stands s b keys (SpreadBy m) same ok = record {
   keys = same;
-  accepted = ok;
+  accepted = ok.0;
   needs = refl;
-  known = spread_known b s m ok;
+  known = spread_known b s m ok.0;
   bound = refl;
 }
 sizing_stands s b keys (CycleBy members) same ok = record {
   keys = same;
-  accepted = ok;
+  accepted = ok.0;
   needs = refl;
-  known = cycle_known b s members ok;
+  known = cycle_known b s members ok.0;
   bound = refl;
 }
+
+-- where one of some keys is missing, there are some
+open_long : (b : Bounds) (keys : List Spot) → are_open b keys ≡ true → 1 ≤ length keys
+open_long b [] h = absurd (false_true h)
+open_long b (k ∷ keys) h = omega arith
 
 module _ (q : Searches) (s : Setting) (right : AreRight q s) where
   -- what an answer about a component gives stands over these bounds
@@ -61,7 +69,7 @@ module _ (q : Searches) (s : Setting) (right : AreRight q s) where
     where
       go : (x : Sizing) → q.Sizes b keys x → TellsSizing s b x a → All (Stands s b) (finds_by (SizesOf keys) a)
       go (SizedBy node) answered tells =
-          let r = right.sizes b keys (SizedBy node) open_now answered in
+          let r = right.sizes b keys (SizedBy node) (open_long b keys open_now) answered in
           subst (λ (y : Answer). All (Stands s b) (finds_by (SizesOf keys) y)) (sym tells)
           (All-cons (Stands s b) (sizing_find s b keys node) [] (sizing_stands s b keys node r.same r.accepted)
           (All-nil (Stands s b)))
@@ -113,19 +121,23 @@ module _ (q : Searches) (s : Setting) (right : AreRight q s) where
             (tried_whole q s cs are c one fs d (all d (inl refl)) first tries)
 
 module _ (a : Answers) (s : Setting) (right : AreRight (searches_of a) s) where
+  -- the components are those of the places of live rules
+  live_components : AreComponentsOf (searches_of a) s.program a.components
+  live_components = right.components a.components refl
+
   -- what is found in a round stands after the finds before it
   round_stands : (fs : List Find) → IsMade (searches_of a) s fs → (more : List Find)
       → IsRound (searches_of a) s fs more → StandAfter s fs more
   round_stands fs made more n =
       subst (λ (xs : List Find). StandAfter s fs xs) (sym n.all)
       (stand-append s fs n.times n.sizes (round_times_stand (searches_of a) s right fs n.times n.timed)
-      (sizes_stand (searches_of a) s right a.components (live_components a s right) (fs ++ n.times) whole n.components
+      (sizes_stand (searches_of a) s right a.components live_components (fs ++ n.times) whole n.components
       (λ d k. subst (λ (cs : List (List Spot)). IsOneOf cs d) (sym n.are_components) k) n.sizes n.sized))
     where
       whole : (c : List Spot) → IsOneOf a.components c → All (IsWhole c) (fs ++ n.times)
       whole c one =
-          All-append (IsWhole c) fs n.times (made_whole a s right fs made c one)
-          (times_whole (searches_of a) s a.components (live_components a s right) c one fs (rule_numbers s.program)
+          All-append (IsWhole c) fs n.times (made_whole a s live_components fs made c one)
+          (times_whole (searches_of a) s a.components live_components c one fs (rule_numbers s.program)
           n.times n.timed)
 
   -- so all that rounds find stands

@@ -12,9 +12,9 @@ use Rattle.bound_rounds.specs.Finds.{Node, EmptyBy, UnreachedBy, NeverBy, RankBy
 use Rattle.bound_rounds.specs.Finds.{keys_after}
 use Rattle.bound_rounds.specs.Standing.{AcceptsOver, Stands}
 use Rattle.bound_rounds.proofs.Cases.{either}
-use Rattle.bound_rounds.proofs.Contained.{map-contains, contained-all}
+use Rattle.bound_rounds.proofs.ListMembers.{map-contains, contained-all}
 use Rattle.bound_rounds.proofs.Keys.{has_key-cases, has_key-none, has_key-contained}
-use Rattle.bound_rounds.proofs.Numbered.{in_places}
+use Rattle.bound_rounds.proofs.RuleNumbers.{in_places}
 
 -- a key among these keys: its rule is one, and where it is that of a time there is no other
 pub record IsKeyOf (p : Program) (keys : List Spot) (t i : ℕ) : Type 0 where

@@ -12,11 +12,11 @@ use Rattle.rule_questions.specs.proof_nodes.Setting.{Setting}
 use Rattle.rule_questions.specs.proof_nodes.AcceptsPlain.{IsRule}
 use Rattle.rule_questions.specs.proof_nodes.Acceptance.{facts_of, facts_of_lemma, Accepts, AcceptsFrom, facts_from}
 use Rattle.bound_rounds.specs.Keys.{Bounds, at_key, has_key, place_fact, fact_at, start_bounds}
-use Rattle.bound_rounds.specs.Finds.{Find, found, keys_of, bounds_of, number_from, number_in, facts_of_find}
+use Rattle.bound_rounds.specs.Finds.{Find, bound_found, keys_of, bounds_of, number_from, number_in, facts_of_find}
 use Rattle.bound_rounds.specs.Needs.{lemma_by}
 use Rattle.bound_rounds.specs.Standing.{Stands, StandsAfter, StandAfter, AllStand}
 use Rattle.bound_rounds.proofs.Cases.{either, none_some}
-use Rattle.bound_rounds.proofs.Contained.{contains-either, contains-cases, contains-none, contained-all}
+use Rattle.bound_rounds.proofs.ListMembers.{contains-either, contains-cases, contains-none, contained-all}
 use Rattle.bound_rounds.proofs.Keys.{contained-has_key}
 use Rattle.bound_rounds.proofs.FindLists.{first_of-some, first_of-cases, bounds_of-kept, bounds_of-new, found-here}
 use Rattle.bound_rounds.proofs.FindLists.{found-append, number_in-kept}
@@ -49,7 +49,8 @@ fact_kept b all keeps (Cost t c) h = absurd h
 
 module _ (s : Setting) where
   -- a bound that is found with sound finds is that of a rule
-  pub found_rule : (fs : List Find) → AreSound s fs → (t i : ℕ) (c : Bound) → found fs t i ≡ Some c → IsRule s.program t
+  pub found_rule : (fs : List Find) → AreSound s fs → (t i : ℕ) (c : Bound) → bound_found fs t i ≡ Some c
+      → IsRule s.program t
   found_rule fs sound t i c e =
       let at = found_lemma fs t i c e in
       (sound.keys at.0 at.1 t i at.2).rule
@@ -60,7 +61,7 @@ module _ (s : Setting) where
   rule_number fs (suc t) i rule = refl
 
   -- a bound that is found with sound finds is a fact of the lemma with the number of its key
-  pub found_stated : (fs : List Find) → AreSound s fs → (t i : ℕ) (c : Bound) → found fs t i ≡ Some c
+  pub found_stated : (fs : List Find) → AreSound s fs → (t i : ℕ) (c : Bound) → bound_found fs t i ≡ Some c
       → Contains (facts_of_lemma (facts_of_finds fs) (number_in fs t i)) (place_fact t i c)
   found_stated fs sound t i c e =
       let at = found_lemma fs t i c e in
@@ -69,7 +70,7 @@ module _ (s : Setting) where
       (subst (λ (x : Bound). Contains (facts_of_find at.0) (place_fact t i x)) at.3 (find_states at.0 t i at.2))
 
   -- and the lemma of a rule's time states nothing else
-  pub found_alone : (fs : List Find) → AreSound s fs → (t : ℕ) (c : Bound) → found fs t 0 ≡ Some c
+  pub found_alone : (fs : List Find) → AreSound s fs → (t : ℕ) (c : Bound) → bound_found fs t 0 ≡ Some c
       → facts_of_lemma (facts_of_finds fs) (number_in fs t 0) ≡ Time t c ∷ []
   found_alone fs sound t c e =
       let at = found_lemma fs t 0 c e in
@@ -91,17 +92,18 @@ module _ (s : Setting) where
         (bounds_of-kept s.program before between t i c e)
 
     -- and so does what they found
-    found_kept : (t i : ℕ) (c : Bound) → found before t i ≡ Some c → found earlier t i ≡ Some c
+    found_kept : (t i : ℕ) (c : Bound) → bound_found before t i ≡ Some c → bound_found earlier t i ≡ Some c
     found_kept t i c e =
-        subst (λ (fs : List Find). found fs t i ≡ Some c) begins
-        (found-append before between t i ∙ first_of-some (found before t i) (found between t i) c e)
+        subst (λ (fs : List Find). bound_found fs t i ≡ Some c) begins
+        (found-append before between t i ∙ first_of-some (bound_found before t i) (bound_found between t i) c e)
 
     -- what is known with them is stated
     stated : (t i : ℕ) (c : Bound) → bounds_of s.program before t i ≡ Some c
         → IsStatedBy s (facts_of_finds earlier) number t i c
-    stated t i c e = go (first_of-cases (start_bounds s.program t i) (found before t i) c e)
+    stated t i c e = go (first_of-cases (start_bounds s.program t i) (bound_found before t i) c e)
       where
-        go : (start_bounds s.program t i ≡ Some c) ⊎ ((start_bounds s.program t i ≡ None) × (found before t i ≡ Some c))
+        go : (start_bounds s.program t i ≡ Some c)
+            ⊎ ((start_bounds s.program t i ≡ None) × (bound_found before t i ≡ Some c))
             → IsStatedBy s (facts_of_finds earlier) number t i c
         go (inl first) =
             let at = start_stated s.program t i c first in
@@ -126,7 +128,7 @@ module _ (s : Setting) where
       keeps = keeps;
       are = sound.known;
       start = start_known s.program (bounds_of s.program earlier) (record {
-        each = λ t i c e. first_of-some (start_bounds s.program t i) (found earlier t i) c e;
+        each = λ t i c e. first_of-some (start_bounds s.program t i) (bound_found earlier t i) c e;
       });
       stated = stated;
       alone = alone;

@@ -15,8 +15,8 @@ use Rattle.rule_questions.proofs.model.Membership.{same_number, is_in-cases, no_
 use Rattle.rule_questions.specs.proof_nodes.AcceptsPlain.{places_at, start_sizes, start_facts}
 use Rattle.bound_rounds.specs.Keys.{Bounds, place_fact, size_by, start_size, start_bounds}
 use Rattle.bound_rounds.proofs.Cases.{either, told, none_some, some_same}
-use Rattle.bound_rounds.proofs.Contained.{contains-first, contains-later}
-use Rattle.bound_rounds.proofs.Numbered.{in_range}
+use Rattle.bound_rounds.proofs.ListMembers.{contains-first, contains-later}
+use Rattle.bound_rounds.proofs.RuleNumbers.{in_range}
 use Rattle.bound_rounds.proofs.FactLists.{IsFactOf, AreFactsOf}
 
 -- bounds have what is known at first

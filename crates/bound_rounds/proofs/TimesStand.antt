@@ -14,13 +14,14 @@ use Rattle.rule_questions.specs.proof_nodes.AcceptsRank.{AcceptsRank}
 use Rattle.bound_rounds.specs.Keys.{Bounds, time_key, at_key, lacks, over, rule_numbers}
 use Rattle.bound_rounds.specs.Finds.{Node, RankBy, Find, bounds_of}
 use Rattle.bound_rounds.specs.Needs.{needs_of}
-use Rattle.bound_rounds.specs.Standing.{composed, Stands, StandAfter}
+use Rattle.bound_rounds.specs.Standing.{composed_bound, Stands, StandAfter}
 use Rattle.bound_rounds.specs.Searches.{Searches, Ranking, Ranked, Unranked, RankTripped, NoBound, NoFunction, Tripped}
-use Rattle.bound_rounds.specs.Answers.{Target, TimeOf, is_open, Answer, Found, Lacks, finds_by, TellsRanking, TellsTime, Tells}
+use Rattle.bound_rounds.specs.Answers.{Target, TimeOf, is_open, Answer, Found, Lacks, finds_by, TellsRanking, TellsTime}
+use Rattle.bound_rounds.specs.Answers.{Tells}
 use Rattle.bound_rounds.specs.Rounds.{Tries, TriesAll, Together}
 use Rattle.bound_rounds.specs.Right.{AreRight}
 use Rattle.bound_rounds.proofs.Cases.{either, told, false_true, lacks_none}
-use Rattle.bound_rounds.proofs.Numbered.{in_rules}
+use Rattle.bound_rounds.proofs.RuleNumbers.{in_rules}
 use Rattle.bound_rounds.proofs.FreshFinds.{AscendFrom, range_ascends, RulesAscend, rules_lower, AreFresh, AllFresh}
 use Rattle.bound_rounds.proofs.FreshFinds.{fresh_by_rules, begins_itself, stand_over}
 use Rattle.bound_rounds.proofs.AcceptedRanks.{is_question, accepted_rank}
@@ -49,7 +50,7 @@ open_time b t e =
 -- the find of an accepted ranking node stands
 ranked_stands : (s : Setting) (b : Bounds) (t : ℕ) (node : RankNode) (n : Node) (needs : List Spot) (bound : Bound)
     → node.rule ≡ t → AcceptsRank s (over b) node → n ≡ RankBy node → needs ≡ needs_of s b (RankBy node)
-    → bound ≡ composed s b (RankBy node)
+    → bound ≡ composed_bound s b (RankBy node)
     → Stands s b (record { keys = time_key t ∷ []; node = n; needs = needs; bound = bound })
 ranked_stands s b t node n needs bound rule ok same_node same_needs same_bound =
     subst (λ (x : Node). Stands s b (record { keys = time_key t ∷ []; node = x; needs = needs; bound = bound }))

@@ -23,7 +23,7 @@ use Rattle.bound_rounds.specs.Laws.{AreUniform}
 use Rattle.bound_rounds.specs.WorkedFinds.{seven}
 use Rattle.bound_rounds.specs.WorkedSets.{nothing_known, once_known}
 use Rattle.bound_rounds.specs.WorkedAnswers.{AnswersAreWorkedOut, RightSizesAreWorkedOut, MissingIsWorkedOut}
-use Rattle.bound_rounds.proofs.Cases.{either}
+use Rattle.bound_rounds.proofs.Cases.{either, false_true}
 use Rattle.bound_rounds.proofs.Keys.{has_key-cases, has_key-none}
 use Rattle.bound_rounds.proofs.WorkedStanding.{entered_ok, looped_ok}
 
@@ -72,7 +72,7 @@ no_sizing b (SpreadBy m) h = none h.same
   where
     none : {x : Spot} {xs : List Spot} → [] ≡ x ∷ xs → ⊥
     none e = cc
-no_sizing b (CycleBy []) h = let some = h.accepted.shape.some in omega (arith, some)
+no_sizing b (CycleBy []) h = let some = h.accepted.0.shape.some in omega (arith, some)
 no_sizing b (CycleBy (m ∷ ms)) h = none h.same
   where
     none : {x : Spot} {xs : List Spot} → [] ≡ x ∷ xs → ⊥
@@ -130,7 +130,7 @@ rule_of_keys (k ∷ keys) = k.rule
 too_early : IsSizingOf counting once_known (key 2 1 ∷ []) (CycleBy (looped_member ∷ [])) → ⊥
 too_early h =
     let sizes = All-head (HasSizesBefore counting (over once_known) (looped_member ∷ [])) looped_member []
-    h.accepted.sizes in
+    h.accepted.0.sizes in
     let size = (sizes 1 refl).up 0 refl refl in
     none_some size.0 size.1
 
@@ -138,6 +138,7 @@ lacks_size : FailsTogether counting once_known (key 2 1 ∷ []) (reasons.Missing
 lacks_size = record {
   all = looped_member ∷ [];
   spots = refl;
+  loop = refl;
   first = inr (
     looped_ok.shape,
     inr (
@@ -152,12 +153,13 @@ lacks_size = record {
 
 pub right_sizes : RightSizesAreWorkedOut
 right_sizes = record {
-  size = record { same = refl; accepted = entered_ok };
-  loop = record { same = refl; accepted = looped_ok };
+  size = record { same = refl; accepted = (entered_ok, refl) };
+  loop = record { same = refl; accepted = (looped_ok, refl) };
   not_of_another = λ h. let n : ◌≡◌ {A = ℕ} 2 1 = ap rule_of_keys h.same in omega (arith, n);
   not_too_early = too_early;
   no_time = λ h. h.accepted;
   reason = (reasons.MissingSize 1 1, refl, inr lacks_size);
+  not_a_loop = λ h. false_true h.accepted.1;
   of_nothing = no_answer;
 }
 

@@ -65,7 +65,8 @@ place_2 : IsPlace counting.program 2 1
 place_2 = record { symbol = 1; target = refl; least = omega arith; last = omega arith }
 
 abbrev IsLivePlace : ℕ → ℕ → Type 0
-IsLivePlace t i = IsRule counting.program t × (¬ (IsDead counting.program (λ e. false) t)) × IsPlace counting.program t i
+IsLivePlace t i = IsRule counting.program t × (¬ (IsDead counting.program (λ e. false) t))
+    × IsPlace counting.program t i
 
 after_1 : (t i : ℕ) → has_key (key 1 1 ∷ []) t i ≡ true → IsLivePlace t i
 after_1 t i m =
@@ -85,7 +86,7 @@ covered_place t i (inl m) = after_1 t i m
 covered_place t i (inr (inl m)) = after_2 t i m
 covered_place t i (inr (inr x)) = absurd x
 
-is_covered : (t i : ℕ) → IsRule counting.program t → IsPlace counting.program t i → IsCovered alone t i
+pub is_covered : (t i : ℕ) → IsRule counting.program t → IsPlace counting.program t i → IsCovered alone t i
 is_covered zero i rule place = absurd (no_rule_0 rule)
 is_covered (suc zero) i rule place = inl (subst (λ (n : ℕ). has_key (key 1 1 ∷ []) 1 n ≡ true)
     (sym (place_of_l i place)) refl)
@@ -146,7 +147,8 @@ module _ (rank : List ℕ → ℕ → List SymbolPlace → Ranking) (cs : List (
     where
       no_empty : (t : ℕ) → IsRule counting.program t → h.is_empty t ≡ false
       no_empty t rule =
-          told (h.is_empty t) (λ e. absurd (not_empty t ((h.empty t rule).0 e).multipliers ((h.empty t rule).0 e).shown))
+          told (h.is_empty t)
+          (λ e. absurd (not_empty t ((h.empty t rule).0 e).multipliers ((h.empty t rule).0 e).shown))
           (λ e. e)
 
       way_to_l : IsReached counting.program (λ e. not (h.is_empty e)) 1

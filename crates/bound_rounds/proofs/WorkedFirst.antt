@@ -242,12 +242,11 @@ first_told = record {
   not_twice = λ h. three (other_first
       (unreached_find [] 2 ∷ never_find apart.program 2 ∷ never_find apart.program 2 ∷ []) h);
   last = record { made = Begun first; closed = closed };
-  reason = record { missing = refl; target = TimeOf 1; asked = rule_1; has = refl; tells = time_tells };
+  reason = record { missing = refl; target = TimeOf 1; asked = (rule_1, refl); tells = time_tells };
   size_reason = record {
     missing = refl;
     target = SizesOf (key 1 1 ∷ []);
-    asked = ((key 1 1 ∷ []) ∷ [], refl, inl refl);
-    has = refl;
+    asked = ((key 1 1 ∷ []) ∷ [], refl, inl refl, refl);
     tells = size_tells;
   };
   four = four;

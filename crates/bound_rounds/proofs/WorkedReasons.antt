@@ -1,19 +1,19 @@
 -- Reasons of the program that counts down, where nothing ranks.
-use Rattle.std.proofs.Common.{◌≡◌, inl, inr, ℕ, true, List, [], ◌∷◌, refl, sym, ap, subst, arith}
+use Rattle.std.proofs.Common.{◌≡◌, inl, inr, ℕ, List, [], ◌∷◌, refl, sym, ap, subst, arith}
 use Rattle.rule_questions.proofs.model.Cases.{some_none}
 use Rattle.rule_questions.specs.proof_nodes.Gaps.{Gap}
 use Rattle.rule_questions.specs.proof_nodes.Nodes.{Spot}
 use Rattle.rule_questions.specs.proof_nodes.WorkedSettings.{counting}
 use Rattle.rule_questions.specs.proof_nodes.Worked.{once_time}
-use Rattle.bound_rounds.specs.Keys.{key, has_key}
+use Rattle.bound_rounds.specs.Keys.{key}
 use Rattle.bound_rounds.specs.Searches.{Searches, searches_of, Unsized, NoBound, NoFunction, Missing, Untimed, TooLarge}
-use Rattle.bound_rounds.specs.Answers.{Target, TimeOf, SizesOf, keys_asked, Lacks, TellsTime, TellsSize}
+use Rattle.bound_rounds.specs.Answers.{Target, TimeOf, SizesOf, Lacks, TellsTime, TellsSize}
 use Rattle.bound_rounds.specs.Components.{IsOneOf}
-use Rattle.bound_rounds.specs.Rounds.{IsClosed, Begun, IsTarget, IsNoBound}
+use Rattle.bound_rounds.specs.Rounds.{IsClosed, Begun, IsAskedFor, IsNoBound}
 use Rattle.bound_rounds.specs.WorkedSets.{nothing_known}
 use Rattle.bound_rounds.specs.WorkedRounds.{gap_over, never_ranks, alone, nothing_ranks, ReasonsAreWorkedOut}
-use Rattle.bound_rounds.proofs.FindsAreOne.{answers_one, time_has, reason_one}
-use Rattle.bound_rounds.proofs.WholeFinds.{member_covered}
+use Rattle.bound_rounds.proofs.FindsAreOne.{answers_one, reason_one}
+use Rattle.bound_rounds.proofs.UniformComponents.{member_covered}
 use Rattle.bound_rounds.proofs.WorkedSets.{first as first_set, second as second_set}
 use Rattle.bound_rounds.proofs.WorkedShut.{none_shut, none_shut_first, open_places, place_after_2}
 use Rattle.bound_rounds.proofs.WorkedComponents as parts
@@ -80,14 +80,13 @@ closed = record {
 }
 
 second_time : IsNoBound by_none counting [] 2 0 (NoFunction (gap_over (1 ∷ 2 ∷ []) 2 []))
-second_time = record { missing = refl; target = TimeOf 2; asked = parts.rule_2; has = refl; tells = second_tells }
+second_time = record { missing = refl; target = TimeOf 2; asked = (parts.rule_2, refl); tells = second_tells }
 
 second_size : IsNoBound by_none counting [] 2 1 (Missing (key 1 1))
 second_size = record {
   missing = refl;
   target = SizesOf (key 2 1 ∷ []);
-  asked = (alone, refl, inr (inl refl));
-  has = refl;
+  asked = (alone, refl, inr (inl refl), refl);
   tells = second_size_tells;
 }
 
@@ -95,7 +94,8 @@ second_size = record {
 one_reason : (t i : ℕ) (v w : NoBound) → IsNoBound by_none counting [] t i v → IsNoBound by_none counting [] t i w
     → v ≡ w
 one_reason t i v w h k =
-    reason_one by_none (answers_one nothing_ranks) counting alone refl (parts.components never_ranks alone) [] t i v w h k
+    reason_one by_none (answers_one nothing_ranks) counting alone refl (parts.components never_ranks alone).apart [] t i
+    v w h k
 
 gaps_differ : NoFunction (gap_over (2 ∷ []) 2 []) ≡ NoFunction (gap_over (1 ∷ 2 ∷ []) 2 []) → ⊥
 gaps_differ e =
@@ -112,12 +112,13 @@ causes_differ e = cc
 
 -- what is no place has no reason
 no_place : (why : NoBound) → IsNoBound by_none counting [] 2 2 why → ⊥
-no_place why h = go h.target h.asked h.has
+no_place why h = go h.target h.asked
   where
-    go : (g : Target) → IsTarget by_none counting g → has_key (keys_asked g) 2 2 ≡ true → ⊥
-    go (TimeOf u) a m = let e = (time_has u 2 2 m).1 in omega (arith, e)
-    go (SizesOf keys) a m =
-        let covered = member_covered alone keys 2 2 (subst (λ (cs : List (List Spot)). IsOneOf cs keys) (sym a.1) a.2) m in
+    go : (g : Target) → IsAskedFor by_none counting 2 2 g → ⊥
+    go (TimeOf u) a = a
+    go (SizesOf keys) a =
+        let covered = member_covered alone keys 2 2 (subst (λ (cs : List (List Spot)). IsOneOf cs keys) (sym a.1) a.2)
+        a.3 in
         let e = place_after_2 2 (parts.covered_place 2 2 covered).2 in omega (arith, e)
 
 pub reasons_told : ReasonsAreWorkedOut
@@ -128,13 +129,12 @@ reasons_told = record {
   not_descending = parts.not_descending never_ranks alone;
   not_of_entry = parts.not_of_entry never_ranks alone;
   last = record { made = Begun (nothing_first never_ranks alone); closed = closed };
-  first_time = record { missing = refl; target = TimeOf 1; asked = parts.rule_1; has = refl; tells = first_tells };
+  first_time = record { missing = refl; target = TimeOf 1; asked = (parts.rule_1, refl); tells = first_tells };
   second_time = second_time;
   first_size = record {
     missing = refl;
     target = SizesOf (key 1 1 ∷ []);
-    asked = (alone, refl, inl refl);
-    has = refl;
+    asked = (alone, refl, inl refl, refl);
     tells = first_size_tells;
   };
   second_size = second_size;

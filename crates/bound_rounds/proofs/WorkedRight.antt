@@ -1,5 +1,5 @@
 -- Answers that are right, and others that aren't.
-use Rattle.std.proofs.Common.{◌≡◌, ◌⊎◌, inl, inr, ℕ, suc, true, List, [], ◌∷◌, length, refl, sym, ap}
+use Rattle.std.proofs.Common.{◌≡◌, ◌⊎◌, inl, inr, ℕ, suc, ◌≤◌, true, List, [], ◌∷◌, length, refl, sym, ap}
 use Rattle.std.proofs.Common.{subst, arith}
 use Rattle.std.specs.Prelude.{pos, ◌≤ℤ◌}
 use Rattle.std.proofs.lemmas.Int.{ints}
@@ -19,7 +19,6 @@ use Rattle.rule_questions.proofs.proof_nodes.WorkedAccepted.{alone_accepted}
 use Rattle.bound_rounds.specs.Keys.{Bounds}
 use Rattle.bound_rounds.specs.Searches.{searches_of, Emptiness, NoPoint, HasPoint, EmptyTripped, Ranking, RankTripped}
 use Rattle.bound_rounds.specs.Searches.{Sizing}
-use Rattle.bound_rounds.specs.Answers.{are_open}
 use Rattle.bound_rounds.specs.Components.{AreComponentsOf}
 use Rattle.bound_rounds.specs.Right.{ReadsNoShut, EmptyTrips, IsFirstTrip}
 use Rattle.bound_rounds.specs.Right.{AreRight, IsRightEmptiness, IsRightRanking, IsRightSizing, IsQuestion}
@@ -48,15 +47,16 @@ right = record { empty = empty; rank = rank; components = parts; sizes = sizes }
     rank set t shut r question same =
         subst (λ (x : Ranking). IsRightRanking (searches_of all_trips) apart set t shut x) same (inl refl)
 
-    parts : (cs : List (List Spot)) → all_trips.components ≡ cs → AreComponentsOf (searches_of all_trips) apart.program cs
+    parts : (cs : List (List Spot)) → all_trips.components ≡ cs
+        → AreComponentsOf (searches_of all_trips) apart.program cs
     parts cs same =
         subst (λ (ds : List (List Spot)). AreComponentsOf (searches_of all_trips) apart.program ds) same
         (components (λ t. t))
 
-    sizes : (b : Bounds) (keys : List Spot) (answer : Sizing) → are_open b keys ≡ true → all_trips.size b keys ≡ answer
+    sizes : (b : Bounds) (keys : List Spot) (answer : Sizing) → 1 ≤ length keys → all_trips.size b keys ≡ answer
         → IsRightSizing apart b keys answer
-    sizes b [] answer open_one same = absurd (false_true open_one)
-    sizes b (m ∷ keys) answer open_one same =
+    sizes b [] answer some same = absurd (omega (arith, some))
+    sizes b (m ∷ keys) answer some same =
         subst (λ (x : Sizing). IsRightSizing apart b (m ∷ keys) x) same (m, has_key-first m keys, inl refl)
 
 -- a trip of another rule isn't right

@@ -36,8 +36,8 @@ tells_tries q s fs g a e tells =
     record { known = λ k. absurd (false_true (sym k ∙ e)); tried = λ k. (a, tells, refl) }
 
 -- and what is known isn't asked for
-pub known_tries : (q : Searches) (s : Setting) (fs : List Find) (g : Target) → is_open (bounds_of s.program fs) g ≡ false
-    → Tries q s fs g []
+pub known_tries : (q : Searches) (s : Setting) (fs : List Find) (g : Target)
+    → is_open (bounds_of s.program fs) g ≡ false → Tries q s fs g []
 known_tries q s fs g e = record { known = λ k. refl; tried = λ k. absurd (false_true (sym e ∙ k)) }
 
 -- lists of other lengths are others

@@ -15,7 +15,7 @@ use Rattle.bound_rounds.specs.Keys.{Bounds, IsPlace}
 use Rattle.bound_rounds.specs.Sets.{StandsBefore, IsShut, AreShutOf}
 use Rattle.bound_rounds.specs.WorkedSets.{nothing_known, once_known, entered_known, place, ShutOfCounting}
 use Rattle.bound_rounds.proofs.Cases.{false_true}
-use Rattle.bound_rounds.proofs.Contained.{contains-cases, contains-none, contains-first}
+use Rattle.bound_rounds.proofs.ListMembers.{contains-cases, contains-none, contains-first}
 
 -- a place after the virtual entry, and one after either rule, is place 1
 pub entry_place : (i : ℕ) → IsPlace counting.program 0 i → i ≡ 1
@@ -40,7 +40,8 @@ place_after_2 i h =
 entry_open : (bs : Bounds) (set : List ℕ) (entry : ℕ) (b : Bound) → bs entry 1 ≡ Some b
     → ((i : ℕ) → IsPlace counting.program entry i → i ≡ 1)
     → ((e : ℕ) → is_in e (entry ∷ []) ≡ true → e ≡ entry) → (s : SymbolPlace)
-    → ((h : IsShut counting.program bs set s) → is_in h.entry (entry ∷ []) ≡ true) → IsShut counting.program bs set s → ⊥
+    → ((h : IsShut counting.program bs set s) → is_in h.entry (entry ∷ []) ≡ true) → IsShut counting.program bs set s
+    → ⊥
 entry_open bs set entry b known only lone s enters h =
     let same = lone h.entry (enters h) in
     let there = subst (λ (n : ℕ). IsPlace counting.program n s.place) same h.place in

@@ -83,7 +83,8 @@ entered_ok =
       shape = ok.shape;
       up = ok.up;
       low = ok.low;
-      sizes = of_one (HasSizesAfter counting (over (known_with [])) [] entered_member) 0 (record { up = up; low = low });
+      sizes = of_one (HasSizesAfter counting (over (known_with [])) [] entered_member) 0
+          (record { up = up; low = low });
       small = record { before = refl; after = refl };
     }
   where
@@ -124,7 +125,8 @@ looped_ok =
     up_1 zero r n = (entered_size, refl)
     up_1 (suc j) r n = absurd (false_true r)
 
-    low_1 : ArmHasSizes counting (over (known_with two)) (looped_member ∷ []) looped_member.spot looped_member.local.low 1
+    low_1 : ArmHasSizes counting (over (known_with two)) (looped_member ∷ []) looped_member.spot
+        looped_member.local.low 1
     low_1 zero r n = absurd (false_true r)
     low_1 (suc j) r n = absurd (false_true r)
 
@@ -132,7 +134,8 @@ looped_ok =
     up_2 zero r n = absurd (true_false n)
     up_2 (suc j) r n = absurd (false_true r)
 
-    low_2 : ArmHasSizes counting (over (known_with two)) (looped_member ∷ []) looped_member.spot looped_member.local.low 2
+    low_2 : ArmHasSizes counting (over (known_with two)) (looped_member ∷ []) looped_member.spot
+        looped_member.local.low 2
     low_2 zero r n = absurd (false_true r)
     low_2 (suc j) r n = absurd (false_true r)
 
@@ -245,7 +248,8 @@ not_twice h =
     (All-head (IsNew (known_with (once_find ∷ []))) (time_key 1) [] h.each.1.0.fresh)
 
 not_bound : AllStand counting (ranked_find (time_key 1 ∷ []) once_node (time_key 0 ∷ []) (Constant 1) ∷ []) → ⊥
-not_bound h = other (first_over counting (ranked_find (time_key 1 ∷ []) once_node (time_key 0 ∷ []) (Constant 1)) [] h).bound
+not_bound h =
+    other (first_over counting (ranked_find (time_key 1 ∷ []) once_node (time_key 0 ∷ []) (Constant 1)) [] h).bound
   where
     other : Constant 1 ≡ once_time → ⊥
     other e = cc

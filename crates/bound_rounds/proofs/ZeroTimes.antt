@@ -8,7 +8,7 @@ use Rattle.rule_questions.specs.model.Entries.{is_in}
 use Rattle.rule_questions.proofs.model.Membership.{same_number, is_in-cases, no_is_not_yes}
 use Rattle.rule_questions.specs.proof_nodes.Nodes.{Spot}
 use Rattle.bound_rounds.specs.Keys.{Bounds, time_key, at_key, has_key}
-use Rattle.bound_rounds.specs.Finds.{Find, found}
+use Rattle.bound_rounds.specs.Finds.{Find, bound_found}
 use Rattle.bound_rounds.specs.Searches.{Searches}
 use Rattle.bound_rounds.specs.Beginning.{AreEmptyFinds, empty_find, unreached_find}
 use Rattle.bound_rounds.proofs.Cases.{either, told}
@@ -71,16 +71,17 @@ only_time u t i m =
 
 -- the time of each of these rules is found to be 0
 pub zero_found : (ts : List ℕ) (fs : List Find) → AreZeroTimesOf ts fs → (t : ℕ) → is_in t ts ≡ true
-    → found fs t 0 ≡ Some (Constant 0)
+    → bound_found fs t 0 ≡ Some (Constant 0)
 zero_found [] fs h t m = absurd (no_is_not_yes false refl m)
 zero_found (u ∷ ts) fs (f, rest, e, is, later) t m =
-    subst (λ (xs : List Find). found xs t 0 ≡ Some (Constant 0)) (sym e) (told (has_key f.keys t 0) here (other (zero_found ts rest later t)))
+    subst (λ (xs : List Find). bound_found xs t 0 ≡ Some (Constant 0)) (sym e)
+    (told (has_key f.keys t 0) here (other (zero_found ts rest later t)))
   where
-    here : has_key f.keys t 0 ≡ true → found (f ∷ rest) t 0 ≡ Some (Constant 0)
+    here : has_key f.keys t 0 ≡ true → bound_found (f ∷ rest) t 0 ≡ Some (Constant 0)
     here k = found-here f rest t 0 k ∙ ap (λ (b : Bound). Some b) is.bound
 
-    other : (is_in t ts ≡ true → found rest t 0 ≡ Some (Constant 0)) → has_key f.keys t 0 ≡ false
-        → found (f ∷ rest) t 0 ≡ Some (Constant 0)
+    other : (is_in t ts ≡ true → bound_found rest t 0 ≡ Some (Constant 0)) → has_key f.keys t 0 ≡ false
+        → bound_found (f ∷ rest) t 0 ≡ Some (Constant 0)
     other ih k = found-later f rest t 0 k ∙ ih (either (is_in-cases t u ts m) mine (λ l. l))
       where
         mine : t ≡ u → is_in t ts ≡ true
@@ -91,14 +92,14 @@ zero_found (u ∷ ts) fs (f, rest, e, is, later) t m =
 
 -- and nothing else is found
 pub zero_missing : (ts : List ℕ) (fs : List Find) → AreZeroTimesOf ts fs → (t i : ℕ)
-    → (is_in t ts ≡ true → 0 ≡ i → ⊥) → found fs t i ≡ None
-zero_missing [] fs h t i other = subst (λ (xs : List Find). found xs t i ≡ None) (sym h) refl
+    → (is_in t ts ≡ true → 0 ≡ i → ⊥) → bound_found fs t i ≡ None
+zero_missing [] fs h t i other = subst (λ (xs : List Find). bound_found xs t i ≡ None) (sym h) refl
 zero_missing (u ∷ ts) fs (f, rest, e, is, later) t i other =
-    subst (λ (xs : List Find). found xs t i ≡ None) (sym e) (told (has_key f.keys t i) here
+    subst (λ (xs : List Find). bound_found xs t i ≡ None) (sym e) (told (has_key f.keys t i) here
     (λ k. found-later f rest t i k
     ∙ zero_missing ts rest later t i (λ m place. other (or_right (t == u) (is_in t ts) m) place)))
   where
-    here : has_key f.keys t i ≡ true → found (f ∷ rest) t i ≡ None
+    here : has_key f.keys t i ≡ true → bound_found (f ∷ rest) t i ≡ None
     here k =
         let only = only_time u t i (subst (λ (ks : List Spot). has_key ks t i ≡ true) is.keys k) in
         absurd (other (or_left (t == u) (is_in t ts) (subst (λ (n : ℕ). (t == n) ≡ true) (sym only.0) (same_number t)))

@@ -10,7 +10,7 @@ use Rattle.rule_questions.specs.proof_nodes.Gaps.{SymbolPlace}
 use Rattle.bound_rounds.specs.Keys.{Bounds, time_key, at_key, lacks, over}
 use Rattle.bound_rounds.specs.Finds.{Node, RankBy, Find}
 use Rattle.bound_rounds.specs.Needs.{needs_of}
-use Rattle.bound_rounds.specs.Standing.{composed}
+use Rattle.bound_rounds.specs.Standing.{composed_bound}
 use Rattle.bound_rounds.specs.Sets.{IsSetOfRule, AreShutOf}
 use Rattle.bound_rounds.specs.Searches.{Searches, Ranking, Ranked, Unranked, RankTripped, Sizing, SizedBy, Unsized}
 use Rattle.bound_rounds.specs.Searches.{NoBound, NoFunction, Tripped, TooLarge}
@@ -60,7 +60,7 @@ TellsRanking s b (RankTripped t) a = a ≡ Lacks (Tripped t)
 
 -- and what that for a component tells
 abbrev pub TellsSizing : Setting → Bounds → Sizing → Answer → Type 0
-TellsSizing s b (SizedBy node) a = a ≡ Found node (needs_of s b node) (composed s b node)
+TellsSizing s b (SizedBy node) a = a ≡ Found node (needs_of s b node) (composed_bound s b node)
 TellsSizing s b (Unsized why) a = a ≡ Lacks why
 
 -- the rank question of rule t over bounds, and its answer

@@ -8,7 +8,7 @@ use Rattle.rule_questions.specs.proof_nodes.AcceptsSizes.{ComesBefore}
 use Rattle.bound_rounds.specs.Keys.{IsPlace, has_key}
 use Rattle.bound_rounds.specs.Searches.{Searches, NoPoint}
 
--- a rule is empty: multipliers show that its rows have no rational point, and nothing tripped
+-- a rule is empty: multipliers show that its rows have no rational point
 pub record IsEmpty (q : Searches) (t : ℕ) : Type 0 where
   pub multipliers : List ℕ
   pub shown : q.Empties t (NoPoint multipliers)

@@ -41,9 +41,9 @@ keys_of p (SpreadBy m) = m.spot ∷ []
 keys_of p (CycleBy members) = map (λ m. m.spot) members
 
 -- the bound of a key that was found: that of the first find which has the key
-abbrev pub found : List Find → Bounds
-found [] t i = None
-found (f ∷ fs) t i = cond (has_key f.keys t i) (Some f.bound) (found fs t i)
+abbrev pub bound_found : List Find → Bounds
+bound_found [] t i = None
+bound_found (f ∷ fs) t i = cond (has_key f.keys t i) (Some f.bound) (bound_found fs t i)
 
 -- the first bound, where there is one, else the second
 abbrev pub first_of : Option Bound → Option Bound → Option Bound
@@ -52,9 +52,9 @@ first_of (Some a) b = Some a
 
 -- all that is known with these finds: the bounds of the virtual entry, and those that were found
 abbrev pub bounds_of : Program → List Find → Bounds
-bounds_of p fs t i = first_of (start_bounds p t i) (found fs t i)
+bounds_of p fs t i = first_of (start_bounds p t i) (bound_found fs t i)
 
--- the number of the first find which has a key, where so many stand before
+-- the number of the first find which has a key, where so many stand before; 0 where none has it
 abbrev pub number_from : ℕ → List Find → ℕ → ℕ → ℕ
 number_from n [] t i = 0
 number_from n (f ∷ fs) t i = cond (has_key f.keys t i) (suc n) (number_from (suc n) fs t i)

@@ -11,7 +11,8 @@ pub mod Answers
 pub mod Components
 pub mod Beginning
 pub mod Rounds
--- when the answers of searches are right
+-- when members loop, and when the answers of searches are right
+pub mod Loops
 pub mod Right
 -- laws
 pub mod Laws
@@ -22,3 +23,6 @@ pub mod WorkedStanding
 pub mod WorkedRounds
 pub mod WorkedFirst
 pub mod WorkedAnswers
+pub mod WorkedCauses
+pub mod WorkedBeginnings
+pub mod WorkedLastRounds

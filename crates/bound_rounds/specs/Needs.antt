@@ -4,7 +4,8 @@ use Rattle.rule_questions.specs.int_laws.NormalForm.{is_zero}
 use Rattle.rule_questions.specs.model.Programs.{Program}
 use Rattle.rule_questions.specs.model.Paths.{target_of}
 use Rattle.rule_questions.specs.model.Entries.{is_in, entries}
-use Rattle.rule_questions.specs.proof_nodes.Nodes.{Spot, Member, RankNode, Proof, Proofs, NoProof, AndProof, Start, Cite}
+use Rattle.rule_questions.specs.proof_nodes.Nodes.{Spot, Member, RankNode, Proof, Proofs, NoProof, AndProof, Start}
+use Rattle.rule_questions.specs.proof_nodes.Nodes.{Cite}
 use Rattle.rule_questions.specs.proof_nodes.Nodes.{Empty, Unreached, Never, Rank, Spread, Cycle}
 use Rattle.rule_questions.specs.proof_nodes.Setting.{Setting}
 use Rattle.rule_questions.specs.proof_nodes.Known.{Table}

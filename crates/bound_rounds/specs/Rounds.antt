@@ -1,12 +1,12 @@
 -- Rounds: what each finds over what was found before, up to the one that finds nothing new.
-use Rattle.std.specs.Prelude.{◌≡◌, ℕ, true, false, List, [], ◌∷◌, ◌++◌, map, None}
+use Rattle.std.specs.Prelude.{◌≡◌, ℕ, zero, suc, true, false, List, [], ◌∷◌, ◌++◌, map, None}
 use Rattle.rule_questions.specs.proof_nodes.Nodes.{Spot}
 use Rattle.rule_questions.specs.proof_nodes.AcceptsPlain.{IsRule}
 use Rattle.rule_questions.specs.proof_nodes.Setting.{Setting}
 use Rattle.bound_rounds.specs.Keys.{has_key, rule_numbers}
 use Rattle.bound_rounds.specs.Finds.{Find, bounds_of}
 use Rattle.bound_rounds.specs.Searches.{Searches, NoBound}
-use Rattle.bound_rounds.specs.Answers.{Target, TimeOf, SizesOf, keys_asked, is_open, Answer, Lacks, finds_by, Tells}
+use Rattle.bound_rounds.specs.Answers.{Target, TimeOf, SizesOf, is_open, Answer, Lacks, finds_by, Tells}
 use Rattle.bound_rounds.specs.Components.{AreComponentsOf, IsOneOf}
 use Rattle.bound_rounds.specs.Beginning.{AreFirst}
 
@@ -58,15 +58,17 @@ pub record IsLast (q : Searches) (s : Setting) (fs : List Find) : Type 0 where
   pub made : IsMade q s fs
   pub closed : IsClosed q s fs
 
--- what is asked for in a round: the time of a rule, or one size for the members of a component
-abbrev pub IsTarget : Searches → Setting → Target → Type 0
-IsTarget q s (TimeOf t) = IsRule s.program t
-IsTarget q s (SizesOf keys) = (components : List (List Spot)) × q.AreComponents components × IsOneOf components keys
+-- this is asked for to get the bound of a key: of a rule its time, of a place the size of its component
+abbrev pub IsAskedFor : Searches → Setting → ℕ → ℕ → Target → Type 0
+IsAskedFor q s t zero (TimeOf u) = IsRule s.program t × (u ≡ t)
+IsAskedFor q s t zero (SizesOf keys) = ⊥
+IsAskedFor q s t (suc i) (TimeOf u) = ⊥
+IsAskedFor q s t (suc i) (SizesOf keys) = (components : List (List Spot)) × q.AreComponents components
+    × IsOneOf components keys × (has_key keys t (suc i) ≡ true)
 
--- why a key has no bound with these finds: what the searches tell of that for which it is asked
+-- why a key has no bound with these finds: what the searches tell of what is asked for it
 pub record IsNoBound (q : Searches) (s : Setting) (fs : List Find) (t i : ℕ) (why : NoBound) : Type 0 where
   pub missing : bounds_of s.program fs t i ≡ None
   pub target : Target
-  pub asked : IsTarget q s target
-  pub has : has_key (keys_asked target) t i ≡ true
+  pub asked : IsAskedFor q s t i target
   pub tells : Tells q s (bounds_of s.program fs) target (Lacks why)

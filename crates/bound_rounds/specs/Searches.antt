@@ -7,13 +7,13 @@ use Rattle.rule_questions.specs.proof_tree.declared.answer.Trip.{Trip}
 use Rattle.bound_rounds.specs.Keys.{Bounds}
 use Rattle.bound_rounds.specs.Finds.{Node}
 
--- why there is no bound: no function ranks the rule; a linear program passed a limit; a side of a place is loose, along
--- a ray and from a point; a size from outside is missing; a polynomial arm reads a member; a rule has no time; or the
+-- why there is no bound: no function ranks the rule; a side of a place is loose, along a ray and from a point; a linear
+-- program passed a limit; a size from outside is missing; a polynomial arm reads a member; a rule has no time; or the
 -- bound is too large, with so many nodes
 pub data NoBound : Type 0 where
   NoFunction : Gap → NoBound
-  Tripped : Trip → NoBound
   Loose : Side → List ℤ → ScaledPoint → NoBound
+  Tripped : Trip → NoBound
   Missing : Spot → NoBound
   Bent : Spot → NoBound
   Untimed : ℕ → NoBound
@@ -26,7 +26,7 @@ pub data Emptiness : Type 0 where
   HasPoint : ScaledPoint → Emptiness
   EmptyTripped : Trip → Emptiness
 
--- which function ranks a rule over a set: one of least weight, or none, with a gap, or a linear program passed a limit
+-- which function ranks a rule over a set: one, or none, with a gap, or a linear program passed a limit
 pub data Ranking : Type 0 where
   Ranked : RankNode → Ranking
   Unranked : Gap → Ranking
@@ -38,7 +38,7 @@ pub data Sizing : Type 0 where
   Unsized : NoBound → Sizing
 
 -- the answers of the searches: of a rule's emptiness; of a rank question of a set, a rule of it and shut places; the
--- components of the places of live rules, in order; and of a component where these bounds are known
+-- components of the places of live rules; and of a component where these bounds are known
 pub record Searches : Type 1 where
   pub Empties : ℕ → Emptiness → Type 0
   pub Ranks : List ℕ → ℕ → List SymbolPlace → Ranking → Type 0

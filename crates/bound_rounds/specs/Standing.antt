@@ -15,15 +15,15 @@ use Rattle.bound_rounds.specs.Finds.{bounds_of}
 use Rattle.bound_rounds.specs.Needs.{needs_of}
 
 -- the bound that a node composes over bounds
-abbrev pub composed : Setting → Bounds → Node → Bound
-composed s b (EmptyBy t multipliers) = Constant 0
-composed s b (UnreachedBy t) = Constant 0
-composed s b (NeverBy t) = Constant 0
-composed s b (RankBy node) = s.rewrite (rank_time s node (over b))
-composed s b (SpreadBy m) = s.rewrite (spread_size s (over b) m)
-composed s b (CycleBy members) = s.rewrite (cycle_size s (over b) members)
+abbrev pub composed_bound : Setting → Bounds → Node → Bound
+composed_bound s b (EmptyBy t multipliers) = Constant 0
+composed_bound s b (UnreachedBy t) = Constant 0
+composed_bound s b (NeverBy t) = Constant 0
+composed_bound s b (RankBy node) = s.rewrite (rank_time s node (over b))
+composed_bound s b (SpreadBy m) = s.rewrite (spread_size s (over b) m)
+composed_bound s b (CycleBy members) = s.rewrite (cycle_size s (over b) members)
 
--- a rule that isn't among these never runs
+-- whether a rule isn't among these, which never run
 abbrev pub is_left : List Spot → ℕ → Bool
 is_left dead e = not (has_key dead e 0)
 
@@ -63,7 +63,7 @@ pub record Stands (s : Setting) (b : Bounds) (f : Find) : Type 0 where
   pub accepted : AcceptsOver s b f.node f.needs
   pub needs : AreNeeds s b f.node f.needs
   pub known : All (λ k. IsKnown (at_key b k)) f.needs
-  pub bound : f.bound ≡ composed s b f.node
+  pub bound : f.bound ≡ composed_bound s b f.node
 
 -- finds with which others begin
 pub record IsBeginning (before fs : List Find) : Type 0 where

@@ -40,8 +40,8 @@ pub record AnswersAreWorkedOut : Type 0 where
   pub unsized : TellsSizing counting once_known (Unsized (Untimed 1)) (Lacks (Untimed 1))
   pub not_for_another : ¬ (TellsSizing counting once_known (Unsized (Untimed 1)) (Lacks (Untimed 2)))
 
--- a node is right of the places whose size it states, where it is accepted over what is known; the first size that is
--- missing for it is the right reason. Of no places no answer is right
+-- a node is right of the places whose size it states, where it is accepted over what is known, and a cycle only where
+-- they loop; the first size that is missing for it is the right reason. Of no places no answer is right
 pub record RightSizesAreWorkedOut : Type 0 where
   pub size : IsRightSizing counting nothing_known (key 1 1 ∷ []) (SizedBy (SpreadBy entered_member))
   pub loop : IsRightSizing counting entered_known (key 2 1 ∷ []) (SizedBy (CycleBy (looped_member ∷ [])))
@@ -49,6 +49,7 @@ pub record RightSizesAreWorkedOut : Type 0 where
   pub not_too_early : ¬ (IsRightSizing counting once_known (key 2 1 ∷ []) (SizedBy (CycleBy (looped_member ∷ []))))
   pub no_time : ¬ (IsRightSizing counting once_known (time_key 1 ∷ []) (SizedBy (RankBy once_node)))
   pub reason : IsRightSizing counting once_known (key 2 1 ∷ []) (Unsized (Missing (key 1 1)))
+  pub not_a_loop : ¬ (IsRightSizing counting nothing_known (key 1 1 ∷ []) (SizedBy (CycleBy (entered_member ∷ []))))
   pub of_nothing : (b : Bounds) (answer : Sizing) → ¬ (IsRightSizing counting b [] answer)
 
 -- at first both times and both sizes are missing, and each find takes its own away. Places are uniform where all have

@@ -11,7 +11,8 @@ use Rattle.rule_questions.specs.proof_nodes.Worked.{one_part, one_times, only, o
 use Rattle.rule_questions.specs.proof_nodes.Worked.{down_alone, entered_member, entered, entered_size, looped_member}
 use Rattle.rule_questions.specs.proof_nodes.Worked.{looped_size, doubled, three_times, all_inputs}
 use Rattle.bound_rounds.specs.Keys.{key, time_key, has_key, place_fact, over}
-use Rattle.bound_rounds.specs.Finds.{RankBy, EmptyBy, UnreachedBy, NeverBy, SpreadBy, CycleBy, Find, keys_of, found}
+use Rattle.bound_rounds.specs.Finds.{RankBy, EmptyBy, UnreachedBy, NeverBy, SpreadBy, CycleBy, Find, keys_of}
+use Rattle.bound_rounds.specs.Finds.{bound_found}
 use Rattle.bound_rounds.specs.Finds.{bounds_of, number_in, facts_of_find}
 use Rattle.bound_rounds.specs.Needs.{rank_needs, spread_needs, cycle_needs, uses_from, lemmas_of}
 use Rattle.bound_rounds.specs.Beginning.{empty_find, unreached_find, never_find}
@@ -63,7 +64,7 @@ both_keys = seven (time_key 1 ∷ key 1 1 ∷ [])
 
 -- with no finds the virtual entry alone is known: its time, and the size at its only place. The first find of a key
 -- counts, and no find takes the place of the virtual entry. A key has the number of its first find, counted from 1;
--- what isn't found has none, and the virtual entry has 0
+-- what isn't found has 0, as the virtual entry has
 pub record FindsAreReadOff : Type 0 where
   pub entry_time : bounds_of counting.program [] 0 0 ≡ Some (Constant 1)
   pub entry_size : bounds_of counting.program [] 0 1 ≡ Some (Input 0)
@@ -74,7 +75,7 @@ pub record FindsAreReadOff : Type 0 where
   pub second_key : bounds_of counting.program (once_find ∷ both_keys ∷ []) 1 1 ≡ Some (Constant 7)
   pub no_key : bounds_of counting.program (once_find ∷ both_keys ∷ []) 2 0 ≡ None
   pub entry_stays : bounds_of counting.program (seven (time_key 0 ∷ []) ∷ []) 0 0 ≡ Some (Constant 1)
-  pub found_alone : found (seven (time_key 0 ∷ []) ∷ []) 0 0 ≡ Some (Constant 7)
+  pub found_alone : bound_found (seven (time_key 0 ∷ []) ∷ []) 0 0 ≡ Some (Constant 7)
   pub first_number : number_in (once_find ∷ both_keys ∷ []) 1 0 ≡ 1
   pub second_number : number_in (once_find ∷ both_keys ∷ []) 1 1 ≡ 2
   pub no_number : number_in (once_find ∷ both_keys ∷ []) 2 0 ≡ 0

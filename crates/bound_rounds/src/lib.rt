@@ -13,6 +13,9 @@ ghost use Rattle.bound_rounds.specs.WorkedStanding.{StandingIsWorkedOut};
 ghost use Rattle.bound_rounds.specs.WorkedFirst.{FirstFindsAreWorkedOut, RightAnswersAreWorkedOut};
 ghost use Rattle.bound_rounds.specs.WorkedFirst.{RightRankingsAreWorkedOut};
 ghost use Rattle.bound_rounds.specs.WorkedRounds.{FirstRoundIsWorkedOut, LaterRoundsAreWorkedOut, ReasonsAreWorkedOut};
+ghost use Rattle.bound_rounds.specs.WorkedBeginnings.{BeginningsAreWorkedOut, EmptyFindsAreWorkedOut};
+ghost use Rattle.bound_rounds.specs.WorkedLastRounds.{LastRoundsAreWorkedOut};
+ghost use Rattle.bound_rounds.specs.WorkedCauses.{RightCausesAreWorkedOut, WrongGapsAreWorkedOut};
 ghost use Rattle.bound_rounds.specs.WorkedAnswers.{AnswersAreWorkedOut, RightSizesAreWorkedOut, MissingIsWorkedOut};
 
 /// The lemmas of finds that stand are accepted, and each states what its find does.
@@ -20,7 +23,7 @@ pub fn standing_finds_have_lemmas()
     ensures { StandingFindsHaveLemmas }
 {}
 
-/// A bound that was found is a fact of the lemma whose number its key has.
+/// A bound that was found is a fact of the lemma whose number its key has, and one find alone states it.
 pub fn finds_are_numbered()
     ensures { FindsAreNumbered }
 {}
@@ -40,23 +43,26 @@ pub fn rounds_end()
     ensures { RoundsEnd }
 {}
 
-/// With all finds that rounds make the members of a component have one size, or none has one.
+/// Where the components are those of the places of live rules, the members of each have one size or none with all finds
+/// that rounds make.
 pub fn components_are_uniform()
     ensures { ComponentsAreUniform }
 {}
 
-/// Rounds make one last list of finds, with which a bound that is missing has one reason.
+/// Rounds make one last list of finds; a time that is missing has one reason, and so has a size where no place is a
+/// member of two components.
 pub fn last_finds_are_one()
     ensures { LastFindsAreOne }
 {}
 
-/// There are first finds; where the components are those of the places of live rules, there is a round over all finds,
-/// and there are last ones.
+/// There are first finds; where the components are those of the places of live rules, there is a round over each list
+/// of finds, and there are last ones.
 pub fn last_finds_exist()
     ensures { LastFindsExist }
 {}
 
-/// Where a round finds nothing new, each missing bound has its reason.
+/// Where a round finds nothing new, each missing time of a rule has a reason, and so has each missing size in a
+/// component; with the last finds each missing size of a place after a rule has one.
 pub fn missing_bounds_have_reasons()
     ensures { MissingBoundsHaveReasons }
 {}
@@ -76,9 +82,11 @@ pub fn sets_are_as_worked_out()
     ensures shut { ShutOfCounting }
 {}
 
-/// Which finds of that program stand, and of one with a rule that is never reached, is what was worked out by hand.
+/// Which finds of that program stand, and of ones with a rule that is never reached or empty, is what was worked out by
+/// hand.
 pub fn standing_is_as_worked_out()
-    ensures { StandingIsWorkedOut }
+    ensures standing { StandingIsWorkedOut }
+    ensures empty { EmptyFindsAreWorkedOut }
 {}
 
 /// What is found before the first round of programs with rules that never run, and which answers are right, is what was
@@ -87,20 +95,25 @@ pub fn first_finds_are_as_worked_out()
     ensures first { FirstFindsAreWorkedOut }
     ensures right { RightAnswersAreWorkedOut }
     ensures rankings { RightRankingsAreWorkedOut }
+    ensures beginnings { BeginningsAreWorkedOut }
 {}
 
-/// The rounds of that program, from nothing and from the time of its first rule, and why bounds are missing where
-/// nothing ranks, are those worked out by hand.
+/// The rounds of that program, from nothing and from the time of its first rule, one alone and two, and of a component
+/// of two members, and why bounds are missing where nothing ranks or a bound is too large, are those worked out by
+/// hand.
 pub fn rounds_are_as_worked_out()
     ensures first { FirstRoundIsWorkedOut }
     ensures later { LaterRoundsAreWorkedOut }
     ensures reasons { ReasonsAreWorkedOut }
+    ensures last { LastRoundsAreWorkedOut }
 {}
 
 /// What answers of the program that counts down tell, which sizes are right, and how many bounds are missing, is what
-/// was worked out by hand.
+/// was worked out by hand; and so is which reasons of places and which gaps are right, on small programs.
 pub fn answers_are_as_worked_out()
     ensures answers { AnswersAreWorkedOut }
     ensures sizes { RightSizesAreWorkedOut }
     ensures missing { MissingIsWorkedOut }
+    ensures causes { RightCausesAreWorkedOut }
+    ensures gaps { WrongGapsAreWorkedOut }
 {}

@@ -1,5 +1,6 @@
 //! The grammar of run files, over single bytes.
 
+use class::{A, BLANK, D, E, K, LINE_FEED, N, O, P, R, S, T, U};
 use text_grammar::Item::{self, AMade, AMark, APiece, End, Or};
 use text_grammar::{
     DIGITS, MINUS, MORE, NATURAL, NATURAL_READ, NUMBER, NUMBER_BEGINS, ONE, POSITIVE, VALUE,
@@ -11,31 +12,14 @@ use text_grammar::{
 pub const LETTERS: [u8; 13] =
     [b' ', b'\n', b's', b't', b'e', b'p', b'a', b'd', b'k', b'n', b'o', b'r', b'u'];
 
-const BLANK: u32 = 4;
-
-const LINE_FEED: u32 = 5;
-
-const S: u32 = 6;
-
-const T: u32 = 7;
-
-const E: u32 = 8;
-
-const P: u32 = 9;
-
-const A: u32 = 10;
-
-const D: u32 = 11;
-
-const K: u32 = 12;
-
-const N: u32 = 13;
-
-const O: u32 = 14;
-
-const R: u32 = 15;
-
-const U: u32 = 16;
+// The classes of the letters.
+#[rattlefmt::skip]
+mod class {
+    pub const BLANK: u32 = 4; pub const LINE_FEED: u32 = 5;
+    pub const S: u32 = 6; pub const T: u32 = 7; pub const E: u32 = 8; pub const P: u32 = 9;
+    pub const A: u32 = 10; pub const D: u32 = 11; pub const K: u32 = 12; pub const N: u32 = 13;
+    pub const O: u32 = 14; pub const R: u32 = 15; pub const U: u32 = 16;
+}
 
 /// How many classes of bytes there are.
 pub const CLASSES: u32 = 18;

@@ -1,9 +1,10 @@
 -- Texts of bytes are lawful where their grammar can be read and their kinds differ.
-use Rattle.std.proofs.Common.{◌≡◌, ℕ, zero, suc, ◌+◌, ◌-◌, ◌<◌, ◌≤◌, Bool, true, false, cond, List, [], ◌∷◌, length, refl, ap, sym, subst, ◌∙◌, arith, lit<, inl, inr, Option, Some, None}
+use Rattle.std.proofs.Common.{◌≡◌, ℕ, zero, suc, ◌+◌, ◌-◌, ◌<◌, ◌≤◌, Bool, true, false, cond, List, [], ◌∷◌, length}
+use Rattle.std.proofs.Common.{refl, ap, sym, subst, ◌∙◌, arith, inl, inr, Option, Some, None}
 use Rattle.std.specs.Prelude.{◌==◌, slice_get}
 use Rattle.std.specs.Char.{is_ascii_digit}
 use Rattle.std.proofs.lemmas.Bool.{eqb-true}
-use Rattle.text_core.specs.Tokens.{Token, pieces, tokens_in, AreInOrder}
+use Rattle.text_core.specs.Tokens.{pieces, tokens_in, AreInOrder}
 use Rattle.text_core.specs.Readers.{Fault}
 use Rattle.text_core.specs.Faults.{Among}
 use Rattle.text_core.proofs.Lexing.{in_order_in}
@@ -11,7 +12,9 @@ use Rattle.text_grammar.specs.declared.cut.OneMode.TheVariants.{Plain}
 use Rattle.text_grammar.specs.Sounding.{is_readable}
 use Rattle.text_grammar.specs.Texts.{IsLawful}
 use Rattle.text_grammar.specs.Folds.{refusals, state}
-use Rattle.text_grammar.specs.ByteTexts.{ByteText, Spelling, Numeral, bytes_lexer, bytes_within, tokens, place_of, class_of, only, sample, byte_or, one_more, with_byte, fresh, fold_of, done_mark, grammar_of, texts_of}
+use Rattle.text_grammar.specs.ByteTexts.{ByteText, Spelling, Numeral, bytes_lexer, bytes_within, tokens, place_of}
+use Rattle.text_grammar.specs.ByteTexts.{class_of, only, byte_or, one_more, with_byte, fresh, fold_of}
+use Rattle.text_grammar.specs.ByteTexts.{done_mark, grammar_of, texts_of}
 use Rattle.text_grammar.proofs.Readable.{readable_if}
 use Rattle.text_grammar.proofs.PartLaws.{IsOnly}
 
@@ -27,14 +30,17 @@ pieces_bytes bytes = go bytes 0
 pub tokens_in_order : (bytes : List ℕ) → AreInOrder 0 (tokens bytes) (length bytes)
 tokens_in_order bytes =
     let o = in_order_in bytes_lexer bytes_within bytes Plain 0 0 (omega arith) in
-    subst (AreInOrder 0 (tokens bytes)) (let e : 0 + length bytes ≡ length bytes = omega arith in e) (subst (λ (n : ℕ). AreInOrder n (tokens bytes) (0 + length bytes)) (let e : 0 + 0 ≡ 0 = omega arith in e) o)
+    subst (AreInOrder 0 (tokens bytes)) (let e : 0 + length bytes ≡ length bytes =
+    omega arith in e) (subst (λ (n : ℕ). AreInOrder n (tokens bytes) (0 + length bytes))
+    (let e : 0 + 0 ≡ 0 = omega arith in e) o)
 
 -- the byte at the place of another is that one
 placed : (cs : List ℕ) (q p : ℕ) → slice_get cs (place_of cs q) ≡ Some p → q ≡ p
 placed [] q p e = cc
 placed (c ∷ cs) q p e = go (q == c) refl e (placed cs q p)
   where
-    go : (v : Bool) → (q == c) ≡ v → slice_get (c ∷ cs) (cond v 0 (suc (place_of cs q))) ≡ Some p → (slice_get cs (place_of cs q) ≡ Some p → q ≡ p) → q ≡ p
+    go : (v : Bool) → (q == c) ≡ v → slice_get (c ∷ cs) (cond v 0 (suc (place_of cs q))) ≡ Some p
+        → (slice_get cs (place_of cs q) ≡ Some p → q ≡ p) → q ≡ p
     go true k e ih = let same : c ≡ p = cc in eqb-true q c k ∙ same
     go false k e ih = ih e
 
@@ -58,7 +64,8 @@ module _ (letters : List ℕ) where
   classed : (b : ℕ) → class_of letters b < 5 + length letters
   classed b = go (b == 48) (b == 49) (is_ascii_digit b) (b == 45) (place_most letters b)
     where
-      go : (u v w y : Bool) → place_of letters b ≤ length letters → cond u 0 (cond v 1 (cond w 2 (cond y 3 (suc (suc (suc (suc (place_of letters b)))))))) < 5 + length letters
+      go : (u v w y : Bool) → place_of letters b ≤ length letters
+          → cond u 0 (cond v 1 (cond w 2 (cond y 3 (suc (suc (suc (suc (place_of letters b)))))))) < 5 + length letters
       go true v w y h = omega arith
       go false true w y h = omega arith
       go false false true y h = omega arith
@@ -72,7 +79,9 @@ module _ (letters : List ℕ) where
       some : (b : ℕ) → Some b ≡ Some p → b ≡ p
       some b e = cc
 
-      go : (u v w y : Bool) → (q == 48) ≡ u → (q == 49) ≡ v → (q == 45) ≡ y → only letters (cond u 0 (cond v 1 (cond w 2 (cond y 3 (suc (suc (suc (suc (place_of letters q))))))))) ≡ Some p → q ≡ p
+      go : (u v w y : Bool) → (q == 48) ≡ u → (q == 49) ≡ v → (q == 45) ≡ y
+          → only letters (cond u 0 (cond v 1 (cond w 2 (cond y 3 (suc (suc (suc (suc (place_of letters q)))))))))
+          ≡ Some p → q ≡ p
       go true v w y f g k e = eqb-true q 48 f ∙ some 48 e
       go false true w y f g k e = eqb-true q 49 g ∙ some 49 e
       go false false true y f g k e = cc
@@ -99,7 +108,9 @@ module _ {S T K : Type 0} (x : ByteText S T K) where
   spelled_done m s = go (m == 0) (m == 1) (m == 2) _ _ _ (omega arith)
     where
       go : (u v w : Bool) (a b c : S) → s.numeral.spelled ≤ s.numeral.spelled
-          → (cond u (record s { numeral = fresh }) (cond v (record { own = a; numeral = fresh }) (cond w (record { own = b; numeral = fresh }) (record s { own = c })))).numeral.spelled ≤ s.numeral.spelled
+          → (cond u (record s { numeral = fresh }) (cond v (record { own = a; numeral = fresh })
+          (cond w (record { own = b; numeral = fresh }) (record s { own = c })))).numeral.spelled
+          ≤ s.numeral.spelled
       go true v w a b c h = omega arith
       go false true w a b c h = omega arith
       go false false true a b c h = omega arith
@@ -109,21 +120,27 @@ module _ {S T K : Type 0} (x : ByteText S T K) where
   spelled_read : (b : ℕ) (m : Numeral) → (with_byte b m).spelled ≤ m.spelled + 1
   spelled_read b m = go (is_ascii_digit b) (b == 45) _
     where
-      go : (u v : Bool) (n : ℕ) → (cond u (record m { number = n; spelled = one_more m.spelled }) (cond v (record m { negative = true; spelled = one_more m.spelled }) fresh)).spelled ≤ m.spelled + 1
+      go : (u v : Bool) (n : ℕ) → (cond u (record m { number = n; spelled = one_more m.spelled })
+          (cond v (record m { negative = true; spelled = one_more m.spelled }) fresh)).spelled ≤ m.spelled + 1
       go true v n = omega arith
       go false true n = omega arith
       go false false n = omega arith
 
   -- the texts are lawful
-  pub bytes_lawful : is_readable (grammar_of x) ≡ true → ((a b : K) → x.number a ≡ x.number b → a ≡ b) → IsLawful (texts_of x)
+  pub bytes_lawful : is_readable (grammar_of x) ≡ true → ((a b : K) → x.number a ≡ x.number b → a ≡ b)
+      → IsLawful (texts_of x)
   bytes_lawful readable differ = record {
     readable = readable;
     classed = classed x.letters;
     differ = differ;
     floor_next = λ es at. omega arith;
-    floor_shown = λ es t y a. let e = refused_at _ _ y a in behind (is_ascii_digit t.piece) t.at (state (fold_of x) es).numeral.spelled y.at e;
+    floor_shown =
+        λ es t y a. let e = refused_at _ _ y a in behind (is_ascii_digit t.piece) t.at
+        (state (fold_of x) es).numeral.spelled y.at e;
     floor_did = λ es m at. let e = spelled_done m (state (fold_of x) es) in omega (arith, e);
-    floor_read = λ es t at some behind. let e = spelled_read t.piece (state (fold_of x) es).numeral in omega (arith, e, some, behind);
+    floor_read =
+        λ es t at some behind. let e = spelled_read t.piece (state (fold_of x) es).numeral in omega
+        (arith, e, some, behind);
   }
     where
       behind : (v : Bool) (at k y : ℕ) → y ≡ cond v (at - k) at → at - k ≤ y
@@ -134,5 +151,7 @@ module _ {S T K : Type 0} (x : ByteText S T K) where
   pub bytes_only : is_readable (grammar_of x) ≡ true → IsOnly (grammar_of x) (only x.letters)
   bytes_only readable = record {
     one = λ c p q e k. only_one x.letters q p (ap (only x.letters) k ∙ e);
-    its = λ c p e. ap (class_of x.letters) (sym (ap (byte_or (cond (c == 2) 50 0)) e)) ∙ (readable_if (grammar_of x) readable).sampled c (only_below x.letters c p e);
+    its =
+        λ c p e. ap (class_of x.letters) (sym (ap (byte_or (cond (c == 2) 50 0)) e)) ∙
+        (readable_if (grammar_of x) readable).sampled c (only_below x.letters c p e);
   }

@@ -17,6 +17,7 @@ pub mod PartLaws
 pub mod Numerals
 pub mod ByteLaws
 pub mod ByteDerivations
+pub mod ResultLaws
 pub mod WorkedGrammars
 -- the crate below, of which those above cite lemmas through this one
 pub use Rattle.text_core.proofs as text_core

@@ -1,5 +1,6 @@
 -- Texts whose pieces are single bytes, with decimal numbers in them.
-use Rattle.std.specs.Prelude.{◌≡◌, ℕ, zero, suc, ◌+◌, ◌*◌, ◌-◌, ◌^◌, ◌<◌, ◌≤◌, min, Bool, true, false, ◌==◌, if◌then◌else◌}
+use Rattle.std.specs.Prelude.{◌≡◌, ℕ, zero, suc, ◌+◌, ◌*◌, ◌-◌, ◌^◌, ◌<◌, ◌≤◌, min, Bool, true, false, ◌==◌}
+use Rattle.std.specs.Prelude.{if◌then◌else◌}
 use Rattle.std.specs.Prelude.{ℤ, pos, neg_ℤ, unsigned_abs, List, [], ◌∷◌, ◌++◌, length, Option, Some, None, slice_get}
 use Rattle.std.specs.Char.{is_ascii_digit}
 use Rattle.std.specs.Fmt.{decimal, signed_decimal}
@@ -12,7 +13,7 @@ use Rattle.text_grammar.specs.Grammars.{Grammar, Event, Read, Did, alternatives}
 use Rattle.text_grammar.specs.Marks.{lexer_of, tokens_of}
 use Rattle.text_grammar.specs.Texts.{Text}
 use Rattle.text_grammar.specs.Folds.{Fold, folded}
-use Rattle.text_grammar.specs.Parts.{Part, Says, Does, Puts, Atoms}
+use Rattle.text_grammar.specs.Parts.{Part, Says, Atoms}
 
 -- each byte is a piece
 abbrev pub byte_at : ℕ → List ℕ → Lexeme (Option ℕ)

@@ -9,6 +9,7 @@ pub mod Parts
 pub mod ByteTexts
 pub mod ByteParts
 pub mod CodeBytes
+pub mod Results
 pub mod Views
 pub mod Tabled
 pub mod Worked

@@ -3,6 +3,7 @@
 //! reader that answers exactly the tree or exactly the first fault (`specs/Texts`), and `read` is its code.
 #![tactic(auto)]
 
+mod byte_text;
 mod bytes;
 mod cut;
 mod entry;
@@ -16,6 +17,7 @@ mod tables;
 mod text;
 mod token;
 
+pub use byte_text::{ByteText, Spelling};
 pub use bytes::{
     Bytes, DIGITS, MINUS, MORE, NATURAL, NATURAL_READ, NUMBER, NUMBER_BEGINS, ONE, POSITIVE, VALUE,
     VALUE_READ, ZERO, class_of,

@@ -1,4 +1,4 @@
-use Rattle.bound_rounds.proofs.WholeFinds.{uniform_components}
+use Rattle.bound_rounds.proofs.UniformComponents.{uniform_components}
 use Rattle.bound_rounds.proofs.components_are_uniform.Goals as goal
 
 pub returns : goal.returns

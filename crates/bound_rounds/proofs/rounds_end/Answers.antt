@@ -1,4 +1,4 @@
-use Rattle.bound_rounds.proofs.Ends.{ends}
+use Rattle.bound_rounds.proofs.RoundsEnd.{ends}
 use Rattle.bound_rounds.proofs.rounds_end.Goals as goal
 
 pub returns : goal.returns

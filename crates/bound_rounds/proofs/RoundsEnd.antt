@@ -20,9 +20,9 @@ use Rattle.bound_rounds.proofs.Keys.{has_key-first}
 use Rattle.bound_rounds.proofs.FindLists.{bounds_of-new, bounds_of-kept, found-here}
 use Rattle.bound_rounds.proofs.MissingBounds.{missing_before}
 use Rattle.bound_rounds.proofs.MissingFalls.{IsKeyOfRule, missing_falls}
-use Rattle.bound_rounds.proofs.Numbered.{in_rules}
+use Rattle.bound_rounds.proofs.RuleNumbers.{in_rules}
 use Rattle.bound_rounds.proofs.TimesStand.{by_answer, open_time}
-use Rattle.bound_rounds.proofs.WholeFinds.{open_one, member_covered}
+use Rattle.bound_rounds.proofs.UniformComponents.{open_one, member_covered}
 
 -- a find has a key of a rule whose bound is missing with earlier finds
 pub record FindsMissing (p : Program) (fs : List Find) (f : Find) : Type 0 where

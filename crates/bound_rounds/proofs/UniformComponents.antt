@@ -7,20 +7,19 @@ use Rattle.rule_questions.specs.model.Entries.{is_in}
 use Rattle.rule_questions.specs.proof_nodes.Nodes.{Spot}
 use Rattle.rule_questions.specs.proof_nodes.Setting.{Setting}
 use Rattle.bound_rounds.specs.Keys.{Bounds, time_key, at_key, has_key, lacks, rule_numbers}
-use Rattle.bound_rounds.specs.Finds.{Find, found, bounds_of, keys_after}
+use Rattle.bound_rounds.specs.Finds.{Find, bound_found, bounds_of, keys_after}
 use Rattle.bound_rounds.specs.Searches.{Searches, searches_of, Answers}
 use Rattle.bound_rounds.specs.Answers.{TimeOf, SizesOf, are_open, Answer, Found, Lacks, finds_by}
 use Rattle.bound_rounds.specs.Components.{IsCovered, IsOneOf, AreApart, AreComponentsOf, IsDead}
 use Rattle.bound_rounds.specs.Beginning.{AreFirst, never_find}
 use Rattle.bound_rounds.specs.Rounds.{Tries, TriesAll, Together, InTurn, IsRound, IsMade, Begun, Made}
-use Rattle.bound_rounds.specs.Right.{AreRight}
 use Rattle.bound_rounds.specs.Laws.{AreUniform, ComponentsAreUniform}
 use Rattle.bound_rounds.proofs.Cases.{either, false_true, lacks_none}
 use Rattle.bound_rounds.proofs.Keys.{has_key-first, has_key-later}
 use Rattle.bound_rounds.proofs.FindLists.{found-here, found-later}
 use Rattle.bound_rounds.proofs.MissingBounds.{rule_bounds}
 use Rattle.bound_rounds.proofs.KnownNeeds.{of_each_in}
-use Rattle.bound_rounds.proofs.SameDead.{dead_by}
+use Rattle.bound_rounds.proofs.DeadRules.{dead_by}
 use Rattle.bound_rounds.proofs.ZeroTimes.{AreZeroTimesOf, empties_zero, unreached_zero, only_time}
 use Rattle.bound_rounds.proofs.FirstFindsStand.{empty_ones, cut_ones, sized_ones, dead_keys, cuts, nevers, sized_rule}
 use Rattle.bound_rounds.proofs.FirstFindsStand.{keys_after-told}
@@ -32,12 +31,12 @@ IsWhole c f = ((t i : ℕ) → has_key c t i ≡ true → has_key f.keys t i ≡
     ⊎ ((t i : ℕ) → has_key c t i ≡ true → has_key f.keys t i ≡ false)
 
 -- so the members are found with one bound, or none is
-pub uniform_found : (c : List Spot) (fs : List Find) → All (IsWhole c) fs → AreUniform (found fs) c
+pub uniform_found : (c : List Spot) (fs : List Find) → All (IsWhole c) fs → AreUniform (bound_found fs) c
 uniform_found c [] whole t i u j m n = refl
 uniform_found c (f ∷ fs) whole t i u j m n =
     go (All-head (IsWhole c) f fs whole) (uniform_found c fs (All-tail (IsWhole c) f fs whole) t i u j m n)
   where
-    go : IsWhole c f → found fs t i ≡ found fs u j → found (f ∷ fs) t i ≡ found (f ∷ fs) u j
+    go : IsWhole c f → bound_found fs t i ≡ bound_found fs u j → bound_found (f ∷ fs) t i ≡ bound_found (f ∷ fs) u j
     go (inl all) rest = found-here f fs t i (all t i m) ∙ sym (found-here f fs u j (all u j n))
     go (inr none) rest = found-later f fs t i (none t i m) ∙ (rest ∙ sym (found-later f fs u j (none u j n)))
 
@@ -176,32 +175,27 @@ module _ (q : Searches) (s : Setting) (cs : List (List Spot)) (are : AreComponen
       ∙ (uniform_found c fs whole t i u j m n
       ∙ sym (rule_bounds s.program fs u j ((are.live u j).0 (member_covered cs c u j one n)).0))
 
-module _ (a : Answers) (s : Setting) (right : AreRight (searches_of a) s) where
-  -- the components are those of the places of live rules
-  pub live_components : AreComponentsOf (searches_of a) s.program a.components
-  live_components = right.components a.components refl
-
+module _ (a : Answers) (s : Setting) (are : AreComponentsOf (searches_of a) s.program a.components) where
   -- all that is found in a round has all members of a component, or none
   pub round_whole : (fs more : List Find) → IsRound (searches_of a) s fs more → (c : List Spot)
       → IsOneOf a.components c → All (IsWhole c) more
   round_whole fs more n c one =
       subst (λ (xs : List Find). All (IsWhole c) xs) (sym n.all)
       (All-append (IsWhole c) n.times n.sizes
-      (times_whole (searches_of a) s a.components live_components c one fs (rule_numbers s.program) n.times n.timed)
-      (sizes_whole (searches_of a) s a.components live_components c one (fs ++ n.times) n.components
+      (times_whole (searches_of a) s a.components are c one fs (rule_numbers s.program) n.times n.timed)
+      (sizes_whole (searches_of a) s a.components are c one (fs ++ n.times) n.components
       (λ d k. subst (λ (cs : List (List Spot)). IsOneOf cs d) (sym n.are_components) k) n.sizes n.sized))
 
   -- and so has all that rounds make
   pub made_whole : (fs : List Find) → IsMade (searches_of a) s fs → (c : List Spot) → IsOneOf a.components c
       → All (IsWhole c) fs
-  made_whole fs (Begun h) c one = first_whole (searches_of a) s a.components live_components c one fs h
+  made_whole fs (Begun h) c one = first_whole (searches_of a) s a.components are c one fs h
   made_whole fs (Made {fs = old} {more = more} m n) c one =
       All-append (IsWhole c) old more (made_whole old m c one) (round_whole old more n c one)
 
 -- the members of each component have one size or none with all finds that rounds make
 pub uniform_components : ComponentsAreUniform
 uniform_components = record {
-  each = λ a s right fs made keys one.
-      uniform_bounds (searches_of a) s a.components (live_components a s right) keys one fs
-      (made_whole a s right fs made keys one);
+  each = λ a s are fs made keys one.
+      uniform_bounds (searches_of a) s a.components are keys one fs (made_whole a s are fs made keys one);
 }
