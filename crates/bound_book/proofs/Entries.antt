@@ -1,5 +1,5 @@
 -- What stands at a position, and at a place after a rule, once a value was written where there was none.
-use Rattle.std.proofs.Common.{◌≡◌, get_or, Bool, true, false, cond, ℕ, zero, suc, ◌<◌, ◌≤◌, List, [], ◌∷◌, length, map}
+use Rattle.std.proofs.Common.{◌≡◌, get_or, true, false, cond, ℕ, zero, suc, ◌<◌, ◌≤◌, List, [], ◌∷◌, length, map}
 use Rattle.std.proofs.Common.{Option, Some, None, refl, sym, ◌∙◌, ap, arith}
 use Rattle.std.specs.Prelude.{slice_set, is_some}
 use Rattle.model.proofs.Cases.{none_some}

@@ -1,11 +1,11 @@
 -- The table stays the index of the list when a find is taken.
-use Rattle.std.proofs.Common.{◌≡◌, ◌⊎◌, inl, inr, ℕ, zero, suc, ◌+◌, ◌-◌, ◌<◌, ◌≤◌, ◌^◌, ◌&&◌, Bool, true, false, cond}
+use Rattle.std.proofs.Common.{◌≡◌, ◌⊎◌, inl, inr, ℕ, zero, suc, ◌+◌, ◌<◌, ◌≤◌, ◌&&◌, Bool, true, false, cond}
 use Rattle.std.proofs.Common.{List, [], ◌∷◌, ◌++◌, length, map, Option, Some, None, refl, sym, ◌∙◌, ap, subst, arith}
 use Rattle.std.specs.Prelude.{slice_get, slice_index_or}
 use Rattle.std.proofs.lemmas.List.{map-append, length-append, length-map}
 use Rattle.model.specs.Bounds.{Bound}
 use Rattle.model.specs.Paths.{target_in}
-use Rattle.model.specs.Programs.{Program, Rule, rule_at, arity_of}
+use Rattle.model.specs.Programs.{Program, Rule, arity_of}
 use Rattle.model.proofs.Cases.{none_some}
 use Rattle.model.proofs.Membership.{slice_get-below}
 use Rattle.bound_expr.specs.Views.{bound_of}
@@ -82,7 +82,7 @@ pub no_entry : (p : Program) (i : ℕ) → IsKey p 0 i → ⊥
 no_entry p i k = let e = k.rule.numbered in let f : ⊥ = cc in f
 
 -- a key that is found by the last find alone has its number
-pub number-new : (n : ℕ) (fs : List plain.Find) (g : plain.Find) (t i : ℕ) → plain.found fs t i ≡ None
+pub number-new : (n : ℕ) (fs : List plain.Find) (g : plain.Find) (t i : ℕ) → plain.bound_found fs t i ≡ None
     → has_key g.keys t i ≡ true → plain.number_from n (fs ++ g ∷ []) t i ≡ suc (n + length fs)
 number-new n [] g t i e m = rw m (let h : suc n ≡ suc (n + 0) = omega arith in h)
 number-new n (f ∷ fs) g t i e m =
@@ -165,7 +165,7 @@ numbers_taken p old new finds g book open_keys written t i = told (has_key g.key
         ∙ (both_hold (has_key g.keys (suc t) i) (is_free old (suc t) i) (length finds + 1) (number_at old (suc t) i) m room
         ∙ (number
         ∙ sym (number-new 0 (finds_of finds) g (suc t) i
-        (first_of-missing None (plain.found (finds_of finds) (suc t) i) unknown).1 m)))
+        (first_of-missing None (plain.bound_found (finds_of finds) (suc t) i) unknown).1 m)))
 
     elsewhere : (t : ℕ) → has_key g.keys t i ≡ false
         → number_at new t i ≡ plain.number_in (finds_of finds ++ g ∷ []) t i

@@ -12,7 +12,7 @@ use Rattle.guard_prep.proofs.StepLaws.{few-places}
 use Rattle.bound_rounds.specs.Keys.{Bounds, IsPlace, has_key, lacks, rule_numbers}
 use Rattle.bound_rounds.specs.Finds as plain
 use Rattle.bound_rounds.specs.Laws.{all_unsized, missing}
-use Rattle.bound_rounds.proofs.Cases.{count-first}
+use Rattle.bound_rounds.proofs.Counts.{count-first}
 use Rattle.bound_rounds.proofs.Keys.{has_key-first}
 use Rattle.bound_rounds.proofs.FindLists.{bounds_of-kept, bounds_of-new, found-here}
 use Rattle.bound_rounds.proofs.MissingFalls.{IsKeyOfRule, missing_falls}

@@ -1,22 +1,22 @@
 -- The table before anything is found has the bounds of the virtual entry, and no others.
-use Rattle.std.proofs.Common.{◌≡◌, ℕ, zero, suc, ◌+◌, ◌-◌, ◌<◌, ◌≤◌, ◌^◌, Bool, true, false, cond, List, [], ◌∷◌, ◌++◌, length, map, replicate}
+use Rattle.std.proofs.Common.{◌≡◌, ℕ, zero, suc, ◌+◌, ◌<◌, ◌≤◌, Bool, true, false, cond, List, [], ◌∷◌, ◌++◌, length, map, replicate}
 use Rattle.std.proofs.Common.{Option, Some, None, refl, sym, ◌∙◌, ap, arith}
 use Rattle.std.specs.Prelude.{nat_lt}
 use Rattle.std.specs.List.{range_with_len}
 use Rattle.std.proofs.lemmas.Bool.Decides.{nat_tests}
 use Rattle.std.proofs.lemmas.List.{length-map, length-replicate, map-append}
 use Rattle.std.proofs.lemmas.List.FromFn.{length-range_with_len}
-use Rattle.model.specs.Bounds.{Bound, Constant, Input}
+use Rattle.model.specs.Bounds.{Bound, Input}
 use Rattle.model.specs.Programs.{Program, Rule, arity_of}
 use Rattle.its_model.specs.Valid.{IsValid}
 use Rattle.bound_rounds.proofs.Cases.{told}
-use Rattle.bound_rounds.specs.Keys.{start_bounds, start_size}
+use Rattle.bound_rounds.specs.Keys.{start_bounds}
 use Rattle.bound_rounds.specs.Finds as plain
 use Rattle.outcome.specs.declared.entry.Stored.{Stored}
 use Rattle.size_bounds.specs.declared.table.Table.{Table}
 use Rattle.size_bounds.specs.Tables.{entry_at, row_at, bound_stored, lemma_stored}
 use Rattle.bound_book.specs.declared.find.Find.{Find}
-use Rattle.bound_book.specs.Books.{HasKeys, IsBook}
+use Rattle.bound_book.specs.Books.{IsBook}
 use Rattle.bound_book.specs.ByKey.{bounds_in, number_at, rows_of, stored_in}
 use Rattle.bound_book.specs.Views.{finds_of}
 use Rattle.bound_book.proofs.Room.{missing_few}

@@ -1,5 +1,5 @@
 -- Worked values of tables by key, and of books.
-use Rattle.std.proofs.Common.{◌≡◌, cond, List, Option, Some, None, refl, ◌∙◌, ap}
+use Rattle.std.proofs.Common.{cond, List, Option, Some, None, refl, ◌∙◌, ap}
 use Rattle.bound_rounds.specs.Keys.{has_key}
 use Rattle.outcome.specs.declared.entry.Stored.{Stored}
 use Rattle.proof_tree.specs.proof_nodes.Nodes.{Spot}

@@ -1,5 +1,5 @@
 -- Worked values: what is read of tables by key, what is written, and which tables are the index of one find.
-use Rattle.std.specs.Prelude.{◌≡◌, ℕ, ◌&&◌, true, false, List, [], ◌∷◌, Option, Some, None}
+use Rattle.std.specs.Prelude.{◌≡◌, ℕ, true, false, [], ◌∷◌, Some, None}
 use Rattle.bound_expr.specs.Views.{bound_of}
 use Rattle.bound_rounds.specs.Keys.{key}
 use Rattle.model.specs.Programs.{Program}

@@ -1,4 +1,4 @@
-use Rattle.std.proofs.Common.{length, sym, subst, ap, ◌∙◌, ℕ, arith, map}
+use Rattle.std.proofs.Common.{subst, ℕ, arith}
 use Rattle.std.proofs.lemmas.List.{length-map}
 use Rattle.its_model.specs.Views.{program_of, rule_of}
 use Rattle.bound_book.specs.Starting.{AreStartTimes}

@@ -1,4 +1,4 @@
-use Rattle.std.proofs.Common.{[], ◌∷◌, List, map, take, get_or, subst, sym, ◌∙◌, ap}
+use Rattle.std.proofs.Common.{[], ◌∷◌, List, map, take, subst, sym, ◌∙◌, ap}
 use Rattle.std.proofs.lemmas.List.{take_more, map-append}
 use Rattle.bound_expr.specs.Views.{bound_of}
 use Rattle.proof_tree.specs.proof_nodes.Nodes.{Spot}
