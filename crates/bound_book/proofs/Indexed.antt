@@ -162,7 +162,8 @@ numbers_taken p old new finds g book open_keys written t i = told (has_key g.key
         let long = length-map finds find_of in
         let number : length finds + 1 ≡ suc (0 + length (finds_of finds)) = omega (arith, long) in
         written.numbers (suc t) i
-        ∙ (both_hold (has_key g.keys (suc t) i) (is_free old (suc t) i) (length finds + 1) (number_at old (suc t) i) m room
+        ∙ (both_hold (has_key g.keys (suc t) i) (is_free old (suc t) i) (length finds + 1) (number_at old (suc t) i)
+        m room
         ∙ (number
         ∙ sym (number-new 0 (finds_of finds) g (suc t) i
         (first_of-missing None (plain.bound_found (finds_of finds) (suc t) i) unknown).1 m)))

@@ -91,7 +91,8 @@ choice f true x y = refl
 choice f false x y = refl
 
 -- a value that is put at a key is written there
-pub put_written : (old new : Table) (k : Spot) (s : Stored) → new.times.items ≡ put_time old.times.items k.rule k.place s
+pub put_written : (old new : Table) (k : Spot) (s : Stored)
+    → new.times.items ≡ put_time old.times.items k.rule k.place s
     → rows_of new ≡ put_place (rows_of old) k.rule k.place s → IsWritten old (k ∷ []) (bound_of s.bound) s.lemma new
 put_written old new k s times rows = record {
   bounds = λ t i. ap bound_stored (put_at old new k s times rows t i).0
@@ -128,7 +129,8 @@ has_key-join (x ∷ xs) ys t i =
     go true w a b e = refl
     go false w a b e = e
 
-twice : {A : Type 0} (h k f : Bool) (x y : A) → cond (k && (f && not h)) x (cond (h && f) x y) ≡ cond ((h || k) && f) x y
+twice : {A : Type 0} (h k f : Bool) (x y : A)
+    → cond (k && (f && not h)) x (cond (h && f) x y) ≡ cond ((h || k) && f) x y
 twice true true true x y = refl
 twice true true false x y = refl
 twice true false true x y = refl

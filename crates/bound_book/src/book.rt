@@ -16,8 +16,8 @@ use proof_tree::Spot;
 use size_bounds::Table;
 use std::alloc::Global;
 
-/// What was found, one after the other, and a table by key that is its index: lemmas are numbered from 1 in the order of
-/// finds.
+/// What was found, one after the other, and a table by key that is its index: lemmas are numbered from 1 in the order
+/// of finds.
 #[derive(Debug, Drop)]
 pub struct Book {
     pub table: Table,

@@ -9,5 +9,6 @@ pub returns-clause-book : goal.returns-clause-book
 returns-clause-book c =
     started (program_of c.args.p.now) _ c.new.result.items c.requires.valid
     (subst (λ (n : ℕ). AreStartTimes n c.in_ok-times.times.items)
-    (let long = length-map c.args.p.now.rules.items rule_of in omega (arith, long, c.len.ensures, c.args.p.now.rules.ok.0))
+    (let long = length-map c.args.p.now.rules.items rule_of in
+    omega (arith, long, c.len.ensures, c.args.p.now.rules.ok.0))
     c.in_ok-times.ensures) c.in_ok-sizes.ensures c.new.ensures.items

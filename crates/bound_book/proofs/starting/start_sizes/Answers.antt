@@ -31,7 +31,8 @@ pub index-requires-in-loop-rule : goal.index-requires-in-loop-rule
 index-requires-in-loop-rule c =
     subst (λ (n : ℕ). c.rule-item.result.target < n) (sym c.args.p.now.symbols.ok.0)
     (target_read c.args.p.now c.requires.valid c.loop-rule.rule-index c.rule-item.result
-    (subst (λ (rs : List Rule). c.loop-rule.rule-index < length rs) c.deref-rule-items.ensures.value c.loop-rule-test.true)
+    (subst (λ (rs : List Rule). c.loop-rule.rule-index < length rs) c.deref-rule-items.ensures.value
+    c.loop-rule-test.true)
     (c.rule-item.is
     ∙ ap (λ (rs : List Rule). get_or rs c.loop-rule.rule-index c.rule-item.result) c.deref-rule-items.ensures.value))
 
@@ -54,5 +55,6 @@ loop-rule-preserved c =
     (map (λ (row : Vec (Option Stored) Global). row.items) c.push-in-loop-rule.new.self.items)
     c.in_ok-nothing.field-0.items c.loop-rule.invariant
     (ap (map (λ (row : Vec (Option Stored) Global). row.items)) c.in_ok-push-2.ensures.items
-    ∙ map-append (λ (row : Vec (Option Stored) Global). row.items) c.loop-rule.sizes.items (c.in_ok-nothing.field-0 ∷ []))
+    ∙ map-append (λ (row : Vec (Option Stored) Global). row.items) c.loop-rule.sizes.items
+    (c.in_ok-nothing.field-0 ∷ []))
     (c.in_ok-nothing.ensures ∙ ap (λ (n : ℕ). replicate n None) (sym arity)))

@@ -5,4 +5,5 @@ use Rattle.bound_book.proofs.starting.start_sizes.Given as goal
 
 abbrev pub invariant-loop-rule : goal.invariant-loop-rule
 invariant-loop-rule l =
-    AreFirstRows (program_of l.p) (map rule_of (take l.rule-index l.p.rules.items)) (map (λ row. row.items) l.sizes.items)
+    AreFirstRows (program_of l.p) (map rule_of (take l.rule-index l.p.rules.items))
+    (map (λ row. row.items) l.sizes.items)

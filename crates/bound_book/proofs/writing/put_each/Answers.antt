@@ -9,7 +9,8 @@ use Rattle.bound_book.proofs.writing.put_each.Goals as goal
 
 pub loop-key-preserved : goal.loop-key-preserved
 loop-key-preserved c =
-    subst (λ (ks : List Spot). IsWritten c.args.table.now ks (bound_of c.args.bound.now) c.args.lemma c.put_copy.new.table)
+    subst
+    (λ (ks : List Spot). IsWritten c.args.table.now ks (bound_of c.args.bound.now) c.args.lemma c.put_copy.new.table)
     (sym (ap (map spot_of) (take_more c.args.keys.now c.loop-key.key-index _ c.loop-key-test.true)
     ∙ map-append spot_of (take c.loop-key.key-index c.args.keys.now) (_ ∷ [])))
     (written_more c.args.table.now c.loop-key.table c.put_copy.new.table

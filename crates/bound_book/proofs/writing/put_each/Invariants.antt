@@ -6,4 +6,5 @@ use Rattle.bound_book.proofs.writing.put_each.Given as goal
 
 -- the bound is written at the keys so far
 abbrev pub invariant-loop-key : goal.invariant-loop-key
-invariant-loop-key l = IsWritten l.initial.table (map spot_of (take l.key-index l.keys)) (bound_of l.bound) l.lemma l.table
+invariant-loop-key l =
+    IsWritten l.initial.table (map spot_of (take l.key-index l.keys)) (bound_of l.bound) l.lemma l.table

@@ -10,9 +10,11 @@ returns-then-position-len g c =
 pub returns-then-is_some : goal.returns-then-is_some
 returns-then-is_some g c =
     entry_filled c.args.row.now.items c.args.position c.args.value c.index.result.now
-    (omega (arith, c.if-position-len.false, c.len.ensures, c.args.row.now.ok.0)) c.index.ensures (sym c.is_some.ensures ∙ c.if-is_some.true)
+    (omega (arith, c.if-position-len.false, c.len.ensures, c.args.row.now.ok.0)) c.index.ensures
+    (sym c.is_some.ensures ∙ c.if-is_some.true)
 
 pub returns : goal.returns
 returns g c =
     entry_set c.args.row.now.items c.args.position c.args.value c.index.result.now
-    (omega (arith, c.if-position-len.false, c.len.ensures, c.args.row.now.ok.0)) c.index.ensures (sym c.is_some.ensures ∙ c.if-is_some.false)
+    (omega (arith, c.if-position-len.false, c.len.ensures, c.args.row.now.ok.0)) c.index.ensures
+    (sym c.is_some.ensures ∙ c.if-is_some.false)
