@@ -15,6 +15,7 @@ use Rattle.bound_book.specs.Books.{IsBook}
 use Rattle.bound_book.specs.ByKey.{bounds_in, number_at, stored_in}
 use Rattle.bound_book.specs.Views.{finds_of}
 
+-- the size that is stored of a place is that by key; place 0 is none
 sizes_by_key : (tab : Table) (t i : ℕ) → bound_stored (stored_size tab t i) ≡ size_by (bounds_in tab) t i
 sizes_by_key tab t zero = refl
 sizes_by_key tab t (suc i) = refl
@@ -36,6 +37,7 @@ pub table_by_finds : (p : Program) (tab : Table) (finds : List Find) → IsBook 
     → table_of tab ≡ over (plain.bounds_of p (finds_of finds))
 table_by_finds p tab finds book = table_by_key tab ∙ ap over (bounds_by_finds p tab finds book)
 
+-- something is stored where a bound is
 known_stored : (o : Option Stored) → is_some o ≡ not (lacks (bound_stored o))
 known_stored None = refl
 known_stored (Some s) = refl

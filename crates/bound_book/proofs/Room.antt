@@ -26,6 +26,7 @@ use Rattle.bound_book.specs.declared.find.Find.{Find}
 use Rattle.bound_book.specs.Books.{IsBook, IsKey, AreOpen}
 use Rattle.bound_book.specs.Views.{finds_of}
 
+-- what a test counts for is at most 1
 one_at_most : (v : Bool) → cond v 1 0 ≤ 1
 one_at_most true = omega arith
 one_at_most false = omega arith
@@ -47,6 +48,7 @@ places_few p v (Some a) =
     let few = few-places p.symbols a v.symbols in
     omega (arith, long, few)
 
+-- so few sizes are missing after rules
 sizes_few : (p : Program) → IsValid p → (b : Bounds) (ts : List ℕ) → all_unsized p b ts ≤ 32 * length ts
 sizes_few p v b [] = omega arith
 sizes_few p v b (t ∷ ts) =
@@ -63,6 +65,7 @@ missing_few p v b =
     let long = length-range_with_len 1 (length p.rules) in
     omega (arith, times, sizes, long, v.few_rules)
 
+-- the key of a rule, as it is said of bounds that are missing
 key_of_rule : (p : Program) (t i : ℕ) → IsKey p t i → IsKeyOfRule p t i
 key_of_rule p t i k = (k.rule, place k.place)
   where
@@ -92,6 +95,7 @@ abbrev pub AreDistinct : List Spot → Type 0
 AreDistinct [] = ⊤
 AreDistinct (k ∷ keys) = (has_key keys k.rule k.place ≡ false) × AreDistinct keys
 
+-- of two bounds the first counts where there is no other
 first_of_alone : (o : Option Bound) → plain.first_of o None ≡ o
 first_of_alone None = refl
 first_of_alone (Some b) = refl
@@ -110,17 +114,21 @@ module _ (p : Program) (fs : List plain.Find) (g : plain.Find) where
       by : (o : Option Bound) → plain.bounds_of p fs t i ≡ o
           → plain.bounds_of p (fs ++ find_at (k ∷ ks) ∷ []) t i ≡ Some b
       by (Some x) e =
-          bounds_of-kept p fs (find_at (k ∷ ks) ∷ []) t i x e ∙ (sym (bounds_of-kept p fs (find_at ks ∷ []) t i x e) ∙ h)
+          bounds_of-kept p fs (find_at (k ∷ ks) ∷ []) t i x e
+          ∙ (sym (bounds_of-kept p fs (find_at ks ∷ []) t i x e) ∙ h)
       by None e =
           told (has_key ks t i)
           (λ m. bounds_of-new p fs (find_at (k ∷ ks) ∷ []) t i e
           ∙ (found-here (find_at (k ∷ ks)) [] t i (has_key-later k ks t i m)
           ∙ (sym (found-here (find_at ks) [] t i m) ∙ (sym (bounds_of-new p fs (find_at ks ∷ []) t i e) ∙ h))))
-          (λ m. absurd (none_some b (sym (bounds_of-new p fs (find_at ks ∷ []) t i e ∙ found-later (find_at ks) [] t i m) ∙ h)))
+          (λ m. absurd (none_some b
+          (sym (bounds_of-new p fs (find_at ks ∷ []) t i e ∙ found-later (find_at ks) [] t i m) ∙ h)))
 
+  -- and a bound fewer is missing
   one_falls : (k : Spot) (ks : List Spot) → has_key ks k.rule k.place ≡ false → IsKey p k.rule k.place
       → plain.bounds_of p fs k.rule k.place ≡ None
-      → missing p (plain.bounds_of p (fs ++ find_at (k ∷ ks) ∷ [])) < missing p (plain.bounds_of p (fs ++ find_at ks ∷ []))
+      → missing p (plain.bounds_of p (fs ++ find_at (k ∷ ks) ∷ []))
+      < missing p (plain.bounds_of p (fs ++ find_at ks ∷ []))
   one_falls k ks new is none =
       missing_falls p (plain.bounds_of p (fs ++ find_at ks ∷ [])) (plain.bounds_of p (fs ++ find_at (k ∷ ks) ∷ []))
       (known_still k ks) k.rule k.place g.bound (key_of_rule p k.rule k.place is)
@@ -128,6 +136,7 @@ module _ (p : Program) (fs : List plain.Find) (g : plain.Find) where
       (bounds_of-new p fs (find_at (k ∷ ks) ∷ []) k.rule k.place none
       ∙ found-here (find_at (k ∷ ks)) [] k.rule k.place (has_key-first k ks))
 
+  -- so with each key
   all_fall : (keys : List Spot) → AreDistinct keys → All (λ k. IsKey p k.rule k.place) keys
       → All (λ k. plain.bounds_of p fs k.rule k.place ≡ None) keys
       → missing p (plain.bounds_of p (fs ++ find_at keys ∷ [])) + length keys ≤ missing p (plain.bounds_of p fs)
