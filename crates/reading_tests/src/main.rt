@@ -7,6 +7,7 @@ mod beginnings;
 mod changed;
 mod guards;
 mod outcomes;
+mod printed;
 mod runs;
 mod writing;
 

@@ -1,11 +1,5 @@
-pub mod RuleLaws
-pub mod RunLaws
-pub mod Passing
-pub mod Digits
-pub mod Derived
-pub mod DerivedText
-pub mod DerivedRuns
-pub mod Written
-pub mod WrittenText
+pub mod RunParts
+pub mod RunText
 pub mod RunAnswers
+pub mod RuleLaws
 pub mod WorkedRuns

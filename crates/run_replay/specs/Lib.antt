@@ -1,7 +1,5 @@
 -- what the contracts of this crate, and of those above it, cite
 pub mod Runs
-pub mod Grammar
-pub mod State
 pub mod Texts
 pub mod Spelled
 pub mod Views

@@ -18,7 +18,8 @@ steps_text (s ∷ ss) = codes "step " ++ (decimal s.rule ++ (values_text s.free 
 -- the text of a run
 abbrev pub text_of : Run → List ℕ
 text_of r =
-    codes "koat-run 1" ++ 10 ∷ (codes "start" ++ (values_text r.start ++ 10 ∷ (steps_text r.steps ++ (codes "end" ++ 10 ∷ []))))
+    codes "koat-run 1" ++ 10 ∷ (codes "start" ++ (values_text r.start ++ 10
+    ∷ (steps_text r.steps ++ (codes "end" ++ 10 ∷ []))))
 
 -- each value is at most 2^63-1 in absolute value
 abbrev pub AreSmall : List ℤ → Type 0

@@ -1,19 +1,27 @@
--- The texts of runs of a program, and what stands against them.
-use Rattle.std.specs.Prelude.{ℕ, ◌+◌, ◌*◌, ◌-◌, ◌^◌, min, Bool, false, ◌||◌, not, ◌==◌, nat_lt, nat_le}
-use Rattle.std.specs.Prelude.{if◌then◌else◌, List, [], ◌∷◌, length, Option, Some, None}
-use Rattle.std.specs.Char.{is_ascii_digit}
+-- The texts of runs of a program: what is remembered of one, and what stands against it.
+use Rattle.std.specs.Prelude.{ℕ, ◌-◌, ◌^◌, min, Bool, false, ◌||◌, not, ◌==◌, nat_lt, nat_le, if◌then◌else◌, ℤ}
+use Rattle.std.specs.Prelude.{List, [], ◌∷◌, ◌++◌, length, Option, Some, None}
 use Rattle.its_model.specs.model.Programs.{Program, Rule, rule_at, arity_of}
-use Rattle.text_grammar.specs.text_core.Tokens.{Token}
-use Rattle.text_grammar.specs.text_core.Readers.{Fault, onto}
+use Rattle.its_model.specs.model.Runs.{Step}
+use Rattle.text_grammar.specs.text_core.Choices.{when}
+use Rattle.text_grammar.specs.Grammars.{rules_of}
 use Rattle.text_grammar.specs.Texts.{Text}
+use Rattle.text_grammar.specs.ByteTexts.{ByteText, texts_of}
 use Rattle.run_replay.specs.declared.phase.Phase.{Phase}
 use Rattle.run_replay.specs.declared.phase.Phase.TheVariants.{Header, InStart, InRule, InStep}
 use Rattle.run_replay.specs.declared.phase.RunKind.{RunKind}
 use Rattle.run_replay.specs.declared.phase.RunKind.TheVariants.{Syntax, NumberTooLarge, BadReference}
 use Rattle.run_replay.specs.declared.phase.RunKind.TheVariants.{ArityDiffers, Limit}
+use Rattle.run_replay.specs.declared.grammar.TheConstants.{LETTERS, RUN_GRAMMAR, ROUNDS, STARTED, START_READ, STEP_READ}
 use Rattle.run_replay.specs.Runs.{Run, step_limit, value_limit}
-use Rattle.run_replay.specs.Grammar.{grammar}
-use Rattle.run_replay.specs.State.{State, state}
+
+-- where reading stands, the start values, the steps so far, the values of this line so far, and its rule
+pub record State : Type 0 where
+  pub phase : Phase
+  pub start : List ℤ
+  pub steps : List Step
+  pub values : List ℤ
+  pub rule : ℕ
 
 -- the number of a kind
 abbrev pub number_of : RunKind → ℕ
@@ -22,10 +30,6 @@ number_of NumberTooLarge = 2
 number_of BadReference = 3
 number_of ArityDiffers = 4
 number_of Limit = 5
-
--- a refusal where a test passes
-abbrev pub fault_if : Bool → RunKind → ℕ → List (Fault RunKind)
-fault_if test kind at = if test then record { kind = kind; at = at } ∷ [] else []
 
 -- whether a number is that of no rule; a step can name rules up to 2^32-1
 abbrev pub is_no_rule : Program → ℕ → Bool
@@ -48,13 +52,6 @@ abbrev pub differs : Option ℕ → ℕ → Bool
 differs None n = false
 differs (Some k) n = not (n == k)
 
--- what stands against a number, by where reading stands
-abbrev pub number_fault : Program → Phase → ℕ → ℕ → List (Fault RunKind)
-number_fault p Header n at = []
-number_fault p InStart n at = fault_if (nat_lt value_limit n) NumberTooLarge at
-number_fault p InStep n at = fault_if (nat_lt value_limit n) NumberTooLarge at
-number_fault p InRule n at = fault_if (is_no_rule p n) BadReference at
-
 -- whether one step more is too many where a line begins
 abbrev pub is_full : Phase → ℕ → Bool
 is_full InRule n = nat_le step_limit n
@@ -62,26 +59,50 @@ is_full Header n = false
 is_full InStart n = false
 is_full InStep n = false
 
--- what stands against a byte that can follow: a digit can make its number too large, or that of no rule, at the
--- number's first byte; a line feed ends a line with another number of values; and `s` begins a step too many
-abbrev pub faults_at : Program → State → Token ℕ → List (Fault RunKind)
-faults_at p s t =
-    if is_ascii_digit t.piece then number_fault p s.phase (s.number * 10 + (t.piece - 48)) (t.at - s.spelled)
-    else if t.piece == 10 then fault_if (differs (wanted p s.phase s.rule) (length s.values)) ArityDiffers t.at
-    else if t.piece == 115 then fault_if (is_full s.phase (length s.steps)) Limit t.at
-    else []
+-- what stands against a number: it is that of no rule, or too large a value
+abbrev pub against_number : Program → Phase → ℕ → Option RunKind
+against_number p InRule n = when (is_no_rule p n) BadReference
+against_number p Header n = when (nat_lt value_limit n) NumberTooLarge
+against_number p InStart n = when (nat_lt value_limit n) NumberTooLarge
+against_number p InStep n = when (nat_lt value_limit n) NumberTooLarge
 
--- the run that has been read
-abbrev pub run_in : State → Run
-run_in s = record { start = s.start; steps = s.steps }
+-- what stands against another byte: a line feed ends a line with another number of values, and `s` begins a step too
+-- many
+abbrev pub against_byte : Program → State → ℕ → Option RunKind
+against_byte p s b =
+    if b == 10 then when (differs (wanted p s.phase s.rule) (length s.values)) ArityDiffers
+    else if b == 115 then when (is_full s.phase (length s.steps)) Limit
+    else None
+
+-- what a mark of run files stands for is done
+abbrev pub done : ℕ → State → State
+done m s =
+    if m == STARTED then record s { phase = InStart }
+    else if m == START_READ then record s { phase = InRule; start = s.values; values = [] }
+    else if m == STEP_READ then record s {
+      phase = InRule;
+      steps = s.steps ++ record { rule = s.rule; free = s.values } ∷ [];
+      values = [];
+    }
+    else s
+
+-- run files as texts in bytes
+abbrev pub run_bytes : Program → ByteText State Run RunKind
+run_bytes p = record {
+  letters = LETTERS;
+  rules = rules_of RUN_GRAMMAR;
+  rounds = ROUNDS;
+  begun = record { phase = Header; start = []; steps = []; values = []; rule = 0 };
+  value = λ z s. record s { values = s.values ++ z ∷ [] };
+  natural = λ n s. record s { phase = InStep; rule = min n (2 ^ 32 - 1) };
+  done = done;
+  against_number = λ s n. against_number p s.phase n;
+  against_byte = λ s b. against_byte p s b;
+  tree = λ s. record { start = s.start; steps = s.steps };
+  number = number_of;
+  syntax = Syntax;
+}
 
 -- the texts of runs of a program
 abbrev pub runs_of : Program → Text ℕ Run RunKind
-runs_of p = record {
-  grammar = grammar;
-  value = λ es. run_in (state (onto es []));
-  faults = λ es t. faults_at p (state es) t;
-  floor = λ es at. at - (state es).spelled;
-  number = number_of;
-  off = λ piece. Syntax;
-}
+runs_of p = texts_of (run_bytes p)

@@ -6,7 +6,7 @@ use Rattle.text_grammar.specs.Texts.{reader}
 use Rattle.run_replay.specs.declared.phase.RunKind.{RunKind}
 use Rattle.run_replay.specs.declared.phase.RunKind.TheVariants.{Syntax, NumberTooLarge, BadReference, ArityDiffers}
 use Rattle.run_replay.specs.Runs.{Run}
-use Rattle.run_replay.specs.Grammar.{tokens}
+use Rattle.text_grammar.specs.ByteTexts.{tokens}
 use Rattle.run_replay.specs.declared.phase.Phase.TheVariants.{InStart, InRule}
 use Rattle.run_replay.specs.Texts.{runs_of, is_full}
 use Rattle.run_replay.specs.Spelled.{text_of}
@@ -64,7 +64,10 @@ pub record RunsAreTold : Type 0 where
   pub empty : ComesTo [] (refused Syntax 0)
   -- free values are in order, and may be as small as -(2^63-1)
   pub order : ComesTo (file_with (codes "step 3 4 -5" ∷ codes "end" ∷ []))
-      (Stands (record { start = pos 1 ∷ negsuc 1 ∷ []; steps = record { rule = 3; free = pos 4 ∷ negsuc 4 ∷ [] } ∷ [] }))
+      (Stands (record {
+        start = pos 1 ∷ negsuc 1 ∷ [];
+        steps = record { rule = 3; free = pos 4 ∷ negsuc 4 ∷ [] } ∷ [];
+      }))
   pub least : ComesTo (file_with (codes "step 2 -9223372036854775807" ∷ codes "end" ∷ []))
       (Stands (record {
         start = pos 1 ∷ negsuc 1 ∷ [];

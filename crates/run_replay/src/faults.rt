@@ -1,17 +1,13 @@
-//! What stands against a byte of a run file.
+//! What stands against a number and against a byte of a run file.
 
-ghost use Rattle.std.specs.Prelude.{◌≡◌, ◌≤◌, ◌+◌, ◌-◌, ◌*◌, ◌^◌, None, IsTrue, length};
-ghost use Rattle.std.specs.Char.{is_ascii_digit};
+ghost use Rattle.std.specs.Prelude.{◌≡◌};
 ghost use Rattle.its_model.specs.Views.{program_of};
 ghost use Rattle.its_model.specs.model.Programs.{rule_at, arity_of};
-ghost use Rattle.text_grammar.specs.Marks.{fault_of};
-ghost use Rattle.text_grammar.specs.Texts.{first_shown};
-ghost use Rattle.run_replay.specs.Texts.{runs_of, wanted, free_in, differs, number_fault};
+ghost use Rattle.run_replay.specs.Texts.{against_number as number_fault, differs, free_in, wanted};
 ghost use Rattle.run_replay.specs.Texts.{is_no_rule as is_no_rule_at, is_full as is_full_at};
 
 use crate::phase::{Phase, RunKind};
 use its_model::Program;
-use text_grammar::Fault;
 
 /// At most so many steps are read.
 pub const STEP_LIMIT: usize = 1_000_000;
@@ -53,27 +49,16 @@ fn is_no_rule(program: &Program, number: u128) -> bool
     number == 0 || (program.rules.len() as u128).min(u128::from(u32::MAX)) < number
 }
 
-/// What stands against a number with one digit more.
-pub fn fault_of_number(
-    program: &Program,
-    phase: Phase,
-    number: u128,
-    digit: u8,
-    at: u64,
-) -> Option<Fault<RunKind>>
-    requires number { number ≤ 2 ^ 64 }
-    requires digit { IsTrue (is_ascii_digit digit) }
-    ensures { fault_of result ≡ first_shown (runs_of (program_of program.now)) None
-        (number_fault (program_of program.now) phase (number * 10 + (digit - 48)) at) }
+/// What stands against a number of this value.
+pub fn against_number(program: &Program, phase: Phase, number: u128) -> Option<RunKind>
+    ensures { result ≡ number_fault (program_of program.now) phase number }
 {
-    let number = number * 10 + u128::from(digit - b'0');
-    let kind = match phase {
-        Phase::InRule if is_no_rule(program, number) => RunKind::BadReference,
-        Phase::InRule | Phase::Header => return None,
-        _ if number > VALUE_LIMIT => RunKind::NumberTooLarge,
-        _ => return None,
-    };
-    Some(Fault { kind, at })
+    match phase {
+        Phase::InRule if is_no_rule(program, number) => Some(RunKind::BadReference),
+        Phase::InRule => None,
+        _ if number > VALUE_LIMIT => Some(RunKind::NumberTooLarge),
+        _ => None,
+    }
 }
 
 /// Whether a line with so many values has another number of them than it has to have.

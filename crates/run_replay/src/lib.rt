@@ -3,16 +3,13 @@
 //! or exactly the first refusal.
 #![tactic(auto)]
 
-mod bytes;
 mod error;
 mod faults;
 mod file;
 mod grammar;
 mod law;
-mod numbers;
 mod phase;
 mod reading;
-mod state;
 mod text;
 
 pub use error::RunTextError;

@@ -4,21 +4,21 @@ ghost use Rattle.std.specs.Prelude.{◌≡◌, Some, length};
 ghost use Rattle.its_model.specs.Views.{program_of};
 ghost use Rattle.text_grammar.specs.text_core.Reading.{answer};
 ghost use Rattle.text_grammar.specs.Texts.{reader};
-ghost use Rattle.run_replay.specs.Grammar.{tokens};
+ghost use Rattle.text_grammar.specs.ByteTexts.{tokens};
+ghost use Rattle.text_grammar.specs.Results.{Tells};
 ghost use Rattle.run_replay.specs.Runs.{Run};
 ghost use Rattle.run_replay.specs.Texts.{runs_of};
 ghost use Rattle.run_replay.specs.Spelled.{IsTextWithin};
-ghost use Rattle.run_replay.specs.Views.{Answers, GivesBack, Says, refusal_in};
+ghost use Rattle.run_replay.specs.Views.{Answers, GivesBack, refusal_in, run_of};
 
-use crate::bytes::Bytes;
 use crate::error::RunTextError;
 use crate::file::RunFile;
 use crate::grammar::{CLASSES, ROUNDS, RUN_GRAMMAR};
 use crate::phase::RunKind;
-use crate::state::State;
+use crate::text::State;
 use its_model::Program;
 use std::alloc::Global;
-use text_grammar::{Cut, OneMode, Refusal, Tables, read};
+use text_grammar::{Bytes, Cut, OneMode, Refusal, Spelling, Tables, read};
 
 /// Reads the run that a text stands for, as one of a program.
 ///
@@ -42,14 +42,15 @@ pub fn read_run(alloc: Global, p: &Program, bytes: &[u8]) -> Result<RunFile, Run
 
 // The answer to a text.
 fn judge(alloc: Global, p: &Program, bytes: &[u8]) -> Result<RunFile, RunTextError>
-    ensures { Says (answer (reader (runs_of (program_of p.now))) (length bytes.now) (tokens bytes.now)) result }
+    ensures { Tells run_of refusal_in (answer (reader (runs_of (program_of p.now))) (length bytes.now)
+        (tokens bytes.now)) result }
 {
     let tables = Tables::new(alloc, &RUN_GRAMMAR, CLASSES, ROUNDS)?;
     let cut = Cut::new(Bytes, OneMode::Plain, bytes);
     match read(
         alloc,
         &tables,
-        State::new(alloc, p),
+        Spelling::new(State::new(alloc, p)),
         cut,
         bytes.len() as u64,
     ) {

@@ -1,31 +1,37 @@
-//! Run files as texts of a grammar.
+//! Run files as texts in bytes: what is remembered of one while it is read.
 
-ghost use Rattle.std.specs.Prelude.{◌≡◌, ℕ, List, [], None};
+ghost use Rattle.std.specs.Prelude.{◌≡◌};
 ghost use Rattle.its_model.specs.Views.{program_of};
-ghost use Rattle.text_grammar.specs.Grammars.{Event};
-ghost use Rattle.text_grammar.specs.Marks.{fault_of, token_of};
-ghost use Rattle.text_grammar.specs.Texts.{first_shown};
 ghost use Rattle.run_replay.specs.Runs.{Run};
-ghost use Rattle.run_replay.specs.State.{state};
-ghost use Rattle.run_replay.specs.Texts.{runs_of};
-ghost use Rattle.run_replay.specs.Views.{run_of, state_of};
+ghost use Rattle.run_replay.specs.Texts.{State as StateOf, run_bytes};
+ghost use Rattle.run_replay.specs.Views.{run_of, own_of as own_at};
 
-use crate::faults::{fault_of_number, has_other_arity, is_full};
+use crate::faults::{against_number, has_other_arity, is_full};
 use crate::file::RunFile;
-use crate::grammar::{RULE_READ, START_READ, STARTED, STEP_READ, VALUE_READ, class_of};
-use crate::numbers::{one_digit_more, signed};
+use crate::grammar::{LETTERS, START_READ, STARTED, STEP_READ};
 use crate::phase::{Phase, RunKind};
-use crate::state::State;
 use its_model::{Program, Step};
 use std::alloc::{AllocError, Global};
 use std::mem::replace;
-use text_grammar::{Fault, Text, Token};
+use text_grammar::{ByteText, class_of};
+
+/// A run file of a program, as far as it has been read.
+#[derive(Drop)]
+pub struct State<'a> {
+    pub alloc: Global,
+    pub program: &'a Program,
+    pub phase: Phase,
+    pub start: Vec<i128>,
+    pub steps: Vec<Step>,
+    pub values: Vec<i128>,
+    pub rule: u32,
+}
 
 impl<'a> State<'a> {
     /// Nothing has been read.
     pub fn new(alloc: Global, program: &'a Program) -> State<'a>
         ensures program { result.program.now ≡ program.now }
-        ensures state { state_of result ≡ state [] }
+        ensures begun { own_at result ≡ (run_bytes (program_of program.now)).begun }
     {
         State {
             alloc,
@@ -35,43 +41,46 @@ impl<'a> State<'a> {
             steps: Vec::new(alloc),
             values: Vec::new(alloc),
             rule: 0,
-            negative: false,
-            number: 0,
-            spelled: 0,
         }
     }
 }
 
-impl<'a> Text for State<'a> {
-    type Piece = u8;
-
+impl<'a> ByteText for State<'a> {
     type Kind = RunKind;
 
     type Made = RunFile;
 
     ghost Tree = { Run };
 
-    ghost text_of = { λ s. runs_of (program_of s.program.now) };
+    ghost Own = { StateOf };
 
-    ghost Knows = { λ s es. state_of s ≡ state es };
+    ghost bytes_of = { λ s. run_bytes (program_of s.program.now) };
 
-    ghost Makes = { λ file r. run_of file ≡ r };
+    ghost own_of = { own_at };
 
-    fn class(&self, piece: u8) -> u32 {
-        class_of(piece)
+    ghost tree_in = { run_of };
+
+    fn class(&self, byte: u8) -> u32 {
+        class_of(&LETTERS, byte)
     }
 
-    fn did(&mut self, mark: u32) -> Result<(), AllocError> {
+    fn value(&mut self, value: i128) -> Result<(), AllocError> {
+        self.values.push(value)?;
+        Ok(())
+    }
+
+    fn natural(&mut self, number: u128) -> Result<(), AllocError> {
+        self.phase = Phase::InStep;
+        self.rule = number.min(u128::from(u32::MAX)) as u32;
+        Ok(())
+    }
+
+    fn done(&mut self, mark: u32) -> Result<(), AllocError> {
         match mark {
             STARTED => self.phase = Phase::InStart,
-            VALUE_READ => self.values.push(signed(self.negative, self.number))?,
             START_READ => {
                 self.phase = Phase::InRule;
                 self.start = replace(&mut self.values, Vec::new(self.alloc));
-            }
-            RULE_READ => {
-                self.phase = Phase::InStep;
-                self.rule = self.number.min(u128::from(u32::MAX)) as u32;
             }
             STEP_READ => {
                 self.phase = Phase::InRule;
@@ -86,44 +95,18 @@ impl<'a> Text for State<'a> {
         Ok(())
     }
 
-    fn take(&mut self, piece: u8) -> Result<(), AllocError> {
-        if piece == b' ' {
-            self.negative = false;
-            self.number = 0;
-            self.spelled = 0;
-        } else if piece == b'-' {
-            self.negative = true;
-            self.spelled = self.spelled.saturating_add(1);
-        } else if piece.is_ascii_digit() {
-            self.number = one_digit_more(self.number, piece);
-            self.spelled = self.spelled.saturating_add(1);
-        } else {
-            self.spelled = 0;
-        }
-        Ok(())
+    fn against_number(&self, number: u128) -> Option<RunKind> {
+        against_number(self.program, self.phase, number)
     }
 
-    fn fault(&self, token: Token<u8>) -> Option<Fault<RunKind>>
-        ensures { (es : List (Event ℕ)) → state_of self.now ≡ state es
-            → fault_of result ≡ first_shown (runs_of (program_of self.now.program.now)) None
-            ((runs_of (program_of self.now.program.now)).faults es (token_of token)) }
-    {
-        if token.piece.is_ascii_digit() {
-            let at = token.at.saturating_sub(self.spelled);
-            return fault_of_number(self.program, self.phase, self.number, token.piece, at);
-        }
-        let kind = match token.piece {
+    fn against_byte(&self, byte: u8) -> Option<RunKind> {
+        match byte {
             b'\n' if has_other_arity(self.program, self.phase, self.rule, self.values.len()) => {
-                RunKind::ArityDiffers
+                Some(RunKind::ArityDiffers)
             }
-            b's' if is_full(self.phase, self.steps.len()) => RunKind::Limit,
-            _ => return None,
-        };
-        Some(Fault { kind, at: token.at })
-    }
-
-    fn floor(&self, at: u64) -> u64 {
-        at.saturating_sub(self.spelled)
+            b's' if is_full(self.phase, self.steps.len()) => Some(RunKind::Limit),
+            _ => None,
+        }
     }
 
     fn number(&self, kind: RunKind) -> u32 {
@@ -136,10 +119,7 @@ impl<'a> Text for State<'a> {
         }
     }
 
-    fn off(&self, piece: Option<u8>) -> RunKind
-        ensures { result ≡ (runs_of (program_of self.now.program.now)).off piece }
-    {
-        let _piece = piece;
+    fn syntax(&self) -> RunKind {
         RunKind::Syntax
     }
 

@@ -1,5 +1,6 @@
 -- Tokens are cut one by one.
-use Rattle.std.proofs.Common.{◌≡◌, ℕ, ◌+◌, ◌-◌, ◌<◌, ◌≤◌, List, ◌∷◌, length, drop, Option, Some, None, ap, sym, ◌∙◌, arith, length-drop}
+use Rattle.std.proofs.Common.{◌≡◌, ℕ, ◌+◌, ◌-◌, ◌<◌, ◌≤◌, List, ◌∷◌, length, drop, Option, Some, None, ap, sym, ◌∙◌}
+use Rattle.std.proofs.Common.{arith, length-drop}
 use Rattle.text_core.specs.Tokens.{Lexeme, Lexer, LexesWithin, token_then, tokens_in}
 use Rattle.text_core.proofs.Lexing.{tokens_in-first}
 

@@ -1,5 +1,6 @@
 -- Leads say what symbols derive.
-use Rattle.std.proofs.Common.{◌≡◌, ℕ, zero, suc, Bool, true, false, cond, List, [], ◌∷◌, ◌++◌, refl, ap, sym, subst, ◌∙◌, inl, inr, append_assoc}
+use Rattle.std.proofs.Common.{◌≡◌, ℕ, zero, suc, Bool, true, false, cond, List, [], ◌∷◌, ◌++◌, refl, ap, sym, subst}
+use Rattle.std.proofs.Common.{◌∙◌, inl, inr, append_assoc}
 use Rattle.std.specs.Prelude.{⊤, ◌==◌}
 use Rattle.std.proofs.lemmas.Bool.{eqb-true}
 use Rattle.std.proofs.Math.ListN.{get_or-map}
@@ -7,7 +8,8 @@ use Rattle.text_core.specs.Faults.{Among}
 use Rattle.text_grammar.specs.declared.symbol.Symbol.{Symbol}
 use Rattle.text_grammar.specs.declared.symbol.Symbol.TheVariants.{Piece, Made, Mark}
 use Rattle.text_grammar.specs.Grammars.{Grammar, Event, Read, Derives, piece, mark, made, alternatives}
-use Rattle.text_grammar.specs.Leads.{Lead, Matches, Passes, Stuck, behind, before, entry, lead, better, lead_among, row_after}
+use Rattle.text_grammar.specs.Leads.{Lead, Matches, Passes, Stuck, behind, before, entry, lead, better, lead_among}
+use Rattle.text_grammar.specs.Leads.{row_after}
 use Rattle.text_grammar.specs.Texts.{marked}
 use Rattle.text_grammar.proofs.Events.{marked-append}
 

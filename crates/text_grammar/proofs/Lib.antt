@@ -12,6 +12,12 @@ pub mod ReadingLaws
 pub mod CutLaws
 pub mod SilenceLaws
 pub mod Induction
+pub mod FoldLaws
+pub mod PartLaws
+pub mod Numerals
+pub mod ByteLaws
+pub mod ByteDerivations
+pub mod ResultLaws
 pub mod WorkedGrammars
 -- the crate below, of which those above cite lemmas through this one
 pub use Rattle.text_core.proofs as text_core

@@ -7,7 +7,8 @@ use Rattle.text_core.specs.Faults.{Among}
 use Rattle.text_grammar.specs.declared.symbol.Symbol.{Symbol}
 use Rattle.text_grammar.specs.Grammars.{Grammar, alternatives}
 use Rattle.text_grammar.specs.Leads.{Stuck, entry, lead, row_of}
-use Rattle.text_grammar.specs.Sounding.{each, each_below, is_entry, has_follows, is_flagged, follows, is_completed_lead, completed, agrees, is_readable}
+use Rattle.text_grammar.specs.Sounding.{each, each_below, is_entry, has_follows, is_flagged, follows, is_completed_lead}
+use Rattle.text_grammar.specs.Sounding.{completed, agrees, is_readable}
 use Rattle.text_grammar.proofs.Tests.{both, each_at, each_below_at, all_among, all_at}
 
 module _ {P : Type 0} (g : Grammar P) where

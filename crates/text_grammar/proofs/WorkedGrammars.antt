@@ -4,7 +4,8 @@ use Rattle.std.specs.Prelude.{◌==◌}
 use Rattle.text_core.proofs.FirstFaults.{nowhere_begins, whole_ends, answers_all, one_tree_each, one_first_each}
 use Rattle.text_grammar.specs.Grammars.{Read, nothing, piece, made}
 use Rattle.text_grammar.specs.Texts.{Text, reader, IsLawful}
-use Rattle.text_grammar.specs.Worked.{class_of, bracket_text, GrammarsAreTold, RulesAreSpelled, BracketsAreTold, TextsAreRead, WorkedGrammars}
+use Rattle.text_grammar.specs.Worked.{class_of, bracket_text, GrammarsAreTold, RulesAreSpelled, BracketsAreTold}
+use Rattle.text_grammar.specs.Worked.{TextsAreRead, WorkedGrammars}
 use Rattle.text_grammar.proofs.ReaderLaws.{reader_laws}
 use Rattle.text_grammar.proofs.SilenceLaws.{stands_where_silent}
 

@@ -4,6 +4,12 @@ pub mod Leads
 pub mod Sounding
 pub mod Texts
 pub mod Silence
+pub mod Folds
+pub mod Parts
+pub mod ByteTexts
+pub mod ByteParts
+pub mod CodeBytes
+pub mod Results
 pub mod Views
 pub mod Tabled
 pub mod Worked

@@ -3,9 +3,12 @@
 //! reader that answers exactly the tree or exactly the first fault (`specs/Texts`), and `read` is its code.
 #![tactic(auto)]
 
+mod byte_text;
+mod bytes;
 mod cut;
 mod entry;
 mod law;
+mod numeral;
 mod reading;
 mod rules;
 mod stack;
@@ -14,8 +17,14 @@ mod tables;
 mod text;
 mod token;
 
+pub use byte_text::{ByteText, Spelling};
+pub use bytes::{
+    Bytes, DIGITS, MINUS, MORE, NATURAL, NATURAL_READ, NUMBER, NUMBER_BEGINS, ONE, POSITIVE, VALUE,
+    VALUE_READ, ZERO, class_of,
+};
 pub use cut::{Cut, Lexeme, Lexer, OneMode};
 pub use law::{lawful_texts_are_read, worked_grammars_hold};
+pub use numeral::Numeral;
 pub use reading::read;
 pub use symbol::{Item, Symbol};
 pub use tables::Tables;

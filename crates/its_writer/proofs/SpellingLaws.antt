@@ -1,0 +1,17 @@
+-- A text spells a program exactly where its canonical text does.
+use Rattle.its_text.specs.expr_text.model.Programs.{Program}
+use Rattle.its_text.proofs.SpelledVerdicts.{verdicts_are_spelled}
+use Rattle.its_writer.specs.Texts.{canonical_text}
+use Rattle.its_writer.specs.Answers.{SpellsBack, SpelledPrograms}
+use Rattle.its_writer.proofs.ProgramsBack.{spellable_spells}
+use Rattle.its_writer.proofs.ProgramsOrdered.{spelled_spellable}
+
+pub spelled_programs : SpelledPrograms
+spelled_programs = record { spelled = spelled_spellable; spells = spellable_spells }
+
+-- the canonical text spells the program where some text does, and is read back
+pub canonical_back : (p : Program) → SpellsBack (canonical_text p) p
+canonical_back p = record {
+  spells = λ bytes s. spellable_spells p (spelled_spellable bytes p s);
+  read_back = λ s. (verdicts_are_spelled.stands (canonical_text p) p).1 s;
+}

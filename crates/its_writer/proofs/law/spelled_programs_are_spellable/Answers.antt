@@ -1,0 +1,6 @@
+-- Both ways are proved.
+use Rattle.its_writer.proofs.SpellingLaws.{spelled_programs}
+use Rattle.its_writer.proofs.law.spelled_programs_are_spellable.Goals as goal
+
+pub returns : goal.returns
+returns c = spelled_programs

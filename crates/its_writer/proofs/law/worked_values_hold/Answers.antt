@@ -1,0 +1,6 @@
+-- It is worked out.
+use Rattle.its_writer.proofs.WorkedValues.{worked_values}
+use Rattle.its_writer.proofs.law.worked_values_hold.Goals as goal
+
+pub returns : goal.returns
+returns c = worked_values

@@ -1,0 +1,33 @@
+-- How the parts of a text stand one behind the other. A text is told with the rest that stands behind it.
+use Rattle.std.specs.Prelude.{ℕ, zero, suc, ◌+◌, Bool, true, false, List, [], ◌∷◌, ◌++◌, map, ℤ, pos, negsuc, codes}
+use Rattle.std.specs.Int.Digits.{digits_of}
+
+-- the decimal numeral of a number, without leading zeros
+abbrev pub numeral : ℕ → List ℕ
+numeral zero = codes "0"
+numeral (suc n) = map (λ d. 48 + d) (digits_of 10 (suc n))
+
+-- an integer: a sign where it is negative, and its digits
+abbrev pub integer_then : ℤ → List ℕ → List ℕ
+integer_then (pos n) rest = numeral n ++ rest
+integer_then (negsuc n) rest = codes "-" ++ (numeral (suc n) ++ rest)
+
+-- a text, in brackets where the test says so
+abbrev pub bracketed_then : Bool → (List ℕ → List ℕ) → List ℕ → List ℕ
+bracketed_then true text rest = codes "(" ++ text (codes ")" ++ rest)
+bracketed_then false text rest = text rest
+
+module _ {X : Type 0} where
+  -- the text of each, one behind the other
+  abbrev pub each_then : (X → List ℕ → List ℕ) → List X → List ℕ → List ℕ
+  each_then text [] rest = rest
+  each_then text (x ∷ xs) rest = text x (each_then text xs rest)
+
+  -- a text behind bytes
+  abbrev pub led_by : List ℕ → (X → List ℕ → List ℕ) → X → List ℕ → List ℕ
+  led_by before text x rest = before ++ text x rest
+
+  -- the text of each, with a separator between each two
+  abbrev pub joined_then : List ℕ → (X → List ℕ → List ℕ) → List X → List ℕ → List ℕ
+  joined_then separator text [] rest = rest
+  joined_then separator text (x ∷ xs) rest = text x (each_then (led_by separator text) xs rest)

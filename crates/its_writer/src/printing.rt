@@ -1,0 +1,56 @@
+//! From a program to its canonical text.
+
+ghost use Rattle.std.specs.Prelude.{◌≡◌, map, IfOk, OnOk};
+ghost use Rattle.its_model.specs.Views.{symbol_of, rule_of, program_of};
+ghost use Rattle.its_writer.specs.Layout.{each_then};
+ghost use Rattle.its_writer.specs.Texts.{rule_then, program_then, canonical_text};
+ghost use Rattle.its_writer.specs.Answers.{SpellsBack};
+ghost use Rattle.its_writer.specs.Printing.{WritesAll};
+
+use crate::bytes::write_bytes;
+use crate::names::{variables_of, write_variables};
+use crate::rule::{write_rule, write_symbol};
+use its_model::{Program, Rule, Symbol};
+use poly_terms::Memory;
+use std::alloc::Global;
+
+/// The canonical text of a program, of any depth of its expressions: the call goes as deep as they do. It spells the
+/// program, where any text does. A number that has no name or symbol is left out, and a negative literal has its sign
+/// and no brackets, so the text then spells another program, which may have other values: `-7^2` is `-(7^2)`.
+///
+/// # Errors
+///
+/// `Memory` where an allocation fails.
+pub fn print(alloc: Global, p: &Program) -> Result<Vec<u8>, Memory>
+    ensures text { IfOk result (λ text. text.items ≡ canonical_text (program_of p.now)) }
+    ensures spelled { IfOk result (λ text. SpellsBack text.items (program_of p.now)) }
+{
+    let mut text = Vec::new(alloc);
+    write_program(alloc, &mut text, p)?;
+    Ok(text)
+}
+
+// The sections of a program.
+fn write_program(alloc: Global, text: &mut Vec<u8>, p: &Program) -> Result<(), Memory>
+    ensures { OnOk result (WritesAll text.old.items text.new.items (program_then (program_of p.now))) }
+{
+    let variables = variables_of(alloc, &p.rules)?;
+    write_bytes(text, b"(GOAL COMPLEXITY)\n(STARTTERM (FUNCTIONSYMBOLS ")?;
+    write_symbol(text, &p.symbols, p.start)?;
+    write_bytes(text, b"))\n(VAR")?;
+    write_variables(text, &variables)?;
+    write_bytes(text, b")\n(RULES\n")?;
+    write_rules(text, &p.symbols, &p.rules)?;
+    write_bytes(text, b")\n")
+}
+
+// Rules, each in its line.
+fn write_rules(text: &mut Vec<u8>, symbols: &[Symbol], rules: &[Rule]) -> Result<(), Memory>
+    ensures { OnOk result (WritesAll text.old.items text.new.items
+        (each_then (rule_then (map (λ s. s.name) (map symbol_of symbols.now))) (map rule_of rules.now))) }
+{
+    for rule in rules {
+        write_rule(text, symbols, rule)?;
+    }
+    Ok(())
+}

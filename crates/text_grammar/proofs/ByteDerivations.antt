@@ -1,0 +1,391 @@
+-- Texts of bytes and what they are made of, both ways: numbers, and what is the text's own.
+use Rattle.std.proofs.Common.{◌≡◌, ℕ, zero, suc, ◌-◌, ◌^◌, ◌<◌, ◌≤◌, true, List, [], ◌∷◌, ◌++◌}
+use Rattle.std.proofs.Common.{length, refl, ap, sym, subst, ◌∙◌, arith, append-nil, inl, inr, None}
+use Rattle.std.specs.Prelude.{◌⊎◌, ℤ, pos, negsuc, unsigned_abs}
+use Rattle.std.specs.Fmt.{decimal}
+use Rattle.std.specs.Str.Parse.{AllDigits}
+use Rattle.std.proofs.lemmas.Fmt.{decimal_digit}
+use Rattle.std.proofs.lemmas.Bool.Decides.{nat_tests}
+use Rattle.text_core.specs.Faults.{Among}
+use Rattle.text_core.specs.Reading.{Stands, answer}
+use Rattle.text_grammar.specs.declared.symbol.Symbol.{Symbol}
+use Rattle.text_grammar.specs.declared.symbol.Symbol.TheVariants.{Piece, Made, Mark}
+use Rattle.text_grammar.specs.Grammars.{Event, Read, Did, Derives, alternatives}
+use Rattle.text_grammar.specs.Sounding.{is_readable}
+use Rattle.text_grammar.specs.Texts.{IsLawful, reader}
+use Rattle.text_grammar.specs.Parts.{Part, Says, Does, Puts, events_of, spelled, come, Stand, Values, body_parts}
+use Rattle.text_grammar.specs.ByteTexts.{ByteText, Spelling, Numbered, Value, fresh, with_byte, reads, says}
+use Rattle.text_grammar.specs.ByteTexts.{class_of, only, tokens, fold_of, numbers_of, done_mark, grammar_of}
+use Rattle.text_grammar.specs.ByteTexts.{texts_of, number_rule, positive_rule, digits_rule, HasNumbers, IsBounded}
+use Rattle.text_grammar.specs.ByteParts.{Plain, Positive, number_of, ValueOf, parts_of}
+use Rattle.text_grammar.proofs.FoldLaws.{derived_reads, silent_passes, passes_silent, state_after}
+use Rattle.text_grammar.proofs.PartLaws.{ComesTo, AreMade, Gives, AllGive, AllMake, makes_give, derived_value}
+use Rattle.text_grammar.proofs.PartLaws.{value_derived, Derived, AreDerived, events_pass}
+use Rattle.text_grammar.proofs.Numerals.{digit_range, digit_below, decimal_of, positive_of, with, plain_stands}
+use Rattle.text_grammar.proofs.Numerals.{numbers_put, grows_after}
+use Rattle.text_grammar.proofs.ByteLaws.{pieces_bytes, bytes_only}
+use Rattle.text_grammar.proofs.SilenceLaws.{stands_where_silent}
+
+-- the classes of digits
+which : (c : ℕ) → 48 ≤ c → c ≤ 57 → (c ≡ 48) ⊎ ((c ≡ 49) ⊎ (50 ≤ c))
+which c h k = grind arith
+
+of_many : (letters : List ℕ) (c : ℕ) → 50 ≤ c → c ≤ 57 → class_of letters c ≡ 2
+of_many letters c h k = grind (arith, nat_tests)
+
+many : (letters : List ℕ) (c : ℕ) → class_of letters c ≡ 2 → (50 ≤ c) × (c ≤ 57)
+many letters c h = (grind (arith, nat_tests), grind (arith, nat_tests))
+
+-- an alternative is among those of its nonterminal
+among_in : (rules : List (List (List Symbol))) (n : ℕ) (bodies : List (List Symbol)) (body : List Symbol)
+    → alternatives rules n ≡ bodies → Among body bodies → Among body (alternatives rules n)
+among_in rules n bodies body e a = subst (Among body) (sym e) a
+
+module _ {S T K : Type 0} (x : ByteText S T K) where
+  -- bytes that are said before others
+  events-says : (bs : List ℕ) (xs : List (Part ℕ Numbered))
+      → events_of (fold_of x) (numbers_of x) (says bs xs) ≡ reads bs ++ events_of (fold_of x) (numbers_of x) xs
+  events-says [] xs = refl
+  events-says (b ∷ bs) xs = ap (λ (es : List (Event ℕ)). Read b ∷ es) (events-says bs xs)
+
+  pub spelled-says : (bs : List ℕ) (xs : List (Part ℕ Numbered))
+      → spelled (fold_of x) (numbers_of x) (says bs xs) ≡ bs ++ spelled (fold_of x) (numbers_of x) xs
+  spelled-says [] xs = refl
+  spelled-says (b ∷ bs) xs = ap (λ (ds : List ℕ). b ∷ ds) (spelled-says bs xs)
+
+-- what is said and then others
+says-append : (bs : List ℕ) (xs : List (Part ℕ Numbered)) → says bs [] ++ xs ≡ says bs xs
+says-append [] xs = refl
+says-append (b ∷ bs) xs = ap (λ (ys : List (Part ℕ Numbered)). Says b ∷ ys) (says-append bs xs)
+
+module _ {S T K : Type 0} (x : ByteText S T K) (bounded : IsBounded x) (numbers : HasNumbers x.rules)
+    (readable : is_readable (grammar_of x) ≡ true) (W : ℕ → Type 0) (own : (n : ℕ) → W n → List (Part ℕ Numbered)) where
+  -- the alternatives of the text's own nonterminals are made of their values
+  pub record OwnAreMade : Type 0 where
+    pub text : AllMake (fold_of x) (numbers_of x) (grammar_of x) (only x.letters) (ValueOf W own) (parts_of W own) 0
+        (alternatives x.rules 0)
+    pub others : (n : ℕ) → AllMake (fold_of x) (numbers_of x) (grammar_of x) (only x.letters) (ValueOf W own)
+        (parts_of W own) (suc (suc (suc (suc (suc (suc n))))))
+        (alternatives x.rules (suc (suc (suc (suc (suc (suc n)))))))
+
+  abbrev Given : ℕ → List (List Symbol) → Type 0
+  Given n bodies = AllGive (fold_of x) (numbers_of x) (grammar_of x) (only x.letters) (ValueOf W own)
+      (parts_of W own) n bodies
+
+  -- a number that ends at a mark, from its beginning on
+  ended : (v : Plain) (s t : Spelling S) (m : ℕ) (ps : List ℕ) → s.numeral.number ≡ 0
+      → ComesTo (fold_of x) (numbers_of x) s t ps (says (v.first ∷ v.others) [] ++ Does m ∷ [])
+      → (k : ℕ) × (x.against_number s.own (number_of v) ≡ None) × (decimal (number_of v) ≡ ps)
+      × (done_mark x m (with x bounded s (number_of v) k) ≡ t)
+  ended v s t m ps none c =
+      let d = subst (ComesTo (fold_of x) (numbers_of x) s t ps) (says-append (v.first ∷ v.others) (Does m ∷ [])) c in
+      let w = plain_stands x bounded v s (Does m ∷ []) none d.stands in (
+        w.0,
+        w.1,
+        decimal_of v (bounded.small s.own (number_of v) w.1) ∙ sym (append-nil (v.first ∷ v.others)) ∙ sym
+            (spelled-says x (v.first ∷ v.others) (Does m ∷ [])) ∙ d.spells,
+        sym w.3 ∙ d.comes,
+      )
+
+  -- a value below 0
+  minus_given : Gives (fold_of x) (numbers_of x) (grammar_of x) (only x.letters) (ValueOf W own) (parts_of W own) 1
+      (Mark 0 ∷ Piece 3 ∷ Made 4 ∷ Mark 1 ∷ [])
+  minus_given (v, u) s t ps c = go ps c.spells
+    where
+      go : (qs : List ℕ) → 45 ∷ spelled (fold_of x) (numbers_of x)
+          (says (v.plain.first ∷ v.plain.others) [] ++ Does 1 ∷ []) ≡ qs → (z : ℤ)
+          × ComesTo (fold_of x) (numbers_of x) s t qs (Puts (Value z) ∷ [])
+      go qs e =
+          let w =
+          ended v.plain (record s { numeral = with_byte 45 fresh }) t 1 _ refl
+          (record { spells = refl; stands = c.stands.1; comes = c.comes }) in
+          valued (number_of v.plain) (let l =
+          grows_after (v.plain.first - 48) v.plain.others in let k = v.some in omega (arith, l, k)) w.0 w.1 w.2 w.3
+        where
+          valued : (n : ℕ) → 1 ≤ n → (k : ℕ) → x.against_number s.own n ≡ None
+              → decimal n ≡ spelled (fold_of x) (numbers_of x) (says (v.plain.first ∷ v.plain.others) [] ++ Does 1 ∷ [])
+              → done_mark x 1 (with x bounded (record s { numeral = with_byte 45 fresh }) n k) ≡ t → (z : ℤ)
+              × ComesTo (fold_of x) (numbers_of x) s t qs (Puts (Value z) ∷ [])
+          valued zero l k a d f = absurd (omega (arith, l))
+          valued (suc m) l k a d f = (
+            negsuc m,
+            record {
+              spells = append-nil (45 ∷ decimal (suc m)) ∙ ap (λ (ds : List ℕ). 45 ∷ ds) d ∙ e;
+              stands = (a, tt);
+              comes = f;
+            },
+          )
+
+  -- a value that isn't, and a natural number
+  plain_given : Gives (fold_of x) (numbers_of x) (grammar_of x) (only x.letters) (ValueOf W own) (parts_of W own) 1
+      (Mark 0 ∷ Made 3 ∷ Mark 1 ∷ [])
+  plain_given (v, u) s t ps c =
+      let w =
+      ended v (record s { numeral = fresh }) t 1 ps refl
+      (record { spells = c.spells; stands = c.stands; comes = c.comes }) in
+      (pos (number_of v), record { spells = append-nil (decimal (number_of v)) ∙ w.2; stands = (w.1, tt); comes = w.3 })
+
+  natural_given : Gives (fold_of x) (numbers_of x) (grammar_of x) (only x.letters) (ValueOf W own) (parts_of W own) 2
+      (Mark 0 ∷ Made 3 ∷ Mark 2 ∷ [])
+  natural_given (v, u) s t ps c =
+      let w =
+      ended v (record s { numeral = fresh }) t 2 ps refl
+      (record { spells = c.spells; stands = c.stands; comes = c.comes }) in
+      (number_of v, record { spells = append-nil (decimal (number_of v)) ∙ w.2; stands = (w.1, tt); comes = w.3 })
+
+  -- digits of each class
+  abbrev Making : ℕ → List (List Symbol) → Type 0
+  Making n bodies = AllMake (fold_of x) (numbers_of x) (grammar_of x) (only x.letters) (ValueOf W own)
+      (parts_of W own) n bodies
+
+  number_made : Making 3 number_rule
+  number_made = (
+    λ u. (
+      record {
+        first = 48;
+        others = [];
+        low = omega arith;
+        high = omega arith;
+        digits = tt;
+        lead = λ e. refl;
+      },
+      refl,
+    ),
+    (λ (v, u). (v.plain, refl), tt),
+  )
+
+  positive_made : Making 4 positive_rule
+  positive_made = (
+    λ (d, u). (
+      record {
+        plain = record {
+          first = 49;
+          others = d.bytes;
+          low = omega arith;
+          high = omega arith;
+          digits = d.digits;
+          lead = λ e. absurd (omega (arith, e));
+        };
+        some = omega arith;
+      },
+      refl,
+    ),
+    (
+      λ (c, k, (d, u)). let r = many x.letters c k in (
+        record {
+          plain = record {
+            first = c;
+            others = d.bytes;
+            low = (let l = r.0 in omega (arith, l));
+            high = r.1;
+            digits = d.digits;
+            lead = λ e. absurd (let l = r.0 in omega (arith, e, l));
+          };
+          some = (let l = r.0 in omega (arith, l));
+        },
+        refl,
+      ),
+      tt,
+    ),
+  )
+
+  digits_made : Making 5 digits_rule
+  digits_made = (
+    λ (d, u). (record { bytes = 48 ∷ d.bytes; digits = (digit_below 48 (omega arith) (omega arith), d.digits) }, refl),
+    (
+      λ (d, u). (
+        record {
+          bytes = 49 ∷ d.bytes;
+          digits =
+              (digit_below 49 (omega arith) (omega arith), d.digits);
+        },
+        refl,
+      ),
+      (
+        λ (c, k, (d, u)). let r = many x.letters c k in (
+          record {
+            bytes = c ∷ d.bytes;
+            digits =
+                (digit_below c (let l = r.0 in omega (arith, l)) r.1, d.digits);
+          },
+          refl,
+        ),
+        (λ u. (record { bytes = []; digits = tt }, refl), tt),
+      ),
+    ),
+  )
+
+  -- so each alternative is made of values
+  are_made : OwnAreMade → AreMade (fold_of x) (numbers_of x) (grammar_of x) (only x.letters) (ValueOf W own)
+      (parts_of W own)
+  are_made h = record { each = go }
+    where
+      go : (n : ℕ) → Given n (alternatives x.rules n)
+      go zero =
+          makes_give (fold_of x) (numbers_of x) (grammar_of x) (only x.letters) (ValueOf W own) (parts_of W own) 0
+          (alternatives x.rules 0) h.text
+      go (suc zero) = subst (Given 1) (sym numbers.value) (minus_given, (plain_given, tt))
+      go (suc (suc zero)) = subst (Given 2) (sym numbers.natural) (natural_given, tt)
+      go (suc (suc (suc zero))) =
+          subst (Given 3) (sym numbers.number) (makes_give (fold_of x) (numbers_of x) (grammar_of x) (only x.letters)
+          (ValueOf W own) (parts_of W own) 3 number_rule number_made)
+      go (suc (suc (suc (suc zero)))) =
+          subst (Given 4) (sym numbers.positive) (makes_give (fold_of x) (numbers_of x) (grammar_of x) (only x.letters)
+          (ValueOf W own) (parts_of W own) 4 positive_rule positive_made)
+      go (suc (suc (suc (suc (suc zero))))) =
+          subst (Given 5) (sym numbers.digits) (makes_give (fold_of x) (numbers_of x) (grammar_of x) (only x.letters)
+          (ValueOf W own) (parts_of W own) 5 digits_rule digits_made)
+      go (suc (suc (suc (suc (suc (suc n)))))) =
+          makes_give (fold_of x) (numbers_of x) (grammar_of x) (only x.letters) (ValueOf W own) (parts_of W own)
+          (suc (suc (suc (suc (suc (suc n)))))) (alternatives x.rules (suc (suc (suc (suc (suc (suc n)))))))
+          (h.others n)
+
+  -- values are derived
+  abbrev pub IsDerived : (n : ℕ) → ValueOf W own n → Type 0
+  IsDerived n v = Derived (fold_of x) (numbers_of x) (grammar_of x) (only x.letters) (ValueOf W own)
+      (parts_of W own) n v
+
+  -- by an alternative whose values are derived
+  abbrev Behind : (body : List Symbol) → Values (grammar_of x) (only x.letters) (ValueOf W own) (parts_of W own) body
+      → List (Part ℕ Numbered)
+  Behind body vs = body_parts (grammar_of x) (only x.letters) (ValueOf W own) (parts_of W own) body vs
+
+  pub by : (n : ℕ) (body : List Symbol) → Among body (alternatives x.rules n)
+      → (vs : Values (grammar_of x) (only x.letters) (ValueOf W own) (parts_of W own) body)
+      → AreDerived (fold_of x) (numbers_of x) (grammar_of x) (only x.letters) (ValueOf W own) (parts_of W own) body vs
+      → Derives (grammar_of x) (Made n ∷ []) (events_of (fold_of x) (numbers_of x) (Behind body vs))
+      (spelled (fold_of x) (numbers_of x) (Behind body vs))
+  by n body a vs d =
+      value_derived (fold_of x) (numbers_of x) (grammar_of x) (only x.letters) (ValueOf W own) (parts_of W own)
+      (bytes_only x readable) n body a vs d
+
+  -- a nonterminal derives bytes that are said
+  abbrev DerivesBytes : ℕ → List ℕ → Type 0
+  DerivesBytes n bs = Derives (grammar_of x) (Made n ∷ []) (events_of (fold_of x) (numbers_of x) (says bs []))
+      (spelled (fold_of x) (numbers_of x) (says bs []))
+
+  -- digits, those of a number from 1 on, and those of a number
+  digits_derived : (bs : List ℕ) (all : AllDigits 10 bs) → DerivesBytes 5 bs
+  digits_derived [] all = by 5 [] (among_in x.rules 5 _ [] numbers.digits (inr (inr (inr (inl refl))))) tt tt
+  digits_derived (c ∷ cs) all = let r = digit_range c all.0 in go (which c r.0 r.1) r.1 (digits_derived cs all.1)
+    where
+      go : (c ≡ 48) ⊎ ((c ≡ 49) ⊎ (50 ≤ c)) → c ≤ 57 → DerivesBytes 5 cs → DerivesBytes 5 (c ∷ cs)
+      go (inl e) l ih =
+          subst (λ (b : ℕ). DerivesBytes 5 (b ∷ cs)) (sym e)
+          (by 5 (Piece 0 ∷ Made 5 ∷ []) (among_in x.rules 5 _ _ numbers.digits (inl refl))
+          (record { bytes = cs; digits = all.1 }, tt) (ih, tt))
+      go (inr (inl e)) l ih =
+          subst (λ (b : ℕ). DerivesBytes 5 (b ∷ cs)) (sym e)
+          (by 5 (Piece 1 ∷ Made 5 ∷ []) (among_in x.rules 5 _ _ numbers.digits (inr (inl refl)))
+          (record { bytes = cs; digits = all.1 }, tt) (ih, tt))
+      go (inr (inr k)) l ih =
+          by 5 (Piece 2 ∷ Made 5 ∷ []) (among_in x.rules 5 _ _ numbers.digits (inr (inr (inl refl))))
+          (c, of_many x.letters c k l, (record { bytes = cs; digits = all.1 }, tt)) (ih, tt)
+
+  positive_derived : (v : Positive) → DerivesBytes 4 (v.plain.first ∷ v.plain.others)
+  positive_derived v = go (which v.plain.first v.plain.low v.plain.high) (digits_derived v.plain.others v.plain.digits)
+    where
+      go : (v.plain.first ≡ 48) ⊎ ((v.plain.first ≡ 49) ⊎ (50 ≤ v.plain.first)) → DerivesBytes 5 v.plain.others
+          → DerivesBytes 4 (v.plain.first ∷ v.plain.others)
+      go (inl e) ih = absurd (let l = v.some in omega (arith, e, l))
+      go (inr (inl e)) ih =
+          subst (λ (b : ℕ). DerivesBytes 4 (b ∷ v.plain.others)) (sym e)
+          (by 4 (Piece 1 ∷ Made 5 ∷ []) (among_in x.rules 4 _ _ numbers.positive (inl refl))
+          (record { bytes = v.plain.others; digits = v.plain.digits }, tt) (ih, tt))
+      go (inr (inr k)) ih =
+          by 4 (Piece 2 ∷ Made 5 ∷ []) (among_in x.rules 4 _ _ numbers.positive (inr (inl refl))) (
+            v.plain.first,
+            of_many x.letters v.plain.first k v.plain.high,
+            (record { bytes = v.plain.others; digits = v.plain.digits }, tt),
+          ) (ih, tt)
+
+  number_derived : (n : ℕ) → n < 2 ^ 64 → (v : Plain) × (v.first ∷ v.others ≡ decimal n)
+      × DerivesBytes 3 (v.first ∷ v.others)
+  number_derived zero l = (
+    record { first = 48; others = []; low = omega arith; high = omega arith; digits = tt; lead = λ e. refl },
+    sym (decimal_digit 0 (omega arith)),
+    by 3 (Piece 0 ∷ []) (among_in x.rules 3 _ _ numbers.number (inl refl)) tt tt,
+  )
+  number_derived (suc m) l = let v = positive_of (suc m) (omega arith) l in (
+    v.0.plain,
+    v.1,
+    by 3 (Made 4 ∷ []) (among_in x.rules 3 _ _ numbers.number (inr (inl refl))) (v.0, tt)
+        (positive_derived v.0, tt),
+  )
+
+  -- bytes that are said before a mark
+  marked : (n m : ℕ) (before : List (Event ℕ)) (start bs ds : List ℕ) → bs ≡ ds
+      → Derives (grammar_of x) (Made n ∷ []) (before
+      ++ events_of (fold_of x) (numbers_of x) (says bs [] ++ Does m ∷ []))
+      (start ++ spelled (fold_of x) (numbers_of x) (says bs [] ++ Does m ∷ []))
+      → Derives (grammar_of x) (Made n ∷ []) (before ++ (reads ds ++ Did m ∷ [])) (start ++ ds)
+  marked n m before start bs ds e d =
+      subst (λ (es : List (Event ℕ)). Derives (grammar_of x) (Made n ∷ []) (before ++ es) (start ++ ds))
+      (ap (events_of (fold_of x) (numbers_of x)) (says-append bs (Does m ∷ [])) ∙ events-says x bs
+      (Does m ∷ []) ∙ ap (λ (cs : List ℕ). reads cs ++ Did m ∷ []) e)
+      (subst (λ (cs : List ℕ). Derives (grammar_of x) (Made n ∷ [])
+      (before ++ events_of (fold_of x) (numbers_of x) (says bs [] ++ Does m ∷ [])) (start ++ cs))
+      (ap (spelled (fold_of x) (numbers_of x)) (says-append bs (Does m ∷ [])) ∙ spelled-says x bs
+      (Does m ∷ []) ∙ append-nil bs ∙ e) d)
+
+  -- with nothing behind it
+  alone : (n : ℕ) (es : List (Event ℕ)) (ps : List ℕ) → Derives (grammar_of x) (Made n ∷ []) es ps
+      → Derives (grammar_of x) (Made n ∷ []) (es ++ []) (ps ++ [])
+  alone n es ps d =
+      subst (λ (fs : List (Event ℕ)). Derives (grammar_of x) (Made n ∷ []) fs (ps ++ [])) (sym (append-nil es))
+      (subst (λ (qs : List ℕ). Derives (grammar_of x) (Made n ∷ []) es qs) (sym (append-nil ps)) d)
+
+  -- numbers below 2^64
+  pub each_value : (z : ℤ) → unsigned_abs z < 2 ^ 64 → IsDerived 1 z
+  each_value (pos n) l = let v = number_derived n l in
+      alone 1 _ _ (marked 1 1 (Did 0 ∷ []) [] (v.0.first ∷ v.0.others) (decimal n) v.1
+      (by 1 (Mark 0 ∷ Made 3 ∷ Mark 1 ∷ []) (among_in x.rules 1 _ _ numbers.value (inr (inl refl))) (v.0, tt)
+      (v.2, tt)))
+  each_value (negsuc m) l = let v = positive_of (suc m) (omega arith) l in
+      alone 1 _ _ (marked 1 1 (Did 0 ∷ Read 45 ∷ []) (45 ∷ []) (v.0.plain.first ∷ v.0.plain.others)
+      (decimal (suc m)) v.1
+      (by 1 (Mark 0 ∷ Piece 3 ∷ Made 4 ∷ Mark 1 ∷ []) (among_in x.rules 1 _ _ numbers.value (inl refl)) (v.0, tt)
+      (positive_derived v.0, tt)))
+
+  pub each_natural : (n : ℕ) → n < 2 ^ 64 → IsDerived 2 n
+  each_natural n l = let v = number_derived n l in
+      alone 2 _ _ (marked 2 2 (Did 0 ∷ []) [] (v.0.first ∷ v.0.others) (decimal n) v.1
+      (by 2 (Mark 0 ∷ Made 3 ∷ Mark 2 ∷ []) (among_in x.rules 2 _ _ numbers.natural (inl refl)) (v.0, tt)
+      (v.2, tt)))
+
+  -- nothing stands against a text, and what it comes to
+  abbrev pub TextStands : W 0 → Type 0
+  TextStands w = Stand (fold_of x) (numbers_of x) (record { own = x.begun; numeral = fresh }) (own 0 w)
+
+  abbrev pub tree_of : W 0 → T
+  tree_of w = x.tree (come (fold_of x) (numbers_of x) (record { own = x.begun; numeral = fresh }) (own 0 w)).own
+
+  -- where a tree is answered, the bytes are what a text is spelled as, against which nothing stands
+  pub answered : OwnAreMade → IsLawful (texts_of x) → (bytes : List ℕ) (t : T)
+      → answer (reader (texts_of x)) (length bytes) (tokens bytes) ≡ Stands t
+      → (w : W 0) × (spelled (fold_of x) (numbers_of x) (own 0 w) ≡ bytes) × TextStands w × (tree_of w ≡ t)
+  answered made lawful bytes t e =
+      let w = (stands_where_silent (texts_of x) lawful).stands (length bytes) (tokens bytes) t e in
+      let d =
+      derived_value (fold_of x) (numbers_of x) (grammar_of x) (only x.letters) (ValueOf W own) (parts_of W own)
+      (bytes_only x readable) (are_made made) 0 w.1 (record { own = x.begun; numeral = fresh })
+      (silent_passes (fold_of x) (grammar_of x) [] w.0 (tokens bytes) (derived_reads (grammar_of x) w.1) w.3) in (
+        d.0,
+        d.1.spells ∙ pieces_bytes bytes,
+        d.1.stands,
+        ap (λ (s : Spelling S). x.tree s.own) (d.1.comes ∙ sym (state_after (fold_of x) [] w.0)) ∙ w.2,
+      )
+
+  -- and the other way round
+  pub taken : IsLawful (texts_of x) → (w : W 0) → IsDerived 0 w → TextStands w → (bytes : List ℕ)
+      → spelled (fold_of x) (numbers_of x) (own 0 w) ≡ bytes
+      → answer (reader (texts_of x)) (length bytes) (tokens bytes) ≡ Stands (tree_of w)
+  taken lawful w d s bytes e =
+      let es : List (Event ℕ) = events_of (fold_of x) (numbers_of x) (own 0 w) in
+      let p =
+      events_pass (fold_of x) (numbers_of x) (numbers_put x bounded) (record { own = x.begun; numeral = fresh })
+      (own 0 w) s in
+      let derived = subst (Derives (grammar_of x) (Made 0 ∷ []) es) (e ∙ sym (pieces_bytes bytes)) d in
+      (stands_where_silent (texts_of x) lawful).silent (length bytes) (tokens bytes) es derived
+      (passes_silent (fold_of x) (grammar_of x) [] es (tokens bytes) (derived_reads (grammar_of x) derived) p.0)
+      ∙ ap (λ (u : Spelling S). Stands (x.tree u.own)) (state_after (fold_of x) [] es ∙ p.1)

@@ -1,0 +1,256 @@
+-- Numbers in texts of bytes, digit by digit.
+use Rattle.std.proofs.Common.{◌≡◌, ℕ, zero, suc, ◌+◌, ◌*◌, ◌-◌, ◌^◌, ◌<◌, ◌≤◌, min, Bool, true, cond, List, []}
+use Rattle.std.proofs.Common.{◌∷◌, ◌++◌, length, get_or, refl, ap, sym, subst, ◌∙◌, arith}
+use Rattle.std.specs.Prelude.{None, pos, negsuc, ◌==◌}
+use Rattle.std.specs.Char.{is_ascii_digit, digit_value}
+use Rattle.std.specs.Fmt.{decimal}
+use Rattle.std.specs.Str.Parse.{AllDigits, digits_value, digits_value_after}
+use Rattle.std.proofs.lemmas.Fmt.{decimal_digit, decimal_is_IsNumeral, first_decimal, decimal-digits_value}
+use Rattle.std.proofs.lemmas.Str.Parse.{numerals_by_value, tells_digits}
+use Rattle.std.proofs.lemmas.Bool.Decides.{nat_tests}
+use Rattle.text_grammar.specs.Grammars.{Read, Did}
+use Rattle.text_grammar.specs.Folds.{after, Passes}
+use Rattle.text_grammar.specs.Parts.{Part, come, Stand}
+use Rattle.text_grammar.specs.ByteTexts.{ByteText, Spelling, Numbered, Value, Natural, fresh, one_more}
+use Rattle.text_grammar.specs.ByteTexts.{with_byte, reads, says, fold_of, numbers_of, number_events}
+use Rattle.text_grammar.specs.ByteTexts.{NumberStands, put_number, against_next, done_mark, IsBounded}
+use Rattle.text_grammar.specs.ByteParts.{Plain, Positive, number_of}
+use Rattle.text_grammar.proofs.FoldLaws.{after_append, passes_append}
+use Rattle.text_grammar.proofs.PartLaws.{IsPut}
+
+-- a digit's byte, and its value
+pub digit_range : (c : ℕ) → digit_value c < 10 → (48 ≤ c) × (c ≤ 57) × (digit_value c ≡ c - 48)
+digit_range c h = (grind (arith, nat_tests), grind (arith, nat_tests), grind (arith, nat_tests))
+
+-- bytes from `0` to `9` are digits
+is_digit : (b : ℕ) → 48 ≤ b → b ≤ 57 → is_ascii_digit b ≡ true
+is_digit b h k = grind (arith, nat_tests)
+
+pub digit_below : (b : ℕ) → 48 ≤ b → b ≤ 57 → digit_value b < 10
+digit_below b h k = grind (arith, nat_tests)
+
+-- the number that digits write is at least the one that those before wrote
+pub grows_after : (n : ℕ) (ds : List ℕ) → n ≤ digits_value_after 10 n ds
+grows_after n [] = omega arith
+grows_after n (c ∷ ds) = omega (arith, grows_after (n * 10 + digit_value c) ds)
+
+-- a list with an element is not empty
+not_empty : (c : ℕ) (ds : List ℕ) → c ∷ ds ≡ [] → ⊥
+not_empty c ds e = cc
+
+-- a digit that isn't `0` is at least 1
+above : (b : ℕ) → 48 ≤ b → (b ≡ 48 → ⊥) → 1 ≤ b - 48
+above b l f = go (b - 48) refl
+  where
+    go : (n : ℕ) → b - 48 ≡ n → 1 ≤ n
+    go zero e = absurd (f (omega (arith, l, e)))
+    go (suc n) e = omega arith
+
+-- they are its decimal
+pub decimal_of : (v : Plain) → number_of v < 2 ^ 64 → decimal (number_of v) ≡ v.first ∷ v.others
+decimal_of v small =
+    let d = digit_below v.first v.low v.high in
+    let same : digits_value 10 (v.first ∷ v.others)
+    ≡ number_of v = ap (λ (n : ℕ). digits_value_after 10 n v.others)
+    (let r = (digit_range v.first d).2 in omega (arith, r)) in
+    ap decimal (sym same)
+    ∙ decimal-digits_value (numerals_by_value (AllDigits 10) tells_digits) (v.first ∷ v.others) (d, v.digits)
+    (omega arith) (λ e. ap (λ (ds : List ℕ). length (v.first ∷ ds)) (v.lead e)) (omega (arith, small, same))
+
+-- the decimal of a number from 1 on
+pub positive_of : (n : ℕ) → 1 ≤ n → n < 2 ^ 64 → (v : Positive) × (v.plain.first ∷ v.plain.others ≡ decimal n)
+    × (number_of v.plain ≡ n)
+positive_of n some small =
+    let d = decimal_is_IsNumeral n small in go (decimal n) d.0.0 d.0.1 d.1 (first_decimal n (omega (arith, some)) small)
+  where
+    go : (ds : List ℕ) → 0 < length ds → AllDigits 10 ds → digits_value 10 ds ≡ n → 48 < get_or ds 0 0 → (v : Positive)
+        × (v.plain.first ∷ v.plain.others ≡ ds) × (number_of v.plain ≡ n)
+    go [] l all e f = absurd (omega (arith, l))
+    go (c ∷ ds) l all e f = let r = digit_range c all.0 in (
+      record {
+        plain =
+            record {
+              first = c;
+              others = ds;
+              low = r.0;
+              high = r.1;
+              digits = all.1;
+              lead = λ z. absurd (omega (arith, z, f));
+            };
+        some = omega (arith, f);
+      },
+      refl,
+      ap (λ (m : ℕ). digits_value_after 10 m ds) (let k = r.2 in omega (arith, k)) ∙ e,
+    )
+
+module _ {S T K : Type 0} (x : ByteText S T K) (h : IsBounded x) where
+  -- a state with another number that is being spelled
+  abbrev pub with : Spelling S → ℕ → ℕ → Spelling S
+  with s n k = record s { numeral = record s.numeral { number = n; spelled = k } }
+
+  -- what stands against a digit stands against its number
+  digit_against : (s : Spelling S) (b : ℕ) → is_ascii_digit b ≡ true
+      → against_next x s b ≡ x.against_number s.own (s.numeral.number * 10 + (b - 48))
+  digit_against s b d =
+      ap (λ (v : Bool). cond v (x.against_number s.own (s.numeral.number * 10 + (b - 48))) (x.against_byte s.own b)) d
+
+  -- a digit is read
+  digit_read : (s : Spelling S) (b : ℕ) → is_ascii_digit b ≡ true → s.numeral.number * 10 + (b - 48) < 2 ^ 64
+      → (fold_of x).read b s ≡ with s (s.numeral.number * 10 + (b - 48)) (one_more s.numeral.spelled)
+  digit_read s b d l =
+      let small : min (s.numeral.number * 10 + (b - 48)) (2 ^ 64)
+      ≡ s.numeral.number * 10 + (b - 48) = omega (arith, l) in
+      ap (λ (v : Bool). record s {
+        numeral =
+            cond v (record s.numeral {
+              number = min (s.numeral.number * 10 + (b - 48)) (2 ^ 64);
+              spelled = one_more s.numeral.spelled;
+            })
+            (cond (b == 45) (record s.numeral { negative = true; spelled = one_more s.numeral.spelled }) fresh);
+      }) d
+      ∙ ap (λ (n : ℕ). with s n (one_more s.numeral.spelled)) small
+
+  -- a digit that is read, with nothing against its number
+  one_digit : (s : Spelling S) (b n : ℕ) → 48 ≤ b → b ≤ 57 → s.numeral.number * 10 + (b - 48) ≡ n
+      → x.against_number s.own n ≡ None → (against_next x s b ≡ None)
+      × ((fold_of x).read b s ≡ with s n (one_more s.numeral.spelled))
+  one_digit s b n low high e k =
+      let d = is_digit b low high in
+      let l = h.small s.own n k in (
+        digit_against s b d ∙ ap (x.against_number s.own) e ∙ k,
+        digit_read s b d (omega (arith, e, l)) ∙ ap (λ (m : ℕ). with s m (one_more s.numeral.spelled)) e,
+      )
+
+  -- digits behind a number from 1 on
+  digits_pass : (ds : List ℕ) (s : Spelling S) → AllDigits 10 ds → 1 ≤ s.numeral.number
+      → x.against_number s.own (digits_value_after 10 s.numeral.number ds) ≡ None
+      → (k : ℕ) × Passes (fold_of x) s (reads ds) ×
+      (after (fold_of x) s (reads ds) ≡ with s (digits_value_after 10 s.numeral.number ds) k)
+  digits_pass [] s all some k = (s.numeral.spelled, tt, refl)
+  digits_pass (c ∷ ds) s all some k =
+      let r = digit_range c all.0 in
+      let n : ℕ = s.numeral.number * 10 + digit_value c in
+      let one =
+      one_digit s c n r.0 r.1 (let e = r.2 in omega (arith, e))
+      (h.below s.own n (digits_value_after 10 n ds) (omega (arith, some)) (grows_after n ds) k) in
+      let w = digits_pass ds (with s n (one_more s.numeral.spelled)) all.1 (omega (arith, some)) k in (
+        w.0,
+        (one.0, subst (λ (t : Spelling S). Passes (fold_of x) t (reads ds)) (sym one.1) w.1),
+        ap
+            (λ (t : Spelling S). after (fold_of x) t (reads ds)) one.1 ∙ w.2,
+      )
+
+  -- digits without a leading zero, from the beginning of a number
+  plain_pass : (v : Plain) (s : Spelling S) → s.numeral.number ≡ 0 → x.against_number s.own (number_of v) ≡ None
+      → (k : ℕ) × Passes (fold_of x) s (reads (v.first ∷ v.others))
+      × (after (fold_of x) s (reads (v.first ∷ v.others)) ≡ with s (number_of v) k)
+  plain_pass v s none k = go v.others v.digits v.lead k
+    where
+      go : (ds : List ℕ) → AllDigits 10 ds → (v.first ≡ 48 → ds ≡ [])
+          → x.against_number s.own (digits_value_after 10 (v.first - 48) ds) ≡ None
+          → (k : ℕ) × Passes (fold_of x) s (Read v.first ∷ reads ds)
+          × (after (fold_of x) s (Read v.first ∷ reads ds) ≡ with s (digits_value_after 10 (v.first - 48) ds) k)
+      go [] all lead k =
+          let one = one_digit s v.first (v.first - 48) v.low v.high (omega (arith, none)) k in
+          (one_more s.numeral.spelled, (one.0, tt), one.1)
+      go (c ∷ ds) all lead k =
+          let some : 1 ≤ v.first - 48 = above v.first v.low (λ e. not_empty c ds (lead e)) in
+          let one =
+          one_digit s v.first (v.first - 48) v.low v.high (omega (arith, none))
+          (h.below s.own (v.first - 48) (digits_value_after 10 (v.first - 48) (c ∷ ds)) some
+          (grows_after (v.first - 48) (c ∷ ds)) k) in
+          let w = digits_pass (c ∷ ds) (with s (v.first - 48) (one_more s.numeral.spelled)) all some k in (
+            w.0,
+            (one.0, subst (λ (t : Spelling S). Passes (fold_of x) t (reads (c ∷ ds))) (sym one.1) w.1),
+            ap
+                (λ (t : Spelling S). after (fold_of x) t (reads (c ∷ ds))) one.1 ∙ w.2,
+          )
+
+  -- digits against which nothing stands, and parts behind them
+  digits_stand : (ds : List ℕ) (s : Spelling S) (xs : List (Part ℕ Numbered)) → AllDigits 10 ds
+      → x.against_number s.own s.numeral.number ≡ None → Stand (fold_of x) (numbers_of x) s (says ds xs)
+      → (k : ℕ) × (x.against_number s.own (digits_value_after 10 s.numeral.number ds) ≡ None)
+      × Stand (fold_of x) (numbers_of x) (with s (digits_value_after 10 s.numeral.number ds) k) xs
+      × (come (fold_of x) (numbers_of x) s (says ds xs)
+      ≡ come (fold_of x) (numbers_of x) (with s (digits_value_after 10 s.numeral.number ds) k) xs)
+  digits_stand [] s xs all k stands = (s.numeral.spelled, k, stands, refl)
+  digits_stand (c ∷ ds) s xs all k stands =
+      let r = digit_range c all.0 in
+      let n : ℕ = s.numeral.number * 10 + digit_value c in
+      let same : s.numeral.number * 10 + (c - 48) ≡ n = (let e = r.2 in omega (arith, e)) in
+      let here : x.against_number s.own n ≡ None = ap (x.against_number s.own) (sym same) ∙ sym
+      (digit_against s c (is_digit c r.0 r.1)) ∙ stands.0 in
+      let one = one_digit s c n r.0 r.1 same here in
+      let w =
+      digits_stand ds (with s n (one_more s.numeral.spelled)) xs all.1 here
+      (subst (λ (t : Spelling S). Stand (fold_of x) (numbers_of x) t (says ds xs)) one.1 stands.1) in
+      (w.0, w.1, w.2, ap (λ (t : Spelling S). come (fold_of x) (numbers_of x) t (says ds xs)) one.1 ∙ w.3)
+
+  -- the same from the beginning of a number
+  pub plain_stands : (v : Plain) (s : Spelling S) (xs : List (Part ℕ Numbered)) → s.numeral.number ≡ 0
+      → Stand (fold_of x) (numbers_of x) s (says (v.first ∷ v.others) xs)
+      → (k : ℕ) × (x.against_number s.own (number_of v) ≡ None)
+      × Stand (fold_of x) (numbers_of x) (with s (number_of v) k) xs
+      × (come (fold_of x) (numbers_of x) s (says (v.first ∷ v.others) xs)
+      ≡ come (fold_of x) (numbers_of x) (with s (number_of v) k) xs)
+  plain_stands v s xs none stands =
+      let same : s.numeral.number * 10 + (v.first - 48) ≡ v.first - 48 = omega (arith, none) in
+      let here : x.against_number s.own (v.first - 48)
+      ≡ None = ap (x.against_number s.own) (sym same) ∙ sym
+      (digit_against s v.first (is_digit v.first v.low v.high)) ∙ stands.0 in
+      let one = one_digit s v.first (v.first - 48) v.low v.high same here in
+      let w =
+      digits_stand v.others (with s (v.first - 48) (one_more s.numeral.spelled)) xs v.digits here
+      (subst (λ (t : Spelling S). Stand (fold_of x) (numbers_of x) t (says v.others xs)) one.1 stands.1) in
+      (w.0, w.1, w.2, ap (λ (t : Spelling S). come (fold_of x) (numbers_of x) t (says v.others xs)) one.1 ∙ w.3)
+
+  -- a decimal is read, from the beginning of a number
+  decimal_pass : (n : ℕ) (s : Spelling S) → s.numeral.number ≡ 0 → x.against_number s.own n ≡ None → (k : ℕ)
+      × Passes (fold_of x) s (reads (decimal n)) × (after (fold_of x) s (reads (decimal n)) ≡ with s n k)
+  decimal_pass zero s none k =
+      let zeroed : Plain = record {
+        first = 48;
+        others = [];
+        low = omega arith;
+        high = omega arith;
+        digits = tt;
+        lead = λ e. refl;
+      } in
+      subst (λ (ds : List ℕ). (k : ℕ) × Passes (fold_of x) s (reads ds) × (after (fold_of x) s (reads ds) ≡ with s 0 k))
+      (sym (decimal_digit 0 (omega arith))) (plain_pass zeroed s none k)
+  decimal_pass (suc m) s none k =
+      let v = positive_of (suc m) (omega arith) (h.small s.own (suc m) k) in
+      let w = plain_pass v.0.plain s none (ap (x.against_number s.own) v.2 ∙ k) in (
+        w.0,
+        subst (λ (ds : List ℕ). Passes (fold_of x) s (reads ds)) v.1 w.1,
+        ap
+            (λ (ds : List ℕ). after (fold_of x) s (reads ds)) (sym v.1) ∙ w.2 ∙ ap (λ (n : ℕ). with s n w.0) v.2,
+      )
+
+  -- numbers are put by their events
+  pub numbers_put : IsPut (fold_of x) (numbers_of x)
+  numbers_put = record { each = go }
+    where
+      ended : (s t u : Spelling S) (bs : List ℕ) (m : ℕ) → Passes (fold_of x) s (reads bs)
+          → after (fold_of x) s (reads bs) ≡ t → done_mark x m t ≡ u
+          → Passes (fold_of x) s (reads bs ++ Did m ∷ []) × (after (fold_of x) s (reads bs ++ Did m ∷ []) ≡ u)
+      ended s t u bs m p e f = (
+        passes_append (fold_of x) s (reads bs) (Did m ∷ []) p tt,
+        after_append (fold_of x) s (reads bs)
+            (Did m ∷ []) ∙ ap (done_mark x m) e ∙ f,
+      )
+
+      go : (s : Spelling S) (z : Numbered) → NumberStands x s z → Passes (fold_of x) s (number_events x z)
+          × (after (fold_of x) s (number_events x z) ≡ put_number x z s)
+      go s (Value (pos n)) k =
+          let w = decimal_pass n (record s { numeral = fresh }) refl k in ended (record s { numeral = fresh }) _ _
+          (decimal n) 1 w.1 w.2 refl
+      go s (Value (negsuc n)) k =
+          let begun : Spelling S = record s { numeral = with_byte 45 fresh } in
+          let w = decimal_pass (suc n) begun refl k in
+          let e =
+          ended begun _ (put_number x (Value (negsuc n)) s) (decimal (suc n)) 1 w.1 w.2 refl in
+          ((h.minus s.own, e.0), e.1)
+      go s (Natural n) k =
+          let w = decimal_pass n (record s { numeral = fresh }) refl k in ended (record s { numeral = fresh }) _ _
+          (decimal n) 2 w.1 w.2 refl

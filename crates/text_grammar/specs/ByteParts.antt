@@ -1,0 +1,48 @@
+-- What texts of bytes are made of: values, natural numbers, and what is the text's own.
+use Rattle.std.specs.Prelude.{◌≡◌, ℕ, zero, suc, ◌≤◌, ◌-◌, ℤ, List, [], ◌∷◌}
+use Rattle.std.specs.Str.Parse.{AllDigits, digits_value_after}
+use Rattle.text_grammar.specs.Parts.{Part, Puts}
+use Rattle.text_grammar.specs.ByteTexts.{Numbered, Value, Natural, says}
+
+-- digits
+pub record Digits : Type 0 where
+  pub bytes : List ℕ
+  pub digits : AllDigits 10 bytes
+
+-- digits without a leading zero
+pub record Plain : Type 0 where
+  pub first : ℕ
+  pub others : List ℕ
+  pub low : 48 ≤ first
+  pub high : first ≤ 57
+  pub digits : AllDigits 10 others
+  pub lead : first ≡ 48 → others ≡ []
+
+-- and not 0
+pub record Positive : Type 0 where
+  pub plain : Plain
+  pub some : 49 ≤ plain.first
+
+-- their number
+abbrev pub number_of : Plain → ℕ
+number_of v = digits_value_after 10 (v.first - 48) v.others
+
+module _ (W : ℕ → Type 0) (own : (n : ℕ) → W n → List (Part ℕ Numbered)) where
+  -- what the nonterminals stand for: the text, numbers, and then the others of the text's own
+  abbrev pub ValueOf : ℕ → Type 0
+  ValueOf zero = W 0
+  ValueOf (suc zero) = ℤ
+  ValueOf (suc (suc zero)) = ℕ
+  ValueOf (suc (suc (suc zero))) = Plain
+  ValueOf (suc (suc (suc (suc zero)))) = Positive
+  ValueOf (suc (suc (suc (suc (suc zero))))) = Digits
+  ValueOf (suc (suc (suc (suc (suc (suc n)))))) = W (suc n)
+
+  abbrev pub parts_of : (n : ℕ) → ValueOf n → List (Part ℕ Numbered)
+  parts_of zero w = own 0 w
+  parts_of (suc zero) z = Puts (Value z) ∷ []
+  parts_of (suc (suc zero)) n = Puts (Natural n) ∷ []
+  parts_of (suc (suc (suc zero))) v = says (v.first ∷ v.others) []
+  parts_of (suc (suc (suc (suc zero)))) v = says (v.plain.first ∷ v.plain.others) []
+  parts_of (suc (suc (suc (suc (suc zero))))) d = says d.bytes []
+  parts_of (suc (suc (suc (suc (suc (suc n)))))) w = own (suc n) w

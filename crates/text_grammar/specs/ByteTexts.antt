@@ -1,0 +1,214 @@
+-- Texts whose pieces are single bytes, with decimal numbers in them.
+use Rattle.std.specs.Prelude.{◌≡◌, ℕ, zero, suc, ◌+◌, ◌*◌, ◌-◌, ◌^◌, ◌<◌, ◌≤◌, min, Bool, true, false, ◌==◌}
+use Rattle.std.specs.Prelude.{if◌then◌else◌}
+use Rattle.std.specs.Prelude.{ℤ, pos, neg_ℤ, unsigned_abs, List, [], ◌∷◌, ◌++◌, length, Option, Some, None, slice_get}
+use Rattle.std.specs.Char.{is_ascii_digit}
+use Rattle.std.specs.Fmt.{decimal, signed_decimal}
+use Rattle.std.proofs.Common.{lit<, arith}
+use Rattle.text_core.specs.Tokens.{Token, Lexeme, Lexer, LexesWithin}
+use Rattle.text_grammar.specs.declared.symbol.Symbol.{Symbol}
+use Rattle.text_grammar.specs.declared.symbol.Symbol.TheVariants.{Piece, Made, Mark}
+use Rattle.text_grammar.specs.declared.cut.OneMode.{OneMode}
+use Rattle.text_grammar.specs.Grammars.{Grammar, Event, Read, Did, alternatives}
+use Rattle.text_grammar.specs.Marks.{lexer_of, tokens_of}
+use Rattle.text_grammar.specs.Texts.{Text}
+use Rattle.text_grammar.specs.Folds.{Fold, folded}
+use Rattle.text_grammar.specs.Parts.{Part, Says, Atoms}
+
+-- each byte is a piece
+abbrev pub byte_at : ℕ → List ℕ → Lexeme (Option ℕ)
+byte_at b bytes = record { piece = Some b; len = 1 }
+
+abbrev pub bytes_lexer : Lexer ℕ OneMode
+bytes_lexer = lexer_of byte_at
+
+pub bytes_within : (mode : OneMode) → LexesWithin (bytes_lexer.lexeme_in mode)
+bytes_within mode = record { each = λ b bytes. (lit< tt, omega arith) }
+
+abbrev pub tokens : List ℕ → List (Token ℕ)
+tokens bytes = tokens_of byte_at bytes
+
+-- where a byte stands among others, and behind the last where it isn't there
+abbrev pub place_of : List ℕ → ℕ → ℕ
+place_of [] b = 0
+place_of (c ∷ cs) b = if b == c then 0 else suc (place_of cs b)
+
+-- the class of a byte: `0`, `1`, `2` to `9`, `-`, the letters of the words one by one, and any other
+abbrev pub class_of : List ℕ → ℕ → ℕ
+class_of letters b =
+    if b == 48 then 0 else if b == 49 then 1 else if is_ascii_digit b then 2 else if b == 45 then 3
+    else suc (suc (suc (suc (place_of letters b))))
+
+-- the one byte of a class that has only one
+abbrev pub only : List ℕ → ℕ → Option ℕ
+only letters zero = Some 48
+only letters (suc zero) = Some 49
+only letters (suc (suc zero)) = None
+only letters (suc (suc (suc zero))) = Some 45
+only letters (suc (suc (suc (suc k)))) = slice_get letters k
+
+-- a byte of each class
+abbrev pub byte_or : ℕ → Option ℕ → ℕ
+byte_or b None = b
+byte_or b (Some c) = c
+
+abbrev pub sample : List ℕ → ℕ → ℕ
+sample letters c = byte_or (if c == 2 then 50 else 0) (only letters c)
+
+-- the grammar of bytes with these letters and rules
+abbrev pub bytes_grammar : List ℕ → List (List (List Symbol)) → ℕ → Grammar ℕ
+bytes_grammar letters rules rounds = record {
+  rules = rules;
+  classes = 5 + length letters;
+  class_of = class_of letters;
+  sample = sample letters;
+  rounds = rounds;
+}
+
+-- the rules of numbers
+abbrev pub value_rule : List (List Symbol)
+value_rule = (Mark 0 ∷ Piece 3 ∷ Made 4 ∷ Mark 1 ∷ []) ∷ (Mark 0 ∷ Made 3 ∷ Mark 1 ∷ []) ∷ []
+
+abbrev pub natural_rule : List (List Symbol)
+natural_rule = (Mark 0 ∷ Made 3 ∷ Mark 2 ∷ []) ∷ []
+
+abbrev pub number_rule : List (List Symbol)
+number_rule = (Piece 0 ∷ []) ∷ (Made 4 ∷ []) ∷ []
+
+abbrev pub positive_rule : List (List Symbol)
+positive_rule = (Piece 1 ∷ Made 5 ∷ []) ∷ (Piece 2 ∷ Made 5 ∷ []) ∷ []
+
+abbrev pub digits_rule : List (List Symbol)
+digits_rule = (Piece 0 ∷ Made 5 ∷ []) ∷ (Piece 1 ∷ Made 5 ∷ []) ∷ (Piece 2 ∷ Made 5 ∷ []) ∷ [] ∷ []
+
+-- they stand behind that of the text
+pub record HasNumbers (rules : List (List (List Symbol))) : Type 0 where
+  pub value : alternatives rules 1 ≡ value_rule
+  pub natural : alternatives rules 2 ≡ natural_rule
+  pub number : alternatives rules 3 ≡ number_rule
+  pub positive : alternatives rules 4 ≡ positive_rule
+  pub digits : alternatives rules 5 ≡ digits_rule
+
+-- the number that is being spelled: its sign, its value up to 2^64, and how many bytes of it have been read, up to
+-- 2^64-1
+pub record Numeral : Type 0 where
+  pub negative : Bool
+  pub number : ℕ
+  pub spelled : ℕ
+
+abbrev pub fresh : Numeral
+fresh = record { negative = false; number = 0; spelled = 0 }
+
+-- one more, up to 2^64-1
+abbrev pub one_more : ℕ → ℕ
+one_more n = min (n + 1) (2 ^ 64 - 1)
+
+-- a byte is read: digits and `-` are of a number, and behind others a new one begins
+abbrev pub with_byte : ℕ → Numeral → Numeral
+with_byte b m =
+    if is_ascii_digit b then record m { number = min (m.number * 10 + (b - 48)) (2 ^ 64); spelled = one_more m.spelled }
+    else if b == 45 then record m { negative = true; spelled = one_more m.spelled }
+    else fresh
+
+-- a number with its sign
+abbrev pub signed : Numeral → ℤ
+signed m = if m.negative then neg_ℤ (pos m.number) else pos m.number
+
+-- a text in bytes: the letters of its words, its rules and the rounds of its table; what is remembered of it, which
+-- values, natural numbers and marks change; what stands against a number of this value, at its first byte, and against
+-- another byte; the tree at the end; and kinds
+pub record ByteText (S T K : Type 0) : Type 0 where
+  pub letters : List ℕ
+  pub rules : List (List (List Symbol))
+  pub rounds : ℕ
+  pub begun : S
+  pub value : ℤ → S → S
+  pub natural : ℕ → S → S
+  pub done : ℕ → S → S
+  pub against_number : S → ℕ → Option K
+  pub against_byte : S → ℕ → Option K
+  pub tree : S → T
+  pub number : K → ℕ
+  pub syntax : K
+
+-- what is remembered, and the number that is being spelled
+pub record Spelling (S : Type 0) : Type 0 where
+  pub own : S
+  pub numeral : Numeral
+
+-- what is put is a value or a natural number
+pub data Numbered : Type 0 where
+  Value : ℤ → Numbered
+  Natural : ℕ → Numbered
+
+-- the events of bytes
+abbrev pub reads : List ℕ → List (Event ℕ)
+reads [] = []
+reads (b ∷ bytes) = Read b ∷ reads bytes
+
+-- bytes as parts, before others
+abbrev pub says : List ℕ → List (Part ℕ Numbered) → List (Part ℕ Numbered)
+says [] xs = xs
+says (b ∷ bytes) xs = Says b ∷ says bytes xs
+
+module _ {S T K : Type 0} (x : ByteText S T K) where
+  -- a number begins at mark 0 and ends at mark 1 or 2; other marks are the text's own
+  abbrev pub done_mark : ℕ → Spelling S → Spelling S
+  done_mark m s =
+      if m == 0 then record s { numeral = fresh }
+      else if m == 1 then record { own = x.value (signed s.numeral) s.own; numeral = fresh }
+      else if m == 2 then record { own = x.natural s.numeral.number s.own; numeral = fresh }
+      else record s { own = x.done m s.own }
+
+  -- what stands against a byte: against a number with one digit more, or against another byte
+  abbrev pub against_next : Spelling S → ℕ → Option K
+  against_next s b =
+      if is_ascii_digit b then x.against_number s.own (s.numeral.number * 10 + (b - 48)) else x.against_byte s.own b
+
+  -- the fold of its events
+  abbrev pub fold_of : Fold ℕ (Spelling S) T K
+  fold_of = record {
+    begun = record { own = x.begun; numeral = fresh };
+    read = λ b s. record s { numeral = with_byte b s.numeral };
+    done = done_mark;
+    against = against_next;
+    place = λ s t. if is_ascii_digit t.piece then t.at - s.numeral.spelled else t.at;
+    floor = λ s at. at - s.numeral.spelled;
+    tree = λ s. x.tree s.own;
+    number = x.number;
+    off = λ piece. x.syntax;
+  }
+
+  abbrev pub grammar_of : Grammar ℕ
+  grammar_of = bytes_grammar x.letters x.rules x.rounds
+
+  -- the texts
+  abbrev pub texts_of : Text ℕ T K
+  texts_of = folded fold_of grammar_of
+
+  -- numbers as they are put
+  abbrev pub number_events : Numbered → List (Event ℕ)
+  number_events (Value z) = Did 0 ∷ (reads (signed_decimal z) ++ Did 1 ∷ [])
+  number_events (Natural n) = Did 0 ∷ (reads (decimal n) ++ Did 2 ∷ [])
+
+  abbrev pub number_text : Numbered → List ℕ
+  number_text (Value z) = signed_decimal z
+  number_text (Natural n) = decimal n
+
+  abbrev pub NumberStands : Spelling S → Numbered → Type 0
+  NumberStands s (Value z) = x.against_number s.own (unsigned_abs z) ≡ None
+  NumberStands s (Natural n) = x.against_number s.own n ≡ None
+
+  abbrev pub put_number : Numbered → Spelling S → Spelling S
+  put_number (Value z) s = record { own = x.value z s.own; numeral = fresh }
+  put_number (Natural n) s = record { own = x.natural n s.own; numeral = fresh }
+
+  abbrev pub numbers_of : Atoms ℕ (Spelling S) Numbered
+  numbers_of = record { events = number_events; text = number_text; Fine = NumberStands; put = put_number }
+
+  -- a number against which nothing stands is below 2^64, and nothing stands against lesser ones from 1 on, nor against
+  -- `-`
+  pub record IsBounded : Type 0 where
+    pub small : (s : S) (n : ℕ) → x.against_number s n ≡ None → n < 2 ^ 64
+    pub below : (s : S) (m n : ℕ) → 1 ≤ m → m ≤ n → x.against_number s n ≡ None → x.against_number s m ≡ None
+    pub minus : (s : S) → x.against_byte s 45 ≡ None

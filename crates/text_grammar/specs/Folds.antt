@@ -1,0 +1,54 @@
+-- Texts whose events are folded one by one, with one refusal at most against each token.
+use Rattle.std.specs.Prelude.{◌≡◌, ℕ, List, [], ◌∷◌, Option, Some, None, ⊤}
+use Rattle.text_core.specs.Tokens.{Token}
+use Rattle.text_core.specs.Readers.{Fault, onto}
+use Rattle.text_grammar.specs.Grammars.{Grammar, Event, Read, Did}
+use Rattle.text_grammar.specs.Texts.{Text}
+
+-- what is remembered of events: before the first one, behind a piece, behind a mark; the kind of what stands against a
+-- piece that can follow, and where that stands; the floor; the tree at the end; and kinds
+pub record Fold (P S T K : Type 0) : Type 0 where
+  pub begun : S
+  pub read : P → S → S
+  pub done : ℕ → S → S
+  pub against : S → P → Option K
+  pub place : S → Token P → ℕ
+  pub floor : S → ℕ → ℕ
+  pub tree : S → T
+  pub number : K → ℕ
+  pub off : Option P → K
+
+-- a refusal of a kind, if there is one
+abbrev pub refusals : {K : Type 0} → Option K → ℕ → List (Fault K)
+refusals None at = []
+refusals (Some kind) at = record { kind = kind; at = at } ∷ []
+
+module _ {P S T K : Type 0} (f : Fold P S T K) where
+  -- what is remembered behind events, the last one first
+  abbrev pub state : List (Event P) → S
+  state [] = f.begun
+  state (Read p ∷ es) = f.read p (state es)
+  state (Did m ∷ es) = f.done m (state es)
+
+  -- the texts of a grammar that are folded so
+  abbrev pub folded : Grammar P → Text P T K
+  folded g = record {
+    grammar = g;
+    value = λ es. f.tree (state (onto es []));
+    faults = λ es t. refusals (f.against (state es) t.piece) (f.place (state es) t);
+    floor = λ es at. f.floor (state es) at;
+    number = f.number;
+    off = f.off;
+  }
+
+  -- what is remembered behind events from a state on
+  abbrev pub after : S → List (Event P) → S
+  after s [] = s
+  after s (Did m ∷ es) = after (f.done m s) es
+  after s (Read p ∷ es) = after (f.read p s) es
+
+  -- nothing stands against the pieces of events from a state on
+  abbrev pub Passes : S → List (Event P) → Type 0
+  Passes s [] = ⊤
+  Passes s (Did m ∷ es) = Passes (f.done m s) es
+  Passes s (Read p ∷ es) = (f.against s p ≡ None) × Passes (f.read p s) es

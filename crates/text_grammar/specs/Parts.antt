@@ -1,0 +1,75 @@
+-- What a text is made of: pieces, marks, and what is spelled by events of its own, as numbers are.
+use Rattle.std.specs.Prelude.{◌≡◌, ℕ, List, [], ◌∷◌, ◌++◌, Option, Some, None, ⊤}
+use Rattle.text_grammar.specs.declared.symbol.Symbol.{Symbol}
+use Rattle.text_grammar.specs.declared.symbol.Symbol.TheVariants.{Piece, Made, Mark}
+use Rattle.text_grammar.specs.Grammars.{Grammar, Event, Read, Did}
+use Rattle.text_grammar.specs.Folds.{Fold}
+
+-- a piece is said, what a mark stands for is done, or something is put that events of its own spell
+pub data Part (P A : Type 0) : Type 0 where
+  Says : P → Part P A
+  Does : ℕ → Part P A
+  Puts : A → Part P A
+
+-- what can be put: the events and the pieces that spell it, when nothing stands against it, and what it does
+pub record Atoms (P S A : Type 0) : Type 1 where
+  pub events : A → List (Event P)
+  pub text : A → List P
+  pub Fine : S → A → Type 0
+  pub put : A → S → S
+
+module _ {P S T K A : Type 0} (f : Fold P S T K) (a : Atoms P S A) where
+  -- the events of parts, and their pieces
+  abbrev pub events_of : List (Part P A) → List (Event P)
+  events_of [] = []
+  events_of (Says p ∷ xs) = Read p ∷ events_of xs
+  events_of (Does m ∷ xs) = Did m ∷ events_of xs
+  events_of (Puts z ∷ xs) = a.events z ++ events_of xs
+
+  abbrev pub spelled : List (Part P A) → List P
+  spelled [] = []
+  spelled (Says p ∷ xs) = p ∷ spelled xs
+  spelled (Does m ∷ xs) = spelled xs
+  spelled (Puts z ∷ xs) = a.text z ++ spelled xs
+
+  -- what parts come to from a state on
+  abbrev pub come : S → List (Part P A) → S
+  come s [] = s
+  come s (Says p ∷ xs) = come (f.read p s) xs
+  come s (Does m ∷ xs) = come (f.done m s) xs
+  come s (Puts z ∷ xs) = come (a.put z s) xs
+
+  -- nothing stands against parts from a state on
+  abbrev pub Stand : S → List (Part P A) → Type 0
+  Stand s [] = ⊤
+  Stand s (Says p ∷ xs) = (f.against s p ≡ None) × Stand (f.read p s) xs
+  Stand s (Does m ∷ xs) = Stand (f.done m s) xs
+  Stand s (Puts z ∷ xs) = a.Fine s z × Stand (a.put z s) xs
+
+-- values of nonterminals, and the parts that they are made of; the piece of a class that has only one
+module _ {P A : Type 0} (g : Grammar P) (only : ℕ → Option P) (V : ℕ → Type 0) (parts : (n : ℕ) → V n → List (Part P A))
+  where
+    -- a piece of a class, unless the class has only one, and then the rest
+    abbrev pub Chosen : Option P → ℕ → Type 0 → Type 0
+    Chosen (Some p) c rest = rest
+    Chosen None c rest = (p : P) × (g.class_of p ≡ c) × rest
+
+    -- the values within symbols
+    abbrev pub Values : List Symbol → Type 0
+    Values [] = ⊤
+    Values (Piece c ∷ ss) = Chosen (only c) c (Values ss)
+    Values (Mark m ∷ ss) = Values ss
+    Values (Made n ∷ ss) = V n × Values ss
+
+    abbrev pub chosen_parts : {R : Type 0} → (o : Option P) → (c : ℕ) → (R → List (Part P A)) → Chosen o c R
+        → List (Part P A)
+    chosen_parts (Some p) c more vs = Says p ∷ more vs
+    chosen_parts None c more (p, k, vs) = Says p ∷ more vs
+
+    -- the parts of symbols with these values
+    abbrev pub body_parts : (ss : List Symbol) → Values ss → List (Part P A)
+    body_parts [] u = []
+    body_parts (Piece c ∷ ss) vs = chosen_parts (only c) c (body_parts ss) vs
+    body_parts (Mark m ∷ ss) vs = Does m ∷ body_parts ss vs
+    body_parts (Made n ∷ []) (v, u) = parts n v
+    body_parts (Made n ∷ s ∷ ss) (v, vs) = parts n v ++ body_parts (s ∷ ss) vs

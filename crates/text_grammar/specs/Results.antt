@@ -1,0 +1,26 @@
+-- What a result says of the answer to a text in bytes, where each error stands for a refusal or for want of memory.
+use Rattle.std.specs.Prelude.{◌≡◌, ℕ, List, length, Result, Ok, Err, Option, None, IfSome}
+use Rattle.text_core.specs.Readers.{Fault}
+use Rattle.text_core.specs.Faults.{IsFirst}
+use Rattle.text_core.specs.Reading.{Answer, Stands, Refused}
+use Rattle.text_grammar.specs.Texts.{Text, reader}
+use Rattle.text_grammar.specs.ByteTexts.{tokens}
+
+-- the tree that is made, and the refusal that an error stands for, which is none where memory ran out
+module _ {T K Made E : Type 0} (tree_in : Made → T) (refusal_in : E → Option (Fault K)) where
+  -- a result says what an answer is, or that memory ran out
+  abbrev pub Tells : Answer T K → Result Made E → Type 0
+  Tells (Stands t) (Ok made) = tree_in made ≡ t
+  Tells (Stands t) (Err e) = refusal_in e ≡ None
+  Tells (Refused x) (Ok made) = ⊥
+  Tells (Refused x) (Err e) = IfSome (refusal_in e) (λ y. y ≡ x)
+
+  -- a result is right: a tree that is meant, or exactly the first fault of the bytes, or memory ran out
+  abbrev pub IsRight : Text ℕ T K → (T → Type 0) → List ℕ → Result Made E → Type 0
+  IsRight x Meant bytes (Ok made) = Meant (tree_in made)
+  IsRight x Meant bytes (Err e) = IfSome (refusal_in e) (IsFirst (reader x) (length bytes) (tokens bytes))
+
+  -- a result is this tree, unless memory ran out
+  abbrev pub Yields : T → Result Made E → Type 0
+  Yields t (Ok made) = tree_in made ≡ t
+  Yields t (Err e) = refusal_in e ≡ None

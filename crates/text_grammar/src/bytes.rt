@@ -1,0 +1,148 @@
+//! Texts whose pieces are single bytes, with decimal numbers in them.
+
+ghost use Rattle.std.specs.Prelude.{◌≡◌, ◌<◌, ◌≤◌, ◌+◌, ◌-◌, ◌*◌, ◌^◌, length, IsTrue};
+ghost use Rattle.std.specs.Char.{is_ascii_digit};
+ghost use Rattle.text_grammar.specs.ByteTexts.{bytes_lexer, bytes_within, fresh, signed, with_byte};
+ghost use Rattle.text_grammar.specs.ByteTexts.{class_of as class_at, place_of as place_at};
+ghost use Rattle.text_grammar.specs.CodeBytes.{numeral_of};
+
+use crate::cut::{Lexeme, Lexer, OneMode};
+use crate::numeral::Numeral;
+
+/// The classes of `0`, of `1`, of `2` to `9`, and of `-`.
+pub const ZERO: u32 = 0;
+/// See `ZERO`.
+pub const ONE: u32 = 1;
+/// See `ZERO`.
+pub const MORE: u32 = 2;
+/// See `ZERO`.
+pub const MINUS: u32 = 3;
+
+/// The nonterminals of a value with a sign, of a natural number, and of what they are spelled by.
+pub const VALUE: u32 = 1;
+/// See `VALUE`.
+pub const NATURAL: u32 = 2;
+/// See `VALUE`.
+pub const NUMBER: u32 = 3;
+/// See `VALUE`.
+pub const POSITIVE: u32 = 4;
+/// See `VALUE`.
+pub const DIGITS: u32 = 5;
+
+/// The marks before a number, and behind a value and a natural number.
+pub const NUMBER_BEGINS: u32 = 0;
+/// See `NUMBER_BEGINS`.
+pub const VALUE_READ: u32 = 1;
+/// See `NUMBER_BEGINS`.
+pub const NATURAL_READ: u32 = 2;
+
+const CAP: u128 = 1 << 64;
+
+/// The lexer of such texts, with one mode.
+#[derive(Drop)]
+pub struct Bytes;
+
+impl Lexer for Bytes {
+    type Piece = u8;
+
+    type Mode = OneMode;
+
+    ghost lexer_of = { λ _. bytes_lexer };
+
+    fn lexeme(&self, _mode: OneMode, _bytes: &[u8], first: u8, _others: &[u8]) -> Lexeme<u8> {
+        Lexeme {
+            piece: Some(first),
+            len: 1,
+        }
+    }
+
+    fn behind(&self, mode: OneMode, piece: Option<u8>) -> OneMode
+        ensures { result ≡ bytes_lexer.mode_behind mode piece }
+    {
+        let _piece = piece;
+        mode
+    }
+
+    ghost within = { λ _. bytes_within };
+}
+
+// Where a byte stands among others, and how many there are where it is none of them.
+fn place_of(letters: &[u8], byte: u8) -> u32
+    requires { length letters.now < 2 ^ 31 }
+    ensures place { result ≡ place_at letters.now byte }
+    ensures within { result ≤ length letters.now }
+{
+    match letters {
+        [first, ..] if *first == byte => 0,
+        [_, others @ ..] => 1 + place_of(others, byte),
+        [] => 0,
+    }
+}
+
+/// The class of a byte, where words are made of these letters.
+pub fn class_of(letters: &[u8], byte: u8) -> u32
+    requires { length letters.now < 2 ^ 31 }
+    ensures { result ≡ class_at letters.now byte }
+{
+    match byte {
+        b'0' => ZERO,
+        b'1' => ONE,
+        b'2'..=b'9' => MORE,
+        b'-' => MINUS,
+        _ => 4 + place_of(letters, byte),
+    }
+}
+
+impl Numeral {
+    /// No byte of a number has been read.
+    pub fn new() -> Numeral
+        ensures { numeral_of result ≡ fresh }
+    {
+        Numeral {
+            negative: false,
+            number: 0,
+            spelled: 0,
+        }
+    }
+
+    /// The number with one digit more.
+    pub fn more(&self, digit: u8) -> u128
+        requires { IsTrue (is_ascii_digit digit) }
+        ensures { result ≡ self.now.number * 10 + (digit - 48) }
+    {
+        self.number * 10 + u128::from(digit - b'0')
+    }
+
+    /// Reads a byte of the text.
+    pub fn take(&mut self, byte: u8)
+        ensures { numeral_of self.new ≡ with_byte byte (numeral_of self.old) }
+    {
+        if byte.is_ascii_digit() {
+            self.number = self.more(byte).min(CAP);
+            self.spelled = self.spelled.saturating_add(1);
+        } else if byte == b'-' {
+            self.negative = true;
+            self.spelled = self.spelled.saturating_add(1);
+        } else {
+            *self = Numeral::new();
+        }
+    }
+
+    /// The number with its sign.
+    pub fn value(&self) -> i128
+        ensures { result ≡ signed (numeral_of self.now) }
+    {
+        if self.negative {
+            -(self.number as i128)
+        } else {
+            self.number as i128
+        }
+    }
+
+    /// The position of the number's first byte, where the next token is at this one.
+    pub fn begins_at(&self, at: u64) -> u64
+        ensures { result ≡ at - self.now.spelled }
+    {
+        at.saturating_sub(self.spelled)
+    }
+}

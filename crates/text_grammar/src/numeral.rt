@@ -1,0 +1,12 @@
+//! Numbers while they are spelled.
+
+ghost use Rattle.std.specs.Prelude.{◌≤◌, ◌^◌};
+
+/// A number that is being spelled: its sign, its value up to 2^64, and how many bytes of it have been read.
+#[derive(Drop)]
+pub struct Numeral {
+    pub negative: bool,
+    pub number: u128,
+    pub spelled: u64,
+    ghost capped: { number ≤ 2 ^ 64 },
+}
