@@ -12,4 +12,4 @@ mod scaled;
 pub use implication::{empty, implies};
 pub use law::{limit_is_as_defined, rows_of_a_rule_are_small, sizes_are_as_worked_out};
 pub use linear_forms::CERTIFICATE_LIMIT as LIMIT;
-pub use scaled::{Scaled, on_rows};
+pub use scaled::{Scaled, on_rows, row_value};

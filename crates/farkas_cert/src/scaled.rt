@@ -36,13 +36,28 @@ pub fn on_rows(rows: &[Row], at: &Scaled) -> bool
     true
 }
 
+/// The value of a row at a scaled point, times the denominator.
+///
+/// An unknown without a part has the numerator 0. It takes no memory, and no sum wraps.
+pub fn row_value(row: &Row, at: &Scaled) -> i128
+    requires unknowns { length at.now.parts.items ≤ 128 }
+    requires numbers { HasRowNumbers (form_of row.now) }
+    requires parts { AreParts at.now.parts.items }
+    requires denominator { at.now.den ≤ point_limit }
+    ensures value { result ≡ form_value (form_of row.now) (numerators_of at.now) (pos at.now.den) }
+    ensures size { unsigned_abs result ≤ 129 * 2 ^ 108 }
+{
+    value(row, &at.parts, at.den)
+}
+
 // The value of a row, times the denominator, at a scaled point.
 fn value(row: &Row, parts: &[i64], den: u64) -> i128
     requires unknowns { length parts.now ≤ 128 }
     requires numbers { HasRowNumbers (form_of row.now) }
     requires parts_small { AreParts parts.now }
     requires denominator { den ≤ point_limit }
-    ensures { result ≡ form_value (form_of row.now) (numbers_at parts.now) (pos den) }
+    ensures value { result ≡ form_value (form_of row.now) (numbers_at parts.now) (pos den) }
+    ensures size { unsigned_abs result ≤ 129 * 2 ^ 108 }
 {
     dot(&row.coefs, parts) + product(row.constant, i128::from(den))
 }

@@ -3,20 +3,20 @@ use Rattle.std.proofs.Common.{◌≡◌, ◌⊎◌, inl, inr, ℕ, ◌<◌, ◌=
 use Rattle.std.proofs.Common.{refl, sym, ◌∙◌, subst}
 use Rattle.std.specs.List.{AllByRecursion, range_with_len}
 use Rattle.run_counting.specs.model.Entries.{is_in}
-use Rattle.proof_nodes.specs.Reasons.{Reason, Check, for_each, AllPass, IsFirstAmong}
+use Rattle.proof_nodes.specs.Reasons.{CheckOf, for_each, AllPass, IsFirstAmong}
 use Rattle.proof_nodes.proofs.Stable.{IsStable}
 use Rattle.run_counting.proofs.model.Membership.{same_number, no_is_not_yes, is_in-cases, is_in-filter, filter-in}
 use Rattle.run_counting.proofs.model.Membership.{is_in-numbers}
 use Rattle.std.proofs.lemmas.Bool.{or_left, or_right}
 
 -- where all pass no reason is the first
-pub passed_has_none : (cs : List Check) → AllPass cs → (r : Reason) → ¬ (IsFirstAmong cs r)
+pub passed_has_none : {R : Type 0} (cs : List (CheckOf R)) → AllPass cs → (r : R) → ¬ (IsFirstAmong cs r)
 passed_has_none [] h r k = k
 passed_has_none (c ∷ cs) h r (inl k) = k.0 h.0
 passed_has_none (c ∷ cs) h r (inr k) = passed_has_none cs h.1 r k.1
 
 -- there is at most one first reason
-pub first_is_one : (cs : List Check) (q r : Reason) → IsFirstAmong cs q → IsFirstAmong cs r → q ≡ r
+pub first_is_one : {R : Type 0} (cs : List (CheckOf R)) (q r : R) → IsFirstAmong cs q → IsFirstAmong cs r → q ≡ r
 first_is_one [] q r h k = absurd h
 first_is_one (c ∷ cs) q r (inl h) (inl k) = sym h.1 ∙ k.1
 first_is_one (c ∷ cs) q r (inl h) (inr k) = absurd (h.0 k.0)
@@ -24,18 +24,18 @@ first_is_one (c ∷ cs) q r (inr h) (inl k) = absurd (k.0 h.0)
 first_is_one (c ∷ cs) q r (inr h) (inr k) = first_is_one cs q r h.1 k.1
 
 -- no check can fail without being false
-abbrev pub AreStable : List Check → Type 0
+abbrev pub AreStable : {R : Type 0} → List (CheckOf R) → Type 0
 AreStable [] = Unit {0}
 AreStable (c ∷ cs) = IsStable c.holds × AreStable cs
 
 -- where no reason is the first all pass
-pub none_passes : (cs : List Check) → AreStable cs → ((r : Reason) → ¬ (IsFirstAmong cs r)) → AllPass cs
+pub none_passes : {R : Type 0} (cs : List (CheckOf R)) → AreStable cs → ((r : R) → ¬ (IsFirstAmong cs r)) → AllPass cs
 none_passes [] h k = tt
 none_passes (c ∷ cs) h k =
     let p : c.holds = h.0 (λ n. k c.reason (inl (n, refl))) in
     (p, none_passes cs h.1 (λ r l. k r (inr (p, l))))
 
-module _ {A : Type 0} (f : A → Check) (rest : List Check) where
+module _ {R A : Type 0} (f : A → CheckOf R) (rest : List (CheckOf R)) where
   -- a check for each element, and then the others
   pub each_passes : (xs : List A) → AllPass (for_each f xs rest) → AllByRecursion (λ x. (f x).holds) xs × AllPass rest
   each_passes [] h = (tt, h)

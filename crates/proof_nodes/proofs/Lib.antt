@@ -23,6 +23,18 @@ pub mod FirstReasons
 pub mod SizeReasons
 pub mod CostReasons
 pub mod ReasonsInLine
+pub mod GapPoints
+pub mod GapExclusion
+pub mod RefutedGaps
+pub mod GapsInLine
+pub mod StableGaps
+pub mod FirstFailures
+pub mod Numbering
+pub mod Refusals
+pub mod FilesInLine
+pub mod ComposedNumbers
+pub mod SizeNumbers
+pub mod PrintableFacts
 pub mod WorkedFaithful
 pub mod WorkedRefused
 pub mod WorkedAccepted
@@ -31,5 +43,10 @@ pub mod WorkedSizes
 pub mod WorkedReasons
 pub mod WorkedCosts
 pub mod WorkedPaying
+pub mod WorkedGaps
+pub mod WorkedGapSets
+pub mod WorkedGapShapes
+pub mod WorkedRefusals
+pub mod WorkedPrintable
 -- the lemmas of the crates below, which callers name through this one
 pub use Rattle.rule_forms.proofs as rule_forms

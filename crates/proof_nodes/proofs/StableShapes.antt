@@ -129,7 +129,7 @@ stable-small rewrite b h = record {
 }
 
 -- the shape of a ranking node
-stable-ascending : (xs : List ℕ) → IsStable (IsAscending xs)
+pub stable-ascending : (xs : List ℕ) → IsStable (IsAscending xs)
 stable-ascending [] h = tt
 stable-ascending (x ∷ []) h = tt
 stable-ascending (x ∷ y ∷ rest) h =

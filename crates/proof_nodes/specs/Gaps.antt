@@ -1,5 +1,6 @@
 -- Gaps and proof files as plain data.
-use Rattle.std.specs.Prelude.{ℕ, List, ℤ}
+use Rattle.std.specs.Prelude.{ℕ, ◌&&◌, nat_eq, Bool, List, ℤ}
+use Rattle.std.specs.List.{list_any}
 use Rattle.proof_nodes.specs.Nodes.{Proof}
 
 -- a numerator for each unknown over one denominator; with the denominator 0 it is a ray
@@ -11,6 +12,10 @@ pub record ScaledPoint : Type 0 where
 pub record SymbolPlace : Type 0 where
   pub symbol : ℕ
   pub place : ℕ
+
+-- whether place i of symbol a is one of these
+abbrev pub is_shut : List SymbolPlace → ℕ → ℕ → Bool
+is_shut shut a i = list_any (λ c. nat_eq c.symbol a && nat_eq c.place i) shut
 
 -- why no function ranks a rule over a set: the places at which it may not read, a point for each rule of the set, a
 -- second one of the strict rule, and a further point for each rule of the set

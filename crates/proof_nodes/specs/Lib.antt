@@ -15,15 +15,26 @@ pub mod AcceptsCosts
 pub mod Acceptance
 pub mod Reasons
 pub mod Checks
+pub mod GapChecks
+pub mod Numbering
+pub mod Refusals
 pub mod Feeding
 -- laws, and values that were worked out by hand
 pub mod ReasonLaws
+pub mod GapLaws
+pub mod RefusalLaws
 pub mod Laws
+pub mod Printable
 pub mod WorkedSettings
 pub mod Worked
 pub mod WorkedSizes
 pub mod WorkedReasons
 pub mod WorkedCosts
+pub mod WorkedGaps
+pub mod WorkedGapSets
+pub mod WorkedGapShapes
+pub mod WorkedRefusals
+pub mod WorkedPrintable
 -- the machinery of the functions inside and of the proofs
 pub mod Combined
 -- the crates below, which callers name through this one

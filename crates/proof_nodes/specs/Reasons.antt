@@ -1,4 +1,4 @@
--- Why a node isn't accepted: checks that are made one after the other, and the reason of the first that fails.
+-- Why a node or a gap isn't accepted: checks that are made one after the other, and the reason of the first that fails.
 use Rattle.std.specs.Prelude.{◌≡◌, ℕ, ◌⊎◌, List, [], ◌∷◌, ⊤}
 
 -- the reasons, in the words of the proof text: wrong lengths, numbers out of range or over their limit, lists that
@@ -22,12 +22,16 @@ pub data Reason : Type 0 where
   NotWeaker : Reason
 
 -- what has to hold, and the reason where it doesn't
-pub record Check : Type 1 where
-  pub reason : Reason
+pub record CheckOf (R : Type 0) : Type 1 where
+  pub reason : R
   pub holds : Type 0
 
+-- a check of a node
+abbrev pub Check : Type 1
+Check = CheckOf Reason
+
 -- the check that this holds
-abbrev pub check : Reason → Type 0 → Check
+abbrev pub check : {R : Type 0} → R → Type 0 → CheckOf R
 check reason holds = record { reason = reason; holds = holds }
 
 -- what a function makes of each element of a list, as a check or a test, and then the others
@@ -36,11 +40,11 @@ for_each f [] rest = rest
 for_each f (x ∷ xs) rest = f x ∷ for_each f xs rest
 
 -- all checks pass
-abbrev pub AllPass : List Check → Type 0
+abbrev pub AllPass : {R : Type 0} → List (CheckOf R) → Type 0
 AllPass [] = ⊤
 AllPass (c ∷ cs) = c.holds × AllPass cs
 
 -- the reason of the first check that fails: all before it pass
-abbrev pub IsFirstAmong : List Check → Reason → Type 0
+abbrev pub IsFirstAmong : {R : Type 0} → List (CheckOf R) → R → Type 0
 IsFirstAmong [] r = ⊥
 IsFirstAmong (c ∷ cs) r = (¬ c.holds × (c.reason ≡ r)) ⊎ (c.holds × IsFirstAmong cs r)

@@ -1,5 +1,9 @@
 pub mod Faithful
 pub mod Small
+pub mod RankedSets
+pub mod Tidying
+pub mod Files
+pub mod WorkedGaps
 -- the lemmas of the crates below, which callers name through this one
 pub use Rattle.guard_prep.proofs.model
 pub use Rattle.guard_prep.proofs.int_laws

@@ -1,5 +1,5 @@
 -- What the settings of valid programs say, and what accepted lemmas are worth for them.
-use Rattle.std.specs.Prelude.{◌≡◌, ◌↔◌, ℕ, ◌≤◌, List, All, Some, slice_get}
+use Rattle.std.specs.Prelude.{◌≡◌, ◌↔◌, ℕ, ◌≤◌, List, length, All, Some, slice_get}
 use Rattle.guard_prep.specs.model.Bounds.{Bound}
 use Rattle.guard_prep.specs.model.Programs.{Program, Rule, rule_at}
 use Rattle.guard_prep.specs.model.Facts.{Holds}
@@ -13,7 +13,12 @@ use Rattle.proof_nodes.specs.Limits.{IsSmallComposed}
 use Rattle.proof_nodes.specs.Checks.{large_nodes}
 use Rattle.proof_nodes.specs.Setting.{IsFaithful}
 use Rattle.proof_nodes.specs.Acceptance.{AcceptsLemmas, facts_of_lemmas}
+use Rattle.proof_nodes.specs.rule_forms.Ranking.{NoRank}
+use Rattle.proof_nodes.specs.Gaps.{ProofFile}
+use Rattle.proof_nodes.specs.Refusals.{AcceptsFile}
+use Rattle.proof_nodes.specs.Printable.{IsTidying, HasTidyFactNumbers, IsPrintableFact, WritesTidyBounds}
 use Rattle.proof_setting.specs.Setting.{setting_of}
+use Rattle.proof_setting.specs.RankedSets.{forms_at, ranked_set}
 
 -- the setting of a valid program says what is true: each step is a point of its rule's rows, each step by a cost rule a
 -- point of the cost rows, rewriting keeps values and bases, and what is below has no greater value
@@ -25,6 +30,38 @@ pub record SettingsAreFaithful : Type 0 where
 pub record AcceptedFactsHold : Type 0 where
   pub each : (p : Program) → IsValid p → (proofs : List Proof) → AcceptsLemmas (setting_of p) proofs
       → All (All (Holds p)) (facts_of_lemmas (setting_of p) proofs)
+
+-- a file is accepted for a program
+abbrev pub AcceptsFileFor : Program → ProofFile → Type 0
+AcceptsFileFor p f = AcceptsFile (setting_of p) (forms_at p) f
+
+-- what questions see of a rule are the rows and new values over which nodes are judged
+pub record FormsAreThoseOfSettings : Type 0 where
+  pub rows : (p : Program) (t : ℕ) → (forms_at p t).rows ≡ (setting_of p).rows t
+  pub news : (p : Program) (t : ℕ) → (forms_at p t).news ≡ (setting_of p).news t
+
+-- what a file says of a program is so: every fact of every lemma holds on all runs, and no affine function ranks the
+-- strict rule of a gap over its set without looking at one of its shut places
+pub record FileHolds (p : Program) (f : ProofFile) : Type 0 where
+  pub facts : All (All (Holds p)) (facts_of_lemmas (setting_of p) f.lemmas)
+  pub gaps : All (λ g. NoRank (ranked_set p g.set g.rule g.shut)) f.gaps
+
+-- so it is of a file that is accepted for a valid program, whoever made it
+pub record AcceptedFilesHold : Type 0 where
+  pub each : (p : Program) → IsValid p → (f : ProofFile) → AcceptsFileFor p f → FileHolds p f
+
+-- the setting of a valid program makes bounds that can be printed
+pub record SettingsAreTidying : Type 0 where
+  pub each : (p : Program) → IsValid p → IsTidying (setting_of p)
+
+-- the facts of lemmas that are accepted for a valid program have bounds with tidy numbers over its start arguments
+-- alone; and where each bound that the lemmas write is tidy, so is each bound of their facts
+pub record AcceptedFactsArePrintable : Type 0 where
+  pub numbers : (p : Program) → IsValid p → (proofs : List Proof) → AcceptsLemmas (setting_of p) proofs
+      → All (All (HasTidyFactNumbers (length p.start_names))) (facts_of_lemmas (setting_of p) proofs)
+  pub tidy : (p : Program) → IsValid p → (proofs : List Proof) → AcceptsLemmas (setting_of p) proofs
+      → All WritesTidyBounds proofs
+      → All (All (IsPrintableFact (length p.start_names))) (facts_of_lemmas (setting_of p) proofs)
 
 -- the expanded update at a place, and it has degree 2 or more
 pub record IsBentUpdate (r : Rule) (i : ℕ) (q : Polynomial) : Type 0 where

@@ -1,8 +1,11 @@
 -- what the contracts of this crate, and of those above it, cite
 pub mod Setting
+pub mod RankedSets
 -- laws, and values that were worked out by hand
 pub mod Laws
+pub mod GapLaws
 pub mod Worked
+pub mod WorkedGaps
 -- the crates below, which callers name through this one
 pub use Rattle.guard_prep.specs.model
 pub use Rattle.guard_prep.specs.linear_forms

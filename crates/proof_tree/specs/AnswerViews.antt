@@ -2,7 +2,10 @@
 use Rattle.std.specs.Prelude.{ℕ, map}
 use Rattle.farkas_cert.specs.declared.scaled.Scaled.{Scaled}
 use Rattle.proof_setting.specs.proof_nodes.Reasons as reasons
+use Rattle.proof_setting.specs.proof_nodes.GapChecks as faults
 use Rattle.proof_setting.specs.proof_nodes.Gaps as gaps
+use Rattle.proof_tree.specs.declared.answer.GapFault.{GapFault}
+use Rattle.proof_tree.specs.declared.answer.GapFault.TheVariants as off
 use Rattle.proof_tree.specs.declared.answer.Reason.{Reason}
 use Rattle.proof_tree.specs.declared.answer.Reason.TheVariants as told
 use Rattle.proof_tree.specs.declared.gap.Gap.{Gap}
@@ -24,6 +27,15 @@ reason_of (told.MissingSize rule place) = reasons.MissingSize rule place
 reason_of (told.Bent rule place) = reasons.Bent rule place
 reason_of (told.Large nodes) = reasons.Large nodes
 reason_of told.Weaker = reasons.NotWeaker
+
+-- why a gap doesn't hold
+abbrev pub fault_of : GapFault → faults.GapFault
+fault_of off.Shape = faults.WrongShape
+fault_of (off.Move rule) = faults.MoveOff rule
+fault_of off.Floor = faults.FloorOff
+fault_of (off.Kept rule) = faults.NotKept rule
+fault_of (off.Balance symbol place) = faults.Unbalanced symbol place
+fault_of off.Nothing = faults.LosesNothing
 
 -- a scaled point as plain data
 abbrev pub scaled_of : Scaled → gaps.ScaledPoint

@@ -6,11 +6,15 @@
 
 mod answer;
 mod arm;
+mod balancing;
 mod copies;
 mod entering;
 mod fact;
 mod file;
 mod gap;
+mod gap_faults;
+mod gap_points;
+mod gap_shape;
 mod known;
 mod lookup;
 mod places;
@@ -27,6 +31,7 @@ pub use entering::{entries, source_of, target_of};
 pub use fact::Fact;
 pub use file::ProofFile;
 pub use gap::Gap;
+pub use gap_faults::{gap_fault, gaps_exclude_functions};
 pub use known::{Known, Stated};
 pub use linear_forms::TripCause;
 pub use lookup::{size_in, time_in};

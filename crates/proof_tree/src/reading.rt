@@ -18,9 +18,9 @@ use guard_prep::RuleRows;
 use poly_terms::{Monomial, Poly};
 use std::alloc::Global;
 
-// Whether a number is in a list.
+/// Whether a number is in a list.
 #[tactic(auto, using(crate::proofs::Rules::in_found, crate::proofs::Rules::in_passed, crate::proofs::Rules::in_none))]
-fn has(numbers: &[u32], number: u32) -> bool
+pub(crate) fn has(numbers: &[u32], number: u32) -> bool
     ensures { result ≡ is_in number numbers.now }
 {
     for other in numbers {

@@ -15,9 +15,8 @@ use Rattle.simplex_core.proofs.linear_forms.SolutionLaws.{length-map}
 use Rattle.proof_tree.specs.rule_forms.RankLaws.{coefficient, function_of}
 use Rattle.proof_tree.proofs.rule_forms.Losses.{share, share-other, share-own}
 use Rattle.poly_terms.specs.model.Programs.{Program, arity_of}
-use Rattle.proof_tree.specs.proof_nodes.Gaps.{SymbolPlace}
+use Rattle.proof_tree.specs.proof_nodes.Gaps.{SymbolPlace, is_shut}
 use Rattle.proof_tree.specs.proof_nodes.Nodes.{SymbolForm}
-use Rattle.proof_tree.specs.Shut.{is_shut}
 use Rattle.rule_questions.specs.ProgramQuestions.{ranked_set}
 use Rattle.rank_search.specs.RankAnswers.{part_at}
 use Rattle.rank_search.specs.Reading.{open_count, read_coefs, read_form, read_forms}

@@ -1,6 +1,7 @@
 pub mod EmptyFound
 pub mod RankSets
 pub mod RankExact
+pub mod GapsFound
 pub mod Numbers
 pub mod ShownParts
 pub mod Accepted

@@ -11,15 +11,18 @@ use Rattle.its_model.specs.Valid.{IsValid}
 use Rattle.poly_terms.specs.model.Entries.{is_in, IsEntry}
 use Rattle.proof_tree.specs.proof_nodes.AcceptsRank.{at_target, rank_time, HasRankShape, Loses, HasFloor, AcceptsRank}
 use Rattle.proof_tree.specs.proof_nodes.Composed.{rank_form}
-use Rattle.proof_tree.specs.proof_nodes.Gaps.{SymbolPlace}
+use Rattle.proof_tree.specs.proof_nodes.Gaps.{SymbolPlace, is_shut}
 use Rattle.proof_tree.specs.proof_nodes.Known.{IsKnown, Table}
 use Rattle.proof_tree.specs.proof_nodes.Limits.{IsSmallComposed}
 use Rattle.proof_tree.specs.proof_nodes.Nodes.{RankNode}
 use Rattle.proof_tree.specs.proof_nodes.Setting.{Setting}
+use Rattle.proof_tree.specs.proof_setting.GapLaws.{IsFoundGap}
 use Rattle.proof_tree.specs.proof_setting.Setting.{setting_of}
+use Rattle.proof_tree.specs.AnswerViews.{gap_of}
 use Rattle.proof_tree.specs.declared.answer.EmptyAnswer.{EmptyAnswer}
+use Rattle.proof_tree.specs.declared.gap.Gap.{Gap}
 use Rattle.rank_search.specs.declared.answer.RankAnswer.{RankAnswer}
-use Rattle.proof_tree.specs.Shut.{is_shut}
+use Rattle.rank_search.specs.declared.answer.RankAnswer.TheVariants as answers
 use Rattle.rule_questions.specs.ProgramQuestions.{ranked_set}
 use Rattle.rule_questions.specs.Programs.{NothingTrips}
 use Rattle.rank_search.specs.RankAnswers.{IsRuleSet, rank_program, IsRankNode, IsRankAnswer}
@@ -52,7 +55,8 @@ pub record RankedNodesRank : Type 0 where
   pub least : (p : Program) (set : List ℕ) (strict : ℕ) (shut : List SymbolPlace) (pivots : ℕ) (node : RankNode)
       → IsValid p → IsRuleSet p set strict → (n : IsRankNode (ranked_set p set strict shut) pivots node)
       → HavePointsOf (ranked_set p set strict shut)
-      → IsLeastRank (ranked_set p set strict shut) (function_of_node (ranked_set p set strict shut) pivots node n) node.den
+      → IsLeastRank (ranked_set p set strict shut) (function_of_node (ranked_set p set strict shut) pivots node n)
+      node.den
 
 -- what acceptance asks of a node apart from facts: its shape, and that its multipliers show what it loses and its floor
 pub record HasCertificates (s : Setting) (node : RankNode) : Type 0 where
@@ -94,3 +98,11 @@ pub record RankAnswersAreExact : Type 0 where
       → SaysTripped a
       ↔ ((¬ NothingTrips (rank_program b) pivots)
       ⊎ (NothingTrips (rank_program b) pivots × (¬ HasSolution (rank_program b)) × ¬ (first_trip empties b.set ≡ None)))
+
+-- a `NoRank` answer has a gap with the set, the strict rule and the shut places that were handed in, and it holds
+pub record FoundGapsHold : Type 0 where
+  pub each : (p : Program) (set : List ℕ) (strict : ℕ) (shut : List SymbolPlace) (pivots : ℕ)
+      (empties : List EmptyAnswer) (g : Gap)
+      → IsValid p → IsRuleSet p set strict → AreEmptyAnswers p pivots empties
+      → IsRankAnswer (ranked_set p set strict shut) shut pivots empties (answers.NoRank g)
+      → IsFoundGap p set strict shut (gap_of g)

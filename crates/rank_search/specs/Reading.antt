@@ -9,14 +9,13 @@ use Rattle.simplex_core.specs.linear_forms.QuestionLaws.{after, parameters_of, m
 use Rattle.poly_terms.specs.model.Programs.{Program, arity_of}
 use Rattle.poly_terms.specs.Views.{form_of}
 use Rattle.guard_prep.specs.declared.rule_rows.RuleRows.{RuleRows}
-use Rattle.proof_tree.specs.proof_nodes.Gaps.{SymbolPlace}
+use Rattle.proof_tree.specs.proof_nodes.Gaps.{SymbolPlace, is_shut}
 use Rattle.proof_tree.specs.proof_nodes.Nodes.{SymbolForm}
 use Rattle.proof_tree.specs.declared.answer.EmptyAnswer.{EmptyAnswer}
 use Rattle.proof_tree.specs.declared.gap.Gap.{Gap}
 use Rattle.proof_tree.specs.declared.rank.RankNode.{RankNode}
 use Rattle.proof_tree.specs.AnswerViews.{gap_of}
 use Rattle.proof_tree.specs.Views.{rank_of}
-use Rattle.proof_tree.specs.Shut.{is_shut}
 use Rattle.rule_questions.specs.RuleAnswers.{answer_for, point_in}
 use Rattle.rank_search.specs.RankAnswers.{points_of}
 

@@ -3,8 +3,7 @@ use Rattle.std.specs.Prelude.{◌≡◌, ℕ, Bool, List}
 use Rattle.std.specs.BTreeSet.{BTreeSet, contains}
 use Rattle.std.specs.declared.cmp.Ordering.{Ordering}
 use Rattle.std.specs.Ordering.{nat_cmp, ordering_then}
-use Rattle.proof_tree.specs.proof_nodes.Gaps.{SymbolPlace}
-use Rattle.proof_tree.specs.Shut.{is_shut}
+use Rattle.proof_tree.specs.proof_nodes.Gaps.{SymbolPlace, is_shut}
 
 -- places stand in the order of symbols, and then of their numbers
 abbrev pub place_cmp : ℕ × ℕ → ℕ × ℕ → Ordering

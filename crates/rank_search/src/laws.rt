@@ -2,6 +2,7 @@
 
 ghost use Rattle.rank_search.specs.OneAnswer.{RankAnswersAreOne};
 ghost use Rattle.rank_search.specs.RankLaws.{RankedNodesRank, RankedNodesAreAccepted, RankAnswersAreExact};
+ghost use Rattle.rank_search.specs.RankLaws.{FoundGapsHold};
 
 /// A node that is read off a solution of a rank question's linear program holds a function that looks at no shut place
 /// and ranks the rule, on all rational points; and where each rule of the set has a point, none that does weighs less.
@@ -27,4 +28,10 @@ pub fn rank_answers_are_one()
 /// trips, and `Tripped` exactly where it trips, or has no solution and an emptiness question of the set tripped.
 pub fn rank_answers_are_exact()
     ensures { RankAnswersAreExact }
+{}
+
+/// The gap of an answer `NoRank` has the set, the strict rule and the shut places that were handed in, and it holds: by
+/// its own numbers it shows that no function ranks the rule.
+pub fn found_gaps_hold()
+    ensures { FoundGapsHold }
 {}

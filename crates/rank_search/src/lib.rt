@@ -1,8 +1,8 @@
 //! The searches for ranking functions: whether the rows of a rule have a point, and which function ranks a rule of a
 //! set.
-//! Contract to the layer above: each answer is exact. What an answer on emptiness says is said by `rule_questions`, which
-//! linear programs are solved by `linear_forms`, what their answers are worth by `rule_forms`, and what trips them by
-//! `simplex_core`.
+//! Contract to the layer above: each answer is exact. What an answer on emptiness says is said by `rule_questions`,
+//! which linear programs are solved by `linear_forms`, what their answers are worth by `rule_forms`, and what trips
+//! them by `simplex_core`.
 #![tactic(auto)]
 
 mod answer;
@@ -21,6 +21,7 @@ mod symbols;
 pub use answer::RankAnswer;
 pub use emptiness::find_empty;
 pub use laws::{
-    rank_answers_are_exact, rank_answers_are_one, ranked_nodes_are_accepted, ranked_nodes_rank,
+    found_gaps_hold, rank_answers_are_exact, rank_answers_are_one, ranked_nodes_are_accepted,
+    ranked_nodes_rank,
 };
 pub use ranking::find_rank;

@@ -23,9 +23,9 @@ use std::alloc::Global;
 
 /// Which affine function ranks the strict rule over a set of rules, without looking at a shut place: one of least
 /// weight where each rule of the set has a point. `Ranked` has the function at which the linear program's sequence of
-/// tableaux ends, with multipliers that show it; `NoRank` a gap, which is read off the dual, with the points of the
-/// rules of the set; and `Tripped` the limit that the linear program passes within so many pivots or, where it has no
-/// solution, that of the first rule of the set whose emptiness question tripped.
+/// tableaux ends, with multipliers that show it; `NoRank` a gap, which holds (`found_gaps_hold`): it is read off the
+/// dual, with the points of the rules of the set; and `Tripped` the limit that the linear program passes within so many
+/// pivots or, where it has no solution, that of the first rule of the set whose emptiness question tripped.
 ///
 /// # Errors
 ///

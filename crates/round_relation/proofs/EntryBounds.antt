@@ -16,10 +16,9 @@ use Rattle.rule_questions.specs.proof_nodes.Known.{Table, IsKnown}
 use Rattle.rule_questions.specs.proof_nodes.Composed.{rank_form}
 use Rattle.rule_questions.specs.proof_nodes.AcceptsRank.{HasFormShape}
 use Rattle.rule_questions.proofs.model.Membership.{same_number, told_same, no_is_not_yes, filter-in, list_any-told}
-use Rattle.rule_questions.specs.proof_nodes.Gaps.{SymbolPlace}
+use Rattle.rule_questions.specs.proof_nodes.Gaps.{SymbolPlace, is_shut}
 use Rattle.round_relation.specs.Tables.{lacks, is_untimed, IsPlace}
 use Rattle.round_relation.specs.Sets.{IsSetOfRule, IsShut, AreShutOf}
-use Rattle.rule_questions.specs.proof_tree.Shut.{is_shut}
 use Rattle.rule_questions.proofs.model.PathLaws.{Path-then as path_then}
 use Rattle.rule_questions.proofs.proof_nodes.RankSoundness.{rank_form-long as form_long}
 

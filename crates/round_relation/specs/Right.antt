@@ -11,11 +11,11 @@ use Rattle.rule_questions.specs.proof_nodes.Setting.{Setting}
 use Rattle.rule_questions.specs.proof_nodes.Composed.{rank_form}
 use Rattle.rule_questions.specs.proof_nodes.AcceptsPlain.{IsRule, AcceptsEmpty}
 use Rattle.rule_questions.specs.proof_nodes.AcceptsRank.{HasRankShape, Loses, HasFloor}
-use Rattle.rule_questions.specs.proof_tree.Shut.{is_shut}
 use Rattle.rule_questions.specs.proof_tree.declared.answer.Trip.{Trip}
 use Rattle.rule_questions.specs.proof_tree.declared.answer.Question.TheVariants as asked
-use Rattle.rule_questions.specs.proof_nodes.Gaps.{SymbolPlace, Gap}
-use Rattle.rule_questions.specs.ProgramQuestions.{ranked_set}
+use Rattle.rule_questions.specs.proof_nodes.GapChecks.{GapHolds}
+use Rattle.rule_questions.specs.proof_nodes.Gaps.{SymbolPlace, Gap, is_shut}
+use Rattle.rule_questions.specs.ProgramQuestions.{forms_at, ranked_set}
 use Rattle.round_relation.specs.Searches.{Searches, Emptiness, NoPoint, HasPoint, EmptyTripped, Ranking, Ranked}
 use Rattle.round_relation.specs.Searches.{Unranked, RankTripped}
 
@@ -33,11 +33,12 @@ pub record IsRanking (s : Setting) (set : List ℕ) (t : ℕ) (shut : List Symbo
   pub floor : HasFloor s node
   pub reads : ReadsNoShut node shut
 
--- a gap of exactly this question; and no function that reads no shut place ranks the rule over the set
+-- a gap of exactly this question, which holds; and no function that reads no shut place ranks the rule over the set
 pub record IsGapOf (s : Setting) (set : List ℕ) (t : ℕ) (shut : List SymbolPlace) (g : Gap) : Type 0 where
   pub rule : g.rule ≡ t
   pub same_set : g.set ≡ set
   pub same_shut : g.shut ≡ shut
+  pub holds : GapHolds s.program (forms_at s.program) g
   pub none : NoRank (ranked_set s.program set t shut)
 
 -- the emptiness question of a rule trips

@@ -24,22 +24,9 @@ use Rattle.proof_tree.specs.guard_prep.Laws.{IsPreparable, IsSmallForm}
 use Rattle.proof_tree.proofs.guard_prep.SizeLaws.{rows-are-small}
 use Rattle.lp_builder.specs.simplex_core.Trips.{IsScaledSolution, IsScaledDual}
 use Rattle.rule_questions.specs.ProgramQuestions.{forms_of}
+pub use Rattle.proof_tree.proofs.proof_setting.RankedSets.{prepared-shaped}
 use Rattle.rule_questions.specs.EmptyAnswers.{empty_program, IsNearPoint}
 use Rattle.rule_questions.proofs.Lists.{multipliers-listed, value-seen}
-
--- the forms of a rule have no coefficient past its unknowns
-pub prepared-shaped : (a b : ℕ) (r : Rule) → IsPreparable r → IsRuleShaped (forms_of a b (prepared r))
-prepared-shaped a b r h = record {
-  left_fits = (let e : r.left ≤ unknowns_of r = omega arith in e);
-  rows_fit = fits (rows_of r) (rows-are-small.rows r h);
-  news_fit = fits (news_of r) (rows-are-small.news r h);
-}
-  where
-    fits : (fs : List Form) → AllByRecursion (IsSmallForm (unknowns_of r)) fs → All
-        (λ f. length f.coefs ≤ unknowns_of r) fs
-    fits fs s =
-        All-weaker (IsSmallForm (unknowns_of r)) (λ f. length f.coefs ≤ unknowns_of r)
-        (λ f i. let e = i.width in omega (arith, e)) fs (All-from_recursion (IsSmallForm (unknowns_of r)) fs s)
 
 module _ (m : Prepared) (shaped : IsRuleShaped (forms_of 0 0 m)) where
   abbrev question : Question

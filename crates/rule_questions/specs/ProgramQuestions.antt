@@ -1,48 +1,8 @@
--- What questions see of the rules of a program: each rule as forms, and sets of rules with their shut places and the
--- symbols that are entered.
-use Rattle.std.specs.Prelude.{ℕ, Bool, List, [], length, map, Option, Some, None}
-use Rattle.std.specs.List.{list_any}
-use Rattle.poly_terms.specs.model.Programs.{Program, Rule, rule_at, arity_of}
-use Rattle.poly_terms.specs.model.Paths.{target_of, same_symbol}
-use Rattle.poly_terms.specs.linear_forms.RuleQuestions.{RuleForms, RankedSet}
-use Rattle.proof_tree.specs.guard_prep.Prepared.{Prepared, prepared}
+-- What questions see of the rules of a program.
+use Rattle.std.specs.Prelude.{ℕ, List, map}
 use Rattle.proof_tree.specs.proof_nodes.Gaps.{SymbolPlace}
 use Rattle.proof_tree.specs.AnswerViews.{shut_of}
-use Rattle.proof_tree.specs.Shut.{is_shut}
-use Rattle.poly_terms.specs.model.Entries.{entries}
-
--- what a question sees of a rule from one symbol to another, of which this is prepared
-abbrev pub forms_of : ℕ → ℕ → Prepared → RuleForms
-forms_of source target m = record {
-  source = source;
-  target = target;
-  left = m.left;
-  unknowns = m.unknowns;
-  rows = m.rows;
-  news = m.news;
-}
-
--- and of a rule, where there is one
-abbrev pub forms_in : Option Rule → RuleForms
-forms_in None = record { source = 0; target = 0; left = 0; unknowns = 0; rows = []; news = [] }
-forms_in (Some r) = forms_of r.source r.target (prepared r)
-
--- an entry of the set leads to the symbol: a rule outside it, or the virtual entry, that leads to where a rule of it
--- comes from
-abbrev pub is_entered : Program → List ℕ → ℕ → Bool
-is_entered p set a = list_any (λ e. same_symbol (Some a) (target_of p e)) (entries p set)
-
--- a set of rules of a program, one of which has to decrease, with places that are shut
-abbrev pub ranked_set : Program → List ℕ → ℕ → List SymbolPlace → RankedSet
-ranked_set p set strict shut = record {
-  symbols = length p.symbols;
-  arity = arity_of p;
-  rule = λ t. forms_in (rule_at p t);
-  set = set;
-  strict = strict;
-  shut = is_shut shut;
-  entered = is_entered p set;
-}
+pub use Rattle.proof_tree.specs.proof_setting.RankedSets.{forms_of, forms_in, forms_at, is_entered, ranked_set}
 
 -- places as they are handed in: a symbol, and a place of it
 abbrev pub places_of : List (ℕ × ℕ) → List SymbolPlace

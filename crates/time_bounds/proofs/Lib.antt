@@ -91,8 +91,6 @@ pub mod WrittenAnalysis
 pub mod Analysed
 pub mod WholeAnalysis
 -- what is found can be printed
-pub mod ComposedNumbers
-pub mod SizeNumbers
 pub mod Printables
 pub mod PrintableOutcomes
 -- the lemmas of the crates below, which callers name through this one

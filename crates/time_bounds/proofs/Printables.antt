@@ -2,19 +2,10 @@
 use Rattle.std.proofs.Common.{◌≡◌, ◌⊎◌, inl, inr, ℕ, zero, suc, ◌+◌, ◌-◌, ◌≤◌, Bool, not, true, false, if◌then◌else◌}
 use Rattle.std.proofs.Common.{List, [], ◌∷◌}
 use Rattle.std.proofs.Common.{length, map, Option, Some, None, refl, sym, ◌∙◌, ap, subst, arith, All}
-use Rattle.std.specs.List.{AllByRecursion}
 use Rattle.model.specs.Programs.{Program, Rule, rule_at, arity_of}
 use Rattle.model.specs.Bounds.{Bound, Constant, Input, SumOf, Parts, NoParts}
-use Rattle.model.specs.Limits.{coefficient_limit}
-use Rattle.model.specs.Terms.{Term}
-use Rattle.model.specs.Polynomials.{Polynomial}
 use Rattle.model.proofs.Membership.{no_is_not_yes}
-use Rattle.its_model.specs.Valid.{IsValidTerm, IsValid}
-use Rattle.its_model.specs.poly_terms.Expanding.{expanded}
-use Rattle.its_model.specs.poly_terms.Ordered.{IsBounded}
-use Rattle.its_model.proofs.poly_terms.AnswerLaws.{expanded-small}
-use Rattle.guard_prep.specs.Prepared.{is_bent}
-use Rattle.guard_prep.proofs.StepLaws.{preparable}
+use Rattle.its_model.specs.Valid.{IsValid}
 use Rattle.bound_expr.specs.Numbers.{IsTidyNumber, HasTidyNumbers, HaveTidyNumbers}
 use Rattle.bound_expr.specs.Numbers.{IsInputBelow, ReadsBelow, AllReadBelow}
 use Rattle.bound_expr.proofs.Nodes.{IsTidy-numbers}
@@ -27,7 +18,7 @@ use Rattle.proof_tree.specs.proof_nodes.Gaps.{SymbolPlace}
 use Rattle.proof_tree.specs.proof_nodes.AcceptsPlain.{IsRule, IsUnreached}
 use Rattle.proof_tree.specs.proof_nodes.AcceptsRank.{HasRankShape, rank_time}
 use Rattle.proof_tree.specs.proof_nodes.AcceptsSizes.{HasMemberShape, spread_size, cycle_size}
-use Rattle.proof_tree.specs.proof_setting.Setting.{setting_of, polys_in, bent_at}
+use Rattle.proof_tree.specs.proof_setting.Setting.{setting_of}
 use Rattle.outcome.specs.Reports as reports
 use Rattle.outcome.specs.Reports.{Timed, Untimed, NoTime, NoFunction, TimeTripped}
 use Rattle.size_bounds.specs.round_relation.Tables.{IsPlace}
@@ -47,8 +38,9 @@ use Rattle.time_bounds.specs.ProgramSearches.{searches_of_program}
 use Rattle.time_bounds.specs.ProgramSizes.{sizes_of_program}
 use Rattle.time_bounds.specs.Totals.{known_parts, total_of}
 use Rattle.time_bounds.specs.PrintableLaws.{IsPrintableBound, IsPrintableTable, ArePrintable, FoundBoundsArePrintable}
-use Rattle.time_bounds.proofs.ComposedNumbers.{rank_time-each}
-use Rattle.time_bounds.proofs.SizeNumbers.{spread-each, cycle-each}
+use Rattle.proof_tree.proofs.proof_nodes.ComposedNumbers.{rank_time-each}
+use Rattle.proof_tree.proofs.proof_nodes.SizeNumbers.{spread-each, cycle-each}
+use Rattle.proof_tree.proofs.proof_setting.Tidying.{settings-tidying}
 use Rattle.time_bounds.proofs.RightSearches.{program_searches_right}
 use Rattle.time_bounds.proofs.RightSizings.{program_sizes_right}
 use Rattle.time_bounds.proofs.Sums.{first_known, total_is}
@@ -74,30 +66,6 @@ composed-reads : (s : Setting) (node : RankNode) (tab : nodes.Table) (n : ℕ) �
 composed-reads s node tab n shape h =
     rank_time-each (IsInputBelow n) (λ c low. tt) (λ bs. tt) (λ bs. tt) s node tab shape
     (λ t b e. (h.times t b e).1) (λ t i b e. (h.sizes t i b e).1)
-
--- a polynomial of an update of a valid program has small coefficients
-bent-bounded : (m : ℕ) (us : List Term) → AllByRecursion (IsValidTerm m) us → (i : ℕ) (q : Polynomial)
-    → bent_at (map expanded us) i ≡ Some q → IsBounded coefficient_limit q
-bent-bounded m [] h i q e = absurd (no_bent q e)
-  where
-    no_bent : (f : Polynomial) → None ≡ Some f → ⊥
-    no_bent f x = cc
-bent-bounded m (u ∷ us) h (suc i) q e = bent-bounded m us h.1 i q e
-bent-bounded m (u ∷ us) h zero q e = go (is_bent (expanded u)) e
-  where
-    go : (v : Bool) → (if v then Some (expanded u) else None) ≡ Some q → IsBounded coefficient_limit q
-    go true k =
-        let same : expanded u ≡ q = cc in
-        subst (IsBounded coefficient_limit) same (expanded-small u h.0.expands).coefficients
-    go false k = absurd (let none : ⊥ = cc in none)
-
-updates-bounded : (p : Program) → IsValid p → (t i : ℕ) (q : Polynomial) → (setting_of p).poly t i ≡ Some q
-    → IsBounded coefficient_limit q
-updates-bounded p valid t i q e = go (rule_at p t) refl e
-  where
-    go : (o : Option Rule) → rule_at p t ≡ o → bent_at (polys_in o) i ≡ Some q → IsBounded coefficient_limit q
-    go None k h = bent-bounded 0 [] tt i q h
-    go (Some r) k h = bent-bounded (r.left + r.free) r.updates (preparable p t r valid k).updates i q h
 
 module _ (q : Searches) (p : Program) (right : AreRight q (setting_of p)) (n : ℕ) (few : arity_of p p.start ≤ n) where
   -- constants that are no more than 1, and the start arguments
@@ -214,10 +182,10 @@ module _ (q : Searches) (p : Program) (right : AreRight q (setting_of p)) (n : �
       spread_printable m shape =
           rewritten_printable n (spread_size (setting_of p) tab m)
           (spread-each IsTidyNumber (λ c low. low) (λ bs. tt) (λ bs. tt) (λ bs. tt) (λ c e low. low) (setting_of p)
-          (updates-bounded p valid) tab.time tab.size (λ t b e. IsTidy-numbers b (good.times t b e).0)
+          (settings-tidying.each p valid).updates tab.time tab.size (λ t b e. IsTidy-numbers b (good.times t b e).0)
           (λ t i b e. IsTidy-numbers b (good.sizes t i b e).0) m shape)
           (spread-each (IsInputBelow n) (λ c low. tt) (λ bs. tt) (λ bs. tt) (λ bs. tt) (λ c e low. tt) (setting_of p)
-          (updates-bounded p valid) tab.time tab.size (λ t b e. (good.times t b e).1)
+          (settings-tidying.each p valid).updates tab.time tab.size (λ t b e. (good.times t b e).1)
           (λ t i b e. (good.sizes t i b e).1) m shape)
 
       cycle_printable : (ms : List Member) → All (HasMemberShape (setting_of p)) ms
@@ -225,10 +193,10 @@ module _ (q : Searches) (p : Program) (right : AreRight q (setting_of p)) (n : �
       cycle_printable ms shapes =
           rewritten_printable n (cycle_size (setting_of p) tab ms)
           (cycle-each IsTidyNumber (λ c low. low) (λ bs. tt) (λ bs. tt) (λ bs. tt) (λ c e low. low) (setting_of p)
-          (updates-bounded p valid) tab.time tab.size (λ t b e. IsTidy-numbers b (good.times t b e).0)
+          (settings-tidying.each p valid).updates tab.time tab.size (λ t b e. IsTidy-numbers b (good.times t b e).0)
           (λ t i b e. IsTidy-numbers b (good.sizes t i b e).0) ms shapes)
           (cycle-each (IsInputBelow n) (λ c low. tt) (λ bs. tt) (λ bs. tt) (λ bs. tt) (λ c e low. tt) (setting_of p)
-          (updates-bounded p valid) tab.time tab.size (λ t b e. (good.times t b e).1)
+          (settings-tidying.each p valid).updates tab.time tab.size (λ t b e. (good.times t b e).1)
           (λ t i b e. (good.sizes t i b e).1) ms shapes)
 
       sized_printable : (members : List Spot) (b : Bound) → IsSizing (setting_of p) tab members b → IsPrintableBound n b

@@ -25,7 +25,7 @@ use Rattle.proof_tree.specs.proof_setting.Setting.{setting_of, rows_in}
 use Rattle.proof_tree.specs.declared.answer.Trip.{Trip}
 use Rattle.proof_tree.specs.declared.answer.EmptyAnswer.{EmptyAnswer}
 use Rattle.proof_tree.specs.declared.answer.EmptyAnswer.TheVariants as empties
-use Rattle.proof_tree.specs.AnswerViews.{scaled_of}
+use Rattle.proof_tree.specs.AnswerViews.{scaled_of, gap_of}
 use Rattle.proof_tree.specs.Views.{rank_of}
 use Rattle.rank_search.specs.declared.answer.RankAnswer.{RankAnswer}
 use Rattle.rank_search.specs.declared.answer.RankAnswer.TheVariants as ranks
@@ -37,6 +37,7 @@ use Rattle.rank_search.specs.RankLaws.{function_of_node, RankedNodesRank, Ranked
 use Rattle.rank_search.proofs.NodeLaws.{nodes-rank}
 use Rattle.rank_search.proofs.Accepted.{nodes-accepted}
 use Rattle.rank_search.proofs.RankExact.{answers-exact}
+use Rattle.rank_search.proofs.GapsFound.{found-holds}
 use Rattle.size_bounds.specs.round_relation.Searches.{Emptiness, NoPoint, HasPoint, EmptyTripped, Ranking}
 use Rattle.size_bounds.specs.round_relation.Right.{EmptyTrips, NoneTrips, IsFirstTrip, IsRightEmptiness, IsRightRanking}
 use Rattle.size_bounds.specs.round_relation.Right.{IsQuestion}
@@ -189,6 +190,7 @@ module _ (accepted : EmptyNodesAreAccepted) (functions : RankedNodesRank) (nodes
             rule = h.0.numbered;
             same_set = h.0.same_set;
             same_shut = h.0.same_shut;
+            holds = found-holds p set t shut pivots answers valid (rule_set set t q) are (gap_of gap) h.0;
             none = none.0;
           },
           none_trips set q.rules h.1,

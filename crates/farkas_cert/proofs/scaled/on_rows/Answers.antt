@@ -17,12 +17,12 @@ returns-then-value-lt0 c =
   where
     low : pos 0 ≤ℤ form_value (form_of c.row-item.result) (numerators_of c.args.at.now) (pos c.args.at.now.den) → ⊥
     low h =
-        let value = c.value.ensures ∙ ap (λ (xs : List ℤ). form_value (form_of c.row-item.result) (numbers_at xs) (pos c.args.at.now.den)) c.deref.ensures.value in
+        let value = c.value.ensures.value ∙ ap (λ (xs : List ℤ). form_value (form_of c.row-item.result) (numbers_at xs) (pos c.args.at.now.den)) c.deref.ensures.value in
         omega (arith, ints, value)
 
 pub loop-row-preserved : goal.loop-row-preserved
 loop-row-preserved c =
-    let value = c.value.ensures ∙ ap (λ (xs : List ℤ). form_value (form_of c.row-item.result) (numbers_at xs) (pos c.args.at.now.den)) c.deref.ensures.value in
+    let value = c.value.ensures.value ∙ ap (λ (xs : List ℤ). form_value (form_of c.row-item.result) (numbers_at xs) (pos c.args.at.now.den)) c.deref.ensures.value in
     record {
       each = forms-more (λ (f : Form). pos 0 ≤ℤ form_value f (numerators_of c.args.at.now) (pos c.args.at.now.den)) c.args.rows.now c.loop-row.row-index c.row-item.result c.loop-row-test.true c.row-item.is c.loop-row.invariant.each (omega (arith, ints, value));
     }

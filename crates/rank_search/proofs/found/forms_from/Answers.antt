@@ -6,7 +6,7 @@ use Rattle.poly_terms.specs.model.Programs.{arity_of}
 use Rattle.std.proofs.lemmas.List.Elements.{All-get_or}
 use Rattle.its_model.specs.Views.{program_of}
 use Rattle.proof_tree.specs.Views.{form_of}
-use Rattle.proof_tree.specs.Shut.{is_shut}
+use Rattle.proof_tree.specs.proof_nodes.Gaps.{is_shut}
 use Rattle.rule_questions.specs.ProgramQuestions.{places_of}
 use Rattle.rank_search.specs.Reading.{open_count, form_by}
 use Rattle.rank_search.specs.ShutPlaces.{is_listed}

@@ -1,0 +1,16 @@
+-- lists of what is stored, and rows of them
+pub mod Entries
+-- tables in which bounds are written by key
+pub mod Writes
+-- there is room for what is found
+pub mod Room
+-- the table stays the index of the list
+pub mod Indexed
+-- the lemmas of finds
+pub mod Cites
+-- what is known at first
+pub mod Started
+-- times, sizes and numbers by key
+pub mod Known
+-- worked values
+pub mod WorkedValues

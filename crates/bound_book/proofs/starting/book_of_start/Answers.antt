@@ -1,0 +1,14 @@
+use Rattle.std.proofs.Common.{subst, ℕ, arith}
+use Rattle.std.proofs.lemmas.List.{length-map}
+use Rattle.its_model.specs.Views.{program_of, rule_of}
+use Rattle.bound_book.specs.Starting.{AreStartTimes}
+use Rattle.bound_book.proofs.Started.{started}
+use Rattle.bound_book.proofs.starting.book_of_start.Goals as goal
+
+pub returns-clause-book : goal.returns-clause-book
+returns-clause-book c =
+    started (program_of c.args.p.now) _ c.new.result.items c.requires.valid
+    (subst (λ (n : ℕ). AreStartTimes n c.in_ok-times.times.items)
+    (let long = length-map c.args.p.now.rules.items rule_of in
+    omega (arith, long, c.len.ensures, c.args.p.now.rules.ok.0))
+    c.in_ok-times.ensures) c.in_ok-sizes.ensures c.new.ensures.items

@@ -1,0 +1,73 @@
+-- telling cases apart, and counting
+pub mod Cases
+pub mod Counts
+-- what lists contain
+pub mod ListMembers
+-- keys among keys, and finds one after another
+pub mod Keys
+pub mod FindLists
+-- rules and places by their numbers
+pub mod RuleNumbers
+-- what lemmas rest on, by the numbers of what they need
+pub mod FactLists
+pub mod CitedFacts
+pub mod NeededFacts
+-- over tables that agree on what nodes need, they compose the same bounds and are accepted alike
+pub mod SameTimes
+pub mod SameSizes
+-- the lemma of each node is accepted, and states what the node composes
+pub mod NodeLemmas
+-- finds that stand give lemmas
+pub mod StartFacts
+pub mod StandingKeys
+pub mod FindFacts
+pub mod StandingLemmas
+pub mod StandingLaws
+-- what is missing, and finds that are fresh
+pub mod MissingBounds
+pub mod FreshFinds
+-- nodes that are accepted, and what they need
+pub mod EntryBounds
+pub mod AcceptedRanks
+pub mod KnownNeeds
+-- finds before the first round
+pub mod DeadRules
+pub mod ZeroTimes
+pub mod FirstFindsStand
+-- finds of rounds
+pub mod TimesStand
+pub mod UniformComponents
+pub mod SizesStand
+-- rounds end
+pub mod MissingFalls
+pub mod RoundsEnd
+-- where answers are one, so are rounds and the last finds
+pub mod OneOrder
+pub mod LastIsOne
+pub mod FirstIsOne
+pub mod RoundIsOne
+pub mod FindsAreOne
+-- sets and shut places exist
+pub mod PathTests
+pub mod SetsExist
+-- missing bounds have reasons, and there are last finds
+pub mod DeadPlaces
+pub mod ReasonsExist
+pub mod LastExists
+-- what was worked out by hand
+pub mod WorkedFinds
+pub mod WorkedSets
+pub mod WorkedShut
+pub mod WorkedComponents
+pub mod WorkedRounds
+pub mod WorkedLaterRounds
+pub mod WorkedReasons
+pub mod WorkedUnreached
+pub mod WorkedStanding
+pub mod WorkedFirst
+pub mod WorkedRight
+pub mod WorkedAnswers
+pub mod WorkedCauses
+pub mod WorkedCutOff
+pub mod WorkedBeginnings
+pub mod WorkedLastRounds

@@ -1,0 +1,151 @@
+-- What is found in a round for components stands after what was found before.
+use Rattle.std.proofs.Common.{◌≡◌, inl, inr, ◌≤◌, true, List, [], ◌∷◌, ◌++◌, length, map, None, refl, sym, subst}
+use Rattle.std.proofs.Common.{arith, All}
+use Rattle.std.proofs.lemmas.List.Elements.{All-nil, All-cons, All-append}
+use Rattle.rule_questions.specs.proof_nodes.Nodes.{Spot}
+use Rattle.rule_questions.specs.proof_nodes.Setting.{Setting}
+use Rattle.bound_rounds.specs.Keys.{Bounds, at_key, rule_numbers}
+use Rattle.bound_rounds.specs.Finds.{Node, EmptyBy, UnreachedBy, NeverBy, RankBy, SpreadBy, CycleBy, Find, bounds_of}
+use Rattle.bound_rounds.specs.Finds.{keys_of}
+use Rattle.bound_rounds.specs.Needs.{needs_of}
+use Rattle.bound_rounds.specs.Standing.{composed_bound, Stands, StandAfter}
+use Rattle.bound_rounds.specs.Searches.{Searches, searches_of, Answers, Sizing, SizedBy, Unsized}
+use Rattle.bound_rounds.specs.Answers.{SizesOf, are_open, is_open, Answer, Found, Lacks, finds_by, TellsSizing}
+use Rattle.bound_rounds.specs.Answers.{TellsSize}
+use Rattle.bound_rounds.specs.Components.{IsOneOf, AreComponentsOf}
+use Rattle.bound_rounds.specs.Rounds.{Tries, TriesAll, InTurn, IsRound, IsMade, Begun, Made}
+use Rattle.bound_rounds.specs.Right.{AcceptsSizing, AreRight}
+use Rattle.bound_rounds.specs.Laws.{MadeFindsStand}
+use Rattle.bound_rounds.proofs.Cases.{false_true}
+use Rattle.bound_rounds.proofs.MissingBounds.{all-has_key}
+use Rattle.bound_rounds.proofs.FreshFinds.{FreshAfter, begins_itself, stand_over, stand-append}
+use Rattle.bound_rounds.proofs.KnownNeeds.{spread_known, cycle_known}
+use Rattle.bound_rounds.proofs.FirstFindsStand.{first_stand}
+use Rattle.bound_rounds.proofs.TimesStand.{by_answer, round_times_stand}
+use Rattle.bound_rounds.proofs.UniformComponents.{IsWhole, open_all, tried_whole, times_whole, uniform_bounds}
+use Rattle.bound_rounds.proofs.UniformComponents.{made_whole}
+
+-- the find of an accepted node that gives sizes
+abbrev pub sizing_find : Setting → Bounds → List Spot → Node → Find
+sizing_find s b keys node = record {
+  keys = keys;
+  node = node;
+  needs = needs_of s b node;
+  bound = composed_bound s b node;
+}
+
+-- it stands
+sizing_stands : (s : Setting) (b : Bounds) (keys : List Spot) (node : Node) → keys ≡ keys_of s.program node
+    → AcceptsSizing s b node → Stands s b (sizing_find s b keys node)
+sizing_stands s b keys (EmptyBy t multipliers) same ok = absurd ok
+sizing_stands s b keys (UnreachedBy t) same ok = absurd ok
+sizing_stands s b keys (NeverBy t) same ok = absurd ok
+sizing_stands s b keys (RankBy node) same ok = absurd ok
+sizing_stands s b keys (SpreadBy m) same ok = record {
+  keys = same;
+  accepted = ok.0;
+  needs = refl;
+  known = spread_known b s m ok.0;
+  bound = refl;
+}
+sizing_stands s b keys (CycleBy members) same ok = record {
+  keys = same;
+  accepted = ok.0;
+  needs = refl;
+  known = cycle_known b s members ok.0;
+  bound = refl;
+}
+
+-- where one of some keys is missing, there are some
+open_long : (b : Bounds) (keys : List Spot) → are_open b keys ≡ true → 1 ≤ length keys
+open_long b [] h = absurd (false_true h)
+open_long b (k ∷ keys) h = omega arith
+
+module _ (q : Searches) (s : Setting) (right : AreRight q s) where
+  -- what an answer about a component gives stands over these bounds
+  size_stands : (b : Bounds) (keys : List Spot) → is_open b (SizesOf keys) ≡ true → (a : Answer)
+      → TellsSize q s b keys a → All (Stands s b) (finds_by (SizesOf keys) a)
+  size_stands b keys open_now a h = go h.answer h.answered h.tells
+    where
+      go : (x : Sizing) → q.Sizes b keys x → TellsSizing s b x a → All (Stands s b) (finds_by (SizesOf keys) a)
+      go (SizedBy node) answered tells =
+          let r = right.sizes b keys (SizedBy node) (open_long b keys open_now) answered in
+          subst (λ (y : Answer). All (Stands s b) (finds_by (SizesOf keys) y)) (sym tells)
+          (All-cons (Stands s b) (sizing_find s b keys node) [] (sizing_stands s b keys node r.same r.accepted)
+          (All-nil (Stands s b)))
+      go (Unsized why) answered tells =
+          subst (λ (y : Answer). All (Stands s b) (finds_by (SizesOf keys) y)) (sym tells) (All-nil (Stands s b))
+
+  module _ (cs : List (List Spot)) (are : AreComponentsOf q s.program cs) where
+    -- all finds have all members of each component, or none
+    abbrev pub AllWhole : List Find → Type 0
+    AllWhole fs = (c : List Spot) → IsOneOf cs c → All (IsWhole c) fs
+
+    -- the keys of a component that was open are fresh
+    tried_fresh : (fs : List Find) → AllWhole fs → (c : List Spot) → IsOneOf cs c
+        → is_open (bounds_of s.program fs) (SizesOf c) ≡ true → (a : Answer)
+        → FreshAfter s.program fs (finds_by (SizesOf c) a)
+    tried_fresh fs whole c one open_now (Lacks why) = tt
+    tried_fresh fs whole c one open_now (Found node needs bound) = (
+      all-has_key (λ (k : Spot). at_key (bounds_of s.program fs) k ≡ None) c
+          (open_all (bounds_of s.program fs) c (uniform_bounds q s cs are c one fs (whole c one)) open_now),
+      tt,
+    )
+
+    -- what is found for a component stands
+    tried_stands : (fs : List Find) → AllWhole fs → (c : List Spot) → IsOneOf cs c → (more : List Find)
+        → Tries q s fs (SizesOf c) more → StandAfter s fs more
+    tried_stands fs whole c one more tries =
+        by_answer (λ (xs : List Find). StandAfter s fs xs) q s fs (SizesOf c) more tries tt answer
+      where
+        answer : is_open (bounds_of s.program fs) (SizesOf c) ≡ true → (a : Answer)
+            → TellsSize q s (bounds_of s.program fs) c a → StandAfter s fs (finds_by (SizesOf c) a)
+        answer open_now a tells =
+            stand_over s fs fs (finds_by (SizesOf c) a) (begins_itself fs)
+            (size_stands (bounds_of s.program fs) c open_now a tells) (tried_fresh fs whole c one open_now a)
+
+    -- so does what is found for some components, one after the other
+    pub sizes_stand : (fs : List Find) → AllWhole fs → (ds : List (List Spot))
+        → ((d : List Spot) → IsOneOf ds d → IsOneOf cs d) → (sizes : List Find)
+        → TriesAll q s InTurn fs (map SizesOf ds) sizes → StandAfter s fs sizes
+    sizes_stand fs whole [] all sizes none =
+        subst (λ (xs : List Find). StandAfter s fs xs) (sym none) tt
+    sizes_stand fs whole (d ∷ ds) all sizes (first, tries, (rest, e, later)) =
+        subst (λ (xs : List Find). StandAfter s fs xs) (sym e)
+        (stand-append s fs first rest (tried_stands fs whole d (all d (inl refl)) first tries)
+        (sizes_stand (fs ++ first) more_whole ds (λ x k. all x (inr k)) rest later))
+      where
+        more_whole : AllWhole (fs ++ first)
+        more_whole c one =
+            All-append (IsWhole c) fs first (whole c one)
+            (tried_whole q s cs are c one fs d (all d (inl refl)) first tries)
+
+module _ (a : Answers) (s : Setting) (right : AreRight (searches_of a) s) where
+  -- the components are those of the places of live rules
+  live_components : AreComponentsOf (searches_of a) s.program a.components
+  live_components = right.components a.components refl
+
+  -- what is found in a round stands after the finds before it
+  round_stands : (fs : List Find) → IsMade (searches_of a) s fs → (more : List Find)
+      → IsRound (searches_of a) s fs more → StandAfter s fs more
+  round_stands fs made more n =
+      subst (λ (xs : List Find). StandAfter s fs xs) (sym n.all)
+      (stand-append s fs n.times n.sizes (round_times_stand (searches_of a) s right fs n.times n.timed)
+      (sizes_stand (searches_of a) s right a.components live_components (fs ++ n.times) whole n.components
+      (λ d k. subst (λ (cs : List (List Spot)). IsOneOf cs d) (sym n.are_components) k) n.sizes n.sized))
+    where
+      whole : (c : List Spot) → IsOneOf a.components c → All (IsWhole c) (fs ++ n.times)
+      whole c one =
+          All-append (IsWhole c) fs n.times (made_whole a s live_components fs made c one)
+          (times_whole (searches_of a) s a.components live_components c one fs (rule_numbers s.program)
+          n.times n.timed)
+
+  -- so all that rounds find stands
+  made_stand : (fs : List Find) → IsMade (searches_of a) s fs → StandAfter s [] fs
+  made_stand fs (Begun h) = first_stand (searches_of a) s fs h right
+  made_stand fs (Made {fs = old} {more = more} m n) =
+      stand-append s [] old more (made_stand old m) (round_stands old m more n)
+
+-- what rounds find stands, where the answers of the searches are right
+pub finds_stand : MadeFindsStand
+finds_stand = record { each = λ a s right fs made. record { each = made_stand a s right fs made } }

@@ -1,0 +1,102 @@
+-- The laws of finds that stand.
+use Rattle.std.proofs.Common.{◌≡◌, ◌⊎◌, inl, inr, ℕ, zero, suc, true, List, [], ◌∷◌, ◌++◌, Some, None, sym, ◌∙◌}
+use Rattle.std.proofs.Common.{ap, subst}
+use Rattle.std.proofs.lemmas.List.{append_assoc}
+use Rattle.std.specs.List.{Contains}
+use Rattle.rule_questions.specs.model.Bounds.{Bound}
+use Rattle.rule_questions.specs.model.Facts.{Fact, Holds}
+use Rattle.rule_questions.specs.proof_nodes.Nodes.{Spot}
+use Rattle.rule_questions.specs.proof_nodes.Setting.{Setting, IsFaithful}
+use Rattle.rule_questions.specs.proof_nodes.AcceptsPlain.{IsRule, start_facts}
+use Rattle.rule_questions.specs.proof_nodes.Acceptance.{facts_of_lemma, AcceptsLemmas, facts_of_lemmas}
+use Rattle.rule_questions.proofs.proof_nodes.Soundness.{accepted_facts_hold}
+use Rattle.rule_questions.proofs.proof_nodes.GoodFacts.{IsGood}
+use Rattle.rule_questions.proofs.proof_nodes.Weaker.{start-good}
+use Rattle.bound_rounds.specs.Keys.{has_key, at_key, place_fact, start_bounds}
+use Rattle.bound_rounds.specs.Finds.{Find, bound_found, bounds_of, number_in}
+use Rattle.bound_rounds.specs.Needs.{lemmas_of}
+use Rattle.bound_rounds.specs.Standing.{StandAfter, AllStand}
+use Rattle.bound_rounds.specs.Laws.{StandingFindsHaveLemmas, FindsAreNumbered, StandingFindsHold}
+use Rattle.bound_rounds.proofs.Cases.{either, none_some}
+use Rattle.bound_rounds.proofs.ListMembers.{contains-cases, contains-none, contained-all}
+use Rattle.bound_rounds.proofs.Keys.{has_key-all}
+use Rattle.bound_rounds.proofs.FindLists.{first_of-cases, bounds_of-new, found-here}
+use Rattle.bound_rounds.proofs.FactLists.{lemma-all}
+use Rattle.bound_rounds.proofs.StartFacts.{start_stated}
+use Rattle.bound_rounds.proofs.FindFacts.{facts_of_finds}
+use Rattle.bound_rounds.proofs.StandingLemmas.{found_stated, all_have_lemmas}
+
+-- the lemmas of finds that stand are accepted
+accepted : (s : Setting) (fs : List Find) → AllStand s fs → AcceptsLemmas s (lemmas_of fs)
+unfolding AcceptsLemmas
+accepted s fs h = (all_have_lemmas s fs h).accepted
+
+-- and each states what its find does
+states : (s : Setting) (fs : List Find) → AllStand s fs → facts_of_lemmas s (lemmas_of fs) ≡ facts_of_finds fs
+unfolding facts_of_lemmas
+states s fs h = (all_have_lemmas s fs h).facts
+
+-- so finds that stand have lemmas
+pub have_lemmas : StandingFindsHaveLemmas
+have_lemmas = record { accepted = accepted; stated = states }
+
+-- a bound that was found is a fact of the lemma whose number its key has
+numbered : (s : Setting) (fs : List Find) → AllStand s fs → (t i : ℕ) (b : Bound) → bound_found fs t i ≡ Some b
+    → Contains (facts_of_lemma (facts_of_lemmas s (lemmas_of fs)) (number_in fs t i)) (place_fact t i b)
+numbered s fs h t i b e =
+    subst (λ (past : List (List Fact)). Contains (facts_of_lemma past (number_in fs t i)) (place_fact t i b))
+    (sym (states s fs h)) (found_stated s fs (all_have_lemmas s fs h).sound t i b e)
+
+-- what is known of a rule was found
+of_rule : (s : Setting) (fs : List Find) (t i : ℕ) (b : Bound) → IsRule s.program t
+    → bounds_of s.program fs t i ≡ Some b
+    → bound_found fs t i ≡ Some b
+of_rule s fs zero i b rule e = absurd (none_some rule.rule rule.numbered)
+of_rule s fs (suc t) i b rule e = e
+
+-- a find that stands after earlier ones alone states the bounds of its keys
+alone_after : (s : Setting) (earlier fs : List Find) → StandAfter s earlier fs → (f : Find) → Contains fs f → (t i : ℕ)
+    → has_key f.keys t i ≡ true → bounds_of s.program (earlier ++ fs) t i ≡ Some f.bound
+alone_after s earlier [] h f m t i k = absurd (contains-none f m)
+alone_after s earlier (g ∷ fs) h f m t i k =
+    either (contains-cases f g fs m) here (λ n. later (alone_after s (earlier ++ g ∷ []) fs h.1 f n t i k))
+  where
+    here : g ≡ f → bounds_of s.program (earlier ++ g ∷ fs) t i ≡ Some f.bound
+    here e =
+        let mine = subst (λ (x : Find). has_key x.keys t i ≡ true) (sym e) k in
+        bounds_of-new s.program earlier (g ∷ fs) t i
+        (has_key-all (λ (x : Spot). at_key (bounds_of s.program earlier) x ≡ None) g.keys t i h.0.fresh mine)
+        ∙ (found-here g fs t i mine ∙ ap (λ (x : Find). Some x.bound) e)
+
+    later : bounds_of s.program ((earlier ++ g ∷ []) ++ fs) t i ≡ Some f.bound
+        → bounds_of s.program (earlier ++ g ∷ fs) t i ≡ Some f.bound
+    later rest =
+        subst (λ (xs : List Find). bounds_of s.program xs t i ≡ Some f.bound) (append_assoc earlier (g ∷ []) fs) rest
+
+-- so what is known of a rule is numbered, and one find alone states it
+pub are_numbered : FindsAreNumbered
+are_numbered = record {
+  each = λ s fs h t i b rule e. numbered s fs h t i b (of_rule s fs t i b rule e);
+  alone = λ s fs h f m t i k. alone_after s [] fs h.each f m t i k;
+}
+
+-- a bound that is known is one of the virtual entry, or was found: so it holds
+holds : (s : Setting) → IsFaithful s → (fs : List Find) → AllStand s fs → (t i : ℕ) (b : Bound)
+    → bounds_of s.program fs t i ≡ Some b → Holds s.program (place_fact t i b)
+holds s faithful fs h t i b e = go (first_of-cases (start_bounds s.program t i) (bound_found fs t i) b e)
+  where
+    go : (start_bounds s.program t i ≡ Some b) ⊎ ((start_bounds s.program t i ≡ None) × (bound_found fs t i ≡ Some b))
+        → Holds s.program (place_fact t i b)
+    go (inl first) =
+        (contained-all (IsGood s.program) (start_facts s.program) (place_fact t i b) (start-good s.program)
+        (start_stated s.program t i b first).1).holds
+    go (inr later) =
+        contained-all (Holds s.program) (facts_of_lemma (facts_of_lemmas s (lemmas_of fs)) (number_in fs t i))
+        (place_fact t i b)
+        (lemma-all (Holds s.program) (facts_of_lemmas s (lemmas_of fs))
+        (accepted_facts_hold.each s faithful (lemmas_of fs) (accepted s fs h)) (number_in fs t i))
+        (numbered s fs h t i b later.1)
+
+-- so what is known with finds that stand holds
+pub hold : StandingFindsHold
+hold = record { each = holds }

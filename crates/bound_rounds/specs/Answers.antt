@@ -1,0 +1,89 @@
+-- What is asked for in a round, and what the searches then tell: a find, or why there is none.
+use Rattle.std.specs.Prelude.{◌≡◌, ℕ, ◌||◌, Bool, false, List, [], ◌∷◌}
+use Rattle.rule_questions.specs.model.Bounds.{Bound}
+use Rattle.rule_questions.specs.proof_nodes.Nodes.{Spot}
+use Rattle.rule_questions.specs.proof_nodes.Setting.{Setting}
+use Rattle.rule_questions.specs.proof_nodes.Limits.{IsSmallComposed}
+use Rattle.rule_questions.specs.proof_nodes.Checks.{large_nodes}
+use Rattle.rule_questions.specs.proof_nodes.AcceptsRank.{rank_time}
+use Rattle.rule_questions.specs.proof_nodes.Gaps.{SymbolPlace}
+use Rattle.bound_rounds.specs.Keys.{Bounds, time_key, at_key, lacks, over}
+use Rattle.bound_rounds.specs.Finds.{Node, RankBy, Find}
+use Rattle.bound_rounds.specs.Needs.{needs_of}
+use Rattle.bound_rounds.specs.Standing.{composed_bound}
+use Rattle.bound_rounds.specs.Sets.{IsSetOfRule, AreShutOf}
+use Rattle.bound_rounds.specs.Searches.{Searches, Ranking, Ranked, Unranked, RankTripped, Sizing, SizedBy, Unsized}
+use Rattle.bound_rounds.specs.Searches.{NoBound, NoFunction, Tripped, TooLarge}
+
+-- what is asked for: the time of a rule, or one size for all these places
+pub data Target : Type 0 where
+  TimeOf : ℕ → Target
+  SizesOf : List Spot → Target
+
+-- the keys that get the bound
+abbrev pub keys_asked : Target → List Spot
+keys_asked (TimeOf t) = time_key t ∷ []
+keys_asked (SizesOf keys) = keys
+
+-- whether some of these keys has no bound
+abbrev pub are_open : Bounds → List Spot → Bool
+are_open b [] = false
+are_open b (k ∷ keys) = lacks (at_key b k) || are_open b keys
+
+-- whether a bound is missing of what is asked for
+abbrev pub is_open : Bounds → Target → Bool
+is_open b g = are_open b (keys_asked g)
+
+-- a node with what it needs, and the bound that it composes; or why there is none
+pub data Answer : Type 0 where
+  Found : Node → List Spot → Bound → Answer
+  Lacks : NoBound → Answer
+
+-- the finds of an answer
+abbrev pub finds_by : Target → Answer → List Find
+finds_by g (Found node needs bound) = record { keys = keys_asked g; node = node; needs = needs; bound = bound } ∷ []
+finds_by g (Lacks why) = []
+
+-- what a node makes over bounds, where it composes this bound: the bound rewritten, where it is small; else there is
+-- none, as the large bound has so many nodes
+abbrev pub Composes : Setting → Bounds → Node → Bound → Answer → Type 0
+Composes s b node whole (Found n needs bound) = IsSmallComposed s.rewrite whole × (n ≡ node)
+    × (needs ≡ needs_of s b node) × (bound ≡ s.rewrite whole)
+Composes s b node whole (Lacks why) = (¬ (IsSmallComposed s.rewrite whole))
+    × (why ≡ TooLarge (large_nodes s.rewrite whole))
+
+-- what the answer to a rank question tells
+abbrev pub TellsRanking : Setting → Bounds → Ranking → Answer → Type 0
+TellsRanking s b (Ranked node) a = Composes s b (RankBy node) (rank_time s node (over b)) a
+TellsRanking s b (Unranked g) a = a ≡ Lacks (NoFunction g)
+TellsRanking s b (RankTripped t) a = a ≡ Lacks (Tripped t)
+
+-- and what that for a component tells
+abbrev pub TellsSizing : Setting → Bounds → Sizing → Answer → Type 0
+TellsSizing s b (SizedBy node) a = a ≡ Found node (needs_of s b node) (composed_bound s b node)
+TellsSizing s b (Unsized why) a = a ≡ Lacks why
+
+-- the rank question of rule t over bounds, and its answer
+pub record AnsweredQuestion (q : Searches) (s : Setting) (b : Bounds) (t : ℕ) : Type 0 where
+  pub set : List ℕ
+  pub shut : List SymbolPlace
+  pub answer : Ranking
+  pub is_set : IsSetOfRule s.program b t set
+  pub are_shut : AreShutOf s.program b set shut
+  pub answered : q.Ranks set t shut answer
+
+-- rule t was asked over bounds, and this is what the answer tells of its time
+pub record TellsTime (q : Searches) (s : Setting) (b : Bounds) (t : ℕ) (a : Answer) : Type 0 where
+  pub asked : AnsweredQuestion q s b t
+  pub tells : TellsRanking s b asked.answer a
+
+-- places were asked over bounds, and this is what the answer tells of their size
+pub record TellsSize (q : Searches) (s : Setting) (b : Bounds) (keys : List Spot) (a : Answer) : Type 0 where
+  pub answer : Sizing
+  pub answered : q.Sizes b keys answer
+  pub tells : TellsSizing s b answer a
+
+-- what the searches tell of what is asked for, over bounds
+abbrev pub Tells : Searches → Setting → Bounds → Target → Answer → Type 0
+Tells q s b (TimeOf t) a = TellsTime q s b t a
+Tells q s b (SizesOf keys) a = TellsSize q s b keys a

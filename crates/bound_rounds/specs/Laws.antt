@@ -1,0 +1,108 @@
+-- Laws of finds and of rounds: finds that stand give accepted lemmas, which state them and hold on all runs; what
+-- rounds find stands; rounds end, at one list of finds; and what is missing there has one reason.
+use Rattle.std.specs.Prelude.{◌≡◌, ◌⊎◌, ℕ, ◌+◌, ◌<◌, true, List, [], ◌∷◌, ◌++◌, map, Some, None}
+use Rattle.std.specs.List.{count_by, Contains}
+use Rattle.rule_questions.specs.model.Programs.{Program}
+use Rattle.rule_questions.specs.model.Bounds.{Bound}
+use Rattle.rule_questions.specs.model.Facts.{Holds}
+use Rattle.rule_questions.specs.model.Paths.{target_of}
+use Rattle.rule_questions.specs.proof_nodes.Nodes.{Spot}
+use Rattle.rule_questions.specs.proof_nodes.Acceptance.{AcceptsLemmas, facts_of_lemmas, facts_of_lemma}
+use Rattle.rule_questions.specs.proof_nodes.AcceptsPlain.{IsRule, places_at}
+use Rattle.rule_questions.specs.proof_nodes.Setting.{Setting, IsFaithful}
+use Rattle.bound_rounds.specs.Keys.{Bounds, IsPlace, place_fact, has_key, lacks, rule_numbers}
+use Rattle.bound_rounds.specs.Finds.{Find, bounds_of, number_in, facts_of_find}
+use Rattle.bound_rounds.specs.Needs.{lemmas_of}
+use Rattle.bound_rounds.specs.Standing.{AllStand}
+use Rattle.bound_rounds.specs.Searches.{Answers, searches_of, NoBound}
+use Rattle.bound_rounds.specs.Components.{AreApart, AreComponentsOf, IsCovered, IsOneOf}
+use Rattle.bound_rounds.specs.Beginning.{AreFirst}
+use Rattle.bound_rounds.specs.Rounds.{IsRound, IsMade, IsClosed, IsLast, IsNoBound}
+use Rattle.bound_rounds.specs.Right.{AreRight}
+
+-- the lemmas of finds that stand are accepted, and each states what its find does
+pub record StandingFindsHaveLemmas : Type 0 where
+  pub accepted : (s : Setting) (fs : List Find) → AllStand s fs → AcceptsLemmas s (lemmas_of fs)
+  pub stated : (s : Setting) (fs : List Find) → AllStand s fs
+      → facts_of_lemmas s (lemmas_of fs) ≡ map facts_of_find fs
+
+-- a bound that was found is a fact of the lemma whose number its key has; and one find alone states the bound of a key,
+-- which is the known one
+pub record FindsAreNumbered : Type 0 where
+  pub each : (s : Setting) (fs : List Find) → AllStand s fs → (t i : ℕ) (b : Bound) → IsRule s.program t
+      → bounds_of s.program fs t i ≡ Some b
+      → Contains (facts_of_lemma (facts_of_lemmas s (lemmas_of fs)) (number_in fs t i)) (place_fact t i b)
+  pub alone : (s : Setting) (fs : List Find) → AllStand s fs → (f : Find) → Contains fs f → (t i : ℕ)
+      → has_key f.keys t i ≡ true → bounds_of s.program fs t i ≡ Some f.bound
+
+-- every bound that is known with finds that stand holds on all runs
+pub record StandingFindsHold : Type 0 where
+  pub each : (s : Setting) → IsFaithful s → (fs : List Find) → AllStand s fs → (t i : ℕ) (b : Bound)
+      → bounds_of s.program fs t i ≡ Some b → Holds s.program (place_fact t i b)
+
+-- what rounds find stands, where the answers of the searches are right
+pub record MadeFindsStand : Type 0 where
+  pub each : (a : Answers) (s : Setting) → AreRight (searches_of a) s → (fs : List Find)
+      → IsMade (searches_of a) s fs → AllStand s fs
+
+-- how many bounds of a rule's places are missing
+abbrev pub unsized : Program → Bounds → ℕ → ℕ
+unsized p b t = count_by (λ i. lacks (b t i)) (places_at p (target_of p t))
+
+abbrev pub all_unsized : Program → Bounds → List ℕ → ℕ
+all_unsized p b [] = 0
+all_unsized p b (t ∷ ts) = unsized p b t + all_unsized p b ts
+
+-- how many bounds are missing of rules and of the places after them
+abbrev pub missing : Program → Bounds → ℕ
+missing p b = count_by (λ t. lacks (b t 0)) (rule_numbers p) + all_unsized p b (rule_numbers p)
+
+-- rounds end: each finds a bound that was missing, or it finds nothing. So there are no more rounds than bounds missing
+-- with the first finds, and one
+pub record RoundsEnd : Type 0 where
+  pub each : (a : Answers) (s : Setting) (fs more : List Find) → IsRound (searches_of a) s fs more
+      → (missing s.program (bounds_of s.program (fs ++ more)) < missing s.program (bounds_of s.program fs))
+      ⊎ (more ≡ [])
+
+-- where a round finds nothing new each missing time of a rule has a reason, and so has each missing size of a place in
+-- a component; and with the last finds each missing size of a place after a rule has one
+pub record MissingBoundsHaveReasons : Type 0 where
+  pub times : (a : Answers) (s : Setting) (fs : List Find) → IsClosed (searches_of a) s fs → (t : ℕ)
+      → IsRule s.program t → bounds_of s.program fs t 0 ≡ None
+      → (why : NoBound) × IsNoBound (searches_of a) s fs t 0 why
+  pub sizes : (a : Answers) (s : Setting) (fs : List Find) → IsClosed (searches_of a) s fs → (t i : ℕ)
+      → IsCovered a.components t i → bounds_of s.program fs t i ≡ None
+      → (why : NoBound) × IsNoBound (searches_of a) s fs t i why
+  pub places : (a : Answers) (s : Setting) (fs : List Find) → IsLast (searches_of a) s fs → (t i : ℕ)
+      → IsRule s.program t → IsPlace s.program t i → bounds_of s.program fs t i ≡ None
+      → (why : NoBound) × IsNoBound (searches_of a) s fs t i why
+
+-- rounds make one last list of finds; a time that is missing has one reason, and so has a size where no place is in two
+-- components
+pub record LastFindsAreOne : Type 0 where
+  pub last : (a : Answers) (s : Setting) (x y : List Find) → IsLast (searches_of a) s x → IsLast (searches_of a) s y
+      → x ≡ y
+  pub time : (a : Answers) (s : Setting) (fs : List Find) (t : ℕ) (v w : NoBound)
+      → IsNoBound (searches_of a) s fs t 0 v → IsNoBound (searches_of a) s fs t 0 w → v ≡ w
+  pub size : (a : Answers) (s : Setting) → AreApart a.components → (fs : List Find) (t i : ℕ) (v w : NoBound)
+      → IsNoBound (searches_of a) s fs t i v → IsNoBound (searches_of a) s fs t i w → v ≡ w
+
+-- there are first finds; where the components are those of the places of live rules, there is a round over each list of
+-- finds; and there is a last one
+pub record LastFindsExist : Type 0 where
+  pub first : (a : Answers) (s : Setting) → (fs : List Find) × AreFirst (searches_of a) s.program fs
+  pub next : (a : Answers) (s : Setting) → AreComponentsOf (searches_of a) s.program a.components → (fs : List Find)
+      → (more : List Find) × IsRound (searches_of a) s fs more
+  pub last : (a : Answers) (s : Setting) → AreComponentsOf (searches_of a) s.program a.components
+      → (fs : List Find) × IsLast (searches_of a) s fs
+
+-- all these keys have the same bound, or none has one
+abbrev pub AreUniform : Bounds → List Spot → Type 0
+AreUniform b keys = (t i u j : ℕ) → has_key keys t i ≡ true → has_key keys u j ≡ true → b t i ≡ b u j
+
+-- where the components are those of the places of live rules, the members of each have one size or none with all finds
+-- that rounds make
+pub record ComponentsAreUniform : Type 0 where
+  pub each : (a : Answers) (s : Setting) → AreComponentsOf (searches_of a) s.program a.components → (fs : List Find)
+      → IsMade (searches_of a) s fs → (keys : List Spot) → IsOneOf a.components keys
+      → AreUniform (bounds_of s.program fs) keys

@@ -1,0 +1,28 @@
+-- bounds by key, what is found, what a find rests on, and when finds stand
+pub mod Keys
+pub mod Finds
+pub mod Needs
+pub mod Standing
+-- the sets that bounds leave to search, what searches answer, and what that tells
+pub mod Sets
+pub mod Searches
+pub mod Answers
+-- what is found before the first round, and in each
+pub mod Components
+pub mod Beginning
+pub mod Rounds
+-- when members loop, and when the answers of searches are right
+pub mod Loops
+pub mod Right
+-- laws
+pub mod Laws
+-- what was worked out by hand
+pub mod WorkedFinds
+pub mod WorkedSets
+pub mod WorkedStanding
+pub mod WorkedRounds
+pub mod WorkedFirst
+pub mod WorkedAnswers
+pub mod WorkedCauses
+pub mod WorkedBeginnings
+pub mod WorkedLastRounds

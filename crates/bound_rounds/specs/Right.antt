@@ -1,0 +1,182 @@
+-- When the answers of the searches are right.
+use Rattle.std.specs.Prelude.{◌≡◌, ◌⊎◌, ℕ, suc, ◌≤◌, ◌<◌, true, false, List, [], ◌∷◌, length, map, ℤ, pos, ◌<ℤ◌, Some}
+use Rattle.rule_questions.specs.model.Programs.{Program}
+use Rattle.rule_questions.specs.model.Entries.{is_in}
+use Rattle.rule_questions.specs.linear_forms.Forms.{at, form_value}
+use Rattle.rule_questions.specs.linear_forms.Points.{IsPoint, IsRay}
+use Rattle.rule_questions.specs.rule_forms.Ranking.{NoRank}
+use Rattle.rule_questions.specs.proof_nodes.Nodes.{Spot, Member, RankNode}
+use Rattle.rule_questions.specs.proof_nodes.Numbers.{IsAscending}
+use Rattle.rule_questions.specs.proof_nodes.Setting.{Setting}
+use Rattle.rule_questions.specs.proof_nodes.Composed.{rank_form}
+use Rattle.rule_questions.specs.proof_nodes.AcceptsPlain.{IsRule, AcceptsEmpty}
+use Rattle.rule_questions.specs.proof_nodes.AcceptsRank.{HasRankShape, Loses, HasFloor}
+use Rattle.rule_questions.specs.proof_nodes.AcceptsSizes.{AcceptsSpread, AcceptsCycle, IsPolynomialUpdate, left_of}
+use Rattle.rule_questions.specs.proof_nodes.AcceptsSizes.{new_value, Side, Up, Low}
+use Rattle.rule_questions.specs.proof_nodes.Reasons.{Reason, MissingTime, MissingSize, Large, IsFirstAmong}
+use Rattle.rule_questions.specs.proof_nodes.Reasons as reasons
+use Rattle.rule_questions.specs.proof_nodes.Checks.{spread_checks, cycle_checks}
+use Rattle.rule_questions.specs.proof_tree.declared.answer.Trip.{Trip}
+use Rattle.rule_questions.specs.proof_tree.declared.answer.Question.TheVariants as asked
+use Rattle.rule_questions.specs.proof_nodes.Gaps.{ScaledPoint, SymbolPlace, Gap, is_shut}
+use Rattle.rule_questions.specs.proof_nodes.GapChecks.{GapHolds}
+use Rattle.rule_questions.specs.ProgramQuestions.{forms_at, ranked_set}
+use Rattle.bound_rounds.specs.Keys.{Bounds, has_key, over}
+use Rattle.bound_rounds.specs.Finds.{Node, EmptyBy, UnreachedBy, NeverBy, RankBy, SpreadBy, CycleBy, keys_of}
+use Rattle.bound_rounds.specs.Searches.{Searches, NoBound, NoFunction, Tripped, Loose, Missing, Bent, Untimed, TooLarge}
+use Rattle.bound_rounds.specs.Searches.{Emptiness, NoPoint, HasPoint, EmptyTripped, Ranking, Ranked, Unranked}
+use Rattle.bound_rounds.specs.Searches.{RankTripped, Sizing, SizedBy, Unsized}
+use Rattle.bound_rounds.specs.Components.{AreComponentsOf}
+use Rattle.bound_rounds.specs.Loops.{do_loop}
+
+-- the function reads no shut place: its coefficients there are 0
+abbrev pub ReadsNoShut : RankNode → List SymbolPlace → Type 0
+ReadsNoShut node shut = (a j : ℕ) → is_shut shut a (suc j) ≡ true
+    → at (rank_form node.forms (Some a)).coefs j ≡ pos 0
+
+-- the node ranks the rule over the set, reads no shut place, and is accepted once its entries have their bounds
+pub record IsRanking (s : Setting) (set : List ℕ) (t : ℕ) (shut : List SymbolPlace) (node : RankNode) : Type 0 where
+  pub rule : node.rule ≡ t
+  pub same_set : node.set ≡ set
+  pub shape : HasRankShape s node
+  pub moves : (u : ℕ) → is_in u node.set ≡ true → Loses s node u
+  pub floor : HasFloor s node
+  pub reads : ReadsNoShut node shut
+
+-- a gap of exactly this question, which holds; and no function that reads no shut place ranks the rule over the set
+pub record IsGapOf (s : Setting) (set : List ℕ) (t : ℕ) (shut : List SymbolPlace) (g : Gap) : Type 0 where
+  pub rule : g.rule ≡ t
+  pub same_set : g.set ≡ set
+  pub same_shut : g.shut ≡ shut
+  pub holds : GapHolds s.program (forms_at s.program) g
+  pub none : NoRank (ranked_set s.program set t shut)
+
+-- the emptiness question of a rule trips
+abbrev pub EmptyTrips : Searches → ℕ → Type 0
+EmptyTrips q t = (x : Trip) × q.Empties t (EmptyTripped x)
+
+-- the emptiness question of no rule of the set trips
+abbrev pub NoneTrips : Searches → List ℕ → Type 0
+NoneTrips q set = (u : ℕ) → is_in u set ≡ true → ¬ (EmptyTrips q u)
+
+-- the trip is that of the first rule of the set whose emptiness question trips
+abbrev pub IsFirstTrip : Searches → List ℕ → Trip → Type 0
+IsFirstTrip q [] x = ⊥
+IsFirstTrip q (t ∷ ts) x = q.Empties t (EmptyTripped x) ⊎ ((¬ (EmptyTrips q t)) × IsFirstTrip q ts x)
+
+-- what is right of an answer about a rule's emptiness: multipliers are accepted, a point is one of the rule's rows, and
+-- a trip is that of this question
+abbrev pub IsRightEmptiness : Setting → ℕ → Emptiness → Type 0
+IsRightEmptiness s t (NoPoint m) = AcceptsEmpty s t m
+IsRightEmptiness s t (HasPoint z) = IsPoint (s.rows t) (at z.parts) (pos z.den)
+IsRightEmptiness s t (EmptyTripped x) = x.question ≡ asked.Empty t
+
+-- what is right of an answer to a rank question: a function ranks the rule over exactly this set and reads no shut
+-- place; a gap is of exactly this question, which no function answers, and no emptiness question of the set trips; and
+-- a trip is that of this question, or of the first rule of the set whose emptiness question trips
+abbrev pub IsRightRanking : Searches → Setting → List ℕ → ℕ → List SymbolPlace → Ranking → Type 0
+IsRightRanking q s set t shut (Ranked node) = IsRanking s set t shut node
+IsRightRanking q s set t shut (Unranked g) = IsGapOf s set t shut g × NoneTrips q set
+IsRightRanking q s set t shut (RankTripped x) = (x.question ≡ asked.Rank t) ⊎ IsFirstTrip q set x
+
+-- a set that a rank question may be asked of: it ascends, has numbers of rules alone, and holds the rule
+pub record IsQuestion (p : Program) (set : List ℕ) (t : ℕ) : Type 0 where
+  pub ascending : IsAscending set
+  pub rules : (u : ℕ) → is_in u set ≡ true → IsRule p u
+  pub inside : is_in t set ≡ true
+
+-- a node that gives sizes is accepted over bounds: a spread of a place that doesn't loop, and a cycle of members that
+-- do
+abbrev pub AcceptsSizing : Setting → Bounds → Node → Type 0
+AcceptsSizing s b (EmptyBy t multipliers) = ⊥
+AcceptsSizing s b (UnreachedBy t) = ⊥
+AcceptsSizing s b (NeverBy t) = ⊥
+AcceptsSizing s b (RankBy node) = ⊥
+AcceptsSizing s b (SpreadBy m) = AcceptsSpread s (over b) m × (do_loop s (m ∷ []) ≡ false)
+AcceptsSizing s b (CycleBy members) = AcceptsCycle s (over b) members × (do_loop s members ≡ true)
+
+-- the node is accepted, and states the size of exactly these places
+pub record IsSizingOf (s : Setting) (b : Bounds) (keys : List Spot) (node : Node) : Type 0 where
+  pub same : keys ≡ keys_of s.program node
+  pub accepted : AcceptsSizing s b node
+
+-- the value moves up along a ray, or down
+abbrev pub MovesTo : Side → ℤ → Type 0
+MovesTo Up v = pos 0 <ℤ v
+MovesTo Low v = v <ℤ pos 0
+
+-- a place whose update isn't a polynomial over left variables is loose on a side: along a ray of the rule's rows, on
+-- which no left argument moves, the new value moves to that side; and the rows have a point
+pub record IsLooseAt (s : Setting) (m : Spot) (side : Side) (ray : List ℤ) (kept : ScaledPoint) : Type 0 where
+  pub asked : ¬ (IsPolynomialUpdate s m)
+  pub along : IsRay (s.rows m.rule) (at ray)
+  pub still : (j : ℕ) → j < left_of s.program m.rule → at ray j ≡ pos 0
+  pub moves : MovesTo side (form_value (new_value s m) (at ray) (pos 0))
+  pub point : IsPoint (s.rows m.rule) (at kept.parts) (pos kept.den)
+
+-- the reason for which the checks of a node say that there is no size
+abbrev pub IsReasonFor : NoBound → Reason → Type 0
+IsReasonFor (NoFunction g) r = ⊥
+IsReasonFor (Tripped t) r = ⊥
+IsReasonFor (Loose side ray kept) r = ⊥
+IsReasonFor (Missing m) r = r ≡ MissingSize m.rule m.place
+IsReasonFor (Bent m) r = r ≡ reasons.Bent m.rule m.place
+IsReasonFor (Untimed t) r = r ≡ MissingTime t
+IsReasonFor (TooLarge n) r = r ≡ Large n
+
+-- the node of the only member, which doesn't loop, fails at this check first, and so does the node of all, which do
+pub record FailsAlone (s : Setting) (b : Bounds) (keys : List Spot) (r : Reason) : Type 0 where
+  pub member : Member
+  pub only : keys ≡ member.spot ∷ []
+  pub alone : do_loop s (member ∷ []) ≡ false
+  pub first : IsFirstAmong (spread_checks s (over b) member) r
+
+pub record FailsTogether (s : Setting) (b : Bounds) (keys : List Spot) (r : Reason) : Type 0 where
+  pub all : List Member
+  pub spots : keys ≡ map (λ m. m.spot) all
+  pub loop : do_loop s all ≡ true
+  pub first : IsFirstAmong (cycle_checks s (over b) all) r
+
+-- with arms for each member that are accepted the checks of the node go wrong, and this is the first of them: a size
+-- from outside is missing, an arm reads a member by a polynomial, a rule has no time, or the bound is large
+abbrev pub IsFirstCause : Setting → Bounds → List Spot → NoBound → Type 0
+IsFirstCause s b keys why =
+    (r : Reason) × IsReasonFor why r × (FailsAlone s b keys r ⊎ FailsTogether s b keys r)
+
+-- why members have no size: the place of one of them is loose, as a ray shows, or one of its linear programs, or that
+-- of its rule's emptiness, tripped; or the first cause; which of them comes first the searches say
+abbrev pub IsCause : Setting → Bounds → List Spot → NoBound → Type 0
+IsCause s b keys (NoFunction g) = ⊥
+IsCause s b keys (Tripped t) = (m : Spot) × (has_key keys m.rule m.place ≡ true)
+    × ((t.question ≡ asked.Local m.rule m.place) ⊎ (t.question ≡ asked.Empty m.rule))
+IsCause s b keys (Loose side ray kept) =
+    (m : Spot) × (has_key keys m.rule m.place ≡ true) × IsLooseAt s m side ray kept
+IsCause s b keys (Missing m) = IsFirstCause s b keys (Missing m)
+IsCause s b keys (Bent m) = IsFirstCause s b keys (Bent m)
+IsCause s b keys (Untimed t) = IsFirstCause s b keys (Untimed t)
+IsCause s b keys (TooLarge n) = IsFirstCause s b keys (TooLarge n)
+
+-- what is right of an answer about a component
+abbrev pub IsRightSizing : Setting → Bounds → List Spot → Sizing → Type 0
+IsRightSizing s b keys (SizedBy node) = IsSizingOf s b keys node
+IsRightSizing s b keys (Unsized why) = IsCause s b keys why
+
+-- all answers are right: those about emptiness for each rule; those to rank questions for each set of rules that holds
+-- the rule; the components are those of the places of live rules; and each size of places, or why they have none, is
+-- right over the bounds over which they were tried
+pub record AreRight (q : Searches) (s : Setting) : Type 0 where
+  pub empty : (t : ℕ) (e : Emptiness) → IsRule s.program t → q.Empties t e → IsRightEmptiness s t e
+  pub rank : (set : List ℕ) (t : ℕ) (shut : List SymbolPlace) (r : Ranking) → IsQuestion s.program set t
+      → q.Ranks set t shut r → IsRightRanking q s set t shut r
+  pub components : (cs : List (List Spot)) → q.AreComponents cs → AreComponentsOf q s.program cs
+  pub sizes : (b : Bounds) (keys : List Spot) (answer : Sizing) → 1 ≤ length keys → q.Sizes b keys answer
+      → IsRightSizing s b keys answer
+
+-- each question has one answer: whether a rule is empty, each rank question, the components, and each component where
+-- these bounds are known
+pub record AreOne (q : Searches) : Type 0 where
+  pub empties : (t : ℕ) (x y : Emptiness) → q.Empties t x → q.Empties t y → x ≡ y
+  pub ranks : (set : List ℕ) (t : ℕ) (shut : List SymbolPlace) (x y : Ranking) → q.Ranks set t shut x
+      → q.Ranks set t shut y → x ≡ y
+  pub components : (cs ds : List (List Spot)) → q.AreComponents cs → q.AreComponents ds → cs ≡ ds
+  pub sizes : (b : Bounds) (keys : List Spot) (x y : Sizing) → q.Sizes b keys x → q.Sizes b keys y → x ≡ y

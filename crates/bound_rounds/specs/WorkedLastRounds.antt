@@ -1,0 +1,60 @@
+-- Rounds of the program that counts down as they were worked out by hand: k(A) -> l(A), and l(A) -> l(A - 1) where A >=
+-- 1. Two rounds one after the other, a time that is too large, and a component of two members.
+use Rattle.std.specs.Prelude.{ℕ, List, [], ◌∷◌}
+use Rattle.rule_questions.specs.proof_nodes.Gaps.{SymbolPlace}
+use Rattle.rule_questions.specs.proof_nodes.Nodes.{Spot}
+use Rattle.rule_questions.specs.proof_nodes.WorkedSettings.{counting}
+use Rattle.rule_questions.specs.proof_nodes.WorkedReasons.{towering}
+use Rattle.rule_questions.specs.proof_nodes.Worked.{once_node, entered_member, looped_member}
+use Rattle.bound_rounds.specs.Keys.{key}
+use Rattle.bound_rounds.specs.Finds.{Node, CycleBy, Find}
+use Rattle.bound_rounds.specs.Needs.{needs_of}
+use Rattle.bound_rounds.specs.Standing.{composed_bound}
+use Rattle.bound_rounds.specs.Searches.{Answers, HasPoint, Ranking, Ranked, SizedBy, TooLarge, searches_of}
+use Rattle.bound_rounds.specs.Rounds.{IsRound, IsLast, IsNoBound}
+use Rattle.bound_rounds.specs.WorkedFinds.{entered_find, looped_find}
+use Rattle.bound_rounds.specs.WorkedFirst.{all_trips}
+use Rattle.bound_rounds.specs.WorkedSets.{nothing_known}
+use Rattle.bound_rounds.specs.WorkedRounds.{answers_with, alone, value_turned, first_time, second_time}
+
+-- the function 1 ranks every rule
+abbrev pub once_ranks : List ℕ → ℕ → List SymbolPlace → Ranking
+once_ranks set t shut = Ranked once_node
+
+-- both places are one component, and have their size by one loop; rank questions trip
+abbrev pub together : List Spot
+together = key 1 1 ∷ key 2 1 ∷ []
+
+abbrev pub loop_of_both : Node
+loop_of_both = CycleBy (entered_member ∷ looped_member ∷ [])
+
+abbrev pub sized_together : Answers
+sized_together = record {
+  empty = λ t. HasPoint (record { parts = []; den = 1 });
+  rank = all_trips.rank;
+  components = together ∷ [];
+  size = λ b keys. SizedBy loop_of_both;
+}
+
+-- what it gives these keys, with nothing known
+abbrev pub sized_find : List Spot → Find
+sized_find keys = record {
+  keys = keys;
+  node = loop_of_both;
+  needs = needs_of counting nothing_known loop_of_both;
+  bound = composed_bound counting nothing_known loop_of_both;
+}
+
+-- where the second component comes first, its size waits for the next round; so the last finds are made by two rounds,
+-- and not by one. A time that is too large is missing for that reason. The members of a component get their size by one
+-- find, and not by one each, nor one of them alone
+pub record LastRoundsAreWorkedOut : Type 0 where
+  pub two_rounds : IsLast (searches_of value_turned) counting
+      (first_time ∷ second_time ∷ entered_find ∷ looped_find ∷ [])
+  pub not_in_one : ¬ (IsRound (searches_of value_turned) counting []
+      (first_time ∷ second_time ∷ entered_find ∷ looped_find ∷ []))
+  pub large : IsNoBound (searches_of (answers_with once_ranks alone)) towering [] 1 0 (TooLarge 201)
+  pub both : IsRound (searches_of sized_together) counting [] (sized_find together ∷ [])
+  pub not_each : ¬ (IsRound (searches_of sized_together) counting []
+      (sized_find (key 1 1 ∷ []) ∷ sized_find (key 2 1 ∷ []) ∷ []))
+  pub not_one_key : ¬ (IsRound (searches_of sized_together) counting [] (sized_find (key 1 1 ∷ []) ∷ []))

@@ -1,0 +1,5 @@
+use Rattle.rank_search.proofs.GapsFound.{gaps-found-hold}
+use Rattle.rank_search.proofs.laws.found_gaps_hold.Goals as goal
+
+pub returns : goal.returns
+returns c = gaps-found-hold
