@@ -1,4 +1,4 @@
-//! Run files: a line is a text in which `|` stands for a line feed.
+//! Run files: a line is a text in which `|` stands for a line feed and `~` for a carriage return.
 
 use itoa::Buffer;
 use its_model::{Program, Step};
@@ -49,13 +49,22 @@ pub(crate) fn run_beginnings(alloc: Global, text: &str) -> Result<String, Memory
     format!(in alloc; "{early} of {}", bytes.len())
 }
 
+// The byte that stands in the text for one of the line.
+fn meant(byte: u8) -> u8 {
+    match byte {
+        b'|' => b'\n',
+        b'~' => b'\r',
+        other => other,
+    }
+}
+
 fn bytes_of(alloc: Global, before: &str, text: &str) -> Result<Vec<u8>, Memory> {
     let mut bytes = Vec::new(alloc);
     for byte in before.as_bytes() {
-        bytes.push(if *byte == b'|' { b'\n' } else { *byte })?;
+        bytes.push(meant(*byte))?;
     }
     for byte in text.as_bytes() {
-        bytes.push(if *byte == b'|' { b'\n' } else { *byte })?;
+        bytes.push(meant(*byte))?;
     }
     Ok(bytes)
 }

@@ -1,5 +1,5 @@
+pub mod RuleNumbers
 pub mod RunParts
 pub mod RunText
-pub mod RunAnswers
-pub mod RuleLaws
+pub mod RunsApart
 pub mod WorkedRuns

@@ -7,8 +7,8 @@ mod error;
 mod faults;
 mod file;
 mod grammar;
+mod kind;
 mod law;
-mod phase;
 mod reading;
 mod text;
 
