@@ -19,18 +19,18 @@ digit_ends : (b : ℕ) → is_ascii_digit b ≡ true → is_ascii_digit b ≡ fa
 digit_ends b d e = cc
 
 -- digits come apart from what doesn't begin with one
-digits_apart : (as bs xs ys : List ℕ) → AllDigits 10 as → AllDigits 10 bs → Ends xs → Ends ys → as ++ xs ≡ bs ++ ys
-    → (as ≡ bs) × (xs ≡ ys)
+digits_apart : (cs bs xs ys : List ℕ) → AllDigits 10 cs → AllDigits 10 bs → Ends xs → Ends ys → cs ++ xs ≡ bs ++ ys
+    → (cs ≡ bs) × (xs ≡ ys)
 digits_apart [] [] xs ys all every h k e = (refl, e)
 digits_apart [] (b ∷ bs) xs ys all every h k e =
     let r = digit_range b every.0 in absurd (digit_ends b (is_digit b r.0 r.1) (subst Ends e h))
-digits_apart (a ∷ as) [] xs ys all every h k e =
+digits_apart (a ∷ cs) [] xs ys all every h k e =
     let r = digit_range a all.0 in absurd (digit_ends a (is_digit a r.0 r.1) (subst Ends (sym e) k))
-digits_apart (a ∷ as) (b ∷ bs) xs ys all every h k e =
+digits_apart (a ∷ cs) (b ∷ bs) xs ys all every h k e =
     let same : a ≡ b = cc in
-    let rest : as ++ xs ≡ bs ++ ys = cc in
-    let w = digits_apart as bs xs ys all.1 every.1 h k rest in
-    (ap (λ (c : ℕ). c ∷ as) same ∙ ap (λ (ds : List ℕ). b ∷ ds) w.0, w.1)
+    let rest : cs ++ xs ≡ bs ++ ys = cc in
+    let w = digits_apart cs bs xs ys all.1 every.1 h k rest in
+    (ap (λ (d : ℕ). d ∷ cs) same ∙ ap (λ (ds : List ℕ). b ∷ ds) w.0, w.1)
 
 -- so do decimals
 pub decimal_apart : (m n : ℕ) (xs ys : List ℕ) → m < 2 ^ 64 → n < 2 ^ 64 → Ends xs → Ends ys

@@ -86,7 +86,7 @@ module _ (letters : List ℕ) where
 
       go : (u v w y z f : Bool) → (q == 48) ≡ u → (q == 49) ≡ v → (q == 45) ≡ y → (q == 32) ≡ z → (q == 10) ≡ f
           → only letters (cond u 0 (cond v 1 (cond w 2 (cond y 3 (cond z 4 (cond f 5
-          (suc (suc (suc (suc (suc (suc (position_of letters q))))))))))))
+          (suc (suc (suc (suc (suc (suc (position_of letters q)))))))))))))
           ≡ Some p → q ≡ p
       go true v w y z f a b c d k e = eqb-true q 48 a ∙ some 48 e
       go false true w y z f a b c d k e = eqb-true q 49 b ∙ some 49 e
