@@ -3,3 +3,7 @@ pub mod RunText
 pub mod RunAnswers
 pub mod RuleLaws
 pub mod WorkedRuns
+mod ReplayRuns
+mod ReplayTallies
+mod ReplayLaws
+mod WorkedReplays
