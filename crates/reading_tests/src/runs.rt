@@ -49,7 +49,8 @@ pub(crate) fn run_beginnings(alloc: Global, text: &str) -> Result<String, Memory
     format!(in alloc; "{early} of {}", bytes.len())
 }
 
-fn bytes_of(alloc: Global, before: &str, text: &str) -> Result<Vec<u8>, Memory> {
+/// A text in bytes behind another one, in which `|` stands for a line feed.
+pub(crate) fn bytes_of(alloc: Global, before: &str, text: &str) -> Result<Vec<u8>, Memory> {
     let mut bytes = Vec::new(alloc);
     for byte in before.as_bytes() {
         bytes.push(if *byte == b'|' { b'\n' } else { *byte })?;
@@ -100,7 +101,8 @@ fn push_values(out: &mut Vec<u8>, values: &[i128]) -> Result<(), Memory> {
     Ok(())
 }
 
-fn push_value(out: &mut Vec<u8>, value: i128) -> Result<(), Memory> {
+/// Appends a blank and a value.
+pub(crate) fn push_value(out: &mut Vec<u8>, value: i128) -> Result<(), Memory> {
     out.push(b' ')?;
     let mut buffer = Buffer::new();
     out.extend_from_slice(buffer.format(value).as_bytes())?;

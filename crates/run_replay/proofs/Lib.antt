@@ -5,5 +5,6 @@ pub mod RuleLaws
 pub mod WorkedRuns
 mod ReplayRuns
 mod ReplayTallies
+mod ReplayStands
 mod ReplayLaws
 mod WorkedReplays

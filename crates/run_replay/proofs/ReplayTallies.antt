@@ -1,16 +1,21 @@
 -- The tally along a run, step by step.
 use Rattle.std.proofs.Common.{◌≡◌, ◌≢◌, ◌⊎◌, inl, inr, true, false, ◌==◌, ℕ, zero, suc, ◌+◌, ◌-◌, ◌≤◌, ◌<◌, max, List, []}
 use Rattle.std.proofs.Common.{◌∷◌, ◌++◌, length, map, set, get_or, ℤ, pos, nat_abs, Option, Some, None, refl, sym, ◌∙◌, ap}
-use Rattle.std.proofs.Common.{subst, arith}
+use Rattle.std.proofs.Common.{subst, arith, replicate}
 use Rattle.std.specs.Prelude.{slice_index_or, slice_index, if◌then◌else◌}
 use Rattle.std.specs.List.{range_with_len}
 use Rattle.std.proofs.lemmas.Bool.Decides.{eqb_tells}
 use Rattle.std.proofs.lemmas.Grind.{get_or-set_at}
-use Rattle.std.proofs.lemmas.List.{same_lists, length-set, get_or-set_other}
-use Rattle.std.proofs.lemmas.List.FromFn.{length-map-range_with_len, get_or-map-range_with_len}
+use Rattle.std.proofs.lemmas.List.{same_lists, length-set, length-map, get_or-set_other}
+use Rattle.std.proofs.lemmas.List.FromFn.{length-map-range_with_len, get_or-map-range_with_len, map-range_with_len_more}
+use Rattle.its_model.specs.declared.program.Program as code
+use Rattle.its_model.specs.declared.program.Rule as code_rule
 use Rattle.its_model.specs.model.Programs.{Program, rule_at}
 use Rattle.its_model.specs.model.Runs.{Config, Step, IsRun, count, last_rule, one_if_same, place_value}
 use Rattle.its_model.specs.model.Costs.{values_after}
+use Rattle.its_model.specs.poly_terms.Views.{term_of}
+use Rattle.its_model.specs.Views.{rule_of, program_of}
+use Rattle.its_model.proofs.ListLaws.{mapped-get}
 use Rattle.its_model.proofs.poly_terms.model.RunLaws.{one_if_same-same, one_if_same-other}
 use Rattle.its_model.proofs.poly_terms.model.CostLaws.{stands_at}
 use Rattle.run_replay.specs.Replays.{size_after, greatest_size, rule_numbers, places_reached, place_numbers}
@@ -253,3 +258,40 @@ greatest_is_reached p start (s ∷ earlier) t i h c (b, run, step) =
         (size_behind p start s earlier t i _ w))
     go (inr (test, other)) (inr (none, zero_there)) =
         inr (sym (count_same t s earlier other) ∙ none, greatest_same p start t i s earlier other ∙ zero_there)
+
+-- zeros are what is made of numbers by 0
+zeros_listed : (a m : ℕ) → replicate m 0 ≡ map (λ (i : ℕ). 0) (range_with_len a m)
+zeros_listed a zero = refl
+zeros_listed a (suc m) = ap (λ (xs : List ℕ). 0 ∷ xs) (zeros_listed (a + 1) m)
+
+-- no rule occurs in no step
+zeros_counted : (a m : ℕ) → 0 < a → replicate m 0 ≡ map (λ t. count t []) (range_with_len a m)
+zeros_counted a zero h = refl
+zeros_counted a (suc m) h =
+    ap (λ (n : ℕ). n ∷ replicate m 0) (sym (one_if_same-other 0 a (λ e. omega (arith, e, h))))
+    ∙ ap (λ (xs : List ℕ). count a [] ∷ xs) (zeros_counted (a + 1) m (omega arith))
+
+-- the rows of the first rules, and those with one more
+pub rows_more : (p : code.Program) (k m : ℕ) (r : code_rule.Rule) (rows : List (List ℕ)) → k < length p.rules.items
+    → r ≡ get_or p.rules.items k r → m ≡ length r.updates.items
+    → rows ≡ map (greatest_sizes (program_of p) [] []) (range_with_len 1 k)
+    → rows ++ replicate m 0 ∷ [] ≡ map (greatest_sizes (program_of p) [] []) (range_with_len 1 (k + 1))
+rows_more p k m r rows low e is h =
+    let f : ℕ → List ℕ = greatest_sizes (program_of p) [] [] in
+    let at : rule_at (program_of p) (suc k) ≡ Some (rule_of r) = mapped-get rule_of p.rules.items k r low e in
+    let n : places_reached (rule_at (program_of p) (suc k)) ≡ m =
+    ap places_reached at ∙ (length-map r.updates.items term_of ∙ sym is) in
+    let row : replicate m 0 ≡ f (suc k) =
+    zeros_listed 1 m ∙ ap (λ (j : ℕ). map (λ (i : ℕ). 0) (range_with_len 1 j)) (sym n) in
+    ap (λ (xs : List (List ℕ)). xs ++ replicate m 0 ∷ []) h
+    ∙ (ap (λ (x : List ℕ). map f (range_with_len 1 k) ++ x ∷ []) row ∙ sym (map-range_with_len_more f 1 k (suc k) (omega arith)))
+
+-- zeros for every rule and place are the tally along no step
+pub start_tally : (p : Program) (start : List ℤ) (n k : ℕ) (counts : List ℕ) (rows : List (List ℕ))
+    → n ≡ length p.rules → counts ≡ replicate n 0 → k ≡ length p.rules
+    → rows ≡ map (greatest_sizes p [] []) (range_with_len 1 k)
+    → record { steps = 0; counts = counts; greatest = rows } ≡ tally_along p start []
+start_tally p start n k counts rows all zeros whole h =
+    same_sums (record { steps = 0; counts = counts; greatest = rows }) (tally_along p start []) refl
+    (zeros ∙ (ap (λ (m : ℕ). replicate m 0) all ∙ zeros_counted 1 (length p.rules) (omega arith)))
+    (h ∙ ap (λ (m : ℕ). map (greatest_sizes p [] []) (range_with_len 1 m)) whole)

@@ -11,6 +11,7 @@ ghost use Rattle.run_replay.specs.Views.{run_of};
 
 use crate::file::RunFile;
 use crate::replaying_error::{ReplayError, error_at};
+use crate::replaying_law::replays_are_decided;
 use crate::tally::Tally;
 use its_model::{Config, Program, step_checked, steps_have_no_fault};
 use std::alloc::{AllocError, Global};
@@ -35,9 +36,12 @@ pub fn replay(alloc: Global, p: &Program, run: &RunFile) -> Result<Tally, Replay
     ensures refused { (bad : BadStep)
         → IsFirstBadStep (program_of p.now) run.now.start.items (last_first (run_of run.now)) bad → Names bad result }
 {
+    replays_are_decided();
     let mut standing = Standing::new(alloc, p, run)?;
     for i in 0..run.steps.len() {
-        standing.step_on(p, run, i)?;
+        if let Err(error) = standing.step_on(p, run, i) {
+            return Err(error);
+        }
     }
     Ok(standing.tally)
 }

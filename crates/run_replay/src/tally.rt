@@ -1,6 +1,7 @@
 //! What is tallied along a run.
 
-ghost use Rattle.std.specs.Prelude.{◌≡◌, ◌-◌, ◌<◌, ◌≤◌, ◌^◌, ℕ, ℤ, List, [], length, max, pos, nat_abs};
+ghost use Rattle.std.specs.Prelude.{◌≡◌, ◌-◌, ◌<◌, ◌≤◌, ◌^◌, ℕ, ℤ, List, [], length, replicate, max, pos};
+ghost use Rattle.std.specs.Prelude.{nat_abs};
 ghost use Rattle.std.specs.Prelude.{slice_index, slice_index_or, IfOk};
 ghost use Rattle.its_model.specs.Views.{program_of};
 ghost use Rattle.run_replay.specs.Replays.{tally_along};
@@ -32,12 +33,13 @@ impl Tally {
     {
         let mut greatest = Vec::new(alloc);
         for rule in &p.rules {
-            let row = vec![in alloc; 0u128; rule.updates.len()]?;
+            let row = no_sizes(alloc, rule.updates.len())?;
             greatest.push(row)?;
         }
+        let counts = no_counts(alloc, p.rules.len())?;
         Ok(Tally {
             steps: 0,
-            counts: vec![in alloc; 0u64; p.rules.len()]?,
+            counts,
             greatest,
         })
     }
@@ -57,6 +59,20 @@ impl Tally {
         self.counts[i] += 1;
         raise(&mut self.greatest[i], values);
     }
+}
+
+// A 0 for each of so many rules.
+fn no_counts(alloc: Global, rules: usize) -> Result<Vec<u64>, AllocError>
+    ensures { IfOk result (λ counts. counts.items ≡ replicate rules 0) }
+{
+    vec![in alloc; 0u64; rules]
+}
+
+// A 0 for each of so many places.
+fn no_sizes(alloc: Global, places: usize) -> Result<Vec<u128>, AllocError>
+    ensures { IfOk result (λ sizes. sizes.items ≡ replicate places 0) }
+{
+    vec![in alloc; 0u128; places]
 }
 
 // Raises each number to the absolute value that stands beside it, where that is greater.
