@@ -260,38 +260,38 @@ greatest_is_reached p start (s ∷ earlier) t i h c (b, run, step) =
         inr (sym (count_same t s earlier other) ∙ none, greatest_same p start t i s earlier other ∙ zero_there)
 
 -- zeros are what is made of numbers by 0
-zeros_listed : (a m : ℕ) → replicate m 0 ≡ map (λ (i : ℕ). 0) (range_with_len a m)
+zeros_listed : (a m : ℕ) → replicate {A = ℕ} m 0 ≡ map (λ (i : ℕ). 0) (range_with_len a m)
 zeros_listed a zero = refl
-zeros_listed a (suc m) = ap (λ (xs : List ℕ). 0 ∷ xs) (zeros_listed (a + 1) m)
+zeros_listed a (suc m) = ap (λ (xs : List ℕ). let z : ℕ = 0 in z ∷ xs) (zeros_listed (a + 1) m)
 
 -- no rule occurs in no step
-zeros_counted : (a m : ℕ) → 0 < a → replicate m 0 ≡ map (λ t. count t []) (range_with_len a m)
+zeros_counted : (a m : ℕ) → 0 < a → replicate {A = ℕ} m 0 ≡ map (λ t. count t []) (range_with_len a m)
 zeros_counted a zero h = refl
 zeros_counted a (suc m) h =
-    ap (λ (n : ℕ). n ∷ replicate m 0) (sym (one_if_same-other 0 a (λ e. omega (arith, e, h))))
+    ap (λ (n : ℕ). n ∷ replicate {A = ℕ} m 0) (sym (one_if_same-other 0 a (λ e. omega (arith, e, h))))
     ∙ ap (λ (xs : List ℕ). count a [] ∷ xs) (zeros_counted (a + 1) m (omega arith))
 
 -- the rows of the first rules, and those with one more
 pub rows_more : (p : code.Program) (k m : ℕ) (r : code_rule.Rule) (rows : List (List ℕ)) → k < length p.rules.items
     → r ≡ get_or p.rules.items k r → m ≡ length r.updates.items
     → rows ≡ map (greatest_sizes (program_of p) [] []) (range_with_len 1 k)
-    → rows ++ replicate m 0 ∷ [] ≡ map (greatest_sizes (program_of p) [] []) (range_with_len 1 (k + 1))
+    → rows ++ replicate {A = ℕ} m 0 ∷ [] ≡ map (greatest_sizes (program_of p) [] []) (range_with_len 1 (k + 1))
 rows_more p k m r rows low e is h =
     let f : ℕ → List ℕ = greatest_sizes (program_of p) [] [] in
     let at : rule_at (program_of p) (suc k) ≡ Some (rule_of r) = mapped-get rule_of p.rules.items k r low e in
     let n : places_reached (rule_at (program_of p) (suc k)) ≡ m =
     ap places_reached at ∙ (length-map r.updates.items term_of ∙ sym is) in
-    let row : replicate m 0 ≡ f (suc k) =
+    let row : replicate {A = ℕ} m 0 ≡ f (suc k) =
     zeros_listed 1 m ∙ ap (λ (j : ℕ). map (λ (i : ℕ). 0) (range_with_len 1 j)) (sym n) in
-    ap (λ (xs : List (List ℕ)). xs ++ replicate m 0 ∷ []) h
+    ap (λ (xs : List (List ℕ)). xs ++ replicate {A = ℕ} m 0 ∷ []) h
     ∙ (ap (λ (x : List ℕ). map f (range_with_len 1 k) ++ x ∷ []) row ∙ sym (map-range_with_len_more f 1 k (suc k) (omega arith)))
 
 -- zeros for every rule and place are the tally along no step
 pub start_tally : (p : Program) (start : List ℤ) (n k : ℕ) (counts : List ℕ) (rows : List (List ℕ))
-    → n ≡ length p.rules → counts ≡ replicate n 0 → k ≡ length p.rules
+    → n ≡ length p.rules → counts ≡ replicate {A = ℕ} n 0 → k ≡ length p.rules
     → rows ≡ map (greatest_sizes p [] []) (range_with_len 1 k)
     → record { steps = 0; counts = counts; greatest = rows } ≡ tally_along p start []
 start_tally p start n k counts rows all zeros whole h =
     same_sums (record { steps = 0; counts = counts; greatest = rows }) (tally_along p start []) refl
-    (zeros ∙ (ap (λ (m : ℕ). replicate m 0) all ∙ zeros_counted 1 (length p.rules) (omega arith)))
+    (zeros ∙ (ap (λ (m : ℕ). replicate {A = ℕ} m 0) all ∙ zeros_counted 1 (length p.rules) (omega arith)))
     (h ∙ ap (λ (m : ℕ). map (greatest_sizes p [] []) (range_with_len 1 m)) whole)
