@@ -30,8 +30,8 @@ fn answer(alloc: Global, program: &[u8], run: &[u8]) -> Result<String, Memory> {
     }
 }
 
-fn told(alloc: Global, result: &Result<Tally, ReplayError>) -> Result<String, Memory> {
-    match result {
+fn told(alloc: Global, replayed: &Result<Tally, ReplayError>) -> Result<String, Memory> {
+    match replayed {
         Ok(tally) => tallied(alloc, tally),
         Err(ReplayError::WrongRule { step }) => format!(in alloc; "WrongRule at {step}"),
         Err(ReplayError::GuardFails { step, atom }) => {

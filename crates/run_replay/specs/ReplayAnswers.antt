@@ -9,7 +9,8 @@ use Rattle.its_model.specs.Views.{config_of}
 use Rattle.run_replay.specs.declared.replaying.Standing.{Standing}
 use Rattle.run_replay.specs.declared.tally.Tally.{Tally}
 use Rattle.run_replay.specs.declared.replaying_error.ReplayError.{ReplayError}
-use Rattle.run_replay.specs.declared.replaying_error.ReplayError.TheVariants.{WrongRule, GuardFails, PassedRange, Memory}
+use Rattle.run_replay.specs.declared.replaying_error.ReplayError.TheVariants.{WrongRule, GuardFails, PassedRange}
+use Rattle.run_replay.specs.declared.replaying_error.ReplayError.TheVariants.{Memory}
 use Rattle.run_replay.specs.Runs.{Run}
 use Rattle.run_replay.specs.Replays.{RunsInRange, IsRunInRange, BadStep, IsFirstBadStep, Sums, tally_along}
 
@@ -45,8 +46,8 @@ Refuses p r e = IfSome (bad_step_of e) (λ bad. IsFirstBadStep p r.start (last_f
 abbrev pub Replays : Program → Run → Result Tally ReplayError → Type 0
 Replays p r result = MatchResult result (λ t. IsReplay p r (sums_of t)) (Refuses p r)
 
--- one tally is another one with a step more, by the rule at a position, that leads to these values: the step is counted,
--- and each number of the rule's row raised to the absolute value at its place
+-- one tally is another one with a step more, by the rule at a position, that leads to these values: the step is
+-- counted, and each number of the rule's row raised to the absolute value at its place
 pub record Notes (k : ℕ) (values : List ℤ) (old new : Sums) : Type 0 where
   pub steps : new.steps ≡ old.steps + 1
   pub counts : new.counts ≡ slice_set old.counts k (slice_index old.counts k + 1)

@@ -1,6 +1,6 @@
 -- Replaying a run: whether its steps are a run of the program within 128 bits, the first bad step, and the tally.
-use Rattle.std.specs.Prelude.{◌≡◌, ◌⊎◌, ◌≤◌, ℕ, suc, max, if◌then◌else◌, ◌==◌, List, [], ◌∷◌, ◌++◌, length, map, ℤ, nat_abs}
-use Rattle.std.specs.Prelude.{Option, Some, None, ⊤}
+use Rattle.std.specs.Prelude.{◌≡◌, ◌⊎◌, ◌≤◌, ℕ, suc, max, if◌then◌else◌, ◌==◌, List, [], ◌∷◌, ◌++◌, length, map, ℤ}
+use Rattle.std.specs.Prelude.{nat_abs, Option, Some, None, ⊤}
 use Rattle.std.specs.List.{range_with_len}
 use Rattle.its_model.specs.model.Programs.{Program, Rule, rule_at}
 use Rattle.its_model.specs.model.Runs.{Config, Step, IsRun, count, last_rule, place_value}

@@ -66,7 +66,8 @@ pub record BadStepsAreTold : Type 0 where
   pub no_rule : IsFirst countdown (pos 3) (pos 7) (by_rule 3 ∷ []) 1 OtherRule
   pub surplus : IsFirst countdown (pos 3) (pos 7) (record { rule = 1; free = pos 5 ∷ [] } ∷ []) 1 OtherRule
   -- the maximum is in range and one more isn't; nor is it in a guard that would hold, at a value that is in range
-  pub to_maximum : IsRunInRange counting_up (both (pos 170141183460469231731687303715884105726) (pos 0)) (with_zero ∷ [])
+  pub to_maximum : IsRunInRange counting_up (both (pos 170141183460469231731687303715884105726) (pos 0))
+      (with_zero ∷ [])
   pub past_maximum : IsFirst counting_up (pos 170141183460469231731687303715884105726) (pos 0)
       (with_zero ∷ with_zero ∷ []) 2 PastRange
   pub not_a_run : ¬ (IsRunInRange counting_up (both maximum (pos 0)) (with_zero ∷ []))

@@ -17,16 +17,16 @@ use its_model::{Config, Program, step_checked, steps_have_no_fault};
 use std::alloc::{AllocError, Global};
 use std::mem::swap;
 
-/// Takes the steps of a run, one after the other, from its start values, and tallies them. The run has a start value for
-/// each place of the start symbol. What the steps cost isn't looked at.
+/// Takes the steps of a run, one after the other, from its start values, and tallies them. The run has a start value
+/// for each place of the start symbol. What the steps cost isn't looked at.
 ///
 /// # Errors
 ///
 /// The first bad step is the answer, by its number from 1. `WrongRule` where there is no such rule, it leaves another
 /// symbol than the one at which the run stands, or it has another number of free variables; `GuardFails` with the first
 /// atom, from 1, that doesn't hold; `PassedRange` where a value of its guard or of its updates passes 128 bits. Of one
-/// step the atoms are looked at in order, the left side before the right one, and then the updates. `Memory` comes where
-/// memory ran out.
+/// step the atoms are looked at in order, the left side before the right one, and then the updates. `Memory` comes
+/// where memory ran out.
 pub fn replay(alloc: Global, p: &Program, run: &RunFile) -> Result<Tally, ReplayError>
     requires valid { IsValid (program_of p.now) }
     requires start { length run.now.start.items ≡ arity_of (program_of p.now) (program_of p.now).start }

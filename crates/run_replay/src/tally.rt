@@ -1,8 +1,7 @@
 //! What is tallied along a run.
 
 ghost use Rattle.std.specs.Prelude.{◌≡◌, ◌-◌, ◌<◌, ◌≤◌, ◌^◌, ℕ, ℤ, List, [], length, replicate, max, pos};
-ghost use Rattle.std.specs.Prelude.{nat_abs};
-ghost use Rattle.std.specs.Prelude.{slice_index, slice_index_or, IfOk};
+ghost use Rattle.std.specs.Prelude.{nat_abs, slice_index, slice_index_or, IfOk};
 ghost use Rattle.its_model.specs.Views.{program_of};
 ghost use Rattle.run_replay.specs.Replays.{tally_along};
 ghost use Rattle.run_replay.specs.ReplayAnswers.{sizes_in, sums_of, Notes};
