@@ -64,12 +64,7 @@ pub(crate) fn steps_replayed(alloc: Global, steps: u32, times: u32) -> Result<u6
 }
 
 // How many steps are counted at the last time.
-fn replayed(
-    alloc: Global,
-    program: &Program,
-    file: &RunFile,
-    times: u32,
-) -> Result<u64, AllocError>
+fn replayed(alloc: Global, program: &Program, file: &RunFile, times: u32) -> Result<u64, AllocError>
     requires valid { IsValid (program_of program.now) }
     requires start { length file.now.start.items ≡ arity_of (program_of program.now) (program_of program.now).start }
 {
