@@ -21,10 +21,13 @@ pub next_runs : StepsHaveNoFault → (p : Program) (start : List ℤ) (earlier :
     → RunsInRange p start (s ∷ earlier) d
 next_runs law p start earlier c s d h step none = record {
   run = (c, h.run, step);
-  fit = (h.fit, record {
-    each = λ q e. subst (λ (v : List ℤ). RuleFits q (v ++ s.free)) (stands_at p start earlier c h.run)
-    (law.fits p c s q e none);
-  });
+  fit = (
+    h.fit,
+    record {
+      each = λ q e. subst (λ (v : List ℤ). RuleFits q (v ++ s.free)) (stands_at p start earlier c h.run)
+          (law.fits p c s q e none);
+    },
+  );
 }
 
 -- a beginning of a run in range is one
@@ -166,16 +169,19 @@ more_steps law p start s earlier c valid h = go (step_fault p c s) refl
     go : (o : Option StepFault) → step_fault p c s ≡ o
         → IsRunInRange p start (s ∷ earlier) ⊎ ((bad : BadStep) × IsFirstBadStep p start (s ∷ earlier) bad)
     go None e = inl (taken (rule_at p s.rule) refl e)
-    go (Some f) e = inr (record { number = suc (length earlier); fault = f }, record {
-      later = [];
-      step = s;
-      earlier = earlier;
-      order = refl;
-      number = refl;
-      end = c;
-      runs = h;
-      fault = e;
-    })
+    go (Some f) e = inr (
+      record { number = suc (length earlier); fault = f },
+      record {
+        later = [];
+        step = s;
+        earlier = earlier;
+        order = refl;
+        number = refl;
+        end = c;
+        runs = h;
+        fault = e;
+      },
+    )
 
 -- steps are a run in range or have a first bad one
 pub some_comes : StepsHaveNoFault → (p : Program) (start : List ℤ) (steps : List Step) → IsValid p

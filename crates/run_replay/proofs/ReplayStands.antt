@@ -101,11 +101,14 @@ notable p start earlier t c s d is step =
       counted = omega (arith, within.0, within.1, length-map-range_with_len counts 1 n);
       sized = omega (arith, within.0, within.1, length-map-range_with_len rows 1 n);
       places = ap length (get_or-map-range_with_len rows 1 n k s.rule [] within.1 (omega (arith, within.0)))
-      ∙ (length-map-range_with_len (λ i. greatest_size p start s.rule i earlier) 1 (places_reached (rule_at p s.rule))
-      ∙ sym places);
+          ∙ (length-map-range_with_len (λ i. greatest_size p start s.rule i earlier) 1 (places_reached (rule_at p s.rule))
+          ∙ sym places);
       steps = refl;
-      count = omega (arith, get_or-map-range_with_len counts 1 n k s.rule 0 within.1 (omega (arith, within.0)),
-      count_at_most s.rule earlier within.0);
+      count = omega (
+        arith,
+        get_or-map-range_with_len counts 1 n k s.rule 0 within.1 (omega (arith, within.0)),
+        count_at_most s.rule earlier within.0,
+      );
     })
 
 -- a replay that takes a step and notes it stands behind one step more

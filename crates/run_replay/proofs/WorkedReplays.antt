@@ -116,29 +116,32 @@ bad_steps_told law = record {
   not_fourth = other_number law countdown (both (pos 3) (pos 7)) five_steps 5 4 _ _ (λ e. omega (arith, e)) (fifth_bad law);
   not_sixth = other_number law countdown (both (pos 3) (pos 7)) five_steps 5 6 _ _ (λ e. omega (arith, e)) (fifth_bad law);
   not_second_atom = other_fault law countdown (both (pos 3) (pos 7)) five_steps 5 (AtomFails 1) (AtomFails 2)
-  (other_atom 1 2 (λ e. omega (arith, e))) (fifth_bad law);
+      (other_atom 1 2 (λ e. omega (arith, e))) (fifth_bad law);
   first_counts = first_counts law;
   not_last = other_number law countdown (both (pos 3) (pos 7)) (by_rule 9 ∷ five_steps) 5 6 _ _ (λ e. omega (arith, e))
-  (first_counts law);
+      (first_counts law);
   second_atom = bad_behind countdown (both (pos 10) (pos 7)) [] (by_rule 2) (by_rule 1 ∷ [])
-  (two_values 1 (pos 10) (pos 7)) (AtomFails 2) (entered law (pos 10) (pos 7) refl) refl;
+      (two_values 1 (pos 10) (pos 7)) (AtomFails 2) (entered law (pos 10) (pos 7) refl) refl;
   other_symbol = bad_behind countdown (both (pos 3) (pos 7)) [] (by_rule 2) [] (two_values 0 (pos 3) (pos 7)) OtherRule
-  (begun (pos 3) (pos 7)) refl;
+      (begun (pos 3) (pos 7)) refl;
   no_rule = bad_behind countdown (both (pos 3) (pos 7)) [] (by_rule 3) [] (two_values 0 (pos 3) (pos 7)) OtherRule
-  (begun (pos 3) (pos 7)) refl;
+      (begun (pos 3) (pos 7)) refl;
   surplus = bad_behind countdown (both (pos 3) (pos 7)) [] (record { rule = 1; free = pos 5 ∷ [] }) []
-  (two_values 0 (pos 3) (pos 7)) OtherRule (begun (pos 3) (pos 7)) refl;
+      (two_values 0 (pos 3) (pos 7)) OtherRule (begun (pos 3) (pos 7)) refl;
   to_maximum = (two_values 0 maximum (pos 0), at_maximum law);
   past_maximum = bad_behind counting_up (both (pos 170141183460469231731687303715884105726) (pos 0)) [] with_zero
-  (with_zero ∷ []) (two_values 0 maximum (pos 0)) PastRange (at_maximum law) refl;
+      (with_zero ∷ []) (two_values 0 maximum (pos 0)) PastRange (at_maximum law) refl;
   not_a_run = λ h. none_bad law counting_up (both maximum (pos 0)) (with_zero ∷ [])
-  (record { number = 1; fault = PastRange }) h
-  (bad_behind counting_up (both maximum (pos 0)) [] with_zero [] (two_values 0 maximum (pos 0)) PastRange
-  (standing maximum (pos 0)) refl);
+      (record { number = 1; fault = PastRange }) h
+      (bad_behind counting_up (both maximum (pos 0)) [] with_zero [] (two_values 0 maximum (pos 0)) PastRange
+      (standing maximum (pos 0)) refl);
   in_guard = bad_behind comparing (both maximum (pos 0)) [] with_zero [] (two_values 0 maximum (pos 0)) PastRange
-  (record { run = record { places = refl; at = refl; values = refl }; fit = tt }) refl;
-  at_minimum = (two_values 0 minimum minimum, more law comparing (both minimum minimum) [] (two_values 0 minimum minimum)
-  with_zero _ (record { run = record { places = refl; at = refl; values = refl }; fit = tt }) refl refl refl);
+      (record { run = record { places = refl; at = refl; values = refl }; fit = tt }) refl;
+  at_minimum = (
+    two_values 0 minimum minimum,
+    more law comparing (both minimum minimum) [] (two_values 0 minimum minimum)
+        with_zero _ (record { run = record { places = refl; at = refl; values = refl }; fit = tt }) refl refl refl,
+  );
 }
 
 -- all of it

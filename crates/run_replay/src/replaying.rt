@@ -65,7 +65,10 @@ impl Standing {
         let mut values = Vec::with_capacity(alloc, places)?;
         values.extend_from_slice(&run.start)?;
         Ok(Standing {
-            here: Config { at: p.start, values },
+            here: Config {
+                at: p.start,
+                values,
+            },
             next: Config {
                 at: p.start,
                 values: Vec::with_capacity(alloc, places)?,

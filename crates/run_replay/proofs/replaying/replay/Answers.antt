@@ -19,14 +19,24 @@ returns-in-Err-clause-refused c = λ bad k.
 pub returns-clause-answer : goal.returns-clause-answer
 returns-clause-answer c =
     whole_replay (program_of c.args.p.now) (run_of c.args.run.now) c.loop-i.i c.loop-i.standing
-    (omega (arith, c.loop-i-test.false, length-map c.args.run.now.steps.items step_of, c.len-i-end.ensures,
-    c.args.run.now.steps.ok.0)) c.loop-i.invariant
+    (omega (
+      arith,
+      c.loop-i-test.false,
+      length-map c.args.run.now.steps.items step_of,
+      c.len-i-end.ensures,
+      c.args.run.now.steps.ok.0,
+    )) c.loop-i.invariant
 
 pub returns-clause-refused : goal.returns-clause-refused
 returns-clause-refused c = λ bad k.
     let p = program_of c.args.p.now in
     let r = run_of c.args.run.now in
     let whole = whole_replay p r c.loop-i.i c.loop-i.standing
-    (omega (arith, c.loop-i-test.false, length-map c.args.run.now.steps.items step_of, c.len-i-end.ensures,
-    c.args.run.now.steps.ok.0)) c.loop-i.invariant in
+    (omega (
+      arith,
+      c.loop-i-test.false,
+      length-map c.args.run.now.steps.items step_of,
+      c.len-i-end.ensures,
+      c.args.run.now.steps.ok.0,
+    )) c.loop-i.invariant in
     c.replays_are_decided.ensures.none_bad p r.start (last_first r) bad whole.run k

@@ -8,12 +8,16 @@ returns c = record {
       places = c.requires.start;
       at = refl;
       values = c.in_ok-extend_from_slice.ensures.items
-      ∙ (ap (λ (xs : List ℤ). xs ++ c.deref.result.now) c.in_ok-values.ensures.items ∙ c.deref.ensures.value);
+          ∙ (ap (λ (xs : List ℤ). xs ++ c.deref.result.now) c.in_ok-values.ensures.items ∙ c.deref.ensures.value);
     };
     fit = tt;
   };
   tally = c.in_ok-new.ensures c.args.run.now.start.items;
-  room = omega (arith, c.most_places-places.ensures, c.in_ok-values.ensures.capacity,
-  c.in_ok-extend_from_slice.ensures.capacity);
+  room = omega (
+    arith,
+    c.most_places-places.ensures,
+    c.in_ok-values.ensures.capacity,
+    c.in_ok-extend_from_slice.ensures.capacity,
+  );
   next_room = omega (arith, c.most_places-places.ensures, c.in_ok-with_capacity.ensures.capacity);
 }

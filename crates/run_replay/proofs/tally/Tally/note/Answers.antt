@@ -33,5 +33,5 @@ returns c =
       greatest = map-set items t.greatest.items k c.raise.new.row;
       places = c.raise.ensures.length ∙ (ap length row ∙ c.requires.places);
       raised = λ j h. c.raise.ensures.each j h
-      ∙ ap (λ (xs : List ℕ). max (get_or xs j 0) (nat_abs (get_or c.args.values.now j (pos 0)))) row;
+          ∙ ap (λ (xs : List ℕ). max (get_or xs j 0) (nat_abs (get_or c.args.values.now j (pos 0)))) row;
     }
