@@ -1,7 +1,7 @@
 -- Where a replay stands, one step on, at a bad step, and at the end.
-use Rattle.std.proofs.Common.{◌≡◌, ℕ, zero, suc, ◌+◌, ◌-◌, ◌≤◌, ◌<◌, List, [], ◌∷◌, ◌++◌, length, map, take, drop, reverse}
-use Rattle.std.proofs.Common.{get_or, ℤ, Some, None, Option, refl, sym, ◌∙◌, ap, subst, arith, append_assoc, Vec}
-use Rattle.std.specs.Prelude.{slice_index, slice_index_or, vec_capacity, IfSome, slice_get}
+use Rattle.std.proofs.Common.{◌≡◌, ℕ, zero, suc, ◌+◌, ◌-◌, ◌≤◌, ◌<◌, List, [], ◌∷◌, ◌++◌, length, take, drop, reverse}
+use Rattle.std.proofs.Common.{get_or, ℤ, Some, None, Option, refl, sym, ◌∙◌, ap, subst, arith, append_assoc}
+use Rattle.std.specs.Prelude.{slice_index, slice_index_or, vec_capacity, IfSome}
 use Rattle.std.proofs.lemmas.Grind.{reverse_onto}
 use Rattle.std.proofs.lemmas.List.{length-map, length-reverse, length-take-le, reverse-append, take_more, take-append-drop}
 use Rattle.std.proofs.lemmas.List.{take_all, drop_more}
@@ -17,7 +17,7 @@ use Rattle.run_replay.specs.declared.replaying.Standing.{Standing}
 use Rattle.run_replay.specs.declared.replaying_error.ReplayError.{ReplayError}
 use Rattle.run_replay.specs.Runs.{Run}
 use Rattle.run_replay.specs.Replays.{RunsInRange, IsRunInRange, BadStep, IsFirstBadStep, Sums, tally_along, places_reached}
-use Rattle.run_replay.specs.Replays.{greatest_size, greatest_sizes, rule_numbers}
+use Rattle.run_replay.specs.Replays.{greatest_size, greatest_sizes}
 use Rattle.run_replay.specs.ReplayLaws.{ReplaysAreDecided}
 use Rattle.run_replay.specs.ReplayAnswers.{sums_of, bad_step_of, last_first, first_steps, IsReplay, Refuses, Notes}
 use Rattle.run_replay.specs.ReplayAnswers.{StandsBehind}

@@ -1,8 +1,8 @@
 -- The tally along a run, step by step.
-use Rattle.std.proofs.Common.{◌≡◌, ◌≢◌, ◌⊎◌, inl, inr, true, false, ◌==◌, ℕ, zero, suc, ◌+◌, ◌-◌, ◌≤◌, ◌<◌, max, List, []}
-use Rattle.std.proofs.Common.{◌∷◌, ◌++◌, length, map, set, get_or, ℤ, pos, nat_abs, Option, Some, None, refl, sym, ◌∙◌, ap}
+use Rattle.std.proofs.Common.{◌≡◌, ◌≢◌, ◌⊎◌, inl, inr, true, false, ◌==◌, ℕ, zero, suc, ◌+◌, ◌≤◌, ◌<◌, max, List, []}
+use Rattle.std.proofs.Common.{◌∷◌, ◌++◌, length, map, set, get_or, ℤ, pos, nat_abs, Some, refl, sym, ◌∙◌, ap}
 use Rattle.std.proofs.Common.{subst, arith, replicate}
-use Rattle.std.specs.Prelude.{slice_index_or, slice_index, if◌then◌else◌}
+use Rattle.std.specs.Prelude.{slice_index_or}
 use Rattle.std.specs.List.{range_with_len}
 use Rattle.std.proofs.lemmas.Bool.Decides.{eqb_tells}
 use Rattle.std.proofs.lemmas.Grind.{get_or-set_at}
@@ -11,7 +11,7 @@ use Rattle.std.proofs.lemmas.List.FromFn.{length-map-range_with_len, get_or-map-
 use Rattle.its_model.specs.declared.program.Program as code
 use Rattle.its_model.specs.declared.program.Rule as code_rule
 use Rattle.its_model.specs.model.Programs.{Program, rule_at}
-use Rattle.its_model.specs.model.Runs.{Config, Step, IsRun, count, last_rule, one_if_same, place_value}
+use Rattle.its_model.specs.model.Runs.{Config, Step, IsRun, count, last_rule, place_value}
 use Rattle.its_model.specs.model.Costs.{values_after}
 use Rattle.its_model.specs.poly_terms.Views.{term_of}
 use Rattle.its_model.specs.Views.{rule_of, program_of}
@@ -19,7 +19,7 @@ use Rattle.its_model.proofs.ListLaws.{mapped-get}
 use Rattle.its_model.proofs.poly_terms.model.RunLaws.{one_if_same-same, one_if_same-other}
 use Rattle.its_model.proofs.poly_terms.model.CostLaws.{stands_at}
 use Rattle.run_replay.specs.Replays.{size_after, greatest_size, rule_numbers, places_reached, place_numbers}
-use Rattle.run_replay.specs.Replays.{greatest_sizes, Sums, tally_along, IsSizeAfter, IsGreatest, RunsInRange}
+use Rattle.run_replay.specs.Replays.{greatest_sizes, Sums, tally_along, IsSizeAfter}
 use Rattle.run_replay.specs.ReplayAnswers.{Notes}
 
 -- what is made of the numbers from 1 on, with another one at one place

@@ -7,7 +7,7 @@ use Rattle.its_model.specs.model.WorkedRuns.{countdown, both}
 use Rattle.its_model.specs.model.WorkedCosts.{paying}
 use Rattle.its_model.specs.Steps.{StepFault, OtherRule, AtomFails, PastRange}
 use Rattle.its_model.specs.WorkedSteps.{maximum, minimum, A, B, one_more, looping}
-use Rattle.run_replay.specs.Replays.{IsRunInRange, IsFirstBadStep, Sums, tally_along}
+use Rattle.run_replay.specs.Replays.{IsRunInRange, IsFirstBadStep, tally_along}
 
 -- five steps, the last one first: by rule 1, and then four times by rule 2
 abbrev pub five_steps : List Step

@@ -12,7 +12,7 @@ use Rattle.its_model.proofs.poly_terms.model.StepLaws.{values}
 use Rattle.run_replay.specs.declared.file.RunFile.{RunFile}
 use Rattle.run_replay.specs.declared.replaying.Standing.{Standing}
 use Rattle.run_replay.specs.Views.{run_of}
-use Rattle.run_replay.specs.ReplayAnswers.{first_steps, sizes_in, sums_of, Notes, StandsBehind}
+use Rattle.run_replay.specs.ReplayAnswers.{first_steps, sums_of, Notes, StandsBehind}
 use Rattle.run_replay.proofs.ReplayStands.{IsNotable, notable, first_length, bad_first, refuses, stands_next}
 use Rattle.run_replay.proofs.replaying.Standing.step_on.Goals as goal
 
