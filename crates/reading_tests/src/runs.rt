@@ -58,7 +58,8 @@ fn meant(byte: u8) -> u8 {
     }
 }
 
-fn bytes_of(alloc: Global, before: &str, text: &str) -> Result<Vec<u8>, Memory> {
+/// A text in bytes behind another one, in which `|` stands for a line feed and `~` for a carriage return.
+pub(crate) fn bytes_of(alloc: Global, before: &str, text: &str) -> Result<Vec<u8>, Memory> {
     let mut bytes = Vec::new(alloc);
     for byte in before.as_bytes() {
         bytes.push(meant(*byte))?;
@@ -109,7 +110,8 @@ fn push_values(out: &mut Vec<u8>, values: &[i128]) -> Result<(), Memory> {
     Ok(())
 }
 
-fn push_value(out: &mut Vec<u8>, value: i128) -> Result<(), Memory> {
+/// Appends a blank and a value.
+pub(crate) fn push_value(out: &mut Vec<u8>, value: i128) -> Result<(), Memory> {
     out.push(b' ')?;
     let mut buffer = Buffer::new();
     out.extend_from_slice(buffer.format(value).as_bytes())?;

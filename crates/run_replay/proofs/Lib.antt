@@ -3,3 +3,8 @@ pub mod RunParts
 pub mod RunText
 pub mod RunsApart
 pub mod WorkedRuns
+mod ReplayRuns
+mod ReplayTallies
+mod ReplayStands
+mod ReplayLaws
+mod WorkedReplays
