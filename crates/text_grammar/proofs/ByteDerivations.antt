@@ -69,17 +69,20 @@ module _ {S T K : Type 0} (x : ByteText S T K) where
   values_happen (v ∷ vs) = ap (λ (es : List (Event ℕ)). Read 32 ∷ (value_events v ++ es)) (values_happen vs)
 
 -- a kind or none, and whether there is none
-is_no : {K : Type 0} → Option K → Bool
+abbrev pub is_no : {K : Type 0} → Option K → Bool
 is_no None = true
 is_no (Some kind) = false
 
+false_true : false ≡ true → ⊥
+false_true e = cc
+
 no_kind : {K : Type 0} (o : Option K) → is_no o ≡ true → o ≡ None
 no_kind None e = refl
-no_kind (Some kind) e = cc
+no_kind (Some kind) e = absurd (false_true e)
 
 module _ {S T K : Type 0} (x : ByteText S T K) where
   -- whether nothing stands against the bytes of a word from a state on
-  pub passes_word : Spelling S → List ℕ → Bool
+  abbrev pub passes_word : Spelling S → List ℕ → Bool
   passes_word s [] = true
   passes_word s (b ∷ bs) = is_no ((fold_of x).against s b) && passes_word ((fold_of x).read b s) bs
 

@@ -23,7 +23,7 @@ two_one : ◌≡◌ {A = List ℕ} (2 ∷ []) (1 ∷ []) → ⊥
 two_one e = let f : ◌≡◌ {A = ℕ} 2 1 = cc in omega (arith, f)
 
 -- rows as plain numbers
-sizes : Rows → List ℕ
+abbrev sizes : Rows → List ℕ
 sizes [] = []
 sizes ([] ∷ rows) = sizes rows
 sizes ((pos n ∷ vs) ∷ rows) = n ∷ sizes rows
