@@ -8,3 +8,6 @@ use Rattle.run_replay.specs.Texts.{runs_of}
 use Rattle.run_replay.specs.Views.{run_of}
 use Rattle.run_replay.proofs.RunParts.{runs_lawful}
 use Rattle.run_replay.proofs.reading.judge.Goals as goal
+
+pub read_bytes-requires-clause-lawful : goal.read_bytes-requires-clause-lawful
+read_bytes-requires-clause-lawful c = runs_lawful (program_of c.args.p.now)
