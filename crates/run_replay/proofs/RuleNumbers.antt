@@ -1,6 +1,6 @@
 -- Rules by their numbers.
 use Rattle.std.proofs.Common.{◌≡◌, ℕ, zero, suc, ◌^◌, ◌<◌, ◌≤◌, ◌-◌, List, [], ◌∷◌, length, false, refl, ap, sym, ◌∙◌}
-use Rattle.std.proofs.Common.{map, get_or, subst, arith, Some}
+use Rattle.std.proofs.Common.{subst, arith, Some}
 use Rattle.std.specs.Prelude.{slice_get, slice_index_or}
 use Rattle.std.specs.Option.{option_map}
 use Rattle.std.proofs.lemmas.Bool.Decides.{nat_tests}

@@ -1,5 +1,5 @@
 -- When nothing stands against run files, what they come to, and so which runs are answered.
-use Rattle.std.proofs.Common.{◌≡◌, ℕ, suc, ◌+◌, ◌-◌, ◌^◌, ◌<◌, ◌≤◌, min, Bool, true, false, cond, List, [], ◌∷◌, ◌++◌}
+use Rattle.std.proofs.Common.{◌≡◌, ℕ, ◌+◌, ◌-◌, ◌^◌, ◌<◌, ◌≤◌, min, Bool, true, false, cond, List, [], ◌∷◌, ◌++◌}
 use Rattle.std.proofs.Common.{length, refl, ap, sym, subst, ◌∙◌, arith, append_assoc, append-nil, length-append}
 use Rattle.std.specs.Prelude.{not, nat_le, ◌==◌, codes}
 use Rattle.std.proofs.lemmas.Bool.{eqb-true}
@@ -78,18 +78,30 @@ module _ (p : Program) where
       let others = steps_stand ss (with_step r s) s.rule h.1 (omega (arith, count, few)) in
       let free = h.0.free ∙ sym (ap (free_or (arity_of p p.start)) h.0.numbered) in (
         when_none (nat_le step_limit (length r.steps)) Limit (has_room (length r.steps) (omega (arith, few))),
-        (refl, (refl, (refl, (refl, (
-          when_none (is_no_rule p s.rule) BadReference (rule_taken p s.rule named.0 named.1 h.0.held),
+        (
+          refl,
           (
+            refl,
             (
-              h.0.small,
-              when_none (not (length s.free == wanted p s.rule)) ArityDiffers
-                  (differs_not (wanted p s.rule) (length s.free) free),
+              refl,
+              (
+                refl,
+                (
+                  when_none (is_no_rule p s.rule) BadReference (rule_taken p s.rule named.0 named.1 h.0.held),
+                  (
+                    (
+                      h.0.small,
+                      when_none (not (length s.free == wanted p s.rule)) ArityDiffers
+                          (differs_not (wanted p s.rule) (length s.free) free),
+                    ),
+                    subst (λ (t : State). StandsFrom (at t) (steps_parts ss))
+                        (sym (stepped r s named.0 h.0.held)) others,
+                  ),
+                ),
+              ),
             ),
-            subst (λ (t : State). StandsFrom (at t) (steps_parts ss))
-                (sym (stepped r s named.0 h.0.held)) others,
           ),
-        ))))),
+        ),
       )
 
   stand_steps : (ss : List Step) (r : Run) (rule : ℕ) → StandsFrom (from r rule) (steps_parts ss)

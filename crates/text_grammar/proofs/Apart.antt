@@ -1,5 +1,5 @@
 -- Numbers and lines of values come apart from what stands behind them: no two are spelled alike.
-use Rattle.std.proofs.Common.{◌≡◌, ℕ, suc, ◌^◌, ◌<◌, ◌≤◌, true, false, List, [], ◌∷◌, ◌++◌, length, refl, ap, sym, subst}
+use Rattle.std.proofs.Common.{◌≡◌, ℕ, suc, ◌^◌, ◌<◌, true, false, List, [], ◌∷◌, ◌++◌, length, refl, ap, sym, subst}
 use Rattle.std.proofs.Common.{◌∙◌, append_assoc, arith}
 use Rattle.std.specs.Prelude.{ℤ, pos, negsuc, unsigned_abs, ⊤}
 use Rattle.std.specs.Char.{is_ascii_digit}

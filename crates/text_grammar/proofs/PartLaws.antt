@@ -2,7 +2,6 @@
 -- and the other way round, for every grammar whose alternatives do so.
 use Rattle.std.proofs.Common.{◌≡◌, ℕ, List, [], ◌∷◌, ◌++◌, refl, ap, sym, subst, ◌∙◌, append_assoc, append-nil, Option}
 use Rattle.std.proofs.Common.{Some, None, inl, inr}
-use Rattle.std.specs.Prelude.{⊤}
 use Rattle.text_core.specs.Faults.{Among}
 use Rattle.text_grammar.specs.declared.symbol.Symbol.{Symbol}
 use Rattle.text_grammar.specs.declared.symbol.Symbol.TheVariants.{Piece, Made, Mark}
@@ -10,7 +9,7 @@ use Rattle.text_grammar.specs.Grammars.{Grammar, Event, Read, Did, Derives, noth
 use Rattle.text_grammar.specs.Folds.{Fold, after, Passes}
 use Rattle.text_grammar.specs.Parts.{Part, Says, Does, Puts, Wholes, events_of, spelled, come, Stand, Chosen, Values}
 use Rattle.text_grammar.specs.Parts.{chosen_parts, body_parts, chosen_in, IsOnly, IsPut, ComesTo, Gives, AllGive}
-use Rattle.text_grammar.specs.Parts.{AreMade, AllMake, StandsFor, Derived, AreDerived}
+use Rattle.text_grammar.specs.Parts.{AreMade, AllMake, StandsFor, AreDerived}
 use Rattle.text_grammar.proofs.Events.{derived_both}
 use Rattle.text_grammar.proofs.FoldLaws.{after_append, passes_append, passes_split}
 use Rattle.text_grammar.proofs.Induction.{StandsAlong, derived_stands}

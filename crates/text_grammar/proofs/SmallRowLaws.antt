@@ -1,5 +1,5 @@
 -- A small text is printed and read back: all that a text in single bytes owes.
-use Rattle.std.proofs.Common.{◌≡◌, ℕ, zero, suc, List, [], ◌∷◌, ◌++◌, length, refl, ap, sym, subst, ◌∙◌, arith, inl, inr}
+use Rattle.std.proofs.Common.{◌≡◌, ℕ, zero, suc, List, [], ◌∷◌, ◌++◌, refl, ap, sym, subst, ◌∙◌, arith, inl, inr}
 use Rattle.std.proofs.Common.{append-nil, append_assoc}
 use Rattle.std.specs.Prelude.{nat_lt, codes, true}
 use Rattle.text_core.specs.Reading.{Stands}
@@ -11,7 +11,7 @@ use Rattle.text_grammar.specs.Parts.{Part, Says, Puts, AllMake, spelled, come, S
 use Rattle.text_grammar.specs.ByteTexts.{Spelling, Numbered, Line, fresh, says, only, fold_of, numbers_of, grammar_of}
 use Rattle.text_grammar.specs.ByteTexts.{texts_of, line_text, value_limit, HasNumbers, IsBounded}
 use Rattle.text_grammar.specs.ByteParts.{ValueOf, parts_of, OwnAreMade}
-use Rattle.text_grammar.specs.SmallRows.{Rows, rows_bytes, answer_to, rows_text, AreSmallRows, RowsAreRead}
+use Rattle.text_grammar.specs.SmallRows.{Rows, rows_bytes, rows_text, AreSmallRows, RowsAreRead}
 use Rattle.text_grammar.proofs.Numerals.{none_when, when_none, small_value, value_small}
 use Rattle.text_grammar.proofs.ByteLaws.{bytes_lawful}
 use Rattle.text_grammar.proofs.ByteDerivations.{IsDerived, by, each_line, answered, taken}

@@ -1,10 +1,9 @@
 -- What was worked out by hand of parts, numbers and texts in single bytes.
-use Rattle.std.proofs.Common.{◌≡◌, ℕ, ◌^◌, List, [], ◌∷◌, refl, ap, arith, None}
-use Rattle.std.specs.Prelude.{ℤ, pos}
+use Rattle.std.proofs.Common.{◌≡◌, ℕ, ◌^◌, List, [], ◌∷◌, refl, ap, arith}
+use Rattle.std.specs.Prelude.{pos}
 use Rattle.std.specs.Fmt.{digits}
-use Rattle.text_grammar.specs.declared.symbol.Symbol.{Symbol}
-use Rattle.text_grammar.specs.ByteTexts.{Spelling, HasNumbers, value_rule}
-use Rattle.text_grammar.specs.SmallRows.{Rows, rows_bytes}
+use Rattle.text_grammar.specs.ByteTexts.{Spelling, value_rule}
+use Rattle.text_grammar.specs.SmallRows.{Rows}
 use Rattle.text_grammar.specs.WorkedRows.{NumeralsAreTold, PartsAreTold, ByteTextsAreTold}
 use Rattle.text_grammar.proofs.SmallRowLaws.{rows_bounded, rows_numbers}
 

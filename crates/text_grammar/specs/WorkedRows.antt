@@ -1,11 +1,11 @@
 -- What parts, numbers and texts in single bytes come to, worked out by hand on both sides, at a small text of rows.
 use Rattle.std.specs.Prelude.{◌≡◌, ℕ, ◌^◌, ◌-◌, true, false, List, [], ◌∷◌, codes, pos, negsuc, Some, None, map}
-use Rattle.text_core.specs.Reading.{Answer, Stands, Refused}
-use Rattle.text_grammar.specs.Grammars.{Event, Read, Did}
-use Rattle.text_grammar.specs.Parts.{Part, Says, Does, Puts, events_of, spelled, come, Stand, ComesTo}
-use Rattle.text_grammar.specs.ByteTexts.{Numeral, Spelling, Numbered, Value, Natural, Line, class_of, only, fresh, signed}
-use Rattle.text_grammar.specs.ByteTexts.{with_byte, value_limit, fold_of, numbers_of, HasNumbers, IsBounded}
-use Rattle.text_grammar.specs.SmallRows.{Rows, rows_bytes, rows_rules, answer_to}
+use Rattle.text_core.specs.Reading.{Stands, Refused}
+use Rattle.text_grammar.specs.Grammars.{Read, Did}
+use Rattle.text_grammar.specs.Parts.{Says, Does, Puts, events_of, spelled, come, Stand, ComesTo}
+use Rattle.text_grammar.specs.ByteTexts.{Numeral, Value, Natural, Line, class_of, only, fresh, signed}
+use Rattle.text_grammar.specs.ByteTexts.{with_byte, fold_of, numbers_of, HasNumbers, IsBounded}
+use Rattle.text_grammar.specs.SmallRows.{rows_bytes, rows_rules, answer_to}
 
 -- the number that is being spelled behind bytes
 abbrev pub spelling : Numeral → List ℕ → Numeral

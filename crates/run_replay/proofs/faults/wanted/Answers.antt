@@ -1,5 +1,5 @@
 use Rattle.std.proofs.Common.{arith}
-use Rattle.run_replay.proofs.RuleNumbers.{wanted_past, wanted_there}
+use Rattle.run_replay.proofs.RuleNumbers.{wanted_there}
 use Rattle.run_replay.proofs.faults.wanted.Goals as goal
 
 pub returns : goal.returns
