@@ -57,4 +57,5 @@ AreSmallRows (row ∷ rows) = AreSmall row × AreSmallRows rows
 -- what is printed of rows with small values is read as them, and what is read is printed of such rows
 pub record RowsAreRead : Type 0 where
   pub printed : (rows : Rows) → AreSmallRows rows → answer_to (rows_text rows) ≡ Stands rows
-  pub read : (bytes : List ℕ) (rows : Rows) → answer_to bytes ≡ Stands rows → (rows_text rows ≡ bytes) × AreSmallRows rows
+  pub read : (bytes : List ℕ) (rows : Rows) → answer_to bytes ≡ Stands rows
+      → (rows_text rows ≡ bytes) × AreSmallRows rows

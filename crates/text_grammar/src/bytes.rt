@@ -22,8 +22,8 @@ pub const BLANK: u32 = 4;
 /// See `ZERO`.
 pub const LINE_FEED: u32 = 5;
 
-/// The nonterminals of a value with a sign, of a natural number, of what they are spelled by, of a line of values, and of
-/// such a line behind its beginning.
+/// The nonterminals of a value with a sign, of a natural number, of what they are spelled by, of a line of values, and
+/// of such a line behind its beginning.
 pub const VALUE: u32 = 1;
 /// See `VALUE`.
 pub const NATURAL: u32 = 2;
