@@ -1,16 +1,17 @@
 -- What was worked out by hand of replays.
-use Rattle.std.proofs.Common.{◌≡◌, ℕ, suc, List, [], ◌∷◌, ◌++◌, length, map, ℤ, pos, negsuc, Some, None, refl, ap, arith}
+use Rattle.std.proofs.Common.{◌≡◌, ◌⊎◌, inl, inr, ℕ, suc, ◌≤◌, List, [], ◌∷◌, ◌++◌, length, map, ℤ, pos, negsuc, Some, None, refl, ap, arith}
 use Rattle.its_model.specs.model.Terms.{value}
 use Rattle.its_model.specs.model.Programs.{Program, Rule, rule_at}
-use Rattle.its_model.specs.model.Runs.{Config, Step}
+use Rattle.its_model.specs.model.Runs.{Config, Step, count}
 use Rattle.its_model.specs.model.Worked.{by_rule, two_values, four_steps}
 use Rattle.its_model.specs.model.WorkedRuns.{countdown, both, entering, looping}
 use Rattle.its_model.specs.Steps.{StepFault, OtherRule, AtomFails, PastRange, step_fault, StepsHaveNoFault}
 use Rattle.its_model.specs.WorkedSteps.{maximum, minimum}
-use Rattle.run_replay.specs.Replays.{RunsInRange, BadStep, IsFirstBadStep}
+use Rattle.run_replay.specs.Replays.{RunsInRange, BadStep, IsFirstBadStep, IsGreatest, IsSizeAfter}
 use Rattle.run_replay.specs.WorkedReplays.{five_steps, with_zero, counting_up, comparing, IsFirst, TalliesAreTold}
-use Rattle.run_replay.specs.WorkedReplays.{BadStepsAreTold, ReplaysAreTold}
+use Rattle.run_replay.specs.WorkedReplays.{GreatestAreTold, BadStepsAreTold, ReplaysAreTold}
 use Rattle.run_replay.proofs.ReplayRuns.{next_runs, none_bad, one_bad}
+use Rattle.run_replay.proofs.ReplayLaws.{replays_decided}
 
 -- the tallies
 tallies_told : TalliesAreTold
@@ -144,6 +145,38 @@ bad_steps_told law = record {
   );
 }
 
+-- one number is the greatest
+one_greatest : (p : Program) (start : List ℤ) (steps : List Step) (t i m n : ℕ) → IsGreatest p start steps t i m
+    → IsGreatest p start steps t i n → m ≤ n
+one_greatest p start steps t i m n h k = go h.reached
+  where
+    go : IsSizeAfter p start steps t i m ⊎ ((count t steps ≡ 0) × (m ≡ 0)) → m ≤ n
+    go (inl s) = k.most m s
+    go (inr (e, z)) = omega (arith, z)
+
+-- the greatest values
+greatest_told : StepsHaveNoFault → GreatestAreTold
+greatest_told law = record {
+  between = refl;
+  first_after_2 = two;
+  not_of_rule_1 = λ h.
+      let l = one_greatest countdown (both (pos 3) (pos 7)) four_steps 2 1 3 2 h two in omega (arith, l);
+  not_a_later_one = λ h.
+      let l = one_greatest countdown (both (pos 3) (pos 7)) four_steps 2 1 2 1 two h in omega (arith, l);
+  absent = none_after;
+  other_rule = λ s. let l = none_after.most 3 s in omega (arith, l);
+}
+  where
+    two : IsGreatest countdown (both (pos 3) (pos 7)) four_steps 2 1 2
+    two =
+        (replays_decided law).greatest countdown (both (pos 3) (pos 7)) four_steps 2 1 (omega arith)
+        (two_values 1 (pos 0) (negsuc 0), thrice law)
+
+    none_after : IsGreatest countdown (both (pos 3) (pos 7)) (by_rule 1 ∷ []) 2 1 0
+    none_after =
+        (replays_decided law).greatest countdown (both (pos 3) (pos 7)) (by_rule 1 ∷ []) 2 1 (omega arith)
+        (two_values 1 (pos 3) (pos 7), entered law (pos 3) (pos 7) refl)
+
 -- all of it
 pub replays_told : StepsHaveNoFault → ReplaysAreTold
-replays_told law = record { tallies = tallies_told; steps = bad_steps_told law }
+replays_told law = record { tallies = tallies_told; greatest = greatest_told law; steps = bad_steps_told law }

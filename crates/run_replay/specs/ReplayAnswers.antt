@@ -62,8 +62,8 @@ abbrev pub Tallies : Result Tally ReplayError → Type 0
 Tallies result = MatchResult result (λ _. ⊤) (λ e. bad_step_of e ≡ None)
 
 -- a result names this bad step, unless memory ran out
-abbrev pub Names : BadStep → Result Tally ReplayError → Type 0
-Names bad result = MatchResult result (λ _. ⊥) (λ e. IfSome (bad_step_of e) (λ b. b ≡ bad))
+abbrev pub RefusesWith : BadStep → Result Tally ReplayError → Type 0
+RefusesWith bad result = MatchResult result (λ _. ⊥) (λ e. IfSome (bad_step_of e) (λ b. b ≡ bad))
 
 -- the first steps of a run, the last one of them first
 abbrev pub first_steps : Run → ℕ → List Step

@@ -7,7 +7,7 @@ use Rattle.its_model.specs.model.WorkedRuns.{countdown, both}
 use Rattle.its_model.specs.model.WorkedCosts.{paying}
 use Rattle.its_model.specs.Steps.{StepFault, OtherRule, AtomFails, PastRange}
 use Rattle.its_model.specs.WorkedSteps.{maximum, minimum, A, B, one_more, looping}
-use Rattle.run_replay.specs.Replays.{IsRunInRange, IsFirstBadStep, tally_along}
+use Rattle.run_replay.specs.Replays.{IsRunInRange, IsFirstBadStep, tally_along, IsGreatest, IsSizeAfter}
 
 -- five steps, the last one first: by rule 1, and then four times by rule 2
 abbrev pub five_steps : List Step
@@ -23,7 +23,7 @@ pub record TalliesAreTold : Type 0 where
       ≡ record { steps = 1; counts = 1 ∷ 0 ∷ []; greatest = (3 ∷ 7 ∷ []) ∷ (0 ∷ 0 ∷ []) ∷ [] }
   pub none : tally_along countdown (both (pos 3) (pos 7)) []
       ≡ record { steps = 0; counts = 0 ∷ 0 ∷ []; greatest = (0 ∷ 0 ∷ []) ∷ (0 ∷ 0 ∷ []) ∷ [] }
-  -- a later value isn't the greatest by being the last one: from l0(-9, 1) to l1(-9, 1); places aren't swapped
+  -- from l0(-9, 1) to l1(-9, 1): the absolute value counts, and places aren't swapped
   pub below_zero : tally_along countdown (both (negsuc 8) (pos 1)) (by_rule 1 ∷ [])
       ≡ record { steps = 1; counts = 1 ∷ 0 ∷ []; greatest = (9 ∷ 1 ∷ []) ∷ (0 ∷ 0 ∷ []) ∷ [] }
   -- what the steps cost is no part of it
@@ -33,6 +33,18 @@ pub record TalliesAreTold : Type 0 where
 -- a use of rule 1 with the value 0 of its free variable
 abbrev pub with_zero : Step
 with_zero = record { rule = 1; free = pos 0 ∷ [] }
+
+-- the greatest value at a place needn't be the first one or the last: by l0(A, B) -> l0(B, A + 1) from l0(1, 5) come
+-- l0(5, 2), l0(2, 6) and l0(6, 3). Of the four steps of the program that counts down the greatest first value after rule
+-- 2 is 2, neither 3, which is rule 1's, nor 1; where rule 2 doesn't occur it is 0, and 3 isn't a value after it
+pub record GreatestAreTold : Type 0 where
+  pub between : tally_along (looping [] B one_more) (both (pos 1) (pos 5)) (with_zero ∷ with_zero ∷ with_zero ∷ [])
+      ≡ record { steps = 3; counts = 3 ∷ []; greatest = (6 ∷ 6 ∷ []) ∷ [] }
+  pub first_after_2 : IsGreatest countdown (both (pos 3) (pos 7)) four_steps 2 1 2
+  pub not_of_rule_1 : ¬ (IsGreatest countdown (both (pos 3) (pos 7)) four_steps 2 1 3)
+  pub not_a_later_one : ¬ (IsGreatest countdown (both (pos 3) (pos 7)) four_steps 2 1 1)
+  pub absent : IsGreatest countdown (both (pos 3) (pos 7)) (by_rule 1 ∷ []) 2 1 0
+  pub other_rule : ¬ (IsSizeAfter countdown (both (pos 3) (pos 7)) (by_rule 1 ∷ []) 2 1 3)
 
 -- the program l0(A, B) -> l0(A + 1, B), and l0(A, B) -> l0(A, B) where A + 1 >= B
 abbrev pub counting_up : Program
@@ -77,4 +89,5 @@ pub record BadStepsAreTold : Type 0 where
 -- all of it
 pub record ReplaysAreTold : Type 0 where
   pub tallies : TalliesAreTold
+  pub greatest : GreatestAreTold
   pub steps : BadStepsAreTold

@@ -6,7 +6,7 @@ ghost use Rattle.its_model.specs.Steps.{maximum_arity};
 ghost use Rattle.its_model.specs.Valid.{IsValid};
 ghost use Rattle.its_model.specs.Views.{program_of};
 ghost use Rattle.run_replay.specs.Replays.{BadStep, IsRunInRange, IsFirstBadStep};
-ghost use Rattle.run_replay.specs.ReplayAnswers.{last_first, Replays, Tallies, Names, Refuses, StandsBehind};
+ghost use Rattle.run_replay.specs.ReplayAnswers.{last_first, Replays, Tallies, RefusesWith, Refuses, StandsBehind};
 ghost use Rattle.run_replay.specs.Views.{run_of};
 
 use crate::file::RunFile;
@@ -34,7 +34,7 @@ pub fn replay(alloc: Global, p: &Program, run: &RunFile) -> Result<Tally, Replay
     ensures complete { IsRunInRange (program_of p.now) run.now.start.items (last_first (run_of run.now))
         → Tallies result }
     ensures refused { (bad : BadStep)
-        → IsFirstBadStep (program_of p.now) run.now.start.items (last_first (run_of run.now)) bad → Names bad result }
+        → IsFirstBadStep (program_of p.now) run.now.start.items (last_first (run_of run.now)) bad → RefusesWith bad result }
 {
     replays_are_decided();
     let mut standing = Standing::new(alloc, p, run)?;
