@@ -1,4 +1,4 @@
-//! Run files: a line is a text in which `|` stands for a line feed.
+//! Run files: a line is a text in which `|` stands for a line feed and `~` for a carriage return.
 
 use itoa::Buffer;
 use its_model::{Program, Step};
@@ -49,13 +49,23 @@ pub(crate) fn run_beginnings(alloc: Global, text: &str) -> Result<String, Memory
     format!(in alloc; "{early} of {}", bytes.len())
 }
 
-fn bytes_of(alloc: Global, before: &str, text: &str) -> Result<Vec<u8>, Memory> {
+// The byte that stands in the text for one of the line.
+fn meant(byte: u8) -> u8 {
+    match byte {
+        b'|' => b'\n',
+        b'~' => b'\r',
+        other => other,
+    }
+}
+
+/// A text in bytes behind another one, in which `|` stands for a line feed and `~` for a carriage return.
+pub(crate) fn bytes_of(alloc: Global, before: &str, text: &str) -> Result<Vec<u8>, Memory> {
     let mut bytes = Vec::new(alloc);
     for byte in before.as_bytes() {
-        bytes.push(if *byte == b'|' { b'\n' } else { *byte })?;
+        bytes.push(meant(*byte))?;
     }
     for byte in text.as_bytes() {
-        bytes.push(if *byte == b'|' { b'\n' } else { *byte })?;
+        bytes.push(meant(*byte))?;
     }
     Ok(bytes)
 }
@@ -100,7 +110,8 @@ fn push_values(out: &mut Vec<u8>, values: &[i128]) -> Result<(), Memory> {
     Ok(())
 }
 
-fn push_value(out: &mut Vec<u8>, value: i128) -> Result<(), Memory> {
+/// Appends a blank and a value.
+pub(crate) fn push_value(out: &mut Vec<u8>, value: i128) -> Result<(), Memory> {
     out.push(b' ')?;
     let mut buffer = Buffer::new();
     out.extend_from_slice(buffer.format(value).as_bytes())?;

@@ -4,6 +4,10 @@ pub mod Texts
 pub mod Spelled
 pub mod Views
 pub mod Worked
+pub mod Replays
+pub mod ReplayAnswers
+pub mod ReplayLaws
+pub mod WorkedReplays
 -- the crates below, which callers name through this one
 pub use Rattle.text_grammar.specs.text_core
 pub use Rattle.text_grammar.specs as text_grammar

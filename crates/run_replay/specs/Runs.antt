@@ -1,5 +1,5 @@
--- Run files: what they spell, and which of them a program takes.
-use Rattle.std.specs.Prelude.{ℕ, ◌^◌, ◌-◌, ℤ, List}
+-- Run files, and their limits.
+use Rattle.std.specs.Prelude.{ℕ, ℤ, List}
 use Rattle.its_model.specs.model.Runs.{Step}
 
 -- start values, and steps in order
@@ -10,7 +10,3 @@ pub record Run : Type 0 where
 -- at most so many steps are read
 abbrev pub step_limit : ℕ
 step_limit = 1000000
-
--- at most so large a value is read, in absolute value
-abbrev pub value_limit : ℕ
-value_limit = 2 ^ 63 - 1

@@ -1,30 +1,19 @@
 -- The one text of a run, and which runs of a program have one that is taken.
-use Rattle.std.specs.Prelude.{◌≡◌, ℕ, ◌^◌, ◌<◌, ◌≤◌, List, [], ◌∷◌, ◌++◌, codes, length, Some, ℤ, unsigned_abs, ⊤}
-use Rattle.std.specs.Fmt.{decimal, signed_decimal}
+use Rattle.std.specs.Prelude.{◌≡◌, ℕ, ◌^◌, ◌<◌, ◌≤◌, List, [], ◌∷◌, ◌++◌, codes, length, Some, ⊤}
+use Rattle.std.specs.Fmt.{decimal}
 use Rattle.its_model.specs.model.Programs.{Program, Rule, rule_at, arity_of}
 use Rattle.its_model.specs.model.Runs.{Step}
-use Rattle.run_replay.specs.Runs.{Run, step_limit, value_limit}
+use Rattle.text_grammar.specs.ByteTexts.{line_text, AreSmall, AreNarrow}
+use Rattle.run_replay.specs.Runs.{Run, step_limit}
 
--- values, with a blank before each
-abbrev pub values_text : List ℤ → List ℕ
-values_text [] = []
-values_text (v ∷ vs) = 32 ∷ (signed_decimal v ++ values_text vs)
-
--- steps, each as a line with its rule and the values of its free variables
+-- steps, each as a line with its rule and the values of its free variables, and the last line
 abbrev pub steps_text : List Step → List ℕ
-steps_text [] = []
-steps_text (s ∷ ss) = codes "step " ++ (decimal s.rule ++ (values_text s.free ++ 10 ∷ steps_text ss))
+steps_text [] = codes "end" ++ 10 ∷ []
+steps_text (s ∷ ss) = codes "step " ++ (decimal s.rule ++ (line_text s.free ++ steps_text ss))
 
 -- the text of a run
 abbrev pub text_of : Run → List ℕ
-text_of r =
-    codes "koat-run 1" ++ 10 ∷ (codes "start" ++ (values_text r.start ++ 10
-    ∷ (steps_text r.steps ++ (codes "end" ++ 10 ∷ []))))
-
--- each value is at most 2^63-1 in absolute value
-abbrev pub AreSmall : List ℤ → Type 0
-AreSmall [] = ⊤
-AreSmall (v ∷ vs) = (unsigned_abs v ≤ value_limit) × AreSmall vs
+text_of r = codes "koat-run 1" ++ 10 ∷ (codes "start" ++ (line_text r.start ++ steps_text r.steps))
 
 -- a step is by a rule that there is, whose number its type holds, and has a value for each of its free variables
 pub record IsStepOf (p : Program) (s : Step) : Type 0 where
@@ -52,6 +41,12 @@ pub record IsTextWithin (p : Program) (bytes : List ℕ) (r : Run) : Type 0 wher
   pub text : text_of r ≡ bytes
   pub within : IsWithin p r
 
--- bytes are the text of one run at most, whatever the program
+-- the numbers of steps are below 2^64
+abbrev pub AreNarrowSteps : List Step → Type 0
+AreNarrowSteps [] = ⊤
+AreNarrowSteps (s ∷ ss) = (s.rule < 2 ^ 64) × AreNarrow s.free × AreNarrowSteps ss
+
+-- a text is that of one run at most, whatever the program and the limits, where numbers are below 2^64
 pub record OneRun : Type 0 where
-  pub each : (p : Program) (bytes : List ℕ) (a b : Run) → IsTextWithin p bytes a → IsTextWithin p bytes b → a ≡ b
+  pub each : (a b : Run) → AreNarrow a.start → AreNarrowSteps a.steps → AreNarrow b.start → AreNarrowSteps b.steps
+      → text_of a ≡ text_of b → a ≡ b

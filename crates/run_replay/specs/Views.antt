@@ -6,8 +6,8 @@ use Rattle.text_grammar.specs.text_core.Readers.{Fault}
 use Rattle.text_grammar.specs.Results.{IsRight, Yields}
 use Rattle.run_replay.specs.declared.file.RunFile.{RunFile}
 use Rattle.run_replay.specs.declared.text.State as code
-use Rattle.run_replay.specs.declared.phase.RunKind.{RunKind}
-use Rattle.run_replay.specs.declared.phase.RunKind.TheVariants as kind
+use Rattle.run_replay.specs.declared.kind.RunKind.{RunKind}
+use Rattle.run_replay.specs.declared.kind.RunKind.TheVariants as kind
 use Rattle.run_replay.specs.declared.error.RunTextError.{RunTextError}
 use Rattle.run_replay.specs.declared.error.RunTextError.TheVariants.{Syntax, NumberTooLarge, BadReference}
 use Rattle.run_replay.specs.declared.error.RunTextError.TheVariants.{ArityDiffers, Limit, Memory}
@@ -21,13 +21,7 @@ run_of r = record { start = r.start.items; steps = map step_of r.steps.items }
 
 -- what is remembered, as plain data
 abbrev pub own_of : code.State → State
-own_of s = record {
-  phase = s.phase;
-  start = s.start.items;
-  steps = map step_of s.steps.items;
-  values = s.values.items;
-  rule = s.rule;
-}
+own_of s = record { run = run_of s.file; rule = s.rule }
 
 -- the refusal that an error stands for; want of memory stands for none
 abbrev pub refusal_in : RunTextError → Option (Fault RunKind)

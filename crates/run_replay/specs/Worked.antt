@@ -1,13 +1,13 @@
 -- What reading small run texts comes to, worked out by hand on both sides.
-use Rattle.std.specs.Prelude.{◌≡◌, ℕ, pos, negsuc, None, true, false, List, [], ◌∷◌, ◌++◌, codes, length}
+use Rattle.std.specs.Prelude.{◌≡◌, ℕ, pos, negsuc, None, true, false, List, [], ◌∷◌, ◌++◌, codes, length, map}
 use Rattle.its_model.specs.model.Programs.{Program, Rule}
+use Rattle.its_model.specs.model.Runs.{Step}
 use Rattle.text_grammar.specs.text_core.Reading.{Answer, Stands, Refused, answer}
 use Rattle.text_grammar.specs.Texts.{reader}
-use Rattle.run_replay.specs.declared.phase.RunKind.{RunKind}
-use Rattle.run_replay.specs.declared.phase.RunKind.TheVariants.{Syntax, NumberTooLarge, BadReference, ArityDiffers}
-use Rattle.run_replay.specs.Runs.{Run}
 use Rattle.text_grammar.specs.ByteTexts.{tokens}
-use Rattle.run_replay.specs.declared.phase.Phase.TheVariants.{InStart, InRule}
+use Rattle.run_replay.specs.declared.kind.RunKind.{RunKind}
+use Rattle.run_replay.specs.declared.kind.RunKind.TheVariants.{Syntax, NumberTooLarge, BadReference, ArityDiffers}
+use Rattle.run_replay.specs.Runs.{Run}
 use Rattle.run_replay.specs.Texts.{runs_of, is_full}
 use Rattle.run_replay.specs.Spelled.{text_of}
 
@@ -34,70 +34,72 @@ small_program = record {
   rules = rule_with 0 ∷ rule_with 1 ∷ rule_with 2 ∷ [];
 }
 
--- lines, with a line feed behind each
-abbrev pub lines_text : List (List ℕ) → List ℕ
-lines_text [] = []
-lines_text (line ∷ lines) = line ++ 10 ∷ lines_text lines
+-- what a text comes to, and what a text of steps does, behind the lines `koat-run 1` and `start 1 -2` (22 bytes)
+abbrev pub answer_to : List ℕ → Answer Run RunKind
+answer_to bytes = answer (reader (runs_of small_program)) (length bytes) (tokens bytes)
 
--- the lines of a file whose start values are 1 and -2
-abbrev pub file_with : List (List ℕ) → List (List ℕ)
-file_with lines = codes "koat-run 1" ∷ codes "start 1 -2" ∷ lines
+abbrev pub answer_behind : List ℕ → Answer Run RunKind
+answer_behind bytes = answer_to (codes "koat-run 1\nstart 1 -2\n" ++ bytes)
 
--- reading these lines comes to this
-abbrev pub ComesTo : List (List ℕ) → Answer Run RunKind → Type 0
-ComesTo lines a = answer (reader (runs_of small_program)) (length (lines_text lines)) (tokens (lines_text lines)) ≡ a
-
--- the refusal of a kind at a position
+-- the refusal of a kind at a position, and the run with these steps
 abbrev pub refused : RunKind → ℕ → Answer Run RunKind
 refused kind at = Refused (record { kind = kind; at = at })
 
--- the first byte behind the lines `koat-run 1` and `start 1 -2` is byte 22
+abbrev pub runs : List Step → Answer Run RunKind
+runs steps = Stands (record { start = pos 1 ∷ negsuc 1 ∷ []; steps = steps })
+
+-- a text, and what it comes to
+pub record Row : Type 0 where
+  pub text : List ℕ
+  pub comes : Answer Run RunKind
+
+abbrev pub row : List ℕ → Answer Run RunKind → Row
+row text comes = record { text = text; comes = comes }
+
+-- steps and what they come to
+abbrev pub rows : List Row
+rows =
+    -- no step, and two; free values are in order, and may be as small as -(2^63-1)
+    row (codes "end\n") (runs [])
+    ∷ row (codes "step 1\nstep 2 10\nend\n")
+    (runs (record { rule = 1; free = [] } ∷ record { rule = 2; free = pos 10 ∷ [] } ∷ []))
+    ∷ row (codes "step 3 4 -5\nend\n") (runs (record { rule = 3; free = pos 4 ∷ negsuc 4 ∷ [] } ∷ []))
+    ∷ row (codes "step 2 -9223372036854775807\nend\n")
+    (runs (record { rule = 2; free = negsuc 9223372036854775806 ∷ [] } ∷ []))
+    -- rules 0, 4 and 2^32 + 1 aren't there, the first digit of `01` is that of no rule, and no rule has a `-`
+    ∷ row (codes "step 0\n") (refused BadReference 27)
+    ∷ row (codes "step 4\n") (refused BadReference 27)
+    ∷ row (codes "step 4294967297\n") (refused BadReference 27)
+    ∷ row (codes "step 01\n") (refused BadReference 27)
+    ∷ row (codes "step -1\n") (refused Syntax 27)
+    -- no blank, and a blank twice; too few values and too many; a line feed with another byte before it
+    ∷ row (codes "step1\n") (refused Syntax 26)
+    ∷ row (codes "step 2  1\n") (refused Syntax 29)
+    ∷ row (codes "step 2\n") (refused ArityDiffers 28)
+    ∷ row (codes "step 1 5\n") (refused ArityDiffers 30)
+    ∷ row (codes "step 1\r\n") (refused Syntax 28)
+    -- values of 2^63 and less than -(2^63-1), a surplus one too; a leading zero, a `-` before 0 and two of them
+    ∷ row (codes "step 2 9223372036854775808\n") (refused NumberTooLarge 29)
+    ∷ row (codes "step 2 -9223372036854775808\n") (refused NumberTooLarge 29)
+    ∷ row (codes "step 1 9223372036854775808\n") (refused NumberTooLarge 29)
+    ∷ row (codes "step 2 -0\n") (refused Syntax 30)
+    ∷ row (codes "step 2 01\n") (refused Syntax 30)
+    ∷ row (codes "step 2 --1\n") (refused Syntax 30)
+    -- of a rule that isn't there and a byte that can't follow the first one counts
+    ∷ row (codes "step 4\nstop\n") (refused BadReference 27)
+    ∷ []
+
+-- the texts of the rows come to what stands there
 pub record RunsAreTold : Type 0 where
-  -- no step, and two steps
-  pub no_step : ComesTo (file_with (codes "end" ∷ [])) (Stands (record { start = pos 1 ∷ negsuc 1 ∷ []; steps = [] }))
-  pub two_steps : ComesTo (file_with (codes "step 1" ∷ codes "step 2 10" ∷ codes "end" ∷ []))
-      (Stands (record {
-        start = pos 1 ∷ negsuc 1 ∷ [];
-        steps = record { rule = 1; free = [] } ∷ record { rule = 2; free = pos 10 ∷ [] } ∷ [];
-      }))
-  -- nothing at all ends too early at 0
-  pub empty : ComesTo [] (refused Syntax 0)
-  -- free values are in order, and may be as small as -(2^63-1)
-  pub order : ComesTo (file_with (codes "step 3 4 -5" ∷ codes "end" ∷ []))
-      (Stands (record {
-        start = pos 1 ∷ negsuc 1 ∷ [];
-        steps = record { rule = 3; free = pos 4 ∷ negsuc 4 ∷ [] } ∷ [];
-      }))
-  pub least : ComesTo (file_with (codes "step 2 -9223372036854775807" ∷ codes "end" ∷ []))
-      (Stands (record {
-        start = pos 1 ∷ negsuc 1 ∷ [];
-        steps = record { rule = 2; free = negsuc 9223372036854775806 ∷ [] } ∷ [];
-      }))
-  -- rule 0 and rule 4 aren't there; a blank twice; too few values and too many; a value of 2^63
-  pub rule_zero : ComesTo (file_with (codes "step 0" ∷ [])) (refused BadReference 27)
-  pub rule_four : ComesTo (file_with (codes "step 4" ∷ [])) (refused BadReference 27)
-  pub two_blanks : ComesTo (file_with (codes "step 2  1" ∷ [])) (refused Syntax 29)
-  pub too_few : ComesTo (file_with (codes "step 2" ∷ [])) (refused ArityDiffers 28)
-  pub too_many : ComesTo (file_with (codes "step 1 5" ∷ [])) (refused ArityDiffers 30)
-  pub too_large : ComesTo (file_with (codes "step 2 9223372036854775808" ∷ [])) (refused NumberTooLarge 29)
-  pub too_small : ComesTo (file_with (codes "step 2 -9223372036854775808" ∷ [])) (refused NumberTooLarge 29)
-  -- values have no leading zero and no `-` before 0
-  pub minus_zero : ComesTo (file_with (codes "step 2 -0" ∷ [])) (refused Syntax 30)
-  pub leading_zero : ComesTo (file_with (codes "step 2 01" ∷ [])) (refused Syntax 30)
-  -- the number of a rule has no `-`; its first digit may be that of no rule; and 2^32 + 1 isn't 1
-  pub minus_rule : ComesTo (file_with (codes "step -1" ∷ [])) (refused Syntax 27)
-  pub rule_zero_one : ComesTo (file_with (codes "step 01" ∷ [])) (refused BadReference 27)
-  pub wide_rule : ComesTo (file_with (codes "step 4294967297" ∷ [])) (refused BadReference 27)
-  -- a start value is lacking
-  pub start_too_few : ComesTo (codes "koat-run 1" ∷ codes "start 1" ∷ []) (refused ArityDiffers 18)
-  -- of a rule that isn't there and a byte that can't follow the first one counts
-  pub first_counts : ComesTo (file_with (codes "step 4" ∷ codes "stop" ∷ [])) (refused BadReference 27)
-  -- a step behind 1,000,000 is too many, and one behind 999,999 isn't; the line of start values is no step
-  pub full : is_full InRule 1000000 ≡ true
-  pub room : is_full InRule 999999 ≡ false
-  pub no_step_line : is_full InStart 1000000 ≡ false
+  pub told : map (λ r. answer_behind r.text) rows ≡ map (λ r. r.comes) rows
+  -- nothing at all ends too early at 0, and a start value is lacking at byte 18
+  pub empty : answer_to [] ≡ refused Syntax 0
+  pub start_too_few : answer_to (codes "koat-run 1\nstart 1\n") ≡ refused ArityDiffers 18
+  -- a step behind 1,000,000 is too many, and one behind 999,999 isn't
+  pub full : is_full 1000000 ≡ true
+  pub room : is_full 999999 ≡ false
   -- the text of a run
   pub spelled : text_of (record {
     start = pos 1 ∷ negsuc 1 ∷ [];
     steps = record { rule = 1; free = [] } ∷ record { rule = 3; free = pos 10 ∷ negsuc 0 ∷ [] } ∷ [];
-  }) ≡ lines_text (file_with (codes "step 1" ∷ codes "step 3 10 -1" ∷ codes "end" ∷ []))
+  }) ≡ codes "koat-run 1\nstart 1 -2\nstep 1\nstep 3 10 -1\nend\n"

@@ -1,9 +1,11 @@
 //! Why a run file is refused.
 
 ghost use Rattle.std.specs.Prelude.{◌≡◌};
-ghost use Rattle.run_replay.specs.declared.error.RunTextError.TheVariants.{Memory};
+ghost use Rattle.text_grammar.specs.Results.{refused_in};
+ghost use Rattle.run_replay.specs.Views.{refusal_in};
 
-use std::alloc::{AllocError, AllocFailed};
+use crate::kind::RunKind;
+use text_grammar::Refusal;
 use thiserror::Error;
 
 /// Why no run was read. Positions count bytes from 0, and the text's length is the position of its end.
@@ -29,18 +31,21 @@ pub enum RunTextError {
     Memory,
 }
 
-impl From<AllocError> for RunTextError {
-    ghost from_gives = { λ _ e. e ≡ Memory };
+impl From<Refusal<RunKind>> for RunTextError {
+    ghost from_gives = { λ refusal e. refusal_in e ≡ refused_in refusal };
 
-    fn from(_error: AllocError) -> RunTextError {
-        RunTextError::Memory
-    }
-}
-
-impl<T: Drop> From<AllocFailed<T>> for RunTextError {
-    ghost from_gives = { λ _ e. e ≡ Memory };
-
-    fn from(_error: AllocFailed<T>) -> RunTextError {
-        RunTextError::Memory
+    fn from(refusal: Refusal<RunKind>) -> RunTextError {
+        let fault = match refusal {
+            Refusal::Refuses(fault) => fault,
+            Refusal::Memory => return RunTextError::Memory,
+        };
+        let at = fault.at;
+        match fault.kind {
+            RunKind::Syntax => RunTextError::Syntax { at },
+            RunKind::NumberTooLarge => RunTextError::NumberTooLarge { at },
+            RunKind::BadReference => RunTextError::BadReference { at },
+            RunKind::ArityDiffers => RunTextError::ArityDiffers { at },
+            RunKind::Limit => RunTextError::Limit { at },
+        }
     }
 }

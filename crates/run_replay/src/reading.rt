@@ -1,6 +1,6 @@
 //! From a text to its run.
 
-ghost use Rattle.std.specs.Prelude.{◌≡◌, Some, length};
+ghost use Rattle.std.specs.Prelude.{◌≡◌, length};
 ghost use Rattle.its_model.specs.Views.{program_of};
 ghost use Rattle.text_grammar.specs.text_core.Reading.{answer};
 ghost use Rattle.text_grammar.specs.Texts.{reader};
@@ -14,11 +14,10 @@ ghost use Rattle.run_replay.specs.Views.{Answers, GivesBack, refusal_in, run_of}
 use crate::error::RunTextError;
 use crate::file::RunFile;
 use crate::grammar::{CLASSES, ROUNDS, RUN_GRAMMAR};
-use crate::phase::RunKind;
 use crate::text::State;
 use its_model::Program;
 use std::alloc::Global;
-use text_grammar::{Bytes, Cut, OneMode, Refusal, Spelling, Tables, read};
+use text_grammar::read_bytes;
 
 /// Reads the run that a text stands for, as one of a program.
 ///
@@ -45,30 +44,14 @@ fn judge(alloc: Global, p: &Program, bytes: &[u8]) -> Result<RunFile, RunTextErr
     ensures { Tells run_of refusal_in (answer (reader (runs_of (program_of p.now))) (length bytes.now)
         (tokens bytes.now)) result }
 {
-    let tables = Tables::new(alloc, &RUN_GRAMMAR, CLASSES, ROUNDS)?;
-    let cut = Cut::new(Bytes, OneMode::Plain, bytes);
-    match read(
-        alloc,
-        &tables,
-        Spelling::new(State::new(alloc, p)),
-        cut,
-        bytes.len() as u64,
-    ) {
+    let (start, steps) = (Vec::new(alloc), Vec::new(alloc));
+    let text = State {
+        program: p,
+        file: RunFile { start, steps },
+        rule: 0,
+    };
+    match read_bytes(alloc, &RUN_GRAMMAR, CLASSES, ROUNDS, text, bytes) {
         Ok(file) => Ok(file),
-        Err(Refusal::Refuses(fault)) => Err(error_of(fault.kind, fault.at)),
-        Err(Refusal::Memory) => Err(RunTextError::Memory),
-    }
-}
-
-// The error that stands for the refusal of a kind at a position.
-fn error_of(kind: RunKind, at: u64) -> RunTextError
-    ensures { refusal_in result ≡ Some (record { kind = kind; at = at }) }
-{
-    match kind {
-        RunKind::Syntax => RunTextError::Syntax { at },
-        RunKind::NumberTooLarge => RunTextError::NumberTooLarge { at },
-        RunKind::BadReference => RunTextError::BadReference { at },
-        RunKind::ArityDiffers => RunTextError::ArityDiffers { at },
-        RunKind::Limit => RunTextError::Limit { at },
+        Err(refusal) => Err(RunTextError::from(refusal)),
     }
 }

@@ -1,48 +1,24 @@
 //! Run files as texts in bytes: what is remembered of one while it is read.
 
-ghost use Rattle.std.specs.Prelude.{◌≡◌};
 ghost use Rattle.its_model.specs.Views.{program_of};
 ghost use Rattle.run_replay.specs.Runs.{Run};
 ghost use Rattle.run_replay.specs.Texts.{State as StateOf, run_bytes};
 ghost use Rattle.run_replay.specs.Views.{run_of, own_of as own_at};
 
-use crate::faults::{against_number, has_other_arity, is_full};
+use crate::faults::{STEP_LIMIT, is_no_rule, wanted};
 use crate::file::RunFile;
-use crate::grammar::{LETTERS, START_READ, STARTED, STEP_READ};
-use crate::phase::{Phase, RunKind};
+use crate::grammar::LETTERS;
+use crate::kind::RunKind;
 use its_model::{Program, Step};
-use std::alloc::{AllocError, Global};
-use std::mem::replace;
+use std::alloc::AllocError;
 use text_grammar::{ByteText, class_of};
 
-/// A run file of a program, as far as it has been read.
+/// A run file of a program, as far as it has been read, and the number of the rule of its last line, 0 before any step.
 #[derive(Drop)]
 pub struct State<'a> {
-    pub alloc: Global,
     pub program: &'a Program,
-    pub phase: Phase,
-    pub start: Vec<i128>,
-    pub steps: Vec<Step>,
-    pub values: Vec<i128>,
-    pub rule: u32,
-}
-
-impl<'a> State<'a> {
-    /// Nothing has been read.
-    pub fn new(alloc: Global, program: &'a Program) -> State<'a>
-        ensures program { result.program.now ≡ program.now }
-        ensures begun { own_at result ≡ (run_bytes (program_of program.now)).begun }
-    {
-        State {
-            alloc,
-            program,
-            phase: Phase::Header,
-            start: Vec::new(alloc),
-            steps: Vec::new(alloc),
-            values: Vec::new(alloc),
-            rule: 0,
-        }
-    }
+    pub file: RunFile,
+    pub rule: u128,
 }
 
 impl<'a> ByteText for State<'a> {
@@ -64,47 +40,45 @@ impl<'a> ByteText for State<'a> {
         class_of(&LETTERS, byte)
     }
 
-    fn value(&mut self, value: i128) -> Result<(), AllocError> {
-        self.values.push(value)?;
-        Ok(())
-    }
-
     fn natural(&mut self, number: u128) -> Result<(), AllocError> {
-        self.phase = Phase::InStep;
-        self.rule = number.min(u128::from(u32::MAX)) as u32;
+        self.rule = number;
         Ok(())
     }
 
-    fn done(&mut self, mark: u32) -> Result<(), AllocError> {
-        match mark {
-            STARTED => self.phase = Phase::InStart,
-            START_READ => {
-                self.phase = Phase::InRule;
-                self.start = replace(&mut self.values, Vec::new(self.alloc));
-            }
-            STEP_READ => {
-                self.phase = Phase::InRule;
-                let free = replace(&mut self.values, Vec::new(self.alloc));
-                self.steps.push(Step {
-                    rule: self.rule,
-                    free,
-                })?;
-            }
-            _ => {}
+    fn line(&mut self, values: Vec<i128>) -> Result<(), AllocError> {
+        if self.rule == 0 {
+            self.file.start = values;
+        } else {
+            let rule = self.rule.min(u128::from(u32::MAX)) as u32;
+            self.file.steps.push(Step { rule, free: values })?;
         }
         Ok(())
     }
 
-    fn against_number(&self, number: u128) -> Option<RunKind> {
-        against_number(self.program, self.phase, number)
+    fn done(&mut self, mark: u32) -> Result<(), AllocError> {
+        let _mark = mark;
+        Ok(())
+    }
+
+    fn against_natural(&self, number: u128) -> Option<RunKind> {
+        if is_no_rule(self.program, number) {
+            Some(RunKind::BadReference)
+        } else {
+            None
+        }
+    }
+
+    fn against_line(&self, values: usize) -> Option<RunKind> {
+        if values == wanted(self.program, self.rule) as usize {
+            None
+        } else {
+            Some(RunKind::ArityDiffers)
+        }
     }
 
     fn against_byte(&self, byte: u8) -> Option<RunKind> {
         match byte {
-            b'\n' if has_other_arity(self.program, self.phase, self.rule, self.values.len()) => {
-                Some(RunKind::ArityDiffers)
-            }
-            b's' if is_full(self.phase, self.steps.len()) => Some(RunKind::Limit),
+            b's' if self.file.steps.len() >= STEP_LIMIT => Some(RunKind::Limit),
             _ => None,
         }
     }
@@ -123,10 +97,11 @@ impl<'a> ByteText for State<'a> {
         RunKind::Syntax
     }
 
+    fn too_large(&self) -> RunKind {
+        RunKind::NumberTooLarge
+    }
+
     fn finish(self) -> Result<RunFile, AllocError> {
-        Ok(RunFile {
-            start: self.start,
-            steps: self.steps,
-        })
+        Ok(self.file)
     }
 }

@@ -1,6 +1,9 @@
-//! Reads a made run file so often, as its words tell, and writes how many steps were read; for measuring. The words are
-//! how many steps it has and how often it is read.
+//! Reads a made run file, or replays a made run, so often as its words tell, and writes how many steps were read or
+//! counted; for measuring. The words are how many steps it has and how often it is read; behind a word `replay` how
+//! often it is replayed.
 #![tactic(auto)]
+
+mod replays;
 
 use its_model::{Name, Program, Rule, Symbol};
 use outside_io::all_words;
@@ -48,13 +51,13 @@ fn text(alloc: Global, steps: u32) -> Result<Vec<u8>, AllocError> {
 }
 
 // How many steps are read.
-fn steps_read(alloc: Global, steps: u32, times: u32) -> Result<usize, AllocError> {
+fn steps_read(alloc: Global, steps: u32, times: u32) -> Result<u64, AllocError> {
     let program = program(alloc)?;
     let text = text(alloc, steps)?;
     let mut found = 0;
     for _ in 0..times {
         match read_run(alloc, &program, &text) {
-            Ok(file) => found = file.steps.len(),
+            Ok(file) => found = file.steps.len() as u64,
             Err(_) => return Err(AllocError),
         }
     }
@@ -70,9 +73,12 @@ fn number(word: &str) -> u32 {
 }
 
 // What the words ask for.
-fn told(alloc: Global, words: &[String]) -> Result<usize, AllocError> {
+fn told(alloc: Global, words: &[String]) -> Result<u64, AllocError> {
     match words {
         [_, steps, times] => steps_read(alloc, number(steps.as_str()), number(times.as_str())),
+        [_, _, steps, times] => {
+            replays::steps_replayed(alloc, number(steps.as_str()), number(times.as_str()))
+        }
         _ => Err(AllocError),
     }
 }

@@ -1,8 +1,8 @@
 -- Texts of bytes and what they are made of, both ways: numbers, and what is the text's own.
-use Rattle.std.proofs.Common.{◌≡◌, ℕ, zero, suc, ◌-◌, ◌^◌, ◌<◌, ◌≤◌, true, List, [], ◌∷◌, ◌++◌}
-use Rattle.std.proofs.Common.{length, refl, ap, sym, subst, ◌∙◌, arith, append-nil, inl, inr, None}
-use Rattle.std.specs.Prelude.{◌⊎◌, ℤ, pos, negsuc, unsigned_abs}
-use Rattle.std.specs.Fmt.{decimal}
+use Rattle.std.proofs.Common.{◌≡◌, ℕ, zero, suc, ◌-◌, ◌^◌, ◌<◌, ◌≤◌, List, [], ◌∷◌, ◌++◌}
+use Rattle.std.proofs.Common.{length, refl, ap, sym, subst, ◌∙◌, arith, append-nil, append_assoc, inl, inr, Option, Some, None, Bool, true, false, ◌&&◌}
+use Rattle.std.specs.Prelude.{◌⊎◌, ℤ, pos, negsuc, unsigned_abs, nat_lt}
+use Rattle.std.specs.Fmt.{decimal, signed_decimal}
 use Rattle.std.specs.Str.Parse.{AllDigits}
 use Rattle.std.proofs.lemmas.Fmt.{decimal_digit}
 use Rattle.std.proofs.lemmas.Bool.Decides.{nat_tests}
@@ -14,15 +14,20 @@ use Rattle.text_grammar.specs.Grammars.{Event, Read, Did, Derives, alternatives}
 use Rattle.text_grammar.specs.Sounding.{is_readable}
 use Rattle.text_grammar.specs.Texts.{IsLawful, reader}
 use Rattle.text_grammar.specs.Parts.{Part, Says, Does, Puts, events_of, spelled, come, Stand, Values, body_parts}
-use Rattle.text_grammar.specs.ByteTexts.{ByteText, Spelling, Numbered, Value, fresh, with_byte, reads, says}
+use Rattle.text_grammar.specs.Parts.{ComesTo, AreMade, Gives, AllGive, AllMake, Derived, AreDerived}
+use Rattle.text_grammar.specs.ByteTexts.{ByteText, Spelling, Numeral, Numbered, Value, fresh, with_byte, reads, says}
 use Rattle.text_grammar.specs.ByteTexts.{class_of, only, tokens, fold_of, numbers_of, done_mark, grammar_of}
-use Rattle.text_grammar.specs.ByteTexts.{texts_of, number_rule, positive_rule, digits_rule, HasNumbers, IsBounded}
-use Rattle.text_grammar.specs.ByteParts.{Plain, Positive, number_of, ValueOf, parts_of}
+use Rattle.text_grammar.specs.ByteTexts.{texts_of, number_rule, positive_rule, digits_rule, values_rule, HasNumbers}
+use Rattle.text_grammar.specs.ByteTexts.{IsBounded, against_number, value_limit, AreSmall, line_text, values_parts}
+use Rattle.text_grammar.specs.ByteTexts.{value_events, values_events}
+use Rattle.text_grammar.specs.declared.numeral.Within.TheVariants.{Natural as InNatural}
+use Rattle.text_grammar.specs.ByteParts.{Plain, Positive, number_of, ValueOf, parts_of, OwnAreMade}
+use Rattle.text_grammar.specs.Folds.{after}
+use Rattle.text_grammar.proofs.Tests.{both}
 use Rattle.text_grammar.proofs.FoldLaws.{derived_reads, silent_passes, passes_silent, state_after}
-use Rattle.text_grammar.proofs.PartLaws.{ComesTo, AreMade, Gives, AllGive, AllMake, makes_give, derived_value}
-use Rattle.text_grammar.proofs.PartLaws.{value_derived, Derived, AreDerived, events_pass}
+use Rattle.text_grammar.proofs.PartLaws.{makes_give, derived_value, value_derived, events_pass}
 use Rattle.text_grammar.proofs.Numerals.{digit_range, digit_below, decimal_of, positive_of, with, plain_stands}
-use Rattle.text_grammar.proofs.Numerals.{numbers_put, grows_after}
+use Rattle.text_grammar.proofs.Numerals.{numbers_put, grows_after, small, small_value, none_when, lined, behind}
 use Rattle.text_grammar.proofs.ByteLaws.{pieces_bytes, bytes_only}
 use Rattle.text_grammar.proofs.SilenceLaws.{stands_where_silent}
 
@@ -53,6 +58,70 @@ module _ {S T K : Type 0} (x : ByteText S T K) where
   spelled-says [] xs = refl
   spelled-says (b ∷ bs) xs = ap (λ (ds : List ℕ). b ∷ ds) (spelled-says bs xs)
 
+module _ {S T K : Type 0} (x : ByteText S T K) where
+  -- what is left of a line of values, as text and as events
+  values_spelled : (vs : List ℤ) → spelled (fold_of x) (numbers_of x) (values_parts vs) ≡ line_text vs
+  values_spelled [] = refl
+  values_spelled (v ∷ vs) = ap (λ (bs : List ℕ). 32 ∷ (signed_decimal v ++ bs)) (values_spelled vs)
+
+  values_happen : (vs : List ℤ) → events_of (fold_of x) (numbers_of x) (values_parts vs) ≡ values_events vs
+  values_happen [] = refl
+  values_happen (v ∷ vs) = ap (λ (es : List (Event ℕ)). Read 32 ∷ (value_events v ++ es)) (values_happen vs)
+
+-- a kind or none, and whether there is none
+abbrev pub is_no : {K : Type 0} → Option K → Bool
+is_no None = true
+is_no (Some kind) = false
+
+false_true : false ≡ true → ⊥
+false_true e = cc
+
+no_kind : {K : Type 0} (o : Option K) → is_no o ≡ true → o ≡ None
+no_kind None e = refl
+no_kind (Some kind) e = absurd (false_true e)
+
+module _ {S T K : Type 0} (x : ByteText S T K) where
+  -- whether nothing stands against the bytes of a word from a state on
+  abbrev pub passes_word : Spelling S → List ℕ → Bool
+  passes_word s [] = true
+  passes_word s (b ∷ bs) = is_no ((fold_of x).against s b) && passes_word ((fold_of x).read b s) bs
+
+  -- then it stands before what stands behind it, and what is behind a word that stands does
+  pub word_stands : (s : Spelling S) (bs : List ℕ) (xs : List (Part ℕ Numbered)) → passes_word s bs ≡ true
+      → Stand (fold_of x) (numbers_of x) (after (fold_of x) s (reads bs)) xs
+      → Stand (fold_of x) (numbers_of x) s (says bs xs)
+  word_stands s [] xs e h = h
+  word_stands s (b ∷ bs) xs e h =
+      let w = both (is_no ((fold_of x).against s b)) (passes_word ((fold_of x).read b s) bs) e in
+      (no_kind ((fold_of x).against s b) w.0, word_stands ((fold_of x).read b s) bs xs w.1 h)
+
+  pub stand_word : (s : Spelling S) (bs : List ℕ) (xs : List (Part ℕ Numbered))
+      → Stand (fold_of x) (numbers_of x) s (says bs xs)
+      → Stand (fold_of x) (numbers_of x) (after (fold_of x) s (reads bs)) xs
+  stand_word s [] xs h = h
+  stand_word s (b ∷ bs) xs h = stand_word ((fold_of x).read b s) bs xs h.1
+
+module _ {S T K : Type 0} (x : ByteText S T K) (bounded : IsBounded x) where
+  -- what it comes to, and that nothing stands against it only where the values are small and as many as they may be
+  values_come : (vs : List ℤ) (o : S) (m : Numeral) (ws : List ℤ)
+      → come (fold_of x) (numbers_of x) (lined x bounded o m ws) (values_parts vs) ≡ behind x bounded o (ws ++ vs)
+  values_come [] o m ws = ap (behind x bounded o) (sym (append-nil ws))
+  values_come (v ∷ vs) o m ws =
+      values_come vs o fresh (ws ++ v ∷ []) ∙ ap (behind x bounded o) (append_assoc ws (v ∷ []) vs)
+
+  values_stand : (vs : List ℤ) (o : S) (m : Numeral) (ws : List ℤ)
+      → Stand (fold_of x) (numbers_of x) (lined x bounded o m ws) (values_parts vs)
+      → AreSmall vs × (x.against_line o (length (ws ++ vs)) ≡ None)
+  values_stand [] o m ws h = (tt, ap (λ (us : List ℤ). x.against_line o (length us)) (append-nil ws) ∙ h.0)
+  values_stand (v ∷ vs) o m ws h =
+      let r = values_stand vs o fresh (ws ++ v ∷ []) h.1.1 in (
+        (
+          small_value (unsigned_abs v) (none_when (nat_lt value_limit (unsigned_abs v)) x.too_large h.1.0),
+          r.0,
+        ),
+        ap (λ (us : List ℤ). x.against_line o (length us)) (sym (append_assoc ws (v ∷ []) vs)) ∙ r.1,
+      )
+
 -- what is said and then others
 says-append : (bs : List ℕ) (xs : List (Part ℕ Numbered)) → says bs [] ++ xs ≡ says bs xs
 says-append [] xs = refl
@@ -60,14 +129,6 @@ says-append (b ∷ bs) xs = ap (λ (ys : List (Part ℕ Numbered)). Says b ∷ y
 
 module _ {S T K : Type 0} (x : ByteText S T K) (bounded : IsBounded x) (numbers : HasNumbers x.rules)
     (readable : is_readable (grammar_of x) ≡ true) (W : ℕ → Type 0) (own : (n : ℕ) → W n → List (Part ℕ Numbered)) where
-  -- the alternatives of the text's own nonterminals are made of their values
-  pub record OwnAreMade : Type 0 where
-    pub text : AllMake (fold_of x) (numbers_of x) (grammar_of x) (only x.letters) (ValueOf W own) (parts_of W own) 0
-        (alternatives x.rules 0)
-    pub others : (n : ℕ) → AllMake (fold_of x) (numbers_of x) (grammar_of x) (only x.letters) (ValueOf W own)
-        (parts_of W own) (suc (suc (suc (suc (suc (suc n))))))
-        (alternatives x.rules (suc (suc (suc (suc (suc (suc n)))))))
-
   abbrev Given : ℕ → List (List Symbol) → Type 0
   Given n bodies = AllGive (fold_of x) (numbers_of x) (grammar_of x) (only x.letters) (ValueOf W own)
       (parts_of W own) n bodies
@@ -75,14 +136,14 @@ module _ {S T K : Type 0} (x : ByteText S T K) (bounded : IsBounded x) (numbers 
   -- a number that ends at a mark, from its beginning on
   ended : (v : Plain) (s t : Spelling S) (m : ℕ) (ps : List ℕ) → s.numeral.number ≡ 0
       → ComesTo (fold_of x) (numbers_of x) s t ps (says (v.first ∷ v.others) [] ++ Does m ∷ [])
-      → (k : ℕ) × (x.against_number s.own (number_of v) ≡ None) × (decimal (number_of v) ≡ ps)
+      → (k : ℕ) × (against_number x s (number_of v) ≡ None) × (decimal (number_of v) ≡ ps)
       × (done_mark x m (with x bounded s (number_of v) k) ≡ t)
   ended v s t m ps none c =
       let d = subst (ComesTo (fold_of x) (numbers_of x) s t ps) (says-append (v.first ∷ v.others) (Does m ∷ [])) c in
       let w = plain_stands x bounded v s (Does m ∷ []) none d.stands in (
         w.0,
         w.1,
-        decimal_of v (bounded.small s.own (number_of v) w.1) ∙ sym (append-nil (v.first ∷ v.others)) ∙ sym
+        decimal_of v (small x bounded s (number_of v) w.1) ∙ sym (append-nil (v.first ∷ v.others)) ∙ sym
             (spelled-says x (v.first ∷ v.others) (Does m ∷ [])) ∙ d.spells,
         sym w.3 ∙ d.comes,
       )
@@ -102,7 +163,7 @@ module _ {S T K : Type 0} (x : ByteText S T K) (bounded : IsBounded x) (numbers 
           valued (number_of v.plain) (let l =
           grows_after (v.plain.first - 48) v.plain.others in let k = v.some in omega (arith, l, k)) w.0 w.1 w.2 w.3
         where
-          valued : (n : ℕ) → 1 ≤ n → (k : ℕ) → x.against_number s.own n ≡ None
+          valued : (n : ℕ) → 1 ≤ n → (k : ℕ) → against_number x s n ≡ None
               → decimal n ≡ spelled (fold_of x) (numbers_of x) (says (v.plain.first ∷ v.plain.others) [] ++ Does 1 ∷ [])
               → done_mark x 1 (with x bounded (record s { numeral = with_byte 45 fresh }) n k) ≡ t → (z : ℤ)
               × ComesTo (fold_of x) (numbers_of x) s t qs (Puts (Value z) ∷ [])
@@ -126,12 +187,24 @@ module _ {S T K : Type 0} (x : ByteText S T K) (bounded : IsBounded x) (numbers 
       (pos (number_of v), record { spells = append-nil (decimal (number_of v)) ∙ w.2; stands = (w.1, tt); comes = w.3 })
 
   natural_given : Gives (fold_of x) (numbers_of x) (grammar_of x) (only x.letters) (ValueOf W own) (parts_of W own) 2
-      (Mark 0 ∷ Made 3 ∷ Mark 2 ∷ [])
+      (Mark 3 ∷ Made 3 ∷ Mark 2 ∷ [])
   natural_given (v, u) s t ps c =
       let w =
-      ended v (record s { numeral = fresh }) t 2 ps refl
+      ended v (record s { numeral = fresh; within = InNatural }) t 2 ps refl
       (record { spells = c.spells; stands = c.stands; comes = c.comes }) in
       (number_of v, record { spells = append-nil (decimal (number_of v)) ∙ w.2; stands = (w.1, tt); comes = w.3 })
+
+  -- a line of values
+  line_given : Gives (fold_of x) (numbers_of x) (grammar_of x) (only x.letters) (ValueOf W own) (parts_of W own) 6
+      (Mark 4 ∷ Made 7 ∷ [])
+  line_given (vs, u) s t ps c = (
+    vs,
+    record {
+      spells = append-nil (line_text vs) ∙ sym (values_spelled x vs) ∙ c.spells;
+      stands = (values_stand x bounded vs s.own fresh [] c.stands, tt);
+      comes = sym (values_come x bounded vs s.own fresh []) ∙ c.comes;
+    },
+  )
 
   -- digits of each class
   abbrev Making : ℕ → List (List Symbol) → Type 0
@@ -215,8 +288,12 @@ module _ {S T K : Type 0} (x : ByteText S T K) (bounded : IsBounded x) (numbers 
     ),
   )
 
+  -- what is left of a line of values
+  values_made : Making 7 values_rule
+  values_made = (λ (v, (vs, u)). (v ∷ vs, refl), (λ u. ([], refl), tt))
+
   -- so each alternative is made of values
-  are_made : OwnAreMade → AreMade (fold_of x) (numbers_of x) (grammar_of x) (only x.letters) (ValueOf W own)
+  are_made : OwnAreMade x W own → AreMade (fold_of x) (numbers_of x) (grammar_of x) (only x.letters) (ValueOf W own)
       (parts_of W own)
   are_made h = record { each = go }
     where
@@ -235,10 +312,14 @@ module _ {S T K : Type 0} (x : ByteText S T K) (bounded : IsBounded x) (numbers 
       go (suc (suc (suc (suc (suc zero))))) =
           subst (Given 5) (sym numbers.digits) (makes_give (fold_of x) (numbers_of x) (grammar_of x) (only x.letters)
           (ValueOf W own) (parts_of W own) 5 digits_rule digits_made)
-      go (suc (suc (suc (suc (suc (suc n)))))) =
+      go (suc (suc (suc (suc (suc (suc zero)))))) = subst (Given 6) (sym numbers.line) (line_given, tt)
+      go (suc (suc (suc (suc (suc (suc (suc zero))))))) =
+          subst (Given 7) (sym numbers.values) (makes_give (fold_of x) (numbers_of x) (grammar_of x) (only x.letters)
+          (ValueOf W own) (parts_of W own) 7 values_rule values_made)
+      go (suc (suc (suc (suc (suc (suc (suc (suc n)))))))) =
           makes_give (fold_of x) (numbers_of x) (grammar_of x) (only x.letters) (ValueOf W own) (parts_of W own)
-          (suc (suc (suc (suc (suc (suc n)))))) (alternatives x.rules (suc (suc (suc (suc (suc (suc n)))))))
-          (h.others n)
+          (suc (suc (suc (suc (suc (suc (suc (suc n))))))))
+          (alternatives x.rules (suc (suc (suc (suc (suc (suc (suc (suc n))))))))) (h.others n)
 
   -- values are derived
   abbrev pub IsDerived : (n : ℕ) → ValueOf W own n → Type 0
@@ -349,26 +430,43 @@ module _ {S T K : Type 0} (x : ByteText S T K) (bounded : IsBounded x) (numbers 
 
   pub each_natural : (n : ℕ) → n < 2 ^ 64 → IsDerived 2 n
   each_natural n l = let v = number_derived n l in
-      alone 2 _ _ (marked 2 2 (Did 0 ∷ []) [] (v.0.first ∷ v.0.others) (decimal n) v.1
-      (by 2 (Mark 0 ∷ Made 3 ∷ Mark 2 ∷ []) (among_in x.rules 2 _ _ numbers.natural (inl refl)) (v.0, tt)
+      alone 2 _ _ (marked 2 2 (Did 3 ∷ []) [] (v.0.first ∷ v.0.others) (decimal n) v.1
+      (by 2 (Mark 3 ∷ Made 3 ∷ Mark 2 ∷ []) (among_in x.rules 2 _ _ numbers.natural (inl refl)) (v.0, tt)
       (v.2, tt)))
+
+  -- what is left of a line of small values, and such a line
+  values_derived : (vs : List ℤ) → AreSmall vs → IsDerived 7 vs
+  values_derived [] l =
+      by 7 (Piece 5 ∷ Mark 5 ∷ []) (among_in x.rules 7 _ _ numbers.values (inr (inl refl))) tt tt
+  values_derived (v ∷ vs) l =
+      by 7 (Piece 4 ∷ Made 1 ∷ Made 7 ∷ []) (among_in x.rules 7 _ _ numbers.values (inl refl)) (v, (vs, tt))
+      (each_value v (let k = l.0 in omega (arith, k)), (values_derived vs l.1, tt))
+
+  pub each_line : (vs : List ℤ) → AreSmall vs → IsDerived 6 vs
+  each_line vs l =
+      alone 6 _ _ (subst (λ (es : List (Event ℕ)). Derives (grammar_of x) (Made 6 ∷ []) (Did 4 ∷ es) (line_text vs))
+      (values_happen x vs)
+      (subst (λ (ps : List ℕ). Derives (grammar_of x) (Made 6 ∷ [])
+      (Did 4 ∷ events_of (fold_of x) (numbers_of x) (values_parts vs)) ps) (values_spelled x vs)
+      (by 6 (Mark 4 ∷ Made 7 ∷ []) (among_in x.rules 6 _ _ numbers.line (inl refl)) (vs, tt)
+      (values_derived vs l, tt))))
 
   -- nothing stands against a text, and what it comes to
   abbrev pub TextStands : W 0 → Type 0
-  TextStands w = Stand (fold_of x) (numbers_of x) (record { own = x.begun; numeral = fresh }) (own 0 w)
+  TextStands w = Stand (fold_of x) (numbers_of x) (fold_of x).begun (own 0 w)
 
   abbrev pub tree_of : W 0 → T
-  tree_of w = x.tree (come (fold_of x) (numbers_of x) (record { own = x.begun; numeral = fresh }) (own 0 w)).own
+  tree_of w = x.tree (come (fold_of x) (numbers_of x) (fold_of x).begun (own 0 w)).own
 
   -- where a tree is answered, the bytes are what a text is spelled as, against which nothing stands
-  pub answered : OwnAreMade → IsLawful (texts_of x) → (bytes : List ℕ) (t : T)
+  pub answered : OwnAreMade x W own → IsLawful (texts_of x) → (bytes : List ℕ) (t : T)
       → answer (reader (texts_of x)) (length bytes) (tokens bytes) ≡ Stands t
       → (w : W 0) × (spelled (fold_of x) (numbers_of x) (own 0 w) ≡ bytes) × TextStands w × (tree_of w ≡ t)
   answered made lawful bytes t e =
       let w = (stands_where_silent (texts_of x) lawful).stands (length bytes) (tokens bytes) t e in
       let d =
       derived_value (fold_of x) (numbers_of x) (grammar_of x) (only x.letters) (ValueOf W own) (parts_of W own)
-      (bytes_only x readable) (are_made made) 0 w.1 (record { own = x.begun; numeral = fresh })
+      (bytes_only x readable) (are_made made) 0 w.1 (fold_of x).begun
       (silent_passes (fold_of x) (grammar_of x) [] w.0 (tokens bytes) (derived_reads (grammar_of x) w.1) w.3) in (
         d.0,
         d.1.spells ∙ pieces_bytes bytes,
@@ -383,7 +481,7 @@ module _ {S T K : Type 0} (x : ByteText S T K) (bounded : IsBounded x) (numbers 
   taken lawful w d s bytes e =
       let es : List (Event ℕ) = events_of (fold_of x) (numbers_of x) (own 0 w) in
       let p =
-      events_pass (fold_of x) (numbers_of x) (numbers_put x bounded) (record { own = x.begun; numeral = fresh })
+      events_pass (fold_of x) (numbers_of x) (numbers_put x bounded) (fold_of x).begun
       (own 0 w) s in
       let derived = subst (Derives (grammar_of x) (Made 0 ∷ []) es) (e ∙ sym (pieces_bytes bytes)) d in
       (stands_where_silent (texts_of x) lawful).silent (length bytes) (tokens bytes) es derived

@@ -1,5 +1,5 @@
 -- Texts of bytes are lawful where their grammar can be read and their kinds differ.
-use Rattle.std.proofs.Common.{◌≡◌, ℕ, zero, suc, ◌+◌, ◌-◌, ◌<◌, ◌≤◌, Bool, true, false, cond, List, [], ◌∷◌, length}
+use Rattle.std.proofs.Common.{◌≡◌, ℕ, zero, suc, ◌+◌, ◌-◌, ◌<◌, ◌≤◌, Bool, true, false, cond, List, [], ◌∷◌, ◌++◌, length}
 use Rattle.std.proofs.Common.{refl, ap, sym, subst, ◌∙◌, arith, inl, inr, Option, Some, None}
 use Rattle.std.specs.Prelude.{◌==◌, slice_get}
 use Rattle.std.specs.Char.{is_ascii_digit}
@@ -12,11 +12,12 @@ use Rattle.text_grammar.specs.declared.cut.OneMode.TheVariants.{Plain}
 use Rattle.text_grammar.specs.Sounding.{is_readable}
 use Rattle.text_grammar.specs.Texts.{IsLawful}
 use Rattle.text_grammar.specs.Folds.{refusals, state}
-use Rattle.text_grammar.specs.ByteTexts.{ByteText, Spelling, Numeral, bytes_lexer, bytes_within, tokens, place_of}
+use Rattle.text_grammar.specs.ByteTexts.{ByteText, Spelling, Numeral, bytes_lexer, bytes_within, tokens, position_of}
 use Rattle.text_grammar.specs.ByteTexts.{class_of, only, byte_or, one_more, with_byte, fresh, fold_of}
-use Rattle.text_grammar.specs.ByteTexts.{done_mark, grammar_of, texts_of}
+use Rattle.text_grammar.specs.ByteTexts.{done_mark, grammar_of, texts_of, signed}
+use Rattle.text_grammar.specs.declared.numeral.Within.TheVariants.{Words, Natural as InNatural, Line as InLine}
 use Rattle.text_grammar.proofs.Readable.{readable_if}
-use Rattle.text_grammar.proofs.PartLaws.{IsOnly}
+use Rattle.text_grammar.specs.Parts.{IsOnly}
 
 -- the pieces of a text are its bytes
 pub pieces_bytes : (bytes : List ℕ) → pieces (tokens bytes) ≡ bytes
@@ -34,22 +35,22 @@ tokens_in_order bytes =
     omega arith in e) (subst (λ (n : ℕ). AreInOrder n (tokens bytes) (0 + length bytes))
     (let e : 0 + 0 ≡ 0 = omega arith in e) o)
 
--- the byte at the place of another is that one
-placed : (cs : List ℕ) (q p : ℕ) → slice_get cs (place_of cs q) ≡ Some p → q ≡ p
+-- the byte at the position of another is that one
+placed : (cs : List ℕ) (q p : ℕ) → slice_get cs (position_of cs q) ≡ Some p → q ≡ p
 placed [] q p e = cc
 placed (c ∷ cs) q p e = go (q == c) refl e (placed cs q p)
   where
-    go : (v : Bool) → (q == c) ≡ v → slice_get (c ∷ cs) (cond v 0 (suc (place_of cs q))) ≡ Some p
-        → (slice_get cs (place_of cs q) ≡ Some p → q ≡ p) → q ≡ p
+    go : (v : Bool) → (q == c) ≡ v → slice_get (c ∷ cs) (cond v 0 (suc (position_of cs q))) ≡ Some p
+        → (slice_get cs (position_of cs q) ≡ Some p → q ≡ p) → q ≡ p
     go true k e ih = let same : c ≡ p = cc in eqb-true q c k ∙ same
     go false k e ih = ih e
 
--- and that place is at most their number
-place_most : (cs : List ℕ) (b : ℕ) → place_of cs b ≤ length cs
-place_most [] b = omega arith
-place_most (c ∷ cs) b = go (b == c) (place_most cs b)
+-- and that position is at most their number
+position_most : (cs : List ℕ) (b : ℕ) → position_of cs b ≤ length cs
+position_most [] b = omega arith
+position_most (c ∷ cs) b = go (b == c) (position_most cs b)
   where
-    go : (v : Bool) → place_of cs b ≤ length cs → cond v 0 (suc (place_of cs b)) ≤ length (c ∷ cs)
+    go : (v : Bool) → position_of cs b ≤ length cs → cond v 0 (suc (position_of cs b)) ≤ length (c ∷ cs)
     go true h = omega arith
     go false h = omega (arith, h)
 
@@ -61,40 +62,49 @@ get_below (c ∷ cs) (suc k) p e = let h = get_below cs k p e in omega (arith, h
 
 module _ (letters : List ℕ) where
   -- each byte has one of the classes
-  classed : (b : ℕ) → class_of letters b < 5 + length letters
-  classed b = go (b == 48) (b == 49) (is_ascii_digit b) (b == 45) (place_most letters b)
+  classed : (b : ℕ) → class_of letters b < 7 + length letters
+  classed b = go (b == 48) (b == 49) (is_ascii_digit b) (b == 45) (b == 32) (b == 10) (position_most letters b)
     where
-      go : (u v w y : Bool) → place_of letters b ≤ length letters
-          → cond u 0 (cond v 1 (cond w 2 (cond y 3 (suc (suc (suc (suc (place_of letters b)))))))) < 5 + length letters
-      go true v w y h = omega arith
-      go false true w y h = omega arith
-      go false false true y h = omega arith
-      go false false false true h = omega arith
-      go false false false false h = omega (arith, h)
+      go : (u v w y z f : Bool) → position_of letters b ≤ length letters
+          → cond u 0 (cond v 1 (cond w 2 (cond y 3 (cond z 4 (cond f 5
+          (suc (suc (suc (suc (suc (suc (position_of letters b)))))))))))) < 7 + length letters
+      go true v w y z f h = omega arith
+      go false true w y z f h = omega arith
+      go false false true y z f h = omega arith
+      go false false false true z f h = omega arith
+      go false false false false true f h = omega arith
+      go false false false false false true h = omega arith
+      go false false false false false false h = omega (arith, h)
 
   -- a byte of a class with one byte alone is that
   only_one : (q p : ℕ) → only letters (class_of letters q) ≡ Some p → q ≡ p
-  only_one q p e = go (q == 48) (q == 49) (is_ascii_digit q) (q == 45) refl refl refl e
+  only_one q p e =
+      go (q == 48) (q == 49) (is_ascii_digit q) (q == 45) (q == 32) (q == 10) refl refl refl refl refl e
     where
       some : (b : ℕ) → Some b ≡ Some p → b ≡ p
       some b e = cc
 
-      go : (u v w y : Bool) → (q == 48) ≡ u → (q == 49) ≡ v → (q == 45) ≡ y
-          → only letters (cond u 0 (cond v 1 (cond w 2 (cond y 3 (suc (suc (suc (suc (place_of letters q)))))))))
+      go : (u v w y z f : Bool) → (q == 48) ≡ u → (q == 49) ≡ v → (q == 45) ≡ y → (q == 32) ≡ z → (q == 10) ≡ f
+          → only letters (cond u 0 (cond v 1 (cond w 2 (cond y 3 (cond z 4 (cond f 5
+          (suc (suc (suc (suc (suc (suc (position_of letters q)))))))))))))
           ≡ Some p → q ≡ p
-      go true v w y f g k e = eqb-true q 48 f ∙ some 48 e
-      go false true w y f g k e = eqb-true q 49 g ∙ some 49 e
-      go false false true y f g k e = cc
-      go false false false true f g k e = eqb-true q 45 k ∙ some 45 e
-      go false false false false f g k e = placed letters q p e
+      go true v w y z f a b c d k e = eqb-true q 48 a ∙ some 48 e
+      go false true w y z f a b c d k e = eqb-true q 49 b ∙ some 49 e
+      go false false true y z f a b c d k e = cc
+      go false false false true z f a b c d k e = eqb-true q 45 c ∙ some 45 e
+      go false false false false true f a b c d k e = eqb-true q 32 d ∙ some 32 e
+      go false false false false false true a b c d k e = eqb-true q 10 k ∙ some 10 e
+      go false false false false false false a b c d k e = placed letters q p e
 
   -- a class with one byte alone is one of the classes
-  only_below : (c p : ℕ) → only letters c ≡ Some p → c < 5 + length letters
+  only_below : (c p : ℕ) → only letters c ≡ Some p → c < 7 + length letters
   only_below zero p e = omega arith
   only_below (suc zero) p e = omega arith
   only_below (suc (suc zero)) p e = omega arith
   only_below (suc (suc (suc zero))) p e = omega arith
-  only_below (suc (suc (suc (suc k)))) p e = let h = get_below letters k p e in omega (arith, h)
+  only_below (suc (suc (suc (suc zero)))) p e = omega arith
+  only_below (suc (suc (suc (suc (suc zero))))) p e = omega arith
+  only_below (suc (suc (suc (suc (suc (suc k)))))) p e = let h = get_below letters k p e in omega (arith, h)
 
 -- a refusal stands where it stands
 refused_at : {K : Type 0} (o : Option K) (at : ℕ) (y : Fault K) → Among y (refusals o at) → y.at ≡ at
@@ -105,16 +115,24 @@ refused_at (Some kind) at y (inr a) = absurd a
 module _ {S T K : Type 0} (x : ByteText S T K) where
   -- marks make it no more how much of a number has been read
   spelled_done : (m : ℕ) (s : Spelling S) → (done_mark x m s).numeral.spelled ≤ s.numeral.spelled
-  spelled_done m s = go (m == 0) (m == 1) (m == 2) _ _ _ (omega arith)
+  spelled_done m s = go (m == 0) (m == 1) (m == 2) (m == 3) (m == 4) (m == 5) _ _ _ (omega arith)
     where
-      go : (u v w : Bool) (a b c : S) → s.numeral.spelled ≤ s.numeral.spelled
-          → (cond u (record s { numeral = fresh }) (cond v (record { own = a; numeral = fresh })
-          (cond w (record { own = b; numeral = fresh }) (record s { own = c })))).numeral.spelled
+      go : (t u v w y z : Bool) (a b c : S) → s.numeral.spelled ≤ s.numeral.spelled
+          → (cond t (record s { numeral = fresh })
+          (cond u (record s { numeral = fresh; values = s.values ++ signed s.numeral ∷ [] })
+          (cond v (record s { own = a; numeral = fresh; within = Words })
+          (cond w (record s { numeral = fresh; within = InNatural })
+          (cond y (record s { numeral = fresh; within = InLine; values = [] })
+          (cond z (record { own = b; numeral = fresh; within = Words; values = [] })
+          (record s { own = c }))))))).numeral.spelled
           ≤ s.numeral.spelled
-      go true v w a b c h = omega arith
-      go false true w a b c h = omega arith
-      go false false true a b c h = omega arith
-      go false false false a b c h = h
+      go true u v w y z a b c h = omega arith
+      go false true v w y z a b c h = omega arith
+      go false false true w y z a b c h = omega arith
+      go false false false true y z a b c h = omega arith
+      go false false false false true z a b c h = omega arith
+      go false false false false false true a b c h = omega arith
+      go false false false false false false a b c h = h
 
   -- a byte makes it at most one more
   spelled_read : (b : ℕ) (m : Numeral) → (with_byte b m).spelled ≤ m.spelled + 1

@@ -63,7 +63,7 @@ module _ {P S T K : Type 0} (f : Fold P S T K) where
       let same : p ≡ t.piece = cc in
       let rest : pieces_read es ≡ pieces ts = cc in (
         subst (λ (q : P). f.against (state f before) q ≡ None) (sym same)
-            (none_refused (f.against (state f before) t.piece) (f.place (state f before) t) s.0),
+            (none_refused (f.against (state f before) t.piece) (f.position (state f before) t) s.0),
         silent_passes g (Read p ∷ before) es ts rest s.1,
       )
 
@@ -75,7 +75,7 @@ module _ {P S T K : Type 0} (f : Fold P S T K) where
   passes_silent g before (Read p ∷ es) (t ∷ ts) e s =
       let same : p ≡ t.piece = cc in
       let rest : pieces_read es ≡ pieces ts = cc in (
-        ap (λ (o : Option K). refusals o (f.place (state f before) t))
+        ap (λ (o : Option K). refusals o (f.position (state f before) t))
             (subst (λ (q : P). f.against (state f before) q ≡ None) same s.0),
         passes_silent g (Read p ∷ before) es ts rest s.1,
       )

@@ -18,6 +18,9 @@ pub mod Numerals
 pub mod ByteLaws
 pub mod ByteDerivations
 pub mod ResultLaws
+pub mod Apart
+pub mod SmallRowLaws
+mod WorkedRowLaws
 pub mod WorkedGrammars
 -- the crate below, of which those above cite lemmas through this one
 pub use Rattle.text_core.proofs as text_core

@@ -1,7 +1,7 @@
 -- Numbers in texts of bytes, digit by digit.
 use Rattle.std.proofs.Common.{◌≡◌, ℕ, zero, suc, ◌+◌, ◌*◌, ◌-◌, ◌^◌, ◌<◌, ◌≤◌, min, Bool, true, cond, List, []}
-use Rattle.std.proofs.Common.{◌∷◌, ◌++◌, length, get_or, refl, ap, sym, subst, ◌∙◌, arith}
-use Rattle.std.specs.Prelude.{None, pos, negsuc, ◌==◌}
+use Rattle.std.proofs.Common.{◌∷◌, ◌++◌, length, get_or, refl, ap, sym, subst, ◌∙◌, arith, append-nil, append_assoc}
+use Rattle.std.specs.Prelude.{None, ℤ, pos, negsuc, unsigned_abs, ◌==◌, nat_lt, false}
 use Rattle.std.specs.Char.{is_ascii_digit, digit_value}
 use Rattle.std.specs.Fmt.{decimal}
 use Rattle.std.specs.Str.Parse.{AllDigits, digits_value, digits_value_after}
@@ -11,19 +11,23 @@ use Rattle.std.proofs.lemmas.Bool.Decides.{nat_tests}
 use Rattle.text_grammar.specs.Grammars.{Read, Did}
 use Rattle.text_grammar.specs.Folds.{after, Passes}
 use Rattle.text_grammar.specs.Parts.{Part, come, Stand}
-use Rattle.text_grammar.specs.ByteTexts.{ByteText, Spelling, Numbered, Value, Natural, fresh, one_more}
-use Rattle.text_grammar.specs.ByteTexts.{with_byte, reads, says, fold_of, numbers_of, number_events}
-use Rattle.text_grammar.specs.ByteTexts.{NumberStands, put_number, against_next, done_mark, IsBounded}
+use Rattle.text_grammar.specs.ByteTexts.{ByteText, Spelling, Numeral, Numbered, Value, Natural, Line, fresh, one_more}
+use Rattle.text_grammar.specs.ByteTexts.{with_byte, reads, says, fold_of, numbers_of, number_events, value_events}
+use Rattle.text_grammar.specs.ByteTexts.{values_events, NumberStands, put_number, against_in, against_number}
+use Rattle.text_grammar.specs.ByteTexts.{against_feed, against_next, done_mark, IsBounded, value_limit, AreSmall}
+use Rattle.text_grammar.specs.declared.numeral.Within.{Within}
+use Rattle.text_grammar.specs.declared.numeral.Within.TheVariants.{Words, Natural as InNatural, Line as InLine}
+use Rattle.text_core.specs.Choices.{when}
 use Rattle.text_grammar.specs.ByteParts.{Plain, Positive, number_of}
 use Rattle.text_grammar.proofs.FoldLaws.{after_append, passes_append}
-use Rattle.text_grammar.proofs.PartLaws.{IsPut}
+use Rattle.text_grammar.specs.Parts.{IsPut}
 
 -- a digit's byte, and its value
 pub digit_range : (c : ℕ) → digit_value c < 10 → (48 ≤ c) × (c ≤ 57) × (digit_value c ≡ c - 48)
 digit_range c h = (grind (arith, nat_tests), grind (arith, nat_tests), grind (arith, nat_tests))
 
 -- bytes from `0` to `9` are digits
-is_digit : (b : ℕ) → 48 ≤ b → b ≤ 57 → is_ascii_digit b ≡ true
+pub is_digit : (b : ℕ) → 48 ≤ b → b ≤ 57 → is_ascii_digit b ≡ true
 is_digit b h k = grind (arith, nat_tests)
 
 pub digit_below : (b : ℕ) → 48 ≤ b → b ≤ 57 → digit_value b < 10
@@ -83,22 +87,61 @@ positive_of n some small =
       ap (λ (m : ℕ). digits_value_after 10 m ds) (let k = r.2 in omega (arith, k)) ∙ e,
     )
 
+-- no refusal comes where a test fails, and only there
+pub none_when : {K : Type 0} (test : Bool) (kind : K) → when test kind ≡ None → test ≡ false
+none_when true kind e = cc
+none_when false kind e = refl
+
+pub when_none : {K : Type 0} (test : Bool) (kind : K) → test ≡ false → when test kind ≡ None
+when_none test kind e = ap (λ (v : Bool). when v kind) e
+
+-- a value is small exactly where it isn't too large
+pub small_value : (n : ℕ) → nat_lt value_limit n ≡ false → n ≤ value_limit
+small_value n h = grind (arith, nat_tests)
+
+pub value_small : (n : ℕ) → n ≤ value_limit → nat_lt value_limit n ≡ false
+value_small n h = grind (arith, nat_tests)
+
 module _ {S T K : Type 0} (x : ByteText S T K) (h : IsBounded x) where
+  -- a number against which nothing stands is below 2^64
+  pub small : (s : Spelling S) (n : ℕ) → against_number x s n ≡ None → n < 2 ^ 64
+  small s n e = go s.within e
+    where
+      go : (w : Within) → against_in x w s.own n ≡ None → n < 2 ^ 64
+      go InNatural e = h.small s.own n e
+      go InLine e = let l = small_value n (none_when (nat_lt value_limit n) x.too_large e) in omega (arith, l)
+      go Words e = let l = small_value n (none_when (nat_lt value_limit n) x.too_large e) in omega (arith, l)
+
+  -- and nothing stands against lesser ones from 1 on
+  below : (s : Spelling S) (m n : ℕ) → 1 ≤ m → m ≤ n → against_number x s n ≡ None → against_number x s m ≡ None
+  below s m n some l e = go s.within e
+    where
+      valued : when (nat_lt value_limit n) x.too_large ≡ None → when (nat_lt value_limit m) x.too_large ≡ None
+      valued e =
+          let k = small_value n (none_when (nat_lt value_limit n) x.too_large e) in
+          when_none (nat_lt value_limit m) x.too_large (value_small m (omega (arith, l, k)))
+
+      go : (w : Within) → against_in x w s.own n ≡ None → against_in x w s.own m ≡ None
+      go InNatural e = h.below s.own m n some l e
+      go InLine e = valued e
+      go Words e = valued e
+
   -- a state with another number that is being spelled
   abbrev pub with : Spelling S → ℕ → ℕ → Spelling S
   with s n k = record s { numeral = record s.numeral { number = n; spelled = k } }
 
   -- what stands against a digit stands against its number
   digit_against : (s : Spelling S) (b : ℕ) → is_ascii_digit b ≡ true
-      → against_next x s b ≡ x.against_number s.own (s.numeral.number * 10 + (b - 48))
+      → against_next x s b ≡ against_number x s (s.numeral.number * 10 + (b - 48))
   digit_against s b d =
-      ap (λ (v : Bool). cond v (x.against_number s.own (s.numeral.number * 10 + (b - 48))) (x.against_byte s.own b)) d
+      ap (λ (v : Bool). cond v (against_number x s (s.numeral.number * 10 + (b - 48)))
+      (cond (b == 10) (against_feed x s.within s.own (length s.values)) (x.against_byte s.own b))) d
 
   -- a digit is read
   digit_read : (s : Spelling S) (b : ℕ) → is_ascii_digit b ≡ true → s.numeral.number * 10 + (b - 48) < 2 ^ 64
       → (fold_of x).read b s ≡ with s (s.numeral.number * 10 + (b - 48)) (one_more s.numeral.spelled)
   digit_read s b d l =
-      let small : min (s.numeral.number * 10 + (b - 48)) (2 ^ 64)
+      let capped : min (s.numeral.number * 10 + (b - 48)) (2 ^ 64)
       ≡ s.numeral.number * 10 + (b - 48) = omega (arith, l) in
       ap (λ (v : Bool). record s {
         numeral =
@@ -108,22 +151,22 @@ module _ {S T K : Type 0} (x : ByteText S T K) (h : IsBounded x) where
             })
             (cond (b == 45) (record s.numeral { negative = true; spelled = one_more s.numeral.spelled }) fresh);
       }) d
-      ∙ ap (λ (n : ℕ). with s n (one_more s.numeral.spelled)) small
+      ∙ ap (λ (n : ℕ). with s n (one_more s.numeral.spelled)) capped
 
   -- a digit that is read, with nothing against its number
   one_digit : (s : Spelling S) (b n : ℕ) → 48 ≤ b → b ≤ 57 → s.numeral.number * 10 + (b - 48) ≡ n
-      → x.against_number s.own n ≡ None → (against_next x s b ≡ None)
+      → against_number x s n ≡ None → (against_next x s b ≡ None)
       × ((fold_of x).read b s ≡ with s n (one_more s.numeral.spelled))
   one_digit s b n low high e k =
       let d = is_digit b low high in
-      let l = h.small s.own n k in (
-        digit_against s b d ∙ ap (x.against_number s.own) e ∙ k,
+      let l = small s n k in (
+        digit_against s b d ∙ ap (against_number x s) e ∙ k,
         digit_read s b d (omega (arith, e, l)) ∙ ap (λ (m : ℕ). with s m (one_more s.numeral.spelled)) e,
       )
 
   -- digits behind a number from 1 on
   digits_pass : (ds : List ℕ) (s : Spelling S) → AllDigits 10 ds → 1 ≤ s.numeral.number
-      → x.against_number s.own (digits_value_after 10 s.numeral.number ds) ≡ None
+      → against_number x s (digits_value_after 10 s.numeral.number ds) ≡ None
       → (k : ℕ) × Passes (fold_of x) s (reads ds) ×
       (after (fold_of x) s (reads ds) ≡ with s (digits_value_after 10 s.numeral.number ds) k)
   digits_pass [] s all some k = (s.numeral.spelled, tt, refl)
@@ -132,7 +175,7 @@ module _ {S T K : Type 0} (x : ByteText S T K) (h : IsBounded x) where
       let n : ℕ = s.numeral.number * 10 + digit_value c in
       let one =
       one_digit s c n r.0 r.1 (let e = r.2 in omega (arith, e))
-      (h.below s.own n (digits_value_after 10 n ds) (omega (arith, some)) (grows_after n ds) k) in
+      (below s n (digits_value_after 10 n ds) (omega (arith, some)) (grows_after n ds) k) in
       let w = digits_pass ds (with s n (one_more s.numeral.spelled)) all.1 (omega (arith, some)) k in (
         w.0,
         (one.0, subst (λ (t : Spelling S). Passes (fold_of x) t (reads ds)) (sym one.1) w.1),
@@ -141,13 +184,13 @@ module _ {S T K : Type 0} (x : ByteText S T K) (h : IsBounded x) where
       )
 
   -- digits without a leading zero, from the beginning of a number
-  plain_pass : (v : Plain) (s : Spelling S) → s.numeral.number ≡ 0 → x.against_number s.own (number_of v) ≡ None
+  plain_pass : (v : Plain) (s : Spelling S) → s.numeral.number ≡ 0 → against_number x s (number_of v) ≡ None
       → (k : ℕ) × Passes (fold_of x) s (reads (v.first ∷ v.others))
       × (after (fold_of x) s (reads (v.first ∷ v.others)) ≡ with s (number_of v) k)
   plain_pass v s none k = go v.others v.digits v.lead k
     where
       go : (ds : List ℕ) → AllDigits 10 ds → (v.first ≡ 48 → ds ≡ [])
-          → x.against_number s.own (digits_value_after 10 (v.first - 48) ds) ≡ None
+          → against_number x s (digits_value_after 10 (v.first - 48) ds) ≡ None
           → (k : ℕ) × Passes (fold_of x) s (Read v.first ∷ reads ds)
           × (after (fold_of x) s (Read v.first ∷ reads ds) ≡ with s (digits_value_after 10 (v.first - 48) ds) k)
       go [] all lead k =
@@ -157,7 +200,7 @@ module _ {S T K : Type 0} (x : ByteText S T K) (h : IsBounded x) where
           let some : 1 ≤ v.first - 48 = above v.first v.low (λ e. not_empty c ds (lead e)) in
           let one =
           one_digit s v.first (v.first - 48) v.low v.high (omega (arith, none))
-          (h.below s.own (v.first - 48) (digits_value_after 10 (v.first - 48) (c ∷ ds)) some
+          (below s (v.first - 48) (digits_value_after 10 (v.first - 48) (c ∷ ds)) some
           (grows_after (v.first - 48) (c ∷ ds)) k) in
           let w = digits_pass (c ∷ ds) (with s (v.first - 48) (one_more s.numeral.spelled)) all some k in (
             w.0,
@@ -168,8 +211,8 @@ module _ {S T K : Type 0} (x : ByteText S T K) (h : IsBounded x) where
 
   -- digits against which nothing stands, and parts behind them
   digits_stand : (ds : List ℕ) (s : Spelling S) (xs : List (Part ℕ Numbered)) → AllDigits 10 ds
-      → x.against_number s.own s.numeral.number ≡ None → Stand (fold_of x) (numbers_of x) s (says ds xs)
-      → (k : ℕ) × (x.against_number s.own (digits_value_after 10 s.numeral.number ds) ≡ None)
+      → against_number x s s.numeral.number ≡ None → Stand (fold_of x) (numbers_of x) s (says ds xs)
+      → (k : ℕ) × (against_number x s (digits_value_after 10 s.numeral.number ds) ≡ None)
       × Stand (fold_of x) (numbers_of x) (with s (digits_value_after 10 s.numeral.number ds) k) xs
       × (come (fold_of x) (numbers_of x) s (says ds xs)
       ≡ come (fold_of x) (numbers_of x) (with s (digits_value_after 10 s.numeral.number ds) k) xs)
@@ -178,7 +221,7 @@ module _ {S T K : Type 0} (x : ByteText S T K) (h : IsBounded x) where
       let r = digit_range c all.0 in
       let n : ℕ = s.numeral.number * 10 + digit_value c in
       let same : s.numeral.number * 10 + (c - 48) ≡ n = (let e = r.2 in omega (arith, e)) in
-      let here : x.against_number s.own n ≡ None = ap (x.against_number s.own) (sym same) ∙ sym
+      let here : against_number x s n ≡ None = ap (against_number x s) (sym same) ∙ sym
       (digit_against s c (is_digit c r.0 r.1)) ∙ stands.0 in
       let one = one_digit s c n r.0 r.1 same here in
       let w =
@@ -189,14 +232,14 @@ module _ {S T K : Type 0} (x : ByteText S T K) (h : IsBounded x) where
   -- the same from the beginning of a number
   pub plain_stands : (v : Plain) (s : Spelling S) (xs : List (Part ℕ Numbered)) → s.numeral.number ≡ 0
       → Stand (fold_of x) (numbers_of x) s (says (v.first ∷ v.others) xs)
-      → (k : ℕ) × (x.against_number s.own (number_of v) ≡ None)
+      → (k : ℕ) × (against_number x s (number_of v) ≡ None)
       × Stand (fold_of x) (numbers_of x) (with s (number_of v) k) xs
       × (come (fold_of x) (numbers_of x) s (says (v.first ∷ v.others) xs)
       ≡ come (fold_of x) (numbers_of x) (with s (number_of v) k) xs)
   plain_stands v s xs none stands =
       let same : s.numeral.number * 10 + (v.first - 48) ≡ v.first - 48 = omega (arith, none) in
-      let here : x.against_number s.own (v.first - 48)
-      ≡ None = ap (x.against_number s.own) (sym same) ∙ sym
+      let here : against_number x s (v.first - 48)
+      ≡ None = ap (against_number x s) (sym same) ∙ sym
       (digit_against s v.first (is_digit v.first v.low v.high)) ∙ stands.0 in
       let one = one_digit s v.first (v.first - 48) v.low v.high same here in
       let w =
@@ -205,7 +248,7 @@ module _ {S T K : Type 0} (x : ByteText S T K) (h : IsBounded x) where
       (w.0, w.1, w.2, ap (λ (t : Spelling S). come (fold_of x) (numbers_of x) t (says v.others xs)) one.1 ∙ w.3)
 
   -- a decimal is read, from the beginning of a number
-  decimal_pass : (n : ℕ) (s : Spelling S) → s.numeral.number ≡ 0 → x.against_number s.own n ≡ None → (k : ℕ)
+  decimal_pass : (n : ℕ) (s : Spelling S) → s.numeral.number ≡ 0 → against_number x s n ≡ None → (k : ℕ)
       × Passes (fold_of x) s (reads (decimal n)) × (after (fold_of x) s (reads (decimal n)) ≡ with s n k)
   decimal_pass zero s none k =
       let zeroed : Plain = record {
@@ -219,38 +262,76 @@ module _ {S T K : Type 0} (x : ByteText S T K) (h : IsBounded x) where
       subst (λ (ds : List ℕ). (k : ℕ) × Passes (fold_of x) s (reads ds) × (after (fold_of x) s (reads ds) ≡ with s 0 k))
       (sym (decimal_digit 0 (omega arith))) (plain_pass zeroed s none k)
   decimal_pass (suc m) s none k =
-      let v = positive_of (suc m) (omega arith) (h.small s.own (suc m) k) in
-      let w = plain_pass v.0.plain s none (ap (x.against_number s.own) v.2 ∙ k) in (
+      let v = positive_of (suc m) (omega arith) (small s (suc m) k) in
+      let w = plain_pass v.0.plain s none (ap (against_number x s) v.2 ∙ k) in (
         w.0,
         subst (λ (ds : List ℕ). Passes (fold_of x) s (reads ds)) v.1 w.1,
         ap
             (λ (ds : List ℕ). after (fold_of x) s (reads ds)) (sym v.1) ∙ w.2 ∙ ap (λ (n : ℕ). with s n w.0) v.2,
       )
 
-  -- numbers are put by their events
+  -- a number that ends at a mark
+  ended : (s t u : Spelling S) (bs : List ℕ) (m : ℕ) → Passes (fold_of x) s (reads bs)
+      → after (fold_of x) s (reads bs) ≡ t → done_mark x m t ≡ u
+      → Passes (fold_of x) s (reads bs ++ Did m ∷ []) × (after (fold_of x) s (reads bs ++ Did m ∷ []) ≡ u)
+  ended s t u bs m p e f = (
+    passes_append (fold_of x) s (reads bs) (Did m ∷ []) p tt,
+    after_append (fold_of x) s (reads bs) (Did m ∷ []) ∙ ap (done_mark x m) e ∙ f,
+  )
+
+  -- a value is put by its events
+  value_put : (s : Spelling S) (z : ℤ) → NumberStands x s (Value z) → Passes (fold_of x) s (value_events z)
+      × (after (fold_of x) s (value_events z) ≡ put_number x (Value z) s)
+  value_put s (pos n) k =
+      let w = decimal_pass n (record s { numeral = fresh }) refl k in
+      ended (record s { numeral = fresh }) _ (put_number x (Value (pos n)) s) (decimal n) 1 w.1 w.2 refl
+  value_put s (negsuc n) k =
+      let begun : Spelling S = record s { numeral = with_byte 45 fresh } in
+      let w = decimal_pass (suc n) begun refl k in
+      let e = ended begun _ (put_number x (Value (negsuc n)) s) (decimal (suc n)) 1 w.1 w.2 refl in
+      ((h.minus s.own, e.0), e.1)
+
+  -- within a line of values, and behind it
+  abbrev pub lined : S → Numeral → List ℤ → Spelling S
+  lined o m vs = record { own = o; numeral = m; within = InLine; values = vs }
+
+  abbrev pub behind : S → List ℤ → Spelling S
+  behind o vs = record { own = x.line vs o; numeral = fresh; within = Words; values = [] }
+
+  -- what is left of a line of values is put by its events
+  values_put : (vs : List ℤ) (o : S) (m : Numeral) (ws : List ℤ) → AreSmall vs
+      → x.against_line o (length (ws ++ vs)) ≡ None → Passes (fold_of x) (lined o m ws) (values_events vs)
+      × (after (fold_of x) (lined o m ws) (values_events vs) ≡ behind o (ws ++ vs))
+  values_put [] o m ws small k = (
+    (ap (λ (us : List ℤ). x.against_line o (length us)) (sym (append-nil ws)) ∙ k, tt),
+    ap (behind o) (sym (append-nil ws)),
+  )
+  values_put (v ∷ vs) o m ws small k =
+      let s : Spelling S = lined o fresh ws in
+      let one = value_put s v (when_none (nat_lt value_limit (unsigned_abs v)) x.too_large
+      (value_small (unsigned_abs v) small.0)) in
+      let rest =
+      values_put vs o fresh (ws ++ v ∷ []) small.1
+      (ap (λ (us : List ℤ). x.against_line o (length us)) (append_assoc ws (v ∷ []) vs) ∙ k) in (
+        (
+          h.blank o,
+          passes_append (fold_of x) s (value_events v) (values_events vs) one.0
+              (subst (λ (t : Spelling S). Passes (fold_of x) t (values_events vs)) (sym one.1) rest.0),
+        ),
+        after_append (fold_of x) s (value_events v) (values_events vs)
+            ∙ ap (λ (t : Spelling S). after (fold_of x) t (values_events vs)) one.1 ∙ rest.1
+            ∙ ap (behind o) (append_assoc ws (v ∷ []) vs),
+      )
+
+  -- what is put is put by its events
   pub numbers_put : IsPut (fold_of x) (numbers_of x)
   numbers_put = record { each = go }
     where
-      ended : (s t u : Spelling S) (bs : List ℕ) (m : ℕ) → Passes (fold_of x) s (reads bs)
-          → after (fold_of x) s (reads bs) ≡ t → done_mark x m t ≡ u
-          → Passes (fold_of x) s (reads bs ++ Did m ∷ []) × (after (fold_of x) s (reads bs ++ Did m ∷ []) ≡ u)
-      ended s t u bs m p e f = (
-        passes_append (fold_of x) s (reads bs) (Did m ∷ []) p tt,
-        after_append (fold_of x) s (reads bs)
-            (Did m ∷ []) ∙ ap (done_mark x m) e ∙ f,
-      )
-
-      go : (s : Spelling S) (z : Numbered) → NumberStands x s z → Passes (fold_of x) s (number_events x z)
-          × (after (fold_of x) s (number_events x z) ≡ put_number x z s)
-      go s (Value (pos n)) k =
-          let w = decimal_pass n (record s { numeral = fresh }) refl k in ended (record s { numeral = fresh }) _ _
-          (decimal n) 1 w.1 w.2 refl
-      go s (Value (negsuc n)) k =
-          let begun : Spelling S = record s { numeral = with_byte 45 fresh } in
-          let w = decimal_pass (suc n) begun refl k in
-          let e =
-          ended begun _ (put_number x (Value (negsuc n)) s) (decimal (suc n)) 1 w.1 w.2 refl in
-          ((h.minus s.own, e.0), e.1)
+      go : (s : Spelling S) (z : Numbered) → NumberStands x s z → Passes (fold_of x) s (number_events z)
+          × (after (fold_of x) s (number_events z) ≡ put_number x z s)
+      go s (Value z) k = value_put s z k
       go s (Natural n) k =
-          let w = decimal_pass n (record s { numeral = fresh }) refl k in ended (record s { numeral = fresh }) _ _
-          (decimal n) 2 w.1 w.2 refl
+          let begun : Spelling S = record s { numeral = fresh; within = InNatural } in
+          let w = decimal_pass n begun refl k in
+          ended begun _ (put_number x (Natural n) s) (decimal n) 2 w.1 w.2 refl
+      go s (Line vs) (l, k) = values_put vs s.own fresh [] l k

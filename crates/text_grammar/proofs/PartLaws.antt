@@ -2,25 +2,19 @@
 -- and the other way round, for every grammar whose alternatives do so.
 use Rattle.std.proofs.Common.{◌≡◌, ℕ, List, [], ◌∷◌, ◌++◌, refl, ap, sym, subst, ◌∙◌, append_assoc, append-nil, Option}
 use Rattle.std.proofs.Common.{Some, None, inl, inr}
-use Rattle.std.specs.Prelude.{⊤}
 use Rattle.text_core.specs.Faults.{Among}
 use Rattle.text_grammar.specs.declared.symbol.Symbol.{Symbol}
 use Rattle.text_grammar.specs.declared.symbol.Symbol.TheVariants.{Piece, Made, Mark}
 use Rattle.text_grammar.specs.Grammars.{Grammar, Event, Read, Did, Derives, nothing, piece, mark, made, alternatives}
 use Rattle.text_grammar.specs.Folds.{Fold, after, Passes}
-use Rattle.text_grammar.specs.Parts.{Part, Says, Does, Puts, Atoms, events_of, spelled, come, Stand, Chosen, Values}
-use Rattle.text_grammar.specs.Parts.{chosen_parts, body_parts}
+use Rattle.text_grammar.specs.Parts.{Part, Says, Does, Puts, Wholes, events_of, spelled, come, Stand, Chosen, Values}
+use Rattle.text_grammar.specs.Parts.{chosen_parts, body_parts, chosen_in, IsOnly, IsPut, ComesTo, Gives, AllGive}
+use Rattle.text_grammar.specs.Parts.{AreMade, AllMake, StandsFor, AreDerived}
 use Rattle.text_grammar.proofs.Events.{derived_both}
 use Rattle.text_grammar.proofs.FoldLaws.{after_append, passes_append, passes_split}
 use Rattle.text_grammar.proofs.Induction.{StandsAlong, derived_stands}
 
-module _ {P : Type 0} (g : Grammar P) (only : ℕ → Option P) where
-  -- a class that has only one piece has that one
-  pub record IsOnly : Type 0 where
-    pub one : (c : ℕ) (p q : P) → only c ≡ Some p → g.class_of q ≡ c → q ≡ p
-    pub its : (c : ℕ) (p : P) → only c ≡ Some p → g.class_of p ≡ c
-
-module _ {P S T K A : Type 0} (f : Fold P S T K) (a : Atoms P S A) where
+module _ {P S T K A : Type 0} (f : Fold P S T K) (a : Wholes P S A) where
   -- parts one behind the other
   pub events-append : (xs ys : List (Part P A)) → events_of f a (xs ++ ys) ≡ events_of f a xs ++ events_of f a ys
   events-append [] ys = refl
@@ -58,12 +52,8 @@ module _ {P S T K A : Type 0} (f : Fold P S T K) (a : Atoms P S A) where
   stand_split s (Does m ∷ xs) ys h = stand_split (f.done m s) xs ys h
   stand_split s (Puts z ∷ xs) ys h = let w = stand_split (a.put z s) xs ys h.1 in ((h.0, w.0), w.1)
 
-  -- what can be put is put by its events, where nothing stands against it
-  pub record IsPut : Type 0 where
-    pub each : (s : S) (z : A) → a.Fine s z → Passes f s (a.events z) × (after f s (a.events z) ≡ a.put z s)
-
   -- so parts against which nothing stands come to what their events do
-  pub events_pass : IsPut → (s : S) (xs : List (Part P A)) → Stand f a s xs → Passes f s (events_of f a xs)
+  pub events_pass : IsPut f a → (s : S) (xs : List (Part P A)) → Stand f a s xs → Passes f s (events_of f a xs)
       × (after f s (events_of f a xs) ≡ come f a s xs)
   events_pass h s [] k = (tt, refl)
   events_pass h s (Says p ∷ xs) k = let w = events_pass h (f.read p s) xs k.1 in ((k.0, w.0), w.1)
@@ -76,12 +66,6 @@ module _ {P S T K A : Type 0} (f : Fold P S T K) (a : Atoms P S A) where
         after_append f s (a.events z) (events_of f a xs) ∙ ap (λ (t : S). after f t (events_of f a xs)) o.1 ∙ w.1,
       )
 
-  -- parts come to a state, with nothing against them, and spell pieces
-  pub record ComesTo (s t : S) (ps : List P) (xs : List (Part P A)) : Type 0 where
-    pub spells : spelled f a xs ≡ ps
-    pub stands : Stand f a s xs
-    pub comes : come f a s xs ≡ t
-
   module _ (g : Grammar P) (only : ℕ → Option P) (V : ℕ → Type 0) (parts : (n : ℕ) → V n → List (Part P A)) where
     -- parts of a nonterminal before others
     parts_made : (n : ℕ) (ss : List Symbol) (v : V n) (vs : Values g only V parts ss)
@@ -89,43 +73,20 @@ module _ {P S T K A : Type 0} (f : Fold P S T K) (a : Atoms P S A) where
     parts_made n [] v vs = sym (append-nil (parts n v))
     parts_made n (s ∷ ss) v vs = refl
 
-    -- values within an alternative make a value of its nonterminal, which spells the same and comes to the same
-    abbrev pub Gives : ℕ → List Symbol → Type 0
-    Gives n body = (vs : Values g only V parts body) (s t : S) (ps : List P)
-        → ComesTo s t ps (body_parts g only V parts body vs) → (v : V n) × ComesTo s t ps (parts n v)
-
-    abbrev pub AllGive : ℕ → List (List Symbol) → Type 0
-    AllGive n [] = ⊤
-    AllGive n (body ∷ bodies) = Gives n body × AllGive n bodies
-
-    -- so it is with each alternative
-    pub record AreMade : Type 0 where
-      pub each : (n : ℕ) → AllGive n (alternatives g.rules n)
-
-    -- values within an alternative are those of a value of the nonterminal, for each of some
-    abbrev pub AllMake : ℕ → List (List Symbol) → Type 0
-    AllMake n [] = ⊤
-    AllMake n (body ∷ bodies) = ((vs : Values g only V parts body) → (v : V n)
-        × (parts n v ≡ body_parts g only V parts body vs)) × AllMake n bodies
-
-    pub makes_give : (n : ℕ) (bodies : List (List Symbol)) → AllMake n bodies → AllGive n bodies
+    pub makes_give : (n : ℕ) (bodies : List (List Symbol)) → AllMake f a g only V parts n bodies → AllGive f a g only V parts n bodies
     makes_give n [] h = tt
     makes_give n (body ∷ bodies) h =
-        (λ vs s t ps c. let v = h.0 vs in (v.0, subst (ComesTo s t ps) (sym v.1) c), makes_give n bodies h.1)
+        (λ vs s t ps c. let v = h.0 vs in (v.0, subst (ComesTo f a s t ps) (sym v.1) c), makes_give n bodies h.1)
 
-    pub all_given : (n : ℕ) (bodies : List (List Symbol)) → AllGive n bodies → (body : List Symbol) → Among body bodies
-        → Gives n body
+    pub all_given : (n : ℕ) (bodies : List (List Symbol)) → AllGive f a g only V parts n bodies → (body : List Symbol) → Among body bodies
+        → Gives f a g only V parts n body
     all_given n [] h body b = absurd b
-    all_given n (other ∷ bodies) h body (inl e) = subst (Gives n) (sym e) h.0
+    all_given n (other ∷ bodies) h body (inl e) = subst (Gives f a g only V parts n) (sym e) h.0
     all_given n (other ∷ bodies) h body (inr b) = all_given n bodies h.1 body b
-
-    -- what a nonterminal stands for: with nothing against it, it is a value
-    abbrev pub StandsFor : ℕ → List (Event P) → List P → Type 0
-    StandsFor n es ps = (s : S) → Passes f s es → (v : V n) × ComesTo s (after f s es) ps (parts n v)
 
     -- values within symbols that are derived with nothing against them
     abbrev Within : List Symbol → S → S → List P → Type 0
-    Within ss s t ps = (vs : Values g only V parts ss) × ComesTo s t ps (body_parts g only V parts ss vs)
+    Within ss s t ps = (vs : Values g only V parts ss) × ComesTo f a s t ps (body_parts g only V parts ss vs)
 
     -- a piece, and values behind it
     within_piece : IsOnly g only → (c : ℕ) (ss : List Symbol) (p : P) (s t : S) (ps : List P) → g.class_of p ≡ c
@@ -133,10 +94,10 @@ module _ {P S T K A : Type 0} (f : Fold P S T K) (a : Atoms P S A) where
     within_piece h c ss p s t ps k n w = go (only c) refl
       where
         go : (o : Option P) → only c ≡ o → (vs : Chosen g only V parts o c (Values g only V parts ss))
-            × ComesTo s t (p ∷ ps) (chosen_parts g only V parts o c (body_parts g only V parts ss) vs)
+            × ComesTo f a s t (p ∷ ps) (chosen_parts g only V parts o c (body_parts g only V parts ss) vs)
         go (Some q) e = let same = h.one c q p e k in (
           w.0,
-          subst (λ (x : P). ComesTo s t (p ∷ ps) (Says x ∷ body_parts g only V parts ss w.0)) same (record {
+          subst (λ (x : P). ComesTo f a s t (p ∷ ps) (Says x ∷ body_parts g only V parts ss w.0)) same (record {
             spells = ap (λ (qs : List P). p ∷ qs) w.1.spells;
             stands = (n, w.1.stands);
             comes = w.1.comes;
@@ -152,7 +113,7 @@ module _ {P S T K A : Type 0} (f : Fold P S T K) (a : Atoms P S A) where
         )
 
     -- what stands along symbols with nothing against it is values within them
-    within : IsOnly g only → (ss : List Symbol) (es : List (Event P)) (ps : List P) → StandsAlong g StandsFor ss es ps
+    within : IsOnly g only → (ss : List Symbol) (es : List (Event P)) (ps : List P) → StandsAlong g (StandsFor f a g only V parts) ss es ps
         → (s : S) → Passes f s es → Within ss s (after f s es) ps
     within h [] es ps (e, k) s passes = (tt, record { spells = sym k; stands = tt; comes = ap (after f s) (sym e) })
     within h (Piece c ∷ ss) es ps (p, fs, qs, k, e, i, w) s passes =
@@ -168,7 +129,7 @@ module _ {P S T K A : Type 0} (f : Fold P S T K) (a : Atoms P S A) where
         let v = k s split.0 in
         let r = within h ss fs qs w (after f s ds) split.1 in
         let there : come f a s (parts n v.0) ≡ after f s ds = v.1.comes in
-        let whole : ComesTo s (after f s es) ps (parts n v.0 ++ body_parts g only V parts ss r.0) = record {
+        let whole : ComesTo f a s (after f s es) ps (parts n v.0 ++ body_parts g only V parts ss r.0) = record {
           spells =
               spelled-append (parts n v.0) (body_parts g only V parts ss r.0) ∙ ap
               (λ (xs : List P). xs ++ spelled f a (body_parts g only V parts ss r.0)) v.1.spells ∙ ap
@@ -180,42 +141,27 @@ module _ {P S T K A : Type 0} (f : Fold P S T K) (a : Atoms P S A) where
               come-append s (parts n v.0) (body_parts g only V parts ss r.0) ∙ ap
               (λ (t : S). come f a t (body_parts g only V parts ss r.0)) there ∙ r.1.comes ∙ sym
               (after_append f s ds fs) ∙ ap (after f s) (sym e);
-        } in ((v.0, r.0), subst (ComesTo s (after f s es) ps) (sym (parts_made n ss v.0 r.0)) whole)
+        } in ((v.0, r.0), subst (ComesTo f a s (after f s es) ps) (sym (parts_made n ss v.0 r.0)) whole)
 
     -- what is derived with nothing against it is a value
-    pub derived_value : IsOnly g only → AreMade → (n : ℕ) {es : List (Event P)} {ps : List P}
-        → Derives g (Made n ∷ []) es ps → StandsFor n es ps
+    pub derived_value : IsOnly g only → AreMade f a g only V parts → (n : ℕ) {es : List (Event P)} {ps : List P}
+        → Derives g (Made n ∷ []) es ps → StandsFor f a g only V parts n es ps
     derived_value h k n {es} {ps} d s passes =
         let w =
-        within h (Made n ∷ []) es ps (derived_stands g StandsFor
+        within h (Made n ∷ []) es ps (derived_stands g (StandsFor f a g only V parts)
         (λ m body among fs qs along t p. let r = within h body fs qs along t p in all_given m
         (alternatives g.rules m) (k.each m) body among r.0 t (after f t fs) qs r.1) d) s passes in
         (w.0.0, w.1)
 
-    -- a value is derived
-    abbrev pub Derived : (n : ℕ) → V n → Type 0
-    Derived n v = Derives g (Made n ∷ []) (events_of f a (parts n v)) (spelled f a (parts n v))
-
-    abbrev pub chosen_in : {R : Type 0} → (o : Option P) → (c : ℕ) → (R → Type 0) → Chosen g only V parts o c R → Type 0
-    chosen_in (Some p) c Holds vs = Holds vs
-    chosen_in None c Holds (p, k, vs) = Holds vs
-
-    -- so are the values within symbols
-    abbrev pub AreDerived : (ss : List Symbol) → Values g only V parts ss → Type 0
-    AreDerived [] u = ⊤
-    AreDerived (Piece c ∷ ss) vs = chosen_in (only c) c (AreDerived ss) vs
-    AreDerived (Mark m ∷ ss) vs = AreDerived ss vs
-    AreDerived (Made n ∷ ss) (v, vs) = Derived n v × AreDerived ss vs
-
     -- and so are the symbols
-    body_derived : IsOnly g only → (ss : List Symbol) (vs : Values g only V parts ss) → AreDerived ss vs
+    body_derived : IsOnly g only → (ss : List Symbol) (vs : Values g only V parts ss) → AreDerived f a g only V parts ss vs
         → Derives g ss (events_of f a (body_parts g only V parts ss vs)) (spelled f a (body_parts g only V parts ss vs))
     body_derived h [] u d = nothing
     body_derived h (Piece c ∷ ss) vs d = go (only c) refl vs d (body_derived h ss)
       where
         go : (o : Option P) → only c ≡ o → (vs : Chosen g only V parts o c (Values g only V parts ss))
-            → chosen_in o c (AreDerived ss) vs
-            → ((ws : Values g only V parts ss) → AreDerived ss ws
+            → chosen_in g only V parts o c (AreDerived f a g only V parts ss) vs
+            → ((ws : Values g only V parts ss) → AreDerived f a g only V parts ss ws
             → Derives g ss (events_of f a (body_parts g only V parts ss ws))
             (spelled f a (body_parts g only V parts ss ws)))
             → Derives g (Piece c ∷ ss) (events_of f a
@@ -239,7 +185,7 @@ module _ {P S T K A : Type 0} (f : Fold P S T K) (a : Atoms P S A) where
 
     -- a nonterminal derives the parts of an alternative whose values are derived
     pub value_derived : IsOnly g only → (n : ℕ) (body : List Symbol) → Among body (alternatives g.rules n)
-        → (vs : Values g only V parts body) → AreDerived body vs
+        → (vs : Values g only V parts body) → AreDerived f a g only V parts body vs
         → Derives g (Made n ∷ []) (events_of f a (body_parts g only V parts body vs))
         (spelled f a (body_parts g only V parts body vs))
     value_derived h n body among vs d =

@@ -1,25 +1,18 @@
 -- What a result says of the answer to a text in bytes is right, and follows from what reading says.
-use Rattle.std.proofs.Common.{◌≡◌, ℕ, List, length, Ok, Err, refl, sym, subst, Option, Some, None}
+use Rattle.std.proofs.Common.{◌≡◌, ℕ, List, length, Ok, Err, refl, sym, subst, ◌∙◌, Option, Some, None}
 use Rattle.std.specs.Prelude.{Result, IfSome}
 use Rattle.text_core.specs.Readers.{Fault}
-use Rattle.text_core.specs.Tokens.{Token}
 use Rattle.text_core.specs.Faults.{IsFirst}
 use Rattle.text_core.specs.Reading.{Answer, Stands, Refused, answer}
 use Rattle.text_core.specs.Reading as reading
 use Rattle.text_core.proofs.FirstFaults.{answer_is}
 use Rattle.text_grammar.specs.declared.token.Refusal.{Refusal}
-use Rattle.text_grammar.specs.declared.token.Refusal.TheVariants.{Refuses}
-use Rattle.text_grammar.specs.declared.token.Fault.{Fault as CodeFault}
+use Rattle.text_grammar.specs.declared.token.Refusal.TheVariants.{Refuses, Memory}
 use Rattle.text_grammar.specs.Texts.{Text, IsLawful, reader}
 use Rattle.text_grammar.specs.ByteTexts.{tokens}
 use Rattle.text_grammar.specs.Following.{Says}
-use Rattle.text_grammar.specs.Marks.{refusal_of}
-use Rattle.text_grammar.specs.Results.{Tells, IsRight, Yields}
+use Rattle.text_grammar.specs.Results.{Tells, IsRight, Yields, refused_in}
 use Rattle.text_grammar.proofs.ReaderLaws.{reader_laws}
-
--- two trees that an answer is are one
-pub one_answered : {T K : Type 0} (a b : T) (x : Answer T K) → x ≡ Stands a → x ≡ Stands b → a ≡ b
-one_answered a b x e f = cc
 
 module _ {T K Made E : Type 0} (x : Text ℕ T K) (tree_in : Made → T) (refusal_in : E → Option (Fault K)) where
   -- a result that says what the answer is is right, where the trees that are answered are meant
@@ -56,32 +49,25 @@ module _ {T K Made E : Type 0} (x : Text ℕ T K) (tree_in : Made → T) (refusa
       go (Ok made) s = s
       go (Err error) s = s
 
-  -- what reading says of the answer to the same text and tokens, a result says that makes its tree
-  pub read_made : (y : Text ℕ T K) (n : ℕ) (us ts : List (Token ℕ)) (read : Result Made (Refusal K)) → y ≡ x → us ≡ ts
-      → Says (λ made t. tree_in made ≡ t) (answer (reader y) n us) read → (made : Made) → read ≡ Ok made
-      → Tells tree_in refusal_in (answer (reader x) n ts) (Ok made)
-  read_made y n us ts read e f h made is =
-      subst (λ (z : Text ℕ T K). Tells tree_in refusal_in (answer (reader z) n ts) (Ok made)) e
-      (subst (λ (vs : List (Token ℕ)). Tells tree_in refusal_in (answer (reader y) n vs) (Ok made)) f
-      (go (answer (reader y) n us) (subst (Says (λ made t. tree_in made ≡ t) (answer (reader y) n us)) is h)))
-    where
-      go : (a : Answer T K) → Says (λ made t. tree_in made ≡ t) a (Ok made) → Tells tree_in refusal_in a (Ok made)
-      go (Stands t) s = s
-      go (Refused z) s = s
+-- what reading says of an answer, the result says that makes its tree
+pub says_tells : {T K Made : Type 0} (tree_in : Made → T) (a : Answer T K) (result : Result Made (Refusal K))
+    → Says (λ made t. tree_in made ≡ t) a result → Tells tree_in refused_in a result
+says_tells tree_in (Stands t) (Ok made) s = s
+says_tells tree_in (Stands t) (Err (Refuses y)) s = absurd s
+says_tells tree_in (Stands t) (Err Memory) s = refl
+says_tells tree_in (Refused z) (Ok made) s = absurd s
+says_tells tree_in (Refused z) (Err (Refuses y)) s = s
+says_tells tree_in (Refused z) (Err Memory) s = tt
 
-  -- and an error that stands for its refusal says it too
-  pub read_refused : (y : Text ℕ T K) (n : ℕ) (us ts : List (Token ℕ)) (read : Result Made (Refusal K)) → y ≡ x
-      → us ≡ ts → Says (λ made t. tree_in made ≡ t) (answer (reader y) n us) read
-      → (fault : CodeFault K) (refusal : Refusal K) (error : E) → read ≡ Err refusal → refusal ≡ Refuses fault
-      → refusal_in error ≡ Some (refusal_of fault) → Tells tree_in refusal_in (answer (reader x) n ts) (Err error)
-  read_refused y n us ts read e f h fault refusal error is same told =
-      subst (λ (z : Text ℕ T K). Tells tree_in refusal_in (answer (reader z) n ts) (Err error)) e
-      (subst (λ (vs : List (Token ℕ)). Tells tree_in refusal_in (answer (reader y) n vs) (Err error)) f
-      (go (answer (reader y) n us)
-      (subst (λ (r : Refusal K). Says (λ made t. tree_in made ≡ t) (answer (reader y) n us) (Err r)) same
-      (subst (Says (λ made t. tree_in made ≡ t) (answer (reader y) n us)) is h))))
-    where
-      go : (a : Answer T K) → Says (λ made t. tree_in made ≡ t) a (Err (Refuses fault))
-          → Tells tree_in refusal_in a (Err error)
-      go (Stands t) s = absurd s
-      go (Refused z) s = subst (λ (o : Option (Fault K)). IfSome o (λ w. w ≡ z)) (sym told) s
+-- and so does an error that stands for the same refusal
+pub tells_error : {T K Made E F : Type 0} (tree_in : Made → T) (one : E → Option (Fault K)) (other : F → Option (Fault K))
+    (a : Answer T K) (e : E) (f : F) → other f ≡ one e → Tells tree_in one a (Err e) → Tells tree_in other a (Err f)
+tells_error tree_in one other (Stands t) e f same s = same ∙ s
+tells_error {K = K} tree_in one other (Refused x) e f same s =
+    subst (λ (o : Option (Fault K)). IfSome o (λ y. y ≡ x)) (sym same) s
+
+-- a tree that is made says the same whatever errors stand for
+pub tells_made : {T K Made E F : Type 0} (tree_in : Made → T) (one : E → Option (Fault K)) (other : F → Option (Fault K))
+    (a : Answer T K) (made : Made) → Tells tree_in one a (Ok made) → Tells tree_in other a (Ok made)
+tells_made tree_in one other (Stands t) made s = s
+tells_made tree_in one other (Refused x) made s = s

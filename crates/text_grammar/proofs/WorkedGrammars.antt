@@ -1,4 +1,6 @@
 -- What was worked out by hand of grammars.
+use Rattle.text_grammar.proofs.SmallRowLaws.{rows_read}
+use Rattle.text_grammar.proofs.WorkedRowLaws.{numerals_told, parts_told, byte_texts_told}
 use Rattle.std.proofs.Common.{ℕ, ◌<◌, Bool, true, false, cond, [], ◌∷◌, refl, arith, lit<, inl, inr}
 use Rattle.std.specs.Prelude.{◌==◌}
 use Rattle.text_core.proofs.FirstFaults.{nowhere_begins, whole_ends, answers_all, one_tree_each, one_first_each}
@@ -77,4 +79,13 @@ texts_read x h = record {
 }
 
 pub worked_grammars : WorkedGrammars
-worked_grammars = record { grammars = grammars; spelled = spelled; brackets_told = brackets; brackets_read = texts_read bracket_text lawful }
+worked_grammars = record {
+  grammars = grammars;
+  spelled = spelled;
+  brackets_told = brackets;
+  brackets_read = texts_read bracket_text lawful;
+  rows_read = rows_read;
+  numerals = numerals_told;
+  parts = parts_told;
+  byte_texts = byte_texts_told;
+}

@@ -1,19 +1,22 @@
 -- Texts whose pieces are single bytes, with decimal numbers in them.
-use Rattle.std.specs.Prelude.{◌≡◌, ℕ, zero, suc, ◌+◌, ◌*◌, ◌-◌, ◌^◌, ◌<◌, ◌≤◌, min, Bool, true, false, ◌==◌}
-use Rattle.std.specs.Prelude.{if◌then◌else◌}
+use Rattle.std.specs.Prelude.{◌≡◌, ℕ, zero, suc, ◌+◌, ◌*◌, ◌-◌, ◌^◌, ◌<◌, ◌≤◌, min, Bool, true, false, ◌==◌, nat_lt}
+use Rattle.std.specs.Prelude.{if◌then◌else◌, ⊤}
 use Rattle.std.specs.Prelude.{ℤ, pos, neg_ℤ, unsigned_abs, List, [], ◌∷◌, ◌++◌, length, Option, Some, None, slice_get}
 use Rattle.std.specs.Char.{is_ascii_digit}
 use Rattle.std.specs.Fmt.{decimal, signed_decimal}
 use Rattle.std.proofs.Common.{lit<, arith}
+use Rattle.text_core.specs.Choices.{when}
 use Rattle.text_core.specs.Tokens.{Token, Lexeme, Lexer, LexesWithin}
 use Rattle.text_grammar.specs.declared.symbol.Symbol.{Symbol}
 use Rattle.text_grammar.specs.declared.symbol.Symbol.TheVariants.{Piece, Made, Mark}
 use Rattle.text_grammar.specs.declared.cut.OneMode.{OneMode}
+use Rattle.text_grammar.specs.declared.numeral.Within.{Within}
+use Rattle.text_grammar.specs.declared.numeral.Within.TheVariants.{Words, Natural as InNatural, Line as InLine}
 use Rattle.text_grammar.specs.Grammars.{Grammar, Event, Read, Did, alternatives}
 use Rattle.text_grammar.specs.Marks.{lexer_of, tokens_of}
 use Rattle.text_grammar.specs.Texts.{Text}
 use Rattle.text_grammar.specs.Folds.{Fold, folded}
-use Rattle.text_grammar.specs.Parts.{Part, Says, Atoms}
+use Rattle.text_grammar.specs.Parts.{Part, Says, Does, Puts, Wholes}
 
 -- each byte is a piece
 abbrev pub byte_at : ℕ → List ℕ → Lexeme (Option ℕ)
@@ -29,15 +32,16 @@ abbrev pub tokens : List ℕ → List (Token ℕ)
 tokens bytes = tokens_of byte_at bytes
 
 -- where a byte stands among others, and behind the last where it isn't there
-abbrev pub place_of : List ℕ → ℕ → ℕ
-place_of [] b = 0
-place_of (c ∷ cs) b = if b == c then 0 else suc (place_of cs b)
+abbrev pub position_of : List ℕ → ℕ → ℕ
+position_of [] b = 0
+position_of (c ∷ cs) b = if b == c then 0 else suc (position_of cs b)
 
--- the class of a byte: `0`, `1`, `2` to `9`, `-`, the letters of the words one by one, and any other
+-- the class of a byte: `0`, `1`, `2` to `9`, `-`, a blank, a line feed, the letters of the words one by one, and any
+-- other
 abbrev pub class_of : List ℕ → ℕ → ℕ
 class_of letters b =
     if b == 48 then 0 else if b == 49 then 1 else if is_ascii_digit b then 2 else if b == 45 then 3
-    else suc (suc (suc (suc (place_of letters b))))
+    else if b == 32 then 4 else if b == 10 then 5 else suc (suc (suc (suc (suc (suc (position_of letters b))))))
 
 -- the one byte of a class that has only one
 abbrev pub only : List ℕ → ℕ → Option ℕ
@@ -45,7 +49,9 @@ only letters zero = Some 48
 only letters (suc zero) = Some 49
 only letters (suc (suc zero)) = None
 only letters (suc (suc (suc zero))) = Some 45
-only letters (suc (suc (suc (suc k)))) = slice_get letters k
+only letters (suc (suc (suc (suc zero)))) = Some 32
+only letters (suc (suc (suc (suc (suc zero))))) = Some 10
+only letters (suc (suc (suc (suc (suc (suc k)))))) = slice_get letters k
 
 -- a byte of each class
 abbrev pub byte_or : ℕ → Option ℕ → ℕ
@@ -59,18 +65,18 @@ sample letters c = byte_or (if c == 2 then 50 else 0) (only letters c)
 abbrev pub bytes_grammar : List ℕ → List (List (List Symbol)) → ℕ → Grammar ℕ
 bytes_grammar letters rules rounds = record {
   rules = rules;
-  classes = 5 + length letters;
+  classes = 7 + length letters;
   class_of = class_of letters;
   sample = sample letters;
   rounds = rounds;
 }
 
--- the rules of numbers
+-- the rules of numbers, and those of lines of values
 abbrev pub value_rule : List (List Symbol)
 value_rule = (Mark 0 ∷ Piece 3 ∷ Made 4 ∷ Mark 1 ∷ []) ∷ (Mark 0 ∷ Made 3 ∷ Mark 1 ∷ []) ∷ []
 
 abbrev pub natural_rule : List (List Symbol)
-natural_rule = (Mark 0 ∷ Made 3 ∷ Mark 2 ∷ []) ∷ []
+natural_rule = (Mark 3 ∷ Made 3 ∷ Mark 2 ∷ []) ∷ []
 
 abbrev pub number_rule : List (List Symbol)
 number_rule = (Piece 0 ∷ []) ∷ (Made 4 ∷ []) ∷ []
@@ -81,6 +87,12 @@ positive_rule = (Piece 1 ∷ Made 5 ∷ []) ∷ (Piece 2 ∷ Made 5 ∷ []) ∷ 
 abbrev pub digits_rule : List (List Symbol)
 digits_rule = (Piece 0 ∷ Made 5 ∷ []) ∷ (Piece 1 ∷ Made 5 ∷ []) ∷ (Piece 2 ∷ Made 5 ∷ []) ∷ [] ∷ []
 
+abbrev pub line_rule : List (List Symbol)
+line_rule = (Mark 4 ∷ Made 7 ∷ []) ∷ []
+
+abbrev pub values_rule : List (List Symbol)
+values_rule = (Piece 4 ∷ Made 1 ∷ Made 7 ∷ []) ∷ (Piece 5 ∷ Mark 5 ∷ []) ∷ []
+
 -- they stand behind that of the text
 pub record HasNumbers (rules : List (List (List Symbol))) : Type 0 where
   pub value : alternatives rules 1 ≡ value_rule
@@ -88,6 +100,8 @@ pub record HasNumbers (rules : List (List (List Symbol))) : Type 0 where
   pub number : alternatives rules 3 ≡ number_rule
   pub positive : alternatives rules 4 ≡ positive_rule
   pub digits : alternatives rules 5 ≡ digits_rule
+  pub line : alternatives rules 6 ≡ line_rule
+  pub values : alternatives rules 7 ≡ values_rule
 
 -- the number that is being spelled: its sign, its value up to 2^64, and how many bytes of it have been read, up to
 -- 2^64-1
@@ -114,32 +128,57 @@ with_byte b m =
 abbrev pub signed : Numeral → ℤ
 signed m = if m.negative then neg_ℤ (pos m.number) else pos m.number
 
+-- a value is at most so large, in absolute value
+abbrev pub value_limit : ℕ
+value_limit = 2 ^ 63 - 1
+
+-- each value is at most 2^63-1 in absolute value
+abbrev pub AreSmall : List ℤ → Type 0
+AreSmall [] = ⊤
+AreSmall (v ∷ vs) = (unsigned_abs v ≤ value_limit) × AreSmall vs
+
+-- each value is below 2^64 in absolute value
+abbrev pub AreNarrow : List ℤ → Type 0
+AreNarrow [] = ⊤
+AreNarrow (v ∷ vs) = (unsigned_abs v < 2 ^ 64) × AreNarrow vs
+
+-- the text of a line of values, each with a blank before it, up to its line feed
+abbrev pub line_text : List ℤ → List ℕ
+line_text [] = 10 ∷ []
+line_text (v ∷ vs) = 32 ∷ (signed_decimal v ++ line_text vs)
+
 -- a text in bytes: the letters of its words, its rules and the rounds of its table; what is remembered of it, which
--- values, natural numbers and marks change; what stands against a number of this value, at its first byte, and against
--- another byte; the tree at the end; and kinds
+-- natural numbers, lines of values and marks change; what stands against a natural number at its first byte, against a
+-- line of so many values at its line feed, and against another byte; the tree at the end; and kinds, of which one is
+-- that of a byte that can't follow and one that of a value that is too large
 pub record ByteText (S T K : Type 0) : Type 0 where
   pub letters : List ℕ
   pub rules : List (List (List Symbol))
   pub rounds : ℕ
   pub begun : S
-  pub value : ℤ → S → S
   pub natural : ℕ → S → S
+  pub line : List ℤ → S → S
   pub done : ℕ → S → S
-  pub against_number : S → ℕ → Option K
+  pub against_natural : S → ℕ → Option K
+  pub against_line : S → ℕ → Option K
   pub against_byte : S → ℕ → Option K
   pub tree : S → T
   pub number : K → ℕ
   pub syntax : K
+  pub too_large : K
 
--- what is remembered, and the number that is being spelled
+-- what is remembered, the number that is being spelled, within what that is, and the values of the line so far
 pub record Spelling (S : Type 0) : Type 0 where
   pub own : S
   pub numeral : Numeral
+  pub within : Within
+  pub values : List ℤ
 
--- what is put is a value or a natural number
+-- what is put is a value, a natural number or a line of values
 pub data Numbered : Type 0 where
   Value : ℤ → Numbered
   Natural : ℕ → Numbered
+  Line : List ℤ → Numbered
 
 -- the events of bytes
 abbrev pub reads : List ℕ → List (Event ℕ)
@@ -151,28 +190,75 @@ abbrev pub says : List ℕ → List (Part ℕ Numbered) → List (Part ℕ Numbe
 says [] xs = xs
 says (b ∷ bytes) xs = Says b ∷ says bytes xs
 
+-- a line of values as parts, behind its beginning
+abbrev pub values_parts : List ℤ → List (Part ℕ Numbered)
+values_parts [] = Says 10 ∷ Does 5 ∷ []
+values_parts (v ∷ vs) = Says 32 ∷ Puts (Value v) ∷ values_parts vs
+
+-- the events of a value, and of a line of values behind its beginning
+abbrev pub value_events : ℤ → List (Event ℕ)
+value_events z = Did 0 ∷ (reads (signed_decimal z) ++ Did 1 ∷ [])
+
+abbrev pub values_events : List ℤ → List (Event ℕ)
+values_events [] = Read 10 ∷ Did 5 ∷ []
+values_events (v ∷ vs) = Read 32 ∷ (value_events v ++ values_events vs)
+
+-- what is put, as events and as text
+abbrev pub number_events : Numbered → List (Event ℕ)
+number_events (Value z) = value_events z
+number_events (Natural n) = Did 3 ∷ (reads (decimal n) ++ Did 2 ∷ [])
+number_events (Line vs) = Did 4 ∷ values_events vs
+
+abbrev pub number_text : Numbered → List ℕ
+number_text (Value z) = signed_decimal z
+number_text (Natural n) = decimal n
+number_text (Line vs) = line_text vs
+
 module _ {S T K : Type 0} (x : ByteText S T K) where
-  -- a number begins at mark 0 and ends at mark 1 or 2; other marks are the text's own
+  -- a value begins at mark 0 and ends at mark 1, a natural number at marks 3 and 2, and a line of values at marks 4 and
+  -- 5; other marks are the text's own
   abbrev pub done_mark : ℕ → Spelling S → Spelling S
   done_mark m s =
       if m == 0 then record s { numeral = fresh }
-      else if m == 1 then record { own = x.value (signed s.numeral) s.own; numeral = fresh }
-      else if m == 2 then record { own = x.natural s.numeral.number s.own; numeral = fresh }
+      else if m == 1 then record s { numeral = fresh; values = s.values ++ signed s.numeral ∷ [] }
+      else if m == 2 then record s { own = x.natural s.numeral.number s.own; numeral = fresh; within = Words }
+      else if m == 3 then record s { numeral = fresh; within = InNatural }
+      else if m == 4 then record s { numeral = fresh; within = InLine; values = [] }
+      else if m == 5 then record { own = x.line s.values s.own; numeral = fresh; within = Words; values = [] }
       else record s { own = x.done m s.own }
 
-  -- what stands against a byte: against a number with one digit more, or against another byte
+  -- what stands against a number: against a natural one, or against a value that is too large
+  abbrev pub against_in : Within → S → ℕ → Option K
+  against_in InNatural s n = x.against_natural s n
+  against_in InLine s n = when (nat_lt value_limit n) x.too_large
+  against_in Words s n = when (nat_lt value_limit n) x.too_large
+
+  abbrev pub against_number : Spelling S → ℕ → Option K
+  against_number s n = against_in s.within s.own n
+
+  -- what stands against a line feed: against the line that it ends, or against the byte
+  abbrev pub against_feed : Within → S → ℕ → Option K
+  against_feed InLine s n = x.against_line s n
+  against_feed InNatural s n = x.against_byte s 10
+  against_feed Words s n = x.against_byte s 10
+
+  abbrev pub against_other : Within → S → ℕ → ℕ → Option K
+  against_other w s n b = if b == 10 then against_feed w s n else x.against_byte s b
+
+  -- what stands against a byte: against a number with one digit more, a line, or another byte
   abbrev pub against_next : Spelling S → ℕ → Option K
   against_next s b =
-      if is_ascii_digit b then x.against_number s.own (s.numeral.number * 10 + (b - 48)) else x.against_byte s.own b
+      if is_ascii_digit b then against_number s (s.numeral.number * 10 + (b - 48))
+      else against_other s.within s.own (length s.values) b
 
   -- the fold of its events
   abbrev pub fold_of : Fold ℕ (Spelling S) T K
   fold_of = record {
-    begun = record { own = x.begun; numeral = fresh };
+    begun = record { own = x.begun; numeral = fresh; within = Words; values = [] };
     read = λ b s. record s { numeral = with_byte b s.numeral };
     done = done_mark;
     against = against_next;
-    place = λ s t. if is_ascii_digit t.piece then t.at - s.numeral.spelled else t.at;
+    position = λ s t. if is_ascii_digit t.piece then t.at - s.numeral.spelled else t.at;
     floor = λ s at. at - s.numeral.spelled;
     tree = λ s. x.tree s.own;
     number = x.number;
@@ -186,29 +272,26 @@ module _ {S T K : Type 0} (x : ByteText S T K) where
   abbrev pub texts_of : Text ℕ T K
   texts_of = folded fold_of grammar_of
 
-  -- numbers as they are put
-  abbrev pub number_events : Numbered → List (Event ℕ)
-  number_events (Value z) = Did 0 ∷ (reads (signed_decimal z) ++ Did 1 ∷ [])
-  number_events (Natural n) = Did 0 ∷ (reads (decimal n) ++ Did 2 ∷ [])
-
-  abbrev pub number_text : Numbered → List ℕ
-  number_text (Value z) = signed_decimal z
-  number_text (Natural n) = decimal n
-
+  -- when nothing stands against what is put: a value is small, nothing stands against a natural number, and the values
+  -- of a line are small and as many as they may be
   abbrev pub NumberStands : Spelling S → Numbered → Type 0
-  NumberStands s (Value z) = x.against_number s.own (unsigned_abs z) ≡ None
-  NumberStands s (Natural n) = x.against_number s.own n ≡ None
+  NumberStands s (Value z) = against_number s (unsigned_abs z) ≡ None
+  NumberStands s (Natural n) = x.against_natural s.own n ≡ None
+  NumberStands s (Line vs) = AreSmall vs × (x.against_line s.own (length vs) ≡ None)
 
+  -- what it does
   abbrev pub put_number : Numbered → Spelling S → Spelling S
-  put_number (Value z) s = record { own = x.value z s.own; numeral = fresh }
-  put_number (Natural n) s = record { own = x.natural n s.own; numeral = fresh }
+  put_number (Value z) s = record s { numeral = fresh; values = s.values ++ z ∷ [] }
+  put_number (Natural n) s = record s { own = x.natural n s.own; numeral = fresh; within = Words }
+  put_number (Line vs) s = record { own = x.line vs s.own; numeral = fresh; within = Words; values = [] }
 
-  abbrev pub numbers_of : Atoms ℕ (Spelling S) Numbered
+  abbrev pub numbers_of : Wholes ℕ (Spelling S) Numbered
   numbers_of = record { events = number_events; text = number_text; Fine = NumberStands; put = put_number }
 
-  -- a number against which nothing stands is below 2^64, and nothing stands against lesser ones from 1 on, nor against
-  -- `-`
+  -- a natural number against which nothing stands is below 2^64, and nothing stands against lesser ones from 1 on, nor
+  -- against `-` and a blank
   pub record IsBounded : Type 0 where
-    pub small : (s : S) (n : ℕ) → x.against_number s n ≡ None → n < 2 ^ 64
-    pub below : (s : S) (m n : ℕ) → 1 ≤ m → m ≤ n → x.against_number s n ≡ None → x.against_number s m ≡ None
+    pub small : (s : S) (n : ℕ) → x.against_natural s n ≡ None → n < 2 ^ 64
+    pub below : (s : S) (m n : ℕ) → 1 ≤ m → m ≤ n → x.against_natural s n ≡ None → x.against_natural s m ≡ None
     pub minus : (s : S) → x.against_byte s 45 ≡ None
+    pub blank : (s : S) → x.against_byte s 32 ≡ None

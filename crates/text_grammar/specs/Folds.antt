@@ -12,7 +12,7 @@ pub record Fold (P S T K : Type 0) : Type 0 where
   pub read : P → S → S
   pub done : ℕ → S → S
   pub against : S → P → Option K
-  pub place : S → Token P → ℕ
+  pub position : S → Token P → ℕ
   pub floor : S → ℕ → ℕ
   pub tree : S → T
   pub number : K → ℕ
@@ -35,7 +35,7 @@ module _ {P S T K : Type 0} (f : Fold P S T K) where
   folded g = record {
     grammar = g;
     value = λ es. f.tree (state (onto es []));
-    faults = λ es t. refusals (f.against (state es) t.piece) (f.place (state es) t);
+    faults = λ es t. refusals (f.against (state es) t.piece) (f.position (state es) t);
     floor = λ es at. f.floor (state es) at;
     number = f.number;
     off = f.off;

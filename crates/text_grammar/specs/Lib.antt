@@ -12,6 +12,8 @@ pub mod CodeBytes
 pub mod Results
 pub mod Views
 pub mod Tabled
+pub mod SmallRows
+pub mod WorkedRows
 pub mod Worked
 pub mod Marks
 pub mod Following

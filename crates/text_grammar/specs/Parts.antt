@@ -2,8 +2,8 @@
 use Rattle.std.specs.Prelude.{◌≡◌, ℕ, List, [], ◌∷◌, ◌++◌, Option, Some, None, ⊤}
 use Rattle.text_grammar.specs.declared.symbol.Symbol.{Symbol}
 use Rattle.text_grammar.specs.declared.symbol.Symbol.TheVariants.{Piece, Made, Mark}
-use Rattle.text_grammar.specs.Grammars.{Grammar, Event, Read, Did}
-use Rattle.text_grammar.specs.Folds.{Fold}
+use Rattle.text_grammar.specs.Grammars.{Grammar, Event, Read, Did, Derives, alternatives}
+use Rattle.text_grammar.specs.Folds.{Fold, after, Passes}
 
 -- a piece is said, what a mark stands for is done, or something is put that events of its own spell
 pub data Part (P A : Type 0) : Type 0 where
@@ -11,14 +11,14 @@ pub data Part (P A : Type 0) : Type 0 where
   Does : ℕ → Part P A
   Puts : A → Part P A
 
--- what can be put: the events and the pieces that spell it, when nothing stands against it, and what it does
-pub record Atoms (P S A : Type 0) : Type 1 where
+-- what can be put as a whole: the events and the pieces that spell it, when nothing stands against it, and what it does
+pub record Wholes (P S A : Type 0) : Type 1 where
   pub events : A → List (Event P)
   pub text : A → List P
   pub Fine : S → A → Type 0
   pub put : A → S → S
 
-module _ {P S T K A : Type 0} (f : Fold P S T K) (a : Atoms P S A) where
+module _ {P S T K A : Type 0} (f : Fold P S T K) (a : Wholes P S A) where
   -- the events of parts, and their pieces
   abbrev pub events_of : List (Part P A) → List (Event P)
   events_of [] = []
@@ -73,3 +73,60 @@ module _ {P A : Type 0} (g : Grammar P) (only : ℕ → Option P) (V : ℕ → T
     body_parts (Mark m ∷ ss) vs = Does m ∷ body_parts ss vs
     body_parts (Made n ∷ []) (v, u) = parts n v
     body_parts (Made n ∷ s ∷ ss) (v, vs) = parts n v ++ body_parts (s ∷ ss) vs
+
+    -- something holds of the rest behind a piece that is chosen
+    abbrev pub chosen_in : {R : Type 0} → (o : Option P) → (c : ℕ) → (R → Type 0) → Chosen o c R → Type 0
+    chosen_in (Some p) c Holds vs = Holds vs
+    chosen_in None c Holds (p, k, vs) = Holds vs
+
+module _ {P : Type 0} (g : Grammar P) (only : ℕ → Option P) where
+  -- a class that has only one piece has that one
+  pub record IsOnly : Type 0 where
+    pub one : (c : ℕ) (p q : P) → only c ≡ Some p → g.class_of q ≡ c → q ≡ p
+    pub its : (c : ℕ) (p : P) → only c ≡ Some p → g.class_of p ≡ c
+
+module _ {P S T K A : Type 0} (f : Fold P S T K) (a : Wholes P S A) where
+  -- what can be put is put by its events, where nothing stands against it
+  pub record IsPut : Type 0 where
+    pub each : (s : S) (z : A) → a.Fine s z → Passes f s (a.events z) × (after f s (a.events z) ≡ a.put z s)
+
+  -- parts come to a state, with nothing against them, and spell pieces
+  pub record ComesTo (s t : S) (ps : List P) (xs : List (Part P A)) : Type 0 where
+    pub spells : spelled f a xs ≡ ps
+    pub stands : Stand f a s xs
+    pub comes : come f a s xs ≡ t
+
+  module _ (g : Grammar P) (only : ℕ → Option P) (V : ℕ → Type 0) (parts : (n : ℕ) → V n → List (Part P A)) where
+    -- values within an alternative make a value of its nonterminal, which spells the same and comes to the same
+    abbrev pub Gives : ℕ → List Symbol → Type 0
+    Gives n body = (vs : Values g only V parts body) (s t : S) (ps : List P)
+        → ComesTo s t ps (body_parts g only V parts body vs) → (v : V n) × ComesTo s t ps (parts n v)
+
+    abbrev pub AllGive : ℕ → List (List Symbol) → Type 0
+    AllGive n [] = ⊤
+    AllGive n (body ∷ bodies) = Gives n body × AllGive n bodies
+
+    -- so it is with each alternative
+    pub record AreMade : Type 0 where
+      pub each : (n : ℕ) → AllGive n (alternatives g.rules n)
+
+    -- values within an alternative are those of a value of the nonterminal, for each of some
+    abbrev pub AllMake : ℕ → List (List Symbol) → Type 0
+    AllMake n [] = ⊤
+    AllMake n (body ∷ bodies) = ((vs : Values g only V parts body) → (v : V n)
+        × (parts n v ≡ body_parts g only V parts body vs)) × AllMake n bodies
+
+    -- what a nonterminal stands for: with nothing against it, it is a value
+    abbrev pub StandsFor : ℕ → List (Event P) → List P → Type 0
+    StandsFor n es ps = (s : S) → Passes f s es → (v : V n) × ComesTo s (after f s es) ps (parts n v)
+
+    -- a value is derived
+    abbrev pub Derived : (n : ℕ) → V n → Type 0
+    Derived n v = Derives g (Made n ∷ []) (events_of f a (parts n v)) (spelled f a (parts n v))
+
+    -- so are the values within symbols
+    abbrev pub AreDerived : (ss : List Symbol) → Values g only V parts ss → Type 0
+    AreDerived [] u = ⊤
+    AreDerived (Piece c ∷ ss) vs = chosen_in g only V parts (only c) c (AreDerived ss) vs
+    AreDerived (Mark m ∷ ss) vs = AreDerived ss vs
+    AreDerived (Made n ∷ ss) (v, vs) = Derived n v × AreDerived ss vs

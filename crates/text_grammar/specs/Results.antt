@@ -1,10 +1,18 @@
 -- What a result says of the answer to a text in bytes, where each error stands for a refusal or for want of memory.
-use Rattle.std.specs.Prelude.{◌≡◌, ℕ, List, length, Result, Ok, Err, Option, None, IfSome}
+use Rattle.std.specs.Prelude.{◌≡◌, ℕ, List, length, Result, Ok, Err, Option, Some, None, IfSome}
 use Rattle.text_core.specs.Readers.{Fault}
 use Rattle.text_core.specs.Faults.{IsFirst}
 use Rattle.text_core.specs.Reading.{Answer, Stands, Refused}
 use Rattle.text_grammar.specs.Texts.{Text, reader}
 use Rattle.text_grammar.specs.ByteTexts.{tokens}
+use Rattle.text_grammar.specs.declared.token.Refusal.{Refusal}
+use Rattle.text_grammar.specs.declared.token.Refusal.TheVariants.{Refuses, Memory}
+use Rattle.text_grammar.specs.Marks.{refusal_of}
+
+-- the refusal that reading tells, which is none where memory ran out
+abbrev pub refused_in : {K : Type 0} → Refusal K → Option (Fault K)
+refused_in (Refuses y) = Some (refusal_of y)
+refused_in Memory = None
 
 -- the tree that is made, and the refusal that an error stands for, which is none where memory ran out
 module _ {T K Made E : Type 0} (tree_in : Made → T) (refusal_in : E → Option (Fault K)) where

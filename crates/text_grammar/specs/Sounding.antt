@@ -7,7 +7,7 @@ use Rattle.text_grammar.specs.declared.symbol.Symbol.TheVariants.{Piece, Made, M
 use Rattle.text_grammar.specs.Grammars.{Grammar}
 use Rattle.text_grammar.specs.Leads.{Lead, Matches, Passes, Stuck, entry, lead, row_of}
 
--- a test holds of each element with its place, counted from 0
+-- a test holds of each element with its position, counted from 0
 abbrev pub each : {X : Type 0} → (ℕ → X → Bool) → List X → Bool
 each test [] = true
 each test (x ∷ xs) = test 0 x && each (λ n. test (suc n)) xs

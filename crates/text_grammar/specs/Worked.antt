@@ -9,6 +9,8 @@ use Rattle.text_grammar.specs.Grammars.{Grammar, Event, Read, rules_of}
 use Rattle.text_grammar.specs.Sounding.{is_readable}
 use Rattle.text_grammar.specs.Texts.{Text, Writes, reader}
 use Rattle.text_grammar.specs.Silence.{StandsWhereSilent}
+use Rattle.text_grammar.specs.SmallRows.{RowsAreRead}
+use Rattle.text_grammar.specs.WorkedRows.{NumeralsAreTold, PartsAreTold, ByteTextsAreTold}
 
 -- pieces 0 and 1, and all others as 2
 abbrev pub class_of : ℕ → ℕ
@@ -112,9 +114,13 @@ pub record TextsAreRead {P T K : Type 0} (x : Text P T K) : Type 0 where
   pub one_first : OneFirst (reader x)
   pub silence : StandsWhereSilent x
 
--- all of it; the laws hold of every lawful text
+-- all of it, with a small text in single bytes; the laws hold of every lawful text
 pub record WorkedGrammars : Type 0 where
   pub grammars : GrammarsAreTold
   pub spelled : RulesAreSpelled
   pub brackets_told : BracketsAreTold
   pub brackets_read : TextsAreRead bracket_text
+  pub rows_read : RowsAreRead
+  pub numerals : NumeralsAreTold
+  pub parts : PartsAreTold
+  pub byte_texts : ByteTextsAreTold

@@ -1,21 +1,26 @@
 //! Texts in bytes: what one brings of its own, and how its numbers are spelled for it.
 
-ghost use Rattle.std.specs.Prelude.{◌≡◌, ℕ, List, IfOk, OnOk};
+ghost use Rattle.std.specs.Prelude.{◌≡◌, ℕ, List, [], length, IfOk, OnOk};
 ghost use Rattle.text_grammar.specs.ByteTexts.{ByteText as ByteTextOf, class_of as class_at, fold_of, fresh, texts_of};
+ghost use Rattle.text_grammar.specs.ByteTexts.{against_in, against_feed as against_feed_in, against_other as against_other_in};
+ghost use Rattle.text_grammar.specs.declared.numeral.Within.TheVariants.{Words};
 ghost use Rattle.text_grammar.specs.CodeBytes.{numeral_of};
 ghost use Rattle.text_grammar.specs.Folds.{state};
 ghost use Rattle.text_grammar.specs.Grammars.{Event};
 ghost use Rattle.text_grammar.specs.Marks.{fault_of, token_of};
 ghost use Rattle.text_grammar.specs.Texts.{first_shown};
 
-use crate::bytes::{NATURAL_READ, NUMBER_BEGINS, VALUE_READ};
-use crate::numeral::Numeral;
+use crate::bytes::{
+    LINE_BEGINS, LINE_READ, NATURAL_BEGINS, NATURAL_READ, VALUE_BEGINS, VALUE_LIMIT, VALUE_READ,
+};
+use crate::numeral::{Numeral, Within};
 use crate::text::Text;
 use crate::token::{Fault, Token};
-use std::alloc::AllocError;
+use std::alloc::{AllocError, Global};
+use std::mem::replace;
 
-/// A text in bytes: what it remembers of values, natural numbers and marks of its own, what stands against a number and
-/// against another byte, and what it makes of them all.
+/// A text in bytes: what it remembers of natural numbers, lines of values and marks of its own, what stands against
+/// them and against a byte, and what it makes of them all.
 pub trait ByteText {
     type Kind: Copy;
 
@@ -37,15 +42,6 @@ pub trait ByteText {
     fn class(&self, byte: u8) -> u32
         ensures { result ≡ class_at (bytes_of self.now).letters byte };
 
-    /// Reads a value.
-    ///
-    /// # Errors
-    ///
-    /// `AllocError` where an allocation fails.
-    fn value(&mut self, value: i128) -> Result<(), AllocError>
-        ensures same { bytes_of self.new ≡ bytes_of self.old }
-        ensures known { OnOk result (own_of self.new ≡ (bytes_of self.old).value value (own_of self.old)) };
-
     /// Reads a natural number.
     ///
     /// # Errors
@@ -54,6 +50,15 @@ pub trait ByteText {
     fn natural(&mut self, number: u128) -> Result<(), AllocError>
         ensures same { bytes_of self.new ≡ bytes_of self.old }
         ensures known { OnOk result (own_of self.new ≡ (bytes_of self.old).natural number (own_of self.old)) };
+
+    /// Reads a line of values.
+    ///
+    /// # Errors
+    ///
+    /// `AllocError` where an allocation fails.
+    fn line(&mut self, values: Vec<i128>) -> Result<(), AllocError>
+        ensures same { bytes_of self.new ≡ bytes_of self.old }
+        ensures known { OnOk result (own_of self.new ≡ (bytes_of self.old).line values.items (own_of self.old)) };
 
     /// Does what a mark stands for that isn't one of numbers.
     ///
@@ -64,11 +69,15 @@ pub trait ByteText {
         ensures same { bytes_of self.new ≡ bytes_of self.old }
         ensures known { OnOk result (own_of self.new ≡ (bytes_of self.old).done mark (own_of self.old)) };
 
-    /// What stands against a number of this value.
-    fn against_number(&self, number: u128) -> Option<Self::Kind>
-        ensures { result ≡ (bytes_of self.now).against_number (own_of self.now) number };
+    /// What stands against a natural number of this value.
+    fn against_natural(&self, number: u128) -> Option<Self::Kind>
+        ensures { result ≡ (bytes_of self.now).against_natural (own_of self.now) number };
 
-    /// What stands against a byte that isn't a digit.
+    /// What stands against a line of so many values.
+    fn against_line(&self, values: usize) -> Option<Self::Kind>
+        ensures { result ≡ (bytes_of self.now).against_line (own_of self.now) values };
+
+    /// What stands against a byte that isn't a digit, and ends no line of values.
     fn against_byte(&self, byte: u8) -> Option<Self::Kind>
         ensures { result ≡ (bytes_of self.now).against_byte (own_of self.now) byte };
 
@@ -80,6 +89,10 @@ pub trait ByteText {
     fn syntax(&self) -> Self::Kind
         ensures { result ≡ (bytes_of self.now).syntax };
 
+    /// The kind of refusal of a value over 2^63-1 in absolute value.
+    fn too_large(&self) -> Self::Kind
+        ensures { result ≡ (bytes_of self.now).too_large };
+
     /// What is made of a whole text.
     ///
     /// # Errors
@@ -89,22 +102,63 @@ pub trait ByteText {
         ensures { IfOk result (λ made. tree_in made ≡ (bytes_of self).tree (own_of self)) };
 }
 
-/// A text in bytes, with the number that is being spelled.
+/// A text in bytes, with the number that is being spelled, within what that is, and the values of the line so far.
 #[derive(Drop)]
 pub struct Spelling<X> {
+    alloc: Global,
     text: X,
     numeral: Numeral,
+    within: Within,
+    values: Vec<i128>,
 }
 
 impl<X: ByteText> Spelling<X> {
-    /// No byte of a number has been read.
-    pub fn new(text: X) -> Spelling<X>
+    /// No byte has been read.
+    pub fn new(alloc: Global, text: X) -> Spelling<X>
         ensures text { result.text ≡ text }
         ensures numeral { numeral_of result.numeral ≡ fresh }
+        ensures within { result.within ≡ Words }
+        ensures values { result.values.items ≡ [] }
     {
         Spelling {
+            alloc,
             text,
             numeral: Numeral::new(),
+            within: Within::Words,
+            values: Vec::new(alloc),
+        }
+    }
+
+    // What stands against a number of this value.
+    fn against_number(&self, number: u128) -> Option<X::Kind>
+        ensures { result ≡ against_in (X.bytes_of self.now.text) self.now.within (X.own_of self.now.text) number }
+    {
+        match self.within {
+            Within::Natural => self.text.against_natural(number),
+            _ if number > VALUE_LIMIT => Some(self.text.too_large()),
+            _ => None,
+        }
+    }
+
+    // What stands against a line feed.
+    fn against_feed(&self) -> Option<X::Kind>
+        ensures { result ≡ against_feed_in (X.bytes_of self.now.text) self.now.within (X.own_of self.now.text)
+            (length self.now.values.items) }
+    {
+        match self.within {
+            Within::Line => self.text.against_line(self.values.len()),
+            _ => self.text.against_byte(b'\n'),
+        }
+    }
+
+    // What stands against a byte that isn't a digit.
+    fn against_other(&self, byte: u8) -> Option<X::Kind>
+        ensures { result ≡ against_other_in (X.bytes_of self.now.text) self.now.within (X.own_of self.now.text)
+            (length self.now.values.items) byte }
+    {
+        match byte {
+            b'\n' => self.against_feed(),
+            _ => self.text.against_byte(byte),
         }
     }
 }
@@ -120,8 +174,13 @@ impl<X: ByteText> Text for Spelling<X> {
 
     ghost text_of = { λ s. texts_of (X.bytes_of s.text) };
 
-    ghost Knows = { λ s es. record { own = X.own_of s.text; numeral = numeral_of s.numeral }
-        ≡ state (fold_of (X.bytes_of s.text)) es };
+    ghost Knows = { λ s es.
+        record {
+          own = X.own_of s.text;
+          numeral = numeral_of s.numeral;
+          within = s.within;
+          values = s.values.items;
+        } ≡ state (fold_of (X.bytes_of s.text)) es };
 
     ghost Makes = { λ made t. X.tree_in made ≡ t };
 
@@ -131,14 +190,31 @@ impl<X: ByteText> Text for Spelling<X> {
 
     fn did(&mut self, mark: u32) -> Result<(), AllocError> {
         match mark {
-            NUMBER_BEGINS => self.numeral = Numeral::new(),
+            VALUE_BEGINS => self.numeral = Numeral::new(),
             VALUE_READ => {
-                self.text.value(self.numeral.value())?;
+                let value = self.numeral.value();
+                self.values.push(value)?;
                 self.numeral = Numeral::new();
             }
             NATURAL_READ => {
                 self.text.natural(self.numeral.number)?;
                 self.numeral = Numeral::new();
+                self.within = Within::Words;
+            }
+            NATURAL_BEGINS => {
+                self.numeral = Numeral::new();
+                self.within = Within::Natural;
+            }
+            LINE_BEGINS => {
+                self.numeral = Numeral::new();
+                self.within = Within::Line;
+                self.values.clear();
+            }
+            LINE_READ => {
+                let values = replace(&mut self.values, Vec::new(self.alloc));
+                self.text.line(values)?;
+                self.numeral = Numeral::new();
+                self.within = Within::Words;
             }
             _ => self.text.done(mark)?,
         }
@@ -152,20 +228,24 @@ impl<X: ByteText> Text for Spelling<X> {
 
     fn fault(&self, token: Token<u8>) -> Option<Fault<X::Kind>>
         ensures { (es : List (Event ℕ))
-            → record { own = X.own_of self.now.text; numeral = numeral_of self.now.numeral }
-            ≡ state (fold_of (X.bytes_of self.now.text)) es
+            → record {
+              own = X.own_of self.now.text;
+              numeral = numeral_of self.now.numeral;
+              within = self.now.within;
+              values = self.now.values.items;
+            } ≡ state (fold_of (X.bytes_of self.now.text)) es
             → fault_of result ≡ first_shown (texts_of (X.bytes_of self.now.text)) None
             ((texts_of (X.bytes_of self.now.text)).faults es (token_of token)) }
     {
         if token.piece.is_ascii_digit() {
             let number = self.numeral.more(token.piece);
             let at = self.numeral.begins_at(token.at);
-            return match self.text.against_number(number) {
+            return match self.against_number(number) {
                 Some(kind) => Some(Fault { kind, at }),
                 None => None,
             };
         }
-        match self.text.against_byte(token.piece) {
+        match self.against_other(token.piece) {
             Some(kind) => Some(Fault { kind, at: token.at }),
             None => None,
         }

@@ -3,13 +3,13 @@
 ghost use Rattle.std.specs.Prelude.{◌≡◌, ◌<◌, ◌≤◌, ◌+◌, ◌-◌, ◌*◌, ◌^◌, length, IsTrue};
 ghost use Rattle.std.specs.Char.{is_ascii_digit};
 ghost use Rattle.text_grammar.specs.ByteTexts.{bytes_lexer, bytes_within, fresh, signed, with_byte};
-ghost use Rattle.text_grammar.specs.ByteTexts.{class_of as class_at, place_of as place_at};
+ghost use Rattle.text_grammar.specs.ByteTexts.{class_of as class_at, position_of as position_at};
 ghost use Rattle.text_grammar.specs.CodeBytes.{numeral_of};
 
 use crate::cut::{Lexeme, Lexer, OneMode};
 use crate::numeral::Numeral;
 
-/// The classes of `0`, of `1`, of `2` to `9`, and of `-`.
+/// The classes of `0`, of `1`, of `2` to `9`, of `-`, of a blank, and of a line feed.
 pub const ZERO: u32 = 0;
 /// See `ZERO`.
 pub const ONE: u32 = 1;
@@ -17,8 +17,13 @@ pub const ONE: u32 = 1;
 pub const MORE: u32 = 2;
 /// See `ZERO`.
 pub const MINUS: u32 = 3;
+/// See `ZERO`.
+pub const BLANK: u32 = 4;
+/// See `ZERO`.
+pub const LINE_FEED: u32 = 5;
 
-/// The nonterminals of a value with a sign, of a natural number, and of what they are spelled by.
+/// The nonterminals of a value with a sign, of a natural number, of what they are spelled by, of a line of values, and
+/// of such a line behind its beginning.
 pub const VALUE: u32 = 1;
 /// See `VALUE`.
 pub const NATURAL: u32 = 2;
@@ -28,13 +33,26 @@ pub const NUMBER: u32 = 3;
 pub const POSITIVE: u32 = 4;
 /// See `VALUE`.
 pub const DIGITS: u32 = 5;
+/// See `VALUE`.
+pub const LINE: u32 = 6;
+/// See `VALUE`.
+pub const VALUES: u32 = 7;
 
-/// The marks before a number, and behind a value and a natural number.
-pub const NUMBER_BEGINS: u32 = 0;
-/// See `NUMBER_BEGINS`.
+/// The marks before and behind a value, a natural number and a line of values.
+pub const VALUE_BEGINS: u32 = 0;
+/// See `VALUE_BEGINS`.
 pub const VALUE_READ: u32 = 1;
-/// See `NUMBER_BEGINS`.
+/// See `VALUE_BEGINS`.
 pub const NATURAL_READ: u32 = 2;
+/// See `VALUE_BEGINS`.
+pub const NATURAL_BEGINS: u32 = 3;
+/// See `VALUE_BEGINS`.
+pub const LINE_BEGINS: u32 = 4;
+/// See `VALUE_BEGINS`.
+pub const LINE_READ: u32 = 5;
+
+/// A value is at most so large, in absolute value.
+pub const VALUE_LIMIT: u128 = (1 << 63) - 1;
 
 const CAP: u128 = 1 << 64;
 
@@ -67,14 +85,14 @@ impl Lexer for Bytes {
 }
 
 // Where a byte stands among others, and how many there are where it is none of them.
-fn place_of(letters: &[u8], byte: u8) -> u32
+fn position_of(letters: &[u8], byte: u8) -> u32
     requires { length letters.now < 2 ^ 31 }
-    ensures place { result ≡ place_at letters.now byte }
+    ensures position { result ≡ position_at letters.now byte }
     ensures within { result ≤ length letters.now }
 {
     match letters {
         [first, ..] if *first == byte => 0,
-        [_, others @ ..] => 1 + place_of(others, byte),
+        [_, others @ ..] => 1 + position_of(others, byte),
         [] => 0,
     }
 }
@@ -89,7 +107,9 @@ pub fn class_of(letters: &[u8], byte: u8) -> u32
         b'1' => ONE,
         b'2'..=b'9' => MORE,
         b'-' => MINUS,
-        _ => 4 + place_of(letters, byte),
+        b' ' => BLANK,
+        b'\n' => LINE_FEED,
+        _ => 6 + position_of(letters, byte),
     }
 }
 

@@ -5,8 +5,9 @@ ghost use Rattle.text_grammar.specs.Worked.{TextsAreRead, WorkedGrammars};
 
 use crate::text::Text;
 
-/// Which grammars can be read, which rules items spell and what brackets derive is what was worked out by hand, on both
-/// sides, and the reader of brackets keeps the laws. It has no code: its contract is the law.
+/// Which grammars can be read, which rules items spell, what brackets derive, and what numbers, parts and a small text
+/// in single bytes come to is what was worked out by hand, on both sides; the reader of brackets keeps the laws, and of
+/// the small text what is printed is read and what is read is printed. It has no code: its contract is the law.
 pub fn worked_grammars_hold()
     ensures { WorkedGrammars }
 {}

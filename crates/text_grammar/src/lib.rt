@@ -3,6 +3,7 @@
 //! reader that answers exactly the tree or exactly the first fault (`specs/Texts`), and `read` is its code.
 #![tactic(auto)]
 
+mod byte_reading;
 mod byte_text;
 mod bytes;
 mod cut;
@@ -17,14 +18,16 @@ mod tables;
 mod text;
 mod token;
 
+pub use byte_reading::read_bytes;
 pub use byte_text::{ByteText, Spelling};
 pub use bytes::{
-    Bytes, DIGITS, MINUS, MORE, NATURAL, NATURAL_READ, NUMBER, NUMBER_BEGINS, ONE, POSITIVE, VALUE,
-    VALUE_READ, ZERO, class_of,
+    BLANK, Bytes, DIGITS, LINE, LINE_BEGINS, LINE_FEED, LINE_READ, MINUS, MORE, NATURAL,
+    NATURAL_BEGINS, NATURAL_READ, NUMBER, ONE, POSITIVE, VALUE, VALUE_BEGINS, VALUE_LIMIT,
+    VALUE_READ, VALUES, ZERO, class_of,
 };
 pub use cut::{Cut, Lexeme, Lexer, OneMode};
 pub use law::{lawful_texts_are_read, worked_grammars_hold};
-pub use numeral::Numeral;
+pub use numeral::{Numeral, Within};
 pub use reading::read;
 pub use symbol::{Item, Symbol};
 pub use tables::Tables;

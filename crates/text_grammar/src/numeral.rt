@@ -10,3 +10,14 @@ pub struct Numeral {
     pub spelled: u64,
     ghost capped: { number ≤ 2 ^ 64 },
 }
+
+/// Within what a number or a byte stands.
+#[derive(Clone, Copy, Debug, PartialEq, Eq)]
+pub enum Within {
+    /// The text's own words.
+    Words,
+    /// A natural number.
+    Natural,
+    /// A line of values.
+    Line,
+}

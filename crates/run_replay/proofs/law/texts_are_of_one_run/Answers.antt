@@ -1,4 +1,4 @@
-use Rattle.run_replay.proofs.RunAnswers.{one_run}
+use Rattle.run_replay.proofs.RunsApart.{one_run}
 use Rattle.run_replay.proofs.law.texts_are_of_one_run.Goals as goal
 
 pub returns : goal.returns

@@ -4,7 +4,7 @@ use Rattle.run_replay.specs.Texts.{runs_of}
 use Rattle.run_replay.specs.Spelled.{IsTextWithin}
 use Rattle.run_replay.specs.Views.{run_of, refusal_in}
 use Rattle.run_replay.proofs.RunParts.{runs_lawful}
-use Rattle.run_replay.proofs.RunAnswers.{stands_written, written_stands}
+use Rattle.run_replay.proofs.RunText.{stands_written, written_stands}
 use Rattle.run_replay.proofs.reading.read_run.Goals as goal
 
 pub returns-clause-answer : goal.returns-clause-answer

@@ -1,0 +1,5 @@
+use Rattle.run_replay.proofs.ReplayLaws.{replays_decided}
+use Rattle.run_replay.proofs.replaying_law.replays_are_decided.Goals as goal
+
+pub returns : goal.returns
+returns c = replays_decided c.steps_have_no_fault.ensures

@@ -1,0 +1,11 @@
+//! Kinds of refusals of run files.
+
+/// Kinds of refusals, without their positions.
+#[derive(Clone, Copy, Debug, PartialEq, Eq)]
+pub enum RunKind {
+    Syntax,
+    NumberTooLarge,
+    BadReference,
+    ArityDiffers,
+    Limit,
+}

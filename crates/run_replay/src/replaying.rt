@@ -1,0 +1,110 @@
+//! From a run file to the tally along its run.
+
+ghost use Rattle.std.specs.Prelude.{◌≡◌, ◌+◌, ◌<◌, ◌≤◌, [], length, IfOk, MatchResult, vec_capacity};
+ghost use Rattle.its_model.specs.model.Programs.{arity_of};
+ghost use Rattle.its_model.specs.Steps.{maximum_arity};
+ghost use Rattle.its_model.specs.Valid.{IsValid};
+ghost use Rattle.its_model.specs.Views.{program_of};
+ghost use Rattle.run_replay.specs.Replays.{BadStep, IsRunInRange, IsFirstBadStep};
+ghost use Rattle.run_replay.specs.ReplayAnswers.{last_first, Replays, Tallies, RefusesWith, Refuses, StandsBehind};
+ghost use Rattle.run_replay.specs.Views.{run_of};
+
+use crate::file::RunFile;
+use crate::replaying_error::{ReplayError, error_at};
+use crate::replaying_law::replays_are_decided;
+use crate::tally::Tally;
+use its_model::{Config, Program, step_checked, steps_have_no_fault};
+use std::alloc::{AllocError, Global};
+use std::mem::swap;
+
+/// Takes the steps of a run, one after the other, from its start values, and tallies them. The run has a start value
+/// for each place of the start symbol. What the steps cost isn't looked at.
+///
+/// # Errors
+///
+/// The first bad step is the answer, by its number from 1. `WrongRule` where there is no such rule, it leaves another
+/// symbol than the one at which the run stands, or it has another number of free variables; `GuardFails` with the first
+/// atom, from 1, that doesn't hold; `PassedRange` where a value of its guard or of its updates passes 128 bits. Of one
+/// step the atoms are looked at in order, the left side before the right one, and then the updates. `Memory` comes
+/// where memory ran out.
+pub fn replay(alloc: Global, p: &Program, run: &RunFile) -> Result<Tally, ReplayError>
+    requires valid { IsValid (program_of p.now) }
+    requires start { length run.now.start.items ≡ arity_of (program_of p.now) (program_of p.now).start }
+    ensures answer { Replays (program_of p.now) (run_of run.now) result }
+    ensures complete { IsRunInRange (program_of p.now) run.now.start.items (last_first (run_of run.now))
+        → Tallies result }
+    ensures refused { (bad : BadStep)
+        → IsFirstBadStep (program_of p.now) run.now.start.items (last_first (run_of run.now)) bad → RefusesWith bad result }
+{
+    replays_are_decided();
+    let mut standing = Standing::new(alloc, p, run)?;
+    for i in 0..run.steps.len() {
+        if let Err(error) = standing.step_on(p, run, i) {
+            return Err(error);
+        }
+    }
+    Ok(standing.tally)
+}
+
+/// Where a replay stands: the configuration, another one into which the next step is taken, and the tally so far.
+#[derive(Drop)]
+pub struct Standing {
+    pub here: Config,
+    pub next: Config,
+    pub tally: Tally,
+}
+
+impl Standing {
+    // A replay stands where its run begins.
+    fn new(alloc: Global, p: &Program, run: &RunFile) -> Result<Standing, AllocError>
+        requires valid { IsValid (program_of p.now) }
+        requires start { length run.now.start.items ≡ arity_of (program_of p.now) (program_of p.now).start }
+        ensures { IfOk result (λ s. StandsBehind (program_of p.now) (run_of run.now) 0 s) }
+    {
+        let places = most_places(p);
+        let mut values = Vec::with_capacity(alloc, places)?;
+        values.extend_from_slice(&run.start)?;
+        Ok(Standing {
+            here: Config {
+                at: p.start,
+                values,
+            },
+            next: Config {
+                at: p.start,
+                values: Vec::with_capacity(alloc, places)?,
+            },
+            tally: Tally::new(alloc, p)?,
+        })
+    }
+
+    // Takes the next step of the run.
+    fn step_on(&mut self, p: &Program, run: &RunFile, i: usize) -> Result<(), ReplayError>
+        requires valid { IsValid (program_of p.now) }
+        requires step { i < length run.now.steps.items }
+        requires stands { StandsBehind (program_of p.now) (run_of run.now) i self.old }
+        ensures { MatchResult result (λ _. StandsBehind (program_of p.now) (run_of run.now) (i + 1) self.new)
+            (Refuses (program_of p.now) (run_of run.now)) }
+    {
+        steps_have_no_fault();
+        let step = &run.steps[i];
+        match step_checked(p, &self.here, step, &mut self.next) {
+            Ok(()) => {
+                swap(&mut self.here, &mut self.next);
+                self.tally.note(step.rule, &self.here.values);
+                Ok(())
+            }
+            Err(error) => Err(error_at(i as u64 + 1, error)),
+        }
+    }
+}
+
+// The most places that a symbol has.
+fn most_places(p: &Program) -> usize
+    ensures { result ≡ maximum_arity (program_of p.now).symbols }
+{
+    let mut most = 0;
+    for symbol in &p.symbols {
+        most = most.max(symbol.arity as usize);
+    }
+    most
+}

@@ -1,0 +1,79 @@
+//! Replays of a made run of 32 values.
+
+ghost use Rattle.std.specs.Prelude.{◌≡◌, length};
+ghost use Rattle.its_model.specs.model.Programs.{arity_of};
+ghost use Rattle.its_model.specs.Valid.{IsValid};
+ghost use Rattle.its_model.specs.Views.{program_of};
+
+use itoa::Buffer;
+use its_model::Program;
+use its_reader::read;
+use run_replay::{RunFile, read_run, replay};
+use std::alloc::{AllocError, Global};
+
+const PLACES: u32 = 32;
+
+// The arguments of a symbol, each followed by what is added to it.
+fn push_arguments(text: &mut Vec<u8>, added: &[u8]) -> Result<(), AllocError> {
+    for place in 0..PLACES {
+        text.push(if place == 0 { b'(' } else { b',' })?;
+        text.push(b'A')?;
+        let mut buffer = Buffer::new();
+        text.extend_from_slice(buffer.format(place).as_bytes())?;
+        text.extend_from_slice(added)?;
+    }
+    text.push(b')')?;
+    Ok(())
+}
+
+// A program of one rule, which adds a free variable to each of its values.
+fn program_text(alloc: Global) -> Result<Vec<u8>, AllocError> {
+    let mut text = b"(STARTTERM (FUNCTIONSYMBOLS l0))(RULES l0".to_vec(alloc)?;
+    push_arguments(&mut text, b"")?;
+    text.extend_from_slice(b" -> Com_1(l0")?;
+    push_arguments(&mut text, b"+C")?;
+    text.extend_from_slice(b"))")?;
+    Ok(text)
+}
+
+// A run of so many steps of it.
+fn run_text(alloc: Global, steps: u32) -> Result<Vec<u8>, AllocError> {
+    let mut text = b"koat-run 1\nstart".to_vec(alloc)?;
+    for _ in 0..PLACES {
+        text.extend_from_slice(b" 5")?;
+    }
+    text.push(b'\n')?;
+    for _ in 0..steps {
+        text.extend_from_slice(b"step 1 -7\n")?;
+    }
+    text.extend_from_slice(b"end\n")?;
+    Ok(text)
+}
+
+/// How many steps are counted where a run of so many is replayed so often.
+pub(crate) fn steps_replayed(alloc: Global, steps: u32, times: u32) -> Result<u64, AllocError> {
+    let program = program_text(alloc)?;
+    let run = run_text(alloc, steps)?;
+    match read(alloc, &program) {
+        Ok(program) => match read_run(alloc, &program, &run) {
+            Ok(file) => replayed(alloc, &program, &file, times),
+            Err(_) => Err(AllocError),
+        },
+        Err(_) => Err(AllocError),
+    }
+}
+
+// How many steps are counted at the last time.
+fn replayed(alloc: Global, program: &Program, file: &RunFile, times: u32) -> Result<u64, AllocError>
+    requires valid { IsValid (program_of program.now) }
+    requires start { length file.now.start.items ≡ arity_of (program_of program.now) (program_of program.now).start }
+{
+    let mut found = 0;
+    for _ in 0..times {
+        match replay(alloc, program, file) {
+            Ok(tally) => found = tally.steps,
+            Err(_) => return Err(AllocError),
+        }
+    }
+    Ok(found)
+}
