@@ -1,12 +1,11 @@
--- What is said of a program, or with a fixed text, is said with its cause.
-use Rattle.std.proofs.Common.{◌≡◌, ℕ, Bool, true, false, if◌then◌else◌, List, Option, Some, None, Result, Ok, Err, IfOk}
-use Rattle.std.proofs.Common.{IfSome, refl, inr, sym, ◌∙◌, ap, subst}
+-- What is read, refused and said.
+use Rattle.std.proofs.Common.{◌≡◌, ℕ, Bool, true, false, if◌then◌else◌, List, Option, Some, None, Ok, Err}
+use Rattle.std.proofs.Common.{IfSome, refl, sym, ◌∙◌, ap, subst}
 use Rattle.std.specs.List.{list_all}
 use Rattle.model.specs.Programs.{Program}
 use Rattle.its_model.specs.text_core.Readers.{Fault}
 use Rattle.its_model.specs.text_core.Reading.{Answer, Stands, Refused}
 use Rattle.its_reader.specs.its_text.Kinds.{Kind}
-use Rattle.its_reader.specs.its_text.Spelling.{SpellsWithin}
 use Rattle.its_reader.specs.its_text.Answers.{verdict}
 use Rattle.its_reader.specs.its_text.Verdicts.{IsVerdict}
 use Rattle.its_reader.proofs.its_text.VerdictLaws.{verdicts_are_right}
@@ -21,37 +20,17 @@ use Rattle.its_reader.specs.Faults as reader
 use Rattle.its_reader.specs.declared.error.ReadError.{ReadError}
 use Rattle.its_reader.specs.declared.error.ReadError.TheVariants as errors
 use Rattle.koat_cli.specs.declared.status.Status.{Status}
-use Rattle.koat_cli.specs.declared.status.Status.TheVariants.{Done, Unknown}
-use Rattle.koat_cli.specs.declared.status_text.StatusText.{StatusText}
-use Rattle.koat_cli.specs.Calls.{Call}
-use Rattle.koat_cli.specs.Causes.{ReadsProgram, IsReported, IsProgramRefused}
+use Rattle.koat_cli.specs.declared.status.Status.TheVariants.{Done, Unknown, WriteFault, Memory, ProgramRefused}
+use Rattle.asks.specs.Lines.{Word}
+use Rattle.asks.specs.Requests.{Request, Analyse, Prove, Check, Replay, Generate, Selfrun}
+use Rattle.koat_cli.specs.Calls.{Seen, Call}
 use Rattle.koat_cli.specs.Report.{refusal_text}
-use Rattle.koat_cli.specs.Ends.{HasCause}
-use Rattle.koat_cli.specs.OfProgram.{StatesAnalysis, status_of}
+use Rattle.koat_cli.specs.Outputs.{status_of}
+use Rattle.koat_cli.specs.OnFiles as files
+use Rattle.koat_cli.specs.OnFiles.{Fetches, IsNoProgram, program_limit}
+use Rattle.koat_cli.specs.Answers.{Answers, Says, ToNothing, ToRequest}
+use Rattle.koat_cli.specs.Steps.{IsSaid}
 use Rattle.report_text.proofs.Entries.{all_known as all_timed}
-
--- a text that states a report is said with the status of the report
-pub said_with_report : (call : Call) (text : List ℕ) (report : Report) → IsReported call text report
-    → HasCause (if list_all is_timed report.times then Done else Unknown) call text
-said_with_report call text report reported = go (list_all is_timed report.times) refl
-  where
-    go : (v : Bool) → list_all is_timed report.times ≡ v → HasCause (if v then Done else Unknown) call text
-    go true e = record { report = report; reported = reported; all_timed = e }
-    go false e = record { report = report; reported = reported; some_untimed = e }
-
--- what is said of the program that the file spells is said with its cause
-pub said_of_program : (call : Call) (bytes : List ℕ) (program : Program) (pivots : ℕ) (status : Status) (text : List ℕ)
-    → ReadsProgram call bytes pivots → SpellsWithin bytes program → StatesAnalysis program pivots status text
-    → HasCause status call text
-said_of_program call bytes program pivots status text read spelled h =
-    subst (λ (s : Status). HasCause s call text) (sym h.status_is) (said_with_report call text h.report (record { bytes = bytes; pivots = pivots; read = read; program = program; spelled = spelled; found = h.found; stated = h.stated; true_on_all_runs = h.holds }))
-
--- a status with a fixed text, which has its cause
-pub said_with_text : {E : Type 0} (r : Result StatusText E) (call : Call) (status : Status) (text : List ℕ)
-    → IfOk r (λ said. said.status ≡ status) → IfOk r (λ said. said.text.items ≡ text) → HasCause status call text
-    → IfOk r (λ said. HasCause said.status call said.text.items)
-said_with_text (Err e) call status text hs ht h = tt
-said_with_text (Ok said) call status text hs ht h = subst (λ (s : Status). HasCause s call said.text.items) (sym hs) (subst (λ (t : List ℕ). HasCause status call t) (sym ht) h)
 
 -- what may be there is one
 some_same : (x y : Fault Kind) → ◌≡◌ {A = Option (Fault Kind)} (Some x) (Some y) → x ≡ y
@@ -93,16 +72,60 @@ has_fault None h = absurd (h refl)
 has_fault (Some x) h = (x, refl)
 
 -- bytes against which something stands are refused for what stands first
-pub refused_first : (call : Call) (bytes : List ℕ) (pivots : ℕ) (e : ReadError) (text : List ℕ) → reader.Says (verdict bytes) (Err e)
+pub refused_first : (seen : Seen) (file : Word) (bytes : List ℕ) (e : ReadError) (text : List ℕ) → reader.Says (verdict bytes) (Err e)
     → IfSome (reader.fault_in e) (λ x. text ≡ refusal_text x) → (reader.fault_in e ≡ None → ⊥)
-    → ReadsProgram call bytes pivots → IsProgramRefused call text
-refused_first call bytes pivots e text says told given read =
+    → Fetches seen file program_limit bytes → IsNoProgram seen file ProgramRefused text
+refused_first seen file bytes e text says told given fetched =
     let fault = has_fault (reader.fault_in e) given in
     let text_is : text ≡ refusal_text fault.0 = subst (λ (o : Option (Fault Kind)). IfSome o (λ x. text ≡ refusal_text x)) fault.1 told in
     let refused : verdict bytes ≡ Refused fault.0 = read_refused (verdict bytes) e fault.0 fault.1 says in
-    inr (record { bytes = bytes; pivots = pivots; read = read; fault = fault.0; refused = refused; first = subst (λ (a : Answer Program Kind). IsVerdict bytes a) refused (verdicts_are_right.each bytes); told = text_is })
+    files.Refused (record {
+      bytes = bytes;
+      fetched = fetched;
+      fault = fault.0;
+      refused = refused;
+      first = subst (λ (a : Answer Program Kind). IsVerdict bytes a) refused (verdicts_are_right.each bytes);
+      told = text_is;
+      ends = refl;
+    })
 
 -- the status of an outcome in which each entry is a time, and of one in which some isn't
 pub status_is : (o : Outcome) (v : Bool) → v ≡ list_all is_known o.times.items
     → (if v then Done else Unknown) ≡ status_of (report_of o)
 status_is o v e = ap (λ (w : Bool). if w then Done else Unknown) (e ∙ all_timed o.gaps.items o.times.items)
+
+-- the status of a report is one with which a text is said
+status_said : (r : Report) → IsSaid (status_of r)
+status_said r = go (list_all is_timed r.times)
+  where
+    go : (v : Bool) → IsSaid (if v then Done else Unknown)
+    go true = tt
+    go false = tt
+
+-- so is each status with which a file that gives no program is answered
+no_program_said : (seen : Seen) (file : Word) (s : Status) (x : List ℕ) → IsNoProgram seen file s x → IsSaid s
+no_program_said seen file s x (files.Unread h) = subst IsSaid (sym h.ends) tt
+no_program_said seen file s x (files.TooLong h) = subst IsSaid (sym h.ends) tt
+no_program_said seen file s x (files.Refused h) = subst IsSaid (sym h.ends) tt
+
+-- and each with which a request is answered
+answered_said : (seen : Seen) (r : Request) (s : Status) (x : List ℕ) → Answers seen r s x → IsSaid s
+answered_said seen (Analyse n f) s x (files.Without h) = no_program_said seen f s x h
+answered_said seen (Analyse n f) s x (files.Of h) = subst IsSaid (sym h.said.ends) (status_said h.said.report)
+answered_said seen (Prove n f) s x h = subst IsSaid (sym h.ends) tt
+answered_said seen (Check f q) s x h = subst IsSaid (sym h.ends) tt
+answered_said seen (Replay f q) s x h = subst IsSaid (sym h.ends) tt
+answered_said seen (Generate n) s x h = subst IsSaid (sym h.ends) tt
+answered_said seen (Selfrun n) s x h = subst IsSaid (sym h.ends) (status_said (report_of h.outcome))
+
+-- a call answers with such statuses alone
+pub says_said : (call : Call) (s : Status) (x : List ℕ) → Says call s x → IsSaid s
+says_said call s x (ToNothing none h) = subst IsSaid (sym h.ends) tt
+says_said call s x (ToRequest r asked h) = answered_said call.shelf r s x h
+
+-- what is said with a status that no call answers with
+pub never_write_fault : (call : Call) (x : List ℕ) → ¬ (Says call WriteFault x)
+never_write_fault call x h = says_said call WriteFault x h
+
+pub never_memory : (call : Call) (x : List ℕ) → ¬ (Says call Memory x)
+never_memory call x h = says_said call Memory x h

@@ -1,18 +1,24 @@
--- No two statuses have their causes in one call.
+-- One answer at most fits a call.
 use Rattle.std.specs.Prelude.{◌≡◌, ◌≢◌, List, ℕ, IsSome}
 use Rattle.outside_io.specs.Counts.{Rose}
+use Rattle.asks.specs.Requests.{Selfrun, Asks}
 use Rattle.koat_cli.specs.declared.status.Status.{Status}
 use Rattle.koat_cli.specs.declared.status.Status.TheVariants.{Usage, ReadFault}
 use Rattle.koat_cli.specs.Calls.{Call}
-use Rattle.koat_cli.specs.Ends.{HasCause}
+use Rattle.koat_cli.specs.Answers.{Says}
 
--- other words than a command line have no other cause than that of the usage text. Where the shelf tells what it holds,
--- one status at most has its cause, with one text, unless it is a fault of reading
--- that came with a rise of the shelf's count; so each status comes exactly where its cause stands, but for faults and
--- want of memory
-pub record CausesExcludeEachOther : Type 0 where
-  pub other_words : (call : Call) (t : Status) (x y : List ℕ) → HasCause Usage call x → HasCause t call y → t ≡ Usage
-  pub without_faults : (call : Call) (s t : Status) (x y : List ℕ) → IsSome call.held
-      → ¬ (Rose call.faults_before call.faults_after) → HasCause s call x → HasCause t call y → (s ≡ t) × (x ≡ y)
-  pub read_faults_aside : (call : Call) (s t : Status) (x y : List ℕ) → IsSome call.held → s ≢ ReadFault → t ≢ ReadFault
-      → HasCause s call x → HasCause t call y → (s ≡ t) × (x ≡ y)
+-- the statuses are the same, and so are the texts, unless the words ask for figures, of which the number of lemmas isn't
+-- known to be one
+pub record AreOne (call : Call) (s t : Status) (x y : List ℕ) : Type 0 where
+  pub status : s ≡ t
+  pub text : ((n : ℕ) → ¬ (Asks call.words (Selfrun n))) → x ≡ y
+
+-- a call that answers with the usage text has no other status to answer with. Where the shelf tells what it holds, a
+-- call has one answer at most, unless it is a fault of reading that came with a rise of the shelf's count; so each
+-- status comes exactly where it is answered with, but for faults and want of memory
+pub record AnswersExcludeEachOther : Type 0 where
+  pub other_words : (call : Call) (t : Status) (x y : List ℕ) → Says call Usage x → Says call t y → t ≡ Usage
+  pub without_faults : (call : Call) (s t : Status) (x y : List ℕ) → IsSome call.shelf.held
+      → ¬ (Rose call.shelf.faults_before call.shelf.faults_after) → Says call s x → Says call t y → AreOne call s t x y
+  pub read_faults_aside : (call : Call) (s t : Status) (x y : List ℕ) → IsSome call.shelf.held → s ≢ ReadFault
+      → t ≢ ReadFault → Says call s x → Says call t y → AreOne call s t x y

@@ -1,16 +1,16 @@
-//! What the causes of the statuses have to do with each other, what the text of an analysis tells, and values that were
-//! worked out by hand.
+//! That a call has one answer, with which status it ends by what is asked for, what the text of an analysis tells, and
+//! values that were worked out by hand.
 
-ghost use Rattle.koat_cli.specs.Answering.{HeldFilesAreAnswered};
-ghost use Rattle.koat_cli.specs.Exclusion.{CausesExcludeEachOther};
+ghost use Rattle.koat_cli.specs.Answering.{HeldFilesAreAnswered, NumbersAreAnswered};
+ghost use Rattle.koat_cli.specs.Exclusion.{AnswersExcludeEachOther};
 ghost use Rattle.koat_cli.specs.AnalysisTexts.{AnalysisTextsStateOneReport};
 ghost use Rattle.koat_cli.specs.WorkedEnds.{FaultsLeaveFirstBytes};
 
-/// The law that no two statuses have their causes in one call of `run` on a shelf that tells what it holds. So each
-/// status comes exactly where its cause stands, but for faults and want of memory. It has no code: its contract is
-/// the law.
-pub fn causes_exclude_each_other()
-    ensures { CausesExcludeEachOther }
+/// The law that a call of `run` on a shelf that tells what it holds has one answer at most: one status, and, unless
+/// figures are asked for, one text. So each status comes exactly where it is answered with, but for faults and want of
+/// memory. It has no code: its contract is the law.
+pub fn answers_exclude_each_other()
+    ensures { AnswersExcludeEachOther }
 {}
 
 /// The law that a call whose words ask for the analysis of a file that the shelf tells that it holds, and in which no
@@ -20,6 +20,14 @@ pub fn causes_exclude_each_other()
 /// It has no code: its contract is the law.
 pub fn held_files_are_answered()
     ensures { HeldFilesAreAnswered }
+{}
+
+/// The law that, faults of the sink and want of memory aside, a call ends with `Usage` exactly where its words ask for
+/// nothing that is there; that one whose words ask for a generated program ends with `Done`; and that one whose words
+/// ask for the figures of its analysis ends with `Done` exactly where this has a time for every rule, and else with
+/// `Unknown`. It has no code: its contract is the law.
+pub fn numbers_are_answered()
+    ensures { NumbersAreAnswered }
 {}
 
 /// The law that the report of an analysis of a valid program, whose numbers fit the types that hold them, can be told

@@ -3,9 +3,11 @@
 #![tactic(auto)]
 
 mod analysis;
+mod generated;
 mod law;
 mod preparation;
 mod program;
+mod program_file;
 mod refusal;
 mod status;
 mod status_text;
@@ -13,8 +15,8 @@ mod top_call;
 
 pub use asks::{Request, asks};
 pub use law::{
-    analysis_texts_state_one_report, causes_exclude_each_other, held_files_are_answered,
-    worked_ends_hold,
+    analysis_texts_state_one_report, answers_exclude_each_other, held_files_are_answered,
+    numbers_are_answered, worked_ends_hold,
 };
 pub use program::run_program;
 pub use report_text::print as print_report;
