@@ -1,5 +1,7 @@
+pub mod Counts
 pub mod Sayings
 pub mod OneRequest
+pub mod Endings
 pub mod Exclusions
 pub mod DeterminedCalls
 pub mod Answering

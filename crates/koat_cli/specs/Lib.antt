@@ -1,6 +1,7 @@
 -- what the contracts of the program cite: calls, texts, statuses, what commands write, and how calls end
 pub mod Calls
 pub mod Report
+pub mod Figures
 pub mod Numbers
 pub mod Outputs
 pub mod OnFiles

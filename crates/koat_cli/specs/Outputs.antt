@@ -11,11 +11,11 @@ use Rattle.outcome.specs.Reports.{Report, is_timed}
 use Rattle.outcome.specs.Holding.{ReportHolds}
 use Rattle.outcome.specs.Views.{report_of}
 use Rattle.report_text.specs.States.{States}
-use Rattle.report_text.specs.Figures.{text_of_figures}
 use Rattle.time_bounds.specs.Analysis.{IsAnalysis}
 use Rattle.time_bounds.specs.AnalysisLemmas.{HasLemmas}
 use Rattle.koat_cli.specs.declared.status.Status.{Status}
 use Rattle.koat_cli.specs.declared.status.Status.TheVariants.{Done, Unknown, Usage}
+use Rattle.koat_cli.specs.Figures.{text_of_figures}
 use Rattle.koat_cli.specs.Report.{usage_text}
 
 -- the report is that of the analysis of the program with so many pivots for each linear program; and every bound in it

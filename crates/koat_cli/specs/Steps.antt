@@ -1,8 +1,10 @@
 -- What is said on the way to an answer.
-use Rattle.std.specs.Prelude.{◌≡◌, ⊤}
+use Rattle.std.specs.Prelude.{◌≡◌, Bool, true, false, ⊤}
 use Rattle.its_model.specs.Valid.{IsValid}
 use Rattle.its_model.specs.Views.{program_of}
 use Rattle.asks.specs.Lines.{Word}
+use Rattle.outcome.specs.declared.entry.SizeEntry.{SizeEntry}
+use Rattle.outcome.specs.declared.entry.SizeEntry.TheVariants as sizes
 use Rattle.koat_cli.specs.declared.program_file.ProgramFile.{ProgramFile}
 use Rattle.koat_cli.specs.declared.program_file.ProgramFile.TheVariants as files
 use Rattle.koat_cli.specs.declared.status.Status.{Status}
@@ -34,3 +36,13 @@ IsSaid ProofRefused = ⊤
 IsSaid No = ⊤
 IsSaid RunRefused = ⊤
 IsSaid NotARun = ⊤
+
+-- whether an entry is a size
+abbrev pub is_known_size : SizeEntry → Bool
+is_known_size (sizes.Known s) = true
+is_known_size (sizes.Loose l) = false
+is_known_size (sizes.Tripped t) = false
+is_known_size (sizes.Missing s) = false
+is_known_size (sizes.Bent s) = false
+is_known_size (sizes.Untimed rule) = false
+is_known_size (sizes.Large nodes) = false

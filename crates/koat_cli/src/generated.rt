@@ -5,12 +5,12 @@ ghost use Rattle.its_writer.specs.Generated as plain;
 ghost use Rattle.koat_cli.specs.Outputs.{IsGenerated, IsSummaryOf};
 
 use crate::analysis::status_of;
+use crate::figures::figures;
 use crate::status::Status;
 use crate::status_text::StatusText;
 use asks::DEFAULT_PIVOTS;
 use its_writer::{generate, print};
 use model::Memory;
-use report_text::print_figures;
 use std::alloc::Global;
 use time_bounds::analyse;
 
@@ -27,7 +27,7 @@ pub(crate) fn generated(alloc: Global, n: u32) -> Result<StatusText, Memory>
 }
 
 /// The figures of the analysis of the generated program of a number.
-pub(crate) fn figures(alloc: Global, n: u32) -> Result<StatusText, Memory>
+pub(crate) fn summary(alloc: Global, n: u32) -> Result<StatusText, Memory>
     requires { n ≤ 100 }
     ensures { IfOk result (λ said. IsSummaryOf (plain.generated n) said.status said.text.items) }
 {
@@ -35,6 +35,6 @@ pub(crate) fn figures(alloc: Global, n: u32) -> Result<StatusText, Memory>
     let found = analyse(alloc, &program, DEFAULT_PIVOTS)?;
     Ok(StatusText {
         status: status_of(&found),
-        text: print_figures(alloc, &program, &found)?,
+        text: figures(alloc, &program, &found)?,
     })
 }

@@ -3,6 +3,7 @@
 #![tactic(auto)]
 
 mod analysis;
+mod figures;
 mod generated;
 mod law;
 mod preparation;

@@ -8,7 +8,7 @@ ghost use Rattle.koat_cli.specs.Outputs.{IsReportOf};
 ghost use Rattle.koat_cli.specs.Steps.{IsSaid};
 
 use crate::analysis::report;
-use crate::generated::{figures, generated};
+use crate::generated::{generated, summary};
 use crate::program_file::{ProgramFile, program_in};
 use crate::status::Status;
 use crate::status_text::{StatusText, status_with_text};
@@ -38,7 +38,7 @@ pub(crate) fn prepare<F: Shelf>(
     match asks(alloc, words)? {
         Some(Request::Analyse { pivots, file }) => analysis_of(alloc, file.as_str(), pivots, shelf),
         Some(Request::Generate { n }) => generated(alloc, n),
-        Some(Request::Selfrun { n }) => figures(alloc, n),
+        Some(Request::Selfrun { n }) => summary(alloc, n),
         Some(Request::Prove { .. }) => status_with_text(alloc, Status::Usage, USAGE),
         Some(Request::Check { .. }) => status_with_text(alloc, Status::Usage, USAGE),
         Some(Request::Replay { .. }) => status_with_text(alloc, Status::Usage, USAGE),

@@ -2,7 +2,6 @@
 pub mod Lists
 -- entries of an outcome as those of its report
 pub mod Entries
-pub mod Counts
 -- texts that tell what they are of: numbers, lists, points, trips, symbols' places, gaps and reasons
 pub mod TellingTexts
 pub mod Digits

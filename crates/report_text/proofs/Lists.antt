@@ -85,13 +85,6 @@ two_pushed old p q a b c d ep ea eq eb =
     let whole : q ≡ (old ++ c) ++ d = cc in
     whole ∙ append_assoc old c d
 
--- three pieces that are put behind what stands follow it in order, each told by equations
-pub three_pushed : (old p q r a b c d e f : List ℕ) → p ≡ old ++ a → a ≡ d → q ≡ p ++ b → b ≡ e → r ≡ q ++ c → c ≡ f
-    → r ≡ old ++ (d ++ (e ++ f))
-three_pushed old p q r a b c d e f ep ea eq eb er ec =
-    let whole : r ≡ (old ++ d) ++ e ++ f = cc in
-    whole ∙ (append_assoc (old ++ d) e f ∙ append_assoc old d (e ++ f))
-
 -- four pieces that are put behind what stands follow it in order, each told by equations
 pub four_pushed : (old p q r s a b c d e f g h : List ℕ) → p ≡ old ++ a → a ≡ e → q ≡ p ++ b → b ≡ f → r ≡ q ++ c → c ≡ g
     → s ≡ r ++ d → d ≡ h → s ≡ old ++ (e ++ (f ++ (g ++ h)))

@@ -8,8 +8,6 @@ use Rattle.bound_expr.specs.Views.{bound_of}
 use Rattle.bound_expr.specs.declared.bound.Bound as code
 use Rattle.outcome.specs.declared.entry.TimeEntry.{TimeEntry}
 use Rattle.outcome.specs.declared.entry.TimeEntry.TheVariants as times
-use Rattle.outcome.specs.declared.entry.SizeEntry.{SizeEntry}
-use Rattle.outcome.specs.declared.entry.SizeEntry.TheVariants as sizes
 use Rattle.report_text.specs.Reports.{bound_end, none_end}
 
 -- the line of a rule's entry
@@ -35,13 +33,3 @@ is_known (times.Large nodes) = false
 
 abbrev pub headline_of : List TimeEntry → List ℕ
 headline_of entries = cond (list_all is_known entries) (codes "bounded\n") (codes "unknown\n")
-
--- whether an entry is a size
-abbrev pub is_known_size : SizeEntry → Bool
-is_known_size (sizes.Known s) = true
-is_known_size (sizes.Loose l) = false
-is_known_size (sizes.Tripped t) = false
-is_known_size (sizes.Missing s) = false
-is_known_size (sizes.Bent s) = false
-is_known_size (sizes.Untimed rule) = false
-is_known_size (sizes.Large nodes) = false

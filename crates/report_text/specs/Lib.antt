@@ -3,8 +3,6 @@ pub mod Pieces
 pub mod Reasons
 pub mod Reports
 pub mod States
--- its figures
-pub mod Figures
 -- reports that a text tells whole, that it tells one alone, and small texts worked out by hand
 pub mod Printable
 pub mod OneReport

@@ -10,12 +10,13 @@ use Rattle.outcome.specs.declared.entry.SizeEntry.{SizeEntry}
 use Rattle.outcome.specs.declared.entry.SizeEntry.TheVariants as sizes
 use Rattle.outcome.specs.Reports.{is_timed}
 use Rattle.outcome.specs.Views.{time_of, size_of}
-use Rattle.report_text.specs.Conditions.{is_known, is_known_size}
-use Rattle.report_text.specs.Figures.{is_sized}
+use Rattle.report_text.specs.Conditions.{is_known}
 use Rattle.report_text.proofs.Entries.{known_is_timed}
+use Rattle.koat_cli.specs.Figures.{is_sized}
+use Rattle.koat_cli.specs.Steps.{is_known_size}
 
 -- the sum over a list is that over what is seen of it, where each counts the same
-pub sum_seen : {X Y : Type 0} (f : X → ℕ) (g : Y → ℕ) (view : X → Y) → ((x : X) → f x ≡ g (view x)) → (xs : List X)
+sum_seen : {X Y : Type 0} (f : X → ℕ) (g : Y → ℕ) (view : X → Y) → ((x : X) → f x ≡ g (view x)) → (xs : List X)
     → sum_by f xs ≡ sum_by g (map view xs)
 sum_seen f g view same [] = refl
 sum_seen f g view same (x ∷ xs) =
@@ -28,7 +29,7 @@ abbrev pub one_where : Bool → ℕ
 one_where b = cond b 1 0
 
 -- so is a count
-pub count_seen : {X Y : Type 0} (p : X → Bool) (q : Y → Bool) (view : X → Y) → ((x : X) → p x ≡ q (view x)) → (xs : List X)
+count_seen : {X Y : Type 0} (p : X → Bool) (q : Y → Bool) (view : X → Y) → ((x : X) → p x ≡ q (view x)) → (xs : List X)
     → count_by p xs ≡ count_by q (map view xs)
 count_seen p q view same xs = sum_seen (λ x. one_where (p x)) (λ y. one_where (q y)) view (λ x. ap one_where (same x)) xs
 
