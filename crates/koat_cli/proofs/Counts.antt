@@ -4,14 +4,9 @@ use Rattle.std.proofs.Common.{◌∙◌, ap, arith}
 use Rattle.std.specs.Prelude.{sum_by, count_by}
 use Rattle.std.proofs.lemmas.List.{length-map}
 use Rattle.std.proofs.lemmas.List.Sums.{sum_by-cons, sum_by_more}
-use Rattle.proof_tree.specs.declared.gap.Gap.{Gap}
-use Rattle.outcome.specs.declared.entry.TimeEntry.{TimeEntry}
 use Rattle.outcome.specs.declared.entry.SizeEntry.{SizeEntry}
 use Rattle.outcome.specs.declared.entry.SizeEntry.TheVariants as sizes
-use Rattle.outcome.specs.Reports.{is_timed}
-use Rattle.outcome.specs.Views.{time_of, size_of}
-use Rattle.report_text.specs.Conditions.{is_known}
-use Rattle.report_text.proofs.Entries.{known_is_timed}
+use Rattle.outcome.specs.Views.{size_of}
 use Rattle.koat_cli.specs.Figures.{is_sized}
 use Rattle.koat_cli.specs.Steps.{is_known_size}
 
@@ -43,10 +38,7 @@ known_is_sized (sizes.Bent s) = refl
 known_is_sized (sizes.Untimed rule) = refl
 known_is_sized (sizes.Large nodes) = refl
 
--- the entries that are times, and those that are sizes, are as many as the report has
-pub times_counted : (gaps : List Gap) (es : List TimeEntry) → count_by is_known es ≡ count_by is_timed (map (time_of gaps) es)
-times_counted gaps es = count_seen is_known is_timed (time_of gaps) (known_is_timed gaps) es
-
+-- the entries that are sizes are as many as the report has
 pub sizes_counted : {R : Type 0} (items : R → List SizeEntry) (rows : List R)
     → sum_by (λ row. count_by is_known_size (items row)) rows
     ≡ sum_by (λ row. count_by is_sized row) (map (λ row. map size_of (items row)) rows)
