@@ -2,6 +2,7 @@ pub mod Counts
 pub mod Sayings
 pub mod OneRequest
 pub mod Endings
+pub mod Preparing
 pub mod Exclusions
 pub mod DeterminedCalls
 pub mod Answering

@@ -1,15 +1,8 @@
-use Rattle.std.proofs.Common.{ap, subst, sym, ◌∙◌, refl}
-use Rattle.model.specs.Programs.{Program}
-use Rattle.its_reader.specs.its_text.Spelling.{SpellsWithin}
-use Rattle.its_writer.specs.Texts.{canonical_text}
+use Rattle.its_model.specs.Views.{program_of}
+use Rattle.koat_cli.proofs.Preparing.{generated_text}
 use Rattle.koat_cli.proofs.generated.generated.Goals as goal
 
 pub returns : goal.returns
 returns c =
-    let same = c.in_ok-program.ensures.program in
-    let told = c.in_ok-print.ensures.text ∙ ap canonical_text same in
-    record {
-      told = told;
-      spelled = subst (λ t. SpellsWithin t _) (sym told) (subst (λ (p : Program). SpellsWithin (canonical_text p) p) same c.in_ok-program.ensures.spelled);
-      ends = refl;
-    }
+    generated_text c.args.n (program_of c.in_ok-program.program) c.in_ok-print.field-0.items c.in_ok-program.ensures.program
+    c.in_ok-print.ensures.text c.in_ok-program.ensures.spelled
