@@ -1,6 +1,6 @@
 -- What the words behind a command ask for.
 use Rattle.std.proofs.Common.{◌≡◌, ◌≢◌, ℕ, List, [], ◌∷◌, ◌++◌, Option, Some, None, MatchOption, ◌+◌, sym, ◌∙◌, ap}
-use Rattle.std.proofs.Common.{subst, codes, take, drop, length, true, false, refl}
+use Rattle.std.proofs.Common.{subst, take, drop, length, true, false, refl}
 use Rattle.std.specs.Prelude.{nat_eq}
 use Rattle.std.specs.Cmp.Lexicographic.{pointwise, same_text, other_text}
 use Rattle.std.proofs.lemmas.List.{take-append-drop}

@@ -1,5 +1,5 @@
 -- Words are read in one way.
-use Rattle.std.proofs.Common.{◌≡◌, ℕ, ◌==◌, cond, List, [], ◌∷◌, ◌++◌, Option, Some, None, refl, sym, ◌∙◌, ap, subst}
+use Rattle.std.proofs.Common.{◌≡◌, ℕ, ◌==◌, cond, List, [], ◌∷◌, ◌++◌, Option, Some, None, refl, sym, ◌∙◌, ap}
 use Rattle.std.proofs.Common.{codes, get_or}
 use Rattle.std.specs.Str.Parse.{digits_value}
 use Rattle.asks.specs.declared.command.Command.{Command}

@@ -193,7 +193,8 @@ fn generated_programs_are_analysed(rt: HostRuntime) -> Result<(), Fail> {
     let mut sink = MemorySink::new(alloc, 9_999, Vec::new(alloc))?;
     let words = words_of(alloc, &["analyse", "p"])?;
     assert_eq!(rt; run(alloc, &words, &mut shelf, &mut sink), Status::Done);
-    let times: &[u8] = b"bounded\ntime 1: 1\ntime 2: A\ntime 3: 1\ntime 4: B\ntime 5: 1\ntime 6: B\ntime 7: 1\n\
+    let times: &[u8] =
+        b"bounded\ntime 1: 1\ntime 2: A\ntime 3: 1\ntime 4: B\ntime 5: 1\ntime 6: B\ntime 7: 1\n\
 time 8: B\ntime 9: 1\ntime 10: B\ntime 11: 1\ntime 12: B\ntime 13: 1\ntotal: A + 5*B + 7\nsize 1.1: A\n";
     assert!(rt; sink.bytes().starts_with(times));
     Ok(())

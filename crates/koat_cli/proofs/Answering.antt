@@ -26,7 +26,7 @@ use Rattle.koat_cli.specs.Answers.{Says}
 use Rattle.koat_cli.specs.Ends.{Ends}
 use Rattle.koat_cli.specs.Answering.{AsksOfHeld, FindsAllTimes, MissesTimes, SpellsOne, SpellsNone, IsStatusOfHeld}
 use Rattle.koat_cli.specs.Answering.{HeldFilesAreAnswered}
-use Rattle.koat_cli.proofs.OneRequest.{answer_of, timed_where_done, untimed_where_unknown}
+use Rattle.koat_cli.proofs.OneRequest.{answer_of}
 use Rattle.koat_cli.proofs.Exclusions.{Determined}
 
 -- the bytes that a shelf gave of a file are those that it holds

@@ -1,5 +1,5 @@
 -- How a call ends, by what was prepared and what the sink did.
-use Rattle.std.proofs.Common.{◌≡◌, ◌≢◌, ◌<◌, List, ℕ, sym, ◌∙◌, subst, refl}
+use Rattle.std.proofs.Common.{◌≡◌, ◌≢◌, ◌<◌, List, ℕ, sym, subst, refl}
 use Rattle.std.specs.Io.KnownBytes.{Appends}
 use Rattle.outside_io.specs.Counts.{Rose}
 use Rattle.outside_io.specs.Putting.{AppendsPrefix}

@@ -123,9 +123,10 @@ one_told Out s t x y one (Reads p) a b = one p a b
 one_report : Determined → (p : Program) (n : ℕ) (s t : Status) (x y : List ℕ) → IsReportOf p n s x → IsReportOf p n t y
     → (s ≡ t) × (x ≡ y)
 one_report laws p n s t x y a b =
-    let same : a.report ≡ b.report = laws.reports.each p n a.report b.report a.found.found b.found.found in
-    (a.ends ∙ (ap (λ (r : Report). status_of r) same ∙ sym b.ends),
-    a.stated.text_of ∙ (ap (λ (r : Report). text_of_report p r) same ∙ sym b.stated.text_of))
+    let same : a.report ≡ b.report = laws.reports.each p n a.report b.report a.found.found b.found.found in (
+      a.ends ∙ (ap (λ (r : Report). status_of r) same ∙ sym b.ends),
+      a.stated.text_of ∙ (ap (λ (r : Report). text_of_report p r) same ∙ sym b.stated.text_of),
+    )
 
 -- and so is the status of two summaries
 one_summary : Determined → (p : Program) (s t : Status) (x y : List ℕ) → IsSummaryOf p s x → IsSummaryOf p t y → s ≡ t

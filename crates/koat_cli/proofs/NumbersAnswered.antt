@@ -1,8 +1,7 @@
 -- How calls end that ask for nothing, or for something by a number.
-use Rattle.std.proofs.Common.{◌≡◌, ◌≢◌, ◌⊎◌, ◌↔◌, ℕ, List, refl, sym, subst, inl, inr}
+use Rattle.std.proofs.Common.{◌≡◌, ◌⊎◌, ◌↔◌, ℕ, List, refl, subst, inl, inr}
 use Rattle.its_writer.specs.Generated.{generated}
-use Rattle.asks.specs.Lines.{Words}
-use Rattle.asks.specs.Requests.{Request, Generate, Selfrun, Asks, default_pivots}
+use Rattle.asks.specs.Requests.{Generate, Selfrun, Asks, default_pivots}
 use Rattle.outcome.specs.Views.{report_of}
 use Rattle.koat_cli.specs.declared.status.Status.{Status}
 use Rattle.koat_cli.specs.declared.status.Status.TheVariants.{Done, Unknown, Usage}
@@ -29,9 +28,10 @@ nothing_gets_usage call s x none (ToRequest r asked h) = not_there_usage call.sh
 
 usage : (call : Call) (put : Put) (s : Status) → EndsWell s call put → (s ≡ Usage) ↔ AsksForNothingThere call.words
 usage call put s h =
-    let w = wrote call put s h in
-    ((λ e. usage_for_nothing call w.text (subst (λ (t : Status). Says call t w.text) e w.says)),
-    (λ none. nothing_gets_usage call s w.text none w.says))
+    let w = wrote call put s h in (
+      (λ e. usage_for_nothing call w.text (subst (λ (t : Status). Says call t w.text) e w.says)),
+      (λ none. nothing_gets_usage call s w.text none w.says),
+    )
 
 -- a generated program is written with `Done`
 program : (call : Call) (put : Put) (n : ℕ) (s : Status) → Asks call.words (Generate n) → EndsWell s call put → s ≡ Done

@@ -9,7 +9,6 @@ use Rattle.its_reader.specs.its_text.Kinds.{Kind}
 use Rattle.its_reader.specs.its_text.Answers.{verdict}
 use Rattle.its_reader.specs.its_text.Verdicts.{IsVerdict}
 use Rattle.its_reader.proofs.its_text.VerdictLaws.{verdicts_are_right}
-use Rattle.outcome.specs.declared.entry.TimeEntry.TheVariants as times
 use Rattle.outcome.specs.declared.outcome_of.Outcome.{Outcome}
 use Rattle.outcome.specs.Reports.{Report, is_timed}
 use Rattle.outcome.specs.Views.{report_of}

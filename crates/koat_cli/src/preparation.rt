@@ -18,7 +18,8 @@ use outside_io::Shelf;
 use std::alloc::Global;
 
 /// The text for words that ask for nothing: a line for each command that there is.
-const USAGE: &[u8] = b"usage: koat analyse [--pivots N] FILE\n       koat generate N\n       koat selfrun N\n";
+const USAGE: &[u8] =
+    b"usage: koat analyse [--pivots N] FILE\n       koat generate N\n       koat selfrun N\n";
 
 /// The status and the text of a call with these words. The shelf keeps what it holds.
 pub(crate) fn prepare<F: Shelf>(

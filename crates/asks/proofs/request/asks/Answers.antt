@@ -1,5 +1,4 @@
-use Rattle.std.proofs.Common.{◌≡◌, ◌∷◌, map, string_bytes, ap, sym, ◌∙◌}
-use Rattle.asks.specs.Lines.{Word, Words}
+use Rattle.std.proofs.Common.{◌≡◌, ◌∷◌, map, string_bytes, ap}
 use Rattle.asks.specs.Requests.{word_of}
 use Rattle.asks.specs.Steps.{values_in, positionals_in}
 use Rattle.asks.proofs.Commands.{none_given, asked_for}

@@ -1,4 +1,3 @@
-use Rattle.std.proofs.Common.{subst}
 use Rattle.koat_cli.specs.OnFiles.{Without}
 use Rattle.koat_cli.proofs.preparation.analysis_of.Goals as goal
 

@@ -10,7 +10,7 @@ pub returns-in-Some-Analyse-clause-says : goal.returns-in-Some-Analyse-clause-sa
 returns-in-Some-Analyse-clause-says g c =
     let w = c.in-Some-Analyse in
     said_of (call_of g.F.Shelf c.args.words.now c.args.shelf.now c.analysis_of.new.shelf) c.in_ok-pivots.field-0
-    (requests.Analyse w.pivots w.file) c.analysis_of.result (cc (w.is, w.field-0-is, w.pivots-is, w.file-is)) c.in_ok-pivots.ensures
+    (requests.Analyse w.pivots w.file) c.analysis_of.result (cc (w.is, w.field-0-is)) c.in_ok-pivots.ensures
     (subst (λ (file : List ℕ). IfOk c.analysis_of.result (λ said. OnProgram (seen_of g.F.Shelf c.args.shelf.now c.analysis_of.new.shelf) file
     (λ program. IsReportOf program w.pivots) said.status said.text.items)) c.as_str.ensures.value c.analysis_of.ensures.says)
 
@@ -18,13 +18,13 @@ pub returns-in-Some-Generate-clause-says : goal.returns-in-Some-Generate-clause-
 returns-in-Some-Generate-clause-says g c =
     let w = c.in-Some-Generate in
     said_of (call_of g.F.Shelf c.args.words.now c.args.shelf.now c.args.shelf.now) c.in_ok-pivots.field-0 (requests.Generate w.n)
-    c.generated.result (cc (w.is, w.field-0-is, w.n-is)) c.in_ok-pivots.ensures c.generated.ensures
+    c.generated.result (cc (w.is, w.field-0-is)) c.in_ok-pivots.ensures c.generated.ensures
 
 pub returns-in-Some-Selfrun-clause-says : goal.returns-in-Some-Selfrun-clause-says
 returns-in-Some-Selfrun-clause-says g c =
     let w = c.in-Some-Selfrun in
     said_of (call_of g.F.Shelf c.args.words.now c.args.shelf.now c.args.shelf.now) c.in_ok-pivots.field-0 (requests.Selfrun w.n)
-    c.summary.result (cc (w.is, w.field-0-is, w.n-is)) c.in_ok-pivots.ensures c.summary.ensures
+    c.summary.result (cc (w.is, w.field-0-is)) c.in_ok-pivots.ensures c.summary.ensures
 
 pub returns-in-Some-Prove-clause-says : goal.returns-in-Some-Prove-clause-says
 returns-in-Some-Prove-clause-says g c =
