@@ -105,6 +105,7 @@ command_lines = record {
   none = asked _ (codes "0" ∷ []) 0 (codes "p") (line (Apart (codes "0") ∷ Positional (codes "p") ∷ []) None (refl, (refl, tt))) zero;
   most = asked _ (codes "1000000" ∷ []) 1000000 (codes "p") (line (Joined (codes "1000000") ∷ Positional (codes "p") ∷ []) None (refl, (refl, tt))) million;
   behind = asked _ [] 10000 (codes "--pivots") (line [] (Some (codes "--pivots" ∷ [])) tt) refl;
+  end_behind = asked _ [] 10000 (codes "--") (line [] (Some (codes "--" ∷ [])) tt) refl;
   proofs = proved _ (codes "5" ∷ []) 5 (codes "p") (line (Joined (codes "5") ∷ Positional (codes "p") ∷ []) None (refl, (refl, tt))) five;
   check = checked _ (codes "p") (codes "q") (line (Positional (codes "p") ∷ Positional (codes "q") ∷ []) None (refl, (refl, tt)));
   replay = replayed _ (codes "p") (codes "-q") (line (Positional (codes "p") ∷ []) (Some (codes "-q" ∷ [])) (refl, tt));

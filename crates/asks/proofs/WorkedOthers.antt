@@ -1,6 +1,6 @@
 -- Words that ask for nothing.
 use Rattle.std.proofs.Common.{◌≡◌, ◌≢◌, ℕ, [], ◌∷◌, ◌++◌, refl, sym, ◌∙◌, ap, subst, arith, codes, get_or, true}
-use Rattle.std.proofs.Common.{false}
+use Rattle.std.proofs.Common.{false, length}
 use Rattle.asks.specs.declared.command.Command.{Command}
 use Rattle.asks.specs.declared.command.Command.TheVariants as commands
 use Rattle.asks.specs.Lines.{Word, Words, is_plain, Gives}
@@ -50,6 +50,51 @@ other_command : AsksNothing (codes "Analyse" ∷ codes "p" ∷ [])
 other_command = none_without_command _ (codes "Analyse") (codes "p" ∷ []) refl go
   where
     go : (c : Command) → codes "Analyse" ≢ word_of c
+    go commands.Analyse e = omega (arith, ap (λ (w : Word). get_or w 0 0) e)
+    go commands.Prove e = omega (arith, ap (λ (w : Word). get_or w 0 0) e)
+    go commands.Check e = omega (arith, ap (λ (w : Word). get_or w 0 0) e)
+    go commands.Replay e = omega (arith, ap (λ (w : Word). get_or w 0 0) e)
+    go commands.Generate e = omega (arith, ap (λ (w : Word). get_or w 0 0) e)
+    go commands.Selfrun e = omega (arith, ap (λ (w : Word). get_or w 0 0) e)
+
+-- nor are `gen` and `analys`, which lack letters, nor an option
+shorter_command : AsksNothing (codes "gen" ∷ codes "1" ∷ [])
+shorter_command = none_without_command _ (codes "gen") (codes "1" ∷ []) refl go
+  where
+    go : (c : Command) → codes "gen" ≢ word_of c
+    go commands.Analyse e = omega (arith, ap length e)
+    go commands.Prove e = omega (arith, ap length e)
+    go commands.Check e = omega (arith, ap length e)
+    go commands.Replay e = omega (arith, ap length e)
+    go commands.Generate e = omega (arith, ap length e)
+    go commands.Selfrun e = omega (arith, ap length e)
+
+letter_missing : AsksNothing (codes "analys" ∷ codes "p" ∷ [])
+letter_missing = none_without_command _ (codes "analys") (codes "p" ∷ []) refl go
+  where
+    go : (c : Command) → codes "analys" ≢ word_of c
+    go commands.Analyse e = omega (arith, ap length e)
+    go commands.Prove e = omega (arith, ap length e)
+    go commands.Check e = omega (arith, ap length e)
+    go commands.Replay e = omega (arith, ap (λ (w : Word). get_or w 0 0) e)
+    go commands.Generate e = omega (arith, ap length e)
+    go commands.Selfrun e = omega (arith, ap length e)
+
+option_alone : AsksNothing (codes "--version" ∷ [])
+option_alone = none_without_command _ (codes "--version") [] refl go
+  where
+    go : (c : Command) → codes "--version" ≢ word_of c
+    go commands.Analyse e = omega (arith, ap length e)
+    go commands.Prove e = omega (arith, ap length e)
+    go commands.Check e = omega (arith, ap length e)
+    go commands.Replay e = omega (arith, ap length e)
+    go commands.Generate e = omega (arith, ap length e)
+    go commands.Selfrun e = omega (arith, ap length e)
+
+option_first : AsksNothing (codes "--pivots" ∷ codes "5" ∷ codes "analyse" ∷ codes "p" ∷ [])
+option_first = none_without_command _ (codes "--pivots") (codes "5" ∷ codes "analyse" ∷ codes "p" ∷ []) refl go
+  where
+    go : (c : Command) → codes "--pivots" ≢ word_of c
     go commands.Analyse e = omega (arith, ap (λ (w : Word). get_or w 0 0) e)
     go commands.Prove e = omega (arith, ap (λ (w : Word). get_or w 0 0) e)
     go commands.Check e = omega (arith, ap (λ (w : Word). get_or w 0 0) e)
@@ -132,10 +177,30 @@ help_is_other = record {
 other_option : (values : Words) (n : ℕ) (file : Word) → Gives (codes "--help" ∷ codes "p" ∷ []) values (file ∷ []) → AllowsPivots values n → ⊥
 other_option values n file g a = other_first (codes "--help") (codes "p" ∷ []) values (file ∷ []) help_is_other g
 
+short_is_other : IsOther (codes "-p")
+short_is_other = record {
+  end = λ e. omega (arith, ap (λ (w : Word). get_or w 1 0) e);
+  apart = λ e. omega (arith, ap (λ (w : Word). get_or w 1 0) e);
+  joined = λ v e. omega (arith, ap (λ (w : Word). get_or w 1 0) e);
+  plain = refl;
+}
+
+short_option : (values : Words) (n : ℕ) (file : Word) → Gives (codes "-p" ∷ []) values (file ∷ []) → AllowsPivots values n → ⊥
+short_option values n file g a = other_first (codes "-p") [] values (file ∷ []) short_is_other g
+
 one_of_two : (first second : Word) → Gives (codes "p" ∷ []) [] (first ∷ second ∷ []) → ⊥
 one_of_two first second g =
     let one = plain_first (codes "p") [] [] (first ∷ second ∷ []) refl g in
     let e : first ∷ second ∷ [] ≡ codes "p" ∷ [] = one.2 ∙ ap (λ (ws : Words). codes "p" ∷ ws) (none_first [] one.0 one.1).1 in
+    cc
+
+three_files : (first second : Word) → Gives (codes "p" ∷ codes "q" ∷ codes "r" ∷ []) [] (first ∷ second ∷ []) → ⊥
+three_files first second g =
+    let one = plain_first (codes "p") (codes "q" ∷ codes "r" ∷ []) [] (first ∷ second ∷ []) refl g in
+    let two = plain_first (codes "q") (codes "r" ∷ []) [] one.0 refl one.1 in
+    let three = plain_first (codes "r") [] [] two.0 refl two.1 in
+    let e : first ∷ second ∷ [] ≡ codes "p" ∷ codes "q" ∷ codes "r" ∷ three.0 = one.2
+    ∙ ap (λ (ws : Words). codes "p" ∷ ws) (two.2 ∙ ap (λ (ws : Words). codes "q" ∷ ws) three.2) in
     cc
 
 option_of_two : (first second : Word) → Gives ((codes "--pivots=" ++ codes "5") ∷ codes "p" ∷ codes "q" ∷ []) [] (first ∷ second ∷ []) → ⊥
@@ -148,6 +213,13 @@ option_of_number : (word : Word) (n : ℕ) → Gives (codes "--pivots" ∷ codes
 option_of_number word n g h =
     let one = apart_first (codes "--pivots") (codes "5" ∷ codes "1" ∷ []) [] (word ∷ []) refl g in
     let e : [] ≡ one.value ∷ one.more = one.has_values in
+    cc
+
+two_numbers : (word : Word) (n : ℕ) → Gives (codes "1" ∷ codes "2" ∷ []) [] (word ∷ []) → IsNumber 100 word n → ⊥
+two_numbers word n g h =
+    let one = plain_first (codes "1") (codes "2" ∷ []) [] (word ∷ []) refl g in
+    let two = plain_first (codes "2") [] [] one.0 refl one.1 in
+    let e : word ∷ [] ≡ codes "1" ∷ codes "2" ∷ two.0 = one.2 ∙ ap (λ (ws : Words). codes "1" ∷ ws) two.2 in
     cc
 
 -- the number that is the one word which stands behind a command
@@ -170,6 +242,10 @@ pub other_words : OtherWords
 other_words = record {
   no_word = no_word;
   other_command = other_command;
+  shorter_command = shorter_command;
+  letter_missing = letter_missing;
+  option_alone = option_alone;
+  option_first = option_first;
   no_file = no_analysis [] no_file;
   two_files = no_analysis (codes "p" ∷ codes "p" ∷ []) two_files;
   leading_zero = no_analysis (codes "--pivots" ∷ codes "01" ∷ codes "p" ∷ []) leading_zero;
@@ -178,9 +254,12 @@ other_words = record {
   twice = no_analysis ((codes "--pivots=" ++ codes "1") ∷ codes "--pivots" ∷ codes "1" ∷ codes "p" ∷ []) twice;
   no_value = no_analysis (codes "p" ∷ codes "--pivots" ∷ []) no_value;
   other_option = no_analysis (codes "--help" ∷ codes "p" ∷ []) other_option;
+  short_option = no_analysis (codes "-p" ∷ []) short_option;
   one_of_two = no_check (codes "p" ∷ []) one_of_two;
+  three_files = no_check (codes "p" ∷ codes "q" ∷ codes "r" ∷ []) three_files;
   option_of_two = no_replay ((codes "--pivots=" ++ codes "5") ∷ codes "p" ∷ codes "q" ∷ []) option_of_two;
   too_large = no_program (codes "101" ∷ []) (λ word n g h. too_large n (the_number (codes "101") word n refl g h));
+  two_numbers = no_program (codes "1" ∷ codes "2" ∷ []) two_numbers;
   zero_first = no_figures (codes "01" ∷ []) (λ word n g h. zero_first n (the_number (codes "01") word n refl g h));
   with_sign = no_figures (codes "+1" ∷ []) (λ word n g h. with_sign n (the_number (codes "+1") word n refl g h));
   no_digit = no_program ([] ∷ []) (λ word n g h. (the_number [] word n refl g h).some refl);
