@@ -17,6 +17,7 @@ use Rattle.its_reader.specs.its_text.Verdicts.{VerdictsAreSpelled}
 use Rattle.its_writer.specs.Generated.{generated}
 use Rattle.asks.specs.Lines.{Word}
 use Rattle.asks.specs.Requests.{Request, Analyse, Prove, Check, Replay, Generate, Selfrun, Asks, default_pivots}
+use Rattle.asks.proofs.OneWay.{read_in_one_way}
 use Rattle.outcome.specs.Reports.{Report}
 use Rattle.outcome.specs.Views.{report_of}
 use Rattle.report_text.specs.Reports.{text_of_report}
@@ -24,11 +25,12 @@ use Rattle.time_bounds.specs.AnalysisLaws.{AnalysesAreOne}
 use Rattle.koat_cli.specs.declared.status.Status.{Status}
 use Rattle.koat_cli.specs.declared.status.Status.TheVariants.{Usage, ReadFault, ProgramRefused}
 use Rattle.koat_cli.specs.Report.{read_fault_text, too_long_text, refusal_text}
+use Rattle.koat_cli.specs.Figures.{head_of_figures, text_of_figures}
 use Rattle.koat_cli.specs.Calls.{Seen, Call}
 use Rattle.koat_cli.specs.Outputs.{IsReportOf, IsSummaryOf, status_of}
 use Rattle.koat_cli.specs.OnFiles.{program_limit, OnProgram, Unread, TooLong, Refused, Without, Of}
-use Rattle.koat_cli.specs.Answers.{Answers, Says, ToNothing, ToRequest}
-use Rattle.koat_cli.specs.Exclusion.{AreOne, AnswersExcludeEachOther}
+use Rattle.koat_cli.specs.Answers.{FetchesFile, Answers, Says, ToNothing, ToRequest}
+use Rattle.koat_cli.specs.Exclusion.{AreOneButLemmas, AreOneAnswer, AnswersExcludeEachOther}
 use Rattle.koat_cli.proofs.OneRequest.{answer_of, usage_not_there, not_there_usage}
 
 -- the laws on which this rests: a text spells one program, and is read as it exactly where it spells it within the
@@ -128,43 +130,81 @@ one_report laws p n s t x y a b =
       a.stated.text_of ∙ (ap (λ (r : Report). text_of_report p r) same ∙ sym b.stated.text_of),
     )
 
--- and so is the status of two summaries
-one_summary : Determined → (p : Program) (s t : Status) (x y : List ℕ) → IsSummaryOf p s x → IsSummaryOf p t y → s ≡ t
+-- so are the statuses of two summaries, and the texts but for the number of lemmas
+one_summary : Determined → (p : Program) (s t : Status) (x y : List ℕ) → IsSummaryOf p s x → IsSummaryOf p t y
+    → (s ≡ t) × AreOneButLemmas x y
 one_summary laws p s t x y a b =
     let same : report_of a.outcome ≡ report_of b.outcome =
-    laws.reports.each p default_pivots (report_of a.outcome) (report_of b.outcome) a.found.found b.found.found in
-    a.ends ∙ (ap (λ (r : Report). status_of r) same ∙ sym b.ends)
+    laws.reports.each p default_pivots (report_of a.outcome) (report_of b.outcome) a.found.found b.found.found in (
+      a.ends ∙ (ap (λ (r : Report). status_of r) same ∙ sym b.ends),
+      record {
+        head = head_of_figures p (report_of a.outcome);
+        first = length a.outcome.lemmas.items;
+        second = length b.outcome.lemmas.items;
+        first_is = a.told;
+        second_is = b.told ∙ ap (λ (r : Report). text_of_figures p r (length b.outcome.lemmas.items)) (sym same);
+      },
+    )
 
--- a request has one answer: one status, and one text unless figures are asked for
+-- what is the same of the texts of two answers to a request
+abbrev pub AreTexts : Request → List ℕ → List ℕ → Type 0
+AreTexts (Analyse n f) x y = x ≡ y
+AreTexts (Prove n f) x y = x ≡ y
+AreTexts (Check f q) x y = x ≡ y
+AreTexts (Replay f q) x y = x ≡ y
+AreTexts (Generate n) x y = x ≡ y
+AreTexts (Selfrun n) x y = AreOneButLemmas x y
+
+-- where no figures are asked for, they are one text
+one_text : (r : Request) (x y : List ℕ) → ((n : ℕ) → r ≢ Selfrun n) → AreTexts r x y → x ≡ y
+one_text (Analyse n f) x y none h = h
+one_text (Prove n f) x y none h = h
+one_text (Check f q) x y none h = h
+one_text (Replay f q) x y none h = h
+one_text (Generate n) x y none h = h
+one_text (Selfrun n) x y none h = absurd (none n refl)
+
+-- a request for which no file is fetched has one answer
+one_without : Determined → (seen : Seen) (r : Request) (s t : Status) (x y : List ℕ) → ¬ (FetchesFile r) → Answers seen r s x
+    → Answers seen r t y → (s ≡ t) × AreTexts r x y
+one_without laws seen (Analyse n f) s t x y none a b = absurd (none tt)
+one_without laws seen (Prove n f) s t x y none a b = (a.ends ∙ sym b.ends, a.told ∙ sym b.told)
+one_without laws seen (Check f q) s t x y none a b = (a.ends ∙ sym b.ends, a.told ∙ sym b.told)
+one_without laws seen (Replay f q) s t x y none a b = (a.ends ∙ sym b.ends, a.told ∙ sym b.told)
+one_without laws seen (Generate n) s t x y none a b = (a.ends ∙ sym b.ends, a.told ∙ sym b.told)
+one_without laws seen (Selfrun n) s t x y none a b = one_summary laws (generated n) s t x y a b
+
+-- so has each, where the shelf tells what it holds
 one_answer : Determined → (seen : Seen) (files : Files) → seen.held ≡ Some files → (r : Request) (s t : Status) (x y : List ℕ)
     → (s ≡ ReadFault → (f : Word) → MayFail seen.held f seen.faults_before seen.faults_after → Lacks seen.held f)
     → (t ≡ ReadFault → (f : Word) → MayFail seen.held f seen.faults_before seen.faults_after → Lacks seen.held f)
-    → Answers seen r s x → Answers seen r t y → (s ≡ t) × (((n : ℕ) → r ≢ Selfrun n) → x ≡ y)
+    → Answers seen r s x → Answers seen r t y → (s ≡ t) × AreTexts r x y
 one_answer laws seen files e (Analyse n f) s t x y ls lt a b =
-    let one = one_told (λ p. IsReportOf p n) s t x y (λ p. one_report laws p n s t x y) (file_of (get files f))
-    (file_tells (λ p. IsReportOf p n) s x laws seen files f e (λ h. ls h f) a) (file_tells (λ p. IsReportOf p n) t y laws seen files f e (λ h. lt h f) b) in
-    (one.0, λ none. one.1)
-one_answer laws seen files e (Prove n f) s t x y ls lt a b = (a.ends ∙ sym b.ends, λ none. a.told ∙ sym b.told)
-one_answer laws seen files e (Check f q) s t x y ls lt a b = (a.ends ∙ sym b.ends, λ none. a.told ∙ sym b.told)
-one_answer laws seen files e (Replay f q) s t x y ls lt a b = (a.ends ∙ sym b.ends, λ none. a.told ∙ sym b.told)
-one_answer laws seen files e (Generate n) s t x y ls lt a b = (a.ends ∙ sym b.ends, λ none. a.told ∙ sym b.told)
-one_answer laws seen files e (Selfrun n) s t x y ls lt a b = (one_summary laws (generated n) s t x y a b, λ none. absurd (none n refl))
+    one_told (λ p. IsReportOf p n) s t x y (λ p. one_report laws p n s t x y) (file_of (get files f))
+    (file_tells (λ p. IsReportOf p n) s x laws seen files f e (λ h. ls h f) a) (file_tells (λ p. IsReportOf p n) t y laws seen files f e (λ h. lt h f) b)
+one_answer laws seen files e (Prove n f) s t x y ls lt a b = one_without laws seen (Prove n f) s t x y (λ no. no) a b
+one_answer laws seen files e (Check f q) s t x y ls lt a b = one_without laws seen (Check f q) s t x y (λ no. no) a b
+one_answer laws seen files e (Replay f q) s t x y ls lt a b = one_without laws seen (Replay f q) s t x y (λ no. no) a b
+one_answer laws seen files e (Generate n) s t x y ls lt a b = one_without laws seen (Generate n) s t x y (λ no. no) a b
+one_answer laws seen files e (Selfrun n) s t x y ls lt a b = one_without laws seen (Selfrun n) s t x y (λ no. no) a b
 
--- so has a call
-one_said : Determined → (call : Call) (files : Files) → call.shelf.held ≡ Some files → (s t : Status) (x y : List ℕ)
-    → (s ≡ ReadFault → (f : Word) → MayFail call.shelf.held f call.shelf.faults_before call.shelf.faults_after → Lacks call.shelf.held f)
-    → (t ≡ ReadFault → (f : Word) → MayFail call.shelf.held f call.shelf.faults_before call.shelf.faults_after → Lacks call.shelf.held f)
-    → Says call s x → Says call t y → AreOne call s t x y
-one_said laws call files e s t x y ls lt (ToNothing none a) (ToNothing too b) = record {
+-- so has a call, where the request that its words ask for has
+one_said : (call : Call) (s t : Status) (x y : List ℕ)
+    → ((r : Request) → Asks call.words r → Answers call.shelf r s x → Answers call.shelf r t y → (s ≡ t) × AreTexts r x y)
+    → Says call s x → Says call t y → AreOneAnswer call s t x y
+one_said call s t x y each (ToNothing none a) (ToNothing too b) = record {
   status = a.ends ∙ sym b.ends;
   text = λ only. a.told ∙ sym b.told;
+  figures = λ n asked. absurd (none (Selfrun n) asked);
 }
-one_said laws call files e s t x y ls lt (ToNothing none a) (ToRequest r asked b) = absurd (none r asked)
-one_said laws call files e s t x y ls lt (ToRequest r asked a) said =
-    let one = one_answer laws call.shelf files e r s t x y ls lt a (answer_of call r t y asked said) in
+one_said call s t x y each (ToNothing none a) (ToRequest r asked b) = absurd (none r asked)
+one_said call s t x y each (ToRequest r asked a) said =
+    let one = each r asked a (answer_of call r t y asked said) in
     record {
       status = one.0;
-      text = λ only. one.1 (λ n is. only n (subst (λ (q : Request). Asks call.words q) is asked));
+      text = λ only. one_text r x y (λ n is. only n (subst (λ (q : Request). Asks call.words q) is asked)) one.1;
+      figures = λ n figures.
+          subst (λ (q : Request). AreTexts q x y) (read_in_one_way.one_request call.words r (Selfrun n) asked figures) one.1;
     }
 
 -- a fault of reading without a rise of the count is a file that is lacking
@@ -192,12 +232,15 @@ only_usage call t x y (ToRequest r asked a) said =
 pub answers_exclude : Determined → AnswersExcludeEachOther
 answers_exclude laws = record {
   other_words = only_usage;
+  without_file = λ call s t x y none a b.
+      one_said call s t x y (λ r asked c d. one_without laws call.shelf r s t x y (none r asked) c d) a b;
   without_faults = λ call s t x y told steady a b.
       let files = told_is call.shelf.held told in
-      one_said laws call files.0 files.1 s t x y
+      one_said call s t x y (λ r asked c d. one_answer laws call.shelf files.0 files.1 r s t x y
       (λ is f. lacking_only call.shelf.held f call.shelf.faults_before call.shelf.faults_after steady)
-      (λ is f. lacking_only call.shelf.held f call.shelf.faults_before call.shelf.faults_after steady) a b;
+      (λ is f. lacking_only call.shelf.held f call.shelf.faults_before call.shelf.faults_after steady) c d) a b;
   read_faults_aside = λ call s t x y told ns nt a b.
       let files = told_is call.shelf.held told in
-      one_said laws call files.0 files.1 s t x y (λ is f may. absurd (ns is)) (λ is f may. absurd (nt is)) a b;
+      one_said call s t x y (λ r asked c d. one_answer laws call.shelf files.0 files.1 r s t x y
+      (λ is f may. absurd (ns is)) (λ is f may. absurd (nt is)) c d) a b;
 }

@@ -9,19 +9,15 @@ use Rattle.koat_cli.specs.Calls.{Call, Put}
 use Rattle.koat_cli.specs.Answers.{AsksForNothingThere, Says, ToNothing, ToRequest}
 use Rattle.koat_cli.specs.Ends.{WroteWhole}
 use Rattle.koat_cli.specs.Answering.{EndsWell, FindsAllTimes, MissesTimes, NumbersAreAnswered}
-use Rattle.koat_cli.proofs.OneRequest.{answer_of, usage_not_there, not_there_usage}
+use Rattle.koat_cli.proofs.OneRequest.{answer_of, not_there_usage, usage_for_nothing}
 use Rattle.koat_cli.proofs.Exclusions.{Determined}
 use Rattle.koat_cli.proofs.Answering.{Timing, AllTimed, SomeUntimed, timing_of, timing_apart}
 
 -- a call that ends well wrote its text
 wrote : (call : Call) (put : Put) (s : Status) → EndsWell s call put → WroteWhole s call put
-wrote call put s h = h.ends.wrote (λ e. h.no_write_fault (h.ends.write_fault e).fault) h.memory
+wrote call put s h = h.ends.wrote h.no_write_fault h.memory
 
--- where it is the usage text, nothing that is there is asked for
-usage_for_nothing : (call : Call) (x : List ℕ) → Says call Usage x → AsksForNothingThere call.words
-usage_for_nothing call x said r asked = usage_not_there call.shelf r x (answer_of call r Usage x asked said)
-
--- and where nothing that is there is asked for, it is
+-- where nothing that is there is asked for, the usage text comes
 nothing_gets_usage : (call : Call) (s : Status) (x : List ℕ) → AsksForNothingThere call.words → Says call s x → s ≡ Usage
 nothing_gets_usage call s x none (ToNothing nothing h) = h.ends
 nothing_gets_usage call s x none (ToRequest r asked h) = not_there_usage call.shelf r s x (none r asked) h

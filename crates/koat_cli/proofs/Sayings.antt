@@ -19,7 +19,8 @@ use Rattle.its_reader.specs.Faults as reader
 use Rattle.its_reader.specs.declared.error.ReadError.{ReadError}
 use Rattle.its_reader.specs.declared.error.ReadError.TheVariants as errors
 use Rattle.koat_cli.specs.declared.status.Status.{Status}
-use Rattle.koat_cli.specs.declared.status.Status.TheVariants.{Done, Unknown, WriteFault, Memory, ProgramRefused}
+use Rattle.koat_cli.specs.declared.status.Status.TheVariants.{Done, Unknown, Usage, ReadFault, WriteFault, Memory}
+use Rattle.koat_cli.specs.declared.status.Status.TheVariants.{ProgramRefused}
 use Rattle.asks.specs.Lines.{Word}
 use Rattle.asks.specs.Requests.{Request, Analyse, Prove, Check, Replay, Generate, Selfrun}
 use Rattle.koat_cli.specs.Calls.{Seen, Call}
@@ -28,6 +29,7 @@ use Rattle.koat_cli.specs.Outputs.{status_of}
 use Rattle.koat_cli.specs.OnFiles as files
 use Rattle.koat_cli.specs.OnFiles.{Fetches, IsNoProgram, program_limit}
 use Rattle.koat_cli.specs.Answers.{Answers, Says, ToNothing, ToRequest}
+use Rattle.koat_cli.specs.Ends.{IsStatusThere}
 use Rattle.koat_cli.specs.Steps.{IsSaid}
 use Rattle.report_text.proofs.Entries.{all_known as all_timed}
 
@@ -93,34 +95,44 @@ pub status_is : (o : Outcome) (v : Bool) → v ≡ list_all is_known o.times.ite
     → (if v then Done else Unknown) ≡ status_of (report_of o)
 status_is o v e = ap (λ (w : Bool). if w then Done else Unknown) (e ∙ all_timed o.gaps.items o.times.items)
 
--- the status of a report is one with which a text is said
-status_said : (r : Report) → IsSaid (status_of r)
-status_said r = go (list_all is_timed r.times)
-  where
-    go : (v : Bool) → IsSaid (if v then Done else Unknown)
-    go true = tt
-    go false = tt
+module _ (Holds : Status → Type 0) (done : Holds Done) (unknown : Holds Unknown) (usage : Holds Usage) (read_fault : Holds ReadFault)
+    (refused : Holds ProgramRefused) where
+  -- what holds of five statuses holds of that of a report
+  of_report : (r : Report) → Holds (status_of r)
+  of_report r = go (list_all is_timed r.times)
+    where
+      go : (v : Bool) → Holds (if v then Done else Unknown)
+      go true = done
+      go false = unknown
 
--- so is each status with which a file that gives no program is answered
-no_program_said : (seen : Seen) (file : Word) (s : Status) (x : List ℕ) → IsNoProgram seen file s x → IsSaid s
-no_program_said seen file s x (files.Unread h) = subst IsSaid (sym h.ends) tt
-no_program_said seen file s x (files.TooLong h) = subst IsSaid (sym h.ends) tt
-no_program_said seen file s x (files.Refused h) = subst IsSaid (sym h.ends) tt
+  -- of each with which a file that gives no program is answered
+  of_no_program : (seen : Seen) (file : Word) (s : Status) (x : List ℕ) → IsNoProgram seen file s x → Holds s
+  of_no_program seen file s x (files.Unread h) = subst Holds (sym h.ends) read_fault
+  of_no_program seen file s x (files.TooLong h) = subst Holds (sym h.ends) refused
+  of_no_program seen file s x (files.Refused h) = subst Holds (sym h.ends) refused
 
--- and each with which a request is answered
-answered_said : (seen : Seen) (r : Request) (s : Status) (x : List ℕ) → Answers seen r s x → IsSaid s
-answered_said seen (Analyse n f) s x (files.Without h) = no_program_said seen f s x h
-answered_said seen (Analyse n f) s x (files.Of h) = subst IsSaid (sym h.said.ends) (status_said h.said.report)
-answered_said seen (Prove n f) s x h = subst IsSaid (sym h.ends) tt
-answered_said seen (Check f q) s x h = subst IsSaid (sym h.ends) tt
-answered_said seen (Replay f q) s x h = subst IsSaid (sym h.ends) tt
-answered_said seen (Generate n) s x h = subst IsSaid (sym h.ends) tt
-answered_said seen (Selfrun n) s x h = subst IsSaid (sym h.ends) (status_said (report_of h.outcome))
+  -- of each with which a request is answered
+  of_answer : (seen : Seen) (r : Request) (s : Status) (x : List ℕ) → Answers seen r s x → Holds s
+  of_answer seen (Analyse n f) s x (files.Without h) = of_no_program seen f s x h
+  of_answer seen (Analyse n f) s x (files.Of h) = subst Holds (sym h.said.ends) (of_report h.said.report)
+  of_answer seen (Prove n f) s x h = subst Holds (sym h.ends) usage
+  of_answer seen (Check f q) s x h = subst Holds (sym h.ends) usage
+  of_answer seen (Replay f q) s x h = subst Holds (sym h.ends) usage
+  of_answer seen (Generate n) s x h = subst Holds (sym h.ends) done
+  of_answer seen (Selfrun n) s x h = subst Holds (sym h.ends) (of_report (report_of h.outcome))
 
--- a call answers with such statuses alone
+  -- and so of each with which a call answers
+  pub of_says : (call : Call) (s : Status) (x : List ℕ) → Says call s x → Holds s
+  of_says call s x (ToNothing none h) = subst Holds (sym h.ends) usage
+  of_says call s x (ToRequest r asked h) = of_answer call.shelf r s x h
+
+-- a call answers neither with the status of a fault of the sink nor with that of want of memory
 pub says_said : (call : Call) (s : Status) (x : List ℕ) → Says call s x → IsSaid s
-says_said call s x (ToNothing none h) = subst IsSaid (sym h.ends) tt
-says_said call s x (ToRequest r asked h) = answered_said call.shelf r s x h
+says_said = of_says IsSaid tt tt tt tt tt
+
+-- and with one that is there
+pub says_there : (call : Call) (s : Status) (x : List ℕ) → Says call s x → IsStatusThere s
+says_there = of_says IsStatusThere tt tt tt tt tt
 
 -- what is said with a status that no call answers with
 pub never_write_fault : (call : Call) (x : List ℕ) → ¬ (Says call WriteFault x)

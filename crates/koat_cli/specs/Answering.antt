@@ -77,18 +77,19 @@ pub record HeldFilesAreAnswered : Type 0 where
   pub refused : (call : Call) (put : Put) (bytes : List ℕ) (pivots : ℕ) (s : Status) → AsksOfHeld call put bytes pivots
       → Ends s call put → s ≢ Memory → (s ≡ ProgramRefused) ↔ SpellsNone bytes
 
--- a call ends so, without a rise of the sink's count of faults, and not for want of memory
+-- a call ends so, neither with the status of a fault of the sink nor for want of memory
 pub record EndsWell (status : Status) (call : Call) (put : Put) : Type 0 where
-  pub no_write_fault : ¬ (Rose put.faults_before put.faults_after)
+  pub no_write_fault : status ≢ WriteFault
   pub ends : Ends status call put
   pub memory : status ≢ Memory
 
--- faults of the sink and want of memory aside, a call ends with `Usage` exactly where its words ask for nothing that is
+-- the status of a fault of the sink and that of want of memory aside, a call ends with `Usage` exactly where its words ask for nothing that is
 -- there; one that asks for a generated program ends with `Done`; and one that asks for the figures of its analysis ends
 -- with `Done` exactly where this has a time for every rule, with `Unknown` exactly where it has none for some, and with
 -- no other status
 pub record NumbersAreAnswered : Type 0 where
-  pub usage : (call : Call) (put : Put) (s : Status) → EndsWell s call put → (s ≡ Usage) ↔ AsksForNothingThere call.words
+  pub usage : (call : Call) (put : Put) (s : Status) → EndsWell s call put
+      → (s ≡ Usage) ↔ AsksForNothingThere call.words
   pub program : (call : Call) (put : Put) (n : ℕ) (s : Status) → Asks call.words (Generate n) → EndsWell s call put
       → s ≡ Done
   pub few : (call : Call) (put : Put) (n : ℕ) (s : Status) → Asks call.words (Selfrun n) → EndsWell s call put

@@ -27,13 +27,13 @@ IsThere (Generate n) = ⊤
 IsThere (Selfrun n) = ⊤
 
 -- a file is fetched for this request
-abbrev pub NeedsFile : Request → Type 0
-NeedsFile (Analyse pivots file) = ⊤
-NeedsFile (Prove pivots file) = ⊥
-NeedsFile (Check file proof) = ⊥
-NeedsFile (Replay file run) = ⊥
-NeedsFile (Generate n) = ⊥
-NeedsFile (Selfrun n) = ⊥
+abbrev pub FetchesFile : Request → Type 0
+FetchesFile (Analyse pivots file) = ⊤
+FetchesFile (Prove pivots file) = ⊥
+FetchesFile (Check file proof) = ⊥
+FetchesFile (Replay file run) = ⊥
+FetchesFile (Generate n) = ⊥
+FetchesFile (Selfrun n) = ⊥
 
 -- the words are no command line
 abbrev pub AsksForNothing : Words → Type 0
@@ -44,8 +44,8 @@ abbrev pub AsksForNothingThere : Words → Type 0
 AsksForNothingThere words = (request : Request) → Asks words request → ¬ (IsThere request)
 
 -- no file is fetched for the words
-abbrev pub AsksForNoFile : Words → Type 0
-AsksForNoFile words = (request : Request) → Asks words request → ¬ (NeedsFile request)
+abbrev pub FetchesNothing : Words → Type 0
+FetchesNothing words = (request : Request) → Asks words request → ¬ (FetchesFile request)
 
 -- with this status and this text a call answers: the usage text to words that are no command line, and to others what
 -- is answered of their request

@@ -1,5 +1,5 @@
 -- How a call ends, and what is on the sink then.
-use Rattle.std.specs.Prelude.{◌≡◌, ◌≢◌, ◌<◌, ℕ, List, IsTrue, IsFalse, ⊤}
+use Rattle.std.specs.Prelude.{◌≡◌, ◌≢◌, ◌<◌, ◌⊎◌, ℕ, List, IsTrue, IsFalse, ⊤}
 use Rattle.std.specs.List.{list_all}
 use Rattle.std.specs.Io.KnownBytes.{Appends}
 use Rattle.outside_io.specs.Counts.{Rose}
@@ -14,9 +14,10 @@ use Rattle.koat_cli.specs.declared.status.Status.{Status}
 use Rattle.koat_cli.specs.declared.status.Status.TheVariants.{Done, Unknown, Usage, ReadFault, WriteFault, Memory}
 use Rattle.koat_cli.specs.declared.status.Status.TheVariants.{ProgramRefused, ProofRefused, No, RunRefused, NotARun}
 use Rattle.koat_cli.specs.Calls.{Call, Put}
-use Rattle.koat_cli.specs.OnFiles.{GivesProgram}
+use Rattle.koat_cli.specs.Report.{usage_text}
+use Rattle.koat_cli.specs.OnFiles.{GivesProgram, IsRefusedTooLong, IsRefusedAt}
 use Rattle.koat_cli.specs.Outputs.{IsFound}
-use Rattle.koat_cli.specs.Answers.{Says}
+use Rattle.koat_cli.specs.Answers.{AsksForNothingThere, Says}
 
 -- a text that the call answers with this status was appended, whole, to what was written
 pub record WroteWhole (status : Status) (call : Call) (put : Put) : Type 0 where
@@ -49,7 +50,8 @@ IsStatusOfFault RunRefused = ⊥
 IsStatusOfFault NotARun = ⊥
 
 -- how a call ends: with each status but that of a fault of the sink and that of want of memory its whole text was
--- written; and where the shelf's count of faults is greater than before, only those of faults and of want of memory come
+-- written; and where the shelf's count of faults is greater than before, only those of faults and of want of memory
+-- come
 pub record Ends (status : Status) (call : Call) (put : Put) : Type 0 where
   pub wrote : status ≢ WriteFault → status ≢ Memory → WroteWhole status call put
   pub write_fault : status ≡ WriteFault → WroteInPart call put
@@ -65,13 +67,39 @@ pub record WroteReport (call : Call) (put : Put) (pivots : ℕ) (file : Word) (r
   pub stated : States program text report
   pub appended : Appends put.written_before put.written_after text
 
--- what three statuses mean: where `analyse` ends with `Done`, such a report was written, in which every rule has a time;
--- where it ends with `Unknown`, one in which some rule has none; and with `ReadFault` only an analysis ends of whose file
--- the shelf had a fault, or which it tells to lack
+-- a text was appended, whole, that refuses the file: as too long, or for what stands first against its bytes
+pub record WroteRefusal (call : Call) (put : Put) (file : Word) : Type 0 where
+  pub text : List ℕ
+  pub refused : (IsRefusedTooLong call.shelf file ProgramRefused text) ⊎ (IsRefusedAt call.shelf file ProgramRefused text)
+  pub appended : Appends put.written_before put.written_after text
+
+-- the statuses with which a call can end: those of checking proofs and of following runs come of no request yet
+abbrev pub IsStatusThere : Status → Type 0
+IsStatusThere Done = ⊤
+IsStatusThere Unknown = ⊤
+IsStatusThere Usage = ⊤
+IsStatusThere ReadFault = ⊤
+IsStatusThere WriteFault = ⊤
+IsStatusThere Memory = ⊤
+IsStatusThere ProgramRefused = ⊤
+IsStatusThere ProofRefused = ⊥
+IsStatusThere No = ⊥
+IsStatusThere RunRefused = ⊥
+IsStatusThere NotARun = ⊥
+
+-- what statuses mean: where `analyse` ends with `Done`, such a report was written, in which every rule has a time; where
+-- it ends with `Unknown`, one in which some rule has none. With `Usage` only words end that ask for nothing that is
+-- there, and the usage text was written; with `ReadFault` only an analysis of whose file the shelf had a fault, or
+-- which it tells to lack; with `ProgramRefused` only an analysis whose file was refused; and no other status comes
 pub record Means (status : Status) (call : Call) (put : Put) : Type 0 where
   pub done : (pivots : ℕ) (file : Word) → Asks call.words (Analyse pivots file) → status ≡ Done
       → (report : Report) × WroteReport call put pivots file report × IsTrue (list_all is_timed report.times)
   pub unknown : (pivots : ℕ) (file : Word) → Asks call.words (Analyse pivots file) → status ≡ Unknown
       → (report : Report) × WroteReport call put pivots file report × IsFalse (list_all is_timed report.times)
+  pub usage : status ≡ Usage
+      → AsksForNothingThere call.words × (Appends put.written_before put.written_after usage_text)
   pub read_fault : status ≡ ReadFault → (pivots : ℕ) × ((file : Word) × Asks call.words (Analyse pivots file)
       × MayFail call.shelf.held file call.shelf.faults_before call.shelf.faults_after)
+  pub program_refused : status ≡ ProgramRefused
+      → (pivots : ℕ) × ((file : Word) × Asks call.words (Analyse pivots file) × WroteRefusal call put file)
+  pub no_other : IsStatusThere status

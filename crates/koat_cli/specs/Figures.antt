@@ -30,7 +30,10 @@ sizes_line r = codes "sizes "
 abbrev pub lemmas_line : ℕ → List ℕ
 lemmas_line lemmas = codes "lemmas " ++ number_end lemmas
 
+-- the figures of a report on a program, but for the lemmas
+abbrev pub head_of_figures : Program → Report → List ℕ
+head_of_figures p r = rules_line p ++ (times_line r ++ (sizes_line r ++ total_line p.start_names r.total))
+
 -- the figures of a report on a program, which so many lemmas state
 abbrev pub text_of_figures : Program → Report → ℕ → List ℕ
-text_of_figures p r lemmas = rules_line p
-    ++ (times_line r ++ (sizes_line r ++ (total_line p.start_names r.total ++ lemmas_line lemmas)))
+text_of_figures p r lemmas = head_of_figures p r ++ lemmas_line lemmas

@@ -1,7 +1,7 @@
 //! What the program says, before it is written.
 
 ghost use Rattle.std.specs.Prelude.{◌≡◌, ◌≤◌, ◌<◌, map, string_bytes, IfOk};
-ghost use Rattle.koat_cli.specs.Answers.{AsksForNoFile, Says};
+ghost use Rattle.koat_cli.specs.Answers.{FetchesNothing, Says};
 ghost use Rattle.koat_cli.specs.Calls.{call_of, seen_of};
 ghost use Rattle.koat_cli.specs.OnFiles.{OnProgram};
 ghost use Rattle.koat_cli.specs.Outputs.{IsReportOf};
@@ -29,7 +29,7 @@ pub(crate) fn prepare<F: Shelf>(
 ) -> Result<StatusText, Memory>
     ensures keeps_files { F.held shelf.new ≡ F.held shelf.old }
     ensures keeps_count { F.faults shelf.old ≤ F.faults shelf.new }
-    ensures untouched { AsksForNoFile (map string_bytes words.now) → shelf.new ≡ shelf.old }
+    ensures untouched { FetchesNothing (map string_bytes words.now) → shelf.new ≡ shelf.old }
     ensures fault { IfOk result (λ said.
         F.faults shelf.old < F.faults shelf.new → said.status ≡ Status.ReadFault) }
     ensures says { IfOk result (λ said.

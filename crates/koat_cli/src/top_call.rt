@@ -2,7 +2,7 @@
 
 ghost use Rattle.std.specs.Prelude.{◌≡◌, ◌≤◌, map, string_bytes, IsSome};
 ghost use Rattle.koat_cli.specs.Calls.{call_of, put_of};
-ghost use Rattle.koat_cli.specs.Answers.{AsksForNoFile};
+ghost use Rattle.koat_cli.specs.Answers.{FetchesNothing};
 ghost use Rattle.koat_cli.specs.Ends.{Ends, Means};
 
 use crate::preparation::prepare;
@@ -51,7 +51,7 @@ pub fn run<F: Shelf, S: Sink>(
     ensures means { Means result (call_of F.Shelf words.now shelf.old shelf.new) (put_of S.Sink sink.old sink.new) }
     ensures memory { result ≡ Status.Memory → sink.new ≡ sink.old }
 
-    ensures untouched { AsksForNoFile (map string_bytes words.now) → shelf.new ≡ shelf.old }
+    ensures untouched { FetchesNothing (map string_bytes words.now) → shelf.new ≡ shelf.old }
     ensures keeps_files { F.held shelf.new ≡ F.held shelf.old }
     ensures keeps_shelf_count { F.faults shelf.old ≤ F.faults shelf.new }
     ensures keeps_sink_count { S.faults sink.old ≤ S.faults sink.new }
