@@ -162,25 +162,40 @@ const GENERATED: &[u8] = b"(GOAL COMPLEXITY)
 )
 ";
 
+// Whether a call with these words is answered in another way than is wanted.
+fn is_other(
+    alloc: Global,
+    words: &[&str],
+    status: Status,
+    output: &[u8],
+    calls: u64,
+) -> Result<bool, AllocError> {
+    let mut files = Vec::new(alloc);
+    for name in ["p", "-", ""] {
+        files.push(file(alloc, name, text_of(alloc, ONE_RULE)?)?)?;
+    }
+    let mut shelf = MemoryShelf::new(files, Vec::new(alloc));
+    let mut sink = MemorySink::new(alloc, 999, Vec::new(alloc))?;
+    let words = words_of(alloc, words)?;
+    let ended = run(alloc, &words, &mut shelf, &mut sink);
+    Ok(ended != status || sink.bytes() != output || shelf.calls() != calls)
+}
+
 #[test]
 fn words_are_answered_by_their_command(rt: HostRuntime) -> Result<(), Fail> {
     let alloc = rt.alloc();
+    let mut others: Vec<&[&str]> = Vec::new(alloc);
     for (words, status, output, calls) in COMMANDS {
-        let mut files = Vec::new(alloc);
-        for name in ["p", "-", ""] {
-            files.push(file(alloc, name, text_of(alloc, ONE_RULE)?)?)?;
+        if is_other(alloc, words, *status, output, *calls)? {
+            others.push(*words)?;
         }
-        let mut shelf = MemoryShelf::new(files, Vec::new(alloc));
-        let mut sink = MemorySink::new(alloc, 999, Vec::new(alloc))?;
-        let words = words_of(alloc, words)?;
-        assert_eq!(rt; run(alloc, &words, &mut shelf, &mut sink), *status);
-        assert_eq!(rt; sink.bytes(), *output);
-        assert_eq!(rt; shelf.calls(), *calls);
     }
+    let others = others.as_slice();
+    assert!(rt; others.is_empty(), "otherwise: {others:?}");
     Ok(())
 }
 
-// What `generate` writes is a program of which `analyse` finds what `selfrun` tells the figures of.
+// Of what `generate 6` writes `analyse` reports thirteen times, the total that `selfrun 6` tells, and the first size.
 #[test]
 fn generated_programs_are_analysed(rt: HostRuntime) -> Result<(), Fail> {
     let alloc = rt.alloc();

@@ -8,4 +8,5 @@ pub mod DeterminedCalls
 pub mod Answering
 pub mod NumbersAnswered
 pub mod WorkedEnds
+pub mod WorkedAnswers
 pub mod AnalysisTexts

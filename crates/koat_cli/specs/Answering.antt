@@ -83,10 +83,10 @@ pub record EndsWell (status : Status) (call : Call) (put : Put) : Type 0 where
   pub ends : Ends status call put
   pub memory : status ≢ Memory
 
--- the status of a fault of the sink and that of want of memory aside, a call ends with `Usage` exactly where its words ask for nothing that is
--- there; one that asks for a generated program ends with `Done`; and one that asks for the figures of its analysis ends
--- with `Done` exactly where this has a time for every rule, with `Unknown` exactly where it has none for some, and with
--- no other status
+-- the status of a fault of the sink and that of want of memory aside, a call ends with `Usage` exactly where its words
+-- ask for nothing that is there; one that asks for a generated program ends with `Done`; and one that asks for the
+-- figures of its analysis ends with `Done` exactly where this has a time for every rule, with `Unknown` exactly where
+-- it has none for some, and with no other status
 pub record NumbersAreAnswered : Type 0 where
   pub usage : (call : Call) (put : Put) (s : Status) → EndsWell s call put
       → (s ≡ Usage) ↔ AsksForNothingThere call.words

@@ -70,10 +70,11 @@ pub record WroteReport (call : Call) (put : Put) (pivots : ℕ) (file : Word) (r
 -- a text was appended, whole, that refuses the file: as too long, or for what stands first against its bytes
 pub record WroteRefusal (call : Call) (put : Put) (file : Word) : Type 0 where
   pub text : List ℕ
-  pub refused : (IsRefusedTooLong call.shelf file ProgramRefused text) ⊎ (IsRefusedAt call.shelf file ProgramRefused text)
+  pub refused : (IsRefusedTooLong call.shelf file ProgramRefused text)
+      ⊎ (IsRefusedAt call.shelf file ProgramRefused text)
   pub appended : Appends put.written_before put.written_after text
 
--- the statuses with which a call can end: those of checking proofs and of following runs come of no request yet
+-- the statuses with which a call can end: not those of checking proofs and of following runs, which no request comes to
 abbrev pub IsStatusThere : Status → Type 0
 IsStatusThere Done = ⊤
 IsStatusThere Unknown = ⊤
@@ -87,10 +88,11 @@ IsStatusThere No = ⊥
 IsStatusThere RunRefused = ⊥
 IsStatusThere NotARun = ⊥
 
--- what statuses mean: where `analyse` ends with `Done`, such a report was written, in which every rule has a time; where
--- it ends with `Unknown`, one in which some rule has none. With `Usage` only words end that ask for nothing that is
--- there, and the usage text was written; with `ReadFault` only an analysis of whose file the shelf had a fault, or
--- which it tells to lack; with `ProgramRefused` only an analysis whose file was refused; and no other status comes
+-- what statuses mean: where `analyse` ends with `Done`, such a report was written, in which every rule has a time, and
+-- where it ends with `Unknown`, one in which some rule has none. With `Usage` a call ends only where its words ask for
+-- nothing that is there, and the usage text was written; with `ReadFault` only where they ask for an analysis and the
+-- shelf had a fault in the call, or tells that it lacks the file; with `ProgramRefused` only where they ask for an
+-- analysis and a text was written that refuses the file; and no status comes of which nothing is said
 pub record Means (status : Status) (call : Call) (put : Put) : Type 0 where
   pub done : (pivots : ℕ) (file : Word) → Asks call.words (Analyse pivots file) → status ≡ Done
       → (report : Report) × WroteReport call put pivots file report × IsTrue (list_all is_timed report.times)

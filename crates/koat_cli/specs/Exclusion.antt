@@ -16,8 +16,8 @@ pub record AreOneButLemmas (x y : List ℕ) : Type 0 where
   pub first_is : x ≡ head ++ lemmas_line first
   pub second_is : y ≡ head ++ lemmas_line second
 
--- the statuses are the same, and so are the texts, unless the words ask for figures, of which the number of lemmas isn't
--- known to be one; then they are the same but for this number
+-- the statuses are the same, and so are the texts, unless the words ask for figures, of which the number of lemmas
+-- isn't known to be one; then they are the same but for this number
 pub record AreOneAnswer (call : Call) (s t : Status) (x y : List ℕ) : Type 0 where
   pub status : s ≡ t
   pub text : ((n : ℕ) → ¬ (Asks call.words (Selfrun n))) → x ≡ y

@@ -13,5 +13,6 @@ pub mod Answering
 pub mod AnalysisTexts
 -- values that were worked out by hand
 pub mod WorkedEnds
+pub mod WorkedAnswers
 -- what the contracts of the functions inside cite
 pub mod Steps

@@ -50,7 +50,7 @@ pub record IsSummaryOf (program : Program) (status : Status) (text : List ℕ) :
   pub told : text ≡ text_of_figures program (report_of outcome) (length outcome.lemmas.items)
   pub ends : status ≡ status_of (report_of outcome)
 
--- what gets words that ask for nothing, or for a command that isn't there: the usage text
+-- what words get that ask for nothing that is there: the usage text
 pub record IsUsage (status : Status) (text : List ℕ) : Type 0 where
   pub told : text ≡ usage_text
   pub ends : status ≡ Usage

@@ -9,7 +9,7 @@ use Rattle.its_reader.specs.its_text.Kinds.{LeftNotVariable}
 use Rattle.its_reader.specs.its_text.Kinds.{LeftRepeated, ArityDiffers, NumberTooLarge, Limit, StartUnknown}
 use Rattle.its_reader.specs.its_text.Kinds.{Disjunction}
 
--- the text for words that ask for nothing: a line for each command that there is
+-- the text for words that ask for nothing that is there: a line for each command that there is
 abbrev pub usage_text : List ℕ
 usage_text = codes "usage: koat analyse [--pivots N] FILE\n       koat generate N\n       koat selfrun N\n"
 

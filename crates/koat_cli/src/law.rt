@@ -5,10 +5,13 @@ ghost use Rattle.koat_cli.specs.Answering.{HeldFilesAreAnswered, NumbersAreAnswe
 ghost use Rattle.koat_cli.specs.Exclusion.{AnswersExcludeEachOther};
 ghost use Rattle.koat_cli.specs.AnalysisTexts.{AnalysisTextsStateOneReport};
 ghost use Rattle.koat_cli.specs.WorkedEnds.{FaultsLeaveFirstBytes};
+ghost use Rattle.koat_cli.specs.WorkedAnswers.{FiguresAreWorkedOut, AnswersAreWorkedOut};
 
-/// The law that a call of `run` on a shelf that tells what it holds has one answer at most: one status, and, unless
-/// figures are asked for, one text. So each status comes exactly where it is answered with, but for faults and want of
-/// memory. It has no code: its contract is the law.
+/// The law that a call of `run` has one answer at most where no file is fetched for its words, or the shelf tells what
+/// it holds: one status, and one text, of which, where figures are asked for, the number of lemmas alone isn't shown to
+/// be one. So each status comes exactly where it is answered with, but for faults and want of memory. Where a file is
+/// fetched, a fault of reading that came with a rise of the shelf's count of faults is left out. It has no code: its
+/// contract is the law.
 pub fn answers_exclude_each_other()
     ensures { AnswersExcludeEachOther }
 {}
@@ -22,7 +25,7 @@ pub fn held_files_are_answered()
     ensures { HeldFilesAreAnswered }
 {}
 
-/// The law that, faults of the sink and want of memory aside, a call ends with `Usage` exactly where its words ask for
+/// The law that, statuses `WriteFault` and `Memory` aside, a call ends with `Usage` exactly where its words ask for
 /// nothing that is there; that one whose words ask for a generated program ends with `Done`; and that one whose words
 /// ask for the figures of its analysis ends with `Done` exactly where this has a time for every rule, and else with
 /// `Unknown`. It has no code: its contract is the law.
@@ -40,4 +43,11 @@ pub fn analysis_texts_state_one_report()
 /// What a fault of the sink leaves of a text was worked out by hand. It has no code: its contract is these values.
 pub fn worked_ends_hold()
     ensures { FaultsLeaveFirstBytes }
+{}
+
+/// The figures of a report as text, and what is answered to some words, were worked out by hand. It has no code: its
+/// contract is these values.
+pub fn worked_answers_hold()
+    ensures figures { FiguresAreWorkedOut }
+    ensures answers { AnswersAreWorkedOut }
 {}

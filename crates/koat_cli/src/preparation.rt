@@ -17,7 +17,7 @@ use model::Memory;
 use outside_io::Shelf;
 use std::alloc::Global;
 
-/// The text for words that ask for nothing: a line for each command that there is.
+/// The text for words that ask for nothing that is there: a line for each command that there is.
 const USAGE: &[u8] =
     b"usage: koat analyse [--pivots N] FILE\n       koat generate N\n       koat selfrun N\n";
 
