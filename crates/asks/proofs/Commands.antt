@@ -1,16 +1,16 @@
 -- What the words behind a command ask for.
 use Rattle.std.proofs.Common.{◌≡◌, ◌≢◌, ℕ, List, [], ◌∷◌, ◌++◌, Option, Some, None, MatchOption, ◌+◌, sym, ◌∙◌, ap}
-use Rattle.std.proofs.Common.{subst, codes, take, drop, length, true, false, refl}
+use Rattle.std.proofs.Common.{subst, take, drop, length, true, false, refl}
 use Rattle.std.specs.Prelude.{nat_eq}
 use Rattle.std.specs.Cmp.Lexicographic.{pointwise, same_text, other_text}
 use Rattle.std.proofs.lemmas.List.{take-append-drop}
 use Rattle.asks.specs.declared.request.Request as declared
-use Rattle.asks.specs.declared.request.Request.TheVariants as variants
+use Rattle.asks.specs.declared.command.Command.{Command}
 use Rattle.asks.specs.Lines.{Word, Words, Gives}
-use Rattle.asks.specs.Requests.{Request, Analyse, AllowsPivots, Asks}
-use Rattle.asks.specs.Steps.{IsAnalysis}
+use Rattle.asks.specs.Requests.{Request, word_of, command_of, AsksWith, Asks}
+use Rattle.asks.specs.Steps.{IsAskedBy, AsksNone}
 use Rattle.asks.specs.Views.{request_of}
-use Rattle.asks.proofs.OneWay.{one_line}
+use Rattle.asks.proofs.OneWay.{one_line, one_command, request_by, one_by}
 use Rattle.asks.proofs.Firsts.{gives_along}
 
 -- what stands behind the first bytes of a word
@@ -36,32 +36,51 @@ pub stripped : {X : Type 0} (r : Option X) (f : X → List ℕ) (w p : List ℕ)
 stripped None f w p h = none_behind w p h
 stripped (Some x) f w p h = some_behind w p (f x) h.0 h.1
 
--- other words than the command and what stands behind it ask for nothing
-pub none_without_command : (words : Words) → ((others : Words) → words ≢ codes "analyse" ∷ others) → (q : Request) → ¬ (Asks words q)
-none_without_command words none (Analyse n f) h = none h.others h.command
+-- no words ask for nothing
+pub none_of_none : (q : Request) → ¬ (Asks [] q)
+none_of_none q h = let e : [] ≡ word_of (command_of q) ∷ h.others = h.command in cc
 
--- where the words behind it give nothing, nothing is asked for
-pub none_given : (words others : Words) → words ≡ codes "analyse" ∷ others → ((v p : Words) → ¬ (Gives others v p)) → (q : Request)
-    → ¬ (Asks words q)
-none_given words others e none (Analyse n f) h =
+-- words that begin with no command ask for nothing
+pub none_without_command : (words : Words) (first : Word) (others : Words) → words ≡ first ∷ others
+    → ((c : Command) → first ≢ word_of c) → (q : Request) → ¬ (Asks words q)
+none_without_command words first others e none q h =
+    let same : first ≡ word_of (command_of q) = cc (e, h.command) in
+    none (command_of q) same
+
+-- where the words behind the command give nothing, nothing is asked for
+pub none_given : (words : Words) (first : Word) (others : Words) → words ≡ first ∷ others → ((v p : Words) → ¬ (Gives others v p))
+    → (q : Request) → ¬ (Asks words q)
+none_given words first others e none q h =
     let same : others ≡ h.others = cc (e, h.command) in
-    none h.values (f ∷ []) (gives_along _ _ _ _ _ _ same refl refl h.gives)
+    none h.values h.positionals (gives_along _ _ _ _ _ _ same refl refl h.gives)
 
 -- what they give is what is asked for
-pub asked_for : (words others vs ps : Words) (r : Option declared.Request) → words ≡ codes "analyse" ∷ others → Gives others vs ps
-    → MatchOption r ((pivots : ℕ) (file : Word) → AllowsPivots vs pivots → ¬ (ps ≡ file ∷ [])) (IsAnalysis vs ps)
+pub asked_for : (words : Words) (first : Word) (others vs ps : Words) (c : Command) (r : Option declared.Request)
+    → words ≡ first ∷ others → first ≡ word_of c → Gives others vs ps
+    → MatchOption r (AsksNone c vs ps) (λ q. IsAskedBy c vs ps (request_of q))
     → MatchOption r ((q : Request) → ¬ (Asks words q)) (λ q. Asks words (request_of q))
-asked_for words others vs ps None e g none = go
+asked_for words first others vs ps c None e f g none = go
   where
     go : (q : Request) → ¬ (Asks words q)
-    go (Analyse n f) h =
+    go q h =
         let same : h.others ≡ others = cc (e, h.command) in
-        let one = one_line others vs ps h.values (f ∷ []) g (gives_along _ _ _ _ _ _ (sym same) refl refl h.gives) in
-        none n f (subst (λ (ws : Words). AllowsPivots ws n) (sym one.0) h.allowed) one.1
-asked_for words others vs ps (Some (variants.Analyse pivots file)) e g a = record {
+        let heads : word_of (command_of q) ≡ word_of c = cc (e, f, h.command) in
+        let line = one_line others h.values h.positionals vs ps (gives_along _ _ _ _ _ _ (sym same) refl refl h.gives) g in
+        none q (record {
+          command_is = one_command (command_of q) c heads;
+          parts = subst (λ (ws : Words). AsksWith q ws ps) line.0 (subst (λ (ws : Words). AsksWith q h.values ws) line.1 h.parts);
+        })
+asked_for words first others vs ps c (Some q) e f g a = record {
   others = others;
   values = vs;
-  command = e;
-  gives = gives_along _ _ _ _ _ _ refl refl (sym a.1) g;
-  allowed = a.0;
+  positionals = ps;
+  command = e ∙ ap (λ (w : Word). w ∷ others) (f ∙ ap word_of (sym a.command_is));
+  gives = g;
+  parts = a.parts;
 }
+
+-- a command asks for nothing with these values and positionals where its one request with them isn't asked for
+pub none_by : (c : Command) (vs ps : Words) → ¬ (AsksWith (request_by c vs ps) vs ps) → AsksNone c vs ps
+none_by c vs ps none q a =
+    none (subst (λ (r : Request). AsksWith r vs ps)
+    (one_by q vs ps a.parts ∙ ap (λ (d : Command). request_by d vs ps) a.command_is) a.parts)

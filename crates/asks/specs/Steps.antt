@@ -1,9 +1,8 @@
 -- How the words behind the command are read one by one.
 use Rattle.std.specs.Prelude.{◌≡◌, ◌≢◌, [], ◌∷◌, ◌++◌, map, string_bytes, IsTrue, IsFalse, codes}
 use Rattle.asks.specs.Lines.{Word, Words, is_plain, is_value, Gives}
-use Rattle.asks.specs.Requests.{AllowsPivots}
-use Rattle.asks.specs.declared.request.Request.{Request}
-use Rattle.asks.specs.declared.request.Request.TheVariants.{Analyse}
+use Rattle.asks.specs.Requests.{Request, command_of, AsksWith}
+use Rattle.asks.specs.declared.command.Command.{Command}
 use Rattle.asks.specs.declared.kind.Kind.{Kind}
 use Rattle.asks.specs.declared.kind.Kind.TheVariants as kinds
 use Rattle.asks.specs.declared.line.Next.{Next}
@@ -93,7 +92,11 @@ pub record IsValued (old : Line) (value : Word) (new : Line) : Type 0 where
   pub positionals : positionals_in new ≡ positionals_in old
   pub next : new.next ≡ nexts.Word
 
--- the request is the analysis that these values of the option and these positionals ask for
-abbrev pub IsAnalysis : Words → Words → Request → Type 0
-IsAnalysis values positionals (Analyse pivots file) = AllowsPivots values pivots
-    × (positionals ≡ string_bytes file ∷ [])
+-- the request is that of the command with these values of the option and these positionals
+pub record IsAskedBy (command : Command) (values positionals : Words) (request : Request) : Type 0 where
+  pub command_is : command_of request ≡ command
+  pub parts : AsksWith request values positionals
+
+-- no request of the command has these values of the option and these positionals
+abbrev pub AsksNone : Command → Words → Words → Type 0
+AsksNone command values positionals = (request : Request) → ¬ (IsAskedBy command values positionals request)

@@ -2,13 +2,14 @@
 //! for, and none exactly where they ask for nothing.
 #![tactic(auto)]
 
+mod command;
 mod kind;
 mod law;
 mod line;
 mod number;
 mod request;
-mod text;
+mod taking;
 
 pub use law::{command_lines_are_as_worked_out, words_are_read_in_one_way};
 pub use request::{Request, asks};
-pub use text::usage;
+pub use taking::DEFAULT_PIVOTS;

@@ -1,29 +1,33 @@
 //! What a list of words asks for.
 
-ghost use Rattle.std.specs.Prelude.{◌≡◌, ◌≢◌, codes, [], ◌∷◌, ℕ, map, string_bytes, MatchOption, IfOk};
-ghost use Rattle.asks.specs.Lines.{Word, Words};
+ghost use Rattle.std.specs.Prelude.{◌≡◌, map, string_bytes, MatchOption, IfOk};
 ghost use Rattle.asks.specs.Requests as requests;
-ghost use Rattle.asks.specs.Requests.{AllowsPivots, Asks};
-ghost use Rattle.asks.specs.Steps.{values_in, positionals_in, IsAnalysis};
+ghost use Rattle.asks.specs.Requests.{Asks};
+ghost use Rattle.asks.specs.Steps.{values_in, positionals_in, IsAskedBy, AsksNone};
 ghost use Rattle.asks.specs.Views.{request_of};
 
-use crate::kind::is_same;
+use crate::command::{Command, named};
 use crate::line::{Line, read_line};
-use crate::number::number;
+use crate::taking::{OneFile, TwoFiles, one_file, one_number, two_files};
 use model::Memory;
 use std::alloc::Global;
 
-/// How many pivots are allowed where the option isn't given.
-const DEFAULT_PIVOTS: u32 = 10_000;
-
-/// How many pivots can be allowed at most.
-const MAXIMUM_PIVOTS: u32 = 1_000_000;
-
-/// What the program is asked for.
+/// What the words of a command line ask for. `pivots` is how many pivots each linear program may take, up to 1,000,000,
+/// and `n` is at most 100.
 #[derive(Debug, PartialEq, Eq, Drop)]
 pub enum Request {
-    /// The analysis of the program in a file, with so many pivots for each linear program.
+    /// The analysis of the program in a file.
     Analyse { pivots: u32, file: String },
+    /// The proofs of what the analysis of the program in a file finds.
+    Prove { pivots: u32, file: String },
+    /// Whether the proofs in a file hold of the program in another.
+    Check { file: String, proof: String },
+    /// The run in a file, of the program in another.
+    Replay { file: String, run: String },
+    /// The generated program of a number.
+    Generate { n: u32 },
+    /// The figures of the analysis of the generated program of a number.
+    Selfrun { n: u32 },
 }
 
 /// What the words after the program's name ask for; none where they are no command line.
@@ -36,60 +40,51 @@ pub fn asks(alloc: Global, words: &[String]) -> Result<Option<Request>, Memory>
         ((request : requests.Request) → ¬ (Asks (map string_bytes words.now) request))
         (λ request. Asks (map string_bytes words.now) (request_of request))) }
 {
-    let Some(others) = behind_command(words) else {
+    let Some((first, others)) = words.split_first() else {
+        return Ok(None);
+    };
+    let Some(command) = named(first.as_bytes()) else {
         return Ok(None);
     };
     let Some(line) = read_line(alloc, others)? else {
         return Ok(None);
     };
-    Ok(analysis(line))
+    Ok(asked_by(command, line))
 }
 
-// The words behind `analyse`, where this is the first word.
-fn behind_command(words: &[String]) -> Option<&[String]>
-    ensures { MatchOption result
-        ((others : Words) → map string_bytes words.now ≢ codes "analyse" ∷ others)
-        (λ others. map string_bytes words.now ≡ codes "analyse" ∷ map string_bytes others.now) }
+// The request of a command with a line behind it.
+fn asked_by(command: Command, line: Line) -> Option<Request>
+    ensures { MatchOption result (AsksNone command (values_in line) (positionals_in line))
+        (λ request. IsAskedBy command (values_in line) (positionals_in line) (request_of request)) }
 {
-    match words {
-        [command, others @ ..] if is_same(command.as_bytes(), b"analyse") => Some(others),
-        _ => None,
-    }
-}
-
-// The analysis that a line asks for behind the command.
-fn analysis(line: Line) -> Option<Request>
-    ensures { MatchOption result
-        ((pivots : ℕ) (file : Word) → AllowsPivots (values_in line) pivots → ¬ (positionals_in line ≡ file ∷ []))
-        (IsAnalysis (values_in line) (positionals_in line)) }
-{
-    let pivots = pivots_of(&line.values)?;
-    let file = one_positional(line.positionals)?;
-    Some(Request::Analyse { pivots, file })
-}
-
-// How many pivots the values of the option allow.
-fn pivots_of(values: &[Vec<u8>]) -> Option<u32>
-    ensures { MatchOption result ((n : ℕ) → ¬ (AllowsPivots (map (λ v. v.items) values.now) n))
-        (AllowsPivots (map (λ v. v.items) values.now)) }
-{
-    match values {
-        [] => Some(DEFAULT_PIVOTS),
-        [value] => number(value, MAXIMUM_PIVOTS),
-        _ => None,
-    }
-}
-
-// The only positional.
-fn one_positional(positionals: Vec<String>) -> Option<String>
-    ensures { MatchOption result ((file : Word) → ¬ (map string_bytes positionals.items ≡ file ∷ []))
-        (λ file. map string_bytes positionals.items ≡ string_bytes file ∷ []) }
-{
-    let mut positionals = positionals;
-    let last = positionals.pop()?;
-    if positionals.is_empty() {
-        Some(last)
-    } else {
-        None
+    match command {
+        Command::Analyse => {
+            let OneFile { pivots, file } = one_file(line)?;
+            Some(Request::Analyse { pivots, file })
+        }
+        Command::Prove => {
+            let OneFile { pivots, file } = one_file(line)?;
+            Some(Request::Prove { pivots, file })
+        }
+        Command::Check => {
+            let TwoFiles { first, second } = two_files(line)?;
+            Some(Request::Check {
+                file: first,
+                proof: second,
+            })
+        }
+        Command::Replay => {
+            let TwoFiles { first, second } = two_files(line)?;
+            Some(Request::Replay {
+                file: first,
+                run: second,
+            })
+        }
+        Command::Generate => Some(Request::Generate {
+            n: one_number(line)?,
+        }),
+        Command::Selfrun => Some(Request::Selfrun {
+            n: one_number(line)?,
+        }),
     }
 }

@@ -14,7 +14,10 @@ total: 1
 size 1.1: A
 ";
 
-const USAGE: &[u8] = b"usage: koat analyse [--pivots N] FILE\n";
+const USAGE: &[u8] = b"usage: koat analyse [--pivots N] FILE
+       koat generate N
+       koat selfrun N
+";
 
 // A program's text with these rules.
 fn text_of(alloc: Global, rules: &str) -> Result<Vec<u8>, AllocError> {
@@ -117,36 +120,98 @@ fn a_budget_of_pivots_is_kept(rt: HostRuntime) -> Result<(), Fail> {
     Ok(())
 }
 
-#[test]
-fn words_are_a_command_line_or_get_the_usage(rt: HostRuntime) -> Result<(), Fail> {
-    let alloc = rt.alloc();
-    let table: [(&[&str], Status, &[u8]); 13] = [
-        (&["analyse", "p"], Status::Done, BOUNDED),
-        (&["analyse", "-"], Status::Done, BOUNDED),
-        (&["analyse", ""], Status::Done, BOUNDED),
-        (&[], Status::Usage, USAGE),
-        (&["analyse"], Status::Usage, USAGE),
-        (&["analyse", "-p"], Status::Usage, USAGE),
-        (&["analyse", "--"], Status::Usage, USAGE),
-        (&["analyse", "p", "p"], Status::Usage, USAGE),
-        (&["analyse", "--pivots", "01", "p"], Status::Usage, USAGE),
-        (&["analyse", "p", "--pivots=5"], Status::Done, BOUNDED),
-        (&["Analyse", "p"], Status::Usage, USAGE),
-        (&["prove", "p"], Status::Usage, USAGE),
-        (&["--help"], Status::Usage, USAGE),
-    ];
-    for (words, status, output) in table {
-        let mut files = Vec::new(alloc);
-        for name in ["p", "-", ""] {
-            files.push(file(alloc, name, text_of(alloc, ONE_RULE)?)?)?;
-        }
-        let mut shelf = MemoryShelf::new(files, Vec::new(alloc));
-        let mut sink = MemorySink::new(alloc, 999, Vec::new(alloc))?;
-        let words = words_of(alloc, words)?;
-        assert_eq!(rt; run(alloc, &words, &mut shelf, &mut sink), status);
-        assert_eq!(rt; sink.bytes(), output);
-        assert_eq!(rt; shelf.calls(), u64::from(status != Status::Usage));
+// Words, with the status and the text of the answer to them, and how many files are fetched. Three files hold the
+// program of one rule: `p`, `-` and that without a name.
+const COMMANDS: &[(&[&str], Status, &[u8], u64)] = &[
+    (&["analyse", "p"], Status::Done, BOUNDED, 1),
+    (&["analyse", "-"], Status::Done, BOUNDED, 1),
+    (&["analyse", ""], Status::Done, BOUNDED, 1),
+    (&["analyse", "--", "p"], Status::Done, BOUNDED, 1),
+    (&["analyse", "p", "--pivots=5"], Status::Done, BOUNDED, 1),
+    (&["generate", "1"], Status::Done, GENERATED, 0),
+    (
+        &["selfrun", "0"],
+        Status::Done,
+        b"rules 1\ntimes 1 of 1\nsizes 2 of 2\ntotal: 1\nlemmas 3\n",
+        0,
+    ),
+    (
+        &["selfrun", "6"],
+        Status::Done,
+        b"rules 13\ntimes 13 of 13\nsizes 26 of 26\ntotal: A + 5*B + 7\nlemmas 39\n",
+        0,
+    ),
+    (&[], Status::Usage, USAGE, 0),
+    (&["analyse"], Status::Usage, USAGE, 0),
+    (&["analyse", "--pivots", "01", "p"], Status::Usage, USAGE, 0),
+    (&["generate", "101"], Status::Usage, USAGE, 0),
+    (&["selfrun", "--pivots=5", "1"], Status::Usage, USAGE, 0),
+    (&["prove", "p"], Status::Usage, USAGE, 0),
+    (&["check", "p", "p"], Status::Usage, USAGE, 0),
+    (&["replay", "p", "p"], Status::Usage, USAGE, 0),
+    (&["--help"], Status::Usage, USAGE, 0),
+];
+
+const GENERATED: &[u8] = b"(GOAL COMPLEXITY)
+(STARTTERM (FUNCTIONSYMBOLS l0))
+(VAR A B)
+(RULES
+  l0(A,B) -> Com_1(l1(A,B))
+  l1(A,B) -> Com_1(l1(A-1,B)) :|: A >= 1
+  l1(A,B) -> Com_1(l2(B,B))
+)
+";
+
+// Whether a call with these words is answered in another way than is wanted.
+fn is_other(
+    alloc: Global,
+    words: &[&str],
+    status: Status,
+    output: &[u8],
+    calls: u64,
+) -> Result<bool, AllocError> {
+    let mut files = Vec::new(alloc);
+    for name in ["p", "-", ""] {
+        files.push(file(alloc, name, text_of(alloc, ONE_RULE)?)?)?;
     }
+    let mut shelf = MemoryShelf::new(files, Vec::new(alloc));
+    let mut sink = MemorySink::new(alloc, 999, Vec::new(alloc))?;
+    let words = words_of(alloc, words)?;
+    let ended = run(alloc, &words, &mut shelf, &mut sink);
+    Ok(ended != status || sink.bytes() != output || shelf.calls() != calls)
+}
+
+#[test]
+fn words_are_answered_by_their_command(rt: HostRuntime) -> Result<(), Fail> {
+    let alloc = rt.alloc();
+    let mut others: Vec<&[&str]> = Vec::new(alloc);
+    for (words, status, output, calls) in COMMANDS {
+        if is_other(alloc, words, *status, output, *calls)? {
+            others.push(*words)?;
+        }
+    }
+    let others = others.as_slice();
+    assert!(rt; others.is_empty(), "otherwise: {others:?}");
+    Ok(())
+}
+
+// Of what `generate 6` writes `analyse` reports thirteen times, the total that `selfrun 6` tells, and the first size.
+#[test]
+fn generated_programs_are_analysed(rt: HostRuntime) -> Result<(), Fail> {
+    let alloc = rt.alloc();
+    let mut empty = MemoryShelf::new(Vec::new(alloc), Vec::new(alloc));
+    let mut written = MemorySink::new(alloc, 9_999, Vec::new(alloc))?;
+    let words = words_of(alloc, &["generate", "6"])?;
+    assert_eq!(rt; run(alloc, &words, &mut empty, &mut written), Status::Done);
+    let files = one_file(alloc, "p", Vec::from_slice(alloc, written.bytes())?)?;
+    let mut shelf = MemoryShelf::new(files, Vec::new(alloc));
+    let mut sink = MemorySink::new(alloc, 9_999, Vec::new(alloc))?;
+    let words = words_of(alloc, &["analyse", "p"])?;
+    assert_eq!(rt; run(alloc, &words, &mut shelf, &mut sink), Status::Done);
+    let times: &[u8] =
+        b"bounded\ntime 1: 1\ntime 2: A\ntime 3: 1\ntime 4: B\ntime 5: 1\ntime 6: B\ntime 7: 1\n\
+time 8: B\ntime 9: 1\ntime 10: B\ntime 11: 1\ntime 12: B\ntime 13: 1\ntotal: A + 5*B + 7\nsize 1.1: A\n";
+    assert!(rt; sink.bytes().starts_with(times));
     Ok(())
 }
 

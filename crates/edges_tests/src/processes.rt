@@ -8,7 +8,10 @@ use std::io::ErrorKind;
 use std::process::ExitCode;
 use std::test::Fail;
 
-const USAGE: &[u8] = b"usage: koat analyse [--pivots N] FILE\n";
+const USAGE: &[u8] = b"usage: koat analyse [--pivots N] FILE
+       koat generate N
+       koat selfrun N
+";
 
 // Words as the system gives them, the program's name first.
 fn given(alloc: Global, words: &[&str]) -> Result<Vec<String>, AllocError> {

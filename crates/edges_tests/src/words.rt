@@ -1,8 +1,112 @@
 //! What words ask for, and which ask for nothing.
 
-use asks::{Request, asks, usage};
+use asks::asks;
 use std::alloc::{AllocError, Global};
 use std::test::Fail;
+
+// Words, and what they ask for.
+const LINES: &[(&[&str], &str)] = &[
+    (&["analyse", "p"], ANALYSE_P),
+    (&["analyse", "p", "--"], ANALYSE_P),
+    (
+        &["analyse", "-"],
+        "Some(Analyse { pivots: 10000, file: \"-\" })",
+    ),
+    (
+        &["analyse", ""],
+        "Some(Analyse { pivots: 10000, file: \"\" })",
+    ),
+    (
+        &["analyse", "--", "-p"],
+        "Some(Analyse { pivots: 10000, file: \"-p\" })",
+    ),
+    (
+        &["analyse", "--", "--"],
+        "Some(Analyse { pivots: 10000, file: \"--\" })",
+    ),
+    (
+        &["analyse", "--pivots", "0", "p"],
+        "Some(Analyse { pivots: 0, file: \"p\" })",
+    ),
+    (
+        &["analyse", "p", "--pivots", "70"],
+        "Some(Analyse { pivots: 70, file: \"p\" })",
+    ),
+    (
+        &["analyse", "p", "--pivots=5"],
+        "Some(Analyse { pivots: 5, file: \"p\" })",
+    ),
+    (
+        &["analyse", "--pivots=1000000", "p"],
+        "Some(Analyse { pivots: 1000000, file: \"p\" })",
+    ),
+    (
+        &["analyse", "--pivots=3", "--", "--pivots=4"],
+        "Some(Analyse { pivots: 3, file: \"--pivots=4\" })",
+    ),
+    (
+        &["prove", "--pivots", "9", "--", "p"],
+        "Some(Prove { pivots: 9, file: \"p\" })",
+    ),
+    (
+        &["prove", "p"],
+        "Some(Prove { pivots: 10000, file: \"p\" })",
+    ),
+    (
+        &["check", "p", "q"],
+        "Some(Check { file: \"p\", proof: \"q\" })",
+    ),
+    (
+        &["replay", "-", "--", "-q"],
+        "Some(Replay { file: \"-\", run: \"-q\" })",
+    ),
+    (&["generate", "0"], "Some(Generate { n: 0 })"),
+    (&["generate", "--", "5"], "Some(Generate { n: 5 })"),
+    (&["selfrun", "100"], "Some(Selfrun { n: 100 })"),
+    (&[], "None"),
+    (&["analyse"], "None"),
+    (&["p"], "None"),
+    (&["Analyse", "p"], "None"),
+    (&["--help"], "None"),
+    (&["help"], "None"),
+    (&["", "p"], "None"),
+    (&["analyse", "--help", "p"], "None"),
+    (&["analyse", "-p"], "None"),
+    (&["analyse", "--"], "None"),
+    (&["analyse", "p", "p"], "None"),
+    (&["analyse", "p", "--", "p"], "None"),
+    (&["--pivots", "5", "analyse", "p"], "None"),
+    (&["analyse", "--pivots", "5"], "None"),
+    (&["analyse", "p", "--pivots"], "None"),
+    (&["analyse", "--pivots", "01", "p"], "None"),
+    (&["analyse", "--pivots", "", "p"], "None"),
+    (&["analyse", "--pivots=", "p"], "None"),
+    (&["analyse", "--pivots", "-", "p"], "None"),
+    (&["analyse", "--pivots", "--", "p"], "None"),
+    (&["analyse", "--pivots", "+5", "p"], "None"),
+    (&["analyse", "--pivots=1000001", "p"], "None"),
+    (&["analyse", "--pivots=18446744073709551616", "p"], "None"),
+    (&["analyse", "--pivots=5", "--pivots=5", "p"], "None"),
+    (&["analyse", "--pivot=5", "p"], "None"),
+    (&["prove", "p", "q"], "None"),
+    (&["check", "p"], "None"),
+    (&["check", "p", "q", "r"], "None"),
+    (&["replay", "--pivots=5", "p", "q"], "None"),
+    (&["generate"], "None"),
+    (&["generate", ""], "None"),
+    (&["generate", "01"], "None"),
+    (&["generate", "+1"], "None"),
+    (&["generate", "-1"], "None"),
+    (&["generate", "--", "-1"], "None"),
+    (&["generate", "1 "], "None"),
+    (&["generate", "101"], "None"),
+    (&["generate", "4294967297"], "None"),
+    (&["generate", "1", "2"], "None"),
+    (&["selfrun", "--pivots", "5", "1"], "None"),
+    (&["selfrun", "1e1"], "None"),
+];
+
+const ANALYSE_P: &str = "Some(Analyse { pivots: 10000, file: \"p\" })";
 
 fn words_of(alloc: Global, words: &[&str]) -> Result<Vec<String>, AllocError> {
     let mut all = Vec::new(alloc);
@@ -12,72 +116,23 @@ fn words_of(alloc: Global, words: &[&str]) -> Result<Vec<String>, AllocError> {
     Ok(all)
 }
 
-#[test]
-fn words_ask_for_an_analysis(rt: HostRuntime) -> Result<(), Fail> {
-    let alloc = rt.alloc();
-    let table: [(&[&str], u32, &str); 12] = [
-        (&["analyse", "p"], 10_000, "p"),
-        (&["analyse", "-"], 10_000, "-"),
-        (&["analyse", ""], 10_000, ""),
-        (&["analyse", "--", "-p"], 10_000, "-p"),
-        (&["analyse", "--", "--"], 10_000, "--"),
-        (&["analyse", "p", "--"], 10_000, "p"),
-        (&["analyse", "--pivots", "0", "p"], 0, "p"),
-        (&["analyse", "p", "--pivots", "70"], 70, "p"),
-        (&["analyse", "p", "--pivots=5"], 5, "p"),
-        (&["analyse", "--pivots=1000000", "p"], 1_000_000, "p"),
-        (
-            &["analyse", "--pivots=3", "--", "--pivots=4"],
-            3,
-            "--pivots=4",
-        ),
-        (&["analyse", "--pivots", "9", "--", "p"], 9, "p"),
-    ];
-    for (words, pivots, file) in table {
-        let words = words_of(alloc, words)?;
-        let wanted = Request::Analyse {
-            pivots,
-            file: String::from_str(alloc, file)?,
-        };
-        assert_eq!(rt; asks(alloc, &words)?, Some(wanted));
-    }
-    Ok(())
+// Whether these words ask for another thing than is wanted.
+fn is_other(alloc: Global, words: &[&str], wanted: &str) -> Result<bool, AllocError> {
+    let asked = asks(alloc, &words_of(alloc, words)?)?;
+    let text = format!(in alloc; "{asked:?}")?;
+    Ok(text.as_str() != wanted)
 }
 
 #[test]
-fn other_words_ask_for_nothing(rt: HostRuntime) -> Result<(), Fail> {
+fn words_ask_for_one_thing_or_none(rt: HostRuntime) -> Result<(), Fail> {
     let alloc = rt.alloc();
-    let table: [&[&str]; 24] = [
-        &[],
-        &["analyse"],
-        &["p"],
-        &["Analyse", "p"],
-        &["prove", "p"],
-        &["--help"],
-        &["analyse", "--help", "p"],
-        &["analyse", "-p"],
-        &["analyse", "--"],
-        &["analyse", "p", "p"],
-        &["analyse", "p", "--", "p"],
-        &["--pivots", "5", "analyse", "p"],
-        &["analyse", "--pivots", "5"],
-        &["analyse", "p", "--pivots"],
-        &["analyse", "--pivots", "01", "p"],
-        &["analyse", "--pivots", "", "p"],
-        &["analyse", "--pivots=", "p"],
-        &["analyse", "--pivots", "-", "p"],
-        &["analyse", "--pivots", "--", "p"],
-        &["analyse", "--pivots", "+5", "p"],
-        &["analyse", "--pivots=1000001", "p"],
-        &["analyse", "--pivots=18446744073709551616", "p"],
-        &["analyse", "--pivots=5", "--pivots=5", "p"],
-        &["analyse", "--pivot=5", "p"],
-    ];
-    for words in table {
-        let words = words_of(alloc, words)?;
-        assert_eq!(rt; asks(alloc, &words)?, None);
+    let mut other = 0;
+    for (words, wanted) in LINES {
+        if is_other(alloc, words, wanted)? {
+            println!(rt; "not {wanted}: {words:?}")?;
+            other += u64::from(other < 1000);
+        }
     }
-    let text: &[u8] = b"usage: koat analyse [--pivots N] FILE\n";
-    assert_eq!(rt; usage(), text);
+    assert_eq!(rt; other, 0);
     Ok(())
 }

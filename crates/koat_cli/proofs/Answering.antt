@@ -1,7 +1,7 @@
 -- How calls end that ask for the analysis of a file that is held: each with what its status says of the bytes, and what
 -- three statuses say excludes each other.
 use Rattle.std.proofs.Common.{◌≡◌, ◌≢◌, ◌↔◌, ℕ, ◌<◌, ◌≤◌, List, length, Bool, true, false, Option, Some, None, refl}
-use Rattle.std.proofs.Common.{sym, ◌∙◌, ap, subst, inl, inr, arith, IsTrue, IsFalse}
+use Rattle.std.proofs.Common.{sym, ◌∙◌, ap, subst, inl, inr, arith, IsTrue, IsFalse, if◌then◌else◌}
 use Rattle.std.specs.Prelude.{IsSomeAnd}
 use Rattle.std.specs.List.{list_all}
 use Rattle.std.specs.FinMap.{get}
@@ -19,11 +19,15 @@ use Rattle.koat_cli.specs.declared.status.Status.{Status}
 use Rattle.koat_cli.specs.declared.status.Status.TheVariants.{Done, Unknown, Usage, ReadFault, WriteFault, Memory}
 use Rattle.koat_cli.specs.declared.status.Status.TheVariants.{ProgramRefused, ProofRefused, No, RunRefused, NotARun}
 use Rattle.koat_cli.specs.Calls.{Call, Put}
-use Rattle.koat_cli.specs.Causes.{program_limit, ReadsProgram, IsReported, IsUsage, IsReadFault, IsProgramRefused}
+use Rattle.koat_cli.specs.Outputs.{IsReportOf, status_of}
+use Rattle.koat_cli.specs.OnFiles.{program_limit, OnProgram, Unread, TooLong, Without, Of}
+use Rattle.koat_cli.specs.OnFiles as files
+use Rattle.koat_cli.specs.Answers.{Says}
 use Rattle.koat_cli.specs.Ends.{Ends}
-use Rattle.koat_cli.specs.Answering.{AsksOfHeld, HasReport, HasAllTimes, LacksTimes, SpellsNone, IsStatusOfHeld}
+use Rattle.koat_cli.specs.Answering.{AsksOfHeld, FindsAllTimes, MissesTimes, SpellsOne, SpellsNone, IsStatusOfHeld}
 use Rattle.koat_cli.specs.Answering.{HeldFilesAreAnswered}
-use Rattle.koat_cli.proofs.Exclusions.{Determined, same_file, same_pivots}
+use Rattle.koat_cli.proofs.OneRequest.{answer_of}
+use Rattle.koat_cli.proofs.Exclusions.{Determined}
 
 -- the bytes that a shelf gave of a file are those that it holds
 same_held : (held : Option Files) (file bytes given : List ℕ) → IsSomeAnd held (λ files. get files file ≡ Some bytes)
@@ -58,137 +62,126 @@ not_both : (v : Bool) → IsTrue v → IsFalse v → ⊥
 not_both true yes_it_is no_it_isnt = let e : ◌≡◌ {A = Bool} true false = no_it_isnt in cc
 not_both false yes_it_is no_it_isnt = let e : ◌≡◌ {A = Bool} false true = yes_it_is in cc
 
+-- of a report some rule has no time or every rule has one
+pub data Timing (p : Program) (pivots : ℕ) : Status → Type 0 where
+  AllTimed : FindsAllTimes p pivots → Timing p pivots Done
+  SomeUntimed : MissesTimes p pivots → Timing p pivots Unknown
+
+-- as its status says
+pub timing_of : (p : Program) (pivots : ℕ) (s : Status) (r : Report) → IsAnalysis p pivots r → s ≡ status_of r → Timing p pivots s
+timing_of p pivots s r found e = subst (λ (t : Status). Timing p pivots t) (sym e) (go (list_all is_timed r.times) refl)
+  where
+    go : (v : Bool) → list_all is_timed r.times ≡ v → Timing p pivots (if v then Done else Unknown)
+    go true h = AllTimed (record { report = r; found = found; all_timed = h })
+    go false h = SomeUntimed (record { report = r; found = found; some_untimed = h })
+
+-- not both
+pub timing_apart : Determined → (p : Program) (pivots : ℕ) → FindsAllTimes p pivots → MissesTimes p pivots → ⊥
+timing_apart laws p pivots a b =
+    not_both (list_all is_timed b.report.times)
+    (subst (λ (r : Report). IsTrue (list_all is_timed r.times)) (laws.reports.each p pivots a.report b.report a.found b.found) a.all_timed)
+    b.some_untimed
+
 -- what a status says of the bytes
 pub data Answered (bytes : List ℕ) (pivots : ℕ) : Status → Type 0 where
-  IsDone : HasAllTimes bytes pivots → Answered bytes pivots Done
-  IsUnknown : LacksTimes bytes pivots → Answered bytes pivots Unknown
+  IsDone : SpellsOne bytes (λ p. FindsAllTimes p pivots) → Answered bytes pivots Done
+  IsUnknown : SpellsOne bytes (λ p. MissesTimes p pivots) → Answered bytes pivots Unknown
   IsRefused : SpellsNone bytes → Answered bytes pivots ProgramRefused
 
 module _ (laws : Determined) (bytes : List ℕ) (pivots : ℕ) where
-  -- bytes have one report
-  same_report : (r q : Report) → HasReport bytes pivots r → HasReport bytes pivots q → r ≡ q
-  same_report r q a b =
-      let program : a.program ≡ b.program = laws.programs.each bytes a.program b.program a.spelled.spells b.spelled.spells in
-      laws.reports.each b.program pivots r q (subst (λ (p : Program). IsAnalysis p pivots r) program a.found) b.found
-
   -- not with a time for every rule and without one for some
-  timed_apart : HasAllTimes bytes pivots → LacksTimes bytes pivots → ⊥
+  timed_apart : SpellsOne bytes (λ p. FindsAllTimes p pivots) → SpellsOne bytes (λ p. MissesTimes p pivots) → ⊥
   timed_apart a b =
-      not_both (list_all is_timed b.report.times)
-      (subst (λ (r : Report). IsTrue (list_all is_timed r.times)) (same_report a.report b.report a.has b.has) a.all_timed)
-      b.some_untimed
+      let program : a.program ≡ b.program = laws.programs.each bytes a.program b.program a.spelled.spells b.spelled.spells in
+      timing_apart laws b.program pivots (subst (λ (p : Program). FindsAllTimes p pivots) program a.holds) b.holds
 
-  -- and none where they spell nothing
-  report_apart : (r : Report) → HasReport bytes pivots r → SpellsNone bytes → ⊥
-  report_apart r a (inl more) = omega (arith, more, a.within)
-  report_apart r a (inr none) = none a.program a.spelled
+  -- and no program where they spell none
+  program_apart : (Holds : Program → Type 0) → SpellsOne bytes Holds → SpellsNone bytes → ⊥
+  program_apart Holds a (inl more) = omega (arith, more, a.within)
+  program_apart Holds a (inr none) = none a.program a.spelled
 
   -- so each of three statuses comes only with what it says
-  only_done : (s : Status) → Answered bytes pivots s → (s ≡ Done) ↔ HasAllTimes bytes pivots
+  only_done : (s : Status) → Answered bytes pivots s → (s ≡ Done) ↔ SpellsOne bytes (λ p. FindsAllTimes p pivots)
   only_done s (IsDone a) = ((λ e. a), (λ h. refl))
   only_done s (IsUnknown a) = ((λ e. absurd (let no_way : ⊥ = cc in no_way)), (λ h. absurd (timed_apart h a)))
   only_done s (IsRefused a) =
-      ((λ e. absurd (let no_way : ⊥ = cc in no_way)), (λ h. absurd (report_apart h.report h.has a)))
+      ((λ e. absurd (let no_way : ⊥ = cc in no_way)), (λ h. absurd (program_apart (λ p. FindsAllTimes p pivots) h a)))
 
-  only_unknown : (s : Status) → Answered bytes pivots s → (s ≡ Unknown) ↔ LacksTimes bytes pivots
+  only_unknown : (s : Status) → Answered bytes pivots s → (s ≡ Unknown) ↔ SpellsOne bytes (λ p. MissesTimes p pivots)
   only_unknown s (IsDone a) = ((λ e. absurd (let no_way : ⊥ = cc in no_way)), (λ h. absurd (timed_apart a h)))
   only_unknown s (IsUnknown a) = ((λ e. a), (λ h. refl))
   only_unknown s (IsRefused a) =
-      ((λ e. absurd (let no_way : ⊥ = cc in no_way)), (λ h. absurd (report_apart h.report h.has a)))
+      ((λ e. absurd (let no_way : ⊥ = cc in no_way)), (λ h. absurd (program_apart (λ p. MissesTimes p pivots) h a)))
 
   only_refused : (s : Status) → Answered bytes pivots s → (s ≡ ProgramRefused) ↔ SpellsNone bytes
   only_refused s (IsDone a) =
-      ((λ e. absurd (let no_way : ⊥ = cc in no_way)), (λ h. absurd (report_apart a.report a.has h)))
+      ((λ e. absurd (let no_way : ⊥ = cc in no_way)), (λ h. absurd (program_apart (λ p. FindsAllTimes p pivots) a h)))
   only_refused s (IsUnknown a) =
-      ((λ e. absurd (let no_way : ⊥ = cc in no_way)), (λ h. absurd (report_apart a.report a.has h)))
+      ((λ e. absurd (let no_way : ⊥ = cc in no_way)), (λ h. absurd (program_apart (λ p. MissesTimes p pivots) a h)))
   only_refused s (IsRefused a) = ((λ e. a), (λ h. refl))
 
+  -- a program whose analysis was said says it with its status
+  of_timing : (s : Status) (p : Program) → length bytes ≤ program_limit → SpellsWithin bytes p → Timing p pivots s
+      → Answered bytes pivots s
+  of_timing s p within spelled (AllTimed h) = IsDone (record { within = within; program = p; spelled = spelled; holds = h })
+  of_timing s p within spelled (SomeUntimed h) = IsUnknown (record { within = within; program = p; spelled = spelled; holds = h })
+
   module _ (call : Call) (put : Put) (h : AsksOfHeld call put bytes pivots) where
-    -- the bytes that were read are those that are held
-    read_held : (given : List ℕ) (n : ℕ) → ReadsProgram call given n → given ≡ bytes
-    read_held given n read =
-        let file : read.file ≡ h.file = same_file laws call.words n pivots read.file h.file read.asked h.asked in
-        same_held call.held h.file bytes given h.held
-        (subst (λ (f : List ℕ). IsHeld call.held f given) file read.held)
+    -- the bytes that were fetched are those that are held
+    fetched_held : (given : List ℕ) → IsHeld call.shelf.held h.file given → given ≡ bytes
+    fetched_held given is = same_held call.shelf.held h.file bytes given h.held is
 
-    -- a report that was written is that of the bytes
-    reported : (text : List ℕ) (r : Report) → IsReported call text r → HasReport bytes pivots r
-    reported text r a =
-        let bytes_are : a.bytes ≡ bytes = read_held a.bytes a.pivots a.read in
-        let pivots_are : a.pivots ≡ pivots =
-        same_pivots laws call.words a.pivots pivots a.read.file h.file a.read.asked h.asked in
-        record {
-          within = subst (λ (b : List ℕ). length b ≤ program_limit) bytes_are a.read.within;
-          program = a.program;
-          spelled = subst (λ (b : List ℕ). SpellsWithin b a.program) bytes_are a.spelled;
-          found = subst (λ (n : ℕ). IsAnalysis a.program n r) pivots_are a.found;
-        }
-
-    -- a program that was refused is none within the limits
-    refused : (text : List ℕ) → IsProgramRefused call text → SpellsNone bytes
-    refused text (inl a) =
-        let file : a.file ≡ h.file = same_file laws call.words a.pivots pivots a.file h.file a.asked h.asked in
-        inl (held_more call.held h.file bytes program_limit call.taken h.held
-        (subst (λ (f : List ℕ). IsTooLong call.held f program_limit call.taken) file a.too_long))
-    refused text (inr a) = inr (λ p spelled.
-        apart p (sym a.refused ∙ (ap verdict (read_held a.bytes a.pivots a.read) ∙ (laws.verdicts.stands bytes p).1 spelled)))
+    -- what is answered of the file says something of its bytes
+    of_file : (s : Status) (x : List ℕ) → OnProgram call.shelf h.file (λ p. IsReportOf p pivots) s x → Answered bytes pivots s
+    of_file s x (Without (Unread a)) = absurd (may_not a.fault)
+      where
+        may_not : MayFail call.shelf.held h.file call.shelf.faults_before call.shelf.faults_after → ⊥
+        may_not (inl rose) = h.no_read_fault rose
+        may_not (inr lacks) = held_not_lacking call.shelf.held h.file bytes h.held lacks
+    of_file s x (Without (TooLong a)) =
+        subst (λ (t : Status). Answered bytes pivots t) (sym a.ends)
+        (IsRefused (inl (held_more call.shelf.held h.file bytes program_limit call.shelf.taken h.held a.too_long)))
+    of_file s x (Without (files.Refused a)) =
+        subst (λ (t : Status). Answered bytes pivots t) (sym a.ends)
+        (IsRefused (inr (λ p spelled.
+        apart p (sym a.refused ∙ (ap verdict (fetched_held a.bytes a.fetched.held) ∙ (laws.verdicts.stands bytes p).1 spelled)))))
       where
         apart : (p : Program) → ◌≡◌ {A = Answer Program Kind} (Refused a.fault) (Stands p) → ⊥
         apart p e = cc
+    of_file s x (Of a) =
+        let same : a.given.bytes ≡ bytes = fetched_held a.given.bytes a.given.fetched.held in
+        of_timing s a.program (subst (λ (b : List ℕ). length b ≤ program_limit) same a.given.fetched.within)
+        (subst (λ (b : List ℕ). SpellsWithin b a.program) same a.given.spelled)
+        (timing_of a.program pivots s a.said.report a.said.found.found a.said.ends)
 
-    -- words that ask for an analysis don't get the usage text
-    no_usage : (text : List ℕ) → IsUsage call text → ⊥
-    no_usage text a = a.other (Analyse pivots h.file) h.asked
+    -- so does a status that isn't that of a fault or of want of memory
+    of_text : (s : Status) (x : List ℕ) → Says call s x → Answered bytes pivots s
+    of_text s x said = of_file s x (answer_of call (Analyse pivots h.file) s x h.asked said)
 
-    -- and the file can be had
-    no_fault : (text : List ℕ) → IsReadFault call text → ⊥
-    no_fault text a =
-        may_not (subst (λ (f : List ℕ). MayFail call.held f call.faults_before call.faults_after)
-        (same_file laws call.words a.pivots pivots a.file h.file a.asked h.asked) a.fault)
-      where
-        may_not : MayFail call.held h.file call.faults_before call.faults_after → ⊥
-        may_not (inl rose) = h.no_read_fault rose
-        may_not (inr lacks) = held_not_lacking call.held h.file bytes h.held lacks
+    answered : (s : Status) → Ends s call put → s ≢ Memory → Answered bytes pivots s
+    answered s ends memory =
+        let wrote = ends.wrote (λ e. h.no_write_fault (ends.write_fault e).fault) memory in
+        of_text s wrote.text wrote.says
+
+    -- and these are three
+    few_answered : (s : Status) → Answered bytes pivots s → IsStatusOfHeld s
+    few_answered s (IsDone a) = tt
+    few_answered s (IsUnknown a) = tt
+    few_answered s (IsRefused a) = tt
 
     -- so the call ends with one of four statuses
     few : (s : Status) → Ends s call put → IsStatusOfHeld s
+    few Memory ends = tt
     few Done ends = tt
     few Unknown ends = tt
-    few Usage ends = let wrote = ends.usage refl in no_usage wrote.text wrote.cause
-    few ReadFault ends = let wrote = ends.read_fault refl in no_fault wrote.text wrote.cause
-    few WriteFault ends = h.no_write_fault (ends.write_fault refl).fault
-    few Memory ends = tt
     few ProgramRefused ends = tt
-    few ProofRefused ends = ends.no_other
-    few No ends = ends.no_other
-    few RunRefused ends = ends.no_other
-    few NotARun ends = ends.no_other
-
-    -- and three of them say something of the bytes
-    answered : (s : Status) → Ends s call put → s ≢ Memory → Answered bytes pivots s
-    answered Done ends memory =
-        let wrote = ends.done refl in
-        IsDone (record {
-          report = wrote.cause.report;
-          has = reported wrote.text wrote.cause.report wrote.cause.reported;
-          all_timed = wrote.cause.all_timed;
-        })
-    answered Unknown ends memory =
-        let wrote = ends.unknown refl in
-        IsUnknown (record {
-          report = wrote.cause.report;
-          has = reported wrote.text wrote.cause.report wrote.cause.reported;
-          some_untimed = wrote.cause.some_untimed;
-        })
-    answered ProgramRefused ends memory = let wrote = ends.program_refused refl in IsRefused (refused wrote.text wrote.cause)
-    answered Memory ends memory = absurd (memory refl)
-    answered Usage ends memory = absurd (few Usage ends)
-    answered ReadFault ends memory = absurd (few ReadFault ends)
-    answered WriteFault ends memory = absurd (few WriteFault ends)
-    answered ProofRefused ends memory = absurd (few ProofRefused ends)
-    answered No ends memory = absurd (few No ends)
-    answered RunRefused ends memory = absurd (few RunRefused ends)
-    answered NotARun ends memory = absurd (few NotARun ends)
+    few WriteFault ends = h.no_write_fault (ends.write_fault refl).fault
+    few Usage ends = few_answered Usage (answered Usage ends (λ e. let no_way : ⊥ = cc in no_way))
+    few ReadFault ends = few_answered ReadFault (answered ReadFault ends (λ e. let no_way : ⊥ = cc in no_way))
+    few ProofRefused ends = few_answered ProofRefused (answered ProofRefused ends (λ e. let no_way : ⊥ = cc in no_way))
+    few No ends = few_answered No (answered No ends (λ e. let no_way : ⊥ = cc in no_way))
+    few RunRefused ends = few_answered RunRefused (answered RunRefused ends (λ e. let no_way : ⊥ = cc in no_way))
+    few NotARun ends = few_answered NotARun (answered NotARun ends (λ e. let no_way : ⊥ = cc in no_way))
 
 -- the law
 pub held_files_answered : Determined → HeldFilesAreAnswered

@@ -1,5 +1,4 @@
 -- What a call comes to is determined by its words and what the shelf holds.
-use Rattle.asks.proofs.OneWay.{read_in_one_way}
 use Rattle.its_reader.proofs.its_text.ReaderLaws.{one_program}
 use Rattle.its_reader.proofs.its_text.SpelledVerdicts.{verdicts_are_spelled}
 use Rattle.time_bounds.proofs.rule_questions.OneEmptyAnswer.{empties-one}
@@ -10,10 +9,9 @@ use Rattle.time_bounds.proofs.OneSizes.{program_sizes_one}
 use Rattle.time_bounds.proofs.OneAnalysis.{analysis_one}
 use Rattle.koat_cli.proofs.Exclusions.{Determined}
 
--- words are read in one way, a text spells one program, verdicts are what is spelled, and a program has one analysis
+-- a text spells one program, verdicts are what is spelled, and a program has one analysis
 pub determined : Determined
 determined = record {
-  words = read_in_one_way;
   programs = one_program;
   verdicts = verdicts_are_spelled;
   reports = record {

@@ -1,271 +1,246 @@
--- The causes of two statuses don't stand together, where the shelf tells what it holds.
-use Rattle.std.proofs.Common.{◌≡◌, ◌⊎◌, ℕ, ◌≤◌, ◌<◌, List, length, Option, Some, None, IsSome, IfSome, refl, sym, ◌∙◌}
-use Rattle.std.proofs.Common.{ap, subst, inl, inr, arith, true, false, Bool, if◌then◌else◌}
+-- One answer fits a call, where the shelf tells what it holds.
+use Rattle.std.proofs.Common.{◌≡◌, ◌≢◌, ℕ, ◌≤◌, ◌<◌, List, length, Option, Some, None, IsSome, IfSome, refl, sym, ◌∙◌}
+use Rattle.std.proofs.Common.{ap, subst, inl, inr, arith, true, false, Bool, cond, nat_lt}
+use Rattle.std.proofs.lemmas.Bool.Decides.{nat_tests}
 use Rattle.std.specs.Prelude.{IsSomeAnd}
-use Rattle.std.specs.List.{list_all}
 use Rattle.std.specs.FinMap.{get}
 use Rattle.outside_io.specs.Counts.{Rose}
 use Rattle.outside_io.specs.Files.{Files, IsHeld, HoldsMore, Lacks}
 use Rattle.outside_io.specs.Fetching.{IsTooLong, MayFail}
 use Rattle.model.specs.Programs.{Program}
 use Rattle.its_model.specs.text_core.Readers.{Fault}
-use Rattle.its_model.specs.text_core.Reading.{Answer, Stands, Refused}
+use Rattle.its_model.specs.text_core.Reading as reading
 use Rattle.its_reader.specs.its_text.Kinds.{Kind}
-use Rattle.its_reader.specs.its_text.Spelling.{Spells, SpellsWithin, OneProgram}
+use Rattle.its_reader.specs.its_text.Spelling.{OneProgram}
 use Rattle.its_reader.specs.its_text.Answers.{verdict}
 use Rattle.its_reader.specs.its_text.Verdicts.{VerdictsAreSpelled}
-use Rattle.asks.specs.Lines.{Word, Words}
-use Rattle.asks.specs.Requests.{Analyse, Asks}
-use Rattle.asks.specs.Laws.{WordsAreReadInOneWay}
-use Rattle.outcome.specs.Reports.{Report, is_timed}
+use Rattle.its_writer.specs.Generated.{generated}
+use Rattle.asks.specs.Lines.{Word}
+use Rattle.asks.specs.Requests.{Request, Analyse, Prove, Check, Replay, Generate, Selfrun, Asks, default_pivots}
+use Rattle.asks.proofs.OneWay.{read_in_one_way}
+use Rattle.outcome.specs.Reports.{Report}
+use Rattle.outcome.specs.Views.{report_of}
 use Rattle.report_text.specs.Reports.{text_of_report}
-use Rattle.time_bounds.specs.Analysis.{IsAnalysis}
 use Rattle.time_bounds.specs.AnalysisLaws.{AnalysesAreOne}
 use Rattle.koat_cli.specs.declared.status.Status.{Status}
-use Rattle.koat_cli.specs.declared.status.Status.TheVariants.{Done, Unknown, Usage, ReadFault, WriteFault, Memory}
-use Rattle.koat_cli.specs.declared.status.Status.TheVariants.{ProgramRefused, ProofRefused, No, RunRefused, NotARun}
-use Rattle.koat_cli.specs.Report.{read_fault_text, refusal_text}
-use Rattle.koat_cli.specs.Calls.{Call}
-use Rattle.koat_cli.specs.Causes.{program_limit, ReadsProgram, IsReported, IsUsage, IsRefusedTooLong, IsRefusedAt}
-use Rattle.koat_cli.specs.Ends.{HasCause}
-use Rattle.koat_cli.specs.OfProgram.{status_of}
-use Rattle.koat_cli.specs.Exclusion.{CausesExcludeEachOther}
+use Rattle.koat_cli.specs.declared.status.Status.TheVariants.{Usage, ReadFault, ProgramRefused}
+use Rattle.koat_cli.specs.Report.{read_fault_text, too_long_text, refusal_text}
+use Rattle.koat_cli.specs.Figures.{head_of_figures, text_of_figures}
+use Rattle.koat_cli.specs.Calls.{Seen, Call}
+use Rattle.koat_cli.specs.Outputs.{IsReportOf, IsSummaryOf, status_of}
+use Rattle.koat_cli.specs.OnFiles.{program_limit, OnProgram, Unread, TooLong, Refused, Without, Of}
+use Rattle.koat_cli.specs.Answers.{FetchesFile, Answers, Says, ToNothing, ToRequest}
+use Rattle.koat_cli.specs.Exclusion.{AreOneButLemmas, AreOneAnswer, AnswersExcludeEachOther}
+use Rattle.koat_cli.proofs.OneRequest.{answer_of, usage_not_there, not_there_usage}
 
--- the laws on which the exclusion rests: words ask for one thing, a text spells one program, and is read as it exactly
--- where it spells it within the limits, and an analysis finds one report
+-- the laws on which this rests: a text spells one program, and is read as it exactly where it spells it within the
+-- limits, and an analysis finds one report
 pub record Determined : Type 0 where
-  pub words : WordsAreReadInOneWay
   pub programs : OneProgram
   pub verdicts : VerdictsAreSpelled
   pub reports : AnalysesAreOne
 
--- the words ask for one file, and for one number of pivots
-pub same_file : Determined → (words : Words) (m n : ℕ) (f g : Word) → Asks words (Analyse m f) → Asks words (Analyse n g)
-    → f ≡ g
-same_file laws words m n f g hf hg = inside (laws.words.one_request words (Analyse m f) (Analyse n g) hf hg)
-  where
-    inside : Analyse m f ≡ Analyse n g → f ≡ g
-    inside e = cc
-
--- the same words ask for the same number of pivots
-pub same_pivots : Determined → (words : Words) (m n : ℕ) (f g : Word) → Asks words (Analyse m f)
-    → Asks words (Analyse n g) → m ≡ n
-same_pivots laws words m n f g hf hg = inside (laws.words.one_request words (Analyse m f) (Analyse n g) hf hg)
-  where
-    inside : Analyse m f ≡ Analyse n g → m ≡ n
-    inside e = cc
-
 -- what a shelf that tells its files says of a file that it gave
-pub given : (held : Option Files) (files : Files) (f bytes : List ℕ) → held ≡ Some files → IsHeld held f bytes
+given : (held : Option Files) (files : Files) (f bytes : List ℕ) → held ≡ Some files → IsHeld held f bytes
     → get files f ≡ Some bytes
 given held files f bytes e h = let told : IsHeld (Some files) f bytes = subst (λ (o : Option Files). IsHeld o f bytes) e h in told
 
 -- what it says of a file that is too long
-pub given_more : (held : Option Files) (files : Files) (f : List ℕ) (limit taken : ℕ) → held ≡ Some files
+given_more : (held : Option Files) (files : Files) (f : List ℕ) (limit taken : ℕ) → held ≡ Some files
     → IsTooLong held f limit taken → HoldsMore files f limit
 given_more held files f limit taken e h = let told : IfSome (Some files) (λ fs. HoldsMore fs f limit) = subst (λ (o : Option Files). IfSome o (λ fs. HoldsMore fs f limit)) e h.told in told
 
 -- what it says of a file that it lacks
-pub given_none : (held : Option Files) (files : Files) (f : List ℕ) → held ≡ Some files → Lacks held f
+given_none : (held : Option Files) (files : Files) (f : List ℕ) → held ≡ Some files → Lacks held f
     → get files f ≡ None
 given_none held files f e h = let told : Lacks (Some files) f = subst (λ (o : Option Files). Lacks o f) e h in told
 
--- a file with more bytes than the limit has no bytes within it
-pub more_not_within : (o : Option (List ℕ)) (bytes : List ℕ) (limit : ℕ) → IsSomeAnd o (λ b. limit < length b)
-    → o ≡ Some bytes → length bytes ≤ limit → ⊥
-more_not_within None bytes limit more e within = more
-more_not_within (Some b) bytes limit more e within = let same : b ≡ bytes = cc in omega (arith, more, ap length same, within)
+-- what a file comes to: it is lacking, too long, refused for a fault, or read as a program
+pub data File : Type 0 where
+  Lacking : File
+  Long : File
+  Faulty : Fault Kind → File
+  Reads : Program → File
 
--- a file with more bytes than the limit is there
-pub more_not_none : (o : Option (List ℕ)) (limit : ℕ) → IsSomeAnd o (λ b. limit < length b) → o ≡ None → ⊥
-more_not_none None limit more e = more
-more_not_none (Some b) limit more e = cc
+-- what bytes with a verdict come to, what bytes of any length do, and what a file that may be held does
+abbrev pub file_by : reading.Answer Program Kind → File
+file_by (reading.Stands p) = Reads p
+file_by (reading.Refused x) = Faulty x
 
--- two readings of the program give the same bytes
-pub same_bytes : Determined → (call : Call) (files : Files) (a b : List ℕ) (m n : ℕ) → call.held ≡ Some files
-    → ReadsProgram call a m → ReadsProgram call b n → a ≡ b
-same_bytes laws call files a b m n e ha hb =
-    let first : get files ha.file ≡ Some a = given call.held files ha.file a e ha.held in
-    let second : get files hb.file ≡ Some b = given call.held files hb.file b e hb.held in
-    let file : ha.file ≡ hb.file = same_file laws call.words m n ha.file hb.file ha.asked hb.asked in
-    some_same (sym first ∙ (ap (λ (f : List ℕ). get files f) file ∙ second))
-  where
-    some_same : Some a ≡ Some b → a ≡ b
-    some_same h = cc
+abbrev pub file_where : Bool → List ℕ → File
+file_where is_long bytes = cond is_long Long (file_by (verdict bytes))
 
--- a program that was read isn't too long
-pub read_not_long : Determined → (call : Call) (files : Files) (bytes x : List ℕ) (m : ℕ) → call.held ≡ Some files
-    → ReadsProgram call bytes m → IsRefusedTooLong call x → ⊥
-read_not_long laws call files bytes x m e read long =
-    let file : long.file ≡ read.file = same_file laws call.words long.pivots m long.file read.file long.asked read.asked in
-    let more : HoldsMore files read.file program_limit = subst (λ (f : List ℕ). HoldsMore files f program_limit) file (given_more call.held files long.file program_limit call.taken e long.too_long) in
-    more_not_within (get files read.file) bytes program_limit more (given call.held files read.file bytes e read.held) read.within
+abbrev pub file_of : Option (List ℕ) → File
+file_of None = Lacking
+file_of (Some bytes) = file_where (nat_lt program_limit (length bytes)) bytes
 
--- a program that was read isn't lacking
-pub read_not_lacking : Determined → (call : Call) (files : Files) (bytes : List ℕ) (m n : ℕ) (file : Word)
-    → call.held ≡ Some files → ReadsProgram call bytes m → Asks call.words (Analyse n file) → Lacks call.held file → ⊥
-read_not_lacking laws call files bytes m n file e read asked lacks =
-    let same : file ≡ read.file = same_file laws call.words n m file read.file asked read.asked in
-    let none : get files read.file ≡ None = given_none call.held files read.file e (subst (λ (f : List ℕ). Lacks call.held f) same lacks) in
-    apart (sym none ∙ given call.held files read.file bytes e read.held)
-  where
-    apart : None ≡ Some bytes → ⊥
-    apart h = cc
+-- what is answered by what a file comes to
+abbrev pub Tells : (Program → Status → List ℕ → Type 0) → Status → List ℕ → File → Type 0
+Tells Out s x Lacking = (s ≡ ReadFault) × (x ≡ read_fault_text)
+Tells Out s x Long = (s ≡ ProgramRefused) × (x ≡ too_long_text)
+Tells Out s x (Faulty fault) = (s ≡ ProgramRefused) × (x ≡ refusal_text fault)
+Tells Out s x (Reads p) = Out p s x
 
--- a file that is too long isn't lacking
-pub long_not_lacking : Determined → (call : Call) (files : Files) (x : List ℕ) (n : ℕ) (file : Word)
-    → call.held ≡ Some files → IsRefusedTooLong call x → Asks call.words (Analyse n file) → Lacks call.held file → ⊥
-long_not_lacking laws call files x n file e long asked lacks =
-    let same : file ≡ long.file = same_file laws call.words n long.pivots file long.file asked long.asked in
-    let none : get files long.file ≡ None = given_none call.held files long.file e (subst (λ (f : List ℕ). Lacks call.held f) same lacks) in
-    more_not_none (get files long.file) program_limit (given_more call.held files long.file program_limit call.taken e long.too_long) none
+module _ (Out : Program → Status → List ℕ → Type 0) (s : Status) (x : List ℕ) where
+  -- a file with too many bytes is too long
+  of_long : (o : Option (List ℕ)) → IsSomeAnd o (λ b. program_limit < length b) → Tells Out s x Long → Tells Out s x (file_of o)
+  of_long None more t = absurd more
+  of_long (Some b) more t =
+      let long : nat_lt program_limit (length b) ≡ true = grind (arith, nat_tests) in
+      subst (λ (v : Bool). Tells Out s x (file_where v b)) (sym long) t
 
--- a text against which something stands spells no program within the limits
-pub faulty_not_spelled : Determined → (call : Call) (files : Files) (x a : List ℕ) (m : ℕ) (p : Program)
-    → call.held ≡ Some files → IsRefusedAt call x → ReadsProgram call a m → SpellsWithin a p → ⊥
-faulty_not_spelled laws call files x a m p e faulty read spelled =
-    apart (sym faulty.refused ∙ (ap (λ (bytes : List ℕ). verdict bytes) (same_bytes laws call files faulty.bytes a faulty.pivots m e faulty.read read) ∙ (laws.verdicts.stands a p).1 spelled))
-  where
-    apart : ◌≡◌ {A = Answer Program Kind} (Refused faulty.fault) (Stands p) → ⊥
-    apart h = cc
+  -- and one without comes to what its bytes do
+  of_bytes : (o : Option (List ℕ)) (b : List ℕ) (a : reading.Answer Program Kind) → o ≡ Some b → length b ≤ program_limit
+      → verdict b ≡ a → Tells Out s x (file_by a) → Tells Out s x (file_of o)
+  of_bytes o b a e within v t =
+      let short : nat_lt program_limit (length b) ≡ false = grind (arith, nat_tests) in
+      subst (λ (p : Option (List ℕ)). Tells Out s x (file_of p)) (sym e)
+      (subst (λ (w : Bool). Tells Out s x (file_where w b)) (sym short)
+      (subst (λ (c : reading.Answer Program Kind). Tells Out s x (file_by c)) (sym v) t))
 
--- two refusals that are the same have the same fault
-same_refused : (x y : Fault Kind) → ◌≡◌ {A = Answer Program Kind} (Refused x) (Refused y) → x ≡ y
-same_refused x y e = cc
+  -- so what is answered of a file is told by what it comes to
+  file_tells : Determined → (seen : Seen) (files : Files) (f : Word) → seen.held ≡ Some files
+      → (s ≡ ReadFault → MayFail seen.held f seen.faults_before seen.faults_after → Lacks seen.held f) → OnProgram seen f Out s x
+      → Tells Out s x (file_of (get files f))
+  file_tells laws seen files f e lacking (Without (Unread h)) =
+      subst (λ (o : Option (List ℕ)). Tells Out s x (file_of o)) (sym (given_none seen.held files f e (lacking h.ends h.fault))) (h.ends, h.told)
+  file_tells laws seen files f e lacking (Without (TooLong h)) =
+      of_long (get files f) (given_more seen.held files f program_limit seen.taken e h.too_long) (h.ends, h.told)
+  file_tells laws seen files f e lacking (Without (Refused h)) =
+      of_bytes (get files f) h.bytes (reading.Refused h.fault) (given seen.held files f h.bytes e h.fetched.held) h.fetched.within h.refused (h.ends, h.told)
+  file_tells laws seen files f e lacking (Of h) =
+      of_bytes (get files f) h.given.bytes (reading.Stands h.program) (given seen.held files f h.given.bytes e h.given.fetched.held)
+      h.given.fetched.within ((laws.verdicts.stands h.given.bytes h.program).1 h.given.spelled) h.said
 
--- what stands first against the text of the file is one
-pub same_fault : Determined → (call : Call) (files : Files) (x y : List ℕ) → call.held ≡ Some files
-    → (a : IsRefusedAt call x) → (b : IsRefusedAt call y) → a.fault ≡ b.fault
-same_fault laws call files x y e a b =
-    same_refused a.fault b.fault (sym a.refused ∙ (ap (λ (bytes : List ℕ). verdict bytes) (same_bytes laws call files a.bytes b.bytes a.pivots b.pivots e a.read b.read) ∙ b.refused))
+-- and that is one answer
+one_told : (Out : Program → Status → List ℕ → Type 0) (s t : Status) (x y : List ℕ)
+    → ((p : Program) → Out p s x → Out p t y → (s ≡ t) × (x ≡ y)) → (w : File) → Tells Out s x w → Tells Out t y w
+    → (s ≡ t) × (x ≡ y)
+one_told Out s t x y one Lacking a b = (a.0 ∙ sym b.0, a.1 ∙ sym b.1)
+one_told Out s t x y one Long a b = (a.0 ∙ sym b.0, a.1 ∙ sym b.1)
+one_told Out s t x y one (Faulty fault) a b = (a.0 ∙ sym b.0, a.1 ∙ sym b.1)
+one_told Out s t x y one (Reads p) a b = one p a b
 
--- two programs that the file spells are the same
-pub same_program : Determined → (call : Call) (files : Files) (a b : List ℕ) (m n : ℕ) (p q : Program)
-    → call.held ≡ Some files → ReadsProgram call a m → ReadsProgram call b n → SpellsWithin a p → SpellsWithin b q → p ≡ q
-same_program laws call files a b m n p q e ha hb hp hq = laws.programs.each b p q (subst (λ (bytes : List ℕ). Spells bytes p) (same_bytes laws call files a b m n e ha hb) hp.spells) hq.spells
+-- two reports on a program with as many pivots are the same, and so are the texts that state them
+one_report : Determined → (p : Program) (n : ℕ) (s t : Status) (x y : List ℕ) → IsReportOf p n s x → IsReportOf p n t y
+    → (s ≡ t) × (x ≡ y)
+one_report laws p n s t x y a b =
+    let same : a.report ≡ b.report = laws.reports.each p n a.report b.report a.found.found b.found.found in (
+      a.ends ∙ (ap (λ (r : Report). status_of r) same ∙ sym b.ends),
+      a.stated.text_of ∙ (ap (λ (r : Report). text_of_report p r) same ∙ sym b.stated.text_of),
+    )
 
--- two reports on the program that the file spells are the same, and so are the texts that state them
-pub same_report : Determined → (call : Call) (files : Files) (x y : List ℕ) (r q : Report) → call.held ≡ Some files
-    → IsReported call x r → IsReported call y q → r ≡ q
-same_report laws call files x y r q e a b =
-    let program : a.program ≡ b.program = same_program laws call files a.bytes b.bytes a.pivots b.pivots a.program b.program e a.read b.read a.spelled b.spelled in
-    let pivots : a.pivots ≡ b.pivots = same_pivots laws call.words a.pivots b.pivots a.read.file b.read.file a.read.asked b.read.asked in
-    laws.reports.each b.program b.pivots r q (subst (λ (n : ℕ). IsAnalysis b.program n r) pivots (subst (λ (p : Program). IsAnalysis p a.pivots r) program a.found)) b.found
+-- so are the statuses of two summaries, and the texts but for the number of lemmas
+one_summary : Determined → (p : Program) (s t : Status) (x y : List ℕ) → IsSummaryOf p s x → IsSummaryOf p t y
+    → (s ≡ t) × AreOneButLemmas x y
+one_summary laws p s t x y a b =
+    let same : report_of a.outcome ≡ report_of b.outcome =
+    laws.reports.each p default_pivots (report_of a.outcome) (report_of b.outcome) a.found.found b.found.found in (
+      a.ends ∙ (ap (λ (r : Report). status_of r) same ∙ sym b.ends),
+      record {
+        head = head_of_figures p (report_of a.outcome);
+        first = length a.outcome.lemmas.items;
+        second = length b.outcome.lemmas.items;
+        first_is = a.told;
+        second_is = b.told ∙ ap (λ (r : Report). text_of_figures p r (length b.outcome.lemmas.items)) (sym same);
+      },
+    )
 
--- reports on the same call, from a shelf that tells its files, have the same text
-pub same_text : Determined → (call : Call) (files : Files) (x y : List ℕ) (r q : Report) → call.held ≡ Some files
-    → IsReported call x r → IsReported call y q → x ≡ y
-same_text laws call files x y r q e a b =
-    let program : a.program ≡ b.program = same_program laws call files a.bytes b.bytes a.pivots b.pivots a.program b.program e a.read b.read a.spelled b.spelled in
-    a.stated.text_of ∙ (ap (λ (p : Program). text_of_report p r) program ∙ (ap (λ (t : Report). text_of_report b.program t) (same_report laws call files x y r q e a b) ∙ sym b.stated.text_of))
+-- what is the same of the texts of two answers to a request
+abbrev pub AreTexts : Request → List ℕ → List ℕ → Type 0
+AreTexts (Analyse n f) x y = x ≡ y
+AreTexts (Prove n f) x y = x ≡ y
+AreTexts (Check f q) x y = x ≡ y
+AreTexts (Replay f q) x y = x ≡ y
+AreTexts (Generate n) x y = x ≡ y
+AreTexts (Selfrun n) x y = AreOneButLemmas x y
 
--- the causes of a call: a report with its status, other words, a file that is lacking, one that is too long, and a text
--- against which something stands
-pub data Cause (call : Call) : Status → List ℕ → Type 0 where
-  Reported : {s : Status} {x : List ℕ} (report : Report) → s ≡ status_of report → IsReported call x report
-      → Cause call s x
-  OtherWords : {x : List ℕ} → IsUsage call x → Cause call Usage x
-  Lacking : {x : List ℕ} (pivots : ℕ) (file : Word) → Asks call.words (Analyse pivots file) → Lacks call.held file
-      → x ≡ read_fault_text → Cause call ReadFault x
-  Long : {x : List ℕ} → IsRefusedTooLong call x → Cause call ProgramRefused x
-  Faulty : {x : List ℕ} → IsRefusedAt call x → Cause call ProgramRefused x
+-- where no figures are asked for, they are one text
+one_text : (r : Request) (x y : List ℕ) → ((n : ℕ) → r ≢ Selfrun n) → AreTexts r x y → x ≡ y
+one_text (Analyse n f) x y none h = h
+one_text (Prove n f) x y none h = h
+one_text (Check f q) x y none h = h
+one_text (Replay f q) x y none h = h
+one_text (Generate n) x y none h = h
+one_text (Selfrun n) x y none h = absurd (none n refl)
 
--- two causes of a call are the same, with the same text
-pub one_cause : Determined → (call : Call) (files : Files) (s t : Status) (x y : List ℕ) → call.held ≡ Some files
-    → Cause call s x → Cause call t y → (s ≡ t) × (x ≡ y)
-one_cause laws call files s t x y e (Reported r a_is a) (Reported q b_is b) =
-    (a_is ∙ (ap (λ (report : Report). status_of report) (same_report laws call files x y r q e a b) ∙ sym b_is), same_text laws call files x y r q e a b)
-one_cause laws call files s t x y e (Reported r a_is a) (OtherWords b) = absurd (b.other (Analyse a.pivots a.read.file) a.read.asked)
-one_cause laws call files s t x y e (Reported r a_is a) (Lacking n f asked lacks told) = absurd (read_not_lacking laws call files a.bytes a.pivots n f e a.read asked lacks)
-one_cause laws call files s t x y e (Reported r a_is a) (Long b) = absurd (read_not_long laws call files a.bytes y a.pivots e a.read b)
-one_cause laws call files s t x y e (Reported r a_is a) (Faulty b) = absurd (faulty_not_spelled laws call files y a.bytes a.pivots a.program e b a.read a.spelled)
-one_cause laws call files s t x y e (OtherWords a) (Reported q b_is b) = absurd (a.other (Analyse b.pivots b.read.file) b.read.asked)
-one_cause laws call files s t x y e (OtherWords a) (OtherWords b) = (refl, a.told ∙ sym b.told)
-one_cause laws call files s t x y e (OtherWords a) (Lacking n f asked lacks told) = absurd (a.other (Analyse n f) asked)
-one_cause laws call files s t x y e (OtherWords a) (Long b) = absurd (a.other (Analyse b.pivots b.file) b.asked)
-one_cause laws call files s t x y e (OtherWords a) (Faulty b) = absurd (a.other (Analyse b.pivots b.read.file) b.read.asked)
-one_cause laws call files s t x y e (Lacking n f asked lacks told) (Reported q b_is b) = absurd (read_not_lacking laws call files b.bytes b.pivots n f e b.read asked lacks)
-one_cause laws call files s t x y e (Lacking n f asked lacks told) (OtherWords b) = absurd (b.other (Analyse n f) asked)
-one_cause laws call files s t x y e (Lacking n f asked lacks told) (Lacking m g asked' lacks' told') = (refl, told ∙ sym told')
-one_cause laws call files s t x y e (Lacking n f asked lacks told) (Long b) = absurd (long_not_lacking laws call files y n f e b asked lacks)
-one_cause laws call files s t x y e (Lacking n f asked lacks told) (Faulty b) = absurd (read_not_lacking laws call files b.bytes b.pivots n f e b.read asked lacks)
-one_cause laws call files s t x y e (Long a) (Reported q b_is b) = absurd (read_not_long laws call files b.bytes x b.pivots e b.read a)
-one_cause laws call files s t x y e (Long a) (OtherWords b) = absurd (b.other (Analyse a.pivots a.file) a.asked)
-one_cause laws call files s t x y e (Long a) (Lacking n f asked lacks told) = absurd (long_not_lacking laws call files x n f e a asked lacks)
-one_cause laws call files s t x y e (Long a) (Long b) = (refl, a.told ∙ sym b.told)
-one_cause laws call files s t x y e (Long a) (Faulty b) = absurd (read_not_long laws call files b.bytes x b.pivots e b.read a)
-one_cause laws call files s t x y e (Faulty a) (Reported q b_is b) = absurd (faulty_not_spelled laws call files x b.bytes b.pivots b.program e a b.read b.spelled)
-one_cause laws call files s t x y e (Faulty a) (OtherWords b) = absurd (b.other (Analyse a.pivots a.read.file) a.read.asked)
-one_cause laws call files s t x y e (Faulty a) (Lacking n f asked lacks told) = absurd (read_not_lacking laws call files a.bytes a.pivots n f e a.read asked lacks)
-one_cause laws call files s t x y e (Faulty a) (Long b) = absurd (read_not_long laws call files a.bytes y a.pivots e a.read b)
-one_cause laws call files s t x y e (Faulty a) (Faulty b) = (refl, a.told ∙ (ap (λ (f : Fault Kind). refusal_text f) (same_fault laws call files x y e a b) ∙ sym b.told))
+-- a request for which no file is fetched has one answer
+one_without : Determined → (seen : Seen) (r : Request) (s t : Status) (x y : List ℕ) → ¬ (FetchesFile r) → Answers seen r s x
+    → Answers seen r t y → (s ≡ t) × AreTexts r x y
+one_without laws seen (Analyse n f) s t x y none a b = absurd (none tt)
+one_without laws seen (Prove n f) s t x y none a b = (a.ends ∙ sym b.ends, a.told ∙ sym b.told)
+one_without laws seen (Check f q) s t x y none a b = (a.ends ∙ sym b.ends, a.told ∙ sym b.told)
+one_without laws seen (Replay f q) s t x y none a b = (a.ends ∙ sym b.ends, a.told ∙ sym b.told)
+one_without laws seen (Generate n) s t x y none a b = (a.ends ∙ sym b.ends, a.told ∙ sym b.told)
+one_without laws seen (Selfrun n) s t x y none a b = one_summary laws (generated n) s t x y a b
 
--- the status of a report in which every rule has a time, or some has none
-pub done_is : (r : Report) → list_all is_timed r.times ≡ true → Done ≡ status_of r
-done_is r e = sym (ap (λ (v : Bool). if v then Done else Unknown) e)
+-- so has each, where the shelf tells what it holds
+one_answer : Determined → (seen : Seen) (files : Files) → seen.held ≡ Some files → (r : Request) (s t : Status) (x y : List ℕ)
+    → (s ≡ ReadFault → (f : Word) → MayFail seen.held f seen.faults_before seen.faults_after → Lacks seen.held f)
+    → (t ≡ ReadFault → (f : Word) → MayFail seen.held f seen.faults_before seen.faults_after → Lacks seen.held f)
+    → Answers seen r s x → Answers seen r t y → (s ≡ t) × AreTexts r x y
+one_answer laws seen files e (Analyse n f) s t x y ls lt a b =
+    one_told (λ p. IsReportOf p n) s t x y (λ p. one_report laws p n s t x y) (file_of (get files f))
+    (file_tells (λ p. IsReportOf p n) s x laws seen files f e (λ h. ls h f) a) (file_tells (λ p. IsReportOf p n) t y laws seen files f e (λ h. lt h f) b)
+one_answer laws seen files e (Prove n f) s t x y ls lt a b = one_without laws seen (Prove n f) s t x y (λ no. no) a b
+one_answer laws seen files e (Check f q) s t x y ls lt a b = one_without laws seen (Check f q) s t x y (λ no. no) a b
+one_answer laws seen files e (Replay f q) s t x y ls lt a b = one_without laws seen (Replay f q) s t x y (λ no. no) a b
+one_answer laws seen files e (Generate n) s t x y ls lt a b = one_without laws seen (Generate n) s t x y (λ no. no) a b
+one_answer laws seen files e (Selfrun n) s t x y ls lt a b = one_without laws seen (Selfrun n) s t x y (λ no. no) a b
 
--- where some rule has no time, the status of the report says so
-pub unknown_is : (r : Report) → list_all is_timed r.times ≡ false → Unknown ≡ status_of r
-unknown_is r e = sym (ap (λ (v : Bool). if v then Done else Unknown) e)
-
--- a refusal of the program by its kind
-pub refusal : (call : Call) (x : List ℕ) → IsRefusedTooLong call x ⊎ IsRefusedAt call x → Cause call ProgramRefused x
-refusal call x (inl h) = Long h
-refusal call x (inr h) = Faulty h
-
--- what a status says is a cause, where a fault of reading is a file that is lacking
-pub cause_of : (call : Call) (s : Status) (x : List ℕ)
-    → (s ≡ ReadFault → (file : List ℕ) → MayFail call.held file call.faults_before call.faults_after → Lacks call.held file)
-    → HasCause s call x → Cause call s x
-cause_of call Done x lacking h = Reported h.report (done_is h.report h.all_timed) h.reported
-cause_of call Unknown x lacking h = Reported h.report (unknown_is h.report h.some_untimed) h.reported
-cause_of call Usage x lacking h = OtherWords h
-cause_of call ReadFault x lacking h = Lacking h.pivots h.file h.asked (lacking refl h.file h.fault) h.told
-cause_of call ProgramRefused x lacking h = refusal call x h
-cause_of call WriteFault x lacking h = absurd h
-cause_of call Memory x lacking h = absurd h
-cause_of call ProofRefused x lacking h = absurd h
-cause_of call No x lacking h = absurd h
-cause_of call RunRefused x lacking h = absurd h
-cause_of call NotARun x lacking h = absurd h
+-- so has a call, where the request that its words ask for has
+one_said : (call : Call) (s t : Status) (x y : List ℕ)
+    → ((r : Request) → Asks call.words r → Answers call.shelf r s x → Answers call.shelf r t y → (s ≡ t) × AreTexts r x y)
+    → Says call s x → Says call t y → AreOneAnswer call s t x y
+one_said call s t x y each (ToNothing none a) (ToNothing too b) = record {
+  status = a.ends ∙ sym b.ends;
+  text = λ only. a.told ∙ sym b.told;
+  figures = λ n asked. absurd (none (Selfrun n) asked);
+}
+one_said call s t x y each (ToNothing none a) (ToRequest r asked b) = absurd (none r asked)
+one_said call s t x y each (ToRequest r asked a) said =
+    let one = each r asked a (answer_of call r t y asked said) in
+    record {
+      status = one.0;
+      text = λ only. one_text r x y (λ n is. only n (subst (λ (q : Request). Asks call.words q) is asked)) one.1;
+      figures = λ n figures.
+          subst (λ (q : Request). AreTexts q x y) (read_in_one_way.one_request call.words r (Selfrun n) asked figures) one.1;
+    }
 
 -- a fault of reading without a rise of the count is a file that is lacking
-pub lacking_only : (held : Option Files) (file : List ℕ) (before after : ℕ) → ¬ (Rose before after)
+lacking_only : (held : Option Files) (file : List ℕ) (before after : ℕ) → ¬ (Rose before after)
     → MayFail held file before after → Lacks held file
 lacking_only held file before after steady (inl rose) = absurd (steady rose)
 lacking_only held file before after steady (inr lacks) = lacks
 
 -- what is told is something
-pub told_is : (held : Option Files) → IsSome held → (files : Files) × (held ≡ Some files)
+told_is : (held : Option Files) → IsSome held → (files : Files) × (held ≡ Some files)
 told_is None h = absurd (different h)
   where
     different : false ≡ true → ⊥
     different e = cc
 told_is (Some files) h = (files, refl)
 
--- words that ask for nothing are the cause of no other status
-pub only_usage : (call : Call) (t : Status) (x y : List ℕ) → IsUsage call x → HasCause t call y → t ≡ Usage
-only_usage call Usage x y usage h = refl
-only_usage call Done x y usage h = absurd (usage.other (Analyse h.reported.pivots h.reported.read.file) h.reported.read.asked)
-only_usage call Unknown x y usage h = absurd (usage.other (Analyse h.reported.pivots h.reported.read.file) h.reported.read.asked)
-only_usage call ReadFault x y usage h = absurd (usage.other (Analyse h.pivots h.file) h.asked)
-only_usage call ProgramRefused x y usage (inl h) = absurd (usage.other (Analyse h.pivots h.file) h.asked)
-only_usage call ProgramRefused x y usage (inr h) = absurd (usage.other (Analyse h.pivots h.read.file) h.read.asked)
-only_usage call WriteFault x y usage h = absurd h
-only_usage call Memory x y usage h = absurd h
-only_usage call ProofRefused x y usage h = absurd h
-only_usage call No x y usage h = absurd h
-only_usage call RunRefused x y usage h = absurd h
-only_usage call NotARun x y usage h = absurd h
+-- a call that answers with the usage text answers with no other status
+pub only_usage : (call : Call) (t : Status) (x y : List ℕ) → Says call Usage x → Says call t y → t ≡ Usage
+only_usage call t x y (ToNothing none a) (ToNothing too b) = b.ends
+only_usage call t x y (ToNothing none a) (ToRequest r asked b) = absurd (none r asked)
+only_usage call t x y (ToRequest r asked a) said =
+    not_there_usage call.shelf r t y (usage_not_there call.shelf r x a) (answer_of call r t y asked said)
 
 -- the law
-pub causes_exclude : Determined → CausesExcludeEachOther
-causes_exclude laws = record {
-  other_words = λ call t x y usage h. only_usage call t x y usage h;
-  without_faults = λ call s t x y told steady hs ht.
-      let files = told_is call.held told in
-      one_cause laws call files.0 s t x y files.1 (cause_of call s x (λ _ file h. lacking_only call.held file call.faults_before call.faults_after steady h) hs) (cause_of call t y (λ _ file h. lacking_only call.held file call.faults_before call.faults_after steady h) ht);
-  read_faults_aside = λ call s t x y told ns nt hs ht.
-      let files = told_is call.held told in
-      one_cause laws call files.0 s t x y files.1 (cause_of call s x (λ e _ _. absurd (ns e)) hs) (cause_of call t y (λ e _ _. absurd (nt e)) ht);
+pub answers_exclude : Determined → AnswersExcludeEachOther
+answers_exclude laws = record {
+  other_words = only_usage;
+  without_file = λ call s t x y none a b.
+      one_said call s t x y (λ r asked c d. one_without laws call.shelf r s t x y (none r asked) c d) a b;
+  without_faults = λ call s t x y told steady a b.
+      let files = told_is call.shelf.held told in
+      one_said call s t x y (λ r asked c d. one_answer laws call.shelf files.0 files.1 r s t x y
+      (λ is f. lacking_only call.shelf.held f call.shelf.faults_before call.shelf.faults_after steady)
+      (λ is f. lacking_only call.shelf.held f call.shelf.faults_before call.shelf.faults_after steady) c d) a b;
+  read_faults_aside = λ call s t x y told ns nt a b.
+      let files = told_is call.shelf.held told in
+      one_said call s t x y (λ r asked c d. one_answer laws call.shelf files.0 files.1 r s t x y
+      (λ is f may. absurd (ns is)) (λ is f may. absurd (nt is)) c d) a b;
 }

@@ -1,6 +1,12 @@
+pub mod Counts
 pub mod Sayings
+pub mod OneRequest
+pub mod Endings
+pub mod Preparing
 pub mod Exclusions
 pub mod DeterminedCalls
 pub mod Answering
+pub mod NumbersAnswered
 pub mod WorkedEnds
+pub mod WorkedAnswers
 pub mod AnalysisTexts

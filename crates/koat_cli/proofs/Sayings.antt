@@ -1,16 +1,14 @@
--- What is said of a program, or with a fixed text, is said with its cause.
-use Rattle.std.proofs.Common.{◌≡◌, ℕ, Bool, true, false, if◌then◌else◌, List, Option, Some, None, Result, Ok, Err, IfOk}
-use Rattle.std.proofs.Common.{IfSome, refl, inr, sym, ◌∙◌, ap, subst}
+-- What is read, refused and said.
+use Rattle.std.proofs.Common.{◌≡◌, ℕ, Bool, true, false, if◌then◌else◌, List, Option, Some, None, Ok, Err}
+use Rattle.std.proofs.Common.{IfSome, refl, sym, ◌∙◌, ap, subst}
 use Rattle.std.specs.List.{list_all}
 use Rattle.model.specs.Programs.{Program}
 use Rattle.its_model.specs.text_core.Readers.{Fault}
 use Rattle.its_model.specs.text_core.Reading.{Answer, Stands, Refused}
 use Rattle.its_reader.specs.its_text.Kinds.{Kind}
-use Rattle.its_reader.specs.its_text.Spelling.{SpellsWithin}
 use Rattle.its_reader.specs.its_text.Answers.{verdict}
 use Rattle.its_reader.specs.its_text.Verdicts.{IsVerdict}
 use Rattle.its_reader.proofs.its_text.VerdictLaws.{verdicts_are_right}
-use Rattle.outcome.specs.declared.entry.TimeEntry.TheVariants as times
 use Rattle.outcome.specs.declared.outcome_of.Outcome.{Outcome}
 use Rattle.outcome.specs.Reports.{Report, is_timed}
 use Rattle.outcome.specs.Views.{report_of}
@@ -21,37 +19,19 @@ use Rattle.its_reader.specs.Faults as reader
 use Rattle.its_reader.specs.declared.error.ReadError.{ReadError}
 use Rattle.its_reader.specs.declared.error.ReadError.TheVariants as errors
 use Rattle.koat_cli.specs.declared.status.Status.{Status}
-use Rattle.koat_cli.specs.declared.status.Status.TheVariants.{Done, Unknown}
-use Rattle.koat_cli.specs.declared.status_text.StatusText.{StatusText}
-use Rattle.koat_cli.specs.Calls.{Call}
-use Rattle.koat_cli.specs.Causes.{ReadsProgram, IsReported, IsProgramRefused}
+use Rattle.koat_cli.specs.declared.status.Status.TheVariants.{Done, Unknown, Usage, ReadFault, WriteFault, Memory}
+use Rattle.koat_cli.specs.declared.status.Status.TheVariants.{ProgramRefused}
+use Rattle.asks.specs.Lines.{Word}
+use Rattle.asks.specs.Requests.{Request, Analyse, Prove, Check, Replay, Generate, Selfrun}
+use Rattle.koat_cli.specs.Calls.{Seen, Call}
 use Rattle.koat_cli.specs.Report.{refusal_text}
-use Rattle.koat_cli.specs.Ends.{HasCause}
-use Rattle.koat_cli.specs.OfProgram.{StatesAnalysis, status_of}
+use Rattle.koat_cli.specs.Outputs.{status_of}
+use Rattle.koat_cli.specs.OnFiles as files
+use Rattle.koat_cli.specs.OnFiles.{Fetches, IsNoProgram, program_limit}
+use Rattle.koat_cli.specs.Answers.{Answers, Says, ToNothing, ToRequest}
+use Rattle.koat_cli.specs.Ends.{IsStatusThere}
+use Rattle.koat_cli.specs.Steps.{IsSaid}
 use Rattle.report_text.proofs.Entries.{all_known as all_timed}
-
--- a text that states a report is said with the status of the report
-pub said_with_report : (call : Call) (text : List ℕ) (report : Report) → IsReported call text report
-    → HasCause (if list_all is_timed report.times then Done else Unknown) call text
-said_with_report call text report reported = go (list_all is_timed report.times) refl
-  where
-    go : (v : Bool) → list_all is_timed report.times ≡ v → HasCause (if v then Done else Unknown) call text
-    go true e = record { report = report; reported = reported; all_timed = e }
-    go false e = record { report = report; reported = reported; some_untimed = e }
-
--- what is said of the program that the file spells is said with its cause
-pub said_of_program : (call : Call) (bytes : List ℕ) (program : Program) (pivots : ℕ) (status : Status) (text : List ℕ)
-    → ReadsProgram call bytes pivots → SpellsWithin bytes program → StatesAnalysis program pivots status text
-    → HasCause status call text
-said_of_program call bytes program pivots status text read spelled h =
-    subst (λ (s : Status). HasCause s call text) (sym h.status_is) (said_with_report call text h.report (record { bytes = bytes; pivots = pivots; read = read; program = program; spelled = spelled; found = h.found; stated = h.stated; true_on_all_runs = h.holds }))
-
--- a status with a fixed text, which has its cause
-pub said_with_text : {E : Type 0} (r : Result StatusText E) (call : Call) (status : Status) (text : List ℕ)
-    → IfOk r (λ said. said.status ≡ status) → IfOk r (λ said. said.text.items ≡ text) → HasCause status call text
-    → IfOk r (λ said. HasCause said.status call said.text.items)
-said_with_text (Err e) call status text hs ht h = tt
-said_with_text (Ok said) call status text hs ht h = subst (λ (s : Status). HasCause s call said.text.items) (sym hs) (subst (λ (t : List ℕ). HasCause status call t) (sym ht) h)
 
 -- what may be there is one
 some_same : (x y : Fault Kind) → ◌≡◌ {A = Option (Fault Kind)} (Some x) (Some y) → x ≡ y
@@ -93,16 +73,70 @@ has_fault None h = absurd (h refl)
 has_fault (Some x) h = (x, refl)
 
 -- bytes against which something stands are refused for what stands first
-pub refused_first : (call : Call) (bytes : List ℕ) (pivots : ℕ) (e : ReadError) (text : List ℕ) → reader.Says (verdict bytes) (Err e)
+pub refused_first : (seen : Seen) (file : Word) (bytes : List ℕ) (e : ReadError) (text : List ℕ) → reader.Says (verdict bytes) (Err e)
     → IfSome (reader.fault_in e) (λ x. text ≡ refusal_text x) → (reader.fault_in e ≡ None → ⊥)
-    → ReadsProgram call bytes pivots → IsProgramRefused call text
-refused_first call bytes pivots e text says told given read =
+    → Fetches seen file program_limit bytes → IsNoProgram seen file ProgramRefused text
+refused_first seen file bytes e text says told given fetched =
     let fault = has_fault (reader.fault_in e) given in
     let text_is : text ≡ refusal_text fault.0 = subst (λ (o : Option (Fault Kind)). IfSome o (λ x. text ≡ refusal_text x)) fault.1 told in
     let refused : verdict bytes ≡ Refused fault.0 = read_refused (verdict bytes) e fault.0 fault.1 says in
-    inr (record { bytes = bytes; pivots = pivots; read = read; fault = fault.0; refused = refused; first = subst (λ (a : Answer Program Kind). IsVerdict bytes a) refused (verdicts_are_right.each bytes); told = text_is })
+    files.Refused (record {
+      bytes = bytes;
+      fetched = fetched;
+      fault = fault.0;
+      refused = refused;
+      first = subst (λ (a : Answer Program Kind). IsVerdict bytes a) refused (verdicts_are_right.each bytes);
+      told = text_is;
+      ends = refl;
+    })
 
 -- the status of an outcome in which each entry is a time, and of one in which some isn't
 pub status_is : (o : Outcome) (v : Bool) → v ≡ list_all is_known o.times.items
     → (if v then Done else Unknown) ≡ status_of (report_of o)
 status_is o v e = ap (λ (w : Bool). if w then Done else Unknown) (e ∙ all_timed o.gaps.items o.times.items)
+
+module _ (Holds : Status → Type 0) (done : Holds Done) (unknown : Holds Unknown) (usage : Holds Usage) (read_fault : Holds ReadFault)
+    (refused : Holds ProgramRefused) where
+  -- what holds of five statuses holds of that of a report
+  of_report : (r : Report) → Holds (status_of r)
+  of_report r = go (list_all is_timed r.times)
+    where
+      go : (v : Bool) → Holds (if v then Done else Unknown)
+      go true = done
+      go false = unknown
+
+  -- of each with which a file that gives no program is answered
+  of_no_program : (seen : Seen) (file : Word) (s : Status) (x : List ℕ) → IsNoProgram seen file s x → Holds s
+  of_no_program seen file s x (files.Unread h) = subst Holds (sym h.ends) read_fault
+  of_no_program seen file s x (files.TooLong h) = subst Holds (sym h.ends) refused
+  of_no_program seen file s x (files.Refused h) = subst Holds (sym h.ends) refused
+
+  -- of each with which a request is answered
+  of_answer : (seen : Seen) (r : Request) (s : Status) (x : List ℕ) → Answers seen r s x → Holds s
+  of_answer seen (Analyse n f) s x (files.Without h) = of_no_program seen f s x h
+  of_answer seen (Analyse n f) s x (files.Of h) = subst Holds (sym h.said.ends) (of_report h.said.report)
+  of_answer seen (Prove n f) s x h = subst Holds (sym h.ends) usage
+  of_answer seen (Check f q) s x h = subst Holds (sym h.ends) usage
+  of_answer seen (Replay f q) s x h = subst Holds (sym h.ends) usage
+  of_answer seen (Generate n) s x h = subst Holds (sym h.ends) done
+  of_answer seen (Selfrun n) s x h = subst Holds (sym h.ends) (of_report (report_of h.outcome))
+
+  -- and so of each with which a call answers
+  pub of_says : (call : Call) (s : Status) (x : List ℕ) → Says call s x → Holds s
+  of_says call s x (ToNothing none h) = subst Holds (sym h.ends) usage
+  of_says call s x (ToRequest r asked h) = of_answer call.shelf r s x h
+
+-- a call answers neither with the status of a fault of the sink nor with that of want of memory
+pub says_said : (call : Call) (s : Status) (x : List ℕ) → Says call s x → IsSaid s
+says_said = of_says IsSaid tt tt tt tt tt
+
+-- and with one that is there
+pub says_there : (call : Call) (s : Status) (x : List ℕ) → Says call s x → IsStatusThere s
+says_there = of_says IsStatusThere tt tt tt tt tt
+
+-- what is said with a status that no call answers with
+pub never_write_fault : (call : Call) (x : List ℕ) → ¬ (Says call WriteFault x)
+never_write_fault call x h = says_said call WriteFault x h
+
+pub never_memory : (call : Call) (x : List ℕ) → ¬ (Says call Memory x)
+never_memory call x h = says_said call Memory x h

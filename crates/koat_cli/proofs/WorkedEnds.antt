@@ -6,28 +6,24 @@ use Rattle.outside_io.specs.Counts.{Rose}
 use Rattle.outside_io.specs.Putting.{AppendsPrefix}
 use Rattle.koat_cli.specs.declared.status.Status.{Status}
 use Rattle.koat_cli.specs.declared.status.Status.TheVariants.{Usage, ReadFault}
-use Rattle.asks.specs.Requests.{Request, Analyse, Asks}
-use Rattle.asks.specs.Usage.{usage_text}
-use Rattle.koat_cli.specs.Calls.{Call}
-use Rattle.koat_cli.specs.Causes.{IsUsage, IsReadFault}
-use Rattle.koat_cli.specs.Ends.{HasCause, WroteInPart}
+use Rattle.asks.specs.Requests.{Request, Asks}
+use Rattle.koat_cli.specs.Report.{usage_text}
+use Rattle.koat_cli.specs.Answers.{Says, ToNothing, ToRequest}
+use Rattle.koat_cli.specs.Ends.{WroteInPart}
 use Rattle.koat_cli.specs.WorkedEnds.{without_words, behind_fault, left_with, Left, FaultsLeaveFirstBytes}
-use Rattle.koat_cli.proofs.Exclusions.{only_usage}
 
 -- no words ask for anything
 none_asks : (request : Request) → Asks [] request → ⊥
-none_asks (Analyse pivots file) h = omega (arith, ap length h.command)
+none_asks request h = omega (arith, ap length h.command)
 
 -- so they get the usage text
-usage : IsUsage without_words usage_text
-usage = record { other = λ request h. none_asks request h; told = refl }
+usage : Says without_words Usage usage_text
+usage = ToNothing none_asks (record { told = refl; ends = refl })
 
--- so they say nothing else
-only_text : (status : Status) (text : List ℕ) → HasCause status without_words text → text ≡ usage_text
-only_text status text h = told (subst (λ (s : Status). HasCause s without_words text) (only_usage without_words status usage_text text usage h) h)
-  where
-    told : IsUsage without_words text → text ≡ usage_text
-    told u = u.told
+-- and no other
+only_text : (status : Status) (text : List ℕ) → Says without_words status text → text ≡ usage_text
+only_text status text (ToNothing none h) = h.told
+only_text status text (ToRequest request asked h) = absurd (none_asks request asked)
 
 -- what is left of the usage text
 left : (bytes : List ℕ) → Left bytes → (k : ℕ) × (k ≤ length usage_text) × (bytes ≡ codes "old " ++ take k usage_text)
@@ -64,7 +60,7 @@ first_bytes bytes h = go (left bytes h)
     go (suc k, within, e) = (ap (λ (bs : List ℕ). get_or bs 4 117) e, ap (λ (bs : List ℕ). get_or bs 0 0) e)
 
 -- and there are no more bytes than both have
-few_bytes : (bytes : List ℕ) → Left bytes → length bytes ≤ 42
+few_bytes : (bytes : List ℕ) → Left bytes → length bytes ≤ 87
 few_bytes bytes h = let l = left bytes h in omega (arith, ap length l.2, length-take-le l.0 usage_text l.1, l.1)
 
 -- a count that stays at 3 hasn't risen
@@ -74,17 +70,18 @@ not_risen (inr at_the_end) = omega (arith, at_the_end)
 
 -- behind a fault of the shelf no words have a text
 no_text : (bytes : List ℕ) → ¬ (WroteInPart behind_fault (left_with 4 bytes))
-no_text bytes h = of_read_fault (subst (λ (s : Status). HasCause s behind_fault h.text) (h.behind_fault (omega arith)) h.says)
+no_text bytes h = of_read_fault (subst (λ (s : Status). Says behind_fault s h.text) (h.behind_fault (omega arith)) h.says)
   where
-    of_read_fault : IsReadFault behind_fault h.text → ⊥
-    of_read_fault r = none_asks (Analyse r.pivots r.file) r.asked
+    of_read_fault : Says behind_fault ReadFault h.text → ⊥
+    of_read_fault (ToNothing none u) = let e : ReadFault ≡ Usage = u.ends in cc
+    of_read_fault (ToRequest request asked u) = none_asks request asked
 
 -- faults leave what was worked out
 pub faults_leave : FaultsLeaveFirstBytes
 faults_leave = record {
   none = leaves 0 (omega arith);
   some = leaves 3 (omega arith);
-  all = leaves 38 (omega arith);
+  all = leaves 83 (omega arith);
   other_text = λ h. omega (arith, (first_bytes (codes "old bou") h).0);
   last_bytes = λ h. omega (arith, (first_bytes (codes "old sage") h).0);
   in_place = λ h. omega (arith, (first_bytes (codes "usa") h).1);

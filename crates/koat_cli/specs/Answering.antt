@@ -1,19 +1,21 @@
--- With which status a call ends on a file that the shelf holds.
+-- With which status a call ends, by what is asked for.
 use Rattle.std.specs.Prelude.{◌≡◌, ◌≢◌, ◌⊎◌, ◌↔◌, ℕ, ◌<◌, ◌≤◌, List, length, Some, IsSomeAnd, IsTrue, IsFalse, ⊤}
 use Rattle.std.specs.List.{list_all}
 use Rattle.std.specs.FinMap.{get}
 use Rattle.outside_io.specs.Counts.{Rose}
 use Rattle.model.specs.Programs.{Program}
 use Rattle.its_reader.specs.its_text.Spelling.{SpellsWithin}
+use Rattle.its_writer.specs.Generated.{generated}
 use Rattle.asks.specs.Lines.{Word}
-use Rattle.asks.specs.Requests.{Analyse, Asks}
+use Rattle.asks.specs.Requests.{Analyse, Generate, Selfrun, Asks, default_pivots}
 use Rattle.outcome.specs.Reports.{Report, is_timed}
 use Rattle.time_bounds.specs.Analysis.{IsAnalysis}
 use Rattle.koat_cli.specs.declared.status.Status.{Status}
 use Rattle.koat_cli.specs.declared.status.Status.TheVariants.{Done, Unknown, Usage, ReadFault, WriteFault, Memory}
 use Rattle.koat_cli.specs.declared.status.Status.TheVariants.{ProgramRefused, ProofRefused, No, RunRefused, NotARun}
 use Rattle.koat_cli.specs.Calls.{Call, Put}
-use Rattle.koat_cli.specs.Causes.{program_limit}
+use Rattle.koat_cli.specs.OnFiles.{program_limit}
+use Rattle.koat_cli.specs.Answers.{AsksForNothingThere}
 use Rattle.koat_cli.specs.Ends.{Ends}
 
 -- the words ask for an analysis with so many pivots, the shelf tells that it holds the file that they name, with these
@@ -21,28 +23,28 @@ use Rattle.koat_cli.specs.Ends.{Ends}
 pub record AsksOfHeld (call : Call) (put : Put) (bytes : List ℕ) (pivots : ℕ) : Type 0 where
   pub file : Word
   pub asked : Asks call.words (Analyse pivots file)
-  pub held : IsSomeAnd call.held (λ files. get files file ≡ Some bytes)
-  pub no_read_fault : ¬ (Rose call.faults_before call.faults_after)
+  pub held : IsSomeAnd call.shelf.held (λ files. get files file ≡ Some bytes)
+  pub no_read_fault : ¬ (Rose call.shelf.faults_before call.shelf.faults_after)
   pub no_write_fault : ¬ (Rose put.faults_before put.faults_after)
 
--- the bytes aren't too many and spell a program within the limits, and this is the report of its analysis
-pub record HasReport (bytes : List ℕ) (pivots : ℕ) (report : Report) : Type 0 where
-  pub within : length bytes ≤ program_limit
-  pub program : Program
-  pub spelled : SpellsWithin bytes program
-  pub found : IsAnalysis program pivots report
-
--- in that report every rule has a time
-pub record HasAllTimes (bytes : List ℕ) (pivots : ℕ) : Type 0 where
+-- in the report of the program's analysis every rule has a time
+pub record FindsAllTimes (program : Program) (pivots : ℕ) : Type 0 where
   pub report : Report
-  pub has : HasReport bytes pivots report
+  pub found : IsAnalysis program pivots report
   pub all_timed : IsTrue (list_all is_timed report.times)
 
 -- in that report some rule has no time
-pub record LacksTimes (bytes : List ℕ) (pivots : ℕ) : Type 0 where
+pub record MissesTimes (program : Program) (pivots : ℕ) : Type 0 where
   pub report : Report
-  pub has : HasReport bytes pivots report
+  pub found : IsAnalysis program pivots report
   pub some_untimed : IsFalse (list_all is_timed report.times)
+
+-- the bytes aren't too many and spell a program within the limits, of which this holds
+pub record SpellsOne (bytes : List ℕ) (Holds : Program → Type 0) : Type 0 where
+  pub within : length bytes ≤ program_limit
+  pub program : Program
+  pub spelled : SpellsWithin bytes program
+  pub holds : Holds program
 
 -- the bytes are too many, or spell no program within the limits
 abbrev pub SpellsNone : List ℕ → Type 0
@@ -62,15 +64,37 @@ IsStatusOfHeld No = ⊥
 IsStatusOfHeld RunRefused = ⊥
 IsStatusOfHeld NotARun = ⊥
 
--- however such a call ends, it ends with one of four statuses; and want of memory aside, the status is `Done` exactly
--- where the analysis of the program has a time for every rule, `Unknown` exactly where it has none for some, and
--- `ProgramRefused` exactly where there is no such program
+-- however a call ends that asks for the analysis of a file that is held, it ends with one of four statuses; and want of
+-- memory aside, the status is `Done` exactly where the analysis of the program has a time for every rule, `Unknown`
+-- exactly where it has none for some, and `ProgramRefused` exactly where there is no such program
 pub record HeldFilesAreAnswered : Type 0 where
   pub few : (call : Call) (put : Put) (bytes : List ℕ) (pivots : ℕ) (s : Status) → AsksOfHeld call put bytes pivots
       → Ends s call put → IsStatusOfHeld s
   pub done : (call : Call) (put : Put) (bytes : List ℕ) (pivots : ℕ) (s : Status) → AsksOfHeld call put bytes pivots
-      → Ends s call put → s ≢ Memory → (s ≡ Done) ↔ HasAllTimes bytes pivots
+      → Ends s call put → s ≢ Memory → (s ≡ Done) ↔ SpellsOne bytes (λ p. FindsAllTimes p pivots)
   pub unknown : (call : Call) (put : Put) (bytes : List ℕ) (pivots : ℕ) (s : Status) → AsksOfHeld call put bytes pivots
-      → Ends s call put → s ≢ Memory → (s ≡ Unknown) ↔ LacksTimes bytes pivots
+      → Ends s call put → s ≢ Memory → (s ≡ Unknown) ↔ SpellsOne bytes (λ p. MissesTimes p pivots)
   pub refused : (call : Call) (put : Put) (bytes : List ℕ) (pivots : ℕ) (s : Status) → AsksOfHeld call put bytes pivots
       → Ends s call put → s ≢ Memory → (s ≡ ProgramRefused) ↔ SpellsNone bytes
+
+-- a call ends so, neither with the status of a fault of the sink nor for want of memory
+pub record EndsWell (status : Status) (call : Call) (put : Put) : Type 0 where
+  pub no_write_fault : status ≢ WriteFault
+  pub ends : Ends status call put
+  pub memory : status ≢ Memory
+
+-- the status of a fault of the sink and that of want of memory aside, a call ends with `Usage` exactly where its words
+-- ask for nothing that is there; one that asks for a generated program ends with `Done`; and one that asks for the
+-- figures of its analysis ends with `Done` exactly where this has a time for every rule, with `Unknown` exactly where
+-- it has none for some, and with no other status
+pub record NumbersAreAnswered : Type 0 where
+  pub usage : (call : Call) (put : Put) (s : Status) → EndsWell s call put
+      → (s ≡ Usage) ↔ AsksForNothingThere call.words
+  pub program : (call : Call) (put : Put) (n : ℕ) (s : Status) → Asks call.words (Generate n) → EndsWell s call put
+      → s ≡ Done
+  pub few : (call : Call) (put : Put) (n : ℕ) (s : Status) → Asks call.words (Selfrun n) → EndsWell s call put
+      → (s ≡ Done) ⊎ (s ≡ Unknown)
+  pub done : (call : Call) (put : Put) (n : ℕ) (s : Status) → Asks call.words (Selfrun n) → EndsWell s call put
+      → (s ≡ Done) ↔ FindsAllTimes (generated n) default_pivots
+  pub unknown : (call : Call) (put : Put) (n : ℕ) (s : Status) → Asks call.words (Selfrun n) → EndsWell s call put
+      → (s ≡ Unknown) ↔ MissesTimes (generated n) default_pivots

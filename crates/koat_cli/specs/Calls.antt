@@ -7,24 +7,31 @@ use Rattle.outside_io.specs.declared.shelf.Shelf as shelf
 use Rattle.outside_io.specs.declared.sink.Sink as sink
 use Rattle.asks.specs.Lines.{Words}
 
--- the words of a call, what the shelf tells that it holds, the shelf's count of faults before and after, and how many
--- bytes its last fetch took
-pub record Call : Type 0 where
-  pub words : Words
+-- what a call saw of the shelf: what it tells that it holds, its count of faults before and after, and how many bytes
+-- its last fetch took
+pub record Seen : Type 0 where
   pub held : Option Files
   pub faults_before : ℕ
   pub faults_after : ℕ
   pub taken : ℕ
 
--- the call with these words that found the shelf so and left it so, by what the shelf's type means
-abbrev pub call_of : {F : Type 0} → shelf.Ghosts F → List (String Global) → F → F → Call
-call_of means words before after = record {
-  words = map string_bytes words;
+-- what was seen of a shelf that a call found so and left so, by what the shelf's type means
+abbrev pub seen_of : {F : Type 0} → shelf.Ghosts F → F → F → Seen
+seen_of means before after = record {
   held = means.held before;
   faults_before = means.faults before;
   faults_after = means.faults after;
   taken = means.taken after;
 }
+
+-- the words of a call, and what it saw of the shelf
+pub record Call : Type 0 where
+  pub words : Words
+  pub shelf : Seen
+
+-- the call with these words that found the shelf so and left it so, by what the shelf's type means
+abbrev pub call_of : {F : Type 0} → shelf.Ghosts F → List (String Global) → F → F → Call
+call_of means words before after = record { words = map string_bytes words; shelf = seen_of means before after }
 
 -- the sink's count of faults, and what it tells that was written, before and after
 pub record Put : Type 0 where

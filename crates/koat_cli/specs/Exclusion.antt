@@ -1,18 +1,38 @@
--- No two statuses have their causes in one call.
-use Rattle.std.specs.Prelude.{◌≡◌, ◌≢◌, List, ℕ, IsSome}
+-- One answer at most fits a call.
+use Rattle.std.specs.Prelude.{◌≡◌, ◌≢◌, List, ◌++◌, ℕ, IsSome}
 use Rattle.outside_io.specs.Counts.{Rose}
+use Rattle.asks.specs.Requests.{Selfrun, Asks}
 use Rattle.koat_cli.specs.declared.status.Status.{Status}
 use Rattle.koat_cli.specs.declared.status.Status.TheVariants.{Usage, ReadFault}
 use Rattle.koat_cli.specs.Calls.{Call}
-use Rattle.koat_cli.specs.Ends.{HasCause}
+use Rattle.koat_cli.specs.Figures.{lemmas_line}
+use Rattle.koat_cli.specs.Answers.{FetchesNothing, Says}
 
--- other words than a command line have no other cause than that of the usage text. Where the shelf tells what it holds,
--- one status at most has its cause, with one text, unless it is a fault of reading
--- that came with a rise of the shelf's count; so each status comes exactly where its cause stands, but for faults and
--- want of memory
-pub record CausesExcludeEachOther : Type 0 where
-  pub other_words : (call : Call) (t : Status) (x y : List ℕ) → HasCause Usage call x → HasCause t call y → t ≡ Usage
-  pub without_faults : (call : Call) (s t : Status) (x y : List ℕ) → IsSome call.held
-      → ¬ (Rose call.faults_before call.faults_after) → HasCause s call x → HasCause t call y → (s ≡ t) × (x ≡ y)
-  pub read_faults_aside : (call : Call) (s t : Status) (x y : List ℕ) → IsSome call.held → s ≢ ReadFault → t ≢ ReadFault
-      → HasCause s call x → HasCause t call y → (s ≡ t) × (x ≡ y)
+-- two texts are one, but that each tells a number of lemmas of its own in its last line
+pub record AreOneButLemmas (x y : List ℕ) : Type 0 where
+  pub head : List ℕ
+  pub first : ℕ
+  pub second : ℕ
+  pub first_is : x ≡ head ++ lemmas_line first
+  pub second_is : y ≡ head ++ lemmas_line second
+
+-- the statuses are the same, and so are the texts, unless the words ask for figures, of which the number of lemmas
+-- isn't known to be one; then they are the same but for this number
+pub record AreOneAnswer (call : Call) (s t : Status) (x y : List ℕ) : Type 0 where
+  pub status : s ≡ t
+  pub text : ((n : ℕ) → ¬ (Asks call.words (Selfrun n))) → x ≡ y
+  pub figures : (n : ℕ) → Asks call.words (Selfrun n) → AreOneButLemmas x y
+
+-- a call that answers with the usage text has no other status to answer with, and one that fetches nothing has one
+-- answer at most. Where the shelf tells what it holds, a call has one answer at most, unless it is a fault of reading
+-- that came with a rise of the shelf's count; so each status comes exactly where it is answered with, but for faults
+-- and want of memory
+pub record AnswersExcludeEachOther : Type 0 where
+  pub other_words : (call : Call) (t : Status) (x y : List ℕ) → Says call Usage x → Says call t y → t ≡ Usage
+  pub without_file : (call : Call) (s t : Status) (x y : List ℕ) → FetchesNothing call.words → Says call s x
+      → Says call t y → AreOneAnswer call s t x y
+  pub without_faults : (call : Call) (s t : Status) (x y : List ℕ) → IsSome call.shelf.held
+      → ¬ (Rose call.shelf.faults_before call.shelf.faults_after) → Says call s x → Says call t y
+      → AreOneAnswer call s t x y
+  pub read_faults_aside : (call : Call) (s t : Status) (x y : List ℕ) → IsSome call.shelf.held → s ≢ ReadFault
+      → t ≢ ReadFault → Says call s x → Says call t y → AreOneAnswer call s t x y

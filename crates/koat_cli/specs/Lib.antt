@@ -1,8 +1,11 @@
--- what the contracts of the program cite: command lines, calls, causes, texts, statuses and how calls end
+-- what the contracts of the program cite: calls, texts, statuses, what commands write, and how calls end
 pub mod Calls
 pub mod Report
-pub mod Causes
+pub mod Figures
 pub mod Numbers
+pub mod Outputs
+pub mod OnFiles
+pub mod Answers
 pub mod Ends
 pub mod Processes
 pub mod Exclusion
@@ -10,5 +13,6 @@ pub mod Answering
 pub mod AnalysisTexts
 -- values that were worked out by hand
 pub mod WorkedEnds
+pub mod WorkedAnswers
 -- what the contracts of the functions inside cite
-pub mod OfProgram
+pub mod Steps

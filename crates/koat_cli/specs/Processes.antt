@@ -5,10 +5,11 @@ use Rattle.std.specs.declared.process.ExitCode.{ExitCode}
 use Rattle.koat_cli.specs.declared.status.Status.{Status}
 use Rattle.koat_cli.specs.Calls.{Call, Put}
 use Rattle.koat_cli.specs.Numbers.{number_of}
-use Rattle.koat_cli.specs.Ends.{Ends}
+use Rattle.koat_cli.specs.Ends.{Ends, Means}
 
--- the process ends with the number of the status with which the call ends
+-- the process ends with the number of the status with which the call ends, and this means what it does
 pub record Exits (code : ExitCode) (call : Call) (put : Put) : Type 0 where
   pub status : Status
   pub numbered : exit_status code ≡ number_of status
   pub ends : Ends status call put
+  pub means : Means status call put

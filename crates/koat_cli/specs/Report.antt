@@ -1,4 +1,4 @@
--- The texts that the program writes, but for its report and the usage text.
+-- The texts that the program writes, but for those of programs and reports.
 use Rattle.std.specs.Prelude.{ℕ, List, ◌++◌, codes, decimal}
 use Rattle.its_model.specs.text_core.Readers.{Fault}
 use Rattle.its_reader.specs.its_text.Kinds.{LimitKind, TooManyRules, TooManyArguments, TooManyVariables, TooManyAtoms}
@@ -8,6 +8,10 @@ use Rattle.its_reader.specs.its_text.Kinds.{Kind, NotAscii, Syntax, MissingSecti
 use Rattle.its_reader.specs.its_text.Kinds.{LeftNotVariable}
 use Rattle.its_reader.specs.its_text.Kinds.{LeftRepeated, ArityDiffers, NumberTooLarge, Limit, StartUnknown}
 use Rattle.its_reader.specs.its_text.Kinds.{Disjunction}
+
+-- the text for words that ask for nothing that is there: a line for each command that there is
+abbrev pub usage_text : List ℕ
+usage_text = codes "usage: koat analyse [--pivots N] FILE\n       koat generate N\n       koat selfrun N\n"
 
 -- the text where a file can't be had
 abbrev pub read_fault_text : List ℕ

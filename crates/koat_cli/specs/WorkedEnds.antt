@@ -1,16 +1,20 @@
 -- What a fault of the sink leaves, as it was worked out by hand of a call that gets the usage text.
 use Rattle.std.specs.Prelude.{ℕ, List, [], ◌++◌, None, Some, codes}
-use Rattle.koat_cli.specs.Calls.{Call, Put}
-use Rattle.asks.specs.Usage.{usage_text}
+use Rattle.koat_cli.specs.Calls.{Seen, Call, Put}
+use Rattle.koat_cli.specs.Report.{usage_text}
 use Rattle.koat_cli.specs.Ends.{WroteInPart}
 
--- a call without words, on a shelf that doesn't tell what it holds and had no fault
+-- a shelf that doesn't tell what it holds, and had so many faults in a call
+abbrev pub untold : ℕ → Seen
+untold faults = record { held = None; faults_before = 0; faults_after = faults; taken = 0 }
+
+-- a call without words, on a shelf that had no fault
 abbrev pub without_words : Call
-without_words = record { words = []; held = None; faults_before = 0; faults_after = 0; taken = 0 }
+without_words = record { words = []; shelf = untold 0 }
 
 -- the same call on a shelf that had a fault in it
 abbrev pub behind_fault : Call
-behind_fault = record { words = []; held = None; faults_before = 0; faults_after = 1; taken = 0 }
+behind_fault = record { words = []; shelf = untold 1 }
 
 -- a put that left these bytes behind the text `old`, after which the sink counts so many faults; before it counted 3
 abbrev pub left_with : ℕ → List ℕ → Put

@@ -1,46 +1,26 @@
-//! The analysis of a program's text.
+//! The analysis of a program, and its status.
 
-ghost use Rattle.std.specs.Prelude.{◌≡◌, ℕ, if◌then◌else◌, IfOk};
+ghost use Rattle.std.specs.Prelude.{◌≡◌, if◌then◌else◌, IfOk};
 ghost use Rattle.std.specs.List.{list_all};
 ghost use Rattle.its_model.specs.Valid.{IsValid};
 ghost use Rattle.its_model.specs.Views.{program_of};
 ghost use Rattle.outcome.specs.Views.{report_of};
 ghost use Rattle.report_text.specs.Conditions.{is_known};
-ghost use Rattle.koat_cli.specs.Calls.{Call};
-ghost use Rattle.koat_cli.specs.Causes.{ReadsProgram};
-ghost use Rattle.koat_cli.specs.Ends.{HasCause};
-ghost use Rattle.koat_cli.specs.OfProgram.{StatesAnalysis, status_of as status_of_report};
+ghost use Rattle.koat_cli.specs.Outputs.{IsReportOf, status_of as status_of_report};
 
-use crate::refusal::refusal;
 use crate::status::Status;
 use crate::status_text::StatusText;
 use its_model::Program;
-use its_reader::read;
 use model::Memory;
 use outcome::{Outcome, TimeEntry};
 use report_text::print;
 use std::alloc::Global;
 use time_bounds::analyse;
 
-/// What the program says of a text with so many pivots for each linear program: the report on its program, or what
-/// stands first against it.
-pub(crate) fn analyse_text(alloc: Global, bytes: &[u8], pivots: u32) -> Result<StatusText, Memory>
-    ensures { IfOk result (λ said. (call : Call) → ReadsProgram call bytes.now pivots
-        → HasCause said.status call said.text.items) }
-{
-    match read(alloc, bytes) {
-        Ok(program) => analyse_program(alloc, &program, pivots),
-        Err(error) => Ok(StatusText {
-            status: Status::ProgramRefused,
-            text: refusal(alloc, &error)?,
-        }),
-    }
-}
-
-// What the program says of a program that was read.
-fn analyse_program(alloc: Global, program: &Program, pivots: u32) -> Result<StatusText, Memory>
+/// The report of the analysis of a program, with so many pivots for each linear program.
+pub(crate) fn report(alloc: Global, program: &Program, pivots: u32) -> Result<StatusText, Memory>
     requires { IsValid (program_of program.now) }
-    ensures { IfOk result (λ said. StatesAnalysis (program_of program.now) pivots said.status said.text.items) }
+    ensures { IfOk result (λ said. IsReportOf (program_of program.now) pivots said.status said.text.items) }
 {
     let found = analyse(alloc, program, pivots)?;
     let text = print(alloc, program, &found)?;
@@ -50,8 +30,8 @@ fn analyse_program(alloc: Global, program: &Program, pivots: u32) -> Result<Stat
     })
 }
 
-// The status of a report: whether every rule has a time.
-fn status_of(found: &Outcome) -> Status
+/// The status of an outcome: whether every rule has a time.
+pub(crate) fn status_of(found: &Outcome) -> Status
     ensures { result ≡ status_of_report (report_of found.now) }
 {
     status_where(all_known(&found.times))

@@ -1,16 +1,19 @@
-//! What the causes of the statuses have to do with each other, what the text of an analysis tells, and values that were
-//! worked out by hand.
+//! That a call has one answer, with which status it ends by what is asked for, what the text of an analysis tells, and
+//! values that were worked out by hand.
 
-ghost use Rattle.koat_cli.specs.Answering.{HeldFilesAreAnswered};
-ghost use Rattle.koat_cli.specs.Exclusion.{CausesExcludeEachOther};
+ghost use Rattle.koat_cli.specs.Answering.{HeldFilesAreAnswered, NumbersAreAnswered};
+ghost use Rattle.koat_cli.specs.Exclusion.{AnswersExcludeEachOther};
 ghost use Rattle.koat_cli.specs.AnalysisTexts.{AnalysisTextsStateOneReport};
 ghost use Rattle.koat_cli.specs.WorkedEnds.{FaultsLeaveFirstBytes};
+ghost use Rattle.koat_cli.specs.WorkedAnswers.{FiguresAreWorkedOut, AnswersAreWorkedOut};
 
-/// The law that no two statuses have their causes in one call of `run` on a shelf that tells what it holds. So each
-/// status comes exactly where its cause stands, but for faults and want of memory. It has no code: its contract is
-/// the law.
-pub fn causes_exclude_each_other()
-    ensures { CausesExcludeEachOther }
+/// The law that a call of `run` has one answer at most where no file is fetched for its words, or the shelf tells what
+/// it holds: one status, and one text, of which, where figures are asked for, the number of lemmas alone isn't shown to
+/// be one. So each status comes exactly where it is answered with, but for faults and want of memory. Where a file is
+/// fetched, a fault of reading that came with a rise of the shelf's count of faults is left out. It has no code: its
+/// contract is the law.
+pub fn answers_exclude_each_other()
+    ensures { AnswersExcludeEachOther }
 {}
 
 /// The law that a call whose words ask for the analysis of a file that the shelf tells that it holds, and in which no
@@ -20,6 +23,14 @@ pub fn causes_exclude_each_other()
 /// It has no code: its contract is the law.
 pub fn held_files_are_answered()
     ensures { HeldFilesAreAnswered }
+{}
+
+/// The law that, statuses `WriteFault` and `Memory` aside, a call ends with `Usage` exactly where its words ask for
+/// nothing that is there; that one whose words ask for a generated program ends with `Done`; and that one whose words
+/// ask for the figures of its analysis ends with `Done` exactly where this has a time for every rule, and else with
+/// `Unknown`. It has no code: its contract is the law.
+pub fn numbers_are_answered()
+    ensures { NumbersAreAnswered }
 {}
 
 /// The law that the report of an analysis of a valid program, whose numbers fit the types that hold them, can be told
@@ -32,4 +43,11 @@ pub fn analysis_texts_state_one_report()
 /// What a fault of the sink leaves of a text was worked out by hand. It has no code: its contract is these values.
 pub fn worked_ends_hold()
     ensures { FaultsLeaveFirstBytes }
+{}
+
+/// The figures of a report as text, and what is answered to some words, were worked out by hand. It has no code: its
+/// contract is these values.
+pub fn worked_answers_hold()
+    ensures figures { FiguresAreWorkedOut }
+    ensures answers { AnswersAreWorkedOut }
 {}

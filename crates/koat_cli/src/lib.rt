@@ -1,11 +1,14 @@
-//! The program's top call, from the words of the command line to the status. Its contract is the theorem: after status 0
-//! the report on the sink is true on every run of the program that the file spells.
+//! The program's top call, from the words of the command line to the status. Its contract is the theorem: after status
+//! 0 of `analyse` the report on the sink is true on every run of the program that the file spells.
 #![tactic(auto)]
 
 mod analysis;
+mod figures;
+mod generated;
 mod law;
 mod preparation;
 mod program;
+mod program_file;
 mod refusal;
 mod status;
 mod status_text;
@@ -13,8 +16,8 @@ mod top_call;
 
 pub use asks::{Request, asks};
 pub use law::{
-    analysis_texts_state_one_report, causes_exclude_each_other, held_files_are_answered,
-    worked_ends_hold,
+    analysis_texts_state_one_report, answers_exclude_each_other, held_files_are_answered,
+    numbers_are_answered, worked_answers_hold, worked_ends_hold,
 };
 pub use program::run_program;
 pub use report_text::print as print_report;

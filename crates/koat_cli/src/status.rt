@@ -3,11 +3,12 @@
 /// The status with which the program ends. Its number is its place in this list, from 0.
 #[derive(Clone, Copy, Debug, PartialEq, Eq)]
 pub enum Status {
-    /// The output is written, and with `analyse` each rule has a bound.
+    /// With `analyse`, the report was written, and every rule has a time. With `selfrun`, its figures were written, and
+    /// every rule of the generated program has a time. With `generate`, that program's text was written.
     Done,
-    /// The output is written, and some rule has no bound.
+    /// With `analyse`, the report was written, and with `selfrun`, its figures; some rule has no time.
     Unknown,
-    /// The words are no command line.
+    /// The words are no command line, or ask for `prove`, `check` or `replay`, which aren't there yet.
     Usage,
     /// A file couldn't be read.
     ReadFault,

@@ -2,8 +2,8 @@
 
 ghost use Rattle.std.specs.Prelude.{◌≡◌, ◌≤◌, map, string_bytes, IsSome};
 ghost use Rattle.koat_cli.specs.Calls.{call_of, put_of};
-ghost use Rattle.koat_cli.specs.Causes.{AsksForNothing};
-ghost use Rattle.koat_cli.specs.Ends.{Ends};
+ghost use Rattle.koat_cli.specs.Answers.{FetchesNothing};
+ghost use Rattle.koat_cli.specs.Ends.{Ends, Means};
 
 use crate::preparation::prepare;
 use crate::status::Status;
@@ -12,28 +12,38 @@ use std::alloc::Global;
 
 /// Does all that the program does for the words after its name, and answers how it ended.
 ///
-/// `analyse [--pivots N] FILE` fetches the file, of at most 4,194,304 bytes, and writes its report by one put; other
-/// words get the usage text. The program texts are those of integer transition systems in the KoAT format, and the
-/// report gives each rule a bound on how often it occurs in a run, and each argument after a rule a bound on its
-/// absolute value, in the absolute values of the inputs, or says why there is none. N is how many pivots each linear
-/// program may take, from 0 to 1,000,000, and 10,000 where it isn't given.
+/// - `analyse [--pivots N] FILE` fetches the file, of at most 4,194,304 bytes, and writes its report. The program texts
+///   are those of integer transition systems in the KoAT format, and the report gives each rule a bound on how often it
+///   occurs in a run, and each argument after a rule a bound on its absolute value, in the absolute values of the
+///   inputs, or says why there is none. N is how many pivots each linear program may take, from 0 to 1,000,000, and
+///   10,000 where it isn't given.
+/// - `generate N` writes the generated program of a number from 0 to 100 as its canonical text, which spells it.
+/// - `selfrun N` analyses that program, with 10,000 pivots for each linear program, and writes the figures of what was
+///   found: how many rules there are, how many of them have a time, how many of all places have a size, the total, and
+///   how many lemmas state the bounds.
+/// - Other words get the usage text.
 ///
-/// - `Done`: the file spells a program, and its report was written, in which every rule has a time. On every run of the
-///   program, from any integers and by any choice of rules, each rule occurs at most as often as its time says, there
-///   are at most as many steps as the total says, and each argument after a rule stays within its size.
-/// - `Unknown`: the same, where some rule has no time; the report says why. Every bound that it gives holds on every
-///   run.
-/// - `Usage`: the words are anything but a command line.
-/// - `ReadFault`: the shelf had a fault in this call, or tells that it lacks the file.
-/// - `ProgramRefused`: the file has too many bytes, or something stands against it as the text of a program within the
-///   limits: the text says what stands first, and at which byte.
+/// The whole text is written by one put, and the status is this:
+///
+/// - `Done`: with `analyse`, the file spells a program, and its report was written, in which every rule has a time. On
+///   every run of the program, from any integers and by any choice of rules, each rule occurs at most as often as its
+///   time says, there are at most as many steps as the total says, and each argument after a rule stays within its
+///   size, where it has one. With `selfrun`, its figures were written, and every rule of the generated program has a
+///   time. With `generate`, that program's text was written.
+/// - `Unknown`: with `analyse`, the same, where some rule has no time: the report says why, and every bound that it
+///   gives holds on every run. With `selfrun`, its figures alone were written, and some rule of the generated program
+///   has no time.
+/// - `Usage`: the words are no command line, or ask for `prove`, `check` or `replay`, which aren't there yet.
+/// - `ReadFault`: an analysis is asked for, and the shelf had a fault in this call, or tells that it lacks the file.
+/// - `ProgramRefused`: an analysis is asked for, and the file has too many bytes, or something stands against it as the
+///   text of a program within the limits: the text says what stands first, and at which byte.
 /// - `WriteFault`: the sink had a fault; some first bytes of the text of the status that would have come were written.
 /// - `Memory`: memory ran out; the sink is as it was.
 ///
 /// With each status but the last two the whole text of the status was written behind what the sink held. What the shelf
-/// holds stays as it was, and words that are no command line leave the whole shelf as it was. Where the shelf's count
-/// of faults is greater after the call than before, the status is `ReadFault`, `WriteFault` or `Memory`. Another call
-/// may follow any status.
+/// holds stays as it was, and words for which no file is fetched leave the whole shelf as it was. Where the shelf's
+/// count of faults is greater after the call than before, the status is `ReadFault`, `WriteFault` or `Memory`. Another
+/// call may follow any status.
 pub fn run<F: Shelf, S: Sink>(
     alloc: Global,
     words: &[String],
@@ -41,9 +51,10 @@ pub fn run<F: Shelf, S: Sink>(
     sink: &mut S,
 ) -> Status
     ensures ends { Ends result (call_of F.Shelf words.now shelf.old shelf.new) (put_of S.Sink sink.old sink.new) }
+    ensures means { Means result (call_of F.Shelf words.now shelf.old shelf.new) (put_of S.Sink sink.old sink.new) }
     ensures memory { result ≡ Status.Memory → sink.new ≡ sink.old }
 
-    ensures untouched { AsksForNothing (map string_bytes words.now) → shelf.new ≡ shelf.old }
+    ensures untouched { FetchesNothing (map string_bytes words.now) → shelf.new ≡ shelf.old }
     ensures keeps_files { F.held shelf.new ≡ F.held shelf.old }
     ensures keeps_shelf_count { F.faults shelf.old ≤ F.faults shelf.new }
     ensures keeps_sink_count { S.faults sink.old ≤ S.faults sink.new }

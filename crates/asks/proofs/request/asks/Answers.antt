@@ -1,14 +1,21 @@
-use Rattle.std.proofs.Common.{map, string_bytes}
+use Rattle.std.proofs.Common.{◌≡◌, ◌∷◌, map, string_bytes, ap}
+use Rattle.asks.specs.Requests.{word_of}
 use Rattle.asks.specs.Steps.{values_in, positionals_in}
 use Rattle.asks.proofs.Commands.{none_given, asked_for}
 use Rattle.asks.proofs.request.asks.Goals as goal
 
 pub returns-in_default-2 : goal.returns-in_default-2
 returns-in_default-2 c =
-    none_given (map string_bytes c.args.words.now) (map string_bytes c.in-Some.others.now) c.in-Some.ensures
-    (rw c.in_default-2.is at c.in_ok-line.ensures)
+    let words = map string_bytes c.args.words.now in
+    let behind = map string_bytes c.in-Some.others.now in
+    let split : words ≡ string_bytes c.in-Some.first.now ∷ behind = ap (map string_bytes) c.in-Some.ensures.cases.0 in
+    none_given words (string_bytes c.in-Some.first.now) behind split (rw c.in_default-2.is at c.in_ok-line.ensures)
 
 pub returns : goal.returns
 returns c =
-    asked_for (map string_bytes c.args.words.now) (map string_bytes c.in-Some.others.now) (values_in c.in-Some-2.line) (positionals_in c.in-Some-2.line)
-    c.analysis.result c.in-Some.ensures (rw c.in-Some-2.is at c.in_ok-line.ensures) c.analysis.ensures
+    let words = map string_bytes c.args.words.now in
+    let behind = map string_bytes c.in-Some.others.now in
+    let split : words ≡ string_bytes c.in-Some.first.now ∷ behind = ap (map string_bytes) c.in-Some.ensures.cases.0 in
+    let is_named : string_bytes c.in-Some.first.now ≡ word_of c.in-Some-named.command = cc (c.as_bytes.ensures.value, c.in-Some-named.ensures) in
+    asked_for words (string_bytes c.in-Some.first.now) behind (values_in c.in-Some-2.line) (positionals_in c.in-Some-2.line)
+    c.in-Some-named.command c.asked_by.result split is_named (rw c.in-Some-2.is at c.in_ok-line.ensures) c.asked_by.ensures

@@ -1,0 +1,65 @@
+-- What is prepared is said: of the request that words ask for, and of a generated program.
+use Rattle.std.proofs.Common.{◌≡◌, ℕ, List, length, Option, Some, Result, Ok, Err, IfOk, MatchOption, subst, sym, ◌∙◌, ap, refl}
+use Rattle.std.proofs.lemmas.Result.{IfOk-weaker}
+use Rattle.model.specs.Programs.{Program}
+use Rattle.its_reader.specs.its_text.Spelling.{SpellsWithin}
+use Rattle.its_writer.specs.Generated.{generated}
+use Rattle.its_writer.specs.Texts.{canonical_text}
+use Rattle.asks.specs.Lines.{Words}
+use Rattle.asks.specs.Requests.{Request, Asks, default_pivots}
+use Rattle.asks.specs.Views.{request_of}
+use Rattle.asks.specs.declared.request.Request as declared
+use Rattle.outcome.specs.declared.outcome_of.Outcome.{Outcome}
+use Rattle.outcome.specs.Holding.{ReportHolds}
+use Rattle.outcome.specs.Views.{report_of}
+use Rattle.time_bounds.specs.Analysis.{IsAnalysis}
+use Rattle.time_bounds.specs.AnalysisLemmas.{HasLemmas}
+use Rattle.koat_cli.specs.declared.status.Status.{Status}
+use Rattle.koat_cli.specs.declared.status.Status.TheVariants.{Done, Usage}
+use Rattle.koat_cli.specs.declared.status_text.StatusText.{StatusText}
+use Rattle.koat_cli.specs.Calls.{Call}
+use Rattle.koat_cli.specs.Figures.{text_of_figures}
+use Rattle.koat_cli.specs.Report.{usage_text}
+use Rattle.koat_cli.specs.Outputs.{IsGenerated, IsSummaryOf, IsUsage, status_of}
+use Rattle.koat_cli.specs.Answers.{Answers, Says, ToRequest}
+
+-- the words ask for the request that was read of them
+asked : (words : Words) (o : Option declared.Request) (r : declared.Request) → o ≡ Some r
+    → MatchOption o ((q : Request) → ¬ (Asks words q)) (λ q. Asks words (request_of q)) → Asks words (request_of r)
+asked words o r e h =
+    subst (λ (p : Option declared.Request). MatchOption p ((q : Request) → ¬ (Asks words q)) (λ q. Asks words (request_of q))) e h
+
+-- what is answered of it is said
+pub said_of : {E : Type 0} (call : Call) (o : Option declared.Request) (r : declared.Request) (given : Result StatusText E) → o ≡ Some r
+    → MatchOption o ((q : Request) → ¬ (Asks call.words q)) (λ q. Asks call.words (request_of q))
+    → IfOk given (λ said. Answers call.shelf (request_of r) said.status said.text.items)
+    → IfOk given (λ said. Says call said.status said.text.items)
+said_of call o r given e h answered =
+    IfOk-weaker given (λ (said : StatusText). Answers call.shelf (request_of r) said.status said.text.items)
+    (λ (said : StatusText). Says call said.status said.text.items) (λ said a. ToRequest (request_of r) (asked call.words o r e h) a) answered
+
+-- the usage text with its status
+pub usage_of : {E : Type 0} (given : Result StatusText E) → IfOk given (λ said. said.status ≡ Usage)
+    → IfOk given (λ said. said.text.items ≡ usage_text) → IfOk given (λ said. IsUsage said.status said.text.items)
+usage_of (Err e) s t = tt
+usage_of (Ok said) s t = record { told = t; ends = s }
+
+-- the text of a program that is the generated one
+pub generated_text : (n : ℕ) (p : Program) (x : List ℕ) → p ≡ generated n → x ≡ canonical_text p
+    → SpellsWithin (canonical_text p) p → IsGenerated n Done x
+generated_text n p x e told spelled =
+    let is : x ≡ canonical_text (generated n) = told ∙ ap canonical_text e in
+    record {
+      told = is;
+      spelled = subst (λ (t : List ℕ). SpellsWithin t (generated n)) (sym is)
+          (subst (λ (q : Program). SpellsWithin (canonical_text q) q) e spelled);
+      ends = refl;
+    }
+
+-- the figures of a program that is another
+pub summary_of : (p q : Program) (o : Outcome) (s : Status) (x : List ℕ) → p ≡ q → IsAnalysis p default_pivots (report_of o)
+    → ReportHolds p (report_of o) → HasLemmas p default_pivots o → x ≡ text_of_figures p (report_of o) (length o.lemmas.items)
+    → s ≡ status_of (report_of o) → IsSummaryOf q s x
+summary_of p q o s x e found holds lemmas told ends =
+    subst (λ (r : Program). IsSummaryOf r s x) e
+    (record { outcome = o; found = record { found = found; true_on_all_runs = holds }; lemmas = lemmas; told = told; ends = ends })

@@ -1,0 +1,6 @@
+use Rattle.koat_cli.proofs.DeterminedCalls.{determined}
+use Rattle.koat_cli.proofs.Exclusions.{answers_exclude}
+use Rattle.koat_cli.proofs.law.answers_exclude_each_other.Goals as goal
+
+pub returns : goal.returns
+returns c = answers_exclude determined

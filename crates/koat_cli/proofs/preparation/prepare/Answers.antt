@@ -1,0 +1,50 @@
+use Rattle.std.proofs.Common.{List, ℕ, IfOk, subst}
+use Rattle.asks.specs.declared.request.Request.TheVariants as requests
+use Rattle.koat_cli.specs.Calls.{call_of, seen_of}
+use Rattle.koat_cli.specs.OnFiles.{OnProgram}
+use Rattle.koat_cli.specs.Outputs.{IsReportOf}
+use Rattle.koat_cli.proofs.Preparing.{said_of, usage_of}
+use Rattle.koat_cli.proofs.preparation.prepare.Goals as goal
+
+pub returns-in-Some-Analyse-clause-says : goal.returns-in-Some-Analyse-clause-says
+returns-in-Some-Analyse-clause-says g c =
+    let w = c.in-Some-Analyse in
+    said_of (call_of g.F.Shelf c.args.words.now c.args.shelf.now c.analysis_of.new.shelf) c.in_ok-pivots.field-0
+    (requests.Analyse w.pivots w.file) c.analysis_of.result (cc (w.is, w.field-0-is)) c.in_ok-pivots.ensures
+    (subst (λ (file : List ℕ). IfOk c.analysis_of.result (λ said. OnProgram (seen_of g.F.Shelf c.args.shelf.now c.analysis_of.new.shelf) file
+    (λ program. IsReportOf program w.pivots) said.status said.text.items)) c.as_str.ensures.value c.analysis_of.ensures.says)
+
+pub returns-in-Some-Generate-clause-says : goal.returns-in-Some-Generate-clause-says
+returns-in-Some-Generate-clause-says g c =
+    let w = c.in-Some-Generate in
+    said_of (call_of g.F.Shelf c.args.words.now c.args.shelf.now c.args.shelf.now) c.in_ok-pivots.field-0 (requests.Generate w.n)
+    c.generated.result (cc (w.is, w.field-0-is)) c.in_ok-pivots.ensures c.generated.ensures
+
+pub returns-in-Some-Selfrun-clause-says : goal.returns-in-Some-Selfrun-clause-says
+returns-in-Some-Selfrun-clause-says g c =
+    let w = c.in-Some-Selfrun in
+    said_of (call_of g.F.Shelf c.args.words.now c.args.shelf.now c.args.shelf.now) c.in_ok-pivots.field-0 (requests.Selfrun w.n)
+    c.summary.result (cc (w.is, w.field-0-is)) c.in_ok-pivots.ensures c.summary.ensures
+
+pub returns-in-Some-Prove-clause-says : goal.returns-in-Some-Prove-clause-says
+returns-in-Some-Prove-clause-says g c =
+    let w = c.in-Some-Prove in
+    said_of (call_of g.F.Shelf c.args.words.now c.args.shelf.now c.args.shelf.now) c.in_ok-pivots.field-0
+    (requests.Prove w.field-0-0 w.field-0-1) c.status_with_text.result (cc (w.is, w.field-0-is)) c.in_ok-pivots.ensures
+    (usage_of c.status_with_text.result c.status_with_text.ensures.status c.status_with_text.ensures.text)
+
+pub returns-in-Some-Check-clause-says : goal.returns-in-Some-Check-clause-says
+returns-in-Some-Check-clause-says g c =
+    let w = c.in-Some-Check in
+    let said = c.status_with_text-in-Some-Check in
+    said_of (call_of g.F.Shelf c.args.words.now c.args.shelf.now c.args.shelf.now) c.in_ok-pivots.field-0
+    (requests.Check w.field-0-0 w.field-0-1) said.result (cc (w.is, w.field-0-is)) c.in_ok-pivots.ensures
+    (usage_of said.result said.ensures.status said.ensures.text)
+
+pub returns-in-Some-Replay-clause-says : goal.returns-in-Some-Replay-clause-says
+returns-in-Some-Replay-clause-says g c =
+    let w = c.in-Some-Replay in
+    let said = c.status_with_text-in-Some-Replay in
+    said_of (call_of g.F.Shelf c.args.words.now c.args.shelf.now c.args.shelf.now) c.in_ok-pivots.field-0
+    (requests.Replay w.field-0-0 w.field-0-1) said.result (cc (w.is, w.field-0-is)) c.in_ok-pivots.ensures
+    (usage_of said.result said.ensures.status said.ensures.text)

@@ -1,0 +1,15 @@
+use Rattle.std.proofs.Common.{List, ℕ, subst}
+use Rattle.std.specs.Io.KnownBytes.{Appends}
+use Rattle.koat_cli.specs.Calls.{call_of, put_of}
+use Rattle.koat_cli.proofs.Endings.{ended_whole}
+use Rattle.koat_cli.proofs.OneRequest.{ends_mean}
+use Rattle.koat_cli.proofs.top_call.run.Goals as goal
+
+pub returns-in-Ok-put-clause-means : goal.returns-in-Ok-put-clause-means
+returns-in-Ok-put-clause-means g c =
+    let call = call_of g.F.Shelf c.args.words.now c.args.shelf.now c.prepare.new.shelf in
+    let put = put_of g.S.Sink c.args.sink.now c.put.new.self in
+    let said = c.in-Ok.said in
+    ends_mean said.status call put
+    (ended_whole call put said.status said.text.items c.in-Ok.ensures.says c.in-Ok.ensures.fault
+    (subst (λ (text : List ℕ). Appends put.written_before put.written_after text) c.deref.ensures.value c.in-Ok-put.ensures.ok))

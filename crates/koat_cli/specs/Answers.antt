@@ -1,0 +1,55 @@
+-- What is answered of each request, a line each: with which status, and with which text.
+use Rattle.std.specs.Prelude.{List, ℕ, ⊤}
+use Rattle.its_writer.specs.Generated.{generated}
+use Rattle.asks.specs.Lines.{Words}
+use Rattle.asks.specs.Requests.{Request, Analyse, Prove, Check, Replay, Generate, Selfrun, Asks}
+use Rattle.koat_cli.specs.declared.status.Status.{Status}
+use Rattle.koat_cli.specs.Calls.{Seen, Call}
+use Rattle.koat_cli.specs.OnFiles.{OnProgram}
+use Rattle.koat_cli.specs.Outputs.{IsReportOf, IsGenerated, IsSummaryOf, IsUsage}
+
+-- what is answered of a request; `prove`, `check` and `replay` aren't there
+abbrev pub Answers : Seen → Request → Status → List ℕ → Type 0
+Answers seen (Analyse pivots file) status text = OnProgram seen file (λ program. IsReportOf program pivots) status text
+Answers seen (Prove pivots file) status text = IsUsage status text
+Answers seen (Check file proof) status text = IsUsage status text
+Answers seen (Replay file run) status text = IsUsage status text
+Answers seen (Generate n) status text = IsGenerated n status text
+Answers seen (Selfrun n) status text = IsSummaryOf (generated n) status text
+
+-- there is a command for this request
+abbrev pub IsThere : Request → Type 0
+IsThere (Analyse pivots file) = ⊤
+IsThere (Prove pivots file) = ⊥
+IsThere (Check file proof) = ⊥
+IsThere (Replay file run) = ⊥
+IsThere (Generate n) = ⊤
+IsThere (Selfrun n) = ⊤
+
+-- a file is fetched for this request
+abbrev pub FetchesFile : Request → Type 0
+FetchesFile (Analyse pivots file) = ⊤
+FetchesFile (Prove pivots file) = ⊥
+FetchesFile (Check file proof) = ⊥
+FetchesFile (Replay file run) = ⊥
+FetchesFile (Generate n) = ⊥
+FetchesFile (Selfrun n) = ⊥
+
+-- the words are no command line
+abbrev pub AsksForNothing : Words → Type 0
+AsksForNothing words = (request : Request) → ¬ (Asks words request)
+
+-- the words ask for nothing that is there
+abbrev pub AsksForNothingThere : Words → Type 0
+AsksForNothingThere words = (request : Request) → Asks words request → ¬ (IsThere request)
+
+-- no file is fetched for the words
+abbrev pub FetchesNothing : Words → Type 0
+FetchesNothing words = (request : Request) → Asks words request → ¬ (FetchesFile request)
+
+-- with this status and this text a call answers: the usage text to words that are no command line, and to others what
+-- is answered of their request
+pub data Says (call : Call) (status : Status) (text : List ℕ) : Type 0 where
+  ToNothing : AsksForNothing call.words → IsUsage status text → Says call status text
+  ToRequest : (request : Request) → Asks call.words request → Answers call.shelf request status text
+      → Says call status text

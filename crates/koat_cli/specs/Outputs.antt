@@ -1,0 +1,56 @@
+-- What the commands write, each with its status.
+use Rattle.std.specs.Prelude.{◌≡◌, ℕ, if◌then◌else◌, List, length}
+use Rattle.std.specs.List.{list_all}
+use Rattle.model.specs.Programs.{Program}
+use Rattle.its_reader.specs.its_text.Spelling.{SpellsWithin}
+use Rattle.its_writer.specs.Generated.{generated}
+use Rattle.its_writer.specs.Texts.{canonical_text}
+use Rattle.asks.specs.Requests.{default_pivots}
+use Rattle.outcome.specs.declared.outcome_of.Outcome.{Outcome}
+use Rattle.outcome.specs.Reports.{Report, is_timed}
+use Rattle.outcome.specs.Holding.{ReportHolds}
+use Rattle.outcome.specs.Views.{report_of}
+use Rattle.report_text.specs.States.{States}
+use Rattle.time_bounds.specs.Analysis.{IsAnalysis}
+use Rattle.time_bounds.specs.AnalysisLemmas.{HasLemmas}
+use Rattle.koat_cli.specs.declared.status.Status.{Status}
+use Rattle.koat_cli.specs.declared.status.Status.TheVariants.{Done, Unknown, Usage}
+use Rattle.koat_cli.specs.Figures.{text_of_figures}
+use Rattle.koat_cli.specs.Report.{usage_text}
+
+-- the report is that of the analysis of the program with so many pivots for each linear program; and every bound in it
+-- holds on every run of the program, from any integers and by any choice of rules
+pub record IsFound (program : Program) (pivots : ℕ) (report : Report) : Type 0 where
+  pub found : IsAnalysis program pivots report
+  pub true_on_all_runs : ReportHolds program report
+
+-- the status of a report: whether every rule has a time
+abbrev pub status_of : Report → Status
+status_of report = if list_all is_timed report.times then Done else Unknown
+
+-- `analyse`: the text states the report of the program's analysis
+pub record IsReportOf (program : Program) (pivots : ℕ) (status : Status) (text : List ℕ) : Type 0 where
+  pub report : Report
+  pub found : IsFound program pivots report
+  pub stated : States program text report
+  pub ends : status ≡ status_of report
+
+-- `generate`: the text is the canonical one of the generated program of the number, which it spells within the limits
+pub record IsGenerated (n : ℕ) (status : Status) (text : List ℕ) : Type 0 where
+  pub told : text ≡ canonical_text (generated n)
+  pub spelled : SpellsWithin text (generated n)
+  pub ends : status ≡ Done
+
+-- `selfrun`: the text has the figures of what the program's analysis with the usual number of pivots finds, its lemmas
+-- being those of this analysis
+pub record IsSummaryOf (program : Program) (status : Status) (text : List ℕ) : Type 0 where
+  pub outcome : Outcome
+  pub found : IsFound program default_pivots (report_of outcome)
+  pub lemmas : HasLemmas program default_pivots outcome
+  pub told : text ≡ text_of_figures program (report_of outcome) (length outcome.lemmas.items)
+  pub ends : status ≡ status_of (report_of outcome)
+
+-- what words get that ask for nothing that is there: the usage text
+pub record IsUsage (status : Status) (text : List ℕ) : Type 0 where
+  pub told : text ≡ usage_text
+  pub ends : status ≡ Usage

@@ -1,0 +1,51 @@
+-- What is answered to some words, and the figures of a report as text, as they were worked out by hand.
+use Rattle.std.specs.Prelude.{◌≡◌, ℕ, List, [], ◌∷◌, None, codes}
+use Rattle.model.specs.Programs.{Program}
+use Rattle.model.specs.Bounds.{Constant}
+use Rattle.its_writer.specs.Generated.{entry_rule, counting_rule, generated}
+use Rattle.its_writer.specs.Texts.{canonical_text}
+use Rattle.asks.specs.Lines.{Words}
+use Rattle.outcome.specs.Reports.{Timed, Untimed, TimeLarge, Sized, Unsized, SizeLarge, SizeUntimed, Report}
+use Rattle.koat_cli.specs.declared.status.Status.{Status}
+use Rattle.koat_cli.specs.declared.status.Status.TheVariants.{Done, Unknown, Usage, ReadFault}
+use Rattle.koat_cli.specs.Calls.{Seen}
+use Rattle.koat_cli.specs.Report.{usage_text}
+use Rattle.koat_cli.specs.Figures.{text_of_figures}
+use Rattle.koat_cli.specs.Answers.{Says}
+
+-- a program of two rules
+abbrev pub two_rules : Program
+two_rules = record { symbols = []; start = 0; start_names = []; rules = entry_rule ∷ counting_rule 1 ∷ [] }
+
+-- a report in which one of two rules has a time and one of three places a size, without a total
+abbrev pub one_of_each : Report
+one_of_each = record {
+  times = Timed (Constant 1) ∷ Untimed (TimeLarge 9) ∷ [];
+  total = None;
+  sizes = (Unsized (SizeUntimed 2) ∷ Sized (Constant 5) ∷ []) ∷ (Unsized (SizeLarge 9) ∷ []) ∷ [];
+}
+
+-- its figures, with four lemmas, as text
+pub record FiguresAreWorkedOut : Type 0 where
+  pub figures : text_of_figures two_rules one_of_each 4
+      ≡ codes "rules 2\ntimes 1 of 2\nsizes 1 of 3\ntotal: unknown\nlemmas 4\n"
+
+-- a call with these words that saw this of the shelf answers with this status and this text
+abbrev pub Answered : Words → Seen → Status → List ℕ → Type 0
+Answered words seen status text = Says (record { words = words; shelf = seen }) status text
+
+-- whatever a call sees of the shelf: `generate 0` is answered with `Done` and the program's text, neither with
+-- `Unknown` nor with the usage text; `prove p` with `Usage` alone; `analyse p` never with `Usage`; and `selfrun 0`
+-- never with a fault of reading
+pub record AnswersAreWorkedOut : Type 0 where
+  pub generate : (seen : Seen)
+      → Answered (codes "generate" ∷ codes "0" ∷ []) seen Done (canonical_text (generated 0))
+  pub generate_known : (seen : Seen) (text : List ℕ)
+      → ¬ (Answered (codes "generate" ∷ codes "0" ∷ []) seen Unknown text)
+  pub generate_its_text : (seen : Seen) (status : Status)
+      → ¬ (Answered (codes "generate" ∷ codes "0" ∷ []) seen status usage_text)
+  pub prove : (seen : Seen) → Answered (codes "prove" ∷ codes "p" ∷ []) seen Usage usage_text
+  pub prove_alone : (seen : Seen) (status : Status) (text : List ℕ)
+      → Answered (codes "prove" ∷ codes "p" ∷ []) seen status text → status ≡ Usage
+  pub analyse : (seen : Seen) (text : List ℕ) → ¬ (Answered (codes "analyse" ∷ codes "p" ∷ []) seen Usage text)
+  pub selfrun : (seen : Seen) (text : List ℕ) → ¬ (Answered (codes "selfrun" ∷ codes "0" ∷ []) seen ReadFault text)
