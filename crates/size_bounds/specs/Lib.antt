@@ -14,5 +14,7 @@ pub mod Growths
 pub mod BentArms
 -- what is answered of a loop
 pub mod LoopAnswers
+-- what is answered without the lemmas that it rests on
+pub mod Sizings
 -- the crates below, which callers name through this one
 pub use Rattle.round_relation.specs as round_relation

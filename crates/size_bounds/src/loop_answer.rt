@@ -101,8 +101,8 @@ fn is_untimed(t: &Table, rule: u32) -> bool
     }
 }
 
-// The first of these rules without a time.
-fn first_untimed(t: &Table, rules: &[u32]) -> Option<u32>
+/// The first of these rules without a time.
+pub(crate) fn first_untimed(t: &Table, rules: &[u32]) -> Option<u32>
     ensures { result ≡ first_unknown (table_of t.now).time rules.now }
 {
     for rule in rules {

@@ -35,7 +35,7 @@ use Rattle.time_bounds.specs.SizeWrites.{rows_of, placed}
 use Rattle.time_bounds.specs.Attempts.{AreAttempts, is_sized, HasPlaces}
 use Rattle.time_bounds.specs.SizeSaid.{said_stored, said_table, put_whys, AreThere}
 use Rattle.time_bounds.proofs.FactWrites.{row_long}
-use Rattle.time_bounds.proofs.RoundLaws.{rule_there}
+use Rattle.time_bounds.proofs.Rules.{rule_there}
 use Rattle.time_bounds.proofs.SizeReasons.{said_fair, listed_there, whys_long}
 use Rattle.time_bounds.proofs.SizeSteps.{long_at, row_of_rule, place_within}
 use Rattle.time_bounds.proofs.WholeRounds.{live_components}

@@ -9,15 +9,16 @@ ghost use Rattle.outcome.specs.Printing.{IsPrintableOutcome};
 ghost use Rattle.time_bounds.specs.Analysis.{IsAnalysis};
 ghost use Rattle.time_bounds.specs.AnalysisLemmas.{HasLemmas};
 
-use crate::beginning::first_table;
 use crate::candidates::candidates;
+use crate::context::context_of;
 use crate::fates::fates;
-use crate::first_lemmas::first_lemmas;
-use crate::questions::questions_of;
 use crate::reasons::{Said, said_of};
-use crate::rounds::{LastRound, rounds};
+use crate::rounds::{Kept, rounds};
 use crate::size_reasons::said_sizes;
+use crate::starting::first_finds;
+use crate::taking::take_all;
 use crate::totals::total;
+use bound_book::{Book, book_of_start, lemmas};
 use its_model::Program;
 use model::Memory;
 use outcome::Outcome;
@@ -38,17 +39,18 @@ pub fn analyse(alloc: Global, p: &Program, pivots: u32) -> Result<Outcome, Memor
     ensures printable { IfOk result (λ o. IsPrintableOutcome (length p.now.start_names.items) o) }
     ensures lemmas { IfOk result (λ o. HasLemmas (program_of p.now) pivots o) }
 {
-    let questions = questions_of(alloc, p, pivots)?;
-    let fates = fates(alloc, p, &questions)?;
-    let candidates = candidates(alloc, p, &questions, &fates)?;
-    let mut table = first_table(alloc, p, &fates)?;
-    let mut lemmas = first_lemmas(alloc, p, &fates, &questions.empties, &table)?;
-    let last = rounds(alloc, p, &questions, &candidates, &mut table, &mut lemmas)?;
-    let LastRound { tries, attempts } = last;
+    let cx = context_of(alloc, p, pivots)?;
+    let fates = fates(&cx)?;
+    let candidates = candidates(&cx, &fates)?;
+    let mut book = book_of_start(alloc, p)?;
+    take_all(&cx, &mut book, first_finds(&cx, &fates)?)?;
+    let Kept { asked, attempts } = rounds(&cx, &candidates, &mut book)?;
+    let Book { table, finds } = book;
     let mut sizes = said_sizes(alloc, &table, &candidates, &attempts)?;
     sizes.remove(0);
-    let Said { times, gaps } = said_of(alloc, p, &questions, &table, tries)?;
+    let Said { times, gaps } = said_of(&cx, &table, asked)?;
     let total = total(alloc, &times)?;
+    let lemmas = lemmas(alloc, &table, finds)?;
     Ok(Outcome {
         times,
         sizes,

@@ -1,0 +1,10 @@
+-- Rules and their numbers.
+use Rattle.std.proofs.Common.{◌≡◌, ℕ, suc, ◌<◌, length}
+use Rattle.model.specs.Programs.{Program}
+use Rattle.model.proofs.Membership.{slice_get-below}
+use Rattle.proof_tree.specs.proof_nodes.AcceptsPlain.{IsRule}
+pub use Rattle.bound_rounds.proofs.RuleNumbers.{rule_numbered as rule_there}
+
+-- a rule is one of as many as there are
+pub rule_below : (p : Program) (i : ℕ) → IsRule p (suc i) → i < length p.rules
+rule_below p i r = slice_get-below p.rules i r.rule r.numbered
