@@ -9,23 +9,25 @@ use Rattle.model.specs.Bounds.{Bound}
 use Rattle.model.proofs.Membership.{no_is_not_yes}
 use Rattle.bound_expr.specs.Views.{bound_of}
 use Rattle.proof_tree.specs.declared.answer.EmptyAnswer.{EmptyAnswer}
+use Rattle.proof_tree.specs.proof_nodes.Nodes.{Spot}
 use Rattle.proof_tree.specs.proof_setting.Setting.{setting_of}
 use Rattle.proof_tree.specs.Views.{rank_of, spot_of}
-use Rattle.rank_search.specs.rule_questions.ProgramQuestions.{places_of}
 use Rattle.rank_search.specs.rule_questions.RuleAnswers.{AreEmptyAnswers}
-use Rattle.bound_rounds.specs.Keys.{Bounds, is_untimed, lacks, rule_numbers}
+use Rattle.bound_rounds.specs.Keys.{Bounds, is_untimed, has_key, lacks, rule_numbers, time_key}
 use Rattle.bound_rounds.specs.Finds as plain
-use Rattle.bound_rounds.specs.Finds.{RankBy}
+use Rattle.bound_rounds.specs.Finds.{RankBy, bound_found}
 use Rattle.bound_rounds.specs.Answers as told
-use Rattle.bound_rounds.specs.Answers.{TimeOf, Lacks, is_open, AnsweredQuestion, TellsTime}
+use Rattle.bound_rounds.specs.Answers.{TimeOf, Lacks}
 use Rattle.bound_rounds.specs.Rounds.{Tries, TriesAll, Together}
+use Rattle.bound_rounds.proofs.FindLists.{found-here}
+use Rattle.bound_rounds.proofs.Keys.{has_key-first}
 use Rattle.time_bounds.specs.declared.asking.Asked.{Asked}
 use Rattle.time_bounds.specs.declared.trying.Tried.{Tried}
 use Rattle.time_bounds.specs.declared.trying.Tried.TheVariants.{Known, Found, Missing}
-use Rattle.time_bounds.specs.ProgramRules.{ranking_of}
 use Rattle.time_bounds.specs.ProgramSearches.{searches_of_program}
-use Rattle.time_bounds.specs.Questions.{IsAnswered, IsAsked, AreKept}
-use Rattle.time_bounds.specs.Tries.{IsMissing, IsTried, AreTried, find_in, finds_in, kept_in, IsAskedOver, AreAskedOver}
+use Rattle.time_bounds.specs.Questions.{AreKept}
+use Rattle.time_bounds.specs.Tries.{IsTried, AreTried, find_in, finds_in, kept_in, IsAskedOver, AreAskedOver}
+use Rattle.time_bounds.proofs.AnswerLaws.{missing_tells}
 
 -- one rule more
 pub finds_more : (k : ℕ) (tries : List Tried) (x : Tried)
@@ -37,24 +39,6 @@ finds_more k (y ∷ tries) x =
     ∙ ap (λ (fs : List plain.Find). find_in k y ++ fs)
     (ap (λ (n : ℕ). finds_in (suc k) tries ++ find_in n x) (let z : k + suc (length tries) ≡ suc k + length tries = omega arith in z)
     ∙ finds_more (suc k) tries x)
-
--- a question that was answered is one of the relation
-pub asked_of : (p : Program) (b : Bounds) (pivots : ℕ) (empties : List EmptyAnswer) (t : ℕ) (a : Asked) → AreEmptyAnswers p pivots empties
-    → IsAsked p b t a → IsAnswered p pivots empties t a → AnsweredQuestion (searches_of_program p pivots) (setting_of p) b t
-asked_of p b pivots empties t a answers asked answered = record {
-  set = a.set.items;
-  shut = places_of a.shut.items;
-  answer = ranking_of a.answer;
-  is_set = asked.set;
-  are_shut = asked.shut;
-  answered = (empties, answers, (a.answer, refl, answered.answer));
-}
-
--- why an answer gives no time is what is told of it
-pub missing_tells : (p : Program) (b : Bounds) (pivots : ℕ) (empties : List EmptyAnswer) (t : ℕ) (a : Asked) → AreEmptyAnswers p pivots empties
-    → (m : IsMissing p b pivots empties t a) → TellsTime (searches_of_program p pivots) (setting_of p) b t (Lacks m.why)
-missing_tells p b pivots empties t a answers m =
-    record { asked = asked_of p b pivots empties t a answers m.asked m.answered; tells = m.tells }
 
 -- a test alone
 or_false : (v : Bool) → (v || false) ≡ v
@@ -114,10 +98,15 @@ kept_asked p b later pivots empties k (None ∷ asked) h = kept_asked p b later 
 kept_asked p b later pivots empties k (Some a ∷ asked) h =
     (h.0.1.answered, kept_asked p b later pivots empties (suc k) asked h.1)
 
+-- the find of a time has the key of its rule
+own_time : (t : ℕ) (f : plain.Find) → f.keys ≡ time_key t ∷ [] → lacks (bound_found (f ∷ []) t 0) ≡ false
+own_time t f e =
+    ap lacks (found-here f [] t 0 (subst (λ (ks : List Spot). has_key ks t 0 ≡ true) (sym e) (has_key-first (time_key t) [])))
+
 -- what was tried of rules, by the questions that are kept, where what was found is known later
 pub asked_over : (p : Program) (b later : Bounds) (pivots : ℕ) (empties : List EmptyAnswer) (k : ℕ) (tries : List Tried)
     → ((t : ℕ) → is_untimed b t ≡ false → is_untimed later t ≡ false)
-    → ((i : ℕ) (t : ℕ) (x : Tried) → t ≡ k + i → slice_get tries i ≡ Some x → kept_in x ≡ None → is_untimed b t ≡ true
+    → ((i t : ℕ) (x : Tried) → t ≡ k + i → slice_get tries i ≡ Some x → lacks (bound_found (find_in t x) t 0) ≡ false
     → is_untimed later t ≡ false)
     → AreTried p b pivots empties k tries → AreAskedOver p b later pivots empties k (map kept_in tries)
 asked_over p b later pivots empties k [] grown found h = tt
@@ -127,8 +116,13 @@ asked_over p b later pivots empties k (x ∷ tries) grown found h = (
       (λ i t y e s. found (suc i) t y (omega (arith, e)) s) h.1,
 )
   where
-    one : (y : Tried) → (kept_in y ≡ None → is_untimed b k ≡ true → is_untimed later k ≡ false) → IsTried p b pivots empties k y
-        → IsAskedOver p b later pivots empties k (kept_in y)
+    one : (y : Tried) → (lacks (bound_found (find_in k y) k 0) ≡ false → is_untimed later k ≡ false)
+        → IsTried p b pivots empties k y → IsAskedOver p b later pivots empties k (kept_in y)
     one Known new t = grown k t
-    one (Found node needs bound) new t = new refl t.0
+    one (Found node needs bound) new t = new (own_time k (record {
+      keys = time_key k ∷ [];
+      node = RankBy (rank_of node);
+      needs = map spot_of needs.items;
+      bound = bound_of bound;
+    }) refl)
     one (Missing a) new t = t

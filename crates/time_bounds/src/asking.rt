@@ -2,6 +2,7 @@
 
 ghost use Rattle.std.specs.Prelude.{◌≡◌, ◌<◌, ◌≤◌, length, true, IfOk, IfSome, OnOk, Some, None, slice_index_or, false};
 ghost use Rattle.rank_search.specs.RankAnswers.{IsRuleSet, MayAllRun};
+ghost use Rattle.bound_book.specs.ByKey.{bounds_in};
 ghost use Rattle.time_bounds.specs.Parts.{AreParts};
 ghost use Rattle.time_bounds.specs.Questions.{AreUntimed, IsAnswered, IsAsked, IsReady, program_in};
 ghost use Rattle.time_bounds.specs.Questions.{IsSameQuestion, KnowsEmpty};
@@ -37,7 +38,7 @@ pub(crate) fn ask(
     requires parts { AreParts (program_in cx.now) table.now parts.old }
     requires empty { KnowsEmpty (program_in cx.now) table.now cx.now.empties.items }
     requires kept { IfSome before (λ a. IsAnswered (program_in cx.now) cx.now.pivots cx.now.empties.items rule a) }
-    ensures asked { IfOk result (λ a. IsAsked (program_in cx.now) table.now rule a) }
+    ensures asked { IfOk result (λ a. IsAsked (program_in cx.now) (bounds_in table.now) rule a) }
     ensures answered { IfOk result (λ a. IsAnswered (program_in cx.now) cx.now.pivots cx.now.empties.items rule a) }
     ensures parts { OnOk result (AreParts (program_in cx.now) table.now parts.new) }
 {

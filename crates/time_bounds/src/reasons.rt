@@ -41,6 +41,7 @@ pub(crate) fn said_of(
     asked: Vec<Option<Asked>>,
 ) -> Result<Said, Memory>
     requires ready { IsReady cx.now }
+    requires start { is_untimed (bounds_in table.now) 0 ≡ false }
     requires asked { AreAskedOver (program_in cx.now) (bounds_in table.now) (bounds_in table.now) cx.now.pivots
         cx.now.empties.items 1 asked.items }
     requires few { length asked.items < 2 ^ 31 }
@@ -72,6 +73,7 @@ fn said_by(
     gaps: &mut Vec<Gap>,
 ) -> Result<TimeEntry, Memory>
     requires ready { IsReady cx.now }
+    requires start { is_untimed (bounds_in table.now) 0 ≡ false }
     requires rule { (1 ≤ rule) × (rule ≤ length (program_in cx.now).rules) }
     requires asked { IsAskedOver (program_in cx.now) (bounds_in table.now) (bounds_in table.now) cx.now.pivots
         cx.now.empties.items rule question }
@@ -117,6 +119,7 @@ fn no_time(
     gaps: &mut Vec<Gap>,
 ) -> Result<TimeEntry, Memory>
     requires ready { IsReady cx.now }
+    requires start { is_untimed (bounds_in table.now) 0 ≡ false }
     requires rule { (1 ≤ rule) × (rule ≤ length (program_in cx.now).rules) }
     requires untimed { is_untimed (bounds_in table.now) rule ≡ true }
     requires missing { IsMissing (program_in cx.now) (bounds_in table.now) cx.now.pivots cx.now.empties.items rule

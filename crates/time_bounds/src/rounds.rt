@@ -10,7 +10,7 @@ use crate::asking::Asked;
 use crate::candidates::Candidate;
 use crate::context::Context;
 use crate::sizing::{Attempt, try_components};
-use crate::taking::{Parted, parted, take_all};
+use crate::taking::{Parted, part_all, take_all};
 use crate::trying::try_rules;
 use bound_book::Book;
 use model::Memory;
@@ -82,7 +82,8 @@ fn times_of_round(
     ensures book { OnOk result (IsBook (program_in cx.now) book.new.table book.new.finds.items) }
 {
     let tries = try_rules(cx, &book.table, before)?;
-    let Parted { asked, finds } = parted(cx.alloc, tries)?;
+    let parts = part_all(cx.alloc, tries)?;
+    let Parted { asked, finds } = parts;
     take_all(cx, book, finds)?;
     Ok(asked)
 }

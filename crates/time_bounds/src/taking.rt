@@ -44,7 +44,7 @@ pub(crate) struct Parted {
 }
 
 /// Parts what was tried of the rules.
-pub(crate) fn parted(alloc: Global, tries: Vec<Tried>) -> Result<Parted, Memory>
+pub(crate) fn part_all(alloc: Global, tries: Vec<Tried>) -> Result<Parted, Memory>
     requires { length tries.items < 2 ^ 31 }
     ensures asked { IfOk result (λ parts. parts.asked.items ≡ map kept_in tries.items) }
     ensures finds { IfOk result (λ parts. finds_of parts.finds.items ≡ finds_in 1 tries.items) }
