@@ -30,6 +30,7 @@ pub mod MadeFinds
 -- the finds before the first round
 pub mod StartLists
 pub mod FirstOrder
+pub mod FirstKeys
 -- finds that are taken one after the other
 pub mod OpenFinds
 pub mod TriedFinds
@@ -58,8 +59,21 @@ pub mod GrownChecks
 pub mod StandingAnswers
 pub mod SizeRounds
 pub mod MadeRounds
+-- what is said of sizes
+pub mod SizeReasons
+pub mod SaidSizes
+pub mod SaidRows
 -- entries carry the numbers of their lemmas
 pub mod CarriedTimes
+pub mod CarriedSizes
+-- what is found of a program is its analysis
+pub mod ReportEntries
+pub mod Analysed
+pub mod WholeAnalysis
+pub mod FoundLemmas
+-- what is found can be printed
+pub mod Printables
+pub mod PrintableOutcomes
 -- the lemmas of the crates below, which callers name through this one
 pub use Rattle.rank_search.proofs.rule_questions
 pub use Rattle.rank_search.proofs as rank_search

@@ -5,7 +5,7 @@ use Rattle.proof_tree.specs.proof_setting.Setting.{setting_of}
 use Rattle.bound_rounds.specs.Finds as plain
 use Rattle.bound_rounds.specs.Finds.{bounds_of}
 use Rattle.bound_rounds.specs.Laws.{missing}
-use Rattle.bound_rounds.specs.Rounds.{IsRound, IsMade, Made}
+use Rattle.bound_rounds.specs.Rounds.{IsRound, IsMade, IsLast, Made}
 use Rattle.bound_rounds.proofs.RoundsEnd.{round_ends}
 use Rattle.bound_book.specs.declared.find.Find.{Find}
 use Rattle.bound_book.specs.Views.{find_of, finds_of}
@@ -85,3 +85,13 @@ module _ (cx : Context) (cs : List Candidate) (old new : List Find) (kept : Kept
       by (inr none) =
           let found : length h.more ≡ 0 = ap (λ (fs : List plain.Find). length fs) none in
           absurd (more (omega (arith, count h, found)))
+
+-- finds over which a round finds nothing are the last
+pub round_closed : (cx : Context) (cs : List Candidate) (fs : List Find) (kept : Kept) → AreMade cx fs → IsRoundMade cx cs fs fs kept
+    → IsLast (searches_of_program (program_in cx) cx.pivots) (setting_of (program_in cx)) (finds_of fs)
+round_closed cx cs fs kept made h = record {
+  made = made;
+  closed =
+      subst (λ (more : List plain.Find). IsRound (searches_of_program (program_in cx) cx.pivots) (setting_of (program_in cx)) (finds_of fs) more)
+      (nothing_more cx cs fs fs kept h refl) h.round;
+}

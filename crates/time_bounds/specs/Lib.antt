@@ -36,3 +36,4 @@ pub mod PrintableLaws
 -- the crates below, which callers name through this one
 pub use Rattle.rank_search.specs.rule_questions
 pub use Rattle.rank_search.specs as rank_search
+pub use Rattle.bound_rounds.specs as bound_rounds

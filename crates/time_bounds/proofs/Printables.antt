@@ -1,0 +1,175 @@
+-- The bounds that are found of a program are tidy, over the start arguments alone.
+use Rattle.std.proofs.Common.{◌≡◌, ◌⊎◌, inl, inr, ℕ, zero, suc, ◌<◌, ◌≤◌, Bool, true, false, cond, List, [], ◌∷◌, ◌++◌}
+use Rattle.std.proofs.Common.{length, Option, Some, None, refl, sym, ◌∙◌, ap, subst, append_assoc, arith, All}
+use Rattle.std.specs.Prelude.{nat_lt}
+use Rattle.std.proofs.lemmas.List.{append-nil}
+use Rattle.model.specs.Programs.{Program, arity_of}
+use Rattle.model.specs.Bounds.{Bound, Constant, Input, SumOf, Parts, NoParts}
+use Rattle.its_model.specs.Valid.{IsValid}
+use Rattle.bound_expr.specs.Numbers.{IsTidyNumber, HasTidyNumbers, HaveTidyNumbers}
+use Rattle.bound_expr.specs.Numbers.{IsInputBelow, ReadsBelow, AllReadBelow}
+use Rattle.bound_expr.proofs.Nodes.{IsTidy-numbers}
+use Rattle.bound_table.specs.InForce.{rewritten}
+use Rattle.bound_table.proofs.TableInForce.{rewritten-tidy, rewritten-reads}
+use Rattle.proof_tree.specs.proof_nodes.Nodes.{Spot, Member, RankNode}
+use Rattle.proof_tree.specs.proof_nodes.Known.{Table}
+use Rattle.proof_tree.specs.proof_nodes.AcceptsRank.{HasRankShape, rank_time}
+use Rattle.proof_tree.specs.proof_nodes.AcceptsSizes.{HasMemberShape, spread_size, cycle_size}
+use Rattle.proof_tree.specs.proof_setting.Setting.{setting_of}
+use Rattle.proof_tree.proofs.proof_nodes.ComposedNumbers.{rank_time-each}
+use Rattle.proof_tree.proofs.proof_nodes.SizeNumbers.{spread-each, cycle-each}
+use Rattle.proof_tree.proofs.proof_setting.Tidying.{settings-tidying}
+use Rattle.bound_rounds.specs.Keys.{Bounds, has_key, over, size_by, start_bounds}
+use Rattle.bound_rounds.specs.Finds.{Node, EmptyBy, UnreachedBy, NeverBy, RankBy, SpreadBy, CycleBy, Find, bound_found, bounds_of}
+use Rattle.bound_rounds.specs.Finds.{first_of}
+use Rattle.bound_rounds.specs.Rounds.{IsMade}
+use Rattle.bound_rounds.specs.Standing.{composed_bound, AcceptsOver, StandAfter}
+use Rattle.bound_rounds.proofs.FindLists.{first_of-cases, bounds_of-append, bounds_of-kept}
+use Rattle.time_bounds.specs.ProgramSearches.{searches_of_program}
+use Rattle.time_bounds.specs.Totals.{known_parts, total_of}
+use Rattle.time_bounds.specs.PrintableLaws.{IsPrintableBound, ArePrintableBounds, ArePrintable, FoundBoundsArePrintable}
+use Rattle.time_bounds.proofs.MadeFinds.{all_stand}
+use Rattle.time_bounds.proofs.OneProgram.{program_searches_one}
+use Rattle.time_bounds.proofs.RightSizings.{program_searches_right}
+use Rattle.time_bounds.proofs.Sums.{first_known, total_is}
+use Rattle.model.proofs.Cases.{some_same as same_bound, missing_some as no_bound}
+
+-- a bound with tidy numbers over the first n inputs is printable once it is rewritten
+rewritten_printable : (n : ℕ) (b : Bound) → HasTidyNumbers b → ReadsBelow n b → IsPrintableBound n (rewritten b)
+rewritten_printable n b has reads = (rewritten-tidy b has, (rewritten-reads b).each n reads)
+
+module _ (p : Program) (valid : IsValid p) (n : ℕ) where
+  -- what a node composes over printable bounds is printable
+  module _ (b : Bounds) (good : ArePrintableBounds n b) where
+    sized : (t i : ℕ) (x : Bound) → size_by b t i ≡ Some x → IsPrintableBound n x
+    sized t zero x e = absurd (no_bound None x refl e)
+    sized t (suc i) x e = good.each t (suc i) x e
+
+    ranked_printable : (node : RankNode) → HasRankShape (setting_of p) node → IsPrintableBound n (rewritten (rank_time (setting_of p) node (over b)))
+    ranked_printable node shape =
+        rewritten_printable n (rank_time (setting_of p) node (over b))
+        (rank_time-each IsTidyNumber (λ c low. low) (λ bs. tt) (λ bs. tt) (setting_of p) node (over b) shape
+        (λ t x e. IsTidy-numbers x (good.each t 0 x e).0) (λ t i x e. IsTidy-numbers x (sized t i x e).0))
+        (rank_time-each (IsInputBelow n) (λ c low. tt) (λ bs. tt) (λ bs. tt) (setting_of p) node (over b) shape
+        (λ t x e. (good.each t 0 x e).1) (λ t i x e. (sized t i x e).1))
+
+    spread_printable : (m : Member) → HasMemberShape (setting_of p) m
+        → IsPrintableBound n (rewritten (spread_size (setting_of p) (over b) m))
+    spread_printable m shape =
+        rewritten_printable n (spread_size (setting_of p) (over b) m)
+        (spread-each IsTidyNumber (λ c low. low) (λ bs. tt) (λ bs. tt) (λ bs. tt) (λ c e low. low) (setting_of p)
+        (settings-tidying.each p valid).updates (over b).time (over b).size (λ t x e. IsTidy-numbers x (good.each t 0 x e).0)
+        (λ t i x e. IsTidy-numbers x (sized t i x e).0) m shape)
+        (spread-each (IsInputBelow n) (λ c low. tt) (λ bs. tt) (λ bs. tt) (λ bs. tt) (λ c e low. tt) (setting_of p)
+        (settings-tidying.each p valid).updates (over b).time (over b).size (λ t x e. (good.each t 0 x e).1)
+        (λ t i x e. (sized t i x e).1) m shape)
+
+    cycle_printable : (ms : List Member) → All (HasMemberShape (setting_of p)) ms
+        → IsPrintableBound n (rewritten (cycle_size (setting_of p) (over b) ms))
+    cycle_printable ms shapes =
+        rewritten_printable n (cycle_size (setting_of p) (over b) ms)
+        (cycle-each IsTidyNumber (λ c low. low) (λ bs. tt) (λ bs. tt) (λ bs. tt) (λ c e low. low) (setting_of p)
+        (settings-tidying.each p valid).updates (over b).time (over b).size (λ t x e. IsTidy-numbers x (good.each t 0 x e).0)
+        (λ t i x e. IsTidy-numbers x (sized t i x e).0) ms shapes)
+        (cycle-each (IsInputBelow n) (λ c low. tt) (λ bs. tt) (λ bs. tt) (λ bs. tt) (λ c e low. tt) (setting_of p)
+        (settings-tidying.each p valid).updates (over b).time (over b).size (λ t x e. (good.each t 0 x e).1)
+        (λ t i x e. (sized t i x e).1) ms shapes)
+
+    composed_printable : (node : Node) (needs : List Spot) → AcceptsOver (setting_of p) b node needs
+        → IsPrintableBound n (composed_bound (setting_of p) b node)
+    composed_printable (EmptyBy t m) needs ok = (omega arith, tt)
+    composed_printable (UnreachedBy t) needs ok = (omega arith, tt)
+    composed_printable (NeverBy t) needs ok = (omega arith, tt)
+    composed_printable (RankBy node) needs ok = ranked_printable node ok.shape
+    composed_printable (SpreadBy m) needs ok = spread_printable m ok.shape
+    composed_printable (CycleBy ms) needs ok = cycle_printable ms ok.shape.each
+
+  -- a find more, whose bound is printable
+  one_printable : (fs : List Find) (f : Find) → ArePrintableBounds n (bounds_of p fs) → IsPrintableBound n f.bound
+      → ArePrintableBounds n (bounds_of p (fs ++ f ∷ []))
+  one_printable fs f good own = record {
+    each = λ t i x e. go t i x (first_of-cases (bounds_of p fs t i) (bound_found (f ∷ []) t i) x (sym (bounds_of-append p fs (f ∷ []) t i) ∙ e));
+  }
+    where
+      here : (t i : ℕ) (x : Bound) (v : Bool) → has_key f.keys t i ≡ v → bound_found (f ∷ []) t i ≡ Some x → IsPrintableBound n x
+      here t i x true m e =
+          let found : Some f.bound ≡ Some x = rw m at e in subst (IsPrintableBound n) (same_bound f.bound x found) own
+      here t i x false m e = let found : None ≡ Some x = rw m at e in absurd (no_bound None x refl found)
+
+      go : (t i : ℕ) (x : Bound) → (bounds_of p fs t i ≡ Some x) ⊎ ((bounds_of p fs t i ≡ None) × (bound_found (f ∷ []) t i ≡ Some x))
+          → IsPrintableBound n x
+      go t i x (inl e) = good.each t i x e
+      go t i x (inr e) = here t i x (has_key f.keys t i) refl e.1
+
+  -- so with finds that stand after those with which all is printable, all is
+  stand_printable : (earlier fs : List Find) → ArePrintableBounds n (bounds_of p earlier) → StandAfter (setting_of p) earlier fs
+      → ArePrintableBounds n (bounds_of p (earlier ++ fs))
+  stand_printable earlier [] good h =
+      subst (λ (xs : List Find). ArePrintableBounds n (bounds_of p xs)) (sym (append-nil earlier)) good
+  stand_printable earlier (f ∷ fs) good h =
+      subst (λ (xs : List Find). ArePrintableBounds n (bounds_of p xs)) (append_assoc earlier (f ∷ []) fs)
+      (stand_printable (earlier ++ f ∷ []) fs (one_printable earlier f good own) h.1)
+    where
+      before : ArePrintableBounds n (bounds_of p h.0.before)
+      before = record {
+        each = λ t i x e. good.each t i x
+            (ap (λ (xs : List Find). bounds_of p xs t i) (sym h.0.begins.same) ∙ bounds_of-kept p h.0.before h.0.begins.between t i x e);
+      }
+
+      own : IsPrintableBound n f.bound
+      own =
+          subst (IsPrintableBound n) (sym h.0.stands.bound)
+          (composed_printable (bounds_of p h.0.before) before f.node f.needs h.0.stands.accepted)
+
+  -- what is known at first
+  first_printable : arity_of p p.start ≤ n → ArePrintableBounds n (bounds_of p [])
+  first_printable few = record { each = first }
+    where
+      inside : (j : ℕ) (x : Bound) (v : Bool) → nat_lt j (arity_of p p.start) ≡ v → bounds_of p [] 0 (suc j) ≡ Some x → IsPrintableBound n x
+      inside j x true m e =
+          let found : Some (Input j) ≡ Some x = rw m at e in
+          subst (IsPrintableBound n) (same_bound (Input j) x found) (tt, (let low : j < n = grind (arith, m, few) in low))
+      inside j x false m e = let found : None ≡ Some x = rw m at e in absurd (no_bound None x refl found)
+
+      first : (t i : ℕ) (x : Bound) → bounds_of p [] t i ≡ Some x → IsPrintableBound n x
+      first zero zero x e = subst (IsPrintableBound n) (same_bound (Constant 1) x e) (omega arith, tt)
+      first zero (suc j) x e = inside j x (nat_lt j (arity_of p p.start)) refl e
+      first (suc t) i x e = absurd (no_bound None x refl e)
+
+-- all that is known with the finds of a valid program
+pub finds_printable : (p : Program) (pivots : ℕ) (fs : List Find) → IsValid p
+    → IsMade (searches_of_program p pivots) (setting_of p) fs → ArePrintableBounds (length p.start_names) (bounds_of p fs)
+finds_printable p pivots fs valid made =
+    stand_printable p valid (length p.start_names) [] fs
+    (first_printable p valid (length p.start_names) (omega (arith, valid.start_places)))
+    (all_stand (searches_of_program p pivots) (setting_of p) (program_searches_right.each p pivots valid) (program_searches_one.each p pivots) fs
+    made).each
+
+-- the parts of a total
+parts_printable : (n : ℕ) (os : List (Option Bound)) (ps : Parts) → known_parts os ≡ Some ps → ArePrintable n os
+    → HaveTidyNumbers ps × AllReadBelow n ps
+parts_printable n [] ps e h =
+    let none : NoParts ≡ ps = cc in
+    subst (λ (qs : Parts). HaveTidyNumbers qs × AllReadBelow n qs) none (tt, tt)
+parts_printable n (None ∷ os) ps e h = absurd (no_parts ps e)
+  where
+    no_parts : (qs : Parts) → None ≡ Some qs → ⊥
+    no_parts qs x = cc
+parts_printable n (Some b ∷ os) ps e h =
+    let first = first_known (Some b) (known_parts os) ps e in
+    let rest = parts_printable n os first.1 first.3 h.1 in
+    let here : IsPrintableBound n first.0 = subst (IsPrintableBound n) (same_bound b first.0 first.2) h.0 in
+    subst (λ (qs : Parts). HaveTidyNumbers qs × AllReadBelow n qs) (sym first.4)
+    ((IsTidy-numbers first.0 here.0, rest.0), (here.1, rest.1))
+
+-- the total of printable times
+pub total_printable : (n : ℕ) (times : List (Option Bound)) (b : Bound) → ArePrintable n times → total_of times ≡ Some b
+    → IsPrintableBound n b
+total_printable n times b h e =
+    let total = total_is times b e in
+    let parts = parts_printable n times total.0 total.1 h in
+    subst (IsPrintableBound n) (sym total.2) (rewritten_printable n (SumOf total.0) (tt, parts.0) (tt, parts.1))
+
+-- the bounds that are found of a valid program, and their total, are tidy and over start arguments alone
+pub found_printable : FoundBoundsArePrintable
+found_printable = record { finds = finds_printable; totals = total_printable }
