@@ -20,8 +20,8 @@ use Rattle.proof_tree.specs.proof_nodes.Checks.{needed_times, straight_into, cyc
 use Rattle.proof_tree.proofs.proof_nodes.CheckLists.{passes_each}
 use Rattle.proof_tree.proofs.proof_nodes.SizeReasons.{passes-cycle}
 use Rattle.proof_tree.specs.proof_setting.Setting.{setting_of}
-use Rattle.round_relation.specs.Tables.{lacks}
-use Rattle.round_relation.specs.Uses.{Numbers}
+use Rattle.bound_rounds.specs.Keys.{lacks}
+use Rattle.size_bounds.specs.Uses.{Numbers}
 use Rattle.size_bounds.specs.declared.answer.SizeAnswer.{SizeAnswer}
 use Rattle.size_bounds.specs.declared.answer.SizeAnswer.TheVariants as answers
 use Rattle.size_bounds.specs.Needs.{first_missing}
