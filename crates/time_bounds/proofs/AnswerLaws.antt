@@ -49,7 +49,7 @@ pub found_told : (p : Program) (b : Bounds) (node : RankNode) (needs : List Spot
     → Fits x ≡ rewritten_within (time_of p node (over b).time (over b).size) → needs ≡ rank_needs p node
     → TellsRanking (setting_of p) b (Ranked node) (Found (RankBy node) needs x)
 found_told p b node needs x e same =
-    let h = (small-bounds.fits (time_of p node (over b).time (over b).size) x).0 (sym e) in (h.0, (refl, (same, h.1)))
+    let h = (small-bounds.fits (time_of p node (over b).time (over b).size) x).0 (sym e) in (h.0, refl, same, h.1)
 
 -- one that is too large gives none
 pub large_told : (p : Program) (b : Bounds) (node : RankNode) (n : ℕ)

@@ -1,9 +1,9 @@
 -- The finds before the first round, by fates, are those of the relation.
-use Rattle.std.proofs.Common.{◌≡◌, ◌↔◌, inl, inr, ℕ, zero, suc, ◌+◌, ◌<◌, Bool, true, false, not, cond, List, [], ◌∷◌, ◌++◌}
+use Rattle.std.proofs.Common.{◌≡◌, ◌↔◌, inl, inr, ℕ, zero, suc, ◌+◌, ◌<◌, Bool, true, false, not, List, [], ◌∷◌, ◌++◌}
 use Rattle.std.proofs.Common.{length, map, filter, Option, Some, refl, sym, ◌∙◌, ap, subst, arith}
 use Rattle.std.specs.Prelude.{slice_get, nat_lt}
 use Rattle.std.specs.List.{range_with_len}
-use Rattle.model.specs.Programs.{Program, Rule, rule_at, arity_of}
+use Rattle.model.specs.Programs.{Program, Rule, arity_of}
 use Rattle.model.specs.Paths.{target_in, target_of}
 use Rattle.model.proofs.Cases.{none_some, some_same}
 use Rattle.model.proofs.Membership.{no_is_not_yes, slice_get-below}
@@ -23,7 +23,7 @@ use Rattle.bound_rounds.specs.Components.{IsEmpty, IsDead}
 use Rattle.bound_rounds.specs.Beginning.{AreEmptyFinds, AreFirst, unreached_find, never_find, is_cut, is_dead, has_places}
 use Rattle.time_bounds.specs.declared.fates.Fate.{Fate}
 use Rattle.time_bounds.specs.declared.fates.Fate.TheVariants.{Empty, Unreached, Live}
-use Rattle.time_bounds.specs.Beginning.{empty_here, empty_finds, empty_key, empty_keys, unreached_here, unreached_finds}
+use Rattle.time_bounds.specs.Beginning.{empty_finds, empty_keys, unreached_finds}
 use Rattle.time_bounds.specs.Beginning.{never_here, never_finds, sized_find}
 use Rattle.time_bounds.specs.Fates.{says_empty, fate_at, is_empty_fate, is_dead_fate, AreFates}
 use Rattle.time_bounds.specs.ProgramSearches.{searches_of_program}

@@ -1,4 +1,5 @@
 -- the steps of a run are at most the sum of all times
+pub mod KnownTimes
 pub mod Sums
 -- the set of a rule, and its shut places
 pub mod SetLaws

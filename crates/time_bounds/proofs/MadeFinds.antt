@@ -1,5 +1,5 @@
 -- What rounds make stands, and the members of each component have one bound or none, where each question has one answer.
-use Rattle.std.proofs.Common.{◌≡◌, inl, inr, ℕ, List, [], ◌++◌, refl, sym, subst, All}
+use Rattle.std.proofs.Common.{◌≡◌, List, [], ◌++◌, sym, subst, All}
 use Rattle.std.proofs.lemmas.List.Elements.{All-append}
 use Rattle.proof_tree.specs.proof_nodes.Nodes.{Spot}
 use Rattle.proof_tree.specs.proof_nodes.Setting.{Setting}

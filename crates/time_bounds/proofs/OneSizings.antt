@@ -17,7 +17,7 @@ use Rattle.proof_tree.proofs.proof_nodes.SizeReasons.{spread-passes, cycle-passe
 use Rattle.outcome.specs.Reports.{NoSize}
 use Rattle.local_size.specs.LocalAnswers.{Local, HasBound}
 use Rattle.rvg_components.specs.Flows.{Locals, local_reads, value_flows, loops}
-use Rattle.bound_rounds.specs.Finds.{Node, SpreadBy, CycleBy}
+use Rattle.bound_rounds.specs.Finds.{Node}
 use Rattle.bound_rounds.specs.Searches as searches
 use Rattle.bound_rounds.specs.Searches.{NoBound, Sizing, SizedBy, Unsized}
 use Rattle.bound_rounds.specs.Right.{IsReasonFor}

@@ -1,17 +1,14 @@
 -- Finds whose keys are open one after the other.
-use Rattle.std.proofs.Common.{◌≡◌, ◌⊎◌, inl, inr, ℕ, zero, suc, ◌+◌, ◌-◌, ◌<◌, ◌≤◌, ◌^◌, List, [], ◌∷◌, ◌++◌, length, map, take}
-use Rattle.std.proofs.Common.{get_or, None, refl, sym, ◌∙◌, ap, subst, append_assoc, arith, All}
+use Rattle.std.proofs.Common.{◌≡◌, ◌⊎◌, ℕ, zero, suc, ◌+◌, ◌-◌, ◌<◌, ◌≤◌, ◌^◌, List, [], ◌∷◌, ◌++◌, length, map, take}
+use Rattle.std.proofs.Common.{get_or, refl, sym, ◌∙◌, ap, subst, append_assoc, arith, All}
 use Rattle.std.proofs.lemmas.List.{append-nil}
-use Rattle.std.proofs.lemmas.List.Elements.{All-nil, All-cons, All-head, All-tail}
+use Rattle.std.proofs.lemmas.List.Elements.{All-head, All-tail}
 use Rattle.model.specs.Programs.{Program}
-use Rattle.proof_tree.specs.proof_nodes.Nodes.{Spot}
 use Rattle.proof_tree.specs.proof_nodes.Setting.{Setting}
-use Rattle.bound_rounds.specs.Keys.{at_key, key, has_key}
 use Rattle.bound_rounds.specs.Finds as plain
 use Rattle.bound_rounds.specs.Standing.{StandAfter}
-use Rattle.bound_rounds.proofs.MissingBounds.{all-has_key}
 use Rattle.bound_book.specs.declared.find.Find.{Find}
-use Rattle.bound_book.specs.Books.{IsBook, IsKey, AreOpen}
+use Rattle.bound_book.specs.Books.{IsKey, AreOpen}
 use Rattle.bound_book.specs.Views.{find_of, finds_of}
 use Rattle.time_bounds.specs.Taking.{AreOpenAfter}
 

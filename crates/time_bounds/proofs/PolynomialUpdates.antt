@@ -24,9 +24,7 @@ pass-all test P h (x ∷ xs) all =
 
 -- a lesser number is told to be less
 less-told : (a b : ℕ) → a < b → nat_lt a b ≡ true
-less-told a zero l = absurd (omega (arith, l))
-less-told zero (suc b) l = refl
-less-told (suc a) (suc b) l = less-told a b (omega (arith, l))
+less-told a b l = grind (arith, l)
 
 -- a polynomial in left variables is told to be of them
 left-told : (left : ℕ) (q : Polynomial) → ReadsLeft left q → is_of_left left q ≡ true

@@ -1,5 +1,5 @@
 -- The bounds that are found of a program are tidy, over the start arguments alone.
-use Rattle.std.proofs.Common.{◌≡◌, ◌⊎◌, inl, inr, ℕ, zero, suc, ◌<◌, ◌≤◌, Bool, true, false, cond, List, [], ◌∷◌, ◌++◌}
+use Rattle.std.proofs.Common.{◌≡◌, ◌⊎◌, inl, inr, ℕ, zero, suc, ◌<◌, ◌≤◌, Bool, true, false, List, [], ◌∷◌, ◌++◌}
 use Rattle.std.proofs.Common.{length, Option, Some, None, refl, sym, ◌∙◌, ap, subst, append_assoc, arith, All}
 use Rattle.std.specs.Prelude.{nat_lt}
 use Rattle.std.proofs.lemmas.List.{append-nil}
@@ -12,16 +12,14 @@ use Rattle.bound_expr.proofs.Nodes.{IsTidy-numbers}
 use Rattle.bound_table.specs.InForce.{rewritten}
 use Rattle.bound_table.proofs.TableInForce.{rewritten-tidy, rewritten-reads}
 use Rattle.proof_tree.specs.proof_nodes.Nodes.{Spot, Member, RankNode}
-use Rattle.proof_tree.specs.proof_nodes.Known.{Table}
 use Rattle.proof_tree.specs.proof_nodes.AcceptsRank.{HasRankShape, rank_time}
 use Rattle.proof_tree.specs.proof_nodes.AcceptsSizes.{HasMemberShape, spread_size, cycle_size}
 use Rattle.proof_tree.specs.proof_setting.Setting.{setting_of}
 use Rattle.proof_tree.proofs.proof_nodes.ComposedNumbers.{rank_time-each}
 use Rattle.proof_tree.proofs.proof_nodes.SizeNumbers.{spread-each, cycle-each}
 use Rattle.proof_tree.proofs.proof_setting.Tidying.{settings-tidying}
-use Rattle.bound_rounds.specs.Keys.{Bounds, has_key, over, size_by, start_bounds}
+use Rattle.bound_rounds.specs.Keys.{Bounds, has_key, over, size_by}
 use Rattle.bound_rounds.specs.Finds.{Node, EmptyBy, UnreachedBy, NeverBy, RankBy, SpreadBy, CycleBy, Find, bound_found, bounds_of}
-use Rattle.bound_rounds.specs.Finds.{first_of}
 use Rattle.bound_rounds.specs.Rounds.{IsMade}
 use Rattle.bound_rounds.specs.Standing.{composed_bound, AcceptsOver, StandAfter}
 use Rattle.bound_rounds.proofs.FindLists.{first_of-cases, bounds_of-append, bounds_of-kept}

@@ -29,7 +29,7 @@ use Rattle.proof_tree.specs.declared.answer.Trip.{Trip}
 use Rattle.outcome.specs.Reports.{NoSize, SizeLoose, SizeTripped}
 use Rattle.rank_search.specs.rule_questions.EmptyAnswers.{IsEmptyAnswer}
 use Rattle.rank_search.specs.rule_questions.RuleAnswers.{trip_in}
-use Rattle.local_size.specs.Places.{local_forms, value_on}
+use Rattle.local_size.specs.Places.{is_polynomial_at, local_forms, value_on}
 use Rattle.local_size.specs.LocalAnswers.{Local, HasBound, IsLooseOn, HasTripped, IsOwnTrip, IsEmptyTrip}
 use Rattle.local_size.specs.LocalLaws.{IsSpotOf, LooseAnswersAreLoose}
 use Rattle.local_size.proofs.LooseAnswers.{loose-answers}
@@ -45,7 +45,7 @@ use Rattle.bound_rounds.specs.Right.{MovesTo, IsLooseAt, IsCause, IsFirstCause, 
 use Rattle.bound_rounds.specs.Right.{IsRightSizing, AreRight}
 use Rattle.bound_rounds.proofs.Cases.{some_same, none_some}
 use Rattle.time_bounds.specs.ProgramSearches.{searches_of_program}
-use Rattle.time_bounds.specs.ProgramSizes.{IsLocalOf, AreLocalsOf, AreMembers, loose_reason, trip_reason, or_else}
+use Rattle.time_bounds.specs.ProgramSizes.{IsLocalOf, AreLocalsOf, loose_reason, trip_reason, or_else}
 use Rattle.time_bounds.specs.ProgramSizes.{first_reason, lacks_arms, IsSpreadSizing, IsCycleSizing, IsSizingBy}
 use Rattle.time_bounds.specs.ProgramSizes.{IsSizingOf}
 use Rattle.time_bounds.specs.Reasons.{size_reason}

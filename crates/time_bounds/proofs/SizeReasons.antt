@@ -19,7 +19,7 @@ use Rattle.bound_rounds.specs.Components.{IsCovered, IsOneOf}
 use Rattle.bound_rounds.proofs.ReasonsExist.{open_by}
 use Rattle.bound_book.specs.declared.find.Find.{Find}
 use Rattle.bound_book.specs.Books.{IsBook}
-use Rattle.bound_book.specs.ByKey.{bounds_in, put_place, rows_of}
+use Rattle.bound_book.specs.ByKey.{put_place, rows_of}
 use Rattle.bound_book.specs.Views.{finds_of}
 use Rattle.size_bounds.specs.declared.table.Table.{Table}
 use Rattle.size_bounds.specs.Tables.{entry_at, row_at, bound_stored}
@@ -180,7 +180,7 @@ module _ (p : Program) (pivots : ℕ) (tab : Table) (finds : List Find) (book : 
               subst (λ (s : Size). IsSizeOf q p (finds_of finds) t (suc i) s) (sym g.value) record {
                 missing = missing t i (bounds_of p (finds_of finds) t (suc i)) refl g.none;
                 target = SizesOf (spots_in c);
-                asked = (map spots_in all, are_components p pivots all found, (listed, g.member));
+                asked = (map spots_in all, are_components p pivots all found, listed, g.member);
                 tells = record {
                   answer = searches.Unsized (size_reason why);
                   answered = subst (λ (w : NoSize). q.Sizes (bounds_of p (finds_of finds)) (spots_in c) (searches.Unsized (size_reason w)))

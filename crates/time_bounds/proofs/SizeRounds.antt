@@ -84,20 +84,14 @@ pub uniform_with : (p : Program) (pivots : ℕ) (cs : List Candidate) → AreCan
     → TriesAll (searches_of_program p pivots) (setting_of p) InTurn (earlier ++ times) (map SizesOf ds) sizes → (keys : List Spot)
     → IsOneOf (map spots_in cs) keys → AreUniform (bounds_of p ((earlier ++ times) ++ sizes)) keys
 uniform_with p pivots cs h earlier times sizes made timed ds within sized keys one =
-    uniform_bounds q (setting_of p) components live keys one ((earlier ++ times) ++ sizes)
+    uniform_bounds (searches_of_program p pivots) (setting_of p) (map spots_in cs) live keys one ((earlier ++ times) ++ sizes)
     (All-append (IsWhole keys) (earlier ++ times) sizes
     (All-append (IsWhole keys) earlier times
-    (made_whole q (setting_of p) components live
-    (λ es k. (program_searches_one.each p pivots).components es components k (are_components p pivots cs h)) earlier made keys one)
-    (times_whole q (setting_of p) components live keys one earlier (rule_numbers p) times timed))
-    (sizes_whole q (setting_of p) components live keys one (earlier ++ times) ds within sizes sized))
+    (made_whole (searches_of_program p pivots) (setting_of p) (map spots_in cs) live
+    (λ es k. (program_searches_one.each p pivots).components es (map spots_in cs) k (are_components p pivots cs h)) earlier made keys one)
+    (times_whole (searches_of_program p pivots) (setting_of p) (map spots_in cs) live keys one earlier (rule_numbers p) times timed))
+    (sizes_whole (searches_of_program p pivots) (setting_of p) (map spots_in cs) live keys one (earlier ++ times) ds within sizes sized))
   where
-    abbrev q : Searches
-    q = searches_of_program p pivots
-
-    abbrev components : List (List Spot)
-    components = map spots_in cs
-
     live : AreComponentsOf (searches_of_program p pivots) p (map spots_in cs)
     live = live_components p pivots cs h
 

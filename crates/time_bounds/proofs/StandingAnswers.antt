@@ -12,7 +12,7 @@ use Rattle.proof_tree.specs.proof_nodes.Reasons.{Reason}
 use Rattle.proof_tree.specs.proof_setting.Setting.{setting_of}
 use Rattle.proof_tree.specs.Views.{spot_of}
 use Rattle.rvg_components.specs.Flows.{Locals, loops}
-use Rattle.bound_rounds.specs.Keys.{Bounds, at_key, is_untimed, lacks, over}
+use Rattle.bound_rounds.specs.Keys.{Bounds, at_key, lacks, over}
 use Rattle.bound_rounds.specs.Finds as plain
 use Rattle.bound_rounds.specs.Searches.{Unsized}
 use Rattle.bound_rounds.specs.Answers.{are_open}
@@ -25,7 +25,7 @@ use Rattle.time_bounds.specs.declared.candidates.Candidate.{Candidate}
 use Rattle.time_bounds.specs.declared.sizing.Attempt.{Attempt}
 use Rattle.time_bounds.specs.declared.sizing.Attempt.TheVariants as attempts
 use Rattle.time_bounds.specs.Reasons.{size_reason}
-use Rattle.time_bounds.specs.Attempts.{why_by, IsAttempt, is_sized}
+use Rattle.time_bounds.specs.Attempts.{why_by, IsAttempt}
 use Rattle.time_bounds.specs.Candidates.{spots_in}
 use Rattle.time_bounds.specs.ProgramSizes.{IsSizingBy, IsSizingOf, lacks_arms}
 use Rattle.time_bounds.specs.Standing.{HasGrown, Stands, StandsAt, WasAttempt, WereAttempts, IsStanding}

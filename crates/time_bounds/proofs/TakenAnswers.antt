@@ -1,11 +1,10 @@
 -- What is made of a component that is tried.
-use Rattle.std.proofs.Common.{◌≡◌, ℕ, ◌||◌, Bool, true, false, List, [], ◌∷◌, ◌++◌, map, Option, None, All, refl, sym, ◌∙◌, ap, subst}
+use Rattle.std.proofs.Common.{◌≡◌, ℕ, ◌||◌, Bool, true, false, List, [], ◌∷◌, ◌++◌, map, Option, None, refl, sym, ◌∙◌, ap, subst}
 use Rattle.std.specs.Prelude.{Vec, IfOk, OnOk}
 use Rattle.std.specs.declared.alloc.Global.{Global}
 use Rattle.std.specs.declared.result.Result.{Result}
 use Rattle.std.specs.declared.result.Result.TheVariants.{Ok, Err}
 use Rattle.std.proofs.lemmas.List.{append-nil}
-use Rattle.model.specs.Bounds.{Bound}
 use Rattle.model.specs.Programs.{Program}
 use Rattle.model.proofs.Membership.{no_is_not_yes}
 use Rattle.bound_expr.specs.Views.{bound_of}
@@ -23,7 +22,7 @@ use Rattle.proof_tree.specs.Views.{spot_of, member_of}
 use Rattle.rvg_components.specs.Flows.{Locals, loops}
 use Rattle.bound_rounds.specs.Keys.{Bounds, at_key, has_key, lacks, over}
 use Rattle.bound_rounds.specs.Finds as plain
-use Rattle.bound_rounds.specs.Finds.{SpreadBy, CycleBy, bound_found, bounds_of}
+use Rattle.bound_rounds.specs.Finds.{SpreadBy, CycleBy, bounds_of}
 use Rattle.bound_rounds.specs.Needs.{needs_of}
 use Rattle.bound_rounds.specs.Standing.{composed_bound}
 use Rattle.bound_rounds.specs.Searches as searches
@@ -48,7 +47,7 @@ use Rattle.time_bounds.specs.Reasons.{size_reason}
 use Rattle.time_bounds.specs.Candidates.{spots_in, AreArms, HasAccepted, IsCandidate}
 use Rattle.time_bounds.specs.ProgramSizes.{AreMembers, IsSizingBy, IsSizingOf, lacks_arms}
 use Rattle.time_bounds.specs.ProgramSearches.{searches_of_program}
-use Rattle.time_bounds.specs.Attempts.{why_in, why_armless, attempt_by, finds_by, is_sized, node_in, LacksSize, IsAttempt}
+use Rattle.time_bounds.specs.Attempts.{why_in, why_armless, attempt_by, finds_by, LacksSize}
 use Rattle.time_bounds.specs.Attempts.{IsSizeStep}
 use Rattle.time_bounds.proofs.TimeRounds.{found_known}
 

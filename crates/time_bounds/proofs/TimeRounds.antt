@@ -8,7 +8,6 @@ use Rattle.model.specs.Bounds.{Bound, Constant}
 use Rattle.model.specs.Entries.{is_in}
 use Rattle.model.specs.Programs.{Program}
 use Rattle.model.proofs.Membership.{same_number, is_in-filter, slice_get-below}
-use Rattle.its_model.specs.Valid.{IsValid}
 use Rattle.proof_tree.specs.declared.answer.EmptyAnswer.{EmptyAnswer}
 use Rattle.proof_tree.specs.proof_nodes.AcceptsPlain.{IsRule}
 use Rattle.proof_tree.specs.proof_nodes.Nodes.{Spot}
@@ -16,13 +15,12 @@ use Rattle.proof_tree.specs.proof_setting.Setting.{setting_of}
 use Rattle.rank_search.specs.rule_questions.EmptyAnswers.{SaysEmpty}
 use Rattle.rank_search.specs.rule_questions.RuleAnswers.{AreEmptyAnswers, answer_for}
 use Rattle.size_bounds.specs.declared.table.Table.{Table}
-use Rattle.bound_rounds.specs.Keys.{Bounds, is_untimed, lacks, time_key, rule_numbers}
+use Rattle.bound_rounds.specs.Keys.{is_untimed, lacks, time_key, rule_numbers}
 use Rattle.bound_rounds.specs.Finds as plain
 use Rattle.bound_rounds.specs.Finds.{bounds_of, bound_found, first_of}
 use Rattle.bound_rounds.specs.Searches.{Searches}
 use Rattle.bound_rounds.specs.Answers as told
 use Rattle.bound_rounds.specs.Answers.{TimeOf, Answer, Lacks, finds_by}
-use Rattle.bound_rounds.specs.Beginning.{AreFirst}
 use Rattle.bound_rounds.specs.Components.{IsEmpty}
 use Rattle.bound_rounds.specs.Right.{AreRight}
 use Rattle.bound_rounds.specs.Rounds.{TriesAll, Together, IsMade, Begun, Made}
@@ -35,7 +33,7 @@ use Rattle.bound_book.specs.declared.find.Find.{Find}
 use Rattle.bound_book.specs.Books.{IsBook, IsKey}
 use Rattle.bound_book.specs.Views.{finds_of}
 use Rattle.time_bounds.specs.declared.trying.Tried.{Tried}
-use Rattle.time_bounds.specs.declared.trying.Tried.TheVariants.{Known, Found, Missing}
+use Rattle.time_bounds.specs.declared.trying.Tried.TheVariants.{Found}
 use Rattle.time_bounds.specs.ProgramSearches.{searches_of_program}
 use Rattle.time_bounds.specs.Questions.{IsTable}
 use Rattle.time_bounds.specs.Taking.{AreOpenAfter}

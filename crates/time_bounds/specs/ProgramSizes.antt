@@ -16,7 +16,7 @@ use Rattle.rank_search.specs.rule_questions.EmptyAnswers.{IsEmptyAnswer}
 use Rattle.local_size.specs.LocalAnswers.{Local, HasBound, IsLooseOn, HasTripped, IsLocal}
 use Rattle.rvg_components.specs.Flows.{Locals, loops}
 use Rattle.bound_rounds.specs.Keys.{IsPlace, key}
-use Rattle.bound_rounds.specs.Finds.{Node, SpreadBy, CycleBy}
+use Rattle.bound_rounds.specs.Finds.{SpreadBy, CycleBy}
 use Rattle.bound_rounds.specs.Searches.{Sizing, SizedBy, Unsized}
 use Rattle.bound_rounds.specs.Components.{IsDead}
 use Rattle.bound_rounds.specs.Right.{IsReasonFor}

@@ -1,19 +1,19 @@
 //! The components of places, with what the local answers of their members give once and for all.
 
-ghost use Rattle.std.specs.Prelude.{◌≡◌, ◌∷◌, [], ℕ, length, map, IfOk, Some, None, true, false};
+ghost use Rattle.std.specs.Prelude.{◌≡◌, ◌∷◌, [], length, map, IfOk, Some, None, true, false};
 ghost use Rattle.std.specs.List.{All};
 ghost use Rattle.std.specs.Option.{option_map};
 ghost use Rattle.outcome.specs.Views.{loose_of, size_of};
 ghost use Rattle.outcome.specs.Reports.{SizeTripped, Unsized};
 ghost use Rattle.proof_tree.specs.Views.{spot_of, member_of};
-ghost use Rattle.rvg_components.specs.Listing.{answer_lists, local_from, members_of as members_in};
+ghost use Rattle.rvg_components.specs.Listing.{answer_lists, local_from};
 ghost use Rattle.time_bounds.specs.ProgramSearches.{searches_of_program};
 ghost use Rattle.time_bounds.specs.ProgramSizes.{AreMembers, first_reason, loose_reason, trip_reason};
 ghost use Rattle.time_bounds.specs.ProgramSizes.{lacks_arms};
 ghost use Rattle.time_bounds.specs.Questions.{IsReady, program_in};
 ghost use Rattle.time_bounds.specs.Fates.{AreFates};
 ghost use Rattle.time_bounds.specs.Locals.{answer_in, AreAnswered};
-ghost use Rattle.time_bounds.specs.Candidates.{spots_in, is_bound, IsMember, IsLone, IsAnswered, AreArms, IsArmsOf};
+ghost use Rattle.time_bounds.specs.Candidates.{is_bound, IsMember, IsLone, IsAnswered, AreArms, IsArmsOf};
 ghost use Rattle.time_bounds.specs.Candidates.{IsArmed};
 ghost use Rattle.time_bounds.specs.Candidates.{AreArmed, AreCandidatesOf};
 

@@ -1,6 +1,6 @@
 //! How large the values at the places of live rules can be in one step.
 
-ghost use Rattle.std.specs.Prelude.{◌≡◌, ℕ, ◌+◌, ◌<◌, length, map, IfOk, Some};
+ghost use Rattle.std.specs.Prelude.{◌≡◌, ◌+◌, ◌<◌, length, map, IfOk, Some};
 ghost use Rattle.std.specs.Prelude.{slice_get};
 ghost use Rattle.guard_prep.specs.Views.{prepared_of};
 ghost use Rattle.proof_tree.specs.declared.answer.EmptyAnswer.{EmptyAnswer};

@@ -1,8 +1,7 @@
 //! The set of a rule without a time, and the places that a ranking function over it may not read.
 
-ghost use Rattle.std.specs.Prelude.{◌≡◌, ◌<◌, ◌≤◌, ◌-◌, ◌^◌, ◌++◌, length, map, filter, suc, IfOk, IfSome};
+ghost use Rattle.std.specs.Prelude.{◌≡◌, ◌<◌, ◌≤◌, ◌-◌, ◌^◌, ◌++◌, length, map, filter, IfOk, IfSome};
 ghost use Rattle.std.specs.Prelude.{OnOk, Some, None, replicate};
-ghost use Rattle.std.specs.List.{list_any, range_with_len};
 ghost use Rattle.model.specs.Paths.{target_of as target_of_rule, same_symbol};
 ghost use Rattle.its_model.specs.Valid.{IsValid};
 ghost use Rattle.its_model.specs.Views.{program_of};

@@ -1,7 +1,6 @@
 //! The sizes of a round: each component of which a place has no size is tried, with the sizes found so far.
 
 ghost use Rattle.std.specs.Prelude.{◌≡◌, ◌++◌, map, IfOk, IfSome, OnOk, true, false};
-ghost use Rattle.model.specs.Programs.{Program};
 ghost use Rattle.proof_tree.specs.Views.{spot_of};
 ghost use Rattle.rvg_components.specs.Flows.{Locals};
 ghost use Rattle.size_bounds.specs.Tables.{table_of};

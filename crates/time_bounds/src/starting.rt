@@ -3,7 +3,7 @@
 ghost use Rattle.std.specs.Prelude.{◌≡◌, ◌+◌, ◌<◌, ◌^◌, ◌∷◌, ◌++◌, [], length, map, IfOk, OnOk};
 ghost use Rattle.std.specs.List.{range_with_len};
 ghost use Rattle.proof_tree.specs.Views.{spot_of};
-ghost use Rattle.bound_rounds.specs.Keys.{key, time_key};
+ghost use Rattle.bound_rounds.specs.Keys.{key};
 ghost use Rattle.bound_rounds.specs.Beginning.{empty_find as empty_find_of, unreached_find as unreached_find_of};
 ghost use Rattle.bound_book.specs.Views.{find_of, finds_of};
 ghost use Rattle.time_bounds.specs.Questions.{IsReady, program_in};

@@ -1,7 +1,6 @@
 //! A round: each rule without a time is tried over what was known before.
 
-ghost use Rattle.std.specs.Prelude.{◌≡◌, ◌≤◌, length, IfOk, OnOk, IfSome, slice_index_or, false, true};
-ghost use Rattle.size_bounds.specs.Tables.{table_of};
+ghost use Rattle.std.specs.Prelude.{◌≡◌, ◌≤◌, length, IfOk, OnOk, IfSome, true};
 ghost use Rattle.bound_rounds.specs.Keys.{is_untimed};
 ghost use Rattle.bound_book.specs.ByKey.{bounds_in};
 ghost use Rattle.time_bounds.specs.Parts.{AreParts};

@@ -7,4 +7,4 @@ use Rattle.size_bounds.proofs.sized.with_times.Given as goal
 abbrev pub invariant-loop-rule : goal.invariant-loop-rule
 invariant-loop-rule l =
     map spot_of l.needs.items ++ map time_spot (drop l.rule-index l.rules)
-    ≡ map spot_of l.initial.needed.items ++ map time_spot l.rules
+    ≡ map spot_of l.initial.needs.items ++ map time_spot l.rules

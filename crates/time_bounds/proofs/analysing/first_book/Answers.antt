@@ -3,7 +3,7 @@ use Rattle.std.proofs.lemmas.List.{length-map}
 use Rattle.its_model.specs.Views.{rule_of}
 use Rattle.proof_tree.specs.proof_setting.Setting.{setting_of}
 use Rattle.bound_rounds.specs.Finds as plain
-use Rattle.bound_rounds.specs.Rounds.{IsMade, Begun}
+use Rattle.bound_rounds.specs.Rounds.{Begun}
 use Rattle.bound_rounds.proofs.FirstFindsStand.{first_stand}
 use Rattle.bound_book.specs.declared.find.Find.{Find}
 use Rattle.bound_book.specs.Views.{finds_of}

@@ -1,4 +1,4 @@
-use Rattle.std.proofs.Common.{ℕ, ◌+◌, ◌∙◌, ap, List, ◌++◌, map, get_or}
+use Rattle.std.proofs.Common.{◌+◌, ◌∙◌, ap, List, ◌++◌, map, get_or}
 use Rattle.std.specs.Prelude.{pos}
 use Rattle.proof_tree.specs.proof_nodes.Nodes.{Spot}
 use Rattle.proof_tree.specs.Views.{spot_of}

@@ -1,4 +1,4 @@
-use Rattle.std.proofs.Common.{ℕ, ◌∙◌, ap, sym, List, ◌++◌, map, take, get_or}
+use Rattle.std.proofs.Common.{◌∙◌, ap, sym, List, ◌++◌, take, get_or}
 use Rattle.std.proofs.lemmas.List.{take_more}
 use Rattle.its_model.specs.Views.{program_of}
 use Rattle.proof_tree.specs.proof_nodes.Nodes.{Spot}

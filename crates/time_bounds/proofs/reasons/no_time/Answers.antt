@@ -37,8 +37,8 @@ returns-in-Large-clause-said c =
     let b = bounds_in c.args.table.now in
     let node = rank_of c.in-Ranked.node in
     let m = c.requires.missing in
-    let large = subst (λ (x : Table). answer_of c.in_ok-rank_time.field-0 ≡ rewritten_within (time_of p node x.time x.size))
-    (table_over c.args.table.now) c.in_ok-rank_time.ensures in (
+    let large = subst (λ (x : Table). answer_of c.in_ok-nodes-in-Ranked.field-0 ≡ rewritten_within (time_of p node x.time x.size))
+    (table_over c.args.table.now) c.in_ok-nodes-in-Ranked.ensures in (
       untimed_none b c.args.rule c.requires.untimed,
       told_time p b c.args.cx.now.pivots c.args.cx.now.empties.items c.args.rule c.args.asked (Lacks (TooLarge c.in-Large.nodes))
           c.requires.ready.empties m.asked m.answered
@@ -89,8 +89,8 @@ returns-clause-said c =
 pub unreachable-requires : goal.unreachable-requires
 unreachable-requires c =
     let p = program_in c.args.cx.now in
-    let fits = subst (λ (x : Table). answer_of c.in_ok-rank_time.field-0 ≡ rewritten_within (time_of p (rank_of c.in-Ranked.node) x.time x.size))
-    (table_over c.args.table.now) c.in_ok-rank_time.ensures in
+    let fits = subst (λ (x : Table). answer_of c.in_ok-nodes-in-Ranked.field-0 ≡ rewritten_within (time_of p (rank_of c.in-Ranked.node) x.time x.size))
+    (table_over c.args.table.now) c.in_ok-nodes-in-Ranked.ensures in
     missing_unfit p (bounds_in c.args.table.now) c.args.cx.now.pivots c.args.cx.now.empties.items c.args.rule c.args.asked c.in-Ranked.node
     (bound_of c.in-Rewritten.field-0) c.requires.missing c.in-Ranked.is (sym (ap answer_of c.in-Rewritten.is) ∙ fits)
 

@@ -11,8 +11,8 @@ use Rattle.time_bounds.proofs.MadeRounds.{round_made, round_kept, same_finds, fe
 use Rattle.time_bounds.proofs.StandingAnswers.{were-none}
 use Rattle.time_bounds.proofs.rounds.rounds.Goals as goal
 
-pub loop-init : goal.loop-init
-loop-init c =
+pub loop-kept-init : goal.loop-kept-init
+loop-kept-init c =
     let cx = c.args.cx.now in
     let b = known_with cx c.args.book.now.finds.items in
     let nothing : Option Asked = None in
@@ -34,32 +34,32 @@ loop-init c =
       book = c.requires.book;
     }
 
-pub loop-smaller : goal.loop-smaller
-loop-smaller c =
-    fewer_missing c.args.cx.now c.args.candidates.now c.loop.book.finds.items c.next_round.new.book.finds.items c.in_ok-next_round.field-0
+pub loop-kept-smaller : goal.loop-kept-smaller
+loop-kept-smaller c =
+    fewer_missing c.args.cx.now c.args.candidates.now c.loop-kept.book.finds.items c.next_round.new.book.finds.items c.in_ok-next_round.field-0
     c.in_ok-next_round.ensures.round
-    (λ e. c.if-len-before.false (let same : length c.next_round.new.book.finds.items ≡ length c.loop.book.finds.items = e in
-    omega (arith, same, c.len-in-loop.ensures, c.len-in-loop-2.ensures, c.loop.book.finds.ok.0, c.next_round.new.book.finds.ok.0)))
+    (λ e. c.if-len-before.false (let same : length c.next_round.new.book.finds.items ≡ length c.loop-kept.book.finds.items = e in
+    omega (arith, same, c.len-in-loop-kept.ensures, c.len-in-loop-kept-2.ensures, c.loop-kept.book.finds.ok.0, c.next_round.new.book.finds.ok.0)))
 
-pub loop-preserved : goal.loop-preserved
-loop-preserved c = record {
+pub loop-kept-preserved : goal.loop-kept-preserved
+loop-kept-preserved c = record {
   made =
-      round_made c.args.cx.now c.args.candidates.now c.loop.book.finds.items c.next_round.new.book.finds.items c.in_ok-next_round.field-0
-      c.loop.invariant.made c.in_ok-next_round.ensures.round;
+      round_made c.args.cx.now c.args.candidates.now c.loop-kept.book.finds.items c.next_round.new.book.finds.items c.in_ok-next_round.field-0
+      c.loop-kept.invariant.made c.in_ok-next_round.ensures.round;
   kept =
-      round_kept c.args.cx.now c.args.candidates.now c.loop.book.finds.items c.next_round.new.book.finds.items c.in_ok-next_round.field-0
+      round_kept c.args.cx.now c.args.candidates.now c.loop-kept.book.finds.items c.next_round.new.book.finds.items c.in_ok-next_round.field-0
       c.in_ok-next_round.ensures.round;
   book = c.in_ok-next_round.ensures.book;
 }
 
 pub returns-then-len-before-clause-made : goal.returns-then-len-before-clause-made
 returns-then-len-before-clause-made c =
-    round_made c.args.cx.now c.args.candidates.now c.loop.book.finds.items c.next_round.new.book.finds.items c.in_ok-next_round.field-0
-    c.loop.invariant.made c.in_ok-next_round.ensures.round
+    round_made c.args.cx.now c.args.candidates.now c.loop-kept.book.finds.items c.next_round.new.book.finds.items c.in_ok-next_round.field-0
+    c.loop-kept.invariant.made c.in_ok-next_round.ensures.round
 
 pub returns-then-len-before-clause-last : goal.returns-then-len-before-clause-last
 returns-then-len-before-clause-last c =
-    let same : length c.next_round.new.book.finds.items ≡ length c.loop.book.finds.items =
-    omega (arith, c.if-len-before.true, c.len-in-loop.ensures, c.len-in-loop-2.ensures, c.loop.book.finds.ok.0, c.next_round.new.book.finds.ok.0) in
-    same_finds c.args.cx.now c.args.candidates.now c.loop.book.finds.items c.next_round.new.book.finds.items c.in_ok-next_round.field-0
+    let same : length c.next_round.new.book.finds.items ≡ length c.loop-kept.book.finds.items =
+    omega (arith, c.if-len-before.true, c.len-in-loop-kept.ensures, c.len-in-loop-kept-2.ensures, c.loop-kept.book.finds.ok.0, c.next_round.new.book.finds.ok.0) in
+    same_finds c.args.cx.now c.args.candidates.now c.loop-kept.book.finds.items c.next_round.new.book.finds.items c.in_ok-next_round.field-0
     c.in_ok-next_round.ensures.round same

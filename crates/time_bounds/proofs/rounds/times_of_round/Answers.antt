@@ -1,11 +1,8 @@
-use Rattle.std.proofs.Common.{◌≡◌, ℕ, ◌+◌, ◌<◌, ◌^◌, List, ◌++◌, length, map, Option, sym, ◌∙◌, ap, subst, arith}
+use Rattle.std.proofs.Common.{◌≡◌, ◌+◌, ◌<◌, ◌^◌, List, ◌++◌, length, map, Option, sym, ◌∙◌, ap, subst, arith}
 use Rattle.std.proofs.lemmas.List.{length-map}
 use Rattle.its_model.specs.Views.{rule_of}
-use Rattle.proof_tree.specs.proof_setting.Setting.{setting_of}
-use Rattle.bound_rounds.specs.Answers.{TimeOf}
 use Rattle.bound_rounds.specs.Finds as plain
-use Rattle.bound_rounds.specs.Keys.{Bounds, rule_numbers}
-use Rattle.bound_rounds.specs.Rounds.{TriesAll, Together}
+use Rattle.bound_rounds.specs.Keys.{Bounds}
 use Rattle.bound_book.specs.Views.{finds_of}
 use Rattle.time_bounds.specs.declared.asking.Asked.{Asked}
 use Rattle.time_bounds.specs.ProgramSearches.{searches_of_program}

@@ -15,31 +15,33 @@ use Rattle.time_bounds.specs.Questions.{program_in}
 use Rattle.time_bounds.proofs.sizing.take.Goals as goal
 
 pub take-requires : goal.take-requires
-take-requires c =
-    room_for (program_in c.args.cx.now) c.args.book.now.table c.args.book.now.finds.items (spots_in c.args.candidate.now) c.requires.book
-    c.requires.open
+take-requires c = record {
+  few =
+      room_for (program_in c.args.cx.now) c.args.book.now.table c.args.book.now.finds.items (spots_in c.args.candidate.now) c.requires.book
+      c.requires.open;
+}
 
-pub returns-in_ok-take-clause-attempt : goal.returns-in_ok-take-clause-attempt
-returns-in_ok-take-clause-attempt c = ap attempt_by (sym c.in-Found.is)
+pub returns-in_ok-node-in-Found-clause-attempt : goal.returns-in_ok-node-in-Found-clause-attempt
+returns-in_ok-node-in-Found-clause-attempt c = ap attempt_by (sym c.in-Found.is)
 
-pub returns-in_ok-take-clause-finds : goal.returns-in_ok-take-clause-finds
-returns-in_ok-take-clause-finds c =
+pub returns-in_ok-node-in-Found-clause-finds : goal.returns-in_ok-node-in-Found-clause-finds
+returns-in_ok-node-in-Found-clause-finds c =
     let cand = c.args.candidate.now in
     let old = finds_of c.args.book.now.finds.items in
-    c.in_ok-take.ensures.finds
+    c.in_ok-take-in-Found.ensures.finds
     ∙ ((λ i. old ++ record {
-      keys = map spot_of ((c.in_ok-spots.ensures ∙ c.deref.ensures.value) i);
-      node = c.in_ok-node.ensures i;
+      keys = map spot_of ((c.in_ok-spots-in-Found.ensures ∙ c.deref.ensures.value) i);
+      node = c.in_ok-node-in-Found.ensures i;
       needs = map spot_of c.in-Found.needs.items;
       bound = bound_of c.in-Found.bound;
     } ∷ [])
     ∙ ap (λ (x : Sizing). old ++ finds_by (spots_in cand) (node_in cand.arms) x) (sym c.in-Found.is))
 
-pub returns-in_ok-take-clause-book : goal.returns-in_ok-take-clause-book
-returns-in_ok-take-clause-book c =
-    c.in_ok-take.ensures.book (program_in c.args.cx.now) c.requires.book
+pub returns-in_ok-node-in-Found-clause-book : goal.returns-in_ok-node-in-Found-clause-book
+returns-in_ok-node-in-Found-clause-book c =
+    c.in_ok-take-in-Found.ensures.book (program_in c.args.cx.now) c.requires.book
     (subst (λ (ss : List Spot). AreOpen (program_in c.args.cx.now) (finds_of c.args.book.now.finds.items) (map spot_of ss))
-    (sym (c.in_ok-spots.ensures ∙ c.deref.ensures.value)) c.requires.open)
+    (sym (c.in_ok-spots-in-Found.ensures ∙ c.deref.ensures.value)) c.requires.open)
 
 pub returns-in-Missing-clause-attempt : goal.returns-in-Missing-clause-attempt
 returns-in-Missing-clause-attempt c = ap attempt_by (sym c.in-Missing.is)

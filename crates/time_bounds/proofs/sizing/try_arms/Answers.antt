@@ -1,4 +1,4 @@
-use Rattle.std.proofs.Common.{◌≡◌, List, ◌++◌, refl, sym, ◌∙◌, ap, subst, map}
+use Rattle.std.proofs.Common.{◌≡◌, List, ◌++◌, sym, ◌∙◌, ap, subst, map}
 use Rattle.guard_prep.specs.declared.rule_rows.RuleRows.{RuleRows}
 use Rattle.proof_tree.specs.declared.arm.Member.{Member}
 use Rattle.proof_tree.specs.proof_nodes.Known.{Table}
@@ -8,7 +8,6 @@ use Rattle.size_bounds.specs.SizeAnswers.{IsMemberOfProgram, AreMembersOfProgram
 use Rattle.size_bounds.specs.Sizings.{IsSpreadSizing, IsCycleSizing}
 use Rattle.bound_rounds.specs.Finds as plain
 use Rattle.bound_book.specs.Views.{finds_of}
-use Rattle.time_bounds.specs.declared.candidates.Arms.{Arms}
 use Rattle.time_bounds.specs.Attempts.{IsSizeStep, has_arms, finds_by, node_in}
 use Rattle.time_bounds.specs.Candidates.{spots_in}
 use Rattle.time_bounds.specs.Questions.{program_in}

@@ -1,7 +1,5 @@
-use Rattle.std.proofs.Common.{◌≡◌, ℕ, ◌+◌, ◌<◌, List, [], ◌∷◌, ◌++◌, length, map, Option, refl, sym, ◌∙◌, ap, arith}
+use Rattle.std.proofs.Common.{◌≡◌, ℕ, ◌+◌, ◌<◌, List, [], ◌∷◌, ◌++◌, length, map, Option, sym, ◌∙◌, ap, arith}
 use Rattle.std.proofs.lemmas.List.{length-map, map-append}
-use Rattle.std.proofs.lemmas.Iterator.Adapters.{YieldsList-from_vec}
-use Rattle.std.proofs.lemmas.Iterator.Consumers.{YieldsList-turn}
 use Rattle.bound_rounds.specs.Finds as plain
 use Rattle.bound_book.specs.Views.{finds_of}
 use Rattle.time_bounds.specs.declared.asking.Asked.{Asked}
@@ -14,10 +12,10 @@ loop-tried-init c = record { kept = c.new-asked.ensures.items; finds = ap finds_
 
 pub loop-tried-preserved : goal.loop-tried-preserved
 loop-tried-preserved c =
-    let number : c.len-rule.result + 1 ≡ 1 + length c.loop-tried.yielded =
+    let number : c.len.result + 1 ≡ 1 + length c.loop-tried.yielded =
     omega (
       arith,
-      c.len-rule.ensures,
+      c.len.ensures,
       c.loop-tried.asked.ok.0,
       ap (λ (os : List (Option Asked)). length os) c.loop-tried.invariant.kept,
       length-map c.loop-tried.yielded kept_in,
@@ -30,7 +28,7 @@ loop-tried-preserved c =
           ∙ sym (map-append kept_in c.loop-tried.yielded (c.in-Some.tried ∷ []))));
       finds =
           c.in_ok-question.ensures.finds
-          ∙ (ap (λ (fs : List plain.Find). fs ++ find_in (c.len-rule.result + 1) c.in-Some.tried) c.loop-tried.invariant.finds
+          ∙ (ap (λ (fs : List plain.Find). fs ++ find_in (c.len.result + 1) c.in-Some.tried) c.loop-tried.invariant.finds
           ∙ (ap (λ (n : ℕ). finds_in 1 c.loop-tried.yielded ++ find_in n c.in-Some.tried) number
           ∙ finds_more 1 c.loop-tried.yielded c.in-Some.tried));
     }

@@ -1,4 +1,4 @@
-use Rattle.std.proofs.Common.{◌≡◌, ℕ, ◌+◌, ◌<◌, ◌-◌, ◌^◌, List, [], ◌∷◌, ◌++◌, length, map, take, get_or, refl, sym, ◌∙◌, ap}
+use Rattle.std.proofs.Common.{◌≡◌, ◌+◌, ◌<◌, ◌-◌, ◌^◌, List, [], ◌∷◌, ◌++◌, sym, ◌∙◌, ap}
 use Rattle.std.proofs.Common.{append_assoc}
 use Rattle.std.proofs.lemmas.List.{append-nil, map-append}
 use Rattle.std.proofs.lemmas.Iterator.Adapters.{YieldsList-from_vec}
@@ -26,9 +26,12 @@ take-requires c =
     c.in-Some.find c.in-Some.is c.next.ensures.steps in
     let so_far = sym (map-same c.loop-find.yielded)
     ∙ YieldsList-so_far road c.loop-find.yielded c.loop-find.find-iterator c.loop-find.yielded_by in
-    room_for p c.loop-find.book.table c.loop-find.book.finds.items (find_of c.in-Some.find).keys c.loop-find.invariant.book
-    (open_read p (finds_of c.args.book.now.finds.items) (finds_of c.loop-find.book.finds.items) c.args.finds.items c.loop-find.yielded
-    c.in-Some.find c.requires.open c.loop-find.invariant.finds so_far turn.0 turn.1)
+    record {
+      few =
+          room_for p c.loop-find.book.table c.loop-find.book.finds.items (find_of c.in-Some.find).keys c.loop-find.invariant.book
+          (open_read p (finds_of c.args.book.now.finds.items) (finds_of c.loop-find.book.finds.items) c.args.finds.items c.loop-find.yielded
+          c.in-Some.find c.requires.open c.loop-find.invariant.finds so_far turn.0 turn.1);
+    }
 
 pub loop-find-preserved : goal.loop-find-preserved
 loop-find-preserved c =

@@ -9,7 +9,7 @@ use Rattle.proof_tree.specs.Views.{rank_of, spot_of}
 use Rattle.rank_search.specs.declared.answer.RankAnswer.{RankAnswer}
 use Rattle.bound_rounds.specs.Finds.{RankBy}
 use Rattle.bound_rounds.specs.Searches.{NoFunction, Tripped, TooLarge}
-use Rattle.bound_rounds.specs.Answers.{Answer, Found, Lacks, TellsRanking}
+use Rattle.bound_rounds.specs.Answers.{Answer, Found, TellsRanking}
 use Rattle.bound_book.specs.ByKey.{bounds_in}
 use Rattle.time_bounds.specs.ProgramRules.{ranking_of}
 use Rattle.time_bounds.specs.Questions.{HasShape, program_in}
@@ -20,20 +20,20 @@ use Rattle.time_bounds.proofs.trying.try_answer.Goals as goal
 pub rank_needs-requires-clause-few : goal.rank_needs-requires-clause-few
 rank_needs-requires-clause-few c = (subst HasShape c.in-Ranked.is c.requires.answered.shape).1
 
-pub returns-in_ok-needs : goal.returns-in_ok-needs
-returns-in_ok-needs c =
+pub returns-in_ok-needs-in-Rewritten : goal.returns-in_ok-needs-in-Rewritten
+returns-in_ok-needs-in-Rewritten c =
     let p = program_in c.args.cx.now in
     let b = bounds_in c.args.table.now in
     let node = rank_of c.in-Ranked.node in
-    let needs = map spot_of c.in_ok-needs.needs.items in
+    let needs = map spot_of c.in_ok-needs-in-Rewritten.needs.items in
     let told : Answer = Found (RankBy node) needs (bound_of c.in-Rewritten.bound) in
-    let fits = subst (λ (x : Table). answer_of c.in_ok-rank_time.field-0 ≡ rewritten_within (time_of p node x.time x.size))
-    (table_over c.args.table.now) c.in_ok-rank_time.ensures in (
+    let fits = subst (λ (x : Table). answer_of c.in_ok-bound-in-Ranked.field-0 ≡ rewritten_within (time_of p node x.time x.size))
+    (table_over c.args.table.now) c.in_ok-bound-in-Ranked.ensures in (
       c.requires.untimed,
       told_time p b c.args.cx.now.pivots c.args.cx.now.empties.items c.args.rule c.args.asked told c.requires.ready.empties c.requires.asked
           c.requires.answered
           (subst (λ (a : RankAnswer). TellsRanking (setting_of p) b (ranking_of a) told) (sym c.in-Ranked.is)
-          (found_told p b node needs (bound_of c.in-Rewritten.bound) (sym (ap answer_of c.in-Rewritten.is) ∙ fits) c.in_ok-needs.ensures)),
+          (found_told p b node needs (bound_of c.in-Rewritten.bound) (sym (ap answer_of c.in-Rewritten.is) ∙ fits) c.in_ok-needs-in-Rewritten.ensures)),
     )
 
 pub returns-in-Large : goal.returns-in-Large
@@ -41,8 +41,8 @@ returns-in-Large c =
     let p = program_in c.args.cx.now in
     let b = bounds_in c.args.table.now in
     let node = rank_of c.in-Ranked.node in
-    let large = subst (λ (x : Table). answer_of c.in_ok-rank_time.field-0 ≡ rewritten_within (time_of p node x.time x.size))
-    (table_over c.args.table.now) c.in_ok-rank_time.ensures in (
+    let large = subst (λ (x : Table). answer_of c.in_ok-bound-in-Ranked.field-0 ≡ rewritten_within (time_of p node x.time x.size))
+    (table_over c.args.table.now) c.in_ok-bound-in-Ranked.ensures in (
       c.requires.untimed,
       missing_of p b c.args.cx.now.pivots c.args.cx.now.empties.items c.args.rule c.args.asked _ (TooLarge c.in-Large.nodes) c.requires.asked
           c.requires.answered c.in-Ranked.is
