@@ -57,6 +57,7 @@ pub mod TakenAnswers
 -- answers of earlier rounds stand
 pub mod GrownBounds
 pub mod GrownChecks
+pub mod OpenPlaces
 pub mod StandingAnswers
 pub mod SizeRounds
 pub mod MadeRounds

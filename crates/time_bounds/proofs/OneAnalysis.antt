@@ -40,6 +40,7 @@ time_reason_back (searches.Untimed t) = None
 time_reason_back (searches.TooLarge n) = Some (TimeLarge n)
 
 time_back : (why : NoTime) → time_reason_back (reasons.time_reason why) ≡ Some why
+unfolding time_reason_back
 time_back (NoFunction g) = refl
 time_back (TimeTripped t) = refl
 time_back (TimeLarge n) = refl
@@ -55,6 +56,7 @@ size_reason_back (searches.Untimed t) = Some (SizeUntimed t)
 size_reason_back (searches.TooLarge n) = Some (SizeLarge n)
 
 size_back : (why : NoSize) → size_reason_back (reasons.size_reason why) ≡ Some why
+unfolding size_reason_back
 size_back (SizeLoose side ray kept) = refl
 size_back (SizeTripped t) = refl
 size_back (SizeMissing m) = refl

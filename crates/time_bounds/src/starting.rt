@@ -71,14 +71,13 @@ fn push_if_empty(
 fn empty_find(alloc: Global, rule: u32, node: &EmptyNode) -> Result<Find, Memory>
     ensures { IfOk result (λ f. find_of f ≡ empty_find_of rule node.now.multipliers.items) }
 {
-    let copy = EmptyNode {
-        rule,
-        multipliers: Vec::from_slice(alloc, &node.multipliers)?,
-    };
+    let multipliers = Vec::from_slice(alloc, &node.multipliers)?;
+    let keys = time_keys(alloc, rule)?;
+    let needs = Vec::new(alloc);
     Ok(Find {
-        keys: time_keys(alloc, rule)?,
-        node: Node::Empty(copy),
-        needs: Vec::new(alloc),
+        keys,
+        node: Node::Empty(EmptyNode { rule, multipliers }),
+        needs,
         bound: Bound::Const(0),
     })
 }

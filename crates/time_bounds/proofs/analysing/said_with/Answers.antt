@@ -2,7 +2,7 @@ use Rattle.std.proofs.Common.{◌≡◌, ◌<◌, ◌≤◌, ◌^◌, List, [], 
 use Rattle.std.specs.declared.alloc.Global.{Global}
 use Rattle.std.proofs.lemmas.List.{length-map}
 use Rattle.outcome.specs.Reports.{Size}
-use Rattle.outcome.specs.Views.{size_of}
+use Rattle.outcome.specs.Views.{size_of, time_of}
 use Rattle.outcome.specs.declared.entry.SizeEntry.{SizeEntry}
 use Rattle.outcome.specs.declared.entry.TimeEntry.{TimeEntry}
 use Rattle.outcome.specs.declared.outcome_of.Outcome.{Outcome}
@@ -96,7 +96,8 @@ returns-clause-found c =
     (at_last p cx.pivots b cs xs c.requires.last.attempts c.requires.last.tried)
     (none_sized p cx.pivots b cs xs c.requires.last.attempts c.requires.last.tried) c.in_ok-sizes.sizes.items told c.remove.ensures.items
     (c.in_ok-times.ensures.one_each ∙ c.requires.last.one_each)
-    (subst (λ (d : Bounds). AreTimesOver (searches_of_program p cx.pivots) p d 1 _)
+    (subst (λ (d : Bounds). AreTimesOver (searches_of_program p cx.pivots) p d 1
+    (map (time_of c.in_ok-times.field-0.gaps.items) c.in_ok-times.field-0.times.items))
     (bounds_same p c.args.book.table finds c.requires.book) c.in_ok-times.ensures.said) total).0
 
 pub returns-clause-lemmas : goal.returns-clause-lemmas
@@ -122,7 +123,8 @@ returns-clause-lemmas c =
     (at_last p cx.pivots b cs xs c.requires.last.attempts c.requires.last.tried)
     (none_sized p cx.pivots b cs xs c.requires.last.attempts c.requires.last.tried) c.in_ok-sizes.sizes.items told c.remove.ensures.items
     (c.in_ok-times.ensures.one_each ∙ c.requires.last.one_each)
-    (subst (λ (d : Bounds). AreTimesOver (searches_of_program p cx.pivots) p d 1 _)
+    (subst (λ (d : Bounds). AreTimesOver (searches_of_program p cx.pivots) p d 1
+    (map (time_of c.in_ok-times.field-0.gaps.items) c.in_ok-times.field-0.times.items))
     (bounds_same p c.args.book.table finds c.requires.book) c.in_ok-times.ensures.said) total in
     has_lemmas p cx.pivots c.args.book.table finds o c.requires.ready.valid c.requires.book analysis (c.in_ok-lemmas.ensures p c.requires.book)
     c.in_ok-times.ensures.carried

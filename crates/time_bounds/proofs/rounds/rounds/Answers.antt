@@ -36,30 +36,37 @@ loop-kept-init c =
 
 pub loop-kept-smaller : goal.loop-kept-smaller
 loop-kept-smaller c =
-    fewer_missing c.args.cx.now c.args.candidates.now c.loop-kept.book.finds.items c.next_round.new.book.finds.items c.in_ok-next_round.field-0
-    c.in_ok-next_round.ensures.round
-    (λ e. c.if-len-before.false (let same : length c.next_round.new.book.finds.items ≡ length c.loop-kept.book.finds.items = e in
-    omega (arith, same, c.len-in-loop-kept.ensures, c.len-in-loop-kept-2.ensures, c.loop-kept.book.finds.ok.0, c.next_round.new.book.finds.ok.0)))
+    fewer_missing c.args.cx.now c.args.candidates.now c.loop-kept.book.finds.items c.next_round.new.book.finds.items c.in_ok-kept-2.kept
+    c.in_ok-kept-2.ensures.round
+    (λ e. let f : ⊥ = grind (
+      arith,
+      e,
+      c.if-len-before.false,
+      c.len-before.ensures,
+      c.len-in-loop-kept.ensures,
+      c.loop-kept.book.finds.ok.0,
+      c.next_round.new.book.finds.ok.0,
+    ) in f)
 
 pub loop-kept-preserved : goal.loop-kept-preserved
 loop-kept-preserved c = record {
   made =
-      round_made c.args.cx.now c.args.candidates.now c.loop-kept.book.finds.items c.next_round.new.book.finds.items c.in_ok-next_round.field-0
-      c.loop-kept.invariant.made c.in_ok-next_round.ensures.round;
+      round_made c.args.cx.now c.args.candidates.now c.loop-kept.book.finds.items c.next_round.new.book.finds.items c.in_ok-kept-2.kept
+      c.loop-kept.invariant.made c.in_ok-kept-2.ensures.round;
   kept =
-      round_kept c.args.cx.now c.args.candidates.now c.loop-kept.book.finds.items c.next_round.new.book.finds.items c.in_ok-next_round.field-0
-      c.in_ok-next_round.ensures.round;
-  book = c.in_ok-next_round.ensures.book;
+      round_kept c.args.cx.now c.args.candidates.now c.loop-kept.book.finds.items c.next_round.new.book.finds.items c.in_ok-kept-2.kept
+      c.in_ok-kept-2.ensures.round;
+  book = c.in_ok-kept-2.ensures.book;
 }
 
 pub returns-then-len-before-clause-made : goal.returns-then-len-before-clause-made
 returns-then-len-before-clause-made c =
-    round_made c.args.cx.now c.args.candidates.now c.loop-kept.book.finds.items c.next_round.new.book.finds.items c.in_ok-next_round.field-0
-    c.loop-kept.invariant.made c.in_ok-next_round.ensures.round
+    round_made c.args.cx.now c.args.candidates.now c.loop-kept.book.finds.items c.next_round.new.book.finds.items c.in_ok-kept-2.kept
+    c.loop-kept.invariant.made c.in_ok-kept-2.ensures.round
 
 pub returns-then-len-before-clause-last : goal.returns-then-len-before-clause-last
 returns-then-len-before-clause-last c =
     let same : length c.next_round.new.book.finds.items ≡ length c.loop-kept.book.finds.items =
-    omega (arith, c.if-len-before.true, c.len-in-loop-kept.ensures, c.len-in-loop-kept-2.ensures, c.loop-kept.book.finds.ok.0, c.next_round.new.book.finds.ok.0) in
-    same_finds c.args.cx.now c.args.candidates.now c.loop-kept.book.finds.items c.next_round.new.book.finds.items c.in_ok-next_round.field-0
-    c.in_ok-next_round.ensures.round same
+    omega (arith, c.if-len-before.true, c.len-before.ensures, c.len-in-loop-kept.ensures, c.loop-kept.book.finds.ok.0, c.next_round.new.book.finds.ok.0) in
+    same_finds c.args.cx.now c.args.candidates.now c.loop-kept.book.finds.items c.next_round.new.book.finds.items c.in_ok-kept-2.kept
+    c.in_ok-kept-2.ensures.round same

@@ -21,11 +21,11 @@ take-requires c = record {
       c.requires.open;
 }
 
-pub returns-in_ok-node-in-Found-clause-attempt : goal.returns-in_ok-node-in-Found-clause-attempt
-returns-in_ok-node-in-Found-clause-attempt c = ap attempt_by (sym c.in-Found.is)
+pub returns-in_ok-take-in-Found-clause-attempt : goal.returns-in_ok-take-in-Found-clause-attempt
+returns-in_ok-take-in-Found-clause-attempt c = ap attempt_by (sym c.in-Found.is)
 
-pub returns-in_ok-node-in-Found-clause-finds : goal.returns-in_ok-node-in-Found-clause-finds
-returns-in_ok-node-in-Found-clause-finds c =
+pub returns-in_ok-take-in-Found-clause-finds : goal.returns-in_ok-take-in-Found-clause-finds
+returns-in_ok-take-in-Found-clause-finds c =
     let cand = c.args.candidate.now in
     let old = finds_of c.args.book.now.finds.items in
     c.in_ok-take-in-Found.ensures.finds
@@ -37,8 +37,8 @@ returns-in_ok-node-in-Found-clause-finds c =
     } ∷ [])
     ∙ ap (λ (x : Sizing). old ++ finds_by (spots_in cand) (node_in cand.arms) x) (sym c.in-Found.is))
 
-pub returns-in_ok-node-in-Found-clause-book : goal.returns-in_ok-node-in-Found-clause-book
-returns-in_ok-node-in-Found-clause-book c =
+pub returns-in_ok-take-in-Found-clause-book : goal.returns-in_ok-take-in-Found-clause-book
+returns-in_ok-take-in-Found-clause-book c =
     c.in_ok-take-in-Found.ensures.book (program_in c.args.cx.now) c.requires.book
     (subst (λ (ss : List Spot). AreOpen (program_in c.args.cx.now) (finds_of c.args.book.now.finds.items) (map spot_of ss))
     (sym (c.in_ok-spots-in-Found.ensures ∙ c.deref.ensures.value)) c.requires.open)
