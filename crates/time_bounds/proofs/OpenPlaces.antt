@@ -50,7 +50,7 @@ open_at b (x ∷ spots) (suc i) d l e =
 
 -- what a test says of a bound that is known, and of one that is missing
 pub told_known : (v w : Bool) → v ≡ not w → v ≡ true → w ≡ false
-told_known v true e h = sym (sym h ∙ e)
+told_known v true e h = sym (sym e ∙ h)
 told_known v false e h = refl
 
 pub told_missing : (v w : Bool) → v ≡ not w → v ≡ false → w ≡ true

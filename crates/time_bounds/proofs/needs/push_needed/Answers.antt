@@ -21,15 +21,15 @@ returns-in-Some c =
     let told = ap form_found (sym c.in-Some.is)
     ∙ (c.rank_form.ensures.first
     ∙ (λ i. rank_form (map form_of (c.deref.ensures.value i)) (c.target_of.ensures i))) in
-    let coefs = c.deref-2.ensures.value ∙ ap (λ (f : Form). f.coefs) told in
+    let coefs = c.deref-in-Some.ensures.value ∙ ap (λ (f : Form). f.coefs) told in
     IfOk-weaker c.push_sizes.result
     (λ _. map spot_of c.push_sizes.new.needs.items
-    ≡ map spot_of c.push.new.self.items ++ map (λ i. key e i) (read_places 1 c.deref-2.result.now))
+    ≡ map spot_of c.push.new.self.items ++ map (λ i. key e i) (read_places 1 c.deref-in-Some.result.now))
     (λ _. map spot_of c.push_sizes.new.needs.items ≡ map spot_of c.args.needs.now.items ++ entry_needs p node e)
     (λ _ h. h
-    ∙ (ap (λ (ss : List code.Spot). map spot_of ss ++ map (λ i. key e i) (read_places 1 c.deref-2.result.now)) c.in_ok-push.ensures.items
-    ∙ (ap (λ (ks : List Spot). ks ++ map (λ i. key e i) (read_places 1 c.deref-2.result.now))
+    ∙ (ap (λ (ss : List code.Spot). map spot_of ss ++ map (λ i. key e i) (read_places 1 c.deref-in-Some.result.now)) c.in_ok-push.ensures.items
+    ∙ (ap (λ (ks : List Spot). ks ++ map (λ i. key e i) (read_places 1 c.deref-in-Some.result.now))
     (map-append spot_of c.args.needs.now.items (record { rule = e; place = 0 } ∷ []))
-    ∙ (append_assoc (map spot_of c.args.needs.now.items) (time_key e ∷ []) (map (λ i. key e i) (read_places 1 c.deref-2.result.now))
+    ∙ (append_assoc (map spot_of c.args.needs.now.items) (time_key e ∷ []) (map (λ i. key e i) (read_places 1 c.deref-in-Some.result.now))
     ∙ ap (λ (cs : List ℤ). map spot_of c.args.needs.now.items ++ time_key e ∷ map (λ i. key e i) (read_places 1 cs)) coefs))))
     c.push_sizes.ensures

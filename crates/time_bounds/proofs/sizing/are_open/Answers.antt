@@ -13,7 +13,7 @@ loop-spot-preserved c =
     let b = bounds_in c.args.table.now in
     let d : Spot = record { rule = 0; place = 0 } in
     let i = c.loop-spot.spot-index in
-    let known = told_known c.is_known.result (lacks (at_key b (spot_of (get_or c.args.spots.now i d)))) (c.is_known.ensures
+    let known = told_known c.is_known-known.result (lacks (at_key b (spot_of (get_or c.args.spots.now i d)))) (c.is_known-known.ensures
     ∙ stored_known (stored_in c.args.table.now (get_or c.args.spots.now i d).rule (get_or c.args.spots.now i d).place)) c.if-not-known.false in
     ap (λ (n : ℕ). are_open b (map spot_of (take n c.args.spots.now))) (let z : i + 1 ≡ suc i = omega arith in z)
     ∙ closed_more b c.args.spots.now i d c.loop-spot-test.true c.loop-spot.invariant known
@@ -24,7 +24,7 @@ returns-then-not-known c =
     let d : Spot = record { rule = 0; place = 0 } in
     let i = c.loop-spot.spot-index in
     sym (open_at b c.args.spots.now i d c.loop-spot-test.true
-    (told_missing c.is_known.result (lacks (at_key b (spot_of (get_or c.args.spots.now i d)))) (c.is_known.ensures
+    (told_missing c.is_known-known.result (lacks (at_key b (spot_of (get_or c.args.spots.now i d)))) (c.is_known-known.ensures
     ∙ stored_known (stored_in c.args.table.now (get_or c.args.spots.now i d).rule (get_or c.args.spots.now i d).place)) c.if-not-known.true))
 
 pub returns : goal.returns

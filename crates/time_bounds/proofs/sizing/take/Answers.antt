@@ -30,7 +30,7 @@ returns-in_ok-take-in-Found-clause-finds c =
     let old = finds_of c.args.book.now.finds.items in
     c.in_ok-take-in-Found.ensures.finds
     ∙ ((λ i. old ++ record {
-      keys = map spot_of ((c.in_ok-spots-in-Found.ensures ∙ c.deref.ensures.value) i);
+      keys = map spot_of ((c.in_ok-spots-in-Found.ensures.items ∙ c.deref.ensures.value) i);
       node = c.in_ok-node-in-Found.ensures i;
       needs = map spot_of c.in-Found.needs.items;
       bound = bound_of c.in-Found.bound;
@@ -41,7 +41,7 @@ pub returns-in_ok-take-in-Found-clause-book : goal.returns-in_ok-take-in-Found-c
 returns-in_ok-take-in-Found-clause-book c =
     c.in_ok-take-in-Found.ensures.book (program_in c.args.cx.now) c.requires.book
     (subst (λ (ss : List Spot). AreOpen (program_in c.args.cx.now) (finds_of c.args.book.now.finds.items) (map spot_of ss))
-    (sym (c.in_ok-spots-in-Found.ensures ∙ c.deref.ensures.value)) c.requires.open)
+    (sym (c.in_ok-spots-in-Found.ensures.items ∙ c.deref.ensures.value)) c.requires.open)
 
 pub returns-in-Missing-clause-attempt : goal.returns-in-Missing-clause-attempt
 returns-in-Missing-clause-attempt c = ap attempt_by (sym c.in-Missing.is)
