@@ -42,7 +42,8 @@ long_at (row ∷ rows) (n ∷ ns) zero e = let h : length row ≡ n = cc in h
 long_at (row ∷ rows) (n ∷ ns) (suc t) e =
     let h : map (λ (r : List (Option Stored)). length r) rows ≡ ns = cc in long_at rows ns t h
 
-arity_at : (p : Program) (rules : List Rule) (t : ℕ) (r : Rule) → slice_get rules t ≡ Some r
+-- which is the arity of its target
+pub arity_at : (p : Program) (rules : List Rule) (t : ℕ) (r : Rule) → slice_get rules t ≡ Some r
     → slice_index_or (map (λ (r : Rule). arity_of p r.target) rules) t 0 ≡ arity_of p r.target
 arity_at p [] t r e = absurd (let f : ⊥ = cc in f)
 arity_at p (x ∷ rules) zero r e = let same : x ≡ r = cc in ap (λ (y : Rule). arity_of p y.target) same

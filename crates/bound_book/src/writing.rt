@@ -21,11 +21,11 @@ pub fn put(table: &mut Table, key: Spot, stored: Stored)
         put_entry(&mut table.times, key.rule as usize, stored);
         return;
     }
-    put_size(&mut table.sizes, key.rule, key.place, stored)
+    put_place(&mut table.sizes, key.rule, key.place, stored)
 }
 
-// Writes a value at a place after a rule, where there is none; places count from 1.
-fn put_size<T: Drop>(rows: &mut Vec<Vec<Option<T>>>, rule: u32, place: u32, value: T)
+/// Writes a value at a place after a rule, where there is none; places count from 1.
+pub fn put_place<T: Drop>(rows: &mut Vec<Vec<Option<T>>>, rule: u32, place: u32, value: T)
     ensures { map (λ row. row.items) rows.new.items
         ≡ put_place (map (λ row. row.items) rows.old.items) rule place value }
 {

@@ -16,7 +16,6 @@ use Rattle.its_model.specs.linear_forms.RuleQuestions.{RankedSet, rank_question,
 use Rattle.its_model.specs.linear_forms.RuleQuestions.{move_group}
 use Rattle.its_model.specs.linear_forms.RuleQuestions.{floor_group}
 use Rattle.outcome.specs.proof_nodes.Gaps.{SymbolPlace, Gap}
-use Rattle.outcome.specs.proof_nodes.Known as nodes
 use Rattle.outcome.specs.proof_nodes.Nodes.{RankNode}
 use Rattle.outcome.specs.proof_setting.Setting.{setting_of}
 use Rattle.outcome.specs.proof_tree.declared.answer.EmptyAnswer.{EmptyAnswer}
@@ -27,20 +26,24 @@ use Rattle.time_bounds.specs.rule_questions.RuleAnswers.{answer_for, point_in}
 use Rattle.time_bounds.specs.rank_search.RankAnswers.{points_of, IsReadOff, IsRankAnswer}
 use Rattle.outcome.specs.Reports.{NoTime, NoFunction, TimeTripped, TimeLarge, Time, Timed, Untimed}
 use Rattle.outcome.specs.Reports.{Size, Sized, Unsized, Report}
-use Rattle.time_bounds.specs.round_relation.Searches.{Ranking, Ranked, Unranked, RankTripped}
-use Rattle.time_bounds.specs.round_relation.Sets.{AreShutOf}
-use Rattle.time_bounds.specs.round_relation.NewTimes.{SaysTime, bound_in}
-use Rattle.time_bounds.specs.round_relation.Reasons.{IsNoTime}
+use Rattle.time_bounds.specs.bound_rounds.Answers.{Target, TimeOf, SizesOf, Lacks, Tells, TellsTime, TellsRanking}
+use Rattle.time_bounds.specs.bound_rounds.Finds.{Find, bounds_of}
+use Rattle.time_bounds.specs.bound_rounds.Keys.{Bounds}
+use Rattle.time_bounds.specs.bound_rounds.Rounds.{IsAskedFor, IsNoBound}
+use Rattle.time_bounds.specs.bound_rounds.Searches as searches
+use Rattle.time_bounds.specs.bound_rounds.Searches.{Ranking, Ranked, Unranked, RankTripped}
+use Rattle.time_bounds.specs.bound_rounds.Sets.{AreShutOf}
 use Rattle.report_text.specs.bound_text.Texts.{FitsTypes}
 use Rattle.report_text.specs.Printable as texts
 use Rattle.report_text.specs.Printable.{IsShort, IsPrintablePlace, IsPrintableGap, IsPrintableNoTime, IsPrintableTime}
 use Rattle.report_text.specs.Printable.{IsPrintableSize, IsPrintableTotal, IsPrintableReport}
 use Rattle.report_text.proofs.OneReport.{one_report}
-use Rattle.time_bounds.specs.ProgramSearches.{ranking_of, searches_of_program}
-use Rattle.time_bounds.specs.ProgramSizes.{sizes_of_program}
+use Rattle.time_bounds.specs.ProgramRules.{ranking_of}
+use Rattle.time_bounds.specs.ProgramSearches.{searches_of_program}
+use Rattle.time_bounds.specs.Reasons.{time_reason}
 use Rattle.time_bounds.specs.Totals.{total_of}
-use Rattle.time_bounds.specs.Analysis.{AreTimesOf, AreSizesOf, AreSizeRowsOf, IsAnalysis}
-use Rattle.time_bounds.specs.PrintableLaws.{IsPrintableBound, IsPrintableTable, ArePrintable}
+use Rattle.time_bounds.specs.Analysis.{AreTimesOf, AreSizesOf, AreSizeRowsOf, IsAnalysis, bound_in}
+use Rattle.time_bounds.specs.PrintableLaws.{IsPrintableBound, ArePrintableBounds, ArePrintable}
 use Rattle.time_bounds.proofs.Printables.{found_printable}
 use Rattle.koat_cli.specs.AnalysisTexts.{HasShortNumbers, ReasonFits, TimeFits, SizeFits, TotalFits, ReportFits}
 use Rattle.koat_cli.specs.AnalysisTexts.{AnalysisTextsStateOneReport}
@@ -100,11 +103,11 @@ module _ (b : RankedSet) (shut : List SymbolPlace) (pivots : ℕ) (empties : Lis
       omega (arith, same, ap length read.same_set)
 
 -- and it shuts places of symbols of the program
-gap_fits : (p : Program) (pivots : ℕ) (tab : nodes.Table) (t : ℕ) (set : List ℕ) (shut : List SymbolPlace)
-    (empties : List EmptyAnswer) (g : Gap) → IsValid p → AreShutOf p tab set shut
+gap_fits : (p : Program) (pivots : ℕ) (b : Bounds) (t : ℕ) (set : List ℕ) (shut : List SymbolPlace)
+    (empties : List EmptyAnswer) (g : Gap) → IsValid p → AreShutOf p b set shut
     → IsReadOff (ranked_set p set t shut) shut pivots empties g → HasShortNumbers g
     → IsPrintableGap (length p.symbols) g
-gap_fits p pivots tab t set shut empties g valid are read short = record {
+gap_fits p pivots b t set shut empties g valid are read short = record {
   rule = short.rule;
   set = short.set;
   shut = places_fit (length p.symbols) g.shut g.shut few
@@ -138,36 +141,48 @@ gap_read b shut pivots empties f (ranks.Tripped x) e r = absurd (apart e)
     apart : RankTripped x ≡ Unranked f → ⊥
     apart y = cc
 
-module _ (p : Program) (pivots : ℕ) (valid : IsValid p) (tab : nodes.Table)
-    (good : IsPrintableTable (length p.start_names) tab) where
+module _ (p : Program) (pivots : ℕ) (valid : IsValid p) (fs : List Find)
+    (good : ArePrintableBounds (length p.start_names) (bounds_of p fs)) where
   -- the gap that an answer to the question of a set gives as the reason
-  answer_fits : (t : ℕ) (g : Gap) (set : List ℕ) (shut : List SymbolPlace) → AreShutOf p tab set shut
+  answer_fits : (t : ℕ) (g : Gap) (set : List ℕ) (shut : List SymbolPlace) → AreShutOf p (bounds_of p fs) set shut
       → HasShortNumbers g → (answer : Ranking) → (searches_of_program p pivots).Ranks set t shut answer
-      → SaysTime (setting_of p) tab answer (Untimed (NoFunction g)) → IsPrintableGap (length p.symbols) g
-  answer_fits t g set shut are short (Ranked node) answered says = absurd (apart _ says.1)
+      → TellsRanking (setting_of p) (bounds_of p fs) answer (Lacks (searches.NoFunction g))
+      → IsPrintableGap (length p.symbols) g
+  answer_fits t g set shut are short (Ranked node) answered tells = absurd (apart _ tells.1)
     where
-      apart : (m : ℕ) → NoFunction g ≡ TimeLarge m → ⊥
+      apart : (m : ℕ) → searches.NoFunction g ≡ searches.TooLarge m → ⊥
       apart m x = cc
-  answer_fits t g set shut are short (Unranked f) answered says =
-      gap_fits p pivots tab t set shut answered.0 g valid are
-      (subst (IsReadOff (ranked_set p set t shut) shut pivots answered.0) (sym (same says))
+  answer_fits t g set shut are short (Unranked f) answered tells =
+      gap_fits p pivots (bounds_of p fs) t set shut answered.0 g valid are
+      (subst (IsReadOff (ranked_set p set t shut) shut pivots answered.0) (sym (same tells))
       (gap_read (ranked_set p set t shut) shut pivots answered.0 f answered.2.0 answered.2.1 answered.2.2)) short
     where
-      same : Untimed (NoFunction g) ≡ Untimed (NoFunction f) → g ≡ f
+      same : Lacks (searches.NoFunction g) ≡ Lacks (searches.NoFunction f) → g ≡ f
       same x = cc
-  answer_fits t g set shut are short (RankTripped x) answered says = absurd (apart says)
+  answer_fits t g set shut are short (RankTripped x) answered tells = absurd (apart tells)
     where
-      apart : Untimed (NoFunction g) ≡ Untimed (TimeTripped x) → ⊥
+      apart : Lacks (searches.NoFunction g) ≡ Lacks (searches.Tripped x) → ⊥
       apart y = cc
 
+  -- what the answer about a rule tells
+  told_fits : (t : ℕ) (g : Gap) → HasShortNumbers g
+      → TellsTime (searches_of_program p pivots) (setting_of p) (bounds_of p fs) t (Lacks (searches.NoFunction g))
+      → IsPrintableGap (length p.symbols) g
+  told_fits t g short h =
+      answer_fits t g h.asked.set h.asked.shut h.asked.are_shut short h.asked.answer h.asked.answered h.tells
+
   -- why a time is missing
-  no_time_fits : (t : ℕ) (why : NoTime) → IsNoTime (searches_of_program p pivots) (setting_of p) tab t why
+  no_time_fits : (t : ℕ) (why : NoTime) → IsNoBound (searches_of_program p pivots) (setting_of p) fs t 0 (time_reason why)
       → ReasonFits why → IsPrintableNoTime (length p.symbols) why
   no_time_fits t (TimeTripped x) h fits = fits
   no_time_fits t (TimeLarge m) h fits = fits
-  no_time_fits t (NoFunction g) h fits =
-      answer_fits t g h.reason.asked.set h.reason.asked.shut h.reason.asked.are_shut fits h.reason.asked.answer
-      h.reason.asked.answered h.reason.says
+  no_time_fits t (NoFunction g) h fits = by h.target h.asked h.tells
+    where
+      by : (x : Target) → IsAskedFor (searches_of_program p pivots) (setting_of p) t 0 x
+          → Tells (searches_of_program p pivots) (setting_of p) (bounds_of p fs) x (Lacks (searches.NoFunction g))
+          → IsPrintableGap (length p.symbols) g
+      by (TimeOf u) asked tells = told_fits u g fits tells
+      by (SizesOf keys) asked tells = absurd asked
 
   -- a bound
   bound_fits : (b : Bound) → IsPrintableBound (length p.start_names) b → FitsTypes b
@@ -175,24 +190,24 @@ module _ (p : Program) (pivots : ℕ) (valid : IsValid p) (tab : nodes.Table)
   bound_fits b h fits = record { tidy = h.0; listed = h.1; fits = fits }
 
   -- the times from rule k on
-  times_fit : (k : ℕ) (times : List Time) → AreTimesOf (searches_of_program p pivots) p tab k times
+  times_fit : (k : ℕ) (times : List Time) → AreTimesOf (searches_of_program p pivots) p fs k times
       → AllByRecursion TimeFits times → AllByRecursion (IsPrintableTime p) times
   times_fit k [] h fits = tt
   times_fit k (Timed b ∷ times) h fits =
-      (bound_fits b (good.times k b h.0) fits.0, times_fit (suc k) times h.1 fits.1)
+      (bound_fits b (good.each k 0 b h.0) fits.0, times_fit (suc k) times h.1 fits.1)
   times_fit k (Untimed why ∷ times) h fits =
       (no_time_fits k why h.0 fits.0, times_fit (suc k) times h.1 fits.1)
 
   -- the sizes of rule t from place i on
-  sizes_fit : (t i : ℕ) (sizes : List Size) → AreSizesOf (sizes_of_program p pivots) tab t i sizes
+  sizes_fit : (t i : ℕ) (sizes : List Size) → AreSizesOf (searches_of_program p pivots) p fs t i sizes
       → AllByRecursion SizeFits sizes → AllByRecursion (IsPrintableSize p) sizes
   sizes_fit t i [] h fits = tt
   sizes_fit t i (Sized b ∷ sizes) h fits =
-      (bound_fits b (good.sizes t i b h.0) fits.0, sizes_fit t (suc i) sizes h.1 fits.1)
+      (bound_fits b (good.each t i b h.0) fits.0, sizes_fit t (suc i) sizes h.1 fits.1)
   sizes_fit t i (Unsized why ∷ sizes) h fits = (fits.0, sizes_fit t (suc i) sizes h.1 fits.1)
 
   -- and those of each rule from t on
-  rows_fit : (t : ℕ) (rows : List (List Size)) → AreSizeRowsOf (sizes_of_program p pivots) tab t rows
+  rows_fit : (t : ℕ) (rows : List (List Size)) → AreSizeRowsOf (searches_of_program p pivots) p fs t rows
       → AllByRecursion (AllByRecursion SizeFits) rows → AllByRecursion (AllByRecursion (IsPrintableSize p)) rows
   rows_fit t [] h fits = tt
   rows_fit t (row ∷ rows) h fits = (sizes_fit t 1 row h.0 fits.0, rows_fit (suc t) rows h.1 fits.1)
@@ -218,14 +233,14 @@ analysis_fits : (p : Program) (pivots : ℕ) (r : Report) → IsValid p → IsAn
 analysis_fits p pivots r valid h fits = record {
   times = times;
   total = total_fits p r.times r.total times h.total fits.total;
-  sizes = rows_fit p pivots valid h.table good 1 r.sizes h.sizes fits.sizes;
+  sizes = rows_fit p pivots valid h.finds good 1 r.sizes h.sizes fits.sizes;
 }
   where
-    good : IsPrintableTable (length p.start_names) h.table
-    good = found_printable.tables p pivots h.table valid h.last.made
+    good : ArePrintableBounds (length p.start_names) (bounds_of p h.finds)
+    good = found_printable.finds p pivots h.finds valid h.last.made
 
     times : AllByRecursion (IsPrintableTime p) r.times
-    times = times_fit p pivots valid h.table good 1 r.times h.times fits.times
+    times = times_fit p pivots valid h.finds good 1 r.times h.times fits.times
 
 -- so its text tells it
 pub reports_are_told : AnalysisTextsStateOneReport

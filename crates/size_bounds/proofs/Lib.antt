@@ -29,5 +29,3 @@ pub mod MemberRules
 pub mod BentMembers
 -- what is answered of a loop
 pub mod LoopAnswers
--- the lemmas of the crates below, which callers name through this one
-pub use Rattle.round_relation.proofs as round_relation

@@ -1,5 +1,5 @@
 -- What is answered of a loop is the first reason why it isn't accepted, or the node that is.
-use Rattle.std.proofs.Common.{◌≡◌, inl, inr, ℕ, cond, List, [], ◌∷◌, map, Option, Some, None, refl, sym, ap, ◌∙◌, subst}
+use Rattle.std.proofs.Common.{◌≡◌, inl, inr, ℕ, cond, List, [], ◌∷◌, ◌++◌, map, Option, Some, None, refl, sym, ap, ◌∙◌, subst}
 use Rattle.std.specs.List.{AllByRecursion}
 use Rattle.std.proofs.lemmas.List.Elements.{recursion_from_All}
 use Rattle.model.specs.Bounds.{Bound}
@@ -20,8 +20,8 @@ use Rattle.proof_tree.specs.proof_nodes.Checks.{needed_times, straight_into, cyc
 use Rattle.proof_tree.proofs.proof_nodes.CheckLists.{passes_each}
 use Rattle.proof_tree.proofs.proof_nodes.SizeReasons.{passes-cycle}
 use Rattle.proof_tree.specs.proof_setting.Setting.{setting_of}
-use Rattle.round_relation.specs.Tables.{lacks}
-use Rattle.round_relation.specs.Uses.{Numbers}
+use Rattle.bound_rounds.specs.Keys.{lacks}
+use Rattle.size_bounds.specs.Uses.{Numbers}
 use Rattle.size_bounds.specs.declared.answer.SizeAnswer.{SizeAnswer}
 use Rattle.size_bounds.specs.declared.answer.SizeAnswer.TheVariants as answers
 use Rattle.size_bounds.specs.Needs.{first_missing}
@@ -29,6 +29,9 @@ use Rattle.size_bounds.specs.Growths.{growth_by_flows, growing_rule_numbers, com
 use Rattle.size_bounds.specs.LoopAnswers.{first_unknown, loop_needs, IsTimedAnswer, IsAnswerBy, IsLoopAnswer}
 use Rattle.size_bounds.specs.BentArms.{first_bent}
 use Rattle.size_bounds.specs.SizeAnswers.{AreMembersOfProgram, IsCycleAnswer}
+use Rattle.size_bounds.specs.declared.sizing.Sizing.{Sizing}
+use Rattle.size_bounds.specs.declared.sizing.Sizing.TheVariants as sizings
+use Rattle.size_bounds.specs.Sizings.{time_spot, IsTimedSizing, IsSizingWhere, IsLoopSizing, IsCycleSizing}
 use Rattle.size_bounds.proofs.FirstMissing.{all-known, first-missing, behind-each}
 use Rattle.size_bounds.proofs.BentMembers.{straight-first, straight-passes, bent-first}
 use Rattle.size_bounds.proofs.LoopParts.{composed-is, growing-are}
@@ -168,6 +171,37 @@ module _ (p : Program) (g : Graph) (preps : List RuleRows) (tab : Table) (ms : L
           (subst (λ (us : List ℕ). IsAnswerBy (first_unknown tab.time us) ns ms (loop_needs spots us) whole a) times-are
           (subst (λ (b : Bound). IsAnswerBy (first_unknown tab.time (growing_rule_numbers (map (growth_by_flows fs) ts))) ns ms
           (loop_needs spots (growing_rule_numbers (map (growth_by_flows fs) ts))) b a) bound-is h)))
+        where
+          times-are : growing_rule_numbers (map (growth_by_flows fs) ts) ≡ timed
+          times-are = (λ i. growing_rule_numbers (map (growth_by_flows (ef i)) (et i))) ∙ growing-are p (flows (setting_of p) ms tab.size) (rules_of (setting_of p) ms)
+
+          bound-is : composed tab.time (base_of fs) (map (growth_by_flows fs) ts) ≡ whole
+          bound-is = (λ i. composed tab.time (base_of (ef i)) (map (growth_by_flows (ef i)) (et i)))
+              ∙ composed-is p (flows (setting_of p) ms tab.size) tab.time (rules_of (setting_of p) ms)
+
+      timed-sizing : (a : Sizing) → first_unknown tab.time timed ≡ None
+          → IsTimedSizing (needed ++ map time_spot timed) whole a → IsCycleSizing (setting_of p) tab ms a
+      timed-sizing (sizings.Found needs bound) e h = (is-accepted e h.0, h.1, h.2)
+      timed-sizing (sizings.Missing spot) e h = absurd h
+      timed-sizing (sizings.Bent spot) e h = absurd h
+      timed-sizing (sizings.Untimed rule) e h = absurd h
+      timed-sizing (sizings.Large nodes) e h = is-large nodes e h.0 h.1
+
+      sizing-where : (a : Sizing) (o : Option ℕ) → first_unknown tab.time timed ≡ o
+          → IsSizingWhere o (needed ++ map time_spot timed) whole a → IsCycleSizing (setting_of p) tab ms a
+      sizing-where a None e h = timed-sizing a e h
+      sizing-where a (Some t) e h = subst (IsCycleSizing (setting_of p) tab ms) (sym h) (is-untimed t e)
+
+      -- and so it is without the lemmas that the node rests on
+      pub is-sized : (a : Sizing) (spots : List Spot) (fs : List Flow) (ts : List ℕ)
+          → spots ≡ needed → fs ≡ flows (setting_of p) ms tab.size → ts ≡ rules_of (setting_of p) ms
+          → IsLoopSizing tab spots (base_of fs) (map (growth_by_flows fs) ts) a → IsCycleSizing (setting_of p) tab ms a
+      is-sized a spots fs ts es ef et h =
+          sizing-where a (first_unknown tab.time timed) refl
+          (subst (λ (ss : List Spot). IsSizingWhere (first_unknown tab.time timed) (ss ++ map time_spot timed) whole a) es
+          (subst (λ (us : List ℕ). IsSizingWhere (first_unknown tab.time us) (spots ++ map time_spot us) whole a) times-are
+          (subst (λ (b : Bound). IsSizingWhere (first_unknown tab.time (growing_rule_numbers (map (growth_by_flows fs) ts)))
+          (spots ++ map time_spot (growing_rule_numbers (map (growth_by_flows fs) ts))) b a) bound-is h)))
         where
           times-are : growing_rule_numbers (map (growth_by_flows fs) ts) ≡ timed
           times-are = (λ i. growing_rule_numbers (map (growth_by_flows (ef i)) (et i))) ∙ growing-are p (flows (setting_of p) ms tab.size) (rules_of (setting_of p) ms)

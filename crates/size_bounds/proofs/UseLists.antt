@@ -6,8 +6,8 @@ use Rattle.model.specs.Entries.{is_in}
 use Rattle.proof_tree.specs.proof_nodes.Nodes.{Proofs, Cite, AndProof}
 use Rattle.proof_tree.specs.Views.{uses_of}
 use Rattle.proof_tree.proofs.NumberSets.{bool_same}
-use Rattle.round_relation.specs.Uses.{once, cites}
-use Rattle.round_relation.proofs.CitedFacts.{in-once, once-in}
+use Rattle.bound_rounds.specs.Needs.{once, cites}
+use Rattle.bound_rounds.proofs.CitedFacts.{in-once, once-in}
 use Rattle.size_bounds.specs.Lemmas.{with_other}
 
 -- citations as uses

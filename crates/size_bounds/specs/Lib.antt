@@ -1,3 +1,5 @@
+-- what nodes rest on
+pub mod Uses
 -- tables of bounds as the code keeps them
 pub mod Tables
 -- what is answered of a size
@@ -14,5 +16,5 @@ pub mod Growths
 pub mod BentArms
 -- what is answered of a loop
 pub mod LoopAnswers
--- the crates below, which callers name through this one
-pub use Rattle.round_relation.specs as round_relation
+-- what is answered without the lemmas that it rests on
+pub mod Sizings

@@ -8,8 +8,8 @@ use Rattle.proof_tree.specs.proof_nodes.Limits.{IsSmallComposed}
 use Rattle.proof_tree.specs.proof_nodes.Checks.{large_nodes}
 use Rattle.proof_tree.specs.proof_nodes.AcceptsSizes.{cycle_facts}
 use Rattle.proof_tree.specs.Views.{proof_of, facts_of}
-use Rattle.round_relation.specs.Tables.{lacks}
-use Rattle.round_relation.specs.Uses.{Numbers, Need, NeedsTime, size_needs, uses_for}
+use Rattle.bound_rounds.specs.Keys.{lacks}
+use Rattle.size_bounds.specs.Uses.{Numbers, Need, NeedsTime, size_needs, uses_for}
 use Rattle.size_bounds.specs.declared.answer.SizeAnswer.{SizeAnswer}
 use Rattle.size_bounds.specs.declared.answer.SizeAnswer.TheVariants as answers
 use Rattle.size_bounds.specs.Growths.{Growth, growing_rule_numbers, composed}

@@ -17,7 +17,7 @@ use Rattle.proof_tree.specs.proof_nodes.Checks.{spread_checks, cycle_checks}
 use Rattle.proof_tree.specs.proof_setting.Setting.{setting_of}
 use Rattle.proof_tree.specs.Composing.{AreRowsOf}
 use Rattle.proof_tree.specs.Views.{facts_of, proof_of}
-use Rattle.round_relation.specs.Uses.{Numbers, uses_for, spread_needs, cycle_needs}
+use Rattle.size_bounds.specs.Uses.{Numbers, uses_for, spread_needs, cycle_needs}
 use Rattle.size_bounds.specs.declared.answer.SizeAnswer.{SizeAnswer}
 use Rattle.size_bounds.specs.declared.answer.SizeAnswer.TheVariants as answers
 

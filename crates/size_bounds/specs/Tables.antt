@@ -6,7 +6,7 @@ use Rattle.model.specs.Bounds.{Bound}
 use Rattle.bound_expr.specs.Views.{bound_of}
 use Rattle.proof_tree.specs.proof_nodes.Known as nodes
 use Rattle.outcome.specs.declared.entry.Stored.{Stored}
-use Rattle.round_relation.specs.Uses.{Numbers}
+use Rattle.size_bounds.specs.Uses.{Numbers}
 use Rattle.size_bounds.specs.declared.table.Table.{Table}
 
 -- what stands at a position, where something does

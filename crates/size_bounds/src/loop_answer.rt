@@ -7,8 +7,8 @@ ghost use Rattle.proof_tree.specs.proof_nodes.Nodes.{Cycle};
 ghost use Rattle.proof_tree.specs.proof_nodes.ComposedSizes.{base_of};
 ghost use Rattle.proof_tree.specs.proof_nodes.AcceptsSizes.{cycle_facts};
 ghost use Rattle.proof_tree.specs.Views.{facts_of, member_of, proof_of, spot_of};
-ghost use Rattle.round_relation.specs.Tables.{lacks};
-ghost use Rattle.round_relation.specs.Uses.{uses_for};
+ghost use Rattle.bound_rounds.specs.Keys.{lacks};
+ghost use Rattle.size_bounds.specs.Uses.{uses_for};
 ghost use Rattle.size_bounds.specs.Tables.{table_of, numbers_of};
 ghost use Rattle.size_bounds.specs.Flows.{flow_of};
 ghost use Rattle.size_bounds.specs.Growths.{growth_of, growth_by_flows, growing_rule_numbers, composed};
@@ -101,8 +101,8 @@ fn is_untimed(t: &Table, rule: u32) -> bool
     }
 }
 
-// The first of these rules without a time.
-fn first_untimed(t: &Table, rules: &[u32]) -> Option<u32>
+/// The first of these rules without a time.
+pub(crate) fn first_untimed(t: &Table, rules: &[u32]) -> Option<u32>
     ensures { result ≡ first_unknown (table_of t.now).time rules.now }
 {
     for rule in rules {

@@ -8,7 +8,7 @@ ghost use Rattle.proof_tree.specs.proof_nodes.Nodes.{Spread};
 ghost use Rattle.proof_tree.specs.proof_nodes.Checks.{needed_into};
 ghost use Rattle.proof_tree.specs.proof_setting.Setting.{setting_of};
 ghost use Rattle.proof_tree.specs.Views.{facts_of, member_of, proof_of, spot_of};
-ghost use Rattle.round_relation.specs.Uses.{size_needs, uses_for};
+ghost use Rattle.size_bounds.specs.Uses.{size_needs, uses_for};
 ghost use Rattle.size_bounds.specs.Tables.{table_of, numbers_of};
 ghost use Rattle.size_bounds.specs.Needs.{first_missing as first_missing_of};
 ghost use Rattle.size_bounds.specs.SizeAnswers.{IsMemberOfProgram, IsSpreadAnswer};

@@ -5,7 +5,8 @@ ghost use Rattle.model.specs.Entries.{is_in};
 ghost use Rattle.proof_tree.specs.proof_nodes.Nodes.{Start, Cite};
 ghost use Rattle.proof_tree.specs.NumberSets.{HasJust};
 ghost use Rattle.proof_tree.specs.Views.{proof_of, spot_of};
-ghost use Rattle.round_relation.specs.Uses.{NeedsTime, size_needs, number_of, once, uses_from};
+ghost use Rattle.bound_rounds.specs.Needs.{once, uses_from};
+ghost use Rattle.size_bounds.specs.Uses.{NeedsTime, size_needs, number_of};
 ghost use Rattle.size_bounds.specs.Tables.{numbers_of};
 ghost use Rattle.size_bounds.specs.Lemmas.{uses_of_proofs, with_other};
 

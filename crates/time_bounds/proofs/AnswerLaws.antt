@@ -1,55 +1,89 @@
 -- What an answer gives, by what its composed time is rewritten to.
-use Rattle.std.proofs.Common.{◌≡◌, ℕ, List, [], ◌∷◌, map, All, false, sym, ap, subst, arith}
+use Rattle.std.proofs.Common.{◌≡◌, ℕ, List, [], ◌∷◌, map, All, true, false, Option, Some, None, refl, sym, ap, subst, arith}
 use Rattle.std.proofs.lemmas.List.Elements.{All-nil, All-cons, All-head, All-tail}
 use Rattle.model.specs.Programs.{Program}
+use Rattle.model.specs.Bounds.{Bound}
 use Rattle.its_model.specs.Valid.{IsValid}
+use Rattle.bound_table.specs.Within as within
+use Rattle.bound_table.specs.Within.{Fits, rewritten_within}
+use Rattle.guard_prep.proofs.StepLaws.{few-places as few_places}
 use Rattle.proof_tree.specs.proof_nodes.AcceptsRank.{HasFormShape}
 use Rattle.proof_tree.specs.proof_nodes.Gaps.{SymbolPlace}
+use Rattle.proof_tree.specs.proof_nodes.Nodes.{Spot, RankNode}
+use Rattle.proof_tree.specs.proof_nodes.Composed.{time_of}
 use Rattle.proof_tree.specs.declared.answer.EmptyAnswer.{EmptyAnswer}
 use Rattle.proof_tree.specs.declared.rank.Form as code
+use Rattle.proof_tree.specs.declared.rank.RankNode as code_rank
+use Rattle.proof_tree.specs.declared.gap.Gap as code_gap
+use Rattle.proof_tree.specs.proof_nodes.AcceptsPlain.{IsRule}
+use Rattle.proof_tree.specs.proof_nodes.GapChecks.{GapHolds}
+use Rattle.proof_tree.specs.proof_nodes.Known.{IsKnown}
+use Rattle.proof_tree.specs.proof_setting.Setting.{setting_of}
+use Rattle.proof_tree.specs.AnswerViews.{gap_of}
 use Rattle.proof_tree.specs.Views.{form_of, rank_of}
 use Rattle.proof_tree.specs.Sizes.{IsShort}
+use Rattle.proof_tree.proofs.proof_setting.Small.{small-bounds}
 use Rattle.rank_search.specs.declared.answer.RankAnswer.{RankAnswer}
 use Rattle.rank_search.specs.declared.answer.RankAnswer.TheVariants as ranks
-use Rattle.rank_search.specs.rule_questions.ProgramQuestions.{ranked_set, places_of}
-use Rattle.rank_search.specs.RankAnswers.{IsRuleSet, IsRankAnswer}
+use Rattle.rank_search.specs.rule_questions.ProgramQuestions.{forms_at, ranked_set, places_of}
 use Rattle.rank_search.specs.rule_questions.RuleAnswers.{AreEmptyAnswers}
+use Rattle.rank_search.specs.RankAnswers.{IsRuleSet, IsRankAnswer}
 use Rattle.rank_search.proofs.Accepted.{nodes-accepted}
-use Rattle.time_bounds.specs.Questions.{HasShape, IsAsked, IsAnswered}
-use Rattle.model.specs.Bounds.{Bound}
-use Rattle.bound_table.specs.Within.{Fits, TooLarge, rewritten_within}
-use Rattle.outcome.specs.Reports.{NoTime, TimeLarge, Timed, Untimed}
-use Rattle.proof_tree.specs.proof_nodes.Nodes.{RankNode}
-use Rattle.proof_tree.specs.proof_nodes.Known.{Table}
-use Rattle.proof_tree.specs.proof_nodes.Composed.{time_of}
-use Rattle.proof_tree.specs.proof_setting.Setting.{setting_of}
-use Rattle.proof_tree.proofs.proof_setting.Small.{small-bounds}
-use Rattle.size_bounds.specs.round_relation.Searches.{Ranked}
-use Rattle.size_bounds.specs.round_relation.NewTimes.{SaysTime, GivesTime}
-use Rattle.size_bounds.specs.round_relation.Reasons.{IsNoTime}
+use Rattle.bound_rounds.specs.Keys.{Bounds, is_untimed, lacks, over}
+use Rattle.bound_rounds.specs.Finds.{RankBy}
+use Rattle.bound_rounds.specs.Needs.{rank_needs}
+use Rattle.bound_rounds.specs.Searches.{Ranked, Unranked, NoBound, TooLarge}
+use Rattle.bound_rounds.specs.Answers.{Answer, Found, Lacks, AnsweredQuestion, TellsRanking, TellsTime}
+use Rattle.bound_rounds.specs.Right.{IsRightRanking}
+use Rattle.bound_rounds.proofs.AcceptedRanks.{is_question}
 use Rattle.time_bounds.specs.declared.asking.Asked.{Asked}
-use Rattle.size_bounds.specs.declared.table.Table as code_table
-use Rattle.time_bounds.specs.declared.trying.Tried.{Tried}
-use Rattle.time_bounds.specs.declared.trying.Tried.TheVariants.{Known, Missing}
-use Rattle.proof_tree.specs.declared.rank.RankNode as code_rank
-use Rattle.size_bounds.specs.round_relation.Tables.{lacks, is_untimed}
-use Rattle.time_bounds.specs.ProgramSearches.{searches_of_program, ranking_of}
-use Rattle.size_bounds.specs.Tables.{table_of}
-use Rattle.time_bounds.specs.Tries.{IsTried, IsMissing}
-use Rattle.time_bounds.proofs.RoundLaws.{asked_of}
-use Rattle.guard_prep.proofs.StepLaws.{few-places as few_places}
+use Rattle.time_bounds.specs.ProgramRules.{ranking_of}
+use Rattle.time_bounds.specs.ProgramSearches.{searches_of_program}
+use Rattle.time_bounds.specs.Questions.{HasShape, IsAsked, IsAnswered}
+use Rattle.time_bounds.specs.Tries.{IsMissing}
+use Rattle.time_bounds.proofs.RightSizings.{program_searches_right}
 pub use Rattle.model.proofs.Cases.{IfOk-both as both}
 
--- a composed time that fits is the rule's time
-pub found_says : (p : Program) (tab : Table) (node : RankNode) (b : Bound) → Fits b ≡ rewritten_within (time_of p node tab.time tab.size)
-    → SaysTime (setting_of p) tab (Ranked node) (Timed b)
-found_says p tab node b e = (small-bounds.fits (time_of p node tab.time tab.size) b).0 (sym e)
+-- a composed time that fits is what the node composes
+pub found_told : (p : Program) (b : Bounds) (node : RankNode) (needs : List Spot) (x : Bound)
+    → Fits x ≡ rewritten_within (time_of p node (over b).time (over b).size) → needs ≡ rank_needs p node
+    → TellsRanking (setting_of p) b (Ranked node) (Found (RankBy node) needs x)
+found_told p b node needs x e same =
+    let h = (small-bounds.fits (time_of p node (over b).time (over b).size) x).0 (sym e) in (h.0, refl, same, h.1)
 
 -- one that is too large gives none
-pub large_says : (p : Program) (tab : Table) (node : RankNode) (n : ℕ) → TooLarge n ≡ rewritten_within (time_of p node tab.time tab.size)
-    → SaysTime (setting_of p) tab (Ranked node) (Untimed (TimeLarge n))
-large_says p tab node n e =
-    let h = (small-bounds.large (time_of p node tab.time tab.size) n).0 (sym e) in (h.0, ap TimeLarge h.1)
+pub large_told : (p : Program) (b : Bounds) (node : RankNode) (n : ℕ)
+    → within.TooLarge n ≡ rewritten_within (time_of p node (over b).time (over b).size)
+    → TellsRanking (setting_of p) b (Ranked node) (Lacks (TooLarge n))
+large_told p b node n e =
+    let h = (small-bounds.large (time_of p node (over b).time (over b).size) n).0 (sym e) in (h.0, ap TooLarge h.1)
+
+-- a question that was answered is one of the relation
+pub asked_of : (p : Program) (b : Bounds) (pivots : ℕ) (empties : List EmptyAnswer) (t : ℕ) (a : Asked) → AreEmptyAnswers p pivots empties
+    → IsAsked p b t a → IsAnswered p pivots empties t a → AnsweredQuestion (searches_of_program p pivots) (setting_of p) b t
+asked_of p b pivots empties t a answers asked answered = record {
+  set = a.set.items;
+  shut = places_of a.shut.items;
+  answer = ranking_of a.answer;
+  is_set = asked.set;
+  are_shut = asked.shut;
+  answered = (empties, answers, (a.answer, refl, answered.answer));
+}
+
+-- what its answer tells is told of the time
+pub told_time : (p : Program) (b : Bounds) (pivots : ℕ) (empties : List EmptyAnswer) (t : ℕ) (a : Asked) (x : Answer)
+    → AreEmptyAnswers p pivots empties → IsAsked p b t a → IsAnswered p pivots empties t a
+    → TellsRanking (setting_of p) b (ranking_of a.answer) x → TellsTime (searches_of_program p pivots) (setting_of p) b t x
+unfolding asked_of
+told_time p b pivots empties t a x answers asked answered tells =
+    record { asked = asked_of p b pivots empties t a answers asked answered; tells = tells }
+
+-- so is why it gives none
+pub missing_tells : (p : Program) (b : Bounds) (pivots : ℕ) (empties : List EmptyAnswer) (t : ℕ) (a : Asked)
+    → AreEmptyAnswers p pivots empties → (m : IsMissing p b pivots empties t a)
+    → TellsTime (searches_of_program p pivots) (setting_of p) b t (Lacks m.why)
+missing_tells p b pivots empties t a answers m =
+    told_time p b pivots empties t a (Lacks m.why) answers m.asked m.answered m.tells
 
 short_forms : (p : Program) (fs : List code.Form) → IsValid p → All (HasFormShape p) (map form_of fs) → All IsShort fs
 short_forms p [] v h = All-nil IsShort
@@ -67,25 +101,6 @@ shape_of p set strict shut pivots empties (ranks.Ranked node) v rules h =
 shape_of p set strict shut pivots empties (ranks.NoRank gap) v rules h = tt
 shape_of p set strict shut pivots empties (ranks.Tripped t) v rules h = tt
 
--- why an answer gives no time is why the table has none
-pub no_time_of : (p : Program) (tab : code_table.Table) (pivots : ℕ) (empties : List EmptyAnswer) (t : ℕ) (a : Asked) (why : NoTime)
-    → AreEmptyAnswers p pivots empties → IsTried p tab pivots empties t (Missing a)
-    → SaysTime (setting_of p) (table_of tab) (ranking_of a.answer) (Untimed why)
-    → IsNoTime (searches_of_program p pivots) (setting_of p) (table_of tab) t why
-unfolding asked_of
-no_time_of p tab pivots empties t a why answers tried says = record {
-  missing = tried.0;
-  reason = record { asked = asked_of p tab pivots empties t a answers tried.1.asked tried.1.answered; says = says };
-}
-
--- a time that is found is told
-pub told_time : (p : Program) (tab : code_table.Table) (pivots : ℕ) (empties : List EmptyAnswer) (t : ℕ) (a : Asked) (b : Bound)
-    → AreEmptyAnswers p pivots empties → IsAsked p tab t a → IsAnswered p pivots empties t a
-    → SaysTime (setting_of p) (table_of tab) (ranking_of a.answer) (Timed b)
-    → GivesTime (searches_of_program p pivots) (setting_of p) (table_of tab) t (Timed b)
-unfolding asked_of
-told_time p tab pivots empties t a b answers asked answered says = record { asked = asked_of p tab pivots empties t a answers asked answered; says = says }
-
 -- an answer to a question is one to a question that is the same
 pub answered_of : (p : Program) (pivots t : ℕ) (a : Asked) (empties : List EmptyAnswer) (set : List ℕ) (shut : List (ℕ × ℕ)) (answers : List EmptyAnswer)
     → IsValid p → IsRuleSet p a.set.items t → set ≡ a.set.items → shut ≡ a.shut.items → answers ≡ empties
@@ -97,30 +112,49 @@ answered_of p pivots t a empties set shut answers v rules e f g h =
     record { answer = moved; shape = shape_of p a.set.items t (places_of a.shut.items) pivots empties a.answer v rules moved }
 
 -- what is missing, by an answer that gives no time
-pub missing_of : (p : Program) (tab : code_table.Table) (pivots : ℕ) (empties : List EmptyAnswer) (t : ℕ) (a : Asked) (answer : RankAnswer) (why : NoTime)
-    → IsAsked p tab t a → IsAnswered p pivots empties t a → a.answer ≡ answer
-    → SaysTime (setting_of p) (table_of tab) (ranking_of answer) (Untimed why)
-    → IsMissing p tab pivots empties t (record { set = a.set; shut = a.shut; answer = answer })
-missing_of p tab pivots empties t a answer why asked answered e says = record {
+pub missing_of : (p : Program) (b : Bounds) (pivots : ℕ) (empties : List EmptyAnswer) (t : ℕ) (a : Asked) (answer : RankAnswer) (why : NoBound)
+    → IsAsked p b t a → IsAnswered p pivots empties t a → a.answer ≡ answer
+    → TellsRanking (setting_of p) b (ranking_of answer) (Lacks why)
+    → IsMissing p b pivots empties t (record { set = a.set; shut = a.shut; answer = answer })
+missing_of p b pivots empties t a answer why asked answered e tells = record {
   asked = record { set = asked.set; shut = asked.shut };
   answered = record {
     answer = subst (λ (x : RankAnswer). IsRankAnswer (ranked_set p a.set.items t (places_of a.shut.items)) (places_of a.shut.items) pivots empties x) e answered.answer;
     shape = subst HasShape e answered.shape;
   };
   why = why;
-  says = says;
+  tells = tells;
 }
 
--- a rule whose time was known has one
-pub known_timed : (p : Program) (tab : code_table.Table) (pivots : ℕ) (empties : List EmptyAnswer) (t : ℕ) (x : Tried) → IsTried p tab pivots empties t x
-    → x ≡ Known → is_untimed (table_of tab) t ≡ false
-known_timed p tab pivots empties t x h e =
-    let known : IsTried p tab pivots empties t Known = subst (λ (y : Tried). IsTried p tab pivots empties t y) e h in ap lacks known.1
-
 -- where a time is missing the composed one doesn't fit
-pub missing_unfit : (p : Program) (tab : code_table.Table) (pivots : ℕ) (empties : List EmptyAnswer) (t : ℕ) (a : Asked) (node : code_rank.RankNode) (b : Bound)
-    → IsTried p tab pivots empties t (Missing a) → a.answer ≡ ranks.Ranked node
-    → Fits b ≡ rewritten_within (time_of p (rank_of node) (table_of tab).time (table_of tab).size) → ⊥
-missing_unfit p tab pivots empties t a node b tried e fits =
-    let says = subst (λ (x : RankAnswer). SaysTime (setting_of p) (table_of tab) (ranking_of x) (Untimed tried.1.why)) e tried.1.says in
-    says.0 (found_says p (table_of tab) (rank_of node) b fits).0
+pub missing_unfit : (p : Program) (b : Bounds) (pivots : ℕ) (empties : List EmptyAnswer) (t : ℕ) (a : Asked) (node : code_rank.RankNode) (x : Bound)
+    → IsMissing p b pivots empties t a → a.answer ≡ ranks.Ranked node
+    → Fits x ≡ rewritten_within (time_of p (rank_of node) (over b).time (over b).size) → ⊥
+missing_unfit p b pivots empties t a node x missing e fits =
+    let tells = subst (λ (y : RankAnswer). TellsRanking (setting_of p) b (ranking_of y) (Lacks missing.why)) e missing.tells in
+    tells.0 (found_told p b (rank_of node) (rank_needs p (rank_of node)) x fits refl).0
+
+-- a gap that is answered holds
+pub gap_holds : (p : Program) (b : Bounds) (pivots : ℕ) (empties : List EmptyAnswer) (t : ℕ) (a : Asked) (g : code_gap.Gap) → IsValid p
+    → AreEmptyAnswers p pivots empties → is_untimed b 0 ≡ false → IsRule p t → IsMissing p b pivots empties t a → a.answer ≡ ranks.NoRank g
+    → GapHolds p (forms_at p) (gap_of g)
+gap_holds p b pivots empties t a g valid answers start rule m e = told.0.holds
+  where
+    told : IsRightRanking (searches_of_program p pivots) (setting_of p) a.set.items t (places_of a.shut.items) (Unranked (gap_of g))
+    told =
+        subst (λ (x : RankAnswer). IsRightRanking (searches_of_program p pivots) (setting_of p) a.set.items t (places_of a.shut.items) (ranking_of x)) e
+        ((program_searches_right.each p pivots valid).rank a.set.items t (places_of a.shut.items) (ranking_of a.answer)
+        (is_question (setting_of p) b (timed (b 0 0) start) t a.set.items rule m.asked.set)
+        (empties, answers, (a.answer, refl, m.answered.answer)))
+      where
+        timed : (o : Option Bound) → lacks o ≡ false → IsKnown o
+        timed None k = absurd (let f : ⊥ = cc in f)
+        timed (Some x) k = (x, refl)
+
+-- a rule without a time has none
+pub untimed_none : (b : Bounds) (t : ℕ) → is_untimed b t ≡ true → b t 0 ≡ None
+untimed_none b t e = go (b t 0) e
+  where
+    go : (o : Option Bound) → lacks o ≡ true → o ≡ None
+    go None e = refl
+    go (Some x) e = absurd (let f : ⊥ = cc in f)

@@ -17,11 +17,11 @@ use Rattle.proof_tree.specs.proof_nodes.AcceptsSizes as accepts
 use Rattle.proof_tree.specs.proof_nodes.AcceptsSizes.{HasMemberShape, AcceptsUp, AcceptsLow}
 use Rattle.proof_tree.specs.proof_setting.Setting.{setting_of}
 use Rattle.proof_tree.specs.Views.{member_of}
-use Rattle.size_bounds.specs.round_relation.Tables.{IsPlace}
-use Rattle.size_bounds.specs.round_relation.NewSizes.{has_spot}
+use Rattle.bound_rounds.specs.Keys.{IsPlace}
+use Rattle.bound_rounds.specs.Keys.{has_key}
 use Rattle.proof_tree.specs.proof_nodes.Setting.{Setting}
-use Rattle.size_bounds.specs.round_relation.Components.{IsCovered, IsOneOf, AreSpotsAscending, AreComponentsOf}
-use Rattle.size_bounds.proofs.round_relation.SameDead.{dead_by}
+use Rattle.bound_rounds.specs.Components.{IsCovered, IsOneOf, AreSpotsAscending, AreComponentsOf}
+use Rattle.bound_rounds.proofs.DeadRules.{dead_by}
 use Rattle.rvg_components.specs.declared.component.Component.{Component}
 use Rattle.rvg_components.specs.Flows.{Locals, loops}
 use Rattle.rvg_components.specs.Listing.{AreComponents, SaysWhetherItLoops, members_of, local_from}
@@ -29,7 +29,8 @@ use Rattle.time_bounds.specs.declared.candidates.Candidate.{Candidate}
 use Rattle.time_bounds.specs.declared.candidates.Arms.{Arms}
 use Rattle.time_bounds.specs.declared.candidates.Arms.TheVariants as arms
 use Rattle.time_bounds.specs.ProgramSearches.{searches_of_program}
-use Rattle.time_bounds.specs.ProgramSizes.{spot, AreLive, IsLocalOf, AreLocals, AreLocalsOf, AreMembers}
+use Rattle.bound_rounds.specs.Keys.{key as spot}
+use Rattle.time_bounds.specs.ProgramSizes.{AreLive, IsLocalOf, AreLocals, AreLocalsOf, AreMembers}
 use Rattle.time_bounds.specs.Locals.{AreAnswered}
 use Rattle.time_bounds.specs.Candidates.{spots_in, IsAnswered, AreArms, IsArmed, AreArmed, IsAccepted, AreAccepted}
 use Rattle.time_bounds.specs.Candidates.{HasAccepted, IsCandidate, AreCandidatesOf}
@@ -37,13 +38,13 @@ use Rattle.time_bounds.proofs.LoneComponents.{lone}
 use Rattle.time_bounds.proofs.RightComponents.{components_of}
 
 -- what holds of each member holds of all places of a list
-pub of_all : (P : Spot → Type 0) (spots : List Spot) → ((t i : ℕ) → has_spot spots t i ≡ true → P (spot t i)) → All P spots
+pub of_all : (P : Spot → Type 0) (spots : List Spot) → ((t i : ℕ) → has_key spots t i ≡ true → P (spot t i)) → All P spots
 of_all P [] f = All-nil P
-of_all P (m ∷ spots) f = All-cons P m spots (f m.rule m.place here) (of_all P spots (λ t i e. f t i (onward ((m.rule == t) && (m.place == i)) (has_spot spots t i) e)))
+of_all P (m ∷ spots) f = All-cons P m spots (f m.rule m.place here) (of_all P spots (λ t i e. f t i (onward ((m.rule == t) && (m.place == i)) (has_key spots t i) e)))
   where
-    here : (((m.rule == m.rule) && (m.place == m.place)) || has_spot spots m.rule m.place) ≡ true
+    here : (((m.rule == m.rule) && (m.place == m.place)) || has_key spots m.rule m.place) ≡ true
     here =
-        or_left ((m.rule == m.rule) && (m.place == m.place)) (has_spot spots m.rule m.place)
+        or_left ((m.rule == m.rule) && (m.place == m.place)) (has_key spots m.rule m.place)
         (and_from (m.rule == m.rule) (m.place == m.place) (same_number m.rule) (same_number m.place))
 
     onward : (v w : Bool) → w ≡ true → (v || w) ≡ true
@@ -62,7 +63,7 @@ module _ (p : Program) (pivots : ℕ) (valid : IsValid p) (is_live : ℕ → Boo
       let x = (live_places.live t i).0 l in (
         (lives.live t).1 (
           x.0,
-          λ dead. x.1 (dead_by p lives.is_empty live_places.is_empty (λ e r h. (live_places.empty e r).1 ((lives.empty e r).0 h)) t x.0 dead),
+          λ dead. x.1 (dead_by p lives.is_empty live_places.is_empty (λ e r h. (live_places.empty e r).1 (let x = (lives.empty e r).0 h in record { multipliers = x.0; shown = x.1 })) t x.0 dead),
         ),
         x.2,
       )

@@ -1,6 +1,7 @@
 -- Entries of sizes carry the numbers of their lemmas.
 use Rattle.std.proofs.Common.{◌≡◌, ◌⊎◌, inl, inr, ℕ, zero, suc, ◌+◌, ◌<◌, List, [], ◌∷◌, ◌++◌, length, map, get_or, Vec}
 use Rattle.std.proofs.Common.{Option, Some, None, option_map, refl, sym, ◌∙◌, ap, subst, arith}
+use Rattle.std.specs.List.{remove}
 use Rattle.std.specs.declared.alloc.Global.{Global}
 use Rattle.std.proofs.lemmas.List.{map-append, length-map}
 use Rattle.outcome.specs.Reports.{NoSize, Unsized}
@@ -8,12 +9,11 @@ use Rattle.outcome.specs.Views.{size_of}
 use Rattle.outcome.specs.declared.entry.Stored.{Stored}
 use Rattle.outcome.specs.declared.entry.SizeEntry.{SizeEntry}
 use Rattle.outcome.specs.declared.entry.SizeEntry.TheVariants as entries
-use Rattle.size_bounds.specs.round_relation.Uses.{Numbers}
 use Rattle.size_bounds.specs.declared.table.Table.{Table}
-use Rattle.size_bounds.specs.Tables.{entry_at, row_at, lemma_stored, numbers_of}
+use Rattle.size_bounds.specs.Tables.{entry_at, row_at, lemma_stored}
 use Rattle.time_bounds.specs.AnalysisLemmas.{CarriesSize, CarrySizes, CarryRows}
-use Rattle.time_bounds.specs.SizeWrites.{placed, put_entry, put_place}
-use Rattle.time_bounds.specs.SizeSaid.{CarriesNumber, CarriesIfThere, CarryRow, CarryPlaces, KeepPlaces, IsReason}
+use Rattle.bound_book.specs.ByKey.{number_at, put_entry, put_place}
+use Rattle.time_bounds.specs.SizeSaid.{placed, CarriesNumber, CarriesIfThere, CarryRow, CarryPlaces, KeepPlaces, IsReason}
 use Rattle.model.proofs.Cases.{none_some as no_entry, some_same}
 
 -- what stands at a position after one more was pushed
@@ -114,23 +114,23 @@ rows_carried tab said new r t row h is long low read k = record { each = each }
     lists : map (λ (v : Vec (Option SizeEntry) Global). v.items) new ≡ map (λ (v : Vec (Option SizeEntry) Global). v.items) said ++ r.items ∷ []
     lists = ap (map (λ (v : Vec (Option SizeEntry) Global). v.items)) is ∙ map-append (λ (v : Vec (Option SizeEntry) Global). v.items) said (r ∷ [])
 
-    last : (i : ℕ) (e : SizeEntry) → placed (r.items ∷ []) 0 i ≡ Some e → CarriesNumber ((numbers_of tab).size t i) e
+    last : (i : ℕ) (e : SizeEntry) → placed (r.items ∷ []) 0 i ≡ Some e → CarriesNumber (number_at tab t i) e
     last zero e there = absurd (no_entry e there)
     last (suc i) e there =
         subst (λ (n : ℕ). CarriesNumber n e)
         (ap (λ (os : List (Option Stored)). lemma_stored (entry_at os i)) (sym (row_there tab.sizes.items t row low read))) (k.each i e there)
 
-    each : (u i : ℕ) (e : SizeEntry) → placed (map (λ row. row.items) new) u i ≡ Some e → CarriesNumber ((numbers_of tab).size u i) e
+    each : (u i : ℕ) (e : SizeEntry) → placed (map (λ row. row.items) new) u i ≡ Some e → CarriesNumber (number_at tab u i) e
     each u i e there =
         go (place_pushed (map (λ row. row.items) said) r.items u i e
         (sym (ap (λ (rows : List (List (Option SizeEntry))). placed rows u i) lists) ∙ there))
       where
         go : (placed (map (λ row. row.items) said) u i ≡ Some e)
             ⊎ ((u ≡ length (map (λ (v : Vec (Option SizeEntry) Global). v.items) said)) × (placed (r.items ∷ []) 0 i ≡ Some e))
-            → CarriesNumber ((numbers_of tab).size u i) e
+            → CarriesNumber (number_at tab u i) e
         go (inl old) = h.each u i e old
         go (inr new_one) =
-            subst (λ (n : ℕ). CarriesNumber ((numbers_of tab).size n i) e)
+            subst (λ (n : ℕ). CarriesNumber (number_at tab n i) e)
             (sym (new_one.0 ∙ (length-map said (λ (v : Vec (Option SizeEntry) Global). v.items) ∙ long))) (last i e new_one.1)
 
 -- a reason carries whatever number
@@ -151,12 +151,12 @@ reason_carries (entries.Large k) h n = tt
 pub reason_kept : (old new : List (List (Option SizeEntry))) (u j : ℕ) (x : SizeEntry) → new ≡ put_place old u j x → IsReason (Some x) → KeepPlaces old new
 reason_kept old new u j x is reason = record { each = λ tab h. record { each = each tab h } }
   where
-    each : (tab : Table) → CarryPlaces tab old → (t i : ℕ) (e : SizeEntry) → placed new t i ≡ Some e → CarriesNumber ((numbers_of tab).size t i) e
+    each : (tab : Table) → CarryPlaces tab old → (t i : ℕ) (e : SizeEntry) → placed new t i ≡ Some e → CarriesNumber (number_at tab t i) e
     each tab h t i e there = go (place_put old u j x t i e (sym (ap (λ (rows : List (List (Option SizeEntry))). placed rows t i) is) ∙ there))
       where
-        go : (placed old t i ≡ Some e) ⊎ (x ≡ e) → CarriesNumber ((numbers_of tab).size t i) e
+        go : (placed old t i ≡ Some e) ⊎ (x ≡ e) → CarriesNumber (number_at tab t i) e
         go (inl h2) = h.each t i e h2
-        go (inr same) = subst (CarriesNumber ((numbers_of tab).size t i)) same (reason_carries x reason ((numbers_of tab).size t i))
+        go (inr same) = subst (CarriesNumber (number_at tab t i)) same (reason_carries x reason (number_at tab t i))
 
 -- rows keep the numbers that they carry themselves
 pub kept_all : (rows : List (List (Option SizeEntry))) → KeepPlaces rows rows
@@ -167,16 +167,16 @@ pub kept_on : (a b c : List (List (Option SizeEntry))) → KeepPlaces a b → Ke
 kept_on a b c h k = record { each = λ tab x. k.each tab (h.each tab x) }
 
 -- rows whose entries are these carry the numbers
-sizes_carried : (ns : Numbers) (t i : ℕ) (row : List SizeEntry)
-    → ((j : ℕ) (e : SizeEntry) → entry_at (map (λ x. Some x) row) j ≡ Some e → CarriesNumber (ns.size t (i + j)) e) → CarrySizes ns t i row
+sizes_carried : (ns : ℕ → ℕ → ℕ) (t i : ℕ) (row : List SizeEntry)
+    → ((j : ℕ) (e : SizeEntry) → entry_at (map (λ x. Some x) row) j ≡ Some e → CarriesNumber (ns t (i + j)) e) → CarrySizes ns t i row
 sizes_carried ns t i [] h = tt
 sizes_carried ns t i (x ∷ row) h = (
-  entry x (subst (λ (n : ℕ). CarriesNumber (ns.size t n) x) (let z : i + 0 ≡ i = omega arith in z) (h 0 x refl)),
+  entry x (subst (λ (n : ℕ). CarriesNumber (ns t n) x) (let z : i + 0 ≡ i = omega arith in z) (h 0 x refl)),
   sizes_carried ns t (suc i) row
-      (λ j e there. subst (λ (n : ℕ). CarriesNumber (ns.size t n) e) (let z : i + suc j ≡ suc i + j = omega arith in z) (h (suc j) e there)),
+      (λ j e there. subst (λ (n : ℕ). CarriesNumber (ns t n) e) (let z : i + suc j ≡ suc i + j = omega arith in z) (h (suc j) e there)),
 )
   where
-    entry : (y : SizeEntry) → CarriesNumber (ns.size t i) y → CarriesSize ns t i y
+    entry : (y : SizeEntry) → CarriesNumber (ns t i) y → CarriesSize ns t i y
     entry (entries.Known s) k = k
     entry (entries.Loose l) k = tt
     entry (entries.Tripped r) k = tt
@@ -185,27 +185,33 @@ sizes_carried ns t i (x ∷ row) h = (
     entry (entries.Untimed r) k = tt
     entry (entries.Large n) k = tt
 
-rows_all : (ns : Numbers) (t : ℕ) (rows : List (List SizeEntry))
-    → ((u j : ℕ) (e : SizeEntry) → entry_at (row_at (map (λ row. map (λ x. Some x) row) rows) u) j ≡ Some e → CarriesNumber (ns.size (t + u) (suc j)) e)
+rows_all : (ns : ℕ → ℕ → ℕ) (t : ℕ) (rows : List (List SizeEntry))
+    → ((u j : ℕ) (e : SizeEntry) → entry_at (row_at (map (λ row. map (λ x. Some x) row) rows) u) j ≡ Some e → CarriesNumber (ns (t + u) (suc j)) e)
     → CarryRows ns t rows
 rows_all ns t [] h = tt
 rows_all ns t (row ∷ rows) h = (
   sizes_carried ns t 1 row
-      (λ j e there. subst (λ (n : ℕ). CarriesNumber (ns.size t n) e) (let z : suc j ≡ 1 + j = omega arith in z)
-      (subst (λ (n : ℕ). CarriesNumber (ns.size n (suc j)) e) (let z : t + 0 ≡ t = omega arith in z) (h 0 j e there))),
+      (λ j e there. subst (λ (n : ℕ). CarriesNumber (ns t n) e) (let z : suc j ≡ 1 + j = omega arith in z)
+      (subst (λ (n : ℕ). CarriesNumber (ns n (suc j)) e) (let z : t + 0 ≡ t = omega arith in z) (h 0 j e there))),
   rows_all ns (suc t) rows
-      (λ u j e there. subst (λ (n : ℕ). CarriesNumber (ns.size n (suc j)) e) (let z : t + suc u ≡ suc t + u = omega arith in z) (h (suc u) j e there)),
+      (λ u j e there. subst (λ (n : ℕ). CarriesNumber (ns n (suc j)) e) (let z : t + suc u ≡ suc t + u = omega arith in z) (h (suc u) j e there)),
 )
 
 -- rows in which all entries are said carry the numbers of the table, rule by rule
 pub all_carried : (tab : Table) (rows : List (Vec SizeEntry Global)) (said : List (List (Option SizeEntry)))
-    → map (λ row. map (λ x. Some x) row.items) rows ≡ said → CarryPlaces tab said → CarryRows (numbers_of tab) 0 (map (λ row. row.items) rows)
+    → map (λ row. map (λ x. Some x) row.items) rows ≡ said → CarryPlaces tab said → CarryRows (number_at tab) 0 (map (λ row. row.items) rows)
 all_carried tab rows said same h =
-    rows_all (numbers_of tab) 0 (map (λ row. row.items) rows)
-    (λ u j e there. subst (λ (n : ℕ). CarriesNumber ((numbers_of tab).size n (suc j)) e) (let z : u ≡ 0 + u = omega arith in z)
+    rows_all (number_at tab) 0 (map (λ row. row.items) rows)
+    (λ u j e there. subst (λ (n : ℕ). CarriesNumber (number_at tab n (suc j)) e) (let z : u ≡ 0 + u = omega arith in z)
     (h.each u (suc j) e (sym (ap (λ (rs : List (List (Option SizeEntry))). entry_at (row_at rs u) j) (sym (fused rows) ∙ same)) ∙ there)))
   where
     fused : (rs : List (Vec SizeEntry Global)) → map (λ row. map (λ x. Some x) row.items) rs
         ≡ map (λ row. map (λ x. Some x) row) (map (λ (row : Vec SizeEntry Global). row.items) rs)
     fused [] = refl
     fused (r ∷ rs) = ap (λ (xs : List (List (Option SizeEntry))). map (λ x. Some x) r.items ∷ xs) (fused rs)
+
+-- rows carry their numbers without the first
+pub rows_left : (ns : ℕ → ℕ → ℕ) (sizes left : List (Vec SizeEntry Global)) → left ≡ remove sizes 0
+    → CarryRows ns 0 (map (λ row. row.items) sizes) → CarryRows ns 1 (map (λ row. row.items) left)
+rows_left ns [] left e h = subst (λ (rows : List (Vec SizeEntry Global)). CarryRows ns 1 (map (λ row. row.items) rows)) (sym e) tt
+rows_left ns (row ∷ rows) left e h = subst (λ (rs : List (Vec SizeEntry Global)). CarryRows ns 1 (map (λ row. row.items) rs)) (sym e) h.1

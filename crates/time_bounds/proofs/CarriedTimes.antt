@@ -2,13 +2,12 @@
 use Rattle.std.proofs.Common.{◌≡◌, ℕ, suc, ◌+◌, List, [], ◌∷◌, ◌++◌, length, refl, sym, subst, arith}
 use Rattle.outcome.specs.declared.entry.TimeEntry.{TimeEntry}
 use Rattle.outcome.specs.declared.entry.TimeEntry.TheVariants as times
-use Rattle.proof_tree.specs.proof_nodes.Known.{Table}
-use Rattle.size_bounds.specs.round_relation.Uses.{Numbers}
-use Rattle.time_bounds.specs.Analysis.{IsKnownTime}
+use Rattle.bound_rounds.specs.Keys.{Bounds}
+use Rattle.time_bounds.specs.TimesSaid.{IsKnownTime}
 use Rattle.time_bounds.specs.AnalysisLemmas.{CarriesTime, CarryTimes, AreGapsInOrder}
 
 -- one entry more carries its number
-carry_more : (ns : Numbers) (t : ℕ) (xs : List TimeEntry) (x : TimeEntry) → CarryTimes ns t xs → CarriesTime ns (t + length xs) x
+carry_more : (ns : ℕ → ℕ → ℕ) (t : ℕ) (xs : List TimeEntry) (x : TimeEntry) → CarryTimes ns t xs → CarriesTime ns (t + length xs) x
     → CarryTimes ns t (xs ++ x ∷ [])
 carry_more ns t [] x h k = (subst (λ (n : ℕ). CarriesTime ns n x) (let z : t + 0 ≡ t = omega arith in z) k, tt)
 carry_more ns t (y ∷ xs) x h k = (
@@ -17,7 +16,7 @@ carry_more ns t (y ∷ xs) x h k = (
 )
 
 -- one time more that carries the number of its lemma stands behind those that do
-pub times_carried : (ns : Numbers) (xs new : List TimeEntry) (x : TimeEntry) (t : ℕ) → CarryTimes ns 1 xs → new ≡ xs ++ x ∷ [] → t ≡ length xs + 1
+pub times_carried : (ns : ℕ → ℕ → ℕ) (xs new : List TimeEntry) (x : TimeEntry) (t : ℕ) → CarryTimes ns 1 xs → new ≡ xs ++ x ∷ [] → t ≡ length xs + 1
     → CarriesTime ns t x → CarryTimes ns 1 new
 times_carried ns xs new x t h e at k =
     subst (λ (ys : List TimeEntry). CarryTimes ns 1 ys) (sym e)
@@ -38,8 +37,8 @@ pub gaps_ordered : (xs new : List TimeEntry) (x : TimeEntry) (m k : ℕ) → Are
 gaps_ordered xs new x m k h e g = subst (λ (ys : List TimeEntry). AreGapsInOrder 0 ys k) (sym e) (order_more 0 xs m x k h g)
 
 -- where a time is known the numbers of gaps stay
-pub known_ordered : (tab : Table) (t n : ℕ) (x : TimeEntry) → IsKnownTime tab t x → AreGapsInOrder n (x ∷ []) n
-known_ordered tab t n (times.Known s) h = refl
-known_ordered tab t n (times.Gap g) h = absurd h
-known_ordered tab t n (times.Tripped r) h = absurd h
-known_ordered tab t n (times.Large l) h = absurd h
+pub known_ordered : (b : Bounds) (t n : ℕ) (x : TimeEntry) → IsKnownTime b t x → AreGapsInOrder n (x ∷ []) n
+known_ordered b t n (times.Known s) h = refl
+known_ordered b t n (times.Gap g) h = absurd h
+known_ordered b t n (times.Tripped r) h = absurd h
+known_ordered b t n (times.Large l) h = absurd h

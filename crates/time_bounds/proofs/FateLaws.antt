@@ -24,10 +24,11 @@ use Rattle.proof_tree.specs.declared.answer.EmptyAnswer.TheVariants as answers
 use Rattle.rank_search.specs.rule_questions.EmptyAnswers.{IsEmptyAnswer, SaysEmpty}
 use Rattle.rank_search.specs.rule_questions.RuleAnswers.{answer_for, AreEmptyAnswers}
 use Rattle.rank_search.proofs.rule_questions.Exact.{answers-exact}
-use Rattle.size_bounds.specs.round_relation.Searches.{NoPoint}
-use Rattle.size_bounds.specs.round_relation.Beginning.{IsEmpty, IsDead}
+use Rattle.bound_rounds.specs.Searches.{NoPoint}
+use Rattle.bound_rounds.specs.Components.{IsEmpty, IsDead}
 use Rattle.time_bounds.specs.declared.fates.Fate.TheVariants.{Empty, Unreached, Live}
-use Rattle.time_bounds.specs.ProgramSearches.{emptiness_of, searches_of_program}
+use Rattle.time_bounds.specs.ProgramRules.{emptiness_of}
+use Rattle.time_bounds.specs.ProgramSearches.{searches_of_program}
 use Rattle.time_bounds.specs.Fates.{says_empty, is_said_empty, said_empty, fate_of, fates_by, fate_at, is_empty_fate}
 use Rattle.time_bounds.specs.Fates.{is_dead_fate, AreFates}
 use Rattle.time_bounds.proofs.ShutBySymbol.{range_in}

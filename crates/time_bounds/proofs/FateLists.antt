@@ -1,18 +1,15 @@
 -- Fates and empty rules, one more at a time.
 use Rattle.std.proofs.Common.{◌≡◌, ℕ, zero, suc, ◌+◌, ◌<◌, Bool, true, false, cond, List, [], ◌∷◌, ◌++◌, length, take}
-use Rattle.std.proofs.Common.{filter, map, replicate, Option, Some, refl, sym, ◌∙◌, ap, arith}
+use Rattle.std.proofs.Common.{filter, refl, sym, ◌∙◌, ap, arith}
 use Rattle.std.specs.Prelude.{slice_index_or}
 use Rattle.std.specs.List.{range_with_len}
-use Rattle.std.proofs.lemmas.List.{take_more, length-take-le, length-map, map-append}
+use Rattle.std.proofs.lemmas.List.{take_more, length-take-le}
 use Rattle.std.proofs.lemmas.Option.{slice_get_read}
 use Rattle.model.specs.Programs as plain
 use Rattle.its_model.specs.declared.program.Rule.{Rule}
-use Rattle.its_model.specs.Views.{rule_of}
 use Rattle.proof_tree.specs.declared.answer.EmptyAnswer.{EmptyAnswer}
 use Rattle.rank_search.specs.rule_questions.RuleAnswers.{answer_for}
 use Rattle.time_bounds.specs.declared.fates.Fate.{Fate}
-use Rattle.model.specs.Bounds.{Bound, Input}
-use Rattle.time_bounds.specs.Beginning.{zero_by, start_sizes, sizes_by}
 use Rattle.time_bounds.specs.Fates.{says_empty, is_said_empty, fate_of, fates_by}
 
 fates-append : (seen : List Bool) (xs : List EmptyAnswer) (ys : List Rule) (a : EmptyAnswer) (r : Rule) → length xs ≡ length ys
@@ -68,33 +65,3 @@ answer-read xs i a low at_a =
     let next : i + 1 ≡ suc i = omega arith in
     ap (λ (n : ℕ). is_said_empty (answer_for xs n)) next
     ∙ ap is_said_empty (slice_get_read xs (length xs) i a refl low at_a)
-
--- the size of one start argument more
-pub start-more : (n : ℕ) → start_sizes (n + 1) ≡ start_sizes n ++ Some (Input n) ∷ []
-start-more n =
-    let next : n + 1 ≡ suc n = omega arith in
-    ap (λ (k : ℕ). map (λ i. Some (Input i)) (range_with_len 0 k)) next
-    ∙ (ap (map (λ i. Some (Input i))) (range-more n 0 n (omega arith))
-    ∙ map-append (λ i. Some (Input i)) (range_with_len 0 n) (n ∷ []))
-
--- the sizes after one rule more
-sizes-append : (p : plain.Program) (fs : List Fate) (rs : List plain.Rule) (f : Fate) (r : plain.Rule) → length fs ≡ length rs
-    → sizes_by p (fs ++ f ∷ []) (rs ++ r ∷ []) ≡ sizes_by p fs rs ++ replicate (plain.arity_of p r.target) (zero_by f) ∷ []
-sizes-append p [] [] f r e = refl
-sizes-append p [] (x ∷ rs) f r e = absurd (omega (arith, e))
-sizes-append p (x ∷ fs) [] f r e = absurd (omega (arith, e))
-sizes-append p (x ∷ fs) (y ∷ rs) f r e =
-    ap (λ (rows : List (List (Option Bound))). replicate (plain.arity_of p y.target) (zero_by x) ∷ rows)
-    (sizes-append p fs rs f r (let z : length fs ≡ length rs = omega (arith, e) in z))
-
--- at one rule more, each place of its target has the size that the rule's fate gives
-pub sizes-more : (p : plain.Program) (fs : List Fate) (rs : List Rule) (i : ℕ) (d : Fate) (r : Rule) → length fs ≡ length rs → i < length rs
-    → r ≡ slice_index_or rs i r
-    → sizes_by p (take (i + 1) fs) (map rule_of (take (i + 1) rs))
-    ≡ sizes_by p (take i fs) (map rule_of (take i rs)) ++ replicate (plain.arity_of p r.target) (zero_by (slice_index_or fs i d)) ∷ []
-sizes-more p fs rs i d r e low at_r =
-    ap (λ (xs : List Fate). sizes_by p xs (map rule_of (take (i + 1) rs))) (take_more fs i d (omega (arith, low, e)))
-    ∙ (ap (λ (ys : List plain.Rule). sizes_by p (take i fs ++ slice_index_or fs i d ∷ []) ys)
-    (ap (map rule_of) (take_more rs i r low ∙ ap (λ (b : Rule). take i rs ++ b ∷ []) (sym at_r)) ∙ map-append rule_of (take i rs) (r ∷ []))
-    ∙ sizes-append p (take i fs) (map rule_of (take i rs)) (slice_index_or fs i d) (rule_of r)
-    (length-take-le i fs (omega (arith, low, e)) ∙ (sym (length-take-le i rs (omega (arith, low))) ∙ sym (length-map (take i rs) rule_of))))

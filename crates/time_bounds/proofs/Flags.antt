@@ -5,7 +5,7 @@ use Rattle.std.proofs.lemmas.List.{length-map}
 use Rattle.model.specs.Programs.{Program}
 use Rattle.outcome.specs.declared.entry.Stored.{Stored}
 use Rattle.proof_tree.specs.declared.answer.EmptyAnswer.{EmptyAnswer}
-use Rattle.size_bounds.specs.round_relation.Tables.{lacks}
+use Rattle.bound_rounds.specs.Keys.{lacks}
 use Rattle.size_bounds.specs.declared.table.Table.{Table}
 use Rattle.size_bounds.specs.Tables.{entry_at, is_unstored, bound_stored}
 use Rattle.time_bounds.specs.Questions.{AreUntimed, IsTable}

@@ -1,5 +1,5 @@
 -- A composed bound stays over a table that has grown, where each bound that it reads was known.
-use Rattle.std.proofs.Common.{◌≡◌, ℕ, suc, ◌||◌, not, Bool, true, false, List, [], ◌∷◌, ◌++◌, ℤ, nat_abs, filter}
+use Rattle.std.proofs.Common.{◌≡◌, ℕ, zero, suc, ◌||◌, not, Bool, true, false, List, [], ◌∷◌, ◌++◌, ℤ, nat_abs, filter}
 use Rattle.std.proofs.Common.{Option, Some, None, refl, sym, ◌∙◌, ap}
 use Rattle.std.specs.List.{AllByRecursion, list_any}
 use Rattle.std.proofs.lemmas.Bool.{or_left, or_right}
@@ -27,7 +27,21 @@ use Rattle.proof_tree.specs.proof_nodes.AcceptsSizes.{IsStraight}
 use Rattle.proof_tree.specs.proof_nodes.AcceptsSizes.{spread_size, cycle_size}
 use Rattle.proof_tree.specs.proof_nodes.Setting.{Setting}
 use Rattle.proof_tree.proofs.proof_nodes.CheckLists.{each-in, in-each}
+use Rattle.bound_rounds.specs.Keys.{Bounds, over, size_by}
 use Rattle.time_bounds.specs.Standing.{HasGrown}
+
+-- all times and sizes that were known in a table are
+pub record TableHasGrown (old new : Table) : Type 0 where
+  pub times : (t : ℕ) (b : Bound) → old.time t ≡ Some b → new.time t ≡ Some b
+  pub sizes : (t i : ℕ) (b : Bound) → old.size t i ≡ Some b → new.size t i ≡ Some b
+
+-- so it is of the tables of bounds, of which all that was known is
+pub table_grown : (old new : Bounds) → HasGrown old new → TableHasGrown (over old) (over new)
+table_grown old new h = record { times = λ t b e. h.each t 0 b e; sizes = sizes }
+  where
+    sizes : (t i : ℕ) (b : Bound) → size_by old t i ≡ Some b → size_by new t i ≡ Some b
+    sizes t zero b e = absurd (let f : ⊥ = cc in f)
+    sizes t (suc i) b e = h.each t (suc i) b e
 
 -- the parts of places agree where the bounds of those agree that have a coefficient and aren't left out
 place_parts-agree : (cs : List ℤ) (den : ℕ) (left_out : ℕ → Bool) (a b : ℕ → Bound)
@@ -75,7 +89,7 @@ arm-agrees o (Linear den form multipliers) a b h =
     λ i. SumOf (Part (Constant (rounded_up (height form.constant) den)) (places i))
 arm-agrees o Poly a b h = polynomial-agrees o a b h
 
-module _ (s : Setting) (old new : Table) (grown : HasGrown old new) where
+module _ (s : Setting) (old new : Table) (grown : TableHasGrown old new) where
   -- a known size stays, and so does a known time
   size-stays : (e j : ℕ) → IsKnown (old.size e (suc j)) → sizes_after old.size e j ≡ sizes_after new.size e j
   size-stays e j k = ap known (k.1 ∙ sym (grown.sizes e (suc j) k.0 k.1))

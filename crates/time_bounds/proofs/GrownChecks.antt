@@ -17,8 +17,7 @@ use Rattle.proof_tree.specs.proof_nodes.Checks.{check_up, check_low, check_size,
 use Rattle.proof_tree.specs.proof_nodes.Checks.{needed_times, straight_from, straight_into, spread_checks, cycle_checks}
 use Rattle.proof_tree.proofs.proof_nodes.CheckLists.{each-in}
 use Rattle.proof_tree.proofs.proof_nodes.SizeReasons.{members-known}
-use Rattle.time_bounds.specs.Standing.{HasGrown}
-use Rattle.time_bounds.proofs.GrownBounds.{spread-stays, AreStraight, into-stays, cycle-stays}
+use Rattle.time_bounds.proofs.GrownBounds.{TableHasGrown, spread-stays, AreStraight, into-stays, cycle-stays}
 
 -- the reason of a check stands over a table: what was missing is missing
 abbrev pub StandsFor : Table → Reason → Type 0
@@ -55,7 +54,7 @@ same-still f r xs rest later h k = each-still f f r (λ x y. y) (λ x y e. (y, e
 none-some : (b : Bound) → None ≡ Some b → ⊥
 none-some b e = cc
 
-module _ (s : Setting) (old new : Table) (grown : HasGrown old new) (r : Reason) (stands : StandsFor new r) where
+module _ (s : Setting) (old new : Table) (grown : TableHasGrown old new) (r : Reason) (stands : StandsFor new r) where
   -- the checks of sizes, and those of times
   sizes-still : (spots : List Spot) (rest later : List Check) → IsFirstAmong (for_each (check_size old) spots rest) r
       → (AllByRecursion (λ m. IsKnown (old.size m.rule m.place)) spots → IsFirstAmong rest r → IsFirstAmong later r)

@@ -11,10 +11,10 @@ use Rattle.model.proofs.Membership.{same_number, told_same, no_is_not_yes, is_in
 use Rattle.proof_tree.specs.proof_nodes.Nodes.{Spot}
 use Rattle.proof_tree.specs.proof_nodes.AcceptsPlain.{IsRule, places_at}
 use Rattle.rvg_components.specs.Flows.{target_spots, spots_of, live_spots}
-use Rattle.size_bounds.specs.round_relation.Tables.{IsPlace}
-use Rattle.size_bounds.specs.round_relation.NewSizes.{has_spot}
-use Rattle.size_bounds.proofs.round_relation.Numbered.{rule_in, place_in, in_places}
-use Rattle.time_bounds.specs.ProgramSizes.{spot}
+use Rattle.bound_rounds.specs.Keys.{IsPlace}
+use Rattle.bound_rounds.specs.Keys.{has_key}
+use Rattle.bound_rounds.proofs.RuleNumbers.{rule_in, place_in, in_places}
+use Rattle.bound_rounds.specs.Keys.{key as spot}
 use Rattle.time_bounds.proofs.SpotLists.{IsBeforeAll, Ascend, AreAllBefore, ascend-append, member-append, append-left}
 use Rattle.time_bounds.proofs.SpotLists.{append-right}
 
@@ -92,12 +92,12 @@ module _ (p : Program) (is_live : ℕ → Bool) where
   live-ascend = rows-ascend 1 (length p.rules)
 
   -- a member of the places after a rule is one of them
-  row-told : (u : ℕ) (is : List ℕ) (t i : ℕ) → has_spot (map (spot u) is) t i ≡ true → (u ≡ t) × (is_in i is ≡ true)
+  row-told : (u : ℕ) (is : List ℕ) (t i : ℕ) → has_key (map (spot u) is) t i ≡ true → (u ≡ t) × (is_in i is ≡ true)
   row-told u [] t i h = absurd (no_is_not_yes false refl h)
   row-told u (j ∷ is) t i h = go ((u == t) && (j == i)) refl h (row-told u is t i)
     where
-      go : (v : Bool) → ((u == t) && (j == i)) ≡ v → (v || has_spot (map (spot u) is) t i) ≡ true
-          → (has_spot (map (spot u) is) t i ≡ true → (u ≡ t) × (is_in i is ≡ true))
+      go : (v : Bool) → ((u == t) && (j == i)) ≡ v → (v || has_key (map (spot u) is) t i) ≡ true
+          → (has_key (map (spot u) is) t i ≡ true → (u ≡ t) × (is_in i is ≡ true))
           → (u ≡ t) × (is_in i (j ∷ is) ≡ true)
       go true e k later =
           let both = and_parts (u == t) (j == i) e in (
@@ -107,25 +107,25 @@ module _ (p : Program) (is_live : ℕ → Bool) where
           )
       go false e k later = let x = later k in (x.0, or_right (i == j) (is_in i is) x.1)
 
-  told-row : (t : ℕ) (is : List ℕ) (i : ℕ) → is_in i is ≡ true → has_spot (map (spot t) is) t i ≡ true
+  told-row : (t : ℕ) (is : List ℕ) (i : ℕ) → is_in i is ≡ true → has_key (map (spot t) is) t i ≡ true
   told-row t [] i h = absurd (no_is_not_yes false refl h)
   told-row t (j ∷ is) i h = go (is_in-cases i j is h) (told-row t is i)
     where
-      go : (i ≡ j) ⊎ (is_in i is ≡ true) → (is_in i is ≡ true → has_spot (map (spot t) is) t i ≡ true)
-          → has_spot (map (spot t) (j ∷ is)) t i ≡ true
+      go : (i ≡ j) ⊎ (is_in i is ≡ true) → (is_in i is ≡ true → has_key (map (spot t) is) t i ≡ true)
+          → has_key (map (spot t) (j ∷ is)) t i ≡ true
       go (inl e) later =
-          or_left ((t == t) && (j == i)) (has_spot (map (spot t) is) t i)
+          or_left ((t == t) && (j == i)) (has_key (map (spot t) is) t i)
           (and_from (t == t) (j == i) (same_number t) (subst (λ (n : ℕ). (n == i) ≡ true) e (same_number i)))
-      go (inr m) later = or_right ((t == t) && (j == i)) (has_spot (map (spot t) is) t i) (later m)
+      go (inr m) later = or_right ((t == t) && (j == i)) (has_key (map (spot t) is) t i) (later m)
 
   -- a member of the places of these rules that are live is a place of one of them
-  pub listed-live : (ts : List ℕ) (t i : ℕ) → has_spot (spots_of p is_live ts) t i ≡ true
+  pub listed-live : (ts : List ℕ) (t i : ℕ) → has_key (spots_of p is_live ts) t i ≡ true
       → (is_live t ≡ true) × IsPlace p t i
   listed-live [] t i h = absurd (no_is_not_yes false refl h)
   listed-live (u ∷ ts) t i h =
       go (member-append (row u (is_live u)) (spots_of p is_live ts) t i h) (listed-live ts t i)
     where
-      here : (v : Bool) → is_live u ≡ v → has_spot (row u v) t i ≡ true → (is_live t ≡ true) × IsPlace p t i
+      here : (v : Bool) → is_live u ≡ v → has_key (row u v) t i ≡ true → (is_live t ≡ true) × IsPlace p t i
       here false e k = absurd (no_is_not_yes false refl k)
       here true e k =
           let x = row-told u (places_at p (target_of p u)) t i k in (
@@ -133,30 +133,30 @@ module _ (p : Program) (is_live : ℕ → Bool) where
             in_places p t i (subst (λ (n : ℕ). is_in i (places_at p (target_of p n)) ≡ true) x.0 x.1),
           )
 
-      go : (has_spot (row u (is_live u)) t i ≡ true) ⊎ (has_spot (spots_of p is_live ts) t i ≡ true)
-          → (has_spot (spots_of p is_live ts) t i ≡ true → (is_live t ≡ true) × IsPlace p t i)
+      go : (has_key (row u (is_live u)) t i ≡ true) ⊎ (has_key (spots_of p is_live ts) t i ≡ true)
+          → (has_key (spots_of p is_live ts) t i ≡ true → (is_live t ≡ true) × IsPlace p t i)
           → (is_live t ≡ true) × IsPlace p t i
       go (inl k) later = here (is_live u) refl k
       go (inr k) later = later k
 
   -- and each place of a live rule is one of the places of live rules
   among : (ts : List ℕ) (t i : ℕ) → is_in t ts ≡ true → is_live t ≡ true → IsPlace p t i
-      → has_spot (spots_of p is_live ts) t i ≡ true
+      → has_key (spots_of p is_live ts) t i ≡ true
   among [] t i h live place = absurd (no_is_not_yes false refl h)
   among (u ∷ ts) t i h live place = go (is_in-cases t u ts h) (λ m. among ts t i m live place)
     where
-      here : has_spot (row t (is_live t)) t i ≡ true
+      here : has_key (row t (is_live t)) t i ≡ true
       here = rw live (told-row t (places_at p (target_of p t)) i (place_in p t i place))
 
-      go : (t ≡ u) ⊎ (is_in t ts ≡ true) → (is_in t ts ≡ true → has_spot (spots_of p is_live ts) t i ≡ true)
-          → has_spot (spots_of p is_live (u ∷ ts)) t i ≡ true
+      go : (t ≡ u) ⊎ (is_in t ts ≡ true) → (is_in t ts ≡ true → has_key (spots_of p is_live ts) t i ≡ true)
+          → has_key (spots_of p is_live (u ∷ ts)) t i ≡ true
       go (inl e) later =
           append-left (row u (is_live u)) (spots_of p is_live ts) t i
-          (subst (λ (n : ℕ). has_spot (row n (is_live n)) t i ≡ true) e here)
+          (subst (λ (n : ℕ). has_key (row n (is_live n)) t i ≡ true) e here)
       go (inr m) later = append-right (row u (is_live u)) (spots_of p is_live ts) t i (later m)
 
   -- each place after a live rule is among the places of live rules
-  pub live-listed : (t i : ℕ) → IsRule p t → is_live t ≡ true → IsPlace p t i → has_spot (live_spots p is_live) t i ≡ true
+  pub live-listed : (t i : ℕ) → IsRule p t → is_live t ≡ true → IsPlace p t i → has_key (live_spots p is_live) t i ≡ true
   live-listed t i rule live place =
       among (range_with_len 1 (length p.rules)) t i (rule_in p t rule.rule rule.numbered) live place
 

@@ -14,16 +14,17 @@ use Rattle.rank_search.specs.rule_questions.EmptyAnswers.{IsEmptyAnswer, SaysEmp
 use Rattle.rank_search.specs.rule_questions.RuleAnswers.{AreEmptyAnswers}
 use Rattle.local_size.specs.LocalAnswers.{IsLocal, local_answer_of}
 use Rattle.local_size.specs.declared.answer.LocalAnswer.{LocalAnswer}
-use Rattle.size_bounds.specs.round_relation.Tables.{IsPlace}
-use Rattle.size_bounds.specs.round_relation.Beginning.{IsDead}
+use Rattle.bound_rounds.specs.Keys.{IsPlace}
+use Rattle.bound_rounds.specs.Components.{IsDead}
 use Rattle.rvg_components.specs.Listing.{answers_for, local_in, local_from, is_flagged, AreLocalsFor}
 use Rattle.time_bounds.specs.declared.fates.Fate.{Fate}
 use Rattle.time_bounds.specs.declared.fates.Fate.TheVariants.{Empty, Unreached, Live}
 use Rattle.time_bounds.specs.ProgramSearches.{searches_of_program}
-use Rattle.time_bounds.specs.ProgramSizes.{spot, AreLive, IsLocalOf, AreLocals}
+use Rattle.bound_rounds.specs.Keys.{key as spot}
+use Rattle.time_bounds.specs.ProgramSizes.{AreLive, IsLocalOf, AreLocals}
 use Rattle.time_bounds.specs.Fates.{AreFates, fate_at, is_empty_fate, is_dead_fate}
 use Rattle.time_bounds.specs.Locals.{is_live_fate, AreAnswersAt, AreAnswersAfter, AreAllAnswers, answer_in}
-use Rattle.time_bounds.proofs.RoundLaws.{rule_below, rule_there}
+use Rattle.time_bounds.proofs.Rules.{rule_below, rule_there}
 use Rattle.model.proofs.Cases.{slice_get-there as get_below, none_some, some_same}
 
 -- one answer more of a rule
@@ -138,7 +139,10 @@ module _ (p : Program) (pivots : ℕ) (fates : List Fate) (lists : List (List Lo
   pub lives : AreLive p pivots (is_flagged (map is_live_fate fates))
   lives = record {
     is_empty = λ e. is_empty_fate (fate_at fates e);
-    empty = are.empty;
+    empty = λ t rule. (
+      λ e. let x = (are.empty t rule).0 e in (x.multipliers, x.shown),
+      λ h. (are.empty t rule).1 (record { multipliers = h.0; shown = h.1 }),
+    );
     live = λ t. (forth t, λ h. back t h.0 h.1);
   }
     where

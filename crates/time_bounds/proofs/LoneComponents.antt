@@ -8,7 +8,7 @@ use Rattle.model.proofs.Membership.{no_is_not_yes}
 use Rattle.its_graph.specs.Components.{IsNext, IsListing}
 use Rattle.proof_tree.specs.proof_nodes.Nodes.{Spot}
 use Rattle.proof_tree.specs.proof_nodes.Setting.{Setting}
-use Rattle.size_bounds.specs.round_relation.Components.{IsOneOf}
+use Rattle.bound_rounds.specs.Components.{IsOneOf}
 use Rattle.rvg_components.specs.Flows.{Locals, value_flows, live_spots, loops}
 use Rattle.rvg_components.specs.Listing.{spot_at, HasFlow, AreComponents}
 use Rattle.model.proofs.PathLaws.{Path-then as joined}

@@ -1,6 +1,6 @@
--- The searches of a program have one answer to each rank question, so each program has one analysis.
+-- Of the rules of a program one thing is answered: of emptiness, and to each rank question.
 use Rattle.std.proofs.Common.{◌≡◌, ◌⊎◌, inl, inr, ℕ, zero, suc, ◌<◌, ◌≤◌, List, [], ◌∷◌, length, map, Option, Some}
-use Rattle.std.proofs.Common.{None, refl, sym, ◌∙◌, ap, arith, slice_get}
+use Rattle.std.proofs.Common.{None, refl, sym, ◌∙◌, ap, subst, arith, slice_get}
 use Rattle.model.specs.Programs.{Program, Rule}
 use Rattle.model.proofs.Membership.{slice_get-below}
 use Rattle.its_model.proofs.linear_forms.CauseLaws.{names-same}
@@ -13,14 +13,15 @@ use Rattle.proof_tree.specs.declared.answer.EmptyAnswer.TheVariants as empties
 use Rattle.rank_search.specs.declared.answer.RankAnswer.{RankAnswer}
 use Rattle.rank_search.specs.declared.answer.RankAnswer.TheVariants as ranks
 use Rattle.rank_search.specs.rule_questions.ProgramQuestions.{ranked_set}
+use Rattle.rank_search.specs.rule_questions.EmptyAnswers.{IsEmptyAnswer}
 use Rattle.rank_search.specs.rule_questions.RuleAnswers.{answer_for, AreEmptyAnswers, point_in, trip_in}
 use Rattle.rank_search.specs.RankAnswers.{first_of, first_trip}
 use Rattle.rank_search.specs.rule_questions.OneEmptyAnswer.{IsSameTrip, IsSameEmptyAnswer, EmptyAnswersAreOne}
 use Rattle.rank_search.specs.OneAnswer.{SeeTheSame, IsSameRankAnswer, RankAnswersAreOne}
-use Rattle.size_bounds.specs.round_relation.Searches.{Ranking, Ranked, Unranked, RankTripped}
-use Rattle.size_bounds.specs.round_relation.Right.{AreOne}
-use Rattle.time_bounds.specs.ProgramSearches.{ranking_of, searches_of_program}
-use Rattle.model.proofs.Cases.{slice_get-there as at_some, some_none}
+use Rattle.bound_rounds.specs.Searches.{Emptiness, NoPoint, HasPoint, EmptyTripped, Ranking, Ranked, Unranked}
+use Rattle.bound_rounds.specs.Searches.{RankTripped}
+use Rattle.time_bounds.specs.ProgramRules.{emptiness_of, ranking_of, IsEmptinessOf, IsRankingOf}
+use Rattle.model.proofs.Cases.{slice_get-there as at_some, some_none, some_same}
 
 trip_one : (t u : Trip) → IsSameTrip t u → t ≡ u
 trip_one t u h = together t u h.0 (names-same t.cause u.cause h.1)
@@ -39,6 +40,18 @@ parts_one (empties.Point z) (empties.Tripped t) h = absurd h
 parts_one (empties.Tripped t) (empties.Empty k) h = absurd h
 parts_one (empties.Tripped t) (empties.Point w) h = absurd h
 parts_one (empties.Tripped t) (empties.Tripped u) h = (refl, ap (λ (x : Trip). Some x) (trip_one t u h))
+
+-- and they are told alike
+told_alike : (a b : EmptyAnswer) → IsSameEmptyAnswer a b → emptiness_of a ≡ emptiness_of b
+told_alike (empties.Empty n) (empties.Empty k) h = ap (λ (ms : List ℕ). NoPoint ms) h.1
+told_alike (empties.Empty n) (empties.Point z) h = absurd h
+told_alike (empties.Empty n) (empties.Tripped t) h = absurd h
+told_alike (empties.Point z) (empties.Empty k) h = absurd h
+told_alike (empties.Point z) (empties.Point w) h = ap (λ (x : ScaledPoint). HasPoint x) h
+told_alike (empties.Point z) (empties.Tripped t) h = absurd h
+told_alike (empties.Tripped t) (empties.Empty k) h = absurd h
+told_alike (empties.Tripped t) (empties.Point w) h = absurd h
+told_alike (empties.Tripped t) (empties.Tripped u) h = ap (λ (x : Trip). EmptyTripped x) (trip_one t u h)
 
 ranking_one : (a c : RankAnswer) → IsSameRankAnswer a c → ranking_of a ≡ ranking_of c
 ranking_one (ranks.Ranked n) (ranks.Ranked k) h = ap (λ (x : RankNode). Ranked x) h.0
@@ -99,11 +112,17 @@ module _ (empties_one : EmptyAnswersAreOne) (ranks_one : RankAnswersAreOne) (p :
     see_the_same : (set : List ℕ) → SeeTheSame xs ys set
     see_the_same set = record { points = same_points set; trips = same_trips set }
 
-  -- each rank question of a program has one answer
-  pub searches_one : AreOne (searches_of_program p pivots)
-  searches_one = record { ranks = one }
+  -- one thing is answered of the emptiness of a rule
+  pub emptiness_one : (t : ℕ) (x y : Emptiness) → IsEmptinessOf p pivots t x → IsEmptinessOf p pivots t y → x ≡ y
+  emptiness_one t x y (r, numbered, (a, same, is)) (s, there, (b, same_too, is_too)) =
+      sym same ∙ (told_alike a b (empties_one.each (prepared s) t pivots a b
+      (subst (λ (u : Rule). IsEmptyAnswer (prepared u) t pivots a) one_rule is) is_too) ∙ same_too)
     where
-      one : (set : List ℕ) (t : ℕ) (shut : List SymbolPlace) (x y : Ranking) → (searches_of_program p pivots).Ranks set t shut x
-          → (searches_of_program p pivots).Ranks set t shut y → x ≡ y
-      one set t shut x y (xs, a, (v, same, is)) (ys, b, (w, same_too, is_too)) =
-          sym same ∙ (ranking_one v w (ranks_one.each (ranked_set p set t shut) shut pivots xs ys (see_the_same xs ys a b set) v w is is_too) ∙ same_too)
+      one_rule : r ≡ s
+      one_rule = some_same r s (sym numbered ∙ there)
+
+  -- and each rank question has one answer
+  pub ranking_question_one : (set : List ℕ) (t : ℕ) (shut : List SymbolPlace) (x y : Ranking)
+      → IsRankingOf p pivots set t shut x → IsRankingOf p pivots set t shut y → x ≡ y
+  ranking_question_one set t shut x y (xs, a, (v, same, is)) (ys, b, (w, same_too, is_too)) =
+      sym same ∙ (ranking_one v w (ranks_one.each (ranked_set p set t shut) shut pivots xs ys (see_the_same xs ys a b set) v w is is_too) ∙ same_too)

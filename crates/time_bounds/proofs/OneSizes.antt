@@ -1,10 +1,9 @@
--- The searches for sizes of a program have one answer to each question.
-use Rattle.std.proofs.Common.{◌≡◌, ℕ, Bool, true, List, [], ◌∷◌, length, map, Option}
+-- The searches of a program have one answer to each question.
+use Rattle.std.proofs.Common.{◌≡◌, ℕ, Bool, true, List, [], ◌∷◌, length, map}
 use Rattle.std.proofs.Common.{refl, sym, ◌∙◌, ap, subst}
 use Rattle.std.specs.List.{AllByRecursion, range_with_len}
 use Rattle.std.proofs.lemmas.List.Elements.{recursion_from_All}
 use Rattle.model.specs.Programs.{Program, Rule}
-use Rattle.model.specs.Bounds.{Bound}
 use Rattle.guard_prep.specs.Prepared.{prepared}
 use Rattle.its_graph.specs.Components.{IsListing}
 use Rattle.its_graph.proofs.Uniqueness.{one_listing}
@@ -16,12 +15,15 @@ use Rattle.local_size.specs.LocalAnswers.{Local, IsLocal}
 use Rattle.local_size.specs.LocalLaws.{LocalAnswersAreOne}
 use Rattle.rvg_components.specs.Flows.{Locals, live_spots}
 use Rattle.rvg_components.specs.Listing.{spot_at, HasFlow, AreComponents}
-use Rattle.size_bounds.specs.round_relation.NewSizes.{has_spot}
-use Rattle.size_bounds.specs.round_relation.Searches.{Sizing}
-use Rattle.size_bounds.specs.round_relation.RightSizes.{AreSizesOne}
-use Rattle.size_bounds.proofs.round_relation.Cases.{some_same}
-use Rattle.size_bounds.proofs.round_relation.SameDead.{dead_by}
-use Rattle.time_bounds.specs.ProgramSizes.{spot, AreLive, IsLocalOf, AreLocals, sizes_of_program}
+use Rattle.bound_rounds.specs.Keys.{Bounds, has_key, key, over}
+use Rattle.bound_rounds.specs.Searches.{Sizing}
+use Rattle.bound_rounds.specs.Right.{AreOne}
+use Rattle.bound_rounds.proofs.Cases.{some_same}
+use Rattle.rank_search.specs.OneAnswer.{RankAnswersAreOne}
+use Rattle.time_bounds.proofs.OneSearches.{emptiness_one, ranking_question_one}
+use Rattle.bound_rounds.proofs.DeadRules.{dead_by}
+use Rattle.time_bounds.specs.ProgramSizes.{AreLive, IsLocalOf, AreLocals}
+use Rattle.time_bounds.specs.ProgramSearches.{searches_of_program}
 use Rattle.time_bounds.proofs.SpotLists.{at-member}
 use Rattle.time_bounds.proofs.LiveSpots.{listed-live, live_spots-same}
 use Rattle.rvg_components.proofs.Listings.{listing-same}
@@ -46,10 +48,10 @@ module _ (p : Program) (pivots : ℕ) where
     -- what is answered of a place is one
     local_one : (t i : ℕ) (x y : Local) → IsLocalOf p pivots t i x → IsLocalOf p pivots t i y → x ≡ y
     local_one t i x y h k =
-        locals_one.each (prepared k.rule) (spot t i) pivots h.empty k.empty x y
+        locals_one.each (prepared k.rule) (key t i) pivots h.empty k.empty x y
         (empties_one.each (prepared k.rule) t pivots h.empty k.empty
         (subst (λ (r : Rule). IsEmptyAnswer (prepared r) t pivots h.empty) same h.is_empty_answer) k.is_empty_answer)
-        (subst (λ (r : Rule). IsLocal (prepared r) (spot t i) pivots h.empty x) same h.local) k.local
+        (subst (λ (r : Rule). IsLocal (prepared r) (key t i) pivots h.empty x) same h.local) k.local
       where
         same : h.rule ≡ k.rule
         same = some_same h.rule k.rule (sym h.numbered ∙ k.numbered)
@@ -64,11 +66,10 @@ module _ (p : Program) (pivots : ℕ) where
         (local_one m.rule m.place (f m.rule m.place) (g m.rule m.place) h.0 k.0, all_one f g spots h.1 k.1)
 
     -- the answer about a component is one
-    sizes_one : (time : ℕ → Option Bound) (size : ℕ → ℕ → Option Bound) (spots : List Spot) (x y : Sizing)
-        → (sizes_of_program p pivots).Sizes time size spots x → (sizes_of_program p pivots).Sizes time size spots y
-        → x ≡ y
-    sizes_one time size spots x y (f, fs, is) (g, gs, is_too) =
-        sizing_one (setting_of p) (record { time = time; size = size }) f g spots
+    sizes_one : (b : Bounds) (spots : List Spot) (x y : Sizing) → (searches_of_program p pivots).Sizes b spots x
+        → (searches_of_program p pivots).Sizes b spots y → x ≡ y
+    sizes_one b spots x y (f, fs, is) (g, gs, is_too) =
+        sizing_one (setting_of p) (over b) f g spots
         (all_one f g spots
         (recursion_from_All (λ m. IsLocalOf p pivots m.rule m.place (f m.rule m.place)) spots fs)
         (recursion_from_All (λ m. IsLocalOf p pivots m.rule m.place (g m.rule m.place)) spots gs)) x y is is_too
@@ -76,7 +77,7 @@ module _ (p : Program) (pivots : ℕ) where
     -- the same live rules with the same answers have the same flows
     module _ (is_live : ℕ → Bool) (f g : Locals) (fs : AreLocals p pivots is_live f) (gs : AreLocals p pivots is_live g)
       where
-        same_on : (n : Spot) → has_spot (live_spots p is_live) n.rule n.place ≡ true → f n.rule n.place ≡ g n.rule n.place
+        same_on : (n : Spot) → has_key (live_spots p is_live) n.rule n.place ≡ true → f n.rule n.place ≡ g n.rule n.place
         same_on n h =
             let x = listed-live p is_live (range_with_len 1 (length p.rules)) n.rule n.place h in
             local_one n.rule n.place (f n.rule n.place) (g n.rule n.place) (fs n.rule n.place x.0 x.1)
@@ -107,8 +108,8 @@ module _ (p : Program) (pivots : ℕ) where
         h.spots ∙ (ap (λ (pss : List (List ℕ)). map (map (spot_at (live_spots p is_live))) pss) same ∙ sym k.spots)
 
     -- by live rules that are the same too
-    components_one : (cs ds : List (List Spot)) → (sizes_of_program p pivots).AreComponents cs
-        → (sizes_of_program p pivots).AreComponents ds → cs ≡ ds
+    components_one : (cs ds : List (List Spot)) → (searches_of_program p pivots).AreComponents cs
+        → (searches_of_program p pivots).AreComponents ds → cs ≡ ds
     components_one cs ds (live, lives, (f, fs, h)) (other, others, (g, gs, k)) =
         listings_one live f g fs (λ t i e place. gs t i (sym (same t) ∙ e) place) cs ds h record {
           positions = k.positions;
@@ -124,5 +125,10 @@ module _ (p : Program) (pivots : ℕ) where
         spots = live_spots-same p live other same
 
     -- each question has one answer
-    pub program_sizes_one : AreSizesOne (sizes_of_program p pivots)
-    program_sizes_one = record { components = components_one; sizes = sizes_one }
+    pub searches_one : RankAnswersAreOne → AreOne (searches_of_program p pivots)
+    searches_one ranks_one = record {
+      empties = emptiness_one empties_one ranks_one p pivots;
+      ranks = ranking_question_one empties_one ranks_one p pivots;
+      components = components_one;
+      sizes = sizes_one;
+    }

@@ -4,7 +4,6 @@ use Rattle.std.proofs.Common.{sym}
 use Rattle.std.proofs.Common.{◌∙◌, ap, subst}
 use Rattle.std.specs.List.{AllByRecursion, list_any}
 use Rattle.std.proofs.lemmas.List.Elements.{recursion_from_All}
-use Rattle.model.specs.Bounds.{Bound}
 use Rattle.model.specs.Entries.{is_in}
 use Rattle.model.specs.Paths.{pre}
 use Rattle.proof_tree.specs.proof_nodes.Nodes.{Spot, LocalBound, Member}
@@ -15,12 +14,14 @@ use Rattle.proof_tree.specs.proof_nodes.Reasons.{MissingTime, MissingSize, Bent,
 use Rattle.proof_tree.specs.proof_nodes.Checks.{spread_checks, cycle_checks}
 use Rattle.proof_tree.proofs.proof_nodes.CheckLists.{passed_has_none, first_is_one}
 use Rattle.proof_tree.proofs.proof_nodes.SizeReasons.{spread-passes, cycle-passes}
-use Rattle.outcome.specs.Reports.{NoSize, SizeLoose, SizeTripped, SizeMissing, SizeBent, SizeUntimed, SizeLarge}
+use Rattle.outcome.specs.Reports.{NoSize}
 use Rattle.local_size.specs.LocalAnswers.{Local, HasBound}
 use Rattle.rvg_components.specs.Flows.{Locals, local_reads, value_flows, loops}
-use Rattle.size_bounds.specs.round_relation.Searches.{Sizing, Found, NotFound}
-use Rattle.size_bounds.specs.round_relation.RightSizes.{IsReasonFor}
-use Rattle.size_bounds.proofs.round_relation.Cases.{some_same}
+use Rattle.bound_rounds.specs.Finds.{Node}
+use Rattle.bound_rounds.specs.Searches as searches
+use Rattle.bound_rounds.specs.Searches.{NoBound, Sizing, SizedBy, Unsized}
+use Rattle.bound_rounds.specs.Right.{IsReasonFor}
+use Rattle.bound_rounds.proofs.Cases.{some_same}
 use Rattle.time_bounds.specs.ProgramSizes.{loose_reason, trip_reason, or_else, first_reason, lacks_arms}
 use Rattle.time_bounds.specs.ProgramSizes.{IsSpreadSizing, IsCycleSizing, IsSizingBy, IsJudged, IsSizingOf}
 
@@ -31,7 +32,7 @@ any_same f g (m ∷ ms) h =
     ap (λ (v : Bool). v || list_any f ms) h.0 ∙ ap (λ (v : Bool). g m || v) (any_same f g ms h.1)
 
 -- how a reason of a node is told
-abbrev told_as : Reason → Option NoSize
+abbrev told_as : Reason → Option NoBound
 told_as Shape = None
 told_as NotEmpty = None
 told_as Reached = None
@@ -40,22 +41,23 @@ told_as (Move t) = None
 told_as Floor = None
 told_as (ArmUp t i) = None
 told_as (ArmLow t i) = None
-told_as (MissingTime t) = Some (SizeUntimed t)
-told_as (MissingSize t i) = Some (SizeMissing (record { rule = t; place = i }))
-told_as (Bent t i) = Some (SizeBent (record { rule = t; place = i }))
-told_as (Large n) = Some (SizeLarge n)
+told_as (MissingTime t) = Some (searches.Untimed t)
+told_as (MissingSize t i) = Some (searches.Missing (record { rule = t; place = i }))
+told_as (Bent t i) = Some (searches.Bent (record { rule = t; place = i }))
+told_as (Large n) = Some (searches.TooLarge n)
 told_as NotWeaker = None
 
-is_told : (why : NoSize) (r : Reason) → IsReasonFor why r → told_as r ≡ Some why
-is_told (SizeLoose side ray kept) r h = absurd h
-is_told (SizeTripped t) r h = absurd h
-is_told (SizeMissing m) r h = ap told_as h
-is_told (SizeBent m) r h = ap told_as h
-is_told (SizeUntimed t) r h = ap told_as h
-is_told (SizeLarge n) r h = ap told_as h
+is_told : (why : NoBound) (r : Reason) → IsReasonFor why r → told_as r ≡ Some why
+is_told (searches.NoFunction g) r h = absurd h
+is_told (searches.Loose side ray kept) r h = absurd h
+is_told (searches.Tripped t) r h = absurd h
+is_told (searches.Missing m) r h = ap told_as h
+is_told (searches.Bent m) r h = ap told_as h
+is_told (searches.Untimed t) r h = ap told_as h
+is_told (searches.TooLarge n) r h = ap told_as h
 
 -- one reason is told in one way
-told_one : (v w : NoSize) (q r : Reason) → IsReasonFor v q → IsReasonFor w r → q ≡ r → v ≡ w
+told_one : (v w : NoBound) (q r : Reason) → IsReasonFor v q → IsReasonFor w r → q ≡ r → v ≡ w
 told_one v w q r h k e = some_same v w (sym (is_told v q h) ∙ (ap told_as e ∙ is_told w r k))
 
 same_arms : (l k : LocalBound) → HasBound l ≡ HasBound k → l ≡ k
@@ -72,25 +74,25 @@ module _ (s : Setting) (tab : Table) where
   spread_one : (members : List Member) (x y : Sizing) → IsSpreadSizing s tab members x → IsSpreadSizing s tab members y
       → x ≡ y
   spread_one [] x y h k = absurd h
-  spread_one (m ∷ []) (Found b) (Found c) h k = ap (λ (d : Bound). Found d) (h.1 ∙ sym k.1)
-  spread_one (m ∷ []) (Found b) (NotFound w) h k =
-      absurd (passed_has_none (spread_checks s tab m) (spread-passes s tab m h.0) k.0 k.2)
-  spread_one (m ∷ []) (NotFound v) (Found c) h k =
-      absurd (passed_has_none (spread_checks s tab m) (spread-passes s tab m k.0) h.0 h.2)
-  spread_one (m ∷ []) (NotFound v) (NotFound w) h k =
-      ap (λ (n : NoSize). NotFound n)
+  spread_one (m ∷ []) (SizedBy b) (SizedBy c) h k = ap (λ (d : Node). SizedBy d) (h.0 ∙ sym k.0)
+  spread_one (m ∷ []) (SizedBy b) (Unsized w) h k =
+      absurd (passed_has_none (spread_checks s tab m) (spread-passes s tab m h.1) k.0 k.2)
+  spread_one (m ∷ []) (Unsized v) (SizedBy c) h k =
+      absurd (passed_has_none (spread_checks s tab m) (spread-passes s tab m k.1) h.0 h.2)
+  spread_one (m ∷ []) (Unsized v) (Unsized w) h k =
+      ap (λ (n : NoBound). Unsized n)
       (told_one v w h.0 k.0 h.1 k.1 (first_is_one (spread_checks s tab m) h.0 k.0 h.2 k.2))
   spread_one (m ∷ n ∷ members) x y h k = absurd h
 
   cycle_one : (members : List Member) (x y : Sizing) → IsCycleSizing s tab members x → IsCycleSizing s tab members y
       → x ≡ y
-  cycle_one members (Found b) (Found c) h k = ap (λ (d : Bound). Found d) (h.1 ∙ sym k.1)
-  cycle_one members (Found b) (NotFound w) h k =
-      absurd (passed_has_none (cycle_checks s tab members) (cycle-passes s tab members h.0) k.0 k.2)
-  cycle_one members (NotFound v) (Found c) h k =
-      absurd (passed_has_none (cycle_checks s tab members) (cycle-passes s tab members k.0) h.0 h.2)
-  cycle_one members (NotFound v) (NotFound w) h k =
-      ap (λ (n : NoSize). NotFound n)
+  cycle_one members (SizedBy b) (SizedBy c) h k = ap (λ (d : Node). SizedBy d) (h.0 ∙ sym k.0)
+  cycle_one members (SizedBy b) (Unsized w) h k =
+      absurd (passed_has_none (cycle_checks s tab members) (cycle-passes s tab members h.1) k.0 k.2)
+  cycle_one members (Unsized v) (SizedBy c) h k =
+      absurd (passed_has_none (cycle_checks s tab members) (cycle-passes s tab members k.1) h.0 h.2)
+  cycle_one members (Unsized v) (Unsized w) h k =
+      ap (λ (n : NoBound). Unsized n)
       (told_one v w h.0 k.0 h.1 k.1 (first_is_one (cycle_checks s tab members) h.0 k.0 h.2 k.2))
 
   by_one : (v : Bool) (members : List Member) (x y : Sizing) → IsSizingBy v s tab members x → IsSizingBy v s tab members y

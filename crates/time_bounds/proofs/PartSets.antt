@@ -8,12 +8,11 @@ use Rattle.std.proofs.lemmas.Grind.{get_or-set_at}
 use Rattle.model.specs.Programs.{Program}
 use Rattle.model.specs.Paths.{IsInSet}
 use Rattle.its_graph.specs.Graphs.{flagged, ArePartsBelow, HaveSameSets}
-use Rattle.proof_tree.specs.proof_nodes.Known.{Table}
 use Rattle.rank_search.specs.rule_questions.ProgramQuestions.{places_of}
-use Rattle.size_bounds.specs.round_relation.Tables.{is_untimed}
-use Rattle.size_bounds.specs.round_relation.Sets.{IsSetOfRule, AreShutOf}
+use Rattle.bound_rounds.specs.Keys.{is_untimed}
+use Rattle.bound_rounds.specs.Sets.{IsSetOfRule, AreShutOf}
 use Rattle.size_bounds.specs.declared.table.Table as code
-use Rattle.size_bounds.specs.Tables.{table_of}
+use Rattle.bound_book.specs.ByKey.{bounds_in}
 use Rattle.time_bounds.specs.declared.parts.OpenSet.{OpenSet}
 use Rattle.time_bounds.specs.declared.parts.Parts.{Parts}
 use Rattle.time_bounds.specs.Parts.{AreParts, IsOpenSet}
@@ -34,13 +33,13 @@ within_list xs t m e = go (cases_lt t (length xs))
 -- the same set of a rule that is told by the table
 set_by_table : (p : Program) (tab : code.Table) (flags : List Bool) (of_rules : List (Option ℕ)) → AreUntimed p tab flags
     → length of_rules ≡ length flags → HaveSameSets p (flagged flags) of_rules
-    → HaveSameSets p (is_untimed (table_of tab)) of_rules
+    → HaveSameSets p (is_untimed (bounds_in tab)) of_rules
 set_by_table p tab flags of_rules h size same t u m open_t open_u et eu e inside =
     let low_t : t ≤ length p.rules = omega (arith, within_list of_rules t m et, size, h.one_each) in
     let low_u : u ≤ length p.rules = omega (arith, within_list of_rules u m eu, size, h.one_each) in
-    in_set p (flagged flags) (is_untimed (table_of tab)) h.each u e
+    in_set p (flagged flags) (is_untimed (bounds_in tab)) h.each u e
     (same t u m (h.each t low_t ∙ open_t) (h.each u low_u ∙ open_u) et eu e
-    (in_set p (is_untimed (table_of tab)) (flagged flags) (λ i l. sym (h.each i l)) t e inside))
+    (in_set p (is_untimed (bounds_in tab)) (flagged flags) (λ i l. sym (h.each i l)) t e inside))
 
 abbrev nothing : Option OpenSet
 nothing = None
@@ -69,15 +68,15 @@ parts_begin p tab flags n parts h size below same none = record {
 pub open_copy : (p : Program) (tab : code.Table) (t : ℕ) (s r : OpenSet) → r.set.items ≡ s.set.items
     → r.shut.items ≡ s.shut.items → IsOpenSet p tab t s → IsOpenSet p tab t r
 open_copy p tab t s r e f h = record {
-  set = subst (λ (xs : List ℕ). IsSetOfRule p (table_of tab) t xs) (sym e) h.set;
-  shut = subst (λ (xs : List ℕ). AreShutOf p (table_of tab) xs (places_of r.shut.items)) (sym e)
-      (subst (λ (ys : List (ℕ × ℕ)). AreShutOf p (table_of tab) s.set.items (places_of ys)) (sym f) h.shut);
+  set = subst (λ (xs : List ℕ). IsSetOfRule p (bounds_in tab) t xs) (sym e) h.set;
+  shut = subst (λ (xs : List ℕ). AreShutOf p (bounds_in tab) xs (places_of r.shut.items)) (sym e)
+      (subst (λ (ys : List (ℕ × ℕ)). AreShutOf p (bounds_in tab) s.set.items (places_of ys)) (sym f) h.shut);
 }
 
 -- the set of another rule of the component
 open_other : (p : Program) (tab : code.Table) (t u : ℕ) (s : OpenSet)
-    → ((e : ℕ) → IsInSet p (is_untimed (table_of tab)) t e → IsInSet p (is_untimed (table_of tab)) u e)
-    → ((e : ℕ) → IsInSet p (is_untimed (table_of tab)) u e → IsInSet p (is_untimed (table_of tab)) t e)
+    → ((e : ℕ) → IsInSet p (is_untimed (bounds_in tab)) t e → IsInSet p (is_untimed (bounds_in tab)) u e)
+    → ((e : ℕ) → IsInSet p (is_untimed (bounds_in tab)) u e → IsInSet p (is_untimed (bounds_in tab)) t e)
     → IsOpenSet p tab t s → IsOpenSet p tab u s
 open_other p tab t u s onto back h = record {
   set = record {
@@ -90,12 +89,12 @@ open_other p tab t u s onto back h = record {
 -- the set of a rule is found for its component
 pub found_more : (p : Program) (tab : code.Table) (old new : Parts) (u part : ℕ) (r : OpenSet)
     → new.of_rules.items ≡ old.of_rules.items → new.found.items ≡ set old.found.items part (Some r)
-    → is_untimed (table_of tab) u ≡ true → get_or old.of_rules.items u None ≡ Some part → IsOpenSet p tab u r
+    → is_untimed (bounds_in tab) u ≡ true → get_or old.of_rules.items u None ≡ Some part → IsOpenSet p tab u r
     → AreParts p tab old → AreParts p tab new
 found_more p tab old new u part r same_rules put open_u eu right h = record {
   one_each = ap length same_rules ∙ h.one_each;
   within = λ t m e. omega (arith, h.within t m (there t m e), ap length put, length-set old.found.items part (Some r));
-  same = subst (λ (xs : List (Option ℕ)). HaveSameSets p (is_untimed (table_of tab)) xs) (sym same_rules) h.same;
+  same = subst (λ (xs : List (Option ℕ)). HaveSameSets p (is_untimed (bounds_in tab)) xs) (sym same_rules) h.same;
   found = λ t m s open_t e f. go t m s open_t (there t m e)
       (ap (λ (xs : List (Option OpenSet)). get_or xs m None) (sym put) ∙ f) (eqb_tells m part);
 }
@@ -106,7 +105,7 @@ found_more p tab old new u part r same_rules put open_u eu right h = record {
     some_same : (s q : OpenSet) → Some s ≡ Some q → s ≡ q
     some_same s q e = cc
 
-    go : (t m : ℕ) (s : OpenSet) → is_untimed (table_of tab) t ≡ true → get_or old.of_rules.items t None ≡ Some m
+    go : (t m : ℕ) (s : OpenSet) → is_untimed (bounds_in tab) t ≡ true → get_or old.of_rules.items t None ≡ Some m
         → get_or (set old.found.items part (Some r)) m None ≡ Some s
         → ((m == part) ≡ true) × (m ≡ part) ⊎ ((m == part) ≡ false) × (m ≢ part) → IsOpenSet p tab t s
     go t m s open_t e f (inr d) =

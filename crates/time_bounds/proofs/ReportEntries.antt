@@ -6,29 +6,37 @@ use Rattle.std.specs.List.{list_all}
 use Rattle.std.specs.Option.{option_map}
 use Rattle.std.proofs.lemmas.List.{length-map}
 use Rattle.model.specs.Programs.{Program}
-use Rattle.model.specs.Bounds.{Bound, Parts}
-use Rattle.model.specs.Facts.{HoldsTime, HoldsSize, HoldsTotal}
+use Rattle.model.specs.Bounds.{Bound, IsBased, Parts}
+use Rattle.model.specs.Facts.{Holds, HoldsTime, HoldsSize, HoldsTotal}
 use Rattle.its_model.specs.Valid.{IsValid}
 use Rattle.outcome.specs.Reports.{Time, Timed, Untimed, Size, Sized, Report, is_timed}
 use Rattle.outcome.specs.Holding.{IsReportOn, ReportHolds, numbered_entry, place_entry}
 use Rattle.outcome.specs.Views.{time_of}
 use Rattle.outcome.specs.declared.entry.TimeEntry.{TimeEntry}
 use Rattle.outcome.specs.declared.entry.TimeEntry.TheVariants as entries
-use Rattle.proof_tree.specs.proof_nodes.Known as nodes
-use Rattle.proof_tree.proofs.proof_nodes.GoodFacts.{IsGoodTable}
+use Rattle.proof_tree.specs.declared.gap.Gap.{Gap}
+use Rattle.proof_tree.specs.proof_nodes.Acceptance.{facts_of_lemma, facts_of_lemmas}
+use Rattle.proof_tree.specs.proof_nodes.AcceptsPlain.{IsRule}
+use Rattle.proof_tree.specs.proof_nodes.Laws.{HasBasedBound}
+use Rattle.proof_tree.proofs.proof_nodes.Soundness.{accepted_bounds_are_based}
 use Rattle.proof_tree.specs.proof_setting.Setting.{setting_of}
 use Rattle.proof_tree.proofs.proof_setting.Faithful.{settings-faithful}
-use Rattle.proof_tree.specs.declared.gap.Gap.{Gap}
-use Rattle.size_bounds.specs.round_relation.Searches.{Searches, SizeSearches}
-use Rattle.size_bounds.specs.round_relation.NewTimes.{bound_in}
-use Rattle.size_bounds.proofs.round_relation.NewBounds.{made_is_good}
+use Rattle.bound_rounds.specs.Keys.{place_fact}
+use Rattle.bound_rounds.specs.Finds.{Find, bounds_of, number_in}
+use Rattle.bound_rounds.specs.Needs.{lemmas_of}
+use Rattle.bound_rounds.specs.Searches.{Searches}
+use Rattle.bound_rounds.specs.Standing.{AllStand}
+use Rattle.bound_rounds.proofs.FactLists.{lemma-all}
+use Rattle.bound_rounds.proofs.ListMembers.{contained-all}
+use Rattle.bound_rounds.proofs.StandingLaws.{are_numbered, have_lemmas, hold}
 use Rattle.time_bounds.specs.ProgramSearches.{searches_of_program}
-use Rattle.time_bounds.specs.ProgramSizes.{sizes_of_program}
 use Rattle.time_bounds.specs.Totals.{time_in, before, known_parts, total_of}
 use Rattle.time_bounds.specs.Laws.{TimesHold}
-use Rattle.time_bounds.specs.Analysis.{IsTimeOf, AreTimesOf, IsSizeOf, AreSizesOf, AreSizeRowsOf, IsAnalysis}
-use Rattle.time_bounds.proofs.RightSearches.{program_searches_right}
-use Rattle.time_bounds.proofs.RightSizings.{program_sizes_right}
+use Rattle.time_bounds.specs.Analysis.{IsTimeOf, AreTimesOf, IsSizeOf, AreSizesOf, AreSizeRowsOf, IsAnalysis, bound_in}
+use Rattle.time_bounds.proofs.MadeFinds.{all_stand}
+use Rattle.time_bounds.proofs.OneProgram.{program_searches_one}
+use Rattle.time_bounds.proofs.RightSizings.{program_searches_right}
+use Rattle.time_bounds.proofs.Rules.{rule_there}
 use Rattle.time_bounds.proofs.Sums.{totals_hold}
 
 -- an entry's time is that of its report
@@ -63,37 +71,37 @@ total_told times =
     (λ h. sym e ∙ h, λ h. e ∙ h)
 
 -- what is said of each rule
-said_at : (q : Searches) (p : Program) (tab : nodes.Table) (k : ℕ) (times : List Time) (i : ℕ) (x : Time) → AreTimesOf q p tab k times
-    → slice_get times i ≡ Some x → IsTimeOf q p tab (k + i) x
-said_at q p tab k [] i x h e = absurd (let f : ⊥ = cc in f)
-said_at q p tab k (y ∷ times) zero x h e =
+said_at : (q : Searches) (p : Program) (fs : List Find) (k : ℕ) (times : List Time) (i : ℕ) (x : Time) → AreTimesOf q p fs k times
+    → slice_get times i ≡ Some x → IsTimeOf q p fs (k + i) x
+said_at q p fs k [] i x h e = absurd (let f : ⊥ = cc in f)
+said_at q p fs k (y ∷ times) zero x h e =
     let same : y ≡ x = cc in
-    subst (λ (n : ℕ). IsTimeOf q p tab n x) (let z : k ≡ k + 0 = omega arith in z) (subst (λ (z : Time). IsTimeOf q p tab k z) same h.0)
-said_at q p tab k (y ∷ times) (suc i) x h e =
-    subst (λ (n : ℕ). IsTimeOf q p tab n x) (let z : suc k + i ≡ k + suc i = omega arith in z) (said_at q p tab (suc k) times i x h.1 e)
+    subst (λ (n : ℕ). IsTimeOf q p fs n x) (let z : k ≡ k + 0 = omega arith in z) (subst (λ (z : Time). IsTimeOf q p fs k z) same h.0)
+said_at q p fs k (y ∷ times) (suc i) x h e =
+    subst (λ (n : ℕ). IsTimeOf q p fs n x) (let z : suc k + i ≡ k + suc i = omega arith in z) (said_at q p fs (suc k) times i x h.1 e)
 
 -- what is said of each place of a rule, and of each rule's places
-size_said_at : (z : SizeSearches) (tab : nodes.Table) (t k : ℕ) (sizes : List Size) (i : ℕ) (x : Size)
-    → AreSizesOf z tab t k sizes → slice_get sizes i ≡ Some x → IsSizeOf z tab t (k + i) x
-size_said_at z tab t k [] i x h e = absurd (let f : ⊥ = cc in f)
-size_said_at z tab t k (y ∷ sizes) zero x h e =
+size_said_at : (q : Searches) (p : Program) (fs : List Find) (t k : ℕ) (sizes : List Size) (i : ℕ) (x : Size)
+    → AreSizesOf q p fs t k sizes → slice_get sizes i ≡ Some x → IsSizeOf q p fs t (k + i) x
+size_said_at q p fs t k [] i x h e = absurd (let f : ⊥ = cc in f)
+size_said_at q p fs t k (y ∷ sizes) zero x h e =
     let same : y ≡ x = cc in
-    subst (λ (n : ℕ). IsSizeOf z tab t n x) (let q : k ≡ k + 0 = omega arith in q)
-    (subst (λ (s : Size). IsSizeOf z tab t k s) same h.0)
-size_said_at z tab t k (y ∷ sizes) (suc i) x h e =
-    subst (λ (n : ℕ). IsSizeOf z tab t n x) (let q : suc k + i ≡ k + suc i = omega arith in q)
-    (size_said_at z tab t (suc k) sizes i x h.1 e)
+    subst (λ (n : ℕ). IsSizeOf q p fs t n x) (let z : k ≡ k + 0 = omega arith in z)
+    (subst (λ (s : Size). IsSizeOf q p fs t k s) same h.0)
+size_said_at q p fs t k (y ∷ sizes) (suc i) x h e =
+    subst (λ (n : ℕ). IsSizeOf q p fs t n x) (let z : suc k + i ≡ k + suc i = omega arith in z)
+    (size_said_at q p fs t (suc k) sizes i x h.1 e)
 
-row_said_at : (z : SizeSearches) (tab : nodes.Table) (k : ℕ) (rows : List (List Size)) (t : ℕ) (row : List Size)
-    → AreSizeRowsOf z tab k rows → slice_get rows t ≡ Some row → AreSizesOf z tab (k + t) 1 row
-row_said_at z tab k [] t row h e = absurd (let f : ⊥ = cc in f)
-row_said_at z tab k (y ∷ rows) zero row h e =
+row_said_at : (q : Searches) (p : Program) (fs : List Find) (k : ℕ) (rows : List (List Size)) (t : ℕ) (row : List Size)
+    → AreSizeRowsOf q p fs k rows → slice_get rows t ≡ Some row → AreSizesOf q p fs (k + t) 1 row
+row_said_at q p fs k [] t row h e = absurd (let f : ⊥ = cc in f)
+row_said_at q p fs k (y ∷ rows) zero row h e =
     let same : y ≡ row = cc in
-    subst (λ (n : ℕ). AreSizesOf z tab n 1 row) (let q : k ≡ k + 0 = omega arith in q)
-    (subst (λ (s : List Size). AreSizesOf z tab k 1 s) same h.0)
-row_said_at z tab k (y ∷ rows) (suc t) row h e =
-    subst (λ (n : ℕ). AreSizesOf z tab n 1 row) (let q : suc k + t ≡ k + suc t = omega arith in q)
-    (row_said_at z tab (suc k) rows t row h.1 e)
+    subst (λ (n : ℕ). AreSizesOf q p fs n 1 row) (let z : k ≡ k + 0 = omega arith in z)
+    (subst (λ (s : List Size). AreSizesOf q p fs k 1 s) same h.0)
+row_said_at q p fs k (y ∷ rows) (suc t) row h e =
+    subst (λ (n : ℕ). AreSizesOf q p fs n 1 row) (let z : suc k + t ≡ k + suc t = omega arith in z)
+    (row_said_at q p fs (suc k) rows t row h.1 e)
 
 -- each known time of a list, by its position
 known_at : (times : List Time) (i : ℕ) (b : Bound) → slice_index_or (map bound_in times) i None ≡ Some b → slice_get times i ≡ Some (Timed b)
@@ -103,29 +111,46 @@ known_at (Untimed w ∷ times) zero b e = absurd (let f : ⊥ = cc in f)
 known_at (x ∷ times) (suc i) b e = known_at times i b e
 
 module _ (p : Program) (pivots : ℕ) (valid : IsValid p) (r : Report) (h : IsAnalysis p pivots r) where
-  good : IsGoodTable p h.table
-  good =
-      made_is_good (searches_of_program p pivots) (sizes_of_program p pivots) (setting_of p) (settings-faithful.each p valid)
-      (program_searches_right.each p pivots valid) (program_sizes_right.each p pivots valid) h.table h.last.made
+  stand : AllStand (setting_of p) h.finds
+  stand =
+      all_stand (searches_of_program p pivots) (setting_of p) (program_searches_right.each p pivots valid)
+      (program_searches_one.each p pivots) h.finds h.last.made
 
-  timed_at : (i : ℕ) (b : Bound) → slice_get r.times i ≡ Some (Timed b) → h.table.time (suc i) ≡ Some b
+  -- what is known with the finds holds
+  known_holds : (t i : ℕ) (b : Bound) → bounds_of p h.finds t i ≡ Some b → Holds p (place_fact t i b)
+  known_holds t i b e = hold.each (setting_of p) (settings-faithful.each p valid) h.finds stand t i b e
+
+  -- and so has bases of at least 1
+  known_based : (t : ℕ) (b : Bound) → IsRule p t → bounds_of p h.finds t 0 ≡ Some b → IsBased b
+  known_based t b rule e =
+      contained-all HasBasedBound (facts_of_lemma (facts_of_lemmas (setting_of p) (lemmas_of h.finds)) (number_in h.finds t 0))
+      (place_fact t 0 b)
+      (lemma-all HasBasedBound (facts_of_lemmas (setting_of p) (lemmas_of h.finds))
+      (accepted_bounds_are_based.each (setting_of p) (settings-faithful.each p valid) (lemmas_of h.finds)
+      (have_lemmas.accepted (setting_of p) h.finds stand)) (number_in h.finds t 0))
+      (are_numbered.each (setting_of p) h.finds stand t 0 b rule e)
+
+  timed_at : (i : ℕ) (b : Bound) → slice_get r.times i ≡ Some (Timed b) → bounds_of p h.finds (suc i) 0 ≡ Some b
   timed_at i b e =
-      ap h.table.time (let z : suc i ≡ 1 + i = omega arith in z) ∙ said_at (searches_of_program p pivots) p h.table 1 r.times i (Timed b) h.times e
+      ap (λ (n : ℕ). bounds_of p h.finds n 0) (let z : suc i ≡ 1 + i = omega arith in z)
+      ∙ said_at (searches_of_program p pivots) p h.finds 1 r.times i (Timed b) h.times e
 
   sized_at : (k j : ℕ) (row : List Size) (b : Bound) → slice_get r.sizes k ≡ Some row → slice_get row j ≡ Some (Sized b)
-      → h.table.size (suc k) (suc j) ≡ Some b
+      → bounds_of p h.finds (suc k) (suc j) ≡ Some b
   sized_at k j row b e f =
       let one : (n : ℕ) → suc n ≡ 1 + n = λ n. omega arith in
-      let said = row_said_at (sizes_of_program p pivots) h.table 1 r.sizes k row h.sizes e in
-      ap (λ (n : ℕ). h.table.size n (suc j)) (one k)
-      ∙ (ap (λ (n : ℕ). h.table.size (1 + k) n) (one j)
-      ∙ size_said_at (sizes_of_program p pivots) h.table (1 + k) 1 row j (Sized b) said f)
+      let said = row_said_at (searches_of_program p pivots) p h.finds 1 r.sizes k row h.sizes e in
+      ap (λ (n : ℕ). bounds_of p h.finds n (suc j)) (one k)
+      ∙ (ap (λ (n : ℕ). bounds_of p h.finds (1 + k) n) (one j)
+      ∙ size_said_at (searches_of_program p pivots) p h.finds (1 + k) 1 row j (Sized b) said f)
 
   times_hold : TimesHold p (map bound_in r.times)
   times_hold = record {
     one_each = length-map r.times bound_in ∙ h.one_each;
-    holds = λ i b l e. (good.times (suc i) b (timed_at i b (known_at r.times i b e))).holds;
-    based = λ i b l e. (good.times (suc i) b (timed_at i b (known_at r.times i b e))).based;
+    holds = λ i b l e. known_holds (suc i) 0 b (timed_at i b (known_at r.times i b e));
+    based = λ i b l e.
+        known_based (suc i) b (rule_there p i (omega (arith, l, length-map r.times bound_in, h.one_each)))
+        (timed_at i b (known_at r.times i b e));
   }
 
   -- all that the report says holds
@@ -134,7 +159,7 @@ module _ (p : Program) (pivots : ℕ) (valid : IsValid p) (r : Report) (h : IsAn
     where
       times : (t : ℕ) (b : Bound) → numbered_entry r.times t ≡ Some (Timed b) → HoldsTime p t b
       times zero b e = absurd (let f : ⊥ = cc in f)
-      times (suc i) b e = (good.times (suc i) b (timed_at i b e)).holds
+      times (suc i) b e = known_holds (suc i) 0 b (timed_at i b e)
 
       total : (b : Bound) → r.total ≡ Some b → HoldsTotal p b
       total b e = totals_hold.each p (map bound_in r.times) b times_hold (sym h.total ∙ e)
@@ -143,7 +168,7 @@ module _ (p : Program) (pivots : ℕ) (valid : IsValid p) (r : Report) (h : IsAn
           → HoldsSize p (suc k) i b
       place k i b None e f = absurd (let none : ⊥ = cc in none)
       place k zero b (Some row) e f = absurd (let none : ⊥ = cc in none)
-      place k (suc j) b (Some row) e f = (good.sizes (suc k) (suc j) b (sized_at k j row b e f)).holds
+      place k (suc j) b (Some row) e f = known_holds (suc k) (suc j) b (sized_at k j row b e f)
 
       sizes : (t i : ℕ) (b : Bound) → place_entry (numbered_entry r.sizes t) i ≡ Some (Sized b) → HoldsSize p t i b
       sizes zero i b e = absurd (let none : ⊥ = cc in none)

@@ -12,12 +12,12 @@ use Rattle.its_graph.proofs.Routes.{join, path-within}
 use Rattle.rvg_components.specs.Flows.{Locals, live_spots}
 use Rattle.rvg_components.specs.Listing.{spot_at, HasFlow, AreComponents}
 use Rattle.proof_tree.specs.proof_setting.Setting.{setting_of}
-use Rattle.size_bounds.specs.round_relation.Tables.{IsPlace}
-use Rattle.size_bounds.specs.round_relation.Beginning.{IsDead}
-use Rattle.size_bounds.specs.round_relation.NewSizes.{has_spot}
-use Rattle.size_bounds.specs.round_relation.Components.{AreSpotsAscending, IsCovered, AreApart, AreComponentsOf}
+use Rattle.bound_rounds.specs.Keys.{IsPlace}
+use Rattle.bound_rounds.specs.Components.{IsDead}
+use Rattle.bound_rounds.specs.Keys.{has_key}
+use Rattle.bound_rounds.specs.Components.{AreSpotsAscending, IsCovered, AreApart, AreComponentsOf}
 use Rattle.time_bounds.specs.ProgramSearches.{searches_of_program}
-use Rattle.time_bounds.specs.ProgramSizes.{AreLive, sizes_of_program}
+use Rattle.time_bounds.specs.ProgramSizes.{AreLive}
 use Rattle.time_bounds.proofs.SpotLists.{Ascend, at-one, member-at, at-member, ascending-chosen, chosen-told}
 use Rattle.time_bounds.proofs.SpotLists.{told-chosen}
 use Rattle.time_bounds.proofs.LiveSpots.{live-ascend, listed-live, live-listed}
@@ -56,7 +56,7 @@ module _ (spots : List Spot) (up : Ascend spots) (Edge : ℕ → ℕ → Type 0)
   -- no place is a member of two
   twice : (before between : List (List ℕ)) (c d : List ℕ) (rest : List (List ℕ))
       → positions ≡ before ++ c ∷ (between ++ d ∷ rest)
-      → (t i : ℕ) → has_spot (places c) t i ≡ true → has_spot (places d) t i ≡ true → ⊥
+      → (t i : ℕ) → has_key (places c) t i ≡ true → has_key (places d) t i ≡ true → ⊥
   twice before between c d rest e t i h k =
       let x = chosen-told spots c t i h in
       let y = chosen-told spots d t i k in
@@ -80,7 +80,7 @@ module _ (spots : List Spot) (up : Ascend spots) (Edge : ℕ → ℕ → Type 0)
       }
 
   elsewhere : (before : List (List ℕ)) (c : List ℕ) (between rest : List (List ℕ))
-      → positions ≡ before ++ c ∷ (between ++ rest) → (t i : ℕ) → has_spot (places c) t i ≡ true
+      → positions ≡ before ++ c ∷ (between ++ rest) → (t i : ℕ) → has_key (places c) t i ≡ true
       → IsCovered (all_places rest) t i → ⊥
   elsewhere before c between [] e t i h l = l
   elsewhere before c between (d ∷ rest) e t i h (inl k) = twice before between c d rest e t i h k
@@ -97,7 +97,7 @@ module _ (spots : List Spot) (up : Ascend spots) (Edge : ℕ → ℕ → Type 0)
 
   -- a member of a component is one of the places
   is_place : (before rest : List (List ℕ)) → positions ≡ before ++ rest → (t i : ℕ) → IsCovered (all_places rest) t i
-      → has_spot spots t i ≡ true
+      → has_key spots t i ≡ true
   is_place before [] e t i l = absurd l
   is_place before (c ∷ rest) e t i (inl h) =
       let x = chosen-told spots c t i h in
@@ -106,14 +106,14 @@ module _ (spots : List Spot) (up : Ascend spots) (Edge : ℕ → ℕ → Type 0)
       is_place (before ++ c ∷ []) rest (e ∙ sym (append_assoc before (c ∷ []) rest)) t i l
 
   -- and each of the places is a member of one
-  listed_in : (pss : List (List ℕ)) (c : List ℕ) (t i : ℕ) → Contains pss c → has_spot (places c) t i ≡ true
+  listed_in : (pss : List (List ℕ)) (c : List ℕ) (t i : ℕ) → Contains pss c → has_key (places c) t i ≡ true
       → IsCovered (all_places pss) t i
   listed_in [] c t i (n, l, same) h = absurd (omega (arith, l))
   listed_in (d ∷ pss) c t i (zero, l, same) h =
-      inl (subst (λ (ps : List ℕ). has_spot (places ps) t i ≡ true) (sym same) h)
+      inl (subst (λ (ps : List ℕ). has_key (places ps) t i ≡ true) (sym same) h)
   listed_in (d ∷ pss) c t i (suc n, l, same) h = inr (listed_in pss c t i (n, omega (arith, l), same) h)
 
-  place_listed : (t i : ℕ) → has_spot spots t i ≡ true → IsCovered (all_places positions) t i
+  place_listed : (t i : ℕ) → has_key spots t i ≡ true → IsCovered (all_places positions) t i
   place_listed t i h =
       let x = member-at spots t i h in
       let there = listing.all x.0 x.1 in
@@ -128,11 +128,11 @@ module _ (spots : List Spot) (up : Ascend spots) (Edge : ℕ → ℕ → Type 0)
   chosen_apart = apart [] positions refl
 
   -- each member of a component is one of the places
-  pub chosen_place : (t i : ℕ) → IsCovered (all_places positions) t i → has_spot spots t i ≡ true
+  pub chosen_place : (t i : ℕ) → IsCovered (all_places positions) t i → has_key spots t i ≡ true
   chosen_place t i l = is_place [] positions refl t i l
 
   -- each of the places is a member of a component
-  pub place_chosen : (t i : ℕ) → has_spot spots t i ≡ true → IsCovered (all_places positions) t i
+  pub place_chosen : (t i : ℕ) → has_key spots t i ≡ true → IsCovered (all_places positions) t i
   place_chosen t i h = place_listed t i h
 
 module _ (p : Program) (pivots : ℕ) (is_live : ℕ → Bool) (lives : AreLive p pivots is_live) (local : Locals)
@@ -143,7 +143,7 @@ module _ (p : Program) (pivots : ℕ) (is_live : ℕ → Bool) (lives : AreLive 
   abbrev listed : List (List Spot)
   listed = map (map (spot_at (live_spots p is_live))) found.positions
 
-  onward : (t i : ℕ) → has_spot (live_spots p is_live) t i ≡ true
+  onward : (t i : ℕ) → has_key (live_spots p is_live) t i ≡ true
       → IsRule p t × (¬ (IsDead p lives.is_empty t)) × IsPlace p t i
   onward t i h =
       let x = listed-live p is_live (range_with_len 1 (length p.rules)) t i h in
@@ -151,7 +151,7 @@ module _ (p : Program) (pivots : ℕ) (is_live : ℕ → Bool) (lives : AreLive 
       (live.0, live.1, x.1)
 
   back : (t i : ℕ) → IsRule p t × (¬ (IsDead p lives.is_empty t)) × IsPlace p t i
-      → has_spot (live_spots p is_live) t i ≡ true
+      → has_key (live_spots p is_live) t i ≡ true
   back t i (rule, alive, place) = live-listed p is_live t i rule ((lives.live t).1 (rule, alive)) place
 
   -- they are those of the places of live rules
@@ -159,7 +159,10 @@ module _ (p : Program) (pivots : ℕ) (is_live : ℕ → Bool) (lives : AreLive 
   components_of = subst (λ (ds : List (List Spot)). AreComponentsOf (searches_of_program p pivots) p ds) (sym found.spots)
       record {
         is_empty = lives.is_empty;
-        empty = lives.empty;
+        empty = λ t rule. (
+          λ e. let x = (lives.empty t rule).0 e in record { multipliers = x.0; shown = x.1 },
+          λ h. (lives.empty t rule).1 (h.multipliers, h.shown),
+        );
         ascending =
             chosen_ascend (live_spots p is_live) (live-ascend p is_live)
             (HasFlow (setting_of p) local (live_spots p is_live)) (λ a b e. e.to) found.positions found.listing;
@@ -178,6 +181,6 @@ module _ (p : Program) (pivots : ℕ) (is_live : ℕ → Bool) (lives : AreLive 
 
 -- so each answer says
 pub components_right : (p : Program) (pivots : ℕ) (cs : List (List Spot))
-    → (sizes_of_program p pivots).AreComponents cs → AreComponentsOf (searches_of_program p pivots) p cs
+    → (searches_of_program p pivots).AreComponents cs → AreComponentsOf (searches_of_program p pivots) p cs
 components_right p pivots cs (is_live, lives, (local, locals, found)) =
     components_of p pivots is_live lives local cs found

@@ -1,4 +1,4 @@
--- The answers of the searches of a valid program are right.
+-- What is answered of the rules of a valid program is right.
 use Rattle.its_model.specs.linear_forms.Causes.{cause_of}
 use Rattle.rank_search.proofs.rule_questions.Exact.{nodes-accepted as empty_nodes-accepted}
 use Rattle.std.proofs.Common.{◌≡◌, inl, inr, ℕ, zero, suc, ◌==◌, Bool, true, false, List, [], ◌∷◌, map, Option, Some}
@@ -38,13 +38,12 @@ use Rattle.rank_search.proofs.NodeLaws.{nodes-rank}
 use Rattle.rank_search.proofs.Accepted.{nodes-accepted}
 use Rattle.rank_search.proofs.RankExact.{answers-exact}
 use Rattle.rank_search.proofs.GapsFound.{found-holds}
-use Rattle.size_bounds.specs.round_relation.Searches.{Emptiness, NoPoint, HasPoint, EmptyTripped, Ranking}
-use Rattle.size_bounds.specs.round_relation.Right.{EmptyTrips, NoneTrips, IsFirstTrip, IsRightEmptiness, IsRightRanking}
-use Rattle.size_bounds.specs.round_relation.Right.{IsQuestion}
-use Rattle.size_bounds.specs.round_relation.Right.{AreRight}
-use Rattle.size_bounds.proofs.round_relation.Cases.{either}
-use Rattle.time_bounds.specs.SearchLaws.{ProgramSearchesAreRight}
-use Rattle.time_bounds.specs.ProgramSearches.{emptiness_of, ranking_of, searches_of_program}
+use Rattle.bound_rounds.specs.Searches.{Emptiness, NoPoint, HasPoint, EmptyTripped, Ranking}
+use Rattle.bound_rounds.specs.Right.{EmptyTrips, NoneTrips, IsFirstTrip, IsRightEmptiness, IsRightRanking}
+use Rattle.bound_rounds.specs.Right.{IsQuestion}
+use Rattle.bound_rounds.proofs.Cases.{either}
+use Rattle.time_bounds.specs.ProgramRules.{emptiness_of, ranking_of}
+use Rattle.time_bounds.specs.ProgramSearches.{searches_of_program}
 use Rattle.model.proofs.Cases.{slice_get-there as at_some, some_same as some_trip, none_some as none_trip}
 
 -- the parts of a function at symbols read no shut place, where the function doesn't
@@ -198,18 +197,22 @@ module _ (accepted : EmptyNodesAreAccepted) (functions : RankedNodesRank) (nodes
     rank_right set t shut q (ranks.Tripped x) (inl own) = inl own.question
     rank_right set t shut q (ranks.Tripped x) (inr first) = inr (first_told x set q.rules first.first)
 
-  -- all answers are right
-  pub searches_right : AreRight (searches_of_program p pivots) (setting_of p)
-  searches_right = record { empty = empty_right; rank = rank }
-    where
-      rank : (set : List ℕ) (t : ℕ) (shut : List SymbolPlace) (r : Ranking) → IsQuestion p set t
-          → (searches_of_program p pivots).Ranks set t shut r → IsRightRanking (searches_of_program p pivots) (setting_of p) set t shut r
-      rank set t shut r q (answers, are, (a, same, is)) =
-          subst (λ (x : Ranking). IsRightRanking (searches_of_program p pivots) (setting_of p) set t shut x) same
-          (rank_right answers are set t shut q a is)
+  -- each answer to a rank question is right
+  pub rankings_right : (set : List ℕ) (t : ℕ) (shut : List SymbolPlace) (r : Ranking) → IsQuestion p set t
+      → (searches_of_program p pivots).Ranks set t shut r → IsRightRanking (searches_of_program p pivots) (setting_of p) set t shut r
+  rankings_right set t shut r q (answers, are, (a, same, is)) =
+      subst (λ (x : Ranking). IsRightRanking (searches_of_program p pivots) (setting_of p) set t shut x) same
+      (rank_right answers are set t shut q a is)
 
--- the searches of each valid program are right
-pub program_searches_right : ProgramSearchesAreRight
-program_searches_right = record {
-  each = λ p pivots valid. searches_right empty_nodes-accepted nodes-rank nodes-accepted answers-exact p pivots valid;
-}
+-- of a valid program each answer about emptiness is right
+pub emptiness_right : (p : Program) (pivots : ℕ) → IsValid p → (t : ℕ) (e : Emptiness) → IsRule p t
+    → (searches_of_program p pivots).Empties t e → IsRightEmptiness (setting_of p) t e
+emptiness_right p pivots valid t e rule h =
+    empty_right empty_nodes-accepted nodes-rank nodes-accepted answers-exact p pivots valid t e rule h
+
+-- and so is each to a rank question
+pub ranking_right : (p : Program) (pivots : ℕ) → IsValid p → (set : List ℕ) (t : ℕ) (shut : List SymbolPlace) (r : Ranking)
+    → IsQuestion p set t → (searches_of_program p pivots).Ranks set t shut r
+    → IsRightRanking (searches_of_program p pivots) (setting_of p) set t shut r
+ranking_right p pivots valid set t shut r q h =
+    rankings_right empty_nodes-accepted nodes-rank nodes-accepted answers-exact p pivots valid set t shut r q h

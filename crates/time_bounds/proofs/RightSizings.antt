@@ -1,7 +1,7 @@
--- The answers about sizes of a valid program are right.
+-- The answers of the searches of a valid program are right.
 use Rattle.std.proofs.Common.{◌≡◌, ◌⊎◌, inl, inr, ℕ, zero, suc, ◌-◌, ◌<◌, ◌≤◌, ◌==◌, ◌&&◌, Bool, true, false, List, []}
 use Rattle.std.proofs.Common.{◌∷◌}
-use Rattle.std.proofs.Common.{map, Option, Some, None, refl, sym, ◌∙◌, ap, subst, arith}
+use Rattle.std.proofs.Common.{length, map, Option, Some, None, refl, sym, ◌∙◌, ap, subst, arith}
 use Rattle.std.specs.Prelude.{ℤ, pos, negsuc, ◌*ℤ◌, ◌<ℤ◌}
 use Rattle.std.specs.List.{AllByRecursion}
 use Rattle.std.proofs.lemmas.Bool.{and_from, or_left, or_right}
@@ -9,7 +9,7 @@ use Rattle.std.proofs.lemmas.Int.{ints}
 use Rattle.std.proofs.lemmas.List.Elements.{recursion_from_All}
 use Rattle.model.specs.Programs.{Program, Rule, rule_at, arity_of}
 use Rattle.model.specs.Paths.{target_of, target_in}
-use Rattle.model.proofs.Membership.{same_number}
+use Rattle.model.proofs.Membership.{same_number, no_is_not_yes}
 use Rattle.its_model.specs.Valid.{IsValid}
 use Rattle.its_model.specs.linear_forms.Forms.{Form, at, form_value}
 use Rattle.its_model.specs.linear_forms.Points.{IsPoint, IsRay}
@@ -21,7 +21,6 @@ use Rattle.proof_tree.specs.proof_nodes.Nodes.{Spot, Member}
 use Rattle.proof_tree.specs.proof_nodes.Gaps.{ScaledPoint}
 use Rattle.proof_tree.specs.proof_nodes.Combined.{form_at}
 use Rattle.proof_tree.specs.proof_nodes.AcceptsSizes.{Side, Up, Low, left_in, new_value}
-use Rattle.proof_tree.specs.proof_nodes.Known.{Table}
 use Rattle.proof_tree.specs.proof_setting.Setting.{setting_of, rows_in, news_in}
 use Rattle.proof_tree.specs.declared.answer.EmptyAnswer.{EmptyAnswer}
 use Rattle.proof_tree.specs.declared.answer.EmptyAnswer.TheVariants as empties
@@ -30,23 +29,31 @@ use Rattle.proof_tree.specs.declared.answer.Trip.{Trip}
 use Rattle.outcome.specs.Reports.{NoSize, SizeLoose, SizeTripped}
 use Rattle.rank_search.specs.rule_questions.EmptyAnswers.{IsEmptyAnswer}
 use Rattle.rank_search.specs.rule_questions.RuleAnswers.{trip_in}
-use Rattle.local_size.specs.Places.{local_forms, value_on}
+use Rattle.local_size.specs.Places.{is_polynomial_at, local_forms, value_on}
 use Rattle.local_size.specs.LocalAnswers.{Local, HasBound, IsLooseOn, HasTripped, IsOwnTrip, IsEmptyTrip}
 use Rattle.local_size.specs.LocalLaws.{IsSpotOf, LooseAnswersAreLoose}
 use Rattle.local_size.proofs.LooseAnswers.{loose-answers}
 use Rattle.rvg_components.specs.Flows.{Locals, loops}
-use Rattle.size_bounds.specs.round_relation.Tables.{IsPlace}
-use Rattle.size_bounds.specs.round_relation.Searches.{Sizing, Found, NotFound}
-use Rattle.size_bounds.specs.round_relation.NewSizes.{has_spot}
-use Rattle.size_bounds.specs.round_relation.RightSizes.{MovesTo, IsLooseAt, IsCause, IsFirstCause, IsRightSizing}
-use Rattle.size_bounds.specs.round_relation.RightSizes.{AreSizesRight}
-use Rattle.size_bounds.proofs.round_relation.Cases.{some_same, none_some}
+use Rattle.bound_rounds.specs.Keys.{IsPlace}
+use Rattle.bound_rounds.specs.Keys.{Bounds, over}
+use Rattle.bound_rounds.specs.Finds.{Node, SpreadBy, CycleBy}
+use Rattle.bound_rounds.specs.Loops.{do_loop}
+use Rattle.bound_rounds.specs.Searches as searches
+use Rattle.bound_rounds.specs.Searches.{NoBound, Sizing, SizedBy, Unsized}
+use Rattle.bound_rounds.specs.Keys.{has_key}
+use Rattle.bound_rounds.specs.Right.{MovesTo, IsLooseAt, IsCause, IsFirstCause, IsSizingOf as IsRightNode}
+use Rattle.bound_rounds.specs.Right.{IsRightSizing, AreRight}
+use Rattle.bound_rounds.proofs.Cases.{some_same, none_some}
 use Rattle.time_bounds.specs.ProgramSearches.{searches_of_program}
-use Rattle.time_bounds.specs.ProgramSizes.{spot, IsLocalOf, AreLocalsOf, loose_reason, trip_reason, or_else}
+use Rattle.time_bounds.specs.ProgramSizes.{IsLocalOf, AreLocalsOf, loose_reason, trip_reason, or_else}
 use Rattle.time_bounds.specs.ProgramSizes.{first_reason, lacks_arms, IsSpreadSizing, IsCycleSizing, IsSizingBy}
-use Rattle.time_bounds.specs.ProgramSizes.{IsSizingOf, sizes_of_program}
-use Rattle.time_bounds.specs.SearchLaws.{ProgramSizeSearchesAreRight}
+use Rattle.time_bounds.specs.ProgramSizes.{IsSizingOf}
+use Rattle.time_bounds.specs.Reasons.{size_reason}
+use Rattle.time_bounds.specs.SearchLaws.{ProgramSearchesAreRight}
+use Rattle.time_bounds.proofs.MemberLoops.{loop_told}
+use Rattle.time_bounds.proofs.PolynomialUpdates.{polynomial-told}
 use Rattle.time_bounds.proofs.RightComponents.{components_right}
+use Rattle.time_bounds.proofs.RightSearches.{emptiness_right, ranking_right}
 use Rattle.local_size.proofs.NewValues.{form_at-is as form_there}
 
 -- one of two reasons
@@ -57,7 +64,7 @@ one_of (Some v) b why e = inl e
 -- the first reason is that of one of the places
 reason_told : (P : Spot → Type 0) (reason : Local → Option NoSize) (local : Locals) (spots : List Spot) (why : NoSize)
     → AllByRecursion P spots → first_reason reason local spots ≡ Some why
-    → (m : Spot) × (has_spot spots m.rule m.place ≡ true) × P m × (reason (local m.rule m.place) ≡ Some why)
+    → (m : Spot) × (has_key spots m.rule m.place ≡ true) × P m × (reason (local m.rule m.place) ≡ Some why)
 reason_told P reason local [] why h e = absurd (none_some why e)
 reason_told P reason local (m ∷ spots) why h e =
     go (one_of (reason (local m.rule m.place)) (first_reason reason local spots) why e)
@@ -65,11 +72,11 @@ reason_told P reason local (m ∷ spots) why h e =
   where
     go : (reason (local m.rule m.place) ≡ Some why) ⊎ (first_reason reason local spots ≡ Some why)
         → (first_reason reason local spots ≡ Some why
-        → (n : Spot) × (has_spot spots n.rule n.place ≡ true) × P n × (reason (local n.rule n.place) ≡ Some why))
-        → (n : Spot) × (has_spot (m ∷ spots) n.rule n.place ≡ true) × P n × (reason (local n.rule n.place) ≡ Some why)
+        → (n : Spot) × (has_key spots n.rule n.place ≡ true) × P n × (reason (local n.rule n.place) ≡ Some why))
+        → (n : Spot) × (has_key (m ∷ spots) n.rule n.place ≡ true) × P n × (reason (local n.rule n.place) ≡ Some why)
     go (inl here) later = (
       m,
-      or_left ((m.rule == m.rule) && (m.place == m.place)) (has_spot spots m.rule m.place)
+      or_left ((m.rule == m.rule) && (m.place == m.place)) (has_key spots m.rule m.place)
           (and_from (m.rule == m.rule) (m.place == m.place) (same_number m.rule) (same_number m.place)),
       h.0,
       here,
@@ -77,7 +84,7 @@ reason_told P reason local (m ∷ spots) why h e =
     go (inr there) later =
         let x = later there in (
           x.0,
-          or_right ((m.rule == x.0.rule) && (m.place == x.0.place)) (has_spot spots x.0.rule x.0.place) x.1,
+          or_right ((m.rule == x.0.rule) && (m.place == x.0.place)) (has_key spots x.0.rule x.0.place) x.1,
           x.2,
           x.3,
         )
@@ -127,39 +134,41 @@ module _ (loose : LooseAnswersAreLoose) (p : Program) (pivots : ℕ) (valid : Is
 
     loose_at : (side : Side) (ray : List ℤ) (kept : ScaledPoint)
         → IsLooseRay (prepared r).rows (prepared r).left (value_on side (prepared r) m.place) (at ray)
-        → IsPoint (prepared r).rows (at kept.parts) (pos kept.den)
+        → IsPoint (prepared r).rows (at kept.parts) (pos kept.den) → is_polynomial_at (prepared r) m.place ≡ false
         → IsLooseAt (setting_of p) m side ray kept
-    loose_at side ray kept h point = record {
+    loose_at side ray kept h point bent = record {
+      asked = λ update.
+          no_is_not_yes (is_polynomial_at (prepared r) m.place) bent (polynomial-told p r m numbered place.least update);
       along = subst (λ (o : Option Rule). IsRay (rows_in o) (at ray)) (sym numbered) h.ray;
       still = λ j l. h.still j (subst (λ (o : Option Rule). j < left_in o) numbered l);
       moves = rises side (at ray) h.rises;
       point = subst (λ (o : Option Rule). IsPoint (rows_in o) (at kept.parts) (pos kept.den)) (sym numbered) point;
     }
 
-  module _ (tab : Table) (spots : List Spot) where
+  module _ (b : Bounds) (spots : List Spot) where
     -- this is answered of a place
     abbrev Answered : Spot → Local → Type 0
     Answered m x = IsLocalOf p pivots m.rule m.place x
 
     -- a place that is loose is why there is no size
-    loose_cause : (m : Spot) → has_spot spots m.rule m.place ≡ true → (x : Local) → Answered m x → (why : NoSize)
-        → loose_reason x ≡ Some why → IsCause (setting_of p) tab spots why
+    loose_cause : (m : Spot) → has_key spots m.rule m.place ≡ true → (x : Local) → Answered m x → (why : NoSize)
+        → loose_reason x ≡ Some why → IsCause (setting_of p) b spots (size_reason why)
     loose_cause m has (HasBound l) is why e = absurd (none_some why e)
     loose_cause m has (IsLooseOn side ray kept) is why e =
         let r = is.rule in
         let here = spot_of_rule p m r is.numbered is.place in
         let shown = loose.ray p r m pivots is.empty side ray kept valid here is.is_empty_answer is.local in
-        subst (λ (w : NoSize). IsCause (setting_of p) tab spots w) (some_same (SizeLoose side ray kept) why e)
-        (m, has, loose_at m r is.numbered is.place side ray kept shown.0 shown.1)
+        subst (λ (w : NoSize). IsCause (setting_of p) b spots (size_reason w)) (some_same (SizeLoose side ray kept) why e)
+        (m, has, loose_at m r is.numbered is.place side ray kept shown.0 shown.1 is.local.asked)
     loose_cause m has (HasTripped t) is why e = absurd (none_some why e)
 
     -- and so is one that tripped
-    trip_cause : (m : Spot) → has_spot spots m.rule m.place ≡ true → (x : Local) → Answered m x → (why : NoSize)
-        → trip_reason x ≡ Some why → IsCause (setting_of p) tab spots why
+    trip_cause : (m : Spot) → has_key spots m.rule m.place ≡ true → (x : Local) → Answered m x → (why : NoSize)
+        → trip_reason x ≡ Some why → IsCause (setting_of p) b spots (size_reason why)
     trip_cause m has (HasBound l) is why e = absurd (none_some why e)
     trip_cause m has (IsLooseOn side ray kept) is why e = absurd (none_some why e)
     trip_cause m has (HasTripped t) is why e =
-        subst (λ (w : NoSize). IsCause (setting_of p) tab spots w) (some_same (SizeTripped t) why e)
+        subst (λ (w : NoSize). IsCause (setting_of p) b spots (size_reason w)) (some_same (SizeTripped t) why e)
         (m, has, question is.local)
       where
         emptiness : (a : EmptyAnswer) → IsEmptyAnswer (prepared is.rule) m.rule pivots a → trip_in (Some a) ≡ Some t
@@ -174,45 +183,58 @@ module _ (loose : LooseAnswersAreLoose) (p : Program) (pivots : ℕ) (valid : Is
         question (inr none) = inr (emptiness is.empty is.is_empty_answer none.trip)
 
     -- the first check that fails
-    first_cause : (why : NoSize) → IsFirstCause (setting_of p) tab spots why → IsCause (setting_of p) tab spots why
-    first_cause (SizeLoose side ray kept) h = absurd h.1
-    first_cause (SizeTripped t) h = absurd h.1
-    first_cause why h = h
+    first_cause : (why : NoBound) → IsFirstCause (setting_of p) b spots why → IsCause (setting_of p) b spots why
+    first_cause (searches.NoFunction g) h = absurd h.1
+    first_cause (searches.Loose side ray kept) h = absurd h.1
+    first_cause (searches.Tripped t) h = absurd h.1
+    first_cause (searches.Missing m) h = h
+    first_cause (searches.Bent m) h = h
+    first_cause (searches.Untimed t) h = h
+    first_cause (searches.TooLarge n) h = h
+
+    -- a node that is accepted and loops as it says is right
+    node_right : (node other : Node) → other ≡ node → IsRightNode (setting_of p) b spots node
+        → IsRightSizing (setting_of p) b spots (SizedBy other)
+    node_right node other e h = subst (λ (n : Node). IsRightNode (setting_of p) b spots n) (sym e) h
 
     -- what is judged of members with arms is right
-    module _ (members : List Member) (same : spots ≡ map (λ m. m.spot) members) where
-      spread_right : (ms : List Member) → spots ≡ map (λ m. m.spot) ms → (answer : Sizing)
-          → IsSpreadSizing (setting_of p) tab ms answer → IsRightSizing (setting_of p) tab spots answer
-      spread_right [] e answer h = absurd h
-      spread_right (m ∷ []) e (Found b) h = inl record { member = m; only = e; accepted = h.0; bound = h.1 }
-      spread_right (m ∷ []) e (NotFound why) h =
-          first_cause why (h.0, h.1, inl record { member = m; only = e; first = h.2 })
-      spread_right (m ∷ n ∷ ms) e answer h = absurd h
+    spread_right : (ms : List Member) → spots ≡ map (λ m. m.spot) ms → do_loop (setting_of p) ms ≡ false
+        → (answer : Sizing) → IsSpreadSizing (setting_of p) (over b) ms answer
+        → IsRightSizing (setting_of p) b spots answer
+    spread_right [] e alone answer h = absurd h
+    spread_right (m ∷ []) e alone (SizedBy node) h =
+        node_right (SpreadBy m) node h.0 (record { same = e; accepted = (h.1, alone) })
+    spread_right (m ∷ []) e alone (Unsized why) h =
+        first_cause why (h.0, h.1, inl record { member = m; only = e; alone = alone; first = h.2 })
+    spread_right (m ∷ n ∷ ms) e alone answer h = absurd h
 
-      cycle_right : (answer : Sizing) → IsCycleSizing (setting_of p) tab members answer
-          → IsRightSizing (setting_of p) tab spots answer
-      cycle_right (Found b) h = inr record { all = members; spots = same; accepted = h.0; bound = h.1 }
-      cycle_right (NotFound why) h =
-          first_cause why (h.0, h.1, inr record { all = members; spots = same; first = h.2 })
+    cycle_right : (ms : List Member) → spots ≡ map (λ m. m.spot) ms → do_loop (setting_of p) ms ≡ true
+        → (answer : Sizing) → IsCycleSizing (setting_of p) (over b) ms answer
+        → IsRightSizing (setting_of p) b spots answer
+    cycle_right ms e loop (SizedBy node) h =
+        node_right (CycleBy ms) node h.0 (record { same = e; accepted = (h.1, loop) })
+    cycle_right ms e loop (Unsized why) h =
+        first_cause why (h.0, h.1, inr record { all = ms; spots = e; loop = loop; first = h.2 })
 
-      judged_right : (v : Bool) (answer : Sizing) → IsSizingBy v (setting_of p) tab members answer
-          → IsRightSizing (setting_of p) tab spots answer
-      judged_right false answer h = spread_right members same answer h
-      judged_right true answer h = cycle_right answer h
+    judged_right : (ms : List Member) → spots ≡ map (λ m. m.spot) ms → (v : Bool) → do_loop (setting_of p) ms ≡ v
+        → (answer : Sizing) → IsSizingBy v (setting_of p) (over b) ms answer
+        → IsRightSizing (setting_of p) b spots answer
+    judged_right ms e false alone answer h = spread_right ms e alone answer h
+    judged_right ms e true loop answer h = cycle_right ms e loop answer h
 
     -- each answer of a component is right
     module _ (local : Locals) (locals : AreLocalsOf p pivots local spots) where
       abbrev Place : Spot → Type 0
       Place m = IsLocalOf p pivots m.rule m.place (local m.rule m.place)
 
-      lacking : (why : NoSize) → lacks_arms local spots ≡ Some why → IsCause (setting_of p) tab spots why
+      lacking : (why : NoSize) → lacks_arms local spots ≡ Some why → IsCause (setting_of p) b spots (size_reason why)
       lacking why e = go (one_of (first_reason loose_reason local spots) (first_reason trip_reason local spots) why e)
         where
           each : AllByRecursion Place spots
           each = recursion_from_All Place spots locals
 
           go : (first_reason loose_reason local spots ≡ Some why) ⊎ (first_reason trip_reason local spots ≡ Some why)
-              → IsCause (setting_of p) tab spots why
+              → IsCause (setting_of p) b spots (size_reason why)
           go (inl h) =
               let x = reason_told Place loose_reason local spots why each h in
               loose_cause x.0 x.1 (local x.0.rule x.0.place) x.2 why x.3
@@ -221,22 +243,27 @@ module _ (loose : LooseAnswersAreLoose) (p : Program) (pivots : ℕ) (valid : Is
               trip_cause x.0 x.1 (local x.0.rule x.0.place) x.2 why x.3
 
       sizing_right : (o : Option NoSize) → lacks_arms local spots ≡ o → (answer : Sizing)
-          → IsSizingOf (setting_of p) tab local spots o answer → IsRightSizing (setting_of p) tab spots answer
+          → IsSizingOf (setting_of p) (over b) local spots o answer → IsRightSizing (setting_of p) b spots answer
       sizing_right (Some why) e answer h =
-          subst (λ (a : Sizing). IsRightSizing (setting_of p) tab spots a) (sym h) (lacking why e)
+          subst (λ (a : Sizing). IsRightSizing (setting_of p) b spots a) (sym h) (lacking why e)
       sizing_right None e answer h =
-          judged_right h.members h.are_members.spots_are (loops (setting_of p) local spots) answer h.sizing
+          judged_right h.members h.are_members.spots_are (loops (setting_of p) local spots)
+          (loop_told (setting_of p) local spots h.members h.are_members) answer h.sizing
 
   -- all answers are right
-  sizes_right : AreSizesRight (searches_of_program p pivots) (sizes_of_program p pivots) (setting_of p)
-  sizes_right = record { components = λ cs h. components_right p pivots cs h; sizes = sizes }
+  answers_right : AreRight (searches_of_program p pivots) (setting_of p)
+  answers_right = record {
+    empty = emptiness_right p pivots valid;
+    rank = ranking_right p pivots valid;
+    components = λ cs h. components_right p pivots cs h;
+    sizes = sizes;
+  }
     where
-      sizes : (tab : Table) (members : List Spot) (answer : Sizing)
-          → (sizes_of_program p pivots).Sizes tab.time tab.size members answer
-          → IsRightSizing (setting_of p) tab members answer
-      sizes tab members answer (local, locals, is) =
-          sizing_right tab members local locals (lacks_arms local members) refl answer is
+      sizes : (b : Bounds) (keys : List Spot) (answer : Sizing) → 1 ≤ length keys
+          → (searches_of_program p pivots).Sizes b keys answer → IsRightSizing (setting_of p) b keys answer
+      sizes b keys answer some (local, locals, is) =
+          sizing_right b keys local locals (lacks_arms local keys) refl answer is
 
--- the searches for sizes of each valid program are right
-pub program_sizes_right : ProgramSizeSearchesAreRight
-program_sizes_right = record { each = λ p pivots valid. sizes_right loose-answers p pivots valid }
+-- the searches of each valid program are right
+pub program_searches_right : ProgramSearchesAreRight
+program_searches_right = record { each = λ p pivots valid. answers_right loose-answers p pivots valid }

@@ -14,7 +14,7 @@ use Rattle.time_bounds.specs.declared.candidates.Candidate.{Candidate}
 use Rattle.time_bounds.specs.declared.sizing.Attempt.{Attempt}
 use Rattle.time_bounds.specs.Candidates.{spots_in}
 use Rattle.time_bounds.specs.Attempts.{why_of}
-use Rattle.time_bounds.specs.SizeWrites.{put_place}
+use Rattle.bound_book.specs.ByKey.{put_place}
 use Rattle.time_bounds.specs.SizeSaid.{seen_row, seen_rows, put_some, put_spots, put_why, put_whys, said_stored}
 use Rattle.time_bounds.specs.SizeSaid.{AreThere}
 use Rattle.time_bounds.proofs.PlacedLaws.{place_map}

@@ -11,19 +11,18 @@ use Rattle.model.proofs.Membership.{contains-is_in, is_in-contained, no_is_not_y
 use Rattle.its_graph.specs.Graphs.{flagged}
 use Rattle.its_graph.proofs.Routes.{path-map}
 use Rattle.proof_tree.specs.proof_nodes.AcceptsPlain.{IsRule}
-use Rattle.proof_tree.specs.proof_nodes.Known.{Table}
 use Rattle.proof_tree.specs.proof_nodes.Numbers.{IsAscending}
 use Rattle.proof_tree.specs.declared.answer.EmptyAnswer.{EmptyAnswer}
 use Rattle.rank_search.specs.rule_questions.EmptyAnswers.{SaysEmpty}
 use Rattle.rank_search.specs.RankAnswers.{IsRuleSet, MayAllRun}
 use Rattle.rank_search.specs.rule_questions.RuleAnswers.{answer_for}
-use Rattle.size_bounds.specs.round_relation.Tables.{is_untimed}
-use Rattle.size_bounds.specs.round_relation.Sets.{IsSetOfRule}
+use Rattle.bound_rounds.specs.Keys.{Bounds, is_untimed}
+use Rattle.bound_rounds.specs.Sets.{IsSetOfRule}
 use Rattle.its_graph.proofs.SetMembers.{is_rule}
 use Rattle.size_bounds.specs.declared.table.Table as code
-use Rattle.size_bounds.specs.Tables.{table_of}
+use Rattle.bound_book.specs.ByKey.{bounds_in}
 use Rattle.time_bounds.specs.Questions.{AreUntimed}
-use Rattle.time_bounds.proofs.RoundLaws.{rule_there}
+use Rattle.bound_rounds.proofs.RuleNumbers.{rule_numbered as rule_there}
 use Rattle.model.proofs.Cases.{none_some}
 
 -- numbers that increase ascend
@@ -79,7 +78,7 @@ in_set p f g h t e (inr l) =
     }
 
 -- the set that the graph gives is that of the rule
-pub set_of_rule : (p : Program) (tab : Table) (flags : List Bool) (t : ℕ) (set : List ℕ)
+pub set_of_rule : (p : Program) (tab : Bounds) (flags : List Bool) (t : ℕ) (set : List ℕ)
     → ((u : ℕ) → u ≤ length p.rules → slice_index_or flags u false ≡ is_untimed tab u)
     → IsStrictlyIncreasing set → ((e : ℕ) → Contains set e ↔ IsInSet p (flagged flags) t e) → IsSetOfRule p tab t set
 set_of_rule p tab flags t set agree up members = record {
@@ -91,13 +90,13 @@ set_of_rule p tab flags t set agree up members = record {
 }
 
 -- its rules are rules without a time
-pub member_untimed : (p : Program) (tab : Table) (t : ℕ) → is_untimed tab t ≡ true → (e : ℕ) → IsInSet p (is_untimed tab) t e
+pub member_untimed : (p : Program) (tab : Bounds) (t : ℕ) → is_untimed tab t ≡ true → (e : ℕ) → IsInSet p (is_untimed tab) t e
     → is_untimed tab e ≡ true
 member_untimed p tab t untimed e (inl same) = ap (is_untimed tab) same ∙ untimed
 member_untimed p tab t untimed e (inr l) = l.untimed
 
 -- what is in the set of a rule is a rule, where the virtual entry has a time
-pub member_rule : (p : Program) (tab : Table) (t : ℕ) → is_untimed tab 0 ≡ false → IsRule p t → (e : ℕ) → IsInSet p (is_untimed tab) t e
+pub member_rule : (p : Program) (tab : Bounds) (t : ℕ) → is_untimed tab 0 ≡ false → IsRule p t → (e : ℕ) → IsInSet p (is_untimed tab) t e
     → IsRule p e
 member_rule p tab t start rule e (inl same) = subst (IsRule p) (sym same) rule
 member_rule p tab t start rule e (inr l) = go (leading p e l.from l.leads)
@@ -111,7 +110,7 @@ pub element_in : (xs : List ℕ) (k d : ℕ) → k < length xs → is_in (get_or
 element_in xs k d l = is_in-contained xs (get_or xs k d) (Contains-get_or xs k d l)
 
 -- so a rank question may be asked of it
-pub rule_set : (p : Program) (tab : Table) (t : ℕ) (set : List ℕ) → is_untimed tab 0 ≡ false → IsRule p t → IsSetOfRule p tab t set
+pub rule_set : (p : Program) (tab : Bounds) (t : ℕ) (set : List ℕ) → is_untimed tab 0 ≡ false → IsRule p t → IsSetOfRule p tab t set
     → IsRuleSet p set t
 rule_set p tab t set start rule h = record {
   ascending = h.ascending;
@@ -120,7 +119,7 @@ rule_set p tab t set start rule h = record {
 }
 
 -- no rule of a set is known to have no point, where each that is known to has a time
-pub may_all_run : (p : Program) (tab : Table) (t : ℕ) (set : List ℕ) (empties : List EmptyAnswer) → is_untimed tab t ≡ true
+pub may_all_run : (p : Program) (tab : Bounds) (t : ℕ) (set : List ℕ) (empties : List EmptyAnswer) → is_untimed tab t ≡ true
     → IsSetOfRule p tab t set
     → ((u : ℕ) (a : EmptyAnswer) → answer_for empties u ≡ Some a → SaysEmpty a → is_untimed tab u ≡ false)
     → MayAllRun set empties
@@ -131,17 +130,17 @@ may_all_run p tab t set empties untimed h timed = record {
 }
 
 -- a rule without a time, by its flag
-pub record IsOpenRule (p : Program) (tab : Table) (t : ℕ) : Type 0 where
+pub record IsOpenRule (p : Program) (tab : Bounds) (t : ℕ) : Type 0 where
   pub start : is_untimed tab 0 ≡ false
   pub rule : IsRule p t
   pub untimed : is_untimed tab t ≡ true
 
 -- a rule whose flag is set, where that of the virtual entry isn't, is a rule without a time
 pub open_rule : (p : Program) (tab : code.Table) (flags : List Bool) (t : ℕ) → AreUntimed p tab flags → get_or flags 0 false ≡ false
-    → get_or flags t false ≡ true → IsOpenRule p (table_of tab) t
+    → get_or flags t false ≡ true → IsOpenRule p (bounds_in tab) t
 open_rule p tab flags t h entry flag = go t (is_rule flags (length p.rules) t (omega (arith, h.one_each)) entry flag) flag
   where
-    go : (t : ℕ) → (0 < t) × (t ≤ length p.rules) → get_or flags t false ≡ true → IsOpenRule p (table_of tab) t
+    go : (t : ℕ) → (0 < t) × (t ≤ length p.rules) → get_or flags t false ≡ true → IsOpenRule p (bounds_in tab) t
     go zero r flag = absurd (omega (arith, r.0))
     go (suc i) r flag = record {
       start = sym (h.each 0 (omega arith)) ∙ entry;

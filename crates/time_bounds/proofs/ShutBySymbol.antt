@@ -14,10 +14,14 @@ use Rattle.model.proofs.Membership.{is_in-cases, slice_get-below, told_same, sam
 use Rattle.model.proofs.Membership.{filter-in, list_any-from, list_any-told}
 use Rattle.proof_tree.specs.proof_nodes.Gaps.{SymbolPlace}
 use Rattle.proof_tree.specs.proof_nodes.Known.{Table}
-use Rattle.size_bounds.specs.round_relation.Tables.{lacks}
-use Rattle.size_bounds.specs.round_relation.Sets.{IsShut, StandsBefore, ArePlacesInOrder, AreShutOf}
+use Rattle.bound_rounds.specs.Keys.{Bounds, lacks, over}
+use Rattle.bound_rounds.specs.Sets.{IsShut, StandsBefore, ArePlacesInOrder, AreShutOf}
+use Rattle.size_bounds.specs.declared.table.Table as code
+use Rattle.size_bounds.specs.Tables.{table_of}
+use Rattle.bound_book.specs.ByKey.{bounds_in}
+use Rattle.time_bounds.proofs.TablesOver.{table_over, place_size}
 use Rattle.time_bounds.specs.Shutting.{lacks_any, at_place, shut_at, into, shut_from}
-pub use Rattle.size_bounds.proofs.round_relation.Cases.{lacks_none as lacking_is_none}
+pub use Rattle.bound_rounds.proofs.Cases.{lacks_none as lacking_is_none}
 
 -- the first of a list, where there is one
 abbrev Head : (SymbolPlace → Type 0) → List SymbolPlace → Type 0
@@ -199,15 +203,16 @@ module _ (p : Program) (tab : Table) (es : List ℕ) where
           }))
 
 -- the list has the shut places of the set, in order
-pub are_shut : (p : Program) (tab : Table) (set : List ℕ) → AreShutOf p tab set (shut_from p tab (entries p set) 0 (length p.symbols))
-are_shut p tab set = record {
-  order = (all_ordered p tab (entries p set) 0 (length p.symbols)).order;
-  places = λ s. (λ h. told s (listed_told p tab (entries p set) 0 (length p.symbols) s h), λ h. listed s h);
+pub are_shut : (p : Program) (b : Bounds) (set : List ℕ)
+    → AreShutOf p b set (shut_from p (over b) (entries p set) 0 (length p.symbols))
+are_shut p b set = record {
+  order = (all_ordered p (over b) (entries p set) 0 (length p.symbols)).order;
+  places = λ s. (λ h. told s (listed_told p (over b) (entries p set) 0 (length p.symbols) s h), λ h. listed s h);
 }
   where
-    told : (s : SymbolPlace) → Listed p tab (entries p set) 0 (length p.symbols) s → IsShut p tab set s
+    told : (s : SymbolPlace) → Listed p (over b) (entries p set) 0 (length p.symbols) s → IsShut p b set s
     told s h =
-        let some = list_any-told (λ e. lacks (tab.size e s.place)) (into p (entries p set) s.symbol) h.lacking in
+        let some = list_any-told (λ e. lacks ((over b).size e s.place)) (into p (entries p set) s.symbol) h.lacking in
         let among = filter-in (λ e. same_symbol (target_of p e) (Some s.symbol)) (entries p set) some.0 some.1 in
         let leads = same_told (target_of p some.0) s.symbol among.1 in
         let range = in_range 1 (arity_of p s.symbol) s.place h.place in record {
@@ -215,28 +220,32 @@ are_shut p tab set = record {
           enters = among.0;
           leads = leads;
           place = record { symbol = s.symbol; target = leads; least = range.0; last = omega (arith, range.1) };
-          missing = lacking_is_none (tab.size some.0 s.place) some.2;
+          missing = sym (place_size b some.0 s.place range.0) ∙ lacking_is_none ((over b).size some.0 s.place) some.2;
         }
 
-    listed : (s : SymbolPlace) → IsShut p tab set s → Contains (shut_from p tab (entries p set) 0 (length p.symbols)) s
+    listed : (s : SymbolPlace) → IsShut p b set s → Contains (shut_from p (over b) (entries p set) 0 (length p.symbols)) s
     listed s h =
         let same : s.symbol ≡ h.place.symbol = some_same s.symbol h.place.symbol (sym h.leads ∙ h.place.target) in
         let last : s.place ≤ arity_of p s.symbol = subst (λ (a : ℕ). s.place ≤ arity_of p a) (sym same) h.place.last in
-        told_listed p tab (entries p set) 0 (length p.symbols) s (record {
+        told_listed p (over b) (entries p set) 0 (length p.symbols) s (record {
           low = omega arith;
           high = omega (arith, within_symbols p s.symbol s.place h.place.least last);
           place = range_in 1 (arity_of p s.symbol) s.place h.place.least (omega (arith, last));
-          lacking = list_any-from (λ e. lacks (tab.size e s.place)) (into p (entries p set) s.symbol) h.entry
+          lacking = list_any-from (λ e. lacks ((over b).size e s.place)) (into p (entries p set) s.symbol) h.entry
               (is_in-filter (λ e. same_symbol (target_of p e) (Some s.symbol)) (entries p set) h.entry h.enters (same_there (target_of p h.entry) s.symbol h.leads))
-              (ap lacks h.missing);
+              (ap lacks (place_size b h.entry s.place h.place.least ∙ h.missing));
         })
       where
         some_same : (a b : ℕ) → Some a ≡ Some b → a ≡ b
         some_same a b e = cc
 
 -- so they are where the list is made of the set's entries
-pub shut_right : (p : Program) (tab : Table) (set es : List ℕ) (shut : List SymbolPlace) (n : ℕ) → n ≡ length p.symbols → es ≡ entries p set
-    → shut ≡ shut_from p tab es 0 n → AreShutOf p tab set shut
+pub shut_right : (p : Program) (tab : code.Table) (set es : List ℕ) (shut : List SymbolPlace) (n : ℕ)
+    → n ≡ length p.symbols → es ≡ entries p set → shut ≡ shut_from p (table_of tab) es 0 n
+    → AreShutOf p (bounds_in tab) set shut
 shut_right p tab set es shut n long e h =
-    subst (λ (xs : List SymbolPlace). AreShutOf p tab set xs)
-    (sym (h ∙ (ap (λ (ys : List ℕ). shut_from p tab ys 0 n) e ∙ ap (λ (m : ℕ). shut_from p tab (entries p set) 0 m) long))) (are_shut p tab set)
+    subst (λ (xs : List SymbolPlace). AreShutOf p (bounds_in tab) set xs)
+    (sym (h ∙ (ap (λ (ys : List ℕ). shut_from p (table_of tab) ys 0 n) e
+    ∙ (ap (λ (m : ℕ). shut_from p (table_of tab) (entries p set) 0 m) long
+    ∙ ap (λ (x : Table). shut_from p x (entries p set) 0 (length p.symbols)) (table_over tab)))))
+    (are_shut p (bounds_in tab) set)

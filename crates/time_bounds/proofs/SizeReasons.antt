@@ -1,4 +1,4 @@
--- What is said of each size is the size that the table has, or why it has none.
+-- What is said of each size is the size that is known, or why it is missing.
 use Rattle.std.proofs.Common.{◌≡◌, ◌⊎◌, inl, inr, ℕ, zero, suc, ◌≤◌, ◌==◌, ◌&&◌, ◌||◌, Bool, true, false, List, [], ◌∷◌}
 use Rattle.std.proofs.Common.{length, map, Option, Some, None, refl, sym, ◌∙◌, ap, subst}
 use Rattle.std.specs.List.{list_any}
@@ -10,25 +10,30 @@ use Rattle.bound_expr.specs.Views.{bound_of}
 use Rattle.outcome.specs.Reports.{NoSize, Size, Sized, Unsized}
 use Rattle.outcome.specs.declared.entry.Stored.{Stored}
 use Rattle.proof_tree.specs.proof_nodes.Nodes.{Spot}
-use Rattle.size_bounds.specs.round_relation.Searches.{SizeSearches, NotFound}
-use Rattle.size_bounds.specs.round_relation.Components.{IsCovered, IsOneOf}
-use Rattle.size_bounds.specs.round_relation.NewSizes.{has_spot, is_unsized}
-use Rattle.size_bounds.proofs.round_relation.NewBounds.{unsized_by}
+use Rattle.bound_rounds.specs.Keys.{has_key}
+use Rattle.bound_rounds.specs.Finds.{bounds_of}
+use Rattle.bound_rounds.specs.Searches as searches
+use Rattle.bound_rounds.specs.Searches.{Searches}
+use Rattle.bound_rounds.specs.Answers.{SizesOf, are_open}
+use Rattle.bound_rounds.specs.Components.{IsCovered, IsOneOf}
+use Rattle.bound_rounds.proofs.ReasonsExist.{open_by}
+use Rattle.bound_book.specs.declared.find.Find.{Find}
+use Rattle.bound_book.specs.Books.{IsBook}
+use Rattle.bound_book.specs.ByKey.{put_place, rows_of}
+use Rattle.bound_book.specs.Views.{finds_of}
 use Rattle.size_bounds.specs.declared.table.Table.{Table}
-use Rattle.size_bounds.specs.Tables.{entry_at, row_at, bound_stored, table_of}
+use Rattle.size_bounds.specs.Tables.{entry_at, row_at, bound_stored}
 use Rattle.time_bounds.specs.declared.candidates.Candidate.{Candidate}
 use Rattle.time_bounds.specs.declared.sizing.Attempt.{Attempt}
 use Rattle.time_bounds.specs.declared.sizing.Attempt.TheVariants as attempts
-use Rattle.time_bounds.specs.Analysis.{IsSizeOf}
-use Rattle.time_bounds.specs.ProgramSizes.{sizes_of_program}
+use Rattle.time_bounds.specs.Reasons.{size_reason}
+use Rattle.time_bounds.specs.ProgramSearches.{searches_of_program}
 use Rattle.time_bounds.specs.Candidates.{spots_in, AreCandidatesOf}
-use Rattle.time_bounds.specs.SizeWrites.{rows_of, placed, put_place}
+use Rattle.time_bounds.specs.Analysis.{IsSizeOf}
 use Rattle.time_bounds.specs.Attempts.{LacksSize, IsAttempt, AreAttempts, is_sized, why_of}
-use Rattle.time_bounds.specs.SizeSaid.{said_stored, said_table, put_spots, put_why, put_whys}
-use Rattle.time_bounds.proofs.PlacedLaws.{Wrote, place_known, place_cases, place_here, place_long}
-use Rattle.time_bounds.proofs.FactWrites.{row_long}
-use Rattle.time_bounds.proofs.SizeSteps.{size_is}
-use Rattle.time_bounds.proofs.WholeRounds.{are_components}
+use Rattle.time_bounds.specs.SizeSaid.{placed, said_stored, said_table, put_spots, put_why, put_whys}
+use Rattle.time_bounds.proofs.CandidateComponents.{are_components}
+use Rattle.time_bounds.proofs.PlacedLaws.{Wrote, place_known, place_cases, place_here, place_long, row_long}
 use Rattle.model.proofs.Cases.{none_some, some_same}
 
 -- a list of rows, mapped
@@ -94,7 +99,7 @@ whys_long rows (c ∷ cs) (x ∷ xs) = whys_long (put_why rows (spots_in c) (why
 
 -- what stands at a place then stood there, or was written at one of these places, where there was none
 record Given {A : Type 0} (rows : List (List (Option A))) (spots : List Spot) (t i : ℕ) (a b : A) : Type 0 where
-  pub member : has_spot spots t i ≡ true
+  pub member : has_key spots t i ≡ true
   pub none : placed rows t i ≡ None
   pub value : b ≡ a
 
@@ -114,7 +119,7 @@ spots_cases {A} rows (m ∷ spots) a t i b e = go (spots_cases (put_place rows m
     first : (placed rows t i ≡ Some b) ⊎ Wrote rows m.rule m.place t i a b → (placed rows t i ≡ Some b) ⊎ Given rows (m ∷ spots) t i a b
     first (inl h) = inl h
     first (inr w) = inr record {
-      member = or_left ((m.rule == t) && (m.place == i)) (has_spot spots t i)
+      member = or_left ((m.rule == t) && (m.place == i)) (has_key spots t i)
           (and_from (m.rule == t) (m.place == i) (subst (λ (n : ℕ). (m.rule == n) ≡ true) w.rule (same_number m.rule))
           (subst (λ (n : ℕ). (m.place == n) ≡ true) w.place (same_number m.place)));
       none = w.none;
@@ -125,68 +130,74 @@ spots_cases {A} rows (m ∷ spots) a t i b e = go (spots_cases (put_place rows m
         → (placed rows t i ≡ Some b) ⊎ Given rows (m ∷ spots) t i a b
     go (inl h) = first (place_cases rows m.rule m.place t i a b h)
     go (inr g) = inr record {
-      member = later ((m.rule == t) && (m.place == i)) (has_spot spots t i) g.member;
+      member = later ((m.rule == t) && (m.place == i)) (has_key spots t i) g.member;
       none = none_before (placed rows t i) refl g.none;
       value = g.value;
     }
 
-module _ (p : Program) (pivots : ℕ) (tab : Table) (all : List Candidate) (found : AreCandidatesOf p pivots all) where
-  abbrev z : SizeSearches
-  z = sizes_of_program p pivots
+module _ (p : Program) (pivots : ℕ) (tab : Table) (finds : List Find) (book : IsBook p tab finds) (all : List Candidate)
+    (found : AreCandidatesOf p pivots all) where
+  abbrev q : Searches
+  q = searches_of_program p pivots
 
-  -- what stands there is said of the size, and each size of the table stands there
+  -- what stands there is said of the size, and each size that is known stands there
   pub record IsFair (rows : List (List (Option Size))) : Type 0 where
-    pub said : (t i : ℕ) (x : Size) → placed rows t i ≡ Some x → IsSizeOf z (table_of tab) t i x
-    pub known : (t i : ℕ) (b : Bound) → (table_of tab).size t i ≡ Some b → placed rows t i ≡ Some (Sized b)
+    pub said : (t i : ℕ) (x : Size) → placed rows t (suc i) ≡ Some x → IsSizeOf q p (finds_of finds) t (suc i) x
+    pub known : (t i : ℕ) (b : Bound) → bounds_of p (finds_of finds) t (suc i) ≡ Some b → placed rows t (suc i) ≡ Some (Sized b)
 
   table_fair : IsFair (said_table tab)
   table_fair = record {
     said = λ t i x e.
-        let h = bound_by (placed (rows_of tab) t i) x (sym (said_at tab t i) ∙ e) in
-        subst (λ (y : Size). IsSizeOf z (table_of tab) t i y) (sym h.2) (size_is tab t i ∙ h.1);
-    known = λ t i b e. said_at tab t i ∙ by_bound (placed (rows_of tab) t i) b (sym (size_is tab t i) ∙ e);
+        let h = bound_by (placed (rows_of tab) t (suc i)) x (sym (said_at tab t (suc i)) ∙ e) in
+        subst (λ (y : Size). IsSizeOf q p (finds_of finds) t (suc i) y) (sym h.2) (sym (book.bounds t (suc i)) ∙ h.1);
+    known = λ t i b e. said_at tab t (suc i) ∙ by_bound (placed (rows_of tab) t (suc i)) b (book.bounds t (suc i) ∙ e);
   }
 
   one_fair : (rows : List (List (Option Size))) (c : Candidate) (x : Attempt) → IsOneOf (map spots_in all) (spots_in c)
-      → IsAttempt p pivots (table_of tab) c x → IsFair rows → IsFair (put_why rows (spots_in c) (why_of c x))
+      → IsAttempt p pivots (bounds_of p (finds_of finds)) c x → IsFair rows → IsFair (put_why rows (spots_in c) (why_of c x))
   one_fair rows c x listed attempt fair = go x attempt
     where
       same_why : (v w : NoSize) → Some v ≡ Some w → v ≡ w
       same_why v w e = cc
 
-      lacking : (x : Attempt) → LacksSize p pivots (table_of tab) c x → (o : Option NoSize) → why_of c x ≡ o → IsFair (put_why rows (spots_in c) o)
+      lacking : (x : Attempt) → LacksSize p pivots (bounds_of p (finds_of finds)) c x → (o : Option NoSize) → why_of c x ≡ o
+          → IsFair (put_why rows (spots_in c) o)
       lacking x h None e = fair
       lacking x h (Some why) e = record {
-        said = λ t i y q. case t i y (spots_cases rows (spots_in c) (Unsized why) t i y q);
-        known = λ t i b q. spots_known rows (spots_in c) (Unsized why) t i (Sized b) (fair.known t i b q);
+        said = λ t i y k. case t i y (spots_cases rows (spots_in c) (Unsized why) t (suc i) y k);
+        known = λ t i b k. spots_known rows (spots_in c) (Unsized why) t (suc i) (Sized b) (fair.known t i b k);
       }
         where
-          missing : (t i : ℕ) (o : Option Bound) → (table_of tab).size t i ≡ o → placed rows t i ≡ None → (table_of tab).size t i ≡ None
-          missing t i None q n = q
-          missing t i (Some b) q n = absurd (none_some (Sized b) (sym n ∙ fair.known t i b q))
+          missing : (t i : ℕ) (o : Option Bound) → bounds_of p (finds_of finds) t (suc i) ≡ o → placed rows t (suc i) ≡ None
+              → bounds_of p (finds_of finds) t (suc i) ≡ None
+          missing t i None k n = k
+          missing t i (Some b) k n = absurd (none_some (Sized b) (sym n ∙ fair.known t i b k))
 
-          case : (t i : ℕ) (y : Size) → (placed rows t i ≡ Some y) ⊎ Given rows (spots_in c) t i (Unsized why) y → IsSizeOf z (table_of tab) t i y
+          case : (t i : ℕ) (y : Size) → (placed rows t (suc i) ≡ Some y) ⊎ Given rows (spots_in c) t (suc i) (Unsized why) y
+              → IsSizeOf q p (finds_of finds) t (suc i) y
           case t i y (inl k) = fair.said t i y k
           case t i y (inr g) =
-              subst (λ (s : Size). IsSizeOf z (table_of tab) t i s) (sym g.value) record {
-                missing = missing t i ((table_of tab).size t i) refl g.none;
-                components = map spots_in all;
-                are_components = are_components p pivots all found;
-                members = spots_in c;
-                component = listed;
-                member = g.member;
-                answered = subst (λ (w : NoSize). z.Sizes (table_of tab).time (table_of tab).size (spots_in c) (NotFound w))
-                    (same_why h.why why (sym h.says ∙ e)) h.answered;
+              subst (λ (s : Size). IsSizeOf q p (finds_of finds) t (suc i) s) (sym g.value) record {
+                missing = missing t i (bounds_of p (finds_of finds) t (suc i)) refl g.none;
+                target = SizesOf (spots_in c);
+                asked = (map spots_in all, are_components p pivots all found, listed, g.member);
+                tells = record {
+                  answer = searches.Unsized (size_reason why);
+                  answered = subst (λ (w : NoSize). q.Sizes (bounds_of p (finds_of finds)) (spots_in c) (searches.Unsized (size_reason w)))
+                      (same_why h.why why (sym h.says ∙ e)) h.answered;
+                  tells = refl;
+                };
               }
 
-      go : (x : Attempt) → IsAttempt p pivots (table_of tab) c x → IsFair (put_why rows (spots_in c) (why_of c x))
+      go : (x : Attempt) → IsAttempt p pivots (bounds_of p (finds_of finds)) c x → IsFair (put_why rows (spots_in c) (why_of c x))
       go attempts.Known h = fair
       go attempts.Found h = fair
       go attempts.Armless h = lacking attempts.Armless h (why_of c attempts.Armless) refl
       go (attempts.Failed a) h = lacking (attempts.Failed a) h (why_of c (attempts.Failed a)) refl
 
-  all_fair : (rows : List (List (Option Size))) (cs : List Candidate) (xs : List Attempt) → ((c : List Spot) → IsOneOf (map spots_in cs) c → IsOneOf (map spots_in all) c)
-      → AreAttempts p pivots (table_of tab) cs xs → IsFair rows → IsFair (put_whys rows cs xs)
+  all_fair : (rows : List (List (Option Size))) (cs : List Candidate) (xs : List Attempt)
+      → ((c : List Spot) → IsOneOf (map spots_in cs) c → IsOneOf (map spots_in all) c)
+      → AreAttempts p pivots (bounds_of p (finds_of finds)) cs xs → IsFair rows → IsFair (put_whys rows cs xs)
   all_fair rows [] [] among h fair = fair
   all_fair rows [] (x ∷ xs) among h fair = absurd h
   all_fair rows (c ∷ cs) [] among h fair = absurd h
@@ -195,11 +206,11 @@ module _ (p : Program) (pivots : ℕ) (tab : Table) (all : List Candidate) (foun
       (one_fair rows c x (among (spots_in c) (inl refl)) h.0 fair)
 
   -- all that is said at last is right
-  pub said_fair : (xs : List Attempt) → AreAttempts p pivots (table_of tab) all xs → IsFair (put_whys (said_table tab) all xs)
+  pub said_fair : (xs : List Attempt) → AreAttempts p pivots (bounds_of p (finds_of finds)) all xs → IsFair (put_whys (said_table tab) all xs)
   said_fair xs h = all_fair (said_table tab) all xs (λ c m. m) h table_fair
 
   -- at a member of a component without a size something stands then
-  here_there : (rows : List (List (Option Size))) (spots : List Spot) (a : Size) (t i : ℕ) → has_spot spots t i ≡ true → 1 ≤ i → i ≤ length (row_at rows t)
+  here_there : (rows : List (List (Option Size))) (spots : List Spot) (a : Size) (t i : ℕ) → has_key spots t i ≡ true → 1 ≤ i → i ≤ length (row_at rows t)
       → (x : Size) × (placed (put_spots rows spots a) t i ≡ Some x)
   here_there rows [] a t i m l k = absurd (no_is_not_yes false refl m)
   here_there rows (s ∷ spots) a t i m l k = go ((s.rule == t) && (s.place == i)) refl m (λ n. here_there (put_place rows s.rule s.place a) spots a t i n l within)
@@ -215,8 +226,8 @@ module _ (p : Program) (pivots : ℕ) (tab : Table) (all : List Candidate) (foun
             (ap (λ (n : ℕ). placed (put_place rows n s.place a) t i) e ∙ (ap (λ (n : ℕ). placed (put_place rows t n a) t i) f ∙ place_here rows t i a l k q)),
       )
 
-      go : (v : Bool) → ((s.rule == t) && (s.place == i)) ≡ v → (v || has_spot spots t i) ≡ true
-          → (has_spot spots t i ≡ true → (x : Size) × (placed (put_spots rows (s ∷ spots) a) t i ≡ Some x))
+      go : (v : Bool) → ((s.rule == t) && (s.place == i)) ≡ v → (v || has_key spots t i) ≡ true
+          → (has_key spots t i ≡ true → (x : Size) × (placed (put_spots rows (s ∷ spots) a) t i ≡ Some x))
           → (x : Size) × (placed (put_spots rows (s ∷ spots) a) t i ≡ Some x)
       go true e w later =
           let both = and_parts (s.rule == t) (s.place == i) e in
@@ -224,8 +235,8 @@ module _ (p : Program) (pivots : ℕ) (tab : Table) (all : List Candidate) (foun
       go false e w later = later w
 
   -- where no size was found, something is said at each member without a size once reasons are written
-  pub listed_there : (rows : List (List (Option Size))) (cs : List Candidate) (xs : List Attempt) (t i : ℕ) → AreAttempts p pivots (table_of tab) cs xs
-      → list_any is_sized xs ≡ false → IsCovered (map spots_in cs) t i → (table_of tab).size t i ≡ None → 1 ≤ i → i ≤ length (row_at rows t)
+  pub listed_there : (rows : List (List (Option Size))) (cs : List Candidate) (xs : List Attempt) (t i : ℕ) → AreAttempts p pivots (bounds_of p (finds_of finds)) cs xs
+      → list_any is_sized xs ≡ false → IsCovered (map spots_in cs) t i → bounds_of p (finds_of finds) t i ≡ None → 1 ≤ i → i ≤ length (row_at rows t)
       → (x : Size) × (placed (put_whys rows cs xs) t i ≡ Some x)
   listed_there rows [] xs t i h n listed none l k = absurd listed
   listed_there rows (c ∷ cs) [] t i h n listed none l k = absurd h
@@ -239,9 +250,9 @@ module _ (p : Program) (pivots : ℕ) (tab : Table) (all : List Candidate) (foun
       both : (is_sized x ≡ false) × (list_any is_sized xs ≡ false)
       both = parts (is_sized x) (list_any is_sized xs) n
 
-      says : (x : Attempt) → IsAttempt p pivots (table_of tab) c x → is_sized x ≡ false → is_unsized (table_of tab).size (spots_in c) ≡ true
+      says : (x : Attempt) → IsAttempt p pivots (bounds_of p (finds_of finds)) c x → is_sized x ≡ false → are_open (bounds_of p (finds_of finds)) (spots_in c) ≡ true
           → (why : NoSize) × (why_of c x ≡ Some why)
-      says attempts.Known a s u = absurd (no_is_not_yes (is_unsized (table_of tab).size (spots_in c)) a u)
+      says attempts.Known a s u = absurd (no_is_not_yes (are_open (bounds_of p (finds_of finds)) (spots_in c)) a u)
       says attempts.Found a s u = absurd (no_is_not_yes true s refl)
       says attempts.Armless a s u = (a.why, a.says)
       says (attempts.Failed y) a s u = (a.why, a.says)
@@ -253,12 +264,12 @@ module _ (p : Program) (pivots : ℕ) (tab : Table) (all : List Candidate) (foun
           by None = refl
           by (Some why) = spots_long rows (spots_in c) (Unsized why)
 
-      go : (has_spot (spots_in c) t i ≡ true) ⊎ IsCovered (map spots_in cs) t i
+      go : (has_key (spots_in c) t i ≡ true) ⊎ IsCovered (map spots_in cs) t i
           → (IsCovered (map spots_in cs) t i → list_any is_sized xs ≡ false → i ≤ length (row_at (put_why rows (spots_in c) (why_of c x)) t)
           → (y : Size) × (placed (put_whys (put_why rows (spots_in c) (why_of c x)) cs xs) t i ≡ Some y))
           → (y : Size) × (placed (put_whys rows (c ∷ cs) (x ∷ xs)) t i ≡ Some y)
       go (inl m) later =
-          let w = says x h.0 both.0 (unsized_by (spots_in c) (table_of tab).size t i m none) in
+          let w = says x h.0 both.0 (open_by (bounds_of p (finds_of finds)) (spots_in c) t i m none) in
           let r = here_there rows (spots_in c) (Unsized w.0) t i m l k in (
             r.0,
             whys_known (put_why rows (spots_in c) (why_of c x)) cs xs t i r.0

@@ -9,10 +9,10 @@ use Rattle.std.proofs.lemmas.List.Elements.{All-contains_itself}
 use Rattle.model.proofs.Membership.{same_number, told_same, no_is_not_yes}
 use Rattle.proof_tree.specs.proof_nodes.Nodes.{Spot}
 use Rattle.rvg_components.specs.Listing.{spot_at}
-use Rattle.size_bounds.specs.round_relation.NewSizes.{has_spot}
+use Rattle.bound_rounds.specs.Keys.{has_key}
 use Rattle.proof_tree.specs.proof_nodes.AcceptsSizes.{ComesBefore}
-use Rattle.size_bounds.specs.round_relation.Components.{AreSpotsAscending}
-use Rattle.time_bounds.specs.ProgramSizes.{spot}
+use Rattle.bound_rounds.specs.Components.{AreSpotsAscending}
+use Rattle.bound_rounds.specs.Keys.{key as spot}
 
 -- a place comes before each of these
 abbrev pub IsBeforeAll : Spot → List Spot → Type 0
@@ -87,54 +87,54 @@ told-spot m t i e =
     subst (λ (n : Spot). is_spot n t i ≡ true) (sym e) (and_from (t == t) (i == i) (same_number t) (same_number i))
 
 -- a member stands at a position
-pub member-at : (ms : List Spot) (t i : ℕ) → has_spot ms t i ≡ true
+pub member-at : (ms : List Spot) (t i : ℕ) → has_key ms t i ≡ true
     → (k : ℕ) × (k < length ms) × (spot_at ms k ≡ spot t i)
 member-at [] t i h = absurd (no_is_not_yes false refl h)
 member-at (m ∷ ms) t i h = go (is_spot m t i) refl h (member-at ms t i)
   where
-    go : (v : Bool) → is_spot m t i ≡ v → (v || has_spot ms t i) ≡ true
-        → (has_spot ms t i ≡ true → (k : ℕ) × (k < length ms) × (spot_at ms k ≡ spot t i))
+    go : (v : Bool) → is_spot m t i ≡ v → (v || has_key ms t i) ≡ true
+        → (has_key ms t i ≡ true → (k : ℕ) × (k < length ms) × (spot_at ms k ≡ spot t i))
         → (k : ℕ) × (k < length (m ∷ ms)) × (spot_at (m ∷ ms) k ≡ spot t i)
     go true e k later = (zero, omega arith, spot-told m t i e)
     go false e k later = let x = later k in (suc x.0, omega (arith, x.1), x.2)
 
 -- and what stands at a position is a member
-pub at-member : (ms : List Spot) (k t i : ℕ) → k < length ms → spot_at ms k ≡ spot t i → has_spot ms t i ≡ true
+pub at-member : (ms : List Spot) (k t i : ℕ) → k < length ms → spot_at ms k ≡ spot t i → has_key ms t i ≡ true
 at-member [] k t i l e = absurd (omega (arith, l))
-at-member (m ∷ ms) zero t i l e = or_left (is_spot m t i) (has_spot ms t i) (told-spot m t i e)
+at-member (m ∷ ms) zero t i l e = or_left (is_spot m t i) (has_key ms t i) (told-spot m t i e)
 at-member (m ∷ ms) (suc k) t i l e =
-    or_right (is_spot m t i) (has_spot ms t i) (at-member ms k t i (omega (arith, l)) e)
+    or_right (is_spot m t i) (has_key ms t i) (at-member ms k t i (omega (arith, l)) e)
 
 -- a member of two lists together is one of one of them
-pub member-append : (xs ys : List Spot) (t i : ℕ) → has_spot (xs ++ ys) t i ≡ true
-    → (has_spot xs t i ≡ true) ⊎ (has_spot ys t i ≡ true)
+pub member-append : (xs ys : List Spot) (t i : ℕ) → has_key (xs ++ ys) t i ≡ true
+    → (has_key xs t i ≡ true) ⊎ (has_key ys t i ≡ true)
 member-append [] ys t i h = inr h
 member-append (x ∷ xs) ys t i h = go (is_spot x t i) refl h (member-append xs ys t i)
   where
-    go : (v : Bool) → is_spot x t i ≡ v → (v || has_spot (xs ++ ys) t i) ≡ true
-        → (has_spot (xs ++ ys) t i ≡ true → (has_spot xs t i ≡ true) ⊎ (has_spot ys t i ≡ true))
-        → (has_spot (x ∷ xs) t i ≡ true) ⊎ (has_spot ys t i ≡ true)
-    go true e k later = inl (or_left (is_spot x t i) (has_spot xs t i) e)
+    go : (v : Bool) → is_spot x t i ≡ v → (v || has_key (xs ++ ys) t i) ≡ true
+        → (has_key (xs ++ ys) t i ≡ true → (has_key xs t i ≡ true) ⊎ (has_key ys t i ≡ true))
+        → (has_key (x ∷ xs) t i ≡ true) ⊎ (has_key ys t i ≡ true)
+    go true e k later = inl (or_left (is_spot x t i) (has_key xs t i) e)
     go false e k later = by (later k)
       where
-        by : (has_spot xs t i ≡ true) ⊎ (has_spot ys t i ≡ true) → (has_spot (x ∷ xs) t i ≡ true) ⊎ (has_spot ys t i ≡ true)
-        by (inl m) = inl (or_right (is_spot x t i) (has_spot xs t i) m)
+        by : (has_key xs t i ≡ true) ⊎ (has_key ys t i ≡ true) → (has_key (x ∷ xs) t i ≡ true) ⊎ (has_key ys t i ≡ true)
+        by (inl m) = inl (or_right (is_spot x t i) (has_key xs t i) m)
         by (inr m) = inr m
 
 -- a member of the first of two lists is one of the two together
-pub append-left : (xs ys : List Spot) (t i : ℕ) → has_spot xs t i ≡ true → has_spot (xs ++ ys) t i ≡ true
+pub append-left : (xs ys : List Spot) (t i : ℕ) → has_key xs t i ≡ true → has_key (xs ++ ys) t i ≡ true
 append-left [] ys t i h = absurd (no_is_not_yes false refl h)
 append-left (x ∷ xs) ys t i h = go (is_spot x t i) refl h (append-left xs ys t i)
   where
-    go : (v : Bool) → is_spot x t i ≡ v → (v || has_spot xs t i) ≡ true
-        → (has_spot xs t i ≡ true → has_spot (xs ++ ys) t i ≡ true) → has_spot ((x ∷ xs) ++ ys) t i ≡ true
-    go true e k later = or_left (is_spot x t i) (has_spot (xs ++ ys) t i) e
-    go false e k later = or_right (is_spot x t i) (has_spot (xs ++ ys) t i) (later k)
+    go : (v : Bool) → is_spot x t i ≡ v → (v || has_key xs t i) ≡ true
+        → (has_key xs t i ≡ true → has_key (xs ++ ys) t i ≡ true) → has_key ((x ∷ xs) ++ ys) t i ≡ true
+    go true e k later = or_left (is_spot x t i) (has_key (xs ++ ys) t i) e
+    go false e k later = or_right (is_spot x t i) (has_key (xs ++ ys) t i) (later k)
 
 -- a member of the second of two lists is one of the two together
-pub append-right : (xs ys : List Spot) (t i : ℕ) → has_spot ys t i ≡ true → has_spot (xs ++ ys) t i ≡ true
+pub append-right : (xs ys : List Spot) (t i : ℕ) → has_key ys t i ≡ true → has_key (xs ++ ys) t i ≡ true
 append-right [] ys t i h = h
-append-right (x ∷ xs) ys t i h = or_right (is_spot x t i) (has_spot (xs ++ ys) t i) (append-right xs ys t i h)
+append-right (x ∷ xs) ys t i h = or_right (is_spot x t i) (has_key (xs ++ ys) t i) (append-right xs ys t i h)
 
 -- what stands at these positions ascends, where the positions do
 module _ (spots : List Spot) where
@@ -171,13 +171,13 @@ module _ (spots : List Spot) where
           (subst (λ (x : Spot). ComesBefore (spot_at spots (get_or ps k 0)) x) (sym (chosen ps (suc k) more)) there)
 
   -- a member of what stands at these positions stands at one of them
-  pub chosen-told : (ps : List ℕ) (t i : ℕ) → has_spot (map (spot_at spots) ps) t i ≡ true
+  pub chosen-told : (ps : List ℕ) (t i : ℕ) → has_key (map (spot_at spots) ps) t i ≡ true
       → (k : ℕ) × Contains ps k × (spot_at spots k ≡ spot t i)
   chosen-told [] t i h = absurd (no_is_not_yes false refl h)
   chosen-told (p ∷ ps) t i h = go (is_spot (spot_at spots p) t i) refl h (chosen-told ps t i)
     where
-      go : (v : Bool) → is_spot (spot_at spots p) t i ≡ v → (v || has_spot (map (spot_at spots) ps) t i) ≡ true
-          → (has_spot (map (spot_at spots) ps) t i ≡ true → (k : ℕ) × Contains ps k × (spot_at spots k ≡ spot t i))
+      go : (v : Bool) → is_spot (spot_at spots p) t i ≡ v → (v || has_key (map (spot_at spots) ps) t i) ≡ true
+          → (has_key (map (spot_at spots) ps) t i ≡ true → (k : ℕ) × Contains ps k × (spot_at spots k ≡ spot t i))
           → (k : ℕ) × Contains (p ∷ ps) k × (spot_at spots k ≡ spot t i)
       go true e k later = (p, (zero, omega arith, refl), spot-told (spot_at spots p) t i e)
       go false e k later = deeper (later k)
@@ -188,11 +188,11 @@ module _ (spots : List Spot) where
 
   -- what stands at one of these positions is a member of what stands at them
   pub told-chosen : (ps : List ℕ) (k t i : ℕ) → Contains ps k → spot_at spots k ≡ spot t i
-      → has_spot (map (spot_at spots) ps) t i ≡ true
+      → has_key (map (spot_at spots) ps) t i ≡ true
   told-chosen [] k t i (n, l, same) e = absurd (omega (arith, l))
   told-chosen (p ∷ ps) k t i (zero, l, same) e =
-      or_left (is_spot (spot_at spots p) t i) (has_spot (map (spot_at spots) ps) t i)
+      or_left (is_spot (spot_at spots p) t i) (has_key (map (spot_at spots) ps) t i)
       (told-spot (spot_at spots p) t i (ap (spot_at spots) same ∙ e))
   told-chosen (p ∷ ps) k t i (suc n, l, same) e =
-      or_right (is_spot (spot_at spots p) t i) (has_spot (map (spot_at spots) ps) t i)
+      or_right (is_spot (spot_at spots p) t i) (has_key (map (spot_at spots) ps) t i)
       (told-chosen ps k t i (n, omega (arith, l), same) e)

@@ -1,66 +1,77 @@
--- An earlier answer for a component is the answer over a table that has grown since, while its reason stands.
-use Rattle.std.proofs.Common.{◌≡◌, ℕ, zero, suc, ◌+◌, ◌<◌, Bool, true, false, List, [], ◌∷◌, ◌++◌, length, map, get_or}
+-- An earlier answer for a component is the answer over bounds that have grown since, while its reason stands.
+use Rattle.std.proofs.Common.{◌≡◌, ℕ, zero, suc, ◌+◌, ◌<◌, ◌||◌, Bool, true, false, List, [], ◌∷◌, ◌++◌, length, get_or}
 use Rattle.std.proofs.Common.{Option, Some, None, refl, sym, ◌∙◌, ap, subst, arith}
 use Rattle.std.specs.Prelude.{slice_get, IfSome}
 use Rattle.model.specs.Bounds.{Bound}
 use Rattle.model.specs.Programs.{Program}
 use Rattle.outcome.specs.Reports.{NoSize, SizeMissing, SizeBent, SizeUntimed, SizeLarge}
+use Rattle.proof_tree.specs.declared.answer.EmptyAnswer.{EmptyAnswer}
 use Rattle.proof_tree.specs.proof_nodes.Nodes.{Spot, Member}
-use Rattle.proof_tree.specs.proof_nodes.Known as nodes
-use Rattle.proof_tree.specs.proof_nodes.Reasons.{Reason, Bent, Large}
+use Rattle.proof_tree.specs.proof_nodes.Known.{Table}
+use Rattle.proof_tree.specs.proof_nodes.Reasons.{Reason}
 use Rattle.proof_tree.specs.proof_setting.Setting.{setting_of}
 use Rattle.proof_tree.specs.Views.{spot_of}
-use Rattle.size_bounds.specs.round_relation.NewSizes.{Sizes, is_unsized, TriesSizes}
-use Rattle.size_bounds.specs.round_relation.RightSizes.{IsReasonFor}
-use Rattle.size_bounds.specs.round_relation.Searches.{SizeSearches, NotFound}
 use Rattle.rvg_components.specs.Flows.{Locals, loops}
-use Rattle.size_bounds.specs.declared.answer.SizeAnswer.{SizeAnswer}
-use Rattle.size_bounds.specs.declared.answer.SizeAnswer.TheVariants as answers
-use Rattle.size_bounds.specs.declared.table.Table.{Table}
-use Rattle.size_bounds.specs.Tables.{table_of}
+use Rattle.bound_rounds.specs.Keys.{Bounds, at_key, lacks, over}
+use Rattle.bound_rounds.specs.Finds as plain
+use Rattle.bound_rounds.specs.Searches.{Unsized}
+use Rattle.bound_rounds.specs.Answers.{are_open}
+use Rattle.bound_rounds.specs.Right.{IsReasonFor}
+use Rattle.bound_rounds.proofs.FindLists.{bounds_of-kept}
+use Rattle.size_bounds.specs.declared.sizing.Sizing.{Sizing}
+use Rattle.size_bounds.specs.declared.sizing.Sizing.TheVariants as answers
+use Rattle.time_bounds.specs.declared.asking.Asked.{Asked}
 use Rattle.time_bounds.specs.declared.candidates.Candidate.{Candidate}
 use Rattle.time_bounds.specs.declared.sizing.Attempt.{Attempt}
 use Rattle.time_bounds.specs.declared.sizing.Attempt.TheVariants as attempts
-use Rattle.time_bounds.specs.Attempts.{why_by, IsAttempt, HasPlaces, IsSizeStep, AreSizeSteps}
+use Rattle.time_bounds.specs.Reasons.{size_reason}
+use Rattle.time_bounds.specs.Attempts.{why_by, IsAttempt}
 use Rattle.time_bounds.specs.Candidates.{spots_in}
-use Rattle.time_bounds.specs.ProgramSizes.{IsSizingBy, IsSizingOf, lacks_arms, sizes_of_program}
+use Rattle.time_bounds.specs.ProgramSizes.{IsSizingBy, IsSizingOf, lacks_arms}
 use Rattle.time_bounds.specs.Standing.{HasGrown, Stands, StandsAt, WasAttempt, WereAttempts, IsStanding}
+use Rattle.time_bounds.specs.Tries.{AreAskedOver}
+use Rattle.time_bounds.proofs.GrownBounds.{table_grown}
 use Rattle.time_bounds.proofs.GrownChecks.{StandsFor, spread-still, cycle-still}
-use Rattle.time_bounds.proofs.SizeSteps.{passed, same_times}
-
-none-some : (why : NoSize) → None ≡ Some why → ⊥
-none-some why e = cc
 
 some-same : {A : Type 0} (x y : A) → Some x ≡ Some y → x ≡ y
 some-same x y e = cc
 
 -- the reason of a check stands where that of the answer does
-reason-stands : (tab : nodes.Table) (a : SizeAnswer) (why : NoSize) (r : Reason) → Stands tab a → why_by a ≡ Some why → IsReasonFor why r
+reason-stands : (tab : Table) (a : Sizing) (why : NoSize) (r : Reason) → Stands tab a → why_by a ≡ Some why → IsReasonFor (size_reason why) r
     → StandsFor tab r
-reason-stands tab (answers.Found node facts) why r stands says told = absurd stands
+reason-stands tab (answers.Found needs bound) why r stands says told = absurd stands
 reason-stands tab (answers.Missing m) why r stands says told =
-    subst (StandsFor tab) (sym (subst (λ (w : NoSize). IsReasonFor w r) (sym (some-same (SizeMissing (spot_of m)) why says)) told)) stands
+    subst (StandsFor tab) (sym (subst (λ (w : NoSize). IsReasonFor (size_reason w) r) (sym (some-same (SizeMissing (spot_of m)) why says)) told)) stands
 reason-stands tab (answers.Bent m) why r stands says told =
-    subst (StandsFor tab) (sym (subst (λ (w : NoSize). IsReasonFor w r) (sym (some-same (SizeBent (spot_of m)) why says)) told)) tt
+    subst (StandsFor tab) (sym (subst (λ (w : NoSize). IsReasonFor (size_reason w) r) (sym (some-same (SizeBent (spot_of m)) why says)) told)) tt
 reason-stands tab (answers.Untimed t) why r stands says told =
-    subst (StandsFor tab) (sym (subst (λ (w : NoSize). IsReasonFor w r) (sym (some-same (SizeUntimed t) why says)) told)) stands
+    subst (StandsFor tab) (sym (subst (λ (w : NoSize). IsReasonFor (size_reason w) r) (sym (some-same (SizeUntimed t) why says)) told)) stands
 reason-stands tab (answers.Large n) why r stands says told =
-    subst (StandsFor tab) (sym (subst (λ (w : NoSize). IsReasonFor w r) (sym (some-same (SizeLarge n) why says)) told)) tt
+    subst (StandsFor tab) (sym (subst (λ (w : NoSize). IsReasonFor (size_reason w) r) (sym (some-same (SizeLarge n) why says)) told)) tt
 
-module _ (p : Program) (pivots : ℕ) (old new : nodes.Table) (grown : HasGrown old new) where
+module _ (p : Program) (pivots : ℕ) (old new : Bounds) (grown : HasGrown old new) where
   -- so members have no size for the same reason
-  sizing-stands : (looping : Bool) (members : List Member) (a : SizeAnswer) (why : NoSize) → Stands new a → why_by a ≡ Some why
-      → IsSizingBy looping (setting_of p) old members (NotFound why) → IsSizingBy looping (setting_of p) new members (NotFound why)
+  sizing-stands : (looping : Bool) (members : List Member) (a : Sizing) (why : NoSize) → Stands (over new) a → why_by a ≡ Some why
+      → IsSizingBy looping (setting_of p) (over old) members (Unsized (size_reason why))
+      → IsSizingBy looping (setting_of p) (over new) members (Unsized (size_reason why))
   sizing-stands false [] a why stands says h = absurd h
-  sizing-stands false (m ∷ []) a why stands says (r, told, first) =
-      (r, told, spread-still (setting_of p) old new grown r (reason-stands new a why r stands says told) m first)
+  sizing-stands false (m ∷ []) a why stands says (r, told, first) = (
+    r,
+    told,
+    spread-still (setting_of p) (over old) (over new) (table_grown old new grown) r
+        (reason-stands (over new) a why r stands says told) m first,
+  )
   sizing-stands false (m ∷ n ∷ members) a why stands says h = absurd h
-  sizing-stands true members a why stands says (r, told, first) =
-      (r, told, cycle-still (setting_of p) old new grown r (reason-stands new a why r stands says told) members first)
+  sizing-stands true members a why stands says (r, told, first) = (
+    r,
+    told,
+    cycle-still (setting_of p) (over old) (over new) (table_grown old new grown) r
+        (reason-stands (over new) a why r stands says told) members first,
+  )
 
-  sizing-of-stands : (local : Locals) (spots : List Spot) (lacking : Option NoSize) (a : SizeAnswer) (why : NoSize) → Stands new a
-      → why_by a ≡ Some why → IsSizingOf (setting_of p) old local spots lacking (NotFound why)
-      → IsSizingOf (setting_of p) new local spots lacking (NotFound why)
+  sizing-of-stands : (local : Locals) (spots : List Spot) (lacking : Option NoSize) (a : Sizing) (why : NoSize) → Stands (over new) a
+      → why_by a ≡ Some why → IsSizingOf (setting_of p) (over old) local spots lacking (Unsized (size_reason why))
+      → IsSizingOf (setting_of p) (over new) local spots lacking (Unsized (size_reason why))
   sizing-of-stands local spots (Some other) a why stands says h = h
   sizing-of-stands local spots None a why stands says h = record {
     members = h.members;
@@ -69,7 +80,7 @@ module _ (p : Program) (pivots : ℕ) (old new : nodes.Table) (grown : HasGrown 
   }
 
   -- and the component lacks a size by the same answer
-  pub lacks-still : (c : Candidate) (a : SizeAnswer) → Stands new a → is_unsized new.size (spots_in c) ≡ true
+  pub lacks-still : (c : Candidate) (a : Sizing) → Stands (over new) a → are_open new (spots_in c) ≡ true
       → IsAttempt p pivots old c (attempts.Failed a) → IsAttempt p pivots new c (attempts.Failed a)
   lacks-still c a stands unsized h = record {
     unsized = unsized;
@@ -82,92 +93,113 @@ module _ (p : Program) (pivots : ℕ) (old new : nodes.Table) (grown : HasGrown 
     );
   }
 
--- an earlier answer that stands is a step that finds nothing
-pub standing-step : (p : Program) (pivots : ℕ) (tab : Table) (c : Candidate) (a : SizeAnswer) → HasPlaces p tab
-    → is_unsized (table_of tab).size (spots_in c) ≡ true → IsStanding p pivots (table_of tab) c a
-    → IsSizeStep p pivots tab c (attempts.Failed a) tab
-standing-step p pivots tab c a places unsized h =
-    passed p pivots tab tab c (attempts.Failed a) places refl refl refl
-    (lacks-still p pivots h.was.earlier (table_of tab) h.was.grown c a h.stands unsized h.was.attempt)
+-- what is known has grown to itself, and growing goes on
+pub grown-itself : (b : Bounds) → HasGrown b b
+grown-itself b = record { each = λ t i x e. e }
 
--- a table has grown to itself, and growing goes on
-pub grown-itself : (tab : nodes.Table) → HasGrown tab tab
-grown-itself tab = record { times = λ t b e. e; sizes = λ t i b e. e }
+pub grown-on : (a b c : Bounds) → HasGrown a b → HasGrown b c → HasGrown a c
+grown-on a b c h k = record { each = λ t i x e. k.each t i x (h.each t i x e) }
 
--- a table that has grown from one that had grown has grown from the first
-pub grown-on : (a b c : nodes.Table) → HasGrown a b → HasGrown b c → HasGrown a c
-grown-on a b c h k = record { times = λ t x e. k.times t x (h.times t x e); sizes = λ t i x e. k.sizes t i x (h.sizes t i x e) }
+-- it grows when finds are added
+pub grown-finds : (p : Program) (fs more : List plain.Find) → HasGrown (plain.bounds_of p fs) (plain.bounds_of p (fs ++ more))
+grown-finds p fs more = record { each = λ t i x e. bounds_of-kept p fs more t i x e }
 
--- with the same times, and sizes of which the known ones stay, a table has grown
-pub grown-sizes : (old new : Table) → new.times.items ≡ old.times.items
-    → ((t i : ℕ) (b : Bound) → (table_of old).size t i ≡ Some b → (table_of new).size t i ≡ Some b) → HasGrown (table_of old) (table_of new)
-grown-sizes old new times sizes = record {
-  times = λ t b e. ap (λ (time : ℕ → Option Bound). time t) (same_times new old times) ∙ e;
-  sizes = sizes;
-}
+pub grown-by : (p : Program) (fs more gs : List plain.Find) → gs ≡ fs ++ more → HasGrown (plain.bounds_of p fs) (plain.bounds_of p gs)
+grown-by p fs more gs e =
+    subst (λ (xs : List plain.Find). HasGrown (plain.bounds_of p fs) (plain.bounds_of p xs)) (sym e) (grown-finds p fs more)
 
--- a table grows by a component that is tried, and by several
-pub grown-step : (p : Program) (pivots : ℕ) (old : Table) (c : Candidate) (x : Attempt) (new : Table) → IsSizeStep p pivots old c x new
-    → HasGrown (table_of old) (table_of new)
-grown-step p pivots old c x new step = grown-sizes old new step.times step.tried.known
+-- a bound that isn't missing isn't missing later
+pub still_known : (old new : Bounds) → HasGrown old new → (t i : ℕ) → lacks (old t i) ≡ false → lacks (new t i) ≡ false
+still_known old new grown t i h = go (old t i) refl h
+  where
+    go : (o : Option Bound) → old t i ≡ o → lacks o ≡ false → lacks (new t i) ≡ false
+    go None e k = absurd (let f : ⊥ = cc in f)
+    go (Some b) e k = ap lacks (grown.each t i b e)
 
-tried-known : (z : SizeSearches) (time : ℕ → Option Bound) (old : Sizes) (cs : List (List Spot)) (new : Sizes) → TriesSizes z time old cs new
-    → (t i : ℕ) (b : Bound) → old t i ≡ Some b → new t i ≡ Some b
-tried-known z time old [] new h t i b e = h t i ∙ e
-tried-known z time old (c ∷ cs) new (between, first, rest) t i b e = tried-known z time between cs new rest t i b (first.known t i b e)
+-- nor is one of these keys
+pub still_closed : (old new : Bounds) → HasGrown old new → (keys : List Spot) → are_open old keys ≡ false → are_open new keys ≡ false
+still_closed old new grown [] h = refl
+still_closed old new grown (k ∷ keys) h =
+    let both = parts (lacks (at_key old k)) (are_open old keys) h in
+    join (lacks (at_key new k)) (are_open new keys) (still_known old new grown k.rule k.place both.0)
+    (still_closed old new grown keys both.1)
+  where
+    parts : (v w : Bool) → (v || w) ≡ false → (v ≡ false) × (w ≡ false)
+    parts true w e = absurd (let f : ⊥ = cc in f)
+    parts false w e = (refl, e)
 
--- the steps of a round make a table grow
-pub grown-steps : (p : Program) (pivots : ℕ) (old : Table) (cs : List Candidate) (xs : List Attempt) (new : Table)
-    → AreSizeSteps p pivots old cs xs new → HasGrown (table_of old) (table_of new)
-grown-steps p pivots old cs xs new steps =
-    grown-sizes old new steps.times
-    (tried-known (sizes_of_program p pivots) (table_of old).time (table_of old).size (map spots_in cs) (table_of new).size steps.tried)
+    join : (v w : Bool) → v ≡ false → w ≡ false → (v || w) ≡ false
+    join true w e f = absurd (let g : ⊥ = cc in g)
+    join false w e f = f
+
+-- the questions that are kept stay so where more is known
+pub asked_still : (p : Program) (b old new : Bounds) → HasGrown old new → (pivots : ℕ) (empties : List EmptyAnswer) (k : ℕ)
+    (asked : List (Option Asked)) → AreAskedOver p b old pivots empties k asked → AreAskedOver p b new pivots empties k asked
+asked_still p b old new grown pivots empties k [] h = tt
+asked_still p b old new grown pivots empties k (None ∷ asked) h =
+    (still_known old new grown k 0 h.0, asked_still p b old new grown pivots empties (suc k) asked h.1)
+asked_still p b old new grown pivots empties k (Some a ∷ asked) h =
+    (h.0, asked_still p b old new grown pivots empties (suc k) asked h.1)
 
 module _ (p : Program) (pivots : ℕ) where
-  -- what was made of components earlier was made of them earlier than a table that has grown since
-  pub was-before : (old new : nodes.Table) (c : Candidate) (x : Attempt) → HasGrown old new → WasAttempt p pivots old c x → WasAttempt p pivots new c x
-  was-before old new c x grown h = record { earlier = h.earlier; grown = grown-on h.earlier old new h.grown grown; attempt = h.attempt }
+  -- what was made of a component between bounds was made between wider ones
+  pub was-wider : (first last begin end : Bounds) (c : Candidate) (x : Attempt) → HasGrown begin first → HasGrown last end
+      → WasAttempt p pivots first last c x → WasAttempt p pivots begin end c x
+  was-wider first last begin end c x earlier later h = record {
+    between = h.between;
+    after = grown-on begin first h.between earlier h.after;
+    before = grown-on h.between last end h.before later;
+    attempt = h.attempt;
+    found = λ e. still_closed last end later (spots_in c) (h.found e);
+  }
 
-  -- what was answered over a table was answered over one that the new table has grown from
-  pub were-before : (old new : nodes.Table) (cs : List Candidate) (xs : List Attempt) → HasGrown old new → WereAttempts p pivots old cs xs
-      → WereAttempts p pivots new cs xs
-  were-before old new [] [] grown h = tt
-  were-before old new [] (x ∷ xs) grown h = absurd h
-  were-before old new (c ∷ cs) [] grown h = tt
-  were-before old new (c ∷ cs) (x ∷ xs) grown h = (was-before old new c x grown h.0, were-before old new cs xs grown h.1)
+  -- so it is of each
+  pub were-wider : (first last begin end : Bounds) (cs : List Candidate) (xs : List Attempt) → HasGrown begin first → HasGrown last end
+      → WereAttempts p pivots first last cs xs → WereAttempts p pivots begin end cs xs
+  were-wider first last begin end [] [] earlier later h = tt
+  were-wider first last begin end [] (x ∷ xs) earlier later h = absurd h
+  were-wider first last begin end (c ∷ cs) [] earlier later h = tt
+  were-wider first last begin end (c ∷ cs) (x ∷ xs) earlier later h =
+      (was-wider first last begin end c x earlier later h.0, were-wider first last begin end cs xs earlier later h.1)
 
   -- nothing was made of them
-  pub were-none : (tab : nodes.Table) (cs : List Candidate) → WereAttempts p pivots tab cs []
-  were-none tab [] = tt
-  were-none tab (c ∷ cs) = tt
+  pub were-none : (first last : Bounds) (cs : List Candidate) → WereAttempts p pivots first last cs []
+  were-none first last [] = tt
+  were-none first last (c ∷ cs) = tt
 
   -- one attempt more
-  pub were-more : (tab : nodes.Table) (cs : List Candidate) (xs : List Attempt) (c : Candidate) (x : Attempt) → WereAttempts p pivots tab cs xs
-      → length xs < length cs → c ≡ get_or cs (length xs) c → WasAttempt p pivots tab c x → WereAttempts p pivots tab cs (xs ++ x ∷ [])
-  were-more tab [] xs c x h few is was = absurd (omega (arith, few))
-  were-more tab (d ∷ cs) [] c x h few is was = (subst (λ (y : Candidate). WasAttempt p pivots tab y x) is was, were-none tab cs)
-  were-more tab (d ∷ cs) (y ∷ xs) c x h few is was = (h.0, were-more tab cs xs c x h.1 (omega (arith, few)) is was)
+  pub were-more : (first last : Bounds) (cs : List Candidate) (xs : List Attempt) (c : Candidate) (x : Attempt)
+      → WereAttempts p pivots first last cs xs → length xs < length cs → c ≡ get_or cs (length xs) c → WasAttempt p pivots first last c x
+      → WereAttempts p pivots first last cs (xs ++ x ∷ [])
+  were-more first last [] xs c x h few is was = absurd (omega (arith, few))
+  were-more first last (d ∷ cs) [] c x h few is was =
+      (subst (λ (y : Candidate). WasAttempt p pivots first last y x) is was, were-none first last cs)
+  were-more first last (d ∷ cs) (y ∷ xs) c x h few is was = (h.0, were-more first last cs xs c x h.1 (omega (arith, few)) is was)
 
   -- the attempt at a position
-  pub was-at : (tab : nodes.Table) (cs : List Candidate) (xs : List Attempt) (i : ℕ) (c : Candidate) (x : Attempt) → WereAttempts p pivots tab cs xs
-      → slice_get xs i ≡ Some x → c ≡ get_or cs i c → WasAttempt p pivots tab c x
-  was-at tab cs [] i c x h e is = absurd (let f : ⊥ = cc in f)
-  was-at tab [] (y ∷ xs) i c x h e is = absurd h
-  was-at tab (d ∷ cs) (y ∷ xs) zero c x h e is =
-      subst (λ (w : Attempt). WasAttempt p pivots tab c w) (some-same y x e) (subst (λ (w : Candidate). WasAttempt p pivots tab w y) (sym is) h.0)
-  was-at tab (d ∷ cs) (y ∷ xs) (suc i) c x h e is = was-at tab cs xs i c x h.1 e is
+  pub was-at : (first last : Bounds) (cs : List Candidate) (xs : List Attempt) (i : ℕ) (c : Candidate) (x : Attempt)
+      → WereAttempts p pivots first last cs xs → slice_get xs i ≡ Some x → c ≡ get_or cs i c → WasAttempt p pivots first last c x
+  was-at first last cs [] i c x h e is = absurd (let f : ⊥ = cc in f)
+  was-at first last [] (y ∷ xs) i c x h e is = absurd h
+  was-at first last (d ∷ cs) (y ∷ xs) zero c x h e is =
+      subst (λ (w : Attempt). WasAttempt p pivots first last c w) (some-same y x e)
+      (subst (λ (w : Candidate). WasAttempt p pivots first last w y) (sym is) h.0)
+  was-at first last (d ∷ cs) (y ∷ xs) (suc i) c x h e is = was-at first last cs xs i c x h.1 e is
 
 -- what holds of what is there
 pub some_holds : {A : Type 0} (o : Option A) (a : A) (P : A → Type 0) → o ≡ Some a → IfSome o P → P a
 some_holds {A = A} o a P e h = subst (λ (x : Option A). IfSome x P) e h
 
 -- an answer at a position that stands is that of the component there
-pub standing-there : (p : Program) (pivots : ℕ) (tab : nodes.Table) (cs : List Candidate) (xs : List Attempt) (i : ℕ) (c : Candidate) (o : Option SizeAnswer)
-    → WereAttempts p pivots tab cs xs → c ≡ get_or cs i c
-    → IfSome o (λ a. StandsAt tab xs i a) → IfSome o (λ a. IsStanding p pivots tab c a)
-standing-there p pivots tab cs xs i c None h is k = tt
-standing-there p pivots tab cs xs i c (Some a) h is k =
-    record { was = was-at p pivots tab cs xs i c (attempts.Failed a) h k.there is; stands = k.stands }
+pub standing-there : (p : Program) (pivots : ℕ) (first b : Bounds) (tab : Table) (cs : List Candidate) (xs : List Attempt) (i : ℕ)
+    (c : Candidate) (o : Option Sizing) → tab ≡ over b → WereAttempts p pivots first b cs xs → c ≡ get_or cs i c
+    → IfSome o (λ a. StandsAt tab xs i a) → IfSome o (λ a. IsStanding p pivots b c a)
+standing-there p pivots first b tab cs xs i c None same h is k = tt
+standing-there p pivots first b tab cs xs i c (Some a) same h is k = record {
+  first = first;
+  was = was-at p pivots first b cs xs i c (attempts.Failed a) h k.there is;
+  stands = subst (λ (t : Table). Stands t a) same k.stands;
+}
 
 -- what stands at a position
 pub read-at : (xs : List Attempt) (i : ℕ) (x : Attempt) → i < length xs → x ≡ get_or xs i x → slice_get xs i ≡ Some x
@@ -176,10 +208,10 @@ read-at (y ∷ xs) zero x few e = ap Some (sym e)
 read-at (y ∷ xs) (suc i) x few e = read-at xs i x (omega (arith, few)) e
 
 -- an answer that is given again stands at its position
-pub again-at : (tab : nodes.Table) (xs : List Attempt) (i : ℕ) (b : SizeAnswer) (o : Option SizeAnswer) → slice_get xs i ≡ Some (attempts.Failed b)
+pub again-at : (tab : Table) (xs : List Attempt) (i : ℕ) (b : Sizing) (o : Option Sizing) → slice_get xs i ≡ Some (attempts.Failed b)
     → IfSome o (λ a. (a ≡ b) × Stands tab a) → IfSome o (λ a. StandsAt tab xs i a)
 again-at tab xs i b None e h = tt
 again-at tab xs i b (Some a) e h = record {
-  there = e ∙ ap (λ (x : SizeAnswer). Some (attempts.Failed x)) (sym h.0);
+  there = e ∙ ap (λ (x : Sizing). Some (attempts.Failed x)) (sym h.0);
   stands = h.1;
 }

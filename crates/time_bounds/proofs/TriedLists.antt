@@ -1,8 +1,6 @@
 -- One more rule that was tried, or one more entry that is said.
-use Rattle.std.proofs.Common.{◌≡◌, inl, inr, ℕ, zero, suc, ◌+◌, ◌<◌, ◌≤◌, ◌||◌, Bool, true, false, List, [], ◌∷◌, ◌++◌}
-use Rattle.std.proofs.Common.{length, map, get_or, All, refl, sym, ◌∙◌, ap, subst, arith}
-use Rattle.std.specs.List.{list_any}
-use Rattle.model.proofs.Membership.{no_is_not_yes}
+use Rattle.std.proofs.Common.{◌≡◌, inl, inr, ℕ, zero, suc, ◌+◌, ◌<◌, ◌≤◌, List, [], ◌∷◌, ◌++◌}
+use Rattle.std.proofs.Common.{length, map, get_or, All, Option, refl, sym, ◌∙◌, ap, subst, arith}
 use Rattle.proof_tree.specs.AnswerViews.{gap_of}
 use Rattle.std.proofs.lemmas.List.{length-append, length-map, map-append}
 use Rattle.std.proofs.lemmas.List.Elements.{All-nil, All-cons, All-head, All-tail}
@@ -12,40 +10,34 @@ use Rattle.outcome.specs.Views.{numbered_gap, time_of}
 use Rattle.outcome.specs.Printing.{HasItsGap}
 use Rattle.outcome.specs.declared.entry.TimeEntry.{TimeEntry}
 use Rattle.outcome.specs.declared.entry.TimeEntry.TheVariants as entries
-use Rattle.proof_tree.specs.proof_nodes.Known as nodes
 use Rattle.proof_tree.specs.declared.answer.EmptyAnswer.{EmptyAnswer}
 use Rattle.proof_tree.specs.declared.gap.Gap.{Gap}
-use Rattle.size_bounds.specs.round_relation.Searches.{Searches}
-use Rattle.size_bounds.specs.declared.table.Table.{Table}
+use Rattle.bound_rounds.specs.Keys.{Bounds}
+use Rattle.bound_rounds.specs.Searches.{Searches}
+use Rattle.time_bounds.specs.declared.asking.Asked.{Asked}
 use Rattle.time_bounds.specs.declared.trying.Tried.{Tried}
-use Rattle.time_bounds.specs.declared.trying.Tried.TheVariants.{Known, Found, Missing}
-use Rattle.time_bounds.specs.Tries.{IsTried, AreTried, is_found, one_if_found, count_found, IsGrown}
-use Rattle.time_bounds.specs.Analysis.{IsTimeOf, AreTimesOf}
+use Rattle.time_bounds.specs.Tries.{IsTried, AreTried, IsAskedOver, AreAskedOver, IsGrown}
+use Rattle.time_bounds.specs.TimesSaid.{IsTimeOver, AreTimesOver}
 
 -- what was tried of the next rule stands behind what was tried of those before it
-pub tried_pushed : (p : Program) (tab : Table) (pivots : ℕ) (empties : List EmptyAnswer) (k : ℕ) (tries : List Tried) (x : Tried)
-    → AreTried p tab pivots empties k tries → IsTried p tab pivots empties (k + length tries) x
-    → AreTried p tab pivots empties k (tries ++ x ∷ [])
-tried_pushed p tab pivots empties k [] x h g = (subst (λ (n : ℕ). IsTried p tab pivots empties n x) (let z : k + 0 ≡ k = omega arith in z) g, tt)
-tried_pushed p tab pivots empties k (y ∷ tries) x h g = (
+pub tried_pushed : (p : Program) (b : Bounds) (pivots : ℕ) (empties : List EmptyAnswer) (k : ℕ) (tries : List Tried) (x : Tried)
+    → AreTried p b pivots empties k tries → IsTried p b pivots empties (k + length tries) x
+    → AreTried p b pivots empties k (tries ++ x ∷ [])
+tried_pushed p b pivots empties k [] x h g = (subst (λ (n : ℕ). IsTried p b pivots empties n x) (let z : k + 0 ≡ k = omega arith in z) g, tt)
+tried_pushed p b pivots empties k (y ∷ tries) x h g = (
   h.0,
-  tried_pushed p tab pivots empties (suc k) tries x h.1
-      (subst (λ (n : ℕ). IsTried p tab pivots empties n x) (let z : k + suc (length tries) ≡ suc k + length tries = omega arith in z) g),
+  tried_pushed p b pivots empties (suc k) tries x h.1
+      (subst (λ (n : ℕ). IsTried p b pivots empties n x) (let z : k + suc (length tries) ≡ suc k + length tries = omega arith in z) g),
 )
 
--- one rule more counts where its time was found
-pub found_pushed : (tries : List Tried) (x : Tried) → count_found (tries ++ x ∷ []) ≡ count_found tries + one_if_found x
-found_pushed [] x = omega arith
-found_pushed (y ∷ tries) x = let ih = found_pushed tries x in omega (arith, ih)
-
 -- what is said of the next rule stands behind what is said of those before it
-pub said_pushed : (q : Searches) (p : Program) (tab : nodes.Table) (k : ℕ) (times : List Time) (x : Time) → AreTimesOf q p tab k times
-    → IsTimeOf q p tab (k + length times) x → AreTimesOf q p tab k (times ++ x ∷ [])
-said_pushed q p tab k [] x h g = (subst (λ (n : ℕ). IsTimeOf q p tab n x) (let z : k + 0 ≡ k = omega arith in z) g, tt)
-said_pushed q p tab k (y ∷ times) x h g = (
+pub said_pushed : (q : Searches) (p : Program) (b : Bounds) (k : ℕ) (times : List Time) (x : Time) → AreTimesOver q p b k times
+    → IsTimeOver q p b (k + length times) x → AreTimesOver q p b k (times ++ x ∷ [])
+said_pushed q p b k [] x h g = (subst (λ (n : ℕ). IsTimeOver q p b n x) (let z : k + 0 ≡ k = omega arith in z) g, tt)
+said_pushed q p b k (y ∷ times) x h g = (
   h.0,
-  said_pushed q p tab (suc k) times x h.1
-      (subst (λ (n : ℕ). IsTimeOf q p tab n x) (let z : k + suc (length times) ≡ suc k + length times = omega arith in z) g),
+  said_pushed q p b (suc k) times x h.1
+      (subst (λ (n : ℕ). IsTimeOver q p b n x) (let z : k + suc (length times) ≡ suc k + length times = omega arith in z) g),
 )
 
 -- a gap keeps its number when there is one more
@@ -91,14 +83,14 @@ entries_grown gaps new (e ∷ times) g h =
     ∙ ap (λ (xs : List Time). time_of gaps e ∷ xs) (entries_grown gaps new times g (All-tail (HasItsGap (length gaps)) e times h))
 
 -- where the list of gaps grows, what is said stays, and what is said of the next rule stands behind it
-pub said_grown : (q : Searches) (p : Program) (tab : nodes.Table) (gaps new : List Gap) (times : List TimeEntry) (x : TimeEntry) (t : ℕ)
-    → IsGrown gaps new → All (HasItsGap (length gaps)) times → AreTimesOf q p tab 1 (map (time_of gaps) times) → t ≡ 1 + length times
-    → IsTimeOf q p tab t (time_of new x) → AreTimesOf q p tab 1 (map (time_of new) (times ++ x ∷ []))
-said_grown q p tab gaps new times x t g h said e is =
-    subst (λ (xs : List Time). AreTimesOf q p tab 1 xs) (sym (map-append (time_of new) times (x ∷ [])))
-    (said_pushed q p tab 1 (map (time_of new) times) (time_of new x)
-    (subst (λ (xs : List Time). AreTimesOf q p tab 1 xs) (sym (entries_grown gaps new times g h)) said)
-    (subst (λ (n : ℕ). IsTimeOf q p tab n (time_of new x)) (e ∙ ap (λ (n : ℕ). 1 + n) (sym (length-map times (time_of new)))) is))
+pub said_grown : (q : Searches) (p : Program) (b : Bounds) (gaps new : List Gap) (times : List TimeEntry) (x : TimeEntry) (t : ℕ)
+    → IsGrown gaps new → All (HasItsGap (length gaps)) times → AreTimesOver q p b 1 (map (time_of gaps) times) → t ≡ 1 + length times
+    → IsTimeOver q p b t (time_of new x) → AreTimesOver q p b 1 (map (time_of new) (times ++ x ∷ []))
+said_grown q p b gaps new times x t g h said e is =
+    subst (λ (xs : List Time). AreTimesOver q p b 1 xs) (sym (map-append (time_of new) times (x ∷ [])))
+    (said_pushed q p b 1 (map (time_of new) times) (time_of new x)
+    (subst (λ (xs : List Time). AreTimesOver q p b 1 xs) (sym (entries_grown gaps new times g h)) said)
+    (subst (λ (n : ℕ). IsTimeOver q p b n (time_of new x)) (e ∙ ap (λ (n : ℕ). 1 + n) (sym (length-map times (time_of new)))) is))
 
 -- where the list of gaps grows, each entry still has its gap there, and so has one entry more
 pub gaps_grown : (gaps new : List Gap) (times : List TimeEntry) (x : TimeEntry) → IsGrown gaps new → All (HasItsGap (length gaps)) times
@@ -117,39 +109,20 @@ pub grown_few : (gaps new : List Gap) → IsGrown gaps new → length new ≤ le
 grown_few gaps new (inl e) = omega (arith, ap (λ (gs : List Gap). length gs) e)
 grown_few gaps new (inr h) = omega (arith, ap (λ (gs : List Gap). length gs) h.1, length-append gaps (h.0 ∷ []))
 
--- no more were found than tried
-pub found_few : (tries : List Tried) → count_found tries ≤ length tries
-found_few [] = omega arith
-found_few (Known ∷ tries) = let ih = found_few tries in omega (arith, ih)
-found_few (Found s ∷ tries) = let ih = found_few tries in omega (arith, ih)
-found_few (Missing a ∷ tries) = let ih = found_few tries in omega (arith, ih)
-
--- what was tried of the rule at a position
-pub tried_read : (p : Program) (tab : Table) (pivots : ℕ) (empties : List EmptyAnswer) (k i : ℕ) (tries : List Tried) (x : Tried)
-    → AreTried p tab pivots empties k tries → i < length tries → x ≡ get_or tries i x → IsTried p tab pivots empties (k + i) x
-tried_read p tab pivots empties k i [] x h l e = absurd (omega (arith, l))
-tried_read p tab pivots empties k zero (y ∷ tries) x h l e =
-    subst (λ (n : ℕ). IsTried p tab pivots empties n x) (let z : k ≡ k + 0 = omega arith in z) (subst (λ (z : Tried). IsTried p tab pivots empties k z) (sym e) h.0)
-tried_read p tab pivots empties k (suc i) (y ∷ tries) x h l e =
-    subst (λ (n : ℕ). IsTried p tab pivots empties n x) (let z : suc k + i ≡ k + suc i = omega arith in z)
-    (tried_read p tab pivots empties (suc k) i tries x h.1 (omega (arith, l)) e)
-
--- what was found of none was not found of one
-pub found_read : (tries : List Tried) (i : ℕ) (x : Tried) → list_any is_found tries ≡ false → i < length tries → x ≡ get_or tries i x → is_found x ≡ false
-found_read [] i x h l e = absurd (omega (arith, l))
-found_read (y ∷ tries) zero x h l e = ap is_found e ∙ first (is_found y) (list_any is_found tries) h
-  where
-    first : (v w : Bool) → (v || w) ≡ false → v ≡ false
-    first true w g = g
-    first false w g = refl
-found_read (y ∷ tries) (suc i) x h l e = found_read tries i x (rest (is_found y) (list_any is_found tries) h) (omega (arith, l)) e
-  where
-    rest : (v w : Bool) → (v || w) ≡ false → w ≡ false
-    rest true w g = absurd (no_is_not_yes true g refl)
-    rest false w g = g
-
 -- the gap that was added has the number of all gaps
 pub gap_last : (old new : List Gap) (g : Gap) (n : ℕ) → new ≡ old ++ g ∷ [] → n ≡ length new → numbered_gap new n ≡ gap_of g
 gap_last old new g n e h =
     ap (λ (gs : List Gap). numbered_gap gs n) e
     ∙ (ap (numbered_gap (old ++ g ∷ [])) (let z : n ≡ suc (length old) = omega (arith, h, ap (λ (gs : List Gap). length gs) e, length-append old (g ∷ [])) in z) ∙ gap_added old g)
+
+-- what is kept of the rule at a position
+pub asked_read : (p : Program) (b later : Bounds) (pivots : ℕ) (empties : List EmptyAnswer) (k i : ℕ) (asked : List (Option Asked))
+    (o : Option Asked) → AreAskedOver p b later pivots empties k asked → i < length asked → o ≡ get_or asked i o
+    → IsAskedOver p b later pivots empties (k + i) o
+asked_read p b later pivots empties k i [] o h l e = absurd (omega (arith, l))
+asked_read p b later pivots empties k zero (x ∷ asked) o h l e =
+    subst (λ (n : ℕ). IsAskedOver p b later pivots empties n o) (let z : k ≡ k + 0 = omega arith in z)
+    (subst (λ (z : Option Asked). IsAskedOver p b later pivots empties k z) (sym e) h.0)
+asked_read p b later pivots empties k (suc i) (x ∷ asked) o h l e =
+    subst (λ (n : ℕ). IsAskedOver p b later pivots empties n o) (let z : suc k + i ≡ k + suc i = omega arith in z)
+    (asked_read p b later pivots empties (suc k) i asked o h.1 (omega (arith, l)) e)

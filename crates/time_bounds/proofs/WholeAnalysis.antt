@@ -1,35 +1,82 @@
 -- What rounds find, with what is said of times and sizes, is the program's analysis.
-use Rattle.std.proofs.Common.{◌≡◌, ℕ, zero, suc, ◌+◌, List, [], ◌∷◌, length, map, Vec, Option, Some, refl, sym, ◌∙◌, ap}
-use Rattle.std.proofs.Common.{subst, arith}
-use Rattle.std.specs.List.{remove}
+use Rattle.std.proofs.Common.{◌≡◌, ℕ, suc, ◌+◌, true, false, List, [], ◌∷◌, length, map, Vec, Option, Some, None, refl, sym}
+use Rattle.std.proofs.Common.{◌∙◌, ap, subst, arith}
+use Rattle.std.specs.List.{list_any, remove}
 use Rattle.std.specs.Option.{option_map}
 use Rattle.std.specs.declared.alloc.Global.{Global}
 use Rattle.std.proofs.lemmas.List.{length-map}
+use Rattle.model.specs.Bounds.{Bound}
 use Rattle.model.specs.Programs.{Program, Rule, arity_of}
+use Rattle.model.proofs.Membership.{no_is_not_yes}
 use Rattle.bound_expr.specs.Views.{bound_of}
 use Rattle.outcome.specs.Reports.{Size}
 use Rattle.outcome.specs.Views.{time_of, size_of, report_of}
 use Rattle.outcome.specs.declared.entry.SizeEntry.{SizeEntry}
 use Rattle.outcome.specs.declared.outcome_of.Outcome.{Outcome}
 use Rattle.proof_tree.specs.proof_setting.Setting.{setting_of}
-use Rattle.proof_tree.specs.declared.answer.EmptyAnswer.{EmptyAnswer}
-use Rattle.rank_search.specs.rule_questions.RuleAnswers.{AreEmptyAnswers}
-use Rattle.size_bounds.specs.round_relation.Rounds.{IsMade}
+use Rattle.bound_rounds.specs.Answers.{are_open}
+use Rattle.bound_rounds.specs.Finds.{bounds_of}
+use Rattle.bound_rounds.specs.Keys.{Bounds}
+use Rattle.bound_rounds.specs.Rounds.{IsLast}
+use Rattle.bound_book.specs.declared.find.Find.{Find}
+use Rattle.bound_book.specs.Books.{IsBook}
+use Rattle.bound_book.specs.Views.{finds_of}
 use Rattle.size_bounds.specs.declared.table.Table.{Table}
-use Rattle.size_bounds.specs.Tables.{table_of}
 use Rattle.time_bounds.specs.declared.candidates.Candidate.{Candidate}
-use Rattle.time_bounds.specs.declared.rounds.LastRound.{LastRound}
+use Rattle.time_bounds.specs.declared.sizing.Attempt.{Attempt}
+use Rattle.time_bounds.specs.declared.sizing.Attempt.TheVariants as attempts
 use Rattle.time_bounds.specs.ProgramSearches.{searches_of_program}
-use Rattle.time_bounds.specs.ProgramSizes.{sizes_of_program}
 use Rattle.time_bounds.specs.Totals.{time_in, total_of}
-use Rattle.time_bounds.specs.Analysis.{IsSizeOf, AreTimesOf, AreSizeRowsOf, IsAnalysis}
-use Rattle.time_bounds.specs.Candidates.{AreCandidatesOf}
-use Rattle.time_bounds.specs.RoundEnds.{IsLastRound}
-use Rattle.time_bounds.specs.SizeSaid.{said_table, put_whys}
-use Rattle.time_bounds.specs.SizeWrites.{placed}
-use Rattle.time_bounds.proofs.Analysed.{analysis_of}
+use Rattle.time_bounds.specs.Analysis.{IsSizeOf, AreSizeRowsOf}
+use Rattle.time_bounds.specs.Attempts.{IsAttempt, AreAttempts, is_sized}
+use Rattle.time_bounds.specs.Candidates.{spots_in, AreCandidatesOf}
+use Rattle.time_bounds.specs.SizeSaid.{placed, said_table, put_whys}
+use Rattle.time_bounds.specs.Standing.{HasGrown, WasAttempt, WereAttempts}
+use Rattle.time_bounds.specs.TimesSaid.{AreTimesOver}
+use Rattle.time_bounds.proofs.Analysed.{IsAnalysisWith, analysis_of}
 use Rattle.time_bounds.proofs.SaidSizes.{rows_said, said_right, said_places, many}
-use Rattle.time_bounds.proofs.WholeRounds.{round_closed}
+use Rattle.model.proofs.Cases.{none_some}
+
+-- bounds that grew from others which grew from them are the same
+same_between : (b c : Bounds) → HasGrown b c → HasGrown c b → c ≡ b
+same_between b c up down = λ j t i. go t i (b t i) refl j
+  where
+    missing : (t i : ℕ) → b t i ≡ None → (o : Option Bound) → c t i ≡ o → c t i ≡ b t i
+    missing t i e None k = k ∙ sym e
+    missing t i e (Some x) k = absurd (none_some x (sym e ∙ down.each t i x k))
+
+    go : (t i : ℕ) (o : Option Bound) → b t i ≡ o → c t i ≡ b t i
+    go t i (Some x) e = up.each t i x e ∙ sym e
+    go t i None e = missing t i e (c t i) refl
+
+-- what was made of components between the same bounds was made over them
+pub at_last : (p : Program) (pivots : ℕ) (b : Bounds) (cs : List Candidate) (xs : List Attempt) → WereAttempts p pivots b b cs xs
+    → length xs ≡ length cs → AreAttempts p pivots b cs xs
+at_last p pivots b [] [] h long = tt
+at_last p pivots b [] (x ∷ xs) h long = absurd h
+at_last p pivots b (c ∷ cs) [] h long = absurd (omega (arith, long))
+at_last p pivots b (c ∷ cs) (x ∷ xs) h long = (
+  subst (λ (d : Bounds). IsAttempt p pivots d c x) (same_between b h.0.between h.0.after h.0.before) h.0.attempt,
+  at_last p pivots b cs xs h.1 (omega (arith, long)),
+)
+
+-- and no size was found
+pub none_sized : (p : Program) (pivots : ℕ) (b : Bounds) (cs : List Candidate) (xs : List Attempt) → WereAttempts p pivots b b cs xs
+    → length xs ≡ length cs → list_any is_sized xs ≡ false
+none_sized p pivots b [] [] h long = refl
+none_sized p pivots b [] (x ∷ xs) h long = absurd h
+none_sized p pivots b (c ∷ cs) [] h long = absurd (omega (arith, long))
+none_sized p pivots b (c ∷ cs) (x ∷ xs) h long =
+    one x h.0 (none_sized p pivots b cs xs h.1 (omega (arith, long)))
+  where
+    one : (x : Attempt) → WasAttempt p pivots b b c x → list_any is_sized xs ≡ false → list_any is_sized (x ∷ xs) ≡ false
+    one attempts.Known was rest = rest
+    one attempts.Found was rest =
+        let same = same_between b was.between was.after was.before in
+        absurd (no_is_not_yes (are_open b (spots_in c)) (was.found refl)
+        (subst (λ (d : Bounds). are_open d (spots_in c) ≡ true) same was.attempt))
+    one attempts.Armless was rest = rest
+    one (attempts.Failed a) was rest = rest
 
 -- how long the rows are that are told
 told_long : (rows : List (Vec SizeEntry Global))
@@ -41,32 +88,27 @@ told_long (row ∷ rows) =
     (length-map row.items size_of ∙ sym (length-map row.items (λ e. Some (size_of e))))
     ∙ ap (λ (ns : List ℕ). length (map (λ e. Some (size_of e)) row.items) ∷ ns) (told_long rows)
 
-module _ (p : Program) (pivots : ℕ) (empties : List EmptyAnswer) (cs : List Candidate) (tab : Table) (last : LastRound) (o : Outcome)
-    (answers : AreEmptyAnswers p pivots empties) (found : AreCandidatesOf p pivots cs)
-    (made : IsMade (searches_of_program p pivots) (sizes_of_program p pivots) (setting_of p) (table_of tab))
-    (is_last : IsLastRound p pivots empties cs tab last) where
+module _ (p : Program) (pivots : ℕ) (cs : List Candidate) (tab : Table) (finds : List Find) (xs : List Attempt) (o : Outcome)
+    (book : IsBook p tab finds) (found : AreCandidatesOf p pivots cs)
+    (last : IsLast (searches_of_program p pivots) (setting_of p) (finds_of finds))
+    (tried : AreAttempts p pivots (bounds_of p (finds_of finds)) cs xs) (nothing : list_any is_sized xs ≡ false) where
   -- the rows that are told, without that of the virtual entry
   pub whole_analysis : (first : Vec SizeEntry Global) (rows : List (Vec SizeEntry Global))
-      → map (λ row. map (λ e. Some (size_of e)) row.items) (first ∷ rows) ≡ put_whys (said_table tab) cs last.attempts.items → o.sizes.items ≡ rows
-      → length o.times.items ≡ length last.tries.items
-      → AreTimesOf (searches_of_program p pivots) p (table_of tab) 1 (map (time_of o.gaps.items) o.times.items)
-      → option_map bound_of o.total ≡ total_of (map time_in o.times.items) → IsAnalysis p pivots (report_of o)
+      → map (λ row. map (λ e. Some (size_of e)) row.items) (first ∷ rows) ≡ put_whys (said_table tab) cs xs → o.sizes.items ≡ rows
+      → length o.times.items ≡ length p.rules
+      → AreTimesOver (searches_of_program p pivots) p (bounds_of p (finds_of finds)) 1 (map (time_of o.gaps.items) o.times.items)
+      → option_map bound_of o.total ≡ total_of (map time_in o.times.items) → IsAnalysisWith p pivots (finds_of finds) (report_of o)
   whole_analysis first rows told same long said total =
-      analysis_of p pivots (table_of tab) o
-      (record { made = made; closed = round_closed p pivots empties cs tab last answers found is_last }) (long ∙ is_last.one_each) said total
-      (ap (λ (rs : List (Vec SizeEntry Global)). map (λ (xs : List Size). length xs) (map (λ places. map size_of places.items) rs)) same
+      analysis_of p pivots (finds_of finds) o last long said total
+      (ap (λ (rs : List (Vec SizeEntry Global)). map (λ (ys : List Size). length ys) (map (λ places. map size_of places.items) rs)) same
       ∙ (told_long rows ∙ lengths))
-      (subst (λ (rs : List (Vec SizeEntry Global)). AreSizeRowsOf (sizes_of_program p pivots) (table_of tab) 1 (map (λ places. map size_of places.items) rs))
-      (sym same)
-      (rows_said (sizes_of_program p pivots) (table_of tab) 1 rows (λ t i x e.
-      subst (λ (n : ℕ). IsSizeOf (sizes_of_program p pivots) (table_of tab) n i x) (let z : suc t ≡ 1 + t = omega arith in z)
-      (said_right p pivots tab cs found made is_last.places last.attempts.items is_last.attempts is_last.no_size (suc t) i x (here t i x e)))))
+      (subst (λ (rs : List (Vec SizeEntry Global)). AreSizeRowsOf (searches_of_program p pivots) p (finds_of finds) 1
+      (map (λ places. map size_of places.items) rs)) (sym same)
+      (rows_said (searches_of_program p pivots) p (finds_of finds) 1 rows (λ t i x e.
+      subst (λ (n : ℕ). IsSizeOf (searches_of_program p pivots) p (finds_of finds) n (suc i) x) (let z : suc t ≡ 1 + t = omega arith in z)
+      (said_right p pivots tab finds book cs found last.made xs tried nothing (suc t) i x
+      (ap (λ (rs : List (List (Option Size))). placed rs (suc t) (suc i)) (sym told) ∙ e)))))
     where
-      here : (t i : ℕ) (x : Size) → placed (map (λ row. map (λ e. Some (size_of e)) row.items) rows) t i ≡ Some x
-          → placed (put_whys (said_table tab) cs last.attempts.items) (suc t) i ≡ Some x
-      here t zero x e = e
-      here t (suc i) x e = ap (λ (rs : List (List (Option Size))). placed rs (suc t) (suc i)) (sym told) ∙ e
-
       lengths : map (λ (row : List (Option Size)). length row) (map (λ row. map (λ e. Some (size_of e)) row.items) rows)
           ≡ map (λ (r : Rule). arity_of p r.target) p.rules
       lengths =
@@ -74,20 +116,20 @@ module _ (p : Program) (pivots : ℕ) (empties : List EmptyAnswer) (cs : List Ca
           ∷ map (λ (row : List (Option Size)). length row) (map (λ row. map (λ e. Some (size_of e)) row.items) rows)
           ≡ arity_of p p.start ∷ map (λ (r : Rule). arity_of p r.target) p.rules =
           ap (λ (rs : List (List (Option Size))). map (λ (row : List (Option Size)). length row) rs) told
-          ∙ said_places p pivots tab cs found made is_last.places last.attempts.items is_last.attempts is_last.no_size in
+          ∙ said_places p pivots tab finds book cs found last.made xs tried nothing in
           cc
 
   -- so are all rows that are told, where the first is left out
   pub removed_analysis : (sizes : List (Vec SizeEntry Global))
-      → map (λ row. map (λ e. Some (size_of e)) row.items) sizes ≡ put_whys (said_table tab) cs last.attempts.items → o.sizes.items ≡ remove sizes 0
-      → length o.times.items ≡ length last.tries.items
-      → AreTimesOf (searches_of_program p pivots) p (table_of tab) 1 (map (time_of o.gaps.items) o.times.items)
-      → option_map bound_of o.total ≡ total_of (map time_in o.times.items) → IsAnalysis p pivots (report_of o)
+      → map (λ row. map (λ e. Some (size_of e)) row.items) sizes ≡ put_whys (said_table tab) cs xs → o.sizes.items ≡ remove sizes 0
+      → length o.times.items ≡ length p.rules
+      → AreTimesOver (searches_of_program p pivots) p (bounds_of p (finds_of finds)) 1 (map (time_of o.gaps.items) o.times.items)
+      → option_map bound_of o.total ≡ total_of (map time_in o.times.items) → IsAnalysisWith p pivots (finds_of finds) (report_of o)
   removed_analysis [] told same long said total = absurd (no_rows told)
     where
-      no_rows : [] ≡ put_whys (said_table tab) cs last.attempts.items → ⊥
+      no_rows : [] ≡ put_whys (said_table tab) cs xs → ⊥
       no_rows e =
-          let few = many p pivots tab cs found made is_last.places last.attempts.items is_last.attempts is_last.no_size in
+          let few = many p pivots tab finds book cs found last.made xs tried nothing in
           let none = ap (λ (rs : List (List (Option Size))). length rs) e in
           omega (arith, few, none)
   removed_analysis (first ∷ rows) told same long said total = whole_analysis first rows told same long said total

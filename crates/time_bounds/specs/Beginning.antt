@@ -1,85 +1,65 @@
--- The first table, list by list.
-use Rattle.std.specs.Prelude.{ℕ, zero, suc, ◌+◌, List, [], ◌∷◌, map, replicate, Option, Some, None}
+-- The finds before the first round, rule by rule.
+use Rattle.std.specs.Prelude.{ℕ, zero, suc, ◌+◌, List, [], ◌∷◌, ◌++◌, map}
 use Rattle.std.specs.List.{range_with_len}
-use Rattle.model.specs.Bounds.{Bound, Constant, Input}
+use Rattle.model.specs.Bounds.{Constant}
 use Rattle.model.specs.Programs.{Program, Rule, arity_of}
+use Rattle.proof_tree.specs.proof_nodes.Nodes.{Spot}
+use Rattle.proof_tree.specs.declared.answer.EmptyAnswer.{EmptyAnswer}
+use Rattle.proof_tree.specs.declared.answer.EmptyAnswer.TheVariants as answers
+use Rattle.bound_rounds.specs.Keys.{key, time_key}
+use Rattle.bound_rounds.specs.Finds.{Find, NeverBy}
+use Rattle.bound_rounds.specs.Beginning.{empty_find, unreached_find}
 use Rattle.time_bounds.specs.declared.fates.Fate.{Fate}
 use Rattle.time_bounds.specs.declared.fates.Fate.TheVariants.{Empty, Unreached, Live}
 
--- the bound 0 of a rule that never runs
-abbrev pub zero_by : Fate → Option Bound
-zero_by Empty = Some (Constant 0)
-zero_by Unreached = Some (Constant 0)
-zero_by Live = None
+-- the find of rule t by its answer, where it is empty; and those of these rules from t on
+abbrev pub empty_here : ℕ → EmptyAnswer → List Find
+empty_here t (answers.Empty n) = empty_find t n.multipliers.items ∷ []
+empty_here t (answers.Point z) = []
+empty_here t (answers.Tripped x) = []
 
--- the times before the first round: the virtual entry's, and those of the rules
-abbrev pub first_times : List Fate → List (Option Bound)
-first_times fates = Some (Constant 1) ∷ map zero_by fates
+abbrev pub empty_finds : ℕ → List EmptyAnswer → List Find
+empty_finds t [] = []
+empty_finds t (a ∷ empties) = empty_here t a ++ empty_finds (t + 1) empties
 
--- the sizes after the virtual entry
-abbrev pub start_sizes : ℕ → List (Option Bound)
-start_sizes arity = map (λ i. Some (Input i)) (range_with_len 0 arity)
+-- the key of the time of rule t by its fate, where it is empty; and those of these rules from t on
+abbrev pub empty_key : ℕ → Fate → List Spot
+empty_key t Empty = time_key t ∷ []
+empty_key t Unreached = []
+empty_key t Live = []
 
--- the sizes after these rules
-abbrev pub sizes_by : Program → List Fate → List Rule → List (List (Option Bound))
-sizes_by p [] rules = []
-sizes_by p (f ∷ fates) [] = []
-sizes_by p (f ∷ fates) (r ∷ rules) = replicate (arity_of p r.target) (zero_by f) ∷ sizes_by p fates rules
+abbrev pub empty_keys : ℕ → List Fate → List Spot
+empty_keys t [] = []
+empty_keys t (f ∷ fates) = empty_key t f ++ empty_keys (t + 1) fates
 
--- the sizes before the first round
-abbrev pub first_sizes : Program → List Fate → List (List (Option Bound))
-first_sizes p fates = start_sizes (arity_of p p.start) ∷ sizes_by p fates p.rules
+-- the find of rule t by its fate, where it is unreached, which rests on these; and those of these rules from t on
+abbrev pub unreached_here : List Spot → ℕ → Fate → List Find
+unreached_here dead t Empty = []
+unreached_here dead t Unreached = unreached_find dead t ∷ []
+unreached_here dead t Live = []
 
--- 1 where a rule is empty; and where it isn't, and is unreached
-abbrev pub if_empty : Fate → ℕ
-if_empty Empty = 1
-if_empty Unreached = 0
-if_empty Live = 0
+abbrev pub unreached_finds : List Spot → ℕ → List Fate → List Find
+unreached_finds dead t [] = []
+unreached_finds dead t (f ∷ fates) = unreached_here dead t f ++ unreached_finds dead (t + 1) fates
 
-abbrev pub if_unreached : Fate → ℕ
-if_unreached Empty = 0
-if_unreached Unreached = 1
-if_unreached Live = 0
+-- the find of the sizes at so many places after rule t
+abbrev pub sized_find : ℕ → ℕ → Find
+sized_find t a = record {
+  keys = map (λ i. key t i) (range_with_len 1 a);
+  node = NeverBy t;
+  needs = time_key t ∷ [];
+  bound = Constant 0;
+}
 
--- how many rules are so
-abbrev pub count_empty : List Fate → ℕ
-count_empty [] = 0
-count_empty (f ∷ fates) = if_empty f + count_empty fates
+-- it by the fate of the rule, where it never runs and there is a place; and those of these rules from t on
+abbrev pub never_here : ℕ → Fate → ℕ → List Find
+never_here t Empty zero = []
+never_here t Empty (suc a) = sized_find t (suc a) ∷ []
+never_here t Unreached zero = []
+never_here t Unreached (suc a) = sized_find t (suc a) ∷ []
+never_here t Live a = []
 
-abbrev pub count_unreached : List Fate → ℕ
-count_unreached [] = 0
-count_unreached (f ∷ fates) = if_unreached f + count_unreached fates
-
--- the number of the lemma of the time of a rule, after e lemmas of empty rules, and where that of the last unreached
--- one is u
-abbrev pub time_number : Fate → ℕ → ℕ → ℕ
-time_number Empty e u = suc e
-time_number Unreached e u = suc u
-time_number Live e u = 0
-
--- those of these rules
-abbrev pub time_numbers : ℕ → ℕ → List Fate → List ℕ
-time_numbers e u [] = []
-time_numbers e u (f ∷ fates) = time_number f e u ∷ time_numbers (e + if_empty f) (u + if_unreached f) fates
-
--- 1 where a rule never runs and its target has so many places, not none
-abbrev pub if_zeros : Fate → ℕ → ℕ
-if_zeros Empty zero = 0
-if_zeros Empty (suc n) = 1
-if_zeros Unreached zero = 0
-if_zeros Unreached (suc n) = 1
-if_zeros Live n = 0
-
--- the number of the lemma of the sizes after a rule that never runs
-abbrev pub size_number : Fate → ℕ → ℕ
-size_number Empty n = n
-size_number Unreached n = n
-size_number Live n = 0
-
--- the numbers of the sizes after these rules, after n lemmas
-abbrev pub size_numbers : Program → ℕ → List Fate → List Rule → List (List ℕ)
-size_numbers p n [] rules = []
-size_numbers p n (f ∷ fates) [] = []
-size_numbers p n (f ∷ fates) (r ∷ rules) =
-    replicate (arity_of p r.target) (size_number f (n + if_zeros f (arity_of p r.target)))
-    ∷ size_numbers p (n + if_zeros f (arity_of p r.target)) fates rules
+abbrev pub never_finds : Program → ℕ → List Fate → List Rule → List Find
+never_finds p t [] rules = []
+never_finds p t (f ∷ fates) [] = []
+never_finds p t (f ∷ fates) (r ∷ rules) = never_here t f (arity_of p r.target) ++ never_finds p (t + 1) fates rules

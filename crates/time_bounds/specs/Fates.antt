@@ -8,8 +8,8 @@ use Rattle.proof_tree.specs.proof_nodes.AcceptsPlain.{IsRule}
 use Rattle.proof_tree.specs.declared.answer.EmptyAnswer.{EmptyAnswer}
 use Rattle.proof_tree.specs.declared.answer.EmptyAnswer.TheVariants as answers
 use Rattle.rank_search.specs.rule_questions.RuleAnswers.{answer_for}
-use Rattle.size_bounds.specs.round_relation.Searches.{Searches}
-use Rattle.size_bounds.specs.round_relation.Beginning.{IsEmpty, IsDead}
+use Rattle.bound_rounds.specs.Searches.{Searches}
+use Rattle.bound_rounds.specs.Components.{IsEmpty, IsDead}
 use Rattle.time_bounds.specs.declared.fates.Fate.{Fate}
 use Rattle.time_bounds.specs.declared.fates.Fate.TheVariants.{Empty, Unreached, Live}
 

@@ -1,34 +1,34 @@
 -- the total of all times, and what it is worth
 pub mod Totals
 pub mod Laws
--- the searches of a program, and tables as the code keeps them
-pub mod ProgramSearches
+-- what is answered of a program, and the searches that it makes
+pub mod Reasons
+pub mod ProgramRules
 pub mod ProgramSizes
+pub mod ProgramSearches
 pub mod SearchLaws
 -- what is asked of rules, and what a round makes of them
 pub mod Questions
+pub mod Needs
 pub mod Tries
+pub mod TimesSaid
 pub mod Shutting
 pub mod Parts
 -- what is asked of places, and what a round makes of their components
 pub mod Locals
 pub mod Candidates
-pub mod SizeWrites
 pub mod Attempts
 pub mod SizeSaid
--- what stands of earlier rounds, what rounds begin with, and what they come to
+-- what stands of earlier rounds, and what rounds make
 pub mod Standing
-pub mod RoundEnds
-pub mod RoundStarts
--- what is known before the first round
+pub mod Taking
+pub mod RoundsMade
+-- what is found before the first round
 pub mod Fates
 pub mod Beginning
 -- what an analysis says
 pub mod Analysis
--- the places that a ranking function reads
-pub mod Lemmas
 pub mod AnalysisLemmas
-pub mod Written
 -- a program has one analysis
 pub mod AnalysisLaws
 -- what is found can be printed
@@ -36,4 +36,4 @@ pub mod PrintableLaws
 -- the crates below, which callers name through this one
 pub use Rattle.rank_search.specs.rule_questions
 pub use Rattle.rank_search.specs as rank_search
-pub use Rattle.size_bounds.specs.round_relation
+pub use Rattle.bound_rounds.specs as bound_rounds

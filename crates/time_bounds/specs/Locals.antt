@@ -11,7 +11,8 @@ use Rattle.local_size.specs.declared.answer.LocalAnswer.{LocalAnswer}
 use Rattle.rvg_components.specs.Listing.{answers_for}
 use Rattle.time_bounds.specs.declared.fates.Fate.{Fate}
 use Rattle.time_bounds.specs.declared.fates.Fate.TheVariants.{Empty, Unreached, Live}
-use Rattle.time_bounds.specs.ProgramSizes.{spot, IsLocalOf}
+use Rattle.time_bounds.specs.ProgramSizes.{IsLocalOf}
+use Rattle.bound_rounds.specs.Keys.{key}
 
 -- whether a rule of this fate is live
 abbrev pub is_live_fate : Fate → Bool
@@ -23,7 +24,7 @@ is_live_fate Live = true
 abbrev pub AreAnswersAt : Prepared → ℕ → ℕ → EmptyAnswer → ℕ → List LocalAnswer → Type 0
 AreAnswersAt m t pivots empty i [] = ⊤
 AreAnswersAt m t pivots empty i (a ∷ answers) =
-    IsLocal m (spot t i) pivots empty (local_answer_of a) × AreAnswersAt m t pivots empty (suc i) answers
+    IsLocal m (key t i) pivots empty (local_answer_of a) × AreAnswersAt m t pivots empty (suc i) answers
 
 -- these are the answers for rule t of a program, where it is live: one for each place of its target
 pub record AreAnswersAfter (p : Program) (pivots t : ℕ) (f : Fate) (answers : List LocalAnswer) : Type 0 where

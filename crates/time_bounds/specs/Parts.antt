@@ -3,24 +3,24 @@ use Rattle.std.specs.Prelude.{◌≡◌, ℕ, suc, ◌<◌, length, true, Some, 
 use Rattle.model.specs.Programs.{Program}
 use Rattle.its_graph.specs.Graphs.{HaveSameSets}
 use Rattle.rank_search.specs.rule_questions.ProgramQuestions.{places_of}
-use Rattle.size_bounds.specs.round_relation.Tables.{is_untimed}
-use Rattle.size_bounds.specs.round_relation.Sets.{IsSetOfRule, AreShutOf}
+use Rattle.bound_rounds.specs.Keys.{is_untimed}
+use Rattle.bound_rounds.specs.Sets.{IsSetOfRule, AreShutOf}
+use Rattle.bound_book.specs.ByKey.{bounds_in}
 use Rattle.size_bounds.specs.declared.table.Table.{Table}
-use Rattle.size_bounds.specs.Tables.{table_of}
 use Rattle.time_bounds.specs.declared.parts.OpenSet.{OpenSet}
 use Rattle.time_bounds.specs.declared.parts.Parts.{Parts}
 
 -- this is the set of the rule, with its shut places
 pub record IsOpenSet (p : Program) (tab : Table) (t : ℕ) (s : OpenSet) : Type 0 where
-  pub set : IsSetOfRule p (table_of tab) t s.set.items
-  pub shut : AreShutOf p (table_of tab) s.set.items (places_of s.shut.items)
+  pub set : IsSetOfRule p (bounds_in tab) t s.set.items
+  pub shut : AreShutOf p (bounds_in tab) s.set.items (places_of s.shut.items)
 
 -- rules without a time that are in one component have the same set, and what was found of a component is the set of
 -- each of them, with its shut places
 pub record AreParts (p : Program) (tab : Table) (parts : Parts) : Type 0 where
   pub one_each : length parts.of_rules.items ≡ suc (length p.rules)
   pub within : (t m : ℕ) → slice_index_or parts.of_rules.items t None ≡ Some m → m < length parts.found.items
-  pub same : HaveSameSets p (is_untimed (table_of tab)) parts.of_rules.items
-  pub found : (t m : ℕ) (s : OpenSet) → is_untimed (table_of tab) t ≡ true
+  pub same : HaveSameSets p (is_untimed (bounds_in tab)) parts.of_rules.items
+  pub found : (t m : ℕ) (s : OpenSet) → is_untimed (bounds_in tab) t ≡ true
       → slice_index_or parts.of_rules.items t None ≡ Some m → slice_index_or parts.found.items m None ≡ Some s
       → IsOpenSet p tab t s

@@ -5,21 +5,20 @@ use Rattle.model.specs.Bounds.{Bound}
 use Rattle.its_model.specs.Valid.{IsValid}
 use Rattle.bound_expr.specs.Numbers.{ReadsBelow}
 use Rattle.bound_expr.specs.Tidy.{IsTidy}
-use Rattle.proof_tree.specs.proof_nodes.Known.{Table}
 use Rattle.proof_tree.specs.proof_setting.Setting.{setting_of}
-use Rattle.size_bounds.specs.round_relation.Rounds.{IsMade}
+use Rattle.bound_rounds.specs.Keys.{Bounds}
+use Rattle.bound_rounds.specs.Finds.{Find, bounds_of}
+use Rattle.bound_rounds.specs.Rounds.{IsMade}
 use Rattle.time_bounds.specs.ProgramSearches.{searches_of_program}
-use Rattle.time_bounds.specs.ProgramSizes.{sizes_of_program}
 use Rattle.time_bounds.specs.Totals.{total_of}
 
 -- a bound is tidy, and its inputs are among the first n
 abbrev pub IsPrintableBound : ℕ → Bound → Type 0
 IsPrintableBound n b = IsTidy b × ReadsBelow n b
 
--- so is each bound of a table
-pub record IsPrintableTable (n : ℕ) (tab : Table) : Type 0 where
-  pub times : (t : ℕ) (b : Bound) → tab.time t ≡ Some b → IsPrintableBound n b
-  pub sizes : (t i : ℕ) (b : Bound) → tab.size t i ≡ Some b → IsPrintableBound n b
+-- so is each bound that is known
+pub record ArePrintableBounds (n : ℕ) (b : Bounds) : Type 0 where
+  pub each : (t i : ℕ) (x : Bound) → b t i ≡ Some x → IsPrintableBound n x
 
 -- so is each bound of a list, where there is one
 abbrev pub ArePrintable : ℕ → List (Option Bound) → Type 0
@@ -27,11 +26,10 @@ ArePrintable n [] = ⊤
 ArePrintable n (None ∷ os) = ArePrintable n os
 ArePrintable n (Some b ∷ os) = IsPrintableBound n b × ArePrintable n os
 
--- of a valid program, all bounds of a table that is made by whole rounds are tidy, over the start arguments alone; and
--- the total of such times is one of them
+-- of a valid program, all bounds that are known with finds which rounds make are tidy, over the start arguments alone;
+-- and the total of such times is one of them
 pub record FoundBoundsArePrintable : Type 0 where
-  pub tables : (p : Program) (pivots : ℕ) (tab : Table) → IsValid p
-      → IsMade (searches_of_program p pivots) (sizes_of_program p pivots) (setting_of p) tab
-      → IsPrintableTable (length p.start_names) tab
+  pub finds : (p : Program) (pivots : ℕ) (fs : List Find) → IsValid p
+      → IsMade (searches_of_program p pivots) (setting_of p) fs → ArePrintableBounds (length p.start_names) (bounds_of p fs)
   pub totals : (n : ℕ) (times : List (Option Bound)) (b : Bound) → ArePrintable n times → total_of times ≡ Some b
       → IsPrintableBound n b

@@ -1,37 +1,23 @@
--- The searches of a program: what `find_empty` and `find_rank` answer within a number of pivots.
-use Rattle.std.specs.Prelude.{◌≡◌, ℕ, List, Some}
-use Rattle.model.specs.Programs.{Program, Rule, rule_at}
-use Rattle.guard_prep.specs.Prepared.{prepared}
-use Rattle.proof_tree.specs.declared.answer.EmptyAnswer.{EmptyAnswer}
-use Rattle.proof_tree.specs.declared.answer.EmptyAnswer.TheVariants as empties
-use Rattle.proof_tree.specs.Views.{rank_of}
-use Rattle.proof_tree.specs.AnswerViews.{scaled_of, gap_of}
-use Rattle.rank_search.specs.declared.answer.RankAnswer.{RankAnswer}
-use Rattle.rank_search.specs.declared.answer.RankAnswer.TheVariants as ranks
-use Rattle.rank_search.specs.rule_questions.ProgramQuestions.{ranked_set}
-use Rattle.rank_search.specs.rule_questions.EmptyAnswers.{IsEmptyAnswer}
-use Rattle.rank_search.specs.rule_questions.RuleAnswers.{AreEmptyAnswers}
-use Rattle.rank_search.specs.RankAnswers.{IsRankAnswer}
-use Rattle.size_bounds.specs.round_relation.Searches.{Searches, Emptiness, NoPoint, HasPoint, EmptyTripped, Ranking}
-use Rattle.size_bounds.specs.round_relation.Searches.{Ranked, Unranked, RankTripped}
+-- The searches of a program.
+use Rattle.std.specs.Prelude.{ℕ, Bool}
+use Rattle.model.specs.Programs.{Program}
+use Rattle.proof_tree.specs.proof_setting.Setting.{setting_of}
+use Rattle.rvg_components.specs.Flows.{Locals}
+use Rattle.rvg_components.specs.Listing.{AreComponents}
+use Rattle.bound_rounds.specs.Keys.{over}
+use Rattle.bound_rounds.specs.Searches.{Searches}
+use Rattle.time_bounds.specs.ProgramRules.{IsEmptinessOf, IsRankingOf}
+use Rattle.time_bounds.specs.ProgramSizes.{AreLive, AreLocals, AreLocalsOf, IsSizingOf, lacks_arms}
 
--- an answer whether a rule's rows have a point, as plain data
-abbrev pub emptiness_of : EmptyAnswer → Emptiness
-emptiness_of (empties.Empty n) = NoPoint n.multipliers.items
-emptiness_of (empties.Point z) = HasPoint (scaled_of z)
-emptiness_of (empties.Tripped t) = EmptyTripped t
-
--- an answer which function ranks a rule, as plain data
-abbrev pub ranking_of : RankAnswer → Ranking
-ranking_of (ranks.Ranked node) = Ranked (rank_of node)
-ranking_of (ranks.NoRank gap) = Unranked (gap_of gap)
-ranking_of (ranks.Tripped t) = RankTripped t
-
--- the searches of a program, where each linear program may take so many pivots
+-- the searches of a program, where each linear program may take so many pivots: whether a rule is empty, which function
+-- ranks a rule over a set, the components of the places of live rules, and which node gives a component its size
 abbrev pub searches_of_program : Program → ℕ → Searches
 searches_of_program p pivots = record {
-  Empties = λ t e. (r : Rule) × (rule_at p t ≡ Some r)
-      × ((a : EmptyAnswer) × (emptiness_of a ≡ e) × IsEmptyAnswer (prepared r) t pivots a);
-  Ranks = λ set t shut r. (empties : List EmptyAnswer) × AreEmptyAnswers p pivots empties
-      × ((a : RankAnswer) × (ranking_of a ≡ r) × IsRankAnswer (ranked_set p set t shut) shut pivots empties a);
+  Empties = IsEmptinessOf p pivots;
+  Ranks = IsRankingOf p pivots;
+  AreComponents = λ components. (is_live : ℕ → Bool) × AreLive p pivots is_live
+      × ((local : Locals) × AreLocals p pivots is_live local
+      × AreComponents (setting_of p) is_live local components);
+  Sizes = λ b keys answer. (local : Locals) × AreLocalsOf p pivots local keys
+      × IsSizingOf (setting_of p) (over b) local keys (lacks_arms local keys) answer;
 }

@@ -1,4 +1,4 @@
--- The searches for sizes of a program: what `local`, `components`, `spread` and `cycle` answer within some pivots.
+-- What is answered of the places of a program within some pivots: what `local` does, and which node gives places a size.
 use Rattle.std.specs.Prelude.{◌≡◌, ◌↔◌, ℕ, Bool, true, false, List, [], ◌∷◌, map, Option, Some, None}
 use Rattle.std.specs.List.{All}
 use Rattle.model.specs.Programs.{Program, Rule, rule_at}
@@ -6,32 +6,28 @@ use Rattle.guard_prep.specs.Prepared.{prepared}
 use Rattle.outcome.specs.Reports.{NoSize, SizeLoose, SizeTripped}
 use Rattle.proof_tree.specs.proof_nodes.Nodes.{Spot, Member}
 use Rattle.proof_tree.specs.proof_nodes.AcceptsPlain.{IsRule}
-use Rattle.proof_tree.specs.proof_nodes.AcceptsSizes.{AcceptsSpread, AcceptsCycle, spread_size, cycle_size}
+use Rattle.proof_tree.specs.proof_nodes.AcceptsSizes.{AcceptsSpread, AcceptsCycle}
 use Rattle.proof_tree.specs.proof_nodes.Checks.{spread_checks, cycle_checks}
 use Rattle.proof_tree.specs.proof_nodes.Known.{Table}
 use Rattle.proof_tree.specs.proof_nodes.Reasons.{Reason, IsFirstAmong}
 use Rattle.proof_tree.specs.proof_nodes.Setting.{Setting}
-use Rattle.proof_tree.specs.proof_setting.Setting.{setting_of}
 use Rattle.proof_tree.specs.declared.answer.EmptyAnswer.{EmptyAnswer}
 use Rattle.rank_search.specs.rule_questions.EmptyAnswers.{IsEmptyAnswer}
 use Rattle.local_size.specs.LocalAnswers.{Local, HasBound, IsLooseOn, HasTripped, IsLocal}
 use Rattle.rvg_components.specs.Flows.{Locals, loops}
-use Rattle.rvg_components.specs.Listing.{AreComponents}
-use Rattle.size_bounds.specs.round_relation.Tables.{IsPlace}
-use Rattle.size_bounds.specs.round_relation.Searches.{SizeSearches, Sizing, Found, NotFound}
-use Rattle.size_bounds.specs.round_relation.Beginning.{IsEmpty, IsDead}
-use Rattle.size_bounds.specs.round_relation.RightSizes.{IsReasonFor}
-use Rattle.time_bounds.specs.ProgramSearches.{searches_of_program}
+use Rattle.bound_rounds.specs.Keys.{IsPlace, key}
+use Rattle.bound_rounds.specs.Finds.{SpreadBy, CycleBy}
+use Rattle.bound_rounds.specs.Searches.{Sizing, SizedBy, Unsized}
+use Rattle.bound_rounds.specs.Components.{IsDead}
+use Rattle.bound_rounds.specs.Right.{IsReasonFor}
+use Rattle.time_bounds.specs.ProgramRules.{IsEmptyRule}
+use Rattle.time_bounds.specs.Reasons.{size_reason}
 
 -- the rules that are live: those that don't never run
 pub record AreLive (p : Program) (pivots : ℕ) (is_live : ℕ → Bool) : Type 0 where
   pub is_empty : ℕ → Bool
-  pub empty : (t : ℕ) → IsRule p t → (is_empty t ≡ true) ↔ IsEmpty (searches_of_program p pivots) t
+  pub empty : (t : ℕ) → IsRule p t → (is_empty t ≡ true) ↔ IsEmptyRule p pivots t
   pub live : (t : ℕ) → (is_live t ≡ true) ↔ (IsRule p t × (¬ IsDead p is_empty t))
-
--- the spot of a place after a rule
-abbrev pub spot : ℕ → ℕ → Spot
-spot t i = record { rule = t; place = i }
 
 -- this is answered of a place after a rule
 pub record IsLocalOf (p : Program) (pivots : ℕ) (t i : ℕ) (x : Local) : Type 0 where
@@ -40,7 +36,7 @@ pub record IsLocalOf (p : Program) (pivots : ℕ) (t i : ℕ) (x : Local) : Type
   pub place : IsPlace p t i
   pub empty : EmptyAnswer
   pub is_empty_answer : IsEmptyAnswer (prepared rule) t pivots empty
-  pub local : IsLocal (prepared rule) (spot t i) pivots empty x
+  pub local : IsLocal (prepared rule) (key t i) pivots empty x
 
 -- so it is of each place after a live rule
 abbrev pub AreLocals : Program → ℕ → (ℕ → Bool) → Locals → Type 0
@@ -81,41 +77,31 @@ pub record AreMembers (local : Locals) (spots : List Spot) (members : List Membe
   pub spots_are : spots ≡ map (λ m. m.spot) members
   pub bounds_are : All (λ m. local m.spot.rule m.spot.place ≡ HasBound m.local) members
 
--- what is answered of places that don't loop: of the only one its size, or the first check that fails
+-- what is answered of places that don't loop: of the only one the node that gives it a size, or the first check that
+-- fails
 abbrev pub IsSpreadSizing : Setting → Table → List Member → Sizing → Type 0
 IsSpreadSizing s tab [] answer = ⊥
-IsSpreadSizing s tab (m ∷ []) (Found b) = AcceptsSpread s tab m × (b ≡ s.rewrite (spread_size s tab m))
-IsSpreadSizing s tab (m ∷ []) (NotFound why) = (r : Reason) × IsReasonFor why r × IsFirstAmong (spread_checks s tab m) r
+IsSpreadSizing s tab (m ∷ []) (SizedBy node) = (node ≡ SpreadBy m) × AcceptsSpread s tab m
+IsSpreadSizing s tab (m ∷ []) (Unsized why) = (r : Reason) × IsReasonFor why r × IsFirstAmong (spread_checks s tab m) r
 IsSpreadSizing s tab (m ∷ n ∷ members) answer = ⊥
 
 -- and of places that do
 abbrev pub IsCycleSizing : Setting → Table → List Member → Sizing → Type 0
-IsCycleSizing s tab members (Found b) = AcceptsCycle s tab members × (b ≡ s.rewrite (cycle_size s tab members))
-IsCycleSizing s tab members (NotFound why) =
+IsCycleSizing s tab members (SizedBy node) = (node ≡ CycleBy members) × AcceptsCycle s tab members
+IsCycleSizing s tab members (Unsized why) =
     (r : Reason) × IsReasonFor why r × IsFirstAmong (cycle_checks s tab members) r
 
 abbrev pub IsSizingBy : Bool → Setting → Table → List Member → Sizing → Type 0
 IsSizingBy false s tab members answer = IsSpreadSizing s tab members answer
 IsSizingBy true s tab members answer = IsCycleSizing s tab members answer
 
--- what is answered of a component over a table: that a place of it is loose, or tripped; else its size, or the first
--- check that fails
+-- what is answered of a component over a table: that a place of it is loose, or tripped; else the node that gives it a
+-- size, or the first check that fails
 pub record IsJudged (s : Setting) (tab : Table) (local : Locals) (spots : List Spot) (answer : Sizing) : Type 0 where
   pub members : List Member
   pub are_members : AreMembers local spots members
   pub sizing : IsSizingBy (loops s local spots) s tab members answer
 
 abbrev pub IsSizingOf : Setting → Table → Locals → List Spot → Option NoSize → Sizing → Type 0
-IsSizingOf s tab local spots (Some why) answer = answer ≡ NotFound why
+IsSizingOf s tab local spots (Some why) answer = answer ≡ Unsized (size_reason why)
 IsSizingOf s tab local spots None answer = IsJudged s tab local spots answer
-
--- the searches for sizes of a program, where each linear program may take so many pivots
-abbrev pub sizes_of_program : Program → ℕ → SizeSearches
-sizes_of_program p pivots = record {
-  AreComponents = λ components. (is_live : ℕ → Bool) × AreLive p pivots is_live
-      × ((local : Locals) × AreLocals p pivots is_live local
-      × AreComponents (setting_of p) is_live local components);
-  Arms = λ m l. IsLocalOf p pivots m.rule m.place (HasBound l);
-  Sizes = λ time size spots answer. (local : Locals) × AreLocalsOf p pivots local spots
-      × IsSizingOf (setting_of p) (record { time = time; size = size }) local spots (lacks_arms local spots) answer;
-}

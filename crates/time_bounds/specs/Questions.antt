@@ -1,10 +1,12 @@
--- What the searches of a program stand on, and what is asked of its rules.
+-- What an analysis stands on, and what is asked of rules.
 use Rattle.std.specs.Prelude.{◌≡◌, ℕ, suc, ◌≤◌, List, [], ◌∷◌, length, Bool, false, Option, Some, None}
 use Rattle.std.specs.Prelude.{slice_index_or, ⊤}
 use Rattle.model.specs.Programs.{Program}
 use Rattle.guard_prep.specs.declared.rule_rows.RuleRows.{RuleRows}
 use Rattle.guard_prep.specs.Views.{prepared_of}
 use Rattle.its_graph.specs.Graphs.{IsGraphOf}
+use Rattle.its_model.specs.Valid.{IsValid}
+use Rattle.its_model.specs.Views.{program_of}
 use Rattle.proof_tree.specs.declared.answer.EmptyAnswer.{EmptyAnswer}
 use Rattle.proof_tree.specs.Composing.{AreRowsOf}
 use Rattle.std.specs.List.{All}
@@ -15,12 +17,12 @@ use Rattle.rank_search.specs.rule_questions.EmptyAnswers.{IsEmptyAnswer, SaysEmp
 use Rattle.rank_search.specs.rule_questions.RuleAnswers.{AreEmptyAnswers, answer_for}
 use Rattle.rank_search.specs.RankAnswers.{IsRankAnswer}
 use Rattle.rank_search.specs.rule_questions.ProgramQuestions.{ranked_set, places_of}
-use Rattle.size_bounds.specs.round_relation.Tables.{is_untimed}
-use Rattle.size_bounds.specs.round_relation.Sets.{IsSetOfRule, AreShutOf}
+use Rattle.bound_rounds.specs.Keys.{Bounds, is_untimed}
+use Rattle.bound_rounds.specs.Sets.{IsSetOfRule, AreShutOf}
+use Rattle.bound_book.specs.ByKey.{bounds_in}
 use Rattle.time_bounds.specs.declared.asking.Asked.{Asked}
-use Rattle.time_bounds.specs.declared.questions.Questions.{Questions}
+use Rattle.time_bounds.specs.declared.context.Context.{Context}
 use Rattle.size_bounds.specs.declared.table.Table.{Table}
-use Rattle.size_bounds.specs.Tables.{table_of}
 
 -- the answers for these rows, of rule k and those after it, in order
 abbrev pub AreAnswersFrom : ℕ → ℕ → List RuleRows → List EmptyAnswer → Type 0
@@ -30,21 +32,26 @@ AreAnswersFrom pivots k (m ∷ preps) [] = ⊥
 AreAnswersFrom pivots k (m ∷ preps) (a ∷ answers) =
     IsEmptyAnswer (prepared_of m) k pivots a × AreAnswersFrom pivots (suc k) preps answers
 
--- the graph, the rows and the answers are those of the program
-pub record AreQuestionsOf (p : Program) (q : Questions) : Type 0 where
-  pub graph : IsGraphOf q.graph p
-  pub rows : AreRowsOf q.preps.items p
-  pub empties : AreEmptyAnswers p q.pivots q.empties.items
+-- the program that is analysed
+abbrev pub program_in : Context → Program
+program_in cx = program_of cx.program.now
+
+-- the program is valid, and the graph, the rows and the answers are its own
+pub record IsReady (cx : Context) : Type 0 where
+  pub valid : IsValid (program_in cx)
+  pub graph : IsGraphOf cx.graph (program_in cx)
+  pub rows : AreRowsOf cx.preps.items (program_in cx)
+  pub empties : AreEmptyAnswers (program_in cx) cx.pivots cx.empties.items
 
 -- the flags of the virtual entry and of all rules say which have no time
 pub record AreUntimed (p : Program) (tab : Table) (flags : List Bool) : Type 0 where
   pub one_each : length flags ≡ suc (length p.rules)
-  pub each : (t : ℕ) → t ≤ length p.rules → slice_index_or flags t false ≡ is_untimed (table_of tab) t
+  pub each : (t : ℕ) → t ≤ length p.rules → slice_index_or flags t false ≡ is_untimed (bounds_in tab) t
 
 -- each rule whose rows are known to have no point has a time
 pub record KnowsEmpty (p : Program) (tab : Table) (empties : List EmptyAnswer) : Type 0 where
   pub each : (t : ℕ) (a : EmptyAnswer) → answer_for empties t ≡ Some a → SaysEmpty a
-      → is_untimed (table_of tab) t ≡ false
+      → is_untimed (bounds_in tab) t ≡ false
 
 -- a node that was found has a denominator of at least 1, and forms with few coefficients
 abbrev pub HasShape : RankAnswer → Type 0
@@ -66,9 +73,9 @@ pub record IsSameQuestion (before : Option Asked) (set : List ℕ) (shut : List 
   pub same_shut : a.shut.items ≡ shut
 
 -- and these are the set of the rule, and its shut places
-pub record IsAsked (p : Program) (tab : Table) (t : ℕ) (a : Asked) : Type 0 where
-  pub set : IsSetOfRule p (table_of tab) t a.set.items
-  pub shut : AreShutOf p (table_of tab) a.set.items (places_of a.shut.items)
+pub record IsAsked (p : Program) (b : Bounds) (t : ℕ) (a : Asked) : Type 0 where
+  pub set : IsSetOfRule p b t a.set.items
+  pub shut : AreShutOf p b a.set.items (places_of a.shut.items)
 
 -- of each rule from k on a question that was answered, or none
 abbrev pub AreKept : Program → ℕ → List EmptyAnswer → ℕ → List (Option Asked) → Type 0
@@ -81,5 +88,5 @@ AreKept p pivots empties k (Some a ∷ kept) =
 -- virtual entry is known, and so is that of each rule whose rows are known to have no point
 pub record IsTable (p : Program) (tab : Table) (empties : List EmptyAnswer) : Type 0 where
   pub one_each : length tab.times.items ≡ suc (length p.rules)
-  pub start : is_untimed (table_of tab) 0 ≡ false
+  pub start : is_untimed (bounds_in tab) 0 ≡ false
   pub empty : KnowsEmpty p tab empties

@@ -6,7 +6,7 @@ use Rattle.model.specs.Programs.{Program, arity_of}
 use Rattle.model.specs.Paths.{target_of, same_symbol}
 use Rattle.proof_tree.specs.proof_nodes.Gaps.{SymbolPlace}
 use Rattle.proof_tree.specs.proof_nodes.Known.{Table}
-use Rattle.size_bounds.specs.round_relation.Tables.{lacks}
+use Rattle.bound_rounds.specs.Keys.{lacks}
 
 -- the place has no size after one of these rules
 abbrev pub lacks_any : Table → List ℕ → ℕ → Bool

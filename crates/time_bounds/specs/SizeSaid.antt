@@ -1,5 +1,5 @@
 -- What is said of sizes, row by row.
-use Rattle.std.specs.Prelude.{◌≡◌, ℕ, List, [], ◌∷◌, map, Option, Some, None, ⊤}
+use Rattle.std.specs.Prelude.{◌≡◌, ℕ, zero, suc, List, [], ◌∷◌, map, Option, Some, None, ⊤}
 use Rattle.std.specs.Option.{option_map}
 use Rattle.bound_expr.specs.Views.{bound_of}
 use Rattle.outcome.specs.Reports.{NoSize, Size, Sized, Unsized}
@@ -9,12 +9,17 @@ use Rattle.outcome.specs.declared.entry.SizeEntry.{SizeEntry}
 use Rattle.outcome.specs.declared.entry.SizeEntry.TheVariants as entries
 use Rattle.proof_tree.specs.proof_nodes.Nodes.{Spot}
 use Rattle.size_bounds.specs.declared.table.Table.{Table}
-use Rattle.size_bounds.specs.Tables.{entry_at, lemma_stored, numbers_of}
+use Rattle.size_bounds.specs.Tables.{entry_at, row_at, lemma_stored}
 use Rattle.time_bounds.specs.declared.candidates.Candidate.{Candidate}
 use Rattle.time_bounds.specs.declared.sizing.Attempt.{Attempt}
 use Rattle.time_bounds.specs.Candidates.{spots_in}
 use Rattle.time_bounds.specs.Attempts.{why_of}
-use Rattle.time_bounds.specs.SizeWrites.{rows_of, placed, put_place}
+use Rattle.bound_book.specs.ByKey.{rows_of, put_place, number_at}
+
+-- what stands at a place after a rule; places count from 1
+abbrev pub placed : {A : Type 0} → List (List (Option A)) → ℕ → ℕ → Option A
+placed rows t zero = None
+placed rows t (suc i) = entry_at (row_at rows t) i
 
 -- entries where they are there, as plain data
 abbrev pub seen_row : List (Option SizeEntry) → List (Option Size)
@@ -78,7 +83,7 @@ pub record CarryRow (row : List (Option Stored)) (said : List (Option SizeEntry)
 
 -- so do those of rows, place by place
 pub record CarryPlaces (tab : Table) (said : List (List (Option SizeEntry))) : Type 0 where
-  pub each : (t i : ℕ) (e : SizeEntry) → placed said t i ≡ Some e → CarriesNumber ((numbers_of tab).size t i) e
+  pub each : (t i : ℕ) (e : SizeEntry) → placed said t i ≡ Some e → CarriesNumber (number_at tab t i) e
 
 -- rows keep that
 pub record KeepPlaces (old new : List (List (Option SizeEntry))) : Type 0 where

@@ -1,99 +1,78 @@
--- What a round makes of each rule, and of the table.
-use Rattle.std.specs.Prelude.{◌≡◌, ◌⊎◌, ℕ, suc, ◌+◌, Bool, true, false, List, [], ◌∷◌, ◌++◌, Option}
-use Rattle.std.specs.Prelude.{Some, None, ⊤, slice_set}
-use Rattle.proof_tree.specs.declared.gap.Gap.{Gap}
+-- What a round makes of each rule.
+use Rattle.std.specs.Prelude.{◌≡◌, ◌⊎◌, ℕ, suc, true, false, List, [], ◌∷◌, ◌++◌, map, Option, Some, None, ⊤}
 use Rattle.model.specs.Programs.{Program}
-use Rattle.model.specs.Bounds.{Bound}
 use Rattle.bound_expr.specs.Views.{bound_of}
-use Rattle.outcome.specs.Reports.{NoTime, Timed, Untimed}
-use Rattle.outcome.specs.declared.entry.Stored.{Stored}
-use Rattle.proof_tree.specs.proof_setting.Setting.{setting_of}
 use Rattle.proof_tree.specs.declared.answer.EmptyAnswer.{EmptyAnswer}
-use Rattle.size_bounds.specs.round_relation.NewTimes.{SaysTime, GivesTime}
+use Rattle.proof_tree.specs.declared.gap.Gap.{Gap}
+use Rattle.proof_tree.specs.proof_setting.Setting.{setting_of}
+use Rattle.proof_tree.specs.Views.{rank_of, spot_of}
+use Rattle.bound_rounds.specs.Keys.{Bounds, is_untimed, time_key}
+use Rattle.bound_rounds.specs.Finds.{Find, RankBy}
+use Rattle.bound_rounds.specs.Searches.{NoBound}
+use Rattle.bound_rounds.specs.Answers as told
+use Rattle.bound_rounds.specs.Answers.{Lacks, TellsRanking, TellsTime}
 use Rattle.time_bounds.specs.declared.asking.Asked.{Asked}
-use Rattle.size_bounds.specs.declared.table.Table.{Table}
 use Rattle.time_bounds.specs.declared.trying.Tried.{Tried}
 use Rattle.time_bounds.specs.declared.trying.Tried.TheVariants.{Known, Found, Missing}
-use Rattle.size_bounds.specs.Tables.{entry_at, table_of}
-use Rattle.time_bounds.specs.ProgramSearches.{searches_of_program, ranking_of}
+use Rattle.time_bounds.specs.ProgramRules.{ranking_of}
+use Rattle.time_bounds.specs.ProgramSearches.{searches_of_program}
 use Rattle.time_bounds.specs.Questions.{IsAnswered, IsAsked}
 
--- the rule's question was asked and answered, and the answer gives no time
-pub record IsMissing (p : Program) (tab : Table) (pivots : ℕ) (empties : List EmptyAnswer) (t : ℕ) (a : Asked)
+-- the rule's question was asked over bounds and answered, and the answer gives no time
+pub record IsMissing (p : Program) (b : Bounds) (pivots : ℕ) (empties : List EmptyAnswer) (t : ℕ) (a : Asked)
     : Type 0 where
-  pub asked : IsAsked p tab t a
+  pub asked : IsAsked p b t a
   pub answered : IsAnswered p pivots empties t a
-  pub why : NoTime
-  pub says : SaysTime (setting_of p) (table_of tab) (ranking_of a.answer) (Untimed why)
+  pub why : NoBound
+  pub tells : TellsRanking (setting_of p) b (ranking_of a.answer) (Lacks why)
 
--- what a round made of rule t is right: its time was known; or it had none, and the answer to its question gives this
--- one, or none
-abbrev pub IsTried : Program → Table → ℕ → List EmptyAnswer → ℕ → Tried → Type 0
-IsTried p tab pivots empties t Known = (b : Bound) × ((table_of tab).time t ≡ Some b)
-IsTried p tab pivots empties t (Found s) = ((table_of tab).time t ≡ None)
-    × GivesTime (searches_of_program p pivots) (setting_of p) (table_of tab) t (Timed (bound_of s.bound))
-IsTried p tab pivots empties t (Missing a) = ((table_of tab).time t ≡ None) × IsMissing p tab pivots empties t a
+-- what a round made of rule t over bounds is right: its time was known; or it had none, and the answer to its question
+-- gives this one, or none
+abbrev pub IsTried : Program → Bounds → ℕ → List EmptyAnswer → ℕ → Tried → Type 0
+IsTried p b pivots empties t Known = is_untimed b t ≡ false
+IsTried p b pivots empties t (Found node needs bound) = (is_untimed b t ≡ true)
+    × TellsTime (searches_of_program p pivots) (setting_of p) b t
+    (told.Found (RankBy (rank_of node)) (map spot_of needs.items) (bound_of bound))
+IsTried p b pivots empties t (Missing a) = (is_untimed b t ≡ true) × IsMissing p b pivots empties t a
 
 -- of each rule from k on, in order
-abbrev pub AreTried : Program → Table → ℕ → List EmptyAnswer → ℕ → List Tried → Type 0
-AreTried p tab pivots empties k [] = ⊤
-AreTried p tab pivots empties k (x ∷ tries) =
-    IsTried p tab pivots empties k x × AreTried p tab pivots empties (suc k) tries
+abbrev pub AreTried : Program → Bounds → ℕ → List EmptyAnswer → ℕ → List Tried → Type 0
+AreTried p b pivots empties k [] = ⊤
+AreTried p b pivots empties k (x ∷ tries) =
+    IsTried p b pivots empties k x × AreTried p b pivots empties (suc k) tries
 
--- what was found of a rule
-abbrev pub found_in : Tried → Option Stored
-found_in Known = None
-found_in (Found s) = Some s
-found_in (Missing a) = None
+-- the find of rule t, where its time was found; and those of these rules from t on
+abbrev pub find_in : ℕ → Tried → List Find
+find_in t Known = []
+find_in t (Found node needs bound) = record {
+  keys = time_key t ∷ [];
+  node = RankBy (rank_of node);
+  needs = map spot_of needs.items;
+  bound = bound_of bound;
+} ∷ []
+find_in t (Missing a) = []
+
+abbrev pub finds_in : ℕ → List Tried → List Find
+finds_in t [] = []
+finds_in t (x ∷ tries) = find_in t x ++ finds_in (suc t) tries
 
 -- the question that is kept of a rule
 abbrev pub kept_in : Tried → Option Asked
 kept_in Known = None
-kept_in (Found s) = None
+kept_in (Found node needs bound) = None
 kept_in (Missing a) = Some a
 
--- what is stored, or else what was found
-abbrev pub or_found : Option Stored → Tried → Option Stored
-or_found (Some s) tried = Some s
-or_found None tried = found_in tried
+-- of rule t a question is kept that was asked over some bounds, where its time was missing and is still; or none is
+-- kept, and its time is known with later ones
+abbrev pub IsAskedOver : Program → Bounds → Bounds → ℕ → List EmptyAnswer → ℕ → Option Asked → Type 0
+IsAskedOver p b later pivots empties t None = is_untimed later t ≡ false
+IsAskedOver p b later pivots empties t (Some a) = (is_untimed b t ≡ true) × IsMissing p b pivots empties t a
 
--- the times after a round: those before, with those that were found
-abbrev pub after_round : List (Option Stored) → List Tried → List (Option Stored)
-after_round [] tries = []
-after_round (o ∷ times) [] = o ∷ times
-after_round (o ∷ times) (x ∷ tries) = or_found o x ∷ after_round times tries
-
--- so with the virtual entry, whose time stays
-abbrev pub after_tries : List (Option Stored) → List Tried → List (Option Stored)
-after_tries [] tries = []
-after_tries (o ∷ times) tries = o ∷ after_round times tries
-
--- a rule's time is written, where nothing is stored of it
-abbrev pub put_tried : List (Option Stored) → ℕ → Tried → List (Option Stored)
-put_tried times t tried = slice_set times t (or_found (entry_at times t) tried)
-
--- whether a time was found
-abbrev pub is_found : Tried → Bool
-is_found Known = false
-is_found (Found s) = true
-is_found (Missing a) = false
-
--- 1 where a time was found
-abbrev pub one_if_found : Tried → ℕ
-one_if_found Known = 0
-one_if_found (Found s) = 1
-one_if_found (Missing a) = 0
-
--- how many were found
-abbrev pub count_found : List Tried → ℕ
-count_found [] = 0
-count_found (x ∷ tries) = one_if_found x + count_found tries
-
--- how many times are missing
-abbrev pub count_missing : List (Option Stored) → ℕ
-count_missing [] = 0
-count_missing (None ∷ times) = suc (count_missing times)
-count_missing (Some s ∷ times) = count_missing times
+-- so of each rule from k on, in order
+abbrev pub AreAskedOver : Program → Bounds → Bounds → ℕ → List EmptyAnswer → ℕ → List (Option Asked) → Type 0
+AreAskedOver p b later pivots empties k [] = ⊤
+AreAskedOver p b later pivots empties k (o ∷ asked) =
+    IsAskedOver p b later pivots empties k o × AreAskedOver p b later pivots empties (suc k) asked
 
 -- a list of gaps stays as it is, or has one more
 abbrev pub IsGrown : List Gap → List Gap → Type 0

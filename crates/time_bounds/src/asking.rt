@@ -1,21 +1,17 @@
 //! The rank question of a rule, and its answer.
 
-ghost use Rattle.std.specs.Prelude.{◌≡◌, ◌<◌, ◌≤◌, length, true, IfOk, IfSome, OnOk, Some, None, slice_index_or, false};
-ghost use Rattle.its_model.specs.Valid.{IsValid};
-ghost use Rattle.its_model.specs.Views.{program_of};
+ghost use Rattle.std.specs.Prelude.{◌≡◌, ◌<◌, ◌≤◌, true, IfOk, IfSome, OnOk, Some, None, slice_index_or, false};
 ghost use Rattle.rank_search.specs.RankAnswers.{IsRuleSet, MayAllRun};
-ghost use Rattle.size_bounds.specs.Tables.{table_of};
+ghost use Rattle.bound_book.specs.ByKey.{bounds_in};
 ghost use Rattle.time_bounds.specs.Parts.{AreParts};
-ghost use Rattle.time_bounds.specs.Questions.{AreQuestionsOf, AreUntimed, IsAnswered, IsAsked};
+ghost use Rattle.time_bounds.specs.Questions.{AreUntimed, IsAnswered, IsAsked, IsReady, program_in};
 ghost use Rattle.time_bounds.specs.Questions.{IsSameQuestion, KnowsEmpty};
 
+use crate::context::Context;
 use crate::parts::{OpenSet, Parts, open_set};
-use crate::questions::Questions;
-use its_model::Program;
 use model::Memory;
 use rank_search::{RankAnswer, find_rank};
 use size_bounds::Table;
-use std::alloc::Global;
 
 /// A rank question that was answered: over which set, and which places were shut.
 #[derive(Debug, Drop)]
@@ -28,54 +24,48 @@ pub(crate) struct Asked {
 /// The rank question of a rule without a time, over what is known. Where the question is the one that was asked before,
 /// its answer is kept.
 pub(crate) fn ask(
-    alloc: Global,
-    p: &Program,
-    q: &Questions,
+    cx: &Context,
     table: &Table,
     untimed: &[bool],
     parts: &mut Parts,
     rule: u32,
     before: Option<Asked>,
 ) -> Result<Asked, Memory>
-    requires valid { IsValid (program_of p.now) }
-    requires questions { AreQuestionsOf (program_of p.now) q.now }
-    requires flags { AreUntimed (program_of p.now) table.now untimed.now }
+    requires ready { IsReady cx.now }
+    requires flags { AreUntimed (program_in cx.now) table.now untimed.now }
     requires start { slice_index_or untimed.now 0 false ≡ false }
     requires untimed_rule { slice_index_or untimed.now rule false ≡ true }
-    requires parts { AreParts (program_of p.now) table.now parts.old }
-    requires empty { KnowsEmpty (program_of p.now) table.now q.now.empties.items }
-    requires kept { IfSome before (λ a. IsAnswered (program_of p.now) q.now.pivots q.now.empties.items rule a) }
-    ensures asked { IfOk result (λ a. IsAsked (program_of p.now) table.now rule a) }
-    ensures answered { IfOk result (λ a. IsAnswered (program_of p.now) q.now.pivots q.now.empties.items rule a) }
-    ensures parts { OnOk result (AreParts (program_of p.now) table.now parts.new) }
+    requires parts { AreParts (program_in cx.now) table.now parts.old }
+    requires empty { KnowsEmpty (program_in cx.now) table.now cx.now.empties.items }
+    requires kept { IfSome before (λ a. IsAnswered (program_in cx.now) cx.now.pivots cx.now.empties.items rule a) }
+    ensures asked { IfOk result (λ a. IsAsked (program_in cx.now) (bounds_in table.now) rule a) }
+    ensures answered { IfOk result (λ a. IsAnswered (program_in cx.now) cx.now.pivots cx.now.empties.items rule a) }
+    ensures parts { OnOk result (AreParts (program_in cx.now) table.now parts.new) }
 {
-    let found = open_set(alloc, p, q, table, untimed, parts, rule)?;
+    let found = open_set(cx, table, untimed, parts, rule)?;
     let OpenSet { set, shut } = found;
-    answered(alloc, p, q, rule, set, shut, before)
+    answered(cx, rule, set, shut, before)
 }
 
 // The answer that is kept, where the question is the same, and else a new one.
 fn answered(
-    alloc: Global,
-    p: &Program,
-    q: &Questions,
+    cx: &Context,
     rule: u32,
     set: Vec<u32>,
     shut: Vec<(u32, u32)>,
     before: Option<Asked>,
 ) -> Result<Asked, Memory>
-    requires valid { IsValid (program_of p.now) }
-    requires questions { AreQuestionsOf (program_of p.now) q.now }
-    requires rules { IsRuleSet (program_of p.now) set.items rule }
-    requires may_run { MayAllRun set.items q.now.empties.items }
-    requires kept { IfSome before (λ a. IsAnswered (program_of p.now) q.now.pivots q.now.empties.items rule a) }
+    requires ready { IsReady cx.now }
+    requires rules { IsRuleSet (program_in cx.now) set.items rule }
+    requires may_run { MayAllRun set.items cx.now.empties.items }
+    requires kept { IfSome before (λ a. IsAnswered (program_in cx.now) cx.now.pivots cx.now.empties.items rule a) }
     ensures set { IfOk result (λ a. a.set.items ≡ set.items) }
     ensures shut { IfOk result (λ a. a.shut.items ≡ shut.items) }
-    ensures answered { IfOk result (λ a. IsAnswered (program_of p.now) q.now.pivots q.now.empties.items rule a) }
+    ensures answered { IfOk result (λ a. IsAnswered (program_in cx.now) cx.now.pivots cx.now.empties.items rule a) }
 {
     match same_question(before, &set, &shut) {
         Some(old) => Ok(old),
-        None => new_answer(alloc, p, q, rule, set, shut),
+        None => new_answer(cx, rule, set, shut),
     }
 }
 
@@ -117,21 +107,27 @@ fn are_same_places(first: &[(u32, u32)], second: &[(u32, u32)]) -> bool
 
 // The answer to a question that wasn't asked before.
 fn new_answer(
-    alloc: Global,
-    p: &Program,
-    q: &Questions,
+    cx: &Context,
     rule: u32,
     set: Vec<u32>,
     shut: Vec<(u32, u32)>,
 ) -> Result<Asked, Memory>
-    requires valid { IsValid (program_of p.now) }
-    requires questions { AreQuestionsOf (program_of p.now) q.now }
-    requires rules { IsRuleSet (program_of p.now) set.items rule }
-    requires may_run { MayAllRun set.items q.now.empties.items }
+    requires ready { IsReady cx.now }
+    requires rules { IsRuleSet (program_in cx.now) set.items rule }
+    requires may_run { MayAllRun set.items cx.now.empties.items }
     ensures set { IfOk result (λ a. a.set.items ≡ set.items) }
     ensures shut { IfOk result (λ a. a.shut.items ≡ shut.items) }
-    ensures answered { IfOk result (λ a. IsAnswered (program_of p.now) q.now.pivots q.now.empties.items rule a) }
+    ensures answered { IfOk result (λ a. IsAnswered (program_in cx.now) cx.now.pivots cx.now.empties.items rule a) }
 {
-    let answer = find_rank(alloc, p, &q.preps, &set, rule, &shut, &q.empties, q.pivots)?;
+    let answer = find_rank(
+        cx.alloc,
+        cx.program,
+        &cx.preps,
+        &set,
+        rule,
+        &shut,
+        &cx.empties,
+        cx.pivots,
+    )?;
     Ok(Asked { set, shut, answer })
 }

@@ -1,29 +1,26 @@
 //! The components of places, with what the local answers of their members give once and for all.
 
-ghost use Rattle.std.specs.Prelude.{◌≡◌, ◌∷◌, [], ℕ, length, map, IfOk, Some, None, true, false};
+ghost use Rattle.std.specs.Prelude.{◌≡◌, ◌∷◌, [], length, map, IfOk, Some, None, true, false};
 ghost use Rattle.std.specs.List.{All};
 ghost use Rattle.std.specs.Option.{option_map};
-ghost use Rattle.its_model.specs.Valid.{IsValid};
-ghost use Rattle.its_model.specs.Views.{program_of};
 ghost use Rattle.outcome.specs.Views.{loose_of, size_of};
 ghost use Rattle.outcome.specs.Reports.{SizeTripped, Unsized};
 ghost use Rattle.proof_tree.specs.Views.{spot_of, member_of};
-ghost use Rattle.rvg_components.specs.Listing.{answer_lists, local_from, members_of as members_in};
+ghost use Rattle.rvg_components.specs.Listing.{answer_lists, local_from};
 ghost use Rattle.time_bounds.specs.ProgramSearches.{searches_of_program};
 ghost use Rattle.time_bounds.specs.ProgramSizes.{AreMembers, first_reason, loose_reason, trip_reason};
 ghost use Rattle.time_bounds.specs.ProgramSizes.{lacks_arms};
-ghost use Rattle.time_bounds.specs.Questions.{AreQuestionsOf};
+ghost use Rattle.time_bounds.specs.Questions.{IsReady, program_in};
 ghost use Rattle.time_bounds.specs.Fates.{AreFates};
 ghost use Rattle.time_bounds.specs.Locals.{answer_in, AreAnswered};
-ghost use Rattle.time_bounds.specs.Candidates.{spots_in, is_bound, IsMember, IsLone, IsAnswered, AreArms, IsArmsOf};
+ghost use Rattle.time_bounds.specs.Candidates.{is_bound, IsMember, IsLone, IsAnswered, AreArms, IsArmsOf};
 ghost use Rattle.time_bounds.specs.Candidates.{IsArmed};
 ghost use Rattle.time_bounds.specs.Candidates.{AreArmed, AreCandidatesOf};
 
+use crate::context::Context;
 use crate::copies::copied_loose;
 use crate::fates::Fate;
 use crate::locals::{all_locals, live_rules};
-use crate::questions::Questions;
-use its_model::Program;
 use local_size::LocalAnswer;
 use model::Memory;
 use outcome::{Loose, SizeEntry};
@@ -51,20 +48,17 @@ pub(crate) enum Arms {
 
 /// The components of the places of live rules, in the order in which they are tried, with the arms of their members.
 pub(crate) fn candidates(
-    alloc: Global,
-    p: &Program,
-    q: &Questions,
+    cx: &Context,
     fates: &[Fate],
 ) -> Result<Vec<Candidate>, Memory>
-    requires valid { IsValid (program_of p.now) }
-    requires questions { AreQuestionsOf (program_of p.now) q.now }
-    requires fates { AreFates (searches_of_program (program_of p.now) q.now.pivots) (program_of p.now) fates.now }
-    ensures { IfOk result (λ cs. AreCandidatesOf (program_of p.now) q.now.pivots cs.items) }
+    requires ready { IsReady cx.now }
+    requires fates { AreFates (searches_of_program (program_in cx.now) cx.now.pivots) (program_in cx.now) fates.now }
+    ensures { IfOk result (λ cs. AreCandidatesOf (program_in cx.now) cx.now.pivots cs.items) }
 {
-    let live = live_rules(alloc, fates)?;
-    let locals = all_locals(alloc, p, q, fates)?;
-    let found = components(alloc, &q.graph, &q.preps, &locals, &live)?;
-    with_arms(alloc, &locals, found)
+    let live = live_rules(cx.alloc, fates)?;
+    let locals = all_locals(cx, fates)?;
+    let found = components(cx.alloc, &cx.graph, &cx.preps, &locals, &live)?;
+    with_arms(cx.alloc, &locals, found)
 }
 
 // Components with the arms of their members.

@@ -2,14 +2,12 @@
 
 ghost use Rattle.std.specs.Prelude.{◌≡◌, ◌<◌, ◌-◌, ◌^◌, length, IfOk};
 ghost use Rattle.std.specs.List.{All};
-ghost use Rattle.its_model.specs.Valid.{IsValid};
-ghost use Rattle.its_model.specs.Views.{program_of};
 ghost use Rattle.time_bounds.specs.ProgramSearches.{searches_of_program};
-ghost use Rattle.time_bounds.specs.Questions.{AreQuestionsOf};
+ghost use Rattle.time_bounds.specs.Questions.{IsReady, program_in};
 ghost use Rattle.time_bounds.specs.Fates.{says_empty, said_empty, fate_of, fates_by, AreFates};
 
-use crate::questions::Questions;
-use its_model::{Program, Rule};
+use crate::context::Context;
+use its_model::Rule;
 use model::Memory;
 use proof_tree::EmptyAnswer;
 use std::alloc::Global;
@@ -26,15 +24,14 @@ pub(crate) enum Fate {
 }
 
 /// The fate of each rule, in order.
-pub(crate) fn fates(alloc: Global, p: &Program, q: &Questions) -> Result<Vec<Fate>, Memory>
-    requires valid { IsValid (program_of p.now) }
-    requires questions { AreQuestionsOf (program_of p.now) q.now }
-    ensures { IfOk result (λ fates. AreFates (searches_of_program (program_of p.now) q.now.pivots) (program_of p.now)
+pub(crate) fn fates(cx: &Context) -> Result<Vec<Fate>, Memory>
+    requires ready { IsReady cx.now }
+    ensures { IfOk result (λ fates. AreFates (searches_of_program (program_in cx.now) cx.now.pivots) (program_in cx.now)
         fates.items) }
 {
-    let cut = empty_rules(alloc, &q.empties)?;
-    let reached = q.graph.reached(alloc, &cut)?;
-    fates_of(alloc, &p.rules, &q.empties, &reached)
+    let cut = empty_rules(cx.alloc, &cx.empties)?;
+    let reached = cx.graph.reached(cx.alloc, &cut)?;
+    fates_of(cx.alloc, &cx.program.rules, &cx.empties, &reached)
 }
 
 // The numbers of the rules whose rows have no point, in order.

@@ -1,23 +1,20 @@
 //! How large the values at the places of live rules can be in one step.
 
-ghost use Rattle.std.specs.Prelude.{◌≡◌, ℕ, ◌+◌, ◌<◌, length, map, IfOk, Some};
+ghost use Rattle.std.specs.Prelude.{◌≡◌, ◌+◌, ◌<◌, length, map, IfOk, Some};
 ghost use Rattle.std.specs.Prelude.{slice_get};
-ghost use Rattle.its_model.specs.Valid.{IsValid};
-ghost use Rattle.its_model.specs.Views.{program_of};
 ghost use Rattle.guard_prep.specs.Views.{prepared_of};
 ghost use Rattle.proof_tree.specs.declared.answer.EmptyAnswer.{EmptyAnswer};
 ghost use Rattle.rank_search.specs.rule_questions.EmptyAnswers.{IsPrepared, SaysEmpty};
 ghost use Rattle.rvg_components.specs.Listing.{answer_lists};
 ghost use Rattle.time_bounds.specs.declared.fates.Fate.TheVariants.{Live};
 ghost use Rattle.time_bounds.specs.ProgramSearches.{searches_of_program};
-ghost use Rattle.time_bounds.specs.Questions.{AreQuestionsOf};
+ghost use Rattle.time_bounds.specs.Questions.{IsReady, program_in};
 ghost use Rattle.time_bounds.specs.Fates.{AreFates};
 ghost use Rattle.time_bounds.specs.Locals.{is_live_fate, AreAnswersAt, AreAnswersAfter, AreAllAnswers};
 
+use crate::context::Context;
 use crate::fates::Fate;
-use crate::questions::Questions;
 use guard_prep::RuleRows;
-use its_model::Program;
 use local_size::{LocalAnswer, local};
 use model::Memory;
 use proof_tree::{EmptyAnswer, Spot};
@@ -48,53 +45,47 @@ fn is_live(fate: Fate) -> bool
 /// How large the new value at each place of each live rule can be in one step, rule by rule. Of a rule that never runs
 /// nothing is asked.
 pub(crate) fn all_locals(
-    alloc: Global,
-    p: &Program,
-    q: &Questions,
+    cx: &Context,
     fates: &[Fate],
 ) -> Result<Vec<Vec<LocalAnswer>>, Memory>
-    requires valid { IsValid (program_of p.now) }
-    requires questions { AreQuestionsOf (program_of p.now) q.now }
-    requires fates { AreFates (searches_of_program (program_of p.now) q.now.pivots) (program_of p.now) fates.now }
-    ensures { IfOk result (λ locals. AreAllAnswers (program_of p.now) q.now.pivots 1 fates.now
+    requires ready { IsReady cx.now }
+    requires fates { AreFates (searches_of_program (program_in cx.now) cx.now.pivots) (program_in cx.now) fates.now }
+    ensures { IfOk result (λ locals. AreAllAnswers (program_in cx.now) cx.now.pivots 1 fates.now
         (answer_lists locals.items)) }
 {
-    let mut locals = Vec::new(alloc);
+    let mut locals = Vec::new(cx.alloc);
     for (position, fate) in fates.iter().enumerate() {
-        locals.push(locals_after(alloc, p, q, position, *fate)?)?;
+        locals.push(locals_after(cx, position, *fate)?)?;
     }
     Ok(locals)
 }
 
 // The answers for the places of the rule at a position, which has this fate.
 fn locals_after(
-    alloc: Global,
-    p: &Program,
-    q: &Questions,
+    cx: &Context,
     position: usize,
     fate: Fate,
 ) -> Result<Vec<LocalAnswer>, Memory>
-    requires valid { IsValid (program_of p.now) }
-    requires questions { AreQuestionsOf (program_of p.now) q.now }
-    requires position { position < length p.now.rules.items }
-    requires may_run { (a : EmptyAnswer) → fate ≡ Live → slice_get q.now.empties.items position ≡ Some a
+    requires ready { IsReady cx.now }
+    requires position { position < length cx.now.program.now.rules.items }
+    requires may_run { (a : EmptyAnswer) → fate ≡ Live → slice_get cx.now.empties.items position ≡ Some a
         → ¬ SaysEmpty a }
-    ensures { IfOk result (λ answers. AreAnswersAfter (program_of p.now) q.now.pivots (position + 1) fate
+    ensures { IfOk result (λ answers. AreAnswersAfter (program_in cx.now) cx.now.pivots (position + 1) fate
         answers.items) }
 {
     match fate {
-        Fate::Empty => Ok(Vec::new(alloc)),
-        Fate::Unreached => Ok(Vec::new(alloc)),
+        Fate::Empty => Ok(Vec::new(cx.alloc)),
+        Fate::Unreached => Ok(Vec::new(cx.alloc)),
         Fate::Live => {
-            let arity = p.symbols[p.rules[position].target as usize].arity;
+            let arity = cx.program.symbols[cx.program.rules[position].target as usize].arity;
             let rule = position as u32 + 1;
             live_locals(
-                alloc,
-                &q.preps[position],
+                cx.alloc,
+                &cx.preps[position],
                 rule,
                 arity,
-                &q.empties[position],
-                q.pivots,
+                &cx.empties[position],
+                cx.pivots,
             )
         }
     }

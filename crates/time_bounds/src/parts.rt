@@ -1,14 +1,11 @@
 //! The sets of rules without a time, with their shut places: those of a component are made once in a round.
 
 ghost use Rattle.std.specs.Prelude.{◌≡◌, IfOk, OnOk, Some, None, replicate, slice_index_or, true, false};
-ghost use Rattle.its_model.specs.Valid.{IsValid};
-ghost use Rattle.its_model.specs.Views.{program_of};
 ghost use Rattle.time_bounds.specs.Parts.{AreParts, IsOpenSet};
-ghost use Rattle.time_bounds.specs.Questions.{AreQuestionsOf, AreUntimed};
+ghost use Rattle.time_bounds.specs.Questions.{AreUntimed, IsReady, program_in};
 
-use crate::questions::Questions;
+use crate::context::Context;
 use crate::sets::shut_places;
-use its_model::Program;
 use model::Memory;
 use proof_tree::entries;
 use size_bounds::Table;
@@ -32,18 +29,16 @@ pub(crate) struct Parts {
 
 /// The components of the graph of the rules without a time; nothing was found of any.
 pub(crate) fn parts_of(
-    alloc: Global,
-    p: &Program,
-    q: &Questions,
+    cx: &Context,
     table: &Table,
     untimed: &[bool],
 ) -> Result<Parts, Memory>
-    requires questions { AreQuestionsOf (program_of p.now) q.now }
-    requires flags { AreUntimed (program_of p.now) table.now untimed.now }
-    ensures { IfOk result (λ parts. AreParts (program_of p.now) table.now parts) }
+    requires ready { IsReady cx.now }
+    requires flags { AreUntimed (program_in cx.now) table.now untimed.now }
+    ensures { IfOk result (λ parts. AreParts (program_in cx.now) table.now parts) }
 {
-    let of_rules = q.graph.parts(alloc, untimed)?;
-    let found = nothing_found(alloc, q.graph.symbols)?;
+    let of_rules = cx.graph.parts(cx.alloc, untimed)?;
+    let found = nothing_found(cx.alloc, cx.graph.symbols)?;
     Ok(Parts { of_rules, found })
 }
 
@@ -61,56 +56,50 @@ fn nothing_found(alloc: Global, count: usize) -> Result<Vec<Option<OpenSet>>, Me
 /// The set of a rule without a time, and its shut places. Where the rule stays in a component of the graph of such
 /// rules, all rules that stay there have the same.
 pub(crate) fn open_set(
-    alloc: Global,
-    p: &Program,
-    q: &Questions,
+    cx: &Context,
     table: &Table,
     untimed: &[bool],
     parts: &mut Parts,
     rule: u32,
 ) -> Result<OpenSet, Memory>
-    requires valid { IsValid (program_of p.now) }
-    requires questions { AreQuestionsOf (program_of p.now) q.now }
-    requires flags { AreUntimed (program_of p.now) table.now untimed.now }
+    requires ready { IsReady cx.now }
+    requires flags { AreUntimed (program_in cx.now) table.now untimed.now }
     requires start { slice_index_or untimed.now 0 false ≡ false }
     requires untimed_rule { slice_index_or untimed.now rule false ≡ true }
-    requires parts { AreParts (program_of p.now) table.now parts.old }
-    ensures set { IfOk result (λ s. IsOpenSet (program_of p.now) table.now rule s) }
-    ensures parts { OnOk result (AreParts (program_of p.now) table.now parts.new) }
+    requires parts { AreParts (program_in cx.now) table.now parts.old }
+    ensures set { IfOk result (λ s. IsOpenSet (program_in cx.now) table.now rule s) }
+    ensures parts { OnOk result (AreParts (program_in cx.now) table.now parts.new) }
 {
     match parts.of_rules[rule as usize] {
-        Some(part) => set_of_part(alloc, p, q, table, untimed, parts, rule, part),
-        None => made_set(alloc, p, q, table, untimed, rule),
+        Some(part) => set_of_part(cx, table, untimed, parts, rule, part),
+        None => made_set(cx, table, untimed, rule),
     }
 }
 
 // The set of a rule that stays in this component: what was found of it, or else what is made now.
 fn set_of_part(
-    alloc: Global,
-    p: &Program,
-    q: &Questions,
+    cx: &Context,
     table: &Table,
     untimed: &[bool],
     parts: &mut Parts,
     rule: u32,
     part: u32,
 ) -> Result<OpenSet, Memory>
-    requires valid { IsValid (program_of p.now) }
-    requires questions { AreQuestionsOf (program_of p.now) q.now }
-    requires flags { AreUntimed (program_of p.now) table.now untimed.now }
+    requires ready { IsReady cx.now }
+    requires flags { AreUntimed (program_in cx.now) table.now untimed.now }
     requires start { slice_index_or untimed.now 0 false ≡ false }
     requires untimed_rule { slice_index_or untimed.now rule false ≡ true }
-    requires parts { AreParts (program_of p.now) table.now parts.old }
+    requires parts { AreParts (program_in cx.now) table.now parts.old }
     requires part { slice_index_or parts.old.of_rules.items rule None ≡ Some part }
-    ensures set { IfOk result (λ s. IsOpenSet (program_of p.now) table.now rule s) }
-    ensures parts { OnOk result (AreParts (program_of p.now) table.now parts.new) }
+    ensures set { IfOk result (λ s. IsOpenSet (program_in cx.now) table.now rule s) }
+    ensures parts { OnOk result (AreParts (program_in cx.now) table.now parts.new) }
 {
     if let Some(known) = &parts.found[part as usize] {
-        let copy = copied_set(alloc, known)?;
+        let copy = copied_set(cx.alloc, known)?;
         return Ok(copy);
     }
-    let made = made_set(alloc, p, q, table, untimed, rule)?;
-    let copy = copied_set(alloc, &made)?;
+    let made = made_set(cx, table, untimed, rule)?;
+    let copy = copied_set(cx.alloc, &made)?;
     parts.found[part as usize] = Some(copy);
     Ok(made)
 }
@@ -127,22 +116,19 @@ fn copied_set(alloc: Global, first: &OpenSet) -> Result<OpenSet, Memory>
 
 // The set of a rule without a time, and its shut places, from the graph.
 fn made_set(
-    alloc: Global,
-    p: &Program,
-    q: &Questions,
+    cx: &Context,
     table: &Table,
     untimed: &[bool],
     rule: u32,
 ) -> Result<OpenSet, Memory>
-    requires valid { IsValid (program_of p.now) }
-    requires questions { AreQuestionsOf (program_of p.now) q.now }
-    requires flags { AreUntimed (program_of p.now) table.now untimed.now }
+    requires ready { IsReady cx.now }
+    requires flags { AreUntimed (program_in cx.now) table.now untimed.now }
     requires start { slice_index_or untimed.now 0 false ≡ false }
     requires untimed_rule { slice_index_or untimed.now rule false ≡ true }
-    ensures { IfOk result (λ s. IsOpenSet (program_of p.now) table.now rule s) }
+    ensures { IfOk result (λ s. IsOpenSet (program_in cx.now) table.now rule s) }
 {
-    let set = q.graph.back_closure(alloc, untimed, rule)?;
-    let entering = entries(alloc, p, &set)?;
-    let shut = shut_places(alloc, p, table, &entering)?;
+    let set = cx.graph.back_closure(cx.alloc, untimed, rule)?;
+    let entering = entries(cx.alloc, cx.program, &set)?;
+    let shut = shut_places(cx, table, &entering)?;
     Ok(OpenSet { set, shut })
 }

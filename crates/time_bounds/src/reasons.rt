@@ -1,26 +1,24 @@
 //! What an analysis says of each time: a bound, or why there is none.
 
-ghost use Rattle.std.specs.Prelude.{◌≡◌, ◌⊎◌, ℕ, ◌+◌, ◌<◌, ◌≤◌, ◌^◌, ◌++◌, ◌∷◌, [], length, map, true, false};
-ghost use Rattle.std.specs.Prelude.{IfOk, Some};
-ghost use Rattle.std.specs.List.{All, list_any};
-ghost use Rattle.its_model.specs.Valid.{IsValid};
-ghost use Rattle.its_model.specs.Views.{program_of};
+ghost use Rattle.std.specs.Prelude.{◌≡◌, ◌⊎◌, ◌+◌, ◌<◌, ◌≤◌, ◌^◌, ◌++◌, ◌∷◌, [], length, map, true, false};
+ghost use Rattle.std.specs.Prelude.{IfOk, OnOk};
+ghost use Rattle.std.specs.List.{All};
 ghost use Rattle.outcome.specs.Views.{time_of};
 ghost use Rattle.outcome.specs.Printing.{HasItsGap};
-ghost use Rattle.size_bounds.specs.round_relation.Tables.{is_untimed};
+ghost use Rattle.proof_tree.specs.proof_nodes.GapChecks.{GapHolds};
+ghost use Rattle.proof_tree.specs.AnswerViews.{gap_of};
+ghost use Rattle.rank_search.specs.rule_questions.ProgramQuestions.{forms_at};
+ghost use Rattle.bound_rounds.specs.Keys.{is_untimed};
+ghost use Rattle.bound_book.specs.ByKey.{bounds_in, number_at};
 ghost use Rattle.time_bounds.specs.ProgramSearches.{searches_of_program};
-ghost use Rattle.size_bounds.specs.Tables.{table_of, numbers_of};
-ghost use Rattle.time_bounds.specs.Questions.{AreQuestionsOf};
-ghost use Rattle.time_bounds.specs.Tries.{IsTried, AreTried, IsMissing, is_found, IsGrown};
-ghost use Rattle.time_bounds.specs.declared.trying.Tried.TheVariants.{Missing};
-ghost use Rattle.time_bounds.specs.Analysis.{IsTimeOf, AreTimesOf, IsKnownTime};
+ghost use Rattle.time_bounds.specs.Questions.{IsReady, program_in};
+ghost use Rattle.time_bounds.specs.Tries.{IsAskedOver, AreAskedOver, IsMissing, IsGrown};
+ghost use Rattle.time_bounds.specs.TimesSaid.{IsTimeOver, AreTimesOver, IsKnownTime};
 ghost use Rattle.time_bounds.specs.AnalysisLemmas.{CarriesTime, CarryTimes, AreGapsInOrder};
 
 use crate::asking::Asked;
-use crate::questions::Questions;
-use crate::trying::Tried;
+use crate::context::Context;
 use bound_table::Within;
-use its_model::Program;
 use model::Memory;
 use outcome::{Stored, TimeEntry};
 use proof_tree::{Gap, rank_time};
@@ -35,71 +33,73 @@ pub(crate) struct Said {
     pub gaps: Vec<Gap>,
 }
 
-/// For each rule its time, or by what the last round made of it why there is none. The gaps are numbered from 1 in the
-/// order of rules.
+/// For each rule its time, or by the question that the last round kept of it why there is none. The gaps are numbered
+/// from 1 in the order of rules.
 pub(crate) fn said_of(
-    alloc: Global,
-    p: &Program,
-    q: &Questions,
+    cx: &Context,
     table: &Table,
-    tries: Vec<Tried>,
+    asked: Vec<Option<Asked>>,
 ) -> Result<Said, Memory>
-    requires valid { IsValid (program_of p.now) }
-    requires questions { AreQuestionsOf (program_of p.now) q.now }
-    requires tried { AreTried (program_of p.now) table.now q.now.pivots q.now.empties.items 1 tries.items }
-    requires nothing_new { list_any is_found tries.items ≡ false }
-    requires few { length tries.items < 2 ^ 31 }
-    ensures one_each { IfOk result (λ said. length said.times.items ≡ length tries.items) }
-    ensures said { IfOk result (λ said. AreTimesOf (searches_of_program (program_of p.now) q.now.pivots) (program_of p.now)
-        (table_of table.now) 1 (map (time_of said.gaps.items) said.times.items)) }
+    requires ready { IsReady cx.now }
+    requires start { is_untimed (bounds_in table.now) 0 ≡ false }
+    requires asked { AreAskedOver (program_in cx.now) (bounds_in table.now) (bounds_in table.now) cx.now.pivots
+        cx.now.empties.items 1 asked.items }
+    requires few { length asked.items < 2 ^ 31 }
+    requires rules { length asked.items ≤ length (program_in cx.now).rules }
+    ensures one_each { IfOk result (λ said. length said.times.items ≡ length asked.items) }
+    ensures said { IfOk result (λ said. AreTimesOver (searches_of_program (program_in cx.now) cx.now.pivots)
+        (program_in cx.now) (bounds_in table.now) 1 (map (time_of said.gaps.items) said.times.items)) }
     ensures gaps { IfOk result (λ said. All (HasItsGap (length said.gaps.items)) said.times.items) }
-    ensures carried { IfOk result (λ said. CarryTimes (numbers_of table.now) 1 said.times.items) }
+    ensures hold { IfOk result (λ said. All (λ g. GapHolds (program_in cx.now) (forms_at (program_in cx.now)) (gap_of g))
+        said.gaps.items) }
+    ensures carried { IfOk result (λ said. CarryTimes (number_at table.now) 1 said.times.items) }
     ensures in_order { IfOk result (λ said. AreGapsInOrder 0 said.times.items (length said.gaps.items)) }
 {
-    let mut times = Vec::new(alloc);
-    let mut gaps = Vec::new(alloc);
-    for tried in tries {
+    let mut times = Vec::new(cx.alloc);
+    let mut gaps = Vec::new(cx.alloc);
+    for question in asked {
         let rule = times.len() as u32 + 1;
-        times.push(said_by(alloc, p, q, table, rule, tried, &mut gaps)?)?;
+        times.push(said_by(cx, table, rule, question, &mut gaps)?)?;
     }
     Ok(Said { times, gaps })
 }
 
 // The time of a rule, or why there is none.
 fn said_by(
-    alloc: Global,
-    p: &Program,
-    q: &Questions,
+    cx: &Context,
     table: &Table,
     rule: u32,
-    tried: Tried,
+    question: Option<Asked>,
     gaps: &mut Vec<Gap>,
 ) -> Result<TimeEntry, Memory>
-    requires valid { IsValid (program_of p.now) }
-    requires questions { AreQuestionsOf (program_of p.now) q.now }
-    requires tried { IsTried (program_of p.now) table.now q.now.pivots q.now.empties.items rule tried }
-    requires old { is_found tried ≡ false }
+    requires ready { IsReady cx.now }
+    requires start { is_untimed (bounds_in table.now) 0 ≡ false }
+    requires rule { (1 ≤ rule) × (rule ≤ length (program_in cx.now).rules) }
+    requires asked { IsAskedOver (program_in cx.now) (bounds_in table.now) (bounds_in table.now) cx.now.pivots
+        cx.now.empties.items rule question }
     requires few { length gaps.old.items + 1 < 2 ^ 32 }
+    requires hold { All (λ g. GapHolds (program_in cx.now) (forms_at (program_in cx.now)) (gap_of g)) gaps.old.items }
     ensures grown { IfOk result (λ entry. IsGrown gaps.old.items gaps.new.items) }
-    ensures said { IfOk result (λ entry. IsTimeOf (searches_of_program (program_of p.now) q.now.pivots) (program_of p.now)
-        (table_of table.now) rule (time_of gaps.new.items entry)) }
+    ensures said { IfOk result (λ entry. IsTimeOver (searches_of_program (program_in cx.now) cx.now.pivots)
+        (program_in cx.now) (bounds_in table.now) rule (time_of gaps.new.items entry)) }
     ensures gap { IfOk result (λ entry. HasItsGap (length gaps.new.items) entry) }
-    ensures carries { IfOk result (λ entry. CarriesTime (numbers_of table.now) rule entry) }
+    ensures hold { OnOk result (All (λ g. GapHolds (program_in cx.now) (forms_at (program_in cx.now)) (gap_of g))
+        gaps.new.items) }
+    ensures carries { IfOk result (λ entry. CarriesTime (number_at table.now) rule entry) }
     ensures in_order { IfOk result (λ entry. AreGapsInOrder (length gaps.old.items) (entry ∷ [])
         (length gaps.new.items)) }
 {
-    match tried {
-        Tried::Missing(asked) => no_time(alloc, p, q, table, rule, asked, gaps),
-        Tried::Known => known_time(alloc, table, rule),
-        Tried::Found(_) => unreachable!(),
+    match question {
+        Some(asked) => no_time(cx, table, rule, asked, gaps),
+        None => known_time(cx.alloc, table, rule),
     }
 }
 
 // The time that the table has.
 fn known_time(alloc: Global, table: &Table, rule: u32) -> Result<TimeEntry, Memory>
-    requires { is_untimed (table_of table.now) rule ≡ false }
-    ensures time { IfOk result (λ entry. IsKnownTime (table_of table.now) rule entry) }
-    ensures carries { IfOk result (λ entry. CarriesTime (numbers_of table.now) rule entry) }
+    requires { is_untimed (bounds_in table.now) rule ≡ false }
+    ensures time { IfOk result (λ entry. IsKnownTime (bounds_in table.now) rule entry) }
+    ensures carries { IfOk result (λ entry. CarriesTime (number_at table.now) rule entry) }
 {
     match table.stored_time(rule) {
         Some(stored) => Ok(TimeEntry::Known(Stored {
@@ -112,29 +112,33 @@ fn known_time(alloc: Global, table: &Table, rule: u32) -> Result<TimeEntry, Memo
 
 // Why an answer gives no time.
 fn no_time(
-    alloc: Global,
-    p: &Program,
-    q: &Questions,
+    cx: &Context,
     table: &Table,
     rule: u32,
     asked: Asked,
     gaps: &mut Vec<Gap>,
 ) -> Result<TimeEntry, Memory>
-    requires valid { IsValid (program_of p.now) }
-    requires questions { AreQuestionsOf (program_of p.now) q.now }
-    requires missing { IsTried (program_of p.now) table.now q.now.pivots q.now.empties.items rule (Missing asked) }
+    requires ready { IsReady cx.now }
+    requires start { is_untimed (bounds_in table.now) 0 ≡ false }
+    requires rule { (1 ≤ rule) × (rule ≤ length (program_in cx.now).rules) }
+    requires untimed { is_untimed (bounds_in table.now) rule ≡ true }
+    requires missing { IsMissing (program_in cx.now) (bounds_in table.now) cx.now.pivots cx.now.empties.items rule
+        asked }
     requires few { length gaps.old.items + 1 < 2 ^ 32 }
+    requires hold { All (λ g. GapHolds (program_in cx.now) (forms_at (program_in cx.now)) (gap_of g)) gaps.old.items }
     ensures grown { IfOk result (λ entry. IsGrown gaps.old.items gaps.new.items) }
-    ensures said { IfOk result (λ entry. IsTimeOf (searches_of_program (program_of p.now) q.now.pivots) (program_of p.now)
-        (table_of table.now) rule (time_of gaps.new.items entry)) }
+    ensures said { IfOk result (λ entry. IsTimeOver (searches_of_program (program_in cx.now) cx.now.pivots)
+        (program_in cx.now) (bounds_in table.now) rule (time_of gaps.new.items entry)) }
     ensures gap { IfOk result (λ entry. HasItsGap (length gaps.new.items) entry) }
-    ensures carries { IfOk result (λ entry. CarriesTime (numbers_of table.now) rule entry) }
+    ensures hold { OnOk result (All (λ g. GapHolds (program_in cx.now) (forms_at (program_in cx.now)) (gap_of g))
+        gaps.new.items) }
+    ensures carries { IfOk result (λ entry. CarriesTime (number_at table.now) rule entry) }
     ensures in_order { IfOk result (λ entry. AreGapsInOrder (length gaps.old.items) (entry ∷ [])
         (length gaps.new.items)) }
 {
     let Asked { answer, .. } = asked;
     match answer {
-        RankAnswer::Ranked(node) => match rank_time(alloc, p, &node, table)? {
+        RankAnswer::Ranked(node) => match rank_time(cx.alloc, cx.program, &node, table)? {
             Within::Large { nodes } => Ok(TimeEntry::Large { nodes }),
             Within::Rewritten(_) => unreachable!(),
         },

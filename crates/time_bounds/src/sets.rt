@@ -1,19 +1,17 @@
 //! The set of a rule without a time, and the places that a ranking function over it may not read.
 
-ghost use Rattle.std.specs.Prelude.{◌≡◌, ◌<◌, ◌≤◌, ◌-◌, ◌^◌, ◌++◌, length, map, filter, suc, IfOk, IfSome};
+ghost use Rattle.std.specs.Prelude.{◌≡◌, ◌<◌, ◌≤◌, ◌-◌, ◌^◌, ◌++◌, length, map, filter, IfOk, IfSome};
 ghost use Rattle.std.specs.Prelude.{OnOk, Some, None, replicate};
-ghost use Rattle.std.specs.List.{list_any, range_with_len};
 ghost use Rattle.model.specs.Paths.{target_of as target_of_rule, same_symbol};
 ghost use Rattle.its_model.specs.Valid.{IsValid};
 ghost use Rattle.its_model.specs.Views.{program_of};
 ghost use Rattle.rank_search.specs.rule_questions.ProgramQuestions.{places_of};
-ghost use Rattle.size_bounds.specs.round_relation.Sets.{AreShutOf};
-ghost use Rattle.model.specs.Entries.{entries as entries_of};
 ghost use Rattle.size_bounds.specs.Tables.{table_of, is_unstored};
-ghost use Rattle.time_bounds.specs.Questions.{AreUntimed};
+ghost use Rattle.time_bounds.specs.Questions.{IsReady, program_in};
 ghost use Rattle.time_bounds.specs.Shutting.{lacks_any, place_if, shut_at, shut_by, shut_from, shut_marked};
 ghost use Rattle.time_bounds.specs.Shutting.{marks_of, put_mark};
 
+use crate::context::Context;
 use its_model::{Program, Symbol};
 use model::Memory;
 use proof_tree::target_of;
@@ -34,19 +32,18 @@ pub(crate) fn untimed_rules(alloc: Global, table: &Table) -> Result<Vec<bool>, M
 /// The shut places of a set with these entries, in order: the places of symbols to which an entry leads that lack a
 /// size after it.
 pub(crate) fn shut_places(
-    alloc: Global,
-    p: &Program,
+    cx: &Context,
     table: &Table,
     entering: &[u32],
 ) -> Result<Vec<(u32, u32)>, Memory>
-    requires { IsValid (program_of p.now) }
+    requires { IsReady cx.now }
     ensures { IfOk result (λ shut. places_of shut.items
-        ≡ shut_from (program_of p.now) (table_of table.now) entering.now 0 (length p.now.symbols.items)) }
+        ≡ shut_from (program_in cx.now) (table_of table.now) entering.now 0 (length cx.now.program.now.symbols.items)) }
 {
-    let mut shut = Vec::new(alloc);
-    let marks = entered_symbols(alloc, p, entering)?;
+    let mut shut = Vec::new(cx.alloc);
+    let marks = entered_symbols(cx.alloc, cx.program, entering)?;
     for mark in &marks {
-        push_marked(alloc, p, table, entering, &mut shut, *mark)?;
+        push_marked(cx, table, entering, &mut shut, *mark)?;
     }
     Ok(shut)
 }
@@ -87,40 +84,38 @@ fn mark(marks: &mut Vec<Option<u32>>, symbol: Option<u32>)
 
 // Appends the shut places of a symbol, where there is one.
 fn push_marked(
-    alloc: Global,
-    p: &Program,
+    cx: &Context,
     table: &Table,
     entering: &[u32],
     shut: &mut Vec<(u32, u32)>,
     mark: Option<u32>,
 ) -> Result<(), Memory>
-    requires valid { IsValid (program_of p.now) }
-    requires within { IfSome mark (λ a. a < length p.now.symbols.items) }
+    requires ready { IsReady cx.now }
+    requires within { IfSome mark (λ a. a < length cx.now.program.now.symbols.items) }
     ensures { OnOk result (places_of shut.new.items ≡ places_of shut.old.items
-        ++ shut_marked (program_of p.now) (table_of table.now) entering.now mark) }
+        ++ shut_marked (program_in cx.now) (table_of table.now) entering.now mark) }
 {
     match mark {
-        Some(symbol) => push_entered(alloc, p, table, entering, shut, symbol),
+        Some(symbol) => push_entered(cx, table, entering, shut, symbol),
         None => Ok(()),
     }
 }
 
 // Appends the shut places of a symbol.
 fn push_entered(
-    alloc: Global,
-    p: &Program,
+    cx: &Context,
     table: &Table,
     entering: &[u32],
     shut: &mut Vec<(u32, u32)>,
     symbol: u32,
 ) -> Result<(), Memory>
-    requires valid { IsValid (program_of p.now) }
-    requires within { symbol < length p.now.symbols.items }
+    requires ready { IsReady cx.now }
+    requires within { symbol < length cx.now.program.now.symbols.items }
     ensures { OnOk result (places_of shut.new.items ≡ places_of shut.old.items
-        ++ shut_by (program_of p.now) (table_of table.now) entering.now symbol) }
+        ++ shut_by (program_in cx.now) (table_of table.now) entering.now symbol) }
 {
-    let into = entries_into(alloc, p, entering, symbol)?;
-    let arity = p.symbols[symbol as usize].arity;
+    let into = entries_into(cx.alloc, cx.program, entering, symbol)?;
+    let arity = cx.program.symbols[symbol as usize].arity;
     push_shut(shut, table, &into, symbol, arity)
 }
 

@@ -11,17 +11,18 @@ ghost use Rattle.time_bounds.specs.SizeSaid.{seen_row, seen_rows, said_stored, s
 ghost use Rattle.time_bounds.specs.SizeSaid.{put_why, put_whys, AreThere, CarriesIfThere, CarryRow, CarryPlaces};
 ghost use Rattle.time_bounds.specs.SizeSaid.{KeepPlaces, IsReason};
 ghost use Rattle.time_bounds.specs.AnalysisLemmas.{CarryRows};
-ghost use Rattle.size_bounds.specs.Tables.{lemma_stored, numbers_of};
+ghost use Rattle.size_bounds.specs.Tables.{lemma_stored};
+ghost use Rattle.bound_book.specs.ByKey.{number_at};
 ghost use Rattle.proof_tree.specs.Views.{spot_of};
 
 use crate::candidates::{Arms, Candidate};
 use crate::copies::copied_loose;
 use crate::sizing::Attempt;
-use crate::writing::write_place;
+use bound_book::put_place;
 use model::Memory;
 use outcome::{SizeEntry, Stored};
 use proof_tree::Spot;
-use size_bounds::{SizeAnswer, Table};
+use size_bounds::{Sizing, Table};
 use std::alloc::Global;
 
 /// For the virtual entry and for each rule, and for each place after it, its size, or by what the last round made of
@@ -36,7 +37,7 @@ pub(crate) fn said_sizes(
     requires there { All AreThere (put_whys (said_table table.now) candidates.now attempts.now) }
     ensures sizes { IfOk result (λ rows. map (λ row. map (λ e. Some (size_of e)) row.items) rows.items
         ≡ put_whys (said_table table.now) candidates.now attempts.now) }
-    ensures carried { IfOk result (λ rows. CarryRows (numbers_of table.now) 0 (map (λ row. row.items) rows.items)) }
+    ensures carried { IfOk result (λ rows. CarryRows (number_at table.now) 0 (map (λ row. row.items) rows.items)) }
 {
     let mut entries = known_sizes(alloc, table)?;
     for (position, candidate) in candidates.iter().enumerate() {
@@ -114,7 +115,7 @@ fn write_some(entries: &mut Vec<Vec<Option<SizeEntry>>>, spot: Spot, entry: Opti
     ensures kept { KeepPlaces (map (λ row. row.items) entries.old.items) (map (λ row. row.items) entries.new.items) }
 {
     match entry {
-        Some(e) => write_place(entries, spot.rule, spot.place, e),
+        Some(e) => put_place(entries, spot.rule, spot.place, e),
         None => {}
     }
 }
@@ -166,15 +167,15 @@ fn copied_reason(alloc: Global, entry: &SizeEntry) -> Result<Option<SizeEntry>, 
 }
 
 // Why an answer gives no size.
-fn failed(answer: &SizeAnswer) -> Option<SizeEntry>
+fn failed(answer: &Sizing) -> Option<SizeEntry>
     ensures { option_map size_of result ≡ option_map Unsized (why_by answer.now) }
 {
     match answer {
-        SizeAnswer::Found { .. } => None,
-        SizeAnswer::Missing(spot) => Some(SizeEntry::Missing(*spot)),
-        SizeAnswer::Bent(spot) => Some(SizeEntry::Bent(*spot)),
-        SizeAnswer::Untimed { rule } => Some(SizeEntry::Untimed { rule: *rule }),
-        SizeAnswer::Large { nodes } => Some(SizeEntry::Large { nodes: *nodes }),
+        Sizing::Found { .. } => None,
+        Sizing::Missing(spot) => Some(SizeEntry::Missing(*spot)),
+        Sizing::Bent(spot) => Some(SizeEntry::Bent(*spot)),
+        Sizing::Untimed { rule } => Some(SizeEntry::Untimed { rule: *rule }),
+        Sizing::Large { nodes } => Some(SizeEntry::Large { nodes: *nodes }),
     }
 }
 

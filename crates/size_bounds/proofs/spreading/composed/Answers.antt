@@ -9,7 +9,7 @@ use Rattle.proof_tree.specs.proof_nodes.Checks.{needed_into}
 use Rattle.proof_tree.specs.proof_setting.Setting.{setting_of}
 use Rattle.proof_tree.specs.Views.{spot_of, member_of}
 use Rattle.proof_tree.specs.Composing.{spread_over}
-use Rattle.round_relation.specs.Uses.{size_needs, uses_for}
+use Rattle.size_bounds.specs.Uses.{size_needs, uses_for}
 use Rattle.size_bounds.specs.Tables.{table_of, numbers_of}
 use Rattle.size_bounds.specs.Needs.{first_missing}
 use Rattle.size_bounds.proofs.SpreadAnswers.{is-large, is-accepted}

@@ -1,5 +1,5 @@
 use Rattle.std.proofs.Common.{◌≡◌, ◌==◌, not, filter, take}
-use Rattle.round_relation.specs.Uses.{once}
+use Rattle.bound_rounds.specs.Needs.{once}
 use Rattle.proof_tree.specs.NumberSets.{HasJust}
 use Rattle.size_bounds.proofs.uses.others_once.Given as goal
 

@@ -1,6 +1,6 @@
 use Rattle.std.proofs.Common.{◌≡◌, ◌++◌, map, drop}
 use Rattle.proof_tree.specs.Views.{spot_of}
-use Rattle.round_relation.specs.Uses.{size_needs, number_of}
+use Rattle.size_bounds.specs.Uses.{size_needs, number_of}
 use Rattle.size_bounds.specs.Tables.{numbers_of}
 use Rattle.size_bounds.proofs.uses.push_size_lemmas.Given as goal
 

@@ -1,5 +1,5 @@
 use Rattle.std.proofs.Common.{◌≡◌, ◌++◌, map, drop}
-use Rattle.round_relation.specs.Uses.{NeedsTime, number_of}
+use Rattle.size_bounds.specs.Uses.{NeedsTime, number_of}
 use Rattle.size_bounds.specs.Tables.{numbers_of}
 use Rattle.size_bounds.proofs.uses.push_time_lemmas.Given as goal
 

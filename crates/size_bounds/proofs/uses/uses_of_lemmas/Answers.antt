@@ -4,7 +4,7 @@ use Rattle.model.specs.Entries.{is_in}
 use Rattle.proof_tree.specs.proof_nodes.Nodes as nodes
 use Rattle.proof_tree.specs.declared.proof.Proof.{Proof}
 use Rattle.proof_tree.specs.Views.{proof_of, uses_of}
-use Rattle.round_relation.specs.Uses.{once, uses_from}
+use Rattle.bound_rounds.specs.Needs.{once, uses_from}
 use Rattle.size_bounds.specs.Lemmas.{uses_of_proofs}
 use Rattle.size_bounds.proofs.UseLists.{cites_seen}
 use Rattle.size_bounds.proofs.uses.uses_of_lemmas.Goals as goal

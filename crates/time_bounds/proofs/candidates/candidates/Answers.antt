@@ -11,34 +11,34 @@ use Rattle.time_bounds.proofs.candidates.candidates.Goals as goal
 
 pub components-requires : goal.components-requires
 components-requires c =
-    let p = program_of c.args.p.now in
-    let h = handed p c.args.q.now.pivots c.args.fates.now c.args.q.now.graph c.args.q.now.preps.items c.deref.result.now c.in_ok-locals.locals.items
-    c.deref-2.result.now c.deref-3.result.now c.requires.valid c.requires.questions.graph c.requires.questions.rows c.requires.fates c.in_ok-locals.ensures
+    let p = program_of c.args.cx.now.program.now in
+    let h = handed p c.args.cx.now.pivots c.args.fates.now c.args.cx.now.graph c.args.cx.now.preps.items c.deref.result.now c.in_ok-locals.locals.items
+    c.deref-2.result.now c.deref-3.result.now c.requires.ready.valid c.requires.ready.graph c.requires.ready.rows c.requires.fates c.in_ok-locals.ensures
     c.deref.ensures.value c.deref-2.ensures.value (c.deref-3.ensures.value ∙ c.in_ok-live.ensures) in
-    (p, given p c.args.q.now.pivots c.args.fates.now c.args.q.now.graph c.deref.result.now c.deref-2.result.now c.deref-3.result.now h)
+    (p, given p c.args.cx.now.pivots c.args.fates.now c.args.cx.now.graph c.deref.result.now c.deref-2.result.now c.deref-3.result.now h)
 
 pub with_arms-requires : goal.with_arms-requires
 with_arms-requires c =
-    let p = program_of c.args.p.now in
-    let h = handed p c.args.q.now.pivots c.args.fates.now c.args.q.now.graph c.args.q.now.preps.items c.deref.result.now c.in_ok-locals.locals.items
-    c.deref-2.result.now c.deref-3.result.now c.requires.valid c.requires.questions.graph c.requires.questions.rows c.requires.fates c.in_ok-locals.ensures
+    let p = program_of c.args.cx.now.program.now in
+    let h = handed p c.args.cx.now.pivots c.args.fates.now c.args.cx.now.graph c.args.cx.now.preps.items c.deref.result.now c.in_ok-locals.locals.items
+    c.deref-2.result.now c.deref-3.result.now c.requires.ready.valid c.requires.ready.graph c.requires.ready.rows c.requires.fates c.in_ok-locals.ensures
     c.deref.ensures.value c.deref-2.ensures.value (c.deref-3.ensures.value ∙ c.in_ok-live.ensures) in
-    let g = given p c.args.q.now.pivots c.args.fates.now c.args.q.now.graph c.deref.result.now c.deref-2.result.now c.deref-3.result.now h in
-    let all = found_answered p c.args.q.now.pivots c.args.fates.now c.args.q.now.graph c.deref.result.now c.deref-2.result.now c.deref-3.result.now h
+    let g = given p c.args.cx.now.pivots c.args.fates.now c.args.cx.now.graph c.deref.result.now c.deref-2.result.now c.deref-3.result.now h in
+    let all = found_answered p c.args.cx.now.pivots c.args.fates.now c.args.cx.now.graph c.deref.result.now c.deref-2.result.now c.deref-3.result.now h
     c.in_ok-found.found.items (c.in_ok-found.ensures.components p g) (c.in_ok-found.ensures.looping p g) in
     subst (λ (xs : List (Vec LocalAnswer Global)). All (IsAnswered (answer_lists xs)) c.in_ok-found.found.items)
     (c.deref-2.ensures.value ∙ sym c.deref-4.ensures.value) all
 
 pub returns : goal.returns
 returns c =
-    let p = program_of c.args.p.now in
-    let h = handed p c.args.q.now.pivots c.args.fates.now c.args.q.now.graph c.args.q.now.preps.items c.deref.result.now c.in_ok-locals.locals.items
-    c.deref-2.result.now c.deref-3.result.now c.requires.valid c.requires.questions.graph c.requires.questions.rows c.requires.fates c.in_ok-locals.ensures
+    let p = program_of c.args.cx.now.program.now in
+    let h = handed p c.args.cx.now.pivots c.args.fates.now c.args.cx.now.graph c.args.cx.now.preps.items c.deref.result.now c.in_ok-locals.locals.items
+    c.deref-2.result.now c.deref-3.result.now c.requires.ready.valid c.requires.ready.graph c.requires.ready.rows c.requires.fates c.in_ok-locals.ensures
     c.deref.ensures.value c.deref-2.ensures.value (c.deref-3.ensures.value ∙ c.in_ok-live.ensures) in
-    let g = given p c.args.q.now.pivots c.args.fates.now c.args.q.now.graph c.deref.result.now c.deref-2.result.now c.deref-3.result.now h in
+    let g = given p c.args.cx.now.pivots c.args.fates.now c.args.cx.now.graph c.deref.result.now c.deref-2.result.now c.deref-3.result.now h in
     IfOk-weaker c.with_arms.result (λ cs. AreArmed (local_from (answer_lists c.deref-4.result.now)) c.in_ok-found.found.items cs.items)
-    (λ cs. AreCandidatesOf p c.args.q.now.pivots cs.items)
-    (λ cs armed. found_candidates p c.args.q.now.pivots c.args.fates.now c.args.q.now.graph c.deref.result.now c.deref-2.result.now c.deref-3.result.now h
+    (λ cs. AreCandidatesOf p c.args.cx.now.pivots cs.items)
+    (λ cs armed. found_candidates p c.args.cx.now.pivots c.args.fates.now c.args.cx.now.graph c.deref.result.now c.deref-2.result.now c.deref-3.result.now h
     c.in_ok-found.found.items (c.in_ok-found.ensures.components p g) (c.in_ok-found.ensures.looping p g) cs.items
     (subst (λ (xs : List (Vec LocalAnswer Global)). AreArmed (local_from (answer_lists xs)) c.in_ok-found.found.items cs.items)
     (c.deref-4.ensures.value ∙ sym c.deref-2.ensures.value) armed)) c.with_arms.ensures

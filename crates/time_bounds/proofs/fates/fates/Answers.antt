@@ -16,23 +16,23 @@ use Rattle.time_bounds.proofs.fates.fates.Goals as goal
 
 pub fates_of-requires-clause-sources : goal.fates_of-requires-clause-sources
 fates_of-requires-clause-sources c =
-    let within = sources_within c.args.p.now c.requires.valid c.args.q.now.graph c.requires.questions.graph in
-    let long : c.args.q.now.graph.symbols ≡ length c.deref-5.result.now =
+    let within = sources_within c.args.cx.now.program.now c.requires.ready.valid c.args.cx.now.graph c.requires.ready.graph in
+    let long : c.args.cx.now.graph.symbols ≡ length c.deref-5.result.now =
     sym (c.in_ok-reached.ensures.one_each) ∙ ap length (sym c.deref-5.ensures.value) in
     subst (λ (n : ℕ). All (λ r. r.source < n) c.deref-3.result.now) long
-    (subst (λ (rs : List Rule). All (λ r. r.source < c.args.q.now.graph.symbols) rs) (sym c.deref-3.ensures.value) within)
+    (subst (λ (rs : List Rule). All (λ r. r.source < c.args.cx.now.graph.symbols) rs) (sym c.deref-3.ensures.value) within)
 
 pub returns : goal.returns
 returns c =
-    let p = c.args.p.now in
-    let q = c.args.q.now in
+    let p = c.args.cx.now.program.now in
+    let q = c.args.cx.now in
     let cut : c.deref-2.result.now ≡ said_empty q.empties.items =
     c.deref-2.ensures.value ∙ (c.in_ok-cut.ensures ∙ ap said_empty c.deref.ensures.value) in
     let reached = subst (λ (xs : List ℕ). (b : ℕ) → (slice_index_or c.in_ok-reached.reached.items b false ≡ true)
     ↔ IsReached (program_of p) (none_of xs) b) cut
-    (c.in_ok-reached.ensures.reached (program_of p) c.requires.questions.graph) in
-    let long = c.requires.questions.empties.one_each ∙ length-map p.rules.items rule_of in
-    let are = are_fates p q.pivots q.empties.items c.in_ok-reached.reached.items c.requires.questions.empties long reached in
+    (c.in_ok-reached.ensures.reached (program_of p) c.requires.ready.graph) in
+    let long = c.requires.ready.empties.one_each ∙ length-map p.rules.items rule_of in
+    let are = are_fates p q.pivots q.empties.items c.in_ok-reached.reached.items c.requires.ready.empties long reached in
     let same : fates_by c.deref-5.result.now c.deref-4.result.now c.deref-3.result.now
     ≡ fates_by c.in_ok-reached.reached.items q.empties.items p.rules.items =
     ap (λ (xs : List Bool). fates_by xs c.deref-4.result.now c.deref-3.result.now) c.deref-5.ensures.value

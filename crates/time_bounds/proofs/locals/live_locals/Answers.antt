@@ -3,7 +3,7 @@ use Rattle.std.proofs.lemmas.List.{length-append}
 use Rattle.guard_prep.specs.Views.{prepared_of}
 use Rattle.local_size.specs.LocalAnswers.{IsLocal, local_answer_of}
 use Rattle.local_size.specs.declared.answer.LocalAnswer.{LocalAnswer}
-use Rattle.time_bounds.specs.ProgramSizes.{spot}
+use Rattle.bound_rounds.specs.Keys.{key as spot}
 use Rattle.time_bounds.specs.Locals.{AreAnswersAt}
 use Rattle.time_bounds.proofs.LocalLists.{answer_more}
 use Rattle.time_bounds.proofs.locals.live_locals.Goals as goal

@@ -4,7 +4,7 @@ use Rattle.time_bounds.proofs.parts.parts_of.Goals as goal
 
 pub returns : goal.returns
 returns c =
-    let p = program_of c.args.p.now in
-    parts_begin p c.args.table.now c.args.untimed.now c.args.q.now.graph.symbols _ c.requires.flags
+    let p = program_of c.args.cx.now.program.now in
+    parts_begin p c.args.table.now c.args.untimed.now c.args.cx.now.graph.symbols _ c.requires.flags
     c.in_ok-of_rules.ensures.one_each c.in_ok-of_rules.ensures.within
-    (c.in_ok-of_rules.ensures.sets p c.requires.questions.graph) c.in_ok-found.ensures
+    (c.in_ok-of_rules.ensures.sets p c.requires.ready.graph) c.in_ok-found.ensures

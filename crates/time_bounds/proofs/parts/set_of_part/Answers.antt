@@ -8,7 +8,7 @@ use Rattle.time_bounds.proofs.parts.set_of_part.Goals as goal
 -- what was found is right for this rule too
 pub returns-in-Some-clause-set : goal.returns-in-Some-clause-set
 returns-in-Some-clause-set c =
-    let p = program_of c.args.p.now in
+    let p = program_of c.args.cx.now.program.now in
     let tab = c.args.table.now in
     let parts = c.args.parts.now in
     let low = c.requires.parts.within c.args.rule c.args.part c.requires.part in
@@ -21,7 +21,7 @@ returns-in-Some-clause-set c =
 -- what is made of this rule is right for the others
 pub returns-clause-parts : goal.returns-clause-parts
 returns-clause-parts c =
-    let p = program_of c.args.p.now in
+    let p = program_of c.args.cx.now.program.now in
     let tab = c.args.table.now in
     let open_is = open_rule p tab c.args.untimed.now c.args.rule c.requires.flags c.requires.start c.requires.untimed_rule in
     let copy = c.in_ok-copy-2.copy in

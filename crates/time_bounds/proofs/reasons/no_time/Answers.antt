@@ -1,58 +1,98 @@
-use Rattle.std.proofs.Common.{inr, List, [], ◌∷◌, refl, sym, ap, ◌∙◌, subst, length, arith}
+use Rattle.std.proofs.Common.{◌≡◌, inr, List, [], ◌∷◌, ◌++◌, All, refl, sym, ap, ◌∙◌, subst, length, arith}
 use Rattle.std.proofs.lemmas.List.{length-append}
-use Rattle.its_model.specs.Views.{program_of}
+use Rattle.std.proofs.lemmas.List.Elements.{All-nil, All-cons, All-append}
 use Rattle.bound_expr.specs.Views.{bound_of}
-use Rattle.bound_table.specs.Within.{answer_of}
-use Rattle.outcome.specs.Reports.{TimeLarge, TimeTripped, NoFunction, Untimed}
+use Rattle.bound_table.specs.Within.{answer_of, rewritten_within}
 use Rattle.outcome.specs.Views.{numbered_gap}
-use Rattle.proof_tree.specs.proof_nodes.Gaps.{Gap}
-use Rattle.proof_tree.specs.proof_setting.Setting.{setting_of}
-use Rattle.proof_tree.specs.Views.{rank_of}
 use Rattle.proof_tree.specs.declared.gap.Gap as code
+use Rattle.proof_tree.specs.proof_nodes.Composed.{time_of}
+use Rattle.proof_tree.specs.proof_nodes.GapChecks.{GapHolds}
+use Rattle.proof_tree.specs.proof_nodes.Gaps.{Gap}
+use Rattle.proof_tree.specs.proof_nodes.Known.{Table}
+use Rattle.proof_tree.specs.proof_setting.Setting.{setting_of}
+use Rattle.proof_tree.specs.AnswerViews.{gap_of}
+use Rattle.proof_tree.specs.Views.{rank_of}
 use Rattle.rank_search.specs.declared.answer.RankAnswer.{RankAnswer}
-use Rattle.size_bounds.specs.round_relation.NewTimes.{SaysTime}
-use Rattle.size_bounds.specs.Tables.{table_of}
-use Rattle.time_bounds.specs.ProgramSearches.{ranking_of}
-use Rattle.time_bounds.proofs.AnswerLaws.{large_says, no_time_of, missing_unfit}
+use Rattle.rank_search.specs.rule_questions.ProgramQuestions.{forms_at}
+use Rattle.bound_rounds.specs.Answers.{Lacks, TellsRanking}
+use Rattle.bound_rounds.specs.Searches.{NoFunction, Tripped, TooLarge}
+use Rattle.bound_book.specs.ByKey.{bounds_in}
+use Rattle.time_bounds.specs.ProgramRules.{ranking_of}
+use Rattle.time_bounds.specs.Questions.{HasShape, program_in}
+use Rattle.time_bounds.proofs.AnswerLaws.{large_told, told_time, missing_unfit, gap_holds, untimed_none}
+use Rattle.time_bounds.proofs.Rules.{rule_within}
+use Rattle.time_bounds.proofs.TablesOver.{table_over}
 use Rattle.time_bounds.proofs.TriedLists.{gap_last}
 use Rattle.time_bounds.proofs.reasons.no_time.Goals as goal
 
+pub rank_time-requires-clause-over : goal.rank_time-requires-clause-over
+rank_time-requires-clause-over c = (subst HasShape c.in-Ranked.is c.requires.missing.answered.shape).0
+
+pub rank_time-requires-clause-few : goal.rank_time-requires-clause-few
+rank_time-requires-clause-few c = (subst HasShape c.in-Ranked.is c.requires.missing.answered.shape).1
+
 pub returns-in-Large-clause-said : goal.returns-in-Large-clause-said
 returns-in-Large-clause-said c =
-    let p = program_of c.args.p.now in
-    let tab = table_of c.args.table.now in
-    no_time_of p c.args.table.now c.args.q.now.pivots c.args.q.now.empties.items c.args.rule c.args.asked (TimeLarge c.in-Large.nodes)
-    c.requires.questions.empties c.requires.missing
-    (subst (λ (a : RankAnswer). SaysTime (setting_of p) tab (ranking_of a) (Untimed (TimeLarge c.in-Large.nodes))) (sym c.in-Ranked.is)
-    (large_says p tab (rank_of c.in-Ranked.node) c.in-Large.nodes
-    (sym (ap answer_of c.in-Large.is) ∙ c.in_ok-nodes-in-Ranked.ensures)))
+    let p = program_in c.args.cx.now in
+    let b = bounds_in c.args.table.now in
+    let node = rank_of c.in-Ranked.node in
+    let m = c.requires.missing in
+    let large = subst (λ (x : Table). answer_of c.in_ok-nodes-in-Ranked.field-0 ≡ rewritten_within (time_of p node x.time x.size))
+    (table_over c.args.table.now) c.in_ok-nodes-in-Ranked.ensures in (
+      untimed_none b c.args.rule c.requires.untimed,
+      told_time p b c.args.cx.now.pivots c.args.cx.now.empties.items c.args.rule c.args.asked (Lacks (TooLarge c.in-Large.nodes))
+          c.requires.ready.empties m.asked m.answered
+          (subst (λ (a : RankAnswer). TellsRanking (setting_of p) b (ranking_of a) (Lacks (TooLarge c.in-Large.nodes))) (sym c.in-Ranked.is)
+          (large_told p b node c.in-Large.nodes (sym (ap answer_of c.in-Large.is) ∙ large))),
+    )
 
 pub returns-in-NoRank-clause-grown : goal.returns-in-NoRank-clause-grown
 returns-in-NoRank-clause-grown c = inr (c.in-NoRank.gap, c.in_ok-push-in-NoRank.ensures.items)
 
 pub returns-in-NoRank-clause-said : goal.returns-in-NoRank-clause-said
 returns-in-NoRank-clause-said c =
-    let p = program_of c.args.p.now in
-    let tab = table_of c.args.table.now in
+    let p = program_in c.args.cx.now in
+    let b = bounds_in c.args.table.now in
+    let m = c.requires.missing in
+    let n = numbered_gap c.push.new.self.items c.len.result in
     let last = gap_last c.args.gaps.now.items c.push.new.self.items c.in-NoRank.gap c.len.result c.in_ok-push-in-NoRank.ensures.items
-    (omega (arith, c.len.ensures, c.push.new.self.ok.0)) in
-    no_time_of p c.args.table.now c.args.q.now.pivots c.args.q.now.empties.items c.args.rule c.args.asked
-    (NoFunction (numbered_gap c.push.new.self.items c.len.result)) c.requires.questions.empties c.requires.missing
-    (subst (λ (a : RankAnswer). SaysTime (setting_of p) tab (ranking_of a) (Untimed (NoFunction (numbered_gap c.push.new.self.items c.len.result)))) (sym c.in-NoRank.is)
-    (ap (λ (g : Gap). Untimed (NoFunction g)) last))
+    (omega (arith, c.len.ensures, c.push.new.self.ok.0)) in (
+      untimed_none b c.args.rule c.requires.untimed,
+      told_time p b c.args.cx.now.pivots c.args.cx.now.empties.items c.args.rule c.args.asked (Lacks (NoFunction n)) c.requires.ready.empties
+          m.asked m.answered
+          (subst (λ (a : RankAnswer). TellsRanking (setting_of p) b (ranking_of a) (Lacks (NoFunction n))) (sym c.in-NoRank.is)
+          (ap (λ (g : Gap). Lacks (NoFunction g)) last)),
+    )
+
+pub returns-in-NoRank-clause-hold : goal.returns-in-NoRank-clause-hold
+returns-in-NoRank-clause-hold c =
+    let p = program_in c.args.cx.now in
+    let holds = gap_holds p (bounds_in c.args.table.now) c.args.cx.now.pivots c.args.cx.now.empties.items c.args.rule c.args.asked c.in-NoRank.gap
+    c.requires.ready.valid c.requires.ready.empties c.requires.start (rule_within p c.args.rule c.requires.rule.0 c.requires.rule.1)
+    c.requires.missing c.in-NoRank.is in
+    subst (λ (gs : List code.Gap). All (λ g. GapHolds p (forms_at p) (gap_of g)) gs) (sym c.in_ok-push-in-NoRank.ensures.items)
+    (All-append (λ (g : code.Gap). GapHolds p (forms_at p) (gap_of g)) c.args.gaps.now.items (c.in-NoRank.gap ∷ []) c.requires.hold
+    (All-cons (λ (g : code.Gap). GapHolds p (forms_at p) (gap_of g)) c.in-NoRank.gap [] holds
+    (All-nil (λ (g : code.Gap). GapHolds p (forms_at p) (gap_of g)))))
 
 pub returns-clause-said : goal.returns-clause-said
 returns-clause-said c =
-    let p = program_of c.args.p.now in
-    let tab = table_of c.args.table.now in
-    no_time_of p c.args.table.now c.args.q.now.pivots c.args.q.now.empties.items c.args.rule c.args.asked (TimeTripped c.in-Tripped.trip)
-    c.requires.questions.empties c.requires.missing
-    (subst (λ (a : RankAnswer). SaysTime (setting_of p) tab (ranking_of a) (Untimed (TimeTripped c.in-Tripped.trip))) (sym c.in-Tripped.is) refl)
+    let p = program_in c.args.cx.now in
+    let b = bounds_in c.args.table.now in
+    let m = c.requires.missing in (
+      untimed_none b c.args.rule c.requires.untimed,
+      told_time p b c.args.cx.now.pivots c.args.cx.now.empties.items c.args.rule c.args.asked (Lacks (Tripped c.in-Tripped.trip))
+          c.requires.ready.empties m.asked m.answered
+          (subst (λ (a : RankAnswer). TellsRanking (setting_of p) b (ranking_of a) (Lacks (Tripped c.in-Tripped.trip))) (sym c.in-Tripped.is) refl),
+    )
 
 pub unreachable-requires : goal.unreachable-requires
 unreachable-requires c =
-    missing_unfit (program_of c.args.p.now) c.args.table.now c.args.q.now.pivots c.args.q.now.empties.items c.args.rule c.args.asked c.in-Ranked.node
-    (bound_of c.in-Rewritten.field-0) c.requires.missing c.in-Ranked.is (sym (ap answer_of c.in-Rewritten.is) ∙ c.in_ok-nodes-in-Ranked.ensures)
+    let p = program_in c.args.cx.now in
+    let fits = subst (λ (x : Table). answer_of c.in_ok-nodes-in-Ranked.field-0 ≡ rewritten_within (time_of p (rank_of c.in-Ranked.node) x.time x.size))
+    (table_over c.args.table.now) c.in_ok-nodes-in-Ranked.ensures in
+    missing_unfit p (bounds_in c.args.table.now) c.args.cx.now.pivots c.args.cx.now.empties.items c.args.rule c.args.asked c.in-Ranked.node
+    (bound_of c.in-Rewritten.field-0) c.requires.missing c.in-Ranked.is (sym (ap answer_of c.in-Rewritten.is) ∙ fits)
 
 pub returns-in-NoRank-clause-in_order : goal.returns-in-NoRank-clause-in_order
 returns-in-NoRank-clause-in_order c =

@@ -1,20 +1,24 @@
 use Rattle.std.proofs.Common.{◌≡◌, ◌≤◌, map, length, All}
-use Rattle.its_model.specs.Views.{program_of}
 use Rattle.outcome.specs.Views.{time_of}
 use Rattle.outcome.specs.Printing.{HasItsGap}
-use Rattle.time_bounds.specs.ProgramSearches.{searches_of_program}
-use Rattle.size_bounds.specs.Tables.{table_of, numbers_of}
-use Rattle.time_bounds.specs.Analysis.{AreTimesOf}
+use Rattle.proof_tree.specs.proof_nodes.GapChecks.{GapHolds}
+use Rattle.proof_tree.specs.AnswerViews.{gap_of}
+use Rattle.rank_search.specs.rule_questions.ProgramQuestions.{forms_at}
+use Rattle.bound_book.specs.ByKey.{bounds_in, number_at}
 use Rattle.time_bounds.specs.AnalysisLemmas.{CarryTimes, AreGapsInOrder}
+use Rattle.time_bounds.specs.ProgramSearches.{searches_of_program}
+use Rattle.time_bounds.specs.Questions.{program_in}
+use Rattle.time_bounds.specs.TimesSaid.{AreTimesOver}
 use Rattle.time_bounds.proofs.reasons.said_of.Given as goal
 
-abbrev pub invariant-loop-tried : goal.invariant-loop-tried
-invariant-loop-tried l = record {
+abbrev pub invariant-loop-question : goal.invariant-loop-question
+invariant-loop-question l = record {
   one_each : length l.times.items ≡ length l.yielded;
   few : length l.gaps.items ≤ length l.yielded;
-  said : AreTimesOf (searches_of_program (program_of l.p) l.q.pivots) (program_of l.p) (table_of l.table) 1
+  said : AreTimesOver (searches_of_program (program_in l.cx) l.cx.pivots) (program_in l.cx) (bounds_in l.table) 1
       (map (time_of l.gaps.items) l.times.items);
   gaps : All (HasItsGap (length l.gaps.items)) l.times.items;
-  carried : CarryTimes (numbers_of l.table) 1 l.times.items;
+  hold : All (λ g. GapHolds (program_in l.cx) (forms_at (program_in l.cx)) (gap_of g)) l.gaps.items;
+  carried : CarryTimes (number_at l.table) 1 l.times.items;
   in_order : AreGapsInOrder 0 l.times.items (length l.gaps.items);
 }

@@ -1,63 +1,86 @@
-use Rattle.std.proofs.Common.{◌≡◌, ◌+◌, ◌≤◌, List, false, length, sym, ◌∙◌, ap, arith}
-use Rattle.std.specs.List.{list_any}
-use Rattle.std.proofs.lemmas.Result.{IfOk-weaker}
+use Rattle.std.proofs.Common.{◌≡◌, List, ◌++◌, map, refl, sym, ◌∙◌, ap, subst, append_assoc}
 use Rattle.std.proofs.lemmas.List.{length-map}
 use Rattle.its_model.specs.Views.{rule_of}
-use Rattle.time_bounds.specs.declared.trying.Tried.{Tried}
-use Rattle.time_bounds.specs.RoundEnds.{missing_in}
-use Rattle.time_bounds.specs.Tries.{is_found}
-use Rattle.time_bounds.proofs.TriedLists.{found_few}
-use Rattle.time_bounds.proofs.WholeRounds.{found_none}
+use Rattle.proof_tree.specs.proof_setting.Setting.{setting_of}
+use Rattle.bound_rounds.specs.Answers.{SizesOf}
+use Rattle.bound_rounds.specs.Finds as plain
+use Rattle.bound_rounds.specs.Rounds.{TriesAll, InTurn}
+use Rattle.bound_book.specs.Views.{finds_of}
+use Rattle.time_bounds.specs.declared.sizing.Attempt.{Attempt}
+use Rattle.time_bounds.specs.Candidates.{spots_in}
+use Rattle.time_bounds.specs.ProgramSearches.{searches_of_program}
+use Rattle.time_bounds.specs.Questions.{program_in}
+use Rattle.time_bounds.specs.RoundsMade.{known_with}
+use Rattle.time_bounds.specs.Standing.{WereAttempts}
+use Rattle.time_bounds.proofs.CandidateComponents.{are_components, live_components}
+use Rattle.time_bounds.proofs.StandingAnswers.{grown-itself, grown-by, were-wider, asked_still}
 use Rattle.time_bounds.proofs.rounds.next_round.Goals as goal
 
-pub try_rules-requires-clause-one_each : goal.try_rules-requires-clause-one_each
-try_rules-requires-clause-one_each c = c.requires.kept.one_each ∙ length-map c.args.p.now.rules.items rule_of
+pub times_of_round-requires-clause-one_each : goal.times_of_round-requires-clause-one_each
+times_of_round-requires-clause-one_each c =
+    c.requires.kept.one_each ∙ length-map c.args.cx.now.program.now.rules.items rule_of
 
-pub try_rules-requires-clause-few : goal.try_rules-requires-clause-few
-try_rules-requires-clause-few c =
-    omega (arith, c.requires.lemmas.few, c.requires.kept.one_each, c.requires.ready.valid.few_rules)
+pub times_of_round-requires-clause-kept : goal.times_of_round-requires-clause-kept
+times_of_round-requires-clause-kept c = c.requires.kept.answered
 
-pub further-requires-clause-tried : goal.further-requires-clause-tried
-further-requires-clause-tried c =
-    let many = c.in_ok-tries.ensures.lemmas in
-    let found = found_few c.in_ok-tries.tries.items in
-    let long = c.in_ok-tries.ensures.one_each in
-    let rules = length-map c.args.p.now.rules.items rule_of in
+pub try_components-requires-clause-before : goal.try_components-requires-clause-before
+try_components-requires-clause-before c =
+    let cx = c.args.cx.now in
+    let p = program_in cx in
+    let old = c.args.book.now.finds.items in
+    let mid = c.times_of_round.new.book.finds.items in
+    let times = c.in_ok-asked.ensures.times in
+    let kept = c.requires.kept in (
+      kept.first,
+      subst (λ (xs : List Attempt). WereAttempts p cx.pivots kept.first (known_with cx mid) c.args.candidates.now xs) (sym c.deref.ensures.value)
+          (were-wider p cx.pivots kept.first (known_with cx old) kept.first (known_with cx mid) c.args.candidates.now c.args.kept.attempts.items
+          (grown-itself kept.first) (grown-by p (finds_of old) times.times (finds_of mid) times.grown) kept.attempts),
+    )
+
+pub try_components-requires-clause-made : goal.try_components-requires-clause-made
+try_components-requires-clause-made c =
+    let times = c.in_ok-asked.ensures.times in
     record {
-      one_each = long ∙ sym rules;
-      tried = c.in_ok-tries.ensures.tried;
-      timed = record {
-        earlier = c.args.lemmas.now.items;
-        written = c.requires.lemmas.written;
-        follow = c.in_ok-tries.ensures.written;
-      };
-      few = omega (arith, c.requires.lemmas.few, many, found, long, rules, c.requires.ready.valid.few_rules);
+      earlier = finds_of c.args.book.now.finds.items;
+      made = c.requires.made;
+      times = times.times;
+      timed = times.timed;
+      all = times.grown;
     }
 
-pub maybe_last-requires-clause-tried : goal.maybe_last-requires-clause-tried
-maybe_last-requires-clause-tried c =
-    let many = c.in_ok-tries.ensures.lemmas in
-    let found = found_few c.in_ok-tries.tries.items in
-    let long = c.in_ok-tries.ensures.one_each in
-    let rules = length-map c.args.p.now.rules.items rule_of in
+pub returns-clause-round : goal.returns-clause-round
+returns-clause-round c =
+    let cx = c.args.cx.now in
+    let p = program_in cx in
+    let cs = c.args.candidates.now in
+    let old = c.args.book.now.finds.items in
+    let mid = c.times_of_round.new.book.finds.items in
+    let new = c.try_components.new.book.finds.items in
+    let times = c.in_ok-asked.ensures.times in
+    let sizes = c.in_ok-attempts.ensures.sizes in
+    let by_times = grown-by p (finds_of old) times.times (finds_of mid) times.grown in
+    let by_sizes = grown-by p (finds_of mid) sizes.sizes (finds_of new) sizes.grown in
     record {
-      one_each = long ∙ sym rules;
-      tried = c.in_ok-tries.ensures.tried;
-      timed = record {
-        earlier = c.args.lemmas.now.items;
-        written = c.requires.lemmas.written;
-        follow = c.in_ok-tries.ensures.written;
+      more = times.times ++ sizes.sizes;
+      round = record {
+        times = times.times;
+        timed = times.timed;
+        components = map spots_in cs;
+        are_components = are_components p cx.pivots cs c.requires.candidates;
+        live = live_components p cx.pivots cs c.requires.candidates;
+        sizes = sizes.sizes;
+        sized =
+            subst (λ (fs : List plain.Find). TriesAll (searches_of_program p cx.pivots) (setting_of p) InTurn fs
+            (map SizesOf (map spots_in cs)) sizes.sizes) times.grown sizes.sized;
+        all = refl;
       };
-      few = omega (arith, c.requires.lemmas.few, many, found, long, rules, c.requires.ready.valid.few_rules);
+      grown =
+          sizes.grown
+          ∙ (ap (λ (fs : List plain.Find). fs ++ sizes.sizes) times.grown ∙ append_assoc (finds_of old) times.times sizes.sizes);
+      one_each = times.one_each;
+      asked = asked_still p (known_with cx old) (known_with cx mid) (known_with cx new) by_sizes cx.pivots cx.empties.items 1
+          c.in_ok-asked.asked.items times.asked_are;
+      tried = sizes.one_each;
+      attempts = were-wider p cx.pivots (known_with cx mid) (known_with cx new) (known_with cx old) (known_with cx new) cs
+          c.in_ok-attempts.attempts.items by_times (grown-itself (known_with cx new)) sizes.attempts_are;
     }
-
-pub returns-clause-lemmas : goal.returns-clause-lemmas
-returns-clause-lemmas c =
-    let nothing : list_any is_found c.in_ok-tries.tries.items ≡ false =
-    ap (λ (xs : List Tried). list_any is_found xs) (sym c.deref.ensures.value) ∙ (sym c.has_found.ensures ∙ c.if-has_found.false) in
-    let none = found_none c.in_ok-tries.tries.items nothing in
-    let many = c.in_ok-tries.ensures.lemmas in
-    IfOk-weaker c.maybe_last.result
-    (λ r. length c.maybe_last.new.lemmas.items + missing_in c.maybe_last.new.table ≤ length c.try_rules.new.lemmas.items + missing_in c.args.table.now)
-    (λ r. length c.maybe_last.new.lemmas.items + missing_in c.maybe_last.new.table ≤ length c.args.lemmas.now.items + missing_in c.args.table.now)
-    (λ r h. omega (arith, h, many, none)) c.maybe_last.ensures.lemmas

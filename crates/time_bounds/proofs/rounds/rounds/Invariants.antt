@@ -1,19 +1,17 @@
-use Rattle.std.proofs.Common.{◌+◌, ◌≤◌, length, map}
-use Rattle.its_model.specs.Views.{program_of}
-use Rattle.proof_tree.specs.Views.{proof_of}
-use Rattle.time_bounds.specs.RoundStarts.{AreRoundsReady, IsMadeOf}
-use Rattle.time_bounds.specs.RoundEnds.{AreKeptFor, missing_in}
-use Rattle.time_bounds.specs.Written.{AreWritten}
+use Rattle.bound_book.specs.Books.{IsBook}
+use Rattle.bound_book.specs.Views.{finds_of}
+use Rattle.bound_rounds.specs.Finds.{bounds_of}
+use Rattle.bound_rounds.specs.Laws.{missing}
+use Rattle.time_bounds.specs.Questions.{program_in}
+use Rattle.time_bounds.specs.RoundsMade.{AreMade, AreKeptFor}
 use Rattle.time_bounds.proofs.rounds.rounds.Given as goal
 
-abbrev pub invariant-loop-last : goal.invariant-loop-last
-invariant-loop-last l = record {
-  ready : AreRoundsReady (program_of l.p) l.q l.candidates l.table;
-  made : IsMadeOf (program_of l.p) l.q.pivots l.table;
-  written : AreWritten (program_of l.p) l.q.pivots l.table (map proof_of l.lemmas.items);
-  kept : AreKeptFor (program_of l.p) l.q.pivots l.q.empties.items l.candidates l.table l.kept;
-  lemmas : length l.lemmas.items + missing_in l.table ≤ length l.initial.lemmas.items + missing_in l.initial.table;
+abbrev pub invariant-loop-kept : goal.invariant-loop-kept
+invariant-loop-kept l = record {
+  made : AreMade l.cx l.book.finds.items;
+  kept : AreKeptFor l.cx l.candidates l.book.finds.items l.kept;
+  book : IsBook (program_in l.cx) l.book.table l.book.finds.items;
 }
 
-abbrev pub decreases-loop-last : goal.decreases-loop-last
-decreases-loop-last l = missing_in l.table
+abbrev pub decreases-loop-kept : goal.decreases-loop-kept
+decreases-loop-kept l = missing (program_in l.cx) (bounds_of (program_in l.cx) (finds_of l.book.finds.items))

@@ -10,14 +10,14 @@ use Rattle.time_bounds.proofs.sets.push_entered.Goals as goal
 
 pub push_shut-requires : goal.push_shut-requires
 push_shut-requires c =
-    omega (arith, arity_few c.args.p.now c.args.symbol c.index.result.now c.requires.valid c.requires.within c.index.ensures)
+    omega (arith, arity_few c.args.cx.now.program.now c.args.symbol c.index.result.now c.requires.ready.valid c.requires.within c.index.ensures)
 
 pub returns : goal.returns
 returns c =
-    let p = program_of c.args.p.now in
+    let p = program_of c.args.cx.now.program.now in
     let tab = table_of c.args.table.now in
     let same : shut_at tab c.deref.result.now c.args.symbol c.index.result.now.arity ≡ shut_by p tab c.args.entering.now c.args.symbol =
     ap (λ (xs : List ℕ). shut_at tab xs c.args.symbol c.index.result.now.arity) (c.deref.ensures.value ∙ c.in_ok-into.ensures)
     ∙ ap (λ (n : ℕ). shut_at tab (into p c.args.entering.now c.args.symbol) c.args.symbol n)
-    (sym (arity_read c.args.p.now c.args.symbol c.index.result.now c.requires.within c.index.ensures)) in
+    (sym (arity_read c.args.cx.now.program.now c.args.symbol c.index.result.now c.requires.within c.index.ensures)) in
     subst (λ (ys : List SymbolPlace). OnOk c.push_shut.result (places_of c.push_shut.new.shut.items ≡ places_of c.args.shut.now.items ++ ys)) same c.push_shut.ensures

@@ -9,5 +9,5 @@ use Rattle.time_bounds.proofs.sets.shut_places.Given as goal
 abbrev pub invariant-loop-mark : goal.invariant-loop-mark
 invariant-loop-mark l =
     places_of l.shut.items
-    ++ shut_from (program_of l.p) (table_of l.table) l.entering l.mark-index (length l.p.symbols.items - l.mark-index)
-    ≡ shut_from (program_of l.p) (table_of l.table) l.entering 0 (length l.p.symbols.items)
+    ++ shut_from (program_of l.cx.program.now) (table_of l.table) l.entering l.mark-index (length l.cx.program.now.symbols.items - l.mark-index)
+    ≡ shut_from (program_of l.cx.program.now) (table_of l.table) l.entering 0 (length l.cx.program.now.symbols.items)

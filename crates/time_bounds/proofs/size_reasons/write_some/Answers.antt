@@ -10,7 +10,7 @@ use Rattle.time_bounds.proofs.size_reasons.write_some.Goals as goal
 
 pub returns-in-Some-clause-sizes : goal.returns-in-Some-clause-sizes
 returns-in-Some-clause-sizes c =
-    ap seen_rows c.write_place.ensures
+    ap seen_rows c.put_place.ensures
     ∙ (seen_place (map (λ row. row.items) c.args.entries.now.items) c.args.spot.rule c.args.spot.place c.in-Some.e
     ∙ ap (λ (o : Option SizeEntry). put_some (seen_rows (map (λ row. row.items) c.args.entries.now.items)) (spot_of c.args.spot) (option_map size_of o))
     (sym c.in-Some.is))
@@ -22,7 +22,7 @@ returns-in-None-clause-sizes c =
 
 pub returns-in-Some-clause-kept : goal.returns-in-Some-clause-kept
 returns-in-Some-clause-kept c =
-    reason_kept (map (λ row. row.items) c.args.entries.now.items) _ c.args.spot.rule c.args.spot.place c.in-Some.e c.write_place.ensures
+    reason_kept (map (λ row. row.items) c.args.entries.now.items) _ c.args.spot.rule c.args.spot.place c.in-Some.e c.put_place.ensures
     (subst IsReason c.in-Some.is c.requires)
 
 pub returns-in-None-clause-kept : goal.returns-in-None-clause-kept

@@ -1,0 +1,15 @@
+-- Rules and their numbers.
+use Rattle.std.proofs.Common.{◌≡◌, ℕ, zero, suc, ◌<◌, ◌≤◌, length, arith}
+use Rattle.model.specs.Programs.{Program}
+use Rattle.model.proofs.Membership.{slice_get-below}
+use Rattle.proof_tree.specs.proof_nodes.AcceptsPlain.{IsRule}
+pub use Rattle.bound_rounds.proofs.RuleNumbers.{rule_numbered as rule_there}
+
+-- a rule is one of as many as there are
+pub rule_below : (p : Program) (i : ℕ) → IsRule p (suc i) → i < length p.rules
+rule_below p i r = slice_get-below p.rules i r.rule r.numbered
+
+-- a number from 1 to that of the rules is one of a rule
+pub rule_within : (p : Program) (t : ℕ) → 1 ≤ t → t ≤ length p.rules → IsRule p t
+rule_within p zero low high = absurd (omega (arith, low))
+rule_within p (suc i) low high = rule_there p i (omega (arith, high))

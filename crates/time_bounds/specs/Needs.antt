@@ -1,0 +1,7 @@
+-- The places that a ranking function reads, one by one.
+use Rattle.std.specs.Prelude.{ℕ, cond, List, [], ◌∷◌, ℤ}
+use Rattle.its_model.specs.int_laws.NormalForm.{is_zero}
+
+-- a place with this coefficient, where it is read
+abbrev pub read_here : ℤ → ℕ → List ℕ
+read_here c i = cond (is_zero c) [] (i ∷ [])
