@@ -48,13 +48,15 @@ pub analysis_of : (p : Program) (pivots : ℕ) (fs : List Find) (o : Outcome)
     → map length (report_of o).sizes ≡ map (λ rule. arity_of p rule.target) p.rules
     → AreSizeRowsOf (searches_of_program p pivots) p fs 1 (report_of o).sizes → IsAnalysisWith p pivots fs (report_of o)
 analysis_of p pivots fs o last one_each said total places sized =
-    let long = length-map o.times.items (time_of o.gaps.items) ∙ one_each in
-    (record {
-      finds = fs;
-      last = last;
-      one_each = long;
-      times = times_told (searches_of_program p pivots) p fs 1 (map (time_of o.gaps.items) o.times.items) (omega arith) (omega (arith, long)) said;
-      total = total ∙ ap total_of (sym (times_alike o.gaps.items o.times.items));
-      places = places;
-      sizes = sized;
-    }, refl)
+    let long = length-map o.times.items (time_of o.gaps.items) ∙ one_each in (
+      record {
+        finds = fs;
+        last = last;
+        one_each = long;
+        times = times_told (searches_of_program p pivots) p fs 1 (map (time_of o.gaps.items) o.times.items) (omega arith) (omega (arith, long)) said;
+        total = total ∙ ap total_of (sym (times_alike o.gaps.items o.times.items));
+        places = places;
+        sizes = sized;
+      },
+      refl,
+    )

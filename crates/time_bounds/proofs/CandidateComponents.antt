@@ -1,5 +1,5 @@
 -- The components of a program's candidates.
-use Rattle.std.proofs.Common.{◌≡◌, inl, inr, ℕ, List, [], ◌∷◌, map, All}
+use Rattle.std.proofs.Common.{inl, inr, ℕ, List, [], ◌∷◌, map, All}
 use Rattle.std.proofs.lemmas.List.Elements.{All-cons, All-nil}
 use Rattle.model.specs.Programs.{Program}
 use Rattle.proof_tree.specs.proof_nodes.AcceptsPlain.{IsRule}

@@ -5,7 +5,6 @@ use Rattle.std.specs.Prelude.{slice_index_or}
 use Rattle.std.specs.List.{range_with_len}
 use Rattle.std.proofs.lemmas.List.{take_more, length-take-le}
 use Rattle.std.proofs.lemmas.Option.{slice_get_read}
-use Rattle.model.specs.Programs as plain
 use Rattle.its_model.specs.declared.program.Rule.{Rule}
 use Rattle.proof_tree.specs.declared.answer.EmptyAnswer.{EmptyAnswer}
 use Rattle.rank_search.specs.rule_questions.RuleAnswers.{answer_for}

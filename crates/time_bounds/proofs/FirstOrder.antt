@@ -1,5 +1,5 @@
 -- The finds before the first round, by fates, are those of the relation.
-use Rattle.std.proofs.Common.{◌≡◌, ◌↔◌, inl, inr, ℕ, zero, suc, ◌+◌, ◌<◌, Bool, true, false, not, List, [], ◌∷◌, ◌++◌}
+use Rattle.std.proofs.Common.{◌≡◌, ◌↔◌, inl, inr, ℕ, zero, suc, ◌+◌, Bool, true, false, not, List, [], ◌∷◌, ◌++◌}
 use Rattle.std.proofs.Common.{length, map, filter, Option, Some, refl, sym, ◌∙◌, ap, subst, arith}
 use Rattle.std.specs.Prelude.{slice_get, nat_lt}
 use Rattle.std.specs.List.{range_with_len}
@@ -54,7 +54,6 @@ module _ (ie iu : ℕ → Bool) where
 
   told_rest : (t : ℕ) (f : Fate) (fs : List Fate) → AreTold t (f ∷ fs) → AreTold (t + 1) fs
   told_rest t f fs h i g e = subst (λ (n : ℕ). Told n g) (let z : t + suc i ≡ t + 1 + i = omega arith in z) (h (suc i) g e)
-
 
   -- the keys of empty rules by fates are those of the rules that a test tells to be empty
   pub empty_keys_are : (t : ℕ) (fs : List Fate) → AreTold t fs

@@ -15,7 +15,7 @@ use Rattle.its_model.specs.Valid.{IsValid}
 use Rattle.its_model.specs.linear_forms.Forms.{at}
 use Rattle.its_model.specs.linear_forms.Points.{IsPoint}
 use Rattle.its_model.specs.linear_forms.RuleQuestions.{symbols_of_set}
-use Rattle.proof_tree.specs.rule_forms.Ranking.{Function, Ranks, NoRank}
+use Rattle.proof_tree.specs.rule_forms.Ranking.{Function}
 use Rattle.guard_prep.specs.Prepared.{prepared}
 use Rattle.proof_tree.specs.proof_nodes.Composed.{rank_form}
 use Rattle.proof_tree.specs.proof_nodes.Gaps.{ScaledPoint, SymbolPlace}

@@ -1,5 +1,5 @@
 -- Rules and their numbers.
-use Rattle.std.proofs.Common.{◌≡◌, ℕ, zero, suc, ◌<◌, ◌≤◌, length, arith}
+use Rattle.std.proofs.Common.{ℕ, zero, suc, ◌<◌, ◌≤◌, length, arith}
 use Rattle.model.specs.Programs.{Program}
 use Rattle.model.proofs.Membership.{slice_get-below}
 use Rattle.proof_tree.specs.proof_nodes.AcceptsPlain.{IsRule}

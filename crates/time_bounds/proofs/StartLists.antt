@@ -10,7 +10,6 @@ use Rattle.its_model.specs.Views.{rule_of}
 use Rattle.proof_tree.specs.proof_nodes.Nodes.{Spot}
 use Rattle.proof_tree.specs.declared.answer.EmptyAnswer.{EmptyAnswer}
 use Rattle.bound_rounds.specs.Keys.{key}
-use Rattle.bound_rounds.specs.Finds as found
 use Rattle.time_bounds.specs.declared.fates.Fate.{Fate}
 use Rattle.time_bounds.specs.Beginning.{empty_here, empty_finds, empty_key, empty_keys, unreached_here, unreached_finds}
 use Rattle.time_bounds.specs.Beginning.{never_here, never_finds}

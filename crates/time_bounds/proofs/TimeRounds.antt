@@ -33,7 +33,6 @@ use Rattle.bound_book.specs.declared.find.Find.{Find}
 use Rattle.bound_book.specs.Books.{IsBook, IsKey}
 use Rattle.bound_book.specs.Views.{finds_of}
 use Rattle.time_bounds.specs.declared.trying.Tried.{Tried}
-use Rattle.time_bounds.specs.declared.trying.Tried.TheVariants.{Found}
 use Rattle.time_bounds.specs.ProgramSearches.{searches_of_program}
 use Rattle.time_bounds.specs.Questions.{IsTable}
 use Rattle.time_bounds.specs.Taking.{AreOpenAfter}

@@ -1,5 +1,5 @@
 -- What rounds of a program begin with, and what each makes.
-use Rattle.std.specs.Prelude.{◌≡◌, List, [], ◌++◌, length, map, Option}
+use Rattle.std.specs.Prelude.{◌≡◌, List, ◌++◌, length, map, Option}
 use Rattle.proof_tree.specs.proof_setting.Setting.{setting_of}
 use Rattle.bound_rounds.specs.Keys.{Bounds, rule_numbers}
 use Rattle.bound_rounds.specs.Finds as plain

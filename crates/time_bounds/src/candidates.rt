@@ -47,10 +47,7 @@ pub(crate) enum Arms {
 }
 
 /// The components of the places of live rules, in the order in which they are tried, with the arms of their members.
-pub(crate) fn candidates(
-    cx: &Context,
-    fates: &[Fate],
-) -> Result<Vec<Candidate>, Memory>
+pub(crate) fn candidates(cx: &Context, fates: &[Fate]) -> Result<Vec<Candidate>, Memory>
     requires ready { IsReady cx.now }
     requires fates { AreFates (searches_of_program (program_in cx.now) cx.now.pivots) (program_in cx.now) fates.now }
     ensures { IfOk result (λ cs. AreCandidatesOf (program_in cx.now) cx.now.pivots cs.items) }

@@ -26,6 +26,8 @@ mod totals;
 mod trying;
 
 pub use analysing::analyse;
-pub use law::{analyses_are_one, found_bounds_are_printable, searches_are_one, searches_are_right, totals_hold};
+pub use law::{
+    analyses_are_one, found_bounds_are_printable, searches_are_one, searches_are_right, totals_hold,
+};
 pub use outcome::{Outcome, SizeEntry, TimeEntry};
 pub use totals::total;

@@ -44,10 +44,7 @@ fn is_live(fate: Fate) -> bool
 
 /// How large the new value at each place of each live rule can be in one step, rule by rule. Of a rule that never runs
 /// nothing is asked.
-pub(crate) fn all_locals(
-    cx: &Context,
-    fates: &[Fate],
-) -> Result<Vec<Vec<LocalAnswer>>, Memory>
+pub(crate) fn all_locals(cx: &Context, fates: &[Fate]) -> Result<Vec<Vec<LocalAnswer>>, Memory>
     requires ready { IsReady cx.now }
     requires fates { AreFates (searches_of_program (program_in cx.now) cx.now.pivots) (program_in cx.now) fates.now }
     ensures { IfOk result (λ locals. AreAllAnswers (program_in cx.now) cx.now.pivots 1 fates.now
@@ -61,11 +58,7 @@ pub(crate) fn all_locals(
 }
 
 // The answers for the places of the rule at a position, which has this fate.
-fn locals_after(
-    cx: &Context,
-    position: usize,
-    fate: Fate,
-) -> Result<Vec<LocalAnswer>, Memory>
+fn locals_after(cx: &Context, position: usize, fate: Fate) -> Result<Vec<LocalAnswer>, Memory>
     requires ready { IsReady cx.now }
     requires position { position < length cx.now.program.now.rules.items }
     requires may_run { (a : EmptyAnswer) → fate ≡ Live → slice_get cx.now.empties.items position ≡ Some a

@@ -28,11 +28,7 @@ pub(crate) struct Parts {
 }
 
 /// The components of the graph of the rules without a time; nothing was found of any.
-pub(crate) fn parts_of(
-    cx: &Context,
-    table: &Table,
-    untimed: &[bool],
-) -> Result<Parts, Memory>
+pub(crate) fn parts_of(cx: &Context, table: &Table, untimed: &[bool]) -> Result<Parts, Memory>
     requires ready { IsReady cx.now }
     requires flags { AreUntimed (program_in cx.now) table.now untimed.now }
     ensures { IfOk result (λ parts. AreParts (program_in cx.now) table.now parts) }
@@ -115,12 +111,7 @@ fn copied_set(alloc: Global, first: &OpenSet) -> Result<OpenSet, Memory>
 }
 
 // The set of a rule without a time, and its shut places, from the graph.
-fn made_set(
-    cx: &Context,
-    table: &Table,
-    untimed: &[bool],
-    rule: u32,
-) -> Result<OpenSet, Memory>
+fn made_set(cx: &Context, table: &Table, untimed: &[bool], rule: u32) -> Result<OpenSet, Memory>
     requires ready { IsReady cx.now }
     requires flags { AreUntimed (program_in cx.now) table.now untimed.now }
     requires start { slice_index_or untimed.now 0 false ≡ false }

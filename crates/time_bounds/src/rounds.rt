@@ -25,7 +25,11 @@ pub(crate) struct Kept {
 }
 
 /// Rounds from what is found before the first. Gives what the last made of each rule and of each component.
-pub(crate) fn rounds(cx: &Context, candidates: &[Candidate], book: &mut Book) -> Result<Kept, Memory>
+pub(crate) fn rounds(
+    cx: &Context,
+    candidates: &[Candidate],
+    book: &mut Book,
+) -> Result<Kept, Memory>
     requires ready { IsReady cx.now }
     requires candidates { AreCandidatesOf (program_in cx.now) cx.now.pivots candidates.now }
     requires made { AreMade cx.now book.old.finds.items }

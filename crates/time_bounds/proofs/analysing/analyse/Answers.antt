@@ -1,4 +1,4 @@
-use Rattle.std.proofs.Common.{◌≡◌, ℕ, length, All, ◌∙◌, subst}
+use Rattle.std.proofs.Common.{ℕ, length, All, subst}
 use Rattle.std.proofs.lemmas.List.{length-map}
 use Rattle.std.proofs.lemmas.Result.{IfOk-weaker}
 use Rattle.its_model.specs.declared.program.Program.{Program}

@@ -1,4 +1,4 @@
-use Rattle.std.proofs.Common.{◌≡◌, ◌<◌, ◌≤◌, ◌^◌, List, [], ◌∷◌, length, map, Vec, Option, Some, All, sym, ◌∙◌, ap, subst, arith}
+use Rattle.std.proofs.Common.{List, length, map, Vec, Option, Some, All, sym, ◌∙◌, ap, subst, arith}
 use Rattle.std.specs.declared.alloc.Global.{Global}
 use Rattle.std.proofs.lemmas.List.{length-map}
 use Rattle.outcome.specs.Reports.{Size}

@@ -1,4 +1,4 @@
-use Rattle.std.proofs.Common.{◌≡◌, Option, [], ◌∷◌, length, subst}
+use Rattle.std.proofs.Common.{Option, [], ◌∷◌, length, subst}
 use Rattle.std.proofs.lemmas.Result.{IfOk-weaker}
 use Rattle.bound_book.specs.ByKey.{bounds_in}
 use Rattle.time_bounds.specs.declared.asking.Asked.{Asked}

@@ -1,4 +1,4 @@
-use Rattle.std.proofs.Common.{◌≡◌, ℕ, suc, ◌+◌, ◌≤◌, false, List, length, map, take, get_or, sym, ◌∙◌, ap, arith}
+use Rattle.std.proofs.Common.{◌≡◌, ℕ, suc, ◌+◌, List, map, take, get_or, sym, ◌∙◌, ap, arith}
 use Rattle.proof_tree.specs.declared.arm.Spot.{Spot}
 use Rattle.proof_tree.specs.Views.{spot_of}
 use Rattle.bound_rounds.specs.Answers.{are_open}

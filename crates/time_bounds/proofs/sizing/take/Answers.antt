@@ -1,10 +1,8 @@
-use Rattle.std.proofs.Common.{◌≡◌, List, [], ◌∷◌, ◌++◌, sym, ◌∙◌, ap, subst, map}
+use Rattle.std.proofs.Common.{List, [], ◌∷◌, ◌++◌, sym, ◌∙◌, ap, subst, map}
 use Rattle.std.proofs.lemmas.List.{append-nil}
 use Rattle.bound_expr.specs.Views.{bound_of}
 use Rattle.proof_tree.specs.declared.arm.Spot.{Spot}
-use Rattle.proof_tree.specs.proof_nodes.Nodes as nodes
 use Rattle.proof_tree.specs.Views.{spot_of}
-use Rattle.bound_rounds.specs.Finds as plain
 use Rattle.bound_book.specs.Books.{AreOpen}
 use Rattle.bound_book.specs.Views.{finds_of}
 use Rattle.bound_book.proofs.Room.{room_for}

@@ -1,4 +1,4 @@
-use Rattle.std.proofs.Common.{◌≡◌, List, ◌++◌, sym, ◌∙◌, ap, subst, map}
+use Rattle.std.proofs.Common.{List, ◌++◌, sym, ◌∙◌, ap, subst, map}
 use Rattle.guard_prep.specs.declared.rule_rows.RuleRows.{RuleRows}
 use Rattle.proof_tree.specs.declared.arm.Member.{Member}
 use Rattle.proof_tree.specs.proof_nodes.Known.{Table}

@@ -1,4 +1,4 @@
-use Rattle.std.proofs.Common.{◌≡◌, true, false, List, sym, ◌∙◌, ap, map}
+use Rattle.std.proofs.Common.{List, sym, ◌∙◌, ap, map}
 use Rattle.bound_rounds.specs.Answers.{are_open}
 use Rattle.bound_rounds.specs.Keys.{Bounds}
 use Rattle.bound_book.specs.ByKey.{bounds_in}

@@ -26,8 +26,11 @@ push_if_never-requires c =
     let r = c.rule-item.result in
     let low = subst (λ (rs : List Rule). i < length rs) c.deref-rule-items.ensures.value c.loop-position-test.true in
     let read = c.rule-item.is ∙ ap (λ (rs : List Rule). get_or rs i r) c.deref-rule-items.ensures.value in
-    omega (arith, arity_few p r.target c.index.result.now c.requires.ready.valid (target_read p c.requires.ready.valid i r low read)
-    c.index.ensures)
+    omega (
+      arith,
+      arity_few p r.target c.index.result.now c.requires.ready.valid (target_read p c.requires.ready.valid i r low read)
+          c.index.ensures,
+    )
 
 pub loop-position-preserved : goal.loop-position-preserved
 loop-position-preserved c =
