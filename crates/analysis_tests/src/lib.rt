@@ -4,6 +4,8 @@
 #[cfg(test)]
 mod found;
 #[cfg(test)]
+mod gaps;
+#[cfg(test)]
 mod locals;
 #[cfg(test)]
 mod loops;

@@ -1,7 +1,7 @@
 -- What finding the first fault of a gap meets: points with small numbers, the rows and new values that were prepared of a
 -- rule, and the first element of a list that fails.
-use Rattle.std.specs.Prelude.{◌≡◌, ◌⊎◌, ℕ, zero, suc, ◌≤◌, true, List, [], ◌∷◌, length, option_map, Option, Some, None}
-use Rattle.std.specs.Prelude.{slice_get, ◌*◌, ◌^◌, ◌||◌, Bool, pos, map, filter, not}
+use Rattle.std.specs.Prelude.{◌≡◌, ◌⊎◌, ℕ, zero, suc, ◌≤◌, true, false, List, [], ◌∷◌, length, option_map, Option, Some, None}
+use Rattle.std.specs.Prelude.{slice_get, slice_index_or, ◌<◌, ◌*◌, ◌^◌, ◌||◌, Bool, pos, map, filter, not}
 use denote.Ref.{Bor}
 use Rattle.linear_forms.specs.Limits.{point_limit}
 use Rattle.linear_forms.specs.RuleQuestions.{RuleForms, Coefficient}
@@ -76,6 +76,11 @@ value_limit = 129 * 2 ^ 108
 
 abbrev pub net_limit : ℕ
 net_limit = 130 * 2 ^ 108
+
+-- a flag for place 0 and each place that a symbol may have: whether it is shut
+pub record AreShutFlags (flags : List Bool) (shut : List plain.SymbolPlace) (symbol : ℕ) : Type 0 where
+  pub long : length flags ≡ 33
+  pub each : (i : ℕ) → i < 33 → slice_index_or flags i false ≡ plain.is_shut shut symbol i
 
 -- a rule leaves the symbol or leads to it
 abbrev pub touches_by : Program → ℕ → ℕ → Bool

@@ -1,6 +1,6 @@
 //! Which balance of a gap isn't 0.
 
-ghost use Rattle.std.specs.Prelude.{◌≡◌, ◌≢◌, ◌≤◌, ◌*◌, ◌&&◌, not, nat_eq, length, map, pos, ◌-ℤ◌, MatchOption};
+ghost use Rattle.std.specs.Prelude.{◌≡◌, ◌≢◌, ◌≤◌, ◌*◌, length, map, pos, ◌-ℤ◌, MatchOption};
 ghost use Rattle.std.specs.Prelude.{unsigned_abs, IsTrue, ◌↔◌, ◌⊎◌, true, false, Some};
 ghost use Rattle.std.specs.List.{All, AllByRecursion};
 ghost use Rattle.linear_forms.specs.Limits.{point_limit};
@@ -17,12 +17,13 @@ ghost use Rattle.proof_setting.specs.proof_nodes.Gaps.{is_shut as is_shut_place}
 ghost use Rattle.proof_setting.specs.proof_nodes.Graph.{touches};
 ghost use Rattle.proof_tree.specs.AnswerViews.{scaled_of, shut_of, gap_of};
 ghost use Rattle.proof_tree.specs.Composing.{AreRowsOf};
-ghost use Rattle.proof_tree.specs.GapTests.{forms_by, IsNear, IsFirstFailing};
+ghost use Rattle.proof_tree.specs.GapTests.{forms_by, AreShutFlags, IsNear, IsFirstFailing};
 ghost use Rattle.proof_tree.specs.GapTests.{coefficient_at, value_limit, net_limit, touches_by, IsBalanced, places_at};
 
 use crate::entering::{source_of, target_of};
 use crate::gap::Gap;
 use crate::gap_points::prep_at;
+use crate::shut_places::shut_flags;
 use farkas_cert::{Scaled, row_value};
 use guard_prep::RuleRows;
 use its_model::Program;
@@ -140,27 +141,6 @@ fn balance_at(p: &Program, preps: &[RuleRows], g: &Gap, symbol: u32, place: u32)
     net_at(p, preps, g, symbol, place) + leaving(p, g.rule, &g.floor, symbol, place)
 }
 
-// Whether it is this place of the symbol.
-fn is_place(spot: &(u32, u32), symbol: u32, place: u32) -> bool
-    ensures { result ≡ nat_eq spot.now.0 symbol && nat_eq spot.now.1 place }
-{
-    spot.0 == symbol && spot.1 == place
-}
-
-// Whether a place of a symbol is one of these.
-#[tactic(auto, using(crate::proofs::Rules::any_found, crate::proofs::Rules::any_passed, crate::proofs::Rules::any_none))]
-fn is_shut(shut: &[(u32, u32)], symbol: u32, place: u32) -> bool
-    ensures { result ≡ is_shut_place (map shut_of shut.now) symbol place }
-{
-    for spot in shut {
-        let is_here = is_place(spot, symbol, place);
-        if is_here {
-            return true;
-        }
-    }
-    false
-}
-
 // The number of a symbol, where it was found.
 fn number_if(found: Option<u32>, symbol: usize) -> Option<u32>
     ensures { MatchOption result (same_symbol (Some symbol) found ≡ false)
@@ -218,18 +198,20 @@ fn places_of(p: &Program, symbol: u32) -> u32
     arity_at(p, symbol)
 }
 
-// Whether a place of a symbol that isn't shut isn't balanced.
-fn is_off(p: &Program, preps: &[RuleRows], g: &Gap, symbol: u32, place: u32) -> bool
+// Whether a place of a symbol that isn't shut isn't balanced, where the flags say which of its places are.
+fn is_off(p: &Program, preps: &[RuleRows], g: &Gap, shut: &[bool], symbol: u32, place: u32) -> bool
     requires valid { IsValid (program_of p.now) }
     requires rows { AreRowsOf preps.now (program_of p.now) }
     requires shape { HasGapShape (program_of p.now) (forms_at (program_of p.now)) (gap_of g.now) }
+    requires flags { AreShutFlags shut.now (map shut_of g.now.shut.items) symbol }
+    requires few { place ≤ 32 }
     ensures { IsTrue result ↔ ((¬ (IsBalanced (program_of p.now) (gap_of g.now) (coefficient_at symbol place)))
         × ((place ≡ 0) ⊎ (is_shut_place (map shut_of g.now.shut.items) symbol place ≡ false))) }
 {
     if balance_at(p, preps, g, symbol, place) == 0 {
         return false;
     }
-    place == 0 || !is_shut(&g.shut, symbol, place)
+    place == 0 || !shut[place as usize]
 }
 
 // The first place of a symbol that isn't shut and isn't balanced, the constant, place 0, before all others.
@@ -242,8 +224,9 @@ fn first_place(p: &Program, preps: &[RuleRows], g: &Gap, symbol: u32) -> Option<
         (λ place. IsFirstFailing (IsBalanced (program_of p.now) (gap_of g.now))
         (places_at (program_of p.now) (gap_of g.now) symbol) (coefficient_at symbol place)) }
 {
+    let shut = shut_flags(&g.shut, symbol);
     for place in 0..places_of(p, symbol) + 1 {
-        let off = is_off(p, preps, g, symbol, place);
+        let off = is_off(p, preps, g, &shut, symbol, place);
         if off {
             return Some(place);
         }

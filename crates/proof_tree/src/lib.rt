@@ -22,6 +22,7 @@ mod proof;
 mod rank;
 mod ranking;
 mod reading;
+mod shut_places;
 mod spreading;
 
 pub use answer::{EmptyAnswer, GapFault, Question, Reason, Trip};
