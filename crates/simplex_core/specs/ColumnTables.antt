@@ -78,3 +78,11 @@ pub record ClearsColumn (old new : ColumnTable) (position r : ℕ) (pivot : ℤ)
   pub cleared : (a b : Column) → slice_get old.columns.items position ≡ Some a
       → slice_get new.columns.items position ≡ Some b → IsCleared a b r pivot shifted
   pub others : (j : ℕ) → j ≢ position → slice_get new.columns.items j ≡ slice_get old.columns.items j
+
+-- the right side of row r is cleared, and all else is as before
+pub record ClearsRight (old new : ColumnTable) (r : ℕ) (pivot : ℤ) (shifted : List Cell) : Type 0 where
+  pub rows : new.rows ≡ old.rows
+  pub columns : new.width ≡ old.width
+  pub basis : new.basis.items ≡ old.basis.items
+  pub kept : new.columns.items ≡ old.columns.items
+  pub cleared : IsCleared old.right new.right r pivot shifted

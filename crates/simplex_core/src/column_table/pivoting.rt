@@ -5,7 +5,7 @@ ghost use Rattle.std.specs.Prelude.{length};
 ghost use Rattle.sparse_columns.specs.declared.cell.Cell.{Cell};
 ghost use Rattle.sparse_columns.specs.declared.column.Column.{Column};
 ghost use Rattle.sparse_columns.specs.Columns.{numerator};
-ghost use Rattle.simplex_core.specs.ColumnTables.{IsPivotedBy, AreShifted, ClearsColumns, ClearsColumn};
+ghost use Rattle.simplex_core.specs.ColumnTables.{IsPivotedBy, AreShifted, ClearsColumns, ClearsColumn, ClearsRight};
 
 use crate::column_table::ColumnTable;
 use crate::simplex_table::Unmade;
@@ -26,15 +26,31 @@ impl ColumnTable {
         let Some(shifted) = self.columns[column].shifted(alloc, row)? else {
             return Err(Unmade::Beyond);
         };
-        let Some(right) = self
-            .right
-            .cleared(alloc, row, pivot, shifted.before(self.rows))?
-        else {
+        self.clear_right(alloc, row, pivot, shifted.before(self.rows))?;
+        self.clear_columns(alloc, row, pivot, shifted.as_slice())?;
+        self.basis[row as usize] = column as u32;
+        Ok(())
+    }
+
+    /// Clears the right side of a row. Where it is 0, the right sides stay as they are.
+    fn clear_right(
+        &mut self,
+        alloc: Global,
+        row: u32,
+        pivot: i64,
+        shifted: &[Cell],
+    ) -> Result<(), Unmade>
+        requires pivot { unsigned_abs pivot < 2 ^ 31 }
+        requires positive { pos 0 <ℤ pivot }
+        ensures { IfOk result (λ _. ClearsRight self.old self.new row pivot shifted.now) }
+    {
+        if self.right.at(row) == 0 {
+            return Ok(());
+        }
+        let Some(right) = self.right.cleared(alloc, row, pivot, shifted)? else {
             return Err(Unmade::Beyond);
         };
-        self.clear_columns(alloc, row, pivot, shifted.as_slice())?;
         self.right = right;
-        self.basis[row as usize] = column as u32;
         Ok(())
     }
 
