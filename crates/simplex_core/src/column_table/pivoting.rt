@@ -5,11 +5,13 @@ ghost use Rattle.std.specs.Prelude.{length};
 ghost use Rattle.sparse_columns.specs.declared.cell.Cell.{Cell};
 ghost use Rattle.sparse_columns.specs.declared.column.Column.{Column};
 ghost use Rattle.sparse_columns.specs.Columns.{numerator};
-ghost use Rattle.simplex_core.specs.ColumnTables.{IsPivotedBy, AreShifted, ClearsColumns, ClearsColumn, ClearsRight};
+ghost use Rattle.simplex_core.specs.ColumnListing.{AreTouched};
+ghost use Rattle.simplex_core.specs.ColumnTables.{IsPivotedBy, ClearsColumns, ClearsTouched, ClearsColumn, ClearsRight, IsListed};
 
 use crate::column_table::ColumnTable;
+use crate::column_table::lists::{RowColumns, put_new};
 use crate::simplex_table::Unmade;
-use sparse_columns::Cell;
+use sparse_columns::{Cell, Cells};
 use std::alloc::Global;
 
 impl ColumnTable {
@@ -19,6 +21,7 @@ impl ColumnTable {
         requires row { row < self.old.rows }
         requires column { column < self.old.width }
         requires positive { (x : Column) → slice_get self.old.columns.items column ≡ Some x → pos 0 <ℤ numerator x row }
+        requires listed { IsListed self.old }
         ensures { IfOk result (λ _. (pivot : ℤ) × (shifted : List Cell)
             × IsPivotedBy self.old self.new row column pivot shifted) }
     {
@@ -27,7 +30,7 @@ impl ColumnTable {
             return Err(Unmade::Beyond);
         };
         self.clear_right(alloc, row, pivot, shifted.before(self.rows))?;
-        self.clear_columns(alloc, row, pivot, shifted.as_slice())?;
+        self.clear_columns(alloc, row, pivot, &shifted)?;
         self.basis[row as usize] = column as u32;
         Ok(())
     }
@@ -54,46 +57,68 @@ impl ColumnTable {
         Ok(())
     }
 
-    /// Clears each column's number in a row.
+    /// Clears each column's number in a row, and lists for this row the columns that have one.
     fn clear_columns(
         &mut self,
         alloc: Global,
         row: u32,
         pivot: i64,
-        shifted: &[Cell],
+        shifted: &Cells,
+    ) -> Result<(), Unmade>
+        requires row { row < self.old.rows }
+        requires pivot { unsigned_abs pivot < 2 ^ 31 }
+        requires positive { pos 0 <ℤ pivot }
+        requires listed { IsListed self.old }
+        ensures { IfOk result (λ _. ClearsColumns self.old self.new row pivot shifted.now.items.items) }
+    {
+        let touched = self.touched_columns(alloc, row)?;
+        self.clear_touched(alloc, row, pivot, shifted, touched.as_slice())?;
+        self.lists[row as usize] = RowColumns::of(touched);
+        Ok(())
+    }
+
+    /// Clears the numbers of these columns in a row.
+    fn clear_touched(
+        &mut self,
+        alloc: Global,
+        row: u32,
+        pivot: i64,
+        shifted: &Cells,
+        touched: &[u32],
     ) -> Result<(), Unmade>
         requires pivot { unsigned_abs pivot < 2 ^ 31 }
         requires positive { pos 0 <ℤ pivot }
-        ensures { IfOk result (λ _. ClearsColumns self.old self.new row pivot shifted.now
-            (self.old.width + self.old.rows)) }
+        requires touched { AreTouched self.old.columns.items row touched.now }
+        ensures { IfOk result (λ _. ClearsTouched self.old self.new row pivot shifted.now.items.items touched.now
+            (length touched.now)) }
     {
-        for position in 0..self.width as usize + self.rows as usize {
-            self.clear_column(alloc, position, row, pivot, shifted)?;
+        for place in 0..touched.len() {
+            self.clear_column(alloc, touched[place], row, pivot, shifted)?;
         }
         Ok(())
     }
 
-    /// Clears a column's number in a row.
+    /// Clears a column's number in a row, and puts the column into the list of each row where that makes a number.
     fn clear_column(
         &mut self,
         alloc: Global,
-        position: usize,
+        position: u32,
         row: u32,
         pivot: i64,
-        shifted: &[Cell],
+        shifted: &Cells,
     ) -> Result<(), Unmade>
         requires position { position < length self.old.columns.items }
         requires pivot { unsigned_abs pivot < 2 ^ 31 }
         requires positive { pos 0 <ℤ pivot }
-        ensures { IfOk result (λ _. ClearsColumn self.old self.new position row pivot shifted.now) }
+        ensures { IfOk result (λ _. ClearsColumn self.old self.new position row pivot shifted.now.items.items) }
     {
-        if self.columns[position].at(row) == 0 {
-            return Ok(());
-        }
-        let Some(column) = self.columns[position].cleared(alloc, row, pivot, shifted)? else {
+        let front = shifted.before(self.rows);
+        let old = &self.columns[position as usize];
+        let Some(column) = old.cleared(alloc, row, pivot, shifted.as_slice())? else {
             return Err(Unmade::Beyond);
         };
-        self.columns[position] = column;
+        put_new(&mut self.lists, old, self.rows, front, position)?;
+        self.columns[position as usize] = column;
         Ok(())
     }
 }

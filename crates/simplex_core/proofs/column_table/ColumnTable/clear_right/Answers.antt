@@ -18,6 +18,7 @@ returns-then-at-eq0 c =
       columns = refl;
       basis = refl;
       kept = refl;
+      lists = refl;
       cleared = cleared-none right c.args.row c.args.pivot c.args.shifted.now zero;
     }
 
@@ -34,5 +35,6 @@ returns c =
       columns = refl;
       basis = refl;
       kept = refl;
+      lists = refl;
       cleared = told;
     }

@@ -1,13 +1,15 @@
-use Rattle.std.proofs.Common.{◌≡◌, ℕ, ap, sym, ◌∙◌, subst, Option, arith, to_z, of_z, List}
+use Rattle.std.proofs.Common.{◌≡◌, ℕ, ◌+◌, ap, sym, ◌∙◌, subst, Option, arith, to_z, of_z, List}
 use Rattle.std.specs.Prelude.{◌-ℤ◌, slice_get, slice_set, IfSome}
 use Rattle.std.specs.Int.{w64}
 use Rattle.std.proofs.lemmas.Int.{ints}
-use Rattle.std.proofs.lemmas.Option.{slice_get_within, same_Some}
-use Rattle.sparse_columns.specs.declared.cell.Cell.{Cell}
+use Rattle.std.proofs.lemmas.Option.{same_Some}
 use Rattle.sparse_columns.specs.declared.cells.Cells.{Cells}
 use Rattle.sparse_columns.specs.declared.column.Column.{Column}
-use Rattle.sparse_columns.specs.Numbers.{alone, number, number_of}
+use Rattle.sparse_columns.specs.Numbers.{alone, number}
 use Rattle.sparse_columns.specs.Columns.{numerator, IsCleared}
+use Rattle.simplex_core.specs.declared.column_table.lists.RowColumns.{RowColumns}
+use Rattle.simplex_core.specs.ColumnListing.{AreListed}
+use Rattle.simplex_core.proofs.ColumnListings.{listed-sizes}
 use Rattle.simplex_core.proofs.ColumnTableLaws.{column-read}
 use Rattle.simplex_core.proofs.column_table.ColumnTable.pivot.Goals as goal
 
@@ -29,6 +31,18 @@ clear_columns-requires-clause-positive c =
     let bounded = c.at-pivot.ensures.bounded in
     omega (arith, ints, positive, value, bounded)
 
+pub clear_columns-requires-clause-listed : goal.clear_columns-requires-clause-listed
+clear_columns-requires-clause-listed c =
+    let table = c.args.self.now in
+    let mid = c.clear_right.new.self in
+    let right = c.in_ok-clear_right.ensures in
+    let rows = right.rows in
+    let columns = right.columns in
+    listed-sizes mid.columns.items mid.lists.items table.rows (table.width + table.rows) _ _
+    (subst (λ (ls : List RowColumns). AreListed mid.columns.items ls table.rows (table.width + table.rows)) (sym right.lists)
+    (subst (λ (xs : List Column). AreListed xs table.lists.items table.rows (table.width + table.rows)) (sym right.kept) c.requires.listed))
+    rows (omega (arith, rows, columns))
+
 pub returns : goal.returns
 returns c =
     let table = c.args.self.now in
@@ -39,27 +53,22 @@ returns c =
     let bounded = c.at-pivot.ensures.bounded in
     let plain : to_z w64 (of_z w64 c.at-pivot.result) ≡ c.at-pivot.result = omega (arith, ints, bounded) in
     let cells = c.in-Some.shifted in
-    let listed : (i : ℕ) → number_of c.as_slice.result.now i ≡ number cells i = λ i. ap (λ (xs : List Cell). number_of xs i) c.as_slice.ensures.items in
     let shifts : (i : ℕ) → number cells i ≡ numerator second i -ℤ alone c.args.row second.den i =
     subst (λ (o : Option Cells). IfSome o (λ x. (i : ℕ) → number x i ≡ numerator second i -ℤ alone c.args.row second.den i)) c.in-Some.is c.in_ok-shifted.ensures in
     let right = c.in_ok-clear_right.ensures in
     let cleared = c.in_ok-clear_columns.ensures in (
       to_z w64 (of_z w64 c.at-pivot.result),
-      c.as_slice.result.now,
+      cells.items.items,
       record {
         rows = cleared.rows ∙ right.rows;
         columns = cleared.columns ∙ right.columns;
         basis = ap (λ (xs : List ℕ). slice_set xs c.args.row c.args.column) (cleared.basis ∙ right.basis);
-        shifts = record { each = λ i x is. listed i ∙ (shifts i ∙ ap (λ (y : Column). numerator y i -ℤ alone c.args.row y.den i) (same_Some second x (sym second_is ∙ is))) };
+        shifts = record { each = λ i x is. shifts i ∙ ap (λ (y : Column). numerator y i -ℤ alone c.args.row y.den i) (same_Some second x (sym second_is ∙ is)) };
         pivot_is = λ x is. plain ∙ (c.at-pivot.ensures.value ∙ ap (λ (y : Column). numerator y c.args.row) (same_Some first x (sym first_is ∙ is)));
-        cleared = λ j a b is_a is_b.
-            let within = slice_get_within table.columns.items j a is_a in
-            let unknowns = table.unknowns in
-            let rows = right.rows in
-            let columns = right.columns in
-            cleared.cleared j a b (omega (arith, within, unknowns, rows, columns)) (ap (λ (xs : List Column). slice_get xs j) right.kept ∙ is_a) is_b;
+        cleared = λ j a b is_a is_b. cleared.cleared j a b (ap (λ (xs : List Column). slice_get xs j) right.kept ∙ is_a) is_b;
         front = c.before-2.result.now;
-        fronts = λ i l. c.before-2.ensures.numbers i l ∙ sym (listed i);
+        fronts = λ i l. c.before-2.ensures.numbers i l;
         right = subst (λ (x : Column). IsCleared table.right x c.args.row (to_z w64 (of_z w64 c.at-pivot.result)) c.before-2.result.now) (sym cleared.right) right.cleared;
+        listed = cleared.listed;
       },
     )
