@@ -13,7 +13,7 @@ use Rattle.sparse_columns.specs.declared.column.Column.{Column}
 use Rattle.sparse_columns.specs.Numbers.{number_of}
 use Rattle.sparse_columns.specs.Columns.{numerator, IsCleared}
 use Rattle.simplex_core.specs.declared.column_table.lists.RowColumns.{RowColumns}
-use Rattle.simplex_core.specs.ColumnListing.{Contains, Names, AreListed, PutsAt, PutsNew, AreTouched, AreMarked}
+use Rattle.simplex_core.specs.ColumnListing.{Contains, Names, AreListed, PutsAt, PutsNew, AreTouched, AreMarked, HasAll, HasFirst}
 use Rattle.simplex_core.proofs.Positions.{slice_get-set_same, slice_get-set_other, slice_get-there}
 use Rattle.simplex_core.proofs.Extraction.{slice_get-last, slice_get-before}
 use Rattle.simplex_core.proofs.Searches.{last_or_before}
@@ -272,3 +272,59 @@ pub named-contained : (lists : List RowColumns) (i j : ℕ) (l : RowColumns) (li
 named-contained lists i j l listed named is e =
     subst (λ (ns : List ℕ). Contains ns j) (sym e)
     (subst (λ (m : RowColumns). Contains m.columns.items j) (same_Some named.list l (sym named.of ∙ is)) named.has)
+
+-- before any column is looked at
+pub first-none : (listed : List ℕ) (marks : List Bool) (found : List ℕ) (n : ℕ) → marks ≡ replicate n false → HasFirst listed 0 marks found
+first-none listed marks found n e = record {
+  marked = λ j mark. absurd (no-mark n j (ap (λ (ms : List Bool). slice_get ms j) (sym e) ∙ mark));
+  each = λ k j l is. absurd (omega arith);
+}
+
+-- a column that has a mark is found already
+pub first-same : (listed : List ℕ) (m : ℕ) (marks : List Bool) (found : List ℕ) (p : ℕ) → HasFirst listed m marks found → slice_get listed m ≡ Some p → slice_get marks p ≡ Some true
+    → HasFirst listed (m + 1) marks found
+first-same listed m marks found p are at mark = record {
+  marked = are.marked;
+  each = λ n j l is. go n j is (last_or_before m n (omega arith));
+}
+  where
+    go : (n j : ℕ) → slice_get listed n ≡ Some j → (n ≡ m) ⊎ (n < m) → Contains found j
+    go n j is (inl e) =
+        subst (λ (o : ℕ). Contains found o) (same_Some p j (sym at ∙ (ap (λ (o : ℕ). slice_get listed o) (sym e) ∙ is))) (are.marked p mark)
+    go n j is (inr l) = are.each n j l is
+
+-- one more column is found; no other gets a mark
+pub first-more : (listed : List ℕ) (m : ℕ) (marks more : List Bool) (found : List ℕ) (p : ℕ) → HasFirst listed m marks found → slice_get listed m ≡ Some p
+    → ((j : ℕ) → j ≢ p → slice_get more j ≡ slice_get marks j) → HasFirst listed (m + 1) more (found ++ (p ∷ []))
+first-more listed m marks more found p are at others = record {
+  marked = λ j mark. marked j mark (same_or_other j p);
+  each = λ n j l is. go n j is (last_or_before m n (omega arith));
+}
+  where
+    marked : (j : ℕ) → slice_get more j ≡ Some true → (j ≡ p) ⊎ (j ≢ p) → Contains (found ++ (p ∷ [])) j
+    marked j mark (inl e) = subst (λ (o : ℕ). Contains (found ++ (p ∷ [])) o) (sym e) (contains-last found p)
+    marked j mark (inr d) = contains-before found p j (are.marked j (sym (others j d) ∙ mark))
+
+    go : (n j : ℕ) → slice_get listed n ≡ Some j → (n ≡ m) ⊎ (n < m) → Contains (found ++ (p ∷ [])) j
+    go n j is (inl e) =
+        subst (λ (o : ℕ). Contains (found ++ (p ∷ [])) o) (same_Some p j (sym at ∙ (ap (λ (o : ℕ). slice_get listed o) (sym e) ∙ is))) (contains-last found p)
+    go n j is (inr l) = contains-before found p j (are.each n j l is)
+
+-- when all were looked at
+pub first-all : (listed : List ℕ) (marks : List Bool) (found : List ℕ) → HasFirst listed (length listed) marks found → HasAll listed found
+first-all listed marks found are = record { each = λ j named. are.each named.at j (slice_get_within listed named.at j named.is) named.is }
+
+-- a list that has all of its row's list takes its place
+pub listed-list : (columns : List Column) (lists : List RowColumns) (n m r : ℕ) (l s : RowColumns) → AreListed columns lists n m → slice_get lists r ≡ Some l
+    → HasAll l.columns.items s.columns.items → AreListed columns (slice_set lists r s) n m
+listed-list columns lists n m r l s are is all = record { each = λ i j x a b at d. go i j (are.each i j x a b at d) (same_or_other i r) }
+  where
+    go : (i j : ℕ) → Names lists i j → (i ≡ r) ⊎ (i ≢ r) → Names (slice_set lists r s) i j
+    go i j h (inl e) =
+        let same : l ≡ h.list = same_Some l h.list (sym is ∙ (ap (λ (k : ℕ). slice_get lists k) (sym e) ∙ h.of)) in
+        record {
+          list = s;
+          of = ap (λ (k : ℕ). slice_get (slice_set lists r s) k) e ∙ slice_get-set_same lists r s (slice_get_within lists r l is);
+          has = all.each j (subst (λ (y : RowColumns). Contains y.columns.items j) (sym same) h.has);
+        }
+    go i j h (inr d) = record { list = h.list; of = slice_get-set_other lists r i s d ∙ h.of; has = h.has }

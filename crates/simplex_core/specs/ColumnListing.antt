@@ -10,6 +10,15 @@ pub record Contains (listed : List ℕ) (j : ℕ) : Type 0 where
   pub at : ℕ
   pub is : slice_get listed at ≡ Some j
 
+-- one list names each column that another names
+pub record HasAll (listed found : List ℕ) : Type 0 where
+  pub each : (j : ℕ) → Contains listed j → Contains found j
+
+-- it names the first m of them, and each that has a mark
+pub record HasFirst (listed : List ℕ) (m : ℕ) (marks : List Bool) (found : List ℕ) : Type 0 where
+  pub marked : (j : ℕ) → slice_get marks j ≡ Some true → Contains found j
+  pub each : (n j : ℕ) → n < m → slice_get listed n ≡ Some j → Contains found j
+
 -- the list of row i names column j
 pub record Names (lists : List RowColumns) (i j : ℕ) : Type 0 where
   pub list : RowColumns

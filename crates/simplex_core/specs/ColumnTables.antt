@@ -114,3 +114,12 @@ pub record ClearsRight (old new : ColumnTable) (r : ℕ) (pivot : ℤ) (shifted 
   pub kept : new.columns.items ≡ old.columns.items
   pub lists : new.lists.items ≡ old.lists.items
   pub cleared : IsCleared old.right new.right r pivot shifted
+
+-- the lists are right, and all else is as before
+pub record ChangesLists (old new : ColumnTable) : Type 0 where
+  pub rows : new.rows ≡ old.rows
+  pub columns : new.width ≡ old.width
+  pub basis : new.basis.items ≡ old.basis.items
+  pub right : new.right ≡ old.right
+  pub kept : new.columns.items ≡ old.columns.items
+  pub listed : IsListed new

@@ -1,7 +1,7 @@
 //! For each row the columns that may have a number there.
 
-ghost use Rattle.std.specs.Prelude.{◌≡◌, ◌<◌, ◌^◌, IfOk, true, Some, slice_get, length, ◌++◌, [], ◌∷◌};
-ghost use Rattle.simplex_core.specs.ColumnListing.{AreListed, PutsAt, PutsNew, AreRowsBelow, AreCellsOf};
+ghost use Rattle.std.specs.Prelude.{◌≡◌, ℕ, ◌+◌, ◌<◌, ◌^◌, IfOk, true, Some, slice_get, length, ◌++◌, List, [], ◌∷◌};
+ghost use Rattle.simplex_core.specs.ColumnListing.{AreListed, PutsAt, PutsNew, AreRowsBelow, AreCellsOf, HasAll, HasFirst};
 ghost use Rattle.sparse_columns.specs.declared.cell.Cell.{Cell};
 ghost use Rattle.sparse_columns.specs.declared.column.Column.{Column};
 
@@ -38,6 +38,17 @@ impl RowColumns {
         self.columns.as_slice()
     }
 
+    /// Where there are more than twice so many, takes out those that stand there before.
+    pub(super) fn shorten(&mut self, alloc: Global, count: usize) -> Result<(), AllocError>
+        ensures { IfOk result (λ _. HasAll self.old.columns.items self.new.columns.items) }
+    {
+        if self.columns.len() / 2 <= count {
+            return Ok(());
+        }
+        self.columns = each_once(alloc, self.columns.as_slice(), count)?;
+        Ok(())
+    }
+
     /// Adds a column.
     fn push(&mut self, column: u32) -> Result<(), AllocError>
         ensures { IfOk result (λ _. self.new.columns.items ≡ self.old.columns.items ++ column ∷ []) }
@@ -45,6 +56,37 @@ impl RowColumns {
         self.columns.push(column)?;
         Ok(())
     }
+}
+
+/// Those of these columns that don't stand there before, of a table of so many.
+fn each_once(alloc: Global, listed: &[u32], count: usize) -> Result<Vec<u32>, AllocError>
+    ensures { IfOk result (λ found. HasAll listed.now found.items) }
+{
+    let mut marks = vec![in alloc; false; count]?;
+    let mut found = Vec::with_capacity(alloc, count)?;
+    for place in 0..listed.len() {
+        keep(listed[place], &mut marks, &mut found)?;
+    }
+    Ok(found)
+}
+
+/// Puts a column behind those that were found, and marks it, if it has no mark.
+fn keep(position: u32, marks: &mut Vec<bool>, found: &mut Vec<u32>) -> Result<(), AllocError>
+    ensures { IfOk result (λ _. (listed : List ℕ) (m : ℕ) → slice_get listed m ≡ Some position
+        → HasFirst listed m marks.old.items found.old.items
+        → HasFirst listed (m + 1) marks.new.items found.new.items) }
+{
+    let place = position as usize;
+    if place >= marks.len() {
+        found.push(position)?;
+        return Ok(());
+    }
+    if marks[place] {
+        return Ok(());
+    }
+    marks[place] = true;
+    found.push(position)?;
+    Ok(())
 }
 
 /// For each row the columns with a number there.

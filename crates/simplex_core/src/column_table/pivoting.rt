@@ -5,14 +5,15 @@ ghost use Rattle.std.specs.Prelude.{length};
 ghost use Rattle.sparse_columns.specs.declared.cell.Cell.{Cell};
 ghost use Rattle.sparse_columns.specs.declared.column.Column.{Column};
 ghost use Rattle.sparse_columns.specs.Columns.{numerator};
-ghost use Rattle.simplex_core.specs.ColumnListing.{AreTouched};
-ghost use Rattle.simplex_core.specs.ColumnTables.{IsPivotedBy, ClearsColumns, ClearsTouched, ClearsColumn, ClearsRight, IsListed};
+ghost use Rattle.simplex_core.specs.ColumnListing.{AreTouched, AreRowsBelow};
+ghost use Rattle.simplex_core.specs.ColumnTables.{IsPivotedBy, ClearsColumns, ClearsTouched, ClearsColumn, ClearsRight};
+ghost use Rattle.simplex_core.specs.ColumnTables.{ChangesLists, IsListed};
 
 use crate::column_table::ColumnTable;
 use crate::column_table::lists::{RowColumns, put_new};
 use crate::simplex_table::Unmade;
 use sparse_columns::{Cell, Cells};
-use std::alloc::Global;
+use std::alloc::{AllocError, Global};
 
 impl ColumnTable {
     /// Pivots at a row and a column with a number over 0 there. `Beyond` where a number has no room; the table is then
@@ -72,8 +73,23 @@ impl ColumnTable {
         ensures { IfOk result (λ _. ClearsColumns self.old self.new row pivot shifted.now.items.items) }
     {
         let touched = self.touched_columns(alloc, row)?;
+        self.shorten(alloc, shifted.before(self.rows))?;
         self.clear_touched(alloc, row, pivot, shifted, touched.as_slice())?;
         self.lists[row as usize] = RowColumns::of(touched);
+        Ok(())
+    }
+
+    /// Makes the lists of these cells' rows shorter, which may have got long: so none ever names more than three times as
+    /// many columns as there are.
+    fn shorten(&mut self, alloc: Global, cells: &[Cell]) -> Result<(), AllocError>
+        requires cells { AreRowsBelow cells.now self.old.rows }
+        requires listed { IsListed self.old }
+        ensures { IfOk result (λ _. ChangesLists self.old self.new) }
+    {
+        let count = self.columns.len();
+        for cell in cells {
+            self.lists[cell.row as usize].shorten(alloc, count)?;
+        }
         Ok(())
     }
 
