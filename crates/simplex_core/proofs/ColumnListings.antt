@@ -1,5 +1,5 @@
 -- How the lists of the rows are kept.
-use Rattle.std.proofs.Common.{◌≡◌, ◌≢◌, ℕ, zero, suc, ◌+◌, ◌<◌, ap, arith, refl, sym, ◌∙◌, subst, ◌⊎◌, inl, inr, Bool, true, false, List, [], ◌∷◌, ◌++◌, Some, length, length-append, replicate}
+use Rattle.std.proofs.Common.{◌≡◌, ◌≢◌, ℕ, zero, suc, ◌+◌, ◌<◌, ◌≤◌, ap, arith, refl, sym, ◌∙◌, subst, ◌⊎◌, inl, inr, Bool, true, false, List, [], ◌∷◌, ◌++◌, Some, length, length-append, replicate}
 use Rattle.std.specs.Prelude.{ℤ, pos, ◌-ℤ◌, ◌*ℤ◌, ◌<ℤ◌, slice_get, slice_set}
 use Rattle.std.proofs.lemmas.Int.{ints}
 use Rattle.std.proofs.lemmas.List.{length-set}
@@ -13,7 +13,7 @@ use Rattle.sparse_columns.specs.declared.column.Column.{Column}
 use Rattle.sparse_columns.specs.Numbers.{number_of}
 use Rattle.sparse_columns.specs.Columns.{numerator, IsCleared}
 use Rattle.simplex_core.specs.declared.column_table.lists.RowColumns.{RowColumns}
-use Rattle.simplex_core.specs.ColumnListing.{Contains, Names, AreListed, PutsAt, PutsNew, AreTouched, AreMarked, HasAll, HasFirst}
+use Rattle.simplex_core.specs.ColumnListing.{Contains, Names, AreListed, PutsAt, PutsNew, AreTouched, AreMarked, AreBlank, Covers, Unmarks, UnmarksAt, HasAll, HasFirst}
 use Rattle.simplex_core.proofs.Positions.{slice_get-set_same, slice_get-set_other, slice_get-there}
 use Rattle.simplex_core.proofs.Extraction.{slice_get-last, slice_get-before}
 use Rattle.simplex_core.proofs.Searches.{last_or_before}
@@ -107,12 +107,70 @@ length-marks : (n : ℕ) → length (replicate n false) ≡ n
 length-marks zero = refl
 length-marks (suc n) = ap suc (length-marks n)
 
+-- such marks are blank
+pub blank-none : (marks : List Bool) (n m : ℕ) → marks ≡ replicate n false → n ≡ m → AreBlank marks m
+blank-none marks n m e f = record {
+  length_is = ap (λ (ms : List Bool). length ms) e ∙ (length-marks n ∙ f);
+  each = λ j mark. no-mark n j (ap (λ (ms : List Bool). slice_get ms j) (sym e) ∙ mark);
+}
+
+-- the same marks for the same number of columns
+pub blank-sizes : (marks more : List Bool) (n m : ℕ) → AreBlank marks n → more ≡ marks → m ≡ n → AreBlank more m
+blank-sizes marks more n m blank e f = record {
+  length_is = ap (λ (ms : List Bool). length ms) e ∙ (blank.length_is ∙ sym f);
+  each = λ j mark. blank.each j (ap (λ (ms : List Bool). slice_get ms j) (sym e) ∙ mark);
+}
+
+-- no column's mark is taken yet
+pub unmark-none : (marks : List Bool) (touched : List ℕ) → Unmarks marks marks touched 0
+unmark-none marks touched = record { length_is = refl; each = λ k mark. (mark, λ n l. absurd (omega arith)) }
+
+-- one more is taken
+pub unmark-more : (a b d : List Bool) (touched : List ℕ) (m p : ℕ) → Unmarks a b touched m → UnmarksAt b d p → slice_get touched m ≡ Some p → Unmarks a d touched (m + 1)
+unmark-more a b d touched m p all one at = record {
+  length_is = one.length_is ∙ all.length_is;
+  each = λ k mark.
+      let here = one.each k mark in
+      let before = all.each k here.0 in
+      (before.0, λ n l is. apart k n here.1 before.1 is (last_or_before m n (omega arith)));
+}
+  where
+    apart : (k n : ℕ) → k ≢ p → ((o : ℕ) → o < m → slice_get touched o ≢ Some k) → slice_get touched n ≡ Some k → (n ≡ m) ⊎ (n < m) → ⊥
+    apart k n d before is (inl e) = d (same_Some k p (sym is ∙ (ap (λ (o : ℕ). slice_get touched o) e ∙ at)))
+    apart k n d before is (inr l) = before n l is
+
+-- a column's mark is taken
+pub unmark-here : (marks : List Bool) (p : ℕ) → p < length marks → UnmarksAt marks (slice_set marks p false) p
+unmark-here marks p below = record { length_is = length-set marks p false; each = λ k mark. go k mark (same_or_other k p) }
+  where
+    go : (k : ℕ) → slice_get (slice_set marks p false) k ≡ Some true → (k ≡ p) ⊎ (k ≢ p) → (slice_get marks k ≡ Some true) × (k ≢ p)
+    go k mark (inl e) =
+        let off = slice_get-set_same marks p false below in
+        let wrong : Some false ≡ Some true = sym off ∙ (ap (λ (n : ℕ). slice_get (slice_set marks p false) n) (sym e) ∙ mark) in
+        cc
+    go k mark (inr d) = (sym (slice_get-set_other marks p k false d) ∙ mark, d)
+
+-- there is none to take
+pub unmark-outside : (marks : List Bool) (p : ℕ) → length marks ≤ p → UnmarksAt marks marks p
+unmark-outside marks p above = record { length_is = refl; each = λ k mark. (mark, λ e. let within = slice_get_within marks k true mark in absurd (omega (arith, within, above, e))) }
+
+-- when the marks of all that were found are taken, none is left
+pub unmarked-blank : (columns : List Column) (r : ℕ) (listed : List ℕ) (m : ℕ) (marks after : List Bool) (touched : List ℕ) → AreMarked columns r listed m marks touched
+    → Unmarks marks after touched (length touched) → AreBlank after (length columns)
+unmarked-blank columns r listed m marks after touched are un = record {
+  length_is = un.length_is ∙ are.length_is;
+  each = λ k mark.
+      let parts = un.each k mark in
+      let named = are.marked k parts.0 in
+      parts.1 named.at (slice_get_within touched named.at k named.is) named.is;
+}
+
 -- before any column is looked at
-pub marked-none : (columns : List Column) (r : ℕ) (listed : List ℕ) (marks : List Bool) (touched : List ℕ) → marks ≡ replicate (length columns) false → touched ≡ []
+pub marked-none : (columns : List Column) (r : ℕ) (listed : List ℕ) (marks : List Bool) (touched : List ℕ) → AreBlank marks (length columns) → touched ≡ []
     → AreMarked columns r listed 0 marks touched
-marked-none columns r listed marks touched e f = record {
-  length_is = ap (λ (ms : List Bool). length ms) e ∙ length-marks (length columns);
-  marked = λ j mark. absurd (no-mark (length columns) j (ap (λ (ms : List Bool). slice_get ms j) (sym e) ∙ mark));
+marked-none columns r listed marks touched blank f = record {
+  length_is = blank.length_is;
+  marked = λ j mark. absurd (blank.each j mark);
   own = λ k j is. absurd (nothing k j is);
   there = λ k j is. absurd (nothing k j is);
   once = λ k l j is at. absurd (nothing k j is);
@@ -203,12 +261,12 @@ marked-more columns r listed m marks touched p y are at below unmarked is_y numb
 
 -- when all that are listed were looked at, and each column with a number is listed
 pub marked-all : (columns : List Column) (r : ℕ) (listed : List ℕ) (marks : List Bool) (touched : List ℕ) → AreMarked columns r listed (length listed) marks touched
-    → ((j : ℕ) (x : Column) → slice_get columns j ≡ Some x → numerator x r ≢ pos 0 → Contains listed j) → AreTouched columns r touched
+    → Covers columns r listed → AreTouched columns r touched
 marked-all columns r listed marks touched are covers = record {
   there = are.there;
   once = are.once;
   all = λ j x is d.
-      let named = covers j x is d in
+      let named = covers.each j x is d in
       are.all named.at j x (slice_get_within listed named.at j named.is) named.is is d;
 }
 

@@ -1,5 +1,5 @@
 -- For each row the columns that may have a number there, and how these lists are kept.
-use Rattle.std.specs.Prelude.{◌≡◌, ◌≢◌, ℕ, ◌<◌, ℤ, pos, Bool, true, List, Some, length, slice_get}
+use Rattle.std.specs.Prelude.{◌≡◌, ◌≢◌, ℕ, ◌<◌, pos, Bool, true, List, Some, length, slice_get}
 use Rattle.sparse_columns.specs.declared.cell.Cell.{Cell}
 use Rattle.sparse_columns.specs.declared.column.Column.{Column}
 use Rattle.sparse_columns.specs.Columns.{numerator}
@@ -51,12 +51,32 @@ pub record PutsNew (old new : List RowColumns) (x : Column) (cells : List Cell) 
   pub kept : (k l : ℕ) → Names old k l → Names new k l
   pub put : (k : ℕ) (c : Cell) → k < m → slice_get cells k ≡ Some c → numerator x c.row ≡ pos 0 → Names new c.row j
 
+-- there is a mark for each of n columns, and none is set
+pub record AreBlank (marks : List Bool) (n : ℕ) : Type 0 where
+  pub length_is : length marks ≡ n
+  pub each : (j : ℕ) → slice_get marks j ≢ Some true
+
+-- column j's mark isn't set, and no other is that wasn't
+pub record UnmarksAt (old new : List Bool) (j : ℕ) : Type 0 where
+  pub length_is : length new ≡ length old
+  pub each : (k : ℕ) → slice_get new k ≡ Some true → (slice_get old k ≡ Some true) × (k ≢ j)
+
+-- so it is of the first m of these columns
+pub record Unmarks (old new : List Bool) (touched : List ℕ) (m : ℕ) : Type 0 where
+  pub length_is : length new ≡ length old
+  pub each : (k : ℕ) → slice_get new k ≡ Some true
+      → (slice_get old k ≡ Some true) × ((n : ℕ) → n < m → slice_get touched n ≢ Some k)
+
 -- these are the columns with a number in row r, each once
 pub record AreTouched (columns : List Column) (r : ℕ) (touched : List ℕ) : Type 0 where
   pub there : (k j : ℕ) → slice_get touched k ≡ Some j
       → (x : Column) × (slice_get columns j ≡ Some x) × (numerator x r ≢ pos 0)
   pub once : (k l j : ℕ) → slice_get touched k ≡ Some j → slice_get touched l ≡ Some j → k ≡ l
   pub all : (j : ℕ) (x : Column) → slice_get columns j ≡ Some x → numerator x r ≢ pos 0 → Contains touched j
+
+-- the list names each column with a number in row r
+pub record Covers (columns : List Column) (r : ℕ) (listed : List ℕ) : Type 0 where
+  pub each : (j : ℕ) (x : Column) → slice_get columns j ≡ Some x → numerator x r ≢ pos 0 → Contains listed j
 
 -- of the first m listed columns these are the ones with a number in row r, each once, and they have a mark
 pub record AreMarked (columns : List Column) (r : ℕ) (listed : List ℕ) (m : ℕ) (marks : List Bool) (touched : List ℕ)

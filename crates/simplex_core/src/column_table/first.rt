@@ -56,11 +56,14 @@ pub(crate) fn first_columns(
     };
     let basis = first_basis(alloc, problem.rows as usize, problem.cols as usize)?;
     let lists = first_lists(alloc, columns.as_slice(), problem.rows)?;
+    let marks = vec![in alloc; false; columns.len()]?;
     Ok(Some(ColumnTable {
         columns,
         right,
         basis,
         lists,
+        marks,
+        first: 0,
         rows: problem.rows,
         width: problem.cols,
     }))

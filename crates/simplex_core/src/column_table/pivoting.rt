@@ -1,18 +1,18 @@
 //! The pivot.
 
-ghost use Rattle.std.specs.Prelude.{◌≡◌, ℕ, ◌+◌, ◌<◌, ◌^◌, ℤ, pos, ◌<ℤ◌, Some, IfOk, List, slice_get, unsigned_abs};
+ghost use Rattle.std.specs.Prelude.{◌≡◌, ℕ, ◌+◌, ◌<◌, ◌≤◌, ◌^◌, ℤ, pos, ◌<ℤ◌, ◌≤ℤ◌, Some, IfOk, List, slice_get, unsigned_abs};
 ghost use Rattle.std.specs.Prelude.{length};
 ghost use Rattle.sparse_columns.specs.declared.cell.Cell.{Cell};
 ghost use Rattle.sparse_columns.specs.declared.column.Column.{Column};
 ghost use Rattle.sparse_columns.specs.Columns.{numerator};
 ghost use Rattle.simplex_core.specs.ColumnListing.{AreTouched, AreRowsBelow};
 ghost use Rattle.simplex_core.specs.ColumnTables.{IsPivotedBy, ClearsColumns, ClearsTouched, ClearsColumn, ClearsRight};
-ghost use Rattle.simplex_core.specs.ColumnTables.{ChangesLists, IsListed};
+ghost use Rattle.simplex_core.specs.ColumnTables.{ChangesBeside, IsKept, IsFirst, AreNotNegative};
 
 use crate::column_table::ColumnTable;
 use crate::column_table::lists::{RowColumns, put_new};
 use crate::simplex_table::Unmade;
-use sparse_columns::{Cell, Cells};
+use sparse_columns::{Cell, Cells, Column};
 use std::alloc::{AllocError, Global};
 
 impl ColumnTable {
@@ -22,7 +22,7 @@ impl ColumnTable {
         requires row { row < self.old.rows }
         requires column { column < self.old.width }
         requires positive { (x : Column) → slice_get self.old.columns.items column ≡ Some x → pos 0 <ℤ numerator x row }
-        requires listed { IsListed self.old }
+        requires beside { IsKept self.old }
         ensures { IfOk result (λ _. (pivot : ℤ) × (shifted : List Cell)
             × IsPivotedBy self.old self.new row column pivot shifted) }
     {
@@ -33,7 +33,22 @@ impl ColumnTable {
         self.clear_right(alloc, row, pivot, shifted.before(self.rows))?;
         self.clear_columns(alloc, row, pivot, &shifted)?;
         self.basis[row as usize] = column as u32;
+        self.first = self.next_first();
         Ok(())
+    }
+
+    /// The least column from the first one on with a number below 0 in the first cost row; the number of columns, if none
+    /// has one.
+    fn next_first(&self) -> u32
+        ensures within { result ≤ self.now.width }
+        ensures first { IsFirst self.now → AreNotNegative self.now.columns.items self.now.rows result }
+    {
+        for position in self.first..self.width {
+            if self.columns[position as usize].late(self.rows) < 0 {
+                return position;
+            }
+        }
+        self.width
     }
 
     /// Clears the right side of a row. Where it is 0, the right sides stay as they are.
@@ -69,7 +84,7 @@ impl ColumnTable {
         requires row { row < self.old.rows }
         requires pivot { unsigned_abs pivot < 2 ^ 31 }
         requires positive { pos 0 <ℤ pivot }
-        requires listed { IsListed self.old }
+        requires beside { IsKept self.old }
         ensures { IfOk result (λ _. ClearsColumns self.old self.new row pivot shifted.now.items.items) }
     {
         let touched = self.touched_columns(alloc, row)?;
@@ -83,8 +98,8 @@ impl ColumnTable {
     /// many columns as there are.
     fn shorten(&mut self, alloc: Global, cells: &[Cell]) -> Result<(), AllocError>
         requires cells { AreRowsBelow cells.now self.old.rows }
-        requires listed { IsListed self.old }
-        ensures { IfOk result (λ _. ChangesLists self.old self.new) }
+        requires beside { IsKept self.old }
+        ensures { IfOk result (λ _. ChangesBeside self.old self.new) }
     {
         let count = self.columns.len();
         for cell in cells {
@@ -114,7 +129,8 @@ impl ColumnTable {
         Ok(())
     }
 
-    /// Clears a column's number in a row, and puts the column into the list of each row where that makes a number.
+    /// Clears a column's number in a row, and puts the column into the list of each row where that makes a number. Where it
+    /// makes a number below 0 in the first cost row, the first column is this one or before it.
     fn clear_column(
         &mut self,
         alloc: Global,
@@ -134,7 +150,22 @@ impl ColumnTable {
             return Err(Unmade::Beyond);
         };
         put_new(&mut self.lists, old, self.rows, front, position)?;
+        self.first = lesser(self.first, position, &column, self.rows);
         self.columns[position as usize] = column;
         Ok(())
     }
+}
+
+/// The lesser of the first column and this one, if this one has a number below 0 in a row; else the first one.
+fn lesser(first: u32, position: u32, column: &Column, row: u32) -> u32
+    ensures within { result ≤ first }
+    ensures own { position < result → pos 0 ≤ℤ numerator column.now row }
+{
+    if first <= position {
+        return first;
+    }
+    if column.late(row) >= 0 {
+        return first;
+    }
+    position
 }

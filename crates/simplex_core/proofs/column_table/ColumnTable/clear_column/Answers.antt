@@ -1,5 +1,5 @@
 use Rattle.std.proofs.Common.{◌≡◌, ap, sym, ◌∙◌, subst, Some, Option, refl, arith, length, to_z, of_z, ℕ, List}
-use Rattle.std.specs.Prelude.{ℤ, pos, slice_get, IfSome}
+use Rattle.std.specs.Prelude.{ℤ, slice_get, IfSome}
 use Rattle.std.specs.Int.{w64}
 use Rattle.std.proofs.lemmas.Int.{to_z-of_z}
 use Rattle.std.proofs.lemmas.Option.{slice_get_read, slice_get_within, same_Some}
@@ -8,6 +8,7 @@ use Rattle.sparse_columns.specs.declared.column.Column.{Column}
 use Rattle.sparse_columns.specs.Columns.{numerator, IsCleared}
 use Rattle.simplex_core.specs.ColumnListing.{Names}
 use Rattle.simplex_core.proofs.Positions.{slice_get-set_same, slice_get-set_other}
+use Rattle.simplex_core.proofs.ColumnTableLaws.{not_negative-set}
 use Rattle.simplex_core.proofs.column_table.ColumnTable.clear_column.Goals as goal
 
 pub put_new-requires : goal.put_new-requires
@@ -45,4 +46,6 @@ returns c =
           subst (λ (k : ℕ). Names c.put_new.new.lists.items k c.args.position) there.3
           (puts.put there.0 there.1 (slice_get_within front there.0 there.1 there.2) there.2
           (ap (λ (k : ℕ). numerator column k) there.3 ∙ (ap (λ (y : Column). numerator y i) same ∙ none)));
+      marks = refl;
+      first = λ h. not_negative-set items c.args.self.now.rows c.args.self.now.first c.lesser-self.result c.args.position made h c.lesser-self.ensures.within c.requires.position c.lesser-self.ensures.own;
     }

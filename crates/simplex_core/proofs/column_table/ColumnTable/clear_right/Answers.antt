@@ -19,6 +19,8 @@ returns-then-at-eq0 c =
       basis = refl;
       kept = refl;
       lists = refl;
+      marks = refl;
+      first = refl;
       cleared = cleared-none right c.args.row c.args.pivot c.args.shifted.now zero;
     }
 
@@ -36,5 +38,7 @@ returns c =
       basis = refl;
       kept = refl;
       lists = refl;
+      marks = refl;
+      first = refl;
       cleared = told;
     }

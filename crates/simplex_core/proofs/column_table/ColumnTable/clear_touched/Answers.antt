@@ -1,5 +1,5 @@
-use Rattle.std.proofs.Common.{◌≡◌, ℕ, ◌+◌, subst, refl, arith, to_z, of_z, get_or, length}
-use Rattle.std.specs.Prelude.{ℤ, slice_get}
+use Rattle.std.proofs.Common.{◌≡◌, ℕ, subst, refl, arith, to_z, of_z, get_or, length}
+use Rattle.std.specs.Prelude.{ℤ}
 use Rattle.std.specs.Int.{w64}
 use Rattle.std.proofs.lemmas.Int.{to_z-of_z}
 use Rattle.std.proofs.lemmas.Option.{slice_get-get_or, slice_get_within}
@@ -17,6 +17,8 @@ loop-place-init c = record {
   others = λ j d. refl;
   kept = λ i j h. h;
   put = λ n j a i l is is_a below e f. absurd (omega arith);
+  marks = refl;
+  first = λ h. h;
 }
 
 pub clear_column-requires-clause-position : goal.clear_column-requires-clause-position

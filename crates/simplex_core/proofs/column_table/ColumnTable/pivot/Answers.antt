@@ -9,8 +9,9 @@ use Rattle.sparse_columns.specs.Numbers.{alone, number}
 use Rattle.sparse_columns.specs.Columns.{numerator, IsCleared}
 use Rattle.simplex_core.specs.declared.column_table.lists.RowColumns.{RowColumns}
 use Rattle.simplex_core.specs.ColumnListing.{AreListed}
-use Rattle.simplex_core.proofs.ColumnListings.{listed-sizes}
-use Rattle.simplex_core.proofs.ColumnTableLaws.{column-read}
+use Rattle.simplex_core.specs.ColumnTables.{IsListed}
+use Rattle.simplex_core.proofs.ColumnListings.{listed-sizes, blank-sizes}
+use Rattle.simplex_core.proofs.ColumnTableLaws.{column-read, not_negative-sizes}
 use Rattle.simplex_core.proofs.column_table.ColumnTable.pivot.Goals as goal
 
 pub clear_right-requires-clause-positive : goal.clear_right-requires-clause-positive
@@ -31,17 +32,22 @@ clear_columns-requires-clause-positive c =
     let bounded = c.at-pivot.ensures.bounded in
     omega (arith, ints, positive, value, bounded)
 
-pub clear_columns-requires-clause-listed : goal.clear_columns-requires-clause-listed
-clear_columns-requires-clause-listed c =
+pub clear_columns-requires-clause-beside : goal.clear_columns-requires-clause-beside
+clear_columns-requires-clause-beside c =
     let table = c.args.self.now in
     let mid = c.clear_right.new.self in
     let right = c.in_ok-clear_right.ensures in
     let rows = right.rows in
     let columns = right.columns in
-    listed-sizes mid.columns.items mid.lists.items table.rows (table.width + table.rows) _ _
+    let lists : IsListed mid = listed-sizes mid.columns.items mid.lists.items table.rows (table.width + table.rows) _ _
     (subst (λ (ls : List RowColumns). AreListed mid.columns.items ls table.rows (table.width + table.rows)) (sym right.lists)
-    (subst (λ (xs : List Column). AreListed xs table.lists.items table.rows (table.width + table.rows)) (sym right.kept) c.requires.listed))
-    rows (omega (arith, rows, columns))
+    (subst (λ (xs : List Column). AreListed xs table.lists.items table.rows (table.width + table.rows)) (sym right.kept) c.requires.beside.lists))
+    rows (omega (arith, rows, columns)) in
+    record {
+      lists = lists;
+      first = not_negative-sizes table.columns.items mid.columns.items table.rows table.first mid.rows mid.first c.requires.beside.first right.kept rows right.first;
+      blank = blank-sizes table.marks.items mid.marks.items _ _ c.requires.beside.blank right.marks (omega (arith, rows, columns));
+    }
 
 pub returns : goal.returns
 returns c =
@@ -69,6 +75,6 @@ returns c =
         front = c.before-2.result.now;
         fronts = λ i l. c.before-2.ensures.numbers i l;
         right = subst (λ (x : Column). IsCleared table.right x c.args.row (to_z w64 (of_z w64 c.at-pivot.result)) c.before-2.result.now) (sym cleared.right) right.cleared;
-        listed = cleared.listed;
+        beside = record { lists = cleared.beside.lists; first = c.next_first-self.ensures.first cleared.beside.first; blank = cleared.beside.blank };
       },
     )

@@ -1,6 +1,6 @@
-use Rattle.std.proofs.Common.{◌≡◌, ◌<◌, ◌∙◌, refl, arith, length, subst, ℕ, List}
+use Rattle.std.proofs.Common.{◌<◌, refl, arith, length}
 use Rattle.std.proofs.lemmas.Option.{slice_get_read}
-use Rattle.simplex_core.proofs.ColumnListings.{listed-list, listed-sizes}
+use Rattle.simplex_core.proofs.ColumnListings.{listed-list}
 use Rattle.simplex_core.proofs.column_table.ColumnTable.shorten.Goals as goal
 
 pub loop-cell-preserved : goal.loop-cell-preserved
@@ -23,5 +23,9 @@ loop-cell-preserved c =
       basis = before.basis;
       right = before.right;
       kept = before.kept;
-      listed = listed-list table.columns.items lists table.rows _ cell.row list c.shorten.new.self before.listed read c.in_ok-shorten.ensures;
+      beside = record {
+        lists = listed-list table.columns.items lists table.rows _ cell.row list c.shorten.new.self before.beside.lists read c.in_ok-shorten.ensures;
+        first = before.beside.first;
+        blank = before.beside.blank;
+      };
     }

@@ -1,8 +1,10 @@
-use Rattle.std.proofs.Common.{◌≡◌, arith, ℕ, ◌+◌, ap, ◌∙◌, sym, subst, length, Option, refl, List}
+use Rattle.std.proofs.Common.{rules, ◌≡◌, arith, replicate, false, ℕ, ◌+◌, ap, ◌∙◌, sym, subst, length, Option, refl, List}
 use Rattle.std.specs.Prelude.{ℤ, IfSome}
 use Rattle.sparse_columns.specs.declared.column.Column.{Column}
 use Rattle.simplex_core.specs.ColumnBuilding.{AreColumns, AreSides, entries_at, with_cost_columns, with_units}
 use Rattle.simplex_core.specs.ColumnListing.{AreListed}
+use Rattle.simplex_core.proofs.ColumnListings.{blank-none}
+use Rattle.simplex_core.proofs.ColumnTableLaws.{not_negative-none}
 use Rattle.simplex_core.proofs.FirstColumns.{built-shows, entries-outside}
 use Rattle.simplex_core.proofs.column_table.first.first_columns.Goals as goal
 
@@ -21,6 +23,7 @@ invariant_of-result c =
       unknowns = units.length_is ∙ ap (λ (n : ℕ). n + q.rows) size;
       listed = c.in_ok-lists.ensures.length;
       based = c.in_ok-basis.ensures.length;
+      within = omega arith;
       few_rows = c.requires.proper.rows;
       few_columns = c.requires.proper.columns;
     }
@@ -62,5 +65,10 @@ returns c =
     (subst (λ (xs : List ℤ). AreSides c.in-Some.right xs (length xs)) c.as_slice-5.ensures.value told) in
     built-shows q _ c.as_slice.result.now c.as_slice-2.result.now c.as_slice-3.result.now c.as_slice-4.result.now c.requires.proper refl refl
     c.as_slice.ensures.value c.as_slice-2.ensures.value c.as_slice-3.ensures.value c.as_slice-4.ensures.value all sides c.in_ok-basis.ensures.each
-    (subst (λ (n : ℕ). AreListed c.push_units.new.columns.items c.in_ok-lists.lists.items q.rows n) (ap (λ (xs : List Column). length xs) c.as_slice-6.ensures.value ∙ all.length_is)
-    (subst (λ (xs : List Column). AreListed xs c.in_ok-lists.lists.items q.rows (length c.as_slice-6.result.now)) c.as_slice-6.ensures.value c.in_ok-lists.ensures.listed))
+    (record {
+      first = not_negative-none c.push_units.new.columns.items q.rows;
+      blank = blank-none c.in_ok-marks.marks.items (length c.push_units.new.columns.items) (q.cols + q.rows)
+          (c.in_ok-marks.ensures.items_if_clones_equal (λ y h. h) ∙ ap (λ (n : ℕ). replicate n false) (c.len.ensures ∙ (search rules))) all.length_is;
+      lists = subst (λ (n : ℕ). AreListed c.push_units.new.columns.items c.in_ok-lists.lists.items q.rows n) (ap (λ (xs : List Column). length xs) c.as_slice-6.ensures.value ∙ all.length_is)
+          (subst (λ (xs : List Column). AreListed xs c.in_ok-lists.lists.items q.rows (length c.as_slice-6.result.now)) c.as_slice-6.ensures.value c.in_ok-lists.ensures.listed);
+    })

@@ -1,5 +1,5 @@
-use Rattle.std.proofs.Common.{◌≡◌, ◌<◌, ◌+◌, ◌++◌, ap, sym, ◌∙◌, refl, arith, length, subst, Some, true, ℕ, List, [], ◌∷◌}
-use Rattle.std.specs.Prelude.{slice_get, slice_set}
+use Rattle.std.proofs.Common.{◌≡◌, ◌<◌, ◌+◌, ap, sym, ◌∙◌, refl, arith, length, subst, Some, true, ℕ, List}
+use Rattle.std.specs.Prelude.{slice_set}
 use Rattle.std.proofs.lemmas.Option.{slice_get_read}
 use Rattle.simplex_core.specs.ColumnListing.{HasFirst}
 use Rattle.simplex_core.proofs.ColumnListings.{first-same, first-more}

@@ -24,5 +24,5 @@ returns c = made_or_given_up c.pivot.result _ _ (λ _ made. record {
       (int_lt-true (pos 0) (t.entry c.in-Some.cell.row c.args.column) best.candidate);
 }) c.pivot.ensures
 
-pub pivot-requires-clause-listed : goal.pivot-requires-clause-listed
-pivot-requires-clause-listed c = c.requires.shown.listed
+pub pivot-requires-clause-beside : goal.pivot-requires-clause-beside
+pivot-requires-clause-beside c = c.requires.shown.beside

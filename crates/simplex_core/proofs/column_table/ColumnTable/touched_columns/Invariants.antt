@@ -1,6 +1,0 @@
-use Rattle.simplex_core.specs.ColumnListing.{AreMarked}
-use Rattle.simplex_core.proofs.column_table.ColumnTable.touched_columns.Given as goal
-
--- the listed columns before this one were looked at
-abbrev pub invariant-loop-place : goal.invariant-loop-place
-invariant-loop-place l = AreMarked l.self.columns.items l.row l.listed l.place l.marks.items l.touched.items
