@@ -1,10 +1,10 @@
 -- What columns that show a tableau say of its numbers.
-use Rattle.std.proofs.Common.{◌≡◌, ℕ, ◌+◌, ◌<◌, ◌≤◌, ◌^◌, ap, arith, refl, sym, ◌∙◌, subst, ◌⊎◌, inl, inr, List, [], ◌∷◌, Some, length, get_or, of_z}
-use Rattle.std.specs.Prelude.{ℤ, pos, ◌-ℤ◌, ◌*ℤ◌, ◌<ℤ◌, int_lt, nat_eq, unsigned_abs, slice_get, FitsSigned}
+use Rattle.std.proofs.Common.{◌≡◌, ℕ, ◌+◌, ◌<◌, ◌≤◌, ◌^◌, ap, arith, refl, sym, ◌∙◌, subst, ◌⊎◌, inl, inr, ◌≢◌, List, [], ◌∷◌, Some, false, length, get_or, of_z}
+use Rattle.std.specs.Prelude.{ℤ, pos, ◌-ℤ◌, ◌*ℤ◌, ◌<ℤ◌, ◌≤ℤ◌, int_lt, nat_eq, unsigned_abs, slice_get, slice_set, FitsSigned}
 use Rattle.std.specs.Int.{w64}
 use Rattle.std.proofs.lemmas.Int.{ints}
 use Rattle.std.proofs.lemmas.Bool.{eqb-true, eq-eqb, cases_lt}
-use Rattle.std.proofs.lemmas.Option.{slice_get_read}
+use Rattle.std.proofs.lemmas.Option.{slice_get_read, slice_get_within, same_Some}
 use Rattle.int_laws.specs.NormalForm.{is_zero}
 use Rattle.int_laws.specs.Polynomial.{variable, constant, ◌⊖◌, ◌⊗◌}
 use Rattle.int_laws.proofs.Identities.{identity_by_two}
@@ -16,16 +16,21 @@ use Rattle.sparse_columns.specs.Numbers.{number_of}
 use Rattle.sparse_columns.specs.Columns.{numerator, IsCleared}
 use Rattle.sparse_columns.proofs.Lookups.{number_of-small}
 use Rattle.linear_forms.specs.LinearProgram.{LinearProgram}
-use Rattle.simplex_core.specs.Tableau.{Tableau, unknowns}
+use Rattle.simplex_core.specs.Tableau.{Tableau, unknowns, cost_row}
+use Rattle.simplex_core.specs.Bland.{may_enter}
+use Rattle.simplex_core.specs.Search.{every}
 use Rattle.simplex_core.specs.Positions.{InTable}
 use Rattle.simplex_core.specs.Outcome.{IsSmallRatio, IsInRange}
 use Rattle.simplex_core.specs.declared.column_table.ColumnTable.{ColumnTable}
-use Rattle.simplex_core.specs.ColumnTables.{ShowsColumns, IsCellOf, ClearsColumns, ClearsColumn}
+use Rattle.simplex_core.specs.ColumnTables.{ShowsColumns, IsCellOf, AreNotNegative, ClearsTouched, ClearsColumn, ChangesBeside}
 use Rattle.simplex_core.proofs.FractionSizes.{lowest-least}
-use Rattle.simplex_core.proofs.Positions.{slice_get-there}
-use Rattle.simplex_core.proofs.Searches.{last_or_before}
-use Rattle.simplex_core.proofs.Choices.{int_lt-true, lt-int_lt}
-use Rattle.simplex_core.proofs.Signs.{same_test, products-show, is_zero-true}
+use Rattle.simplex_core.proofs.Positions.{slice_get-there, slice_get-set_same, slice_get-set_other}
+use Rattle.simplex_core.proofs.Invariant.{same_or_other}
+use Rattle.simplex_core.specs.ColumnListing.{Names, AreTouched}
+use Rattle.simplex_core.proofs.ColumnListings.{zero_or_other}
+use Rattle.simplex_core.proofs.Searches.{last_or_before, no_and}
+use Rattle.simplex_core.proofs.Choices.{int_lt-true, lt-int_lt, le-int_lt}
+use Rattle.simplex_core.proofs.Signs.{same_test, products-show, negative-shows, is_zero-true}
 
 -- a column of the program that is read is the table's
 pub column-read : (a : ColumnTable) (j : ℕ) (x : Column) → j < a.width → x ≡ get_or a.columns.items j x → slice_get a.columns.items j ≡ Some x
@@ -126,18 +131,113 @@ cleared-none x r pivot shifted zero = record {
     same v w = omega (arith, ints)
 
 -- one more column is cleared
-pub clears-more : (a b d : ColumnTable) (r : ℕ) (pivot : ℤ) (shifted : List Cell) (m : ℕ) → ClearsColumns a b r pivot shifted m → ClearsColumn b d m r pivot shifted
-    → ClearsColumns a d r pivot shifted (m + 1)
-clears-more a b d r pivot shifted m all one = record {
+pub clears-more : (a b d : ColumnTable) (r : ℕ) (pivot : ℤ) (shifted : List Cell) (touched : List ℕ) (m p : ℕ) → ClearsTouched a b r pivot shifted touched m
+    → ClearsColumn b d p r pivot shifted → AreTouched a.columns.items r touched → slice_get touched m ≡ Some p → ClearsTouched a d r pivot shifted touched (m + 1)
+clears-more a b d r pivot shifted touched m p all one own at = record {
   rows = one.rows ∙ all.rows;
   columns = one.columns ∙ all.columns;
   basis = one.basis ∙ all.basis;
   right = one.right ∙ all.right;
-  cleared = λ j x y l is_x is_y. go j x y is_x is_y (last_or_before m j (omega arith));
-  others = λ j l. one.others j (λ e. omega arith) ∙ all.others j (omega arith);
+  cleared = λ n j x y l is is_x is_y. go n j x y is is_x is_y (last_or_before m n (omega arith));
+  others = λ j apart. one.others j (λ e. apart m (omega arith) (at ∙ ap Some (sym e))) ∙ all.others j (λ n l. apart n (omega arith));
+  kept = λ i j h. one.kept i j (all.kept i j h);
+  put = λ n j x i l is is_x below e f. puts n j x i is is_x below e f (last_or_before m n (omega arith));
+  marks = one.marks ∙ all.marks;
+  first = λ h. one.first (all.first h);
 }
   where
-    go : (j : ℕ) (x y : Column) → slice_get a.columns.items j ≡ Some x → slice_get d.columns.items j ≡ Some y → (j ≡ m) ⊎ (j < m) → IsCleared x y r pivot shifted
-    go j x y is_x is_y (inl e) =
-        one.cleared x y (all.others m (omega arith) ∙ (ap (λ (k : ℕ). slice_get a.columns.items k) (sym e) ∙ is_x)) (ap (λ (k : ℕ). slice_get d.columns.items k) (sym e) ∙ is_y)
-    go j x y is_x is_y (inr l) = all.cleared j x y l is_x (sym (one.others j (λ e. omega arith)) ∙ is_y)
+    unseen : (n : ℕ) → n < m → slice_get touched n ≡ Some p → ⊥
+    unseen n l is = let e = own.once n m p is at in omega (arith, l, e)
+
+    before : slice_get b.columns.items p ≡ slice_get a.columns.items p
+    before = all.others p unseen
+
+    same : (n j : ℕ) → slice_get touched n ≡ Some j → n ≡ m → p ≡ j
+    same n j is e = same_Some p j (sym at ∙ (ap (λ (o : ℕ). slice_get touched o) (sym e) ∙ is))
+
+    go : (n j : ℕ) (x y : Column) → slice_get touched n ≡ Some j → slice_get a.columns.items j ≡ Some x → slice_get d.columns.items j ≡ Some y → (n ≡ m) ⊎ (n < m)
+        → IsCleared x y r pivot shifted
+    go n j x y is is_x is_y (inl e) =
+        one.cleared x y (before ∙ (ap (λ (o : ℕ). slice_get a.columns.items o) (same n j is e) ∙ is_x)) (ap (λ (o : ℕ). slice_get d.columns.items o) (same n j is e) ∙ is_y)
+    go n j x y is is_x is_y (inr l) = all.cleared n j x y l is is_x (sym (one.others j (λ e. unseen n l (is ∙ ap Some e))) ∙ is_y)
+
+    puts : (n j : ℕ) (x : Column) (i : ℕ) → slice_get touched n ≡ Some j → slice_get a.columns.items j ≡ Some x → i < a.rows → numerator x i ≡ pos 0 → number_of shifted i ≢ pos 0
+        → (n ≡ m) ⊎ (n < m) → Names d.lists.items i j
+    puts n j x i is is_x below e f (inl g) =
+        subst (λ (o : ℕ). Names d.lists.items i o) (same n j is g)
+        (one.put x i (before ∙ (ap (λ (o : ℕ). slice_get a.columns.items o) (same n j is g) ∙ is_x)) (let rows = all.rows in omega (arith, below, rows)) e f)
+    puts n j x i is is_x below e f (inr l) = one.kept i j (all.put n j x i l is is_x below e f)
+
+-- where the columns with a number in the row are cleared, all are
+pub clears-all : (a b : ColumnTable) (r : ℕ) (pivot : ℤ) (shifted : List Cell) (touched : List ℕ) → ClearsTouched a b r pivot shifted touched (length touched)
+    → AreTouched a.columns.items r touched → (j : ℕ) (x y : Column) → slice_get a.columns.items j ≡ Some x → slice_get b.columns.items j ≡ Some y → IsCleared x y r pivot shifted
+clears-all a b r pivot shifted touched all own j x y is_x is_y = go (zero_or_other (numerator x r))
+  where
+    go : (numerator x r ≡ pos 0) ⊎ (numerator x r ≢ pos 0) → IsCleared x y r pivot shifted
+    go (inl e) =
+        let same : x ≡ y = same_Some x y (sym is_x ∙ (sym (all.others j (λ n l is.
+        let there = own.there n j is in
+        there.2 (ap (λ (z : Column). numerator z r) (same_Some there.0 x (sym there.1 ∙ is_x)) ∙ e))) ∙ is_y)) in
+        subst (λ (z : Column). IsCleared x z r pivot shifted) same (cleared-none x r pivot shifted e)
+    go (inr d) =
+        let named = own.all j x is_x d in
+        all.cleared named.at j x y (slice_get_within touched named.at j named.is) named.is is_x is_y
+
+-- one change of what is kept beside the numbers after another
+pub changes-both : (a b d : ColumnTable) → ChangesBeside a b → ChangesBeside b d → ChangesBeside a d
+changes-both a b d one two = record {
+  rows = two.rows ∙ one.rows;
+  columns = two.columns ∙ one.columns;
+  basis = two.basis ∙ one.basis;
+  right = two.right ∙ one.right;
+  kept = two.kept ∙ one.kept;
+  beside = two.beside;
+}
+
+-- none of no columns has a number below 0
+pub not_negative-none : (xs : List Column) (i : ℕ) → AreNotNegative xs i 0
+not_negative-none xs i = record { each = λ j x l is. absurd (omega (arith, l)) }
+
+-- none of fewer columns has a number below 0
+pub not_negative-less : (xs : List Column) (i n m : ℕ) → AreNotNegative xs i n → m ≤ n → AreNotNegative xs i m
+not_negative-less xs i n m are l = record { each = λ j x k is. are.each j x (omega arith) is }
+
+-- none of the same columns has
+pub not_negative-sizes : (xs ys : List Column) (i n k m : ℕ) → AreNotNegative xs i n → ys ≡ xs → k ≡ i → m ≡ n → AreNotNegative ys k m
+not_negative-sizes xs ys i n k m are e f g = record {
+  each = λ j x l is. subst (λ (r : ℕ). pos 0 ≤ℤ numerator x r) (sym f) (are.each j x (omega arith) (ap (λ (zs : List Column). slice_get zs j) (sym e) ∙ is));
+}
+
+-- one more column has no number below 0
+pub not_negative-more : (xs : List Column) (i n : ℕ) (y : Column) → AreNotNegative xs i n → slice_get xs n ≡ Some y → pos 0 ≤ℤ numerator y i → AreNotNegative xs i (n + 1)
+not_negative-more xs i n y are at above = record { each = λ j x l is. go j x is (last_or_before n j (omega arith)) }
+  where
+    go : (j : ℕ) (x : Column) → slice_get xs j ≡ Some x → (j ≡ n) ⊎ (j < n) → pos 0 ≤ℤ numerator x i
+    go j x is (inl e) =
+        subst (λ (z : Column). pos 0 ≤ℤ numerator z i) (same_Some y x (sym at ∙ (ap (λ (k : ℕ). slice_get xs k) (sym e) ∙ is))) above
+    go j x is (inr l) = are.each j x l is
+
+-- a column is replaced, which has no number below 0 if it is one of the first
+pub not_negative-set : (xs : List Column) (i n m p : ℕ) (y : Column) → AreNotNegative xs i n → m ≤ n → p < length xs → (p < m → pos 0 ≤ℤ numerator y i)
+    → AreNotNegative (slice_set xs p y) i m
+not_negative-set xs i n m p y are l below own = record { each = λ j x k is. go j x k is (same_or_other j p) }
+  where
+    go : (j : ℕ) (x : Column) → j < m → slice_get (slice_set xs p y) j ≡ Some x → (j ≡ p) ⊎ (j ≢ p) → pos 0 ≤ℤ numerator x i
+    go j x k is (inl e) =
+        subst (λ (z : Column). pos 0 ≤ℤ numerator z i)
+        (same_Some y x (sym (slice_get-set_same xs p y below) ∙ (ap (λ (o : ℕ). slice_get (slice_set xs p y) o) (sym e) ∙ is))) (own (omega arith))
+    go j x k is (inr d) = are.each j x (omega arith) (sym (slice_get-set_other xs p j y d) ∙ is)
+
+-- no column before the first one enters by the first cost row
+pub none-enters : (p : LinearProgram) (a : ColumnTable) (t : Tableau) (j : ℕ) → ShowsColumns p a t → j < a.first → may_enter p t 0 j ≡ false
+none-enters p a t j shows l =
+    let rows = shows.rows in
+    let within = a.within in
+    let there = column-there a j (omega arith) in
+    let x = there.0 in
+    let row : a.rows ≡ cost_row p 0 = omega arith in
+    let above = shows.beside.first.each j x l there.1 in
+    let sign = negative-shows (numerator x (cost_row p 0)) x.den (t.entry (cost_row p 0) j) (t.scale (cost_row p 0)) x.positive (shows.positive (cost_row p 0) (omega arith))
+    (shows.numbers (cost_row p 0) j x (omega arith) there.1) in
+    no_and _ (every 0 (λ k. is_zero (t.entry (cost_row p k) j)))
+    (sym sign ∙ le-int_lt (numerator x (cost_row p 0)) (pos 0) (subst (λ (i : ℕ). pos 0 ≤ℤ numerator x i) row above))

@@ -20,7 +20,7 @@ use Rattle.simplex_core.proofs.Leaving.{least-here, least-more}
 use Rattle.simplex_core.proofs.Signs.{negative-shows}
 
 -- where no number below n passes, there is no least one
-least-fails : (n : ℕ) (f : ℕ → Bool) → ((j : ℕ) → j < n → f j ≡ false) → least n f ≡ None
+pub least-fails : (n : ℕ) (f : ℕ → Bool) → ((j : ℕ) → j < n → f j ≡ false) → least n f ≡ None
 least-fails zero f fails = refl
 least-fails (suc n) f fails = least-more n f (least-fails n f (λ j l. fails j (omega arith))) (fails n (omega arith))
 

@@ -18,7 +18,7 @@ use Rattle.simplex_core.specs.Tableau.{sign_of, first_tableau, unknowns}
 use Rattle.simplex_core.specs.Problem.{entry_value, program_of, IsProper}
 use Rattle.simplex_core.specs.Positions.{InTable}
 use Rattle.simplex_core.specs.Building.{signed_entries, with_equations, with_costs, cost_number}
-use Rattle.simplex_core.specs.ColumnTables.{ShowsColumns}
+use Rattle.simplex_core.specs.ColumnTables.{ShowsColumns, IsKept}
 use Rattle.simplex_core.specs.ColumnBuilding.{AreColumns, AreSides, entries_at, with_units, with_cost_columns, costs_at}
 use Rattle.simplex_core.proofs.Invariant.{same_or_other}
 use Rattle.simplex_core.proofs.Regions.{choose-below, choose-above, choose-same, choose-other}
@@ -192,8 +192,8 @@ pub built-shows : (q : Problem) (table : ColumnTable) (es : List Entry) (sides f
     → es ≡ q.entries.items → sides ≡ q.right.items → first ≡ q.first.items → second ≡ q.second.items
     → AreColumns table.columns.items (q.cols + q.rows) (with_units q.cols (with_cost_columns q.rows (entries_at es sides) first second q.cols))
     → AreSides table.right q.right.items q.rows → ((i : ℕ) → i < q.rows → slice_index table.basis.items i ≡ q.cols + i)
-    → ShowsColumns (program_of q) table (first_tableau (program_of q))
-built-shows q table es sides first second proper em en ee er ef ed are right basis = record {
+    → IsKept table → ShowsColumns (program_of q) table (first_tableau (program_of q))
+built-shows q table es sides first second proper em en ee er ef ed are right basis beside = record {
   rows = em ∙ sym rows;
   columns = en ∙ sym columns;
   positive = (first-is_tableau p).positive;
@@ -209,6 +209,7 @@ built-shows q table es sides first second proper em en ee er ef ed are right bas
       (right.numbers i li ∙ (sym (side i li) ∙ (filled-entry q i (q.cols + q.rows) proper (record { row = omega arith; column = omega arith; cost = λ k. absurd (omega arith) })
       ∙ ap (λ (k : ℕ). (first_tableau p).entry i k) (last_column)))) right.den;
   basis = λ i l. basis i (let r = rows in omega (arith, r, l)) ∙ (ap (λ (k : ℕ). k + i) (sym columns) ∙ sym (first-basis p i));
+  beside = beside;
 }
   where
     p : LinearProgram

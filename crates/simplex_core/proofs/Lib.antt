@@ -51,4 +51,5 @@ pub mod ColumnExtraction
 pub mod ColumnResults
 pub mod Halts
 pub mod ColumnLists
+pub mod ColumnListings
 pub mod FirstColumns

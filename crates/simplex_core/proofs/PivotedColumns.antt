@@ -116,6 +116,7 @@ pivoted-shows p a d t r c w shifted shows made lr lc positive = record {
       (made.fronts i (let rows = shows.rows in omega arith) ∙ made.shifts.each i e.0 e.1) made.right
       (shows.right i l) (shows.right r lr) (shows.numbers i c e.0 (omega arith) e.1) (shows.numbers r c e.0 (omega arith) e.1);
   basis = λ i l. ap (λ (xs : List ℕ). slice_index xs i) made.basis ∙ basis i l (same_or_other i r);
+  beside = made.beside;
 }
   where
     e : (x : Column) × (slice_get a.columns.items c ≡ Some x)

@@ -1,5 +1,5 @@
 -- How a table of columns shows a tableau.
-use Rattle.std.specs.Prelude.{◌≡◌, ◌≢◌, ℕ, ◌+◌, ◌<◌, ◌≤◌, ℤ, pos, ◌-ℤ◌, ◌*ℤ◌, ◌<ℤ◌, List, Option, Some, None, false}
+use Rattle.std.specs.Prelude.{◌≡◌, ◌≢◌, ℕ, ◌+◌, ◌<◌, ℤ, pos, ◌-ℤ◌, ◌*ℤ◌, ◌<ℤ◌, ◌≤ℤ◌, List, Option, Some, None, false}
 use Rattle.std.specs.Prelude.{true, slice_get}
 use Rattle.std.specs.Prelude.{slice_index, slice_set}
 use Rattle.sparse_columns.specs.declared.cell.Cell.{Cell}
@@ -7,6 +7,7 @@ use Rattle.sparse_columns.specs.declared.column.Column.{Column}
 use Rattle.sparse_columns.specs.Numbers.{alone, number_of}
 use Rattle.sparse_columns.specs.Columns.{numerator, IsCleared}
 use Rattle.simplex_core.specs.declared.column_table.ColumnTable.{ColumnTable}
+use Rattle.simplex_core.specs.ColumnListing.{AreListed, AreBlank, Names}
 use Rattle.linear_forms.specs.LinearProgram.{LinearProgram}
 use Rattle.simplex_core.specs.Tableau.{Tableau, unknowns}
 use Rattle.simplex_core.specs.Bland.{is_candidate, goes_before}
@@ -15,7 +16,26 @@ use Rattle.simplex_core.specs.Bland.{is_candidate, goes_before}
 abbrev pub ShowsNumber : Column → ℕ → ℤ → ℤ → Type 0
 ShowsNumber column i entry scale = numerator column i *ℤ scale ≡ entry *ℤ column.den
 
--- the table shows the tableau: its columns' numbers are the tableau's, over scales over 0, and its basis is
+-- the list of each row names the columns with a number there
+abbrev pub IsListed : ColumnTable → Type 0
+IsListed table = AreListed table.columns.items table.lists.items table.rows (table.width + table.rows)
+
+-- none of the first n columns has a number below 0 in row i
+pub record AreNotNegative (columns : List Column) (i n : ℕ) : Type 0 where
+  pub each : (j : ℕ) (x : Column) → j < n → slice_get columns j ≡ Some x → pos 0 ≤ℤ numerator x i
+
+-- no column before the first one that the table keeps has a number below 0 in the first cost row
+abbrev pub IsFirst : ColumnTable → Type 0
+IsFirst table = AreNotNegative table.columns.items table.rows table.first
+
+-- what the table keeps beside its numbers is right: its lists and its first column, and no mark is set
+pub record IsKept (table : ColumnTable) : Type 0 where
+  pub lists : IsListed table
+  pub first : IsFirst table
+  pub blank : AreBlank table.marks.items (table.width + table.rows)
+
+-- the table shows the tableau: its columns' numbers are the tableau's, over scales over 0, and its basis is; and what it
+-- keeps beside them is right
 pub record ShowsColumns (p : LinearProgram) (table : ColumnTable) (t : Tableau) : Type 0 where
   pub rows : table.rows ≡ p.rows
   pub columns : table.width ≡ p.columns
@@ -24,6 +44,7 @@ pub record ShowsColumns (p : LinearProgram) (table : ColumnTable) (t : Tableau) 
       → ShowsNumber c i (t.entry i j) (t.scale i)
   pub right : (i : ℕ) → i < p.rows → ShowsNumber table.right i (t.entry i (unknowns p)) (t.scale i)
   pub basis : (i : ℕ) → i < p.rows → slice_index table.basis.items i ≡ t.basis i
+  pub beside : IsKept table
 
 -- the cell is in an equation, and has the number of column j there
 pub record IsCellOf (table : ColumnTable) (j : ℕ) (cell : Cell) : Type 0 where
@@ -58,18 +79,37 @@ pub record IsPivotedBy (old new : ColumnTable) (r c : ℕ) (pivot : ℤ) (shifte
   pub front : List Cell
   pub fronts : (i : ℕ) → i < old.rows → number_of front i ≡ number_of shifted i
   pub right : IsCleared old.right new.right r pivot front
+  pub beside : IsKept new
 
--- the first m columns' numbers in row r are cleared, and the others are as before, as is all else
-pub record ClearsColumns (old new : ColumnTable) (r : ℕ) (pivot : ℤ) (shifted : List Cell) (m : ℕ) : Type 0 where
+-- each column's number in row r is cleared, what is kept beside is right, and all else is as before
+pub record ClearsColumns (old new : ColumnTable) (r : ℕ) (pivot : ℤ) (shifted : List Cell) : Type 0 where
   pub rows : new.rows ≡ old.rows
   pub columns : new.width ≡ old.width
   pub basis : new.basis.items ≡ old.basis.items
   pub right : new.right ≡ old.right
-  pub cleared : (j : ℕ) (a b : Column) → j < m → slice_get old.columns.items j ≡ Some a
-      → slice_get new.columns.items j ≡ Some b → IsCleared a b r pivot shifted
-  pub others : (j : ℕ) → m ≤ j → slice_get new.columns.items j ≡ slice_get old.columns.items j
+  pub cleared : (j : ℕ) (a b : Column) → slice_get old.columns.items j ≡ Some a → slice_get new.columns.items j ≡ Some b
+      → IsCleared a b r pivot shifted
+  pub beside : IsKept new
 
--- one column's number in row r is cleared, and all else is as before
+-- the numbers in row r of the first m of these columns are cleared, and each is put into the list of each row where that
+-- makes a number; the other columns are as before, each list names what it did, and all else is as before
+pub record ClearsTouched (old new : ColumnTable) (r : ℕ) (pivot : ℤ) (shifted : List Cell) (touched : List ℕ) (m : ℕ)
+    : Type 0 where
+  pub rows : new.rows ≡ old.rows
+  pub columns : new.width ≡ old.width
+  pub basis : new.basis.items ≡ old.basis.items
+  pub right : new.right ≡ old.right
+  pub cleared : (n j : ℕ) (a b : Column) → n < m → slice_get touched n ≡ Some j → slice_get old.columns.items j ≡ Some a
+      → slice_get new.columns.items j ≡ Some b → IsCleared a b r pivot shifted
+  pub others : (j : ℕ) → ((n : ℕ) → n < m → slice_get touched n ≢ Some j)
+      → slice_get new.columns.items j ≡ slice_get old.columns.items j
+  pub kept : (i j : ℕ) → Names old.lists.items i j → Names new.lists.items i j
+  pub put : (n j : ℕ) (a : Column) (i : ℕ) → n < m → slice_get touched n ≡ Some j → slice_get old.columns.items j ≡ Some a
+      → i < old.rows → numerator a i ≡ pos 0 → number_of shifted i ≢ pos 0 → Names new.lists.items i j
+  pub marks : new.marks.items ≡ old.marks.items
+  pub first : IsFirst old → IsFirst new
+
+-- so is one column
 pub record ClearsColumn (old new : ColumnTable) (position r : ℕ) (pivot : ℤ) (shifted : List Cell) : Type 0 where
   pub rows : new.rows ≡ old.rows
   pub columns : new.width ≡ old.width
@@ -78,3 +118,28 @@ pub record ClearsColumn (old new : ColumnTable) (position r : ℕ) (pivot : ℤ)
   pub cleared : (a b : Column) → slice_get old.columns.items position ≡ Some a
       → slice_get new.columns.items position ≡ Some b → IsCleared a b r pivot shifted
   pub others : (j : ℕ) → j ≢ position → slice_get new.columns.items j ≡ slice_get old.columns.items j
+  pub kept : (i j : ℕ) → Names old.lists.items i j → Names new.lists.items i j
+  pub put : (a : Column) (i : ℕ) → slice_get old.columns.items position ≡ Some a → i < old.rows → numerator a i ≡ pos 0
+      → number_of shifted i ≢ pos 0 → Names new.lists.items i position
+  pub marks : new.marks.items ≡ old.marks.items
+  pub first : IsFirst old → IsFirst new
+
+-- the right side of row r is cleared, and all else is as before
+pub record ClearsRight (old new : ColumnTable) (r : ℕ) (pivot : ℤ) (shifted : List Cell) : Type 0 where
+  pub rows : new.rows ≡ old.rows
+  pub columns : new.width ≡ old.width
+  pub basis : new.basis.items ≡ old.basis.items
+  pub kept : new.columns.items ≡ old.columns.items
+  pub lists : new.lists.items ≡ old.lists.items
+  pub marks : new.marks.items ≡ old.marks.items
+  pub first : new.first ≡ old.first
+  pub cleared : IsCleared old.right new.right r pivot shifted
+
+-- what is kept beside the numbers is right, and all else is as before
+pub record ChangesBeside (old new : ColumnTable) : Type 0 where
+  pub rows : new.rows ≡ old.rows
+  pub columns : new.width ≡ old.width
+  pub basis : new.basis.items ≡ old.basis.items
+  pub right : new.right ≡ old.right
+  pub kept : new.columns.items ≡ old.columns.items
+  pub beside : IsKept new

@@ -14,6 +14,7 @@ pub mod Sizes
 pub mod Positions
 pub mod Lines
 pub mod Cells
+pub mod ColumnListing
 pub mod ColumnTables
 pub mod ColumnBuilding
 pub mod ColumnResults

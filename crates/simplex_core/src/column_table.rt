@@ -3,26 +3,37 @@
 mod entering;
 mod first;
 mod leaving;
+mod lists;
 mod method;
 mod pivoting;
 mod results;
+mod touching;
 
-ghost use Rattle.std.specs.Prelude.{◌≡◌, ◌+◌, ◌<◌, ◌^◌, length};
+ghost use Rattle.std.specs.Prelude.{◌≡◌, ◌+◌, ◌<◌, ◌≤◌, ◌^◌, length};
 
 pub(crate) use first::first_columns;
+use lists::RowColumns;
 use sparse_columns::Column;
 
 /// The columns of a tableau, those of the artificial unknowns behind the program's, and that of the right sides. The
 /// cost rows are rows behind the equations'; the right sides have none. Each number and each denominator is below 2^31
-/// by its type, so such a table is in range.
+/// by its type, so such a table is in range. For each equation's row the columns that may have a number there are
+/// listed, so that a pivot looks at no others. Before the first column none has a number below 0 in the first cost row,
+/// so the search for the entering column begins there. The marks, one a column, are not set but while a list is gone
+/// through.
 #[derive(Debug, Drop)]
 pub(crate) struct ColumnTable {
     columns: Vec<Column>,
     right: Column,
     basis: Vec<u32>,
+    lists: Vec<RowColumns>,
+    marks: Vec<bool>,
+    first: u32,
     rows: u32,
     width: u32,
     ghost unknowns: { length columns.items ≡ width + rows },
+    ghost listed: { length lists.items ≡ rows },
+    ghost within: { first ≤ width },
     ghost based: { length basis.items ≡ rows },
     ghost few_rows: { rows < 2 ^ 31 },
     ghost few_columns: { width < 2 ^ 31 },

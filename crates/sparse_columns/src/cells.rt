@@ -46,13 +46,13 @@ impl Cells {
         self.items.as_slice()
     }
 
-    /// The cells in rows before this one.
+    /// The cells in rows before this one, which takes the time of the others.
     pub fn before(&self, row: u32) -> &[Cell]
         ensures numbers { (i : ℕ) → i < row → number_of result.now i ≡ number self.now i }
         ensures lists { AreNumbers result.now (number self.now) row }
     {
         let cells = self.items.as_slice();
-        &cells[..first_from(cells, row)]
+        &cells[..first_from_behind(cells, row)]
     }
 
     /// Puts a number in a row that has none, if it is below 2^31 in absolute value; 0 needs no room. The answer is whether
@@ -124,8 +124,25 @@ impl Cells {
         ensures value { result ≡ number self.now row }
         ensures bounded { unsigned_abs result < 2 ^ 31 }
     {
+        self.number_at(first_from(self.items.as_slice(), row), row)
+    }
+
+    /// The number in a row, looked for from behind, which is quick in one of the last rows.
+    pub fn late(&self, row: u32) -> i64
+        ensures value { result ≡ number self.now row }
+        ensures bounded { unsigned_abs result < 2 ^ 31 }
+    {
+        self.number_at(first_from_behind(self.items.as_slice(), row), row)
+    }
+
+    /// The number in a row, where the first cell whose row is at least this one is at a position.
+    fn number_at(&self, position: usize, row: u32) -> i64
+        requires before { IsBefore self.now.items.items position row }
+        requires from { IsFrom self.now.items.items position row }
+        ensures value { result ≡ number self.now row }
+        ensures bounded { unsigned_abs result < 2 ^ 31 }
+    {
         let cells = self.items.as_slice();
-        let position = first_from(cells, row);
         if position < cells.len() && cells[position].row == row {
             cells[position].value()
         } else {
@@ -152,4 +169,18 @@ fn first_from(cells: &[Cell], row: u32) -> usize
         }
     }
     low
+}
+
+/// The position of the first cell whose row is at least this one, looked for from behind.
+fn first_from_behind(cells: &[Cell], row: u32) -> usize
+    requires { IsAscending cells.now }
+    ensures within { result ≤ length cells.now }
+    ensures before { IsBefore cells.now result row }
+    ensures from { IsFrom cells.now result row }
+{
+    let mut found = cells.len();
+    while found > 0 && cells[found - 1].row >= row {
+        found -= 1;
+    }
+    found
 }

@@ -60,6 +60,14 @@ impl Column {
         self.cells.at(row)
     }
 
+    /// The numerator in a row, looked for from behind, which is quick in one of the last rows.
+    pub fn late(&self, row: u32) -> i64
+        ensures value { result ≡ numerator self.now row }
+        ensures bounded { unsigned_abs result < 2 ^ 31 }
+    {
+        self.cells.late(row)
+    }
+
     /// The denominator.
     pub fn den(&self) -> i64
         ensures value { result ≡ self.now.den }

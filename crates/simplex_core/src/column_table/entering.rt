@@ -1,6 +1,6 @@
 //! The entering column, and the end as infeasible.
 
-ghost use Rattle.std.specs.Prelude.{◌≡◌, ◌+◌, ◌<◌, pos, int_lt, nat_le, ◌&&◌};
+ghost use Rattle.std.specs.Prelude.{◌≡◌, ◌+◌, ◌<◌, ◌≤◌, pos, None, int_lt, nat_le, ◌&&◌};
 ghost use Rattle.int_laws.specs.NormalForm.{is_zero};
 ghost use Rattle.linear_forms.specs.LinearProgram.{LinearProgram};
 ghost use Rattle.simplex_core.specs.Tableau.{Tableau, unknowns};
@@ -17,12 +17,24 @@ impl ColumnTable {
         ensures { (p : LinearProgram) (t : Tableau) → ShowsColumns p self.now t
             → result ≡ least p.columns (may_enter p t cost) }
     {
-        for column in 0..self.width as usize {
+        for column in self.start(cost)..self.width as usize {
             if self.may_enter(cost, column) {
                 return Some(column);
             }
         }
         None
+    }
+
+    /// A column before which none may enter by a cost row.
+    fn start(&self, cost: u32) -> usize
+        ensures within { result ≤ self.now.width }
+        ensures none { (p : LinearProgram) (t : Tableau) → ShowsColumns p self.now t
+            → least result (may_enter p t cost) ≡ None }
+    {
+        if cost == 0 {
+            return self.first as usize;
+        }
+        0
     }
 
     /// Whether a column may enter by a cost row.
@@ -74,7 +86,7 @@ impl ColumnTable {
         ensures { (p : LinearProgram) (t : Tableau) → ShowsColumns p self.now t
             → result ≡ int_lt (t.entry row column) (pos 0) }
     {
-        self.columns[column].at(row) < 0
+        self.columns[column].late(row) < 0
     }
 
     /// Whether a number is 0.
@@ -84,6 +96,6 @@ impl ColumnTable {
         ensures { (p : LinearProgram) (t : Tableau) → ShowsColumns p self.now t
             → result ≡ is_zero (t.entry row column) }
     {
-        self.columns[column].at(row) == 0
+        self.columns[column].late(row) == 0
     }
 }

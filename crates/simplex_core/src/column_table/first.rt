@@ -13,6 +13,7 @@ ghost use Rattle.simplex_core.specs.ColumnBuilding.{AreSides, IsCosted};
 
 use crate::arithmetic::signed;
 use crate::column_table::ColumnTable;
+use crate::column_table::lists::first_lists;
 use crate::problem::{Entry, Problem};
 use crate::sparse_table::first_basis;
 use sparse_columns::Column;
@@ -54,10 +55,15 @@ pub(crate) fn first_columns(
         return Ok(None);
     };
     let basis = first_basis(alloc, problem.rows as usize, problem.cols as usize)?;
+    let lists = first_lists(alloc, columns.as_slice(), problem.rows)?;
+    let marks = vec![in alloc; false; columns.len()]?;
     Ok(Some(ColumnTable {
         columns,
         right,
         basis,
+        lists,
+        marks,
+        first: 0,
         rows: problem.rows,
         width: problem.cols,
     }))

@@ -1,16 +1,19 @@
 //! The pivot.
 
-ghost use Rattle.std.specs.Prelude.{◌≡◌, ℕ, ◌+◌, ◌<◌, ◌^◌, ℤ, pos, ◌<ℤ◌, Some, IfOk, List, slice_get, unsigned_abs};
+ghost use Rattle.std.specs.Prelude.{◌≡◌, ℕ, ◌+◌, ◌<◌, ◌≤◌, ◌^◌, ℤ, pos, ◌<ℤ◌, ◌≤ℤ◌, Some, IfOk, List, slice_get, unsigned_abs};
 ghost use Rattle.std.specs.Prelude.{length};
 ghost use Rattle.sparse_columns.specs.declared.cell.Cell.{Cell};
 ghost use Rattle.sparse_columns.specs.declared.column.Column.{Column};
 ghost use Rattle.sparse_columns.specs.Columns.{numerator};
-ghost use Rattle.simplex_core.specs.ColumnTables.{IsPivotedBy, AreShifted, ClearsColumns, ClearsColumn};
+ghost use Rattle.simplex_core.specs.ColumnListing.{AreTouched, AreRowsBelow};
+ghost use Rattle.simplex_core.specs.ColumnTables.{IsPivotedBy, ClearsColumns, ClearsTouched, ClearsColumn, ClearsRight};
+ghost use Rattle.simplex_core.specs.ColumnTables.{ChangesBeside, IsKept, IsFirst, AreNotNegative};
 
 use crate::column_table::ColumnTable;
+use crate::column_table::lists::{RowColumns, put_new};
 use crate::simplex_table::Unmade;
-use sparse_columns::Cell;
-use std::alloc::Global;
+use sparse_columns::{Cell, Cells, Column};
+use std::alloc::{AllocError, Global};
 
 impl ColumnTable {
     /// Pivots at a row and a column with a number over 0 there. `Beyond` where a number has no room; the table is then
@@ -19,6 +22,7 @@ impl ColumnTable {
         requires row { row < self.old.rows }
         requires column { column < self.old.width }
         requires positive { (x : Column) → slice_get self.old.columns.items column ≡ Some x → pos 0 <ℤ numerator x row }
+        requires beside { IsKept self.old }
         ensures { IfOk result (λ _. (pivot : ℤ) × (shifted : List Cell)
             × IsPivotedBy self.old self.new row column pivot shifted) }
     {
@@ -26,58 +30,142 @@ impl ColumnTable {
         let Some(shifted) = self.columns[column].shifted(alloc, row)? else {
             return Err(Unmade::Beyond);
         };
-        let Some(right) = self
-            .right
-            .cleared(alloc, row, pivot, shifted.before(self.rows))?
-        else {
-            return Err(Unmade::Beyond);
-        };
-        self.clear_columns(alloc, row, pivot, shifted.as_slice())?;
-        self.right = right;
+        self.clear_right(alloc, row, pivot, shifted.before(self.rows))?;
+        self.clear_columns(alloc, row, pivot, &shifted)?;
         self.basis[row as usize] = column as u32;
+        self.first = self.next_first();
         Ok(())
     }
 
-    /// Clears each column's number in a row.
+    /// The least column from the first one on with a number below 0 in the first cost row; the number of columns, if none
+    /// has one.
+    fn next_first(&self) -> u32
+        ensures within { result ≤ self.now.width }
+        ensures first { IsFirst self.now → AreNotNegative self.now.columns.items self.now.rows result }
+    {
+        for position in self.first..self.width {
+            if self.columns[position as usize].late(self.rows) < 0 {
+                return position;
+            }
+        }
+        self.width
+    }
+
+    /// Clears the right side of a row. Where it is 0, the right sides stay as they are.
+    fn clear_right(
+        &mut self,
+        alloc: Global,
+        row: u32,
+        pivot: i64,
+        shifted: &[Cell],
+    ) -> Result<(), Unmade>
+        requires pivot { unsigned_abs pivot < 2 ^ 31 }
+        requires positive { pos 0 <ℤ pivot }
+        ensures { IfOk result (λ _. ClearsRight self.old self.new row pivot shifted.now) }
+    {
+        if self.right.at(row) == 0 {
+            return Ok(());
+        }
+        let Some(right) = self.right.cleared(alloc, row, pivot, shifted)? else {
+            return Err(Unmade::Beyond);
+        };
+        self.right = right;
+        Ok(())
+    }
+
+    /// Clears each column's number in a row, and lists for this row the columns that have one.
     fn clear_columns(
         &mut self,
         alloc: Global,
         row: u32,
         pivot: i64,
-        shifted: &[Cell],
+        shifted: &Cells,
     ) -> Result<(), Unmade>
+        requires row { row < self.old.rows }
         requires pivot { unsigned_abs pivot < 2 ^ 31 }
         requires positive { pos 0 <ℤ pivot }
-        ensures { IfOk result (λ _. ClearsColumns self.old self.new row pivot shifted.now
-            (self.old.width + self.old.rows)) }
+        requires beside { IsKept self.old }
+        ensures { IfOk result (λ _. ClearsColumns self.old self.new row pivot shifted.now.items.items) }
     {
-        for position in 0..self.width as usize + self.rows as usize {
-            self.clear_column(alloc, position, row, pivot, shifted)?;
+        let touched = self.touched_columns(alloc, row)?;
+        self.shorten(alloc, shifted.before(self.rows))?;
+        self.clear_touched(alloc, row, pivot, shifted, touched.as_slice())?;
+        self.lists[row as usize] = RowColumns::of(touched);
+        Ok(())
+    }
+
+    /// Makes the lists of these cells' rows shorter, which may have got long: so none ever names more than three times as
+    /// many columns as there are.
+    fn shorten(&mut self, alloc: Global, cells: &[Cell]) -> Result<(), AllocError>
+        requires cells { AreRowsBelow cells.now self.old.rows }
+        requires beside { IsKept self.old }
+        ensures { IfOk result (λ _. ChangesBeside self.old self.new) }
+    {
+        let count = self.columns.len();
+        for cell in cells {
+            self.lists[cell.row as usize].shorten(alloc, count)?;
         }
         Ok(())
     }
 
-    /// Clears a column's number in a row.
+    /// Clears the numbers of these columns in a row.
+    fn clear_touched(
+        &mut self,
+        alloc: Global,
+        row: u32,
+        pivot: i64,
+        shifted: &Cells,
+        touched: &[u32],
+    ) -> Result<(), Unmade>
+        requires pivot { unsigned_abs pivot < 2 ^ 31 }
+        requires positive { pos 0 <ℤ pivot }
+        requires touched { AreTouched self.old.columns.items row touched.now }
+        ensures { IfOk result (λ _. ClearsTouched self.old self.new row pivot shifted.now.items.items touched.now
+            (length touched.now)) }
+    {
+        for place in 0..touched.len() {
+            self.clear_column(alloc, touched[place], row, pivot, shifted)?;
+        }
+        Ok(())
+    }
+
+    /// Clears a column's number in a row, and puts the column into the list of each row where that makes a number. Where it
+    /// makes a number below 0 in the first cost row, the first column is this one or before it.
     fn clear_column(
         &mut self,
         alloc: Global,
-        position: usize,
+        position: u32,
         row: u32,
         pivot: i64,
-        shifted: &[Cell],
+        shifted: &Cells,
     ) -> Result<(), Unmade>
         requires position { position < length self.old.columns.items }
         requires pivot { unsigned_abs pivot < 2 ^ 31 }
         requires positive { pos 0 <ℤ pivot }
-        ensures { IfOk result (λ _. ClearsColumn self.old self.new position row pivot shifted.now) }
+        ensures { IfOk result (λ _. ClearsColumn self.old self.new position row pivot shifted.now.items.items) }
     {
-        if self.columns[position].at(row) == 0 {
-            return Ok(());
-        }
-        let Some(column) = self.columns[position].cleared(alloc, row, pivot, shifted)? else {
+        let front = shifted.before(self.rows);
+        let old = &self.columns[position as usize];
+        let Some(column) = old.cleared(alloc, row, pivot, shifted.as_slice())? else {
             return Err(Unmade::Beyond);
         };
-        self.columns[position] = column;
+        put_new(&mut self.lists, old, self.rows, front, position)?;
+        self.first = lesser(self.first, position, &column, self.rows);
+        self.columns[position as usize] = column;
         Ok(())
     }
+}
+
+/// The lesser of the first column and this one, if this one has a number below 0 in a row; else the first one.
+fn lesser(first: u32, position: u32, column: &Column, row: u32) -> u32
+    ensures within { result ≤ first }
+    ensures own { position < result → pos 0 ≤ℤ numerator column.now row }
+{
+    if first <= position {
+        return first;
+    }
+    if column.late(row) >= 0 {
+        return first;
+    }
+    position
 }

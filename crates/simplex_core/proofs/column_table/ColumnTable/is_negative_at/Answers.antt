@@ -13,8 +13,8 @@ returns c p t shows =
     let row = c.requires.row in
     let wide = c.requires.column in
     let is = column-read c.args.self.now c.args.column column wide c.index.ensures in
-    let bounded = c.at.ensures.bounded in
-    let plain : to_z w64 (of_z w64 c.at.result) ≡ c.at.result = omega (arith, ints, bounded) in
-    ap (λ (z : ℤ). int_lt z (pos 0)) (plain ∙ c.at.ensures.value)
+    let bounded = c.late.ensures.bounded in
+    let plain : to_z w64 (of_z w64 c.late.result) ≡ c.late.result = omega (arith, ints, bounded) in
+    ap (λ (z : ℤ). int_lt z (pos 0)) (plain ∙ c.late.ensures.value)
     ∙ negative-shows _ column.den (t.entry c.args.row c.args.column) (t.scale c.args.row) column.positive (shows.positive c.args.row (omega arith))
     (shows.numbers c.args.row c.args.column column (omega arith) is)

@@ -14,9 +14,9 @@ returns c p t shows =
     let row = c.requires.row in
     let wide = c.requires.column in
     let is = column-read c.args.self.now c.args.column column wide c.index.ensures in
-    let bounded = c.at.ensures.bounded in
-    let fits : FitsSigned w64 c.at.result = omega (arith, ints, bounded) in
-    zero-test_small c.at.result fits
-    ∙ (ap is_zero c.at.ensures.value
+    let bounded = c.late.ensures.bounded in
+    let fits : FitsSigned w64 c.late.result = omega (arith, ints, bounded) in
+    zero-test_small c.late.result fits
+    ∙ (ap is_zero c.late.ensures.value
     ∙ zero-shows _ column.den (t.entry c.args.row c.args.column) (t.scale c.args.row) column.positive (shows.positive c.args.row (omega arith))
     (shows.numbers c.args.row c.args.column column (omega arith) is))

@@ -4,6 +4,9 @@ use Rattle.simplex_core.proofs.Leaving.{least-here, least-more}
 use Rattle.std.proofs.Common.{add-one}
 use Rattle.simplex_core.proofs.column_table.ColumnTable.least_entering.Goals as goal
 
+pub loop-column-init : goal.loop-column-init
+loop-column-init c p t shows = c.start-column.ensures.none p t shows
+
 pub loop-column-preserved : goal.loop-column-preserved
 loop-column-preserved c p t shows =
     let fails : c.may_enter.result ≡ false = c.if-may_enter.false in

@@ -8,10 +8,10 @@ use Rattle.sparse_columns.proofs.cells.Cells.before.Goals as goal
 pub returns : goal.returns
 returns c =
     let cells = c.as_slice-cells.result.now in
-    let p = c.first_from.result in
+    let p = c.first_from_behind.result in
     let value = c.as_slice-cells.ensures.value in
     record {
-      numbers = λ i l. number_of-before cells p c.args.row i c.first_from.ensures.from l ∙ ap (λ (xs : List Cell). number_of xs i) value;
+      numbers = λ i l. number_of-before cells p c.args.row i c.first_from_behind.ensures.from l ∙ ap (λ (xs : List Cell). number_of xs i) value;
       lists = subst (λ (xs : List Cell). AreNumbers (take p cells) (number_of xs) c.args.row) value
-          (front-numbers cells p c.args.row (subst IsAscending (sym value) c.args.self.now.ascending) c.first_from.ensures.before c.first_from.ensures.from);
+          (front-numbers cells p c.args.row (subst IsAscending (sym value) c.args.self.now.ascending) c.first_from_behind.ensures.before c.first_from_behind.ensures.from);
     }

@@ -23,3 +23,6 @@ returns c = made_or_given_up c.pivot.result _ _ (λ _ made. record {
       pivoted-shows p c.args.self.now c.pivot.new.self t c.in-Some.cell.row c.args.column made.0 made.1 s made.2 best.row (omega (arith, columns, below))
       (int_lt-true (pos 0) (t.entry c.in-Some.cell.row c.args.column) best.candidate);
 }) c.pivot.ensures
+
+pub pivot-requires-clause-beside : goal.pivot-requires-clause-beside
+pivot-requires-clause-beside c = c.requires.shown.beside

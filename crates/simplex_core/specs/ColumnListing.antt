@@ -1,0 +1,91 @@
+-- For each row the columns that may have a number there, and how these lists are kept.
+use Rattle.std.specs.Prelude.{◌≡◌, ◌≢◌, ℕ, ◌<◌, pos, Bool, true, List, Some, length, slice_get}
+use Rattle.sparse_columns.specs.declared.cell.Cell.{Cell}
+use Rattle.sparse_columns.specs.declared.column.Column.{Column}
+use Rattle.sparse_columns.specs.Columns.{numerator}
+use Rattle.simplex_core.specs.declared.column_table.lists.RowColumns.{RowColumns}
+
+-- the list names column j
+pub record Contains (listed : List ℕ) (j : ℕ) : Type 0 where
+  pub at : ℕ
+  pub is : slice_get listed at ≡ Some j
+
+-- one list names each column that another names
+pub record HasAll (listed found : List ℕ) : Type 0 where
+  pub each : (j : ℕ) → Contains listed j → Contains found j
+
+-- it names the first m of them, and each that has a mark
+pub record HasFirst (listed : List ℕ) (m : ℕ) (marks : List Bool) (found : List ℕ) : Type 0 where
+  pub marked : (j : ℕ) → slice_get marks j ≡ Some true → Contains found j
+  pub each : (n j : ℕ) → n < m → slice_get listed n ≡ Some j → Contains found j
+
+-- the list of row i names column j
+pub record Names (lists : List RowColumns) (i j : ℕ) : Type 0 where
+  pub list : RowColumns
+  pub of : slice_get lists i ≡ Some list
+  pub has : Contains list.columns.items j
+
+-- of the first m columns, the list of each of the first n rows names those with a number there
+pub record AreListed (columns : List Column) (lists : List RowColumns) (n m : ℕ) : Type 0 where
+  pub each : (i j : ℕ) (x : Column) → i < n → j < m → slice_get columns j ≡ Some x → numerator x i ≢ pos 0
+      → Names lists i j
+
+-- the cells are in the first n rows
+pub record AreRowsBelow (cells : List Cell) (n : ℕ) : Type 0 where
+  pub each : (k : ℕ) (c : Cell) → slice_get cells k ≡ Some c → c.row < n
+
+-- the cells are numbers of the column
+pub record AreCellsOf (x : Column) (cells : List Cell) : Type 0 where
+  pub each : (k : ℕ) (c : Cell) → slice_get cells k ≡ Some c → numerator x c.row ≡ c.number
+
+-- column j is put into the list of a cell's row, where the column x has 0, and each list names what it did
+pub record PutsAt (old new : List RowColumns) (x : Column) (c : Cell) (j : ℕ) : Type 0 where
+  pub length_is : length new ≡ length old
+  pub kept : (k l : ℕ) → Names old k l → Names new k l
+  pub put : numerator x c.row ≡ pos 0 → Names new c.row j
+
+-- column j is put into the list of the row of each of the first m cells where the column x has 0, and each list names
+-- what it did
+pub record PutsNew (old new : List RowColumns) (x : Column) (cells : List Cell) (j m : ℕ) : Type 0 where
+  pub length_is : length new ≡ length old
+  pub kept : (k l : ℕ) → Names old k l → Names new k l
+  pub put : (k : ℕ) (c : Cell) → k < m → slice_get cells k ≡ Some c → numerator x c.row ≡ pos 0 → Names new c.row j
+
+-- there is a mark for each of n columns, and none is set
+pub record AreBlank (marks : List Bool) (n : ℕ) : Type 0 where
+  pub length_is : length marks ≡ n
+  pub each : (j : ℕ) → slice_get marks j ≢ Some true
+
+-- column j's mark isn't set, and no other is that wasn't
+pub record UnmarksAt (old new : List Bool) (j : ℕ) : Type 0 where
+  pub length_is : length new ≡ length old
+  pub each : (k : ℕ) → slice_get new k ≡ Some true → (slice_get old k ≡ Some true) × (k ≢ j)
+
+-- so it is of the first m of these columns
+pub record Unmarks (old new : List Bool) (touched : List ℕ) (m : ℕ) : Type 0 where
+  pub length_is : length new ≡ length old
+  pub each : (k : ℕ) → slice_get new k ≡ Some true
+      → (slice_get old k ≡ Some true) × ((n : ℕ) → n < m → slice_get touched n ≢ Some k)
+
+-- these are the columns with a number in row r, each once
+pub record AreTouched (columns : List Column) (r : ℕ) (touched : List ℕ) : Type 0 where
+  pub there : (k j : ℕ) → slice_get touched k ≡ Some j
+      → (x : Column) × (slice_get columns j ≡ Some x) × (numerator x r ≢ pos 0)
+  pub once : (k l j : ℕ) → slice_get touched k ≡ Some j → slice_get touched l ≡ Some j → k ≡ l
+  pub all : (j : ℕ) (x : Column) → slice_get columns j ≡ Some x → numerator x r ≢ pos 0 → Contains touched j
+
+-- the list names each column with a number in row r
+pub record Covers (columns : List Column) (r : ℕ) (listed : List ℕ) : Type 0 where
+  pub each : (j : ℕ) (x : Column) → slice_get columns j ≡ Some x → numerator x r ≢ pos 0 → Contains listed j
+
+-- of the first m listed columns these are the ones with a number in row r, each once, and they have a mark
+pub record AreMarked (columns : List Column) (r : ℕ) (listed : List ℕ) (m : ℕ) (marks : List Bool) (touched : List ℕ)
+    : Type 0 where
+  pub length_is : length marks ≡ length columns
+  pub marked : (j : ℕ) → slice_get marks j ≡ Some true → Contains touched j
+  pub own : (k j : ℕ) → slice_get touched k ≡ Some j → slice_get marks j ≡ Some true
+  pub there : (k j : ℕ) → slice_get touched k ≡ Some j
+      → (x : Column) × (slice_get columns j ≡ Some x) × (numerator x r ≢ pos 0)
+  pub once : (k l j : ℕ) → slice_get touched k ≡ Some j → slice_get touched l ≡ Some j → k ≡ l
+  pub all : (n j : ℕ) (x : Column) → n < m → slice_get listed n ≡ Some j → slice_get columns j ≡ Some x
+      → numerator x r ≢ pos 0 → Contains touched j
