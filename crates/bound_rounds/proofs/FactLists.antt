@@ -10,18 +10,9 @@ use Rattle.rule_questions.proofs.model.Membership.{same_number, told_same, no_is
 use Rattle.rule_questions.specs.proof_nodes.Known.{time_in, size_in, is_zero_bound, has_zero_time}
 use Rattle.rule_questions.specs.proof_nodes.Acceptance.{facts_of_lemma}
 use Rattle.bound_rounds.specs.Keys.{Bounds, place_fact, size_by}
+use Rattle.bound_rounds.specs.Stated.{IsFactOf, AreFactsOf}
 use Rattle.bound_rounds.proofs.Cases.{told, none_some}
 use Rattle.bound_rounds.proofs.ListMembers.{contains-cases, contains-none}
-
--- the fact is that of a known bound, of a time or of a size
-abbrev pub IsFactOf : Bounds → Fact → Type 0
-IsFactOf b (Time t c) = b t 0 ≡ Some c
-IsFactOf b (Size t i c) = size_by b t i ≡ Some c
-IsFactOf b (Cost t c) = ⊥
-
--- all these facts are
-abbrev pub AreFactsOf : Bounds → List Fact → Type 0
-AreFactsOf b facts = All (IsFactOf b) facts
 
 -- the fact of a known bound at a place is one
 pub place_fact_of : (b : Bounds) (t i : ℕ) (c : Bound) → b t i ≡ Some c → IsFactOf b (place_fact t i c)

@@ -1,40 +1,25 @@
 -- What a lemma rests on by the numbers of what it needs: it is accepted, and at each needed key it says what is known.
-use Rattle.std.proofs.Common.{◌≡◌, ◌≢◌, ◌⊎◌, inl, inr, ℕ, zero, suc, true, List, [], ◌∷◌, map, Some, sym, ◌∙◌, subst}
+use Rattle.std.proofs.Common.{◌≡◌, ◌≢◌, inl, inr, ℕ, zero, suc, true, List, [], ◌∷◌, map, Some, sym, ◌∙◌, subst}
 use Rattle.std.proofs.Common.{All}
 use Rattle.std.specs.List.{Contains}
 use Rattle.rule_questions.specs.model.Bounds.{Bound}
-use Rattle.rule_questions.specs.model.Facts.{Fact, Time}
+use Rattle.rule_questions.specs.model.Facts.{Fact}
 use Rattle.rule_questions.specs.model.Entries.{is_in}
 use Rattle.rule_questions.proofs.model.Membership.{contains-is_in, is_in-contained}
 use Rattle.rule_questions.specs.proof_nodes.Nodes.{Spot}
 use Rattle.rule_questions.specs.proof_nodes.Known.{IsKnown, time_in, size_in}
 use Rattle.rule_questions.specs.proof_nodes.Setting.{Setting}
-use Rattle.rule_questions.specs.proof_nodes.AcceptsPlain.{IsRule, start_facts}
+use Rattle.rule_questions.specs.proof_nodes.AcceptsPlain.{start_facts}
 use Rattle.rule_questions.specs.proof_nodes.Acceptance.{facts_of_lemma, joined_facts, AllAccepted}
 use Rattle.bound_rounds.specs.Keys.{Bounds, key, at_key, has_key, place_fact, size_by}
 use Rattle.bound_rounds.specs.Needs.{uses_for}
+use Rattle.bound_rounds.specs.Stated.{IsFactOf, AreFactsOf, IsStatedBy, SayBounds}
 use Rattle.bound_rounds.proofs.ListMembers.{contains-none, contains-map, map-contains, contained-all}
 use Rattle.bound_rounds.proofs.Keys.{has_key-contained}
-use Rattle.bound_rounds.proofs.FactLists.{AreFactsOf, IsFactOf, IsNumbered, same_time, same_size, no_size}
+use Rattle.bound_rounds.proofs.FactLists.{IsNumbered, same_time, same_size, no_size}
 use Rattle.bound_rounds.proofs.FactLists.{stating_numbered}
 use Rattle.bound_rounds.proofs.FactLists.{lemma-all}
 use Rattle.bound_rounds.proofs.CitedFacts.{uses-state, uses-accepted, uses-all}
-
--- by these numbers a bound is stated: it is one of the virtual entry, whose number is 0, or one of the lemma with its
--- number
-abbrev pub IsStatedBy : Setting → List (List Fact) → (ℕ → ℕ → ℕ) → ℕ → ℕ → Bound → Type 0
-IsStatedBy s past number t i c = ((number t i ≡ 0) × Contains (start_facts s.program) (place_fact t i c))
-    ⊎ Contains (facts_of_lemma past (number t i)) (place_fact t i c)
-
--- lemmas and the virtual entry state bounds that are known, and by these numbers all of some, which are the same; and
--- the lemma of a rule's time states nothing else
-pub record SayBounds (s : Setting) (past : List (List Fact)) (number : ℕ → ℕ → ℕ) (b all : Bounds) : Type 0 where
-  pub keeps : (t i : ℕ) (c : Bound) → b t i ≡ Some c → all t i ≡ Some c
-  pub are : All (AreFactsOf all) past
-  pub start : AreFactsOf all (start_facts s.program)
-  pub stated : (t i : ℕ) (c : Bound) → b t i ≡ Some c → IsStatedBy s past number t i c
-  pub alone : (t : ℕ) (c : Bound) → IsRule s.program t → b t 0 ≡ Some c
-      → facts_of_lemma past (number t 0) ≡ Time t c ∷ []
 
 module _ (s : Setting) (past : List (List Fact)) (number : ℕ → ℕ → ℕ) (b all : Bounds)
     (say : SayBounds s past number b all) (needs : List Spot) (known : All (λ k. IsKnown (at_key b k)) needs) where

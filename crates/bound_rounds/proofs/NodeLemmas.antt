@@ -29,11 +29,12 @@ use Rattle.bound_rounds.specs.Finds.{Node, EmptyBy, UnreachedBy, NeverBy, RankBy
 use Rattle.bound_rounds.specs.Finds.{keys_after}
 use Rattle.bound_rounds.specs.Needs.{rank_needs, spread_needs, cycle_needs, uses_for, lemma_by}
 use Rattle.bound_rounds.specs.Standing.{composed_bound, is_left, AreZeroTimes, NeverRuns, AcceptsOver, AreNeeds}
+use Rattle.bound_rounds.specs.Stated.{SayBounds}
 use Rattle.bound_rounds.proofs.Cases.{told, none_some}
 use Rattle.bound_rounds.proofs.Keys.{has_key-all, has_key-left, has_key-right, has_time_key, size_fact}
 use Rattle.bound_rounds.proofs.FactLists.{zero_said, stating_numbered}
 use Rattle.bound_rounds.proofs.ListMembers.{contains-first}
-use Rattle.bound_rounds.proofs.NeededFacts.{SayBounds, needs_accepted, need_stated, needed_time, needed_size}
+use Rattle.bound_rounds.proofs.NeededFacts.{needs_accepted, need_stated, needed_time, needed_size}
 use Rattle.bound_rounds.proofs.SameTimes.{rank_time-same, rank_accepted, time_needed, size_needed}
 use Rattle.bound_rounds.proofs.SameSizes.{spread_size-same, spread_accepted, cycle_size-same, cycle_accepted}
 

@@ -1,4 +1,4 @@
--- The laws of finds that stand.
+-- The laws of nodes, and of finds that stand.
 use Rattle.std.proofs.Common.{◌≡◌, ◌⊎◌, inl, inr, ℕ, zero, suc, true, List, [], ◌∷◌, ◌++◌, Some, None, sym, ◌∙◌}
 use Rattle.std.proofs.Common.{ap, subst}
 use Rattle.std.proofs.lemmas.List.{append_assoc}
@@ -16,15 +16,20 @@ use Rattle.bound_rounds.specs.Keys.{has_key, at_key, place_fact, start_bounds}
 use Rattle.bound_rounds.specs.Finds.{Find, bound_found, bounds_of, number_in}
 use Rattle.bound_rounds.specs.Needs.{lemmas_of}
 use Rattle.bound_rounds.specs.Standing.{StandAfter, AllStand}
-use Rattle.bound_rounds.specs.Laws.{StandingFindsHaveLemmas, FindsAreNumbered, StandingFindsHold}
+use Rattle.bound_rounds.specs.Laws.{NodesAreAccepted, StandingFindsHaveLemmas, FindsAreNumbered, StandingFindsHold}
 use Rattle.bound_rounds.proofs.Cases.{either, none_some}
 use Rattle.bound_rounds.proofs.ListMembers.{contains-cases, contains-none, contained-all}
 use Rattle.bound_rounds.proofs.Keys.{has_key-all}
 use Rattle.bound_rounds.proofs.FindLists.{first_of-cases, bounds_of-new, found-here}
 use Rattle.bound_rounds.proofs.FactLists.{lemma-all}
+use Rattle.bound_rounds.proofs.NodeLemmas.{node_lemma, node_states}
 use Rattle.bound_rounds.proofs.StartFacts.{start_stated}
 use Rattle.bound_rounds.proofs.FindFacts.{facts_of_finds}
 use Rattle.bound_rounds.proofs.StandingLemmas.{found_stated, all_have_lemmas}
+
+-- the lemma of a node is accepted after all lemmas that say what is known, and states the bound that the node composes
+pub nodes_accepted : NodesAreAccepted
+nodes_accepted = record { accepted = node_lemma; states = node_states }
 
 -- the lemmas of finds that stand are accepted
 accepted : (s : Setting) (fs : List Find) → AllStand s fs → AcceptsLemmas s (lemmas_of fs)

@@ -20,8 +20,8 @@ use Rattle.bound_rounds.proofs.ListMembers.{contains-either, contains-cases, con
 use Rattle.bound_rounds.proofs.Keys.{contained-has_key}
 use Rattle.bound_rounds.proofs.FindLists.{first_of-some, first_of-cases, bounds_of-kept, bounds_of-new, found-here}
 use Rattle.bound_rounds.proofs.FindLists.{found-append, number_in-kept}
-use Rattle.bound_rounds.proofs.FactLists.{IsFactOf, AreFactsOf, place_fact_of}
-use Rattle.bound_rounds.proofs.NeededFacts.{SayBounds, IsStatedBy}
+use Rattle.bound_rounds.specs.Stated.{IsFactOf, AreFactsOf, IsStatedBy, SayBounds}
+use Rattle.bound_rounds.proofs.FactLists.{place_fact_of}
 use Rattle.bound_rounds.proofs.NodeLemmas.{facts_with, node_lemma, node_states}
 use Rattle.bound_rounds.proofs.StartFacts.{start_stated, start_known}
 use Rattle.bound_rounds.proofs.StandingKeys.{IsKeyOf, standing_key}

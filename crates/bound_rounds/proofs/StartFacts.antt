@@ -17,7 +17,7 @@ use Rattle.bound_rounds.specs.Keys.{Bounds, place_fact, size_by, start_size, sta
 use Rattle.bound_rounds.proofs.Cases.{either, told, none_some, some_same}
 use Rattle.bound_rounds.proofs.ListMembers.{contains-first, contains-later}
 use Rattle.bound_rounds.proofs.RuleNumbers.{in_range}
-use Rattle.bound_rounds.proofs.FactLists.{IsFactOf, AreFactsOf}
+use Rattle.bound_rounds.specs.Stated.{IsFactOf, AreFactsOf}
 
 -- bounds have what is known at first
 pub record HaveStart (p : Program) (b : Bounds) : Type 0 where

@@ -1,19 +1,22 @@
 -- Laws of finds and of rounds: finds that stand give accepted lemmas, which state them and hold on all runs; what
 -- rounds find stands; rounds end, at one list of finds; and what is missing there has one reason.
 use Rattle.std.specs.Prelude.{◌≡◌, ◌⊎◌, ℕ, ◌+◌, ◌<◌, true, List, [], ◌∷◌, ◌++◌, map, Some, None}
-use Rattle.std.specs.List.{count_by, Contains}
+use Rattle.std.specs.List.{All, count_by, Contains}
 use Rattle.rule_questions.specs.model.Programs.{Program}
 use Rattle.rule_questions.specs.model.Bounds.{Bound}
-use Rattle.rule_questions.specs.model.Facts.{Holds}
+use Rattle.rule_questions.specs.model.Facts.{Fact, Holds}
 use Rattle.rule_questions.specs.model.Paths.{target_of}
 use Rattle.rule_questions.specs.proof_nodes.Nodes.{Spot}
-use Rattle.rule_questions.specs.proof_nodes.Acceptance.{AcceptsLemmas, facts_of_lemmas, facts_of_lemma}
+use Rattle.rule_questions.specs.proof_nodes.Known.{IsKnown}
+use Rattle.rule_questions.specs.proof_nodes.Acceptance.{Accepts, facts_of, AcceptsLemmas, facts_of_lemmas}
+use Rattle.rule_questions.specs.proof_nodes.Acceptance.{facts_of_lemma}
 use Rattle.rule_questions.specs.proof_nodes.AcceptsPlain.{IsRule, places_at}
 use Rattle.rule_questions.specs.proof_nodes.Setting.{Setting, IsFaithful}
-use Rattle.bound_rounds.specs.Keys.{Bounds, IsPlace, place_fact, has_key, lacks, rule_numbers}
-use Rattle.bound_rounds.specs.Finds.{Find, bounds_of, number_in, facts_of_find}
-use Rattle.bound_rounds.specs.Needs.{lemmas_of}
-use Rattle.bound_rounds.specs.Standing.{AllStand}
+use Rattle.bound_rounds.specs.Keys.{Bounds, IsPlace, place_fact, fact_at, at_key, has_key, lacks, rule_numbers}
+use Rattle.bound_rounds.specs.Finds.{Node, Find, keys_of, bounds_of, number_in, facts_of_find}
+use Rattle.bound_rounds.specs.Needs.{lemma_by, lemmas_of}
+use Rattle.bound_rounds.specs.Standing.{composed_bound, AcceptsOver, AreNeeds, AllStand}
+use Rattle.bound_rounds.specs.Stated.{SayBounds}
 use Rattle.bound_rounds.specs.Searches.{Answers, searches_of, NoBound}
 use Rattle.bound_rounds.specs.Components.{AreApart, AreComponentsOf, IsCovered, IsOneOf}
 use Rattle.bound_rounds.specs.Beginning.{AreFirst}
@@ -25,6 +28,19 @@ pub record StandingFindsHaveLemmas : Type 0 where
   pub accepted : (s : Setting) (fs : List Find) → AllStand s fs → AcceptsLemmas s (lemmas_of fs)
   pub stated : (s : Setting) (fs : List Find) → AllStand s fs
       → facts_of_lemmas s (lemmas_of fs) ≡ map facts_of_find fs
+
+-- after all lists of lemmas that state bounds of a table alone, some of which are known by these numbers, the lemma of a
+-- node that is accepted over what is known, with what it needs, all of which is known, is accepted; and it states the
+-- bound that the node composes, for each of its keys
+pub record NodesAreAccepted : Type 0 where
+  pub accepted : (s : Setting) (past : List (List Fact)) (number : ℕ → ℕ → ℕ) (b all : Bounds)
+      → SayBounds s past number b all → (node : Node) (needs : List Spot) → AcceptsOver s b node needs
+      → AreNeeds s b node needs → All (λ k. IsKnown (at_key b k)) needs → Accepts s past (lemma_by number node needs)
+  pub states : (s : Setting) (past : List (List Fact)) (number : ℕ → ℕ → ℕ) (b all : Bounds)
+      → SayBounds s past number b all → (node : Node) (needs : List Spot) → AcceptsOver s b node needs
+      → AreNeeds s b node needs → All (λ k. IsKnown (at_key b k)) needs
+      → facts_of s past (lemma_by number node needs)
+      ≡ map (λ k. fact_at k (composed_bound s b node)) (keys_of s.program node)
 
 -- a bound that was found is a fact of the lemma whose number its key has; and one find alone states the bound of a key,
 -- which is the known one

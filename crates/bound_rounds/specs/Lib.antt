@@ -1,8 +1,9 @@
--- bounds by key, what is found, what a find rests on, and when finds stand
+-- bounds by key, what is found, what a find rests on, when finds stand, and which facts state bounds
 pub mod Keys
 pub mod Finds
 pub mod Needs
 pub mod Standing
+pub mod Stated
 -- the sets that bounds leave to search, what searches answer, and what that tells
 pub mod Sets
 pub mod Searches

@@ -5,7 +5,7 @@
 
 ghost use Rattle.bound_rounds.specs.Laws.{StandingFindsHaveLemmas, FindsAreNumbered, StandingFindsHold, MadeFindsStand};
 ghost use Rattle.bound_rounds.specs.Laws.{RoundsEnd, ComponentsAreUniform, LastFindsAreOne, LastFindsExist};
-ghost use Rattle.bound_rounds.specs.Laws.{MissingBoundsHaveReasons};
+ghost use Rattle.bound_rounds.specs.Laws.{NodesAreAccepted, MissingBoundsHaveReasons};
 ghost use Rattle.bound_rounds.specs.WorkedFinds.{FindsAreReadOff, KeysAreWorkedOut, NeedsAreWorkedOut};
 ghost use Rattle.bound_rounds.specs.WorkedFinds.{LemmasAreWorkedOut};
 ghost use Rattle.bound_rounds.specs.WorkedSets.{SetsOfCounting, ShutOfCounting};
@@ -17,6 +17,12 @@ ghost use Rattle.bound_rounds.specs.WorkedBeginnings.{BeginningsAreWorkedOut, Em
 ghost use Rattle.bound_rounds.specs.WorkedLastRounds.{LastRoundsAreWorkedOut};
 ghost use Rattle.bound_rounds.specs.WorkedCauses.{RightCausesAreWorkedOut, WrongGapsAreWorkedOut};
 ghost use Rattle.bound_rounds.specs.WorkedAnswers.{AnswersAreWorkedOut, RightSizesAreWorkedOut, MissingIsWorkedOut};
+
+/// A node with what it needs is accepted after all lists of lemmas that state bounds of its table alone, and states the
+/// bound that it composes.
+pub fn nodes_are_accepted()
+    ensures { NodesAreAccepted }
+{}
 
 /// The lemmas of finds that stand are accepted, and each states what its find does.
 pub fn standing_finds_have_lemmas()
